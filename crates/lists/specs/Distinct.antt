@@ -1,0 +1,58 @@
+-- Lists with no element twice, and the chain lemma: induction along a relation without loops on finitely many numbers.
+use Prim.Native.Nat.{ℕ, zero, suc, _+_, _≤_, _<_, zero-le}
+use native.Mathlib.Omega.{arith}
+use mathlib.Core.Path.{_≡_, refl, sym, ap, _∙_, subst}
+use mathlib.Core.Logic.{_≢_}
+use mathlib.Core.List.{List, [], _∷_, List·Memᴰ·head, List·Memᴰ·tail, List·Memᴰ·not-nil, Memᴰ·cast}
+use lib.ListN.{length}
+use Rattle.lists.specs.Sum.{_∈_, upTo, upTo-length, upTo-∈}
+use Rattle.lists.specs.Keep.{remove}
+
+abbrev pub Nodup : List ℕ → Type 0
+Nodup [] = Unit {0}
+Nodup (x ∷ xs) = (x ∈ xs → ⊥) × Nodup xs
+
+remove-length : {a : ℕ} {xs : List ℕ} (m : a ∈ xs) → suc (length (remove m)) ≡ length xs
+remove-length (List·Memᴰ·head e) = refl
+remove-length (List·Memᴰ·tail m) = ap suc (remove-length m)
+
+remove-other : {a b : ℕ} {xs : List ℕ} (m : a ∈ xs) → b ∈ xs → b ≢ a → b ∈ remove m
+remove-other (List·Memᴰ·head e) (List·Memᴰ·head d) n = absurd (n (d ∙ sym e))
+remove-other (List·Memᴰ·head e) (List·Memᴰ·tail k) n = k
+remove-other (List·Memᴰ·tail m) (List·Memᴰ·head d) n = List·Memᴰ·head d
+remove-other (List·Memᴰ·tail m) (List·Memᴰ·tail k) n = List·Memᴰ·tail (remove-other m k n)
+
+pub nodup-le : (xs ys : List ℕ) → Nodup xs → ((a : ℕ) → a ∈ xs → a ∈ ys) → length xs ≤ length ys
+nodup-le [] ys u h = zero-le
+nodup-le (x ∷ xs) ys u h =
+    let m : x ∈ ys = h x (List·Memᴰ·head refl) in
+    let ih = nodup-le xs (remove m) (u .1) (λ a k. remove-other m (h a (List·Memᴰ·tail k)) (λ e. u .0 (Memᴰ·cast (sym e) k))) in
+    omega (arith, remove-length m)
+
+pub nodup-below : (n : ℕ) (xs : List ℕ) → Nodup xs → ((a : ℕ) → a ∈ xs → a < n) → length xs ≤ n
+nodup-below n xs u h = omega (arith, nodup-le xs (upTo n) u (λ a m. upTo-∈ n a (h a m)), upTo-length n)
+
+-- ---- the chain lemma, as induction: a transitive relation without loops on numbers below m
+module _ (m : ℕ) (P : ℕ → Type 0) (R : ℕ → ℕ → Type 0) (below : (x : ℕ) → P x → x < m)
+    (trans : (x y z : ℕ) → R x y → R y z → R x z) (irr : (x : ℕ) → P x → R x x → ⊥)
+    (Goal : ℕ → Type 0) (step : (x : ℕ) → P x → ((y : ℕ) → P y → R x y → Goal y) → Goal x) where
+  chain-go : (n : ℕ) (vs : List ℕ) → Nodup vs → ((v : ℕ) → v ∈ vs → v < m) → m ≤ n + length vs
+      → (x : ℕ) → P x → ((v : ℕ) → v ∈ vs → R v x) → Goal x
+  chain-go zero vs u b l x px r = absurd (omega (arith, nodup-below m (x ∷ vs) (λ k. irr x px (r x k), u) inside))
+    where
+      inside : (v : ℕ) → v ∈ (x ∷ vs) → v < m
+      inside v (List·Memᴰ·head e) = subst (λ z. z < m) (sym e) (below x px)
+      inside v (List·Memᴰ·tail k) = b v k
+  chain-go (suc n) vs u b l x px r = step x px
+      (λ y py rxy. chain-go n (x ∷ vs) (λ k. irr x px (r x k), u) inside (omega arith) y py (after y rxy))
+    where
+      inside : (v : ℕ) → v ∈ (x ∷ vs) → v < m
+      inside v (List·Memᴰ·head e) = subst (λ z. z < m) (sym e) (below x px)
+      inside v (List·Memᴰ·tail k) = b v k
+
+      after : (y : ℕ) → R x y → (v : ℕ) → v ∈ (x ∷ vs) → R v y
+      after y rxy v (List·Memᴰ·head e) = subst (λ z. R z y) (sym e) rxy
+      after y rxy v (List·Memᴰ·tail k) = trans v x y (r v k) rxy
+
+  pub chain : (x : ℕ) → P x → Goal x
+  chain x px = chain-go m [] tt (λ v k. absurd (List·Memᴰ·not-nil k)) (omega arith) x px (λ v k. absurd (List·Memᴰ·not-nil k))

@@ -1,0 +1,6 @@
+pub mod Test
+pub mod Sum
+pub mod Keep
+pub mod Least
+pub mod Search
+pub mod Distinct
