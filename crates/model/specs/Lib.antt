@@ -3,3 +3,16 @@ pub mod Instance
 pub mod Vote
 pub mod Plans
 pub mod Reduction
+pub mod Blocking
+pub mod Refusal
+pub mod Reading
+pub mod Roster
+pub mod RosterFile
+pub mod Edges
+pub mod PlanFile
+pub mod Finder
+pub mod Compare
+pub mod Text
+pub mod Printed
+pub mod Desk
+pub mod Cases

@@ -1,0 +1,64 @@
+-- Comparison of two plan files: section "Comparison, blocking, desk" of document 01.
+use Prim.Native.Nat.{ℕ}
+use mathlib.Core.Bool.{cond}
+use mathlib.Core.List.{List, [], _∷_}
+use lib.ListN.{drop}
+use lib.IntN.{ℤ, pos}
+use lib.Signed.{ltZ}
+use Rattle.model.specs.Reading.{Reading, accepted, turned}
+use Rattle.model.specs.Instance.{Instance}
+use Rattle.model.specs.Plans.{Plan, voteOf}
+use Rattle.model.specs.PlanFile.{readPlan}
+
+-- "The winner is the plan whose vote against the other is above zero"
+pub data Winner : Type 0 where
+  first : Winner
+  second : Winner
+  neither : Winner
+
+-- a part of one of the two files: the file, where the part begins in it, and its bytes
+pub data File : Type 0 where
+  firstFile : File
+  secondFile : File
+
+pub record Part : Type 0 where
+  pub file : File
+  pub from : ℕ
+  pub bytes : List ℕ
+
+-- both votes, first against second and second against first; or a refusal
+pub data Comparison : Type 0 where
+  votes : ℤ → ℤ → Winner → Comparison
+  refused : ℕ → Comparison
+
+abbrev pub winnerOf : ℤ → ℤ → Winner
+winnerOf v w = cond (ltZ (pos 0) v) first (cond (ltZ (pos 0) w) second neither)
+
+abbrev pub compared : Instance → Plan → Plan → Comparison
+compared G M N = votes (voteOf G M N) (voteOf G N M) (winnerOf (voteOf G M N) (voteOf G N M))
+
+abbrev pub secondJudged : Instance → Plan → Reading Plan → Comparison
+secondJudged G M (accepted N) = compared G M N
+secondJudged G M (turned n) = refused n
+
+-- "The first file is checked in full before the second."
+abbrev pub firstJudged : Instance → Reading Plan → List ℕ → Comparison
+firstJudged G (accepted M) file = secondJudged G M (readPlan G file)
+firstJudged G (turned n) file = refused n
+
+unfoldable pub comparisonOf : Instance → (firstBytes secondBytes : List ℕ) → Comparison
+comparisonOf G a b = firstJudged G (readPlan G a) b
+
+-- "the winner's pair bytes are handed back as a part of its own file"; "with no winner, and on a refusal, the part is empty, taken
+-- from the first file". A file's pair bytes are all but its count byte.
+abbrev pub winnerPart : Winner → (firstBytes secondBytes : List ℕ) → Part
+winnerPart first a b = record { file = firstFile; from = 1; bytes = drop 1 a }
+winnerPart second a b = record { file = secondFile; from = 1; bytes = drop 1 b }
+winnerPart neither a b = record { file = firstFile; from = 0; bytes = [] }
+
+abbrev pub comparisonPart : Comparison → (firstBytes secondBytes : List ℕ) → Part
+comparisonPart (votes v w x) a b = winnerPart x a b
+comparisonPart (refused n) a b = winnerPart neither a b
+
+unfoldable pub partOf : Instance → (firstBytes secondBytes : List ℕ) → Part
+partOf G a b = comparisonPart (comparisonOf G a b) a b

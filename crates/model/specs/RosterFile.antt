@@ -1,0 +1,90 @@
+-- Roster bytes read and written: section "Roster bytes" of document 01, and refusals 1 to 9 in its order, "Files are checked left
+-- to right, each field in the order 1 to 6; 7 after its section, then 9, then 8".
+use Prim.Native.Nat.{ℕ, zero, suc, _+_, _*_, _/_, _%_}
+use mathlib.Core.Bool.{Bool, not, cond, _||_}
+use mathlib.Core.List.{List, [], _∷_, _++_}
+use lib.ListN.{length}
+use lib.Dec.{eqb, leb, ltb}
+use Rattle.lists.specs.Keep.{gather}
+use Rattle.model.specs.Limits.{nodeLimit, quotaLimit, quotaSumLimit, entryLimit}
+use Rattle.model.specs.Reading.{Read, got, refused, _then_, refuseIf, byte, twoBytes, Reading, accepted, turned, whole}
+use Rattle.model.specs.Roster.{Ranking, Roster, entries, elem, outside, totalS, totalT, bothOrNeither}
+
+-- "2 a count or list length above its limit"
+abbrev pub readCount : ℕ → List ℕ → Read ℕ
+readCount limit bs = byte bs then (λ n rest. refuseIf (ltb limit n) 2 (got n rest))
+
+-- "a two-byte count of all entries, low byte first, at most 1,024"
+abbrev pub readWideCount : List ℕ → Read ℕ
+readWideCount bs = twoBytes bs then (λ w rest. refuseIf (ltb entryLimit (w .0 + 256 * w .1)) 2 (got (w .0 + 256 * w .1) rest))
+
+-- "3 a quota above 8, or the field that takes its side past 64"; so is the sum of the quotas before
+unfoldable pub readQuotas : (n so : ℕ) → List ℕ → Read (List ℕ)
+readQuotas zero so bs = got [] bs
+readQuotas (suc n) so bs = byte bs then (λ q rest. refuseIf (ltb quotaLimit q || ltb quotaSumLimit (so + q)) 3
+    (readQuotas n (so + q) rest then (λ qs rest. got (q ∷ qs) rest)))
+
+-- "a count byte 0 to 32, then one quota byte each"
+abbrev pub readNodes : List ℕ → Read (List ℕ)
+readNodes bs = readCount nodeLimit bs then (λ n rest. readQuotas n 0 rest)
+
+-- n entries of a list, none of them 0 or above the other side's count (4) nor among those before them (5)
+unfoldable pub readEntries : (n other : ℕ) (seen : List ℕ) → List ℕ → Read (List ℕ)
+readEntries zero other seen bs = got [] bs
+readEntries (suc n) other seen bs = byte bs then (λ x rest. refuseIf (outside other x) 4 (refuseIf (elem x seen) 5
+    (readEntries n other (seen ++ x ∷ []) rest then (λ xs rest. got (x ∷ xs) rest))))
+
+-- the same of a tie, which must also ascend (6): each above the tied one before it, the first above 0, that is, above none
+unfoldable pub readTied : (n other last : ℕ) (seen : List ℕ) → List ℕ → Read (List ℕ)
+readTied zero other last seen bs = got [] bs
+readTied (suc n) other last seen bs = byte bs then (λ x rest. refuseIf (outside other x) 4 (refuseIf (elem x seen) 5 (refuseIf (leb x last) 6
+    (readTied n other x (seen ++ x ∷ []) rest then (λ xs rest. got (x ∷ xs) rest)))))
+
+-- "a length byte and stand numbers, best first"; a list has at most `longest` entries and numbers up to `other`
+abbrev pub readList : (longest other : ℕ) → List ℕ → Read (List ℕ)
+readList longest other bs = readCount longest bs then (λ n rest. readEntries n other [] rest)
+
+-- "the strict length byte, the tie length byte, the strict surveyors best first, the tied ones ascending"; "A stand's two lengths
+-- are read, then their sum is checked."
+abbrev pub readRanking : (longest other : ℕ) → List ℕ → Read Ranking
+readRanking longest other bs = byte bs then (λ a rest. byte rest then (λ b rest. refuseIf (ltb longest (a + b)) 2
+    (readEntries a other [] rest then (λ xs rest. readTied b other 0 xs rest then (λ ys rest. got (record { strict = xs; tied = ys }) rest)))))
+
+-- n of them, one after another
+unfoldable pub readMany : {A : Type 0} → (List ℕ → Read A) → ℕ → List ℕ → Read (List A)
+readMany f zero bs = got [] bs
+readMany f (suc n) bs = f bs then (λ a rest. readMany f n rest then (λ xs rest. got (a ∷ xs) rest))
+
+-- a section of lists: its count, the lists, and then "7 a section count that is not the sum of its lengths"
+abbrev pub readSection : {A : Type 0} → (List ℕ → Read A) → (List A → ℕ) → ℕ → List ℕ → Read (List A)
+readSection f total n bs = readWideCount bs then (λ w rest. readMany f n rest then (λ xs rest. refuseIf (not (eqb w (total xs))) 7 (got xs rest)))
+
+-- the four sections in their order
+abbrev pub readSections : List ℕ → Read Roster
+readSections bs = readNodes bs then (λ qs rest. readNodes rest then (λ qt rest.
+    readSection (readList (length qt) (length qt)) totalS (length qs) rest then (λ ls rest.
+    readSection (readRanking (length qs) (length qs)) totalT (length qt) rest then (λ ts rest.
+    got (record { quotasS = qs; quotasT = qt; listsS = ls; listsT = ts }) rest))))
+
+-- "8 a pair listed by one side only", after 9
+abbrev pub oneSided : Reading Roster → Reading Roster
+oneSided (accepted r) = cond (bothOrNeither r) (accepted r) (turned 8)
+oneSided (turned n) = turned n
+
+unfoldable pub readRoster : List ℕ → Reading Roster
+readRoster bs = oneSided (whole (readSections bs))
+
+-- ---- written
+abbrev pub wideBytes : ℕ → List ℕ
+wideBytes n = n % 256 ∷ n / 256 ∷ []
+
+abbrev pub listBytes : List ℕ → List ℕ
+listBytes xs = length xs ∷ xs
+
+abbrev pub rankingBytes : Ranking → List ℕ
+rankingBytes R = length (R .strict) ∷ length (R .tied) ∷ entries R
+
+unfoldable pub writeRoster : Roster → List ℕ
+writeRoster r = listBytes (r .quotasS) ++ (listBytes (r .quotasT)
+    ++ ((wideBytes (totalS (r .listsS)) ++ gather listBytes (r .listsS))
+    ++ (wideBytes (totalT (r .listsT)) ++ gather rankingBytes (r .listsT))))

@@ -1,0 +1,9 @@
+-- Text as bytes.
+use Prim.Native.Nat.{ℕ}
+use Prim.Native.Char.{code}
+use Prim.Native.String.{String, [], _∷_}
+use mathlib.Core.List as L
+
+unfoldable pub text : String → L.List ℕ
+text [] = L.[]
+text (c ∷ s) = L._∷_ (code c) (text s)
