@@ -18,7 +18,7 @@ use Rattle.model.specs.Edges.{position, edgesOf, instanceOf}
 use Rattle.model.specs.Instance.{Instance, surveyors, stands, deg}
 use Rattle.model.specs.Vote.{nodeVote, vote}
 use Rattle.model.specs.Plans.{Plan, on, choices, within, plansOf, samePlan, Verdict, strong, popular, beaten, voteOf, beats, ties, verdictOf, strongPlans}
-use Rattle.model.specs.Reduction.{cut, ahead, arrow, loose, reserved, betterS, betterT, worseReserved, rule1, rule2, rule3, rule4, rule5, rule6, rule7, names, lowest, ruleOf, edgeOf, fateOf, act, next, begin, stepsFrom, stateAfter, stepsOf, endOf}
+use Rattle.model.specs.Reduction.{cut, cutT, ahead, arrow, loose, reserved, betterS, betterT, worseReserved, rule1, rule2, rule3, rule4, rule5, rule6, rule7, names, lowest, ruleOf, edgeOf, fateOf, act, next, begin, stepsFrom, stateAfter, stepsOf, endOf}
 use Rattle.model.specs.PlanFile.{planBytes, edgeOfPair, readPairs, readPlan}
 use Rattle.model.specs.Finder.{diaryOf, leftOf, candidateOf, finderOf}
 use Rattle.model.specs.Blocking.{blocks, someBlocks}
@@ -32,6 +32,7 @@ pub data Claim : Type 0 where
   standVotes : ℕ → (first second : List ℕ) → ℤ → Claim  -- the same at one stand alone
   judged : List ℕ → Verdict → Claim  -- the verdict on a plan
   blocked : List ℕ → Bool → Claim  -- whether it has a blocking pair
+  cutTo : ℕ → ℕ → Claim  -- a stand's quota as the first step cuts it
 
 pub record Case : Type 0 where
   pub bytes : List ℕ
@@ -71,6 +72,7 @@ Holds bytes (votes a b v) = vote (given bytes) (plan bytes a) (plan bytes b) ≡
 Holds bytes (standVotes t a b v) = nodeVote (stands (given bytes)) (plan bytes a) (plan bytes b) t ≡ v
 Holds bytes (judged a v) = verdictOf (given bytes) (planIn (readPlan (given bytes) a)) ≡ v
 Holds bytes (blocked a b) = someBlocks (given bytes) (plan bytes a) ≡ b
+Holds bytes (cutTo t q) = cutT (given bytes) (begin (given bytes)) t ≡ q
 
 abbrev pub Each : {A : Type 0} → (A → Type 0) → List A → Type 0
 Each P [] = Unit {0}
@@ -154,6 +156,17 @@ P11 = record {
   claims = prints "fix 1 1 6\nstrike 2 1 2\nfix 2 2 1\nstrike 1 2 2\nplan 2\n1 1\n2 2\n" ∷ strongOnes 1 ∷ [];
 }
 
-pub cases : Each True (P1 ∷ P2 ∷ P3 ∷ P4 ∷ P5 ∷ P6 ∷ P7 ∷ P8 ∷ P9 ∷ P10 ∷ P11 ∷ [])
+-- a quota above the stand's pairs is cut to their number; no step is another for it (docs/DECISIONS.md), so it is said of the cut itself
+abbrev P12 : Case
+P12 = record { bytes = 1 ∷ 1 ∷ 1 ∷ 2 ∷ 1 ∷ 0 ∷ 1 ∷ 1 ∷ 1 ∷ 0 ∷ 1 ∷ 0 ∷ 1 ∷ []; claims = prints "fix 1 1 1\nplan 1\n1 1\n" ∷ cutTo 0 1 ∷ [] }
+
+-- refusals, with their groups
+abbrev P13 : Case
+P13 = record { bytes = []; claims = prints "refused 1 form\n" ∷ [] }
+
+abbrev P14 : Case
+P14 = record { bytes = 1 ∷ 9 ∷ []; claims = prints "refused 3 content\n" ∷ [] }
+
+pub cases : Each True (P1 ∷ P2 ∷ P3 ∷ P4 ∷ P5 ∷ P6 ∷ P7 ∷ P8 ∷ P9 ∷ P10 ∷ P11 ∷ P12 ∷ P13 ∷ P14 ∷ [])
 unfolding count low text groupOf listed listedBack bothOrNeither readQuotas readEntries readTied readMany readRoster position edgesOf instanceOf deg nodeVote vote choices within plansOf samePlan beats ties verdictOf strongPlans cut ahead arrow loose reserved betterS betterT worseReserved rule1 rule2 rule3 rule4 rule5 rule6 rule7 names lowest ruleOf edgeOf fateOf act next begin stepsFrom stateAfter stepsOf endOf planBytes edgeOfPair readPairs readPlan diaryOf leftOf candidateOf finderOf blocks someBlocks digits printed
-cases = ((refl, (refl, (refl, tt))), ((refl, (refl, tt)), ((refl, (refl, (refl, (refl, tt)))), ((refl, (refl, (refl, (refl, tt)))), ((refl, (refl, (refl, tt))), ((refl, (refl, (refl, (refl, (refl, tt))))), ((refl, (refl, tt)), ((refl, tt), ((refl, tt), ((refl, (refl, (refl, tt))), ((refl, (refl, tt)), tt)))))))))))
+cases = ((refl, (refl, (refl, tt))), ((refl, (refl, tt)), ((refl, (refl, (refl, (refl, tt)))), ((refl, (refl, (refl, (refl, tt)))), ((refl, (refl, (refl, tt))), ((refl, (refl, (refl, (refl, (refl, tt))))), ((refl, (refl, tt)), ((refl, tt), ((refl, tt), ((refl, (refl, (refl, tt))), ((refl, (refl, tt)), ((refl, (refl, tt)), ((refl, tt), ((refl, tt), tt))))))))))))))
