@@ -5,7 +5,7 @@ use mathlib.Core.Path.{_≡_, refl, sym, ap, _∙_, subst}
 use mathlib.Core.Logic.{_⊎_, inl, inr}
 use mathlib.Core.Bool.{Bool, true, false, not, cond, _&&_, _||_}
 use mathlib.Core.List.{List, [], _∷_, _++_, map, List·Memᴰ, List·Memᴰ·head, List·Memᴰ·tail, List·Memᴰ·not-nil, List·Memᴰ·append-cases, Memᴰ·append-left, Memᴰ·append-right, Memᴰ·map, Memᴰ·of-map}
-use lib.ListN.{length}
+use lib.ListN.{length, length-append}
 use lib.Dec.{T, T-not}
 use Rattle.lists.specs.Test.{by-test, true-T, and-l, and-r, and-i, or-l, or-r, bit, pk}
 use Rattle.lists.specs.Sum.{_∈_, sum}
@@ -97,6 +97,22 @@ module _ {A : Type 0} where
   ∈-all p [] h = tt
   ∈-all p (x ∷ xs) h = and-i (p x) (all? p xs) (h x (List·Memᴰ·head refl)) (∈-all p xs (λ y m. h y (List·Memᴰ·tail m)))
 
+  pub any-append : (p : A → Bool) (xs ys : List A) → any? p (xs ++ ys) ≡ any? p xs || any? p ys
+  any-append p [] ys = refl
+  any-append p (x ∷ xs) ys = go (p x) (any-append p xs ys)
+    where
+      go : (b : Bool) → any? p (xs ++ ys) ≡ any? p xs || any? p ys → b || any? p (xs ++ ys) ≡ (b || any? p xs) || any? p ys
+      go true e = refl
+      go false e = e
+
+  pub all-append : (p : A → Bool) (xs ys : List A) → all? p (xs ++ ys) ≡ all? p xs && all? p ys
+  all-append p [] ys = refl
+  all-append p (x ∷ xs) ys = go (p x) (all-append p xs ys)
+    where
+      go : (b : Bool) → all? p (xs ++ ys) ≡ all? p xs && all? p ys → b && all? p (xs ++ ys) ≡ (b && all? p xs) && all? p ys
+      go true e = e
+      go false e = refl
+
   -- some element passes, or none does
   pub any-or : (p : A → Bool) (xs : List A) → (T (any? p xs) × ((x : A) × (x ∈ xs) × T (p x))) ⊎ (T (not (any? p xs)) × ((x : A) → x ∈ xs → T (not (p x))))
   any-or p [] = inr (tt, λ x m. absurd (List·Memᴰ·not-nil m))
@@ -155,3 +171,7 @@ module _ {A : Type 0} where
       go : (b ∈ gather f xs → (a : A) × (a ∈ xs) × (b ∈ f a)) → (b ∈ f x) ⊎ (b ∈ gather f xs) → (a : A) × (a ∈ (x ∷ xs)) × (b ∈ f a)
       go ih (inl k) = (x, List·Memᴰ·head refl, k)
       go ih (inr k) = let t = ih k in (t .0, List·Memᴰ·tail (t .1), t .2)
+
+pub length-gather : {A B : Type 0} (f : A → List B) (xs : List A) → length (gather f xs) ≡ sum (λ x. length (f x)) xs
+length-gather f [] = refl
+length-gather f (x ∷ xs) = omega (arith, length-append (f x) (gather f xs), length-gather f xs)

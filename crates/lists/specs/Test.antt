@@ -92,6 +92,10 @@ pub nor-r : (a b : Bool) → T (not (a || b)) → T (not b)
 nor-r true b n = absurd n
 nor-r false b n = n
 
+pub nor-i : (a b : Bool) → T (not a) → T (not b) → T (not (a || b))
+nor-i true b n k = n
+nor-i false b n k = k
+
 -- ---- equal numbers
 pub eq→eqb : (a b : ℕ) → a ≡ b → T (eqb a b)
 eq→eqb a b e = subst (λ z. T (eqb a z)) e (eqb-refl a)

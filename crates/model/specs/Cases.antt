@@ -11,15 +11,15 @@ use Rattle.lists.specs.Search.{low}
 use Rattle.lists.specs.Keep.{keep}
 use Rattle.model.specs.Text.{text}
 use Rattle.model.specs.Refusal.{groupOf}
-use Rattle.model.specs.Reading.{Reading, accepted, turned}
-use Rattle.model.specs.Roster.{Roster, listed, listedBack, bothOrNeither, fits}
-use Rattle.model.specs.RosterFile.{readQuotas, readEntries, readTied, readMany, readRoster, writeRoster}
+use Rattle.model.specs.Reading.{readEach, Reading, accepted, turned}
+use Rattle.model.specs.Roster.{Roster, listed, listedBack, bothOrNeither}
+use Rattle.model.specs.RosterFile.{readRoster}
 use Rattle.model.specs.Edges.{position, edgesOf, instanceOf}
 use Rattle.model.specs.Instance.{Instance, surveyors, stands, deg}
 use Rattle.model.specs.Vote.{nodeVote, vote}
 use Rattle.model.specs.Plans.{Plan, on, choices, within, plansOf, samePlan, Verdict, strong, popular, beaten, voteOf, beats, ties, verdictOf, strongPlans}
 use Rattle.model.specs.Reduction.{cut, cutT, ahead, arrow, loose, reserved, betterS, betterT, worseReserved, rule1, rule2, rule3, rule4, rule5, rule6, rule7, names, lowest, ruleOf, edgeOf, fateOf, act, next, begin, stepsFrom, stateAfter, stepsOf, endOf}
-use Rattle.model.specs.PlanFile.{planBytes, edgeOfPair, readPairs, readPlan}
+use Rattle.model.specs.PlanFile.{planBytes, edgeOfPair, readPlan}
 use Rattle.model.specs.Finder.{diaryOf, leftOf, candidateOf, finderOf}
 use Rattle.model.specs.Blocking.{blocks, someBlocks}
 use Rattle.model.specs.Printed.{digits, printed}
@@ -168,5 +168,5 @@ abbrev P14 : Case
 P14 = record { bytes = 1 ∷ 9 ∷ []; claims = prints "refused 3 content\n" ∷ [] }
 
 pub cases : Each True (P1 ∷ P2 ∷ P3 ∷ P4 ∷ P5 ∷ P6 ∷ P7 ∷ P8 ∷ P9 ∷ P10 ∷ P11 ∷ P12 ∷ P13 ∷ P14 ∷ [])
-unfolding count low text groupOf listed listedBack bothOrNeither readQuotas readEntries readTied readMany readRoster position edgesOf instanceOf deg nodeVote vote choices within plansOf samePlan beats ties verdictOf strongPlans cut ahead arrow loose reserved betterS betterT worseReserved rule1 rule2 rule3 rule4 rule5 rule6 rule7 names lowest ruleOf edgeOf fateOf act next begin stepsFrom stateAfter stepsOf endOf planBytes edgeOfPair readPairs readPlan diaryOf leftOf candidateOf finderOf blocks someBlocks digits printed
+unfolding count low text groupOf listed listedBack bothOrNeither readEach readRoster position edgesOf instanceOf deg nodeVote vote choices within plansOf samePlan beats ties verdictOf strongPlans cut ahead arrow loose reserved betterS betterT worseReserved rule1 rule2 rule3 rule4 rule5 rule6 rule7 names lowest ruleOf edgeOf fateOf act next begin stepsFrom stateAfter stepsOf endOf planBytes edgeOfPair readPlan diaryOf leftOf candidateOf finderOf blocks someBlocks digits printed
 cases = ((refl, (refl, (refl, tt))), ((refl, (refl, tt)), ((refl, (refl, (refl, (refl, tt)))), ((refl, (refl, (refl, (refl, tt)))), ((refl, (refl, (refl, tt))), ((refl, (refl, (refl, (refl, (refl, tt))))), ((refl, (refl, tt)), ((refl, tt), ((refl, tt), ((refl, (refl, (refl, tt))), ((refl, (refl, tt)), ((refl, (refl, tt)), ((refl, tt), ((refl, tt), tt))))))))))))))

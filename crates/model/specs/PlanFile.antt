@@ -1,7 +1,7 @@
 -- Plan bytes, read against an instance and written: "a count byte 0 to 64, then two bytes a pair (surveyor, stand), ascending by
 -- surveyor, then by stand. Every pair is in the roster and no quota is passed."
 use Prim.Native.Nat.{ℕ, zero, suc}
-use mathlib.Core.Bool.{Bool, true, false, not, _&&_, _||_}
+use mathlib.Core.Bool.{Bool, cond, _&&_, _||_}
 use mathlib.Core.List.{List, [], _∷_, _++_, map}
 use lib.ListN.{length}
 use lib.Dec.{eqb, leb, ltb}
@@ -10,7 +10,7 @@ use Rattle.lists.specs.Sum.{sum, range}
 use Rattle.lists.specs.Keep.{keep, gather, any?}
 use Rattle.lists.specs.Search.{low}
 use Rattle.model.specs.Limits.{planLimit}
-use Rattle.model.specs.Reading.{Read, got, refused, _then_, refuseIf, twoBytes, Reading, accepted, turned, whole}
+use Rattle.model.specs.Reading.{Read, got, refused, _then_, twoBytes, readEach, Reading, accepted, turned, whole}
 use Rattle.model.specs.RosterFile.{readCount}
 use Rattle.model.specs.Roster.{elem}
 use Rattle.model.specs.Instance.{Instance, Side, surveyors, stands}
@@ -42,14 +42,25 @@ edgeOfPair G p = low (λ e. eqb (suc (G .sv e)) (p .0) && eqb (suc (G .st e)) (p
 abbrev pub full : Side → List ℕ → ℕ → Bool
 full K seen e = leb (K .quota (K .end e)) (sum (λ d. bit (eqb (K .end d) (K .end e))) seen)
 
--- n pairs, each with "1, 2, 10, 11, 12": 10 not in the roster; 11 not above the pair before it, whose edge is `from` less one
--- (edges are numbered in the pairs' order); 12 a node past its quota
-unfoldable pub readPairs : Instance → (n from : ℕ) (seen : List ℕ) → List ℕ → Read (List ℕ)
-readPairs G zero from seen bs = got [] bs
-readPairs G (suc n) from seen bs = twoBytes bs then (λ p rest. refuseIf (not (ltb (edgeOfPair G p) (G .m))) 10
-    (refuseIf (ltb (edgeOfPair G p) from) 11
-    (refuseIf (full (surveyors G) seen (edgeOfPair G p) || full (stands G) seen (edgeOfPair G p)) 12
-    (readPairs G n (suc (edgeOfPair G p)) (seen ++ edgeOfPair G p ∷ []) rest then (λ es rest. got (edgeOfPair G p ∷ es) rest)))))
+-- the edges read so far, and the lowest edge that may come next: the one after the last, as edges are numbered in the pairs' order
+pub record Pairs : Type 0 where
+  pub seen : List ℕ
+  pub from : ℕ
+
+-- "10 a plan pair not in the roster; 11 plan pairs not strictly ascending; 12 a pair that takes a node past its quota"
+abbrev pub pairCheck : Instance → Pairs → ℕ × ℕ → ℕ
+pairCheck G s p = cond (leb (G .m) (edgeOfPair G p)) 10 (cond (ltb (edgeOfPair G p) (s .from)) 11
+    (cond (full (surveyors G) (s .seen) (edgeOfPair G p) || full (stands G) (s .seen) (edgeOfPair G p)) 12 0))
+
+abbrev pub withPair : Instance → Pairs → ℕ × ℕ → Pairs
+withPair G s p = record { seen = s .seen ++ edgeOfPair G p ∷ []; from = suc (edgeOfPair G p) }
+
+-- "a pair being one field"
+abbrev pub readPairs : Instance → ℕ → List ℕ → Read (List (ℕ × ℕ))
+readPairs G n bs = readEach twoBytes (pairCheck G) (withPair G) n (record { seen = []; from = 0 }) bs
+
+abbrev pub planOfPairs : Instance → List (ℕ × ℕ) → Plan
+planOfPairs G ps = planOf (G .m) (λ e. elem e (map (edgeOfPair G) ps))
 
 unfoldable pub readPlan : Instance → List ℕ → Reading Plan
-readPlan G bs = whole (readCount planLimit bs then (λ n rest. readPairs G n 0 [] rest then (λ es rest. got (planOf (G .m) (λ e. elem e es)) rest)))
+readPlan G bs = whole (readCount planLimit bs then readPairs G then (λ ps rest. got (planOfPairs G ps) rest))

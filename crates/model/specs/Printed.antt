@@ -16,7 +16,7 @@ use Rattle.model.specs.Edges.{instanceOf}
 use Rattle.model.specs.Instance.{Instance}
 use Rattle.model.specs.Plans.{Plan, on}
 use Rattle.model.specs.PlanFile.{edgesIn}
-use Rattle.model.specs.Finder.{Record, diaryOf, Found, left, rivalled, finderOf} 
+use Rattle.model.specs.Finder.{Record, diaryOf, Found, left, rivalled, finderOf}
 use Rattle.model.specs.Finder as finder
 
 -- a number in decimal, of at most `places` digits

@@ -7,7 +7,7 @@ use lib.ListN.{length}
 use lib.Dec.{eqb, leb, ltb}
 use Rattle.lists.specs.Keep.{gather}
 use Rattle.model.specs.Limits.{nodeLimit, quotaLimit, quotaSumLimit, entryLimit}
-use Rattle.model.specs.Reading.{Read, got, refused, _then_, refuseIf, byte, twoBytes, Reading, accepted, turned, whole}
+use Rattle.model.specs.Reading.{Read, got, refused, _then_, refuseIf, byte, twoBytes, readEach, Reading, accepted, turned, whole}
 use Rattle.model.specs.Roster.{Ranking, Roster, entries, elem, outside, totalS, totalT, bothOrNeither}
 
 -- "2 a count or list length above its limit"
@@ -19,41 +19,48 @@ abbrev pub readWideCount : List ℕ → Read ℕ
 readWideCount bs = twoBytes bs then (λ w rest. refuseIf (ltb entryLimit (w .0 + 256 * w .1)) 2 (got (w .0 + 256 * w .1) rest))
 
 -- "3 a quota above 8, or the field that takes its side past 64"; so is the sum of the quotas before
-unfoldable pub readQuotas : (n so : ℕ) → List ℕ → Read (List ℕ)
-readQuotas zero so bs = got [] bs
-readQuotas (suc n) so bs = byte bs then (λ q rest. refuseIf (ltb quotaLimit q || ltb quotaSumLimit (so + q)) 3
-    (readQuotas n (so + q) rest then (λ qs rest. got (q ∷ qs) rest)))
+abbrev pub quotaCheck : ℕ → ℕ → ℕ
+quotaCheck so q = cond (ltb quotaLimit q || ltb quotaSumLimit (so + q)) 3 0
+
+abbrev pub readQuotas : ℕ → List ℕ → Read (List ℕ)
+readQuotas n bs = readEach byte quotaCheck (λ so q. so + q) n 0 bs
 
 -- "a count byte 0 to 32, then one quota byte each"
 abbrev pub readNodes : List ℕ → Read (List ℕ)
-readNodes bs = readCount nodeLimit bs then (λ n rest. readQuotas n 0 rest)
+readNodes bs = readCount nodeLimit bs then readQuotas
 
--- n entries of a list, none of them 0 or above the other side's count (4) nor among those before them (5)
-unfoldable pub readEntries : (n other : ℕ) (seen : List ℕ) → List ℕ → Read (List ℕ)
-readEntries zero other seen bs = got [] bs
-readEntries (suc n) other seen bs = byte bs then (λ x rest. refuseIf (outside other x) 4 (refuseIf (elem x seen) 5
-    (readEntries n other (seen ++ x ∷ []) rest then (λ xs rest. got (x ∷ xs) rest))))
+-- "4 a list entry that is 0 or above the other side's count"; "5 an entry twice in one list": among those before it
+abbrev pub entryCheck : (other : ℕ) (seen : List ℕ) → ℕ → ℕ
+entryCheck other seen x = cond (outside other x) 4 (cond (elem x seen) 5 0)
 
--- the same of a tie, which must also ascend (6): each above the tied one before it, the first above 0, that is, above none
-unfoldable pub readTied : (n other last : ℕ) (seen : List ℕ) → List ℕ → Read (List ℕ)
-readTied zero other last seen bs = got [] bs
-readTied (suc n) other last seen bs = byte bs then (λ x rest. refuseIf (outside other x) 4 (refuseIf (elem x seen) 5 (refuseIf (leb x last) 6
-    (readTied n other x (seen ++ x ∷ []) rest then (λ xs rest. got (x ∷ xs) rest)))))
+abbrev pub readEntries : (other : ℕ) → ℕ → List ℕ → Read (List ℕ)
+readEntries other n bs = readEach byte (entryCheck other) (λ seen x. seen ++ x ∷ []) n [] bs
+
+-- a tie goes on in the same list, behind its strict entries, and must also ascend: "6 a tie that does not ascend". Each tied entry is
+-- above the one before it, the first above 0, that is, above none.
+pub record Tie : Type 0 where
+  pub seen : List ℕ
+  pub last : ℕ
+
+abbrev pub tiedCheck : (other : ℕ) → Tie → ℕ → ℕ
+tiedCheck other s x = cond (outside other x) 4 (cond (elem x (s .seen)) 5 (cond (leb x (s .last)) 6 0))
+
+abbrev pub readTied : (other : ℕ) (strict : List ℕ) → ℕ → List ℕ → Read (List ℕ)
+readTied other strict n bs = readEach byte (tiedCheck other) (λ s x. record { seen = s .seen ++ x ∷ []; last = x }) n (record { seen = strict; last = 0 }) bs
 
 -- "a length byte and stand numbers, best first"; a list has at most `longest` entries and numbers up to `other`
 abbrev pub readList : (longest other : ℕ) → List ℕ → Read (List ℕ)
-readList longest other bs = readCount longest bs then (λ n rest. readEntries n other [] rest)
+readList longest other bs = readCount longest bs then readEntries other
 
 -- "the strict length byte, the tie length byte, the strict surveyors best first, the tied ones ascending"; "A stand's two lengths
 -- are read, then their sum is checked."
 abbrev pub readRanking : (longest other : ℕ) → List ℕ → Read Ranking
 readRanking longest other bs = byte bs then (λ a rest. byte rest then (λ b rest. refuseIf (ltb longest (a + b)) 2
-    (readEntries a other [] rest then (λ xs rest. readTied b other 0 xs rest then (λ ys rest. got (record { strict = xs; tied = ys }) rest)))))
+    (readEntries other a rest then (λ xs rest. readTied other xs b rest then (λ ys rest. got (record { strict = xs; tied = ys }) rest)))))
 
--- n of them, one after another
-unfoldable pub readMany : {A : Type 0} → (List ℕ → Read A) → ℕ → List ℕ → Read (List A)
-readMany f zero bs = got [] bs
-readMany f (suc n) bs = f bs then (λ a rest. readMany f n rest then (λ xs rest. got (a ∷ xs) rest))
+-- n lists, one after another, with nothing to check between them
+abbrev pub readMany : {A : Type 0} → (List ℕ → Read A) → ℕ → List ℕ → Read (List A)
+readMany {A} field n bs = readEach {S = Unit {0}} {A = A} field (λ s x. 0) (λ s x. s) n tt bs
 
 -- a section of lists: its count, the lists, and then "7 a section count that is not the sum of its lengths"
 abbrev pub readSection : {A : Type 0} → (List ℕ → Read A) → (List A → ℕ) → ℕ → List ℕ → Read (List A)

@@ -1,0 +1,4 @@
+pub mod Reads
+pub mod Entries
+pub mod Sections
+pub mod Rosters
