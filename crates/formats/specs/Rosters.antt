@@ -23,14 +23,14 @@ lists ns nt = readSection (readList nt nt) totalS ns
 abbrev rankings : (ns nt : ℕ) → List ℕ → Read (List Ranking)
 rankings ns nt = readSection (readRanking ns ns) totalT nt
 
-abbrev listsFit : (ns nt : ℕ) → List (List ℕ) → Type 0
+abbrev pub listsFit : (ns nt : ℕ) → List (List ℕ) → Type 0
 listsFit ns nt = SectionFits (listFits nt) totalS (list nt) ns
 
-abbrev rankingsFit : (ns nt : ℕ) → List Ranking → Type 0
+abbrev pub rankingsFit : (ns nt : ℕ) → List Ranking → Type 0
 rankingsFit ns nt = SectionFits (rankingFits ns) totalT (ranking ns) nt
 
 -- within the limits, but for the pairs that one side alone lists
-abbrev SectionsFit : Roster → Type 0
+abbrev pub SectionsFit : Roster → Type 0
 SectionsFit r = T (quotasFit (r .quotasS)) × T (quotasFit (r .quotasT)) × listsFit (surveyorCount r) (standCount r) (r .listsS) × rankingsFit (surveyorCount r) (standCount r) (r .listsT)
 
 abbrev partA : Roster → List ℕ
@@ -84,7 +84,7 @@ sections-forth r rest (p₁, p₂, p₃, p₄) =
     ∙ ap (λ x. x then finish (r .quotasS) (r .quotasT) (r .listsS)) (section (rankingFits (surveyorCount r)) totalT (ranking (surveyorCount r)) (standCount r) .forth (r .listsT) rest p₄)
 
 -- ---- `fits`, taken apart and put together
-fits-parts : (r : Roster) → T (fits r) → SectionsFit r × T (bothOrNeither r)
+pub fits-parts : (r : Roster) → T (fits r) → SectionsFit r × T (bothOrNeither r)
 unfolding fits
 fits-parts r t =
     let a = quotasFit (r .quotasS) in

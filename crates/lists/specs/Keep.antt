@@ -1,11 +1,12 @@
 -- Lists cut down, taken apart and put together: the elements that pass a test, an element taken out, the lists of a list joined.
-use Prim.Native.Nat.{ℕ, suc, _+_, _≤_, _<_}
+use Prim.Native.Nat.{ℕ, zero, suc, _+_, _≤_, _<_}
 use native.Mathlib.Omega.{arith}
+use native.Mathlib.Nat.{not-suc-le-zero, le-of-suc-le-suc}
 use mathlib.Core.Path.{_≡_, refl, sym, ap, _∙_, subst}
 use mathlib.Core.Logic.{_⊎_, inl, inr}
 use mathlib.Core.Bool.{Bool, true, false, not, cond, _&&_, _||_}
 use mathlib.Core.List.{List, [], _∷_, _++_, map, List·Memᴰ, List·Memᴰ·head, List·Memᴰ·tail, List·Memᴰ·not-nil, List·Memᴰ·append-cases, Memᴰ·append-left, Memᴰ·append-right, Memᴰ·map, Memᴰ·of-map}
-use lib.ListN.{length, length-append}
+use lib.ListN.{length, length-append, getD}
 use lib.Dec.{T, T-not}
 use Rattle.lists.specs.Test.{by-test, true-T, and-l, and-r, and-i, or-l, or-r, bit, pk}
 use Rattle.lists.specs.Sum.{_∈_, sum}
@@ -127,6 +128,11 @@ module _ {A : Type 0} where
       go true e ih = inl (tt, (x, List·Memᴰ·head refl, true-T e))
       go false e (inl (t, (y, m, q))) = inl (t, (y, List·Memᴰ·tail m, q))
       go false e (inr (t, h)) = inr (t, none e h)
+
+  pub getD-∈ : (xs : List A) (i : ℕ) (d : A) → i < length xs → getD xs i d ∈ xs
+  getD-∈ [] i d h = absurd (not-suc-le-zero h)
+  getD-∈ (x ∷ xs) zero d h = List·Memᴰ·head refl
+  getD-∈ (x ∷ xs) (suc i) d h = List·Memᴰ·tail (getD-∈ xs i d (le-of-suc-le-suc h))
 
   -- ---- an element taken out
   abbrev pub remove : {a : A} {xs : List A} → a ∈ xs → List A
