@@ -25,6 +25,10 @@ module _ {A : Type 0} where
       go true h = omega arith
       go false h = omega arith
 
+  pub keep-cong : (p q : A → Bool) (xs : List A) → ((x : A) → x ∈ xs → p x ≡ q x) → keep p xs ≡ keep q xs
+  keep-cong p q [] h = refl
+  keep-cong p q (x ∷ xs) h = ap (λ b. cond b (x ∷ keep p xs) (keep p xs)) (h x (List·Memᴰ·head refl)) ∙ ap (λ ys. cond (q x) (x ∷ ys) ys) (keep-cong p q xs (λ y m. h y (List·Memᴰ·tail m)))
+
   pub keep-∈ : (p : A → Bool) (xs : List A) {x : A} → x ∈ xs → T (p x) → x ∈ keep p xs
   keep-∈ p xs (List·Memᴰ·head {x = y} {xs = ys} e) t = hd (p y) (subst (λ z. T (p z)) e t) e
     where

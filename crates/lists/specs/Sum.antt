@@ -7,7 +7,7 @@ use mathlib.Core.Path.{_≡_, refl, sym, ap, _∙_, subst}
 use mathlib.Core.Logic.{by-cases, ⊎-elim}
 use mathlib.Core.Bool.{Bool, true, false, not}
 use mathlib.Core.List.{List, [], _∷_, _++_, map, List·Memᴰ, List·Memᴰ·head, List·Memᴰ·tail, List·Memᴰ·not-nil, Memᴰ·cast}
-use lib.ListN.{length, replicate}
+use lib.ListN.{length, getD, replicate}
 use lib.Dec.{T, eqb, eqb→eq}
 use Rattle.lists.specs.Test.{by-test, bit, bit-one, bit-pos, bit-no, bit-le, bit-lt, pk, eqb-yes, eqb-no, tests}
 
@@ -99,6 +99,37 @@ range-∈ zero i e h k = absurd (omega arith)
 range-∈ (suc n) i e h k = by-cases (decLt i e)
     (λ l. List·Memᴰ·tail (range-∈ n (suc i) e l (omega arith)))
     (λ l. let q : e ≡ i = omega arith in List·Memᴰ·head q)
+
+pub range-length : (i n : ℕ) → length (range i n) ≡ n
+range-length i zero = refl
+range-length i (suc n) = ap suc (range-length (suc i) n)
+
+sum-range-last : (f : ℕ → ℕ) (i n : ℕ) → sum f (range i (suc n)) ≡ sum f (range i n) + f (i + n)
+sum-range-last f i zero = omega (arith, ap f (add-zero i))
+  where
+    add-zero : (i : ℕ) → i + 0 ≡ i
+    add-zero i = omega arith
+sum-range-last f i (suc n) = omega (arith, sum-range-last f (suc i) n, ap f (move i n))
+  where
+    move : (i n : ℕ) → suc i + n ≡ i + suc n
+    move i n = omega arith
+
+-- in either order the sum is the same
+pub sum-range : (f : ℕ → ℕ) (n : ℕ) → sum f (range 0 n) ≡ sum f (upTo n)
+sum-range f zero = refl
+sum-range f (suc n) = omega (arith, sum-range-last f 0 n, sum-range f n, ap f (add-zero n))
+  where
+    add-zero : (n : ℕ) → 0 + n ≡ n
+    add-zero n = omega arith
+
+sum-shift : (f : ℕ → ℕ) (i n : ℕ) → sum f (range (suc i) n) ≡ sum (λ k. f (suc k)) (range i n)
+sum-shift f i zero = refl
+sum-shift f i (suc n) = ap (λ z. f (suc i) + z) (sum-shift f (suc i) n)
+
+-- a list's numbers, by their places
+pub sum-places : (xs : List ℕ) → sum (λ i. getD xs i 0) (upTo (length xs)) ≡ sum (λ x. x) xs
+sum-places [] = refl
+sum-places (x ∷ xs) = sym (sum-range (λ i. getD (x ∷ xs) i 0) (suc (length xs))) ∙ ap (λ z. x + z) (sum-shift (λ i. getD (x ∷ xs) i 0) 0 (length xs) ∙ sum-range (λ i. getD xs i 0) (length xs) ∙ sum-places xs)
 
 -- how often e comes
 abbrev pub occ : ℕ → List ℕ → ℕ

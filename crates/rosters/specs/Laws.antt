@@ -9,15 +9,16 @@ use mathlib.Core.List.{List, [], _∷_, _++_}
 use lib.ListN.{length, length-append, getD}
 use lib.Dec.{T, eqb, leb, leb→le, eqb→eq, T-not}
 use Rattle.lists.specs.Test.{given, by-test, and-l, and-r, or-case, or-l, or-r}
-use Rattle.lists.specs.Sum.{_∈_, upTo, upTo-∈, range}
+use Rattle.lists.specs.Sum.{sum, sum-places, upTo, upTo-∈}
 use Rattle.lists.specs.Keep.{all?, all-∈, any-append, getD-∈}
-use Rattle.model.specs.Limits.{nodeLimit, emptyRank}
+use Rattle.model.specs.Limits.{nodeLimit, quotaLimit, quotaSumLimit, planLimit, emptyRank}
 use Rattle.model.specs.Instance.{Instance, Side, surveyors, stands}
 use Rattle.model.specs.Roster.{Ranking, Roster, entries, surveyorCount, standCount, listS, listT, elem, distinct, outside, listed, listedBack, alike, bothOrNeither, listFits, rankingFits, fits, ascending}
 use Rattle.model.specs.Edges.{Edge, position, pairEdge, edgesOf, noEdge, edgeAt, instanceOf}
 use Rattle.graph.specs.Lawful.{Ranked, Lawful}
 use Rattle.formats.specs.Rosters.{fits-parts}
 use Rattle.rosters.specs.Position.{position-in, position-out, position-≤, position-same}
+use Rattle.rosters.specs.PlanFiles.{Fileable}
 use Rattle.rosters.specs.Ascending.{IsEdge, edge-is, edges-ascend, ends-differ}
 
 same-bool : (a b : Bool) → T (alike a b) → T a → T b
@@ -169,4 +170,15 @@ module _ (r : Roster) (ok : T (fits r)) where
       last = λ d e h k s t. tie-last (edgeAt es d) (edgeAt es e) (at d h) (at e k) s t;
       below = λ d e h k s t n. tie-below (edgeAt es d) (edgeAt es e) (at d h) (at e k) s t n;
     };
+  }
+
+  -- what the laws of plan files ask of an instance
+  pub fileable : Fileable (instanceOf r)
+  unfolding instanceOf
+  fileable = record {
+    insideS = lawful .atS .inside;
+    insideT = lawful .atT .inside;
+    differ = pairs-differ;
+    few = given (fits-parts r ok) (λ ((q, u, l, v), n). subst (λ k. k ≤ planLimit) (sym (sum-places (r .quotasS)))
+        (leb→le (sum (λ q. q) (r .quotasS)) quotaSumLimit (and-r (all? (λ q. leb q quotaLimit) (r .quotasS)) (leb (sum (λ q. q) (r .quotasS)) quotaSumLimit) (and-r (leb ns nodeLimit) _ q))));
   }

@@ -1,3 +1,5 @@
 pub mod Position
 pub mod Ascending
+pub mod Chosen
+pub mod PlanFiles
 pub mod Laws
