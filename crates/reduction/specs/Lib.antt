@@ -1,2 +1,3 @@
 pub mod Arrows
 pub mod Facts
+pub mod Chosen
