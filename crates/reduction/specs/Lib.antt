@@ -1,3 +1,4 @@
 pub mod Arrows
 pub mod Facts
 pub mod Chosen
+pub mod Quotas
