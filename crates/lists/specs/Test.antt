@@ -92,6 +92,11 @@ pub nor-r : (a b : Bool) → T (not (a || b)) → T (not b)
 nor-r true b n = absurd n
 nor-r false b n = n
 
+pub and-nor : (a b c : Bool) → (a && not b) && not c ≡ a && not (b || c)
+and-nor true true c = refl
+and-nor true false c = refl
+and-nor false b c = refl
+
 -- ---- equal numbers
 pub eq→eqb : (a b : ℕ) → a ≡ b → T (eqb a b)
 eq→eqb a b e = subst (λ z. T (eqb a z)) e (eqb-refl a)

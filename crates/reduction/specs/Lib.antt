@@ -2,3 +2,4 @@ pub mod Arrows
 pub mod Facts
 pub mod Chosen
 pub mod Quotas
+pub mod Course
