@@ -3,3 +3,5 @@ pub mod Facts
 pub mod Chosen
 pub mod Quotas
 pub mod Course
+pub mod Reach
+pub mod Facing
