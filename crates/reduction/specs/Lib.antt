@@ -5,3 +5,4 @@ pub mod Quotas
 pub mod Course
 pub mod Reach
 pub mod Facing
+pub mod Wholes
