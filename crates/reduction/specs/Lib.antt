@@ -6,3 +6,5 @@ pub mod Course
 pub mod Reach
 pub mod Facing
 pub mod Wholes
+pub mod Chains
+pub mod Steps
