@@ -12,7 +12,7 @@ use Rattle.lists.specs.Test.{given, and-l, and-r, and-i, nand-l, nand-i, bit}
 use Rattle.model.specs.Instance.{Side, deg}
 use Rattle.model.specs.Reduction.{arrow}
 use Rattle.graph.specs.Lawful.{Ranked, Within}
-use Rattle.graph.specs.Degree.{deg-sub, deg-add, deg-lt, deg-swap}
+use Rattle.graph.specs.Degree.{deg-sub, deg-add, deg-lt, deg-swap, deg-some}
 use Rattle.reduction.specs.Arrows.{better, better-is, arrow-rem, spare-all, arrow-better, arrows-fit}
 
 -- an edge of the plan that remains
@@ -93,6 +93,11 @@ module _ (A : Facing) where
 
   pub no-room : (f : ℕ) → ¬ Blocks K M rem f → q (K .end f) ≤ deg K both (K .end f)
   no-room f n = by-cases (decLt (deg K both (K .end f)) (q (K .end f))) (λ h. absurd (n (inl (room (K .end f) h)))) (λ h. omega arith)
+
+  pub some-or-room : (v : ℕ) → 0 < q v → ((x : ℕ) × Mem x) ⊎ (deg K M v < K .quota v)
+  some-or-room v h = by-cases (decLt 0 (deg K both v))
+      (λ k. given (deg-some K both v k) (λ (x, l, t, i). inl (x, both-in x l t)))
+      (λ k. inr (room v (omega arith)))
 
   -- ---- the plan and any set p of edges at a node, by their numbers
   -- an edge of the plan outside p

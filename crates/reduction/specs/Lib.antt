@@ -8,3 +8,5 @@ pub mod Facing
 pub mod Wholes
 pub mod Chains
 pub mod Steps
+pub mod End
+pub mod Run
