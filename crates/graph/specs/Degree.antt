@@ -97,7 +97,7 @@ module _ (K : Side) where
   deg-or p q v h = deg-add p q (λ e. p e || q e) v (λ e l. bit-or (p e) (q e) (h e l))
 
   -- one edge alone; taken out of a set; put into one, or not
-  pub deg-only : (e v : ℕ) → e < K .m → deg K (λ d. eqb d e) v ≡ bit (eqb v (K .end e))
+  deg-only : (e v : ℕ) → e < K .m → deg K (λ d. eqb d e) v ≡ bit (eqb v (K .end e))
   unfolding deg
   deg-only e v l = by-eq v (K .end e)
       (λ i t. omega (

@@ -4,7 +4,7 @@
 use Prim.Native.Nat.{ℕ, _+_, _≤_, _<_}
 use native.Mathlib.Omega.{arith}
 use native.Mathlib.Decide.{decLe}
-use mathlib.Core.Path.{_≡_, refl, subst}
+use mathlib.Core.Path.{_≡_, sym, subst}
 use mathlib.Core.Logic.{_⊎_, inr, ⊎-elim, by-cases}
 use mathlib.Core.Bool.{Bool, not, _||_}
 use lib.Dec.{T}
@@ -15,11 +15,11 @@ use Rattle.model.specs.Reduction.{State, cutS, cutT, arrowS, arrowT, loose, res
 use Rattle.graph.specs.Lawful.{Lawful, Matching}
 use Rattle.graph.specs.Degree.{deg-some}
 use Rattle.graph.specs.Walk.{up-one, up-yes, up-no, New, NoBad}
-use Rattle.reduction.specs.Arrows.{better, better-not, arrow-better, spare-last}
+use Rattle.reduction.specs.Arrows.{better, better-not}
 use Rattle.reduction.specs.Facts.{Quiet, arrowS-rem, arrowT-rem, firm-in, arrow-reserved, unreserved-says, in-or-out, rule2-quiet, rule3-quiet, rule4-quiet}
 use Rattle.reduction.specs.Quotas.{Sound}
 use Rattle.reduction.specs.Reach.{Reach, stay, join, loosen}
-use Rattle.reduction.specs.Facing.{In, Facing, both, fits, no-room, plan-beyond, plan-instead, beyond-plan, instead-of-plan, arrow-blocks, better-arrow}
+use Rattle.reduction.specs.Facing.{In, Facing, both, fits, no-room, plan-beyond, plan-instead, beyond-plan, instead-of-plan, arrow-beats, spare-beats, arrow-blocks, better-arrow}
 use Rattle.reduction.specs.Wholes.{Arrival, Back, Forth, lost, gained, hop, before, after, no-loop, no-both-block}
 
 -- The situation: a plan that Lemma W holds of, and a state that it goes through: what is fixed is in the plan, and what else is in
@@ -44,13 +44,13 @@ module _ {G : Instance} {Z : State} {M : ℕ → Bool} (H : Sit G Z M) where
   abbrev pub Mem : ℕ → Type 0
   Mem = In (G .m) M (Z .rem)
 
-  abbrev pub Arrived : ℕ → ℕ → ℕ → Type 0
+  abbrev Arrived : ℕ → ℕ → ℕ → Type 0
   Arrived = Arrival G M (Z .rem)
 
-  abbrev pub BackTo : ℕ → Type 0
+  abbrev BackTo : ℕ → Type 0
   BackTo = Back G M (Z .rem)
 
-  abbrev pub ForthFrom : ℕ → Type 0
+  abbrev ForthFrom : ℕ → Type 0
   ForthFrom = Forth G M (Z .rem)
 
   -- ---- backward
@@ -90,7 +90,7 @@ module _ {G : Instance} {Z : State} {M : ℕ → Bool} (H : Sit G Z M) where
 
   -- ---- forward
   -- an edge of the plan that its stand, which is firm, sends no arrow along: it is not in N of its surveyor
-  abbrev pub Stray : ℕ → Type 0
+  abbrev Stray : ℕ → Type 0
   Stray x = In (G .m) M (Z .rem) x × T (not (loose G Z (G .st x))) × T (not (arrowT G Z x))
 
   pub outside-stray : (x : ℕ) → Mem x → T (not (reserved G Z x)) → Stray x
@@ -110,7 +110,7 @@ module _ {G : Instance} {Z : State} {M : ℕ → Bool} (H : Sit G Z M) where
       -- (a) an arrow g of the stand is not in the plan
       missing : (x : ℕ) → Stray x → ((y : ℕ) → Stray y → Reach G M 1 x y 0 0 → ForthFrom y) → (g : ℕ) → New G M g → T (arrowT G Z g) → G .st g ≡ G .st x → ForthFrom x
       missing x (ix, nl, na) ih g ng t i =
-          let w = arrow-better (stands G) (Z .rem) (cutT G Z) (H .law .atT) g x (ng .0) (ix .lt) i t (ix .left) na in
+          let w = arrow-beats AT g x ng t ix na i in
           given (to-stray Q4 g ng (arrow-reserved G Z g t) (no-room AS g (λ b. no-both-block (H .noBad) g ng b (inr (x, ix, i, w))))) (λ (y, sy, j).
           let h : Reach G M 1 x y 0 0 = hop 0 0 ng (sy .0) i j (omega (arith, up-no (G .rankT x) (G .rankT g) (omega arith), up-yes (G .rankT g) (G .rankT x) w, up-one (G .rankS y) (G .rankS g))) in
           before h (ih y sy h))
@@ -132,6 +132,6 @@ module _ {G : Instance} {Z : State} {M : ℕ → Bool} (H : Sit G Z M) where
           given (beyond-plan AT (λ e. arrowS G Z e || arrowT G Z e) (G .st x) (λ e t. ⊎-elim (arrowS-rem G Z e) (arrowT-rem G Z e) (or-case (arrowS G Z e) (arrowT G Z e) t))
           (omega (arith, fits AT (G .st x), in-or-out G Z Q1 (G .st x)))) (λ (g, ng, t, i).
           ⊎-elim
-          (λ s. incoming x ix g ng s i (spare-last (stands G) (Z .rem) (cutT G Z) (H .law .atT) (G .st x) few x (ix .lt) refl (ix .left) na g (ng .0) i))
+          (λ s. incoming x ix g ng s i (spare-beats AT g x ng ix na i (subst (λ t. deg (stands G) (arrowT G Z) t < cutT G Z t) (sym i) few)))
           (λ o. missing x (ix, nl, na) ih g ng o i)
           (or-case (arrowS G Z g) (arrowT G Z g) t))))

@@ -5,7 +5,7 @@ use native.Mathlib.Omega.{arith}
 use native.Mathlib.Decide.{decLt}
 use mathlib.Core.Path.{refl}
 use mathlib.Core.Logic.{by-cases}
-use mathlib.Core.Bool.{Bool, not, _&&_}
+use mathlib.Core.Bool.{not, _&&_}
 use lib.Dec.{T, ltb, ltb→lt, nltb→le, not-T}
 use Rattle.lists.specs.Test.{given, and-l, and-r, nand-r}
 use Rattle.lists.specs.Search.{low-is}
@@ -30,7 +30,7 @@ module _ (G : Instance) (Z : State) where
   by-rule P e p1 p2 p3 p4 p5 p6 p7 (suc (suc (suc (suc (suc (suc (suc zero))))))) t = p7 t
   by-rule P e p1 p2 p3 p4 p5 p6 p7 (suc (suc (suc (suc (suc (suc (suc (suc r)))))))) t = absurd t
 
-  pub names-range : (r e : ℕ) → T (names G Z r e) → (1 ≤ r) × (r ≤ 7)
+  names-range : (r e : ℕ) → T (names G Z r e) → (1 ≤ r) × (r ≤ 7)
   names-range r e = by-rule (λ r. (1 ≤ r) × (r ≤ 7)) e (λ t. omega arith) (λ t. omega arith) (λ t. omega arith) (λ t. omega arith) (λ t. omega arith) (λ t. omega arith) (λ t. omega arith) r
 
   none-lowest : (r : ℕ) → T (not (ltb (lowest G Z r) (G .m))) → Quiet G Z (names G Z r)

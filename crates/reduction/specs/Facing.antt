@@ -10,10 +10,10 @@ use mathlib.Core.Bool.{Bool, true, false, not, _&&_}
 use lib.Dec.{T, T-not, not-T}
 use Rattle.lists.specs.Test.{given, and-l, and-r, and-i, nand-l, nand-i, bit}
 use Rattle.model.specs.Instance.{Side, deg}
-use Rattle.model.specs.Reduction.{arrow}
+use Rattle.model.specs.Reduction.{ahead, arrow}
 use Rattle.graph.specs.Lawful.{Ranked, Within}
 use Rattle.graph.specs.Degree.{deg-sub, deg-add, deg-lt, deg-swap, deg-some}
-use Rattle.reduction.specs.Arrows.{better, better-is, arrow-rem, spare-all, arrow-better, arrows-fit}
+use Rattle.reduction.specs.Arrows.{better, better-is, arrow-rem, spare-all, spare-last, arrow-better, arrows-fit, none-ahead-best}
 
 -- an edge of the plan that remains
 pub record In (m : ℕ) (M rem : ℕ → Bool) (x : ℕ) : Type 0 where
@@ -131,11 +131,23 @@ module _ (A : Facing) where
       (λ k. k)
       (eq-or-lt-of-le h)
 
+  -- an arrow outside the plan is better than an edge of the plan without one
+  pub arrow-beats : (f x : ℕ) → Fresh f → T (a f) → Mem x → T (not (a x)) → K .end f ≡ K .end x → K .rank f < K .rank x
+  arrow-beats f x nf t ix n i = arrow-better K rem q (A .law) f x (nf .0) (ix .lt) i t (ix .left) n
+
+  -- where a node sends fewer arrows than its quota, the edges of the plan without one are no better than any edge
+  pub spare-beats : (f x : ℕ) → Fresh f → Mem x → T (not (a x)) → K .end f ≡ K .end x → deg K a (K .end f) < q (K .end f) → K .rank f ≤ K .rank x
+  spare-beats f x nf ix n i few = spare-last K rem q (A .law) (K .end f) few x (ix .lt) (sym i) (ix .left) n f (nf .0) refl
+
+  -- an edge with none ahead is no worse than the edges of the plan
+  pub first-beats : (f x : ℕ) → Fresh f → ahead K rem (K .end f) (K .rank f) ≡ 0 → Mem x → K .end f ≡ K .end x → K .rank f ≤ K .rank x
+  first-beats f x nf z ix i = none-ahead-best K rem (A .law) f (nf .0) z x (ix .lt) (ix .left) i
+
   -- an arrow outside the plan: where the node is full, the plan has an edge without an arrow there, which is worse
   pub arrow-out-worse : (f : ℕ) → Fresh f → T (a f) → q (K .end f) ≤ deg K both (K .end f)
       → (x : ℕ) × Mem x × T (not (a x)) × (K .end f ≡ K .end x) × (K .rank f < K .rank x)
   arrow-out-worse f nf t h = given (plan-instead a f nf t (omega (arith, arrows-fit K rem q (A .law) (K .end f))))
-      (λ (x, ix, n, i). (x, ix, n, i, arrow-better K rem q (A .law) f x (nf .0) (ix .lt) i t (ix .left) n))
+      (λ (x, ix, n, i). (x, ix, n, i, arrow-beats f x nf t ix n i))
 
   pub arrow-blocks : (f : ℕ) → Fresh f → T (a f) → Blocks K M rem f
   arrow-blocks f nf t = by-cases (decLt (deg K both (K .end f)) (q (K .end f)))
@@ -150,4 +162,4 @@ module _ (A : Facing) where
 
   pub better-arrow : ((e : ℕ) → T (not (K .tie e))) → (x : ℕ) → Mem x → T (not (a x)) → (f : ℕ) × Fresh f × T (a f) × (K .end f ≡ K .end x) × (K .rank f < K .rank x)
   better-arrow s x ix n = given (instead-of-plan a x (arrow-rem K rem q) ix n (omega (arith, fits (K .end x), arrows-all s (K .end x))))
-      (λ (f, nf, t, i). (f, nf, t, i, arrow-better K rem q (A .law) f x (nf .0) (ix .lt) i t (ix .left) n))
+      (λ (f, nf, t, i). (f, nf, t, i, arrow-beats f x nf t ix n i))

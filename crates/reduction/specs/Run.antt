@@ -6,7 +6,7 @@ use mathlib.Core.Bool.{Bool, true, false, not, _&&_, _||_}
 use lib.Dec.{T, eqb, eqb→eq, lt→ltb, T-not}
 use Rattle.lists.specs.Test.{by-test, given, bool-eq, and-i}
 use Rattle.model.specs.Instance.{Instance}
-use Rattle.model.specs.Reduction.{State, ruleOf, edgeOf, fateOf, fixes, act, next, begin, stateAfter, endOf}
+use Rattle.model.specs.Reduction.{State, ruleOf, edgeOf, fateOf, fixes, act, next, begin, endOf}
 use Rattle.graph.specs.Lawful.{Lawful, Matching}
 use Rattle.graph.specs.Walk.{NoBad}
 use Rattle.reduction.specs.Chosen.{acts}

@@ -11,38 +11,32 @@ use mathlib.Core.List.{[], _∷_}
 use lib.ListN.{length}
 use lib.Dec.{T}
 use Rattle.model.specs.Instance.{Instance, Side, surveyors, stands, deg}
-use Rattle.graph.specs.Walk.{up, up-one, up-yes, up-no, Steps, Old, New, Walk, RoomS, RoomT, plus, minus, NoBad}
+use Rattle.graph.specs.Walk.{up, up-one, up-yes, up-no, Steps, New, Walk, RoomS, RoomT, plus, minus, NoBad}
 use Rattle.reduction.specs.Reach.{Reach, stay, arc, join, loosen}
 use Rattle.reduction.specs.Facing.{In, Blocks}
 
 module _ (G : Instance) (M rem : ℕ → Bool) where
-  abbrev Mem : ℕ → Type 0
-  Mem = In (G .m) M rem
-
-  abbrev Way : ℕ → ℕ → ℕ → ℕ → ℕ → Type 0
-  Way = Reach G M
-
   -- a loss at `from`, a way to `at`, and the stand's vote of `at` against f: way and vote cost at most a - b
   pub record Arrival (f a b : ℕ) : Type 0 where
     pub from : ℕ
     pub at : ℕ
     pub c : ℕ
     pub d : ℕ
-    pub from-in : Mem from
-    pub way : Way 0 from at c d
+    pub from-in : In (G .m) M rem from
+    pub way : Reach G M 0 from at c d
     pub stand : G .st f ≡ G .st at
     pub cost : c + up (G .rankT at) (G .rankT f) + b ≤ d + up (G .rankT f) (G .rankT at) + a
 
   -- a loss and a way to x, together at most 0
   pub record Back (x : ℕ) : Type 0 where
     pub from : ℕ
-    pub from-in : Mem from
-    pub way : Way 0 from x 0 1
+    pub from-in : In (G .m) M rem from
+    pub way : Reach G M 0 from x 0 1
 
   -- a way from x and an end: a loss, together at most 0, or a gain, together at most -1
   pub data Forth (x : ℕ) : Type 0 where
-    lost : (y : ℕ) → Mem y → Way 0 x y 0 1 → Forth x
-    gained : (y f c d : ℕ) → New G M f → RoomS G M f → G .st f ≡ G .st y → Way 0 x y c d
+    lost : (y : ℕ) → In (G .m) M rem y → Reach G M 0 x y 0 1 → Forth x
+    gained : (y f c d : ℕ) → New G M f → RoomS G M f → G .st f ≡ G .st y → Reach G M 0 x y c d
         → c + up (G .rankT y) (G .rankT f) ≤ d + up (G .rankT f) (G .rankT y) → Forth x
 
 module _ {G : Instance} {M rem : ℕ → Bool} where
@@ -72,7 +66,7 @@ module _ {G : Instance} {M rem : ℕ → Bool} where
         go [] a l h = omega arith
         go (s ∷ w) a l h = omega (arith, W .closed x s w (ix .lt, ix .mem) a)
 
-    pub no-LL : {x y : ℕ} → In (G .m) M rem x → Reach G M 0 x y 0 2 → ⊥
+    no-LL : {x y : ℕ} → In (G .m) M rem x → Reach G M 0 x y 0 2 → ⊥
     no-LL {x} {y} ix r = omega (arith, W .LL x (r .steps) y (ix .lt, ix .mem) (r .walk))
 
     -- loss and gain: where both are at one surveyor the whole closes to a loop, and f's vote there comes in
@@ -95,21 +89,22 @@ module _ {G : Instance} {M rem : ℕ → Bool} where
         (λ n. omega (arith, W .GL f x (r .steps) y nf rm (ix .lt, ix .mem) i (r .walk) n, r .cost))
 
     -- a way back to x and a way forth from it
-    pub meet : {x : ℕ} → Back G M rem x → Forth G M rem x → ⊥
-    meet b (lost y iy r) = no-LL (b .from-in) (loosen 0 0 2 (join (b .way) r) (omega arith) (omega arith))
-    meet b (gained y f c d nf rm i r h) = no-LG f 1 nf rm
+    pub no-back-forth : {x : ℕ} → Back G M rem x → Forth G M rem x → ⊥
+    no-back-forth b (lost y iy r) = no-LL (b .from-in) (loosen 0 0 2 (join (b .way) r) (omega arith) (omega arith))
+    no-back-forth b (gained y f c d nf rm i r h) = no-LG f 1 nf rm
         (record { from = b .from; at = y; c = 0 + c; d = 1 + d; from-in = b .from-in; way = join (b .way) r; stand = i; cost = omega arith })
         (λ e. omega (arith, up-one (G .rankS (b .from)) (G .rankS f)))
 
     -- an arrival of at most 0 where the surveyor has room or a worse edge
-    pub finish : (f : ℕ) → New G M f → Arrival G M rem f 0 1 → Blocks (surveyors G) M rem f → ⊥
-    finish f nf A (inl rm) = no-LG f 1 nf rm A (λ e. omega (arith, up-one (G .rankS (A .from)) (G .rankS f)))
-    finish f nf A (inr (y, iy, i, w)) = no-LL (A .from-in) (loosen 0 0 2 (join (A .way)
+    pub no-arrival : (f : ℕ) → New G M f → Arrival G M rem f 0 1 → Blocks (surveyors G) M rem f → ⊥
+    no-arrival f nf A (inl rm) = no-LG f 1 nf rm A (λ e. omega (arith, up-one (G .rankS (A .from)) (G .rankS f)))
+    no-arrival f nf A (inr (y, iy, i, w)) = no-LL (A .from-in) (loosen 0 0 2 (join (A .way)
         (hop (up (G .rankT (A .at)) (G .rankT f)) (up (G .rankT f) (G .rankT (A .at)) + 1) nf iy (A .stand) i (omega (arith, up-no (G .rankS y) (G .rankS f) (omega arith), up-yes (G .rankS f) (G .rankS y) w))))
         (omega arith) (omega arith))
 
     -- a gain by f into x, where nothing of the plan at f's stand is better than f
-    pub no-gain : (f x : ℕ) → New G M f → RoomT G M f → In (G .m) M rem x → G .sv f ≡ G .sv x → ((y : ℕ) → In (G .m) M rem y → G .st f ≡ G .st y → G .rankT f ≤ G .rankT y) → Forth G M rem x → ⊥
+    pub no-gain : (f x : ℕ) → New G M f → RoomT G M f → In (G .m) M rem x → G .sv f ≡ G .sv x
+        → ((y : ℕ) → In (G .m) M rem y → G .st f ≡ G .st y → G .rankT f ≤ G .rankT y) → Forth G M rem x → ⊥
     no-gain f x nf rm ix i best (lost y iy r) = no-GL f 0 x y 0 1 nf rm ix i r (omega (arith, up-one (G .rankS x) (G .rankS f)))
         (λ e. omega (arith, up-no (G .rankT y) (G .rankT f) (best y iy e)))
     no-gain f x nf rm ix i best (gained y g c d ng rg j r h) = omega (
@@ -125,7 +120,7 @@ module _ {G : Instance} {M rem : ℕ → Bool} where
     no-both-block f nf (inr (y, iy, i, w)) (inl b) = no-GL f 1 y y 0 0 nf b iy i (stay y)
         (omega (arith, up-no (G .rankS y) (G .rankS f) (omega arith), up-yes (G .rankS f) (G .rankS y) w))
         (λ e. omega (arith, up-one (G .rankT y) (G .rankT f)))
-    no-both-block f nf bs (inr (x, ix, i, w)) = finish f nf
+    no-both-block f nf bs (inr (x, ix, i, w)) = no-arrival f nf
         (record {
           from = x;
           at = x;
