@@ -64,14 +64,14 @@ module _ {G : Instance} {Z : State} {M : ℕ → Bool} (H : Sit G Z M) where
 
   -- Corollary B: a loss and a way to x, together at most 0
   pub way-back : Quiet G Z (rule2 G Z) → (x : ℕ) → Mem x → T (not (arrowS G Z x)) → BackTo x
-  way-back Q x ix n = chain (G .m) Strict (λ x y. Reach G M 1 y x 0 0) (λ x p. p .0 .lt)
+  way-back Q x ix n = chain (G .m) Bare (λ x y. Reach G M 1 y x 0 0) (λ x p. p .0 .lt)
       (λ x y z r s. loosen 1 0 0 (join s r) (omega arith) (omega arith))
       (λ x p r. no-loop (H .noBad) (p .0) r) BackTo step x (ix, n)
     where
-      Strict : ℕ → Type 0
-      Strict x = Mem x × T (not (arrowS G Z x))
+      Bare : ℕ → Type 0
+      Bare x = Mem x × T (not (arrowS G Z x))
 
-      step : (x : ℕ) → Strict x → ((y : ℕ) → Strict y → Reach G M 1 y x 0 0 → BackTo y) → BackTo x
+      step : (x : ℕ) → Bare x → ((y : ℕ) → Bare y → Reach G M 1 y x 0 0 → BackTo y) → BackTo x
       step x (ix, n) ih = given (better-arrow AS (λ e. tt) x ix n) (λ (g, ng, t, i, w). given (no-better-in Q g ng t) (λ (y, iy, j, k).
           let u = up-no (G .rankS x) (G .rankS g) (omega arith) in
           let v = up-yes (G .rankS g) (G .rankS x) w in

@@ -36,6 +36,7 @@ module _ (G : Instance) where
       by true h k ih = more n Z (stepsFrom G n (next G Z)) (stateAfter G n (next G Z)) (h tt) ih
       by false h k ih = stop (suc n) Z (inr (k tt))
 
+  -- in particular the law of the cut quotas, at every state on the way
   pub sound-after : (n : ℕ) → Sound G (stateAfter G n (begin G))
   sound-after n = along (λ n Z ss Y. Sound G Z → Sound G Y) (λ n Z h S. S) (λ n Z ss Y h ih S. ih (next-sound G Z S h)) n (begin G) (begin-sound G)
 
@@ -75,7 +76,7 @@ module _ (G : Instance) where
   unfolding next act
   next-other Z e t = (and-l (Z .rem e) (not (eqb e (edgeOf G Z))) t, and-r (Z .rem e) (not (eqb e (edgeOf G Z))) t)
 
-  -- the steps name only what remains where they start
+  -- no edge twice, and each remains where the steps start
   abbrev Once : State → List Step → Type 0
   Once Z ss = Nodup (map (λ s. s .edge) ss) × ((s : Step) → s ∈ ss → T (Z .rem (s .edge)))
 

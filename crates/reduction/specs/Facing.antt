@@ -1,5 +1,6 @@
 -- A plan against the arrows of one side, surveyors or stands, at a state of the reduction: what is said of a node is proved once
--- for both. The plan consists of the fixed edges and of some remaining ones; no vote comes in yet.
+-- for both. The plan consists of the fixed edges and of some remaining ones, and the cut quotas have their closed form; no vote
+-- comes in yet.
 use Prim.Native.Nat.{ℕ, _+_, _-_, _≤_, _<_, min}
 use native.Mathlib.Omega.{arith}
 use native.Mathlib.Nat.{eq-or-lt-of-le}

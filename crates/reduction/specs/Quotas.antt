@@ -48,7 +48,7 @@ act-counted K rem fixed q C b e l r n room = record {
       (cut K rem q v) (C .cut-is v) (C .within v) (λ tb tc. subst (λ u. 0 < cut K rem q u) (sym (eqb→eq v (K .end e) tc)) (room tb)) (deg-with K fixed b e v l n);
 }
 
--- ---- a state
+-- ---- a state: nothing that is fixed remains, and both sides' counts are right
 pub record Sound (G : Instance) (Z : State) : Type 0 where
   pub apart : (e : ℕ) → e < G .m → T (Z .fixed e) → T (not (Z .rem e))
   pub atS : Counted (surveyors G) (Z .rem) (Z .fixed) (Z .qS)
