@@ -2,12 +2,12 @@
 use Prim.Native.Nat.{ℕ, _+_, _≤_, _<_}
 use native.Mathlib.Omega.{arith}
 use native.Mathlib.Decide.{decLt}
-use mathlib.Core.Path.{_≡_, refl}
+use mathlib.Core.Path.{_≡_, refl, sym, ap, _∙_, subst}
 use mathlib.Core.Logic.{_⊎_, inl, inr, ⊎-elim, by-cases}
 use mathlib.Core.Bool.{Bool, true, false, not, _&&_, _||_}
-use lib.Dec.{T, eqb, eqb→eq, T-not, not-T}
-use Rattle.lists.specs.Test.{by-test, and-l, and-r, and-i, nand-i, eq→eqb, bit}
-use Rattle.lists.specs.Sum.{count, count-sub, count-sub-lt, count-add, count-none}
+use lib.Dec.{T, eqb, eqb→eq, eqb-refl, T-not, not-T}
+use Rattle.lists.specs.Test.{by-test, and-l, and-r, and-i, nand-i, eq→eqb, by-eq, bit}
+use Rattle.lists.specs.Sum.{count, count-sub, count-sub-lt, count-add, count-none, count-one}
 use Rattle.lists.specs.Search.{find, least-by, greatest-by}
 use Rattle.model.specs.Instance.{Side, deg}
 
@@ -28,6 +28,12 @@ bit-or : (a b : Bool) → (T a → T b → ⊥) → bit (a || b) ≡ bit a + bit
 bit-or true true h = absurd (h tt tt)
 bit-or true false h = refl
 bit-or false b h = omega arith
+
+bit-less : (a b : Bool) → (T b → T a) → bit a ≡ bit (a && not b) + bit b
+bit-less true true h = refl
+bit-less true false h = refl
+bit-less false true h = absurd (h tt)
+bit-less false false h = refl
 
 module _ (K : Side) where
   here : (p : ℕ → Bool) (v e : ℕ) → K .end e ≡ v → T (p e) → T (p e && eqb (K .end e) v)
@@ -89,6 +95,30 @@ module _ (K : Side) where
   -- two sets without a common edge
   pub deg-or : (p q : ℕ → Bool) (v : ℕ) → ((e : ℕ) → e < K .m → T (p e) → T (q e) → ⊥) → deg K (λ e. p e || q e) v ≡ deg K p v + deg K q v
   deg-or p q v h = deg-add p q (λ e. p e || q e) v (λ e l. bit-or (p e) (q e) (h e l))
+
+  -- one edge alone; taken out of a set; put into one, or not
+  deg-only : (e v : ℕ) → e < K .m → deg K (λ d. eqb d e) v ≡ bit (eqb v (K .end e))
+  unfolding deg
+  deg-only e v l = by-eq v (K .end e)
+      (λ i t. omega (
+        arith,
+        ap bit t,
+        deg-pos (λ d. eqb d e) v e l (sym i) (eqb-refl e),
+        count-sub (λ d. eqb d e && eqb (K .end d) v) (λ d. eqb d e) (K .m) (λ d k s. and-l (eqb d e) (eqb (K .end d) v) s),
+        count-one e (K .m),
+      ))
+      (λ n t. omega (arith, ap bit t, deg-zero (λ d. eqb d e) v (λ d k i s. n (sym i ∙ ap (K .end) (eqb→eq d e s)))))
+
+  pub deg-without : (p : ℕ → Bool) (e v : ℕ) → e < K .m → T (p e) → deg K p v ≡ deg K (λ d. p d && not (eqb d e)) v + bit (eqb v (K .end e))
+  deg-without p e v l t = omega (
+    arith,
+    deg-only e v l,
+    deg-add (λ d. p d && not (eqb d e)) (λ d. eqb d e) p v (λ d k. bit-less (p d) (eqb d e) (λ s. subst (λ z. T (p z)) (sym (eqb→eq d e s)) t)),
+  )
+
+  pub deg-with : (p : ℕ → Bool) (b : Bool) (e v : ℕ) → e < K .m → T (not (p e)) → deg K (λ d. p d || (b && eqb d e)) v ≡ deg K p v + bit (b && eqb v (K .end e))
+  deg-with p true e v l n = omega (arith, deg-only e v l, deg-or p (λ d. eqb d e) v (λ d k t s. T-not (p e) n (subst (λ z. T (p z)) (eqb→eq d e s) t)))
+  deg-with p false e v l n = omega (arith, deg-or p (λ d. false) v (λ d k t s. s), deg-zero (λ d. false) v (λ d k i s. s))
 
   -- the extreme edge of p at v by a key
   pub worst-at : (key : ℕ → ℕ) (p : ℕ → Bool) (v : ℕ) → 0 < deg K p v

@@ -96,6 +96,11 @@ pub nor-i : (a b : Bool) → T (not a) → T (not b) → T (not (a || b))
 nor-i true b n k = n
 nor-i false b n k = k
 
+pub and-nor : (a b c : Bool) → (a && not b) && not c ≡ a && not (b || c)
+and-nor true true c = refl
+and-nor true false c = refl
+and-nor false b c = refl
+
 -- ---- equal numbers
 pub eq→eqb : (a b : ℕ) → a ≡ b → T (eqb a b)
 eq→eqb a b e = subst (λ z. T (eqb a z)) e (eqb-refl a)

@@ -1,0 +1,12 @@
+pub mod Arrows
+pub mod Facts
+pub mod Chosen
+pub mod Quotas
+pub mod Course
+pub mod Reach
+pub mod Facing
+pub mod Wholes
+pub mod Chains
+pub mod Steps
+pub mod End
+pub mod Run
