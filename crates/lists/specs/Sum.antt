@@ -6,7 +6,7 @@ use native.Mathlib.Decide.{decLt}
 use mathlib.Core.Path.{_≡_, refl, sym, ap, _∙_, subst}
 use mathlib.Core.Logic.{by-cases, ⊎-elim}
 use mathlib.Core.Bool.{Bool, true, false, not}
-use mathlib.Core.List.{List, [], _∷_, _++_, map, List·Memᴰ, List·Memᴰ·head, List·Memᴰ·tail, Memᴰ·cast}
+use mathlib.Core.List.{List, [], _∷_, _++_, map, List·Memᴰ, List·Memᴰ·head, List·Memᴰ·tail, List·Memᴰ·not-nil, Memᴰ·cast}
 use lib.ListN.{length, replicate}
 use lib.Dec.{T, eqb, eqb→eq}
 use Rattle.lists.specs.Test.{by-test, bit, bit-one, bit-pos, bit-no, bit-le, bit-lt, pk, eqb-yes, eqb-no, tests}
@@ -88,6 +88,11 @@ upTo-length (suc n) = ap suc (upTo-length n)
 pub upTo-∈ : (n i : ℕ) → i < n → i ∈ upTo n
 upTo-∈ zero i h = absurd (not-suc-le-zero h)
 upTo-∈ (suc n) i h = ⊎-elim (λ e. List·Memᴰ·head e) (λ k. List·Memᴰ·tail (upTo-∈ n i k)) (eq-or-lt-of-le (le-of-suc-le-suc h))
+
+pub upTo-< : (n : ℕ) {i : ℕ} → i ∈ upTo n → i < n
+upTo-< zero m = absurd (List·Memᴰ·not-nil m)
+upTo-< (suc n) (List·Memᴰ·head e) = omega arith
+upTo-< (suc n) (List·Memᴰ·tail m) = omega (arith, upTo-< n m)
 
 -- how often e comes
 abbrev pub occ : ℕ → List ℕ → ℕ

@@ -72,6 +72,10 @@ pub nand-i : (a b : Bool) → T (not a) → T (not (a && b))
 nand-i true b n = absurd n
 nand-i false b n = tt
 
+pub nand-ir : (a b : Bool) → T (not b) → T (not (a && b))
+nand-ir true b n = n
+nand-ir false b n = tt
+
 pub or-l : (a b : Bool) → T a → T (a || b)
 or-l true b t = tt
 or-l false b t = absurd t
@@ -171,3 +175,7 @@ pk-0 false = refl
 pub pk-add : (b : Bool) (x y : ℕ) → pk b (x + y) ≡ pk b x + pk b y
 pk-add true x y = refl
 pk-add false x y = refl
+
+pub pk-and : (x y : Bool) (n : ℕ) → pk (x && y) n ≡ pk y (pk x n)
+pk-and true y n = refl
+pk-and false y n = sym (pk-0 y)

@@ -1,0 +1,44 @@
+-- How often a number comes in a list: sums in which one number alone counts, lists in which none comes twice.
+use Prim.Native.Nat.{ℕ, _≤_, _<_}
+use native.Mathlib.Omega.{arith}
+use native.Mathlib.Decide.{decLt}
+use mathlib.Core.Path.{_≡_, sym, ap, _∙_}
+use mathlib.Core.Logic.{by-cases}
+use mathlib.Core.Bool.{Bool}
+use mathlib.Core.List.{List, _∷_}
+use lib.Dec.{eqb}
+use Rattle.lists.specs.Test.{bit, bit-pk, pk, pk-0, by-eq, eqb-sym}
+use Rattle.lists.specs.Sum.{_∈_, sum, sum-cong, sum-swap, sum-pk, sum-one, upTo, upTo-<, occ, ∈-occ}
+
+-- ---- in the numbers below m: once, or not at all
+pub occ-upTo : (m e : ℕ) → e < m → occ e (upTo m) ≡ 1
+occ-upTo m e h = sum-cong (λ x. bit (eqb x e)) (λ x. pk (eqb e x) 1) (upTo m) (λ x k. ap bit (eqb-sym x e) ∙ bit-pk (eqb e x)) ∙ sum-one (λ u. 1) m e h
+
+pub occ-< : (m e : ℕ) → 0 < occ e (upTo m) → e < m
+occ-< m e h = upTo-< m (∈-occ e (upTo m) h)
+
+pub occ-upTo-≤ : (m e : ℕ) → occ e (upTo m) ≤ 1
+occ-upTo-≤ m e = by-cases (decLt 0 (occ e (upTo m))) (λ h. omega (arith, occ-upTo m e (occ-< m e h))) (λ n. omega arith)
+
+-- ---- sums
+-- a test that is asked of e alone
+pub sum-at : (h : ℕ → Bool) (e : ℕ) (xs : List ℕ) → sum (λ d. pk (h d) (bit (eqb d e))) xs ≡ pk (h e) (occ e xs)
+sum-at h e xs = sum-cong (λ d. pk (h d) (bit (eqb d e))) (λ d. pk (h e) (bit (eqb d e))) xs (λ d m. by-eq d e
+    (λ p t. ap (λ z. pk (h z) (bit (eqb d e))) p)
+    (λ n t. ap (λ b. pk (h d) (bit b)) t ∙ pk-0 (h d) ∙ sym (pk-0 (h e)) ∙ sym (ap (λ b. pk (h e) (bit b)) t)))
+    ∙ sum-pk (h e) (λ d. bit (eqb d e)) xs
+
+-- each element has one number f x below n: summed number by number, it counts once
+pub sum-by : {A : Type 0} (n : ℕ) (f g : A → ℕ) (xs : List A) → ((x : A) → x ∈ xs → f x < n) → sum (λ v. sum (λ x. pk (eqb (f x) v) (g x)) xs) (upTo n) ≡ sum g xs
+sum-by n f g xs h =
+    sum-swap (λ v x. pk (eqb (f x) v) (g x)) (upTo n) xs
+    ∙ sum-cong (λ x. sum (λ v. pk (eqb (f x) v) (g x)) (upTo n)) g xs (λ x k. sum-one (λ v. g x) n (f x) (h x k))
+
+-- ---- no number twice
+abbrev pub Once : List ℕ → Type 0
+Once xs = (e : ℕ) → occ e xs ≤ 1
+
+pub once-cons : (x : ℕ) (xs : List ℕ) → occ x xs ≡ 0 → Once xs → Once (x ∷ xs)
+once-cons x xs h u e = by-eq x e
+    (λ p t. omega (arith, ap bit t, ap (λ z. occ z xs) p))
+    (λ n t. omega (arith, ap bit t, u e))

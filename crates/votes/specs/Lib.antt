@@ -1,0 +1,5 @@
+pub mod Score
+pub mod Places
+pub mod Fair
+pub mod Attained
+pub mod Signed
