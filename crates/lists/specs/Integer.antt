@@ -67,6 +67,9 @@ pub neg-sub : (n : ℕ) → negℤ (pos n) ≡ subℕ 0 n
 neg-sub zero = refl
 neg-sub (suc n) = parts-≡ (negsuc n) (subℕ 0 (suc n)) (omega (arith, sub-parts 0 (suc n)))
 
+pub sub-self : (n : ℕ) → subℕ n n ≡ pos 0
+sub-self n = parts-≡ (subℕ n n) (pos 0) (omega (arith, sub-parts n n))
+
 pub sub-add : (a b c d : ℕ) → subℕ a b +ℤ subℕ c d ≡ subℕ (a + c) (b + d)
 sub-add a b c d = parts-≡ (subℕ a b +ℤ subℕ c d) (subℕ (a + c) (b + d)) (omega (arith, sub-parts a b, sub-parts c d, sub-parts (a + c) (b + d), add-parts (subℕ a b) (subℕ c d)))
 

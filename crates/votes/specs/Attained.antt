@@ -13,7 +13,7 @@ use Rattle.lists.specs.Sum.{_∈_, sum, sum-zero, sum-append, sum-map, sum-cong
 use Rattle.lists.specs.Keep.{keep, ∈-keep, sum-keep-add}
 use Rattle.lists.specs.Least.{leastOf, leastOf-∈}
 use Rattle.model.specs.Instance.{Side, deg}
-use Rattle.model.specs.Vote.{Place, edge, empty, same, here, Pairing, pairings, shared, faces, lost, gained, valid}
+use Rattle.model.specs.Vote.{Place, edge, empty, same, here, places, Pairing, pairings, shared, faces, lost, gained, valid}
 use Rattle.votes.specs.Score.{mark, placesAt, validAt, score}
 use Rattle.votes.specs.Places.{times, left, right, here-deg, times-edge, times-empty, node-places}
 use Rattle.votes.specs.Fair.{Fair, valid-fair, fair-valid}
@@ -157,7 +157,7 @@ module _ (K : Side) (M N : ℕ → Bool) (v : ℕ) where
         gain : length (alone K v N M) ≤ length (alone K v M N) → sum (λ c. bit (gained c)) some ≡ 0
         gain h = omega (arith, some-sum (λ c. bit (gained c)), sum-zero (common K v M N), sz .gains)
 
-    pub some-valid : (r : Pairing) × (r ∈ validAt K M N v)
+    pub some-valid : (r : Pairing) × (r ∈ keep (valid M N) (pairings (places (K .quota v) (here K M v)) (places (K .quota v) (here K N v))))
     some-valid = let t = fair-valid M N (placesAt K M v) (placesAt K N v) some some-fair in (t .0, t .1)
 
     pub attained : (r : Pairing) × (r ∈ pairings (placesAt K M v) (placesAt K N v)) × Fair M N (placesAt K M v) (placesAt K N v) r × (score K M N v ≡ sum (mark (K .rank)) r)

@@ -115,6 +115,14 @@ pairing-right ψ (p ∷ ps) qs r l m =
       pairing-right ψ ps (t .0 .1) (u .0) (omega (arith, picks-sum (λ q. 1) qs (t .0) (t .1), sum-length qs, sum-length (t .0 .1))) (u .1),
     )
 
+pub pairing-right-≤ : (ψ : Place → ℕ) (ps qs : List Place) (r : Pairing) → r ∈ pairings ps qs → sum (λ c. ψ (c .1)) r ≤ sum ψ qs
+pairing-right-≤ ψ [] qs r (List·Memᴰ·head e) = omega (arith, ap (λ r. sum (λ c. ψ (c .1)) r) e)
+pairing-right-≤ ψ [] qs r (List·Memᴰ·tail m) = absurd (List·Memᴰ·not-nil m)
+pairing-right-≤ ψ (p ∷ ps) qs r m =
+    let t = gather-∈ (λ k. map (λ r. (p, k .0) ∷ r) (pairings ps (k .1))) (picks qs) m in
+    let u = Memᴰ·of-map (λ r. (p, t .0 .0) ∷ r) (pairings ps (t .0 .1)) (t .2) in
+    omega (arith, ap (λ r. sum (λ c. ψ (c .1)) r) (u .2), picks-sum ψ qs (t .0) (t .1), pairing-right-≤ ψ ps (t .0 .1) (u .0) (u .1))
+
 -- as many couples as places
 pub pairing-length : (ps qs : List Place) (r : Pairing) → r ∈ pairings ps qs → sum (λ c. 1) r ≡ length ps
 pairing-length ps qs r m = pairing-left (λ p. 1) ps qs r m ∙ sym (sum-length ps)

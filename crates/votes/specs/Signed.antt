@@ -27,6 +27,10 @@ pub sum-sub : {A : Type 0} (h : A → ℤ) (f g : A → ℕ) (xs : List A) → (
 sum-sub h f g [] k = refl
 sum-sub h f g (x ∷ xs) k = ap₂ _+ℤ_ (k x (List·Memᴰ·head refl)) (sum-sub h f g xs (λ y m. k y (List·Memᴰ·tail m))) ∙ sub-add (f x) (g x) (sum f xs) (sum g xs)
 
+pub sumℤ-cong : {A : Type 0} (f g : A → ℤ) (xs : List A) → ((x : A) → x ∈ xs → f x ≡ g x) → sumℤ f xs ≡ sumℤ g xs
+sumℤ-cong f g [] h = refl
+sumℤ-cong f g (x ∷ xs) h = ap₂ _+ℤ_ (h x (List·Memᴰ·head refl)) (sumℤ-cong f g xs (λ y m. h y (List·Memᴰ·tail m)))
+
 min-sub : (a c b : ℕ) → minℤ (subℕ a b) (subℕ c b) ≡ subℕ (min a c) b
 min-sub a c b = go (leZ (subℕ a b) (subℕ c b)) (λ t. ≤-sub a b c b (leZ-yes t)) (λ h. sub-≤ a b c b h .le)
   where
