@@ -2,12 +2,12 @@
 use Prim.Native.Nat.{ℕ, _≤_, _<_}
 use native.Mathlib.Omega.{arith}
 use native.Mathlib.Decide.{decLt}
-use mathlib.Core.Path.{_≡_, sym, ap, _∙_}
+use mathlib.Core.Path.{_≡_, ap, _∙_}
 use mathlib.Core.Logic.{by-cases}
 use mathlib.Core.Bool.{Bool}
 use mathlib.Core.List.{List, _∷_}
-use lib.Dec.{eqb}
-use Rattle.lists.specs.Test.{bit, bit-pk, pk, pk-0, by-eq, eqb-sym}
+use lib.Dec.{eqb, eqb→eq}
+use Rattle.lists.specs.Test.{bit, bit-pk, pk, pk-when, by-eq, eqb-sym}
 use Rattle.lists.specs.Sum.{_∈_, sum, sum-cong, sum-swap, sum-pk, sum-one, upTo, upTo-<, occ, ∈-occ}
 
 -- ---- in the numbers below m: once, or not at all
@@ -23,9 +23,8 @@ occ-upTo-≤ m e = by-cases (decLt 0 (occ e (upTo m))) (λ h. omega (arith, occ-
 -- ---- sums
 -- a test that is asked of e alone
 pub sum-at : (h : ℕ → Bool) (e : ℕ) (xs : List ℕ) → sum (λ d. pk (h d) (bit (eqb d e))) xs ≡ pk (h e) (occ e xs)
-sum-at h e xs = sum-cong (λ d. pk (h d) (bit (eqb d e))) (λ d. pk (h e) (bit (eqb d e))) xs (λ d m. by-eq d e
-    (λ p t. ap (λ z. pk (h z) (bit (eqb d e))) p)
-    (λ n t. ap (λ b. pk (h d) (bit b)) t ∙ pk-0 (h d) ∙ sym (pk-0 (h e)) ∙ sym (ap (λ b. pk (h e) (bit b)) t)))
+sum-at h e xs =
+    sum-cong (λ d. pk (h d) (bit (eqb d e))) (λ d. pk (h e) (bit (eqb d e))) xs (λ d m. pk-when (h d) (h e) (eqb d e) (λ t. ap h (eqb→eq d e t)))
     ∙ sum-pk (h e) (λ d. bit (eqb d e)) xs
 
 -- each element has one number f x below n: summed number by number, it counts once

@@ -2,7 +2,7 @@
 use Prim.Native.Nat.{ℕ, _+_, _≤_, _<_, zero-le}
 use native.Mathlib.Omega.{arith}
 use native.Mathlib.Decide.{ℕ-discrete}
-use mathlib.Core.Path.{_≡_, refl, sym, _∙_, subst}
+use mathlib.Core.Path.{_≡_, refl, sym, ap, _∙_, subst}
 use mathlib.Core.Logic.{_⊎_, inl, inr, _≢_, by-cases}
 use mathlib.Core.Bool.{Bool, true, false, not, cond, _&&_, _||_}
 use lib.Dec.{T, leb, ltb, eqb, ltb→lt, lt→ltb, nltb→le, leb→le, le→leb, nleb→lt, eqb→eq, eqb-refl}
@@ -179,3 +179,8 @@ pk-add false x y = refl
 pub pk-and : (x y : Bool) (n : ℕ) → pk (x && y) n ≡ pk y (pk x n)
 pk-and true y n = refl
 pk-and false y n = sym (pk-0 y)
+
+-- where b fails, the test in front is as good as another
+pub pk-when : (x y b : Bool) → (T b → x ≡ y) → pk x (bit b) ≡ pk y (bit b)
+pk-when x y true h = ap (λ z. pk z 1) (h tt)
+pk-when x y false h = pk-0 x ∙ sym (pk-0 y)

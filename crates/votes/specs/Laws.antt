@@ -15,7 +15,7 @@ use Rattle.lists.specs.Occur.{occ-<}
 use Rattle.lists.specs.Integer.{pos-sub, neg-sub, sub-self, sub-add, sub-≤}
 use Rattle.model.specs.Instance.{Instance, Side, surveyors, stands, deg}
 use Rattle.model.specs.Vote.{Place, edge, empty, same, here, places, Pairing, pairings, shared, faces, lost, gained, valid, sumℤ, leastOfℤ, placeVote, nodeVote, vote}
-use Rattle.graph.specs.Lawful.{Matching, Same}
+use Rattle.graph.specs.Lawful.{Within, Matching, Same}
 use Rattle.votes.specs.Score.{placesAt, score, tally, quotas}
 use Rattle.votes.specs.Places.{same-refl, times, here-occ, times-edge, pairing-left, pairing-right-≤}
 use Rattle.votes.specs.Signed.{sumℤ-cong, nodeVote-score, vote-tally}
@@ -54,7 +54,7 @@ module _ (G : Instance) where
   vote-both M N p q = rw (vote-tally G M N p q, vote-tally G N M q p, sub-add (tally G M N) (quotas G) (tally G N M) (quotas G))
       (sub-≤ (tally G M N + tally G N M) (quotas G + quotas G) 0 0 (omega (arith, side (surveyors G) (p .atS) (q .atS), side (stands G) (p .atT) (q .atT))))
     where
-      side : (K : Side) → ((v : ℕ) → deg K M v ≤ K .quota v) → ((v : ℕ) → deg K N v ≤ K .quota v)
+      side : (K : Side) → Within K M → Within K N
           → sum (score K M N) (upTo (K .n)) + sum (score K N M) (upTo (K .n)) ≤ sum (K .quota) (upTo (K .n)) + sum (K .quota) (upTo (K .n))
       side K a b = omega (
         arith,

@@ -5,3 +5,5 @@ pub mod Attained
 pub mod Signed
 pub mod Bounds
 pub mod Laws
+pub mod Exchange
+pub mod Node
