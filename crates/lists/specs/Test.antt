@@ -184,3 +184,8 @@ pk-and false y n = sym (pk-0 y)
 pub pk-when : (x y b : Bool) → (T b → x ≡ y) → pk x (bit b) ≡ pk y (bit b)
 pk-when x y true h = ap (λ z. pk z 1) (h tt)
 pk-when x y false h = pk-0 x ∙ sym (pk-0 y)
+
+pub pk-split : (x y : Bool) (n : ℕ) → pk (x && y) n + pk (x && not y) n ≡ pk x n
+pk-split true true n = omega arith
+pk-split true false n = omega arith
+pk-split false y n = refl

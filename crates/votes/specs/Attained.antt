@@ -2,7 +2,7 @@
 use Prim.Native.Nat.{ℕ, _+_, _-_, _*_, _≤_, max}
 use native.Mathlib.Omega.{arith}
 use native.Mathlib.Decide.{decLe}
-use mathlib.Core.Path.{_≡_, refl, sym, ap, _∙_, subst}
+use mathlib.Core.Path.{_≡_, refl, sym, ap, _∙_}
 use mathlib.Core.Logic.{inl, inr, by-cases}
 use mathlib.Core.Bool.{Bool, true, false, not, _&&_, _||_, and-comm}
 use mathlib.Core.List.{List, [], _∷_, _++_, map, List·Memᴰ·head, List·Memᴰ·tail, Memᴰ·map, Memᴰ·of-map}
@@ -11,12 +11,12 @@ use lib.Dec.{T, eqb}
 use Rattle.lists.specs.Test.{bit, pk, and-l, eqb-yes}
 use Rattle.lists.specs.Sum.{_∈_, sum, sum-zero, sum-append, sum-map, sum-cong, sum-length, sum-replicate, upTo, occ}
 use Rattle.lists.specs.Keep.{keep, ∈-keep, sum-keep-add}
-use Rattle.lists.specs.Least.{leastOf, leastOf-∈}
+use Rattle.lists.specs.Least.{leastOf-∈}
 use Rattle.model.specs.Instance.{Side, deg}
 use Rattle.model.specs.Vote.{Place, edge, empty, same, here, places, Pairing, pairings, shared, faces, lost, gained, valid}
 use Rattle.votes.specs.Score.{mark, placesAt, validAt, score}
 use Rattle.votes.specs.Places.{times, left, right, here-deg, times-edge, times-empty, node-places}
-use Rattle.votes.specs.Fair.{Fair, valid-fair, fair-valid}
+use Rattle.votes.specs.Fair.{faces-apart, Fair, valid-fair, fair-valid}
 
 -- ---- some edges against others, as far as they go; what is over on one side faces empty places
 abbrev match : List ℕ → List ℕ → Pairing
@@ -54,15 +54,9 @@ module _ (M N : ℕ → Bool) where
 
   match-own : (xs ys : List ℕ) → Own xs → Own ys → sum (λ c. bit (not (faces M N c))) (match xs ys) ≡ 0
   match-own [] [] h k = refl
-  match-own [] (y ∷ ys) h k = omega (arith, match-own [] ys h (own-tail k), ap (λ b. bit (not (false || not (false || b)))) (k y (List·Memᴰ·head refl)))
-  match-own (x ∷ xs) [] h k = omega (arith, match-own xs [] (own-tail h) k, ap (λ b. bit (not (false || not (b || false)))) (h x (List·Memᴰ·head refl)))
-  match-own (x ∷ xs) (y ∷ ys) h k = omega (arith, match-own xs ys (own-tail h) (own-tail k), both (eqb x y) (M x && N x) (M y && N y) (h x (List·Memᴰ·head refl)) (k y (List·Memᴰ·head refl)))
-    where
-      both : (s a b : Bool) → a ≡ false → b ≡ false → bit (not (s || not (a || b))) ≡ 0
-      both true a b p q = refl
-      both false true b p q = absurd (subst T p tt)
-      both false false true p q = absurd (subst T q tt)
-      both false false false p q = refl
+  match-own [] (y ∷ ys) h k = omega (arith, match-own [] ys h (own-tail k), faces-apart M N empty (edge y) refl (k y (List·Memᴰ·head refl)))
+  match-own (x ∷ xs) [] h k = omega (arith, match-own xs [] (own-tail h) k, faces-apart M N (edge x) empty (h x (List·Memᴰ·head refl)) refl)
+  match-own (x ∷ xs) (y ∷ ys) h k = omega (arith, match-own xs ys (own-tail h) (own-tail k), faces-apart M N (edge x) (edge y) (h x (List·Memᴰ·head refl)) (k y (List·Memᴰ·head refl)))
 
 module _ (K : Side) (v : ℕ) where
   -- the edges at v that are in both sets, and those in A alone
@@ -85,19 +79,13 @@ module _ (K : Side) (M N : ℕ → Bool) (v : ℕ) where
   parts : (g : ℕ → ℕ) → (sum g (common K v M N) + sum g (alone K v M N) ≡ sum g (here K M v)) × (sum g (common K v M N) + sum g (alone K v N M) ≡ sum g (here K N v))
   parts g = (
     sum-keep-add g (λ e. (M e && N e) && eqb (K .end e) v) (λ e. (M e && not (N e)) && eqb (K .end e) v) (λ e. M e && eqb (K .end e) v) (upTo (K .m)) (λ e n. one (M e) (N e) (eqb (K .end e) v) n),
-    sum-keep-add g (λ e. (M e && N e) && eqb (K .end e) v) (λ e. (N e && not (M e)) && eqb (K .end e) v) (λ e. N e && eqb (K .end e) v) (upTo (K .m)) (λ e n. two (M e) (N e) (eqb (K .end e) v) n),
+    sum-keep-add g (λ e. (M e && N e) && eqb (K .end e) v) (λ e. (N e && not (M e)) && eqb (K .end e) v) (λ e. N e && eqb (K .end e) v) (upTo (K .m)) (λ e n. ap (λ b. pk (b && eqb (K .end e) v) n + pk ((N e && not (M e)) && eqb (K .end e) v) n) (and-comm (M e) (N e)) ∙ one (N e) (M e) (eqb (K .end e) v) n),
   )
     where
       one : (x y a : Bool) (n : ℕ) → pk ((x && y) && a) n + pk ((x && not y) && a) n ≡ pk (x && a) n
       one true true a n = omega arith
       one true false a n = omega arith
       one false y a n = omega arith
-
-      two : (x y a : Bool) (n : ℕ) → pk ((x && y) && a) n + pk ((y && not x) && a) n ≡ pk (y && a) n
-      two true true a n = omega arith
-      two true false a n = omega arith
-      two false true a n = omega arith
-      two false false a n = omega arith
 
   -- the common edges against themselves, the others as far as they go, then empty places
   base : Pairing

@@ -8,7 +8,7 @@ use mathlib.Core.Bool.{Bool, true, false, not, _&&_, _||_, and-comm, or-comm, or
 use mathlib.Core.List.{List, map}
 use lib.Dec.{T}
 use Rattle.lists.specs.Test.{bit, eqb-sym, true-T}
-use Rattle.lists.specs.Sum.{_∈_, sum, sum-add, sum-map, sum-cong, sum-mono}
+use Rattle.lists.specs.Sum.{_∈_, sum-add, sum-map, sum-cong, sum-mono}
 use Rattle.model.specs.Instance.{Side, deg}
 use Rattle.model.specs.Vote.{Place, edge, empty, same, Pairing, shared, faces, lost, gained}
 use Rattle.votes.specs.Score.{mark, mark-same, mark-flip, placesAt, score}

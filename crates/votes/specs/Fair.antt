@@ -2,9 +2,9 @@
 -- is as good as a valid pairing: the node's score is at most what its couples come to.
 use Prim.Native.Nat.{ℕ, _≤_, _<_}
 use native.Mathlib.Omega.{arith}
-use mathlib.Core.Path.{_≡_, refl, sym, ap, _∙_}
-use mathlib.Core.Logic.{_⊎_, inl, inr, ⊎-map}
-use mathlib.Core.Bool.{Bool, true, false, not, _&&_}
+use mathlib.Core.Path.{_≡_, refl, sym, ap, _∙_, subst}
+use mathlib.Core.Logic.{_⊎_, inl, inr}
+use mathlib.Core.Bool.{Bool, true, false, not, _&&_, _||_}
 use mathlib.Core.List.{List, [], _∷_, map, List·Memᴰ·head, Memᴰ·map}
 use lib.ListN.{length}
 use lib.Dec.{T, eqb, eqb→eq}
@@ -14,7 +14,7 @@ use Rattle.lists.specs.Keep.{keep, keep-∈, all?, any?, zero-all, all-zero, ze
 use Rattle.lists.specs.Least.{leastOf-≤}
 use Rattle.lists.specs.Occur.{occ-<}
 use Rattle.model.specs.Instance.{Side}
-use Rattle.model.specs.Vote.{Place, edge, same, here, Pairing, pairings, faces, lost, gained, valid}
+use Rattle.model.specs.Vote.{Place, edge, same, here, Pairing, pairings, shared, faces, lost, gained, valid}
 use Rattle.votes.specs.Score.{mark, placesAt, validAt, score}
 use Rattle.votes.specs.Places.{same→, same-refl, times, times-∈, left, right, here-occ, times-edge, pairing-left, pairing-right}
 
@@ -46,6 +46,16 @@ reorder (p ∷ ps) qs r hl hr = go (reorder ps) (sum-pos (λ c. bit (same (c .0)
         (λ a. omega (arith, hr a, sum-remove (λ d. bit (same (d .1) a)) m, sum-remove (λ d. bit (same d a)) k)))
 
 -- ---- valid, by counting
+-- two places that are not shared may face each other
+pub faces-apart : (M N : ℕ → Bool) (p q : Place) → shared M N p ≡ false → shared M N q ≡ false → bit (not (faces M N (p, q))) ≡ 0
+faces-apart M N p q h k = go (same p q) (shared M N p) (shared M N q) h k
+  where
+    go : (s x y : Bool) → x ≡ false → y ≡ false → bit (not (s || not (x || y))) ≡ 0
+    go true x y h k = refl
+    go false true y h k = absurd (subst T h tt)
+    go false false true h k = absurd (subst T k tt)
+    go false false false h k = refl
+
 abbrev pub NotBoth : Pairing → Type 0
 NotBoth r = (sum (λ c. bit (lost c)) r ≡ 0) ⊎ (sum (λ c. bit (gained c)) r ≡ 0)
 

@@ -2,11 +2,11 @@
 -- against itself is 0, the two votes of two plans add to at most zero, and a vote depends on nothing but which edges are in the sets.
 use Prim.Native.Nat.{ℕ, _+_, _≤_, _<_}
 use native.Mathlib.Omega.{arith}
-use mathlib.Core.Path.{_≡_, refl, sym, ap, ap₂, _∙_, subst}
+use mathlib.Core.Path.{_≡_, refl, ap, ap₂, _∙_}
 use mathlib.Core.Bool.{Bool, not, _&&_, _||_}
 use mathlib.Core.List.{map}
 use lib.Dec.{eqb}
-use lib.IntN.{ℤ, pos, negℤ, _+ℤ_, subℕ}
+use lib.IntN.{pos, negℤ, _+ℤ_, subℕ}
 use lib.Signed.{_≤ℤ_}
 use Rattle.lists.specs.Test.{bit, pk-le}
 use Rattle.lists.specs.Sum.{_∈_, sum, sum-add, sum-mono, sum-cong, sum-mem, upTo, upTo-<, occ}

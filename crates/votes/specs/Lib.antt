@@ -7,3 +7,5 @@ pub mod Bounds
 pub mod Laws
 pub mod Exchange
 pub mod Node
+pub mod Couples
+pub mod Converse

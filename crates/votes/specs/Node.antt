@@ -2,22 +2,22 @@
 -- pairing of M against N. So N keeps the quotas, and the side's votes are at most what the exchange costs there.
 use Prim.Native.Nat.{ℕ, _+_, _-_, _*_, _≤_, _<_}
 use native.Mathlib.Omega.{arith}
-use mathlib.Core.Path.{_≡_, refl, sym, ap, _∙_, subst}
+use mathlib.Core.Path.{_≡_, refl, sym, ap, _∙_}
 use mathlib.Core.Logic.{_⊎_, inl, inr}
 use mathlib.Core.Bool.{Bool, true, false, not, _&&_, _||_, and-comm}
 use mathlib.Core.List.{List, _++_, map}
 use lib.ListN.{length, replicate}
-use lib.Dec.{T, eqb, eqb→eq}
+use lib.Dec.{eqb, eqb→eq}
 use Rattle.lists.specs.Test.{bit, pk, pk-0, pk-le, pk-add, pk-and, pk-when, eqb-yes}
 use Rattle.lists.specs.Sum.{_∈_, sum, sum-zeros, sum-pk-0, sum-add, sum-append, sum-map, sum-cong, sum-mono, sum-mem, sum-length, sum-replicate, sum-pk, upTo, occ}
 use Rattle.lists.specs.Keep.{keep, sum-keep}
 use Rattle.lists.specs.Occur.{occ-<, sum-at, sum-by}
 use Rattle.model.specs.Instance.{Side, deg}
 use Rattle.model.specs.Vote.{Place, edge, empty, same, here, Pairing, shared, faces, lost, gained}
-use Rattle.graph.specs.Lawful.{Ranked, Within}
+use Rattle.graph.specs.Lawful.{Ranked}
 use Rattle.votes.specs.Score.{mark, mark-same, mark-lost, placesAt, score}
 use Rattle.votes.specs.Places.{same→, same-refl, times, left, right, census, here-occ, here-deg, deg-occ, times-edge, times-empty}
-use Rattle.votes.specs.Fair.{NotBoth, Fair, score-≤}
+use Rattle.votes.specs.Fair.{NotBoth, faces-apart, Fair, score-≤}
 use Rattle.votes.specs.Exchange.{Couple, for, against, mark-couple, Swap, goer-is, comer-is, losses, gains, Moves, couple-comes, couple-goes, loss-goes}
 
 -- ---- the couples at a node: the shared edges, cs, the lost ones
@@ -151,23 +151,14 @@ module _ (K : Side) (M N : ℕ → Bool) (R F : List ℕ) (sw : Swap (K .m) M N 
     couple-apart c k (edge d) e = goer-apart d (couple-goes K M R F cs ls mv c k d e)
     couple-apart c k empty e = refl
 
-    faces-yes : (p q : Place) → shared M N p ≡ false → shared M N q ≡ false → bit (not (faces M N (p, q))) ≡ 0
-    faces-yes p q h k = go (same p q) (shared M N p) (shared M N q) h k
-      where
-        go : (s x y : Bool) → x ≡ false → y ≡ false → bit (not (s || not (x || y))) ≡ 0
-        go true x y p q = refl
-        go false true y p q = absurd (subst T p tt)
-        go false false true p q = absurd (subst T q tt)
-        go false false false p q = refl
-
     own : sum (λ c. bit (not (faces M N c))) full ≡ 0
     own = omega (
       arith,
       full-sum (λ c. bit (not (faces M N c))),
       core-sum K M N cs ls v (λ c. bit (not (faces M N c))),
       sum-zeros (λ e. pk ((M e && N e) && eqb (K .end e) v) (bit (not (faces M N (edge e, edge e))))) (upTo (K .m)) (λ e k. ap (λ b. pk ((M e && N e) && eqb (K .end e) v) (bit (not (b || not (shared M N (edge e) || shared M N (edge e)))))) (eqb-yes e e refl) ∙ pk-0 ((M e && N e) && eqb (K .end e) v)),
-      sum-zeros (λ c. pk (eqb (K .end (c .1)) v) (bit (not (faces M N (c .0, edge (c .1)))))) cs (λ c k. ap (λ z. pk (eqb (K .end (c .1)) v) z) (faces-yes (c .0) (edge (c .1)) (couple-apart c k (c .0) refl) (comer-apart (c .1) (couple-comes K M R F cs ls mv c k))) ∙ pk-0 (eqb (K .end (c .1)) v)),
-      sum-zeros (λ l. pk (eqb (K .end l) v) (bit (not (faces M N (edge l, empty))))) ls (λ l k. ap (λ z. pk (eqb (K .end l) v) z) (faces-yes (edge l) empty (goer-apart l (loss-goes K M R F cs ls mv l k)) refl) ∙ pk-0 (eqb (K .end l) v)),
+      sum-zeros (λ c. pk (eqb (K .end (c .1)) v) (bit (not (faces M N (c .0, edge (c .1)))))) cs (λ c k. ap (λ z. pk (eqb (K .end (c .1)) v) z) (faces-apart M N (c .0) (edge (c .1)) (couple-apart c k (c .0) refl) (comer-apart (c .1) (couple-comes K M R F cs ls mv c k))) ∙ pk-0 (eqb (K .end (c .1)) v)),
+      sum-zeros (λ l. pk (eqb (K .end l) v) (bit (not (faces M N (edge l, empty))))) ls (λ l k. ap (λ z. pk (eqb (K .end l) v) z) (faces-apart M N (edge l) empty (goer-apart l (loss-goes K M R F cs ls mv l k)) refl) ∙ pk-0 (eqb (K .end l) v)),
     )
 
     lost-count : sum (λ c. bit (lost c)) full ≡ losses K ls v

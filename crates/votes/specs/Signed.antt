@@ -10,13 +10,13 @@ use mathlib.Core.List.{List, [], _∷_, map, List·Memᴰ·head, List·Memᴰ·t
 use lib.Dec.{T, ltb, leb, ltb→lt, nltb→le, leb→le, nleb→lt}
 use lib.IntN.{ℤ, pos, negsuc, _+ℤ_, subℕ}
 use lib.Signed.{leZ, leZ-yes}
-use Rattle.lists.specs.Test.{bit, by-bool}
+use Rattle.lists.specs.Test.{bit}
 use Rattle.lists.specs.Sum.{_∈_, sum, upTo}
 use Rattle.lists.specs.Keep.{∈-keep}
 use Rattle.lists.specs.Least.{least, leastOf}
 use Rattle.lists.specs.Integer.{sub-add, sub-≤, ≤-sub}
 use Rattle.model.specs.Instance.{Instance, Side, surveyors, stands, deg}
-use Rattle.model.specs.Vote.{Place, rankVote, placeRank, Pairing, pairings, valid, sumℤ, minℤ, leastℤ, leastOfℤ, placeVote, nodeVote, vote}
+use Rattle.model.specs.Vote.{Place, rankVote, placeRank, pairings, valid, sumℤ, minℤ, leastℤ, leastOfℤ, placeVote, nodeVote, vote}
 use Rattle.graph.specs.Lawful.{Matching}
 use Rattle.votes.specs.Score.{rate, mark, placesAt, validAt, score, tally, quotas}
 use Rattle.votes.specs.Places.{node-places, pairing-length}
