@@ -23,7 +23,7 @@ use Rattle.votes.specs.Places.{node-places, pairing-length}
 use Rattle.votes.specs.Attained.{some-valid}
 
 -- ---- sums and the least of differences
-pub sum-sub : {A : Type 0} (h : A → ℤ) (f g : A → ℕ) (xs : List A) → ((x : A) → x ∈ xs → h x ≡ subℕ (f x) (g x)) → sumℤ h xs ≡ subℕ (sum f xs) (sum g xs)
+sum-sub : {A : Type 0} (h : A → ℤ) (f g : A → ℕ) (xs : List A) → ((x : A) → x ∈ xs → h x ≡ subℕ (f x) (g x)) → sumℤ h xs ≡ subℕ (sum f xs) (sum g xs)
 sum-sub h f g [] k = refl
 sum-sub h f g (x ∷ xs) k = ap₂ _+ℤ_ (k x (List·Memᴰ·head refl)) (sum-sub h f g xs (λ y m. k y (List·Memᴰ·tail m))) ∙ sub-add (f x) (g x) (sum f xs) (sum g xs)
 

@@ -1,12 +1,12 @@
 -- The arcs of a walk as couples of an exchange: at the stand of x the edge x gives way to f, at the surveyor of z the edge z.
 use Prim.Native.Nat.{ℕ, _+_}
 use native.Mathlib.Omega.{arith}
-use mathlib.Core.Path.{_≡_, refl, sym, ap, _∙_, subst}
+use mathlib.Core.Path.{_≡_, refl, sym, ap}
 use mathlib.Core.Bool.{Bool}
-use mathlib.Core.List.{List, [], _∷_, map, List·Memᴰ·head, List·Memᴰ·tail, List·Memᴰ·not-nil}
+use mathlib.Core.List.{List, [], _∷_, map}
 use lib.Dec.{eqb}
 use Rattle.lists.specs.Test.{bit, pk-0}
-use Rattle.lists.specs.Sum.{_∈_, sum, sum-map, occ}
+use Rattle.lists.specs.Sum.{sum, occ}
 use Rattle.lists.specs.Keep.{All}
 use Rattle.model.specs.Instance.{Instance, Side}
 use Rattle.model.specs.Vote.{edge, empty, same}

@@ -7,12 +7,12 @@ use native.Mathlib.Nat.{not-suc-le-zero}
 use mathlib.Core.Path.{_≡_, refl, sym, ap, _∙_, subst}
 use mathlib.Core.Logic.{_⊎_, inl, inr, _≢_, ⊎-elim, ⊎-map}
 use mathlib.Core.Bool.{Bool}
-use mathlib.Core.List.{List, [], _∷_, _++_, List·Memᴰ·head}
+use mathlib.Core.List.{[], _∷_, _++_, List·Memᴰ·head}
 use lib.ListN.{length, length-append}
 use lib.Dec.{eqb}
-use Rattle.lists.specs.Test.{bit, by-eq, eqb-no, given}
+use Rattle.lists.specs.Test.{bit, eqb-no}
 use Rattle.lists.specs.Sum.{_∈_, sum-append, occ}
-use Rattle.lists.specs.Occur.{Once}
+use Rattle.lists.specs.Occur.{Once, once-cons, once-snoc}
 use Rattle.lists.specs.Twice.{At, find-at}
 use Rattle.lists.specs.Search.{strong}
 use Rattle.model.specs.Instance.{Instance}
@@ -22,7 +22,7 @@ use Rattle.graph.specs.Append.{walk-append, walk-split, plus-append, minus-appe
 use Rattle.walks.specs.Strong.{Strong, Holds, strong-holds}
 use Rattle.walks.specs.LemmaX.{swapped, holds-cost}
 use Rattle.walks.specs.Arcs.{fs, zs}
-use Rattle.walks.specs.Ends.{Way, lose, gain}
+use Rattle.walks.specs.Ends.{Way, lose, gain, fresh}
 use Rattle.walks.specs.Whole.{startPlus, startMinus, stopPlus, stopMinus, comers, Start, Stop, Apart, Whole, simple, simple-loop, simple-direct}
 use Rattle.walks.specs.Cut.{Cut, repeats, repeats-open}
 
@@ -38,18 +38,19 @@ Distinct (gain f) lose = Unit {0}
 Distinct (gain f) (gain g) = f ≢ g
 
 once-all : (a : Way) (w : Steps) (b : Way) → Once (fs w) → Free a w → Free b w → Distinct a b → Once (comers a w b)
-once-all lose w lose u fa fb d e = omega (arith, sum-append (λ x. bit (eqb x e)) (fs w) [], u e)
-once-all lose w (gain g) u fa fb d e = by-eq g e
-    (λ p t. omega (arith, sum-append (λ x. bit (eqb x e)) (fs w) (g ∷ []), ap bit t, fb, ap (λ z. occ z (fs w)) p))
-    (λ n t. omega (arith, sum-append (λ x. bit (eqb x e)) (fs w) (g ∷ []), ap bit t, u e))
-once-all (gain f) w lose u fa fb d e = by-eq f e
-    (λ p t. omega (arith, sum-append (λ x. bit (eqb x e)) (fs w) [], ap bit t, fa, ap (λ z. occ z (fs w)) p))
-    (λ n t. omega (arith, sum-append (λ x. bit (eqb x e)) (fs w) [], ap bit t, u e))
-once-all (gain f) w (gain g) u fa fb d e = by-eq f e
-    (λ p t. omega (arith, sum-append (λ x. bit (eqb x e)) (fs w) (g ∷ []), ap bit t, fa, ap (λ z. occ z (fs w)) p, ap bit (eqb-no g e (λ q. d (p ∙ sym q)))))
-    (λ n t. by-eq g e
-    (λ p s. omega (arith, sum-append (λ x. bit (eqb x e)) (fs w) (g ∷ []), ap bit t, ap bit s, fb, ap (λ z. occ z (fs w)) p))
-    (λ n s. omega (arith, sum-append (λ x. bit (eqb x e)) (fs w) (g ∷ []), ap bit t, ap bit s, u e)))
+once-all a w b u fa fb d = front a fa d
+  where
+    back : (b : Way) → Free b w → Once (fs w ++ fresh b)
+    back lose fb = λ e. omega (arith, sum-append (λ x. bit (eqb x e)) (fs w) [], u e)
+    back (gain g) fb = once-snoc g (fs w) fb u
+
+    absent : (f : ℕ) (b : Way) → occ f (fs w) ≡ 0 → Distinct (gain f) b → occ f (fs w ++ fresh b) ≡ 0
+    absent f lose fa d = omega (arith, sum-append (λ x. bit (eqb x f)) (fs w) [])
+    absent f (gain g) fa d = omega (arith, sum-append (λ x. bit (eqb x f)) (fs w) (g ∷ []), ap bit (eqb-no g f (λ e. d (sym e))))
+
+    front : (a : Way) → Free a w → Distinct a b → Once (comers a w b)
+    front lose fa d = back b fb
+    front (gain f) fa d = once-cons f (fs w ++ fresh b) (absent f b fa d) (back b fb)
 
 pub first-∈ : (w : Steps) → 0 < length w → (e : ℕ) × (e ∈ zs w)
 first-∈ [] h = absurd (not-suc-le-zero h)
@@ -63,6 +64,9 @@ module _ (G : Instance) (k : ℕ) where
   abbrev pub DearWhole : Way → ℕ → Steps → ℕ → Way → Type 0
   DearWhole a x w y b = k + (minus G x w + (startMinus G a x + stopMinus G y b)) ≤ plus G x w + (startPlus G a x + stopPlus G y b)
 
+abbrev pub NoDirect : Instance → (ℕ → Bool) → Type 0
+NoDirect G M = (f : ℕ) → New G M f → RoomS G M f → RoomT G M f → ⊥
+
 module _ (G : Instance) (M : ℕ → Bool) (k : ℕ) where
   -- all closed walks, all wholes with these two ends, of less than n arcs
   abbrev pub DearTo : ℕ → Type 0
@@ -70,9 +74,6 @@ module _ (G : Instance) (M : ℕ → Bool) (k : ℕ) where
 
   abbrev pub DearWholeTo : Way → Way → ℕ → Type 0
   DearWholeTo a b n = (x : ℕ) (w : Steps) (y : ℕ) → length w < n → Whole G M a x w y b → DearWhole G k a x w y b
-
-  abbrev pub NoDirect : Type 0
-  NoDirect = (f : ℕ) → New G M f → RoomS G M f → RoomT G M f → ⊥
 
   -- a closed walk costs at least k if all shorter ones do, or nothing comes twice in it
   pub closed-step : (x : ℕ) (w : Steps) → DearTo (length w) → Walk G M x w x → Dear G k x w ⊎ (Once (zs w) × Once (fs w))
@@ -90,7 +91,7 @@ module _ (G : Instance) (M : ℕ → Bool) (k : ℕ) where
       → Whole G M (gain f) x (pre ++ ((f, z) ∷ post)) y b → DearWhole G k (gain f) x (pre ++ ((f, z) ∷ post)) y b
   cut-start f x pre z post y b cl ih h = go (walk-split G M x y pre ((f, z) ∷ post) (h .walk))
     where
-      still : (b : Way) → Apart G M (gain f) x y b → Apart G M (gain f) z y b
+      still : (b : Way) → Apart G (gain f) x y b → Apart G (gain f) z y b
       still lose n = n
       still (gain g) n = n
 
@@ -107,7 +108,7 @@ module _ (G : Instance) (M : ℕ → Bool) (k : ℕ) where
       → Whole G M a x (pre ++ ((g, z) ∷ post)) y (gain g) → DearWhole G k a x (pre ++ ((g, z) ∷ post)) y (gain g)
   cut-stop a x pre z post y g cl ih h = go (walk-split G M x y pre ((g, z) ∷ post) (h .walk))
     where
-      still : (u : ℕ) (a : Way) → Apart G M a x y (gain g) → Apart G M a x u (gain g)
+      still : (u : ℕ) (a : Way) → Apart G a x y (gain g) → Apart G a x u (gain g)
       still u lose n = n
       still u (gain f) n = n
 
@@ -136,14 +137,14 @@ module _ (G : Instance) (M : ℕ → Bool) (k : ℕ) where
           (sym (t .eq ∙ ap (λ f. t .pre ++ ((f, t .x .1) ∷ t .post)) (t .is))) (cut-stop a x (t .pre) (t .x .1) (t .post) y g) cl ih h
 
   -- there is no direct edge, so what is gained at the two ends differs
-  distinct : NoDirect → (a : Way) (x y : ℕ) (b : Way) → Start G M a x → Stop G M y b → Distinct a b
+  distinct : NoDirect G M → (a : Way) (x y : ℕ) (b : Way) → Start G M a x → Stop G M y b → Distinct a b
   distinct none lose x y b s e = tt
   distinct none (gain f) x y lose s e = tt
   distinct none (gain f) x y (gain g) s e = λ p. none f (s .0) (subst (RoomS G M) (sym p) (e .1)) (s .1)
 
   -- a whole costs at least k if all wholes with the same two ends and fewer arcs and all closed walks of no more arcs do, or nothing
   -- comes twice in it
-  pub whole-step : (a : Way) (x : ℕ) (w : Steps) (y : ℕ) (b : Way) → NoDirect → DearTo (suc (length w)) → DearWholeTo a b (length w) → Whole G M a x w y b
+  pub whole-step : (a : Way) (x : ℕ) (w : Steps) (y : ℕ) (b : Way) → NoDirect G M → DearTo (suc (length w)) → DearWholeTo a b (length w) → Whole G M a x w y b
       → DearWhole G k a x w y b ⊎ (Once (x ∷ zs w) × Once (comers a w b))
   whole-step a x w y b none cl ih h = go (repeats-open G M x w y (h .walk)) (start-free a x w y b cl ih h) (stop-free a x w y b cl ih h)
     where
@@ -167,7 +168,7 @@ module _ (G : Instance) (M : ℕ → Bool) (k : ℕ) where
             (λ u. let t = first-∈ w p in holds-cost G k M (swapped M (zs w) (fs w)) (minus G x w) (plus G x w) st (simple-loop G M law (st .plan) x w h (u .0) (u .1) (t .0) (t .1)))
             (closed-step x w (λ x′ w′ q. ih (length w′) (omega arith) x′ w′ refl) h)
 
-    pub no-direct : NoDirect
+    pub no-direct : NoDirect G M
     no-direct f nf rs rt = omega (arith, holds-cost G k M (swapped M [] (f ∷ [])) 2 0 st (simple-direct G M law (st .plan) f nf rs rt))
 
     pub whole : (a : Way) (x : ℕ) (w : Steps) (y : ℕ) (b : Way) → Whole G M a x w y b → DearWhole G k a x w y b

@@ -10,7 +10,7 @@ use mathlib.Core.List.{List}
 use lib.ListN.{length}
 use lib.Dec.{T, ltb, ltb→lt, nltb→le}
 use Rattle.lists.specs.Test.{pk, T-true}
-use Rattle.lists.specs.Sum.{_∈_, sum, upTo, occ, ∈-occ}
+use Rattle.lists.specs.Sum.{sum, upTo, occ, ∈-occ}
 use Rattle.lists.specs.Keep.{All, All-∈}
 use Rattle.lists.specs.Occur.{Once, occ-upTo, occ-upTo-≤}
 use Rattle.model.specs.Instance.{Instance, surveyors, stands}

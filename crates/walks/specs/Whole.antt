@@ -1,11 +1,11 @@
 -- Wholes: a start, a walk, an end; closed walks; and single edges with room at both ends. Where nothing comes twice each of them is
 -- a valid exchange, so it makes a rival, and the vote against it is at most the cost.
-use Prim.Native.Nat.{ℕ, _+_, _<_, zero-le}
+use Prim.Native.Nat.{ℕ, _+_, zero-le}
 use native.Mathlib.Omega.{arith}
-use mathlib.Core.Path.{_≡_, refl, sym, ap, subst}
-use mathlib.Core.Logic.{_⊎_, inl, inr, _≢_, ⊎-elim}
+use mathlib.Core.Path.{_≡_, refl, ap}
+use mathlib.Core.Logic.{inl, _≢_}
 use mathlib.Core.Bool.{Bool}
-use mathlib.Core.List.{List, [], _∷_, _++_, List·Memᴰ·head, List·Memᴰ·tail, List·Memᴰ·not-nil, List·Memᴰ·append-cases}
+use mathlib.Core.List.{List, [], _∷_, _++_}
 use lib.ListN.{length}
 use lib.Dec.{eqb}
 use Rattle.lists.specs.Test.{bit, bit-one, eqb-yes}
@@ -21,8 +21,15 @@ use Rattle.walks.specs.LemmaX.{swapped, Rival, rival-cast, X-rival}
 use Rattle.walks.specs.Arcs.{Link, heads, tails, fs, zs, heads-new, tails-new, tails-old, walk-plus, walk-minus, heads-old, heads-link, tails-link, walk-old, walk-new}
 use Rattle.walks.specs.Ends.{Way, lose, gain, fresh, free, yields, lossOf, yields-new, yields-old, endPlus, endMinus, end-cost, Opens, ends-moves, Joins, yields-link, Parted, parted}
 
--- the votes at the start of a walk at x, and at its end at y
 module _ (G : Instance) where
+  -- no node both gains and loses
+  abbrev pub Apart : Way → ℕ → ℕ → Way → Type 0
+  Apart lose x y lose = Unit {0}
+  Apart lose x y (gain g) = G .sv g ≢ G .sv x
+  Apart (gain f) x y lose = G .st f ≢ G .st y
+  Apart (gain f) x y (gain g) = Unit {0}
+
+  -- the votes at the start of a walk at x, and at its end at y
   abbrev pub startPlus : Way → ℕ → ℕ
   startPlus a x = endPlus (G .rankS) x a
 
@@ -53,19 +60,12 @@ module _ (G : Instance) (M : ℕ → Bool) where
   Stop y lose = Unit {0}
   Stop y (gain g) = New G M g × RoomS G M g × (G .st g ≡ G .st y)
 
-  -- no node both gains and loses
-  abbrev pub Apart : Way → ℕ → ℕ → Way → Type 0
-  Apart lose x y lose = Unit {0}
-  Apart lose x y (gain g) = G .sv g ≢ G .sv x
-  Apart (gain f) x y lose = G .st f ≢ G .st y
-  Apart (gain f) x y (gain g) = Unit {0}
-
   pub record Whole (a : Way) (x : ℕ) (w : Steps) (y : ℕ) (b : Way) : Type 0 where
     pub old : Old G M x
     pub walk : Walk G M x w y
     pub start : Start a x
     pub stop : Stop y b
-    pub apart : Apart a x y b
+    pub apart : Apart G a x y b
 
   -- ---- what they say on each side
   start-sides : (a : Way) (x : ℕ) → Start a x → Opens (stands G) M a × Joins (surveyors G) x a × All (New G M) (fresh a)
@@ -76,7 +76,7 @@ module _ (G : Instance) (M : ℕ → Bool) where
   stop-sides y lose s = (tt, tt, tt)
   stop-sides y (gain g) s = (s .1, s .2, (s .0, tt))
 
-  apart-sides : (a : Way) (x y : ℕ) (b : Way) → Apart a x y b → Parted (stands G) a y b × Parted (surveyors G) b x a
+  apart-sides : (a : Way) (x y : ℕ) (b : Way) → Apart G a x y b → Parted (stands G) a y b × Parted (surveyors G) b x a
   apart-sides lose x y lose h = (tt, tt)
   apart-sides lose x y (gain g) h = (tt, h)
   apart-sides (gain f) x y lose h = (h, tt)
