@@ -172,6 +172,10 @@ pub pk-0 : (b : Bool) → pk b 0 ≡ 0
 pk-0 true = refl
 pk-0 false = refl
 
+pub pk-zero : (b : Bool) {n : ℕ} → n ≡ 0 → pk b n ≡ 0
+pk-zero true e = e
+pk-zero false e = refl
+
 pub pk-add : (b : Bool) (x y : ℕ) → pk b (x + y) ≡ pk b x + pk b y
 pk-add true x y = refl
 pk-add false x y = refl

@@ -9,14 +9,14 @@ use mathlib.Core.List.{List, [], _∷_, _++_, map, List·Memᴰ·head, List·Mem
 use lib.ListN.{length, replicate, length-append, length-map}
 use lib.Dec.{T, eqb}
 use Rattle.lists.specs.Test.{bit, pk, and-l, eqb-yes}
-use Rattle.lists.specs.Sum.{_∈_, sum, sum-zero, sum-append, sum-map, sum-cong, sum-length, sum-replicate, upTo, occ}
+use Rattle.lists.specs.Sum.{_∈_, sum, sum-zero, sum-zeros, sum-append, sum-map, sum-cong, sum-length, sum-replicate, upTo, occ}
 use Rattle.lists.specs.Keep.{keep, ∈-keep, sum-keep-add}
 use Rattle.lists.specs.Least.{leastOf-∈}
 use Rattle.model.specs.Instance.{Side, deg}
 use Rattle.model.specs.Vote.{Place, edge, empty, same, here, places, Pairing, pairings, shared, faces, lost, gained, valid}
 use Rattle.votes.specs.Score.{mark, placesAt, validAt, score}
 use Rattle.votes.specs.Places.{times, left, right, here-deg, times-edge, times-empty, node-places}
-use Rattle.votes.specs.Fair.{faces-apart, Fair, valid-fair, fair-valid}
+use Rattle.votes.specs.Fair.{faces-self, faces-apart, Fair, valid-fair, fair-valid}
 
 -- ---- some edges against others, as far as they go; what is over on one side faces empty places
 abbrev match : List ℕ → List ℕ → Pairing
@@ -56,7 +56,11 @@ module _ (M N : ℕ → Bool) where
   match-own [] [] h k = refl
   match-own [] (y ∷ ys) h k = omega (arith, match-own [] ys h (own-tail k), faces-apart M N empty (edge y) refl (k y (List·Memᴰ·head refl)))
   match-own (x ∷ xs) [] h k = omega (arith, match-own xs [] (own-tail h) k, faces-apart M N (edge x) empty (h x (List·Memᴰ·head refl)) refl)
-  match-own (x ∷ xs) (y ∷ ys) h k = omega (arith, match-own xs ys (own-tail h) (own-tail k), faces-apart M N (edge x) (edge y) (h x (List·Memᴰ·head refl)) (k y (List·Memᴰ·head refl)))
+  match-own (x ∷ xs) (y ∷ ys) h k = omega (
+    arith,
+    match-own xs ys (own-tail h) (own-tail k),
+    faces-apart M N (edge x) (edge y) (h x (List·Memᴰ·head refl)) (k y (List·Memᴰ·head refl)),
+  )
 
 module _ (K : Side) (v : ℕ) where
   -- the edges at v that are in both sets, and those in A alone
@@ -77,15 +81,16 @@ module _ (K : Side) (v : ℕ) where
 module _ (K : Side) (M N : ℕ → Bool) (v : ℕ) where
   -- M's edges at v are the common ones and its own, N's likewise
   parts : (g : ℕ → ℕ) → (sum g (common K v M N) + sum g (alone K v M N) ≡ sum g (here K M v)) × (sum g (common K v M N) + sum g (alone K v N M) ≡ sum g (here K N v))
-  parts g = (
-    sum-keep-add g (λ e. (M e && N e) && eqb (K .end e) v) (λ e. (M e && not (N e)) && eqb (K .end e) v) (λ e. M e && eqb (K .end e) v) (upTo (K .m)) (λ e n. one (M e) (N e) (eqb (K .end e) v) n),
-    sum-keep-add g (λ e. (M e && N e) && eqb (K .end e) v) (λ e. (N e && not (M e)) && eqb (K .end e) v) (λ e. N e && eqb (K .end e) v) (upTo (K .m)) (λ e n. ap (λ b. pk (b && eqb (K .end e) v) n + pk ((N e && not (M e)) && eqb (K .end e) v) n) (and-comm (M e) (N e)) ∙ one (N e) (M e) (eqb (K .end e) v) n),
-  )
+  parts g = (split M N (λ e. refl), split N M (λ e. and-comm (M e) (N e)))
     where
       one : (x y a : Bool) (n : ℕ) → pk ((x && y) && a) n + pk ((x && not y) && a) n ≡ pk (x && a) n
       one true true a n = omega arith
       one true false a n = omega arith
       one false y a n = omega arith
+
+      split : (A B : ℕ → Bool) → ((e : ℕ) → (M e && N e) ≡ (A e && B e)) → sum g (common K v M N) + sum g (alone K v A B) ≡ sum g (here K A v)
+      split A B h = sum-keep-add g (λ e. (M e && N e) && eqb (K .end e) v) (λ e. (A e && not (B e)) && eqb (K .end e) v) (λ e. A e && eqb (K .end e) v) (upTo (K .m))
+          (λ e n. ap (λ b. pk (b && eqb (K .end e) v) n + pk ((A e && not (B e)) && eqb (K .end e) v) n) (h e) ∙ one (A e) (B e) (eqb (K .end e) v) n)
 
   -- the common edges against themselves, the others as far as they go, then empty places
   base : Pairing
@@ -107,7 +112,11 @@ module _ (K : Side) (M N : ℕ → Bool) (v : ℕ) where
 
   base-length : length base ≡ length (common K v M N) + length (match (alone K v M N) (alone K v N M))
   unfolding base
-  base-length = omega (arith, length-append (map (λ e. (edge e, edge e)) (common K v M N)) (match (alone K v M N) (alone K v N M)), length-map {B = Place × Place} (common K v M N) (λ e. (edge e, edge e)))
+  base-length = omega (
+    arith,
+    length-append (map (λ e. (edge e, edge e)) (common K v M N)) (match (alone K v M N) (alone K v N M)),
+    length-map {B = Place × Place} (common K v M N) (λ e. (edge e, edge e)),
+  )
 
   counts : (length (common K v M N) + length (alone K v M N) ≡ deg K M v) × (length (common K v M N) + length (alone K v N M) ≡ deg K N v)
   counts =
@@ -117,25 +126,61 @@ module _ (K : Side) (M N : ℕ → Bool) (v : ℕ) where
 
   module _ (hM : deg K M v ≤ K .quota v) (hN : deg K N v ≤ K .quota v) where
     some-fair : Fair M N (placesAt K M v) (placesAt K N v) some
-    some-fair = record { on-left = on-left; on-right = on-right; own = own; not-both = by-cases (decLe (length (alone K v M N)) (length (alone K v N M))) (λ h. inl (loss h)) (λ h. inr (gain (omega arith))) }
+    some-fair = record {
+      on-left = on-left;
+      on-right = on-right;
+      own = own;
+      not-both = by-cases (decLe (length (alone K v M N)) (length (alone K v N M))) (λ h. inl (loss h)) (λ h. inr (gain (omega arith)));
+    }
       where
         sz : Sizes (alone K v M N) (alone K v N M)
         sz = sizes (alone K v M N) (alone K v N M)
 
         on-left : (a : Place) → times a (placesAt K M v) ≡ left a some
-        on-left (edge e) = omega (arith, some-sum (λ c. bit (same (c .0) (edge e))), match-edges e (alone K v M N) (alone K v N M) .0, times-edge (K .quota v) e (here K M v), parts (λ x. bit (eqb x e)) .0)
-        on-left empty = omega (arith, some-sum (λ c. bit (same (c .0) empty)), sum-zero (common K v M N), sz .no-left, sz .size, base-length, counts, times-empty (K .quota v) (here K M v), here-deg K M v)
+        on-left (edge e) = omega (
+          arith,
+          some-sum (λ c. bit (same (c .0) (edge e))),
+          match-edges e (alone K v M N) (alone K v N M) .0,
+          times-edge (K .quota v) e (here K M v),
+          parts (λ x. bit (eqb x e)) .0,
+        )
+        on-left empty = omega (
+          arith,
+          some-sum (λ c. bit (same (c .0) empty)),
+          sum-zero (common K v M N),
+          sz .no-left,
+          sz .size,
+          base-length,
+          counts,
+          times-empty (K .quota v) (here K M v),
+          here-deg K M v,
+        )
 
         on-right : (a : Place) → times a (placesAt K N v) ≡ right a some
-        on-right (edge e) = omega (arith, some-sum (λ c. bit (same (c .1) (edge e))), match-edges e (alone K v M N) (alone K v N M) .1, times-edge (K .quota v) e (here K N v), parts (λ x. bit (eqb x e)) .1)
-        on-right empty = omega (arith, some-sum (λ c. bit (same (c .1) empty)), sum-zero (common K v M N), sz .no-right, sz .size, base-length, counts, times-empty (K .quota v) (here K N v), here-deg K N v)
+        on-right (edge e) = omega (
+          arith,
+          some-sum (λ c. bit (same (c .1) (edge e))),
+          match-edges e (alone K v M N) (alone K v N M) .1,
+          times-edge (K .quota v) e (here K N v),
+          parts (λ x. bit (eqb x e)) .1,
+        )
+        on-right empty = omega (
+          arith,
+          some-sum (λ c. bit (same (c .1) empty)),
+          sum-zero (common K v M N),
+          sz .no-right,
+          sz .size,
+          base-length,
+          counts,
+          times-empty (K .quota v) (here K N v),
+          here-deg K N v,
+        )
 
         own : sum (λ c. bit (not (faces M N c))) some ≡ 0
         own = omega (
           arith,
           some-sum (λ c. bit (not (faces M N c))),
-          sum-cong (λ e. bit (not (faces M N (edge e, edge e)))) (λ e. 0) (common K v M N) (λ e k. ap (λ b. bit (not (b || not (shared M N (edge e) || shared M N (edge e))))) (eqb-yes e e refl)),
-          sum-zero (common K v M N),
+          sum-zeros (λ e. bit (not (faces M N (edge e, edge e)))) (common K v M N) (λ e k. faces-self M N e),
           match-own M N (alone K v M N) (alone K v N M) (alone-own K v M N) (λ e k. and-comm (M e) (N e) ∙ alone-own K v N M e k),
         )
 
@@ -151,6 +196,7 @@ module _ (K : Side) (M N : ℕ → Bool) (v : ℕ) where
     pub attained : (r : Pairing) × (r ∈ pairings (placesAt K M v) (placesAt K N v)) × Fair M N (placesAt K M v) (placesAt K N v) r × (score K M N v ≡ sum (mark (K .rank)) r)
     unfolding score
     attained =
-        let (r, m, e) = Memᴰ·of-map (sum (mark (K .rank))) (validAt K M N v) (leastOf-∈ (map (sum (mark (K .rank))) (validAt K M N v)) (Memᴰ·map (sum (mark (K .rank))) (some-valid .1))) in
+        let total : Pairing → ℕ = sum (mark (K .rank)) in
+        let (r, m, e) = Memᴰ·of-map total (validAt K M N v) (leastOf-∈ (map total (validAt K M N v)) (Memᴰ·map total (some-valid .1))) in
         let q = ∈-keep (valid M N) (pairings (placesAt K M v) (placesAt K N v)) m in
         (r, q .0, valid-fair M N (placesAt K M v) (placesAt K N v) r (node-places K M v hM ∙ sym (node-places K N v hN)) (q .0) (q .1), sym e)

@@ -96,9 +96,12 @@ score-self K M v h =
     alike false true y h t = absurd t
     alike false false y h t = true-T h
 
+    facing : (r : Pairing) → Fair M M (placesAt K M v) (placesAt K M v) r → (c : Place × Place) → c ∈ r → T (faces M M c)
+    facing r = fair-faces M M (placesAt K M v) (placesAt K M v) r
+
     even : (r : Pairing) → Fair M M (placesAt K M v) (placesAt K M v) r → (c : Place × Place) → c ∈ r → mark (K .rank) c ≡ 1
     even r f (edge d, q) k =
-        let e = same→ (edge d) q (alike (same (edge d) q) (M d) (shared M M q) (left-here K M M v r f (edge d, q) k d refl .0) (fair-faces M M (placesAt K M v) (placesAt K M v) r f (edge d, q) k)) in
+        let e = same→ (edge d) q (alike (same (edge d) q) (M d) (shared M M q) (left-here K M M v r f (edge d, q) k d refl .0) (facing r f (edge d, q) k)) in
         ap (λ p. mark (K .rank) (edge d, p)) (sym e) ∙ mark-same (K .rank) (edge d)
-    even r f (empty, edge d) k = absurd (alike false (M d) false (right-here K M M v r f (empty, edge d) k d refl .0) (subst (λ b. T (not b)) (sym (or-false (M d && M d))) (fair-faces M M (placesAt K M v) (placesAt K M v) r f (empty, edge d) k)))
+    even r f (empty, edge d) k = absurd (alike false (M d) false (right-here K M M v r f (empty, edge d) k d refl .0) (rw (or-false (M d && M d)) (facing r f (empty, edge d) k)))
     even r f (empty, empty) k = mark-same (K .rank) empty

@@ -210,8 +210,19 @@ module _ (K : Side) (M N : ℕ → Bool) (hM : Within K M) (hN : Within K N) whe
     -- ---- the cost is the vote
     cost-at : (c : Place × Place) → ((d : ℕ) → c .0 ≡ edge d → K .rank d < emptyRank) → ((f : ℕ) → c .1 ≡ edge f → K .rank f < emptyRank) → Kind M N c
         → mark (K .rank) c + onCouple M (against (K .rank)) c ≡ 1 + (onCouple M (for (K .rank)) c + onLoss (λ l. 1) c)
-    cost-at c hd hf (shares {d = d} {f = f} p mf nd) = omega (arith, mark-same (K .rank) (edge d), ap (λ z. mark (K .rank) (edge d, edge z)) p, ap (λ x. pk (not x) (against (K .rank) (edge d, f))) mf, ap (λ x. pk (not x) (for (K .rank) (edge d, f))) mf)
-    cost-at c hd hf (swaps {d = d} {f = f} mf nd) = omega (arith, mark-edges (K .rank) d f, ap (λ x. pk (not x) (against (K .rank) (edge d, f))) mf, ap (λ x. pk (not x) (for (K .rank) (edge d, f))) mf)
+    cost-at c hd hf (shares {d = d} {f = f} p mf nd) = omega (
+      arith,
+      mark-same (K .rank) (edge d),
+      ap (λ z. mark (K .rank) (edge d, edge z)) p,
+      ap (λ x. pk (not x) (against (K .rank) (edge d, f))) mf,
+      ap (λ x. pk (not x) (for (K .rank) (edge d, f))) mf,
+    )
+    cost-at c hd hf (swaps {d = d} {f = f} mf nd) = omega (
+      arith,
+      mark-edges (K .rank) d f,
+      ap (λ x. pk (not x) (against (K .rank) (edge d, f))) mf,
+      ap (λ x. pk (not x) (for (K .rank) (edge d, f))) mf,
+    )
     cost-at c hd hf (loses {d = d} nd) = omega (arith, mark-lost (K .rank) d (hd d refl))
     cost-at c hd hf (gets {f = f} mf) = omega (arith, mark-gained (K .rank) f (hf f refl), ap (λ x. pk (not x) 1) mf, pk-0 (not (M f)))
     cost-at c hd hf void = omega (arith, mark-same (K .rank) empty)

@@ -8,7 +8,7 @@ use mathlib.Core.Bool.{Bool, true, false, not, _&&_, _||_}
 use mathlib.Core.List.{List, [], _∷_, map, List·Memᴰ·head, Memᴰ·map}
 use lib.ListN.{length}
 use lib.Dec.{T, eqb, eqb→eq}
-use Rattle.lists.specs.Test.{bit, bit-pos, pk, true-T, false-T, by-bool, and-l, and-r, and-i, nand-i, nand-ir, nand-r}
+use Rattle.lists.specs.Test.{bit, bit-pos, pk, true-T, false-T, by-bool, eqb-yes, and-l, and-r, and-i, nand-i, nand-ir, nand-r}
 use Rattle.lists.specs.Sum.{_∈_, sum, sum-pos, sum-mem, upTo, occ}
 use Rattle.lists.specs.Keep.{keep, keep-∈, all?, any?, zero-all, all-zero, zero-none, none-zero, remove, sum-remove, picks, remove-picks, ∈-gather}
 use Rattle.lists.specs.Least.{leastOf-≤}
@@ -46,6 +46,10 @@ reorder (p ∷ ps) qs r hl hr = go (reorder ps) (sum-pos (λ c. bit (same (c .0)
         (λ a. omega (arith, hr a, sum-remove (λ d. bit (same (d .1) a)) m, sum-remove (λ d. bit (same d a)) k)))
 
 -- ---- valid, by counting
+-- an edge may face itself
+pub faces-self : (M N : ℕ → Bool) (e : ℕ) → bit (not (faces M N (edge e, edge e))) ≡ 0
+faces-self M N e = ap (λ b. bit (not (b || not (shared M N (edge e) || shared M N (edge e))))) (eqb-yes e e refl)
+
 -- two places that are not shared may face each other
 pub faces-apart : (M N : ℕ → Bool) (p q : Place) → shared M N p ≡ false → shared M N q ≡ false → bit (not (faces M N (p, q))) ≡ 0
 faces-apart M N p q h k = go (same p q) (shared M N p) (shared M N q) h k

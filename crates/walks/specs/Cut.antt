@@ -65,9 +65,29 @@ module _ (G : Instance) (M : ℕ → Bool) where
               loop-walk = walk-append G M z u′ z mid ((g, z) ∷ []) hm ((b .0, a .1, b .2, c .to-z), refl);
               rest-walk = walk-append G M x u y pre ((f, z′) ∷ post) hp ((a .0, b .1, a .2, c .to-y), hq);
               loop-pos = omega (arith, length-append mid ((g, z) ∷ []));
-              size = omega (arith, length-append mid ((g, z) ∷ []), length-append pre ((f, z′) ∷ post), length-append pre ((f, z) ∷ (mid ++ ((g, z′) ∷ post))), length-append mid ((g, z′) ∷ post));
-              plus-eq = omega (arith, c .ups, plus-append G M x u pre ((f, z) ∷ (mid ++ ((g, z′) ∷ post))) hp, plus-append G M z u′ mid ((g, z′) ∷ post) hm, plus-append G M z u′ mid ((g, z) ∷ []) hm, plus-append G M x u pre ((f, z′) ∷ post) hp);
-              minus-eq = omega (arith, c .downs, minus-append G M x u pre ((f, z) ∷ (mid ++ ((g, z′) ∷ post))) hp, minus-append G M z u′ mid ((g, z′) ∷ post) hm, minus-append G M z u′ mid ((g, z) ∷ []) hm, minus-append G M x u pre ((f, z′) ∷ post) hp);
+              size = omega (
+                arith,
+                length-append mid ((g, z) ∷ []),
+                length-append pre ((f, z′) ∷ post),
+                length-append pre ((f, z) ∷ (mid ++ ((g, z′) ∷ post))),
+                length-append mid ((g, z′) ∷ post),
+              );
+              plus-eq = omega (
+                arith,
+                c .ups,
+                plus-append G M x u pre ((f, z) ∷ (mid ++ ((g, z′) ∷ post))) hp,
+                plus-append G M z u′ mid ((g, z′) ∷ post) hm,
+                plus-append G M z u′ mid ((g, z) ∷ []) hm,
+                plus-append G M x u pre ((f, z′) ∷ post) hp,
+              );
+              minus-eq = omega (
+                arith,
+                c .downs,
+                minus-append G M x u pre ((f, z) ∷ (mid ++ ((g, z′) ∷ post))) hp,
+                minus-append G M z u′ mid ((g, z′) ∷ post) hm,
+                minus-append G M z u′ mid ((g, z) ∷ []) hm,
+                minus-append G M x u pre ((f, z′) ∷ post) hp,
+              );
             },
             omega (arith, length-append pre ((f, z′) ∷ post)),
           )

@@ -87,7 +87,8 @@ module _ (G : Instance) (M : ℕ → Bool) (k : ℕ) where
           inl (omega (arith, c .plus-eq, c .minus-eq))
 
   -- f is gained at the start and comes again: from x round to x by it, and in by it at z
-  cut-start : (f x : ℕ) (pre : Steps) (z : ℕ) (post : Steps) (y : ℕ) (b : Way) → DearTo (suc (length (pre ++ ((f, z) ∷ post)))) → DearWholeTo (gain f) b (length (pre ++ ((f, z) ∷ post)))
+  cut-start : (f x : ℕ) (pre : Steps) (z : ℕ) (post : Steps) (y : ℕ) (b : Way)
+      → DearTo (suc (length (pre ++ ((f, z) ∷ post)))) → DearWholeTo (gain f) b (length (pre ++ ((f, z) ∷ post)))
       → Whole G M (gain f) x (pre ++ ((f, z) ∷ post)) y b → DearWhole G k (gain f) x (pre ++ ((f, z) ∷ post)) y b
   cut-start f x pre z post y b cl ih h = go (walk-split G M x y pre ((f, z) ∷ post) (h .walk))
     where
@@ -99,12 +100,21 @@ module _ (G : Instance) (M : ℕ → Bool) (k : ℕ) where
       go (u, hp, q) =
           let a = q .0 in
           let s = h .start in
-          let loop = cl x (pre ++ ((f, x) ∷ [])) (omega (arith, length-append pre ((f, x) ∷ []), length-append pre ((f, z) ∷ post))) (omega (arith, length-append pre ((f, x) ∷ []))) (walk-append G M x u x pre ((f, x) ∷ []) hp ((a .0, h .old, a .2, s .2), refl)) in
-          let rest = ih z post y (omega (arith, length-append pre ((f, z) ∷ post))) (record { old = a .1; walk = q .1; start = (s .0, s .1, a .3); stop = h .stop; apart = still b (h .apart) }) in
-          omega (arith, plus-append G M x u pre ((f, z) ∷ post) hp, minus-append G M x u pre ((f, z) ∷ post) hp, plus-append G M x u pre ((f, x) ∷ []) hp, minus-append G M x u pre ((f, x) ∷ []) hp)
+          let l₁ = length-append pre ((f, x) ∷ []) in
+          let l₂ = length-append pre ((f, z) ∷ post) in
+          let loop = cl x (pre ++ ((f, x) ∷ [])) (omega arith) (omega arith) (walk-append G M x u x pre ((f, x) ∷ []) hp ((a .0, h .old, a .2, s .2), refl)) in
+          let rest = ih z post y (omega arith) (record { old = a .1; walk = q .1; start = (s .0, s .1, a .3); stop = h .stop; apart = still b (h .apart) }) in
+          omega (
+            arith,
+            plus-append G M x u pre ((f, z) ∷ post) hp,
+            minus-append G M x u pre ((f, z) ∷ post) hp,
+            plus-append G M x u pre ((f, x) ∷ []) hp,
+            minus-append G M x u pre ((f, x) ∷ []) hp,
+          )
 
   -- g is gained at the end and came before: out by it there, and from z round to z by it
-  cut-stop : (a : Way) (x : ℕ) (pre : Steps) (z : ℕ) (post : Steps) (y g : ℕ) → DearTo (suc (length (pre ++ ((g, z) ∷ post)))) → DearWholeTo a (gain g) (length (pre ++ ((g, z) ∷ post)))
+  cut-stop : (a : Way) (x : ℕ) (pre : Steps) (z : ℕ) (post : Steps) (y g : ℕ)
+      → DearTo (suc (length (pre ++ ((g, z) ∷ post)))) → DearWholeTo a (gain g) (length (pre ++ ((g, z) ∷ post)))
       → Whole G M a x (pre ++ ((g, z) ∷ post)) y (gain g) → DearWhole G k a x (pre ++ ((g, z) ∷ post)) y (gain g)
   cut-stop a x pre z post y g cl ih h = go (walk-split G M x y pre ((g, z) ∷ post) (h .walk))
     where
@@ -116,9 +126,17 @@ module _ (G : Instance) (M : ℕ → Bool) (k : ℕ) where
       go (u, hp, q) =
           let c = q .0 in
           let s = h .stop in
-          let loop = cl z (post ++ ((g, z) ∷ [])) (omega (arith, length-append post ((g, z) ∷ []), length-append pre ((g, z) ∷ post))) (omega (arith, length-append post ((g, z) ∷ []))) (walk-append G M z y z post ((g, z) ∷ []) (q .1) ((c .0, c .1, s .2, c .3), refl)) in
-          let rest = ih x pre u (omega (arith, length-append pre ((g, z) ∷ post))) (record { old = h .old; walk = hp; start = h .start; stop = (s .0, s .1, c .2); apart = still u a (h .apart) }) in
-          omega (arith, plus-append G M x u pre ((g, z) ∷ post) hp, minus-append G M x u pre ((g, z) ∷ post) hp, plus-append G M z y post ((g, z) ∷ []) (q .1), minus-append G M z y post ((g, z) ∷ []) (q .1))
+          let l₁ = length-append post ((g, z) ∷ []) in
+          let l₂ = length-append pre ((g, z) ∷ post) in
+          let loop = cl z (post ++ ((g, z) ∷ [])) (omega arith) (omega arith) (walk-append G M z y z post ((g, z) ∷ []) (q .1) ((c .0, c .1, s .2, c .3), refl)) in
+          let rest = ih x pre u (omega arith) (record { old = h .old; walk = hp; start = h .start; stop = (s .0, s .1, c .2); apart = still u a (h .apart) }) in
+          omega (
+            arith,
+            plus-append G M x u pre ((g, z) ∷ post) hp,
+            minus-append G M x u pre ((g, z) ∷ post) hp,
+            plus-append G M z y post ((g, z) ∷ []) (q .1),
+            minus-append G M z y post ((g, z) ∷ []) (q .1),
+          )
 
   start-free : (a : Way) (x : ℕ) (w : Steps) (y : ℕ) (b : Way) → DearTo (suc (length w)) → DearWholeTo a b (length w) → Whole G M a x w y b → Free a w ⊎ DearWhole G k a x w y b
   start-free lose x w y b cl ih h = inl tt
@@ -165,11 +183,11 @@ module _ (G : Instance) (M : ℕ → Bool) (k : ℕ) where
         step : (n : ℕ) → ((m : ℕ) → m < n → (x : ℕ) (w : Steps) → length w ≡ m → 0 < length w → Walk G M x w x → Dear G k x w)
             → (x : ℕ) (w : Steps) → length w ≡ n → 0 < length w → Walk G M x w x → Dear G k x w
         step n ih x w l p h = ⊎-elim (λ d. d)
-            (λ u. let t = first-∈ w p in holds-cost G k M (swapped M (zs w) (fs w)) (minus G x w) (plus G x w) st (simple-loop G M law (st .plan) x w h (u .0) (u .1) (t .0) (t .1)))
+            (λ u. let t = first-∈ w p in holds-cost st (simple-loop G M law (st .plan) x w h (u .0) (u .1) (t .0) (t .1)))
             (closed-step x w (λ x′ w′ q. ih (length w′) (omega arith) x′ w′ refl) h)
 
     pub no-direct : NoDirect G M
-    no-direct f nf rs rt = omega (arith, holds-cost G k M (swapped M [] (f ∷ [])) 2 0 st (simple-direct G M law (st .plan) f nf rs rt))
+    no-direct f nf rs rt = omega (arith, holds-cost st (simple-direct G M law (st .plan) f nf rs rt))
 
     pub whole : (a : Way) (x : ℕ) (w : Steps) (y : ℕ) (b : Way) → Whole G M a x w y b → DearWhole G k a x w y b
     whole a x w y b h = strong (λ n. (x : ℕ) (w : Steps) (y : ℕ) → length w ≡ n → Whole G M a x w y b → DearWhole G k a x w y b) step (length w) x w y refl h
@@ -177,7 +195,7 @@ module _ (G : Instance) (M : ℕ → Bool) (k : ℕ) where
         step : (n : ℕ) → ((m : ℕ) → m < n → (x : ℕ) (w : Steps) (y : ℕ) → length w ≡ m → Whole G M a x w y b → DearWhole G k a x w y b)
             → (x : ℕ) (w : Steps) (y : ℕ) → length w ≡ n → Whole G M a x w y b → DearWhole G k a x w y b
         step n ih x w y l h = ⊎-elim (λ d. d)
-            (λ u. holds-cost G k M (swapped M (x ∷ zs w) (comers a w b)) (minus G x w + (startMinus G a x + stopMinus G y b)) (plus G x w + (startPlus G a x + stopPlus G y b)) st (simple G M law (st .plan) a x w y b h (u .0) (u .1)))
+            (λ u. holds-cost st (simple G M law (st .plan) a x w y b h (u .0) (u .1)))
             (whole-step a x w y b no-direct (λ x′ w′ q p. closed x′ w′ p) (λ x′ w′ y′ q. ih (length w′) (omega arith) x′ w′ y′ refl) h)
 
 -- ---- Lemma W for a strong plan
@@ -190,6 +208,9 @@ no-bad G M law s =
       LL = λ x w y o h. omega (arith, ends lose x w y lose (record { old = o; walk = h; start = tt; stop = tt; apart = tt }));
       LG = λ x w y f o h nf e r n. omega (arith, ends lose x w y (gain f) (record { old = o; walk = h; start = tt; stop = (nf, r, e); apart = n }));
       GL = λ f x w y nf r o e h n. omega (arith, ends (gain f) x w y lose (record { old = o; walk = h; start = (nf, r, e); stop = tt; apart = n }));
-      GG = λ f x w y g nf rf ng rg o e h d. omega (arith, ends (gain f) x w y (gain g) (record { old = o; walk = h; start = (nf, rf, e); stop = (ng, rg, d); apart = tt }));
+      GG = λ f x w y g nf rf ng rg o e h d. omega (
+        arith,
+        ends (gain f) x w y (gain g) (record { old = o; walk = h; start = (nf, rf, e); stop = (ng, rg, d); apart = tt }),
+      );
       direct = no-direct G M 1 law st;
     }

@@ -31,11 +31,11 @@ pub record Rival (G : Instance) (M N : ℕ → Bool) (lo hi : ℕ) : Type 0 wher
   pub other : Same G M N → ⊥
   pub vote : tally G M N + lo ≤ quotas G + hi
 
-pub rival-cast : (G : Instance) (M N : ℕ → Bool) (lo hi lo′ hi′ : ℕ) → lo′ + hi ≤ lo + hi′ → Rival G M N lo hi → Rival G M N lo′ hi′
-rival-cast G M N lo hi lo′ hi′ h r = record { plan = r .plan; other = r .other; vote = omega (arith, r .vote) }
+pub rival-cast : {G : Instance} {M N : ℕ → Bool} {lo hi lo′ hi′ : ℕ} → Rival G M N lo hi → lo′ + hi ≤ lo + hi′ → Rival G M N lo′ hi′
+rival-cast r h = record { plan = r .plan; other = r .other; vote = omega (arith, r .vote) }
 
-pub holds-cost : (G : Instance) (k : ℕ) (M N : ℕ → Bool) (lo hi : ℕ) → Holds G k M → Rival G M N lo hi → k + lo ≤ hi
-holds-cost G k M N lo hi h r = omega (arith, h .wins N (r .plan) (r .other), r .vote)
+pub holds-cost : {G : Instance} {k : ℕ} {M N : ℕ → Bool} {lo hi : ℕ} → Holds G k M → Rival G M N lo hi → k + lo ≤ hi
+holds-cost {N = N} h r = omega (arith, h .wins N (r .plan) (r .other), r .vote)
 
 -- ---- the swap
 swap-case : (x r f : Bool) (u a b : ℕ) → (T r → 0 < a) → (T (not r) → a ≤ 0) → (T f → 0 < b) → (T (not f) → b ≤ 0) → u ≤ 1 → a ≤ pk x u → b ≤ pk (not x) u

@@ -113,11 +113,12 @@ module _ (G : Instance) (M : ℕ → Bool) where
       news : All (New G M) (comers a w b)
       news = All-++ (New G M) (fresh a) (fs w ++ fresh b) (start-sides a x (h .start) .2) (All-++ (New G M) (fs w) (fresh b) (walk-new G M x w y (h .walk)) (stop-sides y b (h .stop) .2))
 
-      pub simple : Once (x ∷ zs w) → Once (comers a w b) → Rival G M (swapped M (x ∷ zs w) (comers a w b)) (minus G x w + (startMinus G a x + stopMinus G y b)) (plus G x w + (startPlus G a x + stopPlus G y b))
+      pub simple : Once (x ∷ zs w) → Once (comers a w b)
+          → Rival G M (swapped M (x ∷ zs w) (comers a w b)) (minus G x w + (startMinus G a x + stopMinus G y b)) (plus G x w + (startPlus G a x + stopPlus G y b))
       unfolding cS cT
-      simple uR uF = rival-cast G M (swapped M (x ∷ zs w) (comers a w b))
-          (sum (against (G .rankS)) (free b ++ cS) + sum (against (G .rankT)) (free a ++ cT)) ((sum (for (G .rankS)) (free b ++ cS) + length (lossOf x a)) + (sum (for (G .rankT)) (free a ++ cT) + length (lossOf y b)))
-          (minus G x w + (startMinus G a x + stopMinus G y b)) (plus G x w + (startPlus G a x + stopPlus G y b))
+      simple uR uF = rival-cast
+          (X-rival G M (x ∷ zs w) (comers a w b) uR uF (h .old, walk-old G M x w y (h .walk)) news law (free b ++ cS) (lossOf x a) (free a ++ cT) (lossOf y b) movesS movesT
+          x (omega (arith, ap bit (eqb-yes x x refl))))
           (omega (
             arith,
             walk-plus G x w,
@@ -129,17 +130,17 @@ module _ (G : Instance) (M : ℕ → Bool) where
             end-cost (G .rankS) (G .rankT) x a,
             end-cost (G .rankT) (G .rankS) y b,
           ))
-          (X-rival G M (x ∷ zs w) (comers a w b) uR uF (h .old, walk-old G M x w y (h .walk)) news law (free b ++ cS) (lossOf x a) (free a ++ cT) (lossOf y b) movesS movesT x (omega (arith, ap bit (eqb-yes x x refl))))
 
     -- ---- a closed walk
     pub simple-loop : (x : ℕ) (w : Steps) → Walk G M x w x → Once (zs w) → Once (fs w) → (e : ℕ) → e ∈ zs w → Rival G M (swapped M (zs w) (fs w)) (minus G x w) (plus G x w)
-    simple-loop x w h uR uF e m = rival-cast G M (swapped M (zs w) (fs w))
-        (sum (against (G .rankS)) (tails w) + sum (against (G .rankT)) (heads x w)) ((sum (for (G .rankS)) (tails w) + 0) + (sum (for (G .rankT)) (heads x w) + 0)) (minus G x w) (plus G x w)
-        (omega (arith, walk-plus G x w, walk-minus G x w))
+    simple-loop x w h uR uF e m = rival-cast
         (X-rival G M (zs w) (fs w) uR uF (walk-old G M x w x h) (walk-new G M x w x h) law (tails w) [] (heads x w) []
-        (ends-moves (surveyors G) M (plan .atS) lose tt (tails w) (tails-link G M x w x h) [] (zs w) (fs w) (λ v. inl refl) (λ e. omega (arith, tails-old e w)) (λ e. omega (arith, tails-new e w)))
-        (ends-moves (stands G) M (plan .atT) lose tt (heads x w) (heads-link G M x w x h) [] (zs w) (fs w) (λ v. inl refl) (λ e. omega (arith, heads-old G M e x w x h)) (λ e. omega (arith, heads-new e x w)))
+        (ends-moves (surveyors G) M (plan .atS) lose tt (tails w) (tails-link G M x w x h) [] (zs w) (fs w)
+        (λ v. inl refl) (λ e. omega (arith, tails-old e w)) (λ e. omega (arith, tails-new e w)))
+        (ends-moves (stands G) M (plan .atT) lose tt (heads x w) (heads-link G M x w x h) [] (zs w) (fs w)
+        (λ v. inl refl) (λ e. omega (arith, heads-old G M e x w x h)) (λ e. omega (arith, heads-new e x w)))
         e (omega (arith, occ-∈ m)))
+        (omega (arith, walk-plus G x w, walk-minus G x w))
 
     -- ---- an edge with room at both ends
     pub simple-direct : (f : ℕ) → New G M f → RoomS G M f → RoomT G M f → Rival G M (swapped M [] (f ∷ [])) 2 0
