@@ -1,19 +1,20 @@
--- Two sets within the quota have a valid pairing at the node, and the node's score is what one of them comes to.
+-- Two sets within the quota have a valid pairing at the node, so the node's vote is never the least of nothing; and the node's score is
+-- what one of them comes to. What is a pairing and what is valid is the model's (Vote).
 use Prim.Native.Nat.{ℕ, _+_, _-_, _*_, _≤_, max}
 use native.Mathlib.Omega.{arith}
 use native.Mathlib.Decide.{decLe}
 use mathlib.Core.Path.{_≡_, refl, sym, ap, _∙_}
 use mathlib.Core.Logic.{inl, inr, by-cases}
-use mathlib.Core.Bool.{Bool, true, false, not, _&&_, _||_, and-comm}
+use mathlib.Core.Bool.{Bool, true, false, not, _&&_, and-comm}
 use mathlib.Core.List.{List, [], _∷_, _++_, map, List·Memᴰ·head, List·Memᴰ·tail, Memᴰ·map, Memᴰ·of-map}
 use lib.ListN.{length, replicate, length-append, length-map}
 use lib.Dec.{T, eqb}
-use Rattle.lists.specs.Test.{bit, pk, and-l, eqb-yes}
-use Rattle.lists.specs.Sum.{_∈_, sum, sum-zero, sum-zeros, sum-append, sum-map, sum-cong, sum-length, sum-replicate, upTo, occ}
+use Rattle.lists.specs.Test.{bit, pk, and-l}
+use Rattle.lists.specs.Sum.{_∈_, sum, sum-zero, sum-zeros, sum-append, sum-map, sum-length, sum-replicate, upTo, occ}
 use Rattle.lists.specs.Keep.{keep, ∈-keep, sum-keep-add}
 use Rattle.lists.specs.Least.{leastOf-∈}
 use Rattle.model.specs.Instance.{Side, deg}
-use Rattle.model.specs.Vote.{Place, edge, empty, same, here, places, Pairing, pairings, shared, faces, lost, gained, valid}
+use Rattle.model.specs.Vote.{Place, edge, empty, same, here, places, Pairing, pairings, faces, lost, gained, valid}
 use Rattle.votes.specs.Score.{mark, placesAt, validAt, score}
 use Rattle.votes.specs.Places.{times, left, right, here-deg, times-edge, times-empty, node-places}
 use Rattle.votes.specs.Fair.{faces-self, faces-apart, Fair, valid-fair, fair-valid}

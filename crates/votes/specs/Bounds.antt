@@ -1,8 +1,8 @@
 -- What a node's score can be: at most twice the quota, the quota itself for a set against itself, and for two sets either way round
--- no more than twice the quota in sum.
+-- no more than twice the quota in sum. Laws.antt says it of the model's votes.
 use Prim.Native.Nat.{ℕ, _+_, _*_, _≤_}
 use native.Mathlib.Omega.{arith}
-use mathlib.Core.Path.{_≡_, refl, sym, ap, _∙_, subst}
+use mathlib.Core.Path.{_≡_, refl, sym, ap, _∙_}
 use mathlib.Core.Logic.{inl, inr}
 use mathlib.Core.Bool.{Bool, true, false, not, _&&_, _||_, and-comm, or-comm, or-false}
 use mathlib.Core.List.{List, map}

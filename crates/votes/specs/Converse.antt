@@ -1,5 +1,6 @@
 -- Lemma X⁻: every set N within the quotas is the result of a valid exchange of M whose cost on a side is exactly the side's votes.
--- At each node it is read off a pairing that reaches the node's vote.
+-- At each node it is read off a pairing that reaches the node's vote. It rests on scores (Score.antt) and on what an exchange is
+-- (Exchange.antt).
 use Prim.Native.Nat.{ℕ, _+_, _≤_, _<_, zero-le}
 use native.Mathlib.Omega.{arith}
 use native.Mathlib.Decide.{decLt}

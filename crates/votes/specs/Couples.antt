@@ -1,4 +1,5 @@
--- A pairing read as an exchange: the couples in which an edge comes that M lacks, and the edges that face an empty place.
+-- A pairing read as an exchange: the couples in which an edge comes that M lacks, and the edges that face an empty place. For the
+-- converse of Lemma X.
 use Prim.Native.Nat.{ℕ, _+_}
 use native.Mathlib.Omega.{arith}
 use mathlib.Core.Path.{_≡_, refl, sym, ap, _∙_, subst}

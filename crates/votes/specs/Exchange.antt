@@ -1,5 +1,6 @@
 -- An exchange makes N of M: edges R go, edges F come. On one side, surveyors or stands, it is told by couples, each an edge that
 -- comes with what gives way to it there, an edge of M or an empty place, and by the edges lost there without anything in return.
+-- No final statement names these; they carry Lemma X (Node.antt) and its converse (Converse.antt).
 use Prim.Native.Nat.{ℕ, _+_, _≤_, _<_}
 use native.Mathlib.Omega.{arith}
 use mathlib.Core.Path.{_≡_, refl, ap, _∙_}

@@ -1,5 +1,6 @@
 -- A list of couples, in any order, that has M's places on the left and N's on the right and obeys the two rules of a valid pairing
--- is as good as a valid pairing: the node's score is at most what its couples come to.
+-- is as good as a valid pairing: the node's score is at most what its couples come to. `Fair` says it by counting; what is valid is
+-- the model's (Vote).
 use Prim.Native.Nat.{ℕ, _≤_, _<_}
 use native.Mathlib.Omega.{arith}
 use mathlib.Core.Path.{_≡_, refl, sym, ap, _∙_, subst}

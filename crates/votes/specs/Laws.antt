@@ -1,5 +1,6 @@
 -- Laws of the model's votes, for any ranks: a valid pairing always exists, a node's vote lies between -b and b, a plan's vote
 -- against itself is 0, the two votes of two plans add to at most zero, and a vote depends on nothing but which edges are in the sets.
+-- Of the model, Vote is to be believed; of graph, what a matching is (Lawful).
 use Prim.Native.Nat.{ℕ, _+_, _≤_, _<_}
 use native.Mathlib.Omega.{arith}
 use mathlib.Core.Path.{_≡_, refl, ap, ap₂, _∙_}

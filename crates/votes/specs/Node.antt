@@ -1,14 +1,15 @@
 -- Lemma X, one side of it: at each node the couples of an exchange, with what is shared and what is lost there, make a valid
--- pairing of M against N. So N keeps the quotas, and the side's votes are at most what the exchange costs there.
+-- pairing of M against N. So N keeps the quotas, and the side's votes are at most what the exchange costs there. It rests on scores
+-- (Score.antt) and on what an exchange is (Exchange.antt).
 use Prim.Native.Nat.{ℕ, _+_, _-_, _*_, _≤_, _<_}
 use native.Mathlib.Omega.{arith}
 use mathlib.Core.Path.{_≡_, refl, sym, ap, _∙_}
 use mathlib.Core.Logic.{_⊎_, inl, inr}
-use mathlib.Core.Bool.{Bool, true, false, not, _&&_, _||_, and-comm}
+use mathlib.Core.Bool.{Bool, true, false, not, _&&_, and-comm}
 use mathlib.Core.List.{List, _++_, map}
 use lib.ListN.{length, replicate}
 use lib.Dec.{eqb, eqb→eq}
-use Rattle.lists.specs.Test.{bit, pk, pk-0, pk-zero, pk-le, pk-add, pk-and, pk-when, eqb-yes}
+use Rattle.lists.specs.Test.{bit, pk, pk-0, pk-zero, pk-le, pk-add, pk-and, pk-when}
 use Rattle.lists.specs.Sum.{_∈_, sum, sum-zeros, sum-pk-0, sum-add, sum-append, sum-map, sum-cong, sum-mono, sum-mem, sum-length, sum-replicate, sum-pk, upTo, occ}
 use Rattle.lists.specs.Keep.{keep, sum-keep}
 use Rattle.lists.specs.Occur.{occ-<, sum-at, sum-by}
@@ -127,8 +128,8 @@ module _ (K : Side) (M N : ℕ → Bool) (R F : List ℕ) (sw : Swap (K .m) M N 
     right-all : deg K N v + losses K ls v ≡ length (core K M N cs ls v)
     right-all = omega (arith, column-all N (λ c. c .1) right-edge, right-empty)
 
-    pub within : deg K N v ≤ K .quota v
-    within = omega (arith, left-all, right-all, mv .room v)
+    pub exchange-within : deg K N v ≤ K .quota v
+    exchange-within = omega (arith, left-all, right-all, mv .room v)
 
     -- ---- with empty places against empty places it is a valid pairing
     full : Pairing
@@ -219,9 +220,9 @@ module _ (K : Side) (M N : ℕ → Bool) (R F : List ℕ) (sw : Swap (K .m) M N 
     loss-in l k = goer-is (K .m) M N R F sw l (loss-goes K M R F cs ls mv l k) .2
 
     -- the node's vote is at most that of the couples there
-    node : (v : ℕ) → score K M N v + sum (λ c. pk (at K v (c .1)) (against (K .rank) c)) cs
+    node-≤ : (v : ℕ) → score K M N v + sum (λ c. pk (at K v (c .1)) (against (K .rank) c)) cs
         ≤ K .quota v + (sum (λ c. pk (at K v (c .1)) (for (K .rank) c)) cs + losses K ls v)
-    node v =
+    node-≤ v =
         let s : ℕ → Bool = sharedAt K M N v in
         let mk : Place × Place → ℕ = mark (K .rank) in
         let ag : Couple → ℕ = against (K .rank) in
@@ -250,14 +251,14 @@ module _ (K : Side) (M N : ℕ → Bool) (R F : List ℕ) (sw : Swap (K .m) M N 
         )
 
     -- all nodes of the side: each couple and each loss counts once
-    pub side : sum (score K M N) (upTo (K .n)) + sum (against (K .rank)) cs ≤ sum (K .quota) (upTo (K .n)) + (sum (for (K .rank)) cs + length ls)
-    side =
+    pub exchange-cost : sum (score K M N) (upTo (K .n)) + sum (against (K .rank)) cs ≤ sum (K .quota) (upTo (K .n)) + (sum (for (K .rank)) cs + length ls)
+    exchange-cost =
         let A : ℕ → ℕ = λ v. sum (λ c. pk (at K v (c .1)) (against (K .rank) c)) cs in
         let B : ℕ → ℕ = λ v. sum (λ c. pk (at K v (c .1)) (for (K .rank) c)) cs in
         let inC : (c : Couple) → c ∈ cs → K .end (c .1) < K .n = λ c k. ranked .inside (c .1) (come-in c k) in
         omega (
           arith,
-          sum-mono (λ v. score K M N v + A v) (λ v. K .quota v + (B v + losses K ls v)) (upTo (K .n)) (λ v k. node v),
+          sum-mono (λ v. score K M N v + A v) (λ v. K .quota v + (B v + losses K ls v)) (upTo (K .n)) (λ v k. node-≤ v),
           sum-add (score K M N) A (upTo (K .n)),
           sum-add (K .quota) (λ v. B v + losses K ls v) (upTo (K .n)),
           sum-add B (losses K ls) (upTo (K .n)),

@@ -1,5 +1,5 @@
--- A node's places and their pairings, by counting: how often a place comes among a node's places, on the left and on the right of
--- some couples. Two lists of places are the same, in some order, if each place comes as often in both.
+-- A node's places and their pairings (model, Vote), by counting: how often a place comes among a node's places, on the left and on the
+-- right of some couples. Two lists of places are the same, in some order, if each place comes as often in both.
 use Prim.Native.Nat.{ℕ, _+_, _-_, _≤_, _<_}
 use native.Mathlib.Omega.{arith}
 use mathlib.Core.Path.{_≡_, refl, sym, ap, _∙_}

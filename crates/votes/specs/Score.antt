@@ -1,6 +1,6 @@
 -- Votes counted from one up: 2, 1 or 0 for the model's 1, 0 or -1, so that no sum falls below zero. The score of a node is its
--- vote and its quota together, the tally of two sets of edges their vote and all quotas together. These are forms for proofs, not
--- what a reader must believe: Signed.antt proves that the model's votes are the score less the quota, the tally less the quotas.
+-- vote and its quota together, the tally of two sets of edges their vote and all quotas together. These are forms for proofs and need
+-- not be believed: Signed.antt proves that the model's votes are the score less the quota and the tally less all quotas.
 use Prim.Native.Nat.{ℕ, _+_, _≤_, _<_}
 use native.Mathlib.Omega.{arith}
 use mathlib.Core.Path.{_≡_}

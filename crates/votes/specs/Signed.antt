@@ -1,5 +1,5 @@
 -- The model's votes and the scores: a node's vote is its score less its quota, the vote of two plans their tally less all quotas.
--- Both hold for any ranks whatever.
+-- Both hold for any ranks. Of the model, Vote is to be believed.
 use Prim.Native.Nat.{ℕ, _+_, _≤_, _<_, min}
 use native.Mathlib.Omega.{arith}
 use mathlib.Core.Path.{_≡_, refl, ap, ap₂, _∙_}

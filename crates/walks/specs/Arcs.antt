@@ -1,4 +1,5 @@
--- The arcs of a walk as couples of an exchange: at the stand of x the edge x gives way to f, at the surveyor of z the edge z.
+-- The arcs of a walk as couples of an exchange: at the stand of x the edge x gives way to f, at the surveyor of z the edge z. What a
+-- walk is, graph says (Walk).
 use Prim.Native.Nat.{ℕ, _+_}
 use native.Mathlib.Omega.{arith}
 use mathlib.Core.Path.{_≡_, refl, sym, ap}

@@ -1,4 +1,5 @@
--- A walk in which something comes twice is cut in two: a closed walk, and the rest with the same two ends, whose votes add up.
+-- A walk in which something comes twice is cut in two: a closed walk, and the rest with the same two ends, whose votes add up. What a
+-- walk is, graph says (Walk).
 use Prim.Native.Nat.{ℕ, _+_, _<_}
 use native.Mathlib.Omega.{arith}
 use mathlib.Core.Path.{_≡_, refl, sym, ap, _∙_, subst}

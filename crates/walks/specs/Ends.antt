@@ -1,5 +1,6 @@
 -- The two ends of a walk, as one side sees them: at one end an edge may come into a free place, at the other an edge of M is lost or
--- gives way. With couples in between, in each of which an edge gives way, they are the moves of an exchange on that side.
+-- gives way. With couples in between, in each of which an edge gives way, they are the moves of an exchange on that side. Surveyors
+-- and stands have the same lemmas: what is an end of the one kind at the surveyors is one of the other kind at the stands.
 use Prim.Native.Nat.{ℕ, _+_, _≤_, _<_}
 use native.Mathlib.Omega.{arith}
 use mathlib.Core.Path.{_≡_, refl, sym, ap, _∙_}

@@ -1,6 +1,9 @@
--- Lemma W: against a plan M whose vote against every other plan is at least k, every closed walk, every whole and every single edge
--- costs at least k, repeats or not. By induction: where something comes twice, a closed walk is cut out, and it and the rest obey the
--- lemma; else the walk is an exchange. First for closed walks, then with them for wholes.
+-- Lemma W: if the vote of a plan M against every other plan is at least k, every closed walk and every whole costs at least k, repeats
+-- or not, and no edge has room at both ends. By induction on the length: where something comes twice, a closed walk is cut out, and it
+-- and the rest obey the lemma; else the walk is an exchange (Lemma X). First for closed walks, then with them for wholes: an edge of M
+-- that is lost at both ends and comes round to itself leaves, when cut, a closed walk with no fewer arcs.
+-- `no-bad` is what the reduction uses. To believe it: the model's votes (Vote), a strong plan (Strong.antt), a lawful instance and
+-- walks (graph, Lawful and Walk).
 use Prim.Native.Nat.{ℕ, suc, _+_, _≤_, _<_}
 use native.Mathlib.Omega.{arith}
 use native.Mathlib.Nat.{not-suc-le-zero}
@@ -20,7 +23,7 @@ use Rattle.graph.specs.Lawful.{Lawful}
 use Rattle.graph.specs.Walk.{Steps, New, Walk, RoomS, RoomT, plus, minus, NoBad}
 use Rattle.graph.specs.Append.{walk-append, walk-split, plus-append, minus-append}
 use Rattle.walks.specs.Strong.{Strong, Holds, strong-holds}
-use Rattle.walks.specs.LemmaX.{swapped, holds-cost}
+use Rattle.walks.specs.LemmaX.{holds-cost}
 use Rattle.walks.specs.Arcs.{fs, zs}
 use Rattle.walks.specs.Ends.{Way, lose, gain, fresh}
 use Rattle.walks.specs.Whole.{startPlus, startMinus, stopPlus, stopMinus, comers, Start, Stop, Apart, Whole, simple, simple-loop, simple-direct}

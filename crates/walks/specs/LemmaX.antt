@@ -1,5 +1,5 @@
--- Lemma X: a valid exchange of a plan M, that is its couples and losses on both sides, makes another plan, against which the vote
--- of M is at most what the exchange costs.
+-- Lemma X: a valid exchange of a plan M, told by its couples and losses on both sides, makes another plan, against which the vote
+-- of M is at most what the exchange costs. What such a rival is, `Rival` says over tallies (votes, Score).
 use Prim.Native.Nat.{ℕ, _+_, _≤_, _<_}
 use native.Mathlib.Omega.{arith}
 use native.Mathlib.Decide.{decLt}
@@ -18,7 +18,7 @@ use Rattle.graph.specs.Lawful.{Lawful, Matching, Same}
 use Rattle.graph.specs.Walk.{Old, New}
 use Rattle.votes.specs.Score.{tally, quotas}
 use Rattle.votes.specs.Exchange.{Couple, for, against, Swap, goer-is, comer-is, Moves}
-use Rattle.votes.specs.Node.{within, side}
+use Rattle.votes.specs.Node.{exchange-within, exchange-cost}
 use Rattle.walks.specs.Strong.{Holds}
 
 -- M without R and with F
@@ -74,9 +74,9 @@ module _ (G : Instance) (M : ℕ → Bool) (R F : List ℕ)
       → Rival G M (swapped M R F) (sum (against (G .rankS)) cS + sum (against (G .rankT)) cT) ((sum (for (G .rankS)) cS + length lS) + (sum (for (G .rankT)) cT + length lT))
   X-rival law cS lS cT lT mS mT e h = record {
     plan = record {
-      atS = within (surveyors G) M (swapped M R F) R F swap cS lS mS;
-      atT = within (stands G) M (swapped M R F) R F swap cT lT mT;
+      atS = exchange-within (surveyors G) M (swapped M R F) R F swap cS lS mS;
+      atT = exchange-within (stands G) M (swapped M R F) R F swap cT lT mT;
     };
     other = differs e h;
-    vote = omega (arith, side (surveyors G) M (swapped M R F) R F swap cS lS mS (law .atS), side (stands G) M (swapped M R F) R F swap cT lT mT (law .atT));
+    vote = omega (arith, exchange-cost (surveyors G) M (swapped M R F) R F swap cS lS mS (law .atS), exchange-cost (stands G) M (swapped M R F) R F swap cT lT mT (law .atT));
   }

@@ -1,5 +1,5 @@
--- A strong plan: its vote against every other plan within the quotas is above zero. And the same with any threshold, over tallies:
--- the vote against every other plan is at least k, k = 1 for a strong plan, k = 0 for one that no plan beats.
+-- A strong plan: its vote, the model's, against every other plan within the quotas is above zero. And the same with any threshold, over
+-- tallies: the vote against every other plan is at least k, k = 1 for a strong plan, k = 0 for one that no plan beats.
 use Prim.Native.Nat.{ℕ, _+_, _≤_}
 use native.Mathlib.Omega.{arith}
 use mathlib.Core.Bool.{Bool}

@@ -1,12 +1,12 @@
 -- Wholes: a start, a walk, an end; closed walks; and single edges with room at both ends. Where nothing comes twice each of them is
--- a valid exchange, so it makes a rival, and the vote against it is at most the cost.
+-- a valid exchange, so it makes a rival, and the vote against it is at most the cost. `Whole` with `Start`, `Stop`, `Apart` and the
+-- votes at the ends are the four kinds of wholes that Lemma W speaks of.
 use Prim.Native.Nat.{ℕ, _+_, zero-le}
 use native.Mathlib.Omega.{arith}
 use mathlib.Core.Path.{_≡_, refl, ap}
 use mathlib.Core.Logic.{inl, _≢_}
 use mathlib.Core.Bool.{Bool}
 use mathlib.Core.List.{List, [], _∷_, _++_}
-use lib.ListN.{length}
 use lib.Dec.{eqb}
 use Rattle.lists.specs.Test.{bit, bit-one, eqb-yes}
 use Rattle.lists.specs.Sum.{_∈_, sum, sum-append, occ, occ-∈}
