@@ -1,4 +1,4 @@
--- Lists cut down, taken apart and put together: the elements that pass a test, an element taken out, the lists of a list joined.
+-- Lists cut down, taken apart and put together: the elements that pass a test, an element taken out, the lists of a list joined, a property of all.
 use Prim.Native.Nat.{ℕ, suc, _+_, _≤_, _<_}
 use native.Mathlib.Omega.{arith}
 use mathlib.Core.Path.{_≡_, refl, sym, ap, _∙_, subst}

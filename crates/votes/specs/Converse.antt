@@ -10,7 +10,7 @@ use mathlib.Core.Bool.{Bool, not, _&&_, and-comm}
 use mathlib.Core.List.{List}
 use lib.ListN.{length}
 use lib.Dec.{eqb, eqb→eq}
-use Rattle.lists.specs.Test.{bit, bit-one, pk, pk-0, pk-le, pk-and, pk-split, pk-when}
+use Rattle.lists.specs.Test.{bit, bit-one, pk, pk-0, pk-zero, pk-le, pk-and, pk-split, pk-when}
 use Rattle.lists.specs.Sum.{_∈_, sum, sum-zeros, sum-add, sum-cong, sum-mono, sum-pk, sum-one, sum-length, upTo, occ}
 use Rattle.lists.specs.Keep.{keep, sum-keep, gather, gather-∈, sum-gather}
 use Rattle.lists.specs.Occur.{occ-<, sum-at, sum-only}
@@ -20,7 +20,7 @@ use Rattle.model.specs.Vote.{Place, edge, empty, same, here, Pairing, pairings,
 use Rattle.graph.specs.Lawful.{Ranked, Within}
 use Rattle.votes.specs.Score.{mark, mark-same, mark-lost, mark-gained, mark-edges, placesAt, score}
 use Rattle.votes.specs.Places.{here-deg, times-empty, node-places, pairing-length}
-use Rattle.votes.specs.Fair.{NotBoth, Fair, fair-left, fair-right, left-here, right-here}
+use Rattle.votes.specs.Fair.{NotBoth, Fair, Here, fair-left, fair-right, left-here, right-here}
 use Rattle.votes.specs.Attained.{attained}
 use Rattle.votes.specs.Exchange.{Couple, for, against, Swap, losses, gains, Moves}
 use Rattle.votes.specs.Couples.{couplesOf, onCouple, couples-sum, couples-∈, lossesOf, onLoss, losses-sum, losses-∈, Kind, shares, swaps, loses, gets, void, kind}
@@ -59,6 +59,12 @@ module _ (K : Side) (M N : ℕ → Bool) (hM : Within K M) (hN : Within K N) whe
   unfolding pair
   pair-score v = attained K M N v (hM v) (hN v) .3
 
+  pair-left : (v : ℕ) (c : Place × Place) → c ∈ pair v → (d : ℕ) → c .0 ≡ edge d → Here K v M d
+  pair-left v = left-here K M N v (pair v) (pair-fair v)
+
+  pair-right : (v : ℕ) (c : Place × Place) → c ∈ pair v → (d : ℕ) → c .1 ≡ edge d → Here K v N d
+  pair-right v = right-here K M N v (pair v) (pair-fair v)
+
   pair-kind : (v : ℕ) (c : Place × Place) → c ∈ pair v → Kind M N c
   pair-kind v = kind K M N v (pair v) (pair-fair v)
 
@@ -82,7 +88,7 @@ module _ (K : Side) (M N : ℕ → Bool) (hM : Within K M) (hN : Within K N) whe
   meet c k d e =
       let t = gather-∈ (λ v. couplesOf M (pair v)) (upTo (K .n)) k in
       let j = couples-∈ M (pair (t .0)) c (t .2) in
-      left-here K M N (t .0) (pair (t .0)) (pair-fair (t .0)) (c .0, edge (c .1)) j d e .1 ∙ sym (right-here K M N (t .0) (pair (t .0)) (pair-fair (t .0)) (c .0, edge (c .1)) j (c .1) refl .1)
+      pair-left (t .0) (c .0, edge (c .1)) j d e .1 ∙ sym (pair-right (t .0) (c .0, edge (c .1)) j (c .1) refl .1)
 
   -- ---- what goes and what comes
   gone-at : (e : ℕ) (c : Place × Place) → Kind M N c → onCouple M (λ c. bit (same (c .0) (edge e))) c + onLoss (λ l. bit (eqb l e)) c ≡ pk (not (N e)) (bit (same (c .0) (edge e)))
@@ -122,7 +128,7 @@ module _ (K : Side) (M N : ℕ → Bool) (hM : Within K M) (hN : Within K N) whe
       one : (u : ℕ) → sum (λ c. pk (eqb (K .end (c .1)) v) (bit (same (c .0) empty))) (couplesOf M (pair u)) ≡ pk (eqb u v) (gainedAt u)
       one u =
           sum-cong (λ c. pk (eqb (K .end (c .1)) v) (bit (same (c .0) empty))) (λ c. pk (eqb u v) (bit (same (c .0) empty))) (couplesOf M (pair u))
-          (λ c k. ap (λ z. pk (eqb z v) (bit (same (c .0) empty))) (right-here K M N u (pair u) (pair-fair u) (c .0, edge (c .1)) (couples-∈ M (pair u) c k) (c .1) refl .1))
+          (λ c k. ap (λ z. pk (eqb z v) (bit (same (c .0) empty))) (pair-right u (c .0, edge (c .1)) (couples-∈ M (pair u) c k) (c .1) refl .1))
           ∙ sum-pk (eqb u v) (λ c. bit (same (c .0) empty)) (couplesOf M (pair u))
           ∙ ap (λ z. pk (eqb u v) z) (couples-sum M (λ c. bit (same (c .0) empty)) (pair u) ∙ sum-cong (onCouple M (λ c. bit (same (c .0) empty))) (λ c. bit (gained c)) (pair u) (λ c k. gain-at c (pair-kind u c k)))
 
@@ -138,7 +144,7 @@ module _ (K : Side) (M N : ℕ → Bool) (hM : Within K M) (hN : Within K N) whe
       one : (u : ℕ) → sum (λ l. pk (eqb (K .end l) v) 1) (lossesOf (pair u)) ≡ pk (eqb u v) (lostAt u)
       one u =
           sum-cong (λ l. pk (eqb (K .end l) v) 1) (λ l. pk (eqb u v) 1) (lossesOf (pair u))
-          (λ l k. ap (λ z. pk (eqb z v) 1) (left-here K M N u (pair u) (pair-fair u) (edge l, empty) (losses-∈ (pair u) l k) l refl .1))
+          (λ l k. ap (λ z. pk (eqb z v) 1) (pair-left u (edge l, empty) (losses-∈ (pair u) l k) l refl .1))
           ∙ sum-pk (eqb u v) (λ l. 1) (lossesOf (pair u))
           ∙ ap (λ z. pk (eqb u v) z) (losses-sum (λ l. 1) (pair u) ∙ sum-cong (onLoss (λ l. 1)) (λ c. bit (lost c)) (pair u) (λ c k. loss-at c))
 
@@ -160,12 +166,14 @@ module _ (K : Side) (M N : ℕ → Bool) (hM : Within K M) (hN : Within K N) whe
   apart : (v : ℕ) → (losses K lossesTo v ≡ 0) ⊎ (gains K couplesTo v ≡ 0)
   apart v = go (gains-at v) (losses-at v) (pair-fair v .not-both)
     where
-      go : (gains K couplesTo v ≡ gainedAt v) ⊎ (gains K couplesTo v ≡ 0) → (losses K lossesTo v ≡ lostAt v) ⊎ (losses K lossesTo v ≡ 0) → NotBoth (pair v) → (losses K lossesTo v ≡ 0) ⊎ (gains K couplesTo v ≡ 0)
+      go : (gains K couplesTo v ≡ gainedAt v) ⊎ (gains K couplesTo v ≡ 0) → (losses K lossesTo v ≡ lostAt v) ⊎ (losses K lossesTo v ≡ 0) → NotBoth (pair v)
+          → (losses K lossesTo v ≡ 0) ⊎ (gains K couplesTo v ≡ 0)
       go (inr g) l b = inr g
       go (inl g) (inr l) b = inl l
       go (inl g) (inl l) (inl b) = inl (l ∙ b)
       go (inl g) (inl l) (inr b) = inr (g ∙ b)
 
+  -- ---- of the laws `inside` and `placed` alone are used
   module _ (ranked : Ranked K) where
     -- over all nodes, an edge is at one
     spread : (x b : Bool) (e : ℕ) → sum (λ v. pk b (pk (x && eqb (K .end e) v) (occ e (upTo (K .m))))) (upTo (K .n)) ≡ pk (x && b) (occ e (upTo (K .m)))
@@ -177,7 +185,7 @@ module _ (K : Side) (M N : ℕ → Bool) (hM : Within K M) (hN : Within K N) whe
         at-one : sum (λ v. pk (x && eqb (K .end e) v) (occ e (upTo (K .m)))) (upTo (K .n)) ≡ pk x (occ e (upTo (K .m)))
         at-one = sum-cong (λ v. pk (x && eqb (K .end e) v) u) (λ v. pk (eqb (K .end e) v) (pk x u)) (upTo (K .n)) (λ v m. pk-and x (eqb (K .end e) v) u) ∙ by-cases (decLt 0 u)
             (λ h. sum-one (λ v. pk x u) (K .n) (K .end e) (ranked .inside e (occ-< (K .m) e h)))
-            (λ n. let z : pk x u ≡ 0 = omega (arith, pk-le x u) in sum-zeros (λ v. pk (eqb (K .end e) v) (pk x u)) (upTo (K .n)) (λ v m. ap (λ k. pk (eqb (K .end e) v) k) z ∙ pk-0 (eqb (K .end e) v)) ∙ sym z)
+            (λ n. let z : pk x u ≡ 0 = omega (arith, pk-le x u) in sum-zeros (λ v. pk (eqb (K .end e) v) (pk x u)) (upTo (K .n)) (λ v m. pk-zero (eqb (K .end e) v) z) ∙ sym z)
 
     gone : (e : ℕ) → sum (λ c. bit (same (c .0) (edge e))) couplesTo + occ e lossesTo ≡ occ e (goers (K .m) M N)
     gone e =
@@ -234,8 +242,8 @@ module _ (K : Side) (M N : ℕ → Bool) (hM : Within K M) (hN : Within K N) whe
       pair-score v,
       sum-add (mark (K .rank)) (onCouple M (against (K .rank))) (pair v),
       sum-cong (λ c. mark (K .rank) c + onCouple M (against (K .rank)) c) (λ c. 1 + (onCouple M (for (K .rank)) c + onLoss (λ l. 1) c)) (pair v) (λ c k. cost-at c
-          (λ d e. ranked .placed d (left-here K M N v (pair v) (pair-fair v) c k d e .2))
-          (λ f e. ranked .placed f (right-here K M N v (pair v) (pair-fair v) c k f e .2))
+          (λ d e. ranked .placed d (pair-left v c k d e .2))
+          (λ f e. ranked .placed f (pair-right v c k f e .2))
           (pair-kind v c k)),
       sum-add (λ c. 1) (λ c. onCouple M (for (K .rank)) c + onLoss (λ l. 1) c) (pair v),
       sum-add (onCouple M (for (K .rank))) (onLoss (λ l. 1)) (pair v),

@@ -211,7 +211,7 @@ module _ (K : Side) (M N : ℕ → Bool) (R F : List ℕ) (sw : Swap (K .m) M N 
         go (inl e) = inl (lost-count ∙ e)
         go (inr e) = inr (gained-count ∙ e)
 
-  -- ---- costs
+  -- ---- costs: of the laws `inside` and `placed` alone are used, that no edge lies outside the nodes and none ranks with an empty place
   module _ (ranked : Ranked K) where
     come-in : (c : Couple) → c ∈ cs → c .1 < K .m
     come-in c k = comer-is (K .m) M N R F sw (c .1) (couple-comes K M R F cs ls mv c k) .2
