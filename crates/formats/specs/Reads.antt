@@ -1,13 +1,13 @@
 -- A reader and a writer that agree: what is read was written so, and what is written is read back. Fields, and fields in a row.
-use Prim.Native.Nat.{ℕ, zero, suc, _+_, _*_, _/_, _%_, _≤_, _<_}
+use Prim.Native.Nat.{ℕ, zero, suc, _+_}
 use native.Mathlib.Omega.{arith}
 use mathlib.Core.Path.{_≡_, refl, sym, ap, ap₂, _∙_, subst}
-use mathlib.Core.Bool.{Bool, true, false, not, cond, _&&_}
-use mathlib.Core.List.{List, [], _∷_, _++_, append-assoc, append-nil}
+use mathlib.Core.Bool.{Bool, true, false, not}
+use mathlib.Core.List.{List, [], _∷_, _++_, append-assoc}
 use lib.ListN.{length}
-use lib.Dec.{T, ltb, ltb→lt, lt→ltb}
+use lib.Dec.{T, ltb}
 use Rattle.lists.specs.Test.{given, and-r}
-use Rattle.lists.specs.Keep.{all?, gather}
+use Rattle.lists.specs.Keep.{all?, gather, All}
 use Rattle.model.specs.Reading.{Read, got, refused, _then_, refuseIf, refuseBy, byte, twoBytes, readEach, Reading, accepted, turned, whole}
 
 -- a byte's value is below 256
@@ -93,10 +93,6 @@ bytes-rest (a ∷ cs) bs t = bytes-rest cs bs (and-r (ltb a 256) (isBytes (cs ++
 pub rest-bytes : (cs rest : List ℕ) {bs : List ℕ} → bs ≡ cs ++ rest → T (isBytes bs) → T (isBytes rest)
 rest-bytes cs rest e t = bytes-rest cs rest (subst (λ z. T (isBytes z)) e t)
 
-abbrev pub Every : {A : Type 0} → (A → Type 0) → List A → Type 0
-Every P [] = Unit {0}
-Every P (x ∷ xs) = P x × Every P xs
-
 pub refuseBy-got : {A : Type 0} (n : ℕ) {r : Read A} {a : A} {bs : List ℕ} → refuseBy n r ≡ got a bs → (n ≡ 0) × (r ≡ got a bs)
 refuseBy-got zero e = (refl, e)
 refuseBy-got (suc n) e = refused-not e
@@ -116,12 +112,12 @@ module _ {S A : Type 0} {field : List ℕ → Read A} {write : A → List ℕ} {
   more s x n rest = readEach field check next n (next s x) rest then (λ xs rest. got (x ∷ xs) rest)
 
   each-back : (n : ℕ) (s : S) (bs : List ℕ) (xs : List A) (rest : List ℕ) → T (isBytes bs) → readEach field check next n s bs ≡ got xs rest
-      → (bs ≡ gather write xs ++ rest) × (length xs ≡ n) × Every P xs × Passes s xs
+      → (bs ≡ gather write xs ++ rest) × (length xs ≡ n) × All P xs × Passes s xs
   unfolding readEach
   each-back zero s bs xs rest t e = (
     got-rest e ∙ ap (λ (z : List A). gather write z ++ rest) (got-value e),
     ap length (sym (got-value e)),
-    subst (Every P) (got-value e) tt,
+    subst (All P) (got-value e) tt,
     subst (Passes s) (got-value e) tt,
   )
   each-back (suc n) s bs xs rest t e =
@@ -133,11 +129,11 @@ module _ {S A : Type 0} {field : List ℕ → Read A} {write : A → List ℕ} {
       given (got-value h₃) (λ (d : x ∷ ys ≡ xs). (
         w ∙ ap (λ z. write x ++ z) (v ∙ ap (λ z. gather write ys ++ z) (got-rest h₃)) ∙ sym (append-assoc (write x) (gather write ys) rest) ∙ ap (λ z. gather write z ++ rest) d,
         ap length (sym d) ∙ ap suc l,
-        subst (Every P) d (p, q),
+        subst (All P) d (p, q),
         subst (Passes s) d (c, k),
       )))))))
 
-  each-forth : (s : S) (xs : List A) (rest : List ℕ) → Every P xs → Passes s xs → readEach field check next (length xs) s (gather write xs ++ rest) ≡ got xs rest
+  each-forth : (s : S) (xs : List A) (rest : List ℕ) → All P xs → Passes s xs → readEach field check next (length xs) s (gather write xs ++ rest) ≡ got xs rest
   unfolding readEach
   each-forth s [] rest p k = refl
   each-forth s (x ∷ xs) rest p k =
@@ -146,7 +142,7 @@ module _ {S A : Type 0} {field : List ℕ → Read A} {write : A → List ℕ} {
       ∙ refuseBy-no (check s x) (more s x (length xs) (gather write xs ++ rest)) (k .0)
       ∙ ap (λ r. r then (λ xs rest. got (x ∷ xs) rest)) (each-forth (next s x) xs rest (p .1) (k .1))
 
-  pub each : (n : ℕ) (s : S) → Reads (readEach field check next n s) (gather write) (λ xs. (length xs ≡ n) × Every P xs × Passes s xs)
+  pub each : (n : ℕ) (s : S) → Reads (readEach field check next n s) (gather write) (λ xs. (length xs ≡ n) × All P xs × Passes s xs)
   each n s = record {
     back = λ bs xs rest t e. given (each-back n s bs xs rest t e) (λ (w, l, p, k). (w, (l, p, k)));
     forth = λ xs rest (l, p, k). subst (λ k. readEach field check next k s (gather write xs ++ rest) ≡ got xs rest) l (each-forth s xs rest p k);
@@ -166,7 +162,7 @@ singles : (xs : List ℕ) → gather (λ x. x ∷ []) xs ≡ xs
 singles [] = refl
 singles (x ∷ xs) = ap (λ z. x ∷ z) (singles xs)
 
-every-any : (xs : List ℕ) → Every any xs
+every-any : (xs : List ℕ) → All any xs
 every-any [] = tt
 every-any (x ∷ xs) = (tt, every-any xs)
 

@@ -1,19 +1,19 @@
 -- Roster files: accepted bytes are written back to the same bytes, a roster within the limits is read back the same, and an accepted
 -- roster has at most 2,214 bytes.
-use Prim.Native.Nat.{ℕ, zero, suc, _+_, _*_, _≤_, _<_}
+use Prim.Native.Nat.{ℕ, _+_, _*_, _≤_}
 use native.Mathlib.Omega.{arith}
 use mathlib.Core.Path.{_≡_, refl, sym, ap, _∙_, subst}
-use mathlib.Core.Bool.{Bool, true, false, not, cond, _&&_}
+use mathlib.Core.Bool.{Bool, true, false, cond, _&&_}
 use mathlib.Core.List.{List, [], _∷_, _++_, append-assoc, append-nil}
 use lib.ListN.{length, length-append}
 use lib.Dec.{T, eqb, leb, leb→le, eqb→eq}
 use Rattle.lists.specs.Test.{given, T-true, true-T, and-l, and-r, and-i, eq→eqb}
 use Rattle.lists.specs.Keep.{all?, gather}
-use Rattle.model.specs.Limits.{nodeLimit, quotaLimit, quotaSumLimit, entryLimit, rosterSize}
-use Rattle.model.specs.Reading.{Read, got, refused, _then_, Reading, accepted, turned, whole}
-use Rattle.model.specs.Roster.{Ranking, Roster, entries, surveyorCount, standCount, totalS, totalT, quotasFit, listFits, rankingFits, bothOrNeither, fits}
+use Rattle.model.specs.Limits.{nodeLimit, entryLimit, rosterSize}
+use Rattle.model.specs.Reading.{Read, got, _then_, Reading, accepted, turned, whole}
+use Rattle.model.specs.Roster.{Ranking, Roster, surveyorCount, standCount, totalS, totalT, quotasFit, listFits, rankingFits, bothOrNeither, fits}
 use Rattle.model.specs.RosterFile.{readNodes, readList, readRanking, readSection, readSections, oneSided, readRoster, wideBytes, listBytes, rankingBytes, writeRoster}
-use Rattle.formats.specs.Reads.{isBytes, rest-bytes, Reads, got-value, got-rest, then-got, accepted-value, turned-not, whole-accepted}
+use Rattle.formats.specs.Reads.{isBytes, rest-bytes, got-value, got-rest, then-got, accepted-value, turned-not, whole-accepted}
 use Rattle.formats.specs.Sections.{nodes, list, ranking, SectionFits, section}
 
 -- ---- the four sections

@@ -1,20 +1,20 @@
 -- The sections of a roster file, each read and written: quotas, surveyors' lists, stands' lists.
-use Prim.Native.Nat.{ℕ, zero, suc, _+_, _*_, _/_, _%_, _≤_, _<_}
+use Prim.Native.Nat.{ℕ, _+_, _*_, _/_, _%_, _<_}
 use native.Mathlib.Omega.{arith}
 use mathlib.Core.Path.{_≡_, refl, sym, ap, ap₂, _∙_, subst}
-use mathlib.Core.Bool.{Bool, true, false, not, cond, _&&_, _||_}
+use mathlib.Core.Bool.{Bool, true, false, not, _&&_}
 use mathlib.Core.List.{List, [], _∷_, _++_, append-assoc}
 use lib.ListN.{length, length-append}
-use lib.Dec.{T, eqb, leb, ltb, leb→le, le→leb, nltb→le, ltb→lt, eqb→eq, not-T, T-not}
+use lib.Dec.{T, eqb, leb, ltb, leb→le, le→leb, nltb→le, ltb→lt, eqb→eq}
 use lib.Arith.{le→nltb}
 use Rattle.lists.specs.Test.{given, and-l, and-r, and-i, eq→eqb}
 use Rattle.lists.specs.Sum.{sum}
-use Rattle.lists.specs.Keep.{all?, gather, all-append}
+use Rattle.lists.specs.Keep.{all?, gather, all-append, All}
 use Rattle.model.specs.Limits.{nodeLimit, quotaSumLimit, entryLimit}
-use Rattle.model.specs.Reading.{Read, got, refused, _then_, refuseIf, byte, twoBytes, readEach}
-use Rattle.model.specs.Roster.{Ranking, entries, totalS, totalT, outside, distinct, ascending, quotasFit, listFits, rankingFits}
-use Rattle.model.specs.RosterFile.{readCount, readWideCount, quotaCheck, readQuotas, readNodes, entryCheck, readEntries, tiedCheck, readTied, readList, readRanking, readMany, readSection, wideBytes, listBytes, rankingBytes}
-use Rattle.formats.specs.Reads.{isBytes, rest-bytes, Reads, got-value, got-rest, refuse-got, refuse-no, then-got, byte-got, twoBytes-got, Every, Passes, each, a-byte, bytes}
+use Rattle.model.specs.Reading.{Read, got, _then_, refuseIf, byte, twoBytes}
+use Rattle.model.specs.Roster.{Ranking, entries, outside, distinct, ascending, quotasFit, listFits, rankingFits}
+use Rattle.model.specs.RosterFile.{readCount, readWideCount, quotaCheck, readNodes, entryCheck, readEntries, tiedCheck, readTied, readList, readRanking, readMany, readSection, wideBytes, listBytes, rankingBytes}
+use Rattle.formats.specs.Reads.{isBytes, rest-bytes, Reads, got-value, got-rest, refuse-got, refuse-no, then-got, byte-got, twoBytes-got, Passes, each, bytes}
 use Rattle.formats.specs.Entries.{fresh, fresh-distinct, distinct-fresh, fresh-append, inRange, small, quotas→, →quotas, entries→, →entries, tied→, →tied}
 
 -- the same agreement about facts that say the same
@@ -137,11 +137,11 @@ module _ (count : ℕ) where
   ranking = record { back = ranking-back; forth = ranking-forth }
 
 -- ---- a section of lists
-every-all : {A : Type 0} (p : A → Bool) (xs : List A) → Every (λ x. T (p x)) xs → T (all? p xs)
+every-all : {A : Type 0} (p : A → Bool) (xs : List A) → All (λ x. T (p x)) xs → T (all? p xs)
 every-all p [] e = tt
 every-all p (x ∷ xs) e = and-i (p x) (all? p xs) (e .0) (every-all p xs (e .1))
 
-all-every : {A : Type 0} (p : A → Bool) (xs : List A) → T (all? p xs) → Every (λ x. T (p x)) xs
+all-every : {A : Type 0} (p : A → Bool) (xs : List A) → T (all? p xs) → All (λ x. T (p x)) xs
 all-every p [] t = tt
 all-every p (x ∷ xs) t = (and-l (p x) (all? p xs) t, all-every p xs (and-r (p x) (all? p xs) t))
 

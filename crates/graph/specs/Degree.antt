@@ -7,7 +7,7 @@ use mathlib.Core.Logic.{_⊎_, inl, inr, ⊎-elim, by-cases}
 use mathlib.Core.Bool.{Bool, true, false, not, _&&_, _||_}
 use lib.Dec.{T, eqb, eqb→eq, eqb-refl, T-not, not-T}
 use Rattle.lists.specs.Test.{by-test, and-l, and-r, and-i, nand-i, eq→eqb, by-eq, bit}
-use Rattle.lists.specs.Sum.{count, count-sub, count-sub-lt, count-add, count-none, count-one}
+use Rattle.lists.specs.Sum.{count-sub, count-sub-lt, count-add, count-none, count-one}
 use Rattle.lists.specs.Search.{find, least-by, greatest-by}
 use Rattle.model.specs.Instance.{Side, deg}
 

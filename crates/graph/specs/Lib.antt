@@ -1,3 +1,4 @@
 pub mod Lawful
 pub mod Degree
 pub mod Walk
+pub mod Append

@@ -1,15 +1,15 @@
--- Lists cut down, taken apart and put together: the elements that pass a test, an element taken out, the lists of a list joined.
-use Prim.Native.Nat.{ℕ, zero, suc, _+_, _≤_, _<_}
+-- Lists cut down, taken apart and put together: the elements that pass a test, an element taken out, the lists of a list joined, a property of all.
+use Prim.Native.Nat.{ℕ, zero, suc, _+_, _<_}
 use native.Mathlib.Omega.{arith}
 use native.Mathlib.Nat.{not-suc-le-zero, le-of-suc-le-suc}
 use mathlib.Core.Path.{_≡_, refl, sym, ap, _∙_, subst}
 use mathlib.Core.Logic.{_⊎_, inl, inr}
 use mathlib.Core.Bool.{Bool, true, false, not, cond, _&&_, _||_}
-use mathlib.Core.List.{List, [], _∷_, _++_, map, List·Memᴰ, List·Memᴰ·head, List·Memᴰ·tail, List·Memᴰ·not-nil, List·Memᴰ·append-cases, Memᴰ·append-left, Memᴰ·append-right, Memᴰ·map, Memᴰ·of-map}
-use lib.ListN.{length, length-append, getD}
-use lib.Dec.{T, T-not}
-use Rattle.lists.specs.Test.{by-test, true-T, and-l, and-r, and-i, or-l, or-r, bit, pk}
-use Rattle.lists.specs.Sum.{_∈_, sum}
+use mathlib.Core.List.{List, [], _∷_, _++_, map, List·Memᴰ·head, List·Memᴰ·tail, List·Memᴰ·not-nil, List·Memᴰ·append-cases, Memᴰ·append-left, Memᴰ·append-right, Memᴰ·map, Memᴰ·of-map}
+use lib.ListN.{length, getD}
+use lib.Dec.{T}
+use Rattle.lists.specs.Test.{true-T, and-l, and-r, and-i, bit, pk}
+use Rattle.lists.specs.Sum.{_∈_, sum, sum-add, sum-cong, sum-append}
 
 module _ {A : Type 0} where
   -- the elements that pass a test
@@ -25,9 +25,22 @@ module _ {A : Type 0} where
       go true h = omega arith
       go false h = omega arith
 
+  -- what passes r passes p or q, and not both
+  pub sum-keep-add : (g : A → ℕ) (p q r : A → Bool) (xs : List A) → ((x : A) (n : ℕ) → pk (p x) n + pk (q x) n ≡ pk (r x) n) → sum g (keep p xs) + sum g (keep q xs) ≡ sum g (keep r xs)
+  sum-keep-add g p q r xs h = omega (
+    arith,
+    sum-keep g p xs,
+    sum-keep g q xs,
+    sum-keep g r xs,
+    sum-add (λ x. pk (p x) (g x)) (λ x. pk (q x) (g x)) xs,
+    sum-cong (λ x. pk (p x) (g x) + pk (q x) (g x)) (λ x. pk (r x) (g x)) xs (λ x k. h x (g x)),
+  )
+
   pub keep-cong : (p q : A → Bool) (xs : List A) → ((x : A) → x ∈ xs → p x ≡ q x) → keep p xs ≡ keep q xs
   keep-cong p q [] h = refl
-  keep-cong p q (x ∷ xs) h = ap (λ b. cond b (x ∷ keep p xs) (keep p xs)) (h x (List·Memᴰ·head refl)) ∙ ap (λ ys. cond (q x) (x ∷ ys) ys) (keep-cong p q xs (λ y m. h y (List·Memᴰ·tail m)))
+  keep-cong p q (x ∷ xs) h =
+      ap (λ b. cond b (x ∷ keep p xs) (keep p xs)) (h x (List·Memᴰ·head refl))
+      ∙ ap (λ ys. cond (q x) (x ∷ ys) ys) (keep-cong p q xs (λ y m. h y (List·Memᴰ·tail m)))
 
   pub keep-∈ : (p : A → Bool) (xs : List A) {x : A} → x ∈ xs → T (p x) → x ∈ keep p xs
   keep-∈ p xs (List·Memᴰ·head {x = y} {xs = ys} e) t = hd (p y) (subst (λ z. T (p z)) e t) e
@@ -60,6 +73,10 @@ module _ {A : Type 0} where
   abbrev pub any? : (A → Bool) → List A → Bool
   any? p [] = false
   any? p (x ∷ xs) = p x || any? p xs
+
+  pub all-cong : (p q : A → Bool) (xs : List A) → ((x : A) → x ∈ xs → p x ≡ q x) → all? p xs ≡ all? q xs
+  all-cong p q [] h = refl
+  all-cong p q (x ∷ xs) h = ap (λ b. b && all? p xs) (h x (List·Memᴰ·head refl)) ∙ ap (λ b. q x && b) (all-cong p q xs (λ y m. h y (List·Memᴰ·tail m)))
 
   -- all pass, or none: by the number of exceptions
   pub zero-all : (p : A → Bool) (xs : List A) → sum (λ x. bit (not (p x))) xs ≡ 0 → T (all? p xs)
@@ -182,6 +199,20 @@ module _ {A : Type 0} where
       go ih (inl k) = (x, List·Memᴰ·head refl, k)
       go ih (inr k) = let t = ih k in (t .0, List·Memᴰ·tail (t .1), t .2)
 
-pub length-gather : {A B : Type 0} (f : A → List B) (xs : List A) → length (gather f xs) ≡ sum (λ x. length (f x)) xs
-length-gather f [] = refl
-length-gather f (x ∷ xs) = omega (arith, length-append (f x) (gather f xs), length-gather f xs)
+pub sum-gather : {A B : Type 0} (g : B → ℕ) (f : A → List B) (xs : List A) → sum g (gather f xs) ≡ sum (λ x. sum g (f x)) xs
+sum-gather g f [] = refl
+sum-gather g f (x ∷ xs) = omega (arith, sum-append g (f x) (gather f xs), sum-gather g f xs)
+
+-- ---- a property of every element
+module _ {A : Type 0} (P : A → Type 0) where
+  abbrev pub All : List A → Type 0
+  All [] = Unit {0}
+  All (x ∷ xs) = P x × All xs
+
+  pub All-∈ : (xs : List A) → All xs → (x : A) → x ∈ xs → P x
+  All-∈ xs a x (List·Memᴰ·head e) = subst P (sym e) (a .0)
+  All-∈ xs a x (List·Memᴰ·tail {xs = ys} m) = All-∈ ys (a .1) x m
+
+  pub All-++ : (xs ys : List A) → All xs → All ys → All (xs ++ ys)
+  All-++ [] ys a b = b
+  All-++ (x ∷ xs) ys a b = (a .0, All-++ xs ys (a .1) b)

@@ -9,7 +9,7 @@ use mathlib.Core.Bool.{Bool, true, false, not}
 use mathlib.Core.List.{List, [], _∷_, _++_, map, List·Memᴰ, List·Memᴰ·head, List·Memᴰ·tail, List·Memᴰ·not-nil, Memᴰ·cast}
 use lib.ListN.{length, getD, replicate}
 use lib.Dec.{T, eqb, eqb→eq}
-use Rattle.lists.specs.Test.{by-test, bit, bit-one, bit-pos, bit-no, bit-le, bit-lt, pk, eqb-yes, eqb-no, tests}
+use Rattle.lists.specs.Test.{by-test, bit, bit-one, bit-pos, bit-no, bit-le, bit-lt, pk, pk-0, eqb-yes, eqb-no, tests}
 
 infix 50 _∈_
 abbrev pub _∈_ : {A : Type 0} → A → List A → Type 0
@@ -39,6 +39,12 @@ module _ {A : Type 0} where
   pub sum-cong : (f g : A → ℕ) (xs : List A) → ((x : A) → x ∈ xs → f x ≡ g x) → sum f xs ≡ sum g xs
   sum-cong f g [] h = refl
   sum-cong f g (x ∷ xs) h = omega (arith, h x (List·Memᴰ·head refl), sum-cong f g xs (λ y m. h y (List·Memᴰ·tail m)))
+
+  pub sum-zeros : (f : A → ℕ) (xs : List A) → ((x : A) → x ∈ xs → f x ≡ 0) → sum f xs ≡ 0
+  sum-zeros f xs h = sum-cong f (λ x. 0) xs h ∙ sum-zero xs
+
+  pub sum-pk-0 : (p : A → Bool) (xs : List A) → sum (λ x. pk (p x) 0) xs ≡ 0
+  sum-pk-0 p xs = sum-zeros (λ x. pk (p x) 0) xs (λ x k. pk-0 (p x))
 
   -- one term is no more than the sum
   pub sum-mem : (f : A → ℕ) {x : A} {xs : List A} → x ∈ xs → f x ≤ sum f xs
@@ -130,6 +136,11 @@ sum-shift f i (suc n) = ap (λ z. f (suc i) + z) (sum-shift f (suc i) n)
 pub sum-places : (xs : List ℕ) → sum (λ i. getD xs i 0) (upTo (length xs)) ≡ sum (λ x. x) xs
 sum-places [] = refl
 sum-places (x ∷ xs) = sym (sum-range (λ i. getD (x ∷ xs) i 0) (suc (length xs))) ∙ ap (λ z. x + z) (sum-shift (λ i. getD (x ∷ xs) i 0) 0 (length xs) ∙ sum-range (λ i. getD xs i 0) (length xs) ∙ sum-places xs)
+
+pub upTo-< : (n : ℕ) {i : ℕ} → i ∈ upTo n → i < n
+upTo-< zero m = absurd (List·Memᴰ·not-nil m)
+upTo-< (suc n) (List·Memᴰ·head e) = omega arith
+upTo-< (suc n) (List·Memᴰ·tail m) = omega (arith, upTo-< n m)
 
 -- how often e comes
 abbrev pub occ : ℕ → List ℕ → ℕ

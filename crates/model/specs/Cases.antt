@@ -1,9 +1,9 @@
 -- P1 to P10 of document 01, run by the checker: one theorem, `cases`, over a list of rosters with what document 01 says of each.
-use Prim.Native.Nat.{ℕ, zero, suc}
+use Prim.Native.Nat.{ℕ}
 use Prim.Native.String.{String}
 use mathlib.Core.Path.{_≡_, refl}
-use mathlib.Core.Bool.{Bool, true, false, cond, not, _&&_}
-use mathlib.Core.List.{List, [], _∷_, _++_}
+use mathlib.Core.Bool.{Bool, true, false}
+use mathlib.Core.List.{List, [], _∷_}
 use lib.ListN.{length}
 use lib.IntN.{ℤ, pos, negsuc}
 use Rattle.lists.specs.Sum.{count}
@@ -15,9 +15,9 @@ use Rattle.model.specs.Reading.{readEach, Reading, accepted, turned}
 use Rattle.model.specs.Roster.{Roster, listed, listedBack, bothOrNeither}
 use Rattle.model.specs.RosterFile.{readRoster}
 use Rattle.model.specs.Edges.{position, edgesOf, instanceOf}
-use Rattle.model.specs.Instance.{Instance, surveyors, stands, deg}
+use Rattle.model.specs.Instance.{Instance, stands, deg}
 use Rattle.model.specs.Vote.{nodeVote, vote}
-use Rattle.model.specs.Plans.{Plan, on, choices, within, plansOf, samePlan, Verdict, strong, popular, beaten, voteOf, beats, ties, verdictOf, strongPlans}
+use Rattle.model.specs.Plans.{Plan, on, choices, within, plansOf, samePlan, Verdict, strong, popular, beaten, beats, ties, verdictOf, strongPlans}
 use Rattle.model.specs.Reduction.{cut, cutT, ahead, arrow, loose, reserved, betterS, betterT, worseReserved, rule1, rule2, rule3, rule4, rule5, rule6, rule7, names, lowest, ruleOf, edgeOf, fateOf, act, next, begin, stepsFrom, stateAfter, stepsOf, endOf}
 use Rattle.model.specs.PlanFile.{planBytes, edgeOfPair, readPlan}
 use Rattle.model.specs.Finder.{diaryOf, leftOf, candidateOf, finderOf}

@@ -1,7 +1,7 @@
 -- Comparison of two plan files: section "Comparison, blocking, desk" of document 01.
 use Prim.Native.Nat.{ℕ}
 use mathlib.Core.Bool.{cond}
-use mathlib.Core.List.{List, [], _∷_}
+use mathlib.Core.List.{List, []}
 use lib.ListN.{drop}
 use lib.IntN.{ℤ, pos}
 use lib.Signed.{ltZ}

@@ -1,5 +1,5 @@
 -- The edges of a roster, and the roster as an instance: ranks as section "Votes" of document 01 has them.
-use Prim.Native.Nat.{ℕ, zero, suc}
+use Prim.Native.Nat.{ℕ, suc}
 use mathlib.Core.Bool.{Bool, false, cond}
 use mathlib.Core.List.{List, [], _∷_}
 use lib.ListN.{length, getD}
@@ -7,7 +7,7 @@ use lib.Dec.{eqb}
 use Rattle.lists.specs.Sum.{range}
 use Rattle.lists.specs.Keep.{gather}
 use Rattle.model.specs.Instance.{Instance}
-use Rattle.model.specs.Roster.{Ranking, Roster, surveyorCount, standCount, listS, listT, elem, listed}
+use Rattle.model.specs.Roster.{Roster, surveyorCount, standCount, listS, listT, elem, listed}
 
 -- "A pair is a surveyor and a stand." Both are counted from 0 here; their numbers in files are one more.
 pub record Edge : Type 0 where

@@ -2,16 +2,15 @@
 -- is `Rival`.
 use Prim.Native.Nat.{ℕ, suc}
 use mathlib.Core.Path.{_≡_}
-use mathlib.Core.Bool.{Bool, true, false, not, cond}
+use mathlib.Core.Bool.{Bool, true, false, not}
 use mathlib.Core.List.{List, [], _∷_, map}
 use lib.IntN.{ℤ, pos}
 use lib.Signed.{_<ℤ_}
 use lib.Dec.{T}
-use Rattle.lists.specs.Sum.{_∈_, range}
-use Rattle.lists.specs.Keep.{any?}
+use Rattle.lists.specs.Sum.{_∈_}
 use Rattle.model.specs.Instance.{Instance}
-use Rattle.model.specs.Plans.{Plan, on, plansOf, samePlan, Verdict, strong, popular, beaten, voteOf, verdictOf}
-use Rattle.model.specs.Reduction.{State, Fate, fix, strike, Step, stepsOf, endOf}
+use Rattle.model.specs.Plans.{Plan, plansOf, samePlan, Verdict, strong, popular, beaten, voteOf, verdictOf}
+use Rattle.model.specs.Reduction.{Fate, fix, strike, Step, stepsOf, endOf}
 use Rattle.model.specs.PlanFile.{edgesIn, planOf}
 
 -- "The diary is a lent list of step records: fate, surveyor, stand, rule." Fate 1 is fix and 2 strike; the other three are document

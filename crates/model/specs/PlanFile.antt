@@ -1,16 +1,16 @@
 -- Plan bytes, read against an instance and written: "a count byte 0 to 64, then two bytes a pair (surveyor, stand), ascending by
 -- surveyor, then by stand. Every pair is in the roster and no quota is passed."
-use Prim.Native.Nat.{ℕ, zero, suc}
+use Prim.Native.Nat.{ℕ, suc}
 use mathlib.Core.Bool.{Bool, cond, _&&_, _||_}
 use mathlib.Core.List.{List, [], _∷_, _++_, map}
 use lib.ListN.{length}
 use lib.Dec.{eqb, leb, ltb}
 use Rattle.lists.specs.Test.{bit}
 use Rattle.lists.specs.Sum.{sum, range}
-use Rattle.lists.specs.Keep.{keep, gather, any?}
+use Rattle.lists.specs.Keep.{keep, gather}
 use Rattle.lists.specs.Search.{low}
 use Rattle.model.specs.Limits.{planLimit}
-use Rattle.model.specs.Reading.{Read, got, refused, _then_, twoBytes, readEach, Reading, accepted, turned, whole}
+use Rattle.model.specs.Reading.{Read, got, _then_, twoBytes, readEach, Reading, whole}
 use Rattle.model.specs.RosterFile.{readCount}
 use Rattle.model.specs.Roster.{elem}
 use Rattle.model.specs.Instance.{Instance, Side, surveyors, stands}

@@ -1,7 +1,7 @@
 -- The reduction: section "Reduction" of document 01. The state is what remains, what is fixed, and the quotas, which each step
 -- cuts and each fixing lowers. That a cut quota is min (stated - fixed, remaining) is a law (crate reduction), not the text.
 use Prim.Native.Nat.{ℕ, zero, suc, _+_, _-_, min}
-use mathlib.Core.Bool.{Bool, true, false, not, cond, _&&_, _||_}
+use mathlib.Core.Bool.{Bool, true, false, not, _&&_, _||_}
 use mathlib.Core.List.{List, [], _∷_}
 use lib.ListN.{getD}
 use lib.Dec.{leb, ltb, eqb}

@@ -1,13 +1,13 @@
 -- Roster bytes read and written: section "Roster bytes" of document 01, and refusals 1 to 9 in its order, "Files are checked left
 -- to right, each field in the order 1 to 6; 7 after its section, then 9, then 8".
-use Prim.Native.Nat.{ℕ, zero, suc, _+_, _*_, _/_, _%_}
-use mathlib.Core.Bool.{Bool, not, cond, _||_}
+use Prim.Native.Nat.{ℕ, _+_, _*_, _/_, _%_}
+use mathlib.Core.Bool.{not, cond, _||_}
 use mathlib.Core.List.{List, [], _∷_, _++_}
 use lib.ListN.{length}
 use lib.Dec.{eqb, leb, ltb}
 use Rattle.lists.specs.Keep.{gather}
 use Rattle.model.specs.Limits.{nodeLimit, quotaLimit, quotaSumLimit, entryLimit}
-use Rattle.model.specs.Reading.{Read, got, refused, _then_, refuseIf, byte, twoBytes, readEach, Reading, accepted, turned, whole}
+use Rattle.model.specs.Reading.{Read, got, _then_, refuseIf, byte, twoBytes, readEach, Reading, accepted, turned, whole}
 use Rattle.model.specs.Roster.{Ranking, Roster, entries, elem, outside, totalS, totalT, bothOrNeither}
 
 -- "2 a count or list length above its limit"

@@ -2,17 +2,17 @@
 use Prim.Native.Nat.{ℕ, zero, suc, _+_, _≤_, _<_, zero-le}
 use native.Mathlib.Omega.{arith}
 use native.Mathlib.Nat.{not-suc-le-zero}
-use native.Mathlib.Decide.{ℕ-discrete, decLt}
+use native.Mathlib.Decide.{ℕ-discrete}
 use mathlib.Core.Path.{_≡_, refl, sym, ap, _∙_, subst}
 use mathlib.Core.Logic.{by-cases, _≢_, ⊎-elim}
-use mathlib.Core.Bool.{Bool, true, false, not, cond, _&&_, _||_}
-use mathlib.Core.List.{List, [], _∷_, _++_, map, List·Memᴰ·head, List·Memᴰ·tail, List·Memᴰ·not-nil, List·Memᴰ·append-cases, Memᴰ·of-map, Memᴰ·map, Memᴰ·append-left, Memᴰ·append-right}
+use mathlib.Core.Bool.{Bool, true, false, cond, _&&_, _||_}
+use mathlib.Core.List.{List, [], _∷_, map, List·Memᴰ·head, List·Memᴰ·tail, List·Memᴰ·not-nil, List·Memᴰ·append-cases, Memᴰ·of-map, Memᴰ·map, Memᴰ·append-left, Memᴰ·append-right}
 use lib.ListN.{length, getD, length-map}
 use lib.Seq.{ext-getD}
 use lib.Dec.{T, eqb, eqb→eq}
-use Rattle.lists.specs.Test.{given, by-bool, bool-eq, T-true, T-false, eqb-yes, eqb-no, or-l, or-r, or-case, bit, pk}
+use Rattle.lists.specs.Test.{given, bool-eq, eqb-yes, eqb-no, or-l, or-r, or-case, bit, pk}
 use Rattle.lists.specs.Sum.{_∈_, sum, sum-cong, range, range-length, ∈-range, range-∈, sum-range, upTo, count}
-use Rattle.lists.specs.Keep.{keep, keep-cong, keep-∈, ∈-keep, sum-keep, any?}
+use Rattle.lists.specs.Keep.{keep, keep-cong, keep-∈, ∈-keep, sum-keep}
 use Rattle.model.specs.Instance.{Side, deg}
 use Rattle.model.specs.Roster.{elem}
 use Rattle.model.specs.Plans.{Plan, on, choices}

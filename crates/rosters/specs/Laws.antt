@@ -1,21 +1,20 @@
 -- The instance of a roster within the limits is lawful, and two of its edges with the same ends are one.
-use Prim.Native.Nat.{ℕ, zero, suc, _+_, _≤_, _<_}
+use Prim.Native.Nat.{ℕ, suc, _+_, _≤_, _<_}
 use native.Mathlib.Omega.{arith}
 use native.Mathlib.Nat.{suc-inj}
 use mathlib.Core.Path.{_≡_, refl, sym, ap, _∙_, subst}
-use mathlib.Core.Logic.{_⊎_, inl, inr, ⊎-elim}
-use mathlib.Core.Bool.{Bool, true, false, not, cond, _&&_, _||_}
+use mathlib.Core.Logic.{_⊎_, ⊎-elim}
+use mathlib.Core.Bool.{Bool, true, false, not, _||_}
 use mathlib.Core.List.{List, [], _∷_, _++_}
-use lib.ListN.{length, length-append, getD}
+use lib.ListN.{length, length-append}
 use lib.Dec.{T, eqb, leb, leb→le, eqb→eq, T-not}
-use Rattle.lists.specs.Test.{given, by-test, and-l, and-r, or-case, or-l, or-r}
+use Rattle.lists.specs.Test.{given, and-l, and-r, or-case, or-r}
 use Rattle.lists.specs.Sum.{sum, sum-places, upTo, upTo-∈}
 use Rattle.lists.specs.Keep.{all?, all-∈, any-append, getD-∈}
 use Rattle.model.specs.Limits.{nodeLimit, quotaLimit, quotaSumLimit, planLimit, emptyRank}
-use Rattle.model.specs.Instance.{Instance, Side, surveyors, stands}
-use Rattle.model.specs.Roster.{Ranking, Roster, entries, surveyorCount, standCount, listS, listT, elem, distinct, outside, listed, listedBack, alike, bothOrNeither, listFits, rankingFits, fits, ascending}
-use Rattle.model.specs.Edges.{Edge, position, pairEdge, edgesOf, noEdge, edgeAt, instanceOf}
-use Rattle.graph.specs.Lawful.{Ranked, Lawful}
+use Rattle.model.specs.Roster.{Roster, entries, surveyorCount, standCount, listS, listT, elem, distinct, outside, listed, listedBack, alike, bothOrNeither, listFits, rankingFits, fits, ascending}
+use Rattle.model.specs.Edges.{Edge, position, edgesOf, noEdge, edgeAt, instanceOf}
+use Rattle.graph.specs.Lawful.{Lawful}
 use Rattle.formats.specs.Rosters.{fits-parts}
 use Rattle.rosters.specs.Position.{position-in, position-out, position-≤, position-same}
 use Rattle.rosters.specs.PlanFiles.{Fileable}

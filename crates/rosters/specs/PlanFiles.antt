@@ -1,28 +1,28 @@
 -- Plan files: accepted bytes are a plan within the quotas and are written back the same; a plan within the quotas is read back the
 -- same; a plan has at most 129 bytes. Over an instance whose pairs differ and whose quotas sum to at most 64 a side.
-use Prim.Native.Nat.{ℕ, zero, suc, _+_, _*_, _≤_, _<_, zero-le}
+use Prim.Native.Nat.{ℕ, suc, _+_, _*_, _≤_, _<_, zero-le}
 use native.Mathlib.Omega.{arith}
 use native.Mathlib.Nat.{suc-inj}
 use native.Mathlib.Decide.{decLt}
 use mathlib.Core.Path.{_≡_, refl, sym, ap, ap₂, _∙_, subst}
 use mathlib.Core.Logic.{by-cases}
-use mathlib.Core.Bool.{Bool, true, false, not, cond, _&&_, _||_}
+use mathlib.Core.Bool.{Bool, not, _&&_, _||_}
 use mathlib.Core.List.{List, [], _∷_, _++_, map, append-nil, append-assoc}
 use lib.ListN.{length, length-append, length-map}
 use lib.Dec.{T, eqb, leb, ltb, eqb→eq, eqb-refl, nltb→le, nleb→lt, leb→le, le→leb, T-not}
 use lib.Arith.{le→nltb, lt→nleb}
 use Rattle.lists.specs.Test.{given, and-l, and-r, and-i, nor-l, nor-r, nor-i, by-eq, eqb-no, bit, bit-pk, pk, T-true}
-use Rattle.lists.specs.Sum.{_∈_, sum, sum-append, sum-mono, sum-length, sum-swap, sum-one, sum-cong, upTo, upTo-∈, range}
-use Rattle.lists.specs.Keep.{keep, ∈-keep, keep-∈, gather, all?, all-∈, ∈-all}
-use Rattle.lists.specs.Search.{low, low-is}
+use Rattle.lists.specs.Sum.{_∈_, sum, sum-append, sum-mono, sum-swap, sum-one, sum-cong, upTo, upTo-∈}
+use Rattle.lists.specs.Keep.{∈-keep, keep-∈, gather, all-∈, ∈-all, All}
+use Rattle.lists.specs.Search.{low-is}
 use Rattle.model.specs.Limits.{planLimit, planSize}
-use Rattle.model.specs.Reading.{Read, got, _then_, Reading, accepted, whole}
+use Rattle.model.specs.Reading.{got, _then_, accepted, whole}
 use Rattle.model.specs.RosterFile.{readCount}
 use Rattle.model.specs.Roster.{elem}
 use Rattle.model.specs.Instance.{Instance, Side, surveyors, stands, deg}
 use Rattle.model.specs.Plans.{Plan, on, choices, withinSide, within, plansOf}
-use Rattle.model.specs.PlanFile.{pairBytes, edgesIn, planOf, pairList, planBytes, edgeOfPair, full, Pairs, pairCheck, withPair, readPairs, planOfPairs, readPlan}
-use Rattle.formats.specs.Reads.{isBytes, Reads, Every, Passes, each, two-bytes, got-value, got-rest, then-got, whole-accepted}
+use Rattle.model.specs.PlanFile.{pairBytes, edgesIn, pairList, planBytes, edgeOfPair, full, Pairs, pairCheck, withPair, readPairs, planOfPairs, readPlan}
+use Rattle.formats.specs.Reads.{isBytes, Reads, Passes, each, two-bytes, got-value, got-rest, then-got, whole-accepted}
 use Rattle.formats.specs.Entries.{cond-zero, zero-cond}
 use Rattle.formats.specs.Sections.{alike, counted}
 use Rattle.rosters.specs.Chosen.{on-planOf, planOf-length, planOf-on, planOf-cong, edgesIn-cong, choices-∈, choice-length, From, Below, keep-from, keep-below, edges-of-elem, elem-edgesIn, atNode, deg-atNode}
@@ -118,7 +118,7 @@ module _ (G : Instance) where
   two w = w .0 ∷ w .1 ∷ []
 
   abbrev Listed : List (ℕ × ℕ) → Type 0
-  Listed ps = T (leb (length ps) planLimit) × (Every (λ w. Unit {0}) ps × PairsPass start ps)
+  Listed ps = T (leb (length ps) planLimit) × (All (λ w. Unit {0}) ps × PairsPass start ps)
 
   pairs : Reads (λ bs. readCount planLimit bs then readPairs G) (λ ps. length ps ∷ gather two ps) Listed
   pairs = counted planLimit (λ n. alike (λ ps (l, p, k). (l, (p, k))) (λ ps (l, (p, k)). (l, p, k)) (each two-bytes (pairCheck G) (withPair G) n start))
@@ -249,7 +249,7 @@ module _ (G : Instance) where
     bytes-are [] = refl
     bytes-are (d ∷ ds) = ap (λ z. suc (G .sv d) ∷ suc (G .st d) ∷ z) (bytes-are ds)
 
-    every-unit : (ps : List (ℕ × ℕ)) → Every (λ w. Unit {0}) ps
+    every-unit : (ps : List (ℕ × ℕ)) → All (λ w. Unit {0}) ps
     every-unit [] = tt
     every-unit (p ∷ ps) = (tt, every-unit ps)
 

@@ -1,0 +1,11 @@
+pub mod Score
+pub mod Places
+pub mod Fair
+pub mod Attained
+pub mod Signed
+pub mod Bounds
+pub mod Laws
+pub mod Exchange
+pub mod Node
+pub mod Couples
+pub mod Converse
