@@ -2,26 +2,15 @@
 -- of its votes (graph, Walk) is to be believed.
 use Prim.Native.Nat.{ℕ, _+_, _≤_, zero-le}
 use native.Mathlib.Omega.{arith}
-use mathlib.Core.Path.{_≡_, refl, sym, ap, _∙_, subst}
+use mathlib.Core.Path.{refl}
 use mathlib.Core.Bool.{Bool}
 use mathlib.Core.List.{[], _∷_, _++_}
 use lib.ListN.{length, length-append}
 use Rattle.model.specs.Instance.{Instance}
+use Rattle.graph.specs.Append.{walk-append, plus-append, minus-append}
 use Rattle.graph.specs.Walk.{up, Steps, Arc, Walk, plus, minus}
 
 module _ (G : Instance) (M : ℕ → Bool) where
-  walk-append : (x y z : ℕ) (v w : Steps) → Walk G M x v y → Walk G M y w z → Walk G M x (v ++ w) z
-  walk-append x y z [] w a b = subst (λ u. Walk G M u w z) (sym a) b
-  walk-append x y z ((f, u) ∷ v) w a b = (a .0, walk-append u y z v w (a .1) b)
-
-  plus-append : (x y : ℕ) (v w : Steps) → Walk G M x v y → plus G x (v ++ w) ≡ plus G x v + plus G y w
-  plus-append x y [] w a = ap (λ u. plus G u w) a ∙ omega arith
-  plus-append x y ((f, u) ∷ v) w a = omega (arith, plus-append u y v w (a .1))
-
-  minus-append : (x y : ℕ) (v w : Steps) → Walk G M x v y → minus G x (v ++ w) ≡ minus G x v + minus G y w
-  minus-append x y [] w a = ap (λ u. minus G u w) a ∙ omega arith
-  minus-append x y ((f, u) ∷ v) w a = omega (arith, minus-append u y v w (a .1))
-
   -- a walk of at least n arcs that costs at most a - b
   pub record Reach (n x y a b : ℕ) : Type 0 where
     pub steps : Steps
