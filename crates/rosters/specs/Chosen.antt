@@ -13,6 +13,7 @@ use lib.Dec.{T, eqb, eqb→eq}
 use Rattle.lists.specs.Test.{given, bool-eq, eqb-yes, eqb-no, or-l, or-r, or-case, bit, pk}
 use Rattle.lists.specs.Sum.{_∈_, sum, sum-cong, range, range-length, ∈-range, range-∈, sum-range, upTo, count}
 use Rattle.lists.specs.Keep.{keep, keep-cong, keep-∈, ∈-keep, sum-keep}
+use Rattle.lists.specs.Distinct.{Nodup, nodup-append, nodup-map}
 use Rattle.model.specs.Instance.{Side, deg}
 use Rattle.model.specs.Roster.{elem}
 use Rattle.model.specs.Plans.{Plan, on, choices}
@@ -64,6 +65,23 @@ choice-length (suc n) M m = ⊎-elim (go true (choice-length n)) (go false (choi
   where
     go : (b : Bool) → ((N : Plan) → N ∈ choices n → length N ≡ n) → M ∈ map (λ N. b ∷ N) (choices n) → length M ≡ suc n
     go b ih k = given (Memᴰ·of-map (λ N. b ∷ N) (choices n) k) (λ (N, l, e). ap length (sym e) ∙ ap suc (ih N l))
+
+-- and each of them once
+pub choices-once : (n : ℕ) → Nodup (choices n)
+unfolding choices
+choices-once zero = ((λ k. List·Memᴰ·not-nil k), tt)
+choices-once (suc n) = nodup-append (map (λ M. true ∷ M) (choices n)) (map (λ M. false ∷ M) (choices n))
+    (nodup-map (λ M. true ∷ M) (λ M N e. ap tail e) (choices n) (choices-once n))
+    (nodup-map (λ M. false ∷ M) (λ M N e. ap tail e) (choices n) (choices-once n))
+    (λ M k l. given (Memᴰ·of-map (λ M. true ∷ M) (choices n) k) (λ (N, m, e). given (Memᴰ·of-map (λ M. false ∷ M) (choices n) l) (λ (N′, m′, e′). subst T (ap head (e ∙ sym e′)) tt)))
+  where
+    tail : Plan → Plan
+    tail [] = []
+    tail (b ∷ M) = M
+
+    head : Plan → Bool
+    head [] = false
+    head (b ∷ M) = b
 
 -- ---- ascending lists of edges
 -- each at least k, and above the one before it

@@ -1,0 +1,13 @@
+//! Reads a roster from standard input and prints the finder's answer.
+
+use std::io::{self, Read, Write};
+
+use reference::limits::MAX_INPUT_BYTES;
+use reference::program;
+
+fn main() -> io::Result<()> {
+    let mut input = Vec::new();
+    let limit = u64::try_from(MAX_INPUT_BYTES).expect("a small limit");
+    io::stdin().take(limit).read_to_end(&mut input)?;
+    io::stdout().write_all(&program::run(&input))
+}

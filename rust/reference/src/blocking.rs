@@ -1,0 +1,28 @@
+//! Blocking pairs of a plan.
+
+use crate::plan::Plan;
+use crate::roster::{Roster, Side, SIDES};
+use crate::votes::rank;
+
+/// All blocking pairs, ascending: pairs of the roster outside the plan for
+/// which both ends have room or would give up a pair they like less.
+pub fn blocking_pairs(roster: &Roster, plan: &Plan) -> Vec<usize> {
+    (0..roster.pairs().len())
+        .filter(|&pair| !plan.holds(pair))
+        .filter(|&pair| SIDES.iter().all(|&side| welcomes(roster, plan, pair, side)))
+        .collect()
+}
+
+/// Whether the pair's end on that side has an unfilled quota or a strictly
+/// worse pair in the plan. A tied pair is not strictly worse.
+fn welcomes(roster: &Roster, plan: &Plan, pair: usize, side: Side) -> bool {
+    let pair = roster.pairs()[pair];
+    let number = pair.end(side);
+    let node = roster.node(side, number);
+    let partners = plan.partners(roster, side, number);
+    let own = rank(&node.list, Some(pair.end(side.other())));
+    partners.len() < usize::from(node.quota)
+        || partners
+            .iter()
+            .any(|&partner| rank(&node.list, Some(partner)) > own)
+}

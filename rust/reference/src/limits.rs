@@ -1,0 +1,34 @@
+//! The limits and sizes of document 01, each under one name.
+
+/// Nodes of one side: surveyors, or stands.
+pub const MAX_NODES: usize = 32;
+/// The largest quota of one node.
+pub const MAX_QUOTA: u8 = 8;
+/// The largest sum of the quotas of one side.
+pub const MAX_QUOTA_SUM: usize = 64;
+/// The largest count of all entries of one side's lists.
+pub const MAX_ENTRIES: usize = 1_024;
+/// The largest number of pairs in a plan; no plan can pass a side's quotas.
+pub const MAX_PLAN_PAIRS: usize = 64;
+
+/// The rank of an empty place, one behind every rank a list can give.
+pub const EMPTY_RANK: u8 = 33;
+
+/// Bytes of a count of nodes, of a quota, of a list length and of a list entry.
+pub const NARROW_FIELD: usize = 1;
+/// Bytes of a section's count of entries.
+pub const WIDE_FIELD: usize = 2;
+/// Bytes of a plan's pair.
+pub const PAIR_FIELD: usize = 2;
+
+/// Bytes of the longest section of quotas.
+const QUOTA_SECTION_BYTES: usize = NARROW_FIELD * (1 + MAX_NODES);
+/// Bytes of the longest roster: a surveyor's list has one length, a stand's two.
+pub const MAX_ROSTER_BYTES: usize = 2 * QUOTA_SECTION_BYTES
+    + 2 * (WIDE_FIELD + NARROW_FIELD * MAX_ENTRIES)
+    + (1 + 2) * NARROW_FIELD * MAX_NODES;
+/// Bytes of the longest plan.
+pub const MAX_PLAN_BYTES: usize = NARROW_FIELD + PAIR_FIELD * MAX_PLAN_PAIRS;
+/// Bytes that the program reads: one more than the longest roster, so that a
+/// byte after the end is still seen.
+pub const MAX_INPUT_BYTES: usize = MAX_ROSTER_BYTES + 1;

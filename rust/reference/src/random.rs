@@ -1,0 +1,133 @@
+//! A small deterministic generator, and random rosters of a given shape.
+
+use std::cmp::Reverse;
+use std::ops::RangeInclusive;
+
+use crate::plan::Plan;
+use crate::roster::{narrow, List, Node, Roster, Side, SIDES};
+
+/// The splitmix64 generator: the same seed gives the same numbers everywhere.
+#[derive(Clone, Debug)]
+pub struct Random {
+    state: u64,
+}
+
+impl Random {
+    pub fn new(seed: u64) -> Self {
+        Random { state: seed }
+    }
+
+    pub fn next_u64(&mut self) -> u64 {
+        self.state = self.state.wrapping_add(0x9e37_79b9_7f4a_7c15);
+        let mut mixed = self.state;
+        mixed = (mixed ^ (mixed >> 30)).wrapping_mul(0xbf58_476d_1ce4_e5b9);
+        mixed = (mixed ^ (mixed >> 27)).wrapping_mul(0x94d0_49bb_1331_11eb);
+        mixed ^ (mixed >> 31)
+    }
+
+    /// A number below `bound`. The bounds here are so small that the remainder
+    /// is even enough.
+    pub fn below(&mut self, bound: usize) -> usize {
+        let bound = u64::try_from(bound).expect("a bound fits");
+        usize::try_from(self.next_u64() % bound).expect("a remainder fits")
+    }
+
+    /// A number of the range, both ends included.
+    pub fn within(&mut self, range: &RangeInclusive<u8>) -> u8 {
+        let width = usize::from(range.end() - range.start()) + 1;
+        range.start() + narrow(self.below(width))
+    }
+
+    /// True in `percent` of a hundred cases.
+    pub fn chance(&mut self, percent: u8) -> bool {
+        self.below(100) < usize::from(percent)
+    }
+
+    pub fn shuffle<T>(&mut self, items: &mut [T]) {
+        for end in (1..items.len()).rev() {
+            items.swap(end, self.below(end + 1));
+        }
+    }
+}
+
+/// What random rosters look like.
+#[derive(Clone, Debug)]
+pub struct Shape {
+    /// How many nodes, for each side.
+    pub counts: [RangeInclusive<u8>; 2],
+    /// The quota of each node, for each side.
+    pub quotas: [RangeInclusive<u8>; 2],
+    /// How likely, in percent, a surveyor and a stand are a pair.
+    pub pairs: u8,
+    /// How likely, in percent, a stand has a tie; its length is then random.
+    pub ties: u8,
+    /// How likely, in percent, a stand ranks first the surveyors who like it
+    /// least. The simple rules act less on such rosters, the later ones more.
+    pub opposed: u8,
+}
+
+/// A random roster of that shape. The caller's ranges keep to the limits.
+pub fn roster(random: &mut Random, shape: &Shape) -> Roster {
+    let [surveyors, stands] = SIDES.map(|side| random.within(&shape.counts[side as usize]));
+    let surveyors: Vec<Node> = (0..surveyors)
+        .map(|_| surveyor(random, shape, stands))
+        .collect();
+    let stands = (1..=stands)
+        .map(|number| stand(random, shape, &surveyors, number))
+        .collect();
+    Roster::new(surveyors, stands).expect("both sides list the same pairs")
+}
+
+/// A surveyor that ranks some of the stands.
+fn surveyor(random: &mut Random, shape: &Shape, stands: u8) -> Node {
+    let mut strict: Vec<u8> = (1..=stands)
+        .filter(|_| random.chance(shape.pairs))
+        .collect();
+    random.shuffle(&mut strict);
+    Node {
+        quota: random.within(&shape.quotas[Side::Surveyors as usize]),
+        list: List {
+            strict,
+            tied: Vec::new(),
+        },
+    }
+}
+
+/// A stand that ranks the surveyors who rank it.
+fn stand(random: &mut Random, shape: &Shape, surveyors: &[Node], number: u8) -> Node {
+    let position = |surveyor: &Node| surveyor.list.entries().position(|entry| entry == number);
+    let mut fans: Vec<(usize, u8)> = (1..)
+        .zip(surveyors)
+        .filter_map(|(surveyor, node)| Some((position(node)?, surveyor)))
+        .collect();
+    random.shuffle(&mut fans);
+    if random.chance(shape.opposed) {
+        fans.sort_by_key(|&(position, _)| Reverse(position));
+    }
+    let mut strict: Vec<u8> = fans.into_iter().map(|(_, surveyor)| surveyor).collect();
+    let mut tied = Vec::new();
+    if random.chance(shape.ties) {
+        tied = strict.split_off(random.below(strict.len() + 1));
+        tied.sort_unstable();
+    }
+    Node {
+        quota: random.within(&shape.quotas[Side::Stands as usize]),
+        list: List { strict, tied },
+    }
+}
+
+/// A random plan within the quotas: pairs are tried in a random order, and one
+/// that still fits is taken in `percent` of a hundred cases.
+pub fn plan(random: &mut Random, roster: &Roster, percent: u8) -> Plan {
+    let mut order: Vec<usize> = (0..roster.pairs().len()).collect();
+    random.shuffle(&mut order);
+    let mut plan = Plan::default();
+    for pair in order {
+        let wider = plan.indices().iter().copied().chain([pair]);
+        let wider: Plan = wider.collect();
+        if random.chance(percent) && wider.within_quotas(roster) {
+            plan = wider;
+        }
+    }
+    plan
+}

@@ -1,0 +1,57 @@
+//! What the tests share: rosters and plans from their bytes or pairs.
+
+// Every test file compiles this module for itself and uses its part of it.
+#![allow(dead_code)]
+
+use reference::plan::Plan;
+use reference::roster::{read, Pair, Roster};
+
+/// Bytes of a file, and pairs (surveyor, stand) of a plan, in tables of cases.
+pub type Bytes = &'static [u8];
+pub type Pairs = &'static [(u8, u8)];
+
+/// P1: no surveyors, no stands.
+pub const P1: Bytes = &[0, 0, 0, 0, 0, 0];
+/// P2: one pair, and its surveyor has quota 0.
+pub const P2: Bytes = &[1, 0, 1, 1, 1, 0, 1, 1, 1, 0, 1, 0, 1];
+/// P3: the program's roster: two surveyors want one stand, which ranks them.
+pub const P3: Bytes = &[2, 1, 1, 1, 1, 2, 0, 1, 1, 1, 1, 2, 0, 2, 0, 1, 2];
+/// P4: the stand of P3 ties the two.
+pub const P4: Bytes = &[2, 1, 1, 1, 1, 2, 0, 1, 1, 1, 1, 2, 0, 0, 2, 1, 2];
+/// P5: the stand of P4 has quota 2.
+pub const P5: Bytes = &[2, 1, 1, 1, 2, 2, 0, 1, 1, 1, 1, 2, 0, 0, 2, 1, 2];
+/// P6: two surveyors and two stands, each side ranking against the other.
+pub const P6: Bytes = &[
+    2, 1, 1, 2, 1, 1, 4, 0, 2, 1, 2, 2, 2, 1, 4, 0, 2, 0, 2, 1, 2, 0, 1, 2,
+];
+/// P7: a stand of quota 2 ranks four surveyors.
+pub const P7: Bytes = &[
+    4, 1, 1, 1, 1, 1, 2, 4, 0, 1, 1, 1, 1, 1, 1, 1, 1, 4, 0, 4, 0, 1, 2, 3, 4,
+];
+/// P8: a stand of quota 3 ranks three surveyors.
+pub const P8: Bytes = &[
+    3, 1, 1, 1, 1, 3, 3, 0, 1, 1, 1, 1, 1, 1, 3, 0, 3, 0, 1, 2, 3,
+];
+/// P9: a stand of quota 2 ranks three surveyors.
+pub const P9: Bytes = &[
+    3, 1, 1, 1, 1, 2, 3, 0, 1, 1, 1, 1, 1, 1, 3, 0, 3, 0, 1, 2, 3,
+];
+/// P10: both surveyors rank stand 1, then 2; stand 1 ties them, and stand 2 of
+/// quota 2 ranks them.
+pub const P10: Bytes = &[
+    2, 1, 1, 2, 1, 2, 4, 0, 2, 1, 2, 2, 1, 2, 4, 0, 0, 2, 1, 2, 2, 0, 1, 2,
+];
+
+/// The roster of bytes that must be accepted.
+pub fn roster(file: &[u8]) -> Roster {
+    read(file).unwrap_or_else(|refusal| panic!("{refusal:?}: {file:?}"))
+}
+
+/// The plan of these pairs (surveyor, stand), which the roster must have.
+pub fn plan(roster: &Roster, pairs: &[(u8, u8)]) -> Plan {
+    let index = |&(surveyor, stand): &(u8, u8)| {
+        let pair = Pair { surveyor, stand };
+        roster.index_of(pair).expect("a pair of the roster")
+    };
+    pairs.iter().map(index).collect()
+}

@@ -1,0 +1,108 @@
+//! Rosters and plans are written back to the same bytes.
+
+use reference::plan;
+use reference::random::{self, Random, Shape};
+use reference::refusal::Refusal;
+use reference::roster::{read, write, Roster};
+
+/// Shapes from small to as wide as the limits allow.
+fn shapes() -> [Shape; 3] {
+    let shape = |counts, quotas, pairs| Shape {
+        counts,
+        quotas,
+        pairs,
+        ties: 70,
+        opposed: 20,
+    };
+    [
+        shape([0..=3, 0..=3], [0..=8, 0..=8], 70),
+        shape([4..=8, 4..=8], [0..=8, 0..=8], 50),
+        shape([20..=32, 20..=32], [0..=2, 0..=2], 80),
+    ]
+}
+
+#[test]
+fn rosters_are_written_back() {
+    let mut random = Random::new(11);
+    for shape in shapes() {
+        for _ in 0..2_000 {
+            let roster = random::roster(&mut random, &shape);
+            let file = write(&roster);
+            assert_eq!(read(&file), Ok(roster), "{file:?}");
+        }
+    }
+}
+
+#[test]
+fn plans_are_written_back() {
+    let mut random = Random::new(12);
+    for shape in shapes() {
+        for _ in 0..300 {
+            let roster = random::roster(&mut random, &shape);
+            let plan = random::plan(&mut random, &roster, 80);
+            let file = plan::write(&roster, &plan);
+            assert_eq!(file.len(), 1 + 2 * plan.indices().len());
+            assert_eq!(plan::read(&roster, &file), Ok(plan), "{file:?}");
+        }
+    }
+}
+
+/// Drops the last byte, adds one, swaps two neighbours or changes one.
+fn damage(random: &mut Random, file: &mut Vec<u8>) {
+    let at = random.below(file.len());
+    let byte = random.within(&(0..=9));
+    match random.below(8) {
+        0 => file.truncate(file.len() - 1),
+        1 => file.push(byte),
+        2..=4 if at > 0 => file.swap(at - 1, at),
+        _ => file[at] = byte,
+    }
+}
+
+/// Reads damaged files; those accepted must be written back. Returns how often
+/// each number was met, with acceptance at 0.
+fn damaged(
+    seed: u64,
+    file: impl Fn(&mut Random, &Roster) -> Vec<u8>,
+    rewritten: impl Fn(&Roster, &[u8]) -> Result<Vec<u8>, Refusal>,
+) -> [usize; 13] {
+    let mut random = Random::new(seed);
+    let mut seen = [0; 13];
+    for _ in 0..100_000 {
+        let roster = random::roster(&mut random, &shapes()[0]);
+        let mut file = file(&mut random, &roster);
+        damage(&mut random, &mut file);
+        match rewritten(&roster, &file) {
+            Ok(again) => {
+                assert_eq!(again, file);
+                seen[0] += 1;
+            }
+            Err(refusal) => seen[usize::from(refusal.number())] += 1,
+        }
+    }
+    seen
+}
+
+#[test]
+fn damaged_rosters_are_refused_or_written_back() {
+    let seen = damaged(
+        13,
+        |_, roster| write(roster),
+        |_, file| read(file).map(|roster| write(&roster)),
+    );
+    println!("damaged rosters: {seen:?}");
+    assert!(seen[..=9].iter().all(|&count| count > 100), "{seen:?}");
+}
+
+#[test]
+fn damaged_plans_are_refused_or_written_back() {
+    let seen = damaged(
+        14,
+        |random, roster| plan::write(roster, &random::plan(random, roster, 90)),
+        |roster, file| plan::read(roster, file).map(|plan| plan::write(roster, &plan)),
+    );
+    println!("damaged plans: {seen:?}");
+    for number in [0, 1, 9, 10, 11, 12] {
+        assert!(seen[number] > 100, "{number}: {seen:?}");
+    }
+}
