@@ -1,14 +1,15 @@
--- P1 to P10 of document 01, run by the checker: one theorem, `cases`, over a list of rosters with what document 01 says of each.
+-- P1 to P10 of document 01, run by the checker: one theorem, `cases`, over a list of rosters with what document 01 says of each, and
+-- what follows from it; P11 to P14 are four more. Every roster and plan in a claim must be accepted. Stands are counted from 0 here.
 use Prim.Native.Nat.{ℕ}
 use Prim.Native.String.{String}
 use mathlib.Core.Path.{_≡_, refl}
-use mathlib.Core.Bool.{Bool, true, false}
+use mathlib.Core.Bool.{Bool, true, false, _&&_}
 use mathlib.Core.List.{List, [], _∷_}
 use lib.ListN.{length}
 use lib.IntN.{ℤ, pos, negsuc}
 use Rattle.lists.specs.Sum.{count}
 use Rattle.lists.specs.Search.{low}
-use Rattle.lists.specs.Keep.{keep}
+use Rattle.lists.specs.Keep.{keep, all?}
 use Rattle.model.specs.Text.{text}
 use Rattle.model.specs.Refusal.{groupOf}
 use Rattle.model.specs.Reading.{readEach, Reading, accepted, turned}
@@ -17,7 +18,7 @@ use Rattle.model.specs.RosterFile.{readRoster}
 use Rattle.model.specs.Edges.{position, edgesOf, instanceOf}
 use Rattle.model.specs.Instance.{Instance, stands, deg}
 use Rattle.model.specs.Vote.{nodeVote, vote}
-use Rattle.model.specs.Plans.{Plan, on, choices, within, plansOf, samePlan, Verdict, strong, popular, beaten, beats, ties, verdictOf, strongPlans}
+use Rattle.model.specs.Plans.{Plan, on, choices, within, plansOf, samePlan, Verdict, strong, popular, beaten, beats, ties, verdictOf, strongPlans, strongCount}
 use Rattle.model.specs.Reduction.{cut, cutT, ahead, arrow, loose, reserved, betterS, betterT, worseReserved, rule1, rule2, rule3, rule4, rule5, rule6, rule7, names, lowest, ruleOf, edgeOf, fateOf, act, next, begin, stepsFrom, stateAfter, stepsOf, endOf}
 use Rattle.model.specs.PlanFile.{planBytes, edgeOfPair, readPlan}
 use Rattle.model.specs.Finder.{diaryOf, leftOf, candidateOf, finderOf}
@@ -65,14 +66,22 @@ given bytes = instanceIn (readRoster bytes)
 abbrev pub plan : List ℕ → List ℕ → ℕ → Bool
 plan bytes file = on (planIn (readPlan (given bytes) file))
 
+-- the roster is accepted, and so are the plan files
+abbrev pub isAccepted : {A : Type 0} → Reading A → Bool
+isAccepted (accepted a) = true
+isAccepted (turned n) = false
+
+abbrev pub Readable : List ℕ → List (List ℕ) → Type 0
+Readable bytes files = isAccepted (readRoster bytes) && all? (λ file. isAccepted (readPlan (given bytes) file)) files ≡ true
+
 abbrev pub Holds : List ℕ → Claim → Type 0
 Holds bytes (prints s) = printed someRival bytes ≡ text s
-Holds bytes (strongOnes n) = length (strongPlans (given bytes)) ≡ n
-Holds bytes (votes a b v) = vote (given bytes) (plan bytes a) (plan bytes b) ≡ v
-Holds bytes (standVotes t a b v) = nodeVote (stands (given bytes)) (plan bytes a) (plan bytes b) t ≡ v
-Holds bytes (judged a v) = verdictOf (given bytes) (planIn (readPlan (given bytes) a)) ≡ v
-Holds bytes (blocked a b) = someBlocks (given bytes) (plan bytes a) ≡ b
-Holds bytes (cutTo t q) = cutT (given bytes) (begin (given bytes)) t ≡ q
+Holds bytes (strongOnes n) = Readable bytes [] × (strongCount (given bytes) ≡ n)
+Holds bytes (votes a b v) = Readable bytes (a ∷ b ∷ []) × (vote (given bytes) (plan bytes a) (plan bytes b) ≡ v)
+Holds bytes (standVotes t a b v) = Readable bytes (a ∷ b ∷ []) × (nodeVote (stands (given bytes)) (plan bytes a) (plan bytes b) t ≡ v)
+Holds bytes (judged a v) = Readable bytes (a ∷ []) × (verdictOf (given bytes) (planIn (readPlan (given bytes) a)) ≡ v)
+Holds bytes (blocked a b) = Readable bytes (a ∷ []) × (someBlocks (given bytes) (plan bytes a) ≡ b)
+Holds bytes (cutTo t q) = Readable bytes [] × (cutT (given bytes) (begin (given bytes)) t ≡ q)
 
 abbrev pub Each : {A : Type 0} → (A → Type 0) → List A → Type 0
 Each P [] = Unit {0}
@@ -169,4 +178,4 @@ P14 = record { bytes = 1 ∷ 9 ∷ []; claims = prints "refused 3 content\n" ∷
 
 pub cases : Each True (P1 ∷ P2 ∷ P3 ∷ P4 ∷ P5 ∷ P6 ∷ P7 ∷ P8 ∷ P9 ∷ P10 ∷ P11 ∷ P12 ∷ P13 ∷ P14 ∷ [])
 unfolding count low text groupOf listed listedBack bothOrNeither readEach readRoster position edgesOf instanceOf deg nodeVote vote choices within plansOf samePlan beats ties verdictOf strongPlans cut ahead arrow loose reserved betterS betterT worseReserved rule1 rule2 rule3 rule4 rule5 rule6 rule7 names lowest ruleOf edgeOf fateOf act next begin stepsFrom stateAfter stepsOf endOf planBytes edgeOfPair readPlan diaryOf leftOf candidateOf finderOf blocks someBlocks digits printed
-cases = ((refl, (refl, (refl, tt))), ((refl, (refl, tt)), ((refl, (refl, (refl, (refl, tt)))), ((refl, (refl, (refl, (refl, tt)))), ((refl, (refl, (refl, tt))), ((refl, (refl, (refl, (refl, (refl, tt))))), ((refl, (refl, tt)), ((refl, tt), ((refl, tt), ((refl, (refl, (refl, tt))), ((refl, (refl, tt)), ((refl, (refl, tt)), ((refl, tt), ((refl, tt), tt))))))))))))))
+cases = ((refl, ((refl, refl), ((refl, refl), tt))), ((refl, ((refl, refl), tt)), ((refl, ((refl, refl), ((refl, refl), ((refl, refl), tt)))), ((refl, ((refl, refl), ((refl, refl), ((refl, refl), tt)))), ((refl, ((refl, refl), ((refl, refl), tt))), ((refl, ((refl, refl), ((refl, refl), ((refl, refl), ((refl, refl), tt))))), (((refl, refl), ((refl, refl), tt)), (((refl, refl), tt), (((refl, refl), tt), ((refl, ((refl, refl), ((refl, refl), tt))), ((refl, ((refl, refl), tt)), ((refl, ((refl, refl), tt)), ((refl, tt), ((refl, tt), tt))))))))))))))

@@ -10,17 +10,16 @@ use Rattle.model.specs.Instance.{Instance}
 use Rattle.model.specs.Plans.{Plan, voteOf}
 use Rattle.model.specs.PlanFile.{readPlan}
 
--- "The winner is the plan whose vote against the other is above zero"
 pub data Winner : Type 0 where
   first : Winner
   second : Winner
   neither : Winner
 
--- a part of one of the two files: the file, where the part begins in it, and its bytes
 pub data File : Type 0 where
   firstFile : File
   secondFile : File
 
+-- a part of one of the two files: the file, where the part begins in it, and its bytes
 pub record Part : Type 0 where
   pub file : File
   pub from : ℕ
@@ -31,6 +30,7 @@ pub data Comparison : Type 0 where
   votes : ℤ → ℤ → Winner → Comparison
   refused : ℕ → Comparison
 
+-- "The winner is the plan whose vote against the other is above zero"; not both are, as they add to at most zero
 abbrev pub winnerOf : ℤ → ℤ → Winner
 winnerOf v w = cond (ltZ (pos 0) v) first (cond (ltZ (pos 0) w) second neither)
 
@@ -50,7 +50,7 @@ unfoldable pub comparisonOf : Instance → (firstBytes secondBytes : List ℕ) �
 comparisonOf G a b = firstJudged G (readPlan G a) b
 
 -- "the winner's pair bytes are handed back as a part of its own file"; "with no winner, and on a refusal, the part is empty, taken
--- from the first file". A file's pair bytes are all but its count byte.
+-- from the first file". A file's pair bytes are all but its count byte; the empty part is the one at the file's start.
 abbrev pub winnerPart : Winner → (firstBytes secondBytes : List ℕ) → Part
 winnerPart first a b = record { file = firstFile; from = 1; bytes = drop 1 a }
 winnerPart second a b = record { file = secondFile; from = 1; bytes = drop 1 b }

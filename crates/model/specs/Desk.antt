@@ -1,27 +1,28 @@
 -- The desk, document 01's session state, and each call on it: what it holds after a call, what the call answers, and every byte lent
--- to it. Which rival and which blocking pair are open; they are parameters here.
+-- to it. Which rival and which blocking pair are open; they are parameters here, and `Allowed` says what holds of them.
 use Prim.Native.Nat.{ℕ, suc}
-use mathlib.Core.Bool.{Bool, true, false, cond, _||_}
+use mathlib.Core.Bool.{Bool, true, false, not, cond, _&&_, _||_}
 use mathlib.Core.List.{List, [], _++_}
 use lib.ListN.{length, drop}
-use lib.Dec.{ltb}
+use lib.Dec.{T, eqb, ltb}
 use lib.IntN.{ℤ}
+use Rattle.lists.specs.Sum.{_∈_}
 use Rattle.model.specs.Limits.{planSize, rosterSize, diarySize, leftSize}
 use Rattle.model.specs.Refusal.{Group, groupOf}
 use Rattle.model.specs.Reading.{Reading, accepted, turned}
-use Rattle.model.specs.Roster.{Roster}
+use Rattle.model.specs.Roster.{Roster, fits}
 use Rattle.model.specs.RosterFile.{readRoster, writeRoster}
 use Rattle.model.specs.Edges.{instanceOf}
 use Rattle.model.specs.Instance.{Instance}
 use Rattle.model.specs.Plans as P
-use Rattle.model.specs.Plans.{Plan, Verdict, on, voteOf, verdictOf}
+use Rattle.model.specs.Plans.{Plan, Verdict, isStrong, on, within, plansOf, voteOf, verdictOf}
 use Rattle.model.specs.PlanFile.{pairList, planBytes, readPlan}
 use Rattle.model.specs.Reduction.{stepsOf}
 use Rattle.model.specs.Finder as F
-use Rattle.model.specs.Finder.{Record, diaryOf, Found, finderOf}
+use Rattle.model.specs.Finder.{Record, diaryOf, Rival, Found, finderOf}
 use Rattle.model.specs.Compare as C
 use Rattle.model.specs.Compare.{Comparison, Winner, Part, comparisonOf, partOf}
-use Rattle.model.specs.Blocking.{someBlocks}
+use Rattle.model.specs.Blocking.{blocks, someBlocks}
 
 -- "nothing loaded, a roster, or a roster and a plan"
 pub data Held : Type 0 where
@@ -29,7 +30,18 @@ pub data Held : Type 0 where
   roster : Roster → Held
   planned : Roster → Plan → Held
 
--- the calls, with the files and buffers lent to them
+-- a desk that is new
+abbrev pub opening : Held
+opening = nothing
+
+-- what a desk holds after calls from a new one on: a roster within the limits, a plan within its quotas (crate rosters, desk-sound)
+unfoldable pub sound : Held → Bool
+sound nothing = true
+sound (roster r) = fits r
+sound (planned r M) = fits r && (eqb (length M) (instanceOf r .m) && within (instanceOf r) (on M))
+
+-- the calls, with the files and buffers lent to them. The left pairs' buffer is bytes, two for each of its 1,024 entries; the finder's
+-- plan and its candidate share one buffer, as there is never more than one of them.
 pub data Call : Type 0 where
   loadRoster : (file : List ℕ) → Call
   loadPlan : (file : List ℕ) → Call
@@ -48,10 +60,10 @@ pub data NoneKind : Type 0 where
 pub data Answer : Type 0 where
   refused : ℕ → Group → Answer  -- "A refusal returns only its number and its group (a comparison also its empty part)"
   loaded : Answer
-  wrote : ℕ → Answer  -- so many bytes
+  wrote : ℕ → Answer  -- writing answers how many bytes: the house's own
   plan : (steps : ℕ) → Answer  -- the finder's, each with the number of steps
   none : (steps : ℕ) → NoneKind → Answer
-  strong : Answer  -- the verdict's, with the vote against the rival written
+  strong : Answer  -- the verdict's; the other two with the vote against the rival that is written
   popular : ℤ → Answer
   beaten : ℤ → Answer
   votes : ℤ → ℤ → Winner → Part → Answer  -- the comparison's
@@ -106,12 +118,8 @@ noPlan (roster r) = true
 noPlan (planned r M) = false
 
 -- 13, 14 or 15; 0 where the call meets none of them
-abbrev pub both : Bool → Bool → Bool
-both true b = b
-both false b = false
-
 unfoldable pub stateRefusal : Held → Call → ℕ
-stateRefusal h c = cond (both (needsRoster c) (noRoster h)) 13 (cond (both (needsPlan c) (noPlan h)) 14 (cond (lentShort c) 15 0))
+stateRefusal h c = cond (needsRoster c && noRoster h) 13 (cond (needsPlan c && noPlan h) 14 (cond (lentShort c) 15 0))
 
 -- what is written at a buffer's front; "Beyond what is written, buffers keep their bytes."
 abbrev pub onto : {A : Type 0} → List A → List A → List A
@@ -119,6 +127,11 @@ onto front buffer = front ++ drop (length front) buffer
 
 abbrev pub refusal : ℕ → Answer
 refusal n = refused n (groupOf n)
+
+-- "Only which rival and which blocking pair is open; what holds of them is said above."
+pub record Allowed (rivalOf : Instance → Plan → Plan) (blockingOf : Instance → Plan → ℕ) : Type 0 where
+  pub rival : (r : Roster) → T (fits r) → (M : Plan) → M ∈ plansOf (instanceOf r) → T (not (isStrong (verdictOf (instanceOf r) M))) → Rival (instanceOf r) M (rivalOf (instanceOf r) M)
+  pub blocking : (r : Roster) → T (fits r) → (M : Plan) → M ∈ plansOf (instanceOf r) → T (someBlocks (instanceOf r) (on M)) → T (blocks (instanceOf r) (on M) (blockingOf (instanceOf r) M))
 
 module _ (rivalOf : Instance → Plan → Plan) (blockingOf : Instance → Plan → ℕ) where
   -- the verdict's answer; the finder's; the comparison's; the blocking pair's
@@ -208,7 +221,8 @@ module _ (rivalOf : Instance → Plan → Plan) (blockingOf : Instance → Plan 
   unfoldable pub lentAfter : Held → Call → Call
   lentAfter h c = cond (ltb 0 (stateRefusal h c)) c (lentOn (rosterIn h) (planIn h) c)
 
--- "Loading a roster drops the plan"; "Finder, verdict, comparison, blocking and writing leave the desk alike"; a refusal too
+-- "Loading a roster drops the plan"; "Finder, verdict, comparison, blocking and writing leave the desk alike". A refused load leaves
+-- the desk as it was: the house's reading.
 abbrev pub withRoster : Held → Reading Roster → Held
 withRoster h (accepted r) = roster r
 withRoster h (turned n) = h

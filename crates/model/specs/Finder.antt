@@ -39,7 +39,8 @@ leftOf G = edgesIn (G .m) (endOf G .rem)
 unfoldable pub candidateOf : Instance → Plan
 candidateOf G = planOf (G .m) (endOf G .fixed)
 
--- what holds of a rival of M: a plan within the quotas other than M whose vote is below zero if M is beaten, zero if it is popular
+-- what holds of a rival of M that is not strong: a plan within the quotas other than M, against which M's vote is below zero if M is
+-- beaten, zero if it is popular
 pub record Rival (G : Instance) (M N : Plan) : Type 0 where
   pub within : N ∈ plansOf G
   pub other : T (not (samePlan M N))
@@ -60,7 +61,7 @@ abbrev pub isEmpty : List ℕ → Bool
 isEmpty [] = true
 isEmpty (x ∷ xs) = false
 
--- "If pairs remain when no rule acts, the answer is none, left, with those pairs. Otherwise the fixed pairs are the candidate: strong
+-- "If pairs remain when no rule acts, the answer is none, left, with those pairs, ascending as in a plan. Otherwise the fixed pairs are the candidate: strong
 -- gives the plan; else none, rivalled, with candidate, rival and the candidate's vote against it"
 unfoldable pub finderOf : Instance → (Plan → Plan) → Found
 finderOf G rivalOf = elim (isEmpty (leftOf G)) as (λ b. Found) [ true ↦ found G rivalOf (verdictOf G (candidateOf G)) | false ↦ left (leftOf G) ]

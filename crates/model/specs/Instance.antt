@@ -1,6 +1,6 @@
 -- A roster as votes and rules see it: edges (document 01's pairs) with their two ends, their ranks there and whether they are
 -- tied, and the quotas. Edges and nodes are numbers from 0; a set of edges is a test, of which only numbers below m count.
--- Nothing here or in what is built on it says that two edges differ in an end.
+-- Two edges may have the same two ends: votes, plans and rules never ask otherwise (plan files do, PlanFile.antt).
 use Prim.Native.Nat.{ℕ}
 use mathlib.Core.Bool.{Bool, false, _&&_}
 use lib.Dec.{eqb}

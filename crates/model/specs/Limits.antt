@@ -1,4 +1,4 @@
--- The limits and sizes of document 01, each under a name of its own. Later requests change some of them and not others.
+-- The limits and sizes of document 01, each under a name of its own, also where two are equal: they are about different things.
 use Prim.Native.Nat.{ℕ}
 
 -- "a count byte 0 to 32"

@@ -1,4 +1,5 @@
--- Plan bytes, read against an instance and written: "a count byte 0 to 64, then two bytes a pair (surveyor, stand), ascending by
+-- Plan bytes, read against the instance of a roster, whose edges differ in their pairs and are numbered in the pairs' order, and
+-- written: "a count byte 0 to 64, then two bytes a pair (surveyor, stand), ascending by
 -- surveyor, then by stand. Every pair is in the roster and no quota is passed."
 use Prim.Native.Nat.{ℕ, suc}
 use mathlib.Core.Bool.{Bool, cond, _&&_, _||_}
@@ -47,7 +48,7 @@ pub record Pairs : Type 0 where
   pub seen : List ℕ
   pub from : ℕ
 
--- "10 a plan pair not in the roster; 11 plan pairs not strictly ascending; 12 a pair that takes a node past its quota"
+-- "10 a plan pair not in the roster", "11 plan pairs not strictly ascending", "12 a pair that takes a node past its quota"
 abbrev pub pairCheck : Instance → Pairs → ℕ × ℕ → ℕ
 pairCheck G s p = cond (leb (G .m) (edgeOfPair G p)) 10 (cond (ltb (edgeOfPair G p) (s .from)) 11
     (cond (full (surveyors G) (s .seen) (edgeOfPair G p) || full (stands G) (s .seen) (edgeOfPair G p)) 12 0))

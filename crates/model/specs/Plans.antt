@@ -1,8 +1,8 @@
--- All plans within the quotas, and the verdict on a plan: sections "Plan bytes" and "Verdict" of document 01.
+-- All plans within the quotas, and the verdict on a plan: section "Verdict" of document 01.
 use Prim.Native.Nat.{ℕ, zero, suc}
 use mathlib.Core.Bool.{Bool, true, false, not, cond, _&&_}
 use mathlib.Core.List.{List, [], _∷_, _++_, map}
-use lib.ListN.{getD}
+use lib.ListN.{length, getD}
 use lib.Dec.{leb}
 use lib.IntN.{ℤ, pos}
 use lib.Signed.{leZ, ltZ}
@@ -11,7 +11,8 @@ use Rattle.lists.specs.Keep.{keep, all?, any?}
 use Rattle.model.specs.Instance.{Instance, Side, surveyors, stands, deg}
 use Rattle.model.specs.Vote.{vote}
 
--- A plan: for each edge in order, whether it is in it. "Plans with the same pairs are one plan."
+-- A plan: for each of the m edges in order, whether it is in it. "Plans with the same pairs are one plan": all plans that are read,
+-- listed or found here have length m.
 abbrev pub Plan : Type 0
 Plan = List Bool
 
@@ -52,7 +53,7 @@ pub data Verdict : Type 0 where
 abbrev pub voteOf : Instance → Plan → Plan → ℤ
 voteOf G M N = vote G (on M) (on N)
 
--- a plan within the quotas against which the vote is below zero; another one against which it is zero
+-- the vote of M against N is below zero; N is another plan and it is zero
 unfoldable pub beats : Instance → Plan → Plan → Bool
 beats G M N = ltZ (voteOf G M N) (pos 0)
 
@@ -72,3 +73,6 @@ isStrong beaten = false
 -- "the count of demand 3 is the number of strongly popular ones among them"
 unfoldable pub strongPlans : Instance → List Plan
 strongPlans G = keep (λ M. isStrong (verdictOf G M)) (plansOf G)
+
+abbrev pub strongCount : Instance → ℕ
+strongCount G = length (strongPlans G)

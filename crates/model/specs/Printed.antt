@@ -24,6 +24,7 @@ unfoldable pub digits : (places : ℕ) → ℕ → List ℕ
 digits zero n = []
 digits (suc k) n = elim (ltb n 10) as (λ b. List ℕ) [ true ↦ (48 + n) ∷ [] | false ↦ digits k (n / 10) ++ (48 + n % 10) ∷ [] ]
 
+-- what is printed is at most 1,024, a count of pairs, so four digits hold it
 abbrev pub number : ℕ → List ℕ
 number n = digits 4 n
 
@@ -71,7 +72,7 @@ groupWord content = text "content"
 groupWord plan = text "plan"
 groupWord desk = text "desk"
 
--- "they come before every ending but a refusal"; "refused N GROUP alone"
+-- "they come before every ending but a refusal"; "refused N GROUP" stands alone
 abbrev pub answerText : Reading Roster → (Instance → Plan → Plan) → List ℕ
 answerText (accepted r) rivalOf = gather diaryLine (diaryOf (instanceOf r)) ++ ending (instanceOf r) (finderOf (instanceOf r) (rivalOf (instanceOf r)))
 answerText (turned n) rivalOf = line (text "refused" ∷ number n ∷ groupWord (groupOf n) ∷ [])

@@ -51,7 +51,7 @@ totalS ls = sum length ls
 abbrev pub totalT : List Ranking → ℕ
 totalT ts = sum (λ R. length (entries R)) ts
 
--- "it stands in both lists or in neither", for the pair of surveyor i and stand j
+-- the pair of surveyor i and stand j, as the surveyor's list has it, as the stand's has it
 unfoldable pub listed : Roster → ℕ → ℕ → Bool
 listed r i j = elem (suc j) (listS r i)
 
@@ -62,6 +62,7 @@ abbrev pub alike : Bool → Bool → Bool
 alike true b = b
 alike false b = not b
 
+-- "A pair is a surveyor and a stand; it stands in both lists or in neither."
 unfoldable pub bothOrNeither : Roster → Bool
 bothOrNeither r = all? (λ i. all? (λ j. alike (listed r i j) (listedBack r i j)) (upTo (standCount r))) (upTo (surveyorCount r))
 
@@ -69,7 +70,7 @@ bothOrNeither r = all? (λ i. all? (λ j. alike (listed r i j) (listedBack r i j
 abbrev pub quotasFit : List ℕ → Bool
 quotasFit qs = leb (length qs) nodeLimit && (all? (λ q. leb q quotaLimit) qs && leb (sum (λ q. q) qs) quotaSumLimit)
 
--- no entry twice, none out of range
+-- no entry twice
 abbrev pub distinct : List ℕ → Bool
 distinct [] = true
 distinct (x ∷ xs) = not (elem x xs) && distinct xs
@@ -79,6 +80,7 @@ abbrev pub ascending : ℕ → List ℕ → Bool
 ascending last [] = true
 ascending last (x ∷ xs) = ltb last x && ascending x xs
 
+-- "A list is no longer than the other side's count", no entry out of range, none twice
 abbrev pub listFits : ℕ → List ℕ → Bool
 listFits count xs = leb (length xs) count && (all? (λ x. not (outside count x)) xs && distinct xs)
 

@@ -1,5 +1,5 @@
--- Roster bytes read and written: section "Roster bytes" of document 01, and refusals 1 to 9 in its order, "Files are checked left
--- to right, each field in the order 1 to 6; 7 after its section, then 9, then 8".
+-- Roster bytes read and written: section "Roster bytes" of document 01, and refusals 1 to 9 in its order: "Files are checked left
+-- to right, each field in the order 1 to 6 (..); 7 after its section, then 9, then 8."
 use Prim.Native.Nat.{ℕ, _+_, _*_, _/_, _%_}
 use mathlib.Core.Bool.{not, cond, _||_}
 use mathlib.Core.List.{List, [], _∷_, _++_}
@@ -36,8 +36,8 @@ entryCheck other seen x = cond (outside other x) 4 (cond (elem x seen) 5 0)
 abbrev pub readEntries : (other : ℕ) → ℕ → List ℕ → Read (List ℕ)
 readEntries other n bs = readEach byte (entryCheck other) (λ seen x. seen ++ x ∷ []) n [] bs
 
--- a tie goes on in the same list, behind its strict entries, and must also ascend: "6 a tie that does not ascend". Each tied entry is
--- above the one before it, the first above 0, that is, above none.
+-- a tie goes on in the same list, behind its strict entries, which count as seen, and must also ascend: "6 a tie that does not
+-- ascend". Each tied entry is above the one before it, the first above 0, that is, above none.
 pub record Tie : Type 0 where
   pub seen : List ℕ
   pub last : ℕ

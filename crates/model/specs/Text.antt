@@ -1,4 +1,4 @@
--- Text as bytes.
+-- Text as bytes: the words that are printed are plain letters, a byte each.
 use Prim.Native.Nat.{ℕ}
 use Prim.Native.Char.{code}
 use Prim.Native.String.{String, [], _∷_}

@@ -209,7 +209,7 @@ module _ (G : Instance) where
       each-once (e ∷ es) b = omega (arith, once e (b .0), each-once es (b .1))
 
   -- what stands in `plansOf`
-  plan-in : (M : Plan) → M ∈ plansOf G → (length M ≡ G .m) × T (withinSide (surveyors G) (on M)) × T (withinSide (stands G) (on M))
+  pub plan-in : (M : Plan) → M ∈ plansOf G → (length M ≡ G .m) × T (withinSide (surveyors G) (on M)) × T (withinSide (stands G) (on M))
   unfolding plansOf within
   plan-in M m = given (∈-keep (λ N. within G (on N)) (choices (G .m)) m) (λ (c, t).
       (choice-length (G .m) M c, and-l (withinSide (surveyors G) (on M)) (withinSide (stands G) (on M)) t, and-r (withinSide (surveyors G) (on M)) (withinSide (stands G) (on M)) t))
