@@ -1,0 +1,192 @@
+//! Rosters for speed: one pass over the bytes, a bit mask for each list.
+
+use crate::limits::{MAX_ENTRIES, MAX_NODES, MAX_QUOTA, MAX_QUOTA_SUM};
+
+/// A roster as arrays: its pairs ascending, and the stated quotas. Nodes are
+/// counted from 0.
+#[derive(Clone, Debug)]
+pub struct Instance {
+    pub pairs: usize,
+    pub surveyors: usize,
+    pub stands: usize,
+    pub surveyor: [u8; MAX_ENTRIES],
+    pub stand: [u8; MAX_ENTRIES],
+    /// Ranks from 1 at the surveyor and at the stand.
+    pub rank_s: [u8; MAX_ENTRIES],
+    pub rank_t: [u8; MAX_ENTRIES],
+    pub tied: [bool; MAX_ENTRIES],
+    pub quota_s: [u8; MAX_NODES],
+    pub quota_t: [u8; MAX_NODES],
+    /// The stands that each surveyor lists, as bits, and the surveyor's first
+    /// pair.
+    pub listed: [u32; MAX_NODES],
+    pub first: [u16; MAX_NODES],
+}
+
+/// The lists of one side: for each node the entries as bits, and each entry's
+/// rank.
+struct Lists {
+    listed: [u32; MAX_NODES],
+    rank: [[u8; MAX_NODES]; MAX_NODES],
+    tied: [u32; MAX_NODES],
+}
+
+struct Cursor<'a> {
+    file: &'a [u8],
+    at: usize,
+}
+
+impl Cursor<'_> {
+    #[inline]
+    fn byte(&mut self) -> Result<u8, u8> {
+        let byte = *self.file.get(self.at).ok_or(1)?;
+        self.at += 1;
+        Ok(byte)
+    }
+
+    fn wide(&mut self) -> Result<usize, u8> {
+        let bytes = self.file.get(self.at..self.at + 2).ok_or(1)?;
+        self.at += 2;
+        Ok(usize::from(bytes[0]) + 256 * usize::from(bytes[1]))
+    }
+}
+
+/// Reads a roster, or gives the number of its refusal.
+pub fn read(file: &[u8]) -> Result<Instance, u8> {
+    let mut cursor = Cursor { file, at: 0 };
+    let (surveyors, quota_s) = quotas(&mut cursor)?;
+    let (stands, quota_t) = quotas(&mut cursor)?;
+    let by_surveyor = lists(&mut cursor, surveyors, stands, false)?;
+    let by_stand = lists(&mut cursor, stands, surveyors, true)?;
+    if cursor.at < file.len() {
+        return Err(9);
+    }
+    if !mirrored(&by_surveyor.listed, &by_stand.listed) {
+        return Err(8);
+    }
+    let mut instance = Instance {
+        pairs: 0,
+        surveyors,
+        stands,
+        surveyor: [0; MAX_ENTRIES],
+        stand: [0; MAX_ENTRIES],
+        rank_s: [0; MAX_ENTRIES],
+        rank_t: [0; MAX_ENTRIES],
+        tied: [false; MAX_ENTRIES],
+        quota_s,
+        quota_t,
+        listed: by_surveyor.listed,
+        first: [0; MAX_NODES],
+    };
+    fill(&mut instance, &by_surveyor, &by_stand);
+    Ok(instance)
+}
+
+fn quotas(cursor: &mut Cursor) -> Result<(usize, [u8; MAX_NODES]), u8> {
+    let count = usize::from(cursor.byte()?);
+    if count > MAX_NODES {
+        return Err(2);
+    }
+    let mut quotas = [0; MAX_NODES];
+    let mut sum = 0;
+    for quota in &mut quotas[..count] {
+        *quota = cursor.byte()?;
+        sum += usize::from(*quota);
+        if *quota > MAX_QUOTA || sum > MAX_QUOTA_SUM {
+            return Err(3);
+        }
+    }
+    Ok((count, quotas))
+}
+
+fn lists(cursor: &mut Cursor, nodes: usize, others: usize, ties: bool) -> Result<Lists, u8> {
+    let stated = cursor.wide()?;
+    if stated > MAX_ENTRIES {
+        return Err(2);
+    }
+    let mut lists = Lists {
+        listed: [0; MAX_NODES],
+        rank: [[0; MAX_NODES]; MAX_NODES],
+        tied: [0; MAX_NODES],
+    };
+    let mut total = 0;
+    for node in 0..nodes {
+        let strict = usize::from(cursor.byte()?);
+        let tied = if ties { usize::from(cursor.byte()?) } else { 0 };
+        if strict + tied > others {
+            return Err(2);
+        }
+        total += strict + tied;
+        list(cursor, &mut lists, node, others, strict, tied)?;
+    }
+    if total == stated {
+        Ok(lists)
+    } else {
+        Err(7)
+    }
+}
+
+fn list(
+    cursor: &mut Cursor,
+    lists: &mut Lists,
+    node: usize,
+    others: usize,
+    strict: usize,
+    tied: usize,
+) -> Result<(), u8> {
+    let mut seen = 0u32;
+    let mut last = 0;
+    for place in 0..strict + tied {
+        let entry = cursor.byte()?;
+        if entry == 0 || usize::from(entry) > others {
+            return Err(4);
+        }
+        let bit = 1 << (entry - 1);
+        if seen & bit != 0 {
+            return Err(5);
+        }
+        if place >= strict {
+            if entry <= last {
+                return Err(6);
+            }
+            last = entry;
+            lists.tied[node] |= bit;
+        }
+        seen |= bit;
+        lists.rank[node][usize::from(entry) - 1] = place.min(strict) as u8 + 1;
+    }
+    lists.listed[node] = seen;
+    Ok(())
+}
+
+/// Whether the two sides list the same pairs.
+fn mirrored(by_surveyor: &[u32; MAX_NODES], by_stand: &[u32; MAX_NODES]) -> bool {
+    let mut turned = [0u32; MAX_NODES];
+    for (stand, &listed) in by_stand.iter().enumerate() {
+        let mut rest = listed;
+        while rest != 0 {
+            turned[rest.trailing_zeros() as usize] |= 1 << stand;
+            rest &= rest - 1;
+        }
+    }
+    turned == *by_surveyor
+}
+
+fn fill(instance: &mut Instance, by_surveyor: &Lists, by_stand: &Lists) {
+    let mut pair = 0;
+    for surveyor in 0..instance.surveyors {
+        instance.first[surveyor] = pair as u16;
+        let mut rest = by_surveyor.listed[surveyor];
+        while rest != 0 {
+            let stand = rest.trailing_zeros() as usize;
+            instance.surveyor[pair] = surveyor as u8;
+            instance.stand[pair] = stand as u8;
+            instance.rank_s[pair] = by_surveyor.rank[surveyor][stand];
+            instance.rank_t[pair] = by_stand.rank[stand][surveyor];
+            instance.tied[pair] = by_stand.tied[stand] >> surveyor & 1 == 1;
+            pair += 1;
+            rest &= rest - 1;
+        }
+    }
+    instance.pairs = pair;
+}

@@ -1,0 +1,143 @@
+//! The fast reading against the plain one: files byte for byte, votes against
+//! trying all pairings.
+
+mod common;
+
+use reference::fast;
+use reference::plan::{self, Plan};
+use reference::random::{self, Random, Shape};
+use reference::roster::{self, Roster};
+use reference::votes;
+
+fn shape(nodes: u8, quota: u8) -> Shape {
+    Shape {
+        counts: [1..=nodes, 1..=nodes],
+        quotas: [0..=quota, 0..=quota],
+        pairs: 70,
+        ties: 50,
+        opposed: 30,
+    }
+}
+
+/// The fast reading's refusal of a roster, 0 if it is accepted.
+fn refusal(file: &[u8]) -> u8 {
+    fast::roster::read(file).err().unwrap_or(0)
+}
+
+/// One damage: a byte changed, dropped, doubled, or two swapped.
+fn damage(random: &mut Random, file: &mut Vec<u8>) {
+    let at = random.below(file.len());
+    match random.below(5) {
+        0 => file[at] = random.below(80) as u8,
+        1 => drop(file.remove(at)),
+        2 => file.insert(at, file[at]),
+        3 => file.truncate(at),
+        _ => {
+            let other = random.below(file.len());
+            file.swap(at, other);
+        }
+    }
+}
+
+#[test]
+fn rosters_are_read_alike() {
+    let mut random = Random::new(41);
+    let mut met = [0usize; 13];
+    for _ in 0..200_000 {
+        let mut file = roster::write(&random::roster(&mut random, &shape(5, 8)));
+        if random.chance(85) {
+            damage(&mut random, &mut file);
+        }
+        let plain = roster::read(&file).map_or_else(|refusal| refusal.number(), |_| 0);
+        assert_eq!(refusal(&file), plain, "{file:?}");
+        met[usize::from(plain)] += 1;
+    }
+    println!("accepted and refusals met: {met:?}");
+    assert!(met[..10].iter().all(|&count| count > 100));
+}
+
+#[test]
+fn instances_show_the_pairs() {
+    let mut random = Random::new(42);
+    for _ in 0..20_000 {
+        let roster = random::roster(&mut random, &shape(6, 3));
+        let instance = fast::roster::read(&roster::write(&roster)).expect("accepted");
+        assert_eq!(instance.pairs, roster.pairs().len());
+        for (place, pair) in roster.pairs().iter().enumerate() {
+            let ends = (instance.surveyor[place] + 1, instance.stand[place] + 1);
+            assert_eq!(ends, (pair.surveyor, pair.stand));
+            let stand = roster.node(roster::Side::Stands, pair.stand);
+            let surveyor = roster.node(roster::Side::Surveyors, pair.surveyor);
+            assert_eq!(
+                instance.rank_s[place],
+                votes::rank(&surveyor.list, Some(pair.stand))
+            );
+            assert_eq!(
+                instance.rank_t[place],
+                votes::rank(&stand.list, Some(pair.surveyor))
+            );
+            assert_eq!(
+                instance.tied[place],
+                stand.list.tied.contains(&pair.surveyor)
+            );
+        }
+    }
+}
+
+#[test]
+fn plans_are_read_and_written_alike() {
+    let mut random = Random::new(43);
+    let mut met = [0usize; 13];
+    for _ in 0..200_000 {
+        let roster = random::roster(&mut random, &shape(5, 2));
+        let instance = fast::roster::read(&roster::write(&roster)).expect("accepted");
+        let mut file = plan::write(&roster, &random::plan(&mut random, &roster, 80));
+        if random.chance(85) {
+            damage(&mut random, &mut file);
+        }
+        match (
+            plan::read(&roster, &file),
+            fast::plan::read(&instance, &file),
+        ) {
+            (Ok(plan), Ok(chosen)) => {
+                let pairs = chosen.as_slice().iter().map(|&pair| usize::from(pair));
+                assert_eq!(pairs.collect::<Plan>(), plan);
+                let mut out = [77; 129];
+                let length = fast::plan::write(&instance, &chosen, &mut out);
+                assert_eq!(out[..length], file);
+                met[0] += 1;
+            }
+            (Err(plain), Err(fast)) => {
+                assert_eq!(plain.number(), fast, "{file:?}");
+                met[usize::from(fast)] += 1;
+            }
+            (plain, fast) => panic!("{plain:?} {fast:?} {file:?}"),
+        }
+    }
+    println!("accepted and refusals met: {met:?}");
+    assert!([0, 1, 2, 9, 10, 11, 12].iter().all(|&n| met[n] > 100));
+}
+
+fn chosen(roster: &Roster, plan: &Plan) -> fast::plan::Chosen {
+    let instance = fast::roster::read(&roster::write(roster)).expect("accepted");
+    fast::plan::read(&instance, &plan::write(roster, plan)).expect("accepted")
+}
+
+#[test]
+fn votes_are_those_of_all_pairings() {
+    let mut random = Random::new(44);
+    let mut less = 0;
+    for _ in 0..60_000 {
+        let roster = random::roster(&mut random, &shape(6, 5));
+        let instance = fast::roster::read(&roster::write(&roster)).expect("accepted");
+        let [mine, theirs] = [(); 2].map(|()| random::plan(&mut random, &roster, 90));
+        let [fast_mine, fast_theirs] = [&mine, &theirs].map(|plan| chosen(&roster, plan));
+        let forth = fast::vote::vote(&instance, &fast_mine, &fast_theirs);
+        let back = fast::vote::vote(&instance, &fast_theirs, &fast_mine);
+        assert_eq!(forth, votes::plan_vote(&roster, &mine, &theirs));
+        assert!(forth + back <= 0);
+        less += usize::from(forth + back < 0);
+    }
+    println!("the two votes added to less than zero {less} times");
+    assert!(less > 1_000);
+}
