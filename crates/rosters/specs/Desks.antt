@@ -10,13 +10,13 @@ use Rattle.model.specs.Reading.{Reading, accepted, turned}
 use Rattle.model.specs.Roster.{Roster, fits}
 use Rattle.model.specs.RosterFile.{readRoster}
 use Rattle.model.specs.Edges.{instanceOf}
-use Rattle.model.specs.Instance.{surveyors, stands}
-use Rattle.model.specs.Plans.{Plan, on, withinSide, within}
+use Rattle.model.specs.Plans.{Plan, on, within}
 use Rattle.model.specs.PlanFile.{readPlan}
 use Rattle.model.specs.Desk.{Held, nothing, roster, planned, sound, Call, loadRoster, loadPlan, writeRosterTo, writePlanTo, find, judge, compare, blocking, withRoster, withPlan, deskAfter}
 use Rattle.formats.specs.Reads.{isBytes}
 use Rattle.formats.specs.Rosters.{read-fits}
-use Rattle.rosters.specs.PlanFiles.{plan-in, plan-read-within}
+use Rattle.rosters.specs.Matchings.{plan-is}
+use Rattle.rosters.specs.PlanFiles.{plan-read-within}
 
 -- what is lent as a file is bytes
 abbrev pub lendsBytes : Call → Bool
@@ -40,14 +40,13 @@ roster-sound h file t s = go (readRoster file) refl
 
 -- a plan that is read against a roster within the limits
 plan-sound : (h : Held) (r : Roster) (file : List ℕ) → T (isBytes file) → T (fits r) → T (sound h) → T (sound (withPlan h r (readPlan (instanceOf r) file)))
-unfolding sound within
+unfolding sound
 plan-sound h r file t f s = go (readPlan (instanceOf r) file) refl
   where
     go : (x : Reading Plan) → readPlan (instanceOf r) file ≡ x → T (sound (withPlan h r x))
-    go (accepted M) e = given (plan-in (instanceOf r) M (plan-read-within (instanceOf r) file M t e)) (λ (l, a, b).
+    go (accepted M) e = given (plan-is (instanceOf r) M (plan-read-within (instanceOf r) file M t e)) (λ (l, w).
         and-i (fits r) (eqb (length M) (instanceOf r .m) && within (instanceOf r) (on M)) f
-        (and-i (eqb (length M) (instanceOf r .m)) (within (instanceOf r) (on M)) (eq→eqb (length M) (instanceOf r .m) l)
-        (and-i (withinSide (surveyors (instanceOf r)) (on M)) (withinSide (stands (instanceOf r)) (on M)) a b)))
+        (and-i (eqb (length M) (instanceOf r .m)) (within (instanceOf r) (on M)) (eq→eqb (length M) (instanceOf r .m) l) w))
     go (turned n) e = s
 
 pub desk-sound : (h : Held) (c : Call) → T (lendsBytes c) → T (sound h) → T (sound (deskAfter h c))

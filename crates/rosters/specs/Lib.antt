@@ -1,6 +1,7 @@
 pub mod Position
 pub mod Ascending
 pub mod Chosen
+pub mod Matchings
 pub mod PlanFiles
 pub mod Laws
 pub mod Desks
