@@ -5,7 +5,9 @@ mod common;
 
 use reference::fast;
 use reference::plan::{self, Plan};
+use reference::plans;
 use reference::random::{self, Random, Shape};
+use reference::reduction;
 use reference::roster::{self, Roster};
 use reference::votes;
 
@@ -140,4 +142,71 @@ fn votes_are_those_of_all_pairings() {
     }
     println!("the two votes added to less than zero {less} times");
     assert!(less > 1_000);
+}
+
+#[test]
+fn steps_are_those_of_the_rules() {
+    let mut random = Random::new(45);
+    let mut rules = [0usize; 8];
+    for turn in 0..60_000 {
+        let shape = Shape {
+            counts: [3..=6, 2..=if turn % 3 == 0 { 7 } else { 4 }],
+            quotas: [1..=2, 1..=3],
+            pairs: 90,
+            ties: 70,
+            opposed: 95,
+        };
+        let roster = random::roster(&mut random, &shape);
+        let instance = fast::roster::read(&roster::write(&roster)).expect("accepted");
+        let plain = reduction::reduce(&roster);
+        let fast = fast::reduction::reduce(&instance);
+        assert_eq!(fast.steps.len(), plain.diary.len());
+        for (step, record) in fast.steps.iter().zip(&plain.diary) {
+            let pair = roster.pairs()[record.pair];
+            assert_eq!(
+                (step.surveyor + 1, step.stand + 1),
+                (pair.surveyor, pair.stand)
+            );
+            assert_eq!(step.rule, record.rule);
+            rules[usize::from(step.rule)] += 1;
+        }
+    }
+    println!("how often each rule acted: {rules:?}");
+    assert!(rules[1..].iter().all(|&count| count > 1_000));
+}
+
+#[test]
+fn verdicts_are_those_of_all_votes() {
+    let mut random = Random::new(46);
+    let mut met = [0usize; 3];
+    for _ in 0..20_000 {
+        let mut shape = shape(4, 2);
+        shape.pairs = 55;
+        let roster = random::roster(&mut random, &shape);
+        if roster.pairs().len() > 9 {
+            continue;
+        }
+        let instance = fast::roster::read(&roster::write(&roster)).expect("accepted");
+        for plan in plans::all_plans(&roster) {
+            if random.chance(70) {
+                continue;
+            }
+            let least = fast::verdict::least(&instance, &chosen(&roster, &plan));
+            let verdict = plans::verdict(&roster, &plan);
+            let plain = match verdict {
+                plans::Verdict::Beaten(_) => -1,
+                plans::Verdict::Popular(_) => 0,
+                plans::Verdict::Strong => 1,
+            };
+            assert_eq!(
+                least.signum(),
+                plain,
+                "{:?} {plan:?}",
+                roster::write(&roster)
+            );
+            met[(plain + 1) as usize] += 1;
+        }
+    }
+    println!("beaten, popular, strong: {met:?}");
+    assert!(met.iter().all(|&count| count > 300));
 }

@@ -6,5 +6,7 @@
 //! Refusals are bare numbers here, 0 for none.
 
 pub mod plan;
+pub mod reduction;
 pub mod roster;
+pub mod verdict;
 pub mod vote;
