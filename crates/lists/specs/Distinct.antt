@@ -6,15 +6,11 @@ use mathlib.Core.Logic.{_≢_}
 use mathlib.Core.List.{List, [], _∷_, List·Memᴰ·head, List·Memᴰ·tail, List·Memᴰ·not-nil, Memᴰ·cast}
 use lib.ListN.{length}
 use Rattle.lists.specs.Sum.{_∈_, upTo, upTo-length, upTo-∈}
-use Rattle.lists.specs.Keep.{remove}
+use Rattle.lists.specs.Keep.{remove, remove-length}
 
 abbrev pub Nodup : List ℕ → Type 0
 Nodup [] = Unit {0}
 Nodup (x ∷ xs) = (x ∈ xs → ⊥) × Nodup xs
-
-remove-length : {a : ℕ} {xs : List ℕ} (m : a ∈ xs) → suc (length (remove m)) ≡ length xs
-remove-length (List·Memᴰ·head e) = refl
-remove-length (List·Memᴰ·tail m) = ap suc (remove-length m)
 
 remove-other : {a b : ℕ} {xs : List ℕ} (m : a ∈ xs) → b ∈ xs → b ≢ a → b ∈ remove m
 remove-other (List·Memᴰ·head e) (List·Memᴰ·head d) n = absurd (n (d ∙ sym e))
