@@ -4,3 +4,7 @@ pub mod Left
 pub mod Follow
 pub mod Cutting
 pub mod Table
+pub mod Cells
+pub mod Levels
+pub mod Stop
+pub mod Verdict

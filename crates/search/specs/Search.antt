@@ -59,6 +59,7 @@ endPrice rank z lose = 3
 endPrice rank z (gain f) = rate (rank z) (rank f)
 
 module _ (G : Instance) where
+  -- of an arc x → z by f
   abbrev pub price : ℕ → ℕ → ℕ → ℕ
   price x f z = rate (G .rankT x) (G .rankT f) + rate (G .rankS z) (G .rankS f)
 
@@ -66,12 +67,23 @@ module _ (G : Instance) where
   abbrev pub tipPrice : ℕ → ℕ → Way × Way → ℕ
   tipPrice x y p = endPrice (G .rankS) x (p .0) + endPrice (G .rankT) y (p .1)
 
-  -- no node both gains and loses
+  -- ---- tests: f is an arc x → z; at the two ends no node both gains and loses
+  abbrev pub links? : ℕ → ℕ → ℕ → Bool
+  links? x z f = eqb (G .st f) (G .st x) && eqb (G .sv f) (G .sv z)
+
   abbrev pub apart? : ℕ → ℕ → Way × Way → Bool
   apart? x y (lose, lose) = true
   apart? x y (lose, gain g) = not (eqb (G .sv g) (G .sv x))
   apart? x y (gain f, lose) = not (eqb (G .st f) (G .st y))
   apart? x y (gain f, gain g) = true
+
+module _ (M : ℕ → Bool) where
+  -- the node of f on side K is not full; f may come in place of z on side K, gained on side J
+  abbrev pub room? : Side → ℕ → Bool
+  room? K f = ltb (deg K M (K .end f)) (K .quota (K .end f))
+
+  abbrev pub joins? : Side → Side → ℕ → ℕ → Bool
+  joins? K J z f = eqb (K .end f) (K .end z) && room? J f
 
 module _ (G : Instance) (M : ℕ → Bool) where
   -- ---- edges, in the order in which a loop meets them: those of M, and those outside that pass a test
@@ -81,16 +93,9 @@ module _ (G : Instance) (M : ℕ → Bool) where
   abbrev pub news : (ℕ → Bool) → List ℕ
   news p = keep (λ f. not (M f) && p f) (range 0 (G .m))
 
-  abbrev pub room? : Side → ℕ → Bool
-  room? K f = ltb (deg K M (K .end f)) (K .quota (K .end f))
-
   -- ---- the table of the ends: the least price of a start at x with an end at y, and these two
-  -- the edges that may come in place of z on side K, gained on side J
-  abbrev pub joins? : Side → Side → ℕ → ℕ → Bool
-  joins? K J z f = eqb (K .end f) (K .end z) && room? J f
-
   abbrev pub ways : Side → Side → ℕ → List Way
-  ways K J z = lose ∷ map gain (news (joins? K J z))
+  ways K J z = lose ∷ map gain (news (joins? M K J z))
 
   abbrev pub tipsAt : ℕ → ℕ → List (Way × Way)
   tipsAt x y = keep (apart? G x y) (product (ways (surveyors G) (stands G) x) (ways (stands G) (surveyors G) y))
@@ -100,11 +105,8 @@ module _ (G : Instance) (M : ℕ → Bool) where
 
   module _ (lid : ℕ) where
     -- ---- the table of the arcs: the least price of an arc x → z, and its edge
-    abbrev pub links? : ℕ → ℕ → ℕ → Bool
-    links? x z f = eqb (G .st f) (G .st x) && eqb (G .sv f) (G .sv z)
-
     unfoldable pub arc : ℕ → ℕ → ℕ × ℕ
-    arc x z = best (λ f. (price G x f z, f)) (lid, 0) (news (links? x z))
+    arc x z = best (λ f. (price G x f z, f)) (lid, 0) (news (links? G x z))
 
     -- ---- layer n: the least price of a walk of 1 to n + 1 arcs from x to z, counted as if it had n + 1, and how it leads off: the walk
     -- of the layer before, which now has an arc fewer, or an arc to some y and the layer before from there
@@ -125,7 +127,7 @@ module _ (G : Instance) (M : ℕ → Bool) where
   asWhole x y w = whole (tip x y .1 .0) x w y (tip x y .1 .1)
 
   unfoldable pub directs : Option Hit
-  directs = first (λ f. not (M f) && (room? (surveyors G) f && room? (stands G) f)) direct (range 0 (G .m))
+  directs = first (λ f. not (M f) && (room? M (surveyors G) f && room? M (stands G) f)) direct (range 0 (G .m))
 
   module _ (lid k : ℕ) where
     -- wholes without an arc
