@@ -3,11 +3,11 @@ use Prim.Native.Nat.{ℕ, zero, suc, _+_, _<_}
 use native.Mathlib.Omega.{arith}
 use native.Mathlib.Nat.{not-suc-le-zero, le-of-suc-le-suc}
 use mathlib.Core.Path.{_≡_, refl, sym, ap, _∙_, subst}
-use mathlib.Core.Logic.{_⊎_, inl, inr}
+use mathlib.Core.Logic.{_⊎_, inl, inr, ⊎-elim}
 use mathlib.Core.Bool.{Bool, true, false, not, cond, _&&_, _||_}
 use mathlib.Core.List.{List, [], _∷_, _++_, map, List·Memᴰ·head, List·Memᴰ·tail, List·Memᴰ·not-nil, List·Memᴰ·append-cases, Memᴰ·append-left, Memᴰ·append-right, Memᴰ·map, Memᴰ·of-map}
 use lib.ListN.{length, getD}
-use lib.Dec.{T}
+use lib.Dec.{T, T-not}
 use Rattle.lists.specs.Test.{true-T, and-l, and-r, and-i, bit, bit-pk, pk}
 use Rattle.lists.specs.Sum.{_∈_, sum, sum-add, sum-cong, sum-append, sum-length}
 
@@ -152,6 +152,12 @@ module _ {A : Type 0} where
       go true e ih = inl (tt, (x, List·Memᴰ·head refl, true-T e))
       go false e (inl (t, (y, m, q))) = inl (t, (y, List·Memᴰ·tail m, q))
       go false e (inr (t, h)) = inr (t, none e h)
+
+  pub any-∈ : (p : A → Bool) (xs : List A) → T (any? p xs) → (x : A) × (x ∈ xs) × T (p x)
+  any-∈ p xs t = ⊎-elim (λ (s, w). w) (λ (n, h). absurd (T-not (any? p xs) n t)) (any-or p xs)
+
+  pub none-∈ : (p : A → Bool) (xs : List A) → T (not (any? p xs)) → (x : A) → x ∈ xs → T (not (p x))
+  none-∈ p xs n = ⊎-elim (λ (t, w). absurd (T-not (any? p xs) n t)) (λ (m, h). h) (any-or p xs)
 
   pub getD-∈ : (xs : List A) (i : ℕ) (d : A) → i < length xs → getD xs i d ∈ xs
   getD-∈ [] i d h = absurd (not-suc-le-zero h)

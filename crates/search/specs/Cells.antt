@@ -2,14 +2,14 @@
 use Prim.Native.Nat.{ℕ, zero, suc, _+_, _≤_, _<_, min, zero-le}
 use native.Mathlib.Omega.{arith}
 use mathlib.Core.Path.{_≡_, refl, sym, subst}
-use mathlib.Core.Logic.{_⊎_, inl, inr, _≢_}
+use mathlib.Core.Logic.{_⊎_, inl, inr}
 use mathlib.Core.Bool.{Bool, not, _&&_}
-use mathlib.Core.List.{List, _∷_, map, List·Memᴰ·head, List·Memᴰ·tail, Memᴰ·map, Memᴰ·of-map}
+use mathlib.Core.List.{List, _∷_, List·Memᴰ·head, List·Memᴰ·tail, Memᴰ·map, Memᴰ·of-map}
 use lib.Dec.{T, eqb, ltb→lt, lt→ltb, eqb→eq, T-not}
 use Rattle.lists.specs.Test.{and-l, and-r, and-i, eq→eqb, eqb-no, false-T}
 use Rattle.lists.specs.Sum.{_∈_, range, range-∈, ∈-range}
 use Rattle.lists.specs.Keep.{keep-∈, ∈-keep, product, product-∈, ∈-product}
-use Rattle.lists.specs.First.{best, best-≤-held, best-≤, best-ind}
+use Rattle.lists.specs.First.{best-≤-held, best-≤, best-ind}
 use Rattle.model.specs.Instance.{Instance, Side, surveyors, stands, deg}
 use Rattle.graph.specs.Walk.{Steps, Old, New, Arc}
 use Rattle.walks.specs.Ends.{Way, lose, gain}

@@ -4,9 +4,9 @@ use Prim.Native.Nat.{ℕ, zero, suc, _+_, _*_, _≤_, _<_}
 use native.Mathlib.Omega.{arith}
 use mathlib.Core.Path.{_≡_, refl}
 use mathlib.Core.Bool.{Bool, not, _&&_}
-use mathlib.Core.List.{[], _∷_}
+use mathlib.Core.List.{[]}
 use lib.ListN.{length}
-use lib.Dec.{T, ltb, ltb→lt, lt→ltb, nltb→le, T-not}
+use lib.Dec.{ltb, ltb→lt, lt→ltb, nltb→le, T-not}
 use Rattle.lists.specs.Test.{and-l, and-r, and-i, bit}
 use Rattle.lists.specs.Sum.{range, sum-range, count}
 use Rattle.lists.specs.Keep.{keep-length, product, product-∈, ∈-product}

@@ -8,3 +8,6 @@ pub mod Cells
 pub mod Levels
 pub mod Stop
 pub mod Verdict
+pub mod Plans
+pub mod Meaning
+pub mod Rival

@@ -4,7 +4,7 @@ use Prim.Native.Nat.{ℕ, zero, suc, _+_, _*_, _≤_, min}
 use native.Mathlib.Omega.{arith}
 use mathlib.Core.Path.{_≡_, refl, sym, ap, ap₂, _∙_}
 use mathlib.Core.Bool.{Bool}
-use mathlib.Core.Option.{Option, none, orElse}
+use mathlib.Core.Option.{none, orElse}
 use lib.Dec.{T, ltb, leb, leb→le}
 use lib.Arith.{le→nltb}
 use Rattle.lists.specs.Test.{if-ind}
@@ -12,7 +12,7 @@ use Rattle.lists.specs.Keep.{all-∈, product, product-∈, ∈-product}
 use Rattle.lists.specs.First.{or-same, first-none}
 use Rattle.model.specs.Instance.{Instance}
 use Rattle.graph.specs.Walk.{Old}
-use Rattle.search.specs.Search.{Hit, loop, olds, tip, walkPrice, trace, asWhole, directs, aloneAt, loopAt, wholeAt, levels, search, still, levels′, search′}
+use Rattle.search.specs.Search.{loop, olds, tip, walkPrice, trace, asWhole, directs, aloneAt, loopAt, wholeAt, levels, search, still, levels′, search′}
 use Rattle.search.specs.Table.{Still, still-next}
 use Rattle.search.specs.Cells.{old-∈, ∈-old, next}
 use Rattle.search.specs.Levels.{loopAt-answer, wholeAt-answer}
