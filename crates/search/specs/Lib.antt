@@ -11,3 +11,5 @@ pub mod Verdict
 pub mod Plans
 pub mod Meaning
 pub mod Rival
+pub mod Column
+pub mod Tried
