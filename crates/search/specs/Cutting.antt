@@ -31,7 +31,7 @@ use Rattle.search.specs.Follow.{Rest, follow, circle}
 module _ (G : Instance) (M : ℕ → Bool) (k n : ℕ) (dear : DearBelow G M k n) where
   -- nothing less than 0, and k at least if there is anything
   abbrev Fine : List Couple → List ℕ → List Couple → List ℕ → Type 0
-  Fine cS lS cT lT = (votesAgainst G M cS cT ≤ votesFor G M cS lS cT lT) × (0 < length cT + length lS → k + votesAgainst G M cS cT ≤ votesFor G M cS lS cT lT)
+  Fine cS lS cT lT = (votesAgainst G cS cT ≤ votesFor G cS lS cT lT) × (0 < length cT + length lS → k + votesAgainst G cS cT ≤ votesFor G cS lS cT lT)
 
   module _ (size : ℕ) (rest : Rest G M k n dear size) where
     -- no start is left, so no end: a closed walk

@@ -26,11 +26,20 @@ use Rattle.search.specs.Left.{filled, grown, take-yielding, take-enterin
 module _ (G : Instance) (M : ℕ → Bool) (k n : ℕ) (dear : DearBelow G M k n) where
   -- an exchange with fewer starts and couples costs nothing less than 0
   abbrev pub Rest : ℕ → Type 0
-  Rest size = (cS : List Couple) (lS : List ℕ) (cT : List Couple) (lT : List ℕ) → length cT + length lS ≤ size → filled cT < n → Left G M cS lS cT lT [] [] → votesAgainst G M cS cT ≤ votesFor G M cS lS cT lT
+  Rest size = (cS : List Couple) (lS : List ℕ) (cT : List Couple) (lT : List ℕ) → length cT + length lS ≤ size → filled cT < n → Left G M cS lS cT lT [] [] → votesAgainst G cS cT ≤ votesFor G cS lS cT lT
 
   -- one arc of the exchange
   arc-of : {cS cT : List Couple} {lS lT ys gs : List ℕ} {y f z : ℕ} → Left G M cS lS cT lT ys gs → _∈_ {A = Couple} (edge y, f) cT → _∈_ {A = Couple} (edge z, f) cS → Arc G M y f z
   arc-of st mT mS = let (oz, e) = st .atS .meet mS in (st .atT .new mT, oz, sym (st .atT .meet mT .1), sym e)
+
+  -- its votes pass from what is left to the walk
+  arc-votes : (x : ℕ) (w : Steps) {y f z : ℕ} {cS cT : List Couple} → Walk G M x w y → (mT : _∈_ {A = Couple} (edge y, f) cT) (mS : _∈_ {A = Couple} (edge z, f) cS)
+      → (votesFor G cS [] cT [] + plus G x w ≡ votesFor G (remove mS) [] (remove mT) [] + plus G x (w ++ ((f, z) ∷ [])))
+      × (votesAgainst G cS cT + minus G x w ≡ votesAgainst G (remove mS) (remove mT) + minus G x (w ++ ((f, z) ∷ [])))
+  arc-votes x w {y} {f} {z} h mT mS = (
+    omega (arith, sum-remove (for (G .rankS)) mS, sum-remove (for (G .rankT)) mT, plus-append G M x y w ((f, z) ∷ []) h),
+    omega (arith, sum-remove (against (G .rankS)) mS, sum-remove (against (G .rankT)) mT, minus-append G M x y w ((f, z) ∷ []) h),
+  )
 
   -- ---- from a start
   -- the walk so far, from x to y, and what is left; no end that is left gains where the start loses, or loses where it gains
@@ -45,7 +54,7 @@ module _ (G : Instance) (M : ℕ → Bool) (k n : ℕ) (dear : DearBelow G M k n
     pub at-gain : (z f : ℕ) → _∈_ {A = Couple} (empty, f) cS → Apart G a x z (gain f)
 
   abbrev pub OpenCosts : Way → ℕ → Steps → List Couple → List ℕ → List Couple → List ℕ → Type 0
-  OpenCosts a x w cS lS cT lT = k + (votesAgainst G M cS cT + (minus G x w + startMinus G a x)) ≤ votesFor G M cS lS cT lT + (plus G x w + startPlus G a x)
+  OpenCosts a x w cS lS cT lT = k + (votesAgainst G cS cT + (minus G x w + startMinus G a x)) ≤ votesFor G cS lS cT lT + (plus G x w + startPlus G a x)
 
   module _ {size : ℕ} (rest : Rest size) (a : Way) (x : ℕ) where
     end-lost : {w : Steps} {y : ℕ} {cS cT : List Couple} {lS lT : List ℕ} → Open size a x w y cS lS cT lT → y ∈ lT → OpenCosts a x w cS lS cT lT
@@ -101,16 +110,7 @@ module _ (G : Instance) (M : ℕ → Bool) (k n : ℕ) (dear : DearBelow G M k n
         (λ l. let (f, mT) = y-yields o l in
         ⊎-elim
         (end-gained o mT)
-        (λ (z, mS). omega (
-          arith,
-          follow j (omega (arith, h, sum-remove (λ c. bit (not (same (c .0) empty))) mT)) (onward o mT mS),
-          sum-remove (for (G .rankS)) mS,
-          sum-remove (against (G .rankS)) mS,
-          sum-remove (for (G .rankT)) mT,
-          sum-remove (against (G .rankT)) mT,
-          plus-append G M x y w ((f, z) ∷ []) (o .walk),
-          minus-append G M x y w ((f, z) ∷ []) (o .walk),
-        ))
+        (λ (z, mS). omega (arith, arc-votes x w (o .walk) mT mS, follow j (omega (arith, h, sum-remove (λ c. bit (not (same (c .0) empty))) mT)) (onward o mT mS)))
         (take-entering f cS (omega (arith, o .left .come f, sum-remove (λ c. bit (eqb (c .1) f)) mT, same-refl (edge f)))))
 
   -- ---- round to where it began: at x, where g takes x's place at the surveyor; no start and no end is left
@@ -124,7 +124,7 @@ module _ (G : Instance) (M : ℕ → Bool) (k n : ℕ) (dear : DearBelow G M k n
     pub walk : Walk G M x w y
 
   abbrev pub LoopCosts : ℕ → ℕ → Steps → List Couple → List Couple → Type 0
-  LoopCosts x g w cS cT = k + (votesAgainst G M cS cT + (minus G x w + up (G .rankS g) (G .rankS x))) ≤ votesFor G M cS [] cT [] + (plus G x w + up (G .rankS x) (G .rankS g))
+  LoopCosts x g w cS cT = k + (votesAgainst G cS cT + (minus G x w + up (G .rankS g) (G .rankS x))) ≤ votesFor G cS [] cT [] + (plus G x w + up (G .rankS x) (G .rankS g))
 
   module _ {size : ℕ} (rest : Rest size) (x g : ℕ) where
     close : {w : Steps} {y : ℕ} {cS cT : List Couple} → Loop size x g w y cS cT → _∈_ {A = Couple} (edge y, g) cT → LoopCosts x g w cS cT
@@ -161,14 +161,5 @@ module _ (G : Instance) (M : ℕ → Bool) (k n : ℕ) (dear : DearBelow G M k n
         (λ e b. close o (subst (λ f. _∈_ {A = Couple} (edge y, f) cT) (sym e) mT))
         (λ e b. ⊎-elim
         (λ mS. absurd (omega (arith, o .none, sum-remove (λ c. bit (same (c .0) empty)) mS)))
-        (λ (z, mS). omega (
-          arith,
-          circle j (omega (arith, h, sum-remove (λ c. bit (not (same (c .0) empty))) mT)) (around o mT mS),
-          sum-remove (for (G .rankS)) mS,
-          sum-remove (against (G .rankS)) mS,
-          sum-remove (for (G .rankT)) mT,
-          sum-remove (against (G .rankT)) mT,
-          plus-append G M x y w ((f, z) ∷ []) (o .walk),
-          minus-append G M x y w ((f, z) ∷ []) (o .walk),
-        ))
+        (λ (z, mS). omega (arith, arc-votes x w (o .walk) mT mS, circle j (omega (arith, h, sum-remove (λ c. bit (not (same (c .0) empty))) mT)) (around o mT mS)))
         (take-entering f cS (omega (arith, o .left .come f, sum-remove (λ c. bit (eqb (c .1) f)) mT, same-refl (edge f), ap bit b))))

@@ -109,14 +109,16 @@ module _ (K : Side) (M : ℕ → Bool) where
   loss-census : {cs : List Couple} {ls : List ℕ} → Known cs ls → sum (λ e. occ e ls) (upTo (K .m)) ≡ length ls
   loss-census {ls = ls} k = omega (arith, census (K .m) edge ls (λ l m d e. below (k .old m .0) (cc)), sum-zero ls)
 
--- ---- what is left on both sides; ys and gs are taken out at their surveyors only
-module _ (G : Instance) (M : ℕ → Bool) where
+-- ---- the votes on both sides
+module _ (G : Instance) where
   abbrev pub votesFor : List Couple → List ℕ → List Couple → List ℕ → ℕ
   votesFor cS lS cT lT = sum (for (G .rankS)) cS + length lS + (sum (for (G .rankT)) cT + length lT)
 
   abbrev pub votesAgainst : List Couple → List Couple → ℕ
   votesAgainst cS cT = sum (against (G .rankS)) cS + sum (against (G .rankT)) cT
 
+-- ---- what is left on both sides; ys and gs are taken out at their surveyors only
+module _ (G : Instance) (M : ℕ → Bool) where
   pub record Left (cS : List Couple) (lS : List ℕ) (cT : List Couple) (lT ys gs : List ℕ) : Type 0 where
     pub atS : Known (surveyors G) M cS lS
     pub atT : Known (stands G) M cT lT

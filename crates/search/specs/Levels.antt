@@ -25,7 +25,7 @@ use Rattle.search.specs.Cutting.{cutting, unbeaten}
 use Rattle.search.specs.Table.{tip-price, loops-done, alone-done, wholes-done, loop-found, whole-found}
 use Rattle.search.specs.Cells.{below-∈, ∈-below, old-∈, ∈-old, tips, layers}
 
-pub olds-count : (G : Instance) (M : ℕ → Bool) → length (olds G M) ≡ count M (G .m)
+olds-count : (G : Instance) (M : ℕ → Bool) → length (olds G M) ≡ count M (G .m)
 unfolding count
 olds-count G M = omega (arith, keep-length M (range 0 (G .m)), sum-range (λ e. bit (M e)) (G .m))
 

@@ -1,8 +1,8 @@
 -- The search for a rival of a plan M, as functions that run. It reads by itself; that it is right, Levels and Verdict prove.
 -- An arc x → z by f, for x and z in M and f outside: x gives way to f at its stand and z at its surveyor. A walk of arcs with a start and
 -- an end, a closed walk, or one edge with room at both ends makes another plan, and its cost is at least the vote of M against it.
--- Every arc costs at least -2, a start and an end together at least -2 each: a table holds costs with that added, so they are numbers,
--- and cuts them at a lid, which stands for "none". With at most 64 edges in M the lid 133 is enough, so that every table fits in bytes.
+-- An arc, a start and an end cost at least -2 each: a table holds costs with 2 added for each, so that they are numbers, and cuts them at
+-- a lid, which stands for "none". With at most 64 edges in M the lid 133 is enough, so that a byte holds every cell.
 -- A program needs the table of the arcs, that of the ends, and one layer, changed level by level; the walk that is found is read back
 -- from one column (Column).
 use Prim.Native.Nat.{ℕ, zero, suc, _+_, _*_, min}
@@ -149,7 +149,7 @@ module _ (G : Instance) (M : ℕ → Bool) where
     unfoldable pub search : ℕ → Option Hit
     search B = orElse directs (orElse aloneAt (levels B 0))
 
-    -- the same, but it stops where a layer is the one before: the form to run (Stop proves that it finds the same)
+    -- the same, but it stops where a layer adds nothing to the one before: the form to run (Stop proves that it finds the same)
     unfoldable pub still : ℕ → Bool
     still n = all? (λ p. leb (min lid (walkPrice lid n (p .0) (p .1) + 2)) (walkPrice lid (suc n) (p .0) (p .1))) (product olds olds)
 
@@ -160,7 +160,7 @@ module _ (G : Instance) (M : ℕ → Bool) where
     unfoldable pub search′ : ℕ → Option Hit
     search′ B = orElse directs (orElse aloneAt (levels′ B 0))
 
--- ---- the verdict: a hit below 0 beats M, a hit below 1 draws with it
+-- ---- the verdict: a hit below 0 beats M; if there is none, a hit below 1 draws with it
 abbrev pub judge : Option Hit → Option Hit → Verdict
 judge none none = strong
 judge none (some h) = popular

@@ -1,5 +1,5 @@
--- The early stop: where a layer is the one before, no later level finds anything that this one does not. So the search that stops there
--- finds the same, the rival too.
+-- The early stop: where a layer adds nothing to the one before, none after it does, and no later level finds anything that this one does
+-- not. So the search that stops there finds the same, the rival too.
 use Prim.Native.Nat.{ℕ, zero, suc, _+_, _*_, _≤_, min}
 use native.Mathlib.Omega.{arith}
 use mathlib.Core.Path.{_≡_, refl, sym, ap, ap₂, _∙_}
