@@ -13,9 +13,9 @@ use lib.Dec.{T, eqb, eqb→eq}
 use Rattle.lists.specs.Test.{given, bool-eq, eqb-yes, eqb-no, or-l, or-r, or-case, bit, pk}
 use Rattle.lists.specs.Sum.{_∈_, sum, sum-cong, range, range-length, ∈-range, range-∈, sum-range, upTo, count}
 use Rattle.lists.specs.Keep.{keep, keep-cong, keep-∈, ∈-keep, sum-keep}
-use Rattle.model.specs.Instance.{Side, deg}
+use Rattle.model.specs.Instance.{Instance, Side, deg}
 use Rattle.model.specs.Roster.{elem}
-use Rattle.model.specs.Plans.{Plan, on, choices}
+use Rattle.model.specs.Plans.{Plan, on, choices, within, plansOf}
 use Rattle.model.specs.PlanFile.{edgesIn, planOf}
 
 -- ---- the plan of a set, and the set of a plan
@@ -50,13 +50,13 @@ pub edgesIn-cong : (m : ℕ) (p q : ℕ → Bool) → ((e : ℕ) → e < m → p
 edgesIn-cong m p q h = keep-cong p q (range 0 m) (λ e k. h e (given (∈-range m 0 k .1) (λ l. omega arith)))
 
 -- every plan of the right length is among the choices
-pub choices-∈ : (M : Plan) → M ∈ choices (length M)
+choices-∈ : (M : Plan) → M ∈ choices (length M)
 unfolding choices
 choices-∈ [] = List·Memᴰ·head refl
 choices-∈ (true ∷ M) = Memᴰ·append-left (map (λ M. false ∷ M) (choices (length M))) (Memᴰ·map (λ M. true ∷ M) (choices-∈ M))
 choices-∈ (false ∷ M) = Memᴰ·append-right (map (λ M. true ∷ M) (choices (length M))) (Memᴰ·map (λ M. false ∷ M) (choices-∈ M))
 
-pub choice-length : (n : ℕ) (M : Plan) → M ∈ choices n → length M ≡ n
+choice-length : (n : ℕ) (M : Plan) → M ∈ choices n → length M ≡ n
 unfolding choices
 choice-length zero M (List·Memᴰ·head e) = ap length e
 choice-length zero M (List·Memᴰ·tail m) = absurd (List·Memᴰ·not-nil m)
@@ -64,6 +64,20 @@ choice-length (suc n) M m = ⊎-elim (go true (choice-length n)) (go false (choi
   where
     go : (b : Bool) → ((N : Plan) → N ∈ choices n → length N ≡ n) → M ∈ map (λ N. b ∷ N) (choices n) → length M ≡ suc n
     go b ih k = given (Memᴰ·of-map (λ N. b ∷ N) (choices n) k) (λ (N, l, e). ap length (sym e) ∙ ap suc (ih N l))
+
+-- ---- what stands in `plansOf`: the plans of the right length within the quotas
+module _ (G : Instance) where
+  pub plan-length : {M : Plan} → M ∈ plansOf G → length M ≡ G .m
+  unfolding plansOf
+  plan-length {M} m = choice-length (G .m) M (∈-keep (λ N. within G (on N)) (choices (G .m)) m .0)
+
+  pub plan-within : {M : Plan} → M ∈ plansOf G → T (within G (on M))
+  unfolding plansOf
+  plan-within m = ∈-keep (λ N. within G (on N)) (choices (G .m)) m .1
+
+  pub within-plan : (M : Plan) → length M ≡ G .m → T (within G (on M)) → M ∈ plansOf G
+  unfolding plansOf
+  within-plan M l t = keep-∈ (λ N. within G (on N)) (choices (G .m)) (subst (λ n. M ∈ choices n) l (choices-∈ M)) t
 
 -- ---- ascending lists of edges
 -- each at least k, and above the one before it

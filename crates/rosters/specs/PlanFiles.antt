@@ -11,21 +11,22 @@ use mathlib.Core.List.{List, [], _∷_, _++_, map, append-nil, append-assoc}
 use lib.ListN.{length, length-append, length-map}
 use lib.Dec.{T, eqb, leb, ltb, eqb→eq, eqb-refl, nltb→le, nleb→lt, leb→le, le→leb, T-not}
 use lib.Arith.{le→nltb, lt→nleb}
-use Rattle.lists.specs.Test.{given, and-l, and-r, and-i, nor-l, nor-r, nor-i, by-eq, eqb-no, bit, bit-pk, pk, T-true}
-use Rattle.lists.specs.Sum.{_∈_, sum, sum-append, sum-mono, sum-swap, sum-one, sum-cong, upTo, upTo-∈}
-use Rattle.lists.specs.Keep.{∈-keep, keep-∈, gather, all-∈, ∈-all, All}
+use Rattle.lists.specs.Test.{given, and-l, and-r, and-i, nor-l, nor-r, nor-i, by-eq, bit, bit-pk, pk, T-true}
+use Rattle.lists.specs.Sum.{_∈_, sum, sum-append, sum-mono, sum-swap, sum-one, sum-cong, upTo}
+use Rattle.lists.specs.Keep.{gather, All}
 use Rattle.lists.specs.Search.{low-is}
 use Rattle.model.specs.Limits.{planLimit, planSize}
 use Rattle.model.specs.Reading.{got, _then_, accepted, whole}
 use Rattle.model.specs.RosterFile.{readCount}
 use Rattle.model.specs.Roster.{elem}
-use Rattle.model.specs.Instance.{Instance, Side, surveyors, stands, deg}
-use Rattle.model.specs.Plans.{Plan, on, choices, withinSide, within, plansOf}
+use Rattle.model.specs.Instance.{Instance, Side, surveyors, stands}
+use Rattle.model.specs.Plans.{Plan, on, withinSide, within, plansOf}
 use Rattle.model.specs.PlanFile.{pairBytes, edgesIn, pairList, planBytes, edgeOfPair, full, Pairs, pairCheck, withPair, readPairs, planOfPairs, readPlan}
+use Rattle.graph.specs.Within.{within-side, matching-within}
 use Rattle.formats.specs.Reads.{isBytes, Reads, Passes, each, two-bytes, got-value, got-rest, then-got, whole-accepted}
 use Rattle.formats.specs.Entries.{cond-zero, zero-cond}
 use Rattle.formats.specs.Sections.{alike, counted}
-use Rattle.rosters.specs.Chosen.{on-planOf, planOf-length, planOf-on, planOf-cong, edgesIn-cong, choices-∈, choice-length, From, Below, keep-from, keep-below, edges-of-elem, elem-edgesIn, atNode, deg-atNode}
+use Rattle.rosters.specs.Chosen.{on-planOf, planOf-length, planOf-on, planOf-cong, edgesIn-cong, plan-length, plan-within, within-plan, From, Below, keep-from, keep-below, edges-of-elem, elem-edgesIn, atNode, deg-atNode}
 
 -- what the laws ask of an instance
 pub record Fileable (G : Instance) : Type 0 where
@@ -150,9 +151,6 @@ module _ (G : Instance) where
       ∙ edgesIn-cong (G .m) (on (planOfPairs G ps)) (λ d. elem d (edges ps)) (λ d h. on-planOf (G .m) (λ d. elem d (edges ps)) d h)
       ∙ edges-of-elem (G .m) (edges ps) f b)
 
-  side-within : (K : Side) (M : Plan) → ((v : ℕ) → deg K (on M) v ≤ K .quota v) → T (withinSide K (on M))
-  side-within K M h = ∈-all (λ v. leb (deg K (on M) v) (K .quota v)) (upTo (K .n)) (λ v m. le→leb (deg K (on M) v) (K .quota v) (h v))
-
   module _ (bs : List ℕ) (M : Plan) (isB : T (isBytes bs)) (e : readPlan G bs ≡ accepted M) where
     -- accepted bytes are written back the same
     pub plan-read-write : planBytes G M ≡ bs
@@ -162,14 +160,13 @@ module _ (G : Instance) where
 
     -- and are a plan within the quotas
     pub plan-read-within : M ∈ plansOf G
-    unfolding plansOf within
     plan-read-within = given (plan-pairs bs M isB e) (λ X.
         given (edges-are M (X .ps) (X .passing) (X .plan)) (λ q.
         given (passes-fit start (X .ps) (λ v. zero-le) (λ v. zero-le) (X .passing)) (λ (f, g).
-        keep-∈ (λ N. within G (on N)) (choices (G .m)) (subst (λ n. M ∈ choices n) (ap length (X .plan) ∙ planOf-length (G .m) (λ d. elem d (edges (X .ps)))) (choices-∈ M))
-        (and-i (withinSide (surveyors G) (on M)) (withinSide (stands G) (on M))
-        (side-within (surveyors G) M (λ v. subst (λ n. n ≤ G .quotaS v) (sym (deg-atNode (surveyors G) (on M) v ∙ ap (atNode (surveyors G) v) q)) (f v)))
-        (side-within (stands G) M (λ v. subst (λ n. n ≤ G .quotaT v) (sym (deg-atNode (stands G) (on M) v ∙ ap (atNode (stands G) v) q)) (g v)))))))
+        within-plan G M (ap length (X .plan) ∙ planOf-length (G .m) (λ d. elem d (edges (X .ps)))) (matching-within G (on M) (record {
+          atS = λ v. subst (λ n. n ≤ G .quotaS v) (sym (deg-atNode (surveyors G) (on M) v ∙ ap (atNode (surveyors G) v) q)) (f v);
+          atT = λ v. subst (λ n. n ≤ G .quotaT v) (sym (deg-atNode (stands G) (on M) v ∙ ap (atNode (stands G) v) q)) (g v);
+        })))))
 
     -- at most 129 bytes
     pub plan-accepted-size : length bs ≤ planSize
@@ -208,21 +205,8 @@ module _ (G : Instance) where
       each-once [] b = refl
       each-once (e ∷ es) b = omega (arith, once e (b .0), each-once es (b .1))
 
-  -- what stands in `plansOf`
-  plan-in : (M : Plan) → M ∈ plansOf G → (length M ≡ G .m) × T (withinSide (surveyors G) (on M)) × T (withinSide (stands G) (on M))
-  unfolding plansOf within
-  plan-in M m = given (∈-keep (λ N. within G (on N)) (choices (G .m)) m) (λ (c, t).
-      (choice-length (G .m) M c, and-l (withinSide (surveyors G) (on M)) (withinSide (stands G) (on M)) t, and-r (withinSide (surveyors G) (on M)) (withinSide (stands G) (on M)) t))
-
-  -- outside the nodes there is no edge, so the quota holds there too
-  within-fits : (K : Side) → ((e : ℕ) → e < K .m → K .end e < K .n) → (M : Plan) → T (withinSide K (on M)) → Fits K (edgesIn (K .m) (on M))
-  within-fits K inside M t v = by-cases (decLt v (K .n))
-      (λ h. subst (λ n. n ≤ K .quota v) (deg-atNode K (on M) v) (leb→le (deg K (on M) v) (K .quota v) (all-∈ (λ v. leb (deg K (on M) v) (K .quota v)) (upTo (K .n)) t v (upTo-∈ (K .n) v h))))
-      (λ n. omega (arith, none (edgesIn (K .m) (on M)) (keep-below (on M) 0 (K .m) (K .m) (omega arith)) n))
-    where
-      none : (es : List ℕ) → Below (K .m) es → ¬ (v < K .n) → atNode K v es ≡ 0
-      none [] b n = refl
-      none (e ∷ es) b n = omega (arith, ap bit (eqb-no (K .end e) v (λ q. n (subst (λ z. z < K .n) q (inside e (b .0))))), none es (b .1) n)
+  fits : (K : Side) → ((e : ℕ) → e < K .m → K .end e < K .n) → (M : Plan) → T (withinSide K (on M)) → Fits K (edgesIn (K .m) (on M))
+  fits K inside M t v = subst (λ n. n ≤ K .quota v) (deg-atNode K (on M) v) (within-side K (on M) inside t v)
 
   module _ (F : Fileable G) (M : Plan) (ok : M ∈ plansOf G) where
     abbrev es : List ℕ
@@ -232,10 +216,12 @@ module _ (G : Instance) where
     below = keep-below (on M) 0 (G .m) (G .m) (omega arith)
 
     fitsS : Fits (surveyors G) es
-    fitsS = within-fits (surveyors G) (F .insideS) M (plan-in M ok .1)
+    unfolding within
+    fitsS = fits (surveyors G) (F .insideS) M (and-l (withinSide (surveyors G) (on M)) (withinSide (stands G) (on M)) (plan-within G ok))
 
     fitsT : Fits (stands G) es
-    fitsT = within-fits (stands G) (F .insideT) M (plan-in M ok .2)
+    unfolding within
+    fitsT = fits (stands G) (F .insideT) M (and-r (withinSide (surveyors G) (on M)) (withinSide (stands G) (on M)) (plan-within G ok))
 
     -- at most 64 pairs
     pub plan-few : length es ≤ planLimit
@@ -261,7 +247,7 @@ module _ (G : Instance) where
         let small : T (leb (length ps) planLimit) = le→leb (length ps) planLimit (subst (λ n. n ≤ planLimit) (sym (length-map es pairOf)) plan-few) in
         let pass : PairsPass start ps = written-passes F start es (keep-from (on M) 0 (G .m)) below fitsS fitsT in
         let read = ap (λ bs. readCount planLimit bs then readPairs G) file ∙ pairs .forth ps [] (small, (every-unit ps, pass)) in
-        let back : planOfPairs G ps ≡ M = planOf-cong (G .m) (λ e. elem e (edges ps)) (on M) (λ e h. ap (elem e) (edges-back es below) ∙ elem-edgesIn (G .m) (on M) e h) ∙ planOf-on (G .m) M (plan-in M ok .0) in
+        let back : planOfPairs G ps ≡ M = planOf-cong (G .m) (λ e. elem e (edges ps)) (on M) (λ e h. ap (elem e) (edges-back es below) ∙ elem-edgesIn (G .m) (on M) e h) ∙ planOf-on (G .m) M (plan-length G ok) in
         ap (λ r. whole (r then (λ ps rest. got (planOfPairs G ps) rest))) read ∙ ap accepted back
 
     -- a plan has at most 129 bytes

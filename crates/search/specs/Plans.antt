@@ -5,17 +5,15 @@ use mathlib.Core.Path.{_≡_, refl, sym, ap, _∙_, subst}
 use mathlib.Core.Logic.{_↔_}
 use mathlib.Core.Bool.{Bool, true, false, not}
 use mathlib.Core.List.{[], _∷_}
-use lib.ListN.{length}
 use lib.Dec.{T, T-not, not-T}
 use Rattle.lists.specs.Sum.{_∈_}
-use Rattle.lists.specs.Keep.{keep-∈, ∈-keep}
 use Rattle.model.specs.Instance.{Instance}
 use Rattle.model.specs.Vote.{vote}
-use Rattle.model.specs.Plans.{Plan, on, choices, within, plansOf, samePlan, voteOf}
+use Rattle.model.specs.Plans.{Plan, on, plansOf, samePlan, voteOf}
 use Rattle.model.specs.PlanFile.{planOf}
 use Rattle.graph.specs.Lawful.{Lawful, Matching, Same}
 use Rattle.graph.specs.Within.{within-matching, matching-within, matching-same}
-use Rattle.rosters.specs.Chosen.{on-planOf, planOf-length, planOf-on, planOf-cong, choices-∈, choice-length}
+use Rattle.rosters.specs.Chosen.{on-planOf, planOf-length, planOf-on, planOf-cong, plan-length, plan-within, within-plan}
 use Rattle.votes.specs.Laws.{vote-same}
 
 -- ---- the model's test
@@ -40,28 +38,22 @@ same-plan M N = (same-eq M N, λ e. subst (λ L. T (samePlan M L)) e (same-self 
 
 module _ (G : Instance) where
   -- ---- a plan as a set
-  pub plan-length : {M : Plan} → M ∈ plansOf G → length M ≡ G .m
-  unfolding plansOf
-  plan-length {M} m = choice-length (G .m) M (∈-keep (λ N. within G (on N)) (choices (G .m)) m .0)
-
   pub plan-matching : Lawful G → {M : Plan} → M ∈ plansOf G → Matching G (on M)
-  unfolding plansOf
-  plan-matching law {M} m = within-matching G (on M) law (∈-keep (λ N. within G (on N)) (choices (G .m)) m .1)
+  plan-matching law {M} m = within-matching G (on M) law (plan-within G m)
 
   -- two plans of the same edges are one
   edges-plan : {M N : Plan} → M ∈ plansOf G → N ∈ plansOf G → Same G (on M) (on N) → M ≡ N
-  edges-plan {M} {N} m n s = sym (planOf-on (G .m) M (plan-length m)) ∙ planOf-cong (G .m) (on M) (on N) s ∙ planOf-on (G .m) N (plan-length n)
+  edges-plan {M} {N} m n s = sym (planOf-on (G .m) M (plan-length G m)) ∙ planOf-cong (G .m) (on M) (on N) s ∙ planOf-on (G .m) N (plan-length G n)
 
   pub other-edges : {M N : Plan} → M ∈ plansOf G → N ∈ plansOf G → T (not (samePlan M N)) → Same G (on M) (on N) → ⊥
   other-edges {M} {N} m n t s = T-not (samePlan M N) t (same-plan M N .1 (edges-plan m n s))
 
   -- ---- a set as a plan
-  pub planOf-same : (N : ℕ → Bool) → Same G N (on (planOf (G .m) N))
+  planOf-same : (N : ℕ → Bool) → Same G N (on (planOf (G .m) N))
   planOf-same N e h = sym (on-planOf (G .m) N e h)
 
   pub matching-plan : {N : ℕ → Bool} → Matching G N → planOf (G .m) N ∈ plansOf G
-  unfolding plansOf
-  matching-plan {N} p = keep-∈ (λ L. within G (on L)) (choices (G .m)) (subst (λ n. planOf (G .m) N ∈ choices n) (planOf-length (G .m) N) (choices-∈ (planOf (G .m) N)))
+  matching-plan {N} p = within-plan G (planOf (G .m) N) (planOf-length (G .m) N)
       (matching-within G (on (planOf (G .m) N)) (matching-same G N (on (planOf (G .m) N)) (planOf-same N) p))
 
   pub other-plan : (M : Plan) {N : ℕ → Bool} → (Same G (on M) N → ⊥) → T (not (samePlan M (planOf (G .m) N)))
