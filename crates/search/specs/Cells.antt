@@ -1,5 +1,5 @@
 -- The tables that the search computes are those that Table asks for: the arcs, the layers, the ends.
-use Prim.Native.Nat.{ℕ, zero, suc, _+_, _≤_, _<_, min, zero-le}
+use Prim.Native.Nat.{ℕ, zero, suc, _+_, _≤_, _<_, zero-le}
 use native.Mathlib.Omega.{arith}
 use mathlib.Core.Path.{_≡_, refl, sym, subst}
 use mathlib.Core.Logic.{_⊎_, inl, inr}
@@ -14,7 +14,7 @@ use Rattle.model.specs.Instance.{Instance, Side, surveyors, stands, deg}
 use Rattle.graph.specs.Walk.{Steps, Old, New, Arc}
 use Rattle.walks.specs.Ends.{Way, lose, gain}
 use Rattle.walks.specs.Whole.{Start, Stop, Apart}
-use Rattle.search.specs.Search.{Lead, stay, via, onLead, price, tipPrice, apart?, olds, news, room?, joins?, ways, tipsAt, tip, links?, arc, layer, walkPrice, trace}
+use Rattle.search.specs.Search.{kept, Lead, stay, via, onLead, price, tipPrice, apart?, olds, news, room?, joins?, ways, tipsAt, tip, links?, arc, layer, walkPrice, trace}
 use Rattle.search.specs.Table.{Arcs, Layer, Next, Tips, first-layer, next-layer}
 
 module _ (G : Instance) (M : ℕ → Bool) where
@@ -127,7 +127,7 @@ module _ (G : Instance) (M : ℕ → Bool) where
         ahead x z y = (arc G M lid x y .0 + walkPrice G M lid n y z, via y)
 
         held : ℕ → ℕ → ℕ × Lead
-        held x z = (min lid (walkPrice G M lid n x z + 2), stay)
+        held x z = (kept lid (walkPrice G M lid n x z), stay)
 
         Good : ℕ → ℕ → ℕ × Lead → Type 0
         Good x z p =

@@ -1,7 +1,7 @@
 -- The layers as loops over arrays compute them, with places in the list of M's edges for the edges: one cell of the next layer, a column
 -- of it with its marks, and the walk read back from the marks. A column z of a layer needs the same column of the layer before and no
 -- other: one table is enough for the search, and the columns of one z for reading back.
-use Prim.Native.Nat.{ℕ, zero, suc, _+_, _-_, _*_, _≤_, _<_, min, zero-le}
+use Prim.Native.Nat.{ℕ, zero, suc, _+_, _-_, _*_, _≤_, _<_, zero-le}
 use native.Mathlib.Omega.{arith}
 use mathlib.Core.Path.{_≡_, refl, sym, ap, ap₂, _∙_, fun-ext}
 use mathlib.Core.Bool.{Bool, true, false, cond}
@@ -14,7 +14,7 @@ use Rattle.lists.specs.First.{best}
 use Rattle.lists.specs.Rows.{getD-map, row-at}
 use Rattle.model.specs.Instance.{Instance}
 use Rattle.graph.specs.Walk.{Steps}
-use Rattle.search.specs.Search.{Lead, stay, via, onLead, olds, arc, layer, walkPrice, trace}
+use Rattle.search.specs.Search.{kept, Lead, stay, via, onLead, olds, arc, layer, walkPrice, trace}
 
 -- ---- a cell: the least sum of two arrays' places, if it is below v, and one more than its first place; else v and b. j is the place
 -- reached. A mark is 0 for "as in the layer before", or one more than a place.
@@ -98,16 +98,16 @@ module _ (G : Instance) (M : ℕ → Bool) (lid : ℕ) where
   columnOf n z = map (λ y. walkPrice G M lid n y z) (olds G M)
 
   abbrev pub cell : ℕ → ℕ → ℕ → ℕ × ℕ
-  cell n z x = scan (min lid (walkPrice G M lid n x z + 2)) 0 0 (rowOf x) (columnOf n z)
+  cell n z x = scan (kept lid (walkPrice G M lid n x z)) 0 0 (rowOf x) (columnOf n z)
 
   pub next-cell : (n x z : ℕ) → layer G M lid (suc n) x z ≡ (cell n z x .0, leadOf (olds G M) (cell n z x .1))
   unfolding layer
-  next-cell n x z = scan-best (olds G M) (λ y. arc G M lid x y .0) (λ y. walkPrice G M lid n y z) [] (olds G M) (min lid (walkPrice G M lid n x z + 2)) 0 0 refl refl
+  next-cell n x z = scan-best (olds G M) (λ y. arc G M lid x y .0) (λ y. walkPrice G M lid n y z) [] (olds G M) (kept lid (walkPrice G M lid n x z)) 0 0 refl refl
 
   -- the same by places: row i of the table that is one list, place i of the column
   pub cell-place : (n i z : ℕ) → i < length (olds G M)
-      → scan (min lid (getD (columnOf n z) i 0 + 2)) 0 0 (take (length (olds G M)) (drop (i * length (olds G M)) (gather rowOf (olds G M)))) (columnOf n z) ≡ cell n z (getD (olds G M) i 0)
-  cell-place n i z h = ap₂ (λ v r. scan (min lid (v + 2)) 0 0 r (columnOf n z)) (getD-map (λ y. walkPrice G M lid n y z) (olds G M) i 0 0 h)
+      → scan (kept lid (getD (columnOf n z) i 0)) 0 0 (take (length (olds G M)) (drop (i * length (olds G M)) (gather rowOf (olds G M)))) (columnOf n z) ≡ cell n z (getD (olds G M) i 0)
+  cell-place n i z h = ap₂ (λ v r. scan (kept lid v) 0 0 r (columnOf n z)) (getD-map (λ y. walkPrice G M lid n y z) (olds G M) i 0 0 h)
       (row-at rowOf (length (olds G M)) (λ x. length-map (olds G M) (λ y. arc G M lid x y .0)) (olds G M) i 0 h)
 
   pub next-column : (n z : ℕ) → columnOf (suc n) z ≡ map (λ x. cell n z x .0) (olds G M)
@@ -130,7 +130,7 @@ module _ (G : Instance) (M : ℕ → Bool) (lid : ℕ) where
   read-back (suc n) i z h =
       let x = getD (olds G M) i 0 in
       let b : getD (marksOf n z) i 0 ≡ cell n z x .1 = getD-map (λ x. cell n z x .1) (olds G M) i 0 0 h in
-      let low = scan-mark-≤ (min lid (walkPrice G M lid n x z + 2)) 0 0 (rowOf x) (columnOf n z) zero-le in
+      let low = scan-mark-≤ (kept lid (walkPrice G M lid n x z)) 0 0 (rowOf x) (columnOf n z) zero-le in
       ap (λ l. onLead (l .1) (trace G M lid n (getD (olds G M) i 0) z) (λ y. (by (getD (olds G M) i 0) y, y) ∷ trace G M lid n y z)) (next-cell n x z)
       ∙ go (cell n z x .1) (omega (arith, low, length-map (olds G M) (λ y. arc G M lid x y .0))) (read-back n i z h) (λ j q. read-back n j z q)
       ∙ ap (λ b. onLead (leadOf (olds G M) b) (back i) (λ y. (by (getD (olds G M) i 0) y, y) ∷ back (b - 1))) (sym b)

@@ -58,6 +58,10 @@ abbrev pub endPrice : (ℕ → ℕ) → ℕ → Way → ℕ
 endPrice rank z lose = 3
 endPrice rank z (gain f) = rate (rank z) (rank f)
 
+-- of a walk that is counted with one arc more than it was
+abbrev pub kept : ℕ → ℕ → ℕ
+kept lid c = min lid (c + 2)
+
 module _ (G : Instance) where
   -- of an arc x → z by f
   abbrev pub price : ℕ → ℕ → ℕ → ℕ
@@ -112,7 +116,7 @@ module _ (G : Instance) (M : ℕ → Bool) where
     -- of the layer before, which now has an arc fewer, or an arc to some y and the layer before from there
     unfoldable pub layer : ℕ → ℕ → ℕ → ℕ × Lead
     layer zero x z = (arc x z .0, stay)
-    layer (suc n) x z = best (λ y. (arc x y .0 + layer n y z .0, via y)) (min lid (layer n x z .0 + 2), stay) olds
+    layer (suc n) x z = best (λ y. (arc x y .0 + layer n y z .0, via y)) (kept lid (layer n x z .0), stay) olds
 
     abbrev pub walkPrice : ℕ → ℕ → ℕ → ℕ
     walkPrice n x z = layer n x z .0
@@ -151,7 +155,7 @@ module _ (G : Instance) (M : ℕ → Bool) where
 
     -- the same, but it stops where a layer adds nothing to the one before: the form to run (Stop proves that it finds the same)
     unfoldable pub still : ℕ → Bool
-    still n = all? (λ p. leb (min lid (walkPrice lid n (p .0) (p .1) + 2)) (walkPrice lid (suc n) (p .0) (p .1))) (product olds olds)
+    still n = all? (λ p. leb (kept lid (walkPrice lid n (p .0) (p .1))) (walkPrice lid (suc n) (p .0) (p .1))) (product olds olds)
 
     unfoldable pub levels′ : ℕ → ℕ → Option Hit
     levels′ zero n = none

@@ -1,6 +1,6 @@
 -- The early stop: where a layer adds nothing to the one before, none after it does, and no later level finds anything that this one does
 -- not. So the search that stops there finds the same, the rival too.
-use Prim.Native.Nat.{ℕ, zero, suc, _+_, _*_, _≤_, min}
+use Prim.Native.Nat.{ℕ, zero, suc, _+_, _*_, _≤_}
 use native.Mathlib.Omega.{arith}
 use mathlib.Core.Path.{_≡_, refl, sym, ap, ap₂, _∙_}
 use mathlib.Core.Bool.{Bool}
@@ -12,7 +12,7 @@ use Rattle.lists.specs.Keep.{all-∈, product, product-∈, ∈-product}
 use Rattle.lists.specs.First.{or-same, first-none}
 use Rattle.model.specs.Instance.{Instance}
 use Rattle.graph.specs.Walk.{Old}
-use Rattle.search.specs.Search.{loop, olds, tip, walkPrice, trace, asWhole, directs, aloneAt, loopAt, wholeAt, levels, search, still, levels′, search′}
+use Rattle.search.specs.Search.{kept, loop, olds, tip, walkPrice, trace, asWhole, directs, aloneAt, loopAt, wholeAt, levels, search, still, levels′, search′}
 use Rattle.search.specs.Table.{Still, still-next}
 use Rattle.search.specs.Cells.{old-∈, ∈-old, next}
 use Rattle.search.specs.Levels.{loopAt-answer, wholeAt-answer}
@@ -23,8 +23,8 @@ module _ (G : Instance) (M : ℕ → Bool) (lid k : ℕ) where
 
   stays : (n : ℕ) → T (still G M lid k n) → Stays n
   unfolding still
-  stays n t x z ox oz = leb→le (min lid (walkPrice G M lid n x z + 2)) (walkPrice G M lid (suc n) x z)
-      (all-∈ (λ p. leb (min lid (walkPrice G M lid n (p .0) (p .1) + 2)) (walkPrice G M lid (suc n) (p .0) (p .1))) (product (olds G M) (olds G M)) t (x, z) (product-∈ (olds G M) (olds G M) (old-∈ G M ox) (old-∈ G M oz)))
+  stays n t x z ox oz = leb→le (kept lid (walkPrice G M lid n x z)) (walkPrice G M lid (suc n) x z)
+      (all-∈ (λ p. leb (kept lid (walkPrice G M lid n (p .0) (p .1))) (walkPrice G M lid (suc n) (p .0) (p .1))) (product (olds G M) (olds G M)) t (x, z) (product-∈ (olds G M) (olds G M) (old-∈ G M ox) (old-∈ G M oz)))
 
   -- level n finds nothing
   record Quiet (n : ℕ) : Type 0 where

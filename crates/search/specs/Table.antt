@@ -1,7 +1,7 @@
 -- The tables of the search by what they must satisfy, whatever computes them: the least prices of arcs, of walks of at most n arcs, of
 -- starts with ends. From such tables: if they show nothing below k, nothing of so few arcs costs less than k; and what they show first
 -- repeats nothing, so that it makes a rival. Prices are those of Search, 2 more than the cost for an arc and for an end.
-use Prim.Native.Nat.{ℕ, suc, _+_, _*_, _≤_, _<_, min}
+use Prim.Native.Nat.{ℕ, suc, _+_, _*_, _≤_, _<_}
 use native.Mathlib.Omega.{arith}
 use native.Mathlib.Decide.{decLt}
 use mathlib.Core.Path.{_≡_, refl, sym, ap, subst}
@@ -19,7 +19,7 @@ use Rattle.walks.specs.Arcs.{fs, zs}
 use Rattle.walks.specs.Ends.{Way, lose, gain, endPlus, endMinus}
 use Rattle.walks.specs.Whole.{Start, Stop, Apart, Whole, startPlus, startMinus, stopPlus, stopMinus, comers, simple, simple-loop}
 use Rattle.walks.specs.LemmaW.{Dear, DearWhole, NoDirect, DearTo, DearWholeTo, closed-step, whole-step, first-∈}
-use Rattle.search.specs.Search.{price, endPrice, tipPrice}
+use Rattle.search.specs.Search.{kept, price, endPrice, tipPrice}
 use Rattle.search.specs.Dear.{DearWholes}
 
 end-price : (rank : ℕ → ℕ) (z : ℕ) (b : Way) → endPrice rank z b + endMinus rank z b ≡ endPlus rank z b + 2
@@ -147,7 +147,7 @@ module _ (G : Instance) (M : ℕ → Bool) where
 
   -- ---- a table that the next one leaves as it is, is left so for ever
   abbrev pub Still : ℕ → (ℕ → ℕ → ℕ) → (ℕ → ℕ → ℕ) → Type 0
-  Still lid d d′ = (x z : ℕ) → Old G M x → Old G M z → min lid (d x z + 2) ≤ d′ x z
+  Still lid d d′ = (x z : ℕ) → Old G M x → Old G M z → kept lid (d x z) ≤ d′ x z
 
   pub still-next : {lid : ℕ} {a : ℕ → ℕ → ℕ × ℕ} {d d′ d″ : ℕ → ℕ → ℕ} {tr tr′ tr″ : ℕ → ℕ → Steps} → Next lid a d tr d′ tr′ → Next lid a d′ tr′ d″ tr″ → Still lid d d′ → Still lid d′ d″
   still-next {lid} {d″ = d″} p q h x z ox oz = by-cases (decLt (d″ x z) lid)
