@@ -24,7 +24,7 @@ use Rattle.search.specs.Dear.{DearBelow}
 use Rattle.search.specs.Left.{filled, grown, take-yielding, take-entering, known-part, votesFor, votesAgainst, Left, left-without}
 
 module _ (G : Instance) (M : ℕ → Bool) (k n : ℕ) (dear : DearBelow G M k n) where
-  -- an exchange with fewer starts and couples costs nothing less than 0
+  -- a smaller exchange costs at least 0
   abbrev pub Rest : ℕ → Type 0
   Rest size = (cS : List Couple) (lS : List ℕ) (cT : List Couple) (lT : List ℕ) → length cT + length lS ≤ size → filled cT < n → Left G M cS lS cT lT [] [] → votesAgainst G cS cT ≤ votesFor G cS lS cT lT
 

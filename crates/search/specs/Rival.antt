@@ -35,7 +35,7 @@ sizeOf G M = length (edgesIn (G .m) (on M))
 unfoldable pub computedVerdict : Instance → Plan → Verdict
 computedVerdict G M = verdictBy G (on M) lid (sizeOf G M)
 
--- M itself if it is strong
+-- if nothing is found, the plan of M's own edges; nothing is asked of it then
 unfoldable pub rivalOf : Instance → Plan → Plan
 rivalOf G M = planOf (G .m) (rivalEdges G (on M) lid (sizeOf G M))
 
