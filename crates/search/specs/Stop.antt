@@ -24,7 +24,8 @@ module _ (G : Instance) (M : ℕ → Bool) (lid k : ℕ) where
   stays : (n : ℕ) → T (still G M lid k n) → Stays n
   unfolding still
   stays n t x z ox oz = leb→le (kept lid (walkPrice G M lid n x z)) (walkPrice G M lid (suc n) x z)
-      (all-∈ (λ p. leb (kept lid (walkPrice G M lid n (p .0) (p .1))) (walkPrice G M lid (suc n) (p .0) (p .1))) (product (olds G M) (olds G M)) t (x, z) (product-∈ (olds G M) (olds G M) (old-∈ G M ox) (old-∈ G M oz)))
+      (all-∈ (λ p. leb (kept lid (walkPrice G M lid n (p .0) (p .1))) (walkPrice G M lid (suc n) (p .0) (p .1))) (product (olds G M) (olds G M)) t
+      (x, z) (product-∈ (olds G M) (olds G M) (old-∈ G M ox) (old-∈ G M oz)))
 
   -- level n finds nothing
   record Quiet (n : ℕ) : Type 0 where

@@ -71,7 +71,8 @@ module _ (G : Instance) (M : ℕ → Bool) where
       low x ((f, z) ∷ []) y o h p q = omega (arith, t .low x f z o (h .0), ap (λ u. a x u .0) (h .1), rate-up (G .rankT x) (G .rankT f), rate-up (G .rankS z) (G .rankS f))
       low x ((f, z) ∷ s ∷ w) y o h p q = absurd (omega arith)
 
-  pub next-layer : {lid n : ℕ} {a : ℕ → ℕ → ℕ × ℕ} {d d′ : ℕ → ℕ → ℕ} {tr tr′ : ℕ → ℕ → Steps} → 0 < n → Arcs lid a → Layer lid n d tr → Next lid a d tr d′ tr′ → Layer lid (suc n) d′ tr′
+  pub next-layer : {lid n : ℕ} {a : ℕ → ℕ → ℕ × ℕ} {d d′ : ℕ → ℕ → ℕ} {tr tr′ : ℕ → ℕ → Steps}
+      → 0 < n → Arcs lid a → Layer lid n d tr → Next lid a d tr d′ tr′ → Layer lid (suc n) d′ tr′
   next-layer {lid} {n} {a} {d} {d′} {tr} {tr′} pn t l nx = record { low = low; hit = hit }
     where
       low : (x : ℕ) (w : Steps) (y : ℕ) → Old G M x → Walk G M x w y → 0 < length w → length w ≤ suc n → d′ x y + minus G x w ≤ plus G x w + 2 * suc n
@@ -149,7 +150,8 @@ module _ (G : Instance) (M : ℕ → Bool) where
   abbrev pub Still : ℕ → (ℕ → ℕ → ℕ) → (ℕ → ℕ → ℕ) → Type 0
   Still lid d d′ = (x z : ℕ) → Old G M x → Old G M z → kept lid (d x z) ≤ d′ x z
 
-  pub still-next : {lid : ℕ} {a : ℕ → ℕ → ℕ × ℕ} {d d′ d″ : ℕ → ℕ → ℕ} {tr tr′ tr″ : ℕ → ℕ → Steps} → Next lid a d tr d′ tr′ → Next lid a d′ tr′ d″ tr″ → Still lid d d′ → Still lid d′ d″
+  pub still-next : {lid : ℕ} {a : ℕ → ℕ → ℕ × ℕ} {d d′ d″ : ℕ → ℕ → ℕ} {tr tr′ tr″ : ℕ → ℕ → Steps}
+      → Next lid a d tr d′ tr′ → Next lid a d′ tr′ d″ tr″ → Still lid d d′ → Still lid d′ d″
   still-next {lid} {d″ = d″} p q h x z ox oz = by-cases (decLt (d″ x z) lid)
       (λ l. ⊎-elim
       (λ e. omega (arith, e .0))
