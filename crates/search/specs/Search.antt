@@ -2,7 +2,7 @@
 -- An arc x → z by f, for x and z in M and f outside: x gives way to f at its stand and z at its surveyor. A walk of arcs with a start and
 -- an end, a closed walk, or one edge with room at both ends makes another plan, and its cost is at least the vote of M against it.
 -- An arc, a start and an end cost at least -2 each: a table holds costs with 2 added for each, so that they are numbers, and cuts them at
--- a lid, which stands for "none". With at most 64 edges in M the lid 133 is enough, so that a byte holds every cell.
+-- a lid, which stands for "none". With at most 64 edges in M the lid 133 is enough, so that a byte holds every price.
 -- A program needs the table of the arcs, that of the ends, and one layer, changed level by level; the walk that is found is read back
 -- from one column (Column).
 use Prim.Native.Nat.{ℕ, zero, suc, _+_, _*_, min}
