@@ -16,22 +16,21 @@ use Rattle.lists.specs.Sum.{_∈_, range, ∈-range, upTo, upTo-<}
 use Rattle.lists.specs.Keep.{keep-∈, ∈-keep, any?, any-∈}
 use Rattle.lists.specs.Distinct.{Nodup, nodup-keep, only-one, no-element}
 use Rattle.model.specs.Instance.{Instance, Side, surveyors, stands, deg}
-use Rattle.model.specs.Plans.{Plan, on, choices, within, plansOf, samePlan, Verdict, strong, popular, beaten, isStrong, voteOf, verdictOf, strongPlans, strongCount}
+use Rattle.model.specs.Plans.{Plan, on, choices, within, plansOf, Verdict, strong, popular, beaten, isStrong, voteOf, verdictOf, strongPlans, strongCount}
 use Rattle.model.specs.PlanFile.{edgesIn, planOf}
 use Rattle.model.specs.Reduction.{endOf}
 use Rattle.model.specs.Blocking.{yields, blocks, someBlocks}
 use Rattle.model.specs.Finder.{leftOf, candidateOf, Found, plan, left, rivalled, found, isEmpty, finderOf}
 use Rattle.graph.specs.Lawful.{Lawful}
 use Rattle.graph.specs.Walk.{NoBad}
-use Rattle.votes.specs.Laws.{vote-same}
 use Rattle.walks.specs.Strong.{Strong}
 use Rattle.walks.specs.LemmaW.{no-bad}
 use Rattle.reduction.specs.Wholes.{Welcome, no-blocking}
 use Rattle.reduction.specs.Course.{end-matching}
 use Rattle.reduction.specs.Run.{left-none, is-fixed}
 use Rattle.rosters.specs.Chosen.{choices-once}
-use Rattle.rosters.specs.Matchings.{plan-is, plan-matching, planOf-same, matching-plan, same-plans, samePlan-eq}
-use Rattle.demand.specs.Verdicts.{Says, verdict-says}
+use Rattle.search.specs.Plans.{plan-matching, planOf-same, edges-plan, matching-plan, other-plan, vote-planOf}
+use Rattle.search.specs.Meaning.{strong-means}
 
 strong-is : (v : Verdict) → T (isStrong v) → v ≡ strong
 strong-is strong t = refl
@@ -42,9 +41,8 @@ module _ (G : Instance) (L : Lawful G) where
   -- ---- a strong plan, by the votes against all plans, is strong against all matchings
   strong-matching : (M : Plan) → M ∈ plansOf G → verdictOf G M ≡ strong → Strong G (on M)
   strong-matching M m e = record {
-    plan = plan-matching G L M m;
-    wins = λ N h o. subst (λ z. _<ℤ_ (pos 0) z) (vote-same G (on M) (on (planOf (G .m) N)) (on M) N (λ d l. refl) (planOf-same G N))
-        (subst (Says G M) e (verdict-says G M) (planOf (G .m) N) (matching-plan G N h, not-T (samePlan M (planOf (G .m) N)) (λ t. o (λ d l. ap (λ P. on P d) (samePlan-eq M (planOf (G .m) N) t) ∙ planOf-same G N d l))));
+    plan = plan-matching G L m;
+    wins = λ N h o. subst (λ z. _<ℤ_ (pos 0) z) (sym (vote-planOf G M N)) (strong-means G M L m .0 e (planOf (G .m) N) (matching-plan G h) (other-plan G M o));
   }
 
   strong-walks : (M : Plan) → M ∈ plansOf G → verdictOf G M ≡ strong → NoBad G (on M)
@@ -59,16 +57,16 @@ module _ (G : Instance) (L : Lawful G) where
   nothing-left : (M : Plan) → M ∈ strongPlans G → leftOf G ≡ []
   unfolding leftOf
   nothing-left M m = given (strong-member M m) (λ (k, e). no-element (edgesIn (G .m) (endOf G .rem)) (λ d h.
-      given (∈-keep (endOf G .rem) (range 0 (G .m)) h) (λ (r, t). left-none L (plan-matching G L M k) (strong-walks M k e) d (given (∈-range (G .m) 0 r .1) (λ l. omega arith)) t)))
+      given (∈-keep (endOf G .rem) (range 0 (G .m)) h) (λ (r, t). left-none L (plan-matching G L k) (strong-walks M k e) d (given (∈-range (G .m) 0 r .1) (λ l. omega arith)) t)))
 
   candidate-plan : candidateOf G ∈ plansOf G
   unfolding candidateOf
-  candidate-plan = matching-plan G (endOf G .fixed) (end-matching G)
+  candidate-plan = matching-plan G (end-matching G)
 
   the-candidate : (M : Plan) → M ∈ strongPlans G → M ≡ candidateOf G
   unfolding candidateOf
-  the-candidate M m = given (strong-member M m) (λ (k, e). same-plans G M (planOf (G .m) (endOf G .fixed)) (plan-is G M k .0) (plan-is G (candidateOf G) candidate-plan .0)
-      (λ d l. is-fixed L (plan-matching G L M k) (strong-walks M k e) d l ∙ sym (planOf-same G (endOf G .fixed) d l)))
+  the-candidate M m = given (strong-member M m) (λ (k, e). edges-plan G k candidate-plan
+      (λ d l. is-fixed L (plan-matching G L k) (strong-walks M k e) d l ∙ planOf-same G (endOf G .fixed) d l))
 
   plans-once : Nodup (plansOf G)
   unfolding plansOf

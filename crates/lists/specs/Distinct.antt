@@ -7,16 +7,12 @@ use mathlib.Core.Bool.{Bool, true, false, cond}
 use mathlib.Core.List.{List, [], _∷_, _++_, map, List·Memᴰ·head, List·Memᴰ·tail, List·Memᴰ·not-nil, List·Memᴰ·append-cases, Memᴰ·cast, Memᴰ·of-map}
 use lib.ListN.{length}
 use Rattle.lists.specs.Sum.{_∈_, upTo, upTo-length, upTo-∈}
-use Rattle.lists.specs.Keep.{keep, ∈-keep, remove}
+use Rattle.lists.specs.Keep.{keep, ∈-keep, remove, remove-length}
 
 module _ {A : Type 0} where
   abbrev pub Nodup : List A → Type 0
   Nodup [] = Unit {0}
   Nodup (x ∷ xs) = (x ∈ xs → ⊥) × Nodup xs
-
-  remove-length : {a : A} {xs : List A} (m : a ∈ xs) → suc (length (remove m)) ≡ length xs
-  remove-length (List·Memᴰ·head e) = refl
-  remove-length (List·Memᴰ·tail m) = ap suc (remove-length m)
 
   remove-other : {a b : A} {xs : List A} (m : a ∈ xs) → b ∈ xs → b ≢ a → b ∈ remove m
   remove-other (List·Memᴰ·head e) (List·Memᴰ·head d) n = absurd (n (d ∙ sym e))

@@ -59,6 +59,16 @@ parts-< (pos a) (negsuc b) h = absurd (omega arith)
 parts-< (negsuc a) (pos b) h = record { lt = tt }
 parts-< (negsuc a) (negsuc b) h = record { lt = lt→ltb b a (omega arith) }
 
+pub <→≤ : {a b : ℤ} → a <ℤ b → a ≤ℤ b
+<→≤ {a} {b} h = parts-≤ a b (omega (arith, <-parts a b h))
+
+pub ≤-antisym : (a b : ℤ) → a ≤ℤ b → b ≤ℤ a → a ≡ b
+≤-antisym a b h k = parts-≡ a b (omega (arith, ≤-parts a b h, ≤-parts b a k))
+
+-- two numbers above zero do not add to zero or less
+pub sum-above : (a b : ℤ) → pos 0 <ℤ a → pos 0 <ℤ b → (a +ℤ b) ≤ℤ pos 0 → ⊥
+sum-above a b h k l = omega (arith, <-parts (pos 0) a h, <-parts (pos 0) b k, ≤-parts (a +ℤ b) (pos 0) l, add-parts a b)
+
 -- ---- differences
 pub pos-sub : (n : ℕ) → pos n ≡ subℕ n 0
 pos-sub n = parts-≡ (pos n) (subℕ n 0) (omega (arith, sub-parts n 0))

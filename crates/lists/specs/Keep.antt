@@ -8,8 +8,8 @@ use mathlib.Core.Bool.{Bool, true, false, not, cond, _&&_, _||_}
 use mathlib.Core.List.{List, [], _∷_, _++_, map, List·Memᴰ·head, List·Memᴰ·tail, List·Memᴰ·not-nil, List·Memᴰ·append-cases, Memᴰ·append-left, Memᴰ·append-right, Memᴰ·map, Memᴰ·of-map}
 use lib.ListN.{length, getD}
 use lib.Dec.{T, T-not}
-use Rattle.lists.specs.Test.{true-T, and-l, and-r, and-i, bit, pk}
-use Rattle.lists.specs.Sum.{_∈_, sum, sum-add, sum-cong, sum-append}
+use Rattle.lists.specs.Test.{true-T, and-l, and-r, and-i, bit, bit-pk, pk}
+use Rattle.lists.specs.Sum.{_∈_, sum, sum-add, sum-cong, sum-append, sum-length}
 
 module _ {A : Type 0} where
   -- the elements that pass a test
@@ -24,6 +24,9 @@ module _ {A : Type 0} where
       go : (b : Bool) → sum g (keep p xs) ≡ sum (λ x. pk (p x) (g x)) xs → sum g (cond b (x ∷ keep p xs) (keep p xs)) ≡ pk b (g x) + sum (λ x. pk (p x) (g x)) xs
       go true h = omega arith
       go false h = omega arith
+
+  pub keep-length : (p : A → Bool) (xs : List A) → length (keep p xs) ≡ sum (λ x. bit (p x)) xs
+  keep-length p xs = sum-length (keep p xs) ∙ sum-keep (λ x. 1) p xs ∙ sum-cong (λ x. pk (p x) 1) (λ x. bit (p x)) xs (λ x m. sym (bit-pk (p x)))
 
   -- what passes r passes p or q, and not both
   pub sum-keep-add : (g : A → ℕ) (p q r : A → Bool) (xs : List A) → ((x : A) (n : ℕ) → pk (p x) n + pk (q x) n ≡ pk (r x) n) → sum g (keep p xs) + sum g (keep q xs) ≡ sum g (keep r xs)
@@ -151,10 +154,10 @@ module _ {A : Type 0} where
       go false e (inr (t, h)) = inr (t, none e h)
 
   pub any-∈ : (p : A → Bool) (xs : List A) → T (any? p xs) → (x : A) × (x ∈ xs) × T (p x)
-  any-∈ p xs t = ⊎-elim (λ (u, w). w) (λ (n, h). absurd (T-not (any? p xs) n t)) (any-or p xs)
+  any-∈ p xs t = ⊎-elim (λ (s, w). w) (λ (n, h). absurd (T-not (any? p xs) n t)) (any-or p xs)
 
   pub none-∈ : (p : A → Bool) (xs : List A) → T (not (any? p xs)) → (x : A) → x ∈ xs → T (not (p x))
-  none-∈ p xs n = ⊎-elim (λ (u, w). absurd (T-not (any? p xs) n u)) (λ (k, h). h) (any-or p xs)
+  none-∈ p xs n = ⊎-elim (λ (t, w). absurd (T-not (any? p xs) n t)) (λ (m, h). h) (any-or p xs)
 
   pub getD-∈ : (xs : List A) (i : ℕ) (d : A) → i < length xs → getD xs i d ∈ xs
   getD-∈ [] i d h = absurd (not-suc-le-zero h)
@@ -169,6 +172,15 @@ module _ {A : Type 0} where
   pub sum-remove : (g : A → ℕ) {a : A} {xs : List A} (m : a ∈ xs) → sum g xs ≡ g a + sum g (remove m)
   sum-remove g (List·Memᴰ·head {xs = xs} e) = ap (λ z. g z + sum g xs) (sym e)
   sum-remove g (List·Memᴰ·tail m) = omega (arith, sum-remove g m)
+
+  pub remove-∈ : {a b : A} {xs : List A} (m : a ∈ xs) → b ∈ remove m → b ∈ xs
+  remove-∈ (List·Memᴰ·head e) k = List·Memᴰ·tail k
+  remove-∈ (List·Memᴰ·tail m) (List·Memᴰ·head e) = List·Memᴰ·head e
+  remove-∈ (List·Memᴰ·tail m) (List·Memᴰ·tail k) = List·Memᴰ·tail (remove-∈ m k)
+
+  pub remove-length : {a : A} {xs : List A} (m : a ∈ xs) → suc (length (remove m)) ≡ length xs
+  remove-length (List·Memᴰ·head e) = refl
+  remove-length (List·Memᴰ·tail m) = ap suc (remove-length m)
 
   -- each element, with the rest
   abbrev pub picks : List A → List (A × List A)
@@ -208,6 +220,20 @@ module _ {A : Type 0} where
 pub sum-gather : {A B : Type 0} (g : B → ℕ) (f : A → List B) (xs : List A) → sum g (gather f xs) ≡ sum (λ x. sum g (f x)) xs
 sum-gather g f [] = refl
 sum-gather g f (x ∷ xs) = omega (arith, sum-append g (f x) (gather f xs), sum-gather g f xs)
+
+-- ---- every element of one list with every one of another
+module _ {A B : Type 0} where
+  abbrev pub product : List A → List B → List (A × B)
+  product xs ys = gather (λ x. map (λ y. (x, y)) ys) xs
+
+  pub product-∈ : {x : A} {y : B} (xs : List A) (ys : List B) → x ∈ xs → y ∈ ys → _∈_ {A = A × B} (x, y) (product xs ys)
+  product-∈ {x} xs ys m k = ∈-gather (λ x. map (λ y. (x, y)) ys) xs m (Memᴰ·map (λ y. (x, y)) k)
+
+  pub ∈-product : (p : A × B) (xs : List A) (ys : List B) → p ∈ product xs ys → (p .0 ∈ xs) × (p .1 ∈ ys)
+  ∈-product p xs ys m =
+      let u = gather-∈ (λ x. map (λ y. (x, y)) ys) xs m in
+      let v = Memᴰ·of-map (λ y. (u .0, y)) ys (u .2) in
+      (subst (λ q. q .0 ∈ xs) (v .2) (u .1), subst (λ q. q .1 ∈ ys) (v .2) (v .1))
 
 -- ---- a property of every element
 module _ {A : Type 0} (P : A → Type 0) where

@@ -6,4 +6,6 @@ pub mod Occur
 pub mod Twice
 pub mod Integer
 pub mod Search
+pub mod First
+pub mod Rows
 pub mod Distinct

@@ -15,7 +15,7 @@ use Rattle.model.specs.PlanFile.{readPlan}
 use Rattle.model.specs.Desk.{Held, nothing, roster, planned, sound, Call, loadRoster, loadPlan, writeRosterTo, writePlanTo, find, judge, compare, blocking, withRoster, withPlan, deskAfter}
 use Rattle.formats.specs.Reads.{isBytes}
 use Rattle.formats.specs.Rosters.{read-fits}
-use Rattle.rosters.specs.Matchings.{plan-is}
+use Rattle.rosters.specs.Chosen.{plan-length, plan-within}
 use Rattle.rosters.specs.PlanFiles.{plan-read-within}
 
 -- what is lent as a file is bytes
@@ -44,9 +44,9 @@ unfolding sound
 plan-sound h r file t f s = go (readPlan (instanceOf r) file) refl
   where
     go : (x : Reading Plan) → readPlan (instanceOf r) file ≡ x → T (sound (withPlan h r x))
-    go (accepted M) e = given (plan-is (instanceOf r) M (plan-read-within (instanceOf r) file M t e)) (λ (l, w).
+    go (accepted M) e = given (plan-read-within (instanceOf r) file M t e) (λ m.
         and-i (fits r) (eqb (length M) (instanceOf r .m) && within (instanceOf r) (on M)) f
-        (and-i (eqb (length M) (instanceOf r .m)) (within (instanceOf r) (on M)) (eq→eqb (length M) (instanceOf r .m) l) w))
+        (and-i (eqb (length M) (instanceOf r .m)) (within (instanceOf r) (on M)) (eq→eqb (length M) (instanceOf r .m) (plan-length (instanceOf r) m)) (plan-within (instanceOf r) m)))
     go (turned n) e = s
 
 pub desk-sound : (h : Held) (c : Call) → T (lendsBytes c) → T (sound h) → T (sound (deskAfter h c))

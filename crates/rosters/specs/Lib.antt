@@ -1,7 +1,6 @@
 pub mod Position
 pub mod Ascending
 pub mod Chosen
-pub mod Matchings
 pub mod PlanFiles
 pub mod Laws
 pub mod Desks

@@ -20,13 +20,13 @@ use Rattle.model.specs.Reading.{got, _then_, accepted, whole}
 use Rattle.model.specs.RosterFile.{readCount}
 use Rattle.model.specs.Roster.{elem}
 use Rattle.model.specs.Instance.{Instance, Side, surveyors, stands}
-use Rattle.model.specs.Plans.{Plan, on, withinSide, plansOf}
+use Rattle.model.specs.Plans.{Plan, on, withinSide, within, plansOf}
 use Rattle.model.specs.PlanFile.{pairBytes, edgesIn, pairList, planBytes, edgeOfPair, full, Pairs, pairCheck, withPair, readPairs, planOfPairs, readPlan}
+use Rattle.graph.specs.Within.{within-side, matching-within}
 use Rattle.formats.specs.Reads.{isBytes, Reads, Passes, each, two-bytes, got-value, got-rest, then-got, whole-accepted}
 use Rattle.formats.specs.Entries.{cond-zero, zero-cond}
 use Rattle.formats.specs.Sections.{alike, counted}
-use Rattle.rosters.specs.Matchings.{within-deg, within-sides, sides-within, plan-is, is-plan}
-use Rattle.rosters.specs.Chosen.{on-planOf, planOf-length, planOf-on, planOf-cong, edgesIn-cong, From, Below, keep-from, keep-below, edges-of-elem, elem-edgesIn, atNode, deg-atNode}
+use Rattle.rosters.specs.Chosen.{on-planOf, planOf-length, planOf-on, planOf-cong, edgesIn-cong, plan-length, plan-within, within-plan, From, Below, keep-from, keep-below, edges-of-elem, elem-edgesIn, atNode, deg-atNode}
 
 -- what the laws ask of an instance
 pub record Fileable (G : Instance) : Type 0 where
@@ -163,10 +163,10 @@ module _ (G : Instance) where
     plan-read-within = given (plan-pairs bs M isB e) (λ X.
         given (edges-are M (X .ps) (X .passing) (X .plan)) (λ q.
         given (passes-fit start (X .ps) (λ v. zero-le) (λ v. zero-le) (X .passing)) (λ (f, g).
-        is-plan G M (ap length (X .plan) ∙ planOf-length (G .m) (λ d. elem d (edges (X .ps))))
-        (sides-within G (on M)
-        (λ v. subst (λ n. n ≤ G .quotaS v) (sym (deg-atNode (surveyors G) (on M) v ∙ ap (atNode (surveyors G) v) q)) (f v))
-        (λ v. subst (λ n. n ≤ G .quotaT v) (sym (deg-atNode (stands G) (on M) v ∙ ap (atNode (stands G) v) q)) (g v))))))
+        within-plan G M (ap length (X .plan) ∙ planOf-length (G .m) (λ d. elem d (edges (X .ps)))) (matching-within G (on M) (record {
+          atS = λ v. subst (λ n. n ≤ G .quotaS v) (sym (deg-atNode (surveyors G) (on M) v ∙ ap (atNode (surveyors G) v) q)) (f v);
+          atT = λ v. subst (λ n. n ≤ G .quotaT v) (sym (deg-atNode (stands G) (on M) v ∙ ap (atNode (stands G) v) q)) (g v);
+        })))))
 
     -- at most 129 bytes
     pub plan-accepted-size : length bs ≤ planSize
@@ -205,8 +205,8 @@ module _ (G : Instance) where
       each-once [] b = refl
       each-once (e ∷ es) b = omega (arith, once e (b .0), each-once es (b .1))
 
-  fits-within : (K : Side) → ((e : ℕ) → e < K .m → K .end e < K .n) → (M : Plan) → T (withinSide K (on M)) → Fits K (edgesIn (K .m) (on M))
-  fits-within K inside M t v = subst (λ n. n ≤ K .quota v) (deg-atNode K (on M) v) (within-deg K inside (on M) t v)
+  fits : (K : Side) → ((e : ℕ) → e < K .m → K .end e < K .n) → (M : Plan) → T (withinSide K (on M)) → Fits K (edgesIn (K .m) (on M))
+  fits K inside M t v = subst (λ n. n ≤ K .quota v) (deg-atNode K (on M) v) (within-side K (on M) inside t v)
 
   module _ (F : Fileable G) (M : Plan) (ok : M ∈ plansOf G) where
     abbrev es : List ℕ
@@ -216,10 +216,12 @@ module _ (G : Instance) where
     below = keep-below (on M) 0 (G .m) (G .m) (omega arith)
 
     fitsS : Fits (surveyors G) es
-    fitsS = fits-within (surveyors G) (F .insideS) M (within-sides G (on M) (plan-is G M ok .1) .0)
+    unfolding within
+    fitsS = fits (surveyors G) (F .insideS) M (and-l (withinSide (surveyors G) (on M)) (withinSide (stands G) (on M)) (plan-within G ok))
 
     fitsT : Fits (stands G) es
-    fitsT = fits-within (stands G) (F .insideT) M (within-sides G (on M) (plan-is G M ok .1) .1)
+    unfolding within
+    fitsT = fits (stands G) (F .insideT) M (and-r (withinSide (surveyors G) (on M)) (withinSide (stands G) (on M)) (plan-within G ok))
 
     -- at most 64 pairs
     pub plan-few : length es ≤ planLimit
@@ -245,7 +247,7 @@ module _ (G : Instance) where
         let small : T (leb (length ps) planLimit) = le→leb (length ps) planLimit (subst (λ n. n ≤ planLimit) (sym (length-map es pairOf)) plan-few) in
         let pass : PairsPass start ps = written-passes F start es (keep-from (on M) 0 (G .m)) below fitsS fitsT in
         let read = ap (λ bs. readCount planLimit bs then readPairs G) file ∙ pairs .forth ps [] (small, (every-unit ps, pass)) in
-        let back : planOfPairs G ps ≡ M = planOf-cong (G .m) (λ e. elem e (edges ps)) (on M) (λ e h. ap (elem e) (edges-back es below) ∙ elem-edgesIn (G .m) (on M) e h) ∙ planOf-on (G .m) M (plan-is G M ok .0) in
+        let back : planOfPairs G ps ≡ M = planOf-cong (G .m) (λ e. elem e (edges ps)) (on M) (λ e h. ap (elem e) (edges-back es below) ∙ elem-edgesIn (G .m) (on M) e h) ∙ planOf-on (G .m) M (plan-length G ok) in
         ap (λ r. whole (r then (λ ps rest. got (planOfPairs G ps) rest))) read ∙ ap accepted back
 
     -- a plan has at most 129 bytes

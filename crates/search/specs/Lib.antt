@@ -1,0 +1,15 @@
+pub mod Search
+pub mod Dear
+pub mod Left
+pub mod Follow
+pub mod Cutting
+pub mod Table
+pub mod Cells
+pub mod Levels
+pub mod Stop
+pub mod Verdict
+pub mod Plans
+pub mod Meaning
+pub mod Rival
+pub mod Column
+pub mod Tried
