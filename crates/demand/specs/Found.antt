@@ -37,6 +37,19 @@ strong-is strong t = refl
 strong-is popular t = absurd t
 strong-is beaten t = absurd t
 
+module _ (G : Instance) where
+  -- what an answer says of the strongly popular plans
+  abbrev pub Answers : Found → Type 0
+  Answers (plan M) = strongPlans G ≡ M ∷ []
+  Answers (left es) = (strongPlans G ≡ []) × (es ≡ leftOf G) × (es ≢ [])
+  Answers (rivalled F N v) = (strongPlans G ≡ []) × (leftOf G ≡ []) × (F ≡ candidateOf G) × (v ≡ voteOf G F N)
+
+-- it hands back a plan
+abbrev pub handsBack : Found → Bool
+handsBack (plan M) = true
+handsBack (left es) = false
+handsBack (rivalled F N v) = false
+
 module _ (G : Instance) (L : Lawful G) where
   -- ---- a strong plan, by the votes against all plans, is strong against all matchings
   strong-matching : (M : Plan) → M ∈ plansOf G → verdictOf G M ≡ strong → Strong G (on M)
@@ -92,17 +105,11 @@ module _ (G : Instance) (L : Lawful G) where
   fixed-rivalled h = no-element (strongPlans G) (λ M m. h (ap (verdictOf G) (sym (the-candidate M m)) ∙ strong-member M m .1))
 
   -- ---- the finder's answer
-  -- what an answer says of the strongly popular plans
-  abbrev pub Answers : Found → Type 0
-  Answers (plan M) = strongPlans G ≡ M ∷ []
-  Answers (left es) = (strongPlans G ≡ []) × (es ≡ leftOf G) × (es ≢ [])
-  Answers (rivalled F N v) = (strongPlans G ≡ []) × (leftOf G ≡ []) × (F ≡ candidateOf G) × (v ≡ voteOf G F N)
-
-  pub finder-answers : (rivalOf : Plan → Plan) → Answers (finderOf G rivalOf)
+  pub finder-answers : (rivalOf : Plan → Plan) → Answers G (finderOf G rivalOf)
   unfolding finderOf
   finder-answers rivalOf = by-left (leftOf G) refl
     where
-      judged : leftOf G ≡ [] → (v : Verdict) → verdictOf G (candidateOf G) ≡ v → Answers (found G rivalOf v)
+      judged : leftOf G ≡ [] → (v : Verdict) → verdictOf G (candidateOf G) ≡ v → Answers G (found G rivalOf v)
       judged n strong e = fixed-strong e
       judged n popular e = (fixed-rivalled (λ q. apart (sym e ∙ q)), n, refl, refl)
         where
@@ -116,17 +123,12 @@ module _ (G : Instance) (L : Lawful G) where
       some : (x : ℕ) (xs : List ℕ) → x ∷ xs ≢ []
       some x xs q = subst (λ z. T (not (isEmpty z))) q tt
 
-      by-left : (es : List ℕ) → leftOf G ≡ es → Answers (elim (isEmpty es) as (λ b. Found) [ true ↦ found G rivalOf (verdictOf G (candidateOf G)) | false ↦ left es ])
+      by-left : (es : List ℕ) → leftOf G ≡ es → Answers G (elim (isEmpty es) as (λ b. Found) [ true ↦ found G rivalOf (verdictOf G (candidateOf G)) | false ↦ left es ])
       by-left [] e = judged e (verdictOf G (candidateOf G)) refl
       by-left (x ∷ xs) e = (left-empty (λ q. some x xs (sym e ∙ q)), sym e, some x xs)
 
   -- a plan is handed back exactly when the count is one, none is said exactly when it is zero
-  abbrev pub handsBack : Found → Bool
-  handsBack (plan M) = true
-  handsBack (left es) = false
-  handsBack (rivalled F N v) = false
-
-  counted : (a : Found) → Answers a → (handsBack a ≡ eqb (strongCount G) 1) × (not (handsBack a) ≡ eqb (strongCount G) 0)
+  counted : (a : Found) → Answers G a → (handsBack a ≡ eqb (strongCount G) 1) × (not (handsBack a) ≡ eqb (strongCount G) 0)
   counted (plan M) e = (ap (λ Ms. eqb (length Ms) 1) (sym e), ap (λ Ms. eqb (length Ms) 0) (sym e))
   counted (left es) (e, x, y) = (ap (λ Ms. eqb (length Ms) 1) (sym e), ap (λ Ms. eqb (length Ms) 0) (sym e))
   counted (rivalled F N v) (e, x, y, z) = (ap (λ Ms. eqb (length Ms) 1) (sym e), ap (λ Ms. eqb (length Ms) 0) (sym e))

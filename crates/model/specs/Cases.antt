@@ -17,7 +17,7 @@ use Rattle.model.specs.RosterFile.{readRoster}
 use Rattle.model.specs.Edges.{position, edgesOf, instanceOf}
 use Rattle.model.specs.Instance.{Instance, stands, deg}
 use Rattle.model.specs.Vote.{nodeVote, vote}
-use Rattle.model.specs.Plans.{Plan, on, choices, within, plansOf, samePlan, Verdict, strong, popular, beaten, beats, ties, verdictOf, strongPlans, strongCount}
+use Rattle.model.specs.Plans.{Plan, on, choices, within, plansOf, samePlan, Verdict, strong, popular, beaten, beatenBy, drawnWith, verdictOf, strongPlans, strongCount}
 use Rattle.model.specs.Reduction.{cut, cutT, ahead, arrow, loose, reserved, betterS, betterT, worseReserved, rule1, rule2, rule3, rule4, rule5, rule6, rule7, names, lowest, ruleOf, edgeOf, fateOf, act, next, begin, stepsFrom, stateAfter, stepsOf, endOf}
 use Rattle.model.specs.PlanFile.{planBytes, edgeOfPair, readPlan}
 use Rattle.model.specs.Finder.{diaryOf, leftOf, candidateOf, finderOf}
@@ -48,7 +48,7 @@ orElse [] Ns = Ns
 orElse (M ∷ Ms) Ns = M ∷ Ms
 
 abbrev pub someRival : Instance → Plan → Plan
-someRival G M = firstOf M (orElse (keep (beats G M) (plansOf G)) (keep (ties G M) (plansOf G)))
+someRival G M = firstOf M (orElse (keep (beatenBy G M) (plansOf G)) (keep (drawnWith G M) (plansOf G)))
 
 -- the instance of accepted bytes, the plan of an accepted file
 abbrev pub instanceIn : Reading Roster → Instance
@@ -176,5 +176,5 @@ abbrev P14 : Case
 P14 = record { bytes = 1 ∷ 9 ∷ []; claims = prints "refused 3 content\n" ∷ [] }
 
 pub cases : Each True (P1 ∷ P2 ∷ P3 ∷ P4 ∷ P5 ∷ P6 ∷ P7 ∷ P8 ∷ P9 ∷ P10 ∷ P11 ∷ P12 ∷ P13 ∷ P14 ∷ [])
-unfolding count low text groupOf listed listedBack bothOrNeither readEach readRoster position edgesOf instanceOf deg nodeVote vote choices within plansOf samePlan beats ties verdictOf strongPlans cut ahead arrow loose reserved betterS betterT worseReserved rule1 rule2 rule3 rule4 rule5 rule6 rule7 names lowest ruleOf edgeOf fateOf act next begin stepsFrom stateAfter stepsOf endOf planBytes edgeOfPair readPlan diaryOf leftOf candidateOf finderOf blocks someBlocks digits printed
+unfolding count low text groupOf listed listedBack bothOrNeither readEach readRoster position edgesOf instanceOf deg nodeVote vote choices within plansOf samePlan beatenBy drawnWith verdictOf strongPlans cut ahead arrow loose reserved betterS betterT worseReserved rule1 rule2 rule3 rule4 rule5 rule6 rule7 names lowest ruleOf edgeOf fateOf act next begin stepsFrom stateAfter stepsOf endOf planBytes edgeOfPair readPlan diaryOf leftOf candidateOf finderOf blocks someBlocks digits printed
 cases = ((refl, ((refl, refl), ((refl, refl), tt))), ((refl, ((refl, refl), tt)), ((refl, ((refl, refl), ((refl, refl), ((refl, refl), tt)))), ((refl, ((refl, refl), ((refl, refl), ((refl, refl), tt)))), ((refl, ((refl, refl), ((refl, refl), tt))), ((refl, ((refl, refl), ((refl, refl), ((refl, refl), ((refl, refl), tt))))), (((refl, refl), ((refl, refl), tt)), (((refl, refl), tt), (((refl, refl), tt), ((refl, ((refl, refl), ((refl, refl), tt))), ((refl, ((refl, refl), tt)), ((refl, ((refl, refl), tt)), ((refl, tt), ((refl, tt), tt))))))))))))))

@@ -42,7 +42,7 @@ candidateOf G = planOf (G .m) (endOf G .fixed)
 -- what holds of a rival of M that is not strong: a plan within the quotas other than M, against which M's vote is below zero if M is
 -- beaten, zero if it is popular
 pub record Rival (G : Instance) (M N : Plan) : Type 0 where
-  pub within : N ∈ plansOf G
+  pub inQuotas : N ∈ plansOf G
   pub other : T (not (samePlan M N))
   pub wins : verdictOf G M ≡ beaten → voteOf G M N <ℤ pos 0
   pub draws : verdictOf G M ≡ popular → voteOf G M N ≡ pos 0

@@ -11,7 +11,7 @@ use Rattle.lists.specs.Sum.{_∈_}
 use Rattle.lists.specs.Keep.{any?, any-∈, none-∈}
 use Rattle.lists.specs.Integer.{<→≤, ≤-antisym, sum-above}
 use Rattle.model.specs.Instance.{Instance}
-use Rattle.model.specs.Plans.{Plan, on, plansOf, samePlan, Verdict, strong, popular, beaten, voteOf, beats, ties, verdictOf}
+use Rattle.model.specs.Plans.{Plan, on, plansOf, samePlan, Verdict, strong, popular, beaten, voteOf, beatenBy, drawnWith, verdictOf}
 use Rattle.graph.specs.Lawful.{Lawful}
 use Rattle.votes.specs.Laws.{vote-self, vote-both}
 use Rattle.search.specs.Plans.{same-plan, plan-matching}
@@ -47,12 +47,12 @@ module _ (G : Instance) (M : Plan) where
       (λ n. absurd (T-not (even N) t (and-i (leZ (voteOf G M N) (pos 0)) (leZ (pos 0) (voteOf G M N)) (ltZ-no {a = pos 0} {b = voteOf G M N} n .le) (l .le))))
 
   verdict-says : Means (verdictOf G M)
-  unfolding verdictOf beats ties
-  verdict-says = if-ind Means (any? (beats G M) (plansOf G))
-      (λ b. let (N, m, t) = any-∈ (beats G M) (plansOf G) b in (N, m, ltZ-yes t))
-      (λ b. given (λ N m. ltZ-no (none-∈ (beats G M) (plansOf G) b N m)) (λ (u : Unbeaten). if-ind Means (any? (ties G M) (plansOf G))
-      (λ e. let (N, m, t) = any-∈ (ties G M) (plansOf G) e in (u, (N, m, and-l (not (samePlan M N)) (even N) t, even-zero N (and-r (not (samePlan M N)) (even N) t))))
-      (λ e N m o. uneven-above N (u N m) (nand-r (not (samePlan M N)) (even N) (none-∈ (ties G M) (plansOf G) e N m) o))))
+  unfolding verdictOf beatenBy drawnWith
+  verdict-says = if-ind Means (any? (beatenBy G M) (plansOf G))
+      (λ b. let (N, m, t) = any-∈ (beatenBy G M) (plansOf G) b in (N, m, ltZ-yes t))
+      (λ b. given (λ N m. ltZ-no (none-∈ (beatenBy G M) (plansOf G) b N m)) (λ (u : Unbeaten). if-ind Means (any? (drawnWith G M) (plansOf G))
+      (λ e. let (N, m, t) = any-∈ (drawnWith G M) (plansOf G) e in (u, (N, m, and-l (not (samePlan M N)) (even N) t, even-zero N (and-r (not (samePlan M N)) (even N) t))))
+      (λ e N m o. uneven-above N (u N m) (nand-r (not (samePlan M N)) (even N) (none-∈ (drawnWith G M) (plansOf G) e N m) o))))
 
   -- ---- one of the three
   module _ (law : Lawful G) (ok : M ∈ plansOf G) where

@@ -68,7 +68,7 @@ module _ (G : Instance) (M : Plan) where
     told-at v e = subst (λ v. Told v (rivalOf G M)) (computed-verdict ∙ e) told
 
     is-rival : rivalOf G M ∈ plansOf G → T (not (samePlan M (rivalOf G M))) → Rival G M (rivalOf G M)
-    is-rival m o = record { within = m; other = o; wins = λ e. told-at beaten e .2; draws = λ e. told-at popular e .3 }
+    is-rival m o = record { inQuotas = m; other = o; wins = λ e. told-at beaten e .2; draws = λ e. told-at popular e .3 }
 
     pub beaten-rival : verdictOf G M ≡ beaten → Rival G M (rivalOf G M)
     beaten-rival e = is-rival (told-at beaten e .0) (told-at beaten e .1)
