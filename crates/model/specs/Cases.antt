@@ -1,5 +1,5 @@
 -- P1 to P10 of document 01, run by the checker: one theorem, `cases`, over a list of rosters with what document 01 says of each, and
--- what follows from it; P11 to P14 are four more. Every roster and plan in a claim must be accepted. Stands are counted from 0 here.
+-- what follows from it; P11 to P17 are more. Every roster and plan in a claim must be accepted. Stands are counted from 0 here.
 use Prim.Native.Nat.{ℕ}
 use Prim.Native.String.{String}
 use mathlib.Core.Path.{_≡_, refl}
@@ -175,6 +175,17 @@ P13 = record { bytes = []; claims = prints "refused 1 form\n" ∷ [] }
 abbrev P14 : Case
 P14 = record { bytes = 1 ∷ 9 ∷ []; claims = prints "refused 3 content\n" ∷ [] }
 
-pub cases : Each True (P1 ∷ P2 ∷ P3 ∷ P4 ∷ P5 ∷ P6 ∷ P7 ∷ P8 ∷ P9 ∷ P10 ∷ P11 ∷ P12 ∷ P13 ∷ P14 ∷ [])
+-- rules 4, 5 and 6 in turn, with outputs from the reference: N(s) of surveyor 1 is too large; 1-2 has no arrow at a firm stand; N(s) of
+-- surveyor 2 is too small
+abbrev P15 : Case
+P15 = record { bytes = 3 ∷ 1 ∷ 2 ∷ 2 ∷ 3 ∷ 1 ∷ 1 ∷ 1 ∷ 4 ∷ 0 ∷ 3 ∷ 2 ∷ 1 ∷ 3 ∷ 0 ∷ 1 ∷ 2 ∷ 4 ∷ 0 ∷ 0 ∷ 1 ∷ 1 ∷ 0 ∷ 2 ∷ 1 ∷ 3 ∷ 0 ∷ 1 ∷ 1 ∷ []; claims = prints "strike 1 3 4\nfix 3 2 6\nstrike 1 2 2\nfix 1 1 3\nplan 2\n1 1\n3 2\n" ∷ strongOnes 1 ∷ [] }
+
+abbrev P16 : Case
+P16 = record { bytes = 3 ∷ 1 ∷ 2 ∷ 1 ∷ 2 ∷ 1 ∷ 1 ∷ 4 ∷ 0 ∷ 2 ∷ 1 ∷ 2 ∷ 0 ∷ 2 ∷ 1 ∷ 2 ∷ 4 ∷ 0 ∷ 0 ∷ 2 ∷ 1 ∷ 3 ∷ 2 ∷ 0 ∷ 3 ∷ 1 ∷ []; claims = prints "strike 1 2 5\nfix 1 1 6\nstrike 3 1 2\nfix 3 2 1\nplan 2\n1 1\n3 2\n" ∷ strongOnes 1 ∷ [] }
+
+abbrev P17 : Case
+P17 = record { bytes = 3 ∷ 1 ∷ 2 ∷ 2 ∷ 2 ∷ 2 ∷ 1 ∷ 3 ∷ 0 ∷ 2 ∷ 2 ∷ 1 ∷ 1 ∷ 2 ∷ 0 ∷ 3 ∷ 0 ∷ 0 ∷ 1 ∷ 1 ∷ 0 ∷ 2 ∷ 1 ∷ 2 ∷ []; claims = prints "fix 2 2 6\nstrike 1 2 2\nfix 1 1 3\nplan 2\n1 1\n2 2\n" ∷ strongOnes 1 ∷ [] }
+
+pub cases : Each True (P1 ∷ P2 ∷ P3 ∷ P4 ∷ P5 ∷ P6 ∷ P7 ∷ P8 ∷ P9 ∷ P10 ∷ P11 ∷ P12 ∷ P13 ∷ P14 ∷ P15 ∷ P16 ∷ P17 ∷ [])
 unfolding count low text groupOf listed listedBack bothOrNeither readEach readRoster position edgesOf instanceOf deg nodeVote vote choices within plansOf samePlan beatenBy drawnWith verdictOf strongPlans cut ahead arrow loose reserved betterS betterT worseReserved rule1 rule2 rule3 rule4 rule5 rule6 rule7 names lowest ruleOf edgeOf fateOf act next begin stepsFrom stateAfter stepsOf endOf planBytes edgeOfPair readPlan diaryOf leftOf candidateOf finderOf blocks someBlocks digits printed
-cases = ((refl, ((refl, refl), ((refl, refl), tt))), ((refl, ((refl, refl), tt)), ((refl, ((refl, refl), ((refl, refl), ((refl, refl), tt)))), ((refl, ((refl, refl), ((refl, refl), ((refl, refl), tt)))), ((refl, ((refl, refl), ((refl, refl), tt))), ((refl, ((refl, refl), ((refl, refl), ((refl, refl), ((refl, refl), tt))))), (((refl, refl), ((refl, refl), tt)), (((refl, refl), tt), (((refl, refl), tt), ((refl, ((refl, refl), ((refl, refl), tt))), ((refl, ((refl, refl), tt)), ((refl, ((refl, refl), tt)), ((refl, tt), ((refl, tt), tt))))))))))))))
+cases = ((refl, ((refl, refl), ((refl, refl), tt))), ((refl, ((refl, refl), tt)), ((refl, ((refl, refl), ((refl, refl), ((refl, refl), tt)))), ((refl, ((refl, refl), ((refl, refl), ((refl, refl), tt)))), ((refl, ((refl, refl), ((refl, refl), tt))), ((refl, ((refl, refl), ((refl, refl), ((refl, refl), ((refl, refl), tt))))), (((refl, refl), ((refl, refl), tt)), (((refl, refl), tt), (((refl, refl), tt), ((refl, ((refl, refl), ((refl, refl), tt))), ((refl, ((refl, refl), tt)), ((refl, ((refl, refl), tt)), ((refl, tt), ((refl, tt), ((refl, ((refl, refl), tt)), ((refl, ((refl, refl), tt)), ((refl, ((refl, refl), tt)), tt)))))))))))))))))
