@@ -1,0 +1,6 @@
+pub mod Place
+pub mod Check
+pub mod Field
+pub mod Row
+pub mod Table
+pub mod Many
