@@ -1,10 +1,12 @@
 -- Marks for the numbers that a list has: how the code finds an entry twice in one list, and a pair in one side's list only.
-use Prim.Native.Nat.{ℕ, _+_, _-_, _≤_, _<_}
+use Prim.Native.Nat.{ℕ, suc, _+_, _-_, _≤_, _<_}
+use native.Mathlib.Omega.{arith}
+use native.Mathlib.Numerals.{add-one}
 use mathlib.Core.Path.{_≡_, refl, sym, ap, _∙_, subst}
 use mathlib.Core.Bool.{Bool, true, false, _||_}
-use mathlib.Core.List.{List, [], _∷_, _++_}
+use mathlib.Core.List.{List, [], _∷_, _++_, append-assoc}
 use lib.ListN.{length, take, drop, getD, set}
-use lib.Seq.{getD-set-same, getD-set-other}
+use lib.Seq.{take-suc, take-all, getD-set-same, getD-set-other}
 use Rattle.lists.specs.Test.{given, by-eq}
 use Rattle.lists.specs.Keep.{any-append}
 use lib.Dec.{eqb}
@@ -38,11 +40,25 @@ mark-more row seen x h l k = rw (any-append (eqb k) seen (x ∷ [])) (by-eq k x 
     other : (k ≡ x → ⊥) → eqb k x ≡ false → getD (set row x true) k false ≡ elem k seen || (eqb k x || false)
     other n t = getD-set-other row x k true false n ∙ h k ∙ or-false (elem k seen) ∙ ap (λ b. elem k seen || (b || false)) (sym t)
 
+-- one entry more has been passed
+pub seen-more : (seen part : List ℕ) (i : ℕ) → i < length part → (seen ++ take i part) ++ getD part i 0 ∷ [] ≡ seen ++ take (i + 1) part
+seen-more seen part i h = append-assoc seen (take i part) (getD part i 0 ∷ []) ∙ ap (λ l. seen ++ l) (rw (add-one) (sym (take-suc part i 0 h)))
+
+pub mark-passed : (row : List Bool) (seen part : List ℕ) (i : ℕ) → Shows row (seen ++ take i part) → i < length part → getD part i 0 < length row → Shows (set row (getD part i 0) true) (seen ++ take (i + 1) part)
+mark-passed row seen part i h l room = subst (Shows (set row (getD part i 0) true)) (seen-more seen part i l) (mark-more row (seen ++ take i part) (getD part i 0) h room)
+
+-- all have been passed
+pub seen-all : (row : List Bool) (seen part : List ℕ) (i : ℕ) → Shows row (seen ++ take i part) → length part ≤ i → Shows row (seen ++ part)
+seen-all row seen part i h l = subst (λ p. Shows row (seen ++ p)) (take-all i part l) h
+
 -- ---- the checks of a list's part: entries behind those seen before, and a tie behind the strict entries. The number of the refusal
 -- is the model's, 0 for none; then the marks show the entries too.
 pub record Checked (refusal : ℕ) (entries : List ℕ) (r : ℕ) (after : List Bool) : Type 0 where
   pub number : r ≡ refusal
   pub marks : r ≡ 0 → Shows after entries
+
+pub checked-no : {refusal n : ℕ} {entries : List ℕ} {after : List Bool} → refusal ≡ suc n → Checked refusal entries (suc n) after
+checked-no e = record { number = sym e; marks = λ z. absurd (let f : ⊥ = omega arith in f) }
 
 abbrev pub EntriesChecked : (other : ℕ) (part : List ℕ) (before : List Bool) (r : ℕ) (after : List Bool) → Type 0
 EntriesChecked other part before r after =
