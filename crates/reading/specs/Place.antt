@@ -8,6 +8,8 @@ use mathlib.Core.List.{List, [], _∷_, _++_}
 use lib.ListN.{length, getD, take, drop, length-append, length-drop, take-append-drop}
 use lib.Seq.{drop-drop, drop-at}
 use lib.Dec.{T, ltb, lt→ltb}
+use mir.Syntax.{w8}
+use mir.Val.{Fits}
 use Rattle.lists.specs.Test.{given, and-i}
 use Rattle.model.specs.Reading.{Read, got, refused, _then_}
 use Rattle.formats.specs.Reads.{isBytes, bytes-rest, Reads}
@@ -55,9 +57,9 @@ pub bytes-drop : (n : ℕ) (f : List ℕ) → T (isBytes f) → T (isBytes (drop
 bytes-drop n f t = bytes-rest (take n f) (drop n f) (subst (λ z. T (isBytes z)) (sym (take-append-drop n f)) t)
 
 -- the elements of a slice of bytes are bytes
-pub bytes-of : (f : List ℕ) → ((i : ℕ) → getD f i 0 < 256) → T (isBytes f)
+pub bytes-of : (f : List ℕ) → ((i : ℕ) → Fits w8 (getD f i 0)) → T (isBytes f)
 bytes-of [] h = tt
-bytes-of (x ∷ f) h = and-i (ltb x 256) (isBytes f) (lt→ltb x 256 (h 0)) (bytes-of f (λ i. h (suc i)))
+bytes-of (x ∷ f) h = and-i (ltb x 256) (isBytes f) (lt→ltb x 256 (omega (arith, h 0))) (bytes-of f (λ i. h (suc i)))
 
 pub place-read : {A : Type 0} {read : List ℕ → Read A} {write : A → List ℕ} {P : A → Type 0} (R : Reads read write P) (f : List ℕ) (at : ℕ) {next : ℕ}
     → T (isBytes f) → at ≤ length f → section.Read next ≡ placed f (read (drop at f)) → Found read write P f at next

@@ -12,7 +12,7 @@ use Rattle.lists.specs.Keep.{any-append}
 use lib.Dec.{eqb}
 use Rattle.model.specs.Reading.{Read, got, refused, _then_, byte, readEach}
 use Rattle.model.specs.Roster.{elem}
-use Rattle.model.specs.RosterFile.{entryCheck, tiedCheck, Tie}
+use Rattle.model.specs.RosterFile.{entryCheck, tiedCheck, Tie, readTied}
 use Rattle.formats.specs.Reads.{refused-not, then-got, got-value}
 use Rattle.reading.specs.declared.Section.{Section}
 use Rattle.reading.specs.declared.Section.the-variants as section
@@ -80,6 +80,9 @@ module _ {A : Type 0} {read : List ℕ → Read A} {shows : List Bool → A → 
   pub marked-refused : {n : ℕ} → read (drop at f) ≡ refused n → Marked read shows f at (section.Refused n) after
   marked-refused e = record { place = sym (ap (placed f) e); marks = λ a rest d. refused-not (sym e ∙ d) }
 
+  pub marked-as : {r r′ : Section} → r ≡ r′ → Marked read shows f at r after → Marked read shows f at r′ after
+  marked-as e m = subst (λ z. Marked read shows f at z after) e m
+
   -- behind a count
   pub marked-behind : {other : List ℕ → Read A} {next : ℕ} {r : Section} → read (drop at f) ≡ other (drop next f) → Marked other shows f next r after → Marked read shows f at r after
   marked-behind e m = record { place = m .place ∙ sym (ap (placed f) e); marks = λ a rest d. m .marks a rest (sym e ∙ d) }
@@ -104,3 +107,11 @@ marked-part check next s seen f at n e m after h d c = record {
   place = ap (λ k. partAnswer k at e n) (c .number) ∙ part-is check next s f at n e h d;
   marks = λ xs rest q. given (part-got check next s f at n e h d q) (λ (z, w). subst (λ l. Shows after (seen ++ l)) (sym w) (c .marks (c .number ∙ z)));
 }
+
+-- n entries from a place on, behind those seen before; n tied ones behind the strict ones
+abbrev pub EntriesAt : (other n : ℕ) (f : List ℕ) (at : ℕ) (before : List Bool) (r : Section) (after : List Bool) → Type 0
+EntriesAt other n f at before r after =
+    (seen : List ℕ) → Shows before seen → Marked (readEach byte (entryCheck other) (λ seen x. seen ++ x ∷ []) n seen) (λ row xs. Shows row (seen ++ xs)) f at r after
+
+abbrev pub TiedAt : (other n : ℕ) (f : List ℕ) (at : ℕ) (before : List Bool) (r : Section) (after : List Bool) → Type 0
+TiedAt other n f at before r after = (strict : List ℕ) → Shows before strict → Marked (readTied other strict n) (λ row xs. Shows row (strict ++ xs)) f at r after

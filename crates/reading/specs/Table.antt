@@ -13,7 +13,7 @@ use lib.Dec.{T}
 use Rattle.lists.specs.Test.{given}
 use Rattle.lists.specs.Keep.{gather}
 use Rattle.model.specs.Reading.{Read, got, refused, _then_, readEach}
-use Rattle.model.specs.Roster.{elem}
+use Rattle.model.specs.Roster.{Ranking, entries, elem}
 use Rattle.model.specs.RosterFile.{readMany}
 use Rattle.formats.specs.Reads.{isBytes, Reads, refused-not, got-value, got-rest}
 use Rattle.reading.specs.declared.Section.{Section}
@@ -72,3 +72,13 @@ module _ {A : Type 0} (entries : A → List ℕ) (none : A) where
             ∙ getD-drop (n * rowWidth) table (rowWidth + ((i - n - 1) * rowWidth + k)) false
             ∙ ap (λ m. getD table m false) d ∙ h i k b
             ∙ ap (λ y. elem k (entries y)) (List·getD-eq-default ls none (omega arith) ∙ sym (List·getD-eq-default (ls ++ x ∷ []) none (simp length-append (omega arith))))
+
+-- the rows of the surveyors' lists, and of the stands'
+abbrev pub ListsShown : List Bool → List (List ℕ) → Type 0
+ListsShown = Shown (λ xs. xs) []
+
+abbrev pub noRanking : Ranking
+noRanking = record { strict = []; tied = [] }
+
+abbrev pub RankingsShown : List Bool → List Ranking → Type 0
+RankingsShown = Shown entries noRanking
