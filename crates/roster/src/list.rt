@@ -53,7 +53,13 @@ pub(crate) fn list_at(file: &[u8], at: usize, longest: u8, other: u8, row: &mut 
 
 // "the strict length byte, the tie length byte, the strict surveyors best first, the tied ones ascending"; "A stand's two lengths are
 // read, then their sum is checked."
-pub(crate) fn ranking_at(file: &[u8], at: usize, longest: u8, other: u8, row: &mut [bool]) -> Section
+pub(crate) fn ranking_at(
+    file: &[u8],
+    at: usize,
+    longest: u8,
+    other: u8,
+    row: &mut [bool],
+) -> Section
     requires { ⌜ (at ≤ length (now file)) × (other < length (now row)) × Shows (now row) [] ⌝ }
     ensures { λ r. ⌜ Marked (readRanking longest other) (λ row R. Shows row (entries R)) (now (file .entry)) at r (now (row .exit)) ⌝ }
 {
@@ -76,17 +82,24 @@ pub(crate) fn ranking_at(file: &[u8], at: usize, longest: u8, other: u8, row: &m
     tied_at(file, next, tied, other, row)
 }
 
-// n surveyors' lists, one behind the other, each with its row of the table.
-pub(crate) fn lists_at(file: &[u8], start: usize, n: usize, longest: u8, other: u8, table: &mut [bool]) -> Section
-    requires { ⌜ (start ≤ length (now file)) × (n * 33 ≤ length (now table)) × (other < 33) × ListsShown (now table) [] ⌝ }
-    ensures { λ r. ⌜ Marked (readMany (readList longest other) n) ListsShown (now (file .entry)) start r (now (table .exit)) ⌝ }
+// n surveyors' lists, one behind the other, each with its row of the table. `count` is the other side's: the limit of a list's length and
+// of its numbers.
+pub(crate) fn lists_at(
+    file: &[u8],
+    start: usize,
+    n: usize,
+    count: u8,
+    table: &mut [bool],
+) -> Section
+    requires { ⌜ (start ≤ length (now file)) × (n * 33 ≤ length (now table)) × (count < 33) × ListsShown (now table) [] ⌝ }
+    ensures { λ r. ⌜ Marked (readMany (readList count count) n) ListsShown (now (file .entry)) start r (now (table .exit)) ⌝ }
 {
     let mut at = start;
     let mut k = 0;
     while k < n {
         let low = k * ROW;
         let high = low + ROW;
-        let s = list_at(file, at, longest, other, &mut table[low..high]);
+        let s = list_at(file, at, count, count, &mut table[low..high]);
         let Section::Read(next) = s else {
             return s;
         };
@@ -97,16 +110,22 @@ pub(crate) fn lists_at(file: &[u8], start: usize, n: usize, longest: u8, other: 
 }
 
 // n stands' lists, likewise.
-pub(crate) fn rankings_at(file: &[u8], start: usize, n: usize, longest: u8, other: u8, table: &mut [bool]) -> Section
-    requires { ⌜ (start ≤ length (now file)) × (n * 33 ≤ length (now table)) × (other < 33) × RankingsShown (now table) [] ⌝ }
-    ensures { λ r. ⌜ Marked (readMany (readRanking longest other) n) RankingsShown (now (file .entry)) start r (now (table .exit)) ⌝ }
+pub(crate) fn rankings_at(
+    file: &[u8],
+    start: usize,
+    n: usize,
+    count: u8,
+    table: &mut [bool],
+) -> Section
+    requires { ⌜ (start ≤ length (now file)) × (n * 33 ≤ length (now table)) × (count < 33) × RankingsShown (now table) [] ⌝ }
+    ensures { λ r. ⌜ Marked (readMany (readRanking count count) n) RankingsShown (now (file .entry)) start r (now (table .exit)) ⌝ }
 {
     let mut at = start;
     let mut k = 0;
     while k < n {
         let low = k * ROW;
         let high = low + ROW;
-        let s = ranking_at(file, at, longest, other, &mut table[low..high]);
+        let s = ranking_at(file, at, count, count, &mut table[low..high]);
         let Section::Read(next) = s else {
             return s;
         };

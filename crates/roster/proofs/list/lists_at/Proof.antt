@@ -1,78 +1,92 @@
+-- `roster::list::lists_at` meets its contract: after each turn so many lists are read and marked, and the others follow. Assumes nothing.
+use Prim.Native.Nat.{ℕ, _+_, _*_, _-_, _≤_, zero-le}
+use native.Mathlib.Omega.{arith}
+use mathlib.Core.Path.{_≡_, refl, sym, _∙_}
+use mathlib.Core.List.{[]}
+use lib.ListN.{length}
+use lib.Dec.{T}
+use borrow.Author.Needs.{needs}
+use Rattle.formats.specs.Reads.{isBytes}
+use Rattle.model.specs.RosterFile.{readList}
+use Rattle.formats.specs.Sections.{list}
+use Rattle.reading.specs.Place.{bytes-of}
+use Rattle.reading.specs.Row.{marked-as}
+use Rattle.reading.specs.Table.{rowOf, row-wide, row-clear}
+use Rattle.reading.specs.Many.{Turn, turn-start, turn-refused, turn-next, turn-end}
 use Rattle.roster.proofs.list.lists_at.Statement.{statement}
 use Rattle.roster.proofs.list.lists_at.Tie as tie
-use Rattle.roster.proofs.list.lists_at.Reads as reads
-use Rattle.roster.proofs.list.lists_at.Lts as lts
-use Rattle.roster.proofs.list.list_at.Reads as list-at-reads
 
 abbrev Inv-loop : tie.InvT-loop
-Inv-loop file start n longest other table₀ at₀ k₀ table at k = ?
+Inv-loop file start n count table₀ at₀ k₀ table at k = (k ≤ n) × (at ≤ length file) × (length table ≡ length table₀) × Turn (readList count count) (λ xs. xs) [] file start n at k table
 
 abbrev μ-loop : tie.MeasureT-loop
-μ-loop file start n longest other table₀ at₀ k₀ table at k = ?
+μ-loop file start n count table₀ at₀ k₀ table at k = n - k
 
--- src/list.rt:86:5
 loop-holds : tie.Need-loop-holds Inv-loop μ-loop
-loop-holds c = ?
+loop-holds c = let s = c .before .before in let a = s .args in (zero-le, search needs, refl, turn-start (readList (a .count) (a .count)) (λ xs. xs) [] (a .file .now) (a .start) (a .n) (s .pre .3))
 
--- src/list.rt:87:19
 mul-low : tie.Need-mul-low Inv-loop μ-loop
-mul-low c = ?
+mul-low c = search needs
 
--- src/list.rt:88:20
 add-high : tie.Need-add-high Inv-loop μ-loop
-add-high c = ?
+add-high c = search needs
 
--- src/list.rt:89:51
 sub-list-at : tie.Need-sub-list-at Inv-loop μ-loop
-sub-list-at c = ?
+sub-list-at c = search needs
 
--- src/list.rt:89:51
 part-list-at-start : tie.Need-part-list-at-start Inv-loop μ-loop
-part-list-at-start c = ?
+part-list-at-start c = search needs
 
--- src/list.rt:89:51
 part-list-at-end : tie.Need-part-list-at-end Inv-loop μ-loop
-part-list-at-end c = ?
+part-list-at-end c = search needs
 
--- src/list.rt:89:13
 list-at-requires : tie.Need-list-at-requires Inv-loop μ-loop
-list-at-requires c κs = ?
+list-at-requires c κs =
+    let l = c .before .before in
+    let s = l .before .before .before in
+    (omega (arith, row-wide (l .loop .table) (l .loop .k) (omega arith)), row-clear (λ xs. xs) [] refl (l .loop .table) (l .loop .inv .3 .lists) (l .loop .k) (l .loop .inv .3 .shown) (l .loop .inv .3 .count))
 
--- src/list.rt:90:27
 enum-known-s : tie.Need-enum-known-s Inv-loop μ-loop
-enum-known-s c = ?
+enum-known-s c = search needs
 
--- src/list.rt:91:13
 enum-told : tie.Need-enum-told Inv-loop μ-loop
-enum-told c = ?
+enum-told c = search needs
 
--- src/list.rt:91:13
 same-length : tie.Need-same-length Inv-loop μ-loop
-same-length c = ?
+same-length c = c .before .before .before .table .given .1 ∙ c .before .before .before .before .before .before .before .loop .inv .2
 
--- src/list.rt:91:13
 returns : tie.Need-returns Inv-loop μ-loop
-returns c = ?
+returns c =
+    let l = c .before .before .before .before .before .before .before in
+    let a = l .before .before .before .args in
+    let e = c .enum-told .given .1 in
+    marked-as (sym e) (turn-refused (readList (a .count) (a .count)) (λ xs. xs) [] (a .file .now) (a .start) (a .n) (l .loop .inv .3) (c .before .before .before .before .before .before .loop-test .taken) (marked-as e (c .before .before .before .before .list-at .ensures)))
 
--- src/list.rt:94:9
 add-k : tie.Need-add-k Inv-loop μ-loop
-add-k c = ?
+add-k c = search needs
 
--- src/list.rt:86:5
 loop-less : tie.Need-loop-less Inv-loop μ-loop
-loop-less c = ?
+loop-less c = omega arith
 
--- src/list.rt:86:5
 loop-again : tie.Need-loop-again Inv-loop μ-loop
-loop-again c = ?
+loop-again c =
+    let l = c .before .before .before .before .before .before .before .before in
+    let s = l .before .before .before in
+    let a = s .args in
+    let isB : T (isBytes (a .file .now)) = bytes-of (a .file .now) (λ i. c .before .before .before .before .before .before .before .before .before .before .shared-slice-known .given i) in
+    let row = c .before .before .before .before .before .list-at .last .1 .1 .1 .1 .0 in
+    let back : length row ≡ length (rowOf (l .loop .table) (l .loop .k)) = c .before .before .before .before .table .given .0 in
+    let (w, t) = turn-next (readList (a .count) (a .count)) (λ xs. xs) [] (a .file .now) (a .start) (a .n) refl (list (a .count)) isB (l .loop .inv .3) (c .before .before .before .before .before .before .before .loop-test .taken) (l .loop .inv .1) (omega arith) (back ∙ row-wide (l .loop .table) (l .loop .k) (omega arith)) (marked-as (c .before .s .given .1) (c .before .before .before .before .before .list-at .ensures)) in
+    (omega arith, w, c .before .before .before .before .table .given .1 ∙ l .loop .inv .2, t)
 
--- src/list.rt:80:1
 same-length-2 : tie.Need-same-length-2 Inv-loop μ-loop
-same-length-2 c = ?
+same-length-2 c = search needs
 
--- src/list.rt:80:1
 returns-2 : tie.Need-returns-2 Inv-loop μ-loop
-returns-2 c = ?
+returns-2 c =
+    let l = c .before in
+    let a = l .before .before .before .args in
+    turn-end (readList (a .count) (a .count)) (λ xs. xs) [] (a .file .now) (a .start) (a .n) (l .loop .inv .3) (c .loop-test .left) (l .loop .inv .1)
 
 pub lists-at-spec : {M : Type 1} → statement M
 lists-at-spec =

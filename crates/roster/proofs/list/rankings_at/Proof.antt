@@ -1,78 +1,94 @@
+-- `roster::list::rankings_at` meets its contract: after each turn so many lists are read and marked, and the others follow. Assumes nothing.
+use Prim.Native.Nat.{ℕ, _+_, _*_, _-_, _≤_, zero-le}
+use native.Mathlib.Omega.{arith}
+use mathlib.Core.Path.{_≡_, refl, sym, _∙_}
+use mathlib.Core.List.{[]}
+use lib.ListN.{length}
+use lib.Dec.{T}
+use borrow.Author.Needs.{needs}
+use Rattle.formats.specs.Reads.{isBytes}
+use Rattle.model.specs.Roster.{entries}
+use Rattle.reading.specs.Table.{noRanking}
+use Rattle.model.specs.RosterFile.{readRanking}
+use Rattle.formats.specs.Sections.{ranking}
+use Rattle.reading.specs.Place.{bytes-of}
+use Rattle.reading.specs.Row.{marked-as}
+use Rattle.reading.specs.Table.{rowOf, row-wide, row-clear}
+use Rattle.reading.specs.Many.{Turn, turn-start, turn-refused, turn-next, turn-end}
 use Rattle.roster.proofs.list.rankings_at.Statement.{statement}
 use Rattle.roster.proofs.list.rankings_at.Tie as tie
-use Rattle.roster.proofs.list.rankings_at.Reads as reads
-use Rattle.roster.proofs.list.rankings_at.Lts as lts
-use Rattle.roster.proofs.list.ranking_at.Reads as ranking-at-reads
 
 abbrev Inv-loop : tie.InvT-loop
-Inv-loop file start n longest other table₀ at₀ k₀ table at k = ?
+Inv-loop file start n count table₀ at₀ k₀ table at k = (k ≤ n) × (at ≤ length file) × (length table ≡ length table₀) × Turn (readRanking count count) entries noRanking file start n at k table
 
 abbrev μ-loop : tie.MeasureT-loop
-μ-loop file start n longest other table₀ at₀ k₀ table at k = ?
+μ-loop file start n count table₀ at₀ k₀ table at k = n - k
 
--- src/list.rt:106:5
 loop-holds : tie.Need-loop-holds Inv-loop μ-loop
-loop-holds c = ?
+loop-holds c = let s = c .before .before in let a = s .args in (zero-le, search needs, refl, turn-start (readRanking (a .count) (a .count)) entries noRanking (a .file .now) (a .start) (a .n) (s .pre .3))
 
--- src/list.rt:107:19
 mul-low : tie.Need-mul-low Inv-loop μ-loop
-mul-low c = ?
+mul-low c = search needs
 
--- src/list.rt:108:20
 add-high : tie.Need-add-high Inv-loop μ-loop
-add-high c = ?
+add-high c = search needs
 
--- src/list.rt:109:54
 sub-ranking-at : tie.Need-sub-ranking-at Inv-loop μ-loop
-sub-ranking-at c = ?
+sub-ranking-at c = search needs
 
--- src/list.rt:109:54
 part-ranking-at-start : tie.Need-part-ranking-at-start Inv-loop μ-loop
-part-ranking-at-start c = ?
+part-ranking-at-start c = search needs
 
--- src/list.rt:109:54
 part-ranking-at-end : tie.Need-part-ranking-at-end Inv-loop μ-loop
-part-ranking-at-end c = ?
+part-ranking-at-end c = search needs
 
--- src/list.rt:109:13
 ranking-at-requires : tie.Need-ranking-at-requires Inv-loop μ-loop
-ranking-at-requires c κs = ?
+ranking-at-requires c κs =
+    let l = c .before .before in
+    let s = l .before .before .before in
+    (l .loop .inv .1, omega (arith, row-wide (l .loop .table) (l .loop .k) (omega arith)), row-clear entries noRanking refl (l .loop .table) (l .loop .inv .3 .lists) (l .loop .k) (l .loop .inv .3 .shown) (l .loop .inv .3 .count))
 
--- src/list.rt:110:27
 enum-known-s : tie.Need-enum-known-s Inv-loop μ-loop
-enum-known-s c = ?
+enum-known-s c = search needs
 
--- src/list.rt:111:13
 enum-told : tie.Need-enum-told Inv-loop μ-loop
-enum-told c = ?
+enum-told c = search needs
 
--- src/list.rt:111:13
 same-length : tie.Need-same-length Inv-loop μ-loop
-same-length c = ?
+same-length c = c .before .before .before .table .given .1 ∙ c .before .before .before .before .before .before .before .loop .inv .2
 
--- src/list.rt:111:13
 returns : tie.Need-returns Inv-loop μ-loop
-returns c = ?
+returns c =
+    let l = c .before .before .before .before .before .before .before in
+    let a = l .before .before .before .args in
+    let e = c .enum-told .given .1 in
+    marked-as (sym e) (turn-refused (readRanking (a .count) (a .count)) entries noRanking (a .file .now) (a .start) (a .n) (l .loop .inv .3) (c .before .before .before .before .before .before .loop-test .taken) (marked-as e (c .before .before .before .before .ranking-at .ensures)))
 
--- src/list.rt:114:9
 add-k : tie.Need-add-k Inv-loop μ-loop
-add-k c = ?
+add-k c = search needs
 
--- src/list.rt:106:5
 loop-less : tie.Need-loop-less Inv-loop μ-loop
-loop-less c = ?
+loop-less c = omega arith
 
--- src/list.rt:106:5
 loop-again : tie.Need-loop-again Inv-loop μ-loop
-loop-again c = ?
+loop-again c =
+    let l = c .before .before .before .before .before .before .before .before in
+    let s = l .before .before .before in
+    let a = s .args in
+    let isB : T (isBytes (a .file .now)) = bytes-of (a .file .now) (λ i. c .before .before .before .before .before .before .before .before .before .before .shared-slice-known .given i) in
+    let row = c .before .before .before .before .before .ranking-at .last .1 .1 .1 .1 .0 in
+    let back : length row ≡ length (rowOf (l .loop .table) (l .loop .k)) = c .before .before .before .before .table .given .0 in
+    let (w, t) = turn-next (readRanking (a .count) (a .count)) entries noRanking (a .file .now) (a .start) (a .n) refl (ranking (a .count)) isB (l .loop .inv .3) (c .before .before .before .before .before .before .before .loop-test .taken) (l .loop .inv .1) (omega arith) (back ∙ row-wide (l .loop .table) (l .loop .k) (omega arith)) (marked-as (c .before .s .given .1) (c .before .before .before .before .before .ranking-at .ensures)) in
+    (omega arith, w, c .before .before .before .before .table .given .1 ∙ l .loop .inv .2, t)
 
--- src/list.rt:100:1
 same-length-2 : tie.Need-same-length-2 Inv-loop μ-loop
-same-length-2 c = ?
+same-length-2 c = search needs
 
--- src/list.rt:100:1
 returns-2 : tie.Need-returns-2 Inv-loop μ-loop
-returns-2 c = ?
+returns-2 c =
+    let l = c .before in
+    let a = l .before .before .before .args in
+    turn-end (readRanking (a .count) (a .count)) entries noRanking (a .file .now) (a .start) (a .n) (l .loop .inv .3) (c .loop-test .left) (l .loop .inv .1)
 
 pub rankings-at-spec : {M : Type 1} → statement M
 rankings-at-spec =
