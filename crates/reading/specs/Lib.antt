@@ -5,3 +5,4 @@ pub mod Row
 pub mod Lists
 pub mod Table
 pub mod Many
+pub mod Whole
