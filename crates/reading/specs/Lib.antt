@@ -5,4 +5,5 @@ pub mod Row
 pub mod Lists
 pub mod Table
 pub mod Many
+pub mod Pairs
 pub mod Whole

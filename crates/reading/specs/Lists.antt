@@ -1,21 +1,21 @@
 -- One list at a place of a file: a surveyor's, a stand's. Its lengths are cut off, or above their limit, or its entries follow.
 use Prim.Native.Nat.{ℕ, _+_, _≤_, _<_}
 use native.Mathlib.Omega.{arith}
-use mathlib.Core.Path.{_≡_, refl, sym, ap, _∙_}
+use mathlib.Core.Path.{_≡_, sym, ap, _∙_}
 use mathlib.Core.Bool.{Bool}
 use mathlib.Core.List.{List, [], _∷_, _++_}
 use lib.ListN.{length, drop, getD}
 use lib.Dec.{T}
 use Rattle.lists.specs.Test.{given}
-use Rattle.model.specs.Reading.{Read, got, refused, _then_, byte, readEach}
+use Rattle.model.specs.Reading.{Read, got, _then_}
 use Rattle.model.specs.Roster.{Ranking, entries}
 use Rattle.model.specs.RosterFile.{entryCheck, readEntries, readTied, readList, readRanking}
 use Rattle.formats.specs.Reads.{isBytes, bytes}
 use Rattle.reading.specs.declared.Section.{Section}
 use Rattle.reading.specs.declared.Section.the-variants as section
-use Rattle.reading.specs.Place.{place-refused, Found, place-read}
+use Rattle.reading.specs.Place.{place-refused, place-read}
 use Rattle.reading.specs.Field.{count-end, count-long, count-goes, lengths-end, lengths-long, lengths-goes, tieBehind}
-use Rattle.reading.specs.Row.{Shows, Marked, marked-refused, marked-as, marked-behind, marked-map, EntriesAt, TiedAt}
+use Rattle.reading.specs.Row.{Shows, Marked, marked-refused, marked-as, marked-behind, marked-map, TiedAt}
 
 module _ (longest other : ℕ) (f : List ℕ) (at : ℕ) where
   -- ---- a surveyor's list

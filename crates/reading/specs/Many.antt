@@ -1,8 +1,8 @@
 -- Lists in a row, each read and marked in a row of the table; and a section of them with its count.
-use Prim.Native.Nat.{ℕ, zero, suc, _+_, _*_, _-_, _≤_, _<_}
+use Prim.Native.Nat.{ℕ, suc, _+_, _*_, _-_, _≤_, _<_}
 use native.Mathlib.Omega.{arith}
 use mathlib.Core.Path.{_≡_, refl, sym, ap, _∙_, subst}
-use mathlib.Core.Bool.{Bool, true, false, not}
+use mathlib.Core.Bool.{Bool, not}
 use mathlib.Core.List.{List, [], _∷_, _++_, append-assoc, append-nil}
 use lib.ListN.{length, drop, length-append, length-drop}
 use lib.Dec.{T, eqb}
@@ -11,14 +11,13 @@ use Rattle.lists.specs.Test.{given}
 use Rattle.lists.specs.Keep.{gather}
 use Rattle.model.specs.Limits.{entryLimit}
 use Rattle.model.specs.Reading.{Read, got, refused, _then_, refuseIf, readEach}
-use Rattle.model.specs.RosterFile.{readWideCount, readMany, readSection}
-use Rattle.formats.specs.Reads.{isBytes, Reads, each, refused-not, got-value}
-use Rattle.reading.specs.declared.Section.{Section}
+use Rattle.model.specs.RosterFile.{readMany, readSection}
+use Rattle.formats.specs.Reads.{isBytes, Reads, each, got-value}
 use Rattle.reading.specs.declared.Section.the-variants as section
-use Rattle.reading.specs.Place.{placed, place-refused, Found, place-read}
+use Rattle.reading.specs.Place.{placed, place-refused, place-read}
 use Rattle.reading.specs.Field.{wide, wide-end, wide-long, wide-goes}
-use Rattle.reading.specs.Row.{Shows, Marked, marked-refused, marked-behind}
-use Rattle.reading.specs.Table.{rowWidth, withRow, Shown, row-clear, row-more}
+use Rattle.reading.specs.Row.{Shows, Marked, marked-refused}
+use Rattle.reading.specs.Table.{rowWidth, withRow, Shown, row-more}
 
 then-id : {A : Type 0} (r : Read A) → r ≡ (r then (λ a rest. got a rest))
 then-id (got a rest) = refl

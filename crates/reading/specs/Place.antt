@@ -1,9 +1,9 @@
 -- Places of a file. The model's readers take the bytes that are left and give those that are left behind them; the code's readers
 -- take a place of the file and give the place behind what they read. Both say the same: the bytes left are those from the place on.
-use Prim.Native.Nat.{ℕ, suc, _+_, _-_, _≤_, _<_}
+use Prim.Native.Nat.{ℕ, suc, _+_, _-_, _≤_}
 use native.Mathlib.Omega.{arith}
 use mathlib.Core.Path.{_≡_, refl, sym, ap, _∙_, subst}
-use mathlib.Core.Bool.{Bool, true, false, not}
+use mathlib.Core.Bool.{Bool, true, false}
 use mathlib.Core.List.{List, [], _∷_, _++_}
 use lib.ListN.{length, getD, take, drop, length-append, length-drop, take-append-drop}
 use lib.Seq.{drop-drop, drop-at}
@@ -11,7 +11,7 @@ use lib.Dec.{T, ltb, lt→ltb}
 use mir.Syntax.{w8}
 use mir.Val.{Fits}
 use Rattle.lists.specs.Test.{given, and-i}
-use Rattle.model.specs.Reading.{Read, got, refused, _then_}
+use Rattle.model.specs.Reading.{Read, got, refused}
 use Rattle.formats.specs.Reads.{isBytes, bytes-rest, Reads}
 use Rattle.reading.specs.declared.Section.{Section}
 use Rattle.reading.specs.declared.Section.the-variants as section
@@ -29,7 +29,7 @@ abbrev placeOf : Section → ℕ
 placeOf (section.Read n) = n
 placeOf (section.Refused n) = 0
 
-abbrev numberOf : Section → ℕ
+abbrev pub numberOf : Section → ℕ
 numberOf (section.Read n) = 0
 numberOf (section.Refused n) = n
 

@@ -7,7 +7,7 @@ use mathlib.Core.Path.{_≡_, refl, sym, ap, _∙_, subst}
 use mathlib.Core.Logic.{by-cases}
 use mathlib.Core.Bool.{Bool, false}
 use mathlib.Core.List.{List, [], _∷_, _++_, append-assoc, append-nil}
-use lib.ListN.{length, take, drop, getD, length-append, length-take, length-drop, List·getD-append, List·getD-eq-default}
+use lib.ListN.{length, take, drop, getD, length-append, length-take, length-drop, replicate, length-replicate, getD-replicate, List·getD-append, List·getD-eq-default}
 use lib.Seq.{getD-take, getD-drop, getD-append-add, length-take-le, getD-at}
 use Rattle.lists.specs.Test.{given}
 use Rattle.lists.specs.Keep.{gather}
@@ -46,6 +46,10 @@ module _ {A : Type 0} (entries : A → List ℕ) (none : A) where
   Shown table ls = (i k : ℕ) → k < rowWidth → getD table (i * rowWidth + k) false ≡ elem k (entries (getD ls i none))
 
   module _ (empty : entries none ≡ []) where
+    -- no mark is set
+    pub table-clear : (n : ℕ) → Shown (replicate n false) []
+    table-clear n i k b = by-cases (decLt (i * rowWidth + k) n) (λ h. getD-replicate n (i * rowWidth + k) false false h) (λ h. List·getD-eq-default (replicate n false) false (simp length-replicate (omega (arith, h)))) ∙ sym (ap (elem k) empty)
+
     pub row-clear : (table : List Bool) (ls : List A) (n : ℕ) → Shown table ls → length ls ≡ n → Shows (rowOf table n) []
     row-clear table ls n h l k = rw span-is (by-cases (decLt k rowWidth)
         (λ s. getD-take rowWidth (drop (n * rowWidth) table) k false s ∙ getD-drop (n * rowWidth) table k false ∙ h n k s
