@@ -154,11 +154,11 @@ write-read r t =
     ∙ ap (λ b. cond b (accepted r) (turned 8)) (T-true {b = bothOrNeither r} n))
 
 -- ---- "The longest roster has 2,214 bytes."
-lists-size : (ls : List (List ℕ)) → length (gather listBytes ls) ≡ length ls + totalS ls
+pub lists-size : (ls : List (List ℕ)) → length (gather listBytes ls) ≡ length ls + totalS ls
 lists-size [] = refl
 lists-size (xs ∷ ls) = omega (arith, length-append (listBytes xs) (gather listBytes ls), lists-size ls)
 
-rankings-size : (ts : List Ranking) → length (gather rankingBytes ts) ≡ 2 * length ts + totalT ts
+pub rankings-size : (ts : List Ranking) → length (gather rankingBytes ts) ≡ 2 * length ts + totalT ts
 rankings-size [] = refl
 rankings-size (R ∷ ts) = omega (arith, length-append (rankingBytes R) (gather rankingBytes ts), rankings-size ts)
 

@@ -1,0 +1,15 @@
+// The limits and sizes of document 01, each under a name of its own, as the model's Limits.antt has them.
+
+// "a count byte 0 to 32"
+pub const NODE_LIMIT: u8 = 32;
+
+// "one quota byte each, 0 to 8"; "the quotas of one side sum to at most 64"
+pub const QUOTA_LIMIT: u8 = 8;
+
+pub const QUOTA_SUM_LIMIT: u8 = 64;
+
+// "a two-byte count of all entries, low byte first, at most 1,024"
+pub const ENTRY_LIMIT: usize = 1024;
+
+// "a buffer .. for a roster 2,214"
+pub const ROSTER_SIZE: usize = 2214;

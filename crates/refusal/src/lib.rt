@@ -1,0 +1,25 @@
+// Refusals: section "Turned back" of document 01. Every call that can refuse answers the number of the refusal and its group,
+// `Refused(number, group)`, and nothing else.
+ghost use mathlib.Core.Path.{_≡_};
+ghost use Rattle.model.specs.Refusal.{groupOf};
+ghost use Rattle.refusal.specs.Shown.{groupShown};
+
+pub enum Group {
+    Form,
+    Content,
+    Plan,
+    Desk,
+}
+
+// The group of a refusal: "form for 1, 2 and 9; content for 3 to 8; plan for 10 to 12; desk for 13 to 15". A number that document 01
+// does not use is content.
+pub fn group_of(number: u8) -> Group
+    ensures { λ r. ⌜ groupShown r ≡ groupOf number ⌝ }
+{
+    match number {
+        1 | 2 | 9 => Group::Form,
+        10..=12 => Group::Plan,
+        13..=15 => Group::Desk,
+        _ => Group::Content,
+    }
+}

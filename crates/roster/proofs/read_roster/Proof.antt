@@ -1,0 +1,37 @@
+-- `roster::read_roster` meets its contract: the end of the file is an accepted roster, and a refusal has its group. Assumes nothing.
+use mathlib.Core.Path.{refl, sym, ap, _∙_}
+use borrow.Author.Needs.{needs}
+use Rattle.model.specs.Refusal.{groupOf}
+use Rattle.model.specs.RosterFile.{readRoster}
+use Rattle.refusal.specs.Shown.{shows-case}
+use Rattle.reading.specs.Whole.{closed-accepted, closed-turned}
+use Rattle.roster.specs.declared.Answer.the-variants.{Refused}
+use Rattle.roster.specs.Shown.{shown}
+use Rattle.roster.proofs.read_roster.Statement.{statement}
+use Rattle.roster.proofs.read_roster.Tie as tie
+
+roster-file-requires : tie.Need-roster-file-requires
+roster-file-requires c κs = search needs
+
+enum-told : tie.Need-enum-told
+enum-told c = search needs
+
+enum-known-s : tie.Need-enum-known-s
+enum-known-s c = search needs
+
+group-of-requires : tie.Need-group-of-requires
+group-of-requires c κs = search needs
+
+returns : tie.Need-returns
+returns c = let f = c .before .before .before .before .args .file .now in sym (closed-accepted f (readRoster f) shown (λ R. refl) (sym (c .enum-told .given .1) ∙ c .before .before .roster-file .ensures))
+
+returns-2 : tie.Need-returns-2
+returns-2 c =
+    let f = c .before .before .before .before .before .before .args .file .now in
+    let n = c .before .before .s .given .0 .0 in
+    ap (Refused n) (shows-case (c .group-of .result) (c .group-of .ensures)) ∙ sym (ap shown (closed-turned f (readRoster f) (sym (c .before .before .s .given .1) ∙ c .before .before .before .before .roster-file .ensures)))
+
+pub read-roster-spec : {M : Type 1} → statement M
+read-roster-spec =
+    tie.close
+    (tie.spec roster-file-requires enum-told enum-known-s group-of-requires returns returns-2)

@@ -1,0 +1,53 @@
+// A roster file from its first byte to its end.
+ghost use mathlib.Core.Path.{_≡_};
+ghost use Prim.Native.Nat.{_≤_};
+ghost use lib.ListN.{length};
+ghost use Rattle.model.specs.RosterFile.{readRoster};
+ghost use Rattle.reading.specs.Whole.{closed, ListsRead};
+use super::pairs;
+use super::sections;
+use reading::Section;
+
+// The lists of ns surveyors and nt stands from a place on, then "9 bytes after the end", then "8 a pair listed by one side only". The
+// marks of a side's lists are 32 rows of 33.
+pub(crate) fn lists_to_end(file: &[u8], at: usize, ns: u8, nt: u8) -> Section
+    requires { ⌜ (at ≤ length (now file)) × (ns ≤ 32) × (nt ≤ 32) ⌝ }
+    ensures { λ r. ⌜ ListsRead ns nt (now (file .entry)) at r ⌝ }
+{
+    let m = ns as usize;
+    let n = nt as usize;
+    let mut surveyors = [false; 1056];
+    let mut stands = [false; 1056];
+    let s = sections::lists_section(file, at, m, nt, &mut surveyors);
+    let Section::Read(mid) = s else {
+        return s;
+    };
+    let t = sections::rankings_section(file, mid, n, ns, &mut stands);
+    let Section::Read(end) = t else {
+        return t;
+    };
+    if end < file.len() {
+        return Section::Refused(9);
+    }
+    if pairs::both_alike(&surveyors, &stands, m, n) {
+        return t;
+    }
+    Section::Refused(8)
+}
+
+// The nodes of both sides, then their lists: the end of the file, or the first refusal.
+pub(crate) fn roster_file(file: &[u8]) -> Section
+    ensures { λ r. ⌜ r ≡ closed (now (file .entry)) (readRoster (now (file .entry))) ⌝ }
+{
+    let s = sections::nodes_at(file, 0);
+    let Section::Read(a) = s else {
+        return s;
+    };
+    let t = sections::nodes_at(file, a);
+    let Section::Read(b) = t else {
+        return t;
+    };
+    let ns = file[0];
+    let nt = file[a];
+    lists_to_end(file, b, ns, nt)
+}

@@ -1,0 +1,28 @@
+// The roster reader: section "Roster bytes" of document 01, and refusals 1 to 9 in its order.
+mod checks;
+mod file;
+mod list;
+mod pairs;
+mod sections;
+
+ghost use mathlib.Core.Path.{_≡_};
+ghost use Rattle.model.specs.RosterFile.{readRoster};
+ghost use Rattle.roster.specs.Shown.{shown};
+use reading::Section;
+use refusal::Group;
+
+// A roster file is accepted, or refused with the number and the group of the refusal.
+pub enum Answer {
+    Accepted,
+    Refused(u8, Group),
+}
+
+pub fn read_roster(file: &[u8]) -> Answer
+    ensures { λ r. ⌜ r ≡ shown (readRoster (now (file .entry))) ⌝ }
+{
+    let s = file::roster_file(file);
+    match s {
+        Section::Read(_) => Answer::Accepted,
+        Section::Refused(n) => Answer::Refused(n, refusal::group_of(n)),
+    }
+}
