@@ -7,3 +7,4 @@ pub mod Twice
 pub mod Integer
 pub mod Search
 pub mod Distinct
+pub mod Ranges

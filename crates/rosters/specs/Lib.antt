@@ -3,3 +3,4 @@ pub mod Ascending
 pub mod Chosen
 pub mod PlanFiles
 pub mod Laws
+pub mod Cells
