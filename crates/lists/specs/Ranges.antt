@@ -4,6 +4,7 @@ use native.Mathlib.Omega.{arith}
 use mathlib.Core.Path.{_≡_, refl, sym, ap, ap₂, _∙_, subst}
 use mathlib.Core.Bool.{Bool, true, false, cond}
 use mathlib.Core.List.{List, [], _∷_, _++_, map, map-append, append-nil, append-assoc, List·Memᴰ·head, List·Memᴰ·tail}
+use lib.Dec.{T}
 use Rattle.lists.specs.Sum.{_∈_, range}
 use Rattle.lists.specs.Keep.{keep, gather}
 
@@ -59,7 +60,7 @@ module _ {A : Type 0} (q : ℕ → Bool) (g : ℕ → A) where
   abbrev pub One : Bool → A → List A
   One b a = cond b (a ∷ []) []
 
-  row : (L : ℕ → Bool) (E : ℕ → A) (s k n : ℕ) → ((j : ℕ) → k ≤ j → j < k + n → (q (s + j) ≡ L j) × (g (s + j) ≡ E j))
+  row : (L : ℕ → Bool) (E : ℕ → A) (s k n : ℕ) → ((j : ℕ) → k ≤ j → j < k + n → (q (s + j) ≡ L j) × (T (L j) → g (s + j) ≡ E j))
       → map g (keep q (range (s + k) n)) ≡ gather (λ j. One (L j) (E j)) (range k n)
   row L E s k zero h = refl
   row L E s k (suc n) h = go (q (s + k)) (h k (omega arith) (omega arith)) (ap (λ z. map g (keep q (range z n))) (move s k) ∙ row L E s (suc k) n (λ j a b. h j (omega arith) (omega arith)))
@@ -68,12 +69,12 @@ module _ {A : Type 0} (q : ℕ → Bool) (g : ℕ → A) where
       move s k = omega arith
 
 
-      go : (b : Bool) → (b ≡ L k) × (g (s + k) ≡ E k) → map g (keep q (range (suc (s + k)) n)) ≡ gather (λ j. One (L j) (E j)) (range (suc k) n)
+      go : (b : Bool) → (b ≡ L k) × (T (L k) → g (s + k) ≡ E k) → map g (keep q (range (suc (s + k)) n)) ≡ gather (λ j. One (L j) (E j)) (range (suc k) n)
           → map g (cond b ((s + k) ∷ keep q (range (suc (s + k)) n)) (keep q (range (suc (s + k)) n))) ≡ One (L k) (E k) ++ gather (λ j. One (L j) (E j)) (range (suc k) n)
-      go true (e, f) ih = ap₂ (λ a z. a ∷ z) f ih ∙ ap (λ b. One b (E k) ++ gather (λ j. One (L j) (E j)) (range (suc k) n)) e
+      go true (e, f) ih = ap₂ (λ a z. a ∷ z) (f (subst T e tt)) ih ∙ ap (λ b. One b (E k) ++ gather (λ j. One (L j) (E j)) (range (suc k) n)) e
       go false (e, f) ih = ih ∙ ap (λ b. One b (E k) ++ gather (λ j. One (L j) (E j)) (range (suc k) n)) e
 
-  pub grid : (L : ℕ → ℕ → Bool) (E : ℕ → ℕ → A) (w i n : ℕ) → ((a j : ℕ) → i ≤ a → a < i + n → j < w → (q (a * w + j) ≡ L a j) × (g (a * w + j) ≡ E a j))
+  pub grid : (L : ℕ → ℕ → Bool) (E : ℕ → ℕ → A) (w i n : ℕ) → ((a j : ℕ) → i ≤ a → a < i + n → j < w → (q (a * w + j) ≡ L a j) × (T (L a j) → g (a * w + j) ≡ E a j))
       → map g (keep q (range (i * w) (n * w))) ≡ gather (λ a. gather (λ j. One (L a j) (E a j)) (range 0 w)) (range i n)
   grid L E w i zero h = ap (λ k. map g (keep q (range (i * w) k))) (none w)
     where

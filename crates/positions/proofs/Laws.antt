@@ -22,11 +22,6 @@ stamped-turn row xs (suc k) t h l =
     let g : suc k + 1 ≡ suc (suc k) = omega arith in
     simp (e, f, g, drop-cons xs k 0 l)
 
-pub stamped-length : (row : ℕ) (xs : List ℕ) (k : ℕ) (t : List ℕ) → length (stamped row xs k t) ≡ length t
-unfolding stamped
-stamped-length row [] k t = refl
-stamped-length row (x ∷ xs) k t = length-set (stamped row xs (suc k) t) (row + column x) k ∙ stamped-length row xs (suc k) t
-
 -- ---- the lists of all surveyors, of all stands
 left-suc : (n i : ℕ) → i < n → n - i ≡ suc (n - (i + 1))
 left-suc n i h = omega arith

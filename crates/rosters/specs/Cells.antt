@@ -69,7 +69,7 @@ module _ (r : Roster) (ok : T (fits r)) where
       split w n h = omega arith
 
   pub edges-cells : (w : ℕ) → standCount r ≤ w → (q : ℕ → Bool) (g : ℕ → Edge)
-      → ((i j : ℕ) → i < surveyorCount r → j < w → (q (i * w + j) ≡ listed r i j) × (g (i * w + j) ≡ pairEdge r i j))
+      → ((i j : ℕ) → i < surveyorCount r → j < w → (q (i * w + j) ≡ listed r i j) × (T (listed r i j) → g (i * w + j) ≡ pairEdge r i j))
       → map g (keep q (range 0 (surveyorCount r * w))) ≡ edgesOf r
   unfolding edgesOf
   edges-cells w h q g f =

@@ -6,7 +6,7 @@ use Prim.Native.Nat.{_+_, _-_, _≤_}
 use native.Mathlib.Omega.{arith}
 use lib.ListN.{length, drop, length-set}
 use Rattle.positions.specs.Tables.{stamped}
-use Rattle.positions.proofs.Laws.{stamped-none, stamped-turn, stamped-length}
+use Rattle.positions.proofs.Laws.{stamped-none, stamped-turn}
 use borrow.Author.Needs.{needs}
 use Rattle.positions.proofs.stamp.Statement.{statement}
 use Rattle.positions.proofs.stamp.Tie as tie
