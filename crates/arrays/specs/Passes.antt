@@ -1,11 +1,11 @@
 -- An array that a loop fills from its front: the entries below n are those of a function, the rest 0 or false.
 use Prim.Native.Nat.{ℕ, zero, suc, _+_, _≤_, _<_}
 use native.Mathlib.Omega.{arith}
-use mathlib.Core.Path.{_≡_, refl, sym, ap, _∙_}
+use mathlib.Core.Path.{_≡_, refl, sym, ap, _∙_, subst}
 use mathlib.Core.Logic.{by-cases}
 use mathlib.Core.Bool.{Bool, true, false, cond}
 use mathlib.Core.List.{List, [], _∷_}
-use lib.ListN.{length, getD, set, replicate}
+use lib.ListN.{length, getD, set, replicate, length-set, length-replicate}
 use lib.Seq.{getD-set-same, getD-set-other}
 use lib.Dec.{ltb}
 use borrow.Author.Tests.{lt-ltb, le-ltb}
@@ -33,12 +33,23 @@ module _ {A : Type 0} (d : A) where
     pub shows-behind : (n e : ℕ) → Shows o n f → n ≤ e → getD o e d ≡ d
     shows-behind n e s h = s e ∙ ap (λ b. cond b (f e) d) (le-ltb e n h)
 
-    pub shows-next : (i : ℕ) → i < length o → Shows o i f → Shows (set o i (f i)) (i + 1) f
-    shows-next i l s e = by-eq e i
-        (λ q b. ap (λ k. getD (set o i (f i)) k d) q ∙ getD-set-same o i (f i) d l ∙ ap f (sym q) ∙ sym (ap (λ b. cond b (f e) d) (lt-ltb e (i + 1) (omega arith))))
-        (λ q b. getD-set-other o i e (f i) d q ∙ by-cases (decLt e i)
+    pub shows-next : (i : ℕ) (v : A) → v ≡ f i → i < length o → Shows o i f → Shows (set o i v) (i + 1) f
+    shows-next i v w l s e = by-eq e i
+        (λ q b. ap (λ k. getD (set o i v) k d) q ∙ getD-set-same o i v d l ∙ w ∙ ap f (sym q) ∙ sym (ap (λ b. cond b (f e) d) (lt-ltb e (i + 1) (omega arith))))
+        (λ q b. getD-set-other o i e v d q ∙ by-cases (decLt e i)
         (λ h. shows-at i e s h ∙ sym (ap (λ b. cond b (f e) d) (lt-ltb e (i + 1) (omega arith))))
         (λ n. shows-behind i e s (omega arith) ∙ sym (ap (λ b. cond b (f e) d) (le-ltb e (i + 1) (omega arith)))))
+
+  -- an array of k entries, filled up to n: what a loop keeps, from its start, turn by turn
+  pub record Fill (k : ℕ) (o : List A) (n : ℕ) (f : ℕ → A) : Type 0 where
+    pub size : length o ≡ k
+    pub shows : Shows o n f
+
+  pub fill-none : (k : ℕ) (f : ℕ → A) → Fill k (replicate k d) 0 f
+  fill-none k f = record { size = length-replicate k d; shows = shows-none k f }
+
+  pub fill-next : (k : ℕ) (o : List A) (f : ℕ → A) (i : ℕ) (v : A) → v ≡ f i → i < k → Fill k o i f → Fill k (set o i v) (i + 1) f
+  fill-next k o f i v w l F = record { size = length-set o i v ∙ F .size; shows = shows-next o f i v w (subst (λ z. i < z) (sym (F .size)) l) (F .shows) }
 
 -- arrays that show an instance number by number show the instance
 pub shown-is : (m ns nt : ℕ) (sv st rankS rankT : List ℕ) (tied : List Bool) (quotaS quotaT : List ℕ) (G : Instance)

@@ -32,22 +32,22 @@ across c = c % 32 * 32 + c / 32
 
 -- the edge of a cell, from the surveyors' positions, the stands', and the ranks behind the stands' strict parts
 abbrev pub cellEdge : List ℕ → List ℕ → List ℕ → ℕ → Edge
-cellEdge inS inT next c = record {
+cellEdge listed strict next c = record {
   surveyor = c / 32;
   stand = c % 32;
-  rankS = at inS c;
-  rankT = cond (eqb (at inT (across c)) 0) (at next (c % 32)) (at inT (across c));
-  tied = eqb (at inT (across c)) 0;
+  rankS = at listed c;
+  rankT = cond (eqb (at strict (across c)) 0) (at next (c % 32)) (at strict (across c));
+  tied = eqb (at strict (across c)) 0;
 }
 
-pub record Filled (ns nt m : ℕ) (cell inS inT next quotaS quotaT : List ℕ) (g : Instance) : Type 0 where
+pub record Filled (ns nt m : ℕ) (cell listed strict next qs qt : List ℕ) (g : Instance) : Type 0 where
   pub edges : g .m ≡ m
   pub surveyors : g .ns ≡ ns
   pub stands : g .nt ≡ nt
-  pub sv : Shows 0 (g .sv) m (λ e. cellEdge inS inT next (at cell e) .surveyor)
-  pub st : Shows 0 (g .st) m (λ e. cellEdge inS inT next (at cell e) .stand)
-  pub rankS : Shows 0 (g .rank-s) m (λ e. cellEdge inS inT next (at cell e) .rankS)
-  pub rankT : Shows 0 (g .rank-t) m (λ e. cellEdge inS inT next (at cell e) .rankT)
-  pub tied : Shows false (g .tied) m (λ e. cellEdge inS inT next (at cell e) .tied)
-  pub quotaS : g .quota-s ≡ quotaS
-  pub quotaT : g .quota-t ≡ quotaT
+  pub sv : Shows 0 (g .sv) m (λ e. cellEdge listed strict next (at cell e) .surveyor)
+  pub st : Shows 0 (g .st) m (λ e. cellEdge listed strict next (at cell e) .stand)
+  pub rankS : Shows 0 (g .«rank_s») m (λ e. cellEdge listed strict next (at cell e) .rankS)
+  pub rankT : Shows 0 (g .«rank_t») m (λ e. cellEdge listed strict next (at cell e) .rankT)
+  pub tied : Shows false (g .tied) m (λ e. cellEdge listed strict next (at cell e) .tied)
+  pub quotaS : g .«quota_s» ≡ qs
+  pub quotaT : g .«quota_t» ≡ qt

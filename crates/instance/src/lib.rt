@@ -25,7 +25,7 @@ pub struct Instance {
 }
 
 // the cells of a table that hold a position, ascending: m of them
-pub struct Cells {
+pub struct Found {
     pub m: usize,
     pub cell: [u16; 1024],
 }
@@ -56,7 +56,7 @@ pub fn quotas(file: &[u8], at: usize, n: usize) -> [u8; 32]
 }
 
 // the cells of n rows that hold a position
-pub fn cells(n: usize, table: &[u8; 1024]) -> Cells
+pub fn listed_cells(n: usize, table: &[u8; 1024]) -> Found
     requires { ⌜ n ≤ 32 ⌝ }
     ensures { λ r. ⌜ Listed n (now (table .entry)) (r .m) (r .cell) ⌝ }
 {
@@ -69,7 +69,7 @@ pub fn cells(n: usize, table: &[u8; 1024]) -> Cells
         m += (table[c] != 0) as usize;
         c += 1;
     }
-    Cells { m: m, cell: cell }
+    Found { m: m, cell: cell }
 }
 
 // the rank at a stand: the position in the strict part, or the rank behind that part where the surveyor is not in it
@@ -83,9 +83,9 @@ pub fn rank_of(position: u8, next: u8) -> u8
 }
 
 // the edges of the cells
-pub fn filled(ns: usize, nt: usize, m: usize, cell: &[u16; 1024], in_s: &[u8; 1024], in_t: &[u8; 1024], next: &[u8; 32], quota_s: [u8; 32], quota_t: [u8; 32]) -> Instance
+pub fn filled(ns: usize, nt: usize, m: usize, cell: &[u16; 1024], listed: &[u8; 1024], strict: &[u8; 1024], next: &[u8; 32], qs: [u8; 32], qt: [u8; 32]) -> Instance
     requires { ⌜ (m ≤ 1024) × Below m (now cell) ⌝ }
-    ensures { λ r. ⌜ Filled ns nt m (now (cell .entry)) (now (in_s .entry)) (now (in_t .entry)) (now (next .entry)) quota_s quota_t r ⌝ }
+    ensures { λ r. ⌜ Filled ns nt m (now (cell .entry)) (now (listed .entry)) (now (strict .entry)) (now (next .entry)) qs qt r ⌝ }
 {
     let mut sv = [0u8; 1024];
     let mut st = [0u8; 1024];
@@ -97,15 +97,15 @@ pub fn filled(ns: usize, nt: usize, m: usize, cell: &[u16; 1024], in_s: &[u8; 10
         let c = cell[e] as usize;
         let i = c / 32;
         let j = c % 32;
-        let t = in_t[j * 32 + i];
+        let t = strict[j * 32 + i];
         sv[e] = i as u8;
         st[e] = j as u8;
-        rank_s[e] = in_s[c];
+        rank_s[e] = listed[c];
         rank_t[e] = rank_of(t, next[j]);
         tied[e] = t == 0;
         e += 1;
     }
-    Instance { m: m, ns: ns, nt: nt, sv: sv, st: st, rank_s: rank_s, rank_t: rank_t, tied: tied, quota_s: quota_s, quota_t: quota_t }
+    Instance { m: m, ns: ns, nt: nt, sv: sv, st: st, rank_s: rank_s, rank_t: rank_t, tied: tied, quota_s: qs, quota_t: qt }
 }
 
 // the instance of an accepted roster file
@@ -116,13 +116,13 @@ pub fn instance_of(file: &[u8]) -> Instance
     let quota_s = quotas(file, 1, ns);
     let nt = count_at(file, ns + 1);
     let quota_t = quotas(file, ns + 2, nt);
-    let mut in_s = [0u8; 1024];
-    let at = positions::stamp_lists(file, ns + nt + 4, ns, &mut in_s);
-    let mut in_t = [0u8; 1024];
+    let mut listed = [0u8; 1024];
+    let at = positions::stamp_lists(file, ns + nt + 4, ns, &mut listed);
+    let mut strict = [0u8; 1024];
     let mut next = [0u8; 32];
-    positions::stamp_rankings(file, at + 2, nt, &mut in_t, &mut next);
-    let found = cells(ns, &in_s);
+    positions::stamp_rankings(file, at + 2, nt, &mut strict, &mut next);
+    let found = listed_cells(ns, &listed);
     let m = found.m;
     let cell = found.cell;
-    filled(ns, nt, m, &cell, &in_s, &in_t, &next, quota_s, quota_t)
+    filled(ns, nt, m, &cell, &listed, &strict, &next, quota_s, quota_t)
 }

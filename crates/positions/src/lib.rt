@@ -45,7 +45,7 @@ pub fn stamp(list: &[u8], row: usize, table: &mut [u8; 1024])
 // n surveyors' lists from a place on, a length byte before each; gives the place behind them
 pub fn stamp_lists(file: &[u8], start: usize, n: usize, table: &mut [u8; 1024]) -> usize
     requires { ⌜ (start ≤ 1000) × (n ≤ 32) ⌝ }
-    ensures { λ r. ⌜ r ≡ listsEnd (now (file .entry)) n start ⌝ }
+    ensures { λ r. ⌜ (r ≡ listsEnd (now (file .entry)) n start) × (r ≤ 9192) ⌝ }
     ensures { λ r. ⌜ now (table .exit) ≡ listsStamped (now (file .entry)) n 0 start (now (table .entry)) ⌝ }
 {
     let mut at = start;

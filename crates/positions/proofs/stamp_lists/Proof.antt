@@ -86,7 +86,7 @@ returns c =
     let l = c .before in
     let a = l .before .before .args in
     (
-      sym (l .loop .inv .2 ∙ end-done (a .file .now) (a .n) (l .loop .i) (l .loop .at) (c .loop-test .left)),
+      (sym (l .loop .inv .2 ∙ end-done (a .file .now) (a .n) (l .loop .i) (l .loop .at) (c .loop-test .left)), omega arith),
       sym (l .loop .inv .3 ∙ lists-done (a .file .now) (a .n) (l .loop .i) (l .loop .at) (c .loop-test .left) (l .loop .table)),
     )
 
