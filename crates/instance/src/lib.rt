@@ -83,7 +83,17 @@ pub fn rank_of(position: u8, next: u8) -> u8
 }
 
 // the edges of the cells
-pub fn filled(ns: usize, nt: usize, m: usize, cell: &[u16; 1024], listed: &[u8; 1024], strict: &[u8; 1024], next: &[u8; 32], qs: [u8; 32], qt: [u8; 32]) -> Instance
+pub fn filled(
+    ns: usize,
+    nt: usize,
+    m: usize,
+    cell: &[u16; 1024],
+    listed: &[u8; 1024],
+    strict: &[u8; 1024],
+    next: &[u8; 32],
+    qs: [u8; 32],
+    qt: [u8; 32],
+) -> Instance
     requires { ⌜ (m ≤ 1024) × Below m (now cell) ⌝ }
     ensures { λ r. ⌜ Filled ns nt m (now (cell .entry)) (now (listed .entry)) (now (strict .entry)) (now (next .entry)) qs qt r ⌝ }
 {
@@ -105,7 +115,18 @@ pub fn filled(ns: usize, nt: usize, m: usize, cell: &[u16; 1024], listed: &[u8; 
         tied[e] = t == 0;
         e += 1;
     }
-    Instance { m: m, ns: ns, nt: nt, sv: sv, st: st, rank_s: rank_s, rank_t: rank_t, tied: tied, quota_s: qs, quota_t: qt }
+    Instance {
+        m: m,
+        ns: ns,
+        nt: nt,
+        sv: sv,
+        st: st,
+        rank_s: rank_s,
+        rank_t: rank_t,
+        tied: tied,
+        quota_s: qs,
+        quota_t: qt,
+    }
 }
 
 // the instance of an accepted roster file

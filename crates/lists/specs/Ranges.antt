@@ -3,7 +3,7 @@ use Prim.Native.Nat.{ℕ, zero, suc, _+_, _*_, _≤_, _<_}
 use native.Mathlib.Omega.{arith}
 use mathlib.Core.Path.{_≡_, refl, sym, ap, ap₂, _∙_, subst}
 use mathlib.Core.Bool.{Bool, true, false, cond}
-use mathlib.Core.List.{List, [], _∷_, _++_, map, map-append, append-nil, append-assoc, List·Memᴰ·head, List·Memᴰ·tail}
+use mathlib.Core.List.{List, [], _∷_, _++_, map, map-append, append-assoc, List·Memᴰ·head, List·Memᴰ·tail}
 use lib.Dec.{T}
 use Rattle.lists.specs.Sum.{_∈_, range}
 use Rattle.lists.specs.Keep.{keep, gather}
@@ -67,7 +67,6 @@ module _ {A : Type 0} (q : ℕ → Bool) (g : ℕ → A) where
     where
       move : (s k : ℕ) → suc (s + k) ≡ s + suc k
       move s k = omega arith
-
 
       go : (b : Bool) → (b ≡ L k) × (T (L k) → g (s + k) ≡ E k) → map g (keep q (range (suc (s + k)) n)) ≡ gather (λ j. One (L j) (E j)) (range (suc k) n)
           → map g (cond b ((s + k) ∷ keep q (range (suc (s + k)) n)) (keep q (range (suc (s + k)) n))) ≡ One (L k) (E k) ++ gather (λ j. One (L j) (E j)) (range (suc k) n)

@@ -1,10 +1,10 @@
 -- One turn of each loop, in the words of `specs/Tables.antt`. Assumes nothing.
-use mathlib.Core.Path.{_≡_, refl, sym, ap, _∙_}
-use mathlib.Core.List.{List, [], _∷_}
+use mathlib.Core.Path.{_≡_, ap}
+use mathlib.Core.List.{List}
 use Prim.Native.Nat.{ℕ, zero, suc, _+_, _-_, _*_, _%_, _≤_, _<_}
 use native.Mathlib.Omega.{arith}
 use native.Mathlib.Numerals.{add-one}
-use lib.ListN.{length, take, drop, getD, set, length-set, length-take}
+use lib.ListN.{length, take, drop, getD, set, length-take}
 use lib.Seq.{drop-cons, drop-length}
 use Rattle.positions.specs.Tables.{column, stamped, listsStamped, listsEnd, strictStamped, nextRanks}
 

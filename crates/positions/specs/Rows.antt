@@ -3,19 +3,19 @@
 use Prim.Native.Nat.{ℕ, zero, suc, _+_, _*_, _%_, _≤_, _<_}
 use native.Mathlib.Omega.{arith}
 use native.Mathlib.Nat.{add-zero}
-use mathlib.Core.Path.{_≡_, refl, sym, ap, ap₂, _∙_, subst}
+use mathlib.Core.Path.{_≡_, refl, sym, ap, ap₂, _∙_}
 use mathlib.Core.Logic.{_≢_}
-use mathlib.Core.Bool.{Bool, true, false, cond, _||_}
+use mathlib.Core.Bool.{cond, _||_}
 use mathlib.Core.List.{List, [], _∷_, _++_, map, append-assoc}
 use lib.ListN.{length, take, drop, getD, set, length-set}
-use lib.Seq.{getD-set-same, getD-set-other, getD-drop, drop-drop, take-append-seam, drop-append-seam}
-use lib.Dec.{eqb}
+use lib.Seq.{getD-set-same, getD-set-other}
 use Rattle.lists.specs.Test.{given, by-eq}
 use Rattle.lists.specs.Keep.{gather, All}
 use Rattle.model.specs.Roster.{Ranking, entries, elem}
 use Rattle.model.specs.RosterFile.{listBytes, rankingBytes}
 use Rattle.model.specs.Edges.{position}
 use Rattle.rosters.specs.Cells.{Within}
+use Rattle.rosters.specs.Offsets.{head-is, tail-is, part-is, rest-is}
 use Rattle.positions.specs.Tables.{column, stamped, listsStamped, listsEnd, strictStamped, nextRanks, behind}
 
 -- ---- one list
@@ -94,20 +94,7 @@ all-at (xs ∷ ls) row t l w z (suc i) j h =
     down : (row i j : ℕ) → row + suc i * 32 + j ≡ row + 32 + i * 32 + j
     down row i j = omega arith
 
--- ---- from the bytes: a length byte, the list, and what follows
-module _ (f : List ℕ) (at : ℕ) (b : ℕ) (rest : List ℕ) (e : drop at f ≡ b ∷ rest) where
-  head-is : getD f at 0 ≡ b
-  head-is = ap (λ k. getD f k 0) (sym (add-zero at)) ∙ sym (getD-drop at f 0 0) ∙ ap (λ z. getD z 0 0) e
-
-  tail-is : drop (at + 1) f ≡ rest
-  tail-is = sym (drop-drop 1 at f) ∙ ap (drop 1) e
-
-rest-is : (f : List ℕ) (at n : ℕ) (xs rest : List ℕ) → drop at f ≡ xs ++ rest → length xs ≡ n → (take n (drop at f) ≡ xs) × (drop (at + n) f ≡ rest)
-rest-is f at n xs rest e l = (
-  ap₂ take (sym l) e ∙ take-append-seam xs rest,
-  sym (drop-drop n at f) ∙ ap₂ drop (sym l) e ∙ drop-append-seam xs rest,
-)
-
+-- ---- from the bytes
 pub lists-are : (ls : List (List ℕ)) (f : List ℕ) (at : ℕ) (post : List ℕ) → drop at f ≡ gather listBytes ls ++ post → (row : ℕ) (t : List ℕ)
     → (listsStamped f (length ls) row at t ≡ allStamped row ls t) × (drop (listsEnd f (length ls) at) f ≡ post)
 unfolding listsStamped listsEnd allStamped
@@ -115,7 +102,7 @@ lists-are [] f at post e row t = (refl, e)
 lists-are (xs ∷ ls) f at post e row t =
     given (head-is f at (length xs) ((xs ++ gather listBytes ls) ++ post) e) (λ h.
     given (tail-is f at (length xs) ((xs ++ gather listBytes ls) ++ post) e ∙ append-assoc xs (gather listBytes ls) post) (λ d.
-    given (rest-is f (at + 1) (length xs) xs (gather listBytes ls ++ post) d refl) (λ (x, y).
+    given (part-is f (at + 1) (length xs) xs (gather listBytes ls ++ post) d refl, rest-is f (at + 1) (length xs) xs (gather listBytes ls ++ post) d refl) (λ (x, y).
     given (lists-are ls f (at + (getD f at 0 + 1)) post (ap (λ k. drop k f) (move at (getD f at 0) (length xs) h) ∙ y) (row + 32) (stamped row (take (getD f at 0) (drop (at + 1) f)) 1 t)) (λ (u, v).
     (u ∙ ap (λ z. allStamped (row + 32) ls (stamped row z 1 t)) (ap (λ k. take k (drop (at + 1) f)) h ∙ x), v)))))
   where
@@ -140,13 +127,14 @@ rankings-are (R ∷ ts) f at post e row j t u =
     given (tail-is f at (length (R .strict)) (length (R .tied) ∷ ((entries R ++ more) ++ post)) e) (λ d.
     given (head-is f (at + 1) (length (R .tied)) ((entries R ++ more) ++ post) d) (λ g.
     given (ap (λ k. drop k f) (two at) ∙ tail-is f (at + 1) (length (R .tied)) ((entries R ++ more) ++ post) d ∙ append-assoc (entries R) more post) (λ (d₂ : drop (at + 2) f ≡ entries R ++ (more ++ post)).
-    given (rest-is f (at + 2) (length (R .strict)) (R .strict) (R .tied ++ (more ++ post)) (d₂ ∙ append-assoc (R .strict) (R .tied) (more ++ post)) refl) (λ (x, y).
-    given (rest-is f (at + 2 + length (R .strict)) (length (R .tied)) (R .tied) (more ++ post) y refl .1) (λ z.
+    given (d₂ ∙ append-assoc (R .strict) (R .tied) (more ++ post)) (λ d₃.
+    given (part-is f (at + 2) (length (R .strict)) (R .strict) (R .tied ++ (more ++ post)) d₃ refl, rest-is f (at + 2) (length (R .strict)) (R .strict) (R .tied ++ (more ++ post)) d₃ refl) (λ (x, y).
+    given (rest-is f (at + 2 + length (R .strict)) (length (R .tied)) (R .tied) (more ++ post) y refl) (λ z.
     given (rankings-are ts f (behind f at) post (ap (λ k. drop k f) (move at (getD f at 0) (getD f (at + 1) 0) (length (R .strict)) (length (R .tied)) h g) ∙ z) (row + 32) (suc j)
     (stamped row (take (getD f at 0) (drop (at + 2) f)) 1 t) (set u j ((getD f at 0 + 1) % 256))) (λ (p, q). (
       p ∙ ap (λ z. allStamped (row + 32) (strictLists ts) (stamped row z 1 t)) (ap (λ k. take k (drop (at + 2) f)) h ∙ x),
       q ∙ ap (λ k. nextAll (suc j) ts (set u j ((k + 1) % 256))) h,
-    ))))))))
+    )))))))))
   where
     two : (at : ℕ) → at + 2 ≡ at + 1 + 1
     two at = omega arith

@@ -62,7 +62,13 @@ pub fn stamp_lists(file: &[u8], start: usize, n: usize, table: &mut [u8; 1024]) 
 
 // n stands' lists from a place on, the strict length and the tie length before each: positions in the strict part, and for each
 // stand the rank behind it, which all tied entries share
-pub fn stamp_rankings(file: &[u8], start: usize, n: usize, table: &mut [u8; 1024], next: &mut [u8; 32])
+pub fn stamp_rankings(
+    file: &[u8],
+    start: usize,
+    n: usize,
+    table: &mut [u8; 1024],
+    next: &mut [u8; 32],
+)
     requires { ⌜ (start ≤ 10000) × (n ≤ 32) ⌝ }
     ensures { λ _. ⌜ now (table .exit) ≡ strictStamped (now (file .entry)) n 0 start (now (table .entry)) ⌝ }
     ensures { λ _. ⌜ now (next .exit) ≡ nextRanks (now (file .entry)) n 0 start (now (next .entry)) ⌝ }

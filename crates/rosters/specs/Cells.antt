@@ -2,18 +2,18 @@
 -- Its edges are the cells whose pair is listed, row by row.
 use Prim.Native.Nat.{ℕ, zero, suc, _+_, _-_, _*_, _≤_, _<_}
 use native.Mathlib.Omega.{arith}
-use mathlib.Core.Path.{_≡_, refl, sym, ap, _∙_}
-use mathlib.Core.Bool.{Bool, true, false, not, cond, _||_}
+use mathlib.Core.Path.{_≡_, refl, ap, _∙_}
+use mathlib.Core.Bool.{Bool, false, not, cond, _||_}
 use mathlib.Core.List.{List, [], _∷_, _++_, map, append-nil}
 use lib.ListN.{length}
 use lib.Dec.{T, eqb, leb, ltb, nltb→le}
-use Rattle.lists.specs.Test.{given, and-l, and-r, nor-l, nor-r, eqb-no, eqb-yes, eq→eqb}
+use Rattle.lists.specs.Test.{given, and-l, and-r, nor-l, nor-r, eqb-no}
 use Rattle.lists.specs.Sum.{range, ∈-range}
 use Rattle.lists.specs.Keep.{all?, keep, gather, All}
 use Rattle.lists.specs.Ranges.{range-add, gather-append, gather-cong, gather-none, grid}
 use Rattle.model.specs.Roster.{Roster, entries, surveyorCount, standCount, listS, listT, elem, outside, listed, distinct, fits}
 use Rattle.model.specs.Edges.{Edge, pairEdge, edgesOf}
-use Rattle.rosters.specs.Laws.{ns-small, nt-small, list-fits, entries-fit}
+use Rattle.rosters.specs.Laws.{list-fits, entries-fit}
 
 -- the entries of a list are from 1 to the other side's count
 abbrev pub Within : ℕ → List ℕ → Type 0
@@ -47,7 +47,7 @@ module _ (r : Roster) (ok : T (fits r)) where
       (within (surveyorCount r) k h (entries (listT r j)) (and-l (all? (λ x. not (outside (surveyorCount r) x)) (entries (listT r j))) (distinct (entries (listT r j))) (and-r (leb (length (entries (listT r j))) (surveyorCount r)) _ (entries-fit r ok j l))))
 
   -- a surveyor lists no stand behind the last
-  listed-none : (i j : ℕ) → i < surveyorCount r → standCount r ≤ j → listed r i j ≡ false
+  pub listed-none : (i j : ℕ) → i < surveyorCount r → standCount r ≤ j → listed r i j ≡ false
   unfolding listed
   listed-none i j h k = above-out (standCount r) (suc j) (omega arith) (listS r i) (list-within (standCount r) i (omega arith) h)
 

@@ -4,3 +4,4 @@ pub mod Chosen
 pub mod PlanFiles
 pub mod Laws
 pub mod Cells
+pub mod Offsets

@@ -1,7 +1,6 @@
 -- `instance::filled` meets its contract: the entries below e are written. Assumes nothing.
 use mathlib.Core.Path.{_≡_, refl, subst}
-use mathlib.Core.Bool.{Bool, false}
-use mathlib.Core.List.{List}
+use mathlib.Core.Bool.{false}
 use Prim.Native.Nat.{ℕ, _-_, _≤_, _<_, zero-le}
 use native.Mathlib.Omega.{arith}
 use Rattle.model.specs.Edges.{Edge}
@@ -114,8 +113,7 @@ loop-again c =
     let a = l .before .args in
     let x = l .loop in
     let f : ℕ → Edge = λ e. cellEdge (a .listed .now) (a .strict .now) (a .next .now) (at (a .cell .now) e) in
-    let h : x .e < 1024 = omega arith in
-    (
+    let h : x .e < 1024 = omega arith in (
       omega arith,
       fill-next 0 1024 (x .sv) (λ e. f e .surveyor) (x .e) _ refl h (x .inv .1),
       fill-next 0 1024 (x .st) (λ e. f e .stand) (x .e) _ refl h (x .inv .2),

@@ -1,11 +1,10 @@
 -- `instance::listed_cells` meets its contract: the cells found stand in the array's front. Assumes nothing.
 use mathlib.Core.Path.{_≡_, refl, _∙_}
 use mathlib.Core.Bool.{not}
-use Prim.Native.Nat.{ℕ, _+_, _-_, _*_, _≤_, zero-le}
+use Prim.Native.Nat.{ℕ, _-_, _≤_, zero-le}
 use native.Mathlib.Omega.{arith}
 use lib.ListN.{length, length-replicate, length-set}
 use lib.Dec.{eqb}
-use mir.Val.{boolByte}
 use Rattle.arrays.specs.Shown.{at}
 use Rattle.instance.proofs.Laws.{Kept, kept-turn, kept-listed, byte-one}
 use borrow.Author.Needs.{needs}

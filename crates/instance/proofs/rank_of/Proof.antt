@@ -1,6 +1,5 @@
 -- `instance::rank_of` meets its contract. Assumes nothing.
 use borrow.Author.Tests.{eq-eqb, ne-eqb}
-use borrow.Author.Needs.{needs}
 use Rattle.instance.proofs.rank_of.Statement.{statement}
 use Rattle.instance.proofs.rank_of.Tie as tie
 use Rattle.instance.proofs.rank_of.Reads as reads

@@ -4,7 +4,7 @@ use Rattle.positions.specs.Tables.{column}
 use mathlib.Core.Path.{_≡_, sym, ap, _∙_}
 use Prim.Native.Nat.{_+_, _-_, _≤_}
 use native.Mathlib.Omega.{arith}
-use lib.ListN.{length, drop, length-set}
+use lib.ListN.{length, drop}
 use Rattle.positions.specs.Tables.{stamped}
 use Rattle.positions.proofs.Laws.{stamped-none, stamped-turn}
 use borrow.Author.Needs.{needs}

@@ -1,5 +1,5 @@
 -- `positions::stamp_lists` meets its contract: the lists that are left take the table to what all of them do. Assumes nothing.
-use mathlib.Core.Path.{_≡_, refl, sym, ap, _∙_}
+use mathlib.Core.Path.{_≡_, sym, ap, _∙_}
 use Prim.Native.Nat.{_+_, _-_, _*_, _≤_, zero-le}
 use native.Mathlib.Omega.{arith}
 use Rattle.positions.specs.Tables.{listsStamped, listsEnd}
@@ -72,8 +72,7 @@ loop-again c =
     let t = c .before .before .before .before in
     let l = t .before in
     let a = l .before .before .args in
-    let b = c .before .before .before .byte-at in
-    (
+    let b = c .before .before .before .byte-at in (
       omega arith,
       omega arith,
       l .loop .inv .2 ∙ end-turn (a .file .now) (a .n) (l .loop .i) (l .loop .at) (t .loop-test .taken) (b .result) (b .ensures),
@@ -84,8 +83,7 @@ loop-again c =
 returns : tie.Need-returns Inv-loop μ-loop
 returns c =
     let l = c .before in
-    let a = l .before .before .args in
-    (
+    let a = l .before .before .args in (
       (sym (l .loop .inv .2 ∙ end-done (a .file .now) (a .n) (l .loop .i) (l .loop .at) (c .loop-test .left)), omega arith),
       sym (l .loop .inv .3 ∙ lists-done (a .file .now) (a .n) (l .loop .i) (l .loop .at) (c .loop-test .left) (l .loop .table)),
     )

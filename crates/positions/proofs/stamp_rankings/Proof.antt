@@ -1,5 +1,5 @@
 -- `positions::stamp_rankings` meets its contract: the lists that are left take both tables to what all of them do. Assumes nothing.
-use mathlib.Core.Path.{_≡_, refl, sym, ap, _∙_}
+use mathlib.Core.Path.{_≡_, sym, ap, _∙_}
 use Prim.Native.Nat.{_+_, _-_, _*_, _≤_, zero-le}
 use native.Mathlib.Omega.{arith}
 use Rattle.positions.specs.Tables.{strictStamped, nextRanks}
@@ -101,8 +101,7 @@ loop-again c =
     let l = t .before in
     let a = l .before .before .args in
     let p = c .before .before .before .before .byte-at in
-    let q = c .before .before .before .byte-at2 in
-    (
+    let q = c .before .before .before .byte-at2 in (
       omega arith,
       omega arith,
       l .loop .inv .2 ∙ strict-turn (a .file .now) (a .n) (l .loop .j) (l .loop .at) (t .loop-test .taken) (p .result) (q .result) (p .ensures) (q .ensures) (c .before .before .part .result .now) (c .before .before .part .ensures) (l .loop .table) _ (c .stamp .ensures),
@@ -113,8 +112,7 @@ loop-again c =
 returns : tie.Need-returns Inv-loop μ-loop
 returns c =
     let l = c .before in
-    let a = l .before .before .args in
-    (
+    let a = l .before .before .args in (
       sym (l .loop .inv .2 ∙ strict-done (a .file .now) (a .n) (l .loop .j) (l .loop .at) (c .loop-test .left) (l .loop .table)),
       sym (l .loop .inv .3 ∙ next-done (a .file .now) (a .n) (l .loop .j) (l .loop .at) (c .loop-test .left) (l .loop .next)),
     )
