@@ -5,3 +5,4 @@ pub mod PlanFiles
 pub mod Laws
 pub mod Cells
 pub mod Offsets
+pub mod PlanTurns
