@@ -9,3 +9,4 @@ pub mod Search
 pub mod First
 pub mod Rows
 pub mod Distinct
+pub mod Ranges

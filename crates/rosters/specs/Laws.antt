@@ -44,24 +44,24 @@ module _ (r : Roster) (ok : T (fits r)) where
   nt = standCount r
 
   -- the limits, list by list
-  ns-small : ns ≤ nodeLimit
+  pub ns-small : ns ≤ nodeLimit
   ns-small = given (fits-parts r ok) (λ ((q, u, l, v), n). leb→le ns nodeLimit (and-l (leb ns nodeLimit) _ q))
 
-  nt-small : nt ≤ nodeLimit
+  pub nt-small : nt ≤ nodeLimit
   nt-small = given (fits-parts r ok) (λ ((q, u, l, v), n). leb→le nt nodeLimit (and-l (leb nt nodeLimit) _ u))
 
-  list-fits : (i : ℕ) → i < ns → T (listFits nt (listS r i))
+  pub list-fits : (i : ℕ) → i < ns → T (listFits nt (listS r i))
   list-fits i h = given (fits-parts r ok) (λ ((q, u, (l, a, k), v), n). all-∈ (listFits nt) (r .listsS) a (listS r i) (getD-∈ (r .listsS) i [] (omega arith)))
 
   ranking-fits : (j : ℕ) → j < nt → T (rankingFits ns (listT r j))
   ranking-fits j h = given (fits-parts r ok) (λ ((q, u, v, (l, a, k)), n). all-∈ (rankingFits ns) (r .listsT) a (listT r j) (getD-∈ (r .listsT) j (record { strict = []; tied = [] }) (omega arith)))
 
-  back : (i j : ℕ) → i < ns → j < nt → T (listed r i j) → T (listedBack r i j)
+  pub back : (i j : ℕ) → i < ns → j < nt → T (listed r i j) → T (listedBack r i j)
   unfolding bothOrNeither
   back i j h k t = given (fits-parts r ok) (λ (p, n). same-bool (listed r i j) (listedBack r i j)
       (all-∈ (λ j. alike (listed r i j) (listedBack r i j)) (upTo nt) (all-∈ (λ i. all? (λ j. alike (listed r i j) (listedBack r i j)) (upTo nt)) (upTo ns) n i (upTo-∈ ns i h)) j (upTo-∈ nt j k)) t)
 
-  list-length : (i : ℕ) → i < ns → length (listS r i) ≤ nt
+  pub list-length : (i : ℕ) → i < ns → length (listS r i) ≤ nt
   list-length i h = leb→le (length (listS r i)) nt (and-l (leb (length (listS r i)) nt) _ (list-fits i h))
 
   abbrev S : ℕ → List ℕ
@@ -70,10 +70,10 @@ module _ (r : Roster) (ok : T (fits r)) where
   abbrev D : ℕ → List ℕ
   D j = listT r j .tied
 
-  entries-fit : (j : ℕ) → j < nt → T (listFits ns (entries (listT r j)))
+  pub entries-fit : (j : ℕ) → j < nt → T (listFits ns (entries (listT r j)))
   entries-fit j h = and-l (listFits ns (entries (listT r j))) (ascending 0 (D j)) (ranking-fits j h)
 
-  strict-length : (j : ℕ) → j < nt → length (S j) + length (D j) ≤ ns
+  pub strict-length : (j : ℕ) → j < nt → length (S j) + length (D j) ≤ ns
   strict-length j h = subst (λ k. k ≤ ns) (length-append (S j) (D j)) (leb→le (length (entries (listT r j))) ns (and-l (leb (length (entries (listT r j))) ns) _ (entries-fit j h)))
 
   distinct-entries : (j : ℕ) → j < nt → T (distinct (S j ++ D j))
@@ -101,11 +101,11 @@ module _ (r : Roster) (ok : T (fits r)) where
 
   -- ---- stands: strict entries by their place, tied ones behind them
   -- an edge's surveyor stands in its stand's strict list or in its tie, and not in both
-  strict-or-tied : (i j : ℕ) → i < ns → j < nt → T (listed r i j) → T (elem (suc i) (S j)) ⊎ T (elem (suc i) (D j))
+  pub strict-or-tied : (i j : ℕ) → i < ns → j < nt → T (listed r i j) → T (elem (suc i) (S j)) ⊎ T (elem (suc i) (D j))
   unfolding listedBack
   strict-or-tied i j h k t = or-case (elem (suc i) (S j)) (elem (suc i) (D j)) (subst T (any-append (eqb (suc i)) (S j) (D j)) (back i j h k t))
 
-  tied-not-strict : (i j : ℕ) → j < nt → T (elem (suc i) (D j)) → T (not (elem (suc i) (S j)))
+  pub tied-not-strict : (i j : ℕ) → j < nt → T (elem (suc i) (D j)) → T (not (elem (suc i) (S j)))
   tied-not-strict i j k t = distinct-apart (suc i) (S j) (D j) (distinct-entries j k) t
 
   some-length : (x : ℕ) (xs : List ℕ) → T (elem x xs) → 0 < length xs

@@ -4,3 +4,6 @@ pub mod Chosen
 pub mod PlanFiles
 pub mod Laws
 pub mod Desks
+pub mod Cells
+pub mod Offsets
+pub mod PlanTurns

@@ -1,0 +1,53 @@
+-- The edges as cells of a grid of 32 columns, surveyor * 32 + stand, and what the arrays hold of each.
+use Prim.Native.Nat.{ℕ, _+_, _*_, _/_, _%_, _≤_, _<_}
+use mathlib.Core.Path.{_≡_}
+use mathlib.Core.Bool.{false, not, cond}
+use mathlib.Core.List.{List}
+use lib.ListN.{length, take}
+use lib.Dec.{eqb}
+use Rattle.lists.specs.Sum.{range}
+use Rattle.lists.specs.Keep.{keep}
+use Rattle.model.specs.Edges.{Edge}
+use Rattle.arrays.specs.Shown.{at}
+use Rattle.arrays.specs.Passes.{Shows}
+use Rattle.instance.specs.declared.Instance.{Instance}
+
+-- the first m cells are cells of the grid
+abbrev pub Below : ℕ → List ℕ → Type 0
+Below m cell = (e : ℕ) → e < m → at cell e < 1024
+
+-- the cells of n rows at which a table is not 0
+abbrev pub listedCells : ℕ → List ℕ → List ℕ
+listedCells n table = keep (λ c. not (eqb (at table c) 0)) (range 0 (n * 32))
+
+pub record Listed (n : ℕ) (table : List ℕ) (m : ℕ) (cell : List ℕ) : Type 0 where
+  pub count : m ≡ length (listedCells n table)
+  pub cells : take m cell ≡ listedCells n table
+  pub few : m ≤ 1024
+  pub below : Below m cell
+
+-- the place in the stands' table that belongs to a cell
+abbrev pub across : ℕ → ℕ
+across c = c % 32 * 32 + c / 32
+
+-- the edge of a cell, from the surveyors' positions, the stands', and the ranks behind the stands' strict parts
+abbrev pub cellEdge : List ℕ → List ℕ → List ℕ → ℕ → Edge
+cellEdge listed strict next c = record {
+  surveyor = c / 32;
+  stand = c % 32;
+  rankS = at listed c;
+  rankT = cond (eqb (at strict (across c)) 0) (at next (c % 32)) (at strict (across c));
+  tied = eqb (at strict (across c)) 0;
+}
+
+pub record Filled (ns nt m : ℕ) (cell listed strict next qs qt : List ℕ) (g : Instance) : Type 0 where
+  pub edges : g .m ≡ m
+  pub surveyors : g .ns ≡ ns
+  pub stands : g .nt ≡ nt
+  pub sv : Shows 0 (g .sv) m (λ e. cellEdge listed strict next (at cell e) .surveyor)
+  pub st : Shows 0 (g .st) m (λ e. cellEdge listed strict next (at cell e) .stand)
+  pub rankS : Shows 0 (g .«rank_s») m (λ e. cellEdge listed strict next (at cell e) .rankS)
+  pub rankT : Shows 0 (g .«rank_t») m (λ e. cellEdge listed strict next (at cell e) .rankT)
+  pub tied : Shows false (g .tied) m (λ e. cellEdge listed strict next (at cell e) .tied)
+  pub quotaS : g .«quota_s» ≡ qs
+  pub quotaT : g .«quota_t» ≡ qt

@@ -1,0 +1,59 @@
+-- What is promised of a plan file's reading: document 01's answer, and the edges of an accepted plan.
+use Prim.Native.Nat.{ℕ, _≤_, _<_}
+use mathlib.Core.Path.{_≡_, sym, ap, ap₂, _∙_}
+use mathlib.Core.Bool.{Bool, not, cond, _||_}
+use mathlib.Core.List.{List}
+use lib.ListN.{length, take}
+use lib.Dec.{T, leb, ltb, nleb→lt, nltb→le}
+use borrow.Author.Tests.{lt-ltb, le-ltb, le-leb, lt-leb}
+use Rattle.lists.specs.Test.{given, nor-l, nor-r}
+use Rattle.formats.specs.Entries.{cond-zero}
+use Rattle.model.specs.Reading.{Reading, accepted, turned}
+use Rattle.model.specs.Instance.{Instance}
+use Rattle.model.specs.Plans.{Plan, on}
+use Rattle.model.specs.PlanFile.{edgesIn, readPlan}
+use Rattle.arrays.specs.Shown.{flag, shown}
+use Rattle.plan.specs.declared.PlanAnswer.{PlanAnswer}
+use Rattle.plan.specs.declared.PlanAnswer.the-variants.{Accepted, Refused}
+use Rattle.plan.specs.declared.PlanRead.{PlanRead}
+
+-- the answer that a reading is, with the number of the plan's pairs
+abbrev pub answerOf : ℕ → Reading Plan → PlanAnswer
+answerOf m (accepted M) = Accepted (length (edgesIn m (on M)))
+answerOf m (turned n) = Refused n
+
+pub record ReadAs (G : Instance) (file : List ℕ) (r : PlanRead) : Type 0 where
+  pub answer : r .answer ≡ answerOf (G .m) (readPlan G file)
+  pub chosen : (M : Plan) → readPlan G file ≡ accepted M → (e : ℕ) → flag (r .chosen) e ≡ on M e
+  pub edges : (M : Plan) → readPlan G file ≡ accepted M → take (length (edgesIn (G .m) (on M))) (r .edges) ≡ edgesIn (G .m) (on M)
+
+-- for the instance that the arrays show, whatever its node counts, ranks and ties
+abbrev pub ReadFor : (m : ℕ) (sv st qs qt file : List ℕ) (r : PlanRead) → Type 0
+ReadFor m sv st qs qt file r = (ns nt : ℕ) (rankS rankT : List ℕ) (tied : List Bool) → ReadAs (shown m ns nt sv st rankS rankT tied qs qt) file r
+
+-- "10 a plan pair not in the roster; 11 plan pairs not strictly ascending; 12 a pair that takes a node past its quota"
+unfoldable pub pairRefusal : (m e from : ℕ) (fullS fullT : Bool) → ℕ
+pairRefusal m e from fullS fullT = cond (leb m e) 10 (cond (ltb e from) 11 (cond (fullS || fullT) 12 0))
+
+-- ---- by its tests
+module _ (m e from : ℕ) (fullS fullT : Bool) where
+  pub not-there : m ≤ e → 10 ≡ pairRefusal m e from fullS fullT
+  unfolding pairRefusal
+  not-there h = sym (ap (λ b. cond b 10 (cond (ltb e from) 11 (cond (fullS || fullT) 12 0))) (le-leb m e h))
+
+  pub not-ascending : e < m → e < from → 11 ≡ pairRefusal m e from fullS fullT
+  unfolding pairRefusal
+  not-ascending h k = sym (ap₂ (λ b c. cond b 10 (cond c 11 (cond (fullS || fullT) 12 0))) (lt-leb m e h) (lt-ltb e from k))
+
+  pub by-quota : e < m → from ≤ e → (b : Bool) → fullS || fullT ≡ b → cond b 12 0 ≡ pairRefusal m e from fullS fullT
+  unfolding pairRefusal
+  by-quota h k b q = ap (λ z. cond z 12 0) (sym q) ∙ sym (ap₂ (λ b c. cond b 10 (cond c 11 (cond (fullS || fullT) 12 0))) (lt-leb m e h) (le-ltb e from k))
+
+  -- no refusal
+  pub passed : pairRefusal m e from fullS fullT ≡ 0 → (e < m) × (from ≤ e) × T (not fullS) × T (not fullT)
+  unfolding pairRefusal
+  passed q =
+      given (cond-zero (leb m e) 9 q) (λ (t, q₁).
+      given (cond-zero (ltb e from) 10 q₁) (λ (u, q₂).
+      given (cond-zero (fullS || fullT) 11 q₂) (λ (v, z).
+      (nleb→lt m e t, nltb→le e from u, nor-l fullS fullT v, nor-r fullS fullT v))))
