@@ -1,5 +1,5 @@
 -- `roster::checks::check_quotas` meets its contract: the quotas that are left, behind the sum of those passed, have the refusal of all. Assumes nothing.
-use Prim.Native.Nat.{ℕ, _+_, _-_, _≤_, zero-le}
+use Prim.Native.Nat.{_+_, _-_, _≤_, zero-le}
 use native.Mathlib.Omega.{arith}
 use mathlib.Core.Path.{_≡_, refl, sym, _∙_}
 use lib.ListN.{length, drop, getD}

@@ -1,5 +1,4 @@
 -- `roster::list::entries_at` meets its contract: the part is checked, and whether it is whole. Assumes nothing.
-use native.Mathlib.Omega.{arith}
 use mathlib.Core.Path.{sym}
 use mathlib.Core.List.{[], _∷_, _++_}
 use borrow.Author.Needs.{needs}

@@ -1,8 +1,7 @@
 -- `roster::list::ranking_at` meets its contract: its two length bytes, its strict entries, its tie. Assumes nothing.
-use Prim.Native.Nat.{ℕ, _+_, _≤_, _<_}
+use Prim.Native.Nat.{_+_}
 use native.Mathlib.Omega.{arith}
 use mathlib.Core.List.{[]}
-use lib.ListN.{length, getD}
 use lib.Dec.{T}
 use borrow.Author.Needs.{needs}
 use Rattle.formats.specs.Reads.{isBytes}

@@ -1,8 +1,7 @@
 -- `roster::list::rankings_at` meets its contract: after each turn so many lists are read and marked, and the others follow. Assumes nothing.
-use Prim.Native.Nat.{ℕ, _+_, _*_, _-_, _≤_, zero-le}
+use Prim.Native.Nat.{_-_, _≤_, zero-le}
 use native.Mathlib.Omega.{arith}
 use mathlib.Core.Path.{_≡_, refl, sym, _∙_}
-use mathlib.Core.List.{[]}
 use lib.ListN.{length}
 use lib.Dec.{T}
 use borrow.Author.Needs.{needs}

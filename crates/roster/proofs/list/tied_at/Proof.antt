@@ -1,7 +1,5 @@
 -- `roster::list::tied_at` meets its contract: the part is checked, and whether it is whole. Assumes nothing.
-use native.Mathlib.Omega.{arith}
 use mathlib.Core.Path.{sym}
-use mathlib.Core.List.{[], _∷_, _++_}
 use borrow.Author.Needs.{needs}
 use Rattle.model.specs.RosterFile.{tiedCheck}
 use Rattle.reading.specs.Row.{moreTied, marked-as, marked-part}
