@@ -92,22 +92,22 @@ pub fn check_tied(part: &[u8], other: u8, row: &mut [bool]) -> u8
     let mut last: u8 = 0;
     let mut i = 0;
     while i < part.len() {
-        let x = part[i];
-        if x == 0 {
+        let y = part[i];
+        if y == 0 {
             return 4;
         }
-        if other < x {
+        if other < y {
             return 4;
         }
-        let k = x as usize;
-        if row[k] {
+        let place = y as usize;
+        if row[place] {
             return 5;
         }
-        if x <= last {
+        if y <= last {
             return 6;
         }
-        row[k] = true;
-        last = x;
+        row[place] = true;
+        last = y;
         i += 1;
     }
     0

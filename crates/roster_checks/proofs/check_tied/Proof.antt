@@ -40,8 +40,8 @@ marked c seen h = let l = c .before in l .loop .inv .2 seen h .1 (getD (l .befor
 loop-holds : tie.Need-loop-holds Inv-loop μ-loop
 loop-holds c = (zero-le, refl, λ seen h. (ap (λ l. refusal (c .args .other) l 0 (c .args .part .now)) (sym (append-nil seen)), subst (Shows (c .args .row .now)) (sym (append-nil seen)) h))
 
-shared-slice-read-x : tie.Need-shared-slice-read-x Inv-loop μ-loop
-shared-slice-read-x c = search needs
+shared-slice-read-y : tie.Need-shared-slice-read-y Inv-loop μ-loop
+shared-slice-read-y c = search needs
 
 same-length : tie.Need-same-length Inv-loop μ-loop
 same-length c = search needs
@@ -55,8 +55,8 @@ same-length-2 c = search needs
 returns-2 : tie.Need-returns-2 Inv-loop μ-loop
 returns-2 c = λ seen h. checked-no (turn (c .before .before .before) seen h ∙ simp (ne-eqb _ _ (c .before .if1 .left), lt-ltb _ _ (c .if2 .taken)))
 
-cast-k : tie.Need-cast-k Inv-loop μ-loop
-cast-k c = search needs
+cast-place : tie.Need-cast-place Inv-loop μ-loop
+cast-place c = search needs
 
 slice-read-if3 : tie.Need-slice-read-if3 Inv-loop μ-loop
 slice-read-if3 c = search needs
@@ -120,12 +120,12 @@ check-tied-spec =
     Inv-loop
     μ-loop
     loop-holds
-    shared-slice-read-x
+    shared-slice-read-y
     same-length
     returns
     same-length-2
     returns-2
-    cast-k
+    cast-place
     slice-read-if3
     same-length-3
     returns-3
