@@ -1,24 +1,17 @@
 -- A row of marks for each list of a side, one behind the other: what has been read and marked after some of the lists, and what is
 -- read and marked after all.
-use Prim.Native.Nat.{ℕ, zero, suc, _+_, _*_, _-_, _≤_, _<_}
+use Prim.Native.Nat.{ℕ, _+_, _*_, _-_, _≤_, _<_}
 use native.Mathlib.Omega.{arith}
 use native.Mathlib.Decide.{decLt}
-use mathlib.Core.Path.{_≡_, refl, sym, ap, _∙_, subst}
+use mathlib.Core.Path.{_≡_, sym, ap, _∙_}
 use mathlib.Core.Logic.{by-cases}
 use mathlib.Core.Bool.{Bool, false}
-use mathlib.Core.List.{List, [], _∷_, _++_, append-assoc, append-nil}
+use mathlib.Core.List.{List, [], _∷_, _++_}
 use lib.ListN.{length, take, drop, getD, length-append, length-take, length-drop, replicate, length-replicate, getD-replicate, List·getD-append, List·getD-eq-default}
 use lib.Seq.{getD-take, getD-drop, getD-append-add, length-take-le, getD-at}
-use Rattle.lists.specs.Test.{given}
-use Rattle.lists.specs.Keep.{gather}
-use Rattle.model.specs.Reading.{Read, got, refused, _then_, readEach}
 use Rattle.model.specs.Roster.{Ranking, entries, elem}
-use Rattle.model.specs.RosterFile.{readMany}
-use Rattle.formats.specs.Reads.{isBytes, Reads, refused-not, got-value, got-rest}
-use Rattle.reading.specs.declared.Section.{Section}
 use Rattle.reading.specs.declared.Section.the-variants as section
-use Rattle.reading.specs.Place.{placed, place-refused, Found, place-read}
-use Rattle.reading.specs.Row.{Shows, Marked, marked-refused}
+use Rattle.reading.specs.Row.{Shows}
 
 -- a row has a mark for each number from 0 to 32
 abbrev pub rowWidth : ℕ

@@ -1,18 +1,18 @@
 -- The four sections of a roster file, one behind the other, with the marks of both sides; and the file as a whole.
 use Prim.Native.Nat.{ℕ, _+_, _≤_, _<_}
 use native.Mathlib.Omega.{arith}
-use mathlib.Core.Path.{_≡_, refl, sym, ap, _∙_, subst}
-use mathlib.Core.Bool.{Bool, true, false, not, cond, _&&_}
-use mathlib.Core.List.{List, [], _∷_, _++_}
+use mathlib.Core.Path.{_≡_, refl, sym, ap, _∙_}
+use mathlib.Core.Bool.{Bool, true, false, cond}
+use mathlib.Core.List.{List}
 use lib.ListN.{length, drop, getD, drop-of-length-le}
 use lib.Seq.{getD-drop, drop-cons}
 use lib.Dec.{T, leb, leb→le}
 use Rattle.lists.specs.Test.{given, and-l}
 use Rattle.model.specs.Limits.{nodeLimit}
-use Rattle.model.specs.Reading.{Read, got, refused, _then_, Reading, accepted, turned, whole}
+use Rattle.model.specs.Reading.{Read, got, _then_, Reading, accepted, turned, whole}
 use Rattle.model.specs.Roster.{Ranking, Roster, totalS, totalT, listFits, rankingFits, bothOrNeither}
-use Rattle.model.specs.RosterFile.{readNodes, readList, readRanking, readSection, readSections, oneSided, readRoster, listBytes}
-use Rattle.formats.specs.Reads.{isBytes, refused-not, then-got, got-value}
+use Rattle.model.specs.RosterFile.{readNodes, readList, readRanking, readSection, oneSided, readRoster}
+use Rattle.formats.specs.Reads.{isBytes}
 use Rattle.formats.specs.Sections.{nodes, list, ranking, section as section-reads}
 use Rattle.reading.specs.declared.Section.{Section}
 use Rattle.reading.specs.declared.Section.the-variants as section

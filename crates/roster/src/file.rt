@@ -5,7 +5,6 @@ ghost use lib.ListN.{length};
 ghost use Rattle.model.specs.RosterFile.{readRoster};
 ghost use Rattle.reading.specs.Whole.{closed, ListsRead};
 use super::pairs;
-use super::sections;
 use reading::Section;
 
 // The lists of ns surveyors and nt stands from a place on, then "9 bytes after the end", then "8 a pair listed by one side only". The
@@ -18,11 +17,11 @@ pub(crate) fn lists_to_end(file: &[u8], at: usize, ns: u8, nt: u8) -> Section
     let n = nt as usize;
     let mut surveyors = [false; 1056];
     let mut stands = [false; 1056];
-    let s = sections::lists_section(file, at, m, nt, &mut surveyors);
+    let s = roster_sections::lists_section(file, at, m, nt, &mut surveyors);
     let Section::Read(mid) = s else {
         return s;
     };
-    let t = sections::rankings_section(file, mid, n, ns, &mut stands);
+    let t = roster_sections::rankings_section(file, mid, n, ns, &mut stands);
     let Section::Read(end) = t else {
         return t;
     };
@@ -39,11 +38,11 @@ pub(crate) fn lists_to_end(file: &[u8], at: usize, ns: u8, nt: u8) -> Section
 pub(crate) fn roster_file(file: &[u8]) -> Section
     ensures { λ r. ⌜ r ≡ closed (now (file .entry)) (readRoster (now (file .entry))) ⌝ }
 {
-    let s = sections::nodes_at(file, 0);
+    let s = roster_sections::nodes_at(file, 0);
     let Section::Read(a) = s else {
         return s;
     };
-    let t = sections::nodes_at(file, a);
+    let t = roster_sections::nodes_at(file, a);
     let Section::Read(b) = t else {
         return t;
     };

@@ -1,9 +1,6 @@
 // The roster reader: section "Roster bytes" of document 01, and refusals 1 to 9 in its order.
-mod checks;
 mod file;
-mod list;
 mod pairs;
-mod sections;
 
 ghost use mathlib.Core.Path.{_≡_};
 ghost use Rattle.model.specs.RosterFile.{readRoster};

@@ -1,7 +1,6 @@
 -- `roster::read_roster` meets its contract: the end of the file is an accepted roster, and a refusal has its group. Assumes nothing.
 use mathlib.Core.Path.{refl, sym, ap, _∙_}
 use borrow.Author.Needs.{needs}
-use Rattle.model.specs.Refusal.{groupOf}
 use Rattle.model.specs.RosterFile.{readRoster}
 use Rattle.refusal.specs.Shown.{shows-case}
 use Rattle.reading.specs.Whole.{closed-accepted, closed-turned}
