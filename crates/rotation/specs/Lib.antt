@@ -1,0 +1,4 @@
+pub mod Two
+pub mod Rate
+pub mod Sorted
+pub mod Rotation
