@@ -5,7 +5,6 @@ use native.Mathlib.Omega.{arith}
 use native.Mathlib.Decide.{decLe, decLt}
 use mathlib.Core.Path.{_≡_, ap}
 use mathlib.Core.Logic.{by-cases}
-use mathlib.Core.Bool.{Bool}
 use lib.Dec.{leb, ltb}
 use borrow.Author.Tests.{lt-ltb, le-ltb, le-leb, lt-leb}
 use Rattle.lists.specs.Test.{bit, bit-one}
@@ -56,7 +55,7 @@ pub bars : (x y a b : ℕ) → x < y → upto x a + upto y a ≤ rate a b + (und
 bars x y a b l = by-cases (decLt b x)
     (λ h. omega (arith, under-yes x b h, under-yes y b (omega arith), bit-one (leb a x), bit-one (leb a y)))
     (λ n. by-cases (decLt b y)
-      (λ h. omega (arith, under-yes y b h, bit-one (leb a y), bar x a b))
-      (λ k. by-cases (decLe a x)
-        (λ p. omega (arith, bit-one (leb a x), bit-one (leb a y), rate-better a b (omega arith)))
-        (λ p. omega (arith, upto-no x a (omega arith), bar y a b, under-no y b (omega arith)))))
+    (λ h. omega (arith, under-yes y b h, bit-one (leb a y), bar x a b))
+    (λ k. by-cases (decLe a x)
+    (λ p. omega (arith, bit-one (leb a x), bit-one (leb a y), rate-better a b (omega arith)))
+    (λ p. omega (arith, upto-no x a (omega arith), bar y a b, under-no y b (omega arith)))))

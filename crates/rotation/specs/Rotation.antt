@@ -4,20 +4,20 @@
 -- Why: a couple that crosses one bar counts 1, one that crosses two counts 2 (Rate), so no sum is below two leads. And if the second lead is
 -- l, let the l best of the left face the l worst of the right: at most 2 each, and every lead falls by l, so that only one is left. Then, in
 -- order, the best of both face each other: that costs nothing, or 1 if they are equal, and then the one lead falls by 1.
-use Prim.Native.Nat.{ℕ, zero, suc, _+_, _-_, _*_, _≤_, _<_, min, zero-le}
+use Prim.Native.Nat.{ℕ, _+_, _-_, _*_, _≤_, _<_, min, zero-le}
 use native.Mathlib.Omega.{arith}
-use native.Mathlib.Decide.{decLe, decLt, ℕ-discrete}
-use mathlib.Core.Path.{_≡_, refl, sym, ap, ap₂, _∙_}
+use native.Mathlib.Decide.{decLe, decLt}
+use mathlib.Core.Path.{_≡_, refl, sym, ap, _∙_}
 use mathlib.Core.Logic.{by-cases}
 use mathlib.Core.List.{List, [], _∷_, _++_, List·Memᴰ·head, List·Memᴰ·tail}
-use lib.ListN.{length, take, drop, length-take, length-drop, length-append, take-append-drop}
+use lib.ListN.{length, take, drop, length-take, length-drop, take-append-drop}
 use lib.Dec.{leb}
-use Rattle.lists.specs.Test.{bit, bit-one}
-use Rattle.lists.specs.Sum.{_∈_, sum, sum-append, sum-add, sum-mono, sum-length}
+use Rattle.lists.specs.Test.{bit-one}
+use Rattle.lists.specs.Sum.{_∈_, sum, sum-append, sum-add, sum-mono, sum-length, sum-mem, sum-zeros}
 use Rattle.votes.specs.Score.{rate}
-use Rattle.rotation.specs.Two.{Two}
+use Rattle.rotation.specs.Two.{Two, two, both-≤}
 use Rattle.rotation.specs.Rate.{upto, under, upto-yes, upto-no, under-yes, under-no, rate-worse, rate-same, rate-≤, bar, bars}
-use Rattle.rotation.specs.Sorted.{Sorted, uptos, unders, uptos-none, unders-none, uptos-drop, unders-take, ∈-take, sorted-take, sorted-drop}
+use Rattle.rotation.specs.Sorted.{Sorted, uptos, unders, uptos-none, unders-none, uptos-drop, unders-take, ∈-take, sorted-take, sorted-drop, sort, sum-sort, sorted-sort}
 
 -- what falls below both falls to nothing in one
 min-falls : {a c : ℕ} (b d s : ℕ) → a ≤ b - s → c ≤ d - s → min b d ≤ s → min a c ≡ 0
@@ -172,8 +172,8 @@ module _ {A : Type 0} (rank : A → ℕ) where
           falls x k = by-cases (decLt x (rank p))
               (λ m. omega (arith, before-p x m))
               (λ m. by-cases (decLt (rank p) x)
-                (λ j. omega (arith, upto-yes x (rank p) (omega arith), under-yes x (rank q) (omega (arith, equal)), own, alone (rank p) x j k))
-                (λ j. omega (arith, upto-yes x (rank p) (omega arith), under-no x (rank q) (omega (arith, equal)), before-q x (omega (arith, equal)))))
+              (λ j. omega (arith, upto-yes x (rank p) (omega arith), under-yes x (rank q) (omega (arith, equal)), own, alone (rank p) x j k))
+              (λ j. omega (arith, upto-yes x (rank p) (omega arith), under-no x (rank q) (omega (arith, equal)), before-q x (omega (arith, equal)))))
 
   -- ---- the turn by the second lead
   module _ (n : ℕ) (ps qs : List A) (sp : Sorted rank ps) (sq : Sorted rank qs) (l : length ps ≡ length qs) (u : (q : A) → q ∈ qs → rank q < n) (t : Two (lead ps qs) n) where
@@ -191,8 +191,8 @@ module _ {A : Type 0} (rank : A → ℕ) where
       cost-≤ (against front (drop (length back) qs)),
       few,
       in-order n (t .first - t .second) back low (sorted-drop rank (t .second) ps sp) (sorted-take rank (length back) qs sq)
-      (omega (arith, length-take (length back) qs, length-drop (t .second) ps)) (λ q k. u q (∈-take rank (length back) qs q k))
-      (λ x k. omega (arith, lowered x, t .each x k)) (λ x y k m. min-falls (lead ps qs x) (lead ps qs y) (t .second) (lowered x) (lowered y) (t .pair x y k m)),
+          (omega (arith, length-take (length back) qs, length-drop (t .second) ps)) (λ q k. u q (∈-take rank (length back) qs q k))
+          (λ x k. omega (arith, lowered x, t .each x k)) (λ x y k m. min-falls (lead ps qs x) (lead ps qs y) (t .second) (lowered x) (lowered y) (t .pair x y k m)),
     )
       where
         back : List A
@@ -209,3 +209,29 @@ module _ {A : Type 0} (rank : A → ℕ) where
 
         lowered : (x : ℕ) → lead back low x ≤ lead ps qs x - t .second
         lowered x = omega (arith, uptos-drop rank ps (t .second) x sp, unders-take rank qs (length back) x sq, length-drop (t .second) ps, second-≤, some x)
+
+  -- ---- whatever the order of the lists, some couples come to no more than the two greatest leads
+  -- all ranks are below n if none is counted from n on
+  pub below-none : (n : ℕ) (qs : List A) → sum (λ p. upto (rank p) n) qs ≡ 0 → (q : A) → q ∈ qs → rank q < n
+  below-none n qs h q k = by-cases (decLt (rank q) n) (λ l. l) (λ l. absurd (omega (arith, sum-mem (λ p. upto (rank p) n) k, upto-yes (rank q) n (omega arith))))
+
+  below-sort : (n : ℕ) (qs : List A) → ((q : A) → q ∈ qs → rank q < n) → (q : A) → q ∈ sort rank qs → rank q < n
+  below-sort n qs h = below-none n (sort rank qs) (sum-sort rank (λ p. upto (rank p) n) qs ∙ sum-zeros (λ p. upto (rank p) n) qs (λ p m. upto-no (rank p) n (h p m)))
+
+  pub reach : (n : ℕ) (ps qs : List A) → length ps ≡ length qs → ((q : A) → q ∈ qs → rank q < n) → (t : Two (lead ps qs) n)
+      → (r : List (A × A)) × Columns ps qs r × (cost r ≤ t .first + t .second)
+  reach n ps qs l u t =
+      let s = two (lead (sort rank ps) (sort rank qs)) n in
+      let e : length (sort rank ps) ≡ length (sort rank qs) = sort-length ps ∙ l ∙ sym (sort-length qs) in
+      let c = turned-columns (s .second) (sort rank ps) (sort rank qs) e in (
+        against (turned (s .second) (sort rank ps)) (sort rank qs),
+        record { on-left = λ φ. c .on-left φ ∙ sum-sort rank φ ps; on-right = λ φ. c .on-right φ ∙ sum-sort rank φ qs },
+        omega (
+          arith,
+          turn-≤ n (sort rank ps) (sort rank qs) (sorted-sort rank ps) (sorted-sort rank qs) e (below-sort n qs u) s,
+          both-≤ (lead (sort rank ps) (sort rank qs)) (lead ps qs) n s t (λ x k. omega (arith, sum-sort rank (λ p. upto x (rank p)) ps, sum-sort rank (λ q. under x (rank q)) qs)),
+        ),
+      )
+    where
+      sort-length : (zs : List A) → length (sort rank zs) ≡ length zs
+      sort-length zs = sum-length (sort rank zs) ∙ sum-sort rank (λ z. 1) zs ∙ sym (sum-length zs)
