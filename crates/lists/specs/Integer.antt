@@ -1,11 +1,11 @@
 -- Signed numbers as differences of natural ones, subℕ a b: sums and the order of differences are said of a and b.
 use Prim.Native.Nat.{ℕ, zero, suc, _+_, _-_, _≤_, _<_}
 use native.Mathlib.Omega.{arith}
-use mathlib.Core.Path.{_≡_, refl, ap}
+use mathlib.Core.Path.{_≡_, refl, ap, ap₂, _∙_}
 use mathlib.Core.Bool.{Bool, true, false, not, cond}
 use lib.Dec.{T, ltb, leb→le, le→leb, ltb→lt, lt→ltb, nltb→le}
-use lib.IntN.{ℤ, pos, negsuc, _+ℤ_, negℤ, subℕ}
-use lib.Signed.{_≤ℤ_, _<ℤ_}
+use lib.IntN.{ℤ, pos, negsuc, _+ℤ_, _-ℤ_, negℤ, subℕ}
+use lib.Signed.{mag, _≤ℤ_, _<ℤ_}
 
 -- a number is its positive part less its negative part; one of them is 0
 abbrev posPart : ℤ → ℕ
@@ -84,3 +84,26 @@ sub-< a b c d h = parts-< (subℕ a b) (subℕ c d) (omega (arith, sub-parts a b
 
 pub <-sub : (a b c d : ℕ) → subℕ a b <ℤ subℕ c d → a + d < c + b
 <-sub a b c d h = omega (arith, <-parts (subℕ a b) (subℕ c d) h, sub-parts a b, sub-parts c d)
+
+-- ---- how large: mag n is n of n, and of -(n + 1) too
+pub sub-mag : (a b c : ℕ) → a ≤ b + c → b ≤ a + c → mag (subℕ a b) ≤ c
+sub-mag a b c h k = go (ltb a b) (ltb→lt a b) (nltb→le a b)
+  where
+    go : (t : Bool) → (T t → a < b) → (T (not t) → b ≤ a) → mag (cond t (negsuc (b - suc a)) (pos (a - b))) ≤ c
+    go true l m = omega (arith, l tt)
+    go false l m = omega (arith, m tt)
+
+pub add-mag : (a b : ℤ) → mag (a +ℤ b) ≤ mag a + mag b + 1
+add-mag (pos a) (pos b) = omega arith
+add-mag (pos a) (negsuc b) = sub-mag a (suc b) (a + b + 1) (omega arith) (omega arith)
+add-mag (negsuc a) (pos b) = sub-mag b (suc a) (a + b + 1) (omega arith) (omega arith)
+add-mag (negsuc a) (negsuc b) = omega arith
+
+pub pos-less : (a b : ℕ) → pos a -ℤ pos b ≡ subℕ a b
+pos-less a b = ap₂ _+ℤ_ (pos-sub a) (neg-sub b) ∙ sub-add a 0 0 b ∙ ap₂ subℕ x y
+  where
+    x : a + 0 ≡ a
+    x = omega arith
+
+    y : 0 + b ≡ b
+    y = omega arith

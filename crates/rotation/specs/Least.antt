@@ -1,6 +1,6 @@
 -- The least sum of votes, counted from one up, over all ways to set one list of ranks against another of the same length; and that it is
 -- the sum of the two greatest leads, and is reached by a turn if both lists are in order (Rotation).
-use Prim.Native.Nat.{ℕ, _+_, _≤_, _<_, zero-le}
+use Prim.Native.Nat.{ℕ, _+_, _*_, _≤_, _<_, zero-le}
 use native.Mathlib.Omega.{arith}
 use native.Mathlib.Decide.{decLt}
 use mathlib.Core.Path.{_≡_, refl, sym, ap, subst}
@@ -16,7 +16,7 @@ use Rattle.lists.specs.Least.{leastOf, leastOf-≤, leastOf-∈}
 use Rattle.votes.specs.Score.{rate}
 use Rattle.rotation.specs.Two.{Two, two, both-≤}
 use Rattle.rotation.specs.Sorted.{Sorted}
-use Rattle.rotation.specs.Rotation.{against, turned, cost, lead, Columns, turned-columns, over, turn-≤, second-≤, reach}
+use Rattle.rotation.specs.Rotation.{against, against-≤, turned, turned-length, cost, cost-≤, lead, Columns, turned-columns, over, turn-≤, second-≤, reach}
 
 -- the first on the left faces any on the right, and the others face the rest
 unfoldable pub leastSum : List ℕ → List ℕ → ℕ
@@ -101,6 +101,9 @@ least-leads n xs ys vs ws l m u w h =
 module _ (xs ys : List ℕ) (l : length xs ≡ length ys) where
   pub turn-above : (j : ℕ) → leastSum xs ys ≤ cost own (against (turned j xs) ys)
   turn-above j = least-≤ xs ys (against (turned j xs) ys) (turned-columns own j xs ys l)
+
+  pub least-most : leastSum xs ys ≤ 2 * length xs
+  least-most = omega (arith, turn-above 0, cost-≤ own (against (turned 0 xs) ys), against-≤ (turned 0 xs) ys, turned-length 0 xs)
 
   -- a turn by the whole length is none
   turned-whole : (j : ℕ) → j ≡ length xs → turned j xs ≡ turned 0 xs

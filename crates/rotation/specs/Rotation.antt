@@ -41,7 +41,7 @@ module _ {A : Type 0} where
   against-right φ (p ∷ ps) [] l = absurd (omega arith)
   against-right φ (p ∷ ps) (q ∷ qs) l = ap (λ z. φ q + z) (against-right φ ps qs (omega arith))
 
-  against-≤ : (ps qs : List A) → length (against ps qs) ≤ length ps
+  pub against-≤ : (ps qs : List A) → length (against ps qs) ≤ length ps
   against-≤ [] qs = zero-le
   against-≤ (p ∷ ps) [] = zero-le
   against-≤ (p ∷ ps) (q ∷ qs) = omega (arith, against-≤ ps qs)
@@ -70,7 +70,7 @@ module _ {A : Type 0} (rank : A → ℕ) where
   abbrev pub lead : List A → List A → ℕ → ℕ
   lead ps qs x = uptos rank ps x - unders rank qs x
 
-  cost-≤ : (r : List (A × A)) → cost r ≤ 2 * length r
+  pub cost-≤ : (r : List (A × A)) → cost r ≤ 2 * length r
   cost-≤ [] = omega arith
   cost-≤ (c ∷ r) = omega (arith, cost-≤ r, rate-≤ (rank (c .0)) (rank (c .1)))
 
