@@ -65,13 +65,13 @@ module _ (M N : ℕ → Bool) where
 
 module _ (K : Side) (v : ℕ) where
   -- the edges at v that are in both sets, and those in A alone
-  abbrev common : (ℕ → Bool) → (ℕ → Bool) → List ℕ
+  abbrev pub common : (ℕ → Bool) → (ℕ → Bool) → List ℕ
   common A B = keep (λ e. (A e && B e) && eqb (K .end e) v) (upTo (K .m))
 
-  abbrev alone : (ℕ → Bool) → (ℕ → Bool) → List ℕ
+  abbrev pub alone : (ℕ → Bool) → (ℕ → Bool) → List ℕ
   alone A B = keep (λ e. (A e && not (B e)) && eqb (K .end e) v) (upTo (K .m))
 
-  alone-own : (A B : ℕ → Bool) (e : ℕ) → e ∈ alone A B → (A e && B e) ≡ false
+  pub alone-own : (A B : ℕ → Bool) (e : ℕ) → e ∈ alone A B → (A e && B e) ≡ false
   alone-own A B e k = go (A e) (B e) (and-l (A e && not (B e)) (eqb (K .end e) v) (∈-keep (λ e. (A e && not (B e)) && eqb (K .end e) v) (upTo (K .m)) k .1))
     where
       go : (x y : Bool) → T (x && not y) → (x && y) ≡ false
@@ -81,7 +81,7 @@ module _ (K : Side) (v : ℕ) where
 
 module _ (K : Side) (M N : ℕ → Bool) (v : ℕ) where
   -- M's edges at v are the common ones and its own, N's likewise
-  parts : (g : ℕ → ℕ) → (sum g (common K v M N) + sum g (alone K v M N) ≡ sum g (here K M v)) × (sum g (common K v M N) + sum g (alone K v N M) ≡ sum g (here K N v))
+  pub parts : (g : ℕ → ℕ) → (sum g (common K v M N) + sum g (alone K v M N) ≡ sum g (here K M v)) × (sum g (common K v M N) + sum g (alone K v N M) ≡ sum g (here K N v))
   parts g = (split M N (λ e. refl), split N M (λ e. and-comm (M e) (N e)))
     where
       one : (x y a : Bool) (n : ℕ) → pk ((x && y) && a) n + pk ((x && not y) && a) n ≡ pk (x && a) n
@@ -119,7 +119,7 @@ module _ (K : Side) (M N : ℕ → Bool) (v : ℕ) where
     length-map {B = Place × Place} (common K v M N) (λ e. (edge e, edge e)),
   )
 
-  counts : (length (common K v M N) + length (alone K v M N) ≡ deg K M v) × (length (common K v M N) + length (alone K v N M) ≡ deg K N v)
+  pub counts : (length (common K v M N) + length (alone K v M N) ≡ deg K M v) × (length (common K v M N) + length (alone K v N M) ≡ deg K N v)
   counts =
       let t = parts (λ e. 1) in
       let b = sum-length (common K v M N) in

@@ -1,0 +1,41 @@
+-- What is asked of the arrays of one side and of a plan, and what the votes over them are.
+use Prim.Native.Nat.{ℕ, _≤_, _<_}
+use mathlib.Core.Path.{_≡_}
+use mathlib.Core.Bool.{Bool, _&&_}
+use mathlib.Core.List.{List}
+use lib.Dec.{eqb}
+use lib.IntN.{ℤ}
+use lib.Signed.{mag}
+use Rattle.lists.specs.Sum.{upTo, count}
+use Rattle.model.specs.Limits.{emptyRank, quotaLimit, nodeLimit, entryLimit}
+use Rattle.model.specs.Instance.{Side}
+use Rattle.model.specs.Vote.{sumℤ, nodeVote, vote}
+use Rattle.graph.specs.Lawful.{Within, Matching}
+use Rattle.arrays.specs.Shown.{at, flag, shown}
+
+-- the edges of one side: their nodes and their ranks there
+pub record Arrays (m n : ℕ) (end rank : List ℕ) : Type 0 where
+  pub edges : m ≤ entryLimit
+  pub nodes : n ≤ nodeLimit
+  pub ends : (e : ℕ) → e < m → at end e < nodeLimit
+  pub ranks : (e : ℕ) → e < m → (1 ≤ at rank e) × (at rank e < emptyRank)
+
+-- no node has more edges of the plan than a quota allows
+abbrev pub Light : ℕ → List ℕ → List Bool → Type 0
+Light m end p = (v : ℕ) → count (λ e. flag p e && eqb (at end e) v) m ≤ quotaLimit
+
+-- the side that the arrays show, with any ties and quotas
+abbrev pub sideOf : (m n : ℕ) (end rank : List ℕ) (tie : ℕ → Bool) (quota : ℕ → ℕ) → Side
+sideOf m n end rank tie quota = record { m = m; n = n; end = at end; rank = at rank; tie = tie; quota = quota }
+
+-- whatever quotas both plans keep, r is the sum of the model's votes of the side's nodes
+pub record SideVote (m n : ℕ) (end rank : List ℕ) (p q : List Bool) (r : ℤ) : Type 0 where
+  pub is : (tie : ℕ → Bool) (quota : ℕ → ℕ) → Within (sideOf m n end rank tie quota) (flag p) → Within (sideOf m n end rank tie quota) (flag q)
+      → r ≡ sumℤ (nodeVote (sideOf m n end rank tie quota) (flag p) (flag q)) (upTo n)
+  pub small : mag r ≤ 288
+
+-- whatever quotas both plans keep, r is the model's vote of p against q in the instance that the arrays show
+abbrev pub PlanVote : (m ns nt : ℕ) (sv st rankS rankT : List ℕ) (p q : List Bool) → ℤ → Type 0
+PlanVote m ns nt sv st rankS rankT p q r = (tied : List Bool) (quotaS quotaT : List ℕ)
+    → Matching (shown m ns nt sv st rankS rankT tied quotaS quotaT) (flag p) → Matching (shown m ns nt sv st rankS rankT tied quotaS quotaT) (flag q)
+    → r ≡ vote (shown m ns nt sv st rankS rankT tied quotaS quotaT) (flag p) (flag q)
