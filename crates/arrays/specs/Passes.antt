@@ -1,4 +1,5 @@
--- An array that a loop fills from its front: the entries below n are those of a function, the rest 0 or false.
+-- Arrays that loops read and fill: entries below a bound; and an array filled from its front, whose entries below n are those of a
+-- function, the rest 0 or false.
 use Prim.Native.Nat.{ℕ, zero, suc, _+_, _≤_, _<_}
 use native.Mathlib.Omega.{arith}
 use mathlib.Core.Path.{_≡_, refl, sym, ap, _∙_, subst}
@@ -13,6 +14,10 @@ use Rattle.lists.specs.Test.{by-eq}
 use native.Mathlib.Decide.{decLt}
 use Rattle.model.specs.Instance.{Instance}
 use Rattle.arrays.specs.Shown.{at, flag, shown}
+
+-- the first n entries are below k
+abbrev pub Low : ℕ → List ℕ → ℕ → Type 0
+Low n xs k = (e : ℕ) → e < n → at xs e < k
 
 module _ {A : Type 0} (d : A) where
   abbrev pub Shows : List A → ℕ → (ℕ → A) → Type 0

@@ -15,7 +15,8 @@ use Rattle.lists.specs.Sum.{range, ∈-range}
 use Rattle.lists.specs.Keep.{keep, ∈-keep, getD-∈}
 use Rattle.lists.specs.Ranges.{keep-last}
 use Rattle.arrays.specs.Shown.{at}
-use Rattle.instance.specs.Cells.{Below, listedCells, Listed}
+use Rattle.arrays.specs.Passes.{Low}
+use Rattle.instance.specs.Cells.{listedCells, Listed}
 
 -- the cells found below c, and where they stand
 abbrev pub Kept : (ℕ → Bool) → List ℕ → ℕ → ℕ → Type 0
@@ -46,7 +47,7 @@ kept-listed n table cell m c h q l (a, b) = record { count = count; cells = cell
     cells : take m cell ≡ listedCells n table
     cells = b ∙ ap (λ k. keep (λ c. not (eqb (at table c) 0)) (range 0 k)) q
 
-    below : Below m cell
+    below : Low m cell 1024
     below e k = subst (λ z. z < 1024) (ap (λ z. getD z e 0) (sym cells) ∙ getD-take m cell e 0 k)
         (given (getD-∈ (listedCells n table) e 0 (subst (λ z. e < z) count k)) (λ i.
         given (∈-range (n * 32) 0 (∈-keep (λ c. not (eqb (at table c) 0)) (range 0 (n * 32)) i .0) .1) (λ u. omega arith)))

@@ -14,10 +14,11 @@ use Rattle.lists.specs.Test.{given, eqb-no, T-true, T-false, false-T, and-i}
 use Rattle.lists.specs.Keep.{All}
 use Rattle.model.specs.Roster.{Ranking, Roster, surveyorCount, standCount, listS, listT, elem, listed, fits}
 use Rattle.model.specs.Edges.{Edge, position, pairEdge, edgesOf, noEdge, edgeAt, instanceOf}
+use Rattle.model.specs.Instance as model
 use Rattle.formats.specs.Reads.{isBytes}
 use Rattle.formats.specs.Rosters.{fits-parts, read-write, read-fits}
 use Rattle.rosters.specs.Position.{position-pos, position-out}
-use Rattle.rosters.specs.Laws.{ns-small, nt-small, strict-or-tied, tied-not-strict, strict-length}
+use Rattle.rosters.specs.Laws.{ns-small, nt-small, strict-or-tied, tied-not-strict, strict-length, pairs-differ}
 use Rattle.rosters.specs.Cells.{Within, list-within, strict-within, listed-none, edges-cells}
 use Rattle.rosters.specs.Offsets.{listsStart, rankingSection, Offsets, offsets, rankings-from}
 use Rattle.positions.specs.Tables.{listsStamped, listsEnd, strictStamped, nextRanks}
@@ -278,6 +279,10 @@ decoded f g small P = record {
   shows = λ r a.
       given (bytes-are f small) (λ isB.
       parts-show f r (read-fits f r isB a) (offsets f r (read-write f r isB a)) g P);
+  differ = λ r a.
+      given (bytes-are f small) (λ isB.
+      subst (λ (G : model.Instance). (d e : ℕ) → d < G .m → e < G .m → G .sv d ≡ G .sv e → G .st d ≡ G .st e → d ≡ e)
+      (sym (parts-show f r (read-fits f r isB a) (offsets f r (read-write f r isB a)) g P)) (pairs-differ r (read-fits f r isB a)));
 }
   where
     low : (o : List ℕ) (v : ℕ → ℕ) → Shows 0 o (P .m) v → ((e : ℕ) → e < P .m → v e < 32) → (e : ℕ) → at o e < 32

@@ -1,5 +1,5 @@
 -- The edges as cells of a grid of 32 columns, surveyor * 32 + stand, and what the arrays hold of each.
-use Prim.Native.Nat.{ℕ, _+_, _*_, _/_, _%_, _≤_, _<_}
+use Prim.Native.Nat.{ℕ, _+_, _*_, _/_, _%_, _≤_}
 use mathlib.Core.Path.{_≡_}
 use mathlib.Core.Bool.{false, not, cond}
 use mathlib.Core.List.{List}
@@ -9,12 +9,8 @@ use Rattle.lists.specs.Sum.{range}
 use Rattle.lists.specs.Keep.{keep}
 use Rattle.model.specs.Edges.{Edge}
 use Rattle.arrays.specs.Shown.{at}
-use Rattle.arrays.specs.Passes.{Shows}
+use Rattle.arrays.specs.Passes.{Low, Shows}
 use Rattle.instance.specs.declared.Instance.{Instance}
-
--- the first m cells are cells of the grid
-abbrev pub Below : ℕ → List ℕ → Type 0
-Below m cell = (e : ℕ) → e < m → at cell e < 1024
 
 -- the cells of n rows at which a table is not 0
 abbrev pub listedCells : ℕ → List ℕ → List ℕ
@@ -24,7 +20,7 @@ pub record Listed (n : ℕ) (table : List ℕ) (m : ℕ) (cell : List ℕ) : Typ
   pub count : m ≡ length (listedCells n table)
   pub cells : take m cell ≡ listedCells n table
   pub few : m ≤ 1024
-  pub below : Below m cell
+  pub below : Low m cell 1024
 
 -- the place in the stands' table that belongs to a cell
 abbrev pub across : ℕ → ℕ

@@ -6,8 +6,8 @@ ghost use Prim.Native.Nat.{_+_, _*_, _≤_, min};
 ghost use mathlib.Core.Bool.{cond};
 ghost use lib.ListN.{length, getD};
 ghost use lib.Dec.{eqb};
-ghost use Rattle.arrays.specs.Passes.{Shows};
-ghost use Rattle.instance.specs.Cells.{Below, Listed, Filled};
+ghost use Rattle.arrays.specs.Passes.{Low, Shows};
+ghost use Rattle.instance.specs.Cells.{Listed, Filled};
 ghost use Rattle.instance.specs.Decoded.{Decoded};
 
 // surveyor, stand, the rank at each and whether the edge is tied at its stand, for each of m edges; quotas of ns surveyors and nt stands
@@ -94,7 +94,7 @@ pub fn filled(
     qs: [u8; 32],
     qt: [u8; 32],
 ) -> Instance
-    requires { ⌜ (m ≤ 1024) × Below m (now cell) ⌝ }
+    requires { ⌜ (m ≤ 1024) × Low m (now cell) 1024 ⌝ }
     ensures { λ r. ⌜ Filled ns nt m (now (cell .entry)) (now (listed .entry)) (now (strict .entry)) (now (next .entry)) qs qt r ⌝ }
 {
     let mut sv = [0u8; 1024];

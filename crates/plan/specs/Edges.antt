@@ -1,9 +1,8 @@
 -- The edge that a pair names, looked for from a place on: among edges that differ in an end, it is the lowest.
-use Prim.Native.Nat.{ℕ, zero, suc, _+_, _≤_, _<_}
+use Prim.Native.Nat.{ℕ, suc, _+_, _≤_, _<_}
 use native.Mathlib.Omega.{arith}
-use native.Mathlib.Nat.{suc-inj}
 use native.Mathlib.Decide.{decLt}
-use mathlib.Core.Path.{_≡_, refl, sym, ap, ap₂, _∙_, subst}
+use mathlib.Core.Path.{_≡_, sym, ap, ap₂, _∙_, subst}
 use mathlib.Core.Logic.{by-cases}
 use mathlib.Core.Bool.{Bool, false, not, _&&_}
 use mathlib.Core.List.{List}
@@ -11,10 +10,6 @@ use lib.Dec.{T, eqb, eqb→eq, T-not, not-T, eqb·suc-suc}
 use Rattle.lists.specs.Test.{given, and-l, and-r, false-T}
 use Rattle.lists.specs.Search.{low, low-is}
 use Rattle.arrays.specs.Shown.{at}
-
--- the first n entries are below k
-abbrev pub Low : ℕ → List ℕ → ℕ → Type 0
-Low n xs k = (e : ℕ) → e < n → at xs e < k
 
 -- two edges with the same ends are one
 abbrev pub Differ : ℕ → List ℕ → List ℕ → Type 0
@@ -57,11 +52,11 @@ module _ (m : ℕ) (sv st : List ℕ) (x y s t : ℕ) (xs : x ≡ suc s) (yt : y
       none : (e : ℕ) → e < r → T (not (Ends sv st s t e))
       none e k = by-cases (decLt e from)
           (λ l. not-T (Ends sv st s t e) (λ y.
-            let z = S .hit h in
-            let i : at sv e ≡ at sv r = eqb→eq (at sv e) s (and-l (eqb (at sv e) s) (eqb (at st e) t) y) ∙ sym (eqb→eq (at sv r) s (and-l (eqb (at sv r) s) (eqb (at st r) t) z)) in
-            let j : at st e ≡ at st r = eqb→eq (at st e) t (and-r (eqb (at sv e) s) (eqb (at st e) t) y) ∙ sym (eqb→eq (at st r) t (and-r (eqb (at sv r) s) (eqb (at st r) t) z)) in
-            let q : e ≡ r = differ e r (omega arith) h i j in
-            absurd (omega arith)))
+          let z = S .hit h in
+          let i : at sv e ≡ at sv r = eqb→eq (at sv e) s (and-l (eqb (at sv e) s) (eqb (at st e) t) y) ∙ sym (eqb→eq (at sv r) s (and-l (eqb (at sv r) s) (eqb (at st r) t) z)) in
+          let j : at st e ≡ at st r = eqb→eq (at st e) t (and-r (eqb (at sv e) s) (eqb (at st e) t) y) ∙ sym (eqb→eq (at st r) t (and-r (eqb (at sv r) s) (eqb (at st r) t) z)) in
+          let q : e ≡ r = differ e r (omega arith) h i j in
+          absurd (omega arith)))
           (λ l. S .none e (omega arith) k)
 
   -- not found from `from` on, but before it

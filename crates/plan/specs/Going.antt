@@ -6,14 +6,14 @@ use native.Mathlib.Numerals.{add-one}
 use native.Mathlib.Decide.{decLt}
 use mathlib.Core.Path.{_≡_, refl, sym, ap, ap₂, _∙_, subst}
 use mathlib.Core.Logic.{by-cases}
-use mathlib.Core.Bool.{Bool, true, false, not, cond, _||_}
+use mathlib.Core.Bool.{Bool, true, false, cond, _||_}
 use mathlib.Core.List.{List, [], _∷_, _++_, map, map-append}
 use lib.ListN.{length, take, drop, getD, set, replicate, length-set, length-append, length-map, length-replicate, length-drop, drop-of-length-le, List·getD-eq-default}
 use lib.Seq.{drop-cons, getD-set-same, getD-set-other, take-suc-set}
-use lib.Dec.{T, eqb, leb, ltb, nleb→lt}
-use borrow.Author.Tests.{le-leb, lt-leb}
+use lib.Dec.{eqb, leb, ltb, nleb→lt}
+use borrow.Author.Tests.{le-leb}
 use Rattle.lists.specs.Test.{given, by-eq, bit, bit-one, eqb-no}
-use Rattle.lists.specs.Sum.{sum, sum-append}
+use Rattle.lists.specs.Sum.{sum-append}
 use Rattle.lists.specs.Keep.{any-append}
 use Rattle.model.specs.Limits.{planLimit}
 use Rattle.model.specs.Reading.{Read, got, refused, refuseBy, accepted, turned, whole}
@@ -27,7 +27,7 @@ use Rattle.rosters.specs.PlanTurns.{noPairs, pairsLeft, plan-empty, plan-long, 
 use Rattle.arrays.specs.Shown.{at, flag, shown}
 use Rattle.plan.specs.declared.PlanAnswer.the-variants.{Accepted, Refused}
 use Rattle.plan.specs.declared.PlanRead.{PlanRead}
-use Rattle.plan.specs.Edges.{Low}
+use Rattle.arrays.specs.Passes.{Low}
 use Rattle.plan.specs.Answers.{answerOf, ReadAs, ReadFor, pairRefusal, passed}
 
 -- ---- ascending lists with one number more

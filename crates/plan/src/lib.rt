@@ -7,7 +7,8 @@ ghost use lib.ListN.{length, getD};
 ghost use lib.Dec.{eqb, leb};
 ghost use Rattle.lists.specs.Search.{low};
 ghost use Rattle.arrays.specs.Shown.{at};
-ghost use Rattle.plan.specs.Edges.{Low, Differ, Names, Scanned};
+ghost use Rattle.arrays.specs.Passes.{Low};
+ghost use Rattle.plan.specs.Edges.{Differ, Names, Scanned};
 ghost use Rattle.plan.specs.Answers.{pairRefusal, ReadFor};
 
 // a plan is accepted, with the number of its pairs, or refused
@@ -63,7 +64,17 @@ pub fn edge_of(m: usize, sv: &[u8; 1024], st: &[u8; 1024], from: usize, x: u8, y
 }
 
 // the refusal of a pair that names edge e, 0 for none; us, ut: the places that the pairs before it take at each node
-pub fn pair_refusal(m: usize, sv: &[u8; 1024], st: &[u8; 1024], qs: &[u8; 32], qt: &[u8; 32], us: &[u8; 32], ut: &[u8; 32], from: usize, e: usize) -> u8
+pub fn pair_refusal(
+    m: usize,
+    sv: &[u8; 1024],
+    st: &[u8; 1024],
+    qs: &[u8; 32],
+    qt: &[u8; 32],
+    us: &[u8; 32],
+    ut: &[u8; 32],
+    from: usize,
+    e: usize,
+) -> u8
     requires { ⌜ (m ≤ 1024) × Low m (now sv) 32 × Low m (now st) 32 ⌝ }
     ensures { λ r. ⌜ r ≡ pairRefusal m e from (leb (at (now (qs .entry)) (at (now (sv .entry)) e)) (at (now (us .entry)) (at (now (sv .entry)) e))) (leb (at (now (qt .entry)) (at (now (st .entry)) e)) (at (now (ut .entry)) (at (now (st .entry)) e))) ⌝ }
 {
@@ -82,7 +93,15 @@ pub fn pair_refusal(m: usize, sv: &[u8; 1024], st: &[u8; 1024], qs: &[u8; 32], q
 }
 
 // the n pairs behind the count byte
-pub fn read_pairs(m: usize, sv: &[u8; 1024], st: &[u8; 1024], qs: &[u8; 32], qt: &[u8; 32], n: usize, file: &[u8]) -> PlanRead
+pub fn read_pairs(
+    m: usize,
+    sv: &[u8; 1024],
+    st: &[u8; 1024],
+    qs: &[u8; 32],
+    qt: &[u8; 32],
+    n: usize,
+    file: &[u8],
+) -> PlanRead
     requires { ⌜ (m ≤ 1024) × Low m (now sv) 32 × Low m (now st) 32 × Differ m (now sv) (now st) ⌝ }
     requires { ⌜ (n ≤ 64) × (0 < length (now file)) × (getD (now file) 0 0 ≡ n) ⌝ }
     ensures { λ r. ⌜ ReadFor m (now (sv .entry)) (now (st .entry)) (now (qs .entry)) (now (qt .entry)) (now (file .entry)) r ⌝ }
@@ -96,12 +115,20 @@ pub fn read_pairs(m: usize, sv: &[u8; 1024], st: &[u8; 1024], qs: &[u8; 32], qt:
     while k < n {
         let at = 2 * k + 1;
         if file.len() < at + 2 {
-            return PlanRead { answer: PlanAnswer::Refused(1), chosen: chosen, edges: edges };
+            return PlanRead {
+                answer: PlanAnswer::Refused(1),
+                chosen: chosen,
+                edges: edges,
+            };
         }
         let e = edge_of(m, sv, st, from, file[at], file[at + 1]);
         let c = pair_refusal(m, sv, st, qs, qt, &us, &ut, from, e);
         if c != 0 {
-            return PlanRead { answer: PlanAnswer::Refused(c), chosen: chosen, edges: edges };
+            return PlanRead {
+                answer: PlanAnswer::Refused(c),
+                chosen: chosen,
+                edges: edges,
+            };
         }
         let i = sv[e] as usize;
         let j = st[e] as usize;
@@ -113,22 +140,45 @@ pub fn read_pairs(m: usize, sv: &[u8; 1024], st: &[u8; 1024], qs: &[u8; 32], qt:
         k += 1;
     }
     if 2 * n + 1 < file.len() {
-        return PlanRead { answer: PlanAnswer::Refused(9), chosen: chosen, edges: edges };
+        return PlanRead {
+            answer: PlanAnswer::Refused(9),
+            chosen: chosen,
+            edges: edges,
+        };
     }
-    PlanRead { answer: PlanAnswer::Accepted(n), chosen: chosen, edges: edges }
+    PlanRead {
+        answer: PlanAnswer::Accepted(n),
+        chosen: chosen,
+        edges: edges,
+    }
 }
 
 // a plan file
-pub fn read_plan(m: usize, sv: &[u8; 1024], st: &[u8; 1024], qs: &[u8; 32], qt: &[u8; 32], file: &[u8]) -> PlanRead
+pub fn read_plan(
+    m: usize,
+    sv: &[u8; 1024],
+    st: &[u8; 1024],
+    qs: &[u8; 32],
+    qt: &[u8; 32],
+    file: &[u8],
+) -> PlanRead
     requires { ⌜ (m ≤ 1024) × Low m (now sv) 32 × Low m (now st) 32 × Differ m (now sv) (now st) ⌝ }
     ensures { λ r. ⌜ ReadFor m (now (sv .entry)) (now (st .entry)) (now (qs .entry)) (now (qt .entry)) (now (file .entry)) r ⌝ }
 {
     if file.len() == 0 {
-        return PlanRead { answer: PlanAnswer::Refused(1), chosen: [false; 1024], edges: [0u16; 64] };
+        return PlanRead {
+            answer: PlanAnswer::Refused(1),
+            chosen: [false; 1024],
+            edges: [0u16; 64],
+        };
     }
     let n = file[0];
     if 64 < n {
-        return PlanRead { answer: PlanAnswer::Refused(2), chosen: [false; 1024], edges: [0u16; 64] };
+        return PlanRead {
+            answer: PlanAnswer::Refused(2),
+            chosen: [false; 1024],
+            edges: [0u16; 64],
+        };
     }
     read_pairs(m, sv, st, qs, qt, n as usize, file)
 }

@@ -1,25 +1,23 @@
 -- One pair more in the buffer's front, and the whole front.
-use Prim.Native.Nat.{ℕ, zero, suc, _+_, _-_, _*_, _≤_, _<_}
+use Prim.Native.Nat.{ℕ, suc, _+_, _-_, _*_, _≤_, _<_}
 use native.Mathlib.Omega.{arith}
 use native.Mathlib.Numerals.{add-one}
-use mathlib.Core.Path.{_≡_, refl, sym, ap, ap₂, _∙_, subst}
+use mathlib.Core.Path.{_≡_, refl, sym, ap, ap₂, _∙_}
 use mathlib.Core.Bool.{Bool, true, false, not, cond}
 use mathlib.Core.List.{List, [], _∷_, _++_, append-assoc, append-nil}
 use lib.ListN.{length, take, drop, getD, set, length-append, length-take, take-append-drop}
 use lib.Seq.{set-at, drop-cons}
-use lib.Dec.{ltb}
 use borrow.Author.Tests.{lt-ltb, le-ltb}
 use Rattle.lists.specs.Sum.{range}
-use Rattle.lists.specs.Keep.{keep, gather}
+use Rattle.lists.specs.Keep.{keep}
 use Rattle.lists.specs.Ranges.{range-add, keep-append, gather-append, keep-last}
 use Rattle.model.specs.Limits.{planSize}
-use Rattle.model.specs.Plans.{Plan, on}
+use Rattle.model.specs.Plans.{on}
 use Rattle.model.specs.PlanFile.{edgesIn, planBytes}
 use Rattle.rosters.specs.Chosen.{edgesIn-cong}
 use Rattle.arrays.specs.Shown.{at, flag, shown}
-use Rattle.planwriter.specs.declared.PlanWritten.{PlanWritten}
 use Rattle.planwriter.specs.declared.PlanWritten.the-variants.{Wrote, Refused}
-use Rattle.planwriter.specs.Written.{pairsOf, WrittenAs, WrittenFor}
+use Rattle.planwriter.specs.Written.{pairsOf, WrittenFor}
 
 pairs-length : (sv st es : List ℕ) → length (pairsOf sv st es) ≡ 2 * length es
 pairs-length sv st [] = refl
@@ -107,7 +105,7 @@ module _ (m : ℕ) (sv st : List ℕ) (chosen : List Bool) (before : List ℕ) w
   written h k o count so ns nt rankS rankT tied quotaS quotaT M same =
       let fs = edgesIn m (flag chosen) in
       let bs : planBytes (shown m ns nt sv st rankS rankT tied quotaS quotaT) M ≡ k ∷ pairsOf sv st fs
-          = ap (λ z. length z ∷ pairsOf sv st z) (edgesIn-cong m (on M) (flag chosen) same) ∙ ap (λ n. n ∷ pairsOf sv st fs) (sym count) in
+      = ap (λ z. length z ∷ pairsOf sv st z) (edgesIn-cong m (on M) (flag chosen) same) ∙ ap (λ n. n ∷ pairsOf sv st fs) (sym count) in
       let l : length (pairsOf sv st fs) ≡ 2 * k = pairs-length sv st fs ∙ ap (λ n. 2 * n) (sym count) in
       record {
         reply = ap Wrote (size k (length (pairsOf sv st fs)) l ∙ sym (ap length bs)) ∙ sym (ap (λ b. cond b (Refused 15) (Wrote (length (planBytes (shown m ns nt sv st rankS rankT tied quotaS quotaT) M)))) (le-ltb (length before) planSize h));

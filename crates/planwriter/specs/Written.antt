@@ -1,6 +1,6 @@
 -- What is promised of a plan written: its bytes in the buffer's front, and behind them what stood there; a buffer too small keeps
 -- all its bytes.
-use Prim.Native.Nat.{ℕ, suc, _+_, _*_, _≤_, _<_}
+use Prim.Native.Nat.{ℕ, suc, _+_, _<_}
 use mathlib.Core.Path.{_≡_}
 use mathlib.Core.Bool.{Bool, cond}
 use mathlib.Core.List.{List, [], _∷_, _++_}
@@ -13,10 +13,6 @@ use Rattle.model.specs.PlanFile.{planBytes}
 use Rattle.arrays.specs.Shown.{at, flag, shown}
 use Rattle.planwriter.specs.declared.PlanWritten.{PlanWritten}
 use Rattle.planwriter.specs.declared.PlanWritten.the-variants.{Wrote, Refused}
-
--- the first n entries are below k
-abbrev pub Low : ℕ → List ℕ → ℕ → Type 0
-Low n xs k = (e : ℕ) → e < n → at xs e < k
 
 -- the bytes of some edges' pairs
 abbrev pub pairsOf : List ℕ → List ℕ → List ℕ → List ℕ

@@ -5,7 +5,8 @@ ghost use Prim.Native.Nat.{_+_, _*_, _≤_};
 ghost use lib.ListN.{length, take, drop};
 ghost use Rattle.model.specs.PlanFile.{edgesIn};
 ghost use Rattle.arrays.specs.Shown.{flag};
-ghost use Rattle.planwriter.specs.Written.{Low, pairsOf, WrittenFor};
+ghost use Rattle.arrays.specs.Passes.{Low};
+ghost use Rattle.planwriter.specs.Written.{pairsOf, WrittenFor};
 
 // the length written, or the refusal
 pub enum PlanWritten {
@@ -14,7 +15,13 @@ pub enum PlanWritten {
 }
 
 // the pairs of the edges chosen, from the buffer's second place on; gives their number
-pub fn write_pairs(m: usize, sv: &[u8; 1024], st: &[u8; 1024], chosen: &[bool; 1024], out: &mut [u8]) -> usize
+pub fn write_pairs(
+    m: usize,
+    sv: &[u8; 1024],
+    st: &[u8; 1024],
+    chosen: &[bool; 1024],
+    out: &mut [u8],
+) -> usize
     requires { ⌜ (m ≤ 1024) × Low m (now sv) 32 × Low m (now st) 32 × (length (edgesIn m (flag (now chosen))) ≤ 64) × (129 ≤ length (now out)) ⌝ }
     ensures { λ r. ⌜ r ≡ length (edgesIn m (flag (now (chosen .entry)))) ⌝ }
     ensures { λ r. ⌜ now (out .exit) ≡ (take 1 (now (out .entry)) ++ pairsOf (now (sv .entry)) (now (st .entry)) (edgesIn m (flag (now (chosen .entry))))) ++ drop (2 * r + 1) (now (out .entry)) ⌝ }
@@ -35,7 +42,13 @@ pub fn write_pairs(m: usize, sv: &[u8; 1024], st: &[u8; 1024], chosen: &[bool; 1
 }
 
 // the plan's bytes in the buffer's front
-pub fn write_plan(m: usize, sv: &[u8; 1024], st: &[u8; 1024], chosen: &[bool; 1024], out: &mut [u8]) -> PlanWritten
+pub fn write_plan(
+    m: usize,
+    sv: &[u8; 1024],
+    st: &[u8; 1024],
+    chosen: &[bool; 1024],
+    out: &mut [u8],
+) -> PlanWritten
     requires { ⌜ (m ≤ 1024) × Low m (now sv) 32 × Low m (now st) 32 × (length (edgesIn m (flag (now chosen))) ≤ 64) ⌝ }
     ensures { λ r. ⌜ WrittenFor m (now (sv .entry)) (now (st .entry)) (now (chosen .entry)) (now (out .entry)) r (now (out .exit)) ⌝ }
 {

@@ -1,13 +1,12 @@
 -- A plan file read pair by pair: what one more pair makes of the reading of those that are left.
 use Prim.Native.Nat.{ℕ, zero, suc, _≤_, _<_}
-use mathlib.Core.Path.{_≡_, refl, sym, ap, _∙_}
+use mathlib.Core.Path.{_≡_, refl, sym, ap}
 use mathlib.Core.Bool.{cond}
 use mathlib.Core.List.{List, [], _∷_, _++_, append-nil}
 use lib.Seq.{append-snoc}
-use lib.Dec.{ltb}
 use borrow.Author.Tests.{lt-ltb, le-ltb}
 use Rattle.model.specs.Limits.{planLimit}
-use Rattle.model.specs.Reading.{Read, got, refused, _then_, refuseBy, twoBytes, readEach, accepted, turned, whole}
+use Rattle.model.specs.Reading.{Read, got, refused, _then_, refuseBy, twoBytes, readEach, turned, whole}
 use Rattle.model.specs.Instance.{Instance}
 use Rattle.model.specs.PlanFile.{Pairs, pairCheck, withPair, readPairs, planOfPairs, readPlan}
 use Rattle.model.specs.Plans.{Plan}

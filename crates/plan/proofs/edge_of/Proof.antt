@@ -1,6 +1,5 @@
 -- `plan::edge_of` meets its contract: found from `from` on, or before it, or nowhere. Assumes nothing.
-use mathlib.Core.Path.{_≡_}
-use Prim.Native.Nat.{suc, _-_}
+use Prim.Native.Nat.{_-_}
 use native.Mathlib.Omega.{arith}
 use Rattle.plan.specs.Edges.{found-later, found-before, found-not, none-zero, none-zero-2}
 use borrow.Author.Needs.{needs}

@@ -1,6 +1,6 @@
 -- `plan::read_pairs` meets its contract: the pairs that are left have the answer of all. Assumes nothing.
-use mathlib.Core.Path.{_≡_, ap}
-use Prim.Native.Nat.{ℕ, _+_, _-_, _*_, _≤_, _<_, zero-le}
+use mathlib.Core.Path.{_≡_}
+use Prim.Native.Nat.{_+_, _-_, _*_, _≤_, _<_, zero-le}
 use native.Mathlib.Omega.{arith}
 use lib.ListN.{getD}
 use Rattle.arrays.specs.Shown.{at}
@@ -165,11 +165,10 @@ loop-again c =
     let l = c .before .before .before .before .before .before .before .before .before .before .before in
     let s = l .before .before in
     let a = s .args in
-    let k = c .before .before .before .before .before .before in
-    (
+    let k = c .before .before .before .before .before .before in (
       omega arith,
       going-on (a .m) (a .sv .now) (a .st .now) (a .qs .now) (a .qt .now) (a .file .now) (a .n) (l .loop .k) (l .loop .from) (l .loop .chosen) (l .loop .edges) (l .loop .us) (l .loop .ut) (l .loop .inv .1) (c .before .before .before .before .before .before .before .before .before .before .loop-test .taken) (s .pre .0 .1) (s .pre .0 .2) (c .before .before .before .before .before .before .before .before .before .if1 .left) (k .edge-of .result) (found k)
-      (c .before .before .before .pair-refusal .result) (c .before .before .before .pair-refusal .ensures) (omega arith) (omega arith) (s .pre .0 .0),
+          (c .before .before .before .pair-refusal .result) (c .before .before .before .pair-refusal .ensures) (omega arith) (omega arith) (s .pre .0 .0),
     )
 
 -- src/lib.rt:115:8

@@ -5,7 +5,6 @@ use native.Mathlib.Omega.{arith}
 use lib.Dec.{T}
 use Rattle.lists.specs.Test.{true-T}
 use Rattle.plan.specs.Edges.{Ends, none-next}
-use borrow.Author.Needs.{needs}
 use Rattle.plan.proofs.scan.Statement.{statement}
 use Rattle.plan.proofs.scan.Tie as tie
 use Rattle.plan.proofs.scan.Reads as reads

@@ -1,14 +1,13 @@
 -- `planwriter::write_pairs` meets its contract: the pairs of the edges below e stand behind the first place. Assumes nothing.
-use mathlib.Core.Path.{_≡_, refl, sym, ap, _∙_}
+use mathlib.Core.Path.{_≡_, refl, ap, _∙_}
 use mathlib.Core.List.{_++_}
 use Prim.Native.Nat.{_+_, _-_, _*_, _≤_, zero-le}
 use native.Mathlib.Omega.{arith}
-use lib.ListN.{length, take, drop, length-set, take-append-drop}
+use lib.ListN.{length, take, drop, length-set}
 use Rattle.model.specs.PlanFile.{edgesIn}
 use Rattle.arrays.specs.Shown.{flag}
 use Rattle.planwriter.specs.Written.{pairsOf}
 use Rattle.planwriter.specs.Turns.{turn-not, turn-one, room-for, not-yes, not-no, front-none}
-use borrow.Author.Needs.{needs}
 use Rattle.planwriter.proofs.write_pairs.Statement.{statement}
 use Rattle.planwriter.proofs.write_pairs.Tie as tie
 use Rattle.planwriter.proofs.write_pairs.Reads as reads
@@ -107,8 +106,7 @@ loop-less-2 c = omega arith
 loop-again-2 : tie.Need-loop-again-2 Inv-loop μ-loop
 loop-again-2 c =
     let l = c .before .before .before .before .before in
-    let a = l .before .args in
-    (
+    let a = l .before .args in (
       omega arith,
       turn-one (a .sv .now) (a .st .now) (a .chosen .now) (a .out .now) (l .loop .e) (l .loop .k) (l .loop .out) (l .loop .inv .1 .0) (l .loop .inv .1 .1) (not-no _ (c .before .before .if1 .left)) (omega (arith, room (c .before .before))),
       simp length-set (l .loop .inv .2),
@@ -123,8 +121,7 @@ returns : tie.Need-returns Inv-loop μ-loop
 returns c =
     let l = c .before in
     let a = l .before .args in
-    let q : l .loop .e ≡ a .m = omega arith in
-    (
+    let q : l .loop .e ≡ a .m = omega arith in (
       l .loop .inv .1 .0 ∙ ap (λ e. length (edgesIn e (flag (a .chosen .now)))) q,
       l .loop .inv .1 .1 ∙ ap (λ e. (take 1 (a .out .now) ++ pairsOf (a .sv .now) (a .st .now) (edgesIn e (flag (a .chosen .now)))) ++ drop (2 * l .loop .k + 1) (a .out .now)) q,
     )
