@@ -1,12 +1,13 @@
 -- Search below a bound: some number that passes, the extreme one by a key, the lowest one; strong induction.
-use Prim.Native.Nat.{ℕ, zero, suc, _≤_, _<_, zero-le}
+use Prim.Native.Nat.{ℕ, zero, suc, _+_, _≤_, _<_, zero-le}
 use native.Mathlib.Omega.{arith}
 use native.Mathlib.Nat.{not-suc-le-zero, le-of-suc-le-suc, eq-or-lt-of-le}
 use native.Mathlib.Decide.{decLe}
-use mathlib.Core.Path.{sym, subst}
+use mathlib.Core.Path.{_≡_, sym, subst}
 use mathlib.Core.Logic.{_⊎_, inl, inr, ⊎-elim, by-cases}
 use mathlib.Core.Bool.{Bool, true, false, not, cond}
 use lib.Dec.{T, ltb, ltb→lt, nltb→le, T-not}
+use borrow.Author.Tests.{lt-ltb, le-ltb}
 use Rattle.lists.specs.Test.{by-test}
 
 -- ---- search
@@ -83,3 +84,16 @@ strong-below P step (suc n) m h = step m (λ k hk. strong-below P step n k (omeg
 
 pub strong {ℓ} : (P : ℕ → Type ℓ) → ((n : ℕ) → ((m : ℕ) → m < n → P m) → P n) → (n : ℕ) → P n
 strong P step n = strong-below P step (suc n) n (omega arith)
+
+-- the search goes on past a number that fails, and ends at one that passes
+pub low-miss : (p : ℕ → Bool) (i : ℕ) → low p i ≡ i → p i ≡ false → low p (i + 1) ≡ i + 1
+unfolding low
+low-miss p i h n = let e : i + 1 ≡ suc i = omega arith in rw e (simp (h, le-ltb i i (omega arith), n))
+
+pub low-hit : (p : ℕ → Bool) (i n : ℕ) → low p i ≡ i → p i ≡ true → i < n → low p n ≡ i
+unfolding low
+low-hit p i zero h y l = absurd (not-suc-le-zero l)
+low-hit p i (suc n) h y l = ⊎-elim
+    (λ e. subst (λ (k : ℕ). low p (suc k) ≡ i) e (simp (h, le-ltb i i (omega arith), y)))
+    (λ k. simp (low-hit p i n h y k, lt-ltb i n k))
+    (eq-or-lt-of-le (le-of-suc-le-suc l))
