@@ -1,18 +1,22 @@
 -- A reader and a writer that agree: what is read was written so, and what is written is read back. Fields, and fields in a row.
-use Prim.Native.Nat.{ℕ, zero, suc, _+_}
+use Prim.Native.Nat.{ℕ, zero, suc, _+_, _<_}
 use native.Mathlib.Omega.{arith}
 use mathlib.Core.Path.{_≡_, refl, sym, ap, ap₂, _∙_, subst}
 use mathlib.Core.Bool.{Bool, true, false, not}
 use mathlib.Core.List.{List, [], _∷_, _++_, append-assoc}
-use lib.ListN.{length}
-use lib.Dec.{T, ltb}
-use Rattle.lists.specs.Test.{given, and-r}
+use lib.ListN.{length, getD}
+use lib.Dec.{T, ltb, lt→ltb}
+use Rattle.lists.specs.Test.{given, and-r, and-i}
 use Rattle.lists.specs.Keep.{all?, gather, All}
 use Rattle.model.specs.Reading.{Read, got, refused, _then_, refuseIf, refuseBy, byte, twoBytes, readEach, Reading, accepted, turned, whole}
 
 -- a byte's value is below 256
 abbrev pub isBytes : List ℕ → Bool
 isBytes bs = all? (λ b. ltb b 256) bs
+
+pub bytes-are : (bs : List ℕ) → ((i : ℕ) → getD bs i 0 < 256) → T (isBytes bs)
+bytes-are [] h = tt
+bytes-are (b ∷ bs) h = and-i (ltb b 256) (isBytes bs) (lt→ltb b 256 (h 0)) (bytes-are bs (λ i. h (suc i)))
 
 -- ---- what a result says of the steps that gave it
 module _ {A : Type 0} where

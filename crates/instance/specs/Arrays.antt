@@ -12,13 +12,16 @@ use lib.Seq.{getD-take}
 use lib.Dec.{T, eqb, ltb, lt→ltb, T-not}
 use Rattle.lists.specs.Test.{given, eqb-no, T-true, T-false, false-T, and-i}
 use Rattle.lists.specs.Keep.{All}
+use Rattle.model.specs.Reading.{accepted}
+use Rattle.model.specs.RosterFile.{readRoster}
 use Rattle.model.specs.Roster.{Ranking, Roster, surveyorCount, standCount, listS, listT, elem, listed, fits}
 use Rattle.model.specs.Edges.{Edge, position, pairEdge, edgesOf, noEdge, edgeAt, instanceOf}
-use Rattle.model.specs.Instance as model
-use Rattle.formats.specs.Reads.{isBytes}
+use Rattle.formats.specs.Reads.{isBytes, bytes-are}
 use Rattle.formats.specs.Rosters.{fits-parts, read-write, read-fits}
+use Rattle.graph.specs.Lawful.{Lawful}
+use Rattle.rosters.specs.PlanFiles.{Fileable}
 use Rattle.rosters.specs.Position.{position-pos, position-out}
-use Rattle.rosters.specs.Laws.{ns-small, nt-small, strict-or-tied, tied-not-strict, strict-length, pairs-differ}
+use Rattle.rosters.specs.Laws.{ns-small, nt-small, strict-or-tied, tied-not-strict, strict-length, lawful, fileable}
 use Rattle.rosters.specs.Cells.{Within, list-within, strict-within, listed-none, edges-cells}
 use Rattle.rosters.specs.Offsets.{listsStart, rankingSection, Offsets, offsets, rankings-from}
 use Rattle.positions.specs.Tables.{listsStamped, listsEnd, strictStamped, nextRanks}
@@ -38,10 +41,6 @@ zeros (suc n) (suc c) = zeros n c
 every : {A : Type 0} (P : A → Type 0) (d : A) (xs : List A) → ((i : ℕ) → i < length xs → P (getD xs i d)) → All P xs
 every P d [] h = tt
 every P d (x ∷ xs) h = (h 0 (omega arith), every P d xs (λ i l. h (suc i) (omega arith)))
-
-pub bytes-are : (bs : List ℕ) → ((i : ℕ) → getD bs i 0 < 256) → T (isBytes bs)
-bytes-are [] h = tt
-bytes-are (b ∷ bs) h = and-i (ltb b 256) (isBytes bs) (lt→ltb b 256 (h 0)) (bytes-are bs (λ i. h (suc i)))
 
 edge-is : (x y : Edge) → x .surveyor ≡ y .surveyor → x .stand ≡ y .stand → x .rankS ≡ y .rankS → x .rankT ≡ y .rankT → x .tied ≡ y .tied → x ≡ y
 edge-is x y a b c d e = λ k. record { surveyor = a k; stand = b k; rankS = c k; rankT = d k; tied = e k }
@@ -279,13 +278,17 @@ decoded f g small P = record {
   shows = λ r a.
       given (bytes-are f small) (λ isB.
       parts-show f r (read-fits f r isB a) (offsets f r (read-write f r isB a)) g P);
-  differ = λ r a.
-      given (bytes-are f small) (λ isB.
-      subst (λ (G : model.Instance). (d e : ℕ) → d < G .m → e < G .m → G .sv d ≡ G .sv e → G .st d ≡ G .st e → d ≡ e)
-      (sym (parts-show f r (read-fits f r isB a) (offsets f r (read-write f r isB a)) g P)) (pairs-differ r (read-fits f r isB a)));
 }
   where
     low : (o : List ℕ) (v : ℕ → ℕ) → Shows 0 o (P .m) v → ((e : ℕ) → e < P .m → v e < 32) → (e : ℕ) → at o e < 32
     low o v s h e = by-cases (decLt e (P .m))
         (λ k. subst (λ z. z < 32) (sym (shows-at 0 o v (P .m) e s k)) (h e k))
         (λ k. subst (λ z. z < 32) (sym (shows-behind 0 o v (P .m) e s (omega arith))) (omega arith))
+
+-- ---- the laws that votes, rules and plan files ask of the arrays of an accepted roster
+module _ (f : List ℕ) (g : Instance) (isB : T (isBytes f)) (D : Decoded f g) (r : Roster) (a : readRoster f ≡ accepted r) where
+  pub decoded-lawful : Lawful (shownBy g)
+  decoded-lawful = subst Lawful (sym (D .shows r a)) (lawful r (read-fits f r isB a))
+
+  pub decoded-fileable : Fileable (shownBy g)
+  decoded-fileable = subst Fileable (sym (D .shows r a)) (fileable r (read-fits f r isB a))

@@ -1,5 +1,4 @@
--- What is promised of the arrays read from a file: their ranges, that they show the instance of the roster that the file is, and that
--- no two edges of it have the same ends.
+-- What is promised of the arrays read from a file: their ranges, and that they show the instance of the roster that the file is.
 use Prim.Native.Nat.{ℕ, _≤_, _<_}
 use mathlib.Core.Path.{_≡_}
 use mathlib.Core.List.{List}
@@ -23,4 +22,3 @@ pub record Decoded (file : List ℕ) (g : Instance) : Type 0 where
   pub low-sv : (e : ℕ) → at (g .sv) e < 32
   pub low-st : (e : ℕ) → at (g .st) e < 32
   pub shows : (r : Roster) → readRoster file ≡ accepted r → shownBy g ≡ instanceOf r
-  pub differ : (r : Roster) → readRoster file ≡ accepted r → (d e : ℕ) → d < g .m → e < g .m → at (g .sv) d ≡ at (g .sv) e → at (g .st) d ≡ at (g .st) e → d ≡ e

@@ -4,13 +4,13 @@ use native.Mathlib.Omega.{arith}
 use native.Mathlib.Decide.{decLt}
 use mathlib.Core.Path.{_≡_, refl, sym, ap, _∙_, subst}
 use mathlib.Core.Logic.{by-cases}
-use mathlib.Core.Bool.{Bool, true, false, _&&_}
-use mathlib.Core.List.{List, [], _∷_, _++_, List·Memᴰ·head, List·Memᴰ·tail, List·Memᴰ·not-nil}
-use lib.Dec.{T, eqb, ltb, eqb→eq}
+use mathlib.Core.Bool.{Bool, _&&_}
+use mathlib.Core.List.{List, [], _∷_, _++_, List·Memᴰ·head, List·Memᴰ·tail}
+use lib.Dec.{eqb, ltb, eqb→eq}
 use borrow.Author.Tests.{lt-ltb, le-ltb}
 use Rattle.lists.specs.Test.{given, by-eq, bit, pk}
 use Rattle.lists.specs.Sum.{_∈_, sum, sum-add, sum-append, sum-cong, sum-zeros, range, ∈-range, sum-range, upTo, upTo-<, count}
-use Rattle.lists.specs.Keep.{keep, ∈-keep, sum-keep, gather-∈, All, All-∈, All-++}
+use Rattle.lists.specs.Keep.{∈-keep, sum-keep, gather-∈, All, All-++}
 use Rattle.lists.specs.Distinct.{Nodup, nodup-append, nodup-keep}
 use Rattle.model.specs.Instance.{Side, deg}
 use Rattle.order.specs.Ranked.{level, ranked, ranked-next}

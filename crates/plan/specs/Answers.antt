@@ -1,6 +1,6 @@
 -- What is promised of a plan file's reading: document 01's answer, and the edges of an accepted plan.
 use Prim.Native.Nat.{ℕ, _≤_, _<_}
-use mathlib.Core.Path.{_≡_, sym, ap, ap₂, _∙_}
+use mathlib.Core.Path.{_≡_}
 use mathlib.Core.Bool.{Bool, not, cond, _||_}
 use mathlib.Core.List.{List}
 use lib.ListN.{length, take}
@@ -39,15 +39,15 @@ pairRefusal m e from fullS fullT = cond (leb m e) 10 (cond (ltb e from) 11 (cond
 module _ (m e from : ℕ) (fullS fullT : Bool) where
   pub not-there : m ≤ e → 10 ≡ pairRefusal m e from fullS fullT
   unfolding pairRefusal
-  not-there h = sym (ap (λ b. cond b 10 (cond (ltb e from) 11 (cond (fullS || fullT) 12 0))) (le-leb m e h))
+  not-there h = simp (le-leb m e h)
 
   pub not-ascending : e < m → e < from → 11 ≡ pairRefusal m e from fullS fullT
   unfolding pairRefusal
-  not-ascending h k = sym (ap₂ (λ b c. cond b 10 (cond c 11 (cond (fullS || fullT) 12 0))) (lt-leb m e h) (lt-ltb e from k))
+  not-ascending h k = simp (lt-leb m e h, lt-ltb e from k)
 
   pub by-quota : e < m → from ≤ e → (b : Bool) → fullS || fullT ≡ b → cond b 12 0 ≡ pairRefusal m e from fullS fullT
   unfolding pairRefusal
-  by-quota h k b q = ap (λ z. cond z 12 0) (sym q) ∙ sym (ap₂ (λ b c. cond b 10 (cond c 11 (cond (fullS || fullT) 12 0))) (lt-leb m e h) (le-ltb e from k))
+  by-quota h k b q = simp (lt-leb m e h, le-ltb e from k, q)
 
   -- no refusal
   pub passed : pairRefusal m e from fullS fullT ≡ 0 → (e < m) × (from ≤ e) × T (not fullS) × T (not fullT)

@@ -184,14 +184,14 @@ returns-3 : tie.Need-returns-3 Inv-loop μ-loop
 returns-3 c =
     let l = c .before .before in
     let a = l .before .before .args in
-    for-all (a .m) (a .sv .now) (a .st .now) (a .qs .now) (a .qt .now) (a .file .now) _ (refused-as (a .m) (a .sv .now) (a .st .now) (a .qs .now) (a .qt .now) (a .file .now) 9 (l .loop .chosen) (l .loop .edges) (going-long (a .m) (a .sv .now) (a .st .now) (a .qs .now) (a .qt .now) (a .file .now) (a .n) (l .loop .k) (l .loop .from) (l .loop .chosen) (l .loop .edges) (l .loop .us) (l .loop .ut) (l .loop .inv .1) (omega arith) (c .if3 .taken)))
+    for-all (a .m) (a .sv .now) (a .st .now) (a .qs .now) (a .qt .now) (a .file .now) _ (refused-as (a .m) (a .sv .now) (a .st .now) (a .qs .now) (a .qt .now) (a .file .now) 9 (l .loop .chosen) (l .loop .edges) (going-long (a .m) (a .sv .now) (a .st .now) (a .qs .now) (a .qt .now) (a .file .now) (a .n) (l .loop .k) (l .loop .from) (l .loop .chosen) (l .loop .edges) (l .loop .us) (l .loop .ut) (l .loop .inv .1) (omega arith) (omega arith)))
 
 -- src/lib.rt:85:1
 returns-4 : tie.Need-returns-4 Inv-loop μ-loop
 returns-4 c =
     let l = c .before .before in
     let a = l .before .before .args in
-    for-all (a .m) (a .sv .now) (a .st .now) (a .qs .now) (a .qt .now) (a .file .now) _ (going-accepted (a .m) (a .sv .now) (a .st .now) (a .qs .now) (a .qt .now) (a .file .now) (a .n) (l .loop .k) (l .loop .from) (l .loop .chosen) (l .loop .edges) (l .loop .us) (l .loop .ut) (l .loop .inv .1) (omega arith) (c .if3 .left))
+    for-all (a .m) (a .sv .now) (a .st .now) (a .qs .now) (a .qt .now) (a .file .now) _ (going-accepted (a .m) (a .sv .now) (a .st .now) (a .qs .now) (a .qt .now) (a .file .now) (a .n) (l .loop .k) (l .loop .from) (l .loop .chosen) (l .loop .edges) (l .loop .us) (l .loop .ut) (l .loop .inv .1) (omega arith) (omega arith))
 
 pub read-pairs-spec : {M : Type 1} → statement M
 read-pairs-spec =

@@ -56,7 +56,7 @@ element-copy-out-out c = omega arith
 
 -- src/lib.rt:29:26
 add-out : tie.Need-add-out Inv-loop μ-loop
-add-out c = let l = c .before .before .before .before in omega (arith, l .before .pre .1 (l .loop .e) (omega arith))
+add-out c = let l = c .before .before .before .before in omega (arith, l .before .pre .1 (l .loop .e) (omega arith), l .before .pre .2 (l .loop .e) (omega arith))
 
 -- src/lib.rt:29:13
 mul-out : tie.Need-mul-out Inv-loop μ-loop
@@ -76,7 +76,7 @@ element-copy-out-out-2 c = omega arith
 
 -- src/lib.rt:30:26
 add-out-3 : tie.Need-add-out-3 Inv-loop μ-loop
-add-out-3 c = let l = c .before .before .before .before .before in omega (arith, l .before .pre .2 (l .loop .e) (omega arith))
+add-out-3 c = let l = c .before .before .before .before .before in omega (arith, l .before .pre .1 (l .loop .e) (omega arith), l .before .pre .2 (l .loop .e) (omega arith))
 
 -- src/lib.rt:30:13
 mul-out-2 : tie.Need-mul-out-2 Inv-loop μ-loop

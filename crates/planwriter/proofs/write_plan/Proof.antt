@@ -1,4 +1,5 @@
 -- `planwriter::write_plan` meets its contract: the pairs are written, then the count before them. Assumes nothing.
+use native.Mathlib.Omega.{arith}
 use Rattle.planwriter.specs.Turns.{too-small, written}
 use borrow.Author.Needs.{needs}
 use Rattle.planwriter.proofs.write_plan.Statement.{statement}
@@ -9,7 +10,7 @@ use Rattle.planwriter.proofs.write_pairs.Reads as write-pairs-reads
 
 -- src/lib.rt:43:9
 returns : tie.Need-returns
-returns c = let a = c .before .before .args in too-small (a .m) (a .sv .now) (a .st .now) (a .chosen .now) (a .out .now) (c .if1 .taken)
+returns c = let a = c .before .before .args in too-small (a .m) (a .sv .now) (a .st .now) (a .chosen .now) (a .out .now) (omega arith)
 
 -- src/lib.rt:45:9
 write-pairs-requires : tie.Need-write-pairs-requires
@@ -40,7 +41,7 @@ returns-2 : tie.Need-returns-2
 returns-2 c =
     let w = c .before .before in
     let a = w .before .before .before .before .args in
-    written (a .m) (a .sv .now) (a .st .now) (a .chosen .now) (a .out .now) (w .before .before .if1 .left) (w .write-pairs .result) _ (w .write-pairs .ensures .0) (w .write-pairs .ensures .1)
+    written (a .m) (a .sv .now) (a .st .now) (a .chosen .now) (a .out .now) (omega arith) (w .write-pairs .result) _ (w .write-pairs .ensures .0) (w .write-pairs .ensures .1)
 
 pub write-plan-spec : {M : Type 1} → statement M
 write-plan-spec =
