@@ -6,7 +6,7 @@ use mathlib.Core.Logic.{_≢_, ⊎-elim}
 use mathlib.Core.Bool.{Bool, true, false, cond}
 use mathlib.Core.List.{List, [], _∷_, _++_, map, List·Memᴰ·head, List·Memᴰ·tail, List·Memᴰ·not-nil, List·Memᴰ·append-cases, Memᴰ·cast, Memᴰ·of-map}
 use lib.ListN.{length}
-use Rattle.lists.specs.Sum.{_∈_, upTo, upTo-length, upTo-∈}
+use Rattle.lists.specs.Sum.{_∈_, range, ∈-range, upTo, upTo-length, upTo-∈}
 use Rattle.lists.specs.Keep.{keep, ∈-keep, remove}
 
 module _ {A : Type 0} where
@@ -51,6 +51,10 @@ module _ {A : Type 0} where
   only-one [] c u m h = absurd (List·Memᴰ·not-nil m)
   only-one (x ∷ []) c u m h = ap (λ z. z ∷ []) (h x (List·Memᴰ·head refl))
   only-one (x ∷ y ∷ xs) c u m h = absurd (u .0 (List·Memᴰ·head (h x (List·Memᴰ·head refl) ∙ sym (h y (List·Memᴰ·tail (List·Memᴰ·head refl))))))
+
+pub range-once : (i n : ℕ) → Nodup (range i n)
+range-once i zero = tt
+range-once i (suc n) = ((λ m. let h = ∈-range n (suc i) m .0 in omega arith), range-once (suc i) n)
 
 pub no-element : {A : Type 0} (xs : List A) → ((x : A) → x ∈ xs → ⊥) → xs ≡ []
 no-element [] h = refl
