@@ -23,7 +23,7 @@ module _ {A : Type 0} (d : A) where
   abbrev pub Shows : List A → ℕ → (ℕ → A) → Type 0
   Shows o n f = (e : ℕ) → getD o e d ≡ cond (ltb e n) (f e) d
 
-  all-blank : (k e : ℕ) → getD (replicate k d) e d ≡ d
+  pub all-blank : (k e : ℕ) → getD (replicate k d) e d ≡ d
   all-blank zero e = refl
   all-blank (suc k) zero = refl
   all-blank (suc k) (suc e) = all-blank k e

@@ -1,17 +1,18 @@
 -- The arrays made from an accepted roster's bytes show its instance: the tables of positions give each edge its ranks, and the listed
 -- cells are the edges in order.
-use Prim.Native.Nat.{ℕ, zero, suc, _+_, _*_, _/_, _%_, _≤_, _<_, min}
+use Prim.Native.Nat.{ℕ, suc, _+_, _*_, _/_, _%_, _≤_, _<_, min}
 use native.Mathlib.Omega.{arith}
 use native.Mathlib.Decide.{decLt}
 use mathlib.Core.Path.{_≡_, refl, sym, ap, ap₂, _∙_, subst}
 use mathlib.Core.Logic.{by-cases, ⊎-elim}
 use mathlib.Core.Bool.{Bool, true, false, not, cond}
-use mathlib.Core.List.{List, [], _∷_, map}
+use mathlib.Core.List.{List, [], map}
 use lib.ListN.{length, getD, replicate, length-replicate, length-map, List·getD-map, List·getD-eq-default}
 use lib.Seq.{getD-take}
-use lib.Dec.{T, eqb, ltb, lt→ltb, T-not}
-use Rattle.lists.specs.Test.{given, eqb-no, T-true, T-false, false-T, and-i}
-use Rattle.lists.specs.Keep.{All}
+use lib.Dec.{T, eqb, T-not}
+use Rattle.lists.specs.Test.{given, eqb-no, T-true, T-false, false-T}
+use Rattle.lists.specs.Keep.{All-getD}
+use Rattle.lists.specs.Ranges.{map-at}
 use Rattle.model.specs.Reading.{accepted}
 use Rattle.model.specs.RosterFile.{readRoster}
 use Rattle.model.specs.Roster.{Ranking, Roster, surveyorCount, standCount, listS, listT, elem, listed, fits}
@@ -27,21 +28,12 @@ use Rattle.rosters.specs.Offsets.{listsStart, rankingSection, Offsets, offsets,
 use Rattle.positions.specs.Tables.{listsStamped, listsEnd, strictStamped, nextRanks}
 use Rattle.positions.specs.Rows.{allStamped, positionIn, all-at, lists-are, strictLists, nextAll, rankings-are, next-at}
 use Rattle.arrays.specs.Shown.{at}
-use Rattle.arrays.specs.Passes.{Shows, shows-at, shows-behind, shown-is}
+use Rattle.arrays.specs.Passes.{Shows, all-blank, shows-at, shows-behind, shown-is}
 use Rattle.instance.specs.declared.Instance.{Instance}
 use Rattle.instance.specs.Cells.{listedCells, Listed, across, cellEdge, Filled}
 use Rattle.instance.specs.Decoded.{shownBy, Decoded}
 
 -- ---- small facts
-zeros : (n c : ℕ) → _≡_ {A = ℕ} (getD (replicate n 0) c 0) 0
-zeros zero c = refl
-zeros (suc n) zero = refl
-zeros (suc n) (suc c) = zeros n c
-
-every : {A : Type 0} (P : A → Type 0) (d : A) (xs : List A) → ((i : ℕ) → i < length xs → P (getD xs i d)) → All P xs
-every P d [] h = tt
-every P d (x ∷ xs) h = (h 0 (omega arith), every P d xs (λ i l. h (suc i) (omega arith)))
-
 edge-is : (x y : Edge) → x .surveyor ≡ y .surveyor → x .stand ≡ y .stand → x .rankS ≡ y .rankS → x .rankT ≡ y .rankT → x .tied ≡ y .tied → x ≡ y
 edge-is x y a b c d e = λ k. record { surveyor = a k; stand = b k; rankS = c k; rankT = d k; tied = e k }
 
@@ -104,7 +96,7 @@ module _ (f : List ℕ) (r : Roster) (ok : T (fits r)) (O : Offsets f r) where
       ap (λ t. at t (i * 32 + j)) (from-bytes .0)
       ∙ ap (at (allStamped 0 (r .listsS) (replicate 1024 0))) (none i j)
       ∙ all-at (r .listsS) 0 (replicate 1024 0) (omega (arith, lists-count, ns-small r ok, length-replicate {A = ℕ} 1024 0))
-      (every (Within 32) [] (r .listsS) (λ i l. list-within r ok 32 i (nt-small r ok) (omega (arith, lists-count)))) (λ c k. zeros 1024 c) i j h
+      (All-getD (Within 32) [] (r .listsS) (λ i l. list-within r ok 32 i (nt-small r ok) (omega (arith, lists-count)))) (λ c k. all-blank 0 1024 c) i j h
     where
       none : (i j : ℕ) → i * 32 + j ≡ 0 + i * 32 + j
       none i j = omega arith
@@ -120,8 +112,8 @@ module _ (f : List ℕ) (r : Roster) (ok : T (fits r)) (O : Offsets f r) where
       ap (λ t. at t (j * 32 + i)) (from-bytes .1)
       ∙ ap (at (allStamped 0 (strictLists (r .listsT)) (replicate 1024 0))) (none j i)
       ∙ all-at (strictLists (r .listsT)) 0 (replicate 1024 0) (omega (arith, length-map (r .listsT) (λ R. R .strict), rankings-count, nt-small r ok, length-replicate {A = ℕ} 1024 0))
-      (every (Within 32) [] (strictLists (r .listsT)) (λ j l. subst (Within 32) (sym (strict-list j)) (strict-within r ok 32 j (ns-small r ok) (omega (arith, length-map (r .listsT) (λ R. R .strict), rankings-count)))))
-      (λ c k. zeros 1024 c) j i h
+      (All-getD (Within 32) [] (strictLists (r .listsT)) (λ j l. subst (Within 32) (sym (strict-list j)) (strict-within r ok 32 j (ns-small r ok) (omega (arith, length-map (r .listsT) (λ R. R .strict), rankings-count)))))
+      (λ c k. all-blank 0 1024 c) j i h
       ∙ ap (λ xs. positionIn xs i) (strict-list j)
     where
       none : (i j : ℕ) → i * 32 + j ≡ 0 + i * 32 + j
@@ -192,11 +184,6 @@ module _ (f : List ℕ) (r : Roster) (ok : T (fits r)) (O : Offsets f r) where
   module _ (m : ℕ) (cell : List ℕ) (L : Listed ns listedTable m cell) where
     edge-count : m ≡ length (edgesOf r)
     edge-count = L .count ∙ sym (length-map (listedCells ns listedTable) g) ∙ ap length edges-are
-
-    map-at : {A B : Type 0} (h : A → B) (xs : List A) (e : ℕ) (a : A) (b : B) → e < length xs → getD (map h xs) e b ≡ h (getD xs e a)
-    map-at h [] e a b l = absurd (omega arith)
-    map-at h (x ∷ xs) zero a b l = refl
-    map-at h (x ∷ xs) (suc e) a b l = map-at h xs e a b (omega arith)
 
     array-is : {A : Type 0} (d : A) (field : Edge → A) → field noEdge ≡ d → (o : List A) → Shows d o m (λ e. field (g (at cell e))) → (e : ℕ) → getD o e d ≡ field (edgeAt (edgesOf r) e)
     array-is d field z o s e = by-cases (decLt e m)

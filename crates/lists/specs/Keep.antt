@@ -241,6 +241,14 @@ module _ {A : Type 0} (P : A → Type 0) where
   All [] = Unit {0}
   All (x ∷ xs) = P x × All xs
 
+  pub ∈-All : (xs : List A) → ((x : A) → x ∈ xs → P x) → All xs
+  ∈-All [] h = tt
+  ∈-All (x ∷ xs) h = (h x (List·Memᴰ·head refl), ∈-All xs (λ y m. h y (List·Memᴰ·tail m)))
+
+  pub All-getD : (d : A) (xs : List A) → ((i : ℕ) → i < length xs → P (getD xs i d)) → All xs
+  All-getD d [] h = tt
+  All-getD d (x ∷ xs) h = (h 0 (omega arith), All-getD d xs (λ i l. h (suc i) (omega arith)))
+
   pub All-∈ : (xs : List A) → All xs → (x : A) → x ∈ xs → P x
   All-∈ xs a x (List·Memᴰ·head e) = subst P (sym e) (a .0)
   All-∈ xs a x (List·Memᴰ·tail {xs = ys} m) = All-∈ ys (a .1) x m

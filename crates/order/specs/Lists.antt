@@ -1,19 +1,17 @@
 -- What a pass over the edges in the order of their ranks needs to know of that order: it has every edge once, and ranks ascend.
 use Prim.Native.Nat.{ℕ, zero, suc, _+_, _≤_, _<_}
 use native.Mathlib.Omega.{arith}
-use native.Mathlib.Decide.{decLt}
 use mathlib.Core.Path.{_≡_, refl, sym, ap, _∙_, subst}
-use mathlib.Core.Logic.{by-cases}
 use mathlib.Core.Bool.{Bool, _&&_}
 use mathlib.Core.List.{List, [], _∷_, _++_, List·Memᴰ·head, List·Memᴰ·tail}
 use lib.Dec.{eqb, ltb, eqb→eq}
 use borrow.Author.Tests.{lt-ltb, le-ltb}
-use Rattle.lists.specs.Test.{given, by-eq, bit, pk}
+use Rattle.lists.specs.Test.{given, bit, pk}
 use Rattle.lists.specs.Sum.{_∈_, sum, sum-add, sum-append, sum-cong, sum-zeros, range, ∈-range, sum-range, upTo, upTo-<, count}
-use Rattle.lists.specs.Keep.{∈-keep, sum-keep, gather-∈, All, All-++}
-use Rattle.lists.specs.Distinct.{Nodup, nodup-append, nodup-keep}
+use Rattle.lists.specs.Keep.{∈-keep, sum-keep, gather-∈, All, ∈-All, All-++}
+use Rattle.lists.specs.Distinct.{Nodup, nodup-append, nodup-keep, range-once}
 use Rattle.model.specs.Instance.{Side, deg}
-use Rattle.order.specs.Ranked.{level, ranked, ranked-next}
+use Rattle.order.specs.Ranked.{level, ranked, ranked-next, pk-next}
 
 -- ranks ascend, equal ones allowed
 abbrev pub Ordered : (ℕ → ℕ) → List ℕ → Type 0
@@ -27,15 +25,7 @@ pub record Lists (K : Side) (xs : List ℕ) (v : ℕ) : Type 0 where
   pub once : Nodup xs
   pub below : All (λ e. e < K .m) xs
 
--- ---- base
-∈-All : (P : ℕ → Type 0) (xs : List ℕ) → ((x : ℕ) → x ∈ xs → P x) → All P xs
-∈-All P [] h = tt
-∈-All P (x ∷ xs) h = (h x (List·Memᴰ·head refl), ∈-All P xs (λ y m. h y (List·Memᴰ·tail m)))
-
-range-once : (i n : ℕ) → Nodup (range i n)
-range-once i zero = tt
-range-once i (suc n) = ((λ m. given (∈-range n (suc i) m .0) (λ h. omega arith)), range-once (suc i) n)
-
+-- ---- ordered lists put together
 ordered-append : (rank : ℕ → ℕ) (b : ℕ) (xs ys : List ℕ) → Ordered rank xs → Ordered rank ys → ((x : ℕ) → x ∈ xs → rank x ≤ b) → ((y : ℕ) → y ∈ ys → b ≤ rank y) → Ordered rank (xs ++ ys)
 ordered-append rank b [] ys u v h k = v
 ordered-append rank b (x ∷ xs) ys u v h k = (
@@ -72,13 +62,6 @@ module _ (rank : ℕ → ℕ) (m : ℕ) where
       (nodup-keep (λ e. eqb (rank e) r) (range 0 m) (range-once 0 m)) (λ e k l. given (ranked-∈ r e k .1) (λ h. given (level-∈ r e l .1) (λ q. omega arith))))
 
   -- ---- sums over them
-  pk-next : (k r n : ℕ) → pk (ltb k (suc r)) n ≡ pk (ltb k r) n + pk (eqb k r) n
-  pk-next k r n = by-eq k r
-      (λ q b. omega (arith, ap (λ z. pk z n) (lt-ltb k (suc r) (omega arith)), ap (λ z. pk z n) (le-ltb k r (omega arith)), ap (λ z. pk z n) b))
-      (λ q b. by-cases (decLt k r)
-      (λ h. omega (arith, ap (λ z. pk z n) (lt-ltb k (suc r) (omega arith)), ap (λ z. pk z n) (lt-ltb k r h), ap (λ z. pk z n) b))
-      (λ h. omega (arith, ap (λ z. pk z n) (le-ltb k (suc r) (omega arith)), ap (λ z. pk z n) (le-ltb k r (omega arith)), ap (λ z. pk z n) b)))
-
   sum-level : (g : ℕ → ℕ) (r : ℕ) → sum g (level rank m r) ≡ sum (λ e. pk (eqb (rank e) r) (g e)) (upTo m)
   sum-level g r = sum-keep g (λ e. eqb (rank e) r) (range 0 m) ∙ sum-range (λ e. pk (eqb (rank e) r) (g e)) m
 

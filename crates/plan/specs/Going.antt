@@ -27,7 +27,7 @@ use Rattle.rosters.specs.PlanTurns.{noPairs, pairsLeft, plan-empty, plan-long, 
 use Rattle.arrays.specs.Shown.{at, flag, shown}
 use Rattle.plan.specs.declared.PlanAnswer.the-variants.{Accepted, Refused}
 use Rattle.plan.specs.declared.PlanRead.{PlanRead}
-use Rattle.arrays.specs.Passes.{Low}
+use Rattle.arrays.specs.Passes.{Low, all-blank}
 use Rattle.plan.specs.Answers.{answerOf, ReadAs, ReadFor, pairRefusal, passed}
 
 -- ---- ascending lists with one number more
@@ -135,16 +135,6 @@ module _ (m : ℕ) (sv st qs qt file : List ℕ) where
       let l = ap length (sym (now .named)) ∙ length-map (now .ps) (edgeOfPair G) ∙ now .count in
       (omega (arith, l, now .used-s v, at-few (surveyors G) v (now .es)), omega (arith, l, now .used-t v, at-few (stands G) v (now .es)))
 
-  blank-flag : (n e : ℕ) → flag (replicate n false) e ≡ false
-  blank-flag zero e = refl
-  blank-flag (suc n) zero = refl
-  blank-flag (suc n) (suc e) = blank-flag n e
-
-  blank : (n e : ℕ) → _≡_ {A = ℕ} (at (replicate n 0) e) 0
-  blank zero e = refl
-  blank (suc n) zero = refl
-  blank (suc n) (suc e) = blank n e
-
   pub going-first : (n : ℕ) → 0 < length file → getD file 0 0 ≡ n → n ≤ planLimit → Going n 0 0 (replicate 1024 false) (replicate 64 0) (replicate 32 0) (replicate 32 0)
   going-first n l h k = record {
     ps = [];
@@ -155,10 +145,10 @@ module _ (m : ℕ) (sv st qs qt file : List ℕ) where
     ascending = tt;
     below = tt;
     small = omega arith;
-    flags = λ e. blank-flag 1024 e;
+    flags = λ e. all-blank false 1024 e;
     listed = refl;
-    used-s = λ v. blank 32 v;
-    used-t = λ v. blank 32 v;
+    used-s = λ v. all-blank 0 32 v;
+    used-t = λ v. all-blank 0 32 v;
     sizes = (length-replicate 1024 false, length-replicate {A = ℕ} 64 0, length-replicate {A = ℕ} 32 0, length-replicate {A = ℕ} 32 0);
   }
     where
