@@ -1,3 +1,0 @@
-pub mod Ranked
-pub mod Placing
-pub mod Lists
