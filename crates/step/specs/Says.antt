@@ -51,11 +51,11 @@ module _ (A : Setting) where
 
 -- ---- what the functions of a step promise, of every lawful instance with these ends, ties and orders, and every state with these remaining edges
 module _ (m : ℕ) (sv st : List ℕ) (tied : List Bool) (os ot : List ℕ) (rem : List Bool) where
-  abbrev pub settingOf : (fixed : List Bool) (kS kT : ℕ → ℕ) → Known m sv st tied os ot → Setting
-  settingOf fixed kS kT K = record { m = m; sv = sv; st = st; tied = tied; os = os; ot = ot; known = K; rem = rem; fixed = fixed; kS = kS; kT = kT }
+  abbrev pub settingOf : (quotaS quotaT : List ℕ) (fixed : List Bool) (kS kT : ℕ → ℕ) → Known m sv st tied quotaS quotaT os ot → Setting
+  settingOf quotaS quotaT fixed kS kT K = record { m = m; sv = sv; st = st; tied = tied; quotaS = quotaS; quotaT = quotaT; os = os; ot = ot; known = K; rem = rem; fixed = fixed; kS = kS; kT = kT }
 
   abbrev pub Every : (Setting → Type 0) → Type 0
-  Every P = (K : Known m sv st tied os ot) (fixed : List Bool) (kS kT : ℕ → ℕ) → P (settingOf fixed kS kT K)
+  Every P = (quotaS quotaT : List ℕ) (K : Known m sv st tied quotaS quotaT os ot) (fixed : List Bool) (kS kT : ℕ → ℕ) → P (settingOf quotaS quotaT fixed kS kT K)
 
   abbrev pub Viewed : (qs qt hs ht : List ℕ) (fs ft : List Bool) → Type 0
   Viewed qs qt hs ht fs ft = Every (λ A. Quotas A qs qt → Aheads A hs ht × Arrows A fs ft)

@@ -15,15 +15,13 @@ use Rattle.pass.specs.Filled.{Low, Made, blank}
 use Rattle.pass.specs.Mark.{marked}
 use Rattle.pass.specs.Ranks.{Lists, pass}
 
--- the edges' ends and ties, with the ranks and quotas that the code of a step does not look at: together a lawful instance, of which os
--- and ot have every node's edges by rank
-pub record Known (m : ℕ) (sv st : List ℕ) (tied : List Bool) (os ot : List ℕ) : Type 0 where
+-- the edges' ends and ties and the quotas, with the ranks, which the code of a step does not look at: together a lawful instance, of which
+-- os and ot have every node's edges by rank
+pub record Known (m : ℕ) (sv st : List ℕ) (tied : List Bool) (quotaS quotaT os ot : List ℕ) : Type 0 where
   pub ns : ℕ
   pub nt : ℕ
   pub rankS : List ℕ
   pub rankT : List ℕ
-  pub quotaS : List ℕ
-  pub quotaT : List ℕ
   pub law : Lawful (shown m ns nt sv st rankS rankT tied quotaS quotaT)
   pub byS : (v : ℕ) → Lists (surveyors (shown m ns nt sv st rankS rankT tied quotaS quotaT)) os v
   pub byT : (v : ℕ) → Lists (stands (shown m ns nt sv st rankS rankT tied quotaS quotaT)) ot v
@@ -31,8 +29,8 @@ pub record Known (m : ℕ) (sv st : List ℕ) (tied : List Bool) (os ot : List �
   pub fitS : Low m sv 32
   pub fitT : Low m st 32
 
-abbrev pub instanceOf : {m : ℕ} {sv st : List ℕ} {tied : List Bool} {os ot : List ℕ} → Known m sv st tied os ot → Instance
-instanceOf {m} {sv} {st} {tied} K = shown m (K .ns) (K .nt) sv st (K .rankS) (K .rankT) tied (K .quotaS) (K .quotaT)
+abbrev pub instanceOf : {m : ℕ} {sv st : List ℕ} {tied : List Bool} {quotaS quotaT os ot : List ℕ} → Known m sv st tied quotaS quotaT os ot → Instance
+instanceOf {m} {sv} {st} {tied} {quotaS} {quotaT} K = shown m (K .ns) (K .nt) sv st (K .rankS) (K .rankT) tied quotaS quotaT
 
 -- the state whose quotas are kS, kT
 abbrev pub stateOf : (rem fixed : List Bool) (kS kT : ℕ → ℕ) → State
@@ -44,9 +42,11 @@ pub record Setting : Type 0 where
   pub sv : List ℕ
   pub st : List ℕ
   pub tied : List Bool
+  pub quotaS : List ℕ
+  pub quotaT : List ℕ
   pub os : List ℕ
   pub ot : List ℕ
-  pub known : Known m sv st tied os ot
+  pub known : Known m sv st tied quotaS quotaT os ot
   pub rem : List Bool
   pub fixed : List Bool
   pub kS : ℕ → ℕ

@@ -19,14 +19,14 @@ pub struct View {
 
 // A rule and an edge, 8 and m if no rule acts; for rules 2 and 5 all edges that the rule names.
 pub struct Named {
-    pub rule: usize,
+    pub rule: u8,
     pub edge: usize,
     pub hit: [bool; 1024],
 }
 
 // The same with the arrows.
 pub struct Stepped {
-    pub rule: usize,
+    pub rule: u8,
     pub edge: usize,
     pub hit: [bool; 1024],
     pub fs: [bool; 1024],

@@ -22,8 +22,8 @@ first-requires c κs = search needs
 returns : tie.Need-returns
 returns c =
     let a = c .before .before .before .before .args in
-    λ os ot K fixed kS kT Q H F L C I s5.
-    let A = settingOf (a .m) (a .sv .now) (a .st .now) (a .tied .now) os ot (a .rem .now) fixed kS kT K in
+    λ os ot bs bt K fixed kS kT Q H F L C I s5.
+    let A = settingOf (a .m) (a .sv .now) (a .st .now) (a .tied .now) os ot (a .rem .now) bs bt fixed kS kT K in
     let n5 = rule5-is A (a .qs .now) (a .qt .now) (a .fs .now) (a .ft .now) Q F (a .lo .now) (c .before .before .before .named5 .result) L (c .before .before .before .named5 .ensures) in
     let x5 = lowest-is A 5 (c .before .first .result) (flag (c .before .before .before .named5 .result)) n5 (c .before .first .ensures) in
     says A 5 (c .before .first .result) (c .before .before .before .named5 .result) s5 (omega arith) x5 (c .if1 .taken) (λ q. n5)
@@ -34,8 +34,8 @@ find6-requires c κs = search needs
 returns-2 : tie.Need-returns-2
 returns-2 c =
     let a = c .before .before .before .before .before .before .args in
-    λ os ot K fixed kS kT Q H F L C I s5.
-    let A = settingOf (a .m) (a .sv .now) (a .st .now) (a .tied .now) os ot (a .rem .now) fixed kS kT K in
+    λ os ot bs bt K fixed kS kT Q H F L C I s5.
+    let A = settingOf (a .m) (a .sv .now) (a .st .now) (a .tied .now) os ot (a .rem .now) bs bt fixed kS kT K in
     let n5 = rule5-is A (a .qs .now) (a .qt .now) (a .fs .now) (a .ft .now) Q F (a .lo .now) (c .before .before .before .before .before .named5 .result) L (c .before .before .before .before .before .named5 .ensures) in
     let x5 = lowest-is A 5 (c .before .before .before .first .result) (flag (c .before .before .before .before .before .named5 .result)) n5 (c .before .before .before .first .ensures) in
     let s6 = silent A 5 (c .before .before .before .first .result) s5 x5 (c .before .before .if1 .left) in
@@ -48,8 +48,8 @@ find7-requires c κs = search needs
 returns-3 : tie.Need-returns-3
 returns-3 c =
     let a = c .before .before .before .before .before .before .before .before .args in
-    λ os ot K fixed kS kT Q H F L C I s5.
-    let A = settingOf (a .m) (a .sv .now) (a .st .now) (a .tied .now) os ot (a .rem .now) fixed kS kT K in
+    λ os ot bs bt K fixed kS kT Q H F L C I s5.
+    let A = settingOf (a .m) (a .sv .now) (a .st .now) (a .tied .now) os ot (a .rem .now) bs bt fixed kS kT K in
     let n5 = rule5-is A (a .qs .now) (a .qt .now) (a .fs .now) (a .ft .now) Q F (a .lo .now) (c .before .before .before .before .before .before .before .named5 .result) L (c .before .before .before .before .before .before .before .named5 .ensures) in
     let x5 = lowest-is A 5 (c .before .before .before .before .before .first .result) (flag (c .before .before .before .before .before .before .before .named5 .result)) n5 (c .before .before .before .before .before .first .ensures) in
     let s6 = silent A 5 (c .before .before .before .before .before .first .result) s5 x5 (c .before .before .before .before .if1 .left) in
@@ -61,8 +61,8 @@ returns-3 c =
 returns-4 : tie.Need-returns-4
 returns-4 c =
     let a = c .before .before .before .before .before .before .before .before .args in
-    λ os ot K fixed kS kT Q H F L C I s5.
-    let A = settingOf (a .m) (a .sv .now) (a .st .now) (a .tied .now) os ot (a .rem .now) fixed kS kT K in
+    λ os ot bs bt K fixed kS kT Q H F L C I s5.
+    let A = settingOf (a .m) (a .sv .now) (a .st .now) (a .tied .now) os ot (a .rem .now) bs bt fixed kS kT K in
     let n5 = rule5-is A (a .qs .now) (a .qt .now) (a .fs .now) (a .ft .now) Q F (a .lo .now) (c .before .before .before .before .before .before .before .named5 .result) L (c .before .before .before .before .before .before .before .named5 .ensures) in
     let x5 = lowest-is A 5 (c .before .before .before .before .before .first .result) (flag (c .before .before .before .before .before .before .before .named5 .result)) n5 (c .before .before .before .before .before .first .ensures) in
     let s6 = silent A 5 (c .before .before .before .before .before .first .result) s5 x5 (c .before .before .before .before .if1 .left) in

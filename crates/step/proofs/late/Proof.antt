@@ -29,8 +29,8 @@ find3-requires c κs =
 returns : tie.Need-returns
 returns c =
     let a = c .before .before .before .before .before .before .before .args in
-    λ ot K fixed kS kT Q H F s3.
-    let A = settingOf (a .m) (a .sv .now) (a .st .now) (a .tied .now) (a .os .now) ot (a .rem .now) fixed kS kT K in
+    λ ot bs bt K fixed kS kT Q H F s3.
+    let A = settingOf (a .m) (a .sv .now) (a .st .now) (a .tied .now) (a .os .now) ot (a .rem .now) bs bt fixed kS kT K in
     let I = got-are A (a .qs .now) (a .qt .now) (a .fs .now) (a .ft .now) Q F (c .before .before .before .before .before .tally .result) (c .before .before .before .before .before .tally .ensures) in
     let O = sent-are A (a .qs .now) (a .qt .now) (a .fs .now) (a .ft .now) Q F (c .before .before .before .before .tally2 .result) (c .before .before .before .before .tally2 .ensures) in
     let x3 = lowest-is A 3 (c .before .find3 .result) (λ e. flag (a .rem .now) e && (flag (a .fs .now) e && leb (at (c .before .before .before .before .before .tally .result) (at (a .st .now) e) + at (c .before .before .before .before .tally2 .result) (at (a .st .now) e)) (at (a .qt .now) (at (a .st .now) e)))) (rule3-is A (a .qs .now) (a .qt .now) (a .fs .now) (a .ft .now) Q F (c .before .before .before .before .before .tally .result) (c .before .before .before .before .tally2 .result) I O) (c .before .find3 .ensures) in
@@ -54,8 +54,8 @@ find4-requires c κs = (c .before .before .before .before .before .before .befor
 returns-2 : tie.Need-returns-2
 returns-2 c =
     let a = c .before .before .before .before .before .before .before .before .before .before .before .before .before .before .before .before .before .before .before .before .before .args in
-    λ ot K fixed kS kT Q H F s3.
-    let A = settingOf (a .m) (a .sv .now) (a .st .now) (a .tied .now) (a .os .now) ot (a .rem .now) fixed kS kT K in
+    λ ot bs bt K fixed kS kT Q H F s3.
+    let A = settingOf (a .m) (a .sv .now) (a .st .now) (a .tied .now) (a .os .now) ot (a .rem .now) bs bt fixed kS kT K in
     let I = got-are A (a .qs .now) (a .qt .now) (a .fs .now) (a .ft .now) Q F (c .before .before .before .before .before .before .before .before .before .before .before .before .before .before .before .before .before .before .before .tally .result) (c .before .before .before .before .before .before .before .before .before .before .before .before .before .before .before .before .before .before .before .tally .ensures) in
     let O = sent-are A (a .qs .now) (a .qt .now) (a .fs .now) (a .ft .now) Q F (c .before .before .before .before .before .before .before .before .before .before .before .before .before .before .before .before .before .before .tally2 .result) (c .before .before .before .before .before .before .before .before .before .before .before .before .before .before .before .before .before .before .tally2 .ensures) in
     let x3 = lowest-is A 3 (c .before .before .before .before .before .before .before .before .before .before .before .before .before .before .before .find3 .result) (λ e. flag (a .rem .now) e && (flag (a .fs .now) e && leb (at (c .before .before .before .before .before .before .before .before .before .before .before .before .before .before .before .before .before .before .before .tally .result) (at (a .st .now) e) + at (c .before .before .before .before .before .before .before .before .before .before .before .before .before .before .before .before .before .before .tally2 .result) (at (a .st .now) e)) (at (a .qt .now) (at (a .st .now) e)))) (rule3-is A (a .qs .now) (a .qt .now) (a .fs .now) (a .ft .now) Q F (c .before .before .before .before .before .before .before .before .before .before .before .before .before .before .before .before .before .before .before .tally .result) (c .before .before .before .before .before .before .before .before .before .before .before .before .before .before .before .before .before .before .tally2 .result) I O) (c .before .before .before .before .before .before .before .before .before .before .before .before .before .before .before .find3 .ensures) in
@@ -72,8 +72,8 @@ last-requires c κs = c .before .before .before .before .before .before .before 
 returns-3 : tie.Need-returns-3
 returns-3 c =
     let a = c .before .before .before .before .before .before .before .before .before .before .before .before .before .before .before .before .before .before .before .before .before .before .before .before .before .args in
-    λ ot K fixed kS kT Q H F s3.
-    let A = settingOf (a .m) (a .sv .now) (a .st .now) (a .tied .now) (a .os .now) ot (a .rem .now) fixed kS kT K in
+    λ ot bs bt K fixed kS kT Q H F s3.
+    let A = settingOf (a .m) (a .sv .now) (a .st .now) (a .tied .now) (a .os .now) ot (a .rem .now) bs bt fixed kS kT K in
     let I = got-are A (a .qs .now) (a .qt .now) (a .fs .now) (a .ft .now) Q F (c .before .before .before .before .before .before .before .before .before .before .before .before .before .before .before .before .before .before .before .before .before .before .before .tally .result) (c .before .before .before .before .before .before .before .before .before .before .before .before .before .before .before .before .before .before .before .before .before .before .before .tally .ensures) in
     let O = sent-are A (a .qs .now) (a .qt .now) (a .fs .now) (a .ft .now) Q F (c .before .before .before .before .before .before .before .before .before .before .before .before .before .before .before .before .before .before .before .before .before .before .tally2 .result) (c .before .before .before .before .before .before .before .before .before .before .before .before .before .before .before .before .before .before .before .before .before .before .tally2 .ensures) in
     let x3 = lowest-is A 3 (c .before .before .before .before .before .before .before .before .before .before .before .before .before .before .before .before .before .before .before .find3 .result) (λ e. flag (a .rem .now) e && (flag (a .fs .now) e && leb (at (c .before .before .before .before .before .before .before .before .before .before .before .before .before .before .before .before .before .before .before .before .before .before .before .tally .result) (at (a .st .now) e) + at (c .before .before .before .before .before .before .before .before .before .before .before .before .before .before .before .before .before .before .before .before .before .before .tally2 .result) (at (a .st .now) e)) (at (a .qt .now) (at (a .st .now) e)))) (rule3-is A (a .qs .now) (a .qt .now) (a .fs .now) (a .ft .now) Q F (c .before .before .before .before .before .before .before .before .before .before .before .before .before .before .before .before .before .before .before .before .before .before .before .tally .result) (c .before .before .before .before .before .before .before .before .before .before .before .before .before .before .before .before .before .before .before .before .before .before .tally2 .result) I O) (c .before .before .before .before .before .before .before .before .before .before .before .before .before .before .before .before .before .before .before .find3 .ensures) in
@@ -83,7 +83,7 @@ returns-3 c =
     let C = sizes-are A (c .before .before .before .before .before .before .before .before .before .before .before .before .before .reserved .result) (c .before .before .before .before .before .before .before .before .before .before .before .tally3 .result) R (c .before .before .before .before .before .before .before .before .before .before .before .tally3 .ensures) in
     let x4 = lowest-is A 4 (c .before .before .before .before .before .find4 .result) (λ e. flag (a .rem .now) e && (flag (c .before .before .before .before .before .before .before .before .before .before .before .before .before .reserved .result) e && (ltb (at (a .qs .now) (at (a .sv .now) e)) (at (c .before .before .before .before .before .before .before .before .before .before .before .tally3 .result) (at (a .sv .now) e)) && eqb (at (c .before .before .before .before .before .before .before .before .before .mark .result) e + 1) (at (c .before .before .before .before .before .before .before .before .before .before .before .tally3 .result) (at (a .sv .now) e))))) (rule4-is A (a .qs .now) (a .qt .now) (a .fs .now) (a .ft .now) Q F (c .before .before .before .before .before .before .before .before .before .before .before .before .before .reserved .result) (c .before .before .before .before .before .before .before .before .before .before .before .tally3 .result) (c .before .before .before .before .before .before .before .before .before .mark .result) R C (c .before .before .before .before .before .before .before .before .before .mark .ensures .0)) (c .before .before .before .before .before .find4 .ensures) in
     let s5 = silent A 4 (c .before .before .before .before .before .find4 .result) s4 x4 (c .before .before .before .before .if2 .left) in
-    c .last .ensures (a .os .now) ot K fixed kS kT Q H F L C I s5
+    c .last .ensures (a .os .now) ot bs bt K fixed kS kT Q H F L C I s5
 
 pub late-spec : {M : Type 1} → statement M
 late-spec =

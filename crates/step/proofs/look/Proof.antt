@@ -25,8 +25,8 @@ arrows-requires-2 c κs = (c .before .before .before .before .before .before .be
 returns : tie.Need-returns
 returns c =
     let a = c .before .before .before .before .before .before .before .before .before .before .before .args in
-    λ K fixed kS kT Q.
-    let A = settingOf (a .m) (a .sv .now) (a .st .now) (a .tied .now) (a .os .now) (a .ot .now) (a .rem .now) fixed kS kT K in
+    λ bs bt K fixed kS kT Q.
+    let A = settingOf (a .m) (a .sv .now) (a .st .now) (a .tied .now) (a .os .now) (a .ot .now) (a .rem .now) bs bt fixed kS kT K in
     let H = aheads-are A (c .before .before .before .before .before .before .before .strict .result) (c .before .before .before .before .before .before .before .before .mark .result) (c .before .before .before .before .before .mark2 .result) (c .before .before .before .before .before .before .before .before .mark .ensures .0) (c .before .before .before .before .before .before .before .strict .ensures) (c .before .before .before .before .before .mark2 .ensures .0) in
     (H, arrows-are A (c .before .before .before .before .before .before .before .strict .result) (c .before .before .before .arrows .result) (c .arrows2 .result) (a .qs .now) (a .qt .now) (c .before .before .before .before .before .before .before .before .mark .result) (c .before .before .before .before .before .mark2 .result) Q H (c .before .before .before .before .before .before .before .strict .ensures) (c .before .before .before .arrows .ensures) (c .arrows2 .ensures))
 

@@ -22,8 +22,8 @@ named2-requires c κs = search needs
 returns : tie.Need-returns
 returns c =
     let a = c .before .before .before .before .before .before .before .before .before .args in
-    λ K fixed kS kT Q F.
-    rule2-is (settingOf (a .m) (a .sv .now) (a .st .now) (a .tied .now) (a .os .now) (a .ot .now) (a .rem .now) fixed kS kT K) (a .qs .now) (a .qt .now) (a .fs .now) (a .ft .now) Q F (c .before .before .before .before .before .before .mark .result) (c .before .before .before .mark2 .result) (c .before .before .before .before .before .strict .result) (c .named2 .result)
+    λ bs bt K fixed kS kT Q F.
+    rule2-is (settingOf (a .m) (a .sv .now) (a .st .now) (a .tied .now) (a .os .now) (a .ot .now) (a .rem .now) bs bt fixed kS kT K) (a .qs .now) (a .qt .now) (a .fs .now) (a .ft .now) Q F (c .before .before .before .before .before .before .mark .result) (c .before .before .before .mark2 .result) (c .before .before .before .before .before .strict .result) (c .named2 .result)
     (c .before .before .before .before .before .before .mark .ensures .0) (c .before .before .before .before .before .strict .ensures) (c .before .before .before .mark2 .ensures .0) (c .named2 .ensures)
 
 pub second-spec : {M : Type 1} → statement M
