@@ -30,7 +30,7 @@ pub record Lists (K : Side) (xs : List ℕ) (v : ℕ) : Type 0 where
   pub below : All (λ e. e < K .m) xs
 
 -- ---- lists
-all-map : (P Q : ℕ → Type 0) (xs : List ℕ) → ((x : ℕ) → P x → Q x) → All P xs → All Q xs
+pub all-map : (P Q : ℕ → Type 0) (xs : List ℕ) → ((x : ℕ) → P x → Q x) → All P xs → All Q xs
 all-map P Q [] f h = tt
 all-map P Q (x ∷ xs) f h = (f x (h .0), all-map P Q xs f (h .1))
 
