@@ -2,3 +2,4 @@ pub mod Diary
 pub mod Outcome
 pub mod Acted
 pub mod Boards
+pub mod Given

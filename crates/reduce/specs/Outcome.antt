@@ -9,7 +9,8 @@ use Rattle.model.specs.Instance.{Instance}
 use Rattle.model.specs.Reduction.{State, Step, ruleOf, stepOf, next, begin, stepsFrom, stateAfter, stepsOf, endOf}
 use Rattle.model.specs.Finder.{recordOf, diaryOf}
 use Rattle.reduction.specs.Course.{after-more, steps-more, after-none, steps-none, steps-few}
-use Rattle.arrays.specs.Shown.{flag}
+use Rattle.graph.specs.Lawful.{Lawful}
+use Rattle.arrays.specs.Shown.{flag, shown}
 use Rattle.step.specs.View.{stateOf}
 use Rattle.reduce.specs.Diary.{written, put, laid, laid-is}
 
@@ -69,3 +70,8 @@ reduced G d rem fixed kS kT steps d′ h e = let q = sym e ∙ whole G d h in re
   rem-is = λ x. ap (λ (o : Outcome). o .end .rem x) q;
   fixed-is = λ x. ap (λ (o : Outcome). o .end .fixed x) q;
 }
+
+-- the same of every lawful instance that the arrays show
+abbrev pub ReducedFrom : (m : ℕ) (sv st rankS rankT : List ℕ) (tied : List Bool) (quotaS quotaT d : List ℕ) (rem fixed : List Bool) (steps : ℕ) (d′ : List ℕ) → Type 0
+ReducedFrom m sv st rankS rankT tied quotaS quotaT d rem fixed steps d′ = (ns nt : ℕ) → Lawful (shown m ns nt sv st rankS rankT tied quotaS quotaT)
+    → Reduced (shown m ns nt sv st rankS rankT tied quotaS quotaT) d rem fixed steps d′

@@ -12,10 +12,11 @@ ghost use Rattle.arrays.specs.Shown.{at, flag};
 ghost use Rattle.pass.specs.Filled.{Low};
 ghost use Rattle.step.specs.View.{Known, instanceOf};
 ghost use Rattle.reduce.specs.Diary.{put, entry};
-ghost use Rattle.reduce.specs.Outcome.{Reduced};
+ghost use Rattle.model.specs.Limits.{emptyRank};
+ghost use Rattle.reduce.specs.Outcome.{Reduced, ReducedFrom};
 ghost use Rattle.reduce.specs.Boards.{acted, Started};
 
-// The arrays of a state: remaining and fixed edges; by node, the cut quotas and the numbers of remaining edges.
+// The arrays of a state: remaining and fixed edges; by node, the cut quotaS and the numbers of remaining edges.
 pub struct Board {
     pub rem: [bool; 1024],
     pub fixed: [bool; 1024],
@@ -121,17 +122,17 @@ pub fn start(
     m: usize,
     sv: &[u8; 1024],
     st: &[u8; 1024],
-    quotas: &[u8; 32],
-    quotat: &[u8; 32],
+    quotaS: &[u8; 32],
+    quotaT: &[u8; 32],
 ) -> Board
     requires { ⌜ (m ≤ 1024) × Low m (now sv) 32 × Low m (now st) 32 ⌝ }
-    ensures { λ r. ⌜ Started m (now (sv .entry)) (now (st .entry)) (now (quotas .entry)) (now (quotat .entry)) r ⌝ }
+    ensures { λ r. ⌜ Started m (now (sv .entry)) (now (st .entry)) (now (quotaS .entry)) (now (quotaT .entry)) r ⌝ }
 {
     let rem = all(m);
     let ds = pass::tally(m, sv, &rem);
     let dt = pass::tally(m, st, &rem);
-    let qs = pass::cuts(quotas, &ds);
-    let qt = pass::cuts(quotat, &dt);
+    let qs = pass::cuts(quotaS, &ds);
+    let qt = pass::cuts(quotaT, &dt);
     Board {
         rem: rem,
         fixed: [false; 1024],
@@ -147,8 +148,8 @@ pub fn run(
     sv: &[u8; 1024],
     st: &[u8; 1024],
     tied: &[bool; 1024],
-    quotas: &[u8; 32],
-    quotat: &[u8; 32],
+    quotaS: &[u8; 32],
+    quotaT: &[u8; 32],
     os: &[u16],
     ot: &[u16],
     diary: &mut [u8],
@@ -157,9 +158,9 @@ pub fn run(
     requires { ⌜ (length (now os) ≤ 1024) × Low (length (now os)) (now os) 1024 × ((k : ℕ) → k < length (now os) → at (now sv) (at (now os) k) < 32) ⌝ }
     requires { ⌜ (length (now ot) ≤ 1024) × Low (length (now ot)) (now ot) 1024 × ((k : ℕ) → k < length (now ot) → at (now st) (at (now ot) k) < 32) ⌝ }
     requires { ⌜ 4096 ≤ length (now diary) ⌝ }
-    ensures { λ r. ⌜ ((K : Known m (now (sv .entry)) (now (st .entry)) (now (tied .entry)) (now (quotas .entry)) (now (quotat .entry)) (now (os .entry)) (now (ot .entry))) → Reduced (instanceOf K) (now (diary .entry)) (r .board .rem) (r .board .fixed) (r .steps) (now (diary .exit))) ⌝ }
+    ensures { λ r. ⌜ ((K : Known m (now (sv .entry)) (now (st .entry)) (now (tied .entry)) (now (quotaS .entry)) (now (quotaT .entry)) (now (os .entry)) (now (ot .entry))) → Reduced (instanceOf K) (now (diary .entry)) (r .board .rem) (r .board .fixed) (r .steps) (now (diary .exit))) ⌝ }
 {
-    let mut x = start(m, sv, st, quotas, quotat);
+    let mut x = start(m, sv, st, quotaS, quotaT);
     let mut n = 0;
     while n < m {
         let rem = x.rem;
@@ -177,4 +178,34 @@ pub fn run(
         n += 1;
     }
     Ran { board: x, steps: n }
+}
+
+// All steps of an instance, from the ranks of its edges.
+pub fn reduce(
+    m: usize,
+    sv: &[u8; 1024],
+    st: &[u8; 1024],
+    rankS: &[u8; 1024],
+    rankT: &[u8; 1024],
+    tied: &[bool; 1024],
+    quotaS: &[u8; 32],
+    quotaT: &[u8; 32],
+    diary: &mut [u8],
+) -> Ran
+    requires { ⌜ (m ≤ 1024) × Low m (now sv) 32 × Low m (now st) 32 × Low m (now rankS) emptyRank × Low m (now rankT) emptyRank × (4096 ≤ length (now diary)) ⌝ }
+    ensures { λ r. ⌜ ReducedFrom m (now (sv .entry)) (now (st .entry)) (now (rankS .entry)) (now (rankT .entry)) (now (tied .entry)) (now (quotaS .entry)) (now (quotaT .entry)) (now (diary .entry)) (r .board .rem) (r .board .fixed) (r .steps) (now (diary .exit)) ⌝ }
+{
+    let os = order::by_rank(m, rankS);
+    let ot = order::by_rank(m, rankT);
+    run(
+        m,
+        sv,
+        st,
+        tied,
+        quotaS,
+        quotaT,
+        &os[..m],
+        &ot[..m],
+        &mut *diary,
+    )
 }

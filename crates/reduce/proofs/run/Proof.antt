@@ -12,11 +12,11 @@ use Rattle.reduce.proofs.run.Statement.{statement}
 use Rattle.reduce.proofs.run.Tie as tie
 
 abbrev Inv-loop : tie.InvT-loop
-Inv-loop m sv st tied quotas quotat os ot diary₀ x₀ n₀ diary x n =
-    (n ≤ m) × (length diary ≡ length diary₀) × Sized x × ((K : Known m sv st tied quotas quotat os ot) → Stands (instanceOf K) diary₀ n x diary)
+Inv-loop m sv st tied quotaS quotaT os ot diary₀ x₀ n₀ diary x n =
+    (n ≤ m) × (length diary ≡ length diary₀) × Sized x × ((K : Known m sv st tied quotaS quotaT os ot) → Stands (instanceOf K) diary₀ n x diary)
 
 abbrev μ-loop : tie.MeasureT-loop
-μ-loop m sv st tied quotas quotat os ot diary₀ x₀ n₀ diary x n = m - n
+μ-loop m sv st tied quotaS quotaT os ot diary₀ x₀ n₀ diary x n = m - n
 
 start-requires : tie.Need-start-requires Inv-loop μ-loop
 start-requires c κs = c .before .before .before .pre .0
@@ -38,7 +38,7 @@ returns c =
     let n = c .before .before .before .before .before .before .before .before .before .loop .n in
     let d = c .before .before .before .before .before .before .before .before .before .loop .diary in
     let a = c .before .before .before .before .before .before .before .before .before .before .before .before .before .before .args in
-    let y = c .before .step .ensures (a .quotas .now) (a .quotat .now) K (x .fixed) (S .kS) (S .kT) (record { atS = S .holds .atS .cut-is; atT = S .holds .atT .cut-is }) .0 in
+    let y = c .before .step .ensures (a .quotaS .now) (a .quotaT .now) K (x .fixed) (S .kS) (S .kT) (record { atS = S .holds .atS .cut-is; atT = S .holds .atT .cut-is }) .0 in
     stands-end K (a .diary .now) n x d S (omega (arith, y .edge-is, c .if1 .taken)) (omega (arith, c .before .before .before .before .before .before .before .before .before .before .before .before .before .before .pre .0 .0, c .before .before .before .before .before .before .before .before .before .before .before .before .before .before .pre .1 .1 .1))
 
 element-copy-out-note : tie.Need-element-copy-out-note Inv-loop μ-loop
@@ -73,7 +73,7 @@ loop-again c =
           let n = c .before .before .before .before .before .before .before .before .before .before .before .before .before .before .before .before .loop .n in
           let d = c .before .before .before .before .before .before .before .before .before .before .before .before .before .before .before .before .loop .diary in
           let a = c .before .before .before .before .before .before .before .before .before .before .before .before .before .before .before .before .before .before .before .before .before .args in
-          let y = c .before .before .before .before .before .before .before .before .step .ensures (a .quotas .now) (a .quotat .now) K (x .fixed) (S .kS) (S .kT) (record { atS = S .holds .atS .cut-is; atT = S .holds .atT .cut-is }) .0 in
+          let y = c .before .before .before .before .before .before .before .before .step .ensures (a .quotaS .now) (a .quotaT .now) K (x .fixed) (S .kS) (S .kT) (record { atS = S .holds .atS .cut-is; atT = S .holds .atT .cut-is }) .0 in
           subst (λ z. Stands (instanceOf K) (a .diary .now) (n + 1) z (c .before .before .before .note .last .0)) (sym (c .act .ensures))
           (subst (λ w. Stands (instanceOf K) (a .diary .now) (n + 1) (acted (a .sv .now) (a .st .now) x (c .before .before .before .before .before .before .before .before .step .result .rule) e) w) (sym (c .before .before .before .note .ensures))
           (stands-next K (a .diary .now) n x d S (c .before .before .before .before .before .before .before .before .step .result .rule) e (y .rule-is) (y .edge-is) (c .before .before .before .before .before .before .before .if1 .left) (c .before .before .before .before .before .before .before .before .before .before .before .before .before .before .before .loop-test .taken) (l .inv .2))),
