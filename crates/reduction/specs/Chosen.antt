@@ -63,6 +63,16 @@ module _ (G : Instance) (Z : State) where
         earlier = earlier-quiet;
       }
 
+  -- whether one acts is seen from the edge too
+  pub edge-acts : edgeOf G Z < G .m → ruleOf G Z < 8
+  unfolding edgeOf lowest
+  edge-acts l =
+      let t = low-is (λ e. Z .rem e && names G Z (ruleOf G Z) e) (G .m) .2 l in
+      omega (arith, names-range (ruleOf G Z) (edgeOf G Z) (and-r (Z .rem (edgeOf G Z)) (names G Z (ruleOf G Z) (edgeOf G Z)) t))
+
+  pub edge-none : G .m ≤ edgeOf G Z → 8 ≤ ruleOf G Z
+  edge-none h = by-cases (decLt (ruleOf G Z) 8) (λ k. absurd (omega (arith, acts k .inside))) (λ k. omega arith)
+
   -- where none acts, none names a remaining edge
   pub all-quiet : 8 ≤ ruleOf G Z → (r : ℕ) → Quiet G Z (names G Z r)
   all-quiet h r = by-cases (decLt r 8)

@@ -9,8 +9,9 @@ use mathlib.Core.Logic.{_⊎_, inl, inr, by-cases}
 use mathlib.Core.Bool.{Bool, true, false, not, _&&_, _||_, and-true, or-false, or-assoc}
 use mathlib.Core.List.{List, [], _∷_, map, List·Memᴰ·head, List·Memᴰ·tail, List·Memᴰ·not-nil, Memᴰ·of-map}
 use lib.ListN.{length, length-map}
-use lib.Dec.{T, ltb, eqb, ltb→lt, lt→ltb, nltb→le, eqb-refl, T-not, not-T}
-use Rattle.lists.specs.Test.{T-true, given, and-l, and-r, and-nor, eq→eqb}
+use lib.Dec.{T, ltb, eqb, ltb→lt, nltb→le, eqb-refl, T-not, not-T}
+use borrow.Author.Tests.{lt-ltb, le-ltb}
+use Rattle.lists.specs.Test.{given, and-l, and-r, and-nor, eq→eqb}
 use Rattle.lists.specs.Sum.{_∈_, count, count-sub-lt, count-≤}
 use Rattle.lists.specs.Keep.{any?}
 use Rattle.lists.specs.Distinct.{Nodup, nodup-below}
@@ -45,9 +46,24 @@ module _ (G : Instance) where
   end-matching = given (sound-after (G .m)) (λ S. record { atS = S .atS .within; atT = S .atT .within })
 
   -- ---- each step is that of the state before it
-  after-more : (n : ℕ) (Z : State) → ruleOf G Z < 8 → stateAfter G (suc n) Z ≡ stateAfter G n (next G Z)
+  pub after-more : (n : ℕ) (Z : State) → ruleOf G Z < 8 → stateAfter G (suc n) Z ≡ stateAfter G n (next G Z)
   unfolding stateAfter
-  after-more n Z h = ap (λ b. elim b as (λ b. State) [ true ↦ stateAfter G n (next G Z) | false ↦ Z ]) (T-true {b = ltb (ruleOf G Z) 8} (lt→ltb (ruleOf G Z) 8 h))
+  after-more n Z h = ap (λ b. elim b as (λ b. State) [ true ↦ stateAfter G n (next G Z) | false ↦ Z ]) (lt-ltb (ruleOf G Z) 8 h)
+
+  pub steps-more : (n : ℕ) (Z : State) → ruleOf G Z < 8 → stepsFrom G (suc n) Z ≡ stepOf G Z ∷ stepsFrom G n (next G Z)
+  unfolding stepsFrom
+  steps-more n Z h = ap (λ b. elim b as (λ b. List Step) [ true ↦ stepOf G Z ∷ stepsFrom G n (next G Z) | false ↦ [] ]) (lt-ltb (ruleOf G Z) 8 h)
+
+  -- and where no rule acts there is none
+  pub after-none : (n : ℕ) (Z : State) → 8 ≤ ruleOf G Z → stateAfter G n Z ≡ Z
+  unfolding stateAfter
+  after-none zero Z h = refl
+  after-none (suc n) Z h = ap (λ b. elim b as (λ b. State) [ true ↦ stateAfter G n (next G Z) | false ↦ Z ]) (le-ltb (ruleOf G Z) 8 h)
+
+  pub steps-none : (n : ℕ) (Z : State) → 8 ≤ ruleOf G Z → stepsFrom G n Z ≡ []
+  unfolding stepsFrom
+  steps-none zero Z h = refl
+  steps-none (suc n) Z h = ap (λ b. elim b as (λ b. List Step) [ true ↦ stepOf G Z ∷ stepsFrom G n (next G Z) | false ↦ [] ]) (le-ltb (ruleOf G Z) 8 h)
 
   -- s is the step that a rule takes after some number of steps
   abbrev pub Taken : State → Step → Type 0

@@ -1,0 +1,5 @@
+pub mod Diary
+pub mod Outcome
+pub mod Acted
+pub mod Boards
+pub mod Given
