@@ -1,0 +1,49 @@
+/* The crew planner's proved calls, for C. Rosters and plans are files in document 01's bytes; a slice is a pointer and a length. A
+   refusal is document 01's number, 0 for none. On a refusal no byte of any buffer changes; beyond what is written a buffer keeps its
+   bytes. What each call promises is its contract in crates/abi/src/lib.rt. Link with target/staticlib/libabi.a (rt staticlib abi). */
+#ifndef CREW_H
+#define CREW_H
+
+#include <stddef.h>
+#include <stdint.h>
+
+#ifdef __cplusplus
+extern "C" {
+#endif
+
+/* sizes that buffers need, however little is written */
+#define CREW_ROSTER_BYTES 2214
+#define CREW_PLAN_BYTES 129
+#define CREW_PAIRS_BYTES 5120
+
+/* a refusal, or 0 and the length written */
+struct crew_outcome {
+    uint8_t refusal;
+    size_t length;
+};
+
+/* the group of a refusal: 1 form, 2 content, 3 plan, 4 desk */
+uint8_t crew_group(uint8_t number);
+
+/* a roster file: its refusal, 0 if it is accepted */
+uint8_t crew_read_roster(const uint8_t *file, size_t file_len);
+
+/* writes the roster of a file to the front of out, which has at least CREW_ROSTER_BYTES (else 15) */
+struct crew_outcome crew_write_roster(const uint8_t *file, size_t file_len, uint8_t *out, size_t out_len);
+
+/* the pairs of a roster, ascending, five bytes each: surveyor, stand, rank at the surveyor, rank at the stand, tied (1 or 0); out has at
+   least CREW_PAIRS_BYTES (else 15) */
+struct crew_outcome crew_pairs(const uint8_t *roster, size_t roster_len, uint8_t *out, size_t out_len);
+
+/* a plan file against a roster, which is judged first: the refusal, 0 if both are accepted */
+uint8_t crew_read_plan(const uint8_t *roster, size_t roster_len, const uint8_t *file, size_t file_len);
+
+/* writes the plan of a file to the front of out, which has at least CREW_PLAN_BYTES (else 15) */
+struct crew_outcome crew_write_plan(const uint8_t *roster, size_t roster_len, const uint8_t *file, size_t file_len, uint8_t *out,
+                                    size_t out_len);
+
+#ifdef __cplusplus
+}
+#endif
+
+#endif

@@ -1,0 +1,113 @@
+//! How long the proved calls take, against the reference written for speed:
+//! same machine, same input, both built for release. Each time is the least of
+//! several rounds, in microseconds a call; the ratio is ours to theirs.
+//!
+//! Run with `cargo run --release --offline --bin bench`.
+
+use std::hint::black_box;
+use std::time::Instant;
+
+use reference::fast;
+use reference::plan;
+use reference::random::{self, Random, Shape};
+use reference::roster;
+
+const ROUNDS: usize = 15;
+
+/// The least time of a call over some rounds, in microseconds.
+fn time(calls: usize, mut call: impl FnMut()) -> f64 {
+    let mut least = f64::MAX;
+    for _ in 0..ROUNDS {
+        let start = Instant::now();
+        for _ in 0..calls {
+            call();
+        }
+        least = least.min(start.elapsed().as_secs_f64() * 1e6 / calls as f64);
+    }
+    least
+}
+
+fn report(what: &str, ours: f64, theirs: f64) {
+    let ratio = ours / theirs;
+    println!("| {what} | {ours:.2} | {theirs:.2} | {ratio:.2} |");
+}
+
+/// The longest roster: 32 by 32 nodes, all pairs, quotas that sum to 64.
+fn longest(random: &mut Random) -> roster::Roster {
+    random::roster(
+        random,
+        &Shape {
+            counts: [32..=32, 32..=32],
+            quotas: [2..=2, 2..=2],
+            pairs: 100,
+            ties: 50,
+            opposed: 20,
+        },
+    )
+}
+
+fn main() {
+    let mut random = Random::new(7);
+    let longest = longest(&mut random);
+    let file = roster::write(&longest);
+    assert_eq!(file.len(), planner::ROSTER_BYTES);
+    let chosen = loop {
+        let chosen = random::plan(&mut random, &longest, 100);
+        if chosen.indices().len() == 64 {
+            break plan::write(&longest, &chosen);
+        }
+    };
+    let instance = fast::roster::read(&file).expect("accepted");
+    let mut out = vec![0; planner::ROSTER_BYTES];
+
+    println!("| call | proved, us | reference, us | ratio |");
+    println!("|---|---|---|---|");
+    report(
+        "read the longest roster (2,214 bytes)",
+        time(200, || {
+            black_box(planner::read_roster(black_box(&file))).expect("accepted");
+        }),
+        time(200, || {
+            black_box(fast::roster::read(black_box(&file))).expect("accepted");
+        }),
+    );
+    report(
+        "read and write the longest roster",
+        time(200, || {
+            black_box(planner::write_roster(black_box(&file), &mut out)).expect("accepted");
+        }),
+        time(200, || {
+            black_box(fast::roster::read(black_box(&file))).expect("accepted");
+            out[..file.len()].copy_from_slice(black_box(&file));
+        }),
+    );
+    report(
+        "read a 64-pair plan, with its roster",
+        time(200, || {
+            black_box(planner::read_plan(black_box(&file), black_box(&chosen))).expect("accepted");
+        }),
+        time(200, || {
+            let instance = fast::roster::read(black_box(&file)).expect("accepted");
+            black_box(fast::plan::read(&instance, black_box(&chosen))).expect("accepted");
+        }),
+    );
+    report(
+        "read and write a 64-pair plan, with its roster",
+        time(200, || {
+            black_box(planner::write_plan(black_box(&file), black_box(&chosen), &mut out))
+                .expect("accepted");
+        }),
+        time(200, || {
+            let instance = fast::roster::read(black_box(&file)).expect("accepted");
+            let plan = fast::plan::read(&instance, black_box(&chosen)).expect("accepted");
+            black_box(fast::plan::write(&instance, &plan, &mut out));
+        }),
+    );
+    println!();
+    println!(
+        "the reference's plan reading alone, without the roster: {:.2} us",
+        time(2_000, || {
+            black_box(fast::plan::read(&instance, black_box(&chosen))).expect("accepted");
+        })
+    );
+}

@@ -1,0 +1,281 @@
+//! The proved readers and writers against the reference: every answer, and
+//! every byte of every buffer, which are filled with junk first.
+
+use reference::plan;
+use reference::random::{self, Random, Shape};
+use reference::roster::{self, Roster, Side};
+use reference::votes;
+
+/// How often each refusal occurred, 0 for accepted.
+#[derive(Default)]
+struct Met([usize; 16]);
+
+impl Met {
+    fn count(&mut self, number: u8) {
+        self.0[usize::from(number)] += 1;
+    }
+
+    fn require(&self, numbers: &[usize], least: usize) {
+        println!("accepted and refusals met: {:?}", self.0);
+        for &number in numbers {
+            assert!(self.0[number] >= least, "refusal {number} is too rare");
+        }
+    }
+}
+
+fn number<T>(answer: &Result<T, planner::Refusal>) -> u8 {
+    answer.as_ref().err().map_or(0, |refusal| refusal.number)
+}
+
+fn same_group(refusal: planner::Refusal, other: reference::refusal::Refusal) -> bool {
+    use planner::Group as Ours;
+    use reference::refusal::Group as Theirs;
+    matches!(
+        (refusal.group, other.group()),
+        (Ours::Form, Theirs::Form)
+            | (Ours::Content, Theirs::Content)
+            | (Ours::Plan, Theirs::Plan)
+            | (Ours::Desk, Theirs::Desk)
+    )
+}
+
+/// A buffer of junk: no two neighbours alike.
+fn junk(random: &mut Random, length: usize) -> Vec<u8> {
+    let start = random.below(250);
+    (0..length).map(|place| ((start + 37 * place) % 251) as u8).collect()
+}
+
+/// Holds what was written against what should be there: the front written, the
+/// rest as it was; on a refusal everything as it was.
+fn check_written(
+    answer: Result<usize, planner::Refusal>,
+    expected: Result<Vec<u8>, u8>,
+    before: &[u8],
+    after: &[u8],
+) {
+    match expected {
+        Ok(front) => {
+            assert_eq!(answer, Ok(front.len()));
+            assert_eq!(after[..front.len()], front);
+            assert_eq!(after[front.len()..], before[front.len()..]);
+        }
+        Err(expected) => {
+            assert_eq!(number(&answer), expected);
+            assert_eq!(after, before);
+        }
+    }
+}
+
+/// Reads and writes one roster file on both sides.
+fn check_roster(random: &mut Random, met: &mut Met, file: &[u8]) {
+    let expected = roster::read(file);
+    let answer = planner::read_roster(file);
+    match (&answer, &expected) {
+        (Ok(()), Ok(_)) => {}
+        (Err(ours), Err(theirs)) => {
+            assert_eq!(ours.number, theirs.number(), "{file:?}");
+            assert!(same_group(*ours, *theirs));
+        }
+        _ => panic!("{answer:?} {expected:?} {file:?}"),
+    }
+    met.count(number(&answer));
+    let length = if random.chance(10) {
+        random.below(planner::ROSTER_BYTES)
+    } else {
+        planner::ROSTER_BYTES + random.below(3)
+    };
+    let before = junk(random, length);
+    let mut out = before.clone();
+    let written = planner::write_roster(file, &mut out);
+    met.count(number(&written));
+    let expected = if length < planner::ROSTER_BYTES {
+        Err(15)
+    } else {
+        expected
+            .map(|roster| roster::write(&roster))
+            .map_err(|refusal| refusal.number())
+    };
+    check_written(written, expected, &before, &out);
+}
+
+/// One damage: a byte changed, dropped, doubled, two swapped, a count off by
+/// one, the file cut or grown.
+fn damage(random: &mut Random, file: &mut Vec<u8>) {
+    if file.is_empty() {
+        return file.push(random.below(256) as u8);
+    }
+    let at = random.below(file.len());
+    match random.below(8) {
+        0 => file[at] = random.below(256) as u8,
+        1 => file[at] = random.below(34) as u8,
+        2 => file[at] = file[at].wrapping_add(1),
+        3 => file[at] = file[at].wrapping_sub(1),
+        4 => file.truncate(at),
+        5 => file.push(random.below(34) as u8),
+        6 => drop(file.remove(at)),
+        _ => {
+            let other = random.below(file.len());
+            file.swap(at, other);
+        }
+    }
+}
+
+fn shape(random: &mut Random) -> Shape {
+    let nodes = [2, 4, 6][random.below(3)];
+    Shape {
+        counts: [0..=nodes, 0..=nodes],
+        quotas: [0..=8, 0..=8],
+        pairs: [40, 70, 100][random.below(3)],
+        ties: 50,
+        opposed: 20,
+    }
+}
+
+#[test]
+fn every_short_file() {
+    let mut random = Random::new(1);
+    let mut met = Met::default();
+    check_roster(&mut random, &mut met, &[]);
+    for first in 0..=255u8 {
+        check_roster(&mut random, &mut met, &[first]);
+        for second in 0..=255u8 {
+            check_roster(&mut random, &mut met, &[first, second]);
+        }
+    }
+    let bytes = [0u8, 1, 2, 9, 33];
+    for length in 3..=7u32 {
+        for code in 0..bytes.len().pow(length) {
+            let digit = |place| bytes[code / bytes.len().pow(place) % bytes.len()];
+            let file: Vec<u8> = (0..length).map(digit).collect();
+            check_roster(&mut random, &mut met, &file);
+        }
+    }
+    met.require(&[0, 1, 2, 3, 7, 9, 15], 5);
+}
+
+#[test]
+fn random_and_damaged_rosters() {
+    let mut random = Random::new(2);
+    let mut met = Met::default();
+    for _ in 0..600_000 {
+        let shape = shape(&mut random);
+        let mut file = roster::write(&random::roster(&mut random, &shape));
+        for _ in 0..random.below(3) {
+            damage(&mut random, &mut file);
+        }
+        check_roster(&mut random, &mut met, &file);
+    }
+    met.require(&[0, 1, 2, 3, 4, 5, 6, 7, 8, 9, 15], 500);
+}
+
+#[test]
+fn rosters_at_the_limits() {
+    let mut random = Random::new(3);
+    let mut met = Met::default();
+    let full = Shape {
+        counts: [32..=32, 32..=32],
+        quotas: [1..=2, 1..=2],
+        pairs: 100,
+        ties: 50,
+        opposed: 20,
+    };
+    for turn in 0..2_000 {
+        let mut file = roster::write(&random::roster(&mut random, &full));
+        assert_eq!(file.len(), planner::ROSTER_BYTES);
+        if turn % 2 == 1 {
+            damage(&mut random, &mut file);
+        }
+        check_roster(&mut random, &mut met, &file);
+    }
+    met.require(&[0, 15], 50);
+}
+
+fn check_pairs(roster: &Roster) {
+    let pairs = planner::pairs(&roster::write(roster)).expect("accepted");
+    assert_eq!(pairs.len(), roster.pairs().len());
+    for (ours, pair) in pairs.iter().zip(roster.pairs()) {
+        let surveyor = roster.node(Side::Surveyors, pair.surveyor);
+        let stand = roster.node(Side::Stands, pair.stand);
+        let expected = planner::Pair {
+            surveyor: pair.surveyor,
+            stand: pair.stand,
+            surveyor_rank: votes::rank(&surveyor.list, Some(pair.stand)),
+            stand_rank: votes::rank(&stand.list, Some(pair.surveyor)),
+            tied: stand.list.tied.contains(&pair.surveyor),
+        };
+        assert_eq!(*ours, expected);
+    }
+}
+
+#[test]
+fn pairs_with_their_ranks() {
+    let mut random = Random::new(4);
+    for _ in 0..30_000 {
+        let shape = shape(&mut random);
+        check_pairs(&random::roster(&mut random, &shape));
+    }
+}
+
+#[test]
+fn random_and_damaged_plans() {
+    let mut random = Random::new(5);
+    let mut met = Met::default();
+    for _ in 0..60_000 {
+        let mut shape = shape(&mut random);
+        shape.quotas = [0..=3, 0..=3];
+        let roster = random::roster(&mut random, &shape);
+        let bytes = roster::write(&roster);
+        let fine = plan::write(&roster, &random::plan(&mut random, &roster, 90));
+        for _ in 0..8 {
+            let mut file = fine.clone();
+            for _ in 0..random.below(3) {
+                damage(&mut random, &mut file);
+            }
+            check_plan(&mut random, &mut met, &roster, &bytes, &file);
+        }
+    }
+    met.require(&[0, 1, 2, 9, 10, 11, 12, 15], 500);
+}
+
+/// Reads and writes one plan file on both sides.
+fn check_plan(random: &mut Random, met: &mut Met, roster: &Roster, bytes: &[u8], file: &[u8]) {
+    let expected = plan::read(roster, file);
+    let answer = planner::read_plan(bytes, file);
+    match (&answer, &expected) {
+        (Ok(()), Ok(_)) => {}
+        (Err(ours), Err(theirs)) => {
+            assert_eq!(ours.number, theirs.number(), "{bytes:?} {file:?}");
+            assert!(same_group(*ours, *theirs));
+        }
+        _ => panic!("{answer:?} {expected:?} {bytes:?} {file:?}"),
+    }
+    met.count(number(&answer));
+    let length = if random.chance(10) {
+        random.below(planner::PLAN_BYTES)
+    } else {
+        planner::PLAN_BYTES + random.below(3)
+    };
+    let before = junk(random, length);
+    let mut out = before.clone();
+    let written = planner::write_plan(bytes, file, &mut out);
+    met.count(number(&written));
+    let expected = if length < planner::PLAN_BYTES {
+        Err(15)
+    } else {
+        expected
+            .map(|plan| plan::write(roster, &plan))
+            .map_err(|refusal| refusal.number())
+    };
+    check_written(written, expected, &before, &out);
+}
+
+#[test]
+fn a_refused_roster_comes_before_its_plan() {
+    let mut out = [0; planner::PLAN_BYTES];
+    for (roster, refusal) in [(&[1u8, 9][..], 3), (&[33], 2), (&[], 1)] {
+        assert_eq!(number(&planner::read_plan(roster, &[])), refusal);
+        assert_eq!(number(&planner::write_plan(roster, &[0], &mut out)), refusal);
+        assert_eq!(number(&planner::pairs(roster)), refusal);
+    }
+    assert_eq!(number(&planner::write_plan(&[33], &[0], &mut out[..128])), 15);
+}
