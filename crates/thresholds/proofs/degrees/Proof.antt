@@ -1,4 +1,4 @@
--- blocking::degrees counts the plan's edges at each node. The loop's invariant: so many of the first i. Assumes nothing.
+-- thresholds::degrees counts the plan's edges at each node. The loop's invariant: so many of the first i. Assumes nothing.
 use Prim.Native.Nat.{ℕ, _-_, _≤_, _<_, zero-le}
 use native.Mathlib.Omega.{arith}
 use mathlib.Core.Path.{_≡_, ap, _∙_}
@@ -7,8 +7,8 @@ use borrow.Author.Needs.{needs}
 use Rattle.lists.specs.Sum.{count}
 use Rattle.arrays.specs.Shown.{at, flag}
 use Rattle.arrays.specs.Tally.{keyed, tally-next, keyed-≤, byte-≤, zeros}
-use Rattle.blocking.proofs.degrees.Statement.{statement}
-use Rattle.blocking.proofs.degrees.Tie as tie
+use Rattle.thresholds.proofs.degrees.Statement.{statement}
+use Rattle.thresholds.proofs.degrees.Tie as tie
 
 abbrev Inv-loop : tie.InvT-loop
 Inv-loop m end p t₀ i₀ t i = (i ≤ m) × (length t ≡ 32) × ((v : ℕ) → getD t v 0 ≡ keyed (at end) (flag p) v i)

@@ -1,6 +1,6 @@
--- blocking::raised answers the greater rank, if it counts. Assumes nothing.
-use Rattle.blocking.proofs.raised.Statement.{statement}
-use Rattle.blocking.proofs.raised.Tie as tie
+-- thresholds::raised answers the greater rank, if it counts. Assumes nothing.
+use Rattle.thresholds.proofs.raised.Statement.{statement}
+use Rattle.thresholds.proofs.raised.Tie as tie
 
 returns : tie.Need-returns
 returns c = simp (c .if1 .taken)

@@ -1,4 +1,4 @@
--- blocking::limits makes the array of the worst places. Assumes nothing.
+-- thresholds::thresholds makes the array of the worst places. Assumes nothing.
 use Prim.Native.Nat.{ℕ, _-_, _≤_, _<_, zero-le}
 use native.Mathlib.Omega.{arith}
 use native.Mathlib.Nat.{not-suc-le-zero}
@@ -9,9 +9,9 @@ use lib.ListN.{length, getD, length-set, length-replicate}
 use lib.Dec.{ltb}
 use borrow.Author.Needs.{needs}
 use Rattle.arrays.specs.Shown.{at}
-use Rattle.blocking.proofs.Laws.{made-next}
-use Rattle.blocking.proofs.limits.Statement.{statement}
-use Rattle.blocking.proofs.limits.Tie as tie
+use Rattle.thresholds.proofs.Laws.{made-next}
+use Rattle.thresholds.proofs.thresholds.Statement.{statement}
+use Rattle.thresholds.proofs.thresholds.Tie as tie
 
 abbrev entry : List ℕ → List ℕ → List ℕ → ℕ → ℕ
 entry d quota w v = cond (ltb (at d v) (at quota v)) 33 (at w v)
@@ -25,20 +25,20 @@ abbrev μ-loop : tie.MeasureT-loop
 loop-holds : tie.Need-loop-holds Inv-loop μ-loop
 loop-holds c = (zero-le, length-replicate {A = ℕ} 32 0, λ e h. absurd (not-suc-le-zero h))
 
-mul-limit : tie.Need-mul-limit Inv-loop μ-loop
-mul-limit c = omega arith
+mul-threshold : tie.Need-mul-threshold Inv-loop μ-loop
+mul-threshold c = omega arith
 
-element-copy-out-limit : tie.Need-element-copy-out-limit Inv-loop μ-loop
-element-copy-out-limit c = omega arith
+element-copy-out-threshold : tie.Need-element-copy-out-threshold Inv-loop μ-loop
+element-copy-out-threshold c = omega arith
 
-element-copy-out-limit-2 : tie.Need-element-copy-out-limit-2 Inv-loop μ-loop
-element-copy-out-limit-2 c = omega arith
+element-copy-out-threshold-2 : tie.Need-element-copy-out-threshold-2 Inv-loop μ-loop
+element-copy-out-threshold-2 c = omega arith
 
-element-copy-out-limit-3 : tie.Need-element-copy-out-limit-3 Inv-loop μ-loop
-element-copy-out-limit-3 c = omega arith
+element-copy-out-threshold-3 : tie.Need-element-copy-out-threshold-3 Inv-loop μ-loop
+element-copy-out-threshold-3 c = omega arith
 
-limit-requires : tie.Need-limit-requires Inv-loop μ-loop
-limit-requires c κs = search needs
+threshold-requires : tie.Need-threshold-requires Inv-loop μ-loop
+threshold-requires c κs = search needs
 
 array-write-o : tie.Need-array-write-o Inv-loop μ-loop
 array-write-o c = omega arith
@@ -53,23 +53,23 @@ loop-again : tie.Need-loop-again Inv-loop μ-loop
 loop-again c =
     let l = c .before .before .before .before .before in
     let a = l .before .args in
-    (omega arith, simp length-set (l .loop .inv .1), rw (c .limit .ensures) (made-next (l .loop .o) (entry (a .d .now) (a .quota .now) (a .w .now)) (l .loop .i) (omega arith) (l .loop .inv .2)))
+    (omega arith, simp length-set (l .loop .inv .1), rw (c .threshold .ensures) (made-next (l .loop .o) (entry (a .d .now) (a .quota .now) (a .w .now)) (l .loop .i) (omega arith) (l .loop .inv .2)))
 
 returns : tie.Need-returns Inv-loop μ-loop
 returns c = λ v h. c .before .loop .inv .2 v (omega arith)
 
-pub limits-spec : {M : Type 1} → statement M
-limits-spec =
+pub thresholds-spec : {M : Type 1} → statement M
+thresholds-spec =
     tie.close
     (tie.spec
     Inv-loop
     μ-loop
     loop-holds
-    mul-limit
-    element-copy-out-limit
-    element-copy-out-limit-2
-    element-copy-out-limit-3
-    limit-requires
+    mul-threshold
+    element-copy-out-threshold
+    element-copy-out-threshold-2
+    element-copy-out-threshold-3
+    threshold-requires
     array-write-o
     add-i
     loop-less

@@ -13,7 +13,7 @@ use Rattle.lists.specs.Test.{by-eq}
 use Rattle.lists.specs.Sum.{upTo}
 use Rattle.lists.specs.Keep.{any?}
 use Rattle.arrays.specs.Shown.{at, flag}
-use Rattle.blocking.specs.Blocking.{worse}
+use Rattle.thresholds.specs.Threshold.{worse}
 
 -- the greater of two ranks is worse than x if one of them is
 raise : (b : Bool) (x w r : ℕ) → ltb x (cond (b && ltb w r) r w) ≡ (b && ltb x r) || ltb x w

@@ -1,4 +1,4 @@
--- blocking::worst keeps the worst rank of the plan's edges at each node. The loop's invariant: of the first i. Assumes nothing.
+-- thresholds::worst keeps the worst rank of the plan's edges at each node. The loop's invariant: of the first i. Assumes nothing.
 use Prim.Native.Nat.{ℕ, _-_, _≤_, _<_, zero-le}
 use native.Mathlib.Omega.{arith}
 use mathlib.Core.Path.{_≡_, ap, _∙_}
@@ -10,10 +10,10 @@ use Rattle.lists.specs.Sum.{upTo}
 use Rattle.lists.specs.Keep.{any?}
 use Rattle.arrays.specs.Shown.{at}
 use Rattle.arrays.specs.Tally.{zeros}
-use Rattle.blocking.specs.Blocking.{worse}
-use Rattle.blocking.proofs.Laws.{worst-next}
-use Rattle.blocking.proofs.worst.Statement.{statement}
-use Rattle.blocking.proofs.worst.Tie as tie
+use Rattle.thresholds.specs.Threshold.{worse}
+use Rattle.thresholds.proofs.Laws.{worst-next}
+use Rattle.thresholds.proofs.worst.Statement.{statement}
+use Rattle.thresholds.proofs.worst.Tie as tie
 
 abbrev Inv-loop : tie.InvT-loop
 Inv-loop m end rank p w₀ i₀ w i = (i ≤ m) × (length w ≡ 32) × ((v x : ℕ) → ltb x (getD w v 0) ≡ any? (worse end rank p v x) (upTo i))
