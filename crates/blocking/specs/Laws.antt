@@ -3,35 +3,22 @@ use Prim.Native.Nat.{ℕ, _≤_, _<_}
 use native.Mathlib.Omega.{arith}
 use mathlib.Core.Path.{_≡_, sym, ap, ap₂, _∙_, subst}
 use mathlib.Core.Logic.{⊎-elim}
-use mathlib.Core.Bool.{Bool, true, false, not, cond, _&&_, _||_}
+use mathlib.Core.Bool.{Bool, true, false, not, _&&_}
 use mathlib.Core.List.{List}
-use lib.ListN.{getD}
-use lib.Dec.{T, ltb, T-not}
+use lib.Dec.{T, T-not}
 use borrow.Author.Tests.{lt-ltb}
 use Rattle.lists.specs.Test.{T-true, T-false, true-T}
 use Rattle.lists.specs.Sum.{_∈_, upTo, upTo-∈, upTo-<}
-use Rattle.lists.specs.Keep.{any?, any-or}
+use Rattle.lists.specs.Keep.{any-or}
 use Rattle.lists.specs.Search.{low, low-is}
-use Rattle.model.specs.Instance.{deg}
 use Rattle.model.specs.Blocking.{yields, blocks, someBlocks}
-use Rattle.arrays.specs.Shown.{at, flag, shown}
+use Rattle.arrays.specs.Shown.{flag, shown}
 use Rattle.blocking.specs.declared.Blocking.the-variants.{Pair, Nothing}
-use Rattle.blocking.specs.Blocking.{Edges, Placed, Degrees, Worst, worse, Limits, sideOf, wanted, answer}
-
--- ---- a node's worst place
-pub limits-yield : (m : ℕ) (end rank quota : List ℕ) (p : List Bool) (d w l : List ℕ) → Edges m end → Degrees m end p d → Worst m end rank p w
-    → ((v : ℕ) → v < 32 → getD l v 0 ≡ cond (ltb (at d v) (at quota v)) 33 (at w v)) → Limits m end rank quota p l
-unfolding deg
-limits-yield m end rank quota p d w l h hd hw hl n tie e k r =
-    ap (ltb (at rank e)) (hl (at end e) (h .ends e k)) ∙ go (ltb (at d (at end e)) (at quota (at end e))) (ap (λ z. ltb z (at quota (at end e))) (hd (at end e)))
-  where
-    go : (b : Bool) → b ≡ ltb (deg (sideOf m n end rank quota tie) (flag p) (at end e)) (at quota (at end e))
-        → ltb (at rank e) (cond b 33 (at w (at end e))) ≡ yields (sideOf m n end rank quota tie) (flag p) e
-    go true q = lt-ltb (at rank e) 33 r ∙ ap (λ z. z || any? (worse end rank p (at end e) (at rank e)) (upTo m)) q
-    go false q = hw (at end e) (at rank e) ∙ ap (λ z. z || any? (worse end rank p (at end e) (at rank e)) (upTo m)) q
+use Rattle.thresholds.specs.Threshold.{Thresholds, sideOf}
+use Rattle.blocking.specs.Blocking.{Placed, wanted, answer}
 
 -- ---- the answer
-module _ (m : ℕ) (sv st rs rt qs qt ls lt : List ℕ) (p : List Bool) (os : Placed m rs) (ot : Placed m rt) (hs : Limits m sv rs qs p ls) (ht : Limits m st rt qt p lt)
+module _ (m : ℕ) (sv st rs rt qs qt ls lt : List ℕ) (p : List Bool) (os : Placed m rs) (ot : Placed m rt) (hs : Thresholds m sv rs qs p ls) (ht : Thresholds m st rt qt p lt)
     (ns nt : ℕ) (tied : List Bool) where
   is-wanted : (e : ℕ) → e < m → wanted sv st rs rt ls lt p e ≡ blocks (shown m ns nt sv st rs rt tied qs qt) (flag p) e
   unfolding blocks

@@ -1,5 +1,2 @@
-pub mod Spread
-pub mod Table
-pub mod Count
-pub mod Plan
 pub mod Node
+pub mod Plan

@@ -1,20 +1,26 @@
 -- A node's vote from the table's rows is the model's, for two sets of edges that no node has more of than its quota.
-use Prim.Native.Nat.{ℕ, _≤_, _<_}
+use Prim.Native.Nat.{ℕ, _≤_, _<_, max}
 use native.Mathlib.Omega.{arith}
 use mathlib.Core.Path.{_≡_, refl, sym, ap, _∙_}
 use mathlib.Core.Bool.{Bool, true, false, not, _&&_}
 use mathlib.Core.List.{List}
+use lib.ListN.{length}
 use lib.Dec.{eqb}
+use lib.IntN.{ℤ, subℕ}
 use Rattle.lists.specs.Test.{bit, eqb-no}
 use Rattle.lists.specs.Sum.{sum-zeros, sum-length, upTo, upTo-<, count}
 use Rattle.model.specs.Limits.{emptyRank, quotaLimit}
 use Rattle.model.specs.Instance.{Side, deg}
 use Rattle.model.specs.Vote.{nodeVote}
 use Rattle.votes.specs.Attained.{alone, counts}
-use Rattle.rotation.specs.Node.{nodeVote-least}
-use Rattle.vote.specs.Spread.{spread, spread-length}
-use Rattle.vote.specs.Table.{place, Own, row, own-ranks}
-use Rattle.vote.specs.Count.{Row, listed, countedVote}
+use Rattle.rotation.specs.Least.{leastSum}
+use Rattle.rotation.specs.Node.{fill, nodeVote-least}
+use Rattle.counts.specs.Table.{place, Own, row, own-ranks}
+use Rattle.counts.specs.Listed.{Row, listed, total-length}
+
+-- the least sum of votes of the ranks that c counts against those that d counts, the shorter list filled up
+unfoldable pub countedVote : (ℕ → ℕ) → (ℕ → ℕ) → ℤ
+countedVote c d = subℕ (leastSum (fill (max (length (listed c)) (length (listed d))) (listed c)) (fill (max (length (listed c)) (length (listed d))) (listed d))) (max (length (listed c)) (length (listed d)))
 
 module _ (K : Side) (ranks : (e : ℕ) → e < K .m → (1 ≤ K .rank e) × (K .rank e < emptyRank)) where
   low : (e : ℕ) → e < K .m → K .rank e < 34
@@ -24,7 +30,7 @@ module _ (K : Side) (ranks : (e : ℕ) → e < K .m → (1 ≤ K .rank e) × (K 
   pub own-row : (A B : ℕ → Bool) (t : List ℕ) → Own (K .m) (K .end) (K .rank) A B t → (v : ℕ) → deg K A v ≤ quotaLimit → Row (row t v)
   unfolding count
   own-row A B t h v d = record {
-    few = omega (arith, spread-length (row t v) 34, sum-length (spread (row t v) 34), own-ranks K A B t h low v (λ x. 1), sum-length (alone K v A B), counts K A B v);
+    few = omega (arith, total-length (row t v), sum-length (listed (row t v)), own-ranks K A B t h low v (λ x. 1), sum-length (alone K v A B), counts K A B v);
     none = h (place v 0) ∙ sum-zeros (λ e. bit ((A e && not (B e)) && eqb (place (K .end e) (K .rank e)) (place v 0))) (upTo (K .m))
         (λ e k. never (A e && not (B e)) (eqb-no (place (K .end e) (K .rank e)) (place v 0) (λ q. omega (arith, ranks e (upTo-< (K .m) k)))));
   }
