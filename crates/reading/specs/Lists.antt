@@ -54,6 +54,6 @@ module _ (longest other : ℕ) (f : List ℕ) (at : ℕ) where
 
       pub ranking-goes : {after : List Bool} {r : Section} → TiedAt other (getD f (at + 1) 0) f next between r after → Marked (readRanking longest other) ShowsR f at r after
       ranking-goes t = given strict (λ (xs, is, w).
-          marked-behind {other = λ bs. readTied other (xs) (getD f (at + 1) 0) bs then (λ ys rest. got (record { strict = xs; tied = ys }) rest)} {next = next}
+          marked-behind {other = λ bs. readTied other xs (getD f (at + 1) 0) bs then (λ ys rest. got (record { strict = xs; tied = ys }) rest)} {next = next}
           (lengths-goes f at longest other h k ∙ ap (λ r. r then tieBehind f at longest other (getD f (at + 1) 0)) is)
-          (marked-map (readTied other (xs) (getD f (at + 1) 0)) (λ ys. record { strict = xs; tied = ys }) (t (xs) (m .marks (xs) (drop next f) is))))
+          (marked-map (readTied other xs (getD f (at + 1) 0)) (λ ys. record { strict = xs; tied = ys }) (t xs (m .marks xs (drop next f) is))))
