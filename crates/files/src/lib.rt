@@ -1,0 +1,95 @@
+// The calls on files: a plan file judged against a roster file, the plan written, and the pairs of a roster written. Each takes the bytes
+// as they are, judges the roster first and asks nothing of its caller.
+ghost use mathlib.Core.Path.{_≡_};
+ghost use Rattle.model.specs.RosterFile.{readRoster};
+ghost use Rattle.files.specs.Replies.{RosterAccepted, planReply, JudgedAs, PlanWritten};
+ghost use Rattle.files.specs.Pairs.{PairsWritten};
+use plan::PlanAnswer;
+use refusal::Group;
+use roster::Answer;
+use roster_writer::Written;
+
+// "a buffer for a plan, candidate or rival needs 129 bytes"
+const PLAN_SIZE: usize = 129;
+
+// 1,024 pairs of five bytes
+const PAIRS_SIZE: usize = 5120;
+
+// A plan file is accepted, or refused with the number and the group of the refusal.
+pub enum PlanReply {
+    Accepted,
+    Refused(u8, Group),
+}
+
+// A plan file against an accepted roster file.
+pub(crate) fn judged(roster: &[u8], file: &[u8]) -> PlanReply
+    requires { ⌜ RosterAccepted (now roster) ⌝ }
+    ensures { λ r. ⌜ JudgedAs (now (roster .entry)) (now (file .entry)) r ⌝ }
+{
+    let g = instance::instance_of(roster);
+    let m = g.m;
+    let sv = g.sv;
+    let st = g.st;
+    let qs = g.quota_s;
+    let qt = g.quota_t;
+    let p = plan::read_plan(m, &sv, &st, &qs, &qt, file);
+    let a = p.answer;
+    match a {
+        PlanAnswer::Accepted(_) => PlanReply::Accepted,
+        PlanAnswer::Refused(n) => PlanReply::Refused(n, refusal::group_of(n)),
+    }
+}
+
+// A plan file against a roster file: the roster is judged first, and its refusal is the answer.
+pub fn read_plan(roster: &[u8], file: &[u8]) -> PlanReply
+    ensures { λ r. ⌜ r ≡ planReply (readRoster (now (roster .entry))) (now (file .entry)) ⌝ }
+{
+    let a = roster::read_roster(roster);
+    match a {
+        Answer::Refused(number, group) => PlanReply::Refused(number, group),
+        Answer::Accepted => judged(roster, file),
+    }
+}
+
+// "15 a lent buffer below its size" comes first, then what the roster meets when it is read, then what the plan meets; a refusal changes
+// no byte. An accepted plan file holds the bytes that its plan is written to.
+pub fn write_plan(roster: &[u8], file: &[u8], out: &mut [u8]) -> Written
+    ensures { λ r. ⌜ PlanWritten (now (roster .entry)) (now (file .entry)) (now (out .entry)) r (now (out .exit)) ⌝ }
+{
+    if out.len() < PLAN_SIZE {
+        return Written::Refused(15, refusal::group_of(15));
+    }
+    let a = read_plan(roster, file);
+    match a {
+        PlanReply::Refused(number, group) => Written::Refused(number, group),
+        PlanReply::Accepted => {
+            let n = bytes::copy(file, out);
+            Written::Wrote(n)
+        }
+    }
+}
+
+// The pairs of a roster, ascending, five bytes each: the numbers of its surveyor and its stand, its rank at each, and 1 if it is tied at
+// the stand, else 0. "15 a lent buffer below its size" comes first, then the roster's refusal; a refusal changes no byte.
+pub fn write_pairs(roster: &[u8], out: &mut [u8]) -> Written
+    ensures { λ r. ⌜ PairsWritten (now (roster .entry)) (now (out .entry)) r (now (out .exit)) ⌝ }
+{
+    if out.len() < PAIRS_SIZE {
+        return Written::Refused(15, refusal::group_of(15));
+    }
+    let a = roster::read_roster(roster);
+    match a {
+        Answer::Refused(number, group) => Written::Refused(number, group),
+        Answer::Accepted => {
+            let g = instance::instance_of(roster);
+            let m = g.m;
+            let sv = g.sv;
+            let st = g.st;
+            let rs = g.rank_s;
+            let rt = g.rank_t;
+            let tied = g.tied;
+            pairwriter::put_pairs(m, &sv, &st, &rs, &rt, &tied, out);
+            Written::Wrote(5 * m)
+        }
+    }
+}
