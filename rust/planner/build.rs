@@ -8,7 +8,10 @@ const LIBRARY: &str = "abi";
 
 fn main() {
     let manifest = std::env::var("CARGO_MANIFEST_DIR").expect("cargo names this folder");
-    let root = Path::new(&manifest).ancestors().nth(2).expect("two folders up");
+    let root = Path::new(&manifest)
+        .ancestors()
+        .nth(2)
+        .expect("two folders up");
     let folder: PathBuf = root.join("target/staticlib");
     let archive = folder.join(format!("lib{LIBRARY}.a"));
     if !archive.exists() {

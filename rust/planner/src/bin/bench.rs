@@ -94,8 +94,12 @@ fn main() {
     report(
         "read and write a 64-pair plan, with its roster",
         time(200, || {
-            black_box(planner::write_plan(black_box(&file), black_box(&chosen), &mut out))
-                .expect("accepted");
+            black_box(planner::write_plan(
+                black_box(&file),
+                black_box(&chosen),
+                &mut out,
+            ))
+            .expect("accepted");
         }),
         time(200, || {
             let instance = fast::roster::read(black_box(&file)).expect("accepted");
