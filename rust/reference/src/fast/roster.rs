@@ -51,8 +51,17 @@ impl Cursor<'_> {
     }
 }
 
-/// Reads a roster, or gives the number of its refusal.
-pub fn read(file: &[u8]) -> Result<Instance, u8> {
+/// The sections of an accepted file.
+struct Sections {
+    surveyors: usize,
+    stands: usize,
+    quota_s: [u8; MAX_NODES],
+    quota_t: [u8; MAX_NODES],
+    by_surveyor: Lists,
+    by_stand: Lists,
+}
+
+fn sections(file: &[u8]) -> Result<Sections, u8> {
     let mut cursor = Cursor { file, at: 0 };
     let (surveyors, quota_s) = quotas(&mut cursor)?;
     let (stands, quota_t) = quotas(&mut cursor)?;
@@ -64,21 +73,39 @@ pub fn read(file: &[u8]) -> Result<Instance, u8> {
     if !mirrored(&by_surveyor.listed, &by_stand.listed) {
         return Err(8);
     }
-    let mut instance = Instance {
-        pairs: 0,
+    Ok(Sections {
         surveyors,
         stands,
+        quota_s,
+        quota_t,
+        by_surveyor,
+        by_stand,
+    })
+}
+
+/// The refusal of a file, 0 if it is accepted: the checks alone.
+pub fn check(file: &[u8]) -> u8 {
+    sections(file).err().unwrap_or(0)
+}
+
+/// Reads a roster, or gives the number of its refusal.
+pub fn read(file: &[u8]) -> Result<Instance, u8> {
+    let sections = sections(file)?;
+    let mut instance = Instance {
+        pairs: 0,
+        surveyors: sections.surveyors,
+        stands: sections.stands,
         surveyor: [0; MAX_ENTRIES],
         stand: [0; MAX_ENTRIES],
         rank_s: [0; MAX_ENTRIES],
         rank_t: [0; MAX_ENTRIES],
         tied: [false; MAX_ENTRIES],
-        quota_s,
-        quota_t,
-        listed: by_surveyor.listed,
+        quota_s: sections.quota_s,
+        quota_t: sections.quota_t,
+        listed: sections.by_surveyor.listed,
         first: [0; MAX_NODES],
     };
-    fill(&mut instance, &by_surveyor, &by_stand);
+    fill(&mut instance, &sections.by_surveyor, &sections.by_stand);
     Ok(instance)
 }
 
