@@ -1,6 +1,6 @@
 -- What the calls for C answer: the numbers of document 01, 0 for no refusal, and the length written.
 use Prim.Native.Nat.{ℕ}
-use mathlib.Core.Path.{_≡_, refl, sym, ap, _∙_}
+use mathlib.Core.Path.{_≡_, refl, ap, _∙_}
 use mathlib.Core.List.{List}
 use Rattle.model.specs.Limits.{planSize}
 use Rattle.model.specs.Reading.{Reading, accepted, turned}

@@ -59,8 +59,14 @@ pub(crate) fn as_numbers(w: Written) -> Outcome
     ensures { λ r. ⌜ r ≡ outcomeOf w ⌝ }
 {
     match w {
-        Written::Wrote(n) => Outcome { refusal: 0, length: n },
-        Written::Refused(number, _) => Outcome { refusal: number, length: 0 },
+        Written::Wrote(n) => Outcome {
+            refusal: 0,
+            length: n,
+        },
+        Written::Refused(number, _) => Outcome {
+            refusal: number,
+            length: 0,
+        },
     }
 }
 

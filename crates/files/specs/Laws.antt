@@ -14,18 +14,17 @@ use Rattle.model.specs.Roster.{Roster}
 use Rattle.model.specs.RosterFile.{readRoster}
 use Rattle.model.specs.Edges.{instanceOf}
 use Rattle.model.specs.Plans.{Plan}
-use Rattle.model.specs.PlanFile.{planBytes, readPlan}
+use Rattle.model.specs.PlanFile.{readPlan}
 use Rattle.formats.specs.Reads.{isBytes}
-use Rattle.rosters.specs.PlanFiles.{Fileable, plan-read-write, plan-accepted-size}
+use Rattle.rosters.specs.PlanFiles.{plan-read-write, plan-accepted-size}
 use Rattle.refusal.specs.declared.Group.{Group}
 use Rattle.refusal.specs.Shown.{groupShown, groupCase, shows-case}
 use Rattle.roster.specs.declared.Answer.{Answer}
 use Rattle.roster.specs.declared.Answer.the-variants as answer
 use Rattle.roster.specs.Shown.{shown, shown-accepted, shown-refused}
-use Rattle.roster_writer.specs.declared.Written.{Written}
 use Rattle.roster_writer.specs.declared.Written.the-variants as written
 use Rattle.instance.specs.declared.Instance.{Instance}
-use Rattle.instance.specs.Decoded.{shownBy, Decoded}
+use Rattle.instance.specs.Decoded.{Decoded}
 use Rattle.instance.specs.Arrays.{decoded-fileable}
 use Rattle.plan.specs.declared.PlanAnswer.{PlanAnswer}
 use Rattle.plan.specs.declared.PlanAnswer.the-variants as plan

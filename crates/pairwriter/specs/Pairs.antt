@@ -2,9 +2,9 @@
 use Prim.Native.Nat.{ℕ, suc, _+_, _*_, _≤_, _<_}
 use native.Mathlib.Omega.{arith}
 use native.Mathlib.Numerals.{add-one}
-use mathlib.Core.Path.{_≡_, refl, sym, ap, ap₂, _∙_, subst}
+use mathlib.Core.Path.{_≡_, refl, sym, ap, ap₂, _∙_}
 use mathlib.Core.Bool.{Bool, true, false}
-use mathlib.Core.List.{List, [], _∷_, _++_, append-assoc, append-nil}
+use mathlib.Core.List.{List, [], _∷_, _++_, append-assoc}
 use lib.ListN.{length, drop, getD, set, length-append}
 use lib.Seq.{set-at, drop-cons}
 use mir.Val.{boolByte}
@@ -44,10 +44,10 @@ five-bytes w d i a b c x y l h =
     ∙ ap (λ z. set z (i + 4) y) (s .1)
     ∙ t .1
     ∙ ap (λ z. z ++ drop (i + 5) d) (
-      ap (λ z. ((z ++ c ∷ []) ++ x ∷ []) ++ y ∷ []) (append-assoc w (a ∷ []) (b ∷ []))
-      ∙ ap (λ z. (z ++ x ∷ []) ++ y ∷ []) (append-assoc w (a ∷ b ∷ []) (c ∷ []))
-      ∙ ap (λ z. z ++ y ∷ []) (append-assoc w (a ∷ b ∷ c ∷ []) (x ∷ []))
-      ∙ append-assoc w (a ∷ b ∷ c ∷ x ∷ []) (y ∷ []))
+    ap (λ z. ((z ++ c ∷ []) ++ x ∷ []) ++ y ∷ []) (append-assoc w (a ∷ []) (b ∷ []))
+    ∙ ap (λ z. (z ++ x ∷ []) ++ y ∷ []) (append-assoc w (a ∷ b ∷ []) (c ∷ []))
+    ∙ ap (λ z. z ++ y ∷ []) (append-assoc w (a ∷ b ∷ c ∷ []) (x ∷ []))
+    ∙ append-assoc w (a ∷ b ∷ c ∷ x ∷ []) (y ∷ []))
 
 five-each : (G : Instance) (es : List ℕ) → length (gather (fiveBytes G) es) ≡ 5 * length es
 five-each G [] = refl

@@ -1,5 +1,4 @@
 -- `files::judged` meets its contract: the arrays show the roster's instance. Assumes nothing.
-use mathlib.Core.Path.{sym}
 use lib.Dec.{T}
 use Rattle.formats.specs.Reads.{isBytes}
 use Rattle.reading.specs.Place.{bytes-of}
