@@ -10,7 +10,7 @@ use mathlib.Core.Bool.{Bool, true, false, not, _&&_, _||_, and-comm}
 use mathlib.Core.List.{List, _++_, map}
 use lib.ListN.{length, replicate}
 use lib.Dec.{T, eqb, leb, eqb→eq}
-use lib.IntN.{subℕ, _+ℤ_, +ℤ-idr}
+use lib.IntN.{ℤ, subℕ, _+ℤ_, +ℤ-idr}
 use Rattle.lists.specs.Test.{bit, bit-one, pk}
 use Rattle.lists.specs.Sum.{_∈_, sum, sum-add, sum-append, sum-map, sum-mono, sum-cong, sum-zero, sum-zeros, sum-length, sum-replicate, upTo, upTo-<}
 use Rattle.lists.specs.Keep.{sum-keep, ∈-keep}
@@ -35,6 +35,10 @@ fill k xs = xs ++ replicate (k - length xs) emptyRank
 
 two-cut : (a b d e c : ℕ) → a - b ≤ c → d - e ≤ c → a + d ≤ c + (b + e) → (a - b) + (d - e) ≤ c
 two-cut a b d e c h k l = omega arith
+
+-- the least sum of votes over all ways to set two lists of ranks against each other, the shorter one filled up
+unfoldable pub leastVote : List ℕ → List ℕ → ℤ
+leastVote xs ys = let k = max (length xs) (length ys) in subℕ (leastSum (fill k xs) (fill k ys)) k
 
 -- places and ranks, filled up
 filled-sum : (rank : ℕ → ℕ) (g : ℕ → ℕ) (k : ℕ) (es : List ℕ) → sum (λ p. g (placeRank rank p)) (places k es) ≡ sum (λ e. g (rank e)) es + (k - length es) * g emptyRank
@@ -451,7 +455,8 @@ module _ (K : Side) (M N : ℕ → Bool) (v : ℕ) where
             sum-zeros (λ e. upto (K .rank e) 34) (alone K v N M) (λ e k. upto-no (K .rank e) 34 (omega (arith, alone-placed N M e k))),
           ))
 
-      pub nodeVote-least : nodeVote K M N v ≡ subℕ (leastSum (fill (max (length xs) (length ys)) xs) (fill (max (length xs) (length ys)) ys)) (max (length xs) (length ys))
+      pub nodeVote-least : nodeVote K M N v ≡ leastVote xs ys
+      unfolding leastVote
       nodeVote-least =
           let d = K .quota v - most in
           let S : score K M N v ≡ leastSum (fill most xs) (fill most ys) + d = omega (arith, score-two, fill-least) in

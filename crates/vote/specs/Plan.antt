@@ -1,5 +1,6 @@
 -- What is asked of the arrays of one side and of a plan, and what the votes over them are.
 use Prim.Native.Nat.{ℕ, _≤_, _<_}
+use native.Mathlib.Omega.{arith}
 use mathlib.Core.Path.{_≡_}
 use mathlib.Core.Bool.{Bool, _&&_}
 use mathlib.Core.List.{List}
@@ -8,7 +9,7 @@ use lib.IntN.{ℤ}
 use lib.Signed.{mag}
 use Rattle.lists.specs.Sum.{upTo, count}
 use Rattle.model.specs.Limits.{emptyRank, quotaLimit, nodeLimit, entryLimit}
-use Rattle.model.specs.Instance.{Side}
+use Rattle.model.specs.Instance.{Side, deg}
 use Rattle.model.specs.Vote.{sumℤ, nodeVote, vote}
 use Rattle.graph.specs.Lawful.{Within, Matching}
 use Rattle.arrays.specs.Shown.{at, flag, shown}
@@ -27,6 +28,11 @@ Light m end p = (v : ℕ) → count (λ e. flag p e && eqb (at end e) v) m ≤ q
 -- the side that the arrays show, with any ties and quotas
 abbrev pub sideOf : (m n : ℕ) (end rank : List ℕ) (tie : ℕ → Bool) (quota : ℕ → ℕ) → Side
 sideOf m n end rank tie quota = record { m = m; n = n; end = at end; rank = at rank; tie = tie; quota = quota }
+
+-- a plan within quotas that are within the limit is so
+pub within-light : (m n : ℕ) (end rank : List ℕ) (tie : ℕ → Bool) (quota : ℕ → ℕ) (p : List Bool) → ((v : ℕ) → quota v ≤ quotaLimit) → Within (sideOf m n end rank tie quota) (flag p) → Light m end p
+unfolding deg
+within-light m n end rank tie quota p few h v = omega (arith, few v, h v)
 
 -- whatever quotas both plans keep, r is the sum of the model's votes of the side's nodes
 pub record SideVote (m n : ℕ) (end rank : List ℕ) (p q : List Bool) (r : ℤ) : Type 0 where

@@ -10,14 +10,10 @@ rank-vote-requires : tie.Need-rank-vote-requires
 rank-vote-requires c κs = search needs
 
 add-up : tie.Need-add-up
-add-up c =
-    let a = c .before .args in
-    rw (c .rank-vote .ensures, tableVote-ranks (a .a) (a .b) (omega arith) (omega arith) (omega arith) (omega arith)) (upped-fits (a .a) (a .b))
+add-up c = rw (c .rank-vote .ensures) (upped-fits _ _)
 
 cast-result : tie.Need-cast-result
-cast-result c =
-    let a = c .before .args in
-    rw (c .rank-vote .ensures, tableVote-ranks (a .a) (a .b) (omega arith) (omega arith) (omega arith) (omega arith)) (upped-casts (a .a) (a .b))
+cast-result c = rw (c .rank-vote .ensures) (upped-casts _ _)
 
 returns : tie.Need-returns
 returns c =
