@@ -28,6 +28,9 @@ made-next d o f i l h e k = ⊎-elim
     (λ q. let ne : e ≡ i → ⊥ = (λ (x : e ≡ i). omega arith) in getD-set-other o i e (f i) d ne ∙ h e q)
     (let g : e ≤ i = omega arith in eq-or-lt-of-le g)
 
+pub made-set : {A : Type 0} (d : A) (o : List A) (f : ℕ → A) (i : ℕ) (v : A) → i < length o → v ≡ f i → Made d o f i → Made d (set o i v) f (i + 1)
+made-set d o f i v l e h = subst (λ z. Made d (set o i z) f (i + 1)) (sym e) (made-next d o f i l h)
+
 pub byte-bit : (b : Bool) → boolByte b ≡ bit b
 byte-bit true = refl
 byte-bit false = refl
