@@ -1,15 +1,12 @@
 -- The layers of least prices as tables of 64 columns, and the places that their tests find. Walks are those of the search (search,
 -- Search.antt); here edges are places in the plan's list, and the prices of the arcs are a table.
-use Prim.Native.Nat.{ℕ, zero, suc, _+_, _-_, _*_, _≤_, _<_, min}
+use Prim.Native.Nat.{ℕ, zero, suc, _+_, _-_, _≤_, _<_, min}
 use native.Mathlib.Omega.{arith}
-use mathlib.Core.Path.{_≡_, refl, sym, ap, ap₂, _∙_}
-use mathlib.Core.Bool.{Bool, true, false, cond}
+use mathlib.Core.Path.{_≡_, refl, ap, _∙_}
+use mathlib.Core.Bool.{true}
 use mathlib.Core.List.{List}
-use lib.Dec.{ltb}
-use Rattle.lists.specs.Search.{low}
-use Rattle.arrays.specs.Shown.{at}
 use Rattle.grid.specs.Filled.{cell, Rows}
-use Rattle.grid.specs.Cheapest.{offer, cheapest, cheapest-turn, cheapest-end, cheapest-cong, cheapest-≤}
+use Rattle.grid.specs.Cheapest.{cheapest, cheapest-turn, cheapest-end, cheapest-cong, cheapest-≤}
 
 -- a price that is counted with one arc more
 abbrev pub keptPrice : ℕ → ℕ

@@ -1,19 +1,10 @@
 -- The rows below i are written.
-use mathlib.Core.Path.{_≡_, refl, sym, ap, ap₂, _∙_, subst}
-use mathlib.Core.Bool.{Bool, true, false, not, cond, _&&_, _||_}
-use mathlib.Core.List.{List}
-use mathlib.Core.Logic.{⊎-elim}
-use Prim.Native.Nat.{ℕ, suc, _+_, _-_, _*_, _≤_, _<_, min, zero-le}
+use Prim.Native.Nat.{_-_, _≤_, zero-le}
 use native.Mathlib.Omega.{arith}
 use native.Mathlib.Nat.{not-suc-le-zero}
-use lib.ListN.{length, getD, set, length-set, length-replicate, getD-replicate}
-use lib.Dec.{eqb, ltb, leb}
 use borrow.Author.Needs.{needs}
-use borrow.Author.Tests.{lt-ltb, le-ltb, le-leb, lt-leb, eq-eqb, ne-eqb}
-use Rattle.arrays.specs.Shown.{at, flag}
-use Rattle.grid.specs.Filled.{Made, made-set, Rows, rows-next, cell}
-use Rattle.lists.specs.Search.{low, low-hit, low-miss}
-use Rattle.layers.specs.Layers.{keptPrice, Small, Cheap, nextPrice, nextRest, next-start, next-end, next-turn, next-past, next-≤}
+use Rattle.grid.specs.Filled.{Rows, rows-next}
+use Rattle.layers.specs.Layers.{nextPrice}
 use Rattle.layers.proofs.next_layer.Statement.{statement}
 use Rattle.layers.proofs.next_layer.Tie as tie
 
