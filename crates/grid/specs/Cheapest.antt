@@ -3,6 +3,7 @@ use Prim.Native.Nat.{ℕ, zero, suc, _+_, _-_, _≤_, _<_, min}
 use native.Mathlib.Omega.{arith}
 use native.Mathlib.Numerals.{add-one}
 use mathlib.Core.Path.{_≡_, refl, ap, ap₂, _∙_}
+use mathlib.Core.Logic.{_⊎_, inl, inr, ⊎-elim}
 use mathlib.Core.Bool.{Bool, true, false, cond}
 use mathlib.Core.List.{_∷_, map}
 use lib.Dec.{ltb}
@@ -70,3 +71,27 @@ best-keep {B} bid t held i (suc n) = go (t i) (best-keep bid t held (suc i) n) (
         → best bid held (cond b (i ∷ keep t (range (suc i) n)) (keep t (range (suc i) n))) .0 ≡ cheapest t (λ j. bid j .0) (offer b (bid i .0) (held .0)) (suc i) n
     go true p q = q ∙ ap (λ v. cheapest t (λ j. bid j .0) v (suc i) n) (taken bid i held)
     go false p q = p
+
+-- ---- it is no more than any price offered, and it is what was held or one of the prices
+pub cheapest-at : (t : ℕ → Bool) (p : ℕ → ℕ) (v i n e : ℕ) → i ≤ e → e < i + n → t e ≡ true → cheapest t p v i n ≤ p e
+unfolding cheapest
+cheapest-at t p v i zero e l h k = absurd (omega arith)
+cheapest-at t p v i (suc n) e l h k = by-bool (ltb i e)
+    (λ q. cheapest-at t p (offer (t i) (p i) v) (suc i) n e (ltb-true i e q) (omega arith) k)
+    (λ q. let s : i ≡ e = omega (arith, ltb-false i e q) in
+    omega (arith, cheapest-≤ t p (offer (t i) (p i) v) (suc i) n, ap (λ b. offer b (p i) v) (ap t s ∙ k), ap p s))
+
+pub cheapest-reach : (t : ℕ → Bool) (p : ℕ → ℕ) (v i n : ℕ) → (cheapest t p v i n ≡ v) ⊎ ((e : ℕ) × (i ≤ e) × (e < i + n) × (t e ≡ true) × (cheapest t p v i n ≡ p e))
+unfolding cheapest
+cheapest-reach t p v i zero = inl refl
+cheapest-reach t p v i (suc n) = ⊎-elim
+    (λ q. here (t i) refl q)
+    (λ (e, l, h, k, q). inr (e, omega arith, omega arith, k, q))
+    (cheapest-reach t p (offer (t i) (p i) v) (suc i) n)
+  where
+    here : (b : Bool) → t i ≡ b → cheapest t p (offer (t i) (p i) v) (suc i) n ≡ offer b (p i) v
+        → (cheapest t p (offer (t i) (p i) v) (suc i) n ≡ v) ⊎ ((e : ℕ) × (i ≤ e) × (e < i + suc n) × (t e ≡ true) × (cheapest t p (offer (t i) (p i) v) (suc i) n ≡ p e))
+    here true s q = by-bool (ltb (p i) v)
+        (λ d. inr (i, omega arith, omega arith, s, omega (arith, ltb-true (p i) v d)))
+        (λ d. inl (omega (arith, ltb-false (p i) v d)))
+    here false s q = inl q
