@@ -1,13 +1,12 @@
 -- The first element that passes a test, by its place: in a range, in a list given by its places, and in all couples of such a list.
 use Prim.Native.Nat.{ℕ, zero, suc, _+_, _≤_, _<_, zero-le}
 use native.Mathlib.Omega.{arith}
-use native.Mathlib.Nat.{not-suc-le-zero}
 use mathlib.Core.Path.{_≡_, refl, sym, ap, _∙_, subst}
 use mathlib.Core.Bool.{Bool, true, false, not, cond}
-use mathlib.Core.Option.{Option, none, some, orElse}
+use mathlib.Core.Option.{none, some, orElse}
 use mathlib.Core.List.{List, [], _∷_, _++_, map, Memᴰ·map, Memᴰ·of-map}
 use lib.Dec.{T, ltb}
-use borrow.Author.Tests.{lt-ltb, le-ltb, ltb-true, ltb-false}
+use borrow.Author.Tests.{ltb-true, ltb-false}
 use Rattle.lists.specs.Test.{by-bool, T-true, T-false}
 use Rattle.lists.specs.Sum.{_∈_, range, range-∈, ∈-range}
 use Rattle.lists.specs.Keep.{gather, product, all?, all-∈, ∈-all, product-∈, ∈-product}

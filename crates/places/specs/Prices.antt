@@ -1,23 +1,21 @@
 -- The prices that the tables hold are those of the search: of the arcs, of the ends, and the room at the nodes.
-use Prim.Native.Nat.{ℕ, zero, suc, _+_, _*_, _≤_, _<_, min, zero-le}
+use Prim.Native.Nat.{ℕ, _+_, _≤_, _<_, min, zero-le}
 use native.Mathlib.Omega.{arith}
-use mathlib.Core.Path.{_≡_, refl, sym, ap, ap₂, _∙_, subst}
-use mathlib.Core.Logic.{_⊎_, inl, inr, ⊎-elim}
-use mathlib.Core.Bool.{Bool, true, false, not, cond, _&&_}
-use mathlib.Core.List.{List, [], _∷_, map, List·Memᴰ·head, List·Memᴰ·tail, List·Memᴰ·not-nil, Memᴰ·map, Memᴰ·of-map}
+use mathlib.Core.Path.{_≡_, refl, sym, ap, _∙_, subst}
+use mathlib.Core.Logic.{_⊎_, ⊎-elim}
+use mathlib.Core.Bool.{Bool, true, false, not, _&&_}
+use mathlib.Core.List.{List, map, List·Memᴰ·head, List·Memᴰ·tail, Memᴰ·map, Memᴰ·of-map}
 use lib.Dec.{T, ltb, leb, eqb}
-use borrow.Author.Tests.{ltb-true, ltb-false}
-use Rattle.lists.specs.Test.{by-bool, bit, bit-one, pk, true-T, T-true, and-i, and-l, and-r}
-use Rattle.lists.specs.Sum.{_∈_, range, range-∈, ∈-range, sum, sum-cong, sum-map, sum-range, upTo, count}
+use Rattle.lists.specs.Test.{bit, bit-one, pk, true-T, T-true, and-i}
+use Rattle.lists.specs.Sum.{_∈_, range, range-∈, ∈-range, sum, sum-cong, sum-map, sum-range, count}
 use Rattle.lists.specs.Keep.{keep, keep-∈, ∈-keep, product, product-∈, ∈-product, sum-keep}
-use Rattle.lists.specs.First.{best, best-≤, best-≤-held, best-ind}
+use Rattle.lists.specs.First.{best-≤, best-≤-held, best-ind}
 use Rattle.model.specs.Instance.{Instance, Side, surveyors, stands, deg}
 use Rattle.votes.specs.Score.{rate}
 use Rattle.walks.specs.Ends.{Way, lose, gain}
-use Rattle.search.specs.Search.{endPrice, price, tipPrice, links?, apart?, room?, joins?, olds, news, ways, tipsAt, tip, arc}
-use Rattle.arrays.specs.Shown.{at, flag}
-use Rattle.grid.specs.Filled.{cell, Grid, Rows}
-use Rattle.grid.specs.Cheapest.{offer, cheapest, cheapest-cong, cheapest-≤, cheapest-at, cheapest-reach, best-keep}
+use Rattle.search.specs.Search.{price, tipPrice, links?, apart?, joins?, news, ways, tipsAt, tip, arc}
+use Rattle.arrays.specs.Shown.{at}
+use Rattle.grid.specs.Cheapest.{cheapest, cheapest-≤, cheapest-at, cheapest-reach, best-keep}
 
 rate-two : (a b : ℕ) → rate a b ≤ 2
 rate-two a b = omega (arith, bit-one (ltb a b), bit-one (leb a b))

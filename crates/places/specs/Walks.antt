@@ -2,26 +2,26 @@
 -- arcs and of the ends: what is found by places stands for what the search finds.
 use Prim.Native.Nat.{ℕ, zero, suc, _+_, _*_, _≤_, _<_}
 use native.Mathlib.Omega.{arith}
-use mathlib.Core.Path.{_≡_, refl, sym, ap, ap₂, _∙_, subst}
+use mathlib.Core.Path.{_≡_, refl, sym, ap, ap₂, _∙_}
 use mathlib.Core.Bool.{Bool, true, false, not, cond, _&&_}
 use mathlib.Core.Option.{Option, none, some, orElse}
 use mathlib.Core.List.{List, [], map}
 use lib.Dec.{ltb, leb}
-use borrow.Author.Tests.{ltb-true, ltb-false, lt-ltb, le-ltb, le-leb, lt-leb}
+use borrow.Author.Tests.{ltb-true, ltb-false, le-leb, lt-leb}
 use Rattle.lists.specs.Test.{by-bool}
 use Rattle.lists.specs.Sum.{range}
 use Rattle.lists.specs.Keep.{product, all?}
 use Rattle.lists.specs.Search.{low, low-cong}
 use Rattle.lists.specs.First.{first, best}
 use Rattle.model.specs.Instance.{Instance, surveyors, stands}
-use Rattle.search.specs.Search.{Hit, direct, loop, whole, Lead, stay, via, kept, olds, tip, arc, layer, walkPrice, trace, asWhole, room?, directs, aloneAt, loopAt, wholeAt, levels, still, levels′, search′}
+use Rattle.search.specs.Search.{Hit, direct, loop, stay, via, kept, olds, tip, arc, layer, walkPrice, trace, asWhole, room?, directs, aloneAt, loopAt, wholeAt, still, levels′, search′}
 use Rattle.arrays.specs.Shown.{at}
 use Rattle.grid.specs.Filled.{cell, Grid}
 use Rattle.grid.specs.Cheapest.{cheapest, cheapest-cong, best-map}
 use Rattle.layers.specs.Layers.{keptPrice, layerAt}
 use Rattle.levels.specs.declared.Found.the-variants as found
 use Rattle.levels.specs.declared.Found.{Found}
-use Rattle.levels.specs.Levels.{diagAt, endsAt, pairAt, levelLoop, levelRow, levelColumn, levelChange, levelAt, levelsAt}
+use Rattle.levels.specs.Levels.{diagAt, endsAt, levelLoop, levelRow, levelColumn, levelChange, levelsAt}
 use Rattle.places.specs.Firsts.{first-map, first-hit, first-miss, couple-hit, couple-miss, all-hit, all-miss}
 
 -- what is found, by edges
@@ -46,7 +46,7 @@ module _ (G : Instance) (M : ℕ → Bool) (es : List ℕ) (n : ℕ) (lists : ol
       ∙ best-map (λ y. (arc G M 133 (at es i) y .0 + layer G M 133 k y (at es j) .0, via y)) (at es) (kept 133 (layer G M 133 k (at es i) (at es j) .0), stay) 0 n
       ∙ ap (λ c. cheapest (λ y. true) (λ y. arc G M 133 (at es i) (at es y) .0 + layer G M 133 k (at es y) (at es j) .0) (keptPrice c) 0 n) (layer-is k i j il jl)
       ∙ cheapest-cong (λ y. true) (λ y. true) (λ y. arc G M 133 (at es i) (at es y) .0 + layer G M 133 k (at es y) (at es j) .0) (λ y. cell arcs i y + layerAt arcs n k y j) (keptPrice (layerAt arcs n k i j)) 0 n
-          (λ y p q. refl) (λ y p q. ap₂ (λ a b. a + b) (sym (arcsShow i y il (omega arith))) (layer-is k y j (omega arith) jl))
+      (λ y p q. refl) (λ y p q. ap₂ (λ a b. a + b) (sym (arcsShow i y il (omega arith))) (layer-is k y j (omega arith) jl))
 
   module _ (k : ℕ) where
     -- ---- closed walks
@@ -111,7 +111,7 @@ module _ (G : Instance) (M : ℕ → Bool) (es : List ℕ) (n : ℕ) (lists : ol
     still-row l = low-cong (λ i. ltb (low (λ j. not (stillTest l (at es i, at es j))) n) n) (λ i. ltb (low (λ j. ltb (layerAt arcs n (suc l) i j) (keptPrice (layerAt arcs n l i j))) n) n) n
         (λ i h. ap (λ c. ltb c n) (low-cong (λ j. not (stillTest l (at es i, at es j))) (λ j. ltb (layerAt arcs n (suc l) i j) (keptPrice (layerAt arcs n l i j))) n
         (λ j g. not-leb (kept 133 (walkPrice G M 133 l (at es i) (at es j))) (walkPrice G M 133 (suc l) (at es i) (at es j))
-            ∙ ap₂ (λ a b. ltb a (keptPrice b)) (layer-is (suc l) i j h g) (layer-is l i j h g))))
+        ∙ ap₂ (λ a b. ltb a (keptPrice b)) (layer-is (suc l) i j h g) (layer-is l i j h g))))
 
     still-hit : (l : ℕ) → n ≤ levelChange arcs n l → still G M 133 k l ≡ true
     unfolding still
@@ -134,9 +134,9 @@ module _ (G : Instance) (M : ℕ → Bool) (es : List ℕ) (n : ℕ) (lists : ol
     levels-are zero l = refl
     levels-are (suc b) l = by-bool (ltb (levelLoop arcs n k l) n)
         (λ e. ap (λ x. say (cond x (found.Closed l (levelLoop arcs n k l)) beyond)) e
-            ∙ sym (ap (λ o. orElse o (orElse (wholeAt G M 133 k l) (cond (still G M 133 k l) none (levels′ G M 133 k b (suc l))))) (loop-hit l (ltb-true (levelLoop arcs n k l) n e))))
+        ∙ sym (ap (λ o. orElse o (orElse (wholeAt G M 133 k l) (cond (still G M 133 k l) none (levels′ G M 133 k b (suc l))))) (loop-hit l (ltb-true (levelLoop arcs n k l) n e))))
         (λ e. ap (λ x. say (cond x (found.Closed l (levelLoop arcs n k l)) beyond)) e ∙ rest (levels-are b (suc l))
-            ∙ sym (ap (λ o. orElse o (orElse (wholeAt G M 133 k l) (cond (still G M 133 k l) none (levels′ G M 133 k b (suc l))))) (loop-miss l (ltb-false (levelLoop arcs n k l) n e))))
+        ∙ sym (ap (λ o. orElse o (orElse (wholeAt G M 133 k l) (cond (still G M 133 k l) none (levels′ G M 133 k b (suc l))))) (loop-miss l (ltb-false (levelLoop arcs n k l) n e))))
       where
         later : Found
         later = cond (ltb (levelChange arcs n l) n) (levelsAt arcs tips n k b (suc l)) found.Nothing
@@ -147,16 +147,16 @@ module _ (G : Instance) (M : ℕ → Bool) (es : List ℕ) (n : ℕ) (lists : ol
         last : say (levelsAt arcs tips n k b (suc l)) ≡ levels′ G M 133 k b (suc l) → say later ≡ cond (still G M 133 k l) none (levels′ G M 133 k b (suc l))
         last ih = by-bool (ltb (levelChange arcs n l) n)
             (λ e. ap (λ x. say (cond x (levelsAt arcs tips n k b (suc l)) found.Nothing)) e ∙ ih
-                ∙ sym (ap (λ x. cond x none (levels′ G M 133 k b (suc l))) (still-miss l (ltb-true (levelChange arcs n l) n e))))
+            ∙ sym (ap (λ x. cond x none (levels′ G M 133 k b (suc l))) (still-miss l (ltb-true (levelChange arcs n l) n e))))
             (λ e. ap (λ x. say (cond x (levelsAt arcs tips n k b (suc l)) found.Nothing)) e
-                ∙ sym (ap (λ x. cond x none (levels′ G M 133 k b (suc l))) (still-hit l (ltb-false (levelChange arcs n l) n e))))
+            ∙ sym (ap (λ x. cond x none (levels′ G M 133 k b (suc l))) (still-hit l (ltb-false (levelChange arcs n l) n e))))
 
         rest : say (levelsAt arcs tips n k b (suc l)) ≡ levels′ G M 133 k b (suc l) → say beyond ≡ orElse (wholeAt G M 133 k l) (cond (still G M 133 k l) none (levels′ G M 133 k b (suc l)))
         rest ih = by-bool (ltb (levelRow arcs tips n k l) n)
             (λ e. ap (λ x. say (cond x (found.Open l (levelRow arcs tips n k l) (levelColumn arcs tips n k l)) later)) e
-                ∙ sym (ap (λ o. orElse o (cond (still G M 133 k l) none (levels′ G M 133 k b (suc l)))) (whole-hit l (ltb-true (levelRow arcs tips n k l) n e))))
+            ∙ sym (ap (λ o. orElse o (cond (still G M 133 k l) none (levels′ G M 133 k b (suc l)))) (whole-hit l (ltb-true (levelRow arcs tips n k l) n e))))
             (λ e. ap (λ x. say (cond x (found.Open l (levelRow arcs tips n k l) (levelColumn arcs tips n k l)) later)) e ∙ last ih
-                ∙ sym (ap (λ o. orElse o (cond (still G M 133 k l) none (levels′ G M 133 k b (suc l)))) (whole-miss l (ltb-false (levelRow arcs tips n k l) n e))))
+            ∙ sym (ap (λ o. orElse o (cond (still G M 133 k l) none (levels′ G M 133 k b (suc l)))) (whole-miss l (ltb-false (levelRow arcs tips n k l) n e))))
 
     -- ---- the whole search
     abbrev aloneTest : ℕ → Bool
@@ -183,9 +183,9 @@ module _ (G : Instance) (M : ℕ → Bool) (es : List ℕ) (n : ℕ) (lists : ol
       unfolding searchAt search′ directs orElse
       search-is = by-bool (ltb (low free (G .m)) (G .m))
           (λ e. ap (λ x. say (cond x (found.Direct (low free (G .m))) onward)) e
-              ∙ sym (ap (λ o. orElse o (orElse (aloneAt G M 133 k) (levels′ G M 133 k n 0))) (first-hit freeTest direct (G .m) (omega (arith, free-low, ltb-true (low free (G .m)) (G .m) e)) ∙ ap (λ f. some (direct f)) free-low)))
+          ∙ sym (ap (λ o. orElse o (orElse (aloneAt G M 133 k) (levels′ G M 133 k n 0))) (first-hit freeTest direct (G .m) (omega (arith, free-low, ltb-true (low free (G .m)) (G .m) e)) ∙ ap (λ f. some (direct f)) free-low)))
           (λ e. ap (λ x. say (cond x (found.Direct (low free (G .m))) onward)) e ∙ rest
-              ∙ sym (ap (λ o. orElse o (orElse (aloneAt G M 133 k) (levels′ G M 133 k n 0))) (first-miss freeTest direct (G .m) (omega (arith, free-low, ltb-false (low free (G .m)) (G .m) e)))))
+          ∙ sym (ap (λ o. orElse o (orElse (aloneAt G M 133 k) (levels′ G M 133 k n 0))) (first-miss freeTest direct (G .m) (omega (arith, free-low, ltb-false (low free (G .m)) (G .m) e)))))
         where
           diag : ℕ
           diag = diagAt (cell tips) n (4 + k)
@@ -196,6 +196,6 @@ module _ (G : Instance) (M : ℕ → Bool) (es : List ℕ) (n : ℕ) (lists : ol
           rest : say onward ≡ orElse (aloneAt G M 133 k) (levels′ G M 133 k n 0)
           rest = by-bool (ltb diag n)
               (λ e. ap (λ x. say (cond x (found.Alone diag) (levelsAt arcs tips n k n 0))) e
-                  ∙ sym (ap (λ o. orElse o (levels′ G M 133 k n 0)) (alone-places ∙ first-hit (λ i. aloneTest (at es i)) (λ i. makeAlone (at es i)) n (omega (arith, alone-low, ltb-true diag n e)) ∙ ap (λ i. some (makeAlone (at es i))) alone-low)))
+              ∙ sym (ap (λ o. orElse o (levels′ G M 133 k n 0)) (alone-places ∙ first-hit (λ i. aloneTest (at es i)) (λ i. makeAlone (at es i)) n (omega (arith, alone-low, ltb-true diag n e)) ∙ ap (λ i. some (makeAlone (at es i))) alone-low)))
               (λ e. ap (λ x. say (cond x (found.Alone diag) (levelsAt arcs tips n k n 0))) e ∙ levels-are n 0
-                  ∙ sym (ap (λ o. orElse o (levels′ G M 133 k n 0)) (alone-places ∙ first-miss (λ i. aloneTest (at es i)) (λ i. makeAlone (at es i)) n (omega (arith, alone-low, ltb-false diag n e)))))
+              ∙ sym (ap (λ o. orElse o (levels′ G M 133 k n 0)) (alone-places ∙ first-miss (λ i. aloneTest (at es i)) (λ i. makeAlone (at es i)) n (omega (arith, alone-low, ltb-false diag n e)))))
