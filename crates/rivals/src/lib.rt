@@ -1,0 +1,121 @@
+// The search for a rival of a plan: the two tables, then the search below 0 and the search below 1 on them.
+ghost use mathlib.Core.Path.{_≡_};
+ghost use Prim.Native.Nat.{ℕ, _≤_, _<_};
+ghost use Rattle.grid.specs.Filled.{Low, Grid};
+ghost use Rattle.layers.specs.Layers.{Small, Cheap};
+ghost use Rattle.levels.specs.Levels.{SmallEnds};
+ghost use Rattle.places.specs.Walks.{searchAt};
+ghost use Rattle.rivals.specs.Shows.{Lists, Views, Roomy, freeAt, tipCell, Searched, Hits};
+
+// The table of the ends, from the ends and ranks of the plan's edges and the room at the nodes.
+pub fn tip_table(
+    m: usize,
+    sv: &[u8; 1024],
+    st: &[u8; 1024],
+    rs: &[u8; 1024],
+    rt: &[u8; 1024],
+    plan: &[bool; 1024],
+    n: usize,
+    ps: &[u8; 64],
+    pt: &[u8; 64],
+    qs: &[u8; 64],
+    qt: &[u8; 64],
+    fs: &[bool; 32],
+    ft: &[bool; 32],
+) -> [u8; 4096]
+    requires { ⌜ (m ≤ 1024) × (n ≤ 64) × Low m (now sv) 32 × Low m (now st) 32 ⌝ }
+    ensures { λ r. ⌜ Grid r n (tipCell m (now (sv .entry)) (now (st .entry)) (now (rs .entry)) (now (rt .entry)) (now (plan .entry)) (now (fs .entry)) (now (ft .entry)) (now (ps .entry)) (now (pt .entry)) (now (qs .entry)) (now (qt .entry))) ⌝ }
+{
+    let starts = gains::apart(m, sv, st, rs, plan, ft, n, ps, pt, qs);
+    let stops = gains::apart(m, st, sv, rt, plan, fs, n, pt, ps, qt);
+    let gs = gains::gains(m, sv, st, rs, plan, ft, n, ps, qs);
+    let gt = gains::gains(m, st, sv, rt, plan, fs, n, pt, qt);
+    tips::tips(n, &starts, &stops, &gs, &gt)
+}
+
+// The search below k: an edge with room at both ends, a walk without an arc, the levels.
+pub fn search(
+    m: usize,
+    sv: &[u8; 1024],
+    st: &[u8; 1024],
+    plan: &[bool; 1024],
+    fs: &[bool; 32],
+    ft: &[bool; 32],
+    n: usize,
+    arcs: &[u8; 4096],
+    ends: &[u8; 4096],
+    k: u8,
+) -> levels::Found
+    requires { ⌜ (m ≤ 1024) × (n ≤ 64) × (k ≤ 1) × Low m (now sv) 32 × Low m (now st) 32 × Small n (now arcs) × Cheap n (now arcs) × SmallEnds n (now ends) ⌝ }
+    ensures { λ r. ⌜ r ≡ searchAt m (freeAt (now (sv .entry)) (now (st .entry)) (now (plan .entry)) (now (fs .entry)) (now (ft .entry))) (now (arcs .entry)) (now (ends .entry)) n k ⌝ }
+{
+    let f = rooms::direct(m, sv, st, plan, fs, ft);
+    if f < m {
+        return levels::Found::Direct(f);
+    }
+    let i = levels::diagonal(n, ends, 4 + k);
+    if i < n {
+        return levels::Found::Alone(i);
+    }
+    levels::levels(n, arcs, ends, k)
+}
+
+// What is found below 0 and below 1.
+pub struct Pair {
+    pub below: levels::Found,
+    pub level: levels::Found,
+}
+
+// Both searches, from the ends and ranks of the plan's edges and the room at the nodes.
+pub fn both(
+    m: usize,
+    sv: &[u8; 1024],
+    st: &[u8; 1024],
+    rs: &[u8; 1024],
+    rt: &[u8; 1024],
+    plan: &[bool; 1024],
+    n: usize,
+    ps: &[u8; 64],
+    pt: &[u8; 64],
+    qs: &[u8; 64],
+    qt: &[u8; 64],
+    fs: &[bool; 32],
+    ft: &[bool; 32],
+) -> Pair
+    requires { ⌜ (m ≤ 1024) × (n ≤ 64) × Low m (now sv) 32 × Low m (now st) 32 ⌝ }
+    ensures { λ r. ⌜ Searched m (now (sv .entry)) (now (st .entry)) (now (rs .entry)) (now (rt .entry)) (now (plan .entry)) n (now (ps .entry)) (now (pt .entry)) (now (qs .entry)) (now (qt .entry)) (now (fs .entry)) (now (ft .entry)) (r .below) (r .level) ⌝ }
+{
+    let arcs = arcs::arcs(m, sv, st, rs, rt, plan, n, ps, pt, qs, qt);
+    let ends = tip_table(m, sv, st, rs, rt, plan, n, ps, pt, qs, qt, fs, ft);
+    let below = search(m, sv, st, plan, fs, ft, n, &arcs, &ends, 0);
+    let level = search(m, sv, st, plan, fs, ft, n, &arcs, &ends, 1);
+    Pair {
+        below: below,
+        level: level,
+    }
+}
+
+// The same from the plan's list and the quotas.
+pub fn finds(
+    m: usize,
+    sv: &[u8; 1024],
+    st: &[u8; 1024],
+    rs: &[u8; 1024],
+    rt: &[u8; 1024],
+    bs: &[u8; 32],
+    bt: &[u8; 32],
+    plan: &[bool; 1024],
+    n: usize,
+    es: &[u16; 64],
+) -> Pair
+    requires { ⌜ (m ≤ 1024) × (n ≤ 64) × Low m (now sv) 32 × Low m (now st) 32 × Lists m (now plan) n (now es) ⌝ }
+    ensures { λ r. ⌜ Hits m (now (sv .entry)) (now (st .entry)) (now (rs .entry)) (now (rt .entry)) (now (bs .entry)) (now (bt .entry)) (now (plan .entry)) n (now (es .entry)) (r .below) (r .level) ⌝ }
+{
+    let ps = grid::gathered(n, es, sv);
+    let pt = grid::gathered(n, es, st);
+    let qs = grid::gathered(n, es, rs);
+    let qt = grid::gathered(n, es, rt);
+    let fs = rooms::rooms(n, &ps, bs);
+    let ft = rooms::rooms(n, &pt, bt);
+    both(m, sv, st, rs, rt, plan, n, &ps, &pt, &qs, &qt, &fs, &ft)
+}
