@@ -20,7 +20,7 @@ group-of-requires c κs = search needs
 
 -- src/lib.rt:78:9
 returns : tie.Need-returns
-returns c = let a = c .before .before .before .before .args in too-short pairsSize (a .out .now) (pairsToWrite (readRoster (a .roster .now))) (c .group-of .result) (c .before .if1 .taken) (c .group-of .ensures)
+returns c = let a = c .before .before .before .before .args in too-short pairsSize (a .out .now) (pairsToWrite (readRoster (a .roster .now))) (c .group-of .result) (omega arith) (c .group-of .ensures)
 
 -- src/lib.rt:80:9
 read-roster-requires : tie.Need-read-roster-requires
@@ -48,7 +48,7 @@ mul-t25 c = search needs
 
 -- src/lib.rt:74:1
 returns-2 : tie.Need-returns-2
-returns-2 c = let a = c .before .before .before .before .before .before .before .args in pairs-unread (a .roster .now) (a .out .now) (c .before .before .before .before .if1 .left) (sym (c .before .a .given .1) ∙ c .before .before .before .read-roster .ensures)
+returns-2 c = let a = c .before .before .before .before .before .before .before .args in pairs-unread (a .roster .now) (a .out .now) (omega arith) (sym (c .before .a .given .1) ∙ c .before .before .before .read-roster .ensures)
 
 -- src/lib.rt:74:1
 same-length : tie.Need-same-length
@@ -59,7 +59,7 @@ returns-3 : tie.Need-returns-3
 returns-3 c =
     let i = c .before .before .before .before .before .before .before .before .before .before .before .before .before .before in
     let a = i .before .before .before .before .before .before .before .args in
-    pairs-wrote (a .roster .now) (a .out .now) (i .before .before .before .before .if1 .left) (i .instance-of .result) (i .instance-of .ensures)
+    pairs-wrote (a .roster .now) (a .out .now) (omega arith) (i .instance-of .result) (i .instance-of .ensures)
     (roster-accepted (a .roster .now) (a .roster .now) (sym (i .before .enum-told .given .1) ∙ i .before .before .before .read-roster .ensures)) refl (c .before .before .put-pairs .ensures)
 
 pub write-pairs-spec : {M : Type 1} → statement M

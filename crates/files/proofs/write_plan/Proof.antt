@@ -25,7 +25,7 @@ group-of-requires c κs = search needs
 
 -- src/lib.rt:57:9
 returns : tie.Need-returns
-returns c = let a = c .before .before .before .before .before .args in too-short planSize (a .out .now) (planToWrite (readRoster (a .roster .now)) (a .file .now)) (c .group-of .result) (c .before .if1 .taken) (c .group-of .ensures)
+returns c = let a = c .before .before .before .before .before .args in too-short planSize (a .out .now) (planToWrite (readRoster (a .roster .now)) (a .file .now)) (c .group-of .result) (omega arith) (c .group-of .ensures)
 
 -- src/lib.rt:59:9
 read-plan-requires : tie.Need-read-plan-requires
@@ -44,12 +44,12 @@ copy-requires : tie.Need-copy-requires
 copy-requires c κs =
     let a = c .before .before .before .before .before .before .before .before .args in
     let isB : T (isBytes (a .file .now)) = bytes-of (a .file .now) (λ k. c .before .before .before .before .before .before .shared-slice-known2 .given k) in
-    let h : length (a .file .now) ≤ planSize = plan-fits (a .roster .now) (a .file .now) (a .out .now) (c .before .before .before .before .if1 .left) isB (sym (c .before .enum-told .given .1) ∙ c .before .before .before .read-plan .ensures) in
+    let h : length (a .file .now) ≤ planSize = plan-fits (a .roster .now) (a .file .now) (a .out .now) (omega arith) isB (sym (c .before .enum-told .given .1) ∙ c .before .before .before .read-plan .ensures) in
     omega arith
 
 -- src/lib.rt:53:1
 returns-2 : tie.Need-returns-2
-returns-2 c = let a = c .before .before .before .before .before .before .before .before .args in plan-unread (a .roster .now) (a .file .now) (a .out .now) (c .before .before .before .before .if1 .left) (sym (c .before .a .given .1) ∙ c .before .before .before .read-plan .ensures)
+returns-2 c = let a = c .before .before .before .before .before .before .before .before .args in plan-unread (a .roster .now) (a .file .now) (a .out .now) (omega arith) (sym (c .before .a .given .1) ∙ c .before .before .before .read-plan .ensures)
 
 -- src/lib.rt:53:1
 same-length : tie.Need-same-length
@@ -60,7 +60,7 @@ returns-3 : tie.Need-returns-3
 returns-3 c =
     let a = c .before .before .before .before .before .before .before .before .before .before .before .args in
     let isB : T (isBytes (a .file .now)) = bytes-of (a .file .now) (λ k. c .before .before .before .before .before .before .before .before .before .shared-slice-known2 .given k) in
-    plan-wrote (a .roster .now) (a .file .now) (a .out .now) (c .before .before .before .before .before .before .before .if1 .left) isB (sym (c .before .before .before .before .enum-told .given .1) ∙ c .before .before .before .before .before .before .read-plan .ensures) (c .before .before .copy .ensures .0) (c .before .before .copy .ensures .1)
+    plan-wrote (a .roster .now) (a .file .now) (a .out .now) (omega arith) isB (sym (c .before .before .before .before .enum-told .given .1) ∙ c .before .before .before .before .before .before .read-plan .ensures) (c .before .before .copy .ensures .0) (c .before .before .copy .ensures .1)
 
 pub write-plan-spec : {M : Type 1} → statement M
 write-plan-spec =
