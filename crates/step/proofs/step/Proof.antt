@@ -1,13 +1,23 @@
 -- Rules 1 and 2, then the rest.
-use mathlib.Core.Path.{_≡_}
-use mathlib.Core.Bool.{false, _&&_}
+use mathlib.Core.Path.{_≡_, refl, sym, _∙_, ap, subst}
+use mathlib.Core.Bool.{Bool, true, false, not, _&&_, _||_}
+use mathlib.Core.List.{List, [], _∷_, _++_}
 use mathlib.Core.Logic.{⊎-elim}
-use Prim.Native.Nat.{ℕ, _-_}
+use Prim.Native.Nat.{ℕ, zero, suc, _+_, _-_, _*_, _≤_, _<_, zero-le, min}
 use native.Mathlib.Omega.{arith}
-use lib.ListN.{replicate}
-use Rattle.arrays.specs.Shown.{flag}
-use Rattle.step.specs.Tests.{lowest-is, rule1-is}
-use Rattle.step.specs.Says.{settingOf, silent-1, silent, says}
+use native.Mathlib.Nat.{not-suc-le-zero}
+use native.Mathlib.Numerals.{add-one}
+use lib.ListN.{length, getD, set, take, drop, replicate, length-set, length-replicate}
+use lib.Dec.{eqb, ltb, leb}
+use borrow.Author.Needs.{needs}
+use borrow.Author.Tests.{lt-ltb, le-ltb, le-leb, lt-leb, eq-eqb, ne-eqb}
+use mir.Val.{boolByte}
+use Rattle.arrays.specs.Shown.{at, flag}
+use Rattle.pass.specs.Filled.{tally-small}
+use Rattle.step.specs.View.{Setting, Known, G, Z, Quotas, Arrows, Aheads, aheads-are, arrows-are}
+use Rattle.step.specs.Tests.{from-zero, lowest-is, got-are, sent-are, loose-are, reserved-are, sizes-are, rule1-is, rule2-is, rule3-is, rule4-is, rule5-is, rule6-is, rule7-is}
+use Rattle.step.specs.Says.{settingOf, Silent, silent-1, silent, says, says-none}
+use borrow.Author.Needs.{needs}
 use Rattle.step.proofs.step.Statement.{statement}
 use Rattle.step.proofs.step.Tie as tie
 
@@ -29,8 +39,8 @@ returns c =
 second-requires : tie.Need-second-requires
 second-requires c κs = c .before .before .before .before .before .before .before .before .before .before .before .pre
 
-first-requires : tie.Need-first-requires
-first-requires c κs = c .before .before .before .before .before .before .before .before .before .before .before .before .before .pre .0 .0
+next-requires : tie.Need-next-requires
+next-requires c κs = (c .before .before .before .before .before .before .before .before .before .before .before .before .before .pre .0 .0, zero-le)
 
 returns-2 : tie.Need-returns-2
 returns-2 c =
@@ -41,8 +51,8 @@ returns-2 c =
     let x1 = lowest-is A 1 (c .before .before .before .before .before .before .before .find1 .result) (λ e. flag (a .rem .now) e && (flag (c .before .before .before .before .before .before .before .before .before .before .before .before .look .result .fs) e && flag (c .before .before .before .before .before .before .before .before .before .before .before .before .look .result .ft) e)) (rule1-is A (a .qs .now) (a .qt .now) (c .before .before .before .before .before .before .before .before .before .before .before .before .look .result .fs) (c .before .before .before .before .before .before .before .before .before .before .before .before .look .result .ft) Q (w .1)) (c .before .before .before .before .before .before .before .find1 .ensures) in
     let s2 = silent A 1 (c .before .before .before .before .before .before .before .find1 .result) (silent-1 A) x1 (c .before .before .before .before .before .before .if1 .left) in
     let n2 = c .before .before .before .second .ensures bs bt K fixed kS kT Q (w .1) in
-    let x2 = lowest-is A 2 (c .before .first .result) (flag (c .before .before .before .second .result)) n2 (c .before .first .ensures) in
-    (says A 2 (c .before .first .result) (c .before .before .before .second .result) s2 (omega arith) x2 (c .if2 .taken) (λ q. n2), w .1)
+    let x2 = lowest-is A 2 (c .before .next .result) (flag (c .before .before .before .second .result)) n2 (c .before .next .ensures ∙ from-zero (c .before .before .before .second .result) (a .m)) in
+    (says A 2 (c .before .next .result) (c .before .before .before .second .result) s2 (omega arith) x2 (c .if2 .taken) (λ q. n2), w .1)
 
 late-requires : tie.Need-late-requires
 late-requires c κs = (c .before .before .before .before .before .before .before .before .before .before .before .before .before .before .before .before .before .before .before .before .before .pre .0, c .before .before .before .before .before .before .before .before .before .before .before .before .before .before .before .before .before .before .before .before .before .pre .1 .0)
@@ -56,8 +66,8 @@ returns-3 c =
     let x1 = lowest-is A 1 (c .before .before .before .before .before .before .before .before .before .before .before .before .before .before .before .find1 .result) (λ e. flag (a .rem .now) e && (flag (c .before .before .before .before .before .before .before .before .before .before .before .before .before .before .before .before .before .before .before .before .look .result .fs) e && flag (c .before .before .before .before .before .before .before .before .before .before .before .before .before .before .before .before .before .before .before .before .look .result .ft) e)) (rule1-is A (a .qs .now) (a .qt .now) (c .before .before .before .before .before .before .before .before .before .before .before .before .before .before .before .before .before .before .before .before .look .result .fs) (c .before .before .before .before .before .before .before .before .before .before .before .before .before .before .before .before .before .before .before .before .look .result .ft) Q (w .1)) (c .before .before .before .before .before .before .before .before .before .before .before .before .before .before .before .find1 .ensures) in
     let s2 = silent A 1 (c .before .before .before .before .before .before .before .before .before .before .before .before .before .before .before .find1 .result) (silent-1 A) x1 (c .before .before .before .before .before .before .before .before .before .before .before .before .before .before .if1 .left) in
     let n2 = c .before .before .before .before .before .before .before .before .before .before .before .second .ensures bs bt K fixed kS kT Q (w .1) in
-    let x2 = lowest-is A 2 (c .before .before .before .before .before .before .before .before .before .first .result) (flag (c .before .before .before .before .before .before .before .before .before .before .before .second .result)) n2 (c .before .before .before .before .before .before .before .before .before .first .ensures) in
-    let s3 = silent A 2 (c .before .before .before .before .before .before .before .before .before .first .result) s2 x2 (c .before .before .before .before .before .before .before .before .if2 .left) in
+    let x2 = lowest-is A 2 (c .before .before .before .before .before .before .before .before .before .next .result) (flag (c .before .before .before .before .before .before .before .before .before .before .before .second .result)) n2 (c .before .before .before .before .before .before .before .before .before .next .ensures ∙ from-zero (c .before .before .before .before .before .before .before .before .before .before .before .second .result) (a .m)) in
+    let s3 = silent A 2 (c .before .before .before .before .before .before .before .before .before .next .result) s2 x2 (c .before .before .before .before .before .before .before .before .if2 .left) in
     (c .before .late .ensures (a .ot .now) bs bt K fixed kS kT Q (w .0) (w .1) s3, w .1)
 
 pub step-spec : {M : Type 1} → statement M
@@ -68,7 +78,7 @@ step-spec =
     find1-requires
     returns
     second-requires
-    first-requires
+    next-requires
     returns-2
     late-requires
     returns-3)
