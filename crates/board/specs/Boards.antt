@@ -108,15 +108,17 @@ module _ {m : ℕ} {sv st : List ℕ} {tied : List Bool} {quotaS quotaT os ot : 
         let q = state-acted G (x .rem) (x .fixed) (S .kS) (S .kT) (fateOf r) e (omega (arith, K .size, L .fixed)) in
         let j : m - n ≡ suc (m - (n + 1)) = omega arith in
         let p : recordOf G (stepOf G Z) ≡ entry r (at sv e) (at st e) = ap₂ (λ (i j : ℕ). entry i (at sv j) (at st j)) ri ei in
-        let z = acted sv st x r e in
-        (record {
-          kS = Y .qS;
-          kT = Y .qT;
-          holds = subst (λ X. Holds G X (z .qs) (z .qt) (z .ds) (z .dt)) (sym q)
-              (holds-acted G Z (x .qs) (x .qt) (x .ds) (x .dt) (fateOf r) e l t (K .fitS e l) (K .fitT e l) (L .qs) (L .qt) (L .ds) (L .dt) (S .holds));
-          ahead = S .ahead ∙ ap (λ k. onward G k n Z d) j ∙ onward-next G (m - (n + 1)) n Z d a
-              ∙ ap₂ (λ (X : State) (i : Record). onward G (m - (n + 1)) (n + 1) X (put d (n * 4) i)) (sym y ∙ sym q) p;
-        }, q)
+        let z = acted sv st x r e in (
+          record {
+            kS = Y .qS;
+            kT = Y .qT;
+            holds = subst (λ X. Holds G X (z .qs) (z .qt) (z .ds) (z .dt)) (sym q)
+                (holds-acted G Z (x .qs) (x .qt) (x .ds) (x .dt) (fateOf r) e l t (K .fitS e l) (K .fitT e l) (L .qs) (L .qt) (L .ds) (L .dt) (S .holds));
+            ahead = S .ahead ∙ ap (λ k. onward G k n Z d) j ∙ onward-next G (m - (n + 1)) n Z d a
+                ∙ ap₂ (λ (X : State) (i : Record). onward G (m - (n + 1)) (n + 1) X (put d (n * 4) i)) (sym y ∙ sym q) p;
+          },
+          q,
+        )
 
     pub stands-next : (r e : ℕ) → ruleOf G (stateAt S) ≡ r → edgeOf G (stateAt S) ≡ e → e < m → n < m → Sized x
         → (y : Board) (d′ : List ℕ) → y ≡ acted sv st x r e → d′ ≡ put d (n * 4) (entry r (at sv e) (at st e)) → Onward r e y d′

@@ -135,7 +135,15 @@ pub fn start(
 
 // Whether a strike at e leaves all arrows and cut quotas as they are, by a rule that may strike more edges: e carries no arrow, and its ends have
 // more remaining edges than their quotas.
-pub fn calm(rule: u8, sv: &[u8; 1024], st: &[u8; 1024], fs: &[bool; 1024], ft: &[bool; 1024], x: Board, e: usize) -> bool
+pub fn calm(
+    rule: u8,
+    sv: &[u8; 1024],
+    st: &[u8; 1024],
+    fs: &[bool; 1024],
+    ft: &[bool; 1024],
+    x: Board,
+    e: usize,
+) -> bool
     requires { ⌜ (e < 1024) × (at (now sv) e < 32) × (at (now st) e < 32) ⌝ }
     ensures { λ r. ⌜ r ≡ (eqb rule 2 || eqb rule 5) && ((not (flag (now (fs .entry)) e) && not (flag (now (ft .entry)) e)) && (ltb (at (x .qs) (at (now (sv .entry)) e)) (at (x .ds) (at (now (sv .entry)) e)) && ltb (at (x .qt) (at (now (st .entry)) e)) (at (x .dt) (at (now (st .entry)) e)))) ⌝ }
 {

@@ -10,6 +10,7 @@ ghost use Rattle.arrays.specs.Shown.{at};
 ghost use Rattle.pass.specs.Filled.{Low};
 ghost use Rattle.step.specs.View.{Known, instanceOf};
 ghost use Rattle.board.specs.Outcome.{Reduced, ReducedFrom};
+ghost use Rattle.board.specs.Boards.{Sized};
 ghost use Rattle.reduce.specs.Sweep.{Swept};
 
 // A board and the number of steps to it.
@@ -19,9 +20,22 @@ pub struct Ran {
 }
 
 // Further strikes of a rule behind its edge e, of the edges in hit, as long as they are calm.
-pub fn sweep(m: usize, sv: &[u8; 1024], st: &[u8; 1024], hit: &[bool; 1024], fs: &[bool; 1024], ft: &[bool; 1024], rule: u8, edge: usize, calm: bool, x: board::Board, steps: usize, diary: &mut [u8]) -> Ran
+pub fn sweep(
+    m: usize,
+    sv: &[u8; 1024],
+    st: &[u8; 1024],
+    hit: &[bool; 1024],
+    fs: &[bool; 1024],
+    ft: &[bool; 1024],
+    rule: u8,
+    edge: usize,
+    calm: bool,
+    x: board::Board,
+    steps: usize,
+    diary: &mut [u8],
+) -> Ran
     requires { ⌜ (m ≤ 1024) × Low m (now sv) 32 × Low m (now st) 32 × (edge < m) × (4096 ≤ length (now diary)) ⌝ }
-    ensures { λ r. ⌜ (steps ≤ r .steps) × Swept m (now (sv .entry)) (now (st .entry)) (now (hit .entry)) (now (fs .entry)) (now (ft .entry)) rule edge calm x steps (now (diary .entry)) (r .board) (r .steps) (now (diary .exit)) ⌝ }
+    ensures { λ r. ⌜ (steps ≤ r .steps) × (length (now (diary .exit)) ≡ length (now (diary .entry))) × Sized (r .board) × Swept m (now (sv .entry)) (now (st .entry)) (now (hit .entry)) (now (fs .entry)) (now (ft .entry)) rule edge calm x steps (now (diary .entry)) (r .board) (r .steps) (now (diary .exit)) ⌝ }
 {
     let mut y = x;
     let mut n = steps;
@@ -77,7 +91,20 @@ pub fn run(
         let calm = board::calm(rule, sv, st, &fs, &ft, x, e);
         board::note(&mut *diary, n, rule, sv[e], st[e]);
         let y = board::act(sv, st, x, rule, e);
-        let z = sweep(m, sv, st, &hit, &fs, &ft, rule, e, calm, y, n + 1, &mut *diary);
+        let z = sweep(
+            m,
+            sv,
+            st,
+            &hit,
+            &fs,
+            &ft,
+            rule,
+            e,
+            calm,
+            y,
+            n + 1,
+            &mut *diary,
+        );
         let w = z.board;
         x = w;
         n = z.steps;

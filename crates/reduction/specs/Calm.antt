@@ -6,13 +6,11 @@ use native.Mathlib.Omega.{arith}
 use mathlib.Core.Path.{_≡_, refl, sym, ap, ap₂, _∙_, subst, fun-ext}
 use mathlib.Core.Logic.{_⊎_, inl, inr, ⊎-elim}
 use mathlib.Core.Bool.{Bool, true, false, not, _&&_, _||_, and-true, and-false}
-use mathlib.Core.List.{List}
 use lib.Dec.{T, leb, ltb, eqb, eqb→eq, eqb-refl, ltb→lt, lt→ltb, nltb→le}
 use borrow.Author.Tests.{le-ltb}
-use Rattle.lists.specs.Test.{by-test, by-eq, eqb-no, given, and-l, and-r, and-i, nand-r, T-true, T-false, false-T, bit, parts}
-use Rattle.lists.specs.Search.{low-is}
+use Rattle.lists.specs.Test.{by-test, by-eq, eqb-no, given, and-l, and-r, and-i, nand-r, T-false, bit, parts}
 use Rattle.model.specs.Instance.{Instance, Side, surveyors, stands, deg}
-use Rattle.model.specs.Reduction.{State, cut, strictLeft, ahead, arrow, cutS, cutT, arrowS, arrowT, degS, degT, loose, reserved, betterS, betterT, worseReserved, rule1, rule2, rule3, rule4, rule5, names, lowest, ruleOf, edgeOf, Fate, strike, act}
+use Rattle.model.specs.Reduction.{State, cut, strictLeft, ahead, arrow, cutS, cutT, arrowS, arrowT, degS, degT, loose, reserved, betterS, betterT, worseReserved, rule1, rule2, rule3, rule4, rule5, names, ruleOf, edgeOf, strike, act}
 use Rattle.graph.specs.Degree.{deg-cong, deg-sub, deg-without}
 use Rattle.reduction.specs.Facts.{Quiet, rule5-says}
 use Rattle.reduction.specs.Chosen.{Acts, acts, below-edge}

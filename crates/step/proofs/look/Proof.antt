@@ -1,22 +1,8 @@
 -- The arrays of a step are those of the model: edges ahead, arrows.
-use mathlib.Core.Path.{_≡_, refl, sym, _∙_, ap, subst}
-use mathlib.Core.Bool.{Bool, true, false, not, _&&_, _||_}
-use mathlib.Core.List.{List, [], _∷_, _++_}
-use mathlib.Core.Logic.{⊎-elim}
-use Prim.Native.Nat.{ℕ, zero, suc, _+_, _-_, _*_, _≤_, _<_, zero-le, min}
-use native.Mathlib.Omega.{arith}
-use native.Mathlib.Nat.{not-suc-le-zero}
-use native.Mathlib.Numerals.{add-one}
-use lib.ListN.{length, getD, set, take, drop, replicate, length-set, length-replicate}
-use lib.Dec.{eqb, ltb, leb}
+use Prim.Native.Nat.{_-_}
 use borrow.Author.Needs.{needs}
-use borrow.Author.Tests.{lt-ltb, le-ltb, le-leb, lt-leb, eq-eqb, ne-eqb}
-use mir.Val.{boolByte}
-use Rattle.arrays.specs.Shown.{at, flag}
-use Rattle.pass.specs.Filled.{tally-small}
-use Rattle.step.specs.View.{Setting, Known, G, Z, Quotas, Arrows, Aheads, aheads-are, arrows-are}
-use Rattle.step.specs.Tests.{from-zero, lowest-is, got-are, sent-are, loose-are, reserved-are, sizes-are, rule1-is, rule2-is, rule3-is, rule4-is, rule5-is, rule6-is, rule7-is}
-use Rattle.step.specs.Says.{settingOf, Silent, silent-1, silent, says, says-none}
+use Rattle.step.specs.View.{aheads-are, arrows-are}
+use Rattle.step.specs.Says.{settingOf}
 use borrow.Author.Needs.{needs}
 use Rattle.step.proofs.look.Statement.{statement}
 use Rattle.step.proofs.look.Tie as tie
