@@ -1,5 +1,2 @@
-pub mod Diary
-pub mod Outcome
-pub mod Acted
-pub mod Boards
 pub mod Given
+pub mod Sweep

@@ -3,17 +3,22 @@
 use Prim.Native.Nat.{ℕ, zero, suc, _≤_, _<_}
 use native.Mathlib.Omega.{arith}
 use native.Mathlib.Decide.{decLt}
-use mathlib.Core.Path.{refl}
+use mathlib.Core.Path.{_≡_, refl, ap, _∙_}
 use mathlib.Core.Logic.{by-cases}
-use mathlib.Core.Bool.{not, _&&_}
+use mathlib.Core.Bool.{Bool, true, false, not, _&&_}
 use lib.Dec.{T, ltb, ltb→lt, nltb→le, not-T}
-use Rattle.lists.specs.Test.{given, and-l, and-r, nand-r}
-use Rattle.lists.specs.Search.{low-is}
+use borrow.Author.Tests.{lt-ltb, le-ltb}
+use Rattle.lists.specs.Test.{given, and-l, and-r, nand-r, T-false}
+use Rattle.lists.specs.Search.{low-is, low-hit, low-none}
 use Rattle.model.specs.Instance.{Instance, surveyors, stands}
 use Rattle.model.specs.Reduction.{State, cutS, cutT, arrowS, rule1, rule2, rule3, rule4, rule5, rule6, rule7, names, lowest, ruleOf, edgeOf, fateOf, fixes}
 use Rattle.graph.specs.Degree.{deg-pos}
 use Rattle.reduction.specs.Arrows.{arrow-few}
 use Rattle.reduction.specs.Facts.{Quiet, rule1-says, rule2-quiet, rule3-says, rule6-says, rule7-says}
+
+quiet-false : (a b : Bool) → (T a → T (not b)) → a && b ≡ false
+quiet-false true b h = T-false (h tt)
+quiet-false false b h = refl
 
 module _ (G : Instance) (Z : State) where
   -- a rule that names an edge is one of the seven
@@ -62,6 +67,23 @@ module _ (G : Instance) (Z : State) where
         named = n;
         earlier = earlier-quiet;
       }
+
+  -- a rule that is the first to name an edge, and the lowest edge that it names
+  pub chosen-is : (r e : ℕ) → r < 8 → ((k : ℕ) → k < r → Quiet G Z (names G Z k)) → e < G .m → Z .rem e && names G Z r e ≡ true
+      → ((d : ℕ) → d < e → Z .rem d && names G Z r d ≡ false) → (ruleOf G Z ≡ r) × (edgeOf G Z ≡ e)
+  unfolding ruleOf edgeOf lowest
+  chosen-is r e rl Q l t n =
+      let at : lowest G Z r ≡ e = low-hit (λ d. Z .rem d && names G Z r d) e (G .m) (low-none (λ d. Z .rem d && names G Z r d) e n) t l in
+      let is : ruleOf G Z ≡ r = low-hit (λ k. ltb (lowest G Z k) (G .m)) r 8 (low-none (λ k. ltb (lowest G Z k) (G .m)) r silent) (lt-ltb (lowest G Z r) (G .m) (omega arith)) rl in
+      (is, ap (lowest G Z) is ∙ at)
+    where
+      silent : (k : ℕ) → k < r → ltb (lowest G Z k) (G .m) ≡ false
+      silent k h = le-ltb (lowest G Z k) (G .m) (let i = low-none (λ d. Z .rem d && names G Z k d) (G .m) (λ d dl. quiet-false (Z .rem d) (names G Z k d) (Q k h d dl)) in omega arith)
+
+  -- its edge is the lowest
+  pub below-edge : (d : ℕ) → d < edgeOf G Z → T (not (Z .rem d && names G Z (ruleOf G Z) d))
+  unfolding edgeOf lowest
+  below-edge d h = low-is (λ e. Z .rem e && names G Z (ruleOf G Z) e) (G .m) .1 d h
 
   -- whether one acts is seen from the edge too
   pub edge-acts : edgeOf G Z < G .m → ruleOf G Z < 8

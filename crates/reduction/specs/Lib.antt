@@ -10,3 +10,4 @@ pub mod Chains
 pub mod Steps
 pub mod End
 pub mod Run
+pub mod Calm

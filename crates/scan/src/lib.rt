@@ -8,12 +8,12 @@ ghost use Rattle.lists.specs.Search.{low};
 ghost use Rattle.arrays.specs.Shown.{at, flag};
 ghost use Rattle.pass.specs.Filled.{Low, Made, Small};
 
-// The lowest edge of a set.
-pub fn first(m: usize, p: &[bool; 1024]) -> usize
-    requires { ⌜ m ≤ 1024 ⌝ }
-    ensures { λ r. ⌜ r ≡ low (flag (now (p .entry))) m ⌝ }
+// The lowest edge of a set from an edge on.
+pub fn next(m: usize, p: &[bool; 1024], from: usize) -> usize
+    requires { ⌜ (m ≤ 1024) × (from ≤ m) ⌝ }
+    ensures { λ r. ⌜ r ≡ low (λ e. leb from e && flag (now (p .entry)) e) m ⌝ }
 {
-    let mut i = 0;
+    let mut i = from;
     while i < m {
         if p[i] {
             return i;

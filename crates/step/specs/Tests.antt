@@ -1,5 +1,5 @@
 -- The tests of the seven rules, read from the arrays of a step.
-use Prim.Native.Nat.{ℕ, _+_, _<_}
+use Prim.Native.Nat.{ℕ, zero-le, _+_, _<_}
 use native.Mathlib.Omega.{arith}
 use mathlib.Core.Path.{_≡_, refl, sym, ap, _∙_, subst}
 use mathlib.Core.Logic.{⊎-elim}
@@ -7,6 +7,7 @@ use mathlib.Core.Bool.{Bool, true, false, not, _&&_, _||_}
 use mathlib.Core.List.{List}
 use lib.ListN.{replicate}
 use lib.Dec.{T, leb, ltb, eqb, eqb→eq, ltb→lt, nltb→le, T-not, not-T}
+use borrow.Author.Tests.{le-leb}
 use Rattle.lists.specs.Test.{by-eq, by-test, bool-eq, and-l, and-r, and-i, or-l, or-r, or-case, eq→eqb, eqb-yes, eqb-no, bit}
 use Rattle.lists.specs.Search.{low, low-cong}
 use Rattle.model.specs.Instance.{Side, surveyors, stands, deg}
@@ -84,6 +85,10 @@ last-none : (b k n : ℕ) → n ≡ b + (k + 1) → eqb (b + 1) n ≡ eqb k 0
 last-none b k n h = by-eq k 0
     (λ i t. eqb-yes (b + 1) n (omega arith) ∙ sym t)
     (λ i t. eqb-no (b + 1) n (λ (q : b + 1 ≡ n). i (omega arith)) ∙ sym t)
+
+-- the lowest edge from 0 on
+pub from-zero : (p : List Bool) (m : ℕ) → low (λ e. leb 0 e && flag p e) m ≡ low (flag p) m
+from-zero p m = low-cong (λ e. leb 0 e && flag p e) (flag p) m (λ e l. ap (λ b. b && flag p e) (le-leb 0 e zero-le))
 
 module _ (A : Setting) where
   abbrev m : ℕ

@@ -108,7 +108,7 @@ pub fn last(
     ensures { λ r. ⌜ ((os ot : List ℕ) → Last m (now (sv .entry)) (now (st .entry)) (now (tied .entry)) os ot (now (rem .entry)) (now (qs .entry)) (now (qt .entry)) (now (hs .entry)) (now (ht .entry)) (now (fs .entry)) (now (ft .entry)) (now (lo .entry)) (now (ns .entry)) (now (got .entry)) (r .rule) (r .edge) (r .hit)) ⌝ }
 {
     let hit = scan::named5(m, rem, st, lo, fs, ft);
-    let e5 = scan::first(m, &hit);
+    let e5 = scan::next(m, &hit, 0);
     if e5 < m {
         return Named {
             rule: 5,
@@ -214,7 +214,7 @@ pub fn step(
         };
     }
     let hit = second(m, sv, st, tied, os, ot, rem, qs, qt, &fs, &ft);
-    let e2 = scan::first(m, &hit);
+    let e2 = scan::next(m, &hit, 0);
     if e2 < m {
         return Stepped {
             rule: 2,

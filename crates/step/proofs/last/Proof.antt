@@ -1,13 +1,13 @@
 -- Rules 5 to 7, one after the other.
-use mathlib.Core.Path.{_≡_}
+use mathlib.Core.Path.{_≡_, _∙_}
 use mathlib.Core.Bool.{not, _&&_}
 use mathlib.Core.Logic.{⊎-elim}
-use Prim.Native.Nat.{ℕ, _-_}
+use Prim.Native.Nat.{ℕ, _-_, zero-le}
 use native.Mathlib.Omega.{arith}
 use lib.Dec.{eqb, ltb}
 use borrow.Author.Needs.{needs}
 use Rattle.arrays.specs.Shown.{at, flag}
-use Rattle.step.specs.Tests.{lowest-is, rule5-is, rule6-is, rule7-is}
+use Rattle.step.specs.Tests.{from-zero, lowest-is, rule5-is, rule6-is, rule7-is}
 use Rattle.step.specs.Says.{settingOf, silent, says, says-none}
 use borrow.Author.Needs.{needs}
 use Rattle.step.proofs.last.Statement.{statement}
@@ -16,8 +16,8 @@ use Rattle.step.proofs.last.Tie as tie
 named5-requires : tie.Need-named5-requires
 named5-requires c κs = search needs
 
-first-requires : tie.Need-first-requires
-first-requires c κs = search needs
+next-requires : tie.Need-next-requires
+next-requires c κs = (c .before .before .pre .0, zero-le)
 
 returns : tie.Need-returns
 returns c =
@@ -25,8 +25,8 @@ returns c =
     λ os ot bs bt K fixed kS kT Q H F L C I s5.
     let A = settingOf (a .m) (a .sv .now) (a .st .now) (a .tied .now) os ot (a .rem .now) bs bt fixed kS kT K in
     let n5 = rule5-is A (a .qs .now) (a .qt .now) (a .fs .now) (a .ft .now) Q F (a .lo .now) (c .before .before .before .named5 .result) L (c .before .before .before .named5 .ensures) in
-    let x5 = lowest-is A 5 (c .before .first .result) (flag (c .before .before .before .named5 .result)) n5 (c .before .first .ensures) in
-    says A 5 (c .before .first .result) (c .before .before .before .named5 .result) s5 (omega arith) x5 (c .if1 .taken) (λ q. n5)
+    let x5 = lowest-is A 5 (c .before .next .result) (flag (c .before .before .before .named5 .result)) n5 (c .before .next .ensures ∙ from-zero (c .before .before .before .named5 .result) (a .m)) in
+    says A 5 (c .before .next .result) (c .before .before .before .named5 .result) s5 (omega arith) x5 (c .if1 .taken) (λ q. n5)
 
 find6-requires : tie.Need-find6-requires
 find6-requires c κs = search needs
@@ -37,8 +37,8 @@ returns-2 c =
     λ os ot bs bt K fixed kS kT Q H F L C I s5.
     let A = settingOf (a .m) (a .sv .now) (a .st .now) (a .tied .now) os ot (a .rem .now) bs bt fixed kS kT K in
     let n5 = rule5-is A (a .qs .now) (a .qt .now) (a .fs .now) (a .ft .now) Q F (a .lo .now) (c .before .before .before .before .before .named5 .result) L (c .before .before .before .before .before .named5 .ensures) in
-    let x5 = lowest-is A 5 (c .before .before .before .first .result) (flag (c .before .before .before .before .before .named5 .result)) n5 (c .before .before .before .first .ensures) in
-    let s6 = silent A 5 (c .before .before .before .first .result) s5 x5 (c .before .before .if1 .left) in
+    let x5 = lowest-is A 5 (c .before .before .before .next .result) (flag (c .before .before .before .before .before .named5 .result)) n5 (c .before .before .before .next .ensures ∙ from-zero (c .before .before .before .before .before .named5 .result) (a .m)) in
+    let s6 = silent A 5 (c .before .before .before .next .result) s5 x5 (c .before .before .if1 .left) in
     let x6 = lowest-is A 6 (c .before .find6 .result) (λ e. flag (a .rem .now) e && (ltb (at (a .ns .now) (at (a .sv .now) e)) (at (a .qs .now) (at (a .sv .now) e)) && eqb (at (a .hs .now) e) 0)) (rule6-is A (a .qs .now) (a .qt .now) (a .fs .now) (a .ft .now) Q F (a .hs .now) (a .ht .now) H (a .ns .now) C) (c .before .find6 .ensures) in
     says A 6 (c .before .find6 .result) (c .before .before .before .before .before .named5 .result) s6 (omega arith) x6 (c .if2 .taken) (⊎-elim (λ (q : _≡_ {A = ℕ} 6 2). absurd (omega arith)) (λ (q : _≡_ {A = ℕ} 6 5). absurd (omega arith)))
 
@@ -51,8 +51,8 @@ returns-3 c =
     λ os ot bs bt K fixed kS kT Q H F L C I s5.
     let A = settingOf (a .m) (a .sv .now) (a .st .now) (a .tied .now) os ot (a .rem .now) bs bt fixed kS kT K in
     let n5 = rule5-is A (a .qs .now) (a .qt .now) (a .fs .now) (a .ft .now) Q F (a .lo .now) (c .before .before .before .before .before .before .before .named5 .result) L (c .before .before .before .before .before .before .before .named5 .ensures) in
-    let x5 = lowest-is A 5 (c .before .before .before .before .before .first .result) (flag (c .before .before .before .before .before .before .before .named5 .result)) n5 (c .before .before .before .before .before .first .ensures) in
-    let s6 = silent A 5 (c .before .before .before .before .before .first .result) s5 x5 (c .before .before .before .before .if1 .left) in
+    let x5 = lowest-is A 5 (c .before .before .before .before .before .next .result) (flag (c .before .before .before .before .before .before .before .named5 .result)) n5 (c .before .before .before .before .before .next .ensures ∙ from-zero (c .before .before .before .before .before .before .before .named5 .result) (a .m)) in
+    let s6 = silent A 5 (c .before .before .before .before .before .next .result) s5 x5 (c .before .before .before .before .if1 .left) in
     let x6 = lowest-is A 6 (c .before .before .before .find6 .result) (λ e. flag (a .rem .now) e && (ltb (at (a .ns .now) (at (a .sv .now) e)) (at (a .qs .now) (at (a .sv .now) e)) && eqb (at (a .hs .now) e) 0)) (rule6-is A (a .qs .now) (a .qt .now) (a .fs .now) (a .ft .now) Q F (a .hs .now) (a .ht .now) H (a .ns .now) C) (c .before .before .before .find6 .ensures) in
     let s7 = silent A 6 (c .before .before .before .find6 .result) s6 x6 (c .before .before .if2 .left) in
     let x7 = lowest-is A 7 (c .before .find7 .result) (λ e. flag (a .rem .now) e && (ltb (at (a .got .now) (at (a .st .now) e)) (at (a .qt .now) (at (a .st .now) e)) && (not (flag (a .tied .now) e) && eqb (at (a .ht .now) e) 0))) (rule7-is A (a .qs .now) (a .qt .now) (a .fs .now) (a .ft .now) Q F (a .hs .now) (a .ht .now) H (a .got .now) I) (c .before .find7 .ensures) in
@@ -64,8 +64,8 @@ returns-4 c =
     λ os ot bs bt K fixed kS kT Q H F L C I s5.
     let A = settingOf (a .m) (a .sv .now) (a .st .now) (a .tied .now) os ot (a .rem .now) bs bt fixed kS kT K in
     let n5 = rule5-is A (a .qs .now) (a .qt .now) (a .fs .now) (a .ft .now) Q F (a .lo .now) (c .before .before .before .before .before .before .before .named5 .result) L (c .before .before .before .before .before .before .before .named5 .ensures) in
-    let x5 = lowest-is A 5 (c .before .before .before .before .before .first .result) (flag (c .before .before .before .before .before .before .before .named5 .result)) n5 (c .before .before .before .before .before .first .ensures) in
-    let s6 = silent A 5 (c .before .before .before .before .before .first .result) s5 x5 (c .before .before .before .before .if1 .left) in
+    let x5 = lowest-is A 5 (c .before .before .before .before .before .next .result) (flag (c .before .before .before .before .before .before .before .named5 .result)) n5 (c .before .before .before .before .before .next .ensures ∙ from-zero (c .before .before .before .before .before .before .before .named5 .result) (a .m)) in
+    let s6 = silent A 5 (c .before .before .before .before .before .next .result) s5 x5 (c .before .before .before .before .if1 .left) in
     let x6 = lowest-is A 6 (c .before .before .before .find6 .result) (λ e. flag (a .rem .now) e && (ltb (at (a .ns .now) (at (a .sv .now) e)) (at (a .qs .now) (at (a .sv .now) e)) && eqb (at (a .hs .now) e) 0)) (rule6-is A (a .qs .now) (a .qt .now) (a .fs .now) (a .ft .now) Q F (a .hs .now) (a .ht .now) H (a .ns .now) C) (c .before .before .before .find6 .ensures) in
     let s7 = silent A 6 (c .before .before .before .find6 .result) s6 x6 (c .before .before .if2 .left) in
     let x7 = lowest-is A 7 (c .before .find7 .result) (λ e. flag (a .rem .now) e && (ltb (at (a .got .now) (at (a .st .now) e)) (at (a .qt .now) (at (a .st .now) e)) && (not (flag (a .tied .now) e) && eqb (at (a .ht .now) e) 0))) (rule7-is A (a .qs .now) (a .qt .now) (a .fs .now) (a .ft .now) Q F (a .hs .now) (a .ht .now) H (a .got .now) I) (c .before .find7 .ensures) in
@@ -77,7 +77,7 @@ last-spec =
     tie.close
     (tie.spec
     named5-requires
-    first-requires
+    next-requires
     returns
     find6-requires
     returns-2

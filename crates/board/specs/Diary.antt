@@ -30,8 +30,8 @@ unfoldable pub laid : ℕ → List Record → List ℕ → List ℕ
 laid n [] d = d
 laid n (r ∷ rs) d = laid (n + 1) rs (put d (n * 4) r)
 
-pub put-length : (d : List ℕ) (b : ℕ) (r : Record) → length (put d b r) ≡ length d
-put-length d b r = simp length-set
+pub put-length : (d d′ : List ℕ) (b : ℕ) (r : Record) → d′ ≡ put d b r → length d′ ≡ length d
+put-length d d′ b r e = ap length e ∙ simp length-set
 
 -- a buffer that starts with xs: a store behind them
 behind : (xs ys : List ℕ) (b i x : ℕ) → length xs ≡ b → set (xs ++ ys) (b + i) x ≡ xs ++ set ys i x

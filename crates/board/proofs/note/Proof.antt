@@ -6,10 +6,10 @@ use lib.ListN.{length-set}
 use borrow.Author.Needs.{needs}
 use Rattle.model.specs.Reduction.{fixes}
 use Rattle.pass.specs.Filled.{byte-one}
-use Rattle.reduce.proofs.Laws.{fate-byte}
+use Rattle.board.proofs.Laws.{fate-byte}
 use borrow.Author.Needs.{needs}
-use Rattle.reduce.proofs.note.Statement.{statement}
-use Rattle.reduce.proofs.note.Tie as tie
+use Rattle.board.proofs.note.Statement.{statement}
+use Rattle.board.proofs.note.Tie as tie
 
 mul-b : tie.Need-mul-b
 mul-b c = search needs

@@ -14,10 +14,10 @@ use Rattle.reduction.specs.Chosen.{acts, edge-acts, edge-none}
 use Rattle.arrays.specs.Shown.{at, flag}
 use Rattle.pass.specs.Filled.{Tally}
 use Rattle.step.specs.View.{Known, stateOf, instanceOf}
-use Rattle.reduce.specs.declared.Board.{Board}
-use Rattle.reduce.specs.Diary.{put, entry}
-use Rattle.reduce.specs.Outcome.{onward, onward-next, onward-none, onward-stop, Reduced, reduced}
-use Rattle.reduce.specs.Acted.{Holds, holds-acted, state-acted}
+use Rattle.board.specs.declared.Board.{Board}
+use Rattle.board.specs.Diary.{put, entry}
+use Rattle.board.specs.Outcome.{onward, onward-next, onward-none, onward-stop, Reduced, reduced}
+use Rattle.board.specs.Acted.{Holds, holds-acted, state-acted}
 
 -- ---- what the functions promise
 -- the board after a step by a rule at e
@@ -47,7 +47,7 @@ pub record Sized (x : Board) : Type 0 where
   pub ds : length (x .ds) ≡ 32
   pub dt : length (x .dt) ≡ 32
 
-pub sized-acted : (sv st : List ℕ) (x : Board) (rule e : ℕ) → Sized x → Sized (acted sv st x rule e)
+sized-acted : (sv st : List ℕ) (x : Board) (rule e : ℕ) → Sized x → Sized (acted sv st x rule e)
 sized-acted sv st x rule e S = record {
   fixed = simp length-set (S .fixed);
   qs = simp length-set (S .qs);
@@ -56,10 +56,14 @@ sized-acted sv st x rule e S = record {
   dt = simp length-set (S .dt);
 }
 
+pub sized-next : (sv st : List ℕ) (x y : Board) (rule e : ℕ) → Sized x → y ≡ acted sv st x rule e → Sized y
+sized-next sv st x y rule e S i = subst Sized (sym i) (sized-acted sv st x rule e S)
+
 -- ---- where a run stands after n steps, with the diary d
 abbrev pub shows : Board → (kS kT : ℕ → ℕ) → State
 shows x kS kT = stateOf (x .rem) (x .fixed) kS kT
 
+-- (its quotas before the cut are kS, kT)
 pub record Stands (G : Instance) (d₀ : List ℕ) (n : ℕ) (x : Board) (d : List ℕ) : Type 0 where
   pub kS : ℕ → ℕ
   pub kT : ℕ → ℕ
@@ -89,11 +93,13 @@ module _ {m : ℕ} {sv st : List ℕ} {tied : List Bool} {quotaS quotaT os ot : 
       }
 
   module _ (n : ℕ) (x : Board) (d : List ℕ) (S : Stands G d₀ n x d) where
-    -- one step on
-    pub stands-next : (r e : ℕ) → ruleOf G (stateAt S) ≡ r → edgeOf G (stateAt S) ≡ e → e < m → n < m → Sized x
-        → Stands G d₀ (n + 1) (acted sv st x r e) (put d (n * 4) (entry r (at sv e) (at st e)))
+    -- where it stands one step on: in the state after the step
+    abbrev pub Onward : (r e : ℕ) (y : Board) (d′ : List ℕ) → Type 0
+    Onward r e y d′ = (S′ : Stands G d₀ (n + 1) y d′) × (stateAt S′ ≡ act G (stateAt S) (fateOf r) e)
+
+    stands-act : (r e : ℕ) → ruleOf G (stateAt S) ≡ r → edgeOf G (stateAt S) ≡ e → e < m → n < m → Sized x → Onward r e (acted sv st x r e) (put d (n * 4) (entry r (at sv e) (at st e)))
     unfolding next
-    stands-next r e ri ei l nl L =
+    stands-act r e ri ei l nl L =
         let Z = stateAt S in
         let a : ruleOf G Z < 8 = edge-acts G Z (omega arith) in
         let t : T (flag (x .rem) e) = subst (λ i. T (flag (x .rem) i)) ei (acts G Z a .left) in
@@ -102,15 +108,21 @@ module _ {m : ℕ} {sv st : List ℕ} {tied : List Bool} {quotaS quotaT os ot : 
         let q = state-acted G (x .rem) (x .fixed) (S .kS) (S .kT) (fateOf r) e (omega (arith, K .size, L .fixed)) in
         let j : m - n ≡ suc (m - (n + 1)) = omega arith in
         let p : recordOf G (stepOf G Z) ≡ entry r (at sv e) (at st e) = ap₂ (λ (i j : ℕ). entry i (at sv j) (at st j)) ri ei in
-        let z = acted sv st x r e in
-        record {
-          kS = Y .qS;
-          kT = Y .qT;
-          holds = subst (λ X. Holds G X (z .qs) (z .qt) (z .ds) (z .dt)) (sym q)
-              (holds-acted G Z (x .qs) (x .qt) (x .ds) (x .dt) (fateOf r) e l t (K .fitS e l) (K .fitT e l) (L .qs) (L .qt) (L .ds) (L .dt) (S .holds));
-          ahead = S .ahead ∙ ap (λ k. onward G k n Z d) j ∙ onward-next G (m - (n + 1)) n Z d a
-              ∙ ap₂ (λ (X : State) (i : Record). onward G (m - (n + 1)) (n + 1) X (put d (n * 4) i)) (sym y ∙ sym q) p;
-        }
+        let z = acted sv st x r e in (
+          record {
+            kS = Y .qS;
+            kT = Y .qT;
+            holds = subst (λ X. Holds G X (z .qs) (z .qt) (z .ds) (z .dt)) (sym q)
+                (holds-acted G Z (x .qs) (x .qt) (x .ds) (x .dt) (fateOf r) e l t (K .fitS e l) (K .fitT e l) (L .qs) (L .qt) (L .ds) (L .dt) (S .holds));
+            ahead = S .ahead ∙ ap (λ k. onward G k n Z d) j ∙ onward-next G (m - (n + 1)) n Z d a
+                ∙ ap₂ (λ (X : State) (i : Record). onward G (m - (n + 1)) (n + 1) X (put d (n * 4) i)) (sym y ∙ sym q) p;
+          },
+          q,
+        )
+
+    pub stands-next : (r e : ℕ) → ruleOf G (stateAt S) ≡ r → edgeOf G (stateAt S) ≡ e → e < m → n < m → Sized x
+        → (y : Board) (d′ : List ℕ) → y ≡ acted sv st x r e → d′ ≡ put d (n * 4) (entry r (at sv e) (at st e)) → Onward r e y d′
+    stands-next r e ri ei l nl L y d′ i j = subst (λ y. Onward r e y d′) (sym i) (subst (λ d′. Onward r e (acted sv st x r e) d′) (sym j) (stands-act r e ri ei l nl L))
 
     -- no step on: no rule acts, or as many steps are taken as there are edges
     pub stands-end : m ≤ edgeOf G (stateAt S) → 4 * m ≤ length d₀ → Reduced G d₀ (x .rem) (x .fixed) n d

@@ -1,10 +1,10 @@
 -- The board at the beginning.
 use Prim.Native.Nat.{_-_}
 use borrow.Author.Needs.{needs}
-use Rattle.reduce.proofs.Laws.{no-flags}
+use Rattle.board.proofs.Laws.{no-flags}
 use borrow.Author.Needs.{needs}
-use Rattle.reduce.proofs.start.Statement.{statement}
-use Rattle.reduce.proofs.start.Tie as tie
+use Rattle.board.proofs.start.Statement.{statement}
+use Rattle.board.proofs.start.Tie as tie
 
 all-requires : tie.Need-all-requires
 all-requires c κs = search needs

@@ -12,7 +12,7 @@ use Rattle.reduction.specs.Course.{after-more, steps-more, after-none, steps-no
 use Rattle.graph.specs.Lawful.{Lawful}
 use Rattle.arrays.specs.Shown.{flag, shown}
 use Rattle.step.specs.View.{stateOf}
-use Rattle.reduce.specs.Diary.{written, put, laid, laid-is}
+use Rattle.board.specs.Diary.{written, put, laid, laid-is}
 
 -- the state at the end, the number of steps, the diary
 pub record Outcome : Type 0 where

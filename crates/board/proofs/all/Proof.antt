@@ -6,9 +6,9 @@ use native.Mathlib.Omega.{arith}
 use lib.ListN.{length, length-set, length-replicate}
 use lib.Dec.{ltb}
 use Rattle.arrays.specs.Shown.{flag}
-use Rattle.reduce.proofs.Laws.{none-yet, all-next}
-use Rattle.reduce.proofs.all.Statement.{statement}
-use Rattle.reduce.proofs.all.Tie as tie
+use Rattle.board.proofs.Laws.{none-yet, all-next}
+use Rattle.board.proofs.all.Statement.{statement}
+use Rattle.board.proofs.all.Tie as tie
 
 abbrev Inv-loop : tie.InvT-loop
 Inv-loop m o₀ i₀ o i = (i ≤ m) × (length o ≡ 1024) × ((e : ℕ) → flag o e ≡ ltb e i)

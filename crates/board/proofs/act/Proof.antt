@@ -2,8 +2,8 @@
 use Prim.Native.Nat.{_-_}
 use borrow.Author.Needs.{needs}
 use borrow.Author.Needs.{needs}
-use Rattle.reduce.proofs.act.Statement.{statement}
-use Rattle.reduce.proofs.act.Tie as tie
+use Rattle.board.proofs.act.Statement.{statement}
+use Rattle.board.proofs.act.Tie as tie
 
 fixes-requires : tie.Need-fixes-requires
 fixes-requires c κs = search needs

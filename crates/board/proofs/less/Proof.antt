@@ -4,8 +4,8 @@ use native.Mathlib.Omega.{arith}
 use borrow.Author.Needs.{needs}
 use Rattle.pass.specs.Filled.{byte-one}
 use borrow.Author.Needs.{needs}
-use Rattle.reduce.proofs.less.Statement.{statement}
-use Rattle.reduce.proofs.less.Tie as tie
+use Rattle.board.proofs.less.Statement.{statement}
+use Rattle.board.proofs.less.Tie as tie
 
 returns : tie.Need-returns
 returns c = search needs

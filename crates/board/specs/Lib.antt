@@ -1,0 +1,4 @@
+pub mod Diary
+pub mod Outcome
+pub mod Acted
+pub mod Boards
