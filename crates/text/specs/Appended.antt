@@ -3,7 +3,7 @@
 use Prim.Native.Nat.{ℕ, zero, suc, _+_, _≤_, _<_}
 use native.Mathlib.Omega.{arith}
 use native.Mathlib.Numerals.{add-one}
-use mathlib.Core.Path.{_≡_, refl, sym, ap, ap₂, _∙_}
+use mathlib.Core.Path.{_≡_, refl, sym, ap, ap₂, _∙_, subst}
 use mathlib.Core.List.{List, [], _∷_, _++_, append-assoc}
 use lib.ListN.{length, take, drop, set, take-append-drop, length-append}
 use lib.Seq.{length-take-le, take-length, set-split, take-at, drop-at, drop-drop, paste}
@@ -11,6 +11,10 @@ use lib.Seq.{length-take-le, take-length, set-split, take-at, drop-at, drop-drop
 pub record Appended (out : List ℕ) (at : ℕ) (x : List ℕ) (after : List ℕ) (next : ℕ) : Type 0 where
   pub place : next ≡ at + length x
   pub bytes : after ≡ take at out ++ (x ++ drop (at + length x) out)
+
+-- the same text in other words
+pub append-as : {out after x y : List ℕ} {at next : ℕ} → x ≡ y → Appended out at x after next → Appended out at y after next
+append-as {out} {after} {x} {y} {at} {next} e a = subst (λ (z : List ℕ). Appended out at z after next) e a
 
 module _ (out : List ℕ) (at : ℕ) where
   pub append-none : Appended out at [] out at

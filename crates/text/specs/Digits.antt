@@ -8,7 +8,7 @@ use mathlib.Core.Bool.{Bool, true, false}
 use mathlib.Core.List.{List, [], _∷_, _++_}
 use lib.ListN.{length, length-append}
 use borrow.Author.Tests.{lt-ltb, le-ltb}
-use Rattle.model.specs.Printed.{digits}
+use Rattle.model.specs.Printed.{digits, number}
 
 pub digits-none : (n : ℕ) → digits 0 n ≡ []
 unfolding digits
@@ -29,3 +29,7 @@ digits-length zero n = rw (digits-none n) zero-le
 digits-length (suc k) n = by-cases (decLt n 10)
     (λ h. rw (digits-last (suc k) n (omega arith) h) (omega arith))
     (λ h. let g : 10 ≤ n = omega arith in let e : suc k - 1 ≡ k = omega arith in rw (digits-more (suc k) n (omega arith) g, e) (simp length-append (omega (arith, digits-length k (n / 10)))))
+
+-- a number and the byte behind it
+pub field-length : (n end : ℕ) → length (number n ++ end ∷ []) ≤ 5
+field-length n end = simp length-append (omega (arith, digits-length 4 n))

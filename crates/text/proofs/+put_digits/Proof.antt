@@ -2,10 +2,9 @@
 use Prim.Native.Nat.{ℕ, _<_, _-_, _/_}
 use borrow.Author.Needs.{needs}
 use native.Mathlib.Omega.{arith}
-use mathlib.Core.Path.{_≡_, sym, ap, _∙_, subst}
-use mathlib.Core.List.{List}
+use mathlib.Core.Path.{sym, ap, _∙_}
 use Rattle.model.specs.Printed.{digits}
-use Rattle.text.specs.Appended.{Appended, append-none, append-then}
+use Rattle.text.specs.Appended.{append-as, append-none, append-then}
 use Rattle.text.specs.Digits.{digits-none, digits-last, digits-more, digits-length}
 use borrow.Fn.Kinds.{In}
 use borrow.Fn.PlainCycle.{Measures, is, falls, and}
@@ -28,7 +27,7 @@ put-digits-below t =
     and 1 put-digits-kinds.ps (falls 1 put-digits-kinds.ps _<_ μ-put-digits t) put-digits.Pre
 
 put-digits-returns : (t : ℕ) → put-digits-lts.Need-returns (put-byte-reads.Asked, put-byte-reads.Learnt, put-digits-below t, put-digits.Post) (put-digits-at t) put-digits.Post
-put-digits-returns t c = let a = c .before .before .args in subst (λ (x : List ℕ). Appended (a .out .now) (a .at) x (a .out .now) (a .at)) (sym (ap (λ k. digits k (a .n)) (c .if1 .taken) ∙ digits-none (a .n))) (append-none (a .out .now) (a .at))
+put-digits-returns t c = let a = c .before .before .args in append-as (sym (ap (λ k. digits k (a .n)) (c .if1 .taken) ∙ digits-none (a .n))) (append-none (a .out .now) (a .at))
 
 put-digits-cast-put-byte : (t : ℕ) → put-digits-lts.Need-cast-put-byte (put-byte-reads.Asked, put-byte-reads.Learnt, put-digits-below t, put-digits.Post) (put-digits-at t) put-digits.Post
 put-digits-cast-put-byte t c = search needs
@@ -46,7 +45,7 @@ put-digits-returns-2 : (t : ℕ) → put-digits-lts.Need-returns-2 (put-byte-rea
 put-digits-returns-2 t c =
     let a = c .before .before .before .before .before .before .before .args in
     let h : 0 < a .places = omega arith in
-    subst (λ (x : List ℕ). Appended (a .out .now) (a .at) x (c .before .before .put-byte .last .0) (c .before .before .put-byte .result)) (sym (digits-last (a .places) (a .n) h (omega arith))) (c .before .before .put-byte .ensures)
+    append-as (sym (digits-last (a .places) (a .n) h (omega arith))) (c .before .before .put-byte .ensures)
 
 put-digits-sub-put-digits : (t : ℕ) → put-digits-lts.Need-sub-put-digits (put-byte-reads.Asked, put-byte-reads.Learnt, put-digits-below t, put-digits.Post) (put-digits-at t) put-digits.Post
 put-digits-sub-put-digits t c = search needs
@@ -70,7 +69,7 @@ put-digits-returns-3 : (t : ℕ) → put-digits-lts.Need-returns-3 (put-byte-rea
 put-digits-returns-3 t c =
     let a = c .before .before .before .before .before .before .before .before .before .before .before .args in
     let h : 0 < a .places = omega arith in
-    subst (λ (x : List ℕ). Appended (a .out .now) (a .at) x (c .before .before .put-byte2 .last .0) (c .before .before .put-byte2 .result)) (sym (digits-more (a .places) (a .n) h (omega arith)))
+    append-as (sym (digits-more (a .places) (a .n) h (omega arith)))
     (append-then (a .out .now) (a .at) (omega arith) (c .before .before .before .before .before .before .put-digits .ensures) (c .before .before .put-byte2 .ensures))
 
 pub +put-digits-spec : {M : Type 1} → statement M

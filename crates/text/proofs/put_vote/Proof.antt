@@ -2,10 +2,10 @@
 use borrow.Author.Needs.{needs}
 use Prim.Native.Nat.{ℕ}
 use native.Mathlib.Omega.{arith}
-use mathlib.Core.Path.{subst}
+use mathlib.Core.Path.{ap}
 use mathlib.Core.List.{List, [], _∷_, _++_}
 use Rattle.model.specs.Text.{text}
-use Rattle.text.specs.Appended.{Appended, append-then}
+use Rattle.text.specs.Appended.{append-as, append-then}
 use Rattle.text.proofs.Laws.{below-text, above-text}
 use Rattle.text.proofs.put_vote.Statement.{statement}
 use Rattle.text.proofs.put_vote.Tie as tie
@@ -27,8 +27,8 @@ unfolding text
 returns c =
     let s = c .before .before .before .before .before .before .before .before .before .before .before in
     let a = s .args in
-    subst (λ (x : List ℕ). Appended (a .out .now) (a .at) (x ++ 10 ∷ []) (c .before .before .put-field .last .0) (c .before .before .put-field .result))
-    (below-text (a .vote) (s .fits .vote) (c .before .before .before .before .before .before .before .before .if1 .taken) (c .before .before .before .before .before .before .before .before .before .size .ensures))
+    append-as
+    (ap (λ (x : List ℕ). x ++ 10 ∷ []) (below-text (a .vote) (s .fits .vote) (c .before .before .before .before .before .before .before .before .if1 .taken) (c .before .before .before .before .before .before .before .before .before .size .ensures)))
     (append-then (a .out .now) (a .at) (omega arith) (c .before .before .before .before .before .before .put-byte .ensures) (c .before .before .put-field .ensures))
 
 put-field-requires-2 : tie.Need-put-field-requires-2
@@ -41,8 +41,8 @@ returns-2 : tie.Need-returns-2
 returns-2 c =
     let s = c .before .before .before .before .before .before .before in
     let a = s .args in
-    subst (λ (x : List ℕ). Appended (a .out .now) (a .at) (x ++ 10 ∷ []) (c .before .before .put-field2 .last .0) (c .before .before .put-field2 .result))
-    (above-text (a .vote) (s .fits .vote) (c .before .before .before .before .if1 .left) (c .before .before .before .before .before .size .ensures))
+    append-as
+    (ap (λ (x : List ℕ). x ++ 10 ∷ []) (above-text (a .vote) (s .fits .vote) (c .before .before .before .before .if1 .left) (c .before .before .before .before .before .size .ensures)))
     (c .before .before .put-field2 .ensures)
 
 pub put-vote-spec : {M : Type 1} → statement M
