@@ -1,0 +1,111 @@
+// The shape of the public find call, over a core that stands in for the real one: how a call with a lent diary of step records and three lent
+// buffers is proved by hand over a covered core that knows of the diary its length alone.
+ghost use mathlib.Core.Path.{_≡_};
+ghost use mathlib.Core.Bool.{true, false};
+ghost use Rattle.findwalk.specs.Found.{coreOf, Done, Answered};
+use diary::Step;
+use refusal::Group;
+
+pub struct Desk {
+    pub roster_len: usize,
+    pub roster: [u8; 2214],
+    pub plan_len: usize,
+    pub plan: [u8; 129],
+}
+
+pub enum NoneKind {
+    Left(usize),
+    Rivalled(i16),
+}
+
+pub enum Found {
+    Plan(usize),
+    None(usize, NoneKind),
+    Refused(u8, Group),
+}
+
+pub struct FindReply {
+    pub desk: Desk,
+    pub answer: Found,
+}
+
+// What the core hands back: the reply, and the diary as flat numbers with the number of its records.
+pub struct CoreReply {
+    pub reply: FindReply,
+    pub flat: [u8; 4096],
+    pub steps: usize,
+}
+
+// A refusal by 15: no record, no byte.
+pub(crate) fn refused(desk: Desk) -> CoreReply
+    ensures { λ r. ⌜ r ≡ coreOf desk true ⌝ }
+{
+    let reply = FindReply {
+        desk: desk,
+        answer: Found::Refused(15, Group::Desk),
+    };
+    CoreReply {
+        reply: reply,
+        flat: [0; 4096],
+        steps: 0,
+    }
+}
+
+// The answer otherwise: one record.
+pub(crate) fn worked(desk: Desk) -> CoreReply
+    ensures { λ r. ⌜ r ≡ coreOf desk false ⌝ }
+{
+    let reply = FindReply {
+        desk: desk,
+        answer: Found::None(1, NoneKind::Rivalled(-1)),
+    };
+    CoreReply {
+        reply: reply,
+        flat: [7; 4096],
+        steps: 1,
+    }
+}
+
+// Stands in for the real core: refuses by 15 if the lent diary or a buffer is below its size, else writes a byte in each buffer and hands back
+// one record.
+pub fn core(
+    desk: Desk,
+    room: usize,
+    left: &mut [u8],
+    plan: &mut [u8],
+    rival: &mut [u8],
+) -> CoreReply
+    ensures { λ r. ⌜ Done desk room (now (left .entry)) (now (plan .entry)) (now (rival .entry)) r (now (left .exit)) (now (plan .exit)) (now (rival .exit)) ⌝ }
+{
+    if room < 1024 {
+        return refused(desk);
+    }
+    if left.len() < 1 {
+        return refused(desk);
+    }
+    if plan.len() < 1 {
+        return refused(desk);
+    }
+    if rival.len() < 1 {
+        return refused(desk);
+    }
+    left[0] = 1;
+    plan[0] = 2;
+    rival[0] = 3;
+    worked(desk)
+}
+
+// No `requires`: what the core is told of the diary is its length.
+pub fn find(
+    desk: Desk,
+    diary: &mut [Step],
+    left: &mut [u8],
+    plan: &mut [u8],
+    rival: &mut [u8],
+) -> FindReply
+    ensures { λ r. ⌜ Answered desk (now (diary .entry)) (now (left .entry)) (now (plan .entry)) (now (rival .entry)) r (now (diary .exit)) (now (left .exit)) (now (plan .exit)) (now (rival .exit)) ⌝ }
+{
+    let c = core(desk, diary.len(), left, plan, rival);
+    diary::fill(diary, c.flat, c.steps);
+    c.reply
+}
