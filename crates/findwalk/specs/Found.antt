@@ -2,11 +2,11 @@
 use Prim.Native.Nat.{ℕ, _≤_}
 use native.Mathlib.Omega.{arith}
 use mathlib.Core.Path.{_≡_, sym, ap, subst, _∙_}
-use mathlib.Core.Bool.{Bool, true, false, cond, _||_}
-use mathlib.Core.List.{List, [], _∷_, _++_}
-use lib.IntN.{ℤ, pos, negsuc}
+use mathlib.Core.Bool.{Bool, true, false, _||_}
+use mathlib.Core.List.{List}
+use lib.IntN.{pos, negsuc}
 use lib.ListN.{length, set, replicate}
-use lib.Dec.{ltb, eqb}
+use lib.Dec.{ltb}
 use Rattle.model.specs.Desk.{onto}
 use Rattle.diary.specs.declared.Step.{Step}
 use Rattle.diary.specs.Steps.{stepsIn}
@@ -14,6 +14,9 @@ use Rattle.refusal.specs.declared.Group.the-variants as group
 use Rattle.findwalk.specs.declared.Desk.{Desk}
 use Rattle.findwalk.specs.declared.CoreReply.{CoreReply}
 use Rattle.findwalk.specs.declared.FindReply.{FindReply}
+use Rattle.findwalk.specs.declared.Numbers.{Numbers}
+use Rattle.findwalk.specs.declared.Found.{Found}
+use Rattle.findwalk.specs.declared.NoneKind.{NoneKind}
 use Rattle.findwalk.specs.declared.Found.the-variants as answer
 use Rattle.findwalk.specs.declared.NoneKind.the-variants as kind
 
@@ -27,11 +30,11 @@ flatOf false = replicate 4096 7
 
 abbrev pub stepsOf : Bool → ℕ
 stepsOf true = 0
-stepsOf false = 1
+stepsOf false = 1024
 
 abbrev pub replyOf : Desk → Bool → FindReply
 replyOf d true = record { desk = d; answer = answer.Refused 15 group.Desk }
-replyOf d false = record { desk = d; answer = answer.None 1 (kind.Rivalled (negsuc 0)) }
+replyOf d false = record { desk = d; answer = answer.None 1024 (kind.Rivalled (negsuc 0)) }
 
 unfoldable pub coreOf : Desk → Bool → CoreReply
 coreOf d b = record { reply = replyOf d b; flat = flatOf b; steps = stepsOf b }
@@ -86,3 +89,22 @@ found d s l p v c s′ l′ p′ v′ e h = record {
   plan = e .plan;
   rival = e .rival;
 }
+
+-- the reply as numbers
+abbrev pub noneOf : Desk → ℕ → NoneKind → Numbers
+noneOf d n (kind.Left m) = record { desk = d; case = 2; refusal = 0; vote = pos 0; steps = n; left = m }
+noneOf d n (kind.Rivalled v) = record { desk = d; case = 3; refusal = 0; vote = v; steps = n; left = 0 }
+
+abbrev pub answerNumbers : Desk → Found → Numbers
+answerNumbers d (answer.Plan n) = record { desk = d; case = 1; refusal = 0; vote = pos 0; steps = n; left = 0 }
+answerNumbers d (answer.None n k) = noneOf d n k
+answerNumbers d (answer.Refused n g) = record { desk = d; case = 4; refusal = n; vote = pos 0; steps = 0; left = 0 }
+
+unfoldable pub numbersOf : FindReply → Numbers
+numbersOf r = answerNumbers (r .desk) (r .answer)
+
+-- the call for C: the numbers of a reply of which the call's contract holds
+pub record Numbered (d : Desk) (s : List Step) (l p v : List ℕ) (n : Numbers) (s′ : List Step) (l′ p′ v′ : List ℕ) : Type 0 where
+  pub reply : FindReply
+  pub numbers : n ≡ numbersOf reply
+  pub answered : Answered d s l p v reply s′ l′ p′ v′

@@ -2,10 +2,11 @@
 // buffers is proved by hand over a covered core that knows of the diary its length alone.
 ghost use mathlib.Core.Path.{_≡_};
 ghost use mathlib.Core.Bool.{true, false};
-ghost use Rattle.findwalk.specs.Found.{coreOf, Done, Answered};
+ghost use Rattle.findwalk.specs.Found.{coreOf, Done, Answered, numbersOf, Numbered};
 use diary::Step;
 use refusal::Group;
 
+#[repr(C)]
 pub struct Desk {
     pub roster_len: usize,
     pub roster: [u8; 2214],
@@ -51,23 +52,23 @@ pub(crate) fn refused(desk: Desk) -> CoreReply
     }
 }
 
-// The answer otherwise: one record.
+// The answer otherwise: as many records as a diary can have.
 pub(crate) fn worked(desk: Desk) -> CoreReply
     ensures { λ r. ⌜ r ≡ coreOf desk false ⌝ }
 {
     let reply = FindReply {
         desk: desk,
-        answer: Found::None(1, NoneKind::Rivalled(-1)),
+        answer: Found::None(1024, NoneKind::Rivalled(-1)),
     };
     CoreReply {
         reply: reply,
         flat: [7; 4096],
-        steps: 1,
+        steps: 1024,
     }
 }
 
 // Stands in for the real core: refuses by 15 if the lent diary or a buffer is below its size, else writes a byte in each buffer and hands back
-// one record.
+// 1,024 records.
 pub fn core(
     desk: Desk,
     room: usize,
@@ -108,4 +109,74 @@ pub fn find(
     let c = core(desk, diary.len(), left, plan, rival);
     diary::fill(diary, c.flat, c.steps);
     c.reply
+}
+
+// The reply as numbers, for C: 1 a plan, 2 none and pairs left, 3 none and rivalled, 4 a refusal; the steps; the pairs left; the vote; the
+// refusal's number.
+#[repr(C)]
+pub struct Numbers {
+    pub desk: Desk,
+    pub case: u8,
+    pub refusal: u8,
+    pub vote: i16,
+    pub steps: usize,
+    pub left: usize,
+}
+
+pub(crate) fn numbers_of(r: FindReply) -> Numbers
+    ensures { λ n. ⌜ n ≡ numbersOf r ⌝ }
+{
+    let d = r.desk;
+    let a = r.answer;
+    match a {
+        Found::Plan(steps) => Numbers {
+            desk: d,
+            case: 1,
+            refusal: 0,
+            vote: 0,
+            steps: steps,
+            left: 0,
+        },
+        Found::None(steps, kind) => match kind {
+            NoneKind::Left(left) => Numbers {
+                desk: d,
+                case: 2,
+                refusal: 0,
+                vote: 0,
+                steps: steps,
+                left: left,
+            },
+            NoneKind::Rivalled(vote) => Numbers {
+                desk: d,
+                case: 3,
+                refusal: 0,
+                vote: vote,
+                steps: steps,
+                left: 0,
+            },
+        },
+        Found::Refused(number, _) => Numbers {
+            desk: d,
+            case: 4,
+            refusal: number,
+            vote: 0,
+            steps: 0,
+            left: 0,
+        },
+    }
+}
+
+// The call for C.
+#[no_mangle]
+pub extern "C" fn crew_find(
+    desk: Desk,
+    diary: &mut [Step],
+    left: &mut [u8],
+    plan: &mut [u8],
+    rival: &mut [u8],
+) -> Numbers
+    ensures { λ r. ⌜ Numbered desk (now (diary .entry)) (now (left .entry)) (now (plan .entry)) (now (rival .entry)) r (now (diary .exit)) (now (left .exit)) (now (plan .exit)) (now (rival .exit)) ⌝ }
+{
+    let r = find(desk, diary, left, plan, rival);
+    numbers_of(r)
 }

@@ -6,10 +6,6 @@ use Rattle.findwalk.specs.Found.{done-at}
 use borrow.Author.Needs.{needs}
 use Rattle.findwalk.proofs.core.Statement.{statement}
 use Rattle.findwalk.proofs.core.Tie as tie
-use Rattle.findwalk.proofs.core.Reads as reads
-use Rattle.findwalk.proofs.core.Lts as lts
-use Rattle.findwalk.proofs.refused.Reads as refused-reads
-use Rattle.findwalk.proofs.worked.Reads as worked-reads
 
 -- src/lib.rt:61:9
 refused-requires : tie.Need-refused-requires

@@ -2,8 +2,6 @@ use mathlib.Core.Path.{refl}
 use Rattle.findwalk.specs.Found.{coreOf, flatOf}
 use Rattle.findwalk.proofs.refused.Statement.{statement}
 use Rattle.findwalk.proofs.refused.Tie as tie
-use Rattle.findwalk.proofs.refused.Reads as reads
-use Rattle.findwalk.proofs.refused.Lts as lts
 
 -- src/lib.rt:40:1
 returns : tie.Need-returns

@@ -2,8 +2,6 @@ use mathlib.Core.Path.{refl}
 use Rattle.findwalk.specs.Found.{coreOf, flatOf}
 use Rattle.findwalk.proofs.worked.Statement.{statement}
 use Rattle.findwalk.proofs.worked.Tie as tie
-use Rattle.findwalk.proofs.worked.Reads as reads
-use Rattle.findwalk.proofs.worked.Lts as lts
 
 -- src/lib.rt:48:1
 returns : tie.Need-returns
