@@ -60,3 +60,8 @@ unfolding written
 filled-diary rs n flat room before after e h k =
     ap recordsIn k ∙ records-onto (stepsIn n flat) before
     ∙ ap (λ (l : List Record). onto l (recordsIn before)) (ap (λ (m : ℕ). recordsIn (stepsIn m flat)) h ∙ ap (λ (l : List ℕ). recordsIn (stepsIn (length rs) l)) e ∙ held rs (drop (4 * length rs) room))
+
+-- no record, as on a refusal: the lent diary is left as it was
+pub filled-none : (n : ℕ) (flat : List ℕ) (before after : List Step) → n ≡ 0 → after ≡ onto (stepsIn n flat) before → after ≡ before
+unfolding stepsIn
+filled-none n flat before after h k = k ∙ ap (λ (m : ℕ). onto (stepsIn m flat) before) h

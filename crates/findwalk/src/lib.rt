@@ -96,19 +96,21 @@ pub fn core(
     worked(desk)
 }
 
-// No `requires`: what the core is told of the diary is its length.
-pub fn find(
-    desk: Desk,
-    diary: &mut [Step],
-    left: &mut [u8],
-    plan: &mut [u8],
-    rival: &mut [u8],
-) -> FindReply
-    ensures { λ r. ⌜ Answered desk (now (diary .entry)) (now (left .entry)) (now (plan .entry)) (now (rival .entry)) r (now (diary .exit)) (now (left .exit)) (now (plan .exit)) (now (rival .exit)) ⌝ }
-{
-    let c = core(desk, diary.len(), left, plan, rival);
-    diary::fill(diary, c.flat, c.steps);
-    c.reply
+impl Desk {
+    // The core is told the length of the lent diary; the records that it hands back fit it.
+    pub fn find(
+        self,
+        diary: &mut [Step],
+        left: &mut [u8],
+        plan: &mut [u8],
+        rival: &mut [u8],
+    ) -> FindReply
+        ensures { λ r. ⌜ Answered self (now (diary .entry)) (now (left .entry)) (now (plan .entry)) (now (rival .entry)) r (now (diary .exit)) (now (left .exit)) (now (plan .exit)) (now (rival .exit)) ⌝ }
+    {
+        let c = core(self, diary.len(), left, plan, rival);
+        diary::fill(diary, c.flat, c.steps);
+        c.reply
+    }
 }
 
 // The reply as numbers, for C: 1 a plan, 2 none and pairs left, 3 none and rivalled, 4 a refusal; the steps; the pairs left; the vote; the
@@ -177,6 +179,6 @@ pub extern "C" fn crew_find(
 ) -> Numbers
     ensures { λ r. ⌜ Numbered desk (now (diary .entry)) (now (left .entry)) (now (plan .entry)) (now (rival .entry)) r (now (diary .exit)) (now (left .exit)) (now (plan .exit)) (now (rival .exit)) ⌝ }
 {
-    let r = find(desk, diary, left, plan, rival);
+    let r = desk.find(diary, left, plan, rival);
     numbers_of(r)
 }

@@ -47,10 +47,10 @@ use Rattle.findwalk.proofs.FindReply as F
 use Rattle.findwalk.proofs.FindReply.Laws as F′
 use Rattle.findwalk.proofs.Numbers as N
 use Rattle.findwalk.proofs.Numbers.Laws as N′
-use Rattle.findwalk.proofs.find as find
-use Rattle.findwalk.proofs.find.Symbol as find-def
-use Rattle.findwalk.proofs.find.Symbol.{name as #find}
-use Rattle.findwalk.proofs.find.Met as find-thm
+use Rattle.findwalk.proofs.Desk.find as find
+use Rattle.findwalk.proofs.Desk.find.Symbol as find-def
+use Rattle.findwalk.proofs.Desk.find.Symbol.{name as #find}
+use Rattle.findwalk.proofs.Desk.find.Met as find-thm
 use Rattle.findwalk.proofs.numbers_of as numbers-of
 use Rattle.findwalk.proofs.numbers_of.Symbol as numbers-of-def
 use Rattle.findwalk.proofs.numbers_of.Symbol.{name as #numbers-of}
@@ -183,5 +183,5 @@ crew-find-spec 𝓤 H 𝓜 𝓖 𝓡 =
     entered 𝓤 H (tripleOf 𝓤 H (𝓖 .A) crew.signature (crew.spec 𝓤 H (𝓖 .A) (𝓜 .mem) (𝓡 .run)))
     (tables 𝓤 H 𝓜 𝓡 code.env .C) (tables 𝓤 H 𝓜 𝓡 code.env .Λ) #crew-find code.function (code.unfolded 𝓤 H 𝓜 𝓡)
     (crew-meets 𝓤 H (𝓖 .A) (givenOf 𝓤 H 𝓜 𝓖) (𝓜 .mem) (𝓡 .run) (tablesOf 𝓤 H 𝓜 (tables 𝓤 H 𝓜 𝓡 code.env))
-    (cited 𝓤 H (Find 𝓤 H (𝓖 .A) (𝓜 .mem) (𝓡 .run)) 𝓜 𝓡 code.env #find find-def.routine code.calls-findwalk·find (find-thm.met 𝓤 H 𝓜 𝓖 𝓡))
+    (cited 𝓤 H (Find 𝓤 H (𝓖 .A) (𝓜 .mem) (𝓡 .run)) 𝓜 𝓡 code.env #find find-def.routine code.calls-findwalk·Desk·find (find-thm.met 𝓤 H 𝓜 𝓖 𝓡))
     (cited 𝓤 H (NumbersOf 𝓤 H (𝓖 .A) (𝓜 .mem) (𝓡 .run)) 𝓜 𝓡 code.env #numbers-of numbers-of-def.routine code.calls-findwalk·numbers-of (numbers-of-thm.met 𝓤 H 𝓜 𝓖 𝓡)))

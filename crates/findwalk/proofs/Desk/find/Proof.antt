@@ -1,6 +1,19 @@
--- `findwalk::find` meets its contract: a walk of its MIR, by hand, over two calls: the covered core, which is told the length of the lent diary,
--- and `diary::fill`. All four lent slices are handed on for good, and the desk goes into the core by value.
--- Assumes nothing.
+-- `Desk::find` meets its contract: a walk of its MIR, by hand, over two calls: the covered core, which is told the length of the lent diary, and
+-- `diary::fill`. All four lent slices are handed on for good, and the desk goes into the core by value. Assumes nothing.
+--
+-- Another core in this one's place:
+-- * Contracts. `Done` is the core's and `Answered` the call's. The walk opens neither: it takes of them the two laws `within` (the records fit the lent
+--   diary) and `found` (what the core says, and the filled diary, make what the call says). With the same arguments only these four names change;
+--   else `Said`, the type of `exits`, and where `within` and `found` are cited.
+-- * Names. D, C, F are the modules of the desk, of what the core hands back and of the reply; `core`, `fill`, `find′` those of the functions. What stands
+--   in another crate is `Rattle.NAME.proofs.…`, and its call `code.calls-NAME·core`. For a function in place of a method: `proofs.find`, not `proofs.Desk.find`.
+-- * Fields. `is-reply`, `is-flat`, `is-steps` go by the field's place in what the core hands back (.0, .1 .0, .1 .1 .0), and so do `sub ! 0`, `sub ! 1`, `sub ! 2`
+--   where local 6 is read. Only the array's length 4096 is said of the types themselves; how large the desk is, and what the reply holds, is not.
+-- * Positions. With the 17 locals 0 to 16, local i stands at k + 2 · (16 - i), and behind it that it dies, where k items stand in front: k is 0 up to the
+--   core's call, 3 at it, 7 where its result lands, 6 up to `fill`'s call, 5 at it, 7 from there on. The comment before each block names these items.
+-- * One more lent slice: a lifetime and a share in `bound`, `to-core`, `Tokens`; a `gave-slice` in `stayed`, with its `goes-gave-slice`; a part of `Buffers`; two
+--   `assigns` for its pointer and its pair (two locals); `fsplit ! $ fsplit ! $ move ! (1 ∷ []) $ feqL !` for its last list; an item and a length in `exits`.
+-- * One more number for the core: an `owned ! usize` in `asks-core`, and its place in `to-core` and among the call's operands.
 use mathlib.Core.Path.{_≡_, refl, sym, ap, subst, _∙_}
 use Prim.Native.Nat.{ℕ, _≤_}
 use mathlib.Core.List.{[], _∷_, List, map}
@@ -60,10 +73,10 @@ use Rattle.findwalk.proofs.core as core
 use Rattle.findwalk.proofs.core.Symbol as core-def
 use Rattle.findwalk.proofs.core.Symbol.{name as #core}
 use Rattle.findwalk.proofs.core.Met as core-thm
-use Rattle.findwalk.proofs.find.Key.{name as #find}
-use Rattle.findwalk.proofs.find as find′
-use Rattle.findwalk.proofs.find.Statement as stated
-use Rattle.findwalk.proofs.find.Code as code
+use Rattle.findwalk.proofs.Desk.find.Key.{name as #find}
+use Rattle.findwalk.proofs.Desk.find as find′
+use Rattle.findwalk.proofs.Desk.find.Statement as stated
+use Rattle.findwalk.proofs.Desk.find.Code as code
 
 -- of the desk nothing is wanted at exit; the slices are given up for good
 abbrev stayed : Stays (find′.ended .signature .params) (find′.ended .kept)
