@@ -10,6 +10,11 @@ use crate::roster::{read, Roster};
 
 /// The output for an input, of which only the first bytes count.
 pub fn run(input: &[u8]) -> Vec<u8> {
+    run_with(input, find)
+}
+
+/// The output with any finder.
+pub fn run_with(input: &[u8], find: fn(&Roster) -> Answer) -> Vec<u8> {
     let input = &input[..input.len().min(MAX_INPUT_BYTES)];
     let mut text = Text::default();
     match read(input) {

@@ -66,6 +66,31 @@ pub struct Shape {
     pub opposed: u8,
 }
 
+/// A shape within the limits: from few nodes to all, from lists that are
+/// nearly empty to full ones, quotas as large as the number of nodes allows.
+pub fn any_shape(random: &mut Random) -> Shape {
+    let mut side = || [(2, 8), (5, 8), (8, 8), (16, 4), (32, 2)][random.below(5)];
+    let [surveyors, stands] = [side(), side()];
+    Shape {
+        counts: [0..=surveyors.0, 0..=stands.0],
+        quotas: [0..=surveyors.1, 0..=stands.1],
+        pairs: [10, 40, 80, 100][random.below(4)],
+        ties: 50,
+        opposed: [0, 30, 90][random.below(3)],
+    }
+}
+
+/// The shape of the longest rosters: 32 by 32 nodes of quota 2, all pairs.
+pub fn longest_shape(ties: u8, opposed: u8) -> Shape {
+    Shape {
+        counts: [32..=32, 32..=32],
+        quotas: [2..=2, 2..=2],
+        pairs: 100,
+        ties,
+        opposed,
+    }
+}
+
 /// A random roster of that shape. The caller's ranges keep to the limits.
 pub fn roster(random: &mut Random, shape: &Shape) -> Roster {
     let [surveyors, stands] = SIDES.map(|side| random.within(&shape.counts[side as usize]));

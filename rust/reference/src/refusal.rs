@@ -49,6 +49,30 @@ impl Refusal {
     }
 }
 
+impl fmt::Display for Refusal {
+    fn fmt(&self, formatter: &mut fmt::Formatter<'_>) -> fmt::Result {
+        formatter.write_str(match self {
+            Refusal::EndsInsideField => "the bytes end inside a field",
+            Refusal::CountAboveLimit => "a count or a list length is above its limit",
+            Refusal::QuotaAboveLimit => {
+                "a quota is above 8, or the quotas of one side are above 64 together"
+            }
+            Refusal::EntryOutOfRange => "a list entry is 0 or above the other side's count",
+            Refusal::EntryTwice => "an entry stands twice in one list",
+            Refusal::TieNotAscending => "a tie does not ascend",
+            Refusal::SectionCountWrong => "a section count is not the sum of its lengths",
+            Refusal::PairOnOneSideOnly => "a pair is listed by one side only",
+            Refusal::BytesAfterEnd => "there are bytes after the end",
+            Refusal::PairNotInRoster => "a plan pair is not in the roster",
+            Refusal::PairsNotAscending => "the plan's pairs do not ascend",
+            Refusal::QuotaPassed => "a pair takes a node past its quota",
+            Refusal::NoRosterLoaded => "no roster is loaded",
+            Refusal::NoPlanHeld => "no plan is held",
+            Refusal::BufferTooSmall => "a lent buffer is below its size",
+        })
+    }
+}
+
 impl fmt::Display for Group {
     fn fmt(&self, formatter: &mut fmt::Formatter<'_>) -> fmt::Result {
         formatter.write_str(match self {

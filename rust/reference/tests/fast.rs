@@ -175,38 +175,97 @@ fn steps_are_those_of_the_rules() {
     assert!(rules[1..].iter().all(|&count| count > 1_000));
 }
 
+/// Holds a fast verdict against the plain one: the same verdict, and a rival
+/// that is another plan within the quotas with the vote that is told.
+fn check_verdict(roster: &Roster, plan: &Plan, fast: &fast::verdict::Verdict, plain: i16) {
+    use fast::verdict::Verdict;
+    let (sign, rival) = match fast {
+        Verdict::Strong => (1, None),
+        Verdict::Popular(rival) => (0, Some(rival)),
+        Verdict::Beaten(rival) => (-1, Some(rival)),
+    };
+    assert_eq!(sign, plain, "{:?} {plan:?}", roster::write(roster));
+    let Some(rival) = rival else { return };
+    let pairs = rival.plan.as_slice().iter();
+    let other: Plan = pairs.map(|&pair| usize::from(pair)).collect();
+    assert_eq!(other.indices().len(), rival.plan.count);
+    assert_ne!(other, *plan);
+    assert!(other.within_quotas(roster));
+    assert_eq!(votes::plan_vote(roster, plan, &other), rival.vote);
+    assert_eq!(rival.vote.signum(), sign);
+}
+
 #[test]
 fn verdicts_are_those_of_all_votes() {
     let mut random = Random::new(46);
     let mut met = [0usize; 3];
-    for _ in 0..20_000 {
-        let mut shape = shape(4, 2);
+    for turn in 0..30_000 {
+        let quota = if turn % 2 == 0 { 1 } else { 3 };
+        let mut shape = shape(if turn % 2 == 0 { 5 } else { 4 }, quota);
         shape.pairs = 55;
         let roster = random::roster(&mut random, &shape);
-        if roster.pairs().len() > 9 {
+        if roster.pairs().len() > 10 {
             continue;
         }
         let instance = fast::roster::read(&roster::write(&roster)).expect("accepted");
         for plan in plans::all_plans(&roster) {
-            if random.chance(70) {
+            if random.chance(75) {
                 continue;
             }
-            let least = fast::verdict::least(&instance, &chosen(&roster, &plan));
-            let verdict = plans::verdict(&roster, &plan);
-            let plain = match verdict {
+            let fast = fast::verdict::judge(&instance, &chosen(&roster, &plan));
+            let plain = match plans::verdict(&roster, &plan) {
                 plans::Verdict::Beaten(_) => -1,
                 plans::Verdict::Popular(_) => 0,
                 plans::Verdict::Strong => 1,
             };
-            assert_eq!(
-                least.signum(),
-                plain,
-                "{:?} {plan:?}",
-                roster::write(&roster)
-            );
+            check_verdict(&roster, &plan, &fast, plain);
             met[(plain + 1) as usize] += 1;
         }
     }
     println!("beaten, popular, strong: {met:?}");
     assert!(met.iter().all(|&count| count > 300));
+}
+
+#[test]
+fn verdicts_on_long_walks() {
+    // Long lists at quota 1 make long alternating walks, with repeats to cut
+    // out; the reference by all plans is too slow there, so only the rival is
+    // held against the votes.
+    let mut random = Random::new(47);
+    let mut met = [0usize; 3];
+    for _ in 0..20_000 {
+        let roster = random::roster(
+            &mut random,
+            &Shape {
+                counts: [6..=12, 6..=12],
+                quotas: [1..=3, 1..=3],
+                pairs: 60,
+                ties: 60,
+                opposed: 60,
+            },
+        );
+        let instance = fast::roster::read(&roster::write(&roster)).expect("accepted");
+        let plan = match fast::finder::find(&instance).ending {
+            fast::finder::Ending::Plan(plan) => plan,
+            fast::finder::Ending::Rivalled { candidate, .. } => candidate,
+            fast::finder::Ending::Left(_) => {
+                chosen(&roster, &random::plan(&mut random, &roster, 100))
+            }
+        };
+        let plan: Plan = plan
+            .as_slice()
+            .iter()
+            .map(|&pair| usize::from(pair))
+            .collect();
+        let fast = fast::verdict::judge(&instance, &chosen(&roster, &plan));
+        let sign = match &fast {
+            fast::verdict::Verdict::Strong => 1,
+            fast::verdict::Verdict::Popular(_) => 0,
+            fast::verdict::Verdict::Beaten(_) => -1,
+        };
+        check_verdict(&roster, &plan, &fast, sign);
+        met[(sign + 1) as usize] += 1;
+    }
+    println!("beaten, popular, strong: {met:?}");
+    assert!(met.iter().all(|&count| count > 200));
 }

@@ -5,8 +5,10 @@
 //!
 //! Refusals are bare numbers here, 0 for none.
 
+pub mod finder;
 pub mod plan;
 pub mod reduction;
 pub mod roster;
 pub mod verdict;
 pub mod vote;
+mod walk;
