@@ -1,0 +1,114 @@
+//! One line of a text roster: a node with its quota and its list.
+
+use reference::limits::MAX_QUOTA;
+use reference::roster::Side;
+
+use crate::problem::What;
+
+/// A node as its line states it; whether the entries are there is not known
+/// yet.
+#[derive(Clone, Debug, PartialEq, Eq)]
+pub struct Line {
+    pub side: Side,
+    pub number: usize,
+    pub quota: u8,
+    pub strict: Vec<usize>,
+    pub tied: Vec<usize>,
+}
+
+/// The quota of a node whose line states none.
+const PLAIN_QUOTA: u8 = 1;
+
+/// The words of a line; colons and brackets are words of their own. A line
+/// that is empty or only a comment has none.
+pub fn words(line: &str) -> Vec<String> {
+    let mut spaced = String::new();
+    for letter in line.split('#').next().unwrap_or("").chars() {
+        match letter {
+            ':' | '[' | ']' => spaced.extend([' ', letter, ' ']),
+            _ => spaced.push(letter),
+        }
+    }
+    spaced.split_whitespace().map(str::to_owned).collect()
+}
+
+/// Reads a line's words.
+pub fn read(words: &[String]) -> Result<Line, What> {
+    let mut words = words.iter().map(String::as_str).peekable();
+    let side = match words.next().unwrap_or("") {
+        "surveyor" => Side::Surveyors,
+        "stand" => Side::Stands,
+        other => return Err(What::UnknownStart(other.to_owned())),
+    };
+    let number = number(words.next(), "behind the line's first word")?;
+    let quota = match words.next_if(|&word| word == "quota") {
+        Some(_) => quota(words.next())?,
+        None => PLAIN_QUOTA,
+    };
+    match words.next().unwrap_or("") {
+        ":" => {}
+        other => return Err(What::NoColon(other.to_owned())),
+    }
+    let mut strict = Vec::new();
+    while let Some(word) = words.next_if(|&word| word != "[") {
+        strict.push(entry(word)?);
+    }
+    let tied = tie(side, words)?;
+    Ok(Line {
+        side,
+        number,
+        quota,
+        strict,
+        tied,
+    })
+}
+
+/// The tie at the end of a list, if there is one.
+fn tie<'a>(side: Side, mut words: impl Iterator<Item = &'a str>) -> Result<Vec<usize>, What> {
+    let mut tied = Vec::new();
+    if words.next().is_none() {
+        return Ok(tied);
+    }
+    if side == Side::Surveyors {
+        return Err(What::TieOfSurveyor);
+    }
+    loop {
+        match words.next() {
+            Some("]") => break,
+            Some(word) => tied.push(entry(word)?),
+            None => return Err(What::TieNotClosed),
+        }
+    }
+    if tied.is_empty() {
+        return Err(What::TieEmpty);
+    }
+    match words.next() {
+        Some(word) => Err(What::EntryBehindTie(word.to_owned())),
+        None => Ok(tied),
+    }
+}
+
+fn quota(word: Option<&str>) -> Result<u8, What> {
+    let quota = number(word, "behind 'quota'")?;
+    match u8::try_from(quota) {
+        Ok(fits) if fits <= MAX_QUOTA => Ok(fits),
+        _ => Err(What::QuotaTooLarge(quota)),
+    }
+}
+
+fn entry(word: &str) -> Result<usize, What> {
+    number(Some(word), "in the list")
+}
+
+/// A number in digits. More digits than a roster can need are no number.
+fn number(word: Option<&str>, place: &'static str) -> Result<usize, What> {
+    let found = word.unwrap_or("");
+    let digits = found.bytes().all(|letter| letter.is_ascii_digit());
+    match found.parse() {
+        Ok(number) if digits => Ok(number),
+        _ => Err(What::NoNumber {
+            place,
+            found: found.to_owned(),
+        }),
+    }
+}
