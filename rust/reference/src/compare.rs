@@ -25,7 +25,7 @@ pub struct Part {
 
 impl Part {
     /// The empty part, taken from the first file.
-    fn empty() -> Part {
+    pub(crate) fn empty() -> Part {
         Part {
             file: File::First,
             range: 0..0,

@@ -7,6 +7,7 @@
 
 pub mod blocking;
 pub mod compare;
+pub mod desk;
 pub mod fast;
 pub mod finder;
 pub mod limits;

@@ -1,0 +1,248 @@
+//! The desk: nothing loaded, a roster, or a roster and a plan. Every call takes
+//! the desk by value and hands it back with its answer. The verdict is the fast
+//! reading's, so that every roster is answered at once; the tests hold it
+//! against the votes of all plans.
+
+use crate::blocking::blocking_pairs;
+use crate::compare::{compare, Comparison, Part};
+use crate::finder::{find_large, verdict_large, Answer, Why};
+use crate::limits::{MAX_ENTRIES, MAX_PLAN_BYTES, MAX_ROSTER_BYTES, PAIR_FIELD};
+use crate::plan::{self, Plan};
+use crate::plans::Verdict;
+use crate::reduction::{Fate, Step};
+use crate::refusal::Refusal;
+use crate::roster::{self, Pair, Roster};
+
+/// Records that a diary needs, and bytes that a buffer for left pairs needs.
+pub const DIARY_RECORDS: usize = MAX_ENTRIES;
+pub const LEFT_BYTES: usize = PAIR_FIELD * MAX_ENTRIES;
+
+/// What is loaded.
+#[derive(Clone, Debug, Default, PartialEq, Eq)]
+pub enum Desk {
+    #[default]
+    Nothing,
+    Roster(Roster),
+    RosterAndPlan(Roster, Plan),
+}
+
+/// A record of the diary. Fate 1 is fix, 2 is strike.
+#[derive(Clone, Copy, Debug, PartialEq, Eq)]
+pub struct Record {
+    pub fate: u8,
+    pub surveyor: u8,
+    pub stand: u8,
+    pub rule: u8,
+}
+
+/// The buffers that are lent to the finder. Left pairs take two bytes each,
+/// without a count; a plan or a candidate goes to `plan`.
+pub struct Lent<'a> {
+    pub diary: &'a mut [Record],
+    pub left: &'a mut [u8],
+    pub plan: &'a mut [u8],
+    pub rival: &'a mut [u8],
+}
+
+impl Lent<'_> {
+    fn check(&self) -> Result<(), Refusal> {
+        enough(self.diary.len(), DIARY_RECORDS)?;
+        enough(self.left.len(), LEFT_BYTES)?;
+        enough(self.plan.len(), MAX_PLAN_BYTES)?;
+        enough(self.rival.len(), MAX_PLAN_BYTES)
+    }
+}
+
+/// The finder's answer, with the number of steps in each case.
+#[derive(Clone, Copy, Debug, PartialEq, Eq)]
+pub enum Found {
+    Plan { steps: usize },
+    None { steps: usize, kind: NoneKind },
+}
+
+/// Why there is none: pairs are left, as many as told, or the candidate has a
+/// rival, with this vote against it.
+#[derive(Clone, Copy, Debug, PartialEq, Eq)]
+pub enum NoneKind {
+    Left(usize),
+    Rivalled(i16),
+}
+
+/// The verdict on the held plan, with its vote against the rival written.
+#[derive(Clone, Copy, Debug, PartialEq, Eq)]
+pub enum Judged {
+    Strong,
+    Popular(i16),
+    Beaten(i16),
+}
+
+impl Desk {
+    fn roster(&self) -> Result<&Roster, Refusal> {
+        match self {
+            Desk::Nothing => Err(Refusal::NoRosterLoaded),
+            Desk::Roster(roster) | Desk::RosterAndPlan(roster, _) => Ok(roster),
+        }
+    }
+
+    fn roster_and_plan(&self) -> Result<(&Roster, &Plan), Refusal> {
+        match self {
+            Desk::Nothing => Err(Refusal::NoRosterLoaded),
+            Desk::Roster(_) => Err(Refusal::NoPlanHeld),
+            Desk::RosterAndPlan(roster, plan) => Ok((roster, plan)),
+        }
+    }
+
+    /// Loads a roster, which drops the plan. A refused one leaves the desk
+    /// alike.
+    pub fn load_roster(self, file: &[u8]) -> (Desk, Result<(), Refusal>) {
+        match roster::read(file) {
+            Ok(roster) => (Desk::Roster(roster), Ok(())),
+            Err(refusal) => (self, Err(refusal)),
+        }
+    }
+
+    /// Loads a plan of the held roster in the place of a held one.
+    pub fn load_plan(self, file: &[u8]) -> (Desk, Result<(), Refusal>) {
+        let read = self.roster().and_then(|roster| plan::read(roster, file));
+        match (read, self) {
+            (Ok(plan), Desk::Roster(roster) | Desk::RosterAndPlan(roster, _)) => {
+                (Desk::RosterAndPlan(roster, plan), Ok(()))
+            }
+            (read, desk) => (desk, read.map(|_| ())),
+        }
+    }
+
+    /// Writes the held roster and tells its length.
+    pub fn write_roster(self, out: &mut [u8]) -> (Desk, Result<usize, Refusal>) {
+        let answer = self.roster().and_then(|roster| {
+            enough(out.len(), MAX_ROSTER_BYTES)?;
+            Ok(put(out, &roster::write(roster)))
+        });
+        (self, answer)
+    }
+
+    /// Writes the held plan and tells its length.
+    pub fn write_plan(self, out: &mut [u8]) -> (Desk, Result<usize, Refusal>) {
+        let answer = self.roster_and_plan().and_then(|(roster, held)| {
+            enough(out.len(), MAX_PLAN_BYTES)?;
+            Ok(put(out, &plan::write(roster, held)))
+        });
+        (self, answer)
+    }
+
+    /// Finds the strongly popular plan of the held roster.
+    pub fn find(self, lent: Lent) -> (Desk, Result<Found, Refusal>) {
+        let answer = self.roster().and_then(|roster| {
+            lent.check()?;
+            Ok(put_answer(roster, lent, &find_large(roster)))
+        });
+        (self, answer)
+    }
+
+    /// The verdict on the held plan; a rival is written.
+    pub fn judge(self, rival: &mut [u8]) -> (Desk, Result<Judged, Refusal>) {
+        let answer = self.roster_and_plan().and_then(|(roster, held)| {
+            enough(rival.len(), MAX_PLAN_BYTES)?;
+            Ok(match verdict_large(roster, held) {
+                Verdict::Strong => Judged::Strong,
+                Verdict::Popular(found) => {
+                    put(rival, &plan::write(roster, &found.plan));
+                    Judged::Popular(found.vote)
+                }
+                Verdict::Beaten(found) => {
+                    put(rival, &plan::write(roster, &found.plan));
+                    Judged::Beaten(found.vote)
+                }
+            })
+        });
+        (self, answer)
+    }
+
+    /// Compares two plan files, judged against the held roster.
+    pub fn compare(self, first: &[u8], second: &[u8]) -> (Desk, Comparison) {
+        let answer = match self.roster() {
+            Ok(roster) => compare(roster, first, second),
+            Err(refusal) => Comparison {
+                outcome: Err(refusal),
+                part: Part::empty(),
+            },
+        };
+        (self, answer)
+    }
+
+    /// All blocking pairs of the held plan, ascending; an answer names any.
+    pub fn blocking(self) -> (Desk, Result<Vec<Pair>, Refusal>) {
+        let answer = self.roster_and_plan().map(|(roster, held)| {
+            let pairs = blocking_pairs(roster, held).into_iter();
+            pairs.map(|pair| roster.pairs()[pair]).collect()
+        });
+        (self, answer)
+    }
+}
+
+/// Refuses a buffer below its size.
+fn enough(length: usize, size: usize) -> Result<(), Refusal> {
+    if length < size {
+        Err(Refusal::BufferTooSmall)
+    } else {
+        Ok(())
+    }
+}
+
+/// Writes to the front of a buffer and tells the length.
+fn put(out: &mut [u8], bytes: &[u8]) -> usize {
+    out[..bytes.len()].copy_from_slice(bytes);
+    bytes.len()
+}
+
+fn put_answer(roster: &Roster, lent: Lent, answer: &Answer) -> Found {
+    let (Answer::Plan { diary, .. } | Answer::None { diary, .. }) = answer;
+    let steps = diary.len();
+    for (place, step) in lent.diary.iter_mut().zip(diary) {
+        *place = record(roster, step);
+    }
+    match answer {
+        Answer::Plan { plan, .. } => {
+            put(lent.plan, &plan::write(roster, plan));
+            Found::Plan { steps }
+        }
+        Answer::None { why, .. } => {
+            let kind = put_why(roster, lent, why);
+            Found::None { steps, kind }
+        }
+    }
+}
+
+fn put_why(roster: &Roster, lent: Lent, why: &Why) -> NoneKind {
+    match why {
+        Why::Left(left) => {
+            let pairs = left.iter().map(|&pair| roster.pairs()[pair]);
+            let bytes: Vec<u8> = pairs.flat_map(|pair| [pair.surveyor, pair.stand]).collect();
+            put(lent.left, &bytes);
+            NoneKind::Left(left.len())
+        }
+        Why::Rivalled {
+            candidate,
+            rival,
+            vote,
+        } => {
+            put(lent.plan, &plan::write(roster, candidate));
+            put(lent.rival, &plan::write(roster, rival));
+            NoneKind::Rivalled(*vote)
+        }
+    }
+}
+
+/// A step as its record.
+pub fn record(roster: &Roster, step: &Step) -> Record {
+    let pair = roster.pairs()[step.pair];
+    Record {
+        fate: match step.fate {
+            Fate::Fix => 1,
+            Fate::Strike => 2,
+        },
+        surveyor: pair.surveyor,
+        stand: pair.stand,
+        rule: step.rule,
+    }
+}
