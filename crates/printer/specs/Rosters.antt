@@ -1,10 +1,10 @@
 -- The same for every roster within the limits and every input: a fixed buffer holds the text.
-use Prim.Native.Nat.{ℕ, zero, suc, _+_, _*_, _≤_}
+use Prim.Native.Nat.{ℕ, zero, suc, _*_, _≤_}
 use native.Mathlib.Omega.{arith}
-use mathlib.Core.Path.{_≡_, refl, sym, ap, _∙_, subst}
+use mathlib.Core.Path.{_≡_, refl, sym, ap, subst}
 use mathlib.Core.Bool.{Bool, true, false, not, cond}
 use mathlib.Core.List.{List, [], _∷_}
-use lib.ListN.{length, take, length-append}
+use lib.ListN.{length, take}
 use lib.Dec.{T, ltb}
 use Rattle.lists.specs.Test.{and-l, and-r, and-i}
 use Rattle.lists.specs.Sum.{_∈_, range, range-length}
@@ -24,6 +24,7 @@ use Rattle.model.specs.Desk.{Allowed}
 use Rattle.model.specs.Printed.{answerText, printed}
 use Rattle.formats.specs.Reads.{isBytes}
 use Rattle.formats.specs.Rosters.{read-fits}
+use Rattle.formats.specs.Reach.{read-front}
 use Rattle.reduction.specs.Course.{end-matching, steps-few}
 use Rattle.search.specs.Plans.{matching-plan}
 use Rattle.rosters.specs.Laws.{ns-small, nt-small, fileable}
@@ -111,3 +112,8 @@ module _ (rivalOf : Instance → Plan → Plan) (blockingOf : Instance → Plan 
   pub printed-length : (input : List ℕ) → T (isBytes input) → length (printed rivalOf input) ≤ textSize
   unfolding printed
   printed-length input isB = answer-length (readRoster (take inputSize input)) (λ r e. read-fits (take inputSize input) r (bytes-front inputSize input isB) e)
+
+  -- a longer input has the answer of its first 2,215 bytes
+  pub printed-whole : (input : List ℕ) → printed rivalOf input ≡ answerText (readRoster input) rivalOf
+  unfolding printed
+  printed-whole input = ap (λ x. answerText x rivalOf) (read-front input)

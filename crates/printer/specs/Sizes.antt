@@ -1,7 +1,7 @@
 -- How long the text is, and what the finder hands over is within the limits that the printer asks.
 use Prim.Native.Nat.{ℕ, suc, _+_, _*_, _≤_}
 use native.Mathlib.Omega.{arith}
-use mathlib.Core.Path.{_≡_, refl, sym, ap, subst}
+use mathlib.Core.Path.{_≡_, sym, ap, subst}
 use mathlib.Core.List.{List, [], _∷_, _++_}
 use lib.ListN.{length, getD, length-append, length-map}
 use Rattle.lists.specs.Keep.{gather}
@@ -14,7 +14,7 @@ use Rattle.model.specs.PlanFile.{edgesIn, planBytes}
 use Rattle.model.specs.Reduction.{stepsOf}
 use Rattle.model.specs.Finder as F
 use Rattle.model.specs.Finder.{recordOf, diaryOf}
-use Rattle.model.specs.Printed.{number, signed, line, diaryLine, pairLine, counted, planLines, ending, groupWord}
+use Rattle.model.specs.Printed.{number, line, diaryLine, pairLine, counted, ending, groupWord}
 use Rattle.answers.specs.declared.Found.{Found}
 use Rattle.answers.specs.Shown.{shows-found}
 use Rattle.text.specs.Digits.{field-length}
