@@ -8,6 +8,7 @@
 pub mod blocking;
 pub mod compare;
 pub mod desk;
+pub mod every;
 pub mod fast;
 pub mod finder;
 pub mod limits;

@@ -3,6 +3,7 @@
 use std::cmp::Reverse;
 use std::ops::RangeInclusive;
 
+use crate::limits::MAX_NODES;
 use crate::plan::Plan;
 use crate::roster::{narrow, List, Node, Roster, Side, SIDES};
 
@@ -64,6 +65,26 @@ pub struct Shape {
     /// How likely, in percent, a stand ranks first the surveyors who like it
     /// least. The simple rules act less on such rosters, the later ones more.
     pub opposed: u8,
+}
+
+/// Shapes of small rosters that bring every rule and every ending.
+pub fn small_shapes() -> [Shape; 7] {
+    let shape = |counts, quotas, [pairs, ties, opposed]: [u8; 3]| Shape {
+        counts,
+        quotas,
+        pairs,
+        ties,
+        opposed,
+    };
+    [
+        shape([1..=3, 1..=3], [0..=3, 0..=3], [80, 60, 50]),
+        shape([2..=4, 2..=3], [1..=2, 1..=3], [75, 70, 90]),
+        shape([2..=3, 2..=4], [1..=3, 1..=2], [75, 70, 90]),
+        shape([3..=4, 3..=4], [1..=2, 1..=2], [60, 80, 90]),
+        shape([3..=5, 2..=4], [1..=1, 1..=2], [70, 80, 90]),
+        shape([4..=5, 4..=5], [1..=1, 1..=2], [50, 90, 90]),
+        shape([4..=5, 3..=3], [1..=1, 1..=3], [90, 60, 100]),
+    ]
 }
 
 /// A shape within the limits: from few nodes to all, from lists that are
@@ -155,4 +176,99 @@ pub fn plan(random: &mut Random, roster: &Roster, percent: u8) -> Plan {
         }
     }
     plan
+}
+
+/// A random plan that takes pairs, in a random order, as long as they fit.
+pub fn maximal_plan(random: &mut Random, roster: &Roster) -> Plan {
+    let mut room = SIDES.map(|side| {
+        let nodes = roster.nodes(side).iter();
+        nodes.map(|node| node.quota).collect::<Vec<u8>>()
+    });
+    let mut order: Vec<usize> = (0..roster.pairs().len()).collect();
+    random.shuffle(&mut order);
+    let mut chosen = Vec::new();
+    for pair in order {
+        let ends = SIDES.map(|side| {
+            let node = usize::from(roster.pairs()[pair].end(side)) - 1;
+            (side as usize, node)
+        });
+        if ends.iter().all(|&(side, node)| room[side][node] > 0) {
+            for (side, node) in ends {
+                room[side][node] -= 1;
+            }
+            chosen.push(pair);
+        }
+    }
+    chosen.into_iter().collect()
+}
+
+/// A random plan of that many pairs, which the roster must allow.
+pub fn plan_of(random: &mut Random, roster: &Roster, pairs: usize) -> Plan {
+    loop {
+        let plan = maximal_plan(random, roster);
+        if plan.indices().len() == pairs {
+            return plan;
+        }
+    }
+}
+
+/// A roster of the longest kind on which all agree: surveyors and stands come
+/// in groups of two, and everyone ranks the two of the own group first. The
+/// plan of all groups is strong. With some groups `tied`, whose stands rank the
+/// own surveyors last and alike, it is less so.
+pub fn agreed(random: &mut Random, tied: usize) -> Roster {
+    let first = |_, group: usize, other: usize| usize::from(group != other);
+    grouped(random, first, tied)
+}
+
+/// A roster of the longest kind where surveyors rank the group before their own
+/// first, and then their own. The plan of all groups is strong, and walks of
+/// cost 0 lead from each group through all later ones.
+pub fn chained(random: &mut Random) -> Roster {
+    let first = |side, group: usize, other: usize| match side {
+        Side::Surveyors if other + 1 == group => 0,
+        _ if group == other => 1,
+        _ => 2,
+    };
+    grouped(random, first, 0)
+}
+
+/// A roster of the longest kind in groups: a side's node of one group ranks the
+/// other side's by a key of their groups, and in a random order otherwise.
+fn grouped(random: &mut Random, key: fn(Side, usize, usize) -> usize, tied: usize) -> Roster {
+    let mut node = |side, number: usize| {
+        let group = number / GROUP;
+        let key = |entry: &u8| key(side, group, (usize::from(*entry) - 1) / GROUP);
+        let mut strict: Vec<u8> = (1..=narrow(MAX_NODES)).collect();
+        random.shuffle(&mut strict);
+        strict.sort_by_key(key);
+        let mut list = List {
+            strict,
+            tied: Vec::new(),
+        };
+        if side == Side::Stands && group < tied {
+            list.tied = list.strict.drain(..GROUP).collect();
+            list.tied.sort_unstable();
+        }
+        Node {
+            quota: narrow(GROUP),
+            list,
+        }
+    };
+    let [surveyors, stands] =
+        SIDES.map(|side| (0..MAX_NODES).map(|number| node(side, number)).collect());
+    Roster::new(surveyors, stands).expect("all are pairs")
+}
+
+/// How many surveyors, and stands, a group has.
+const GROUP: usize = 2;
+
+/// The plan of all groups.
+pub fn group_plan(roster: &Roster) -> Plan {
+    let group = |number: u8| (usize::from(number) - 1) / GROUP;
+    let pairs = roster.pairs().iter().enumerate();
+    pairs
+        .filter(|(_, pair)| group(pair.surveyor) == group(pair.stand))
+        .map(|(index, _)| index)
+        .collect()
 }
