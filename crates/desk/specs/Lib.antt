@@ -1,0 +1,6 @@
+pub mod Held
+pub mod Cut
+pub mod Replies
+pub mod Laws
+pub mod Passing
+pub mod Loads
