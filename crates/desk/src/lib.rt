@@ -107,9 +107,9 @@ impl Desk {
                 answer: Loading::Refused(number, group),
             },
             files::PlanReply::Accepted => {
-                let d = store::with_plan(self, file);
+                let p = store::with_plan(self, file);
                 LoadReply {
-                    desk: d,
+                    desk: p,
                     answer: Loading::Loaded,
                 }
             }
