@@ -31,13 +31,13 @@ use Rattle.files.specs.Replies as files
 use Rattle.compare.specs.declared.Comparison.{Comparison}
 use Rattle.compare.specs.Answers as comparison
 use Rattle.compare.specs.Answers.{comparisonReply}
-use Rattle.compare.specs.Parts.{partReply}
+use Rattle.compare.specs.Parts.{shownWinner, partReply}
 use Rattle.blocking_pairs.specs.declared.Blocked.{Blocked}
 use Rattle.blocking_pairs.specs.Answers as blocks
 use Rattle.blocking_pairs.specs.Answers.{blockedReply, deskAnswer, desk-answer}
 use Rattle.desk.specs.declared.Desk.{Desk}
 use Rattle.desk.specs.Held.{rosterBytes, planBytes, heldPlan, held, heldOf, stateNumber}
-use Rattle.desk.specs.Replies.{writtenShown, winnerShown, comparisonShown, partIn, answered, lentThen, Replied}
+use Rattle.desk.specs.Replies.{writtenShown, comparisonShown, partIn, answered, lentThen, Replied}
 use Rattle.desk.specs.Laws.{pass-answer, pass-lent, lent-alike, no-number}
 
 -- the state's number is none of those
@@ -112,7 +112,7 @@ compared-shown : (G : Instance) (a b : List ℕ) → comparisonShown a b (compar
 unfolding partOf
 compared-shown G a b = go (comparisonOf G a b)
   where
-    same : (w : outcome.Winner) → winnerShown (comparison.winnerCase w) ≡ w
+    same : (w : outcome.Winner) → shownWinner (comparison.winnerCase w) ≡ w
     same outcome.first = refl
     same outcome.second = refl
     same outcome.neither = refl

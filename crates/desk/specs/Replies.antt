@@ -12,10 +12,9 @@ use Rattle.blocking.specs.Blocking.{firstBlocking}
 use Rattle.refusal.specs.Shown.{groupShown}
 use Rattle.roster_writer.specs.declared.Written.{Written}
 use Rattle.roster_writer.specs.declared.Written.the-variants as written
-use Rattle.compare.specs.declared.Winner.{Winner}
-use Rattle.compare.specs.declared.Winner.the-variants as winner
 use Rattle.compare.specs.declared.Comparison.{Comparison}
 use Rattle.compare.specs.declared.Comparison.the-variants as comparison
+use Rattle.compare.specs.Parts.{shownWinner}
 use Rattle.desk.specs.declared.Desk.{Desk}
 use Rattle.desk.specs.declared.Loading.{Loading}
 use Rattle.desk.specs.declared.Loading.the-variants as loading
@@ -30,14 +29,9 @@ abbrev pub writtenShown : Written → Answer
 writtenShown (written.Wrote n) = wrote n
 writtenShown (written.Refused n g) = refused n (groupShown g)
 
-abbrev pub winnerShown : Winner → model.Winner
-winnerShown winner.First = model.first
-winnerShown winner.Second = model.second
-winnerShown winner.Neither = model.neither
-
 -- a comparison of two files: the winner's part, or the empty one, belongs to the answer
 abbrev pub comparisonShown : (firstBytes secondBytes : List ℕ) → Comparison → Answer
-comparisonShown a b (comparison.Votes v w x) = votes v w (winnerShown x) (winnerPart (winnerShown x) a b)
+comparisonShown a b (comparison.Votes v w x) = votes v w (shownWinner x) (winnerPart (shownWinner x) a b)
 comparisonShown a b (comparison.Refused n g) = refusedPart n (groupShown g) (winnerPart model.neither a b)
 
 -- the part in an answer; the empty one where it has none
