@@ -5,6 +5,12 @@
 //! Run with `cargo run --release --offline --bin bench`.
 
 mod files;
+#[cfg(feature = "finder")]
+mod finder;
+#[cfg(feature = "finder")]
+mod stack;
+#[cfg(feature = "verdict")]
+mod verdict;
 mod votes;
 
 use std::time::Instant;
@@ -38,4 +44,14 @@ fn main() {
     files::run();
     println!();
     votes::run();
+    #[cfg(feature = "verdict")]
+    {
+        println!();
+        verdict::run();
+    }
+    #[cfg(feature = "finder")]
+    {
+        println!();
+        finder::run();
+    }
 }

@@ -1,0 +1,100 @@
+//! The verdict on plans of 64 pairs of the longest roster, from bytes to
+//! answer: strong, popular and beaten ones.
+
+use std::hint::black_box;
+
+use reference::fast::{self, verdict::Verdict};
+use reference::plan::{self, Plan};
+use reference::random::{self, Random};
+use reference::roster::{self, Roster};
+
+use crate::{heading, report, time};
+
+/// A plan of the longest roster, and what the verdict on it is.
+struct Case {
+    name: &'static str,
+    roster: Roster,
+    plan: Plan,
+    verdict: &'static str,
+}
+
+fn cases() -> Vec<Case> {
+    let mut random = Random::new(9);
+    let mut cases = Vec::new();
+    let mut put = |name, roster: Roster, plan, verdict| {
+        cases.push(Case {
+            name,
+            roster,
+            plan,
+            verdict,
+        });
+    };
+    let roster = random::agreed(&mut random, 0);
+    let plan = random::group_plan(&roster);
+    put("all agree", roster, plan, "strong");
+    let roster = random::chained(&mut random);
+    let plan = random::group_plan(&roster);
+    put("long walks of cost 0", roster, plan, "strong");
+    let roster = random::agreed(&mut random, 4);
+    let plan = random::group_plan(&roster);
+    put("some stands tie", roster, plan, "popular");
+    for (name, ties, opposed) in [("random", 50, 20), ("random, opposed", 50, 100)] {
+        let roster = random::roster(&mut random, &random::longest_shape(ties, opposed));
+        let plan = random::plan_of(&mut random, &roster, 64);
+        put(name, roster, plan, "beaten");
+    }
+    cases
+}
+
+/// The fast reading's verdict, from bytes to answer, its rival written.
+fn judge(roster: &[u8], plan: &[u8], out: &mut [u8]) -> &'static str {
+    let instance = fast::roster::read(roster).expect("accepted");
+    let plan = fast::plan::read(&instance, plan).expect("accepted");
+    let (rival, verdict) = match fast::verdict::judge(&instance, &plan) {
+        Verdict::Strong => return "strong",
+        Verdict::Popular(rival) => (rival, "popular"),
+        Verdict::Beaten(rival) => (rival, "beaten"),
+    };
+    fast::plan::write(&instance, &rival.plan, out);
+    verdict
+}
+
+pub fn run() {
+    heading();
+    let mut out = [0; planner::PLAN_BYTES];
+    for case in cases() {
+        let roster = roster::write(&case.roster);
+        let plan = plan::write(&case.roster, &case.plan);
+        assert_eq!(
+            (roster.len(), plan.len()),
+            (planner::ROSTER_BYTES, planner::PLAN_BYTES)
+        );
+        assert_eq!(
+            judge(&roster, &plan, &mut out),
+            case.verdict,
+            "{}",
+            case.name
+        );
+        let ours = planner::judge(&roster, &plan, &mut out).expect("accepted");
+        let ours = match ours {
+            planner::Verdict::Strong => "strong",
+            planner::Verdict::Popular(_) => "popular",
+            planner::Verdict::Beaten(_) => "beaten",
+        };
+        assert_eq!(ours, case.verdict, "{}", case.name);
+        report(
+            &format!("verdict on a 64-pair plan, {}: {}", case.verdict, case.name),
+            time(20, || {
+                black_box(planner::judge(
+                    black_box(&roster),
+                    black_box(&plan),
+                    &mut out,
+                ))
+                .expect("accepted");
+            }),
+            time(20, || {
+                black_box(judge(black_box(&roster), black_box(&plan), &mut out));
+            }),
+        );
+    }
+}

@@ -1,0 +1,119 @@
+//! The proved desk with the answers of the reference desk, so that the two can
+//! be held against each other: a refusal is its number, a part of a file the
+//! file and the range.
+
+// Every test file compiles this module for itself and uses its part of it.
+#![allow(dead_code)]
+
+use planner::{NoneKind, Refusal, Step, Verdict};
+use reference::compare::{File, Part};
+use reference::desk::{self, Found, Judged, Lent, Record};
+
+pub struct Desk(planner::Desk);
+
+/// Both votes, and the part that is handed back.
+pub type Compared = (Result<(i16, i16), u8>, Part);
+
+fn number(refusal: Refusal) -> u8 {
+    refusal.number
+}
+
+/// A verdict as the reference tells it.
+pub fn judged(verdict: Verdict) -> Judged {
+    match verdict {
+        Verdict::Strong => Judged::Strong,
+        Verdict::Popular(vote) => Judged::Popular(vote),
+        Verdict::Beaten(vote) => Judged::Beaten(vote),
+    }
+}
+
+fn found(answer: planner::Found) -> Found {
+    match answer {
+        planner::Found::Plan { steps } => Found::Plan { steps },
+        planner::Found::None { steps, kind } => Found::None {
+            steps,
+            kind: match kind {
+                NoneKind::Left(pairs) => desk::NoneKind::Left(pairs),
+                NoneKind::Rivalled(vote) => desk::NoneKind::Rivalled(vote),
+            },
+        },
+    }
+}
+
+/// Which range of which file a part is.
+fn place(part: &[u8], first: &[u8], second: &[u8]) -> Part {
+    let within = |file: &[u8]| {
+        let start = part.as_ptr() as usize;
+        let from = start.checked_sub(file.as_ptr() as usize)?;
+        (from + part.len() <= file.len()).then_some(from..from + part.len())
+    };
+    let (file, range) = match (within(first), within(second)) {
+        (Some(range), _) => (File::First, range),
+        (None, Some(range)) => (File::Second, range),
+        (None, None) => panic!("a part of neither file"),
+    };
+    Part { file, range }
+}
+
+impl Desk {
+    pub fn open() -> Desk {
+        Desk(planner::Desk::open())
+    }
+
+    pub fn load_roster(mut self, file: &[u8]) -> (Desk, Result<(), u8>) {
+        let answer = self.0.load_roster(file).map_err(number);
+        (self, answer)
+    }
+
+    pub fn load_plan(mut self, file: &[u8]) -> (Desk, Result<(), u8>) {
+        let answer = self.0.load_plan(file).map_err(number);
+        (self, answer)
+    }
+
+    pub fn write_roster(self, out: &mut [u8]) -> (Desk, Result<usize, u8>) {
+        let answer = self.0.write_roster(out).map_err(number);
+        (self, answer)
+    }
+
+    pub fn write_plan(self, out: &mut [u8]) -> (Desk, Result<usize, u8>) {
+        let answer = self.0.write_plan(out).map_err(number);
+        (self, answer)
+    }
+
+    pub fn find(self, lent: Lent) -> (Desk, Result<Found, u8>) {
+        let step = |record: &Record| Step {
+            fate: record.fate,
+            surveyor: record.surveyor,
+            stand: record.stand,
+            rule: record.rule,
+        };
+        let mut diary: Vec<Step> = lent.diary.iter().map(step).collect();
+        let answer = self.0.find(&mut diary, lent.left, lent.plan, lent.rival);
+        for (record, step) in lent.diary.iter_mut().zip(&diary) {
+            *record = Record {
+                fate: step.fate,
+                surveyor: step.surveyor,
+                stand: step.stand,
+                rule: step.rule,
+            };
+        }
+        (self, answer.map(found).map_err(number))
+    }
+
+    pub fn judge(self, rival: &mut [u8]) -> (Desk, Result<Judged, u8>) {
+        let answer = self.0.judge(rival).map(judged).map_err(number);
+        (self, answer)
+    }
+
+    pub fn compare(self, first: &[u8], second: &[u8]) -> (Desk, Compared) {
+        let answer = self.0.compare(first, second);
+        let outcome = answer.outcome.map(|votes| (votes.first, votes.second));
+        let part = place(answer.part, first, second);
+        (self, (outcome.map_err(number), part))
+    }
+
+    pub fn blocking(self) -> (Desk, Result<Option<(u8, u8)>, u8>) {
+        let answer = self.0.blocking().map_err(number);
+        (self, answer)
+    }
+}

@@ -1,0 +1,69 @@
+//! The buffers that calls are lent, and whether a call wrote what it should and
+//! nothing else.
+
+// Every test file compiles this module for itself and uses its part of it.
+#![allow(dead_code)]
+
+use reference::desk::{Lent, Record, DIARY_RECORDS, LEFT_BYTES};
+use reference::limits::MAX_PLAN_BYTES;
+use reference::random::Random;
+
+use crate::common::junk;
+
+/// Whether a buffer begins with `front` and is as it was behind it.
+pub fn only_front(before: &[u8], after: &[u8], front: &[u8]) {
+    assert_eq!(&after[..front.len()], front);
+    assert_eq!(after[front.len()..], before[front.len()..]);
+}
+
+/// The buffers that the finder is lent.
+#[derive(Clone, Debug, PartialEq, Eq)]
+pub struct Buffers {
+    pub diary: Vec<Record>,
+    pub left: Vec<u8>,
+    pub plan: Vec<u8>,
+    pub rival: Vec<u8>,
+}
+
+/// What the buffers need: diary, left pairs, plan, rival.
+pub const SIZES: [usize; 4] = [DIARY_RECORDS, LEFT_BYTES, MAX_PLAN_BYTES, MAX_PLAN_BYTES];
+
+impl Buffers {
+    /// Buffers of these sizes, full of junk.
+    pub fn new(random: &mut Random, [diary, left, plan, rival]: [usize; 4]) -> Buffers {
+        let records = junk(random, 4 * diary);
+        Buffers {
+            diary: records
+                .chunks_exact(4)
+                .map(|bytes| Record {
+                    fate: bytes[0],
+                    surveyor: bytes[1],
+                    stand: bytes[2],
+                    rule: bytes[3],
+                })
+                .collect(),
+            left: junk(random, left),
+            plan: junk(random, plan),
+            rival: junk(random, rival),
+        }
+    }
+
+    pub fn lend(&mut self) -> Lent<'_> {
+        Lent {
+            diary: &mut self.diary,
+            left: &mut self.left,
+            plan: &mut self.plan,
+            rival: &mut self.rival,
+        }
+    }
+
+    /// Whether these buffers begin with what was to be written and are behind
+    /// it as they were before.
+    pub fn hold(&self, before: &Buffers, diary: &[Record], left: &[u8], plan: &[u8], rival: &[u8]) {
+        assert_eq!(&self.diary[..diary.len()], diary);
+        assert_eq!(self.diary[diary.len()..], before.diary[diary.len()..]);
+        only_front(&before.left, &self.left, left);
+        only_front(&before.plan, &self.plan, plan);
+        only_front(&before.rival, &self.rival, rival);
+    }
+}

@@ -1,0 +1,148 @@
+//! The program run on files: what it prints for the samples, for random rosters
+//! up to the limits, for damaged ones and for inputs that are too long.
+
+mod common;
+
+use std::fs;
+use std::io::Write;
+use std::path::{Path, PathBuf};
+use std::process::{Command, Stdio};
+
+use common::damage;
+use reference::finder::find_large;
+use reference::limits::MAX_INPUT_BYTES;
+use reference::plan;
+use reference::program::run_with;
+use reference::random::{self, Random};
+use reference::roster::{self, Roster};
+use reference::votes::plan_vote;
+
+/// The repository's folder.
+fn root() -> PathBuf {
+    Path::new(env!("CARGO_MANIFEST_DIR")).join("../..")
+}
+
+/// Runs the program on an input.
+fn run(input: &[u8]) -> Vec<u8> {
+    let mut child = Command::new(root().join("target/bin/crew"))
+        .stdin(Stdio::piped())
+        .stdout(Stdio::piped())
+        .spawn()
+        .expect("rt check crew makes the program");
+    let mut stdin = child.stdin.take().expect("a pipe");
+    // the program stops reading behind the longest roster
+    let _ = stdin.write_all(input);
+    drop(stdin);
+    let output = child.wait_with_output().expect("the program ends");
+    assert!(output.status.success(), "{input:?}");
+    output.stdout
+}
+
+#[test]
+fn samples() {
+    let mut samples = 0;
+    for entry in fs::read_dir(root().join("samples")).expect("the samples") {
+        let path = entry.expect("a sample").path();
+        if path.extension().is_none_or(|end| end != "roster") {
+            continue;
+        }
+        let printed = run(&fs::read(&path).expect("its bytes"));
+        let out = fs::read(path.with_extension("out")).expect("its output");
+        assert_eq!(printed, out, "{path:?}");
+        samples += 1;
+    }
+    assert!(samples >= 17);
+}
+
+/// The lines before the rival, and the rival's pairs.
+fn split_rival(printed: &[u8]) -> (Vec<String>, Vec<String>) {
+    let text = String::from_utf8(printed.to_vec()).expect("plain text");
+    let mut front: Vec<String> = text.lines().map(str::to_owned).collect();
+    let place = front.iter().position(|line| line.starts_with("rival "));
+    let rival = place.map_or(Vec::new(), |place| front.split_off(place));
+    (front, rival)
+}
+
+/// The plan that lines say: a heading with the count, then the pairs.
+fn plan_of(roster: &Roster, lines: &[String]) -> plan::Plan {
+    let number = |word: &str| word.parse::<u8>().expect("a number");
+    let count = lines[0].split(' ').nth(1).expect("a count");
+    let pairs = lines[1..]
+        .iter()
+        .flat_map(|line| line.split(' ').map(number));
+    let file: Vec<u8> = std::iter::once(number(count)).chain(pairs).collect();
+    plan::read(roster, &file).expect("a plan within the quotas")
+}
+
+/// Holds what is printed against the reference: the same text, but for which
+/// rival is named and the vote against it.
+fn check(input: &[u8]) -> &'static str {
+    let printed = run(input);
+    let expected = run_with(input, find_large);
+    assert_eq!(printed.last(), Some(&10), "{input:?}");
+    let (front, rival) = split_rival(&printed);
+    let (expected_front, expected_rival) = split_rival(&expected);
+    if expected_rival.is_empty() {
+        assert_eq!(printed, expected, "{input:?}");
+        return "settled";
+    }
+    let roster = roster::read(input).expect("accepted");
+    let vote_at = |lines: &[String]| {
+        let place = lines
+            .iter()
+            .position(|line| line.starts_with("none rivalled "));
+        place.expect("rivalled")
+    };
+    let at = vote_at(&expected_front);
+    assert_eq!(vote_at(&front), at, "{input:?}");
+    assert_eq!(front[..at], expected_front[..at], "{input:?}");
+    assert_eq!(front[at + 1..], expected_front[at + 1..], "{input:?}");
+    let vote = |lines: &[String]| {
+        lines[at]["none rivalled ".len()..]
+            .parse::<i16>()
+            .expect("a vote")
+    };
+    assert_eq!(
+        vote(&front).signum(),
+        vote(&expected_front).signum(),
+        "{input:?}"
+    );
+    let [candidate, rival] = [&front[at + 1..], &rival].map(|lines| plan_of(&roster, lines));
+    assert_ne!(rival, candidate, "{input:?}");
+    assert_eq!(
+        plan_vote(&roster, &candidate, &rival),
+        vote(&front),
+        "{input:?}"
+    );
+    "rivalled"
+}
+
+#[test]
+fn random_rosters() {
+    let mut random = Random::new(95);
+    let mut rivalled = 0;
+    for turn in 0..1_500 {
+        let mut shape = random::small_shapes()[turn % 7].clone();
+        if turn % 50 == 0 {
+            shape.counts = [6..=12, 6..=12];
+        }
+        let mut file = roster::write(&random::roster(&mut random, &shape));
+        if turn % 3 == 0 {
+            damage(&mut random, &mut file);
+        }
+        rivalled += usize::from(check(&file) == "rivalled");
+    }
+    println!("{rivalled} of 1500 were rivalled");
+    assert!(rivalled > 100);
+}
+
+#[test]
+fn inputs_that_are_too_long() {
+    let longest = fs::read(root().join("samples/longest.roster")).expect("a sample");
+    let mut long = longest.clone();
+    long.resize(MAX_INPUT_BYTES + 5_000, 1);
+    assert_eq!(run(&long), b"refused 9 form\n");
+    long[0] = 33;
+    assert_eq!(run(&long), b"refused 2 form\n");
+    assert_eq!(run(&[]), b"refused 1 form\n");
+}
