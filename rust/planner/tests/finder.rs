@@ -292,7 +292,7 @@ fn rosters_up_to_the_limits() {
         let roster = random::roster(&mut checks.random, &shape);
         assert_eq!(roster.pairs().len(), 1_024);
         checks.large(&roster);
-        let roster = match turn % 4 {
+        let (roster, _) = match turn % 4 {
             0 => random::chained(&mut checks.random),
             tied => random::agreed(&mut checks.random, 2 * (tied - 1)),
         };

@@ -257,11 +257,10 @@ fn full_plans_of_the_longest_rosters() {
         assert_eq!(roster.pairs().len(), 1_024);
         let plan = random::plan_of(&mut random, &roster, 64);
         check_large(&mut random, &mut tally, &roster, &plan);
-        let roster = match turn % 4 {
+        let (roster, plan) = match turn % 4 {
             0 => random::chained(&mut random),
             tied => random::agreed(&mut random, 2 * (tied - 1)),
         };
-        let plan = random::group_plan(&roster);
         assert_eq!(plan.indices().len(), 64);
         check_large(&mut random, &mut tally, &roster, &plan);
         tally.rosters += 2;

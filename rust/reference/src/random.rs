@@ -212,63 +212,72 @@ pub fn plan_of(random: &mut Random, roster: &Roster, pairs: usize) -> Plan {
     }
 }
 
-/// A roster of the longest kind on which all agree: surveyors and stands come
-/// in groups of two, and everyone ranks the two of the own group first. The
-/// plan of all groups is strong. With some groups `tied`, whose stands rank the
-/// own surveyors last and alike, it is less so.
-pub fn agreed(random: &mut Random, tied: usize) -> Roster {
-    let first = |_, group: usize, other: usize| usize::from(group != other);
-    grouped(random, first, tied)
+/// A roster of the longest kind on which all agree, with its plan of 64 pairs:
+/// surveyors and stands come in groups of two, and everyone ranks the two of
+/// the own group first, who are the plan. It is strong. With some groups
+/// `tied`, whose stands rank the own surveyors last and alike, it is less so.
+pub fn agreed(random: &mut Random, tied: usize) -> (Roster, Plan) {
+    let group = |node: usize| node / 2;
+    let first = |_, node, other| usize::from(group(node) != group(other));
+    let tied = |stand| group(stand) < tied;
+    let roster = longest(random, first, tied);
+    let plan = plan_where(&roster, |surveyor, stand| group(surveyor) == group(stand));
+    (roster, plan)
 }
 
-/// A roster of the longest kind where surveyors rank the group before their own
-/// first, and then their own. The plan of all groups is strong, and walks of
-/// cost 0 lead from each group through all later ones.
-pub fn chained(random: &mut Random) -> Roster {
-    let first = |side, group: usize, other: usize| match side {
-        Side::Surveyors if other + 1 == group => 0,
-        _ if group == other => 1,
-        _ => 2,
+/// A roster of the longest kind, with a strong plan of 64 pairs from which the
+/// test for rivals has the longest way to go: each surveyor has the stand of
+/// its own number and the one before it, and ranks the one before that between
+/// the two. So walks of cost 0 lead from each stand to the next.
+pub fn chained(random: &mut Random) -> (Roster, Plan) {
+    let own = |surveyor: usize, stand: usize| (surveyor + MAX_NODES - stand) % MAX_NODES;
+    let first = |side, node, other| match side {
+        Side::Surveyors => match own(node, other) {
+            0 => 0,
+            // the first two have none before that, so that no walk closes
+            2 if node >= 2 => 1,
+            1 => 2,
+            _ => 3,
+        },
+        Side::Stands => usize::from(own(other, node) > 1),
     };
-    grouped(random, first, 0)
+    let roster = longest(random, first, |_| false);
+    let plan = plan_where(&roster, |surveyor, stand| own(surveyor, stand) <= 1);
+    (roster, plan)
 }
 
-/// A roster of the longest kind in groups: a side's node of one group ranks the
-/// other side's by a key of their groups, and in a random order otherwise.
-fn grouped(random: &mut Random, key: fn(Side, usize, usize) -> usize, tied: usize) -> Roster {
+/// A roster of the longest kind: everyone ranks the other side's nodes by a
+/// key, and in a random order where keys are equal. The stands chosen by `tied`
+/// move the two best to a tie at the end. Nodes are counted from 0.
+fn longest(
+    random: &mut Random,
+    key: impl Fn(Side, usize, usize) -> usize,
+    tied: impl Fn(usize) -> bool,
+) -> Roster {
     let mut node = |side, number: usize| {
-        let group = number / GROUP;
-        let key = |entry: &u8| key(side, group, (usize::from(*entry) - 1) / GROUP);
         let mut strict: Vec<u8> = (1..=narrow(MAX_NODES)).collect();
         random.shuffle(&mut strict);
-        strict.sort_by_key(key);
+        strict.sort_by_key(|&entry| key(side, number, usize::from(entry) - 1));
         let mut list = List {
             strict,
             tied: Vec::new(),
         };
-        if side == Side::Stands && group < tied {
-            list.tied = list.strict.drain(..GROUP).collect();
+        if side == Side::Stands && tied(number) {
+            list.tied = list.strict.drain(..2).collect();
             list.tied.sort_unstable();
         }
-        Node {
-            quota: narrow(GROUP),
-            list,
-        }
+        Node { quota: 2, list }
     };
     let [surveyors, stands] =
         SIDES.map(|side| (0..MAX_NODES).map(|number| node(side, number)).collect());
     Roster::new(surveyors, stands).expect("all are pairs")
 }
 
-/// How many surveyors, and stands, a group has.
-const GROUP: usize = 2;
-
-/// The plan of all groups.
-pub fn group_plan(roster: &Roster) -> Plan {
-    let group = |number: u8| (usize::from(number) - 1) / GROUP;
-    let pairs = roster.pairs().iter().enumerate();
-    pairs
-        .filter(|(_, pair)| group(pair.surveyor) == group(pair.stand))
-        .map(|(index, _)| index)
-        .collect()
+/// The plan of the pairs whose ends, counted from 0, are chosen.
+fn plan_where(roster: &Roster, chosen: impl Fn(usize, usize) -> bool) -> Plan {
+    let ends = |index: &usize| {
+        let pair = roster.pairs()[*index];
+        chosen(usize::from(pair.surveyor) - 1, usize::from(pair.stand) - 1)
+    };
+    (0..roster.pairs().len()).filter(ends).collect()
 }

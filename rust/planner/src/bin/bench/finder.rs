@@ -91,8 +91,11 @@ fn ending(bytes: &[u8]) -> String {
 /// Rosters of the longest kind: many shapes, from all strict to all tied, from
 /// agreement to opposition.
 fn longest_rosters(random: &mut Random) -> Vec<Roster> {
-    let mut rosters = vec![random::agreed(random, 0), random::agreed(random, 16)];
-    rosters.push(random::chained(random));
+    let mut rosters = vec![
+        random::agreed(random, 0).0,
+        random::agreed(random, 16).0,
+        random::chained(random).0,
+    ];
     for ties in [0, 30, 60, 100] {
         for opposed in [0, 30, 60, 100] {
             for _ in 0..6 {

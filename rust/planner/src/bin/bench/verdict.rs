@@ -21,7 +21,7 @@ struct Case {
 fn cases() -> Vec<Case> {
     let mut random = Random::new(9);
     let mut cases = Vec::new();
-    let mut put = |name, roster: Roster, plan, verdict| {
+    let mut put = |name, (roster, plan), verdict| {
         cases.push(Case {
             name,
             roster,
@@ -29,19 +29,13 @@ fn cases() -> Vec<Case> {
             verdict,
         });
     };
-    let roster = random::agreed(&mut random, 0);
-    let plan = random::group_plan(&roster);
-    put("all agree", roster, plan, "strong");
-    let roster = random::chained(&mut random);
-    let plan = random::group_plan(&roster);
-    put("long walks of cost 0", roster, plan, "strong");
-    let roster = random::agreed(&mut random, 4);
-    let plan = random::group_plan(&roster);
-    put("some stands tie", roster, plan, "popular");
+    put("all agree", random::agreed(&mut random, 0), "strong");
+    put("long walks", random::chained(&mut random), "strong");
+    put("some stands tie", random::agreed(&mut random, 4), "popular");
     for (name, ties, opposed) in [("random", 50, 20), ("random, opposed", 50, 100)] {
         let roster = random::roster(&mut random, &random::longest_shape(ties, opposed));
         let plan = random::plan_of(&mut random, &roster, 64);
-        put(name, roster, plan, "beaten");
+        put(name, (roster, plan), "beaten");
     }
     cases
 }
