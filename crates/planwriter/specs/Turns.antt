@@ -1,5 +1,5 @@
 -- One pair more in the buffer's front, and the whole front.
-use Prim.Native.Nat.{ℕ, suc, _+_, _-_, _*_, _≤_, _<_}
+use Prim.Native.Nat.{ℕ, suc, _+_, _*_, _≤_, _<_}
 use native.Mathlib.Omega.{arith}
 use native.Mathlib.Numerals.{add-one}
 use mathlib.Core.Path.{_≡_, refl, sym, ap, ap₂, _∙_}
@@ -8,14 +8,14 @@ use mathlib.Core.List.{List, [], _∷_, _++_, append-assoc, append-nil}
 use lib.ListN.{length, take, drop, getD, set, length-append, length-take, take-append-drop}
 use lib.Seq.{set-at, drop-cons}
 use borrow.Author.Tests.{lt-ltb, le-ltb}
-use Rattle.lists.specs.Sum.{range}
-use Rattle.lists.specs.Keep.{keep}
-use Rattle.lists.specs.Ranges.{range-add, keep-append, gather-append, keep-last}
+use Rattle.lists.specs.Ranges.{gather-append, keep-last}
 use Rattle.model.specs.Limits.{planSize}
 use Rattle.model.specs.Plans.{on}
 use Rattle.model.specs.PlanFile.{edgesIn, planBytes}
+use Rattle.model.specs.Desk.{onto}
 use Rattle.rosters.specs.Chosen.{edgesIn-cong}
 use Rattle.arrays.specs.Shown.{at, flag, shown}
+use Rattle.arrays.specs.Kept.{keep-few}
 use Rattle.planwriter.specs.declared.PlanWritten.the-variants.{Wrote, Refused}
 use Rattle.planwriter.specs.Written.{pairsOf, WrittenFor}
 
@@ -53,13 +53,6 @@ module _ (sv st : List ℕ) (chosen : List Bool) (from : ℕ) (d : List ℕ) whe
   es-one : (e : ℕ) → flag chosen e ≡ true → es (e + 1) ≡ es e ++ e ∷ []
   es-one e q = ap es (add-one e) ∙ keep-last (flag chosen) e ∙ ap (λ b. es e ++ cond b (e ∷ []) []) q
 
-  -- no more below e than below m
-  pub es-few : (e m : ℕ) → e ≤ m → length (es e) ≤ length (es m)
-  es-few e m h = omega (arith, ap length (ap es (split e m h) ∙ ap (keep (flag chosen)) (range-add 0 e (m - e)) ∙ keep-append (flag chosen) (range 0 e) (range (0 + e) (m - e))), length-append (es e) (keep (flag chosen) (range (0 + e) (m - e))))
-    where
-      split : (e m : ℕ) → e ≤ m → m ≡ e + (m - e)
-      split e m h = omega arith
-
   module _ (e k : ℕ) (o : List ℕ) (count : k ≡ length (es e)) (so : o ≡ front e ++ drop (2 * k + from) d) where
     pub turn-not : flag chosen e ≡ false → (k ≡ length (es (e + 1))) × (o ≡ front (e + 1) ++ drop (2 * k + from) d)
     turn-not q = (count ∙ ap length (sym (es-not e q)), so ∙ ap (λ z. (take from d ++ pairsOf sv st z) ++ drop (2 * k + from) d) (sym (es-not e q)))
@@ -80,6 +73,10 @@ module _ (sv st : List ℕ) (chosen : List Bool) (from : ℕ) (d : List ℕ) whe
         grown = append-assoc (take from d) (pairsOf sv st (es e)) ((at sv e + 1) ∷ (at st e + 1) ∷ [])
             ∙ ap (λ z. take from d ++ z) (ap₂ (λ a b. pairsOf sv st (es e) ++ a ∷ b ∷ []) (add-one (at sv e)) (add-one (at st e))
             ∙ sym (gather-append (λ e. suc (at sv e) ∷ suc (at st e) ∷ []) (es e) (e ∷ [])) ∙ ap (pairsOf sv st) (sym (es-one e q)))
+
+-- pairs written from the first place on
+pub pairs-onto : (sv st es d : List ℕ) → (take 0 d ++ pairsOf sv st es) ++ drop (2 * length es + 0) d ≡ onto (pairsOf sv st es) d
+pairs-onto sv st es d = ap (λ n. pairsOf sv st es ++ drop n d) (let e : 2 * length es + 0 ≡ length (pairsOf sv st es) = omega (arith, pairs-length sv st es) in e)
 
 -- the whole front: the count in the first place
 whole-front : (d : List ℕ) (ps : List ℕ) (k : ℕ) → 1 ≤ length d → length ps ≡ 2 * k → set ((take 1 d ++ ps) ++ drop (2 * k + 1) d) 0 k ≡ (k ∷ ps) ++ drop (length (k ∷ ps)) d
@@ -116,7 +113,7 @@ module _ (m : ℕ) (sv st : List ℕ) (chosen : List Bool) (before : List ℕ) w
 -- an edge chosen below m: there is room for its pair
 pub room-for : (sv st : List ℕ) (chosen : List Bool) (from : ℕ) (d : List ℕ) (m e k : ℕ) → e < m → flag chosen e ≡ true → k ≡ length (edgesIn e (flag chosen))
     → 2 * length (edgesIn m (flag chosen)) + from ≤ length d → 2 * k + from + 2 ≤ length d
-room-for sv st chosen from d m e k h q count few = omega (arith, es-few sv st chosen from d (e + 1) m (omega arith), ap length (es-one sv st chosen from d e q), length-append (edgesIn e (flag chosen)) (e ∷ []))
+room-for sv st chosen from d m e k h q count few = omega (arith, keep-few (flag chosen) (e + 1) m (omega arith), ap length (es-one sv st chosen from d e q), length-append (edgesIn e (flag chosen)) (e ∷ []))
 
 pub not-yes : (b : Bool) → not b ≡ true → b ≡ false
 not-yes true q = sym q
