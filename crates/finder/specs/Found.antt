@@ -1,15 +1,15 @@
 -- What the finder's functions promise, for the roster's instance that their arrays show: the answer, and each buffer.
-use Prim.Native.Nat.{ℕ}
+use Prim.Native.Nat.{ℕ, _≤_}
 use mathlib.Core.Path.{_≡_}
 use mathlib.Core.Bool.{Bool, true, false, _||_}
 use mathlib.Core.List.{List}
 use lib.ListN.{length, replicate}
-use lib.Dec.{ltb}
+use lib.Dec.{T, ltb}
 use Rattle.lists.specs.Sum.{_∈_}
-use Rattle.model.specs.Limits.{planSize, diarySize, leftSize}
+use Rattle.model.specs.Limits.{entryLimit, planSize, diarySize, leftSize}
 use Rattle.model.specs.Refusal.{groupOf}
 use Rattle.model.specs.Reading.{Reading, accepted, turned}
-use Rattle.model.specs.Roster.{Roster}
+use Rattle.model.specs.Roster.{Roster, fits}
 use Rattle.model.specs.RosterFile.{readRoster}
 use Rattle.model.specs.Edges.{instanceOf}
 use Rattle.model.specs.Instance.{Instance}
@@ -60,8 +60,14 @@ pub record FindsIn (G : Instance) (d l p v : List ℕ) (r : code.Found) (d′ l�
   pub wrote : Wrote G (finderOf G (rivalOf G)) (length (stepsOf G)) l p v r l′ p′ v′
   pub diary : d′ ≡ written (diaryOf G) d
 
+-- of an accepted roster, which is within the limits
+pub record FindsFor (R : Roster) (d l p v : List ℕ) (r : code.Found) (d′ l′ p′ v′ : List ℕ) : Type 0 where
+  pub fitting : T (fits R)
+  pub few : instanceOf R .m ≤ entryLimit
+  pub finds : FindsIn (instanceOf R) d l p v r d′ l′ p′ v′
+
 abbrev pub Finds : (roster d l p v : List ℕ) (r : code.Found) (d′ l′ p′ v′ : List ℕ) → Type 0
-Finds roster d l p v r d′ l′ p′ v′ = (R : Roster) → readRoster roster ≡ accepted R → FindsIn (instanceOf R) d l p v r d′ l′ p′ v′
+Finds roster d l p v r d′ l′ p′ v′ = (R : Roster) → readRoster roster ≡ accepted R → FindsFor R d l p v r d′ l′ p′ v′
 
 -- ---- the finder on the bytes of a roster, with a diary of its own
 -- a refusal: its number and its group, and no record
@@ -70,7 +76,7 @@ pub record Refuses (n : ℕ) (o : Outcome) : Type 0 where
   pub steps : o .steps ≡ 0
 
 pub record Works (roster l p v : List ℕ) (o : Outcome) (l′ p′ v′ : List ℕ) : Type 0 where
-  pub finds : (R : Roster) → readRoster roster ≡ accepted R → FindsIn (instanceOf R) (replicate 4096 0) l p v (o .answer) (o .flat) l′ p′ v′
+  pub finds : (R : Roster) → readRoster roster ≡ accepted R → FindsFor R (replicate 4096 0) l p v (o .answer) (o .flat) l′ p′ v′
   pub steps : o .steps ≡ stepsIn (o .answer)
 
 -- "15 a lent buffer below its size"
@@ -87,7 +93,7 @@ pub record Kept (n : ℕ) (l p v : List ℕ) (o : Outcome) (l′ p′ v′ : Lis
 abbrev pub OutcomeFor : Reading Roster → (isShort : Bool) (l p v : List ℕ) (o : Outcome) (l′ p′ v′ : List ℕ) → Type 0
 OutcomeFor (turned n) s l p v o l′ p′ v′ = Kept 13 l p v o l′ p′ v′
 OutcomeFor (accepted R) true l p v o l′ p′ v′ = Kept 15 l p v o l′ p′ v′
-OutcomeFor (accepted R) false l p v o l′ p′ v′ = FindsIn (instanceOf R) (replicate 4096 0) l p v (o .answer) (o .flat) l′ p′ v′ × (o .steps ≡ stepsIn (o .answer))
+OutcomeFor (accepted R) false l p v o l′ p′ v′ = FindsFor R (replicate 4096 0) l p v (o .answer) (o .flat) l′ p′ v′ × (o .steps ≡ stepsIn (o .answer))
 
 abbrev pub Outcomes : (roster : List ℕ) (room : ℕ) (l p v : List ℕ) (o : Outcome) (l′ p′ v′ : List ℕ) → Type 0
 Outcomes roster room l p v = OutcomeFor (readRoster roster) (short room l p v) l p v

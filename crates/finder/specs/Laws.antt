@@ -13,7 +13,7 @@ use borrow.Author.Tests.{le-ltb}
 use Rattle.lists.specs.Sum.{range}
 use Rattle.lists.specs.Keep.{keep}
 use Rattle.lists.specs.Ranges.{keep-last}
-use Rattle.model.specs.Limits.{planSize}
+use Rattle.model.specs.Limits.{entryLimit, planSize}
 use Rattle.model.specs.Instance.{Instance}
 use Rattle.model.specs.Plans as P
 use Rattle.model.specs.Plans.{Plan, on, Verdict, verdictOf}
@@ -26,6 +26,8 @@ use Rattle.model.specs.Reduction.{endOf}
 use Rattle.model.specs.Finder as F
 use Rattle.model.specs.Finder.{leftOf, candidateOf, Found, found, isEmpty, finderOf}
 use Rattle.model.specs.Desk.{onto}
+use Rattle.formats.specs.Reads.{isBytes}
+use Rattle.formats.specs.Rosters.{read-fits}
 use Rattle.rosters.specs.Chosen.{on-planOf, planOf-length, edgesIn-cong}
 use Rattle.reduction.specs.Course.{fixed-behind}
 use Rattle.search.specs.Rival.{rivalOf}
@@ -51,7 +53,7 @@ use Rattle.answers.specs.declared.Found.the-variants as says
 use Rattle.answers.specs.declared.NoneKind.the-variants as kind
 use Rattle.finder.specs.declared.Outcome.{Outcome}
 use Rattle.finder.specs.Found as outcome
-use Rattle.finder.specs.Found.{candidate, atEnd, Wrote, Ends, FindsIn, Refuses, Works, short, OutcomeFor, Outcomes}
+use Rattle.finder.specs.Found.{candidate, atEnd, Wrote, Ends, FindsIn, FindsFor, Refuses, Works, short, OutcomeFor, Outcomes}
 
 -- ---- the edges of a plan listed
 module _ (p : ℕ → Bool) (front : List ℕ) (n e m : ℕ) (K : Kept p front n e) where
@@ -182,9 +184,13 @@ module _ (g : arrays.Instance) (L : Loaded g) (d : List ℕ) (rem fixed : List B
     diary = reduced .diary-is;
   }
 
-  pub found-all : (roster : List ℕ) → Decoded roster g → (r : Roster) → readRoster roster ≡ accepted r → (l p v : List ℕ) (a : code.Found) (l′ p′ v′ : List ℕ)
-      → Ends g rem fixed steps l p v a l′ p′ v′ → FindsIn (instanceOf r) d l p v a d′ l′ p′ v′
-  found-all roster D r e l p v a l′ p′ v′ E = subst (λ G. FindsIn G d l p v a d′ l′ p′ v′) (D .shows r e) (shown-finds l p v a l′ p′ v′ E)
+  pub found-all : (roster : List ℕ) → T (isBytes roster) → Decoded roster g → (r : Roster) → readRoster roster ≡ accepted r → (l p v : List ℕ) (a : code.Found) (l′ p′ v′ : List ℕ)
+      → Ends g rem fixed steps l p v a l′ p′ v′ → FindsFor r d l p v a d′ l′ p′ v′
+  found-all roster isB D r e l p v a l′ p′ v′ E = record {
+    fitting = read-fits roster r isB e;
+    few = subst (λ (G : Instance). G .m ≤ entryLimit) (D .shows r e) (L .edges);
+    finds = subst (λ G. FindsIn G d l p v a d′ l′ p′ v′) (D .shows r e) (shown-finds l p v a l′ p′ v′ E);
+  }
 
 -- ---- the finder on the bytes of a roster
 -- a buffer is below its size, by the two tests that the code makes

@@ -42,7 +42,7 @@ returns c =
     let a = b .args in
     let g = c .before .before .before .before .before .before .before .before .before .before .before .before .before .before .before .before .before .before .before .before .before .before .before .before .before .before .before .before .before .before .before .before .before .instance-of in
     let R = c .before .before .before .before .before .before .before .before .before .before .before .before .before .before .before .before .before .reduce in
-    λ r e. found-all (g .result) (loaded (a .roster .now) (g .result) (bytes-of (a .roster .now) (λ k. c .before .before .before .before .before .before .before .before .before .before .before .before .before .before .before .before .before .before .before .before .before .before .before .before .before .before .before .before .before .before .before .before .before .before .before .before .before .before .shared-slice-known .given k)) (g .ensures) r e) _ _ _ _ _ (R .ensures) (a .roster .now) (g .ensures) r e _ _ _ _ _ _ _ (c .before .before .before .before .before .before .ended .ensures)
+    λ r e. found-all (g .result) (loaded (a .roster .now) (g .result) (bytes-of (a .roster .now) (λ k. c .before .before .before .before .before .before .before .before .before .before .before .before .before .before .before .before .before .before .before .before .before .before .before .before .before .before .before .before .before .before .before .before .before .before .before .before .before .before .shared-slice-known .given k)) (g .ensures) r e) _ _ _ _ _ (R .ensures) (a .roster .now) (bytes-of (a .roster .now) (λ k. c .before .before .before .before .before .before .before .before .before .before .before .before .before .before .before .before .before .before .before .before .before .before .before .before .before .before .before .before .before .before .before .before .before .before .before .before .before .before .shared-slice-known .given k)) (g .ensures) r e _ _ _ _ _ _ _ (c .before .before .before .before .before .before .ended .ensures)
 
 pub find-spec : {M : Type 1} → statement M
 find-spec = tie.close (tie.spec instance-of-requires reduce-requires ended-requires same-length same-length-2 same-length-3 same-length-4 returns)
