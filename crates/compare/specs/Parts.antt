@@ -44,16 +44,16 @@ partReply (turned n) a b = winnerPart compare.neither a b
 partReply (accepted R) a b = partOf (instanceOf R) a b
 
 -- ---- the answer says which part it is
-abbrev shownWinner : Winner → compare.Winner
+abbrev pub shownWinner : Winner → compare.Winner
 shownWinner First = compare.first
 shownWinner Second = compare.second
 shownWinner Neither = compare.neither
 
-abbrev partCase : Comparison → (firstBytes secondBytes : List ℕ) → Part
+abbrev pub partCase : Comparison → (firstBytes secondBytes : List ℕ) → Part
 partCase (Votes v w x) a b = winnerPart (shownWinner x) a b
 partCase (Refused n k) a b = winnerPart compare.neither a b
 
-part-is : (x : Reading Roster) (a b : List ℕ) → partCase (comparisonReply x a b) a b ≡ partReply x a b
+pub part-is : (x : Reading Roster) (a b : List ℕ) → partCase (comparisonReply x a b) a b ≡ partReply x a b
 unfolding partOf
 part-is (turned n) a b = refl
 part-is (accepted R) a b = go (comparisonOf (instanceOf R) a b)

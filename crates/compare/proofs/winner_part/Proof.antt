@@ -1,4 +1,5 @@
 -- `compare::winner_part` meets its contract: the part is tied to its file by its place. Assumes nothing.
+use native.Mathlib.Omega.{arith}
 use mathlib.Core.Path.{sym, _∙_}
 use lib.Dec.{T}
 use Rattle.model.specs.RosterFile.{readRoster}
@@ -31,7 +32,8 @@ sub-result c =
     let a = k .before .before .args in
     let isF : T (isBytes (a .first .now)) = bytes-of (a .first .now) (λ j. k .shared-slice-known2 .given j) in
     let isS : T (isBytes (a .second .now)) = bytes-of (a .second .now) (λ j. c .before .before .before .before .before .before .shared-slice-known3 .given j) in
-    counts-there (readRoster (a .roster .now)) (a .first .now) (a .second .now) isF isS (sym (c .before .before .before .c .given .1) ∙ c .before .before .before .before .before .compare .ensures) .0
+    let h = counts-there (readRoster (a .roster .now)) (a .first .now) (a .second .now) isF isS (sym (c .before .before .before .c .given .1) ∙ c .before .before .before .before .before .compare .ensures) in
+    omega (arith, h .0, h .1)
 
 -- src/lib.rt:120:30
 part-result-start : tie.Need-part-result-start
@@ -40,7 +42,8 @@ part-result-start c =
     let a = k .before .before .args in
     let isF : T (isBytes (a .first .now)) = bytes-of (a .first .now) (λ j. k .shared-slice-known2 .given j) in
     let isS : T (isBytes (a .second .now)) = bytes-of (a .second .now) (λ j. c .before .before .before .before .before .before .shared-slice-known3 .given j) in
-    counts-there (readRoster (a .roster .now)) (a .first .now) (a .second .now) isF isS (sym (c .before .before .before .c .given .1) ∙ c .before .before .before .before .before .compare .ensures) .0
+    let h = counts-there (readRoster (a .roster .now)) (a .first .now) (a .second .now) isF isS (sym (c .before .before .before .c .given .1) ∙ c .before .before .before .before .before .compare .ensures) in
+    omega (arith, h .0, h .1)
 
 -- src/lib.rt:120:30
 part-result-end : tie.Need-part-result-end
@@ -57,7 +60,8 @@ sub-result-2 c =
     let a = k .before .before .args in
     let isF : T (isBytes (a .first .now)) = bytes-of (a .first .now) (λ j. k .shared-slice-known2 .given j) in
     let isS : T (isBytes (a .second .now)) = bytes-of (a .second .now) (λ j. c .before .before .before .before .before .before .shared-slice-known3 .given j) in
-    counts-there (readRoster (a .roster .now)) (a .first .now) (a .second .now) isF isS (sym (c .before .before .before .c .given .1) ∙ c .before .before .before .before .before .compare .ensures) .1
+    let h = counts-there (readRoster (a .roster .now)) (a .first .now) (a .second .now) isF isS (sym (c .before .before .before .c .given .1) ∙ c .before .before .before .before .before .compare .ensures) in
+    omega (arith, h .0, h .1)
 
 -- src/lib.rt:121:31
 part-result-start-2 : tie.Need-part-result-start-2
@@ -66,7 +70,8 @@ part-result-start-2 c =
     let a = k .before .before .args in
     let isF : T (isBytes (a .first .now)) = bytes-of (a .first .now) (λ j. k .shared-slice-known2 .given j) in
     let isS : T (isBytes (a .second .now)) = bytes-of (a .second .now) (λ j. c .before .before .before .before .before .before .shared-slice-known3 .given j) in
-    counts-there (readRoster (a .roster .now)) (a .first .now) (a .second .now) isF isS (sym (c .before .before .before .c .given .1) ∙ c .before .before .before .before .before .compare .ensures) .1
+    let h = counts-there (readRoster (a .roster .now)) (a .first .now) (a .second .now) isF isS (sym (c .before .before .before .c .given .1) ∙ c .before .before .before .before .before .compare .ensures) in
+    omega (arith, h .0, h .1)
 
 -- src/lib.rt:121:31
 part-result-end-2 : tie.Need-part-result-end-2
