@@ -3,10 +3,11 @@
 use Prim.Native.Nat.{ℕ, _≤_}
 use native.Mathlib.Omega.{arith}
 use mathlib.Core.Path.{_≡_, sym, ap, ap₂, _∙_, fun-ext}
-use mathlib.Core.Bool.{Bool, false}
+use mathlib.Core.Bool.{Bool, false, not, cond, _&&_, _||_}
 use mathlib.Core.Option.{Option, orElse, Option·elim}
 use mathlib.Core.List.{List}
 use lib.ListN.{length, length-map}
+use lib.Dec.{ltb}
 use Rattle.lists.specs.Sum.{_∈_, range, range-length}
 use Rattle.model.specs.Limits.{planLimit}
 use Rattle.model.specs.Instance.{Instance}
@@ -24,11 +25,15 @@ use Rattle.places.specs.Walks.{hitOf, searchAt}
 use Rattle.rivals.specs.Shows.{Lists, Views, Roomy, freeAt, arcCell, search-shown, arc-shown, tip-shown, room-S, room-T}
 use Rattle.rivals.specs.Hunt.{Hunted, hunted-hit, hunt-bounded}
 use Rattle.verdict.specs.Judged.{weighed, weighed-hits}
-use Rattle.swaps.specs.Swaps.{rivalAt, rival-at, shows-plan}
+use Rattle.swaps.specs.Swaps.{Marks, goneBy, comeBy, rivalAt, rival-at, shows-plan}
 
 pub record RivalShown (m : ℕ) (sv st rs rt quotaS quotaT : List ℕ) (plan : List Bool) (v : Verdict) (rival : List Bool) : Type 0 where
   pub verdict : (ns nt : ℕ) (tied : List Bool) → v ≡ computedVerdict (shown m ns nt sv st rs rt tied quotaS quotaT) plan
   pub flags : (ns nt : ℕ) (tied : List Bool) (e : ℕ) → flag rival e ≡ on (rivalOf (shown m ns nt sv st rs rt tied quotaS quotaT) plan) e
+
+-- the same for all quotas that leave this room at the nodes
+abbrev pub ShownFor : (m : ℕ) (sv st rs rt : List ℕ) (plan : List Bool) (n : ℕ) (ps pt : List ℕ) (roomS roomT : List Bool) → Verdict → List Bool → Type 0
+ShownFor m sv st rs rt plan n ps pt roomS roomT v rival = (quotaS quotaT : List ℕ) → Roomy n ps quotaS roomS → Roomy n pt quotaT roomT → RivalShown m sv st rs rt quotaS quotaT plan v rival
 
 -- ---- plans with the same edges
 module _ (G : Instance) (M N : Plan) (same : (e : ℕ) → on M e ≡ on N e) where
@@ -104,5 +109,9 @@ module _ (m : ℕ) (sv st rs rt quotaS quotaT : List ℕ) (plan : List Bool) (n 
         ∙ ap (λ (o : Option Hit). on (planOf m (Option·elim o (flag plan) (rivalBy (flag plan)))) e) found-hit
         ∙ ap (λ k. on (planOf m (Option·elim (orElse (search H (flag plan) 133 0 k) (search H (flag plan) 133 1 k)) (flag plan) (rivalBy (flag plan)))) e) (sym size)
 
-  pub found-shown : (v : Verdict) (rival : List Bool) → v ≡ weighed below what → Shows false rival m (rivalAt m sv st rs rt plan roomS roomT es arcs n what) → RivalShown m sv st rs rt quotaS quotaT plan v rival
-  found-shown v rival e s = record { verdict = λ ns nt tied. e ∙ found-verdict ns nt tied; flags = λ ns nt tied. found-rival ns nt tied rival s }
+  pub found-shown : (v : Verdict) (gone come rival : List Bool) → v ≡ weighed below what → Marks gone (goneBy m sv st rs rt plan roomS roomT es arcs n what) → Marks come (comeBy m sv st rs rt plan roomS roomT es arcs n what)
+      → Shows false rival m (λ e. (flag plan e && not (flag gone e)) || flag come e) → RivalShown m sv st rs rt quotaS quotaT plan v rival
+  found-shown v gone come rival e g c s = record {
+    verdict = λ ns nt tied. e ∙ found-verdict ns nt tied;
+    flags = λ ns nt tied. found-rival ns nt tied rival (λ d. s d ∙ ap₂ (λ (x y : Bool). cond (ltb d m) ((flag plan d && not x) || y) false) (g d) (c d));
+  }

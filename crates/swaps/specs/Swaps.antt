@@ -6,7 +6,7 @@ use native.Mathlib.Decide.{decLt}
 use mathlib.Core.Path.{_≡_, refl, sym, ap, ap₂, _∙_}
 use mathlib.Core.Logic.{by-cases}
 use mathlib.Core.Bool.{Bool, true, false, not, cond, _&&_, _||_}
-use mathlib.Core.Option.{Option, none, some, Option·elim}
+use mathlib.Core.Option.{Option, Option·elim}
 use mathlib.Core.List.{List, [], _∷_, _++_, map}
 use lib.ListN.{length, set, replicate, List·getD-eq-default}
 use lib.Dec.{ltb, eqb}
@@ -22,7 +22,7 @@ use Rattle.walks.specs.LemmaX.{swapped}
 use Rattle.walks.specs.Arcs.{fs, zs}
 use Rattle.walks.specs.Ends.{Way, fresh}
 use Rattle.walks.specs.Whole.{comers}
-use Rattle.search.specs.Search.{Hit, goes, comes, rivalBy, room?, olds, tip, arc, trace}
+use Rattle.search.specs.Search.{Hit, rivalBy, room?, olds, tip, arc, trace}
 use Rattle.arrays.specs.Shown.{at, flag, shown}
 use Rattle.arrays.specs.Passes.{Shows, all-blank}
 use Rattle.grid.specs.Filled.{Grid}

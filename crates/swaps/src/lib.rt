@@ -1,7 +1,7 @@
 // The exchange that makes a rival: what the search found is read back, and the edges of the plan that go and those that come are marked.
 ghost use mathlib.Core.Bool.{cond};
 ghost use mathlib.Core.List.{[], _∷_, _++_};
-ghost use Prim.Native.Nat.{ℕ, _≤_, _<_};
+ghost use Prim.Native.Nat.{_≤_, _<_};
 ghost use lib.Dec.{ltb};
 ghost use Rattle.walks.specs.Arcs.{fs, zs};
 ghost use Rattle.walks.specs.Ends.{fresh};

@@ -1,49 +1,55 @@
+-- The edges below e are written.
+use Prim.Native.Nat.{_-_, _≤_, zero-le}
+use native.Mathlib.Omega.{arith}
+use mathlib.Core.Path.{_≡_, refl, subst}
+use mathlib.Core.Bool.{false, not, _&&_, _||_}
+use borrow.Author.Needs.{needs}
+use Rattle.arrays.specs.Shown.{flag}
+use Rattle.arrays.specs.Passes.{Shows, Fill, fill-none, fill-next}
 use Rattle.rival.proofs.exchanged.Statement.{statement}
 use Rattle.rival.proofs.exchanged.Tie as tie
-use Rattle.rival.proofs.exchanged.Reads as reads
-use Rattle.rival.proofs.exchanged.Lts as lts
 
 abbrev Inv-loop : tie.InvT-loop
-Inv-loop m plan gone come o₀ e₀ o e = ?
+Inv-loop m plan gone come o₀ e₀ o e = (e ≤ m) × Fill false 1024 o e (λ e. (flag plan e && not (flag gone e)) || flag come e)
 
 abbrev μ-loop : tie.MeasureT-loop
-μ-loop m plan gone come o₀ e₀ o e = ?
+μ-loop m plan gone come o₀ e₀ o e = m - e
 
--- src/lib.rt:137:5
 loop-holds : tie.Need-loop-holds Inv-loop μ-loop
-loop-holds c = ?
+loop-holds c =
+    let a = c .args in
+    (zero-le, fill-none false 1024 (λ e. (flag (a .plan .now) e && not (flag (a .gone .now) e)) || flag (a .come .now) e))
 
--- src/lib.rt:138:17
 element-copy-out-o : tie.Need-element-copy-out-o Inv-loop μ-loop
-element-copy-out-o c = ?
+element-copy-out-o c = search needs
 
--- src/lib.rt:138:28
 element-copy-out-o-2 : tie.Need-element-copy-out-o-2 Inv-loop μ-loop
-element-copy-out-o-2 c = ?
+element-copy-out-o-2 c = search needs
 
--- src/lib.rt:138:39
 element-copy-out-o-3 : tie.Need-element-copy-out-o-3 Inv-loop μ-loop
-element-copy-out-o-3 c = ?
+element-copy-out-o-3 c = search needs
 
--- src/lib.rt:138:9
 array-write-o : tie.Need-array-write-o Inv-loop μ-loop
-array-write-o c = ?
+array-write-o c = search needs
 
--- src/lib.rt:139:9
 add-e : tie.Need-add-e Inv-loop μ-loop
-add-e c = ?
+add-e c = search needs
 
--- src/lib.rt:137:5
 loop-less : tie.Need-loop-less Inv-loop μ-loop
-loop-less c = ?
+loop-less c = search needs
 
--- src/lib.rt:137:5
 loop-again : tie.Need-loop-again Inv-loop μ-loop
-loop-again c = ?
+loop-again c =
+    let l = c .before .before .before .before in
+    let a = l .before .args in
+    (omega arith, fill-next false 1024 (l .loop .o) (λ e. (flag (a .plan .now) e && not (flag (a .gone .now) e)) || flag (a .come .now) e) (l .loop .e) ((flag (a .plan .now) (l .loop .e) && not (flag (a .gone .now) (l .loop .e))) || flag (a .come .now) (l .loop .e)) refl (omega arith) (l .loop .inv .1))
 
--- src/lib.rt:131:1
 returns : tie.Need-returns Inv-loop μ-loop
-returns c = ?
+returns c =
+    let l = c .before .loop in
+    let a = c .before .before .args in
+    let e : l .e ≡ a .m = omega arith in
+    subst (λ k. Shows false (l .o) k (λ e. (flag (a .plan .now) e && not (flag (a .gone .now) e)) || flag (a .come .now) e)) e (l .inv .1 .shows)
 
 pub exchanged-spec : {M : Type 1} → statement M
 exchanged-spec =

@@ -1,5 +1,4 @@
 -- What is gained at both ends is marked.
-use Prim.Native.Nat.{_-_, _<_}
 use borrow.Author.Needs.{needs}
 use Rattle.ways.specs.Ways.{tipBy}
 use Rattle.swaps.specs.Swaps.{blank-one, marks-ends}
@@ -22,9 +21,10 @@ returns : tie.Need-returns
 returns c =
     let s = c .before .before .before .before in
     let a = s .args in
-    let t = c .before .before .before .tip in
-    (blank-one 1024 1024 (a .x) (c .before .before .gained .result) (s .pre .3) (c .before .before .gained .ensures),
-    marks-ends (a .m) (t .result) (tipBy (a .m) (a .sv .now) (a .st .now) (a .rs .now) (a .rt .now) (a .x) (a .y) (a .plan .now) (a .fs .now) (a .ft .now)) 1024 (c .before .gained2 .result) (c .gained3 .result) (t .ensures) (c .before .gained2 .ensures) (c .gained3 .ensures))
+    let t = c .before .before .before .tip in (
+      blank-one 1024 1024 (a .x) (c .before .before .gained .result) (s .pre .3) (c .before .before .gained .ensures),
+      marks-ends (a .m) (t .result) (tipBy (a .m) (a .sv .now) (a .st .now) (a .rs .now) (a .rt .now) (a .x) (a .y) (a .plan .now) (a .fs .now) (a .ft .now)) 1024 (c .before .gained2 .result) (c .gained3 .result) (t .ensures) (c .before .gained2 .ensures) (c .gained3 .ensures),
+    )
 
 pub ended-spec : {M : Type 1} → statement M
 ended-spec = tie.close (tie.spec tip-requires gained-requires gained-requires-2 gained-requires-3 returns)

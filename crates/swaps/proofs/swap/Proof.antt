@@ -1,14 +1,12 @@
 -- By what was found.
-use Prim.Native.Nat.{ℕ, _-_, _<_}
 use native.Mathlib.Omega.{arith}
-use mathlib.Core.Path.{_≡_, sym, subst}
+use mathlib.Core.Path.{sym, subst}
 use mathlib.Core.Bool.{false}
 use mathlib.Core.List.{[], _∷_}
 use lib.ListN.{replicate}
 use borrow.Author.Needs.{needs}
 use Rattle.walks.specs.Arcs.{fs, zs}
 use Rattle.arrays.specs.Shown.{at}
-use Rattle.levels.specs.declared.Found.the-variants as found
 use Rattle.levels.specs.declared.Found.{Found}
 use Rattle.readback.specs.Edges.{arcEdge}
 use Rattle.readback.specs.Walks.{walkAt}
