@@ -130,7 +130,7 @@ shown-is rival blocking n (F.plan M) = refl
 shown-is rival blocking n (F.left es) = refl
 shown-is rival blocking n (F.rivalled M N w) = refl
 
-steps-are : (n : ℕ) (x : Found) → stepsIn (answerFor n x) ≡ n
+pub steps-are : (n : ℕ) (x : Found) → stepsIn (answerFor n x) ≡ n
 steps-are n (F.plan M) = refl
 steps-are n (F.left es) = refl
 steps-are n (F.rivalled M N w) = refl

@@ -91,7 +91,7 @@ pub(crate) fn ended(
 }
 
 // The finder: the diary as four numbers a record, and what each kind of answer writes.
-pub(crate) fn find(
+pub fn find(
     roster: &[u8],
     diary: &mut [u8],
     left: &mut [u8],
