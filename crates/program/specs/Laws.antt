@@ -64,7 +64,7 @@ module _ (input : List ℕ) (isB : T (isBytes input)) where
     prints before n after w =
         let t = answered-text rivalOf firstBlocking (readRoster input) h w in
         record {
-          text = subst (λ y. Wrote y before n after) (sym (printed-whole rivalOf firstBlocking allowed input)) t;
+          text = subst (λ y. Wrote y before n after) (sym (printed-whole rivalOf input)) t;
           room = subst (λ k. k ≤ textSize) (sym (t .size)) (answer-length rivalOf firstBlocking allowed (readRoster input) fit);
         }
 
