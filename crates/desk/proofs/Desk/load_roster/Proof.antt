@@ -1,0 +1,50 @@
+-- `desk::Desk::load_roster` meets its contract. Assumes nothing.
+use mathlib.Core.Path.{sym, _∙_}
+use lib.Dec.{T}
+use Rattle.formats.specs.Reads.{isBytes}
+use Rattle.reading.specs.Place.{bytes-of}
+use Rattle.desk.specs.Loads.{roster-small, roster-refused, roster-loaded}
+use borrow.Author.Needs.{needs}
+use Rattle.desk.proofs.Desk.load_roster.Statement.{statement}
+use Rattle.desk.proofs.Desk.load_roster.Tie as tie
+use Rattle.desk.proofs.Desk.load_roster.Reads as reads
+use Rattle.desk.proofs.Desk.load_roster.Lts as lts
+use Rattle.desk.proofs.store.with_roster.Reads as with-roster-reads
+use Rattle.roster.proofs.read_roster.Reads as read-roster-reads
+
+-- src/lib.rt:76:13
+read-roster-requires : tie.Need-read-roster-requires
+read-roster-requires c κs = search needs
+
+-- src/lib.rt:78:37
+enum-known-a : tie.Need-enum-known-a
+enum-known-a c = search needs
+
+-- src/lib.rt:83:21
+enum-told : tie.Need-enum-told
+enum-told c = search needs
+
+-- src/lib.rt:83:21
+with-roster-requires : tie.Need-with-roster-requires
+with-roster-requires c κs =
+    let k = c .before .before .before in
+    let a = k .before .args in
+    let isB : T (isBytes (a .file .now)) = bytes-of (a .file .now) (λ i. k .shared-slice-known .given i) in
+    roster-small (a .self) (a .file .now) (sym (c .enum-told .given .1) ∙ c .before .before .read-roster .ensures) isB
+
+-- src/lib.rt:73:5
+returns : tie.Need-returns
+returns c =
+    let a = c .before .before .before .before .before .args in
+    roster-refused (a .self) (a .file .now) (sym (c .before .a .given .1) ∙ c .before .before .before .read-roster .ensures)
+
+-- src/lib.rt:73:5
+returns-2 : tie.Need-returns-2
+returns-2 c =
+    let a = c .before .before .before .before .before .args in
+    roster-loaded (a .self) (a .file .now) (sym (c .before .enum-told .given .1) ∙ c .before .before .before .read-roster .ensures) (c .with-roster .result) (c .with-roster .ensures .0) (c .with-roster .ensures .1)
+
+pub load-roster-spec : {M : Type 1} → statement M
+load-roster-spec =
+    tie.close
+    (tie.spec read-roster-requires enum-known-a enum-told with-roster-requires returns returns-2)

@@ -1,0 +1,34 @@
+-- `desk::store::with_roster` meets its contract. Assumes nothing.
+use Prim.Native.Nat.{_≤_}
+use native.Mathlib.Omega.{arith}
+use mathlib.Core.Path.{_≡_, refl}
+use lib.ListN.{length}
+use Rattle.model.specs.Limits.{rosterSize}
+use Rattle.desk.specs.Cut.{front-copied}
+use borrow.Author.Needs.{needs}
+use Rattle.desk.proofs.store.with_roster.Statement.{statement}
+use Rattle.desk.proofs.store.with_roster.Tie as tie
+use Rattle.desk.proofs.store.with_roster.Reads as reads
+use Rattle.desk.proofs.store.with_roster.Lts as lts
+use Rattle.bytes.proofs.copy.Reads as copy-reads
+
+-- src/store.rt:16:31
+slice-aggregate-copy : tie.Need-slice-aggregate-copy
+slice-aggregate-copy c = search needs
+
+-- src/store.rt:16:9
+copy-requires : tie.Need-copy-requires
+copy-requires c κs =
+    let s = c .before .before .before in
+    let full : length (s .args .desk .roster) ≡ rosterSize = search needs in
+    let h : length (s .args .file .now) ≤ rosterSize = s .pre in
+    omega arith
+
+-- src/store.rt:11:1
+returns : tie.Need-returns
+returns c =
+    let a = c .before .before .before .before .before .before .args in
+    (front-copied (a .file .now) (a .desk .roster) (c .before .before .copy .ensures .0) (c .before .before .copy .ensures .1), refl)
+
+pub with-roster-spec : {M : Type 1} → statement M
+with-roster-spec = tie.close (tie.spec slice-aggregate-copy copy-requires returns)

@@ -1,0 +1,59 @@
+-- What a desk holds, "nothing loaded, a roster, or a roster and a plan": defined by reading its bytes. The empty file is refused by both
+-- readers, so a length of 0 is nothing loaded, or no plan.
+use Prim.Native.Nat.{ℕ}
+use mathlib.Core.Path.{_≡_, refl, sym, subst}
+use mathlib.Core.Bool.{Bool, cond, _&&_}
+use mathlib.Core.List.{List}
+use lib.ListN.{take}
+use lib.Dec.{T}
+use Rattle.model.specs.Reading.{Reading, accepted, turned}
+use Rattle.model.specs.Roster.{Roster}
+use Rattle.model.specs.RosterFile.{readRoster}
+use Rattle.model.specs.Edges.{instanceOf}
+use Rattle.model.specs.Plans.{Plan}
+use Rattle.model.specs.PlanFile.{readPlan}
+use Rattle.model.specs.Desk.{Held, nothing, roster, planned, sound, opening, loadRoster, loadPlan, noRoster, noPlan, withRoster, withPlan, loadPlanOn, deskAfter}
+use Rattle.formats.specs.Reads.{isBytes}
+use Rattle.rosters.specs.Desks.{desk-sound}
+use Rattle.desk.specs.declared.Desk.{Desk}
+
+-- a length above the array's is the whole array
+abbrev pub rosterBytes : Desk → List ℕ
+rosterBytes d = take (d .«roster_len») (d .roster)
+
+abbrev pub planBytes : Desk → List ℕ
+planBytes d = take (d .«plan_len») (d .plan)
+
+-- for each case of the plan's reading, and of the roster's
+abbrev pub heldPlan : Roster → Reading Plan → Held
+heldPlan r (accepted M) = planned r M
+heldPlan r (turned n) = roster r
+
+abbrev pub held : Reading Roster → (plan : List ℕ) → Held
+held (accepted r) plan = heldPlan r (readPlan (instanceOf r) plan)
+held (turned n) plan = nothing
+
+unfoldable pub heldOf : Desk → Held
+heldOf d = held (readRoster (rosterBytes d)) (planBytes d)
+
+-- the state's refusal of a call that needs a roster, and perhaps a plan; 0 for none
+abbrev pub stateNumber : Held → (plan short : Bool) → ℕ
+stateNumber h plan short = cond (noRoster h) 13 (cond (plan && noPlan h) 14 (cond short 15 0))
+
+-- ---- a desk holds what a new one holds after loading its bytes; so what any desk holds is sound
+pub held-loads : (file plan : List ℕ) → held (readRoster file) plan ≡ deskAfter (deskAfter opening (loadRoster file)) (loadPlan plan)
+unfolding deskAfter
+held-loads file plan = by-roster (readRoster file)
+  where
+    by-plan : (r : Roster) (y : Reading Plan) → heldPlan r y ≡ withPlan (roster r) r y
+    by-plan r (accepted M) = refl
+    by-plan r (turned n) = refl
+
+    by-roster : (x : Reading Roster) → held x plan ≡ loadPlanOn (withRoster nothing x) plan
+    by-roster (accepted r) = by-plan r (readPlan (instanceOf r) plan)
+    by-roster (turned n) = refl
+
+pub held-sound : (d : Desk) → T (isBytes (rosterBytes d)) → T (isBytes (planBytes d)) → T (sound (heldOf d))
+unfolding heldOf sound
+held-sound d s t = subst (λ h. T (sound h)) (sym (held-loads (rosterBytes d) (planBytes d)))
+    (desk-sound (deskAfter opening (loadRoster (rosterBytes d))) (loadPlan (planBytes d)) t (desk-sound opening (loadRoster (rosterBytes d)) s tt))

@@ -1,0 +1,196 @@
+// The desk, document 01's session state: "The desk goes into each call by value and comes back: nothing loaded, a roster, or a roster and
+// a plan." What it holds is said by its bytes alone, so any field values may come in: a length above its array is cut to it, bytes that
+// are no roster are nothing loaded, and bytes that are no plan of the roster are no plan held. No call asks anything of its caller.
+mod held;
+mod state;
+mod store;
+
+ghost use mathlib.Core.Path.{_≡_};
+ghost use denote.Ref.{ptr};
+ghost use Rattle.model.specs.Desk.{opening, loadRoster, loadPlan, writeRosterTo, writePlanTo, compare, blocking};
+ghost use Rattle.compare.specs.Parts.{placed};
+ghost use Rattle.blocking_pairs.specs.Answers.{deskAnswer};
+ghost use Rattle.desk.specs.Held.{heldOf};
+ghost use Rattle.desk.specs.Replies.{Replied, loadShown, writtenShown, comparisonShown, partIn, answered};
+use blocking_pairs::Blocked;
+use compare::Comparison;
+use limits::ROSTER_SIZE;
+use refusal::Group;
+use roster_writer::Written;
+
+// "a buffer for a plan, candidate or rival needs 129 bytes"
+const PLAN_SIZE: usize = 129;
+
+// the bytes of a roster file and of a plan file, at the front of their arrays
+#[repr(C)]
+pub struct Desk {
+    pub roster_len: usize,
+    pub roster: [u8; 2214],
+    pub plan_len: usize,
+    pub plan: [u8; 129],
+}
+
+// A file was loaded, or the refusal with its number and group.
+pub enum Loading {
+    Loaded,
+    Refused(u8, Group),
+}
+
+pub struct LoadReply {
+    pub desk: Desk,
+    pub answer: Loading,
+}
+
+pub struct WriteReply {
+    pub desk: Desk,
+    pub answer: Written,
+}
+
+pub struct CompareReply {
+    pub desk: Desk,
+    pub answer: Comparison,
+}
+
+pub struct BlockingReply {
+    pub desk: Desk,
+    pub answer: Blocked,
+}
+
+impl Desk {
+    // a desk with nothing loaded
+    pub fn open() -> Desk
+        ensures { λ r. ⌜ heldOf r ≡ opening ⌝ }
+    {
+        Desk {
+            roster_len: 0,
+            roster: [0; 2214],
+            plan_len: 0,
+            plan: [0; 129],
+        }
+    }
+
+    // "Loading a roster drops the plan and is the only call that needs none loaded"; a refused file leaves roster and plan.
+    pub fn load_roster(self, file: &[u8]) -> LoadReply
+        ensures { λ r. ⌜ Replied self (loadRoster (now (file .entry))) (loadShown (r .answer)) (loadRoster (now (file .entry))) (r .desk) ⌝ }
+    {
+        let a = roster::read_roster(file);
+        match a {
+            roster::Answer::Refused(number, group) => LoadReply {
+                desk: self,
+                answer: Loading::Refused(number, group),
+            },
+            roster::Answer::Accepted => {
+                let d = store::with_roster(self, file);
+                LoadReply {
+                    desk: d,
+                    answer: Loading::Loaded,
+                }
+            }
+        }
+    }
+
+    // "plan files are judged against the held roster"; an accepted one takes the place of the plan held.
+    pub fn load_plan(self, file: &[u8]) -> LoadReply
+        ensures { λ r. ⌜ Replied self (loadPlan (now (file .entry))) (loadShown (r .answer)) (loadPlan (now (file .entry))) (r .desk) ⌝ }
+    {
+        let n = state::state_refusal(self, false, false);
+        if 0 < n {
+            return LoadReply {
+                desk: self,
+                answer: Loading::Refused(n, refusal::group_of(n)),
+            };
+        }
+        let a = held::read_plan(self, file);
+        match a {
+            files::PlanReply::Refused(number, group) => LoadReply {
+                desk: self,
+                answer: Loading::Refused(number, group),
+            },
+            files::PlanReply::Accepted => {
+                let p = store::with_plan(self, file);
+                LoadReply {
+                    desk: p,
+                    answer: Loading::Loaded,
+                }
+            }
+        }
+    }
+
+    pub fn write_roster(self, out: &mut [u8]) -> WriteReply
+        ensures { λ r. ⌜ Replied self (writeRosterTo (now (out .entry))) (writtenShown (r .answer)) (writeRosterTo (now (out .exit))) (r .desk) ⌝ }
+    {
+        let n = state::state_refusal(self, false, out.len() < ROSTER_SIZE);
+        if 0 < n {
+            return WriteReply {
+                desk: self,
+                answer: Written::Refused(n, refusal::group_of(n)),
+            };
+        }
+        let w = held::write_roster(self, out);
+        WriteReply {
+            desk: self,
+            answer: w,
+        }
+    }
+
+    pub fn write_plan(self, out: &mut [u8]) -> WriteReply
+        ensures { λ r. ⌜ Replied self (writePlanTo (now (out .entry))) (writtenShown (r .answer)) (writePlanTo (now (out .exit))) (r .desk) ⌝ }
+    {
+        let n = state::state_refusal(self, true, out.len() < PLAN_SIZE);
+        if 0 < n {
+            return WriteReply {
+                desk: self,
+                answer: Written::Refused(n, refusal::group_of(n)),
+            };
+        }
+        let w = held::write_plan(self, out);
+        WriteReply {
+            desk: self,
+            answer: w,
+        }
+    }
+
+    // Both votes and the winner; the winner's part is what `winner_part` hands back for the same files.
+    pub fn compare(self, first: &[u8], second: &[u8]) -> CompareReply
+        ensures { λ r. ⌜ Replied self (compare (now (first .entry)) (now (second .entry))) (comparisonShown (now (first .entry)) (now (second .entry)) (r .answer)) (compare (now (first .entry)) (now (second .entry))) (r .desk) ⌝ }
+    {
+        let n = state::state_refusal(self, false, false);
+        if 0 < n {
+            return CompareReply {
+                desk: self,
+                answer: Comparison::Refused(n, refusal::group_of(n)),
+            };
+        }
+        let c = held::compare(self, first, second);
+        CompareReply {
+            desk: self,
+            answer: c,
+        }
+    }
+
+    // The part in that same answer: its place in memory, and its bytes.
+    pub fn winner_part<'a>(self, first: &'a [u8], second: &'a [u8]) -> &'a [u8]
+        ensures { λ r. ⌜ (ptr r, now r) ≡ placed (first .entry) (second .entry) (partIn (answered (heldOf self) (compare (now (first .entry)) (now (second .entry))))) ⌝ }
+    {
+        let bytes = self.roster;
+        let len = held::clamped(self.roster_len, ROSTER_SIZE);
+        compare::winner_part(&bytes[..len], first, second)
+    }
+
+    pub fn blocking(self) -> BlockingReply
+        ensures { λ r. ⌜ Replied self blocking (deskAnswer (r .answer)) blocking (r .desk) ⌝ }
+    {
+        let n = state::state_refusal(self, true, false);
+        if 0 < n {
+            return BlockingReply {
+                desk: self,
+                answer: Blocked::Refused(n, refusal::group_of(n)),
+            };
+        }
+        let b = held::blocking(self);
+        BlockingReply {
+            desk: self,
+            answer: b,
+        }
+    }
+}
