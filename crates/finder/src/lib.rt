@@ -49,7 +49,13 @@ pub fn list_edges(m: usize, chosen: &[bool; 1024]) -> Listed
 }
 
 // "Otherwise the fixed pairs are the candidate: strong gives the plan; else none, rivalled": after so many steps.
-pub(crate) fn judged(g: Instance, fixed: &[bool; 1024], steps: usize, plan: &mut [u8], rival: &mut [u8]) -> Found
+pub(crate) fn judged(
+    g: Instance,
+    fixed: &[bool; 1024],
+    steps: usize,
+    plan: &mut [u8],
+    rival: &mut [u8],
+) -> Found
     requires { ⌜ Loaded g × Planned g (now fixed) × (129 ≤ length (now plan)) × (129 ≤ length (now rival)) ⌝ }
     ensures { λ r. ⌜ Judges g (now (fixed .entry)) steps (now (plan .entry)) (now (rival .entry)) r (now (plan .exit)) (now (rival .exit)) ⌝ }
 {
