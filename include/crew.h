@@ -1,6 +1,6 @@
 /* The crew planner's proved calls, for C. Rosters and plans are files in document 01's bytes; a slice is a pointer and a length. A
    refusal is document 01's number, 0 for none. On a refusal no byte of any buffer changes; beyond what is written a buffer keeps its
-   bytes. What each call promises is its contract in crates/abi/src/lib.rt. Link with target/staticlib/libabi.a (rt staticlib abi). */
+   bytes. What each call promises is its contract in crates/abi/src. Link with target/staticlib/libabi.a (rt staticlib abi). */
 #ifndef CREW_H
 #define CREW_H
 
@@ -22,6 +22,26 @@ struct crew_outcome {
     size_t length;
 };
 
+/* a refusal, 0 for none; the winner, 0 neither, 1 first, 2 second; both votes, first against second and second against first; and the
+   winner's pair bytes: the file, 1 first, 2 second, where they begin in it and how many they are. On a refusal the votes are 0; with no
+   winner and on a refusal the part is the empty one at the first file's start */
+struct crew_compared {
+    uint8_t refusal;
+    uint8_t winner;
+    int16_t first_vote;
+    int16_t second_vote;
+    uint8_t file;
+    size_t from;
+    size_t length;
+};
+
+/* a refusal, 0 for none; the numbers of a blocking pair's surveyor and stand, 0 0 if there is none */
+struct crew_blocker {
+    uint8_t refusal;
+    uint8_t surveyor;
+    uint8_t stand;
+};
+
 /* the group of a refusal: 1 form, 2 content, 3 plan, 4 desk */
 uint8_t crew_group(uint8_t number);
 
@@ -41,6 +61,13 @@ uint8_t crew_read_plan(const uint8_t *roster, size_t roster_len, const uint8_t *
 /* writes the plan of a file to the front of out, which has at least CREW_PLAN_BYTES (else 15) */
 struct crew_outcome crew_write_plan(const uint8_t *roster, size_t roster_len, const uint8_t *file, size_t file_len, uint8_t *out,
                                     size_t out_len);
+
+/* two plan files against a roster, which is judged first, then the first file in full, then the second */
+struct crew_compared crew_compare(const uint8_t *roster, size_t roster_len, const uint8_t *first, size_t first_len, const uint8_t *second,
+                                  size_t second_len);
+
+/* a blocking pair of a plan file against a roster, which is judged first */
+struct crew_blocker crew_blocking(const uint8_t *roster, size_t roster_len, const uint8_t *file, size_t file_len);
 
 #ifdef __cplusplus
 }

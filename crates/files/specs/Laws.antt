@@ -26,11 +26,10 @@ use Rattle.roster_writer.specs.declared.Written.the-variants as written
 use Rattle.instance.specs.declared.Instance.{Instance}
 use Rattle.instance.specs.Decoded.{Decoded}
 use Rattle.instance.specs.Arrays.{decoded-fileable}
-use Rattle.plan.specs.declared.PlanAnswer.{PlanAnswer}
 use Rattle.plan.specs.declared.PlanAnswer.the-variants as plan
 use Rattle.plan.specs.declared.PlanRead.{PlanRead}
 use Rattle.plan.specs.Edges.{Differ}
-use Rattle.plan.specs.Answers.{answerOf, ReadFor}
+use Rattle.plan.specs.Answers.{ReadAs, ReadFor, accepted-read, refused-read}
 use Rattle.files.specs.declared.PlanReply.{PlanReply}
 use Rattle.files.specs.declared.PlanReply.the-variants.{Accepted, Refused}
 use Rattle.files.specs.Replies.{RosterAccepted, replied, planReply, JudgedAs, bytesOf, planToWrite, toWrite, answered, left, WrittenBy, PlanWritten}
@@ -41,35 +40,15 @@ module _ (roster : List ℕ) (g : Instance) (D : Decoded roster g) where
   edges-differ isB A = decoded-fileable roster g isB D (A .0) (A .1) .differ
 
   module _ (file : List ℕ) (p : PlanRead) (P : ReadFor (g .m) (g .sv) (g .st) (g .«quota_s») (g .«quota_t») file p) where
-    -- the answer is that of the roster's instance
-    answer-is : (R : Roster) → readRoster roster ≡ accepted R → p .answer ≡ answerOf (instanceOf R .m) (readPlan (instanceOf R) file)
-    answer-is R a = P (g .ns) (g .nt) (g .«rank_s») (g .«rank_t») (g .tied) .answer ∙ ap (λ G. answerOf (G .m) (readPlan G file)) (D .shows R a)
+    -- read against the roster's instance
+    read-as : (R : Roster) → readRoster roster ≡ accepted R → ReadAs (instanceOf R) file p
+    read-as R a = subst (λ G. ReadAs G file p) (D .shows R a) (P (g .ns) (g .nt) (g .«rank_s») (g .«rank_t») (g .tied))
 
     pub judged-accepted : {n : ℕ} → p .answer ≡ plan.Accepted n → JudgedAs roster file Accepted
-    judged-accepted q R a = sym (ap replied (accepted-is (instanceOf R .m) (readPlan (instanceOf R) file) (sym q ∙ answer-is R a) .1))
-      where
-        isAccepted : PlanAnswer → Bool
-        isAccepted (plan.Accepted n) = true
-        isAccepted (plan.Refused n) = false
-
-        accepted-is : {n : ℕ} (m : ℕ) (x : Reading Plan) → plan.Accepted n ≡ answerOf m x → (M : Plan) × (x ≡ accepted M)
-        accepted-is m (accepted M) e = (M, refl)
-        accepted-is m (turned k) e = absurd (subst (λ a. T (isAccepted a)) e tt)
+    judged-accepted q R a = sym (ap replied (accepted-read (read-as R a) q .1))
 
     pub judged-refused : {n : ℕ} (k : Group) → p .answer ≡ plan.Refused n → groupShown k ≡ groupOf n → JudgedAs roster file (Refused n k)
-    judged-refused {n} k q e R a = ap (Refused n) (shows-case k e) ∙ sym (ap replied (refused-is (instanceOf R .m) (readPlan (instanceOf R) file) (sym q ∙ answer-is R a)))
-      where
-        isRefused : PlanAnswer → Bool
-        isRefused (plan.Accepted n) = false
-        isRefused (plan.Refused n) = true
-
-        numberOf : PlanAnswer → ℕ
-        numberOf (plan.Accepted n) = 0
-        numberOf (plan.Refused n) = n
-
-        refused-is : {n : ℕ} (m : ℕ) (x : Reading Plan) → plan.Refused n ≡ answerOf m x → x ≡ turned n
-        refused-is m (accepted M) e = absurd (subst (λ a. T (isRefused a)) e tt)
-        refused-is m (turned k) e = ap (λ a. turned (numberOf a)) (sym e)
+    judged-refused {n} k q e R a = ap (Refused n) (shows-case k e) ∙ sym (ap replied (refused-read (read-as R a) q))
 
 -- ---- a plan judged against a roster
 module _ (roster file : List ℕ) where

@@ -1,3 +1,4 @@
 pub mod Cells
 pub mod Decoded
 pub mod Arrays
+pub mod Loaded

@@ -1,7 +1,7 @@
 -- What is promised of a plan file's reading: document 01's answer, and the edges of an accepted plan.
 use Prim.Native.Nat.{ℕ, _≤_, _<_}
-use mathlib.Core.Path.{_≡_}
-use mathlib.Core.Bool.{Bool, not, cond, _||_}
+use mathlib.Core.Path.{_≡_, refl, sym, ap, _∙_, subst}
+use mathlib.Core.Bool.{Bool, true, false, not, cond, _||_}
 use mathlib.Core.List.{List}
 use lib.ListN.{length, take}
 use lib.Dec.{T, leb, ltb, nleb→lt, nltb→le}
@@ -30,6 +30,31 @@ pub record ReadAs (G : Instance) (file : List ℕ) (r : PlanRead) : Type 0 where
 -- for the instance that the arrays show, whatever its node counts, ranks and ties
 abbrev pub ReadFor : (m : ℕ) (sv st qs qt file : List ℕ) (r : PlanRead) → Type 0
 ReadFor m sv st qs qt file r = (ns nt : ℕ) (rankS rankT : List ℕ) (tied : List Bool) → ReadAs (shown m ns nt sv st rankS rankT tied qs qt) file r
+
+-- ---- what an answer says of the reading
+abbrev isAccepted : PlanAnswer → Bool
+isAccepted (Accepted n) = true
+isAccepted (Refused n) = false
+
+abbrev numberOf : PlanAnswer → ℕ
+numberOf (Accepted n) = 0
+numberOf (Refused n) = n
+
+module _ {G : Instance} {file : List ℕ} {r : PlanRead} (A : ReadAs G file r) where
+  -- accepted: there is a plan, and the flags are its edges
+  pub accepted-read : {n : ℕ} → r .answer ≡ Accepted n → (M : Plan) × (readPlan G file ≡ accepted M) × (flag (r .chosen) ≡ on M)
+  accepted-read {n} q = go (readPlan G file) refl (sym q ∙ A .answer)
+    where
+      go : (x : Reading Plan) → readPlan G file ≡ x → Accepted n ≡ answerOf (G .m) x → (M : Plan) × (readPlan G file ≡ accepted M) × (flag (r .chosen) ≡ on M)
+      go (accepted M) p e = (M, p, λ k d. A .chosen M p d k)
+      go (turned k) p e = absurd (subst (λ a. T (isAccepted a)) e tt)
+
+  pub refused-read : {n : ℕ} → r .answer ≡ Refused n → readPlan G file ≡ turned n
+  refused-read {n} q = go (readPlan G file) (sym q ∙ A .answer)
+    where
+      go : (x : Reading Plan) → Refused n ≡ answerOf (G .m) x → x ≡ turned n
+      go (accepted M) e = absurd (subst (λ a. T (isAccepted a)) (sym e) tt)
+      go (turned k) e = ap (λ a. turned (numberOf a)) (sym e)
 
 -- "10 a plan pair not in the roster; 11 plan pairs not strictly ascending; 12 a pair that takes a node past its quota"
 unfoldable pub pairRefusal : (m e from : ℕ) (fullS fullT : Bool) → ℕ

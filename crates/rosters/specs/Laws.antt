@@ -2,11 +2,12 @@
 use Prim.Native.Nat.{ℕ, suc, _+_, _≤_, _<_}
 use native.Mathlib.Omega.{arith}
 use native.Mathlib.Nat.{suc-inj}
+use native.Mathlib.Decide.{decLt}
 use mathlib.Core.Path.{_≡_, refl, sym, ap, _∙_, subst}
-use mathlib.Core.Logic.{_⊎_, ⊎-elim}
+use mathlib.Core.Logic.{_⊎_, ⊎-elim, by-cases}
 use mathlib.Core.Bool.{Bool, true, false, not, _||_}
 use mathlib.Core.List.{List, [], _∷_, _++_}
-use lib.ListN.{length, length-append}
+use lib.ListN.{length, getD, length-append, List·getD-eq-default}
 use lib.Dec.{T, eqb, leb, leb→le, eqb→eq, T-not}
 use Rattle.lists.specs.Test.{given, and-l, and-r, or-case, or-r}
 use Rattle.lists.specs.Sum.{sum, sum-places, upTo, upTo-∈}
@@ -16,7 +17,7 @@ use Rattle.model.specs.Roster.{Roster, entries, surveyorCount, standCount, list
 use Rattle.model.specs.Edges.{Edge, position, edgesOf, noEdge, edgeAt, instanceOf}
 use Rattle.graph.specs.Lawful.{Lawful}
 use Rattle.formats.specs.Rosters.{fits-parts}
-use Rattle.rosters.specs.Position.{position-in, position-out, position-≤, position-same}
+use Rattle.rosters.specs.Position.{position-pos, position-in, position-out, position-≤, position-same}
 use Rattle.rosters.specs.PlanFiles.{Fileable}
 use Rattle.rosters.specs.Ascending.{IsEdge, edge-is, edges-ascend, ends-differ}
 
@@ -170,6 +171,30 @@ module _ (r : Roster) (ok : T (fits r)) where
       below = λ d e h k s t n. tie-below (edgeAt es d) (edgeAt es e) (at d h) (at e k) s t n;
     };
   }
+
+  -- ranks are counted from 1
+  pub ranks-from-one : (e : ℕ) → e < instanceOf r .m → (1 ≤ instanceOf r .rankS e) × (1 ≤ instanceOf r .rankT e)
+  unfolding instanceOf
+  ranks-from-one e h = let a = at e h in (
+    subst (λ z. 1 ≤ z .rankS) (sym (a .is)) (position-pos (suc (a .j)) (listS r (a .i))),
+    subst (λ z. 1 ≤ z .rankT) (sym (a .is)) (position-pos (suc (a .i)) (S (a .j))),
+  )
+
+  -- a quota is within its limit; where there is no node it is 0
+  quota-small : (qs : List ℕ) → T (all? (λ q. leb q quotaLimit) qs) → (v : ℕ) → getD qs v 0 ≤ quotaLimit
+  quota-small qs t v = by-cases (decLt v (length qs))
+      (λ h. leb→le (getD qs v 0) quotaLimit (all-∈ (λ q. leb q quotaLimit) qs t (getD qs v 0) (getD-∈ qs v 0 h)))
+      (λ n. omega (arith, no-quota (omega arith)))
+    where
+      no-quota : length qs ≤ v → getD qs v 0 ≡ 0
+      no-quota h = List·getD-eq-default qs 0 h
+
+  pub quotas-small : (v : ℕ) → (instanceOf r .quotaS v ≤ quotaLimit) × (instanceOf r .quotaT v ≤ quotaLimit)
+  unfolding instanceOf
+  quotas-small v = given (fits-parts r ok) (λ ((q, u, l, k), n). (
+    quota-small (r .quotasS) (and-l (all? (λ q. leb q quotaLimit) (r .quotasS)) _ (and-r (leb ns nodeLimit) _ q)) v,
+    quota-small (r .quotasT) (and-l (all? (λ q. leb q quotaLimit) (r .quotasT)) _ (and-r (leb nt nodeLimit) _ u)) v,
+  ))
 
   -- what the laws of plan files ask of an instance
   pub fileable : Fileable (instanceOf r)

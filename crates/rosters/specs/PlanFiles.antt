@@ -22,7 +22,8 @@ use Rattle.model.specs.Roster.{elem}
 use Rattle.model.specs.Instance.{Instance, Side, surveyors, stands}
 use Rattle.model.specs.Plans.{Plan, on, withinSide, within, plansOf}
 use Rattle.model.specs.PlanFile.{pairBytes, edgesIn, pairList, planBytes, edgeOfPair, full, Pairs, pairCheck, withPair, readPairs, planOfPairs, readPlan}
-use Rattle.graph.specs.Within.{within-side, matching-within}
+use Rattle.graph.specs.Lawful.{Lawful, Matching}
+use Rattle.graph.specs.Within.{within-side, within-matching, matching-within}
 use Rattle.formats.specs.Reads.{isBytes, Reads, Passes, each, two-bytes, got-value, got-rest, then-got, whole-accepted}
 use Rattle.formats.specs.Entries.{cond-zero, zero-cond}
 use Rattle.formats.specs.Sections.{alike, counted}
@@ -167,6 +168,13 @@ module _ (G : Instance) where
           atS = λ v. subst (λ n. n ≤ G .quotaS v) (sym (deg-atNode (surveyors G) (on M) v ∙ ap (atNode (surveyors G) v) q)) (f v);
           atT = λ v. subst (λ n. n ≤ G .quotaT v) (sym (deg-atNode (stands G) (on M) v ∙ ap (atNode (stands G) v) q)) (g v);
         })))))
+
+    pub plan-read-matching : Lawful G → Matching G (on M)
+    plan-read-matching law = within-matching G (on M) law (plan-within G plan-read-within)
+
+    -- its count byte is there
+    pub plan-accepted-count : 1 ≤ length bs
+    plan-accepted-count = given (plan-pairs bs M isB e) (λ X. subst (λ z. 1 ≤ length z) (sym (X .file)) (omega arith))
 
     -- at most 129 bytes
     pub plan-accepted-size : length bs ≤ planSize

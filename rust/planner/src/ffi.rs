@@ -6,6 +6,24 @@ pub struct Outcome {
     pub length: usize,
 }
 
+#[repr(C)]
+pub struct Compared {
+    pub refusal: u8,
+    pub winner: u8,
+    pub first_vote: i16,
+    pub second_vote: i16,
+    pub file: u8,
+    pub from: usize,
+    pub length: usize,
+}
+
+#[repr(C)]
+pub struct Blocker {
+    pub refusal: u8,
+    pub surveyor: u8,
+    pub stand: u8,
+}
+
 extern "C" {
     pub fn crew_group(number: u8) -> u8;
     pub fn crew_read_roster(file: *const u8, file_len: usize) -> u8;
@@ -35,4 +53,18 @@ extern "C" {
         out: *mut u8,
         out_len: usize,
     ) -> Outcome;
+    pub fn crew_compare(
+        roster: *const u8,
+        roster_len: usize,
+        first: *const u8,
+        first_len: usize,
+        second: *const u8,
+        second_len: usize,
+    ) -> Compared;
+    pub fn crew_blocking(
+        roster: *const u8,
+        roster_len: usize,
+        file: *const u8,
+        file_len: usize,
+    ) -> Blocker;
 }

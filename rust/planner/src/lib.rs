@@ -11,8 +11,10 @@
 
 mod ffi;
 mod refusal;
+mod votes;
 
 pub use refusal::{Group, Refusal};
+pub use votes::{blocking, compare, Comparison, Votes, Winner};
 
 /// Bytes that a buffer for a roster needs, and one for a plan.
 pub const ROSTER_BYTES: usize = 2_214;

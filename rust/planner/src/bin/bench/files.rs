@@ -1,36 +1,13 @@
-//! How long the proved calls take, against the reference written for speed:
-//! same machine, same input, both built for release. Each time is the least of
-//! several rounds, in microseconds a call; the ratio is ours to theirs.
-//!
-//! Run with `cargo run --release --offline --bin bench`.
+//! Reading and writing rosters and plans.
 
 use std::hint::black_box;
-use std::time::Instant;
 
 use reference::fast;
 use reference::plan;
 use reference::random::{self, Random, Shape};
 use reference::roster;
 
-const ROUNDS: usize = 15;
-
-/// The least time of a call over some rounds, in microseconds.
-fn time(calls: usize, mut call: impl FnMut()) -> f64 {
-    let mut least = f64::MAX;
-    for _ in 0..ROUNDS {
-        let start = Instant::now();
-        for _ in 0..calls {
-            call();
-        }
-        least = least.min(start.elapsed().as_secs_f64() * 1e6 / calls as f64);
-    }
-    least
-}
-
-fn report(what: &str, ours: f64, theirs: f64) {
-    let ratio = ours / theirs;
-    println!("| {what} | {ours:.2} | {theirs:.2} | {ratio:.2} |");
-}
+use crate::{heading, report, time};
 
 /// The longest roster: 32 by 32 nodes, all pairs, quotas that sum to 64.
 fn longest(random: &mut Random) -> roster::Roster {
@@ -46,7 +23,7 @@ fn longest(random: &mut Random) -> roster::Roster {
     )
 }
 
-fn main() {
+pub fn run() {
     let mut random = Random::new(7);
     let longest = longest(&mut random);
     let file = roster::write(&longest);
@@ -60,8 +37,7 @@ fn main() {
     let instance = fast::roster::read(&file).expect("accepted");
     let mut out = vec![0; planner::ROSTER_BYTES];
 
-    println!("| call | proved, us | reference, us | ratio |");
-    println!("|---|---|---|---|");
+    heading();
     report(
         "read the longest roster (2,214 bytes)",
         time(200, || {

@@ -1,0 +1,72 @@
+-- What the calls for C answer about votes: each case of the comparison and of the blocking pair as numbers.
+use Prim.Native.Nat.{ℕ, _-_}
+use mathlib.Core.Path.{_≡_, refl, sym, ap, _∙_}
+use mathlib.Core.List.{List}
+use lib.ListN.{length, length-drop}
+use lib.IntN.{ℤ, pos}
+use Rattle.model.specs.Reading.{Reading}
+use Rattle.model.specs.Roster.{Roster}
+use Rattle.model.specs.Compare as model
+use Rattle.model.specs.Compare.{Part, winnerPart}
+use Rattle.compare.specs.declared.Winner.{Winner}
+use Rattle.compare.specs.declared.Winner.the-variants as winner
+use Rattle.compare.specs.declared.Comparison.{Comparison}
+use Rattle.compare.specs.declared.Comparison.the-variants as comparison
+use Rattle.compare.specs.Answers.{comparisonReply}
+use Rattle.compare.specs.Parts.{shownWinner, partCase, partReply, part-is}
+use Rattle.blocking_pairs.specs.declared.Blocked.{Blocked}
+use Rattle.blocking_pairs.specs.declared.Blocked.the-variants as blocked
+use Rattle.blocking_pairs.specs.Answers.{blockedReply}
+use Rattle.refusal.specs.declared.Group.{Group}
+use Rattle.abi.specs.declared.votes.Compared.{Compared}
+use Rattle.abi.specs.declared.votes.Blocker.{Blocker}
+
+-- the winner, and a file
+abbrev pub winnerNumber : Winner → ℕ
+winnerNumber winner.First = 1
+winnerNumber winner.Second = 2
+winnerNumber winner.Neither = 0
+
+abbrev pub fileNumber : model.File → ℕ
+fileNumber model.firstFile = 1
+fileNumber model.secondFile = 2
+
+abbrev pub voted : (winner file from length : ℕ) → ℤ → ℤ → Compared
+voted x f i n v w = record { refusal = 0; winner = x; «first_vote» = v; «second_vote» = w; file = f; from = i; length = n }
+
+-- an answer and its part
+abbrev pub comparedNumbers : Comparison → Part → Compared
+comparedNumbers (comparison.Votes v w x) p = voted (winnerNumber x) (fileNumber (p .file)) (p .from) (length (p .bytes)) v w
+comparedNumbers (comparison.Refused n g) p = record { refusal = n; winner = 0; «first_vote» = pos 0; «second_vote» = pos 0; file = fileNumber (p .file); from = p .from; length = length (p .bytes) }
+
+abbrev pub comparedOf : Reading Roster → (firstBytes secondBytes : List ℕ) → Compared
+comparedOf x a b = comparedNumbers (comparisonReply x a b) (partReply x a b)
+
+abbrev pub blockerNumbers : Blocked → Blocker
+blockerNumbers (blocked.Pair s t) = record { refusal = 0; surveyor = s; stand = t }
+blockerNumbers blocked.Unblocked = record { refusal = 0; surveyor = 0; stand = 0 }
+blockerNumbers (blocked.Refused n g) = record { refusal = n; surveyor = 0; stand = 0 }
+
+abbrev pub blockerOf : Reading Roster → List ℕ → Blocker
+blockerOf x file = blockerNumbers (blockedReply x file)
+
+-- ---- the numbers of each case
+module _ (x : Reading Roster) (a b : List ℕ) where
+  numbers-are : {c : Comparison} → c ≡ comparisonReply x a b → comparedNumbers c (partCase c a b) ≡ comparedOf x a b
+  numbers-are e = ap (λ c. comparedNumbers c (partCase c a b)) e ∙ ap (comparedNumbers (comparisonReply x a b)) (part-is x a b)
+
+  module _ {v w : ℤ} {y : Winner} (e : comparison.Votes v w y ≡ comparisonReply x a b) where
+    won : (z : Winner) → y ≡ z → comparedNumbers (comparison.Votes v w z) (winnerPart (shownWinner z) a b) ≡ comparedOf x a b
+    won z q = ap (λ y. comparedNumbers (comparison.Votes v w y) (winnerPart (shownWinner y) a b)) (sym q) ∙ numbers-are e
+
+    pub first-numbers : y ≡ winner.First → voted 1 1 1 (length a - 1) v w ≡ comparedOf x a b
+    first-numbers q = ap (λ n. voted 1 1 1 n v w) (sym (length-drop 1 a)) ∙ won winner.First q
+
+    pub second-numbers : y ≡ winner.Second → voted 2 2 1 (length b - 1) v w ≡ comparedOf x a b
+    second-numbers q = ap (λ n. voted 2 2 1 n v w) (sym (length-drop 1 b)) ∙ won winner.Second q
+
+    pub neither-numbers : y ≡ winner.Neither → voted 0 1 0 0 v w ≡ comparedOf x a b
+    neither-numbers q = won winner.Neither q
+
+  pub refused-numbers : {n : ℕ} {k : Group} → comparison.Refused n k ≡ comparisonReply x a b → record { refusal = n; winner = 0; «first_vote» = pos 0; «second_vote» = pos 0; file = 1; from = 0; length = 0 } ≡ comparedOf x a b
+  refused-numbers e = numbers-are e

@@ -1,0 +1,64 @@
+-- `compare::second_judged` meets its contract: the second file is read against the same arrays. Assumes nothing.
+use lib.Dec.{T}
+use Rattle.formats.specs.Reads.{isBytes}
+use Rattle.reading.specs.Place.{bytes-of}
+use Rattle.compare.specs.Laws.{read-matching, second-refused, second-accepted}
+use borrow.Author.Needs.{needs}
+use Rattle.compare.proofs.second_judged.Statement.{statement}
+use Rattle.compare.proofs.second_judged.Tie as tie
+use Rattle.compare.proofs.second_judged.Reads as reads
+use Rattle.compare.proofs.second_judged.Lts as lts
+use Rattle.compare.proofs.voted.Reads as voted-reads
+use Rattle.plan.proofs.read_plan.Reads as read-plan-reads
+use Rattle.refusal.proofs.group_of.Reads as group-of-reads
+
+-- src/lib.rt:67:9
+read-plan-requires : tie.Need-read-plan-requires
+read-plan-requires c κs = let L = c .before .before .before .before .before .before .before .before .before .pre .0 in (L .edges, λ e h. L .low-sv e, λ e h. L .low-st e, L .fileable .differ)
+
+-- src/lib.rt:70:29
+enum-known-a : tie.Need-enum-known-a
+enum-known-a c = search needs
+
+-- src/lib.rt:70:58
+group-of-requires : tie.Need-group-of-requires
+group-of-requires c κs = search needs
+
+-- src/lib.rt:72:17
+enum-told : tie.Need-enum-told
+enum-told c = search needs
+
+-- src/lib.rt:73:13
+voted-requires : tie.Need-voted-requires
+voted-requires c κs =
+    let k = c .before .before .before .before .before .before .before .before .before .before .before .before .before in
+    let s = k .before in
+    let r = c .before .before .before .before .read-plan in
+    let isB : T (isBytes (s .args .second .now)) = bytes-of (s .args .second .now) (λ i. k .shared-slice-known .given i) in
+    (s .pre .0, s .pre .1, read-matching (s .args .g) (s .args .second .now) (r .result) (r .ensures) (s .pre .0) isB (c .before .before .enum-told .given .1))
+
+-- src/lib.rt:59:1
+returns : tie.Need-returns
+returns c =
+    let s = c .before .before .before .before .before .before .before .before .before .before .before .before .before .before in
+    let r = c .before .before .before .before .read-plan in
+    second-refused (s .args .g) (s .args .second .now) (r .result) (r .ensures) (s .args .p .now) (c .group-of .result) (c .before .before .a .given .1) (c .group-of .ensures)
+
+-- src/lib.rt:59:1
+returns-2 : tie.Need-returns-2
+returns-2 c =
+    let s = c .before .before .before .before .before .before .before .before .before .before .before .before .before .before .before in
+    let r = c .before .before .before .before .before .read-plan in
+    second-accepted (s .args .g) (s .args .second .now) (r .result) (r .ensures) (s .args .p .now) (c .before .before .before .enum-told .given .1) (c .voted .ensures)
+
+pub second-judged-spec : {M : Type 1} → statement M
+second-judged-spec =
+    tie.close
+    (tie.spec
+    read-plan-requires
+    enum-known-a
+    group-of-requires
+    enum-told
+    voted-requires
+    returns
+    returns-2)

@@ -1,0 +1,35 @@
+-- What a comparison answers: the model's, for each case of the code's answer; the roster is judged first.
+use Prim.Native.Nat.{ℕ}
+use mathlib.Core.Path.{_≡_}
+use mathlib.Core.List.{List}
+use Rattle.model.specs.Reading.{Reading, accepted, turned}
+use Rattle.model.specs.Refusal.{groupOf}
+use Rattle.model.specs.Roster.{Roster}
+use Rattle.model.specs.RosterFile.{readRoster}
+use Rattle.model.specs.Edges.{instanceOf}
+use Rattle.model.specs.Compare as model
+use Rattle.model.specs.Compare.{comparisonOf}
+use Rattle.refusal.specs.Shown.{groupCase}
+use Rattle.compare.specs.declared.Winner.{Winner}
+use Rattle.compare.specs.declared.Winner.the-variants.{First, Second, Neither}
+use Rattle.compare.specs.declared.Comparison.{Comparison}
+use Rattle.compare.specs.declared.Comparison.the-variants.{Votes, Refused}
+
+abbrev pub winnerCase : model.Winner → Winner
+winnerCase model.first = First
+winnerCase model.second = Second
+winnerCase model.neither = Neither
+
+-- both votes and the winner, or "only its number and its group"
+abbrev pub answered : model.Comparison → Comparison
+answered (model.votes v w x) = Votes v w (winnerCase x)
+answered (model.refused n) = Refused n (groupCase (groupOf n))
+
+-- the roster's refusal, else what the two files are against it
+abbrev pub comparisonReply : Reading Roster → (firstBytes secondBytes : List ℕ) → Comparison
+comparisonReply (turned n) a b = Refused n (groupCase (groupOf n))
+comparisonReply (accepted R) a b = answered (comparisonOf (instanceOf R) a b)
+
+-- the answer for every roster that the bytes are
+abbrev pub ComparedAs : (roster firstBytes secondBytes : List ℕ) → Comparison → Type 0
+ComparedAs roster a b r = (R : Roster) → readRoster roster ≡ accepted R → r ≡ answered (comparisonOf (instanceOf R) a b)

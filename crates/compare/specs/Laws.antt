@@ -1,0 +1,114 @@
+-- What the code finds on its ways, and that the promised answers follow.
+use Prim.Native.Nat.{ℕ}
+use mathlib.Core.Path.{_≡_, refl, sym, ap, ap₂, _∙_, subst}
+use mathlib.Core.Bool.{Bool, false}
+use mathlib.Core.List.{List}
+use lib.Dec.{T}
+use lib.IntN.{ℤ}
+use Rattle.lists.specs.Test.{given}
+use Rattle.model.specs.Reading.{Reading, accepted, turned}
+use Rattle.model.specs.Refusal.{groupOf}
+use Rattle.model.specs.RosterFile.{readRoster}
+use Rattle.model.specs.Instance as model
+use Rattle.model.specs.Plans.{Plan, on, voteOf}
+use Rattle.model.specs.PlanFile.{readPlan}
+use Rattle.model.specs.Vote.{vote}
+use Rattle.model.specs.Compare.{votes, winnerOf, compared, secondJudged, firstJudged, comparisonOf}
+use Rattle.formats.specs.Reads.{isBytes}
+use Rattle.graph.specs.Lawful.{Matching}
+use Rattle.rosters.specs.PlanFiles.{plan-read-matching}
+use Rattle.arrays.specs.Shown.{flag}
+use Rattle.refusal.specs.declared.Group.{Group}
+use Rattle.refusal.specs.Shown.{groupShown, shows-case}
+use Rattle.roster.specs.declared.Answer.{Answer}
+use Rattle.roster.specs.declared.Answer.the-variants as answer
+use Rattle.roster.specs.Shown.{shown, shown-refused}
+use Rattle.instance.specs.declared.Instance.{Instance}
+use Rattle.instance.specs.Decoded.{shownBy, Decoded}
+use Rattle.instance.specs.Loaded.{Loaded}
+use Rattle.plan.specs.declared.PlanRead.{PlanRead}
+use Rattle.plan.specs.declared.PlanAnswer.the-variants as plan
+use Rattle.plan.specs.Answers.{ReadAs, ReadFor, accepted-read, refused-read}
+use Rattle.vote.specs.Plan.{Arrays, Light, within-light, PlanVote}
+use Rattle.files.specs.Replies.{RosterAccepted}
+use Rattle.compare.specs.declared.Winner.{Winner}
+use Rattle.compare.specs.declared.Comparison.{Comparison}
+use Rattle.compare.specs.declared.Comparison.the-variants.{Votes, Refused}
+use Rattle.compare.specs.Answers.{winnerCase, answered, comparisonReply, ComparedAs}
+
+-- ---- the votes of two plans
+module _ (g : Instance) (L : Loaded g) where
+  pub side-arrays : Arrays (g .m) (g .ns) (g .sv) (g .«rank_s») × Arrays (g .m) (g .nt) (g .st) (g .«rank_t»)
+  side-arrays = (
+    record { edges = L .edges; nodes = L .surveyors; ends = λ e h. L .low-sv e; ranks = λ e h. (L .ranks e h .0, L .lawful .atS .placed e h) },
+    record { edges = L .edges; nodes = L .stands; ends = λ e h. L .low-st e; ranks = λ e h. (L .ranks e h .1, L .lawful .atT .placed e h) },
+  )
+
+  pub light : (p : List Bool) → Matching (shownBy g) (flag p) → Light (g .m) (g .sv) p × Light (g .m) (g .st) p
+  light p M = (
+    within-light (g .m) (g .ns) (g .sv) (g .«rank_s») (λ e. false) _ p (λ v. L .quotas v .0) (M .atS),
+    within-light (g .m) (g .nt) (g .st) (g .«rank_t») (flag (g .tied)) _ p (λ v. L .quotas v .1) (M .atT),
+  )
+
+  module _ (p q : List Bool) (Mp : Matching (shownBy g) (flag p)) (Mq : Matching (shownBy g) (flag q)) where
+    pub votes-are : {v w : ℤ} {x : Winner} → PlanVote (g .m) (g .ns) (g .nt) (g .sv) (g .st) (g .«rank_s») (g .«rank_t») p q v
+        → PlanVote (g .m) (g .ns) (g .nt) (g .sv) (g .st) (g .«rank_s») (g .«rank_t») q p w → x ≡ winnerCase (winnerOf v w)
+        → Votes v w x ≡ answered (compared (shownBy g) p q)
+    votes-are {v} {w} {x} hv hw e =
+        let a : v ≡ voteOf (shownBy g) p q = hv (g .tied) (g .«quota_s») (g .«quota_t») Mp Mq in
+        let b : w ≡ voteOf (shownBy g) q p = hw (g .tied) (g .«quota_s») (g .«quota_t») Mq Mp in
+        ap (Votes v w) e ∙ ap₂ (λ y z. Votes y z (winnerCase (winnerOf y z))) a b
+
+-- ---- which plan it is matters by its edges alone
+abbrev byEdges : model.Instance → (ℕ → Bool) → (ℕ → Bool) → Comparison
+byEdges G f h = answered (votes (vote G f h) (vote G h f) (winnerOf (vote G f h) (vote G h f)))
+
+same-first : (G : model.Instance) (M M′ : Plan) → on M ≡ on M′ → (x : Reading Plan) → answered (secondJudged G M x) ≡ answered (secondJudged G M′ x)
+same-first G M M′ e (accepted N) = ap (λ f. byEdges G f (on N)) e
+same-first G M M′ e (turned n) = refl
+
+-- ---- a plan file read against the arrays of an accepted roster
+module _ (g : Instance) (file : List ℕ) (r : PlanRead) (A : ReadFor (g .m) (g .sv) (g .st) (g .«quota_s») (g .«quota_t») file r) where
+  abbrev G : model.Instance
+  G = shownBy g
+
+  here : ReadAs G file r
+  here = A (g .ns) (g .nt) (g .«rank_s») (g .«rank_t») (g .tied)
+
+  -- the plan that its flags are is within the quotas
+  pub read-matching : Loaded g → T (isBytes file) → {n : ℕ} → r .answer ≡ plan.Accepted n → Matching G (flag (r .chosen))
+  read-matching L isB q = given (accepted-read here q) (λ (M, e, s). subst (Matching G) (sym s) (plan-read-matching G file M isB e (L .lawful)))
+
+  -- as the second file, after plan p
+  module _ (p : Plan) where
+    pub second-refused : {n : ℕ} (k : Group) → r .answer ≡ plan.Refused n → groupShown k ≡ groupOf n → Refused n k ≡ answered (secondJudged G p (readPlan G file))
+    second-refused {n} k q e = ap (Refused n) (shows-case k e) ∙ sym (ap (λ x. answered (secondJudged G p x)) (refused-read here q))
+
+    pub second-accepted : {n : ℕ} {c : Comparison} → r .answer ≡ plan.Accepted n → c ≡ answered (compared G p (r .chosen)) → c ≡ answered (secondJudged G p (readPlan G file))
+    second-accepted q e = given (accepted-read here q) (λ (M, a, s). e ∙ ap (byEdges G (on p)) s ∙ sym (ap (λ x. answered (secondJudged G p x)) a))
+
+  -- as the first file
+  module _ (roster second : List ℕ) (D : Decoded roster g) where
+    for-roster : {c : Comparison} → c ≡ answered (comparisonOf G file second) → ComparedAs roster file second c
+    for-roster {c} e R a = subst (λ H. c ≡ answered (comparisonOf H file second)) (D .shows R a) e
+
+    pub first-refused : {n : ℕ} (k : Group) → r .answer ≡ plan.Refused n → groupShown k ≡ groupOf n → ComparedAs roster file second (Refused n k)
+    unfolding comparisonOf
+    first-refused {n} k q e = for-roster (ap (Refused n) (shows-case k e) ∙ sym (ap (λ x. answered (firstJudged G x second)) (refused-read here q)))
+
+    pub first-accepted : {n : ℕ} {c : Comparison} → r .answer ≡ plan.Accepted n → c ≡ answered (secondJudged G (r .chosen) (readPlan G second)) → ComparedAs roster file second c
+    unfolding comparisonOf
+    first-accepted q e = given (accepted-read here q) (λ (M, a, s).
+        for-roster (e ∙ same-first G (r .chosen) M s (readPlan G second) ∙ sym (ap (λ x. answered (firstJudged G x second)) a)))
+
+-- ---- the roster judged first
+module _ (roster a b : List ℕ) where
+  abbrev handed : Answer → Comparison
+  handed answer.Accepted = comparisonReply (readRoster roster) a b
+  handed (answer.Refused n k) = Refused n k
+
+  pub reply-refused : {n : ℕ} {k : Group} → answer.Refused n k ≡ shown (readRoster roster) → Refused n k ≡ comparisonReply (readRoster roster) a b
+  reply-refused e = let t = shown-refused (readRoster roster) e in ap handed (e ∙ ap shown t) ∙ sym (ap (λ x. comparisonReply x a b) t)
+
+  pub reply-judged : {r : Comparison} → RosterAccepted roster → ComparedAs roster a b r → r ≡ comparisonReply (readRoster roster) a b
+  reply-judged A C = C (A .0) (A .1) ∙ sym (ap (λ x. comparisonReply x a b) (A .1))

@@ -1,0 +1,126 @@
+// The comparison of two plan files against a roster: both votes, the winner, and the winner's pair bytes as a part of its own file. Each
+// call takes the bytes as they are, judges the roster first, then the first file in full, then the second, and asks nothing of its caller.
+ghost use mathlib.Core.Path.{_≡_};
+ghost use Rattle.model.specs.RosterFile.{readRoster};
+ghost use Rattle.model.specs.PlanFile.{readPlan};
+ghost use Rattle.model.specs.Compare.{winnerOf, compared, secondJudged};
+ghost use Rattle.graph.specs.Lawful.{Matching};
+ghost use Rattle.arrays.specs.Shown.{flag};
+ghost use Rattle.instance.specs.Decoded.{shownBy};
+ghost use Rattle.instance.specs.Loaded.{Loaded};
+ghost use Rattle.files.specs.Replies.{RosterAccepted};
+ghost use Rattle.compare.specs.Answers.{winnerCase, answered, comparisonReply, ComparedAs};
+ghost use denote.Ref.{ptr};
+ghost use Rattle.compare.specs.Parts.{placed, partReply};
+use instance::Instance;
+use plan::PlanAnswer;
+use refusal::Group;
+use roster::Answer;
+
+pub enum Winner {
+    First,
+    Second,
+    Neither,
+}
+
+// Both votes, first against second and second against first, and the winner; or a refusal, with its number and its group.
+pub enum Comparison {
+    Votes(i16, i16, Winner),
+    Refused(u8, Group),
+}
+
+// "The winner is the plan whose vote against the other is above zero."
+pub(crate) fn winner_of(v: i16, w: i16) -> Winner
+    ensures { λ r. ⌜ r ≡ winnerCase (winnerOf v w) ⌝ }
+{
+    if 0 < v {
+        return Winner::First;
+    }
+    if 0 < w {
+        return Winner::Second;
+    }
+    Winner::Neither
+}
+
+// Two plans of an accepted roster.
+pub(crate) fn voted(g: Instance, p: &[bool; 1024], q: &[bool; 1024]) -> Comparison
+    requires { ⌜ Loaded g × Matching (shownBy g) (flag (now p)) × Matching (shownBy g) (flag (now q)) ⌝ }
+    ensures { λ r. ⌜ r ≡ answered (compared (shownBy g) (now (p .entry)) (now (q .entry))) ⌝ }
+{
+    let sv = g.sv;
+    let st = g.st;
+    let rs = g.rank_s;
+    let rt = g.rank_t;
+    let v = vote::plan_vote(g.m, g.ns, g.nt, &sv, &st, &rs, &rt, p, q);
+    let w = vote::plan_vote(g.m, g.ns, g.nt, &sv, &st, &rs, &rt, q, p);
+    let x = winner_of(v, w);
+    Comparison::Votes(v, w, x)
+}
+
+// The second file, after the first one gave plan p.
+pub(crate) fn second_judged(g: Instance, p: &[bool; 1024], second: &[u8]) -> Comparison
+    requires { ⌜ Loaded g × Matching (shownBy g) (flag (now p)) ⌝ }
+    ensures { λ r. ⌜ r ≡ answered (secondJudged (shownBy g) (now (p .entry)) (readPlan (shownBy g) (now (second .entry)))) ⌝ }
+{
+    let sv = g.sv;
+    let st = g.st;
+    let qs = g.quota_s;
+    let qt = g.quota_t;
+    let read = plan::read_plan(g.m, &sv, &st, &qs, &qt, second);
+    let a = read.answer;
+    match a {
+        PlanAnswer::Refused(n) => Comparison::Refused(n, refusal::group_of(n)),
+        PlanAnswer::Accepted(_) => {
+            let q = read.chosen;
+            voted(g, p, &q)
+        }
+    }
+}
+
+// Two plan files against an accepted roster file. "The first file is checked in full before the second."
+pub(crate) fn judged(roster: &[u8], first: &[u8], second: &[u8]) -> Comparison
+    requires { ⌜ RosterAccepted (now roster) ⌝ }
+    ensures { λ r. ⌜ ComparedAs (now (roster .entry)) (now (first .entry)) (now (second .entry)) r ⌝ }
+{
+    let g = instance::instance_of(roster);
+    let sv = g.sv;
+    let st = g.st;
+    let qs = g.quota_s;
+    let qt = g.quota_t;
+    let read = plan::read_plan(g.m, &sv, &st, &qs, &qt, first);
+    let a = read.answer;
+    match a {
+        PlanAnswer::Refused(n) => Comparison::Refused(n, refusal::group_of(n)),
+        PlanAnswer::Accepted(_) => {
+            let p = read.chosen;
+            second_judged(g, &p, second)
+        }
+    }
+}
+
+// Two plan files against a roster file: the roster is judged first, and its refusal is the answer.
+pub fn compare(roster: &[u8], first: &[u8], second: &[u8]) -> Comparison
+    ensures { λ r. ⌜ r ≡ comparisonReply (readRoster (now (roster .entry))) (now (first .entry)) (now (second .entry)) ⌝ }
+{
+    let a = roster::read_roster(roster);
+    match a {
+        Answer::Refused(number, group) => Comparison::Refused(number, group),
+        Answer::Accepted => judged(roster, first, second),
+    }
+}
+
+// The winner's pair bytes, as a part of its own file; "with no winner, and on a refusal, the part is empty, taken from the first file".
+// An accepted plan file's pair bytes are all but its count byte.
+pub fn winner_part<'r, 'a>(roster: &'r [u8], first: &'a [u8], second: &'a [u8]) -> &'a [u8]
+    ensures { λ r. ⌜ (ptr r, now r) ≡ placed (first .entry) (second .entry) (partReply (readRoster (now (roster .entry))) (now (first .entry)) (now (second .entry))) ⌝ }
+{
+    let c = compare(roster, first, second);
+    match c {
+        Comparison::Votes(_, _, w) => match w {
+            Winner::First => &first[1..],
+            Winner::Second => &second[1..],
+            Winner::Neither => &first[..0],
+        },
+        Comparison::Refused(_, _) => &first[..0],
+    }
+}

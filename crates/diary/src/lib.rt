@@ -1,0 +1,43 @@
+// The diary that a caller lends: a slice of step records, as document 01 has it ("The diary is a lent list of step records: fate, surveyor,
+// stand, rule"). The run writes its diary flat, four numbers a record (crate `board`); `fill` puts the records of a flat diary to the front of
+// the lent slice. No other function of the planner writes into a slice of structs.
+ghost use mathlib.Core.Path.{_≡_};
+ghost use Prim.Native.Nat.{_<_, _≤_};
+ghost use lib.ListN.{length};
+ghost use Rattle.model.specs.Desk.{onto};
+ghost use Rattle.diary.specs.Steps.{stepAt, stepsIn};
+
+// A record of the diary: fate 1 is fix and 2 strike; surveyor and stand count from 1.
+#[repr(C)]
+pub struct Step {
+    pub fate: u8,
+    pub surveyor: u8,
+    pub stand: u8,
+    pub rule: u8,
+}
+
+// The i-th record of a flat diary.
+pub fn step_at(flat: [u8; 4096], i: usize) -> Step
+    requires { ⌜ i < 1024 ⌝ }
+    ensures { λ r. ⌜ r ≡ stepAt flat i ⌝ }
+{
+    let b = i * 4;
+    Step {
+        fate: flat[b],
+        surveyor: flat[b + 1],
+        stand: flat[b + 2],
+        rule: flat[b + 3],
+    }
+}
+
+// The first n records of a flat diary go to the front of the lent one; behind them it keeps its records.
+pub fn fill(diary: &mut [Step], flat: [u8; 4096], n: usize)
+    requires { ⌜ (n ≤ 1024) × (n ≤ length (now diary)) ⌝ }
+    ensures { λ _. ⌜ now (diary .exit) ≡ onto (stepsIn n flat) (now (diary .entry)) ⌝ }
+{
+    let mut i = 0;
+    while i < n {
+        diary[i] = step_at(flat, i);
+        i += 1;
+    }
+}

@@ -1,0 +1,45 @@
+-- What holds of the arrays of an accepted roster: all that a call on them may ask.
+use Prim.Native.Nat.{ℕ, _≤_, _<_}
+use mathlib.Core.Path.{_≡_, sym, subst}
+use mathlib.Core.List.{List}
+use lib.Dec.{T}
+use Rattle.model.specs.Limits.{nodeLimit, entryLimit, quotaLimit}
+use Rattle.model.specs.Reading.{accepted}
+use Rattle.model.specs.Roster.{Roster}
+use Rattle.model.specs.RosterFile.{readRoster}
+use Rattle.formats.specs.Reads.{isBytes}
+use Rattle.formats.specs.Rosters.{read-fits}
+use Rattle.graph.specs.Lawful.{Lawful}
+use Rattle.rosters.specs.PlanFiles.{Fileable}
+use Rattle.rosters.specs.Laws.{ranks-from-one, quotas-small}
+use Rattle.arrays.specs.Shown.{at}
+use Rattle.instance.specs.declared.Instance.{Instance}
+use Rattle.instance.specs.Decoded.{shownBy, Decoded}
+use Rattle.instance.specs.Arrays.{decoded-lawful, decoded-fileable}
+
+pub record Loaded (g : Instance) : Type 0 where
+  pub edges : g .m ≤ entryLimit
+  pub surveyors : g .ns ≤ nodeLimit
+  pub stands : g .nt ≤ nodeLimit
+  pub low-sv : (e : ℕ) → at (g .sv) e < nodeLimit
+  pub low-st : (e : ℕ) → at (g .st) e < nodeLimit
+  pub lawful : Lawful (shownBy g)
+  pub fileable : Fileable (shownBy g)
+  pub ranks : (e : ℕ) → e < g .m → (1 ≤ at (g .«rank_s») e) × (1 ≤ at (g .«rank_t») e)
+  pub quotas : (v : ℕ) → (at (g .«quota_s») v ≤ quotaLimit) × (at (g .«quota_t») v ≤ quotaLimit)
+
+pub loaded : (f : List ℕ) (g : Instance) → T (isBytes f) → Decoded f g → (r : Roster) → readRoster f ≡ accepted r → Loaded g
+loaded f g isB D r a =
+    let ok = read-fits f r isB a in
+    let s = sym (D .shows r a) in
+    record {
+      edges = D .edges;
+      surveyors = D .surveyors;
+      stands = D .stands;
+      low-sv = D .low-sv;
+      low-st = D .low-st;
+      lawful = decoded-lawful f g isB D r a;
+      fileable = decoded-fileable f g isB D r a;
+      ranks = subst (λ G. (e : ℕ) → e < G .m → (1 ≤ G .rankS e) × (1 ≤ G .rankT e)) s (ranks-from-one r ok);
+      quotas = subst (λ G. (v : ℕ) → (G .quotaS v ≤ quotaLimit) × (G .quotaT v ≤ quotaLimit)) s (quotas-small r ok);
+    }

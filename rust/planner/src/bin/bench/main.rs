@@ -1,0 +1,41 @@
+//! How long the proved calls take, against the reference written for speed:
+//! same machine, same input, both built for release. Each time is the least of
+//! several rounds, in microseconds a call; the ratio is ours to theirs.
+//!
+//! Run with `cargo run --release --offline --bin bench`.
+
+mod files;
+mod votes;
+
+use std::time::Instant;
+
+const ROUNDS: usize = 15;
+
+/// The least time of a call over some rounds, in microseconds.
+fn time(calls: usize, mut call: impl FnMut()) -> f64 {
+    let mut least = f64::MAX;
+    for _ in 0..ROUNDS {
+        let start = Instant::now();
+        for _ in 0..calls {
+            call();
+        }
+        least = least.min(start.elapsed().as_secs_f64() * 1e6 / calls as f64);
+    }
+    least
+}
+
+fn heading() {
+    println!("| call | proved, us | reference, us | ratio |");
+    println!("|---|---|---|---|");
+}
+
+fn report(what: &str, ours: f64, theirs: f64) {
+    let ratio = ours / theirs;
+    println!("| {what} | {ours:.2} | {theirs:.2} | {ratio:.2} |");
+}
+
+fn main() {
+    files::run();
+    println!();
+    votes::run();
+}

@@ -1,0 +1,99 @@
+//! Votes: two plans of 64 pairs where eight nodes of one side have quota 8; a
+//! comparison from bytes to answer. With eight nodes of quota
+//! 8 on both sides at once there is only one plan of 64 pairs, so there are
+//! two rosters, one for each side.
+
+use std::hint::black_box;
+
+use reference::fast;
+use reference::plan;
+use reference::random::{self, Random, Shape};
+use reference::roster::{self, Roster, Side};
+
+use crate::{heading, report, time};
+
+/// Eight nodes of quota 8 on one side, 32 of quota 2 on the other, all pairs.
+fn wide(random: &mut Random, full: Side) -> Roster {
+    let mut shape = Shape {
+        counts: [32..=32, 32..=32],
+        quotas: [2..=2, 2..=2],
+        pairs: 100,
+        ties: 50,
+        opposed: 20,
+    };
+    shape.counts[full as usize] = 8..=8;
+    shape.quotas[full as usize] = 8..=8;
+    random::roster(random, &shape)
+}
+
+/// A plan of 64 pairs, as its file.
+fn largest(random: &mut Random, roster: &Roster) -> Vec<u8> {
+    loop {
+        let plan = random::plan(random, roster, 100);
+        if plan.indices().len() == 64 {
+            return plan::write(roster, &plan);
+        }
+    }
+}
+
+/// What a comparison's call takes.
+fn comparison(roster: &[u8], first: &[u8], second: &[u8]) -> f64 {
+    time(200, || {
+        let _ = black_box(planner::compare(
+            black_box(roster),
+            black_box(first),
+            black_box(second),
+        ));
+    })
+}
+
+pub fn run() {
+    heading();
+    for (full, name) in [(Side::Stands, "stands"), (Side::Surveyors, "surveyors")] {
+        measure(full, name);
+    }
+}
+
+fn measure(full: Side, name: &str) {
+    let mut random = Random::new(8);
+    let roster = wide(&mut random, full);
+    let file = roster::write(&roster);
+    let [first, second] = [(); 2].map(|()| largest(&mut random, &roster));
+    let instance = fast::roster::read(&file).expect("accepted");
+    let plans = [&first, &second].map(|plan| fast::plan::read(&instance, plan).expect("accepted"));
+    let votes = planner::compare(&file, &first, &second)
+        .outcome
+        .expect("accepted");
+    assert_eq!(
+        votes.first,
+        fast::vote::vote(&instance, &plans[0], &plans[1])
+    );
+
+    // A comparison whose first file is refused at once reads the roster alone;
+    // one whose second file is reads a plan more.
+    let roster_alone = comparison(&file, &[], &second);
+    let one_plan = comparison(&file, &first, &[]);
+    let whole = comparison(&file, &first, &second);
+    report(
+        &format!("vote of two 64-pair plans, eight {name} of quota 8"),
+        (whole - 2.0 * one_plan + roster_alone) / 2.0,
+        time(2_000, || {
+            black_box(fast::vote::vote(
+                black_box(&instance),
+                black_box(&plans[0]),
+                black_box(&plans[1]),
+            ));
+        }),
+    );
+    report(
+        &format!("comparison of them, from bytes to answer ({name})"),
+        whole,
+        time(200, || {
+            let instance = fast::roster::read(black_box(&file)).expect("accepted");
+            let plans = [&first, &second]
+                .map(|plan| fast::plan::read(&instance, black_box(plan)).expect("accepted"));
+            black_box(fast::vote::vote(&instance, &plans[0], &plans[1]));
+            black_box(fast::vote::vote(&instance, &plans[1], &plans[0]));
+        }),
+    );
+}
