@@ -1,6 +1,5 @@
 // The verdict on a plan of an accepted roster, with the vote against its rival and the rival's bytes.
-ghost use mathlib.Core.Path.{_≡_};
-ghost use Prim.Native.Nat.{ℕ, _≤_};
+ghost use Prim.Native.Nat.{_≤_};
 ghost use lib.ListN.{length};
 ghost use Rattle.model.specs.Plans.{Plan};
 ghost use Rattle.model.specs.PlanFile.{edgesIn};
