@@ -24,6 +24,7 @@ use Rattle.arrays.specs.Shown.{flag}
 use Rattle.board.specs.Diary.{written}
 use Rattle.instance.specs.declared.Instance as arrays
 use Rattle.instance.specs.Decoded.{shownBy}
+use Rattle.judging.specs.Weighing.{Shows}
 use Rattle.refusal.specs.Shown.{groupCase}
 use Rattle.answers.specs.declared.Found as code
 use Rattle.answers.specs.declared.Found.the-variants as says
@@ -48,11 +49,11 @@ pub record Wrote (G : Instance) (x : Found) (steps : ℕ) (l p v : List ℕ) (r 
 
 -- of the plan that the fixed edges are
 abbrev pub Judges : (g : arrays.Instance) (fixed : List Bool) (steps : ℕ) (p v : List ℕ) (r : code.Found) (p′ v′ : List ℕ) → Type 0
-Judges g fixed steps p v r p′ v′ = (M : Plan) → M ∈ plansOf (shownBy g) → ((e : ℕ) → flag fixed e ≡ on M e) → (l : List ℕ)
+Judges g fixed steps p v r p′ v′ = (M : Plan) → Shows (shownBy g) fixed M → (l : List ℕ)
     → Wrote (shownBy g) (candidate (shownBy g) M (verdictOf (shownBy g) M)) steps l p v r l p′ v′
 
 abbrev pub Ends : (g : arrays.Instance) (rem fixed : List Bool) (steps : ℕ) (l p v : List ℕ) (r : code.Found) (l′ p′ v′ : List ℕ) → Type 0
-Ends g rem fixed steps l p v r l′ p′ v′ = (M : Plan) → M ∈ plansOf (shownBy g) → ((e : ℕ) → flag fixed e ≡ on M e)
+Ends g rem fixed steps l p v r l′ p′ v′ = (M : Plan) → Shows (shownBy g) fixed M
     → Wrote (shownBy g) (atEnd (shownBy g) M (edgesIn (g .m) (flag rem))) steps l p v r l′ p′ v′
 
 -- the whole: also the flat diary

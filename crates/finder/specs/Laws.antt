@@ -13,7 +13,7 @@ use borrow.Author.Tests.{le-ltb}
 use Rattle.lists.specs.Sum.{range}
 use Rattle.lists.specs.Keep.{keep}
 use Rattle.lists.specs.Ranges.{keep-last}
-use Rattle.model.specs.Limits.{entryLimit, planSize}
+use Rattle.model.specs.Limits.{entryLimit, planLimit, planSize}
 use Rattle.model.specs.Instance.{Instance}
 use Rattle.model.specs.Plans as P
 use Rattle.model.specs.Plans.{Plan, on, Verdict, verdictOf}
@@ -28,6 +28,7 @@ use Rattle.model.specs.Finder.{leftOf, candidateOf, Found, found, isEmpty, find
 use Rattle.model.specs.Desk.{onto}
 use Rattle.formats.specs.Reads.{isBytes}
 use Rattle.formats.specs.Rosters.{read-fits}
+use Rattle.rosters.specs.PlanFiles.{plan-few}
 use Rattle.rosters.specs.Chosen.{on-planOf, planOf-length, edgesIn-cong}
 use Rattle.reduction.specs.Course.{fixed-behind}
 use Rattle.search.specs.Rival.{rivalOf}
@@ -43,7 +44,7 @@ use Rattle.board.specs.Outcome.{Reduced, ReducedFrom}
 use Rattle.demand.specs.Found.{candidate-plan}
 use Rattle.judging.specs.declared.Weighed.{Weighed}
 use Rattle.judging.specs.declared.Weighed.the-variants.{Strong, Popular, Beaten}
-use Rattle.judging.specs.Weighed.{weighedFor, rivalWritten, WeighedAs, Planned}
+use Rattle.judging.specs.Weighing.{Shows, weighedAs, rivalWritten, WeighedBy}
 use Rattle.refusal.specs.declared.Group.{Group}
 use Rattle.roster.specs.declared.Answer.the-variants as answer
 use Rattle.roster.specs.Shown.{shown, shown-refused}
@@ -80,13 +81,17 @@ answerOn steps (Popular v) = says.None steps (kind.Rivalled v)
 answerOn steps (Beaten v) = says.None steps (kind.Rivalled v)
 
 module _ (G : Instance) (M : Plan) (steps : ℕ) (l p v p′ v′ : List ℕ) (w : Weighed) where
-  by-verdict : (x : Verdict) → w ≡ weighedFor G M x → v′ ≡ rivalWritten G M x v → p′ ≡ onto (planBytes G M) p → Wrote G (candidate G M x) steps l p v (answerOn steps w) l p′ v′
+  by-verdict : (x : Verdict) → w ≡ weighedAs G M x → v′ ≡ rivalWritten G M x v → p′ ≡ onto (planBytes G M) p → Wrote G (candidate G M x) steps l p v (answerOn steps w) l p′ v′
   by-verdict P.strong a b c = record { answer = ap (answerOn steps) a; left = refl; plan = c; rival = b }
   by-verdict P.popular a b c = record { answer = ap (answerOn steps) a; left = refl; plan = c; rival = b }
   by-verdict P.beaten a b c = record { answer = ap (answerOn steps) a; left = refl; plan = c; rival = b }
 
-  pub wrote-judged : WeighedAs G M v w v′ → p′ ≡ onto (planBytes G M) p → {r : code.Found} → r ≡ answerOn steps w → Wrote G (candidate G M (verdictOf G M)) steps l p v r l p′ v′
-  wrote-judged W c e = subst (λ r. Wrote G (candidate G M (verdictOf G M)) steps l p v r l p′ v′) (sym e) (by-verdict (verdictOf G M) (W .answer) (W .bytes) c)
+  pub wrote-judged : WeighedBy G M v w v′ → p′ ≡ onto (planBytes G M) p → {r : code.Found} → r ≡ answerOn steps w → Wrote G (candidate G M (verdictOf G M)) steps l p v r l p′ v′
+  wrote-judged W c e = subst (λ r. Wrote G (candidate G M (verdictOf G M)) steps l p v r l p′ v′) (sym e) (by-verdict (verdictOf G M) (W .reply) (W .buffer) c)
+
+-- a plan within the quotas has at most 64 edges
+pub few-edges : (g : arrays.Instance) → Loaded g → (p : List Bool) → ((M : Plan) × Shows (shownBy g) p M) → length (edgesIn (g .m) (flag p)) ≤ planLimit
+few-edges g L p (M, ok, same) = subst (λ es. length es ≤ planLimit) (edgesIn-cong (g .m) (on M) (flag p) (λ e h. sym (same e))) (plan-few (shownBy g) (L .fileable) M ok)
 
 -- the bytes that the plan writer leaves in a buffer of its size
 pub plan-onto : (g : arrays.Instance) (chosen : List Bool) (p : List ℕ) (w : PlanWritten) (p′ : List ℕ) → planSize ≤ length p → WrittenFor (g .m) (g .sv) (g .st) chosen p w p′
@@ -168,9 +173,12 @@ module _ (g : arrays.Instance) (L : Loaded g) (d : List ℕ) (rem fixed : List B
   reduced : Reduced (shownBy g) d rem fixed steps d′
   reduced = R (g .ns) (g .nt) (L .lawful)
 
-  -- the fixed edges are a plan within the quotas
-  pub fixed-planned : Planned g fixed
-  fixed-planned = (candidateOf (shownBy g), candidate-plan (shownBy g) (L .lawful), fixed-candidate (shownBy g) fixed (reduced .fixed-is))
+  -- the fixed edges are the candidate, a plan within the quotas
+  shows-candidate : Shows (shownBy g) fixed (candidateOf (shownBy g))
+  shows-candidate = (candidate-plan (shownBy g) (L .lawful), fixed-candidate (shownBy g) fixed (reduced .fixed-is))
+
+  pub fixed-planned : (M : Plan) × Shows (shownBy g) fixed M
+  fixed-planned = (candidateOf (shownBy g), shows-candidate)
 
   left-are : edgesIn (g .m) (flag rem) ≡ leftOf (shownBy g)
   unfolding leftOf
@@ -180,7 +188,7 @@ module _ (g : arrays.Instance) (L : Loaded g) (d : List ℕ) (rem fixed : List B
   shown-finds l p v r l′ p′ v′ E = record {
     wrote = subst (λ n. Wrote (shownBy g) (finderOf (shownBy g) (rivalOf (shownBy g))) n l p v r l′ p′ v′) (reduced .steps-is)
         (subst (λ x. Wrote (shownBy g) x steps l p v r l′ p′ v′) (end-found (shownBy g) (edgesIn (g .m) (flag rem)) left-are)
-        (E (candidateOf (shownBy g)) (candidate-plan (shownBy g) (L .lawful)) (fixed-candidate (shownBy g) fixed (reduced .fixed-is))));
+        (E (candidateOf (shownBy g)) shows-candidate));
     diary = reduced .diary-is;
   }
 

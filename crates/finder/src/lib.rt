@@ -7,7 +7,9 @@ ghost use Rattle.arrays.specs.Shown.{flag};
 ghost use Rattle.instance.specs.Loaded.{Loaded};
 ghost use Rattle.files.specs.Replies.{RosterAccepted};
 ghost use Rattle.rivals.specs.Shows.{Lists};
-ghost use Rattle.judging.specs.Weighed.{Planned};
+ghost use Rattle.model.specs.Plans.{Plan};
+ghost use Rattle.instance.specs.Decoded.{shownBy};
+ghost use Rattle.judging.specs.Weighing.{Shows};
 ghost use Rattle.finder.specs.Promise.{stepsIn};
 ghost use Rattle.finder.specs.Found.{Judges, Ends, Finds, Refuses, Works, Outcomes};
 use answers::Found;
@@ -56,7 +58,7 @@ pub(crate) fn judged(
     plan: &mut [u8],
     rival: &mut [u8],
 ) -> Found
-    requires { ⌜ Loaded g × Planned g (now fixed) × (129 ≤ length (now plan)) × (129 ≤ length (now rival)) ⌝ }
+    requires { ⌜ Loaded g × ((M : Plan) × Shows (shownBy g) (now fixed) M) × (129 ≤ length (now plan)) × (129 ≤ length (now rival)) ⌝ }
     ensures { λ r. ⌜ Judges g (now (fixed .entry)) steps (now (plan .entry)) (now (rival .entry)) r (now (plan .exit)) (now (rival .exit)) ⌝ }
 {
     let m = g.m;
@@ -83,7 +85,7 @@ pub(crate) fn ended(
     plan: &mut [u8],
     rival: &mut [u8],
 ) -> Found
-    requires { ⌜ Loaded g × Planned g (now fixed) × (2048 ≤ length (now left)) × (129 ≤ length (now plan)) × (129 ≤ length (now rival)) ⌝ }
+    requires { ⌜ Loaded g × ((M : Plan) × Shows (shownBy g) (now fixed) M) × (2048 ≤ length (now left)) × (129 ≤ length (now plan)) × (129 ≤ length (now rival)) ⌝ }
     ensures { λ r. ⌜ Ends g (now (rem .entry)) (now (fixed .entry)) steps (now (left .entry)) (now (plan .entry)) (now (rival .entry)) r (now (left .exit)) (now (plan .exit)) (now (rival .exit)) ⌝ }
 {
     let m = g.m;

@@ -1,94 +1,108 @@
--- From what the search found to the model's verdict, rival and vote.
-use Prim.Native.Nat.{ℕ, _≤_, _<_}
-use mathlib.Core.Path.{_≡_, refl, sym, ap, ap₂, _∙_, subst}
-use mathlib.Core.Bool.{Bool, not, cond}
-use mathlib.Core.List.{List}
-use lib.ListN.{length}
+-- What the code finds on its ways, and that the promised answers follow.
+use Prim.Native.Nat.{ℕ, _≤_}
+use native.Mathlib.Omega.{arith}
+use mathlib.Core.Path.{_≡_, refl, sym, ap, ap₂, _∙_, subst, fun-ext}
+use mathlib.Core.Bool.{Bool, cond}
+use mathlib.Core.List.{List, _∷_}
+use lib.ListN.{length, length-map}
 use lib.IntN.{ℤ}
-use lib.Dec.{T}
 use borrow.Author.Tests.{le-ltb}
-use Rattle.lists.specs.Sum.{_∈_}
-use Rattle.model.specs.Limits.{planLimit, planSize}
+use Rattle.lists.specs.Sum.{_∈_, range, range-length}
+use Rattle.model.specs.Limits.{planSize}
 use Rattle.model.specs.Instance as model
-use Rattle.model.specs.Plans as P
-use Rattle.model.specs.Plans.{Plan, on, plansOf, Verdict, isStrong, voteOf, verdictOf}
 use Rattle.model.specs.Vote.{vote}
-use Rattle.model.specs.PlanFile.{edgesIn, planOf, planBytes}
+use Rattle.model.specs.Plans.{Plan, on, plansOf, Verdict, voteOf, verdictOf}
+use Rattle.model.specs.Plans as verdict
+use Rattle.model.specs.PlanFile.{edgesIn, pairList, planBytes}
 use Rattle.model.specs.Desk.{onto}
-use Rattle.model.specs.Finder.{Rival}
 use Rattle.graph.specs.Lawful.{Matching}
-use Rattle.rosters.specs.Chosen.{on-planOf, edgesIn-cong}
 use Rattle.rosters.specs.PlanFiles.{plan-few}
-use Rattle.search.specs.Plans.{plan-matching, matching-plan}
+use Rattle.search.specs.Plans.{plan-matching}
 use Rattle.search.specs.Rival.{rivalOf, beaten-rival, popular-rival}
-use Rattle.arrays.specs.Shown.{flag}
+use Rattle.arrays.specs.Shown.{at, flag}
 use Rattle.instance.specs.declared.Instance.{Instance}
 use Rattle.instance.specs.Decoded.{shownBy}
 use Rattle.instance.specs.Loaded.{Loaded}
 use Rattle.planwriter.specs.declared.PlanWritten.{PlanWritten}
 use Rattle.planwriter.specs.Written.{WrittenFor}
+use Rattle.rivals.specs.Shows.{Lists}
 use Rattle.rival.specs.Shown.{RivalShown, shown-verdict, shown-rival}
-use Rattle.judging.specs.declared.Weighed.{Weighed}
 use Rattle.judging.specs.declared.Weighed.the-variants.{Strong, Popular, Beaten}
-use Rattle.judging.specs.Weighed.{weighedFor, rivalWritten, WeighedAs, Planned, Against}
+use Rattle.judging.specs.Weighing.{Shows, weighedAs, rivalWritten, WeighedBy}
 
-module _ (g : Instance) (L : Loaded g) where
+-- ---- the vote of one plan against another, whose bytes are written
+pub record Voted (G : model.Instance) (plan rival : List Bool) (out : List ℕ) (v : ℤ) (after : List ℕ) : Type 0 where
+  pub vote : v ≡ vote G (flag plan) (flag rival)
+  pub buffer : after ≡ onto (planBytes G rival) out
+
+pub voted : (g : Instance) (plan rival : List Bool) (out : List ℕ) {v : ℤ} {w : PlanWritten} {after : List ℕ} → planSize ≤ length out
+    → v ≡ vote (shownBy g) (flag plan) (flag rival) → WrittenFor (g .m) (g .sv) (g .st) rival out w after → Voted (shownBy g) plan rival out v after
+voted g plan rival out h a b = record {
+  vote = a;
+  buffer = b (g .ns) (g .nt) (g .«rank_s») (g .«rank_t») (g .tied) (g .«quota_s») (g .«quota_t») rival (λ e l. refl) .bytes
+      ∙ ap (λ (t : Bool). cond t out (onto (planBytes (shownBy g) rival) out)) (le-ltb (length out) planSize h);
+}
+
+-- the vote as it is handed on
+pub voted-as : {G : model.Instance} {plan rival : List Bool} {out : List ℕ} {v w : ℤ} {after : List ℕ} → v ≡ w → Voted G plan rival out w after → Voted G plan rival out v after
+voted-as e h = record { vote = e ∙ h .vote; buffer = h .buffer }
+
+pub popular-as : {G : model.Instance} {M : Plan} {out : List ℕ} {v w : ℤ} {after : List ℕ} → v ≡ w → WeighedBy G M out (Popular w) after → WeighedBy G M out (Popular v) after
+popular-as e h = record { reply = ap Popular e ∙ h .reply; buffer = h .buffer }
+
+pub beaten-as : {G : model.Instance} {M : Plan} {out : List ℕ} {v w : ℤ} {after : List ℕ} → v ≡ w → WeighedBy G M out (Beaten w) after → WeighedBy G M out (Beaten v) after
+beaten-as e h = record { reply = ap Beaten e ∙ h .reply; buffer = h .buffer }
+
+module _ (g : Instance) (L : Loaded g) (plan : List Bool) (M : Plan) (S : Shows (shownBy g) plan M) where
   abbrev G : model.Instance
   G = shownBy g
 
-  -- a plan within the quotas has at most 64 edges
-  pub few-edges : (p : List Bool) → Matching G (flag p) → length (edgesIn (g .m) (flag p)) ≤ planLimit
-  few-edges p h = subst (λ es. length es ≤ planLimit) (edgesIn-cong (g .m) (on (planOf (g .m) (flag p))) (flag p) (on-planOf (g .m) (flag p)))
-      (plan-few G (L .fileable) (planOf (g .m) (flag p)) (matching-plan G h))
+  same : flag plan ≡ on M
+  same = fun-ext (S .1)
 
-  pub planned-fits : (p : List Bool) → Planned g p → Matching G (flag p)
-  planned-fits p (M, ok, same) = subst (Matching G) (λ k e. sym (same e) k) (plan-matching G (L .lawful) ok)
+  pub few : (n : ℕ) (es : List ℕ) → Lists (g .m) plan n es → n ≤ 64
+  few n es l = omega (arith, plan-few G (L .fileable) M (S .0), sym (ap (λ (p : ℕ → Bool). length (edgesIn (g .m) p)) same) ∙ ap length l ∙ length-map (range 0 n) (at es) ∙ range-length 0 n)
 
-  -- the bytes that the plan writer leaves in a buffer of its size
-  pub against : (p q : List Bool) (out : List ℕ) (r : ℤ) (w : PlanWritten) (after : List ℕ) → planSize ≤ length out → r ≡ vote G (flag p) (flag q)
-      → WrittenFor (g .m) (g .sv) (g .st) q out w after → Against g p q out r after
-  against p q out r w after h e W = record {
-    vote-is = e;
-    bytes = λ N s. W (g .ns) (g .nt) (g .«rank_s») (g .«rank_t») (g .tied) (g .«quota_s») (g .«quota_t») N s .bytes
-        ∙ ap (λ b. cond b out (onto (planBytes G N) out)) (le-ltb (length out) planSize h);
-  }
+  pub plan-within : Matching G (flag plan)
+  plan-within = subst (Matching G) (sym same) (plan-matching G (L .lawful) (S .0))
 
-  module _ (p q : List Bool) (v : Verdict) (S : RivalShown (g .m) (g .sv) (g .st) (g .«rank_s») (g .«rank_t») (g .«quota_s») (g .«quota_t») p v q)
-      (M : Plan) (ok : M ∈ plansOf G) (same : (e : ℕ) → flag p e ≡ on M e) where
-    abbrev few : length (edgesIn (g .m) (on M)) ≤ planLimit
-    few = plan-few G (L .fileable) M ok
+  module _ (v : Verdict) (rival : List Bool) (R : RivalShown (g .m) (g .sv) (g .st) (g .«rank_s») (g .«rank_t») (g .«quota_s») (g .«quota_t») plan v rival) where
+    is-verdict : v ≡ verdictOf G M
+    is-verdict = shown-verdict (g .m) (g .ns) (g .nt) (g .sv) (g .st) (g .«rank_s») (g .«rank_t») (g .tied) (g .«quota_s») (g .«quota_t») plan v rival R G refl M (S .1) (L .lawful) (S .0) (plan-few G (L .fileable) M (S .0))
 
-    verdict-is : v ≡ verdictOf G M
-    verdict-is = shown-verdict (g .m) (g .ns) (g .nt) (g .sv) (g .st) (g .«rank_s») (g .«rank_t») (g .tied) (g .«quota_s») (g .«quota_t») p v q S G refl M same (L .lawful) ok few
+    is-rival : flag rival ≡ on (rivalOf G M)
+    is-rival = fun-ext (shown-rival (g .m) (g .ns) (g .nt) (g .sv) (g .st) (g .«rank_s») (g .«rank_t») (g .tied) (g .«quota_s») (g .«quota_t») plan v rival R G refl M (S .1))
 
-    rival-is : (e : ℕ) → flag q e ≡ on (rivalOf G M) e
-    rival-is = shown-rival (g .m) (g .ns) (g .nt) (g .sv) (g .st) (g .«rank_s») (g .«rank_t») (g .tied) (g .«quota_s») (g .«quota_t») p v q S G refl M same
+    pub strong-weighed : (out : List ℕ) → v ≡ verdict.strong → WeighedBy G M out Strong out
+    strong-weighed out e = let q : verdict.strong ≡ verdictOf G M = sym e ∙ is-verdict in record { reply = ap (weighedAs G M) q; buffer = ap (λ w. rivalWritten G M w out) q }
 
-    a-rival : (x : Verdict) → v ≡ x → T (not (isStrong x)) → Rival G M (rivalOf G M)
-    a-rival P.strong e t = absurd t
-    a-rival P.popular e t = popular-rival G M (L .lawful) ok few (sym verdict-is ∙ e)
-    a-rival P.beaten e t = beaten-rival G M (L .lawful) ok few (sym verdict-is ∙ e)
+    -- there is a rival
+    abbrev pub Rivalled : Type 0
+    Rivalled = rivalOf G M ∈ plansOf G
 
-    -- the rival is within the quotas
-    pub rival-fits : T (not (isStrong v)) → Matching G (flag q)
-    rival-fits t = subst (Matching G) (λ k e. sym (rival-is e) k) (plan-matching G (L .lawful) (a-rival v refl t .inQuotas))
+    pub popular-there : v ≡ verdict.popular → Rivalled
+    popular-there e = popular-rival G M (L .lawful) (S .0) (plan-few G (L .fileable) M (S .0)) (sym is-verdict ∙ e) .inQuotas
 
-    -- a strong plan is left as it is
-    pub weighed-strong : v ≡ P.strong → (out : List ℕ) → WeighedAs G M out Strong out
-    weighed-strong e out = let d : verdictOf G M ≡ P.strong = sym verdict-is ∙ e in
-        record { answer = ap (weighedFor G M) (sym d); bytes = ap (λ x. rivalWritten G M x out) (sym d) }
+    pub beaten-there : v ≡ verdict.beaten → Rivalled
+    beaten-there e = beaten-rival G M (L .lawful) (S .0) (plan-few G (L .fileable) M (S .0)) (sym is-verdict ∙ e) .inQuotas
 
-    module _ (out : List ℕ) (r : ℤ) (after : List ℕ) (A : Against g p q out r after) where
-      vote-against : r ≡ voteOf G M (rivalOf G M)
-      vote-against = A .vote-is ∙ ap₂ (vote G) (λ k e. same e k) (λ k e. rival-is e k)
+    pub rival-within : Rivalled → Matching G (flag rival)
+    rival-within k = subst (Matching G) (sym is-rival) (plan-matching G (L .lawful) k)
 
-      bytes-against : after ≡ onto (planBytes G (rivalOf G M)) out
-      bytes-against = A .bytes (rivalOf G M) (λ e h. sym (rival-is e))
+    pub rival-few : Rivalled → length (edgesIn (g .m) (flag rival)) ≤ 64
+    rival-few k = subst (λ (p : ℕ → Bool). length (edgesIn (g .m) p) ≤ 64) (sym is-rival) (plan-few G (L .fileable) (rivalOf G M) k)
 
-      pub weighed-popular : {z : ℤ} → z ≡ r → v ≡ P.popular → WeighedAs G M out (Popular z) after
-      weighed-popular k e = let d : verdictOf G M ≡ P.popular = sym verdict-is ∙ e in
-          record { answer = ap Popular (k ∙ vote-against) ∙ ap (weighedFor G M) (sym d); bytes = bytes-against ∙ ap (λ x. rivalWritten G M x out) (sym d) }
+    -- its vote and its bytes are the rival's
+    module _ (out : List ℕ) {after : List ℕ} {z : ℤ} (W : Voted G plan rival out z after) where
+      its-vote : z ≡ voteOf G M (rivalOf G M)
+      its-vote = W .vote ∙ ap₂ (vote G) same is-rival
 
-      pub weighed-beaten : {z : ℤ} → z ≡ r → v ≡ P.beaten → WeighedAs G M out (Beaten z) after
-      weighed-beaten k e = let d : verdictOf G M ≡ P.beaten = sym verdict-is ∙ e in
-          record { answer = ap Beaten (k ∙ vote-against) ∙ ap (weighedFor G M) (sym d); bytes = bytes-against ∙ ap (λ x. rivalWritten G M x out) (sym d) }
+      its-bytes : after ≡ onto (planBytes G (rivalOf G M)) out
+      unfolding planBytes
+      its-bytes = W .buffer ∙ ap (λ (p : ℕ → Bool). onto (length (edgesIn (g .m) p) ∷ pairList G (edgesIn (g .m) p)) out) is-rival
+
+      pub popular-weighed : v ≡ verdict.popular → WeighedBy G M out (Popular z) after
+      popular-weighed e = let q : verdict.popular ≡ verdictOf G M = sym e ∙ is-verdict in record { reply = ap Popular its-vote ∙ ap (weighedAs G M) q; buffer = its-bytes ∙ ap (λ w. rivalWritten G M w out) q }
+
+      pub beaten-weighed : v ≡ verdict.beaten → WeighedBy G M out (Beaten z) after
+      beaten-weighed e = let q : verdict.beaten ≡ verdictOf G M = sym e ∙ is-verdict in record { reply = ap Beaten its-vote ∙ ap (weighedAs G M) q; buffer = its-bytes ∙ ap (λ w. rivalWritten G M w out) q }

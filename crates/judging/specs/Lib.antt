@@ -1,2 +1,2 @@
-pub mod Weighed
+pub mod Weighing
 pub mod Laws

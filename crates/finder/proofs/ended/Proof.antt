@@ -21,7 +21,7 @@ returns c =
     let b = c .before .before .before .before .before .before .before .before .before .before .before .before in
     let a = b .args in
     let w = c .before .before .before .write-pairs .ensures in
-    λ M ok same. some-left (a .g) M (edgesIn (a .g .m) (flag (a .rem .now))) (a .steps) (a .left .now) (a .plan .now) (a .rival .now) _ _ (w .0) (w .1) (c .if1 .taken)
+    λ M S. some-left (a .g) M (edgesIn (a .g .m) (flag (a .rem .now))) (a .steps) (a .left .now) (a .plan .now) (a .rival .now) _ _ (w .0) (w .1) (c .if1 .taken)
 
 judged-requires : tie.Need-judged-requires
 judged-requires c κs = search needs
@@ -40,7 +40,7 @@ returns-2 c =
     let b = c .before .before .before .before .before .before .before .before .before .before .before .before .before .before .before .before .before .before .before in
     let a = b .args in
     let w = c .before .before .before .before .before .before .before .before .before .before .write-pairs .ensures in
-    λ M ok same. none-left (a .g) M (edgesIn (a .g .m) (flag (a .rem .now))) (a .steps) (a .left .now) (a .plan .now) (a .rival .now) _ _ (w .0) (w .1) (c .before .before .before .before .before .before .before .if1 .left) (c .before .before .before .before .judged .ensures M ok same)
+    λ M S. none-left (a .g) M (edgesIn (a .g .m) (flag (a .rem .now))) (a .steps) (a .left .now) (a .plan .now) (a .rival .now) _ _ (w .0) (w .1) (c .before .before .before .before .before .before .before .if1 .left) (c .before .before .before .before .judged .ensures M S)
 
 pub ended-spec : {M : Type 1} → statement M
 ended-spec = tie.close (tie.spec write-pairs-requires same-length returns judged-requires same-length-2 same-length-3 same-length-4 returns-2)
