@@ -91,7 +91,7 @@ module _ (G : Instance) (M : Plan) (steps : ℕ) (l p v p′ v′ : List ℕ) (w
 
 -- a plan within the quotas has at most 64 edges
 pub few-edges : (g : arrays.Instance) → Loaded g → (p : List Bool) → ((M : Plan) × Shows (shownBy g) p M) → length (edgesIn (g .m) (flag p)) ≤ planLimit
-few-edges g L p (M, ok, same) = subst (λ es. length es ≤ planLimit) (edgesIn-cong (g .m) (on M) (flag p) (λ e h. sym (same e))) (plan-few (shownBy g) (L .fileable) M ok)
+few-edges g L p (M, (ok, same)) = subst (λ es. length es ≤ planLimit) (edgesIn-cong (g .m) (on M) (flag p) (λ e h. sym (same e))) (plan-few (shownBy g) (L .fileable) M ok)
 
 -- the bytes that the plan writer leaves in a buffer of its size
 pub plan-onto : (g : arrays.Instance) (chosen : List Bool) (p : List ℕ) (w : PlanWritten) (p′ : List ℕ) → planSize ≤ length p → WrittenFor (g .m) (g .sv) (g .st) chosen p w p′
