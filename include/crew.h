@@ -42,6 +42,36 @@ struct crew_blocker {
     uint8_t stand;
 };
 
+/* The desk, document 01's session state: a roster file and a plan file at the front of their arrays. It goes into each call by value and
+   comes back in the reply. What it holds is what its bytes are read to, so every value of its fields is a desk: a length above its array
+   is the whole array, and bytes that are refused are not held. */
+struct crew_desk {
+    size_t roster_len;
+    uint8_t roster[CREW_ROSTER_BYTES];
+    size_t plan_len;
+    uint8_t plan[CREW_PLAN_BYTES];
+};
+
+struct crew_desk_loaded {
+    struct crew_desk desk;
+    uint8_t refusal;
+};
+
+struct crew_desk_written {
+    struct crew_desk desk;
+    struct crew_outcome outcome;
+};
+
+struct crew_desk_compared {
+    struct crew_desk desk;
+    struct crew_compared compared;
+};
+
+struct crew_desk_blocker {
+    struct crew_desk desk;
+    struct crew_blocker blocker;
+};
+
 /* the group of a refusal: 1 form, 2 content, 3 plan, 4 desk */
 uint8_t crew_group(uint8_t number);
 
@@ -68,6 +98,30 @@ struct crew_compared crew_compare(const uint8_t *roster, size_t roster_len, cons
 
 /* a blocking pair of a plan file against a roster, which is judged first */
 struct crew_blocker crew_blocking(const uint8_t *roster, size_t roster_len, const uint8_t *file, size_t file_len);
+
+/* a desk with nothing loaded */
+struct crew_desk crew_open(void);
+
+/* takes a roster file in and drops the plan; a refused file changes nothing */
+struct crew_desk_loaded crew_load_roster(struct crew_desk desk, const uint8_t *file, size_t file_len);
+
+/* takes a plan of the held roster in, in the place of the one held; a refused file changes nothing; 13 without a roster */
+struct crew_desk_loaded crew_load_plan(struct crew_desk desk, const uint8_t *file, size_t file_len);
+
+/* the calls below leave the desk as it is. 13 without a roster, then 14 without a plan where one is needed, then 15 */
+
+/* writes the held roster to the front of out, which has at least CREW_ROSTER_BYTES */
+struct crew_desk_written crew_desk_write_roster(struct crew_desk desk, uint8_t *out, size_t out_len);
+
+/* writes the held plan to the front of out, which has at least CREW_PLAN_BYTES */
+struct crew_desk_written crew_desk_write_plan(struct crew_desk desk, uint8_t *out, size_t out_len);
+
+/* two plan files against the held roster, the first one in full before the second */
+struct crew_desk_compared crew_desk_compare(struct crew_desk desk, const uint8_t *first, size_t first_len, const uint8_t *second,
+                                            size_t second_len);
+
+/* a blocking pair of the held plan */
+struct crew_desk_blocker crew_desk_blocking(struct crew_desk desk);
 
 #ifdef __cplusplus
 }

@@ -51,22 +51,25 @@ abbrev pub blockerOf : Reading Roster → List ℕ → Blocker
 blockerOf x file = blockerNumbers (blockedReply x file)
 
 -- ---- the numbers of each case
-module _ (x : Reading Roster) (a b : List ℕ) where
-  numbers-are : {c : Comparison} → c ≡ comparisonReply x a b → comparedNumbers c (partCase c a b) ≡ comparedOf x a b
-  numbers-are e = ap (λ c. comparedNumbers c (partCase c a b)) e ∙ ap (comparedNumbers (comparisonReply x a b)) (part-is x a b)
+module _ (a b : List ℕ) where
+  abbrev numbersOf : Comparison → Compared
+  numbersOf c = comparedNumbers c (partCase c a b)
 
-  module _ {v w : ℤ} {y : Winner} (e : comparison.Votes v w y ≡ comparisonReply x a b) where
-    won : (z : Winner) → y ≡ z → comparedNumbers (comparison.Votes v w z) (winnerPart (shownWinner z) a b) ≡ comparedOf x a b
-    won z q = ap (λ y. comparedNumbers (comparison.Votes v w y) (winnerPart (shownWinner y) a b)) (sym q) ∙ numbers-are e
+  module _ {c : Comparison} {v w : ℤ} {y : Winner} (e : c ≡ comparison.Votes v w y) where
+    won : (z : Winner) → y ≡ z → numbersOf (comparison.Votes v w z) ≡ numbersOf c
+    won z q = sym (ap numbersOf (e ∙ ap (comparison.Votes v w) q))
 
-    pub first-numbers : y ≡ winner.First → voted 1 1 1 (length a - 1) v w ≡ comparedOf x a b
-    first-numbers q = ap (λ n. voted 1 1 1 n v w) (sym (length-drop 1 a)) ∙ won winner.First q
+    pub first-numbers : y ≡ winner.First → {n : ℕ} → n ≡ length a - 1 → voted 1 1 1 n v w ≡ numbersOf c
+    first-numbers q k = ap (λ n. voted 1 1 1 n v w) (k ∙ sym (length-drop 1 a)) ∙ won winner.First q
 
-    pub second-numbers : y ≡ winner.Second → voted 2 2 1 (length b - 1) v w ≡ comparedOf x a b
-    second-numbers q = ap (λ n. voted 2 2 1 n v w) (sym (length-drop 1 b)) ∙ won winner.Second q
+    pub second-numbers : y ≡ winner.Second → {n : ℕ} → n ≡ length b - 1 → voted 2 2 1 n v w ≡ numbersOf c
+    second-numbers q k = ap (λ n. voted 2 2 1 n v w) (k ∙ sym (length-drop 1 b)) ∙ won winner.Second q
 
-    pub neither-numbers : y ≡ winner.Neither → voted 0 1 0 0 v w ≡ comparedOf x a b
+    pub neither-numbers : y ≡ winner.Neither → voted 0 1 0 0 v w ≡ numbersOf c
     neither-numbers q = won winner.Neither q
 
-  pub refused-numbers : {n : ℕ} {k : Group} → comparison.Refused n k ≡ comparisonReply x a b → record { refusal = n; winner = 0; «first_vote» = pos 0; «second_vote» = pos 0; file = 1; from = 0; length = 0 } ≡ comparedOf x a b
-  refused-numbers e = numbers-are e
+  pub refused-numbers : {c : Comparison} {n : ℕ} {k : Group} → c ≡ comparison.Refused n k → record { refusal = n; winner = 0; «first_vote» = pos 0; «second_vote» = pos 0; file = 1; from = 0; length = 0 } ≡ numbersOf c
+  refused-numbers e = sym (ap numbersOf e)
+
+pub numbers-are : (x : Reading Roster) (a b : List ℕ) {c : Comparison} → c ≡ comparisonReply x a b → comparedNumbers c (partCase c a b) ≡ comparedOf x a b
+numbers-are x a b e = ap (λ c. comparedNumbers c (partCase c a b)) e ∙ ap (comparedNumbers (comparisonReply x a b)) (part-is x a b)

@@ -1,8 +1,10 @@
 // Votes for C: two plan files compared, and a blocking pair of a plan file. A part of a file goes out as numbers: the file, the byte that
 // it begins at and its length.
 ghost use mathlib.Core.Path.{_≡_};
+ghost use Prim.Native.Nat.{_-_};
 ghost use Rattle.model.specs.RosterFile.{readRoster};
-ghost use Rattle.abi.specs.Votes.{comparedOf, blockerOf};
+ghost use Rattle.compare.specs.Parts.{partCase};
+ghost use Rattle.abi.specs.Votes.{comparedNumbers, comparedOf, blockerNumbers, blockerOf};
 use blocking_pairs::Blocked;
 use compare::Comparison;
 use compare::Winner;
@@ -29,12 +31,20 @@ pub struct Blocker {
     pub stand: u8,
 }
 
-// two plan files against a roster, which is judged first, then the first file, then the second
-#[no_mangle]
-pub extern "C" fn crew_compare(roster: &[u8], first: &[u8], second: &[u8]) -> Compared
-    ensures { λ r. ⌜ r ≡ comparedOf (readRoster (now (roster .entry))) (now (first .entry)) (now (second .entry)) ⌝ }
+// the size of a file behind its count byte
+pub(crate) fn behind_count(size: usize) -> usize
+    ensures { λ r. ⌜ r ≡ size - 1 ⌝ }
 {
-    let c = compare::compare(roster, first, second);
+    if 0 < size {
+        return size - 1;
+    }
+    0
+}
+
+// the answer of a comparison of two files, as numbers
+pub(crate) fn compared_numbers(c: Comparison, first: &[u8], second: &[u8]) -> Compared
+    ensures { λ r. ⌜ r ≡ comparedNumbers c (partCase c (now (first .entry)) (now (second .entry))) ⌝ }
+{
     match c {
         Comparison::Votes(v, w, x) => match x {
             Winner::First => Compared {
@@ -44,7 +54,7 @@ pub extern "C" fn crew_compare(roster: &[u8], first: &[u8], second: &[u8]) -> Co
                 second_vote: w,
                 file: 1,
                 from: 1,
-                length: first.len() - 1,
+                length: behind_count(first.len()),
             },
             Winner::Second => Compared {
                 refusal: 0,
@@ -53,7 +63,7 @@ pub extern "C" fn crew_compare(roster: &[u8], first: &[u8], second: &[u8]) -> Co
                 second_vote: w,
                 file: 2,
                 from: 1,
-                length: second.len() - 1,
+                length: behind_count(second.len()),
             },
             Winner::Neither => Compared {
                 refusal: 0,
@@ -77,12 +87,19 @@ pub extern "C" fn crew_compare(roster: &[u8], first: &[u8], second: &[u8]) -> Co
     }
 }
 
-// a blocking pair of a plan file against a roster, which is judged first
+// two plan files against a roster, which is judged first, then the first file, then the second
 #[no_mangle]
-pub extern "C" fn crew_blocking(roster: &[u8], file: &[u8]) -> Blocker
-    ensures { λ r. ⌜ r ≡ blockerOf (readRoster (now (roster .entry))) (now (file .entry)) ⌝ }
+pub extern "C" fn crew_compare(roster: &[u8], first: &[u8], second: &[u8]) -> Compared
+    ensures { λ r. ⌜ r ≡ comparedOf (readRoster (now (roster .entry))) (now (first .entry)) (now (second .entry)) ⌝ }
 {
-    let b = blocking_pairs::blocking(roster, file);
+    let c = compare::compare(roster, first, second);
+    compared_numbers(c, first, second)
+}
+
+// the answer of a call for a blocking pair, as numbers
+pub(crate) fn blocker_numbers(b: Blocked) -> Blocker
+    ensures { λ r. ⌜ r ≡ blockerNumbers b ⌝ }
+{
     match b {
         Blocked::Pair(s, t) => Blocker {
             refusal: 0,
@@ -100,4 +117,13 @@ pub extern "C" fn crew_blocking(roster: &[u8], file: &[u8]) -> Blocker
             stand: 0,
         },
     }
+}
+
+// a blocking pair of a plan file against a roster, which is judged first
+#[no_mangle]
+pub extern "C" fn crew_blocking(roster: &[u8], file: &[u8]) -> Blocker
+    ensures { λ r. ⌜ r ≡ blockerOf (readRoster (now (roster .entry))) (now (file .entry)) ⌝ }
+{
+    let b = blocking_pairs::blocking(roster, file);
+    blocker_numbers(b)
 }

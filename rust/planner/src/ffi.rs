@@ -1,5 +1,7 @@
 //! The exported calls, as `include/crew.h` declares them.
 
+use crate::desk::Desk;
+
 #[repr(C)]
 pub struct Outcome {
     pub refusal: u8,
@@ -22,6 +24,30 @@ pub struct Blocker {
     pub refusal: u8,
     pub surveyor: u8,
     pub stand: u8,
+}
+
+#[repr(C)]
+pub struct DeskLoaded {
+    pub desk: Desk,
+    pub refusal: u8,
+}
+
+#[repr(C)]
+pub struct DeskWritten {
+    pub desk: Desk,
+    pub outcome: Outcome,
+}
+
+#[repr(C)]
+pub struct DeskCompared {
+    pub desk: Desk,
+    pub compared: Compared,
+}
+
+#[repr(C)]
+pub struct DeskBlocker {
+    pub desk: Desk,
+    pub blocker: Blocker,
 }
 
 extern "C" {
@@ -67,4 +93,17 @@ extern "C" {
         file: *const u8,
         file_len: usize,
     ) -> Blocker;
+    pub fn crew_open() -> Desk;
+    pub fn crew_load_roster(desk: Desk, file: *const u8, file_len: usize) -> DeskLoaded;
+    pub fn crew_load_plan(desk: Desk, file: *const u8, file_len: usize) -> DeskLoaded;
+    pub fn crew_desk_write_roster(desk: Desk, out: *mut u8, out_len: usize) -> DeskWritten;
+    pub fn crew_desk_write_plan(desk: Desk, out: *mut u8, out_len: usize) -> DeskWritten;
+    pub fn crew_desk_compare(
+        desk: Desk,
+        first: *const u8,
+        first_len: usize,
+        second: *const u8,
+        second_len: usize,
+    ) -> DeskCompared;
+    pub fn crew_desk_blocking(desk: Desk) -> DeskBlocker;
 }

@@ -9,10 +9,12 @@
 //! assert_eq!(refusal.number, 3);
 //! ```
 
+mod desk;
 mod ffi;
 mod refusal;
 mod votes;
 
+pub use desk::Desk;
 pub use refusal::{Group, Refusal};
 pub use votes::{blocking, compare, Comparison, Votes, Winner};
 
@@ -33,7 +35,7 @@ pub struct Pair {
     pub tied: bool,
 }
 
-fn outcome(outcome: ffi::Outcome) -> Result<usize, Refusal> {
+fn outcome(outcome: &ffi::Outcome) -> Result<usize, Refusal> {
     refusal::check(outcome.refusal).map(|()| outcome.length)
 }
 
@@ -45,7 +47,7 @@ pub fn read_roster(file: &[u8]) -> Result<(), Refusal> {
 /// Writes the file's roster to the front of `out` and gives its length. On a
 /// refusal no byte changes.
 pub fn write_roster(file: &[u8], out: &mut [u8]) -> Result<usize, Refusal> {
-    outcome(unsafe {
+    outcome(&unsafe {
         ffi::crew_write_roster(file.as_ptr(), file.len(), out.as_mut_ptr(), out.len())
     })
 }
@@ -53,7 +55,7 @@ pub fn write_roster(file: &[u8], out: &mut [u8]) -> Result<usize, Refusal> {
 /// All pairs of a roster, ascending by surveyor, then by stand.
 pub fn pairs(roster: &[u8]) -> Result<Vec<Pair>, Refusal> {
     let mut out = vec![0; MAX_PAIRS * PAIR_BYTES];
-    let written = outcome(unsafe {
+    let written = outcome(&unsafe {
         ffi::crew_pairs(roster.as_ptr(), roster.len(), out.as_mut_ptr(), out.len())
     })?;
     let pairs = out[..written].chunks_exact(PAIR_BYTES);
@@ -78,7 +80,7 @@ pub fn read_plan(roster: &[u8], file: &[u8]) -> Result<(), Refusal> {
 /// Writes the file's plan to the front of `out` and gives its length. On a
 /// refusal no byte changes.
 pub fn write_plan(roster: &[u8], file: &[u8], out: &mut [u8]) -> Result<usize, Refusal> {
-    outcome(unsafe {
+    outcome(&unsafe {
         ffi::crew_write_plan(
             roster.as_ptr(),
             roster.len(),

@@ -55,6 +55,8 @@ impl fmt::Display for Refusal {
             10 => "a plan pair is not in the roster",
             11 => "the plan's pairs do not ascend",
             12 => "a pair takes a node past its quota",
+            13 => "no roster is loaded",
+            14 => "no plan is held",
             15 => "a lent buffer is below its size",
             _ => "refused",
         })

@@ -27,19 +27,12 @@ pub struct Comparison<'a> {
     pub part: &'a [u8],
 }
 
-/// Compares two plan files. The roster is judged first, then the first file in
-/// full, then the second.
-pub fn compare<'a>(roster: &[u8], first: &'a [u8], second: &'a [u8]) -> Comparison<'a> {
-    let compared = unsafe {
-        ffi::crew_compare(
-            roster.as_ptr(),
-            roster.len(),
-            first.as_ptr(),
-            first.len(),
-            second.as_ptr(),
-            second.len(),
-        )
-    };
+/// The numbers of a comparison of two files, in their words.
+pub(crate) fn comparison<'a>(
+    compared: &ffi::Compared,
+    first: &'a [u8],
+    second: &'a [u8],
+) -> Comparison<'a> {
     let file = if compared.file == 2 { second } else { first };
     Comparison {
         outcome: refusal::check(compared.refusal).map(|()| Votes {
@@ -55,11 +48,31 @@ pub fn compare<'a>(roster: &[u8], first: &'a [u8], second: &'a [u8]) -> Comparis
     }
 }
 
+pub(crate) fn blocker(blocker: &ffi::Blocker) -> Result<Option<(u8, u8)>, Refusal> {
+    refusal::check(blocker.refusal)?;
+    Ok((blocker.surveyor != 0).then_some((blocker.surveyor, blocker.stand)))
+}
+
+/// Compares two plan files. The roster is judged first, then the first file in
+/// full, then the second.
+pub fn compare<'a>(roster: &[u8], first: &'a [u8], second: &'a [u8]) -> Comparison<'a> {
+    let compared = unsafe {
+        ffi::crew_compare(
+            roster.as_ptr(),
+            roster.len(),
+            first.as_ptr(),
+            first.len(),
+            second.as_ptr(),
+            second.len(),
+        )
+    };
+    comparison(&compared, first, second)
+}
+
 /// A blocking pair of a plan file, by the numbers of its surveyor and its
 /// stand, or that there is none. The roster is judged first.
 pub fn blocking(roster: &[u8], plan: &[u8]) -> Result<Option<(u8, u8)>, Refusal> {
-    let blocker =
-        unsafe { ffi::crew_blocking(roster.as_ptr(), roster.len(), plan.as_ptr(), plan.len()) };
-    refusal::check(blocker.refusal)?;
-    Ok((blocker.surveyor != 0).then_some((blocker.surveyor, blocker.stand)))
+    blocker(&unsafe {
+        ffi::crew_blocking(roster.as_ptr(), roster.len(), plan.as_ptr(), plan.len())
+    })
 }

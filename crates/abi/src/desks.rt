@@ -1,0 +1,142 @@
+// The desk for C: it goes into each call by value and comes back in the reply, beside the answer's numbers. Any bytes may stand in its
+// fields. A refused load, and every call but a load, hands it back as it came.
+ghost use mathlib.Core.Path.{_≡_};
+ghost use Rattle.model.specs.Desk.{opening, loadRoster, loadPlan, writeRosterTo, writePlanTo, compare, blocking};
+ghost use Rattle.desk.specs.Held.{heldOf};
+ghost use Rattle.abi.specs.Desks.{loadNumber, refusalIn, outcomeIn, comparedIn, blockerIn, Served};
+use super::Outcome;
+use super::votes;
+use super::votes::Blocker;
+use super::votes::Compared;
+use desk::Desk;
+use desk::Loading;
+
+// a refusal, 0 for none
+#[repr(C)]
+pub struct DeskLoaded {
+    pub desk: Desk,
+    pub refusal: u8,
+}
+
+#[repr(C)]
+pub struct DeskWritten {
+    pub desk: Desk,
+    pub outcome: Outcome,
+}
+
+#[repr(C)]
+pub struct DeskCompared {
+    pub desk: Desk,
+    pub compared: Compared,
+}
+
+#[repr(C)]
+pub struct DeskBlocker {
+    pub desk: Desk,
+    pub blocker: Blocker,
+}
+
+pub(crate) fn load_number(a: Loading) -> u8
+    ensures { λ r. ⌜ r ≡ loadNumber a ⌝ }
+{
+    match a {
+        Loading::Loaded => 0,
+        Loading::Refused(number, _) => number,
+    }
+}
+
+// a desk with nothing loaded
+#[no_mangle]
+pub extern "C" fn crew_open() -> Desk
+    ensures { λ r. ⌜ heldOf r ≡ opening ⌝ }
+{
+    Desk::open()
+}
+
+// takes a roster file in, and drops the plan
+#[no_mangle]
+pub extern "C" fn crew_load_roster(desk: Desk, file: &[u8]) -> DeskLoaded
+    ensures { λ r. ⌜ Served refusalIn desk (loadRoster (now (file .entry))) (r .refusal) (loadRoster (now (file .entry))) (r .desk) ⌝ }
+{
+    let r = desk.load_roster(file);
+    let d = r.desk;
+    let a = r.answer;
+    DeskLoaded {
+        desk: d,
+        refusal: load_number(a),
+    }
+}
+
+// takes a plan file in, judged against the held roster
+#[no_mangle]
+pub extern "C" fn crew_load_plan(desk: Desk, file: &[u8]) -> DeskLoaded
+    ensures { λ r. ⌜ Served refusalIn desk (loadPlan (now (file .entry))) (r .refusal) (loadPlan (now (file .entry))) (r .desk) ⌝ }
+{
+    let r = desk.load_plan(file);
+    let d = r.desk;
+    let a = r.answer;
+    DeskLoaded {
+        desk: d,
+        refusal: load_number(a),
+    }
+}
+
+// writes the held roster to the front of out, which has at least 2,214 bytes, else 15
+#[no_mangle]
+pub extern "C" fn crew_desk_write_roster(desk: Desk, out: &mut [u8]) -> DeskWritten
+    ensures { λ r. ⌜ Served outcomeIn desk (writeRosterTo (now (out .entry))) (r .outcome) (writeRosterTo (now (out .exit))) (r .desk) ⌝ }
+{
+    let r = desk.write_roster(out);
+    let d = r.desk;
+    let a = r.answer;
+    let n = super::as_numbers(a);
+    DeskWritten {
+        desk: d,
+        outcome: n,
+    }
+}
+
+// writes the held plan to the front of out, which has at least 129 bytes, else 15
+#[no_mangle]
+pub extern "C" fn crew_desk_write_plan(desk: Desk, out: &mut [u8]) -> DeskWritten
+    ensures { λ r. ⌜ Served outcomeIn desk (writePlanTo (now (out .entry))) (r .outcome) (writePlanTo (now (out .exit))) (r .desk) ⌝ }
+{
+    let r = desk.write_plan(out);
+    let d = r.desk;
+    let a = r.answer;
+    let n = super::as_numbers(a);
+    DeskWritten {
+        desk: d,
+        outcome: n,
+    }
+}
+
+// two plan files against the held roster
+#[no_mangle]
+pub extern "C" fn crew_desk_compare(desk: Desk, first: &[u8], second: &[u8]) -> DeskCompared
+    ensures { λ r. ⌜ Served comparedIn desk (compare (now (first .entry)) (now (second .entry))) (r .compared) (compare (now (first .entry)) (now (second .entry))) (r .desk) ⌝ }
+{
+    let r = desk.compare(first, second);
+    let d = r.desk;
+    let a = r.answer;
+    let n = votes::compared_numbers(a, first, second);
+    DeskCompared {
+        desk: d,
+        compared: n,
+    }
+}
+
+// a blocking pair of the held plan
+#[no_mangle]
+pub extern "C" fn crew_desk_blocking(desk: Desk) -> DeskBlocker
+    ensures { λ r. ⌜ Served blockerIn desk blocking (r .blocker) blocking (r .desk) ⌝ }
+{
+    let r = desk.blocking();
+    let d = r.desk;
+    let a = r.answer;
+    let n = votes::blocker_numbers(a);
+    DeskBlocker {
+        desk: d,
+        blocker: n,
+    }
+}

@@ -1,0 +1,23 @@
+//! A morning at the desk: a roster is loaded, two plans of it are compared, the
+//! better one is held and looked at for a blocking pair.
+
+use planner::{Desk, Refusal};
+
+fn main() -> Result<(), Refusal> {
+    // two surveyors rank one stand; the stand ranks 1 before 2
+    let roster = [2, 1, 1, 1, 1, 2, 0, 1, 1, 1, 1, 2, 0, 2, 0, 1, 2];
+    let (first, second) = ([1, 1, 1], [1, 2, 1]);
+
+    let mut desk = Desk::open();
+    desk.load_roster(&roster)?;
+    let compared = desk.compare(&first, &second);
+    println!("{:?}", compared.outcome?);
+    println!("the winner's pairs: {:?}", compared.part);
+
+    desk.load_plan(&first)?;
+    println!("blocking pair: {:?}", desk.blocking()?);
+    let refusal = desk.load_plan(&[1, 1, 2]).unwrap_err();
+    println!("{}: {refusal}", refusal.number);
+    println!("blocking pair: {:?}", desk.blocking()?);
+    Ok(())
+}

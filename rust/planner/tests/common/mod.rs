@@ -1,0 +1,100 @@
+//! What the tests of the proved calls share: counts of the refusals met, junk in
+//! lent buffers, damaged files. Each test file uses a part of it.
+#![allow(dead_code)]
+
+use reference::random::{Random, Shape};
+
+/// How often each refusal occurred, 0 for accepted.
+#[derive(Default)]
+pub struct Met([usize; 16]);
+
+impl Met {
+    pub fn count(&mut self, number: u8) {
+        self.0[usize::from(number)] += 1;
+    }
+
+    pub fn require(&self, numbers: &[usize], least: usize) {
+        println!("accepted and refusals met: {:?}", self.0);
+        for &number in numbers {
+            assert!(self.0[number] >= least, "refusal {number} is too rare");
+        }
+    }
+}
+
+pub fn number<T>(answer: &Result<T, planner::Refusal>) -> u8 {
+    answer.as_ref().err().map_or(0, |refusal| refusal.number)
+}
+
+pub fn same_group(refusal: planner::Refusal, other: reference::refusal::Refusal) -> bool {
+    use planner::Group as Ours;
+    use reference::refusal::Group as Theirs;
+    matches!(
+        (refusal.group, other.group()),
+        (Ours::Form, Theirs::Form)
+            | (Ours::Content, Theirs::Content)
+            | (Ours::Plan, Theirs::Plan)
+            | (Ours::Desk, Theirs::Desk)
+    )
+}
+
+/// A buffer of junk: no two neighbours alike.
+pub fn junk(random: &mut Random, length: usize) -> Vec<u8> {
+    let start = random.below(250);
+    (0..length)
+        .map(|place| ((start + 37 * place) % 251) as u8)
+        .collect()
+}
+
+/// Holds what was written against what should be there: the front written, the
+/// rest as it was; on a refusal everything as it was.
+pub fn check_written(
+    answer: Result<usize, planner::Refusal>,
+    expected: Result<Vec<u8>, u8>,
+    before: &[u8],
+    after: &[u8],
+) {
+    match expected {
+        Ok(front) => {
+            assert_eq!(answer, Ok(front.len()));
+            assert_eq!(after[..front.len()], front);
+            assert_eq!(after[front.len()..], before[front.len()..]);
+        }
+        Err(expected) => {
+            assert_eq!(number(&answer), expected);
+            assert_eq!(after, before);
+        }
+    }
+}
+
+/// One damage: a byte changed, dropped, doubled, two swapped, a count off by
+/// one, the file cut or grown.
+pub fn damage(random: &mut Random, file: &mut Vec<u8>) {
+    if file.is_empty() {
+        return file.push(random.below(256) as u8);
+    }
+    let at = random.below(file.len());
+    match random.below(8) {
+        0 => file[at] = random.below(256) as u8,
+        1 => file[at] = random.below(34) as u8,
+        2 => file[at] = file[at].wrapping_add(1),
+        3 => file[at] = file[at].wrapping_sub(1),
+        4 => file.truncate(at),
+        5 => file.push(random.below(34) as u8),
+        6 => drop(file.remove(at)),
+        _ => {
+            let other = random.below(file.len());
+            file.swap(at, other);
+        }
+    }
+}
+
+pub fn shape(random: &mut Random) -> Shape {
+    let nodes = [2, 4, 6][random.below(3)];
+    Shape {
+        counts: [0..=nodes, 0..=nodes],
+        quotas: [0..=8, 0..=8],
+        pairs: [40, 70, 100][random.below(3)],
+        ties: 50,
+        opposed: 20,
+    }
+}

@@ -1,0 +1,243 @@
+//! Calls on a desk, one after another, against the reference: every answer,
+//! every byte lent, and the desk itself, which only an accepted load changes.
+//! Now and then the desk's own bytes are damaged.
+
+mod common;
+
+use common::{check_written, damage, junk, number, shape, Met};
+use planner::{Desk, Winner};
+use reference::plan::{self, Plan};
+use reference::random::{self, Random};
+use reference::roster::{self, Roster};
+use reference::{blocking, compare};
+
+/// What the desk should hold.
+enum Held {
+    Nothing,
+    Roster(Roster),
+    Planned(Roster, Plan),
+}
+
+impl Held {
+    fn roster(&self) -> Result<&Roster, u8> {
+        match self {
+            Held::Nothing => Err(13),
+            Held::Roster(roster) | Held::Planned(roster, _) => Ok(roster),
+        }
+    }
+
+    fn plan(&self) -> Result<(&Roster, &Plan), u8> {
+        match self {
+            Held::Nothing => Err(13),
+            Held::Roster(_) => Err(14),
+            Held::Planned(roster, plan) => Ok((roster, plan)),
+        }
+    }
+
+    /// What the bytes of a desk are read to.
+    fn by_bytes(desk: &Desk) -> Held {
+        let front = |bytes: &[u8], len: usize| bytes[..len.min(bytes.len())].to_vec();
+        let Ok(roster) = roster::read(&front(&desk.roster, desk.roster_len)) else {
+            return Held::Nothing;
+        };
+        match plan::read(&roster, &front(&desk.plan, desk.plan_len)) {
+            Ok(plan) => Held::Planned(roster, plan),
+            Err(_) => Held::Roster(roster),
+        }
+    }
+}
+
+/// A plan file: of the held roster if there is one, damaged now and then.
+fn plan_file(random: &mut Random, held: &Held) -> Vec<u8> {
+    let mut file = match held.roster() {
+        Ok(roster) => plan::write(roster, &random::plan(random, roster, 80)),
+        Err(_) => vec![0],
+    };
+    if random.chance(20) {
+        damage(random, &mut file);
+    }
+    file
+}
+
+/// A buffer, below its size now and then.
+fn buffer(random: &mut Random, size: usize) -> Vec<u8> {
+    let length = if random.chance(15) {
+        random.below(size)
+    } else {
+        size + random.below(3)
+    };
+    junk(random, length)
+}
+
+fn load_roster(random: &mut Random, desk: &mut Desk, held: Held) -> (Held, u8) {
+    let mut shape = shape(random);
+    shape.quotas = [0..=3, 0..=3];
+    let mut file = roster::write(&random::roster(random, &shape));
+    if random.chance(30) {
+        damage(random, &mut file);
+    }
+    let before = desk.clone();
+    let answer = desk.load_roster(&file);
+    match roster::read(&file) {
+        Ok(roster) => {
+            assert_eq!(answer, Ok(()));
+            (Held::Roster(roster), 0)
+        }
+        Err(refusal) => {
+            assert_eq!(number(&answer), refusal.number());
+            assert!(*desk == before);
+            (held, refusal.number())
+        }
+    }
+}
+
+fn load_plan(random: &mut Random, desk: &mut Desk, held: Held) -> (Held, u8) {
+    let file = plan_file(random, &held);
+    let before = desk.clone();
+    let answer = desk.load_plan(&file);
+    let read = held
+        .roster()
+        .and_then(|roster| plan::read(roster, &file).map_err(|refusal| refusal.number()));
+    match (held, read) {
+        (Held::Roster(roster) | Held::Planned(roster, _), Ok(plan)) => {
+            assert_eq!(answer, Ok(()));
+            (Held::Planned(roster, plan), 0)
+        }
+        (held, refused) => {
+            let refusal = refused.expect_err("no plan without a roster");
+            assert_eq!(number(&answer), refusal);
+            assert!(*desk == before);
+            (held, refusal)
+        }
+    }
+}
+
+fn write_roster(random: &mut Random, desk: &Desk, held: &Held) -> u8 {
+    let before = buffer(random, planner::ROSTER_BYTES);
+    let mut out = before.clone();
+    let answer = desk.write_roster(&mut out);
+    let expected = match held.roster() {
+        Err(refusal) => Err(refusal),
+        Ok(_) if before.len() < planner::ROSTER_BYTES => Err(15),
+        Ok(roster) => Ok(roster::write(roster)),
+    };
+    check_written(answer, expected, &before, &out);
+    number(&answer)
+}
+
+fn write_plan(random: &mut Random, desk: &Desk, held: &Held) -> u8 {
+    let before = buffer(random, planner::PLAN_BYTES);
+    let mut out = before.clone();
+    let answer = desk.write_plan(&mut out);
+    let expected = match held.plan() {
+        Err(refusal) => Err(refusal),
+        Ok(_) if before.len() < planner::PLAN_BYTES => Err(15),
+        Ok((roster, plan)) => Ok(plan::write(roster, plan)),
+    };
+    check_written(answer, expected, &before, &out);
+    number(&answer)
+}
+
+fn compare_two(random: &mut Random, desk: &Desk, held: &Held) -> u8 {
+    let first = plan_file(random, held);
+    let second = plan_file(random, held);
+    let answer = desk.compare(&first, &second);
+    let empty = (first.as_ptr(), 0);
+    let part = (answer.part.as_ptr(), answer.part.len());
+    let roster = match held.roster() {
+        Ok(roster) => roster,
+        Err(refusal) => {
+            assert_eq!(number(&answer.outcome), refusal);
+            assert_eq!(part, empty);
+            return refusal;
+        }
+    };
+    let expected = compare::compare(roster, &first, &second);
+    match expected.outcome {
+        Ok(votes) => {
+            let ours = answer.outcome.expect("both accepted");
+            assert_eq!(ours.first, votes.first_against_second);
+            assert_eq!(ours.second, votes.second_against_first);
+            assert_eq!(ours.winner == Winner::First, ours.first > 0);
+            assert_eq!(ours.winner == Winner::Second, ours.second > 0);
+        }
+        Err(refusal) => assert_eq!(number(&answer.outcome), refusal.number()),
+    }
+    let file = match expected.part.file {
+        compare::File::First => &first,
+        compare::File::Second => &second,
+    };
+    let theirs = &file[expected.part.range];
+    assert_eq!(part, (theirs.as_ptr(), theirs.len()));
+    number(&answer.outcome)
+}
+
+fn blocking_pair(desk: &Desk, held: &Held) -> u8 {
+    let answer = desk.blocking();
+    match held.plan() {
+        Err(refusal) => assert_eq!(number(&answer), refusal),
+        Ok((roster, plan)) => {
+            let pairs = blocking::blocking_pairs(roster, plan);
+            let lowest = pairs.first().map(|&index| roster.pairs()[index]);
+            assert_eq!(answer, Ok(lowest.map(|pair| (pair.surveyor, pair.stand))));
+        }
+    }
+    number(&answer)
+}
+
+/// Any bytes may stand in a desk.
+fn damage_desk(random: &mut Random, desk: &mut Desk) {
+    let at = random.below(40);
+    match random.below(6) {
+        0 => desk.roster[at] = random.below(256) as u8,
+        1 => desk.roster_len = random.below(60),
+        2 => desk.roster_len = usize::MAX - random.below(3),
+        3 => desk.plan[at] = random.below(256) as u8,
+        4 => desk.plan_len = random.below(60),
+        _ => desk.plan_len = usize::MAX - random.below(3),
+    }
+}
+
+#[test]
+fn calls_one_after_another() {
+    let mut random = Random::new(11);
+    let mut met = Met::default();
+    for _ in 0..60_000 {
+        let mut desk = Desk::open();
+        let mut held = Held::Nothing;
+        for _ in 0..random.below(20) {
+            let refusal = match random.below(7) {
+                0 => {
+                    let (next, refusal) = load_roster(&mut random, &mut desk, held);
+                    held = next;
+                    refusal
+                }
+                1 | 2 => {
+                    let (next, refusal) = load_plan(&mut random, &mut desk, held);
+                    held = next;
+                    refusal
+                }
+                3 => write_roster(&mut random, &desk, &held),
+                4 => write_plan(&mut random, &desk, &held),
+                5 => compare_two(&mut random, &desk, &held),
+                _ => blocking_pair(&desk, &held),
+            };
+            met.count(refusal);
+            if random.chance(4) {
+                damage_desk(&mut random, &mut desk);
+                held = Held::by_bytes(&desk);
+            }
+        }
+    }
+    met.require(&[0, 1, 2, 10, 11, 12, 13, 14, 15], 100);
+}
+
+#[test]
+fn a_new_desk_has_nothing_loaded() {
+    let desk = Desk::open();
+    let mut out = [0; planner::ROSTER_BYTES];
+    assert_eq!(number(&desk.write_roster(&mut out)), 13);
+    assert_eq!(number(&desk.write_plan(&mut out[..1])), 13);
+    assert_eq!(number(&desk.blocking()), 13);
+    assert_eq!(number(&desk.compare(&[0], &[0]).outcome), 13);
+}
