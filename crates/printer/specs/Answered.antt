@@ -6,7 +6,6 @@ use mathlib.Core.List.{List, [], _∷_, _++_, append-assoc}
 use lib.ListN.{length, drop}
 use Rattle.lists.specs.Keep.{gather}
 use Rattle.model.specs.Text.{text}
-use Rattle.model.specs.Refusal as model
 use Rattle.model.specs.Refusal.{groupOf}
 use Rattle.model.specs.Reading.{Reading, accepted, turned}
 use Rattle.model.specs.Roster.{Roster}
@@ -21,7 +20,7 @@ use Rattle.refusal.specs.declared.Group.{Group}
 use Rattle.refusal.specs.Shown.{groupShown, groupCase}
 use Rattle.answers.specs.declared.Found.{Found}
 use Rattle.answers.specs.declared.Found.the-variants.{Refused}
-use Rattle.answers.specs.Shown.{shows-found}
+use Rattle.answers.specs.Shown.{refused-shown, shows-found}
 use Rattle.text.specs.Appended.{Appended}
 use Rattle.endings.specs.Endings.{refusedText}
 use Rattle.printer.specs.Printable.{shownText}
@@ -58,17 +57,8 @@ answered {a} {flat} {left} {plan} {rival} w = record {
 }
 
 -- ---- for a roster file: the model's text of its reading
-shown-group : (n : ℕ) → groupShown (groupCase (groupOf n)) ≡ groupOf n
-shown-group n = of (groupOf n)
-  where
-    of : (m : model.Group) → groupShown (groupCase m) ≡ m
-    of model.form = refl
-    of model.content = refl
-    of model.plan = refl
-    of model.desk = refl
-
 pub answered-text : (rivalOf : Instance → Plan → Plan) (blockingOf : Instance → Plan → ℕ) (x : Reading Roster) {a : Found} {flat left plan rival before after : List ℕ} {n : ℕ}
     → HandedFor rivalOf blockingOf x a flat left plan rival → Answered a flat left plan rival before n after → Wrote (answerText x rivalOf) before n after
 answered-text rivalOf blockingOf (accepted r) h w = w .found rivalOf blockingOf (instanceOf r) (F.finderOf (instanceOf r) (rivalOf (instanceOf r))) h
 answered-text rivalOf blockingOf (turned k) {a} {before = before} {after = after} {n = n} h w =
-    subst (λ g. Wrote (line (text "refused" ∷ number k ∷ groupWord g ∷ [])) before n after) (shown-group k) (w .refused k (groupCase (groupOf k)) (shows-found a h))
+    subst (λ g. Wrote (line (text "refused" ∷ number k ∷ groupWord g ∷ [])) before n after) (refused-shown k) (w .refused k (groupCase (groupOf k)) (shows-found a h))

@@ -9,7 +9,7 @@ use lib.Dec.{T, ltb}
 use Rattle.lists.specs.Test.{and-l, and-r, and-i}
 use Rattle.lists.specs.Sum.{_∈_, range, range-length}
 use Rattle.lists.specs.Keep.{gather, keep}
-use Rattle.model.specs.Limits.{entryLimit, planLimit, planSize, diarySize, leftSize, inputSize}
+use Rattle.model.specs.Limits.{nodeLimit, entryLimit, planLimit, planSize, diarySize, leftSize, inputSize}
 use Rattle.model.specs.Reading.{Reading, accepted, turned}
 use Rattle.model.specs.Roster.{Roster, fits, surveyorCount, standCount, listed}
 use Rattle.model.specs.RosterFile.{readRoster}
@@ -51,12 +51,12 @@ bytes-front (suc n) (x ∷ bs) t = and-i (ltb x 256) (isBytes (take n bs)) (and-
 -- at most one pair for a surveyor and a stand
 pub edges-few : (r : Roster) → T (fits r) → instanceOf r .m ≤ entryLimit
 unfolding instanceOf edgesOf
-edges-few r ok = omega (arith, gather-length row 32 few (range 0 (surveyorCount r)), range-length 0 (surveyorCount r), ns-small r ok)
+edges-few r ok = omega (arith, gather-length row nodeLimit few (range 0 (surveyorCount r)), range-length 0 (surveyorCount r), ns-small r ok)
   where
     row : ℕ → List Edge
     row i = gather (λ j. cond (listed r i j) (pairEdge r i j ∷ []) []) (range 0 (standCount r))
 
-    few : (i : ℕ) → length (row i) ≤ 32
+    few : (i : ℕ) → length (row i) ≤ nodeLimit
     few i = omega (arith, gather-length (λ j. cond (listed r i j) (pairEdge r i j ∷ []) []) 1 (λ j. one (listed r i j) (pairEdge r i j)) (range 0 (standCount r)), range-length 0 (standCount r), nt-small r ok)
       where
         one : (b : Bool) (e : Edge) → length (cond b (e ∷ []) []) ≤ 1
@@ -108,12 +108,12 @@ module _ (rivalOf : Instance → Plan → Plan) (blockingOf : Instance → Plan 
   answer-length (accepted r) h = text-length (instanceOf r) (finderOf (instanceOf r) (rivalOf (instanceOf r))) (steps-fit r (h r refl)) (found-small r (h r refl))
   answer-length (turned n) h = refused-length n
 
-  -- "a buffer whose size a lemma bounds"
+  -- so a buffer of so many bytes holds whatever is printed
   pub printed-length : (input : List ℕ) → T (isBytes input) → length (printed rivalOf input) ≤ textSize
   unfolding printed
   printed-length input isB = answer-length (readRoster (take inputSize input)) (λ r e. read-fits (take inputSize input) r (bytes-front inputSize input isB) e)
 
-  -- a longer input has the answer of its first 2,215 bytes
-  pub printed-whole : (input : List ℕ) → printed rivalOf input ≡ answerText (readRoster input) rivalOf
-  unfolding printed
-  printed-whole input = ap (λ x. answerText x rivalOf) (read-front input)
+-- a longer input has the answer of its first 2,215 bytes
+pub printed-whole : (rivalOf : Instance → Plan → Plan) (input : List ℕ) → printed rivalOf input ≡ answerText (readRoster input) rivalOf
+unfolding printed
+printed-whole rivalOf input = ap (λ x. answerText x rivalOf) (read-front input)

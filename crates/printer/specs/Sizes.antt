@@ -17,9 +17,10 @@ use Rattle.model.specs.Finder.{recordOf, diaryOf}
 use Rattle.model.specs.Printed.{number, line, diaryLine, pairLine, counted, ending, groupWord}
 use Rattle.answers.specs.declared.Found.{Found}
 use Rattle.answers.specs.Shown.{shows-found}
-use Rattle.text.specs.Digits.{field-length}
+use Rattle.text.specs.Digits.{fieldSize, field-length}
+use Rattle.text.specs.Votes.{vote-length}
 use Rattle.lines.specs.Lines.{diaryLineSize, diary-length, pairLineSize, pair-length}
-use Rattle.endings.specs.Room.{Counted, endingSize, vote-length}
+use Rattle.endings.specs.Room.{Counted, endingSize}
 use Rattle.printer.specs.Printable.{Printable, textSize}
 use Rattle.printer.specs.Handed.{Front, Handed}
 
@@ -46,7 +47,7 @@ unfolding text
 refused-length n = simp length-append (omega (arith, simp length-append at (field-length n 10), group-length (groupOf n)))
 
 module _ (G : Instance) where
-  counted-length : (w es : List ℕ) → length (counted G w es) ≤ length w + 6 + pairLineSize * length es
+  counted-length : (w es : List ℕ) → length (counted G w es) ≤ length w + 1 + fieldSize + pairLineSize * length es
   counted-length w es = simp length-append (omega (arith, simp length-append at (field-length (length es) 10), gather-length (pairLine G) pairLineSize (λ e. pair-length (suc (G .sv e)) (suc (G .st e))) es))
 
   ending-length : (f : F.Found) → Small G f → length (ending G f) ≤ endingSize

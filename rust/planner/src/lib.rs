@@ -11,10 +11,12 @@
 
 mod desk;
 mod ffi;
+mod find;
 mod refusal;
 mod votes;
 
 pub use desk::Desk;
+pub use find::{Found, Step, DIARY_RECORDS, LEFT_BYTES};
 pub use refusal::{Group, Refusal};
 pub use votes::{blocking, compare, Comparison, Votes, Winner};
 
