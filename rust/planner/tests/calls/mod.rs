@@ -5,9 +5,13 @@
 // Every test file compiles this module for itself and uses its part of it.
 #![allow(dead_code)]
 
-use planner::{NoneKind, Refusal, Step, Verdict};
+#[cfg(feature = "verdict")]
+use planner::Verdict;
+use planner::{Refusal, Step};
 use reference::compare::{File, Part};
-use reference::desk::{self, Found, Judged, Lent, Record};
+#[cfg(feature = "verdict")]
+use reference::desk::Judged;
+use reference::desk::{Found, Lent, NoneKind, Record};
 
 pub struct Desk(planner::Desk);
 
@@ -19,6 +23,7 @@ fn number(refusal: Refusal) -> u8 {
 }
 
 /// A verdict as the reference tells it.
+#[cfg(feature = "verdict")]
 pub fn judged(verdict: Verdict) -> Judged {
     match verdict {
         Verdict::Strong => Judged::Strong,
@@ -30,12 +35,13 @@ pub fn judged(verdict: Verdict) -> Judged {
 fn found(answer: planner::Found) -> Found {
     match answer {
         planner::Found::Plan { steps } => Found::Plan { steps },
-        planner::Found::None { steps, kind } => Found::None {
+        planner::Found::Left { steps, pairs } => Found::None {
             steps,
-            kind: match kind {
-                NoneKind::Left(pairs) => desk::NoneKind::Left(pairs),
-                NoneKind::Rivalled(vote) => desk::NoneKind::Rivalled(vote),
-            },
+            kind: NoneKind::Left(pairs),
+        },
+        planner::Found::Rivalled { steps, vote } => Found::None {
+            steps,
+            kind: NoneKind::Rivalled(vote),
         },
     }
 }
@@ -100,6 +106,7 @@ impl Desk {
         (self, answer.map(found).map_err(number))
     }
 
+    #[cfg(feature = "verdict")]
     pub fn judge(self, rival: &mut [u8]) -> (Desk, Result<Judged, u8>) {
         let answer = self.0.judge(rival).map(judged).map_err(number);
         (self, answer)

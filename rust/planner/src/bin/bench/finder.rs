@@ -23,7 +23,7 @@ struct Buffers {
 impl Buffers {
     fn new() -> Buffers {
         Buffers {
-            diary: vec![Step::default(); planner::DIARY_STEPS],
+            diary: vec![Step::default(); planner::DIARY_RECORDS],
             left: vec![0; planner::LEFT_BYTES],
             plan: vec![0; planner::PLAN_BYTES],
             rival: vec![0; planner::PLAN_BYTES],
