@@ -1,3 +1,4 @@
 pub mod Shown
 pub mod Passes
 pub mod Tally
+pub mod Kept

@@ -29,7 +29,6 @@ use Rattle.instance.specs.Loaded.{Loaded}
 use Rattle.plan.specs.declared.PlanRead.{PlanRead}
 use Rattle.plan.specs.declared.PlanAnswer.the-variants as plan
 use Rattle.plan.specs.Answers.{ReadAs, ReadFor, accepted-read, refused-read}
-use Rattle.vote.specs.Plan.{Arrays, Light, within-light, PlanVote}
 use Rattle.files.specs.Replies.{RosterAccepted}
 use Rattle.compare.specs.declared.Winner.{Winner}
 use Rattle.compare.specs.declared.Comparison.{Comparison}
@@ -37,27 +36,8 @@ use Rattle.compare.specs.declared.Comparison.the-variants.{Votes, Refuse
 use Rattle.compare.specs.Answers.{winnerCase, answered, comparisonReply, ComparedAs}
 
 -- ---- the votes of two plans
-module _ (g : Instance) (L : Loaded g) where
-  pub side-arrays : Arrays (g .m) (g .ns) (g .sv) (g .«rank_s») × Arrays (g .m) (g .nt) (g .st) (g .«rank_t»)
-  side-arrays = (
-    record { edges = L .edges; nodes = L .surveyors; ends = λ e h. L .low-sv e; ranks = λ e h. (L .ranks e h .0, L .lawful .atS .placed e h) },
-    record { edges = L .edges; nodes = L .stands; ends = λ e h. L .low-st e; ranks = λ e h. (L .ranks e h .1, L .lawful .atT .placed e h) },
-  )
-
-  pub light : (p : List Bool) → Matching (shownBy g) (flag p) → Light (g .m) (g .sv) p × Light (g .m) (g .st) p
-  light p M = (
-    within-light (g .m) (g .ns) (g .sv) (g .«rank_s») (λ e. false) _ p (λ v. L .quotas v .0) (M .atS),
-    within-light (g .m) (g .nt) (g .st) (g .«rank_t») (flag (g .tied)) _ p (λ v. L .quotas v .1) (M .atT),
-  )
-
-  module _ (p q : List Bool) (Mp : Matching (shownBy g) (flag p)) (Mq : Matching (shownBy g) (flag q)) where
-    pub votes-are : {v w : ℤ} {x : Winner} → PlanVote (g .m) (g .ns) (g .nt) (g .sv) (g .st) (g .«rank_s») (g .«rank_t») p q v
-        → PlanVote (g .m) (g .ns) (g .nt) (g .sv) (g .st) (g .«rank_s») (g .«rank_t») q p w → x ≡ winnerCase (winnerOf v w)
-        → Votes v w x ≡ answered (compared (shownBy g) p q)
-    votes-are {v} {w} {x} hv hw e =
-        let a : v ≡ voteOf (shownBy g) p q = hv (g .tied) (g .«quota_s») (g .«quota_t») Mp Mq in
-        let b : w ≡ voteOf (shownBy g) q p = hw (g .tied) (g .«quota_s») (g .«quota_t») Mq Mp in
-        ap (Votes v w) e ∙ ap₂ (λ y z. Votes y z (winnerCase (winnerOf y z))) a b
+pub votes-are : (G : model.Instance) (p q : List Bool) {v w : ℤ} {x : Winner} → v ≡ voteOf G p q → w ≡ voteOf G q p → x ≡ winnerCase (winnerOf v w) → Votes v w x ≡ answered (compared G p q)
+votes-are G p q {v} {w} {x} a b e = ap (Votes v w) e ∙ ap₂ (λ y z. Votes y z (winnerCase (winnerOf y z))) a b
 
 -- ---- which plan it is matters by its edges alone
 abbrev byEdges : model.Instance → (ℕ → Bool) → (ℕ → Bool) → Comparison

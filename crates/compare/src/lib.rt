@@ -47,12 +47,8 @@ pub(crate) fn voted(g: Instance, p: &[bool; 1024], q: &[bool; 1024]) -> Comparis
     requires { ⌜ Loaded g × Matching (shownBy g) (flag (now p)) × Matching (shownBy g) (flag (now q)) ⌝ }
     ensures { λ r. ⌜ r ≡ answered (compared (shownBy g) (now (p .entry)) (now (q .entry))) ⌝ }
 {
-    let sv = g.sv;
-    let st = g.st;
-    let rs = g.rank_s;
-    let rt = g.rank_t;
-    let v = vote::plan_vote(g.m, g.ns, g.nt, &sv, &st, &rs, &rt, p, q);
-    let w = vote::plan_vote(g.m, g.ns, g.nt, &sv, &st, &rs, &rt, q, p);
+    let v = poll::poll(g, p, q);
+    let w = poll::poll(g, q, p);
     let x = winner_of(v, w);
     Comparison::Votes(v, w, x)
 }

@@ -72,7 +72,7 @@ module _ (G : Instance) (L : Lawful G) where
   nothing-left M m = given (strong-member M m) (λ (k, e). no-element (edgesIn (G .m) (endOf G .rem)) (λ d h.
       given (∈-keep (endOf G .rem) (range 0 (G .m)) h) (λ (r, t). left-none L (plan-matching G L k) (strong-walks M k e) d (given (∈-range (G .m) 0 r .1) (λ l. omega arith)) t)))
 
-  candidate-plan : candidateOf G ∈ plansOf G
+  pub candidate-plan : candidateOf G ∈ plansOf G
   unfolding candidateOf
   candidate-plan = matching-plan G (end-matching G)
 

@@ -4,4 +4,4 @@ pub mod Replies
 pub mod Laws
 pub mod Passing
 pub mod Loads
-pub mod Choices
+pub mod Finding

@@ -11,9 +11,12 @@ ghost use Rattle.model.specs.Desk.{opening, loadRoster, loadPlan, writeRosterTo
 ghost use Rattle.compare.specs.Parts.{placed};
 ghost use Rattle.blocking_pairs.specs.Answers.{deskAnswer};
 ghost use Rattle.desk.specs.Held.{heldOf};
+ghost use Rattle.desk.specs.Finding.{Done, Finds};
 ghost use Rattle.desk.specs.Replies.{Replied, loadShown, writtenShown, comparisonShown, partIn, answered};
+use answers::Found;
 use blocking_pairs::Blocked;
 use compare::Comparison;
+use diary::Step;
 use limits::ROSTER_SIZE;
 use refusal::Group;
 use roster_writer::Written;
@@ -54,6 +57,44 @@ pub struct CompareReply {
 pub struct BlockingReply {
     pub desk: Desk,
     pub answer: Blocked,
+}
+
+pub struct FindReply {
+    pub desk: Desk,
+    pub answer: Found,
+}
+
+// What the core of a find hands back: the reply, and the diary as numbers, four a record, with the number of its records.
+pub struct CoreReply {
+    pub reply: FindReply,
+    pub flat: [u8; 4096],
+    pub steps: usize,
+}
+
+// All of a find but the lent diary, of which it is told the length.
+pub fn core(
+    desk: Desk,
+    room: usize,
+    left: &mut [u8],
+    plan: &mut [u8],
+    rival: &mut [u8],
+) -> CoreReply
+    ensures { λ r. ⌜ Done desk room (now (left .entry)) (now (plan .entry)) (now (rival .entry)) r (now (left .exit)) (now (plan .exit)) (now (rival .exit)) ⌝ }
+{
+    let bytes = desk.roster;
+    let len = held::clamped(desk.roster_len, ROSTER_SIZE);
+    let o = finder::found(&bytes[..len], room, left, plan, rival);
+    let answer = o.answer;
+    let flat = o.flat;
+    let reply = FindReply {
+        desk: desk,
+        answer: answer,
+    };
+    CoreReply {
+        reply: reply,
+        flat: flat,
+        steps: o.steps,
+    }
 }
 
 impl Desk {
@@ -192,5 +233,20 @@ impl Desk {
             desk: self,
             answer: b,
         }
+    }
+
+    // The finder: the diary is a lent list of step records; left pairs, plan or candidate, and rival go to their buffers.
+    pub fn find(
+        self,
+        diary: &mut [Step],
+        left: &mut [u8],
+        plan: &mut [u8],
+        rival: &mut [u8],
+    ) -> FindReply
+        ensures { λ r. ⌜ Finds self (now (diary .entry)) (now (left .entry)) (now (plan .entry)) (now (rival .entry)) r (now (diary .exit)) (now (left .exit)) (now (plan .exit)) (now (rival .exit)) ⌝ }
+    {
+        let c = core(self, diary.len(), left, plan, rival);
+        diary::fill(diary, c.flat, c.steps);
+        c.reply
     }
 }

@@ -3,15 +3,16 @@ ghost use Prim.Native.Nat.{_+_, _*_, _≤_};
 ghost use lib.ListN.{length};
 ghost use Rattle.model.specs.Limits.{planLimit};
 ghost use Rattle.text.specs.Appended.{Appended};
+ghost use Rattle.text.specs.Digits.{fieldSize};
 ghost use Rattle.lines.specs.Lines.{pairLineSize};
 ghost use Rattle.endings.specs.Endings.{countedText, planText, rivalledText, noneText, groupText, refusedText};
-ghost use Rattle.endings.specs.Room.{Counted, NoneHeld, rivalledSize, endingSize, refusedSize};
+ghost use Rattle.endings.specs.Room.{Counted, NoneHeld, rivalledSize, endingSize, groupSize, refusedSize};
 use answers::NoneKind;
 use refusal::Group;
 
 // "K counts them": a word with a space behind it, the count, and so many pair lines
 fn put_counted(out: &mut [u8], at: usize, word: &[u8], pairs: &[u8], n: usize) -> usize
-    requires { ⌜ (2 * n ≤ length (now pairs)) × (at + length (now word) + 5 + pairLineSize * n ≤ length (now out)) ⌝ }
+    requires { ⌜ (2 * n ≤ length (now pairs)) × (at + length (now word) + fieldSize + pairLineSize * n ≤ length (now out)) ⌝ }
     ensures { λ r. ⌜ Appended (now (out .entry)) at (countedText (now (word .entry)) (now (pairs .entry)) n) (now (out .exit)) r ⌝ }
 {
     let next = text::put_word(out, at, word);
@@ -21,7 +22,7 @@ fn put_counted(out: &mut [u8], at: usize, word: &[u8], pairs: &[u8], n: usize) -
 
 // the pairs of plan bytes, behind their count
 pub fn put_plan(out: &mut [u8], at: usize, word: &[u8], plan: &[u8]) -> usize
-    requires { ⌜ Counted (now plan) × (at + length (now word) + 5 + pairLineSize * planLimit ≤ length (now out)) ⌝ }
+    requires { ⌜ Counted (now plan) × (at + length (now word) + fieldSize + pairLineSize * planLimit ≤ length (now out)) ⌝ }
     ensures { λ r. ⌜ Appended (now (out .entry)) at (planText (now (word .entry)) (now (plan .entry))) (now (out .exit)) r ⌝ }
 {
     let n = plan[0] as usize;
@@ -59,7 +60,7 @@ pub fn put_none(
 
 // the word of a group and byte 10
 fn put_group(out: &mut [u8], at: usize, group: Group) -> usize
-    requires { ⌜ at + 8 ≤ length (now out) ⌝ }
+    requires { ⌜ at + groupSize ≤ length (now out) ⌝ }
     ensures { λ r. ⌜ Appended (now (out .entry)) at (groupText group) (now (out .exit)) r ⌝ }
 {
     match group {

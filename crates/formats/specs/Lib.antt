@@ -2,3 +2,4 @@ pub mod Reads
 pub mod Entries
 pub mod Sections
 pub mod Rosters
+pub mod Reach

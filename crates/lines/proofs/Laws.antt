@@ -1,6 +1,6 @@
 -- The words of fates, and fields in a row as one line. Assumes nothing.
 use Prim.Native.Nat.{ℕ, zero, suc}
-use mathlib.Core.Path.{_≡_, refl, ap}
+use mathlib.Core.Path.{_≡_, refl}
 use mathlib.Core.List.{List, [], _∷_, _++_, append-assoc}
 use Rattle.model.specs.Text.{text}
 use Rattle.model.specs.Printed.{line, fateWord}

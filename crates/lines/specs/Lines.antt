@@ -7,13 +7,17 @@ use lib.ListN.{length, getD, length-append}
 use Rattle.model.specs.Text.{text}
 use Rattle.model.specs.Finder.{Record}
 use Rattle.model.specs.Printed.{number, line, fateWord, diaryLine}
-use Rattle.text.specs.Digits.{digits-length}
+use Rattle.text.specs.Digits.{digits-length, fieldSize}
+
+-- "strike" and a space
+abbrev pub fateSize : ℕ
+fateSize = 7
 
 abbrev pub diaryLineSize : ℕ
-diaryLineSize = 22
+diaryLineSize = fateSize + 3 * fieldSize
 
 abbrev pub pairLineSize : ℕ
-pairLineSize = 10
+pairLineSize = 2 * fieldSize
 
 abbrev pub pairText : (surveyor stand : ℕ) → List ℕ
 pairText s t = line (number s ∷ number t ∷ [])

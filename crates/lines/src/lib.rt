@@ -5,11 +5,11 @@ ghost use lib.ListN.{length};
 ghost use Rattle.model.specs.Printed.{fateWord, diaryLine};
 ghost use Rattle.text.specs.Appended.{Appended};
 ghost use Rattle.lines.specs.Texts.{texts};
-ghost use Rattle.lines.specs.Lines.{diaryLineSize, pairLineSize, pairText, diaryAt, pairAt};
+ghost use Rattle.lines.specs.Lines.{fateSize, diaryLineSize, pairLineSize, pairText, diaryAt, pairAt};
 
 // the word of a fate and a space
 fn put_fate(out: &mut [u8], at: usize, fate: u8) -> usize
-    requires { ⌜ at + 7 ≤ length (now out) ⌝ }
+    requires { ⌜ at + fateSize ≤ length (now out) ⌝ }
     ensures { λ r. ⌜ Appended (now (out .entry)) at (fateWord fate ++ 32 ∷ []) (now (out .exit)) r ⌝ }
 {
     if fate == 0 {

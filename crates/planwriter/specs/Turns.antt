@@ -1,5 +1,5 @@
 -- One pair more in the buffer's front, and the whole front.
-use Prim.Native.Nat.{ℕ, suc, _+_, _-_, _*_, _≤_, _<_}
+use Prim.Native.Nat.{ℕ, suc, _+_, _*_, _≤_, _<_}
 use native.Mathlib.Omega.{arith}
 use native.Mathlib.Numerals.{add-one}
 use mathlib.Core.Path.{_≡_, refl, sym, ap, ap₂, _∙_}
@@ -8,14 +8,14 @@ use mathlib.Core.List.{List, [], _∷_, _++_, append-assoc, append-nil}
 use lib.ListN.{length, take, drop, getD, set, length-append, length-take, take-append-drop}
 use lib.Seq.{set-at, drop-cons}
 use borrow.Author.Tests.{lt-ltb, le-ltb}
-use Rattle.lists.specs.Sum.{range}
-use Rattle.lists.specs.Keep.{keep}
-use Rattle.lists.specs.Ranges.{range-add, keep-append, gather-append, keep-last}
+use Rattle.lists.specs.Ranges.{gather-append, keep-last}
 use Rattle.model.specs.Limits.{planSize}
 use Rattle.model.specs.Plans.{on}
 use Rattle.model.specs.PlanFile.{edgesIn, planBytes}
+use Rattle.model.specs.Desk.{onto}
 use Rattle.rosters.specs.Chosen.{edgesIn-cong}
 use Rattle.arrays.specs.Shown.{at, flag, shown}
+use Rattle.arrays.specs.Kept.{keep-few}
 use Rattle.planwriter.specs.declared.PlanWritten.the-variants.{Wrote, Refused}
 use Rattle.planwriter.specs.Written.{pairsOf, WrittenFor}
 
@@ -36,16 +36,16 @@ put-two w d i a b l h =
     two : (i : ℕ) → suc (suc i) ≡ i + 2
     two i = omega arith
 
-module _ (sv st : List ℕ) (chosen : List Bool) (d : List ℕ) where
+module _ (sv st : List ℕ) (chosen : List Bool) (from : ℕ) (d : List ℕ) where
   abbrev pub es : ℕ → List ℕ
   es e = edgesIn e (flag chosen)
 
   -- the front after the edges below e
   abbrev pub front : ℕ → List ℕ
-  front e = take 1 d ++ pairsOf sv st (es e)
+  front e = take from d ++ pairsOf sv st (es e)
 
-  front-length : (e : ℕ) → 1 ≤ length d → length (front e) ≡ 2 * length (es e) + 1
-  front-length e h = omega (arith, length-append (take 1 d) (pairsOf sv st (es e)), length-take 1 d, pairs-length sv st (es e))
+  front-length : (e : ℕ) → from ≤ length d → length (front e) ≡ 2 * length (es e) + from
+  front-length e h = omega (arith, length-append (take from d) (pairsOf sv st (es e)), length-take from d, pairs-length sv st (es e))
 
   es-not : (e : ℕ) → flag chosen e ≡ false → es (e + 1) ≡ es e
   es-not e q = ap es (add-one e) ∙ keep-last (flag chosen) e ∙ ap (λ b. es e ++ cond b (e ∷ []) []) q ∙ append-nil (es e)
@@ -53,36 +53,30 @@ module _ (sv st : List ℕ) (chosen : List Bool) (d : List ℕ) where
   es-one : (e : ℕ) → flag chosen e ≡ true → es (e + 1) ≡ es e ++ e ∷ []
   es-one e q = ap es (add-one e) ∙ keep-last (flag chosen) e ∙ ap (λ b. es e ++ cond b (e ∷ []) []) q
 
-  -- no more below e than below m
-  pub es-few : (e m : ℕ) → e ≤ m → length (es e) ≤ length (es m)
-  es-few e m h = omega (arith, ap length (ap es (split e m h) ∙ ap (keep (flag chosen)) (range-add 0 e (m - e)) ∙ keep-append (flag chosen) (range 0 e) (range (0 + e) (m - e))), length-append (es e) (keep (flag chosen) (range (0 + e) (m - e))))
-    where
-      split : (e m : ℕ) → e ≤ m → m ≡ e + (m - e)
-      split e m h = omega arith
+  module _ (e k : ℕ) (o : List ℕ) (count : k ≡ length (es e)) (so : o ≡ front e ++ drop (2 * k + from) d) where
+    pub turn-not : flag chosen e ≡ false → (k ≡ length (es (e + 1))) × (o ≡ front (e + 1) ++ drop (2 * k + from) d)
+    turn-not q = (count ∙ ap length (sym (es-not e q)), so ∙ ap (λ z. (take from d ++ pairsOf sv st z) ++ drop (2 * k + from) d) (sym (es-not e q)))
 
-  module _ (e k : ℕ) (o : List ℕ) (count : k ≡ length (es e)) (so : o ≡ front e ++ drop (2 * k + 1) d) where
-    pub turn-not : flag chosen e ≡ false → (k ≡ length (es (e + 1))) × (o ≡ front (e + 1) ++ drop (2 * k + 1) d)
-    turn-not q = (count ∙ ap length (sym (es-not e q)), so ∙ ap (λ z. (take 1 d ++ pairsOf sv st z) ++ drop (2 * k + 1) d) (sym (es-not e q)))
-
-    pub turn-one : flag chosen e ≡ true → 2 * k + 3 ≤ length d
-        → (k + 1 ≡ length (es (e + 1))) × (set (set o (2 * k + 1) (at sv e + 1)) (2 * k + 2) (at st e + 1) ≡ front (e + 1) ++ drop (2 * (k + 1) + 1) d)
+    pub turn-one : flag chosen e ≡ true → 2 * k + from + 2 ≤ length d
+        → (k + 1 ≡ length (es (e + 1))) × (set (set o (2 * k + from) (at sv e + 1)) (2 * k + from + 1) (at st e + 1) ≡ front (e + 1) ++ drop (2 * (k + 1) + from) d)
     turn-one q l = (
       omega (arith, ap length (es-one e q), length-append (es e) (e ∷ [])),
-      ap₂ (λ z n. set (set z (2 * k + 1) (at sv e + 1)) n (at st e + 1)) so (next k)
-          ∙ put-two (front e) d (2 * k + 1) (at sv e + 1) (at st e + 1) (front-length e (omega arith) ∙ ap (λ n. 2 * n + 1) (sym count)) (omega arith)
+      ap (λ z. set (set z (2 * k + from) (at sv e + 1)) (2 * k + from + 1) (at st e + 1)) so
+          ∙ put-two (front e) d (2 * k + from) (at sv e + 1) (at st e + 1) (front-length e (omega arith) ∙ ap (λ n. 2 * n + from) (sym count)) (omega arith)
           ∙ ap₂ (λ z n. z ++ drop n d) grown (after k),
     )
       where
-        next : (k : ℕ) → 2 * k + 2 ≡ 2 * k + 1 + 1
-        next k = omega arith
-
-        after : (k : ℕ) → 2 * k + 1 + 2 ≡ 2 * (k + 1) + 1
+        after : (k : ℕ) → 2 * k + from + 2 ≡ 2 * (k + 1) + from
         after k = omega arith
 
         grown : front e ++ (at sv e + 1) ∷ (at st e + 1) ∷ [] ≡ front (e + 1)
-        grown = append-assoc (take 1 d) (pairsOf sv st (es e)) ((at sv e + 1) ∷ (at st e + 1) ∷ [])
-            ∙ ap (λ z. take 1 d ++ z) (ap₂ (λ a b. pairsOf sv st (es e) ++ a ∷ b ∷ []) (add-one (at sv e)) (add-one (at st e))
+        grown = append-assoc (take from d) (pairsOf sv st (es e)) ((at sv e + 1) ∷ (at st e + 1) ∷ [])
+            ∙ ap (λ z. take from d ++ z) (ap₂ (λ a b. pairsOf sv st (es e) ++ a ∷ b ∷ []) (add-one (at sv e)) (add-one (at st e))
             ∙ sym (gather-append (λ e. suc (at sv e) ∷ suc (at st e) ∷ []) (es e) (e ∷ [])) ∙ ap (pairsOf sv st) (sym (es-one e q)))
+
+-- pairs written from the first place on
+pub pairs-onto : (sv st es d : List ℕ) → (take 0 d ++ pairsOf sv st es) ++ drop (2 * length es + 0) d ≡ onto (pairsOf sv st es) d
+pairs-onto sv st es d = ap (λ n. pairsOf sv st es ++ drop n d) (let e : 2 * length es + 0 ≡ length (pairsOf sv st es) = omega (arith, pairs-length sv st es) in e)
 
 -- the whole front: the count in the first place
 whole-front : (d : List ℕ) (ps : List ℕ) (k : ℕ) → 1 ≤ length d → length ps ≡ 2 * k → set ((take 1 d ++ ps) ++ drop (2 * k + 1) d) 0 k ≡ (k ∷ ps) ++ drop (length (k ∷ ps)) d
@@ -117,8 +111,9 @@ module _ (m : ℕ) (sv st : List ℕ) (chosen : List Bool) (before : List ℕ) w
       size k n l = omega arith
 
 -- an edge chosen below m: there is room for its pair
-pub room-for : (sv st : List ℕ) (chosen : List Bool) (d : List ℕ) (m e k : ℕ) → e < m → flag chosen e ≡ true → k ≡ length (edgesIn e (flag chosen)) → length (edgesIn m (flag chosen)) ≤ 64 → k + 1 ≤ 64
-room-for sv st chosen d m e k h q count few = omega (arith, es-few sv st chosen d (e + 1) m (omega arith), ap length (es-one sv st chosen d e q), length-append (edgesIn e (flag chosen)) (e ∷ []))
+pub room-for : (sv st : List ℕ) (chosen : List Bool) (from : ℕ) (d : List ℕ) (m e k : ℕ) → e < m → flag chosen e ≡ true → k ≡ length (edgesIn e (flag chosen))
+    → 2 * length (edgesIn m (flag chosen)) + from ≤ length d → 2 * k + from + 2 ≤ length d
+room-for sv st chosen from d m e k h q count few = omega (arith, keep-few (flag chosen) (e + 1) m (omega arith), ap length (es-one sv st chosen from d e q), length-append (edgesIn e (flag chosen)) (e ∷ []))
 
 pub not-yes : (b : Bool) → not b ≡ true → b ≡ false
 not-yes true q = sym q
@@ -129,5 +124,5 @@ not-no true q = refl
 not-no false q = sym q
 
 -- nothing written yet
-pub front-none : (d : List ℕ) → d ≡ (take 1 d ++ []) ++ drop (2 * 0 + 1) d
-front-none d = sym (take-append-drop 1 d) ∙ ap (λ z. z ++ drop 1 d) (sym (append-nil (take 1 d)))
+pub front-none : (from : ℕ) (d : List ℕ) → d ≡ (take from d ++ []) ++ drop (2 * 0 + from) d
+front-none from d = let z : from ≡ 2 * 0 + from = omega arith in sym (take-append-drop from d) ∙ ap₂ (λ l n. l ++ drop n d) (sym (append-nil (take from d))) z

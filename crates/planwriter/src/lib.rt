@@ -14,17 +14,18 @@ pub enum PlanWritten {
     Refused(u8),
 }
 
-// the pairs of the edges chosen, from the buffer's second place on; gives their number
+// the pairs of the edges chosen, from a place of the buffer on: the second one in a plan, the first one in a list of pairs; gives their number
 pub fn write_pairs(
     m: usize,
     sv: &[u8; 1024],
     st: &[u8; 1024],
     chosen: &[bool; 1024],
+    from: usize,
     out: &mut [u8],
 ) -> usize
-    requires { ⌜ (m ≤ 1024) × Low m (now sv) 32 × Low m (now st) 32 × (length (edgesIn m (flag (now chosen))) ≤ 64) × (129 ≤ length (now out)) ⌝ }
+    requires { ⌜ (m ≤ 1024) × Low m (now sv) 32 × Low m (now st) 32 × (from ≤ 1) × (2 * length (edgesIn m (flag (now chosen))) + from ≤ length (now out)) ⌝ }
     ensures { λ r. ⌜ r ≡ length (edgesIn m (flag (now (chosen .entry)))) ⌝ }
-    ensures { λ r. ⌜ now (out .exit) ≡ (take 1 (now (out .entry)) ++ pairsOf (now (sv .entry)) (now (st .entry)) (edgesIn m (flag (now (chosen .entry))))) ++ drop (2 * r + 1) (now (out .entry)) ⌝ }
+    ensures { λ r. ⌜ now (out .exit) ≡ (take from (now (out .entry)) ++ pairsOf (now (sv .entry)) (now (st .entry)) (edgesIn m (flag (now (chosen .entry))))) ++ drop (2 * r + from) (now (out .entry)) ⌝ }
 {
     let mut k: usize = 0;
     let mut e: usize = 0;
@@ -33,8 +34,8 @@ pub fn write_pairs(
             e += 1;
             continue;
         }
-        out[2 * k + 1] = sv[e] + 1;
-        out[2 * k + 2] = st[e] + 1;
+        out[2 * k + from] = sv[e] + 1;
+        out[2 * k + from + 1] = st[e] + 1;
         k += 1;
         e += 1;
     }
@@ -55,7 +56,7 @@ pub fn write_plan(
     if out.len() < 129 {
         return PlanWritten::Refused(15);
     }
-    let k = write_pairs(m, sv, st, chosen, &mut *out);
+    let k = write_pairs(m, sv, st, chosen, 1, &mut *out);
     out[0] = k as u8;
     PlanWritten::Wrote(2 * k + 1)
 }

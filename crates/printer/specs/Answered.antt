@@ -1,25 +1,30 @@
 -- What the printer writes.
 use Prim.Native.Nat.{ℕ, _+_}
 use native.Mathlib.Omega.{arith}
-use mathlib.Core.Path.{_≡_, ap, _∙_}
+use mathlib.Core.Path.{_≡_, refl, ap, _∙_, subst}
 use mathlib.Core.List.{List, [], _∷_, _++_, append-assoc}
 use lib.ListN.{length, drop}
 use Rattle.lists.specs.Keep.{gather}
 use Rattle.model.specs.Text.{text}
+use Rattle.model.specs.Refusal.{groupOf}
+use Rattle.model.specs.Reading.{Reading, accepted, turned}
+use Rattle.model.specs.Roster.{Roster}
+use Rattle.model.specs.Edges.{instanceOf}
 use Rattle.model.specs.Instance.{Instance}
 use Rattle.model.specs.Plans.{Plan}
 use Rattle.model.specs.Finder as F
 use Rattle.model.specs.Finder.{diaryOf}
 use Rattle.model.specs.Desk.{onto}
-use Rattle.model.specs.Printed.{number, line, diaryLine, ending, groupWord}
+use Rattle.model.specs.Printed.{number, line, diaryLine, ending, groupWord, answerText}
 use Rattle.refusal.specs.declared.Group.{Group}
-use Rattle.refusal.specs.Shown.{groupShown}
+use Rattle.refusal.specs.Shown.{groupShown, groupCase}
 use Rattle.answers.specs.declared.Found.{Found}
 use Rattle.answers.specs.declared.Found.the-variants.{Refused}
+use Rattle.answers.specs.Shown.{refused-shown, shows-found}
 use Rattle.text.specs.Appended.{Appended}
 use Rattle.endings.specs.Endings.{refusedText}
 use Rattle.printer.specs.Printable.{shownText}
-use Rattle.printer.specs.Handed.{Handed, handed-text}
+use Rattle.printer.specs.Handed.{Handed, HandedFor, handed-text}
 
 -- a text in a buffer's front, and its length
 pub record Wrote (x before : List ℕ) (n : ℕ) (after : List ℕ) : Type 0 where
@@ -50,3 +55,10 @@ answered {a} {flat} {left} {plan} {rival} w = record {
   found = λ R B G f h. wrote-as (handed-text f h) w;
   refused = λ k g e. wrote-as (ap (λ a. shownText a flat left plan rival) e ∙ refused-line k g) w;
 }
+
+-- ---- for a roster file: the model's text of its reading
+pub answered-text : (rivalOf : Instance → Plan → Plan) (blockingOf : Instance → Plan → ℕ) (x : Reading Roster) {a : Found} {flat left plan rival before after : List ℕ} {n : ℕ}
+    → HandedFor rivalOf blockingOf x a flat left plan rival → Answered a flat left plan rival before n after → Wrote (answerText x rivalOf) before n after
+answered-text rivalOf blockingOf (accepted r) h w = w .found rivalOf blockingOf (instanceOf r) (F.finderOf (instanceOf r) (rivalOf (instanceOf r))) h
+answered-text rivalOf blockingOf (turned k) {a} {before = before} {after = after} {n = n} h w =
+    subst (λ g. Wrote (line (text "refused" ∷ number k ∷ groupWord g ∷ [])) before n after) (refused-shown k) (w .refused k (groupCase (groupOf k)) (shows-found a h))

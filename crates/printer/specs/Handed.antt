@@ -6,13 +6,16 @@ use mathlib.Core.List.{List, [], _∷_, _++_, append-assoc}
 use lib.ListN.{length, length-map}
 use Rattle.lists.specs.Keep.{gather}
 use Rattle.model.specs.Text.{text}
+use Rattle.model.specs.Reading.{Reading, accepted, turned}
+use Rattle.model.specs.Roster.{Roster}
+use Rattle.model.specs.Edges.{instanceOf}
 use Rattle.model.specs.Instance.{Instance}
 use Rattle.model.specs.Plans.{Plan, on}
 use Rattle.model.specs.PlanFile.{edgesIn, pairList, planBytes}
 use Rattle.model.specs.Reduction.{stepsOf}
 use Rattle.model.specs.Finder as F
 use Rattle.model.specs.Finder.{recordOf, diaryOf}
-use Rattle.model.specs.Desk.{foundAnswer}
+use Rattle.model.specs.Desk.{refusal, foundAnswer}
 use Rattle.model.specs.Printed.{number, signed, line, diaryLine, counted, planLines, ending}
 use Rattle.board.specs.Diary.{written}
 use Rattle.answers.specs.declared.Found.{Found}
@@ -37,6 +40,11 @@ pub record Handed (rivalOf : Instance → Plan → Plan) (blockingOf : Instance 
   pub answer : foundShown a ≡ foundAnswer rivalOf blockingOf (length (stepsOf G)) f
   pub diary : (d : List ℕ) × (flat ≡ written (diaryOf G) d)
   pub pairs : Pairs G f left plan rival
+
+-- for a roster file as it is read: what the finder hands over for the roster, or the refusal
+abbrev pub HandedFor : (rivalOf : Instance → Plan → Plan) (blockingOf : Instance → Plan → ℕ) → Reading Roster → Found → (flat left plan rival : List ℕ) → Type 0
+HandedFor rivalOf blockingOf (accepted r) a flat left plan rival = Handed rivalOf blockingOf (instanceOf r) (F.finderOf (instanceOf r) (rivalOf (instanceOf r))) a flat left plan rival
+HandedFor rivalOf blockingOf (turned n) a flat left plan rival = foundShown a ≡ refusal n
 
 -- ---- its text
 -- a word and a count as one line

@@ -1,3 +1,5 @@
 pub mod Printable
 pub mod Handed
 pub mod Answered
+pub mod Sizes
+pub mod Rosters

@@ -8,7 +8,7 @@ use lib.ListN.{length, set}
 use lib.Seq.{getD-set-same, getD-set-other}
 use lib.Dec.{ltb, eqb}
 use borrow.Author.Tests.{lt-ltb}
-use Rattle.lists.specs.Test.{bit, by-eq, eqb-sym}
+use Rattle.lists.specs.Test.{bit, by-eq}
 use Rattle.lists.specs.Sum.{occ}
 use Rattle.arrays.specs.Shown.{flag}
 

@@ -1,6 +1,6 @@
 // The walk that a search found, read back: the edges of the plan that go and the edges that come are marked, arc by arc.
 ghost use mathlib.Core.Path.{_≡_};
-ghost use Prim.Native.Nat.{ℕ, _≤_, _<_};
+ghost use Prim.Native.Nat.{_≤_, _<_};
 ghost use Rattle.walks.specs.Arcs.{fs, zs};
 ghost use Rattle.grid.specs.Filled.{Low};
 ghost use Rattle.layers.specs.Layers.{Small};

@@ -9,11 +9,11 @@ use mathlib.Core.Logic.{_⊎_, inl, inr, by-cases}
 use mathlib.Core.Bool.{Bool, true, false, not, _&&_, _||_, and-true, or-false, or-assoc}
 use mathlib.Core.List.{List, [], _∷_, map, List·Memᴰ·head, List·Memᴰ·tail, List·Memᴰ·not-nil, Memᴰ·of-map}
 use lib.ListN.{length, length-map}
-use lib.Dec.{T, ltb, eqb, ltb→lt, nltb→le, eqb-refl, T-not, not-T}
+use lib.Dec.{T, ltb, eqb, ltb→lt, nltb→le, eqb→eq, eqb-refl, T-not, not-T}
 use borrow.Author.Tests.{lt-ltb, le-ltb}
-use Rattle.lists.specs.Test.{given, and-l, and-r, and-nor, eq→eqb}
+use Rattle.lists.specs.Test.{given, and-l, and-r, and-nor, eq→eqb, T-false}
 use Rattle.lists.specs.Sum.{_∈_, count, count-sub-lt, count-≤}
-use Rattle.lists.specs.Keep.{any?}
+use Rattle.lists.specs.Keep.{any?, any-∈}
 use Rattle.lists.specs.Distinct.{Nodup, nodup-below}
 use Rattle.model.specs.Instance.{Instance}
 use Rattle.model.specs.Reduction.{State, Step, names, ruleOf, edgeOf, fateOf, fixes, act, next, begin, stepOf, stepsFrom, stateAfter, stepsOf, endOf}
@@ -159,3 +159,9 @@ module _ (G : Instance) where
   pub fixed-is : (e : ℕ) → endOf G .fixed e ≡ any? (λ s. fixes (s .fate) && eqb e (s .edge)) (stepsOf G)
   unfolding endOf stepsOf begin
   fixed-is e = fixed-after e (G .m) (begin G)
+
+  -- behind the edges nothing is fixed
+  pub fixed-behind : (e : ℕ) → G .m ≤ e → endOf G .fixed e ≡ false
+  fixed-behind e h = fixed-is e ∙ T-false (not-T (any? (λ s. fixes (s .fate) && eqb e (s .edge)) (stepsOf G)) (λ t.
+      given (any-∈ (λ s. fixes (s .fate) && eqb e (s .edge)) (stepsOf G) t) (λ (s, m, b).
+      absurd (omega (arith, steps-below s m, eqb→eq e (s .edge) (and-r (fixes (s .fate)) (eqb e (s .edge)) b))))))

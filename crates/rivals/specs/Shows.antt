@@ -1,6 +1,6 @@
 -- What the arrays of a plan and its roster show to the search: the plan's edges, their ends and ranks, room at the nodes, the two tables. And that the
--- search on them is the search of the instance that they show, and the verdict that of the search.
-use Prim.Native.Nat.{ℕ, _+_, _≤_, _<_, min, zero-le}
+-- search on them is the search of the instance that they show.
+use Prim.Native.Nat.{ℕ, _+_, _*_, _≤_, _<_, min, zero-le}
 use native.Mathlib.Omega.{arith}
 use mathlib.Core.Path.{_≡_, sym, ap, ap₂, _∙_, subst}
 use mathlib.Core.Bool.{Bool, false, not, _&&_}
@@ -13,15 +13,13 @@ use Rattle.lists.specs.Keep.{∈-keep}
 use Rattle.model.specs.Instance.{Instance, surveyors, stands}
 use Rattle.model.specs.PlanFile.{edgesIn}
 use Rattle.votes.specs.Score.{rate}
-use Rattle.search.specs.Search.{tip, arc, room?, search, search′}
+use Rattle.search.specs.Search.{tip, arc, room?, search}
 use Rattle.search.specs.Stop.{search-same}
 use Rattle.arrays.specs.Shown.{at, flag, shown}
 use Rattle.grid.specs.Filled.{Grid, Made, Low}
 use Rattle.grid.specs.Cheapest.{cheapest-cong, cheapest-≤, cheapest-reach}
 use Rattle.arcs.specs.Arcs.{joining, priceOf, arcPrice}
 use Rattle.gains.specs.Gains.{gainable, gainableBut, gainPrice, gainPriceBut}
-use Rattle.levels.specs.declared.Found.the-variants as found
-use Rattle.levels.specs.declared.Found.{Found}
 use Rattle.places.specs.Walks.{hitOf, searchAt, search-is}
 use Rattle.places.specs.Prices.{arc-is, tip-is, deg-places}
 
@@ -96,7 +94,7 @@ module _ (m ns nt : ℕ) (sv st rs rt : List ℕ) (tied : List Bool) (quotaS quo
   abbrev M : ℕ → Bool
   M = flag plan
 
-  arc-shown : (i j : ℕ) → i < n → j < n → arcCell m sv st rs rt plan ps pt qs qt i j ≡ arc G M 133 (at es i) (at es j) .0
+  pub arc-shown : (i j : ℕ) → i < n → j < n → arcCell m sv st rs rt plan ps pt qs qt i j ≡ arc G M 133 (at es i) (at es j) .0
   unfolding arcPrice
   arc-shown i j il jl = cheapest-cong (joining sv st plan (at pt i) (at ps j)) (λ f. not (M f) && (eqb (at st f) (at st (at es i)) && eqb (at sv f) (at sv (at es j))))
       (priceOf rs rt (at qt i) (at qs j)) (λ f. rate (at rt (at es i)) (at rt f) + rate (at rs (at es j)) (at rs f)) 133 0 m
@@ -104,13 +102,13 @@ module _ (m ns nt : ℕ) (sv st rs rt : List ℕ) (tied : List Bool) (quotaS quo
       (λ f p q. ap₂ (λ b a. rate b (at rt f) + rate a (at rs f)) (views .rt-at i il) (views .rs-at j jl))
       ∙ sym (arc-is G M (at es i) (at es j))
 
-  room-S : (f : ℕ) → f < m → flag roomS (at sv f) ≡ room? M (surveyors G) f
+  pub room-S : (f : ℕ) → f < m → flag roomS (at sv f) ≡ room? M (surveyors G) f
   room-S f h = roomyS (at sv f) (lowS f h) ∙ ap (λ c. ltb c (at quotaS (at sv f))) (counted ∙ sym (deg-places (surveyors G) M es n (at sv f) lists))
     where
       counted : count (λ j. eqb (at ps j) (at sv f)) n ≡ count (λ j. eqb (at sv (at es j)) (at sv f)) n
       counted = count-same (λ j. eqb (at ps j) (at sv f)) (λ j. eqb (at sv (at es j)) (at sv f)) n (λ j l. ap (λ s. eqb s (at sv f)) (views .sv-at j l))
 
-  room-T : (f : ℕ) → f < m → flag roomT (at st f) ≡ room? M (stands G) f
+  pub room-T : (f : ℕ) → f < m → flag roomT (at st f) ≡ room? M (stands G) f
   room-T f h = roomyT (at st f) (lowT f h) ∙ ap (λ c. ltb c (at quotaT (at st f))) (counted ∙ sym (deg-places (stands G) M es n (at st f) lists))
     where
       counted : count (λ j. eqb (at pt j) (at st f)) n ≡ count (λ j. eqb (at st (at es j)) (at st f)) n
@@ -119,7 +117,7 @@ module _ (m ns nt : ℕ) (sv st rs rt : List ℕ) (tied : List Bool) (quotaS quo
   pub free-shown : (f : ℕ) → f < m → freeAt sv st plan roomS roomT f ≡ not (M f) && (room? M (surveyors G) f && room? M (stands G) f)
   free-shown f h = ap₂ (λ a b. not (M f) && (a && b)) (room-S f h) (room-T f h)
 
-  tip-shown : (i j : ℕ) → i < n → j < n → tipCell m sv st rs rt plan roomS roomT ps pt qs qt i j ≡ tip G M (at es i) (at es j) .0
+  pub tip-shown : (i j : ℕ) → i < n → j < n → tipCell m sv st rs rt plan roomS roomT ps pt qs qt i j ≡ tip G M (at es i) (at es j) .0
   unfolding gainPrice gainPriceBut
   tip-shown i j il jl = ap₂ (λ a b. min (a + 3) b) (ap₂ min
       (cheapest-cong (gainableBut sv st plan roomT (at ps i) (at pt j)) (λ f. (not (M f) && (eqb (at sv f) (at sv x) && room? M (stands G) f)) && not (eqb (at st f) (at st y))) (λ f. rate (at qs i) (at rs f)) (λ f. rate (at rs x) (at rs f)) 3 0 m
@@ -144,26 +142,7 @@ module _ (m ns nt : ℕ) (sv st rs rt : List ℕ) (tied : List Bool) (quotaS quo
       y = at es j
 
   pub search-shown : (arcs tips : List ℕ) (k : ℕ) → Grid arcs n (arcCell m sv st rs rt plan ps pt qs qt) → Grid tips n (tipCell m sv st rs rt plan roomS roomT ps pt qs qt)
-      → hitOf G M es (searchAt m (freeAt sv st plan roomS roomT) arcs tips n k) ≡ search′ G M 133 k n
-  search-shown arcs tips k a t = search-is G M es n lists arcs tips (λ i j il jl. a i j il jl ∙ arc-shown i j il jl) (λ i j il jl. t i j il jl ∙ tip-shown i j il jl) k (freeAt sv st plan roomS roomT) free-shown
-
--- ---- both searches on the same tables
-abbrev pub Searched : (m : ℕ) (sv st rs rt : List ℕ) (plan : List Bool) (n : ℕ) (ps pt qs qt : List ℕ) (roomS roomT : List Bool) → Found → Found → Type 0
-Searched m sv st rs rt plan n ps pt qs qt roomS roomT below level = (arcs : List ℕ) × (tips : List ℕ) × Grid arcs n (arcCell m sv st rs rt plan ps pt qs qt) × Grid tips n (tipCell m sv st rs rt plan roomS roomT ps pt qs qt)
-    × (below ≡ searchAt m (freeAt sv st plan roomS roomT) arcs tips n 0) × (level ≡ searchAt m (freeAt sv st plan roomS roomT) arcs tips n 1)
-
--- what they find is what the search of the instance finds
-abbrev pub Hits : (m : ℕ) (sv st rs rt quotaS quotaT : List ℕ) (plan : List Bool) (n : ℕ) (es : List ℕ) → Found → Found → Type 0
-Hits m sv st rs rt quotaS quotaT plan n es below level = (ns nt : ℕ) (tied : List Bool)
-    → (hitOf (shown m ns nt sv st rs rt tied quotaS quotaT) (flag plan) es below ≡ search (shown m ns nt sv st rs rt tied quotaS quotaT) (flag plan) 133 0 n)
-    × (hitOf (shown m ns nt sv st rs rt tied quotaS quotaT) (flag plan) es level ≡ search (shown m ns nt sv st rs rt tied quotaS quotaT) (flag plan) 133 1 n)
-
-pub hits-shown : (m : ℕ) (sv st rs rt quotaS quotaT : List ℕ) (plan : List Bool) (n : ℕ) (es ps pt qs qt : List ℕ) (roomS roomT : List Bool) (below level : Found) → n ≤ 64
-    → Low m sv 32 → Low m st 32 → Lists m plan n es → Views n es sv st rs rt ps pt qs qt → Roomy n ps quotaS roomS → Roomy n pt quotaT roomT
-    → Searched m sv st rs rt plan n ps pt qs qt roomS roomT below level → Hits m sv st rs rt quotaS quotaT plan n es below level
-hits-shown m sv st rs rt quotaS quotaT plan n es ps pt qs qt roomS roomT below level fits lowS lowT lists views roomyS roomyT (arcs, tips, a, t, b, l) ns nt tied = (
-  ap (hitOf (shown m ns nt sv st rs rt tied quotaS quotaT) (flag plan) es) b ∙ search-shown m ns nt sv st rs rt tied quotaS quotaT plan n es ps pt qs qt roomS roomT lowS lowT lists views roomyS roomyT arcs tips 0 a t
-      ∙ search-same (shown m ns nt sv st rs rt tied quotaS quotaT) (flag plan) 133 0 n (omega arith),
-  ap (hitOf (shown m ns nt sv st rs rt tied quotaS quotaT) (flag plan) es) l ∙ search-shown m ns nt sv st rs rt tied quotaS quotaT plan n es ps pt qs qt roomS roomT lowS lowT lists views roomyS roomyT arcs tips 1 a t
-      ∙ search-same (shown m ns nt sv st rs rt tied quotaS quotaT) (flag plan) 133 1 n (omega arith),
-)
+      → 2 * n + 4 + k ≤ 133 → hitOf G M es (searchAt m (freeAt sv st plan roomS roomT) arcs tips n k) ≡ search G M 133 k n
+  search-shown arcs tips k a t h =
+      search-is G M es n lists arcs tips (λ i j il jl. a i j il jl ∙ arc-shown i j il jl) (λ i j il jl. t i j il jl ∙ tip-shown i j il jl) k (freeAt sv st plan roomS roomT) free-shown
+      ∙ search-same G M 133 k n h

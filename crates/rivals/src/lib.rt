@@ -1,11 +1,13 @@
-// The search for a rival of a plan: the two tables, then the search below 0 and the search below 1 on them.
+// The search for a rival of a plan: the table of the ends, then on it and on the table of the arcs the search below 0, and the search below 1 if that one
+// finds nothing.
 ghost use mathlib.Core.Path.{_≡_};
 ghost use Prim.Native.Nat.{ℕ, _≤_, _<_};
-ghost use Rattle.grid.specs.Filled.{Low, Grid};
+ghost use Rattle.grid.specs.Filled.{Low, Grid, Rows};
 ghost use Rattle.layers.specs.Layers.{Small, Cheap};
 ghost use Rattle.levels.specs.Levels.{SmallEnds};
 ghost use Rattle.places.specs.Walks.{searchAt};
-ghost use Rattle.rivals.specs.Shows.{Lists, Views, Roomy, freeAt, tipCell, Searched, Hits};
+ghost use Rattle.rivals.specs.Shows.{freeAt, arcCell, tipCell};
+ghost use Rattle.rivals.specs.Hunt.{Hunted};
 
 // The table of the ends, from the ends and ranks of the plan's edges and the room at the nodes.
 pub fn tip_table(
@@ -60,14 +62,15 @@ pub fn search(
     levels::levels(n, arcs, ends, k)
 }
 
-// What is found below 0 and below 1.
-pub struct Pair {
-    pub below: levels::Found,
-    pub level: levels::Found,
+// What is found below 0, or below 1 if that is nothing.
+pub struct Hunt {
+    pub below: bool,
+    pub found: levels::Found,
 }
 
-// Both searches, from the ends and ranks of the plan's edges and the room at the nodes.
-pub fn both(
+// The search below 0, and the search below 1 if that one finds nothing, from the ends and ranks of the plan's edges, the room at the nodes and the
+// table of the arcs.
+pub fn hunted(
     m: usize,
     sv: &[u8; 1024],
     st: &[u8; 1024],
@@ -81,41 +84,24 @@ pub fn both(
     qt: &[u8; 64],
     fs: &[bool; 32],
     ft: &[bool; 32],
-) -> Pair
-    requires { ⌜ (m ≤ 1024) × (n ≤ 64) × Low m (now sv) 32 × Low m (now st) 32 ⌝ }
-    ensures { λ r. ⌜ Searched m (now (sv .entry)) (now (st .entry)) (now (rs .entry)) (now (rt .entry)) (now (plan .entry)) n (now (ps .entry)) (now (pt .entry)) (now (qs .entry)) (now (qt .entry)) (now (fs .entry)) (now (ft .entry)) (r .below) (r .level) ⌝ }
+    arcs: &[u8; 4096],
+) -> Hunt
+    requires { ⌜ (m ≤ 1024) × (n ≤ 64) × Low m (now sv) 32 × Low m (now st) 32 × Rows (now arcs) n (arcCell m (now sv) (now st) (now rs) (now rt) (now plan) (now ps) (now pt) (now qs) (now qt)) ⌝ }
+    ensures { λ r. ⌜ Hunted m (now (sv .entry)) (now (st .entry)) (now (rs .entry)) (now (rt .entry)) (now (plan .entry)) n (now (ps .entry)) (now (pt .entry)) (now (qs .entry)) (now (qt .entry)) (now (fs .entry)) (now (ft .entry)) (now (arcs .entry)) (r .below) (r .found) ⌝ }
 {
-    let arcs = arcs::arcs(m, sv, st, rs, rt, plan, n, ps, pt, qs, qt);
     let ends = tip_table(m, sv, st, rs, rt, plan, n, ps, pt, qs, qt, fs, ft);
-    let below = search(m, sv, st, plan, fs, ft, n, &arcs, &ends, 0);
-    let level = search(m, sv, st, plan, fs, ft, n, &arcs, &ends, 1);
-    Pair {
-        below: below,
-        level: level,
+    let first = search(m, sv, st, plan, fs, ft, n, arcs, &ends, 0);
+    match first {
+        levels::Found::Nothing => {
+            let second = search(m, sv, st, plan, fs, ft, n, arcs, &ends, 1);
+            Hunt {
+                below: false,
+                found: second,
+            }
+        }
+        _ => Hunt {
+            below: true,
+            found: first,
+        },
     }
-}
-
-// The same from the plan's list and the quotas.
-pub fn finds(
-    m: usize,
-    sv: &[u8; 1024],
-    st: &[u8; 1024],
-    rs: &[u8; 1024],
-    rt: &[u8; 1024],
-    bs: &[u8; 32],
-    bt: &[u8; 32],
-    plan: &[bool; 1024],
-    n: usize,
-    es: &[u16; 64],
-) -> Pair
-    requires { ⌜ (m ≤ 1024) × (n ≤ 64) × Low m (now sv) 32 × Low m (now st) 32 × Lists m (now plan) n (now es) ⌝ }
-    ensures { λ r. ⌜ Hits m (now (sv .entry)) (now (st .entry)) (now (rs .entry)) (now (rt .entry)) (now (bs .entry)) (now (bt .entry)) (now (plan .entry)) n (now (es .entry)) (r .below) (r .level) ⌝ }
-{
-    let ps = grid::gathered(n, es, sv);
-    let pt = grid::gathered(n, es, st);
-    let qs = grid::gathered(n, es, rs);
-    let qt = grid::gathered(n, es, rt);
-    let fs = rooms::rooms(n, &ps, bs);
-    let ft = rooms::rooms(n, &pt, bt);
-    both(m, sv, st, rs, rt, plan, n, &ps, &pt, &qs, &qt, &fs, &ft)
 }

@@ -1,5 +1,5 @@
 -- Votes in 16 bits: a vote below zero, and one that is not. Assumes nothing.
-use Prim.Native.Nat.{ℕ, suc, _+_, _-_, _<_, zero-le}
+use Prim.Native.Nat.{ℕ, suc, _+_, _-_, zero-le}
 use native.Mathlib.Omega.{arith}
 use native.Mathlib.Numerals.{add-one}
 use mathlib.Core.Path.{_≡_, refl, sym, ap, _∙_, subst}

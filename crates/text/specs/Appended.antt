@@ -1,6 +1,6 @@
 -- What a writer of text leaves in a buffer: the text from a place on, every other byte as it was, and the place behind the text. Texts
 -- that are written one after the other are one text.
-use Prim.Native.Nat.{ℕ, zero, suc, _+_, _≤_, _<_}
+use Prim.Native.Nat.{ℕ, _+_, _≤_, _<_}
 use native.Mathlib.Omega.{arith}
 use native.Mathlib.Numerals.{add-one}
 use mathlib.Core.Path.{_≡_, refl, sym, ap, ap₂, _∙_, subst}

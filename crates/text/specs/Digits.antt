@@ -30,6 +30,9 @@ digits-length (suc k) n = by-cases (decLt n 10)
     (λ h. rw (digits-last (suc k) n (omega arith) h) (omega arith))
     (λ h. let g : 10 ≤ n = omega arith in let e : suc k - 1 ≡ k = omega arith in rw (digits-more (suc k) n (omega arith) g, e) (simp length-append (omega (arith, digits-length k (n / 10)))))
 
--- a number and the byte behind it
-pub field-length : (n end : ℕ) → length (number n ++ end ∷ []) ≤ 5
+-- a number of four digits and the byte behind it
+abbrev pub fieldSize : ℕ
+fieldSize = 5
+
+pub field-length : (n end : ℕ) → length (number n ++ end ∷ []) ≤ fieldSize
 field-length n end = simp length-append (omega (arith, digits-length 4 n))

@@ -6,7 +6,8 @@ ghost use lib.ListN.{length};
 ghost use mathlib.Core.Path.{_≡_};
 ghost use Rattle.model.specs.Printed.{digits, number, signed};
 ghost use Rattle.text.specs.Appended.{Appended};
-ghost use Rattle.text.specs.Votes.{sizeOf};
+ghost use Rattle.text.specs.Digits.{fieldSize};
+ghost use Rattle.text.specs.Votes.{sizeOf, voteSize};
 
 pub fn put_byte(out: &mut [u8], at: usize, byte: u8) -> usize
     requires { ⌜ at < length (now out) ⌝ }
@@ -37,15 +38,15 @@ pub fn put_digits(out: &mut [u8], at: usize, places: usize, n: usize) -> usize
         return at;
     }
     if n < 10 {
-        return put_byte(out, at, 48 + (n as u8));
+        return put_byte(out, at, b'0' + (n as u8));
     }
     let next = put_digits(out, at, places - 1, n / 10);
-    put_byte(out, next, 48 + ((n % 10) as u8))
+    put_byte(out, next, b'0' + ((n % 10) as u8))
 }
 
 // a number and the byte behind it
 pub fn put_field(out: &mut [u8], at: usize, n: usize, end: u8) -> usize
-    requires { ⌜ at + 5 ≤ length (now out) ⌝ }
+    requires { ⌜ at + fieldSize ≤ length (now out) ⌝ }
     ensures { λ r. ⌜ Appended (now (out .entry)) at (number n ++ end ∷ []) (now (out .exit)) r ⌝ }
 {
     let next = put_digits(out, at, 4, n);
@@ -65,7 +66,7 @@ fn size(vote: i16) -> usize
 
 // a vote, with a minus sign below zero, and byte 10
 pub fn put_vote(out: &mut [u8], at: usize, vote: i16) -> usize
-    requires { ⌜ at + 6 ≤ length (now out) ⌝ }
+    requires { ⌜ at + voteSize ≤ length (now out) ⌝ }
     ensures { λ r. ⌜ Appended (now (out .entry)) at (signed vote ++ 10 ∷ []) (now (out .exit)) r ⌝ }
 {
     let n = size(vote);

@@ -1,6 +1,6 @@
 // The start and the end of a walk, with the edges that are gained there: the first cheapest two of all that are apart.
 ghost use mathlib.Core.Path.{_≡_};
-ghost use Prim.Native.Nat.{ℕ, _≤_, _<_};
+ghost use Prim.Native.Nat.{_≤_, _<_};
 ghost use Rattle.walks.specs.Ends.{lose};
 ghost use Rattle.search.specs.Search.{endPrice};
 ghost use Rattle.arrays.specs.Shown.{at};

@@ -10,7 +10,8 @@ use mir.ValLaws.{toZ-ofZ}
 use Rattle.model.specs.Text.{text}
 use Rattle.model.specs.Printed.{signed}
 use Rattle.text.specs.Appended.{append-as, append-then}
-use Rattle.endings.specs.Room.{vote-length, plan-length}
+use Rattle.text.specs.Votes.{vote-length}
+use Rattle.endings.specs.Room.{plan-length}
 use borrow.Author.Needs.{needs}
 use Rattle.endings.proofs.put_rivalled.Statement.{statement}
 use Rattle.endings.proofs.put_rivalled.Tie as tie

@@ -6,7 +6,9 @@ use native.Mathlib.Omega.{arith}
 use lib.ListN.{length, length-replicate, length-set}
 use lib.Dec.{eqb}
 use Rattle.arrays.specs.Shown.{at}
-use Rattle.instance.proofs.Laws.{Kept, kept-turn, kept-listed, byte-one}
+use Rattle.arrays.specs.Tally.{byte-≤}
+use Rattle.arrays.specs.Kept.{Kept, kept-turn}
+use Rattle.instance.proofs.Laws.{kept-listed}
 use borrow.Author.Needs.{needs}
 use Rattle.instance.proofs.listed_cells.Statement.{statement}
 use Rattle.instance.proofs.listed_cells.Tie as tie
@@ -49,7 +51,7 @@ cast-m c = search needs
 
 -- src/lib.rt:69:9
 add-m : tie.Need-add-m Inv-loop μ-loop
-add-m c = let l = c .before .before in let b = byte-one (not (eqb (at (l .before .args .table .now) (l .loop .c)) 0)) in omega arith
+add-m c = let l = c .before .before in let b = byte-≤ (not (eqb (at (l .before .args .table .now) (l .loop .c)) 0)) in omega arith
 
 -- src/lib.rt:70:9
 add-c : tie.Need-add-c Inv-loop μ-loop
@@ -64,7 +66,7 @@ loop-again : tie.Need-loop-again Inv-loop μ-loop
 loop-again c =
     let l = c .before .before in
     let a = l .before .args in
-    let b = byte-one (not (eqb (at (a .table .now) (l .loop .c)) 0)) in
+    let b = byte-≤ (not (eqb (at (a .table .now) (l .loop .c)) 0)) in
     (omega arith, omega arith, length-set (l .loop .cell) (l .loop .m) (l .loop .c) ∙ l .loop .inv .2, kept-turn (λ c. not (eqb (at (a .table .now) c) 0)) (l .loop .cell) (l .loop .m) (l .loop .c) (omega arith) (l .loop .inv .3))
 
 -- src/lib.rt:59:1

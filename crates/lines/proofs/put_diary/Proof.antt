@@ -5,7 +5,7 @@ use mathlib.Core.Path.{_≡_, refl, sym, ap}
 use lib.ListN.{length}
 use Rattle.text.specs.Appended.{Appended, append-as, append-none, append-then}
 use Rattle.lines.specs.Texts.{texts, texts-none, texts-more, texts-length}
-use Rattle.lines.specs.Lines.{recordAt, diaryAt, diary-length}
+use Rattle.lines.specs.Lines.{recordAt, diaryAt, diaryLineSize, diary-length}
 use Rattle.lines.proofs.put_diary.Statement.{statement}
 use Rattle.lines.proofs.put_diary.Tie as tie
 
@@ -46,7 +46,7 @@ put-record-requires : tie.Need-put-record-requires Inv-loop μ-loop
 put-record-requires c κs =
     let a = c .before .before .before .before .before .before .before .before .before .args in
     let l = c .before .before .before .before .before .before .loop in
-    omega (arith, l .inv .1 .place, texts-length (diaryAt (a .flat .now)) 22 (λ j. diary-length (recordAt (a .flat .now) j)) (l .i))
+    omega (arith, l .inv .1 .place, texts-length (diaryAt (a .flat .now)) diaryLineSize (λ j. diary-length (recordAt (a .flat .now) j)) (l .i))
 
 add-i : tie.Need-add-i Inv-loop μ-loop
 add-i c = omega arith

@@ -5,7 +5,7 @@ use mathlib.Core.Path.{_≡_, refl, sym, ap}
 use lib.ListN.{length, getD}
 use Rattle.text.specs.Appended.{Appended, append-as, append-none, append-then}
 use Rattle.lines.specs.Texts.{texts, texts-none, texts-more, texts-length}
-use Rattle.lines.specs.Lines.{pairAt, pair-length}
+use Rattle.lines.specs.Lines.{pairAt, pairLineSize, pair-length}
 use Rattle.lines.proofs.put_pairs.Statement.{statement}
 use Rattle.lines.proofs.put_pairs.Tie as tie
 
@@ -34,7 +34,7 @@ put-pair-requires : tie.Need-put-pair-requires Inv-loop μ-loop
 put-pair-requires c κs =
     let a = c .before .before .before .before .before .before .before .args in
     let l = c .before .before .before .before .loop in
-    omega (arith, l .inv .1 .place, texts-length (pairAt (a .pairs .now)) 10 (λ j. pair-length (getD (a .pairs .now) (2 * j) 0) (getD (a .pairs .now) (2 * j + 1) 0)) (l .i))
+    omega (arith, l .inv .1 .place, texts-length (pairAt (a .pairs .now)) pairLineSize (λ j. pair-length (getD (a .pairs .now) (2 * j) 0) (getD (a .pairs .now) (2 * j + 1) 0)) (l .i))
 
 add-i : tie.Need-add-i Inv-loop μ-loop
 add-i c = omega arith

@@ -14,22 +14,22 @@ use Rattle.planwriter.proofs.write_pairs.Reads as reads
 use Rattle.planwriter.proofs.write_pairs.Lts as lts
 
 abbrev Inv-loop : tie.InvT-loop
-Inv-loop m sv st chosen out₀ k₀ e₀ out k e = (e ≤ m) × ((k ≡ length (edgesIn e (flag chosen))) × (out ≡ (take 1 out₀ ++ pairsOf sv st (edgesIn e (flag chosen))) ++ drop (2 * k + 1) out₀)) × (length out ≡ length out₀)
+Inv-loop m sv st chosen from out₀ k₀ e₀ out k e = (e ≤ m) × ((k ≡ length (edgesIn e (flag chosen))) × (out ≡ (take from out₀ ++ pairsOf sv st (edgesIn e (flag chosen))) ++ drop (2 * k + from) out₀)) × (length out ≡ length out₀)
 
 abbrev μ-loop : tie.MeasureT-loop
-μ-loop m sv st chosen out₀ k₀ e₀ out k e = m - e
+μ-loop m sv st chosen from out₀ k₀ e₀ out k e = m - e
 
 -- the edge is chosen, and there is room for its pair
-room : (c : tie.Else1 Inv-loop μ-loop) → c .before .before .before .loop .k + 1 ≤ 64
+room : (c : tie.Else1 Inv-loop μ-loop) → 2 * c .before .before .before .loop .k + c .before .before .before .before .args .from + 2 ≤ length (c .before .before .before .before .args .out .now)
 room c =
     let l = c .before .before .before in
     let s = l .before in
     let a = s .args in
-    room-for (a .sv .now) (a .st .now) (a .chosen .now) (a .out .now) (a .m) (l .loop .e) (l .loop .k) (c .before .before .loop-test .taken) (not-no _ (c .if1 .left)) (l .loop .inv .1 .0) (s .pre .3)
+    room-for (a .sv .now) (a .st .now) (a .chosen .now) (a .from) (a .out .now) (a .m) (l .loop .e) (l .loop .k) (c .before .before .loop-test .taken) (not-no _ (c .if1 .left)) (l .loop .inv .1 .0) (s .pre .4)
 
 -- src/lib.rt:24:5
 loop-holds : tie.Need-loop-holds Inv-loop μ-loop
-loop-holds c = (zero-le, (refl, front-none (c .args .out .now)), refl)
+loop-holds c = (zero-le, (refl, front-none (c .args .from) (c .args .out .now)), refl)
 
 -- src/lib.rt:25:13
 element-copy-out-if1 : tie.Need-element-copy-out-if1 Inv-loop μ-loop
@@ -48,7 +48,7 @@ loop-again : tie.Need-loop-again Inv-loop μ-loop
 loop-again c =
     let l = c .before .before .before in
     let a = l .before .args in
-    (omega arith, turn-not (a .sv .now) (a .st .now) (a .chosen .now) (a .out .now) (l .loop .e) (l .loop .k) (l .loop .out) (l .loop .inv .1 .0) (l .loop .inv .1 .1) (not-yes _ (c .if1 .taken)), l .loop .inv .2)
+    (omega arith, turn-not (a .sv .now) (a .st .now) (a .chosen .now) (a .from) (a .out .now) (l .loop .e) (l .loop .k) (l .loop .out) (l .loop .inv .1 .0) (l .loop .inv .1 .1) (not-yes _ (c .if1 .taken)), l .loop .inv .2)
 
 -- src/lib.rt:29:26
 element-copy-out-out : tie.Need-element-copy-out-out Inv-loop μ-loop
@@ -87,6 +87,10 @@ add-out-4 : tie.Need-add-out-4 Inv-loop μ-loop
 add-out-4 c = omega (arith, room (c .before .before))
 
 -- src/lib.rt:30:9
+add-out-5 : tie.Need-add-out-5 Inv-loop μ-loop
+add-out-5 c = omega (arith, room (c .before .before))
+
+-- src/lib.rt:30:9
 slice-write-out-2 : tie.Need-slice-write-out-2 Inv-loop μ-loop
 slice-write-out-2 c = simp length-set (omega (arith, room (c .before .before)))
 
@@ -108,7 +112,7 @@ loop-again-2 c =
     let l = c .before .before .before .before .before in
     let a = l .before .args in (
       omega arith,
-      turn-one (a .sv .now) (a .st .now) (a .chosen .now) (a .out .now) (l .loop .e) (l .loop .k) (l .loop .out) (l .loop .inv .1 .0) (l .loop .inv .1 .1) (not-no _ (c .before .before .if1 .left)) (omega (arith, room (c .before .before))),
+      turn-one (a .sv .now) (a .st .now) (a .chosen .now) (a .from) (a .out .now) (l .loop .e) (l .loop .k) (l .loop .out) (l .loop .inv .1 .0) (l .loop .inv .1 .1) (not-no _ (c .before .before .if1 .left)) (omega (arith, room (c .before .before))),
       simp length-set (l .loop .inv .2),
     )
 
@@ -123,7 +127,7 @@ returns c =
     let a = l .before .args in
     let q : l .loop .e ≡ a .m = omega arith in (
       l .loop .inv .1 .0 ∙ ap (λ e. length (edgesIn e (flag (a .chosen .now)))) q,
-      l .loop .inv .1 .1 ∙ ap (λ e. (take 1 (a .out .now) ++ pairsOf (a .sv .now) (a .st .now) (edgesIn e (flag (a .chosen .now)))) ++ drop (2 * l .loop .k + 1) (a .out .now)) q,
+      l .loop .inv .1 .1 ∙ ap (λ e. (take (a .from) (a .out .now) ++ pairsOf (a .sv .now) (a .st .now) (edgesIn e (flag (a .chosen .now)))) ++ drop (2 * l .loop .k + a .from) (a .out .now)) q,
     )
 
 pub write-pairs-spec : {M : Type 1} → statement M
@@ -146,6 +150,7 @@ write-pairs-spec =
     add-out-3
     mul-out-2
     add-out-4
+    add-out-5
     slice-write-out-2
     add-k
     add-e-2

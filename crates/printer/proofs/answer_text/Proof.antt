@@ -5,6 +5,7 @@ use mathlib.Core.Path.{sym, ap, subst}
 use Rattle.model.specs.Text.{text}
 use Rattle.answers.specs.declared.Found.the-variants.{Plan, None}
 use Rattle.text.specs.Appended.{append-as, append-then}
+use Rattle.endings.specs.Endings.{noneText}
 use Rattle.printer.specs.Printable.{shownText, Printable, noted-length}
 use Rattle.printer.specs.Answered.{answered}
 use borrow.Author.Needs.{needs}
@@ -72,7 +73,7 @@ unfolding text
 returns-2 c =
     let s = c .before .before .before .before .before .before .before .before .before .before .before .before .before .before .before .before in
     let a = s .args in
-    answered (append-as (sym (ap (λ k. shownText k (a .flat .now) (a .left .now) (a .plan .now) (a .rival .now)) (c .before .before .before .before .before .before .before .before .before .answer2 .given .1))) (append-then (a .out .now) 0 zero-le (c .before .before .before .before .before .before .put-diary2 .ensures) (c .before .before .put-none .ensures)))
+    answered (append-as (sym (ap (λ k. shownText k (a .flat .now) (a .left .now) (a .plan .now) (a .rival .now)) (c .before .before .before .before .before .before .before .before .before .answer2 .given .1))) (append-then (a .out .now) 0 {y = noneText (c .before .before .before .before .before .before .before .before .before .answer2 .given .0 .1 .0) (a .left .now) (a .plan .now) (a .rival .now)} zero-le (c .before .before .before .before .before .before .put-diary2 .ensures) (c .before .before .put-none .ensures)))
 
 same-length-3 : tie.Need-same-length-3
 same-length-3 c = search needs

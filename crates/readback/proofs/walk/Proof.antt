@@ -1,19 +1,17 @@
 -- What is marked, and what the walk from c still names, are what the whole walk names.
-use mathlib.Core.Path.{_≡_, refl, sym, ap, _∙_, subst}
-use Prim.Native.Nat.{ℕ, _+_, _-_, _*_, _≤_, _<_, zero-le}
+use mathlib.Core.Path.{_≡_, refl, ap, _∙_}
+use Prim.Native.Nat.{_-_, _≤_, _<_}
 use native.Mathlib.Omega.{arith}
 use mathlib.Core.Bool.{true}
 use mathlib.Core.Logic.{⊎-elim}
-use lib.ListN.{length, set, length-set}
+use lib.ListN.{length, length-set}
 use borrow.Author.Needs.{needs}
 use Rattle.column.specs.Leads.{layer-small, lead-cong}
 use Rattle.readback.specs.Edges.{arcEdge}
 use Rattle.arrays.specs.Shown.{at}
 use Rattle.grid.specs.Filled.{cell}
 use Rattle.layers.specs.Layers.{layerAt}
-use Rattle.walks.specs.Arcs.{fs}
-use Rattle.readback.specs.Marks.{Marked}
-use Rattle.readback.specs.Walks.{ahead, walkAt, Read, read-on, read-stay, read-last}
+use Rattle.readback.specs.Walks.{ahead, Read, read-on, read-stay, read-last}
 use Rattle.readback.proofs.walk.Statement.{statement}
 use Rattle.readback.proofs.walk.Tie as tie
 

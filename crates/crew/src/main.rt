@@ -1,0 +1,11 @@
+// The program: reads a roster of at most 2,215 bytes from standard input and prints the finder's answer.
+use libc::STDIN_FILENO;
+use libc::STDOUT_FILENO;
+
+fn main() {
+    let mut input = [0u8; 2215];
+    let n = io::read_full(STDIN_FILENO, &mut input);
+    let mut out = [0u8; 32783];
+    let k = program::answer(&input[..n], &mut out);
+    io::write_all(STDOUT_FILENO, &out[..k]);
+}

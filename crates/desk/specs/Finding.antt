@@ -1,0 +1,194 @@
+-- What the find call promises: the model's reply, and for a roster held demand 3 in named parts; and how that follows from what the core says and
+-- the filled diary.
+use Prim.Native.Nat.{ℕ, _≤_, _<_}
+use native.Mathlib.Omega.{arith}
+use mathlib.Core.Path.{_≡_, refl, sym, ap, _∙_, subst}
+use mathlib.Core.Bool.{Bool, true, false, not, cond, _||_}
+use mathlib.Core.List.{List}
+use lib.ListN.{length, length-map, replicate}
+use lib.Dec.{T, ltb, nltb→le}
+use Rattle.model.specs.Limits.{planSize, diarySize, leftSize, entryLimit}
+use Rattle.model.specs.Reading.{Reading, accepted, turned}
+use Rattle.model.specs.Roster.{Roster}
+use Rattle.model.specs.RosterFile.{readRoster}
+use Rattle.model.specs.Edges.{instanceOf}
+use Rattle.model.specs.Instance.{Instance}
+use Rattle.model.specs.Plans.{Plan}
+use Rattle.model.specs.PlanFile.{readPlan}
+use Rattle.model.specs.Reduction.{stepsOf}
+use Rattle.model.specs.Finder as F
+use Rattle.model.specs.Finder.{recordOf, diaryOf, finderOf}
+use Rattle.model.specs.Desk.{Call, find, refused, lentShort, stateRefusal, rosterIn, deskAfter, foundAnswer, foundWritten, onto}
+use Rattle.search.specs.Rival.{rivalOf}
+use Rattle.blocking.specs.Blocking.{firstBlocking}
+use Rattle.reduction.specs.Course.{steps-few}
+use Rattle.diary.specs.declared.Step.{Step}
+use Rattle.diary.specs.Steps.{recordIn, recordsIn, stepsIn}
+use Rattle.diary.specs.Laws.{filled-diary, filled-none}
+use Rattle.answers.specs.declared.Found as code
+use Rattle.answers.specs.Shown.{foundShown, refused-shown}
+use Rattle.finder.specs.declared.Outcome.{Outcome}
+use Rattle.finder.specs.Promise as promise
+use Rattle.finder.specs.Promise.{Promise, leftAfter, planAfter, rivalAfter, answerFor, written-is, shown-is, promised, steps-are}
+use Rattle.finder.specs.Found as finds
+use Rattle.finder.specs.Found.{FindsFor, Refuses, short, OutcomeFor, Outcomes}
+use Rattle.desk.specs.declared.Desk.{Desk}
+use Rattle.desk.specs.declared.FindReply.{FindReply}
+use Rattle.desk.specs.declared.CoreReply.{CoreReply}
+use Rattle.desk.specs.Held.{rosterBytes, planBytes, heldPlan, held, heldOf, stateNumber}
+use Rattle.desk.specs.Replies.{Replied, answered, lentThen}
+use Rattle.desk.specs.Laws.{states, by-state, pass-answer, pass-lent}
+
+-- what the core hands back, as the finder's outcome
+abbrev pub outcomeIn : CoreReply → Outcome
+outcomeIn c = record { answer = c .reply .answer; flat = c .flat; steps = c .steps }
+
+pub record Done (d : Desk) (room : ℕ) (l p v : List ℕ) (c : CoreReply) (l′ p′ v′ : List ℕ) : Type 0 where
+  pub same : c .reply .desk ≡ d
+  pub outcome : Outcomes (rosterBytes d) room l p v (outcomeIn c) l′ p′ v′
+
+-- the call's promise
+pub record Finds (d : Desk) (s : List Step) (l p v : List ℕ) (r : FindReply) (s′ : List Step) (l′ p′ v′ : List ℕ) : Type 0 where
+  pub replied : Replied d (find (recordsIn s) l p v) (foundShown (r .answer)) (find (recordsIn s′) l′ p′ v′) (r .desk)
+  -- demand 3, whole, for the roster held and buffers of their sizes
+  pub demand3 : (R : Roster) → readRoster (rosterBytes d) ≡ accepted R → T (not (lentShort (find (recordsIn s) l p v))) → Promise R (r .answer) (recordsIn s) l p v (recordsIn s′) l′ p′ v′
+
+-- ---- the records fit
+fit : (room : ℕ) (l p v : List ℕ) (o : Outcome) (l′ p′ v′ : List ℕ) (x : Reading Roster) (b : Bool) → short room l p v ≡ b → OutcomeFor x b l p v o l′ p′ v′ → (o .steps ≤ diarySize) × (o .steps ≤ room)
+fit room l p v o l′ p′ v′ (turned n) b q k = (omega (arith, k .refuses .steps), omega (arith, k .refuses .steps))
+fit room l p v o l′ p′ v′ (accepted R) true q k = (omega (arith, k .refuses .steps), omega (arith, k .refuses .steps))
+fit room l p v o l′ p′ v′ (accepted R) false q (f, e) =
+    let G = instanceOf R in
+    let n : o .steps ≡ length (stepsOf G) = e ∙ ap promise.stepsIn (f .finds .wrote .answer) ∙ steps-are (length (stepsOf G)) (finderOf G (rivalOf G)) in
+    let h : diarySize ≤ room = nltb→le room diarySize (first (ltb room diarySize) (ltb (length l) leftSize || (ltb (length p) planSize || ltb (length v) planSize)) q) in
+    (omega (arith, steps-few G, f .few), omega (arith, steps-few G, f .few))
+  where
+    first : (a b : Bool) → a || b ≡ false → T (not a)
+    first true b e = subst T e tt
+    first false b e = tt
+
+pub within : (d : Desk) (room : ℕ) (l p v : List ℕ) (c : CoreReply) (l′ p′ v′ : List ℕ) → Done d room l p v c l′ p′ v′ → (c .steps ≤ 1024) × (c .steps ≤ room)
+within d room l p v c l′ p′ v′ D = fit room l p v (outcomeIn c) l′ p′ v′ (readRoster (rosterBytes d)) (short room l p v) refl (D .outcome)
+
+-- ---- the reply
+module _ (s : List Step) (l p v : List ℕ) where
+  abbrev call : Call
+  call = find (recordsIn s) l p v
+
+  short-is : short (length s) l p v ≡ lentShort call
+  short-is = ap (λ n. ltb n diarySize || (ltb (length l) leftSize || (ltb (length p) planSize || ltb (length v) planSize))) (sym (length-map s recordIn))
+
+  -- the state's refusal, by the roster's reading
+  abbrev stateAt : Reading Roster → Bool → ℕ
+  stateAt (turned n) b = 13
+  stateAt (accepted R) b = cond b 15 0
+
+  state-at : (x : Reading Roster) (plan : List ℕ) → stateAt x (lentShort call) ≡ stateNumber (held x plan) false (lentShort call)
+  state-at (turned n) plan = refl
+  state-at (accepted R) plan = go (readPlan (instanceOf R) plan)
+    where
+      go : (y : Reading Plan) → cond (lentShort call) 15 0 ≡ stateNumber (heldPlan R y) false (lentShort call)
+      go (accepted M) = refl
+      go (turned n) = refl
+
+  roster-in : (R : Roster) (plan : List ℕ) → rosterIn rivalOf firstBlocking (held (accepted R) plan) ≡ R
+  roster-in R plan = go (readPlan (instanceOf R) plan)
+    where
+      go : (y : Reading Plan) → rosterIn rivalOf firstBlocking (heldPlan R y) ≡ R
+      go (accepted M) = refl
+      go (turned n) = refl
+
+  module _ (d : Desk) (r : FindReply) (same : r .desk ≡ d) (flat : List ℕ) (s′ : List Step) (l′ p′ v′ : List ℕ) where
+    state-here : (x : Reading Roster) → readRoster (rosterBytes d) ≡ x → (b : Bool) → short (length s) l p v ≡ b → stateAt x b ≡ stateNumber (heldOf d) false (lentShort call)
+    unfolding heldOf
+    state-here x e b q = ap (stateAt x) (sym q ∙ short-is) ∙ state-at x (planBytes d) ∙ ap (λ y. stateNumber (held y (planBytes d)) false (lentShort call)) (sym e)
+
+    -- a refusal by 13 or 15
+    refused-reply : (n : ℕ) → 0 < n → n ≡ stateNumber (heldOf d) false (lentShort call) → (o : Outcome) → o .answer ≡ r .answer → finds.Kept n l p v o l′ p′ v′ → s′ ≡ s
+        → Replied d call (foundShown (r .answer)) (find (recordsIn s′) l′ p′ v′) (r .desk)
+    refused-reply n h e o a k q =
+        subst (λ z. Replied d call (foundShown (r .answer)) (find (recordsIn s′) l′ p′ v′) z) (sym same)
+        (subst (λ c. Replied d call (foundShown (r .answer)) c d) (λ i. find (recordsIn (sym q i)) (sym (k .left) i) (sym (k .plan) i) (sym (k .rival) i))
+        (by-state d call tt e h (ap foundShown (sym a ∙ k .refuses .answer) ∙ ap (refused n) (refused-shown n))))
+
+    -- what was found
+    module _ (R : Roster) (e : readRoster (rosterBytes d) ≡ accepted R) (f : FindsFor R (replicate 4096 0) l p v (r .answer) flat l′ p′ v′) (q : recordsIn s′ ≡ onto (diaryOf (instanceOf R)) (recordsIn s)) where
+      abbrev x : F.Found
+      x = finderOf (instanceOf R) (rivalOf (instanceOf R))
+
+      roster-here : rosterIn rivalOf firstBlocking (heldOf d) ≡ R
+      unfolding heldOf
+      roster-here = ap (λ y. rosterIn rivalOf firstBlocking (held y (planBytes d))) e ∙ roster-in R (planBytes d)
+
+      answer-here : foundShown (r .answer) ≡ foundAnswer rivalOf firstBlocking (length (stepsOf (instanceOf R))) x
+      answer-here = ap foundShown (f .finds .wrote .answer) ∙ shown-is rivalOf firstBlocking (length (stepsOf (instanceOf R))) x
+
+      lent-here : find (recordsIn s′) l′ p′ v′ ≡ foundWritten rivalOf firstBlocking (instanceOf R) x (recordsIn s) l p v
+      lent-here = (λ i. find (q i) (f .finds .wrote .left i) (f .finds .wrote .plan i) (f .finds .wrote .rival i)) ∙ sym (written-is rivalOf firstBlocking (instanceOf R) x (recordsIn s) l p v)
+
+      alike : heldOf d ≡ deskAfter (heldOf d) call
+      unfolding deskAfter
+      alike = refl
+
+      found-reply : 0 ≡ stateRefusal (heldOf d) call → Replied d call (foundShown (r .answer)) (find (recordsIn s′) l′ p′ v′) (r .desk)
+      found-reply z = record {
+        answer = answer-here ∙ ap (λ R. foundAnswer rivalOf firstBlocking (length (stepsOf (instanceOf R))) (finderOf (instanceOf R) (rivalOf (instanceOf R)))) (sym roster-here) ∙ pass-answer (heldOf d) call z;
+        lent = lent-here ∙ ap (λ R. foundWritten rivalOf firstBlocking (instanceOf R) (finderOf (instanceOf R) (rivalOf (instanceOf R))) (recordsIn s) l p v) (sym roster-here) ∙ pass-lent (heldOf d) call z;
+        desk = ap heldOf same ∙ alike;
+        stored = same;
+      }
+
+      promised-here : Promise R (r .answer) (recordsIn s) l p v (recordsIn s′) l′ p′ v′
+      promised-here =
+          subst (λ a. Promise R a (recordsIn s) l p v (recordsIn s′) l′ p′ v′) (sym (f .finds .wrote .answer))
+          (subst (λ z. Promise R (answerFor (length (stepsOf (instanceOf R))) x) (recordsIn s) l p v z l′ p′ v′) (sym q)
+          (subst (λ z. Promise R (answerFor (length (stepsOf (instanceOf R))) x) (recordsIn s) l p v (onto (diaryOf (instanceOf R)) (recordsIn s)) z p′ v′) (sym (f .finds .wrote .left))
+          (subst (λ z. Promise R (answerFor (length (stepsOf (instanceOf R))) x) (recordsIn s) l p v (onto (diaryOf (instanceOf R)) (recordsIn s)) (leftAfter (instanceOf R) x l) z v′) (sym (f .finds .wrote .plan))
+          (subst (λ z. Promise R (answerFor (length (stepsOf (instanceOf R))) x) (recordsIn s) l p v (onto (diaryOf (instanceOf R)) (recordsIn s)) (leftAfter (instanceOf R) x l) (planAfter (instanceOf R) x p) z) (sym (f .finds .wrote .rival))
+          (promised R (f .fitting) (recordsIn s) l p v)))))
+
+    -- the filled diary is the model's
+    diary-here : (R : Roster) (steps : ℕ) → FindsFor R (replicate 4096 0) l p v (r .answer) flat l′ p′ v′ → steps ≡ promise.stepsIn (r .answer) → s′ ≡ onto (stepsIn steps flat) s → recordsIn s′ ≡ onto (diaryOf (instanceOf R)) (recordsIn s)
+    unfolding diaryOf
+    diary-here R steps f n w = filled-diary (diaryOf (instanceOf R)) steps flat (replicate 4096 0) s s′ (f .finds .diary)
+        (n ∙ ap promise.stepsIn (f .finds .wrote .answer) ∙ steps-are (length (stepsOf (instanceOf R))) (finderOf (instanceOf R) (rivalOf (instanceOf R))) ∙ sym (length-map (stepsOf (instanceOf R)) (recordOf (instanceOf R)))) w
+
+    -- by the roster's reading and the buffers' sizes
+    abbrev Both : Type 0
+    Both = Replied d call (foundShown (r .answer)) (find (recordsIn s′) l′ p′ v′) (r .desk)
+        × ((R : Roster) → readRoster (rosterBytes d) ≡ accepted R → T (not (lentShort call)) → Promise R (r .answer) (recordsIn s) l p v (recordsIn s′) l′ p′ v′)
+
+    by-outcome : (x : Reading Roster) → readRoster (rosterBytes d) ≡ x → (b : Bool) → short (length s) l p v ≡ b → (steps : ℕ)
+        → OutcomeFor x b l p v (record { answer = r .answer; flat = flat; steps = steps }) l′ p′ v′ → s′ ≡ onto (stepsIn steps flat) s → Both
+    by-outcome (turned n) e b q steps k w = (
+      refused-reply 13 (omega arith) (state-here (turned n) e b q) (record { answer = r .answer; flat = flat; steps = steps }) refl k (filled-none steps flat s s′ (k .refuses .steps) w),
+      λ R a t. absurd (no-roster (sym e ∙ a)),
+    )
+      where
+        isTurned : Reading Roster → Bool
+        isTurned (accepted R) = false
+        isTurned (turned n) = true
+
+        no-roster : {n : ℕ} {R : Roster} → turned n ≡ accepted R → ⊥
+        no-roster z = subst (λ y. T (isTurned y)) z tt
+    by-outcome (accepted R) e true q steps k w = (
+      refused-reply 15 (omega arith) (state-here (accepted R) e true q) (record { answer = r .answer; flat = flat; steps = steps }) refl k (filled-none steps flat s s′ (k .refuses .steps) w),
+      λ R a t. absurd (subst (λ b. T (not b)) (sym short-is ∙ q) t),
+    )
+    by-outcome (accepted R) e false q steps (f, n) w = (
+      found-reply R e f (diary-here R steps f n w) (state-here (accepted R) e false q ∙ states (heldOf d) call tt),
+      λ R′ a t. subst (λ Q. Promise Q (r .answer) (recordsIn s) l p v (recordsIn s′) l′ p′ v′) (one (sym e ∙ a)) (promised-here R e f (diary-here R steps f n w)),
+    )
+      where
+        rosterOf : Roster → Reading Roster → Roster
+        rosterOf R (accepted Q) = Q
+        rosterOf R (turned n) = R
+
+        one : {Q R : Roster} → accepted Q ≡ accepted R → Q ≡ R
+        one {Q} z = ap (rosterOf Q) z
+
+pub found : (d : Desk) (s : List Step) (l p v : List ℕ) (c : CoreReply) (s′ : List Step) (l′ p′ v′ : List ℕ) → Done d (length s) l p v c l′ p′ v′ → s′ ≡ onto (stepsIn (c .steps) (c .flat)) s
+    → Finds d s l p v (c .reply) s′ l′ p′ v′
+found d s l p v c s′ l′ p′ v′ D w =
+    let (a, b) = by-outcome s l p v d (c .reply) (D .same) (c .flat) s′ l′ p′ v′ (readRoster (rosterBytes d)) refl (short (length s) l p v) refl (c .steps) (D .outcome) w in
+    record { replied = a; demand3 = b }

@@ -1,0 +1,102 @@
+-- finder::judged writes the candidate, weighs it and answers what was found of it. Assumes nothing.
+use mathlib.Core.Path.{sym, ap, _∙_}
+use mir.Syntax.{w16}
+use mir.ValLaws.{toZ-ofZ}
+use borrow.Author.Needs.{needs, sfits-of}
+use Rattle.answers.specs.declared.Found.the-variants as says
+use Rattle.answers.specs.declared.NoneKind.the-variants as kind
+use Rattle.finder.specs.Laws.{answerOn, wrote-judged, few-edges, plan-onto}
+use Rattle.finder.proofs.judged.Statement.{statement}
+use Rattle.finder.proofs.judged.Tie as tie
+
+list-edges-requires : tie.Need-list-edges-requires
+list-edges-requires c κs =
+    let b = c .before .before .before .before in
+    let L = b .pre .0 in
+    (L .edges, few-edges (b .args .g) L (b .args .fixed .now) (b .pre .1))
+
+write-plan-requires : tie.Need-write-plan-requires
+write-plan-requires c κs =
+    let b = c .before .before .before .before .before .before .before .before .before in
+    let L = b .pre .0 in
+    (L .edges, (λ e h. L .low-sv e), (λ e h. L .low-st e), few-edges (b .args .g) L (b .args .fixed .now) (b .pre .1))
+
+weigh-requires : tie.Need-weigh-requires
+weigh-requires c κs =
+    let b = c .before .before .before .before .before .before .before .before .before .before .before .before .before .before in
+    let l = c .before .before .before .before .before .before .before .before .before .list-edges .ensures in
+    (b .pre .0, b .pre .1, l .1, b .pre .3)
+
+enum-told : tie.Need-enum-told
+enum-told c = search needs
+
+enum-known-w : tie.Need-enum-known-w
+enum-known-w c = search needs
+
+enum-known-w-2 : tie.Need-enum-known-w-2
+enum-known-w-2 c = search needs
+
+same-length : tie.Need-same-length
+same-length c = search needs
+
+same-length-2 : tie.Need-same-length-2
+same-length-2 c = search needs
+
+returns : tie.Need-returns
+returns c =
+    let b = c .before .before .before .before .before .before .before .before .before .before .before .before .before .before .before .before .before .before .before in
+    let a = b .args in
+    let w = c .before .before .before .before .weigh in
+    λ M S l. wrote-judged _ M (a .steps) l (a .plan .now) (a .rival .now) _ _ (w .result) (w .ensures M S)
+    (plan-onto (a .g) (a .fixed .now) (a .plan .now) _ _ (b .pre .2) (c .before .before .before .before .before .before .before .before .before .write-plan .ensures) M (S .1))
+    (ap (answerOn (a .steps)) (sym (c .enum-told .given .1)))
+
+same-length-3 : tie.Need-same-length-3
+same-length-3 c = search needs
+
+same-length-4 : tie.Need-same-length-4
+same-length-4 c = search needs
+
+returns-2 : tie.Need-returns-2
+returns-2 c =
+    let b = c .before .before .before .before .before .before .before .before .before .before .before .before .before .before .before .before .before .before .before .before in
+    let a = b .args in
+    let w = c .before .before .before .before .before .weigh in
+    λ M S l. wrote-judged _ M (a .steps) l (a .plan .now) (a .rival .now) _ _ (w .result) (w .ensures M S)
+    (plan-onto (a .g) (a .fixed .now) (a .plan .now) _ _ (b .pre .2) (c .before .before .before .before .before .before .before .before .before .before .write-plan .ensures) M (S .1))
+    (ap (λ z. says.None (a .steps) (kind.Rivalled z)) (toZ-ofZ w16 (c .before .w .given .0 .0) (sfits-of (c .known-told .given .0 .1))) ∙ ap (answerOn (a .steps)) (sym (c .before .w .given .1)))
+
+same-length-5 : tie.Need-same-length-5
+same-length-5 c = search needs
+
+same-length-6 : tie.Need-same-length-6
+same-length-6 c = search needs
+
+returns-3 : tie.Need-returns-3
+returns-3 c =
+    let b = c .before .before .before .before .before .before .before .before .before .before .before .before .before .before .before .before .before .before .before .before in
+    let a = b .args in
+    let w = c .before .before .before .before .before .weigh in
+    λ M S l. wrote-judged _ M (a .steps) l (a .plan .now) (a .rival .now) _ _ (w .result) (w .ensures M S)
+    (plan-onto (a .g) (a .fixed .now) (a .plan .now) _ _ (b .pre .2) (c .before .before .before .before .before .before .before .before .before .before .write-plan .ensures) M (S .1))
+    (ap (λ z. says.None (a .steps) (kind.Rivalled z)) (toZ-ofZ w16 (c .before .w2 .given .0 .0) (sfits-of (c .known-told2 .given .0 .1))) ∙ ap (answerOn (a .steps)) (sym (c .before .w2 .given .1)))
+
+pub judged-spec : {M : Type 1} → statement M
+judged-spec =
+    tie.close
+    (tie.spec
+    list-edges-requires
+    write-plan-requires
+    weigh-requires
+    enum-told
+    enum-known-w
+    enum-known-w-2
+    same-length
+    same-length-2
+    returns
+    same-length-3
+    same-length-4
+    returns-2
+    same-length-5
+    same-length-6
+    returns-3)

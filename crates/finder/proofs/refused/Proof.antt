@@ -1,0 +1,16 @@
+-- finder::refused: a refusal with its number and its group, and no record. Assumes nothing.
+use mathlib.Core.Path.{refl, ap}
+use borrow.Author.Needs.{needs}
+use Rattle.refusal.specs.Shown.{shows-case}
+use Rattle.answers.specs.declared.Found.the-variants as says
+use Rattle.finder.proofs.refused.Statement.{statement}
+use Rattle.finder.proofs.refused.Tie as tie
+
+group-of-requires : tie.Need-group-of-requires
+group-of-requires c κs = search needs
+
+returns : tie.Need-returns
+returns c = record { answer = ap (says.Refused (c .before .args .number)) (shows-case (c .group-of .result) (c .group-of .ensures)); steps = refl }
+
+pub refused-spec : {M : Type 1} → statement M
+refused-spec = tie.close (tie.spec group-of-requires returns)

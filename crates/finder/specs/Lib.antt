@@ -1,0 +1,3 @@
+pub mod Promise
+pub mod Found
+pub mod Laws

@@ -1,0 +1,53 @@
+// The verdict on a plan of an accepted roster, with the vote against its rival and the rival's bytes.
+ghost use Prim.Native.Nat.{_≤_};
+ghost use lib.ListN.{length};
+ghost use Rattle.model.specs.Plans.{Plan};
+ghost use Rattle.model.specs.PlanFile.{edgesIn};
+ghost use Rattle.graph.specs.Lawful.{Matching};
+ghost use Rattle.arrays.specs.Shown.{flag};
+ghost use Rattle.instance.specs.Decoded.{shownBy};
+ghost use Rattle.instance.specs.Loaded.{Loaded};
+ghost use Rattle.rivals.specs.Shows.{Lists};
+ghost use Rattle.judging.specs.Weighing.{Shows, WeighedFor};
+ghost use Rattle.judging.specs.Laws.{Voted};
+use instance::Instance;
+use verdict::Judgement;
+
+// Strong; popular or beaten, with the vote against the rival.
+pub enum Weighed {
+    Strong,
+    Popular(i16),
+    Beaten(i16),
+}
+
+// The rival's bytes written to the buffer's front, and the vote of the plan against it.
+pub(crate) fn voted(g: Instance, plan: &[bool; 1024], rival: &[bool; 1024], out: &mut [u8]) -> i16
+    requires { ⌜ Loaded g × Matching (shownBy g) (flag (now plan)) × Matching (shownBy g) (flag (now rival)) × (length (edgesIn (g .m) (flag (now rival))) ≤ 64) × (129 ≤ length (now out)) ⌝ }
+    ensures { λ r. ⌜ Voted (shownBy g) (now (plan .entry)) (now (rival .entry)) (now (out .entry)) r (now (out .exit)) ⌝ }
+{
+    let sv = g.sv;
+    let st = g.st;
+    planwriter::write_plan(g.m, &sv, &st, rival, &mut *out);
+    poll::poll(g, plan, rival)
+}
+
+// A plan within the quotas, and the list of its edges.
+pub fn weigh(g: Instance, plan: &[bool; 1024], n: usize, es: &[u16; 64], out: &mut [u8]) -> Weighed
+    requires { ⌜ Loaded g × ((M : Plan) × Shows (shownBy g) (now plan) M) × Lists (g .m) (now plan) n (now es) × (129 ≤ length (now out)) ⌝ }
+    ensures { λ r. ⌜ WeighedFor (shownBy g) (now (plan .entry)) (now (out .entry)) r (now (out .exit)) ⌝ }
+{
+    let sv = g.sv;
+    let st = g.st;
+    let rs = g.rank_s;
+    let rt = g.rank_t;
+    let bs = g.quota_s;
+    let bt = g.quota_t;
+    let j = rival::judge(g.m, &sv, &st, &rs, &rt, &bs, &bt, plan, n, es);
+    let v = j.judgement;
+    let rival = j.rival;
+    match v {
+        Judgement::Strong => Weighed::Strong,
+        Judgement::Popular => Weighed::Popular(voted(g, plan, &rival, out)),
+        Judgement::Beaten => Weighed::Beaten(voted(g, plan, &rival, out)),
+    }
+}

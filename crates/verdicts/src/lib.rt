@@ -1,0 +1,69 @@
+// The call for the verdict on a plan file against a roster: strong, or popular or beaten with the vote against a rival, whose bytes are written. It takes the
+// bytes as they are, judges the buffer first, then the roster, then the plan, and asks nothing of its caller.
+ghost use mathlib.Core.Path.{_≡_};
+ghost use Prim.Native.Nat.{_≤_};
+ghost use lib.ListN.{length};
+ghost use Rattle.files.specs.Replies.{RosterAccepted};
+ghost use Rattle.verdicts.specs.Answers.{verdictCase, JudgedFor, VerdictGiven};
+use judging::Weighed;
+use plan::PlanAnswer;
+use refusal::Group;
+use roster::Answer;
+
+// "a buffer for a plan, candidate or rival needs 129 bytes"
+const PLAN_SIZE: usize = 129;
+
+// Strong; popular or beaten, with the vote of the plan against the rival that is written; or a refusal, with its number and its group.
+pub enum Verdict {
+    Strong,
+    Popular(i16),
+    Beaten(i16),
+    Refused(u8, Group),
+}
+
+pub(crate) fn case_of(w: Weighed) -> Verdict
+    ensures { λ r. ⌜ r ≡ verdictCase w ⌝ }
+{
+    match w {
+        Weighed::Strong => Verdict::Strong,
+        Weighed::Popular(v) => Verdict::Popular(v),
+        Weighed::Beaten(v) => Verdict::Beaten(v),
+    }
+}
+
+// A plan file against an accepted roster file.
+pub(crate) fn judged(roster: &[u8], file: &[u8], rival: &mut [u8]) -> Verdict
+    requires { ⌜ RosterAccepted (now roster) × (129 ≤ length (now rival)) ⌝ }
+    ensures { λ r. ⌜ JudgedFor (now (roster .entry)) (now (file .entry)) (now (rival .entry)) r (now (rival .exit)) ⌝ }
+{
+    let g = instance::instance_of(roster);
+    let sv = g.sv;
+    let st = g.st;
+    let qs = g.quota_s;
+    let qt = g.quota_t;
+    let read = plan::read_plan(g.m, &sv, &st, &qs, &qt, file);
+    let a = read.answer;
+    match a {
+        PlanAnswer::Refused(n) => Verdict::Refused(n, refusal::group_of(n)),
+        PlanAnswer::Accepted(n) => {
+            let chosen = read.chosen;
+            let edges = read.edges;
+            let w = judging::weigh(g, &chosen, n, &edges, rival);
+            case_of(w)
+        }
+    }
+}
+
+// "15 a lent buffer below its size" comes first, then what the roster meets when it is read, then what the plan meets; a refusal changes no byte.
+pub fn judge(roster: &[u8], file: &[u8], rival: &mut [u8]) -> Verdict
+    ensures { λ r. ⌜ VerdictGiven (now (roster .entry)) (now (file .entry)) (now (rival .entry)) r (now (rival .exit)) ⌝ }
+{
+    if rival.len() < PLAN_SIZE {
+        return Verdict::Refused(15, refusal::group_of(15));
+    }
+    let a = roster::read_roster(roster);
+    match a {
+        Answer::Refused(number, group) => Verdict::Refused(number, group),
+        Answer::Accepted => judged(roster, file, rival),
+    }
+}
