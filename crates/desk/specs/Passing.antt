@@ -45,7 +45,7 @@ pub not-0 : {A : Type 0} {n : ℕ} → 0 ≡ suc n → A
 not-0 e = absurd (let z : ⊥ = omega arith in z)
 
 -- the buffer is not short
-long : (short : Bool) → _≡_ {A = ℕ} 0 (cond short 15 0) → short ≡ false
+pub long : (short : Bool) → _≡_ {A = ℕ} 0 (cond short 15 0) → short ≡ false
 long true e = not-0 e
 long false e = refl
 
