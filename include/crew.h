@@ -42,6 +42,14 @@ struct crew_blocker {
     uint8_t stand;
 };
 
+/* a refusal, 0 for none; the verdict, 1 strong, 2 popular, 3 beaten, 0 on a refusal; and the vote of the plan against the rival that is
+   written, 0 where none is */
+struct crew_judged {
+    uint8_t refusal;
+    uint8_t verdict;
+    int16_t vote;
+};
+
 /* the group of a refusal: 1 form, 2 content, 3 plan, 4 desk */
 uint8_t crew_group(uint8_t number);
 
@@ -68,6 +76,11 @@ struct crew_compared crew_compare(const uint8_t *roster, size_t roster_len, cons
 
 /* a blocking pair of a plan file against a roster, which is judged first */
 struct crew_blocker crew_blocking(const uint8_t *roster, size_t roster_len, const uint8_t *file, size_t file_len);
+
+/* the verdict on a plan file against a roster. A plan that is not strong has a rival, whose bytes go to the front of rival, which has at
+   least CREW_PLAN_BYTES (else 15, before the roster is judged, and that before the plan); for a strong plan nothing is written */
+struct crew_judged crew_verdict(const uint8_t *roster, size_t roster_len, const uint8_t *file, size_t file_len, uint8_t *rival,
+                                size_t rival_len);
 
 #ifdef __cplusplus
 }

@@ -24,6 +24,13 @@ pub struct Blocker {
     pub stand: u8,
 }
 
+#[repr(C)]
+pub struct Judged {
+    pub refusal: u8,
+    pub verdict: u8,
+    pub vote: i16,
+}
+
 extern "C" {
     pub fn crew_group(number: u8) -> u8;
     pub fn crew_read_roster(file: *const u8, file_len: usize) -> u8;
@@ -67,4 +74,12 @@ extern "C" {
         file: *const u8,
         file_len: usize,
     ) -> Blocker;
+    pub fn crew_verdict(
+        roster: *const u8,
+        roster_len: usize,
+        file: *const u8,
+        file_len: usize,
+        rival: *mut u8,
+        rival_len: usize,
+    ) -> Judged;
 }
