@@ -1,3 +1,4 @@
 pub mod Outcomes
 pub mod Votes
+pub mod Weighing
 pub mod Desks

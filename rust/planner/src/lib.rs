@@ -12,10 +12,12 @@
 mod desk;
 mod ffi;
 mod refusal;
+mod verdict;
 mod votes;
 
 pub use desk::Desk;
 pub use refusal::{Group, Refusal};
+pub use verdict::{verdict, Verdict};
 pub use votes::{blocking, compare, Comparison, Votes, Winner};
 
 /// Bytes that a buffer for a roster needs, and one for a plan.
