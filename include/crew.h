@@ -15,6 +15,8 @@ extern "C" {
 #define CREW_ROSTER_BYTES 2214
 #define CREW_PLAN_BYTES 129
 #define CREW_PAIRS_BYTES 5120
+#define CREW_DIARY_RECORDS 1024
+#define CREW_LEFT_BYTES 2048
 
 /* a refusal, or 0 and the length written */
 struct crew_outcome {
@@ -80,6 +82,24 @@ struct crew_desk_blocker {
     struct crew_blocker blocker;
 };
 
+/* a step of the reduction: fate 1 fix, 2 strike; the numbers of the pair's surveyor and stand; the rule */
+struct crew_step {
+    uint8_t fate;
+    uint8_t surveyor;
+    uint8_t stand;
+    uint8_t rule;
+};
+
+/* what the finder answers: kind 1 a plan, 2 none with pairs left, 3 none with a rival, 4 a refusal; each number 0 where the answer has none */
+struct crew_desk_found {
+    struct crew_desk desk;
+    uint8_t kind;
+    uint8_t refusal;
+    int16_t vote; /* the candidate's vote against its rival, zero or below */
+    size_t steps; /* records in the diary */
+    size_t left;  /* pairs left, two bytes each */
+};
+
 /* the group of a refusal: 1 form, 2 content, 3 plan, 4 desk */
 uint8_t crew_group(uint8_t number);
 
@@ -135,6 +155,11 @@ struct crew_desk_compared crew_desk_compare(struct crew_desk desk, const uint8_t
 
 /* a blocking pair of the held plan */
 struct crew_desk_blocker crew_desk_blocking(struct crew_desk desk);
+
+/* the finder on the held roster: the steps go to the diary, of at least CREW_DIARY_RECORDS; kind 1 writes the strongly popular plan, kind 2 the
+   pairs left, kind 3 the candidate to plan and its rival; left has at least CREW_LEFT_BYTES, plan and rival CREW_PLAN_BYTES each */
+struct crew_desk_found crew_find(struct crew_desk desk, struct crew_step *diary, size_t diary_len, uint8_t *left, size_t left_len,
+                                 uint8_t *plan, size_t plan_len, uint8_t *rival, size_t rival_len);
 
 #ifdef __cplusplus
 }

@@ -2,3 +2,4 @@ pub mod Outcomes
 pub mod Votes
 pub mod Weighing
 pub mod Desks
+pub mod Finds

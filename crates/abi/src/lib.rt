@@ -1,6 +1,7 @@
 // The calls for C: numbers and byte slices in, numbers out, as include/crew.h declares them. A refusal is its number, 0 for none. On a
 // refusal no byte of a buffer changes; beyond what is written a buffer keeps its bytes.
 mod desks;
+mod finds;
 mod votes;
 mod weighing;
 

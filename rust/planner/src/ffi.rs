@@ -1,6 +1,7 @@
 //! The exported calls, as `include/crew.h` declares them.
 
 use crate::desk::Desk;
+use crate::find::Step;
 
 #[repr(C)]
 pub struct Outcome {
@@ -55,6 +56,16 @@ pub struct DeskCompared {
 pub struct DeskBlocker {
     pub desk: Desk,
     pub blocker: Blocker,
+}
+
+#[repr(C)]
+pub struct DeskFound {
+    pub desk: Desk,
+    pub kind: u8,
+    pub refusal: u8,
+    pub vote: i16,
+    pub steps: usize,
+    pub left: usize,
 }
 
 extern "C" {
@@ -121,4 +132,15 @@ extern "C" {
         second_len: usize,
     ) -> DeskCompared;
     pub fn crew_desk_blocking(desk: Desk) -> DeskBlocker;
+    pub fn crew_find(
+        desk: Desk,
+        diary: *mut Step,
+        diary_len: usize,
+        left: *mut u8,
+        left_len: usize,
+        plan: *mut u8,
+        plan_len: usize,
+        rival: *mut u8,
+        rival_len: usize,
+    ) -> DeskFound;
 }
