@@ -5,14 +5,14 @@ use mathlib.Core.List.{List}
 use lib.ListN.{length}
 use lib.IntN.{pos}
 use Rattle.model.specs.Compare as model
-use Rattle.model.specs.Desk.{Held, Call, Answer, refused, loaded, wrote, plan, none, strong, popular, beaten, votes, refusedPart, blockedBy, unblocked}
+use Rattle.model.specs.Desk.{Call, Answer, refused, loaded, wrote, plan, none, strong, popular, beaten, votes, refusedPart, blockedBy, unblocked}
 use Rattle.roster_writer.specs.declared.Written.{Written}
 use Rattle.roster_writer.specs.declared.Written.the-variants as written
 use Rattle.compare.specs.declared.Winner.{Winner}
 use Rattle.compare.specs.declared.Winner.the-variants as winner
 use Rattle.compare.specs.declared.Comparison.{Comparison}
 use Rattle.compare.specs.declared.Comparison.the-variants as comparison
-use Rattle.compare.specs.Parts.{shownWinner, partCase}
+use Rattle.compare.specs.Parts.{partCase}
 use Rattle.blocking_pairs.specs.declared.Blocked.{Blocked}
 use Rattle.blocking_pairs.specs.declared.Blocked.the-variants as blocked
 use Rattle.blocking_pairs.specs.Answers.{deskAnswer}

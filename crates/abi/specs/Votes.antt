@@ -1,19 +1,19 @@
 -- What the calls for C answer about votes: each case of the comparison and of the blocking pair as numbers.
 use Prim.Native.Nat.{ℕ, _-_}
-use mathlib.Core.Path.{_≡_, refl, sym, ap, _∙_}
+use mathlib.Core.Path.{_≡_, sym, ap, _∙_}
 use mathlib.Core.List.{List}
 use lib.ListN.{length, length-drop}
 use lib.IntN.{ℤ, pos}
 use Rattle.model.specs.Reading.{Reading}
 use Rattle.model.specs.Roster.{Roster}
 use Rattle.model.specs.Compare as model
-use Rattle.model.specs.Compare.{Part, winnerPart}
+use Rattle.model.specs.Compare.{Part}
 use Rattle.compare.specs.declared.Winner.{Winner}
 use Rattle.compare.specs.declared.Winner.the-variants as winner
 use Rattle.compare.specs.declared.Comparison.{Comparison}
 use Rattle.compare.specs.declared.Comparison.the-variants as comparison
 use Rattle.compare.specs.Answers.{comparisonReply}
-use Rattle.compare.specs.Parts.{shownWinner, partCase, partReply, part-is}
+use Rattle.compare.specs.Parts.{partCase, partReply, part-is}
 use Rattle.blocking_pairs.specs.declared.Blocked.{Blocked}
 use Rattle.blocking_pairs.specs.declared.Blocked.the-variants as blocked
 use Rattle.blocking_pairs.specs.Answers.{blockedReply}

@@ -19,7 +19,7 @@ use reference::tables::{Contest, Tables};
 
 /// The call under test, with the reference's verdict and a refusal as its number.
 fn verdict(roster: &[u8], plan: &[u8], rival: &mut [u8]) -> Result<Judged, u8> {
-    let answer = planner::judge(roster, plan, rival);
+    let answer = planner::verdict(roster, plan, rival);
     answer.map(calls::judged).map_err(|refusal| refusal.number)
 }
 
@@ -268,6 +268,29 @@ fn full_plans_of_the_longest_rosters() {
     tally.print();
     assert!(tally.strong >= 100);
     assert!(tally.popular.iter().sum::<usize>() >= 100);
+    assert!(tally.beaten.iter().sum::<usize>() >= 200);
+}
+
+#[test]
+fn a_beaten_plan_gives_way_to_its_rival() {
+    let mut random = Random::new(76);
+    let mut tally = Tally::default();
+    for _ in 0..8 {
+        let roster = random::roster(&mut random, &random::longest_shape(50, 20));
+        let mut plan = random::plan_of(&mut random, &roster, 64);
+        for _ in 0..300 {
+            check_large(&mut random, &mut tally, &roster, &plan);
+            let mut rival = [0; MAX_PLAN_BYTES];
+            let file = plan::write(&roster, &plan);
+            let Ok(Judged::Beaten(_)) = verdict(&roster::write(&roster), &file, &mut rival) else {
+                break;
+            };
+            let length = 1 + 2 * usize::from(rival[0]);
+            plan = plan::read(&roster, &rival[..length]).expect("a plan");
+        }
+        tally.rosters += 1;
+    }
+    tally.print();
     assert!(tally.beaten.iter().sum::<usize>() >= 200);
 }
 

@@ -5,13 +5,9 @@
 // Every test file compiles this module for itself and uses its part of it.
 #![allow(dead_code)]
 
-#[cfg(feature = "verdict")]
-use planner::Verdict;
-use planner::{Refusal, Step};
+use planner::{Refusal, Step, Verdict};
 use reference::compare::{File, Part};
-#[cfg(feature = "verdict")]
-use reference::desk::Judged;
-use reference::desk::{Found, Lent, NoneKind, Record};
+use reference::desk::{Found, Judged, Lent, NoneKind, Record};
 
 pub struct Desk(planner::Desk);
 
@@ -23,7 +19,6 @@ fn number(refusal: Refusal) -> u8 {
 }
 
 /// A verdict as the reference tells it.
-#[cfg(feature = "verdict")]
 pub fn judged(verdict: Verdict) -> Judged {
     match verdict {
         Verdict::Strong => Judged::Strong,
@@ -106,7 +101,6 @@ impl Desk {
         (self, answer.map(found).map_err(number))
     }
 
-    #[cfg(feature = "verdict")]
     pub fn judge(self, rival: &mut [u8]) -> (Desk, Result<Judged, u8>) {
         let answer = self.0.judge(rival).map(judged).map_err(number);
         (self, answer)

@@ -5,11 +5,8 @@
 //! Run with `cargo run --release --offline --bin bench`.
 
 mod files;
-#[cfg(feature = "finder")]
 mod finder;
-#[cfg(feature = "finder")]
 mod stack;
-#[cfg(feature = "verdict")]
 mod verdict;
 mod votes;
 
@@ -44,14 +41,8 @@ fn main() {
     files::run();
     println!();
     votes::run();
-    #[cfg(feature = "verdict")]
-    {
-        println!();
-        verdict::run();
-    }
-    #[cfg(feature = "finder")]
-    {
-        println!();
-        finder::run();
-    }
+    println!();
+    verdict::run();
+    println!();
+    finder::run();
 }

@@ -69,7 +69,7 @@ pub fn run() {
             "{}",
             case.name
         );
-        let ours = planner::judge(&roster, &plan, &mut out).expect("accepted");
+        let ours = planner::verdict(&roster, &plan, &mut out).expect("accepted");
         let ours = match ours {
             planner::Verdict::Strong => "strong",
             planner::Verdict::Popular(_) => "popular",
@@ -79,7 +79,7 @@ pub fn run() {
         report(
             &format!("verdict on a 64-pair plan, {}: {}", case.verdict, case.name),
             time(20, || {
-                black_box(planner::judge(
+                black_box(planner::verdict(
                     black_box(&roster),
                     black_box(&plan),
                     &mut out,
