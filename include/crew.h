@@ -72,6 +72,11 @@ struct crew_desk_written {
     struct crew_outcome outcome;
 };
 
+struct crew_desk_judged {
+    struct crew_desk desk;
+    struct crew_judged judged;
+};
+
 struct crew_desk_compared {
     struct crew_desk desk;
     struct crew_compared compared;
@@ -148,6 +153,10 @@ struct crew_desk_written crew_desk_write_roster(struct crew_desk desk, uint8_t *
 
 /* writes the held plan to the front of out, which has at least CREW_PLAN_BYTES */
 struct crew_desk_written crew_desk_write_plan(struct crew_desk desk, uint8_t *out, size_t out_len);
+
+/* the verdict on the held plan. A plan that is not strong has a rival, whose bytes go to the front of rival, which has at least
+   CREW_PLAN_BYTES; for a strong plan nothing is written */
+struct crew_desk_judged crew_desk_judge(struct crew_desk desk, uint8_t *rival, size_t rival_len);
 
 /* two plan files against the held roster, the first one in full before the second */
 struct crew_desk_compared crew_desk_compare(struct crew_desk desk, const uint8_t *first, size_t first_len, const uint8_t *second,

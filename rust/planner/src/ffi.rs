@@ -47,6 +47,12 @@ pub struct DeskWritten {
 }
 
 #[repr(C)]
+pub struct DeskJudged {
+    pub desk: Desk,
+    pub judged: Judged,
+}
+
+#[repr(C)]
 pub struct DeskCompared {
     pub desk: Desk,
     pub compared: Compared,
@@ -124,6 +130,7 @@ extern "C" {
     pub fn crew_load_plan(desk: Desk, file: *const u8, file_len: usize) -> DeskLoaded;
     pub fn crew_desk_write_roster(desk: Desk, out: *mut u8, out_len: usize) -> DeskWritten;
     pub fn crew_desk_write_plan(desk: Desk, out: *mut u8, out_len: usize) -> DeskWritten;
+    pub fn crew_desk_judge(desk: Desk, rival: *mut u8, rival_len: usize) -> DeskJudged;
     pub fn crew_desk_compare(
         desk: Desk,
         first: *const u8,

@@ -12,11 +12,21 @@ pub enum Verdict {
     Beaten(i16),
 }
 
+/// The numbers of a verdict, in their words.
+pub(crate) fn judged(judged: &ffi::Judged) -> Result<Verdict, Refusal> {
+    refusal::check(judged.refusal)?;
+    Ok(match judged.verdict {
+        1 => Verdict::Strong,
+        2 => Verdict::Popular(judged.vote),
+        _ => Verdict::Beaten(judged.vote),
+    })
+}
+
 /// The verdict on a plan file. The plan of a rival is written to the front of
 /// `rival`; for a strong plan and on a refusal no byte changes. The buffer is
 /// judged first, then the roster, then the plan.
 pub fn verdict(roster: &[u8], plan: &[u8], rival: &mut [u8]) -> Result<Verdict, Refusal> {
-    let judged = unsafe {
+    judged(&unsafe {
         ffi::crew_verdict(
             roster.as_ptr(),
             roster.len(),
@@ -25,11 +35,5 @@ pub fn verdict(roster: &[u8], plan: &[u8], rival: &mut [u8]) -> Result<Verdict, 
             rival.as_mut_ptr(),
             rival.len(),
         )
-    };
-    refusal::check(judged.refusal)?;
-    Ok(match judged.verdict {
-        1 => Verdict::Strong,
-        2 => Verdict::Popular(judged.vote),
-        _ => Verdict::Beaten(judged.vote),
     })
 }
