@@ -1,8 +1,9 @@
 -- What the finder leaves in its buffers is what the printer asks for, and what the printer writes is the program's text.
 use Prim.Native.Nat.{ℕ, _*_, _≤_}
-use mathlib.Core.Path.{_≡_, refl, sym, ap, _∙_, subst}
+use native.Mathlib.Omega.{arith}
+use mathlib.Core.Path.{_≡_, sym, ap, _∙_, subst}
 use mathlib.Core.List.{List}
-use lib.ListN.{length, drop}
+use lib.ListN.{length, drop, length-append, length-drop}
 use lib.Dec.{T}
 use Rattle.model.specs.Limits.{planSize, diarySize, leftSize}
 use Rattle.model.specs.Reading.{accepted}
@@ -14,7 +15,8 @@ use Rattle.model.specs.PlanFile.{pairList, planBytes}
 use Rattle.model.specs.Reduction.{stepsOf}
 use Rattle.model.specs.Finder as F
 use Rattle.model.specs.Finder.{finderOf}
-use Rattle.model.specs.Desk.{refused}
+use Rattle.model.specs.Desk.{refused, onto}
+use Rattle.model.specs.Printed.{answerText}
 use Rattle.formats.specs.Reads.{isBytes}
 use Rattle.formats.specs.Rosters.{read-fits}
 use Rattle.search.specs.Rival.{rivalOf}
@@ -52,6 +54,9 @@ module _ (G : Instance) (l p v l′ p′ v′ : List ℕ) where
   }
 
 -- ---- printed
+onto-length : (x b : List ℕ) → length x ≤ length b → length (onto x b) ≡ length b
+onto-length x b h = omega (arith, length-append x (drop (length x) b), length-drop (length x) b)
+
 module _ (input : List ℕ) (isB : T (isBytes input)) where
   fit : (r : Roster) → readRoster input ≡ accepted r → T (fits r)
   fit r e = read-fits input r isB e
@@ -60,12 +65,14 @@ module _ (input : List ℕ) (isB : T (isBytes input)) where
     pub can-print : 4 * diarySize ≤ length flat → leftSize ≤ length left → planSize ≤ length plan → planSize ≤ length rival → Printable a flat left plan rival
     can-print d l p v = file-printable rivalOf firstBlocking allowed (readRoster input) fit a flat left plan rival d l p v h
 
-    pub prints : (before : List ℕ) (n : ℕ) (after : List ℕ) → Answered a flat left plan rival before n after → Prints input before n after
-    prints before n after w =
+    pub prints : (before : List ℕ) (n : ℕ) (after : List ℕ) → textSize ≤ length before → Answered a flat left plan rival before n after → Prints input before n after
+    prints before n after k w =
         let t = answered-text rivalOf firstBlocking (readRoster input) h w in
+        let few : length (answerText (readRoster input) rivalOf) ≤ textSize = answer-length rivalOf firstBlocking allowed (readRoster input) fit in
         record {
           text = subst (λ y. Wrote y before n after) (sym (printed-whole rivalOf input)) t;
-          room = subst (λ k. k ≤ textSize) (sym (t .size)) (answer-length rivalOf firstBlocking allowed (readRoster input) fit);
+          room = subst (λ k. k ≤ textSize) (sym (t .size)) few;
+          size = ap length (t .bytes) ∙ onto-length (answerText (readRoster input) rivalOf) before (omega arith);
         }
 
   -- what the finder hands over for an accepted roster

@@ -48,7 +48,7 @@ returns : tie.Need-returns
 returns c =
     let b = c .before .before .before .before .before .before .before .before .before .before .before in
     let isB = bytes-of (b .args .input .now) (λ k. c .before .before .before .before .before .before .before .before .before .before .shared-slice-known .given k) in
-    prints (b .args .input .now) isB _ _ _ _ _ (refused-handed (b .args .input .now) isB (sym (c .before .before .before .before .before .before .before .a .given .1) ∙ c .before .before .before .before .before .before .before .before .before .read-roster .ensures) _ _ _ _) _ _ _ (c .answer-text .ensures)
+    prints (b .args .input .now) isB _ _ _ _ _ (refused-handed (b .args .input .now) isB (sym (c .before .before .before .before .before .before .before .a .given .1) ∙ c .before .before .before .before .before .before .before .before .before .read-roster .ensures) _ _ _ _) _ _ _ (search needs) (c .answer-text .ensures)
 
 -- src/lib.rt:24:1
 returns-2 : tie.Need-returns-2

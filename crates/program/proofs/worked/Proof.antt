@@ -55,7 +55,7 @@ returns c =
     let b = c .before .before .before .before .before .before .before .before .before .before .before .before .before .before .before .before in
     let f = c .before .before .before .before .before .before .before .before .before .before .find in
     let isB = bytes-of (b .args .roster .now) (λ k. c .before .before .before .before .before .before .before .before .before .before .before .before .before .before .before .shared-slice-known .given k) in
-    prints (b .args .roster .now) isB (f .result) _ _ _ _ (found-handed (b .args .roster .now) isB (b .pre) _ _ _ _ (f .result) _ _ _ _ (f .ensures)) _ _ _ (c .answer-text .ensures)
+    prints (b .args .roster .now) isB (f .result) _ _ _ _ (found-handed (b .args .roster .now) isB (b .pre) _ _ _ _ (f .result) _ _ _ _ (f .ensures)) _ _ _ (search needs) (c .answer-text .ensures)
 
 pub worked-spec : {M : Type 1} → statement M
 worked-spec =
