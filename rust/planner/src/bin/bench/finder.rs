@@ -7,7 +7,7 @@ use std::time::Instant;
 use planner::{Desk, Step};
 use reference::fast::{self, finder::Ending};
 use reference::random::{self, Random};
-use reference::roster::{self, Roster};
+use reference::roster;
 
 use crate::stack;
 use crate::{heading, report, time};
@@ -88,43 +88,39 @@ fn ending(bytes: &[u8]) -> String {
     format!("{} steps, {kind}", answer.steps.len())
 }
 
-/// Rosters of the longest kind: many shapes, from all strict to all tied, from
-/// agreement to opposition.
-fn longest_rosters(random: &mut Random) -> Vec<Roster> {
-    let mut rosters = vec![
-        random::agreed(random, 0).0,
-        random::agreed(random, 16).0,
-        random::chained(random).0,
-    ];
+/// A roster's bytes, and what they are in words.
+type Named = (String, Vec<u8>);
+
+/// Random rosters of the longest kind: many shapes, from all strict to all
+/// tied, from agreement to opposition.
+fn random_rosters(random: &mut Random) -> Vec<Named> {
+    let mut rosters = Vec::new();
     for ties in [0, 30, 60, 100] {
         for opposed in [0, 30, 60, 100] {
-            for _ in 0..6 {
-                let shape = random::longest_shape(ties, opposed);
-                rosters.push(random::roster(random, &shape));
+            for _ in 0..20 {
+                let roster = random::roster(random, &random::longest_shape(ties, opposed));
+                let name = format!("{ties}% of stands tie, {opposed}% oppose");
+                rosters.push((name, roster::write(&roster)));
             }
         }
     }
     rosters
 }
 
-/// The roster on which the call takes longest, by one call each.
-fn slowest(rosters: &[Vec<u8>], buffers: &mut Buffers) -> usize {
-    let mut times = rosters.iter().map(|bytes| {
+/// The roster on which the call takes longest, by the best of three calls.
+fn slowest<'a>(rosters: &'a [Named], buffers: &mut Buffers) -> &'a Named {
+    let mut longest = |(_, bytes): &&Named| {
         let desk = loaded(bytes);
-        let once = || {
+        let mut once = || {
             let start = Instant::now();
             buffers.find(&desk);
             start.elapsed()
         };
-        std::iter::repeat_with(once).take(3).min()
-    });
-    let mut slowest = (0, times.next().expect("a roster"));
-    for (place, time) in times.enumerate() {
-        if time > slowest.1 {
-            slowest = (place + 1, time);
-        }
-    }
-    slowest.0
+        once().min(once()).min(once())
+    };
+    let timed = rosters.iter().map(|named| (longest(&named), named));
+    let slowest = timed.max_by_key(|&(time, _)| time);
+    slowest.expect("some rosters").1
 }
 
 fn measure(what: &str, bytes: &[u8], buffers: &mut Buffers) {
@@ -140,25 +136,26 @@ fn measure(what: &str, bytes: &[u8], buffers: &mut Buffers) {
 pub fn run() {
     let mut random = Random::new(10);
     let mut buffers = Buffers::new();
-    let rosters: Vec<Vec<u8>> = longest_rosters(&mut random)
-        .iter()
-        .map(roster::write)
-        .collect();
-    let slowest = slowest(&rosters, &mut buffers);
-    heading();
-    measure("all agree", &rosters[0], &mut buffers);
-    measure("all agree, all tied", &rosters[1], &mut buffers);
+    let agreed = random::agreed(&mut random, 0).0;
+    let tied = random::agreed(&mut random, 16).0;
+    let chained = random::chained(&mut random).0;
     let typical = random::roster(&mut random, &random::longest_shape(50, 20));
+    let random_rosters = random_rosters(&mut random);
+    let (name, slowest) = slowest(&random_rosters, &mut buffers);
+    heading();
+    measure("all agree", &roster::write(&agreed), &mut buffers);
+    measure("all agree, all tied", &roster::write(&tied), &mut buffers);
+    measure("long walks", &roster::write(&chained), &mut buffers);
     measure("typical", &roster::write(&typical), &mut buffers);
-    let opposed = random::roster(&mut random, &random::longest_shape(100, 100));
-    measure("opposed, all tied", &roster::write(&opposed), &mut buffers);
-    let what = format!("the slowest of {}", rosters.len());
-    measure(&what, &rosters[slowest], &mut buffers);
+    let what = format!("slowest of {} ({name})", random_rosters.len());
+    measure(&what, slowest, &mut buffers);
     println!();
-    let deepest = rosters.iter().map(|bytes| {
-        let desk = loaded(bytes);
+    let deepest = [agreed, tied, chained, typical].map(|roster| {
+        let desk = loaded(&roster::write(&roster));
         stack::depth(move || Buffers::new().find(&desk))
     });
-    let deepest = deepest.max().unwrap_or(0);
+    let slowest = loaded(slowest);
+    let slowest = stack::depth(move || Buffers::new().find(&slowest));
+    let deepest = deepest.into_iter().chain([slowest]).max().unwrap_or(0);
     println!("stack of a find call: {} KiB", deepest.div_ceil(1024));
 }
