@@ -7,6 +7,7 @@ use std::fs;
 use std::io::Write;
 use std::path::{Path, PathBuf};
 use std::process::{Command, Stdio};
+use std::sync::Once;
 
 use common::damage;
 use reference::finder::find_large;
@@ -22,13 +23,27 @@ fn root() -> PathBuf {
     Path::new(env!("CARGO_MANIFEST_DIR")).join("../..")
 }
 
+/// The program. If it is not there yet, it is built: that proves it once more.
+fn program() -> PathBuf {
+    static BUILT: Once = Once::new();
+    let program = root().join("target/bin/crew");
+    BUILT.call_once(|| {
+        if !program.exists() {
+            let mut check = Command::new("rt");
+            let built = check.args(["check", "crew"]).current_dir(root()).status();
+            assert!(built.is_ok_and(|status| status.success()), "rt check crew");
+        }
+    });
+    program
+}
+
 /// Runs the program on an input.
 fn run(input: &[u8]) -> Vec<u8> {
-    let mut child = Command::new(root().join("target/bin/crew"))
+    let mut child = Command::new(program())
         .stdin(Stdio::piped())
         .stdout(Stdio::piped())
         .spawn()
-        .expect("rt check crew makes the program");
+        .expect("the program starts");
     let mut stdin = child.stdin.take().expect("a pipe");
     // the program stops reading behind the longest roster
     let _ = stdin.write_all(input);
