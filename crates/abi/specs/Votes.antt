@@ -1,6 +1,6 @@
 -- What the calls for C answer about votes: each case of the comparison and of the blocking pair as numbers.
 use Prim.Native.Nat.{ℕ, _-_}
-use mathlib.Core.Path.{_≡_, refl, sym, ap, _∙_}
+use mathlib.Core.Path.{_≡_, sym, ap, _∙_}
 use mathlib.Core.List.{List}
 use lib.ListN.{length, length-drop}
 use lib.IntN.{ℤ, pos}

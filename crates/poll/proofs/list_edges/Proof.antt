@@ -1,5 +1,6 @@
--- finder::list_edges meets its contract: the edges chosen below e stand in the array's front. Assumes nothing.
-use mathlib.Core.Path.{_≡_, refl, sym, ap, _∙_}
+-- poll::list_edges meets its contract: the edges chosen below e stand in the array's front. Assumes nothing.
+use mathlib.Core.Path.{_≡_, refl, sym, _∙_}
+use mathlib.Core.Bool.{Bool, true, false, not}
 use Prim.Native.Nat.{ℕ, _+_, _-_, _≤_, zero-le}
 use native.Mathlib.Omega.{arith}
 use lib.ListN.{length, length-replicate, length-set}
@@ -7,10 +8,17 @@ use borrow.Author.Needs.{needs}
 use Rattle.model.specs.PlanFile.{edgesIn}
 use Rattle.arrays.specs.Shown.{flag}
 use Rattle.arrays.specs.Kept.{Kept, kept-yes, kept-no}
-use Rattle.planwriter.specs.Turns.{not-yes, not-no}
-use Rattle.finder.specs.Laws.{room-left, all-listed}
-use Rattle.finder.proofs.list_edges.Statement.{statement}
-use Rattle.finder.proofs.list_edges.Tie as tie
+use Rattle.poll.specs.Votable.{room-left, all-listed}
+use Rattle.poll.proofs.list_edges.Statement.{statement}
+use Rattle.poll.proofs.list_edges.Tie as tie
+
+not-yes : (b : Bool) → not b ≡ true → b ≡ false
+not-yes true q = sym q
+not-yes false q = refl
+
+not-no : (b : Bool) → not b ≡ false → b ≡ true
+not-no true q = refl
+not-no false q = sym q
 
 abbrev Inv-loop : tie.InvT-loop
 Inv-loop m chosen edges₀ n₀ e₀ edges n e = (e ≤ m) × (length edges ≡ 64) × Kept (flag chosen) edges n e
@@ -23,7 +31,7 @@ room : (c : tie.Else1 Inv-loop μ-loop) → c .before .before .before .loop .n +
 room c =
     let l = c .before .before .before in
     let a = l .before .args in
-    room-left (flag (a .chosen .now)) (l .loop .edges) (l .loop .n) (l .loop .e) (a .m) (l .loop .inv .2) (not-no _ (c .if1 .left)) (c .before .before .loop-test .taken) (l .before .pre .1)
+    room-left (a .chosen .now) (l .loop .edges) (l .loop .n) (l .loop .e) (a .m) (l .loop .inv .2) (not-no _ (c .if1 .left)) (c .before .before .loop-test .taken) (l .before .pre .1)
 
 loop-holds : tie.Need-loop-holds Inv-loop μ-loop
 loop-holds c = (zero-le, length-replicate {A = ℕ} 64 0, (refl, refl))
@@ -72,7 +80,7 @@ returns c =
     let l = c .before in
     let a = l .before .args in
     let q : l .loop .e ≡ a .m = omega arith in
-    all-listed (flag (a .chosen .now)) (l .loop .edges) (l .loop .n) (l .loop .e) (a .m) (l .loop .inv .2) q (l .loop .inv .1) (l .before .pre .1)
+    all-listed (a .chosen .now) (l .loop .edges) (l .loop .n) (l .loop .e) (a .m) (l .loop .inv .2) q (l .loop .inv .1) (l .before .pre .1)
 
 pub list-edges-spec : {M : Type 1} → statement M
 list-edges-spec =

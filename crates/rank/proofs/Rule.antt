@@ -1,5 +1,5 @@
 -- The rule of the whole table: the entry at k is the vote of rank k / 33 + 1 against rank k % 33 + 1. That the constants are this list is
--- computed once, where the proof of rank_vote meets them; here the rule is carried to each entry.
+-- computed once, where the proof of `table` meets them; here the rule is carried to each entry.
 use Prim.Native.Nat.{ℕ, zero, suc, _+_, _-_, _*_, _/_, _%_, _≤_, _<_}
 use native.Mathlib.Omega.{arith}
 use mathlib.Core.Path.{_≡_, refl, ap, _∙_}
