@@ -44,6 +44,14 @@ struct crew_blocker {
     uint8_t stand;
 };
 
+/* a refusal, 0 for none; the verdict, 1 strong, 2 popular, 3 beaten, 0 on a refusal; and the vote of the plan against the rival that is
+   written, 0 where none is */
+struct crew_judged {
+    uint8_t refusal;
+    uint8_t verdict;
+    int16_t vote;
+};
+
 /* The desk, document 01's session state: a roster file and a plan file at the front of their arrays. It goes into each call by value and
    comes back in the reply. What it holds is what its bytes are read to, so every value of its fields is a desk: a length above its array
    is the whole array, and bytes that are refused are not held. */
@@ -62,6 +70,11 @@ struct crew_desk_loaded {
 struct crew_desk_written {
     struct crew_desk desk;
     struct crew_outcome outcome;
+};
+
+struct crew_desk_judged {
+    struct crew_desk desk;
+    struct crew_judged judged;
 };
 
 struct crew_desk_compared {
@@ -119,6 +132,11 @@ struct crew_compared crew_compare(const uint8_t *roster, size_t roster_len, cons
 /* a blocking pair of a plan file against a roster, which is judged first */
 struct crew_blocker crew_blocking(const uint8_t *roster, size_t roster_len, const uint8_t *file, size_t file_len);
 
+/* the verdict on a plan file against a roster. A plan that is not strong has a rival, whose bytes go to the front of rival, which has at
+   least CREW_PLAN_BYTES (else 15, before the roster is judged, and that before the plan); for a strong plan nothing is written */
+struct crew_judged crew_verdict(const uint8_t *roster, size_t roster_len, const uint8_t *file, size_t file_len, uint8_t *rival,
+                                size_t rival_len);
+
 /* a desk with nothing loaded */
 struct crew_desk crew_open(void);
 
@@ -135,6 +153,10 @@ struct crew_desk_written crew_desk_write_roster(struct crew_desk desk, uint8_t *
 
 /* writes the held plan to the front of out, which has at least CREW_PLAN_BYTES */
 struct crew_desk_written crew_desk_write_plan(struct crew_desk desk, uint8_t *out, size_t out_len);
+
+/* the verdict on the held plan. A plan that is not strong has a rival, whose bytes go to the front of rival, which has at least
+   CREW_PLAN_BYTES; for a strong plan nothing is written */
+struct crew_desk_judged crew_desk_judge(struct crew_desk desk, uint8_t *rival, size_t rival_len);
 
 /* two plan files against the held roster, the first one in full before the second */
 struct crew_desk_compared crew_desk_compare(struct crew_desk desk, const uint8_t *first, size_t first_len, const uint8_t *second,

@@ -5,27 +5,31 @@ use mathlib.Core.List.{List}
 use lib.ListN.{length}
 use lib.IntN.{pos}
 use Rattle.model.specs.Compare as model
-use Rattle.model.specs.Desk.{Held, Call, Answer, refused, loaded, wrote, plan, none, strong, popular, beaten, votes, refusedPart, blockedBy, unblocked}
+use Rattle.model.specs.Desk.{Call, Answer, refused, loaded, wrote, plan, none, strong, popular, beaten, votes, refusedPart, blockedBy, unblocked}
 use Rattle.roster_writer.specs.declared.Written.{Written}
 use Rattle.roster_writer.specs.declared.Written.the-variants as written
 use Rattle.compare.specs.declared.Winner.{Winner}
 use Rattle.compare.specs.declared.Winner.the-variants as winner
 use Rattle.compare.specs.declared.Comparison.{Comparison}
 use Rattle.compare.specs.declared.Comparison.the-variants as comparison
-use Rattle.compare.specs.Parts.{shownWinner, partCase}
+use Rattle.compare.specs.Parts.{partCase}
 use Rattle.blocking_pairs.specs.declared.Blocked.{Blocked}
 use Rattle.blocking_pairs.specs.declared.Blocked.the-variants as blocked
 use Rattle.blocking_pairs.specs.Answers.{deskAnswer}
+use Rattle.verdicts.specs.declared.Verdict.{Verdict}
+use Rattle.verdicts.specs.declared.Verdict.the-variants as verdict
 use Rattle.desk.specs.declared.Desk.{Desk}
 use Rattle.desk.specs.declared.Loading.{Loading}
 use Rattle.desk.specs.declared.Loading.the-variants as loading
 use Rattle.desk.specs.Held.{heldOf}
-use Rattle.desk.specs.Replies.{loadShown, writtenShown, comparisonShown, answered, Replied}
+use Rattle.desk.specs.Replies.{loadShown, writtenShown, verdictShown, comparisonShown, answered, Replied}
 use Rattle.abi.specs.declared.Outcome.{Outcome}
 use Rattle.abi.specs.declared.votes.Compared.{Compared}
 use Rattle.abi.specs.declared.votes.Blocker.{Blocker}
+use Rattle.abi.specs.declared.weighing.Judged.{Judged}
 use Rattle.abi.specs.Outcomes.{outcomeOf}
 use Rattle.abi.specs.Votes.{fileNumber, comparedNumbers, blockerNumbers}
+use Rattle.abi.specs.Weighing.{judgedNumbers}
 
 abbrev pub refusalIn : Answer → ℕ
 refusalIn (refused n g) = n
@@ -58,6 +62,24 @@ lengthIn unblocked = 0
 
 abbrev pub outcomeIn : Answer → Outcome
 outcomeIn a = record { refusal = refusalIn a; length = lengthIn a }
+
+-- the verdict: 1 strong, 2 popular, 3 beaten; and the vote against the rival
+abbrev pub noVerdict : ℕ → Judged
+noVerdict n = record { refusal = n; verdict = 0; vote = pos 0 }
+
+abbrev pub judgedIn : Answer → Judged
+judgedIn (refused n g) = noVerdict n
+judgedIn loaded = noVerdict 0
+judgedIn (wrote n) = noVerdict 0
+judgedIn (plan n) = noVerdict 0
+judgedIn (none n k) = noVerdict 0
+judgedIn strong = record { refusal = 0; verdict = 1; vote = pos 0 }
+judgedIn (popular v) = record { refusal = 0; verdict = 2; vote = v }
+judgedIn (beaten v) = record { refusal = 0; verdict = 3; vote = v }
+judgedIn (votes v w x p) = noVerdict 0
+judgedIn (refusedPart n g p) = noVerdict n
+judgedIn (blockedBy s t) = noVerdict 0
+judgedIn unblocked = noVerdict 0
 
 -- both votes, the winner and the part, as numbers
 abbrev pub winnerCode : model.Winner → ℕ
@@ -134,6 +156,12 @@ load-number (loading.Refused n g) = refl
 pub written-numbers : (w : Written) → outcomeOf w ≡ outcomeIn (writtenShown w)
 written-numbers (written.Wrote n) = refl
 written-numbers (written.Refused n g) = refl
+
+pub judged-numbers : (v : Verdict) → judgedNumbers v ≡ judgedIn (verdictShown v)
+judged-numbers verdict.Strong = refl
+judged-numbers (verdict.Popular v) = refl
+judged-numbers (verdict.Beaten v) = refl
+judged-numbers (verdict.Refused n g) = refl
 
 pub compared-numbers : (a b : List ℕ) (c : Comparison) → comparedNumbers c (partCase c a b) ≡ comparedIn (comparisonShown a b c)
 compared-numbers a b (comparison.Votes v w x) = go x

@@ -1,4 +1,5 @@
 pub mod Outcomes
 pub mod Votes
+pub mod Weighing
 pub mod Desks
 pub mod Finds

@@ -7,13 +7,13 @@ use lib.IntN.{ℤ, pos}
 use Rattle.model.specs.Reading.{Reading}
 use Rattle.model.specs.Roster.{Roster}
 use Rattle.model.specs.Compare as model
-use Rattle.model.specs.Compare.{Part, winnerPart}
+use Rattle.model.specs.Compare.{Part}
 use Rattle.compare.specs.declared.Winner.{Winner}
 use Rattle.compare.specs.declared.Winner.the-variants as winner
 use Rattle.compare.specs.declared.Comparison.{Comparison}
 use Rattle.compare.specs.declared.Comparison.the-variants as comparison
 use Rattle.compare.specs.Answers.{comparisonReply}
-use Rattle.compare.specs.Parts.{shownWinner, partCase, partReply, part-is}
+use Rattle.compare.specs.Parts.{partCase, partReply, part-is}
 use Rattle.blocking_pairs.specs.declared.Blocked.{Blocked}
 use Rattle.blocking_pairs.specs.declared.Blocked.the-variants as blocked
 use Rattle.blocking_pairs.specs.Answers.{blockedReply}

@@ -1,13 +1,15 @@
 // The desk for C: it goes into each call by value and comes back in the reply, beside the answer's numbers. Any bytes may stand in its
 // fields. A refused load, and every call but a load, hands it back as it came.
 ghost use mathlib.Core.Path.{_≡_};
-ghost use Rattle.model.specs.Desk.{opening, loadRoster, loadPlan, writeRosterTo, writePlanTo, compare, blocking};
+ghost use Rattle.model.specs.Desk.{opening, loadRoster, loadPlan, writeRosterTo, writePlanTo, judge, compare, blocking};
 ghost use Rattle.desk.specs.Held.{heldOf};
-ghost use Rattle.abi.specs.Desks.{loadNumber, refusalIn, outcomeIn, comparedIn, blockerIn, Served};
+ghost use Rattle.abi.specs.Desks.{loadNumber, refusalIn, outcomeIn, judgedIn, comparedIn, blockerIn, Served};
 use super::Outcome;
 use super::votes;
 use super::votes::Blocker;
 use super::votes::Compared;
+use super::weighing;
+use super::weighing::Judged;
 use desk::Desk;
 use desk::Loading;
 
@@ -22,6 +24,12 @@ pub struct DeskLoaded {
 pub struct DeskWritten {
     pub desk: Desk,
     pub outcome: Outcome,
+}
+
+#[repr(C)]
+pub struct DeskJudged {
+    pub desk: Desk,
+    pub judged: Judged,
 }
 
 #[repr(C)]
@@ -108,6 +116,21 @@ pub extern "C" fn crew_desk_write_plan(desk: Desk, out: &mut [u8]) -> DeskWritte
     DeskWritten {
         desk: d,
         outcome: n,
+    }
+}
+
+// the verdict on the held plan; a rival goes to the front of the buffer, which has at least 129 bytes, else 15
+#[no_mangle]
+pub extern "C" fn crew_desk_judge(desk: Desk, rival: &mut [u8]) -> DeskJudged
+    ensures { λ r. ⌜ Served judgedIn desk (judge (now (rival .entry))) (r .judged) (judge (now (rival .exit))) (r .desk) ⌝ }
+{
+    let r = desk.judge(rival);
+    let d = r.desk;
+    let a = r.answer;
+    let n = weighing::as_judged(a);
+    DeskJudged {
+        desk: d,
+        judged: n,
     }
 }
 

@@ -3,6 +3,7 @@
 mod desks;
 mod finds;
 mod votes;
+mod weighing;
 
 ghost use mathlib.Core.Path.{_≡_};
 ghost use Rattle.model.specs.Refusal.{groupOf};

@@ -5,3 +5,4 @@ pub mod Laws
 pub mod Passing
 pub mod Loads
 pub mod Finding
+pub mod Verdicts

@@ -2,7 +2,7 @@
 -- what the desk's roster bytes are read to, and the desk's plan bytes.
 use Prim.Native.Nat.{ℕ, suc, _≤_}
 use native.Mathlib.Omega.{arith}
-use mathlib.Core.Path.{_≡_, refl, sym, ap, _∙_}
+use mathlib.Core.Path.{_≡_, refl, ap, _∙_}
 use mathlib.Core.Bool.{Bool, true, false, cond}
 use mathlib.Core.List.{List}
 use lib.ListN.{length}
@@ -12,7 +12,7 @@ use Rattle.model.specs.Refusal as groups
 use Rattle.model.specs.Refusal.{groupOf}
 use Rattle.model.specs.Reading.{Reading, accepted, turned}
 use Rattle.model.specs.Roster.{Roster}
-use Rattle.model.specs.RosterFile.{readRoster, writeRoster}
+use Rattle.model.specs.RosterFile.{readRoster}
 use Rattle.model.specs.Instance.{Instance}
 use Rattle.model.specs.Edges.{instanceOf}
 use Rattle.model.specs.Plans.{Plan, on}
@@ -45,7 +45,7 @@ pub not-0 : {A : Type 0} {n : ℕ} → 0 ≡ suc n → A
 not-0 e = absurd (let z : ⊥ = omega arith in z)
 
 -- the buffer is not short
-long : (short : Bool) → _≡_ {A = ℕ} 0 (cond short 15 0) → short ≡ false
+pub long : (short : Bool) → _≡_ {A = ℕ} 0 (cond short 15 0) → short ≡ false
 long true e = not-0 e
 long false e = refl
 

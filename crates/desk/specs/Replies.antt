@@ -15,6 +15,8 @@ use Rattle.roster_writer.specs.declared.Written.the-variants as written
 use Rattle.compare.specs.declared.Comparison.{Comparison}
 use Rattle.compare.specs.declared.Comparison.the-variants as comparison
 use Rattle.compare.specs.Parts.{shownWinner}
+use Rattle.verdicts.specs.declared.Verdict.{Verdict}
+use Rattle.verdicts.specs.declared.Verdict.the-variants as verdict
 use Rattle.desk.specs.declared.Desk.{Desk}
 use Rattle.desk.specs.declared.Loading.{Loading}
 use Rattle.desk.specs.declared.Loading.the-variants as loading
@@ -28,6 +30,12 @@ loadShown (loading.Refused n g) = refused n (groupShown g)
 abbrev pub writtenShown : Written → Answer
 writtenShown (written.Wrote n) = wrote n
 writtenShown (written.Refused n g) = refused n (groupShown g)
+
+abbrev pub verdictShown : Verdict → Answer
+verdictShown verdict.Strong = strong
+verdictShown (verdict.Popular v) = popular v
+verdictShown (verdict.Beaten v) = beaten v
+verdictShown (verdict.Refused n g) = refused n (groupShown g)
 
 -- a comparison of two files: the winner's part, or the empty one, belongs to the answer
 abbrev pub comparisonShown : (firstBytes secondBytes : List ℕ) → Comparison → Answer

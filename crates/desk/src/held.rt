@@ -6,6 +6,7 @@ ghost use Rattle.roster_writer.specs.Writes.{RosterWritten};
 ghost use Rattle.files.specs.Replies.{planReply, PlanWritten};
 ghost use Rattle.compare.specs.Answers.{comparisonReply};
 ghost use Rattle.blocking_pairs.specs.Answers.{blockedReply};
+ghost use Rattle.verdicts.specs.Answers.{VerdictGiven};
 ghost use Rattle.desk.specs.Held.{rosterBytes, planBytes};
 use super::Desk;
 use super::PLAN_SIZE;
@@ -14,6 +15,7 @@ use compare::Comparison;
 use files::PlanReply;
 use limits::ROSTER_SIZE;
 use roster_writer::Written;
+use verdicts::Verdict;
 
 // a length, cut to the array's size
 pub(crate) fn clamped(len: usize, size: usize) -> usize
@@ -50,6 +52,16 @@ pub(crate) fn write_plan(desk: Desk, out: &mut [u8]) -> Written
     let n = clamped(desk.roster_len, ROSTER_SIZE);
     let m = clamped(desk.plan_len, PLAN_SIZE);
     files::write_plan(&roster[..n], &plan[..m], out)
+}
+
+pub(crate) fn judge(desk: Desk, rival: &mut [u8]) -> Verdict
+    ensures { λ r. ⌜ VerdictGiven (rosterBytes desk) (planBytes desk) (now (rival .entry)) r (now (rival .exit)) ⌝ }
+{
+    let roster = desk.roster;
+    let plan = desk.plan;
+    let n = clamped(desk.roster_len, ROSTER_SIZE);
+    let m = clamped(desk.plan_len, PLAN_SIZE);
+    verdicts::judge(&roster[..n], &plan[..m], rival)
 }
 
 pub(crate) fn compare(desk: Desk, first: &[u8], second: &[u8]) -> Comparison

@@ -7,12 +7,12 @@ mod store;
 
 ghost use mathlib.Core.Path.{_≡_};
 ghost use denote.Ref.{ptr};
-ghost use Rattle.model.specs.Desk.{opening, loadRoster, loadPlan, writeRosterTo, writePlanTo, compare, blocking};
+ghost use Rattle.model.specs.Desk.{opening, loadRoster, loadPlan, writeRosterTo, writePlanTo, judge, compare, blocking};
 ghost use Rattle.compare.specs.Parts.{placed};
 ghost use Rattle.blocking_pairs.specs.Answers.{deskAnswer};
 ghost use Rattle.desk.specs.Held.{heldOf};
 ghost use Rattle.desk.specs.Finding.{Done, Finds};
-ghost use Rattle.desk.specs.Replies.{Replied, loadShown, writtenShown, comparisonShown, partIn, answered};
+ghost use Rattle.desk.specs.Replies.{Replied, loadShown, writtenShown, verdictShown, comparisonShown, partIn, answered};
 use answers::Found;
 use blocking_pairs::Blocked;
 use compare::Comparison;
@@ -20,6 +20,7 @@ use diary::Step;
 use limits::ROSTER_SIZE;
 use refusal::Group;
 use roster_writer::Written;
+use verdicts::Verdict;
 
 // "a buffer for a plan, candidate or rival needs 129 bytes"
 const PLAN_SIZE: usize = 129;
@@ -47,6 +48,11 @@ pub struct LoadReply {
 pub struct WriteReply {
     pub desk: Desk,
     pub answer: Written,
+}
+
+pub struct JudgeReply {
+    pub desk: Desk,
+    pub answer: Verdict,
 }
 
 pub struct CompareReply {
@@ -188,6 +194,24 @@ impl Desk {
         WriteReply {
             desk: self,
             answer: w,
+        }
+    }
+
+    // The verdict on the held plan; the rival of a plan that is not strong goes to the front of the buffer.
+    pub fn judge(self, rival: &mut [u8]) -> JudgeReply
+        ensures { λ r. ⌜ Replied self (judge (now (rival .entry))) (verdictShown (r .answer)) (judge (now (rival .exit))) (r .desk) ⌝ }
+    {
+        let n = state::state_refusal(self, true, rival.len() < PLAN_SIZE);
+        if 0 < n {
+            return JudgeReply {
+                desk: self,
+                answer: Verdict::Refused(n, refusal::group_of(n)),
+            };
+        }
+        let v = held::judge(self, rival);
+        JudgeReply {
+            desk: self,
+            answer: v,
         }
     }
 

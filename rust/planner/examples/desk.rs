@@ -1,5 +1,5 @@
 //! A morning at the desk: a roster is loaded, two plans of it are compared, the
-//! better one is held and looked at for a blocking pair.
+//! better one is held, judged and looked at for a blocking pair.
 
 use planner::{Desk, Refusal};
 
@@ -15,6 +15,7 @@ fn main() -> Result<(), Refusal> {
     println!("the winner's pairs: {:?}", compared.part);
 
     desk.load_plan(&first)?;
+    println!("verdict: {:?}", desk.judge(&mut [0; planner::PLAN_BYTES])?);
     println!("blocking pair: {:?}", desk.blocking()?);
     let refusal = desk.load_plan(&[1, 1, 2]).unwrap_err();
     println!("{}: {refusal}", refusal.number);

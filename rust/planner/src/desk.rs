@@ -1,6 +1,7 @@
 //! The desk: a roster and a plan of it, held from one call to the next.
 
 use crate::refusal::{self, Refusal};
+use crate::verdict::{self, Verdict};
 use crate::votes::{self, Comparison};
 use crate::{ffi, outcome, PLAN_BYTES, ROSTER_BYTES};
 
@@ -57,6 +58,13 @@ impl Desk {
     pub fn write_plan(&self, out: &mut [u8]) -> Result<usize, Refusal> {
         let reply = unsafe { ffi::crew_desk_write_plan(self.clone(), out.as_mut_ptr(), out.len()) };
         outcome(&reply.outcome)
+    }
+
+    /// The verdict on the held plan. The plan of a rival is written to the
+    /// front of `rival`; for a strong plan and on a refusal no byte changes.
+    pub fn judge(&self, rival: &mut [u8]) -> Result<Verdict, Refusal> {
+        let reply = unsafe { ffi::crew_desk_judge(self.clone(), rival.as_mut_ptr(), rival.len()) };
+        verdict::judged(&reply.judged)
     }
 
     /// Compares two plan files of the held roster.

@@ -28,6 +28,13 @@ pub struct Blocker {
 }
 
 #[repr(C)]
+pub struct Judged {
+    pub refusal: u8,
+    pub verdict: u8,
+    pub vote: i16,
+}
+
+#[repr(C)]
 pub struct DeskLoaded {
     pub desk: Desk,
     pub refusal: u8,
@@ -37,6 +44,12 @@ pub struct DeskLoaded {
 pub struct DeskWritten {
     pub desk: Desk,
     pub outcome: Outcome,
+}
+
+#[repr(C)]
+pub struct DeskJudged {
+    pub desk: Desk,
+    pub judged: Judged,
 }
 
 #[repr(C)]
@@ -104,11 +117,20 @@ extern "C" {
         file: *const u8,
         file_len: usize,
     ) -> Blocker;
+    pub fn crew_verdict(
+        roster: *const u8,
+        roster_len: usize,
+        file: *const u8,
+        file_len: usize,
+        rival: *mut u8,
+        rival_len: usize,
+    ) -> Judged;
     pub fn crew_open() -> Desk;
     pub fn crew_load_roster(desk: Desk, file: *const u8, file_len: usize) -> DeskLoaded;
     pub fn crew_load_plan(desk: Desk, file: *const u8, file_len: usize) -> DeskLoaded;
     pub fn crew_desk_write_roster(desk: Desk, out: *mut u8, out_len: usize) -> DeskWritten;
     pub fn crew_desk_write_plan(desk: Desk, out: *mut u8, out_len: usize) -> DeskWritten;
+    pub fn crew_desk_judge(desk: Desk, rival: *mut u8, rival_len: usize) -> DeskJudged;
     pub fn crew_desk_compare(
         desk: Desk,
         first: *const u8,

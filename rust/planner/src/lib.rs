@@ -13,11 +13,13 @@ mod desk;
 mod ffi;
 mod find;
 mod refusal;
+mod verdict;
 mod votes;
 
 pub use desk::Desk;
 pub use find::{Found, Step, DIARY_RECORDS, LEFT_BYTES};
 pub use refusal::{Group, Refusal};
+pub use verdict::{verdict, Verdict};
 pub use votes::{blocking, compare, Comparison, Votes, Winner};
 
 /// Bytes that a buffer for a roster needs, and one for a plan.

@@ -138,6 +138,26 @@ fn write_plan(random: &mut Random, desk: &Desk, held: &Held) -> u8 {
     number(&answer)
 }
 
+/// The verdict of the call on files, for the plan held.
+fn judge(random: &mut Random, desk: &Desk, held: &Held) -> u8 {
+    let before = buffer(random, planner::PLAN_BYTES);
+    let mut rival = before.clone();
+    let answer = desk.judge(&mut rival);
+    match held.plan() {
+        Err(refusal) => {
+            assert_eq!(number(&answer), refusal);
+            assert_eq!(rival, before);
+        }
+        Ok((roster, plan)) => {
+            let mut expected = before;
+            let (roster, plan) = (roster::write(roster), plan::write(roster, plan));
+            assert_eq!(answer, planner::verdict(&roster, &plan, &mut expected));
+            assert_eq!(rival, expected);
+        }
+    }
+    number(&answer)
+}
+
 fn compare_two(random: &mut Random, desk: &Desk, held: &Held) -> u8 {
     let first = plan_file(random, held);
     let second = plan_file(random, held);
@@ -206,7 +226,7 @@ fn calls_one_after_another() {
         let mut desk = Desk::open();
         let mut held = Held::Nothing;
         for _ in 0..random.below(20) {
-            let refusal = match random.below(7) {
+            let refusal = match random.below(8) {
                 0 => {
                     let (next, refusal) = load_roster(&mut random, &mut desk, held);
                     held = next;
@@ -219,7 +239,8 @@ fn calls_one_after_another() {
                 }
                 3 => write_roster(&mut random, &desk, &held),
                 4 => write_plan(&mut random, &desk, &held),
-                5 => compare_two(&mut random, &desk, &held),
+                5 => judge(&mut random, &desk, &held),
+                6 => compare_two(&mut random, &desk, &held),
                 _ => blocking_pair(&desk, &held),
             };
             met.count(refusal);
@@ -238,6 +259,7 @@ fn a_new_desk_has_nothing_loaded() {
     let mut out = [0; planner::ROSTER_BYTES];
     assert_eq!(number(&desk.write_roster(&mut out)), 13);
     assert_eq!(number(&desk.write_plan(&mut out[..1])), 13);
+    assert_eq!(number(&desk.judge(&mut out[..1])), 13);
     assert_eq!(number(&desk.blocking()), 13);
     assert_eq!(number(&desk.compare(&[0], &[0]).outcome), 13);
 }

@@ -5,6 +5,7 @@
 //! Run with `cargo run --release --offline --bin bench`.
 
 mod files;
+mod verdict;
 mod votes;
 
 use std::time::Instant;
@@ -38,4 +39,6 @@ fn main() {
     files::run();
     println!();
     votes::run();
+    println!();
+    verdict::run();
 }

@@ -1,0 +1,54 @@
+-- `desk::Desk::judge` meets its contract. Assumes nothing.
+use mathlib.Core.Path.{ap}
+use Rattle.model.specs.Desk.{judge, refused}
+use Rattle.desk.specs.Laws.{by-state}
+use Rattle.desk.specs.Verdicts.{judge-reply}
+use borrow.Author.Needs.{needs}
+use Rattle.desk.proofs.Desk.judge.Statement.{statement}
+use Rattle.desk.proofs.Desk.judge.Tie as tie
+use Rattle.desk.proofs.Desk.judge.Reads as reads
+use Rattle.desk.proofs.Desk.judge.Lts as lts
+use Rattle.desk.proofs.held.judge.Reads as judge-reads
+use Rattle.desk.proofs.state.state_refusal.Reads as state-refusal-reads
+use Rattle.refusal.proofs.group_of.Reads as group-of-reads
+
+-- src/lib.rt:139:13
+state-refusal-requires : tie.Need-state-refusal-requires
+state-refusal-requires c κs = search needs
+
+-- src/lib.rt:143:45
+group-of-requires : tie.Need-group-of-requires
+group-of-requires c κs = search needs
+
+-- src/lib.rt:141:13
+returns : tie.Need-returns
+returns c =
+    let n = c .before .before .state-refusal in
+    let a = c .before .before .before .before .args in
+    by-state (a .self) (judge (a .rival .now)) tt (n .ensures) (c .before .if1 .taken) (ap (refused (n .result)) (c .group-of .ensures))
+
+-- src/lib.rt:146:13
+judge-requires : tie.Need-judge-requires
+judge-requires c κs = search needs
+
+-- src/lib.rt:136:5
+same-length : tie.Need-same-length
+same-length c = search needs
+
+-- src/lib.rt:136:5
+returns-2 : tie.Need-returns-2
+returns-2 c =
+    let n = c .before .before .before .before .before .state-refusal in
+    let a = c .before .before .before .before .before .before .before .args in
+    judge-reply (a .self) (c .before .before .before .before .if1 .left) (a .rival .now) (n .ensures) (c .before .before .judge .ensures)
+
+pub judge-spec : {M : Type 1} → statement M
+judge-spec =
+    tie.close
+    (tie.spec
+    state-refusal-requires
+    group-of-requires
+    returns
+    judge-requires
+    same-length
+    returns-2)
