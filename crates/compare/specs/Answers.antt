@@ -1,6 +1,7 @@
 -- What a comparison answers: the model's, for each case of the code's answer; the roster is judged first.
 use Prim.Native.Nat.{ℕ}
 use mathlib.Core.Path.{_≡_}
+use mathlib.Core.Bool.{Bool}
 use mathlib.Core.List.{List}
 use Rattle.model.specs.Reading.{Reading, accepted, turned}
 use Rattle.model.specs.Refusal.{groupOf}
@@ -9,11 +10,21 @@ use Rattle.model.specs.RosterFile.{readRoster}
 use Rattle.model.specs.Edges.{instanceOf}
 use Rattle.model.specs.Compare as model
 use Rattle.model.specs.Compare.{comparisonOf}
+use Rattle.graph.specs.Lawful.{Matching}
+use Rattle.arrays.specs.Shown.{flag}
 use Rattle.refusal.specs.Shown.{groupCase}
+use Rattle.instance.specs.declared.Instance.{Instance}
+use Rattle.instance.specs.Decoded.{shownBy}
+use Rattle.vote.specs.Plan.{Listed}
 use Rattle.compare.specs.declared.Winner.{Winner}
 use Rattle.compare.specs.declared.Winner.the-variants.{First, Second, Neither}
 use Rattle.compare.specs.declared.Comparison.{Comparison}
 use Rattle.compare.specs.declared.Comparison.the-variants.{Votes, Refused}
+
+-- a plan within the quotas, with the list of its edges
+pub record Planned (g : Instance) (p : List Bool) (n : ℕ) (es : List ℕ) : Type 0 where
+  pub matching : Matching (shownBy g) (flag p)
+  pub listed : Listed (g .m) p n es
 
 abbrev pub winnerCase : model.Winner → Winner
 winnerCase model.first = First

@@ -1,22 +1,25 @@
 -- What the code finds on its ways, and that the promised answers follow.
-use Prim.Native.Nat.{ℕ}
+use Prim.Native.Nat.{ℕ, _≤_}
+use native.Mathlib.Omega.{arith}
 use mathlib.Core.Path.{_≡_, refl, sym, ap, ap₂, _∙_, subst}
 use mathlib.Core.Bool.{Bool, false}
 use mathlib.Core.List.{List}
+use lib.ListN.{length, length-take}
 use lib.Dec.{T}
 use lib.IntN.{ℤ}
 use Rattle.lists.specs.Test.{given}
+use Rattle.model.specs.Limits.{planLimit}
 use Rattle.model.specs.Reading.{Reading, accepted, turned}
 use Rattle.model.specs.Refusal.{groupOf}
 use Rattle.model.specs.RosterFile.{readRoster}
 use Rattle.model.specs.Instance as model
 use Rattle.model.specs.Plans.{Plan, on, voteOf}
-use Rattle.model.specs.PlanFile.{readPlan}
+use Rattle.model.specs.PlanFile.{edgesIn, readPlan}
 use Rattle.model.specs.Vote.{vote}
 use Rattle.model.specs.Compare.{votes, winnerOf, compared, secondJudged, firstJudged, comparisonOf}
 use Rattle.formats.specs.Reads.{isBytes}
 use Rattle.graph.specs.Lawful.{Matching}
-use Rattle.rosters.specs.PlanFiles.{plan-read-matching}
+use Rattle.rosters.specs.PlanFiles.{plan-read-within, plan-read-matching, plan-few}
 use Rattle.arrays.specs.Shown.{flag}
 use Rattle.refusal.specs.declared.Group.{Group}
 use Rattle.refusal.specs.Shown.{groupShown, shows-case}
@@ -28,16 +31,22 @@ use Rattle.instance.specs.Decoded.{shownBy, Decoded}
 use Rattle.instance.specs.Loaded.{Loaded}
 use Rattle.plan.specs.declared.PlanRead.{PlanRead}
 use Rattle.plan.specs.declared.PlanAnswer.the-variants as plan
-use Rattle.plan.specs.Answers.{ReadAs, ReadFor, accepted-read, refused-read}
+use Rattle.plan.specs.Answers.{ReadAs, ReadFor, accepted-read, accepted-edges, refused-read}
+use Rattle.vote.specs.Plan.{PlanVotes}
 use Rattle.files.specs.Replies.{RosterAccepted}
 use Rattle.compare.specs.declared.Winner.{Winner}
 use Rattle.compare.specs.declared.Comparison.{Comparison}
 use Rattle.compare.specs.declared.Comparison.the-variants.{Votes, Refused}
-use Rattle.compare.specs.Answers.{winnerCase, answered, comparisonReply, ComparedAs}
+use Rattle.compare.specs.Answers.{Planned, winnerCase, answered, comparisonReply, ComparedAs}
 
 -- ---- the votes of two plans
-pub votes-are : (G : model.Instance) (p q : List Bool) {v w : ℤ} {x : Winner} → v ≡ voteOf G p q → w ≡ voteOf G q p → x ≡ winnerCase (winnerOf v w) → Votes v w x ≡ answered (compared G p q)
-votes-are G p q {v} {w} {x} a b e = ap (Votes v w) e ∙ ap₂ (λ y z. Votes y z (winnerCase (winnerOf y z))) a b
+module _ (g : Instance) (p q : List Bool) (Mp : Matching (shownBy g) (flag p)) (Mq : Matching (shownBy g) (flag q)) where
+  pub votes-are : {v w : ℤ} {x : Winner} → PlanVotes (g .m) (g .ns) (g .nt) (g .sv) (g .st) (g .«rank_s») (g .«rank_t») p q v w → x ≡ winnerCase (winnerOf v w)
+      → Votes v w x ≡ answered (compared (shownBy g) p q)
+  votes-are {v} {w} {x} both e =
+      let a : v ≡ voteOf (shownBy g) p q = both .first (g .tied) (g .«quota_s») (g .«quota_t») Mp Mq in
+      let b : w ≡ voteOf (shownBy g) q p = both .second (g .tied) (g .«quota_s») (g .«quota_t») Mq Mp in
+      ap (Votes v w) e ∙ ap₂ (λ y z. Votes y z (winnerCase (winnerOf y z))) a b
 
 -- ---- which plan it is matters by its edges alone
 abbrev byEdges : model.Instance → (ℕ → Bool) → (ℕ → Bool) → Comparison
@@ -55,9 +64,16 @@ module _ (g : Instance) (file : List ℕ) (r : PlanRead) (A : ReadFor (g .m) (g 
   here : ReadAs G file r
   here = A (g .ns) (g .nt) (g .«rank_s») (g .«rank_t») (g .tied)
 
-  -- the plan that its flags are is within the quotas
-  pub read-matching : Loaded g → T (isBytes file) → {n : ℕ} → r .answer ≡ plan.Accepted n → Matching G (flag (r .chosen))
-  read-matching L isB q = given (accepted-read here q) (λ (M, e, s). subst (Matching G) (sym s) (plan-read-matching G file M isB e (L .lawful)))
+  -- the plan that its flags are is within the quotas, and its edges are listed
+  pub read-planned : Loaded g → T (isBytes file) → {n : ℕ} → r .answer ≡ plan.Accepted n → Planned g (r .chosen) n (r .edges)
+  read-planned L isB {n} q = given (accepted-read here q) (λ (M, e, s). given (accepted-edges here q M e) (λ (c, t). record {
+    matching = subst (Matching G) (sym s) (plan-read-matching G file M isB e (L .lawful));
+    listed = record {
+      few = subst (λ k. k ≤ planLimit) (sym c) (plan-few G (L .fileable) M (plan-read-within G file M isB e));
+      there = omega (arith, c, ap length t, length-take n (r .edges));
+      are = t ∙ ap (edgesIn (g .m)) (sym s);
+    };
+  }))
 
   -- as the second file, after plan p
   module _ (p : Plan) where

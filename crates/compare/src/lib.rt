@@ -4,12 +4,10 @@ ghost use mathlib.Core.Path.{_≡_};
 ghost use Rattle.model.specs.RosterFile.{readRoster};
 ghost use Rattle.model.specs.PlanFile.{readPlan};
 ghost use Rattle.model.specs.Compare.{winnerOf, compared, secondJudged};
-ghost use Rattle.graph.specs.Lawful.{Matching};
-ghost use Rattle.arrays.specs.Shown.{flag};
 ghost use Rattle.instance.specs.Decoded.{shownBy};
 ghost use Rattle.instance.specs.Loaded.{Loaded};
 ghost use Rattle.files.specs.Replies.{RosterAccepted};
-ghost use Rattle.compare.specs.Answers.{winnerCase, answered, comparisonReply, ComparedAs};
+ghost use Rattle.compare.specs.Answers.{winnerCase, answered, Planned, comparisonReply, ComparedAs};
 ghost use denote.Ref.{ptr};
 ghost use Rattle.compare.specs.Parts.{placed, partReply};
 use instance::Instance;
@@ -42,20 +40,39 @@ pub(crate) fn winner_of(v: i16, w: i16) -> Winner
     Winner::Neither
 }
 
-// Two plans of an accepted roster.
-pub(crate) fn voted(g: Instance, p: &[bool; 1024], q: &[bool; 1024]) -> Comparison
-    requires { ⌜ Loaded g × Matching (shownBy g) (flag (now p)) × Matching (shownBy g) (flag (now q)) ⌝ }
+// Two plans of an accepted roster, p with pn edges that pe lists, q likewise.
+pub(crate) fn voted(
+    g: Instance,
+    p: &[bool; 1024],
+    pn: usize,
+    pe: &[u16; 64],
+    q: &[bool; 1024],
+    qn: usize,
+    qe: &[u16; 64],
+) -> Comparison
+    requires { ⌜ Loaded g × Planned g (now p) pn (now pe) × Planned g (now q) qn (now qe) ⌝ }
     ensures { λ r. ⌜ r ≡ answered (compared (shownBy g) (now (p .entry)) (now (q .entry))) ⌝ }
 {
-    let v = poll::poll(g, p, q);
-    let w = poll::poll(g, q, p);
+    let sv = g.sv;
+    let st = g.st;
+    let rs = g.rank_s;
+    let rt = g.rank_t;
+    let both = vote::plan_votes(g.m, g.ns, g.nt, &sv, &st, &rs, &rt, p, pn, pe, q, qn, qe);
+    let v = both.first;
+    let w = both.second;
     let x = winner_of(v, w);
     Comparison::Votes(v, w, x)
 }
 
 // The second file, after the first one gave plan p.
-pub(crate) fn second_judged(g: Instance, p: &[bool; 1024], second: &[u8]) -> Comparison
-    requires { ⌜ Loaded g × Matching (shownBy g) (flag (now p)) ⌝ }
+pub(crate) fn second_judged(
+    g: Instance,
+    p: &[bool; 1024],
+    pn: usize,
+    pe: &[u16; 64],
+    second: &[u8],
+) -> Comparison
+    requires { ⌜ Loaded g × Planned g (now p) pn (now pe) ⌝ }
     ensures { λ r. ⌜ r ≡ answered (secondJudged (shownBy g) (now (p .entry)) (readPlan (shownBy g) (now (second .entry)))) ⌝ }
 {
     let sv = g.sv;
@@ -66,9 +83,10 @@ pub(crate) fn second_judged(g: Instance, p: &[bool; 1024], second: &[u8]) -> Com
     let a = read.answer;
     match a {
         PlanAnswer::Refused(n) => Comparison::Refused(n, refusal::group_of(n)),
-        PlanAnswer::Accepted(_) => {
+        PlanAnswer::Accepted(n) => {
             let q = read.chosen;
-            voted(g, p, &q)
+            let qe = read.edges;
+            voted(g, p, pn, pe, &q, n, &qe)
         }
     }
 }
@@ -87,9 +105,10 @@ pub(crate) fn judged(roster: &[u8], first: &[u8], second: &[u8]) -> Comparison
     let a = read.answer;
     match a {
         PlanAnswer::Refused(n) => Comparison::Refused(n, refusal::group_of(n)),
-        PlanAnswer::Accepted(_) => {
+        PlanAnswer::Accepted(n) => {
             let p = read.chosen;
-            second_judged(g, &p, second)
+            let pe = read.edges;
+            second_judged(g, &p, n, &pe, second)
         }
     }
 }

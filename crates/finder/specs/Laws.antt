@@ -33,7 +33,9 @@ use Rattle.rosters.specs.Chosen.{on-planOf, planOf-length, edgesIn-cong}
 use Rattle.reduction.specs.Course.{fixed-behind}
 use Rattle.search.specs.Rival.{rivalOf}
 use Rattle.arrays.specs.Shown.{at, flag}
-use Rattle.arrays.specs.Kept.{Kept, keep-few, front-is}
+use Rattle.arrays.specs.Kept.{front-is}
+use Rattle.vote.specs.Plan.{Listed}
+use Rattle.rivals.specs.Shows.{Lists}
 use Rattle.planwriter.specs.declared.PlanWritten.{PlanWritten}
 use Rattle.planwriter.specs.Written.{pairsOf, WrittenFor}
 use Rattle.planwriter.specs.Turns.{pairs-onto}
@@ -56,22 +58,9 @@ use Rattle.finder.specs.declared.Outcome.{Outcome}
 use Rattle.finder.specs.Found as outcome
 use Rattle.finder.specs.Found.{candidate, atEnd, Wrote, Ends, FindsIn, FindsFor, Refuses, Works, short, OutcomeFor, Outcomes}
 
--- ---- the edges of a plan listed
-module _ (p : ℕ → Bool) (front : List ℕ) (n e m : ℕ) (K : Kept p front n e) where
-  -- one more is chosen below m, so there is room for it
-  pub room-left : p e ≡ true → e < m → length (keep p (range 0 m)) ≤ 64 → n + 1 ≤ 64
-  room-left t h few = omega (
-    arith,
-    keep-few p (e + 1) m (omega arith),
-    ap (λ k. length (keep p (range 0 k))) (add-one e) ∙ ap length (keep-last p e ∙ ap (λ b. keep p (range 0 e) ++ cond b (e ∷ []) []) t),
-    length-append (keep p (range 0 e)) (e ∷ []),
-    K .0,
-  )
-
-  pub all-listed : e ≡ m → length front ≡ 64 → length (keep p (range 0 m)) ≤ 64 → (n ≤ 64) × (keep p (range 0 m) ≡ map (at front) (range 0 n))
-  all-listed q l few =
-      let c : n ≡ length (keep p (range 0 m)) = K .0 ∙ ap (λ k. length (keep p (range 0 k))) q in
-      (omega arith, ap (λ k. keep p (range 0 k)) (sym q) ∙ sym (K .1) ∙ front-is front n (omega arith))
+-- ---- a list of a plan's edges, as the search asks for it
+pub lists-are : (m : ℕ) (p : List Bool) (n : ℕ) (es : List ℕ) → Listed m p n es → Lists m p n es
+lists-are m p n es l = sym (l .are) ∙ front-is es n (l .there)
 
 -- ---- a candidate judged
 -- the answer for what is weighed

@@ -2,11 +2,8 @@
 ghost use mathlib.Core.Path.{_≡_};
 ghost use Prim.Native.Nat.{_≤_};
 ghost use lib.ListN.{length};
-ghost use Rattle.model.specs.PlanFile.{edgesIn};
-ghost use Rattle.arrays.specs.Shown.{flag};
 ghost use Rattle.instance.specs.Loaded.{Loaded};
 ghost use Rattle.files.specs.Replies.{RosterAccepted};
-ghost use Rattle.rivals.specs.Shows.{Lists};
 ghost use Rattle.model.specs.Plans.{Plan};
 ghost use Rattle.instance.specs.Decoded.{shownBy};
 ghost use Rattle.judging.specs.Weighing.{Shows};
@@ -25,31 +22,6 @@ const LEFT_SIZE: usize = 2048;
 
 const PLAN_SIZE: usize = 129;
 
-// The edges of a plan, ascending: n of them.
-pub struct Listed {
-    pub n: usize,
-    pub edges: [u16; 64],
-}
-
-pub fn list_edges(m: usize, chosen: &[bool; 1024]) -> Listed
-    requires { ⌜ (m ≤ 1024) × (length (edgesIn m (flag (now chosen))) ≤ 64) ⌝ }
-    ensures { λ r. ⌜ (r .n ≤ 64) × Lists m (now (chosen .entry)) (r .n) (r .edges) ⌝ }
-{
-    let mut edges = [0u16; 64];
-    let mut n = 0;
-    let mut e = 0;
-    while e < m {
-        if !chosen[e] {
-            e += 1;
-            continue;
-        }
-        edges[n] = e as u16;
-        n += 1;
-        e += 1;
-    }
-    Listed { n: n, edges: edges }
-}
-
 // "Otherwise the fixed pairs are the candidate: strong gives the plan; else none, rivalled": after so many steps.
 pub(crate) fn judged(
     g: Instance,
@@ -64,7 +36,7 @@ pub(crate) fn judged(
     let m = g.m;
     let sv = g.sv;
     let st = g.st;
-    let l = list_edges(m, fixed);
+    let l = poll::list_edges(m, fixed);
     let es = l.edges;
     planwriter::write_plan(m, &sv, &st, fixed, &mut *plan);
     let w = judging::weigh(g, fixed, l.n, &es, &mut *rival);

@@ -36,6 +36,10 @@ abbrev isAccepted : PlanAnswer → Bool
 isAccepted (Accepted n) = true
 isAccepted (Refused n) = false
 
+abbrev countOf : PlanAnswer → ℕ
+countOf (Accepted n) = n
+countOf (Refused n) = 0
+
 abbrev numberOf : PlanAnswer → ℕ
 numberOf (Accepted n) = 0
 numberOf (Refused n) = n
@@ -48,6 +52,12 @@ module _ {G : Instance} {file : List ℕ} {r : PlanRead} (A : ReadAs G file r) w
       go : (x : Reading Plan) → readPlan G file ≡ x → Accepted n ≡ answerOf (G .m) x → (M : Plan) × (readPlan G file ≡ accepted M) × (flag (r .chosen) ≡ on M)
       go (accepted M) p e = (M, p, λ k d. A .chosen M p d k)
       go (turned k) p e = absurd (subst (λ a. T (isAccepted a)) e tt)
+
+  -- and its edges are the first n of the list
+  pub accepted-edges : {n : ℕ} → r .answer ≡ Accepted n → (M : Plan) → readPlan G file ≡ accepted M → (n ≡ length (edgesIn (G .m) (on M))) × (take n (r .edges) ≡ edgesIn (G .m) (on M))
+  accepted-edges {n} q M a =
+      let c : n ≡ length (edgesIn (G .m) (on M)) = ap countOf (sym q ∙ A .answer ∙ ap (answerOf (G .m)) a) in
+      (c, ap (λ k. take k (r .edges)) c ∙ A .edges M a)
 
   pub refused-read : {n : ℕ} → r .answer ≡ Refused n → readPlan G file ≡ turned n
   refused-read {n} q = go (readPlan G file) (sym q ∙ A .answer)

@@ -1,28 +1,26 @@
-// The vote of one rank against another, from a constant table that the two ranks index.
+// The vote of one rank against another, from a constant table that the two ranks index. The table is made once by a caller that looks up
+// many votes, and lent.
 ghost use mathlib.Core.Path.{_≡_};
-ghost use Rattle.rank.specs.Table.{tableVote};
+ghost use Rattle.model.specs.Vote.{rankVote};
+ghost use Rattle.rank.specs.Table.{IsRank, IsTable};
 
 mod votes;
 
 use votes::VOTES;
 
-// The vote of rank a against rank b; 0 where one of them is no rank from 1 to 33.
-pub fn rank_vote(a: u8, b: u8) -> i8
-    ensures { λ r. ⌜ r ≡ tableVote a b ⌝ }
+// The 33 times 33 votes.
+pub fn table() -> [i8; 1089]
+    ensures { λ r. ⌜ IsTable r ⌝ }
 {
-    if a == 0 {
-        return 0;
-    }
-    if 33 < a {
-        return 0;
-    }
-    if b == 0 {
-        return 0;
-    }
-    if 33 < b {
-        return 0;
-    }
+    VOTES
+}
+
+// The vote of rank a against rank b.
+pub fn rank_vote(table: &[i8; 1089], a: u8, b: u8) -> i8
+    requires { ⌜ IsTable (now table) × IsRank a × IsRank b ⌝ }
+    ensures { λ r. ⌜ r ≡ rankVote a b ⌝ }
+{
     let row = (a - 1) as usize;
     let column = (b - 1) as usize;
-    VOTES[row * 33 + column]
+    table[row * 33 + column]
 }

@@ -11,5 +11,4 @@ pub mod Verdict
 pub mod Plans
 pub mod Meaning
 pub mod Rival
-pub mod Column
 pub mod Tried

@@ -3,7 +3,7 @@
 -- The program lists the edges of M, at most 64. It fills the table of the arcs and that of the ends, each price in a byte. It looks for an edge
 -- with room at both ends, then for a whole without an arc, then it makes the layers one from the other, and at each of them looks for a closed
 -- walk first and for a whole next: all this below 0, as many levels as M has edges, or until a layer adds nothing (Stop); and
--- if nothing is found, all of it below 1. The first hit ends the search. Its walk is read back from the marks of one column (Column), and the
+-- if nothing is found, all of it below 1. The first hit ends the search. Its walk is read back from one column of the layers, and the
 -- rival is M without the edges that go and with those that come.
 use Prim.Native.Nat.{ℕ, _+_, _*_, _≤_}
 use native.Mathlib.Omega.{arith}

@@ -3,7 +3,7 @@ use Prim.Native.Nat.{ℕ, _+_, _-_, _≤_, _<_}
 use native.Mathlib.Omega.{arith}
 use mathlib.Core.Path.{_≡_, refl, ap, _∙_}
 use mathlib.Core.Logic.{_⊎_, inl, inr}
-use mathlib.Core.Bool.{Bool, true, false, not, cond, _&&_}
+use mathlib.Core.Bool.{Bool, true, false, not, cond}
 use mathlib.Core.List.{List}
 use native.Mathlib.Numerals.{add-one}
 use lib.ListN.{length, getD, take, drop, length-take, length-drop, drop-of-length-le, List·getD-append}
@@ -19,7 +19,6 @@ use Rattle.lists.specs.Test.{bit, if-ind}
 use Rattle.lists.specs.Keep.{getD-∈}
 use Rattle.model.specs.Limits.{emptyRank}
 use Rattle.model.specs.Vote.{rankVote}
-use Rattle.rank.specs.Table.{isRank, tableVote}
 use Rattle.votes.specs.Score.{rate}
 use Rattle.rotation.specs.Rotation.{against, turned, turned-length, cost}
 use Rattle.rotation.specs.Least.{leastSum, turn-above, turn-reached}
@@ -35,19 +34,11 @@ each-vote P a b c false false = c
 abbrev pub upped : ℤ → ℤ
 upped z = toZ w8 (ofZ w8 z) +ℤ toZ w8 1
 
-each-entry : (P : ℤ → Type 0) → P (pos 1) → P (negsuc 0) → P (pos 0) → (a b : ℕ) → P (tableVote a b)
-unfolding tableVote
-each-entry P x y z a b = go (isRank a && isRank b)
-  where
-    go : (t : Bool) → P (cond t (rankVote a b) (pos 0))
-    go true = each-vote P x y z (ltb a b) (ltb b a)
-    go false = z
+pub upped-fits : (a b : ℕ) → SFits w8 (upped (rankVote a b))
+upped-fits a b = each-vote (λ z. SFits w8 (upped z)) (sfits-of (omega arith)) (sfits-of (omega arith)) (sfits-of (omega arith)) (ltb a b) (ltb b a)
 
-pub upped-fits : (a b : ℕ) → SFits w8 (upped (tableVote a b))
-upped-fits = each-entry (λ z. SFits w8 (upped z)) (sfits-of (omega arith)) (sfits-of (omega arith)) (sfits-of (omega arith))
-
-pub upped-casts : (a b : ℕ) → T (nonNeg (toZ w8 (ofZ w8 (upped (tableVote a b))))) × Fits w64 (natAbs (toZ w8 (ofZ w8 (upped (tableVote a b)))))
-upped-casts = each-entry (λ z. T (nonNeg (toZ w8 (ofZ w8 (upped z)))) × Fits w64 (natAbs (toZ w8 (ofZ w8 (upped z))))) (tt, fits-lit tt) (tt, fits-lit tt) (tt, fits-lit tt)
+pub upped-casts : (a b : ℕ) → T (nonNeg (toZ w8 (ofZ w8 (upped (rankVote a b))))) × Fits w64 (natAbs (toZ w8 (ofZ w8 (upped (rankVote a b)))))
+upped-casts a b = each-vote (λ z. T (nonNeg (toZ w8 (ofZ w8 (upped z)))) × Fits w64 (natAbs (toZ w8 (ofZ w8 (upped z))))) (tt, fits-lit tt) (tt, fits-lit tt) (tt, fits-lit tt) (ltb a b) (ltb b a)
 
 pub upped-rate : (a b : ℕ) → natAbs (toZ w8 (ofZ w8 (upped (rankVote a b)))) ≡ rate a b
 upped-rate a b = go (ltb a b) (leb a b) (ltb b a) (ltb→lt a b) (leb→le a b) (nleb→lt a b) (ltb→lt b a) (nltb→le b a)

@@ -4,15 +4,16 @@ ghost use mathlib.Core.Path.{_≡_};
 ghost use Prim.Native.Nat.{_≤_, _<_};
 ghost use lib.ListN.{take};
 ghost use Rattle.votes.specs.Score.{rate};
+ghost use Rattle.rank.specs.Table.{IsRank, IsTable};
 ghost use Rattle.rotation.specs.Least.{leastSum};
 ghost use Rattle.turns.specs.Turn.{wrap, turnSum, Ranks, Ordered};
 
 // One more than the vote of rank a against rank b.
-pub fn rated(a: u8, b: u8) -> usize
-    requires { ⌜ (1 ≤ a) × (a ≤ 33) × (1 ≤ b) × (b ≤ 33) ⌝ }
+pub fn rated(table: &[i8; 1089], a: u8, b: u8) -> usize
+    requires { ⌜ IsTable (now table) × IsRank a × IsRank b ⌝ }
     ensures { λ r. ⌜ r ≡ rate a b ⌝ }
 {
-    let v = rank::rank_vote(a, b);
+    let v = rank::rank_vote(table, a, b);
     let up = v + 1;
     up as usize
 }
@@ -28,29 +29,29 @@ fn wrapped(p: usize, k: usize) -> usize
 }
 
 // The sum with the first list turned by j places.
-pub fn turn_sum(a: &[u8; 8], b: &[u8; 8], k: usize, j: usize) -> usize
-    requires { ⌜ (k ≤ 8) × (j ≤ k) × Ranks k (now a) × Ranks k (now b) ⌝ }
+pub fn turn_sum(table: &[i8; 1089], a: &[u8; 8], b: &[u8; 8], k: usize, j: usize) -> usize
+    requires { ⌜ (k ≤ 8) × (j ≤ k) × Ranks k (now a) × Ranks k (now b) × IsTable (now table) ⌝ }
     ensures { λ r. ⌜ r ≡ turnSum j (take k (now (a .entry))) (take k (now (b .entry))) ⌝ }
 {
     let mut sum = 0;
     let mut i = 0;
     while i < k {
         let p = wrapped(i + j, k);
-        sum += rated(a[p], b[i]);
+        sum += rated(table, a[p], b[i]);
         i += 1;
     }
     sum
 }
 
 // The least sum of all.
-pub fn least_sum(a: &[u8; 8], b: &[u8; 8], k: usize) -> usize
-    requires { ⌜ (k ≤ 8) × Ordered k (now a) × Ordered k (now b) ⌝ }
+pub fn least_sum(table: &[i8; 1089], a: &[u8; 8], b: &[u8; 8], k: usize) -> usize
+    requires { ⌜ (k ≤ 8) × Ordered k (now a) × Ordered k (now b) × IsTable (now table) ⌝ }
     ensures { λ r. ⌜ r ≡ leastSum (take k (now (a .entry))) (take k (now (b .entry))) ⌝ }
 {
-    let mut least = turn_sum(a, b, k, 0);
+    let mut least = turn_sum(table, a, b, k, 0);
     let mut j = 1;
     while j < k {
-        let s = turn_sum(a, b, k, j);
+        let s = turn_sum(table, a, b, k, j);
         if s < least {
             least = s;
         }

@@ -1,2 +1,3 @@
 pub mod Node
 pub mod Plan
+pub mod Side

@@ -2,7 +2,7 @@
 use lib.Dec.{T}
 use Rattle.formats.specs.Reads.{isBytes}
 use Rattle.reading.specs.Place.{bytes-of}
-use Rattle.compare.specs.Laws.{read-matching, second-refused, second-accepted}
+use Rattle.compare.specs.Laws.{read-planned, second-refused, second-accepted}
 use borrow.Author.Needs.{needs}
 use Rattle.compare.proofs.second_judged.Statement.{statement}
 use Rattle.compare.proofs.second_judged.Tie as tie
@@ -12,44 +12,44 @@ use Rattle.compare.proofs.voted.Reads as voted-reads
 use Rattle.plan.proofs.read_plan.Reads as read-plan-reads
 use Rattle.refusal.proofs.group_of.Reads as group-of-reads
 
--- src/lib.rt:67:9
+-- src/lib.rt:82:9
 read-plan-requires : tie.Need-read-plan-requires
 read-plan-requires c κs = let L = c .before .before .before .before .before .before .before .before .before .pre .0 in (L .edges, λ e h. L .low-sv e, λ e h. L .low-st e, L .fileable .differ)
 
--- src/lib.rt:70:29
+-- src/lib.rt:85:29
 enum-known-a : tie.Need-enum-known-a
 enum-known-a c = search needs
 
--- src/lib.rt:70:58
+-- src/lib.rt:85:58
 group-of-requires : tie.Need-group-of-requires
 group-of-requires c κs = search needs
 
--- src/lib.rt:72:17
-enum-told : tie.Need-enum-told
-enum-told c = search needs
+-- src/lib.rt:86:30
+enum-known-a-2 : tie.Need-enum-known-a-2
+enum-known-a-2 c = search needs
 
--- src/lib.rt:73:13
+-- src/lib.rt:89:13
 voted-requires : tie.Need-voted-requires
 voted-requires c κs =
-    let k = c .before .before .before .before .before .before .before .before .before .before .before .before .before in
+    let k = c .before .before .before .before .before .before .before .before .before .before .before .before .before .before .before .before in
     let s = k .before in
-    let r = c .before .before .before .before .read-plan in
+    let r = c .before .before .before .before .before .before .before .read-plan in
     let isB : T (isBytes (s .args .second .now)) = bytes-of (s .args .second .now) (λ i. k .shared-slice-known .given i) in
-    (s .pre .0, s .pre .1, read-matching (s .args .g) (s .args .second .now) (r .result) (r .ensures) (s .pre .0) isB (c .before .before .enum-told .given .1))
+    (s .pre .0, s .pre .1, read-planned (s .args .g) (s .args .second .now) (r .result) (r .ensures) (s .pre .0) isB (c .before .before .before .before .before .a2 .given .1))
 
--- src/lib.rt:59:1
+-- src/lib.rt:68:1
 returns : tie.Need-returns
 returns c =
     let s = c .before .before .before .before .before .before .before .before .before .before .before .before .before .before in
     let r = c .before .before .before .before .read-plan in
     second-refused (s .args .g) (s .args .second .now) (r .result) (r .ensures) (s .args .p .now) (c .group-of .result) (c .before .before .a .given .1) (c .group-of .ensures)
 
--- src/lib.rt:59:1
+-- src/lib.rt:68:1
 returns-2 : tie.Need-returns-2
 returns-2 c =
-    let s = c .before .before .before .before .before .before .before .before .before .before .before .before .before .before .before in
-    let r = c .before .before .before .before .before .read-plan in
-    second-accepted (s .args .g) (s .args .second .now) (r .result) (r .ensures) (s .args .p .now) (c .before .before .before .enum-told .given .1) (c .voted .ensures)
+    let s = c .before .before .before .before .before .before .before .before .before .before .before .before .before .before .before .before .before .before in
+    let r = c .before .before .before .before .before .before .before .before .read-plan in
+    second-accepted (s .args .g) (s .args .second .now) (r .result) (r .ensures) (s .args .p .now) (c .before .before .before .before .before .before .a2 .given .1) (c .voted .ensures)
 
 pub second-judged-spec : {M : Type 1} → statement M
 second-judged-spec =
@@ -58,7 +58,7 @@ second-judged-spec =
     read-plan-requires
     enum-known-a
     group-of-requires
-    enum-told
+    enum-known-a-2
     voted-requires
     returns
     returns-2)

@@ -3,32 +3,43 @@ use mathlib.Core.Path.{ap₂, _∙_}
 use mir.Syntax.{w16}
 use mir.ValLaws.{toZ-ofZ}
 use Rattle.model.specs.Compare.{winnerOf}
-use Rattle.instance.specs.Decoded.{shownBy}
 use Rattle.compare.specs.declared.Comparison.the-variants.{Votes}
 use Rattle.compare.specs.Answers.{winnerCase}
+use Rattle.poll.specs.Votable.{side-arrays, light}
 use Rattle.compare.specs.Laws.{votes-are}
 use borrow.Author.Needs.{needs, sfits-of}
 use Rattle.compare.proofs.voted.Statement.{statement}
 use Rattle.compare.proofs.voted.Tie as tie
+use Rattle.compare.proofs.voted.Reads as reads
+use Rattle.compare.proofs.voted.Lts as lts
+use Rattle.compare.proofs.winner_of.Reads as winner-of-reads
+use Rattle.vote.proofs.plan_votes.Reads as plan-votes-reads
 
-poll-requires : tie.Need-poll-requires
-poll-requires c κs = (c .pre .0, c .pre .1, c .pre .2)
+-- src/lib.rt:60:9
+plan-votes-requires : tie.Need-plan-votes-requires
+plan-votes-requires c κs =
+    let s = c .before .before .before .before .before .before .before .before in
+    let g = s .args .g in
+    let p = s .pre .1 in
+    let q = s .pre .2 in
+    let a = light g (s .pre .0) (s .args .p .now) (p .matching) in
+    let b = light g (s .pre .0) (s .args .q .now) (q .matching) in
+    (side-arrays g (s .pre .0), ((a .0, b .0, a .1, b .1), (p .listed, q .listed)))
 
-poll-requires-2 : tie.Need-poll-requires-2
-poll-requires-2 c κs = let s = c .before in (s .pre .0, s .pre .2, s .pre .1)
-
+-- src/lib.rt:63:9
 winner-of-requires : tie.Need-winner-of-requires
 winner-of-requires c κs = search needs
 
+-- src/lib.rt:44:1
 returns : tie.Need-returns
 returns c =
-    let v = c .before .before .poll in
-    let w = c .before .poll2 in
-    let a = c .before .before .before .args in
-    let kv = toZ-ofZ w16 (v .result) (sfits-of (v .ok)) in
-    let kw = toZ-ofZ w16 (w .result) (sfits-of (w .ok)) in
+    let both = c .before .before .before .plan-votes in
+    let s = c .before .before .before .before .before .before .before .before .before .before .before .before in
+    let a = s .args in
+    let kv = toZ-ofZ w16 (both .result .first) (sfits-of (c .before .before .struct-told .given .0 .1)) in
+    let kw = toZ-ofZ w16 (both .result .second) (sfits-of (c .before .struct-told2 .given .1 .0 .1)) in
     ap₂ (λ y z. Votes y z (c .winner-of .result)) kv kw
-    ∙ votes-are (shownBy (a .g)) (a .p .now) (a .q .now) (v .ensures) (w .ensures) (c .winner-of .ensures ∙ ap₂ (λ y z. winnerCase (winnerOf y z)) kv kw)
+    ∙ votes-are (a .g) (a .p .now) (a .q .now) (s .pre .1 .matching) (s .pre .2 .matching) (both .ensures) (c .winner-of .ensures ∙ ap₂ (λ y z. winnerCase (winnerOf y z)) kv kw)
 
 pub voted-spec : {M : Type 1} → statement M
-voted-spec = tie.close (tie.spec poll-requires poll-requires-2 winner-of-requires returns)
+voted-spec = tie.close (tie.spec plan-votes-requires winner-of-requires returns)

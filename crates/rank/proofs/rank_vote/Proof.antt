@@ -1,68 +1,59 @@
 -- rank::rank_vote answers the model's vote of two ranks. Assumes nothing.
-use mathlib.Core.Path.{sym, ap, _∙_}
-use native.Mathlib.Omega.{arith}
+use mathlib.Core.Path.{ap, _∙_}
 use lib.IntN.{ℤ}
 use mir.Syntax.{w8}
 use mir.Val.{toZ, ofZ}
+use Rattle.rank.proofs.Rule.{rankVote-bits}
 use borrow.Author.Needs.{needs}
-use Rattle.rank.specs.Table.{tableVote-ranks, tableVote-first, tableVote-second, no-rank-0, no-rank-above}
-use Rattle.rank.proofs.Table.{carried, rankVote-bits}
 use Rattle.rank.proofs.rank_vote.Statement.{statement}
 use Rattle.rank.proofs.rank_vote.Tie as tie
+use Rattle.rank.proofs.rank_vote.Reads as reads
+use Rattle.rank.proofs.rank_vote.Lts as lts
 
-returns : tie.Need-returns
-returns c = tableVote-first _ _ (no-rank-0 _ (c .if1 .taken))
-
-returns-2 : tie.Need-returns-2
-returns-2 c = tableVote-first _ _ (no-rank-above _ (c .if2 .taken))
-
-returns-3 : tie.Need-returns-3
-returns-3 c = tableVote-second _ _ (no-rank-0 _ (c .if3 .taken))
-
-returns-4 : tie.Need-returns-4
-returns-4 c = tableVote-second _ _ (no-rank-above _ (c .if4 .taken))
-
+-- src/lib.rt:23:16
 sub-row : tie.Need-sub-row
 sub-row c = search needs
 
+-- src/lib.rt:23:15
 cast-row : tie.Need-cast-row
 cast-row c = search needs
 
+-- src/lib.rt:24:19
 sub-column : tie.Need-sub-column
 sub-column c = search needs
 
+-- src/lib.rt:24:18
 cast-column : tie.Need-cast-column
 cast-column c = search needs
 
+-- src/lib.rt:25:11
 mul-result : tie.Need-mul-result
 mul-result c = search needs
 
+-- src/lib.rt:25:11
 add-result : tie.Need-add-result
 add-result c = search needs
 
-array-copy-out-result : tie.Need-array-copy-out-result
-array-copy-out-result c = search needs
+-- src/lib.rt:25:5
+element-copy-out-result : tie.Need-element-copy-out-result
+element-copy-out-result c = search needs
 
-returns-5 : tie.Need-returns-5
-returns-5 c =
-    let f = c .before in
-    let a = f .before .before .before .before .args in
-    ap (λ (z : ℤ). toZ w8 (ofZ w8 z)) (carried (a .a) (a .b) (omega arith) (omega arith) (omega arith) (omega arith))
-    ∙ rankVote-bits (a .a) (a .b) ∙ sym (tableVote-ranks (a .a) (a .b) (omega arith) (omega arith) (omega arith) (omega arith))
+-- src/lib.rt:19:1
+returns : tie.Need-returns
+returns c =
+    let s = c .before in
+    let a = s .args in
+    ap (λ (z : ℤ). toZ w8 (ofZ w8 z)) (s .pre .0 (a .a) (a .b) (s .pre .1) (s .pre .2)) ∙ rankVote-bits (a .a) (a .b)
 
 pub rank-vote-spec : {M : Type 1} → statement M
 rank-vote-spec =
     tie.close
     (tie.spec
-    returns
-    returns-2
-    returns-3
-    returns-4
     sub-row
     cast-row
     sub-column
     cast-column
     mul-result
     add-result
-    array-copy-out-result
-    returns-5)
+    element-copy-out-result
+    returns)

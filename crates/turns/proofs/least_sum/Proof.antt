@@ -13,13 +13,13 @@ use Rattle.turns.proofs.least_sum.Statement.{statement}
 use Rattle.turns.proofs.least_sum.Tie as tie
 
 abbrev Inv-loop : tie.InvT-loop
-Inv-loop a b k least₀ j₀ least j = (1 ≤ j) × (leastSum (take k a) (take k b) ≤ least) × ((i : ℕ) → i < j → least ≤ turnSum i (take k a) (take k b))
+Inv-loop table a b k least₀ j₀ least j = (1 ≤ j) × (leastSum (take k a) (take k b) ≤ least) × ((i : ℕ) → i < j → least ≤ turnSum i (take k a) (take k b))
 
 abbrev μ-loop : tie.MeasureT-loop
-μ-loop a b k least₀ j₀ least j = k - j
+μ-loop table a b k least₀ j₀ least j = k - j
 
 turn-sum-requires : tie.Need-turn-sum-requires Inv-loop μ-loop
-turn-sum-requires c κs = (c .pre .0, zero-le, c .pre .1 .own, c .pre .2 .own)
+turn-sum-requires c κs = (c .pre .0, zero-le, c .pre .1 .own, c .pre .2 .own, c .pre .3)
 
 loop-holds : tie.Need-loop-holds Inv-loop μ-loop
 loop-holds c =
@@ -31,7 +31,7 @@ loop-holds c =
     )
 
 turn-sum-requires-2 : tie.Need-turn-sum-requires-2 Inv-loop μ-loop
-turn-sum-requires-2 c κs = let p = c .before .before .before .pre in (p .0, omega arith, p .1 .own, p .2 .own)
+turn-sum-requires-2 c κs = let p = c .before .before .before .pre in (p .0, omega arith, p .1 .own, p .2 .own, p .3)
 
 add-j : tie.Need-add-j Inv-loop μ-loop
 add-j c = omega arith

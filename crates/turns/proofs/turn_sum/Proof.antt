@@ -11,10 +11,10 @@ use Rattle.turns.proofs.turn_sum.Statement.{statement}
 use Rattle.turns.proofs.turn_sum.Tie as tie
 
 abbrev Inv-loop : tie.InvT-loop
-Inv-loop a b k j sum₀ i₀ sum i = (i ≤ k) × (sum + restSum i j (take k a) (take k b) ≡ turnSum j (take k a) (take k b)) × (sum ≤ 2 * i)
+Inv-loop table a b k j sum₀ i₀ sum i = (i ≤ k) × (sum + restSum i j (take k a) (take k b) ≡ turnSum j (take k a) (take k b)) × (sum ≤ 2 * i)
 
 abbrev μ-loop : tie.MeasureT-loop
-μ-loop a b k j sum₀ i₀ sum i = k - i
+μ-loop table a b k j sum₀ i₀ sum i = k - i
 
 loop-holds : tie.Need-loop-holds Inv-loop μ-loop
 loop-holds c =
@@ -44,7 +44,7 @@ rated-requires c κs =
     let a = s .args in
     let x = rank-at (a .k) (a .a .now) (s .pre .2) (w .wrapped .result) (omega (arith, w .wrapped .ensures, wrap-< (a .k) (l .loop .i + a .j) (omega arith))) in
     let y = rank-at (a .k) (a .b .now) (s .pre .3) (l .loop .i) (omega arith) in
-    (x .0, x .1, y .0, y .1)
+    (s .pre .4, x, y)
 
 -- what a couple adds
 couple : (c : tie.After-rated Inv-loop μ-loop)

@@ -1,0 +1,403 @@
+//! The proved comparison and blocking pair against the reference: node votes
+//! of every small shape, random plan pairs on rosters up to the limits, the
+//! winner's part, and the order of refusals.
+
+use planner::{Votes, Winner};
+use reference::blocking::blocking_pairs;
+use reference::compare::{self, File};
+use reference::fast;
+use reference::plan;
+use reference::random::{self, Random, Shape};
+use reference::roster::{self, List, Node, Roster, Side};
+use reference::votes::{node_vote, plan_vote};
+
+fn votes(roster: &[u8], first: &[u8], second: &[u8]) -> Votes {
+    let comparison = planner::compare(roster, first, second);
+    let votes = comparison.outcome.expect("accepted");
+    check_winner(votes, comparison.part, first, second);
+    votes
+}
+
+/// The winner is the plan whose vote is above zero, and the part is its pair
+/// bytes in its own file; without one, nothing at the first file's start.
+fn check_winner(votes: Votes, part: &[u8], first: &[u8], second: &[u8]) {
+    let (winner, bytes) = match (votes.first > 0, votes.second > 0) {
+        (true, false) => (Winner::First, &first[1..]),
+        (false, true) => (Winner::Second, &second[1..]),
+        (false, false) => (Winner::Neither, &first[..0]),
+        (true, true) => panic!("both plans win"),
+    };
+    assert_eq!(votes.winner, winner);
+    assert_eq!((part.as_ptr(), part.len()), (bytes.as_ptr(), bytes.len()));
+}
+
+/// A roster with one stand, which ranks all surveyors in their order, the last
+/// `tied` of them alike. Each surveyor has quota 1 and that stand alone.
+fn one_stand(quota: u8, surveyors: u8, tied: u8) -> Roster {
+    let surveyor = Node {
+        quota: 1,
+        list: List {
+            strict: vec![1],
+            tied: Vec::new(),
+        },
+    };
+    let strict = (1..=surveyors - tied).collect();
+    let tied = (surveyors - tied + 1..=surveyors).collect();
+    let stand = Node {
+        quota,
+        list: List { strict, tied },
+    };
+    let surveyors = vec![surveyor; usize::from(surveyors)];
+    Roster::new(surveyors, vec![stand]).expect("accepted")
+}
+
+/// The plan that gives the one stand these surveyors, as its file.
+fn at_the_stand(surveyors: &[u8]) -> Vec<u8> {
+    let mut file = vec![surveyors.len() as u8];
+    file.extend(surveyors.iter().flat_map(|&surveyor| [surveyor, 1]));
+    file
+}
+
+/// The stand's vote alone: each surveyor votes 1 for the plan that has it, so
+/// that the surveyors' votes can be taken off.
+fn stand_vote(roster: &[u8], mine: &[u8], theirs: &[u8]) -> i16 {
+    let vote = votes(roster, &at_the_stand(mine), &at_the_stand(theirs)).first;
+    vote - (mine.len() as i16 - theirs.len() as i16)
+}
+
+#[test]
+fn stated_node_votes() {
+    let cases: [(&str, u8, u8, &[u8], &[u8], i16); 5] = [
+        ("P7", 2, 4, &[1, 3], &[2, 4], 0),
+        ("P7 reversed", 2, 4, &[2, 4], &[1, 3], -2),
+        ("P8", 3, 3, &[1], &[2, 3], 0),
+        ("P9", 2, 3, &[2, 3], &[1, 2], -1),
+        ("P9 reversed", 2, 3, &[1, 2], &[2, 3], 1),
+    ];
+    for (name, quota, surveyors, mine, theirs, vote) in cases {
+        let roster = roster::write(&one_stand(quota, surveyors, 0));
+        assert_eq!(stand_vote(&roster, mine, theirs), vote, "{name}");
+    }
+}
+
+/// Every way to give each of some surveyors to the first plan, the second or
+/// both, with at most four for each plan: all orders of up to four pairs a
+/// side, shared ones too.
+fn for_each_shape(surveyors: u8, visit: &mut impl FnMut(&[u8], &[u8])) {
+    for code in 0..3usize.pow(u32::from(surveyors)) {
+        let label = |surveyor: u8| code / 3usize.pow(u32::from(surveyor) - 1) % 3;
+        let with = |lacking: usize| -> Vec<u8> {
+            let all = 1..=surveyors;
+            all.filter(|&surveyor| label(surveyor) != lacking).collect()
+        };
+        let (mine, theirs) = (with(1), with(2));
+        if mine.len() <= 4 && theirs.len() <= 4 {
+            visit(&mine, &theirs);
+        }
+    }
+}
+
+#[test]
+fn node_votes_of_every_small_shape() {
+    let mut shapes = 0;
+    let mut met = [0usize; 11];
+    for surveyors in 0..=8u8 {
+        for_each_shape(surveyors, &mut |mine, theirs| {
+            let fewest = mine.len().max(theirs.len()) as u8;
+            for quota in fewest..=5 {
+                for tied in 0..=surveyors {
+                    let roster = one_stand(quota, surveyors, tied);
+                    let vote = stand_vote(&roster::write(&roster), mine, theirs);
+                    let stand = roster.node(Side::Stands, 1);
+                    assert_eq!(
+                        vote,
+                        node_vote(stand, mine, theirs),
+                        "quota {quota}, {tied} tied, {mine:?} against {theirs:?}"
+                    );
+                    shapes += 1;
+                    met[(vote + 5) as usize] += 1;
+                }
+            }
+        });
+    }
+    println!("{shapes} shapes, votes from -5 to 5: {met:?}");
+    assert_eq!(shapes, 12_472);
+    // four pairs a side at most, so votes from -4 to 4
+    assert!(met[1..10].iter().all(|&times| times > 0));
+}
+
+/// Random rosters up to the limits: few nodes of large quotas, or many of
+/// small ones, each side for itself.
+fn shape(random: &mut Random, nodes: &[u8]) -> Shape {
+    let mut side = || {
+        let most = nodes[random.below(nodes.len())];
+        let quota = 64 / most.max(8);
+        let least = if random.chance(50) { 0 } else { quota };
+        (most, least..=quota)
+    };
+    let ((surveyors, quotas_s), (stands, quotas_t)) = (side(), side());
+    Shape {
+        counts: [surveyors / 2..=surveyors, stands / 2..=stands],
+        quotas: [quotas_s, quotas_t],
+        pairs: [30, 70, 100][random.below(3)],
+        ties: 50,
+        opposed: 20,
+    }
+}
+
+/// A random plan within the quotas, as its file.
+fn some_plan(random: &mut Random, roster: &Roster) -> Vec<u8> {
+    let mut order: Vec<usize> = (0..roster.pairs().len()).collect();
+    random.shuffle(&mut order);
+    let percent = [30, 80, 100][random.below(3)];
+    let mut room = [Side::Surveyors, Side::Stands]
+        .map(|side| -> Vec<u8> { roster.nodes(side).iter().map(|node| node.quota).collect() });
+    let mut chosen: Vec<usize> = Vec::new();
+    for index in order {
+        let pair = roster.pairs()[index];
+        let (s, t) = (usize::from(pair.surveyor) - 1, usize::from(pair.stand) - 1);
+        if room[0][s] > 0 && room[1][t] > 0 && random.chance(percent) {
+            room[0][s] -= 1;
+            room[1][t] -= 1;
+            chosen.push(index);
+        }
+    }
+    plan::write(roster, &chosen.into_iter().collect())
+}
+
+/// Compares that many plan pairs, several on each roster, with the reference
+/// written for speed.
+fn compare_random_plans(seed: u64, nodes: &[u8], plans: usize, pairs: usize) {
+    let mut random = Random::new(seed);
+    let (mut done, mut less, mut largest) = (0, 0, 0);
+    while done < pairs {
+        let shape = shape(&mut random, nodes);
+        let roster = random::roster(&mut random, &shape);
+        let bytes = roster::write(&roster);
+        let instance = fast::roster::read(&bytes).expect("accepted");
+        let files: Vec<_> = (0..plans)
+            .map(|_| some_plan(&mut random, &roster))
+            .collect();
+        let read = |file: &Vec<u8>| fast::plan::read(&instance, file).expect("accepted");
+        let chosen: Vec<_> = files.iter().map(read).collect();
+        for first in 0..plans {
+            for second in 0..first {
+                let votes = votes(&bytes, &files[first], &files[second]);
+                let vote = |a, b| fast::vote::vote(&instance, &chosen[a], &chosen[b]);
+                assert_eq!(
+                    (votes.first, votes.second),
+                    (vote(first, second), vote(second, first)),
+                    "{bytes:?} {:?} {:?}",
+                    files[first],
+                    files[second]
+                );
+                assert!(votes.first + votes.second <= 0);
+                less += usize::from(votes.first + votes.second < 0);
+                largest = largest.max(files[first].len());
+                done += 1;
+            }
+        }
+    }
+    println!("{done} plan pairs; both votes added to less than zero {less} times; largest plan file {largest} bytes");
+    assert!(less > done / 20, "{less}");
+    assert!(largest > 60, "{largest}");
+}
+
+#[test]
+fn random_plan_pairs() {
+    compare_random_plans(61, &[4, 6, 8], 8, 500_000);
+}
+
+#[test]
+fn more_random_plan_pairs() {
+    compare_random_plans(62, &[2, 8, 12], 8, 400_000);
+}
+
+#[test]
+fn random_plan_pairs_up_to_the_limits() {
+    compare_random_plans(63, &[8, 16, 32], 12, 120_000);
+}
+
+#[test]
+fn all_plans_of_small_rosters() {
+    let mut random = Random::new(64);
+    let mut pairs = 0;
+    for _ in 0..2_000 {
+        let shape = Shape {
+            counts: [1..=3, 1..=3],
+            quotas: [0..=3, 0..=3],
+            pairs: 70,
+            ties: 50,
+            opposed: 20,
+        };
+        let roster = random::roster(&mut random, &shape);
+        if roster.pairs().len() > 5 {
+            continue;
+        }
+        let bytes = roster::write(&roster);
+        let plans = reference::plans::all_plans(&roster);
+        for mine in &plans {
+            for theirs in &plans {
+                let [a, b] = [mine, theirs].map(|plan| plan::write(&roster, plan));
+                assert_eq!(
+                    votes(&bytes, &a, &b).first,
+                    plan_vote(&roster, mine, theirs)
+                );
+                pairs += 1;
+            }
+        }
+    }
+    println!("{pairs} plan pairs against all pairings");
+    assert!(pairs > 40_000);
+}
+
+/// One damage: a byte changed, dropped or added, or the file cut.
+fn damage(random: &mut Random, file: &mut Vec<u8>) {
+    if file.is_empty() {
+        return file.push(random.below(256) as u8);
+    }
+    let at = random.below(file.len());
+    match random.below(5) {
+        0 => file[at] = random.below(34) as u8,
+        1 => file[at] = file[at].wrapping_add(1),
+        2 => file.truncate(at),
+        3 => file.push(random.below(34) as u8),
+        _ => drop(file.remove(at)),
+    }
+}
+
+fn same_refusal(ours: planner::Refusal, theirs: reference::refusal::Refusal) {
+    use planner::Group as Ours;
+    use reference::refusal::Group as Theirs;
+    assert_eq!(ours.number, theirs.number());
+    assert!(matches!(
+        (ours.group, theirs.group()),
+        (Ours::Form, Theirs::Form)
+            | (Ours::Content, Theirs::Content)
+            | (Ours::Plan, Theirs::Plan)
+            | (Ours::Desk, Theirs::Desk)
+    ));
+}
+
+#[test]
+fn damaged_files_are_refused_in_their_order() {
+    let mut random = Random::new(65);
+    // refused: the roster, the first file, the second file; accepted
+    let mut met = [0usize; 4];
+    for _ in 0..200_000 {
+        // the reference tries all pairings here, so quotas are small
+        let mut shape = shape(&mut random, &[2, 4]);
+        shape.quotas = [0..=3, 0..=3];
+        let roster = random::roster(&mut random, &shape);
+        let [mut first, mut second] = [(); 2].map(|()| some_plan(&mut random, &roster));
+        let mut bytes = roster::write(&roster);
+        for file in [&mut bytes, &mut first, &mut second] {
+            if random.chance(30) {
+                damage(&mut random, file);
+            }
+        }
+        let ours = planner::compare(&bytes, &first, &second);
+        let roster = match roster::read(&bytes) {
+            Ok(roster) => roster,
+            Err(refusal) => {
+                same_refusal(ours.outcome.expect_err("a refused roster"), refusal);
+                check_empty(ours.part, &first);
+                met[0] += 1;
+                continue;
+            }
+        };
+        let theirs = compare::compare(&roster, &first, &second);
+        let file = match theirs.part.file {
+            File::First => &first,
+            File::Second => &second,
+        };
+        let part = &file[theirs.part.range.clone()];
+        assert_eq!(
+            (ours.part.as_ptr(), ours.part.len()),
+            (part.as_ptr(), part.len())
+        );
+        match (ours.outcome, theirs.outcome) {
+            (Ok(ours), Ok(theirs)) => {
+                assert_eq!(ours.first, theirs.first_against_second);
+                assert_eq!(ours.second, theirs.second_against_first);
+                met[3] += 1;
+            }
+            (Err(ours), Err(theirs)) => {
+                same_refusal(ours, theirs);
+                met[1 + usize::from(plan::read(&roster, &first).is_ok())] += 1;
+            }
+            (ours, theirs) => panic!("{ours:?} {theirs:?} {bytes:?} {first:?} {second:?}"),
+        }
+    }
+    println!("refused: roster, first file, second file; accepted: {met:?}");
+    assert!(met.iter().all(|&times| times > 5_000));
+}
+
+fn check_empty(part: &[u8], first: &[u8]) {
+    assert_eq!((part.as_ptr(), part.len()), (first.as_ptr(), 0));
+}
+
+#[test]
+fn all_three_refused() {
+    // the roster's refusal, then the first file's, then the second's
+    let roster = roster::write(&one_stand(1, 2, 0));
+    let number = |roster: &[u8], first: &[u8], second: &[u8]| {
+        let comparison = planner::compare(roster, first, second);
+        check_empty(comparison.part, first);
+        comparison.outcome.expect_err("refused").number
+    };
+    assert_eq!(number(&[1, 9], &[65], &[]), 3);
+    assert_eq!(number(&roster, &[65], &[]), 2);
+    assert_eq!(number(&roster, &[1, 3, 1], &[]), 10);
+    assert_eq!(number(&roster, &[2, 1, 1, 2, 1], &[]), 12);
+    assert_eq!(number(&roster, &[1, 2, 1], &[]), 1);
+    assert_eq!(number(&roster, &[0], &[2, 2, 1, 1, 1]), 11);
+    assert_eq!(number(&roster, &[0], &[0, 0]), 9);
+}
+
+#[test]
+fn blocking_pairs_of_random_plans() {
+    let mut random = Random::new(66);
+    // some pair, none, refused
+    let mut met = [0usize; 3];
+    let mut some = 0;
+    for _ in 0..40_000 {
+        let shape = shape(&mut random, &[2, 4, 6]);
+        let roster = random::roster(&mut random, &shape);
+        let bytes = roster::write(&roster);
+        for _ in 0..6 {
+            let mut file = some_plan(&mut random, &roster);
+            if random.chance(10) {
+                damage(&mut random, &mut file);
+            }
+            let ours = planner::blocking(&bytes, &file);
+            let theirs = plan::read(&roster, &file).map(|plan| blocking_pairs(&roster, &plan));
+            match (ours, theirs) {
+                (Ok(Some(pair)), Ok(all)) => {
+                    let numbers = |index: &usize| {
+                        let pair = roster.pairs()[*index];
+                        (pair.surveyor, pair.stand)
+                    };
+                    // the contract names the lowest
+                    assert_eq!(Some(pair), all.first().map(numbers), "{bytes:?} {file:?}");
+                    some += usize::from(all.len() > 1);
+                    met[0] += 1;
+                }
+                (Ok(None), Ok(all)) => {
+                    assert_eq!(all, [], "{bytes:?} {file:?}");
+                    met[1] += 1;
+                }
+                (Err(ours), Err(theirs)) => {
+                    same_refusal(ours, theirs);
+                    met[2] += 1;
+                }
+                (ours, theirs) => panic!("{ours:?} {theirs:?} {bytes:?} {file:?}"),
+            }
+        }
+    }
+    println!("a pair, none, refused: {met:?}; {some} times with more than one");
+    assert!(met.iter().all(|&times| times > 5_000));
+    assert!(some > 5_000);
+    assert_eq!(planner::blocking(&[33], &[65]).unwrap_err().number, 2);
+    assert_eq!(planner::blocking(&[1, 9], &[65]).unwrap_err().number, 3);
+}
