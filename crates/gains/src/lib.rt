@@ -97,8 +97,11 @@ pub fn gain(
     let mut f = 0;
     while f < m {
         let v = other[f] as usize;
-        let p = grid::rated(b, rank[f]);
-        o = grid::offered(!plan[f] & ((end[f] == e) & room[v]), p, o);
+        let ok = !plan[f] & ((end[f] == e) & room[v]);
+        if ok {
+            let p = grid::rated(b, rank[f]);
+            o = grid::lesser(p, o);
+        }
         f += 1;
     }
     o

@@ -1,8 +1,12 @@
 -- The best of the edges from f on and of what is held is the best of all.
 use mathlib.Core.Path.{_≡_, sym, ap, _∙_}
-use Prim.Native.Nat.{_+_, _-_, _≤_, zero-le}
+use mathlib.Core.Logic.{⊎-elim}
+use mathlib.Core.Bool.{Bool, true, false}
+use Prim.Native.Nat.{_+_, _-_, _≤_, min, zero-le}
 use native.Mathlib.Omega.{arith}
 use borrow.Author.Needs.{needs}
+use Rattle.votes.specs.Score.{rate}
+use Rattle.arrays.specs.Shown.{at}
 use Rattle.grid.specs.Cheapest.{offer}
 use Rattle.gains.specs.Gains.{gainable, gainPrice, gainRest, gain-start, gain-end, gain-turn}
 use Rattle.gains.proofs.gain.Statement.{statement}
@@ -25,23 +29,23 @@ element-copy-out-v c = search needs
 cast-v : tie.Need-cast-v Inv-loop μ-loop
 cast-v c = omega (arith, c .before .before .before .pre .1 (c .before .before .loop .f) (omega arith))
 
+element-copy-out-ok : tie.Need-element-copy-out-ok Inv-loop μ-loop
+element-copy-out-ok c = search needs
+
+element-copy-out-ok-2 : tie.Need-element-copy-out-ok-2 Inv-loop μ-loop
+element-copy-out-ok-2 c = search needs
+
+element-copy-out-ok-3 : tie.Need-element-copy-out-ok-3 Inv-loop μ-loop
+element-copy-out-ok-3 c = omega (arith, c .before .before .before .before .before .pre .1 (c .before .before .before .before .loop .f) (omega arith))
+
 element-copy-out-rated : tie.Need-element-copy-out-rated Inv-loop μ-loop
 element-copy-out-rated c = search needs
 
 rated-requires : tie.Need-rated-requires Inv-loop μ-loop
 rated-requires c κs = search needs
 
-element-copy-out-offered : tie.Need-element-copy-out-offered Inv-loop μ-loop
-element-copy-out-offered c = search needs
-
-element-copy-out-offered-2 : tie.Need-element-copy-out-offered-2 Inv-loop μ-loop
-element-copy-out-offered-2 c = search needs
-
-element-copy-out-offered-3 : tie.Need-element-copy-out-offered-3 Inv-loop μ-loop
-element-copy-out-offered-3 c = omega (arith, c .before .before .before .before .before .before .before .pre .1 (c .before .before .before .before .before .before .loop .f) (omega arith))
-
-offered-requires : tie.Need-offered-requires Inv-loop μ-loop
-offered-requires c κs = search needs
+lesser-requires : tie.Need-lesser-requires Inv-loop μ-loop
+lesser-requires c κs = search needs
 
 add-f : tie.Need-add-f Inv-loop μ-loop
 add-f c = search needs
@@ -51,12 +55,17 @@ loop-less c = search needs
 
 loop-again : tie.Need-loop-again Inv-loop μ-loop
 loop-again c =
-    let l = c .before .before .before .before .before .before .before .before in
-    let a = c .before .before .before .before .before .before .before .before .before .args in
-    let f = l .loop .f in (
+    let l = c .before .before .before .before .before .before in
+    let a = l .before .args in
+    let f = l .loop .f in
+    let turn : (t : Bool) → gainable (a .end .now) (a .other .now) (a .plan .now) (a .room .now) (a .e) f ≡ t
+    → gainRest (a .m) (a .end .now) (a .other .now) (a .rank .now) (a .plan .now) (a .room .now) (a .e) (a .b) (offer t (rate (a .b) (at (a .rank .now) f)) (l .loop .o)) (f + 1) ≡ gainPrice (a .m) (a .end .now) (a .other .now) (a .rank .now) (a .plan .now) (a .room .now) 6 (a .e) (a .b) =
+    (λ t q. ap (λ t. gainRest (a .m) (a .end .now) (a .other .now) (a .rank .now) (a .plan .now) (a .room .now) (a .e) (a .b) (offer t (rate (a .b) (at (a .rank .now) f)) (l .loop .o)) (f + 1)) (sym q) ∙ sym (gain-turn (a .m) (a .end .now) (a .other .now) (a .rank .now) (a .plan .now) (a .room .now) (a .e) (a .b) (l .loop .o) f (omega arith)) ∙ l .loop .inv .1) in (
       omega arith,
-      ap (λ v. gainRest (a .m) (a .end .now) (a .other .now) (a .rank .now) (a .plan .now) (a .room .now) (a .e) (a .b) v (f + 1)) (c .offered .ensures ∙ ap (λ p. offer (gainable (a .end .now) (a .other .now) (a .plan .now) (a .room .now) (a .e) f) p (l .loop .o)) (c .before .before .before .before .rated .ensures .0))
-          ∙ sym (gain-turn (a .m) (a .end .now) (a .other .now) (a .rank .now) (a .plan .now) (a .room .now) (a .e) (a .b) (l .loop .o) f (omega arith)) ∙ l .loop .inv .1,
+      ⊎-elim
+          (λ w. ap (λ v. gainRest (a .m) (a .end .now) (a .other .now) (a .rank .now) (a .plan .now) (a .room .now) (a .e) (a .b) v (f + 1)) (w .4 ∙ w .3 .ensures ∙ ap (λ p. min p (l .loop .o)) (w .2 .ensures .0)) ∙ turn true (w .0 .taken))
+          (λ w. ap (λ v. gainRest (a .m) (a .end .now) (a .other .now) (a .rank .now) (a .plan .now) (a .room .now) (a .e) (a .b) v (f + 1)) (w .1) ∙ turn false (w .0 .left))
+          (c .if1 .came),
     )
 
 returns : tie.Need-returns Inv-loop μ-loop
@@ -74,12 +83,12 @@ gain-spec =
     loop-holds
     element-copy-out-v
     cast-v
+    element-copy-out-ok
+    element-copy-out-ok-2
+    element-copy-out-ok-3
     element-copy-out-rated
     rated-requires
-    element-copy-out-offered
-    element-copy-out-offered-2
-    element-copy-out-offered-3
-    offered-requires
+    lesser-requires
     add-f
     loop-less
     loop-again
