@@ -128,10 +128,7 @@ pub extern "C" fn crew_desk_judge(desk: Desk, rival: &mut [u8]) -> DeskJudged
     let d = r.desk;
     let a = r.answer;
     let n = weighing::as_judged(a);
-    DeskJudged {
-        desk: d,
-        judged: n,
-    }
+    DeskJudged { desk: d, judged: n }
 }
 
 // two plan files against the held roster

@@ -1,8 +1,5 @@
 -- What each case of the code's answer says, in document 01's words: the finder's answer as the model's desk gives it.
-use Prim.Native.Nat.{ℕ}
 use mathlib.Core.Path.{_≡_, refl, sym, ap, _∙_}
-use Rattle.model.specs.Refusal as refusal
-use Rattle.model.specs.Refusal.{groupOf}
 use Rattle.model.specs.Desk as model
 use Rattle.refusal.specs.Shown.{groupShown, groupCase, case-shown}
 use Rattle.answers.specs.declared.Found.{Found}
@@ -19,16 +16,6 @@ abbrev pub foundShown : Found → model.Answer
 foundShown (found.Plan n) = model.plan n
 foundShown (found.None n k) = model.none n (kindShown k)
 foundShown (found.Refused n g) = model.refused n (groupShown g)
-
--- the group that a refusal's case shows is the refusal's
-group-back : (g : refusal.Group) → groupShown (groupCase g) ≡ g
-group-back refusal.form = refl
-group-back refusal.content = refl
-group-back refusal.plan = refl
-group-back refusal.desk = refl
-
-pub refused-shown : (n : ℕ) → groupShown (groupCase (groupOf n)) ≡ groupOf n
-refused-shown n = group-back (groupOf n)
 
 -- the case that shows an answer of the finder; the other answers have none
 abbrev pub kindCase : model.NoneKind → NoneKind

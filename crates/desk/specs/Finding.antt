@@ -8,6 +8,7 @@ use mathlib.Core.List.{List}
 use lib.ListN.{length, length-map, replicate}
 use lib.Dec.{T, ltb, nltb→le}
 use Rattle.model.specs.Limits.{planSize, diarySize, leftSize}
+use Rattle.model.specs.Refusal.{groupOf}
 use Rattle.model.specs.Reading.{Reading, accepted, turned}
 use Rattle.model.specs.Roster.{Roster}
 use Rattle.model.specs.RosterFile.{readRoster}
@@ -24,7 +25,8 @@ use Rattle.reduction.specs.Course.{steps-few}
 use Rattle.diary.specs.declared.Step.{Step}
 use Rattle.diary.specs.Steps.{recordIn, recordsIn, stepsIn}
 use Rattle.diary.specs.Laws.{filled-diary, filled-none}
-use Rattle.answers.specs.Shown.{foundShown, refused-shown}
+use Rattle.answers.specs.Shown.{foundShown}
+use Rattle.refusal.specs.Shown.{shown-case}
 use Rattle.finder.specs.declared.Outcome.{Outcome}
 use Rattle.finder.specs.Promise as promise
 use Rattle.finder.specs.Promise.{Promise, leftAfter, planAfter, answerFor, written-is, shown-is, promised, steps-are}
@@ -107,7 +109,7 @@ module _ (s : List Step) (l p v : List ℕ) where
     refused-reply n h e o a k q =
         subst (λ z. Replied d call (foundShown (r .answer)) (find (recordsIn s′) l′ p′ v′) z) (sym same)
         (subst (λ c. Replied d call (foundShown (r .answer)) c d) (λ i. find (recordsIn (sym q i)) (sym (k .left) i) (sym (k .plan) i) (sym (k .rival) i))
-        (by-state d call tt e h (ap foundShown (sym a ∙ k .refuses .answer) ∙ ap (refused n) (refused-shown n))))
+        (by-state d call tt e h (ap foundShown (sym a ∙ k .refuses .answer) ∙ ap (refused n) (shown-case (groupOf n)))))
 
     -- what was found
     module _ (R : Roster) (e : readRoster (rosterBytes d) ≡ accepted R) (f : FindsFor R (replicate 4096 0) l p v (r .answer) flat l′ p′ v′) (q : recordsIn s′ ≡ onto (diaryOf (instanceOf R)) (recordsIn s)) where

@@ -20,7 +20,7 @@ use Rattle.rosters.specs.PlanFiles.{plan-accepted-size}
 use Rattle.search.specs.Rival.{rivalOf}
 use Rattle.blocking.specs.Blocking.{firstBlocking}
 use Rattle.refusal.specs.declared.Group.{Group}
-use Rattle.refusal.specs.Shown.{groupShown}
+use Rattle.refusal.specs.Shown.{groupShown, shown-case}
 use Rattle.roster.specs.declared.Answer as reader
 use Rattle.roster.specs.declared.Answer.the-variants as answer
 use Rattle.roster.specs.Shown.{shown, shown-accepted, shown-refused}
@@ -31,7 +31,7 @@ use Rattle.desk.specs.declared.Desk.{Desk}
 use Rattle.desk.specs.Held.{rosterBytes, planBytes, heldPlan, held, heldOf, stateNumber}
 use Rattle.desk.specs.Replies.{answered, Replied}
 use Rattle.desk.specs.Laws.{pass-answer, lent-alike, no-number}
-use Rattle.desk.specs.Passing.{not-0, group-shown}
+use Rattle.desk.specs.Passing.{not-0}
 
 -- ---- a roster: 13, 14 and 15 never come before it
 abbrev rosterShown : reader.Answer → Answer
@@ -40,7 +40,7 @@ rosterShown (answer.Refused n g) = refused n (groupShown g)
 
 roster-shown : (x : Reading Roster) → rosterShown (shown x) ≡ loadedRoster rivalOf firstBlocking x
 roster-shown (accepted r) = refl
-roster-shown (turned n) = ap (refused n) (group-shown (groupOf n))
+roster-shown (turned n) = ap (refused n) (shown-case (groupOf n))
 
 roster-answer : (h : Held) (file : List ℕ) {a : reader.Answer} → a ≡ shown (readRoster file) → rosterShown a ≡ answered h (loadRoster file)
 unfolding answerOf stateRefusal
@@ -82,7 +82,7 @@ isTaken (reply.Refused n g) = false
 
 plan-shown : (y : Reading Plan) → planShown (replied y) ≡ loadedPlan rivalOf firstBlocking y
 plan-shown (accepted M) = refl
-plan-shown (turned n) = ap (refused n) (group-shown (groupOf n))
+plan-shown (turned n) = ap (refused n) (shown-case (groupOf n))
 
 plan-answer : (x : Reading Roster) (plan file : List ℕ) → 0 ≡ stateNumber (held x plan) false false → {a : PlanReply} → a ≡ planReply x file → planShown a ≡ answered (held x plan) (loadPlan file)
 unfolding stateRefusal

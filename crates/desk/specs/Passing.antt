@@ -8,7 +8,6 @@ use mathlib.Core.List.{List}
 use lib.ListN.{length}
 use lib.Dec.{ltb}
 use Rattle.model.specs.Limits.{planSize, rosterSize}
-use Rattle.model.specs.Refusal as groups
 use Rattle.model.specs.Refusal.{groupOf}
 use Rattle.model.specs.Reading.{Reading, accepted, turned}
 use Rattle.model.specs.Roster.{Roster}
@@ -24,7 +23,7 @@ use Rattle.model.specs.Compare.{Part, winnerPart, partOf, comparisonOf}
 use Rattle.model.specs.Desk.{Held, roster, planned, writeRosterTo, writePlanTo, compare, blocking, votes, refusedPart, stateRefusal, answerOf, comparisonAnswer, deskAfter}
 use Rattle.search.specs.Rival.{rivalOf}
 use Rattle.blocking.specs.Blocking.{firstBlocking}
-use Rattle.refusal.specs.Shown.{groupShown, groupCase}
+use Rattle.refusal.specs.Shown.{shown-case}
 use Rattle.roster_writer.specs.declared.Written.{Written}
 use Rattle.roster_writer.specs.Writes as rosters
 use Rattle.files.specs.Replies as files
@@ -102,12 +101,6 @@ plan-written (accepted r) plan out {w} {after} s W = by-plan (readPlan (instance
         )
 
 -- ---- comparison
-pub group-shown : (g : groups.Group) → groupShown (groupCase g) ≡ g
-group-shown groups.form = refl
-group-shown groups.content = refl
-group-shown groups.plan = refl
-group-shown groups.desk = refl
-
 compared-shown : (G : Instance) (a b : List ℕ) → comparisonShown a b (comparison.answered (comparisonOf G a b)) ≡ comparisonAnswer rivalOf firstBlocking (partOf G a b) (comparisonOf G a b)
 unfolding partOf
 compared-shown G a b = go (comparisonOf G a b)
@@ -119,7 +112,7 @@ compared-shown G a b = go (comparisonOf G a b)
 
     go : (c : outcome.Comparison) → comparisonShown a b (comparison.answered c) ≡ comparisonAnswer rivalOf firstBlocking (outcome.comparisonPart c a b) c
     go (outcome.votes v w x) = ap (λ y. votes v w y (winnerPart y a b)) (same x)
-    go (outcome.refused n) = ap (λ g. refusedPart n g (winnerPart outcome.neither a b)) (group-shown (groupOf n))
+    go (outcome.refused n) = ap (λ g. refusedPart n g (winnerPart outcome.neither a b)) (shown-case (groupOf n))
 
 plans-compared : (x : Reading Roster) (plan a b : List ℕ) {c : Comparison} → 0 ≡ stateNumber (held x plan) false false → c ≡ comparisonReply x a b
     → comparisonShown a b c ≡ answered (held x plan) (compare a b)

@@ -17,13 +17,11 @@ use answers::Found;
 use blocking_pairs::Blocked;
 use compare::Comparison;
 use diary::Step;
+use limits::PLAN_SIZE;
 use limits::ROSTER_SIZE;
 use refusal::Group;
 use roster_writer::Written;
 use verdicts::Verdict;
-
-// "a buffer for a plan, candidate or rival needs 129 bytes"
-const PLAN_SIZE: usize = 129;
 
 // the bytes of a roster file and of a plan file, at the front of their arrays
 #[repr(C)]

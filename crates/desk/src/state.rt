@@ -4,9 +4,9 @@ ghost use mathlib.Core.Bool.{_&&_};
 ghost use Rattle.model.specs.Desk.{noRoster, noPlan};
 ghost use Rattle.desk.specs.Held.{heldOf, stateNumber};
 use super::Desk;
-use super::PLAN_SIZE;
 use super::held;
 use files::PlanReply;
+use limits::PLAN_SIZE;
 use limits::ROSTER_SIZE;
 use roster::Answer;
 

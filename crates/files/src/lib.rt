@@ -4,13 +4,11 @@ ghost use mathlib.Core.Path.{_≡_};
 ghost use Rattle.model.specs.RosterFile.{readRoster};
 ghost use Rattle.files.specs.Replies.{RosterAccepted, planReply, JudgedAs, PlanWritten};
 ghost use Rattle.files.specs.Pairs.{PairsWritten};
+use limits::PLAN_SIZE;
 use plan::PlanAnswer;
 use refusal::Group;
 use roster::Answer;
 use roster_writer::Written;
-
-// "a buffer for a plan, candidate or rival needs 129 bytes"
-const PLAN_SIZE: usize = 129;
 
 // 1,024 pairs of five bytes
 const PAIRS_SIZE: usize = 5120;

@@ -13,14 +13,10 @@ use answers::Found;
 use answers::NoneKind;
 use instance::Instance;
 use judging::Weighed;
+use limits::DIARY_SIZE;
+use limits::LEFT_SIZE;
+use limits::PLAN_SIZE;
 use roster::Answer;
-
-// "the diary and the left pairs 1,024 entries each", a pair being two bytes; "a buffer for a plan, candidate or rival needs 129 bytes"
-const DIARY_SIZE: usize = 1024;
-
-const LEFT_SIZE: usize = 2048;
-
-const PLAN_SIZE: usize = 129;
 
 // "Otherwise the fixed pairs are the candidate: strong gives the plan; else none, rivalled": after so many steps.
 pub(crate) fn judged(

@@ -11,5 +11,12 @@ pub const QUOTA_SUM_LIMIT: u8 = 64;
 // "a two-byte count of all entries, low byte first, at most 1,024"
 pub const ENTRY_LIMIT: usize = 1024;
 
-// "a buffer .. for a roster 2,214"
+// "a buffer for a plan, candidate or rival needs 129 bytes, for a roster 2,214, the diary and the left pairs 1,024 entries each", a pair left
+// being two bytes
+pub const PLAN_SIZE: usize = 129;
+
 pub const ROSTER_SIZE: usize = 2214;
+
+pub const DIARY_SIZE: usize = 1024;
+
+pub const LEFT_SIZE: usize = 2048;

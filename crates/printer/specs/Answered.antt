@@ -1,7 +1,7 @@
 -- What the printer writes.
 use Prim.Native.Nat.{ℕ, _+_}
 use native.Mathlib.Omega.{arith}
-use mathlib.Core.Path.{_≡_, refl, ap, _∙_, subst}
+use mathlib.Core.Path.{_≡_, ap, _∙_, subst}
 use mathlib.Core.List.{List, [], _∷_, _++_, append-assoc}
 use lib.ListN.{length, drop}
 use Rattle.lists.specs.Keep.{gather}
@@ -17,10 +17,10 @@ use Rattle.model.specs.Finder.{diaryOf}
 use Rattle.model.specs.Desk.{onto}
 use Rattle.model.specs.Printed.{number, line, diaryLine, ending, groupWord, answerText}
 use Rattle.refusal.specs.declared.Group.{Group}
-use Rattle.refusal.specs.Shown.{groupShown, groupCase}
+use Rattle.refusal.specs.Shown.{groupShown, groupCase, shown-case}
 use Rattle.answers.specs.declared.Found.{Found}
 use Rattle.answers.specs.declared.Found.the-variants.{Refused}
-use Rattle.answers.specs.Shown.{refused-shown, shows-found}
+use Rattle.answers.specs.Shown.{shows-found}
 use Rattle.text.specs.Appended.{Appended}
 use Rattle.endings.specs.Endings.{refusedText}
 use Rattle.printer.specs.Printable.{shownText}
@@ -61,4 +61,4 @@ pub answered-text : (rivalOf : Instance → Plan → Plan) (blockingOf : Instanc
     → HandedFor rivalOf blockingOf x a flat left plan rival → Answered a flat left plan rival before n after → Wrote (answerText x rivalOf) before n after
 answered-text rivalOf blockingOf (accepted r) h w = w .found rivalOf blockingOf (instanceOf r) (F.finderOf (instanceOf r) (rivalOf (instanceOf r))) h
 answered-text rivalOf blockingOf (turned k) {a} {before = before} {after = after} {n = n} h w =
-    subst (λ g. Wrote (line (text "refused" ∷ number k ∷ groupWord g ∷ [])) before n after) (refused-shown k) (w .refused k (groupCase (groupOf k)) (shows-found a h))
+    subst (λ g. Wrote (line (text "refused" ∷ number k ∷ groupWord g ∷ [])) before n after) (shown-case (groupOf k)) (w .refused k (groupCase (groupOf k)) (shows-found a h))

@@ -23,14 +23,15 @@ use Rattle.search.specs.Rival.{rivalOf}
 use Rattle.blocking.specs.Blocking.{firstBlocking}
 use Rattle.named.specs.Named.{allowed}
 use Rattle.refusal.specs.declared.Group.{Group}
-use Rattle.refusal.specs.Shown.{groupShown}
+use Rattle.model.specs.Refusal.{groupOf}
+use Rattle.refusal.specs.Shown.{groupShown, shown-case}
 use Rattle.roster.specs.declared.Answer.{Answer}
 use Rattle.roster.specs.declared.Answer.the-variants as answer
 use Rattle.roster.specs.Shown.{shown, shown-refused}
 use Rattle.files.specs.Replies.{RosterAccepted}
 use Rattle.answers.specs.declared.Found.{Found}
 use Rattle.answers.specs.declared.Found.the-variants as says
-use Rattle.answers.specs.Shown.{foundShown, refused-shown}
+use Rattle.answers.specs.Shown.{foundShown}
 use Rattle.finder.specs.Promise.{leftAfter, planAfter, rivalAfter, shown-is}
 use Rattle.finder.specs.Found.{FindsIn, Finds}
 use Rattle.printer.specs.Printable.{Printable, textSize}
@@ -84,7 +85,7 @@ module _ (input : List ℕ) (isB : T (isBytes input)) where
   pub refused-handed : {n : ℕ} {k : Group} → answer.Refused n k ≡ shown (readRoster input) → (flat left plan rival : List ℕ) → HandedFor rivalOf firstBlocking (readRoster input) (says.Refused n k) flat left plan rival
   refused-handed {n} {k} e flat left plan rival =
       let t = shown-refused (readRoster input) e in
-      subst (λ y. HandedFor rivalOf firstBlocking y (says.Refused n k) flat left plan rival) (sym t) (ap (refused n) (ap groupShown (ap (grouped k) (e ∙ ap shown t)) ∙ refused-shown n))
+      subst (λ y. HandedFor rivalOf firstBlocking y (says.Refused n k) flat left plan rival) (sym t) (ap (refused n) (ap groupShown (ap (grouped k) (e ∙ ap shown t)) ∙ shown-case (groupOf n)))
     where
       grouped : Group → Answer → Group
       grouped d answer.Accepted = d

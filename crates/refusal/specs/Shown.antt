@@ -23,5 +23,11 @@ case-shown Content = refl
 case-shown Plan = refl
 case-shown Desk = refl
 
+pub shown-case : (g : model.Group) → groupShown (groupCase g) ≡ g
+shown-case model.form = refl
+shown-case model.content = refl
+shown-case model.plan = refl
+shown-case model.desk = refl
+
 pub shows-case : (g : Group) {m : model.Group} → groupShown g ≡ m → g ≡ groupCase m
 shows-case g e = sym (case-shown g) ∙ ap groupCase e

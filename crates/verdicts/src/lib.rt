@@ -6,12 +6,10 @@ ghost use lib.ListN.{length};
 ghost use Rattle.files.specs.Replies.{RosterAccepted};
 ghost use Rattle.verdicts.specs.Answers.{verdictCase, JudgedFor, VerdictGiven};
 use judging::Weighed;
+use limits::PLAN_SIZE;
 use plan::PlanAnswer;
 use refusal::Group;
 use roster::Answer;
-
-// "a buffer for a plan, candidate or rival needs 129 bytes"
-const PLAN_SIZE: usize = 129;
 
 // Strong; popular or beaten, with the vote of the plan against the rival that is written; or a refusal, with its number and its group.
 pub enum Verdict {
