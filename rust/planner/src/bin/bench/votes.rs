@@ -1,7 +1,7 @@
-//! Votes: two plans of 64 pairs where eight nodes of one side have quota 8; a
-//! comparison from bytes to answer. With eight nodes of quota
-//! 8 on both sides at once there is only one plan of 64 pairs, so there are
-//! two rosters, one for each side.
+//! Votes: two plans of 64 pairs where eight nodes of one side have quota 8, and
+//! a comparison from bytes to answer. With eight nodes of quota 8 on both sides
+//! at once there is only one plan of 64 pairs, so there are two rosters, one
+//! for each side.
 
 use std::hint::black_box;
 
