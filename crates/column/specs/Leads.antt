@@ -57,7 +57,7 @@ lead-cong arcs n c d i h e =
     low y m = let (r, t) = ∈-keep (λ y. true) (range 0 n) m in let (u, w) = ∈-range n 0 r in omega arith
 
 -- its price is the next layer's
-pub lead-price : (arcs : List ℕ) (n k i j : ℕ) → leadAt arcs n (λ y. layerAt arcs n k y j) i .0 ≡ layerAt arcs n (suc k) i j
+lead-price : (arcs : List ℕ) (n k i j : ℕ) → leadAt arcs n (λ y. layerAt arcs n k y j) i .0 ≡ layerAt arcs n (suc k) i j
 unfolding leadAt layerAt
 lead-price arcs n k i j = best-keep (bidAt arcs (λ y. layerAt arcs n k y j) i) (λ y. true) (keptPrice (layerAt arcs n k i j), n) 0 n
 

@@ -1,14 +1,13 @@
--- The edge of an arc, read from arrays: the first cheapest one. It is the arc's edge in the search (search, Search.arc).
+-- The edge of an arc, read from arrays: the first cheapest one, as in the search (search, Search.arc).
 use Prim.Native.Nat.{ℕ, _+_, _-_, _≤_, _<_}
-use mathlib.Core.Path.{_≡_, refl, sym, ap, _∙_}
+use mathlib.Core.Path.{_≡_, sym, ap, _∙_}
 use mathlib.Core.Bool.{Bool, cond, _&&_}
 use mathlib.Core.List.{List}
 use lib.Dec.{ltb}
 use Rattle.lists.specs.Sum.{range}
 use Rattle.lists.specs.Keep.{keep}
 use Rattle.lists.specs.First.{best}
-use Rattle.search.specs.Search.{arc}
-use Rattle.arrays.specs.Shown.{at, flag, shown}
+use Rattle.arrays.specs.Shown.{at}
 use Rattle.grid.specs.Best.{best-turn, best-end, best-start}
 use Rattle.arcs.specs.Arcs.{joining, priceOf}
 
@@ -41,8 +40,3 @@ module _ (m : ℕ) (sv st rs rt : List ℕ) (plan : List Bool) (x z : ℕ) where
       best-turn (λ f. (edgePrice f, f)) joins (v, o) f m h
       ∙ ap (λ (p : ℕ). best (λ f. (edgePrice f, f)) (cond (joins f && ltb p v) (p, f) (v, o)) (keep joins (range (f + 1) (m - (f + 1))))) (sym e)
       ∙ ap (λ (b : Bool). best (λ f. (edgePrice f, f)) (cond b (p, f) (v, o)) (keep joins (range (f + 1) (m - (f + 1))))) q
-
-  -- it is the search's, whatever the instance has that the arrays do not show
-  pub arc-edge : (ns nt : ℕ) (tied : List Bool) (quotaS quotaT : List ℕ) → arc (shown m ns nt sv st rs rt tied quotaS quotaT) (flag plan) 133 x z .1 ≡ arcEdge
-  unfolding arc arcEdge
-  arc-edge ns nt tied quotaS quotaT = refl

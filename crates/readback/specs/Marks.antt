@@ -15,7 +15,7 @@ use Rattle.arrays.specs.Shown.{flag}
 abbrev pub listed : ℕ → List ℕ → Bool
 listed e xs = ltb 0 (occ e xs)
 
-pub listed-cons : (e x : ℕ) (xs : List ℕ) → listed e (x ∷ xs) ≡ eqb x e || listed e xs
+listed-cons : (e x : ℕ) (xs : List ℕ) → listed e (x ∷ xs) ≡ eqb x e || listed e xs
 listed-cons e x xs = go (eqb x e)
   where
     go : (b : Bool) → ltb 0 (bit b + occ e xs) ≡ b || ltb 0 (occ e xs)
@@ -27,7 +27,7 @@ abbrev pub Marked : List Bool → List ℕ → List Bool → Type 0
 Marked g xs r = (e : ℕ) → flag r e ≡ flag g e || listed e xs
 
 -- one more edge is marked
-pub marked : (g : List Bool) (x e : ℕ) → x < length g → flag (set g x true) e ≡ eqb x e || flag g e
+marked : (g : List Bool) (x e : ℕ) → x < length g → flag (set g x true) e ≡ eqb x e || flag g e
 marked g x e h = by-eq x e
     (λ q b. ap (λ k. flag (set g x true) k) (sym q) ∙ getD-set-same g x true false h ∙ sym (ap (λ b. b || flag g e) b))
     (λ n b. getD-set-other g x e true false (λ q. n (sym q)) ∙ sym (ap (λ b. b || flag g e) b))

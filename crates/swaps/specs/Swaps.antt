@@ -40,7 +40,7 @@ use Rattle.rivals.specs.Hunt.{Bounded}
 abbrev pub Marks : List Bool → List ℕ → Type 0
 Marks g xs = (e : ℕ) → flag g e ≡ listed e xs
 
-pub listed-append : (e : ℕ) (xs ys : List ℕ) → listed e (xs ++ ys) ≡ listed e xs || listed e ys
+listed-append : (e : ℕ) (xs ys : List ℕ) → listed e (xs ++ ys) ≡ listed e xs || listed e ys
 listed-append e xs ys = ap (ltb 0) (sum-append (λ x. bit (eqb x e)) xs ys) ∙ go (occ e xs) (occ e ys)
   where
     go : (a b : ℕ) → ltb 0 (a + b) ≡ ltb 0 a || ltb 0 b
