@@ -7,12 +7,11 @@ use mathlib.Core.Bool.{Bool, true, false, not, cond, _||_}
 use mathlib.Core.List.{List}
 use lib.ListN.{length, length-map, replicate}
 use lib.Dec.{T, ltb, nltb→le}
-use Rattle.model.specs.Limits.{planSize, diarySize, leftSize, entryLimit}
+use Rattle.model.specs.Limits.{planSize, diarySize, leftSize}
 use Rattle.model.specs.Reading.{Reading, accepted, turned}
 use Rattle.model.specs.Roster.{Roster}
 use Rattle.model.specs.RosterFile.{readRoster}
 use Rattle.model.specs.Edges.{instanceOf}
-use Rattle.model.specs.Instance.{Instance}
 use Rattle.model.specs.Plans.{Plan}
 use Rattle.model.specs.PlanFile.{readPlan}
 use Rattle.model.specs.Reduction.{stepsOf}
@@ -25,18 +24,17 @@ use Rattle.reduction.specs.Course.{steps-few}
 use Rattle.diary.specs.declared.Step.{Step}
 use Rattle.diary.specs.Steps.{recordIn, recordsIn, stepsIn}
 use Rattle.diary.specs.Laws.{filled-diary, filled-none}
-use Rattle.answers.specs.declared.Found as code
 use Rattle.answers.specs.Shown.{foundShown, refused-shown}
 use Rattle.finder.specs.declared.Outcome.{Outcome}
 use Rattle.finder.specs.Promise as promise
-use Rattle.finder.specs.Promise.{Promise, leftAfter, planAfter, rivalAfter, answerFor, written-is, shown-is, promised, steps-are}
+use Rattle.finder.specs.Promise.{Promise, leftAfter, planAfter, answerFor, written-is, shown-is, promised, steps-are}
 use Rattle.finder.specs.Found as finds
-use Rattle.finder.specs.Found.{FindsFor, Refuses, short, OutcomeFor, Outcomes}
+use Rattle.finder.specs.Found.{FindsFor, short, OutcomeFor, Outcomes}
 use Rattle.desk.specs.declared.Desk.{Desk}
 use Rattle.desk.specs.declared.FindReply.{FindReply}
 use Rattle.desk.specs.declared.CoreReply.{CoreReply}
 use Rattle.desk.specs.Held.{rosterBytes, planBytes, heldPlan, held, heldOf, stateNumber}
-use Rattle.desk.specs.Replies.{Replied, answered, lentThen}
+use Rattle.desk.specs.Replies.{Replied}
 use Rattle.desk.specs.Laws.{states, by-state, pass-answer, pass-lent}
 
 -- what the core hands back, as the finder's outcome

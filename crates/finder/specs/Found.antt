@@ -5,7 +5,6 @@ use mathlib.Core.Bool.{Bool, true, false, _||_}
 use mathlib.Core.List.{List}
 use lib.ListN.{length, replicate}
 use lib.Dec.{T, ltb}
-use Rattle.lists.specs.Sum.{_∈_}
 use Rattle.model.specs.Limits.{entryLimit, planSize, diarySize, leftSize}
 use Rattle.model.specs.Refusal.{groupOf}
 use Rattle.model.specs.Reading.{Reading, accepted, turned}
@@ -14,7 +13,7 @@ use Rattle.model.specs.RosterFile.{readRoster}
 use Rattle.model.specs.Edges.{instanceOf}
 use Rattle.model.specs.Instance.{Instance}
 use Rattle.model.specs.Plans as P
-use Rattle.model.specs.Plans.{Plan, on, plansOf, Verdict, voteOf, verdictOf}
+use Rattle.model.specs.Plans.{Plan, Verdict, voteOf, verdictOf}
 use Rattle.model.specs.PlanFile.{edgesIn}
 use Rattle.model.specs.Reduction.{stepsOf}
 use Rattle.model.specs.Finder as F

@@ -1,12 +1,11 @@
 -- What the finder's functions find on their ways, and that what they promise follows.
 use Prim.Native.Nat.{ℕ, zero, suc, _+_, _*_, _≤_, _<_}
 use native.Mathlib.Omega.{arith}
-use native.Mathlib.Numerals.{add-one}
 use native.Mathlib.Decide.{decLt}
 use mathlib.Core.Path.{_≡_, refl, sym, ap, ap₂, _∙_, subst}
 use mathlib.Core.Logic.{by-cases}
 use mathlib.Core.Bool.{Bool, true, false, not, cond, _||_}
-use mathlib.Core.List.{List, [], _∷_, _++_, map}
+use mathlib.Core.List.{List, [], _∷_, _++_}
 use lib.ListN.{length, take, drop, length-append, List·getD-eq-default}
 use lib.Dec.{T, ltb, nltb→le}
 use borrow.Author.Tests.{le-ltb}
@@ -20,7 +19,6 @@ use Rattle.model.specs.Plans.{Plan, on, Verdict, verdictOf}
 use Rattle.model.specs.Reading.{accepted}
 use Rattle.model.specs.Roster.{Roster}
 use Rattle.model.specs.RosterFile.{readRoster}
-use Rattle.model.specs.Edges.{instanceOf}
 use Rattle.model.specs.PlanFile.{edgesIn, pairList, planOf, planBytes}
 use Rattle.model.specs.Reduction.{endOf}
 use Rattle.model.specs.Finder as F
@@ -32,7 +30,7 @@ use Rattle.rosters.specs.PlanFiles.{plan-few}
 use Rattle.rosters.specs.Chosen.{on-planOf, planOf-length, edgesIn-cong}
 use Rattle.reduction.specs.Course.{fixed-behind}
 use Rattle.search.specs.Rival.{rivalOf}
-use Rattle.arrays.specs.Shown.{at, flag}
+use Rattle.arrays.specs.Shown.{flag}
 use Rattle.arrays.specs.Kept.{front-is}
 use Rattle.vote.specs.Plan.{Listed}
 use Rattle.rivals.specs.Shows.{Lists}

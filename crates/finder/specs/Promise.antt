@@ -2,7 +2,7 @@
 -- steps, the count of strongly popular plans, what is written for each kind of answer, and that all else is as it was. It follows from the
 -- equations with the model's finder, so whoever meets those equations keeps demand 3.
 use Prim.Native.Nat.{ℕ, _≤_, _<_}
-use mathlib.Core.Path.{_≡_, refl, sym, ap, _∙_, subst}
+use mathlib.Core.Path.{_≡_, refl, sym, _∙_, subst}
 use mathlib.Core.Logic.{_≢_, _↔_}
 use mathlib.Core.Bool.{Bool, true, false, not}
 use mathlib.Core.List.{List, [], _∷_, map}
@@ -17,7 +17,7 @@ use Rattle.model.specs.Roster.{Roster, fits}
 use Rattle.model.specs.Edges.{instanceOf}
 use Rattle.model.specs.Instance.{Instance}
 use Rattle.model.specs.Plans as P
-use Rattle.model.specs.Plans.{Plan, plansOf, Verdict, isStrong, voteOf, verdictOf, strongPlans, strongCount}
+use Rattle.model.specs.Plans.{Plan, Verdict, isStrong, voteOf, verdictOf, strongPlans, strongCount}
 use Rattle.model.specs.PlanFile.{pairList, planBytes}
 use Rattle.model.specs.Reduction.{Step, stepsOf}
 use Rattle.model.specs.Finder as F
@@ -26,9 +26,8 @@ use Rattle.model.specs.Desk.{find, onto, foundAnswer, foundWritten}
 use Rattle.search.specs.Rival.{rivalOf}
 use Rattle.search.specs.Meaning.{Beaten, verdict-means}
 use Rattle.rosters.specs.Laws.{lawful}
-use Rattle.reduction.specs.Course.{steps-below, steps-once, steps-few}
 use Rattle.demand.specs.Found.{Answers, handsBack, candidate-plan}
-use Rattle.demand.specs.Rosters.{rival-holds, Demand3, demand3}
+use Rattle.demand.specs.Rosters.{rival-holds, demand3}
 use Rattle.answers.specs.declared.Found as code
 use Rattle.answers.specs.declared.Found.the-variants as says
 use Rattle.answers.specs.declared.NoneKind.the-variants as kind

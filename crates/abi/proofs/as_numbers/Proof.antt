@@ -4,8 +4,6 @@ use Rattle.abi.specs.Outcomes.{outcomeOf}
 use borrow.Author.Needs.{needs}
 use Rattle.abi.proofs.as_numbers.Statement.{statement}
 use Rattle.abi.proofs.as_numbers.Tie as tie
-use Rattle.abi.proofs.as_numbers.Reads as reads
-use Rattle.abi.proofs.as_numbers.Lts as lts
 
 -- src/lib.rt:62:24
 enum-known-w : tie.Need-enum-known-w

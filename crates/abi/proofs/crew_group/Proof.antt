@@ -4,9 +4,6 @@ use Rattle.abi.specs.Outcomes.{groupNumber, groupCode}
 use borrow.Author.Needs.{needs}
 use Rattle.abi.proofs.crew_group.Statement.{statement}
 use Rattle.abi.proofs.crew_group.Tie as tie
-use Rattle.abi.proofs.crew_group.Reads as reads
-use Rattle.abi.proofs.crew_group.Lts as lts
-use Rattle.refusal.proofs.group_of.Reads as group-of-reads
 
 -- src/lib.rt:24:9
 group-of-requires : tie.Need-group-of-requires

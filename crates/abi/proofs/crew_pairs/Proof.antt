@@ -3,10 +3,6 @@ use Rattle.abi.specs.Outcomes.{bytes-out}
 use borrow.Author.Needs.{needs}
 use Rattle.abi.proofs.crew_pairs.Statement.{statement}
 use Rattle.abi.proofs.crew_pairs.Tie as tie
-use Rattle.abi.proofs.crew_pairs.Reads as reads
-use Rattle.abi.proofs.crew_pairs.Lts as lts
-use Rattle.abi.proofs.as_numbers.Reads as as-numbers-reads
-use Rattle.files.proofs.write_pairs.Reads as write-pairs-reads
 
 -- src/lib.rt:90:9
 write-pairs-requires : tie.Need-write-pairs-requires

@@ -5,9 +5,6 @@ use Rattle.abi.specs.Outcomes.{replyCode, reply-code}
 use borrow.Author.Needs.{needs}
 use Rattle.abi.proofs.crew_read_plan.Statement.{statement}
 use Rattle.abi.proofs.crew_read_plan.Tie as tie
-use Rattle.abi.proofs.crew_read_plan.Reads as reads
-use Rattle.abi.proofs.crew_read_plan.Lts as lts
-use Rattle.files.proofs.read_plan.Reads as read-plan-reads
 
 -- src/lib.rt:50:9
 read-plan-requires : tie.Need-read-plan-requires

@@ -5,9 +5,6 @@ use Rattle.abi.specs.Outcomes.{answerCode, answer-code}
 use borrow.Author.Needs.{needs}
 use Rattle.abi.proofs.crew_read_roster.Statement.{statement}
 use Rattle.abi.proofs.crew_read_roster.Tie as tie
-use Rattle.abi.proofs.crew_read_roster.Reads as reads
-use Rattle.abi.proofs.crew_read_roster.Lts as lts
-use Rattle.roster.proofs.read_roster.Reads as read-roster-reads
 
 -- src/lib.rt:38:9
 read-roster-requires : tie.Need-read-roster-requires

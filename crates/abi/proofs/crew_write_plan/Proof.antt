@@ -3,10 +3,6 @@ use Rattle.abi.specs.Outcomes.{bytes-out}
 use borrow.Author.Needs.{needs}
 use Rattle.abi.proofs.crew_write_plan.Statement.{statement}
 use Rattle.abi.proofs.crew_write_plan.Tie as tie
-use Rattle.abi.proofs.crew_write_plan.Reads as reads
-use Rattle.abi.proofs.crew_write_plan.Lts as lts
-use Rattle.abi.proofs.as_numbers.Reads as as-numbers-reads
-use Rattle.files.proofs.write_plan.Reads as write-plan-reads
 
 -- src/lib.rt:81:9
 write-plan-requires : tie.Need-write-plan-requires

@@ -3,10 +3,6 @@ use Rattle.abi.specs.Outcomes.{roster-out}
 use borrow.Author.Needs.{needs}
 use Rattle.abi.proofs.crew_write_roster.Statement.{statement}
 use Rattle.abi.proofs.crew_write_roster.Tie as tie
-use Rattle.abi.proofs.crew_write_roster.Reads as reads
-use Rattle.abi.proofs.crew_write_roster.Lts as lts
-use Rattle.abi.proofs.as_numbers.Reads as as-numbers-reads
-use Rattle.roster_writer.proofs.write_roster.Reads as write-roster-reads
 
 -- src/lib.rt:72:9
 write-roster-requires : tie.Need-write-roster-requires

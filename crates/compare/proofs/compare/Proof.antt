@@ -6,10 +6,6 @@ use Rattle.compare.specs.Laws.{reply-refused, reply-judged}
 use borrow.Author.Needs.{needs}
 use Rattle.compare.proofs.compare.Statement.{statement}
 use Rattle.compare.proofs.compare.Tie as tie
-use Rattle.compare.proofs.compare.Reads as reads
-use Rattle.compare.proofs.compare.Lts as lts
-use Rattle.compare.proofs.judged.Reads as judged-reads
-use Rattle.roster.proofs.read_roster.Reads as read-roster-reads
 
 -- src/lib.rt:103:9
 read-roster-requires : tie.Need-read-roster-requires

@@ -7,12 +7,6 @@ use Rattle.compare.specs.Laws.{read-planned, first-refused, first-accept
 use borrow.Author.Needs.{needs}
 use Rattle.compare.proofs.judged.Statement.{statement}
 use Rattle.compare.proofs.judged.Tie as tie
-use Rattle.compare.proofs.judged.Reads as reads
-use Rattle.compare.proofs.judged.Lts as lts
-use Rattle.compare.proofs.second_judged.Reads as second-judged-reads
-use Rattle.instance.proofs.instance_of.Reads as instance-of-reads
-use Rattle.plan.proofs.read_plan.Reads as read-plan-reads
-use Rattle.refusal.proofs.group_of.Reads as group-of-reads
 
 -- src/lib.rt:99:9
 instance-of-requires : tie.Need-instance-of-requires

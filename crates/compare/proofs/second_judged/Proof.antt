@@ -6,11 +6,6 @@ use Rattle.compare.specs.Laws.{read-planned, second-refused, second-acce
 use borrow.Author.Needs.{needs}
 use Rattle.compare.proofs.second_judged.Statement.{statement}
 use Rattle.compare.proofs.second_judged.Tie as tie
-use Rattle.compare.proofs.second_judged.Reads as reads
-use Rattle.compare.proofs.second_judged.Lts as lts
-use Rattle.compare.proofs.voted.Reads as voted-reads
-use Rattle.plan.proofs.read_plan.Reads as read-plan-reads
-use Rattle.refusal.proofs.group_of.Reads as group-of-reads
 
 -- src/lib.rt:82:9
 read-plan-requires : tie.Need-read-plan-requires

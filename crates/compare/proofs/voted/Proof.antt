@@ -10,10 +10,6 @@ use Rattle.compare.specs.Laws.{votes-are}
 use borrow.Author.Needs.{needs, sfits-of}
 use Rattle.compare.proofs.voted.Statement.{statement}
 use Rattle.compare.proofs.voted.Tie as tie
-use Rattle.compare.proofs.voted.Reads as reads
-use Rattle.compare.proofs.voted.Lts as lts
-use Rattle.compare.proofs.winner_of.Reads as winner-of-reads
-use Rattle.vote.proofs.plan_votes.Reads as plan-votes-reads
 
 -- src/lib.rt:60:9
 plan-votes-requires : tie.Need-plan-votes-requires

@@ -8,8 +8,6 @@ use mir.Val.{toZ, ofZ, SFits}
 use mir.ValLaws.{toZ-ofZ}
 use Rattle.compare.proofs.winner_of.Statement.{statement}
 use Rattle.compare.proofs.winner_of.Tie as tie
-use Rattle.compare.proofs.winner_of.Reads as reads
-use Rattle.compare.proofs.winner_of.Lts as lts
 
 -- the code's test of a vote
 above : (z : ℤ) {b : Bool} → SFits w16 z → ltZ (pos 0) (toZ w16 (ofZ w16 z)) ≡ b → ltZ (pos 0) z ≡ b

@@ -9,9 +9,6 @@ use Rattle.compare.specs.Parts.{first-part, second-part, no-part, refuse
 use borrow.Author.Needs.{needs}
 use Rattle.compare.proofs.winner_part.Statement.{statement}
 use Rattle.compare.proofs.winner_part.Tie as tie
-use Rattle.compare.proofs.winner_part.Reads as reads
-use Rattle.compare.proofs.winner_part.Lts as lts
-use Rattle.compare.proofs.compare.Reads as compare-reads
 
 -- src/lib.rt:117:9
 compare-requires : tie.Need-compare-requires

@@ -5,11 +5,6 @@ use lib.Seq.{length-take-le}
 use borrow.Author.Needs.{needs}
 use Rattle.crew.proofs.main.Statement.{statement}
 use Rattle.crew.proofs.main.Tie as tie
-use Rattle.crew.proofs.main.Reads as reads
-use Rattle.crew.proofs.main.Lts as lts
-use Rattle.io.proofs.read_full.Reads as read-full-reads
-use Rattle.io.proofs.write_all.Reads as write-all-reads
-use Rattle.program.proofs.answer.Reads as answer-reads
 
 -- src/main.rt:7:41
 slice-aggregate-read-full : tie.Need-slice-aggregate-read-full

@@ -5,7 +5,6 @@ use Prim.Native.Nat.{ℕ, _+_, _-_, _≤_, zero-le}
 use native.Mathlib.Omega.{arith}
 use lib.ListN.{length, length-replicate, length-set}
 use borrow.Author.Needs.{needs}
-use Rattle.model.specs.PlanFile.{edgesIn}
 use Rattle.arrays.specs.Shown.{flag}
 use Rattle.arrays.specs.Kept.{Kept, kept-yes, kept-no}
 use Rattle.poll.specs.Votable.{room-left, all-listed}

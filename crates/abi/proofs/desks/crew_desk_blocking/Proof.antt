@@ -4,10 +4,6 @@ use Rattle.abi.specs.Desks.{blockerIn, served, blocker-numbers}
 use borrow.Author.Needs.{needs}
 use Rattle.abi.proofs.desks.crew_desk_blocking.Statement.{statement}
 use Rattle.abi.proofs.desks.crew_desk_blocking.Tie as tie
-use Rattle.abi.proofs.desks.crew_desk_blocking.Reads as reads
-use Rattle.abi.proofs.desks.crew_desk_blocking.Lts as lts
-use Rattle.abi.proofs.votes.blocker_numbers.Reads as blocker-numbers-reads
-use Rattle.desk.proofs.Desk.blocking.Reads as blocking-reads
 
 -- src/desks.rt:134:9
 blocking-requires : tie.Need-blocking-requires

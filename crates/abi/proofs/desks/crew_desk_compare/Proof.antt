@@ -4,10 +4,6 @@ use Rattle.abi.specs.Desks.{comparedIn, served, compared-numbers}
 use borrow.Author.Needs.{needs}
 use Rattle.abi.proofs.desks.crew_desk_compare.Statement.{statement}
 use Rattle.abi.proofs.desks.crew_desk_compare.Tie as tie
-use Rattle.abi.proofs.desks.crew_desk_compare.Reads as reads
-use Rattle.abi.proofs.desks.crew_desk_compare.Lts as lts
-use Rattle.abi.proofs.votes.compared_numbers.Reads as compared-numbers-reads
-use Rattle.desk.proofs.Desk.compare.Reads as compare-reads
 
 -- src/desks.rt:119:9
 compare-requires : tie.Need-compare-requires

@@ -4,10 +4,6 @@ use Rattle.abi.specs.Desks.{judgedIn, served, judged-numbers}
 use borrow.Author.Needs.{needs}
 use Rattle.abi.proofs.desks.crew_desk_judge.Statement.{statement}
 use Rattle.abi.proofs.desks.crew_desk_judge.Tie as tie
-use Rattle.abi.proofs.desks.crew_desk_judge.Reads as reads
-use Rattle.abi.proofs.desks.crew_desk_judge.Lts as lts
-use Rattle.abi.proofs.weighing.as_judged.Reads as as-judged-reads
-use Rattle.desk.proofs.Desk.judge.Reads as judge-reads
 
 -- src/desks.rt:104:9
 judge-requires : tie.Need-judge-requires

@@ -4,10 +4,6 @@ use Rattle.abi.specs.Desks.{outcomeIn, served, written-numbers}
 use borrow.Author.Needs.{needs}
 use Rattle.abi.proofs.desks.crew_desk_write_plan.Statement.{statement}
 use Rattle.abi.proofs.desks.crew_desk_write_plan.Tie as tie
-use Rattle.abi.proofs.desks.crew_desk_write_plan.Reads as reads
-use Rattle.abi.proofs.desks.crew_desk_write_plan.Lts as lts
-use Rattle.abi.proofs.as_numbers.Reads as as-numbers-reads
-use Rattle.desk.proofs.Desk.write_plan.Reads as write-plan-reads
 
 -- src/desks.rt:104:9
 write-plan-requires : tie.Need-write-plan-requires

@@ -4,10 +4,6 @@ use Rattle.abi.specs.Desks.{outcomeIn, served, written-numbers}
 use borrow.Author.Needs.{needs}
 use Rattle.abi.proofs.desks.crew_desk_write_roster.Statement.{statement}
 use Rattle.abi.proofs.desks.crew_desk_write_roster.Tie as tie
-use Rattle.abi.proofs.desks.crew_desk_write_roster.Reads as reads
-use Rattle.abi.proofs.desks.crew_desk_write_roster.Lts as lts
-use Rattle.abi.proofs.as_numbers.Reads as as-numbers-reads
-use Rattle.desk.proofs.Desk.write_roster.Reads as write-roster-reads
 
 -- src/desks.rt:89:9
 write-roster-requires : tie.Need-write-roster-requires

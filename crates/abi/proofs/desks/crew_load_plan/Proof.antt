@@ -4,10 +4,6 @@ use Rattle.abi.specs.Desks.{refusalIn, served, load-number}
 use borrow.Author.Needs.{needs}
 use Rattle.abi.proofs.desks.crew_load_plan.Statement.{statement}
 use Rattle.abi.proofs.desks.crew_load_plan.Tie as tie
-use Rattle.abi.proofs.desks.crew_load_plan.Reads as reads
-use Rattle.abi.proofs.desks.crew_load_plan.Lts as lts
-use Rattle.abi.proofs.desks.load_number.Reads as load-number-reads
-use Rattle.desk.proofs.Desk.load_plan.Reads as load-plan-reads
 
 -- src/desks.rt:75:9
 load-plan-requires : tie.Need-load-plan-requires

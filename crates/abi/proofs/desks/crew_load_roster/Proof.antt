@@ -4,10 +4,6 @@ use Rattle.abi.specs.Desks.{refusalIn, served, load-number}
 use borrow.Author.Needs.{needs}
 use Rattle.abi.proofs.desks.crew_load_roster.Statement.{statement}
 use Rattle.abi.proofs.desks.crew_load_roster.Tie as tie
-use Rattle.abi.proofs.desks.crew_load_roster.Reads as reads
-use Rattle.abi.proofs.desks.crew_load_roster.Lts as lts
-use Rattle.abi.proofs.desks.load_number.Reads as load-number-reads
-use Rattle.desk.proofs.Desk.load_roster.Reads as load-roster-reads
 
 -- src/desks.rt:61:9
 load-roster-requires : tie.Need-load-roster-requires

@@ -4,8 +4,6 @@ use Rattle.abi.specs.Votes.{blockerNumbers}
 use borrow.Author.Needs.{needs}
 use Rattle.abi.proofs.votes.blocker_numbers.Statement.{statement}
 use Rattle.abi.proofs.votes.blocker_numbers.Tie as tie
-use Rattle.abi.proofs.votes.blocker_numbers.Reads as reads
-use Rattle.abi.proofs.votes.blocker_numbers.Lts as lts
 
 -- src/votes.rt:104:23
 enum-known-b : tie.Need-enum-known-b

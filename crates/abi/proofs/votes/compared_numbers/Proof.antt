@@ -6,9 +6,6 @@ use Rattle.abi.specs.Votes.{voted, first-numbers, second-numbers, neithe
 use borrow.Author.Needs.{needs, sfits-of}
 use Rattle.abi.proofs.votes.compared_numbers.Statement.{statement}
 use Rattle.abi.proofs.votes.compared_numbers.Tie as tie
-use Rattle.abi.proofs.votes.compared_numbers.Reads as reads
-use Rattle.abi.proofs.votes.compared_numbers.Lts as lts
-use Rattle.abi.proofs.votes.behind_count.Reads as behind-count-reads
 
 -- src/votes.rt:49:27
 enum-known-c : tie.Need-enum-known-c

@@ -4,10 +4,6 @@ use Rattle.abi.specs.Votes.{blockerNumbers}
 use borrow.Author.Needs.{needs}
 use Rattle.abi.proofs.votes.crew_blocking.Statement.{statement}
 use Rattle.abi.proofs.votes.crew_blocking.Tie as tie
-use Rattle.abi.proofs.votes.crew_blocking.Reads as reads
-use Rattle.abi.proofs.votes.crew_blocking.Lts as lts
-use Rattle.abi.proofs.votes.blocker_numbers.Reads as blocker-numbers-reads
-use Rattle.blocking_pairs.proofs.blocking.Reads as blocking-reads
 
 -- src/votes.rt:127:9
 blocking-requires : tie.Need-blocking-requires

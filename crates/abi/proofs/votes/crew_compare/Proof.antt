@@ -5,10 +5,6 @@ use Rattle.abi.specs.Votes.{numbers-are}
 use borrow.Author.Needs.{needs}
 use Rattle.abi.proofs.votes.crew_compare.Statement.{statement}
 use Rattle.abi.proofs.votes.crew_compare.Tie as tie
-use Rattle.abi.proofs.votes.crew_compare.Reads as reads
-use Rattle.abi.proofs.votes.crew_compare.Lts as lts
-use Rattle.abi.proofs.votes.compared_numbers.Reads as compared-numbers-reads
-use Rattle.compare.proofs.compare.Reads as compare-reads
 
 -- src/votes.rt:95:9
 compare-requires : tie.Need-compare-requires

@@ -6,11 +6,6 @@ use Rattle.desk.specs.Passing.{blocking-reply}
 use borrow.Author.Needs.{needs}
 use Rattle.desk.proofs.Desk.blocking.Statement.{statement}
 use Rattle.desk.proofs.Desk.blocking.Tie as tie
-use Rattle.desk.proofs.Desk.blocking.Reads as reads
-use Rattle.desk.proofs.Desk.blocking.Lts as lts
-use Rattle.desk.proofs.held.blocking.Reads as blocking-reads
-use Rattle.desk.proofs.state.state_refusal.Reads as state-refusal-reads
-use Rattle.refusal.proofs.group_of.Reads as group-of-reads
 
 -- src/lib.rt:183:13
 state-refusal-requires : tie.Need-state-refusal-requires

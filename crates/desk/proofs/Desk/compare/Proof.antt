@@ -7,11 +7,6 @@ use Rattle.desk.specs.Passing.{compare-reply}
 use borrow.Author.Needs.{needs}
 use Rattle.desk.proofs.Desk.compare.Statement.{statement}
 use Rattle.desk.proofs.Desk.compare.Tie as tie
-use Rattle.desk.proofs.Desk.compare.Reads as reads
-use Rattle.desk.proofs.Desk.compare.Lts as lts
-use Rattle.desk.proofs.held.compare.Reads as compare-reads
-use Rattle.desk.proofs.state.state_refusal.Reads as state-refusal-reads
-use Rattle.refusal.proofs.group_of.Reads as group-of-reads
 
 -- src/lib.rt:157:13
 state-refusal-requires : tie.Need-state-refusal-requires

@@ -6,11 +6,6 @@ use Rattle.desk.specs.Verdicts.{judge-reply}
 use borrow.Author.Needs.{needs}
 use Rattle.desk.proofs.Desk.judge.Statement.{statement}
 use Rattle.desk.proofs.Desk.judge.Tie as tie
-use Rattle.desk.proofs.Desk.judge.Reads as reads
-use Rattle.desk.proofs.Desk.judge.Lts as lts
-use Rattle.desk.proofs.held.judge.Reads as judge-reads
-use Rattle.desk.proofs.state.state_refusal.Reads as state-refusal-reads
-use Rattle.refusal.proofs.group_of.Reads as group-of-reads
 
 -- src/lib.rt:139:13
 state-refusal-requires : tie.Need-state-refusal-requires

@@ -11,12 +11,6 @@ use Rattle.desk.specs.Loads.{plan-small, plan-refused, plan-loaded}
 use borrow.Author.Needs.{needs}
 use Rattle.desk.proofs.Desk.load_plan.Statement.{statement}
 use Rattle.desk.proofs.Desk.load_plan.Tie as tie
-use Rattle.desk.proofs.Desk.load_plan.Reads as reads
-use Rattle.desk.proofs.Desk.load_plan.Lts as lts
-use Rattle.desk.proofs.held.read_plan.Reads as read-plan-reads
-use Rattle.desk.proofs.state.state_refusal.Reads as state-refusal-reads
-use Rattle.desk.proofs.store.with_plan.Reads as with-plan-reads
-use Rattle.refusal.proofs.group_of.Reads as group-of-reads
 
 -- src/lib.rt:96:13
 state-refusal-requires : tie.Need-state-refusal-requires

@@ -7,10 +7,6 @@ use Rattle.desk.specs.Loads.{roster-small, roster-refused, roster-loaded
 use borrow.Author.Needs.{needs}
 use Rattle.desk.proofs.Desk.load_roster.Statement.{statement}
 use Rattle.desk.proofs.Desk.load_roster.Tie as tie
-use Rattle.desk.proofs.Desk.load_roster.Reads as reads
-use Rattle.desk.proofs.Desk.load_roster.Lts as lts
-use Rattle.desk.proofs.store.with_roster.Reads as with-roster-reads
-use Rattle.roster.proofs.read_roster.Reads as read-roster-reads
 
 -- src/lib.rt:76:13
 read-roster-requires : tie.Need-read-roster-requires

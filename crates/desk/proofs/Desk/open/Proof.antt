@@ -3,8 +3,6 @@ use mathlib.Core.Path.{refl}
 use Rattle.desk.specs.Laws.{held-empty}
 use Rattle.desk.proofs.Desk.open.Statement.{statement}
 use Rattle.desk.proofs.Desk.open.Tie as tie
-use Rattle.desk.proofs.Desk.open.Reads as reads
-use Rattle.desk.proofs.Desk.open.Lts as lts
 
 -- src/lib.rt:61:5
 returns : tie.Need-returns

@@ -9,10 +9,6 @@ use Rattle.desk.specs.Passing.{part-reply}
 use borrow.Author.Needs.{needs}
 use Rattle.desk.proofs.Desk.winner_part.Statement.{statement}
 use Rattle.desk.proofs.Desk.winner_part.Tie as tie
-use Rattle.desk.proofs.Desk.winner_part.Reads as reads
-use Rattle.desk.proofs.Desk.winner_part.Lts as lts
-use Rattle.compare.proofs.winner_part.Reads as winner-part-reads
-use Rattle.desk.proofs.held.clamped.Reads as clamped-reads
 
 -- src/lib.rt:176:13
 clamped-requires : tie.Need-clamped-requires

@@ -6,11 +6,6 @@ use Rattle.desk.specs.Passing.{write-plan-reply}
 use borrow.Author.Needs.{needs}
 use Rattle.desk.proofs.Desk.write_plan.Statement.{statement}
 use Rattle.desk.proofs.Desk.write_plan.Tie as tie
-use Rattle.desk.proofs.Desk.write_plan.Reads as reads
-use Rattle.desk.proofs.Desk.write_plan.Lts as lts
-use Rattle.desk.proofs.held.write_plan.Reads as write-plan-reads
-use Rattle.desk.proofs.state.state_refusal.Reads as state-refusal-reads
-use Rattle.refusal.proofs.group_of.Reads as group-of-reads
 
 -- src/lib.rt:139:13
 state-refusal-requires : tie.Need-state-refusal-requires

@@ -6,11 +6,6 @@ use Rattle.desk.specs.Passing.{write-roster-reply}
 use borrow.Author.Needs.{needs}
 use Rattle.desk.proofs.Desk.write_roster.Statement.{statement}
 use Rattle.desk.proofs.Desk.write_roster.Tie as tie
-use Rattle.desk.proofs.Desk.write_roster.Reads as reads
-use Rattle.desk.proofs.Desk.write_roster.Lts as lts
-use Rattle.desk.proofs.held.write_roster.Reads as write-roster-reads
-use Rattle.desk.proofs.state.state_refusal.Reads as state-refusal-reads
-use Rattle.refusal.proofs.group_of.Reads as group-of-reads
 
 -- src/lib.rt:122:13
 state-refusal-requires : tie.Need-state-refusal-requires

@@ -8,10 +8,6 @@ use Rattle.desk.specs.Cut.{cut-fits, cut-length, cut-front}
 use borrow.Author.Needs.{needs}
 use Rattle.desk.proofs.held.blocking.Statement.{statement}
 use Rattle.desk.proofs.held.blocking.Tie as tie
-use Rattle.desk.proofs.held.blocking.Reads as reads
-use Rattle.desk.proofs.held.blocking.Lts as lts
-use Rattle.blocking_pairs.proofs.blocking.Reads as blocking-reads
-use Rattle.desk.proofs.held.clamped.Reads as clamped-reads
 
 -- src/held.rt:86:9
 clamped-requires : tie.Need-clamped-requires

@@ -8,10 +8,6 @@ use Rattle.compare.specs.Answers.{comparisonReply}
 use borrow.Author.Needs.{needs}
 use Rattle.desk.proofs.held.compare.Statement.{statement}
 use Rattle.desk.proofs.held.compare.Tie as tie
-use Rattle.desk.proofs.held.compare.Reads as reads
-use Rattle.desk.proofs.held.compare.Lts as lts
-use Rattle.compare.proofs.compare.Reads as compare-reads
-use Rattle.desk.proofs.held.clamped.Reads as clamped-reads
 
 -- src/held.rt:77:9
 clamped-requires : tie.Need-clamped-requires

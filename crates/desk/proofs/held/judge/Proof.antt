@@ -8,10 +8,6 @@ use Rattle.desk.specs.Cut.{cut-fits, cut-length, cut-front}
 use borrow.Author.Needs.{needs}
 use Rattle.desk.proofs.held.judge.Statement.{statement}
 use Rattle.desk.proofs.held.judge.Tie as tie
-use Rattle.desk.proofs.held.judge.Reads as reads
-use Rattle.desk.proofs.held.judge.Lts as lts
-use Rattle.desk.proofs.held.clamped.Reads as clamped-reads
-use Rattle.verdicts.proofs.judge.Reads as judge-reads
 
 -- src/held.rt:68:9
 clamped-requires : tie.Need-clamped-requires

@@ -8,10 +8,6 @@ use Rattle.files.specs.Replies.{planReply}
 use borrow.Author.Needs.{needs}
 use Rattle.desk.proofs.held.read_plan.Statement.{statement}
 use Rattle.desk.proofs.held.read_plan.Tie as tie
-use Rattle.desk.proofs.held.read_plan.Reads as reads
-use Rattle.desk.proofs.held.read_plan.Lts as lts
-use Rattle.desk.proofs.held.clamped.Reads as clamped-reads
-use Rattle.files.proofs.read_plan.Reads as read-plan-reads
 
 -- src/held.rt:51:9
 clamped-requires : tie.Need-clamped-requires

@@ -8,10 +8,6 @@ use Rattle.desk.specs.Cut.{cut-fits, cut-length, cut-front}
 use borrow.Author.Needs.{needs}
 use Rattle.desk.proofs.held.write_plan.Statement.{statement}
 use Rattle.desk.proofs.held.write_plan.Tie as tie
-use Rattle.desk.proofs.held.write_plan.Reads as reads
-use Rattle.desk.proofs.held.write_plan.Lts as lts
-use Rattle.desk.proofs.held.clamped.Reads as clamped-reads
-use Rattle.files.proofs.write_plan.Reads as write-plan-reads
 
 -- src/held.rt:68:9
 clamped-requires : tie.Need-clamped-requires

@@ -7,10 +7,6 @@ use Rattle.desk.specs.Cut.{cut-fits, cut-length, cut-front}
 use borrow.Author.Needs.{needs}
 use Rattle.desk.proofs.held.write_roster.Statement.{statement}
 use Rattle.desk.proofs.held.write_roster.Tie as tie
-use Rattle.desk.proofs.held.write_roster.Reads as reads
-use Rattle.desk.proofs.held.write_roster.Lts as lts
-use Rattle.desk.proofs.held.clamped.Reads as clamped-reads
-use Rattle.roster_writer.proofs.write_roster.Reads as write-roster-reads
 
 -- src/held.rt:59:9
 clamped-requires : tie.Need-clamped-requires

@@ -6,9 +6,6 @@ use Rattle.desk.specs.Held.{heldOf}
 use borrow.Author.Needs.{needs}
 use Rattle.desk.proofs.state.lacks_plan.Statement.{statement}
 use Rattle.desk.proofs.state.lacks_plan.Tie as tie
-use Rattle.desk.proofs.state.lacks_plan.Reads as reads
-use Rattle.desk.proofs.state.lacks_plan.Lts as lts
-use Rattle.desk.proofs.state.no_plan.Reads as no-plan-reads
 
 -- src/state.rt:42:9
 no-plan-requires : tie.Need-no-plan-requires

@@ -10,10 +10,6 @@ use Rattle.desk.specs.Laws.{plan-there, plan-missing}
 use borrow.Author.Needs.{needs}
 use Rattle.desk.proofs.state.no_plan.Statement.{statement}
 use Rattle.desk.proofs.state.no_plan.Tie as tie
-use Rattle.desk.proofs.state.no_plan.Reads as reads
-use Rattle.desk.proofs.state.no_plan.Lts as lts
-use Rattle.desk.proofs.held.clamped.Reads as clamped-reads
-use Rattle.desk.proofs.held.read_plan.Reads as read-plan-reads
 
 -- src/state.rt:29:9
 clamped-requires : tie.Need-clamped-requires

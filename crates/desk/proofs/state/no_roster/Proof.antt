@@ -9,10 +9,6 @@ use Rattle.desk.specs.Laws.{roster-there, roster-missing}
 use borrow.Author.Needs.{needs}
 use Rattle.desk.proofs.state.no_roster.Statement.{statement}
 use Rattle.desk.proofs.state.no_roster.Tie as tie
-use Rattle.desk.proofs.state.no_roster.Reads as reads
-use Rattle.desk.proofs.state.no_roster.Lts as lts
-use Rattle.desk.proofs.held.clamped.Reads as clamped-reads
-use Rattle.roster.proofs.read_roster.Reads as read-roster-reads
 
 -- src/state.rt:17:9
 clamped-requires : tie.Need-clamped-requires

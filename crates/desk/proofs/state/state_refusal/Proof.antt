@@ -5,10 +5,6 @@ use Rattle.desk.specs.Laws.{number-13, number-14, number-15, number-0}
 use borrow.Author.Needs.{needs}
 use Rattle.desk.proofs.state.state_refusal.Statement.{statement}
 use Rattle.desk.proofs.state.state_refusal.Tie as tie
-use Rattle.desk.proofs.state.state_refusal.Reads as reads
-use Rattle.desk.proofs.state.state_refusal.Lts as lts
-use Rattle.desk.proofs.state.lacks_plan.Reads as lacks-plan-reads
-use Rattle.desk.proofs.state.no_roster.Reads as no-roster-reads
 
 -- src/state.rt:52:8
 no-roster-requires : tie.Need-no-roster-requires
