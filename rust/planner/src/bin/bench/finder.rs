@@ -128,8 +128,8 @@ fn measure(what: &str, bytes: &[u8], buffers: &mut Buffers) {
     let mut theirs = Buffers::new();
     report(
         &format!("find on the longest roster, {what}: {}", ending(bytes)),
-        time(5, || buffers.find(black_box(&desk))),
-        time(5, || find(black_box(bytes), &mut theirs)),
+        time(1, || buffers.find(black_box(&desk))),
+        time(1, || find(black_box(bytes), &mut theirs)),
     );
 }
 

@@ -78,7 +78,7 @@ pub fn run() {
         assert_eq!(ours, case.verdict, "{}", case.name);
         report(
             &format!("verdict on a 64-pair plan, {}: {}", case.verdict, case.name),
-            time(20, || {
+            time(1, || {
                 black_box(planner::verdict(
                     black_box(&roster),
                     black_box(&plan),
@@ -86,7 +86,7 @@ pub fn run() {
                 ))
                 .expect("accepted");
             }),
-            time(20, || {
+            time(1, || {
                 black_box(judge(black_box(&roster), black_box(&plan), &mut out));
             }),
         );
