@@ -76,7 +76,7 @@ pub struct CoreReply {
 }
 
 // All of a find but the lent diary, of which it is told the length.
-pub fn core(
+pub(crate) fn core(
     desk: Desk,
     room: usize,
     left: &mut [u8],
