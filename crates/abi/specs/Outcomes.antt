@@ -10,11 +10,11 @@ use Rattle.model.specs.RosterFile.{readRoster}
 use Rattle.model.specs.Edges.{instanceOf}
 use Rattle.model.specs.Plans.{Plan}
 use Rattle.model.specs.PlanFile.{readPlan}
-use Rattle.refusal.specs.declared.Group.{Group}
-use Rattle.refusal.specs.Shown.{groupShown}
+use Rattle.answers.specs.declared.Group.{Group}
+use Rattle.answers.specs.GroupCases.{groupShown}
 use Rattle.roster.specs.declared.Answer.{Answer}
 use Rattle.roster.specs.declared.Answer.the-variants as roster
-use Rattle.roster.specs.Shown.{shown}
+use Rattle.roster.specs.ReadAnswer.{shown}
 use Rattle.roster_writer.specs.declared.Written.{Written}
 use Rattle.roster_writer.specs.declared.Written.the-variants.{Wrote, Refused}
 use Rattle.roster_writer.specs.Writes as rosters

@@ -17,7 +17,7 @@ use Rattle.compare.specs.Parts.{partCase, partReply, part-is}
 use Rattle.blocking_pairs.specs.declared.Blocked.{Blocked}
 use Rattle.blocking_pairs.specs.declared.Blocked.the-variants as blocked
 use Rattle.blocking_pairs.specs.Answers.{blockedReply}
-use Rattle.refusal.specs.declared.Group.{Group}
+use Rattle.answers.specs.declared.Group.{Group}
 use Rattle.abi.specs.declared.votes.Compared.{Compared}
 use Rattle.abi.specs.declared.votes.Blocker.{Blocker}
 

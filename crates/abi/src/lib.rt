@@ -9,8 +9,8 @@ ghost use mathlib.Core.Path.{_≡_};
 ghost use Rattle.model.specs.Refusal.{groupOf};
 ghost use Rattle.model.specs.RosterFile.{readRoster};
 ghost use Rattle.abi.specs.Outcomes.{groupNumber, refusalOf, planRefusal, outcomeOf, RosterOut, PlanOut, PairsOut};
+use answers::Group;
 use files::PlanReply;
-use refusal::Group;
 use roster::Answer;
 use roster_writer::Written;
 
@@ -26,7 +26,7 @@ pub struct Outcome {
 pub extern "C" fn crew_group(number: u8) -> u8
     ensures { λ r. ⌜ r ≡ groupNumber (groupOf number) ⌝ }
 {
-    let g = refusal::group_of(number);
+    let g = answers::group_of(number);
     match g {
         Group::Form => 1,
         Group::Content => 2,

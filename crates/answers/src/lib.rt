@@ -1,7 +1,32 @@
-// The finder's answer, section "Finder" of document 01: what the finder, the desk and the program's text hand to one another.
-use refusal::Group;
+// The answers of the calls, in one place: what each call can say, and the group of a refusal. The definitions that give each case document
+// 01's number and values are in specs, a file for each answer.
+ghost use mathlib.Core.Path.{_≡_};
+ghost use Rattle.model.specs.Refusal.{groupOf};
+ghost use Rattle.answers.specs.GroupCases.{groupShown};
 
-// each of the first two with the number of steps; a refusal with its number and group
+// Refusals: section "Turned back" of document 01. Every call that can refuse answers the number of the refusal and its group,
+// `Refused(number, group)`, and nothing else.
+pub enum Group {
+    Form,
+    Content,
+    Plan,
+    Desk,
+}
+
+// The group of a refusal: "form for 1, 2 and 9; content for 3 to 8; plan for 10 to 12; desk for 13 to 15". A number that document 01
+// does not use is content.
+pub fn group_of(number: u8) -> Group
+    ensures { λ r. ⌜ groupShown r ≡ groupOf number ⌝ }
+{
+    match number {
+        1 | 2 | 9 => Group::Form,
+        10..=12 => Group::Plan,
+        13..=15 => Group::Desk,
+        _ => Group::Content,
+    }
+}
+
+// The finder's answer, section "Finder" of document 01: each of the first two with the number of steps; a refusal with its number and group.
 pub enum Found {
     Plan(usize),
     None(usize, NoneKind),

@@ -12,7 +12,7 @@ use mir.Val.{boolByte}
 use Rattle.lists.specs.Sum.{range}
 use Rattle.lists.specs.Keep.{keep}
 use Rattle.lists.specs.Ranges.{keep-last, range-add, keep-append}
-use Rattle.arrays.specs.Shown.{at}
+use Rattle.arrays.specs.ArrayInstance.{at}
 
 -- the m numbers found below c stand in front
 abbrev pub Kept : (ℕ → Bool) → List ℕ → ℕ → ℕ → Type 0

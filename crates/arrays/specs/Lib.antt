@@ -1,4 +1,4 @@
-pub mod Shown
+pub mod ArrayInstance
 pub mod Passes
 pub mod Tally
 pub mod Kept

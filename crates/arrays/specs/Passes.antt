@@ -13,7 +13,7 @@ use borrow.Author.Tests.{lt-ltb, le-ltb}
 use Rattle.lists.specs.Test.{by-eq}
 use native.Mathlib.Decide.{decLt}
 use Rattle.model.specs.Instance.{Instance}
-use Rattle.arrays.specs.Shown.{at, flag, shown}
+use Rattle.arrays.specs.ArrayInstance.{at, flag, shown}
 
 -- the first n entries are below k
 abbrev pub Low : ℕ → List ℕ → ℕ → Type 0

@@ -13,8 +13,8 @@ use Rattle.model.specs.Plans.{Plan, on}
 use Rattle.model.specs.PlanFile.{readPlan}
 use Rattle.model.specs.Blocking.{someBlocks}
 use Rattle.model.specs.Desk as desk
-use Rattle.refusal.specs.Shown.{groupShown, groupCase}
-use Rattle.blocking.specs.Blocking.{firstBlocking}
+use Rattle.answers.specs.GroupCases.{groupShown, groupCase}
+use Rattle.theory_instance.specs.FirstBlocking.{firstBlocking}
 use Rattle.blocking_pairs.specs.declared.Blocked.{Blocked}
 use Rattle.blocking_pairs.specs.declared.Blocked.the-variants.{Pair, Unblocked, Refused}
 

@@ -15,23 +15,23 @@ use Rattle.model.specs.Instance as model
 use Rattle.model.specs.Plans.{Plan, on}
 use Rattle.model.specs.PlanFile.{readPlan}
 use Rattle.model.specs.Blocking.{blocks, someBlocks}
-use Rattle.arrays.specs.Shown.{at}
-use Rattle.refusal.specs.declared.Group.{Group}
-use Rattle.refusal.specs.Shown.{groupShown, shows-case}
+use Rattle.arrays.specs.ArrayInstance.{at}
+use Rattle.answers.specs.declared.Group.{Group}
+use Rattle.answers.specs.GroupCases.{groupShown, shows-case}
 use Rattle.roster.specs.declared.Answer.{Answer}
 use Rattle.roster.specs.declared.Answer.the-variants as answer
-use Rattle.roster.specs.Shown.{shown, shown-refused}
+use Rattle.roster.specs.ReadAnswer.{shown, shown-refused}
 use Rattle.instance.specs.declared.Instance.{Instance}
 use Rattle.instance.specs.Decoded.{shownBy, Decoded}
 use Rattle.instance.specs.Loaded.{Loaded}
-use Rattle.plan.specs.declared.PlanRead.{PlanRead}
-use Rattle.plan.specs.declared.PlanAnswer.the-variants as plan
-use Rattle.plan.specs.Answers.{ReadAs, ReadFor, accepted-read, refused-read}
-use Rattle.blocking.specs.declared.Blocking.{Blocking}
-use Rattle.blocking.specs.declared.Blocking.the-variants as search
-use Rattle.thresholds.specs.Threshold.{Edges}
-use Rattle.blocking.specs.Blocking.{firstBlocking, answer, blockingOf, Placed, Answers}
-use Rattle.blocking.specs.Laws.{first-blocks}
+use Rattle.plan_reader.specs.declared.PlanRead.{PlanRead}
+use Rattle.plan_reader.specs.declared.PlanAnswer.the-variants as plan
+use Rattle.plan_reader.specs.Answers.{ReadAs, ReadFor, accepted-read, refused-read}
+use Rattle.blocking_search.specs.declared.Blocking.{Blocking}
+use Rattle.blocking_search.specs.declared.Blocking.the-variants as search
+use Rattle.blocking_thresholds.specs.Threshold.{Edges}
+use Rattle.theory_instance.specs.FirstBlocking.{firstBlocking, first-blocks}
+use Rattle.blocking_search.specs.Blocking.{answer, blockingOf, Placed, Answers}
 use Rattle.files.specs.Replies.{RosterAccepted}
 use Rattle.blocking_pairs.specs.declared.Blocked.{Blocked}
 use Rattle.blocking_pairs.specs.declared.Blocked.the-variants.{Pair, Unblocked, Refused}

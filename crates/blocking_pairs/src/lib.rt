@@ -6,10 +6,10 @@ ghost use Rattle.instance.specs.Decoded.{shownBy};
 ghost use Rattle.instance.specs.Loaded.{Loaded};
 ghost use Rattle.files.specs.Replies.{RosterAccepted};
 ghost use Rattle.blocking_pairs.specs.Answers.{blockedBy, blockedReply, BlockedAs};
-use blocking::Blocking;
+use answers::Group;
+use blocking_search::Blocking;
 use instance::Instance;
-use plan::PlanAnswer;
-use refusal::Group;
+use plan_reader::PlanAnswer;
 use roster::Answer;
 
 // Yes, with the numbers of a pair's surveyor and stand; or no; or a refusal, with its number and its group.
@@ -30,7 +30,7 @@ pub(crate) fn first_pair(g: Instance, p: &[bool; 1024]) -> Blocked
     let rt = g.rank_t;
     let qs = g.quota_s;
     let qt = g.quota_t;
-    let b = blocking::find_blocking(g.m, &sv, &st, &rs, &rt, &qs, &qt, p);
+    let b = blocking_search::find_blocking(g.m, &sv, &st, &rs, &rt, &qs, &qt, p);
     match b {
         Blocking::Pair(e) => Blocked::Pair(sv[e] + 1, st[e] + 1),
         Blocking::Nothing => Blocked::Unblocked,
@@ -47,10 +47,10 @@ pub(crate) fn judged(roster: &[u8], file: &[u8]) -> Blocked
     let st = g.st;
     let qs = g.quota_s;
     let qt = g.quota_t;
-    let read = plan::read_plan(g.m, &sv, &st, &qs, &qt, file);
+    let read = plan_reader::read_plan(g.m, &sv, &st, &qs, &qt, file);
     let a = read.answer;
     match a {
-        PlanAnswer::Refused(n) => Blocked::Refused(n, refusal::group_of(n)),
+        PlanAnswer::Refused(n) => Blocked::Refused(n, answers::group_of(n)),
         PlanAnswer::Accepted(_) => {
             let p = read.chosen;
             first_pair(g, &p)

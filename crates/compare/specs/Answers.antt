@@ -10,12 +10,12 @@ use Rattle.model.specs.RosterFile.{readRoster}
 use Rattle.model.specs.Edges.{instanceOf}
 use Rattle.model.specs.Compare as model
 use Rattle.model.specs.Compare.{comparisonOf}
-use Rattle.graph.specs.Lawful.{Matching}
-use Rattle.arrays.specs.Shown.{flag}
-use Rattle.refusal.specs.Shown.{groupCase}
+use Rattle.theory_instance.specs.Lawful.{Matching}
+use Rattle.arrays.specs.ArrayInstance.{flag}
+use Rattle.answers.specs.GroupCases.{groupCase}
 use Rattle.instance.specs.declared.Instance.{Instance}
 use Rattle.instance.specs.Decoded.{shownBy}
-use Rattle.vote.specs.Plan.{Listed}
+use Rattle.vote_plans.specs.Plan.{Listed}
 use Rattle.compare.specs.declared.Winner.{Winner}
 use Rattle.compare.specs.declared.Winner.the-variants.{First, Second, Neither}
 use Rattle.compare.specs.declared.Comparison.{Comparison}

@@ -17,22 +17,22 @@ use Rattle.model.specs.Plans.{Plan, on, voteOf}
 use Rattle.model.specs.PlanFile.{edgesIn, readPlan}
 use Rattle.model.specs.Vote.{vote}
 use Rattle.model.specs.Compare.{votes, winnerOf, compared, secondJudged, firstJudged, comparisonOf}
-use Rattle.formats.specs.Reads.{isBytes}
-use Rattle.graph.specs.Lawful.{Matching}
-use Rattle.rosters.specs.PlanFiles.{plan-read-within, plan-read-matching, plan-few}
-use Rattle.arrays.specs.Shown.{flag}
-use Rattle.refusal.specs.declared.Group.{Group}
-use Rattle.refusal.specs.Shown.{groupShown, shows-case}
+use Rattle.theory_files.specs.Reads.{isBytes}
+use Rattle.theory_instance.specs.Lawful.{Matching}
+use Rattle.theory_files.specs.PlanFiles.{plan-read-within, plan-read-matching, plan-few}
+use Rattle.arrays.specs.ArrayInstance.{flag}
+use Rattle.answers.specs.declared.Group.{Group}
+use Rattle.answers.specs.GroupCases.{groupShown, shows-case}
 use Rattle.roster.specs.declared.Answer.{Answer}
 use Rattle.roster.specs.declared.Answer.the-variants as answer
-use Rattle.roster.specs.Shown.{shown, shown-refused}
+use Rattle.roster.specs.ReadAnswer.{shown, shown-refused}
 use Rattle.instance.specs.declared.Instance.{Instance}
 use Rattle.instance.specs.Decoded.{shownBy, Decoded}
 use Rattle.instance.specs.Loaded.{Loaded}
-use Rattle.plan.specs.declared.PlanRead.{PlanRead}
-use Rattle.plan.specs.declared.PlanAnswer.the-variants as plan
-use Rattle.plan.specs.Answers.{ReadAs, ReadFor, accepted-read, accepted-edges, refused-read}
-use Rattle.vote.specs.Plan.{PlanVotes}
+use Rattle.plan_reader.specs.declared.PlanRead.{PlanRead}
+use Rattle.plan_reader.specs.declared.PlanAnswer.the-variants as plan
+use Rattle.plan_reader.specs.Answers.{ReadAs, ReadFor, accepted-read, accepted-edges, refused-read}
+use Rattle.vote_plans.specs.Plan.{PlanVotes}
 use Rattle.files.specs.Replies.{RosterAccepted}
 use Rattle.compare.specs.declared.Winner.{Winner}
 use Rattle.compare.specs.declared.Comparison.{Comparison}

@@ -17,9 +17,9 @@ use Rattle.model.specs.Plans.{Plan}
 use Rattle.model.specs.PlanFile.{readPlan}
 use Rattle.model.specs.Compare as compare
 use Rattle.model.specs.Compare.{File, firstFile, secondFile, Part, winnerPart, partOf, secondJudged, firstJudged, comparisonOf}
-use Rattle.formats.specs.Reads.{isBytes}
-use Rattle.rosters.specs.PlanFiles.{plan-accepted-count}
-use Rattle.refusal.specs.declared.Group.{Group}
+use Rattle.theory_files.specs.Reads.{isBytes}
+use Rattle.theory_files.specs.PlanFiles.{plan-accepted-count}
+use Rattle.answers.specs.declared.Group.{Group}
 use Rattle.compare.specs.declared.Winner.{Winner}
 use Rattle.compare.specs.declared.Winner.the-variants.{First, Second, Neither}
 use Rattle.compare.specs.declared.Comparison.{Comparison}

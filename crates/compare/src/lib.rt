@@ -10,9 +10,9 @@ ghost use Rattle.files.specs.Replies.{RosterAccepted};
 ghost use Rattle.compare.specs.Answers.{winnerCase, answered, Planned, comparisonReply, ComparedAs};
 ghost use denote.Ref.{ptr};
 ghost use Rattle.compare.specs.Parts.{placed, partReply};
+use answers::Group;
 use instance::Instance;
-use plan::PlanAnswer;
-use refusal::Group;
+use plan_reader::PlanAnswer;
 use roster::Answer;
 
 pub enum Winner {
@@ -57,7 +57,7 @@ pub(crate) fn voted(
     let st = g.st;
     let rs = g.rank_s;
     let rt = g.rank_t;
-    let both = vote::plan_votes(g.m, g.ns, g.nt, &sv, &st, &rs, &rt, p, pn, pe, q, qn, qe);
+    let both = vote_plans::plan_votes(g.m, g.ns, g.nt, &sv, &st, &rs, &rt, p, pn, pe, q, qn, qe);
     let v = both.first;
     let w = both.second;
     let x = winner_of(v, w);
@@ -79,10 +79,10 @@ pub(crate) fn second_judged(
     let st = g.st;
     let qs = g.quota_s;
     let qt = g.quota_t;
-    let read = plan::read_plan(g.m, &sv, &st, &qs, &qt, second);
+    let read = plan_reader::read_plan(g.m, &sv, &st, &qs, &qt, second);
     let a = read.answer;
     match a {
-        PlanAnswer::Refused(n) => Comparison::Refused(n, refusal::group_of(n)),
+        PlanAnswer::Refused(n) => Comparison::Refused(n, answers::group_of(n)),
         PlanAnswer::Accepted(n) => {
             let q = read.chosen;
             let qe = read.edges;
@@ -101,10 +101,10 @@ pub(crate) fn judged(roster: &[u8], first: &[u8], second: &[u8]) -> Comparison
     let st = g.st;
     let qs = g.quota_s;
     let qt = g.quota_t;
-    let read = plan::read_plan(g.m, &sv, &st, &qs, &qt, first);
+    let read = plan_reader::read_plan(g.m, &sv, &st, &qs, &qt, first);
     let a = read.answer;
     match a {
-        PlanAnswer::Refused(n) => Comparison::Refused(n, refusal::group_of(n)),
+        PlanAnswer::Refused(n) => Comparison::Refused(n, answers::group_of(n)),
         PlanAnswer::Accepted(n) => {
             let p = read.chosen;
             let pe = read.edges;

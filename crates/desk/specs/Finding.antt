@@ -19,14 +19,14 @@ use Rattle.model.specs.Reduction.{stepsOf}
 use Rattle.model.specs.Finder as F
 use Rattle.model.specs.Finder.{recordOf, diaryOf, finderOf}
 use Rattle.model.specs.Desk.{Call, find, refused, lentShort, stateRefusal, rosterIn, deskAfter, foundAnswer, foundWritten, onto}
-use Rattle.search.specs.Rival.{rivalOf}
-use Rattle.blocking.specs.Blocking.{firstBlocking}
-use Rattle.reduction.specs.Course.{steps-few}
+use Rattle.theory_verdict.specs.Rival.{rivalOf}
+use Rattle.theory_instance.specs.FirstBlocking.{firstBlocking}
+use Rattle.theory_reduction.specs.Course.{steps-few}
 use Rattle.diary.specs.declared.Step.{Step}
 use Rattle.diary.specs.Steps.{recordIn, recordsIn, stepsIn}
-use Rattle.diary.specs.Laws.{filled-diary, filled-none}
-use Rattle.answers.specs.Shown.{foundShown}
-use Rattle.refusal.specs.Shown.{shown-case}
+use Rattle.diary.specs.Records.{filled-diary, filled-none}
+use Rattle.answers.specs.FinderCases.{foundShown}
+use Rattle.answers.specs.GroupCases.{shown-case}
 use Rattle.finder.specs.declared.Outcome.{Outcome}
 use Rattle.finder.specs.Promise as promise
 use Rattle.finder.specs.Promise.{Promise, leftAfter, planAfter, answerFor, written-is, shown-is, promised, steps-are}

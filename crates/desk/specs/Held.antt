@@ -13,8 +13,8 @@ use Rattle.model.specs.Edges.{instanceOf}
 use Rattle.model.specs.Plans.{Plan}
 use Rattle.model.specs.PlanFile.{readPlan}
 use Rattle.model.specs.Desk.{Held, nothing, roster, planned, sound, opening, loadRoster, loadPlan, noRoster, noPlan, withRoster, withPlan, loadPlanOn, deskAfter}
-use Rattle.formats.specs.Reads.{isBytes}
-use Rattle.rosters.specs.Desks.{desk-sound}
+use Rattle.theory_files.specs.Reads.{isBytes}
+use Rattle.theory_finder.specs.Desks.{desk-sound}
 use Rattle.desk.specs.declared.Desk.{Desk}
 
 -- a length above the array's is the whole array

@@ -14,12 +14,12 @@ use Rattle.model.specs.Edges.{instanceOf}
 use Rattle.model.specs.Plans.{Plan}
 use Rattle.model.specs.PlanFile.{readPlan}
 use Rattle.model.specs.Desk.{Held, nothing, roster, planned, opening, Call, loadRoster, loadPlan, writeRosterTo, writePlanTo, find, judge, compare, blocking, Answer, needsRoster, needsPlan, lentShort, noRoster, noPlan, stateRefusal, answerOn, lentOn, rosterIn, planIn, stateRefused, answerOf, lentAfter, deskAfter}
-use Rattle.search.specs.Rival.{rivalOf}
-use Rattle.blocking.specs.Blocking.{firstBlocking}
-use Rattle.refusal.specs.declared.Group.{Group}
+use Rattle.theory_verdict.specs.Rival.{rivalOf}
+use Rattle.theory_instance.specs.FirstBlocking.{firstBlocking}
+use Rattle.answers.specs.declared.Group.{Group}
 use Rattle.roster.specs.declared.Answer as reader
 use Rattle.roster.specs.declared.Answer.the-variants as answer
-use Rattle.roster.specs.Shown.{shown}
+use Rattle.roster.specs.ReadAnswer.{shown}
 use Rattle.files.specs.declared.PlanReply.{PlanReply}
 use Rattle.files.specs.declared.PlanReply.the-variants as reply
 use Rattle.files.specs.Replies.{replied, planReply}

@@ -14,16 +14,16 @@ use Rattle.model.specs.Edges.{instanceOf}
 use Rattle.model.specs.Plans.{Plan}
 use Rattle.model.specs.PlanFile.{readPlan}
 use Rattle.model.specs.Desk.{Held, roster, planned, loadRoster, loadPlan, Answer, refused, loaded, stateRefusal, answerOf, loadedRoster, loadedPlan, withRoster, withPlan, deskAfter}
-use Rattle.formats.specs.Reads.{isBytes}
-use Rattle.formats.specs.Rosters.{accepted-size}
-use Rattle.rosters.specs.PlanFiles.{plan-accepted-size}
-use Rattle.search.specs.Rival.{rivalOf}
-use Rattle.blocking.specs.Blocking.{firstBlocking}
-use Rattle.refusal.specs.declared.Group.{Group}
-use Rattle.refusal.specs.Shown.{groupShown, shown-case}
+use Rattle.theory_files.specs.Reads.{isBytes}
+use Rattle.theory_files.specs.Rosters.{accepted-size}
+use Rattle.theory_files.specs.PlanFiles.{plan-accepted-size}
+use Rattle.theory_verdict.specs.Rival.{rivalOf}
+use Rattle.theory_instance.specs.FirstBlocking.{firstBlocking}
+use Rattle.answers.specs.declared.Group.{Group}
+use Rattle.answers.specs.GroupCases.{groupShown, shown-case}
 use Rattle.roster.specs.declared.Answer as reader
 use Rattle.roster.specs.declared.Answer.the-variants as answer
-use Rattle.roster.specs.Shown.{shown, shown-accepted, shown-refused}
+use Rattle.roster.specs.ReadAnswer.{shown, shown-accepted, shown-refused}
 use Rattle.files.specs.declared.PlanReply.{PlanReply}
 use Rattle.files.specs.declared.PlanReply.the-variants as reply
 use Rattle.files.specs.Replies.{replied, planReply}

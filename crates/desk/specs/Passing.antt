@@ -21,9 +21,9 @@ use Rattle.model.specs.Blocking.{someBlocks}
 use Rattle.model.specs.Compare as outcome
 use Rattle.model.specs.Compare.{Part, winnerPart, partOf, comparisonOf}
 use Rattle.model.specs.Desk.{Held, roster, planned, writeRosterTo, writePlanTo, compare, blocking, votes, refusedPart, stateRefusal, answerOf, comparisonAnswer, deskAfter}
-use Rattle.search.specs.Rival.{rivalOf}
-use Rattle.blocking.specs.Blocking.{firstBlocking}
-use Rattle.refusal.specs.Shown.{shown-case}
+use Rattle.theory_verdict.specs.Rival.{rivalOf}
+use Rattle.theory_instance.specs.FirstBlocking.{firstBlocking}
+use Rattle.answers.specs.GroupCases.{shown-case}
 use Rattle.roster_writer.specs.declared.Written.{Written}
 use Rattle.roster_writer.specs.Writes as rosters
 use Rattle.files.specs.Replies as files

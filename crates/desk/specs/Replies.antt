@@ -7,9 +7,9 @@ use mathlib.Core.List.{List, []}
 use Rattle.model.specs.Compare as model
 use Rattle.model.specs.Compare.{Part, winnerPart}
 use Rattle.model.specs.Desk.{Held, Call, loadRoster, loadPlan, writeRosterTo, writePlanTo, find, judge, compare, blocking, Answer, refused, loaded, wrote, plan, none, strong, popular, beaten, votes, refusedPart, blockedBy, unblocked, answerOf, lentAfter, deskAfter}
-use Rattle.search.specs.Rival.{rivalOf}
-use Rattle.blocking.specs.Blocking.{firstBlocking}
-use Rattle.refusal.specs.Shown.{groupShown}
+use Rattle.theory_verdict.specs.Rival.{rivalOf}
+use Rattle.theory_instance.specs.FirstBlocking.{firstBlocking}
+use Rattle.answers.specs.GroupCases.{groupShown}
 use Rattle.roster_writer.specs.declared.Written.{Written}
 use Rattle.roster_writer.specs.declared.Written.the-variants as written
 use Rattle.compare.specs.declared.Comparison.{Comparison}

@@ -15,10 +15,10 @@ use Rattle.model.specs.Edges.{instanceOf}
 use Rattle.model.specs.Plans.{Plan, verdictOf}
 use Rattle.model.specs.PlanFile.{readPlan}
 use Rattle.model.specs.Desk.{planned, judge, stateRefusal, deskAfter}
-use Rattle.blocking.specs.Blocking.{firstBlocking}
-use Rattle.judging.specs.declared.Weighed.{Weighed}
-use Rattle.judging.specs.declared.Weighed.the-variants as weighed
-use Rattle.judging.specs.Weighing.{weighedAs, deskAnswer, desk-answer, desk-written}
+use Rattle.theory_instance.specs.FirstBlocking.{firstBlocking}
+use Rattle.verdict.specs.declared.Weighed.{Weighed}
+use Rattle.verdict.specs.declared.Weighed.the-variants as weighed
+use Rattle.verdict.specs.Weighing.{weighedAs, deskAnswer, desk-answer, desk-written}
 use Rattle.verdicts.specs.declared.Verdict.{Verdict}
 use Rattle.verdicts.specs.Answers.{withPlan, planAsked, toJudge, verdictCase, replied, left, JudgedBy, VerdictGiven}
 use Rattle.desk.specs.declared.Desk.{Desk}

@@ -14,12 +14,12 @@ ghost use Rattle.desk.specs.Held.{heldOf};
 ghost use Rattle.desk.specs.Finding.{Done, Finds};
 ghost use Rattle.desk.specs.Replies.{Replied, loadShown, writtenShown, verdictShown, comparisonShown, partIn, answered};
 use answers::Found;
+use answers::Group;
 use blocking_pairs::Blocked;
 use compare::Comparison;
 use diary::Step;
 use limits::PLAN_SIZE;
 use limits::ROSTER_SIZE;
-use refusal::Group;
 use roster_writer::Written;
 use verdicts::Verdict;
 
@@ -142,7 +142,7 @@ impl Desk {
         if 0 < n {
             return LoadReply {
                 desk: self,
-                answer: Loading::Refused(n, refusal::group_of(n)),
+                answer: Loading::Refused(n, answers::group_of(n)),
             };
         }
         let a = held::read_plan(self, file);
@@ -168,7 +168,7 @@ impl Desk {
         if 0 < n {
             return WriteReply {
                 desk: self,
-                answer: Written::Refused(n, refusal::group_of(n)),
+                answer: Written::Refused(n, answers::group_of(n)),
             };
         }
         let w = held::write_roster(self, out);
@@ -185,7 +185,7 @@ impl Desk {
         if 0 < n {
             return WriteReply {
                 desk: self,
-                answer: Written::Refused(n, refusal::group_of(n)),
+                answer: Written::Refused(n, answers::group_of(n)),
             };
         }
         let w = held::write_plan(self, out);
@@ -203,7 +203,7 @@ impl Desk {
         if 0 < n {
             return JudgeReply {
                 desk: self,
-                answer: Verdict::Refused(n, refusal::group_of(n)),
+                answer: Verdict::Refused(n, answers::group_of(n)),
             };
         }
         let v = held::judge(self, rival);
@@ -221,7 +221,7 @@ impl Desk {
         if 0 < n {
             return CompareReply {
                 desk: self,
-                answer: Comparison::Refused(n, refusal::group_of(n)),
+                answer: Comparison::Refused(n, answers::group_of(n)),
             };
         }
         let c = held::compare(self, first, second);
@@ -247,7 +247,7 @@ impl Desk {
         if 0 < n {
             return BlockingReply {
                 desk: self,
-                answer: Blocked::Refused(n, refusal::group_of(n)),
+                answer: Blocked::Refused(n, answers::group_of(n)),
             };
         }
         let b = held::blocking(self);

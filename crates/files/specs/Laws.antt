@@ -15,21 +15,21 @@ use Rattle.model.specs.RosterFile.{readRoster}
 use Rattle.model.specs.Edges.{instanceOf}
 use Rattle.model.specs.Plans.{Plan}
 use Rattle.model.specs.PlanFile.{readPlan}
-use Rattle.formats.specs.Reads.{isBytes}
-use Rattle.rosters.specs.PlanFiles.{plan-read-write, plan-accepted-size}
-use Rattle.refusal.specs.declared.Group.{Group}
-use Rattle.refusal.specs.Shown.{groupShown, groupCase, shows-case}
+use Rattle.theory_files.specs.Reads.{isBytes}
+use Rattle.theory_files.specs.PlanFiles.{plan-read-write, plan-accepted-size}
+use Rattle.answers.specs.declared.Group.{Group}
+use Rattle.answers.specs.GroupCases.{groupShown, groupCase, shows-case}
 use Rattle.roster.specs.declared.Answer.{Answer}
 use Rattle.roster.specs.declared.Answer.the-variants as answer
-use Rattle.roster.specs.Shown.{shown, shown-accepted, shown-refused}
+use Rattle.roster.specs.ReadAnswer.{shown, shown-accepted, shown-refused}
 use Rattle.roster_writer.specs.declared.Written.the-variants as written
 use Rattle.instance.specs.declared.Instance.{Instance}
 use Rattle.instance.specs.Decoded.{Decoded}
 use Rattle.instance.specs.Arrays.{decoded-fileable}
-use Rattle.plan.specs.declared.PlanAnswer.the-variants as plan
-use Rattle.plan.specs.declared.PlanRead.{PlanRead}
-use Rattle.plan.specs.Edges.{Differ}
-use Rattle.plan.specs.Answers.{ReadAs, ReadFor, accepted-read, refused-read}
+use Rattle.plan_reader.specs.declared.PlanAnswer.the-variants as plan
+use Rattle.plan_reader.specs.declared.PlanRead.{PlanRead}
+use Rattle.plan_reader.specs.Edges.{Differ}
+use Rattle.plan_reader.specs.Answers.{ReadAs, ReadFor, accepted-read, refused-read}
 use Rattle.files.specs.declared.PlanReply.{PlanReply}
 use Rattle.files.specs.declared.PlanReply.the-variants.{Accepted, Refused}
 use Rattle.files.specs.Replies.{RosterAccepted, replied, planReply, JudgedAs, bytesOf, planToWrite, toWrite, answered, left, WrittenBy, PlanWritten}

@@ -7,10 +7,10 @@ use Rattle.model.specs.Reading.{Reading, accepted, turned}
 use Rattle.model.specs.Roster.{Roster}
 use Rattle.model.specs.RosterFile.{readRoster}
 use Rattle.model.specs.Edges.{instanceOf}
-use Rattle.refusal.specs.declared.Group.{Group}
+use Rattle.answers.specs.declared.Group.{Group}
 use Rattle.roster.specs.declared.Answer.{Answer}
 use Rattle.roster.specs.declared.Answer.the-variants as answer
-use Rattle.roster.specs.Shown.{shown, shown-refused}
+use Rattle.roster.specs.ReadAnswer.{shown, shown-refused}
 use Rattle.roster_writer.specs.declared.Written.{Written}
 use Rattle.roster_writer.specs.declared.Written.the-variants as written
 use Rattle.instance.specs.declared.Instance.{Instance}

@@ -15,7 +15,7 @@ use Rattle.model.specs.Instance.{Instance}
 use Rattle.model.specs.Edges.{instanceOf}
 use Rattle.model.specs.Plans.{Plan}
 use Rattle.model.specs.PlanFile.{planBytes, readPlan}
-use Rattle.refusal.specs.Shown.{groupCase}
+use Rattle.answers.specs.GroupCases.{groupCase}
 use Rattle.roster_writer.specs.declared.Written.{Written}
 use Rattle.roster_writer.specs.declared.Written.the-variants as written
 use Rattle.files.specs.declared.PlanReply.{PlanReply}

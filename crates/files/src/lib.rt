@@ -4,9 +4,9 @@ ghost use mathlib.Core.Path.{_≡_};
 ghost use Rattle.model.specs.RosterFile.{readRoster};
 ghost use Rattle.files.specs.Replies.{RosterAccepted, planReply, JudgedAs, PlanWritten};
 ghost use Rattle.files.specs.Pairs.{PairsWritten};
+use answers::Group;
 use limits::PLAN_SIZE;
-use plan::PlanAnswer;
-use refusal::Group;
+use plan_reader::PlanAnswer;
 use roster::Answer;
 use roster_writer::Written;
 
@@ -30,11 +30,11 @@ pub(crate) fn judged(roster: &[u8], file: &[u8]) -> PlanReply
     let st = g.st;
     let qs = g.quota_s;
     let qt = g.quota_t;
-    let p = plan::read_plan(m, &sv, &st, &qs, &qt, file);
+    let p = plan_reader::read_plan(m, &sv, &st, &qs, &qt, file);
     let a = p.answer;
     match a {
         PlanAnswer::Accepted(_) => PlanReply::Accepted,
-        PlanAnswer::Refused(n) => PlanReply::Refused(n, refusal::group_of(n)),
+        PlanAnswer::Refused(n) => PlanReply::Refused(n, answers::group_of(n)),
     }
 }
 
@@ -55,7 +55,7 @@ pub fn write_plan(roster: &[u8], file: &[u8], out: &mut [u8]) -> Written
     ensures { λ r. ⌜ PlanWritten (now (roster .entry)) (now (file .entry)) (now (out .entry)) r (now (out .exit)) ⌝ }
 {
     if out.len() < PLAN_SIZE {
-        return Written::Refused(15, refusal::group_of(15));
+        return Written::Refused(15, answers::group_of(15));
     }
     let a = read_plan(roster, file);
     match a {
@@ -73,7 +73,7 @@ pub fn write_pairs(roster: &[u8], out: &mut [u8]) -> Written
     ensures { λ r. ⌜ PairsWritten (now (roster .entry)) (now (out .entry)) r (now (out .exit)) ⌝ }
 {
     if out.len() < PAIRS_SIZE {
-        return Written::Refused(15, refusal::group_of(15));
+        return Written::Refused(15, answers::group_of(15));
     }
     let a = roster::read_roster(roster);
     match a {

@@ -18,13 +18,13 @@ use Rattle.model.specs.PlanFile.{edgesIn}
 use Rattle.model.specs.Reduction.{stepsOf}
 use Rattle.model.specs.Finder as F
 use Rattle.model.specs.Finder.{diaryOf, Found, isEmpty, finderOf}
-use Rattle.search.specs.Rival.{rivalOf}
-use Rattle.arrays.specs.Shown.{flag}
-use Rattle.board.specs.Diary.{written}
+use Rattle.theory_verdict.specs.Rival.{rivalOf}
+use Rattle.arrays.specs.ArrayInstance.{flag}
+use Rattle.reduction_state.specs.Diary.{written}
 use Rattle.instance.specs.declared.Instance as arrays
 use Rattle.instance.specs.Decoded.{shownBy}
-use Rattle.judging.specs.Weighing.{Shows}
-use Rattle.refusal.specs.Shown.{groupCase}
+use Rattle.verdict.specs.Weighing.{Shows}
+use Rattle.answers.specs.GroupCases.{groupCase}
 use Rattle.answers.specs.declared.Found as code
 use Rattle.answers.specs.declared.Found.the-variants as says
 use Rattle.finder.specs.declared.Outcome.{Outcome}

@@ -1,3 +1,3 @@
 pub mod Promise
 pub mod Found
-pub mod Laws
+pub mod Endings

@@ -23,15 +23,15 @@ use Rattle.model.specs.Reduction.{Step, stepsOf}
 use Rattle.model.specs.Finder as F
 use Rattle.model.specs.Finder.{Record, diaryOf, leftOf, candidateOf, Rival, Found, found, isEmpty, finderOf}
 use Rattle.model.specs.Desk.{find, onto, foundAnswer, foundWritten}
-use Rattle.search.specs.Rival.{rivalOf}
-use Rattle.search.specs.Meaning.{Beaten, verdict-means}
-use Rattle.rosters.specs.Laws.{lawful}
-use Rattle.demand.specs.Found.{Answers, handsBack, candidate-plan}
-use Rattle.demand.specs.Rosters.{rival-holds, demand3}
+use Rattle.theory_verdict.specs.Rival.{rivalOf}
+use Rattle.theory_verdict.specs.Meaning.{Beaten, verdict-means}
+use Rattle.theory_files.specs.RosterInstance.{lawful}
+use Rattle.theory_finder.specs.FoundPlan.{Answers, handsBack, candidate-plan}
+use Rattle.theory_finder.specs.Demand3.{rival-holds, demand3}
 use Rattle.answers.specs.declared.Found as code
 use Rattle.answers.specs.declared.Found.the-variants as says
 use Rattle.answers.specs.declared.NoneKind.the-variants as kind
-use Rattle.answers.specs.Shown.{foundShown}
+use Rattle.answers.specs.FinderCases.{foundShown}
 
 -- ---- the buffers after a find, one by one
 module _ (G : Instance) where

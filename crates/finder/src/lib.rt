@@ -6,17 +6,17 @@ ghost use Rattle.instance.specs.Loaded.{Loaded};
 ghost use Rattle.files.specs.Replies.{RosterAccepted};
 ghost use Rattle.model.specs.Plans.{Plan};
 ghost use Rattle.instance.specs.Decoded.{shownBy};
-ghost use Rattle.judging.specs.Weighing.{Shows};
+ghost use Rattle.verdict.specs.Weighing.{Shows};
 ghost use Rattle.finder.specs.Promise.{stepsIn};
 ghost use Rattle.finder.specs.Found.{Judges, Ends, Finds, Refuses, Works, Outcomes};
 use answers::Found;
 use answers::NoneKind;
 use instance::Instance;
-use judging::Weighed;
 use limits::DIARY_SIZE;
 use limits::LEFT_SIZE;
 use limits::PLAN_SIZE;
 use roster::Answer;
+use verdict::Weighed;
 
 // "Otherwise the fixed pairs are the candidate: strong gives the plan; else none, rivalled": after so many steps.
 pub(crate) fn judged(
@@ -32,10 +32,10 @@ pub(crate) fn judged(
     let m = g.m;
     let sv = g.sv;
     let st = g.st;
-    let l = poll::list_edges(m, fixed);
+    let l = vote_of_flags::list_edges(m, fixed);
     let es = l.edges;
-    planwriter::write_plan(m, &sv, &st, fixed, &mut *plan);
-    let w = judging::weigh(g, fixed, l.n, &es, &mut *rival);
+    plan_writer::write_plan(m, &sv, &st, fixed, &mut *plan);
+    let w = verdict::weigh(g, fixed, l.n, &es, &mut *rival);
     match w {
         Weighed::Strong => Found::Plan(steps),
         Weighed::Popular(v) => Found::None(steps, NoneKind::Rivalled(v)),
@@ -59,7 +59,7 @@ pub(crate) fn ended(
     let m = g.m;
     let sv = g.sv;
     let st = g.st;
-    let k = planwriter::write_pairs(m, &sv, &st, rem, 0, &mut *left);
+    let k = plan_writer::write_pairs(m, &sv, &st, rem, 0, &mut *left);
     if 0 < k {
         return Found::None(steps, NoneKind::Left(k));
     }
@@ -85,7 +85,7 @@ pub fn find(
     let tied = g.tied;
     let bs = g.quota_s;
     let bt = g.quota_t;
-    let ran = reduce::reduce(g.m, &sv, &st, &rs, &rt, &tied, &bs, &bt, &mut *diary);
+    let ran = reduction_run::reduce(g.m, &sv, &st, &rs, &rt, &tied, &bs, &bt, &mut *diary);
     let b = ran.board;
     let rem = b.rem;
     let fixed = b.fixed;
@@ -104,7 +104,7 @@ pub(crate) fn refused(number: u8) -> Outcome
     ensures { λ r. ⌜ Refuses number r ⌝ }
 {
     Outcome {
-        answer: Found::Refused(number, refusal::group_of(number)),
+        answer: Found::Refused(number, answers::group_of(number)),
         flat: [0; 4096],
         steps: 0,
     }

@@ -17,17 +17,17 @@ use Rattle.model.specs.Reading.{accepted}
 use Rattle.model.specs.RosterFile.{readRoster}
 use Rattle.model.specs.Roster.{Ranking, Roster, surveyorCount, standCount, listS, listT, elem, listed, fits}
 use Rattle.model.specs.Edges.{Edge, position, pairEdge, edgesOf, noEdge, edgeAt, instanceOf}
-use Rattle.formats.specs.Reads.{isBytes, bytes-are}
-use Rattle.formats.specs.Rosters.{fits-parts, read-write, read-fits}
-use Rattle.graph.specs.Lawful.{Lawful}
-use Rattle.rosters.specs.PlanFiles.{Fileable}
-use Rattle.rosters.specs.Position.{position-pos, position-out}
-use Rattle.rosters.specs.Laws.{ns-small, nt-small, strict-or-tied, tied-not-strict, strict-length, lawful, fileable}
-use Rattle.rosters.specs.Cells.{Within, list-within, strict-within, listed-none, edges-cells}
-use Rattle.rosters.specs.Offsets.{listsStart, rankingSection, Offsets, offsets, rankings-from}
-use Rattle.positions.specs.Tables.{listsStamped, listsEnd, strictStamped, nextRanks}
-use Rattle.positions.specs.Rows.{allStamped, positionIn, all-at, lists-are, strictLists, nextAll, rankings-are, next-at}
-use Rattle.arrays.specs.Shown.{at}
+use Rattle.theory_files.specs.Reads.{isBytes, bytes-are}
+use Rattle.theory_files.specs.Rosters.{fits-parts, read-write, read-fits}
+use Rattle.theory_instance.specs.Lawful.{Lawful}
+use Rattle.theory_files.specs.PlanFiles.{Fileable}
+use Rattle.theory_files.specs.Position.{position-pos, position-out}
+use Rattle.theory_files.specs.RosterInstance.{ns-small, nt-small, strict-or-tied, tied-not-strict, strict-length, lawful, fileable}
+use Rattle.theory_files.specs.Cells.{Within, list-within, strict-within, listed-none, edges-cells}
+use Rattle.theory_files.specs.Offsets.{listsStart, rankingSection, Offsets, offsets, rankings-from}
+use Rattle.roster_positions.specs.Tables.{listsStamped, listsEnd, strictStamped, nextRanks}
+use Rattle.roster_positions.specs.Rows.{allStamped, positionIn, all-at, lists-are, strictLists, nextAll, rankings-are, next-at}
+use Rattle.arrays.specs.ArrayInstance.{at}
 use Rattle.arrays.specs.Passes.{Shows, all-blank, shows-at, shows-behind, shown-is}
 use Rattle.instance.specs.declared.Instance.{Instance}
 use Rattle.instance.specs.Cells.{listedCells, Listed, across, cellEdge, Filled}

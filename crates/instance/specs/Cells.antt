@@ -8,7 +8,7 @@ use lib.Dec.{eqb}
 use Rattle.lists.specs.Sum.{range}
 use Rattle.lists.specs.Keep.{keep}
 use Rattle.model.specs.Edges.{Edge}
-use Rattle.arrays.specs.Shown.{at}
+use Rattle.arrays.specs.ArrayInstance.{at}
 use Rattle.arrays.specs.Passes.{Low, Shows}
 use Rattle.instance.specs.declared.Instance.{Instance}
 

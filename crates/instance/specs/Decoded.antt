@@ -8,7 +8,7 @@ use Rattle.model.specs.Roster.{Roster}
 use Rattle.model.specs.RosterFile.{readRoster}
 use Rattle.model.specs.Edges.{instanceOf}
 use Rattle.model.specs.Instance as model
-use Rattle.arrays.specs.Shown.{at, shown}
+use Rattle.arrays.specs.ArrayInstance.{at, shown}
 use Rattle.instance.specs.declared.Instance.{Instance}
 
 -- the instance that the arrays show

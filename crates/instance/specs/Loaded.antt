@@ -7,12 +7,12 @@ use Rattle.model.specs.Limits.{nodeLimit, entryLimit, quotaLimit}
 use Rattle.model.specs.Reading.{accepted}
 use Rattle.model.specs.Roster.{Roster}
 use Rattle.model.specs.RosterFile.{readRoster}
-use Rattle.formats.specs.Reads.{isBytes}
-use Rattle.formats.specs.Rosters.{read-fits}
-use Rattle.graph.specs.Lawful.{Lawful}
-use Rattle.rosters.specs.PlanFiles.{Fileable}
-use Rattle.rosters.specs.Laws.{ranks-from-one, quotas-small}
-use Rattle.arrays.specs.Shown.{at}
+use Rattle.theory_files.specs.Reads.{isBytes}
+use Rattle.theory_files.specs.Rosters.{read-fits}
+use Rattle.theory_instance.specs.Lawful.{Lawful}
+use Rattle.theory_files.specs.PlanFiles.{Fileable}
+use Rattle.theory_files.specs.RosterInstance.{ranks-from-one, quotas-small}
+use Rattle.arrays.specs.ArrayInstance.{at}
 use Rattle.instance.specs.declared.Instance.{Instance}
 use Rattle.instance.specs.Decoded.{shownBy, Decoded}
 use Rattle.instance.specs.Arrays.{decoded-lawful, decoded-fileable}

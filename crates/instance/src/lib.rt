@@ -34,7 +34,7 @@ pub struct Found {
 pub fn count_at(file: &[u8], at: usize) -> usize
     ensures { λ r. ⌜ r ≡ min (getD (now (file .entry)) at 0) 32 ⌝ }
 {
-    let n = positions::byte_at(file, at) as usize;
+    let n = roster_positions::byte_at(file, at) as usize;
     if n <= 32 {
         return n;
     }
@@ -49,7 +49,7 @@ pub fn quotas(file: &[u8], at: usize, n: usize) -> [u8; 32]
     let mut q = [0u8; 32];
     let mut i = 0;
     while i < n {
-        q[i] = positions::byte_at(file, at + i);
+        q[i] = roster_positions::byte_at(file, at + i);
         i += 1;
     }
     q
@@ -138,10 +138,10 @@ pub fn instance_of(file: &[u8]) -> Instance
     let nt = count_at(file, ns + 1);
     let quota_t = quotas(file, ns + 2, nt);
     let mut listed = [0u8; 1024];
-    let at = positions::stamp_lists(file, ns + nt + 4, ns, &mut listed);
+    let at = roster_positions::stamp_lists(file, ns + nt + 4, ns, &mut listed);
     let mut strict = [0u8; 1024];
     let mut next = [0u8; 32];
-    positions::stamp_rankings(file, at + 2, nt, &mut strict, &mut next);
+    roster_positions::stamp_rankings(file, at + 2, nt, &mut strict, &mut next);
     let found = listed_cells(ns, &listed);
     let m = found.m;
     let cell = found.cell;

@@ -13,7 +13,7 @@ use Rattle.lists.specs.Sum.{range, range-length}
 use Rattle.lists.specs.Keep.{gather}
 use Rattle.lists.specs.Ranges.{range-add, gather-append}
 use Rattle.model.specs.Instance.{Instance}
-use Rattle.arrays.specs.Shown.{at, flag, shown}
+use Rattle.arrays.specs.ArrayInstance.{at, flag, shown}
 
 -- an edge's bytes: the numbers of its surveyor and its stand, its rank at each, and 1 if it is tied at the stand
 abbrev pub fiveBytes : Instance → ℕ → List ℕ

@@ -4,9 +4,9 @@ use mathlib.Core.Path.{_≡_}
 use mathlib.Core.List.{List}
 use lib.ListN.{length}
 use Rattle.model.specs.Printed.{printed}
-use Rattle.search.specs.Rival.{rivalOf}
-use Rattle.printer.specs.Printable.{textSize}
-use Rattle.printer.specs.Answered.{Wrote}
+use Rattle.theory_verdict.specs.Rival.{rivalOf}
+use Rattle.text_answer.specs.Printable.{textSize}
+use Rattle.text_answer.specs.Answered.{Wrote}
 
 pub record Prints (input before : List ℕ) (n : ℕ) (after : List ℕ) : Type 0 where
   pub text : Wrote (printed rivalOf input) before n after

@@ -1,7 +1,7 @@
 // The program's answer: the text that it prints for what it read. The program itself (crate crew) only reads, calls this and writes.
 ghost use mathlib.Core.Path.{_≡_};
 ghost use Rattle.model.specs.Printed.{printed};
-ghost use Rattle.search.specs.Rival.{rivalOf};
+ghost use Rattle.theory_verdict.specs.Rival.{rivalOf};
 ghost use Rattle.files.specs.Replies.{RosterAccepted};
 ghost use Rattle.program.specs.Printing.{Prints};
 use answers::Found;
@@ -17,7 +17,7 @@ pub(crate) fn worked(roster: &[u8], out: &mut [u8; 32783]) -> usize
     let mut plan = [0u8; 129];
     let mut rival = [0u8; 129];
     let a = finder::find(roster, &mut flat, &mut left, &mut plan, &mut rival);
-    printer::answer_text(a, &flat, &left, &plan, &rival, out)
+    text_answer::answer_text(a, &flat, &left, &plan, &rival, out)
 }
 
 // "prints the finder's answer": the text at the front of out, and its length. No text is longer than out.
@@ -28,7 +28,7 @@ pub fn answer(input: &[u8], out: &mut [u8; 32783]) -> usize
     match a {
         Answer::Refused(number, group) => {
             let none = [0u8; 1];
-            printer::answer_text(
+            text_answer::answer_text(
                 Found::Refused(number, group),
                 &none,
                 &none,

@@ -3,9 +3,9 @@ ghost use mathlib.Core.Path.{_≡_};
 ghost use Prim.Native.Nat.{_≤_};
 ghost use lib.ListN.{length};
 ghost use Rattle.model.specs.RosterFile.{readRoster};
-ghost use Rattle.reading.specs.Whole.{closed, ListsRead};
+ghost use Rattle.roster_reading.specs.Whole.{closed, ListsRead};
 use super::pairs;
-use reading::Section;
+use roster_reading::Section;
 
 // The lists of ns surveyors and nt stands from a place on, then "9 bytes after the end", then "8 a pair listed by one side only". The
 // marks of a side's lists are 32 rows of 33.

@@ -4,9 +4,9 @@ mod pairs;
 
 ghost use mathlib.Core.Path.{_≡_};
 ghost use Rattle.model.specs.RosterFile.{readRoster};
-ghost use Rattle.roster.specs.Shown.{shown};
-use reading::Section;
-use refusal::Group;
+ghost use Rattle.roster.specs.ReadAnswer.{shown};
+use answers::Group;
+use roster_reading::Section;
 
 // A roster file is accepted, or refused with the number and the group of the refusal.
 pub enum Answer {
@@ -20,6 +20,6 @@ pub fn read_roster(file: &[u8]) -> Answer
     let s = file::roster_file(file);
     match s {
         Section::Read(_) => Answer::Accepted,
-        Section::Refused(n) => Answer::Refused(n, refusal::group_of(n)),
+        Section::Refused(n) => Answer::Refused(n, answers::group_of(n)),
     }
 }

@@ -2,7 +2,7 @@
 ghost use mathlib.Core.Path.{_≡_};
 ghost use Prim.Native.Nat.{_*_, _≤_, _<_};
 ghost use lib.ListN.{length};
-ghost use Rattle.reading.specs.Pairs.{rowAlike, bothAlike};
+ghost use Rattle.roster_reading.specs.Pairs.{rowAlike, bothAlike};
 use roster_lists::ROW;
 
 // The pairs of surveyor i, from 0 on, and each of n stands. `surveyors` and `stands` are the marks of their lists.

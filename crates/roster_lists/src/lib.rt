@@ -7,9 +7,9 @@ ghost use Prim.Native.Nat.{_*_, _≤_, _<_};
 ghost use lib.ListN.{length};
 ghost use Rattle.model.specs.Roster.{entries};
 ghost use Rattle.model.specs.RosterFile.{readList, readRanking, readMany};
-ghost use Rattle.reading.specs.Row.{Shows, Marked, EntriesAt, TiedAt};
-ghost use Rattle.reading.specs.Table.{ListsShown, RankingsShown};
-use reading::Section;
+ghost use Rattle.roster_reading.specs.Row.{Shows, Marked, EntriesAt, TiedAt};
+ghost use Rattle.roster_reading.specs.Table.{ListsShown, RankingsShown};
+use roster_reading::Section;
 
 // The marks of a row: one for each number from 0 to 32.
 pub const ROW: usize = 33;
@@ -19,9 +19,9 @@ pub fn entries_at(file: &[u8], at: usize, n: usize, other: u8, row: &mut [bool])
     requires { ⌜ (at ≤ length (now file)) × (other < length (now row)) ⌝ }
     ensures { λ r. ⌜ EntriesAt other n (now (file .entry)) at (now (row .entry)) r (now (row .exit)) ⌝ }
 {
-    let end = roster_checks::part_end(file.len(), at, n);
-    let refusal = roster_checks::check_entries(&file[at..end], other, row);
-    roster_checks::part_answer(refusal, at, end, n)
+    let end = roster_fields::part_end(file.len(), at, n);
+    let refusal = roster_fields::check_entries(&file[at..end], other, row);
+    roster_fields::part_answer(refusal, at, end, n)
 }
 
 // n tied entries from a place on.
@@ -29,9 +29,9 @@ pub fn tied_at(file: &[u8], at: usize, n: usize, other: u8, row: &mut [bool]) ->
     requires { ⌜ (at ≤ length (now file)) × (other < length (now row)) ⌝ }
     ensures { λ r. ⌜ TiedAt other n (now (file .entry)) at (now (row .entry)) r (now (row .exit)) ⌝ }
 {
-    let end = roster_checks::part_end(file.len(), at, n);
-    let refusal = roster_checks::check_tied(&file[at..end], other, row);
-    roster_checks::part_answer(refusal, at, end, n)
+    let end = roster_fields::part_end(file.len(), at, n);
+    let refusal = roster_fields::check_tied(&file[at..end], other, row);
+    roster_fields::part_answer(refusal, at, end, n)
 }
 
 // "a length byte and stand numbers, best first": at most `longest` of them, each at most `other`.

@@ -6,22 +6,22 @@ ghost use Prim.Native.Nat.{_+_, _*_, _≤_, _<_};
 ghost use lib.ListN.{length, drop};
 ghost use Rattle.model.specs.Roster.{totalS, totalT};
 ghost use Rattle.model.specs.RosterFile.{readQuotas, readNodes, readList, readRanking, readSection};
-ghost use Rattle.reading.specs.Place.{placed};
-ghost use Rattle.reading.specs.Field as field;
-ghost use Rattle.reading.specs.Row.{Marked};
-ghost use Rattle.reading.specs.Table.{ListsShown, RankingsShown};
+ghost use Rattle.roster_reading.specs.Place.{placed};
+ghost use Rattle.roster_reading.specs.Field as field;
+ghost use Rattle.roster_reading.specs.Row.{Marked};
+ghost use Rattle.roster_reading.specs.Table.{ListsShown, RankingsShown};
 use limits::ENTRY_LIMIT;
 use limits::NODE_LIMIT;
-use reading::Section;
+use roster_reading::Section;
 
 // n quotas from a place on.
 pub fn quotas_at(file: &[u8], at: usize, n: usize) -> Section
     requires { ⌜ at ≤ length (now file) ⌝ }
     ensures { λ r. ⌜ r ≡ placed (now (file .entry)) (readQuotas n (drop at (now (file .entry)))) ⌝ }
 {
-    let end = roster_checks::part_end(file.len(), at, n);
-    let refusal = roster_checks::check_quotas(&file[at..end]);
-    roster_checks::part_answer(refusal, at, end, n)
+    let end = roster_fields::part_end(file.len(), at, n);
+    let refusal = roster_fields::check_quotas(&file[at..end]);
+    roster_fields::part_answer(refusal, at, end, n)
 }
 
 // "a count byte 0 to 32, then one quota byte each"

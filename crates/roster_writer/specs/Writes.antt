@@ -13,13 +13,13 @@ use Rattle.model.specs.Reading.{Reading, accepted, turned}
 use Rattle.model.specs.Refusal.{groupOf}
 use Rattle.model.specs.Roster.{Roster}
 use Rattle.model.specs.RosterFile.{readRoster, writeRoster}
-use Rattle.formats.specs.Reads.{isBytes}
-use Rattle.formats.specs.Rosters.{read-write, accepted-size}
-use Rattle.refusal.specs.declared.Group.{Group}
-use Rattle.refusal.specs.Shown.{groupShown, groupCase, shows-case}
+use Rattle.theory_files.specs.Reads.{isBytes}
+use Rattle.theory_files.specs.Rosters.{read-write, accepted-size}
+use Rattle.answers.specs.declared.Group.{Group}
+use Rattle.answers.specs.GroupCases.{groupShown, groupCase, shows-case}
 use Rattle.roster.specs.declared.Answer.{Answer}
 use Rattle.roster.specs.declared.Answer.the-variants as answer
-use Rattle.roster.specs.Shown.{shown, shown-accepted, shown-refused}
+use Rattle.roster.specs.ReadAnswer.{shown, shown-accepted, shown-refused}
 use Rattle.roster_writer.specs.declared.Written.{Written}
 use Rattle.roster_writer.specs.declared.Written.the-variants.{Wrote, Refused}
 

@@ -1,7 +1,7 @@
 // The roster writer: the bytes of a roster that is read from a file, written into a lent buffer.
 ghost use Rattle.roster_writer.specs.Writes.{RosterWritten};
+use answers::Group;
 use limits::ROSTER_SIZE;
-use refusal::Group;
 use roster::Answer;
 
 // So many bytes were written, or the refusal with its number and group.
@@ -16,7 +16,7 @@ pub fn write_roster(file: &[u8], out: &mut [u8]) -> Written
     ensures { λ r. ⌜ RosterWritten (now (file .entry)) (now (out .entry)) r (now (out .exit)) ⌝ }
 {
     if out.len() < ROSTER_SIZE {
-        return Written::Refused(15, refusal::group_of(15));
+        return Written::Refused(15, answers::group_of(15));
     }
     let a = roster::read_roster(file);
     match a {

@@ -1,22 +1,53 @@
-// The verdict by what the search for a rival found: strong, popular or beaten.
-ghost use mathlib.Core.Path.{_≡_};
-ghost use Rattle.verdict.specs.Judged.{verdictFor, weighed};
+// The verdict on a plan of an accepted roster, with the vote against its rival and the rival's bytes.
+ghost use Prim.Native.Nat.{_≤_};
+ghost use lib.ListN.{length};
+ghost use Rattle.model.specs.Plans.{Plan};
+ghost use Rattle.model.specs.PlanFile.{edgesIn};
+ghost use Rattle.theory_instance.specs.Lawful.{Matching};
+ghost use Rattle.arrays.specs.ArrayInstance.{flag};
+ghost use Rattle.instance.specs.Decoded.{shownBy};
+ghost use Rattle.instance.specs.Loaded.{Loaded};
+ghost use Rattle.rival_search.specs.SearchView.{Lists};
+ghost use Rattle.verdict.specs.Weighing.{Shows, WeighedFor};
+ghost use Rattle.verdict.specs.RivalWritten.{Voted};
+use instance::Instance;
+use rival_verdict::Judgement;
 
-pub enum Judgement {
+// Strong; popular or beaten, with the vote against the rival.
+pub enum Weighed {
     Strong,
-    Popular,
-    Beaten,
+    Popular(i16),
+    Beaten(i16),
 }
 
-// By whether something was found below 0, or else below 1.
-pub fn weigh(below: bool, found: levels::Found) -> Judgement
-    ensures { λ r. ⌜ verdictFor r ≡ weighed below found ⌝ }
+// The rival's bytes written to the buffer's front, and the vote of the plan against it.
+pub(crate) fn voted(g: Instance, plan: &[bool; 1024], rival: &[bool; 1024], out: &mut [u8]) -> i16
+    requires { ⌜ Loaded g × Matching (shownBy g) (flag (now plan)) × Matching (shownBy g) (flag (now rival)) × (length (edgesIn (g .m) (flag (now rival))) ≤ 64) × (129 ≤ length (now out)) ⌝ }
+    ensures { λ r. ⌜ Voted (shownBy g) (now (plan .entry)) (now (rival .entry)) (now (out .entry)) r (now (out .exit)) ⌝ }
 {
-    if below {
-        return Judgement::Beaten;
-    }
-    match found {
-        levels::Found::Nothing => Judgement::Strong,
-        _ => Judgement::Popular,
+    let sv = g.sv;
+    let st = g.st;
+    plan_writer::write_plan(g.m, &sv, &st, rival, &mut *out);
+    vote_of_flags::poll(g, plan, rival)
+}
+
+// A plan within the quotas, and the list of its edges.
+pub fn weigh(g: Instance, plan: &[bool; 1024], n: usize, es: &[u16; 64], out: &mut [u8]) -> Weighed
+    requires { ⌜ Loaded g × ((M : Plan) × Shows (shownBy g) (now plan) M) × Lists (g .m) (now plan) n (now es) × (129 ≤ length (now out)) ⌝ }
+    ensures { λ r. ⌜ WeighedFor (shownBy g) (now (plan .entry)) (now (out .entry)) r (now (out .exit)) ⌝ }
+{
+    let sv = g.sv;
+    let st = g.st;
+    let rs = g.rank_s;
+    let rt = g.rank_t;
+    let bs = g.quota_s;
+    let bt = g.quota_t;
+    let j = rival_verdict::judge(g.m, &sv, &st, &rs, &rt, &bs, &bt, plan, n, es);
+    let v = j.judgement;
+    let rival = j.rival;
+    match v {
+        Judgement::Strong => Weighed::Strong,
+        Judgement::Popular => Weighed::Popular(voted(g, plan, &rival, out)),
+        Judgement::Beaten => Weighed::Beaten(voted(g, plan, &rival, out)),
     }
 }

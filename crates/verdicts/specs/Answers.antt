@@ -15,10 +15,10 @@ use Rattle.model.specs.Instance.{Instance}
 use Rattle.model.specs.Edges.{instanceOf}
 use Rattle.model.specs.Plans.{Plan, verdictOf}
 use Rattle.model.specs.PlanFile.{readPlan}
-use Rattle.refusal.specs.Shown.{groupCase}
-use Rattle.judging.specs.declared.Weighed.{Weighed}
-use Rattle.judging.specs.declared.Weighed.the-variants as weighed
-use Rattle.judging.specs.Weighing.{weighedAs, rivalWritten}
+use Rattle.answers.specs.GroupCases.{groupCase}
+use Rattle.verdict.specs.declared.Weighed.{Weighed}
+use Rattle.verdict.specs.declared.Weighed.the-variants as weighed
+use Rattle.verdict.specs.Weighing.{weighedAs, rivalWritten}
 use Rattle.verdicts.specs.declared.Verdict.{Verdict}
 use Rattle.verdicts.specs.declared.Verdict.the-variants.{Strong, Popular, Beaten, Refused}
 

@@ -16,24 +16,24 @@ use Rattle.model.specs.RosterFile.{readRoster}
 use Rattle.model.specs.Instance as model
 use Rattle.model.specs.Plans.{Plan, on}
 use Rattle.model.specs.PlanFile.{edgesIn, readPlan}
-use Rattle.formats.specs.Reads.{isBytes}
-use Rattle.rosters.specs.PlanFiles.{plan-read-within}
-use Rattle.arrays.specs.Shown.{at}
-use Rattle.refusal.specs.declared.Group.{Group}
-use Rattle.refusal.specs.Shown.{groupShown, groupCase, shows-case}
+use Rattle.theory_files.specs.Reads.{isBytes}
+use Rattle.theory_files.specs.PlanFiles.{plan-read-within}
+use Rattle.arrays.specs.ArrayInstance.{at}
+use Rattle.answers.specs.declared.Group.{Group}
+use Rattle.answers.specs.GroupCases.{groupShown, groupCase, shows-case}
 use Rattle.roster.specs.declared.Answer.{Answer}
 use Rattle.roster.specs.declared.Answer.the-variants as answer
-use Rattle.roster.specs.Shown.{shown, shown-refused}
+use Rattle.roster.specs.ReadAnswer.{shown, shown-refused}
 use Rattle.instance.specs.declared.Instance.{Instance}
 use Rattle.instance.specs.Decoded.{shownBy, Decoded}
-use Rattle.plan.specs.declared.PlanAnswer.{PlanAnswer}
-use Rattle.plan.specs.declared.PlanAnswer.the-variants as plan
-use Rattle.plan.specs.declared.PlanRead.{PlanRead}
-use Rattle.plan.specs.Answers.{answerOf, ReadAs, ReadFor, accepted-read, refused-read}
-use Rattle.rivals.specs.Shows.{Lists}
+use Rattle.plan_reader.specs.declared.PlanAnswer.{PlanAnswer}
+use Rattle.plan_reader.specs.declared.PlanAnswer.the-variants as plan
+use Rattle.plan_reader.specs.declared.PlanRead.{PlanRead}
+use Rattle.plan_reader.specs.Answers.{answerOf, ReadAs, ReadFor, accepted-read, refused-read}
+use Rattle.rival_search.specs.SearchView.{Lists}
 use Rattle.files.specs.Replies.{RosterAccepted}
-use Rattle.judging.specs.declared.Weighed.{Weighed}
-use Rattle.judging.specs.Weighing.{Shows, WeighedFor}
+use Rattle.verdict.specs.declared.Weighed.{Weighed}
+use Rattle.verdict.specs.Weighing.{Shows, WeighedFor}
 use Rattle.verdicts.specs.declared.Verdict.{Verdict}
 use Rattle.verdicts.specs.declared.Verdict.the-variants.{Refused}
 use Rattle.verdicts.specs.Answers.{withPlan, planAsked, toJudge, verdictCase, replied, left, JudgedBy, JudgedFor, VerdictGiven}

@@ -5,11 +5,11 @@ ghost use Prim.Native.Nat.{_≤_};
 ghost use lib.ListN.{length};
 ghost use Rattle.files.specs.Replies.{RosterAccepted};
 ghost use Rattle.verdicts.specs.Answers.{verdictCase, JudgedFor, VerdictGiven};
-use judging::Weighed;
+use answers::Group;
 use limits::PLAN_SIZE;
-use plan::PlanAnswer;
-use refusal::Group;
+use plan_reader::PlanAnswer;
 use roster::Answer;
+use verdict::Weighed;
 
 // Strong; popular or beaten, with the vote of the plan against the rival that is written; or a refusal, with its number and its group.
 pub enum Verdict {
@@ -39,14 +39,14 @@ pub(crate) fn judged(roster: &[u8], file: &[u8], rival: &mut [u8]) -> Verdict
     let st = g.st;
     let qs = g.quota_s;
     let qt = g.quota_t;
-    let read = plan::read_plan(g.m, &sv, &st, &qs, &qt, file);
+    let read = plan_reader::read_plan(g.m, &sv, &st, &qs, &qt, file);
     let a = read.answer;
     match a {
-        PlanAnswer::Refused(n) => Verdict::Refused(n, refusal::group_of(n)),
+        PlanAnswer::Refused(n) => Verdict::Refused(n, answers::group_of(n)),
         PlanAnswer::Accepted(n) => {
             let chosen = read.chosen;
             let edges = read.edges;
-            let w = judging::weigh(g, &chosen, n, &edges, rival);
+            let w = verdict::weigh(g, &chosen, n, &edges, rival);
             case_of(w)
         }
     }
@@ -57,7 +57,7 @@ pub fn judge(roster: &[u8], file: &[u8], rival: &mut [u8]) -> Verdict
     ensures { λ r. ⌜ VerdictGiven (now (roster .entry)) (now (file .entry)) (now (rival .entry)) r (now (rival .exit)) ⌝ }
 {
     if rival.len() < PLAN_SIZE {
-        return Verdict::Refused(15, refusal::group_of(15));
+        return Verdict::Refused(15, answers::group_of(15));
     }
     let a = roster::read_roster(roster);
     match a {

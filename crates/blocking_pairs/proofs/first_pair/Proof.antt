@@ -6,7 +6,7 @@ use Rattle.blocking_pairs.proofs.first_pair.Statement.{statement}
 use Rattle.blocking_pairs.proofs.first_pair.Tie as tie
 use Rattle.blocking_pairs.proofs.first_pair.Reads as reads
 use Rattle.blocking_pairs.proofs.first_pair.Lts as lts
-use Rattle.blocking.proofs.find_blocking.Reads as find-blocking-reads
+use Rattle.blocking_search.proofs.find_blocking.Reads as find-blocking-reads
 
 -- src/lib.rt:33:9
 find-blocking-requires : tie.Need-find-blocking-requires

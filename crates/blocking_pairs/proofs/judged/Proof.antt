@@ -1,7 +1,7 @@
 -- `blocking_pairs::judged` meets its contract: the plan is read against the arrays of the roster. Assumes nothing.
 use lib.Dec.{T}
-use Rattle.formats.specs.Reads.{isBytes}
-use Rattle.reading.specs.Place.{bytes-of}
+use Rattle.theory_files.specs.Reads.{isBytes}
+use Rattle.roster_reading.specs.Place.{bytes-of}
 use Rattle.instance.specs.Loaded.{Loaded, loaded}
 use Rattle.blocking_pairs.specs.Laws.{judged-refused, judged-accepted}
 use borrow.Author.Needs.{needs}
@@ -11,8 +11,8 @@ use Rattle.blocking_pairs.proofs.judged.Reads as reads
 use Rattle.blocking_pairs.proofs.judged.Lts as lts
 use Rattle.blocking_pairs.proofs.first_pair.Reads as first-pair-reads
 use Rattle.instance.proofs.instance_of.Reads as instance-of-reads
-use Rattle.plan.proofs.read_plan.Reads as read-plan-reads
-use Rattle.refusal.proofs.group_of.Reads as group-of-reads
+use Rattle.plan_reader.proofs.read_plan.Reads as read-plan-reads
+use Rattle.answers.proofs.group_of.Reads as group-of-reads
 
 -- src/lib.rt:45:9
 instance-of-requires : tie.Need-instance-of-requires

@@ -1,7 +1,7 @@
 -- `compare::judged` meets its contract: the first file is read, then the second, against the arrays of the roster. Assumes nothing.
 use lib.Dec.{T}
-use Rattle.formats.specs.Reads.{isBytes}
-use Rattle.reading.specs.Place.{bytes-of}
+use Rattle.theory_files.specs.Reads.{isBytes}
+use Rattle.roster_reading.specs.Place.{bytes-of}
 use Rattle.instance.specs.Loaded.{Loaded, loaded}
 use Rattle.compare.specs.Laws.{read-planned, first-refused, first-accepted}
 use borrow.Author.Needs.{needs}

@@ -1,7 +1,7 @@
 -- `compare::second_judged` meets its contract: the second file is read against the same arrays. Assumes nothing.
 use lib.Dec.{T}
-use Rattle.formats.specs.Reads.{isBytes}
-use Rattle.reading.specs.Place.{bytes-of}
+use Rattle.theory_files.specs.Reads.{isBytes}
+use Rattle.roster_reading.specs.Place.{bytes-of}
 use Rattle.compare.specs.Laws.{read-planned, second-refused, second-accepted}
 use borrow.Author.Needs.{needs}
 use Rattle.compare.proofs.second_judged.Statement.{statement}

@@ -5,7 +5,7 @@ use mir.ValLaws.{toZ-ofZ}
 use Rattle.model.specs.Compare.{winnerOf}
 use Rattle.compare.specs.declared.Comparison.the-variants.{Votes}
 use Rattle.compare.specs.Answers.{winnerCase}
-use Rattle.poll.specs.Votable.{side-arrays, light}
+use Rattle.vote_of_flags.specs.Votable.{side-arrays, light}
 use Rattle.compare.specs.Laws.{votes-are}
 use borrow.Author.Needs.{needs, sfits-of}
 use Rattle.compare.proofs.voted.Statement.{statement}

@@ -3,8 +3,8 @@ use native.Mathlib.Omega.{arith}
 use mathlib.Core.Path.{sym, _∙_}
 use lib.Dec.{T}
 use Rattle.model.specs.RosterFile.{readRoster}
-use Rattle.formats.specs.Reads.{isBytes}
-use Rattle.reading.specs.Place.{bytes-of}
+use Rattle.theory_files.specs.Reads.{isBytes}
+use Rattle.roster_reading.specs.Place.{bytes-of}
 use Rattle.compare.specs.Parts.{first-part, second-part, no-part, refused-part, counts-there}
 use borrow.Author.Needs.{needs}
 use Rattle.compare.proofs.winner_part.Statement.{statement}

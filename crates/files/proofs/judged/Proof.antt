@@ -1,7 +1,7 @@
 -- `files::judged` meets its contract: the arrays show the roster's instance. Assumes nothing.
 use lib.Dec.{T}
-use Rattle.formats.specs.Reads.{isBytes}
-use Rattle.reading.specs.Place.{bytes-of}
+use Rattle.theory_files.specs.Reads.{isBytes}
+use Rattle.roster_reading.specs.Place.{bytes-of}
 use Rattle.files.specs.Laws.{edges-differ, judged-accepted, judged-refused}
 use borrow.Author.Needs.{needs}
 use Rattle.files.proofs.judged.Statement.{statement}
@@ -9,8 +9,8 @@ use Rattle.files.proofs.judged.Tie as tie
 use Rattle.files.proofs.judged.Reads as reads
 use Rattle.files.proofs.judged.Lts as lts
 use Rattle.instance.proofs.instance_of.Reads as instance-of-reads
-use Rattle.plan.proofs.read_plan.Reads as read-plan-reads
-use Rattle.refusal.proofs.group_of.Reads as group-of-reads
+use Rattle.plan_reader.proofs.read_plan.Reads as read-plan-reads
+use Rattle.answers.proofs.group_of.Reads as group-of-reads
 
 -- src/lib.rt:26:9
 instance-of-requires : tie.Need-instance-of-requires

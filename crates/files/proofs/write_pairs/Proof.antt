@@ -11,7 +11,7 @@ use Rattle.files.proofs.write_pairs.Reads as reads
 use Rattle.files.proofs.write_pairs.Lts as lts
 use Rattle.instance.proofs.instance_of.Reads as instance-of-reads
 use Rattle.pairwriter.proofs.put_pairs.Reads as put-pairs-reads
-use Rattle.refusal.proofs.group_of.Reads as group-of-reads
+use Rattle.answers.proofs.group_of.Reads as group-of-reads
 use Rattle.roster.proofs.read_roster.Reads as read-roster-reads
 
 -- src/lib.rt:78:37

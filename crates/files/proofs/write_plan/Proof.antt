@@ -6,8 +6,8 @@ use lib.ListN.{length}
 use lib.Dec.{T}
 use Rattle.model.specs.Limits.{planSize}
 use Rattle.model.specs.RosterFile.{readRoster}
-use Rattle.formats.specs.Reads.{isBytes}
-use Rattle.reading.specs.Place.{bytes-of}
+use Rattle.theory_files.specs.Reads.{isBytes}
+use Rattle.roster_reading.specs.Place.{bytes-of}
 use Rattle.files.specs.Replies.{planToWrite}
 use Rattle.files.specs.Laws.{too-short, plan-unread, plan-fits, plan-wrote}
 use borrow.Author.Needs.{needs}
@@ -17,7 +17,7 @@ use Rattle.files.proofs.write_plan.Reads as reads
 use Rattle.files.proofs.write_plan.Lts as lts
 use Rattle.bytes.proofs.copy.Reads as copy-reads
 use Rattle.files.proofs.read_plan.Reads as read-plan-reads
-use Rattle.refusal.proofs.group_of.Reads as group-of-reads
+use Rattle.answers.proofs.group_of.Reads as group-of-reads
 
 -- src/lib.rt:57:37
 group-of-requires : tie.Need-group-of-requires

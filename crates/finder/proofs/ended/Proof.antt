@@ -2,8 +2,8 @@
 use native.Mathlib.Omega.{arith}
 use borrow.Author.Needs.{needs}
 use Rattle.model.specs.PlanFile.{edgesIn}
-use Rattle.arrays.specs.Shown.{flag}
-use Rattle.finder.specs.Laws.{left-room, some-left, none-left}
+use Rattle.arrays.specs.ArrayInstance.{flag}
+use Rattle.finder.specs.Endings.{left-room, some-left, none-left}
 use Rattle.finder.proofs.ended.Statement.{statement}
 use Rattle.finder.proofs.ended.Tie as tie
 

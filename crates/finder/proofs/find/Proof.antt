@@ -1,8 +1,8 @@
 -- finder::find reduces and hands over to the end. Assumes nothing.
 use borrow.Author.Needs.{needs}
-use Rattle.reading.specs.Place.{bytes-of}
+use Rattle.roster_reading.specs.Place.{bytes-of}
 use Rattle.instance.specs.Loaded.{loaded}
-use Rattle.finder.specs.Laws.{fixed-planned, found-all}
+use Rattle.finder.specs.Endings.{fixed-planned, found-all}
 use Rattle.finder.proofs.find.Statement.{statement}
 use Rattle.finder.proofs.find.Tie as tie
 

@@ -3,8 +3,8 @@ use mathlib.Core.Path.{sym, _∙_}
 use lib.ListN.{length}
 use lib.Dec.{ltb}
 use borrow.Author.Needs.{needs}
-use Rattle.roster.specs.Shown.{shown-accepted}
-use Rattle.finder.specs.Laws.{short-first, short-second, none-short, long-first, long-enough, out-13, out-15, out-found}
+use Rattle.roster.specs.ReadAnswer.{shown-accepted}
+use Rattle.finder.specs.Endings.{short-first, short-second, none-short, long-first, long-enough, out-13, out-15, out-found}
 use Rattle.finder.proofs.found.Statement.{statement}
 use Rattle.finder.proofs.found.Tie as tie
 

@@ -5,7 +5,7 @@ use mir.ValLaws.{toZ-ofZ}
 use borrow.Author.Needs.{needs, sfits-of}
 use Rattle.answers.specs.declared.Found.the-variants as says
 use Rattle.answers.specs.declared.NoneKind.the-variants as kind
-use Rattle.finder.specs.Laws.{answerOn, wrote-judged, few-edges, lists-are, plan-onto}
+use Rattle.finder.specs.Endings.{answerOn, wrote-judged, few-edges, lists-are, plan-onto}
 use Rattle.finder.proofs.judged.Statement.{statement}
 use Rattle.finder.proofs.judged.Tie as tie
 

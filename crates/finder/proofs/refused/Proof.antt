@@ -1,7 +1,7 @@
 -- finder::refused: a refusal with its number and its group, and no record. Assumes nothing.
 use mathlib.Core.Path.{refl, ap}
 use borrow.Author.Needs.{needs}
-use Rattle.refusal.specs.Shown.{shows-case}
+use Rattle.answers.specs.GroupCases.{shows-case}
 use Rattle.answers.specs.declared.Found.the-variants as says
 use Rattle.finder.proofs.refused.Statement.{statement}
 use Rattle.finder.proofs.refused.Tie as tie

@@ -4,7 +4,7 @@ use mathlib.Core.Bool.{false}
 use Prim.Native.Nat.{ℕ, _-_, _≤_, _<_, zero-le}
 use native.Mathlib.Omega.{arith}
 use Rattle.model.specs.Edges.{Edge}
-use Rattle.arrays.specs.Shown.{at}
+use Rattle.arrays.specs.ArrayInstance.{at}
 use Rattle.arrays.specs.Passes.{Shows, Fill, fill-none, fill-next}
 use Rattle.instance.specs.Cells.{cellEdge}
 use borrow.Author.Needs.{needs}

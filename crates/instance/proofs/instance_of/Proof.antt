@@ -10,8 +10,8 @@ use Rattle.instance.proofs.count_at.Reads as count-at-reads
 use Rattle.instance.proofs.filled.Reads as filled-reads
 use Rattle.instance.proofs.listed_cells.Reads as listed-cells-reads
 use Rattle.instance.proofs.quotas.Reads as quotas-reads
-use Rattle.positions.proofs.stamp_lists.Reads as stamp-lists-reads
-use Rattle.positions.proofs.stamp_rankings.Reads as stamp-rankings-reads
+use Rattle.roster_positions.proofs.stamp_lists.Reads as stamp-lists-reads
+use Rattle.roster_positions.proofs.stamp_rankings.Reads as stamp-rankings-reads
 
 -- src/lib.rt:115:9
 count-at-requires : tie.Need-count-at-requires

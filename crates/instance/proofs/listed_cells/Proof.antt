@@ -5,10 +5,10 @@ use Prim.Native.Nat.{ℕ, _-_, _≤_, zero-le}
 use native.Mathlib.Omega.{arith}
 use lib.ListN.{length, length-replicate, length-set}
 use lib.Dec.{eqb}
-use Rattle.arrays.specs.Shown.{at}
+use Rattle.arrays.specs.ArrayInstance.{at}
 use Rattle.arrays.specs.Tally.{byte-≤}
 use Rattle.arrays.specs.Kept.{Kept, kept-turn}
-use Rattle.instance.proofs.Laws.{kept-listed}
+use Rattle.instance.proofs.Collected.{kept-listed}
 use borrow.Author.Needs.{needs}
 use Rattle.instance.proofs.listed_cells.Statement.{statement}
 use Rattle.instance.proofs.listed_cells.Tie as tie

@@ -9,7 +9,7 @@ use Rattle.instance.proofs.quotas.Statement.{statement}
 use Rattle.instance.proofs.quotas.Tie as tie
 use Rattle.instance.proofs.quotas.Reads as reads
 use Rattle.instance.proofs.quotas.Lts as lts
-use Rattle.positions.proofs.byte_at.Reads as byte-at-reads
+use Rattle.roster_positions.proofs.byte_at.Reads as byte-at-reads
 
 abbrev Inv-loop : tie.InvT-loop
 Inv-loop file at n q₀ i₀ q i = (i ≤ n) × Fill 0 32 q i (λ i. getD file (at + i) 0)

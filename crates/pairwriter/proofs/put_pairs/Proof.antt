@@ -3,7 +3,7 @@ use Prim.Native.Nat.{_-_, _≤_, zero-le}
 use native.Mathlib.Omega.{arith}
 use mathlib.Core.Path.{_≡_, refl, ap, _∙_}
 use lib.ListN.{length, length-set}
-use Rattle.arrays.specs.Shown.{flag}
+use Rattle.arrays.specs.ArrayInstance.{flag}
 use Rattle.pairwriter.specs.Pairs.{front, front-next, bool-bit}
 use Rattle.pairwriter.proofs.put_pairs.Statement.{statement}
 use Rattle.pairwriter.proofs.put_pairs.Tie as tie

@@ -1,9 +1,9 @@
 -- program::answer writes the program's text. Assumes nothing.
 use mathlib.Core.Path.{sym, _∙_}
 use borrow.Author.Needs.{needs}
-use Rattle.reading.specs.Place.{bytes-of}
-use Rattle.roster.specs.Shown.{shown-accepted}
-use Rattle.program.specs.Laws.{prints, refused-handed}
+use Rattle.roster_reading.specs.Place.{bytes-of}
+use Rattle.roster.specs.ReadAnswer.{shown-accepted}
+use Rattle.program.specs.BuffersPrinted.{prints, refused-handed}
 use Rattle.program.proofs.answer.Statement.{statement}
 use Rattle.program.proofs.answer.Tie as tie
 

@@ -1,7 +1,7 @@
 -- program::worked writes the text of what the finder answers. Assumes nothing.
 use borrow.Author.Needs.{needs}
-use Rattle.reading.specs.Place.{bytes-of}
-use Rattle.program.specs.Laws.{can-print, prints, found-handed}
+use Rattle.roster_reading.specs.Place.{bytes-of}
+use Rattle.program.specs.BuffersPrinted.{can-print, prints, found-handed}
 use Rattle.program.proofs.worked.Statement.{statement}
 use Rattle.program.proofs.worked.Tie as tie
 

@@ -2,10 +2,10 @@
 use mathlib.Core.Path.{refl, sym, ap, _∙_}
 use borrow.Author.Needs.{needs}
 use Rattle.model.specs.RosterFile.{readRoster}
-use Rattle.refusal.specs.Shown.{shows-case}
-use Rattle.reading.specs.Whole.{closed-accepted, closed-turned}
+use Rattle.answers.specs.GroupCases.{shows-case}
+use Rattle.roster_reading.specs.Whole.{closed-accepted, closed-turned}
 use Rattle.roster.specs.declared.Answer.the-variants.{Refused}
-use Rattle.roster.specs.Shown.{shown}
+use Rattle.roster.specs.ReadAnswer.{shown}
 use Rattle.roster.proofs.read_roster.Statement.{statement}
 use Rattle.roster.proofs.read_roster.Tie as tie
 

@@ -3,7 +3,7 @@ use mathlib.Core.Path.{sym}
 use mathlib.Core.List.{[], _∷_, _++_}
 use borrow.Author.Needs.{needs}
 use Rattle.model.specs.RosterFile.{entryCheck}
-use Rattle.reading.specs.Row.{marked-as, marked-part}
+use Rattle.roster_reading.specs.Row.{marked-as, marked-part}
 use Rattle.roster_lists.proofs.entries_at.Statement.{statement}
 use Rattle.roster_lists.proofs.entries_at.Tie as tie
 

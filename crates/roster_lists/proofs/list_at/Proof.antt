@@ -2,7 +2,7 @@
 use native.Mathlib.Omega.{arith}
 use mathlib.Core.List.{[]}
 use borrow.Author.Needs.{needs}
-use Rattle.reading.specs.Lists.{list-end, list-long, list-goes}
+use Rattle.roster_reading.specs.Lists.{list-end, list-long, list-goes}
 use Rattle.roster_lists.proofs.list_at.Statement.{statement}
 use Rattle.roster_lists.proofs.list_at.Tie as tie
 

@@ -6,13 +6,13 @@ use mathlib.Core.List.{[]}
 use lib.ListN.{length}
 use lib.Dec.{T}
 use borrow.Author.Needs.{needs}
-use Rattle.formats.specs.Reads.{isBytes}
+use Rattle.theory_files.specs.Reads.{isBytes}
 use Rattle.model.specs.RosterFile.{readList}
-use Rattle.formats.specs.Sections.{list}
-use Rattle.reading.specs.Place.{bytes-of}
-use Rattle.reading.specs.Row.{marked-as}
-use Rattle.reading.specs.Table.{rowOf, row-wide, row-clear}
-use Rattle.reading.specs.Many.{Turn, turn-start, turn-refused, turn-next, turn-end}
+use Rattle.theory_files.specs.Sections.{list}
+use Rattle.roster_reading.specs.Place.{bytes-of}
+use Rattle.roster_reading.specs.Row.{marked-as}
+use Rattle.roster_reading.specs.Table.{rowOf, row-wide, row-clear}
+use Rattle.roster_reading.specs.Many.{Turn, turn-start, turn-refused, turn-next, turn-end}
 use Rattle.roster_lists.proofs.lists_at.Statement.{statement}
 use Rattle.roster_lists.proofs.lists_at.Tie as tie
 

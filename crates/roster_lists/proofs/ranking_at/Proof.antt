@@ -4,9 +4,9 @@ use native.Mathlib.Omega.{arith}
 use mathlib.Core.List.{[]}
 use lib.Dec.{T}
 use borrow.Author.Needs.{needs}
-use Rattle.formats.specs.Reads.{isBytes}
-use Rattle.reading.specs.Place.{bytes-of}
-use Rattle.reading.specs.Lists.{ranking-end, ranking-long, ranking-refused, tie-within, ranking-goes}
+use Rattle.theory_files.specs.Reads.{isBytes}
+use Rattle.roster_reading.specs.Place.{bytes-of}
+use Rattle.roster_reading.specs.Lists.{ranking-end, ranking-long, ranking-refused, tie-within, ranking-goes}
 use Rattle.roster_lists.proofs.ranking_at.Statement.{statement}
 use Rattle.roster_lists.proofs.ranking_at.Tie as tie
 

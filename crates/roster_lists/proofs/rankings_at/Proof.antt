@@ -5,15 +5,15 @@ use mathlib.Core.Path.{_≡_, refl, sym, _∙_}
 use lib.ListN.{length}
 use lib.Dec.{T}
 use borrow.Author.Needs.{needs}
-use Rattle.formats.specs.Reads.{isBytes}
+use Rattle.theory_files.specs.Reads.{isBytes}
 use Rattle.model.specs.Roster.{entries}
-use Rattle.reading.specs.Table.{noRanking}
+use Rattle.roster_reading.specs.Table.{noRanking}
 use Rattle.model.specs.RosterFile.{readRanking}
-use Rattle.formats.specs.Sections.{ranking}
-use Rattle.reading.specs.Place.{bytes-of}
-use Rattle.reading.specs.Row.{marked-as}
-use Rattle.reading.specs.Table.{rowOf, row-wide, row-clear}
-use Rattle.reading.specs.Many.{Turn, turn-start, turn-refused, turn-next, turn-end}
+use Rattle.theory_files.specs.Sections.{ranking}
+use Rattle.roster_reading.specs.Place.{bytes-of}
+use Rattle.roster_reading.specs.Row.{marked-as}
+use Rattle.roster_reading.specs.Table.{rowOf, row-wide, row-clear}
+use Rattle.roster_reading.specs.Many.{Turn, turn-start, turn-refused, turn-next, turn-end}
 use Rattle.roster_lists.proofs.rankings_at.Statement.{statement}
 use Rattle.roster_lists.proofs.rankings_at.Tie as tie
 

@@ -2,7 +2,7 @@
 use mathlib.Core.Path.{sym}
 use borrow.Author.Needs.{needs}
 use Rattle.model.specs.RosterFile.{tiedCheck}
-use Rattle.reading.specs.Row.{moreTied, marked-as, marked-part}
+use Rattle.roster_reading.specs.Row.{moreTied, marked-as, marked-part}
 use Rattle.roster_lists.proofs.tied_at.Statement.{statement}
 use Rattle.roster_lists.proofs.tied_at.Tie as tie
 

@@ -4,8 +4,8 @@ use mathlib.Core.Path.{sym, ap, _∙_}
 use borrow.Author.Needs.{needs}
 use Rattle.model.specs.Limits.{nodeLimit}
 use Rattle.model.specs.RosterFile.{readQuotas}
-use Rattle.reading.specs.Place.{placed}
-use Rattle.reading.specs.Field.{count-end, count-long, count-goes}
+use Rattle.roster_reading.specs.Place.{placed}
+use Rattle.roster_reading.specs.Field.{count-end, count-long, count-goes}
 use Rattle.roster_sections.proofs.nodes_at.Statement.{statement}
 use Rattle.roster_sections.proofs.nodes_at.Tie as tie
 

@@ -3,7 +3,7 @@ use Prim.Native.Nat.{_+_}
 use mathlib.Core.Path.{ap, _∙_}
 use borrow.Author.Needs.{needs}
 use Rattle.model.specs.RosterFile.{quotaCheck}
-use Rattle.reading.specs.Check.{partAnswer, part-is}
+use Rattle.roster_reading.specs.Check.{partAnswer, part-is}
 use Rattle.roster_sections.proofs.quotas_at.Statement.{statement}
 use Rattle.roster_sections.proofs.quotas_at.Tie as tie
 

@@ -10,13 +10,13 @@ use Rattle.lists.specs.Keep.{gather}
 use Rattle.model.specs.Limits.{entryLimit}
 use Rattle.model.specs.Roster.{Ranking, totalT}
 use Rattle.model.specs.RosterFile.{readRanking, rankingBytes}
-use Rattle.formats.specs.Reads.{isBytes}
-use Rattle.formats.specs.Sections.{ranking}
-use Rattle.formats.specs.Rosters.{rankings-size}
-use Rattle.reading.specs.Place.{bytes-of}
-use Rattle.reading.specs.Field.{wide}
-use Rattle.reading.specs.Row.{marked-as}
-use Rattle.reading.specs.Many.{section-cut, section-long, section-refused, section-sum, section-uneven}
+use Rattle.theory_files.specs.Reads.{isBytes}
+use Rattle.theory_files.specs.Sections.{ranking}
+use Rattle.theory_files.specs.Rosters.{rankings-size}
+use Rattle.roster_reading.specs.Place.{bytes-of}
+use Rattle.roster_reading.specs.Field.{wide}
+use Rattle.roster_reading.specs.Row.{marked-as}
+use Rattle.roster_reading.specs.Many.{section-cut, section-long, section-refused, section-sum, section-uneven}
 use Rattle.roster_sections.proofs.rankings_section.Statement.{statement}
 use Rattle.roster_sections.proofs.rankings_section.Tie as tie
 

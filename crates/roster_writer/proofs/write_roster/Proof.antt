@@ -6,8 +6,8 @@ use lib.ListN.{length}
 use lib.Dec.{T}
 use borrow.Author.Needs.{needs}
 use Rattle.model.specs.Limits.{rosterSize}
-use Rattle.formats.specs.Reads.{isBytes}
-use Rattle.reading.specs.Place.{bytes-of}
+use Rattle.theory_files.specs.Reads.{isBytes}
+use Rattle.roster_reading.specs.Place.{bytes-of}
 use Rattle.roster_writer.specs.Writes.{short, unread, file-fits, wrote}
 use Rattle.roster_writer.proofs.write_roster.Statement.{statement}
 use Rattle.roster_writer.proofs.write_roster.Tie as tie

@@ -1,7 +1,7 @@
 -- The plan is read and weighed against the arrays of the roster.
 use lib.Dec.{T}
-use Rattle.formats.specs.Reads.{isBytes}
-use Rattle.reading.specs.Place.{bytes-of}
+use Rattle.theory_files.specs.Reads.{isBytes}
+use Rattle.roster_reading.specs.Place.{bytes-of}
 use Rattle.instance.specs.Loaded.{Loaded, loaded}
 use Rattle.verdicts.specs.Laws.{read-shows, read-lists, judged-refused, judged-weighed}
 use borrow.Author.Needs.{needs}

@@ -3,8 +3,8 @@ use mathlib.Core.Path.{sym, ap, _∙_}
 use lib.Dec.{T}
 use Rattle.model.specs.RosterFile.{readRoster}
 use Rattle.model.specs.Desk.{loadPlan, refused}
-use Rattle.formats.specs.Reads.{isBytes}
-use Rattle.reading.specs.Place.{bytes-of}
+use Rattle.theory_files.specs.Reads.{isBytes}
+use Rattle.roster_reading.specs.Place.{bytes-of}
 use Rattle.desk.specs.Held.{rosterBytes}
 use Rattle.desk.specs.Laws.{by-state}
 use Rattle.desk.specs.Loads.{plan-small, plan-refused, plan-loaded}

@@ -1,8 +1,8 @@
 -- `desk::Desk::load_roster` meets its contract. Assumes nothing.
 use mathlib.Core.Path.{sym, _∙_}
 use lib.Dec.{T}
-use Rattle.formats.specs.Reads.{isBytes}
-use Rattle.reading.specs.Place.{bytes-of}
+use Rattle.theory_files.specs.Reads.{isBytes}
+use Rattle.roster_reading.specs.Place.{bytes-of}
 use Rattle.desk.specs.Loads.{roster-small, roster-refused, roster-loaded}
 use borrow.Author.Needs.{needs}
 use Rattle.desk.proofs.Desk.load_roster.Statement.{statement}

@@ -3,7 +3,7 @@ use mathlib.Core.Path.{_≡_, sym, ap, _∙_}
 use lib.ListN.{length}
 use Rattle.model.specs.Limits.{rosterSize}
 use Rattle.model.specs.RosterFile.{readRoster}
-use Rattle.roster.specs.Shown.{shown}
+use Rattle.roster.specs.ReadAnswer.{shown}
 use Rattle.desk.specs.Cut.{cut-fits, cut-length, cut-front}
 use Rattle.desk.specs.Laws.{roster-there, roster-missing}
 use borrow.Author.Needs.{needs}

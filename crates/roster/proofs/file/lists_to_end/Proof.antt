@@ -5,10 +5,10 @@ use mathlib.Core.List.{[]}
 use lib.Dec.{T}
 use borrow.Author.Needs.{needs}
 use Rattle.model.specs.Roster.{entries}
-use Rattle.formats.specs.Reads.{isBytes}
-use Rattle.reading.specs.Place.{bytes-of}
-use Rattle.reading.specs.Table.{noRanking, table-clear}
-use Rattle.reading.specs.Whole.{lists-refused, mid-within, rankings-refused, lists-behind, lists-alike, lists-unlike}
+use Rattle.theory_files.specs.Reads.{isBytes}
+use Rattle.roster_reading.specs.Place.{bytes-of}
+use Rattle.roster_reading.specs.Table.{noRanking, table-clear}
+use Rattle.roster_reading.specs.Whole.{lists-refused, mid-within, rankings-refused, lists-behind, lists-alike, lists-unlike}
 use Rattle.roster.proofs.file.lists_to_end.Statement.{statement}
 use Rattle.roster.proofs.file.lists_to_end.Tie as tie
 

@@ -5,9 +5,9 @@ use mathlib.Core.Path.{sym, _∙_}
 use lib.ListN.{length}
 use lib.Dec.{T}
 use borrow.Author.Needs.{needs}
-use Rattle.formats.specs.Reads.{isBytes}
-use Rattle.reading.specs.Place.{bytes-of}
-use Rattle.reading.specs.Whole.{nodes-found, nodes-refused, stands-refused, roster-read}
+use Rattle.theory_files.specs.Reads.{isBytes}
+use Rattle.roster_reading.specs.Place.{bytes-of}
+use Rattle.roster_reading.specs.Whole.{nodes-found, nodes-refused, stands-refused, roster-read}
 use Rattle.roster.proofs.file.roster_file.Statement.{statement}
 use Rattle.roster.proofs.file.roster_file.Tie as tie
 

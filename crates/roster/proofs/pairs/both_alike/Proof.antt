@@ -5,7 +5,7 @@ use native.Mathlib.Nat.{le-refl}
 use mathlib.Core.Path.{_≡_, refl, sym, _∙_}
 use borrow.Author.Needs.{needs}
 use borrow.Author.Tests.{not-true, not-false}
-use Rattle.reading.specs.Pairs.{bothAlike, both-unlike, both-like, both-end}
+use Rattle.roster_reading.specs.Pairs.{bothAlike, both-unlike, both-like, both-end}
 use Rattle.roster.proofs.pairs.both_alike.Statement.{statement}
 use Rattle.roster.proofs.pairs.both_alike.Tie as tie
 

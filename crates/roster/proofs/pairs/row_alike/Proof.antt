@@ -4,7 +4,7 @@ use native.Mathlib.Omega.{arith}
 use native.Mathlib.Nat.{le-refl}
 use mathlib.Core.Path.{_≡_, refl, sym, _∙_}
 use borrow.Author.Needs.{needs}
-use Rattle.reading.specs.Pairs.{rowAlike, row-unlike, row-like, row-end}
+use Rattle.roster_reading.specs.Pairs.{rowAlike, row-unlike, row-like, row-end}
 use Rattle.roster.proofs.pairs.row_alike.Statement.{statement}
 use Rattle.roster.proofs.pairs.row_alike.Tie as tie
 

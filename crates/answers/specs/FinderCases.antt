@@ -1,0 +1,49 @@
+-- What each case of the code's answer says, in document 01's words: the finder's answer as the model's desk gives it.
+use mathlib.Core.Path.{_≡_, refl, sym, ap, _∙_}
+use Rattle.model.specs.Desk as model
+use Rattle.answers.specs.GroupCases.{groupShown, groupCase, case-shown}
+use Rattle.answers.specs.declared.Found.{Found}
+use Rattle.answers.specs.declared.Found.the-variants as found
+use Rattle.answers.specs.declared.NoneKind.{NoneKind}
+use Rattle.answers.specs.declared.NoneKind.the-variants as kind
+
+-- why there is none
+abbrev pub kindShown : NoneKind → model.NoneKind
+kindShown (kind.Left k) = model.left k
+kindShown (kind.Rivalled v) = model.rivalled v
+
+abbrev pub foundShown : Found → model.Answer
+foundShown (found.Plan n) = model.plan n
+foundShown (found.None n k) = model.none n (kindShown k)
+foundShown (found.Refused n g) = model.refused n (groupShown g)
+
+-- the case that shows an answer of the finder; the other answers have none
+abbrev pub kindCase : model.NoneKind → NoneKind
+kindCase (model.left k) = kind.Left k
+kindCase (model.rivalled v) = kind.Rivalled v
+
+abbrev pub foundCase : model.Answer → Found
+foundCase (model.refused n g) = found.Refused n (groupCase g)
+foundCase model.loaded = found.Plan 0
+foundCase (model.wrote n) = found.Plan 0
+foundCase (model.plan n) = found.Plan n
+foundCase (model.none n k) = found.None n (kindCase k)
+foundCase model.strong = found.Plan 0
+foundCase (model.popular v) = found.Plan 0
+foundCase (model.beaten v) = found.Plan 0
+foundCase (model.votes v w x p) = found.Plan 0
+foundCase (model.refusedPart n g p) = found.Plan 0
+foundCase (model.blockedBy s t) = found.Plan 0
+foundCase model.unblocked = found.Plan 0
+
+kind-shown : (k : NoneKind) → kindCase (kindShown k) ≡ k
+kind-shown (kind.Left k) = refl
+kind-shown (kind.Rivalled v) = refl
+
+found-shown : (a : Found) → foundCase (foundShown a) ≡ a
+found-shown (found.Plan n) = refl
+found-shown (found.None n k) = ap (found.None n) (kind-shown k)
+found-shown (found.Refused n g) = ap (found.Refused n) (case-shown g)
+
+pub shows-found : (a : Found) {m : model.Answer} → foundShown a ≡ m → a ≡ foundCase m
+shows-found a e = sym (found-shown a) ∙ ap foundCase e

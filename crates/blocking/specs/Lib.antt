@@ -1,2 +1,0 @@
-pub mod Blocking
-pub mod Laws

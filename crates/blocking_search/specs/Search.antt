@@ -1,0 +1,43 @@
+-- From the numbers that the passes compute to the model's blocking pairs.
+use Prim.Native.Nat.{ℕ, _≤_, _<_}
+use native.Mathlib.Omega.{arith}
+use native.Mathlib.Decide.{decLt}
+use mathlib.Core.Path.{_≡_, sym, ap, ap₂, _∙_, subst}
+use mathlib.Core.Logic.{⊎-elim, by-cases}
+use mathlib.Core.Bool.{Bool, true, false, not, _&&_}
+use mathlib.Core.List.{List}
+use lib.Dec.{T, T-not}
+use borrow.Author.Tests.{lt-ltb}
+use Rattle.lists.specs.Test.{given, T-true, T-false, false-T}
+use Rattle.lists.specs.Sum.{_∈_, upTo, upTo-∈, upTo-<}
+use Rattle.lists.specs.Keep.{any-or}
+use Rattle.lists.specs.Search.{low, low-is, low-cong}
+use Rattle.model.specs.Instance.{Instance}
+use Rattle.model.specs.Plans.{Plan, on}
+use Rattle.model.specs.Blocking.{yields, blocks, someBlocks}
+use Rattle.arrays.specs.ArrayInstance.{flag, shown}
+use Rattle.blocking_search.specs.declared.Blocking.the-variants.{Pair, Nothing}
+use Rattle.blocking_thresholds.specs.Threshold.{Thresholds, sideOf}
+use Rattle.theory_instance.specs.FirstBlocking.{firstBlocking, first-below, first-behind}
+use Rattle.blocking_search.specs.Blocking.{answer, blockingOf, Placed, wanted}
+
+module _ (m : ℕ) (sv st rs rt qs qt ls lt : List ℕ) (p : List Bool) (os : Placed m rs) (ot : Placed m rt) (hs : Thresholds m sv rs qs p ls) (ht : Thresholds m st rt qt p lt)
+    (ns nt : ℕ) (tied : List Bool) where
+  abbrev G : Instance
+  G = shown m ns nt sv st rs rt tied qs qt
+
+  is-wanted : (e : ℕ) → e < m → wanted sv st rs rt ls lt p e ≡ blocks G (flag p) e
+  unfolding blocks
+  is-wanted e h =
+      ap (λ z. not (flag p e) && z) (ap₂ _&&_ (hs ns (λ d. false) e h (os e h)) (ht nt (flag tied) e h (ot e h)))
+      ∙ sym (ap (λ z. z && (not (flag p e) && (yields (sideOf m ns sv rs qs (λ d. false)) (flag p) e && yields (sideOf m nt st rt qt (flag tied)) (flag p) e))) (lt-ltb e m h))
+
+  first-is : low (wanted sv st rs rt ls lt p) m ≡ firstBlocking G p
+  unfolding firstBlocking
+  first-is = low-cong (wanted sv st rs rt ls lt p) (blocks G (flag p)) m is-wanted
+
+  pub answer-yes : (e : ℕ) → e ≡ low (wanted sv st rs rt ls lt p) m → e < m → Pair e ≡ blockingOf G p
+  answer-yes e q h = let s = q ∙ first-is in ap Pair s ∙ sym (ap (λ b. answer b (firstBlocking G p)) (first-below G p (subst (λ z. z < m) s h)))
+
+  pub answer-no : m ≤ low (wanted sv st rs rt ls lt p) m → Nothing ≡ blockingOf G p
+  answer-no h = sym (ap (λ b. answer b (firstBlocking G p)) (first-behind G p (subst (λ z. m ≤ z) first-is h)))

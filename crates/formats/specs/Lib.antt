@@ -1,5 +1,0 @@
-pub mod Reads
-pub mod Entries
-pub mod Sections
-pub mod Rosters
-pub mod Reach

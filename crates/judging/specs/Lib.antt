@@ -1,2 +1,0 @@
-pub mod Weighing
-pub mod Laws

@@ -1,0 +1,94 @@
+-- What is promised of a plan file's reading: document 01's answer, and the edges of an accepted plan.
+use Prim.Native.Nat.{ℕ, _≤_, _<_}
+use mathlib.Core.Path.{_≡_, refl, sym, ap, _∙_, subst}
+use mathlib.Core.Bool.{Bool, true, false, not, cond, _||_}
+use mathlib.Core.List.{List}
+use lib.ListN.{length, take}
+use lib.Dec.{T, leb, ltb, nleb→lt, nltb→le}
+use borrow.Author.Tests.{lt-ltb, le-ltb, le-leb, lt-leb}
+use Rattle.lists.specs.Test.{given, nor-l, nor-r}
+use Rattle.theory_files.specs.Entries.{cond-zero}
+use Rattle.model.specs.Reading.{Reading, accepted, turned}
+use Rattle.model.specs.Instance.{Instance}
+use Rattle.model.specs.Plans.{Plan, on}
+use Rattle.model.specs.PlanFile.{edgesIn, readPlan}
+use Rattle.arrays.specs.ArrayInstance.{flag, shown}
+use Rattle.plan_reader.specs.declared.PlanAnswer.{PlanAnswer}
+use Rattle.plan_reader.specs.declared.PlanAnswer.the-variants.{Accepted, Refused}
+use Rattle.plan_reader.specs.declared.PlanRead.{PlanRead}
+
+-- the answer that a reading is, with the number of the plan's pairs
+abbrev pub answerOf : ℕ → Reading Plan → PlanAnswer
+answerOf m (accepted M) = Accepted (length (edgesIn m (on M)))
+answerOf m (turned n) = Refused n
+
+pub record ReadAs (G : Instance) (file : List ℕ) (r : PlanRead) : Type 0 where
+  pub answer : r .answer ≡ answerOf (G .m) (readPlan G file)
+  pub chosen : (M : Plan) → readPlan G file ≡ accepted M → (e : ℕ) → flag (r .chosen) e ≡ on M e
+  pub edges : (M : Plan) → readPlan G file ≡ accepted M → take (length (edgesIn (G .m) (on M))) (r .edges) ≡ edgesIn (G .m) (on M)
+
+-- for the instance that the arrays show, whatever its node counts, ranks and ties
+abbrev pub ReadFor : (m : ℕ) (sv st qs qt file : List ℕ) (r : PlanRead) → Type 0
+ReadFor m sv st qs qt file r = (ns nt : ℕ) (rankS rankT : List ℕ) (tied : List Bool) → ReadAs (shown m ns nt sv st rankS rankT tied qs qt) file r
+
+-- ---- what an answer says of the reading
+abbrev isAccepted : PlanAnswer → Bool
+isAccepted (Accepted n) = true
+isAccepted (Refused n) = false
+
+abbrev countOf : PlanAnswer → ℕ
+countOf (Accepted n) = n
+countOf (Refused n) = 0
+
+abbrev numberOf : PlanAnswer → ℕ
+numberOf (Accepted n) = 0
+numberOf (Refused n) = n
+
+module _ {G : Instance} {file : List ℕ} {r : PlanRead} (A : ReadAs G file r) where
+  -- accepted: there is a plan, and the flags are its edges
+  pub accepted-read : {n : ℕ} → r .answer ≡ Accepted n → (M : Plan) × (readPlan G file ≡ accepted M) × (flag (r .chosen) ≡ on M)
+  accepted-read {n} q = go (readPlan G file) refl (sym q ∙ A .answer)
+    where
+      go : (x : Reading Plan) → readPlan G file ≡ x → Accepted n ≡ answerOf (G .m) x → (M : Plan) × (readPlan G file ≡ accepted M) × (flag (r .chosen) ≡ on M)
+      go (accepted M) p e = (M, p, λ k d. A .chosen M p d k)
+      go (turned k) p e = absurd (subst (λ a. T (isAccepted a)) e tt)
+
+  -- and its edges are the first n of the list
+  pub accepted-edges : {n : ℕ} → r .answer ≡ Accepted n → (M : Plan) → readPlan G file ≡ accepted M → (n ≡ length (edgesIn (G .m) (on M))) × (take n (r .edges) ≡ edgesIn (G .m) (on M))
+  accepted-edges {n} q M a =
+      let c : n ≡ length (edgesIn (G .m) (on M)) = ap countOf (sym q ∙ A .answer ∙ ap (answerOf (G .m)) a) in
+      (c, ap (λ k. take k (r .edges)) c ∙ A .edges M a)
+
+  pub refused-read : {n : ℕ} → r .answer ≡ Refused n → readPlan G file ≡ turned n
+  refused-read {n} q = go (readPlan G file) (sym q ∙ A .answer)
+    where
+      go : (x : Reading Plan) → Refused n ≡ answerOf (G .m) x → x ≡ turned n
+      go (accepted M) e = absurd (subst (λ a. T (isAccepted a)) (sym e) tt)
+      go (turned k) e = ap (λ a. turned (numberOf a)) (sym e)
+
+-- "10 a plan pair not in the roster; 11 plan pairs not strictly ascending; 12 a pair that takes a node past its quota"
+unfoldable pub pairRefusal : (m e from : ℕ) (fullS fullT : Bool) → ℕ
+pairRefusal m e from fullS fullT = cond (leb m e) 10 (cond (ltb e from) 11 (cond (fullS || fullT) 12 0))
+
+-- ---- by its tests
+module _ (m e from : ℕ) (fullS fullT : Bool) where
+  pub not-there : m ≤ e → 10 ≡ pairRefusal m e from fullS fullT
+  unfolding pairRefusal
+  not-there h = simp (le-leb m e h)
+
+  pub not-ascending : e < m → e < from → 11 ≡ pairRefusal m e from fullS fullT
+  unfolding pairRefusal
+  not-ascending h k = simp (lt-leb m e h, lt-ltb e from k)
+
+  pub by-quota : e < m → from ≤ e → (b : Bool) → fullS || fullT ≡ b → cond b 12 0 ≡ pairRefusal m e from fullS fullT
+  unfolding pairRefusal
+  by-quota h k b q = simp (lt-leb m e h, le-ltb e from k, q)
+
+  -- no refusal
+  pub passed : pairRefusal m e from fullS fullT ≡ 0 → (e < m) × (from ≤ e) × T (not fullS) × T (not fullT)
+  unfolding pairRefusal
+  passed q =
+      given (cond-zero (leb m e) 9 q) (λ (t, q₁).
+      given (cond-zero (ltb e from) 10 q₁) (λ (u, q₂).
+      given (cond-zero (fullS || fullT) 11 q₂) (λ (v, z).
+      (nleb→lt m e t, nltb→le e from u, nor-l fullS fullT v, nor-r fullS fullT v))))

@@ -1,0 +1,92 @@
+-- What the finder leaves in its buffers is what the printer asks for, and what the printer writes is the program's text.
+use Prim.Native.Nat.{ℕ, _*_, _≤_}
+use native.Mathlib.Omega.{arith}
+use mathlib.Core.Path.{_≡_, sym, ap, _∙_, subst}
+use mathlib.Core.List.{List}
+use lib.ListN.{length, drop, length-append, length-drop}
+use lib.Dec.{T}
+use Rattle.model.specs.Limits.{planSize, diarySize, leftSize}
+use Rattle.model.specs.Reading.{accepted}
+use Rattle.model.specs.Roster.{Roster, fits}
+use Rattle.model.specs.RosterFile.{readRoster}
+use Rattle.model.specs.Edges.{instanceOf}
+use Rattle.model.specs.Instance.{Instance}
+use Rattle.model.specs.PlanFile.{pairList, planBytes}
+use Rattle.model.specs.Reduction.{stepsOf}
+use Rattle.model.specs.Finder as F
+use Rattle.model.specs.Finder.{finderOf}
+use Rattle.model.specs.Desk.{refused, onto}
+use Rattle.model.specs.Printed.{answerText}
+use Rattle.theory_files.specs.Reads.{isBytes}
+use Rattle.theory_files.specs.Rosters.{read-fits}
+use Rattle.theory_verdict.specs.Rival.{rivalOf}
+use Rattle.theory_instance.specs.FirstBlocking.{firstBlocking}
+use Rattle.theory_finder.specs.Choices.{allowed}
+use Rattle.answers.specs.declared.Group.{Group}
+use Rattle.model.specs.Refusal.{groupOf}
+use Rattle.answers.specs.GroupCases.{groupShown, shown-case}
+use Rattle.roster.specs.declared.Answer.{Answer}
+use Rattle.roster.specs.declared.Answer.the-variants as answer
+use Rattle.roster.specs.ReadAnswer.{shown, shown-refused}
+use Rattle.files.specs.Replies.{RosterAccepted}
+use Rattle.answers.specs.declared.Found.{Found}
+use Rattle.answers.specs.declared.Found.the-variants as says
+use Rattle.answers.specs.FinderCases.{foundShown}
+use Rattle.finder.specs.Promise.{leftAfter, planAfter, rivalAfter, shown-is}
+use Rattle.finder.specs.Found.{FindsIn, Finds}
+use Rattle.text_answer.specs.Printable.{Printable, textSize}
+use Rattle.text_answer.specs.Handed.{Pairs, Handed, HandedFor}
+use Rattle.text_answer.specs.Answered.{Wrote, Answered, answered-text}
+use Rattle.text_answer.specs.Rosters.{file-printable, answer-length, printed-whole}
+use Rattle.program.specs.Printing.{Prints}
+
+-- ---- handed over
+module _ (G : Instance) (l p v l′ p′ v′ : List ℕ) where
+  pairs-handed : (x : F.Found) → l′ ≡ leftAfter G x l → p′ ≡ planAfter G x p → v′ ≡ rivalAfter G x v → Pairs G x l′ p′ v′
+  pairs-handed (F.plan M) a b c = (drop (length (planBytes G M)) p, b)
+  pairs-handed (F.left es) a b c = (drop (length (pairList G es)) l, a)
+  pairs-handed (F.rivalled M N w) a b c = ((drop (length (planBytes G M)) p, b), (drop (length (planBytes G N)) v, c))
+
+  handed : (d : List ℕ) (a : Found) (d′ : List ℕ) → FindsIn G d l p v a d′ l′ p′ v′ → Handed rivalOf firstBlocking G (finderOf G (rivalOf G)) a d′ l′ p′ v′
+  handed d a d′ f = record {
+    answer = ap foundShown (f .wrote .answer) ∙ shown-is rivalOf firstBlocking (length (stepsOf G)) (finderOf G (rivalOf G));
+    diary = (d, f .diary);
+    pairs = pairs-handed (finderOf G (rivalOf G)) (f .wrote .left) (f .wrote .plan) (f .wrote .rival);
+  }
+
+-- ---- printed
+onto-length : (x b : List ℕ) → length x ≤ length b → length (onto x b) ≡ length b
+onto-length x b h = omega (arith, length-append x (drop (length x) b), length-drop (length x) b)
+
+module _ (input : List ℕ) (isB : T (isBytes input)) where
+  fit : (r : Roster) → readRoster input ≡ accepted r → T (fits r)
+  fit r e = read-fits input r isB e
+
+  module _ (a : Found) (flat left plan rival : List ℕ) (h : HandedFor rivalOf firstBlocking (readRoster input) a flat left plan rival) where
+    pub can-print : 4 * diarySize ≤ length flat → leftSize ≤ length left → planSize ≤ length plan → planSize ≤ length rival → Printable a flat left plan rival
+    can-print d l p v = file-printable rivalOf firstBlocking allowed (readRoster input) fit a flat left plan rival d l p v h
+
+    pub prints : (before : List ℕ) (n : ℕ) (after : List ℕ) → textSize ≤ length before → Answered a flat left plan rival before n after → Prints input before n after
+    prints before n after k w =
+        let t = answered-text rivalOf firstBlocking (readRoster input) h w in
+        let few : length (answerText (readRoster input) rivalOf) ≤ textSize = answer-length rivalOf firstBlocking allowed (readRoster input) fit in
+        record {
+          text = subst (λ y. Wrote y before n after) (sym (printed-whole rivalOf input)) t;
+          room = subst (λ k. k ≤ textSize) (sym (t .size)) few;
+          size = ap length (t .bytes) ∙ onto-length (answerText (readRoster input) rivalOf) before (omega arith);
+        }
+
+  -- what the finder hands over for an accepted roster
+  pub found-handed : RosterAccepted input → (d l p v : List ℕ) (a : Found) (d′ l′ p′ v′ : List ℕ) → Finds input d l p v a d′ l′ p′ v′ → HandedFor rivalOf firstBlocking (readRoster input) a d′ l′ p′ v′
+  found-handed (R, e) d l p v a d′ l′ p′ v′ F =
+      subst (λ y. HandedFor rivalOf firstBlocking y a d′ l′ p′ v′) (sym e) (handed (instanceOf R) l p v l′ p′ v′ d a d′ (F R e .finds))
+
+  -- a refusal
+  pub refused-handed : {n : ℕ} {k : Group} → answer.Refused n k ≡ shown (readRoster input) → (flat left plan rival : List ℕ) → HandedFor rivalOf firstBlocking (readRoster input) (says.Refused n k) flat left plan rival
+  refused-handed {n} {k} e flat left plan rival =
+      let t = shown-refused (readRoster input) e in
+      subst (λ y. HandedFor rivalOf firstBlocking y (says.Refused n k) flat left plan rival) (sym t) (ap (refused n) (ap groupShown (ap (grouped k) (e ∙ ap shown t)) ∙ shown-case (groupOf n)))
+    where
+      grouped : Group → Answer → Group
+      grouped d answer.Accepted = d
+      grouped d (answer.Refused n k) = k

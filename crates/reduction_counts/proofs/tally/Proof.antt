@@ -1,0 +1,94 @@
+-- The counters: of the edges passed, how many lie at each node and are in the set.
+use mathlib.Core.Path.{_≡_, refl, _∙_, ap}
+use mathlib.Core.Bool.{_&&_}
+use Prim.Native.Nat.{ℕ, _-_, _≤_, _<_, zero-le}
+use native.Mathlib.Omega.{arith}
+use lib.ListN.{length, length-set}
+use lib.Dec.{eqb}
+use Rattle.arrays.specs.ArrayInstance.{at, flag}
+use Rattle.reduction_counts.specs.Filled.{zeros, byte-one, counted, seen, seen-next}
+use Rattle.lists.specs.Sum.{count, count-≤}
+use Rattle.reduction_counts.proofs.tally.Statement.{statement}
+use Rattle.reduction_counts.proofs.tally.Tie as tie
+
+abbrev Inv-loop : tie.InvT-loop
+Inv-loop m end p t₀ i₀ t i = (i ≤ m) × (length t ≡ 32) × ((v : ℕ) → at t v ≡ seen end p v i)
+
+abbrev μ-loop : tie.MeasureT-loop
+μ-loop m end p t₀ i₀ t i = m - i
+
+loop-holds : tie.Need-loop-holds Inv-loop μ-loop
+unfolding count
+loop-holds c = (zero-le, refl, zeros 32)
+
+element-copy-out-v : tie.Need-element-copy-out-v Inv-loop μ-loop
+element-copy-out-v c = omega (arith, c .before .before .pre .1 (c .before .loop .i) (omega arith))
+
+cast-v : tie.Need-cast-v Inv-loop μ-loop
+cast-v c = omega (arith, c .before .before .before .pre .1 (c .before .before .loop .i) (omega arith))
+
+element-copy-out-t : tie.Need-element-copy-out-t Inv-loop μ-loop
+element-copy-out-t c = omega (arith, c .before .before .before .pre .1 (c .before .before .loop .i) (omega arith))
+
+cast-t : tie.Need-cast-t Inv-loop μ-loop
+cast-t c = omega (arith, c .before .before .before .before .pre .1 (c .before .before .before .loop .i) (omega arith))
+
+mul-t : tie.Need-mul-t Inv-loop μ-loop
+mul-t c = omega (arith, c .before .before .before .before .pre .1 (c .before .before .before .loop .i) (omega arith))
+
+array-read-t : tie.Need-array-read-t Inv-loop μ-loop
+array-read-t c = omega (arith, c .before .before .before .before .pre .1 (c .before .before .before .loop .i) (omega arith))
+
+add-t : tie.Need-add-t Inv-loop μ-loop
+add-t c =
+    let l = c .before .before .before in
+    let a = l .before .args in
+    let v = at (a .end .now) (l .loop .i) in
+    omega (arith, l .loop .inv .2 v, count-≤ (λ e. flag (a .p .now) e && eqb (at (a .end .now) e) v) (l .loop .i), byte-one (flag (a .p .now) (l .loop .i)))
+
+array-write-t : tie.Need-array-write-t Inv-loop μ-loop
+array-write-t c = omega (arith, c .before .before .before .before .pre .1 (c .before .before .before .loop .i) (omega arith))
+
+add-i : tie.Need-add-i Inv-loop μ-loop
+add-i c = omega arith
+
+loop-less : tie.Need-loop-less Inv-loop μ-loop
+loop-less c = omega arith
+
+loop-again : tie.Need-loop-again Inv-loop μ-loop
+loop-again c =
+    let l = c .before .before .before in
+    let a = l .before .args in
+    let w : at (a .end .now) (l .loop .i) < 32 = l .before .pre .1 (l .loop .i) (omega arith) in (
+      omega arith,
+      simp length-set (l .loop .inv .1),
+      λ v. counted (l .loop .t) (at (a .end .now) (l .loop .i)) (flag (a .p .now) (l .loop .i)) v (omega arith)
+          ∙ omega (arith, l .loop .inv .2 v, seen-next (a .end .now) (a .p .now) v (l .loop .i)),
+    )
+
+returns : tie.Need-returns Inv-loop μ-loop
+returns c =
+    let l = c .before in
+    let a = l .before .args in
+    let e : l .loop .i ≡ a .m = omega arith in
+    λ v. l .loop .inv .2 v ∙ ap (seen (a .end .now) (a .p .now) v) e
+
+pub tally-spec : {M : Type 1} → statement M
+tally-spec =
+    tie.close
+    (tie.spec
+    Inv-loop
+    μ-loop
+    loop-holds
+    element-copy-out-v
+    cast-v
+    element-copy-out-t
+    cast-t
+    mul-t
+    array-read-t
+    add-t
+    array-write-t
+    add-i
+    loop-less
+    loop-again
+    returns)

@@ -1,0 +1,114 @@
+-- Rule 4: none below i is named.
+use mathlib.Core.Path.{_≡_, refl, sym, _∙_, ap}
+use mathlib.Core.Bool.{Bool, _&&_}
+use mathlib.Core.List.{List}
+use Prim.Native.Nat.{ℕ, _+_, _-_, _≤_, zero-le}
+use native.Mathlib.Omega.{arith}
+use lib.Dec.{eqb, ltb}
+use Rattle.arrays.specs.ArrayInstance.{at, flag}
+use Rattle.lists.specs.Search.{low, low-hit, low-miss}
+use Rattle.reduction_rules.proofs.find4.Statement.{statement}
+use Rattle.reduction_rules.proofs.find4.Tie as tie
+
+abbrev test : List Bool → List ℕ → List Bool → List ℕ → List ℕ → List ℕ → ℕ → Bool
+test rem sv res ns qs nb e = flag rem e && (flag res e && (ltb (at qs (at sv e)) (at ns (at sv e)) && eqb (at nb e + 1) (at ns (at sv e))))
+
+abbrev Inv-loop : tie.InvT-loop
+Inv-loop m rem sv res ns qs nb i₀ i = (i ≤ m) × (low (test rem sv res ns qs nb) i ≡ i)
+
+abbrev μ-loop : tie.MeasureT-loop
+μ-loop m rem sv res ns qs nb i₀ i = m - i
+
+loop-holds : tie.Need-loop-holds Inv-loop μ-loop
+unfolding low
+loop-holds c = (zero-le, refl)
+
+element-copy-out-s : tie.Need-element-copy-out-s Inv-loop μ-loop
+element-copy-out-s c = omega (arith, c .before .before .pre .1 (c .before .loop .i) (omega arith))
+
+cast-s : tie.Need-cast-s Inv-loop μ-loop
+cast-s c = omega (arith, c .before .before .before .pre .1 (c .before .before .loop .i) (omega arith))
+
+element-copy-out-if1 : tie.Need-element-copy-out-if1 Inv-loop μ-loop
+element-copy-out-if1 c = omega (arith, c .before .before .before .pre .1 (c .before .before .loop .i) (omega arith))
+
+element-copy-out-if1-2 : tie.Need-element-copy-out-if1-2 Inv-loop μ-loop
+element-copy-out-if1-2 c = omega (arith, c .before .before .before .before .pre .1 (c .before .before .before .loop .i) (omega arith))
+
+mul-if1 : tie.Need-mul-if1 Inv-loop μ-loop
+mul-if1 c = omega (arith, c .before .before .before .before .before .pre .1 (c .before .before .before .before .loop .i) (omega arith))
+
+element-copy-out-if1-3 : tie.Need-element-copy-out-if1-3 Inv-loop μ-loop
+element-copy-out-if1-3 c = omega (arith, c .before .before .before .before .before .pre .1 (c .before .before .before .before .loop .i) (omega arith))
+
+mul-if1-2 : tie.Need-mul-if1-2 Inv-loop μ-loop
+mul-if1-2 c = omega (arith, c .before .before .before .before .before .before .pre .1 (c .before .before .before .before .before .loop .i) (omega arith))
+
+element-copy-out-if1-4 : tie.Need-element-copy-out-if1-4 Inv-loop μ-loop
+element-copy-out-if1-4 c = omega (arith, c .before .before .before .before .before .before .pre .1 (c .before .before .before .before .before .loop .i) (omega arith))
+
+mul-if1-3 : tie.Need-mul-if1-3 Inv-loop μ-loop
+mul-if1-3 c = omega (arith, c .before .before .before .before .before .before .before .pre .1 (c .before .before .before .before .before .before .loop .i) (omega arith))
+
+element-copy-out-if1-5 : tie.Need-element-copy-out-if1-5 Inv-loop μ-loop
+element-copy-out-if1-5 c = omega (arith, c .before .before .before .before .before .before .before .pre .1 (c .before .before .before .before .before .before .loop .i) (omega arith))
+
+add-if1 : tie.Need-add-if1 Inv-loop μ-loop
+add-if1 c = omega (arith, c .before .before .before .before .before .before .before .before .pre .2 (c .before .before .before .before .before .before .before .loop .i))
+
+mul-if1-4 : tie.Need-mul-if1-4 Inv-loop μ-loop
+mul-if1-4 c = omega (arith, c .before .before .before .before .before .before .before .before .pre .1 (c .before .before .before .before .before .before .before .loop .i) (omega arith))
+
+element-copy-out-if1-6 : tie.Need-element-copy-out-if1-6 Inv-loop μ-loop
+element-copy-out-if1-6 c = omega (arith, c .before .before .before .before .before .before .before .before .pre .1 (c .before .before .before .before .before .before .before .loop .i) (omega arith))
+
+returns : tie.Need-returns Inv-loop μ-loop
+returns c =
+    let l = c .before .before .before .before .before .before .before .before .before in
+    let a = l .before .args in
+    sym (low-hit (test (a .rem .now) (a .sv .now) (a .res .now) (a .ns .now) (a .qs .now) (a .nb .now)) (l .loop .i) (a .m) (l .loop .inv .1) (c .if1 .taken) (omega arith))
+
+add-i : tie.Need-add-i Inv-loop μ-loop
+add-i c = omega arith
+
+loop-less : tie.Need-loop-less Inv-loop μ-loop
+loop-less c = omega arith
+
+loop-again : tie.Need-loop-again Inv-loop μ-loop
+loop-again c =
+    let l = c .before .before .before .before .before .before .before .before .before in
+    let a = l .before .args in
+    (omega arith, low-miss (test (a .rem .now) (a .sv .now) (a .res .now) (a .ns .now) (a .qs .now) (a .nb .now)) (l .loop .i) (l .loop .inv .1) (c .if1 .left))
+
+returns-2 : tie.Need-returns-2 Inv-loop μ-loop
+returns-2 c =
+    let l = c .before in
+    let a = l .before .args in
+    let e : l .loop .i ≡ a .m = omega arith in
+    sym (l .loop .inv .1) ∙ ap (low (test (a .rem .now) (a .sv .now) (a .res .now) (a .ns .now) (a .qs .now) (a .nb .now))) e
+
+pub find4-spec : {M : Type 1} → statement M
+find4-spec =
+    tie.close
+    (tie.spec
+    Inv-loop
+    μ-loop
+    loop-holds
+    element-copy-out-s
+    cast-s
+    element-copy-out-if1
+    element-copy-out-if1-2
+    mul-if1
+    element-copy-out-if1-3
+    mul-if1-2
+    element-copy-out-if1-4
+    mul-if1-3
+    element-copy-out-if1-5
+    add-if1
+    mul-if1-4
+    element-copy-out-if1-6
+    returns
+    add-i
+    loop-less
+    loop-again
+    returns-2)

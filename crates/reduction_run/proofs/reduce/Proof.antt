@@ -1,0 +1,58 @@
+-- The orders, then the run.
+use mathlib.Core.Path.{_≡_}
+use Prim.Native.Nat.{_-_}
+use native.Mathlib.Omega.{arith}
+use lib.ListN.{length, take}
+use borrow.Author.Needs.{needs}
+use lib.ListN.{length-take}
+use Rattle.reduction_run.specs.Given.{order-fits, knownOf}
+use borrow.Author.Needs.{needs}
+use Rattle.reduction_run.proofs.reduce.Statement.{statement}
+use Rattle.reduction_run.proofs.reduce.Tie as tie
+
+by-rank-requires : tie.Need-by-rank-requires
+by-rank-requires c κs = search needs
+
+by-rank-requires-2 : tie.Need-by-rank-requires-2
+by-rank-requires-2 c κs = search needs
+
+array-share-prefix-os : tie.Need-array-share-prefix-os
+array-share-prefix-os c = search needs
+
+slice-aggregate-run : tie.Need-slice-aggregate-run
+slice-aggregate-run c = let h : length (c .before .before .by-rank .result) ≡ 1025 = search needs in simp length-take (omega arith)
+
+array-share-prefix-ot : tie.Need-array-share-prefix-ot
+array-share-prefix-ot c = search needs
+
+slice-aggregate-run-2 : tie.Need-slice-aggregate-run-2
+slice-aggregate-run-2 c = let h : length (c .before .before .by-rank2 .result) ≡ 1025 = search needs in simp length-take (omega arith)
+
+run-requires : tie.Need-run-requires
+run-requires c κs =
+    let a = c .before .before .before .before .before .before .args in
+    let p = c .before .before .before .before .before .before .pre in
+    ((p .0, p .1, p .2), (order-fits (a .m) (a .sv .now) (a .rankS .now) (take (a .m) (c .before .before .before .before .by-rank .result)) (p .0) (p .1) (p .3) (c .before .before .before .before .by-rank .ensures), (order-fits (a .m) (a .st .now) (a .rankT .now) (take (a .m) (c .before .before .before .by-rank2 .result)) (p .0) (p .2) (p .4) (c .before .before .before .by-rank2 .ensures), p .5)))
+
+same-length : tie.Need-same-length
+same-length c = search needs
+
+returns : tie.Need-returns
+returns c =
+    let a = c .before .before .before .before .before .before .before .before .before .args in
+    let p = c .before .before .before .before .before .before .before .before .before .pre in
+    λ ns nt law. c .before .before .run .ensures (knownOf (a .m) ns nt (a .sv .now) (a .st .now) (a .rankS .now) (a .rankT .now) (a .tied .now) (a .quotaS .now) (a .quotaT .now) (take (a .m) (c .before .before .before .before .before .before .before .by-rank .result)) (take (a .m) (c .before .before .before .before .before .before .by-rank2 .result)) law (p .0) (p .1) (p .2) (c .before .before .before .before .before .before .before .by-rank .ensures) (c .before .before .before .before .before .before .by-rank2 .ensures))
+
+pub reduce-spec : {M : Type 1} → statement M
+reduce-spec =
+    tie.close
+    (tie.spec
+    by-rank-requires
+    by-rank-requires-2
+    array-share-prefix-os
+    slice-aggregate-run
+    array-share-prefix-ot
+    slice-aggregate-run-2
+    run-requires
+    same-length
+    returns)

@@ -1,0 +1,3 @@
+pub mod View
+pub mod Tests
+pub mod RuleChosen

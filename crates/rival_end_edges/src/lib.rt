@@ -1,0 +1,102 @@
+// The start and the end of a walk, with the edges that are gained there: the first cheapest two of all that are apart.
+ghost use mathlib.Core.Path.{_≡_};
+ghost use Prim.Native.Nat.{_≤_, _<_};
+ghost use Rattle.theory_verdict.specs.Ends.{lose};
+ghost use Rattle.theory_verdict.specs.Search.{endPrice};
+ghost use Rattle.arrays.specs.ArrayInstance.{at};
+ghost use Rattle.rival_tables.specs.Filled.{Low};
+ghost use Rattle.rival_end_edges.specs.Ways.{wayOf, told, Offered, apart, round, tipBy};
+
+// The price, the edge gained at the start and the one gained at the end; the number of all edges where the plan's edge is lost.
+pub struct Ends {
+    pub price: u8,
+    pub start: usize,
+    pub stop: usize,
+}
+
+// What is held, or a lower offer if it may come.
+pub fn offered(ok: bool, p: u8, a: usize, b: usize, held: Ends) -> Ends
+    ensures { λ r. ⌜ Offered ok p a b held r ⌝ }
+{
+    if ok & (p < held.price) {
+        return Ends {
+            price: p,
+            start: a,
+            stop: b,
+        };
+    }
+    held
+}
+
+// One start of price a with every end; `free` says that the end may be lost with it.
+pub fn round(
+    m: usize,
+    sv: &[u8; 1024],
+    st: &[u8; 1024],
+    rs: &[u8; 1024],
+    rt: &[u8; 1024],
+    plan: &[bool; 1024],
+    fs: &[bool; 32],
+    x: usize,
+    y: usize,
+    start: usize,
+    a: u8,
+    free: bool,
+    held: Ends,
+) -> Ends
+    requires { ⌜ (m ≤ 1024) × Low m (now sv) 32 × (x < 1024) × (y < 1024) × (a ≤ 3) × (a ≡ endPrice (at (now rs)) x (wayOf m start)) × (free ≡ apart m (now sv) (now st) (now rs) (now rt) x y (wayOf m start, lose)) ⌝ }
+    ensures { λ r. ⌜ told m r ≡ round m (now (sv .entry)) (now (st .entry)) (now (rs .entry)) (now (rt .entry)) x y (now (plan .entry)) (now (fs .entry)) (wayOf m start) (told m held) ⌝ }
+{
+    let s = sv[x];
+    let t = st[y];
+    let b = rt[y];
+    let mut o = offered(free, a + 3, start, m, held);
+    let mut g = 0;
+    while g < m {
+        let v = sv[g] as usize;
+        let p = rival_tables::rated(b, rt[g]);
+        let ok = (!plan[g] & ((st[g] == t) & fs[v])) & ((start < m) | !(sv[g] == s));
+        let next = offered(ok, a + p, start, g, o);
+        o = next;
+        g += 1;
+    }
+    o
+}
+
+// Every start with every end.
+pub fn tip(
+    m: usize,
+    sv: &[u8; 1024],
+    st: &[u8; 1024],
+    rs: &[u8; 1024],
+    rt: &[u8; 1024],
+    plan: &[bool; 1024],
+    fs: &[bool; 32],
+    ft: &[bool; 32],
+    x: usize,
+    y: usize,
+) -> Ends
+    requires { ⌜ (m ≤ 1024) × Low m (now sv) 32 × Low m (now st) 32 × (x < 1024) × (y < 1024) ⌝ }
+    ensures { λ r. ⌜ told m r ≡ tipBy m (now (sv .entry)) (now (st .entry)) (now (rs .entry)) (now (rt .entry)) x y (now (plan .entry)) (now (fs .entry)) (now (ft .entry)) ⌝ }
+{
+    let s = sv[x];
+    let t = st[y];
+    let b = rs[x];
+    let blank = Ends {
+        price: 6,
+        start: m,
+        stop: m,
+    };
+    let mut o = round(m, sv, st, rs, rt, plan, fs, x, y, m, 3, true, blank);
+    let mut f = 0;
+    while f < m {
+        let v = st[f] as usize;
+        if !plan[f] & ((sv[f] == s) & ft[v]) {
+            let a = rival_tables::rated(b, rs[f]);
+            let next = round(m, sv, st, rs, rt, plan, fs, x, y, f, a, !(st[f] == t), o);
+            o = next;
+        }
+        f += 1;
+    }
+    o
+}

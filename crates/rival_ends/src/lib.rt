@@ -1,0 +1,51 @@
+// The table of the ends: the least price of a start at one edge of the plan with an end at another.
+ghost use mathlib.Core.Path.{_≡_};
+ghost use Prim.Native.Nat.{ℕ, _≤_, _<_};
+ghost use Rattle.rival_tables.specs.Filled.{Made, Grid};
+ghost use Rattle.rival_ends.specs.Tips.{tipAt, Rates};
+
+// The row of starts at place i.
+pub fn tip_row(
+    n: usize,
+    starts: &[u8; 4096],
+    stops: &[u8; 4096],
+    gs: &[u8; 64],
+    gt: &[u8; 64],
+    i: usize,
+) -> [u8; 64]
+    requires { ⌜ (n ≤ 64) × (i < n) × Rates n (now starts) (now stops) (now gs) (now gt) ⌝ }
+    ensures { λ r. ⌜ Made 0 r (tipAt (now (starts .entry)) (now (stops .entry)) (now (gs .entry)) (now (gt .entry)) i) n ⌝ }
+{
+    let mut o = [0u8; 64];
+    let mut j = 0;
+    while j < n {
+        let a = rival_tables::lesser(starts[i * 64 + j], stops[j * 64 + i]);
+        let b = a + 3;
+        let c = gs[i] + gt[j];
+        o[j] = rival_tables::lesser(b, c);
+        j += 1;
+    }
+    o
+}
+
+// All rows.
+pub fn tips(
+    n: usize,
+    starts: &[u8; 4096],
+    stops: &[u8; 4096],
+    gs: &[u8; 64],
+    gt: &[u8; 64],
+) -> [u8; 4096]
+    requires { ⌜ (n ≤ 64) × Rates n (now starts) (now stops) (now gs) (now gt) ⌝ }
+    ensures { λ r. ⌜ Grid r n (tipAt (now (starts .entry)) (now (stops .entry)) (now (gs .entry)) (now (gt .entry))) ⌝ }
+{
+    let mut o = [0u8; 4096];
+    let mut i = 0;
+    while i < n {
+        let row = tip_row(n, starts, stops, gs, gt, i);
+        let next = rival_tables::put_row(o, row, i);
+        o = next;
+        i += 1;
+    }
+    o
+}

@@ -1,0 +1,62 @@
+-- The rows below i are written.
+use Prim.Native.Nat.{_-_, _≤_, zero-le}
+use native.Mathlib.Omega.{arith}
+use native.Mathlib.Nat.{not-suc-le-zero}
+use borrow.Author.Needs.{needs}
+use Rattle.arrays.specs.ArrayInstance.{at}
+use Rattle.rival_tables.specs.Filled.{Rows, rows-next}
+use Rattle.rival_gains.specs.Gains.{gainPriceBut}
+use Rattle.rival_gains.proofs.apart.Statement.{statement}
+use Rattle.rival_gains.proofs.apart.Tie as tie
+
+abbrev Inv-loop : tie.InvT-loop
+Inv-loop m end other rank plan room n pe po pr o₀ i₀ o i = (i ≤ n) × Rows o i (λ i j. gainPriceBut m end other rank plan room 3 (at pe i) (at pr i) (at po j))
+
+abbrev μ-loop : tie.MeasureT-loop
+μ-loop m end other rank plan room n pe po pr o₀ i₀ o i = n - i
+
+loop-holds : tie.Need-loop-holds Inv-loop μ-loop
+loop-holds c = (zero-le, λ i j h. absurd (not-suc-le-zero h))
+
+element-copy-out-apart-row : tie.Need-element-copy-out-apart-row Inv-loop μ-loop
+element-copy-out-apart-row c = search needs
+
+element-copy-out-apart-row-2 : tie.Need-element-copy-out-apart-row-2 Inv-loop μ-loop
+element-copy-out-apart-row-2 c = search needs
+
+apart-row-requires : tie.Need-apart-row-requires Inv-loop μ-loop
+apart-row-requires c κs = (omega arith, c .before .before .before .before .pre .1)
+
+put-row-requires : tie.Need-put-row-requires Inv-loop μ-loop
+put-row-requires c κs = search needs
+
+add-i : tie.Need-add-i Inv-loop μ-loop
+add-i c = search needs
+
+loop-less : tie.Need-loop-less Inv-loop μ-loop
+loop-less c = search needs
+
+loop-again : tie.Need-loop-again Inv-loop μ-loop
+loop-again c =
+    let l = c .before .before .before .before .before in
+    let a = c .before .before .before .before .before .before .args in
+    (omega arith, rows-next (l .loop .o) (c .before .apart-row .result) (c .put-row .result) (λ i j. gainPriceBut (a .m) (a .end .now) (a .other .now) (a .rank .now) (a .plan .now) (a .room .now) 3 (at (a .pe .now) i) (at (a .pr .now) i) (at (a .po .now) j)) (l .loop .i) (l .loop .inv .1) (c .before .apart-row .ensures) (c .put-row .ensures))
+
+returns : tie.Need-returns Inv-loop μ-loop
+returns c = λ i j h k. c .before .loop .inv .1 i j (omega arith) k
+
+pub apart-spec : {M : Type 1} → statement M
+apart-spec =
+    tie.close
+    (tie.spec
+    Inv-loop
+    μ-loop
+    loop-holds
+    element-copy-out-apart-row
+    element-copy-out-apart-row-2
+    apart-row-requires
+    put-row-requires
+    add-i
+    loop-less
+    loop-again
+    returns)

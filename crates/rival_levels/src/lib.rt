@@ -1,0 +1,132 @@
+// The tests of a layer, and the search level by level.
+ghost use mathlib.Core.Path.{_≡_};
+ghost use Prim.Native.Nat.{ℕ, _+_, _*_, _≤_, _<_};
+ghost use lib.Dec.{ltb};
+ghost use Rattle.lists.specs.Search.{low};
+ghost use Rattle.arrays.specs.ArrayInstance.{at};
+ghost use Rattle.rival_tables.specs.Filled.{cell};
+ghost use Rattle.rival_layers.specs.Layers.{keptPrice, Small, Cheap};
+ghost use Rattle.rival_levels.specs.Levels.{SmallEnds, diagAt, endsAt, pairAt, changedAt, levelsAt};
+
+// What a search finds, by places in the plan's list: nothing, an edge with room at both ends, a walk without an arc, a closed
+// walk of a level, a walk of a level with a start and an end.
+pub enum Found {
+    Nothing,
+    Direct(usize),
+    Alone(usize),
+    Closed(usize, usize),
+    Open(usize, usize, usize),
+}
+
+pub struct Place {
+    pub row: usize,
+    pub column: usize,
+}
+
+// The first place on the diagonal that is below a bound, n if there is none.
+pub fn diagonal(n: usize, d: &[u8; 4096], bound: u8) -> usize
+    requires { ⌜ n ≤ 64 ⌝ }
+    ensures { λ r. ⌜ r ≡ diagAt (cell (now (d .entry))) n bound ⌝ }
+{
+    let mut i = 0;
+    while i < n {
+        if d[i * 64 + i] < bound {
+            return i;
+        }
+        i += 1;
+    }
+    i
+}
+
+// The first column in which a row of prices and a row of ends are below a bound together, n if there is none.
+pub fn ends(n: usize, d: &[u8; 4096], tips: &[u8; 4096], b: usize, bound: u8) -> usize
+    requires { ⌜ (n ≤ 64) × (b + 64 ≤ 4096) × ((j : ℕ) → j < n → at (now d) (b + j) + at (now tips) (b + j) ≤ 139) ⌝ }
+    ensures { λ r. ⌜ r ≡ low (λ j. ltb (at (now (d .entry)) (b + j) + at (now (tips .entry)) (b + j)) bound) n ⌝ }
+{
+    let mut j = 0;
+    while j < n {
+        if d[b + j] + tips[b + j] < bound {
+            return j;
+        }
+        j += 1;
+    }
+    j
+}
+
+// The first row in which that finds a column, and the column; n if there is none.
+pub fn pair(n: usize, d: &[u8; 4096], tips: &[u8; 4096], bound: u8) -> Place
+    requires { ⌜ (n ≤ 64) × Small n (now d) × SmallEnds n (now tips) ⌝ }
+    ensures { λ r. ⌜ (r .row ≡ pairAt (cell (now (d .entry))) (now (tips .entry)) n bound) × (r .row < n → r .column ≡ endsAt (cell (now (d .entry))) (now (tips .entry)) n bound (r .row)) ⌝ }
+{
+    let mut i = 0;
+    while i < n {
+        let b = i * 64;
+        let j = ends(n, d, tips, b, bound);
+        if j < n {
+            return Place { row: i, column: j };
+        }
+        i += 1;
+    }
+    Place { row: i, column: 0 }
+}
+
+// The first column in which the next layer's row is lower than the row kept, n if there is none.
+pub fn lowered(n: usize, d: &[u8; 4096], e: &[u8; 4096], b: usize) -> usize
+    requires { ⌜ (n ≤ 64) × (b + 64 ≤ 4096) × ((j : ℕ) → j < 64 → at (now d) (b + j) ≤ 133) ⌝ }
+    ensures { λ r. ⌜ r ≡ low (λ j. ltb (at (now (e .entry)) (b + j)) (keptPrice (at (now (d .entry)) (b + j)))) n ⌝ }
+{
+    let mut j = 0;
+    while j < n {
+        let kept = rival_tables::lesser(133, d[b + j] + 2);
+        if e[b + j] < kept {
+            return j;
+        }
+        j += 1;
+    }
+    j
+}
+
+// The first row that has such a column, n if there is none.
+pub fn changed(n: usize, d: &[u8; 4096], e: &[u8; 4096]) -> usize
+    requires { ⌜ (n ≤ 64) × Small n (now d) ⌝ }
+    ensures { λ r. ⌜ r ≡ changedAt (cell (now (d .entry))) (cell (now (e .entry))) n ⌝ }
+{
+    let mut i = 0;
+    while i < n {
+        let b = i * 64;
+        let j = lowered(n, d, e, b);
+        if j < n {
+            return i;
+        }
+        i += 1;
+    }
+    i
+}
+
+// All levels, until a layer changes nothing.
+pub fn levels(n: usize, arcs: &[u8; 4096], tips: &[u8; 4096], k: u8) -> Found
+    requires { ⌜ (n ≤ 64) × (k ≤ 1) × Small n (now arcs) × Cheap n (now arcs) × SmallEnds n (now tips) ⌝ }
+    ensures { λ r. ⌜ r ≡ levelsAt (now (arcs .entry)) (now (tips .entry)) n k n 0 ⌝ }
+{
+    let mut d = *arcs;
+    let mut l = 0;
+    while l < n {
+        let bound = (2 * (l + 1)) as u8 + k;
+        let i = diagonal(n, &d, bound);
+        if i < n {
+            return Found::Closed(l, i);
+        }
+        let p = pair(n, &d, tips, bound + 4);
+        if p.row < n {
+            return Found::Open(l, p.row, p.column);
+        }
+        let e = rival_layers::next_layer(n, arcs, &d);
+        let c = changed(n, &d, &e);
+        if c >= n {
+            return Found::Nothing;
+        }
+        d = e;
+        l += 1;
+    }
+    Found::Nothing
+}

@@ -1,0 +1,2 @@
+pub mod SearchView
+pub mod TwoThresholds

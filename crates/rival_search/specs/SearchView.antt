@@ -1,0 +1,148 @@
+-- What the arrays of a plan and its roster show to the search: the plan's edges, their ends and ranks, room at the nodes, the two tables. And that the
+-- search on them is the search of the instance that they show.
+use Prim.Native.Nat.{ℕ, _+_, _*_, _≤_, _<_, min, zero-le}
+use native.Mathlib.Omega.{arith}
+use mathlib.Core.Path.{_≡_, sym, ap, ap₂, _∙_, subst}
+use mathlib.Core.Bool.{Bool, false, not, _&&_}
+use mathlib.Core.List.{List, map, Memᴰ·map}
+use lib.Dec.{ltb, leb, eqb}
+use mathlib.Core.Logic.{⊎-elim}
+use Rattle.lists.specs.Test.{bit, bit-one}
+use Rattle.lists.specs.Sum.{_∈_, range, range-∈, ∈-range, count, sum-cong, upTo, upTo-<}
+use Rattle.lists.specs.Keep.{∈-keep}
+use Rattle.model.specs.Instance.{Instance, surveyors, stands}
+use Rattle.model.specs.PlanFile.{edgesIn}
+use Rattle.theory_votes.specs.Score.{rate}
+use Rattle.theory_verdict.specs.Search.{tip, arc, room?, search}
+use Rattle.theory_verdict.specs.Stop.{search-same}
+use Rattle.arrays.specs.ArrayInstance.{at, flag, shown}
+use Rattle.rival_tables.specs.Filled.{Grid, Made, Low}
+use Rattle.rival_tables.specs.Cheapest.{cheapest-cong, cheapest-≤, cheapest-reach}
+use Rattle.rival_arcs.specs.Arcs.{joining, priceOf, arcPrice}
+use Rattle.rival_gains.specs.Gains.{gainable, gainableBut, gainPrice, gainPriceBut}
+use Rattle.rival_laws.specs.Walks.{hitOf, searchAt, search-is}
+use Rattle.rival_laws.specs.Prices.{arc-is, tip-is, deg-places}
+
+-- the first n entries of es are the plan's edges
+abbrev pub Lists : ℕ → List Bool → ℕ → List ℕ → Type 0
+Lists m plan n es = edgesIn m (flag plan) ≡ map (at es) (range 0 n)
+
+pub listed-low : (m : ℕ) (plan : List Bool) (n : ℕ) (es : List ℕ) → Lists m plan n es → (i : ℕ) → i < n → at es i < m
+listed-low m plan n es l i h =
+    let k : at es i ∈ edgesIn m (flag plan) = subst (λ xs. at es i ∈ xs) (sym l) (Memᴰ·map (at es) (range-∈ n 0 i zero-le (omega arith))) in
+    let (r, t) = ∈-keep (flag plan) (range 0 m) k in
+    let (u, w) = ∈-range m 0 r in
+    omega arith
+
+-- ends and ranks of the plan's edges, by their places
+pub record Views (n : ℕ) (es sv st rs rt ps pt qs qt : List ℕ) : Type 0 where
+  pub sv-at : Made 0 ps (λ i. at sv (at es i)) n
+  pub st-at : Made 0 pt (λ i. at st (at es i)) n
+  pub rs-at : Made 0 qs (λ i. at rs (at es i)) n
+  pub rt-at : Made 0 qt (λ i. at rt (at es i)) n
+
+-- room at the nodes of one side
+abbrev pub Roomy : ℕ → (nodes quota : List ℕ) → List Bool → Type 0
+Roomy n nodes quota room = Made false room (λ v. ltb (count (λ j. eqb (at nodes j) v) n) (at quota v)) 32
+
+-- an edge with room at both ends
+abbrev pub freeAt : (sv st : List ℕ) (plan roomS roomT : List Bool) → ℕ → Bool
+freeAt sv st plan roomS roomT f = not (flag plan f) && (flag roomS (at sv f) && flag roomT (at st f))
+
+-- the two tables, from the views
+abbrev pub arcCell : (m : ℕ) (sv st rs rt : List ℕ) (plan : List Bool) (ps pt qs qt : List ℕ) → ℕ → ℕ → ℕ
+arcCell m sv st rs rt plan ps pt qs qt i j = arcPrice m sv st rs rt plan (at pt i) (at qt i) (at ps j) (at qs j)
+
+abbrev pub tipCell : (m : ℕ) (sv st rs rt : List ℕ) (plan roomS roomT : List Bool) (ps pt qs qt : List ℕ) → ℕ → ℕ → ℕ
+tipCell m sv st rs rt plan roomS roomT ps pt qs qt i j =
+    min (min (gainPriceBut m sv st rs plan roomT 3 (at ps i) (at qs i) (at pt j)) (gainPriceBut m st sv rt plan roomS 3 (at pt j) (at qt j) (at ps i)) + 3)
+    (gainPrice m sv st rs plan roomT 6 (at ps i) (at qs i) + gainPrice m st sv rt plan roomS 6 (at pt j) (at qt j))
+
+count-same : (p q : ℕ → Bool) (n : ℕ) → ((e : ℕ) → e < n → p e ≡ q e) → count p n ≡ count q n
+unfolding count
+count-same p q n h = sum-cong (λ e. bit (p e)) (λ e. bit (q e)) (upTo n) (λ e k. ap bit (h e (upTo-< n k)))
+
+-- ---- prices are small
+rate-two : (a b : ℕ) → rate a b ≤ 2
+rate-two a b = omega (arith, bit-one (ltb a b), bit-one (leb a b))
+
+pub arc-small : (m : ℕ) (sv st rs rt : List ℕ) (plan : List Bool) (t b s a : ℕ) → arcPrice m sv st rs rt plan t b s a ≤ 133
+unfolding arcPrice
+arc-small m sv st rs rt plan t b s a = cheapest-≤ (joining sv st plan t s) (priceOf rs rt b a) 133 0 m
+
+pub arc-cheap : (m : ℕ) (sv st rs rt : List ℕ) (plan : List Bool) (t b s a : ℕ) → arcPrice m sv st rs rt plan t b s a < 133 → arcPrice m sv st rs rt plan t b s a ≤ 4
+unfolding arcPrice
+arc-cheap m sv st rs rt plan t b s a h = ⊎-elim
+    (λ e. absurd (omega arith))
+    (λ (f, l, k, u, e). omega (arith, rate-two b (at rt f), rate-two a (at rs f)))
+    (cheapest-reach (joining sv st plan t s) (priceOf rs rt b a) 133 0 m)
+
+pub but-small : (m : ℕ) (end other rank : List ℕ) (plan room : List Bool) (e b d : ℕ) → gainPriceBut m end other rank plan room 3 e b d ≤ 3
+unfolding gainPriceBut
+but-small m end other rank plan room e b d = cheapest-≤ (gainableBut end other plan room e d) (λ f. rate b (at rank f)) 3 0 m
+
+pub gain-small : (m : ℕ) (end other rank : List ℕ) (plan room : List Bool) (e b : ℕ) → gainPrice m end other rank plan room 6 e b ≤ 6
+unfolding gainPrice
+gain-small m end other rank plan room e b = cheapest-≤ (gainable end other plan room e) (λ f. rate b (at rank f)) 6 0 m
+
+-- ---- the tables show the instance's prices
+module _ (m ns nt : ℕ) (sv st rs rt : List ℕ) (tied : List Bool) (quotaS quotaT : List ℕ) (plan : List Bool) (n : ℕ) (es ps pt qs qt : List ℕ) (roomS roomT : List Bool)
+    (lowS : Low m sv 32) (lowT : Low m st 32) (lists : Lists m plan n es) (views : Views n es sv st rs rt ps pt qs qt) (roomyS : Roomy n ps quotaS roomS) (roomyT : Roomy n pt quotaT roomT) where
+  abbrev G : Instance
+  G = shown m ns nt sv st rs rt tied quotaS quotaT
+
+  abbrev M : ℕ → Bool
+  M = flag plan
+
+  pub arc-shown : (i j : ℕ) → i < n → j < n → arcCell m sv st rs rt plan ps pt qs qt i j ≡ arc G M 133 (at es i) (at es j) .0
+  unfolding arcPrice
+  arc-shown i j il jl = cheapest-cong (joining sv st plan (at pt i) (at ps j)) (λ f. not (M f) && (eqb (at st f) (at st (at es i)) && eqb (at sv f) (at sv (at es j))))
+      (priceOf rs rt (at qt i) (at qs j)) (λ f. rate (at rt (at es i)) (at rt f) + rate (at rs (at es j)) (at rs f)) 133 0 m
+      (λ f p q. ap₂ (λ t s. not (M f) && (eqb (at st f) t && eqb (at sv f) s)) (views .st-at i il) (views .sv-at j jl))
+      (λ f p q. ap₂ (λ b a. rate b (at rt f) + rate a (at rs f)) (views .rt-at i il) (views .rs-at j jl))
+      ∙ sym (arc-is G M (at es i) (at es j))
+
+  pub room-S : (f : ℕ) → f < m → flag roomS (at sv f) ≡ room? M (surveyors G) f
+  room-S f h = roomyS (at sv f) (lowS f h) ∙ ap (λ c. ltb c (at quotaS (at sv f))) (counted ∙ sym (deg-places (surveyors G) M es n (at sv f) lists))
+    where
+      counted : count (λ j. eqb (at ps j) (at sv f)) n ≡ count (λ j. eqb (at sv (at es j)) (at sv f)) n
+      counted = count-same (λ j. eqb (at ps j) (at sv f)) (λ j. eqb (at sv (at es j)) (at sv f)) n (λ j l. ap (λ s. eqb s (at sv f)) (views .sv-at j l))
+
+  pub room-T : (f : ℕ) → f < m → flag roomT (at st f) ≡ room? M (stands G) f
+  room-T f h = roomyT (at st f) (lowT f h) ∙ ap (λ c. ltb c (at quotaT (at st f))) (counted ∙ sym (deg-places (stands G) M es n (at st f) lists))
+    where
+      counted : count (λ j. eqb (at pt j) (at st f)) n ≡ count (λ j. eqb (at st (at es j)) (at st f)) n
+      counted = count-same (λ j. eqb (at pt j) (at st f)) (λ j. eqb (at st (at es j)) (at st f)) n (λ j l. ap (λ s. eqb s (at st f)) (views .st-at j l))
+
+  pub free-shown : (f : ℕ) → f < m → freeAt sv st plan roomS roomT f ≡ not (M f) && (room? M (surveyors G) f && room? M (stands G) f)
+  free-shown f h = ap₂ (λ a b. not (M f) && (a && b)) (room-S f h) (room-T f h)
+
+  pub tip-shown : (i j : ℕ) → i < n → j < n → tipCell m sv st rs rt plan roomS roomT ps pt qs qt i j ≡ tip G M (at es i) (at es j) .0
+  unfolding gainPrice gainPriceBut
+  tip-shown i j il jl = ap₂ (λ a b. min (a + 3) b) (ap₂ min
+      (cheapest-cong (gainableBut sv st plan roomT (at ps i) (at pt j)) (λ f. (not (M f) && (eqb (at sv f) (at sv x) && room? M (stands G) f)) && not (eqb (at st f) (at st y))) (λ f. rate (at qs i) (at rs f)) (λ f. rate (at rs x) (at rs f)) 3 0 m
+      (λ f p q. ap₂ (λ s t. (not (M f) && (eqb (at sv f) s && flag roomT (at st f))) && not (eqb (at st f) t)) (views .sv-at i il) (views .st-at j jl) ∙ ap (λ r. (not (M f) && (eqb (at sv f) (at sv x) && r)) && not (eqb (at st f) (at st y))) (room-T f (omega arith)))
+      (λ f p q. ap (λ a. rate a (at rs f)) (views .rs-at i il)))
+      (cheapest-cong (gainableBut st sv plan roomS (at pt j) (at ps i)) (λ f. (not (M f) && (eqb (at st f) (at st y) && room? M (surveyors G) f)) && not (eqb (at sv f) (at sv x))) (λ f. rate (at qt j) (at rt f)) (λ f. rate (at rt y) (at rt f)) 3 0 m
+      (λ f p q. ap₂ (λ s t. (not (M f) && (eqb (at st f) t && flag roomS (at sv f))) && not (eqb (at sv f) s)) (views .sv-at i il) (views .st-at j jl) ∙ ap (λ r. (not (M f) && (eqb (at st f) (at st y) && r)) && not (eqb (at sv f) (at sv x))) (room-S f (omega arith)))
+      (λ f p q. ap (λ a. rate a (at rt f)) (views .rt-at j jl))))
+      (ap₂ (λ a b. a + b)
+      (cheapest-cong (gainable sv st plan roomT (at ps i)) (λ f. not (M f) && (eqb (at sv f) (at sv x) && room? M (stands G) f)) (λ f. rate (at qs i) (at rs f)) (λ f. rate (at rs x) (at rs f)) 6 0 m
+      (λ f p q. ap₂ (λ s r. not (M f) && (eqb (at sv f) s && r)) (views .sv-at i il) (room-T f (omega arith)))
+      (λ f p q. ap (λ a. rate a (at rs f)) (views .rs-at i il)))
+      (cheapest-cong (gainable st sv plan roomS (at pt j)) (λ f. not (M f) && (eqb (at st f) (at st y) && room? M (surveyors G) f)) (λ f. rate (at qt j) (at rt f)) (λ f. rate (at rt y) (at rt f)) 6 0 m
+      (λ f p q. ap₂ (λ s r. not (M f) && (eqb (at st f) s && r)) (views .st-at j jl) (room-S f (omega arith)))
+      (λ f p q. ap (λ a. rate a (at rt f)) (views .rt-at j jl))))
+      ∙ sym (tip-is G M (at es i) (at es j))
+    where
+      x : ℕ
+      x = at es i
+
+      y : ℕ
+      y = at es j
+
+  pub search-shown : (arcs tips : List ℕ) (k : ℕ) → Grid arcs n (arcCell m sv st rs rt plan ps pt qs qt) → Grid tips n (tipCell m sv st rs rt plan roomS roomT ps pt qs qt)
+      → 2 * n + 4 + k ≤ 133 → hitOf G M es (searchAt m (freeAt sv st plan roomS roomT) arcs tips n k) ≡ search G M 133 k n
+  search-shown arcs tips k a t h =
+      search-is G M es n lists arcs tips (λ i j il jl. a i j il jl ∙ arc-shown i j il jl) (λ i j il jl. t i j il jl ∙ tip-shown i j il jl) k (freeAt sv st plan roomS roomT) free-shown
+      ∙ search-same G M 133 k n h

@@ -1,0 +1,90 @@
+-- Arrays that loops fill: the first entries, and square tables of 64 columns that lie row after row in one array.
+use Prim.Native.Nat.{ℕ, _+_, _*_, _≤_, _<_}
+use native.Mathlib.Omega.{arith}
+use native.Mathlib.Nat.{eq-or-lt-of-le}
+use mathlib.Core.Path.{_≡_, refl, sym, ap, ap₂, _∙_, subst}
+use mathlib.Core.Logic.{⊎-elim}
+use mathlib.Core.Bool.{Bool, true, false, cond}
+use mathlib.Core.List.{List}
+use lib.ListN.{length, getD, set}
+use lib.Seq.{getD-set-same, getD-set-other}
+use lib.Dec.{eqb, ltb}
+use borrow.Author.Tests.{lt-ltb, le-ltb, ltb-true, ltb-false}
+use mir.Val.{boolByte}
+use Rattle.lists.specs.Test.{by-bool, bit, by-eq, bit-one}
+use Rattle.arrays.specs.ArrayInstance.{at}
+
+-- the first n entries are below k
+abbrev pub Low : ℕ → List ℕ → ℕ → Type 0
+Low n xs k = (i : ℕ) → i < n → at xs i < k
+
+-- the first n entries are f's
+abbrev pub Made : {A : Type 0} → A → List A → (ℕ → A) → ℕ → Type 0
+Made d o f n = (e : ℕ) → e < n → getD o e d ≡ f e
+
+pub made-next : {A : Type 0} (d : A) (o : List A) (f : ℕ → A) (i : ℕ) → i < length o → Made d o f i → Made d (set o i (f i)) f (i + 1)
+made-next d o f i l h e k = ⊎-elim
+    (λ q. subst (λ (k : ℕ). getD (set o i (f i)) k d ≡ f k) (sym q) (getD-set-same o i (f i) d l))
+    (λ q. let ne : e ≡ i → ⊥ = (λ (x : e ≡ i). omega arith) in getD-set-other o i e (f i) d ne ∙ h e q)
+    (let g : e ≤ i = omega arith in eq-or-lt-of-le g)
+
+pub made-set : {A : Type 0} (d : A) (o : List A) (f : ℕ → A) (i : ℕ) (v : A) → i < length o → v ≡ f i → Made d o f i → Made d (set o i v) f (i + 1)
+made-set d o f i v l e h = subst (λ z. Made d (set o i z) f (i + 1)) (sym e) (made-next d o f i l h)
+
+pub byte-bit : (b : Bool) → boolByte b ≡ bit b
+byte-bit true = refl
+byte-bit false = refl
+
+pub byte-one : (b : Bool) → boolByte b ≤ 1
+byte-one b = omega (arith, byte-bit b, bit-one b)
+
+-- ---- a table: the entry of row i, column j; the first n rows and columns are f's; no entry is above k
+abbrev pub cell : List ℕ → ℕ → ℕ → ℕ
+cell t i j = at t (i * 64 + j)
+
+abbrev pub Grid : List ℕ → ℕ → (ℕ → ℕ → ℕ) → Type 0
+Grid t n f = (i j : ℕ) → i < n → j < n → cell t i j ≡ f i j
+
+-- the first n rows are f's, in all 64 columns
+abbrev pub Rows : List ℕ → ℕ → (ℕ → ℕ → ℕ) → Type 0
+Rows t n f = (i j : ℕ) → i < n → j < 64 → cell t i j ≡ f i j
+
+-- row i is another one, the other rows are as they were
+abbrev pub Put : List ℕ → List ℕ → ℕ → List ℕ → Type 0
+Put t row i r = (a b : ℕ) → b < 64 → cell r a b ≡ cond (eqb a i) (at row b) (cell t a b)
+
+-- the same while its first k columns are written
+abbrev pub Putting : List ℕ → List ℕ → ℕ → ℕ → List ℕ → Type 0
+Putting t row i k r = (a b : ℕ) → b < 64 → cell r a b ≡ cond (eqb a i) (cond (ltb b k) (at row b) (cell t a b)) (cell t a b)
+
+pub put-start : (t row : List ℕ) (i : ℕ) → Putting t row i 0 t
+put-start t row i a b h = go (eqb a i)
+  where
+    go : (s : Bool) → cell t a b ≡ cond s (cond (ltb b 0) (at row b) (cell t a b)) (cell t a b)
+    go true = sym (ap (λ s. cond s (at row b) (cell t a b)) (le-ltb b 0 (omega arith)))
+    go false = refl
+
+pub put-next : (t row : List ℕ) (i k : ℕ) (r : List ℕ) → i * 64 + k < length r → k < 64 → Putting t row i k r → Putting t row i (k + 1) (set r (i * 64 + k) (at row k))
+put-next t row i k r l kl h a b bl = by-eq a i
+    (λ e s. by-eq b k
+    (λ d u. subst (λ z. at (set r (i * 64 + k) (at row k)) z ≡ cond (eqb a i) (cond (ltb b (k + 1)) (at row b) (cell t a b)) (cell t a b)) (same e d)
+    (getD-set-same r (i * 64 + k) (at row k) 0 l ∙ ap (at row) (sym d) ∙ sym (ap₂ (λ x y. cond x (cond y (at row b) (cell t a b)) (cell t a b)) s (lt-ltb b (k + 1) (omega arith)))))
+    (λ n u. getD-set-other r (i * 64 + k) (a * 64 + b) (at row k) 0 (λ q. n (omega arith)) ∙ h a b bl ∙ ap (λ x. cond (eqb a i) (cond x (at row b) (cell t a b)) (cell t a b)) (other n)))
+    (λ n s. getD-set-other r (i * 64 + k) (a * 64 + b) (at row k) 0 (λ q. n (omega arith)) ∙ h a b bl ∙ ap (λ x. cond x (cond (ltb b k) (at row b) (cell t a b)) (cell t a b)) s ∙ sym (ap (λ x. cond x (cond (ltb b (k + 1)) (at row b) (cell t a b)) (cell t a b)) s))
+  where
+    same : a ≡ i → b ≡ k → i * 64 + k ≡ a * 64 + b
+    same e d = omega arith
+
+    other : (b ≡ k → ⊥) → ltb b k ≡ ltb b (k + 1)
+    other n = by-bool (ltb b k)
+        (λ e. e ∙ sym (lt-ltb b (k + 1) (omega (arith, ltb-true b k e))))
+        (λ e. e ∙ sym (le-ltb b (k + 1) (omega (arith, ltb-false b k e))))
+
+pub put-end : (t row : List ℕ) (i k : ℕ) (r : List ℕ) → 64 ≤ k → Putting t row i k r → Put t row i r
+put-end t row i k r l h a b bl = h a b bl ∙ ap (λ x. cond (eqb a i) (cond x (at row b) (cell t a b)) (cell t a b)) (lt-ltb b k (omega arith))
+
+-- rows are made one after the other
+pub rows-next : (t row r : List ℕ) (f : ℕ → ℕ → ℕ) (i : ℕ) → Rows t i f → Made 0 row (f i) 64 → Put t row i r → Rows r (i + 1) f
+rows-next t row r f i h m p a b al bl = by-eq a i
+    (λ e s. p a b bl ∙ ap (λ x. cond x (at row b) (cell t a b)) s ∙ m b bl ∙ ap (λ z. f z b) (sym e))
+    (λ n s. p a b bl ∙ ap (λ x. cond x (at row b) (cell t a b)) s ∙ h a b (omega arith) bl)

@@ -1,0 +1,60 @@
+// Small parts of the search for a rival: the rate of a rank against another, an offer taken or not, an array read through a list of
+// edges, and a table of 64 columns into which a row is put.
+ghost use mathlib.Core.Path.{_≡_};
+ghost use mathlib.Core.Bool.{cond};
+ghost use Prim.Native.Nat.{ℕ, _≤_, _<_, min};
+ghost use Rattle.arrays.specs.ArrayInstance.{at};
+ghost use Rattle.theory_votes.specs.Score.{rate};
+ghost use Rattle.rival_tables.specs.Filled.{Low, Made, Put};
+ghost use Rattle.rival_tables.specs.Cheapest.{offer};
+
+// One more than the vote of rank a against rank b.
+pub fn rated(a: u8, b: u8) -> u8
+    ensures { λ r. ⌜ (r ≡ rate a b) × (r ≤ 2) ⌝ }
+{
+    (a < b) as u8 + (a <= b) as u8
+}
+
+// The lesser of two.
+pub fn lesser(a: u8, b: u8) -> u8
+    ensures { λ r. ⌜ r ≡ min a b ⌝ }
+{
+    if a < b { a } else { b }
+}
+
+// What is held, or a lower price if it may come.
+pub fn offered(t: bool, p: u8, v: u8) -> u8
+    ensures { λ r. ⌜ r ≡ offer t p v ⌝ }
+{
+    let l = lesser(p, v);
+    if t { l } else { v }
+}
+
+// What an array has for the first n edges of a list.
+pub fn gathered(n: usize, es: &[u16; 64], xs: &[u8; 1024]) -> [u8; 64]
+    requires { ⌜ (n ≤ 64) × Low n (now es) 1024 ⌝ }
+    ensures { λ r. ⌜ Made 0 r (λ i. at (now (xs .entry)) (at (now (es .entry)) i)) n ⌝ }
+{
+    let mut o = [0u8; 64];
+    let mut i = 0;
+    while i < n {
+        let e = es[i] as usize;
+        o[i] = xs[e];
+        i += 1;
+    }
+    o
+}
+
+// A table with another row i.
+pub fn put_row(table: [u8; 4096], row: [u8; 64], i: usize) -> [u8; 4096]
+    requires { ⌜ i < 64 ⌝ }
+    ensures { λ r. ⌜ Put table row i r ⌝ }
+{
+    let mut o = table;
+    let mut k = 0;
+    while k < 64 {
+        o[i * 64 + k] = row[k];
+        k += 1;
+    }
+    o
+}

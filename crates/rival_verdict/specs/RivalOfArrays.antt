@@ -1,0 +1,117 @@
+-- What the arrays show of a plan: its verdict and its rival are those of the search (search, Rival), for every instance that the arrays show. And what a
+-- caller has of it who knows the plan as the model's: both are asked of the set of edges alone.
+use Prim.Native.Nat.{ℕ, _≤_}
+use native.Mathlib.Omega.{arith}
+use mathlib.Core.Path.{_≡_, sym, ap, ap₂, _∙_, fun-ext}
+use mathlib.Core.Bool.{Bool, false, not, cond, _&&_, _||_}
+use mathlib.Core.Option.{Option, orElse, Option·elim}
+use mathlib.Core.List.{List}
+use lib.ListN.{length, length-map}
+use lib.Dec.{ltb}
+use Rattle.lists.specs.Sum.{_∈_, range, range-length}
+use Rattle.model.specs.Limits.{planLimit}
+use Rattle.model.specs.Instance.{Instance}
+use Rattle.model.specs.Plans.{Plan, on, plansOf, Verdict, verdictOf}
+use Rattle.model.specs.PlanFile.{edgesIn, planOf}
+use Rattle.theory_instance.specs.Lawful.{Lawful}
+use Rattle.theory_files.specs.Chosen.{planOf-cong}
+use Rattle.theory_verdict.specs.Search.{Hit, rivalBy, search, judge, verdictBy, rivalEdges}
+use Rattle.theory_verdict.specs.Rival.{lid, sizeOf, computedVerdict, rivalOf, computed-verdict}
+use Rattle.arrays.specs.ArrayInstance.{at, flag, shown}
+use Rattle.arrays.specs.Passes.{Shows}
+use Rattle.rival_tables.specs.Filled.{Low, Grid, Rows}
+use Rattle.rival_levels.specs.declared.Found.{Found}
+use Rattle.rival_laws.specs.Walks.{hitOf, searchAt}
+use Rattle.rival_search.specs.SearchView.{Lists, Views, Roomy, freeAt, arcCell, search-shown, arc-shown, tip-shown, room-S, room-T}
+use Rattle.rival_search.specs.TwoThresholds.{Hunted, hunted-hit, hunt-bounded}
+use Rattle.rival_verdict.specs.Judged.{weighed, weighed-hits}
+use Rattle.rival_exchange.specs.Swaps.{Marks, goneBy, comeBy, rivalAt, rival-at, shows-plan}
+
+pub record RivalShown (m : ℕ) (sv st rs rt quotaS quotaT : List ℕ) (plan : List Bool) (v : Verdict) (rival : List Bool) : Type 0 where
+  pub verdict : (ns nt : ℕ) (tied : List Bool) → v ≡ computedVerdict (shown m ns nt sv st rs rt tied quotaS quotaT) plan
+  pub flags : (ns nt : ℕ) (tied : List Bool) (e : ℕ) → flag rival e ≡ on (rivalOf (shown m ns nt sv st rs rt tied quotaS quotaT) plan) e
+
+-- the same for all quotas that leave this room at the nodes
+abbrev pub ShownFor : (m : ℕ) (sv st rs rt : List ℕ) (plan : List Bool) (n : ℕ) (ps pt : List ℕ) (roomS roomT : List Bool) → Verdict → List Bool → Type 0
+ShownFor m sv st rs rt plan n ps pt roomS roomT v rival = (quotaS quotaT : List ℕ) → Roomy n ps quotaS roomS → Roomy n pt quotaT roomT → RivalShown m sv st rs rt quotaS quotaT plan v rival
+
+-- ---- plans with the same edges
+module _ (G : Instance) (M N : Plan) (same : (e : ℕ) → on M e ≡ on N e) where
+  pub verdict-on : computedVerdict G M ≡ computedVerdict G N
+  unfolding computedVerdict
+  verdict-on = ap (λ (p : ℕ → Bool). verdictBy G p lid (length (edgesIn (G .m) p))) (fun-ext same)
+
+  pub rival-on : rivalOf G M ≡ rivalOf G N
+  unfolding rivalOf
+  rival-on = ap (λ (p : ℕ → Bool). planOf (G .m) (rivalEdges G p lid (length (edgesIn (G .m) p)))) (fun-ext same)
+
+-- ---- for a plan of the model that the array shows
+module _ (m ns nt : ℕ) (sv st rs rt : List ℕ) (tied : List Bool) (quotaS quotaT : List ℕ) (plan : List Bool) (v : Verdict) (rival : List Bool)
+    (R : RivalShown m sv st rs rt quotaS quotaT plan v rival) (G : Instance) (is : shown m ns nt sv st rs rt tied quotaS quotaT ≡ G)
+    (M : Plan) (same : (e : ℕ) → flag plan e ≡ on M e) where
+  pub shown-verdict : Lawful G → M ∈ plansOf G → sizeOf G M ≤ planLimit → v ≡ verdictOf G M
+  shown-verdict law ok few = R .verdict ns nt tied ∙ ap (λ G. computedVerdict G plan) is ∙ verdict-on G plan M same ∙ computed-verdict G M law ok few
+
+  pub shown-rival : (e : ℕ) → flag rival e ≡ on (rivalOf G M) e
+  shown-rival e = R .flags ns nt tied e ∙ ap (λ G. on (rivalOf G plan) e) is ∙ ap (λ N. on N e) (rival-on G plan M same)
+
+-- ---- what the code finds shows the verdict and the rival
+module _ (m : ℕ) (sv st rs rt quotaS quotaT : List ℕ) (plan : List Bool) (n : ℕ) (es ps pt qs qt : List ℕ) (roomS roomT : List Bool) (arcs : List ℕ) (below : Bool) (what : Found)
+    (fits : n ≤ 64) (lowS : Low m sv 32) (lowT : Low m st 32) (lists : Lists m plan n es) (views : Views n es sv st rs rt ps pt qs qt) (roomyS : Roomy n ps quotaS roomS) (roomyT : Roomy n pt quotaT roomT)
+    (table : Rows arcs n (arcCell m sv st rs rt plan ps pt qs qt)) (hunt : Hunted m sv st rs rt plan n ps pt qs qt roomS roomT arcs below what) where
+  tips : List ℕ
+  tips = hunt .0
+
+  -- what each search finds by places
+  finds : ℕ → Found
+  finds k = searchAt m (freeAt sv st plan roomS roomT) arcs tips n k
+
+  shows-arcs : Grid arcs n (arcCell m sv st rs rt plan ps pt qs qt)
+  shows-arcs i j il jl = table i j il (omega arith)
+
+  module _ (ns nt : ℕ) (tied : List Bool) where
+    abbrev H : Instance
+    H = shown m ns nt sv st rs rt tied quotaS quotaT
+
+    hit : (k : ℕ) → k ≤ 1 → hitOf H (flag plan) es (finds k) ≡ search H (flag plan) 133 k n
+    unfolding finds tips
+    hit k h = search-shown m ns nt sv st rs rt tied quotaS quotaT plan n es ps pt qs qt roomS roomT lowS lowT lists views roomyS roomyT arcs tips k shows-arcs (hunt .1) (omega arith)
+
+    size : length (edgesIn m (flag plan)) ≡ n
+    size = ap length lists ∙ length-map (range 0 n) (at es) ∙ range-length 0 n
+
+    found-verdict : weighed below what ≡ computedVerdict H plan
+    unfolding computedVerdict verdictBy finds tips
+    found-verdict =
+        ap (λ (h : Bool × Found). weighed (h .0) (h .1)) (hunt .2)
+        ∙ weighed-hits H (flag plan) es (finds 0) (finds 1)
+        ∙ ap₂ judge (hit 0 (omega arith)) (hit 1 (omega arith))
+        ∙ ap (λ k. judge (search H (flag plan) 133 0 k) (search H (flag plan) 133 1 k)) (sym size)
+
+    found-hit : hitOf H (flag plan) es what ≡ orElse (search H (flag plan) 133 0 n) (search H (flag plan) 133 1 n)
+    unfolding finds tips
+    found-hit =
+        ap (λ (h : Bool × Found). hitOf H (flag plan) es (h .1)) (hunt .2)
+        ∙ hunted-hit H (flag plan) es (finds 0) (finds 1)
+        ∙ ap₂ orElse (hit 0 (omega arith)) (hit 1 (omega arith))
+
+    found-rival : (rival : List Bool) → Shows false rival m (rivalAt m sv st rs rt plan roomS roomT es arcs n what) → (e : ℕ) → flag rival e ≡ on (rivalOf H plan) e
+    unfolding rivalOf rivalEdges tips
+    found-rival rival s e =
+        shows-plan m rival (rivalAt m sv st rs rt plan roomS roomT es arcs n what) s e
+        ∙ ap (λ N. on N e) (planOf-cong m (rivalAt m sv st rs rt plan roomS roomT es arcs n what) (Option·elim (hitOf H (flag plan) es what) (flag plan) (rivalBy (flag plan))) (λ d h.
+        rival-at m sv st rs rt plan roomS roomT es arcs n ns nt tied quotaS quotaT lists tips
+        (λ i j il jl. shows-arcs i j il jl ∙ arc-shown m ns nt sv st rs rt tied quotaS quotaT plan n es ps pt qs qt roomS roomT lowS lowT lists views roomyS roomyT i j il jl)
+        (λ i j il jl. hunt .1 i j il jl ∙ tip-shown m ns nt sv st rs rt tied quotaS quotaT plan n es ps pt qs qt roomS roomT lowS lowT lists views roomyS roomyT i j il jl)
+        (room-S m ns nt sv st rs rt tied quotaS quotaT plan n es ps pt qs qt roomS roomT lowS lowT lists views roomyS roomyT)
+        (room-T m ns nt sv st rs rt tied quotaS quotaT plan n es ps pt qs qt roomS roomT lowS lowT lists views roomyS roomyT)
+        what (hunt-bounded m sv st rs rt plan n ps pt qs qt roomS roomT arcs below what hunt) d))
+        ∙ ap (λ (o : Option Hit). on (planOf m (Option·elim o (flag plan) (rivalBy (flag plan)))) e) found-hit
+        ∙ ap (λ k. on (planOf m (Option·elim (orElse (search H (flag plan) 133 0 k) (search H (flag plan) 133 1 k)) (flag plan) (rivalBy (flag plan)))) e) (sym size)
+
+  pub found-shown : (v : Verdict) (gone come rival : List Bool) → v ≡ weighed below what → Marks gone (goneBy m sv st rs rt plan roomS roomT es arcs n what) → Marks come (comeBy m sv st rs rt plan roomS roomT es arcs n what)
+      → Shows false rival m (λ e. (flag plan e && not (flag gone e)) || flag come e) → RivalShown m sv st rs rt quotaS quotaT plan v rival
+  found-shown v gone come rival e g c s = record {
+    verdict = λ ns nt tied. e ∙ found-verdict ns nt tied;
+    flags = λ ns nt tied. found-rival ns nt tied rival (λ d. s d ∙ ap₂ (λ (x y : Bool). cond (ltb d m) ((flag plan d && not x) || y) false) (g d) (c d));
+  }

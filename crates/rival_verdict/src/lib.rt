@@ -1,0 +1,114 @@
+// The verdict on a plan within the quotas with its rival: strong, popular or beaten by what the search found, and the plan without the
+// edges that go and with those that come.
+ghost use mathlib.Core.Path.{_≡_};
+ghost use mathlib.Core.Bool.{false, not, _&&_, _||_};
+ghost use Prim.Native.Nat.{_≤_};
+ghost use Rattle.arrays.specs.ArrayInstance.{flag};
+ghost use Rattle.arrays.specs.Passes.{Shows};
+ghost use Rattle.rival_tables.specs.Filled.{Low};
+ghost use Rattle.rival_search.specs.SearchView.{Lists, Views};
+ghost use Rattle.rival_verdict.specs.RivalOfArrays.{RivalShown, ShownFor};
+ghost use Rattle.rival_verdict.specs.Judged.{verdictFor, weighed};
+
+pub enum Judgement {
+    Strong,
+    Popular,
+    Beaten,
+}
+
+// By whether something was found below 0, or else below 1.
+pub fn weigh(below: bool, found: rival_levels::Found) -> Judgement
+    ensures { λ r. ⌜ verdictFor r ≡ weighed below found ⌝ }
+{
+    if below {
+        return Judgement::Beaten;
+    }
+    match found {
+        rival_levels::Found::Nothing => Judgement::Strong,
+        _ => Judgement::Popular,
+    }
+}
+// The plan without the edges that go and with those that come.
+pub fn exchanged(
+    m: usize,
+    plan: &[bool; 1024],
+    gone: &[bool; 1024],
+    come: &[bool; 1024],
+) -> [bool; 1024]
+    requires { ⌜ m ≤ 1024 ⌝ }
+    ensures { λ r. ⌜ Shows false r m (λ e. (flag (now (plan .entry)) e && not (flag (now (gone .entry)) e)) || flag (now (come .entry)) e) ⌝ }
+{
+    let mut o = [false; 1024];
+    let mut e = 0;
+    while e < m {
+        o[e] = (plan[e] & !gone[e]) | come[e];
+        e += 1;
+    }
+    o
+}
+
+// The verdict and the rival; the rival is the plan itself if it is strong.
+pub struct Judged {
+    pub judgement: Judgement,
+    pub rival: [bool; 1024],
+}
+
+// From the ends and ranks of the plan's edges and the room at the nodes.
+pub fn judged_on(
+    m: usize,
+    sv: &[u8; 1024],
+    st: &[u8; 1024],
+    rs: &[u8; 1024],
+    rt: &[u8; 1024],
+    plan: &[bool; 1024],
+    n: usize,
+    es: &[u16; 64],
+    ps: &[u8; 64],
+    pt: &[u8; 64],
+    qs: &[u8; 64],
+    qt: &[u8; 64],
+    fs: &[bool; 32],
+    ft: &[bool; 32],
+) -> Judged
+    requires { ⌜ (m ≤ 1024) × (n ≤ 64) × Low m (now sv) 32 × Low m (now st) 32 × Lists m (now plan) n (now es) × Views n (now es) (now sv) (now st) (now rs) (now rt) (now ps) (now pt) (now qs) (now qt) ⌝ }
+    ensures { λ r. ⌜ ShownFor m (now (sv .entry)) (now (st .entry)) (now (rs .entry)) (now (rt .entry)) (now (plan .entry)) n (now (ps .entry)) (now (pt .entry)) (now (fs .entry)) (now (ft .entry)) (verdictFor (r .judgement)) (r .rival) ⌝ }
+{
+    let arcs = rival_arcs::arcs(m, sv, st, rs, rt, plan, n, ps, pt, qs, qt);
+    let h = rival_search::hunted(m, sv, st, rs, rt, plan, n, ps, pt, qs, qt, fs, ft, &arcs);
+    let below = h.below;
+    let found = h.found;
+    let judgement = weigh(below, found);
+    let s = rival_exchange::swap(m, sv, st, rs, rt, plan, n, es, fs, ft, &arcs, found);
+    let gone = s.gone;
+    let come = s.come;
+    let rival = exchanged(m, plan, &gone, &come);
+    Judged {
+        judgement: judgement,
+        rival: rival,
+    }
+}
+
+// From the plan's list and the quotas.
+pub fn judge(
+    m: usize,
+    sv: &[u8; 1024],
+    st: &[u8; 1024],
+    rs: &[u8; 1024],
+    rt: &[u8; 1024],
+    bs: &[u8; 32],
+    bt: &[u8; 32],
+    plan: &[bool; 1024],
+    n: usize,
+    es: &[u16; 64],
+) -> Judged
+    requires { ⌜ (m ≤ 1024) × (n ≤ 64) × Low m (now sv) 32 × Low m (now st) 32 × Lists m (now plan) n (now es) ⌝ }
+    ensures { λ r. ⌜ RivalShown m (now (sv .entry)) (now (st .entry)) (now (rs .entry)) (now (rt .entry)) (now (bs .entry)) (now (bt .entry)) (now (plan .entry)) (verdictFor (r .judgement)) (r .rival) ⌝ }
+{
+    let ps = rival_tables::gathered(n, es, sv);
+    let pt = rival_tables::gathered(n, es, st);
+    let qs = rival_tables::gathered(n, es, rs);
+    let qt = rival_tables::gathered(n, es, rt);
+    let fs = rival_capacity::rooms(n, &ps, bs);
+    let ft = rival_capacity::rooms(n, &pt, bt);
+    judged_on(m, sv, st, rs, rt, plan, n, es, &ps, &pt, &qs, &qt, &fs, &ft)
+}

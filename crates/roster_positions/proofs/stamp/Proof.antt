@@ -1,0 +1,94 @@
+-- `positions::stamp` meets its contract: what is behind k is written. Assumes nothing.
+use lib.ListN.{getD, set}
+use Rattle.roster_positions.specs.Tables.{column}
+use mathlib.Core.Path.{_≡_, sym, ap, _∙_}
+use Prim.Native.Nat.{_+_, _-_, _≤_}
+use native.Mathlib.Omega.{arith}
+use lib.ListN.{length, drop}
+use Rattle.roster_positions.specs.Tables.{stamped}
+use Rattle.roster_positions.proofs.Stamping.{stamped-none, stamped-turn}
+use borrow.Author.Needs.{needs}
+use Rattle.roster_positions.proofs.stamp.Statement.{statement}
+use Rattle.roster_positions.proofs.stamp.Tie as tie
+use Rattle.roster_positions.proofs.stamp.Reads as reads
+use Rattle.roster_positions.proofs.stamp.Lts as lts
+
+abbrev Inv-loop : tie.InvT-loop
+Inv-loop list row table₀ k₀ table k = (k ≤ length list) × (table ≡ stamped row (drop k list) (k + 1) table₀)
+
+abbrev μ-loop : tie.MeasureT-loop
+μ-loop list row table₀ k₀ table k = k
+
+-- src/lib.rt:38:5
+loop-holds : tie.Need-loop-holds Inv-loop μ-loop
+loop-holds c = (omega arith, sym (stamped-none (c .args .row) (c .args .list .now) _ (c .args .table .now)))
+
+-- src/lib.rt:39:22
+sub-x : tie.Need-sub-x Inv-loop μ-loop
+sub-x c = search needs
+
+-- src/lib.rt:39:17
+shared-slice-read-x : tie.Need-shared-slice-read-x Inv-loop μ-loop
+shared-slice-read-x c = search needs
+
+-- src/lib.rt:39:17
+cast-x : tie.Need-cast-x Inv-loop μ-loop
+cast-x c = omega (arith, c .shared-slice-known .given (c .before .before .loop .k - 1))
+
+-- src/lib.rt:40:38
+cast-table : tie.Need-cast-table Inv-loop μ-loop
+cast-table c = search needs
+
+-- src/lib.rt:40:22
+add-table : tie.Need-add-table Inv-loop μ-loop
+add-table c = omega (arith, c .shared-slice-known .given (c .before .before .loop .k - 1))
+
+-- src/lib.rt:40:15
+add-table-2 : tie.Need-add-table-2 Inv-loop μ-loop
+add-table-2 c = search needs
+
+-- src/lib.rt:40:9
+element-write-table : tie.Need-element-write-table Inv-loop μ-loop
+element-write-table c = search needs
+
+-- src/lib.rt:41:9
+sub-k : tie.Need-sub-k Inv-loop μ-loop
+sub-k c = search needs
+
+-- src/lib.rt:38:5
+loop-less : tie.Need-loop-less Inv-loop μ-loop
+loop-less c = search needs
+
+-- src/lib.rt:38:5
+loop-again : tie.Need-loop-again Inv-loop μ-loop
+loop-again c =
+    let l = c .before .before in
+    let a = l .before .args in
+    (omega arith, ap (λ t. set t (a .row + column (getD (a .list .now) (l .loop .k - 1) 0)) (l .loop .k)) (l .loop .inv .1) ∙ stamped-turn (a .row) (a .list .now) (l .loop .k) (a .table .now) (c .before .loop-test .taken) (l .loop .inv .0))
+
+-- src/lib.rt:33:1
+returns : tie.Need-returns Inv-loop μ-loop
+returns c =
+    let l = c .before in
+    let a = l .before .args in
+    let e : l .loop .k ≡ 0 = omega arith in
+    l .loop .inv .1 ∙ ap (λ k. stamped (a .row) (drop k (a .list .now)) (k + 1) (a .table .now)) e
+
+pub stamp-spec : {M : Type 1} → statement M
+stamp-spec =
+    tie.close
+    (tie.spec
+    Inv-loop
+    μ-loop
+    loop-holds
+    sub-x
+    shared-slice-read-x
+    cast-x
+    cast-table
+    add-table
+    add-table-2
+    element-write-table
+    sub-k
+    loop-less
+    loop-again
+    returns)

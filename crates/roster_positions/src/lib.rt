@@ -1,0 +1,87 @@
+// Where each entry stands in its list: tables of positions, one row of 32 numbers for each list of a roster file. Lists are read as
+// parts of the file. Nothing here checks a roster: on bytes that are none, the tables hold what these functions say and no more.
+ghost use mathlib.Core.Path.{_≡_};
+ghost use Prim.Native.Nat.{_+_, _*_, _≤_};
+ghost use lib.ListN.{length, take, drop, getD};
+ghost use Rattle.roster_positions.specs.Tables.{stamped, listsStamped, listsEnd, strictStamped, nextRanks};
+
+// the byte at a place of the file, 0 behind its end
+pub fn byte_at(file: &[u8], at: usize) -> u8
+    ensures { λ r. ⌜ r ≡ getD (now (file .entry)) at 0 ⌝ }
+{
+    if at < file.len() {
+        return file[at];
+    }
+    0
+}
+
+// the n bytes from a place on, or as many as there are
+pub fn part(file: &[u8], at: usize, n: usize) -> &[u8]
+    ensures { λ r. ⌜ now r ≡ take n (drop at (now (file .entry))) ⌝ }
+{
+    if file.len() <= at {
+        return &file[..0];
+    }
+    if file.len() - at <= n {
+        return &file[at..];
+    }
+    let e = at + n;
+    &file[at..e]
+}
+
+// the positions from 1 of a list's entries, each written at its number in a row of the table; from the last entry to the first
+pub fn stamp(list: &[u8], row: usize, table: &mut [u8; 1024])
+    requires { ⌜ (length (now list) ≤ 255) × (row ≤ 992) ⌝ }
+    ensures { λ _. ⌜ now (table .exit) ≡ stamped row (now (list .entry)) 1 (now (table .entry)) ⌝ }
+{
+    let mut k = list.len();
+    while 0 < k {
+        let x = list[k - 1] as usize;
+        table[row + (x + 31) % 32] = k as u8;
+        k -= 1;
+    }
+}
+
+// n surveyors' lists from a place on, a length byte before each; gives the place behind them
+pub fn stamp_lists(file: &[u8], start: usize, n: usize, table: &mut [u8; 1024]) -> usize
+    requires { ⌜ (start ≤ 1000) × (n ≤ 32) ⌝ }
+    ensures { λ r. ⌜ (r ≡ listsEnd (now (file .entry)) n start) × (r ≤ 9192) ⌝ }
+    ensures { λ r. ⌜ now (table .exit) ≡ listsStamped (now (file .entry)) n 0 start (now (table .entry)) ⌝ }
+{
+    let mut at = start;
+    let mut i = 0;
+    while i < n {
+        let k = byte_at(file, at) as usize;
+        let list = part(file, at + 1, k);
+        stamp(list, i * 32, &mut *table);
+        at += k + 1;
+        i += 1;
+    }
+    at
+}
+
+// n stands' lists from a place on, the strict length and the tie length before each: positions in the strict part, and for each
+// stand the rank behind it, which all tied entries share
+pub fn stamp_rankings(
+    file: &[u8],
+    start: usize,
+    n: usize,
+    table: &mut [u8; 1024],
+    next: &mut [u8; 32],
+)
+    requires { ⌜ (start ≤ 10000) × (n ≤ 32) ⌝ }
+    ensures { λ _. ⌜ now (table .exit) ≡ strictStamped (now (file .entry)) n 0 start (now (table .entry)) ⌝ }
+    ensures { λ _. ⌜ now (next .exit) ≡ nextRanks (now (file .entry)) n 0 start (now (next .entry)) ⌝ }
+{
+    let mut at = start;
+    let mut j = 0;
+    while j < n {
+        let a = byte_at(file, at) as usize;
+        let b = byte_at(file, at + 1) as usize;
+        let list = part(file, at + 2, a);
+        stamp(list, j * 32, &mut *table);
+        next[j] = ((a + 1) % 256) as u8;
+        at += a + b + 2;
+        j += 1;
+    }
+}

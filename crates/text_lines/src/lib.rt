@@ -1,0 +1,72 @@
+// The lines of the program's text: a step record in a diary line, a pair in a pair line, and runs of both.
+ghost use mathlib.Core.List.{[], _∷_, _++_};
+ghost use Prim.Native.Nat.{_+_, _*_, _≤_};
+ghost use lib.ListN.{length};
+ghost use Rattle.model.specs.Printed.{fateWord, diaryLine};
+ghost use Rattle.text_numbers.specs.Appended.{Appended};
+ghost use Rattle.text_lines.specs.Texts.{texts};
+ghost use Rattle.text_lines.specs.Lines.{fateSize, diaryLineSize, pairLineSize, pairText, diaryAt, pairAt};
+
+// the word of a fate and a space
+fn put_fate(out: &mut [u8], at: usize, fate: u8) -> usize
+    requires { ⌜ at + fateSize ≤ length (now out) ⌝ }
+    ensures { λ r. ⌜ Appended (now (out .entry)) at (fateWord fate ++ 32 ∷ []) (now (out .exit)) r ⌝ }
+{
+    if fate == 0 {
+        return text_numbers::put_byte(out, at, b' ');
+    }
+    if fate == 1 {
+        return text_numbers::put_word(out, at, b"fix ");
+    }
+    text_numbers::put_word(out, at, b"strike ")
+}
+
+// "Diary lines are fate, surveyor, stand, rule"
+fn put_record(out: &mut [u8], at: usize, fate: u8, surveyor: u8, stand: u8, rule: u8) -> usize
+    requires { ⌜ at + diaryLineSize ≤ length (now out) ⌝ }
+    ensures { λ r. ⌜ Appended (now (out .entry)) at (diaryLine (record { fate = fate; surveyor = surveyor; stand = stand; rule = rule })) (now (out .exit)) r ⌝ }
+{
+    let next = put_fate(out, at, fate);
+    let next = text_numbers::put_field(out, next, surveyor as usize, b' ');
+    let next = text_numbers::put_field(out, next, stand as usize, b' ');
+    text_numbers::put_field(out, next, rule as usize, b'\n')
+}
+
+// the lines of a flat diary's first records
+pub fn put_diary(out: &mut [u8], at: usize, flat: &[u8], n: usize) -> usize
+    requires { ⌜ (4 * n ≤ length (now flat)) × (at + diaryLineSize * n ≤ length (now out)) ⌝ }
+    ensures { λ r. ⌜ Appended (now (out .entry)) at (texts (diaryAt (now (flat .entry))) n) (now (out .exit)) r ⌝ }
+{
+    let mut next = at;
+    let mut i: usize = 0;
+    while i < n {
+        let b = 4 * i;
+        next = put_record(out, next, flat[b], flat[b + 1], flat[b + 2], flat[b + 3]);
+        i += 1;
+    }
+    next
+}
+
+// "Pair lines are surveyor, stand"
+fn put_pair(out: &mut [u8], at: usize, surveyor: u8, stand: u8) -> usize
+    requires { ⌜ at + pairLineSize ≤ length (now out) ⌝ }
+    ensures { λ r. ⌜ Appended (now (out .entry)) at (pairText surveyor stand) (now (out .exit)) r ⌝ }
+{
+    let next = text_numbers::put_field(out, at, surveyor as usize, b' ');
+    text_numbers::put_field(out, next, stand as usize, b'\n')
+}
+
+// the lines of the first pairs of some pair bytes
+pub fn put_pairs(out: &mut [u8], at: usize, pairs: &[u8], n: usize) -> usize
+    requires { ⌜ (2 * n ≤ length (now pairs)) × (at + pairLineSize * n ≤ length (now out)) ⌝ }
+    ensures { λ r. ⌜ Appended (now (out .entry)) at (texts (pairAt (now (pairs .entry))) n) (now (out .exit)) r ⌝ }
+{
+    let mut next = at;
+    let mut i: usize = 0;
+    while i < n {
+        let b = 2 * i;
+        next = put_pair(out, next, pairs[b], pairs[b + 1]);
+        i += 1;
+    }
+    next
+}

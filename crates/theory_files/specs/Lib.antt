@@ -1,0 +1,13 @@
+pub mod Position
+pub mod Ascending
+pub mod Chosen
+pub mod PlanFiles
+pub mod RosterInstance
+pub mod Cells
+pub mod Offsets
+pub mod PlanPairs
+pub mod Reads
+pub mod Entries
+pub mod Sections
+pub mod Rosters
+pub mod Reach

@@ -1,0 +1,4 @@
+pub mod Choices
+pub mod FoundPlan
+pub mod Demand3
+pub mod Desks

@@ -1,0 +1,6 @@
+pub mod Lawful
+pub mod Degree
+pub mod Within
+pub mod Walk
+pub mod Append
+pub mod FirstBlocking

@@ -1,0 +1,13 @@
+pub mod Arrows
+pub mod Facts
+pub mod Chosen
+pub mod Quotas
+pub mod Course
+pub mod Reach
+pub mod PlanAgainstArrows
+pub mod AlternatingPath
+pub mod Chains
+pub mod Steps
+pub mod End
+pub mod Run
+pub mod StableStrike

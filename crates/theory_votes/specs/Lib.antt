@@ -1,0 +1,17 @@
+pub mod Two
+pub mod Rate
+pub mod Sorted
+pub mod Rotation
+pub mod Least
+pub mod NodeByRotation
+pub mod Score
+pub mod Places
+pub mod Fair
+pub mod Attained
+pub mod Signed
+pub mod Bounds
+pub mod PlanVotes
+pub mod Exchange
+pub mod Node
+pub mod Couples
+pub mod Converse

@@ -1,0 +1,60 @@
+-- The arrays of an accepted roster, and plans within its quotas, are what the vote asks for; and the pass that lists a plan's edges.
+use Prim.Native.Nat.{ℕ, _+_, _≤_, _<_}
+use native.Mathlib.Omega.{arith}
+use native.Mathlib.Numerals.{add-one}
+use mathlib.Core.Path.{_≡_, ap, _∙_, subst}
+use mathlib.Core.Bool.{Bool, true, false, cond}
+use mathlib.Core.List.{List, [], _∷_, _++_}
+use lib.ListN.{length, length-append}
+use Rattle.lists.specs.Sum.{range}
+use Rattle.lists.specs.Keep.{keep}
+use Rattle.lists.specs.Ranges.{keep-last}
+use Rattle.model.specs.Limits.{planLimit}
+use Rattle.model.specs.Plans.{on}
+use Rattle.model.specs.PlanFile.{edgesIn, planOf}
+use Rattle.theory_instance.specs.Lawful.{Matching}
+use Rattle.theory_files.specs.Chosen.{on-planOf, edgesIn-cong}
+use Rattle.theory_files.specs.PlanFiles.{plan-few}
+use Rattle.theory_verdict.specs.Plans.{matching-plan}
+use Rattle.arrays.specs.ArrayInstance.{at, flag}
+use Rattle.arrays.specs.Kept.{Kept, keep-few}
+use Rattle.instance.specs.declared.Instance.{Instance}
+use Rattle.instance.specs.Decoded.{shownBy}
+use Rattle.instance.specs.Loaded.{Loaded}
+use Rattle.vote_plans.specs.Plan.{Arrays, Light, Listed, within-light}
+
+module _ (g : Instance) (L : Loaded g) where
+  pub side-arrays : Arrays (g .m) (g .ns) (g .sv) (g .«rank_s») × Arrays (g .m) (g .nt) (g .st) (g .«rank_t»)
+  side-arrays = (
+    record { edges = L .edges; nodes = L .surveyors; ends = λ e h. L .low-sv e; ranks = λ e h. (L .ranks e h .0, L .lawful .atS .placed e h) },
+    record { edges = L .edges; nodes = L .stands; ends = λ e h. L .low-st e; ranks = λ e h. (L .ranks e h .1, L .lawful .atT .placed e h) },
+  )
+
+  module _ (p : List Bool) (M : Matching (shownBy g) (flag p)) where
+    pub light : Light (g .m) (g .sv) p × Light (g .m) (g .st) p
+    light = (
+      within-light (g .m) (g .ns) (g .sv) (g .«rank_s») (λ e. false) (at (g .«quota_s»)) p (λ v. L .quotas v .0) (M .atS),
+      within-light (g .m) (g .nt) (g .st) (g .«rank_t») (flag (g .tied)) (at (g .«quota_t»)) p (λ v. L .quotas v .1) (M .atT),
+    )
+
+    -- at most 64 edges
+    pub few-edges : length (edgesIn (g .m) (flag p)) ≤ planLimit
+    few-edges = subst (λ es. length es ≤ planLimit) (edgesIn-cong (g .m) (on (planOf (g .m) (flag p))) (flag p) (on-planOf (g .m) (flag p)))
+        (plan-few (shownBy g) (L .fileable) (planOf (g .m) (flag p)) (matching-plan (shownBy g) M))
+
+-- ---- the edges of a plan listed
+module _ (p : List Bool) (front : List ℕ) (n e m : ℕ) (K : Kept (flag p) front n e) where
+  -- one more is chosen below m, so there is room for it
+  pub room-left : flag p e ≡ true → e < m → length (edgesIn m (flag p)) ≤ 64 → n + 1 ≤ 64
+  room-left t h few = omega (
+    arith,
+    keep-few (flag p) (e + 1) m (omega arith),
+    ap (λ k. length (keep (flag p) (range 0 k))) (add-one e) ∙ ap length (keep-last (flag p) e ∙ ap (λ b. keep (flag p) (range 0 e) ++ cond b (e ∷ []) []) t),
+    length-append (keep (flag p) (range 0 e)) (e ∷ []),
+    K .0,
+  )
+
+  pub all-listed : e ≡ m → length front ≡ 64 → length (edgesIn m (flag p)) ≤ 64 → Listed m p n front
+  all-listed q l few =
+      let c : n ≡ length (edgesIn m (flag p)) = K .0 ∙ ap (λ k. length (keep (flag p) (range 0 k))) q in
+      record { few = omega arith; there = omega arith; are = K .1 ∙ ap (λ k. keep (flag p) (range 0 k)) q }
