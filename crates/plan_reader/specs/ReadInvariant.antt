@@ -110,7 +110,7 @@ module _ (m : ℕ) (sv st qs qt file : List ℕ) where
       record { answer = A .answer ∙ ap (answerOf m) s; chosen = λ M q. A .chosen M (s ∙ q); edges = λ M q. A .edges M (s ∙ q) }
 
   -- k of n pairs are read: es are their edges, from is the lowest that may come next; us, ut count them at each node
-  pub record Going (n k from : ℕ) (chosen : List Bool) (edges us ut : List ℕ) : Type 0 where
+  pub record Invariant (n k from : ℕ) (chosen : List Bool) (edges us ut : List ℕ) : Type 0 where
     pub ps : List (ℕ × ℕ)
     pub es : List ℕ
     pub named : map (edgeOfPair G) ps ≡ es
@@ -130,13 +130,13 @@ module _ (m : ℕ) (sv st qs qt file : List ℕ) where
   at-few K v [] = omega arith
   at-few K v (e ∷ es) = omega (arith, bit-one (eqb (K .end e) v), at-few K v es)
 
-  pub used-few : (n k from : ℕ) (chosen : List Bool) (edges us ut : List ℕ) → Going n k from chosen edges us ut → (v : ℕ) → (at us v ≤ k) × (at ut v ≤ k)
+  pub used-few : (n k from : ℕ) (chosen : List Bool) (edges us ut : List ℕ) → Invariant n k from chosen edges us ut → (v : ℕ) → (at us v ≤ k) × (at ut v ≤ k)
   used-few n k from chosen edges us ut now v =
       let l = ap length (sym (now .named)) ∙ length-map (now .ps) (edgeOfPair G) ∙ now .count in
       (omega (arith, l, now .used-s v, at-few (surveyors G) v (now .es)), omega (arith, l, now .used-t v, at-few (stands G) v (now .es)))
 
-  pub going-first : (n : ℕ) → 0 < length file → getD file 0 0 ≡ n → n ≤ planLimit → Going n 0 0 (replicate 1024 false) (replicate 64 0) (replicate 32 0) (replicate 32 0)
-  going-first n l h k = record {
+  pub invariant-first : (n : ℕ) → 0 < length file → getD file 0 0 ≡ n → n ≤ planLimit → Invariant n 0 0 (replicate 1024 false) (replicate 64 0) (replicate 32 0) (replicate 32 0)
+  invariant-first n l h k = record {
     ps = [];
     es = [];
     named = refl;
@@ -156,7 +156,7 @@ module _ (m : ℕ) (sv st qs qt file : List ℕ) where
       all n = omega arith
 
   -- ---- the next pair
-  module _ (n k from : ℕ) (chosen : List Bool) (edges us ut : List ℕ) (now : Going n k from chosen edges us ut) (more : k < n) where
+  module _ (n k from : ℕ) (chosen : List Bool) (edges us ut : List ℕ) (now : Invariant n k from chosen edges us ut) (more : k < n) where
     abbrev s : Pairs
     s = record { seen = now .es; from = from }
 
@@ -164,8 +164,8 @@ module _ (m : ℕ) (sv st qs qt file : List ℕ) where
     left = omega arith
 
     -- the file ends inside it
-    pub going-cut : length file < 2 * k + 1 + 2 → readPlan G file ≡ turned 1
-    going-cut h = now .reading ∙ ap (λ z. whole (pairsLeft G z s (drop (2 * k + 1) file) (now .ps))) left
+    pub invariant-cut : length file < 2 * k + 1 + 2 → readPlan G file ≡ turned 1
+    invariant-cut h = now .reading ∙ ap (λ z. whole (pairsLeft G z s (drop (2 * k + 1) file) (now .ps))) left
         ∙ ap whole (short (drop (2 * k + 1) file) (omega (arith, length-drop (2 * k + 1) file)))
       where
         short : (bs : List ℕ) → length bs < 2 → pairsLeft G (suc (n - (k + 1))) s bs (now .ps) ≡ refused 1
@@ -199,15 +199,15 @@ module _ (m : ℕ) (sv st qs qt file : List ℕ) where
           ∙ ap whole (left-pair G (n - (k + 1)) s (p .0) (p .1) (drop (2 * (k + 1) + 1) file) (now .ps))
           ∙ ap (λ z. whole (refuseBy z (pairsLeft G (n - (k + 1)) (withPair G s p) (drop (2 * (k + 1) + 1) file) (now .ps ++ p ∷ [])))) (sym checked)
 
-      pub going-refused : 0 < c → readPlan G file ≡ turned c
-      going-refused h = next ∙ turned-by c (pairsLeft G (n - (k + 1)) (withPair G s p) (drop (2 * (k + 1) + 1) file) (now .ps ++ p ∷ [])) h
+      pub invariant-refused : 0 < c → readPlan G file ≡ turned c
+      invariant-refused h = next ∙ turned-by c (pairsLeft G (n - (k + 1)) (withPair G s p) (drop (2 * (k + 1) + 1) file) (now .ps ++ p ∷ [])) h
 
-      pub going-passed : c ≡ 0 → (e < m) × (from ≤ e) × (at us (at sv e) < at qs (at sv e)) × (at ut (at st e) < at qt (at st e))
-      going-passed z = given (passed m e from (leb (at qs (at sv e)) (at us (at sv e))) (leb (at qt (at st e)) (at ut (at st e))) (sym check ∙ z)) (λ (a, b, x, y).
+      pub invariant-passed : c ≡ 0 → (e < m) × (from ≤ e) × (at us (at sv e) < at qs (at sv e)) × (at ut (at st e) < at qt (at st e))
+      invariant-passed z = given (passed m e from (leb (at qs (at sv e)) (at us (at sv e))) (leb (at qt (at st e)) (at ut (at st e))) (sym check ∙ z)) (λ (a, b, x, y).
           (a, b, nleb→lt (at qs (at sv e)) (at us (at sv e)) x, nleb→lt (at qt (at st e)) (at ut (at st e)) y))
 
-      pub going-on : c ≡ 0 → k < 64 → m ≤ 1024 → Going n (k + 1) (e + 1) (set chosen e true) (set edges k e) (set us (at sv e) (at us (at sv e) + 1)) (set ut (at st e) (at ut (at st e) + 1))
-      going-on z k64 m1024 = given (going-passed z) (λ (a, b, x, y). record {
+      pub invariant-on : c ≡ 0 → k < 64 → m ≤ 1024 → Invariant n (k + 1) (e + 1) (set chosen e true) (set edges k e) (set us (at sv e) (at us (at sv e) + 1)) (set ut (at st e) (at ut (at st e) + 1))
+      invariant-on z k64 m1024 = given (invariant-passed z) (λ (a, b, x, y). record {
         ps = now .ps ++ p ∷ [];
         es = now .es ++ e ∷ [];
         named = map-append (edgeOfPair G) (now .ps) (p ∷ []) ∙ ap₂ (λ u v. u ++ v ∷ []) (now .named) (sym is);
@@ -228,7 +228,7 @@ module _ (m : ℕ) (sv st qs qt file : List ℕ) where
           same-state = ap (λ d. record { seen = now .es ++ d ∷ []; from = suc d }) (sym is) ∙ ap (λ i. record { seen = now .es ++ e ∷ []; from = i }) (sym (add-one e))
 
   -- ---- the end
-  module _ (n k from : ℕ) (chosen : List Bool) (edges us ut : List ℕ) (now : Going n k from chosen edges us ut) (end : k ≡ n) where
+  module _ (n k from : ℕ) (chosen : List Bool) (edges us ut : List ℕ) (now : Invariant n k from chosen edges us ut) (end : k ≡ n) where
     ended : readPlan G file ≡ whole (got (planOfPairs G (now .ps)) (drop (2 * n + 1) file))
     ended = now .reading ∙ ap (λ i. whole (pairsLeft G i (record { seen = now .es; from = from }) (drop (2 * k + 1) file) (now .ps))) none
         ∙ ap whole (left-none G (record { seen = now .es; from = from }) (drop (2 * k + 1) file) (now .ps)) ∙ ap (λ i. whole (got (planOfPairs G (now .ps)) (drop (2 * i + 1) file))) end
@@ -236,8 +236,8 @@ module _ (m : ℕ) (sv st qs qt file : List ℕ) where
         none : n - k ≡ 0
         none = omega arith
 
-    pub going-long : 2 * n + 1 < length file → readPlan G file ≡ turned 9
-    going-long h = ended ∙ ap (λ z. whole (got (planOfPairs G (now .ps)) z)) (drop-cons file (2 * n + 1) 0 h)
+    pub invariant-long : 2 * n + 1 < length file → readPlan G file ≡ turned 9
+    invariant-long h = ended ∙ ap (λ z. whole (got (planOfPairs G (now .ps)) z)) (drop-cons file (2 * n + 1) 0 h)
 
     abbrev M : Plan
     M = planOfPairs G (now .ps)
@@ -254,8 +254,8 @@ module _ (m : ℕ) (sv st qs qt file : List ℕ) where
     M-count : length (edgesIn m (on M)) ≡ n
     M-count = ap length (M-edges ∙ sym (now .named)) ∙ length-map (now .ps) (edgeOfPair G) ∙ now .count ∙ end
 
-    pub going-accepted : length file ≤ 2 * n + 1 → ReadAs G file (record { answer = Accepted n; chosen = chosen; edges = edges })
-    going-accepted h =
+    pub invariant-accepted : length file ≤ 2 * n + 1 → ReadAs G file (record { answer = Accepted n; chosen = chosen; edges = edges })
+    invariant-accepted h =
         given (ended ∙ ap (λ z. whole (got (planOfPairs G (now .ps)) z)) (drop-of-length-le file h)) (λ (q : readPlan G file ≡ accepted M). record {
           answer = ap Accepted (sym M-count) ∙ sym (ap (answerOf m) q);
           chosen = λ N a e. now .flags e ∙ sym (M-at e) ∙ ap (λ z. on z e) (accepted-value (sym q ∙ a));

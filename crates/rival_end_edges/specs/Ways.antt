@@ -13,7 +13,7 @@ use Rattle.lists.specs.Ranges.{keep-append}
 use Rattle.lists.specs.First.{best}
 use Rattle.model.specs.Instance.{Instance, surveyors, stands}
 use Rattle.theory_verdict.specs.Ends.{Way, lose, gain, fresh}
-use Rattle.theory_verdict.specs.Search.{endPrice, apart?, room?, joins?, tip}
+use Rattle.theory_verdict.specs.Search.{endPrice, apart?, room?, joins?, terminal}
 use Rattle.arrays.specs.ArrayInstance.{at, flag, shown}
 use Rattle.rival_tables.specs.Best.{best-turn, best-end, best-start, best-append, best-keep-map}
 use Rattle.rival_gains.specs.Gains.{gainable}
@@ -128,15 +128,15 @@ module _ (m : ℕ) (sv st rs rt : List ℕ) (x y : ℕ) where
       abbrev pub starts : ℕ → Bool
       starts = gainable sv st plan roomT (at sv x)
 
-      unfoldable pub tipBy : ℕ × (Way × Way)
-      tipBy = best bid (6, (lose, lose)) (keep apart (product (lose ∷ gainings starts) (lose ∷ gainings stops)))
+      unfoldable pub terminalBy : ℕ × (Way × Way)
+      terminalBy = best bid (6, (lose, lose)) (keep apart (product (lose ∷ gainings starts) (lose ∷ gainings stops)))
 
-      pub tip-by : (ns nt : ℕ) (tied : List Bool) (quotaS quotaT : List ℕ)
+      pub terminal-by : (ns nt : ℕ) (tied : List Bool) (quotaS quotaT : List ℕ)
           → ((f : ℕ) → f < m → flag roomS (at sv f) ≡ room? (flag plan) (surveyors (shown m ns nt sv st rs rt tied quotaS quotaT)) f)
           → ((f : ℕ) → f < m → flag roomT (at st f) ≡ room? (flag plan) (stands (shown m ns nt sv st rs rt tied quotaS quotaT)) f)
-          → tip (shown m ns nt sv st rs rt tied quotaS quotaT) (flag plan) x y ≡ tipBy
-      unfolding tip tipBy
-      tip-by ns nt tied quotaS quotaT hS hT = ap₂ (λ is bs. best bid (6, (lose, lose)) (keep apart (product (lose ∷ map gain is) (lose ∷ map gain bs))))
+          → terminal (shown m ns nt sv st rs rt tied quotaS quotaT) (flag plan) x y ≡ terminalBy
+      unfolding terminal terminalBy
+      terminal-by ns nt tied quotaS quotaT hS hT = ap₂ (λ is bs. best bid (6, (lose, lose)) (keep apart (product (lose ∷ map gain is) (lose ∷ map gain bs))))
           (keep-cong (λ f. not (flag plan f) && joins? (flag plan) (surveyors G) (stands G) x f) starts (range 0 m) (λ f k. let (u, w) = ∈-range m 0 k in ap (λ r. not (flag plan f) && (eqb (at sv f) (at sv x) && r)) (sym (hT f (omega arith)))))
           (keep-cong (λ f. not (flag plan f) && joins? (flag plan) (stands G) (surveyors G) y f) stops (range 0 m) (λ f k. let (u, w) = ∈-range m 0 k in ap (λ r. not (flag plan f) && (eqb (at st f) (at st y) && r)) (sym (hS f (omega arith)))))
         where
@@ -144,19 +144,19 @@ module _ (m : ℕ) (sv st rs rt : List ℕ) (x y : ℕ) where
           G = shown m ns nt sv st rs rt tied quotaS quotaT
 
       -- ---- all starts: the start lost first, then the edges gained; while those from f on are still to come
-      unfoldable pub tipRest : ℕ × (Way × Way) → ℕ → ℕ × (Way × Way)
-      tipRest held f = best bid held (keep apart (gather couples (map gain (keep starts (range f (m - f))))))
+      unfoldable pub terminalRest : ℕ × (Way × Way) → ℕ → ℕ × (Way × Way)
+      terminalRest held f = best bid held (keep apart (gather couples (map gain (keep starts (range f (m - f))))))
 
-      pub tip-start : tipRest (round lose (6, (lose, lose))) 0 ≡ tipBy
-      unfolding tipRest tipBy
-      tip-start = let e : m - 0 ≡ m = omega arith in ap (λ k. best bid (round lose (6, (lose, lose))) (keep apart (gather couples (map gain (keep starts (range 0 k)))))) e ∙ sym (onward (6, (lose, lose)) lose (gainings starts))
+      pub terminal-start : terminalRest (round lose (6, (lose, lose))) 0 ≡ terminalBy
+      unfolding terminalRest terminalBy
+      terminal-start = let e : m - 0 ≡ m = omega arith in ap (λ k. best bid (round lose (6, (lose, lose))) (keep apart (gather couples (map gain (keep starts (range 0 k)))))) e ∙ sym (onward (6, (lose, lose)) lose (gainings starts))
 
-      pub tip-end : (held : ℕ × (Way × Way)) (f : ℕ) → m ≤ f → tipRest held f ≡ held
-      unfolding tipRest best
-      tip-end held f h = let e : m - f ≡ 0 = omega arith in ap (λ k. best bid held (keep apart (gather couples (map gain (keep starts (range f k)))))) e
+      pub terminal-end : (held : ℕ × (Way × Way)) (f : ℕ) → m ≤ f → terminalRest held f ≡ held
+      unfolding terminalRest best
+      terminal-end held f h = let e : m - f ≡ 0 = omega arith in ap (λ k. best bid held (keep apart (gather couples (map gain (keep starts (range f k)))))) e
 
-      turn : (b : Bool) (held : ℕ × (Way × Way)) (f : ℕ) → f < m → starts f ≡ b → tipRest held f ≡ tipRest (cond b (round (gain f) held) held) (f + 1)
-      unfolding tipRest
+      turn : (b : Bool) (held : ℕ × (Way × Way)) (f : ℕ) → f < m → starts f ≡ b → terminalRest held f ≡ terminalRest (cond b (round (gain f) held) held) (f + 1)
+      unfolding terminalRest
       turn b held f h e =
           let k : m - f ≡ suc (m - (f + 1)) = omega arith in
           let s : suc f ≡ f + 1 = omega arith in
@@ -172,8 +172,8 @@ module _ (m : ℕ) (sv st rs rt : List ℕ) (x y : ℕ) where
           go true = onward held (gain f) (map gain ks)
           go false = refl
 
-      pub tip-turn : (held : ℕ × (Way × Way)) (f : ℕ) → f < m → starts f ≡ true → tipRest held f ≡ tipRest (round (gain f) held) (f + 1)
-      tip-turn held f h e = turn true held f h e
+      pub terminal-turn : (held : ℕ × (Way × Way)) (f : ℕ) → f < m → starts f ≡ true → terminalRest held f ≡ terminalRest (round (gain f) held) (f + 1)
+      terminal-turn held f h e = turn true held f h e
 
-      pub tip-past : (held : ℕ × (Way × Way)) (f : ℕ) → f < m → starts f ≡ false → tipRest held f ≡ tipRest held (f + 1)
-      tip-past held f h e = turn false held f h e
+      pub terminal-past : (held : ℕ × (Way × Way)) (f : ℕ) → f < m → starts f ≡ false → terminalRest held f ≡ terminalRest held (f + 1)
+      terminal-past held f h e = turn false held f h e

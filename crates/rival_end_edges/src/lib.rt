@@ -5,7 +5,7 @@ ghost use Rattle.theory_verdict.specs.Ends.{lose};
 ghost use Rattle.theory_verdict.specs.Search.{endPrice};
 ghost use Rattle.arrays.specs.ArrayInstance.{at};
 ghost use Rattle.rival_tables.specs.Filled.{Low};
-ghost use Rattle.rival_end_edges.specs.Ways.{wayOf, told, Offered, apart, round, tipBy};
+ghost use Rattle.rival_end_edges.specs.Ways.{wayOf, told, Offered, apart, round, terminalBy};
 
 // The price, the edge gained at the start and the one gained at the end; the number of all edges where the plan's edge is lost.
 pub struct Ends {
@@ -64,7 +64,7 @@ pub fn round(
 }
 
 // Every start with every end.
-pub fn tip(
+pub fn terminal(
     m: usize,
     sv: &[u8; 1024],
     st: &[u8; 1024],
@@ -77,7 +77,7 @@ pub fn tip(
     y: usize,
 ) -> Ends
     requires { ⌜ (m ≤ 1024) × Low m (now sv) 32 × Low m (now st) 32 × (x < 1024) × (y < 1024) ⌝ }
-    ensures { λ r. ⌜ told m r ≡ tipBy m (now (sv .entry)) (now (st .entry)) (now (rs .entry)) (now (rt .entry)) x y (now (plan .entry)) (now (fs .entry)) (now (ft .entry)) ⌝ }
+    ensures { λ r. ⌜ told m r ≡ terminalBy m (now (sv .entry)) (now (st .entry)) (now (rs .entry)) (now (rt .entry)) x y (now (plan .entry)) (now (fs .entry)) (now (ft .entry)) ⌝ }
 {
     let s = sv[x];
     let t = st[y];

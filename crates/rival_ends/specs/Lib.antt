@@ -1,1 +1,1 @@
-pub mod Tips
+pub mod Terminals

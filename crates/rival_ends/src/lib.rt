@@ -2,10 +2,10 @@
 ghost use mathlib.Core.Path.{_≡_};
 ghost use Prim.Native.Nat.{ℕ, _≤_, _<_};
 ghost use Rattle.rival_tables.specs.Filled.{Made, Grid};
-ghost use Rattle.rival_ends.specs.Tips.{tipAt, Rates};
+ghost use Rattle.rival_ends.specs.Terminals.{terminalAt, Rates};
 
 // The row of starts at place i.
-pub fn tip_row(
+pub fn terminal_row(
     n: usize,
     starts: &[u8; 4096],
     stops: &[u8; 4096],
@@ -14,7 +14,7 @@ pub fn tip_row(
     i: usize,
 ) -> [u8; 64]
     requires { ⌜ (n ≤ 64) × (i < n) × Rates n (now starts) (now stops) (now gs) (now gt) ⌝ }
-    ensures { λ r. ⌜ Made 0 r (tipAt (now (starts .entry)) (now (stops .entry)) (now (gs .entry)) (now (gt .entry)) i) n ⌝ }
+    ensures { λ r. ⌜ Made 0 r (terminalAt (now (starts .entry)) (now (stops .entry)) (now (gs .entry)) (now (gt .entry)) i) n ⌝ }
 {
     let mut o = [0u8; 64];
     let mut j = 0;
@@ -29,7 +29,7 @@ pub fn tip_row(
 }
 
 // All rows.
-pub fn tips(
+pub fn terminals(
     n: usize,
     starts: &[u8; 4096],
     stops: &[u8; 4096],
@@ -37,12 +37,12 @@ pub fn tips(
     gt: &[u8; 64],
 ) -> [u8; 4096]
     requires { ⌜ (n ≤ 64) × Rates n (now starts) (now stops) (now gs) (now gt) ⌝ }
-    ensures { λ r. ⌜ Grid r n (tipAt (now (starts .entry)) (now (stops .entry)) (now (gs .entry)) (now (gt .entry))) ⌝ }
+    ensures { λ r. ⌜ Grid r n (terminalAt (now (starts .entry)) (now (stops .entry)) (now (gs .entry)) (now (gt .entry))) ⌝ }
 {
     let mut o = [0u8; 4096];
     let mut i = 0;
     while i < n {
-        let row = tip_row(n, starts, stops, gs, gt, i);
+        let row = terminal_row(n, starts, stops, gs, gt, i);
         let next = rival_tables::put_row(o, row, i);
         o = next;
         i += 1;

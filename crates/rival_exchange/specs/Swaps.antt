@@ -22,7 +22,7 @@ use Rattle.theory_verdict.specs.LemmaX.{swapped}
 use Rattle.theory_verdict.specs.Arcs.{fs, zs}
 use Rattle.theory_verdict.specs.Ends.{Way, fresh}
 use Rattle.theory_verdict.specs.AlternatingPath.{comers}
-use Rattle.theory_verdict.specs.Search.{Hit, rivalBy, room?, olds, tip, arc, trace}
+use Rattle.theory_verdict.specs.Search.{Hit, rivalBy, room?, olds, terminal, arc, trace}
 use Rattle.arrays.specs.ArrayInstance.{at, flag, shown}
 use Rattle.arrays.specs.Passes.{Shows, all-blank}
 use Rattle.rival_tables.specs.Filled.{Grid}
@@ -33,7 +33,7 @@ use Rattle.rival_walk.specs.Edges.{arcEdge}
 use Rattle.rival_walk.specs.Marks.{listed, Marked, note, none-left}
 use Rattle.rival_walk.specs.Walks.{walkAt, trace-is}
 use Rattle.rival_end_edges.specs.declared.Ends.{Ends}
-use Rattle.rival_end_edges.specs.Ways.{told, fresh-way, tipBy, tip-by}
+use Rattle.rival_end_edges.specs.Ways.{told, fresh-way, terminalBy, terminal-by}
 use Rattle.rival_search.specs.TwoThresholds.{Bounded}
 
 -- an array marks the edges of a list
@@ -78,8 +78,8 @@ marks-ends m t p k g r q a b e =
     ∙ ap (λ (p : ℕ × (Way × Way)). listed e (fresh (p .1 .0) ++ fresh (p .1 .1))) q
 
 -- the walk's edges are marked after those of its ends
-pub marks-whole : (a b : Way) (w : Steps) (g r : List Bool) → Marks g (fresh a ++ fresh b) → Marked g (fs w) r → Marks r (comers a w b)
-marks-whole a b w g r h k e = marks-more g (fresh a ++ fresh b) (fs w) r h k e ∙ listed-append e (fresh a ++ fresh b) (fs w) ∙ ap (λ c. c || listed e (fs w)) (listed-append e (fresh a) (fresh b))
+pub marks-path : (a b : Way) (w : Steps) (g r : List Bool) → Marks g (fresh a ++ fresh b) → Marked g (fs w) r → Marks r (comers a w b)
+marks-path a b w g r h k e = marks-more g (fresh a ++ fresh b) (fs w) r h k e ∙ listed-append e (fresh a ++ fresh b) (fs w) ∙ ap (λ c. c || listed e (fs w)) (listed-append e (fresh a) (fresh b))
     ∙ swap (listed e (fresh a)) (listed e (fresh b)) (listed e (fs w)) ∙ sym (listed-append e (fresh a) (fs w ++ fresh b) ∙ ap (λ c. listed e (fresh a) || c) (listed-append e (fs w) (fresh b)))
   where
     swap : (x y z : Bool) → (x || y) || z ≡ x || (z || y)
@@ -95,7 +95,7 @@ module _ (m : ℕ) (sv st rs rt : List ℕ) (plan roomS roomT : List Bool) (es a
   walkBy l i j = walkAt (arcEdge m sv st rs rt plan) es arcs n j l i
 
   abbrev pub waysBy : ℕ → ℕ → Way × Way
-  waysBy x y = tipBy m sv st rs rt x y plan roomS roomT .1
+  waysBy x y = terminalBy m sv st rs rt x y plan roomS roomT .1
 
   abbrev pub goneBy : Found → List ℕ
   goneBy found.Nothing = []
@@ -123,15 +123,15 @@ module _ (m : ℕ) (sv st rs rt : List ℕ) (plan roomS roomT : List Bool) (es a
     abbrev M : ℕ → Bool
     M = flag plan
 
-    module _ (lists : olds G M ≡ map (at es) (range 0 n)) (tips : List ℕ)
-        (arcsShow : Grid arcs n (λ i j. arc G M 133 (at es i) (at es j) .0)) (tipsShow : Grid tips n (λ i j. tip G M (at es i) (at es j) .0))
+    module _ (lists : olds G M ≡ map (at es) (range 0 n)) (terminals : List ℕ)
+        (arcsShow : Grid arcs n (λ i j. arc G M 133 (at es i) (at es j) .0)) (terminalsShow : Grid terminals n (λ i j. terminal G M (at es i) (at es j) .0))
         (roomsS : (f : ℕ) → f < m → flag roomS (at sv f) ≡ room? M (surveyors G) f) (roomsT : (f : ℕ) → f < m → flag roomT (at st f) ≡ room? M (stands G) f) where
       walk-is : (l i j : ℕ) → i < n → j < n → walkBy l i j ≡ trace G M 133 l (at es i) (at es j)
       unfolding arc arcEdge
-      walk-is l i j il jl = sym (trace-is G M es n lists arcs tips arcsShow tipsShow l i j il jl)
+      walk-is l i j il jl = sym (trace-is G M es n lists arcs terminals arcsShow terminalsShow l i j il jl)
 
-      ways-are : (x y : ℕ) → waysBy x y ≡ tip G M x y .1
-      ways-are x y = sym (ap (λ t. t .1) (tip-by m sv st rs rt x y plan roomS roomT ns nt tied quotaS quotaT roomsS roomsT))
+      ways-are : (x y : ℕ) → waysBy x y ≡ terminal G M x y .1
+      ways-are x y = sym (ap (λ t. t .1) (terminal-by m sv st rs rt x y plan roomS roomT ns nt tied quotaS quotaT roomsS roomsT))
 
       abbrev elsewhere : Option Hit → ℕ → Bool
       elsewhere o = Option·elim o M (rivalBy M)

@@ -10,7 +10,7 @@ ghost use Rattle.rival_layers.specs.Layers.{Small};
 ghost use Rattle.rival_walk.specs.Edges.{arcEdge};
 ghost use Rattle.rival_walk.specs.Marks.{Marked};
 ghost use Rattle.rival_walk.specs.Walks.{walkAt};
-ghost use Rattle.rival_end_edges.specs.Ways.{tipBy};
+ghost use Rattle.rival_end_edges.specs.Ways.{terminalBy};
 ghost use Rattle.rival_search.specs.TwoThresholds.{Bounded};
 ghost use Rattle.rival_exchange.specs.Swaps.{Marks, goneBy, comeBy};
 use rival_levels::Found;
@@ -42,9 +42,9 @@ pub fn ended(
     y: usize,
 ) -> Swap
     requires { ⌜ (m ≤ 1024) × Low m (now sv) 32 × Low m (now st) 32 × (x < 1024) × (y < 1024) ⌝ }
-    ensures { λ r. ⌜ Marks (r .gone) (x ∷ []) × Marks (r .come) (fresh (tipBy m (now (sv .entry)) (now (st .entry)) (now (rs .entry)) (now (rt .entry)) x y (now (plan .entry)) (now (fs .entry)) (now (ft .entry)) .1 .0) ++ fresh (tipBy m (now (sv .entry)) (now (st .entry)) (now (rs .entry)) (now (rt .entry)) x y (now (plan .entry)) (now (fs .entry)) (now (ft .entry)) .1 .1)) ⌝ }
+    ensures { λ r. ⌜ Marks (r .gone) (x ∷ []) × Marks (r .come) (fresh (terminalBy m (now (sv .entry)) (now (st .entry)) (now (rs .entry)) (now (rt .entry)) x y (now (plan .entry)) (now (fs .entry)) (now (ft .entry)) .1 .0) ++ fresh (terminalBy m (now (sv .entry)) (now (st .entry)) (now (rs .entry)) (now (rt .entry)) x y (now (plan .entry)) (now (fs .entry)) (now (ft .entry)) .1 .1)) ⌝ }
 {
-    let t = rival_end_edges::tip(m, sv, st, rs, rt, plan, fs, ft, x, y);
+    let t = rival_end_edges::terminal(m, sv, st, rs, rt, plan, fs, ft, x, y);
     let a = t.start;
     let b = t.stop;
     let gone = gained([false; 1024], 1024, x);

@@ -13,7 +13,7 @@ use Rattle.lists.specs.First.{best-≤, best-≤-held, best-ind}
 use Rattle.model.specs.Instance.{Instance, Side, surveyors, stands, deg}
 use Rattle.theory_votes.specs.Score.{rate}
 use Rattle.theory_verdict.specs.Ends.{Way, lose, gain}
-use Rattle.theory_verdict.specs.Search.{price, tipPrice, links?, apart?, joins?, news, ways, tipsAt, tip, arc}
+use Rattle.theory_verdict.specs.Search.{price, terminalPrice, links?, apart?, joins?, news, ways, terminalsAt, terminal, arc}
 use Rattle.arrays.specs.ArrayInstance.{at}
 use Rattle.rival_tables.specs.Cheapest.{cheapest, cheapest-≤, cheapest-at, cheapest-reach, best-keep}
 
@@ -83,36 +83,36 @@ module _ (G : Instance) (M : ℕ → Bool) where
     abbrev pub oStop : ℕ
     oStop = cheapest (joining? T′ S y) rateT 6 0 (G .m)
 
-    abbrev low-tip : ℕ
-    low-tip = min (min aStart aStop + 3) (oStart + oStop)
+    abbrev low-terminal : ℕ
+    low-terminal = min (min aStart aStop + 3) (oStart + oStop)
 
-    member : (a b : Way) → a ∈ ways G M S T′ x → b ∈ ways G M T′ S y → T (apart? G x y (a, b)) → tip G M x y .0 ≤ tipPrice G x y (a, b)
-    unfolding tip
-    member a b i j t = best-≤ (λ p. (tipPrice G x y p, p)) (6, (lose, lose)) (tipsAt G M x y) (a, b)
+    member : (a b : Way) → a ∈ ways G M S T′ x → b ∈ ways G M T′ S y → T (apart? G x y (a, b)) → terminal G M x y .0 ≤ terminalPrice G x y (a, b)
+    unfolding terminal
+    member a b i j t = best-≤ (λ p. (terminalPrice G x y p, p)) (6, (lose, lose)) (terminalsAt G M x y) (a, b)
         (keep-∈ (apart? G x y) (product (ways G M S T′ x) (ways G M T′ S y)) (product-∈ (ways G M S T′ x) (ways G M T′ S y) i j) t)
 
-    six : tip G M x y .0 ≤ 6
-    unfolding tip
-    six = best-≤-held (λ p. (tipPrice G x y p, p)) (6, (lose, lose)) (tipsAt G M x y)
+    six : terminal G M x y .0 ≤ 6
+    unfolding terminal
+    six = best-≤-held (λ p. (terminalPrice G x y p, p)) (6, (lose, lose)) (terminalsAt G M x y)
 
     split : (a b : Bool) → a && b ≡ true → (a ≡ true) × T b
     split true true e = (refl, tt)
     split true false e = absurd (true-T e)
     split false b e = absurd (true-T e)
 
-    below-start : tip G M x y .0 ≤ aStart + 3
+    below-start : terminal G M x y .0 ≤ aStart + 3
     below-start = ⊎-elim
         (λ e. omega (arith, six))
         (λ (f, l, h, t, e). let (u, w) = split (joining? S T′ x f) (not (eqb (G .st f) (G .st y))) t in omega (arith, member (gain f) lose (gaining S T′ x f (omega arith) u) (losing T′ S y) w))
         (cheapest-reach startBut rateS 3 0 (G .m))
 
-    below-stop : tip G M x y .0 ≤ aStop + 3
+    below-stop : terminal G M x y .0 ≤ aStop + 3
     below-stop = ⊎-elim
         (λ e. omega (arith, six))
         (λ (g, l, h, t, e). let (u, w) = split (joining? T′ S y g) (not (eqb (G .sv g) (G .sv x))) t in omega (arith, member lose (gain g) (losing S T′ x) (gaining T′ S y g (omega arith) u) w))
         (cheapest-reach stopBut rateT 3 0 (G .m))
 
-    below-both : tip G M x y .0 ≤ oStart + oStop
+    below-both : terminal G M x y .0 ≤ oStart + oStop
     below-both = ⊎-elim
         (λ e. omega (arith, six))
         (λ (f, l, h, t, e). ⊎-elim
@@ -121,13 +121,13 @@ module _ (G : Instance) (M : ℕ → Bool) where
         (cheapest-reach (joining? T′ S y) rateT 6 0 (G .m)))
         (cheapest-reach (joining? S T′ x) rateS 6 0 (G .m))
 
-    above : (p : Way × Way) → p ∈ tipsAt G M x y → low-tip ≤ tipPrice G x y p
+    above : (p : Way × Way) → p ∈ terminalsAt G M x y → low-terminal ≤ terminalPrice G x y p
     above p m =
         let (i, t) = ∈-keep (apart? G x y) (product (ways G M S T′ x) (ways G M T′ S y)) m in
         let (a, b) = ∈-product p (ways G M S T′ x) (ways G M T′ S y) i in
         go (p .0) (p .1) a b t
       where
-        go : (a b : Way) → a ∈ ways G M S T′ x → b ∈ ways G M T′ S y → T (apart? G x y (a, b)) → low-tip ≤ tipPrice G x y (a, b)
+        go : (a b : Way) → a ∈ ways G M S T′ x → b ∈ ways G M T′ S y → T (apart? G x y (a, b)) → low-terminal ≤ terminalPrice G x y (a, b)
         go lose lose i j t = omega (arith, cheapest-≤ startBut rateS 3 0 (G .m))
         go lose (gain g) i j t = let (h, u) = gained T′ S y g j in
             omega (arith, cheapest-at stopBut rateT 3 0 (G .m) g zero-le (omega arith) (T-true (and-i (joining? T′ S y g) (not (eqb (G .sv g) (G .sv x))) u t)))
@@ -136,10 +136,10 @@ module _ (G : Instance) (M : ℕ → Bool) where
         go (gain f) (gain g) i j t = let (h, u) = gained S T′ x f i in let (k, w) = gained T′ S y g j in
             omega (arith, cheapest-at (joining? S T′ x) rateS 6 0 (G .m) f zero-le (omega arith) (T-true u), cheapest-at (joining? T′ S y) rateT 6 0 (G .m) g zero-le (omega arith) (T-true w))
 
-    pub tip-is : tip G M x y .0 ≡ min (min aStart aStop + 3) (oStart + oStop)
-    unfolding tip
-    tip-is =
-        let up : low-tip ≤ tip G M x y .0 = best-ind (λ p. (tipPrice G x y p, p)) (λ c. low-tip ≤ c .0) (6, (lose, lose)) (tipsAt G M x y) (omega (arith, cheapest-≤ startBut rateS 3 0 (G .m))) above in
+    pub terminal-is : terminal G M x y .0 ≡ min (min aStart aStop + 3) (oStart + oStop)
+    unfolding terminal
+    terminal-is =
+        let up : low-terminal ≤ terminal G M x y .0 = best-ind (λ p. (terminalPrice G x y p, p)) (λ c. low-terminal ≤ c .0) (6, (lose, lose)) (terminalsAt G M x y) (omega (arith, cheapest-≤ startBut rateS 3 0 (G .m))) above in
         omega (arith, below-start, below-stop, below-both)
 
 -- ---- room

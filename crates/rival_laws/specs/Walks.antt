@@ -14,7 +14,7 @@ use Rattle.lists.specs.Keep.{product, all?}
 use Rattle.lists.specs.Search.{low, low-cong}
 use Rattle.lists.specs.First.{first, best}
 use Rattle.model.specs.Instance.{Instance, surveyors, stands}
-use Rattle.theory_verdict.specs.Search.{Hit, direct, loop, stay, via, kept, olds, tip, arc, layer, walkPrice, trace, asWhole, room?, directs, aloneAt, loopAt, wholeAt, still, levels′, search′}
+use Rattle.theory_verdict.specs.Search.{Hit, direct, loop, stay, via, kept, olds, terminal, arc, layer, walkPrice, trace, asPath, room?, directs, aloneAt, loopAt, pathAt, still, levels′, search′}
 use Rattle.arrays.specs.ArrayInstance.{at}
 use Rattle.rival_tables.specs.Filled.{cell, Grid}
 use Rattle.rival_tables.specs.Cheapest.{cheapest, cheapest-cong, best-map}
@@ -28,16 +28,16 @@ use Rattle.rival_laws.specs.Firsts.{first-map, first-hit, first-miss, co
 abbrev pub hitOf : Instance → (ℕ → Bool) → List ℕ → Found → Option Hit
 hitOf G M es found.Nothing = none
 hitOf G M es (found.Direct f) = some (direct f)
-hitOf G M es (found.Alone i) = some (asWhole G M (at es i) (at es i) [])
+hitOf G M es (found.Alone i) = some (asPath G M (at es i) (at es i) [])
 hitOf G M es (found.Closed l i) = some (loop (at es i) (trace G M 133 l (at es i) (at es i)))
-hitOf G M es (found.Open l i j) = some (asWhole G M (at es i) (at es j) (trace G M 133 l (at es i) (at es j)))
+hitOf G M es (found.Open l i j) = some (asPath G M (at es i) (at es j) (trace G M 133 l (at es i) (at es j)))
 
 -- the search by places: an edge with room at both ends, a walk without an arc, the levels
-unfoldable pub searchAt : (m : ℕ) (free : ℕ → Bool) (arcs tips : List ℕ) → ℕ → ℕ → Found
-searchAt m free arcs tips n k = cond (ltb (low free m) m) (found.Direct (low free m)) (cond (ltb (diagAt (cell tips) n (4 + k)) n) (found.Alone (diagAt (cell tips) n (4 + k))) (levelsAt arcs tips n k n 0))
+unfoldable pub searchAt : (m : ℕ) (free : ℕ → Bool) (arcs terminals : List ℕ) → ℕ → ℕ → Found
+searchAt m free arcs terminals n k = cond (ltb (low free m) m) (found.Direct (low free m)) (cond (ltb (diagAt (cell terminals) n (4 + k)) n) (found.Alone (diagAt (cell terminals) n (4 + k))) (levelsAt arcs terminals n k n 0))
 
 module _ (G : Instance) (M : ℕ → Bool) (es : List ℕ) (n : ℕ) (lists : olds G M ≡ map (at es) (range 0 n))
-    (arcs tips : List ℕ) (arcsShow : Grid arcs n (λ i j. arc G M 133 (at es i) (at es j) .0)) (tipsShow : Grid tips n (λ i j. tip G M (at es i) (at es j) .0)) where
+    (arcs terminals : List ℕ) (arcsShow : Grid arcs n (λ i j. arc G M 133 (at es i) (at es j) .0)) (terminalsShow : Grid terminals n (λ i j. terminal G M (at es i) (at es j) .0)) where
   pub layer-is : (k i j : ℕ) → i < n → j < n → walkPrice G M 133 k (at es i) (at es j) ≡ layerAt arcs n k i j
   unfolding layer layerAt
   layer-is zero i j il jl = sym (arcsShow i j il jl)
@@ -70,33 +70,33 @@ module _ (G : Instance) (M : ℕ → Bool) (es : List ℕ) (n : ℕ) (lists : ol
     loop-miss l h = loop-places l ∙ first-miss (λ i. loopTest l (at es i)) (λ i. makeLoop l (at es i)) n (omega (arith, loop-low l))
 
     -- ---- walks with a start and an end
-    abbrev wholeTest : ℕ → ℕ × ℕ → Bool
-    wholeTest l p = ltb (walkPrice G M 133 l (p .0) (p .1) + tip G M (p .0) (p .1) .0) (2 * suc l + 4 + k)
+    abbrev pathTest : ℕ → ℕ × ℕ → Bool
+    pathTest l p = ltb (walkPrice G M 133 l (p .0) (p .1) + terminal G M (p .0) (p .1) .0) (2 * suc l + 4 + k)
 
-    abbrev makeWhole : ℕ → ℕ × ℕ → Hit
-    makeWhole l p = asWhole G M (p .0) (p .1) (trace G M 133 l (p .0) (p .1))
+    abbrev makePath : ℕ → ℕ × ℕ → Hit
+    makePath l p = asPath G M (p .0) (p .1) (trace G M 133 l (p .0) (p .1))
 
-    whole-column : (l i : ℕ) → i < n → low (λ j. wholeTest l (at es i, at es j)) n ≡ endsAt (layerAt arcs n l) tips n (2 * suc l + 4 + k) i
-    whole-column l i h = low-cong (λ j. wholeTest l (at es i, at es j)) (λ j. ltb (layerAt arcs n l i j + cell tips i j) (2 * suc l + 4 + k)) n
-        (λ j g. ap₂ (λ c t. ltb (c + t) (2 * suc l + 4 + k)) (layer-is l i j h g) (sym (tipsShow i j h g)))
+    path-column : (l i : ℕ) → i < n → low (λ j. pathTest l (at es i, at es j)) n ≡ endsAt (layerAt arcs n l) terminals n (2 * suc l + 4 + k) i
+    path-column l i h = low-cong (λ j. pathTest l (at es i, at es j)) (λ j. ltb (layerAt arcs n l i j + cell terminals i j) (2 * suc l + 4 + k)) n
+        (λ j g. ap₂ (λ c t. ltb (c + t) (2 * suc l + 4 + k)) (layer-is l i j h g) (sym (terminalsShow i j h g)))
 
-    whole-row : (l : ℕ) → low (λ i. ltb (low (λ j. wholeTest l (at es i, at es j)) n) n) n ≡ levelRow arcs tips n k l
-    whole-row l = low-cong (λ i. ltb (low (λ j. wholeTest l (at es i, at es j)) n) n) (λ i. ltb (endsAt (layerAt arcs n l) tips n (2 * suc l + 4 + k) i) n) n (λ i h. ap (λ c. ltb c n) (whole-column l i h))
+    path-row : (l : ℕ) → low (λ i. ltb (low (λ j. pathTest l (at es i, at es j)) n) n) n ≡ levelRow arcs terminals n k l
+    path-row l = low-cong (λ i. ltb (low (λ j. pathTest l (at es i, at es j)) n) n) (λ i. ltb (endsAt (layerAt arcs n l) terminals n (2 * suc l + 4 + k) i) n) n (λ i h. ap (λ c. ltb c n) (path-column l i h))
 
-    whole-hit : (l : ℕ) → levelRow arcs tips n k l < n → wholeAt G M 133 k l ≡ some (makeWhole l (at es (levelRow arcs tips n k l), at es (levelColumn arcs tips n k l)))
-    unfolding wholeAt
-    whole-hit l h =
-        let r : low (λ i. ltb (low (λ j. wholeTest l (at es i, at es j)) n) n) n ≡ levelRow arcs tips n k l = whole-row l in
-        ap (λ xs. first (wholeTest l) (makeWhole l) (product xs xs)) lists
-        ∙ couple-hit (wholeTest l) (makeWhole l) (at es) n (omega arith)
-        ∙ ap (λ i. some (makeWhole l (at es i, at es (low (λ j. wholeTest l (at es i, at es j)) n)))) r
-        ∙ ap (λ j. some (makeWhole l (at es (levelRow arcs tips n k l), at es j))) (whole-column l (levelRow arcs tips n k l) h)
+    path-hit : (l : ℕ) → levelRow arcs terminals n k l < n → pathAt G M 133 k l ≡ some (makePath l (at es (levelRow arcs terminals n k l), at es (levelColumn arcs terminals n k l)))
+    unfolding pathAt
+    path-hit l h =
+        let r : low (λ i. ltb (low (λ j. pathTest l (at es i, at es j)) n) n) n ≡ levelRow arcs terminals n k l = path-row l in
+        ap (λ xs. first (pathTest l) (makePath l) (product xs xs)) lists
+        ∙ couple-hit (pathTest l) (makePath l) (at es) n (omega arith)
+        ∙ ap (λ i. some (makePath l (at es i, at es (low (λ j. pathTest l (at es i, at es j)) n)))) r
+        ∙ ap (λ j. some (makePath l (at es (levelRow arcs terminals n k l), at es j))) (path-column l (levelRow arcs terminals n k l) h)
 
-    whole-miss : (l : ℕ) → n ≤ levelRow arcs tips n k l → wholeAt G M 133 k l ≡ none
-    unfolding wholeAt
-    whole-miss l h =
-        let r : low (λ i. ltb (low (λ j. wholeTest l (at es i, at es j)) n) n) n ≡ levelRow arcs tips n k l = whole-row l in
-        ap (λ xs. first (wholeTest l) (makeWhole l) (product xs xs)) lists ∙ couple-miss (wholeTest l) (makeWhole l) (at es) n (omega arith)
+    path-miss : (l : ℕ) → n ≤ levelRow arcs terminals n k l → pathAt G M 133 k l ≡ none
+    unfolding pathAt
+    path-miss l h =
+        let r : low (λ i. ltb (low (λ j. pathTest l (at es i, at es j)) n) n) n ≡ levelRow arcs terminals n k l = path-row l in
+        ap (λ xs. first (pathTest l) (makePath l) (product xs xs)) lists ∙ couple-miss (pathTest l) (makePath l) (at es) n (omega arith)
 
     -- ---- the early stop
     abbrev stillTest : ℕ → ℕ × ℕ → Bool
@@ -129,44 +129,44 @@ module _ (G : Instance) (M : ℕ → Bool) (es : List ℕ) (n : ℕ) (lists : ol
     abbrev say : Found → Option Hit
     say = hitOf G M es
 
-    pub levels-are : (b l : ℕ) → say (levelsAt arcs tips n k b l) ≡ levels′ G M 133 k b l
+    pub levels-are : (b l : ℕ) → say (levelsAt arcs terminals n k b l) ≡ levels′ G M 133 k b l
     unfolding levelsAt levels′ orElse
     levels-are zero l = refl
     levels-are (suc b) l = by-bool (ltb (levelLoop arcs n k l) n)
         (λ e. ap (λ x. say (cond x (found.Closed l (levelLoop arcs n k l)) beyond)) e
-        ∙ sym (ap (λ o. orElse o (orElse (wholeAt G M 133 k l) (cond (still G M 133 k l) none (levels′ G M 133 k b (suc l))))) (loop-hit l (ltb-true (levelLoop arcs n k l) n e))))
+        ∙ sym (ap (λ o. orElse o (orElse (pathAt G M 133 k l) (cond (still G M 133 k l) none (levels′ G M 133 k b (suc l))))) (loop-hit l (ltb-true (levelLoop arcs n k l) n e))))
         (λ e. ap (λ x. say (cond x (found.Closed l (levelLoop arcs n k l)) beyond)) e ∙ rest (levels-are b (suc l))
-        ∙ sym (ap (λ o. orElse o (orElse (wholeAt G M 133 k l) (cond (still G M 133 k l) none (levels′ G M 133 k b (suc l))))) (loop-miss l (ltb-false (levelLoop arcs n k l) n e))))
+        ∙ sym (ap (λ o. orElse o (orElse (pathAt G M 133 k l) (cond (still G M 133 k l) none (levels′ G M 133 k b (suc l))))) (loop-miss l (ltb-false (levelLoop arcs n k l) n e))))
       where
         later : Found
-        later = cond (ltb (levelChange arcs n l) n) (levelsAt arcs tips n k b (suc l)) found.Nothing
+        later = cond (ltb (levelChange arcs n l) n) (levelsAt arcs terminals n k b (suc l)) found.Nothing
 
         beyond : Found
-        beyond = cond (ltb (levelRow arcs tips n k l) n) (found.Open l (levelRow arcs tips n k l) (levelColumn arcs tips n k l)) later
+        beyond = cond (ltb (levelRow arcs terminals n k l) n) (found.Open l (levelRow arcs terminals n k l) (levelColumn arcs terminals n k l)) later
 
-        last : say (levelsAt arcs tips n k b (suc l)) ≡ levels′ G M 133 k b (suc l) → say later ≡ cond (still G M 133 k l) none (levels′ G M 133 k b (suc l))
+        last : say (levelsAt arcs terminals n k b (suc l)) ≡ levels′ G M 133 k b (suc l) → say later ≡ cond (still G M 133 k l) none (levels′ G M 133 k b (suc l))
         last ih = by-bool (ltb (levelChange arcs n l) n)
-            (λ e. ap (λ x. say (cond x (levelsAt arcs tips n k b (suc l)) found.Nothing)) e ∙ ih
+            (λ e. ap (λ x. say (cond x (levelsAt arcs terminals n k b (suc l)) found.Nothing)) e ∙ ih
             ∙ sym (ap (λ x. cond x none (levels′ G M 133 k b (suc l))) (still-miss l (ltb-true (levelChange arcs n l) n e))))
-            (λ e. ap (λ x. say (cond x (levelsAt arcs tips n k b (suc l)) found.Nothing)) e
+            (λ e. ap (λ x. say (cond x (levelsAt arcs terminals n k b (suc l)) found.Nothing)) e
             ∙ sym (ap (λ x. cond x none (levels′ G M 133 k b (suc l))) (still-hit l (ltb-false (levelChange arcs n l) n e))))
 
-        rest : say (levelsAt arcs tips n k b (suc l)) ≡ levels′ G M 133 k b (suc l) → say beyond ≡ orElse (wholeAt G M 133 k l) (cond (still G M 133 k l) none (levels′ G M 133 k b (suc l)))
-        rest ih = by-bool (ltb (levelRow arcs tips n k l) n)
-            (λ e. ap (λ x. say (cond x (found.Open l (levelRow arcs tips n k l) (levelColumn arcs tips n k l)) later)) e
-            ∙ sym (ap (λ o. orElse o (cond (still G M 133 k l) none (levels′ G M 133 k b (suc l)))) (whole-hit l (ltb-true (levelRow arcs tips n k l) n e))))
-            (λ e. ap (λ x. say (cond x (found.Open l (levelRow arcs tips n k l) (levelColumn arcs tips n k l)) later)) e ∙ last ih
-            ∙ sym (ap (λ o. orElse o (cond (still G M 133 k l) none (levels′ G M 133 k b (suc l)))) (whole-miss l (ltb-false (levelRow arcs tips n k l) n e))))
+        rest : say (levelsAt arcs terminals n k b (suc l)) ≡ levels′ G M 133 k b (suc l) → say beyond ≡ orElse (pathAt G M 133 k l) (cond (still G M 133 k l) none (levels′ G M 133 k b (suc l)))
+        rest ih = by-bool (ltb (levelRow arcs terminals n k l) n)
+            (λ e. ap (λ x. say (cond x (found.Open l (levelRow arcs terminals n k l) (levelColumn arcs terminals n k l)) later)) e
+            ∙ sym (ap (λ o. orElse o (cond (still G M 133 k l) none (levels′ G M 133 k b (suc l)))) (path-hit l (ltb-true (levelRow arcs terminals n k l) n e))))
+            (λ e. ap (λ x. say (cond x (found.Open l (levelRow arcs terminals n k l) (levelColumn arcs terminals n k l)) later)) e ∙ last ih
+            ∙ sym (ap (λ o. orElse o (cond (still G M 133 k l) none (levels′ G M 133 k b (suc l)))) (path-miss l (ltb-false (levelRow arcs terminals n k l) n e))))
 
     -- ---- the whole search
     abbrev aloneTest : ℕ → Bool
-    aloneTest x = ltb (tip G M x x .0) (4 + k)
+    aloneTest x = ltb (terminal G M x x .0) (4 + k)
 
     abbrev makeAlone : ℕ → Hit
-    makeAlone x = asWhole G M x x []
+    makeAlone x = asPath G M x x []
 
-    alone-low : low (λ i. aloneTest (at es i)) n ≡ diagAt (cell tips) n (4 + k)
-    alone-low = low-cong (λ i. aloneTest (at es i)) (λ i. ltb (cell tips i i) (4 + k)) n (λ i h. ap (λ c. ltb c (4 + k)) (sym (tipsShow i i h h)))
+    alone-low : low (λ i. aloneTest (at es i)) n ≡ diagAt (cell terminals) n (4 + k)
+    alone-low = low-cong (λ i. aloneTest (at es i)) (λ i. ltb (cell terminals i i) (4 + k)) n (λ i h. ap (λ c. ltb c (4 + k)) (sym (terminalsShow i i h h)))
 
     alone-places : aloneAt G M 133 k ≡ first (λ i. aloneTest (at es i)) (λ i. makeAlone (at es i)) (range 0 n)
     unfolding aloneAt
@@ -179,7 +179,7 @@ module _ (G : Instance) (M : ℕ → Bool) (es : List ℕ) (n : ℕ) (lists : ol
       free-low : low freeTest (G .m) ≡ low free (G .m)
       free-low = low-cong freeTest free (G .m) (λ f h. sym (frees f h))
 
-      pub search-is : say (searchAt (G .m) free arcs tips n k) ≡ search′ G M 133 k n
+      pub search-is : say (searchAt (G .m) free arcs terminals n k) ≡ search′ G M 133 k n
       unfolding searchAt search′ directs orElse
       search-is = by-bool (ltb (low free (G .m)) (G .m))
           (λ e. ap (λ x. say (cond x (found.Direct (low free (G .m))) onward)) e
@@ -188,14 +188,14 @@ module _ (G : Instance) (M : ℕ → Bool) (es : List ℕ) (n : ℕ) (lists : ol
           ∙ sym (ap (λ o. orElse o (orElse (aloneAt G M 133 k) (levels′ G M 133 k n 0))) (first-miss freeTest direct (G .m) (omega (arith, free-low, ltb-false (low free (G .m)) (G .m) e)))))
         where
           diag : ℕ
-          diag = diagAt (cell tips) n (4 + k)
+          diag = diagAt (cell terminals) n (4 + k)
 
           onward : Found
-          onward = cond (ltb diag n) (found.Alone diag) (levelsAt arcs tips n k n 0)
+          onward = cond (ltb diag n) (found.Alone diag) (levelsAt arcs terminals n k n 0)
 
           rest : say onward ≡ orElse (aloneAt G M 133 k) (levels′ G M 133 k n 0)
           rest = by-bool (ltb diag n)
-              (λ e. ap (λ x. say (cond x (found.Alone diag) (levelsAt arcs tips n k n 0))) e
+              (λ e. ap (λ x. say (cond x (found.Alone diag) (levelsAt arcs terminals n k n 0))) e
               ∙ sym (ap (λ o. orElse o (levels′ G M 133 k n 0)) (alone-places ∙ first-hit (λ i. aloneTest (at es i)) (λ i. makeAlone (at es i)) n (omega (arith, alone-low, ltb-true diag n e)) ∙ ap (λ i. some (makeAlone (at es i))) alone-low)))
-              (λ e. ap (λ x. say (cond x (found.Alone diag) (levelsAt arcs tips n k n 0))) e ∙ levels-are n 0
+              (λ e. ap (λ x. say (cond x (found.Alone diag) (levelsAt arcs terminals n k n 0))) e ∙ levels-are n 0
               ∙ sym (ap (λ o. orElse o (levels′ G M 133 k n 0)) (alone-places ∙ first-miss (λ i. aloneTest (at es i)) (λ i. makeAlone (at es i)) n (omega (arith, alone-low, ltb-false diag n e)))))

@@ -39,13 +39,13 @@ pub fn diagonal(n: usize, d: &[u8; 4096], bound: u8) -> usize
 }
 
 // The first column in which a row of prices and a row of ends are below a bound together, n if there is none.
-pub fn ends(n: usize, d: &[u8; 4096], tips: &[u8; 4096], b: usize, bound: u8) -> usize
-    requires { ⌜ (n ≤ 64) × (b + 64 ≤ 4096) × ((j : ℕ) → j < n → at (now d) (b + j) + at (now tips) (b + j) ≤ 139) ⌝ }
-    ensures { λ r. ⌜ r ≡ low (λ j. ltb (at (now (d .entry)) (b + j) + at (now (tips .entry)) (b + j)) bound) n ⌝ }
+pub fn ends(n: usize, d: &[u8; 4096], terminals: &[u8; 4096], b: usize, bound: u8) -> usize
+    requires { ⌜ (n ≤ 64) × (b + 64 ≤ 4096) × ((j : ℕ) → j < n → at (now d) (b + j) + at (now terminals) (b + j) ≤ 139) ⌝ }
+    ensures { λ r. ⌜ r ≡ low (λ j. ltb (at (now (d .entry)) (b + j) + at (now (terminals .entry)) (b + j)) bound) n ⌝ }
 {
     let mut j = 0;
     while j < n {
-        if d[b + j] + tips[b + j] < bound {
+        if d[b + j] + terminals[b + j] < bound {
             return j;
         }
         j += 1;
@@ -54,14 +54,14 @@ pub fn ends(n: usize, d: &[u8; 4096], tips: &[u8; 4096], b: usize, bound: u8) ->
 }
 
 // The first row in which that finds a column, and the column; n if there is none.
-pub fn pair(n: usize, d: &[u8; 4096], tips: &[u8; 4096], bound: u8) -> Place
-    requires { ⌜ (n ≤ 64) × Small n (now d) × SmallEnds n (now tips) ⌝ }
-    ensures { λ r. ⌜ (r .row ≡ pairAt (cell (now (d .entry))) (now (tips .entry)) n bound) × (r .row < n → r .column ≡ endsAt (cell (now (d .entry))) (now (tips .entry)) n bound (r .row)) ⌝ }
+pub fn pair(n: usize, d: &[u8; 4096], terminals: &[u8; 4096], bound: u8) -> Place
+    requires { ⌜ (n ≤ 64) × Small n (now d) × SmallEnds n (now terminals) ⌝ }
+    ensures { λ r. ⌜ (r .row ≡ pairAt (cell (now (d .entry))) (now (terminals .entry)) n bound) × (r .row < n → r .column ≡ endsAt (cell (now (d .entry))) (now (terminals .entry)) n bound (r .row)) ⌝ }
 {
     let mut i = 0;
     while i < n {
         let b = i * 64;
-        let j = ends(n, d, tips, b, bound);
+        let j = ends(n, d, terminals, b, bound);
         if j < n {
             return Place { row: i, column: j };
         }
@@ -104,9 +104,9 @@ pub fn changed(n: usize, d: &[u8; 4096], e: &[u8; 4096]) -> usize
 }
 
 // All levels, until a layer changes nothing.
-pub fn levels(n: usize, arcs: &[u8; 4096], tips: &[u8; 4096], k: u8) -> Found
-    requires { ⌜ (n ≤ 64) × (k ≤ 1) × Small n (now arcs) × Cheap n (now arcs) × SmallEnds n (now tips) ⌝ }
-    ensures { λ r. ⌜ r ≡ levelsAt (now (arcs .entry)) (now (tips .entry)) n k n 0 ⌝ }
+pub fn levels(n: usize, arcs: &[u8; 4096], terminals: &[u8; 4096], k: u8) -> Found
+    requires { ⌜ (n ≤ 64) × (k ≤ 1) × Small n (now arcs) × Cheap n (now arcs) × SmallEnds n (now terminals) ⌝ }
+    ensures { λ r. ⌜ r ≡ levelsAt (now (arcs .entry)) (now (terminals .entry)) n k n 0 ⌝ }
 {
     let mut d = *arcs;
     let mut l = 0;
@@ -116,7 +116,7 @@ pub fn levels(n: usize, arcs: &[u8; 4096], tips: &[u8; 4096], k: u8) -> Found
         if i < n {
             return Found::Closed(l, i);
         }
-        let p = pair(n, &d, tips, bound + 4);
+        let p = pair(n, &d, terminals, bound + 4);
         if p.row < n {
             return Found::Open(l, p.row, p.column);
         }

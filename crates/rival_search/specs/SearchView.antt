@@ -13,7 +13,7 @@ use Rattle.lists.specs.Keep.{∈-keep}
 use Rattle.model.specs.Instance.{Instance, surveyors, stands}
 use Rattle.model.specs.PlanFile.{edgesIn}
 use Rattle.theory_votes.specs.Score.{rate}
-use Rattle.theory_verdict.specs.Search.{tip, arc, room?, search}
+use Rattle.theory_verdict.specs.Search.{terminal, arc, room?, search}
 use Rattle.theory_verdict.specs.Stop.{search-same}
 use Rattle.arrays.specs.ArrayInstance.{at, flag, shown}
 use Rattle.rival_tables.specs.Filled.{Grid, Made, Low}
@@ -21,7 +21,7 @@ use Rattle.rival_tables.specs.Cheapest.{cheapest-cong, cheapest-≤, cheapest-r
 use Rattle.rival_arcs.specs.Arcs.{joining, priceOf, arcPrice}
 use Rattle.rival_gains.specs.Gains.{gainable, gainableBut, gainPrice, gainPriceBut}
 use Rattle.rival_laws.specs.Walks.{hitOf, searchAt, search-is}
-use Rattle.rival_laws.specs.Prices.{arc-is, tip-is, deg-places}
+use Rattle.rival_laws.specs.Prices.{arc-is, terminal-is, deg-places}
 
 -- the first n entries of es are the plan's edges
 abbrev pub Lists : ℕ → List Bool → ℕ → List ℕ → Type 0
@@ -53,8 +53,8 @@ freeAt sv st plan roomS roomT f = not (flag plan f) && (flag roomS (at sv f) && 
 abbrev pub arcCell : (m : ℕ) (sv st rs rt : List ℕ) (plan : List Bool) (ps pt qs qt : List ℕ) → ℕ → ℕ → ℕ
 arcCell m sv st rs rt plan ps pt qs qt i j = arcPrice m sv st rs rt plan (at pt i) (at qt i) (at ps j) (at qs j)
 
-abbrev pub tipCell : (m : ℕ) (sv st rs rt : List ℕ) (plan roomS roomT : List Bool) (ps pt qs qt : List ℕ) → ℕ → ℕ → ℕ
-tipCell m sv st rs rt plan roomS roomT ps pt qs qt i j =
+abbrev pub terminalCell : (m : ℕ) (sv st rs rt : List ℕ) (plan roomS roomT : List Bool) (ps pt qs qt : List ℕ) → ℕ → ℕ → ℕ
+terminalCell m sv st rs rt plan roomS roomT ps pt qs qt i j =
     min (min (gainPriceBut m sv st rs plan roomT 3 (at ps i) (at qs i) (at pt j)) (gainPriceBut m st sv rt plan roomS 3 (at pt j) (at qt j) (at ps i)) + 3)
     (gainPrice m sv st rs plan roomT 6 (at ps i) (at qs i) + gainPrice m st sv rt plan roomS 6 (at pt j) (at qt j))
 
@@ -117,9 +117,9 @@ module _ (m ns nt : ℕ) (sv st rs rt : List ℕ) (tied : List Bool) (quotaS quo
   pub free-shown : (f : ℕ) → f < m → freeAt sv st plan roomS roomT f ≡ not (M f) && (room? M (surveyors G) f && room? M (stands G) f)
   free-shown f h = ap₂ (λ a b. not (M f) && (a && b)) (room-S f h) (room-T f h)
 
-  pub tip-shown : (i j : ℕ) → i < n → j < n → tipCell m sv st rs rt plan roomS roomT ps pt qs qt i j ≡ tip G M (at es i) (at es j) .0
+  pub terminal-shown : (i j : ℕ) → i < n → j < n → terminalCell m sv st rs rt plan roomS roomT ps pt qs qt i j ≡ terminal G M (at es i) (at es j) .0
   unfolding gainPrice gainPriceBut
-  tip-shown i j il jl = ap₂ (λ a b. min (a + 3) b) (ap₂ min
+  terminal-shown i j il jl = ap₂ (λ a b. min (a + 3) b) (ap₂ min
       (cheapest-cong (gainableBut sv st plan roomT (at ps i) (at pt j)) (λ f. (not (M f) && (eqb (at sv f) (at sv x) && room? M (stands G) f)) && not (eqb (at st f) (at st y))) (λ f. rate (at qs i) (at rs f)) (λ f. rate (at rs x) (at rs f)) 3 0 m
       (λ f p q. ap₂ (λ s t. (not (M f) && (eqb (at sv f) s && flag roomT (at st f))) && not (eqb (at st f) t)) (views .sv-at i il) (views .st-at j jl) ∙ ap (λ r. (not (M f) && (eqb (at sv f) (at sv x) && r)) && not (eqb (at st f) (at st y))) (room-T f (omega arith)))
       (λ f p q. ap (λ a. rate a (at rs f)) (views .rs-at i il)))
@@ -133,7 +133,7 @@ module _ (m ns nt : ℕ) (sv st rs rt : List ℕ) (tied : List Bool) (quotaS quo
       (cheapest-cong (gainable st sv plan roomS (at pt j)) (λ f. not (M f) && (eqb (at st f) (at st y) && room? M (surveyors G) f)) (λ f. rate (at qt j) (at rt f)) (λ f. rate (at rt y) (at rt f)) 6 0 m
       (λ f p q. ap₂ (λ s r. not (M f) && (eqb (at st f) s && r)) (views .st-at j jl) (room-S f (omega arith)))
       (λ f p q. ap (λ a. rate a (at rt f)) (views .rt-at j jl))))
-      ∙ sym (tip-is G M (at es i) (at es j))
+      ∙ sym (terminal-is G M (at es i) (at es j))
     where
       x : ℕ
       x = at es i
@@ -141,8 +141,8 @@ module _ (m ns nt : ℕ) (sv st rs rt : List ℕ) (tied : List Bool) (quotaS quo
       y : ℕ
       y = at es j
 
-  pub search-shown : (arcs tips : List ℕ) (k : ℕ) → Grid arcs n (arcCell m sv st rs rt plan ps pt qs qt) → Grid tips n (tipCell m sv st rs rt plan roomS roomT ps pt qs qt)
-      → 2 * n + 4 + k ≤ 133 → hitOf G M es (searchAt m (freeAt sv st plan roomS roomT) arcs tips n k) ≡ search G M 133 k n
-  search-shown arcs tips k a t h =
-      search-is G M es n lists arcs tips (λ i j il jl. a i j il jl ∙ arc-shown i j il jl) (λ i j il jl. t i j il jl ∙ tip-shown i j il jl) k (freeAt sv st plan roomS roomT) free-shown
+  pub search-shown : (arcs terminals : List ℕ) (k : ℕ) → Grid arcs n (arcCell m sv st rs rt plan ps pt qs qt) → Grid terminals n (terminalCell m sv st rs rt plan roomS roomT ps pt qs qt)
+      → 2 * n + 4 + k ≤ 133 → hitOf G M es (searchAt m (freeAt sv st plan roomS roomT) arcs terminals n k) ≡ search G M 133 k n
+  search-shown arcs terminals k a t h =
+      search-is G M es n lists arcs terminals (λ i j il jl. a i j il jl ∙ arc-shown i j il jl) (λ i j il jl. t i j il jl ∙ terminal-shown i j il jl) k (freeAt sv st plan roomS roomT) free-shown
       ∙ search-same G M 133 k n h

@@ -6,11 +6,11 @@ ghost use Rattle.rival_tables.specs.Filled.{Low, Grid, Rows};
 ghost use Rattle.rival_layers.specs.Layers.{Small, Cheap};
 ghost use Rattle.rival_levels.specs.Levels.{SmallEnds};
 ghost use Rattle.rival_laws.specs.Walks.{searchAt};
-ghost use Rattle.rival_search.specs.SearchView.{freeAt, arcCell, tipCell};
-ghost use Rattle.rival_search.specs.TwoThresholds.{Hunted};
+ghost use Rattle.rival_search.specs.SearchView.{freeAt, arcCell, terminalCell};
+ghost use Rattle.rival_search.specs.TwoThresholds.{Searched};
 
 // The table of the ends, from the ends and ranks of the plan's edges and the room at the nodes.
-pub fn tip_table(
+pub fn terminal_table(
     m: usize,
     sv: &[u8; 1024],
     st: &[u8; 1024],
@@ -26,13 +26,13 @@ pub fn tip_table(
     ft: &[bool; 32],
 ) -> [u8; 4096]
     requires { ⌜ (m ≤ 1024) × (n ≤ 64) × Low m (now sv) 32 × Low m (now st) 32 ⌝ }
-    ensures { λ r. ⌜ Grid r n (tipCell m (now (sv .entry)) (now (st .entry)) (now (rs .entry)) (now (rt .entry)) (now (plan .entry)) (now (fs .entry)) (now (ft .entry)) (now (ps .entry)) (now (pt .entry)) (now (qs .entry)) (now (qt .entry))) ⌝ }
+    ensures { λ r. ⌜ Grid r n (terminalCell m (now (sv .entry)) (now (st .entry)) (now (rs .entry)) (now (rt .entry)) (now (plan .entry)) (now (fs .entry)) (now (ft .entry)) (now (ps .entry)) (now (pt .entry)) (now (qs .entry)) (now (qt .entry))) ⌝ }
 {
     let starts = rival_gains::apart(m, sv, st, rs, plan, ft, n, ps, pt, qs);
     let stops = rival_gains::apart(m, st, sv, rt, plan, fs, n, pt, ps, qt);
     let gs = rival_gains::gains(m, sv, st, rs, plan, ft, n, ps, qs);
     let gt = rival_gains::gains(m, st, sv, rt, plan, fs, n, pt, qt);
-    rival_ends::tips(n, &starts, &stops, &gs, &gt)
+    rival_ends::terminals(n, &starts, &stops, &gs, &gt)
 }
 
 // The search below k: an edge with room at both ends, a walk without an arc, the levels.
@@ -70,7 +70,7 @@ pub struct Hunt {
 
 // The search below 0, and the search below 1 if that one finds nothing, from the ends and ranks of the plan's edges, the room at the nodes and the
 // table of the arcs.
-pub fn hunted(
+pub fn searched(
     m: usize,
     sv: &[u8; 1024],
     st: &[u8; 1024],
@@ -87,9 +87,9 @@ pub fn hunted(
     arcs: &[u8; 4096],
 ) -> Hunt
     requires { ⌜ (m ≤ 1024) × (n ≤ 64) × Low m (now sv) 32 × Low m (now st) 32 × Rows (now arcs) n (arcCell m (now sv) (now st) (now rs) (now rt) (now plan) (now ps) (now pt) (now qs) (now qt)) ⌝ }
-    ensures { λ r. ⌜ Hunted m (now (sv .entry)) (now (st .entry)) (now (rs .entry)) (now (rt .entry)) (now (plan .entry)) n (now (ps .entry)) (now (pt .entry)) (now (qs .entry)) (now (qt .entry)) (now (fs .entry)) (now (ft .entry)) (now (arcs .entry)) (r .below) (r .found) ⌝ }
+    ensures { λ r. ⌜ Searched m (now (sv .entry)) (now (st .entry)) (now (rs .entry)) (now (rt .entry)) (now (plan .entry)) n (now (ps .entry)) (now (pt .entry)) (now (qs .entry)) (now (qt .entry)) (now (fs .entry)) (now (ft .entry)) (now (arcs .entry)) (r .below) (r .found) ⌝ }
 {
-    let ends = tip_table(m, sv, st, rs, rt, plan, n, ps, pt, qs, qt, fs, ft);
+    let ends = terminal_table(m, sv, st, rs, rt, plan, n, ps, pt, qs, qt, fs, ft);
     let first = search(m, sv, st, plan, fs, ft, n, arcs, &ends, 0);
     match first {
         rival_levels::Found::Nothing => {

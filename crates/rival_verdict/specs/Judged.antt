@@ -9,7 +9,7 @@ use Rattle.theory_verdict.specs.Search.{judge}
 use Rattle.rival_levels.specs.declared.Found.the-variants as found
 use Rattle.rival_levels.specs.declared.Found.{Found}
 use Rattle.rival_laws.specs.Walks.{hitOf}
-use Rattle.rival_search.specs.TwoThresholds.{hunted}
+use Rattle.rival_search.specs.TwoThresholds.{searched}
 use Rattle.rival_verdict.specs.declared.Judgement.the-variants as judgement
 use Rattle.rival_verdict.specs.declared.Judgement.{Judgement}
 
@@ -28,7 +28,7 @@ weighed false (found.Alone i) = popular
 weighed false (found.Closed l i) = popular
 weighed false (found.Open l i j) = popular
 
-pub weighed-hits : (G : Instance) (M : ℕ → Bool) (es : List ℕ) (a b : Found) → weighed (hunted a b .0) (hunted a b .1) ≡ judge (hitOf G M es a) (hitOf G M es b)
+pub weighed-hits : (G : Instance) (M : ℕ → Bool) (es : List ℕ) (a b : Found) → weighed (searched a b .0) (searched a b .1) ≡ judge (hitOf G M es a) (hitOf G M es b)
 weighed-hits G M es found.Nothing found.Nothing = refl
 weighed-hits G M es found.Nothing (found.Direct f) = refl
 weighed-hits G M es found.Nothing (found.Alone i) = refl

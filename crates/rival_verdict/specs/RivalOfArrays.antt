@@ -22,8 +22,8 @@ use Rattle.arrays.specs.Passes.{Shows}
 use Rattle.rival_tables.specs.Filled.{Low, Grid, Rows}
 use Rattle.rival_levels.specs.declared.Found.{Found}
 use Rattle.rival_laws.specs.Walks.{hitOf, searchAt}
-use Rattle.rival_search.specs.SearchView.{Lists, Views, Roomy, freeAt, arcCell, search-shown, arc-shown, tip-shown, room-S, room-T}
-use Rattle.rival_search.specs.TwoThresholds.{Hunted, hunted-hit, hunt-bounded}
+use Rattle.rival_search.specs.SearchView.{Lists, Views, Roomy, freeAt, arcCell, search-shown, arc-shown, terminal-shown, room-S, room-T}
+use Rattle.rival_search.specs.TwoThresholds.{Searched, searched-hit, searching-bounded}
 use Rattle.rival_verdict.specs.Judged.{weighed, weighed-hits}
 use Rattle.rival_exchange.specs.Swaps.{Marks, goneBy, comeBy, rivalAt, rival-at, shows-plan}
 
@@ -58,13 +58,13 @@ module _ (m ns nt : ℕ) (sv st rs rt : List ℕ) (tied : List Bool) (quotaS quo
 -- ---- what the code finds shows the verdict and the rival
 module _ (m : ℕ) (sv st rs rt quotaS quotaT : List ℕ) (plan : List Bool) (n : ℕ) (es ps pt qs qt : List ℕ) (roomS roomT : List Bool) (arcs : List ℕ) (below : Bool) (what : Found)
     (fits : n ≤ 64) (lowS : Low m sv 32) (lowT : Low m st 32) (lists : Lists m plan n es) (views : Views n es sv st rs rt ps pt qs qt) (roomyS : Roomy n ps quotaS roomS) (roomyT : Roomy n pt quotaT roomT)
-    (table : Rows arcs n (arcCell m sv st rs rt plan ps pt qs qt)) (hunt : Hunted m sv st rs rt plan n ps pt qs qt roomS roomT arcs below what) where
-  tips : List ℕ
-  tips = hunt .0
+    (table : Rows arcs n (arcCell m sv st rs rt plan ps pt qs qt)) (searching : Searched m sv st rs rt plan n ps pt qs qt roomS roomT arcs below what) where
+  terminals : List ℕ
+  terminals = searching .0
 
   -- what each search finds by places
   finds : ℕ → Found
-  finds k = searchAt m (freeAt sv st plan roomS roomT) arcs tips n k
+  finds k = searchAt m (freeAt sv st plan roomS roomT) arcs terminals n k
 
   shows-arcs : Grid arcs n (arcCell m sv st rs rt plan ps pt qs qt)
   shows-arcs i j il jl = table i j il (omega arith)
@@ -74,38 +74,38 @@ module _ (m : ℕ) (sv st rs rt quotaS quotaT : List ℕ) (plan : List Bool) (n 
     H = shown m ns nt sv st rs rt tied quotaS quotaT
 
     hit : (k : ℕ) → k ≤ 1 → hitOf H (flag plan) es (finds k) ≡ search H (flag plan) 133 k n
-    unfolding finds tips
-    hit k h = search-shown m ns nt sv st rs rt tied quotaS quotaT plan n es ps pt qs qt roomS roomT lowS lowT lists views roomyS roomyT arcs tips k shows-arcs (hunt .1) (omega arith)
+    unfolding finds terminals
+    hit k h = search-shown m ns nt sv st rs rt tied quotaS quotaT plan n es ps pt qs qt roomS roomT lowS lowT lists views roomyS roomyT arcs terminals k shows-arcs (searching .1) (omega arith)
 
     size : length (edgesIn m (flag plan)) ≡ n
     size = ap length lists ∙ length-map (range 0 n) (at es) ∙ range-length 0 n
 
     found-verdict : weighed below what ≡ computedVerdict H plan
-    unfolding computedVerdict verdictBy finds tips
+    unfolding computedVerdict verdictBy finds terminals
     found-verdict =
-        ap (λ (h : Bool × Found). weighed (h .0) (h .1)) (hunt .2)
+        ap (λ (h : Bool × Found). weighed (h .0) (h .1)) (searching .2)
         ∙ weighed-hits H (flag plan) es (finds 0) (finds 1)
         ∙ ap₂ judge (hit 0 (omega arith)) (hit 1 (omega arith))
         ∙ ap (λ k. judge (search H (flag plan) 133 0 k) (search H (flag plan) 133 1 k)) (sym size)
 
     found-hit : hitOf H (flag plan) es what ≡ orElse (search H (flag plan) 133 0 n) (search H (flag plan) 133 1 n)
-    unfolding finds tips
+    unfolding finds terminals
     found-hit =
-        ap (λ (h : Bool × Found). hitOf H (flag plan) es (h .1)) (hunt .2)
-        ∙ hunted-hit H (flag plan) es (finds 0) (finds 1)
+        ap (λ (h : Bool × Found). hitOf H (flag plan) es (h .1)) (searching .2)
+        ∙ searched-hit H (flag plan) es (finds 0) (finds 1)
         ∙ ap₂ orElse (hit 0 (omega arith)) (hit 1 (omega arith))
 
     found-rival : (rival : List Bool) → Shows false rival m (rivalAt m sv st rs rt plan roomS roomT es arcs n what) → (e : ℕ) → flag rival e ≡ on (rivalOf H plan) e
-    unfolding rivalOf rivalEdges tips
+    unfolding rivalOf rivalEdges terminals
     found-rival rival s e =
         shows-plan m rival (rivalAt m sv st rs rt plan roomS roomT es arcs n what) s e
         ∙ ap (λ N. on N e) (planOf-cong m (rivalAt m sv st rs rt plan roomS roomT es arcs n what) (Option·elim (hitOf H (flag plan) es what) (flag plan) (rivalBy (flag plan))) (λ d h.
-        rival-at m sv st rs rt plan roomS roomT es arcs n ns nt tied quotaS quotaT lists tips
+        rival-at m sv st rs rt plan roomS roomT es arcs n ns nt tied quotaS quotaT lists terminals
         (λ i j il jl. shows-arcs i j il jl ∙ arc-shown m ns nt sv st rs rt tied quotaS quotaT plan n es ps pt qs qt roomS roomT lowS lowT lists views roomyS roomyT i j il jl)
-        (λ i j il jl. hunt .1 i j il jl ∙ tip-shown m ns nt sv st rs rt tied quotaS quotaT plan n es ps pt qs qt roomS roomT lowS lowT lists views roomyS roomyT i j il jl)
+        (λ i j il jl. searching .1 i j il jl ∙ terminal-shown m ns nt sv st rs rt tied quotaS quotaT plan n es ps pt qs qt roomS roomT lowS lowT lists views roomyS roomyT i j il jl)
         (room-S m ns nt sv st rs rt tied quotaS quotaT plan n es ps pt qs qt roomS roomT lowS lowT lists views roomyS roomyT)
         (room-T m ns nt sv st rs rt tied quotaS quotaT plan n es ps pt qs qt roomS roomT lowS lowT lists views roomyS roomyT)
-        what (hunt-bounded m sv st rs rt plan n ps pt qs qt roomS roomT arcs below what hunt) d))
+        what (searching-bounded m sv st rs rt plan n ps pt qs qt roomS roomT arcs below what searching) d))
         ∙ ap (λ (o : Option Hit). on (planOf m (Option·elim o (flag plan) (rivalBy (flag plan)))) e) found-hit
         ∙ ap (λ k. on (planOf m (Option·elim (orElse (search H (flag plan) 133 0 k) (search H (flag plan) 133 1 k)) (flag plan) (rivalBy (flag plan)))) e) (sym size)
 

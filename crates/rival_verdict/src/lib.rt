@@ -74,7 +74,7 @@ pub fn judged_on(
     ensures { λ r. ⌜ ShownFor m (now (sv .entry)) (now (st .entry)) (now (rs .entry)) (now (rt .entry)) (now (plan .entry)) n (now (ps .entry)) (now (pt .entry)) (now (fs .entry)) (now (ft .entry)) (verdictFor (r .judgement)) (r .rival) ⌝ }
 {
     let arcs = rival_arcs::arcs(m, sv, st, rs, rt, plan, n, ps, pt, qs, qt);
-    let h = rival_search::hunted(m, sv, st, rs, rt, plan, n, ps, pt, qs, qt, fs, ft, &arcs);
+    let h = rival_search::searched(m, sv, st, rs, rt, plan, n, ps, pt, qs, qt, fs, ft, &arcs);
     let below = h.below;
     let found = h.found;
     let judgement = weigh(below, found);

@@ -13,7 +13,7 @@ use Rattle.lists.specs.Sum.{_∈_, range, ∈-range}
 use Rattle.lists.specs.First.{best}
 use Rattle.model.specs.Instance.{Instance}
 use Rattle.theory_instance.specs.Walk.{Steps}
-use Rattle.theory_verdict.specs.Search.{Lead, stay, via, onLead, kept, olds, tip, arc, layer, walkPrice, trace}
+use Rattle.theory_verdict.specs.Search.{Lead, stay, via, onLead, kept, olds, terminal, arc, layer, walkPrice, trace}
 use Rattle.theory_verdict.specs.Arcs.{fs, zs}
 use Rattle.arrays.specs.ArrayInstance.{at, flag}
 use Rattle.rival_tables.specs.Filled.{cell, Grid}
@@ -83,7 +83,7 @@ module _ (by : ℕ → ℕ → ℕ) (es arcs : List ℕ) (n j : ℕ) where
 
 -- ---- it is the search's
 module _ (G : Instance) (M : ℕ → Bool) (es : List ℕ) (n : ℕ) (lists : olds G M ≡ map (at es) (range 0 n))
-    (arcs tips : List ℕ) (arcsShow : Grid arcs n (λ i j. arc G M 133 (at es i) (at es j) .0)) (tipsShow : Grid tips n (λ i j. tip G M (at es i) (at es j) .0)) where
+    (arcs terminals : List ℕ) (arcsShow : Grid arcs n (λ i j. arc G M 133 (at es i) (at es j) .0)) (terminalsShow : Grid terminals n (λ i j. terminal G M (at es i) (at es j) .0)) where
   abbrev by : ℕ → ℕ → ℕ
   by x z = arc G M 133 x z .1
 
@@ -94,7 +94,7 @@ module _ (G : Instance) (M : ℕ → Bool) (es : List ℕ) (n : ℕ) (lists : ol
   unfolding layer leadAt
   lead-is k i j il jl =
       ap (λ xs. best bid (kept 133 (walkPrice G M 133 k (at es i) (at es j)), stay) xs .1) lists
-      ∙ ap₂ (λ v l. best bid (v, l) (map (at es) (range 0 n)) .1) (ap keptPrice (layer-is G M es n lists arcs tips arcsShow tipsShow k i j il jl)) (sym (ap (λ (b : Bool). cond b (via (at es n)) stay) (le-ltb n n (omega arith))))
+      ∙ ap₂ (λ v l. best bid (v, l) (map (at es) (range 0 n)) .1) (ap keptPrice (layer-is G M es n lists arcs terminals arcsShow terminalsShow k i j il jl)) (sym (ap (λ (b : Bool). cond b (via (at es n)) stay) (le-ltb n n (omega arith))))
       ∙ ap (λ c. c .1) (best-named bid (bidAt arcs column i) (at es) named (keptPrice (column i), n) (range 0 n) same)
       ∙ ap (λ xs. named (best (bidAt arcs column i) (keptPrice (column i), n) xs .1)) (sym (keep-all (range 0 n)))
     where
@@ -108,7 +108,7 @@ module _ (G : Instance) (M : ℕ → Bool) (es : List ℕ) (n : ℕ) (lists : ol
       same y m =
           let (u, w) = ∈-range n 0 m in
           let l : y < n = omega arith in
-          ap₂ (λ (p : ℕ) (l : Lead). (p, l)) (ap₂ (λ a b. a + b) (sym (arcsShow i y il l)) (layer-is G M es n lists arcs tips arcsShow tipsShow k y j l jl)) (sym (ap (λ (b : Bool). cond b (via (at es y)) stay) (lt-ltb y n l)))
+          ap₂ (λ (p : ℕ) (l : Lead). (p, l)) (ap₂ (λ a b. a + b) (sym (arcsShow i y il l)) (layer-is G M es n lists arcs terminals arcsShow terminalsShow k y j l jl)) (sym (ap (λ (b : Bool). cond b (via (at es y)) stay) (lt-ltb y n l)))
 
   pub trace-is : (k i j : ℕ) → i < n → j < n → trace G M 133 k (at es i) (at es j) ≡ walkAt by es arcs n j k i
   unfolding trace walkAt

@@ -27,7 +27,7 @@ abbrev pub Blocks : (K : Side) (M rem : ℕ → Bool) → ℕ → Type 0
 Blocks K M rem f = (deg K M (K .end f) < K .quota (K .end f)) ⊎ ((x : ℕ) × In (K .m) M rem x × (K .end f ≡ K .end x) × (K .rank f < K .rank x))
 
 -- one side, a state and a plan within the quotas, which is the fixed edges and some of the remaining ones
-pub record Facing : Type 0 where
+pub record PlanAgainstArrows : Type 0 where
   pub K : Side
   pub law : Ranked K
   pub M : ℕ → Bool
@@ -49,7 +49,7 @@ bit-parts true false false h k n = absurd (k tt tt)
 bit-parts false r true h k n = absurd (h tt)
 bit-parts false r false h k n = refl
 
-module _ (A : Facing) where
+module _ (A : PlanAgainstArrows) where
   abbrev K : Side
   K = A .K
 

@@ -60,7 +60,7 @@ module _ (G : Instance) (M : ℕ → Bool) where
   Stop y lose = Unit {0}
   Stop y (gain g) = New G M g × RoomS G M g × (G .st g ≡ G .st y)
 
-  pub record Whole (a : Way) (x : ℕ) (w : Steps) (y : ℕ) (b : Way) : Type 0 where
+  pub record AlternatingPath (a : Way) (x : ℕ) (w : Steps) (y : ℕ) (b : Way) : Type 0 where
     pub old : Old G M x
     pub walk : Walk G M x w y
     pub start : Start a x
@@ -84,7 +84,7 @@ module _ (G : Instance) (M : ℕ → Bool) where
 
   module _ (law : Lawful G) (plan : Matching G M) where
     -- ---- a whole
-    module _ (a : Way) (x : ℕ) (w : Steps) (y : ℕ) (b : Way) (h : Whole a x w y b) where
+    module _ (a : Way) (x : ℕ) (w : Steps) (y : ℕ) (b : Way) (h : AlternatingPath a x w y b) where
       comers-occ : (e : ℕ) → occ e (comers a w b) ≡ occ e (fresh a) + (occ e (fs w) + occ e (fresh b))
       comers-occ e = sum-three (λ f. bit (eqb f e)) (fresh a) (fs w) (fresh b)
 

@@ -14,8 +14,8 @@ use Rattle.model.specs.Instance.{Instance, Side, surveyors, stands, deg}
 use Rattle.theory_instance.specs.Walk.{Steps, Old, New, Arc}
 use Rattle.theory_verdict.specs.Ends.{Way, lose, gain}
 use Rattle.theory_verdict.specs.AlternatingPath.{Start, Stop, Apart}
-use Rattle.theory_verdict.specs.Search.{kept, Lead, stay, via, onLead, price, tipPrice, apart?, olds, news, room?, joins?, ways, tipsAt, tip, links?, arc, layer, walkPrice, trace}
-use Rattle.theory_verdict.specs.Table.{Arcs, Layer, Next, Tips, first-layer, next-layer}
+use Rattle.theory_verdict.specs.Search.{kept, Lead, stay, via, onLead, price, terminalPrice, apart?, olds, news, room?, joins?, ways, terminalsAt, terminal, links?, arc, layer, walkPrice, trace}
+use Rattle.theory_verdict.specs.Table.{Arcs, Layer, Next, Terminals, first-layer, next-layer}
 
 module _ (G : Instance) (M : ℕ → Bool) where
   -- ---- the lists of edges
@@ -76,21 +76,21 @@ module _ (G : Instance) (M : ℕ → Bool) where
   test-apart (gain f) x y lose t = λ e. T-not (eqb (G .st f) (G .st y)) t (eq→eqb (G .st f) (G .st y) e)
   test-apart (gain f) x y (gain g) t = tt
 
-  pub tips : Tips G M (tip G M)
-  unfolding tip
-  tips = record {
-    low = λ a x y b s e d. best-≤ (λ p. (tipPrice G x y p, p)) (6, (lose, lose)) (tipsAt G M x y) (a, b)
+  pub terminals : Terminals G M (terminal G M)
+  unfolding terminal
+  terminals = record {
+    low = λ a x y b s e d. best-≤ (λ p. (terminalPrice G x y p, p)) (6, (lose, lose)) (terminalsAt G M x y) (a, b)
         (keep-∈ (apart? G x y) (both x y) (product-∈ (ways G M (surveyors G) (stands G) x) (ways G M (stands G) (surveyors G) y) (start-∈ a x s) (stop-∈ y b e)) (apart-test a x y b d));
-    hit = λ x y. best-ind (λ p. (tipPrice G x y p, p)) (Good x y) (6, (lose, lose)) (tipsAt G M x y) (tt, tt, tt, refl) (this x y);
+    hit = λ x y. best-ind (λ p. (terminalPrice G x y p, p)) (Good x y) (6, (lose, lose)) (terminalsAt G M x y) (tt, tt, tt, refl) (this x y);
   }
     where
       both : ℕ → ℕ → List (Way × Way)
       both x y = product (ways G M (surveyors G) (stands G) x) (ways G M (stands G) (surveyors G) y)
 
       Good : ℕ → ℕ → ℕ × (Way × Way) → Type 0
-      Good x y (c, (a, b)) = Start G M a x × Stop G M y b × Apart G a x y b × (tipPrice G x y (a, b) ≡ c)
+      Good x y (c, (a, b)) = Start G M a x × Stop G M y b × Apart G a x y b × (terminalPrice G x y (a, b) ≡ c)
 
-      this : (x y : ℕ) (p : Way × Way) → p ∈ tipsAt G M x y → Good x y (tipPrice G x y p, p)
+      this : (x y : ℕ) (p : Way × Way) → p ∈ terminalsAt G M x y → Good x y (terminalPrice G x y p, p)
       this x y (a, b) m =
           let (q, t) = ∈-keep (apart? G x y) (both x y) m in
           let (i, j) = ∈-product (a, b) (ways G M (surveyors G) (stands G) x) (ways G M (stands G) (surveyors G) y) q in

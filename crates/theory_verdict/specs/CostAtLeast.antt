@@ -4,12 +4,12 @@ use Prim.Native.Nat.{ℕ}
 use mathlib.Core.Bool.{Bool}
 use Rattle.model.specs.Instance.{Instance}
 use Rattle.theory_verdict.specs.Ends.{Way}
-use Rattle.theory_verdict.specs.LemmaW.{NoDirect, DearTo, DearWholeTo}
+use Rattle.theory_verdict.specs.LemmaW.{NoDirect, CostAtLeastTo, PathCostAtLeastTo}
 
-abbrev pub DearWholes : Instance → (ℕ → Bool) → ℕ → ℕ → Type 0
-DearWholes G M k n = (a b : Way) → DearWholeTo G M k a b n
+abbrev pub PathsCostAtLeast : Instance → (ℕ → Bool) → ℕ → ℕ → Type 0
+PathsCostAtLeast G M k n = (a b : Way) → PathCostAtLeastTo G M k a b n
 
-pub record DearBelow (G : Instance) (M : ℕ → Bool) (k n : ℕ) : Type 0 where
+pub record CostAtLeastBelow (G : Instance) (M : ℕ → Bool) (k n : ℕ) : Type 0 where
   pub direct : NoDirect G M
-  pub loops : DearTo G M k n
-  pub wholes : DearWholes G M k n
+  pub loops : CostAtLeastTo G M k n
+  pub paths : PathsCostAtLeast G M k n

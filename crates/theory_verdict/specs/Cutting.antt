@@ -24,16 +24,16 @@ use Rattle.theory_votes.specs.Exchange.{Couple, for, against, Moves}
 use Rattle.theory_votes.specs.Converse.{goers, swap-of, couplesTo, lossesTo, moves-of, cost-of}
 use Rattle.theory_verdict.specs.Strong.{Holds}
 use Rattle.theory_verdict.specs.Ends.{lose, gain}
-use Rattle.theory_verdict.specs.CostAtLeast.{DearBelow}
+use Rattle.theory_verdict.specs.CostAtLeast.{CostAtLeastBelow}
 use Rattle.theory_verdict.specs.Left.{filled, grown, yielding, take-yielding, take-entering, known-part, moves-known, filled-census, votesFor, votesAgainst, Left, left-even, left-nothing}
 use Rattle.theory_verdict.specs.Follow.{Rest, follow, circle}
 
-module _ (G : Instance) (M : ℕ → Bool) (k n : ℕ) (dear : DearBelow G M k n) where
+module _ (G : Instance) (M : ℕ → Bool) (k n : ℕ) (costly : CostAtLeastBelow G M k n) where
   -- nothing less than 0, and k at least if there is anything
   abbrev Fine : List Couple → List ℕ → List Couple → List ℕ → Type 0
   Fine cS lS cT lT = (votesAgainst G cS cT ≤ votesFor G cS lS cT lT) × (0 < length cT + length lS → k + votesAgainst G cS cT ≤ votesFor G cS lS cT lT)
 
-  module _ (size : ℕ) (rest : Rest G M k n dear size) where
+  module _ (size : ℕ) (rest : Rest G M k n costly size) where
     -- no start is left, so no end: a closed walk
     closing : (cS cT : List Couple) (lT : List ℕ) → length cT ≤ suc size → filled cT < n → grown cT ≡ 0 → Left G M cS [] cT lT [] [] → Fine cS [] cT lT
     closing [] [] lT h b g st = (zero-le, λ p. absurd (omega arith))
@@ -42,7 +42,7 @@ module _ (G : Instance) (M : ℕ → Bool) (k n : ℕ) (dear : DearBelow G M k n
     closing ((edge x, f) ∷ cS) cT (l ∷ lT) h b g st = absurd (omega (arith, left-even G M st))
     closing ((edge x, f) ∷ cS) cT [] h b g st =
         let (o, e) = st .atS .meet (List·Memᴰ·head refl) in
-        let q = circle G M k n dear rest x f (suc (filled cT)) {w = []} {y = x} {cS = cS} {cT = cT} (omega arith) (record {
+        let q = circle G M k n costly rest x f (suc (filled cT)) {w = []} {y = x} {cS = cS} {cT = cT} (omega arith) (record {
           few = omega arith;
           less = h;
           left = record {
@@ -60,7 +60,7 @@ module _ (G : Instance) (M : ℕ → Bool) (k n : ℕ) (dear : DearBelow G M k n
 
     start-lost : (cS : List Couple) (l : ℕ) (lS : List ℕ) (cT : List Couple) (lT : List ℕ) → length cT + length lS ≤ size → filled cT < n → Left G M cS (l ∷ lS) cT lT [] [] → Fine cS (l ∷ lS) cT lT
     start-lost cS l lS cT lT h b st =
-        let q = follow G M k n dear rest lose l (filled cT) {w = []} {y = l} {cS = cS} {cT = cT} {lS = lS} {lT = lT} (omega arith) (record {
+        let q = follow G M k n costly rest lose l (filled cT) {w = []} {y = l} {cS = cS} {cT = cT} {lS = lS} {lT = lT} (omega arith) (record {
           few = omega arith;
           less = h;
           left = record {
@@ -82,7 +82,7 @@ module _ (G : Instance) (M : ℕ → Bool) (k n : ℕ) (dear : DearBelow G M k n
     start-gained cS lS cT lT h b st f mT x mS =
         let (o, e) = st .atS .meet mS in
         let less = sum-remove (λ c. bit (not (same (c .0) empty))) mT in
-        let q = follow G M k n dear rest (gain f) x (filled (remove mT)) {w = []} {y = x} {cS = remove mS} {cT = remove mT} {lS = lS} {lT = lT} (omega arith) (record {
+        let q = follow G M k n costly rest (gain f) x (filled (remove mT)) {w = []} {y = x} {cS = remove mS} {cT = remove mT} {lS = lS} {lT = lT} (omega arith) (record {
           few = omega (arith, less);
           less = omega (arith, remove-length mT);
           left = record {
@@ -112,7 +112,7 @@ module _ (G : Instance) (M : ℕ → Bool) (k n : ℕ) (dear : DearBelow G M k n
   pieces (suc size) cS [] cT lT h b st = by-cases (decLt 0 (grown cT))
       (λ p. let (f, mT) = take-yielding empty cT p in
       ⊎-elim
-      (λ mS. absurd (dear .direct f (st .atS .new mS) (st .atS .room mS) (st .atT .room mT)))
+      (λ mS. absurd (costly .direct f (st .atS .new mS) (st .atS .room mS) (st .atT .room mT)))
       (λ (x, mS). start-gained size (λ cS lS cT lT h b st. pieces size cS lS cT lT h b st .0) cS [] cT lT h b st f mT x mS)
       (take-entering f cS (omega (arith, st .come f, sum-remove (λ c. bit (eqb (c .1) f)) mT, same-refl (edge f)))))
       (λ p. closing size (λ cS lS cT lT h b st. pieces size cS lS cT lT h b st .0) cS cT lT (omega arith) b (omega arith) st)
@@ -174,9 +174,9 @@ module _ (G : Instance) (M N : ℕ → Bool) (law : Lawful G) (pM : Matching G M
       go false true p q r s = absurd (omega (arith, occ-upTo (G .m) e h))
       go false false p q r s = refl
 
-  module _ (k n : ℕ) (dear : DearBelow G M k n) (few : count M (G .m) < n) where
-    fine : Fine G M k n dear cS lS cT lT
-    fine = pieces G M k n dear (length cT + length lS) cS lS cT lT (omega arith) (omega (arith, filled-≤)) all-left
+  module _ (k n : ℕ) (costly : CostAtLeastBelow G M k n) (few : count M (G .m) < n) where
+    fine : Fine G M k n costly cS lS cT lT
+    fine = pieces G M k n costly (length cT + length lS) cS lS cT lT (omega arith) (omega (arith, filled-≤)) all-left
 
     -- also where N is M
     tally-≥ : quotas G ≤ tally G M N
@@ -187,11 +187,11 @@ module _ (G : Instance) (M N : ℕ → Bool) (law : Lawful G) (pM : Matching G M
         (λ h. omega (arith, fine .1 h, cost-of (surveyors G) M N (pM .atS) (pN .atS) (law .atS), cost-of (stands G) M N (pM .atT) (pN .atT) (law .atT)))
         (λ h. absurd (o (nothing-same (omega arith))))
 
-module _ (G : Instance) (M : ℕ → Bool) (law : Lawful G) (plan : Matching G M) (k n : ℕ) (dear : DearBelow G M k n) (few : count M (G .m) < n) where
+module _ (G : Instance) (M : ℕ → Bool) (law : Lawful G) (plan : Matching G M) (k n : ℕ) (costly : CostAtLeastBelow G M k n) (few : count M (G .m) < n) where
   -- the vote against every other plan is at least k
   pub cutting : Holds G k M
-  cutting = record { plan = plan; wins = λ N pN o. tally-≥-other G M N law plan pN k n dear few o }
+  cutting = record { plan = plan; wins = λ N pN o. tally-≥-other G M N law plan pN k n costly few o }
 
   -- and no plan at all beats M
   pub unbeaten : (N : ℕ → Bool) → Matching G N → quotas G ≤ tally G M N
-  unbeaten N pN = tally-≥ G M N law plan pN k n dear few
+  unbeaten N pN = tally-≥ G M N law plan pN k n costly few

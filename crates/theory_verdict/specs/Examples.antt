@@ -12,7 +12,7 @@ use Rattle.lists.specs.First.{first, best}
 use Rattle.model.specs.Instance.{Instance, deg}
 use Rattle.theory_verdict.specs.LemmaX.{swapped}
 use Rattle.theory_verdict.specs.Ends.{lose, gain}
-use Rattle.theory_verdict.specs.Search.{direct, loop, whole, arc, layer, trace, tip, directs, aloneAt, loopAt, wholeAt, levels, search, still, levels′, search′, rivalEdges}
+use Rattle.theory_verdict.specs.Search.{direct, loop, path, arc, layer, trace, terminal, directs, aloneAt, loopAt, pathAt, levels, search, still, levels′, search′, rivalEdges}
 use Rattle.theory_verdict.specs.Rival.{lid, rivalOf}
 
 -- edges by surveyor, stand, rank there and rank here; n nodes a side, quotas of 1; all edges are tied at the stands, or none
@@ -39,7 +39,7 @@ tie : Instance
 tie = made 2 true ((0, 0, 1, 1) ∷ (1, 0, 1, 1) ∷ [])
 
 tie-rival : rivalOf tie (true ∷ false ∷ []) ≡ false ∷ true ∷ []
-unfolding tie made rivalOf rivalEdges Option·elim swapped search directs aloneAt levels loopAt wholeAt first best arc layer trace tip orElse deg count
+unfolding tie made rivalOf rivalEdges Option·elim swapped search directs aloneAt levels loopAt pathAt first best arc layer trace terminal orElse deg count
 tie-rival = refl
 
 -- it ties neither, and nobody has anything: an edge with room at both ends
@@ -51,11 +51,11 @@ unfolding ranked made set search directs first orElse deg count
 empty-beaten = refl
 
 -- one edge keeps two others out: its two ends like it best, but the two nodes that were left out gain, so it is a draw
-path : Instance
-path = made 2 false ((0, 0, 1, 1) ∷ (0, 1, 2, 1) ∷ (1, 0, 1, 2) ∷ [])
+short : Instance
+short = made 2 false ((0, 0, 1, 1) ∷ (0, 1, 2, 1) ∷ (1, 0, 1, 2) ∷ [])
 
-path-drawn : search path (set (0 ∷ [])) lid 1 1 ≡ some (whole (gain 1) 0 [] 0 (gain 2))
-unfolding path made set search directs aloneAt first best tip orElse deg count
+path-drawn : search short (set (0 ∷ [])) lid 1 1 ≡ some (path (gain 1) 0 [] 0 (gain 2))
+unfolding short made set search directs aloneAt first best terminal orElse deg count
 path-drawn = refl
 
 -- two surveyors, two stands, and all of them prefer the pairs outside {0-0, 1-1}: a closed walk of two arcs
@@ -63,15 +63,15 @@ crossed : Instance
 crossed = made 2 false ((0, 0, 2, 2) ∷ (1, 1, 2, 2) ∷ (0, 1, 1, 1) ∷ (1, 0, 1, 1) ∷ [])
 
 crossed-beaten : search crossed (set (0 ∷ 1 ∷ [])) lid 0 2 ≡ some (loop 0 ((3, 1) ∷ (2, 0) ∷ []))
-unfolding crossed made set search directs aloneAt levels loopAt wholeAt first best arc layer trace tip orElse deg count
+unfolding crossed made set search directs aloneAt levels loopAt pathAt first best arc layer trace terminal orElse deg count
 crossed-beaten = refl
 
 -- why closed walks come first: the whole from 0-0 round to 0-0 costs less than 0 as well, and it would remove 0-0 twice
-crossed-not-simple : wholeAt crossed (set (0 ∷ 1 ∷ [])) lid 0 1 ≡ some (whole lose 0 ((3, 1) ∷ (2, 0) ∷ []) 0 lose)
-unfolding crossed made set wholeAt first best arc layer trace tip deg count
+crossed-not-simple : pathAt crossed (set (0 ∷ 1 ∷ [])) lid 0 1 ≡ some (path lose 0 ((3, 1) ∷ (2, 0) ∷ []) 0 lose)
+unfolding crossed made set pathAt first best arc layer trace terminal deg count
 crossed-not-simple = refl
 
 -- the other plan is strong: the search below 1 stops long before 60 levels, and finds nothing
 crossed-stop : search′ crossed (set (2 ∷ 3 ∷ [])) lid 1 60 ≡ none
-unfolding crossed made set search′ directs aloneAt levels′ still loopAt wholeAt first best arc layer trace tip orElse deg count
+unfolding crossed made set search′ directs aloneAt levels′ still loopAt pathAt first best arc layer trace terminal orElse deg count
 crossed-stop = refl

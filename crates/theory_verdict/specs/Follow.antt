@@ -20,10 +20,10 @@ use Rattle.theory_votes.specs.Places.{same-refl}
 use Rattle.theory_votes.specs.Exchange.{Couple, for, against}
 use Rattle.theory_verdict.specs.Ends.{Way, lose, gain}
 use Rattle.theory_verdict.specs.AlternatingPath.{startPlus, startMinus, Apart, Start}
-use Rattle.theory_verdict.specs.CostAtLeast.{DearBelow}
+use Rattle.theory_verdict.specs.CostAtLeast.{CostAtLeastBelow}
 use Rattle.theory_verdict.specs.Left.{filled, grown, take-yielding, take-entering, known-part, votesFor, votesAgainst, Left, left-without}
 
-module _ (G : Instance) (M : ℕ → Bool) (k n : ℕ) (dear : DearBelow G M k n) where
+module _ (G : Instance) (M : ℕ → Bool) (k n : ℕ) (costly : CostAtLeastBelow G M k n) where
   -- a smaller exchange costs at least 0
   abbrev pub Rest : ℕ → Type 0
   Rest size = (cS : List Couple) (lS : List ℕ) (cT : List Couple) (lT : List ℕ) → length cT + length lS ≤ size → filled cT < n → Left G M cS lS cT lT [] [] → votesAgainst G cS cT ≤ votesFor G cS lS cT lT
@@ -60,7 +60,7 @@ module _ (G : Instance) (M : ℕ → Bool) (k n : ℕ) (dear : DearBelow G M k n
     end-lost : {w : Steps} {y : ℕ} {cS cT : List Couple} {lS lT : List ℕ} → Open size a x w y cS lS cT lT → y ∈ lT → OpenCosts a x w cS lS cT lT
     end-lost {w} {y} {cS} {cT} {lS} {lT} o m =
         let st = o .left in
-        let d = dear .wholes a lose x w y (omega (arith, o .few)) (record { old = o .old; walk = o .walk; start = o .start; stop = tt; apart = o .at-loss y m }) in
+        let d = costly .paths a lose x w y (omega (arith, o .few)) (record { old = o .old; walk = o .walk; start = o .start; stop = tt; apart = o .at-loss y m }) in
         let r = rest cS lS cT (remove m) (o .less) (omega (arith, o .few)) (record {
           atS = st .atS;
           atT = known-part (stands G) M (λ c q. q) (λ l q. remove-∈ m q) (st .atT);
@@ -72,7 +72,7 @@ module _ (G : Instance) (M : ℕ → Bool) (k n : ℕ) (dear : DearBelow G M k n
     end-gained : {w : Steps} {y f : ℕ} {cS cT : List Couple} {lS lT : List ℕ} → Open size a x w y cS lS cT lT → _∈_ {A = Couple} (edge y, f) cT → _∈_ {A = Couple} (empty, f) cS → OpenCosts a x w cS lS cT lT
     end-gained {w} {y} {f} {cS} {cT} {lS} {lT} o mT mS =
         let st = o .left in
-        let d = dear .wholes a (gain f) x w y (omega (arith, o .few)) (record {
+        let d = costly .paths a (gain f) x w y (omega (arith, o .few)) (record {
           old = o .old;
           walk = o .walk;
           start = o .start;
@@ -131,7 +131,7 @@ module _ (G : Instance) (M : ℕ → Bool) (k n : ℕ) (dear : DearBelow G M k n
     close {w} {y} {cS} {cT} o m =
         let st = o .left in
         let len = sum-remove (λ c. bit (not (same (c .0) empty))) m in
-        let d = dear .loops x (w ++ ((g, x) ∷ [])) (omega (arith, o .few, length-append w ((g, x) ∷ []))) (omega (arith, length-append w ((g, x) ∷ [])))
+        let d = costly .loops x (w ++ ((g, x) ∷ [])) (omega (arith, o .few, length-append w ((g, x) ∷ []))) (omega (arith, length-append w ((g, x) ∷ [])))
         (walk-append G M x y x w ((g, x) ∷ []) (o .walk) ((st .atT .new m, o .old, sym (st .atT .meet m .1), sym (o .meet)), refl)) in
         let r = rest cS [] (remove m) [] (omega (arith, o .less, remove-length m)) (omega (arith, o .few)) (record {
           atS = st .atS;

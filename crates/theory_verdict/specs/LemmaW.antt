@@ -26,7 +26,7 @@ use Rattle.theory_verdict.specs.Strong.{Strong, Holds, strong-holds}
 use Rattle.theory_verdict.specs.LemmaX.{holds-cost}
 use Rattle.theory_verdict.specs.Arcs.{fs, zs}
 use Rattle.theory_verdict.specs.Ends.{Way, lose, gain, fresh}
-use Rattle.theory_verdict.specs.AlternatingPath.{startPlus, startMinus, stopPlus, stopMinus, comers, Start, Stop, Apart, Whole, simple, simple-loop, simple-direct}
+use Rattle.theory_verdict.specs.AlternatingPath.{startPlus, startMinus, stopPlus, stopMinus, comers, Start, Stop, Apart, AlternatingPath, simple, simple-loop, simple-direct}
 use Rattle.theory_verdict.specs.Cut.{Cut, repeats, repeats-open}
 
 -- ---- nothing comes twice
@@ -61,28 +61,28 @@ first-∈ ((f, z) ∷ w) h = (z, List·Memᴰ·head refl)
 
 -- ---- costs of at least k
 module _ (G : Instance) (k : ℕ) where
-  abbrev pub Dear : ℕ → Steps → Type 0
-  Dear x w = k + minus G x w ≤ plus G x w
+  abbrev pub CostAtLeast : ℕ → Steps → Type 0
+  CostAtLeast x w = k + minus G x w ≤ plus G x w
 
-  abbrev pub DearWhole : Way → ℕ → Steps → ℕ → Way → Type 0
-  DearWhole a x w y b = k + (minus G x w + (startMinus G a x + stopMinus G y b)) ≤ plus G x w + (startPlus G a x + stopPlus G y b)
+  abbrev pub PathCostAtLeast : Way → ℕ → Steps → ℕ → Way → Type 0
+  PathCostAtLeast a x w y b = k + (minus G x w + (startMinus G a x + stopMinus G y b)) ≤ plus G x w + (startPlus G a x + stopPlus G y b)
 
 abbrev pub NoDirect : Instance → (ℕ → Bool) → Type 0
 NoDirect G M = (f : ℕ) → New G M f → RoomS G M f → RoomT G M f → ⊥
 
 module _ (G : Instance) (M : ℕ → Bool) (k : ℕ) where
   -- all closed walks, all wholes with these two ends, of less than n arcs
-  abbrev pub DearTo : ℕ → Type 0
-  DearTo n = (x : ℕ) (w : Steps) → length w < n → 0 < length w → Walk G M x w x → Dear G k x w
+  abbrev pub CostAtLeastTo : ℕ → Type 0
+  CostAtLeastTo n = (x : ℕ) (w : Steps) → length w < n → 0 < length w → Walk G M x w x → CostAtLeast G k x w
 
-  abbrev pub DearWholeTo : Way → Way → ℕ → Type 0
-  DearWholeTo a b n = (x : ℕ) (w : Steps) (y : ℕ) → length w < n → Whole G M a x w y b → DearWhole G k a x w y b
+  abbrev pub PathCostAtLeastTo : Way → Way → ℕ → Type 0
+  PathCostAtLeastTo a b n = (x : ℕ) (w : Steps) (y : ℕ) → length w < n → AlternatingPath G M a x w y b → PathCostAtLeast G k a x w y b
 
   -- a closed walk costs at least k if all shorter ones do, or nothing comes twice in it
-  pub closed-step : (x : ℕ) (w : Steps) → DearTo (length w) → Walk G M x w x → Dear G k x w ⊎ (Once (zs w) × Once (fs w))
+  pub closed-step : (x : ℕ) (w : Steps) → CostAtLeastTo (length w) → Walk G M x w x → CostAtLeast G k x w ⊎ (Once (zs w) × Once (fs w))
   closed-step x w ih h = go (repeats G M x w x h)
     where
-      go : (Once (zs w) × Once (fs w)) ⊎ ((c : Cut G M x w x) × (0 < length (c .rest))) → Dear G k x w ⊎ (Once (zs w) × Once (fs w))
+      go : (Once (zs w) × Once (fs w)) ⊎ ((c : Cut G M x w x) × (0 < length (c .rest))) → CostAtLeast G k x w ⊎ (Once (zs w) × Once (fs w))
       go (inl u) = inr u
       go (inr (c, r)) =
           let k₁ = ih (c .z) (c .loop) (omega (arith, c .size)) (c .loop-pos) (c .loop-walk) in
@@ -91,15 +91,15 @@ module _ (G : Instance) (M : ℕ → Bool) (k : ℕ) where
 
   -- f is gained at the start and comes again: from x round to x by it, and in by it at z
   cut-start : (f x : ℕ) (pre : Steps) (z : ℕ) (post : Steps) (y : ℕ) (b : Way)
-      → DearTo (suc (length (pre ++ ((f, z) ∷ post)))) → DearWholeTo (gain f) b (length (pre ++ ((f, z) ∷ post)))
-      → Whole G M (gain f) x (pre ++ ((f, z) ∷ post)) y b → DearWhole G k (gain f) x (pre ++ ((f, z) ∷ post)) y b
+      → CostAtLeastTo (suc (length (pre ++ ((f, z) ∷ post)))) → PathCostAtLeastTo (gain f) b (length (pre ++ ((f, z) ∷ post)))
+      → AlternatingPath G M (gain f) x (pre ++ ((f, z) ∷ post)) y b → PathCostAtLeast G k (gain f) x (pre ++ ((f, z) ∷ post)) y b
   cut-start f x pre z post y b cl ih h = go (walk-split G M x y pre ((f, z) ∷ post) (h .walk))
     where
       still : (b : Way) → Apart G (gain f) x y b → Apart G (gain f) z y b
       still lose n = n
       still (gain g) n = n
 
-      go : (u : ℕ) × Walk G M x pre u × Walk G M u ((f, z) ∷ post) y → DearWhole G k (gain f) x (pre ++ ((f, z) ∷ post)) y b
+      go : (u : ℕ) × Walk G M x pre u × Walk G M u ((f, z) ∷ post) y → PathCostAtLeast G k (gain f) x (pre ++ ((f, z) ∷ post)) y b
       go (u, hp, q) =
           let a = q .0 in
           let s = h .start in
@@ -117,15 +117,15 @@ module _ (G : Instance) (M : ℕ → Bool) (k : ℕ) where
 
   -- g is gained at the end and came before: out by it there, and from z round to z by it
   cut-stop : (a : Way) (x : ℕ) (pre : Steps) (z : ℕ) (post : Steps) (y g : ℕ)
-      → DearTo (suc (length (pre ++ ((g, z) ∷ post)))) → DearWholeTo a (gain g) (length (pre ++ ((g, z) ∷ post)))
-      → Whole G M a x (pre ++ ((g, z) ∷ post)) y (gain g) → DearWhole G k a x (pre ++ ((g, z) ∷ post)) y (gain g)
+      → CostAtLeastTo (suc (length (pre ++ ((g, z) ∷ post)))) → PathCostAtLeastTo a (gain g) (length (pre ++ ((g, z) ∷ post)))
+      → AlternatingPath G M a x (pre ++ ((g, z) ∷ post)) y (gain g) → PathCostAtLeast G k a x (pre ++ ((g, z) ∷ post)) y (gain g)
   cut-stop a x pre z post y g cl ih h = go (walk-split G M x y pre ((g, z) ∷ post) (h .walk))
     where
       still : (u : ℕ) (a : Way) → Apart G a x y (gain g) → Apart G a x u (gain g)
       still u lose n = n
       still u (gain f) n = n
 
-      go : (u : ℕ) × Walk G M x pre u × Walk G M u ((g, z) ∷ post) y → DearWhole G k a x (pre ++ ((g, z) ∷ post)) y (gain g)
+      go : (u : ℕ) × Walk G M x pre u × Walk G M u ((g, z) ∷ post) y → PathCostAtLeast G k a x (pre ++ ((g, z) ∷ post)) y (gain g)
       go (u, hp, q) =
           let c = q .0 in
           let s = h .stop in
@@ -141,20 +141,20 @@ module _ (G : Instance) (M : ℕ → Bool) (k : ℕ) where
             minus-append G M z y post ((g, z) ∷ []) (q .1),
           )
 
-  start-free : (a : Way) (x : ℕ) (w : Steps) (y : ℕ) (b : Way) → DearTo (suc (length w)) → DearWholeTo a b (length w) → Whole G M a x w y b → Free a w ⊎ DearWhole G k a x w y b
+  start-free : (a : Way) (x : ℕ) (w : Steps) (y : ℕ) (b : Way) → CostAtLeastTo (suc (length w)) → PathCostAtLeastTo a b (length w) → AlternatingPath G M a x w y b → Free a w ⊎ PathCostAtLeast G k a x w y b
   start-free lose x w y b cl ih h = inl tt
   start-free (gain f) x w y b cl ih h = ⊎-map (λ n. n) found (find-at (λ s. s .0) f w)
     where
-      found : At (λ s. s .0) f w → DearWhole G k (gain f) x w y b
-      found t = subst (λ w. DearTo (suc (length w)) → DearWholeTo (gain f) b (length w) → Whole G M (gain f) x w y b → DearWhole G k (gain f) x w y b)
+      found : At (λ s. s .0) f w → PathCostAtLeast G k (gain f) x w y b
+      found t = subst (λ w. CostAtLeastTo (suc (length w)) → PathCostAtLeastTo (gain f) b (length w) → AlternatingPath G M (gain f) x w y b → PathCostAtLeast G k (gain f) x w y b)
           (sym (t .eq ∙ ap (λ g. t .pre ++ ((g, t .x .1) ∷ t .post)) (t .is))) (cut-start f x (t .pre) (t .x .1) (t .post) y b) cl ih h
 
-  stop-free : (a : Way) (x : ℕ) (w : Steps) (y : ℕ) (b : Way) → DearTo (suc (length w)) → DearWholeTo a b (length w) → Whole G M a x w y b → Free b w ⊎ DearWhole G k a x w y b
+  stop-free : (a : Way) (x : ℕ) (w : Steps) (y : ℕ) (b : Way) → CostAtLeastTo (suc (length w)) → PathCostAtLeastTo a b (length w) → AlternatingPath G M a x w y b → Free b w ⊎ PathCostAtLeast G k a x w y b
   stop-free a x w y lose cl ih h = inl tt
   stop-free a x w y (gain g) cl ih h = ⊎-map (λ n. n) found (find-at (λ s. s .0) g w)
     where
-      found : At (λ s. s .0) g w → DearWhole G k a x w y (gain g)
-      found t = subst (λ w. DearTo (suc (length w)) → DearWholeTo a (gain g) (length w) → Whole G M a x w y (gain g) → DearWhole G k a x w y (gain g))
+      found : At (λ s. s .0) g w → PathCostAtLeast G k a x w y (gain g)
+      found t = subst (λ w. CostAtLeastTo (suc (length w)) → PathCostAtLeastTo a (gain g) (length w) → AlternatingPath G M a x w y (gain g) → PathCostAtLeast G k a x w y (gain g))
           (sym (t .eq ∙ ap (λ f. t .pre ++ ((f, t .x .1) ∷ t .post)) (t .is))) (cut-stop a x (t .pre) (t .x .1) (t .post) y g) cl ih h
 
   -- there is no direct edge, so what is gained at the two ends differs
@@ -165,11 +165,11 @@ module _ (G : Instance) (M : ℕ → Bool) (k : ℕ) where
 
   -- a whole costs at least k if all wholes with the same two ends and fewer arcs and all closed walks of no more arcs do, or nothing
   -- comes twice in it
-  pub whole-step : (a : Way) (x : ℕ) (w : Steps) (y : ℕ) (b : Way) → NoDirect G M → DearTo (suc (length w)) → DearWholeTo a b (length w) → Whole G M a x w y b
-      → DearWhole G k a x w y b ⊎ (Once (x ∷ zs w) × Once (comers a w b))
-  whole-step a x w y b none cl ih h = go (repeats-open G M x w y (h .walk)) (start-free a x w y b cl ih h) (stop-free a x w y b cl ih h)
+  pub path-step : (a : Way) (x : ℕ) (w : Steps) (y : ℕ) (b : Way) → NoDirect G M → CostAtLeastTo (suc (length w)) → PathCostAtLeastTo a b (length w) → AlternatingPath G M a x w y b
+      → PathCostAtLeast G k a x w y b ⊎ (Once (x ∷ zs w) × Once (comers a w b))
+  path-step a x w y b none cl ih h = go (repeats-open G M x w y (h .walk)) (start-free a x w y b cl ih h) (stop-free a x w y b cl ih h)
     where
-      go : (Once (x ∷ zs w) × Once (fs w)) ⊎ Cut G M x w y → Free a w ⊎ DearWhole G k a x w y b → Free b w ⊎ DearWhole G k a x w y b → DearWhole G k a x w y b ⊎ (Once (x ∷ zs w) × Once (comers a w b))
+      go : (Once (x ∷ zs w) × Once (fs w)) ⊎ Cut G M x w y → Free a w ⊎ PathCostAtLeast G k a x w y b → Free b w ⊎ PathCostAtLeast G k a x w y b → PathCostAtLeast G k a x w y b ⊎ (Once (x ∷ zs w) × Once (comers a w b))
       go (inr c) r s =
           let k₁ = cl (c .z) (c .loop) (omega (arith, c .size)) (c .loop-pos) (c .loop-walk) in
           let k₂ = ih x (c .rest) y (omega (arith, c .size, c .loop-pos)) (record { old = h .old; walk = c .rest-walk; start = h .start; stop = h .stop; apart = h .apart }) in
@@ -180,11 +180,11 @@ module _ (G : Instance) (M : ℕ → Bool) (k : ℕ) where
 
   -- ---- a plan whose vote against every other is at least k
   module _ (law : Lawful G) (st : Holds G k M) where
-    pub closed : (x : ℕ) (w : Steps) → 0 < length w → Walk G M x w x → Dear G k x w
-    closed x w p h = strong (λ n. (x : ℕ) (w : Steps) → length w ≡ n → 0 < length w → Walk G M x w x → Dear G k x w) step (length w) x w refl p h
+    pub closed : (x : ℕ) (w : Steps) → 0 < length w → Walk G M x w x → CostAtLeast G k x w
+    closed x w p h = strong (λ n. (x : ℕ) (w : Steps) → length w ≡ n → 0 < length w → Walk G M x w x → CostAtLeast G k x w) step (length w) x w refl p h
       where
-        step : (n : ℕ) → ((m : ℕ) → m < n → (x : ℕ) (w : Steps) → length w ≡ m → 0 < length w → Walk G M x w x → Dear G k x w)
-            → (x : ℕ) (w : Steps) → length w ≡ n → 0 < length w → Walk G M x w x → Dear G k x w
+        step : (n : ℕ) → ((m : ℕ) → m < n → (x : ℕ) (w : Steps) → length w ≡ m → 0 < length w → Walk G M x w x → CostAtLeast G k x w)
+            → (x : ℕ) (w : Steps) → length w ≡ n → 0 < length w → Walk G M x w x → CostAtLeast G k x w
         step n ih x w l p h = ⊎-elim (λ d. d)
             (λ u. let t = first-∈ w p in holds-cost st (simple-loop G M law (st .plan) x w h (u .0) (u .1) (t .0) (t .1)))
             (closed-step x w (λ x′ w′ q. ih (length w′) (omega arith) x′ w′ refl) h)
@@ -192,20 +192,20 @@ module _ (G : Instance) (M : ℕ → Bool) (k : ℕ) where
     pub no-direct : NoDirect G M
     no-direct f nf rs rt = omega (arith, holds-cost st (simple-direct G M law (st .plan) f nf rs rt))
 
-    pub whole : (a : Way) (x : ℕ) (w : Steps) (y : ℕ) (b : Way) → Whole G M a x w y b → DearWhole G k a x w y b
-    whole a x w y b h = strong (λ n. (x : ℕ) (w : Steps) (y : ℕ) → length w ≡ n → Whole G M a x w y b → DearWhole G k a x w y b) step (length w) x w y refl h
+    pub path : (a : Way) (x : ℕ) (w : Steps) (y : ℕ) (b : Way) → AlternatingPath G M a x w y b → PathCostAtLeast G k a x w y b
+    path a x w y b h = strong (λ n. (x : ℕ) (w : Steps) (y : ℕ) → length w ≡ n → AlternatingPath G M a x w y b → PathCostAtLeast G k a x w y b) step (length w) x w y refl h
       where
-        step : (n : ℕ) → ((m : ℕ) → m < n → (x : ℕ) (w : Steps) (y : ℕ) → length w ≡ m → Whole G M a x w y b → DearWhole G k a x w y b)
-            → (x : ℕ) (w : Steps) (y : ℕ) → length w ≡ n → Whole G M a x w y b → DearWhole G k a x w y b
+        step : (n : ℕ) → ((m : ℕ) → m < n → (x : ℕ) (w : Steps) (y : ℕ) → length w ≡ m → AlternatingPath G M a x w y b → PathCostAtLeast G k a x w y b)
+            → (x : ℕ) (w : Steps) (y : ℕ) → length w ≡ n → AlternatingPath G M a x w y b → PathCostAtLeast G k a x w y b
         step n ih x w y l h = ⊎-elim (λ d. d)
             (λ u. holds-cost st (simple G M law (st .plan) a x w y b h (u .0) (u .1)))
-            (whole-step a x w y b no-direct (λ x′ w′ q p. closed x′ w′ p) (λ x′ w′ y′ q. ih (length w′) (omega arith) x′ w′ y′ refl) h)
+            (path-step a x w y b no-direct (λ x′ w′ q p. closed x′ w′ p) (λ x′ w′ y′ q. ih (length w′) (omega arith) x′ w′ y′ refl) h)
 
 -- ---- Lemma W for a strong plan
 pub no-bad : (G : Instance) (M : ℕ → Bool) → Lawful G → Strong G M → NoBad G M
 no-bad G M law s =
     let st = strong-holds G M s in
-    let ends = whole G M 1 law st in
+    let ends = path G M 1 law st in
     record {
       closed = λ x s w o h. omega (arith, closed G M 1 law st x (s ∷ w) (omega arith) h);
       LL = λ x w y o h. omega (arith, ends lose x w y lose (record { old = o; walk = h; start = tt; stop = tt; apart = tt }));

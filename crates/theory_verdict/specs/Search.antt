@@ -27,18 +27,18 @@ use Rattle.theory_verdict.specs.AlternatingPath.{comers}
 pub data Hit : Type 0 where
   direct : ℕ → Hit
   loop : ℕ → Steps → Hit
-  whole : Way → ℕ → Steps → ℕ → Way → Hit
+  path : Way → ℕ → Steps → ℕ → Way → Hit
 
 -- the edges of M that go, the edges that come, and what M becomes
 abbrev pub goes : Hit → List ℕ
 goes (direct f) = []
 goes (loop x w) = zs w
-goes (whole a x w y b) = x ∷ zs w
+goes (path a x w y b) = x ∷ zs w
 
 abbrev pub comes : Hit → List ℕ
 comes (direct f) = f ∷ []
 comes (loop x w) = fs w
-comes (whole a x w y b) = comers a w b
+comes (path a x w y b) = comers a w b
 
 abbrev pub rivalBy : (ℕ → Bool) → Hit → ℕ → Bool
 rivalBy M h = swapped M (goes h) (comes h)
@@ -68,8 +68,8 @@ module _ (G : Instance) where
   price x f z = rate (G .rankT x) (G .rankT f) + rate (G .rankS z) (G .rankS f)
 
   -- of a start at x with an end at y
-  abbrev pub tipPrice : ℕ → ℕ → Way × Way → ℕ
-  tipPrice x y p = endPrice (G .rankS) x (p .0) + endPrice (G .rankT) y (p .1)
+  abbrev pub terminalPrice : ℕ → ℕ → Way × Way → ℕ
+  terminalPrice x y p = endPrice (G .rankS) x (p .0) + endPrice (G .rankT) y (p .1)
 
   -- ---- tests: f is an arc x → z; at the two ends no node both gains and loses
   abbrev pub links? : ℕ → ℕ → ℕ → Bool
@@ -101,11 +101,11 @@ module _ (G : Instance) (M : ℕ → Bool) where
   abbrev pub ways : Side → Side → ℕ → List Way
   ways K J z = lose ∷ map gain (news (joins? M K J z))
 
-  abbrev pub tipsAt : ℕ → ℕ → List (Way × Way)
-  tipsAt x y = keep (apart? G x y) (product (ways (surveyors G) (stands G) x) (ways (stands G) (surveyors G) y))
+  abbrev pub terminalsAt : ℕ → ℕ → List (Way × Way)
+  terminalsAt x y = keep (apart? G x y) (product (ways (surveyors G) (stands G) x) (ways (stands G) (surveyors G) y))
 
-  unfoldable pub tip : ℕ → ℕ → ℕ × (Way × Way)
-  tip x y = best (λ p. (tipPrice G x y p, p)) (6, (lose, lose)) (tipsAt x y)
+  unfoldable pub terminal : ℕ → ℕ → ℕ × (Way × Way)
+  terminal x y = best (λ p. (terminalPrice G x y p, p)) (6, (lose, lose)) (terminalsAt x y)
 
   module _ (lid : ℕ) where
     -- ---- the table of the arcs: the least price of an arc x → z, and its edge
@@ -127,8 +127,8 @@ module _ (G : Instance) (M : ℕ → Bool) where
     trace (suc n) x z = onLead (layer (suc n) x z .1) (trace n x z) (λ y. (arc x y .1, y) ∷ trace n y z)
 
   -- ---- the tests, in their order: is there anything of cost below k?
-  abbrev pub asWhole : ℕ → ℕ → Steps → Hit
-  asWhole x y w = whole (tip x y .1 .0) x w y (tip x y .1 .1)
+  abbrev pub asPath : ℕ → ℕ → Steps → Hit
+  asPath x y w = path (terminal x y .1 .0) x w y (terminal x y .1 .1)
 
   unfoldable pub directs : Option Hit
   directs = first (λ f. not (M f) && (room? M (surveyors G) f && room? M (stands G) f)) direct (range 0 (G .m))
@@ -136,19 +136,19 @@ module _ (G : Instance) (M : ℕ → Bool) where
   module _ (lid k : ℕ) where
     -- wholes without an arc
     unfoldable pub aloneAt : Option Hit
-    aloneAt = first (λ x. ltb (tip x x .0) (4 + k)) (λ x. asWhole x x []) olds
+    aloneAt = first (λ x. ltb (terminal x x .0) (4 + k)) (λ x. asPath x x []) olds
 
     -- closed walks, wholes, of at most n + 1 arcs
     unfoldable pub loopAt : ℕ → Option Hit
     loopAt n = first (λ x. ltb (walkPrice lid n x x) (2 * suc n + k)) (λ x. loop x (trace lid n x x)) olds
 
-    unfoldable pub wholeAt : ℕ → Option Hit
-    wholeAt n = first (λ p. ltb (walkPrice lid n (p .0) (p .1) + tip (p .0) (p .1) .0) (2 * suc n + 4 + k)) (λ p. asWhole (p .0) (p .1) (trace lid n (p .0) (p .1))) (product olds olds)
+    unfoldable pub pathAt : ℕ → Option Hit
+    pathAt n = first (λ p. ltb (walkPrice lid n (p .0) (p .1) + terminal (p .0) (p .1) .0) (2 * suc n + 4 + k)) (λ p. asPath (p .0) (p .1) (trace lid n (p .0) (p .1))) (product olds olds)
 
     -- ---- level by level, closed walks first: so nothing comes twice in what is found first
     unfoldable pub levels : ℕ → ℕ → Option Hit
     levels zero n = none
-    levels (suc j) n = orElse (loopAt n) (orElse (wholeAt n) (levels j (suc n)))
+    levels (suc j) n = orElse (loopAt n) (orElse (pathAt n) (levels j (suc n)))
 
     unfoldable pub search : ℕ → Option Hit
     search B = orElse directs (orElse aloneAt (levels B 0))
@@ -159,7 +159,7 @@ module _ (G : Instance) (M : ℕ → Bool) where
 
     unfoldable pub levels′ : ℕ → ℕ → Option Hit
     levels′ zero n = none
-    levels′ (suc j) n = orElse (loopAt n) (orElse (wholeAt n) (cond (still n) none (levels′ j (suc n))))
+    levels′ (suc j) n = orElse (loopAt n) (orElse (pathAt n) (cond (still n) none (levels′ j (suc n))))
 
     unfoldable pub search′ : ℕ → Option Hit
     search′ B = orElse directs (orElse aloneAt (levels′ B 0))

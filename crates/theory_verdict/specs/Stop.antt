@@ -12,10 +12,10 @@ use Rattle.lists.specs.Keep.{all-∈, product, product-∈, ∈-product}
 use Rattle.lists.specs.First.{or-same, first-none}
 use Rattle.model.specs.Instance.{Instance}
 use Rattle.theory_instance.specs.Walk.{Old}
-use Rattle.theory_verdict.specs.Search.{kept, loop, olds, tip, walkPrice, trace, asWhole, directs, aloneAt, loopAt, wholeAt, levels, search, still, levels′, search′}
+use Rattle.theory_verdict.specs.Search.{kept, loop, olds, terminal, walkPrice, trace, asPath, directs, aloneAt, loopAt, pathAt, levels, search, still, levels′, search′}
 use Rattle.theory_verdict.specs.Table.{Still, still-next}
 use Rattle.theory_verdict.specs.Cells.{old-∈, ∈-old, next}
-use Rattle.theory_verdict.specs.Levels.{loopAt-answer, wholeAt-answer}
+use Rattle.theory_verdict.specs.Levels.{loopAt-answer, pathAt-answer}
 
 module _ (G : Instance) (M : ℕ → Bool) (lid k : ℕ) where
   abbrev Stays : ℕ → Type 0
@@ -30,22 +30,22 @@ module _ (G : Instance) (M : ℕ → Bool) (lid k : ℕ) where
   -- level n finds nothing
   record Quiet (n : ℕ) : Type 0 where
     loops : (x : ℕ) → Old G M x → 2 * suc n + k ≤ walkPrice G M lid n x x
-    wholes : (x y : ℕ) → Old G M x → Old G M y → 2 * suc n + 4 + k ≤ walkPrice G M lid n x y + tip G M x y .0
+    paths : (x y : ℕ) → Old G M x → Old G M y → 2 * suc n + 4 + k ≤ walkPrice G M lid n x y + terminal G M x y .0
 
   quiet-on : (n : ℕ) → 2 * suc (suc n) + 4 + k ≤ lid → Stays n → Quiet n → Quiet (suc n)
   quiet-on n h s q = record {
     loops = λ x o. omega (arith, s x x o o, q .loops x o);
-    wholes = λ x y ox oy. omega (arith, s x y ox oy, q .wholes x y ox oy);
+    paths = λ x y ox oy. omega (arith, s x y ox oy, q .paths x y ox oy);
   }
 
-  quiet-none : (n : ℕ) → Quiet n → (loopAt G M lid k n ≡ none) × (wholeAt G M lid k n ≡ none)
-  unfolding loopAt wholeAt
+  quiet-none : (n : ℕ) → Quiet n → (loopAt G M lid k n ≡ none) × (pathAt G M lid k n ≡ none)
+  unfolding loopAt pathAt
   quiet-none n q = (
     first-none (λ x. ltb (walkPrice G M lid n x x) (2 * suc n + k)) (λ x. loop x (trace G M lid n x x)) (olds G M)
         (λ x m. le→nltb (walkPrice G M lid n x x) (2 * suc n + k) (q .loops x (∈-old G M m))),
-    first-none (λ p. ltb (walkPrice G M lid n (p .0) (p .1) + tip G M (p .0) (p .1) .0) (2 * suc n + 4 + k)) (λ p. asWhole G M (p .0) (p .1) (trace G M lid n (p .0) (p .1))) (product (olds G M) (olds G M))
+    first-none (λ p. ltb (walkPrice G M lid n (p .0) (p .1) + terminal G M (p .0) (p .1) .0) (2 * suc n + 4 + k)) (λ p. asPath G M (p .0) (p .1) (trace G M lid n (p .0) (p .1))) (product (olds G M) (olds G M))
         (λ p m. let (i, j) = ∈-product p (olds G M) (olds G M) m in
-        le→nltb (walkPrice G M lid n (p .0) (p .1) + tip G M (p .0) (p .1) .0) (2 * suc n + 4 + k) (q .wholes (p .0) (p .1) (∈-old G M i) (∈-old G M j))),
+        le→nltb (walkPrice G M lid n (p .0) (p .1) + terminal G M (p .0) (p .1) .0) (2 * suc n + 4 + k) (q .paths (p .0) (p .1) (∈-old G M i) (∈-old G M j))),
   )
 
   -- nor does any later one
@@ -60,9 +60,9 @@ module _ (G : Instance) (M : ℕ → Bool) (lid k : ℕ) where
   levels-same : (B j n : ℕ) → j + n ≡ B → 2 * B + 4 + k ≤ lid → levels′ G M lid k j n ≡ levels G M lid k j n
   unfolding levels levels′
   levels-same B zero n e h = refl
-  levels-same B (suc j) n e h = or-same (loopAt-answer G M lid k n {P = λ t. Unit {0}} (λ x o l. tt)) (λ loops. or-same (wholeAt-answer G M lid k n {P = λ t. Unit {0}} (λ x y ox oy l. tt)) (λ wholes.
+  levels-same B (suc j) n e h = or-same (loopAt-answer G M lid k n {P = λ t. Unit {0}} (λ x o l. tt)) (λ loops. or-same (pathAt-answer G M lid k n {P = λ t. Unit {0}} (λ x y ox oy l. tt)) (λ paths.
       if-ind (λ o. o ≡ levels G M lid k j (suc n)) (still G M lid k n)
-      (λ t. sym (silent j n (omega arith) (stays n t) (record { loops = loops; wholes = wholes })))
+      (λ t. sym (silent j n (omega arith) (stays n t) (record { loops = loops; paths = paths })))
       (λ t. levels-same B j (suc n) (omega arith) h)))
 
   pub search-same : (B : ℕ) → 2 * B + 4 + k ≤ lid → search′ G M lid k B ≡ search G M lid k B

@@ -17,17 +17,17 @@ use Rattle.theory_votes.specs.Score.{rate-up}
 use Rattle.theory_verdict.specs.LemmaX.{swapped, Rival, rival-cast}
 use Rattle.theory_verdict.specs.Arcs.{fs, zs}
 use Rattle.theory_verdict.specs.Ends.{Way, lose, gain, endPlus, endMinus}
-use Rattle.theory_verdict.specs.AlternatingPath.{Start, Stop, Apart, Whole, startPlus, startMinus, stopPlus, stopMinus, comers, simple, simple-loop}
-use Rattle.theory_verdict.specs.LemmaW.{Dear, DearWhole, NoDirect, DearTo, DearWholeTo, closed-step, whole-step, first-∈}
-use Rattle.theory_verdict.specs.Search.{kept, price, endPrice, tipPrice}
-use Rattle.theory_verdict.specs.CostAtLeast.{DearWholes}
+use Rattle.theory_verdict.specs.AlternatingPath.{Start, Stop, Apart, AlternatingPath, startPlus, startMinus, stopPlus, stopMinus, comers, simple, simple-loop}
+use Rattle.theory_verdict.specs.LemmaW.{CostAtLeast, PathCostAtLeast, NoDirect, CostAtLeastTo, PathCostAtLeastTo, closed-step, path-step, first-∈}
+use Rattle.theory_verdict.specs.Search.{kept, price, endPrice, terminalPrice}
+use Rattle.theory_verdict.specs.CostAtLeast.{PathsCostAtLeast}
 
 end-price : (rank : ℕ → ℕ) (z : ℕ) (b : Way) → endPrice rank z b + endMinus rank z b ≡ endPlus rank z b + 2
 end-price rank z lose = omega arith
 end-price rank z (gain f) = omega (arith, rate-up (rank z) (rank f))
 
-pub tip-price : (G : Instance) (x y : ℕ) (a b : Way) → tipPrice G x y (a, b) + (startMinus G a x + stopMinus G y b) ≡ startPlus G a x + stopPlus G y b + 4
-tip-price G x y a b = omega (arith, end-price (G .rankS) x a, end-price (G .rankT) y b)
+pub terminal-price : (G : Instance) (x y : ℕ) (a b : Way) → terminalPrice G x y (a, b) + (startMinus G a x + stopMinus G y b) ≡ startPlus G a x + stopPlus G y b + 4
+terminal-price G x y a b = omega (arith, end-price (G .rankS) x a, end-price (G .rankT) y b)
 
 module _ (G : Instance) (M : ℕ → Bool) where
   -- ---- the tables; `low` says that nothing is cheaper, `hit` that what is shown is there
@@ -50,9 +50,9 @@ module _ (G : Instance) (M : ℕ → Bool) where
         → ((d′ x z ≡ d x z + 2) × (tr′ x z ≡ tr x z)) ⊎ ((y : ℕ) × Old G M y × (d′ x z ≡ a x y .0 + d y z) × (tr′ x z ≡ ((a x y .1, y) ∷ tr y z)))
 
   -- the least price of a start at x with an end at y, and these two
-  pub record Tips (t : ℕ → ℕ → ℕ × (Way × Way)) : Type 0 where
-    pub low : (a : Way) (x y : ℕ) (b : Way) → Start G M a x → Stop G M y b → Apart G a x y b → t x y .0 ≤ tipPrice G x y (a, b)
-    pub hit : (x y : ℕ) → Start G M (t x y .1 .0) x × Stop G M y (t x y .1 .1) × Apart G (t x y .1 .0) x y (t x y .1 .1) × (tipPrice G x y (t x y .1) ≡ t x y .0)
+  pub record Terminals (t : ℕ → ℕ → ℕ × (Way × Way)) : Type 0 where
+    pub low : (a : Way) (x y : ℕ) (b : Way) → Start G M a x → Stop G M y b → Apart G a x y b → t x y .0 ≤ terminalPrice G x y (a, b)
+    pub hit : (x y : ℕ) → Start G M (t x y .1 .0) x × Stop G M y (t x y .1 .1) × Apart G (t x y .1 .0) x y (t x y .1 .1) × (terminalPrice G x y (t x y .1) ≡ t x y .0)
 
   -- ---- layer after layer
   walk-last : (x : ℕ) (w : Steps) (y : ℕ) → Old G M x → Walk G M x w y → Old G M y
@@ -105,44 +105,44 @@ module _ (G : Instance) (M : ℕ → Bool) where
     loop-old x [] p h = absurd (omega arith)
     loop-old x ((f, z) ∷ w) p h = walk-last z w x (h .0 .1) (h .1)
 
-    pub loops-done : {lid n : ℕ} {d : ℕ → ℕ → ℕ} {tr : ℕ → ℕ → Steps} → Layer lid n d tr → ((x : ℕ) → Old G M x → 2 * n + k ≤ d x x) → DearTo G M k (suc n)
+    pub loops-done : {lid n : ℕ} {d : ℕ → ℕ → ℕ} {tr : ℕ → ℕ → Steps} → Layer lid n d tr → ((x : ℕ) → Old G M x → 2 * n + k ≤ d x x) → CostAtLeastTo G M k (suc n)
     loops-done l h x w q p wk = let o = loop-old x w p wk in omega (arith, l .low x w x o wk p (omega arith), h x o)
 
-    pub alone-done : {t : ℕ → ℕ → ℕ × (Way × Way)} → Tips t → ((x : ℕ) → Old G M x → 4 + k ≤ t x x .0) → DearWholes G M k 1
-    alone-done {t} tips h a b x [] y q wh = omega (
+    pub alone-done : {t : ℕ → ℕ → ℕ × (Way × Way)} → Terminals t → ((x : ℕ) → Old G M x → 4 + k ≤ t x x .0) → PathsCostAtLeast G M k 1
+    alone-done {t} terminals h a b x [] y q wh = omega (
       arith,
-      tips .low a x y b (wh .start) (wh .stop) (wh .apart),
+      terminals .low a x y b (wh .start) (wh .stop) (wh .apart),
       h x (wh .old),
       ap (λ z. t x z .0) (wh .walk),
-      tip-price G x y a b,
+      terminal-price G x y a b,
     )
-    alone-done tips h a b x (s ∷ w) y q wh = absurd (omega arith)
+    alone-done terminals h a b x (s ∷ w) y q wh = absurd (omega arith)
 
-    pub wholes-done : {lid n : ℕ} {d : ℕ → ℕ → ℕ} {tr : ℕ → ℕ → Steps} {t : ℕ → ℕ → ℕ × (Way × Way)} → Layer lid n d tr → Tips t → DearWholes G M k 1
-        → ((x y : ℕ) → Old G M x → Old G M y → 2 * n + 4 + k ≤ d x y + t x y .0) → DearWholes G M k (suc n)
-    wholes-done l tips alone h a b x [] y q wh = alone a b x [] y (omega arith) wh
-    wholes-done l tips alone h a b x (s ∷ w) y q wh = omega (
+    pub paths-done : {lid n : ℕ} {d : ℕ → ℕ → ℕ} {tr : ℕ → ℕ → Steps} {t : ℕ → ℕ → ℕ × (Way × Way)} → Layer lid n d tr → Terminals t → PathsCostAtLeast G M k 1
+        → ((x y : ℕ) → Old G M x → Old G M y → 2 * n + 4 + k ≤ d x y + t x y .0) → PathsCostAtLeast G M k (suc n)
+    paths-done l terminals alone h a b x [] y q wh = alone a b x [] y (omega arith) wh
+    paths-done l terminals alone h a b x (s ∷ w) y q wh = omega (
       arith,
       l .low x (s ∷ w) y (wh .old) (wh .walk) (omega arith) (omega arith),
-      tips .low a x y b (wh .start) (wh .stop) (wh .apart),
+      terminals .low a x y b (wh .start) (wh .stop) (wh .apart),
       h x y (wh .old) (walk-last x (s ∷ w) y (wh .old) (wh .walk)),
-      tip-price G x y a b,
+      terminal-price G x y a b,
     )
 
     -- ---- what is found first repeats nothing: it makes a rival with a vote below k
     module _ (law : Lawful G) (plan : Matching G M) where
-      pub loop-found : {n : ℕ} (x : ℕ) (w : Steps) → DearTo G M k n → 0 < length w → length w ≤ n → Walk G M x w x → plus G x w < minus G x w + k → Rival G M (swapped M (zs w) (fs w)) 1 k
+      pub loop-found : {n : ℕ} (x : ℕ) (w : Steps) → CostAtLeastTo G M k n → 0 < length w → length w ≤ n → Walk G M x w x → plus G x w < minus G x w + k → Rival G M (swapped M (zs w) (fs w)) 1 k
       loop-found x w cl p q wk c = go (closed-step G M k x w (λ x′ w′ r. cl x′ w′ (omega arith)) wk)
         where
-          go : Dear G k x w ⊎ (Once (zs w) × Once (fs w)) → Rival G M (swapped M (zs w) (fs w)) 1 k
+          go : CostAtLeast G k x w ⊎ (Once (zs w) × Once (fs w)) → Rival G M (swapped M (zs w) (fs w)) 1 k
           go (inl d) = absurd (omega arith)
           go (inr (u, v)) = let (e, m) = first-∈ w p in rival-cast (simple-loop G M law plan x w wk u v e m) (omega arith)
 
-      pub whole-found : {n : ℕ} (a : Way) (x : ℕ) (w : Steps) (y : ℕ) (b : Way) → NoDirect G M → DearTo G M k (suc n) → DearWholeTo G M k a b n → length w ≤ n → Whole G M a x w y b
+      pub path-found : {n : ℕ} (a : Way) (x : ℕ) (w : Steps) (y : ℕ) (b : Way) → NoDirect G M → CostAtLeastTo G M k (suc n) → PathCostAtLeastTo G M k a b n → length w ≤ n → AlternatingPath G M a x w y b
           → plus G x w + (startPlus G a x + stopPlus G y b) < minus G x w + (startMinus G a x + stopMinus G y b) + k → Rival G M (swapped M (x ∷ zs w) (comers a w b)) 1 k
-      whole-found a x w y b none cl ih q wh c = go (whole-step G M k a x w y b none (λ x′ w′ r. cl x′ w′ (omega arith)) (λ x′ w′ y′ r. ih x′ w′ y′ (omega arith)) wh)
+      path-found a x w y b none cl ih q wh c = go (path-step G M k a x w y b none (λ x′ w′ r. cl x′ w′ (omega arith)) (λ x′ w′ y′ r. ih x′ w′ y′ (omega arith)) wh)
         where
-          go : DearWhole G k a x w y b ⊎ (Once (x ∷ zs w) × Once (comers a w b)) → Rival G M (swapped M (x ∷ zs w) (comers a w b)) 1 k
+          go : PathCostAtLeast G k a x w y b ⊎ (Once (x ∷ zs w) × Once (comers a w b)) → Rival G M (swapped M (x ∷ zs w) (comers a w b)) 1 k
           go (inl d) = absurd (omega arith)
           go (inr (u, v)) = rival-cast (simple G M law plan a x w y b wh u v) (omega arith)
 

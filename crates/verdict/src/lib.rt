@@ -28,7 +28,7 @@ pub(crate) fn voted(g: Instance, plan: &[bool; 1024], rival: &[bool; 1024], out:
     let sv = g.sv;
     let st = g.st;
     plan_writer::write_plan(g.m, &sv, &st, rival, &mut *out);
-    vote_of_flags::poll(g, plan, rival)
+    vote_of_flags::vote_between(g, plan, rival)
 }
 
 // A plan within the quotas, and the list of its edges.

@@ -37,7 +37,7 @@ pub fn list_edges(m: usize, chosen: &[bool; 1024]) -> Listed
 }
 
 // The vote of plan p against plan q.
-pub fn poll(g: Instance, p: &[bool; 1024], q: &[bool; 1024]) -> i16
+pub fn vote_between(g: Instance, p: &[bool; 1024], q: &[bool; 1024]) -> i16
     requires { ⌜ Loaded g × Matching (shownBy g) (flag (now p)) × Matching (shownBy g) (flag (now q)) ⌝ }
     ensures { λ r. ⌜ r ≡ vote (shownBy g) (flag (now (p .entry))) (flag (now (q .entry))) ⌝ }
 {

@@ -5,7 +5,7 @@ use native.Mathlib.Omega.{arith}
 use lib.ListN.{getD}
 use Rattle.arrays.specs.ArrayInstance.{at}
 use Rattle.model.specs.PlanFile.{edgeOfPair}
-use Rattle.plan_reader.specs.ReadInvariant.{G, Going, for-all, going-first, going-cut, going-refused, going-passed, going-on, going-long, going-accepted, refused-as, used-few}
+use Rattle.plan_reader.specs.ReadInvariant.{G, Invariant, for-all, invariant-first, invariant-cut, invariant-refused, invariant-passed, invariant-on, invariant-long, invariant-accepted, refused-as, used-few}
 use borrow.Author.Needs.{needs}
 use Rattle.plan_reader.proofs.read_pairs.Statement.{statement}
 use Rattle.plan_reader.proofs.read_pairs.Tie as tie
@@ -15,7 +15,7 @@ use Rattle.plan_reader.proofs.edge_of.Reads as edge-of-reads
 use Rattle.plan_reader.proofs.pair_refusal.Reads as pair-refusal-reads
 
 abbrev Inv-loop : tie.InvT-loop
-Inv-loop m sv st qs qt n file chosen₀ edges₀ us₀ ut₀ from₀ k₀ chosen edges us ut from k = (k ≤ n) × Going m sv st qs qt file n k from chosen edges us ut
+Inv-loop m sv st qs qt n file chosen₀ edges₀ us₀ ut₀ from₀ k₀ chosen edges us ut from k = (k ≤ n) × Invariant m sv st qs qt file n k from chosen edges us ut
 
 abbrev μ-loop : tie.MeasureT-loop
 μ-loop m sv st qs qt n file chosen₀ edges₀ us₀ ut₀ from₀ k₀ chosen edges us ut from k = n - k
@@ -34,12 +34,12 @@ passing c =
     let s = l .before .before in
     let a = s .args in
     let k = c .before .before .before .before in
-    going-passed (a .m) (a .sv .now) (a .st .now) (a .qs .now) (a .qt .now) (a .file .now) (a .n) (l .loop .k) (l .loop .from) (l .loop .chosen) (l .loop .edges) (l .loop .us) (l .loop .ut) (l .loop .inv .1) (c .before .before .before .before .before .before .before .before .loop-test .taken) (s .pre .0 .1) (s .pre .0 .2) (c .before .before .before .before .before .before .before .if1 .left) (k .edge-of .result) (found k)
+    invariant-passed (a .m) (a .sv .now) (a .st .now) (a .qs .now) (a .qt .now) (a .file .now) (a .n) (l .loop .k) (l .loop .from) (l .loop .chosen) (l .loop .edges) (l .loop .us) (l .loop .ut) (l .loop .inv .1) (c .before .before .before .before .before .before .before .before .loop-test .taken) (s .pre .0 .1) (s .pre .0 .2) (c .before .before .before .before .before .before .before .if1 .left) (k .edge-of .result) (found k)
     (c .before .pair-refusal .result) (c .before .pair-refusal .ensures) (omega arith)
 
 -- src/lib.rt:96:5
 loop-holds : tie.Need-loop-holds Inv-loop μ-loop
-loop-holds c = let s = c .before in let a = s .args in (zero-le, going-first (a .m) (a .sv .now) (a .st .now) (a .qs .now) (a .qt .now) (a .file .now) (a .n) (s .pre .1 .1) (s .pre .1 .2) (s .pre .1 .0))
+loop-holds c = let s = c .before in let a = s .args in (zero-le, invariant-first (a .m) (a .sv .now) (a .st .now) (a .qs .now) (a .qt .now) (a .file .now) (a .n) (s .pre .1 .1) (s .pre .1 .2) (s .pre .1 .0))
 
 -- src/lib.rt:97:18
 mul-at : tie.Need-mul-at Inv-loop μ-loop
@@ -58,7 +58,7 @@ returns : tie.Need-returns Inv-loop μ-loop
 returns c =
     let l = c .before .before in
     let a = l .before .before .args in
-    for-all (a .m) (a .sv .now) (a .st .now) (a .qs .now) (a .qt .now) (a .file .now) _ (refused-as (a .m) (a .sv .now) (a .st .now) (a .qs .now) (a .qt .now) (a .file .now) 1 (l .loop .chosen) (l .loop .edges) (going-cut (a .m) (a .sv .now) (a .st .now) (a .qs .now) (a .qt .now) (a .file .now) (a .n) (l .loop .k) (l .loop .from) (l .loop .chosen) (l .loop .edges) (l .loop .us) (l .loop .ut) (l .loop .inv .1) (c .before .loop-test .taken) (c .if1 .taken)))
+    for-all (a .m) (a .sv .now) (a .st .now) (a .qs .now) (a .qt .now) (a .file .now) _ (refused-as (a .m) (a .sv .now) (a .st .now) (a .qs .now) (a .qt .now) (a .file .now) 1 (l .loop .chosen) (l .loop .edges) (invariant-cut (a .m) (a .sv .now) (a .st .now) (a .qs .now) (a .qt .now) (a .file .now) (a .n) (l .loop .k) (l .loop .from) (l .loop .chosen) (l .loop .edges) (l .loop .us) (l .loop .ut) (l .loop .inv .1) (c .before .loop-test .taken) (c .if1 .taken)))
 
 -- src/lib.rt:101:42
 shared-slice-read-edge-of : tie.Need-shared-slice-read-edge-of Inv-loop μ-loop
@@ -88,7 +88,7 @@ returns-2 c =
     let a = s .args in
     let k = c .before .before .before .before in
     for-all (a .m) (a .sv .now) (a .st .now) (a .qs .now) (a .qt .now) (a .file .now) _ (refused-as (a .m) (a .sv .now) (a .st .now) (a .qs .now) (a .qt .now) (a .file .now) (c .before .pair-refusal .result) (l .loop .chosen) (l .loop .edges)
-    (going-refused (a .m) (a .sv .now) (a .st .now) (a .qs .now) (a .qt .now) (a .file .now) (a .n) (l .loop .k) (l .loop .from) (l .loop .chosen) (l .loop .edges) (l .loop .us) (l .loop .ut) (l .loop .inv .1) (c .before .before .before .before .before .before .before .before .loop-test .taken) (s .pre .0 .1) (s .pre .0 .2) (c .before .before .before .before .before .before .before .if1 .left) (k .edge-of .result) (found k)
+    (invariant-refused (a .m) (a .sv .now) (a .st .now) (a .qs .now) (a .qt .now) (a .file .now) (a .n) (l .loop .k) (l .loop .from) (l .loop .chosen) (l .loop .edges) (l .loop .us) (l .loop .ut) (l .loop .inv .1) (c .before .before .before .before .before .before .before .before .loop-test .taken) (s .pre .0 .1) (s .pre .0 .2) (c .before .before .before .before .before .before .before .if1 .left) (k .edge-of .result) (found k)
     (c .before .pair-refusal .result) (c .before .pair-refusal .ensures) (omega arith)))
 
 -- src/lib.rt:106:17
@@ -167,7 +167,7 @@ loop-again c =
     let a = s .args in
     let k = c .before .before .before .before .before .before in (
       omega arith,
-      going-on (a .m) (a .sv .now) (a .st .now) (a .qs .now) (a .qt .now) (a .file .now) (a .n) (l .loop .k) (l .loop .from) (l .loop .chosen) (l .loop .edges) (l .loop .us) (l .loop .ut) (l .loop .inv .1) (c .before .before .before .before .before .before .before .before .before .before .loop-test .taken) (s .pre .0 .1) (s .pre .0 .2) (c .before .before .before .before .before .before .before .before .before .if1 .left) (k .edge-of .result) (found k)
+      invariant-on (a .m) (a .sv .now) (a .st .now) (a .qs .now) (a .qt .now) (a .file .now) (a .n) (l .loop .k) (l .loop .from) (l .loop .chosen) (l .loop .edges) (l .loop .us) (l .loop .ut) (l .loop .inv .1) (c .before .before .before .before .before .before .before .before .before .before .loop-test .taken) (s .pre .0 .1) (s .pre .0 .2) (c .before .before .before .before .before .before .before .before .before .if1 .left) (k .edge-of .result) (found k)
           (c .before .before .before .pair-refusal .result) (c .before .before .before .pair-refusal .ensures) (omega arith) (omega arith) (s .pre .0 .0),
     )
 
@@ -184,14 +184,14 @@ returns-3 : tie.Need-returns-3 Inv-loop μ-loop
 returns-3 c =
     let l = c .before .before in
     let a = l .before .before .args in
-    for-all (a .m) (a .sv .now) (a .st .now) (a .qs .now) (a .qt .now) (a .file .now) _ (refused-as (a .m) (a .sv .now) (a .st .now) (a .qs .now) (a .qt .now) (a .file .now) 9 (l .loop .chosen) (l .loop .edges) (going-long (a .m) (a .sv .now) (a .st .now) (a .qs .now) (a .qt .now) (a .file .now) (a .n) (l .loop .k) (l .loop .from) (l .loop .chosen) (l .loop .edges) (l .loop .us) (l .loop .ut) (l .loop .inv .1) (omega arith) (omega arith)))
+    for-all (a .m) (a .sv .now) (a .st .now) (a .qs .now) (a .qt .now) (a .file .now) _ (refused-as (a .m) (a .sv .now) (a .st .now) (a .qs .now) (a .qt .now) (a .file .now) 9 (l .loop .chosen) (l .loop .edges) (invariant-long (a .m) (a .sv .now) (a .st .now) (a .qs .now) (a .qt .now) (a .file .now) (a .n) (l .loop .k) (l .loop .from) (l .loop .chosen) (l .loop .edges) (l .loop .us) (l .loop .ut) (l .loop .inv .1) (omega arith) (omega arith)))
 
 -- src/lib.rt:85:1
 returns-4 : tie.Need-returns-4 Inv-loop μ-loop
 returns-4 c =
     let l = c .before .before in
     let a = l .before .before .args in
-    for-all (a .m) (a .sv .now) (a .st .now) (a .qs .now) (a .qt .now) (a .file .now) _ (going-accepted (a .m) (a .sv .now) (a .st .now) (a .qs .now) (a .qt .now) (a .file .now) (a .n) (l .loop .k) (l .loop .from) (l .loop .chosen) (l .loop .edges) (l .loop .us) (l .loop .ut) (l .loop .inv .1) (omega arith) (omega arith))
+    for-all (a .m) (a .sv .now) (a .st .now) (a .qs .now) (a .qt .now) (a .file .now) _ (invariant-accepted (a .m) (a .sv .now) (a .st .now) (a .qs .now) (a .qt .now) (a .file .now) (a .n) (l .loop .k) (l .loop .from) (l .loop .chosen) (l .loop .edges) (l .loop .us) (l .loop .ut) (l .loop .inv .1) (omega arith) (omega arith))
 
 pub read-pairs-spec : {M : Type 1} → statement M
 read-pairs-spec =

@@ -11,7 +11,7 @@ use Rattle.rival_levels.specs.declared.Found.{Found}
 use Rattle.rival_walk.specs.Edges.{arcEdge}
 use Rattle.rival_walk.specs.Walks.{walkAt}
 use Rattle.rival_search.specs.TwoThresholds.{Bounded}
-use Rattle.rival_exchange.specs.Swaps.{Marks, blank-none, blank-marks, blank-one, marks-more, marks-whole, waysBy, goneBy, comeBy}
+use Rattle.rival_exchange.specs.Swaps.{Marks, blank-none, blank-marks, blank-one, marks-more, marks-path, waysBy, goneBy, comeBy}
 use Rattle.rival_exchange.proofs.swap.Statement.{statement}
 use Rattle.rival_exchange.proofs.swap.Tie as tie
 
@@ -139,7 +139,7 @@ returns-5 : tie.Need-returns-5
 returns-5 c =
     let a = c .before .before .before .before .before .before .before .args in
     subst (λ (f : Found). Marks (c .walked2 .result .gone) (goneBy (a .m) (a .sv .now) (a .st .now) (a .rs .now) (a .rt .now) (a .plan .now) (a .fs .now) (a .ft .now) (a .es .now) (a .arcs .now) (a .n) f) × Marks (c .walked2 .result .come) (comeBy (a .m) (a .sv .now) (a .st .now) (a .rs .now) (a .rt .now) (a .plan .now) (a .fs .now) (a .ft .now) (a .es .now) (a .arcs .now) (a .n) f)) (sym (c .before .before .before .before .before .found4 .given .1))
-    (marks-more (c .before .ended2 .result .gone) (at (a .es .now) (c .before .before .before .before .before .found4 .given .0 .1 .0) ∷ []) (zs (walkAt (arcEdge (a .m) (a .sv .now) (a .st .now) (a .rs .now) (a .rt .now) (a .plan .now)) (a .es .now) (a .arcs .now) (a .n) (c .before .before .before .before .before .found4 .given .0 .1 .1 .0) (c .before .before .before .before .before .found4 .given .0 .0) (c .before .before .before .before .before .found4 .given .0 .1 .0))) (c .walked2 .result .gone) (c .before .ended2 .ensures .0) (c .walked2 .ensures .0), marks-whole (waysBy (a .m) (a .sv .now) (a .st .now) (a .rs .now) (a .rt .now) (a .plan .now) (a .fs .now) (a .ft .now) (a .es .now) (a .arcs .now) (a .n) (at (a .es .now) (c .before .before .before .before .before .found4 .given .0 .1 .0)) (at (a .es .now) (c .before .before .before .before .before .found4 .given .0 .1 .1 .0)) .0) (waysBy (a .m) (a .sv .now) (a .st .now) (a .rs .now) (a .rt .now) (a .plan .now) (a .fs .now) (a .ft .now) (a .es .now) (a .arcs .now) (a .n) (at (a .es .now) (c .before .before .before .before .before .found4 .given .0 .1 .0)) (at (a .es .now) (c .before .before .before .before .before .found4 .given .0 .1 .1 .0)) .1) (walkAt (arcEdge (a .m) (a .sv .now) (a .st .now) (a .rs .now) (a .rt .now) (a .plan .now)) (a .es .now) (a .arcs .now) (a .n) (c .before .before .before .before .before .found4 .given .0 .1 .1 .0) (c .before .before .before .before .before .found4 .given .0 .0) (c .before .before .before .before .before .found4 .given .0 .1 .0)) (c .before .ended2 .result .come) (c .walked2 .result .come) (c .before .ended2 .ensures .1) (c .walked2 .ensures .1))
+    (marks-more (c .before .ended2 .result .gone) (at (a .es .now) (c .before .before .before .before .before .found4 .given .0 .1 .0) ∷ []) (zs (walkAt (arcEdge (a .m) (a .sv .now) (a .st .now) (a .rs .now) (a .rt .now) (a .plan .now)) (a .es .now) (a .arcs .now) (a .n) (c .before .before .before .before .before .found4 .given .0 .1 .1 .0) (c .before .before .before .before .before .found4 .given .0 .0) (c .before .before .before .before .before .found4 .given .0 .1 .0))) (c .walked2 .result .gone) (c .before .ended2 .ensures .0) (c .walked2 .ensures .0), marks-path (waysBy (a .m) (a .sv .now) (a .st .now) (a .rs .now) (a .rt .now) (a .plan .now) (a .fs .now) (a .ft .now) (a .es .now) (a .arcs .now) (a .n) (at (a .es .now) (c .before .before .before .before .before .found4 .given .0 .1 .0)) (at (a .es .now) (c .before .before .before .before .before .found4 .given .0 .1 .1 .0)) .0) (waysBy (a .m) (a .sv .now) (a .st .now) (a .rs .now) (a .rt .now) (a .plan .now) (a .fs .now) (a .ft .now) (a .es .now) (a .arcs .now) (a .n) (at (a .es .now) (c .before .before .before .before .before .found4 .given .0 .1 .0)) (at (a .es .now) (c .before .before .before .before .before .found4 .given .0 .1 .1 .0)) .1) (walkAt (arcEdge (a .m) (a .sv .now) (a .st .now) (a .rs .now) (a .rt .now) (a .plan .now)) (a .es .now) (a .arcs .now) (a .n) (c .before .before .before .before .before .found4 .given .0 .1 .1 .0) (c .before .before .before .before .before .found4 .given .0 .0) (c .before .before .before .before .before .found4 .given .0 .1 .0)) (c .before .ended2 .result .come) (c .walked2 .result .come) (c .before .ended2 .ensures .1) (c .walked2 .ensures .1))
 
 pub swap-spec : {M : Type 1} → statement M
 swap-spec =

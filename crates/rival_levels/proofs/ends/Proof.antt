@@ -11,10 +11,10 @@ use Rattle.rival_levels.proofs.ends.Statement.{statement}
 use Rattle.rival_levels.proofs.ends.Tie as tie
 
 abbrev Inv-loop : tie.InvT-loop
-Inv-loop n d tips b bound j₀ j = (j ≤ n) × (low (λ j. ltb (at d (b + j) + at tips (b + j)) bound) j ≡ j)
+Inv-loop n d terminals b bound j₀ j = (j ≤ n) × (low (λ j. ltb (at d (b + j) + at terminals (b + j)) bound) j ≡ j)
 
 abbrev μ-loop : tie.MeasureT-loop
-μ-loop n d tips b bound j₀ j = n - j
+μ-loop n d terminals b bound j₀ j = n - j
 
 loop-holds : tie.Need-loop-holds Inv-loop μ-loop
 unfolding low
@@ -39,7 +39,7 @@ returns : tie.Need-returns Inv-loop μ-loop
 returns c =
     let l = c .before .before .before .before in
     let a = c .before .before .before .before .before .args in
-    sym (low-hit (λ j. ltb (at (a .d .now) (a .b + j) + at (a .tips .now) (a .b + j)) (a .bound)) (l .loop .j) (a .n) (l .loop .inv .1) (lt-ltb (at (a .d .now) (a .b + l .loop .j) + at (a .tips .now) (a .b + l .loop .j)) (a .bound) (c .if1 .taken)) (omega arith))
+    sym (low-hit (λ j. ltb (at (a .d .now) (a .b + j) + at (a .terminals .now) (a .b + j)) (a .bound)) (l .loop .j) (a .n) (l .loop .inv .1) (lt-ltb (at (a .d .now) (a .b + l .loop .j) + at (a .terminals .now) (a .b + l .loop .j)) (a .bound) (c .if1 .taken)) (omega arith))
 
 add-j : tie.Need-add-j Inv-loop μ-loop
 add-j c = search needs
@@ -51,14 +51,14 @@ loop-again : tie.Need-loop-again Inv-loop μ-loop
 loop-again c =
     let l = c .before .before .before .before in
     let a = c .before .before .before .before .before .args in
-    (omega arith, low-miss (λ j. ltb (at (a .d .now) (a .b + j) + at (a .tips .now) (a .b + j)) (a .bound)) (l .loop .j) (l .loop .inv .1) (le-ltb (at (a .d .now) (a .b + l .loop .j) + at (a .tips .now) (a .b + l .loop .j)) (a .bound) (c .if1 .left)))
+    (omega arith, low-miss (λ j. ltb (at (a .d .now) (a .b + j) + at (a .terminals .now) (a .b + j)) (a .bound)) (l .loop .j) (l .loop .inv .1) (le-ltb (at (a .d .now) (a .b + l .loop .j) + at (a .terminals .now) (a .b + l .loop .j)) (a .bound) (c .if1 .left)))
 
 returns-2 : tie.Need-returns-2 Inv-loop μ-loop
 returns-2 c =
     let l = c .before in
     let a = c .before .before .args in
     let e : l .loop .j ≡ a .n = omega arith in
-    sym (l .loop .inv .1) ∙ ap (low (λ j. ltb (at (a .d .now) (a .b + j) + at (a .tips .now) (a .b + j)) (a .bound))) e
+    sym (l .loop .inv .1) ∙ ap (low (λ j. ltb (at (a .d .now) (a .b + j) + at (a .terminals .now) (a .b + j)) (a .bound))) e
 
 pub ends-spec : {M : Type 1} → statement M
 ends-spec =

@@ -12,10 +12,10 @@ use Rattle.rival_levels.proofs.pair.Statement.{statement}
 use Rattle.rival_levels.proofs.pair.Tie as tie
 
 abbrev Inv-loop : tie.InvT-loop
-Inv-loop n d tips bound i₀ i = (i ≤ n) × (low (λ i. ltb (endsAt (cell d) tips n bound i) n) i ≡ i)
+Inv-loop n d terminals bound i₀ i = (i ≤ n) × (low (λ i. ltb (endsAt (cell d) terminals n bound i) n) i ≡ i)
 
 abbrev μ-loop : tie.MeasureT-loop
-μ-loop n d tips bound i₀ i = n - i
+μ-loop n d terminals bound i₀ i = n - i
 
 loop-holds : tie.Need-loop-holds Inv-loop μ-loop
 unfolding low
@@ -31,7 +31,7 @@ returns : tie.Need-returns Inv-loop μ-loop
 returns c =
     let l = c .before .before .before in
     let a = c .before .before .before .before .args in
-    (sym (low-hit (λ i. ltb (endsAt (cell (a .d .now)) (a .tips .now) (a .n) (a .bound) i) (a .n)) (l .loop .i) (a .n) (l .loop .inv .1) (lt-ltb (endsAt (cell (a .d .now)) (a .tips .now) (a .n) (a .bound) (l .loop .i)) (a .n) (omega (arith, c .before .ends .ensures, c .if1 .taken))) (omega arith)), λ h. c .before .ends .ensures)
+    (sym (low-hit (λ i. ltb (endsAt (cell (a .d .now)) (a .terminals .now) (a .n) (a .bound) i) (a .n)) (l .loop .i) (a .n) (l .loop .inv .1) (lt-ltb (endsAt (cell (a .d .now)) (a .terminals .now) (a .n) (a .bound) (l .loop .i)) (a .n) (omega (arith, c .before .ends .ensures, c .if1 .taken))) (omega arith)), λ h. c .before .ends .ensures)
 
 add-i : tie.Need-add-i Inv-loop μ-loop
 add-i c = search needs
@@ -43,14 +43,14 @@ loop-again : tie.Need-loop-again Inv-loop μ-loop
 loop-again c =
     let l = c .before .before .before in
     let a = c .before .before .before .before .args in
-    (omega arith, low-miss (λ i. ltb (endsAt (cell (a .d .now)) (a .tips .now) (a .n) (a .bound) i) (a .n)) (l .loop .i) (l .loop .inv .1) (le-ltb (endsAt (cell (a .d .now)) (a .tips .now) (a .n) (a .bound) (l .loop .i)) (a .n) (omega (arith, c .before .ends .ensures, c .if1 .left))))
+    (omega arith, low-miss (λ i. ltb (endsAt (cell (a .d .now)) (a .terminals .now) (a .n) (a .bound) i) (a .n)) (l .loop .i) (l .loop .inv .1) (le-ltb (endsAt (cell (a .d .now)) (a .terminals .now) (a .n) (a .bound) (l .loop .i)) (a .n) (omega (arith, c .before .ends .ensures, c .if1 .left))))
 
 returns-2 : tie.Need-returns-2 Inv-loop μ-loop
 returns-2 c =
     let l = c .before in
     let a = c .before .before .args in
     let e : l .loop .i ≡ a .n = omega arith in
-    (sym (l .loop .inv .1) ∙ ap (low (λ i. ltb (endsAt (cell (a .d .now)) (a .tips .now) (a .n) (a .bound) i) (a .n))) e, λ h. absurd (omega arith))
+    (sym (l .loop .inv .1) ∙ ap (low (λ i. ltb (endsAt (cell (a .d .now)) (a .terminals .now) (a .n) (a .bound) i) (a .n))) e, λ h. absurd (omega arith))
 
 pub pair-spec : {M : Type 1} → statement M
 pair-spec =

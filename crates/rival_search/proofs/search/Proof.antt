@@ -17,25 +17,25 @@ use Rattle.rival_search.specs.SearchView.{freeAt}
 use Rattle.rival_search.proofs.search.Statement.{statement}
 use Rattle.rival_search.proofs.search.Tie as tie
 
-module _ (m : ℕ) (free : ℕ → Bool) (arcs tips : List ℕ) (n k f : ℕ) (e : f ≡ low free m) where
+module _ (m : ℕ) (free : ℕ → Bool) (arcs terminals : List ℕ) (n k f : ℕ) (e : f ≡ low free m) where
   abbrev onward : Bool → Found
-  onward x = cond x (found.Alone (diagAt (cell tips) n (4 + k))) (levelsAt arcs tips n k n 0)
+  onward x = cond x (found.Alone (diagAt (cell terminals) n (4 + k))) (levelsAt arcs terminals n k n 0)
 
   abbrev ask : Bool → Found → Found
   ask x y = cond x (found.Direct (low free m)) y
 
-  out-direct : f < m → found.Direct f ≡ searchAt m free arcs tips n k
+  out-direct : f < m → found.Direct f ≡ searchAt m free arcs terminals n k
   unfolding searchAt
-  out-direct h = ap found.Direct e ∙ sym (ap (λ x. ask x (onward (ltb (diagAt (cell tips) n (4 + k)) n))) (ap (λ z. ltb z m) (sym e) ∙ lt-ltb f m h))
+  out-direct h = ap found.Direct e ∙ sym (ap (λ x. ask x (onward (ltb (diagAt (cell terminals) n (4 + k)) n))) (ap (λ z. ltb z m) (sym e) ∙ lt-ltb f m h))
 
-  past : m ≤ f → searchAt m free arcs tips n k ≡ onward (ltb (diagAt (cell tips) n (4 + k)) n)
+  past : m ≤ f → searchAt m free arcs terminals n k ≡ onward (ltb (diagAt (cell terminals) n (4 + k)) n)
   unfolding searchAt
-  past h = ap (λ x. ask x (onward (ltb (diagAt (cell tips) n (4 + k)) n))) (ap (λ z. ltb z m) (sym e) ∙ le-ltb f m h)
+  past h = ap (λ x. ask x (onward (ltb (diagAt (cell terminals) n (4 + k)) n))) (ap (λ z. ltb z m) (sym e) ∙ le-ltb f m h)
 
-  out-alone : m ≤ f → (i : ℕ) → i ≡ diagAt (cell tips) n (4 + k) → i < n → found.Alone i ≡ searchAt m free arcs tips n k
+  out-alone : m ≤ f → (i : ℕ) → i ≡ diagAt (cell terminals) n (4 + k) → i < n → found.Alone i ≡ searchAt m free arcs terminals n k
   out-alone h i d l = ap found.Alone d ∙ sym (past h ∙ ap onward (ap (λ z. ltb z n) (sym d) ∙ lt-ltb i n l))
 
-  out-levels : m ≤ f → (i : ℕ) → i ≡ diagAt (cell tips) n (4 + k) → n ≤ i → levelsAt arcs tips n k n 0 ≡ searchAt m free arcs tips n k
+  out-levels : m ≤ f → (i : ℕ) → i ≡ diagAt (cell terminals) n (4 + k) → n ≤ i → levelsAt arcs terminals n k n 0 ≡ searchAt m free arcs terminals n k
   out-levels h i d l = sym (past h ∙ ap onward (ap (λ z. ltb z n) (sym d) ∙ le-ltb i n l))
 
 direct-requires : tie.Need-direct-requires

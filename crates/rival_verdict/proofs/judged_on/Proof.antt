@@ -6,7 +6,7 @@ use borrow.Author.Needs.{needs}
 use Rattle.arrays.specs.ArrayInstance.{at}
 use Rattle.rival_tables.specs.Filled.{cell}
 use Rattle.rival_search.specs.SearchView.{arcCell, arc-small, listed-low}
-use Rattle.rival_search.specs.TwoThresholds.{hunt-bounded}
+use Rattle.rival_search.specs.TwoThresholds.{searching-bounded}
 use Rattle.rival_verdict.specs.Judged.{verdictFor}
 use Rattle.rival_verdict.specs.RivalOfArrays.{found-shown}
 use Rattle.rival_verdict.proofs.judged_on.Statement.{statement}
@@ -15,8 +15,8 @@ use Rattle.rival_verdict.proofs.judged_on.Tie as tie
 arcs-requires : tie.Need-arcs-requires
 arcs-requires c κs = (c .pre .0, c .pre .1)
 
-hunted-requires : tie.Need-hunted-requires
-hunted-requires c κs =
+searched-requires : tie.Need-searched-requires
+searched-requires c κs =
     let s = c .before .before in
     (s .pre .0, s .pre .1, s .pre .2, s .pre .3, c .before .arcs .ensures)
 
@@ -28,7 +28,7 @@ swap-requires c κs =
     let s = c .before .before .before .before .before in
     let a = s .args in
     let t = c .before .before .before .before .arcs in
-    let h = c .before .before .hunted in
+    let h = c .before .before .searched in
     let e : (i j : ℕ) → i < a .n → j < 64 → cell (t .result) i j ≡ arcCell (a .m) (a .sv .now) (a .st .now) (a .rs .now) (a .rt .now) (a .plan .now) (a .ps .now) (a .pt .now) (a .qs .now) (a .qt .now) i j = t .ensures in (
       s .pre .0,
       s .pre .1,
@@ -36,7 +36,7 @@ swap-requires c κs =
       s .pre .3,
       (λ i l. omega (arith, listed-low (a .m) (a .plan .now) (a .n) (a .es .now) (s .pre .4) i l, s .pre .0)),
       (λ i j il jl. omega (arith, e i j il jl, arc-small (a .m) (a .sv .now) (a .st .now) (a .rs .now) (a .rt .now) (a .plan .now) (at (a .pt .now) i) (at (a .qt .now) i) (at (a .ps .now) j) (at (a .qs .now) j))),
-      hunt-bounded (a .m) (a .sv .now) (a .st .now) (a .rs .now) (a .rt .now) (a .plan .now) (a .n) (a .ps .now) (a .pt .now) (a .qs .now) (a .qt .now) (a .fs .now) (a .ft .now) (t .result) (h .result .below) (h .result .found) (h .ensures),
+      searching-bounded (a .m) (a .sv .now) (a .st .now) (a .rs .now) (a .rt .now) (a .plan .now) (a .n) (a .ps .now) (a .pt .now) (a .qs .now) (a .qt .now) (a .fs .now) (a .ft .now) (t .result) (h .result .below) (h .result .found) (h .ensures),
     )
 
 exchanged-requires : tie.Need-exchanged-requires
@@ -46,10 +46,10 @@ returns : tie.Need-returns
 returns c =
     let s = c .before .before .before .before .before .before .before .before .before .before .before in
     let a = s .args in
-    let h = c .before .before .before .before .before .before .before .before .hunted in
+    let h = c .before .before .before .before .before .before .before .before .searched in
     let w = c .before .before .before .before .before .swap in
     λ quotaS quotaT roomyS roomyT. found-shown (a .m) (a .sv .now) (a .st .now) (a .rs .now) (a .rt .now) quotaS quotaT (a .plan .now) (a .n) (a .es .now) (a .ps .now) (a .pt .now) (a .qs .now) (a .qt .now) (a .fs .now) (a .ft .now) (c .before .before .before .before .before .before .before .before .before .before .arcs .result) (h .result .below) (h .result .found)
     (s .pre .1) (s .pre .2) (s .pre .3) (s .pre .4) (s .pre .5) roomyS roomyT (c .before .before .before .before .before .before .before .before .before .before .arcs .ensures) (h .ensures) (verdictFor (c .before .before .before .before .before .before .before .weigh .result)) (w .result .gone) (w .result .come) (c .exchanged .result) (c .before .before .before .before .before .before .before .weigh .ensures) (w .ensures .0) (w .ensures .1) (c .exchanged .ensures)
 
 pub judged-on-spec : {M : Type 1} → statement M
-judged-on-spec = tie.close (tie.spec arcs-requires hunted-requires weigh-requires swap-requires exchanged-requires returns)
+judged-on-spec = tie.close (tie.spec arcs-requires searched-requires weigh-requires swap-requires exchanged-requires returns)

@@ -11,8 +11,8 @@ use Rattle.rival_tables.specs.Filled.{cell, Made, Put}
 
 -- starts: gained at the start apart from the end's node; stops: gained at the end apart from the start's node, by end and start; gs, gt: gained at the
 -- start, at the end
-abbrev pub tipAt : (starts stops gs gt : List ℕ) → ℕ → ℕ → ℕ
-tipAt starts stops gs gt i j = min (min (cell starts i j) (cell stops j i) + 3) (at gs i + at gt j)
+abbrev pub terminalAt : (starts stops gs gt : List ℕ) → ℕ → ℕ → ℕ
+terminalAt starts stops gs gt i j = min (min (cell starts i j) (cell stops j i) + 3) (at gs i + at gt j)
 
 -- rates are small
 pub record Rates (n : ℕ) (starts stops gs gt : List ℕ) : Type 0 where

@@ -4,8 +4,8 @@ use mir.Syntax.{w16}
 use mir.ValLaws.{toZ-ofZ}
 use borrow.Author.Needs.{sfits-of}
 use Rattle.vote_of_flags.specs.Votable.{side-arrays, light, few-edges}
-use Rattle.vote_of_flags.proofs.poll.Statement.{statement}
-use Rattle.vote_of_flags.proofs.poll.Tie as tie
+use Rattle.vote_of_flags.proofs.vote_between.Statement.{statement}
+use Rattle.vote_of_flags.proofs.vote_between.Tie as tie
 
 list-edges-requires : tie.Need-list-edges-requires
 list-edges-requires c κs = let b = c .before .before .before .before in (b .pre .0 .edges, few-edges (b .args .g) (b .pre .0) (b .args .p .now) (b .pre .1))
@@ -27,5 +27,5 @@ returns c =
     let v = c .before .plan-votes in
     toZ-ofZ w16 (v .result .first) (sfits-of (c .struct-told .given .0 .1)) ∙ v .ensures .first (g .tied) (g .«quota_s») (g .«quota_t») (b .pre .1) (b .pre .2)
 
-pub poll-spec : {M : Type 1} → statement M
-poll-spec = tie.close (tie.spec list-edges-requires list-edges-requires-2 plan-votes-requires returns)
+pub vote-between-spec : {M : Type 1} → statement M
+vote-between-spec = tie.close (tie.spec list-edges-requires list-edges-requires-2 plan-votes-requires returns)

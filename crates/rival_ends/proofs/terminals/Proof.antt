@@ -3,12 +3,12 @@ use Prim.Native.Nat.{_-_, _≤_, zero-le}
 use native.Mathlib.Omega.{arith}
 use native.Mathlib.Nat.{not-suc-le-zero}
 use borrow.Author.Needs.{needs}
-use Rattle.rival_ends.specs.Tips.{tipAt, Part, part-next}
-use Rattle.rival_ends.proofs.tips.Statement.{statement}
-use Rattle.rival_ends.proofs.tips.Tie as tie
+use Rattle.rival_ends.specs.Terminals.{terminalAt, Part, part-next}
+use Rattle.rival_ends.proofs.terminals.Statement.{statement}
+use Rattle.rival_ends.proofs.terminals.Tie as tie
 
 abbrev Inv-loop : tie.InvT-loop
-Inv-loop n starts stops gs gt o₀ i₀ o i = (i ≤ n) × Part o i n (tipAt starts stops gs gt)
+Inv-loop n starts stops gs gt o₀ i₀ o i = (i ≤ n) × Part o i n (terminalAt starts stops gs gt)
 
 abbrev μ-loop : tie.MeasureT-loop
 μ-loop n starts stops gs gt o₀ i₀ o i = n - i
@@ -16,8 +16,8 @@ abbrev μ-loop : tie.MeasureT-loop
 loop-holds : tie.Need-loop-holds Inv-loop μ-loop
 loop-holds c = (zero-le, λ i j h. absurd (not-suc-le-zero h))
 
-tip-row-requires : tie.Need-tip-row-requires Inv-loop μ-loop
-tip-row-requires c κs = (omega arith, omega arith, c .before .before .pre .1)
+terminal-row-requires : tie.Need-terminal-row-requires Inv-loop μ-loop
+terminal-row-requires c κs = (omega arith, omega arith, c .before .before .pre .1)
 
 put-row-requires : tie.Need-put-row-requires Inv-loop μ-loop
 put-row-requires c κs = search needs
@@ -32,19 +32,19 @@ loop-again : tie.Need-loop-again Inv-loop μ-loop
 loop-again c =
     let l = c .before .before .before in
     let a = c .before .before .before .before .args in
-    (omega arith, part-next (l .loop .o) (c .before .tip-row .result) (c .put-row .result) (tipAt (a .starts .now) (a .stops .now) (a .gs .now) (a .gt .now)) (a .n) (l .loop .i) (omega arith) (l .loop .inv .1) (c .before .tip-row .ensures) (c .put-row .ensures))
+    (omega arith, part-next (l .loop .o) (c .before .terminal-row .result) (c .put-row .result) (terminalAt (a .starts .now) (a .stops .now) (a .gs .now) (a .gt .now)) (a .n) (l .loop .i) (omega arith) (l .loop .inv .1) (c .before .terminal-row .ensures) (c .put-row .ensures))
 
 returns : tie.Need-returns Inv-loop μ-loop
 returns c = λ i j h k. c .before .loop .inv .1 i j (omega arith) k
 
-pub tips-spec : {M : Type 1} → statement M
-tips-spec =
+pub terminals-spec : {M : Type 1} → statement M
+terminals-spec =
     tie.close
     (tie.spec
     Inv-loop
     μ-loop
     loop-holds
-    tip-row-requires
+    terminal-row-requires
     put-row-requires
     add-i
     loop-less

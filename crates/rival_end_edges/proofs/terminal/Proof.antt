@@ -7,12 +7,12 @@ use borrow.Author.Needs.{needs}
 use Rattle.arrays.specs.ArrayInstance.{at}
 use Rattle.theory_verdict.specs.Ends.{lose}
 use Rattle.theory_verdict.specs.Search.{endPrice}
-use Rattle.rival_end_edges.specs.Ways.{told, way-gain, way-lose, apart, round, tipRest, tipBy, tip-start, tip-end, tip-turn, tip-past}
-use Rattle.rival_end_edges.proofs.tip.Statement.{statement}
-use Rattle.rival_end_edges.proofs.tip.Tie as tie
+use Rattle.rival_end_edges.specs.Ways.{told, way-gain, way-lose, apart, round, terminalRest, terminalBy, terminal-start, terminal-end, terminal-turn, terminal-past}
+use Rattle.rival_end_edges.proofs.terminal.Statement.{statement}
+use Rattle.rival_end_edges.proofs.terminal.Tie as tie
 
 abbrev Inv-loop : tie.InvT-loop
-Inv-loop m sv st rs rt plan fs ft x y s t b o₀ f₀ o f = (f ≤ m) × (tipRest m sv st rs rt x y plan fs ft (told m o) f ≡ tipBy m sv st rs rt x y plan fs ft)
+Inv-loop m sv st rs rt plan fs ft x y s t b o₀ f₀ o f = (f ≤ m) × (terminalRest m sv st rs rt x y plan fs ft (told m o) f ≡ terminalBy m sv st rs rt x y plan fs ft)
 
 abbrev μ-loop : tie.MeasureT-loop
 μ-loop m sv st rs rt plan fs ft x y s t b o₀ f₀ o f = m - f
@@ -35,7 +35,7 @@ round-requires c κs =
 loop-holds : tie.Need-loop-holds Inv-loop μ-loop
 loop-holds c =
     let a = c .before .before .before .before .args in
-    (zero-le, ap (λ o. tipRest (a .m) (a .sv .now) (a .st .now) (a .rs .now) (a .rt .now) (a .x) (a .y) (a .plan .now) (a .fs .now) (a .ft .now) o 0) (c .round .ensures ∙ ap₂ (λ u w. round (a .m) (a .sv .now) (a .st .now) (a .rs .now) (a .rt .now) (a .x) (a .y) (a .plan .now) (a .fs .now) u (6, (w, w))) (way-lose (a .m)) (way-lose (a .m))) ∙ tip-start (a .m) (a .sv .now) (a .st .now) (a .rs .now) (a .rt .now) (a .x) (a .y) (a .plan .now) (a .fs .now) (a .ft .now))
+    (zero-le, ap (λ o. terminalRest (a .m) (a .sv .now) (a .st .now) (a .rs .now) (a .rt .now) (a .x) (a .y) (a .plan .now) (a .fs .now) (a .ft .now) o 0) (c .round .ensures ∙ ap₂ (λ u w. round (a .m) (a .sv .now) (a .st .now) (a .rs .now) (a .rt .now) (a .x) (a .y) (a .plan .now) (a .fs .now) u (6, (w, w))) (way-lose (a .m)) (way-lose (a .m))) ∙ terminal-start (a .m) (a .sv .now) (a .st .now) (a .rs .now) (a .rt .now) (a .x) (a .y) (a .plan .now) (a .fs .now) (a .ft .now))
 
 element-copy-out-v : tie.Need-element-copy-out-v Inv-loop μ-loop
 element-copy-out-v c = search needs
@@ -85,8 +85,8 @@ loop-again c =
     let k : f + 1 ≤ a .m = omega (arith, h) in (
       k,
       ⊎-elim
-          (λ w. ap (λ o. tipRest (a .m) (a .sv .now) (a .st .now) (a .rs .now) (a .rt .now) (a .x) (a .y) (a .plan .now) (a .fs .now) (a .ft .now) (told (a .m) o) (f + 1)) (w .5) ∙ ap (λ o. tipRest (a .m) (a .sv .now) (a .st .now) (a .rs .now) (a .rt .now) (a .x) (a .y) (a .plan .now) (a .fs .now) (a .ft .now) o (f + 1)) (w .4 .ensures ∙ ap (λ u. round (a .m) (a .sv .now) (a .st .now) (a .rs .now) (a .rt .now) (a .x) (a .y) (a .plan .now) (a .fs .now) u (told (a .m) (l .loop .o))) (way-gain (a .m) f h)) ∙ sym (tip-turn (a .m) (a .sv .now) (a .st .now) (a .rs .now) (a .rt .now) (a .x) (a .y) (a .plan .now) (a .fs .now) (a .ft .now) (told (a .m) (l .loop .o)) f h (w .0 .taken)) ∙ l .loop .inv .1)
-          (λ w. ap (λ o. tipRest (a .m) (a .sv .now) (a .st .now) (a .rs .now) (a .rt .now) (a .x) (a .y) (a .plan .now) (a .fs .now) (a .ft .now) (told (a .m) o) (f + 1)) (w .1) ∙ sym (tip-past (a .m) (a .sv .now) (a .st .now) (a .rs .now) (a .rt .now) (a .x) (a .y) (a .plan .now) (a .fs .now) (a .ft .now) (told (a .m) (l .loop .o)) f h (w .0 .left)) ∙ l .loop .inv .1)
+          (λ w. ap (λ o. terminalRest (a .m) (a .sv .now) (a .st .now) (a .rs .now) (a .rt .now) (a .x) (a .y) (a .plan .now) (a .fs .now) (a .ft .now) (told (a .m) o) (f + 1)) (w .5) ∙ ap (λ o. terminalRest (a .m) (a .sv .now) (a .st .now) (a .rs .now) (a .rt .now) (a .x) (a .y) (a .plan .now) (a .fs .now) (a .ft .now) o (f + 1)) (w .4 .ensures ∙ ap (λ u. round (a .m) (a .sv .now) (a .st .now) (a .rs .now) (a .rt .now) (a .x) (a .y) (a .plan .now) (a .fs .now) u (told (a .m) (l .loop .o))) (way-gain (a .m) f h)) ∙ sym (terminal-turn (a .m) (a .sv .now) (a .st .now) (a .rs .now) (a .rt .now) (a .x) (a .y) (a .plan .now) (a .fs .now) (a .ft .now) (told (a .m) (l .loop .o)) f h (w .0 .taken)) ∙ l .loop .inv .1)
+          (λ w. ap (λ o. terminalRest (a .m) (a .sv .now) (a .st .now) (a .rs .now) (a .rt .now) (a .x) (a .y) (a .plan .now) (a .fs .now) (a .ft .now) (told (a .m) o) (f + 1)) (w .1) ∙ sym (terminal-past (a .m) (a .sv .now) (a .st .now) (a .rs .now) (a .rt .now) (a .x) (a .y) (a .plan .now) (a .fs .now) (a .ft .now) (told (a .m) (l .loop .o)) f h (w .0 .left)) ∙ l .loop .inv .1)
           (c .if1 .came),
     )
 
@@ -94,10 +94,10 @@ returns : tie.Need-returns Inv-loop μ-loop
 returns c =
     let l = c .before in
     let a = l .before .before .before .before .before .args in
-    sym (tip-end (a .m) (a .sv .now) (a .st .now) (a .rs .now) (a .rt .now) (a .x) (a .y) (a .plan .now) (a .fs .now) (a .ft .now) (told (a .m) (l .loop .o)) (l .loop .f) (omega arith)) ∙ l .loop .inv .1
+    sym (terminal-end (a .m) (a .sv .now) (a .st .now) (a .rs .now) (a .rt .now) (a .x) (a .y) (a .plan .now) (a .fs .now) (a .ft .now) (told (a .m) (l .loop .o)) (l .loop .f) (omega arith)) ∙ l .loop .inv .1
 
-pub tip-spec : {M : Type 1} → statement M
-tip-spec =
+pub terminal-spec : {M : Type 1} → statement M
+terminal-spec =
     tie.close
     (tie.spec
     Inv-loop

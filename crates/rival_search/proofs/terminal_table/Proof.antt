@@ -5,8 +5,8 @@ use native.Mathlib.Omega.{arith}
 use Rattle.arrays.specs.ArrayInstance.{at}
 use Rattle.rival_levels.specs.declared.Found.the-variants as found
 use Rattle.rival_search.specs.SearchView.{but-small, gain-small}
-use Rattle.rival_search.proofs.tip_table.Statement.{statement}
-use Rattle.rival_search.proofs.tip_table.Tie as tie
+use Rattle.rival_search.proofs.terminal_table.Statement.{statement}
+use Rattle.rival_search.proofs.terminal_table.Tie as tie
 
 apart-requires : tie.Need-apart-requires
 apart-requires c κs = (omega arith, c .pre .3, omega arith)
@@ -20,8 +20,8 @@ gains-requires c κs = (omega arith, c .before .before .pre .3, omega arith)
 gains-requires-2 : tie.Need-gains-requires-2
 gains-requires-2 c κs = (omega arith, c .before .before .before .pre .2, omega arith)
 
-tips-requires : tie.Need-tips-requires
-tips-requires c κs =
+terminals-requires : tie.Need-terminals-requires
+terminals-requires c κs =
     let a = c .before .before .before .before .before .before .before .before .args in (
       omega arith,
       record {
@@ -34,15 +34,15 @@ tips-requires c κs =
 returns : tie.Need-returns
 returns c =
     let a = c .before .before .before .before .before .before .before .before .before .args in
-    λ i j h k. c .tips .ensures i j h k ∙ ap₂ (λ x y. min (x + 3) y) (ap₂ min (c .before .before .before .before .before .before .before .before .apart .ensures i j h (omega arith)) (c .before .before .before .before .before .before .before .apart2 .ensures j i k (omega arith))) (ap₂ (λ x y. x + y) (c .before .before .before .before .before .before .gains .ensures i h) (c .before .before .before .before .before .gains2 .ensures j k))
+    λ i j h k. c .terminals .ensures i j h k ∙ ap₂ (λ x y. min (x + 3) y) (ap₂ min (c .before .before .before .before .before .before .before .before .apart .ensures i j h (omega arith)) (c .before .before .before .before .before .before .before .apart2 .ensures j i k (omega arith))) (ap₂ (λ x y. x + y) (c .before .before .before .before .before .before .gains .ensures i h) (c .before .before .before .before .before .gains2 .ensures j k))
 
-pub tip-table-spec : {M : Type 1} → statement M
-tip-table-spec =
+pub terminal-table-spec : {M : Type 1} → statement M
+terminal-table-spec =
     tie.close
     (tie.spec
     apart-requires
     apart-requires-2
     gains-requires
     gains-requires-2
-    tips-requires
+    terminals-requires
     returns)

@@ -7,12 +7,12 @@ use lib.ListN.{length, length-set}
 use borrow.Author.Needs.{needs}
 use Rattle.arrays.specs.ArrayInstance.{at}
 use Rattle.rival_tables.specs.Filled.{Made, made-set}
-use Rattle.rival_ends.specs.Tips.{tipAt}
-use Rattle.rival_ends.proofs.tip_row.Statement.{statement}
-use Rattle.rival_ends.proofs.tip_row.Tie as tie
+use Rattle.rival_ends.specs.Terminals.{terminalAt}
+use Rattle.rival_ends.proofs.terminal_row.Statement.{statement}
+use Rattle.rival_ends.proofs.terminal_row.Tie as tie
 
 abbrev Inv-loop : tie.InvT-loop
-Inv-loop n starts stops gs gt i o₀ j₀ o j = (j ≤ n) × (length o ≡ 64) × Made 0 o (tipAt starts stops gs gt i) j
+Inv-loop n starts stops gs gt i o₀ j₀ o j = (j ≤ n) × (length o ≡ 64) × Made 0 o (terminalAt starts stops gs gt i) j
 
 abbrev μ-loop : tie.MeasureT-loop
 μ-loop n starts stops gs gt i o₀ j₀ o j = n - j
@@ -71,15 +71,15 @@ loop-again c =
     let a = c .before .before .before .before .before .before .before .before .args in (
       omega arith,
       simp length-set (l .loop .inv .1),
-      made-set 0 (l .loop .o) (tipAt (a .starts .now) (a .stops .now) (a .gs .now) (a .gt .now) (a .i)) (l .loop .j) (c .lesser2 .result) (omega arith)
+      made-set 0 (l .loop .o) (terminalAt (a .starts .now) (a .stops .now) (a .gs .now) (a .gt .now) (a .i)) (l .loop .j) (c .lesser2 .result) (omega arith)
           (c .lesser2 .ensures ∙ ap (λ x. min (x + 3) (at (a .gs .now) (a .i) + at (a .gt .now) (l .loop .j))) (c .before .before .before .lesser .ensures)) (l .loop .inv .2),
     )
 
 returns : tie.Need-returns Inv-loop μ-loop
 returns c = λ e h. c .before .loop .inv .2 e (omega arith)
 
-pub tip-row-spec : {M : Type 1} → statement M
-tip-row-spec =
+pub terminal-row-spec : {M : Type 1} → statement M
+terminal-row-spec =
     tie.close
     (tie.spec
     Inv-loop
