@@ -32,7 +32,7 @@ use Rattle.blocking_search.specs.declared.Blocking.the-variants as search
 use Rattle.blocking_thresholds.specs.Threshold.{Edges}
 use Rattle.theory_instance.specs.FirstBlocking.{firstBlocking, first-blocks}
 use Rattle.blocking_search.specs.Blocking.{answer, blockingOf, Placed, Answers}
-use Rattle.files.specs.Replies.{RosterAccepted}
+use Rattle.instance.specs.Accepted.{RosterAccepted}
 use Rattle.blocking_pairs.specs.declared.Blocked.{Blocked}
 use Rattle.blocking_pairs.specs.declared.Blocked.the-variants.{Pair, Unblocked, Refused}
 use Rattle.blocking_pairs.specs.Answers.{named, blockedBy, replied, blockedReply, BlockedAs}

@@ -4,7 +4,7 @@ ghost use mathlib.Core.Path.{_≡_};
 ghost use Rattle.model.specs.RosterFile.{readRoster};
 ghost use Rattle.instance.specs.Decoded.{shownBy};
 ghost use Rattle.instance.specs.Loaded.{Loaded};
-ghost use Rattle.files.specs.Replies.{RosterAccepted};
+ghost use Rattle.instance.specs.Accepted.{RosterAccepted};
 ghost use Rattle.blocking_pairs.specs.Answers.{blockedBy, blockedReply, BlockedAs};
 use answers::Group;
 use blocking_search::Blocking;

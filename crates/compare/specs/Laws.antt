@@ -33,7 +33,7 @@ use Rattle.plan_reader.specs.declared.PlanRead.{PlanRead}
 use Rattle.plan_reader.specs.declared.PlanAnswer.the-variants as plan
 use Rattle.plan_reader.specs.Answers.{ReadAs, ReadFor, accepted-read, accepted-edges, refused-read}
 use Rattle.vote_plans.specs.Plan.{PlanVotes}
-use Rattle.files.specs.Replies.{RosterAccepted}
+use Rattle.instance.specs.Accepted.{RosterAccepted}
 use Rattle.compare.specs.declared.Winner.{Winner}
 use Rattle.compare.specs.declared.Comparison.{Comparison}
 use Rattle.compare.specs.declared.Comparison.the-variants.{Votes, Refused}

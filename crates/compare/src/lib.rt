@@ -6,7 +6,7 @@ ghost use Rattle.model.specs.PlanFile.{readPlan};
 ghost use Rattle.model.specs.Compare.{winnerOf, compared, secondJudged};
 ghost use Rattle.instance.specs.Decoded.{shownBy};
 ghost use Rattle.instance.specs.Loaded.{Loaded};
-ghost use Rattle.files.specs.Replies.{RosterAccepted};
+ghost use Rattle.instance.specs.Accepted.{RosterAccepted};
 ghost use Rattle.compare.specs.Answers.{winnerCase, answered, Planned, comparisonReply, ComparedAs};
 ghost use denote.Ref.{ptr};
 ghost use Rattle.compare.specs.Parts.{placed, partReply};

@@ -32,7 +32,8 @@ use Rattle.plan_reader.specs.Edges.{Differ}
 use Rattle.plan_reader.specs.Answers.{ReadAs, ReadFor, accepted-read, refused-read}
 use Rattle.files.specs.declared.PlanReply.{PlanReply}
 use Rattle.files.specs.declared.PlanReply.the-variants.{Accepted, Refused}
-use Rattle.files.specs.Replies.{RosterAccepted, replied, planReply, JudgedAs, bytesOf, planToWrite, toWrite, answered, left, WrittenBy, PlanWritten}
+use Rattle.instance.specs.Accepted.{RosterAccepted}
+use Rattle.files.specs.Replies.{replied, planReply, JudgedAs, bytesOf, planToWrite, toWrite, answered, left, WrittenBy, PlanWritten}
 
 -- ---- a plan judged against an accepted roster
 module _ (roster : List ℕ) (g : Instance) (D : Decoded roster g) where

@@ -16,7 +16,8 @@ use Rattle.roster_writer.specs.declared.Written.the-variants as written
 use Rattle.instance.specs.declared.Instance.{Instance}
 use Rattle.instance.specs.Decoded.{shownBy, Decoded}
 use Rattle.pairwriter.specs.Pairs.{pairsUpTo, pairs-length, front}
-use Rattle.files.specs.Replies.{RosterAccepted, toWrite, WrittenBy}
+use Rattle.instance.specs.Accepted.{RosterAccepted}
+use Rattle.files.specs.Replies.{toWrite, WrittenBy}
 use Rattle.files.specs.Laws.{kept, put, long-enough}
 
 -- 1,024 pairs of five bytes

@@ -22,10 +22,6 @@ use Rattle.files.specs.declared.PlanReply.{PlanReply}
 use Rattle.files.specs.declared.PlanReply.the-variants.{Accepted, Refused}
 
 -- ---- a plan judged
--- the bytes are an accepted roster's
-abbrev pub RosterAccepted : List ℕ → Type 0
-RosterAccepted f = (R : Roster) × (readRoster f ≡ accepted R)
-
 -- what is answered, for each case of the plan's reading
 abbrev pub replied : Reading Plan → PlanReply
 replied (accepted M) = Accepted

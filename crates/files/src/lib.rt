@@ -2,7 +2,8 @@
 // as they are, judges the roster first and asks nothing of its caller.
 ghost use mathlib.Core.Path.{_≡_};
 ghost use Rattle.model.specs.RosterFile.{readRoster};
-ghost use Rattle.files.specs.Replies.{RosterAccepted, planReply, JudgedAs, PlanWritten};
+ghost use Rattle.instance.specs.Accepted.{RosterAccepted};
+ghost use Rattle.files.specs.Replies.{planReply, JudgedAs, PlanWritten};
 ghost use Rattle.files.specs.Pairs.{PairsWritten};
 use answers::Group;
 use limits::PLAN_SIZE;

@@ -48,7 +48,7 @@ use Rattle.verdict.specs.Weighing.{Shows, weighedAs, rivalWritten, WeighedBy}
 use Rattle.answers.specs.declared.Group.{Group}
 use Rattle.roster.specs.declared.Answer.the-variants as answer
 use Rattle.roster.specs.ReadAnswer.{shown, shown-refused}
-use Rattle.files.specs.Replies.{RosterAccepted}
+use Rattle.instance.specs.Accepted.{RosterAccepted}
 use Rattle.answers.specs.declared.Found as code
 use Rattle.answers.specs.declared.Found.the-variants as says
 use Rattle.answers.specs.declared.NoneKind.the-variants as kind

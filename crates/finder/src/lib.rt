@@ -3,7 +3,7 @@ ghost use mathlib.Core.Path.{_≡_};
 ghost use Prim.Native.Nat.{_≤_};
 ghost use lib.ListN.{length};
 ghost use Rattle.instance.specs.Loaded.{Loaded};
-ghost use Rattle.files.specs.Replies.{RosterAccepted};
+ghost use Rattle.instance.specs.Accepted.{RosterAccepted};
 ghost use Rattle.model.specs.Plans.{Plan};
 ghost use Rattle.instance.specs.Decoded.{shownBy};
 ghost use Rattle.verdict.specs.Weighing.{Shows};

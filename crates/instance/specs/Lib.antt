@@ -1,3 +1,4 @@
+pub mod Accepted
 pub mod Cells
 pub mod Decoded
 pub mod Arrays

@@ -28,7 +28,7 @@ use Rattle.answers.specs.GroupCases.{groupShown, shown-case}
 use Rattle.roster.specs.declared.Answer.{Answer}
 use Rattle.roster.specs.declared.Answer.the-variants as answer
 use Rattle.roster.specs.ReadAnswer.{shown, shown-refused}
-use Rattle.files.specs.Replies.{RosterAccepted}
+use Rattle.instance.specs.Accepted.{RosterAccepted}
 use Rattle.answers.specs.declared.Found.{Found}
 use Rattle.answers.specs.declared.Found.the-variants as says
 use Rattle.answers.specs.FinderCases.{foundShown}

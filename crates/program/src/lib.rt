@@ -2,7 +2,7 @@
 ghost use mathlib.Core.Path.{_≡_};
 ghost use Rattle.model.specs.Printed.{printed};
 ghost use Rattle.theory_verdict.specs.Rival.{rivalOf};
-ghost use Rattle.files.specs.Replies.{RosterAccepted};
+ghost use Rattle.instance.specs.Accepted.{RosterAccepted};
 ghost use Rattle.program.specs.Printing.{Prints};
 use answers::Found;
 use roster::Answer;

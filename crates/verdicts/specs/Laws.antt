@@ -31,7 +31,7 @@ use Rattle.plan_reader.specs.declared.PlanAnswer.the-variants as plan
 use Rattle.plan_reader.specs.declared.PlanRead.{PlanRead}
 use Rattle.plan_reader.specs.Answers.{answerOf, ReadAs, ReadFor, accepted-read, refused-read}
 use Rattle.rival_search.specs.SearchView.{Lists}
-use Rattle.files.specs.Replies.{RosterAccepted}
+use Rattle.instance.specs.Accepted.{RosterAccepted}
 use Rattle.verdict.specs.declared.Weighed.{Weighed}
 use Rattle.verdict.specs.Weighing.{Shows, WeighedFor}
 use Rattle.verdicts.specs.declared.Verdict.{Verdict}

@@ -3,7 +3,7 @@
 ghost use mathlib.Core.Path.{_≡_};
 ghost use Prim.Native.Nat.{_≤_};
 ghost use lib.ListN.{length};
-ghost use Rattle.files.specs.Replies.{RosterAccepted};
+ghost use Rattle.instance.specs.Accepted.{RosterAccepted};
 ghost use Rattle.verdicts.specs.Answers.{verdictCase, JudgedFor, VerdictGiven};
 use answers::Group;
 use limits::PLAN_SIZE;
