@@ -1,7 +1,6 @@
 //! The exported calls, as `include/crew.h` declares them.
 
-use crate::desk::Desk;
-use crate::find::Step;
+use crate::layout::{Desk, Step};
 
 #[repr(C)]
 pub struct Outcome {
@@ -77,54 +76,6 @@ pub struct DeskFound {
 extern "C" {
     pub fn crew_group(number: u8) -> u8;
     pub fn crew_read_roster(file: *const u8, file_len: usize) -> u8;
-    pub fn crew_write_roster(
-        file: *const u8,
-        file_len: usize,
-        out: *mut u8,
-        out_len: usize,
-    ) -> Outcome;
-    pub fn crew_pairs(
-        roster: *const u8,
-        roster_len: usize,
-        out: *mut u8,
-        out_len: usize,
-    ) -> Outcome;
-    pub fn crew_read_plan(
-        roster: *const u8,
-        roster_len: usize,
-        file: *const u8,
-        file_len: usize,
-    ) -> u8;
-    pub fn crew_write_plan(
-        roster: *const u8,
-        roster_len: usize,
-        file: *const u8,
-        file_len: usize,
-        out: *mut u8,
-        out_len: usize,
-    ) -> Outcome;
-    pub fn crew_compare(
-        roster: *const u8,
-        roster_len: usize,
-        first: *const u8,
-        first_len: usize,
-        second: *const u8,
-        second_len: usize,
-    ) -> Compared;
-    pub fn crew_blocking(
-        roster: *const u8,
-        roster_len: usize,
-        file: *const u8,
-        file_len: usize,
-    ) -> Blocker;
-    pub fn crew_verdict(
-        roster: *const u8,
-        roster_len: usize,
-        file: *const u8,
-        file_len: usize,
-        rival: *mut u8,
-        rival_len: usize,
-    ) -> Judged;
     pub fn crew_open() -> Desk;
     pub fn crew_load_roster(desk: Desk, file: *const u8, file_len: usize) -> DeskLoaded;
     pub fn crew_load_plan(desk: Desk, file: *const u8, file_len: usize) -> DeskLoaded;

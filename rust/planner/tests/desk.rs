@@ -5,11 +5,11 @@
 mod common;
 
 use common::{check_written, damage, junk, number, shape, Met};
-use planner::{Desk, Winner};
+use planner::{Desk, Verdict, Winner};
 use reference::plan::{self, Plan};
 use reference::random::{self, Random};
 use reference::roster::{self, Roster};
-use reference::{blocking, compare};
+use reference::{blocking, compare, fast, votes};
 
 /// What the desk should hold.
 enum Held {
@@ -138,24 +138,57 @@ fn write_plan(random: &mut Random, desk: &Desk, held: &Held) -> u8 {
     number(&answer)
 }
 
-/// The verdict of the call on files, for the plan held.
+/// The verdict on the held plan against the reference's, and its rival by a
+/// recount of the vote.
 fn judge(random: &mut Random, desk: &Desk, held: &Held) -> u8 {
     let before = buffer(random, planner::PLAN_BYTES);
     let mut rival = before.clone();
     let answer = desk.judge(&mut rival);
-    match held.plan() {
+    let expected = held.plan().and_then(|held| match held {
+        _ if before.len() < planner::PLAN_BYTES => Err(15),
+        held => Ok(held),
+    });
+    let (roster, plan) = match expected {
+        Ok(held) => held,
         Err(refusal) => {
-            assert_eq!(number(&answer), refusal);
-            assert_eq!(rival, before);
+            assert_eq!((number(&answer), rival), (refusal, before));
+            return refusal;
         }
-        Ok((roster, plan)) => {
-            let mut expected = before;
-            let (roster, plan) = (roster::write(roster), plan::write(roster, plan));
-            assert_eq!(answer, planner::verdict(&roster, &plan, &mut expected));
-            assert_eq!(rival, expected);
+    };
+    let verdict = answer.expect("a plan is held");
+    let theirs = fast_verdict(roster, plan);
+    let vote = match verdict {
+        Verdict::Strong => {
+            assert_eq!((theirs, rival), (0, before));
+            return 0;
         }
+        Verdict::Popular(vote) => {
+            assert_eq!((theirs, vote), (1, 0));
+            vote
+        }
+        Verdict::Beaten(vote) => {
+            assert_eq!(theirs, 2);
+            assert!(vote < 0);
+            vote
+        }
+    };
+    let front = &rival[..1 + 2 * usize::from(rival[0])];
+    let other = plan::read(roster, front).expect("a plan within the quotas");
+    assert_ne!(other, *plan);
+    assert_eq!(votes::plan_vote(roster, plan, &other), vote);
+    assert_eq!(rival[front.len()..], before[front.len()..]);
+    0
+}
+
+/// The reference's verdict: 0 strong, 1 popular, 2 beaten.
+fn fast_verdict(roster: &Roster, plan: &Plan) -> u8 {
+    let instance = fast::roster::read(&roster::write(roster)).expect("accepted");
+    let chosen = fast::plan::read(&instance, &plan::write(roster, plan)).expect("accepted");
+    match fast::verdict::judge(&instance, &chosen) {
+        fast::verdict::Verdict::Strong => 0,
+        fast::verdict::Verdict::Popular(_) => 1,
+        fast::verdict::Verdict::Beaten(_) => 2,
     }
-    number(&answer)
 }
 
 fn compare_two(random: &mut Random, desk: &Desk, held: &Held) -> u8 {

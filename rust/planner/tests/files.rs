@@ -1,44 +1,54 @@
-//! The proved readers and writers against the reference: every answer, and
-//! every byte of every buffer, which are filled with junk first.
+//! The proved readers and writers, through the desk, against the reference:
+//! every answer, and every byte of every buffer, which are filled with junk
+//! first.
 
 mod common;
 
-use common::{check_written, damage, junk, number, same_group, shape, Met};
+use std::fmt::Debug;
+
+use common::{check_written, damage, junk, length, number, same_refusal, shape, Met};
+use common::{desk_with, desk_with_plan};
+use planner::Desk;
 use reference::plan;
 use reference::random::{self, Random, Shape};
-use reference::roster::{self, Roster, Side};
+use reference::refusal::Refusal;
+use reference::roster::{self, Roster, SIDES};
 use reference::votes;
 
-/// Reads and writes one roster file on both sides.
+/// Loads and writes one roster file on both sides. A refused one is not held.
 fn check_roster(random: &mut Random, met: &mut Met, file: &[u8]) {
     let expected = roster::read(file);
     let answer = planner::read_roster(file);
-    match (&answer, &expected) {
-        (Ok(()), Ok(_)) => {}
-        (Err(ours), Err(theirs)) => {
-            assert_eq!(ours.number, theirs.number(), "{file:?}");
-            assert!(same_group(*ours, *theirs));
-        }
-        _ => panic!("{answer:?} {expected:?} {file:?}"),
-    }
+    check_answer(&answer, &expected, file);
     met.count(number(&answer));
-    let length = if random.chance(10) {
-        random.below(planner::ROSTER_BYTES)
-    } else {
-        planner::ROSTER_BYTES + random.below(3)
+    let mut desk = Desk::open();
+    assert_eq!(desk.load_roster(file), answer);
+    let before = {
+        let length = length(random, planner::ROSTER_BYTES);
+        junk(random, length)
     };
-    let before = junk(random, length);
     let mut out = before.clone();
-    let written = planner::write_roster(file, &mut out);
+    let written = desk.write_roster(&mut out);
     met.count(number(&written));
-    let expected = if length < planner::ROSTER_BYTES {
-        Err(15)
-    } else {
-        expected
-            .map(|roster| roster::write(&roster))
-            .map_err(|refusal| refusal.number())
+    let expected = match expected {
+        Err(_) => Err(13),
+        Ok(_) if before.len() < planner::ROSTER_BYTES => Err(15),
+        Ok(roster) => Ok(roster::write(&roster)),
     };
     check_written(written, expected, &before, &out);
+}
+
+/// Whether both sides accept a file, or refuse it alike.
+fn check_answer<T: Debug>(
+    answer: &Result<(), planner::Refusal>,
+    expected: &Result<T, Refusal>,
+    file: &[u8],
+) {
+    match (answer, expected) {
+        (Ok(()), Ok(_)) => {}
+        (Err(ours), Err(theirs)) => same_refusal(*ours, *theirs),
+        _ => panic!("{answer:?} {expected:?} {file:?}"),
+    }
 }
 
 #[test]
@@ -60,7 +70,7 @@ fn every_short_file() {
             check_roster(&mut random, &mut met, &file);
         }
     }
-    met.require(&[1, 2, 3, 7, 9, 15], 5);
+    met.require(&[1, 2, 3, 7, 9, 13], 5);
     met.require(&[0], 2);
 }
 
@@ -76,7 +86,7 @@ fn random_and_damaged_rosters() {
         }
         check_roster(&mut random, &mut met, &file);
     }
-    met.require(&[0, 1, 2, 3, 4, 5, 6, 7, 8, 9, 15], 500);
+    met.require(&[0, 1, 2, 3, 4, 5, 6, 7, 8, 9, 13, 15], 500);
 }
 
 #[test]
@@ -101,29 +111,48 @@ fn rosters_at_the_limits() {
     met.require(&[0, 15], 50);
 }
 
-fn check_pairs(roster: &Roster) {
-    let pairs = planner::pairs(&roster::write(roster)).expect("accepted");
-    assert_eq!(pairs.len(), roster.pairs().len());
-    for (ours, pair) in pairs.iter().zip(roster.pairs()) {
-        let surveyor = roster.node(Side::Surveyors, pair.surveyor);
-        let stand = roster.node(Side::Stands, pair.stand);
-        let expected = planner::Pair {
-            surveyor: pair.surveyor,
-            stand: pair.stand,
-            surveyor_rank: votes::rank(&surveyor.list, Some(pair.stand)),
-            stand_rank: votes::rank(&stand.list, Some(pair.surveyor)),
-            tied: stand.list.tied.contains(&pair.surveyor),
-        };
-        assert_eq!(*ours, expected);
+/// Whether the desk knows the roster's pairs and no others: a plan of one pair
+/// is taken if the pair is there and both quotas allow it.
+fn check_pairs(roster: &Roster, desk: &mut Desk) {
+    let [surveyors, stands] = SIDES.map(|side| roster.nodes(side).len() as u8);
+    for surveyor in 1..=surveyors {
+        for stand in 1..=stands {
+            let file = [1, surveyor, stand];
+            let expected = plan::read(roster, &file);
+            check_answer(&desk.load_plan(&file), &expected, &file);
+        }
     }
+}
+
+/// Whether the desk ranks two pairs as the reference does: the votes of the
+/// plans that have one of them each.
+fn check_ranks(random: &mut Random, roster: &Roster, desk: &Desk) {
+    let pairs = roster.pairs().len();
+    let [first, second] = [(); 2].map(|()| {
+        let pair = roster.pairs()[random.below(pairs)];
+        [1, pair.surveyor, pair.stand]
+    });
+    let (Ok(mine), Ok(theirs)) = (plan::read(roster, &first), plan::read(roster, &second)) else {
+        return;
+    };
+    let votes = desk.compare(&first, &second).outcome.expect("accepted");
+    assert_eq!(votes.first, votes::plan_vote(roster, &mine, &theirs));
+    assert_eq!(votes.second, votes::plan_vote(roster, &theirs, &mine));
 }
 
 #[test]
 fn pairs_with_their_ranks() {
     let mut random = Random::new(4);
     for _ in 0..30_000 {
-        let shape = shape(&mut random);
-        check_pairs(&random::roster(&mut random, &shape));
+        let mut shape = shape(&mut random);
+        // the reference tries all pairings here, so quotas are small
+        shape.quotas = [0..=3, 0..=3];
+        let roster = random::roster(&mut random, &shape);
+        let mut desk = desk_with(&roster::write(&roster)).expect("accepted");
+        check_pairs(&roster, &mut desk);
+        for _ in 0..roster.pairs().len() {
+            check_ranks(&mut random, &roster, &desk);
+        }
     }
 }
 
@@ -145,37 +174,27 @@ fn random_and_damaged_plans() {
             check_plan(&mut random, &mut met, &roster, &bytes, &file);
         }
     }
-    met.require(&[0, 1, 2, 9, 10, 11, 12, 15], 500);
+    met.require(&[0, 1, 2, 9, 10, 11, 12, 14, 15], 500);
 }
 
-/// Reads and writes one plan file on both sides.
+/// Loads and writes one plan file on both sides. A refused one is not held.
 fn check_plan(random: &mut Random, met: &mut Met, roster: &Roster, bytes: &[u8], file: &[u8]) {
     let expected = plan::read(roster, file);
-    let answer = planner::read_plan(bytes, file);
-    match (&answer, &expected) {
-        (Ok(()), Ok(_)) => {}
-        (Err(ours), Err(theirs)) => {
-            assert_eq!(ours.number, theirs.number(), "{bytes:?} {file:?}");
-            assert!(same_group(*ours, *theirs));
-        }
-        _ => panic!("{answer:?} {expected:?} {bytes:?} {file:?}"),
-    }
+    let mut desk = desk_with(bytes).expect("accepted");
+    let answer = desk.load_plan(file);
+    check_answer(&answer, &expected, file);
     met.count(number(&answer));
-    let length = if random.chance(10) {
-        random.below(planner::PLAN_BYTES)
-    } else {
-        planner::PLAN_BYTES + random.below(3)
+    let before = {
+        let length = length(random, planner::PLAN_BYTES);
+        junk(random, length)
     };
-    let before = junk(random, length);
     let mut out = before.clone();
-    let written = planner::write_plan(bytes, file, &mut out);
+    let written = desk.write_plan(&mut out);
     met.count(number(&written));
-    let expected = if length < planner::PLAN_BYTES {
-        Err(15)
-    } else {
-        expected
-            .map(|plan| plan::write(roster, &plan))
-            .map_err(|refusal| refusal.number())
+    let expected = match expected {
+        Err(_) => Err(14),
+        Ok(_) if before.len() < planner::PLAN_BYTES => Err(15),
+        Ok(plan) => Ok(plan::write(roster, &plan)),
     };
     check_written(written, expected, &before, &out);
 }
@@ -184,15 +203,11 @@ fn check_plan(random: &mut Random, met: &mut Met, roster: &Roster, bytes: &[u8],
 fn a_refused_roster_comes_before_its_plan() {
     let mut out = [0; planner::PLAN_BYTES];
     for (roster, refusal) in [(&[1u8, 9][..], 3), (&[33], 2), (&[], 1)] {
-        assert_eq!(number(&planner::read_plan(roster, &[])), refusal);
-        assert_eq!(
-            number(&planner::write_plan(roster, &[0], &mut out)),
-            refusal
-        );
-        assert_eq!(number(&planner::pairs(roster)), refusal);
+        assert_eq!(number(&desk_with_plan(roster, &[])), refusal);
+        let mut desk = Desk::open();
+        assert_eq!(number(&desk.load_roster(roster)), refusal);
+        assert_eq!(number(&desk.load_plan(&[])), 13);
+        assert_eq!(number(&desk.write_plan(&mut out)), 13);
+        assert_eq!(number(&desk.write_plan(&mut out[..128])), 13);
     }
-    assert_eq!(
-        number(&planner::write_plan(&[33], &[0], &mut out[..128])),
-        15
-    );
 }

@@ -6,7 +6,7 @@ mod calls;
 mod common;
 mod lent;
 
-use common::{damage, junk};
+use common::{damage, desk_with_plan, junk};
 use lent::only_front;
 use reference::desk::Judged;
 use reference::fast;
@@ -17,9 +17,10 @@ use reference::random::{self, Random, Shape};
 use reference::roster::{self, Roster, Side, SIDES};
 use reference::tables::{Contest, Tables};
 
-/// The call under test, with the reference's verdict and a refusal as its number.
+/// The call under test on a desk with these files, with the reference's verdict
+/// and a refusal as its number.
 fn verdict(roster: &[u8], plan: &[u8], rival: &mut [u8]) -> Result<Judged, u8> {
-    let answer = planner::verdict(roster, plan, rival);
+    let answer = desk_with_plan(roster, plan).and_then(|desk| desk.judge(rival));
     answer.map(calls::judged).map_err(|refusal| refusal.number)
 }
 
@@ -345,9 +346,9 @@ fn refusals() {
         let answer = verdict(&bytes, &file, &mut rival);
         let read = roster::read(&bytes).and_then(|roster| plan::read(&roster, &file));
         let expected = match read {
-            _ if short => 15,
-            Ok(_) => 0,
             Err(refusal) => refusal.number(),
+            Ok(_) if short => 15,
+            Ok(_) => 0,
         };
         assert_eq!(answer.err().unwrap_or(0), expected, "{bytes:?} {file:?}");
         if expected != 0 {

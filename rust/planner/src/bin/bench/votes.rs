@@ -5,6 +5,7 @@
 
 use std::hint::black_box;
 
+use planner::Desk;
 use reference::fast;
 use reference::plan;
 use reference::random::{self, Random, Shape};
@@ -37,13 +38,9 @@ fn largest(random: &mut Random, roster: &Roster) -> Vec<u8> {
 }
 
 /// What a comparison's call takes.
-fn comparison(roster: &[u8], first: &[u8], second: &[u8]) -> f64 {
+fn comparison(desk: &Desk, first: &[u8], second: &[u8]) -> f64 {
     time(200, || {
-        let _ = black_box(planner::compare(
-            black_box(roster),
-            black_box(first),
-            black_box(second),
-        ));
+        let _ = black_box(black_box(desk).compare(black_box(first), black_box(second)));
     })
 }
 
@@ -61,9 +58,9 @@ fn measure(full: Side, name: &str) {
     let [first, second] = [(); 2].map(|()| largest(&mut random, &roster));
     let instance = fast::roster::read(&file).expect("accepted");
     let plans = [&first, &second].map(|plan| fast::plan::read(&instance, plan).expect("accepted"));
-    let votes = planner::compare(&file, &first, &second)
-        .outcome
-        .expect("accepted");
+    let mut desk = Desk::open();
+    desk.load_roster(&file).expect("accepted");
+    let votes = desk.compare(&first, &second).outcome.expect("accepted");
     assert_eq!(
         votes.first,
         fast::vote::vote(&instance, &plans[0], &plans[1])
@@ -71,9 +68,9 @@ fn measure(full: Side, name: &str) {
 
     // A comparison whose first file is refused at once reads the roster alone;
     // one whose second file is reads a plan more.
-    let roster_alone = comparison(&file, &[], &second);
-    let one_plan = comparison(&file, &first, &[]);
-    let whole = comparison(&file, &first, &second);
+    let roster_alone = comparison(&desk, &[], &second);
+    let one_plan = comparison(&desk, &first, &[]);
+    let whole = comparison(&desk, &first, &second);
     report(
         &format!("vote of two 64-pair plans, eight {name} of quota 8"),
         (whole - 2.0 * one_plan + roster_alone) / 2.0,

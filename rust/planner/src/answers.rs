@@ -1,0 +1,106 @@
+//! What the calls answer, in words: the numbers that cross the boundary are
+//! turned into these.
+
+use crate::ffi;
+use crate::refusal::{self, Refusal};
+
+/// What the votes against all plans within the quotas make of a plan. A plan
+/// that is not strong has a rival: the number is the plan's vote against it.
+#[derive(Clone, Copy, Debug, PartialEq, Eq)]
+pub enum Verdict {
+    Strong,
+    Popular(i16),
+    Beaten(i16),
+}
+
+/// The plan whose vote against the other is above zero.
+#[derive(Clone, Copy, Debug, PartialEq, Eq)]
+pub enum Winner {
+    First,
+    Second,
+    Neither,
+}
+
+/// Both votes, first against second and second against first, and the winner.
+#[derive(Clone, Copy, Debug, PartialEq, Eq)]
+pub struct Votes {
+    pub first: i16,
+    pub second: i16,
+    pub winner: Winner,
+}
+
+/// The votes or a refusal, and in both cases a part of one of the two files:
+/// the winner's pair bytes, or the empty part at the first file's start.
+#[derive(Clone, Copy, Debug, PartialEq, Eq)]
+pub struct Comparison<'a> {
+    pub outcome: Result<Votes, Refusal>,
+    pub part: &'a [u8],
+}
+
+/// What the finder answers, with the number of steps that are in the diary.
+#[derive(Clone, Copy, Debug, PartialEq, Eq)]
+pub enum Found {
+    /// The strongly popular plan is in the plan's buffer.
+    Plan { steps: usize },
+    /// There is none: so many pairs remain, in the buffer for them.
+    Left { steps: usize, pairs: usize },
+    /// There is none: the candidate is in the plan's buffer, its rival in the
+    /// rival's, and this is the candidate's vote against it, zero or below.
+    Rivalled { steps: usize, vote: i16 },
+}
+
+/// The length that a call wrote.
+pub(crate) fn length(outcome: &ffi::Outcome) -> Result<usize, Refusal> {
+    refusal::check(outcome.refusal).map(|()| outcome.length)
+}
+
+pub(crate) fn verdict(judged: &ffi::Judged) -> Result<Verdict, Refusal> {
+    refusal::check(judged.refusal)?;
+    Ok(match judged.verdict {
+        1 => Verdict::Strong,
+        2 => Verdict::Popular(judged.vote),
+        _ => Verdict::Beaten(judged.vote),
+    })
+}
+
+pub(crate) fn comparison<'a>(
+    compared: &ffi::Compared,
+    first: &'a [u8],
+    second: &'a [u8],
+) -> Comparison<'a> {
+    let file = if compared.file == 2 { second } else { first };
+    Comparison {
+        outcome: refusal::check(compared.refusal).map(|()| Votes {
+            first: compared.first_vote,
+            second: compared.second_vote,
+            winner: match compared.winner {
+                1 => Winner::First,
+                2 => Winner::Second,
+                _ => Winner::Neither,
+            },
+        }),
+        part: &file[compared.from..compared.from + compared.length],
+    }
+}
+
+/// The numbers of a blocking pair's surveyor and stand.
+pub(crate) fn blocking(blocker: &ffi::Blocker) -> Result<Option<(u8, u8)>, Refusal> {
+    refusal::check(blocker.refusal)?;
+    Ok((blocker.surveyor != 0).then_some((blocker.surveyor, blocker.stand)))
+}
+
+pub(crate) fn found(reply: &ffi::DeskFound) -> Result<Found, Refusal> {
+    refusal::check(reply.refusal)?;
+    let steps = reply.steps;
+    Ok(match reply.kind {
+        1 => Found::Plan { steps },
+        2 => Found::Left {
+            steps,
+            pairs: reply.left,
+        },
+        _ => Found::Rivalled {
+            steps,
+            vote: reply.vote,
+        },
+    })
+}

@@ -1,0 +1,33 @@
+//! The sizes and structs that cross the boundary, as `include/crew.h` lays them
+//! out. The exported calls and everything above them share these.
+
+/// Bytes that a buffer for a roster needs, and one for a plan.
+pub const ROSTER_BYTES: usize = 2_214;
+pub const PLAN_BYTES: usize = 129;
+/// Records that a lent diary needs, and bytes of the buffer for the pairs left.
+pub const DIARY_RECORDS: usize = 1_024;
+pub const LEFT_BYTES: usize = 2_048;
+
+/// A roster file and a plan file at the front of their arrays. What a desk
+/// holds is what these bytes are read to: nothing, a roster, or a roster and a
+/// plan. Every value of the fields is a desk; a length above its array is the
+/// whole array, and bytes that are refused are not held.
+#[repr(C)]
+#[derive(Clone, Debug, PartialEq, Eq)]
+pub struct Desk {
+    pub roster_len: usize,
+    pub roster: [u8; ROSTER_BYTES],
+    pub plan_len: usize,
+    pub plan: [u8; PLAN_BYTES],
+}
+
+/// One step of the reduction: fate 1 is fix and 2 strike, then the numbers of
+/// the pair's surveyor and stand, then the rule.
+#[repr(C)]
+#[derive(Clone, Copy, Debug, Default, PartialEq, Eq)]
+pub struct Step {
+    pub fate: u8,
+    pub surveyor: u8,
+    pub stand: u8,
+    pub rule: u8,
+}
