@@ -45,6 +45,6 @@ deskAnswer (Pair s t) = desk.blockedBy s t
 deskAnswer Unblocked = desk.unblocked
 deskAnswer (Refused n k) = desk.refused n (groupShown k)
 
-pub desk-answer : (rivalOf : Instance → Plan → Plan) (G : Instance) (M : Plan) (b : Bool) → deskAnswer (named G M b) ≡ desk.blockingAnswer rivalOf firstBlocking G M b
-desk-answer rivalOf G M true = refl
-desk-answer rivalOf G M false = refl
+pub desk-answer : (G : Instance) (M : Plan) (b : Bool) → deskAnswer (named G M b) ≡ desk.blockingAnswer G (firstBlocking G M) b
+desk-answer G M true = refl
+desk-answer G M false = refl

@@ -18,9 +18,9 @@ use Rattle.model.specs.PlanFile.{readPlan}
 use Rattle.model.specs.Reduction.{stepsOf}
 use Rattle.model.specs.Finder as F
 use Rattle.model.specs.Finder.{recordOf, diaryOf, finderOf}
-use Rattle.model.specs.Desk.{Call, find, refused, lentShort, stateRefusal, rosterIn, deskAfter, foundAnswer, foundWritten, onto}
+use Rattle.model.specs.Desk.{Call, find, refused, lentShort, stateRefusal, answerOn, lentOn, foundAnswer, foundWritten, onto}
 use Rattle.theory_verdict.specs.Rival.{rivalOf}
-use Rattle.theory_instance.specs.FirstBlocking.{firstBlocking}
+use Rattle.theory_finder.specs.Choices.{chosen}
 use Rattle.theory_reduction.specs.Course.{steps-few}
 use Rattle.diary.specs.declared.Step.{Step}
 use Rattle.diary.specs.Steps.{recordIn, recordsIn, stepsIn}
@@ -37,7 +37,7 @@ use Rattle.desk.specs.declared.FindReply.{FindReply}
 use Rattle.desk.specs.declared.CoreReply.{CoreReply}
 use Rattle.desk.specs.Held.{rosterBytes, planBytes, heldPlan, held, heldOf, stateNumber}
 use Rattle.desk.specs.Replies.{Replied}
-use Rattle.desk.specs.Laws.{states, by-state, pass-answer, pass-lent}
+use Rattle.desk.specs.Laws.{states, by-state, pass-answer, pass-lent, desk-alike}
 
 -- what the core hands back, as the finder's outcome
 abbrev pub outcomeIn : CoreReply → Outcome
@@ -91,10 +91,18 @@ module _ (s : List Step) (l p v : List ℕ) where
       go (accepted M) = refl
       go (turned n) = refl
 
-  roster-in : (R : Roster) (plan : List ℕ) → rosterIn rivalOf firstBlocking (held (accepted R) plan) ≡ R
-  roster-in R plan = go (readPlan (instanceOf R) plan)
+  -- what is asked of the roster held
+  answer-on : (R : Roster) (plan : List ℕ) → answerOn chosen (held (accepted R) plan) call ≡ foundAnswer (length (stepsOf (instanceOf R))) (finderOf (instanceOf R) (rivalOf (instanceOf R)))
+  answer-on R plan = go (readPlan (instanceOf R) plan)
     where
-      go : (y : Reading Plan) → rosterIn rivalOf firstBlocking (heldPlan R y) ≡ R
+      go : (y : Reading Plan) → answerOn chosen (heldPlan R y) call ≡ foundAnswer (length (stepsOf (instanceOf R))) (finderOf (instanceOf R) (rivalOf (instanceOf R)))
+      go (accepted M) = refl
+      go (turned n) = refl
+
+  lent-on : (R : Roster) (plan : List ℕ) → lentOn chosen (held (accepted R) plan) call ≡ foundWritten (instanceOf R) (finderOf (instanceOf R) (rivalOf (instanceOf R))) (recordsIn s) l p v
+  lent-on R plan = go (readPlan (instanceOf R) plan)
+    where
+      go : (y : Reading Plan) → lentOn chosen (heldPlan R y) call ≡ foundWritten (instanceOf R) (finderOf (instanceOf R) (rivalOf (instanceOf R))) (recordsIn s) l p v
       go (accepted M) = refl
       go (turned n) = refl
 
@@ -116,25 +124,21 @@ module _ (s : List Step) (l p v : List ℕ) where
       abbrev x : F.Found
       x = finderOf (instanceOf R) (rivalOf (instanceOf R))
 
-      roster-here : rosterIn rivalOf firstBlocking (heldOf d) ≡ R
+      held-here : heldOf d ≡ held (accepted R) (planBytes d)
       unfolding heldOf
-      roster-here = ap (λ y. rosterIn rivalOf firstBlocking (held y (planBytes d))) e ∙ roster-in R (planBytes d)
+      held-here = ap (λ y. held y (planBytes d)) e
 
-      answer-here : foundShown (r .answer) ≡ foundAnswer rivalOf firstBlocking (length (stepsOf (instanceOf R))) x
-      answer-here = ap foundShown (f .finds .wrote .answer) ∙ shown-is rivalOf firstBlocking (length (stepsOf (instanceOf R))) x
+      answer-here : foundShown (r .answer) ≡ foundAnswer (length (stepsOf (instanceOf R))) x
+      answer-here = ap foundShown (f .finds .wrote .answer) ∙ shown-is (length (stepsOf (instanceOf R))) x
 
-      lent-here : find (recordsIn s′) l′ p′ v′ ≡ foundWritten rivalOf firstBlocking (instanceOf R) x (recordsIn s) l p v
-      lent-here = (λ i. find (q i) (f .finds .wrote .left i) (f .finds .wrote .plan i) (f .finds .wrote .rival i)) ∙ sym (written-is rivalOf firstBlocking (instanceOf R) x (recordsIn s) l p v)
-
-      alike : heldOf d ≡ deskAfter (heldOf d) call
-      unfolding deskAfter
-      alike = refl
+      lent-here : find (recordsIn s′) l′ p′ v′ ≡ foundWritten (instanceOf R) x (recordsIn s) l p v
+      lent-here = (λ i. find (q i) (f .finds .wrote .left i) (f .finds .wrote .plan i) (f .finds .wrote .rival i)) ∙ sym (written-is (instanceOf R) x (recordsIn s) l p v)
 
       found-reply : 0 ≡ stateRefusal (heldOf d) call → Replied d call (foundShown (r .answer)) (find (recordsIn s′) l′ p′ v′) (r .desk)
       found-reply z = record {
-        answer = answer-here ∙ ap (λ R. foundAnswer rivalOf firstBlocking (length (stepsOf (instanceOf R))) (finderOf (instanceOf R) (rivalOf (instanceOf R)))) (sym roster-here) ∙ pass-answer (heldOf d) call z;
-        lent = lent-here ∙ ap (λ R. foundWritten rivalOf firstBlocking (instanceOf R) (finderOf (instanceOf R) (rivalOf (instanceOf R))) (recordsIn s) l p v) (sym roster-here) ∙ pass-lent (heldOf d) call z;
-        desk = ap heldOf same ∙ alike;
+        answer = answer-here ∙ sym (ap (λ h. answerOn chosen h call) held-here ∙ answer-on R (planBytes d)) ∙ pass-answer (heldOf d) call z;
+        lent = lent-here ∙ sym (ap (λ h. lentOn chosen h call) held-here ∙ lent-on R (planBytes d)) ∙ pass-lent (heldOf d) call z;
+        desk = ap heldOf same ∙ desk-alike (heldOf d) call refl;
         stored = same;
       }
 

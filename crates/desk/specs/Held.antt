@@ -12,9 +12,9 @@ use Rattle.model.specs.RosterFile.{readRoster}
 use Rattle.model.specs.Edges.{instanceOf}
 use Rattle.model.specs.Plans.{Plan}
 use Rattle.model.specs.PlanFile.{readPlan}
-use Rattle.model.specs.Desk.{Held, nothing, roster, planned, sound, opening, loadRoster, loadPlan, noRoster, noPlan, withRoster, withPlan, loadPlanOn, deskAfter}
+use Rattle.model.specs.Desk.{Held, nothing, roster, planned, opening, loadRoster, loadPlan, noRoster, noPlan, withRoster, withPlan, stateRefusal, deskAfter}
 use Rattle.theory_files.specs.Reads.{isBytes}
-use Rattle.theory_finder.specs.Desks.{desk-sound}
+use Rattle.theory_finder.specs.Desks.{sound, desk-sound}
 use Rattle.desk.specs.declared.Desk.{Desk}
 
 -- a length above the array's is the whole array
@@ -42,14 +42,14 @@ stateNumber h plan short = cond (noRoster h) 13 (cond (plan && noPlan h) 14 (con
 
 -- ---- a desk holds what a new one holds after loading its bytes; so what any desk holds is sound
 pub held-loads : (file plan : List ℕ) → held (readRoster file) plan ≡ deskAfter (deskAfter opening (loadRoster file)) (loadPlan plan)
-unfolding deskAfter
+unfolding deskAfter stateRefusal
 held-loads file plan = by-roster (readRoster file)
   where
     by-plan : (r : Roster) (y : Reading Plan) → heldPlan r y ≡ withPlan (roster r) r y
     by-plan r (accepted M) = refl
     by-plan r (turned n) = refl
 
-    by-roster : (x : Reading Roster) → held x plan ≡ loadPlanOn (withRoster nothing x) plan
+    by-roster : (x : Reading Roster) → held x plan ≡ deskAfter (withRoster nothing x) (loadPlan plan)
     by-roster (accepted r) = by-plan r (readPlan (instanceOf r) plan)
     by-roster (turned n) = refl
 

@@ -13,9 +13,8 @@ use Rattle.model.specs.RosterFile.{readRoster}
 use Rattle.model.specs.Edges.{instanceOf}
 use Rattle.model.specs.Plans.{Plan}
 use Rattle.model.specs.PlanFile.{readPlan}
-use Rattle.model.specs.Desk.{Held, nothing, roster, planned, opening, Call, loadRoster, loadPlan, writeRosterTo, writePlanTo, find, judge, compare, blocking, Answer, needsRoster, needsPlan, lentShort, noRoster, noPlan, stateRefusal, answerOn, lentOn, rosterIn, planIn, stateRefused, answerOf, lentAfter, deskAfter}
-use Rattle.theory_verdict.specs.Rival.{rivalOf}
-use Rattle.theory_instance.specs.FirstBlocking.{firstBlocking}
+use Rattle.model.specs.Desk.{Held, nothing, roster, planned, opening, Call, loadRoster, loadPlan, writeRosterTo, writePlanTo, find, judge, compare, blocking, Answer, needsRoster, needsPlan, lentShort, noRoster, noPlan, stateRefusal, answerOn, lentOn, stateRefused, answerOf, lentAfter, deskOn, deskAfter}
+use Rattle.theory_finder.specs.Choices.{chosen}
 use Rattle.answers.specs.declared.Group.{Group}
 use Rattle.roster.specs.declared.Answer as reader
 use Rattle.roster.specs.declared.Answer.the-variants as answer
@@ -90,26 +89,10 @@ module _ (h : Held) (plan short : Bool) where
     number-0 q t = simp (p, q, t)
 
 -- ---- a refusal by the state
-chosen : {A : Type 0} (f : ℕ → A) (x : A) {n s : ℕ} → n ≡ s → 0 < n → f n ≡ cond (ltb 0 s) (f s) x
-chosen f x {n} {s} e h = sym (ap (λ b. cond b (f n) x) (lt-ltb 0 n h)) ∙ ap (λ k. cond (ltb 0 k) (f k) x) e
+by-number : {A : Type 0} (f : ℕ → A) (x : A) {n s : ℕ} → n ≡ s → 0 < n → f n ≡ cond (ltb 0 s) (f s) x
+by-number f x {n} {s} e h = sym (ap (λ b. cond b (f n) x) (lt-ltb 0 n h)) ∙ ap (λ k. cond (ltb 0 k) (f k) x) e
 
-none-below : {A : Type 0} → 0 < 0 → A
-none-below h = absurd (let z : ⊥ = omega arith in z)
-
-alike : (h : Held) (c : Call) → 0 < stateRefusal h c → h ≡ deskAfter h c
-unfolding stateRefusal deskAfter
-alike h (loadRoster file) t = none-below t
-alike nothing (loadPlan file) t = refl
-alike (roster r) (loadPlan file) t = none-below t
-alike (planned r M) (loadPlan file) t = none-below t
-alike h (writeRosterTo buffer) t = refl
-alike h (writePlanTo buffer) t = refl
-alike h (find s l p v) t = refl
-alike h (judge v) t = refl
-alike h (compare a b) t = refl
-alike h blocking t = refl
-
-same-desk : (d : Desk) (n : ℕ) (c : Call) → Stored c (isLoaded (stateRefused rivalOf firstBlocking n c)) d d
+same-desk : (d : Desk) (n : ℕ) (c : Call) → Stored c (isLoaded (stateRefused n c)) d d
 same-desk d n (loadRoster file) = refl
 same-desk d n (loadPlan file) = refl
 same-desk d n (writeRosterTo buffer) = refl
@@ -124,42 +107,46 @@ pub states : (h : Held) (c : Call) → T (needsRoster c) → stateNumber h (need
 unfolding stateRefusal
 states h c t = ap (λ b. cond (b && noRoster h) 13 (cond (needsPlan c && noPlan h) 14 (cond (lentShort c) 15 0))) {y = needsRoster c} (sym (T-true {b = needsRoster c} t))
 
-pub by-state : (d : Desk) (c : Call) → T (needsRoster c) → {n : ℕ} {a : Answer} → n ≡ stateNumber (heldOf d) (needsPlan c) (lentShort c) → 0 < n → a ≡ stateRefused rivalOf firstBlocking n c → Replied d c a c d
-unfolding answerOf lentAfter
+pub by-state : (d : Desk) (c : Call) → T (needsRoster c) → {n : ℕ} {a : Answer} → n ≡ stateNumber (heldOf d) (needsPlan c) (lentShort c) → 0 < n → a ≡ stateRefused n c → Replied d c a c d
+unfolding answerOf lentAfter deskAfter
 by-state d c t {n} {a} i h q = record {
-  answer = q ∙ chosen (λ k. stateRefused rivalOf firstBlocking k c) (answerOn rivalOf firstBlocking R M c) e h;
-  lent = chosen (λ k. c) (lentOn rivalOf firstBlocking R M c) e h;
-  desk = alike (heldOf d) c (subst (λ k. 0 < k) e h);
+  answer = q ∙ by-number (λ k. stateRefused k c) (answerOn chosen (heldOf d) c) e h;
+  lent = by-number (λ k. c) (lentOn chosen (heldOf d) c) e h;
+  desk = by-number (λ k. heldOf d) (deskOn (heldOf d) c) e h;
   stored = subst (λ z. Stored c (isLoaded z) d d) (sym q) (same-desk d n c);
 }
   where
     e : n ≡ stateRefusal (heldOf d) c
     e = i ∙ states (heldOf d) c t
 
-    R : Roster
-    R = rosterIn rivalOf firstBlocking (heldOf d)
-
-    M : Plan
-    M = planIn rivalOf firstBlocking (heldOf d)
-
 -- ---- a call that the state lets pass
 module _ (h : Held) (c : Call) (s : 0 ≡ stateRefusal h c) where
-  pub pass-answer : answerOn rivalOf firstBlocking (rosterIn rivalOf firstBlocking h) (planIn rivalOf firstBlocking h) c ≡ answered h c
+  pub pass-answer : answerOn chosen h c ≡ answered h c
   unfolding answerOf
-  pass-answer = ap (λ k. cond (ltb 0 k) (stateRefused rivalOf firstBlocking k c) (answerOn rivalOf firstBlocking (rosterIn rivalOf firstBlocking h) (planIn rivalOf firstBlocking h) c)) s
+  pass-answer = ap (λ k. cond (ltb 0 k) (stateRefused k c) (answerOn chosen h c)) s
 
-  pub pass-lent : lentOn rivalOf firstBlocking (rosterIn rivalOf firstBlocking h) (planIn rivalOf firstBlocking h) c ≡ lentThen h c
+  pub pass-lent : lentOn chosen h c ≡ lentThen h c
   unfolding lentAfter
-  pass-lent = ap (λ k. cond (ltb 0 k) c (lentOn rivalOf firstBlocking (rosterIn rivalOf firstBlocking h) (planIn rivalOf firstBlocking h) c)) s
+  pass-lent = ap (λ k. cond (ltb 0 k) c (lentOn chosen h c)) s
+
+  pub pass-desk : deskOn h c ≡ deskAfter h c
+  unfolding deskAfter
+  pass-desk = ap (λ k. cond (ltb 0 k) h (deskOn h c)) s
+
+-- refused or not, the same
+either : {A : Type 0} (b : Bool) {x y : A} → x ≡ y → x ≡ cond b x y
+either true e = refl
+either false e = e
 
 -- a call that is lent no buffer to write to
-pub lent-alike : (h : Held) (c : Call) → c ≡ lentOn rivalOf firstBlocking (rosterIn rivalOf firstBlocking h) (planIn rivalOf firstBlocking h) c → c ≡ lentThen h c
+pub lent-alike : (h : Held) (c : Call) → c ≡ lentOn chosen h c → c ≡ lentThen h c
 unfolding lentAfter
-lent-alike h c e = go (ltb 0 (stateRefusal h c))
-  where
-    go : (b : Bool) → c ≡ cond b c (lentOn rivalOf firstBlocking (rosterIn rivalOf firstBlocking h) (planIn rivalOf firstBlocking h) c)
-    go true = refl
-    go false = e
+lent-alike h c e = either (ltb 0 (stateRefusal h c)) e
+
+-- a call that leaves the desk alike
+pub desk-alike : (h : Held) (c : Call) → h ≡ deskOn h c → h ≡ deskAfter h c
+unfolding deskAfter
+desk-alike h c e = either (ltb 0 (stateRefusal h c)) e
 
 -- the number that lets a call pass
 pub no-number : {n m : ℕ} → n ≤ 0 → n ≡ m → 0 ≡ m

@@ -17,8 +17,6 @@ use Rattle.model.specs.Desk.{Held, roster, planned, loadRoster, loadPlan, Answe
 use Rattle.theory_files.specs.Reads.{isBytes}
 use Rattle.theory_files.specs.Rosters.{accepted-size}
 use Rattle.theory_files.specs.PlanFiles.{plan-accepted-size}
-use Rattle.theory_verdict.specs.Rival.{rivalOf}
-use Rattle.theory_instance.specs.FirstBlocking.{firstBlocking}
 use Rattle.answers.specs.declared.Group.{Group}
 use Rattle.answers.specs.GroupCases.{groupShown, shown-case}
 use Rattle.roster.specs.declared.Answer as reader
@@ -38,7 +36,7 @@ abbrev rosterShown : reader.Answer → Answer
 rosterShown answer.Accepted = loaded
 rosterShown (answer.Refused n g) = refused n (groupShown g)
 
-roster-shown : (x : Reading Roster) → rosterShown (shown x) ≡ loadedRoster rivalOf firstBlocking x
+roster-shown : (x : Reading Roster) → rosterShown (shown x) ≡ loadedRoster x
 roster-shown (accepted r) = refl
 roster-shown (turned n) = ap (refused n) (shown-case (groupOf n))
 
@@ -48,7 +46,7 @@ roster-answer h file e = ap rosterShown e ∙ roster-shown (readRoster file)
 
 module _ (d : Desk) (file : List ℕ) where
   pub roster-refused : {n : ℕ} {g : Group} → answer.Refused n g ≡ shown (readRoster file) → Replied d (loadRoster file) (refused n (groupShown g)) (loadRoster file) d
-  unfolding deskAfter
+  unfolding deskAfter stateRefusal
   roster-refused e = record {
     answer = roster-answer (heldOf d) file e;
     lent = lent-alike (heldOf d) (loadRoster file) refl;
@@ -61,7 +59,7 @@ module _ (d : Desk) (file : List ℕ) where
     roster-small isB = let t = shown-accepted (readRoster file) e in accepted-size file (t .0) isB (t .1)
 
     pub roster-loaded : (d′ : Desk) → rosterBytes d′ ≡ file → planBytes d′ ≡ [] → Replied d (loadRoster file) loaded (loadRoster file) d′
-    unfolding deskAfter heldOf readPlan
+    unfolding deskAfter stateRefusal heldOf readPlan
     roster-loaded d′ p q =
         let t = shown-accepted (readRoster file) e in
         record {
@@ -80,7 +78,7 @@ abbrev isTaken : PlanReply → Bool
 isTaken reply.Accepted = true
 isTaken (reply.Refused n g) = false
 
-plan-shown : (y : Reading Plan) → planShown (replied y) ≡ loadedPlan rivalOf firstBlocking y
+plan-shown : (y : Reading Plan) → planShown (replied y) ≡ loadedPlan y
 plan-shown (accepted M) = refl
 plan-shown (turned n) = ap (refused n) (shown-case (groupOf n))
 
@@ -89,18 +87,18 @@ unfolding stateRefusal
 plan-answer (turned n) plan file s e = not-0 s
 plan-answer (accepted r) plan file s e = ap planShown e ∙ plan-shown (readPlan (instanceOf r) file) ∙ go (readPlan (instanceOf r) plan) s
   where
-    go : (y : Reading Plan) → 0 ≡ stateNumber (heldPlan r y) false false → loadedPlan rivalOf firstBlocking (readPlan (instanceOf r) file) ≡ answered (heldPlan r y) (loadPlan file)
+    go : (y : Reading Plan) → 0 ≡ stateNumber (heldPlan r y) false false → loadedPlan (readPlan (instanceOf r) file) ≡ answered (heldPlan r y) (loadPlan file)
     go (accepted M) s = pass-answer (planned r M) (loadPlan file) s
     go (turned n) s = pass-answer (roster r) (loadPlan file) s
 
 -- the held roster stays
 on-held : (r : Roster) (y : Reading Plan) (file : List ℕ) → withPlan (heldPlan r y) r (readPlan (instanceOf r) file) ≡ deskAfter (heldPlan r y) (loadPlan file)
-unfolding deskAfter
+unfolding deskAfter stateRefusal
 on-held r (accepted M) file = refl
 on-held r (turned n) file = refl
 
 plan-kept : (x : Reading Roster) (plan file : List ℕ) → false ≡ isTaken (planReply x file) → held x plan ≡ deskAfter (held x plan) (loadPlan file)
-unfolding deskAfter
+unfolding deskAfter stateRefusal
 plan-kept (turned n) plan file e = refl
 plan-kept (accepted r) plan file e = go (readPlan (instanceOf r) file) e ∙ on-held r (readPlan (instanceOf r) plan) file
   where
@@ -109,7 +107,7 @@ plan-kept (accepted r) plan file e = go (readPlan (instanceOf r) file) e ∙ on-
     go (turned n) e = refl
 
 plan-taken : (x : Reading Roster) (plan file : List ℕ) → true ≡ isTaken (planReply x file) → held x file ≡ deskAfter (held x plan) (loadPlan file)
-unfolding deskAfter
+unfolding deskAfter stateRefusal
 plan-taken (turned n) plan file e = absurd (subst T e tt)
 plan-taken (accepted r) plan file e = go (readPlan (instanceOf r) file) e ∙ on-held r (readPlan (instanceOf r) plan) file
   where

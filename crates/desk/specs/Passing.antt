@@ -20,9 +20,7 @@ use Rattle.model.specs.PlanFile.{readPlan}
 use Rattle.model.specs.Blocking.{someBlocks}
 use Rattle.model.specs.Compare as outcome
 use Rattle.model.specs.Compare.{Part, winnerPart, partOf, comparisonOf}
-use Rattle.model.specs.Desk.{Held, roster, planned, writeRosterTo, writePlanTo, compare, blocking, votes, refusedPart, stateRefusal, answerOf, comparisonAnswer, deskAfter}
-use Rattle.theory_verdict.specs.Rival.{rivalOf}
-use Rattle.theory_instance.specs.FirstBlocking.{firstBlocking}
+use Rattle.model.specs.Desk.{Held, roster, planned, writeRosterTo, writePlanTo, compare, blocking, votes, refusedPart, stateRefusal, answerOf, comparisonAnswer}
 use Rattle.answers.specs.GroupCases.{shown-case}
 use Rattle.roster_writer.specs.declared.Written.{Written}
 use Rattle.roster_writer.specs.Writes as rosters
@@ -37,7 +35,7 @@ use Rattle.blocking_pairs.specs.Answers.{blockedReply, deskAnswer, desk-answer}
 use Rattle.desk.specs.declared.Desk.{Desk}
 use Rattle.desk.specs.Held.{rosterBytes, planBytes, heldPlan, held, heldOf, stateNumber}
 use Rattle.desk.specs.Replies.{writtenShown, comparisonShown, partIn, answered, lentThen, Replied}
-use Rattle.desk.specs.Laws.{pass-answer, pass-lent, lent-alike, no-number}
+use Rattle.desk.specs.Laws.{pass-answer, pass-lent, lent-alike, desk-alike, no-number}
 
 -- the state's number is none of those
 pub not-0 : {A : Type 0} {n : ℕ} → 0 ≡ suc n → A
@@ -101,7 +99,7 @@ plan-written (accepted r) plan out {w} {after} s W = by-plan (readPlan (instance
         )
 
 -- ---- comparison
-compared-shown : (G : Instance) (a b : List ℕ) → comparisonShown a b (comparison.answered (comparisonOf G a b)) ≡ comparisonAnswer rivalOf firstBlocking (partOf G a b) (comparisonOf G a b)
+compared-shown : (G : Instance) (a b : List ℕ) → comparisonShown a b (comparison.answered (comparisonOf G a b)) ≡ comparisonAnswer (partOf G a b) (comparisonOf G a b)
 unfolding partOf
 compared-shown G a b = go (comparisonOf G a b)
   where
@@ -110,7 +108,7 @@ compared-shown G a b = go (comparisonOf G a b)
     same outcome.second = refl
     same outcome.neither = refl
 
-    go : (c : outcome.Comparison) → comparisonShown a b (comparison.answered c) ≡ comparisonAnswer rivalOf firstBlocking (outcome.comparisonPart c a b) c
+    go : (c : outcome.Comparison) → comparisonShown a b (comparison.answered c) ≡ comparisonAnswer (outcome.comparisonPart c a b) c
     go (outcome.votes v w x) = ap (λ y. votes v w y (winnerPart y a b)) (same x)
     go (outcome.refused n) = ap (λ g. refusedPart n g (winnerPart outcome.neither a b)) (shown-case (groupOf n))
 
@@ -120,12 +118,12 @@ unfolding stateRefusal
 plans-compared (turned n) plan a b s e = not-0 s
 plans-compared (accepted r) plan a b {c} s e = ap (comparisonShown a b) e ∙ compared-shown (instanceOf r) a b ∙ go (readPlan (instanceOf r) plan) s
   where
-    go : (y : Reading Plan) → 0 ≡ stateNumber (heldPlan r y) false false → comparisonAnswer rivalOf firstBlocking (partOf (instanceOf r) a b) (comparisonOf (instanceOf r) a b) ≡ answered (heldPlan r y) (compare a b)
+    go : (y : Reading Plan) → 0 ≡ stateNumber (heldPlan r y) false false → comparisonAnswer (partOf (instanceOf r) a b) (comparisonOf (instanceOf r) a b) ≡ answered (heldPlan r y) (compare a b)
     go (accepted M) s = pass-answer (planned r M) (compare a b) s
     go (turned n) s = pass-answer (roster r) (compare a b) s
 
 -- the part in the answer, for every desk
-part-in : (p : Part) (c : outcome.Comparison) → p ≡ partIn (comparisonAnswer rivalOf firstBlocking p c)
+part-in : (p : Part) (c : outcome.Comparison) → p ≡ partIn (comparisonAnswer p c)
 part-in p (outcome.votes v w x) = refl
 part-in p (outcome.refused n) = refl
 
@@ -146,28 +144,28 @@ blocking-answered (accepted r) plan s e = ap deskAnswer e ∙ go (readPlan (inst
   where
     go : (y : Reading Plan) → 0 ≡ stateNumber (heldPlan r y) true false → deskAnswer (blocks.replied (instanceOf r) y) ≡ answered (heldPlan r y) blocking
     go (turned n) s = not-0 s
-    go (accepted M) s = desk-answer rivalOf (instanceOf r) M (someBlocks (instanceOf r) (on M)) ∙ pass-answer (planned r M) blocking s
+    go (accepted M) s = desk-answer (instanceOf r) M (someBlocks (instanceOf r) (on M)) ∙ pass-answer (planned r M) blocking s
 
 -- ---- the replies: the desk comes back as it went in
 module _ (d : Desk) {n : ℕ} (z : n ≤ 0) where
   pub write-roster-reply : (out : List ℕ) {w : Written} {after : List ℕ} → n ≡ stateNumber (heldOf d) false (ltb (length out) rosterSize) → rosters.RosterWritten (rosterBytes d) out w after
       → Replied d (writeRosterTo out) (writtenShown w) (writeRosterTo after) d
-  unfolding heldOf deskAfter
-  write-roster-reply out i W = let X = roster-written (rosterBytes d) (planBytes d) out (no-number z i) W in record { answer = X .0; lent = X .1; desk = refl; stored = refl }
+  unfolding heldOf
+  write-roster-reply out i W = let X = roster-written (rosterBytes d) (planBytes d) out (no-number z i) W in record { answer = X .0; lent = X .1; desk = desk-alike (heldOf d) (writeRosterTo out) refl; stored = refl }
 
   pub write-plan-reply : (out : List ℕ) {w : Written} {after : List ℕ} → n ≡ stateNumber (heldOf d) true (ltb (length out) planSize) → files.PlanWritten (rosterBytes d) (planBytes d) out w after
       → Replied d (writePlanTo out) (writtenShown w) (writePlanTo after) d
-  unfolding heldOf deskAfter
-  write-plan-reply out i W = let X = plan-written (readRoster (rosterBytes d)) (planBytes d) out (no-number z i) W in record { answer = X .0; lent = X .1; desk = refl; stored = refl }
+  unfolding heldOf
+  write-plan-reply out i W = let X = plan-written (readRoster (rosterBytes d)) (planBytes d) out (no-number z i) W in record { answer = X .0; lent = X .1; desk = desk-alike (heldOf d) (writePlanTo out) refl; stored = refl }
 
   pub compare-reply : (a b : List ℕ) {c : Comparison} → n ≡ stateNumber (heldOf d) false false → c ≡ comparisonReply (readRoster (rosterBytes d)) a b
       → Replied d (compare a b) (comparisonShown a b c) (compare a b) d
-  unfolding heldOf deskAfter
-  compare-reply a b i e = record { answer = plans-compared (readRoster (rosterBytes d)) (planBytes d) a b (no-number z i) e; lent = lent-alike (heldOf d) (compare a b) refl; desk = refl; stored = refl }
+  unfolding heldOf
+  compare-reply a b i e = record { answer = plans-compared (readRoster (rosterBytes d)) (planBytes d) a b (no-number z i) e; lent = lent-alike (heldOf d) (compare a b) refl; desk = desk-alike (heldOf d) (compare a b) refl; stored = refl }
 
   pub blocking-reply : {b : Blocked} → n ≡ stateNumber (heldOf d) true false → b ≡ blockedReply (readRoster (rosterBytes d)) (planBytes d) → Replied d blocking (deskAnswer b) blocking d
-  unfolding heldOf deskAfter
-  blocking-reply i e = record { answer = blocking-answered (readRoster (rosterBytes d)) (planBytes d) (no-number z i) e; lent = lent-alike (heldOf d) blocking refl; desk = refl; stored = refl }
+  unfolding heldOf
+  blocking-reply i e = record { answer = blocking-answered (readRoster (rosterBytes d)) (planBytes d) (no-number z i) e; lent = lent-alike (heldOf d) blocking refl; desk = desk-alike (heldOf d) blocking refl; stored = refl }
 
 pub part-reply : (d : Desk) (a b : List ℕ) → partReply (readRoster (rosterBytes d)) a b ≡ partIn (answered (heldOf d) (compare a b))
 unfolding heldOf

@@ -7,8 +7,7 @@ use mathlib.Core.List.{List, []}
 use Rattle.model.specs.Compare as model
 use Rattle.model.specs.Compare.{Part, winnerPart}
 use Rattle.model.specs.Desk.{Held, Call, loadRoster, loadPlan, writeRosterTo, writePlanTo, find, judge, compare, blocking, Answer, refused, loaded, wrote, plan, none, strong, popular, beaten, votes, refusedPart, blockedBy, unblocked, answerOf, lentAfter, deskAfter}
-use Rattle.theory_verdict.specs.Rival.{rivalOf}
-use Rattle.theory_instance.specs.FirstBlocking.{firstBlocking}
+use Rattle.theory_finder.specs.Choices.{chosen}
 use Rattle.answers.specs.GroupCases.{groupShown}
 use Rattle.roster_writer.specs.declared.Written.{Written}
 use Rattle.roster_writer.specs.declared.Written.the-variants as written
@@ -59,10 +58,10 @@ partIn unblocked = winnerPart model.neither [] []
 
 -- ---- the model's answer and bytes
 abbrev pub answered : Held → Call → Answer
-answered h c = answerOf rivalOf firstBlocking h c
+answered h c = answerOf chosen h c
 
 abbrev pub lentThen : Held → Call → Call
-lentThen h c = lentAfter rivalOf firstBlocking h c
+lentThen h c = lentAfter chosen h c
 
 -- ---- the desk's fields: an accepted load takes its file in; every other call, and a refused load, hands back the desk as it came
 abbrev pub isLoaded : Answer → Bool

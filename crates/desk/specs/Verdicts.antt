@@ -14,8 +14,7 @@ use Rattle.model.specs.Instance.{Instance}
 use Rattle.model.specs.Edges.{instanceOf}
 use Rattle.model.specs.Plans.{Plan, verdictOf}
 use Rattle.model.specs.PlanFile.{readPlan}
-use Rattle.model.specs.Desk.{planned, judge, stateRefusal, deskAfter}
-use Rattle.theory_instance.specs.FirstBlocking.{firstBlocking}
+use Rattle.model.specs.Desk.{planned, judge, stateRefusal}
 use Rattle.verdict.specs.declared.Weighed.{Weighed}
 use Rattle.verdict.specs.declared.Weighed.the-variants as weighed
 use Rattle.verdict.specs.Weighing.{weighedAs, deskAnswer, desk-answer, desk-written}
@@ -24,7 +23,7 @@ use Rattle.verdicts.specs.Answers.{withPlan, planAsked, toJudge, verdictCase, r
 use Rattle.desk.specs.declared.Desk.{Desk}
 use Rattle.desk.specs.Held.{rosterBytes, planBytes, heldPlan, held, heldOf, stateNumber}
 use Rattle.desk.specs.Replies.{verdictShown, answered, lentThen, Replied}
-use Rattle.desk.specs.Laws.{pass-answer, pass-lent, no-number}
+use Rattle.desk.specs.Laws.{pass-answer, pass-lent, desk-alike, no-number}
 use Rattle.desk.specs.Passing.{not-0, long}
 
 case-shown : (w : Weighed) → verdictShown (verdictCase w) ≡ deskAnswer w
@@ -49,11 +48,11 @@ judged (accepted r) plan out {v} {after} s J = by-plan (readPlan (instanceOf r) 
     by-plan (turned n) s p q = not-0 s
     by-plan (accepted M) s p q =
         let to : _≡_ {A = Reading (Instance × Plan)} (cond short (turned 15) (accepted (G, M))) (accepted (G, M)) = ap (λ b. cond b (turned 15) (accepted (G, M))) (long short s) in (
-          ap verdictShown (p ∙ ap replied to) ∙ case-shown (weighedAs G M (verdictOf G M)) ∙ desk-answer firstBlocking G M (verdictOf G M) ∙ pass-answer (planned r M) (judge out) s,
-          ap judge (q ∙ ap (λ x. left x out) to) ∙ desk-written firstBlocking G M (verdictOf G M) out ∙ pass-lent (planned r M) (judge out) s,
+          ap verdictShown (p ∙ ap replied to) ∙ case-shown (weighedAs G M (verdictOf G M)) ∙ desk-answer G M (verdictOf G M) ∙ pass-answer (planned r M) (judge out) s,
+          ap judge (q ∙ ap (λ x. left x out) to) ∙ desk-written G M (verdictOf G M) out ∙ pass-lent (planned r M) (judge out) s,
         )
 
 pub judge-reply : (d : Desk) {n : ℕ} → n ≤ 0 → (out : List ℕ) {v : Verdict} {after : List ℕ} → n ≡ stateNumber (heldOf d) true (ltb (length out) planSize)
     → VerdictGiven (rosterBytes d) (planBytes d) out v after → Replied d (judge out) (verdictShown v) (judge after) d
-unfolding heldOf deskAfter
-judge-reply d z out i J = let X = judged (readRoster (rosterBytes d)) (planBytes d) out (no-number z i) J in record { answer = X .0; lent = X .1; desk = refl; stored = refl }
+unfolding heldOf
+judge-reply d z out i J = let X = judged (readRoster (rosterBytes d)) (planBytes d) out (no-number z i) J in record { answer = X .0; lent = X .1; desk = desk-alike (heldOf d) (judge out) refl; stored = refl }

@@ -51,11 +51,11 @@ module _ (G : Instance) where
   rivalAfter (F.rivalled M N w) v = onto (planBytes G N) v
 
 -- they are those of the desk's call
-pub written-is : (rival : Instance → Plan → Plan) (blocking : Instance → Plan → ℕ) (G : Instance) (x : Found) (d : List Record) (l p v : List ℕ)
-    → foundWritten rival blocking G x d l p v ≡ find (onto (diaryOf G) d) (leftAfter G x l) (planAfter G x p) (rivalAfter G x v)
-written-is rival blocking G (F.plan M) d l p v = refl
-written-is rival blocking G (F.left es) d l p v = refl
-written-is rival blocking G (F.rivalled M N w) d l p v = refl
+pub written-is : (G : Instance) (x : Found) (d : List Record) (l p v : List ℕ)
+    → foundWritten G x d l p v ≡ find (onto (diaryOf G) d) (leftAfter G x l) (planAfter G x p) (rivalAfter G x v)
+written-is G (F.plan M) d l p v = refl
+written-is G (F.left es) d l p v = refl
+written-is G (F.rivalled M N w) d l p v = refl
 
 -- ---- the promise
 -- the answer's number of steps, and whether it is a plan or none
@@ -124,10 +124,10 @@ answerFor n (F.plan M) = says.Plan n
 answerFor n (F.left es) = says.None n (kind.Left (length es))
 answerFor n (F.rivalled M N w) = says.None n (kind.Rivalled w)
 
-pub shown-is : (rival : Instance → Plan → Plan) (blocking : Instance → Plan → ℕ) (n : ℕ) (x : Found) → foundShown (answerFor n x) ≡ foundAnswer rival blocking n x
-shown-is rival blocking n (F.plan M) = refl
-shown-is rival blocking n (F.left es) = refl
-shown-is rival blocking n (F.rivalled M N w) = refl
+pub shown-is : (n : ℕ) (x : Found) → foundShown (answerFor n x) ≡ foundAnswer n x
+shown-is n (F.plan M) = refl
+shown-is n (F.left es) = refl
+shown-is n (F.rivalled M N w) = refl
 
 pub steps-are : (n : ℕ) (x : Found) → stepsIn (answerFor n x) ≡ n
 steps-are n (F.plan M) = refl

@@ -1,5 +1,6 @@
--- The desk, document 01's session state, and each call on it: what it holds after a call, what the call answers, and every byte lent
--- to it. Which rival and which blocking pair are open; they are parameters here, and `Allowed` says what holds of them.
+-- The desk, document 01's session state, and each call on it: what the call answers, every byte lent to it afterwards, and what the
+-- desk then holds. A `Call` is a call with the files and buffers lent to it; it also stands for the same buffers as they are afterwards.
+-- Which rival and which blocking pair are open: they are fields of a record `Choices`, with what holds of them.
 use Prim.Native.Nat.{ℕ, suc}
 use mathlib.Core.Bool.{Bool, true, false, not, cond, _&&_, _||_}
 use mathlib.Core.List.{List, [], _++_}
@@ -33,12 +34,6 @@ pub data Held : Type 0 where
 -- a desk that is new
 abbrev pub opening : Held
 opening = nothing
-
--- what a desk holds after calls from a new one on: a roster within the limits, a plan within its quotas (crate rosters, desk-sound)
-unfoldable pub sound : Held → Bool
-sound nothing = true
-sound (roster r) = fits r
-sound (planned r M) = fits r && (eqb (length M) (instanceOf r .m) && within (instanceOf r) (on M))
 
 -- the calls, with the files and buffers lent to them. The left pairs' buffer is bytes, two for each of its 1,024 entries; the finder's
 -- plan and its candidate share one buffer, as there is never more than one of them.
@@ -128,101 +123,111 @@ onto front buffer = front ++ drop (length front) buffer
 abbrev pub refusal : ℕ → Answer
 refusal n = refused n (groupOf n)
 
+-- ---- what a call that passes answers and writes, where nothing is open
+-- a load
+abbrev pub loadedRoster : Reading Roster → Answer
+loadedRoster (accepted r) = loaded
+loadedRoster (turned n) = refusal n
+
+abbrev pub loadedPlan : Reading Plan → Answer
+loadedPlan (accepted M) = loaded
+loadedPlan (turned n) = refusal n
+
+-- the finder: the steps it took, and what it found
+abbrev pub foundAnswer : ℕ → Found → Answer
+foundAnswer n (F.plan M) = plan n
+foundAnswer n (F.left es) = none n (left (length es))
+foundAnswer n (F.rivalled M N v) = none n (rivalled v)
+
+abbrev pub foundWritten : Instance → Found → List Record → (l p v : List ℕ) → Call
+foundWritten G (F.plan M) d l p v = find (onto (diaryOf G) d) l (onto (planBytes G M) p) v
+foundWritten G (F.left es) d l p v = find (onto (diaryOf G) d) (onto (pairList G es) l) p v
+foundWritten G (F.rivalled M N w) d l p v = find (onto (diaryOf G) d) l (onto (planBytes G M) p) (onto (planBytes G N) v)
+
+-- the verdict on M, with its rival N: "Beaten and popular write a rival, such an N, and the vote of M against it."
+abbrev pub verdictAnswer : Instance → (M N : Plan) → Verdict → Answer
+verdictAnswer G M N P.strong = strong
+verdictAnswer G M N P.popular = popular (voteOf G M N)
+verdictAnswer G M N P.beaten = beaten (voteOf G M N)
+
+abbrev pub verdictWritten : Instance → (N : Plan) → Verdict → List ℕ → Call
+verdictWritten G N P.strong v = judge v
+verdictWritten G N P.popular v = judge (onto (planBytes G N) v)
+verdictWritten G N P.beaten v = judge (onto (planBytes G N) v)
+
+-- the comparison, with the part that is handed back
+abbrev pub comparisonAnswer : Part → Comparison → Answer
+comparisonAnswer p (C.votes v w x) = votes v w x p
+comparisonAnswer p (C.refused n) = refusedPart n (groupOf n) p
+
+-- "The answer is yes with some such pair, or no": the pair is edge e
+abbrev pub blockingAnswer : Instance → (e : ℕ) → Bool → Answer
+blockingAnswer G e true = blockedBy (suc (G .sv e)) (suc (G .st e))
+blockingAnswer G e false = unblocked
+
+-- "with no winner, and on a refusal, the part is empty, taken from the first file"
+abbrev pub stateRefused : ℕ → Call → Answer
+stateRefused n (loadRoster file) = refusal n
+stateRefused n (loadPlan file) = refusal n
+stateRefused n (writeRosterTo buffer) = refusal n
+stateRefused n (writePlanTo buffer) = refusal n
+stateRefused n (find d l p v) = refusal n
+stateRefused n (judge v) = refusal n
+stateRefused n (compare a b) = refusedPart n (groupOf n) (C.winnerPart C.neither a b)
+stateRefused n blocking = refusal n
+
+-- ---- what is said of the roster held, of the roster and the plan held; x where they are not there, and the state refuses the call
+abbrev pub onRoster : {A : Type 0} → A → Held → (Roster → A) → A
+onRoster x nothing f = x
+onRoster x (roster r) f = f r
+onRoster x (planned r M) f = f r
+
+abbrev pub onPlan : {A : Type 0} → A → Held → (Roster → Plan → A) → A
+onPlan x nothing f = x
+onPlan x (roster r) f = x
+onPlan x (planned r M) f = f r M
+
+-- ---- the answer, and the bytes lent
 -- "Only which rival and which blocking pair is open; what holds of them is said above."
-pub record Allowed (rivalOf : Instance → Plan → Plan) (blockingOf : Instance → Plan → ℕ) : Type 0 where
-  pub rival : (r : Roster) → T (fits r) → (M : Plan) → M ∈ plansOf (instanceOf r) → T (not (isStrong (verdictOf (instanceOf r) M))) → Rival (instanceOf r) M (rivalOf (instanceOf r) M)
-  pub blocking : (r : Roster) → T (fits r) → (M : Plan) → M ∈ plansOf (instanceOf r) → T (someBlocks (instanceOf r) (on M)) → T (blocks (instanceOf r) (on M) (blockingOf (instanceOf r) M))
+pub record Choices : Type 0 where
+  pub rivalOf : Instance → Plan → Plan
+  pub rival-holds : (r : Roster) → T (fits r) → (M : Plan) → M ∈ plansOf (instanceOf r)
+      → T (not (isStrong (verdictOf (instanceOf r) M))) → Rival (instanceOf r) M (rivalOf (instanceOf r) M)
+  pub blockingOf : Instance → Plan → ℕ
+  pub blocking-holds : (r : Roster) → T (fits r) → (M : Plan) → M ∈ plansOf (instanceOf r)
+      → T (someBlocks (instanceOf r) (on M)) → T (blocks (instanceOf r) (on M) (blockingOf (instanceOf r) M))
 
-module _ (rivalOf : Instance → Plan → Plan) (blockingOf : Instance → Plan → ℕ) where
-  -- the verdict's answer; the finder's; the comparison's; the blocking pair's
-  abbrev pub verdictAnswer : Instance → Plan → Verdict → Answer
-  verdictAnswer G M P.strong = strong
-  verdictAnswer G M P.popular = popular (voteOf G M (rivalOf G M))
-  verdictAnswer G M P.beaten = beaten (voteOf G M (rivalOf G M))
+module _ (ch : Choices) where
+  -- a call that the state lets pass
+  abbrev pub answerOn : Held → Call → Answer
+  answerOn h (loadRoster file) = loadedRoster (readRoster file)
+  answerOn h (loadPlan file) = onRoster (refusal 13) h (λ r. loadedPlan (readPlan (instanceOf r) file))
+  answerOn h (writeRosterTo buffer) = onRoster (refusal 13) h (λ r. wrote (length (writeRoster r)))
+  answerOn h (writePlanTo buffer) = onPlan (refusal 14) h (λ r M. wrote (length (planBytes (instanceOf r) M)))
+  answerOn h (find d l p v) = onRoster (refusal 13) h (λ r. let G = instanceOf r in foundAnswer (length (stepsOf G)) (finderOf G (ch .rivalOf G)))
+  answerOn h (judge v) = onPlan (refusal 14) h (λ r M. let G = instanceOf r in verdictAnswer G M (ch .rivalOf G M) (verdictOf G M))
+  answerOn h (compare a b) = onRoster (refusal 13) h (λ r. let G = instanceOf r in comparisonAnswer (partOf G a b) (comparisonOf G a b))
+  answerOn h blocking = onPlan (refusal 14) h (λ r M. let G = instanceOf r in blockingAnswer G (ch .blockingOf G M) (someBlocks G (on M)))
 
-  abbrev pub foundAnswer : ℕ → Found → Answer
-  foundAnswer n (F.plan M) = plan n
-  foundAnswer n (F.left es) = none n (left (length es))
-  foundAnswer n (F.rivalled M N v) = none n (rivalled v)
+  abbrev pub lentOn : Held → Call → Call
+  lentOn h (loadRoster file) = loadRoster file
+  lentOn h (loadPlan file) = loadPlan file
+  lentOn h (writeRosterTo b) = onRoster (writeRosterTo b) h (λ r. writeRosterTo (onto (writeRoster r) b))
+  lentOn h (writePlanTo b) = onPlan (writePlanTo b) h (λ r M. writePlanTo (onto (planBytes (instanceOf r) M) b))
+  lentOn h (find d l p v) = onRoster (find d l p v) h (λ r. let G = instanceOf r in foundWritten G (finderOf G (ch .rivalOf G)) d l p v)
+  lentOn h (judge v) = onPlan (judge v) h (λ r M. let G = instanceOf r in verdictWritten G (ch .rivalOf G M) (verdictOf G M) v)
+  lentOn h (compare a b) = compare a b
+  lentOn h blocking = blocking
 
-  abbrev pub comparisonAnswer : Part → Comparison → Answer
-  comparisonAnswer p (C.votes v w x) = votes v w x p
-  comparisonAnswer p (C.refused n) = refusedPart n (groupOf n) p
-
-  abbrev pub blockingAnswer : Instance → Plan → Bool → Answer
-  blockingAnswer G M true = blockedBy (suc (G .sv (blockingOf G M))) (suc (G .st (blockingOf G M)))
-  blockingAnswer G M false = unblocked
-
-  -- a call that 13, 14 and 15 let pass
-  abbrev pub loadedRoster : Reading Roster → Answer
-  loadedRoster (accepted r) = loaded
-  loadedRoster (turned n) = refusal n
-
-  abbrev pub loadedPlan : Reading Plan → Answer
-  loadedPlan (accepted M) = loaded
-  loadedPlan (turned n) = refusal n
-
-  abbrev pub answerOn : Roster → Plan → Call → Answer
-  answerOn r M (loadRoster file) = loadedRoster (readRoster file)
-  answerOn r M (loadPlan file) = loadedPlan (readPlan (instanceOf r) file)
-  answerOn r M (writeRosterTo buffer) = wrote (length (writeRoster r))
-  answerOn r M (writePlanTo buffer) = wrote (length (planBytes (instanceOf r) M))
-  answerOn r M (find d l p v) = foundAnswer (length (stepsOf (instanceOf r))) (finderOf (instanceOf r) (rivalOf (instanceOf r)))
-  answerOn r M (judge v) = verdictAnswer (instanceOf r) M (verdictOf (instanceOf r) M)
-  answerOn r M (compare a b) = comparisonAnswer (partOf (instanceOf r) a b) (comparisonOf (instanceOf r) a b)
-  answerOn r M blocking = blockingAnswer (instanceOf r) M (someBlocks (instanceOf r) (on M))
-
-  -- the buffers after it, as the call with its buffers as they are then
-  abbrev pub foundWritten : Instance → Found → List Record → (l p v : List ℕ) → Call
-  foundWritten G (F.plan M) d l p v = find (onto (diaryOf G) d) l (onto (planBytes G M) p) v
-  foundWritten G (F.left es) d l p v = find (onto (diaryOf G) d) (onto (pairList G es) l) p v
-  foundWritten G (F.rivalled M N w) d l p v = find (onto (diaryOf G) d) l (onto (planBytes G M) p) (onto (planBytes G N) v)
-
-  abbrev pub verdictWritten : Instance → Plan → Verdict → List ℕ → Call
-  verdictWritten G M P.strong v = judge v
-  verdictWritten G M P.popular v = judge (onto (planBytes G (rivalOf G M)) v)
-  verdictWritten G M P.beaten v = judge (onto (planBytes G (rivalOf G M)) v)
-
-  abbrev pub lentOn : Roster → Plan → Call → Call
-  lentOn r M (loadRoster file) = loadRoster file
-  lentOn r M (loadPlan file) = loadPlan file
-  lentOn r M (writeRosterTo buffer) = writeRosterTo (onto (writeRoster r) buffer)
-  lentOn r M (writePlanTo buffer) = writePlanTo (onto (planBytes (instanceOf r) M) buffer)
-  lentOn r M (find d l p v) = foundWritten (instanceOf r) (finderOf (instanceOf r) (rivalOf (instanceOf r))) d l p v
-  lentOn r M (judge v) = verdictWritten (instanceOf r) M (verdictOf (instanceOf r) M) v
-  lentOn r M (compare a b) = compare a b
-  lentOn r M blocking = blocking
-
-  -- the roster and the plan that a desk holds, and empty ones where it holds none: no call asks for those that are not there
-  abbrev pub rosterIn : Held → Roster
-  rosterIn nothing = record { quotasS = []; quotasT = []; listsS = []; listsT = [] }
-  rosterIn (roster r) = r
-  rosterIn (planned r M) = r
-
-  abbrev pub planIn : Held → Plan
-  planIn nothing = []
-  planIn (roster r) = []
-  planIn (planned r M) = M
-
-  -- "with no winner, and on a refusal, the part is empty, taken from the first file"
-  abbrev pub stateRefused : ℕ → Call → Answer
-  stateRefused n (loadRoster file) = refusal n
-  stateRefused n (loadPlan file) = refusal n
-  stateRefused n (writeRosterTo buffer) = refusal n
-  stateRefused n (writePlanTo buffer) = refusal n
-  stateRefused n (find d l p v) = refusal n
-  stateRefused n (judge v) = refusal n
-  stateRefused n (compare a b) = refusedPart n (groupOf n) (C.winnerPart C.neither a b)
-  stateRefused n blocking = refusal n
-
+  -- "13, 14, 15 come first"
   unfoldable pub answerOf : Held → Call → Answer
-  answerOf h c = cond (ltb 0 (stateRefusal h c)) (stateRefused (stateRefusal h c) c) (answerOn (rosterIn h) (planIn h) c)
+  answerOf h c = cond (ltb 0 (stateRefusal h c)) (stateRefused (stateRefusal h c) c) (answerOn h c)
 
   unfoldable pub lentAfter : Held → Call → Call
-  lentAfter h c = cond (ltb 0 (stateRefusal h c)) c (lentOn (rosterIn h) (planIn h) c)
+  lentAfter h c = cond (ltb 0 (stateRefusal h c)) c (lentOn h c)
 
--- "Loading a roster drops the plan"; "Finder, verdict, comparison, blocking and writing leave the desk alike". A refused load leaves
--- the desk as it was: the house's reading.
+-- ---- what the desk holds afterwards
+-- "Loading a roster drops the plan"; "a refusal changes no byte of any buffer nor the desk" (demand 1)
 abbrev pub withRoster : Held → Reading Roster → Held
 withRoster h (accepted r) = roster r
 withRoster h (turned n) = h
@@ -231,17 +236,17 @@ abbrev pub withPlan : Held → Roster → Reading Plan → Held
 withPlan h r (accepted M) = planned r M
 withPlan h r (turned n) = h
 
-abbrev pub loadPlanOn : Held → List ℕ → Held
-loadPlanOn nothing file = nothing
-loadPlanOn (roster r) file = withPlan (roster r) r (readPlan (instanceOf r) file)
-loadPlanOn (planned r M) file = withPlan (planned r M) r (readPlan (instanceOf r) file)
+-- "Finder, verdict, comparison, blocking and writing leave the desk alike."
+abbrev pub deskOn : Held → Call → Held
+deskOn h (loadRoster file) = withRoster h (readRoster file)
+deskOn h (loadPlan file) = onRoster h h (λ r. withPlan h r (readPlan (instanceOf r) file))
+deskOn h (writeRosterTo buffer) = h
+deskOn h (writePlanTo buffer) = h
+deskOn h (find d l p v) = h
+deskOn h (judge v) = h
+deskOn h (compare a b) = h
+deskOn h blocking = h
 
+-- so does a refusal by the state
 unfoldable pub deskAfter : Held → Call → Held
-deskAfter h (loadRoster file) = withRoster h (readRoster file)
-deskAfter h (loadPlan file) = loadPlanOn h file
-deskAfter h (writeRosterTo buffer) = h
-deskAfter h (writePlanTo buffer) = h
-deskAfter h (find d l p v) = h
-deskAfter h (judge v) = h
-deskAfter h (compare a b) = h
-deskAfter h blocking = h
+deskAfter h c = cond (ltb 0 (stateRefusal h c)) h (deskOn h c)

@@ -20,8 +20,6 @@ use Rattle.model.specs.Printed.{answerText}
 use Rattle.theory_files.specs.Reads.{isBytes}
 use Rattle.theory_files.specs.Rosters.{read-fits}
 use Rattle.theory_verdict.specs.Rival.{rivalOf}
-use Rattle.theory_instance.specs.FirstBlocking.{firstBlocking}
-use Rattle.theory_finder.specs.Choices.{allowed}
 use Rattle.answers.specs.declared.Group.{Group}
 use Rattle.model.specs.Refusal.{groupOf}
 use Rattle.answers.specs.GroupCases.{groupShown, shown-case}
@@ -47,9 +45,9 @@ module _ (G : Instance) (l p v l′ p′ v′ : List ℕ) where
   pairs-handed (F.left es) a b c = (drop (length (pairList G es)) l, a)
   pairs-handed (F.rivalled M N w) a b c = ((drop (length (planBytes G M)) p, b), (drop (length (planBytes G N)) v, c))
 
-  handed : (d : List ℕ) (a : Found) (d′ : List ℕ) → FindsIn G d l p v a d′ l′ p′ v′ → Handed rivalOf firstBlocking G (finderOf G (rivalOf G)) a d′ l′ p′ v′
+  handed : (d : List ℕ) (a : Found) (d′ : List ℕ) → FindsIn G d l p v a d′ l′ p′ v′ → Handed G (finderOf G (rivalOf G)) a d′ l′ p′ v′
   handed d a d′ f = record {
-    answer = ap foundShown (f .wrote .answer) ∙ shown-is rivalOf firstBlocking (length (stepsOf G)) (finderOf G (rivalOf G));
+    answer = ap foundShown (f .wrote .answer) ∙ shown-is (length (stepsOf G)) (finderOf G (rivalOf G));
     diary = (d, f .diary);
     pairs = pairs-handed (finderOf G (rivalOf G)) (f .wrote .left) (f .wrote .plan) (f .wrote .rival);
   }
@@ -62,30 +60,30 @@ module _ (input : List ℕ) (isB : T (isBytes input)) where
   fit : (r : Roster) → readRoster input ≡ accepted r → T (fits r)
   fit r e = read-fits input r isB e
 
-  module _ (a : Found) (flat left plan rival : List ℕ) (h : HandedFor rivalOf firstBlocking (readRoster input) a flat left plan rival) where
+  module _ (a : Found) (flat left plan rival : List ℕ) (h : HandedFor (readRoster input) a flat left plan rival) where
     pub can-print : 4 * diarySize ≤ length flat → leftSize ≤ length left → planSize ≤ length plan → planSize ≤ length rival → Printable a flat left plan rival
-    can-print d l p v = file-printable rivalOf firstBlocking allowed (readRoster input) fit a flat left plan rival d l p v h
+    can-print d l p v = file-printable (readRoster input) fit a flat left plan rival d l p v h
 
     pub prints : (before : List ℕ) (n : ℕ) (after : List ℕ) → textSize ≤ length before → Answered a flat left plan rival before n after → Prints input before n after
     prints before n after k w =
-        let t = answered-text rivalOf firstBlocking (readRoster input) h w in
-        let few : length (answerText (readRoster input) rivalOf) ≤ textSize = answer-length rivalOf firstBlocking allowed (readRoster input) fit in
+        let t = answered-text (readRoster input) h w in
+        let few : length (answerText (readRoster input) rivalOf) ≤ textSize = answer-length (readRoster input) fit in
         record {
-          text = subst (λ y. Wrote y before n after) (sym (printed-whole rivalOf input)) t;
+          text = subst (λ y. Wrote y before n after) (sym (printed-whole input)) t;
           room = subst (λ k. k ≤ textSize) (sym (t .size)) few;
           size = ap length (t .bytes) ∙ onto-length (answerText (readRoster input) rivalOf) before (omega arith);
         }
 
   -- what the finder hands over for an accepted roster
-  pub found-handed : RosterAccepted input → (d l p v : List ℕ) (a : Found) (d′ l′ p′ v′ : List ℕ) → Finds input d l p v a d′ l′ p′ v′ → HandedFor rivalOf firstBlocking (readRoster input) a d′ l′ p′ v′
+  pub found-handed : RosterAccepted input → (d l p v : List ℕ) (a : Found) (d′ l′ p′ v′ : List ℕ) → Finds input d l p v a d′ l′ p′ v′ → HandedFor (readRoster input) a d′ l′ p′ v′
   found-handed (R, e) d l p v a d′ l′ p′ v′ F =
-      subst (λ y. HandedFor rivalOf firstBlocking y a d′ l′ p′ v′) (sym e) (handed (instanceOf R) l p v l′ p′ v′ d a d′ (F R e .finds))
+      subst (λ y. HandedFor y a d′ l′ p′ v′) (sym e) (handed (instanceOf R) l p v l′ p′ v′ d a d′ (F R e .finds))
 
   -- a refusal
-  pub refused-handed : {n : ℕ} {k : Group} → answer.Refused n k ≡ shown (readRoster input) → (flat left plan rival : List ℕ) → HandedFor rivalOf firstBlocking (readRoster input) (says.Refused n k) flat left plan rival
+  pub refused-handed : {n : ℕ} {k : Group} → answer.Refused n k ≡ shown (readRoster input) → (flat left plan rival : List ℕ) → HandedFor (readRoster input) (says.Refused n k) flat left plan rival
   refused-handed {n} {k} e flat left plan rival =
       let t = shown-refused (readRoster input) e in
-      subst (λ y. HandedFor rivalOf firstBlocking y (says.Refused n k) flat left plan rival) (sym t) (ap (refused n) (ap groupShown (ap (grouped k) (e ∙ ap shown t)) ∙ shown-case (groupOf n)))
+      subst (λ y. HandedFor y (says.Refused n k) flat left plan rival) (sym t) (ap (refused n) (ap groupShown (ap (grouped k) (e ∙ ap shown t)) ∙ shown-case (groupOf n)))
     where
       grouped : Group → Answer → Group
       grouped d answer.Accepted = d

@@ -16,6 +16,7 @@ use Rattle.model.specs.Finder as F
 use Rattle.model.specs.Finder.{diaryOf}
 use Rattle.model.specs.Desk.{onto}
 use Rattle.model.specs.Printed.{number, line, diaryLine, ending, groupWord, answerText}
+use Rattle.theory_finder.specs.Choices.{chosen}
 use Rattle.answers.specs.declared.Group.{Group}
 use Rattle.answers.specs.GroupCases.{groupShown, groupCase, shown-case}
 use Rattle.answers.specs.declared.Found.{Found}
@@ -33,8 +34,8 @@ pub record Wrote (x before : List ℕ) (n : ℕ) (after : List ℕ) : Type 0 whe
 
 -- the text of what the finder hands over, and "refused N GROUP"
 pub record Answered (a : Found) (flat left plan rival before : List ℕ) (n : ℕ) (after : List ℕ) : Type 0 where
-  pub found : (rivalOf : Instance → Plan → Plan) (blockingOf : Instance → Plan → ℕ) (G : Instance) (f : F.Found)
-      → Handed rivalOf blockingOf G f a flat left plan rival → Wrote (gather diaryLine (diaryOf G) ++ ending G f) before n after
+  pub found : (G : Instance) (f : F.Found)
+      → Handed G f a flat left plan rival → Wrote (gather diaryLine (diaryOf G) ++ ending G f) before n after
   pub refused : (k : ℕ) (g : Group) → a ≡ Refused k g → Wrote (line (text "refused" ∷ number k ∷ groupWord (groupShown g) ∷ [])) before n after
 
 -- ---- from the text that the code writes
@@ -52,13 +53,13 @@ refused-line k g = simp append-assoc
 
 pub answered : {a : Found} {flat left plan rival before after : List ℕ} {n : ℕ} → Appended before 0 (shownText a flat left plan rival) after n → Answered a flat left plan rival before n after
 answered {a} {flat} {left} {plan} {rival} w = record {
-  found = λ R B G f h. wrote-as (handed-text f h) w;
+  found = λ G f h. wrote-as (handed-text f h) w;
   refused = λ k g e. wrote-as (ap (λ a. shownText a flat left plan rival) e ∙ refused-line k g) w;
 }
 
 -- ---- for a roster file: the model's text of its reading
-pub answered-text : (rivalOf : Instance → Plan → Plan) (blockingOf : Instance → Plan → ℕ) (x : Reading Roster) {a : Found} {flat left plan rival before after : List ℕ} {n : ℕ}
-    → HandedFor rivalOf blockingOf x a flat left plan rival → Answered a flat left plan rival before n after → Wrote (answerText x rivalOf) before n after
-answered-text rivalOf blockingOf (accepted r) h w = w .found rivalOf blockingOf (instanceOf r) (F.finderOf (instanceOf r) (rivalOf (instanceOf r))) h
-answered-text rivalOf blockingOf (turned k) {a} {before = before} {after = after} {n = n} h w =
+pub answered-text : (x : Reading Roster) {a : Found} {flat left plan rival before after : List ℕ} {n : ℕ}
+    → HandedFor x a flat left plan rival → Answered a flat left plan rival before n after → Wrote (answerText x (chosen .rivalOf)) before n after
+answered-text (accepted r) h w = w .found (instanceOf r) (F.finderOf (instanceOf r) (chosen .rivalOf (instanceOf r))) h
+answered-text (turned k) {a} {before = before} {after = after} {n = n} h w =
     subst (λ g. Wrote (line (text "refused" ∷ number k ∷ groupWord g ∷ [])) before n after) (shown-case (groupOf k)) (w .refused k (groupCase (groupOf k)) (shows-found a h))

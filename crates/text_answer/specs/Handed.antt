@@ -17,6 +17,7 @@ use Rattle.model.specs.Finder as F
 use Rattle.model.specs.Finder.{recordOf, diaryOf}
 use Rattle.model.specs.Desk.{refusal, foundAnswer}
 use Rattle.model.specs.Printed.{number, signed, line, diaryLine, counted, planLines, ending}
+use Rattle.theory_finder.specs.Choices.{chosen}
 use Rattle.reduction_state.specs.Diary.{written}
 use Rattle.answers.specs.declared.Found.{Found}
 use Rattle.answers.specs.FinderCases.{foundShown, shows-found}
@@ -36,15 +37,15 @@ Pairs G (F.plan M) left plan rival = Front (planBytes G M) plan
 Pairs G (F.left es) left plan rival = Front (pairList G es) left
 Pairs G (F.rivalled M N v) left plan rival = Front (planBytes G M) plan × Front (planBytes G N) rival
 
-pub record Handed (rivalOf : Instance → Plan → Plan) (blockingOf : Instance → Plan → ℕ) (G : Instance) (f : F.Found) (a : Found) (flat left plan rival : List ℕ) : Type 0 where
-  pub answer : foundShown a ≡ foundAnswer rivalOf blockingOf (length (stepsOf G)) f
+pub record Handed (G : Instance) (f : F.Found) (a : Found) (flat left plan rival : List ℕ) : Type 0 where
+  pub answer : foundShown a ≡ foundAnswer (length (stepsOf G)) f
   pub diary : (d : List ℕ) × (flat ≡ written (diaryOf G) d)
   pub pairs : Pairs G f left plan rival
 
 -- for a roster file as it is read: what the finder hands over for the roster, or the refusal
-abbrev pub HandedFor : (rivalOf : Instance → Plan → Plan) (blockingOf : Instance → Plan → ℕ) → Reading Roster → Found → (flat left plan rival : List ℕ) → Type 0
-HandedFor rivalOf blockingOf (accepted r) a flat left plan rival = Handed rivalOf blockingOf (instanceOf r) (F.finderOf (instanceOf r) (rivalOf (instanceOf r))) a flat left plan rival
-HandedFor rivalOf blockingOf (turned n) a flat left plan rival = foundShown a ≡ refusal n
+abbrev pub HandedFor : Reading Roster → Found → (flat left plan rival : List ℕ) → Type 0
+HandedFor (accepted r) a flat left plan rival = Handed (instanceOf r) (F.finderOf (instanceOf r) (chosen .rivalOf (instanceOf r))) a flat left plan rival
+HandedFor (turned n) a flat left plan rival = foundShown a ≡ refusal n
 
 -- ---- its text
 -- a word and a count as one line
@@ -69,8 +70,8 @@ module _ (G : Instance) where
   unfolding diaryOf
   diary-text flat (d, e) = ap₂ (λ b n. texts (diaryAt b) n) e (sym (length-map (stepsOf G) (recordOf G))) ∙ diary-lines (diaryOf G) d
 
-module _ {rivalOf : Instance → Plan → Plan} {blockingOf : Instance → Plan → ℕ} {G : Instance} {a : Found} {flat left plan rival : List ℕ} where
-  pub handed-text : (f : F.Found) → Handed rivalOf blockingOf G f a flat left plan rival → shownText a flat left plan rival ≡ gather diaryLine (diaryOf G) ++ ending G f
+module _ {G : Instance} {a : Found} {flat left plan rival : List ℕ} where
+  pub handed-text : (f : F.Found) → Handed G f a flat left plan rival → shownText a flat left plan rival ≡ gather diaryLine (diaryOf G) ++ ending G f
   unfolding text
   handed-text (F.plan M) h =
       ap (λ a. shownText a flat left plan rival) (shows-found a (h .answer))

@@ -20,7 +20,6 @@ use Rattle.model.specs.PlanFile.{edgesIn}
 use Rattle.model.specs.Reduction.{stepsOf, endOf}
 use Rattle.model.specs.Finder.{leftOf, candidateOf, found, isEmpty, finderOf}
 use Rattle.model.specs.Finder as F
-use Rattle.model.specs.Desk.{Allowed}
 use Rattle.model.specs.Printed.{answerText, printed}
 use Rattle.theory_files.specs.Reads.{isBytes}
 use Rattle.theory_files.specs.Rosters.{read-fits}
@@ -29,6 +28,7 @@ use Rattle.theory_reduction.specs.Course.{end-matching, steps-few}
 use Rattle.theory_verdict.specs.Plans.{matching-plan}
 use Rattle.theory_files.specs.RosterInstance.{ns-small, nt-small, fileable}
 use Rattle.theory_files.specs.PlanFiles.{plan-few}
+use Rattle.theory_finder.specs.Choices.{chosen}
 use Rattle.answers.specs.declared.Found.{Found}
 use Rattle.answers.specs.FinderCases.{shows-found}
 use Rattle.text_answer.specs.Printable.{Printable, textSize}
@@ -63,57 +63,56 @@ edges-few r ok = omega (arith, gather-length row nodeLimit few (range 0 (surveyo
         one true e = omega arith
         one false e = omega arith
 
-module _ (rivalOf : Instance → Plan → Plan) (blockingOf : Instance → Plan → ℕ) (allowed : Allowed rivalOf blockingOf) where
-  module _ (r : Roster) (ok : T (fits r)) where
-    abbrev G : Instance
-    G = instanceOf r
+module _ (r : Roster) (ok : T (fits r)) where
+  abbrev G : Instance
+  G = instanceOf r
 
-    pub steps-fit : length (stepsOf (instanceOf r)) ≤ diarySize
-    steps-fit = omega (arith, steps-few (instanceOf r), edges-few r ok)
+  pub steps-fit : length (stepsOf (instanceOf r)) ≤ diarySize
+  steps-fit = omega (arith, steps-few (instanceOf r), edges-few r ok)
 
-    candidate-plan : candidateOf G ∈ plansOf G
-    unfolding candidateOf
-    candidate-plan = matching-plan G (end-matching G)
+  candidate-plan : candidateOf G ∈ plansOf G
+  unfolding candidateOf
+  candidate-plan = matching-plan G (end-matching G)
 
-    left-few : length (leftOf G) ≤ entryLimit
-    unfolding leftOf
-    left-few = omega (arith, keep-few (endOf G .rem) (range 0 (G .m)), range-length 0 (G .m), edges-few r ok)
+  left-few : length (leftOf G) ≤ entryLimit
+  unfolding leftOf
+  left-few = omega (arith, keep-few (endOf G .rem) (range 0 (G .m)), range-length 0 (G .m), edges-few r ok)
 
-    pub found-small : Small (instanceOf r) (finderOf (instanceOf r) (rivalOf (instanceOf r)))
-    unfolding finderOf
-    found-small = by-left (isEmpty (leftOf G))
-      where
-        few : (M : Plan) → M ∈ plansOf G → length (edgesIn (G .m) (on M)) ≤ planLimit
-        few M m = plan-few G (fileable r ok) M m
+  pub found-small : Small (instanceOf r) (finderOf (instanceOf r) (chosen .rivalOf (instanceOf r)))
+  unfolding finderOf
+  found-small = by-left (isEmpty (leftOf G))
+    where
+      few : (M : Plan) → M ∈ plansOf G → length (edgesIn (G .m) (on M)) ≤ planLimit
+      few M m = plan-few G (fileable r ok) M m
 
-        rival : T (not (isStrong (verdictOf G (candidateOf G)))) → rivalOf G (candidateOf G) ∈ plansOf G
-        rival t = allowed .rival r ok (candidateOf G) candidate-plan t .inQuotas
+      rival : T (not (isStrong (verdictOf G (candidateOf G)))) → chosen .rivalOf G (candidateOf G) ∈ plansOf G
+      rival t = chosen .rival-holds r ok (candidateOf G) candidate-plan t .inQuotas
 
-        judged : (v : Verdict) → verdictOf G (candidateOf G) ≡ v → Small G (found G (rivalOf G) v)
-        judged strong e = few (candidateOf G) candidate-plan
-        judged popular e = (few (candidateOf G) candidate-plan, few (rivalOf G (candidateOf G)) (rival (subst (λ v. T (not (isStrong v))) (sym e) tt)))
-        judged beaten e = (few (candidateOf G) candidate-plan, few (rivalOf G (candidateOf G)) (rival (subst (λ v. T (not (isStrong v))) (sym e) tt)))
+      judged : (v : Verdict) → verdictOf G (candidateOf G) ≡ v → Small G (found G (chosen .rivalOf G) v)
+      judged strong e = few (candidateOf G) candidate-plan
+      judged popular e = (few (candidateOf G) candidate-plan, few (chosen .rivalOf G (candidateOf G)) (rival (subst (λ v. T (not (isStrong v))) (sym e) tt)))
+      judged beaten e = (few (candidateOf G) candidate-plan, few (chosen .rivalOf G (candidateOf G)) (rival (subst (λ v. T (not (isStrong v))) (sym e) tt)))
 
-        by-left : (b : Bool) → Small G (elim b as (λ b. F.Found) [ true ↦ found G (rivalOf G) (verdictOf G (candidateOf G)) | false ↦ F.left (leftOf G) ])
-        by-left true = judged (verdictOf G (candidateOf G)) refl
-        by-left false = left-few
+      by-left : (b : Bool) → Small G (elim b as (λ b. F.Found) [ true ↦ found G (chosen .rivalOf G) (verdictOf G (candidateOf G)) | false ↦ F.left (leftOf G) ])
+      by-left true = judged (verdictOf G (candidateOf G)) refl
+      by-left false = left-few
 
-  -- what is handed over for a roster file can be printed
-  pub file-printable : (x : Reading Roster) → ((r : Roster) → x ≡ accepted r → T (fits r)) → (a : Found) (flat left plan rival : List ℕ)
-      → 4 * diarySize ≤ length flat → leftSize ≤ length left → planSize ≤ length plan → planSize ≤ length rival → HandedFor rivalOf blockingOf x a flat left plan rival → Printable a flat left plan rival
-  file-printable (accepted r) ok a flat left plan rival d l p v h = handed-printable (steps-fit r (ok r refl)) d l p v (finderOf (instanceOf r) (rivalOf (instanceOf r))) (found-small r (ok r refl)) h
-  file-printable (turned n) ok a flat left plan rival d l p v h = subst (λ k. Printable k flat left plan rival) (sym (shows-found a h)) tt
+-- what is handed over for a roster file can be printed
+pub file-printable : (x : Reading Roster) → ((r : Roster) → x ≡ accepted r → T (fits r)) → (a : Found) (flat left plan rival : List ℕ)
+    → 4 * diarySize ≤ length flat → leftSize ≤ length left → planSize ≤ length plan → planSize ≤ length rival → HandedFor x a flat left plan rival → Printable a flat left plan rival
+file-printable (accepted r) ok a flat left plan rival d l p v h = handed-printable (steps-fit r (ok r refl)) d l p v (finderOf (instanceOf r) (chosen .rivalOf (instanceOf r))) (found-small r (ok r refl)) h
+file-printable (turned n) ok a flat left plan rival d l p v h = subst (λ k. Printable k flat left plan rival) (sym (shows-found a h)) tt
 
-  pub answer-length : (x : Reading Roster) → ((r : Roster) → x ≡ accepted r → T (fits r)) → length (answerText x rivalOf) ≤ textSize
-  answer-length (accepted r) h = text-length (instanceOf r) (finderOf (instanceOf r) (rivalOf (instanceOf r))) (steps-fit r (h r refl)) (found-small r (h r refl))
-  answer-length (turned n) h = refused-length n
+pub answer-length : (x : Reading Roster) → ((r : Roster) → x ≡ accepted r → T (fits r)) → length (answerText x (chosen .rivalOf)) ≤ textSize
+answer-length (accepted r) h = text-length (instanceOf r) (finderOf (instanceOf r) (chosen .rivalOf (instanceOf r))) (steps-fit r (h r refl)) (found-small r (h r refl))
+answer-length (turned n) h = refused-length n
 
-  -- so a buffer of so many bytes holds whatever is printed
-  pub printed-length : (input : List ℕ) → T (isBytes input) → length (printed rivalOf input) ≤ textSize
-  unfolding printed
-  printed-length input isB = answer-length (readRoster (take inputSize input)) (λ r e. read-fits (take inputSize input) r (bytes-front inputSize input isB) e)
+-- so a buffer of so many bytes holds whatever is printed
+pub printed-length : (input : List ℕ) → T (isBytes input) → length (printed (chosen .rivalOf) input) ≤ textSize
+unfolding printed
+printed-length input isB = answer-length (readRoster (take inputSize input)) (λ r e. read-fits (take inputSize input) r (bytes-front inputSize input isB) e)
 
 -- a longer input has the answer of its first 2,215 bytes
-pub printed-whole : (rivalOf : Instance → Plan → Plan) (input : List ℕ) → printed rivalOf input ≡ answerText (readRoster input) rivalOf
+pub printed-whole : (input : List ℕ) → printed (chosen .rivalOf) input ≡ answerText (readRoster input) (chosen .rivalOf)
 unfolding printed
-printed-whole rivalOf input = ap (λ x. answerText x rivalOf) (read-front input)
+printed-whole input = ap (λ x. answerText x (chosen .rivalOf)) (read-front input)

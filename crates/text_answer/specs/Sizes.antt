@@ -71,9 +71,9 @@ plan-counted : (G : Instance) (M : Plan) (buffer : List ℕ) → length (edgesIn
 unfolding planBytes
 plan-counted G M buffer h k (rest, e) = (omega (arith, ap (λ b. getD b 0 0) e), k)
 
-module _ {rivalOf : Instance → Plan → Plan} {blockingOf : Instance → Plan → ℕ} {G : Instance} {a : Found} {flat left plan rival : List ℕ} (steps : length (stepsOf G) ≤ diarySize)
+module _ {G : Instance} {a : Found} {flat left plan rival : List ℕ} (steps : length (stepsOf G) ≤ diarySize)
     (d : 4 * diarySize ≤ length flat) (l : leftSize ≤ length left) (p : planSize ≤ length plan) (v : planSize ≤ length rival) where
-  pub handed-printable : (f : F.Found) → Small G f → Handed rivalOf blockingOf G f a flat left plan rival → Printable a flat left plan rival
+  pub handed-printable : (f : F.Found) → Small G f → Handed G f a flat left plan rival → Printable a flat left plan rival
   handed-printable (F.plan M) s h = subst (λ k. Printable k flat left plan rival) (sym (shows-found a (h .answer))) ((steps, d), plan-counted G M plan s p (h .pairs))
   handed-printable (F.left es) s h = subst (λ k. Printable k flat left plan rival) (sym (shows-found a (h .answer))) ((steps, d), (s, l))
   handed-printable (F.rivalled M N w) s h = subst (λ k. Printable k flat left plan rival) (sym (shows-found a (h .answer)))

@@ -45,13 +45,13 @@ deskAnswer Strong = desk.strong
 deskAnswer (Popular v) = desk.popular v
 deskAnswer (Beaten v) = desk.beaten v
 
-module _ (blockingOf : Instance → Plan → ℕ) (G : Instance) (M : Plan) where
-  pub desk-answer : (v : Verdict) → deskAnswer (weighedAs G M v) ≡ desk.verdictAnswer rivalOf blockingOf G M v
+module _ (G : Instance) (M : Plan) where
+  pub desk-answer : (v : Verdict) → deskAnswer (weighedAs G M v) ≡ desk.verdictAnswer G M (rivalOf G M) v
   desk-answer verdict.strong = refl
   desk-answer verdict.popular = refl
   desk-answer verdict.beaten = refl
 
-  pub desk-written : (v : Verdict) (out : List ℕ) → desk.judge (rivalWritten G M v out) ≡ desk.verdictWritten rivalOf blockingOf G M v out
+  pub desk-written : (v : Verdict) (out : List ℕ) → desk.judge (rivalWritten G M v out) ≡ desk.verdictWritten G (rivalOf G M) v out
   desk-written verdict.strong out = refl
   desk-written verdict.popular out = refl
   desk-written verdict.beaten out = refl
