@@ -6,18 +6,18 @@ use lib.ListN.{length}
 use lib.IntN.{pos}
 use Rattle.model.specs.Compare as model
 use Rattle.model.specs.Desk.{Call, Answer, refused, loaded, wrote, plan, none, strong, popular, beaten, votes, refusedPart, blockedBy, unblocked}
-use Rattle.roster_writer.specs.declared.Written.{Written}
-use Rattle.roster_writer.specs.declared.Written.the-variants as written
-use Rattle.compare.specs.declared.Winner.{Winner}
-use Rattle.compare.specs.declared.Winner.the-variants as winner
-use Rattle.compare.specs.declared.Comparison.{Comparison}
-use Rattle.compare.specs.declared.Comparison.the-variants as comparison
+use Rattle.answers.specs.declared.Written.{Written}
+use Rattle.answers.specs.declared.Written.the-variants as written
+use Rattle.answers.specs.declared.Winner.{Winner}
+use Rattle.answers.specs.declared.Winner.the-variants as winner
+use Rattle.answers.specs.declared.Comparison.{Comparison}
+use Rattle.answers.specs.declared.Comparison.the-variants as comparison
 use Rattle.compare.specs.Parts.{partCase}
-use Rattle.blocking_pairs.specs.declared.Blocked.{Blocked}
-use Rattle.blocking_pairs.specs.declared.Blocked.the-variants as blocked
+use Rattle.answers.specs.declared.Blocked.{Blocked}
+use Rattle.answers.specs.declared.Blocked.the-variants as blocked
 use Rattle.blocking_pairs.specs.Answers.{deskAnswer}
-use Rattle.verdicts.specs.declared.Verdict.{Verdict}
-use Rattle.verdicts.specs.declared.Verdict.the-variants as verdict
+use Rattle.answers.specs.declared.Verdict.{Verdict}
+use Rattle.answers.specs.declared.Verdict.the-variants as verdict
 use Rattle.desk.specs.declared.Desk.{Desk}
 use Rattle.desk.specs.declared.Loading.{Loading}
 use Rattle.desk.specs.declared.Loading.the-variants as loading

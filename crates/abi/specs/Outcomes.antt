@@ -12,11 +12,11 @@ use Rattle.model.specs.Plans.{Plan}
 use Rattle.model.specs.PlanFile.{readPlan}
 use Rattle.answers.specs.declared.Group.{Group}
 use Rattle.answers.specs.GroupCases.{groupShown}
-use Rattle.roster.specs.declared.Answer.{Answer}
-use Rattle.roster.specs.declared.Answer.the-variants as roster
-use Rattle.roster.specs.ReadAnswer.{shown}
-use Rattle.roster_writer.specs.declared.Written.{Written}
-use Rattle.roster_writer.specs.declared.Written.the-variants.{Wrote, Refused}
+use Rattle.answers.specs.declared.FileAnswer.{FileAnswer}
+use Rattle.answers.specs.declared.FileAnswer.the-variants as roster
+use Rattle.answers.specs.FileCases.{fileCase}
+use Rattle.answers.specs.declared.Written.{Written}
+use Rattle.answers.specs.declared.Written.the-variants.{Wrote, Refused}
 use Rattle.roster_writer.specs.Writes as rosters
 use Rattle.files.specs.declared.PlanReply.{PlanReply}
 use Rattle.files.specs.declared.PlanReply.the-variants as plan
@@ -65,11 +65,11 @@ PairsOut roster out r after = BytesOut (files.toWrite pairsSize out (pairsToWrit
 abbrev pub groupCode : Group → ℕ
 groupCode g = groupNumber (groupShown g)
 
-abbrev pub answerCode : Answer → ℕ
+abbrev pub answerCode : FileAnswer → ℕ
 answerCode roster.Accepted = 0
 answerCode (roster.Refused n g) = n
 
-pub answer-code : (x : Reading Roster) → answerCode (shown x) ≡ refusalOf x
+pub answer-code : (x : Reading Roster) → answerCode (fileCase x) ≡ refusalOf x
 answer-code (accepted R) = refl
 answer-code (turned n) = refl
 

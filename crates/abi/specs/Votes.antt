@@ -8,14 +8,14 @@ use Rattle.model.specs.Reading.{Reading}
 use Rattle.model.specs.Roster.{Roster}
 use Rattle.model.specs.Compare as model
 use Rattle.model.specs.Compare.{Part}
-use Rattle.compare.specs.declared.Winner.{Winner}
-use Rattle.compare.specs.declared.Winner.the-variants as winner
-use Rattle.compare.specs.declared.Comparison.{Comparison}
-use Rattle.compare.specs.declared.Comparison.the-variants as comparison
+use Rattle.answers.specs.declared.Winner.{Winner}
+use Rattle.answers.specs.declared.Winner.the-variants as winner
+use Rattle.answers.specs.declared.Comparison.{Comparison}
+use Rattle.answers.specs.declared.Comparison.the-variants as comparison
 use Rattle.compare.specs.Answers.{comparisonReply}
 use Rattle.compare.specs.Parts.{partCase, partReply, part-is}
-use Rattle.blocking_pairs.specs.declared.Blocked.{Blocked}
-use Rattle.blocking_pairs.specs.declared.Blocked.the-variants as blocked
+use Rattle.answers.specs.declared.Blocked.{Blocked}
+use Rattle.answers.specs.declared.Blocked.the-variants as blocked
 use Rattle.blocking_pairs.specs.Answers.{blockedReply}
 use Rattle.answers.specs.declared.Group.{Group}
 use Rattle.abi.specs.declared.votes.Compared.{Compared}

@@ -7,8 +7,8 @@ use Rattle.model.specs.Reading.{Reading}
 use Rattle.model.specs.RosterFile.{readRoster}
 use Rattle.model.specs.Instance.{Instance}
 use Rattle.model.specs.Plans.{Plan}
-use Rattle.verdicts.specs.declared.Verdict.{Verdict}
-use Rattle.verdicts.specs.declared.Verdict.the-variants as verdict
+use Rattle.answers.specs.declared.Verdict.{Verdict}
+use Rattle.answers.specs.declared.Verdict.the-variants as verdict
 use Rattle.verdicts.specs.Answers.{planAsked, toJudge, replied, left, JudgedBy}
 use Rattle.abi.specs.declared.weighing.Judged.{Judged}
 

@@ -9,10 +9,10 @@ ghost use mathlib.Core.Path.{_≡_};
 ghost use Rattle.model.specs.Refusal.{groupOf};
 ghost use Rattle.model.specs.RosterFile.{readRoster};
 ghost use Rattle.abi.specs.Outcomes.{groupNumber, refusalOf, planRefusal, outcomeOf, RosterOut, PlanOut, PairsOut};
+use answers::FileAnswer;
 use answers::Group;
+use answers::Written;
 use files::PlanReply;
-use roster::Answer;
-use roster_writer::Written;
 
 // a refusal, or 0 and the length written
 #[repr(C)]
@@ -42,8 +42,8 @@ pub extern "C" fn crew_read_roster(file: &[u8]) -> u8
 {
     let a = roster::read_roster(file);
     match a {
-        Answer::Accepted => 0,
-        Answer::Refused(number, _) => number,
+        FileAnswer::Accepted => 0,
+        FileAnswer::Refused(number, _) => number,
     }
 }
 

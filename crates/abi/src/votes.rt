@@ -5,9 +5,9 @@ ghost use Prim.Native.Nat.{_-_};
 ghost use Rattle.model.specs.RosterFile.{readRoster};
 ghost use Rattle.compare.specs.Parts.{partCase};
 ghost use Rattle.abi.specs.Votes.{comparedNumbers, comparedOf, blockerNumbers, blockerOf};
-use blocking_pairs::Blocked;
-use compare::Comparison;
-use compare::Winner;
+use answers::Blocked;
+use answers::Comparison;
+use answers::Winner;
 
 // A refusal, 0 for none; both votes, first against second and second against first; the winner, 0 neither, 1 first, 2 second; and its
 // pair bytes: the file, 1 first, 2 second, where they begin in it and how many they are. On a refusal the votes are 0; with no winner and

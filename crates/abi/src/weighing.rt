@@ -1,7 +1,7 @@
 // The verdict for C, as numbers; the rival goes into the lent buffer.
 ghost use mathlib.Core.Path.{_≡_};
 ghost use Rattle.abi.specs.Weighing.{judgedNumbers, VerdictOut};
-use verdicts::Verdict;
+use answers::Verdict;
 
 // A refusal, 0 for none; the verdict, 1 strong, 2 popular, 3 beaten, 0 on a refusal; and the vote of the plan against the rival that is written, 0 where
 // none is.

@@ -1,2 +1,7 @@
-pub mod FinderCases
 pub mod GroupCases
+pub mod FileCases
+pub mod WrittenCases
+pub mod FinderCases
+pub mod VerdictCases
+pub mod ComparisonCases
+pub mod BlockedCases

@@ -1,5 +1,5 @@
 // The answers of the calls, in one place: what each call can say, and the group of a refusal. The definitions that give each case document
-// 01's number and values are in specs, a file for each answer.
+// 01's number and values, in the words of the model's `Answer`, are in specs, a file for each answer.
 ghost use mathlib.Core.Path.{_≡_};
 ghost use Rattle.model.specs.Refusal.{groupOf};
 ghost use Rattle.answers.specs.GroupCases.{groupShown};
@@ -26,7 +26,19 @@ pub fn group_of(number: u8) -> Group
     }
 }
 
-// The finder's answer, section "Finder" of document 01: each of the first two with the number of steps; a refusal with its number and group.
+// A file read, or loaded: it is accepted, or refused. A roster file's reading answers this, and so does a load of either file.
+pub enum FileAnswer {
+    Accepted,
+    Refused(u8, Group),
+}
+
+// So many bytes were written.
+pub enum Written {
+    Wrote(usize),
+    Refused(u8, Group),
+}
+
+// The finder's answer, section "Finder" of document 01: each of the first two with the number of steps.
 pub enum Found {
     Plan(usize),
     None(usize, NoneKind),
@@ -37,4 +49,31 @@ pub enum Found {
 pub enum NoneKind {
     Left(usize),
     Rivalled(i16),
+}
+
+// Strong; popular or beaten, with the vote of the plan against the rival that is written.
+pub enum Verdict {
+    Strong,
+    Popular(i16),
+    Beaten(i16),
+    Refused(u8, Group),
+}
+
+// Both votes, first against second and second against first, and the winner.
+pub enum Comparison {
+    Votes(i16, i16, Winner),
+    Refused(u8, Group),
+}
+
+pub enum Winner {
+    First,
+    Second,
+    Neither,
+}
+
+// A blocking pair, by the numbers of its surveyor and its stand; or that there is none.
+pub enum Blocked {
+    Pair(u8, u8),
+    Unblocked,
+    Refused(u8, Group),
 }

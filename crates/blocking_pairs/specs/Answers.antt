@@ -15,8 +15,8 @@ use Rattle.model.specs.Blocking.{someBlocks}
 use Rattle.model.specs.Desk as desk
 use Rattle.answers.specs.GroupCases.{groupShown, groupCase}
 use Rattle.theory_instance.specs.FirstBlocking.{firstBlocking}
-use Rattle.blocking_pairs.specs.declared.Blocked.{Blocked}
-use Rattle.blocking_pairs.specs.declared.Blocked.the-variants.{Pair, Unblocked, Refused}
+use Rattle.answers.specs.declared.Blocked.{Blocked}
+use Rattle.answers.specs.declared.Blocked.the-variants.{Pair, Unblocked, Refused}
 
 -- yes, with the numbers of the lowest blocking pair; or no
 abbrev pub named : Instance → Plan → Bool → Blocked

@@ -18,9 +18,9 @@ use Rattle.model.specs.Blocking.{blocks, someBlocks}
 use Rattle.arrays.specs.ArrayInstance.{at}
 use Rattle.answers.specs.declared.Group.{Group}
 use Rattle.answers.specs.GroupCases.{groupShown, shows-case}
-use Rattle.roster.specs.declared.Answer.{Answer}
-use Rattle.roster.specs.declared.Answer.the-variants as answer
-use Rattle.roster.specs.ReadAnswer.{shown, shown-refused}
+use Rattle.answers.specs.declared.FileAnswer.{FileAnswer}
+use Rattle.answers.specs.declared.FileAnswer.the-variants as answer
+use Rattle.answers.specs.FileCases.{fileCase, case-refused}
 use Rattle.instance.specs.declared.Instance.{Instance}
 use Rattle.instance.specs.Decoded.{shownBy, Decoded}
 use Rattle.instance.specs.Loaded.{Loaded}
@@ -33,8 +33,8 @@ use Rattle.blocking_thresholds.specs.Threshold.{Edges}
 use Rattle.theory_instance.specs.FirstBlocking.{firstBlocking, first-blocks}
 use Rattle.blocking_search.specs.Blocking.{answer, blockingOf, Placed, Answers}
 use Rattle.instance.specs.Accepted.{RosterAccepted}
-use Rattle.blocking_pairs.specs.declared.Blocked.{Blocked}
-use Rattle.blocking_pairs.specs.declared.Blocked.the-variants.{Pair, Unblocked, Refused}
+use Rattle.answers.specs.declared.Blocked.{Blocked}
+use Rattle.answers.specs.declared.Blocked.the-variants.{Pair, Unblocked, Refused}
 use Rattle.blocking_pairs.specs.Answers.{named, blockedBy, replied, blockedReply, BlockedAs}
 
 -- ---- the search's answer
@@ -122,12 +122,12 @@ module _ (roster : List ℕ) (g : Instance) (D : Decoded roster g) (file : List 
 
 -- ---- the roster judged first
 module _ (roster file : List ℕ) where
-  abbrev handed : Answer → Blocked
+  abbrev handed : FileAnswer → Blocked
   handed answer.Accepted = Unblocked
   handed (answer.Refused n k) = Refused n k
 
-  pub reply-refused : {n : ℕ} {k : Group} → answer.Refused n k ≡ shown (readRoster roster) → Refused n k ≡ blockedReply (readRoster roster) file
-  reply-refused e = let t = shown-refused (readRoster roster) e in ap handed (e ∙ ap shown t) ∙ sym (ap (λ x. blockedReply x file) t)
+  pub reply-refused : {n : ℕ} {k : Group} → answer.Refused n k ≡ fileCase (readRoster roster) → Refused n k ≡ blockedReply (readRoster roster) file
+  reply-refused e = let t = case-refused (readRoster roster) e in ap handed (e ∙ ap fileCase t) ∙ sym (ap (λ x. blockedReply x file) t)
 
   pub reply-judged : {r : Blocked} → RosterAccepted roster → BlockedAs roster file r → r ≡ blockedReply (readRoster roster) file
   reply-judged A C = C (A .0) (A .1) ∙ sym (ap (λ x. blockedReply x file) (A .1))

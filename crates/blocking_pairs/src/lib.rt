@@ -6,18 +6,11 @@ ghost use Rattle.instance.specs.Decoded.{shownBy};
 ghost use Rattle.instance.specs.Loaded.{Loaded};
 ghost use Rattle.instance.specs.Accepted.{RosterAccepted};
 ghost use Rattle.blocking_pairs.specs.Answers.{blockedBy, blockedReply, BlockedAs};
-use answers::Group;
+use answers::Blocked;
+use answers::FileAnswer;
 use blocking_search::Blocking;
 use instance::Instance;
 use plan_reader::PlanAnswer;
-use roster::Answer;
-
-// Yes, with the numbers of a pair's surveyor and stand; or no; or a refusal, with its number and its group.
-pub enum Blocked {
-    Pair(u8, u8),
-    Unblocked,
-    Refused(u8, Group),
-}
 
 // A plan of an accepted roster: the lowest blocking pair.
 pub(crate) fn first_pair(g: Instance, p: &[bool; 1024]) -> Blocked
@@ -64,7 +57,7 @@ pub fn blocking(roster: &[u8], file: &[u8]) -> Blocked
 {
     let a = roster::read_roster(roster);
     match a {
-        Answer::Refused(number, group) => Blocked::Refused(number, group),
-        Answer::Accepted => judged(roster, file),
+        FileAnswer::Refused(number, group) => Blocked::Refused(number, group),
+        FileAnswer::Accepted => judged(roster, file),
     }
 }

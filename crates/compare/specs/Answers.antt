@@ -16,10 +16,10 @@ use Rattle.answers.specs.GroupCases.{groupCase}
 use Rattle.instance.specs.declared.Instance.{Instance}
 use Rattle.instance.specs.Decoded.{shownBy}
 use Rattle.vote_plans.specs.Plan.{Listed}
-use Rattle.compare.specs.declared.Winner.{Winner}
-use Rattle.compare.specs.declared.Winner.the-variants.{First, Second, Neither}
-use Rattle.compare.specs.declared.Comparison.{Comparison}
-use Rattle.compare.specs.declared.Comparison.the-variants.{Votes, Refused}
+use Rattle.answers.specs.declared.Winner.{Winner}
+use Rattle.answers.specs.declared.Winner.the-variants.{First, Second, Neither}
+use Rattle.answers.specs.declared.Comparison.{Comparison}
+use Rattle.answers.specs.declared.Comparison.the-variants.{Votes, Refused}
 
 -- a plan within the quotas, with the list of its edges
 pub record Planned (g : Instance) (p : List Bool) (n : ℕ) (es : List ℕ) : Type 0 where

@@ -23,9 +23,9 @@ use Rattle.theory_files.specs.PlanFiles.{plan-read-within, plan-read-matching, 
 use Rattle.arrays.specs.ArrayInstance.{flag}
 use Rattle.answers.specs.declared.Group.{Group}
 use Rattle.answers.specs.GroupCases.{groupShown, shows-case}
-use Rattle.roster.specs.declared.Answer.{Answer}
-use Rattle.roster.specs.declared.Answer.the-variants as answer
-use Rattle.roster.specs.ReadAnswer.{shown, shown-refused}
+use Rattle.answers.specs.declared.FileAnswer.{FileAnswer}
+use Rattle.answers.specs.declared.FileAnswer.the-variants as answer
+use Rattle.answers.specs.FileCases.{fileCase, case-refused}
 use Rattle.instance.specs.declared.Instance.{Instance}
 use Rattle.instance.specs.Decoded.{shownBy, Decoded}
 use Rattle.instance.specs.Loaded.{Loaded}
@@ -34,9 +34,9 @@ use Rattle.plan_reader.specs.declared.PlanAnswer.the-variants as plan
 use Rattle.plan_reader.specs.Answers.{ReadAs, ReadFor, accepted-read, accepted-edges, refused-read}
 use Rattle.vote_plans.specs.Plan.{PlanVotes}
 use Rattle.instance.specs.Accepted.{RosterAccepted}
-use Rattle.compare.specs.declared.Winner.{Winner}
-use Rattle.compare.specs.declared.Comparison.{Comparison}
-use Rattle.compare.specs.declared.Comparison.the-variants.{Votes, Refused}
+use Rattle.answers.specs.declared.Winner.{Winner}
+use Rattle.answers.specs.declared.Comparison.{Comparison}
+use Rattle.answers.specs.declared.Comparison.the-variants.{Votes, Refused}
 use Rattle.compare.specs.Answers.{Planned, winnerCase, answered, comparisonReply, ComparedAs}
 
 -- ---- the votes of two plans
@@ -99,12 +99,12 @@ module _ (g : Instance) (file : List ℕ) (r : PlanRead) (A : ReadFor (g .m) (g 
 
 -- ---- the roster judged first
 module _ (roster a b : List ℕ) where
-  abbrev handed : Answer → Comparison
+  abbrev handed : FileAnswer → Comparison
   handed answer.Accepted = comparisonReply (readRoster roster) a b
   handed (answer.Refused n k) = Refused n k
 
-  pub reply-refused : {n : ℕ} {k : Group} → answer.Refused n k ≡ shown (readRoster roster) → Refused n k ≡ comparisonReply (readRoster roster) a b
-  reply-refused e = let t = shown-refused (readRoster roster) e in ap handed (e ∙ ap shown t) ∙ sym (ap (λ x. comparisonReply x a b) t)
+  pub reply-refused : {n : ℕ} {k : Group} → answer.Refused n k ≡ fileCase (readRoster roster) → Refused n k ≡ comparisonReply (readRoster roster) a b
+  reply-refused e = let t = case-refused (readRoster roster) e in ap handed (e ∙ ap fileCase t) ∙ sym (ap (λ x. comparisonReply x a b) t)
 
   pub reply-judged : {r : Comparison} → RosterAccepted roster → ComparedAs roster a b r → r ≡ comparisonReply (readRoster roster) a b
   reply-judged A C = C (A .0) (A .1) ∙ sym (ap (λ x. comparisonReply x a b) (A .1))

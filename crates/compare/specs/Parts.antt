@@ -20,10 +20,10 @@ use Rattle.model.specs.Compare.{File, firstFile, secondFile, Part, winnerPart, 
 use Rattle.theory_files.specs.Reads.{isBytes}
 use Rattle.theory_files.specs.PlanFiles.{plan-accepted-count}
 use Rattle.answers.specs.declared.Group.{Group}
-use Rattle.compare.specs.declared.Winner.{Winner}
-use Rattle.compare.specs.declared.Winner.the-variants.{First, Second, Neither}
-use Rattle.compare.specs.declared.Comparison.{Comparison}
-use Rattle.compare.specs.declared.Comparison.the-variants.{Votes, Refused}
+use Rattle.answers.specs.declared.Winner.{Winner}
+use Rattle.answers.specs.declared.Winner.the-variants.{First, Second, Neither}
+use Rattle.answers.specs.declared.Comparison.{Comparison}
+use Rattle.answers.specs.declared.Comparison.the-variants.{Votes, Refused}
 use Rattle.compare.specs.Answers.{winnerCase, answered, comparisonReply}
 
 -- a block of memory, the place in it, and the bytes from there on

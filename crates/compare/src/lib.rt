@@ -10,22 +10,11 @@ ghost use Rattle.instance.specs.Accepted.{RosterAccepted};
 ghost use Rattle.compare.specs.Answers.{winnerCase, answered, Planned, comparisonReply, ComparedAs};
 ghost use denote.Ref.{ptr};
 ghost use Rattle.compare.specs.Parts.{placed, partReply};
-use answers::Group;
+use answers::Comparison;
+use answers::FileAnswer;
+use answers::Winner;
 use instance::Instance;
 use plan_reader::PlanAnswer;
-use roster::Answer;
-
-pub enum Winner {
-    First,
-    Second,
-    Neither,
-}
-
-// Both votes, first against second and second against first, and the winner; or a refusal, with its number and its group.
-pub enum Comparison {
-    Votes(i16, i16, Winner),
-    Refused(u8, Group),
-}
 
 // "The winner is the plan whose vote against the other is above zero."
 pub(crate) fn winner_of(v: i16, w: i16) -> Winner
@@ -119,8 +108,8 @@ pub fn compare(roster: &[u8], first: &[u8], second: &[u8]) -> Comparison
 {
     let a = roster::read_roster(roster);
     match a {
-        Answer::Refused(number, group) => Comparison::Refused(number, group),
-        Answer::Accepted => judged(roster, first, second),
+        FileAnswer::Refused(number, group) => Comparison::Refused(number, group),
+        FileAnswer::Accepted => judged(roster, first, second),
     }
 }
 

@@ -16,9 +16,9 @@ use Rattle.model.specs.PlanFile.{readPlan}
 use Rattle.model.specs.Desk.{Held, nothing, roster, planned, opening, Call, loadRoster, loadPlan, writeRosterTo, writePlanTo, find, judge, compare, blocking, Answer, needsRoster, needsPlan, lentShort, noRoster, noPlan, stateRefusal, answerOn, lentOn, stateRefused, answerOf, lentAfter, deskOn, deskAfter}
 use Rattle.theory_finder.specs.Choices.{chosen}
 use Rattle.answers.specs.declared.Group.{Group}
-use Rattle.roster.specs.declared.Answer as reader
-use Rattle.roster.specs.declared.Answer.the-variants as answer
-use Rattle.roster.specs.ReadAnswer.{shown}
+use Rattle.answers.specs.declared.FileAnswer as reader
+use Rattle.answers.specs.declared.FileAnswer.the-variants as answer
+use Rattle.answers.specs.FileCases.{fileCase}
 use Rattle.files.specs.declared.PlanReply.{PlanReply}
 use Rattle.files.specs.declared.PlanReply.the-variants as reply
 use Rattle.files.specs.Replies.{replied, planReply}
@@ -27,7 +27,7 @@ use Rattle.desk.specs.Held.{rosterBytes, planBytes, heldPlan, held, held
 use Rattle.desk.specs.Replies.{answered, lentThen, isLoaded, Stored, Replied}
 
 -- ---- what the readers say of what is held
-abbrev turnedDown : reader.Answer → Bool
+abbrev turnedDown : reader.FileAnswer → Bool
 turnedDown answer.Accepted = false
 turnedDown (answer.Refused n g) = true
 
@@ -39,7 +39,7 @@ held-roster : (r : Roster) (y : Reading Plan) → noRoster (heldPlan r y) ≡ fa
 held-roster r (accepted M) = refl
 held-roster r (turned n) = refl
 
-roster-read : (x : Reading Roster) (plan : List ℕ) → turnedDown (shown x) ≡ noRoster (held x plan)
+roster-read : (x : Reading Roster) (plan : List ℕ) → turnedDown (fileCase x) ≡ noRoster (held x plan)
 roster-read (accepted r) plan = sym (held-roster r (readPlan (instanceOf r) plan))
 roster-read (turned n) plan = refl
 
@@ -52,11 +52,11 @@ plan-read (accepted r) plan = go (readPlan (instanceOf r) plan)
     go (turned n) = refl
 
 module _ (d : Desk) where
-  pub roster-there : answer.Accepted ≡ shown (readRoster (rosterBytes d)) → false ≡ noRoster (heldOf d)
+  pub roster-there : answer.Accepted ≡ fileCase (readRoster (rosterBytes d)) → false ≡ noRoster (heldOf d)
   unfolding heldOf
   roster-there e = ap turnedDown e ∙ roster-read (readRoster (rosterBytes d)) (planBytes d)
 
-  pub roster-missing : {n : ℕ} {g : Group} → answer.Refused n g ≡ shown (readRoster (rosterBytes d)) → true ≡ noRoster (heldOf d)
+  pub roster-missing : {n : ℕ} {g : Group} → answer.Refused n g ≡ fileCase (readRoster (rosterBytes d)) → true ≡ noRoster (heldOf d)
   unfolding heldOf
   roster-missing e = ap turnedDown e ∙ roster-read (readRoster (rosterBytes d)) (planBytes d)
 

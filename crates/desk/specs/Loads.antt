@@ -19,9 +19,9 @@ use Rattle.theory_files.specs.Rosters.{accepted-size}
 use Rattle.theory_files.specs.PlanFiles.{plan-accepted-size}
 use Rattle.answers.specs.declared.Group.{Group}
 use Rattle.answers.specs.GroupCases.{groupShown, shown-case}
-use Rattle.roster.specs.declared.Answer as reader
-use Rattle.roster.specs.declared.Answer.the-variants as answer
-use Rattle.roster.specs.ReadAnswer.{shown, shown-accepted, shown-refused}
+use Rattle.answers.specs.declared.FileAnswer as reader
+use Rattle.answers.specs.declared.FileAnswer.the-variants as answer
+use Rattle.answers.specs.FileCases.{fileCase, case-accepted, case-refused}
 use Rattle.files.specs.declared.PlanReply.{PlanReply}
 use Rattle.files.specs.declared.PlanReply.the-variants as reply
 use Rattle.files.specs.Replies.{replied, planReply}
@@ -32,36 +32,36 @@ use Rattle.desk.specs.Laws.{pass-answer, lent-alike, no-number}
 use Rattle.desk.specs.Passing.{not-0}
 
 -- ---- a roster: 13, 14 and 15 never come before it
-abbrev rosterShown : reader.Answer → Answer
+abbrev rosterShown : reader.FileAnswer → Answer
 rosterShown answer.Accepted = loaded
 rosterShown (answer.Refused n g) = refused n (groupShown g)
 
-roster-shown : (x : Reading Roster) → rosterShown (shown x) ≡ loadedRoster x
+roster-shown : (x : Reading Roster) → rosterShown (fileCase x) ≡ loadedRoster x
 roster-shown (accepted r) = refl
 roster-shown (turned n) = ap (refused n) (shown-case (groupOf n))
 
-roster-answer : (h : Held) (file : List ℕ) {a : reader.Answer} → a ≡ shown (readRoster file) → rosterShown a ≡ answered h (loadRoster file)
+roster-answer : (h : Held) (file : List ℕ) {a : reader.FileAnswer} → a ≡ fileCase (readRoster file) → rosterShown a ≡ answered h (loadRoster file)
 unfolding answerOf stateRefusal
 roster-answer h file e = ap rosterShown e ∙ roster-shown (readRoster file)
 
 module _ (d : Desk) (file : List ℕ) where
-  pub roster-refused : {n : ℕ} {g : Group} → answer.Refused n g ≡ shown (readRoster file) → Replied d (loadRoster file) (refused n (groupShown g)) (loadRoster file) d
+  pub roster-refused : {n : ℕ} {g : Group} → answer.Refused n g ≡ fileCase (readRoster file) → Replied d (loadRoster file) (refused n (groupShown g)) (loadRoster file) d
   unfolding deskAfter stateRefusal
   roster-refused e = record {
     answer = roster-answer (heldOf d) file e;
     lent = lent-alike (heldOf d) (loadRoster file) refl;
-    desk = sym (ap (withRoster (heldOf d)) (shown-refused (readRoster file) e));
+    desk = sym (ap (withRoster (heldOf d)) (case-refused (readRoster file) e));
     stored = refl;
   }
 
-  module _ (e : answer.Accepted ≡ shown (readRoster file)) where
+  module _ (e : answer.Accepted ≡ fileCase (readRoster file)) where
     pub roster-small : T (isBytes file) → length file ≤ rosterSize
-    roster-small isB = let t = shown-accepted (readRoster file) e in accepted-size file (t .0) isB (t .1)
+    roster-small isB = let t = case-accepted (readRoster file) e in accepted-size file (t .0) isB (t .1)
 
     pub roster-loaded : (d′ : Desk) → rosterBytes d′ ≡ file → planBytes d′ ≡ [] → Replied d (loadRoster file) loaded (loadRoster file) d′
     unfolding deskAfter stateRefusal heldOf readPlan
     roster-loaded d′ p q =
-        let t = shown-accepted (readRoster file) e in
+        let t = case-accepted (readRoster file) e in
         record {
           answer = roster-answer (heldOf d) file e;
           lent = lent-alike (heldOf d) (loadRoster file) refl;

@@ -22,14 +22,14 @@ use Rattle.model.specs.Compare as outcome
 use Rattle.model.specs.Compare.{Part, winnerPart, partOf, comparisonOf}
 use Rattle.model.specs.Desk.{Held, roster, planned, writeRosterTo, writePlanTo, compare, blocking, votes, refusedPart, stateRefusal, answerOf, comparisonAnswer}
 use Rattle.answers.specs.GroupCases.{shown-case}
-use Rattle.roster_writer.specs.declared.Written.{Written}
+use Rattle.answers.specs.declared.Written.{Written}
 use Rattle.roster_writer.specs.Writes as rosters
 use Rattle.files.specs.Replies as files
-use Rattle.compare.specs.declared.Comparison.{Comparison}
+use Rattle.answers.specs.declared.Comparison.{Comparison}
 use Rattle.compare.specs.Answers as comparison
 use Rattle.compare.specs.Answers.{comparisonReply}
 use Rattle.compare.specs.Parts.{shownWinner, partReply}
-use Rattle.blocking_pairs.specs.declared.Blocked.{Blocked}
+use Rattle.answers.specs.declared.Blocked.{Blocked}
 use Rattle.blocking_pairs.specs.Answers as blocks
 use Rattle.blocking_pairs.specs.Answers.{blockedReply, deskAnswer, desk-answer}
 use Rattle.desk.specs.declared.Desk.{Desk}

@@ -9,13 +9,13 @@ use Rattle.model.specs.Compare.{Part, winnerPart}
 use Rattle.model.specs.Desk.{Held, Call, loadRoster, loadPlan, writeRosterTo, writePlanTo, find, judge, compare, blocking, Answer, refused, loaded, wrote, plan, none, strong, popular, beaten, votes, refusedPart, blockedBy, unblocked, answerOf, lentAfter, deskAfter}
 use Rattle.theory_finder.specs.Choices.{chosen}
 use Rattle.answers.specs.GroupCases.{groupShown}
-use Rattle.roster_writer.specs.declared.Written.{Written}
-use Rattle.roster_writer.specs.declared.Written.the-variants as written
-use Rattle.compare.specs.declared.Comparison.{Comparison}
-use Rattle.compare.specs.declared.Comparison.the-variants as comparison
+use Rattle.answers.specs.declared.Written.{Written}
+use Rattle.answers.specs.declared.Written.the-variants as written
+use Rattle.answers.specs.declared.Comparison.{Comparison}
+use Rattle.answers.specs.declared.Comparison.the-variants as comparison
 use Rattle.compare.specs.Parts.{shownWinner}
-use Rattle.verdicts.specs.declared.Verdict.{Verdict}
-use Rattle.verdicts.specs.declared.Verdict.the-variants as verdict
+use Rattle.answers.specs.declared.Verdict.{Verdict}
+use Rattle.answers.specs.declared.Verdict.the-variants as verdict
 use Rattle.desk.specs.declared.Desk.{Desk}
 use Rattle.desk.specs.declared.Loading.{Loading}
 use Rattle.desk.specs.declared.Loading.the-variants as loading

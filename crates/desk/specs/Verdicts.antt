@@ -15,21 +15,15 @@ use Rattle.model.specs.Edges.{instanceOf}
 use Rattle.model.specs.Plans.{Plan, verdictOf}
 use Rattle.model.specs.PlanFile.{readPlan}
 use Rattle.model.specs.Desk.{planned, judge, stateRefusal}
-use Rattle.verdict.specs.declared.Weighed.{Weighed}
-use Rattle.verdict.specs.declared.Weighed.the-variants as weighed
-use Rattle.verdict.specs.Weighing.{weighedAs, deskAnswer, desk-answer, desk-written}
-use Rattle.verdicts.specs.declared.Verdict.{Verdict}
-use Rattle.verdicts.specs.Answers.{withPlan, planAsked, toJudge, verdictCase, replied, left, JudgedBy, VerdictGiven}
+use Rattle.verdict.specs.Weighing.{desk-answer, desk-written}
+use Rattle.answers.specs.declared.Verdict.{Verdict}
+use Rattle.verdicts.specs.Answers.{withPlan, planAsked, toJudge, replied, left, JudgedBy, VerdictGiven}
 use Rattle.desk.specs.declared.Desk.{Desk}
 use Rattle.desk.specs.Held.{rosterBytes, planBytes, heldPlan, held, heldOf, stateNumber}
-use Rattle.desk.specs.Replies.{verdictShown, answered, lentThen, Replied}
+use Rattle.answers.specs.VerdictCases.{verdictShown}
+use Rattle.desk.specs.Replies.{answered, lentThen, Replied}
 use Rattle.desk.specs.Laws.{pass-answer, pass-lent, desk-alike, no-number}
 use Rattle.desk.specs.Passing.{not-0, long}
-
-case-shown : (w : Weighed) → verdictShown (verdictCase w) ≡ deskAnswer w
-case-shown weighed.Strong = refl
-case-shown (weighed.Popular v) = refl
-case-shown (weighed.Beaten v) = refl
 
 judged : (x : Reading Roster) (plan out : List ℕ) {v : Verdict} {after : List ℕ} → 0 ≡ stateNumber (held x plan) true (ltb (length out) planSize)
     → JudgedBy (toJudge out (planAsked x plan)) out v after → (verdictShown v ≡ answered (held x plan) (judge out)) × (judge after ≡ lentThen (held x plan) (judge out))
@@ -48,7 +42,7 @@ judged (accepted r) plan out {v} {after} s J = by-plan (readPlan (instanceOf r) 
     by-plan (turned n) s p q = not-0 s
     by-plan (accepted M) s p q =
         let to : _≡_ {A = Reading (Instance × Plan)} (cond short (turned 15) (accepted (G, M))) (accepted (G, M)) = ap (λ b. cond b (turned 15) (accepted (G, M))) (long short s) in (
-          ap verdictShown (p ∙ ap replied to) ∙ case-shown (weighedAs G M (verdictOf G M)) ∙ desk-answer G M (verdictOf G M) ∙ pass-answer (planned r M) (judge out) s,
+          ap verdictShown (p ∙ ap replied to) ∙ desk-answer G M (verdictOf G M) ∙ pass-answer (planned r M) (judge out) s,
           ap judge (q ∙ ap (λ x. left x out) to) ∙ desk-written G M (verdictOf G M) out ∙ pass-lent (planned r M) (judge out) s,
         )
 

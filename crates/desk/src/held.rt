@@ -9,13 +9,13 @@ ghost use Rattle.blocking_pairs.specs.Answers.{blockedReply};
 ghost use Rattle.verdicts.specs.Answers.{VerdictGiven};
 ghost use Rattle.desk.specs.Held.{rosterBytes, planBytes};
 use super::Desk;
-use blocking_pairs::Blocked;
-use compare::Comparison;
+use answers::Blocked;
+use answers::Comparison;
+use answers::Verdict;
+use answers::Written;
 use files::PlanReply;
 use limits::PLAN_SIZE;
 use limits::ROSTER_SIZE;
-use roster_writer::Written;
-use verdicts::Verdict;
 
 // a length, cut to the array's size
 pub(crate) fn clamped(len: usize, size: usize) -> usize

@@ -13,15 +13,15 @@ ghost use Rattle.blocking_pairs.specs.Answers.{deskAnswer};
 ghost use Rattle.desk.specs.Held.{heldOf};
 ghost use Rattle.desk.specs.Finding.{Done, Finds};
 ghost use Rattle.desk.specs.Replies.{Replied, loadShown, writtenShown, verdictShown, comparisonShown, partIn, answered};
+use answers::Blocked;
+use answers::Comparison;
 use answers::Found;
 use answers::Group;
-use blocking_pairs::Blocked;
-use compare::Comparison;
+use answers::Verdict;
+use answers::Written;
 use diary::Step;
 use limits::PLAN_SIZE;
 use limits::ROSTER_SIZE;
-use roster_writer::Written;
-use verdicts::Verdict;
 
 // the bytes of a roster file and of a plan file, at the front of their arrays
 #[repr(C)]
@@ -120,11 +120,11 @@ impl Desk {
     {
         let a = roster::read_roster(file);
         match a {
-            roster::Answer::Refused(number, group) => LoadReply {
+            answers::FileAnswer::Refused(number, group) => LoadReply {
                 desk: self,
                 answer: Loading::Refused(number, group),
             },
-            roster::Answer::Accepted => {
+            answers::FileAnswer::Accepted => {
                 let d = store::with_roster(self, file);
                 LoadReply {
                     desk: d,

@@ -5,10 +5,10 @@ ghost use Rattle.model.specs.Desk.{noRoster, noPlan};
 ghost use Rattle.desk.specs.Held.{heldOf, stateNumber};
 use super::Desk;
 use super::held;
+use answers::FileAnswer;
 use files::PlanReply;
 use limits::PLAN_SIZE;
 use limits::ROSTER_SIZE;
-use roster::Answer;
 
 pub(crate) fn no_roster(desk: Desk) -> bool
     ensures { λ r. ⌜ r ≡ noRoster (heldOf desk) ⌝ }
@@ -17,8 +17,8 @@ pub(crate) fn no_roster(desk: Desk) -> bool
     let len = held::clamped(desk.roster_len, ROSTER_SIZE);
     let a = roster::read_roster(&bytes[..len]);
     match a {
-        Answer::Accepted => false,
-        Answer::Refused(_, _) => true,
+        FileAnswer::Accepted => false,
+        FileAnswer::Refused(_, _) => true,
     }
 }
 

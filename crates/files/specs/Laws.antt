@@ -19,10 +19,10 @@ use Rattle.theory_files.specs.Reads.{isBytes}
 use Rattle.theory_files.specs.PlanFiles.{plan-read-write, plan-accepted-size}
 use Rattle.answers.specs.declared.Group.{Group}
 use Rattle.answers.specs.GroupCases.{groupShown, groupCase, shows-case}
-use Rattle.roster.specs.declared.Answer.{Answer}
-use Rattle.roster.specs.declared.Answer.the-variants as answer
-use Rattle.roster.specs.ReadAnswer.{shown, shown-accepted, shown-refused}
-use Rattle.roster_writer.specs.declared.Written.the-variants as written
+use Rattle.answers.specs.declared.FileAnswer.{FileAnswer}
+use Rattle.answers.specs.declared.FileAnswer.the-variants as answer
+use Rattle.answers.specs.FileCases.{fileCase, case-accepted, case-refused}
+use Rattle.answers.specs.declared.Written.the-variants as written
 use Rattle.instance.specs.declared.Instance.{Instance}
 use Rattle.instance.specs.Decoded.{Decoded}
 use Rattle.instance.specs.Arrays.{decoded-fileable}
@@ -54,15 +54,15 @@ module _ (roster : List ℕ) (g : Instance) (D : Decoded roster g) where
 -- ---- a plan judged against a roster
 module _ (roster file : List ℕ) where
   -- a refusal of the roster reader, handed on
-  abbrev handed : Answer → PlanReply
+  abbrev handed : FileAnswer → PlanReply
   handed answer.Accepted = Accepted
   handed (answer.Refused n k) = Refused n k
 
-  pub reply-refused : {n : ℕ} {k : Group} → answer.Refused n k ≡ shown (readRoster roster) → Refused n k ≡ planReply (readRoster roster) file
-  reply-refused e = let t = shown-refused (readRoster roster) e in ap handed (e ∙ ap shown t) ∙ sym (ap (λ x. planReply x file) t)
+  pub reply-refused : {n : ℕ} {k : Group} → answer.Refused n k ≡ fileCase (readRoster roster) → Refused n k ≡ planReply (readRoster roster) file
+  reply-refused e = let t = case-refused (readRoster roster) e in ap handed (e ∙ ap fileCase t) ∙ sym (ap (λ x. planReply x file) t)
 
-  pub roster-accepted : answer.Accepted ≡ shown (readRoster roster) → RosterAccepted roster
-  roster-accepted e = shown-accepted (readRoster roster) e
+  pub roster-accepted : answer.Accepted ≡ fileCase (readRoster roster) → RosterAccepted roster
+  roster-accepted e = case-accepted (readRoster roster) e
 
   pub reply-judged : {r : PlanReply} → RosterAccepted roster → JudgedAs roster file r → r ≡ planReply (readRoster roster) file
   reply-judged A J = J (A .0) (A .1) ∙ sym (ap (λ x. planReply x file) (A .1))

@@ -8,11 +8,11 @@ use Rattle.model.specs.Roster.{Roster}
 use Rattle.model.specs.RosterFile.{readRoster}
 use Rattle.model.specs.Edges.{instanceOf}
 use Rattle.answers.specs.declared.Group.{Group}
-use Rattle.roster.specs.declared.Answer.{Answer}
-use Rattle.roster.specs.declared.Answer.the-variants as answer
-use Rattle.roster.specs.ReadAnswer.{shown, shown-refused}
-use Rattle.roster_writer.specs.declared.Written.{Written}
-use Rattle.roster_writer.specs.declared.Written.the-variants as written
+use Rattle.answers.specs.declared.FileAnswer.{FileAnswer}
+use Rattle.answers.specs.declared.FileAnswer.the-variants as answer
+use Rattle.answers.specs.FileCases.{fileCase, case-refused}
+use Rattle.answers.specs.declared.Written.{Written}
+use Rattle.answers.specs.declared.Written.the-variants as written
 use Rattle.instance.specs.declared.Instance.{Instance}
 use Rattle.instance.specs.Decoded.{shownBy, Decoded}
 use Rattle.pairwriter.specs.Pairs.{pairsUpTo, pairs-length, front}
@@ -33,14 +33,14 @@ abbrev pub PairsWritten : (roster out : List ℕ) (r : Written) (after : List �
 PairsWritten roster out r after = WrittenBy (toWrite pairsSize out (pairsToWrite (readRoster roster))) out r after
 
 module _ (roster out : List ℕ) (h : pairsSize ≤ length out) where
-  abbrev grouped : Answer → Group → Group
+  abbrev grouped : FileAnswer → Group → Group
   grouped answer.Accepted d = d
   grouped (answer.Refused n k) d = k
 
-  pub pairs-unread : {n : ℕ} {k : Group} → answer.Refused n k ≡ shown (readRoster roster) → PairsWritten roster out (written.Refused n k) out
+  pub pairs-unread : {n : ℕ} {k : Group} → answer.Refused n k ≡ fileCase (readRoster roster) → PairsWritten roster out (written.Refused n k) out
   pairs-unread {n} {k} e =
-      let t = shown-refused (readRoster roster) e in
-      kept _ out k (long-enough pairsSize out _ h ∙ ap pairsToWrite t) (ap (λ a. grouped a k) (e ∙ ap shown t))
+      let t = case-refused (readRoster roster) e in
+      kept _ out k (long-enough pairsSize out _ h ∙ ap pairsToWrite t) (ap (λ a. grouped a k) (e ∙ ap fileCase t))
 
   pub pairs-wrote : (g : Instance) → Decoded roster g → RosterAccepted roster → {n : ℕ} {after : List ℕ} → n ≡ 5 * g .m
       → after ≡ front (g .sv) (g .st) (g .«rank_s») (g .«rank_t») (g .tied) out (g .m) → PairsWritten roster out (written.Wrote n) after

@@ -16,8 +16,8 @@ use Rattle.model.specs.Edges.{instanceOf}
 use Rattle.model.specs.Plans.{Plan}
 use Rattle.model.specs.PlanFile.{planBytes, readPlan}
 use Rattle.answers.specs.GroupCases.{groupCase}
-use Rattle.roster_writer.specs.declared.Written.{Written}
-use Rattle.roster_writer.specs.declared.Written.the-variants as written
+use Rattle.answers.specs.declared.Written.{Written}
+use Rattle.answers.specs.declared.Written.the-variants as written
 use Rattle.files.specs.declared.PlanReply.{PlanReply}
 use Rattle.files.specs.declared.PlanReply.the-variants.{Accepted, Refused}
 

@@ -5,11 +5,11 @@ ghost use Rattle.model.specs.RosterFile.{readRoster};
 ghost use Rattle.instance.specs.Accepted.{RosterAccepted};
 ghost use Rattle.files.specs.Replies.{planReply, JudgedAs, PlanWritten};
 ghost use Rattle.files.specs.Pairs.{PairsWritten};
+use answers::FileAnswer;
 use answers::Group;
+use answers::Written;
 use limits::PLAN_SIZE;
 use plan_reader::PlanAnswer;
-use roster::Answer;
-use roster_writer::Written;
 
 // 1,024 pairs of five bytes
 const PAIRS_SIZE: usize = 5120;
@@ -45,8 +45,8 @@ pub fn read_plan(roster: &[u8], file: &[u8]) -> PlanReply
 {
     let a = roster::read_roster(roster);
     match a {
-        Answer::Refused(number, group) => PlanReply::Refused(number, group),
-        Answer::Accepted => judged(roster, file),
+        FileAnswer::Refused(number, group) => PlanReply::Refused(number, group),
+        FileAnswer::Accepted => judged(roster, file),
     }
 }
 
@@ -78,8 +78,8 @@ pub fn write_pairs(roster: &[u8], out: &mut [u8]) -> Written
     }
     let a = roster::read_roster(roster);
     match a {
-        Answer::Refused(number, group) => Written::Refused(number, group),
-        Answer::Accepted => {
+        FileAnswer::Refused(number, group) => Written::Refused(number, group),
+        FileAnswer::Accepted => {
             let g = instance::instance_of(roster);
             let m = g.m;
             let sv = g.sv;

@@ -42,12 +42,12 @@ use Rattle.instance.specs.Decoded.{shownBy, Decoded}
 use Rattle.instance.specs.Loaded.{Loaded}
 use Rattle.reduction_state.specs.Outcome.{Reduced, ReducedFrom}
 use Rattle.theory_finder.specs.FoundPlan.{candidate-plan}
-use Rattle.verdict.specs.declared.Weighed.{Weighed}
-use Rattle.verdict.specs.declared.Weighed.the-variants.{Strong, Popular, Beaten}
+use Rattle.answers.specs.declared.Verdict as weighed
+use Rattle.answers.specs.declared.Verdict.the-variants.{Strong, Popular, Beaten, Refused}
 use Rattle.verdict.specs.Weighing.{Shows, weighedAs, rivalWritten, WeighedBy}
 use Rattle.answers.specs.declared.Group.{Group}
-use Rattle.roster.specs.declared.Answer.the-variants as answer
-use Rattle.roster.specs.ReadAnswer.{shown, shown-refused}
+use Rattle.answers.specs.declared.FileAnswer.the-variants as answer
+use Rattle.answers.specs.FileCases.{fileCase, case-refused}
 use Rattle.instance.specs.Accepted.{RosterAccepted}
 use Rattle.answers.specs.declared.Found as code
 use Rattle.answers.specs.declared.Found.the-variants as says
@@ -62,12 +62,13 @@ lists-are m p n es l = sym (l .are) ∙ front-is es n (l .there)
 
 -- ---- a candidate judged
 -- the answer for what is weighed
-abbrev pub answerOn : ℕ → Weighed → code.Found
+abbrev pub answerOn : ℕ → weighed.Verdict → code.Found
 answerOn steps Strong = says.Plan steps
 answerOn steps (Popular v) = says.None steps (kind.Rivalled v)
 answerOn steps (Beaten v) = says.None steps (kind.Rivalled v)
+answerOn steps (Refused n g) = says.Refused n g
 
-module _ (G : Instance) (M : Plan) (steps : ℕ) (l p v p′ v′ : List ℕ) (w : Weighed) where
+module _ (G : Instance) (M : Plan) (steps : ℕ) (l p v p′ v′ : List ℕ) (w : weighed.Verdict) where
   by-verdict : (x : Verdict) → w ≡ weighedAs G M x → v′ ≡ rivalWritten G M x v → p′ ≡ onto (planBytes G M) p → Wrote G (candidate G M x) steps l p v (answerOn steps w) l p′ v′
   by-verdict P.strong a b c = record { answer = ap (answerOn steps) a; left = refl; plan = c; rival = b }
   by-verdict P.popular a b c = record { answer = ap (answerOn steps) a; left = refl; plan = c; rival = b }
@@ -223,8 +224,8 @@ module _ (roster : List ℕ) (room : ℕ) (l p v : List ℕ) (o : Outcome) where
   kept-all : (n : ℕ) → Refuses n o → outcome.Kept n l p v o l p v
   kept-all n r = record { refuses = r; left = refl; plan = refl; rival = refl }
 
-  pub out-13 : {n : ℕ} {k : Group} → answer.Refused n k ≡ shown (readRoster roster) → Refuses 13 o → Outcomes roster room l p v o l p v
-  out-13 e r = subst (λ x. OutcomeFor x (short room l p v) l p v o l p v) (sym (shown-refused (readRoster roster) e)) (kept-all 13 r)
+  pub out-13 : {n : ℕ} {k : Group} → answer.Refused n k ≡ fileCase (readRoster roster) → Refuses 13 o → Outcomes roster room l p v o l p v
+  out-13 e r = subst (λ x. OutcomeFor x (short room l p v) l p v o l p v) (sym (case-refused (readRoster roster) e)) (kept-all 13 r)
 
   at-roster : (R : Roster) (b : Bool) (l′ p′ v′ : List ℕ) → readRoster roster ≡ accepted R → short room l p v ≡ b → OutcomeFor (accepted R) b l p v o l′ p′ v′ → Outcomes roster room l p v o l′ p′ v′
   at-roster R b l′ p′ v′ e s x = subst (λ y. OutcomeFor y (short room l p v) l p v o l′ p′ v′) (sym e) (subst (λ y. OutcomeFor (accepted R) y l p v o l′ p′ v′) (sym s) x)

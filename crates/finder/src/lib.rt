@@ -9,14 +9,14 @@ ghost use Rattle.instance.specs.Decoded.{shownBy};
 ghost use Rattle.verdict.specs.Weighing.{Shows};
 ghost use Rattle.finder.specs.Promise.{stepsIn};
 ghost use Rattle.finder.specs.Found.{Judges, Ends, Finds, Refuses, Works, Outcomes};
+use answers::FileAnswer;
 use answers::Found;
 use answers::NoneKind;
+use answers::Verdict;
 use instance::Instance;
 use limits::DIARY_SIZE;
 use limits::LEFT_SIZE;
 use limits::PLAN_SIZE;
-use roster::Answer;
-use verdict::Weighed;
 
 // "Otherwise the fixed pairs are the candidate: strong gives the plan; else none, rivalled": after so many steps.
 pub(crate) fn judged(
@@ -37,9 +37,10 @@ pub(crate) fn judged(
     plan_writer::write_plan(m, &sv, &st, fixed, &mut *plan);
     let w = verdict::weigh(g, fixed, l.n, &es, &mut *rival);
     match w {
-        Weighed::Strong => Found::Plan(steps),
-        Weighed::Popular(v) => Found::None(steps, NoneKind::Rivalled(v)),
-        Weighed::Beaten(v) => Found::None(steps, NoneKind::Rivalled(v)),
+        Verdict::Strong => Found::Plan(steps),
+        Verdict::Popular(v) => Found::None(steps, NoneKind::Rivalled(v)),
+        Verdict::Beaten(v) => Found::None(steps, NoneKind::Rivalled(v)),
+        Verdict::Refused(number, group) => Found::Refused(number, group),
     }
 }
 
@@ -147,8 +148,8 @@ pub fn found(
 {
     let a = roster::read_roster(roster);
     match a {
-        Answer::Refused(_, _) => refused(13),
-        Answer::Accepted => {
+        FileAnswer::Refused(_, _) => refused(13),
+        FileAnswer::Accepted => {
             if (room < DIARY_SIZE) | (left.len() < LEFT_SIZE) {
                 return refused(15);
             }

@@ -23,9 +23,9 @@ use Rattle.theory_verdict.specs.Rival.{rivalOf}
 use Rattle.answers.specs.declared.Group.{Group}
 use Rattle.model.specs.Refusal.{groupOf}
 use Rattle.answers.specs.GroupCases.{groupShown, shown-case}
-use Rattle.roster.specs.declared.Answer.{Answer}
-use Rattle.roster.specs.declared.Answer.the-variants as answer
-use Rattle.roster.specs.ReadAnswer.{shown, shown-refused}
+use Rattle.answers.specs.declared.FileAnswer.{FileAnswer}
+use Rattle.answers.specs.declared.FileAnswer.the-variants as answer
+use Rattle.answers.specs.FileCases.{fileCase, case-refused}
 use Rattle.instance.specs.Accepted.{RosterAccepted}
 use Rattle.answers.specs.declared.Found.{Found}
 use Rattle.answers.specs.declared.Found.the-variants as says
@@ -80,11 +80,11 @@ module _ (input : List ℕ) (isB : T (isBytes input)) where
       subst (λ y. HandedFor y a d′ l′ p′ v′) (sym e) (handed (instanceOf R) l p v l′ p′ v′ d a d′ (F R e .finds))
 
   -- a refusal
-  pub refused-handed : {n : ℕ} {k : Group} → answer.Refused n k ≡ shown (readRoster input) → (flat left plan rival : List ℕ) → HandedFor (readRoster input) (says.Refused n k) flat left plan rival
+  pub refused-handed : {n : ℕ} {k : Group} → answer.Refused n k ≡ fileCase (readRoster input) → (flat left plan rival : List ℕ) → HandedFor (readRoster input) (says.Refused n k) flat left plan rival
   refused-handed {n} {k} e flat left plan rival =
-      let t = shown-refused (readRoster input) e in
-      subst (λ y. HandedFor y (says.Refused n k) flat left plan rival) (sym t) (ap (refused n) (ap groupShown (ap (grouped k) (e ∙ ap shown t)) ∙ shown-case (groupOf n)))
+      let t = case-refused (readRoster input) e in
+      subst (λ y. HandedFor y (says.Refused n k) flat left plan rival) (sym t) (ap (refused n) (ap groupShown (ap (grouped k) (e ∙ ap fileCase t)) ∙ shown-case (groupOf n)))
     where
-      grouped : Group → Answer → Group
+      grouped : Group → FileAnswer → Group
       grouped d answer.Accepted = d
       grouped d (answer.Refused n k) = k

@@ -4,8 +4,8 @@ ghost use Rattle.model.specs.Printed.{printed};
 ghost use Rattle.theory_verdict.specs.Rival.{rivalOf};
 ghost use Rattle.instance.specs.Accepted.{RosterAccepted};
 ghost use Rattle.program.specs.Printing.{Prints};
+use answers::FileAnswer;
 use answers::Found;
-use roster::Answer;
 
 // The text for an accepted roster.
 pub(crate) fn worked(roster: &[u8], out: &mut [u8; 32783]) -> usize
@@ -26,7 +26,7 @@ pub fn answer(input: &[u8], out: &mut [u8; 32783]) -> usize
 {
     let a = roster::read_roster(input);
     match a {
-        Answer::Refused(number, group) => {
+        FileAnswer::Refused(number, group) => {
             let none = [0u8; 1];
             text_answer::answer_text(
                 Found::Refused(number, group),
@@ -37,6 +37,6 @@ pub fn answer(input: &[u8], out: &mut [u8; 32783]) -> usize
                 out,
             )
         }
-        Answer::Accepted => worked(input, out),
+        FileAnswer::Accepted => worked(input, out),
     }
 }

@@ -10,31 +10,29 @@ use Rattle.rival_levels.specs.declared.Found.the-variants as found
 use Rattle.rival_levels.specs.declared.Found.{Found}
 use Rattle.rival_laws.specs.Walks.{hitOf}
 use Rattle.rival_search.specs.TwoThresholds.{searched}
-use Rattle.rival_verdict.specs.declared.Judgement.the-variants as judgement
-use Rattle.rival_verdict.specs.declared.Judgement.{Judgement}
 
--- the model's verdict for each of the code's
-abbrev pub verdictFor : Judgement → Verdict
-verdictFor judgement.Strong = strong
-verdictFor judgement.Popular = popular
-verdictFor judgement.Beaten = beaten
+-- something was found
+abbrev pub isSomething : Found → Bool
+isSomething found.Nothing = false
+isSomething (found.Direct f) = true
+isSomething (found.Alone i) = true
+isSomething (found.Closed l i) = true
+isSomething (found.Open l i j) = true
 
--- the verdict by what was found, below 0 or else below 1
-abbrev pub weighed : Bool → Found → Verdict
-weighed true f = beaten
-weighed false found.Nothing = strong
-weighed false (found.Direct f) = popular
-weighed false (found.Alone i) = popular
-weighed false (found.Closed l i) = popular
-weighed false (found.Open l i j) = popular
+-- the verdict by whether something was found below 0, and whether something was found at all
+abbrev pub verdictFor : (isBeaten isRivalled : Bool) → Verdict
+verdictFor true r = beaten
+verdictFor false true = popular
+verdictFor false false = strong
 
-pub weighed-hits : (G : Instance) (M : ℕ → Bool) (es : List ℕ) (a b : Found) → weighed (searched a b .0) (searched a b .1) ≡ judge (hitOf G M es a) (hitOf G M es b)
-weighed-hits G M es found.Nothing found.Nothing = refl
-weighed-hits G M es found.Nothing (found.Direct f) = refl
-weighed-hits G M es found.Nothing (found.Alone i) = refl
-weighed-hits G M es found.Nothing (found.Closed l i) = refl
-weighed-hits G M es found.Nothing (found.Open l i j) = refl
-weighed-hits G M es (found.Direct f) b = refl
-weighed-hits G M es (found.Alone i) b = refl
-weighed-hits G M es (found.Closed l i) b = refl
-weighed-hits G M es (found.Open l i j) b = refl
+pub verdict-hits : (G : Instance) (M : ℕ → Bool) (es : List ℕ) (a b : Found)
+    → verdictFor (searched a b .0) (isSomething (searched a b .1)) ≡ judge (hitOf G M es a) (hitOf G M es b)
+verdict-hits G M es found.Nothing found.Nothing = refl
+verdict-hits G M es found.Nothing (found.Direct f) = refl
+verdict-hits G M es found.Nothing (found.Alone i) = refl
+verdict-hits G M es found.Nothing (found.Closed l i) = refl
+verdict-hits G M es found.Nothing (found.Open l i j) = refl
+verdict-hits G M es (found.Direct f) b = refl
+verdict-hits G M es (found.Alone i) b = refl
+verdict-hits G M es (found.Closed l i) b = refl
+verdict-hits G M es (found.Open l i j) b = refl

@@ -24,7 +24,7 @@ use Rattle.rival_levels.specs.declared.Found.{Found}
 use Rattle.rival_laws.specs.Walks.{hitOf, searchAt}
 use Rattle.rival_search.specs.SearchView.{Lists, Views, Roomy, freeAt, arcCell, search-shown, arc-shown, terminal-shown, room-S, room-T}
 use Rattle.rival_search.specs.TwoThresholds.{Searched, searched-hit, searching-bounded}
-use Rattle.rival_verdict.specs.Judged.{weighed, weighed-hits}
+use Rattle.rival_verdict.specs.Judged.{isSomething, verdictFor, verdict-hits}
 use Rattle.rival_exchange.specs.Swaps.{Marks, goneBy, comeBy, rivalAt, rival-at, shows-plan}
 
 pub record RivalShown (m : ℕ) (sv st rs rt quotaS quotaT : List ℕ) (plan : List Bool) (v : Verdict) (rival : List Bool) : Type 0 where
@@ -80,11 +80,11 @@ module _ (m : ℕ) (sv st rs rt quotaS quotaT : List ℕ) (plan : List Bool) (n 
     size : length (edgesIn m (flag plan)) ≡ n
     size = ap length lists ∙ length-map (range 0 n) (at es) ∙ range-length 0 n
 
-    found-verdict : weighed below what ≡ computedVerdict H plan
+    found-verdict : verdictFor below (isSomething what) ≡ computedVerdict H plan
     unfolding computedVerdict verdictBy finds terminals
     found-verdict =
-        ap (λ (h : Bool × Found). weighed (h .0) (h .1)) (searching .2)
-        ∙ weighed-hits H (flag plan) es (finds 0) (finds 1)
+        ap (λ (h : Bool × Found). verdictFor (h .0) (isSomething (h .1))) (searching .2)
+        ∙ verdict-hits H (flag plan) es (finds 0) (finds 1)
         ∙ ap₂ judge (hit 0 (omega arith)) (hit 1 (omega arith))
         ∙ ap (λ k. judge (search H (flag plan) 133 0 k) (search H (flag plan) 133 1 k)) (sym size)
 
@@ -109,7 +109,7 @@ module _ (m : ℕ) (sv st rs rt quotaS quotaT : List ℕ) (plan : List Bool) (n 
         ∙ ap (λ (o : Option Hit). on (planOf m (Option·elim o (flag plan) (rivalBy (flag plan)))) e) found-hit
         ∙ ap (λ k. on (planOf m (Option·elim (orElse (search H (flag plan) 133 0 k) (search H (flag plan) 133 1 k)) (flag plan) (rivalBy (flag plan)))) e) (sym size)
 
-  pub found-shown : (v : Verdict) (gone come rival : List Bool) → v ≡ weighed below what → Marks gone (goneBy m sv st rs rt plan roomS roomT es arcs n what) → Marks come (comeBy m sv st rs rt plan roomS roomT es arcs n what)
+  pub found-shown : (v : Verdict) (gone come rival : List Bool) → v ≡ verdictFor below (isSomething what) → Marks gone (goneBy m sv st rs rt plan roomS roomT es arcs n what) → Marks come (comeBy m sv st rs rt plan roomS roomT es arcs n what)
       → Shows false rival m (λ e. (flag plan e && not (flag gone e)) || flag come e) → RivalShown m sv st rs rt quotaS quotaT plan v rival
   found-shown v gone come rival e g c s = record {
     verdict = λ ns nt tied. e ∙ found-verdict ns nt tied;

@@ -8,26 +8,18 @@ ghost use Rattle.arrays.specs.Passes.{Shows};
 ghost use Rattle.rival_tables.specs.Filled.{Low};
 ghost use Rattle.rival_search.specs.SearchView.{Lists, Views};
 ghost use Rattle.rival_verdict.specs.RivalOfArrays.{RivalShown, ShownFor};
-ghost use Rattle.rival_verdict.specs.Judged.{verdictFor, weighed};
+ghost use Rattle.rival_verdict.specs.Judged.{verdictFor, isSomething};
 
-pub enum Judgement {
-    Strong,
-    Popular,
-    Beaten,
-}
-
-// By whether something was found below 0, or else below 1.
-pub fn weigh(below: bool, found: rival_levels::Found) -> Judgement
-    ensures { λ r. ⌜ verdictFor r ≡ weighed below found ⌝ }
+// Whether something was found at all.
+pub fn is_something(found: rival_levels::Found) -> bool
+    ensures { λ r. ⌜ r ≡ isSomething found ⌝ }
 {
-    if below {
-        return Judgement::Beaten;
-    }
     match found {
-        rival_levels::Found::Nothing => Judgement::Strong,
-        _ => Judgement::Popular,
+        rival_levels::Found::Nothing => false,
+        _ => true,
     }
 }
+
 // The plan without the edges that go and with those that come.
 pub fn exchanged(
     m: usize,
@@ -47,9 +39,11 @@ pub fn exchanged(
     o
 }
 
-// The verdict and the rival; the rival is the plan itself if it is strong.
+// Beaten: something was found below 0; rivalled: below 0, or else below 1. A plan that is not rivalled is strong, and its rival is the
+// plan itself.
 pub struct Judged {
-    pub judgement: Judgement,
+    pub beaten: bool,
+    pub rivalled: bool,
     pub rival: [bool; 1024],
 }
 
@@ -71,19 +65,19 @@ pub fn judged_on(
     ft: &[bool; 32],
 ) -> Judged
     requires { ⌜ (m ≤ 1024) × (n ≤ 64) × Low m (now sv) 32 × Low m (now st) 32 × Lists m (now plan) n (now es) × Views n (now es) (now sv) (now st) (now rs) (now rt) (now ps) (now pt) (now qs) (now qt) ⌝ }
-    ensures { λ r. ⌜ ShownFor m (now (sv .entry)) (now (st .entry)) (now (rs .entry)) (now (rt .entry)) (now (plan .entry)) n (now (ps .entry)) (now (pt .entry)) (now (fs .entry)) (now (ft .entry)) (verdictFor (r .judgement)) (r .rival) ⌝ }
+    ensures { λ r. ⌜ ShownFor m (now (sv .entry)) (now (st .entry)) (now (rs .entry)) (now (rt .entry)) (now (plan .entry)) n (now (ps .entry)) (now (pt .entry)) (now (fs .entry)) (now (ft .entry)) (verdictFor (r .beaten) (r .rivalled)) (r .rival) ⌝ }
 {
     let arcs = rival_arcs::arcs(m, sv, st, rs, rt, plan, n, ps, pt, qs, qt);
     let h = rival_search::searched(m, sv, st, rs, rt, plan, n, ps, pt, qs, qt, fs, ft, &arcs);
-    let below = h.below;
     let found = h.found;
-    let judgement = weigh(below, found);
+    let rivalled = is_something(found);
     let s = rival_exchange::swap(m, sv, st, rs, rt, plan, n, es, fs, ft, &arcs, found);
     let gone = s.gone;
     let come = s.come;
     let rival = exchanged(m, plan, &gone, &come);
     Judged {
-        judgement: judgement,
+        beaten: h.below,
+        rivalled: rivalled,
         rival: rival,
     }
 }
@@ -102,7 +96,7 @@ pub fn judge(
     es: &[u16; 64],
 ) -> Judged
     requires { ⌜ (m ≤ 1024) × (n ≤ 64) × Low m (now sv) 32 × Low m (now st) 32 × Lists m (now plan) n (now es) ⌝ }
-    ensures { λ r. ⌜ RivalShown m (now (sv .entry)) (now (st .entry)) (now (rs .entry)) (now (rt .entry)) (now (bs .entry)) (now (bt .entry)) (now (plan .entry)) (verdictFor (r .judgement)) (r .rival) ⌝ }
+    ensures { λ r. ⌜ RivalShown m (now (sv .entry)) (now (st .entry)) (now (rs .entry)) (now (rt .entry)) (now (bs .entry)) (now (bt .entry)) (now (plan .entry)) (verdictFor (r .beaten) (r .rivalled)) (r .rival) ⌝ }
 {
     let ps = rival_tables::gathered(n, es, sv);
     let pt = rival_tables::gathered(n, es, st);

@@ -4,22 +4,17 @@ mod pairs;
 
 ghost use mathlib.Core.Path.{_≡_};
 ghost use Rattle.model.specs.RosterFile.{readRoster};
-ghost use Rattle.roster.specs.ReadAnswer.{shown};
-use answers::Group;
+ghost use Rattle.answers.specs.FileCases.{fileCase};
+use answers::FileAnswer;
 use roster_reading::Section;
 
 // A roster file is accepted, or refused with the number and the group of the refusal.
-pub enum Answer {
-    Accepted,
-    Refused(u8, Group),
-}
-
-pub fn read_roster(file: &[u8]) -> Answer
-    ensures { λ r. ⌜ r ≡ shown (readRoster (now (file .entry))) ⌝ }
+pub fn read_roster(file: &[u8]) -> FileAnswer
+    ensures { λ r. ⌜ r ≡ fileCase (readRoster (now (file .entry))) ⌝ }
 {
     let s = file::roster_file(file);
     match s {
-        Section::Read(_) => Answer::Accepted,
-        Section::Refused(n) => Answer::Refused(n, answers::group_of(n)),
+        Section::Read(_) => FileAnswer::Accepted,
+        Section::Refused(n) => FileAnswer::Refused(n, answers::group_of(n)),
     }
 }

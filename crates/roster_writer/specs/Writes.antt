@@ -17,11 +17,11 @@ use Rattle.theory_files.specs.Reads.{isBytes}
 use Rattle.theory_files.specs.Rosters.{read-write, accepted-size}
 use Rattle.answers.specs.declared.Group.{Group}
 use Rattle.answers.specs.GroupCases.{groupShown, groupCase, shows-case}
-use Rattle.roster.specs.declared.Answer.{Answer}
-use Rattle.roster.specs.declared.Answer.the-variants as answer
-use Rattle.roster.specs.ReadAnswer.{shown, shown-accepted, shown-refused}
-use Rattle.roster_writer.specs.declared.Written.{Written}
-use Rattle.roster_writer.specs.declared.Written.the-variants.{Wrote, Refused}
+use Rattle.answers.specs.declared.FileAnswer.{FileAnswer}
+use Rattle.answers.specs.declared.FileAnswer.the-variants as answer
+use Rattle.answers.specs.FileCases.{fileCase, case-accepted, case-refused}
+use Rattle.answers.specs.declared.Written.{Written}
+use Rattle.answers.specs.declared.Written.the-variants.{Wrote, Refused}
 
 -- the roster to write, or the refusal: 15 comes before what the file meets
 abbrev pub toWrite : (file out : List ℕ) → Reading Roster
@@ -43,7 +43,7 @@ pub record RosterWritten (file out : List ℕ) (r : Written) (after : List ℕ) 
 
 -- ---- what the code finds
 -- a refusal of the reader, handed on
-abbrev written : Answer → Written
+abbrev written : FileAnswer → Written
 written answer.Accepted = Wrote 0
 written (answer.Refused n g) = Refused n g
 
@@ -58,18 +58,18 @@ module _ (file out : List ℕ) where
     enough : toWrite file out ≡ readRoster file
     enough = simp (le-ltb (length out) rosterSize h)
 
-    pub unread : (n : ℕ) (g : Group) → answer.Refused n g ≡ shown (readRoster file) → RosterWritten file out (Refused n g) out
+    pub unread : (n : ℕ) (g : Group) → answer.Refused n g ≡ fileCase (readRoster file) → RosterWritten file out (Refused n g) out
     unread n g e =
-        let t = shown-refused (readRoster file) e in
-        record { reply = ap written (e ∙ ap shown t) ∙ sym (ap answered (enough ∙ t)); buffer = sym (ap (λ x. left x out) (enough ∙ t)) }
+        let t = case-refused (readRoster file) e in
+        record { reply = ap written (e ∙ ap fileCase t) ∙ sym (ap answered (enough ∙ t)); buffer = sym (ap (λ x. left x out) (enough ∙ t)) }
 
-    module _ (isB : T (isBytes file)) (e : answer.Accepted ≡ shown (readRoster file)) where
+    module _ (isB : T (isBytes file)) (e : answer.Accepted ≡ fileCase (readRoster file)) where
       pub file-fits : length file ≤ rosterSize
-      file-fits = let t = shown-accepted (readRoster file) e in accepted-size file (t .0) isB (t .1)
+      file-fits = let t = case-accepted (readRoster file) e in accepted-size file (t .0) isB (t .1)
 
       pub wrote : {n : ℕ} {after : List ℕ} → n ≡ length file → after ≡ take (length file) file ++ drop (length file) out → RosterWritten file out (Wrote n) after
       wrote p q =
-          let t = shown-accepted (readRoster file) e in
+          let t = case-accepted (readRoster file) e in
           let w : writeRoster (t .0) ≡ file = read-write file (t .0) isB (t .1) in
           record {
             reply = ap Wrote p ∙ ap (λ l. Wrote (length l)) (sym w) ∙ sym (ap answered (enough ∙ t .1));

@@ -1,14 +1,8 @@
 // The roster writer: the bytes of a roster that is read from a file, written into a lent buffer.
 ghost use Rattle.roster_writer.specs.Writes.{RosterWritten};
-use answers::Group;
+use answers::FileAnswer;
+use answers::Written;
 use limits::ROSTER_SIZE;
-use roster::Answer;
-
-// So many bytes were written, or the refusal with its number and group.
-pub enum Written {
-    Wrote(usize),
-    Refused(u8, Group),
-}
 
 // "15 a lent buffer below its size" comes first, then what the file meets when it is read; a refusal changes no byte. An accepted file
 // holds the bytes that its roster is written to.
@@ -20,8 +14,8 @@ pub fn write_roster(file: &[u8], out: &mut [u8]) -> Written
     }
     let a = roster::read_roster(file);
     match a {
-        Answer::Refused(number, group) => Written::Refused(number, group),
-        Answer::Accepted => {
+        FileAnswer::Refused(number, group) => Written::Refused(number, group),
+        FileAnswer::Accepted => {
             let n = bytes::copy(file, out);
             Written::Wrote(n)
         }

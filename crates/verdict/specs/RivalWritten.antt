@@ -27,7 +27,7 @@ use Rattle.plan_writer.specs.declared.PlanWritten.{PlanWritten}
 use Rattle.plan_writer.specs.Written.{WrittenFor}
 use Rattle.rival_search.specs.SearchView.{Lists}
 use Rattle.rival_verdict.specs.RivalOfArrays.{RivalShown, shown-verdict, shown-rival}
-use Rattle.verdict.specs.declared.Weighed.the-variants.{Strong, Popular, Beaten}
+use Rattle.answers.specs.declared.Verdict.the-variants.{Strong, Popular, Beaten}
 use Rattle.verdict.specs.Weighing.{Shows, weighedAs, rivalWritten, WeighedBy}
 
 -- ---- the vote of one plan against another, whose bytes are written

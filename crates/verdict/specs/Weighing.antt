@@ -1,57 +1,53 @@
 -- What the verdict on a plan answers and what it writes, in the words of the model's desk: the vote of the plan against its rival, and the rival's bytes
--- at the front of the buffer. The rival is the search's (search, Rival).
+-- at the front of the buffer. The rival is the search's (theory_verdict, Rival).
 use Prim.Native.Nat.{ℕ}
 use mathlib.Core.Path.{_≡_, refl}
 use mathlib.Core.Bool.{Bool}
 use mathlib.Core.List.{List}
 use Rattle.lists.specs.Sum.{_∈_}
 use Rattle.model.specs.Instance.{Instance}
-use Rattle.model.specs.Plans.{Plan, on, plansOf, Verdict, voteOf, verdictOf}
+use Rattle.model.specs.Plans.{Plan, on, plansOf, voteOf, verdictOf}
 use Rattle.model.specs.Plans as verdict
 use Rattle.model.specs.PlanFile.{planBytes}
 use Rattle.model.specs.Desk as desk
 use Rattle.model.specs.Desk.{onto}
 use Rattle.theory_verdict.specs.Rival.{rivalOf}
 use Rattle.arrays.specs.ArrayInstance.{flag}
-use Rattle.verdict.specs.declared.Weighed.{Weighed}
-use Rattle.verdict.specs.declared.Weighed.the-variants.{Strong, Popular, Beaten}
+use Rattle.answers.specs.declared.Verdict.{Verdict}
+use Rattle.answers.specs.declared.Verdict.the-variants.{Strong, Popular, Beaten}
+use Rattle.answers.specs.VerdictCases.{verdictShown}
 
 -- an array shows a plan within the quotas
 abbrev pub Shows : Instance → List Bool → Plan → Type 0
 Shows G plan M = (M ∈ plansOf G) × ((e : ℕ) → flag plan e ≡ on M e)
 
 -- ---- the answer and the buffer, for each verdict
-abbrev pub weighedAs : Instance → Plan → Verdict → Weighed
+abbrev pub weighedAs : Instance → Plan → verdict.Verdict → Verdict
 weighedAs G M verdict.strong = Strong
 weighedAs G M verdict.popular = Popular (voteOf G M (rivalOf G M))
 weighedAs G M verdict.beaten = Beaten (voteOf G M (rivalOf G M))
 
-abbrev pub rivalWritten : Instance → Plan → Verdict → List ℕ → List ℕ
+abbrev pub rivalWritten : Instance → Plan → verdict.Verdict → List ℕ → List ℕ
 rivalWritten G M verdict.strong out = out
 rivalWritten G M verdict.popular out = onto (planBytes G (rivalOf G M)) out
 rivalWritten G M verdict.beaten out = onto (planBytes G (rivalOf G M)) out
 
-pub record WeighedBy (G : Instance) (M : Plan) (out : List ℕ) (r : Weighed) (after : List ℕ) : Type 0 where
+pub record WeighedBy (G : Instance) (M : Plan) (out : List ℕ) (r : Verdict) (after : List ℕ) : Type 0 where
   pub reply : r ≡ weighedAs G M (verdictOf G M)
   pub buffer : after ≡ rivalWritten G M (verdictOf G M) out
 
 -- for the plan that an array shows
-abbrev pub WeighedFor : Instance → (plan : List Bool) (out : List ℕ) → Weighed → List ℕ → Type 0
+abbrev pub WeighedFor : Instance → (plan : List Bool) (out : List ℕ) → Verdict → List ℕ → Type 0
 WeighedFor G plan out r after = (M : Plan) → Shows G plan M → WeighedBy G M out r after
 
 -- ---- these are the desk's
-abbrev pub deskAnswer : Weighed → desk.Answer
-deskAnswer Strong = desk.strong
-deskAnswer (Popular v) = desk.popular v
-deskAnswer (Beaten v) = desk.beaten v
-
 module _ (G : Instance) (M : Plan) where
-  pub desk-answer : (v : Verdict) → deskAnswer (weighedAs G M v) ≡ desk.verdictAnswer G M (rivalOf G M) v
+  pub desk-answer : (v : verdict.Verdict) → verdictShown (weighedAs G M v) ≡ desk.verdictAnswer G M (rivalOf G M) v
   desk-answer verdict.strong = refl
   desk-answer verdict.popular = refl
   desk-answer verdict.beaten = refl
 
-  pub desk-written : (v : Verdict) (out : List ℕ) → desk.judge (rivalWritten G M v out) ≡ desk.verdictWritten G (rivalOf G M) v out
+  pub desk-written : (v : verdict.Verdict) (out : List ℕ) → desk.judge (rivalWritten G M v out) ≡ desk.verdictWritten G (rivalOf G M) v out
   desk-written verdict.strong out = refl
   desk-written verdict.popular out = refl
   desk-written verdict.beaten out = refl

@@ -1,6 +1,7 @@
 // The verdict on a plan of an accepted roster, with the vote against its rival and the rival's bytes.
 ghost use Prim.Native.Nat.{_≤_};
 ghost use lib.ListN.{length};
+ghost use Rattle.model.specs.Limits.{planSize, planLimit};
 ghost use Rattle.model.specs.Plans.{Plan};
 ghost use Rattle.model.specs.PlanFile.{edgesIn};
 ghost use Rattle.theory_instance.specs.Lawful.{Matching};
@@ -10,19 +11,12 @@ ghost use Rattle.instance.specs.Loaded.{Loaded};
 ghost use Rattle.rival_search.specs.SearchView.{Lists};
 ghost use Rattle.verdict.specs.Weighing.{Shows, WeighedFor};
 ghost use Rattle.verdict.specs.RivalWritten.{Voted};
+use answers::Verdict;
 use instance::Instance;
-use rival_verdict::Judgement;
-
-// Strong; popular or beaten, with the vote against the rival.
-pub enum Weighed {
-    Strong,
-    Popular(i16),
-    Beaten(i16),
-}
 
 // The rival's bytes written to the buffer's front, and the vote of the plan against it.
 pub(crate) fn voted(g: Instance, plan: &[bool; 1024], rival: &[bool; 1024], out: &mut [u8]) -> i16
-    requires { ⌜ Loaded g × Matching (shownBy g) (flag (now plan)) × Matching (shownBy g) (flag (now rival)) × (length (edgesIn (g .m) (flag (now rival))) ≤ 64) × (129 ≤ length (now out)) ⌝ }
+    requires { ⌜ Loaded g × Matching (shownBy g) (flag (now plan)) × Matching (shownBy g) (flag (now rival)) × (length (edgesIn (g .m) (flag (now rival))) ≤ planLimit) × (planSize ≤ length (now out)) ⌝ }
     ensures { λ r. ⌜ Voted (shownBy g) (now (plan .entry)) (now (rival .entry)) (now (out .entry)) r (now (out .exit)) ⌝ }
 {
     let sv = g.sv;
@@ -32,8 +26,8 @@ pub(crate) fn voted(g: Instance, plan: &[bool; 1024], rival: &[bool; 1024], out:
 }
 
 // A plan within the quotas, and the list of its edges.
-pub fn weigh(g: Instance, plan: &[bool; 1024], n: usize, es: &[u16; 64], out: &mut [u8]) -> Weighed
-    requires { ⌜ Loaded g × ((M : Plan) × Shows (shownBy g) (now plan) M) × Lists (g .m) (now plan) n (now es) × (129 ≤ length (now out)) ⌝ }
+pub fn weigh(g: Instance, plan: &[bool; 1024], n: usize, es: &[u16; 64], out: &mut [u8]) -> Verdict
+    requires { ⌜ Loaded g × ((M : Plan) × Shows (shownBy g) (now plan) M) × Lists (g .m) (now plan) n (now es) × (planSize ≤ length (now out)) ⌝ }
     ensures { λ r. ⌜ WeighedFor (shownBy g) (now (plan .entry)) (now (out .entry)) r (now (out .exit)) ⌝ }
 {
     let sv = g.sv;
@@ -43,11 +37,12 @@ pub fn weigh(g: Instance, plan: &[bool; 1024], n: usize, es: &[u16; 64], out: &m
     let bs = g.quota_s;
     let bt = g.quota_t;
     let j = rival_verdict::judge(g.m, &sv, &st, &rs, &rt, &bs, &bt, plan, n, es);
-    let v = j.judgement;
     let rival = j.rival;
-    match v {
-        Judgement::Strong => Weighed::Strong,
-        Judgement::Popular => Weighed::Popular(voted(g, plan, &rival, out)),
-        Judgement::Beaten => Weighed::Beaten(voted(g, plan, &rival, out)),
+    if j.beaten {
+        return Verdict::Beaten(voted(g, plan, &rival, out));
     }
+    if j.rivalled {
+        return Verdict::Popular(voted(g, plan, &rival, out));
+    }
+    Verdict::Strong
 }

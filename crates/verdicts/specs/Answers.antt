@@ -16,11 +16,9 @@ use Rattle.model.specs.Edges.{instanceOf}
 use Rattle.model.specs.Plans.{Plan, verdictOf}
 use Rattle.model.specs.PlanFile.{readPlan}
 use Rattle.answers.specs.GroupCases.{groupCase}
-use Rattle.verdict.specs.declared.Weighed.{Weighed}
-use Rattle.verdict.specs.declared.Weighed.the-variants as weighed
 use Rattle.verdict.specs.Weighing.{weighedAs, rivalWritten}
-use Rattle.verdicts.specs.declared.Verdict.{Verdict}
-use Rattle.verdicts.specs.declared.Verdict.the-variants.{Strong, Popular, Beaten, Refused}
+use Rattle.answers.specs.declared.Verdict.{Verdict}
+use Rattle.answers.specs.declared.Verdict.the-variants.{Strong, Popular, Beaten, Refused}
 
 -- ---- the plan to judge with its instance, or the refusal: of the plan, of the roster, 15
 abbrev pub withPlan : Instance → Reading Plan → Reading (Instance × Plan)
@@ -35,13 +33,8 @@ abbrev pub toJudge : (out : List ℕ) → Reading (Instance × Plan) → Reading
 toJudge out x = cond (ltb (length out) planSize) (turned 15) x
 
 -- ---- the answer and the buffer's bytes, for each case of that
-abbrev pub verdictCase : Weighed → Verdict
-verdictCase weighed.Strong = Strong
-verdictCase (weighed.Popular v) = Popular v
-verdictCase (weighed.Beaten v) = Beaten v
-
 abbrev pub replied : Reading (Instance × Plan) → Verdict
-replied (accepted (G, M)) = verdictCase (weighedAs G M (verdictOf G M))
+replied (accepted (G, M)) = weighedAs G M (verdictOf G M)
 replied (turned n) = Refused n (groupCase (groupOf n))
 
 abbrev pub left : Reading (Instance × Plan) → List ℕ → List ℕ

@@ -21,9 +21,9 @@ use Rattle.theory_files.specs.PlanFiles.{plan-read-within}
 use Rattle.arrays.specs.ArrayInstance.{at}
 use Rattle.answers.specs.declared.Group.{Group}
 use Rattle.answers.specs.GroupCases.{groupShown, groupCase, shows-case}
-use Rattle.roster.specs.declared.Answer.{Answer}
-use Rattle.roster.specs.declared.Answer.the-variants as answer
-use Rattle.roster.specs.ReadAnswer.{shown, shown-refused}
+use Rattle.answers.specs.declared.FileAnswer.{FileAnswer}
+use Rattle.answers.specs.declared.FileAnswer.the-variants as answer
+use Rattle.answers.specs.FileCases.{fileCase, case-refused}
 use Rattle.instance.specs.declared.Instance.{Instance}
 use Rattle.instance.specs.Decoded.{shownBy, Decoded}
 use Rattle.plan_reader.specs.declared.PlanAnswer.{PlanAnswer}
@@ -32,11 +32,10 @@ use Rattle.plan_reader.specs.declared.PlanRead.{PlanRead}
 use Rattle.plan_reader.specs.Answers.{answerOf, ReadAs, ReadFor, accepted-read, refused-read}
 use Rattle.rival_search.specs.SearchView.{Lists}
 use Rattle.instance.specs.Accepted.{RosterAccepted}
-use Rattle.verdict.specs.declared.Weighed.{Weighed}
 use Rattle.verdict.specs.Weighing.{Shows, WeighedFor}
-use Rattle.verdicts.specs.declared.Verdict.{Verdict}
-use Rattle.verdicts.specs.declared.Verdict.the-variants.{Refused}
-use Rattle.verdicts.specs.Answers.{withPlan, planAsked, toJudge, verdictCase, replied, left, JudgedBy, JudgedFor, VerdictGiven}
+use Rattle.answers.specs.declared.Verdict.{Verdict}
+use Rattle.answers.specs.declared.Verdict.the-variants.{Refused}
+use Rattle.verdicts.specs.Answers.{withPlan, planAsked, toJudge, replied, left, JudgedBy, JudgedFor, VerdictGiven}
 
 -- the first k entries of a list, by their places
 shift : (x : ℕ) (xs : List ℕ) (i k : ℕ) → map (at (x ∷ xs)) (range (suc i) k) ≡ map (at xs) (range i k)
@@ -79,11 +78,11 @@ module _ (g : Instance) (file : List ℕ) (r : PlanRead) (A : ReadFor (g .m) (g 
         let z : withPlan G (readPlan G file) ≡ turned n = ap (withPlan G) (refused-read here q) in
         for-roster (record { reply = ap (Refused n) (shows-case k e) ∙ sym (ap replied z); buffer = sym (ap (λ x. left x out) z) })
 
-    pub judged-weighed : {n : ℕ} {w : Weighed} {v : Verdict} {after : List ℕ} → r .answer ≡ plan.Accepted n → T (isBytes file) → WeighedFor G (r .chosen) out w after → v ≡ verdictCase w → JudgedFor roster file out v after
-    judged-weighed q isB W e = given (accepted-read here q) (λ (M, a, s).
+    pub judged-weighed : {n : ℕ} {v : Verdict} {after : List ℕ} → r .answer ≡ plan.Accepted n → T (isBytes file) → WeighedFor G (r .chosen) out v after → JudgedFor roster file out v after
+    judged-weighed q isB W = given (accepted-read here q) (λ (M, a, s).
         let z : withPlan G (readPlan G file) ≡ accepted (G, M) = ap (withPlan G) a in
         let b = W M (plan-read-within G file M isB a, λ d. ap (λ f. f d) s) in
-        for-roster (record { reply = e ∙ ap verdictCase (b .reply) ∙ sym (ap replied z); buffer = b .buffer ∙ sym (ap (λ x. left x out) z) }))
+        for-roster (record { reply = b .reply ∙ sym (ap replied z); buffer = b .buffer ∙ sym (ap (λ x. left x out) z) }))
 
 -- ---- the buffer first, then the roster
 module _ (roster file out : List ℕ) where
@@ -96,15 +95,15 @@ module _ (roster file out : List ℕ) where
     asked : toJudge out (planAsked (readRoster roster) file) ≡ planAsked (readRoster roster) file
     asked = ap (λ (t : Bool). cond t (turned 15) (planAsked (readRoster roster) file)) (le-ltb (length out) planSize h)
 
-    abbrev handed : Answer → Verdict
+    abbrev handed : FileAnswer → Verdict
     handed answer.Accepted = Refused 0 (groupCase (groupOf 0))
     handed (answer.Refused n k) = Refused n k
 
-    pub roster-refused : {n : ℕ} {k : Group} → answer.Refused n k ≡ shown (readRoster roster) → VerdictGiven roster file out (Refused n k) out
+    pub roster-refused : {n : ℕ} {k : Group} → answer.Refused n k ≡ fileCase (readRoster roster) → VerdictGiven roster file out (Refused n k) out
     roster-refused {n} {k} e =
-        let t = shown-refused (readRoster roster) e in
+        let t = case-refused (readRoster roster) e in
         let z : toJudge out (planAsked (readRoster roster) file) ≡ turned n = asked ∙ ap (λ x. planAsked x file) t in
-        record { reply = ap handed (e ∙ ap shown t) ∙ sym (ap replied z); buffer = sym (ap (λ x. left x out) z) }
+        record { reply = ap handed (e ∙ ap fileCase t) ∙ sym (ap replied z); buffer = sym (ap (λ x. left x out) z) }
 
     pub roster-judged : {v : Verdict} {after : List ℕ} → RosterAccepted roster → JudgedFor roster file out v after → VerdictGiven roster file out v after
     roster-judged {v} {after} (R, a) J = subst (λ x. JudgedBy x out v after) (sym (asked ∙ ap (λ x. planAsked x file) a)) (J R a)

@@ -4,30 +4,11 @@ ghost use mathlib.Core.Path.{_≡_};
 ghost use Prim.Native.Nat.{_≤_};
 ghost use lib.ListN.{length};
 ghost use Rattle.instance.specs.Accepted.{RosterAccepted};
-ghost use Rattle.verdicts.specs.Answers.{verdictCase, JudgedFor, VerdictGiven};
-use answers::Group;
+ghost use Rattle.verdicts.specs.Answers.{JudgedFor, VerdictGiven};
+use answers::FileAnswer;
+use answers::Verdict;
 use limits::PLAN_SIZE;
 use plan_reader::PlanAnswer;
-use roster::Answer;
-use verdict::Weighed;
-
-// Strong; popular or beaten, with the vote of the plan against the rival that is written; or a refusal, with its number and its group.
-pub enum Verdict {
-    Strong,
-    Popular(i16),
-    Beaten(i16),
-    Refused(u8, Group),
-}
-
-pub(crate) fn case_of(w: Weighed) -> Verdict
-    ensures { λ r. ⌜ r ≡ verdictCase w ⌝ }
-{
-    match w {
-        Weighed::Strong => Verdict::Strong,
-        Weighed::Popular(v) => Verdict::Popular(v),
-        Weighed::Beaten(v) => Verdict::Beaten(v),
-    }
-}
 
 // A plan file against an accepted roster file.
 pub(crate) fn judged(roster: &[u8], file: &[u8], rival: &mut [u8]) -> Verdict
@@ -46,8 +27,7 @@ pub(crate) fn judged(roster: &[u8], file: &[u8], rival: &mut [u8]) -> Verdict
         PlanAnswer::Accepted(n) => {
             let chosen = read.chosen;
             let edges = read.edges;
-            let w = verdict::weigh(g, &chosen, n, &edges, rival);
-            case_of(w)
+            verdict::weigh(g, &chosen, n, &edges, rival)
         }
     }
 }
@@ -61,7 +41,7 @@ pub fn judge(roster: &[u8], file: &[u8], rival: &mut [u8]) -> Verdict
     }
     let a = roster::read_roster(roster);
     match a {
-        Answer::Refused(number, group) => Verdict::Refused(number, group),
-        Answer::Accepted => judged(roster, file, rival),
+        FileAnswer::Refused(number, group) => Verdict::Refused(number, group),
+        FileAnswer::Accepted => judged(roster, file, rival),
     }
 }

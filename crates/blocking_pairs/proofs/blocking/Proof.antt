@@ -1,6 +1,6 @@
 -- `blocking_pairs::blocking` meets its contract: the roster is judged first. Assumes nothing.
 use mathlib.Core.Path.{sym, _∙_}
-use Rattle.roster.specs.ReadAnswer.{shown-accepted}
+use Rattle.answers.specs.FileCases.{case-accepted}
 use Rattle.model.specs.RosterFile.{readRoster}
 use Rattle.blocking_pairs.specs.Laws.{reply-refused, reply-judged}
 use borrow.Author.Needs.{needs}
@@ -25,7 +25,7 @@ enum-told c = search needs
 
 -- src/lib.rt:68:29
 judged-requires : tie.Need-judged-requires
-judged-requires c κs = let a = c .before .before .before .before .before .args in shown-accepted (readRoster (a .roster .now)) (sym (c .enum-told .given .1) ∙ c .before .before .read-roster .ensures)
+judged-requires c κs = let a = c .before .before .before .before .before .args in case-accepted (readRoster (a .roster .now)) (sym (c .enum-told .given .1) ∙ c .before .before .read-roster .ensures)
 
 -- src/lib.rt:62:1
 returns : tie.Need-returns
@@ -35,7 +35,7 @@ returns c = let a = c .before .before .before .before .before .before .args in r
 returns-2 : tie.Need-returns-2
 returns-2 c =
     let a = c .before .before .before .before .before .before .args in
-    reply-judged (a .roster .now) (a .file .now) (shown-accepted (readRoster (a .roster .now)) (sym (c .before .enum-told .given .1) ∙ c .before .before .before .read-roster .ensures)) (c .judged .ensures)
+    reply-judged (a .roster .now) (a .file .now) (case-accepted (readRoster (a .roster .now)) (sym (c .before .enum-told .given .1) ∙ c .before .before .before .read-roster .ensures)) (c .judged .ensures)
 
 pub blocking-spec : {M : Type 1} → statement M
 blocking-spec =

@@ -3,7 +3,7 @@ use mathlib.Core.Path.{ap₂, _∙_}
 use mir.Syntax.{w16}
 use mir.ValLaws.{toZ-ofZ}
 use Rattle.model.specs.Compare.{winnerOf}
-use Rattle.compare.specs.declared.Comparison.the-variants.{Votes}
+use Rattle.answers.specs.declared.Comparison.the-variants.{Votes}
 use Rattle.compare.specs.Answers.{winnerCase}
 use Rattle.vote_of_flags.specs.Votable.{side-arrays, light}
 use Rattle.compare.specs.Laws.{votes-are}

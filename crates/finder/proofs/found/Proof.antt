@@ -3,7 +3,7 @@ use mathlib.Core.Path.{sym, _∙_}
 use lib.ListN.{length}
 use lib.Dec.{ltb}
 use borrow.Author.Needs.{needs}
-use Rattle.roster.specs.ReadAnswer.{shown-accepted}
+use Rattle.answers.specs.FileCases.{case-accepted}
 use Rattle.finder.specs.Endings.{short-first, short-second, none-short, long-first, long-enough, out-13, out-15, out-found}
 use Rattle.finder.proofs.found.Statement.{statement}
 use Rattle.finder.proofs.found.Tie as tie
@@ -27,7 +27,7 @@ returns : tie.Need-returns
 returns c =
     let a = c .before .before .before .before .before .before .before .before .before .args in
     out-15 (a .roster .now) (a .room) (a .left .now) (a .plan .now) (a .rival .now) (c .refused2 .result)
-    (shown-accepted _ (sym (c .before .before .enum-told2 .given .1) ∙ c .before .before .before .before .read-roster .ensures))
+    (case-accepted _ (sym (c .before .before .enum-told2 .given .1) ∙ c .before .before .before .before .read-roster .ensures))
     (short-first (ltb (a .room) 1024) (ltb (length (a .left .now)) 2048) (ltb (length (a .plan .now)) 129) (ltb (length (a .rival .now)) 129) (c .before .if1 .taken)) (c .refused2 .ensures)
 
 refused-requires-3 : tie.Need-refused-requires-3
@@ -37,13 +37,13 @@ returns-2 : tie.Need-returns-2
 returns-2 c =
     let a = c .before .before .before .before .before .before .before .before .before .before .args in
     out-15 (a .roster .now) (a .room) (a .left .now) (a .plan .now) (a .rival .now) (c .refused3 .result)
-    (shown-accepted _ (sym (c .before .before .before .enum-told2 .given .1) ∙ c .before .before .before .before .before .read-roster .ensures))
+    (case-accepted _ (sym (c .before .before .before .enum-told2 .given .1) ∙ c .before .before .before .before .before .read-roster .ensures))
     (short-second (ltb (a .room) 1024) (ltb (length (a .left .now)) 2048) (ltb (length (a .plan .now)) 129) (ltb (length (a .rival .now)) 129) (c .before .before .if1 .left) (c .before .if2 .taken)) (c .refused3 .ensures)
 
 worked-requires : tie.Need-worked-requires
 worked-requires c κs =
     let a = c .before .before .before .before .before .before .before .before .before .before .before .before .args in (
-      shown-accepted _ (sym (c .before .before .before .before .before .enum-told2 .given .1) ∙ c .before .before .before .before .before .before .before .read-roster .ensures),
+      case-accepted _ (sym (c .before .before .before .before .before .enum-told2 .given .1) ∙ c .before .before .before .before .before .before .before .read-roster .ensures),
       long-enough (ltb (a .room) 1024) (length (a .left .now)) 2048 (c .before .before .before .before .if1 .left),
       long-first (length (a .plan .now)) 129 (ltb (length (a .rival .now)) 129) (c .before .before .before .if2 .left),
       long-enough (ltb (length (a .plan .now)) 129) (length (a .rival .now)) 129 (c .before .before .before .if2 .left),
@@ -68,7 +68,7 @@ returns-4 : tie.Need-returns-4
 returns-4 c =
     let a = c .before .before .before .before .before .before .before .before .before .before .before .before .before .before .before .before .before .before .before .args in
     out-found (a .roster .now) (a .room) (a .left .now) (a .plan .now) (a .rival .now) (c .before .before .before .before .before .before .worked .result) _ _ _
-    (shown-accepted _ (sym (c .before .before .before .before .before .before .before .before .before .before .before .before .enum-told2 .given .1) ∙ c .before .before .before .before .before .before .before .before .before .before .before .before .before .before .read-roster .ensures))
+    (case-accepted _ (sym (c .before .before .before .before .before .before .before .before .before .before .before .before .enum-told2 .given .1) ∙ c .before .before .before .before .before .before .before .before .before .before .before .before .before .before .read-roster .ensures))
     (none-short (ltb (a .room) 1024) (ltb (length (a .left .now)) 2048) (ltb (length (a .plan .now)) 129) (ltb (length (a .rival .now)) 129) (c .before .before .before .before .before .before .before .before .before .before .before .if1 .left) (c .before .before .before .before .before .before .before .before .before .before .if2 .left)) (c .before .before .before .before .before .before .worked .ensures)
 
 pub found-spec : {M : Type 1} → statement M

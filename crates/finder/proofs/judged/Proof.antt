@@ -36,6 +36,9 @@ enum-known-w c = search needs
 enum-known-w-2 : tie.Need-enum-known-w-2
 enum-known-w-2 c = search needs
 
+enum-known-w-3 : tie.Need-enum-known-w-3
+enum-known-w-3 c = search needs
+
 same-length : tie.Need-same-length
 same-length c = search needs
 
@@ -81,6 +84,21 @@ returns-3 c =
     (plan-onto (a .g) (a .fixed .now) (a .plan .now) _ _ (b .pre .2) (c .before .before .before .before .before .before .before .before .before .before .write-plan .ensures) M (S .1))
     (ap (λ z. says.None (a .steps) (kind.Rivalled z)) (toZ-ofZ w16 (c .before .w2 .given .0 .0) (sfits-of (c .known-told2 .given .0 .1))) ∙ ap (answerOn (a .steps)) (sym (c .before .w2 .given .1)))
 
+same-length-7 : tie.Need-same-length-7
+same-length-7 c = search needs
+
+same-length-8 : tie.Need-same-length-8
+same-length-8 c = search needs
+
+returns-4 : tie.Need-returns-4
+returns-4 c =
+    let b = c .before .before .before .before .before .before .before .before .before .before .before .before .before .before .before .before .before .before .before .before in
+    let a = b .args in
+    let w = c .before .before .before .before .before .weigh in
+    λ M S l. wrote-judged _ M (a .steps) l (a .plan .now) (a .rival .now) _ _ (w .result) (w .ensures M S)
+    (plan-onto (a .g) (a .fixed .now) (a .plan .now) _ _ (b .pre .2) (c .before .before .before .before .before .before .before .before .before .before .write-plan .ensures) M (S .1))
+    (ap (answerOn (a .steps)) (sym (c .before .w3 .given .1)))
+
 pub judged-spec : {M : Type 1} → statement M
 judged-spec =
     tie.close
@@ -91,6 +109,7 @@ judged-spec =
     enum-told
     enum-known-w
     enum-known-w-2
+    enum-known-w-3
     same-length
     same-length-2
     returns
@@ -99,4 +118,7 @@ judged-spec =
     returns-2
     same-length-5
     same-length-6
-    returns-3)
+    returns-3
+    same-length-7
+    same-length-8
+    returns-4)

@@ -2,7 +2,7 @@
 use mathlib.Core.Path.{sym, _∙_}
 use borrow.Author.Needs.{needs}
 use Rattle.roster_reading.specs.Place.{bytes-of}
-use Rattle.roster.specs.ReadAnswer.{shown-accepted}
+use Rattle.answers.specs.FileCases.{case-accepted}
 use Rattle.program.specs.BuffersPrinted.{prints, refused-handed}
 use Rattle.program.proofs.answer.Statement.{statement}
 use Rattle.program.proofs.answer.Tie as tie
@@ -41,7 +41,7 @@ enum-told c = search needs
 
 -- src/lib.rt:40:29
 worked-requires : tie.Need-worked-requires
-worked-requires c κs = shown-accepted _ (sym (c .before .enum-told .given .1) ∙ c .before .before .before .read-roster .ensures)
+worked-requires c κs = case-accepted _ (sym (c .before .enum-told .given .1) ∙ c .before .before .before .read-roster .ensures)
 
 -- src/lib.rt:24:1
 returns : tie.Need-returns

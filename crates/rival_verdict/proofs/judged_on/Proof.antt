@@ -1,13 +1,13 @@
 -- The search, what it found read back, and the edges exchanged.
 use Prim.Native.Nat.{ℕ, _<_}
 use native.Mathlib.Omega.{arith}
-use mathlib.Core.Path.{_≡_}
+use mathlib.Core.Path.{_≡_, ap}
 use borrow.Author.Needs.{needs}
 use Rattle.arrays.specs.ArrayInstance.{at}
 use Rattle.rival_tables.specs.Filled.{cell}
 use Rattle.rival_search.specs.SearchView.{arcCell, arc-small, listed-low}
 use Rattle.rival_search.specs.TwoThresholds.{searching-bounded}
-use Rattle.rival_verdict.specs.Judged.{verdictFor}
+use Rattle.rival_verdict.specs.Judged.{isSomething, verdictFor}
 use Rattle.rival_verdict.specs.RivalOfArrays.{found-shown}
 use Rattle.rival_verdict.proofs.judged_on.Statement.{statement}
 use Rattle.rival_verdict.proofs.judged_on.Tie as tie
@@ -20,8 +20,8 @@ searched-requires c κs =
     let s = c .before .before in
     (s .pre .0, s .pre .1, s .pre .2, s .pre .3, c .before .arcs .ensures)
 
-weigh-requires : tie.Need-weigh-requires
-weigh-requires c κs = search needs
+is-something-requires : tie.Need-is-something-requires
+is-something-requires c κs = search needs
 
 swap-requires : tie.Need-swap-requires
 swap-requires c κs =
@@ -48,8 +48,10 @@ returns c =
     let a = s .args in
     let h = c .before .before .before .before .before .before .before .before .searched in
     let w = c .before .before .before .before .before .swap in
+    let t = c .before .before .before .before .before .before .before .is-something in
     λ quotaS quotaT roomyS roomyT. found-shown (a .m) (a .sv .now) (a .st .now) (a .rs .now) (a .rt .now) quotaS quotaT (a .plan .now) (a .n) (a .es .now) (a .ps .now) (a .pt .now) (a .qs .now) (a .qt .now) (a .fs .now) (a .ft .now) (c .before .before .before .before .before .before .before .before .before .before .arcs .result) (h .result .below) (h .result .found)
-    (s .pre .1) (s .pre .2) (s .pre .3) (s .pre .4) (s .pre .5) roomyS roomyT (c .before .before .before .before .before .before .before .before .before .before .arcs .ensures) (h .ensures) (verdictFor (c .before .before .before .before .before .before .before .weigh .result)) (w .result .gone) (w .result .come) (c .exchanged .result) (c .before .before .before .before .before .before .before .weigh .ensures) (w .ensures .0) (w .ensures .1) (c .exchanged .ensures)
+    (s .pre .1) (s .pre .2) (s .pre .3) (s .pre .4) (s .pre .5) roomyS roomyT (c .before .before .before .before .before .before .before .before .before .before .arcs .ensures) (h .ensures) (verdictFor (h .result .below) (t .result)) (w .result .gone) (w .result .come) (c .exchanged .result)
+    (ap (verdictFor (h .result .below)) (t .ensures)) (w .ensures .0) (w .ensures .1) (c .exchanged .ensures)
 
 pub judged-on-spec : {M : Type 1} → statement M
-judged-on-spec = tie.close (tie.spec arcs-requires searched-requires weigh-requires swap-requires exchanged-requires returns)
+judged-on-spec = tie.close (tie.spec arcs-requires searched-requires is-something-requires swap-requires exchanged-requires returns)

@@ -4,8 +4,8 @@ use borrow.Author.Needs.{needs}
 use Rattle.model.specs.RosterFile.{readRoster}
 use Rattle.answers.specs.GroupCases.{shows-case}
 use Rattle.roster_reading.specs.Whole.{closed-accepted, closed-turned}
-use Rattle.roster.specs.declared.Answer.the-variants.{Refused}
-use Rattle.roster.specs.ReadAnswer.{shown}
+use Rattle.answers.specs.declared.FileAnswer.the-variants.{Refused}
+use Rattle.answers.specs.FileCases.{fileCase}
 use Rattle.roster.proofs.read_roster.Statement.{statement}
 use Rattle.roster.proofs.read_roster.Tie as tie
 
@@ -22,13 +22,13 @@ group-of-requires : tie.Need-group-of-requires
 group-of-requires c κs = search needs
 
 returns : tie.Need-returns
-returns c = let f = c .before .before .before .before .args .file .now in sym (closed-accepted f (readRoster f) shown (λ R. refl) (sym (c .enum-told .given .1) ∙ c .before .before .roster-file .ensures))
+returns c = let f = c .before .before .before .before .args .file .now in sym (closed-accepted f (readRoster f) fileCase (λ R. refl) (sym (c .enum-told .given .1) ∙ c .before .before .roster-file .ensures))
 
 returns-2 : tie.Need-returns-2
 returns-2 c =
     let f = c .before .before .before .before .before .before .args .file .now in
     let n = c .before .before .s .given .0 .0 in
-    ap (Refused n) (shows-case (c .group-of .result) (c .group-of .ensures)) ∙ sym (ap shown (closed-turned f (readRoster f) (sym (c .before .before .s .given .1) ∙ c .before .before .before .before .roster-file .ensures)))
+    ap (Refused n) (shows-case (c .group-of .result) (c .group-of .ensures)) ∙ sym (ap fileCase (closed-turned f (readRoster f) (sym (c .before .before .s .given .1) ∙ c .before .before .before .before .roster-file .ensures)))
 
 pub read-roster-spec : {M : Type 1} → statement M
 read-roster-spec =

@@ -40,9 +40,6 @@ weigh-requires c κs =
     let isF : T (isBytes p) = bytes-of p (λ k. c .before .before .before .before .before .before .before .before .before .before .before .before .before .before .before .before .before .before .before .shared-slice-known2 .given k) in
     (loaded f (i .result) isB (i .ensures) (s .pre .0 .0) (s .pre .0 .1), read-shows (i .result) p (r .result) (r .ensures) (c .before .before .before .before .before .before .a2 .given .1) isF, read-lists (i .result) p (r .result) (r .ensures) (c .before .before .before .before .before .before .a2 .given .1), s .pre .1)
 
-case-of-requires : tie.Need-case-of-requires
-case-of-requires c κs = search needs
-
 returns : tie.Need-returns
 returns c =
     let a = c .before .before .before .before .before .before .before .before .before .before .before .before .before .before .before .before .before .args in
@@ -55,13 +52,13 @@ same-length c = search needs
 
 returns-2 : tie.Need-returns-2
 returns-2 c =
-    let a = c .before .before .before .before .before .before .before .before .before .before .before .before .before .before .before .before .before .before .before .before .before .before .before .before .before .args in
-    let i = c .before .before .before .before .before .before .before .before .before .before .before .before .before .before .before .before .before .before .before .before .before .instance-of in
-    let r = c .before .before .before .before .before .before .before .before .before .before .before .before .read-plan in
-    let isF : T (isBytes (a .file .now)) = bytes-of (a .file .now) (λ k. c .before .before .before .before .before .before .before .before .before .before .before .before .before .before .before .before .before .before .before .before .before .before .before .shared-slice-known2 .given k) in
-    judged-weighed (i .result) (a .file .now) (r .result) (r .ensures) (a .roster .now) (a .rival .now) (i .ensures) (c .before .before .before .before .before .before .before .before .before .before .a2 .given .1) isF (c .before .before .before .weigh .ensures) (c .case-of .ensures)
+    let a = c .before .before .before .before .before .before .before .before .before .before .before .before .before .before .before .before .before .before .before .before .before .before .before .before .args in
+    let i = c .before .before .before .before .before .before .before .before .before .before .before .before .before .before .before .before .before .before .before .before .instance-of in
+    let r = c .before .before .before .before .before .before .before .before .before .before .before .read-plan in
+    let isF : T (isBytes (a .file .now)) = bytes-of (a .file .now) (λ k. c .before .before .before .before .before .before .before .before .before .before .before .before .before .before .before .before .before .before .before .before .before .before .shared-slice-known2 .given k) in
+    judged-weighed (i .result) (a .file .now) (r .result) (r .ensures) (a .roster .now) (a .rival .now) (i .ensures) (c .before .before .before .before .before .before .before .before .before .a2 .given .1) isF (c .before .before .weigh .ensures)
 
 pub judged-spec : {M : Type 1} → statement M
 judged-spec =
     tie.close
-    (tie.spec instance-of-requires read-plan-requires enum-known-a group-of-requires enum-known-a-2 weigh-requires case-of-requires returns same-length returns-2)
+    (tie.spec instance-of-requires read-plan-requires enum-known-a group-of-requires enum-known-a-2 weigh-requires returns same-length returns-2)

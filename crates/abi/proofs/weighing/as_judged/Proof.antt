@@ -4,7 +4,7 @@ use lib.IntN.{ℤ}
 use mir.Syntax.{w16}
 use mir.ValLaws.{toZ-ofZ}
 use borrow.Author.Needs.{needs, sfits-of}
-use Rattle.verdicts.specs.declared.Verdict.the-variants as verdict
+use Rattle.answers.specs.declared.Verdict.the-variants as verdict
 use Rattle.abi.specs.Weighing.{judgedNumbers}
 use Rattle.abi.proofs.weighing.as_judged.Statement.{statement}
 use Rattle.abi.proofs.weighing.as_judged.Tie as tie

@@ -3,7 +3,7 @@ use mathlib.Core.Path.{_≡_, sym, ap, _∙_}
 use lib.ListN.{length}
 use Rattle.model.specs.Limits.{rosterSize}
 use Rattle.model.specs.RosterFile.{readRoster}
-use Rattle.roster.specs.ReadAnswer.{shown}
+use Rattle.answers.specs.FileCases.{fileCase}
 use Rattle.desk.specs.Cut.{cut-fits, cut-length, cut-front}
 use Rattle.desk.specs.Laws.{roster-there, roster-missing}
 use borrow.Author.Needs.{needs}
@@ -45,14 +45,14 @@ returns : tie.Need-returns
 returns c =
     let d = c .before .before .before .before .before .before .args .desk in
     let full-roster : length (d .roster) ≡ rosterSize = search needs in
-    roster-there d (sym (c .enum-told .given .1) ∙ c .before .before .read-roster .ensures ∙ ap (λ f. shown (readRoster f)) (cut-front (d .roster) (d .«roster_len») rosterSize full-roster (c .before .before .before .before .clamped .ensures)))
+    roster-there d (sym (c .enum-told .given .1) ∙ c .before .before .read-roster .ensures ∙ ap (λ f. fileCase (readRoster f)) (cut-front (d .roster) (d .«roster_len») rosterSize full-roster (c .before .before .before .before .clamped .ensures)))
 
 -- src/state.rt:13:1
 returns-2 : tie.Need-returns-2
 returns-2 c =
     let d = c .before .before .before .before .before .before .args .desk in
     let full-roster : length (d .roster) ≡ rosterSize = search needs in
-    roster-missing d (sym (c .enum-told2 .given .1) ∙ c .before .before .read-roster .ensures ∙ ap (λ f. shown (readRoster f)) (cut-front (d .roster) (d .«roster_len») rosterSize full-roster (c .before .before .before .before .clamped .ensures)))
+    roster-missing d (sym (c .enum-told2 .given .1) ∙ c .before .before .read-roster .ensures ∙ ap (λ f. fileCase (readRoster f)) (cut-front (d .roster) (d .«roster_len») rosterSize full-roster (c .before .before .before .before .clamped .ensures)))
 
 pub no-roster-spec : {M : Type 1} → statement M
 no-roster-spec =

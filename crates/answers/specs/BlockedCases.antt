@@ -1,0 +1,10 @@
+-- What each case of the code's answer says, in document 01's words: "yes with some such pair, or no".
+use Rattle.model.specs.Desk as model
+use Rattle.answers.specs.GroupCases.{groupShown}
+use Rattle.answers.specs.declared.Blocked.{Blocked}
+use Rattle.answers.specs.declared.Blocked.the-variants.{Pair, Unblocked, Refused}
+
+abbrev pub blockedShown : Blocked → model.Answer
+blockedShown (Pair s t) = model.blockedBy s t
+blockedShown Unblocked = model.unblocked
+blockedShown (Refused n g) = model.refused n (groupShown g)

@@ -1,0 +1,43 @@
+-- What each case of the code's answer says, in document 01's words: the comparison of two plan files. The winner's part, or the empty one,
+-- belongs to the answer: it is a part of the files compared.
+use Prim.Native.Nat.{ℕ}
+use mathlib.Core.Path.{_≡_, refl}
+use mathlib.Core.List.{List}
+use Rattle.model.specs.Refusal.{groupOf}
+use Rattle.model.specs.Compare as compare
+use Rattle.model.specs.Compare.{Part, winnerPart}
+use Rattle.model.specs.Desk as model
+use Rattle.answers.specs.GroupCases.{groupShown, groupCase}
+use Rattle.answers.specs.declared.Winner.{Winner}
+use Rattle.answers.specs.declared.Winner.the-variants.{First, Second, Neither}
+use Rattle.answers.specs.declared.Comparison.{Comparison}
+use Rattle.answers.specs.declared.Comparison.the-variants.{Votes, Refused}
+
+abbrev pub winnerShown : Winner → compare.Winner
+winnerShown First = compare.first
+winnerShown Second = compare.second
+winnerShown Neither = compare.neither
+
+-- the part that an answer names; "with no winner, and on a refusal, the part is empty, taken from the first file"
+abbrev pub partShown : Comparison → (firstBytes secondBytes : List ℕ) → Part
+partShown (Votes v w x) a b = winnerPart (winnerShown x) a b
+partShown (Refused n g) a b = winnerPart compare.neither a b
+
+abbrev pub comparisonShown : (firstBytes secondBytes : List ℕ) → Comparison → model.Answer
+comparisonShown a b (Votes v w x) = model.votes v w (winnerShown x) (winnerPart (winnerShown x) a b)
+comparisonShown a b (Refused n g) = model.refusedPart n (groupShown g) (winnerPart compare.neither a b)
+
+-- the case for the model's comparison
+abbrev pub winnerCase : compare.Winner → Winner
+winnerCase compare.first = First
+winnerCase compare.second = Second
+winnerCase compare.neither = Neither
+
+abbrev pub comparisonCase : compare.Comparison → Comparison
+comparisonCase (compare.votes v w x) = Votes v w (winnerCase x)
+comparisonCase (compare.refused n) = Refused n (groupCase (groupOf n))
+
+pub winner-shown : (w : compare.Winner) → winnerShown (winnerCase w) ≡ w
+winner-shown compare.first = refl
+winner-shown compare.second = refl
+winner-shown compare.neither = refl

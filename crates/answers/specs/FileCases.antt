@@ -1,0 +1,45 @@
+-- What each case of the code's answer says, in document 01's words: a file that is read, or loaded. "A roster is accepted if its bytes, when
+-- read, meet no refusal"; "A refusal returns only its number and its group".
+use Prim.Native.Nat.{ℕ}
+use mathlib.Core.Path.{_≡_, refl, sym, ap, subst}
+use mathlib.Core.Bool.{Bool, true, false}
+use lib.Dec.{T}
+use Rattle.model.specs.Reading.{Reading, accepted, turned}
+use Rattle.model.specs.Refusal.{groupOf}
+use Rattle.model.specs.Desk as model
+use Rattle.answers.specs.GroupCases.{groupShown, groupCase, shown-case}
+use Rattle.answers.specs.declared.Group.{Group}
+use Rattle.answers.specs.declared.FileAnswer.{FileAnswer}
+use Rattle.answers.specs.declared.FileAnswer.the-variants.{Accepted, Refused}
+
+-- loaded, or the refusal
+abbrev pub fileShown : FileAnswer → model.Answer
+fileShown Accepted = model.loaded
+fileShown (Refused n g) = model.refused n (groupShown g)
+
+-- the case for what a file's bytes are read to
+abbrev pub fileCase : {A : Type 0} → Reading A → FileAnswer
+fileCase (accepted a) = Accepted
+fileCase (turned n) = Refused n (groupCase (groupOf n))
+
+-- ---- and back: what an answer says of the reading
+abbrev isAccepted : FileAnswer → Bool
+isAccepted Accepted = true
+isAccepted (Refused n g) = false
+
+abbrev numberOf : FileAnswer → ℕ
+numberOf Accepted = 0
+numberOf (Refused n g) = n
+
+module _ {A : Type 0} where
+  pub case-accepted : (x : Reading A) → Accepted ≡ fileCase x → (a : A) × (x ≡ accepted a)
+  case-accepted (accepted a) e = (a, refl)
+  case-accepted (turned n) e = absurd (subst (λ b. T (isAccepted b)) e tt)
+
+  pub case-refused : (x : Reading A) {n : ℕ} {g : Group} → Refused n g ≡ fileCase x → x ≡ turned n
+  case-refused (accepted a) e = absurd (subst (λ b. T (isAccepted b)) (sym e) tt)
+  case-refused (turned m) e = ap (λ b. turned (numberOf b)) (sym e)
+
+-- a refusal's case shows it
+pub refusal-shown : (n : ℕ) → fileShown (Refused n (groupCase (groupOf n))) ≡ model.refusal n
+refusal-shown n = ap (model.refused n) (shown-case (groupOf n))

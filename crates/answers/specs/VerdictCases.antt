@@ -1,0 +1,11 @@
+-- What each case of the code's answer says, in document 01's words: the verdict on a plan, with the vote against the rival.
+use Rattle.model.specs.Desk as model
+use Rattle.answers.specs.GroupCases.{groupShown}
+use Rattle.answers.specs.declared.Verdict.{Verdict}
+use Rattle.answers.specs.declared.Verdict.the-variants.{Strong, Popular, Beaten, Refused}
+
+abbrev pub verdictShown : Verdict → model.Answer
+verdictShown Strong = model.strong
+verdictShown (Popular v) = model.popular v
+verdictShown (Beaten v) = model.beaten v
+verdictShown (Refused n g) = model.refused n (groupShown g)
