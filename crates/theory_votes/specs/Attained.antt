@@ -14,8 +14,8 @@ use Rattle.lists.specs.Sum.{_∈_, sum, sum-zero, sum-zeros, sum-append, sum-ma
 use Rattle.lists.specs.Keep.{keep, ∈-keep, sum-keep-add}
 use Rattle.lists.specs.Least.{leastOf-∈}
 use Rattle.model.specs.Instance.{Side, deg}
-use Rattle.model.specs.Vote.{Place, edge, empty, same, here, places, Pairing, pairings, faces, lost, gained, valid}
-use Rattle.theory_votes.specs.Score.{mark, placesAt, validAt, score}
+use Rattle.model.specs.Vote.{Place, edge, empty, same, here, places, Pairing, pairings, faces, pairFacesEmpty, emptyFacesPair, valid, placesAt, validPairings}
+use Rattle.theory_votes.specs.Score.{mark, score}
 use Rattle.theory_votes.specs.Places.{times, left, right, here-deg, times-edge, times-empty, node-places}
 use Rattle.theory_votes.specs.Fair.{faces-self, faces-apart, Fair, valid-fair, fair-valid}
 
@@ -30,8 +30,8 @@ record Sizes (xs ys : List ℕ) : Type 0 where
   size : length (match xs ys) ≡ max (length xs) (length ys)
   no-left : left empty (match xs ys) ≡ length ys - length xs
   no-right : right empty (match xs ys) ≡ length xs - length ys
-  losses : sum (λ c. bit (lost c)) (match xs ys) ≡ length xs - length ys
-  gains : sum (λ c. bit (gained c)) (match xs ys) ≡ length ys - length xs
+  losses : sum (λ c. bit (pairFacesEmpty c)) (match xs ys) ≡ length xs - length ys
+  gains : sum (λ c. bit (emptyFacesPair c)) (match xs ys) ≡ length ys - length xs
 
 sizes : (xs ys : List ℕ) → Sizes xs ys
 sizes [] [] = record { size = refl; no-left = refl; no-right = refl; losses = refl; gains = refl }
@@ -185,11 +185,11 @@ module _ (K : Side) (M N : ℕ → Bool) (v : ℕ) where
           match-own M N (alone K v M N) (alone K v N M) (alone-own K v M N) (λ e k. and-comm (M e) (N e) ∙ alone-own K v N M e k),
         )
 
-        loss : length (alone K v M N) ≤ length (alone K v N M) → sum (λ c. bit (lost c)) some ≡ 0
-        loss h = omega (arith, some-sum (λ c. bit (lost c)), sum-zero (common K v M N), sz .losses)
+        loss : length (alone K v M N) ≤ length (alone K v N M) → sum (λ c. bit (pairFacesEmpty c)) some ≡ 0
+        loss h = omega (arith, some-sum (λ c. bit (pairFacesEmpty c)), sum-zero (common K v M N), sz .losses)
 
-        gain : length (alone K v N M) ≤ length (alone K v M N) → sum (λ c. bit (gained c)) some ≡ 0
-        gain h = omega (arith, some-sum (λ c. bit (gained c)), sum-zero (common K v M N), sz .gains)
+        gain : length (alone K v N M) ≤ length (alone K v M N) → sum (λ c. bit (emptyFacesPair c)) some ≡ 0
+        gain h = omega (arith, some-sum (λ c. bit (emptyFacesPair c)), sum-zero (common K v M N), sz .gains)
 
     pub some-valid : (r : Pairing) × (r ∈ keep (valid M N) (pairings (places (K .quota v) (here K M v)) (places (K .quota v) (here K N v))))
     some-valid = let t = fair-valid M N (placesAt K M v) (placesAt K N v) some some-fair in (t .0, t .1)
@@ -198,6 +198,6 @@ module _ (K : Side) (M N : ℕ → Bool) (v : ℕ) where
     unfolding score
     attained =
         let total : Pairing → ℕ = sum (mark (K .rank)) in
-        let (r, m, e) = Memᴰ·of-map total (validAt K M N v) (leastOf-∈ (map total (validAt K M N v)) (Memᴰ·map total (some-valid .1))) in
+        let (r, m, e) = Memᴰ·of-map total (validPairings K M N v) (leastOf-∈ (map total (validPairings K M N v)) (Memᴰ·map total (some-valid .1))) in
         let q = ∈-keep (valid M N) (pairings (placesAt K M v) (placesAt K N v)) m in
         (r, q .0, valid-fair M N (placesAt K M v) (placesAt K N v) r (node-places K M v hM ∙ sym (node-places K N v hN)) (q .0) (q .1), sym e)

@@ -10,8 +10,8 @@ use lib.Dec.{T}
 use Rattle.lists.specs.Test.{bit, eqb-sym, true-T}
 use Rattle.lists.specs.Sum.{_∈_, sum-add, sum-map, sum-cong, sum-mono}
 use Rattle.model.specs.Instance.{Side, deg}
-use Rattle.model.specs.Vote.{Place, edge, empty, same, Pairing, shared, faces, lost, gained}
-use Rattle.theory_votes.specs.Score.{mark, mark-same, mark-flip, placesAt, score}
+use Rattle.model.specs.Vote.{Place, edge, empty, same, Pairing, shared, faces, pairFacesEmpty, emptyFacesPair, placesAt}
+use Rattle.theory_votes.specs.Score.{mark, mark-same, mark-flip, score}
 use Rattle.theory_votes.specs.Places.{same→, node-places, pairing-length}
 use Rattle.theory_votes.specs.Fair.{NotBoth, Fair, fair-faces, score-≤, left-here, right-here}
 use Rattle.theory_votes.specs.Attained.{attained}
@@ -46,8 +46,8 @@ module _ (M N : ℕ → Bool) where
   }
     where
       go : NotBoth r → NotBoth (map flip r)
-      go (inl e) = inr (sum-map (λ c. bit (gained c)) flip r ∙ sum-cong (λ c. bit (gained (c .1, c .0))) (λ c. bit (lost c)) r (λ c m. ap bit (and-comm (same (c .1) empty) (not (same (c .0) empty)))) ∙ e)
-      go (inr e) = inl (sum-map (λ c. bit (lost c)) flip r ∙ sum-cong (λ c. bit (lost (c .1, c .0))) (λ c. bit (gained c)) r (λ c m. ap bit (and-comm (not (same (c .1) empty)) (same (c .0) empty))) ∙ e)
+      go (inl e) = inr (sum-map (λ c. bit (emptyFacesPair c)) flip r ∙ sum-cong (λ c. bit (emptyFacesPair (c .1, c .0))) (λ c. bit (pairFacesEmpty c)) r (λ c m. ap bit (and-comm (same (c .1) empty) (not (same (c .0) empty)))) ∙ e)
+      go (inr e) = inl (sum-map (λ c. bit (pairFacesEmpty c)) flip r ∙ sum-cong (λ c. bit (pairFacesEmpty (c .1, c .0))) (λ c. bit (emptyFacesPair c)) r (λ c m. ap bit (and-comm (not (same (c .1) empty)) (same (c .0) empty))) ∙ e)
 
 -- ---- bounds
 module _ (K : Side) (M N : ℕ → Bool) (v : ℕ) (hM : deg K M v ≤ K .quota v) (hN : deg K N v ≤ K .quota v) where

@@ -16,9 +16,9 @@ use Rattle.lists.specs.Keep.{keep, sum-keep, gather, gather-∈, sum-gather}
 use Rattle.lists.specs.Occur.{occ-<, sum-at, sum-only}
 use Rattle.model.specs.Limits.{emptyRank}
 use Rattle.model.specs.Instance.{Side, deg}
-use Rattle.model.specs.Vote.{Place, edge, empty, same, here, Pairing, pairings, lost, gained}
+use Rattle.model.specs.Vote.{Place, edge, empty, same, here, Pairing, pairings, pairFacesEmpty, emptyFacesPair, placesAt}
 use Rattle.theory_instance.specs.Lawful.{Ranked, Within}
-use Rattle.theory_votes.specs.Score.{mark, mark-same, mark-lost, mark-gained, mark-edges, placesAt, score}
+use Rattle.theory_votes.specs.Score.{mark, mark-same, mark-lost, mark-gained, mark-edges, score}
 use Rattle.theory_votes.specs.Places.{here-deg, times-empty, node-places, pairing-length}
 use Rattle.theory_votes.specs.Fair.{NotBoth, Fair, Here, fair-left, fair-right, left-here, right-here}
 use Rattle.theory_votes.specs.Attained.{attained}
@@ -103,23 +103,23 @@ module _ (K : Side) (M N : ℕ → Bool) (hM : Within K M) (hN : Within K N) whe
   come-at e (p, empty) = sym (pk-0 (not (M e)))
 
   -- gains and losses at a node are those of the pairing there
-  gain-at : (c : Place × Place) → Kind M N c → onCouple M (λ c. bit (same (c .0) empty)) c ≡ bit (gained c)
+  gain-at : (c : Place × Place) → Kind M N c → onCouple M (λ c. bit (same (c .0) empty)) c ≡ bit (emptyFacesPair c)
   gain-at c (shares {f = f} p mf nd) = pk-0 (not (M f))
   gain-at c (swaps {f = f} mf nd) = pk-0 (not (M f))
   gain-at c (loses nd) = refl
   gain-at c (gets {f = f} mf) = ap (λ x. pk (not x) 1) mf
   gain-at c void = refl
 
-  loss-at : (c : Place × Place) → onLoss (λ l. 1) c ≡ bit (lost c)
+  loss-at : (c : Place × Place) → onLoss (λ l. 1) c ≡ bit (pairFacesEmpty c)
   loss-at (edge d, edge f) = refl
   loss-at (edge d, empty) = refl
   loss-at (empty, q) = refl
 
   abbrev gainedAt : ℕ → ℕ
-  gainedAt v = sum (λ c. bit (gained c)) (pair v)
+  gainedAt v = sum (λ c. bit (emptyFacesPair c)) (pair v)
 
   abbrev lostAt : ℕ → ℕ
-  lostAt v = sum (λ c. bit (lost c)) (pair v)
+  lostAt v = sum (λ c. bit (pairFacesEmpty c)) (pair v)
 
   gains-at : (v : ℕ) → (gains K couplesTo v ≡ gainedAt v) ⊎ (gains K couplesTo v ≡ 0)
   unfolding couplesTo
@@ -130,7 +130,7 @@ module _ (K : Side) (M N : ℕ → Bool) (hM : Within K M) (hN : Within K N) whe
           sum-cong (λ c. pk (eqb (K .end (c .1)) v) (bit (same (c .0) empty))) (λ c. pk (eqb u v) (bit (same (c .0) empty))) (couplesOf M (pair u))
           (λ c k. ap (λ z. pk (eqb z v) (bit (same (c .0) empty))) (pair-right u (c .0, edge (c .1)) (couples-∈ M (pair u) c k) (c .1) refl .1))
           ∙ sum-pk (eqb u v) (λ c. bit (same (c .0) empty)) (couplesOf M (pair u))
-          ∙ ap (λ z. pk (eqb u v) z) (couples-sum M (λ c. bit (same (c .0) empty)) (pair u) ∙ sum-cong (onCouple M (λ c. bit (same (c .0) empty))) (λ c. bit (gained c)) (pair u) (λ c k. gain-at c (pair-kind u c k)))
+          ∙ ap (λ z. pk (eqb u v) z) (couples-sum M (λ c. bit (same (c .0) empty)) (pair u) ∙ sum-cong (onCouple M (λ c. bit (same (c .0) empty))) (λ c. bit (emptyFacesPair c)) (pair u) (λ c k. gain-at c (pair-kind u c k)))
 
       all : gains K couplesTo v ≡ sum (λ u. pk (eqb u v) (gainedAt u)) (upTo (K .n))
       all =
@@ -146,7 +146,7 @@ module _ (K : Side) (M N : ℕ → Bool) (hM : Within K M) (hN : Within K N) whe
           sum-cong (λ l. pk (eqb (K .end l) v) 1) (λ l. pk (eqb u v) 1) (lossesOf (pair u))
           (λ l k. ap (λ z. pk (eqb z v) 1) (pair-left u (edge l, empty) (losses-∈ (pair u) l k) l refl .1))
           ∙ sum-pk (eqb u v) (λ l. 1) (lossesOf (pair u))
-          ∙ ap (λ z. pk (eqb u v) z) (losses-sum (λ l. 1) (pair u) ∙ sum-cong (onLoss (λ l. 1)) (λ c. bit (lost c)) (pair u) (λ c k. loss-at c))
+          ∙ ap (λ z. pk (eqb u v) z) (losses-sum (λ l. 1) (pair u) ∙ sum-cong (onLoss (λ l. 1)) (λ c. bit (pairFacesEmpty c)) (pair u) (λ c k. loss-at c))
 
       all : losses K lossesTo v ≡ sum (λ u. pk (eqb u v) (lostAt u)) (upTo (K .n))
       all =
@@ -155,11 +155,11 @@ module _ (K : Side) (M N : ℕ → Bool) (hM : Within K M) (hN : Within K N) whe
 
   room : (v : ℕ) → deg K M v + gains K couplesTo v ≤ K .quota v
   room v = ⊎-elim
-      (λ e. omega (arith, sum-mono (λ c. bit (gained c)) (λ c. bit (same (c .0) empty)) (pair v) (λ c k. less c), pair-fair v .on-left empty, times-empty (K .quota v) (here K M v), here-deg K M v, hM v))
+      (λ e. omega (arith, sum-mono (λ c. bit (emptyFacesPair c)) (λ c. bit (same (c .0) empty)) (pair v) (λ c k. less c), pair-fair v .on-left empty, times-empty (K .quota v) (here K M v), here-deg K M v, hM v))
       (λ e. omega (arith, hM v))
       (gains-at v)
     where
-      less : (c : Place × Place) → bit (gained c) ≤ bit (same (c .0) empty)
+      less : (c : Place × Place) → bit (emptyFacesPair c) ≤ bit (same (c .0) empty)
       less (edge d, q) = zero-le
       less (empty, q) = bit-one (not (same q empty))
 

@@ -10,8 +10,7 @@ use lib.Dec.{T, eqb, eqb→eq}
 use Rattle.lists.specs.Test.{pk}
 use Rattle.lists.specs.Sum.{_∈_, sum}
 use Rattle.model.specs.Instance.{Side}
-use Rattle.model.specs.Vote.{Place, edge, empty, Pairing}
-use Rattle.theory_votes.specs.Score.{placesAt}
+use Rattle.model.specs.Vote.{Place, edge, empty, Pairing, placesAt}
 use Rattle.theory_votes.specs.Fair.{Fair, fair-faces, left-here, right-here}
 use Rattle.theory_votes.specs.Exchange.{Couple}
 

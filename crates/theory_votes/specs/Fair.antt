@@ -15,8 +15,8 @@ use Rattle.lists.specs.Keep.{keep, keep-∈, all?, any?, zero-all, all-zero, ze
 use Rattle.lists.specs.Least.{leastOf-≤}
 use Rattle.lists.specs.Occur.{occ-<}
 use Rattle.model.specs.Instance.{Side}
-use Rattle.model.specs.Vote.{Place, edge, same, here, Pairing, pairings, shared, faces, lost, gained, valid}
-use Rattle.theory_votes.specs.Score.{mark, placesAt, validAt, score}
+use Rattle.model.specs.Vote.{Place, edge, same, here, Pairing, pairings, shared, faces, pairFacesEmpty, emptyFacesPair, valid, placesAt, validPairings}
+use Rattle.theory_votes.specs.Score.{mark, score}
 use Rattle.theory_votes.specs.Places.{same→, same-refl, times, times-∈, left, right, here-occ, times-edge, pairing-left, pairing-right}
 
 -- ---- the couples r, in the order of ps
@@ -62,7 +62,7 @@ faces-apart M N p q h k = go (same p q) (shared M N p) (shared M N q) h k
     go false false false h k = refl
 
 abbrev pub NotBoth : Pairing → Type 0
-NotBoth r = (sum (λ c. bit (lost c)) r ≡ 0) ⊎ (sum (λ c. bit (gained c)) r ≡ 0)
+NotBoth r = (sum (λ c. bit (pairFacesEmpty c)) r ≡ 0) ⊎ (sum (λ c. bit (emptyFacesPair c)) r ≡ 0)
 
 pub record Fair (M N : ℕ → Bool) (ps qs : List Place) (r : Pairing) : Type 0 where
   pub on-left : (a : Place) → times a ps ≡ left a r
@@ -75,10 +75,10 @@ module _ (M N : ℕ → Bool) (ps qs : List Place) (r : Pairing) where
   valid-fair l m t = record {
     on-left = λ a. sym (pairing-left (λ p. bit (same p a)) ps qs r m);
     on-right = λ a. sym (pairing-right (λ p. bit (same p a)) ps qs r l m);
-    own = all-zero (faces M N) r (and-l (all? (faces M N) r) (not (any? lost r && any? gained r)) t);
-    not-both = by-bool (any? lost r)
-        (λ e. inr (none-zero gained r (nand-r (any? lost r) (any? gained r) (and-r (all? (faces M N) r) (not (any? lost r && any? gained r)) t) (true-T e))))
-        (λ e. inl (none-zero lost r (false-T e)));
+    own = all-zero (faces M N) r (and-l (all? (faces M N) r) (not (any? pairFacesEmpty r && any? emptyFacesPair r)) t);
+    not-both = by-bool (any? pairFacesEmpty r)
+        (λ e. inr (none-zero emptyFacesPair r (nand-r (any? pairFacesEmpty r) (any? emptyFacesPair r) (and-r (all? (faces M N) r) (not (any? pairFacesEmpty r && any? emptyFacesPair r)) t) (true-T e))))
+        (λ e. inl (none-zero pairFacesEmpty r (false-T e)));
   }
 
   pub fair-valid : Fair M N ps qs r → (t : Pairing) × (t ∈ keep (valid M N) (pairings ps qs)) × ((g : Place × Place → ℕ) → sum g t ≡ sum g r)
@@ -87,12 +87,12 @@ module _ (M N : ℕ → Bool) (ps qs : List Place) (r : Pairing) where
       t : Reordered ps qs r
       t = reorder ps qs r (f .on-left) (f .on-right)
 
-      apart : NotBoth r → T (not (any? lost (t .to) && any? gained (t .to)))
-      apart (inl e) = nand-i (any? lost (t .to)) (any? gained (t .to)) (zero-none lost (t .to) (t .sums (λ c. bit (lost c)) ∙ e))
-      apart (inr e) = nand-ir (any? lost (t .to)) (any? gained (t .to)) (zero-none gained (t .to) (t .sums (λ c. bit (gained c)) ∙ e))
+      apart : NotBoth r → T (not (any? pairFacesEmpty (t .to) && any? emptyFacesPair (t .to)))
+      apart (inl e) = nand-i (any? pairFacesEmpty (t .to)) (any? emptyFacesPair (t .to)) (zero-none pairFacesEmpty (t .to) (t .sums (λ c. bit (pairFacesEmpty c)) ∙ e))
+      apart (inr e) = nand-ir (any? pairFacesEmpty (t .to)) (any? emptyFacesPair (t .to)) (zero-none emptyFacesPair (t .to) (t .sums (λ c. bit (emptyFacesPair c)) ∙ e))
 
       ok : T (valid M N (t .to))
-      ok = and-i (all? (faces M N) (t .to)) (not (any? lost (t .to) && any? gained (t .to))) (zero-all (faces M N) (t .to) (t .sums (λ c. bit (not (faces M N c))) ∙ f .own)) (apart (f .not-both))
+      ok = and-i (all? (faces M N) (t .to)) (not (any? pairFacesEmpty (t .to) && any? emptyFacesPair (t .to))) (zero-all (faces M N) (t .to) (t .sums (λ c. bit (not (faces M N c))) ∙ f .own)) (apart (f .not-both))
 
   pub fair-faces : Fair M N ps qs r → (c : Place × Place) → c ∈ r → T (faces M N c)
   fair-faces f c k = go (faces M N c) (omega (arith, f .own, sum-mem (λ c. bit (not (faces M N c))) k))
@@ -121,7 +121,7 @@ module _ (K : Side) (M N : ℕ → Bool) (v : ℕ) (r : Pairing) (f : Fair M N (
       let t = fair-valid M N (placesAt K M v) (placesAt K N v) r f in
       omega (
         arith,
-        leastOf-≤ (map (sum (mark (K .rank))) (validAt K M N v)) (sum (mark (K .rank)) (t .0)) (Memᴰ·map (sum (mark (K .rank))) (t .1)),
+        leastOf-≤ (map (sum (mark (K .rank))) (validPairings K M N v)) (sum (mark (K .rank)) (t .0)) (Memᴰ·map (sum (mark (K .rank))) (t .1)),
         t .2 (mark (K .rank)),
       )
 

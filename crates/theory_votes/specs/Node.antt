@@ -14,9 +14,9 @@ use Rattle.lists.specs.Sum.{_∈_, sum, sum-zeros, sum-pk-0, sum-add, sum-appen
 use Rattle.lists.specs.Keep.{keep, sum-keep}
 use Rattle.lists.specs.Occur.{occ-<, sum-at, sum-by}
 use Rattle.model.specs.Instance.{Side, deg}
-use Rattle.model.specs.Vote.{Place, edge, empty, same, here, Pairing, shared, faces, lost, gained}
+use Rattle.model.specs.Vote.{Place, edge, empty, same, here, Pairing, shared, faces, pairFacesEmpty, emptyFacesPair, placesAt}
 use Rattle.theory_instance.specs.Lawful.{Ranked}
-use Rattle.theory_votes.specs.Score.{mark, mark-same, mark-lost, placesAt, score}
+use Rattle.theory_votes.specs.Score.{mark, mark-same, mark-lost, score}
 use Rattle.theory_votes.specs.Places.{same→, same-refl, times, left, right, census, here-occ, here-deg, deg-occ, times-edge, times-empty}
 use Rattle.theory_votes.specs.Fair.{NotBoth, faces-self, faces-apart, Fair, score-≤}
 use Rattle.theory_votes.specs.Exchange.{Couple, for, against, mark-couple, Swap, goer-is, comer-is, losses, gains, Moves, couple-comes, couple-goes, loss-goes}
@@ -184,22 +184,22 @@ module _ (K : Side) (M N : ℕ → Bool) (R F : List ℕ) (sw : Swap (K .m) M N 
           sum-zeros (λ l. pk (at K v l) (g (edge l, empty))) ls (λ l k. pk-zero (at K v l) (faces-apart M N (edge l) empty (goer-apart l (loss-goes K M R F cs ls mv l k)) refl)),
         )
 
-    lost-count : sum (λ c. bit (lost c)) full ≡ losses K ls v
+    lost-count : sum (λ c. bit (pairFacesEmpty c)) full ≡ losses K ls v
     lost-count = omega (
       arith,
-      full-sum (λ c. bit (lost c)),
-      core-sum K M N cs ls v (λ c. bit (lost c)),
+      full-sum (λ c. bit (pairFacesEmpty c)),
+      core-sum K M N cs ls v (λ c. bit (pairFacesEmpty c)),
       sum-pk-0 (sharedAt K M N v) (upTo (K .m)),
-      sum-zeros (λ c. pk (at K v (c .1)) (bit (lost (c .0, edge (c .1))))) cs (λ c k. pk-zero (at K v (c .1)) (ap bit (and-comm (not (same (c .0) empty)) false))),
+      sum-zeros (λ c. pk (at K v (c .1)) (bit (pairFacesEmpty (c .0, edge (c .1))))) cs (λ c k. pk-zero (at K v (c .1)) (ap bit (and-comm (not (same (c .0) empty)) false))),
     )
 
-    gained-count : sum (λ c. bit (gained c)) full ≡ gains K cs v
+    gained-count : sum (λ c. bit (emptyFacesPair c)) full ≡ gains K cs v
     gained-count = omega (
       arith,
-      full-sum (λ c. bit (gained c)),
-      core-sum K M N cs ls v (λ c. bit (gained c)),
+      full-sum (λ c. bit (emptyFacesPair c)),
+      core-sum K M N cs ls v (λ c. bit (emptyFacesPair c)),
       sum-pk-0 (sharedAt K M N v) (upTo (K .m)),
-      sum-cong (λ c. pk (at K v (c .1)) (bit (gained (c .0, edge (c .1))))) (λ c. pk (at K v (c .1)) (bit (same (c .0) empty))) cs
+      sum-cong (λ c. pk (at K v (c .1)) (bit (emptyFacesPair (c .0, edge (c .1))))) (λ c. pk (at K v (c .1)) (bit (same (c .0) empty))) cs
           (λ c k. ap (λ z. pk (at K v (c .1)) (bit z)) (and-comm (same (c .0) empty) true)),
       sum-pk-0 (at K v) ls,
     )

@@ -17,8 +17,8 @@ use Rattle.lists.specs.Keep.{sum-keep, ∈-keep}
 use Rattle.lists.specs.Integer.{sub-add, sub-self}
 use Rattle.model.specs.Limits.{emptyRank}
 use Rattle.model.specs.Instance.{Side, deg}
-use Rattle.model.specs.Vote.{Place, edge, empty, same, placeRank, here, places, Pairing, pairings, shared, faces, lost, gained, nodeVote}
-use Rattle.theory_votes.specs.Score.{rate, mark, mark-same, placesAt, score}
+use Rattle.model.specs.Vote.{Place, edge, empty, same, placeRank, here, places, Pairing, pairings, shared, faces, pairFacesEmpty, emptyFacesPair, nodeVote, placesAt}
+use Rattle.theory_votes.specs.Score.{rate, mark, mark-same, score}
 use Rattle.theory_votes.specs.Places.{times, left, right, here-deg, times-edge, times-empty, pairing-left, pairing-right, node-places}
 use Rattle.theory_votes.specs.Fair.{faces-self, Fair, NotBoth, fair-faces, left-here, score-≤}
 use Rattle.theory_votes.specs.Attained.{common, alone, alone-own, parts, counts, attained}
@@ -61,7 +61,7 @@ module _ (K : Side) (M N : ℕ → Bool) (v : ℕ) where
   both-empty : Place × Place → ℕ
   both-empty c = bit (same (c .0) empty && same (c .1) empty)
 
-  empty-left : (c : Place × Place) → bit (same (c .0) empty) ≡ both-empty c + bit (gained c)
+  empty-left : (c : Place × Place) → bit (same (c .0) empty) ≡ both-empty c + bit (emptyFacesPair c)
   unfolding both-empty
   empty-left c = go (same (c .0) empty) (same (c .1) empty)
     where
@@ -70,7 +70,7 @@ module _ (K : Side) (M N : ℕ → Bool) (v : ℕ) where
       go true false = refl
       go false y = refl
 
-  empty-right : (c : Place × Place) → bit (same (c .1) empty) ≡ both-empty c + bit (lost c)
+  empty-right : (c : Place × Place) → bit (same (c .1) empty) ≡ both-empty c + bit (pairFacesEmpty c)
   unfolding both-empty
   empty-right c = go (same (c .0) empty) (same (c .1) empty)
     where
@@ -169,21 +169,21 @@ module _ (K : Side) (M N : ℕ → Bool) (v : ℕ) where
                 shared-left,
               )
 
-              on-left : sum both-empty r + sum (λ c. bit (gained c)) r ≡ K .quota v - deg K M v
+              on-left : sum both-empty r + sum (λ c. bit (emptyFacesPair c)) r ≡ K .quota v - deg K M v
               on-left = omega (
                 arith,
-                sum-cong (λ c. bit (same (c .0) empty)) (λ c. both-empty c + bit (gained c)) r (λ c k. empty-left c),
-                sum-add both-empty (λ c. bit (gained c)) r,
+                sum-cong (λ c. bit (same (c .0) empty)) (λ c. both-empty c + bit (emptyFacesPair c)) r (λ c k. empty-left c),
+                sum-add both-empty (λ c. bit (emptyFacesPair c)) r,
                 f .on-left empty,
                 times-empty (K .quota v) (here K M v),
                 here-deg K M v,
               )
 
-              on-right : sum both-empty r + sum (λ c. bit (lost c)) r ≡ K .quota v - deg K N v
+              on-right : sum both-empty r + sum (λ c. bit (pairFacesEmpty c)) r ≡ K .quota v - deg K N v
               on-right = omega (
                 arith,
-                sum-cong (λ c. bit (same (c .1) empty)) (λ c. both-empty c + bit (lost c)) r (λ c k. empty-right c),
-                sum-add both-empty (λ c. bit (lost c)) r,
+                sum-cong (λ c. bit (same (c .1) empty)) (λ c. both-empty c + bit (pairFacesEmpty c)) r (λ c k. empty-right c),
+                sum-add both-empty (λ c. bit (pairFacesEmpty c)) r,
                 f .on-right empty,
                 times-empty (K .quota v) (here K N v),
                 here-deg K N v,
@@ -303,22 +303,22 @@ module _ (K : Side) (M N : ℕ → Bool) (v : ℕ) where
           )
 
           -- only the shorter side is filled up
-          loss : length (alone K v M N) ≤ length (alone K v N M) → sum (λ c. bit (lost c)) whole ≡ 0
+          loss : length (alone K v M N) ≤ length (alone K v N M) → sum (λ c. bit (pairFacesEmpty c)) whole ≡ 0
           loss l = omega (
             arith,
-            whole-sum (λ c. bit (lost c)),
+            whole-sum (λ c. bit (pairFacesEmpty c)),
             sum-zero (common K v M N),
-            sum-mono (λ c. bit (lost c)) (λ c. bit (same (c .1) empty)) r (λ c k. omega (arith, empty-right c)),
+            sum-mono (λ c. bit (pairFacesEmpty c)) (λ c. bit (same (c .1) empty)) r (λ c k. omega (arith, empty-right c)),
             h .on-right (λ p. bit (same p empty)),
             times-empty most (alone K v N M),
           )
 
-          gain : length (alone K v N M) ≤ length (alone K v M N) → sum (λ c. bit (gained c)) whole ≡ 0
+          gain : length (alone K v N M) ≤ length (alone K v M N) → sum (λ c. bit (emptyFacesPair c)) whole ≡ 0
           gain l = omega (
             arith,
-            whole-sum (λ c. bit (gained c)),
+            whole-sum (λ c. bit (emptyFacesPair c)),
             sum-zero (common K v M N),
-            sum-mono (λ c. bit (gained c)) (λ c. bit (same (c .0) empty)) r (λ c k. omega (arith, empty-left c)),
+            sum-mono (λ c. bit (emptyFacesPair c)) (λ c. bit (same (c .0) empty)) r (λ c k. omega (arith, empty-left c)),
             h .on-left (λ p. bit (same p empty)),
             times-empty most (alone K v M N),
           )

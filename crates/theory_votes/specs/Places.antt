@@ -12,8 +12,7 @@ use Rattle.lists.specs.Sum.{_∈_, sum, sum-zero, sum-add, sum-append, sum-map,
 use Rattle.lists.specs.Keep.{sum-keep, picks, picks-sum, gather-∈}
 use Rattle.lists.specs.Occur.{occ-upTo, sum-at}
 use Rattle.model.specs.Instance.{Side, deg}
-use Rattle.model.specs.Vote.{Place, edge, empty, same, here, places, Pairing, pairings}
-use Rattle.theory_votes.specs.Score.{placesAt}
+use Rattle.model.specs.Vote.{Place, edge, empty, same, here, places, Pairing, pairings, placesAt}
 
 pub same→ : (p q : Place) → T (same p q) → p ≡ q
 same→ (edge d) (edge e) t = ap edge (eqb→eq d e t)

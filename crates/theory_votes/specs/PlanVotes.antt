@@ -15,9 +15,9 @@ use Rattle.lists.specs.Keep.{keep, keep-cong, all-cong, any?}
 use Rattle.lists.specs.Occur.{occ-<}
 use Rattle.lists.specs.Integer.{pos-sub, neg-sub, sub-self, sub-add, sub-≤}
 use Rattle.model.specs.Instance.{Instance, Side, surveyors, stands, deg}
-use Rattle.model.specs.Vote.{Place, edge, empty, same, here, places, Pairing, pairings, shared, faces, lost, gained, valid, sumℤ, leastOfℤ, placeVote, nodeVote, vote}
+use Rattle.model.specs.Vote.{Place, edge, empty, same, here, places, Pairing, pairings, shared, faces, pairFacesEmpty, emptyFacesPair, valid, sumℤ, leastOfℤ, placeVote, nodeVote, vote, placesAt}
 use Rattle.theory_instance.specs.Lawful.{Within, Matching, Same}
-use Rattle.theory_votes.specs.Score.{placesAt, score, tally, quotas}
+use Rattle.theory_votes.specs.Score.{score, tally, quotas}
 use Rattle.theory_votes.specs.Places.{same-refl, times, here-occ, times-edge, pairing-left, pairing-right-≤}
 use Rattle.theory_votes.specs.Signed.{sumℤ-cong, nodeVote-score, vote-tally}
 use Rattle.theory_votes.specs.Bounds.{score-≤-two, score-both, score-self}
@@ -74,7 +74,7 @@ module _ (K : Side) (M N M′ N′ : ℕ → Bool) (v : ℕ) (sM : (e : ℕ) →
   shared-same A empty h = refl
 
   valid-same : (r : Pairing) → r ∈ pairings (placesAt K M v) (placesAt K N v) → valid M N r ≡ valid M′ N′ r
-  valid-same r m = ap (λ b. b && not (any? lost r && any? gained r)) (all-cong (faces M N) (faces M′ N′) r faces-same)
+  valid-same r m = ap (λ b. b && not (any? pairFacesEmpty r && any? emptyFacesPair r)) (all-cong (faces M N) (faces M′ N′) r faces-same)
     where
       faces-same : (c : Place × Place) → c ∈ r → faces M N c ≡ faces M′ N′ c
       faces-same c k = ap₂ (λ x y. same (c .0) (c .1) || not (x || y))

@@ -13,7 +13,7 @@ use Rattle.lists.specs.Keep.{keep}
 use Rattle.lists.specs.Least.{leastOf}
 use Rattle.model.specs.Limits.{emptyRank}
 use Rattle.model.specs.Instance.{Instance, Side, surveyors, stands}
-use Rattle.model.specs.Vote.{Place, edge, empty, placeRank, here, places, Pairing, pairings, valid}
+use Rattle.model.specs.Vote.{Place, edge, empty, placeRank, here, places, Pairing, pairings, valid, validPairings}
 use Rattle.theory_instance.specs.Walk.{up, up-yes, up-no}
 
 -- one more than the vote of rank a against rank b
@@ -24,15 +24,8 @@ rate a b = bit (ltb a b) + bit (leb a b)
 unfoldable pub mark : (ℕ → ℕ) → Place × Place → ℕ
 mark rank (p, q) = rate (placeRank rank p) (placeRank rank q)
 
--- a node's places for a set, and the valid pairings there
-abbrev pub placesAt : Side → (ℕ → Bool) → ℕ → List Place
-placesAt K M v = places (K .quota v) (here K M v)
-
-abbrev pub validAt : Side → (ℕ → Bool) → (ℕ → Bool) → ℕ → List Pairing
-validAt K M N v = keep (valid M N) (pairings (placesAt K M v) (placesAt K N v))
-
 unfoldable pub score : Side → (ℕ → Bool) → (ℕ → Bool) → ℕ → ℕ
-score K M N v = leastOf (map (sum (mark (K .rank))) (validAt K M N v))
+score K M N v = leastOf (map (sum (mark (K .rank))) (validPairings K M N v))
 
 module _ (G : Instance) where
   abbrev pub tally : (ℕ → Bool) → (ℕ → Bool) → ℕ

@@ -16,9 +16,9 @@ use Rattle.lists.specs.Keep.{∈-keep}
 use Rattle.lists.specs.Least.{least, leastOf}
 use Rattle.lists.specs.Integer.{sub-add, sub-≤, ≤-sub}
 use Rattle.model.specs.Instance.{Instance, Side, surveyors, stands, deg}
-use Rattle.model.specs.Vote.{Place, rankVote, placeRank, pairings, valid, sumℤ, minℤ, leastℤ, leastOfℤ, placeVote, nodeVote, vote}
+use Rattle.model.specs.Vote.{Place, rankVote, placeRank, pairings, valid, sumℤ, minℤ, leastℤ, leastOfℤ, placeVote, nodeVote, vote, placesAt, validPairings}
 use Rattle.theory_instance.specs.Lawful.{Matching}
-use Rattle.theory_votes.specs.Score.{rate, mark, placesAt, validAt, score, tally, quotas}
+use Rattle.theory_votes.specs.Score.{rate, mark, score, tally, quotas}
 use Rattle.theory_votes.specs.Places.{node-places, pairing-length}
 use Rattle.theory_votes.specs.Attained.{some-valid}
 
@@ -64,7 +64,7 @@ placeVote-mark rank c = rankVote-rate (placeRank rank (c .0)) (placeRank rank (c
 
 pub nodeVote-score : (K : Side) (M N : ℕ → Bool) (v : ℕ) → deg K M v ≤ K .quota v → deg K N v ≤ K .quota v → nodeVote K M N v ≡ subℕ (score K M N v) (K .quota v)
 unfolding nodeVote score
-nodeVote-score K M N v hM hN = leastOf-sub (K .quota v) (sumℤ (placeVote (K .rank))) (sum (mark (K .rank))) (validAt K M N v) (some-valid K M N v hM hN .1)
+nodeVote-score K M N v hM hN = leastOf-sub (K .quota v) (sumℤ (placeVote (K .rank))) (sum (mark (K .rank))) (validPairings K M N v) (some-valid K M N v hM hN .1)
     (λ r k. sum-sub (placeVote (K .rank)) (mark (K .rank)) (λ c. 1) r (λ c j. placeVote-mark (K .rank) c)
     ∙ ap (λ z. subℕ (sum (mark (K .rank)) r) z) (pairing-length (placesAt K M v) (placesAt K N v) r (∈-keep (valid M N) (pairings (placesAt K M v) (placesAt K N v)) k .0) ∙ node-places K M v hM))
 
