@@ -66,7 +66,7 @@ alike false b = not b
 unfoldable pub bothOrNeither : Roster → Bool
 bothOrNeither r = all? (λ i. all? (λ j. alike (listed r i j) (listedBack r i j)) (upTo (standCount r))) (upTo (surveyorCount r))
 
--- ---- a roster within the limits: what every accepted file holds (crate files, read-fits)
+-- ---- a roster within the limits: what every accepted file of bytes holds (theory_files, read-fits)
 abbrev pub quotasFit : List ℕ → Bool
 quotasFit qs = leb (length qs) nodeLimit && (all? (λ q. leb q quotaLimit) qs && leb (sum (λ q. q) qs) quotaSumLimit)
 

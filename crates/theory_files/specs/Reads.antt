@@ -9,10 +9,7 @@ use lib.Dec.{T, ltb, lt→ltb}
 use Rattle.lists.specs.Test.{given, and-r, and-i}
 use Rattle.lists.specs.Keep.{all?, gather, All}
 use Rattle.model.specs.Reading.{Read, got, refused, _then_, refuseIf, refuseBy, byte, twoBytes, readEach, Reading, accepted, turned, whole}
-
--- a byte's value is below 256
-abbrev pub isBytes : List ℕ → Bool
-isBytes bs = all? (λ b. ltb b 256) bs
+pub use Rattle.model.specs.Reading.{isBytes}
 
 pub bytes-are : (bs : List ℕ) → ((i : ℕ) → getD bs i 0 < 256) → T (isBytes bs)
 bytes-are [] h = tt
