@@ -1,13 +1,16 @@
 -- P1 to P10 of document 01, run by the checker: one theorem, `cases`, over a list of rosters with what document 01 says of each, and
--- what follows from it; P11 to P17 are more. Every roster and plan in a claim must be accepted. Stands are counted from 0 here.
+-- what follows from it; P11 to P17 are more. A roster of which more is claimed than what is printed, and every plan file in a claim, must
+-- be accepted. Stands are counted from 0 here.
 use Prim.Native.Nat.{ℕ}
 use Prim.Native.String.{String}
 use mathlib.Core.Path.{_≡_, refl}
 use mathlib.Core.Bool.{Bool, true, false, _&&_}
+use mathlib.Core.Option.{Option·elim, orElse}
 use mathlib.Core.List.{List, [], _∷_}
 use lib.IntN.{ℤ, pos, negsuc}
 use Rattle.lists.specs.Sum.{count}
 use Rattle.lists.specs.Search.{low}
+use Rattle.lists.specs.First.{first}
 use Rattle.lists.specs.Keep.{keep, all?}
 use Rattle.model.specs.Text.{text}
 use Rattle.model.specs.Refusal.{groupOf}
@@ -18,7 +21,7 @@ use Rattle.model.specs.Edges.{position, edgesOf, instanceOf}
 use Rattle.model.specs.Instance.{Instance, stands, deg}
 use Rattle.model.specs.Vote.{nodeVote, vote}
 use Rattle.model.specs.Plans.{Plan, on, choices, within, plansOf, samePlan, Verdict, strong, popular, beaten, beatenBy, drawnWith, verdictOf, strongPlans, strongCount}
-use Rattle.model.specs.Reduction.{cut, cutT, ahead, arrow, loose, reserved, betterS, betterT, worseReserved, rule1, rule2, rule3, rule4, rule5, rule6, rule7, names, lowest, ruleOf, edgeOf, fateOf, act, next, begin, stepsFrom, stateAfter, stepsOf, endOf}
+use Rattle.model.specs.Reduction.{cut, cutT, ahead, arrow, loose, reserved, betterS, betterT, worseReserved, rule1, rule2, rule3, rule4, rule5, rule6, rule7, act, rules, stepBy, firstStep, begin, stepsFrom, stateAfter, stepsOf, endOf}
 use Rattle.model.specs.PlanFile.{planBytes, edgeOfPair, readPlan}
 use Rattle.model.specs.Finder.{diaryOf, leftOf, candidateOf, finderOf}
 use Rattle.model.specs.Blocking.{blocks, someBlocks}
@@ -43,12 +46,12 @@ abbrev firstOf : Plan → List Plan → Plan
 firstOf M [] = M
 firstOf M (N ∷ Ns) = N
 
-abbrev orElse : List Plan → List Plan → List Plan
-orElse [] Ns = Ns
-orElse (M ∷ Ms) Ns = M ∷ Ms
+abbrev otherwise : List Plan → List Plan → List Plan
+otherwise [] Ns = Ns
+otherwise (M ∷ Ms) Ns = M ∷ Ms
 
 abbrev pub someRival : Instance → Plan → Plan
-someRival G M = firstOf M (orElse (keep (beatenBy G M) (plansOf G)) (keep (drawnWith G M) (plansOf G)))
+someRival G M = firstOf M (otherwise (keep (beatenBy G M) (plansOf G)) (keep (drawnWith G M) (plansOf G)))
 
 -- the instance of accepted bytes, the plan of an accepted file
 abbrev pub instanceIn : Reading Roster → Instance
@@ -187,5 +190,5 @@ abbrev P17 : Case
 P17 = record { bytes = 3 ∷ 1 ∷ 2 ∷ 2 ∷ 2 ∷ 2 ∷ 1 ∷ 3 ∷ 0 ∷ 2 ∷ 2 ∷ 1 ∷ 1 ∷ 2 ∷ 0 ∷ 3 ∷ 0 ∷ 0 ∷ 1 ∷ 1 ∷ 0 ∷ 2 ∷ 1 ∷ 2 ∷ []; claims = prints "fix 2 2 6\nstrike 1 2 2\nfix 1 1 3\nplan 2\n1 1\n2 2\n" ∷ strongOnes 1 ∷ [] }
 
 pub cases : Each True (P1 ∷ P2 ∷ P3 ∷ P4 ∷ P5 ∷ P6 ∷ P7 ∷ P8 ∷ P9 ∷ P10 ∷ P11 ∷ P12 ∷ P13 ∷ P14 ∷ P15 ∷ P16 ∷ P17 ∷ [])
-unfolding count low text groupOf listed listedBack bothOrNeither readEach readRoster position edgesOf instanceOf deg nodeVote vote choices within plansOf samePlan beatenBy drawnWith verdictOf strongPlans cut ahead arrow loose reserved betterS betterT worseReserved rule1 rule2 rule3 rule4 rule5 rule6 rule7 names lowest ruleOf edgeOf fateOf act next begin stepsFrom stateAfter stepsOf endOf planBytes edgeOfPair readPlan diaryOf leftOf candidateOf finderOf blocks someBlocks digits printed
+unfolding count low text groupOf listed listedBack bothOrNeither readEach readRoster position edgesOf instanceOf deg nodeVote vote choices within plansOf samePlan beatenBy drawnWith verdictOf strongPlans cut ahead arrow loose reserved betterS betterT worseReserved rule1 rule2 rule3 rule4 rule5 rule6 rule7 act rules first orElse Option·elim stepBy firstStep begin stepsFrom stateAfter stepsOf endOf planBytes edgeOfPair readPlan diaryOf leftOf candidateOf finderOf blocks someBlocks digits printed
 cases = ((refl, ((refl, refl), ((refl, refl), tt))), ((refl, ((refl, refl), tt)), ((refl, ((refl, refl), ((refl, refl), ((refl, refl), tt)))), ((refl, ((refl, refl), ((refl, refl), ((refl, refl), tt)))), ((refl, ((refl, refl), ((refl, refl), tt))), ((refl, ((refl, refl), ((refl, refl), ((refl, refl), ((refl, refl), tt))))), (((refl, refl), ((refl, refl), tt)), (((refl, refl), tt), (((refl, refl), tt), ((refl, ((refl, refl), ((refl, refl), tt))), ((refl, ((refl, refl), tt)), ((refl, ((refl, refl), tt)), ((refl, tt), ((refl, tt), ((refl, ((refl, refl), tt)), ((refl, ((refl, refl), tt)), ((refl, ((refl, refl), tt)), tt)))))))))))))))))

@@ -1,12 +1,13 @@
 -- The reduction: section "Reduction" of document 01. The state is what remains, what is fixed, and the quotas, which each step
--- cuts and each fixing lowers. That a cut quota is min (stated - fixed, remaining) is a law (crate reduction), not the text.
+-- cuts and each fixing lowers.
 use Prim.Native.Nat.{ℕ, zero, suc, _+_, _-_, min}
 use mathlib.Core.Bool.{Bool, true, false, not, _&&_, _||_}
+use mathlib.Core.Option.{Option, none, Option·elim, orElse}
 use mathlib.Core.List.{List, [], _∷_}
-use lib.ListN.{getD}
 use lib.Dec.{leb, ltb, eqb}
 use Rattle.lists.specs.Test.{bit}
-use Rattle.lists.specs.Search.{low}
+use Rattle.lists.specs.Sum.{range}
+use Rattle.lists.specs.First.{first}
 use Rattle.model.specs.Instance.{Instance, Side, surveyors, stands, deg}
 
 pub record State : Type 0 where
@@ -110,31 +111,9 @@ module _ (G : Instance) (Z : State) where
   unfoldable pub rule7 : ℕ → Bool
   rule7 e = ltb (degT arrowS (G .st e)) (cutT (G .st e)) && (not (G .tied e) && eqb (aheadT e) 0)
 
-  abbrev pub never : ℕ → Bool
-  never e = false
-
-  -- the rule of a number from 1 to 7; any other names nothing
-  unfoldable pub names : ℕ → ℕ → Bool
-  names r = getD (never ∷ rule1 ∷ rule2 ∷ rule3 ∷ rule4 ∷ rule5 ∷ rule6 ∷ rule7 ∷ []) r never
-
-  -- the lowest remaining edge that a rule names, m if it names none: edges are numbered by surveyor, then stand
-  unfoldable pub lowest : ℕ → ℕ
-  lowest r = low (λ e. Z .rem e && names r e) (G .m)
-
-  -- "The first rule that names a pair acts on one pair": its number, 8 if none does, and the edge
-  unfoldable pub ruleOf : ℕ
-  ruleOf = low (λ r. ltb (lowest r) (G .m)) 8
-
-  unfoldable pub edgeOf : ℕ
-  edgeOf = lowest ruleOf
-
 pub data Fate : Type 0 where
   fix : Fate
   strike : Fate
-
--- what a rule does to the edge that it names
-unfoldable pub fateOf : ℕ → Fate
-fateOf r = getD (strike ∷ fix ∷ strike ∷ fix ∷ strike ∷ strike ∷ fix ∷ fix ∷ []) r strike
 
 abbrev pub fixes : Fate → Bool
 fixes fix = true
@@ -149,17 +128,43 @@ act G Z f e = record {
   qT = λ v. cutT G Z v - bit (fixes f && eqb v (G .st e));
 }
 
+-- ---- the rules in their order, each with its number, its fate and its test
+pub record Rule : Type 0 where
+  pub number : ℕ
+  pub fate : Fate
+  pub names : ℕ → Bool
+
+unfoldable pub rules : Instance → State → List Rule
+rules G Z = record { number = 1; fate = fix; names = rule1 G Z }
+    ∷ record { number = 2; fate = strike; names = rule2 G Z }
+    ∷ record { number = 3; fate = fix; names = rule3 G Z }
+    ∷ record { number = 4; fate = strike; names = rule4 G Z }
+    ∷ record { number = 5; fate = strike; names = rule5 G Z }
+    ∷ record { number = 6; fate = fix; names = rule6 G Z }
+    ∷ record { number = 7; fate = fix; names = rule7 G Z }
+    ∷ []
+
 -- a step record: "fate, surveyor, stand, rule", the pair as its edge
 pub record Step : Type 0 where
   pub fate : Fate
   pub edge : ℕ
   pub rule : ℕ
 
-abbrev pub stepOf : Instance → State → Step
-stepOf G Z = record { fate = fateOf (ruleOf G Z); edge = edgeOf G Z; rule = ruleOf G Z }
+-- "The first rule that names a pair acts on one pair, the lowest by surveyor, then stand": the step of one rule, on the lowest
+-- remaining edge that it names, if it names one (edges are numbered by surveyor, then stand); and of the first rule that has one
+unfoldable pub stepBy : Instance → State → Rule → Option Step
+stepBy G Z R = first (λ e. Z .rem e && R .names e) (λ e. record { fate = R .fate; edge = e; rule = R .number }) (range 0 (G .m))
 
-unfoldable pub next : Instance → State → State
-next G Z = act G Z (fateOf (ruleOf G Z)) (edgeOf G Z)
+unfoldable pub firstStep : Instance → State → List Rule → Option Step
+firstStep G Z [] = none
+firstStep G Z (R ∷ Rs) = orElse (stepBy G Z R) (firstStep G Z Rs)
+
+-- the step that is taken from a state, if a rule acts, and the state after it
+abbrev pub stepFrom : Instance → State → Option Step
+stepFrom G Z = firstStep G Z (rules G Z)
+
+abbrev pub afterStep : Instance → State → Step → State
+afterStep G Z s = act G Z (s .fate) (s .edge)
 
 unfoldable pub begin : Instance → State
 begin G = record { rem = λ e. ltb e (G .m); fixed = λ e. false; qS = G .quotaS; qT = G .quotaT }
@@ -167,11 +172,11 @@ begin G = record { rem = λ e. ltb e (G .m); fixed = λ e. false; qS = G .quotaS
 -- the steps that are taken from a state, at most n, and the state after them
 unfoldable pub stepsFrom : Instance → ℕ → State → List Step
 stepsFrom G zero Z = []
-stepsFrom G (suc n) Z = elim (ltb (ruleOf G Z) 8) as (λ b. List Step) [ true ↦ stepOf G Z ∷ stepsFrom G n (next G Z) | false ↦ [] ]
+stepsFrom G (suc n) Z = Option·elim (stepFrom G Z) [] (λ s. s ∷ stepsFrom G n (afterStep G Z s))
 
 unfoldable pub stateAfter : Instance → ℕ → State → State
 stateAfter G zero Z = Z
-stateAfter G (suc n) Z = elim (ltb (ruleOf G Z) 8) as (λ b. State) [ true ↦ stateAfter G n (next G Z) | false ↦ Z ]
+stateAfter G (suc n) Z = Option·elim (stepFrom G Z) Z (λ s. stateAfter G n (afterStep G Z s))
 
 -- all of them: each removes an edge, so there are no more than edges
 unfoldable pub stepsOf : Instance → List Step

@@ -12,7 +12,8 @@ use borrow.Author.Tests.{le-leb}
 use Rattle.lists.specs.Test.{given, and-l, and-r, nand-r, nor-l, nor-r, or-case, true-T, T-true, T-false, false-T, parts}
 use Rattle.lists.specs.Search.{low, low-is}
 use Rattle.model.specs.Instance.{Instance}
-use Rattle.model.specs.Reduction.{State, names, ruleOf, edgeOf, arrowS, arrowT, fateOf, strike, act}
+use Rattle.model.specs.Reduction.{State, arrowS, arrowT, strike, act}
+use Rattle.theory_reduction.specs.RuleNumbers.{names, ruleOf, edgeOf, fateOf}
 use Rattle.theory_reduction.specs.Chosen.{acts, edge-acts, chosen-is}
 use Rattle.theory_reduction.specs.StableStrike.{Calm, GoesOn, Striking, goes-on, arrowS-same, arrowT-same}
 use Rattle.arrays.specs.ArrayInstance.{at, flag}

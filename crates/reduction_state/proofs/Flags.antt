@@ -12,7 +12,8 @@ use lib.Dec.{eqb, ltb}
 use borrow.Author.Tests.{lt-ltb, le-ltb, ne-eqb}
 use mir.Val.{boolByte}
 use Rattle.lists.specs.Test.{by-eq}
-use Rattle.model.specs.Reduction.{Fate, fix, strike, fateOf, fixes}
+use Rattle.model.specs.Reduction.{Fate, fix, strike, fixes}
+use Rattle.theory_reduction.specs.RuleNumbers.{fateOf}
 use Rattle.model.specs.Finder.{fateNumber}
 use Rattle.arrays.specs.ArrayInstance.{flag}
 

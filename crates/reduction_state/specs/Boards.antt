@@ -8,7 +8,8 @@ use lib.ListN.{length, set, length-set}
 use lib.Dec.{T, ltb}
 use mir.Val.{boolByte}
 use Rattle.model.specs.Instance.{Instance, deg}
-use Rattle.model.specs.Reduction.{State, cut, fixes, fateOf, act, next, begin, ruleOf, edgeOf, stepOf}
+use Rattle.model.specs.Reduction.{State, cut, fixes, act, begin}
+use Rattle.theory_reduction.specs.RuleNumbers.{fateOf, next, ruleOf, edgeOf, stepOf}
 use Rattle.model.specs.Finder.{Record, recordOf}
 use Rattle.theory_reduction.specs.Chosen.{acts, edge-acts, edge-none}
 use Rattle.arrays.specs.ArrayInstance.{at, flag}

@@ -6,7 +6,7 @@ use mathlib.Core.List.{List, [], _∷_, _++_, append-assoc}
 use lib.ListN.{length, set, drop, length-set, length-append, length-drop}
 use lib.Seq.{drop-drop}
 use Rattle.lists.specs.Keep.{gather}
-use Rattle.model.specs.Reduction.{fateOf}
+use Rattle.theory_reduction.specs.RuleNumbers.{fateOf}
 use Rattle.model.specs.Finder.{Record, fateNumber}
 
 -- the numbers of a record

@@ -6,7 +6,8 @@ use mathlib.Core.Bool.{Bool}
 use mathlib.Core.List.{List, [], map}
 use lib.ListN.{length, length-map}
 use Rattle.model.specs.Instance.{Instance}
-use Rattle.model.specs.Reduction.{State, Step, ruleOf, stepOf, next, begin, stepsFrom, stateAfter, stepsOf, endOf}
+use Rattle.model.specs.Reduction.{State, Step, begin, stepsFrom, stateAfter, stepsOf, endOf}
+use Rattle.theory_reduction.specs.RuleNumbers.{ruleOf, stepOf, next}
 use Rattle.model.specs.Finder.{recordOf, diaryOf}
 use Rattle.theory_reduction.specs.Course.{after-more, steps-more, after-none, steps-none, steps-few}
 use Rattle.theory_instance.specs.Lawful.{Lawful}

@@ -7,6 +7,7 @@ ghost use lib.ListN.{length};
 ghost use lib.Dec.{ltb, eqb};
 ghost use mir.Val.{boolByte};
 ghost use Rattle.model.specs.Reduction as reduction;
+ghost use Rattle.theory_reduction.specs.RuleNumbers as numbers;
 ghost use Rattle.arrays.specs.ArrayInstance.{at, flag};
 ghost use Rattle.reduction_counts.specs.Filled.{Low};
 ghost use Rattle.reduction_state.specs.Diary.{put, entry};
@@ -38,7 +39,7 @@ pub fn all(m: usize) -> [bool; 1024]
 
 // Whether a rule fixes the edge that it names.
 pub fn fixes(rule: u8) -> bool
-    ensures { λ r. ⌜ r ≡ reduction.fixes (reduction.fateOf rule) ⌝ }
+    ensures { λ r. ⌜ r ≡ reduction.fixes (numbers.fateOf rule) ⌝ }
 {
     (rule == 1) | (rule == 3) | (rule == 6) | (rule == 7)
 }

@@ -9,7 +9,7 @@ use mathlib.Core.List.{List}
 use lib.Dec.{ltb}
 use borrow.Author.Tests.{lt-ltb, le-ltb}
 use Rattle.lists.specs.Search.{low, low-miss, low-hit, low-none}
-use Rattle.model.specs.Reduction.{names, lowest, ruleOf, edgeOf}
+use Rattle.theory_reduction.specs.RuleNumbers.{names, lowest, ruleOf, edgeOf}
 use Rattle.arrays.specs.ArrayInstance.{flag}
 use Rattle.reduction_step.specs.View.{Known, Setting, G, Z, Quotas, Arrows, Aheads}
 use Rattle.reduction_step.specs.Tests.{Names, Got, Loose, Sizes}

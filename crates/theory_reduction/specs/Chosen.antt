@@ -1,4 +1,4 @@
--- Which rule acts, and on which edge: what the model's `ruleOf` and `edgeOf` choose, and what holds if no rule acts. A rule that
+-- Which rule acts, and on which edge: what `ruleOf` and `edgeOf` choose, and what holds if no rule acts. A rule that
 -- fixes finds a place left at both ends of its edge. No plan comes in.
 use Prim.Native.Nat.{ℕ, zero, suc, _≤_, _<_}
 use native.Mathlib.Omega.{arith}
@@ -11,12 +11,13 @@ use borrow.Author.Tests.{lt-ltb, le-ltb}
 use Rattle.lists.specs.Test.{given, and-l, and-r, nand-r, T-false}
 use Rattle.lists.specs.Search.{low-is, low-hit, low-none}
 use Rattle.model.specs.Instance.{Instance, surveyors, stands}
-use Rattle.model.specs.Reduction.{State, cutS, cutT, arrowS, rule1, rule2, rule3, rule4, rule5, rule6, rule7, names, lowest, ruleOf, edgeOf, fateOf, fixes}
+use Rattle.model.specs.Reduction.{State, cutS, cutT, arrowS, rule1, rule2, rule3, rule4, rule5, rule6, rule7, fixes}
+use Rattle.theory_reduction.specs.RuleNumbers.{names, lowest, ruleOf, edgeOf, fateOf}
 use Rattle.theory_instance.specs.Degree.{deg-pos}
 use Rattle.theory_reduction.specs.Arrows.{arrow-few}
 use Rattle.theory_reduction.specs.Facts.{Quiet, rule1-says, rule2-quiet, rule3-says, rule6-says, rule7-says}
 
-quiet-false : (a b : Bool) → (T a → T (not b)) → a && b ≡ false
+pub quiet-false : (a b : Bool) → (T a → T (not b)) → a && b ≡ false
 quiet-false true b h = T-false (h tt)
 quiet-false false b h = refl
 

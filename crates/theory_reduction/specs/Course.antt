@@ -7,35 +7,44 @@ use native.Mathlib.Decide.{decLt}
 use mathlib.Core.Path.{_≡_, refl, sym, ap, _∙_, subst}
 use mathlib.Core.Logic.{_⊎_, inl, inr, by-cases}
 use mathlib.Core.Bool.{Bool, true, false, not, _&&_, _||_, and-true, or-false, or-assoc}
+use mathlib.Core.Option.{Option, Option·elim}
 use mathlib.Core.List.{List, [], _∷_, map, List·Memᴰ·head, List·Memᴰ·tail, List·Memᴰ·not-nil, Memᴰ·of-map}
 use lib.ListN.{length, length-map}
-use lib.Dec.{T, ltb, eqb, ltb→lt, nltb→le, eqb→eq, eqb-refl, T-not, not-T}
-use borrow.Author.Tests.{lt-ltb, le-ltb}
+use lib.Dec.{T, ltb, eqb, eqb→eq, eqb-refl, T-not, not-T}
 use Rattle.lists.specs.Test.{given, and-l, and-r, and-nor, eq→eqb, T-false}
 use Rattle.lists.specs.Sum.{_∈_, count, count-sub-lt, count-≤}
 use Rattle.lists.specs.Keep.{any?, any-∈}
 use Rattle.lists.specs.Distinct.{Nodup, nodup-below}
 use Rattle.model.specs.Instance.{Instance}
-use Rattle.model.specs.Reduction.{State, Step, names, ruleOf, edgeOf, fateOf, fixes, act, next, begin, stepOf, stepsFrom, stateAfter, stepsOf, endOf}
+use Rattle.model.specs.Reduction.{State, Step, fixes, act, afterStep, begin, stepsFrom, stateAfter, stepsOf, endOf}
+use Rattle.theory_reduction.specs.RuleNumbers.{names, ruleOf, edgeOf, fateOf, next, stepOf}
 use Rattle.theory_instance.specs.Lawful.{Matching}
 use Rattle.theory_reduction.specs.Facts.{Quiet}
 use Rattle.theory_reduction.specs.Chosen.{Acts, acts, all-quiet}
+use Rattle.theory_reduction.specs.FirstRule.{step-taken, no-step}
 use Rattle.theory_reduction.specs.Quotas.{Sound, begin-sound, next-sound}
 
 module _ (G : Instance) where
+  -- the state and the steps that follow, by whether a step is taken
+  abbrev then-state : ℕ → State → Option Step → State
+  then-state n Z o = Option·elim o Z (λ s. stateAfter G n (afterStep G Z s))
+
+  abbrev then-steps : ℕ → State → Option Step → List Step
+  then-steps n Z o = Option·elim o [] (λ s. s ∷ stepsFrom G n (afterStep G Z s))
+
   -- induction along the steps: at most n of them, from a state, in a list, to a state
   pub along : (P : ℕ → State → List Step → State → Type 0)
       → ((n : ℕ) (Z : State) → (n ≡ 0) ⊎ (8 ≤ ruleOf G Z) → P n Z [] Z)
       → ((n : ℕ) (Z : State) (ss : List Step) (Y : State) → ruleOf G Z < 8 → P n (next G Z) ss Y → P (suc n) Z (stepOf G Z ∷ ss) Y)
       → (n : ℕ) (Z : State) → P n Z (stepsFrom G n Z) (stateAfter G n Z)
-  unfolding stepsFrom stateAfter
+  unfolding stepsFrom stateAfter next Option·elim
   along P stop more zero Z = stop 0 Z (inl refl)
-  along P stop more (suc n) Z = by (ltb (ruleOf G Z) 8) (ltb→lt (ruleOf G Z) 8) (nltb→le (ruleOf G Z) 8) (along P stop more n (next G Z))
+  along P stop more (suc n) Z = by-cases (decLt (ruleOf G Z) 8)
+      (λ h. subst Told (sym (step-taken G Z h)) (more n Z (stepsFrom G n (next G Z)) (stateAfter G n (next G Z)) h (along P stop more n (next G Z))))
+      (λ h. let k : 8 ≤ ruleOf G Z = omega arith in subst Told (sym (no-step G Z k)) (stop (suc n) Z (inr k)))
     where
-      by : (b : Bool) → (T b → ruleOf G Z < 8) → (T (not b) → 8 ≤ ruleOf G Z) → P n (next G Z) (stepsFrom G n (next G Z)) (stateAfter G n (next G Z))
-          → P (suc n) Z (elim b as (λ b. List Step) [ true ↦ stepOf G Z ∷ stepsFrom G n (next G Z) | false ↦ [] ]) (elim b as (λ b. State) [ true ↦ stateAfter G n (next G Z) | false ↦ Z ])
-      by true h k ih = more n Z (stepsFrom G n (next G Z)) (stateAfter G n (next G Z)) (h tt) ih
-      by false h k ih = stop (suc n) Z (inr (k tt))
+      Told : Option Step → Type 0
+      Told o = P (suc n) Z (then-steps n Z o) (then-state n Z o)
 
   -- in particular the law of the cut quotas, at every state on the way
   pub sound-after : (n : ℕ) → Sound G (stateAfter G n (begin G))
@@ -47,23 +56,23 @@ module _ (G : Instance) where
 
   -- ---- each step is that of the state before it
   pub after-more : (n : ℕ) (Z : State) → ruleOf G Z < 8 → stateAfter G (suc n) Z ≡ stateAfter G n (next G Z)
-  unfolding stateAfter
-  after-more n Z h = ap (λ b. elim b as (λ b. State) [ true ↦ stateAfter G n (next G Z) | false ↦ Z ]) (lt-ltb (ruleOf G Z) 8 h)
+  unfolding stateAfter next Option·elim
+  after-more n Z h = ap (then-state n Z) (step-taken G Z h)
 
   pub steps-more : (n : ℕ) (Z : State) → ruleOf G Z < 8 → stepsFrom G (suc n) Z ≡ stepOf G Z ∷ stepsFrom G n (next G Z)
-  unfolding stepsFrom
-  steps-more n Z h = ap (λ b. elim b as (λ b. List Step) [ true ↦ stepOf G Z ∷ stepsFrom G n (next G Z) | false ↦ [] ]) (lt-ltb (ruleOf G Z) 8 h)
+  unfolding stepsFrom next Option·elim
+  steps-more n Z h = ap (then-steps n Z) (step-taken G Z h)
 
   -- and where no rule acts there is none
   pub after-none : (n : ℕ) (Z : State) → 8 ≤ ruleOf G Z → stateAfter G n Z ≡ Z
-  unfolding stateAfter
+  unfolding stateAfter Option·elim
   after-none zero Z h = refl
-  after-none (suc n) Z h = ap (λ b. elim b as (λ b. State) [ true ↦ stateAfter G n (next G Z) | false ↦ Z ]) (le-ltb (ruleOf G Z) 8 h)
+  after-none (suc n) Z h = ap (then-state n Z) (no-step G Z h)
 
   pub steps-none : (n : ℕ) (Z : State) → 8 ≤ ruleOf G Z → stepsFrom G n Z ≡ []
-  unfolding stepsFrom
+  unfolding stepsFrom Option·elim
   steps-none zero Z h = refl
-  steps-none (suc n) Z h = ap (λ b. elim b as (λ b. List Step) [ true ↦ stepOf G Z ∷ stepsFrom G n (next G Z) | false ↦ [] ]) (le-ltb (ruleOf G Z) 8 h)
+  steps-none (suc n) Z h = ap (then-steps n Z) (no-step G Z h)
 
   -- s is the step that a rule takes after some number of steps
   abbrev pub Taken : State → Step → Type 0

@@ -11,7 +11,8 @@ use lib.Dec.{T, T-not, not-T}
 use Rattle.lists.specs.Test.{by-test, given, bit, bit-yes, bit-no}
 use Rattle.lists.specs.Distinct.{chain}
 use Rattle.model.specs.Instance.{Instance, stands, deg}
-use Rattle.model.specs.Reduction.{State, cutT, arrowS, arrowT, loose, reserved, rule1, rule2, rule3, rule4, rule6, rule7, names}
+use Rattle.model.specs.Reduction.{State, cutT, arrowS, arrowT, loose, reserved, rule1, rule2, rule3, rule4, rule6, rule7}
+use Rattle.theory_reduction.specs.RuleNumbers.{names}
 use Rattle.theory_instance.specs.Degree.{deg-none}
 use Rattle.theory_instance.specs.Walk.{up-one, up-yes, up-no, New}
 use Rattle.theory_reduction.specs.Facts.{Quiet, arrowS-rem, arrowT-rem, arrowT-strict, loose-says, reserved-rem, reserved-says, rule1-quiet, rule2-quiet, rule6-quiet, rule7-quiet}

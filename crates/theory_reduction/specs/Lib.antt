@@ -11,3 +11,5 @@ pub mod Steps
 pub mod End
 pub mod Run
 pub mod StableStrike
+pub mod RuleNumbers
+pub mod FirstRule

@@ -8,7 +8,8 @@ use mathlib.Core.Bool.{Bool, true, false, not, _&&_, _||_}
 use lib.Dec.{T, ltb, eqb, eqb→eq, T-not, not-T}
 use Rattle.lists.specs.Test.{given, nand-i, bit}
 use Rattle.model.specs.Instance.{Instance, Side, surveyors, stands, deg}
-use Rattle.model.specs.Reduction.{State, cut, ruleOf, fateOf, edgeOf, fixes, act, next, begin}
+use Rattle.model.specs.Reduction.{State, cut, fixes, act, begin}
+use Rattle.theory_reduction.specs.RuleNumbers.{ruleOf, fateOf, edgeOf, next}
 use Rattle.theory_instance.specs.Degree.{deg-zero, deg-with, deg-without}
 use Rattle.theory_reduction.specs.Chosen.{acts, fixes-room}
 

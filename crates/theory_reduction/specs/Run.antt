@@ -6,7 +6,8 @@ use mathlib.Core.Bool.{Bool, true, false, not, _&&_, _||_}
 use lib.Dec.{T, eqb, eqb→eq, lt→ltb, T-not}
 use Rattle.lists.specs.Test.{by-test, given, bool-eq, and-i}
 use Rattle.model.specs.Instance.{Instance}
-use Rattle.model.specs.Reduction.{State, ruleOf, edgeOf, fateOf, fixes, act, next, begin, endOf}
+use Rattle.model.specs.Reduction.{State, fixes, act, begin, endOf}
+use Rattle.theory_reduction.specs.RuleNumbers.{ruleOf, edgeOf, fateOf, next}
 use Rattle.theory_instance.specs.Lawful.{Lawful, Matching}
 use Rattle.theory_instance.specs.Walk.{NoBad}
 use Rattle.theory_reduction.specs.Chosen.{acts}

@@ -9,7 +9,8 @@ use mathlib.Core.Bool.{Bool, not, _||_}
 use lib.Dec.{T}
 use Rattle.lists.specs.Test.{by-test, given, or-l, nor-l, nor-r}
 use Rattle.model.specs.Instance.{Instance, surveyors, stands, deg}
-use Rattle.model.specs.Reduction.{State, cutS, cutT, arrowS, arrowT, reserved, rule1, rule2, rule3, rule4, rule5, rule6, rule7, names, fateOf, fixes}
+use Rattle.model.specs.Reduction.{State, cutS, cutT, arrowS, arrowT, reserved, rule1, rule2, rule3, rule4, rule5, rule6, rule7, fixes}
+use Rattle.theory_reduction.specs.RuleNumbers.{names, fateOf}
 use Rattle.theory_instance.specs.Degree.{deg-none, deg-pos}
 use Rattle.theory_instance.specs.Walk.{up, up-one, up-yes, up-no, New}
 use Rattle.theory_reduction.specs.Arrows.{few-arrow}
