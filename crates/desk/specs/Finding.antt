@@ -23,15 +23,17 @@ use Rattle.theory_verdict.specs.Rival.{rivalOf}
 use Rattle.theory_finder.specs.Choices.{chosen}
 use Rattle.theory_reduction.specs.Course.{steps-few}
 use Rattle.diary.specs.declared.Step.{Step}
-use Rattle.diary.specs.Steps.{recordIn, recordsIn, stepsIn}
-use Rattle.diary.specs.Records.{filled-diary, filled-none}
+use Rattle.diary.specs.LentSteps.{recordIn, recordsIn, stepsIn}
+use Rattle.diary.specs.FilledDiary.{filled-diary, filled-none}
 use Rattle.answers.specs.FinderCases.{foundShown}
 use Rattle.answers.specs.GroupCases.{shown-case}
-use Rattle.finder.specs.declared.Outcome.{Outcome}
 use Rattle.finder.specs.Promise as promise
-use Rattle.finder.specs.Promise.{Promise, leftAfter, planAfter, answerFor, written-is, shown-is, promised, steps-are}
-use Rattle.finder.specs.Found as finds
-use Rattle.finder.specs.Found.{FindsFor, short, OutcomeFor, Outcomes}
+use Rattle.finder.specs.Promise.{Promise, written-is, shown-is, promised, steps-are}
+use Rattle.finder_ending.specs.EndBuffers.{leftAfter, planAfter, answerFor}
+use Rattle.diary.specs.FlatDiary.{flatSize}
+use Rattle.desk.specs.declared.finding.Outcome.{Outcome}
+use Rattle.desk.specs.Outcomes as finds
+use Rattle.desk.specs.Outcomes.{FindsFor, short, OutcomeFor, Outcomes}
 use Rattle.desk.specs.declared.Desk.{Desk}
 use Rattle.desk.specs.declared.FindReply.{FindReply}
 use Rattle.desk.specs.declared.CoreReply.{CoreReply}
@@ -120,7 +122,7 @@ module _ (s : List Step) (l p v : List ℕ) where
         (by-state d call tt e h (ap foundShown (sym a ∙ k .refuses .answer) ∙ ap (refused n) (shown-case (groupOf n)))))
 
     -- what was found
-    module _ (R : Roster) (e : readRoster (rosterBytes d) ≡ accepted R) (f : FindsFor R (replicate 4096 0) l p v (r .answer) flat l′ p′ v′) (q : recordsIn s′ ≡ onto (diaryOf (instanceOf R)) (recordsIn s)) where
+    module _ (R : Roster) (e : readRoster (rosterBytes d) ≡ accepted R) (f : FindsFor R (replicate flatSize 0) l p v (r .answer) flat l′ p′ v′) (q : recordsIn s′ ≡ onto (diaryOf (instanceOf R)) (recordsIn s)) where
       abbrev x : F.Found
       x = finderOf (instanceOf R) (rivalOf (instanceOf R))
 
@@ -152,9 +154,9 @@ module _ (s : List Step) (l p v : List ℕ) where
           (promised R (f .fitting) (recordsIn s) l p v)))))
 
     -- the filled diary is the model's
-    diary-here : (R : Roster) (steps : ℕ) → FindsFor R (replicate 4096 0) l p v (r .answer) flat l′ p′ v′ → steps ≡ promise.stepsIn (r .answer) → s′ ≡ onto (stepsIn steps flat) s → recordsIn s′ ≡ onto (diaryOf (instanceOf R)) (recordsIn s)
+    diary-here : (R : Roster) (steps : ℕ) → FindsFor R (replicate flatSize 0) l p v (r .answer) flat l′ p′ v′ → steps ≡ promise.stepsIn (r .answer) → s′ ≡ onto (stepsIn steps flat) s → recordsIn s′ ≡ onto (diaryOf (instanceOf R)) (recordsIn s)
     unfolding diaryOf
-    diary-here R steps f n w = filled-diary (diaryOf (instanceOf R)) steps flat (replicate 4096 0) s s′ (f .finds .diary)
+    diary-here R steps f n w = filled-diary (diaryOf (instanceOf R)) steps flat (replicate flatSize 0) s s′ (f .finds .diary)
         (n ∙ ap promise.stepsIn (f .finds .wrote .answer) ∙ steps-are (length (stepsOf (instanceOf R))) (finderOf (instanceOf R) (rivalOf (instanceOf R))) ∙ sym (length-map (stepsOf (instanceOf R)) (recordOf (instanceOf R)))) w
 
     -- by the roster's reading and the buffers' sizes

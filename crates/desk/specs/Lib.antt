@@ -4,5 +4,6 @@ pub mod Replies
 pub mod Laws
 pub mod Passing
 pub mod Loads
+pub mod Outcomes
 pub mod Finding
 pub mod Verdicts

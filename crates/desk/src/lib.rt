@@ -1,6 +1,7 @@
 // The desk, document 01's session state: "The desk goes into each call by value and comes back: nothing loaded, a roster, or a roster and
 // a plan." What it holds is said by its bytes alone, so any field values may come in: a length above its array is cut to it, bytes that
 // are no roster are nothing loaded, and bytes that are no plan of the roster are no plan held. No call asks anything of its caller.
+mod finding;
 mod held;
 mod state;
 mod store;
@@ -20,6 +21,7 @@ use answers::Group;
 use answers::Verdict;
 use answers::Written;
 use diary::Step;
+use limits::FLAT_SIZE;
 use limits::PLAN_SIZE;
 use limits::ROSTER_SIZE;
 
@@ -71,7 +73,7 @@ pub struct FindReply {
 // What the core of a find hands back: the reply, and the diary as numbers, four a record, with the number of its records.
 pub struct CoreReply {
     pub reply: FindReply,
-    pub flat: [u8; 4096],
+    pub flat: [u8; FLAT_SIZE],
     pub steps: usize,
 }
 
@@ -87,7 +89,7 @@ pub(crate) fn core(
 {
     let bytes = desk.roster;
     let len = held::clamped(desk.roster_len, ROSTER_SIZE);
-    let o = finder::found(&bytes[..len], room, left, plan, rival);
+    let o = finding::found(&bytes[..len], room, left, plan, rival);
     let answer = o.answer;
     let flat = o.flat;
     let reply = FindReply {

@@ -7,8 +7,8 @@ use lib.ListN.{length, getD, set, drop, length-set, length-append}
 use lib.Seq.{drop-cons, set-at}
 use Rattle.model.specs.Desk.{onto}
 use Rattle.diary.specs.declared.Step.{Step}
-use Rattle.diary.specs.Steps.{stepAt, stepsIn}
-use Rattle.diary.specs.Records.{steps-length, steps-more}
+use Rattle.diary.specs.LentSteps.{stepAt, stepsIn}
+use Rattle.diary.specs.FilledDiary.{steps-length, steps-more}
 
 -- the diary with its first n records written
 abbrev pub filled : ℕ → List ℕ → List Step → List Step

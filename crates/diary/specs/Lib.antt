@@ -1,2 +1,4 @@
-pub mod Steps
-pub mod Records
+pub mod LentSteps
+pub mod FlatDiary
+pub mod TraceRecords
+pub mod FilledDiary

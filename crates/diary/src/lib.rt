@@ -1,11 +1,15 @@
 // The diary that a caller lends: a slice of step records, as document 01 has it ("The diary is a lent list of step records: fate, surveyor,
-// stand, rule"). The run writes its diary flat, four numbers a record (crate `board`); `fill` puts the records of a flat diary to the front of
-// the lent slice. No other function of the planner writes into a slice of structs.
+// stand, rule"). A run leaves a trace (crate reduction_state); `flat_records` makes its records as numbers, four a record, and `fill` puts the
+// records of such a flat diary to the front of the lent slice. No other function of the planner writes into a slice of structs.
 ghost use mathlib.Core.Path.{_≡_};
 ghost use Prim.Native.Nat.{_<_, _≤_};
 ghost use lib.ListN.{length};
+ghost use Rattle.model.specs.Limits.{diarySize};
 ghost use Rattle.model.specs.Desk.{onto};
-ghost use Rattle.diary.specs.Steps.{stepAt, stepsIn};
+ghost use Rattle.diary.specs.LentSteps.{stepAt, stepsIn};
+ghost use Rattle.diary.specs.TraceRecords.{Readable, flatOf};
+use limits::FLAT_SIZE;
+use reduction_state::Trace;
 
 // A record of the diary: fate 1 is fix and 2 strike; surveyor and stand count from 1.
 #[repr(C)]
@@ -16,9 +20,30 @@ pub struct Step {
     pub rule: u8,
 }
 
+// The records of a trace, four numbers each.
+pub fn flat_records(sv: &[u8; 1024], st: &[u8; 1024], trace: Trace) -> [u8; FLAT_SIZE]
+    requires { ⌜ Readable (now sv) (now st) trace ⌝ }
+    ensures { λ r. ⌜ r ≡ flatOf (now (sv .entry)) (now (st .entry)) trace ⌝ }
+{
+    let mut flat = [0u8; FLAT_SIZE];
+    let mut i = 0;
+    while i < trace.steps {
+        let e = trace.edges[i] as usize;
+        let rule = trace.rules[i];
+        let fix = reduction_state::fixes(rule);
+        let b = i * 4;
+        flat[b] = 2 - fix as u8;
+        flat[b + 1] = sv[e] + 1;
+        flat[b + 2] = st[e] + 1;
+        flat[b + 3] = rule;
+        i += 1;
+    }
+    flat
+}
+
 // The i-th record of a flat diary.
 pub fn step_at(flat: [u8; 4096], i: usize) -> Step
-    requires { ⌜ i < 1024 ⌝ }
+    requires { ⌜ i < diarySize ⌝ }
     ensures { λ r. ⌜ r ≡ stepAt flat i ⌝ }
 {
     let b = i * 4;
@@ -32,7 +57,7 @@ pub fn step_at(flat: [u8; 4096], i: usize) -> Step
 
 // The first n records of a flat diary go to the front of the lent one; behind them it keeps its records.
 pub fn fill(diary: &mut [Step], flat: [u8; 4096], n: usize)
-    requires { ⌜ (n ≤ 1024) × (n ≤ length (now diary)) ⌝ }
+    requires { ⌜ (n ≤ diarySize) × (n ≤ length (now diary)) ⌝ }
     ensures { λ _. ⌜ now (diary .exit) ≡ onto (stepsIn n flat) (now (diary .entry)) ⌝ }
 {
     let mut i = 0;

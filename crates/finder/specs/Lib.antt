@@ -1,3 +1,2 @@
+pub mod Finding
 pub mod Promise
-pub mod Found
-pub mod Endings

@@ -32,25 +32,9 @@ use Rattle.answers.specs.declared.Found as code
 use Rattle.answers.specs.declared.Found.the-variants as says
 use Rattle.answers.specs.declared.NoneKind.the-variants as kind
 use Rattle.answers.specs.FinderCases.{foundShown}
+use Rattle.finder_ending.specs.EndBuffers.{leftAfter, planAfter, rivalAfter, answerFor}
 
--- ---- the buffers after a find, one by one
-module _ (G : Instance) where
-  abbrev pub leftAfter : Found → List ℕ → List ℕ
-  leftAfter (F.plan M) l = l
-  leftAfter (F.left es) l = onto (pairList G es) l
-  leftAfter (F.rivalled M N w) l = l
-
-  abbrev pub planAfter : Found → List ℕ → List ℕ
-  planAfter (F.plan M) p = onto (planBytes G M) p
-  planAfter (F.left es) p = p
-  planAfter (F.rivalled M N w) p = onto (planBytes G M) p
-
-  abbrev pub rivalAfter : Found → List ℕ → List ℕ
-  rivalAfter (F.plan M) v = v
-  rivalAfter (F.left es) v = v
-  rivalAfter (F.rivalled M N w) v = onto (planBytes G N) v
-
--- they are those of the desk's call
+-- ---- the buffers after a find are those of the desk's call
 pub written-is : (G : Instance) (x : Found) (d : List Record) (l p v : List ℕ)
     → foundWritten G x d l p v ≡ find (onto (diaryOf G) d) (leftAfter G x l) (planAfter G x p) (rivalAfter G x v)
 written-is G (F.plan M) d l p v = refl
@@ -118,12 +102,6 @@ module _ (r : Roster) where
     pub ending : Ending a l p v l′ p′ v′
 
 -- ---- the model's finder keeps it
--- the code's answer for what the finder finds
-abbrev pub answerFor : ℕ → Found → code.Found
-answerFor n (F.plan M) = says.Plan n
-answerFor n (F.left es) = says.None n (kind.Left (length es))
-answerFor n (F.rivalled M N w) = says.None n (kind.Rivalled w)
-
 pub shown-is : (n : ℕ) (x : Found) → foundShown (answerFor n x) ≡ foundAnswer n x
 shown-is n (F.plan M) = refl
 shown-is n (F.left es) = refl

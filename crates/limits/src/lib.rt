@@ -20,3 +20,6 @@ pub const ROSTER_SIZE: usize = 2214;
 pub const DIARY_SIZE: usize = 1024;
 
 pub const LEFT_SIZE: usize = 2048;
+
+// the size of a flat diary, four numbers a record
+pub const FLAT_SIZE: usize = 4096;

@@ -1,9 +1,9 @@
 -- What the finder leaves in its buffers is what the printer asks for, and what the printer writes is the program's text.
 use Prim.Native.Nat.{ℕ, _*_, _≤_}
 use native.Mathlib.Omega.{arith}
-use mathlib.Core.Path.{_≡_, sym, ap, _∙_, subst}
+use mathlib.Core.Path.{_≡_, refl, sym, ap, _∙_, subst}
 use mathlib.Core.List.{List}
-use lib.ListN.{length, drop, length-append, length-drop}
+use lib.ListN.{length, drop, replicate, length-append, length-drop}
 use lib.Dec.{T}
 use Rattle.model.specs.Limits.{planSize, diarySize, leftSize}
 use Rattle.model.specs.Reading.{accepted}
@@ -14,7 +14,7 @@ use Rattle.model.specs.Instance.{Instance}
 use Rattle.model.specs.PlanFile.{pairList, planBytes}
 use Rattle.model.specs.Reduction.{stepsOf}
 use Rattle.model.specs.Finder as F
-use Rattle.model.specs.Finder.{finderOf}
+use Rattle.model.specs.Finder.{diaryOf, finderOf}
 use Rattle.model.specs.Desk.{refused, onto}
 use Rattle.model.specs.Printed.{answerText}
 use Rattle.theory_files.specs.Reads.{isBytes}
@@ -30,8 +30,14 @@ use Rattle.instance.specs.Accepted.{RosterAccepted}
 use Rattle.answers.specs.declared.Found.{Found}
 use Rattle.answers.specs.declared.Found.the-variants as says
 use Rattle.answers.specs.FinderCases.{foundShown}
-use Rattle.finder.specs.Promise.{leftAfter, planAfter, rivalAfter, shown-is}
-use Rattle.finder.specs.Found.{FindsIn, Finds}
+use Rattle.instance.specs.declared.Instance as arrays
+use Rattle.instance.specs.Decoded.{shownBy, Decoded}
+use Rattle.diary.specs.FlatDiary.{flatSize, written}
+use Rattle.diary.specs.TraceRecords.{flatOf, Readable, trace-flat, readable}
+use Rattle.finder_ending.specs.EndBuffers.{leftAfter, planAfter, rivalAfter}
+use Rattle.finder.specs.declared.Outcome.{Outcome}
+use Rattle.finder.specs.Finding.{Finds}
+use Rattle.finder.specs.Promise.{shown-is}
 use Rattle.text_answer.specs.Printable.{Printable, textSize}
 use Rattle.text_answer.specs.Handed.{Pairs, Handed, HandedFor}
 use Rattle.text_answer.specs.Answered.{Wrote, Answered, answered-text}
@@ -45,10 +51,11 @@ module _ (G : Instance) (l p v l′ p′ v′ : List ℕ) where
   pairs-handed (F.left es) a b c = (drop (length (pairList G es)) l, a)
   pairs-handed (F.rivalled M N w) a b c = ((drop (length (planBytes G M)) p, b), (drop (length (planBytes G N)) v, c))
 
-  handed : (d : List ℕ) (a : Found) (d′ : List ℕ) → FindsIn G d l p v a d′ l′ p′ v′ → Handed G (finderOf G (rivalOf G)) a d′ l′ p′ v′
-  handed d a d′ f = record {
+  handed : (o : Outcome) (flat : List ℕ) → Finds G l p v o l′ p′ v′ → flat ≡ written (diaryOf G) (replicate flatSize 0)
+      → Handed G (finderOf G (rivalOf G)) (o .answer) flat l′ p′ v′
+  handed o flat f q = record {
     answer = ap foundShown (f .wrote .answer) ∙ shown-is (length (stepsOf G)) (finderOf G (rivalOf G));
-    diary = (d, f .diary);
+    diary = (replicate flatSize 0, q);
     pairs = pairs-handed (finderOf G (rivalOf G)) (f .wrote .left) (f .wrote .plan) (f .wrote .rival);
   }
 
@@ -61,7 +68,7 @@ module _ (input : List ℕ) (isB : T (isBytes input)) where
   fit r e = read-fits input r isB e
 
   module _ (a : Found) (flat left plan rival : List ℕ) (h : HandedFor (readRoster input) a flat left plan rival) where
-    pub can-print : 4 * diarySize ≤ length flat → leftSize ≤ length left → planSize ≤ length plan → planSize ≤ length rival → Printable a flat left plan rival
+    pub can-print : flatSize ≤ length flat → leftSize ≤ length left → planSize ≤ length plan → planSize ≤ length rival → Printable a flat left plan rival
     can-print d l p v = file-printable (readRoster input) fit a flat left plan rival d l p v h
 
     pub prints : (before : List ℕ) (n : ℕ) (after : List ℕ) → textSize ≤ length before → Answered a flat left plan rival before n after → Prints input before n after
@@ -74,10 +81,17 @@ module _ (input : List ℕ) (isB : T (isBytes input)) where
           size = ap length (t .bytes) ∙ onto-length (answerText (readRoster input) rivalOf) before (omega arith);
         }
 
-  -- what the finder hands over for an accepted roster
-  pub found-handed : RosterAccepted input → (d l p v : List ℕ) (a : Found) (d′ l′ p′ v′ : List ℕ) → Finds input d l p v a d′ l′ p′ v′ → HandedFor (readRoster input) a d′ l′ p′ v′
-  found-handed (R, e) d l p v a d′ l′ p′ v′ F =
-      subst (λ y. HandedFor y a d′ l′ p′ v′) (sym e) (handed (instanceOf R) l p v l′ p′ v′ d a d′ (F R e .finds))
+  -- what the finder hands over for an accepted roster, with the flat diary of its trace
+  pub found-handed : RosterAccepted input → (g : arrays.Instance) → Decoded input g → (l p v : List ℕ) (o : Outcome) (l′ p′ v′ flat : List ℕ)
+      → Finds (shownBy g) l p v o l′ p′ v′ → flat ≡ flatOf (g .sv) (g .st) (o .trace) → HandedFor (readRoster input) (o .answer) flat l′ p′ v′
+  found-handed (R, e) g D l p v o l′ p′ v′ flat F q =
+      subst (λ y. HandedFor y (o .answer) flat l′ p′ v′) (sym e)
+      (subst (λ G. Handed G (finderOf G (rivalOf G)) (o .answer) flat l′ p′ v′) (D .shows R e)
+      (handed (shownBy g) l p v l′ p′ v′ o flat F (q ∙ trace-flat (shownBy g) (g .sv) (g .st) refl refl (o .trace) (F .traced))))
+
+  pub found-readable : RosterAccepted input → (g : arrays.Instance) → Decoded input g → (l p v : List ℕ) (o : Outcome) (l′ p′ v′ : List ℕ)
+      → Finds (shownBy g) l p v o l′ p′ v′ → Readable (g .sv) (g .st) (o .trace)
+  found-readable (R, e) g D l p v o l′ p′ v′ F = readable (shownBy g) (g .sv) (g .st) (D .edges) (D .low-sv) (D .low-st) (o .trace) (F .traced)
 
   -- a refusal
   pub refused-handed : {n : ℕ} {k : Group} → answer.Refused n k ≡ fileCase (readRoster input) → (flat left plan rival : List ℕ) → HandedFor (readRoster input) (says.Refused n k) flat left plan rival

@@ -6,18 +6,25 @@ ghost use Rattle.instance.specs.Accepted.{RosterAccepted};
 ghost use Rattle.program.specs.Printing.{Prints};
 use answers::FileAnswer;
 use answers::Found;
+use limits::LEFT_SIZE;
+use limits::PLAN_SIZE;
 
 // The text for an accepted roster.
 pub(crate) fn worked(roster: &[u8], out: &mut [u8; 32783]) -> usize
     requires { ⌜ RosterAccepted (now roster) ⌝ }
     ensures { λ r. ⌜ Prints (now (roster .entry)) (now (out .entry)) r (now (out .exit)) ⌝ }
 {
-    let mut flat = [0u8; 4096];
-    let mut left = [0u8; 2048];
-    let mut plan = [0u8; 129];
-    let mut rival = [0u8; 129];
-    let a = finder::find(roster, &mut flat, &mut left, &mut plan, &mut rival);
-    text_answer::answer_text(a, &flat, &left, &plan, &rival, out)
+    let g = instance::instance_of(roster);
+    let sv = g.sv;
+    let st = g.st;
+    let mut left = [0u8; LEFT_SIZE];
+    let mut plan = [0u8; PLAN_SIZE];
+    let mut rival = [0u8; PLAN_SIZE];
+    let o = finder::find(g, &mut left, &mut plan, &mut rival);
+    let answer = o.answer;
+    let trace = o.trace;
+    let flat = diary::flat_records(&sv, &st, trace);
+    text_answer::answer_text(answer, &flat, &left, &plan, &rival, out)
 }
 
 // "prints the finder's answer": the text at the front of out, and its length. No text is longer than out.

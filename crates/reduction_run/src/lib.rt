@@ -1,26 +1,33 @@
-// The whole reduction: all steps, each written to the flat diary, and what remains and what is fixed at the end. After a calm strike (crate board)
-// the rule goes on with the next edge that it named, and nothing is computed anew.
+// The whole reduction: all steps, each entered in the trace, and what remains and what is fixed at the end. After a stable strike (crate
+// reduction_state) the rule goes on with the next edge that it named, and nothing is computed anew.
 ghost use mathlib.Core.Path.{_≡_};
-ghost use mathlib.Core.Bool.{Bool};
-ghost use mathlib.Core.List.{List};
 ghost use Prim.Native.Nat.{ℕ, _≤_, _<_};
 ghost use lib.ListN.{length};
-ghost use Rattle.model.specs.Limits.{emptyRank};
+ghost use Rattle.model.specs.Limits.{nodeLimit, entryLimit, emptyRank};
 ghost use Rattle.arrays.specs.ArrayInstance.{at};
 ghost use Rattle.reduction_counts.specs.Filled.{Low};
 ghost use Rattle.reduction_step.specs.View.{Known, instanceOf};
 ghost use Rattle.reduction_state.specs.Outcome.{Reduced, ReducedFrom};
-ghost use Rattle.reduction_state.specs.Boards.{Sized};
-ghost use Rattle.reduction_run.specs.RepeatedStrikes.{Swept};
+ghost use Rattle.reduction_state.specs.RunState.{Sized};
+ghost use Rattle.reduction_run.specs.RepeatedStrikes.{Repeated};
+use reduction_state::State;
+use reduction_state::Trace;
 
-// A board and the number of steps to it.
-pub struct Ran {
-    pub board: reduction_state::Board,
+// What a run leaves: what remains, what is fixed, and its trace.
+pub struct Reduction {
+    pub rem: [bool; 1024],
+    pub fixed: [bool; 1024],
+    pub trace: Trace,
+}
+
+// A state and the number of steps to it.
+pub struct Struck {
+    pub state: State,
     pub steps: usize,
 }
 
-// Further strikes of a rule behind its edge e, of the edges in hit, as long as they are calm.
-pub fn sweep(
+// Further strikes of a rule behind its edge, of the edges in hit, as long as they are stable.
+pub(crate) fn strikes(
     m: usize,
     sv: &[u8; 1024],
     st: &[u8; 1024],
@@ -29,69 +36,81 @@ pub fn sweep(
     ft: &[bool; 1024],
     rule: u8,
     edge: usize,
-    calm: bool,
-    x: reduction_state::Board,
+    stable: bool,
+    x: State,
     steps: usize,
-    diary: &mut [u8],
-) -> Ran
-    requires { ⌜ (m ≤ 1024) × Low m (now sv) 32 × Low m (now st) 32 × (edge < m) × (4096 ≤ length (now diary)) ⌝ }
-    ensures { λ r. ⌜ (steps ≤ r .steps) × (length (now (diary .exit)) ≡ length (now (diary .entry))) × Sized (r .board) × Swept m (now (sv .entry)) (now (st .entry)) (now (hit .entry)) (now (fs .entry)) (now (ft .entry)) rule edge calm x steps (now (diary .entry)) (r .board) (r .steps) (now (diary .exit)) ⌝ }
+    edges: &mut [u16; 1024],
+    rules: &mut [u8; 1024],
+) -> Struck
+    requires { ⌜ (m ≤ entryLimit) × Low m (now sv) nodeLimit × Low m (now st) nodeLimit × (edge < m) ⌝ }
+    ensures { λ r. ⌜ (steps ≤ r .steps) × Sized (r .state) ⌝ }
+    ensures { λ r. ⌜ Repeated
+        (record { m = m; sv = now (sv .entry); st = now (st .entry); hit = now (hit .entry); fs = now (fs .entry); ft = now (ft .entry); rule = rule })
+        (record { edge = edge; stable = stable; state = x; trace = record { edges = now (edges .entry); rules = now (rules .entry); steps = steps } })
+        (r .state)
+        (record { edges = now (edges .exit); rules = now (rules .exit); steps = r .steps }) ⌝ }
 {
     let mut y = x;
     let mut n = steps;
     let mut e = edge;
-    let mut go = calm;
+    let mut go = stable;
     while go {
         let j = reduction_rules::next(m, hit, e + 1);
         if (m <= j) | (m <= n) {
-            return Ran { board: y, steps: n };
+            return Struck { state: y, steps: n };
         }
-        go = reduction_state::calm(rule, sv, st, fs, ft, y, j);
-        reduction_state::note(&mut *diary, n, rule, sv[j], st[j]);
+        go = reduction_state::stable(rule, sv, st, fs, ft, y, j);
+        edges[n] = j as u16;
+        rules[n] = rule;
         let z = reduction_state::act(sv, st, y, rule, j);
         y = z;
         n += 1;
         e = j;
     }
-    Ran { board: y, steps: n }
+    Struck { state: y, steps: n }
 }
 
-pub fn run(
+// All steps, with the edges in the order of their ranks on both sides.
+pub(crate) fn run(
     m: usize,
     sv: &[u8; 1024],
     st: &[u8; 1024],
     tied: &[bool; 1024],
-    quotaS: &[u8; 32],
-    quotaT: &[u8; 32],
+    qs: &[u8; 32],
+    qt: &[u8; 32],
     os: &[u16],
     ot: &[u16],
-    diary: &mut [u8],
-) -> Ran
-    requires { ⌜ (m ≤ 1024) × Low m (now sv) 32 × Low m (now st) 32 ⌝ }
-    requires { ⌜ (length (now os) ≤ 1024) × Low (length (now os)) (now os) 1024 × ((k : ℕ) → k < length (now os) → at (now sv) (at (now os) k) < 32) ⌝ }
-    requires { ⌜ (length (now ot) ≤ 1024) × Low (length (now ot)) (now ot) 1024 × ((k : ℕ) → k < length (now ot) → at (now st) (at (now ot) k) < 32) ⌝ }
-    requires { ⌜ 4096 ≤ length (now diary) ⌝ }
-    ensures { λ r. ⌜ ((K : Known m (now (sv .entry)) (now (st .entry)) (now (tied .entry)) (now (quotaS .entry)) (now (quotaT .entry)) (now (os .entry)) (now (ot .entry))) → Reduced (instanceOf K) (now (diary .entry)) (r .board .rem) (r .board .fixed) (r .steps) (now (diary .exit))) ⌝ }
+) -> Reduction
+    requires { ⌜ (m ≤ entryLimit) × Low m (now sv) nodeLimit × Low m (now st) nodeLimit ⌝ }
+    requires { ⌜ (length (now os) ≤ entryLimit) × Low (length (now os)) (now os) entryLimit
+        × ((k : ℕ) → k < length (now os) → at (now sv) (at (now os) k) < nodeLimit) ⌝ }
+    requires { ⌜ (length (now ot) ≤ entryLimit) × Low (length (now ot)) (now ot) entryLimit
+        × ((k : ℕ) → k < length (now ot) → at (now st) (at (now ot) k) < nodeLimit) ⌝ }
+    ensures { λ r. ⌜ ((K : Known m (now (sv .entry)) (now (st .entry)) (now (tied .entry)) (now (qs .entry)) (now (qt .entry)) (now (os .entry)) (now (ot .entry)))
+        → Reduced (instanceOf K) (r .rem) (r .fixed) (r .trace)) ⌝ }
 {
-    let mut x = reduction_state::start(m, sv, st, quotaS, quotaT);
+    let mut edges = [0u16; 1024];
+    let mut rules = [0u8; 1024];
+    let mut x = reduction_state::start(m, sv, st, qs, qt);
     let mut n = 0;
     while n < m {
         let rem = x.rem;
-        let qs = x.qs;
-        let qt = x.qt;
-        let a = reduction_step::step(m, sv, st, tied, os, ot, &rem, &qs, &qt);
+        let cut_s = x.qs;
+        let cut_t = x.qt;
+        let a = reduction_step::step(m, sv, st, tied, os, ot, &rem, &cut_s, &cut_t);
         let rule = a.rule;
         let e = a.edge;
         if m <= e {
-            return Ran { board: x, steps: n };
+            break;
         }
         let hit = a.hit;
         let fs = a.fs;
         let ft = a.ft;
-        let calm = reduction_state::calm(rule, sv, st, &fs, &ft, x, e);
-        reduction_state::note(&mut *diary, n, rule, sv[e], st[e]);
+        let stable = reduction_state::stable(rule, sv, st, &fs, &ft, x, e);
+        edges[n] = e as u16;
+        rules[n] = rule;
         let y = reduction_state::act(sv, st, x, rule, e);
-        let z = sweep(
+        let z = strikes(
             m,
             sv,
             st,
@@ -100,16 +119,27 @@ pub fn run(
             &ft,
             rule,
             e,
-            calm,
+            stable,
             y,
             n + 1,
-            &mut *diary,
+            &mut edges,
+            &mut rules,
         );
-        let w = z.board;
+        let w = z.state;
         x = w;
         n = z.steps;
     }
-    Ran { board: x, steps: n }
+    let rem = x.rem;
+    let fixed = x.fixed;
+    Reduction {
+        rem: rem,
+        fixed: fixed,
+        trace: Trace {
+            edges: edges,
+            rules: rules,
+            steps: n,
+        },
+    }
 }
 
 // All steps of an instance, from the ranks of its edges.
@@ -117,27 +147,17 @@ pub fn reduce(
     m: usize,
     sv: &[u8; 1024],
     st: &[u8; 1024],
-    rankS: &[u8; 1024],
-    rankT: &[u8; 1024],
+    rs: &[u8; 1024],
+    rt: &[u8; 1024],
     tied: &[bool; 1024],
-    quotaS: &[u8; 32],
-    quotaT: &[u8; 32],
-    diary: &mut [u8],
-) -> Ran
-    requires { ⌜ (m ≤ 1024) × Low m (now sv) 32 × Low m (now st) 32 × Low m (now rankS) emptyRank × Low m (now rankT) emptyRank × (4096 ≤ length (now diary)) ⌝ }
-    ensures { λ r. ⌜ ReducedFrom m (now (sv .entry)) (now (st .entry)) (now (rankS .entry)) (now (rankT .entry)) (now (tied .entry)) (now (quotaS .entry)) (now (quotaT .entry)) (now (diary .entry)) (r .board .rem) (r .board .fixed) (r .steps) (now (diary .exit)) ⌝ }
+    qs: &[u8; 32],
+    qt: &[u8; 32],
+) -> Reduction
+    requires { ⌜ (m ≤ entryLimit) × Low m (now sv) nodeLimit × Low m (now st) nodeLimit × Low m (now rs) emptyRank × Low m (now rt) emptyRank ⌝ }
+    ensures { λ r. ⌜ ReducedFrom m (now (sv .entry)) (now (st .entry)) (now (rs .entry)) (now (rt .entry)) (now (tied .entry)) (now (qs .entry))
+        (now (qt .entry)) (r .rem) (r .fixed) (r .trace) ⌝ }
 {
-    let os = reduction_order::by_rank(m, rankS);
-    let ot = reduction_order::by_rank(m, rankT);
-    run(
-        m,
-        sv,
-        st,
-        tied,
-        quotaS,
-        quotaT,
-        &os[..m],
-        &ot[..m],
-        &mut *diary,
-    )
+    let os = reduction_order::by_rank(m, rs);
+    let ot = reduction_order::by_rank(m, rt);
+    run(m, sv, st, tied, qs, qt, &os[..m], &ot[..m])
 }

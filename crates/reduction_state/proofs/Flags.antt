@@ -1,5 +1,5 @@
--- Small facts of the code's values: flags of arrays, which rules fix, the number of a fate.
-use Prim.Native.Nat.{ℕ, zero, suc, _+_, _-_, _<_}
+-- Small facts of the code's values: flags of arrays, and which rules fix.
+use Prim.Native.Nat.{ℕ, zero, suc, _+_, _<_}
 use native.Mathlib.Omega.{arith}
 use mathlib.Core.Path.{_≡_, refl, sym, _∙_, subst}
 use mathlib.Core.Bool.{Bool, true, false, _||_}
@@ -10,11 +10,9 @@ use lib.ListN.{length, set, replicate}
 use lib.Seq.{getD-set-same, getD-set-other}
 use lib.Dec.{eqb, ltb}
 use borrow.Author.Tests.{lt-ltb, le-ltb, ne-eqb}
-use mir.Val.{boolByte}
 use Rattle.lists.specs.Test.{by-eq}
-use Rattle.model.specs.Reduction.{Fate, fix, strike, fixes}
+use Rattle.model.specs.Reduction.{fixes}
 use Rattle.theory_reduction.specs.RuleNumbers.{fateOf}
-use Rattle.model.specs.Finder.{fateNumber}
 use Rattle.arrays.specs.ArrayInstance.{flag}
 
 pub no-flags : (n e : ℕ) → flag (replicate n false) e ≡ false
@@ -34,10 +32,6 @@ pub all-next : (o : List Bool) (i : ℕ) → i < length o → ((e : ℕ) → fla
 all-next o i l h e = by-eq e i
     (λ q t. subst (λ z. flag (set o i true) z ≡ ltb e (i + 1)) (sym q) (getD-set-same o i true false l ∙ sym (lt-ltb e (i + 1) (omega arith))))
     (λ n t. getD-set-other o i e true false n ∙ h e ∙ up-one e i n)
-
-pub fate-byte : (f : Fate) → 2 - boolByte (fixes f) ≡ fateNumber f
-fate-byte fix = refl
-fate-byte strike = refl
 
 pub fixes-is : (r : ℕ) → ((eqb r 1 || eqb r 3) || eqb r 6) || eqb r 7 ≡ fixes (fateOf r)
 unfolding fateOf

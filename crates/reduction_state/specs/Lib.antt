@@ -1,4 +1,4 @@
-pub mod Diary
+pub mod AfterStep
+pub mod Trace
 pub mod Outcome
-pub mod Acted
-pub mod Boards
+pub mod RunState

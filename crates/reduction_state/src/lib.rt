@@ -1,5 +1,5 @@
-// The board of a run of the reduction: what remains, what is fixed, and by node the cut quotas and the numbers of remaining edges, which a step
-// renews at the two ends of its edge; and the flat diary, four numbers a record (fate, surveyor, stand, rule).
+// The state of a run of the reduction: what remains, what is fixed, and by node the cut quotas and the numbers of remaining edges, which a step
+// renews at the two ends of its edge; and the trace of a run, an edge and a rule for each step.
 ghost use mathlib.Core.Path.{_≡_};
 ghost use mathlib.Core.Bool.{Bool, not, _&&_, _||_};
 ghost use Prim.Native.Nat.{ℕ, _+_, _-_, _*_, _≤_, _<_, min};
@@ -10,11 +10,11 @@ ghost use Rattle.model.specs.Reduction as reduction;
 ghost use Rattle.theory_reduction.specs.RuleNumbers as numbers;
 ghost use Rattle.arrays.specs.ArrayInstance.{at, flag};
 ghost use Rattle.reduction_counts.specs.Filled.{Low};
-ghost use Rattle.reduction_state.specs.Diary.{put, entry};
-ghost use Rattle.reduction_state.specs.Boards.{acted, Started};
+ghost use Rattle.model.specs.Limits.{nodeLimit, entryLimit};
+ghost use Rattle.reduction_state.specs.RunState.{acted, Started, stableStrike};
 
-// The arrays of a state: remaining and fixed edges; by node, the cut quotaS and the numbers of remaining edges.
-pub struct Board {
+// The arrays of a state: remaining and fixed edges; by node, the cut quotas and the numbers of remaining edges.
+pub struct State {
     pub rem: [bool; 1024],
     pub fixed: [bool; 1024],
     pub qs: [u16; 32],
@@ -23,9 +23,16 @@ pub struct Board {
     pub dt: [u16; 32],
 }
 
+// The trace of a run: the edges and the rules of its steps, in front of the arrays.
+pub struct Trace {
+    pub edges: [u16; 1024],
+    pub rules: [u8; 1024],
+    pub steps: usize,
+}
+
 // All edges.
 pub fn all(m: usize) -> [bool; 1024]
-    requires { ⌜ m ≤ 1024 ⌝ }
+    requires { ⌜ m ≤ entryLimit ⌝ }
     ensures { λ r. ⌜ ((e : ℕ) → flag r e ≡ ltb e m) ⌝ }
 {
     let mut o = [false; 1024];
@@ -75,22 +82,9 @@ pub fn lowered(q: u16, fix: bool, d: u16) -> u16
     d
 }
 
-// The n-th record: rule, surveyor and stand, which count from 0 here and from 1 in the diary.
-pub fn note(diary: &mut [u8], n: usize, rule: u8, s: u8, t: u8)
-    requires { ⌜ (n < 1024) × (4096 ≤ length (now diary)) × (s < 32) × (t < 32) ⌝ }
-    ensures { λ r. ⌜ now (diary .exit) ≡ put (now (diary .entry)) (n * 4) (entry rule s t) ⌝ }
-{
-    let b = n * 4;
-    let fix = fixes(rule);
-    diary[b] = 2 - fix as u8;
-    diary[b + 1] = s + 1;
-    diary[b + 2] = t + 1;
-    diary[b + 3] = rule;
-}
-
 // The state after a step.
-pub fn act(sv: &[u8; 1024], st: &[u8; 1024], x: Board, rule: u8, e: usize) -> Board
-    requires { ⌜ (e < 1024) × (at (now sv) e < 32) × (at (now st) e < 32) ⌝ }
+pub fn act(sv: &[u8; 1024], st: &[u8; 1024], x: State, rule: u8, e: usize) -> State
+    requires { ⌜ (e < entryLimit) × (at (now sv) e < nodeLimit) × (at (now st) e < nodeLimit) ⌝ }
     ensures { λ r. ⌜ r ≡ acted (now (sv .entry)) (now (st .entry)) x rule e ⌝ }
 {
     let fix = fixes(rule);
@@ -109,26 +103,20 @@ pub fn act(sv: &[u8; 1024], st: &[u8; 1024], x: Board, rule: u8, e: usize) -> Bo
 }
 
 // The state at the beginning.
-pub fn start(
-    m: usize,
-    sv: &[u8; 1024],
-    st: &[u8; 1024],
-    quotaS: &[u8; 32],
-    quotaT: &[u8; 32],
-) -> Board
-    requires { ⌜ (m ≤ 1024) × Low m (now sv) 32 × Low m (now st) 32 ⌝ }
-    ensures { λ r. ⌜ Started m (now (sv .entry)) (now (st .entry)) (now (quotaS .entry)) (now (quotaT .entry)) r ⌝ }
+pub fn start(m: usize, sv: &[u8; 1024], st: &[u8; 1024], qs: &[u8; 32], qt: &[u8; 32]) -> State
+    requires { ⌜ (m ≤ entryLimit) × Low m (now sv) nodeLimit × Low m (now st) nodeLimit ⌝ }
+    ensures { λ r. ⌜ Started m (now (sv .entry)) (now (st .entry)) (now (qs .entry)) (now (qt .entry)) r ⌝ }
 {
     let rem = all(m);
     let ds = reduction_counts::tally(m, sv, &rem);
     let dt = reduction_counts::tally(m, st, &rem);
-    let qs = reduction_counts::cuts(quotaS, &ds);
-    let qt = reduction_counts::cuts(quotaT, &dt);
-    Board {
+    let cut_s = reduction_counts::cuts(qs, &ds);
+    let cut_t = reduction_counts::cuts(qt, &dt);
+    State {
         rem: rem,
         fixed: [false; 1024],
-        qs: qs,
-        qt: qt,
+        qs: cut_s,
+        qt: cut_t,
         ds: ds,
         dt: dt,
     }
@@ -136,17 +124,17 @@ pub fn start(
 
 // Whether a strike at e leaves all arrows and cut quotas as they are, by a rule that may strike more edges: e carries no arrow, and its ends have
 // more remaining edges than their quotas.
-pub fn calm(
+pub fn stable(
     rule: u8,
     sv: &[u8; 1024],
     st: &[u8; 1024],
     fs: &[bool; 1024],
     ft: &[bool; 1024],
-    x: Board,
+    x: State,
     e: usize,
 ) -> bool
-    requires { ⌜ (e < 1024) × (at (now sv) e < 32) × (at (now st) e < 32) ⌝ }
-    ensures { λ r. ⌜ r ≡ (eqb rule 2 || eqb rule 5) && ((not (flag (now (fs .entry)) e) && not (flag (now (ft .entry)) e)) && (ltb (at (x .qs) (at (now (sv .entry)) e)) (at (x .ds) (at (now (sv .entry)) e)) && ltb (at (x .qt) (at (now (st .entry)) e)) (at (x .dt) (at (now (st .entry)) e)))) ⌝ }
+    requires { ⌜ (e < entryLimit) × (at (now sv) e < nodeLimit) × (at (now st) e < nodeLimit) ⌝ }
+    ensures { λ r. ⌜ r ≡ stableStrike (now (sv .entry)) (now (st .entry)) (now (fs .entry)) (now (ft .entry)) rule x e ⌝ }
 {
     let s = sv[e] as usize;
     let t = st[e] as usize;

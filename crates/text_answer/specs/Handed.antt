@@ -18,7 +18,7 @@ use Rattle.model.specs.Finder.{recordOf, diaryOf}
 use Rattle.model.specs.Desk.{refusal, foundAnswer}
 use Rattle.model.specs.Printed.{number, signed, line, diaryLine, counted, planLines, ending}
 use Rattle.theory_finder.specs.Choices.{chosen}
-use Rattle.reduction_state.specs.Diary.{written}
+use Rattle.diary.specs.FlatDiary.{written}
 use Rattle.answers.specs.declared.Found.{Found}
 use Rattle.answers.specs.FinderCases.{foundShown, shows-found}
 use Rattle.text_lines.specs.Texts.{texts}

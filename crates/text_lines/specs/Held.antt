@@ -10,7 +10,7 @@ use Rattle.model.specs.Instance.{Instance}
 use Rattle.model.specs.PlanFile.{pairBytes, pairList}
 use Rattle.model.specs.Finder.{Record}
 use Rattle.model.specs.Printed.{diaryLine, pairLine, pairLines}
-use Rattle.reduction_state.specs.Diary.{numbers, written}
+use Rattle.diary.specs.FlatDiary.{numbers, written}
 use Rattle.text_lines.specs.Texts.{texts, texts-gather}
 use Rattle.text_lines.specs.Lines.{pairText, recordAt, diaryAt, pairAt}
 

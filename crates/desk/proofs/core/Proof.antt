@@ -3,7 +3,7 @@ use mathlib.Core.Path.{_≡_, refl, subst}
 use lib.ListN.{length}
 use borrow.Author.Needs.{needs}
 use Rattle.model.specs.Limits.{rosterSize}
-use Rattle.finder.specs.Found.{Outcomes}
+use Rattle.desk.specs.Outcomes.{Outcomes}
 use Rattle.desk.specs.Cut.{cut-fits, cut-length, cut-front}
 use Rattle.desk.proofs.core.Statement.{statement}
 use Rattle.desk.proofs.core.Tie as tie

@@ -54,7 +54,7 @@ use denote.Triple.Clauses.{ensured, lasts}
 use denote.Triple.Table.{entered, cited}
 use denote.Triple.Walked.{says, needs, Stays, stay-slice, stay-dropped, walkOf, Walks, ends-at, walked, goes-slice, goes-dropped, walk-meets}
 use Rattle.diary.specs.declared.Step.{Step}
-use Rattle.diary.specs.Steps.{stepAt}
+use Rattle.diary.specs.LentSteps.{stepAt}
 use Rattle.diary.proofs.Filled.{filled, filled-length, filled-onto}
 use Rattle.diary.proofs.Step as T
 use Rattle.diary.proofs.Step.Laws as T′

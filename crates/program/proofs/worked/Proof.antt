@@ -1,71 +1,94 @@
--- program::worked writes the text of what the finder answers. Assumes nothing.
+-- program::worked writes the text of what the finder answers.
+use mathlib.Core.Path.{_≡_}
+use native.Mathlib.Omega.{arith}
+use lib.ListN.{length}
 use borrow.Author.Needs.{needs}
 use Rattle.roster_reading.specs.Place.{bytes-of}
-use Rattle.program.specs.BuffersPrinted.{can-print, prints, found-handed}
+use Rattle.instance.specs.Loaded.{loaded}
+use Rattle.diary.specs.FlatDiary.{flatSize}
+use Rattle.program.specs.BuffersPrinted.{can-print, prints, found-handed, found-readable}
 use Rattle.program.proofs.worked.Statement.{statement}
 use Rattle.program.proofs.worked.Tie as tie
 
--- src/lib.rt:19:34
+-- the flat diary has its size
+full : (c : tie.After-flat-records) → length (c .flat-records .result) ≡ 4096
+full c = search needs
+
+instance-of-requires : tie.Need-instance-of-requires
+instance-of-requires c κs = search needs
+
 slice-aggregate-find : tie.Need-slice-aggregate-find
 slice-aggregate-find c = search needs
 
--- src/lib.rt:19:45
 slice-aggregate-find-2 : tie.Need-slice-aggregate-find-2
 slice-aggregate-find-2 c = search needs
 
--- src/lib.rt:19:56
 slice-aggregate-find-3 : tie.Need-slice-aggregate-find-3
 slice-aggregate-find-3 c = search needs
 
--- src/lib.rt:19:67
-slice-aggregate-find-4 : tie.Need-slice-aggregate-find-4
-slice-aggregate-find-4 c = search needs
-
--- src/lib.rt:19:9
 find-requires : tie.Need-find-requires
-find-requires c κs = search needs
+find-requires c κs =
+    let i = c .before .before .before .before .before in
+    let s = i .before .before in
+    let file = s .args .roster .now in
+    let isB = bytes-of file (λ k. i .before .shared-slice-known .given k) in
+    let g = i .instance-of in
+    (loaded file (g .result) isB (g .ensures) (s .pre .0) (s .pre .1), search needs, search needs, search needs)
 
--- src/lib.rt:20:29
+flat-records-requires : tie.Need-flat-records-requires
+flat-records-requires c κs =
+    let i = c .before .before .before .before .before .before .before .before .before .before .before .before in
+    let s = i .before .before in
+    let file = s .args .roster .now in
+    let isB = bytes-of file (λ k. i .before .shared-slice-known .given k) in
+    let g = i .instance-of in
+    let f = c .before .before .before .before .before .before .find in
+    found-readable file isB (s .pre) (g .result) (g .ensures) _ _ _ (f .result) _ _ _ (f .ensures)
+
 slice-aggregate-answer-text : tie.Need-slice-aggregate-answer-text
 slice-aggregate-answer-text c = search needs
 
--- src/lib.rt:20:36
 slice-aggregate-answer-text-2 : tie.Need-slice-aggregate-answer-text-2
 slice-aggregate-answer-text-2 c = search needs
 
--- src/lib.rt:20:43
 slice-aggregate-answer-text-3 : tie.Need-slice-aggregate-answer-text-3
 slice-aggregate-answer-text-3 c = search needs
 
--- src/lib.rt:20:50
 slice-aggregate-answer-text-4 : tie.Need-slice-aggregate-answer-text-4
 slice-aggregate-answer-text-4 c = search needs
 
--- src/lib.rt:20:5
 answer-text-requires : tie.Need-answer-text-requires
 answer-text-requires c κs =
-    let b = c .before .before .before .before .before .before .before .before .before .before .before .before .before .before .before in
-    let f = c .before .before .before .before .before .before .before .before .before .find in
-    let isB = bytes-of (b .args .roster .now) (λ k. c .before .before .before .before .before .before .before .before .before .before .before .before .before .before .shared-slice-known .given k) in
-    (can-print (b .args .roster .now) isB (f .result) _ _ _ _ (found-handed (b .args .roster .now) isB (b .pre) _ _ _ _ (f .result) _ _ _ _ (f .ensures)) (search needs) (search needs) (search needs) (search needs), search needs)
+    let i = c .before .before .before .before .before .before .before .before .before .before .before .before .before .before .before .before .before .before in
+    let s = i .before .before in
+    let file = s .args .roster .now in
+    let isB = bytes-of file (λ k. i .before .shared-slice-known .given k) in
+    let g = i .instance-of in
+    let f = c .before .before .before .before .before .before .before .before .before .before .before .before .find in
+    let h = found-handed file isB (s .pre) (g .result) (g .ensures) _ _ _ (f .result) _ _ _ _ (f .ensures) (c .before .before .before .before .before .flat-records .ensures) in
+    (can-print file isB (f .result .answer) _ _ _ _ h (omega (arith, full (c .before .before .before .before .before))) (search needs) (search needs) (search needs), search needs)
 
--- src/lib.rt:11:1
 returns : tie.Need-returns
 returns c =
-    let b = c .before .before .before .before .before .before .before .before .before .before .before .before .before .before .before .before in
-    let f = c .before .before .before .before .before .before .before .before .before .before .find in
-    let isB = bytes-of (b .args .roster .now) (λ k. c .before .before .before .before .before .before .before .before .before .before .before .before .before .before .before .shared-slice-known .given k) in
-    prints (b .args .roster .now) isB (f .result) _ _ _ _ (found-handed (b .args .roster .now) isB (b .pre) _ _ _ _ (f .result) _ _ _ _ (f .ensures)) _ _ _ (search needs) (c .answer-text .ensures)
+    let i = c .before .before .before .before .before .before .before .before .before .before .before .before .before .before .before .before .before .before .before in
+    let s = i .before .before in
+    let file = s .args .roster .now in
+    let isB = bytes-of file (λ k. i .before .shared-slice-known .given k) in
+    let g = i .instance-of in
+    let f = c .before .before .before .before .before .before .before .before .before .before .before .before .before .find in
+    let h = found-handed file isB (s .pre) (g .result) (g .ensures) _ _ _ (f .result) _ _ _ _ (f .ensures) (c .before .before .before .before .before .before .flat-records .ensures) in
+    prints file isB (f .result .answer) _ _ _ _ h _ _ _ (search needs) (c .answer-text .ensures)
 
 pub worked-spec : {M : Type 1} → statement M
 worked-spec =
     tie.close
     (tie.spec
+    instance-of-requires
     slice-aggregate-find
     slice-aggregate-find-2
     slice-aggregate-find-3
-    slice-aggregate-find-4
     find-requires
+    flat-records-requires
     slice-aggregate-answer-text
     slice-aggregate-answer-text-2
     slice-aggregate-answer-text-3

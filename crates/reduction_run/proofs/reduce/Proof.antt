@@ -1,12 +1,9 @@
 -- The orders, then the run.
 use mathlib.Core.Path.{_≡_}
-use Prim.Native.Nat.{_-_}
 use native.Mathlib.Omega.{arith}
-use lib.ListN.{length, take}
+use lib.ListN.{length, take, length-take}
 use borrow.Author.Needs.{needs}
-use lib.ListN.{length-take}
 use Rattle.reduction_run.specs.Given.{order-fits, knownOf}
-use borrow.Author.Needs.{needs}
 use Rattle.reduction_run.proofs.reduce.Statement.{statement}
 use Rattle.reduction_run.proofs.reduce.Tie as tie
 
@@ -30,18 +27,25 @@ slice-aggregate-run-2 c = let h : length (c .before .before .by-rank2 .result) �
 
 run-requires : tie.Need-run-requires
 run-requires c κs =
-    let a = c .before .before .before .before .before .before .args in
-    let p = c .before .before .before .before .before .before .pre in
-    ((p .0, p .1, p .2), (order-fits (a .m) (a .sv .now) (a .rankS .now) (take (a .m) (c .before .before .before .before .by-rank .result)) (p .0) (p .1) (p .3) (c .before .before .before .before .by-rank .ensures), (order-fits (a .m) (a .st .now) (a .rankT .now) (take (a .m) (c .before .before .before .by-rank2 .result)) (p .0) (p .2) (p .4) (c .before .before .before .by-rank2 .ensures), p .5)))
-
-same-length : tie.Need-same-length
-same-length c = search needs
+    let a = c .before .before .before .before .args in
+    let p = c .before .before .before .before .pre in
+    let os = c .before .before .before .by-rank in
+    let ot = c .before .before .by-rank2 in (
+      (p .0, p .1, p .2),
+      (
+        order-fits (a .m) (a .sv .now) (a .rs .now) (take (a .m) (os .result)) (p .0) (p .1) (p .3) (os .ensures),
+        order-fits (a .m) (a .st .now) (a .rt .now) (take (a .m) (ot .result)) (p .0) (p .2) (p .4) (ot .ensures),
+      ),
+    )
 
 returns : tie.Need-returns
 returns c =
-    let a = c .before .before .before .before .before .before .before .before .before .args in
-    let p = c .before .before .before .before .before .before .before .before .before .pre in
-    λ ns nt law. c .before .before .run .ensures (knownOf (a .m) ns nt (a .sv .now) (a .st .now) (a .rankS .now) (a .rankT .now) (a .tied .now) (a .quotaS .now) (a .quotaT .now) (take (a .m) (c .before .before .before .before .before .before .before .by-rank .result)) (take (a .m) (c .before .before .before .before .before .before .by-rank2 .result)) law (p .0) (p .1) (p .2) (c .before .before .before .before .before .before .before .by-rank .ensures) (c .before .before .before .before .before .before .by-rank2 .ensures))
+    let a = c .before .before .before .before .before .args in
+    let p = c .before .before .before .before .before .pre in
+    let os = c .before .before .before .before .by-rank in
+    let ot = c .before .before .before .by-rank2 in
+    λ ns nt law. c .run .ensures (knownOf (a .m) ns nt (a .sv .now) (a .st .now) (a .rs .now) (a .rt .now) (a .tied .now) (a .qs .now) (a .qt .now)
+    (take (a .m) (os .result)) (take (a .m) (ot .result)) law (p .0) (p .1) (p .2) (os .ensures) (ot .ensures))
 
 pub reduce-spec : {M : Type 1} → statement M
 reduce-spec =
@@ -54,5 +58,4 @@ reduce-spec =
     array-share-prefix-ot
     slice-aggregate-run-2
     run-requires
-    same-length
     returns)

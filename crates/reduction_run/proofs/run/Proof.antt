@@ -1,111 +1,137 @@
--- A run: where it stands after n steps.
+-- A run: where it stands after each step and its repeated strikes.
 use mathlib.Core.Path.{_≡_, refl, sym, _∙_, subst}
-use Prim.Native.Nat.{_-_, _*_}
+use mathlib.Core.Logic.{⊎-elim}
+use Prim.Native.Nat.{_-_}
 use native.Mathlib.Omega.{arith}
-use lib.ListN.{length}
 use borrow.Author.Needs.{needs}
-use Rattle.arrays.specs.ArrayInstance.{at}
-use Rattle.reduction_state.specs.Diary.{entry, put-length}
-use Rattle.reduction_state.specs.Boards.{Sized, Stands, stateAt, stands-first, stands-next, stands-end, stands-full}
-use Rattle.reduction_run.specs.RepeatedStrikes.{Sweeps, sweeps-after}
+use Rattle.reduction_state.specs.declared.Trace.{Trace}
+use Rattle.reduction_state.specs.RunState.{Sized, Stands, stateAt, stands-first, stands-next, stands-end, stands-full}
+use Rattle.reduction_run.specs.RepeatedStrikes.{GoesOnWith, after-stable}
 use Rattle.reduction_step.specs.View.{Known, instanceOf}
 use Rattle.reduction_run.proofs.run.Statement.{statement}
 use Rattle.reduction_run.proofs.run.Tie as tie
 
 abbrev Inv-loop : tie.InvT-loop
-Inv-loop m sv st tied quotaS quotaT os ot diary₀ x₀ n₀ diary x n =
-    (length diary ≡ length diary₀) × Sized x × ((K : Known m sv st tied quotaS quotaT os ot) → Stands (instanceOf K) diary₀ n x diary)
+Inv-loop m sv st tied qs qt os ot edges₀ rules₀ x₀ n₀ edges rules x n = Sized x
+    × ((K : Known m sv st tied qs qt os ot) → Stands (instanceOf K) x (record { edges = edges; rules = rules; steps = n }))
 
 abbrev μ-loop : tie.MeasureT-loop
-μ-loop m sv st tied quotaS quotaT os ot diary₀ x₀ n₀ diary x n = m - n
+μ-loop m sv st tied qs qt os ot edges₀ rules₀ x₀ n₀ edges rules x n = m - n
 
 start-requires : tie.Need-start-requires Inv-loop μ-loop
-start-requires c κs = c .before .before .before .pre .0
+start-requires c κs = c .before .before .pre .0
 
 loop-holds : tie.Need-loop-holds Inv-loop μ-loop
-loop-holds c = (refl, record { fixed = search needs; qs = search needs; qt = search needs; ds = search needs; dt = search needs }, λ K. stands-first K (c .before .before .before .before .args .diary .now) (c .start .result) (c .start .ensures))
+loop-holds c = (
+  record { fixed = search needs; qs = search needs; qt = search needs; ds = search needs; dt = search needs },
+  λ K. stands-first K (c .start .result) (c .start .ensures),
+)
 
 step-requires : tie.Need-step-requires Inv-loop μ-loop
-step-requires c κs = (c .before .before .before .before .before .before .before .before .before .before .before .before .pre .0, (c .before .before .before .before .before .before .before .before .before .before .before .before .pre .1 .0, c .before .before .before .before .before .before .before .before .before .before .before .before .pre .1 .1 .0))
+step-requires c κs =
+    let s = c .before .before .before .before .before .before .before .before .before .before .before in
+    (s .pre .0, (s .pre .1 .0, s .pre .1 .1))
 
-same-length : tie.Need-same-length Inv-loop μ-loop
-same-length c = c .before .before .before .before .before .before .before .before .before .loop .inv .0
+stable-requires : tie.Need-stable-requires Inv-loop μ-loop
+stable-requires c κs =
+    let h = c .before .before .before .before .before .before in
+    let e = h .step .result .edge in
+    let below = c .before .before .before .before .before .if1 .left in
+    let s = h .before .before .before .before .before .before .before .before .before .before .before .before in
+    (omega (arith, below, s .pre .0 .0), s .pre .0 .1 e below, s .pre .0 .2 e below)
 
-returns : tie.Need-returns Inv-loop μ-loop
-returns c =
-    λ K.
-    let S = c .before .before .before .before .before .before .before .before .before .loop .inv .2 K in
-    let x = c .before .before .before .before .before .before .before .before .before .loop .x in
-    let n = c .before .before .before .before .before .before .before .before .before .loop .n in
-    let d = c .before .before .before .before .before .before .before .before .before .loop .diary in
-    let a = c .before .before .before .before .before .before .before .before .before .before .before .before .before .before .args in
-    let y = c .before .step .ensures (a .quotaS .now) (a .quotaT .now) K (x .fixed) (S .kS) (S .kT) (record { atS = S .holds .atS .cut-is; atT = S .holds .atT .cut-is }) in
-    stands-end K (a .diary .now) n x d S (omega (arith, y .0 .edge-is, c .if1 .taken)) (omega (arith, c .before .before .before .before .before .before .before .before .before .before .before .before .before .before .pre .0 .0, c .before .before .before .before .before .before .before .before .before .before .before .before .before .before .pre .1 .1 .1))
+cast-edges : tie.Need-cast-edges Inv-loop μ-loop
+cast-edges c =
+    let h = c .before .before .before .before .before .before .before in
+    let below = c .before .before .before .before .before .before .if1 .left in
+    let s = h .before .before .before .before .before .before .before .before .before .before .before .before in
+    omega (arith, below, s .pre .0 .0)
 
-calm-requires : tie.Need-calm-requires Inv-loop μ-loop
-calm-requires c κs = (omega (arith, c .before .before .before .before .before .if1 .left, c .before .before .before .before .before .before .before .before .before .before .before .before .before .before .before .before .before .before .before .pre .0 .0), c .before .before .before .before .before .before .before .before .before .before .before .before .before .before .before .before .before .before .before .pre .0 .1 (c .before .before .before .before .before .before .step .result .edge) (c .before .before .before .before .before .if1 .left), c .before .before .before .before .before .before .before .before .before .before .before .before .before .before .before .before .before .before .before .pre .0 .2 (c .before .before .before .before .before .before .step .result .edge) (c .before .before .before .before .before .if1 .left))
+mul-edges : tie.Need-mul-edges Inv-loop μ-loop
+mul-edges c =
+    let h = c .before .before .before .before .before .before .before in
+    let test = h .before .before .before .before .before .before .before .loop-test .taken in
+    let s = h .before .before .before .before .before .before .before .before .before .before .before .before in
+    omega (arith, test, s .pre .0 .0)
 
-element-copy-out-note : tie.Need-element-copy-out-note Inv-loop μ-loop
-element-copy-out-note c = omega (arith, c .before .before .before .before .before .before .before .if1 .left, c .before .before .before .before .before .before .before .before .before .before .before .before .before .before .before .before .before .before .before .before .before .pre .0 .0)
+array-write-edges : tie.Need-array-write-edges Inv-loop μ-loop
+array-write-edges c =
+    let h = c .before .before .before .before .before .before .before in
+    let test = h .before .before .before .before .before .before .before .loop-test .taken in
+    let s = h .before .before .before .before .before .before .before .before .before .before .before .before in
+    omega (arith, test, s .pre .0 .0)
 
-element-copy-out-note-2 : tie.Need-element-copy-out-note-2 Inv-loop μ-loop
-element-copy-out-note-2 c = omega (arith, c .before .before .before .before .before .before .before .before .if1 .left, c .before .before .before .before .before .before .before .before .before .before .before .before .before .before .before .before .before .before .before .before .before .before .pre .0 .0)
-
-note-requires : tie.Need-note-requires Inv-loop μ-loop
-note-requires c κs = (omega (arith, c .before .before .before .before .before .before .before .before .before .before .before .before .before .before .before .before .before .loop-test .taken, c .before .before .before .before .before .before .before .before .before .before .before .before .before .before .before .before .before .before .before .before .before .before .before .pre .0 .0), omega (arith, c .before .before .before .before .before .before .before .before .before .before .before .before .before .before .before .before .before .before .loop .inv .0, c .before .before .before .before .before .before .before .before .before .before .before .before .before .before .before .before .before .before .before .before .before .before .before .pre .1 .1 .1), c .before .before .before .before .before .before .before .before .before .before .before .before .before .before .before .before .before .before .before .before .before .before .before .pre .0 .1 (c .before .before .before .before .before .before .before .before .before .before .step .result .edge) (c .before .before .before .before .before .before .before .before .before .if1 .left), c .before .before .before .before .before .before .before .before .before .before .before .before .before .before .before .before .before .before .before .before .before .before .before .pre .0 .2 (c .before .before .before .before .before .before .before .before .before .before .step .result .edge) (c .before .before .before .before .before .before .before .before .before .if1 .left))
+array-write-rules : tie.Need-array-write-rules Inv-loop μ-loop
+array-write-rules c =
+    let h = c .before .before .before .before .before .before .before in
+    let test = h .before .before .before .before .before .before .before .loop-test .taken in
+    let s = h .before .before .before .before .before .before .before .before .before .before .before .before in
+    omega (arith, test, s .pre .0 .0)
 
 act-requires : tie.Need-act-requires Inv-loop μ-loop
-act-requires c κs = (omega (arith, c .before .before .before .before .before .before .before .before .before .before .before .before .if1 .left, c .before .before .before .before .before .before .before .before .before .before .before .before .before .before .before .before .before .before .before .before .before .before .before .before .before .before .pre .0 .0), c .before .before .before .before .before .before .before .before .before .before .before .before .before .before .before .before .before .before .before .before .before .before .before .before .before .before .pre .0 .1 (c .before .before .before .before .before .before .before .before .before .before .before .before .before .step .result .edge) (c .before .before .before .before .before .before .before .before .before .before .before .before .if1 .left), c .before .before .before .before .before .before .before .before .before .before .before .before .before .before .before .before .before .before .before .before .before .before .before .before .before .before .pre .0 .2 (c .before .before .before .before .before .before .before .before .before .before .before .before .before .step .result .edge) (c .before .before .before .before .before .before .before .before .before .before .before .before .if1 .left))
+act-requires c κs =
+    let h = c .before .before .before .before .before .before .before in
+    let e = h .step .result .edge in
+    let below = c .before .before .before .before .before .before .if1 .left in
+    let s = h .before .before .before .before .before .before .before .before .before .before .before .before in
+    (omega (arith, below, s .pre .0 .0), s .pre .0 .1 e below, s .pre .0 .2 e below)
 
-add-sweep : tie.Need-add-sweep Inv-loop μ-loop
-add-sweep c = omega (arith, c .before .before .before .before .before .before .before .before .before .before .before .before .before .before .before .before .before .before .before .before .before .before .before .before .loop-test .taken, c .before .before .before .before .before .before .before .before .before .before .before .before .before .before .before .before .before .before .before .before .before .before .before .before .before .before .before .before .before .before .pre .0 .0)
+add-strikes : tie.Need-add-strikes Inv-loop μ-loop
+add-strikes c =
+    let h = c .before .before .before .before .before .before .before .before .before .before .before in
+    let test = h .before .before .before .before .before .before .before .loop-test .taken in
+    let s = h .before .before .before .before .before .before .before .before .before .before .before .before in
+    omega (arith, test, s .pre .0 .0)
 
-sweep-requires : tie.Need-sweep-requires Inv-loop μ-loop
-sweep-requires c κs =
-    let l = c .before .before .before .before .before .before .before .before .before .before .before .before .before .before .before .before .before .before .before .before .before .before .before .before .before .before .loop in
-    let a = c .before .before .before .before .before .before .before .before .before .before .before .before .before .before .before .before .before .before .before .before .before .before .before .before .before .before .before .before .before .before .before .args in
-    let e = c .before .before .before .before .before .before .before .before .before .before .before .before .before .before .before .before .before .before .step .result .edge in (
-      c .before .before .before .before .before .before .before .before .before .before .before .before .before .before .before .before .before .before .before .before .before .before .before .before .before .before .before .before .before .before .before .pre .0 .0,
-      c .before .before .before .before .before .before .before .before .before .before .before .before .before .before .before .before .before .before .before .before .before .before .before .before .before .before .before .before .before .before .before .pre .0 .1,
-      c .before .before .before .before .before .before .before .before .before .before .before .before .before .before .before .before .before .before .before .before .before .before .before .before .before .before .before .before .before .before .before .pre .0 .2,
-      c .before .before .before .before .before .before .before .before .before .before .before .before .before .before .before .before .before .if1 .left,
-      omega (arith, put-length (l .diary) (c .before .before .before .before .before .before .before .note .last .0) (l .n * 4) (entry (c .before .before .before .before .before .before .before .before .before .before .before .before .before .before .before .before .before .before .step .result .rule) (at (a .sv .now) e) (at (a .st .now) e)) (c .before .before .before .before .before .before .before .note .ensures), l .inv .0, c .before .before .before .before .before .before .before .before .before .before .before .before .before .before .before .before .before .before .before .before .before .before .before .before .before .before .before .before .before .before .before .pre .1 .1 .1),
-    )
+strikes-requires : tie.Need-strikes-requires Inv-loop μ-loop
+strikes-requires c κs =
+    let h = c .before .before .before .before .before .before .before .before .before .before .before .before .before in
+    let below = c .before .before .before .before .before .before .before .before .before .before .before .before .if1 .left in
+    let s = h .before .before .before .before .before .before .before .before .before .before .before .before in
+    (s .pre .0 .0, s .pre .0 .1, s .pre .0 .2, below)
 
 loop-less : tie.Need-loop-less Inv-loop μ-loop
-loop-less c = omega (arith, c .before .before .before .before .before .before .before .before .before .before .before .before .before .before .before .before .before .before .before .before .before .before .before .before .before .before .before .before .before .loop-test .taken, c .before .before .before .sweep .ensures .0)
+loop-less c =
+    let h = c .before .before .before .before .before .before .before .before .before .before .before .before .before .before .before in
+    let test = h .before .before .before .before .before .before .before .loop-test .taken in
+    omega (arith, test, c .before .strikes .ensures .0 .0)
 
 loop-again : tie.Need-loop-again Inv-loop μ-loop
 loop-again c =
-    let l = c .before .before .before .before .before .before .before .before .before .before .before .before .before .before .before .before .before .before .before .before .before .before .before .before .before .before .before .before .before .before .loop in
-    let e = c .before .before .before .before .before .before .before .before .before .before .before .before .before .before .before .before .before .before .before .before .before .before .step .result .edge in
-    let r = c .before .before .before .before .before .before .before .before .before .before .before .before .before .before .before .before .before .before .before .before .before .before .step .result .rule in
-    let a = c .before .before .before .before .before .before .before .before .before .before .before .before .before .before .before .before .before .before .before .before .before .before .before .before .before .before .before .before .before .before .before .before .before .before .before .args in (
-      c .before .before .before .sweep .ensures .1 ∙ put-length (l .diary) (c .before .before .before .before .before .before .before .before .before .before .before .note .last .0) (l .n * 4) (entry r (at (a .sv .now) e) (at (a .st .now) e)) (c .before .before .before .before .before .before .before .before .before .before .before .note .ensures) ∙ l .inv .0,
-      c .before .before .before .sweep .ensures .2,
+    let h = c .before .before .before .before .before .before .before .before .before .before .before .before .before .before .before in
+    let e = h .step .result .edge in
+    let r = h .step .result .rule in
+    let below = c .before .before .before .before .before .before .before .before .before .before .before .before .before .before .if1 .left in
+    let test = h .before .before .before .before .before .before .before .loop-test .taken in
+    let l = h .before .before .before .before .before .before .before .before .loop in
+    let s = h .before .before .before .before .before .before .before .before .before .before .before .before in
+    let a = s .args in (
+      c .before .strikes .ensures .0 .1,
       λ K.
-          let S = c .before .before .before .before .before .before .before .before .before .before .before .before .before .before .before .before .before .before .before .before .before .before .before .before .before .before .before .before .before .before .loop .inv .2 K in
-          let x = c .before .before .before .before .before .before .before .before .before .before .before .before .before .before .before .before .before .before .before .before .before .before .before .before .before .before .before .before .before .before .loop .x in
-          let n = c .before .before .before .before .before .before .before .before .before .before .before .before .before .before .before .before .before .before .before .before .before .before .before .before .before .before .before .before .before .before .loop .n in
-          let d = c .before .before .before .before .before .before .before .before .before .before .before .before .before .before .before .before .before .before .before .before .before .before .before .before .before .before .before .before .before .before .loop .diary in
-          let a = c .before .before .before .before .before .before .before .before .before .before .before .before .before .before .before .before .before .before .before .before .before .before .before .before .before .before .before .before .before .before .before .before .before .before .before .args in
-          let y = c .before .before .before .before .before .before .before .before .before .before .before .before .before .before .before .before .before .before .before .before .before .before .step .ensures (a .quotaS .now) (a .quotaT .now) K (x .fixed) (S .kS) (S .kT) (record { atS = S .holds .atS .cut-is; atT = S .holds .atT .cut-is }) in
-          let t = stands-next K (a .diary .now) n x d S r e (y .0 .rule-is) (y .0 .edge-is) (c .before .before .before .before .before .before .before .before .before .before .before .before .before .before .before .before .before .before .before .before .before .if1 .left) (c .before .before .before .before .before .before .before .before .before .before .before .before .before .before .before .before .before .before .before .before .before .before .before .before .before .before .before .before .before .loop-test .taken) (l .inv .1) (c .before .before .before .before .before .before .before .before .act .result) (c .before .before .before .before .before .before .before .before .before .before .before .note .last .0) (c .before .before .before .before .before .before .before .before .act .ensures) (c .before .before .before .before .before .before .before .before .before .before .before .note .ensures) in
-          c .before .before .before .sweep .ensures .3 (a .tied .now) (a .quotaS .now) (a .quotaT .now) (a .os .now) (a .ot .now) K (a .diary .now) (t .0)
-          (λ g. subst (λ Y. Sweeps (instanceOf K) (c .before .before .before .before .before .before .before .before .before .before .before .before .before .before .before .before .before .before .before .before .before .before .step .result .hit) (c .before .before .before .before .before .before .before .before .before .before .before .before .before .before .before .before .before .before .before .before .before .before .step .result .fs) (c .before .before .before .before .before .before .before .before .before .before .before .before .before .before .before .before .before .before .before .before .before .before .step .result .ft) r Y e) (sym (t .1))
-          (sweeps-after K (c .before .before .before .before .before .before .before .before .before .before .before .before .before .before .before .before .before .before .before .before .before .before .step .result .hit) (c .before .before .before .before .before .before .before .before .before .before .before .before .before .before .before .before .before .before .before .before .before .before .step .result .fs) (c .before .before .before .before .before .before .before .before .before .before .before .before .before .before .before .before .before .before .before .before .before .before .step .result .ft) r (stateAt S) e x (S .holds) (y .0 .rule-is) (y .0 .edge-is) (c .before .before .before .before .before .before .before .before .before .before .before .before .before .before .before .before .before .before .before .before .before .if1 .left) (y .1 .atS) (y .1 .atT)
-          (λ s k kl h. y .0 .hits s k kl) (sym (c .before .before .before .before .before .before .before .before .before .before .before .before .before .before .before .calm .ensures) ∙ g))),
+          let S = l .inv .1 K in
+          let t : Trace = record { edges = l .edges; rules = l .rules; steps = l .n } in
+          let y = h .step .ensures (a .qs .now) (a .qt .now) K (l .x .fixed) (S .kS) (S .kT) (record { atS = S .holds .atS .cut-is; atT = S .holds .atT .cut-is }) in
+          let act = c .before .before .before .before .before .before .before .act in
+          let stable = c .before .before .before .before .before .before .before .before .stable in
+          let N = stands-next K (l .x) t S r e (y .0 .rule-is) (y .0 .edge-is) below test (l .inv .0) (act .result) (act .ensures) in
+          c .before .strikes .ensures .1 (a .tied .now) (a .qs .now) (a .qt .now) (a .os .now) (a .ot .now) K (N .0)
+          (λ g. subst (λ Y. GoesOnWith (instanceOf K) (h .step .result .hit) (h .step .result .fs) (h .step .result .ft) r Y e) (sym (N .1))
+          (after-stable K (h .step .result .hit) (h .step .result .fs) (h .step .result .ft) r (stateAt S) e (l .x) (S .holds) (y .0 .rule-is) (y .0 .edge-is) below
+          (y .1 .atS) (y .1 .atT) (λ s k kl h. y .0 .hits s k kl) (sym (stable .ensures) ∙ g))),
     )
 
-same-length-2 : tie.Need-same-length-2 Inv-loop μ-loop
-same-length-2 c = c .before .loop .inv .0
-
-returns-2 : tie.Need-returns-2 Inv-loop μ-loop
-returns-2 c =
+returns : tie.Need-returns Inv-loop μ-loop
+returns c =
+    let l = c .before .before .before .loop in
+    let a = c .before .before .before .before .before .before .before .args in
     λ K.
-    let l = c .before .loop in
-    let a = c .before .before .before .before .before .before .args in
-    stands-full K (a .diary .now) (l .n) (l .x) (l .diary) (l .inv .2 K) (c .loop-test .left) (omega (arith, c .before .before .before .before .before .before .pre .0 .0, c .before .before .before .before .before .before .pre .1 .1 .1))
+    let S = l .inv .1 K in
+    let t : Trace = record { edges = l .edges; rules = l .rules; steps = l .n } in
+    ⊎-elim (λ test. stands-full K (l .x) t S (test .left))
+    (λ went.
+    let y = went .7 .ensures (a .qs .now) (a .qt .now) K (l .x .fixed) (S .kS) (S .kT) (record { atS = S .holds .atS .cut-is; atT = S .holds .atT .cut-is }) in
+    stands-end K (l .x) t S (omega (arith, y .0 .edge-is, went .8 .taken)))
+    (c .before .before .loop-test .came)
 
 pub run-spec : {M : Type 1} → statement M
 run-spec =
@@ -116,16 +142,14 @@ run-spec =
     start-requires
     loop-holds
     step-requires
-    same-length
-    returns
-    calm-requires
-    element-copy-out-note
-    element-copy-out-note-2
-    note-requires
+    stable-requires
+    cast-edges
+    mul-edges
+    array-write-edges
+    array-write-rules
     act-requires
-    add-sweep
-    sweep-requires
+    add-strikes
+    strikes-requires
     loop-less
     loop-again
-    same-length-2
-    returns-2)
+    returns)

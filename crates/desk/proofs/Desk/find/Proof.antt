@@ -54,7 +54,7 @@ use denote.Triple.Table.{entered, cited}
 use denote.Triple.Walked.{says, Stays, gave-slice, stay-dropped, walkOf, Walks, ends-at, walked, goes-gave-slice, goes-dropped, walk-meets}
 use Rattle.model.specs.Desk.{onto}
 use Rattle.diary.specs.declared.Step.{Step}
-use Rattle.diary.specs.Steps.{stepsIn}
+use Rattle.diary.specs.LentSteps.{stepsIn}
 use Rattle.diary.proofs.Step as T
 use Rattle.diary.proofs.fill as fill
 use Rattle.diary.proofs.fill.Symbol as fill-def

@@ -11,6 +11,7 @@ use lib.Seq.{getD-set-same, getD-set-other}
 use lib.Dec.{T, eqb}
 use mir.Val.{boolByte}
 use Rattle.lists.specs.Test.{by-eq, bit}
+use Rattle.model.specs.Limits.{nodeLimit}
 use Rattle.model.specs.Instance.{Instance, Side, surveyors, stands, deg}
 use Rattle.model.specs.Reduction.{State, cut, Fate, fixes, act}
 use Rattle.theory_instance.specs.Degree.{deg-without}
@@ -43,8 +44,8 @@ state-acted G rem fixed kS kT f e l = let Y = act G (stateOf rem fixed kS kT) f 
 
 -- ---- one side: numbers of remaining edges d, cut quotas q
 pub record Counters (K : Side) (rem : ℕ → Bool) (k : ℕ → ℕ) (d q : List ℕ) : Type 0 where
-  pub deg-is : (v : ℕ) → v < 32 → at d v ≡ deg K rem v
-  pub cut-is : (v : ℕ) → v < 32 → at q v ≡ cut K rem k v
+  pub deg-is : (v : ℕ) → v < nodeLimit → at d v ≡ deg K rem v
+  pub cut-is : (v : ℕ) → v < nodeLimit → at q v ≡ cut K rem k v
 
 -- after a step at e: one edge less remains at its node, whose quota is lowered, if b, and cut
 abbrev pub d′ : (K : Side) (d : List ℕ) (e : ℕ) → List ℕ
@@ -53,14 +54,14 @@ d′ K d e = set d (K .end e) (at d (K .end e) - 1)
 abbrev pub q′ : (K : Side) (q d : List ℕ) (b : Bool) (e : ℕ) → List ℕ
 q′ K q d b e = set q (K .end e) (min (at q (K .end e) - boolByte b) (at d (K .end e) - 1))
 
-module _ (K : Side) (rem : ℕ → Bool) (k : ℕ → ℕ) (d q : List ℕ) (C : Counters K rem k d q) (b : Bool) (e : ℕ) (l : e < K .m) (r : T (rem e)) (w : K .end e < 32) where
+module _ (K : Side) (rem : ℕ → Bool) (k : ℕ → ℕ) (d q : List ℕ) (C : Counters K rem k d q) (b : Bool) (e : ℕ) (l : e < K .m) (r : T (rem e)) (w : K .end e < nodeLimit) where
   abbrev rem′ : ℕ → Bool
   rem′ x = rem x && not (eqb x e)
 
   bit-and-true : (b : Bool) → bit (b && true) ≡ bit b
   bit-and-true b = ap bit (and-true b)
 
-  pub counters-acted : length d ≡ 32 → length q ≡ 32 → Counters K rem′ (λ v. cut K rem k v - bit (b && eqb v (K .end e))) (d′ K d e) (q′ K q d b e)
+  pub counters-acted : length d ≡ nodeLimit → length q ≡ nodeLimit → Counters K rem′ (λ v. cut K rem k v - bit (b && eqb v (K .end e))) (d′ K d e) (q′ K q d b e)
   unfolding cut
   counters-acted ld lq = record {
     deg-is = λ v h. by-eq v (K .end e)
@@ -98,8 +99,8 @@ pub record Holds (G : Instance) (Y : State) (qs qt ds dt : List ℕ) : Type 0 wh
   pub atS : Counters (surveyors G) (Y .rem) (Y .qS) ds qs
   pub atT : Counters (stands G) (Y .rem) (Y .qT) dt qt
 
-pub holds-acted : (G : Instance) (Y : State) (qs qt ds dt : List ℕ) (f : Fate) (e : ℕ) → e < G .m → T (Y .rem e) → G .sv e < 32 → G .st e < 32
-    → length qs ≡ 32 → length qt ≡ 32 → length ds ≡ 32 → length dt ≡ 32 → Holds G Y qs qt ds dt
+pub holds-acted : (G : Instance) (Y : State) (qs qt ds dt : List ℕ) (f : Fate) (e : ℕ) → e < G .m → T (Y .rem e) → G .sv e < nodeLimit → G .st e < nodeLimit
+    → length qs ≡ nodeLimit → length qt ≡ nodeLimit → length ds ≡ nodeLimit → length dt ≡ nodeLimit → Holds G Y qs qt ds dt
     → Holds G (act G Y f e) (q′ (surveyors G) qs ds (fixes f) e) (q′ (stands G) qt dt (fixes f) e) (d′ (surveyors G) ds e) (d′ (stands G) dt e)
 unfolding act
 holds-acted G Y qs qt ds dt f e l r hs ht a b c d H = record {

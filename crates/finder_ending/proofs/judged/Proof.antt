@@ -1,13 +1,13 @@
--- finder::judged writes the candidate, weighs it and answers what was found of it. Assumes nothing.
+-- finder_ending::judged writes the candidate, weighs it and answers what was found of it.
 use mathlib.Core.Path.{sym, ap, _∙_}
 use mir.Syntax.{w16}
 use mir.ValLaws.{toZ-ofZ}
 use borrow.Author.Needs.{needs, sfits-of}
 use Rattle.answers.specs.declared.Found.the-variants as says
 use Rattle.answers.specs.declared.NoneKind.the-variants as kind
-use Rattle.finder.specs.Endings.{answerOn, wrote-judged, few-edges, lists-are, plan-onto}
-use Rattle.finder.proofs.judged.Statement.{statement}
-use Rattle.finder.proofs.judged.Tie as tie
+use Rattle.finder_ending.specs.EndReached.{answerOn, wrote-judged, few-edges, lists-are, plan-onto}
+use Rattle.finder_ending.proofs.judged.Statement.{statement}
+use Rattle.finder_ending.proofs.judged.Tie as tie
 
 list-edges-requires : tie.Need-list-edges-requires
 list-edges-requires c κs =

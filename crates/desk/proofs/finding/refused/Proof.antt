@@ -1,10 +1,10 @@
--- finder::refused: a refusal with its number and its group, and no record. Assumes nothing.
+-- desk::finding::refused: a refusal with its number and its group, and no record.
 use mathlib.Core.Path.{refl, ap}
 use borrow.Author.Needs.{needs}
 use Rattle.answers.specs.GroupCases.{shows-case}
 use Rattle.answers.specs.declared.Found.the-variants as says
-use Rattle.finder.proofs.refused.Statement.{statement}
-use Rattle.finder.proofs.refused.Tie as tie
+use Rattle.desk.proofs.finding.refused.Statement.{statement}
+use Rattle.desk.proofs.finding.refused.Tie as tie
 
 group-of-requires : tie.Need-group-of-requires
 group-of-requires c κs = search needs

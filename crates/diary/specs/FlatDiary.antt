@@ -1,17 +1,29 @@
 -- The flat diary: four numbers a record, written one record after the other; what lies behind them stays.
-use Prim.Native.Nat.{ℕ, suc, _+_, _*_, _≤_}
+use Prim.Native.Nat.{ℕ, suc, _+_, _-_, _*_, _≤_}
 use native.Mathlib.Omega.{arith}
 use mathlib.Core.Path.{_≡_, refl, sym, ap, _∙_}
 use mathlib.Core.List.{List, [], _∷_, _++_, append-assoc}
 use lib.ListN.{length, set, drop, length-set, length-append, length-drop}
 use lib.Seq.{drop-drop}
+use mir.Val.{boolByte}
 use Rattle.lists.specs.Keep.{gather}
+use Rattle.model.specs.Limits.{diarySize}
+use Rattle.model.specs.Reduction.{Fate, fix, strike, fixes}
 use Rattle.theory_reduction.specs.RuleNumbers.{fateOf}
 use Rattle.model.specs.Finder.{Record, fateNumber}
+
+-- the size of a flat diary: four numbers for each record of a lent one
+abbrev pub flatSize : ℕ
+flatSize = 4 * diarySize
 
 -- the numbers of a record
 abbrev pub numbers : Record → List ℕ
 numbers r = r .fate ∷ r .surveyor ∷ r .stand ∷ r .rule ∷ []
+
+-- the number of a fate, as the code makes it
+pub fate-byte : (f : Fate) → 2 - boolByte (fixes f) ≡ fateNumber f
+fate-byte fix = refl
+fate-byte strike = refl
 
 -- the record of a step by a rule, on an edge of surveyor s and stand t, counted from 0
 abbrev pub entry : (r s t : ℕ) → Record

@@ -2,19 +2,21 @@
 use Prim.Native.Nat.{ℕ, zero, suc, _+_, _*_}
 use native.Mathlib.Omega.{arith}
 use mathlib.Core.Path.{_≡_, refl, sym, ap, _∙_}
-use mathlib.Core.Bool.{Bool}
 use mathlib.Core.List.{List, [], _∷_, _++_}
-use lib.ListN.{length, getD, drop, length-map}
+use lib.ListN.{length, getD, drop, replicate, length-map}
 use lib.Seq.{getD-drop}
 use Rattle.lists.specs.Keep.{gather}
 use Rattle.model.specs.Instance.{Instance}
 use Rattle.model.specs.Reduction.{stepsOf}
 use Rattle.model.specs.Finder.{Record, recordOf, diaryOf}
 use Rattle.model.specs.Desk.{onto}
-use Rattle.reduction_state.specs.Diary.{numbers, written}
-use Rattle.reduction_state.specs.Outcome.{Reduced}
+use Rattle.arrays.specs.ArrayInstance.{at}
+use Rattle.reduction_state.specs.declared.Trace.{Trace}
+use Rattle.reduction_state.specs.Trace.{Traced}
+use Rattle.diary.specs.FlatDiary.{numbers, written, flatSize}
+use Rattle.diary.specs.TraceRecords.{flatOf, trace-flat}
 use Rattle.diary.specs.declared.Step.{Step}
-use Rattle.diary.specs.Steps.{recordIn, recordsIn, stepAt, stepsIn}
+use Rattle.diary.specs.LentSteps.{recordIn, recordsIn, stepAt, stepsIn}
 
 pub steps-length : (n : ℕ) (f : List ℕ) → length (stepsIn n f) ≡ n
 unfolding stepsIn
@@ -65,10 +67,13 @@ filled-diary rs n flat room before after e h k =
     ap recordsIn k ∙ records-onto (stepsIn n flat) before
     ∙ ap (λ (l : List Record). onto l (recordsIn before)) (ap (λ (m : ℕ). recordsIn (stepsIn m flat)) h ∙ ap (λ (l : List ℕ). recordsIn (stepsIn (length rs) l)) e ∙ held rs (drop (4 * length rs) room))
 
--- the same after a run of the reduction: the lent diary begins with the model's diary
-pub filled-run : (G : Instance) (room : List ℕ) (rem fixed : List Bool) (n : ℕ) (flat : List ℕ) (before after : List Step) → Reduced G room rem fixed n flat → after ≡ onto (stepsIn n flat) before → recordsIn after ≡ onto (diaryOf G) (recordsIn before)
+-- the same of the trace of a whole run: the lent diary begins with the model's diary
+pub filled-run : (G : Instance) (sv st : List ℕ) → G .sv ≡ at sv → G .st ≡ at st → (t : Trace) → Traced (stepsOf G) t → (before after : List Step)
+    → after ≡ onto (stepsIn (t .steps) (flatOf sv st t)) before → recordsIn after ≡ onto (diaryOf G) (recordsIn before)
 unfolding diaryOf
-filled-run G room rem fixed n flat before after ran k = filled-diary (diaryOf G) n flat room before after (ran .diary-is) (ran .steps-is ∙ sym (length-map (stepsOf G) (recordOf G))) k
+filled-run G sv st a b t T before after k =
+    filled-diary (diaryOf G) (t .steps) (flatOf sv st t) (replicate flatSize 0) before after
+    (trace-flat G sv st a b t T) (T .steps ∙ sym (length-map (stepsOf G) (recordOf G))) k
 
 -- no record, as on a refusal: the lent diary is left as it was
 pub filled-none : (n : ℕ) (flat : List ℕ) (before after : List Step) → n ≡ 0 → after ≡ onto (stepsIn n flat) before → after ≡ before

@@ -1,11 +1,11 @@
--- finder::ended writes the pairs left, or goes on with the candidate. Assumes nothing.
+-- finder_ending::ended writes the pairs left, or goes on with the candidate.
 use native.Mathlib.Omega.{arith}
 use borrow.Author.Needs.{needs}
 use Rattle.model.specs.PlanFile.{edgesIn}
 use Rattle.arrays.specs.ArrayInstance.{flag}
-use Rattle.finder.specs.Endings.{left-room, some-left, none-left}
-use Rattle.finder.proofs.ended.Statement.{statement}
-use Rattle.finder.proofs.ended.Tie as tie
+use Rattle.finder_ending.specs.EndReached.{left-room, some-left, none-left}
+use Rattle.finder_ending.proofs.ended.Statement.{statement}
+use Rattle.finder_ending.proofs.ended.Tie as tie
 
 write-pairs-requires : tie.Need-write-pairs-requires
 write-pairs-requires c κs =

@@ -1,12 +1,12 @@
--- finder::found: 13, then 15, then what the finder answers. Assumes nothing.
+-- desk::finding::found: 13, then 15, then what the finder answers.
 use mathlib.Core.Path.{sym, _∙_}
 use lib.ListN.{length}
 use lib.Dec.{ltb}
 use borrow.Author.Needs.{needs}
 use Rattle.answers.specs.FileCases.{case-accepted}
-use Rattle.finder.specs.Endings.{short-first, short-second, none-short, long-first, long-enough, out-13, out-15, out-found}
-use Rattle.finder.proofs.found.Statement.{statement}
-use Rattle.finder.proofs.found.Tie as tie
+use Rattle.desk.specs.Outcomes.{short-first, short-second, none-short, long-first, long-enough, out-13, out-15, out-found}
+use Rattle.desk.proofs.finding.found.Statement.{statement}
+use Rattle.desk.proofs.finding.found.Tie as tie
 
 read-roster-requires : tie.Need-read-roster-requires
 read-roster-requires c κs = search needs

@@ -1,0 +1,2 @@
+pub mod EndBuffers
+pub mod EndReached
