@@ -11,7 +11,7 @@ use Rattle.lists.specs.Sum.{sum, range}
 use Rattle.lists.specs.Keep.{keep, gather}
 use Rattle.lists.specs.Search.{low}
 use Rattle.model.specs.Limits.{planLimit}
-use Rattle.model.specs.Reading.{Read, got, _then_, twoBytes, readEach, Reading, whole}
+use Rattle.model.specs.Reading.{Reading, accepted, _then_, twoBytes, readEach, whole}
 use Rattle.model.specs.RosterFile.{readCount}
 use Rattle.model.specs.Roster.{elem}
 use Rattle.model.specs.Instance.{Instance, Side, surveyors, stands}
@@ -57,11 +57,11 @@ abbrev pub withPair : Instance → Pairs → ℕ × ℕ → Pairs
 withPair G s p = record { seen = s .seen ++ edgeOfPair G p ∷ []; from = suc (edgeOfPair G p) }
 
 -- "a pair being one field"
-abbrev pub readPairs : Instance → ℕ → List ℕ → Read (List (ℕ × ℕ))
+abbrev pub readPairs : Instance → ℕ → List ℕ → Reading ((List (ℕ × ℕ)) × List ℕ)
 readPairs G n bs = readEach twoBytes (pairCheck G) (withPair G) n (record { seen = []; from = 0 }) bs
 
 abbrev pub planOfPairs : Instance → List (ℕ × ℕ) → Plan
 planOfPairs G ps = planOf (G .m) (λ e. elem e (map (edgeOfPair G) ps))
 
 unfoldable pub readPlan : Instance → List ℕ → Reading Plan
-readPlan G bs = whole (readCount planLimit bs then readPairs G then (λ ps rest. got (planOfPairs G ps) rest))
+readPlan G bs = whole (readCount planLimit bs then readPairs G then (λ ps rest. accepted (planOfPairs G ps, rest)))

@@ -16,7 +16,7 @@ use Rattle.lists.specs.Test.{given, by-eq, bit, bit-one, eqb-no}
 use Rattle.lists.specs.Sum.{sum-append}
 use Rattle.lists.specs.Keep.{any-append}
 use Rattle.model.specs.Limits.{planLimit}
-use Rattle.model.specs.Reading.{Read, got, refused, refuseBy, accepted, turned, whole}
+use Rattle.model.specs.Reading.{Reading, accepted, turned, refuseBy, whole}
 use Rattle.model.specs.Roster.{elem}
 use Rattle.model.specs.Instance.{Instance, Side, surveyors, stands}
 use Rattle.model.specs.Plans.{Plan, on}
@@ -87,11 +87,11 @@ refusal-same m e from a b c d h = by-cases (decLt e m)
     (λ l. given (h l) (λ (p, q). ap₂ (λ x y. cond (leb m e) 10 (cond (ltb e from) 11 (cond (x || y) 12 0))) p q))
     (λ n. let y = le-leb m e (omega arith) in ap (λ z. cond z 10 (cond (ltb e from) 11 (cond (a || b) 12 0))) y ∙ sym (ap (λ z. cond z 10 (cond (ltb e from) 11 (cond (c || d) 12 0))) y))
 
-turned-by : (c : ℕ) (r : Read Plan) → 0 < c → whole (refuseBy c r) ≡ turned c
+turned-by : (c : ℕ) (r : Reading (Plan × List ℕ)) → 0 < c → whole (refuseBy c r) ≡ turned c
 turned-by zero r h = absurd (omega arith)
 turned-by (suc c) r h = refl
 
-passes-by : (c : ℕ) (r : Read Plan) → c ≡ 0 → refuseBy c r ≡ r
+passes-by : (c : ℕ) (r : Reading (Plan × List ℕ)) → c ≡ 0 → refuseBy c r ≡ r
 passes-by zero r e = refl
 passes-by (suc c) r e = absurd (omega arith)
 
@@ -168,7 +168,7 @@ module _ (m : ℕ) (sv st qs qt file : List ℕ) where
     invariant-cut h = now .reading ∙ ap (λ z. whole (pairsLeft G z s (drop (2 * k + 1) file) (now .ps))) left
         ∙ ap whole (short (drop (2 * k + 1) file) (omega (arith, length-drop (2 * k + 1) file)))
       where
-        short : (bs : List ℕ) → length bs < 2 → pairsLeft G (suc (n - (k + 1))) s bs (now .ps) ≡ refused 1
+        short : (bs : List ℕ) → length bs < 2 → pairsLeft G (suc (n - (k + 1))) s bs (now .ps) ≡ turned 1
         short [] l = left-cut G (n - (k + 1)) s (now .ps) .0
         short (x ∷ []) l = left-cut G (n - (k + 1)) s (now .ps) .1 x
         short (x ∷ y ∷ bs) l = absurd (omega arith)
@@ -229,15 +229,15 @@ module _ (m : ℕ) (sv st qs qt file : List ℕ) where
 
   -- ---- the end
   module _ (n k from : ℕ) (chosen : List Bool) (edges us ut : List ℕ) (now : Invariant n k from chosen edges us ut) (end : k ≡ n) where
-    ended : readPlan G file ≡ whole (got (planOfPairs G (now .ps)) (drop (2 * n + 1) file))
+    ended : readPlan G file ≡ whole (accepted (planOfPairs G (now .ps), drop (2 * n + 1) file))
     ended = now .reading ∙ ap (λ i. whole (pairsLeft G i (record { seen = now .es; from = from }) (drop (2 * k + 1) file) (now .ps))) none
-        ∙ ap whole (left-none G (record { seen = now .es; from = from }) (drop (2 * k + 1) file) (now .ps)) ∙ ap (λ i. whole (got (planOfPairs G (now .ps)) (drop (2 * i + 1) file))) end
+        ∙ ap whole (left-none G (record { seen = now .es; from = from }) (drop (2 * k + 1) file) (now .ps)) ∙ ap (λ i. whole (accepted (planOfPairs G (now .ps), drop (2 * i + 1) file))) end
       where
         none : n - k ≡ 0
         none = omega arith
 
     pub invariant-long : 2 * n + 1 < length file → readPlan G file ≡ turned 9
-    invariant-long h = ended ∙ ap (λ z. whole (got (planOfPairs G (now .ps)) z)) (drop-cons file (2 * n + 1) 0 h)
+    invariant-long h = ended ∙ ap (λ z. whole (accepted (planOfPairs G (now .ps), z))) (drop-cons file (2 * n + 1) 0 h)
 
     abbrev M : Plan
     M = planOfPairs G (now .ps)
@@ -256,7 +256,7 @@ module _ (m : ℕ) (sv st qs qt file : List ℕ) where
 
     pub invariant-accepted : length file ≤ 2 * n + 1 → ReadAs G file (record { answer = Accepted n; chosen = chosen; edges = edges })
     invariant-accepted h =
-        given (ended ∙ ap (λ z. whole (got (planOfPairs G (now .ps)) z)) (drop-of-length-le file h)) (λ (q : readPlan G file ≡ accepted M). record {
+        given (ended ∙ ap (λ z. whole (accepted (planOfPairs G (now .ps), z))) (drop-of-length-le file h)) (λ (q : readPlan G file ≡ accepted M). record {
           answer = ap Accepted (sym M-count) ∙ sym (ap (answerOf m) q);
           chosen = λ N a e. now .flags e ∙ sym (M-at e) ∙ ap (λ z. on z e) (accepted-value (sym q ∙ a));
           edges = λ N a. subst (λ z. take (length (edgesIn m (on z))) edges ≡ edgesIn m (on z)) (accepted-value (sym q ∙ a)) (ap (λ i. take i edges) (M-count ∙ sym end) ∙ now .listed ∙ sym M-edges);

@@ -13,9 +13,9 @@ use lib.ListN.{length, take, drop, getD, length-drop, drop-of-length-le}
 use lib.Seq.{drop-cons, take-all}
 use lib.Dec.{ltb, eqb, eqb·suc-zero}
 use borrow.Author.Tests.{lt-ltb, le-ltb}
-use Rattle.model.specs.Reading.{Read, got, refused, _then_, refuseBy, byte, readEach}
+use Rattle.model.specs.Reading.{Reading, accepted, turned, _then_, refuseBy, byte, readEach}
 use Rattle.lists.specs.Test.{given}
-use Rattle.theory_files.specs.Reads.{got-value, refused-not, refuseBy-got}
+use Rattle.theory_files.specs.Reads.{read-value, turned-not, refuseBy-read}
 use Rattle.roster_reading.specs.declared.Section.{Section}
 use Rattle.roster_reading.specs.declared.Section.the-variants as section
 use Rattle.roster_reading.specs.Place.{placed}
@@ -26,22 +26,22 @@ firstOf zero n = n
 firstOf (suc m) n = suc m
 
 -- n bytes
-abbrev some : ℕ → List ℕ → Read (List ℕ)
-some zero bs = got [] bs
-some (suc n) [] = refused 1
-some (suc n) (x ∷ bs) = some n bs then (λ xs rest. got (x ∷ xs) rest)
+abbrev some : ℕ → List ℕ → Reading (List ℕ × List ℕ)
+some zero bs = accepted ([], bs)
+some (suc n) [] = turned 1
+some (suc n) (x ∷ bs) = some n bs then (λ xs rest. accepted (x ∷ xs, rest))
 
-some-cut : (n : ℕ) (bs : List ℕ) → length bs < n → some n bs ≡ refused 1
+some-cut : (n : ℕ) (bs : List ℕ) → length bs < n → some n bs ≡ turned 1
 some-cut zero bs h = absurd (not-suc-le-zero h)
 some-cut (suc n) [] h = refl
-some-cut (suc n) (x ∷ bs) h = ap (λ r. r then (λ xs rest. got (x ∷ xs) rest)) (some-cut n bs (le-of-suc-le-suc h))
+some-cut (suc n) (x ∷ bs) h = ap (λ r. r then (λ xs rest. accepted (x ∷ xs, rest))) (some-cut n bs (le-of-suc-le-suc h))
 
-some-whole : (n : ℕ) (bs : List ℕ) → n ≤ length bs → some n bs ≡ got (take n bs) (drop n bs)
+some-whole : (n : ℕ) (bs : List ℕ) → n ≤ length bs → some n bs ≡ accepted (take n bs, drop n bs)
 some-whole zero bs h = refl
 some-whole (suc n) [] h = absurd (not-suc-le-zero h)
-some-whole (suc n) (x ∷ bs) h = ap (λ r. r then (λ xs rest. got (x ∷ xs) rest)) (some-whole n bs (le-of-suc-le-suc h))
+some-whole (suc n) (x ∷ bs) h = ap (λ r. r then (λ xs rest. accepted (x ∷ xs, rest))) (some-whole n bs (le-of-suc-le-suc h))
 
-refuse-then : {A B : Type 0} (n : ℕ) (r : Read A) (k : A → List ℕ → Read B) → (refuseBy n r then k) ≡ refuseBy n (r then k)
+refuse-then : {A B : Type 0} (n : ℕ) (r : Reading (A × List ℕ)) (k : A → List ℕ → Reading (B × List ℕ)) → (refuseBy n r then k) ≡ refuseBy n (r then k)
 refuse-then zero r k = refl
 refuse-then (suc n) r k = refl
 
@@ -75,8 +75,8 @@ module _ {S : Type 0} (check : S → ℕ → ℕ) (next : S → ℕ → S) where
   each-is (suc n) s (x ∷ bs) = go (check s x) (each-is n (next s x) bs)
     where
       go : (m : ℕ) → readEach byte check next n (next s x) bs ≡ refuseBy (refusalOf (next s x) (take n bs)) (some n bs)
-          → refuseBy m (readEach byte check next n (next s x) bs then (λ xs rest. got (x ∷ xs) rest)) ≡ refuseBy (firstOf m (refusalOf (next s x) (take n bs))) (some n bs then (λ xs rest. got (x ∷ xs) rest))
-      go zero e = ap (λ r. r then (λ xs rest. got (x ∷ xs) rest)) e ∙ refuse-then (refusalOf (next s x) (take n bs)) (some n bs) (λ xs rest. got (x ∷ xs) rest)
+          → refuseBy m (readEach byte check next n (next s x) bs then (λ xs rest. accepted (x ∷ xs, rest))) ≡ refuseBy (firstOf m (refusalOf (next s x) (take n bs))) (some n bs then (λ xs rest. accepted (x ∷ xs, rest)))
+      go zero e = ap (λ r. r then (λ xs rest. accepted (x ∷ xs, rest))) e ∙ refuse-then (refusalOf (next s x) (take n bs)) (some n bs) (λ xs rest. accepted (x ∷ xs, rest))
       go (suc m) e = refl
 
   -- the code's answer for n fields at a place: a refusal of the part from there to its end, or where the part is short, 1
@@ -93,7 +93,7 @@ module _ {S : Type 0} (check : S → ℕ → ℕ) (next : S → ℕ → S) where
           let b : take n (drop at f) ≡ drop at f = take-all n (drop at f) (omega (arith, size)) in
           simp (a, b, some-cut n (drop at f) (omega (arith, size)), lt-ltb (e - at) n (omega arith)) (go (refusalOf s (drop at f)))
         where
-          go : (m : ℕ) → cond (eqb m 0) (section.Refused 1) (section.Refused m) ≡ placed {A = List ℕ} f (refuseBy m (refused 1))
+          go : (m : ℕ) → cond (eqb m 0) (section.Refused 1) (section.Refused m) ≡ placed {A = List ℕ} f (refuseBy m (turned 1))
           go zero = refl
           go (suc m) = rw eqb·suc-zero
 
@@ -103,16 +103,16 @@ module _ {S : Type 0} (check : S → ℕ → ℕ) (next : S → ℕ → S) where
           let b : e ≡ length f - length (drop n (drop at f)) = simp (length-drop) (omega (arith, k)) in
           simp (a, some-whole n (drop at f) (omega (arith, size, k)), le-ltb n n (le-refl n)) (go (refusalOf s (take n (drop at f))) b)
         where
-          go : (m : ℕ) → e ≡ length f - length (drop n (drop at f)) → cond (eqb m 0) (section.Read e) (section.Refused m) ≡ placed f (refuseBy m (got (take n (drop at f)) (drop n (drop at f))))
+          go : (m : ℕ) → e ≡ length f - length (drop n (drop at f)) → cond (eqb m 0) (section.Read e) (section.Refused m) ≡ placed f (refuseBy m (accepted (take n (drop at f), drop n (drop at f))))
           go zero b = ap section.Read b
           go (suc m) b = rw eqb·suc-zero
 
   -- where all fields pass, they are that part
-  pub part-got : (s : S) (f : List ℕ) (at n e : ℕ) {xs rest : List ℕ} → at ≤ length f → e ≡ partEnd (length f) at n → readEach byte check next n s (drop at f) ≡ got xs rest
+  pub part-read : (s : S) (f : List ℕ) (at n e : ℕ) {xs rest : List ℕ} → at ≤ length f → e ≡ partEnd (length f) at n → readEach byte check next n s (drop at f) ≡ accepted (xs, rest)
       → (refusalOf s (take (e - at) (drop at f)) ≡ 0) × (xs ≡ take (e - at) (drop at f))
-  part-got s f at n e {xs} {rest} h d q =
-      given (refuseBy-got (refusalOf s (take n (drop at f))) (sym (each-is n s (drop at f)) ∙ q)) (λ (z, g).
+  part-read s f at n e {xs} {rest} h d q =
+      given (refuseBy-read (refusalOf s (take n (drop at f))) (sym (each-is n s (drop at f)) ∙ q)) (λ (z, g).
       by-cases (decLt (length (drop at f)) n)
-      (λ k. refused-not (sym (some-cut n (drop at f) k) ∙ g))
+      (λ k. turned-not (sym (some-cut n (drop at f) k) ∙ g))
       (λ k. let a : e - at ≡ n = omega (arith, k, length-drop at f) in
-      rw a (z, got-value (sym g ∙ some-whole n (drop at f) (omega (arith, k))))))
+      rw a (z, read-value (sym g ∙ some-whole n (drop at f) (omega (arith, k))))))

@@ -7,7 +7,7 @@ use mathlib.Core.List.{List, [], _∷_, _++_}
 use lib.ListN.{length, drop, getD}
 use lib.Dec.{T}
 use Rattle.lists.specs.Test.{given}
-use Rattle.model.specs.Reading.{Read, got, _then_}
+use Rattle.model.specs.Reading.{Reading, accepted, _then_}
 use Rattle.model.specs.Roster.{Ranking, entries}
 use Rattle.model.specs.RosterFile.{entryCheck, readEntries, readTied, readList, readRanking}
 use Rattle.theory_files.specs.Reads.{isBytes, bytes}
@@ -46,7 +46,7 @@ module _ (longest other : ℕ) (f : List ℕ) (at : ℕ) where
         ∙ ap (λ r. r then tieBehind f at longest other (getD f (at + 1) 0)) (place-refused f (readEntries other (getD f at 0) (drop (at + 2) f)) (sym e ∙ m .place))))
 
     module _ (isB : T (isBytes f)) {next : ℕ} (e : s ≡ section.Read next) where
-      strict : (xs : List ℕ) × (readEntries other (getD f at 0) (drop (at + 2) f) ≡ got xs (drop next f)) × (next ≤ length f)
+      strict : (xs : List ℕ) × (readEntries other (getD f at 0) (drop (at + 2) f) ≡ accepted (xs, drop next f)) × (next ≤ length f)
       strict = given (place-read (bytes (entryCheck other) (λ seen x. seen ++ x ∷ []) (getD f at 0) []) f (at + 2) isB (omega arith) (sym e ∙ m .place)) (λ x. (x .value, x .is, x .within))
 
       pub tie-within : next ≤ length f
@@ -54,6 +54,6 @@ module _ (longest other : ℕ) (f : List ℕ) (at : ℕ) where
 
       pub ranking-goes : {after : List Bool} {r : Section} → TiedAt other (getD f (at + 1) 0) f next between r after → Marked (readRanking longest other) ShowsR f at r after
       ranking-goes t = given strict (λ (xs, is, w).
-          marked-behind {other = λ bs. readTied other xs (getD f (at + 1) 0) bs then (λ ys rest. got (record { strict = xs; tied = ys }) rest)} {next = next}
+          marked-behind {other = λ bs. readTied other xs (getD f (at + 1) 0) bs then (λ ys rest. accepted (record { strict = xs; tied = ys }, rest))} {next = next}
           (lengths-goes f at longest other h k ∙ ap (λ r. r then tieBehind f at longest other (getD f (at + 1) 0)) is)
           (marked-map (readTied other xs (getD f (at + 1) 0)) (λ ys. record { strict = xs; tied = ys }) (t xs (m .marks xs (drop next f) is))))

@@ -10,24 +10,24 @@ use borrow.Author.Tests.{eq-eqb, ne-eqb}
 use Rattle.lists.specs.Test.{given}
 use Rattle.lists.specs.Keep.{gather}
 use Rattle.model.specs.Limits.{entryLimit}
-use Rattle.model.specs.Reading.{Read, got, refused, _then_, refuseIf, readEach}
+use Rattle.model.specs.Reading.{Reading, accepted, turned, _then_, refuseIf, readEach}
 use Rattle.model.specs.RosterFile.{readMany, readSection}
-use Rattle.theory_files.specs.Reads.{isBytes, Reads, each, got-value}
+use Rattle.theory_files.specs.Reads.{isBytes, Reads, each, read-value}
 use Rattle.roster_reading.specs.declared.Section.the-variants as section
 use Rattle.roster_reading.specs.Place.{placed, place-refused, place-read}
 use Rattle.roster_reading.specs.Field.{wide, wide-end, wide-long, wide-goes}
 use Rattle.roster_reading.specs.Row.{Shows, Marked, marked-refused}
 use Rattle.roster_reading.specs.Table.{rowWidth, withRow, Shown, row-more}
 
-then-id : {A : Type 0} (r : Read A) → r ≡ (r then (λ a rest. got a rest))
-then-id (got a rest) = refl
-then-id (refused n) = refl
+then-id : {A : Type 0} (r : Reading (A × List ℕ)) → r ≡ (r then (λ a rest. accepted (a, rest)))
+then-id (accepted (a, rest)) = refl
+then-id (turned n) = refl
 
-module _ {A : Type 0} (field : List ℕ → Read A) (entries : A → List ℕ) (none : A) (f : List ℕ) (start n : ℕ) where
+module _ {A : Type 0} (field : List ℕ → Reading (A × List ℕ)) (entries : A → List ℕ) (none : A) (f : List ℕ) (start n : ℕ) where
   -- after k of the lists: these are read, their rows are marked, and the others are read from the place `at` on
   pub record Turn (at k : ℕ) (table : List Bool) : Type 0 where
     pub lists : List A
-    pub reads : readMany field n (drop start f) ≡ (readMany field (n - k) (drop at f) then (λ xs rest. got (lists ++ xs) rest))
+    pub reads : readMany field n (drop start f) ≡ (readMany field (n - k) (drop at f) then (λ xs rest. accepted (lists ++ xs, rest)))
     pub count : length lists ≡ k
     pub shown : Shown entries none table lists
 
@@ -36,7 +36,7 @@ module _ {A : Type 0} (field : List ℕ → Read A) (entries : A → List ℕ) (
       let e : n - 0 ≡ n = omega arith in
       record { lists = []; reads = rw e (then-id (readMany field n (drop start f))); count = refl; shown = h }
 
-  step : (k : ℕ) (bs : List ℕ) → k < n → readMany field (n - k) bs ≡ (field bs then (λ x rest. readMany field (n - (k + 1)) rest then (λ xs rest. got (x ∷ xs) rest)))
+  step : (k : ℕ) (bs : List ℕ) → k < n → readMany field (n - k) bs ≡ (field bs then (λ x rest. readMany field (n - (k + 1)) rest then (λ xs rest. accepted (x ∷ xs, rest))))
   unfolding readEach
   step k bs h = let e : n - k ≡ suc (n - (k + 1)) = omega arith in rw e
 
@@ -44,17 +44,17 @@ module _ {A : Type 0} (field : List ℕ → Read A) (entries : A → List ℕ) (
       → Marked field shows f at (section.Refused m) row → Marked (readMany field n) (Shown entries none) f start (section.Refused m) after
   turn-refused {at} {k} {m = m} t h c =
       let e = place-refused f (field (drop at f)) (c .place) in
-      marked-refused (t .reads ∙ ap (λ r. r then (λ xs rest. got (t .lists ++ xs) rest)) (step k (drop at f) h ∙ ap (λ r. r then (λ x rest. readMany field (n - (k + 1)) rest then (λ xs rest. got (x ∷ xs) rest))) e))
+      marked-refused (t .reads ∙ ap (λ r. r then (λ xs rest. accepted (t .lists ++ xs, rest))) (step k (drop at f) h ∙ ap (λ r. r then (λ x rest. readMany field (n - (k + 1)) rest then (λ xs rest. accepted (x ∷ xs, rest)))) e))
 
   pub turn-end : {at k : ℕ} {table : List Bool} → Turn at k table → n ≤ k → at ≤ length f → Marked (readMany field n) (Shown entries none) f start (section.Read at) table
   unfolding readEach
   turn-end {at} {k} {table} t h l =
       let z : n - k ≡ 0 = omega arith in
-      let e : readMany field n (drop start f) ≡ got (t .lists) (drop at f) = t .reads ∙ rw (z, append-nil) in
+      let e : readMany field n (drop start f) ≡ accepted (t .lists, drop at f) = t .reads ∙ rw (z, append-nil) in
       let p : at ≡ length f - length (drop at f) = simp length-drop (omega arith) in
       record {
         place = ap section.Read p ∙ sym (ap (placed f) e);
-        marks = λ ls rest d. subst (Shown entries none table) (got-value (sym e ∙ d)) (t .shown);
+        marks = λ ls rest d. subst (Shown entries none table) (read-value (sym e ∙ d)) (t .shown);
       }
 
   module _ (empty : entries none ≡ []) {write : A → List ℕ} {P : A → Type 0} (R : Reads field write P) (isB : T (isBytes f)) where
@@ -65,24 +65,24 @@ module _ {A : Type 0} (field : List ℕ → Read A) (entries : A → List ℕ) (
           x .within,
           record {
             lists = t .lists ++ x .value ∷ [];
-            reads = t .reads ∙ ap (λ r. r then (λ xs rest. got (t .lists ++ xs) rest)) (step k (drop at f) h ∙ ap (λ r. r then (λ x rest. readMany field (n - (k + 1)) rest then (λ xs rest. got (x ∷ xs) rest))) (x .is))
+            reads = t .reads ∙ ap (λ r. r then (λ xs rest. accepted (t .lists ++ xs, rest))) (step k (drop at f) h ∙ ap (λ r. r then (λ x rest. readMany field (n - (k + 1)) rest then (λ xs rest. accepted (x ∷ xs, rest)))) (x .is))
                 ∙ joined (x .value) (t .lists) (readMany field (n - (k + 1)) (drop next f));
             count = simp length-append (omega (arith, t .count));
             shown = row-more entries none empty table row (t .lists) (x .value) k (t .shown) (t .count) room w (c .marks (x .value) (drop next f) (x .is));
           },
         ))
       where
-        joined : (x : A) (ls : List A) (r : Read (List A)) → (r then (λ xs rest. got (x ∷ xs) rest) then (λ xs rest. got (ls ++ xs) rest)) ≡ (r then (λ xs rest. got ((ls ++ x ∷ []) ++ xs) rest))
-        joined x ls (got xs rest) = ap (λ z. got z rest) (sym (append-assoc ls (x ∷ []) xs))
-        joined x ls (refused m) = refl
+        joined : (x : A) (ls : List A) (r : Reading (List A × List ℕ)) → (r then (λ xs rest. accepted (x ∷ xs, rest)) then (λ xs rest. accepted (ls ++ xs, rest))) ≡ (r then (λ xs rest. accepted ((ls ++ x ∷ []) ++ xs, rest)))
+        joined x ls (accepted (xs, rest)) = ap (λ z. accepted (z, rest)) (sym (append-assoc ls (x ∷ []) xs))
+        joined x ls (turned m) = refl
 
 -- ---- a section: its count, the lists, and then the count against the sum of their lengths. The lists take their entries and as
 -- many length bytes as `heads` says, so that the sum shows in the place behind them.
-module _ {A : Type 0} (field : List ℕ → Read A) (total : List A → ℕ) (f : List ℕ) (at n : ℕ) where
-  abbrev summed : ℕ → List A → List ℕ → Read (List A)
-  summed w xs rest = refuseIf (not (eqb w (total xs))) 7 (got xs rest)
+module _ {A : Type 0} (field : List ℕ → Reading (A × List ℕ)) (total : List A → ℕ) (f : List ℕ) (at n : ℕ) where
+  abbrev summed : ℕ → List A → List ℕ → Reading (List A × List ℕ)
+  summed w xs rest = refuseIf (not (eqb w (total xs))) 7 (accepted (xs, rest))
 
-  abbrev behind : ℕ → List ℕ → Read (List A)
+  abbrev behind : ℕ → List ℕ → Reading (List A × List ℕ)
   behind w rest = readMany field n rest then summed w
 
   pub section-cut : {shows : List Bool → List A → Type 0} {after : List Bool} → length f < at + 2 → Marked (readSection field total n) shows f at (section.Refused 1) after
@@ -97,7 +97,7 @@ module _ {A : Type 0} (field : List ℕ → Read A) (total : List A → ℕ) (f 
 
     module _ {write : A → List ℕ} {P : A → Type 0} (R : Reads field write P) (isB : T (isBytes f)) (heads : ℕ) (sizes : (ls : List A) → length ls ≡ n → length (gather write ls) ≡ heads + total ls)
         {end : ℕ} (c : Marked (readMany field n) shows f (at + 2) (section.Read end) after) where
-      found : (ls : List A) × (readMany field n (drop (at + 2) f) ≡ got ls (drop end f)) × (end ≡ at + 2 + (heads + total ls)) × (end ≤ length f)
+      found : (ls : List A) × (readMany field n (drop (at + 2) f) ≡ accepted (ls, drop end f)) × (end ≡ at + 2 + (heads + total ls)) × (end ≤ length f)
       found = given (place-read (each R (λ s x. 0) (λ s x. s) n tt) f (at + 2) isB (omega arith) (c .place)) (λ x.
           (x .value, x .is, x .size ∙ ap (λ k. at + 2 + k) (sizes (x .value) (x .fits .0)), x .within))
 
@@ -105,10 +105,10 @@ module _ {A : Type 0} (field : List ℕ → Read A) (total : List A → ℕ) (f 
       section-sum e = given found (λ (ls, d, l, b).
           let t : wide f at ≡ total ls = omega arith in
           let p : end ≡ length f - length (drop end f) = simp length-drop (omega arith) in
-          let g : readSection field total n (drop at f) ≡ got ls (drop end f) = wide-goes f at behind room small ∙ ap (λ r. r then summed (wide f at)) d ∙ simp (eq-eqb (wide f at) (total ls) t) in
+          let g : readSection field total n (drop at f) ≡ accepted (ls, drop end f) = wide-goes f at behind room small ∙ ap (λ r. r then summed (wide f at)) d ∙ simp (eq-eqb (wide f at) (total ls) t) in
           record {
             place = ap section.Read p ∙ sym (ap (placed f) g);
-            marks = λ xs rest q. subst (shows after) (got-value (sym g ∙ q)) (c .marks ls (drop end f) d);
+            marks = λ xs rest q. subst (shows after) (read-value (sym g ∙ q)) (c .marks ls (drop end f) d);
           })
 
       pub section-uneven : (end ≡ at + 2 + heads + wide f at → ⊥) → Marked (readSection field total n) shows f at (section.Refused 7) after

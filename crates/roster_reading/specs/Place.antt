@@ -11,15 +11,15 @@ use lib.Dec.{T, ltb, lt→ltb}
 use mir.Syntax.{w8}
 use mir.Val.{Fits}
 use Rattle.lists.specs.Test.{given, and-i}
-use Rattle.model.specs.Reading.{Read, got, refused}
+use Rattle.model.specs.Reading.{Reading, accepted, turned}
 use Rattle.theory_files.specs.Reads.{isBytes, bytes-rest, Reads}
 use Rattle.roster_reading.specs.declared.Section.{Section}
 use Rattle.roster_reading.specs.declared.Section.the-variants as section
 
 -- the code's answer for a reading of the file
-abbrev pub placed : {A : Type 0} → List ℕ → Read A → Section
-placed f (got a rest) = section.Read (length f - length rest)
-placed f (refused n) = section.Refused n
+abbrev pub placed : {A : Type 0} → List ℕ → Reading (A × List ℕ) → Section
+placed f (accepted (a, rest)) = section.Read (length f - length rest)
+placed f (turned n) = section.Refused n
 
 abbrev isRead : Section → Bool
 isRead (section.Read n) = true
@@ -40,14 +40,14 @@ pub refused-not-read {ℓ} : {C : Type ℓ} {n m : ℕ} → section.Refused m �
 refused-not-read e = read-not (sym e)
 
 -- a refusal is the model's
-pub place-refused : {A : Type 0} (f : List ℕ) (r : Read A) {n : ℕ} → section.Refused n ≡ placed f r → r ≡ refused n
-place-refused f (got a rest) e = refused-not-read e
-place-refused f (refused m) e = ap (λ s. refused (numberOf s)) (sym e)
+pub place-refused : {A : Type 0} (f : List ℕ) (r : Reading (A × List ℕ)) {n : ℕ} → section.Refused n ≡ placed f r → r ≡ turned n
+place-refused f (accepted (a, rest)) e = refused-not-read e
+place-refused f (turned m) e = ap (λ s. turned (numberOf s)) (sym e)
 
 -- ---- what is read, at its place
-pub record Found {A : Type 0} (read : List ℕ → Read A) (write : A → List ℕ) (P : A → Type 0) (f : List ℕ) (at next : ℕ) : Type 0 where
+pub record Found {A : Type 0} (read : List ℕ → Reading (A × List ℕ)) (write : A → List ℕ) (P : A → Type 0) (f : List ℕ) (at next : ℕ) : Type 0 where
   pub value : A
-  pub is : read (drop at f) ≡ got value (drop next f)
+  pub is : read (drop at f) ≡ accepted (value, drop next f)
   pub size : next ≡ at + length (write value)
   pub within : next ≤ length f
   pub fits : P value
@@ -61,13 +61,13 @@ pub bytes-of : (f : List ℕ) → ((i : ℕ) → Fits w8 (getD f i 0)) → T (is
 bytes-of [] h = tt
 bytes-of (x ∷ f) h = and-i (ltb x 256) (isBytes f) (lt→ltb x 256 (omega (arith, h 0))) (bytes-of f (λ i. h (suc i)))
 
-pub place-read : {A : Type 0} {read : List ℕ → Read A} {write : A → List ℕ} {P : A → Type 0} (R : Reads read write P) (f : List ℕ) (at : ℕ) {next : ℕ}
+pub place-read : {A : Type 0} {read : List ℕ → Reading (A × List ℕ)} {write : A → List ℕ} {P : A → Type 0} (R : Reads read write P) (f : List ℕ) (at : ℕ) {next : ℕ}
     → T (isBytes f) → at ≤ length f → section.Read next ≡ placed f (read (drop at f)) → Found read write P f at next
 place-read {A} {read} {write} {P} R f at {next} t h e = go (read (drop at f)) refl e
   where
-    go : (r : Read A) → read (drop at f) ≡ r → section.Read next ≡ placed f r → Found read write P f at next
-    go (refused n) d e = read-not e
-    go (got a rest) d e =
+    go : (r : Reading (A × List ℕ)) → read (drop at f) ≡ r → section.Read next ≡ placed f r → Found read write P f at next
+    go (turned n) d e = read-not e
+    go (accepted (a, rest)) d e =
         given (R .back (drop at f) a rest (bytes-drop at f t) d) (λ (w, p).
         let n : next ≡ length f - length rest = ap placeOf e in
         let l = simp (length-drop, length-append) at (ap length w) in
@@ -75,7 +75,7 @@ place-read {A} {read} {write} {P} R f at {next} t h e = go (read (drop at f)) re
         let s : drop next f ≡ rest = ap (λ k. drop k f) k ∙ sym (drop-drop (length (write a)) at f) ∙ ap (drop (length (write a))) w ∙ drop-at (write a) rest (length (write a)) refl in
         record {
           value = a;
-          is = d ∙ ap (got a) (sym s);
+          is = d ∙ ap ((λ bs. accepted (a, bs))) (sym s);
           size = k;
           within = omega arith;
           fits = p;

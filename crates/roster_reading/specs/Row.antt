@@ -10,14 +10,14 @@ use lib.Seq.{take-suc, take-all, getD-set-same, getD-set-other}
 use Rattle.lists.specs.Test.{given, by-eq}
 use Rattle.lists.specs.Keep.{any-append}
 use lib.Dec.{eqb}
-use Rattle.model.specs.Reading.{Read, got, refused, _then_, byte, readEach}
+use Rattle.model.specs.Reading.{Reading, accepted, turned, _then_, byte, readEach}
 use Rattle.model.specs.Roster.{elem}
 use Rattle.model.specs.RosterFile.{entryCheck, tiedCheck, Tie, readTied}
-use Rattle.theory_files.specs.Reads.{refused-not, then-got, got-value}
+use Rattle.theory_files.specs.Reads.{turned-not, then-read, read-value}
 use Rattle.roster_reading.specs.declared.Section.{Section}
 use Rattle.roster_reading.specs.declared.Section.the-variants as section
 use Rattle.roster_reading.specs.Place.{placed}
-use Rattle.roster_reading.specs.Check.{refusalOf, partEnd, partAnswer, part-is, part-got}
+use Rattle.roster_reading.specs.Check.{refusalOf, partEnd, partAnswer, part-is, part-read}
 
 -- the marks show a list: a number is marked where the list has it
 abbrev pub Shows : List Bool → List ℕ → Type 0
@@ -72,32 +72,32 @@ TiedChecked other part before r after =
     (strict : List ℕ) → Shows before strict → Checked (refusalOf (tiedCheck other) moreTied (record { seen = strict; last = 0 }) part) (strict ++ part) r after
 
 -- ---- a reader that marks what it reads: its answer is the model's, and where it reads a value, the marks show it
-pub record Marked {A : Type 0} (read : List ℕ → Read A) (shows : List Bool → A → Type 0) (f : List ℕ) (at : ℕ) (r : Section) (after : List Bool) : Type 0 where
+pub record Marked {A : Type 0} (read : List ℕ → Reading (A × List ℕ)) (shows : List Bool → A → Type 0) (f : List ℕ) (at : ℕ) (r : Section) (after : List Bool) : Type 0 where
   pub place : r ≡ placed f (read (drop at f))
-  pub marks : (a : A) (rest : List ℕ) → read (drop at f) ≡ got a rest → shows after a
+  pub marks : (a : A) (rest : List ℕ) → read (drop at f) ≡ accepted (a, rest) → shows after a
 
-module _ {A : Type 0} {read : List ℕ → Read A} {shows : List Bool → A → Type 0} {f : List ℕ} {at : ℕ} {after : List Bool} where
-  pub marked-refused : {n : ℕ} → read (drop at f) ≡ refused n → Marked read shows f at (section.Refused n) after
-  marked-refused e = record { place = sym (ap (placed f) e); marks = λ a rest d. refused-not (sym e ∙ d) }
+module _ {A : Type 0} {read : List ℕ → Reading (A × List ℕ)} {shows : List Bool → A → Type 0} {f : List ℕ} {at : ℕ} {after : List Bool} where
+  pub marked-refused : {n : ℕ} → read (drop at f) ≡ turned n → Marked read shows f at (section.Refused n) after
+  marked-refused e = record { place = sym (ap (placed f) e); marks = λ a rest d. turned-not (sym e ∙ d) }
 
   pub marked-as : {r r′ : Section} → r ≡ r′ → Marked read shows f at r after → Marked read shows f at r′ after
   marked-as e m = subst (λ z. Marked read shows f at z after) e m
 
   -- behind a count
-  pub marked-behind : {other : List ℕ → Read A} {next : ℕ} {r : Section} → read (drop at f) ≡ other (drop next f) → Marked other shows f next r after → Marked read shows f at r after
+  pub marked-behind : {other : List ℕ → Reading (A × List ℕ)} {next : ℕ} {r : Section} → read (drop at f) ≡ other (drop next f) → Marked other shows f next r after → Marked read shows f at r after
   marked-behind e m = record { place = m .place ∙ sym (ap (placed f) e); marks = λ a rest d. m .marks a rest (sym e ∙ d) }
 
 -- what is made of the value read
-pub marked-map : {A B : Type 0} (read : List ℕ → Read A) (g : A → B) {shows : List Bool → B → Type 0} {f : List ℕ} {at : ℕ} {r : Section} {after : List Bool}
-    → Marked read (λ m a. shows m (g a)) f at r after → Marked (λ bs. read bs then (λ a rest. got (g a) rest)) shows f at r after
+pub marked-map : {A B : Type 0} (read : List ℕ → Reading (A × List ℕ)) (g : A → B) {shows : List Bool → B → Type 0} {f : List ℕ} {at : ℕ} {r : Section} {after : List Bool}
+    → Marked read (λ m a. shows m (g a)) f at r after → Marked (λ bs. read bs then (λ a rest. accepted (g a, rest))) shows f at r after
 marked-map {A} {B} read g {shows} {f} {at} {r} {after} m = record {
   place = m .place ∙ same (read (drop at f));
-  marks = λ b rest d. given (then-got (read (drop at f)) (λ a rest. got (g a) rest) d) (λ (a, mid, e, k). subst (shows after) (got-value k) (m .marks a mid e));
+  marks = λ b rest d. given (then-read (read (drop at f)) (λ a rest. accepted (g a, rest)) d) (λ (a, mid, e, k). subst (shows after) (read-value k) (m .marks a mid e));
 }
   where
-    same : (x : Read A) → placed f x ≡ placed f (x then (λ a rest. got (g a) rest))
-    same (got a rest) = refl
-    same (refused n) = refl
+    same : (x : Reading (A × List ℕ)) → placed f x ≡ placed f (x then (λ a rest. accepted (g a, rest)))
+    same (accepted (a, rest)) = refl
+    same (turned n) = refl
 
 -- a part that is checked
 pub marked-part : {S : Type 0} (check : S → ℕ → ℕ) (next : S → ℕ → S) (s : S) (seen f : List ℕ) (at n e m : ℕ) (after : List Bool) → at ≤ length f → e ≡ partEnd (length f) at n
@@ -105,7 +105,7 @@ pub marked-part : {S : Type 0} (check : S → ℕ → ℕ) (next : S → ℕ →
     → Marked (readEach byte check next n s) (λ row xs. Shows row (seen ++ xs)) f at (partAnswer m at e n) after
 marked-part check next s seen f at n e m after h d c = record {
   place = ap (λ k. partAnswer k at e n) (c .number) ∙ part-is check next s f at n e h d;
-  marks = λ xs rest q. given (part-got check next s f at n e h d q) (λ (z, w). subst (λ l. Shows after (seen ++ l)) (sym w) (c .marks (c .number ∙ z)));
+  marks = λ xs rest q. given (part-read check next s f at n e h d q) (λ (z, w). subst (λ l. Shows after (seen ++ l)) (sym w) (c .marks (c .number ∙ z)));
 }
 
 -- n entries from a place on, behind those seen before; n tied ones behind the strict ones

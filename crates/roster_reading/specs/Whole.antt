@@ -9,7 +9,7 @@ use lib.Seq.{getD-drop, drop-cons}
 use lib.Dec.{T, leb, leb→le}
 use Rattle.lists.specs.Test.{given, and-l}
 use Rattle.model.specs.Limits.{nodeLimit}
-use Rattle.model.specs.Reading.{Read, got, _then_, Reading, accepted, turned, whole}
+use Rattle.model.specs.Reading.{Reading, accepted, _then_, turned, whole}
 use Rattle.model.specs.Roster.{Ranking, Roster, totalS, totalT, listFits, rankingFits, bothOrNeither}
 use Rattle.model.specs.RosterFile.{readNodes, readList, readRanking, readSection, oneSided, readRoster}
 use Rattle.theory_files.specs.Reads.{isBytes}
@@ -24,7 +24,7 @@ use Rattle.roster_reading.specs.Pairs.{bothAlike, both-alike}
 -- what is known of the nodes of a side, at a place of the file
 pub record Nodes (f : List ℕ) (at next : ℕ) : Type 0 where
   pub quotas : List ℕ
-  pub is : readNodes (drop at f) ≡ got quotas (drop next f)
+  pub is : readNodes (drop at f) ≡ accepted (quotas, drop next f)
   pub count : length quotas ≡ getD f at 0
   pub few : length quotas ≤ nodeLimit
   pub room : at < next
@@ -48,16 +48,16 @@ closed f (accepted R) = section.Read (length f)
 closed f (turned n) = section.Refused n
 
 -- the two sections of lists, behind the nodes of both sides
-abbrev finish : (qs qt : List ℕ) → List (List ℕ) → List Ranking → List ℕ → Read Roster
-finish qs qt ls ts rest = got (record { quotasS = qs; quotasT = qt; listsS = ls; listsT = ts }) rest
+abbrev finish : (qs qt : List ℕ) → List (List ℕ) → List Ranking → List ℕ → Reading (Roster × List ℕ)
+finish qs qt ls ts rest = accepted (record { quotasS = qs; quotasT = qt; listsS = ls; listsT = ts }, rest)
 
-abbrev rankings : (ns nt : ℕ) → List ℕ → Read (List Ranking)
+abbrev rankings : (ns nt : ℕ) → List ℕ → Reading (List Ranking × List ℕ)
 rankings ns nt = readSection (readRanking ns ns) totalT nt
 
-abbrev lists : (ns nt : ℕ) → List ℕ → Read (List (List ℕ))
+abbrev lists : (ns nt : ℕ) → List ℕ → Reading (List (List ℕ) × List ℕ)
 lists ns nt = readSection (readList nt nt) totalS ns
 
-abbrev pub readLists : (qs qt : List ℕ) → List ℕ → Read Roster
+abbrev pub readLists : (qs qt : List ℕ) → List ℕ → Reading (Roster × List ℕ)
 readLists qs qt rest = lists (length qs) (length qt) rest then (λ ls rest. rankings (length qs) (length qt) rest then finish qs qt ls)
 
 -- the code's answer for them: they stand behind nodes of so many
@@ -74,7 +74,7 @@ module _ (ns nt : ℕ) (f : List ℕ) (at : ℕ) where
       ∙ ap (λ r. r then (λ ls rest. rankings ns nt rest then finish qs qt ls)) (place-refused f (lists ns nt (drop at f)) (sym e ∙ m .place))))
 
   module _ (isB : T (isBytes f)) (h : at ≤ length f) {s : Section} {mid : ℕ} {byS : List Bool} (m : Marked (lists ns nt) ListsShown f at s byS) (e : s ≡ section.Read mid) where
-    first : (ls : List (List ℕ)) × (lists ns nt (drop at f) ≡ got ls (drop mid f)) × (mid ≤ length f) × ListsShown byS ls
+    first : (ls : List (List ℕ)) × (lists ns nt (drop at f) ≡ accepted (ls, drop mid f)) × (mid ≤ length f) × ListsShown byS ls
     first = given (place-read (section-reads (listFits nt) totalS (list nt) ns) f at isB h (sym e ∙ m .place)) (λ x. (x .value, x .is, x .within, m .marks (x .value) (drop mid f) (x .is)))
 
     pub mid-within : mid ≤ length f
@@ -86,18 +86,18 @@ module _ (ns nt : ℕ) (f : List ℕ) (at : ℕ) where
         ∙ ap (λ r. r then finish qs qt (first .0)) (place-refused f (rankings ns nt (drop mid f)) (sym d ∙ k .place))))
 
     module _ {t : Section} {end : ℕ} {byT : List Bool} (k : Marked (rankings ns nt) RankingsShown f mid t byT) (d : t ≡ section.Read end) where
-      last : (ts : List Ranking) × (rankings ns nt (drop mid f) ≡ got ts (drop end f)) × (end ≤ length f) × RankingsShown byT ts
+      last : (ts : List Ranking) × (rankings ns nt (drop mid f) ≡ accepted (ts, drop end f)) × (end ≤ length f) × RankingsShown byT ts
       last = given (place-read (section-reads (rankingFits ns) totalT (ranking ns) nt) f mid isB mid-within (sym d ∙ k .place)) (λ x. (x .value, x .is, x .within, k .marks (x .value) (drop end f) (x .is)))
 
       abbrev here : List ℕ → List ℕ → Roster
       here qs qt = record { quotasS = qs; quotasT = qt; listsS = first .0; listsT = last .0 }
 
-      read : (qs qt : List ℕ) → length qs ≡ ns → length qt ≡ nt → readLists qs qt (drop at f) ≡ got (here qs qt) (drop end f)
+      read : (qs qt : List ℕ) → length qs ≡ ns → length qt ≡ nt → readLists qs qt (drop at f) ≡ accepted (here qs qt, drop end f)
       read qs qt a b = counted qs qt a b ∙ ap (λ r. r then (λ ls rest. rankings ns nt rest then finish qs qt ls)) (first .1) ∙ ap (λ r. r then finish qs qt (first .0)) (last .1)
 
       -- "9 bytes after the end"
       pub lists-behind : end < length f → ListsRead ns nt f at (section.Refused 9)
-      lists-behind l qs qt a b = sym (ap (λ r. closed f (oneSided (whole r))) (read qs qt a b ∙ ap (got (here qs qt)) (drop-cons f end 0 l)))
+      lists-behind l qs qt a b = sym (ap (λ r. closed f (oneSided (whole r))) (read qs qt a b ∙ ap ((λ bs. accepted (here qs qt, bs))) (drop-cons f end 0 l)))
 
       -- "8 a pair listed by one side only"
       both-is : ns ≤ nodeLimit → nt ≤ nodeLimit → (qs qt : List ℕ) → length qs ≡ ns → length qt ≡ nt
@@ -106,7 +106,7 @@ module _ (ns nt : ℕ) (f : List ℕ) (at : ℕ) where
 
       closes : length f ≤ end → (qs qt : List ℕ) → length qs ≡ ns → length qt ≡ nt
           → closed f (oneSided (whole (readLists qs qt (drop at f)))) ≡ cond (bothOrNeither (here qs qt)) (section.Read (length f)) (section.Refused 8)
-      closes l qs qt a b = ap (λ r. closed f (oneSided (whole r))) (read qs qt a b ∙ ap (got (here qs qt)) (drop-of-length-le f l)) ∙ branch (bothOrNeither (here qs qt))
+      closes l qs qt a b = ap (λ r. closed f (oneSided (whole r))) (read qs qt a b ∙ ap ((λ bs. accepted (here qs qt, bs))) (drop-of-length-le f l)) ∙ branch (bothOrNeither (here qs qt))
         where
           branch : (c : Bool) → closed f (cond c (accepted (here qs qt)) (turned 8)) ≡ cond c (section.Read (length f)) (section.Refused 8)
           branch true = refl
@@ -122,7 +122,7 @@ module _ (ns nt : ℕ) (f : List ℕ) (at : ℕ) where
         lists-unlike v qs qt a b = sym (closes l qs qt a b ∙ ap (λ c. cond c (section.Read (length f)) (section.Refused 8)) (sym (both-is p q qs qt a b) ∙ v))
 
 -- ---- the nodes before them
-abbrev second : List ℕ → List ℕ → Read Roster
+abbrev second : List ℕ → List ℕ → Reading (Roster × List ℕ)
 second qs rest = readNodes rest then readLists qs
 
 pub nodes-refused : (f : List ℕ) {s : Section} {n : ℕ} → s ≡ placed f (readNodes (drop 0 f)) → s ≡ section.Refused n → s ≡ closed f (readRoster f)

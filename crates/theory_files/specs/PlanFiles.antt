@@ -16,7 +16,7 @@ use Rattle.lists.specs.Sum.{_∈_, sum, sum-append, sum-mono, sum-swap, sum-one
 use Rattle.lists.specs.Keep.{gather, All}
 use Rattle.lists.specs.Search.{low-is}
 use Rattle.model.specs.Limits.{planLimit, planSize}
-use Rattle.model.specs.Reading.{got, _then_, accepted, whole}
+use Rattle.model.specs.Reading.{accepted, _then_, whole}
 use Rattle.model.specs.RosterFile.{readCount}
 use Rattle.model.specs.Roster.{elem}
 use Rattle.model.specs.Instance.{Instance, Side, surveyors, stands}
@@ -24,7 +24,7 @@ use Rattle.model.specs.Plans.{Plan, on, withinSide, within, plansOf}
 use Rattle.model.specs.PlanFile.{pairBytes, edgesIn, pairList, planBytes, edgeOfPair, full, Pairs, pairCheck, withPair, readPairs, planOfPairs, readPlan}
 use Rattle.theory_instance.specs.Lawful.{Lawful, Matching}
 use Rattle.theory_instance.specs.Within.{within-side, within-matching, matching-within}
-use Rattle.theory_files.specs.Reads.{isBytes, Reads, Passes, each, two-bytes, got-value, got-rest, then-got, whole-accepted}
+use Rattle.theory_files.specs.Reads.{isBytes, Reads, Passes, each, two-bytes, read-value, read-rest, then-read, whole-accepted}
 use Rattle.theory_files.specs.Entries.{cond-zero, zero-cond}
 use Rattle.theory_files.specs.Sections.{alike, counted}
 use Rattle.theory_files.specs.Chosen.{on-planOf, planOf-length, planOf-on, planOf-cong, edgesIn-cong, plan-length, plan-within, within-plan, From, Below, keep-from, keep-below, edges-of-elem, elem-edgesIn, atNode, deg-atNode}
@@ -135,14 +135,14 @@ module _ (G : Instance) where
   plan-pairs : (bs : List ℕ) (M : Plan) → T (isBytes bs) → readPlan G bs ≡ accepted M → FromPairs bs M
   unfolding readPlan
   plan-pairs bs M t e =
-      given (whole-accepted (readCount planLimit bs then readPairs G then (λ ps rest. got (planOfPairs G ps) rest)) e) (λ w.
-      given (then-got (readCount planLimit bs then readPairs G) (λ ps rest. got (planOfPairs G ps) rest) w) (λ (ps, mid, e₁, h₁).
+      given (whole-accepted (readCount planLimit bs then readPairs G then (λ ps rest. accepted (planOfPairs G ps, rest))) e) (λ w.
+      given (then-read (readCount planLimit bs then readPairs G) (λ ps rest. accepted (planOfPairs G ps, rest)) w) (λ (ps, mid, e₁, h₁).
       given (pairs .back bs ps mid t e₁) (λ (f, (l, (p, k))). record {
         ps = ps;
-        file = f ∙ ap (λ z. (length ps ∷ gather two ps) ++ z) (got-rest h₁) ∙ append-nil (length ps ∷ gather two ps);
+        file = f ∙ ap (λ z. (length ps ∷ gather two ps) ++ z) (read-rest h₁) ∙ append-nil (length ps ∷ gather two ps);
         small = l;
         passing = k;
-        plan = sym (got-value h₁);
+        plan = sym (read-value h₁);
       })))
 
   -- its edges are the pairs' edges
@@ -256,7 +256,7 @@ module _ (G : Instance) where
         let pass : PairsPass start ps = written-passes F start es (keep-from (on M) 0 (G .m)) below fitsS fitsT in
         let read = ap (λ bs. readCount planLimit bs then readPairs G) file ∙ pairs .forth ps [] (small, (every-unit ps, pass)) in
         let back : planOfPairs G ps ≡ M = planOf-cong (G .m) (λ e. elem e (edges ps)) (on M) (λ e h. ap (elem e) (edges-back es below) ∙ elem-edgesIn (G .m) (on M) e h) ∙ planOf-on (G .m) M (plan-length G ok) in
-        ap (λ r. whole (r then (λ ps rest. got (planOfPairs G ps) rest))) read ∙ ap accepted back
+        ap (λ r. whole (r then (λ ps rest. accepted (planOfPairs G ps, rest)))) read ∙ ap accepted back
 
     -- a plan has at most 129 bytes
     pub plan-size : length (planBytes G M) ≤ planSize

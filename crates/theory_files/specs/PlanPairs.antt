@@ -6,7 +6,7 @@ use mathlib.Core.List.{List, [], _∷_, _++_, append-nil}
 use lib.Seq.{append-snoc}
 use borrow.Author.Tests.{lt-ltb, le-ltb}
 use Rattle.model.specs.Limits.{planLimit}
-use Rattle.model.specs.Reading.{Read, got, refused, _then_, refuseBy, twoBytes, readEach, turned, whole}
+use Rattle.model.specs.Reading.{Reading, accepted, turned, _then_, refuseBy, twoBytes, readEach, whole}
 use Rattle.model.specs.Instance.{Instance}
 use Rattle.model.specs.PlanFile.{Pairs, pairCheck, withPair, readPairs, planOfPairs, readPlan}
 use Rattle.model.specs.Plans.{Plan}
@@ -16,11 +16,11 @@ abbrev pub noPairs : Pairs
 noPairs = record { seen = []; from = 0 }
 
 module _ (G : Instance) where
-  abbrev finish : List (ℕ × ℕ) → List (ℕ × ℕ) → List ℕ → Read Plan
-  finish ps xs rest = got (planOfPairs G (ps ++ xs)) rest
+  abbrev finish : List (ℕ × ℕ) → List (ℕ × ℕ) → List ℕ → Reading (Plan × List ℕ)
+  finish ps xs rest = accepted (planOfPairs G (ps ++ xs), rest)
 
   -- n pairs are left, after the pairs ps
-  abbrev pub pairsLeft : ℕ → Pairs → List ℕ → List (ℕ × ℕ) → Read Plan
+  abbrev pub pairsLeft : ℕ → Pairs → List ℕ → List (ℕ × ℕ) → Reading (Plan × List ℕ)
   pairsLeft n s bs ps = readEach twoBytes (pairCheck G) (withPair G) n s bs then finish ps
 
   pub plan-empty : readPlan G [] ≡ turned 1
@@ -29,13 +29,13 @@ module _ (G : Instance) where
 
   pub plan-long : (n : ℕ) (bs : List ℕ) → planLimit < n → readPlan G (n ∷ bs) ≡ turned 2
   unfolding readPlan
-  plan-long n bs h = ap (λ b. whole (cond b (refused 2) (got n bs) then readPairs G then finish [])) (lt-ltb planLimit n h)
+  plan-long n bs h = ap (λ b. whole (cond b (turned 2) (accepted (n, bs)) then readPairs G then finish [])) (lt-ltb planLimit n h)
 
   pub plan-starts : (n : ℕ) (bs : List ℕ) → n ≤ planLimit → readPlan G (n ∷ bs) ≡ whole (pairsLeft n noPairs bs [])
   unfolding readPlan
-  plan-starts n bs h = ap (λ b. whole (cond b (refused 2) (got n bs) then readPairs G then finish [])) (le-ltb planLimit n h)
+  plan-starts n bs h = ap (λ b. whole (cond b (turned 2) (accepted (n, bs)) then readPairs G then finish [])) (le-ltb planLimit n h)
 
-  pub left-cut : (n : ℕ) (s : Pairs) (ps : List (ℕ × ℕ)) → (pairsLeft (suc n) s [] ps ≡ refused 1) × ((x : ℕ) → pairsLeft (suc n) s (x ∷ []) ps ≡ refused 1)
+  pub left-cut : (n : ℕ) (s : Pairs) (ps : List (ℕ × ℕ)) → (pairsLeft (suc n) s [] ps ≡ turned 1) × ((x : ℕ) → pairsLeft (suc n) s (x ∷ []) ps ≡ turned 1)
   unfolding readEach
   left-cut n s ps = (refl, λ x. refl)
 
@@ -44,11 +44,11 @@ module _ (G : Instance) where
   unfolding readEach
   left-pair n s x y bs ps = out (pairCheck G s (x, y)) (readEach twoBytes (pairCheck G) (withPair G) n (withPair G s (x, y)) bs)
     where
-      out : (c : ℕ) (r : Read (List (ℕ × ℕ))) → (refuseBy c (r then (λ xs rest. got ((x, y) ∷ xs) rest)) then finish ps) ≡ refuseBy c (r then finish (ps ++ (x, y) ∷ []))
-      out zero (got xs rest) = ap (λ z. got (planOfPairs G z) rest) (sym (append-snoc ps (x, y) xs))
-      out zero (refused k) = refl
+      out : (c : ℕ) (r : Reading ((List (ℕ × ℕ)) × List ℕ)) → (refuseBy c (r then (λ xs rest. accepted ((x, y) ∷ xs, rest))) then finish ps) ≡ refuseBy c (r then finish (ps ++ (x, y) ∷ []))
+      out zero (accepted (xs, rest)) = ap (λ z. accepted (planOfPairs G z, rest)) (sym (append-snoc ps (x, y) xs))
+      out zero (turned k) = refl
       out (suc c) r = refl
 
-  pub left-none : (s : Pairs) (bs : List ℕ) (ps : List (ℕ × ℕ)) → pairsLeft zero s bs ps ≡ got (planOfPairs G ps) bs
+  pub left-none : (s : Pairs) (bs : List ℕ) (ps : List (ℕ × ℕ)) → pairsLeft zero s bs ps ≡ accepted (planOfPairs G ps, bs)
   unfolding readEach
-  left-none s bs ps = ap (λ z. got (planOfPairs G z) bs) (append-nil ps)
+  left-none s bs ps = ap (λ z. accepted (planOfPairs G z, bs)) (append-nil ps)

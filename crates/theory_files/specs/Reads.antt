@@ -8,7 +8,7 @@ use lib.ListN.{length, getD}
 use lib.Dec.{T, ltb, lt→ltb}
 use Rattle.lists.specs.Test.{given, and-r, and-i}
 use Rattle.lists.specs.Keep.{all?, gather, All}
-use Rattle.model.specs.Reading.{Read, got, refused, _then_, refuseIf, refuseBy, byte, twoBytes, readEach, Reading, accepted, turned, whole}
+use Rattle.model.specs.Reading.{Reading, accepted, turned, _then_, refuseIf, refuseBy, byte, twoBytes, readEach, whole}
 pub use Rattle.model.specs.Reading.{isBytes}
 
 pub bytes-are : (bs : List ℕ) → ((i : ℕ) → getD bs i 0 < 256) → T (isBytes bs)
@@ -16,37 +16,6 @@ bytes-are [] h = tt
 bytes-are (b ∷ bs) h = and-i (ltb b 256) (isBytes bs) (lt→ltb b 256 (h 0)) (bytes-are bs (λ i. h (suc i)))
 
 -- ---- what a result says of the steps that gave it
-module _ {A : Type 0} where
-  abbrev pub valueOr : A → Read A → A
-  valueOr d (got a bs) = a
-  valueOr d (refused n) = d
-
-  abbrev pub restOf : Read A → List ℕ
-  restOf (got a bs) = bs
-  restOf (refused n) = []
-
-  abbrev pub isGot : Read A → Bool
-  isGot (got a bs) = true
-  isGot (refused n) = false
-
-  pub got-value : {a b : A} {cs bs : List ℕ} → got a cs ≡ got b bs → a ≡ b
-  got-value {a} e = ap (valueOr a) e
-
-  pub got-rest : {a b : A} {cs bs : List ℕ} → got a cs ≡ got b bs → cs ≡ bs
-  got-rest e = ap restOf e
-
-  pub refused-not {ℓ} : {C : Type ℓ} {n : ℕ} {a : A} {bs : List ℕ} → _≡_ {A = Read A} (refused n) (got a bs) → C
-  refused-not e = absurd (subst (λ r. T (not (isGot r))) e tt)
-
-  pub refuse-got : (b : Bool) (n : ℕ) {r : Read A} {a : A} {bs : List ℕ} → refuseIf b n r ≡ got a bs → T (not b) × (r ≡ got a bs)
-  refuse-got true n e = refused-not e
-  refuse-got false n e = (tt, e)
-
-  pub refuse-no : (b : Bool) (n : ℕ) (r : Read A) → T (not b) → refuseIf b n r ≡ r
-  refuse-no true n r t = absurd t
-  refuse-no false n r t = refl
-
--- ---- a whole file
 module _ {A : Type 0} where
   abbrev valueIn : A → Reading A → A
   valueIn d (accepted a) = a
@@ -62,29 +31,45 @@ module _ {A : Type 0} where
   pub turned-not {ℓ} : {C : Type ℓ} {n : ℕ} {a : A} → _≡_ {A = Reading A} (turned n) (accepted a) → C
   turned-not e = absurd (subst (λ r. T (not (isAccepted r))) e tt)
 
-  pub whole-accepted : (r : Read A) {a : A} → whole r ≡ accepted a → r ≡ got a []
-  whole-accepted (got a []) e = ap (λ z. got z []) (accepted-value e)
-  whole-accepted (got a (x ∷ bs)) e = turned-not e
-  whole-accepted (refused n) e = turned-not e
+  pub refuse-read : (b : Bool) (n : ℕ) {r : Reading A} {a : A} → refuseIf b n r ≡ accepted a → T (not b) × (r ≡ accepted a)
+  refuse-read true n e = turned-not e
+  refuse-read false n e = (tt, e)
 
-pub then-got : {A B : Type 0} (r : Read A) (f : A → List ℕ → Read B) {b : B} {bs : List ℕ} → (r then f) ≡ got b bs
-    → (a : A) × (mid : List ℕ) × (r ≡ got a mid) × (f a mid ≡ got b bs)
-then-got (got a mid) f e = (a, mid, refl, e)
-then-got (refused n) f e = refused-not e
+  pub refuse-no : (b : Bool) (n : ℕ) (r : Reading A) → T (not b) → refuseIf b n r ≡ r
+  refuse-no true n r t = absurd t
+  refuse-no false n r t = refl
 
-pub byte-got : (bs : List ℕ) {x : ℕ} {rest : List ℕ} → byte bs ≡ got x rest → bs ≡ x ∷ rest
-byte-got [] e = refused-not e
-byte-got (y ∷ bs) e = ap₂ (λ z zs. z ∷ zs) (got-value e) (got-rest e)
+-- ---- a field, and a whole file
+module _ {A : Type 0} where
+  pub read-value : {a b : A} {cs bs : List ℕ} → _≡_ {A = Reading (A × List ℕ)} (accepted (a, cs)) (accepted (b, bs)) → a ≡ b
+  read-value e = ap (λ (w : A × List ℕ). w .0) (accepted-value e)
 
-pub twoBytes-got : (bs : List ℕ) {w : ℕ × ℕ} {rest : List ℕ} → twoBytes bs ≡ got w rest → bs ≡ w .0 ∷ w .1 ∷ rest
-twoBytes-got [] e = refused-not e
-twoBytes-got (x ∷ []) e = refused-not e
-twoBytes-got (x ∷ y ∷ bs) e = ap₂ (λ (w : ℕ × ℕ) zs. w .0 ∷ w .1 ∷ zs) (got-value e) (got-rest e)
+  pub read-rest : {a b : A} {cs bs : List ℕ} → _≡_ {A = Reading (A × List ℕ)} (accepted (a, cs)) (accepted (b, bs)) → cs ≡ bs
+  read-rest e = ap (λ (w : A × List ℕ). w .1) (accepted-value e)
+
+  pub whole-accepted : (r : Reading (A × List ℕ)) {a : A} → whole r ≡ accepted a → r ≡ accepted (a, [])
+  whole-accepted (accepted (a, [])) e = ap (λ z. accepted (z, [])) (accepted-value e)
+  whole-accepted (accepted (a, x ∷ bs)) e = turned-not e
+  whole-accepted (turned n) e = turned-not e
+
+pub then-read : {A B : Type 0} (r : Reading (A × List ℕ)) (f : A → List ℕ → Reading (B × List ℕ)) {b : B} {bs : List ℕ} → (r then f) ≡ accepted (b, bs)
+    → (a : A) × (mid : List ℕ) × (r ≡ accepted (a, mid)) × (f a mid ≡ accepted (b, bs))
+then-read (accepted (a, mid)) f e = (a, mid, refl, e)
+then-read (turned n) f e = turned-not e
+
+pub byte-read : (bs : List ℕ) {x : ℕ} {rest : List ℕ} → byte bs ≡ accepted (x, rest) → bs ≡ x ∷ rest
+byte-read [] e = turned-not e
+byte-read (y ∷ bs) e = ap₂ (λ z zs. z ∷ zs) (read-value e) (read-rest e)
+
+pub twoBytes-read : (bs : List ℕ) {w : ℕ × ℕ} {rest : List ℕ} → twoBytes bs ≡ accepted (w, rest) → bs ≡ w .0 ∷ w .1 ∷ rest
+twoBytes-read [] e = turned-not e
+twoBytes-read (x ∷ []) e = turned-not e
+twoBytes-read (x ∷ y ∷ bs) e = ap₂ (λ (w : ℕ × ℕ) zs. w .0 ∷ w .1 ∷ zs) (read-value e) (read-rest e)
 
 -- ---- the agreement
-pub record Reads {A : Type 0} (read : List ℕ → Read A) (write : A → List ℕ) (P : A → Type 0) : Type 0 where
-  pub back : (bs : List ℕ) (a : A) (rest : List ℕ) → T (isBytes bs) → read bs ≡ got a rest → (bs ≡ write a ++ rest) × P a
-  pub forth : (a : A) (rest : List ℕ) → P a → read (write a ++ rest) ≡ got a rest
+pub record Reads {A : Type 0} (read : List ℕ → Reading (A × List ℕ)) (write : A → List ℕ) (P : A → Type 0) : Type 0 where
+  pub back : (bs : List ℕ) (a : A) (rest : List ℕ) → T (isBytes bs) → read bs ≡ accepted (a, rest) → (bs ≡ write a ++ rest) × P a
+  pub forth : (a : A) (rest : List ℕ) → P a → read (write a ++ rest) ≡ accepted (a, rest)
 
 pub bytes-rest : (cs bs : List ℕ) → T (isBytes (cs ++ bs)) → T (isBytes bs)
 bytes-rest [] bs t = t
@@ -94,59 +79,59 @@ bytes-rest (a ∷ cs) bs t = bytes-rest cs bs (and-r (ltb a 256) (isBytes (cs ++
 pub rest-bytes : (cs rest : List ℕ) {bs : List ℕ} → bs ≡ cs ++ rest → T (isBytes bs) → T (isBytes rest)
 rest-bytes cs rest e t = bytes-rest cs rest (subst (λ z. T (isBytes z)) e t)
 
-pub refuseBy-got : {A : Type 0} (n : ℕ) {r : Read A} {a : A} {bs : List ℕ} → refuseBy n r ≡ got a bs → (n ≡ 0) × (r ≡ got a bs)
-refuseBy-got zero e = (refl, e)
-refuseBy-got (suc n) e = refused-not e
+pub refuseBy-read : {A : Type 0} (n : ℕ) {r : Reading (A × List ℕ)} {a : A} {bs : List ℕ} → refuseBy n r ≡ accepted (a, bs) → (n ≡ 0) × (r ≡ accepted (a, bs))
+refuseBy-read zero e = (refl, e)
+refuseBy-read (suc n) e = turned-not e
 
-pub refuseBy-no : {A : Type 0} (n : ℕ) (r : Read A) → n ≡ 0 → refuseBy n r ≡ r
+pub refuseBy-no : {A : Type 0} (n : ℕ) (r : Reading (A × List ℕ)) → n ≡ 0 → refuseBy n r ≡ r
 refuseBy-no zero r e = refl
 refuseBy-no (suc n) r e = absurd (omega arith)
 
 -- ---- fields in a row
-module _ {S A : Type 0} {field : List ℕ → Read A} {write : A → List ℕ} {P : A → Type 0} (R : Reads field write P) (check : S → A → ℕ) (next : S → A → S) where
+module _ {S A : Type 0} {field : List ℕ → Reading (A × List ℕ)} {write : A → List ℕ} {P : A → Type 0} (R : Reads field write P) (check : S → A → ℕ) (next : S → A → S) where
   -- each field passes its check
   abbrev pub Passes : S → List A → Type 0
   Passes s [] = Unit {0}
   Passes s (x ∷ xs) = (check s x ≡ 0) × Passes (next s x) xs
 
-  abbrev more : S → A → ℕ → List ℕ → Read (List A)
-  more s x n rest = readEach field check next n (next s x) rest then (λ xs rest. got (x ∷ xs) rest)
+  abbrev more : S → A → ℕ → List ℕ → Reading (List A × List ℕ)
+  more s x n rest = readEach field check next n (next s x) rest then (λ xs rest. accepted (x ∷ xs, rest))
 
-  each-back : (n : ℕ) (s : S) (bs : List ℕ) (xs : List A) (rest : List ℕ) → T (isBytes bs) → readEach field check next n s bs ≡ got xs rest
+  each-back : (n : ℕ) (s : S) (bs : List ℕ) (xs : List A) (rest : List ℕ) → T (isBytes bs) → readEach field check next n s bs ≡ accepted (xs, rest)
       → (bs ≡ gather write xs ++ rest) × (length xs ≡ n) × All P xs × Passes s xs
   unfolding readEach
   each-back zero s bs xs rest t e = (
-    got-rest e ∙ ap (λ (z : List A). gather write z ++ rest) (got-value e),
-    ap length (sym (got-value e)),
-    subst (All P) (got-value e) tt,
-    subst (Passes s) (got-value e) tt,
+    read-rest e ∙ ap (λ (z : List A). gather write z ++ rest) (read-value e),
+    ap length (sym (read-value e)),
+    subst (All P) (read-value e) tt,
+    subst (Passes s) (read-value e) tt,
   )
   each-back (suc n) s bs xs rest t e =
-      given (then-got (field bs) (λ x rest. refuseBy (check s x) (more s x n rest)) e) (λ (x, mid, e₁, h₁).
-      given (refuseBy-got (check s x) h₁) (λ (c, h₂).
-      given (then-got (readEach field check next n (next s x) mid) (λ xs rest. got (x ∷ xs) rest) h₂) (λ (ys, end, e₃, h₃).
+      given (then-read (field bs) (λ x rest. refuseBy (check s x) (more s x n rest)) e) (λ (x, mid, e₁, h₁).
+      given (refuseBy-read (check s x) h₁) (λ (c, h₂).
+      given (then-read (readEach field check next n (next s x) mid) (λ xs rest. accepted (x ∷ xs, rest)) h₂) (λ (ys, end, e₃, h₃).
       given (R .back bs x mid t e₁) (λ (w, p).
       given (each-back n (next s x) mid ys end (rest-bytes (write x) mid w t) e₃) (λ (v, l, q, k).
-      given (got-value h₃) (λ (d : x ∷ ys ≡ xs). (
-        w ∙ ap (λ z. write x ++ z) (v ∙ ap (λ z. gather write ys ++ z) (got-rest h₃)) ∙ sym (append-assoc (write x) (gather write ys) rest) ∙ ap (λ z. gather write z ++ rest) d,
+      given (read-value h₃) (λ (d : x ∷ ys ≡ xs). (
+        w ∙ ap (λ z. write x ++ z) (v ∙ ap (λ z. gather write ys ++ z) (read-rest h₃)) ∙ sym (append-assoc (write x) (gather write ys) rest) ∙ ap (λ z. gather write z ++ rest) d,
         ap length (sym d) ∙ ap suc l,
         subst (All P) d (p, q),
         subst (Passes s) d (c, k),
       )))))))
 
-  each-forth : (s : S) (xs : List A) (rest : List ℕ) → All P xs → Passes s xs → readEach field check next (length xs) s (gather write xs ++ rest) ≡ got xs rest
+  each-forth : (s : S) (xs : List A) (rest : List ℕ) → All P xs → Passes s xs → readEach field check next (length xs) s (gather write xs ++ rest) ≡ accepted (xs, rest)
   unfolding readEach
   each-forth s [] rest p k = refl
   each-forth s (x ∷ xs) rest p k =
       ap (λ z. field z then (λ x rest. refuseBy (check s x) (more s x (length xs) rest))) (append-assoc (write x) (gather write xs) rest)
       ∙ ap (λ r. r then (λ x rest. refuseBy (check s x) (more s x (length xs) rest))) (R .forth x (gather write xs ++ rest) (p .0))
       ∙ refuseBy-no (check s x) (more s x (length xs) (gather write xs ++ rest)) (k .0)
-      ∙ ap (λ r. r then (λ xs rest. got (x ∷ xs) rest)) (each-forth (next s x) xs rest (p .1) (k .1))
+      ∙ ap (λ r. r then (λ xs rest. accepted (x ∷ xs, rest))) (each-forth (next s x) xs rest (p .1) (k .1))
 
   pub each : (n : ℕ) (s : S) → Reads (readEach field check next n s) (gather write) (λ xs. (length xs ≡ n) × All P xs × Passes s xs)
   each n s = record {
     back = λ bs xs rest t e. given (each-back n s bs xs rest t e) (λ (w, l, p, k). (w, (l, p, k)));
-    forth = λ xs rest (l, p, k). subst (λ k. readEach field check next k s (gather write xs ++ rest) ≡ got xs rest) l (each-forth s xs rest p k);
+    forth = λ xs rest (l, p, k). subst (λ k. readEach field check next k s (gather write xs ++ rest) ≡ accepted (xs, rest)) l (each-forth s xs rest p k);
   }
 
 -- ---- one byte, and some bytes
@@ -154,10 +139,10 @@ abbrev pub any : ℕ → Type 0
 any x = Unit {0}
 
 pub a-byte : Reads byte (λ x. x ∷ []) any
-a-byte = record { back = λ bs x rest t e. (byte-got bs e, tt); forth = λ x rest p. refl }
+a-byte = record { back = λ bs x rest t e. (byte-read bs e, tt); forth = λ x rest p. refl }
 
 pub two-bytes : Reads twoBytes (λ (w : ℕ × ℕ). w .0 ∷ w .1 ∷ []) (λ w. Unit {0})
-two-bytes = record { back = λ bs w rest t e. (twoBytes-got bs e, tt); forth = λ w rest p. refl }
+two-bytes = record { back = λ bs w rest t e. (twoBytes-read bs e, tt); forth = λ w rest p. refl }
 
 singles : (xs : List ℕ) → gather (λ x. x ∷ []) xs ≡ xs
 singles [] = refl

@@ -10,17 +10,17 @@ use lib.Dec.{T, eqb, leb, leb→le, eqb→eq}
 use Rattle.lists.specs.Test.{given, T-true, true-T, and-l, and-r, and-i, eq→eqb}
 use Rattle.lists.specs.Keep.{all?, gather}
 use Rattle.model.specs.Limits.{nodeLimit, entryLimit, rosterSize}
-use Rattle.model.specs.Reading.{Read, got, _then_, Reading, accepted, turned, whole}
+use Rattle.model.specs.Reading.{Reading, accepted, _then_, turned, whole}
 use Rattle.model.specs.Roster.{Ranking, Roster, surveyorCount, standCount, totalS, totalT, quotasFit, listFits, rankingFits, bothOrNeither, fits}
 use Rattle.model.specs.RosterFile.{readNodes, readList, readRanking, readSection, readSections, oneSided, readRoster, wideBytes, listBytes, rankingBytes, writeRoster}
-use Rattle.theory_files.specs.Reads.{isBytes, rest-bytes, got-value, got-rest, then-got, accepted-value, turned-not, whole-accepted}
+use Rattle.theory_files.specs.Reads.{isBytes, rest-bytes, read-value, read-rest, then-read, accepted-value, turned-not, whole-accepted}
 use Rattle.theory_files.specs.Sections.{nodes, list, ranking, SectionFits, section}
 
 -- ---- the four sections
-abbrev lists : (ns nt : ℕ) → List ℕ → Read (List (List ℕ))
+abbrev lists : (ns nt : ℕ) → List ℕ → Reading (List (List ℕ) × List ℕ)
 lists ns nt = readSection (readList nt nt) totalS ns
 
-abbrev rankings : (ns nt : ℕ) → List ℕ → Read (List Ranking)
+abbrev rankings : (ns nt : ℕ) → List ℕ → Reading (List Ranking × List ℕ)
 rankings ns nt = readSection (readRanking ns ns) totalT nt
 
 abbrev pub listsFit : (ns nt : ℕ) → List (List ℕ) → Type 0
@@ -39,42 +39,42 @@ partA r = wideBytes (totalS (r .listsS)) ++ gather listBytes (r .listsS)
 abbrev partB : Roster → List ℕ
 partB r = wideBytes (totalT (r .listsT)) ++ gather rankingBytes (r .listsT)
 
-abbrev finish : (qs qt : List ℕ) → List (List ℕ) → List Ranking → List ℕ → Read Roster
-finish qs qt ls ts rest = got (record { quotasS = qs; quotasT = qt; listsS = ls; listsT = ts }) rest
+abbrev finish : (qs qt : List ℕ) → List (List ℕ) → List Ranking → List ℕ → Reading (Roster × List ℕ)
+finish qs qt ls ts rest = accepted (record { quotasS = qs; quotasT = qt; listsS = ls; listsT = ts }, rest)
 
-abbrev fourth : (qs qt : List ℕ) → List (List ℕ) → List ℕ → Read Roster
+abbrev fourth : (qs qt : List ℕ) → List (List ℕ) → List ℕ → Reading (Roster × List ℕ)
 fourth qs qt ls rest = rankings (length qs) (length qt) rest then finish qs qt ls
 
-abbrev third : (qs qt : List ℕ) → List ℕ → Read Roster
+abbrev third : (qs qt : List ℕ) → List ℕ → Reading (Roster × List ℕ)
 third qs qt rest = lists (length qs) (length qt) rest then fourth qs qt
 
-abbrev second : List ℕ → List ℕ → Read Roster
+abbrev second : List ℕ → List ℕ → Reading (Roster × List ℕ)
 second qs rest = readNodes rest then third qs
 
 -- the bytes of the four sections, one behind the other and before the rest
 regroup : (a b c d rest : List ℕ) → a ++ (b ++ (c ++ (d ++ rest))) ≡ (a ++ (b ++ (c ++ d))) ++ rest
 regroup a b c d rest = ap (λ z. a ++ z) (ap (λ z. b ++ z) (sym (append-assoc c d rest)) ∙ sym (append-assoc b (c ++ d) rest)) ∙ sym (append-assoc a (b ++ (c ++ d)) rest)
 
-sections-back : (bs : List ℕ) (r : Roster) (rest : List ℕ) → T (isBytes bs) → readSections bs ≡ got r rest → (bs ≡ writeRoster r ++ rest) × SectionsFit r
+sections-back : (bs : List ℕ) (r : Roster) (rest : List ℕ) → T (isBytes bs) → readSections bs ≡ accepted (r, rest) → (bs ≡ writeRoster r ++ rest) × SectionsFit r
 unfolding writeRoster
 sections-back bs r rest t e =
-    given (then-got (readNodes bs) second e) (λ (qs, m₁, e₁, h₁).
-    given (then-got (readNodes m₁) (third qs) h₁) (λ (qt, m₂, e₂, h₂).
-    given (then-got (lists (length qs) (length qt) m₂) (fourth qs qt) h₂) (λ (ls, m₃, e₃, h₃).
-    given (then-got (rankings (length qs) (length qt) m₃) (finish qs qt ls) h₃) (λ (ts, m₄, e₄, h₄).
+    given (then-read (readNodes bs) second e) (λ (qs, m₁, e₁, h₁).
+    given (then-read (readNodes m₁) (third qs) h₁) (λ (qt, m₂, e₂, h₂).
+    given (then-read (lists (length qs) (length qt) m₂) (fourth qs qt) h₂) (λ (ls, m₃, e₃, h₃).
+    given (then-read (rankings (length qs) (length qt) m₃) (finish qs qt ls) h₃) (λ (ts, m₄, e₄, h₄).
     given (nodes .back bs qs m₁ t e₁) (λ (w₁, p₁).
     given (rest-bytes (listBytes qs) m₁ w₁ t) (λ t₁.
     given (nodes .back m₁ qt m₂ t₁ e₂) (λ (w₂, p₂).
     given (rest-bytes (listBytes qt) m₂ w₂ t₁) (λ t₂.
     given (section (listFits (length qt)) totalS (list (length qt)) (length qs) .back m₂ ls m₃ t₂ e₃) (λ (w₃, p₃).
     given (section (rankingFits (length qs)) totalT (ranking (length qs)) (length qt) .back m₃ ts m₄ (rest-bytes (wideBytes (totalS ls) ++ gather listBytes ls) m₃ w₃ t₂) e₄) (λ (w₄, p₄). (
-      w₁ ∙ ap (λ z. listBytes qs ++ z) (w₂ ∙ ap (λ z. listBytes qt ++ z) (w₃ ∙ ap (λ z. (wideBytes (totalS ls) ++ gather listBytes ls) ++ z) (w₄ ∙ ap (λ z. (wideBytes (totalT ts) ++ gather rankingBytes ts) ++ z) (got-rest h₄))))
+      w₁ ∙ ap (λ z. listBytes qs ++ z) (w₂ ∙ ap (λ z. listBytes qt ++ z) (w₃ ∙ ap (λ z. (wideBytes (totalS ls) ++ gather listBytes ls) ++ z) (w₄ ∙ ap (λ z. (wideBytes (totalT ts) ++ gather rankingBytes ts) ++ z) (read-rest h₄))))
           ∙ regroup (listBytes qs) (listBytes qt) (wideBytes (totalS ls) ++ gather listBytes ls) (wideBytes (totalT ts) ++ gather rankingBytes ts) rest
-          ∙ ap (λ r. (listBytes (r .quotasS) ++ (listBytes (r .quotasT) ++ (partA r ++ partB r))) ++ rest) (got-value h₄),
-      subst SectionsFit (got-value h₄) (p₁, p₂, p₃, p₄),
+          ∙ ap (λ r. (listBytes (r .quotasS) ++ (listBytes (r .quotasT) ++ (partA r ++ partB r))) ++ rest) (read-value h₄),
+      subst SectionsFit (read-value h₄) (p₁, p₂, p₃, p₄),
     )))))))))))
 
-sections-forth : (r : Roster) (rest : List ℕ) → SectionsFit r → readSections (writeRoster r ++ rest) ≡ got r rest
+sections-forth : (r : Roster) (rest : List ℕ) → SectionsFit r → readSections (writeRoster r ++ rest) ≡ accepted (r, rest)
 unfolding writeRoster
 sections-forth r rest (p₁, p₂, p₃, p₄) =
     ap readSections (sym (regroup (listBytes (r .quotasS)) (listBytes (r .quotasT)) (partA r) (partB r) rest))
@@ -131,7 +131,7 @@ one-sided (accepted q) e = go (bothOrNeither q) refl e
     go false h e = turned-not e
 one-sided (turned n) e = turned-not e
 
-sections-of : (bs : List ℕ) (r : Roster) → readRoster bs ≡ accepted r → (readSections bs ≡ got r []) × T (bothOrNeither r)
+sections-of : (bs : List ℕ) (r : Roster) → readRoster bs ≡ accepted r → (readSections bs ≡ accepted (r, [])) × T (bothOrNeither r)
 unfolding readRoster
 sections-of bs r e = given (one-sided (whole (readSections bs)) e) (λ (a, n). (whole-accepted (readSections bs) a, n))
 

@@ -11,14 +11,14 @@ use Rattle.lists.specs.Test.{given, and-l, and-r, and-i, eq→eqb}
 use Rattle.lists.specs.Sum.{sum}
 use Rattle.lists.specs.Keep.{all?, gather, all-append, All}
 use Rattle.model.specs.Limits.{nodeLimit, quotaSumLimit, entryLimit}
-use Rattle.model.specs.Reading.{Read, got, _then_, refuseIf, byte, twoBytes}
+use Rattle.model.specs.Reading.{Reading, accepted, _then_, refuseIf, byte, twoBytes}
 use Rattle.model.specs.Roster.{Ranking, entries, outside, distinct, ascending, quotasFit, listFits, rankingFits}
 use Rattle.model.specs.RosterFile.{readCount, readWideCount, quotaCheck, readNodes, entryCheck, readEntries, tiedCheck, readTied, readList, readRanking, readMany, readSection, wideBytes, listBytes, rankingBytes}
-use Rattle.theory_files.specs.Reads.{isBytes, rest-bytes, Reads, got-value, got-rest, refuse-got, refuse-no, then-got, byte-got, twoBytes-got, Passes, each, bytes}
+use Rattle.theory_files.specs.Reads.{isBytes, rest-bytes, Reads, read-value, read-rest, refuse-read, refuse-no, then-read, byte-read, twoBytes-read, Passes, each, bytes}
 use Rattle.theory_files.specs.Entries.{fresh, fresh-distinct, distinct-fresh, fresh-append, inRange, small, quotas→, →quotas, entries→, →entries, tied→, →tied}
 
 -- the same agreement about facts that say the same
-pub alike : {A : Type 0} {read : List ℕ → Read A} {write : A → List ℕ} {P Q : A → Type 0} → ((a : A) → P a → Q a) → ((a : A) → Q a → P a) → Reads read write P → Reads read write Q
+pub alike : {A : Type 0} {read : List ℕ → Reading (A × List ℕ)} {write : A → List ℕ} {P Q : A → Type 0} → ((a : A) → P a → Q a) → ((a : A) → Q a → P a) → Reads read write P → Reads read write Q
 alike f g R = record {
   back = λ bs a rest t e. given (R .back bs a rest t e) (λ (w, p). (w, f a p));
   forth = λ a rest q. R .forth a rest (g a q);
@@ -32,18 +32,18 @@ above-not : (limit n : ℕ) → T (leb n limit) → T (not (ltb limit n))
 above-not limit n t = le→nltb limit n (leb→le n limit t)
 
 -- ---- a count byte, and as many of something behind it
-pub counted : (limit : ℕ) {A : Type 0} {body : ℕ → List ℕ → Read A} {write : A → List ℕ} {size : A → ℕ} {P : A → Type 0}
+pub counted : (limit : ℕ) {A : Type 0} {body : ℕ → List ℕ → Reading (A × List ℕ)} {write : A → List ℕ} {size : A → ℕ} {P : A → Type 0}
     → ((n : ℕ) → Reads (body n) write (λ a. (size a ≡ n) × P a)) → Reads (λ bs. readCount limit bs then body) (λ a. size a ∷ write a) (λ a. T (leb (size a) limit) × P a)
 counted limit {A} {body} {write} {size} {P} R = record {
   back = λ bs a rest t e.
-      given (then-got (readCount limit bs) body e) (λ (n, mid, e₁, h₁).
-      given (then-got (byte bs) (λ n rest. refuseIf (ltb limit n) 2 (got n rest)) e₁) (λ (k, mid′, e₂, h₂).
-      given (refuse-got (ltb limit k) 2 h₂) (λ (l, h₃).
-      given (byte-got bs e₂) (λ w.
-      given (R n .back mid a rest (subst (λ z. T (isBytes z)) (got-rest h₃) (rest-bytes (k ∷ []) mid′ w t)) h₁) (λ (v, (s, p)).
-      (w ∙ ap₂ (λ z zs. z ∷ zs) (got-value h₃ ∙ sym s) (got-rest h₃ ∙ v), (subst (λ z. T (leb z limit)) (got-value h₃ ∙ sym s) (not-above limit k l), p)))))));
+      given (then-read (readCount limit bs) body e) (λ (n, mid, e₁, h₁).
+      given (then-read (byte bs) (λ n rest. refuseIf (ltb limit n) 2 (accepted (n, rest))) e₁) (λ (k, mid′, e₂, h₂).
+      given (refuse-read (ltb limit k) 2 h₂) (λ (l, h₃).
+      given (byte-read bs e₂) (λ w.
+      given (R n .back mid a rest (subst (λ z. T (isBytes z)) (read-rest h₃) (rest-bytes (k ∷ []) mid′ w t)) h₁) (λ (v, (s, p)).
+      (w ∙ ap₂ (λ z zs. z ∷ zs) (read-value h₃ ∙ sym s) (read-rest h₃ ∙ v), (subst (λ z. T (leb z limit)) (read-value h₃ ∙ sym s) (not-above limit k l), p)))))));
   forth = λ a rest (l, p).
-      ap (λ r. r then body) (refuse-no (ltb limit (size a)) 2 (got (size a) (write a ++ rest)) (above-not limit (size a) l)) ∙ R (size a) .forth a rest (refl, p);
+      ap (λ r. r then body) (refuse-no (ltb limit (size a)) 2 (accepted (size a, write a ++ rest)) (above-not limit (size a) l)) ∙ R (size a) .forth a rest (refl, p);
 }
 
 -- ---- "Surveyors: a count byte 0 to 32, then one quota byte each, 0 to 8. Stands: likewise."
@@ -99,33 +99,33 @@ fits-split count xs ys t =
     )))))
 
 module _ (count : ℕ) where
-  abbrev paired : List ℕ → List ℕ → List ℕ → Read Ranking
-  paired xs ys rest = got (record { strict = xs; tied = ys }) rest
+  abbrev paired : List ℕ → List ℕ → List ℕ → Reading (Ranking × List ℕ)
+  paired xs ys rest = accepted (record { strict = xs; tied = ys }, rest)
 
-  abbrev behind : ℕ → List ℕ → List ℕ → Read Ranking
+  abbrev behind : ℕ → List ℕ → List ℕ → Reading (Ranking × List ℕ)
   behind b xs rest = readTied count xs b rest then paired xs
 
-  abbrev body : ℕ → ℕ → List ℕ → Read Ranking
+  abbrev body : ℕ → ℕ → List ℕ → Reading (Ranking × List ℕ)
   body a b rest = refuseIf (ltb count (a + b)) 2 (readEntries count a rest then behind b)
 
-  ranking-back : (bs : List ℕ) (R : Ranking) (rest : List ℕ) → T (isBytes bs) → readRanking count count bs ≡ got R rest → (bs ≡ rankingBytes R ++ rest) × T (rankingFits count R)
+  ranking-back : (bs : List ℕ) (R : Ranking) (rest : List ℕ) → T (isBytes bs) → readRanking count count bs ≡ accepted (R, rest) → (bs ≡ rankingBytes R ++ rest) × T (rankingFits count R)
   ranking-back bs R rest t e =
-      given (then-got (byte bs) (λ a rest. byte rest then body a) e) (λ (a, m₁, e₁, h₁).
-      given (then-got (byte m₁) (body a) h₁) (λ (b, m₂, e₂, h₂).
-      given (refuse-got (ltb count (a + b)) 2 h₂) (λ (l, h₃).
-      given (then-got (readEntries count a m₂) (behind b) h₃) (λ (xs, m₃, e₄, h₄).
-      given (then-got (readTied count xs b m₃) (paired xs) h₄) (λ (ys, m₄, e₅, h₅).
-      given (byte-got bs e₁ ∙ ap (λ z. a ∷ z) (byte-got m₁ e₂)) (λ (w : bs ≡ a ∷ b ∷ m₂).
+      given (then-read (byte bs) (λ a rest. byte rest then body a) e) (λ (a, m₁, e₁, h₁).
+      given (then-read (byte m₁) (body a) h₁) (λ (b, m₂, e₂, h₂).
+      given (refuse-read (ltb count (a + b)) 2 h₂) (λ (l, h₃).
+      given (then-read (readEntries count a m₂) (behind b) h₃) (λ (xs, m₃, e₄, h₄).
+      given (then-read (readTied count xs b m₃) (paired xs) h₄) (λ (ys, m₄, e₅, h₅).
+      given (byte-read bs e₁ ∙ ap (λ z. a ∷ z) (byte-read m₁ e₂)) (λ (w : bs ≡ a ∷ b ∷ m₂).
       given (rest-bytes (a ∷ b ∷ []) m₂ w t) (λ t₂.
       given (strict-part count a .back m₂ xs m₃ t₂ e₄) (λ (w₃, (l₃, (r₃, f₃))).
       given (tied-part count xs b .back m₃ ys m₄ (rest-bytes xs m₃ w₃ t₂) e₅) (λ (w₄, (l₄, (r₄, f₄, u₄))). (
-        w ∙ ap₂ (λ x y. x ∷ y ∷ m₂) (sym l₃) (sym l₄) ∙ ap (λ z. length xs ∷ length ys ∷ z) (w₃ ∙ ap (λ z. xs ++ z) (w₄ ∙ ap (λ z. ys ++ z) (got-rest h₅)) ∙ sym (append-assoc xs ys rest))
-            ∙ ap (λ Q. rankingBytes Q ++ rest) (got-value h₅),
-        subst (λ Q. T (rankingFits count Q)) (got-value h₅)
+        w ∙ ap₂ (λ x y. x ∷ y ∷ m₂) (sym l₃) (sym l₄) ∙ ap (λ z. length xs ∷ length ys ∷ z) (w₃ ∙ ap (λ z. xs ++ z) (w₄ ∙ ap (λ z. ys ++ z) (read-rest h₅)) ∙ sym (append-assoc xs ys rest))
+            ∙ ap (λ Q. rankingBytes Q ++ rest) (read-value h₅),
+        subst (λ Q. T (rankingFits count Q)) (read-value h₅)
             (fits-join count xs ys (subst (λ k. T (leb k count)) (ap₂ _+_ (sym l₃) (sym l₄)) (not-above count (a + b) l)) r₃ f₃ r₄ f₄ u₄),
       ))))))))))
 
-  ranking-forth : (R : Ranking) (rest : List ℕ) → T (rankingFits count R) → readRanking count count (rankingBytes R ++ rest) ≡ got R rest
+  ranking-forth : (R : Ranking) (rest : List ℕ) → T (rankingFits count R) → readRanking count count (rankingBytes R ++ rest) ≡ accepted (R, rest)
   ranking-forth R rest t =
       given (fits-split count (R .strict) (R .tied) t) (λ (l, s, u).
       refuse-no (ltb count (length (R .strict) + length (R .tied))) 2 (readEntries count (length (R .strict)) (entries R ++ rest) then behind (length (R .tied))) (above-not count (length (R .strict) + length (R .tied)) l)
@@ -145,7 +145,7 @@ all-every : {A : Type 0} (p : A → Bool) (xs : List A) → T (all? p xs) → Al
 all-every p [] t = tt
 all-every p (x ∷ xs) t = (and-l (p x) (all? p xs) t, all-every p xs (and-r (p x) (all? p xs) t))
 
-unchecked : {A : Type 0} {field : List ℕ → Read A} {write : A → List ℕ} {P : A → Type 0} (R : Reads field write P) (xs : List A) → Passes {S = Unit {0}} R (λ s x. 0) (λ s x. s) tt xs
+unchecked : {A : Type 0} {field : List ℕ → Reading (A × List ℕ)} {write : A → List ℕ} {P : A → Type 0} (R : Reads field write P) (xs : List A) → Passes {S = Unit {0}} R (λ s x. 0) (λ s x. s) tt xs
 unchecked R [] = tt
 unchecked R (x ∷ xs) = (refl, unchecked R xs)
 
@@ -158,7 +158,7 @@ wide-high x y h = omega arith
 wide-whole : (n : ℕ) → n % 256 + 256 * (n / 256) ≡ n
 wide-whole n = omega arith
 
-module _ {A : Type 0} {field : List ℕ → Read A} {write : A → List ℕ} (fit : A → Bool) (total : List A → ℕ) (R : Reads field write (λ a. T (fit a))) (n : ℕ) where
+module _ {A : Type 0} {field : List ℕ → Reading (A × List ℕ)} {write : A → List ℕ} (fit : A → Bool) (total : List A → ℕ) (R : Reads field write (λ a. T (fit a))) (n : ℕ) where
   -- as many lists as nodes, each within its limits, and no more entries than a section may have
   abbrev pub SectionFits : List A → Type 0
   SectionFits xs = (length xs ≡ n) × T (all? fit xs) × T (leb (total xs) entryLimit)
@@ -166,43 +166,43 @@ module _ {A : Type 0} {field : List ℕ → Read A} {write : A → List ℕ} (fi
   abbrev pub sectionBytes : List A → List ℕ
   sectionBytes xs = wideBytes (total xs) ++ gather write xs
 
-  abbrev checked : ℕ → List A → List ℕ → Read (List A)
-  checked w xs rest = refuseIf (not (eqb w (total xs))) 7 (got xs rest)
+  abbrev checked : ℕ → List A → List ℕ → Reading (List A × List ℕ)
+  checked w xs rest = refuseIf (not (eqb w (total xs))) 7 (accepted (xs, rest))
 
-  abbrev lists : ℕ → List ℕ → Read (List A)
+  abbrev lists : ℕ → List ℕ → Reading (List A × List ℕ)
   lists w rest = readMany field n rest then checked w
 
   abbrev wide : ℕ × ℕ → ℕ
   wide w = w .0 + 256 * w .1
 
-  section-back : (bs : List ℕ) (xs : List A) (rest : List ℕ) → T (isBytes bs) → readSection field total n bs ≡ got xs rest → (bs ≡ sectionBytes xs ++ rest) × SectionFits xs
+  section-back : (bs : List ℕ) (xs : List A) (rest : List ℕ) → T (isBytes bs) → readSection field total n bs ≡ accepted (xs, rest) → (bs ≡ sectionBytes xs ++ rest) × SectionFits xs
   section-back bs xs rest t e =
-      given (then-got (readWideCount bs) lists e) (λ (w, m₁, e₁, h₁).
-      given (then-got (twoBytes bs) (λ w rest. refuseIf (ltb entryLimit (wide w)) 2 (got (wide w) rest)) e₁) (λ (v, m₂, e₂, h₂).
-      given (refuse-got (ltb entryLimit (wide v)) 2 h₂) (λ (l, h₃).
-      given (then-got (readMany field n m₁) (checked w) h₁) (λ (ys, m₃, e₄, h₄).
-      given (refuse-got (not (eqb w (total ys))) 7 h₄) (λ (s, h₅).
-      given (twoBytes-got bs e₂) (λ wv.
+      given (then-read (readWideCount bs) lists e) (λ (w, m₁, e₁, h₁).
+      given (then-read (twoBytes bs) (λ w rest. refuseIf (ltb entryLimit (wide w)) 2 (accepted (wide w, rest))) e₁) (λ (v, m₂, e₂, h₂).
+      given (refuse-read (ltb entryLimit (wide v)) 2 h₂) (λ (l, h₃).
+      given (then-read (readMany field n m₁) (checked w) h₁) (λ (ys, m₃, e₄, h₄).
+      given (refuse-read (not (eqb w (total ys))) 7 h₄) (λ (s, h₅).
+      given (twoBytes-read bs e₂) (λ wv.
       given (rest-bytes (v .0 ∷ v .1 ∷ []) m₂ wv t) (λ t₂.
-      given (each R (λ s x. 0) (λ s x. s) n tt .back m₁ ys m₃ (subst (λ z. T (isBytes z)) (got-rest h₃) t₂) e₄) (λ (w₄, (l₄, p₄, k₄)).
+      given (each R (λ s x. 0) (λ s x. s) n tt .back m₁ ys m₃ (subst (λ z. T (isBytes z)) (read-rest h₃) t₂) e₄) (λ (w₄, (l₄, p₄, k₄)).
       given (ltb→lt (v .0) 256 (and-l (ltb (v .0) 256) (isBytes (v .1 ∷ m₂)) (subst (λ z. T (isBytes z)) wv t))) (λ small.
-      given (got-value h₃ ∙ eqb→eq w (total ys) (twice (eqb w (total ys)) s)) (λ (same : wide v ≡ total ys). (
+      given (read-value h₃ ∙ eqb→eq w (total ys) (twice (eqb w (total ys)) s)) (λ (same : wide v ≡ total ys). (
         wv ∙ ap₂ (λ x y. x ∷ y ∷ m₂) (sym (wide-low (v .0) (v .1) small) ∙ ap (λ k. k % 256) same) (sym (wide-high (v .0) (v .1) small) ∙ ap (λ k. k / 256) same)
-            ∙ ap (λ z. wideBytes (total ys) ++ z) (got-rest h₃ ∙ w₄ ∙ ap (λ z. gather write ys ++ z) (got-rest h₅))
-            ∙ ap (λ zs. sectionBytes zs ++ rest) (got-value h₅),
-        subst SectionFits (got-value h₅) (l₄, every-all fit ys p₄, subst (λ k. T (leb k entryLimit)) same (not-above entryLimit (wide v) l)),
+            ∙ ap (λ z. wideBytes (total ys) ++ z) (read-rest h₃ ∙ w₄ ∙ ap (λ z. gather write ys ++ z) (read-rest h₅))
+            ∙ ap (λ zs. sectionBytes zs ++ rest) (read-value h₅),
+        subst SectionFits (read-value h₅) (l₄, every-all fit ys p₄, subst (λ k. T (leb k entryLimit)) same (not-above entryLimit (wide v) l)),
       )))))))))))
     where
       twice : (b : Bool) → T (not (not b)) → T b
       twice true t = tt
       twice false t = absurd t
 
-  section-forth : (xs : List A) (rest : List ℕ) → SectionFits xs → readSection field total n (sectionBytes xs ++ rest) ≡ got xs rest
+  section-forth : (xs : List A) (rest : List ℕ) → SectionFits xs → readSection field total n (sectionBytes xs ++ rest) ≡ accepted (xs, rest)
   section-forth xs rest (l, a, k) =
       ap (λ r. r then lists)
-      (ap (λ c. refuseIf (ltb entryLimit c) 2 (got c (gather write xs ++ rest))) (wide-whole (total xs)) ∙ refuse-no (ltb entryLimit (total xs)) 2 (got (total xs) (gather write xs ++ rest)) (above-not entryLimit (total xs) k))
+      (ap (λ c. refuseIf (ltb entryLimit c) 2 (accepted (c, gather write xs ++ rest))) (wide-whole (total xs)) ∙ refuse-no (ltb entryLimit (total xs)) 2 (accepted (total xs, gather write xs ++ rest)) (above-not entryLimit (total xs) k))
       ∙ ap (λ r. r then checked (total xs)) (each R (λ s x. 0) (λ s x. s) n tt .forth xs rest (l, all-every fit xs a, unchecked R xs))
-      ∙ refuse-no (not (eqb (total xs) (total xs))) 7 (got xs rest) (same (eqb (total xs) (total xs)) (eq→eqb (total xs) (total xs) refl))
+      ∙ refuse-no (not (eqb (total xs) (total xs))) 7 (accepted (xs, rest)) (same (eqb (total xs) (total xs)) (eq→eqb (total xs) (total xs) refl))
     where
       same : (b : Bool) → T b → T (not (not b))
       same true t = tt
