@@ -3,7 +3,7 @@ use Prim.Native.Nat.{ℕ}
 use mathlib.Core.Path.{_≡_, refl, ap, _∙_}
 use mathlib.Core.List.{List}
 use Rattle.model.specs.Limits.{planSize}
-use Rattle.model.specs.Reading.{Reading, accepted, turned}
+use Rattle.model.specs.Reading.{Reading, accepted, refused}
 use Rattle.model.specs.Refusal as model
 use Rattle.model.specs.Roster.{Roster}
 use Rattle.model.specs.RosterFile.{readRoster}
@@ -34,11 +34,11 @@ groupNumber model.desk = 4
 -- the refusal of a reading, 0 for none
 abbrev pub refusalOf : {A : Type 0} → Reading A → ℕ
 refusalOf (accepted a) = 0
-refusalOf (turned n) = n
+refusalOf (refused n) = n
 
 -- the roster's refusal, or the plan's
 abbrev pub planRefusal : Reading Roster → List ℕ → ℕ
-planRefusal (turned n) file = n
+planRefusal (refused n) file = n
 planRefusal (accepted R) file = refusalOf (readPlan (instanceOf R) file)
 
 -- an answer as numbers
@@ -71,19 +71,19 @@ answerCode (roster.Refused n g) = n
 
 pub answer-code : (x : Reading Roster) → answerCode (fileCase x) ≡ refusalOf x
 answer-code (accepted R) = refl
-answer-code (turned n) = refl
+answer-code (refused n) = refl
 
 abbrev pub replyCode : PlanReply → ℕ
 replyCode plan.Accepted = 0
 replyCode (plan.Refused n g) = n
 
 pub reply-code : (x : Reading Roster) (file : List ℕ) → replyCode (files.planReply x file) ≡ planRefusal x file
-reply-code (turned n) file = refl
+reply-code (refused n) file = refl
 reply-code (accepted R) file = by-plan (readPlan (instanceOf R) file)
   where
     by-plan : (y : Reading Plan) → replyCode (files.replied y) ≡ refusalOf y
     by-plan (accepted M) = refl
-    by-plan (turned n) = refl
+    by-plan (refused n) = refl
 
 -- a call's answer, as numbers
 pub roster-out : {file out after : List ℕ} {w : Written} {r : Outcome} → rosters.RosterWritten file out w after → r ≡ outcomeOf w → RosterOut file out r after

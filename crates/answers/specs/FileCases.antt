@@ -4,7 +4,7 @@ use Prim.Native.Nat.{ℕ}
 use mathlib.Core.Path.{_≡_, refl, sym, ap, subst}
 use mathlib.Core.Bool.{Bool, true, false}
 use lib.Dec.{T}
-use Rattle.model.specs.Reading.{Reading, accepted, turned}
+use Rattle.model.specs.Reading.{Reading, accepted, refused}
 use Rattle.model.specs.Refusal.{groupOf}
 use Rattle.model.specs.Desk as model
 use Rattle.answers.specs.GroupCases.{groupShown, groupCase, shown-case}
@@ -20,7 +20,7 @@ fileShown (Refused n g) = model.refused n (groupShown g)
 -- the case for what a file's bytes are read to
 abbrev pub fileCase : {A : Type 0} → Reading A → FileAnswer
 fileCase (accepted a) = Accepted
-fileCase (turned n) = Refused n (groupCase (groupOf n))
+fileCase (refused n) = Refused n (groupCase (groupOf n))
 
 -- ---- and back: what an answer says of the reading
 abbrev isAccepted : FileAnswer → Bool
@@ -34,11 +34,11 @@ numberOf (Refused n g) = n
 module _ {A : Type 0} where
   pub case-accepted : (x : Reading A) → Accepted ≡ fileCase x → (a : A) × (x ≡ accepted a)
   case-accepted (accepted a) e = (a, refl)
-  case-accepted (turned n) e = absurd (subst (λ b. T (isAccepted b)) e tt)
+  case-accepted (refused n) e = absurd (subst (λ b. T (isAccepted b)) e tt)
 
-  pub case-refused : (x : Reading A) {n : ℕ} {g : Group} → Refused n g ≡ fileCase x → x ≡ turned n
+  pub case-refused : (x : Reading A) {n : ℕ} {g : Group} → Refused n g ≡ fileCase x → x ≡ refused n
   case-refused (accepted a) e = absurd (subst (λ b. T (isAccepted b)) (sym e) tt)
-  case-refused (turned m) e = ap (λ b. turned (numberOf b)) (sym e)
+  case-refused (refused m) e = ap (λ b. refused (numberOf b)) (sym e)
 
 -- a refusal's case shows it
 pub refusal-shown : (n : ℕ) → fileShown (Refused n (groupCase (groupOf n))) ≡ model.refusal n

@@ -3,7 +3,7 @@ use Prim.Native.Nat.{ℕ, suc}
 use mathlib.Core.Path.{_≡_, refl}
 use mathlib.Core.Bool.{Bool, true, false}
 use mathlib.Core.List.{List}
-use Rattle.model.specs.Reading.{Reading, accepted, turned}
+use Rattle.model.specs.Reading.{Reading, accepted, refused}
 use Rattle.model.specs.Refusal.{groupOf}
 use Rattle.model.specs.Roster.{Roster}
 use Rattle.model.specs.RosterFile.{readRoster}
@@ -29,10 +29,10 @@ blockedBy G M = named G M (someBlocks G (on M))
 -- for each case of the plan's reading, and of the roster's
 abbrev pub replied : Instance → Reading Plan → Blocked
 replied G (accepted M) = blockedBy G M
-replied G (turned n) = Refused n (groupCase (groupOf n))
+replied G (refused n) = Refused n (groupCase (groupOf n))
 
 abbrev pub blockedReply : Reading Roster → List ℕ → Blocked
-blockedReply (turned n) file = Refused n (groupCase (groupOf n))
+blockedReply (refused n) file = Refused n (groupCase (groupOf n))
 blockedReply (accepted R) file = replied (instanceOf R) (readPlan (instanceOf R) file)
 
 -- the answer for every roster that the bytes are

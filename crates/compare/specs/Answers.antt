@@ -3,7 +3,7 @@ use Prim.Native.Nat.{ℕ}
 use mathlib.Core.Path.{_≡_}
 use mathlib.Core.Bool.{Bool}
 use mathlib.Core.List.{List}
-use Rattle.model.specs.Reading.{Reading, accepted, turned}
+use Rattle.model.specs.Reading.{Reading, accepted, refused}
 use Rattle.model.specs.Refusal.{groupOf}
 use Rattle.model.specs.Roster.{Roster}
 use Rattle.model.specs.RosterFile.{readRoster}
@@ -38,7 +38,7 @@ answered (model.refused n) = Refused n (groupCase (groupOf n))
 
 -- the roster's refusal, else what the two files are against it
 abbrev pub comparisonReply : Reading Roster → (firstBytes secondBytes : List ℕ) → Comparison
-comparisonReply (turned n) a b = Refused n (groupCase (groupOf n))
+comparisonReply (refused n) a b = Refused n (groupCase (groupOf n))
 comparisonReply (accepted R) a b = answered (comparisonOf (instanceOf R) a b)
 
 -- the answer for every roster that the bytes are

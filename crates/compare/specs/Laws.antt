@@ -9,7 +9,7 @@ use lib.Dec.{T}
 use lib.IntN.{ℤ}
 use Rattle.lists.specs.Test.{given}
 use Rattle.model.specs.Limits.{planLimit}
-use Rattle.model.specs.Reading.{Reading, accepted, turned}
+use Rattle.model.specs.Reading.{Reading, accepted, refused}
 use Rattle.model.specs.Refusal.{groupOf}
 use Rattle.model.specs.RosterFile.{readRoster}
 use Rattle.model.specs.Instance as model
@@ -54,7 +54,7 @@ byEdges G f h = answered (votes (vote G f h) (vote G h f) (winnerOf (vote G f h)
 
 same-first : (G : model.Instance) (M M′ : Plan) → on M ≡ on M′ → (x : Reading Plan) → answered (secondJudged G M x) ≡ answered (secondJudged G M′ x)
 same-first G M M′ e (accepted N) = ap (λ f. byEdges G f (on N)) e
-same-first G M M′ e (turned n) = refl
+same-first G M M′ e (refused n) = refl
 
 -- ---- a plan file read against the arrays of an accepted roster
 module _ (g : Instance) (file : List ℕ) (r : PlanRead) (A : ReadFor (g .m) (g .sv) (g .st) (g .«quota_s») (g .«quota_t») file r) where

@@ -9,7 +9,7 @@ use lib.Seq.{take-length}
 use lib.IntN.{ℤ}
 use lib.Dec.{T}
 use denote.Ref.{RefT, ptr, now}
-use Rattle.model.specs.Reading.{Reading, accepted, turned}
+use Rattle.model.specs.Reading.{Reading, accepted, refused}
 use Rattle.model.specs.Roster.{Roster}
 use Rattle.model.specs.Edges.{instanceOf}
 use Rattle.model.specs.Instance as model
@@ -40,7 +40,7 @@ placed a b p = ((ptr (fileOf (p .file) a b) .0, ptr (fileOf (p .file) a b) .1 + 
 
 -- "with no winner, and on a refusal, the part is empty, taken from the first file": also where the roster is refused
 abbrev pub partReply : Reading Roster → (firstBytes secondBytes : List ℕ) → Part
-partReply (turned n) a b = winnerPart compare.neither a b
+partReply (refused n) a b = winnerPart compare.neither a b
 partReply (accepted R) a b = partOf (instanceOf R) a b
 
 -- ---- the answer says which part it is
@@ -55,7 +55,7 @@ partCase (Refused n k) a b = winnerPart compare.neither a b
 
 pub part-is : (x : Reading Roster) (a b : List ℕ) → partCase (comparisonReply x a b) a b ≡ partReply x a b
 unfolding partOf
-part-is (turned n) a b = refl
+part-is (refused n) a b = refl
 part-is (accepted R) a b = go (comparisonOf (instanceOf R) a b)
   where
     shown-case : (w : compare.Winner) → shownWinner (winnerCase w) ≡ w
@@ -108,7 +108,7 @@ hasVotes (Refused n k) = false
 
 there : (x : Reading Roster) (a b : List ℕ) → T (isBytes a) → T (isBytes b) → T (hasVotes (comparisonReply x a b)) → (1 ≤ length a) × (1 ≤ length b)
 unfolding comparisonOf
-there (turned n) a b ta tb t = absurd t
+there (refused n) a b ta tb t = absurd t
 there (accepted R) a b ta tb t = by-first (readPlan G a) refl t
   where
     G : model.Instance
@@ -116,11 +116,11 @@ there (accepted R) a b ta tb t = by-first (readPlan G a) refl t
 
     by-second : (M : Plan) (y : Reading Plan) → readPlan G b ≡ y → T (hasVotes (answered (secondJudged G M y))) → 1 ≤ length b
     by-second M (accepted N) e t = plan-accepted-count G b N tb e
-    by-second M (turned n) e t = absurd t
+    by-second M (refused n) e t = absurd t
 
     by-first : (y : Reading Plan) → readPlan G a ≡ y → T (hasVotes (answered (firstJudged G y b))) → (1 ≤ length a) × (1 ≤ length b)
     by-first (accepted M) e t = (plan-accepted-count G a M ta e, by-second M (readPlan G b) refl t)
-    by-first (turned n) e t = absurd t
+    by-first (refused n) e t = absurd t
 
 pub counts-there : (x : Reading Roster) (a b : List ℕ) → T (isBytes a) → T (isBytes b) → {v w : ℤ} {y : Winner} → Votes v w y ≡ comparisonReply x a b → (1 ≤ length a) × (1 ≤ length b)
 counts-there x a b ta tb e = there x a b ta tb (subst (λ c. T (hasVotes c)) e tt)

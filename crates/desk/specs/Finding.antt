@@ -9,7 +9,8 @@ use lib.ListN.{length, length-map, replicate}
 use lib.Dec.{T, ltb, nltb→le}
 use Rattle.model.specs.Limits.{planSize, diarySize, leftSize}
 use Rattle.model.specs.Refusal.{groupOf}
-use Rattle.model.specs.Reading.{Reading, accepted, turned}
+use Rattle.model.specs.Reading as reading
+use Rattle.model.specs.Reading.{Reading, accepted}
 use Rattle.model.specs.Roster.{Roster}
 use Rattle.model.specs.RosterFile.{readRoster}
 use Rattle.model.specs.Edges.{instanceOf}
@@ -57,7 +58,7 @@ pub record Finds (d : Desk) (s : List Step) (l p v : List ℕ) (r : FindReply) (
 
 -- ---- the records fit
 fit : (room : ℕ) (l p v : List ℕ) (o : Outcome) (l′ p′ v′ : List ℕ) (x : Reading Roster) (b : Bool) → short room l p v ≡ b → OutcomeFor x b l p v o l′ p′ v′ → (o .steps ≤ diarySize) × (o .steps ≤ room)
-fit room l p v o l′ p′ v′ (turned n) b q k = (omega (arith, k .refuses .steps), omega (arith, k .refuses .steps))
+fit room l p v o l′ p′ v′ (reading.refused n) b q k = (omega (arith, k .refuses .steps), omega (arith, k .refuses .steps))
 fit room l p v o l′ p′ v′ (accepted R) true q k = (omega (arith, k .refuses .steps), omega (arith, k .refuses .steps))
 fit room l p v o l′ p′ v′ (accepted R) false q (f, e) =
     let G = instanceOf R in
@@ -82,16 +83,16 @@ module _ (s : List Step) (l p v : List ℕ) where
 
   -- the state's refusal, by the roster's reading
   abbrev stateAt : Reading Roster → Bool → ℕ
-  stateAt (turned n) b = 13
+  stateAt (reading.refused n) b = 13
   stateAt (accepted R) b = cond b 15 0
 
   state-at : (x : Reading Roster) (plan : List ℕ) → stateAt x (lentShort call) ≡ stateNumber (held x plan) false (lentShort call)
-  state-at (turned n) plan = refl
+  state-at (reading.refused n) plan = refl
   state-at (accepted R) plan = go (readPlan (instanceOf R) plan)
     where
       go : (y : Reading Plan) → cond (lentShort call) 15 0 ≡ stateNumber (heldPlan R y) false (lentShort call)
       go (accepted M) = refl
-      go (turned n) = refl
+      go (reading.refused n) = refl
 
   -- what is asked of the roster held
   answer-on : (R : Roster) (plan : List ℕ) → answerOn chosen (held (accepted R) plan) call ≡ foundAnswer (length (stepsOf (instanceOf R))) (finderOf (instanceOf R) (rivalOf (instanceOf R)))
@@ -99,14 +100,14 @@ module _ (s : List Step) (l p v : List ℕ) where
     where
       go : (y : Reading Plan) → answerOn chosen (heldPlan R y) call ≡ foundAnswer (length (stepsOf (instanceOf R))) (finderOf (instanceOf R) (rivalOf (instanceOf R)))
       go (accepted M) = refl
-      go (turned n) = refl
+      go (reading.refused n) = refl
 
   lent-on : (R : Roster) (plan : List ℕ) → lentOn chosen (held (accepted R) plan) call ≡ foundWritten (instanceOf R) (finderOf (instanceOf R) (rivalOf (instanceOf R))) (recordsIn s) l p v
   lent-on R plan = go (readPlan (instanceOf R) plan)
     where
       go : (y : Reading Plan) → lentOn chosen (heldPlan R y) call ≡ foundWritten (instanceOf R) (finderOf (instanceOf R) (rivalOf (instanceOf R))) (recordsIn s) l p v
       go (accepted M) = refl
-      go (turned n) = refl
+      go (reading.refused n) = refl
 
   module _ (d : Desk) (r : FindReply) (same : r .desk ≡ d) (flat : List ℕ) (s′ : List Step) (l′ p′ v′ : List ℕ) where
     state-here : (x : Reading Roster) → readRoster (rosterBytes d) ≡ x → (b : Bool) → short (length s) l p v ≡ b → stateAt x b ≡ stateNumber (heldOf d) false (lentShort call)
@@ -166,16 +167,16 @@ module _ (s : List Step) (l p v : List ℕ) where
 
     by-outcome : (x : Reading Roster) → readRoster (rosterBytes d) ≡ x → (b : Bool) → short (length s) l p v ≡ b → (steps : ℕ)
         → OutcomeFor x b l p v (record { answer = r .answer; flat = flat; steps = steps }) l′ p′ v′ → s′ ≡ onto (stepsIn steps flat) s → Both
-    by-outcome (turned n) e b q steps k w = (
-      refused-reply 13 (omega arith) (state-here (turned n) e b q) (record { answer = r .answer; flat = flat; steps = steps }) refl k (filled-none steps flat s s′ (k .refuses .steps) w),
+    by-outcome (reading.refused n) e b q steps k w = (
+      refused-reply 13 (omega arith) (state-here (reading.refused n) e b q) (record { answer = r .answer; flat = flat; steps = steps }) refl k (filled-none steps flat s s′ (k .refuses .steps) w),
       λ R a t. absurd (no-roster (sym e ∙ a)),
     )
       where
         isTurned : Reading Roster → Bool
         isTurned (accepted R) = false
-        isTurned (turned n) = true
+        isTurned (reading.refused n) = true
 
-        no-roster : {n : ℕ} {R : Roster} → turned n ≡ accepted R → ⊥
+        no-roster : {n : ℕ} {R : Roster} → reading.refused n ≡ accepted R → ⊥
         no-roster z = subst (λ y. T (isTurned y)) z tt
     by-outcome (accepted R) e true q steps k w = (
       refused-reply 15 (omega arith) (state-here (accepted R) e true q) (record { answer = r .answer; flat = flat; steps = steps }) refl k (filled-none steps flat s s′ (k .refuses .steps) w),
@@ -188,7 +189,7 @@ module _ (s : List Step) (l p v : List ℕ) where
       where
         rosterOf : Roster → Reading Roster → Roster
         rosterOf R (accepted Q) = Q
-        rosterOf R (turned n) = R
+        rosterOf R (reading.refused n) = R
 
         one : {Q R : Roster} → accepted Q ≡ accepted R → Q ≡ R
         one {Q} z = ap (rosterOf Q) z

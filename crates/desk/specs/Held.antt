@@ -6,7 +6,7 @@ use mathlib.Core.Bool.{Bool, cond, _&&_}
 use mathlib.Core.List.{List}
 use lib.ListN.{take}
 use lib.Dec.{T}
-use Rattle.model.specs.Reading.{Reading, accepted, turned}
+use Rattle.model.specs.Reading.{Reading, accepted, refused}
 use Rattle.model.specs.Roster.{Roster}
 use Rattle.model.specs.RosterFile.{readRoster}
 use Rattle.model.specs.Edges.{instanceOf}
@@ -27,11 +27,11 @@ planBytes d = take (d .«plan_len») (d .plan)
 -- for each case of the plan's reading, and of the roster's
 abbrev pub heldPlan : Roster → Reading Plan → Held
 heldPlan r (accepted M) = planned r M
-heldPlan r (turned n) = roster r
+heldPlan r (refused n) = roster r
 
 abbrev pub held : Reading Roster → (plan : List ℕ) → Held
 held (accepted r) plan = heldPlan r (readPlan (instanceOf r) plan)
-held (turned n) plan = nothing
+held (refused n) plan = nothing
 
 unfoldable pub heldOf : Desk → Held
 heldOf d = held (readRoster (rosterBytes d)) (planBytes d)
@@ -47,11 +47,11 @@ held-loads file plan = by-roster (readRoster file)
   where
     by-plan : (r : Roster) (y : Reading Plan) → heldPlan r y ≡ withPlan (roster r) r y
     by-plan r (accepted M) = refl
-    by-plan r (turned n) = refl
+    by-plan r (refused n) = refl
 
     by-roster : (x : Reading Roster) → held x plan ≡ deskAfter (withRoster nothing x) (loadPlan plan)
     by-roster (accepted r) = by-plan r (readPlan (instanceOf r) plan)
-    by-roster (turned n) = refl
+    by-roster (refused n) = refl
 
 pub held-sound : (d : Desk) → T (isBytes (rosterBytes d)) → T (isBytes (planBytes d)) → T (sound (heldOf d))
 unfolding heldOf sound

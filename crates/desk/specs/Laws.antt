@@ -7,7 +7,7 @@ use mathlib.Core.List.{List, []}
 use lib.Dec.{T, ltb}
 use borrow.Author.Tests.{lt-ltb}
 use Rattle.lists.specs.Test.{T-true}
-use Rattle.model.specs.Reading.{Reading, accepted, turned}
+use Rattle.model.specs.Reading.{Reading, accepted, refused}
 use Rattle.model.specs.Roster.{Roster}
 use Rattle.model.specs.RosterFile.{readRoster}
 use Rattle.model.specs.Edges.{instanceOf}
@@ -37,19 +37,19 @@ planTurnedDown (reply.Refused n g) = true
 
 held-roster : (r : Roster) (y : Reading Plan) → noRoster (heldPlan r y) ≡ false
 held-roster r (accepted M) = refl
-held-roster r (turned n) = refl
+held-roster r (refused n) = refl
 
 roster-read : (x : Reading Roster) (plan : List ℕ) → turnedDown (fileCase x) ≡ noRoster (held x plan)
 roster-read (accepted r) plan = sym (held-roster r (readPlan (instanceOf r) plan))
-roster-read (turned n) plan = refl
+roster-read (refused n) plan = refl
 
 plan-read : (x : Reading Roster) (plan : List ℕ) → planTurnedDown (planReply x plan) ≡ noPlan (held x plan)
-plan-read (turned n) plan = refl
+plan-read (refused n) plan = refl
 plan-read (accepted r) plan = go (readPlan (instanceOf r) plan)
   where
     go : (y : Reading Plan) → planTurnedDown (replied y) ≡ noPlan (heldPlan r y)
     go (accepted M) = refl
-    go (turned n) = refl
+    go (refused n) = refl
 
 module _ (d : Desk) where
   pub roster-there : answer.Accepted ≡ fileCase (readRoster (rosterBytes d)) → false ≡ noRoster (heldOf d)

@@ -7,7 +7,8 @@ use lib.ListN.{length, take}
 use lib.Dec.{T}
 use Rattle.model.specs.Limits.{planSize, rosterSize}
 use Rattle.model.specs.Refusal.{groupOf}
-use Rattle.model.specs.Reading.{Reading, accepted, turned}
+use Rattle.model.specs.Reading as reading
+use Rattle.model.specs.Reading.{Reading, accepted}
 use Rattle.model.specs.Roster.{Roster}
 use Rattle.model.specs.RosterFile.{readRoster}
 use Rattle.model.specs.Edges.{instanceOf}
@@ -38,7 +39,7 @@ rosterShown (answer.Refused n g) = refused n (groupShown g)
 
 roster-shown : (x : Reading Roster) → rosterShown (fileCase x) ≡ loadedRoster x
 roster-shown (accepted r) = refl
-roster-shown (turned n) = ap (refused n) (shown-case (groupOf n))
+roster-shown (reading.refused n) = ap (refused n) (shown-case (groupOf n))
 
 roster-answer : (h : Held) (file : List ℕ) {a : reader.FileAnswer} → a ≡ fileCase (readRoster file) → rosterShown a ≡ answered h (loadRoster file)
 unfolding answerOf stateRefusal
@@ -80,48 +81,48 @@ isTaken (reply.Refused n g) = false
 
 plan-shown : (y : Reading Plan) → planShown (replied y) ≡ loadedPlan y
 plan-shown (accepted M) = refl
-plan-shown (turned n) = ap (refused n) (shown-case (groupOf n))
+plan-shown (reading.refused n) = ap (refused n) (shown-case (groupOf n))
 
 plan-answer : (x : Reading Roster) (plan file : List ℕ) → 0 ≡ stateNumber (held x plan) false false → {a : PlanReply} → a ≡ planReply x file → planShown a ≡ answered (held x plan) (loadPlan file)
 unfolding stateRefusal
-plan-answer (turned n) plan file s e = not-0 s
+plan-answer (reading.refused n) plan file s e = not-0 s
 plan-answer (accepted r) plan file s e = ap planShown e ∙ plan-shown (readPlan (instanceOf r) file) ∙ go (readPlan (instanceOf r) plan) s
   where
     go : (y : Reading Plan) → 0 ≡ stateNumber (heldPlan r y) false false → loadedPlan (readPlan (instanceOf r) file) ≡ answered (heldPlan r y) (loadPlan file)
     go (accepted M) s = pass-answer (planned r M) (loadPlan file) s
-    go (turned n) s = pass-answer (roster r) (loadPlan file) s
+    go (reading.refused n) s = pass-answer (roster r) (loadPlan file) s
 
 -- the held roster stays
 on-held : (r : Roster) (y : Reading Plan) (file : List ℕ) → withPlan (heldPlan r y) r (readPlan (instanceOf r) file) ≡ deskAfter (heldPlan r y) (loadPlan file)
 unfolding deskAfter stateRefusal
 on-held r (accepted M) file = refl
-on-held r (turned n) file = refl
+on-held r (reading.refused n) file = refl
 
 plan-kept : (x : Reading Roster) (plan file : List ℕ) → false ≡ isTaken (planReply x file) → held x plan ≡ deskAfter (held x plan) (loadPlan file)
 unfolding deskAfter stateRefusal
-plan-kept (turned n) plan file e = refl
+plan-kept (reading.refused n) plan file e = refl
 plan-kept (accepted r) plan file e = go (readPlan (instanceOf r) file) e ∙ on-held r (readPlan (instanceOf r) plan) file
   where
     go : (z : Reading Plan) → false ≡ isTaken (replied z) → heldPlan r (readPlan (instanceOf r) plan) ≡ withPlan (heldPlan r (readPlan (instanceOf r) plan)) r z
     go (accepted N) e = absurd (subst T (sym e) tt)
-    go (turned n) e = refl
+    go (reading.refused n) e = refl
 
 plan-taken : (x : Reading Roster) (plan file : List ℕ) → true ≡ isTaken (planReply x file) → held x file ≡ deskAfter (held x plan) (loadPlan file)
 unfolding deskAfter stateRefusal
-plan-taken (turned n) plan file e = absurd (subst T e tt)
+plan-taken (reading.refused n) plan file e = absurd (subst T e tt)
 plan-taken (accepted r) plan file e = go (readPlan (instanceOf r) file) e ∙ on-held r (readPlan (instanceOf r) plan) file
   where
     go : (z : Reading Plan) → true ≡ isTaken (replied z) → heldPlan r z ≡ withPlan (heldPlan r (readPlan (instanceOf r) plan)) r z
     go (accepted N) e = refl
-    go (turned n) e = absurd (subst T e tt)
+    go (reading.refused n) e = absurd (subst T e tt)
 
 pub plan-small : (x : Reading Roster) (file : List ℕ) → T (isBytes file) → reply.Accepted ≡ planReply x file → length file ≤ planSize
-plan-small (turned n) file isB e = absurd (subst T (ap isTaken e) tt)
+plan-small (reading.refused n) file isB e = absurd (subst T (ap isTaken e) tt)
 plan-small (accepted r) file isB e = go (readPlan (instanceOf r) file) refl (ap isTaken e)
   where
     go : (z : Reading Plan) → readPlan (instanceOf r) file ≡ z → true ≡ isTaken (replied z) → length file ≤ planSize
     go (accepted N) q e = plan-accepted-size (instanceOf r) file N isB q
-    go (turned n) q e = absurd (subst T e tt)
+    go (reading.refused n) q e = absurd (subst T e tt)
 
 module _ (d : Desk) (file : List ℕ) {n : ℕ} (i : n ≡ stateNumber (heldOf d) false false) (z : n ≤ 0) where
   s : 0 ≡ stateNumber (heldOf d) false false

@@ -8,7 +8,7 @@ use lib.ListN.{length, replicate}
 use lib.Dec.{T, ltb, nltb→le}
 use Rattle.model.specs.Limits.{entryLimit, planSize, diarySize, leftSize}
 use Rattle.model.specs.Refusal.{groupOf}
-use Rattle.model.specs.Reading.{Reading, accepted, turned}
+use Rattle.model.specs.Reading.{Reading, accepted, refused}
 use Rattle.model.specs.Roster.{Roster, fits}
 use Rattle.model.specs.RosterFile.{readRoster}
 use Rattle.model.specs.Edges.{instanceOf}
@@ -68,7 +68,7 @@ pub record Kept (n : ℕ) (l p v : List ℕ) (o : Outcome) (l′ p′ v′ : Lis
   pub rival : v′ ≡ v
 
 abbrev pub OutcomeFor : Reading Roster → (isShort : Bool) (l p v : List ℕ) (o : Outcome) (l′ p′ v′ : List ℕ) → Type 0
-OutcomeFor (turned n) s l p v o l′ p′ v′ = Kept 13 l p v o l′ p′ v′
+OutcomeFor (refused n) s l p v o l′ p′ v′ = Kept 13 l p v o l′ p′ v′
 OutcomeFor (accepted R) true l p v o l′ p′ v′ = Kept 15 l p v o l′ p′ v′
 OutcomeFor (accepted R) false l p v o l′ p′ v′ = FindsFor R (replicate flatSize 0) l p v (o .answer) (o .flat) l′ p′ v′ × (o .steps ≡ stepsIn (o .answer))
 

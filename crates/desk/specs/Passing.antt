@@ -9,7 +9,7 @@ use lib.ListN.{length}
 use lib.Dec.{ltb}
 use Rattle.model.specs.Limits.{planSize, rosterSize}
 use Rattle.model.specs.Refusal.{groupOf}
-use Rattle.model.specs.Reading.{Reading, accepted, turned}
+use Rattle.model.specs.Reading.{Reading, accepted, refused}
 use Rattle.model.specs.Roster.{Roster}
 use Rattle.model.specs.RosterFile.{readRoster}
 use Rattle.model.specs.Instance.{Instance}
@@ -59,28 +59,28 @@ roster-written file plan out {w} {after} s W = by-roster (readRoster file) s (W 
     Is : Held → Type 0
     Is h = (writtenShown w ≡ answered h (writeRosterTo out)) × (writeRosterTo after ≡ lentThen h (writeRosterTo out))
 
-    to : (r : Roster) → _≡_ {A = ℕ} 0 (cond short 15 0) → _≡_ {A = Reading Roster} (cond short (turned 15) (accepted r)) (accepted r)
-    to r s = ap (λ b. cond b (turned 15) (accepted r)) (long short s)
+    to : (r : Roster) → _≡_ {A = ℕ} 0 (cond short 15 0) → _≡_ {A = Reading Roster} (cond short (refused 15) (accepted r)) (accepted r)
+    to r s = ap (λ b. cond b (refused 15) (accepted r)) (long short s)
 
-    by-plan : (r : Roster) (y : Reading Plan) → 0 ≡ stateNumber (heldPlan r y) false short → w ≡ rosters.answered (cond short (turned 15) (accepted r)) → after ≡ rosters.left (cond short (turned 15) (accepted r)) out → Is (heldPlan r y)
+    by-plan : (r : Roster) (y : Reading Plan) → 0 ≡ stateNumber (heldPlan r y) false short → w ≡ rosters.answered (cond short (refused 15) (accepted r)) → after ≡ rosters.left (cond short (refused 15) (accepted r)) out → Is (heldPlan r y)
     by-plan r (accepted M) s p q = (
       ap writtenShown (p ∙ ap rosters.answered (to r s)) ∙ pass-answer (planned r M) (writeRosterTo out) s,
       ap writeRosterTo (q ∙ ap (λ x. rosters.left x out) (to r s)) ∙ pass-lent (planned r M) (writeRosterTo out) s,
     )
-    by-plan r (turned n) s p q = (
+    by-plan r (refused n) s p q = (
       ap writtenShown (p ∙ ap rosters.answered (to r s)) ∙ pass-answer (roster r) (writeRosterTo out) s,
       ap writeRosterTo (q ∙ ap (λ x. rosters.left x out) (to r s)) ∙ pass-lent (roster r) (writeRosterTo out) s,
     )
 
-    by-roster : (x : Reading Roster) → 0 ≡ stateNumber (held x plan) false short → w ≡ rosters.answered (cond short (turned 15) x) → after ≡ rosters.left (cond short (turned 15) x) out → Is (held x plan)
+    by-roster : (x : Reading Roster) → 0 ≡ stateNumber (held x plan) false short → w ≡ rosters.answered (cond short (refused 15) x) → after ≡ rosters.left (cond short (refused 15) x) out → Is (held x plan)
     by-roster (accepted r) s p q = by-plan r (readPlan (instanceOf r) plan) s p q
-    by-roster (turned n) s p q = not-0 s
+    by-roster (refused n) s p q = not-0 s
 
 plan-written : (x : Reading Roster) (plan out : List ℕ) {w : Written} {after : List ℕ} → 0 ≡ stateNumber (held x plan) true (ltb (length out) planSize)
     → files.WrittenBy (files.toWrite planSize out (files.planToWrite x plan)) out w after
     → (writtenShown w ≡ answered (held x plan) (writePlanTo out)) × (writePlanTo after ≡ lentThen (held x plan) (writePlanTo out))
 unfolding stateRefusal
-plan-written (turned n) plan out s W = not-0 s
+plan-written (refused n) plan out s W = not-0 s
 plan-written (accepted r) plan out {w} {after} s W = by-plan (readPlan (instanceOf r) plan) s (W .reply) (W .buffer)
   where
     short : Bool
@@ -89,11 +89,11 @@ plan-written (accepted r) plan out {w} {after} s W = by-plan (readPlan (instance
     G : Instance
     G = instanceOf r
 
-    by-plan : (y : Reading Plan) → 0 ≡ stateNumber (heldPlan r y) true short → w ≡ files.answered (cond short (turned 15) (files.bytesOf G y)) → after ≡ files.left (cond short (turned 15) (files.bytesOf G y)) out
+    by-plan : (y : Reading Plan) → 0 ≡ stateNumber (heldPlan r y) true short → w ≡ files.answered (cond short (refused 15) (files.bytesOf G y)) → after ≡ files.left (cond short (refused 15) (files.bytesOf G y)) out
         → (writtenShown w ≡ answered (heldPlan r y) (writePlanTo out)) × (writePlanTo after ≡ lentThen (heldPlan r y) (writePlanTo out))
-    by-plan (turned n) s p q = not-0 s
+    by-plan (refused n) s p q = not-0 s
     by-plan (accepted M) s p q =
-        let to : _≡_ {A = Reading (List ℕ)} (cond short (turned 15) (accepted (plans.planBytes G M))) (accepted (plans.planBytes G M)) = ap (λ b. cond b (turned 15) (accepted (plans.planBytes G M))) (long short s) in (
+        let to : _≡_ {A = Reading (List ℕ)} (cond short (refused 15) (accepted (plans.planBytes G M))) (accepted (plans.planBytes G M)) = ap (λ b. cond b (refused 15) (accepted (plans.planBytes G M))) (long short s) in (
           ap writtenShown (p ∙ ap files.answered to) ∙ pass-answer (planned r M) (writePlanTo out) s,
           ap writePlanTo (q ∙ ap (λ x. files.left x out) to) ∙ pass-lent (planned r M) (writePlanTo out) s,
         )
@@ -115,12 +115,12 @@ compared-shown G a b = go (comparisonOf G a b)
 plans-compared : (x : Reading Roster) (plan a b : List ℕ) {c : Comparison} → 0 ≡ stateNumber (held x plan) false false → c ≡ comparisonReply x a b
     → comparisonShown a b c ≡ answered (held x plan) (compare a b)
 unfolding stateRefusal
-plans-compared (turned n) plan a b s e = not-0 s
+plans-compared (refused n) plan a b s e = not-0 s
 plans-compared (accepted r) plan a b {c} s e = ap (comparisonShown a b) e ∙ compared-shown (instanceOf r) a b ∙ go (readPlan (instanceOf r) plan) s
   where
     go : (y : Reading Plan) → 0 ≡ stateNumber (heldPlan r y) false false → comparisonAnswer (partOf (instanceOf r) a b) (comparisonOf (instanceOf r) a b) ≡ answered (heldPlan r y) (compare a b)
     go (accepted M) s = pass-answer (planned r M) (compare a b) s
-    go (turned n) s = pass-answer (roster r) (compare a b) s
+    go (refused n) s = pass-answer (roster r) (compare a b) s
 
 -- the part in the answer, for every desk
 part-in : (p : Part) (c : outcome.Comparison) → p ≡ partIn (comparisonAnswer p c)
@@ -129,21 +129,21 @@ part-in p (outcome.refused n) = refl
 
 part-answered : (x : Reading Roster) (plan a b : List ℕ) → partReply x a b ≡ partIn (answered (held x plan) (compare a b))
 unfolding answerOf stateRefusal
-part-answered (turned n) plan a b = refl
+part-answered (refused n) plan a b = refl
 part-answered (accepted r) plan a b = go (readPlan (instanceOf r) plan)
   where
     go : (y : Reading Plan) → partOf (instanceOf r) a b ≡ partIn (answered (heldPlan r y) (compare a b))
     go (accepted M) = part-in (partOf (instanceOf r) a b) (comparisonOf (instanceOf r) a b)
-    go (turned n) = part-in (partOf (instanceOf r) a b) (comparisonOf (instanceOf r) a b)
+    go (refused n) = part-in (partOf (instanceOf r) a b) (comparisonOf (instanceOf r) a b)
 
 -- ---- a blocking pair
 blocking-answered : (x : Reading Roster) (plan : List ℕ) {b : Blocked} → 0 ≡ stateNumber (held x plan) true false → b ≡ blockedReply x plan → deskAnswer b ≡ answered (held x plan) blocking
 unfolding stateRefusal
-blocking-answered (turned n) plan s e = not-0 s
+blocking-answered (refused n) plan s e = not-0 s
 blocking-answered (accepted r) plan s e = ap deskAnswer e ∙ go (readPlan (instanceOf r) plan) s
   where
     go : (y : Reading Plan) → 0 ≡ stateNumber (heldPlan r y) true false → deskAnswer (blocks.replied (instanceOf r) y) ≡ answered (heldPlan r y) blocking
-    go (turned n) s = not-0 s
+    go (refused n) s = not-0 s
     go (accepted M) s = desk-answer (instanceOf r) M (someBlocks (instanceOf r) (on M)) ∙ pass-answer (planned r M) blocking s
 
 -- ---- the replies: the desk comes back as it went in

@@ -7,7 +7,7 @@ use mathlib.Core.List.{List}
 use lib.ListN.{length}
 use lib.Dec.{ltb}
 use Rattle.model.specs.Limits.{planSize}
-use Rattle.model.specs.Reading.{Reading, accepted, turned}
+use Rattle.model.specs.Reading.{Reading, accepted, refused}
 use Rattle.model.specs.Roster.{Roster}
 use Rattle.model.specs.RosterFile.{readRoster}
 use Rattle.model.specs.Instance.{Instance}
@@ -28,7 +28,7 @@ use Rattle.desk.specs.Passing.{not-0, long}
 judged : (x : Reading Roster) (plan out : List ℕ) {v : Verdict} {after : List ℕ} → 0 ≡ stateNumber (held x plan) true (ltb (length out) planSize)
     → JudgedBy (toJudge out (planAsked x plan)) out v after → (verdictShown v ≡ answered (held x plan) (judge out)) × (judge after ≡ lentThen (held x plan) (judge out))
 unfolding stateRefusal
-judged (turned n) plan out s J = not-0 s
+judged (refused n) plan out s J = not-0 s
 judged (accepted r) plan out {v} {after} s J = by-plan (readPlan (instanceOf r) plan) s (J .reply) (J .buffer)
   where
     short : Bool
@@ -37,11 +37,11 @@ judged (accepted r) plan out {v} {after} s J = by-plan (readPlan (instanceOf r) 
     G : Instance
     G = instanceOf r
 
-    by-plan : (y : Reading Plan) → 0 ≡ stateNumber (heldPlan r y) true short → v ≡ replied (cond short (turned 15) (withPlan G y)) → after ≡ left (cond short (turned 15) (withPlan G y)) out
+    by-plan : (y : Reading Plan) → 0 ≡ stateNumber (heldPlan r y) true short → v ≡ replied (cond short (refused 15) (withPlan G y)) → after ≡ left (cond short (refused 15) (withPlan G y)) out
         → (verdictShown v ≡ answered (heldPlan r y) (judge out)) × (judge after ≡ lentThen (heldPlan r y) (judge out))
-    by-plan (turned n) s p q = not-0 s
+    by-plan (refused n) s p q = not-0 s
     by-plan (accepted M) s p q =
-        let to : _≡_ {A = Reading (Instance × Plan)} (cond short (turned 15) (accepted (G, M))) (accepted (G, M)) = ap (λ b. cond b (turned 15) (accepted (G, M))) (long short s) in (
+        let to : _≡_ {A = Reading (Instance × Plan)} (cond short (refused 15) (accepted (G, M))) (accepted (G, M)) = ap (λ b. cond b (refused 15) (accepted (G, M))) (long short s) in (
           ap verdictShown (p ∙ ap replied to) ∙ desk-answer G M (verdictOf G M) ∙ pass-answer (planned r M) (judge out) s,
           ap judge (q ∙ ap (λ x. left x out) to) ∙ desk-written G M (verdictOf G M) out ∙ pass-lent (planned r M) (judge out) s,
         )

@@ -8,7 +8,7 @@ use lib.Seq.{take-length}
 use lib.Dec.{T}
 use borrow.Author.Tests.{lt-ltb, le-ltb}
 use Rattle.model.specs.Limits.{planSize}
-use Rattle.model.specs.Reading.{Reading, accepted, turned}
+use Rattle.model.specs.Reading.{Reading, accepted, refused}
 use Rattle.model.specs.Refusal.{groupOf}
 use Rattle.model.specs.Roster.{Roster}
 use Rattle.model.specs.RosterFile.{readRoster}
@@ -82,20 +82,20 @@ abbrev Both : Reading Roster → List ℕ → Type 0
 Both x file = (R : Roster) × (M : Plan) × (x ≡ accepted R) × (readPlan (instanceOf R) file ≡ accepted M)
 
 both : (x : Reading Roster) (file : List ℕ) → Accepted ≡ planReply x file → Both x file
-both (turned n) file e = absurd (subst (λ a. T (isAccepted a)) e tt)
+both (refused n) file e = absurd (subst (λ a. T (isAccepted a)) e tt)
 both (accepted R) file e = go (readPlan (instanceOf R) file) refl e
   where
     go : (y : Reading Plan) → readPlan (instanceOf R) file ≡ y → Accepted ≡ replied y → Both (accepted R) file
     go (accepted M) q e = (R, M, refl, q)
-    go (turned n) q e = absurd (subst (λ a. T (isAccepted a)) e tt)
+    go (refused n) q e = absurd (subst (λ a. T (isAccepted a)) e tt)
 
-turned-down : (x : Reading Roster) (file : List ℕ) {n : ℕ} {k : Group} → Refused n k ≡ planReply x file → planToWrite x file ≡ turned n
-turned-down (turned m) file e = ap (λ a. turned (numberOf a)) (sym e)
+turned-down : (x : Reading Roster) (file : List ℕ) {n : ℕ} {k : Group} → Refused n k ≡ planReply x file → planToWrite x file ≡ refused n
+turned-down (refused m) file e = ap (λ a. refused (numberOf a)) (sym e)
 turned-down (accepted R) file {n} {k} e = go (readPlan (instanceOf R) file) e
   where
-    go : (y : Reading Plan) → Refused n k ≡ replied y → bytesOf (instanceOf R) y ≡ turned n
+    go : (y : Reading Plan) → Refused n k ≡ replied y → bytesOf (instanceOf R) y ≡ refused n
     go (accepted M) e = absurd (subst (λ a. T (isAccepted a)) (sym e) tt)
-    go (turned m) e = ap (λ a. turned (numberOf a)) (sym e)
+    go (refused m) e = ap (λ a. refused (numberOf a)) (sym e)
 
 -- the group that a refusal of the reader has
 group-is : (x : Reading Roster) (file : List ℕ) {n : ℕ} {k : Group} → Refused n k ≡ planReply x file → k ≡ groupCase (groupOf n)
@@ -107,14 +107,14 @@ group-is x file {n} {k} e = ap grouped e ∙ grouped-is x file ∙ ap (λ a. gro
 
     by-plan : (y : Reading Plan) → grouped (replied y) ≡ groupCase (groupOf (numberOf (replied y)))
     by-plan (accepted M) = refl
-    by-plan (turned n) = refl
+    by-plan (refused n) = refl
 
     grouped-is : (x : Reading Roster) (file : List ℕ) → grouped (planReply x file) ≡ groupCase (groupOf (numberOf (planReply x file)))
-    grouped-is (turned n) file = refl
+    grouped-is (refused n) file = refl
     grouped-is (accepted R) file = by-plan (readPlan (instanceOf R) file)
 
 module _ (x : Reading (List ℕ)) (out : List ℕ) where
-  pub kept : {n : ℕ} (k : Group) → x ≡ turned n → k ≡ groupCase (groupOf n) → WrittenBy x out (written.Refused n k) out
+  pub kept : {n : ℕ} (k : Group) → x ≡ refused n → k ≡ groupCase (groupOf n) → WrittenBy x out (written.Refused n k) out
   kept {n} k e q = record { reply = ap (written.Refused n) q ∙ sym (ap answered e); buffer = sym (ap (λ y. left y out) e) }
 
   pub put : (bs : List ℕ) {n : ℕ} {after : List ℕ} → x ≡ accepted bs → n ≡ length bs → after ≡ bs ++ drop (length bs) out → WrittenBy x out (written.Wrote n) after

@@ -3,7 +3,7 @@ use Prim.Native.Nat.{ℕ, _*_, _≤_}
 use mathlib.Core.Path.{_≡_, sym, ap, _∙_}
 use mathlib.Core.List.{List, _++_}
 use lib.ListN.{length, drop}
-use Rattle.model.specs.Reading.{Reading, accepted, turned}
+use Rattle.model.specs.Reading.{Reading, accepted, refused}
 use Rattle.model.specs.Roster.{Roster}
 use Rattle.model.specs.RosterFile.{readRoster}
 use Rattle.model.specs.Edges.{instanceOf}
@@ -26,7 +26,7 @@ pairsSize = 5120
 
 -- the bytes of all pairs of the roster's instance
 abbrev pub pairsToWrite : Reading Roster → Reading (List ℕ)
-pairsToWrite (turned n) = turned n
+pairsToWrite (refused n) = refused n
 pairsToWrite (accepted R) = accepted (pairsUpTo (instanceOf R) (instanceOf R .m))
 
 abbrev pub PairsWritten : (roster out : List ℕ) (r : Written) (after : List ℕ) → Type 0

@@ -7,7 +7,7 @@ use mathlib.Core.List.{List, _++_}
 use lib.ListN.{length, drop}
 use lib.Dec.{ltb}
 use Rattle.model.specs.Limits.{planSize}
-use Rattle.model.specs.Reading.{Reading, accepted, turned}
+use Rattle.model.specs.Reading.{Reading, accepted, refused}
 use Rattle.model.specs.Refusal.{groupOf}
 use Rattle.model.specs.Roster.{Roster}
 use Rattle.model.specs.RosterFile.{readRoster}
@@ -25,11 +25,11 @@ use Rattle.files.specs.declared.PlanReply.the-variants.{Accepted, Refuse
 -- what is answered, for each case of the plan's reading
 abbrev pub replied : Reading Plan → PlanReply
 replied (accepted M) = Accepted
-replied (turned n) = Refused n (groupCase (groupOf n))
+replied (refused n) = Refused n (groupCase (groupOf n))
 
 -- and for each case of the roster's reading
 abbrev pub planReply : Reading Roster → List ℕ → PlanReply
-planReply (turned n) file = Refused n (groupCase (groupOf n))
+planReply (refused n) file = Refused n (groupCase (groupOf n))
 planReply (accepted R) file = replied (readPlan (instanceOf R) file)
 
 -- the answer for every roster that the bytes are
@@ -40,25 +40,25 @@ JudgedAs roster file r = (R : Roster) → readRoster roster ≡ accepted R → r
 -- the bytes of a plan that is read
 abbrev pub bytesOf : Instance → Reading Plan → Reading (List ℕ)
 bytesOf G (accepted M) = accepted (planBytes G M)
-bytesOf G (turned n) = turned n
+bytesOf G (refused n) = refused n
 
 abbrev pub planToWrite : Reading Roster → List ℕ → Reading (List ℕ)
-planToWrite (turned n) file = turned n
+planToWrite (refused n) file = refused n
 planToWrite (accepted R) file = bytesOf (instanceOf R) (readPlan (instanceOf R) file)
 
 -- the bytes to write, or the refusal: 15 comes first
 abbrev pub toWrite : (size : ℕ) (out : List ℕ) → Reading (List ℕ) → Reading (List ℕ)
-toWrite size out x = cond (ltb (length out) size) (turned 15) x
+toWrite size out x = cond (ltb (length out) size) (refused 15) x
 
 -- the answer's case, for each case of that
 abbrev pub answered : Reading (List ℕ) → Written
 answered (accepted bs) = written.Wrote (length bs)
-answered (turned n) = written.Refused n (groupCase (groupOf n))
+answered (refused n) = written.Refused n (groupCase (groupOf n))
 
 -- the buffer's bytes: a refusal leaves them all
 abbrev pub left : Reading (List ℕ) → List ℕ → List ℕ
 left (accepted bs) out = bs ++ drop (length bs) out
-left (turned n) out = out
+left (refused n) out = out
 
 pub record WrittenBy (x : Reading (List ℕ)) (out : List ℕ) (r : Written) (after : List ℕ) : Type 0 where
   pub reply : r ≡ answered x

@@ -14,7 +14,7 @@ use Rattle.lists.specs.First.{first}
 use Rattle.lists.specs.Keep.{keep, all?}
 use Rattle.model.specs.Text.{text}
 use Rattle.model.specs.Refusal.{groupOf}
-use Rattle.model.specs.Reading.{readEach, Reading, accepted, turned}
+use Rattle.model.specs.Reading.{readEach, Reading, accepted, refused}
 use Rattle.model.specs.Roster.{Roster, listed, listedBack, bothOrNeither}
 use Rattle.model.specs.RosterFile.{readRoster}
 use Rattle.model.specs.Edges.{position, edgesOf, instanceOf}
@@ -56,11 +56,11 @@ someRival G M = firstOf M (otherwise (keep (beatenBy G M) (plansOf G)) (keep (dr
 -- the instance of accepted bytes, the plan of an accepted file
 abbrev pub instanceIn : Reading Roster → Instance
 instanceIn (accepted r) = instanceOf r
-instanceIn (turned n) = instanceOf (record { quotasS = []; quotasT = []; listsS = []; listsT = [] })
+instanceIn (refused n) = instanceOf (record { quotasS = []; quotasT = []; listsS = []; listsT = [] })
 
 abbrev pub planIn : Reading Plan → Plan
 planIn (accepted M) = M
-planIn (turned n) = []
+planIn (refused n) = []
 
 abbrev pub given : List ℕ → Instance
 given bytes = instanceIn (readRoster bytes)
@@ -71,7 +71,7 @@ plan bytes file = on (planIn (readPlan (given bytes) file))
 -- the roster is accepted, and so are the plan files
 abbrev pub isAccepted : {A : Type 0} → Reading A → Bool
 isAccepted (accepted a) = true
-isAccepted (turned n) = false
+isAccepted (refused n) = false
 
 abbrev pub Readable : List ℕ → List (List ℕ) → Type 0
 Readable bytes files = isAccepted (readRoster bytes) && all? (λ file. isAccepted (readPlan (given bytes) file)) files ≡ true

@@ -5,7 +5,8 @@ use mathlib.Core.List.{List, []}
 use lib.ListN.{drop}
 use lib.IntN.{ℤ, pos}
 use lib.Signed.{ltZ}
-use Rattle.model.specs.Reading.{Reading, accepted, turned}
+use Rattle.model.specs.Reading as reading
+use Rattle.model.specs.Reading.{Reading, accepted}
 use Rattle.model.specs.Instance.{Instance}
 use Rattle.model.specs.Plans.{Plan, voteOf}
 use Rattle.model.specs.PlanFile.{readPlan}
@@ -39,12 +40,12 @@ compared G M N = votes (voteOf G M N) (voteOf G N M) (winnerOf (voteOf G M N) (v
 
 abbrev pub secondJudged : Instance → Plan → Reading Plan → Comparison
 secondJudged G M (accepted N) = compared G M N
-secondJudged G M (turned n) = refused n
+secondJudged G M (reading.refused n) = refused n
 
 -- "The first file is checked in full before the second."
 abbrev pub firstJudged : Instance → Reading Plan → List ℕ → Comparison
 firstJudged G (accepted M) file = secondJudged G M (readPlan G file)
-firstJudged G (turned n) file = refused n
+firstJudged G (reading.refused n) file = refused n
 
 unfoldable pub comparisonOf : Instance → (firstBytes secondBytes : List ℕ) → Comparison
 comparisonOf G a b = firstJudged G (readPlan G a) b

@@ -10,7 +10,8 @@ use lib.IntN.{ℤ}
 use Rattle.lists.specs.Sum.{_∈_}
 use Rattle.model.specs.Limits.{planSize, rosterSize, diarySize, leftSize}
 use Rattle.model.specs.Refusal.{Group, groupOf}
-use Rattle.model.specs.Reading.{Reading, accepted, turned}
+use Rattle.model.specs.Reading as reading
+use Rattle.model.specs.Reading.{Reading, accepted}
 use Rattle.model.specs.Roster.{Roster, fits}
 use Rattle.model.specs.RosterFile.{readRoster, writeRoster}
 use Rattle.model.specs.Edges.{instanceOf}
@@ -127,11 +128,11 @@ refusal n = refused n (groupOf n)
 -- a load
 abbrev pub loadedRoster : Reading Roster → Answer
 loadedRoster (accepted r) = loaded
-loadedRoster (turned n) = refusal n
+loadedRoster (reading.refused n) = refusal n
 
 abbrev pub loadedPlan : Reading Plan → Answer
 loadedPlan (accepted M) = loaded
-loadedPlan (turned n) = refusal n
+loadedPlan (reading.refused n) = refusal n
 
 -- the finder: the steps it took, and what it found
 abbrev pub foundAnswer : ℕ → Found → Answer
@@ -230,11 +231,11 @@ module _ (ch : Choices) where
 -- "Loading a roster drops the plan"; "a refusal changes no byte of any buffer nor the desk" (demand 1)
 abbrev pub withRoster : Held → Reading Roster → Held
 withRoster h (accepted r) = roster r
-withRoster h (turned n) = h
+withRoster h (reading.refused n) = h
 
 abbrev pub withPlan : Held → Roster → Reading Plan → Held
 withPlan h r (accepted M) = planned r M
-withPlan h r (turned n) = h
+withPlan h r (reading.refused n) = h
 
 -- "Finder, verdict, comparison, blocking and writing leave the desk alike."
 abbrev pub deskOn : Held → Call → Held

@@ -9,7 +9,7 @@ use Rattle.lists.specs.Keep.{gather}
 use Rattle.model.specs.Limits.{inputSize}
 use Rattle.model.specs.Text.{text}
 use Rattle.model.specs.Refusal.{Group, form, content, plan, desk, groupOf}
-use Rattle.model.specs.Reading.{Reading, accepted, turned}
+use Rattle.model.specs.Reading.{Reading, accepted, refused}
 use Rattle.model.specs.Roster.{Roster}
 use Rattle.model.specs.RosterFile.{readRoster}
 use Rattle.model.specs.Edges.{instanceOf}
@@ -75,7 +75,7 @@ groupWord desk = text "desk"
 -- "they come before every ending but a refusal"; "refused N GROUP" stands alone
 abbrev pub answerText : Reading Roster → (Instance → Plan → Plan) → List ℕ
 answerText (accepted r) rivalOf = gather diaryLine (diaryOf (instanceOf r)) ++ ending (instanceOf r) (finderOf (instanceOf r) (rivalOf (instanceOf r)))
-answerText (turned n) rivalOf = line (text "refused" ∷ number n ∷ groupWord (groupOf n) ∷ [])
+answerText (refused n) rivalOf = line (text "refused" ∷ number n ∷ groupWord (groupOf n) ∷ [])
 
 -- "It reads a roster of at most 2,215 bytes from standard input and prints the finder's answer."
 unfoldable pub printed : (Instance → Plan → Plan) → List ℕ → List ℕ

@@ -7,7 +7,7 @@ use lib.ListN.{length}
 use lib.Dec.{eqb, leb, ltb}
 use Rattle.lists.specs.Keep.{gather}
 use Rattle.model.specs.Limits.{nodeLimit, quotaLimit, quotaSumLimit, entryLimit}
-use Rattle.model.specs.Reading.{Reading, accepted, _then_, refuseIf, byte, twoBytes, readEach, turned, whole}
+use Rattle.model.specs.Reading.{Reading, accepted, _then_, refuseIf, byte, twoBytes, readEach, refused, whole}
 use Rattle.model.specs.Roster.{Ranking, Roster, entries, elem, outside, totalS, totalT, bothOrNeither}
 
 -- "2 a count or list length above its limit"
@@ -75,8 +75,8 @@ readSections bs = readNodes bs then (λ qs rest. readNodes rest then (λ qt rest
 
 -- "8 a pair listed by one side only", after 9
 abbrev pub oneSided : Reading Roster → Reading Roster
-oneSided (accepted r) = cond (bothOrNeither r) (accepted r) (turned 8)
-oneSided (turned n) = turned n
+oneSided (accepted r) = cond (bothOrNeither r) (accepted r) (refused 8)
+oneSided (refused n) = refused n
 
 unfoldable pub readRoster : List ℕ → Reading Roster
 readRoster bs = oneSided (whole (readSections bs))

@@ -8,7 +8,7 @@ use lib.Dec.{T, leb, ltb, nleb→lt, nltb→le}
 use borrow.Author.Tests.{lt-ltb, le-ltb, le-leb, lt-leb}
 use Rattle.lists.specs.Test.{given, nor-l, nor-r}
 use Rattle.theory_files.specs.Entries.{cond-zero}
-use Rattle.model.specs.Reading.{Reading, accepted, turned}
+use Rattle.model.specs.Reading.{Reading, accepted, refused}
 use Rattle.model.specs.Instance.{Instance}
 use Rattle.model.specs.Plans.{Plan, on}
 use Rattle.model.specs.PlanFile.{edgesIn, readPlan}
@@ -20,7 +20,7 @@ use Rattle.plan_reader.specs.declared.PlanRead.{PlanRead}
 -- the answer that a reading is, with the number of the plan's pairs
 abbrev pub answerOf : ℕ → Reading Plan → PlanAnswer
 answerOf m (accepted M) = Accepted (length (edgesIn m (on M)))
-answerOf m (turned n) = Refused n
+answerOf m (refused n) = Refused n
 
 pub record ReadAs (G : Instance) (file : List ℕ) (r : PlanRead) : Type 0 where
   pub answer : r .answer ≡ answerOf (G .m) (readPlan G file)
@@ -51,7 +51,7 @@ module _ {G : Instance} {file : List ℕ} {r : PlanRead} (A : ReadAs G file r) w
     where
       go : (x : Reading Plan) → readPlan G file ≡ x → Accepted n ≡ answerOf (G .m) x → (M : Plan) × (readPlan G file ≡ accepted M) × (flag (r .chosen) ≡ on M)
       go (accepted M) p e = (M, p, λ k d. A .chosen M p d k)
-      go (turned k) p e = absurd (subst (λ a. T (isAccepted a)) e tt)
+      go (refused k) p e = absurd (subst (λ a. T (isAccepted a)) e tt)
 
   -- and its edges are the first n of the list
   pub accepted-edges : {n : ℕ} → r .answer ≡ Accepted n → (M : Plan) → readPlan G file ≡ accepted M → (n ≡ length (edgesIn (G .m) (on M))) × (take n (r .edges) ≡ edgesIn (G .m) (on M))
@@ -59,12 +59,12 @@ module _ {G : Instance} {file : List ℕ} {r : PlanRead} (A : ReadAs G file r) w
       let c : n ≡ length (edgesIn (G .m) (on M)) = ap countOf (sym q ∙ A .answer ∙ ap (answerOf (G .m)) a) in
       (c, ap (λ k. take k (r .edges)) c ∙ A .edges M a)
 
-  pub refused-read : {n : ℕ} → r .answer ≡ Refused n → readPlan G file ≡ turned n
+  pub refused-read : {n : ℕ} → r .answer ≡ Refused n → readPlan G file ≡ refused n
   refused-read {n} q = go (readPlan G file) (sym q ∙ A .answer)
     where
-      go : (x : Reading Plan) → Refused n ≡ answerOf (G .m) x → x ≡ turned n
+      go : (x : Reading Plan) → Refused n ≡ answerOf (G .m) x → x ≡ refused n
       go (accepted M) e = absurd (subst (λ a. T (isAccepted a)) (sym e) tt)
-      go (turned k) e = ap (λ a. turned (numberOf a)) (sym e)
+      go (refused k) e = ap (λ a. refused (numberOf a)) (sym e)
 
 -- "10 a plan pair not in the roster; 11 plan pairs not strictly ascending; 12 a pair that takes a node past its quota"
 unfoldable pub pairRefusal : (m e from : ℕ) (fullS fullT : Bool) → ℕ

@@ -16,12 +16,12 @@ use Rattle.lists.specs.Test.{given, by-eq, bit, bit-one, eqb-no}
 use Rattle.lists.specs.Sum.{sum-append}
 use Rattle.lists.specs.Keep.{any-append}
 use Rattle.model.specs.Limits.{planLimit}
-use Rattle.model.specs.Reading.{Reading, accepted, turned, refuseBy, whole}
+use Rattle.model.specs.Reading.{Reading, accepted, refused, refuseBy, whole}
 use Rattle.model.specs.Roster.{elem}
 use Rattle.model.specs.Instance.{Instance, Side, surveyors, stands}
 use Rattle.model.specs.Plans.{Plan, on}
 use Rattle.model.specs.PlanFile.{edgesIn, edgeOfPair, full, Pairs, pairCheck, withPair, planOfPairs, readPlan}
-use Rattle.theory_files.specs.Reads.{accepted-value, turned-not}
+use Rattle.theory_files.specs.Reads.{accepted-value, refused-not}
 use Rattle.theory_files.specs.Chosen.{on-planOf, planOf-length, edgesIn-cong, From, Below, edges-of-elem, atNode}
 use Rattle.theory_files.specs.PlanPairs.{noPairs, pairsLeft, plan-empty, plan-long, plan-starts, left-cut, left-pair, left-none}
 use Rattle.arrays.specs.ArrayInstance.{at, flag, shown}
@@ -87,9 +87,9 @@ refusal-same m e from a b c d h = by-cases (decLt e m)
     (λ l. given (h l) (λ (p, q). ap₂ (λ x y. cond (leb m e) 10 (cond (ltb e from) 11 (cond (x || y) 12 0))) p q))
     (λ n. let y = le-leb m e (omega arith) in ap (λ z. cond z 10 (cond (ltb e from) 11 (cond (a || b) 12 0))) y ∙ sym (ap (λ z. cond z 10 (cond (ltb e from) 11 (cond (c || d) 12 0))) y))
 
-turned-by : (c : ℕ) (r : Reading (Plan × List ℕ)) → 0 < c → whole (refuseBy c r) ≡ turned c
-turned-by zero r h = absurd (omega arith)
-turned-by (suc c) r h = refl
+refused-by : (c : ℕ) (r : Reading (Plan × List ℕ)) → 0 < c → whole (refuseBy c r) ≡ refused c
+refused-by zero r h = absurd (omega arith)
+refused-by (suc c) r h = refl
 
 passes-by : (c : ℕ) (r : Reading (Plan × List ℕ)) → c ≡ 0 → refuseBy c r ≡ r
 passes-by zero r e = refl
@@ -164,11 +164,11 @@ module _ (m : ℕ) (sv st qs qt file : List ℕ) where
     left = omega arith
 
     -- the file ends inside it
-    pub invariant-cut : length file < 2 * k + 1 + 2 → readPlan G file ≡ turned 1
+    pub invariant-cut : length file < 2 * k + 1 + 2 → readPlan G file ≡ refused 1
     invariant-cut h = now .reading ∙ ap (λ z. whole (pairsLeft G z s (drop (2 * k + 1) file) (now .ps))) left
         ∙ ap whole (short (drop (2 * k + 1) file) (omega (arith, length-drop (2 * k + 1) file)))
       where
-        short : (bs : List ℕ) → length bs < 2 → pairsLeft G (suc (n - (k + 1))) s bs (now .ps) ≡ turned 1
+        short : (bs : List ℕ) → length bs < 2 → pairsLeft G (suc (n - (k + 1))) s bs (now .ps) ≡ refused 1
         short [] l = left-cut G (n - (k + 1)) s (now .ps) .0
         short (x ∷ []) l = left-cut G (n - (k + 1)) s (now .ps) .1 x
         short (x ∷ y ∷ bs) l = absurd (omega arith)
@@ -199,8 +199,8 @@ module _ (m : ℕ) (sv st qs qt file : List ℕ) where
           ∙ ap whole (left-pair G (n - (k + 1)) s (p .0) (p .1) (drop (2 * (k + 1) + 1) file) (now .ps))
           ∙ ap (λ z. whole (refuseBy z (pairsLeft G (n - (k + 1)) (withPair G s p) (drop (2 * (k + 1) + 1) file) (now .ps ++ p ∷ [])))) (sym checked)
 
-      pub invariant-refused : 0 < c → readPlan G file ≡ turned c
-      invariant-refused h = next ∙ turned-by c (pairsLeft G (n - (k + 1)) (withPair G s p) (drop (2 * (k + 1) + 1) file) (now .ps ++ p ∷ [])) h
+      pub invariant-refused : 0 < c → readPlan G file ≡ refused c
+      invariant-refused h = next ∙ refused-by c (pairsLeft G (n - (k + 1)) (withPair G s p) (drop (2 * (k + 1) + 1) file) (now .ps ++ p ∷ [])) h
 
       pub invariant-passed : c ≡ 0 → (e < m) × (from ≤ e) × (at us (at sv e) < at qs (at sv e)) × (at ut (at st e) < at qt (at st e))
       invariant-passed z = given (passed m e from (leb (at qs (at sv e)) (at us (at sv e))) (leb (at qt (at st e)) (at ut (at st e))) (sym check ∙ z)) (λ (a, b, x, y).
@@ -236,7 +236,7 @@ module _ (m : ℕ) (sv st qs qt file : List ℕ) where
         none : n - k ≡ 0
         none = omega arith
 
-    pub invariant-long : 2 * n + 1 < length file → readPlan G file ≡ turned 9
+    pub invariant-long : 2 * n + 1 < length file → readPlan G file ≡ refused 9
     invariant-long h = ended ∙ ap (λ z. whole (accepted (planOfPairs G (now .ps), z))) (drop-cons file (2 * n + 1) 0 h)
 
     abbrev M : Plan
@@ -263,19 +263,19 @@ module _ (m : ℕ) (sv st qs qt file : List ℕ) where
         })
 
   -- refused
-  pub refused-as : (c : ℕ) (chosen : List Bool) (edges : List ℕ) → readPlan G file ≡ turned c → ReadAs G file (record { answer = Refused c; chosen = chosen; edges = edges })
+  pub refused-as : (c : ℕ) (chosen : List Bool) (edges : List ℕ) → readPlan G file ≡ refused c → ReadAs G file (record { answer = Refused c; chosen = chosen; edges = edges })
   refused-as c chosen edges q = record {
     answer = sym (ap (answerOf m) q);
-    chosen = λ M a. turned-not (sym q ∙ a);
-    edges = λ M a. turned-not (sym q ∙ a);
+    chosen = λ M a. refused-not (sym q ∙ a);
+    edges = λ M a. refused-not (sym q ∙ a);
   }
 
-  pub empty-file : length file ≤ 0 → readPlan G file ≡ turned 1
+  pub empty-file : length file ≤ 0 → readPlan G file ≡ refused 1
   empty-file h = ap (readPlan G) (none file h) ∙ plan-empty G
     where
       none : (f : List ℕ) → length f ≤ 0 → f ≡ []
       none [] h = refl
       none (x ∷ f) h = absurd (omega arith)
 
-  pub long-count : 0 < length file → planLimit < getD file 0 0 → readPlan G file ≡ turned 2
+  pub long-count : 0 < length file → planLimit < getD file 0 0 → readPlan G file ≡ refused 2
   long-count l h = ap (readPlan G) (drop-cons file 0 0 l) ∙ plan-long G (getD file 0 0) (drop 1 file) h

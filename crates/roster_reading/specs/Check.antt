@@ -13,9 +13,9 @@ use lib.ListN.{length, take, drop, getD, length-drop, drop-of-length-le}
 use lib.Seq.{drop-cons, take-all}
 use lib.Dec.{ltb, eqb, eqb·suc-zero}
 use borrow.Author.Tests.{lt-ltb, le-ltb}
-use Rattle.model.specs.Reading.{Reading, accepted, turned, _then_, refuseBy, byte, readEach}
+use Rattle.model.specs.Reading.{Reading, accepted, refused, _then_, refuseBy, byte, readEach}
 use Rattle.lists.specs.Test.{given}
-use Rattle.theory_files.specs.Reads.{read-value, turned-not, refuseBy-read}
+use Rattle.theory_files.specs.Reads.{read-value, refused-not, refuseBy-read}
 use Rattle.roster_reading.specs.declared.Section.{Section}
 use Rattle.roster_reading.specs.declared.Section.the-variants as section
 use Rattle.roster_reading.specs.Place.{placed}
@@ -28,10 +28,10 @@ firstOf (suc m) n = suc m
 -- n bytes
 abbrev some : ℕ → List ℕ → Reading (List ℕ × List ℕ)
 some zero bs = accepted ([], bs)
-some (suc n) [] = turned 1
+some (suc n) [] = refused 1
 some (suc n) (x ∷ bs) = some n bs then (λ xs rest. accepted (x ∷ xs, rest))
 
-some-cut : (n : ℕ) (bs : List ℕ) → length bs < n → some n bs ≡ turned 1
+some-cut : (n : ℕ) (bs : List ℕ) → length bs < n → some n bs ≡ refused 1
 some-cut zero bs h = absurd (not-suc-le-zero h)
 some-cut (suc n) [] h = refl
 some-cut (suc n) (x ∷ bs) h = ap (λ r. r then (λ xs rest. accepted (x ∷ xs, rest))) (some-cut n bs (le-of-suc-le-suc h))
@@ -93,7 +93,7 @@ module _ {S : Type 0} (check : S → ℕ → ℕ) (next : S → ℕ → S) where
           let b : take n (drop at f) ≡ drop at f = take-all n (drop at f) (omega (arith, size)) in
           simp (a, b, some-cut n (drop at f) (omega (arith, size)), lt-ltb (e - at) n (omega arith)) (go (refusalOf s (drop at f)))
         where
-          go : (m : ℕ) → cond (eqb m 0) (section.Refused 1) (section.Refused m) ≡ placed {A = List ℕ} f (refuseBy m (turned 1))
+          go : (m : ℕ) → cond (eqb m 0) (section.Refused 1) (section.Refused m) ≡ placed {A = List ℕ} f (refuseBy m (refused 1))
           go zero = refl
           go (suc m) = rw eqb·suc-zero
 
@@ -113,6 +113,6 @@ module _ {S : Type 0} (check : S → ℕ → ℕ) (next : S → ℕ → S) where
   part-read s f at n e {xs} {rest} h d q =
       given (refuseBy-read (refusalOf s (take n (drop at f))) (sym (each-is n s (drop at f)) ∙ q)) (λ (z, g).
       by-cases (decLt (length (drop at f)) n)
-      (λ k. turned-not (sym (some-cut n (drop at f) k) ∙ g))
+      (λ k. refused-not (sym (some-cut n (drop at f) k) ∙ g))
       (λ k. let a : e - at ≡ n = omega (arith, k, length-drop at f) in
       rw a (z, read-value (sym g ∙ some-whole n (drop at f) (omega (arith, k))))))

@@ -10,7 +10,7 @@ use borrow.Author.Tests.{eq-eqb, ne-eqb}
 use Rattle.lists.specs.Test.{given}
 use Rattle.lists.specs.Keep.{gather}
 use Rattle.model.specs.Limits.{entryLimit}
-use Rattle.model.specs.Reading.{Reading, accepted, turned, _then_, refuseIf, readEach}
+use Rattle.model.specs.Reading.{Reading, accepted, refused, _then_, refuseIf, readEach}
 use Rattle.model.specs.RosterFile.{readMany, readSection}
 use Rattle.theory_files.specs.Reads.{isBytes, Reads, each, read-value}
 use Rattle.roster_reading.specs.declared.Section.the-variants as section
@@ -21,7 +21,7 @@ use Rattle.roster_reading.specs.Table.{rowWidth, withRow, Shown, row-mor
 
 then-id : {A : Type 0} (r : Reading (A × List ℕ)) → r ≡ (r then (λ a rest. accepted (a, rest)))
 then-id (accepted (a, rest)) = refl
-then-id (turned n) = refl
+then-id (refused n) = refl
 
 module _ {A : Type 0} (field : List ℕ → Reading (A × List ℕ)) (entries : A → List ℕ) (none : A) (f : List ℕ) (start n : ℕ) where
   -- after k of the lists: these are read, their rows are marked, and the others are read from the place `at` on
@@ -74,7 +74,7 @@ module _ {A : Type 0} (field : List ℕ → Reading (A × List ℕ)) (entries : 
       where
         joined : (x : A) (ls : List A) (r : Reading (List A × List ℕ)) → (r then (λ xs rest. accepted (x ∷ xs, rest)) then (λ xs rest. accepted (ls ++ xs, rest))) ≡ (r then (λ xs rest. accepted ((ls ++ x ∷ []) ++ xs, rest)))
         joined x ls (accepted (xs, rest)) = ap (λ z. accepted (z, rest)) (sym (append-assoc ls (x ∷ []) xs))
-        joined x ls (turned m) = refl
+        joined x ls (refused m) = refl
 
 -- ---- a section: its count, the lists, and then the count against the sum of their lengths. The lists take their entries and as
 -- many length bytes as `heads` says, so that the sum shows in the place behind them.

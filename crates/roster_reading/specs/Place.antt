@@ -11,7 +11,7 @@ use lib.Dec.{T, ltb, lt→ltb}
 use mir.Syntax.{w8}
 use mir.Val.{Fits}
 use Rattle.lists.specs.Test.{given, and-i}
-use Rattle.model.specs.Reading.{Reading, accepted, turned}
+use Rattle.model.specs.Reading.{Reading, accepted, refused}
 use Rattle.theory_files.specs.Reads.{isBytes, bytes-rest, Reads}
 use Rattle.roster_reading.specs.declared.Section.{Section}
 use Rattle.roster_reading.specs.declared.Section.the-variants as section
@@ -19,7 +19,7 @@ use Rattle.roster_reading.specs.declared.Section.the-variants as section
 -- the code's answer for a reading of the file
 abbrev pub placed : {A : Type 0} → List ℕ → Reading (A × List ℕ) → Section
 placed f (accepted (a, rest)) = section.Read (length f - length rest)
-placed f (turned n) = section.Refused n
+placed f (refused n) = section.Refused n
 
 abbrev isRead : Section → Bool
 isRead (section.Read n) = true
@@ -40,9 +40,9 @@ pub refused-not-read {ℓ} : {C : Type ℓ} {n m : ℕ} → section.Refused m �
 refused-not-read e = read-not (sym e)
 
 -- a refusal is the model's
-pub place-refused : {A : Type 0} (f : List ℕ) (r : Reading (A × List ℕ)) {n : ℕ} → section.Refused n ≡ placed f r → r ≡ turned n
+pub place-refused : {A : Type 0} (f : List ℕ) (r : Reading (A × List ℕ)) {n : ℕ} → section.Refused n ≡ placed f r → r ≡ refused n
 place-refused f (accepted (a, rest)) e = refused-not-read e
-place-refused f (turned m) e = ap (λ s. turned (numberOf s)) (sym e)
+place-refused f (refused m) e = ap (λ s. refused (numberOf s)) (sym e)
 
 -- ---- what is read, at its place
 pub record Found {A : Type 0} (read : List ℕ → Reading (A × List ℕ)) (write : A → List ℕ) (P : A → Type 0) (f : List ℕ) (at next : ℕ) : Type 0 where
@@ -66,7 +66,7 @@ pub place-read : {A : Type 0} {read : List ℕ → Reading (A × List ℕ)} {wri
 place-read {A} {read} {write} {P} R f at {next} t h e = go (read (drop at f)) refl e
   where
     go : (r : Reading (A × List ℕ)) → read (drop at f) ≡ r → section.Read next ≡ placed f r → Found read write P f at next
-    go (turned n) d e = read-not e
+    go (refused n) d e = read-not e
     go (accepted (a, rest)) d e =
         given (R .back (drop at f) a rest (bytes-drop at f t) d) (λ (w, p).
         let n : next ≡ length f - length rest = ap placeOf e in

@@ -10,10 +10,10 @@ use lib.Seq.{take-suc, take-all, getD-set-same, getD-set-other}
 use Rattle.lists.specs.Test.{given, by-eq}
 use Rattle.lists.specs.Keep.{any-append}
 use lib.Dec.{eqb}
-use Rattle.model.specs.Reading.{Reading, accepted, turned, _then_, byte, readEach}
+use Rattle.model.specs.Reading.{Reading, accepted, refused, _then_, byte, readEach}
 use Rattle.model.specs.Roster.{elem}
 use Rattle.model.specs.RosterFile.{entryCheck, tiedCheck, Tie, readTied}
-use Rattle.theory_files.specs.Reads.{turned-not, then-read, read-value}
+use Rattle.theory_files.specs.Reads.{refused-not, then-read, read-value}
 use Rattle.roster_reading.specs.declared.Section.{Section}
 use Rattle.roster_reading.specs.declared.Section.the-variants as section
 use Rattle.roster_reading.specs.Place.{placed}
@@ -77,8 +77,8 @@ pub record Marked {A : Type 0} (read : List ℕ → Reading (A × List ℕ)) (sh
   pub marks : (a : A) (rest : List ℕ) → read (drop at f) ≡ accepted (a, rest) → shows after a
 
 module _ {A : Type 0} {read : List ℕ → Reading (A × List ℕ)} {shows : List Bool → A → Type 0} {f : List ℕ} {at : ℕ} {after : List Bool} where
-  pub marked-refused : {n : ℕ} → read (drop at f) ≡ turned n → Marked read shows f at (section.Refused n) after
-  marked-refused e = record { place = sym (ap (placed f) e); marks = λ a rest d. turned-not (sym e ∙ d) }
+  pub marked-refused : {n : ℕ} → read (drop at f) ≡ refused n → Marked read shows f at (section.Refused n) after
+  marked-refused e = record { place = sym (ap (placed f) e); marks = λ a rest d. refused-not (sym e ∙ d) }
 
   pub marked-as : {r r′ : Section} → r ≡ r′ → Marked read shows f at r after → Marked read shows f at r′ after
   marked-as e m = subst (λ z. Marked read shows f at z after) e m
@@ -97,7 +97,7 @@ marked-map {A} {B} read g {shows} {f} {at} {r} {after} m = record {
   where
     same : (x : Reading (A × List ℕ)) → placed f x ≡ placed f (x then (λ a rest. accepted (g a, rest)))
     same (accepted (a, rest)) = refl
-    same (turned n) = refl
+    same (refused n) = refl
 
 -- a part that is checked
 pub marked-part : {S : Type 0} (check : S → ℕ → ℕ) (next : S → ℕ → S) (s : S) (seen f : List ℕ) (at n e m : ℕ) (after : List Bool) → at ≤ length f → e ≡ partEnd (length f) at n

@@ -9,7 +9,7 @@ use lib.Seq.{getD-drop, drop-cons}
 use lib.Dec.{T, leb, leb→le}
 use Rattle.lists.specs.Test.{given, and-l}
 use Rattle.model.specs.Limits.{nodeLimit}
-use Rattle.model.specs.Reading.{Reading, accepted, _then_, turned, whole}
+use Rattle.model.specs.Reading.{Reading, accepted, _then_, refused, whole}
 use Rattle.model.specs.Roster.{Ranking, Roster, totalS, totalT, listFits, rankingFits, bothOrNeither}
 use Rattle.model.specs.RosterFile.{readNodes, readList, readRanking, readSection, oneSided, readRoster}
 use Rattle.theory_files.specs.Reads.{isBytes}
@@ -45,7 +45,7 @@ nodes-found f at {next} isB h e = given (place-read nodes f at isB h e) (λ x.
 -- ---- the file as a whole: the code answers its end, where it is accepted
 abbrev pub closed : List ℕ → Reading Roster → Section
 closed f (accepted R) = section.Read (length f)
-closed f (turned n) = section.Refused n
+closed f (refused n) = section.Refused n
 
 -- the two sections of lists, behind the nodes of both sides
 abbrev finish : (qs qt : List ℕ) → List (List ℕ) → List Ranking → List ℕ → Reading (Roster × List ℕ)
@@ -108,7 +108,7 @@ module _ (ns nt : ℕ) (f : List ℕ) (at : ℕ) where
           → closed f (oneSided (whole (readLists qs qt (drop at f)))) ≡ cond (bothOrNeither (here qs qt)) (section.Read (length f)) (section.Refused 8)
       closes l qs qt a b = ap (λ r. closed f (oneSided (whole r))) (read qs qt a b ∙ ap ((λ bs. accepted (here qs qt, bs))) (drop-of-length-le f l)) ∙ branch (bothOrNeither (here qs qt))
         where
-          branch : (c : Bool) → closed f (cond c (accepted (here qs qt)) (turned 8)) ≡ cond c (section.Read (length f)) (section.Refused 8)
+          branch : (c : Bool) → closed f (cond c (accepted (here qs qt)) (refused 8)) ≡ cond c (section.Read (length f)) (section.Refused 8)
           branch true = refl
           branch false = refl
 
@@ -142,8 +142,8 @@ module _ (f : List ℕ) {a : ℕ} (ns : Nodes f 0 a) where
 -- ---- what the file's end says of its reading
 pub closed-accepted : {A : Type 0} (f : List ℕ) (x : Reading Roster) {n : ℕ} (g : Reading Roster → A) {a : A} → ((R : Roster) → g (accepted R) ≡ a) → section.Read n ≡ closed f x → g x ≡ a
 closed-accepted f (accepted R) g h e = h R
-closed-accepted f (turned m) g h e = read-not e
+closed-accepted f (refused m) g h e = read-not e
 
-pub closed-turned : (f : List ℕ) (x : Reading Roster) {n : ℕ} → section.Refused n ≡ closed f x → x ≡ turned n
-closed-turned f (accepted R) e = refused-not-read e
-closed-turned f (turned m) e = ap turned (sym (ap numberOf e))
+pub closed-refused : (f : List ℕ) (x : Reading Roster) {n : ℕ} → section.Refused n ≡ closed f x → x ≡ refused n
+closed-refused f (accepted R) e = refused-not-read e
+closed-refused f (refused m) e = ap refused (sym (ap numberOf e))

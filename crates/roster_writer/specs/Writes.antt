@@ -9,7 +9,7 @@ use lib.Seq.{take-length}
 use lib.Dec.{T, ltb}
 use borrow.Author.Tests.{lt-ltb, le-ltb}
 use Rattle.model.specs.Limits.{rosterSize}
-use Rattle.model.specs.Reading.{Reading, accepted, turned}
+use Rattle.model.specs.Reading.{Reading, accepted, refused}
 use Rattle.model.specs.Refusal.{groupOf}
 use Rattle.model.specs.Roster.{Roster}
 use Rattle.model.specs.RosterFile.{readRoster, writeRoster}
@@ -25,17 +25,17 @@ use Rattle.answers.specs.declared.Written.the-variants.{Wrote, Refused}
 
 -- the roster to write, or the refusal: 15 comes before what the file meets
 abbrev pub toWrite : (file out : List ℕ) → Reading Roster
-toWrite file out = cond (ltb (length out) rosterSize) (turned 15) (readRoster file)
+toWrite file out = cond (ltb (length out) rosterSize) (refused 15) (readRoster file)
 
 -- the answer's case, for each case of that
 abbrev pub answered : Reading Roster → Written
 answered (accepted r) = Wrote (length (writeRoster r))
-answered (turned n) = Refused n (groupCase (groupOf n))
+answered (refused n) = Refused n (groupCase (groupOf n))
 
 -- the buffer's bytes: a refusal leaves them all
 abbrev pub left : Reading Roster → List ℕ → List ℕ
 left (accepted r) out = writeRoster r ++ drop (length (writeRoster r)) out
-left (turned n) out = out
+left (refused n) out = out
 
 pub record RosterWritten (file out : List ℕ) (r : Written) (after : List ℕ) : Type 0 where
   pub reply : r ≡ answered (toWrite file out)
@@ -48,7 +48,7 @@ written answer.Accepted = Wrote 0
 written (answer.Refused n g) = Refused n g
 
 module _ (file out : List ℕ) where
-  refused-as : (n : ℕ) → toWrite file out ≡ turned n → RosterWritten file out (Refused n (groupCase (groupOf n))) out
+  refused-as : (n : ℕ) → toWrite file out ≡ refused n → RosterWritten file out (Refused n (groupCase (groupOf n))) out
   refused-as n e = record { reply = sym (ap answered e); buffer = sym (ap (λ x. left x out) e) }
 
   pub short : (g : Group) → length out < rosterSize → groupShown g ≡ groupOf 15 → RosterWritten file out (Refused 15 g) out

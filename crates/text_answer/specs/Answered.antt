@@ -7,7 +7,8 @@ use lib.ListN.{length, drop}
 use Rattle.lists.specs.Keep.{gather}
 use Rattle.model.specs.Text.{text}
 use Rattle.model.specs.Refusal.{groupOf}
-use Rattle.model.specs.Reading.{Reading, accepted, turned}
+use Rattle.model.specs.Reading as reading
+use Rattle.model.specs.Reading.{Reading, accepted}
 use Rattle.model.specs.Roster.{Roster}
 use Rattle.model.specs.Edges.{instanceOf}
 use Rattle.model.specs.Instance.{Instance}
@@ -61,5 +62,5 @@ answered {a} {flat} {left} {plan} {rival} w = record {
 pub answered-text : (x : Reading Roster) {a : Found} {flat left plan rival before after : List ℕ} {n : ℕ}
     → HandedFor x a flat left plan rival → Answered a flat left plan rival before n after → Wrote (answerText x (chosen .rivalOf)) before n after
 answered-text (accepted r) h w = w .found (instanceOf r) (F.finderOf (instanceOf r) (chosen .rivalOf (instanceOf r))) h
-answered-text (turned k) {a} {before = before} {after = after} {n = n} h w =
+answered-text (reading.refused k) {a} {before = before} {after = after} {n = n} h w =
     subst (λ g. Wrote (line (text "refused" ∷ number k ∷ groupWord g ∷ [])) before n after) (shown-case (groupOf k)) (w .refused k (groupCase (groupOf k)) (shows-found a h))

@@ -6,7 +6,7 @@ use mathlib.Core.List.{List, [], _∷_, _++_, append-assoc}
 use lib.ListN.{length, length-map}
 use Rattle.lists.specs.Keep.{gather}
 use Rattle.model.specs.Text.{text}
-use Rattle.model.specs.Reading.{Reading, accepted, turned}
+use Rattle.model.specs.Reading.{Reading, accepted, refused}
 use Rattle.model.specs.Roster.{Roster}
 use Rattle.model.specs.Edges.{instanceOf}
 use Rattle.model.specs.Instance.{Instance}
@@ -45,7 +45,7 @@ pub record Handed (G : Instance) (f : F.Found) (a : Found) (flat left plan rival
 -- for a roster file as it is read: what the finder hands over for the roster, or the refusal
 abbrev pub HandedFor : Reading Roster → Found → (flat left plan rival : List ℕ) → Type 0
 HandedFor (accepted r) a flat left plan rival = Handed (instanceOf r) (F.finderOf (instanceOf r) (chosen .rivalOf (instanceOf r))) a flat left plan rival
-HandedFor (turned n) a flat left plan rival = foundShown a ≡ refusal n
+HandedFor (refused n) a flat left plan rival = foundShown a ≡ refusal n
 
 -- ---- its text
 -- a word and a count as one line

@@ -10,7 +10,7 @@ use Rattle.lists.specs.Test.{and-l, and-r, and-i}
 use Rattle.lists.specs.Sum.{_∈_, range, range-length}
 use Rattle.lists.specs.Keep.{gather, keep}
 use Rattle.model.specs.Limits.{nodeLimit, entryLimit, planLimit, planSize, diarySize, leftSize, inputSize}
-use Rattle.model.specs.Reading.{Reading, accepted, turned}
+use Rattle.model.specs.Reading.{Reading, accepted, refused}
 use Rattle.model.specs.Roster.{Roster, fits, surveyorCount, standCount, listed}
 use Rattle.model.specs.RosterFile.{readRoster}
 use Rattle.model.specs.Edges.{Edge, edgesOf, pairEdge, instanceOf}
@@ -101,11 +101,11 @@ module _ (r : Roster) (ok : T (fits r)) where
 pub file-printable : (x : Reading Roster) → ((r : Roster) → x ≡ accepted r → T (fits r)) → (a : Found) (flat left plan rival : List ℕ)
     → 4 * diarySize ≤ length flat → leftSize ≤ length left → planSize ≤ length plan → planSize ≤ length rival → HandedFor x a flat left plan rival → Printable a flat left plan rival
 file-printable (accepted r) ok a flat left plan rival d l p v h = handed-printable (steps-fit r (ok r refl)) d l p v (finderOf (instanceOf r) (chosen .rivalOf (instanceOf r))) (found-small r (ok r refl)) h
-file-printable (turned n) ok a flat left plan rival d l p v h = subst (λ k. Printable k flat left plan rival) (sym (shows-found a h)) tt
+file-printable (refused n) ok a flat left plan rival d l p v h = subst (λ k. Printable k flat left plan rival) (sym (shows-found a h)) tt
 
 pub answer-length : (x : Reading Roster) → ((r : Roster) → x ≡ accepted r → T (fits r)) → length (answerText x (chosen .rivalOf)) ≤ textSize
 answer-length (accepted r) h = text-length (instanceOf r) (finderOf (instanceOf r) (chosen .rivalOf (instanceOf r))) (steps-fit r (h r refl)) (found-small r (h r refl))
-answer-length (turned n) h = refused-length n
+answer-length (refused n) h = refused-length n
 
 -- so a buffer of so many bytes holds whatever is printed
 pub printed-length : (input : List ℕ) → T (isBytes input) → length (printed (chosen .rivalOf) input) ≤ textSize

@@ -11,14 +11,14 @@ use lib.ListN.{length, take, drop, take-append-drop}
 use lib.Seq.{length-take-le, take-all}
 use lib.Dec.{T, eqb, ltb, nltb→le}
 use Rattle.model.specs.Limits.{nodeLimit, entryLimit, rosterSize, inputSize}
-use Rattle.model.specs.Reading.{Reading, accepted, turned, _then_, refuseIf, refuseBy, byte, twoBytes, readEach, whole}
+use Rattle.model.specs.Reading.{Reading, accepted, refused, _then_, refuseIf, refuseBy, byte, twoBytes, readEach, whole}
 use Rattle.model.specs.Roster.{Ranking, Roster, totalS, totalT}
 use Rattle.model.specs.RosterFile.{readCount, readWideCount, quotaCheck, readQuotas, readNodes, entryCheck, readEntries, tiedCheck, readTied, readList, readRanking, readMany, readSection, readSections, oneSided, readRoster}
 
 -- a reading of some bytes, and of the same with more behind them: both refuse alike, or both give the same and the rest, of which no more
 -- than k bytes are gone
 data Alike {A : Type 0} (k : ℕ) (P : A → Type 0) (bs tail : List ℕ) (short long : Reading (A × List ℕ)) : Type 0 where
-  stops : (n : ℕ) → short ≡ turned n → long ≡ turned n → Alike k P bs tail short long
+  stops : (n : ℕ) → short ≡ refused n → long ≡ refused n → Alike k P bs tail short long
   goes : (a : A) (rest : List ℕ) → P a → short ≡ accepted (a, rest) → long ≡ accepted (a, rest ++ tail) → length bs ≤ length rest + k → Alike k P bs tail short long
 
 abbrev Reaches : {A : Type 0} → ℕ → (A → Type 0) → (List ℕ → Reading (A × List ℕ)) → Type 0

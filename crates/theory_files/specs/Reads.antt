@@ -8,7 +8,7 @@ use lib.ListN.{length, getD}
 use lib.Dec.{T, ltb, lt→ltb}
 use Rattle.lists.specs.Test.{given, and-r, and-i}
 use Rattle.lists.specs.Keep.{all?, gather, All}
-use Rattle.model.specs.Reading.{Reading, accepted, turned, _then_, refuseIf, refuseBy, byte, twoBytes, readEach, whole}
+use Rattle.model.specs.Reading.{Reading, accepted, refused, _then_, refuseIf, refuseBy, byte, twoBytes, readEach, whole}
 pub use Rattle.model.specs.Reading.{isBytes}
 
 pub bytes-are : (bs : List ℕ) → ((i : ℕ) → getD bs i 0 < 256) → T (isBytes bs)
@@ -19,20 +19,20 @@ bytes-are (b ∷ bs) h = and-i (ltb b 256) (isBytes bs) (lt→ltb b 256 (h 0)) (
 module _ {A : Type 0} where
   abbrev valueIn : A → Reading A → A
   valueIn d (accepted a) = a
-  valueIn d (turned n) = d
+  valueIn d (refused n) = d
 
   abbrev isAccepted : Reading A → Bool
   isAccepted (accepted a) = true
-  isAccepted (turned n) = false
+  isAccepted (refused n) = false
 
   pub accepted-value : {a b : A} → accepted a ≡ accepted b → a ≡ b
   accepted-value {a} e = ap (valueIn a) e
 
-  pub turned-not {ℓ} : {C : Type ℓ} {n : ℕ} {a : A} → _≡_ {A = Reading A} (turned n) (accepted a) → C
-  turned-not e = absurd (subst (λ r. T (not (isAccepted r))) e tt)
+  pub refused-not {ℓ} : {C : Type ℓ} {n : ℕ} {a : A} → _≡_ {A = Reading A} (refused n) (accepted a) → C
+  refused-not e = absurd (subst (λ r. T (not (isAccepted r))) e tt)
 
   pub refuse-read : (b : Bool) (n : ℕ) {r : Reading A} {a : A} → refuseIf b n r ≡ accepted a → T (not b) × (r ≡ accepted a)
-  refuse-read true n e = turned-not e
+  refuse-read true n e = refused-not e
   refuse-read false n e = (tt, e)
 
   pub refuse-no : (b : Bool) (n : ℕ) (r : Reading A) → T (not b) → refuseIf b n r ≡ r
@@ -49,21 +49,21 @@ module _ {A : Type 0} where
 
   pub whole-accepted : (r : Reading (A × List ℕ)) {a : A} → whole r ≡ accepted a → r ≡ accepted (a, [])
   whole-accepted (accepted (a, [])) e = ap (λ z. accepted (z, [])) (accepted-value e)
-  whole-accepted (accepted (a, x ∷ bs)) e = turned-not e
-  whole-accepted (turned n) e = turned-not e
+  whole-accepted (accepted (a, x ∷ bs)) e = refused-not e
+  whole-accepted (refused n) e = refused-not e
 
 pub then-read : {A B : Type 0} (r : Reading (A × List ℕ)) (f : A → List ℕ → Reading (B × List ℕ)) {b : B} {bs : List ℕ} → (r then f) ≡ accepted (b, bs)
     → (a : A) × (mid : List ℕ) × (r ≡ accepted (a, mid)) × (f a mid ≡ accepted (b, bs))
 then-read (accepted (a, mid)) f e = (a, mid, refl, e)
-then-read (turned n) f e = turned-not e
+then-read (refused n) f e = refused-not e
 
 pub byte-read : (bs : List ℕ) {x : ℕ} {rest : List ℕ} → byte bs ≡ accepted (x, rest) → bs ≡ x ∷ rest
-byte-read [] e = turned-not e
+byte-read [] e = refused-not e
 byte-read (y ∷ bs) e = ap₂ (λ z zs. z ∷ zs) (read-value e) (read-rest e)
 
 pub twoBytes-read : (bs : List ℕ) {w : ℕ × ℕ} {rest : List ℕ} → twoBytes bs ≡ accepted (w, rest) → bs ≡ w .0 ∷ w .1 ∷ rest
-twoBytes-read [] e = turned-not e
-twoBytes-read (x ∷ []) e = turned-not e
+twoBytes-read [] e = refused-not e
+twoBytes-read (x ∷ []) e = refused-not e
 twoBytes-read (x ∷ y ∷ bs) e = ap₂ (λ (w : ℕ × ℕ) zs. w .0 ∷ w .1 ∷ zs) (read-value e) (read-rest e)
 
 -- ---- the agreement
@@ -81,7 +81,7 @@ rest-bytes cs rest e t = bytes-rest cs rest (subst (λ z. T (isBytes z)) e t)
 
 pub refuseBy-read : {A : Type 0} (n : ℕ) {r : Reading (A × List ℕ)} {a : A} {bs : List ℕ} → refuseBy n r ≡ accepted (a, bs) → (n ≡ 0) × (r ≡ accepted (a, bs))
 refuseBy-read zero e = (refl, e)
-refuseBy-read (suc n) e = turned-not e
+refuseBy-read (suc n) e = refused-not e
 
 pub refuseBy-no : {A : Type 0} (n : ℕ) (r : Reading (A × List ℕ)) → n ≡ 0 → refuseBy n r ≡ r
 refuseBy-no zero r e = refl

@@ -10,10 +10,10 @@ use lib.Dec.{T, eqb, leb, leb→le, eqb→eq}
 use Rattle.lists.specs.Test.{given, T-true, true-T, and-l, and-r, and-i, eq→eqb}
 use Rattle.lists.specs.Keep.{all?, gather}
 use Rattle.model.specs.Limits.{nodeLimit, entryLimit, rosterSize}
-use Rattle.model.specs.Reading.{Reading, accepted, _then_, turned, whole}
+use Rattle.model.specs.Reading.{Reading, accepted, _then_, refused, whole}
 use Rattle.model.specs.Roster.{Ranking, Roster, surveyorCount, standCount, totalS, totalT, quotasFit, listFits, rankingFits, bothOrNeither, fits}
 use Rattle.model.specs.RosterFile.{readNodes, readList, readRanking, readSection, readSections, oneSided, readRoster, wideBytes, listBytes, rankingBytes, writeRoster}
-use Rattle.theory_files.specs.Reads.{isBytes, rest-bytes, read-value, read-rest, then-read, accepted-value, turned-not, whole-accepted}
+use Rattle.theory_files.specs.Reads.{isBytes, rest-bytes, read-value, read-rest, then-read, accepted-value, refused-not, whole-accepted}
 use Rattle.theory_files.specs.Sections.{nodes, list, ranking, SectionFits, section}
 
 -- ---- the four sections
@@ -126,10 +126,10 @@ parts-fit r (a, b, (c, d, e), (f, g, h)) n =
 one-sided : (x : Reading Roster) {r : Roster} → oneSided x ≡ accepted r → (x ≡ accepted r) × T (bothOrNeither r)
 one-sided (accepted q) e = go (bothOrNeither q) refl e
   where
-    go : {r : Roster} (b : Bool) → bothOrNeither q ≡ b → cond b (accepted q) (turned 8) ≡ accepted r → (accepted q ≡ accepted r) × T (bothOrNeither r)
+    go : {r : Roster} (b : Bool) → bothOrNeither q ≡ b → cond b (accepted q) (refused 8) ≡ accepted r → (accepted q ≡ accepted r) × T (bothOrNeither r)
     go true h e = (e, true-T (ap bothOrNeither (sym (accepted-value e)) ∙ h))
-    go false h e = turned-not e
-one-sided (turned n) e = turned-not e
+    go false h e = refused-not e
+one-sided (refused n) e = refused-not e
 
 sections-of : (bs : List ℕ) (r : Roster) → readRoster bs ≡ accepted r → (readSections bs ≡ accepted (r, [])) × T (bothOrNeither r)
 unfolding readRoster
@@ -151,7 +151,7 @@ write-read r t =
     given (fits-parts r t) (λ (p, n).
     ap (λ z. oneSided (whole (readSections z))) (sym (append-nil (writeRoster r)))
     ∙ ap (λ x. oneSided (whole x)) (sections-forth r [] p)
-    ∙ ap (λ b. cond b (accepted r) (turned 8)) (T-true {b = bothOrNeither r} n))
+    ∙ ap (λ b. cond b (accepted r) (refused 8)) (T-true {b = bothOrNeither r} n))
 
 -- ---- "The longest roster has 2,214 bytes."
 pub lists-size : (ls : List (List ℕ)) → length (gather listBytes ls) ≡ length ls + totalS ls

@@ -6,7 +6,7 @@ use mathlib.Core.List.{List}
 use lib.ListN.{length}
 use lib.Dec.{T, eqb, ltb}
 use Rattle.lists.specs.Test.{given, and-l, and-i, eq→eqb}
-use Rattle.model.specs.Reading.{Reading, accepted, turned}
+use Rattle.model.specs.Reading.{Reading, accepted, refused}
 use Rattle.model.specs.Roster.{Roster, fits}
 use Rattle.model.specs.RosterFile.{readRoster}
 use Rattle.model.specs.Edges.{instanceOf}
@@ -41,7 +41,7 @@ roster-sound h file t s = go (readRoster file) refl
   where
     go : (x : Reading Roster) → readRoster file ≡ x → T (sound (withRoster h x))
     go (accepted r) e = read-fits file r t e
-    go (turned n) e = s
+    go (refused n) e = s
 
 -- a plan that is read against a roster within the limits
 plan-sound : (h : Held) (r : Roster) (file : List ℕ) → T (isBytes file) → T (fits r) → T (sound h) → T (sound (withPlan h r (readPlan (instanceOf r) file)))
@@ -52,7 +52,7 @@ plan-sound h r file t f s = go (readPlan (instanceOf r) file) refl
     go (accepted M) e = given (plan-read-within (instanceOf r) file M t e) (λ m.
         and-i (fits r) (eqb (length M) (instanceOf r .m) && within (instanceOf r) (on M)) f
         (and-i (eqb (length M) (instanceOf r .m)) (within (instanceOf r) (on M)) (eq→eqb (length M) (instanceOf r .m) (plan-length (instanceOf r) m)) (plan-within (instanceOf r) m)))
-    go (turned n) e = s
+    go (refused n) e = s
 
 -- a call that leaves the desk alike, refused by the state or not
 alike : (b : Bool) (h : Held) → T (sound h) → T (sound (cond b h h))

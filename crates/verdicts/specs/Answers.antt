@@ -7,7 +7,7 @@ use mathlib.Core.List.{List}
 use lib.ListN.{length}
 use lib.Dec.{ltb}
 use Rattle.model.specs.Limits.{planSize}
-use Rattle.model.specs.Reading.{Reading, accepted, turned}
+use Rattle.model.specs.Reading.{Reading, accepted, refused}
 use Rattle.model.specs.Refusal.{groupOf}
 use Rattle.model.specs.Roster.{Roster}
 use Rattle.model.specs.RosterFile.{readRoster}
@@ -23,23 +23,23 @@ use Rattle.answers.specs.declared.Verdict.the-variants.{Strong, Popular, Beaten
 -- ---- the plan to judge with its instance, or the refusal: of the plan, of the roster, 15
 abbrev pub withPlan : Instance → Reading Plan → Reading (Instance × Plan)
 withPlan G (accepted M) = accepted (G, M)
-withPlan G (turned n) = turned n
+withPlan G (refused n) = refused n
 
 abbrev pub planAsked : Reading Roster → List ℕ → Reading (Instance × Plan)
-planAsked (turned n) file = turned n
+planAsked (refused n) file = refused n
 planAsked (accepted R) file = withPlan (instanceOf R) (readPlan (instanceOf R) file)
 
 abbrev pub toJudge : (out : List ℕ) → Reading (Instance × Plan) → Reading (Instance × Plan)
-toJudge out x = cond (ltb (length out) planSize) (turned 15) x
+toJudge out x = cond (ltb (length out) planSize) (refused 15) x
 
 -- ---- the answer and the buffer's bytes, for each case of that
 abbrev pub replied : Reading (Instance × Plan) → Verdict
 replied (accepted (G, M)) = weighedAs G M (verdictOf G M)
-replied (turned n) = Refused n (groupCase (groupOf n))
+replied (refused n) = Refused n (groupCase (groupOf n))
 
 abbrev pub left : Reading (Instance × Plan) → List ℕ → List ℕ
 left (accepted (G, M)) out = rivalWritten G M (verdictOf G M) out
-left (turned n) out = out
+left (refused n) out = out
 
 pub record JudgedBy (x : Reading (Instance × Plan)) (out : List ℕ) (r : Verdict) (after : List ℕ) : Type 0 where
   pub reply : r ≡ replied x

@@ -10,7 +10,7 @@ use borrow.Author.Tests.{lt-ltb, le-ltb}
 use Rattle.lists.specs.Test.{given}
 use Rattle.lists.specs.Sum.{range}
 use Rattle.model.specs.Limits.{planSize}
-use Rattle.model.specs.Reading.{accepted, turned}
+use Rattle.model.specs.Reading.{accepted, refused}
 use Rattle.model.specs.Refusal.{groupOf}
 use Rattle.model.specs.RosterFile.{readRoster}
 use Rattle.model.specs.Instance as model
@@ -75,7 +75,7 @@ module _ (g : Instance) (file : List ℕ) (r : PlanRead) (A : ReadFor (g .m) (g 
 
     pub judged-refused : {n : ℕ} (k : Group) → r .answer ≡ plan.Refused n → groupShown k ≡ groupOf n → JudgedFor roster file out (Refused n k) out
     judged-refused {n} k q e =
-        let z : withPlan G (readPlan G file) ≡ turned n = ap (withPlan G) (refused-read here q) in
+        let z : withPlan G (readPlan G file) ≡ refused n = ap (withPlan G) (refused-read here q) in
         for-roster (record { reply = ap (Refused n) (shows-case k e) ∙ sym (ap replied z); buffer = sym (ap (λ x. left x out) z) })
 
     pub judged-weighed : {n : ℕ} {v : Verdict} {after : List ℕ} → r .answer ≡ plan.Accepted n → T (isBytes file) → WeighedFor G (r .chosen) out v after → JudgedFor roster file out v after
@@ -88,12 +88,12 @@ module _ (g : Instance) (file : List ℕ) (r : PlanRead) (A : ReadFor (g .m) (g 
 module _ (roster file out : List ℕ) where
   pub too-short : (k : Group) → length out < planSize → groupShown k ≡ groupOf 15 → VerdictGiven roster file out (Refused 15 k) out
   too-short k h e =
-      let z : toJudge out (planAsked (readRoster roster) file) ≡ turned 15 = ap (λ (t : Bool). cond t (turned 15) (planAsked (readRoster roster) file)) (lt-ltb (length out) planSize h) in
+      let z : toJudge out (planAsked (readRoster roster) file) ≡ refused 15 = ap (λ (t : Bool). cond t (refused 15) (planAsked (readRoster roster) file)) (lt-ltb (length out) planSize h) in
       record { reply = ap (Refused 15) (shows-case k e) ∙ sym (ap replied z); buffer = sym (ap (λ x. left x out) z) }
 
   module _ (h : planSize ≤ length out) where
     asked : toJudge out (planAsked (readRoster roster) file) ≡ planAsked (readRoster roster) file
-    asked = ap (λ (t : Bool). cond t (turned 15) (planAsked (readRoster roster) file)) (le-ltb (length out) planSize h)
+    asked = ap (λ (t : Bool). cond t (refused 15) (planAsked (readRoster roster) file)) (le-ltb (length out) planSize h)
 
     abbrev handed : FileAnswer → Verdict
     handed answer.Accepted = Refused 0 (groupCase (groupOf 0))
@@ -102,7 +102,7 @@ module _ (roster file out : List ℕ) where
     pub roster-refused : {n : ℕ} {k : Group} → answer.Refused n k ≡ fileCase (readRoster roster) → VerdictGiven roster file out (Refused n k) out
     roster-refused {n} {k} e =
         let t = case-refused (readRoster roster) e in
-        let z : toJudge out (planAsked (readRoster roster) file) ≡ turned n = asked ∙ ap (λ x. planAsked x file) t in
+        let z : toJudge out (planAsked (readRoster roster) file) ≡ refused n = asked ∙ ap (λ x. planAsked x file) t in
         record { reply = ap handed (e ∙ ap fileCase t) ∙ sym (ap replied z); buffer = sym (ap (λ x. left x out) z) }
 
     pub roster-judged : {v : Verdict} {after : List ℕ} → RosterAccepted roster → JudgedFor roster file out v after → VerdictGiven roster file out v after
