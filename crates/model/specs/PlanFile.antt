@@ -1,6 +1,7 @@
--- Plan bytes, read against the instance of a roster, whose edges differ in their pairs and are numbered in the pairs' order, and
--- written: "a count byte 0 to 64, then two bytes a pair (surveyor, stand), ascending by
--- surveyor, then by stand. Every pair is in the roster and no quota is passed."
+-- Plan bytes, read against the instance of a roster and written: "a count byte 0 to 64, then two bytes a pair (surveyor, stand),
+-- ascending by surveyor, then by stand. Every pair is in the roster and no quota is passed." An edge stands for its pair: the edges of a
+-- roster differ in their pairs and are numbered in the pairs' order, so that 10, 11 and 12, said of edges here, are the same said of
+-- pairs (theory_files, plan-refusals).
 use Prim.Native.Nat.{ℕ, suc}
 use mathlib.Core.Bool.{Bool, cond, _&&_, _||_}
 use mathlib.Core.List.{List, [], _∷_, _++_, map}

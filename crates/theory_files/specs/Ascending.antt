@@ -101,7 +101,7 @@ module _ (r : Roster) where
       })))
 
 -- later in the list is later in the order
-later : (es : List Edge) → Ascends es → (d e : ℕ) → d < e → e < length es → Before (edgeAt es d) (edgeAt es e)
+pub later : (es : List Edge) → Ascends es → (d e : ℕ) → d < e → e < length es → Before (edgeAt es d) (edgeAt es e)
 later [] a d e h k = absurd (not-suc-le-zero k)
 later (x ∷ xs) a zero zero h k = absurd (not-suc-le-zero h)
 later (x ∷ xs) a zero (suc e) h k = a .0 (edgeAt xs e) (getD-∈ xs e noEdge (omega arith))

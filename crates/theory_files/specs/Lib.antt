@@ -11,3 +11,4 @@ pub mod Entries
 pub mod Sections
 pub mod Rosters
 pub mod Reach
+pub mod PairRefusals

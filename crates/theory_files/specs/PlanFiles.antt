@@ -40,11 +40,11 @@ module _ (G : Instance) where
   abbrev pairOf : ℕ → ℕ × ℕ
   pairOf e = (suc (G .sv e), suc (G .st e))
 
-  abbrev names : ℕ × ℕ → ℕ → Bool
+  abbrev pub names : ℕ × ℕ → ℕ → Bool
   names p e = eqb (suc (G .sv e)) (p .0) && eqb (suc (G .st e)) (p .1)
 
   -- the edge that is found has the pair's numbers
-  found-is : (p : ℕ × ℕ) → edgeOfPair G p < G .m → (suc (G .sv (edgeOfPair G p)) ≡ p .0) × (suc (G .st (edgeOfPair G p)) ≡ p .1)
+  pub found-is : (p : ℕ × ℕ) → edgeOfPair G p < G .m → (suc (G .sv (edgeOfPair G p)) ≡ p .0) × (suc (G .st (edgeOfPair G p)) ≡ p .1)
   unfolding edgeOfPair
   found-is p h =
       let t = low-is (names p) (G .m) .2 h in
