@@ -104,14 +104,16 @@ P2 = record { bytes = 1 ∷ 0 ∷ 1 ∷ 1 ∷ 1 ∷ 0 ∷ 1 ∷ 1 ∷ 1 ∷ 0 �
 abbrev P3 : Case
 P3 = record {
   bytes = 2 ∷ 1 ∷ 1 ∷ 1 ∷ 1 ∷ 2 ∷ 0 ∷ 1 ∷ 1 ∷ 1 ∷ 1 ∷ 2 ∷ 0 ∷ 2 ∷ 0 ∷ 1 ∷ 2 ∷ [];
-  claims = prints "fix 1 1 1\nstrike 2 1 2\nplan 1\n1 1\n" ∷ strongOnes 1 ∷ votes (1 ∷ 1 ∷ 1 ∷ []) (1 ∷ 2 ∷ 1 ∷ []) (pos 1) ∷ judged (1 ∷ 2 ∷ 1 ∷ []) beaten ∷ [];
+  claims = prints "fix 1 1 1\nstrike 2 1 2\nplan 1\n1 1\n" ∷ strongOnes 1 ∷ votes (1 ∷ 1 ∷ 1 ∷ []) (1 ∷ 2 ∷ 1 ∷ []) (pos 1)
+      ∷ judged (1 ∷ 2 ∷ 1 ∷ []) beaten ∷ [];
 }
 
 -- "P4 a tie of surveyors 1 and 2 at one stand: candidate 1-1, rivalled by 2-1 with vote 0. Verdict on 1-1: popular."
 abbrev P4 : Case
 P4 = record {
   bytes = 2 ∷ 1 ∷ 1 ∷ 1 ∷ 1 ∷ 2 ∷ 0 ∷ 1 ∷ 1 ∷ 1 ∷ 1 ∷ 2 ∷ 0 ∷ 0 ∷ 2 ∷ 1 ∷ 2 ∷ [];
-  claims = prints "fix 1 1 6\nstrike 2 1 2\nnone rivalled 0\ncandidate 1\n1 1\nrival 1\n2 1\n" ∷ strongOnes 0 ∷ judged (1 ∷ 1 ∷ 1 ∷ []) popular ∷ blocked (1 ∷ 1 ∷ 1 ∷ []) false ∷ [];
+  claims = prints "fix 1 1 6\nstrike 2 1 2\nnone rivalled 0\ncandidate 1\n1 1\nrival 1\n2 1\n" ∷ strongOnes 0
+      ∷ judged (1 ∷ 1 ∷ 1 ∷ []) popular ∷ blocked (1 ∷ 1 ∷ 1 ∷ []) false ∷ [];
 }
 
 -- "P5 P4 with stand quota 2: both fixed by rule 3, strong."
@@ -134,7 +136,8 @@ P6 = record {
 abbrev P7 : Case
 P7 = record {
   bytes = 4 ∷ 1 ∷ 1 ∷ 1 ∷ 1 ∷ 1 ∷ 2 ∷ 4 ∷ 0 ∷ 1 ∷ 1 ∷ 1 ∷ 1 ∷ 1 ∷ 1 ∷ 1 ∷ 1 ∷ 4 ∷ 0 ∷ 4 ∷ 0 ∷ 1 ∷ 2 ∷ 3 ∷ 4 ∷ [];
-  claims = standVotes 0 (2 ∷ 1 ∷ 1 ∷ 3 ∷ 1 ∷ []) (2 ∷ 2 ∷ 1 ∷ 4 ∷ 1 ∷ []) (pos 0) ∷ standVotes 0 (2 ∷ 2 ∷ 1 ∷ 4 ∷ 1 ∷ []) (2 ∷ 1 ∷ 1 ∷ 3 ∷ 1 ∷ []) (negsuc 1) ∷ [];
+  claims = standVotes 0 (2 ∷ 1 ∷ 1 ∷ 3 ∷ 1 ∷ []) (2 ∷ 2 ∷ 1 ∷ 4 ∷ 1 ∷ []) (pos 0)
+      ∷ standVotes 0 (2 ∷ 2 ∷ 1 ∷ 4 ∷ 1 ∷ []) (2 ∷ 1 ∷ 1 ∷ 3 ∷ 1 ∷ []) (negsuc 1) ∷ [];
 }
 
 -- "P8 stand quota 3 ranking 1, 2, 3: {1} against {2,3} votes 0 there, not -1."
@@ -181,14 +184,59 @@ P14 = record { bytes = 1 ∷ 9 ∷ []; claims = prints "refused 3 content\n" ∷
 -- rules 4, 5 and 6 in turn, with outputs from the reference: N(s) of surveyor 1 is too large; 1-2 has no arrow at a firm stand; N(s) of
 -- surveyor 2 is too small
 abbrev P15 : Case
-P15 = record { bytes = 3 ∷ 1 ∷ 2 ∷ 2 ∷ 3 ∷ 1 ∷ 1 ∷ 1 ∷ 4 ∷ 0 ∷ 3 ∷ 2 ∷ 1 ∷ 3 ∷ 0 ∷ 1 ∷ 2 ∷ 4 ∷ 0 ∷ 0 ∷ 1 ∷ 1 ∷ 0 ∷ 2 ∷ 1 ∷ 3 ∷ 0 ∷ 1 ∷ 1 ∷ []; claims = prints "strike 1 3 4\nfix 3 2 6\nstrike 1 2 2\nfix 1 1 3\nplan 2\n1 1\n3 2\n" ∷ strongOnes 1 ∷ [] }
+P15 = record {
+  bytes = 3 ∷ 1 ∷ 2 ∷ 2 ∷ 3 ∷ 1 ∷ 1 ∷ 1 ∷ 4 ∷ 0 ∷ 3 ∷ 2 ∷ 1 ∷ 3 ∷ 0 ∷ 1 ∷ 2 ∷ 4 ∷ 0 ∷ 0 ∷ 1 ∷ 1 ∷ 0 ∷ 2 ∷ 1 ∷ 3 ∷ 0 ∷ 1 ∷ 1 ∷ [];
+  claims = prints "strike 1 3 4\nfix 3 2 6\nstrike 1 2 2\nfix 1 1 3\nplan 2\n1 1\n3 2\n" ∷ strongOnes 1 ∷ [];
+}
 
 abbrev P16 : Case
-P16 = record { bytes = 3 ∷ 1 ∷ 2 ∷ 1 ∷ 2 ∷ 1 ∷ 1 ∷ 4 ∷ 0 ∷ 2 ∷ 1 ∷ 2 ∷ 0 ∷ 2 ∷ 1 ∷ 2 ∷ 4 ∷ 0 ∷ 0 ∷ 2 ∷ 1 ∷ 3 ∷ 2 ∷ 0 ∷ 3 ∷ 1 ∷ []; claims = prints "strike 1 2 5\nfix 1 1 6\nstrike 3 1 2\nfix 3 2 1\nplan 2\n1 1\n3 2\n" ∷ strongOnes 1 ∷ [] }
+P16 = record {
+  bytes = 3 ∷ 1 ∷ 2 ∷ 1 ∷ 2 ∷ 1 ∷ 1 ∷ 4 ∷ 0 ∷ 2 ∷ 1 ∷ 2 ∷ 0 ∷ 2 ∷ 1 ∷ 2 ∷ 4 ∷ 0 ∷ 0 ∷ 2 ∷ 1 ∷ 3 ∷ 2 ∷ 0 ∷ 3 ∷ 1 ∷ [];
+  claims = prints "strike 1 2 5\nfix 1 1 6\nstrike 3 1 2\nfix 3 2 1\nplan 2\n1 1\n3 2\n" ∷ strongOnes 1 ∷ [];
+}
 
 abbrev P17 : Case
-P17 = record { bytes = 3 ∷ 1 ∷ 2 ∷ 2 ∷ 2 ∷ 2 ∷ 1 ∷ 3 ∷ 0 ∷ 2 ∷ 2 ∷ 1 ∷ 1 ∷ 2 ∷ 0 ∷ 3 ∷ 0 ∷ 0 ∷ 1 ∷ 1 ∷ 0 ∷ 2 ∷ 1 ∷ 2 ∷ []; claims = prints "fix 2 2 6\nstrike 1 2 2\nfix 1 1 3\nplan 2\n1 1\n2 2\n" ∷ strongOnes 1 ∷ [] }
+P17 = record {
+  bytes = 3 ∷ 1 ∷ 2 ∷ 2 ∷ 2 ∷ 2 ∷ 1 ∷ 3 ∷ 0 ∷ 2 ∷ 2 ∷ 1 ∷ 1 ∷ 2 ∷ 0 ∷ 3 ∷ 0 ∷ 0 ∷ 1 ∷ 1 ∷ 0 ∷ 2 ∷ 1 ∷ 2 ∷ [];
+  claims = prints "fix 2 2 6\nstrike 1 2 2\nfix 1 1 3\nplan 2\n1 1\n2 2\n" ∷ strongOnes 1 ∷ [];
+}
 
 pub cases : Each True (P1 ∷ P2 ∷ P3 ∷ P4 ∷ P5 ∷ P6 ∷ P7 ∷ P8 ∷ P9 ∷ P10 ∷ P11 ∷ P12 ∷ P13 ∷ P14 ∷ P15 ∷ P16 ∷ P17 ∷ [])
 unfolding count low text groupOf listed listedBack bothOrNeither readEach readRoster position edgesOf instanceOf deg nodeVote vote choices within plansOf samePlan beatenBy drawnWith verdictOf strongPlans cut ahead arrow loose reserved betterS betterT worseReserved rule1 rule2 rule3 rule4 rule5 rule6 rule7 act rules first orElse Option·elim stepBy firstStep begin stepsFrom stateAfter stepsOf endOf planBytes edgeOfPair readPlan diaryOf leftOf candidateOf finderOf blocks someBlocks digits printed
-cases = ((refl, ((refl, refl), ((refl, refl), tt))), ((refl, ((refl, refl), tt)), ((refl, ((refl, refl), ((refl, refl), ((refl, refl), tt)))), ((refl, ((refl, refl), ((refl, refl), ((refl, refl), tt)))), ((refl, ((refl, refl), ((refl, refl), tt))), ((refl, ((refl, refl), ((refl, refl), ((refl, refl), ((refl, refl), tt))))), (((refl, refl), ((refl, refl), tt)), (((refl, refl), tt), (((refl, refl), tt), ((refl, ((refl, refl), ((refl, refl), tt))), ((refl, ((refl, refl), tt)), ((refl, ((refl, refl), tt)), ((refl, tt), ((refl, tt), ((refl, ((refl, refl), tt)), ((refl, ((refl, refl), tt)), ((refl, ((refl, refl), tt)), tt)))))))))))))))))
+cases = (
+  (refl, ((refl, refl), ((refl, refl), tt))),
+  (
+    (refl, ((refl, refl), tt)),
+    (
+      (refl, ((refl, refl), ((refl, refl), ((refl, refl), tt)))),
+      (
+        (refl, ((refl, refl), ((refl, refl), ((refl, refl), tt)))),
+        (
+          (refl, ((refl, refl), ((refl, refl), tt))),
+          (
+            (refl, ((refl, refl), ((refl, refl), ((refl, refl), ((refl, refl), tt))))),
+            (
+              ((refl, refl), ((refl, refl), tt)),
+              (
+                ((refl, refl), tt),
+                (
+                  ((refl, refl), tt),
+                  (
+                    (refl, ((refl, refl), ((refl, refl), tt))),
+                    (
+                      (refl, ((refl, refl), tt)),
+                      (
+                        (refl, ((refl, refl), tt)),
+                        ((refl, tt), ((refl, tt), ((refl, ((refl, refl), tt)), ((refl, ((refl, refl), tt)), ((refl, ((refl, refl), tt)), tt))))),
+                      ),
+                    ),
+                  ),
+                ),
+              ),
+            ),
+          ),
+        ),
+      ),
+    ),
+  ),
+)

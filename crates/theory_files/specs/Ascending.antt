@@ -56,7 +56,8 @@ module _ (r : Roster) where
     pub is : x ≡ pairEdge r i j
 
   row-∈ : (i k n : ℕ) (x : Edge) → x ∈ row i (range k n) → (x .surveyor ≡ i) × (k ≤ x .stand)
-  row-∈ i k n x m = given (gather-∈ (one i) (range k n) m) (λ (j, mj, mx). given (one-∈ i j x mx) (λ (t, e). (ap (λ z. z .surveyor) e, subst (λ z. k ≤ z .stand) (sym e) (∈-range n k mj .0))))
+  row-∈ i k n x m = given (gather-∈ (one i) (range k n) m)
+      (λ (j, mj, mx). given (one-∈ i j x mx) (λ (t, e). (ap (λ z. z .surveyor) e, subst (λ z. k ≤ z .stand) (sym e) (∈-range n k mj .0))))
 
   one-ascends : (i j : ℕ) → Ascends (one i j)
   one-ascends i j = go (listed r i j)
@@ -75,7 +76,8 @@ module _ (r : Roster) where
   rows k n = gather (λ i. row i (range 0 (standCount r))) (range k n)
 
   rows-∈ : (k n : ℕ) (x : Edge) → x ∈ rows k n → k ≤ x .surveyor
-  rows-∈ k n x m = given (gather-∈ (λ i. row i (range 0 (standCount r))) (range k n) m) (λ (i, mi, mx). given (row-∈ i 0 (standCount r) x mx) (λ (s, h). subst (λ z. k ≤ z) (sym s) (∈-range n k mi .0)))
+  rows-∈ k n x m = given (gather-∈ (λ i. row i (range 0 (standCount r))) (range k n) m)
+      (λ (i, mi, mx). given (row-∈ i 0 (standCount r) x mx) (λ (s, h). subst (λ z. k ≤ z) (sym s) (∈-range n k mi .0)))
 
   rows-ascend : (k n : ℕ) → Ascends (rows k n)
   rows-ascend k zero = tt

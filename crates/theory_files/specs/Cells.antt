@@ -22,8 +22,11 @@ Within k xs = All (λ x. (0 < x) × (x ≤ k)) xs
 pub within : (count k : ℕ) → count ≤ k → (xs : List ℕ) → T (all? (λ x. not (outside count x)) xs) → Within k xs
 within count k h [] t = tt
 within count k h (x ∷ xs) t =
-    let a = and-l (not (outside count x)) (all? (λ x. not (outside count x)) xs) t in
-    ((some x (nor-l (eqb x 0) (ltb count x) a), given (nltb→le count x (nor-r (eqb x 0) (ltb count x) a)) (λ l. omega arith)), within count k h xs (and-r (not (outside count x)) (all? (λ x. not (outside count x)) xs) t))
+    let a = and-l (not (outside count x)) (all? (λ x. not (outside count x)) xs) t in (
+      (some x (nor-l (eqb x 0) (ltb count x) a), given (nltb→le count x (nor-r (eqb x 0) (ltb count x) a)) (λ l. omega arith)),
+      within count k h xs
+          (and-r (not (outside count x)) (all? (λ x. not (outside count x)) xs) t),
+    )
   where
     some : (x : ℕ) → T (not (eqb x 0)) → 0 < x
     some zero n = absurd n
@@ -40,11 +43,15 @@ within-front k (x ∷ xs) ys w = (w .0, within-front k xs ys (w .1))
 
 module _ (r : Roster) (ok : T (fits r)) where
   pub list-within : (k i : ℕ) → standCount r ≤ k → i < surveyorCount r → Within k (listS r i)
-  list-within k i h l = within (standCount r) k h (listS r i) (and-l (all? (λ x. not (outside (standCount r) x)) (listS r i)) (distinct (listS r i)) (and-r (leb (length (listS r i)) (standCount r)) _ (list-fits r ok i l)))
+  list-within k i h l = within (standCount r) k h (listS r i)
+      (and-l (all? (λ x. not (outside (standCount r) x)) (listS r i)) (distinct (listS r i))
+      (and-r (leb (length (listS r i)) (standCount r)) _ (list-fits r ok i l)))
 
   pub strict-within : (k j : ℕ) → surveyorCount r ≤ k → j < standCount r → Within k (listT r j .strict)
   strict-within k j h l = within-front k (listT r j .strict) (listT r j .tied)
-      (within (surveyorCount r) k h (entries (listT r j)) (and-l (all? (λ x. not (outside (surveyorCount r) x)) (entries (listT r j))) (distinct (entries (listT r j))) (and-r (leb (length (entries (listT r j))) (surveyorCount r)) _ (entries-fit r ok j l))))
+      (within (surveyorCount r) k h (entries (listT r j))
+      (and-l (all? (λ x. not (outside (surveyorCount r) x)) (entries (listT r j))) (distinct (entries (listT r j)))
+      (and-r (leb (length (entries (listT r j))) (surveyorCount r)) _ (entries-fit r ok j l))))
 
   -- a surveyor lists no stand behind the last
   pub listed-none : (i j : ℕ) → i < surveyorCount r → standCount r ≤ j → listed r i j ≡ false
@@ -76,7 +83,8 @@ module _ (r : Roster) (ok : T (fits r)) where
       let ns = surveyorCount r in
       ap (λ z. map g (keep q (range z (ns * w)))) (none w)
       ∙ grid q g (listed r) (pairEdge r) w 0 ns (λ i j a b c. f i j (omega arith) c)
-      ∙ gather-cong (λ i. gather (one i) (range 0 w)) (λ i. gather (one i) (range 0 (standCount r))) (range 0 ns) (λ i m. row w i h (given (∈-range ns 0 m .1) (λ k. omega arith)))
+      ∙ gather-cong (λ i. gather (one i) (range 0 w)) (λ i. gather (one i) (range 0 (standCount r))) (range 0 ns)
+      (λ i m. row w i h (given (∈-range ns 0 m .1) (λ k. omega arith)))
     where
       none : (w : ℕ) → 0 ≡ 0 * w
       none w = omega arith

@@ -63,7 +63,8 @@ fresh→ seen (x ∷ xs) t =
 →fresh : (seen xs : List ℕ) → T (apart seen xs) → T (distinct xs) → T (fresh seen xs)
 →fresh seen [] a d = tt
 →fresh seen (x ∷ xs) a d = and-i (not (elem x seen)) (fresh (seen ++ x ∷ []) xs) (and-l (not (elem x seen)) (apart seen xs) a)
-    (→fresh (seen ++ x ∷ []) xs (snoc-apart seen x xs (and-r (not (elem x seen)) (apart seen xs) a) (and-l (not (elem x xs)) (distinct xs) d)) (and-r (not (elem x xs)) (distinct xs) d))
+    (→fresh (seen ++ x ∷ []) xs (snoc-apart seen x xs (and-r (not (elem x seen)) (apart seen xs) a) (and-l (not (elem x xs)) (distinct xs) d))
+    (and-r (not (elem x xs)) (distinct xs) d))
 
 apart-none : (xs : List ℕ) → T (apart [] xs)
 apart-none [] = tt
@@ -78,7 +79,8 @@ distinct-fresh xs d = →fresh [] xs (apart-none xs) d
 -- the two parts of a stand's list, read one after the other
 pub fresh-append : (seen xs ys : List ℕ) → fresh seen (xs ++ ys) ≡ fresh seen xs && fresh (seen ++ xs) ys
 fresh-append seen [] ys = ap (λ z. fresh z ys) (sym (append-nil seen))
-fresh-append seen (x ∷ xs) ys = go (not (elem x seen)) (fresh-append (seen ++ x ∷ []) xs ys ∙ ap (λ z. fresh (seen ++ x ∷ []) xs && fresh z ys) (append-assoc seen (x ∷ []) xs))
+fresh-append seen (x ∷ xs) ys =
+    go (not (elem x seen)) (fresh-append (seen ++ x ∷ []) xs ys ∙ ap (λ z. fresh (seen ++ x ∷ []) xs && fresh z ys) (append-assoc seen (x ∷ []) xs))
   where
     go : (b : Bool) → fresh (seen ++ x ∷ []) (xs ++ ys) ≡ fresh (seen ++ x ∷ []) xs && fresh (seen ++ x ∷ xs) ys
         → b && fresh (seen ++ x ∷ []) (xs ++ ys) ≡ (b && fresh (seen ++ x ∷ []) xs) && fresh (seen ++ x ∷ xs) ys
@@ -100,14 +102,18 @@ quotas→ so [] h p = (tt, omega arith)
 quotas→ so (q ∷ qs) h p =
     given (cond-zero (ltb quotaLimit q || ltb quotaSumLimit (so + q)) 2 (p .0)) (λ (t, z).
     given (nltb→le quotaSumLimit (so + q) (nor-r (ltb quotaLimit q) (ltb quotaSumLimit (so + q)) t)) (λ s.
-    given (quotas→ (so + q) qs s (p .1)) (λ (a, k).
-    (and-i (leb q quotaLimit) (small qs) (le→leb q quotaLimit (nltb→le quotaLimit q (nor-l (ltb quotaLimit q) (ltb quotaSumLimit (so + q)) t))) a, omega arith))))
+    given (quotas→ (so + q) qs s (p .1)) (λ (a, k). (
+      and-i (leb q quotaLimit) (small qs)
+          (le→leb q quotaLimit (nltb→le quotaLimit q (nor-l (ltb quotaLimit q) (ltb quotaSumLimit (so + q)) t))) a,
+      omega arith,
+    ))))
 
 pub →quotas : (so : ℕ) (qs : List ℕ) → T (small qs) → so + sum (λ q. q) qs ≤ quotaSumLimit → QuotasPass so qs
 →quotas so [] a k = tt
 →quotas so (q ∷ qs) a k = (
   zero-cond (ltb quotaLimit q || ltb quotaSumLimit (so + q)) 2
-      (nor-i (ltb quotaLimit q) (ltb quotaSumLimit (so + q)) (le→nltb quotaLimit q (leb→le q quotaLimit (and-l (leb q quotaLimit) (small qs) a))) (le→nltb quotaSumLimit (so + q) (omega arith))) refl,
+      (nor-i (ltb quotaLimit q) (ltb quotaSumLimit (so + q)) (le→nltb quotaLimit q (leb→le q quotaLimit (and-l (leb q quotaLimit) (small qs) a)))
+      (le→nltb quotaSumLimit (so + q) (omega arith))) refl,
   →quotas (so + q) qs (and-r (leb q quotaLimit) (small qs) a) (omega arith),
 )
 
@@ -126,7 +132,8 @@ entries→ other seen (x ∷ xs) p =
 pub →entries : (other : ℕ) (seen xs : List ℕ) → T (inRange other xs) → T (fresh seen xs) → EntriesPass other seen xs
 →entries other seen [] r f = tt
 →entries other seen (x ∷ xs) r f = (
-  zero-cond (outside other x) 3 (and-l (not (outside other x)) (inRange other xs) r) (zero-cond (elem x seen) 4 (and-l (not (elem x seen)) (fresh (seen ++ x ∷ []) xs) f) refl),
+  zero-cond (outside other x) 3 (and-l (not (outside other x)) (inRange other xs) r)
+      (zero-cond (elem x seen) 4 (and-l (not (elem x seen)) (fresh (seen ++ x ∷ []) xs) f) refl),
   →entries other (seen ++ x ∷ []) xs (and-r (not (outside other x)) (inRange other xs) r) (and-r (not (elem x seen)) (fresh (seen ++ x ∷ []) xs) f),
 )
 
@@ -152,5 +159,6 @@ pub →tied : (other : ℕ) (s : Tie) (xs : List ℕ) → T (inRange other xs) �
   zero-cond (outside other x) 3 (and-l (not (outside other x)) (inRange other xs) r)
       (zero-cond (elem x (s .seen)) 4 (and-l (not (elem x (s .seen))) (fresh (s .seen ++ x ∷ []) xs) f)
       (zero-cond (leb x (s .last)) 5 (lt→nleb x (s .last) (ltb→lt (s .last) x (and-l (ltb (s .last) x) (ascending x xs) u))) refl)),
-  →tied other (record { seen = s .seen ++ x ∷ []; last = x }) xs (and-r (not (outside other x)) (inRange other xs) r) (and-r (not (elem x (s .seen))) (fresh (s .seen ++ x ∷ []) xs) f) (and-r (ltb (s .last) x) (ascending x xs) u),
+  →tied other (record { seen = s .seen ++ x ∷ []; last = x }) xs (and-r (not (outside other x)) (inRange other xs) r)
+      (and-r (not (elem x (s .seen))) (fresh (s .seen ++ x ∷ []) xs) f) (and-r (ltb (s .last) x) (ascending x xs) u),
 )

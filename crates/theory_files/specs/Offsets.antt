@@ -53,7 +53,8 @@ offsets f r e =
     let behind = listSection ++ rankingSection r in
     given (sym e) (λ (d₀ : drop 0 f ≡ length qs ∷ (qs ++ (listBytes qt ++ behind))).
     given (tail-is f 0 (length qs) (qs ++ (listBytes qt ++ behind)) d₀) (λ d₁.
-    given (ap (λ k. drop k f) (one (length qs)) ∙ rest-is f 1 (length qs) qs (listBytes qt ++ behind) d₁ refl) (λ (d₂ : drop (length qs + 1) f ≡ listBytes qt ++ behind).
+    given (ap (λ k. drop k f) (one (length qs)) ∙ rest-is f 1 (length qs) qs (listBytes qt ++ behind) d₁ refl)
+    (λ (d₂ : drop (length qs + 1) f ≡ listBytes qt ++ behind).
     given (ap (λ k. drop k f) (two (length qs)) ∙ tail-is f (length qs + 1) (length qt) (qt ++ behind) d₂) (λ (d₃ : drop (length qs + 2) f ≡ qt ++ behind).
     given (rest-is f (length qs + 2) (length qt) qt behind d₃ refl) (λ d₄.
     record {
@@ -76,4 +77,5 @@ offsets f r e =
 
 -- behind the surveyors' lists the stands' follow, after their count
 pub rankings-from : (f : List ℕ) (r : Roster) (at : ℕ) → drop at f ≡ rankingSection r → drop (at + 2) f ≡ gather rankingBytes (r .listsT) ++ []
-rankings-from f r at e = rest-is f at 2 (wideBytes (totalT (r .listsT))) (gather rankingBytes (r .listsT)) e refl ∙ sym (append-nil (gather rankingBytes (r .listsT)))
+rankings-from f r at e = rest-is f at 2 (wideBytes (totalT (r .listsT))) (gather rankingBytes (r .listsT)) e refl
+    ∙ sym (append-nil (gather rankingBytes (r .listsT)))

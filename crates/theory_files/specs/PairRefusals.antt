@@ -144,17 +144,21 @@ module _ (G : Instance) where
         ∙ ap₂ (λ a b. ltb (K .quota a) (suc b)) j (seen-is qs k (K .end e) ∙ ap (λ n. sum (λ q. bit (eqb (number q) n)) qs) i)
       where
         one-more : (a b : ℕ) → leb a b ≡ ltb a (suc b)
-        one-more a b = bool-eq (leb a b) (ltb a (suc b)) (λ t. given (leb→le a b t) (λ h. lt→ltb a (suc b) (omega arith))) (λ t. given (ltb→lt a (suc b) t) (λ h. le→leb a b (omega arith)))
+        one-more a b = bool-eq (leb a b) (ltb a (suc b)) (λ t. given (leb→le a b t) (λ h. lt→ltb a (suc b) (omega arith)))
+            (λ t. given (ltb→lt a (suc b) t) (λ h. le→leb a b (omega arith)))
 
   -- ---- the check is document 01's
   pub check-is : Numbered G → (qs : List (ℕ × ℕ)) → Known qs → (p : ℕ × ℕ) → pairCheck G (after qs) p ≡ refusalOf qs p
   check-is N qs k p = by-cases (decLt (edgeOfPair G p) (G .m))
-      (λ h. ap₂ (λ a b. cond a 10 (cond b 11 (cond (full (surveyors G) (after qs .seen) (edgeOfPair G p) || full (stands G) (after qs .seen) (edgeOfPair G p)) 12 0)))
+      (λ h. ap₂ (λ a b. cond a 10 (cond b 11
+      (cond (full (surveyors G) (after qs .seen) (edgeOfPair G p) || full (stands G) (after qs .seen) (edgeOfPair G p)) 12 0)))
       (lt-leb (G .m) (edgeOfPair G p) h ∙ sym (ap not (T-true {b = inRoster p} (found-in p h)))) (ascends-is N qs k p h)
       ∙ ap₂ (λ a b. cond (not (inRoster p)) 10 (cond (not (aboveLast qs p)) 11 (cond (a || b) 12 0)))
       (past-is (surveyors G) (λ q. q .0) (λ q l. found-is G q l .0) qs k p h) (past-is (stands G) (λ q. q .1) (λ q l. found-is G q l .1) qs k p h))
-      (λ n. ap (λ a. cond a 10 (cond (ltb e (s .from)) 11 (cond (full (surveyors G) (s .seen) e || full (stands G) (s .seen) e) 12 0))) (le-leb (G .m) e (omega arith))
-      ∙ sym (ap (λ a. cond (not a) 10 (cond (not (aboveLast qs p)) 11 (cond (pastS qs p || pastT qs p) 12 0))) (T-false {b = inRoster p} (not-T (inRoster p) (λ t. n (in-found p t))))))
+      (λ n. ap (λ a. cond a 10 (cond (ltb e (s .from)) 11 (cond (full (surveyors G) (s .seen) e || full (stands G) (s .seen) e) 12 0)))
+      (le-leb (G .m) e (omega arith))
+      ∙ sym (ap (λ a. cond (not a) 10 (cond (not (aboveLast qs p)) 11 (cond (pastS qs p || pastT qs p) 12 0)))
+      (T-false {b = inRoster p} (not-T (inRoster p) (λ t. n (in-found p t))))))
     where
       e : ℕ
       e = edgeOfPair G p
@@ -162,5 +166,6 @@ module _ (G : Instance) where
       s : Pairs
       s = after qs
 
-pub plan-refusals : (r : Roster) (qs : List (ℕ × ℕ)) → All (λ q. T (inRoster (instanceOf r) q)) qs → (p : ℕ × ℕ) → pairCheck (instanceOf r) (after (instanceOf r) qs) p ≡ refusalOf (instanceOf r) qs p
+pub plan-refusals : (r : Roster) (qs : List (ℕ × ℕ)) → All (λ q. T (inRoster (instanceOf r) q)) qs → (p : ℕ × ℕ)
+    → pairCheck (instanceOf r) (after (instanceOf r) qs) p ≡ refusalOf (instanceOf r) qs p
 plan-refusals r = check-is (instanceOf r) (roster-numbered r)

@@ -48,15 +48,19 @@ module _ (G : Instance) where
   unfolding edgeOfPair
   found-is p h =
       let t = low-is (names p) (G .m) .2 h in
-      let e = edgeOfPair G p in
-      (eqb→eq (suc (G .sv e)) (p .0) (and-l (eqb (suc (G .sv e)) (p .0)) (eqb (suc (G .st e)) (p .1)) t), eqb→eq (suc (G .st e)) (p .1) (and-r (eqb (suc (G .sv e)) (p .0)) (eqb (suc (G .st e)) (p .1)) t))
+      let e = edgeOfPair G p in (
+        eqb→eq (suc (G .sv e)) (p .0) (and-l (eqb (suc (G .sv e)) (p .0)) (eqb (suc (G .st e)) (p .1)) t),
+        eqb→eq (suc (G .st e)) (p .1)
+            (and-r (eqb (suc (G .sv e)) (p .0)) (eqb (suc (G .st e)) (p .1)) t),
+      )
 
   found : Fileable G → (e : ℕ) → e < G .m → edgeOfPair G (pairOf e) ≡ e
   unfolding edgeOfPair
   found F e h =
       let l = low-is (names (pairOf e)) (G .m) in
       let d = edgeOfPair G (pairOf e) in
-      let t : T (names (pairOf e) e) = and-i (eqb (suc (G .sv e)) (suc (G .sv e))) (eqb (suc (G .st e)) (suc (G .st e))) (eqb-refl (suc (G .sv e))) (eqb-refl (suc (G .st e))) in
+      let t : T (names (pairOf e) e) =
+      and-i (eqb (suc (G .sv e)) (suc (G .sv e))) (eqb (suc (G .st e)) (suc (G .st e))) (eqb-refl (suc (G .sv e))) (eqb-refl (suc (G .st e))) in
       by-cases (decLt d (G .m))
       (λ k. given (found-is (pairOf e) k) (λ (s, u). F .differ d e k h (pred s) (pred u)))
       (λ n. absurd (T-not (names (pairOf e) e) (l .1 e (omega arith)) t))
@@ -71,7 +75,9 @@ module _ (G : Instance) where
   edges ps = map (edgeOfPair G) ps
 
   -- ---- what the check of a pair says, and what it asks
-  passed : (s : Pairs) (p : ℕ × ℕ) → pairCheck G s p ≡ 0 → (edgeOfPair G p < G .m) × (s .from ≤ edgeOfPair G p) × T (not (full (surveyors G) (s .seen) (edgeOfPair G p))) × T (not (full (stands G) (s .seen) (edgeOfPair G p)))
+  passed : (s : Pairs) (p : ℕ × ℕ) → pairCheck G s p ≡ 0
+      → (edgeOfPair G p < G .m) × (s .from ≤ edgeOfPair G p) × T (not (full (surveyors G) (s .seen) (edgeOfPair G p)))
+      × T (not (full (stands G) (s .seen) (edgeOfPair G p)))
   passed s p e =
       let d = edgeOfPair G p in
       let a = full (surveyors G) (s .seen) d in
@@ -79,9 +85,12 @@ module _ (G : Instance) where
       given (cond-zero (leb (G .m) d) 9 e) (λ (t, e₁). given (cond-zero (ltb d (s .from)) 10 e₁) (λ (u, e₂). given (cond-zero (a || b) 11 e₂) (λ (v, z).
       (nleb→lt (G .m) d t, nltb→le d (s .from) u, nor-l a b v, nor-r a b v))))
 
-  passes : (s : Pairs) (p : ℕ × ℕ) → edgeOfPair G p < G .m → s .from ≤ edgeOfPair G p → T (not (full (surveyors G) (s .seen) (edgeOfPair G p))) → T (not (full (stands G) (s .seen) (edgeOfPair G p))) → pairCheck G s p ≡ 0
-  passes s p h k a b = zero-cond (leb (G .m) (edgeOfPair G p)) 9 (lt→nleb (G .m) (edgeOfPair G p) h) (zero-cond (ltb (edgeOfPair G p) (s .from)) 10 (le→nltb (edgeOfPair G p) (s .from) k)
-      (zero-cond (full (surveyors G) (s .seen) (edgeOfPair G p) || full (stands G) (s .seen) (edgeOfPair G p)) 11 (nor-i (full (surveyors G) (s .seen) (edgeOfPair G p)) (full (stands G) (s .seen) (edgeOfPair G p)) a b) refl))
+  passes : (s : Pairs) (p : ℕ × ℕ) → edgeOfPair G p < G .m → s .from ≤ edgeOfPair G p → T (not (full (surveyors G) (s .seen) (edgeOfPair G p)))
+      → T (not (full (stands G) (s .seen) (edgeOfPair G p))) → pairCheck G s p ≡ 0
+  passes s p h k a b = zero-cond (leb (G .m) (edgeOfPair G p)) 9 (lt→nleb (G .m) (edgeOfPair G p) h)
+      (zero-cond (ltb (edgeOfPair G p) (s .from)) 10 (le→nltb (edgeOfPair G p) (s .from) k)
+      (zero-cond (full (surveyors G) (s .seen) (edgeOfPair G p) || full (stands G) (s .seen) (edgeOfPair G p)) 11
+      (nor-i (full (surveyors G) (s .seen) (edgeOfPair G p)) (full (stands G) (s .seen) (edgeOfPair G p)) a b) refl))
 
   passes-from : (s : Pairs) (ps : List (ℕ × ℕ)) → PairsPass s ps → From (s .from) (edges ps) × Below (G .m) (edges ps)
   passes-from s [] k = (tt, tt)
@@ -99,18 +108,35 @@ module _ (G : Instance) where
 
   one-more : (K : Side) (seen : List ℕ) (e : ℕ) → Fits K seen → T (not (full K seen e)) → Fits K (seen ++ e ∷ [])
   one-more K seen e f n v = by-eq (K .end e) v
-      (λ q b. omega (arith, sum-append (λ d. bit (eqb (K .end d) v)) seen (e ∷ []), ap bit b, subst (λ u. atNode K u seen < K .quota u) q (nleb→lt (K .quota (K .end e)) (atNode K (K .end e) seen) n)))
+      (λ q b. omega (
+        arith,
+        sum-append (λ d. bit (eqb (K .end d) v)) seen (e ∷ []),
+        ap bit b,
+        subst (λ u. atNode K u seen < K .quota u) q
+            (nleb→lt (K .quota (K .end e)) (atNode K (K .end e) seen) n),
+      ))
       (λ q b. omega (arith, sum-append (λ d. bit (eqb (K .end d) v)) seen (e ∷ []), ap bit b, f v))
 
-  passes-fit : (s : Pairs) (ps : List (ℕ × ℕ)) → Fits (surveyors G) (s .seen) → Fits (stands G) (s .seen) → PairsPass s ps → Fits (surveyors G) (s .seen ++ edges ps) × Fits (stands G) (s .seen ++ edges ps)
+  passes-fit : (s : Pairs) (ps : List (ℕ × ℕ)) → Fits (surveyors G) (s .seen) → Fits (stands G) (s .seen) → PairsPass s ps
+      → Fits (surveyors G) (s .seen ++ edges ps) × Fits (stands G) (s .seen ++ edges ps)
   passes-fit s [] f g k = (subst (Fits (surveyors G)) (sym (append-nil (s .seen))) f, subst (Fits (stands G)) (sym (append-nil (s .seen))) g)
   passes-fit s (p ∷ ps) f g k = given (passed s p (k .0)) (λ (h, l, a, b).
-      given (passes-fit (withPair G s p) ps (one-more (surveyors G) (s .seen) (edgeOfPair G p) f a) (one-more (stands G) (s .seen) (edgeOfPair G p) g b) (k .1)) (λ (x, y).
-      (subst (Fits (surveyors G)) (append-assoc (s .seen) (edgeOfPair G p ∷ []) (edges ps)) x, subst (Fits (stands G)) (append-assoc (s .seen) (edgeOfPair G p ∷ []) (edges ps)) y)))
+      given (passes-fit (withPair G s p) ps (one-more (surveyors G) (s .seen) (edgeOfPair G p) f a)
+      (one-more (stands G) (s .seen) (edgeOfPair G p) g b) (k .1)) (λ (x, y). (
+        subst (Fits (surveyors G)) (append-assoc (s .seen) (edgeOfPair G p ∷ []) (edges ps)) x,
+        subst (Fits (stands G))
+            (append-assoc (s .seen) (edgeOfPair G p ∷ []) (edges ps)) y,
+      )))
 
   room-for : (K : Side) (seen : List ℕ) (e : ℕ) (es : List ℕ) → Fits K (seen ++ e ∷ es) → T (not (full K seen e))
   room-for K seen e es f = lt→nleb (K .quota (K .end e)) (atNode K (K .end e) seen)
-      (omega (arith, f (K .end e), sum-append (λ d. bit (eqb (K .end d) (K .end e))) seen (e ∷ es), ap bit (T-true {b = eqb (K .end e) (K .end e)} (eqb-refl (K .end e)))))
+      (omega (
+        arith,
+        f (K .end e),
+        sum-append (λ d. bit (eqb (K .end d) (K .end e))) seen (e ∷ es),
+        ap bit
+            (T-true {b = eqb (K .end e) (K .end e)} (eqb-refl (K .end e))),
+      ))
 
   -- ---- a plan file is its pairs
   abbrev start : Pairs
@@ -157,7 +183,8 @@ module _ (G : Instance) where
     pub plan-read-write : planBytes G M ≡ bs
     unfolding planBytes
     plan-read-write = given (plan-pairs bs M isB e) (λ X. given (edges-are M (X .ps) (X .passing) (X .plan)) (λ q.
-        ap (λ es. length es ∷ pairList G es) q ∙ ap₂ (λ n zs. n ∷ zs) (length-map (X .ps) (edgeOfPair G)) (pairs-back start (X .ps) (X .passing)) ∙ sym (X .file)))
+        ap (λ es. length es ∷ pairList G es) q ∙ ap₂ (λ n zs. n ∷ zs) (length-map (X .ps) (edgeOfPair G)) (pairs-back start (X .ps) (X .passing))
+        ∙ sym (X .file)))
 
     -- and are a plan within the quotas
     pub plan-read-within : M ∈ plansOf G
@@ -178,14 +205,16 @@ module _ (G : Instance) where
 
     -- at most 129 bytes
     pub plan-accepted-size : length bs ≤ planSize
-    plan-accepted-size = given (plan-pairs bs M isB e) (λ X. given (leb→le (length (X .ps)) planLimit (X .small)) (λ h. subst (λ z. length z ≤ planSize) (sym (X .file)) (omega (arith, two-size (X .ps)))))
+    plan-accepted-size = given (plan-pairs bs M isB e)
+        (λ X. given (leb→le (length (X .ps)) planLimit (X .small)) (λ h. subst (λ z. length z ≤ planSize) (sym (X .file)) (omega (arith, two-size (X .ps)))))
       where
         two-size : (ps : List (ℕ × ℕ)) → length (gather two ps) ≡ 2 * length ps
         two-size [] = refl
         two-size (p ∷ ps) = omega (arith, length-append (two p) (gather two ps), two-size ps)
 
   -- ---- a plan within the quotas, written and read
-  written-passes : Fileable G → (s : Pairs) (es : List ℕ) → From (s .from) es → Below (G .m) es → Fits (surveyors G) (s .seen ++ es) → Fits (stands G) (s .seen ++ es) → PairsPass s (map pairOf es)
+  written-passes : Fileable G → (s : Pairs) (es : List ℕ) → From (s .from) es → Below (G .m) es → Fits (surveyors G) (s .seen ++ es)
+      → Fits (stands G) (s .seen ++ es) → PairsPass s (map pairOf es)
   written-passes F s [] f b x y = tt
   written-passes F s (e ∷ es) f b x y =
       let q = sym (found F e (b .0)) in (
@@ -207,7 +236,8 @@ module _ (G : Instance) where
   )
     where
       once : (e : ℕ) → e < K .m → sum (λ v. bit (eqb (K .end e) v)) (upTo (K .n)) ≡ 1
-      once e h = sum-cong (λ v. bit (eqb (K .end e) v)) (λ v. pk (eqb (K .end e) v) 1) (upTo (K .n)) (λ v m. bit-pk (eqb (K .end e) v)) ∙ sum-one (λ v. 1) (K .n) (K .end e) (inside e h)
+      once e h = sum-cong (λ v. bit (eqb (K .end e) v)) (λ v. pk (eqb (K .end e) v) 1) (upTo (K .n)) (λ v m. bit-pk (eqb (K .end e) v))
+          ∙ sum-one (λ v. 1) (K .n) (K .end e) (inside e h)
 
       each-once : (es : List ℕ) → Below (K .m) es → length es ≡ sum (λ d. sum (λ v. bit (eqb (K .end d) v)) (upTo (K .n))) es
       each-once [] b = refl
@@ -251,11 +281,14 @@ module _ (G : Instance) where
     unfolding readPlan planBytes
     plan-write-read =
         let ps = map pairOf es in
-        let file : length es ∷ pairList G es ≡ (length ps ∷ gather two ps) ++ [] = ap₂ (λ n zs. n ∷ zs) (sym (length-map es pairOf)) (bytes-are es) ∙ sym (append-nil (length ps ∷ gather two ps)) in
+        let file : length es ∷ pairList G es ≡ (length ps ∷ gather two ps) ++ [] = ap₂ (λ n zs. n ∷ zs) (sym (length-map es pairOf)) (bytes-are es)
+        ∙ sym (append-nil (length ps ∷ gather two ps)) in
         let small : T (leb (length ps) planLimit) = le→leb (length ps) planLimit (subst (λ n. n ≤ planLimit) (sym (length-map es pairOf)) plan-few) in
         let pass : PairsPass start ps = written-passes F start es (keep-from (on M) 0 (G .m)) below fitsS fitsT in
         let read = ap (λ bs. readCount planLimit bs then readPairs G) file ∙ pairs .forth ps [] (small, (every-unit ps, pass)) in
-        let back : planOfPairs G ps ≡ M = planOf-cong (G .m) (λ e. elem e (edges ps)) (on M) (λ e h. ap (elem e) (edges-back es below) ∙ elem-edgesIn (G .m) (on M) e h) ∙ planOf-on (G .m) M (plan-length G ok) in
+        let back : planOfPairs G ps ≡ M =
+        planOf-cong (G .m) (λ e. elem e (edges ps)) (on M) (λ e h. ap (elem e) (edges-back es below) ∙ elem-edgesIn (G .m) (on M) e h)
+        ∙ planOf-on (G .m) M (plan-length G ok) in
         ap (λ r. whole (r then (λ ps rest. accepted (planOfPairs G ps, rest)))) read ∙ ap accepted back
 
     -- a plan has at most 129 bytes

@@ -44,7 +44,8 @@ module _ (G : Instance) where
   unfolding readEach
   left-pair n s x y bs ps = out (pairCheck G s (x, y)) (readEach twoBytes (pairCheck G) (withPair G) n (withPair G s (x, y)) bs)
     where
-      out : (c : ℕ) (r : Reading ((List (ℕ × ℕ)) × List ℕ)) → (refuseBy c (r then (λ xs rest. accepted ((x, y) ∷ xs, rest))) then finish ps) ≡ refuseBy c (r then finish (ps ++ (x, y) ∷ []))
+      out : (c : ℕ) (r : Reading ((List (ℕ × ℕ)) × List ℕ))
+          → (refuseBy c (r then (λ xs rest. accepted ((x, y) ∷ xs, rest))) then finish ps) ≡ refuseBy c (r then finish (ps ++ (x, y) ∷ []))
       out zero (accepted (xs, rest)) = ap (λ z. accepted (planOfPairs G z, rest)) (sym (append-snoc ps (x, y) xs))
       out zero (refused k) = refl
       out (suc c) r = refl

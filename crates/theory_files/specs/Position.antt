@@ -33,7 +33,8 @@ unfolding position
 position-out x [] n = refl
 position-out x (y ∷ ys) n = go (eqb x y) (position-out x ys) n
   where
-    go : (b : Bool) → (T (not (elem x ys)) → position x ys ≡ suc (length ys)) → T (not (b || elem x ys)) → cond b 1 (suc (position x ys)) ≡ suc (suc (length ys))
+    go : (b : Bool) → (T (not (elem x ys)) → position x ys ≡ suc (length ys)) → T (not (b || elem x ys))
+        → cond b 1 (suc (position x ys)) ≡ suc (suc (length ys))
     go true ih n = absurd n
     go false ih n = ap suc (ih n)
 

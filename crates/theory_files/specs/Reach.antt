@@ -19,7 +19,8 @@ use Rattle.model.specs.RosterFile.{readCount, readWideCount, quotaCheck, readQu
 -- than k bytes are gone
 data Alike {A : Type 0} (k : ℕ) (P : A → Type 0) (bs tail : List ℕ) (short long : Reading (A × List ℕ)) : Type 0 where
   stops : (n : ℕ) → short ≡ refused n → long ≡ refused n → Alike k P bs tail short long
-  goes : (a : A) (rest : List ℕ) → P a → short ≡ accepted (a, rest) → long ≡ accepted (a, rest ++ tail) → length bs ≤ length rest + k → Alike k P bs tail short long
+  goes : (a : A) (rest : List ℕ) → P a → short ≡ accepted (a, rest) → long ≡ accepted (a, rest ++ tail) → length bs ≤ length rest + k
+      → Alike k P bs tail short long
 
 abbrev Reaches : {A : Type 0} → ℕ → (A → Type 0) → (List ℕ → Reading (A × List ℕ)) → Type 0
 Reaches k P read = (bs tail : List ℕ) → k ≤ length bs → Alike k P bs tail (read bs) (read (bs ++ tail))
@@ -85,7 +86,8 @@ module _ {S A : Type 0} (field : List ℕ → Reading (A × List ℕ)) (check : 
       (reach-then k (k * n) field (λ x rest. refuseBy (check s x) (readEach field check next n (next s x) rest then (λ xs rest. accepted (x ∷ xs, rest)))) r
       (λ x u. reach-by (k * n) (check s x) (λ rest. readEach field check next n (next s x) rest then (λ xs rest. accepted (x ∷ xs, rest)))
       (reach-more (k * n + 0) (k * n) (λ rest. readEach field check next n (next s x) rest then (λ xs rest. accepted (x ∷ xs, rest))) (omega arith)
-      (reach-then (k * n) 0 (readEach field check next n (next s x)) (λ xs rest. accepted (x ∷ xs, rest)) (reach-each n (next s x)) (λ xs e. reach-read (x ∷ xs) (ap suc e))))))
+      (reach-then (k * n) 0 (readEach field check next n (next s x)) (λ xs rest. accepted (x ∷ xs, rest)) (reach-each n (next s x))
+      (λ xs e. reach-read (x ∷ xs) (ap suc e))))))
 
 -- n bytes, at most m
 reach-bytes : {S : Type 0} (check : S → ℕ → ℕ) (next : S → ℕ → S) (m n : ℕ) (s : S) → n ≤ m → Reaches m (λ xs. length xs ≤ m) (readEach byte check next n s)
@@ -93,7 +95,8 @@ reach-bytes check next m n s h = reach-more (1 * n) m (readEach byte check next 
     (reach-so (1 * n) (readEach byte check next n s) (λ xs e. omega arith) (reach-each byte check next 1 reach-byte n s))
 
 reach-count : (limit : ℕ) → Reaches 1 (λ n. n ≤ limit) (readCount limit)
-reach-count limit = reach-then 1 0 byte (λ n rest. refuseIf (ltb limit n) 2 (accepted (n, rest))) reach-byte (λ n u. reach-if 0 (ltb limit n) 2 ((λ bs. accepted (n, bs))) (λ t. reach-read n (nltb→le limit n t)))
+reach-count limit = reach-then 1 0 byte (λ n rest. refuseIf (ltb limit n) 2 (accepted (n, rest))) reach-byte
+    (λ n u. reach-if 0 (ltb limit n) 2 ((λ bs. accepted (n, bs))) (λ t. reach-read n (nltb→le limit n t)))
 
 reach-wide : Reaches 2 any readWideCount
 reach-wide = reach-then 2 0 twoBytes (λ w rest. refuseIf (ltb entryLimit (w .0 + 256 * w .1)) 2 (accepted (w .0 + 256 * w .1, rest))) reach-two
@@ -120,7 +123,8 @@ reach-nodes : Reaches nodesReach (λ qs. length qs ≤ nodeLimit) readNodes
 reach-nodes = reach-then 1 nodeLimit (readCount nodeLimit) readQuotas (reach-count nodeLimit) (λ n h. reach-bytes quotaCheck (λ so q. so + q) nodeLimit n 0 h)
 
 reach-list : (count : ℕ) → count ≤ nodeLimit → Reaches listReach any (readList count count)
-reach-list count h = reach-then 1 nodeLimit (readCount count) (readEntries count) (reach-count count) (λ n l. reach-so nodeLimit (readEntries count n) (λ xs e. tt) (reach-bytes (entryCheck count) (λ seen x. seen ++ x ∷ []) nodeLimit n [] (omega arith)))
+reach-list count h = reach-then 1 nodeLimit (readCount count) (readEntries count) (reach-count count)
+    (λ n l. reach-so nodeLimit (readEntries count n) (λ xs e. tt) (reach-bytes (entryCheck count) (λ seen x. seen ++ x ∷ []) nodeLimit n [] (omega arith)))
 
 module _ (count : ℕ) (h : count ≤ nodeLimit) where
   abbrev ranking : List ℕ → List ℕ → List ℕ → Reading (Ranking × List ℕ)
@@ -135,7 +139,8 @@ module _ (count : ℕ) (h : count ≤ nodeLimit) where
   reach-ranked : (a b : ℕ) → a + b ≤ count → Reaches nodeLimit any (ranked a b)
   reach-ranked a b l = reach-more (a + (b + 0)) nodeLimit (ranked a b) (omega arith)
       (reach-then a (b + 0) (readEntries count a) (tied b) (reach-bytes (entryCheck count) (λ seen x. seen ++ x ∷ []) a a [] (omega arith))
-      (λ xs e. reach-then b 0 (readTied count xs b) (ranking xs) (reach-bytes (tiedCheck count) (λ s x. record { seen = s .seen ++ x ∷ []; last = x }) b b (record { seen = xs; last = 0 }) (omega arith))
+      (λ xs e. reach-then b 0 (readTied count xs b) (ranking xs)
+      (reach-bytes (tiedCheck count) (λ s x. record { seen = s .seen ++ x ∷ []; last = x }) b b (record { seen = xs; last = 0 }) (omega arith))
       (λ ys e. reach-read (record { strict = xs; tied = ys }) tt)))
 
   reach-ranking : Reaches rankingReach any (readRanking count count)
@@ -156,8 +161,12 @@ module _ {A : Type 0} (field : List ℕ → Reading (A × List ℕ)) (total : Li
 reach-sections : Reaches rosterSize any readSections
 reach-sections = reach-then nodesReach (nodesReach + (listsReach + rankingsReach)) readNodes second reach-nodes (λ qs s.
     reach-then nodesReach (listsReach + rankingsReach) readNodes (third qs) reach-nodes (λ qt t.
-    reach-then listsReach rankingsReach (lists qs qt) (fourth qs qt) (reach-more (2 + (listReach * length qs + 0)) listsReach (lists qs qt) (omega arith) (reach-section (readList (length qt) (length qt)) totalS listReach (length qs) (reach-list (length qt) t))) (λ ls u.
-    reach-then rankingsReach 0 (rankings qs qt) (last qs qt ls) (reach-more (2 + (rankingReach * length qt + 0)) rankingsReach (rankings qs qt) (omega arith) (reach-section (readRanking (length qs) (length qs)) totalT rankingReach (length qt) (reach-ranking (length qs) s))) (λ ts u.
+    reach-then listsReach rankingsReach (lists qs qt) (fourth qs qt)
+    (reach-more (2 + (listReach * length qs + 0)) listsReach (lists qs qt) (omega arith)
+    (reach-section (readList (length qt) (length qt)) totalS listReach (length qs) (reach-list (length qt) t))) (λ ls u.
+    reach-then rankingsReach 0 (rankings qs qt) (last qs qt ls)
+    (reach-more (2 + (rankingReach * length qt + 0)) rankingsReach (rankings qs qt) (omega arith)
+    (reach-section (readRanking (length qs) (length qs)) totalT rankingReach (length qt) (reach-ranking (length qs) s))) (λ ts u.
     reach-read (record { quotasS = qs; quotasT = qt; listsS = ls; listsT = ts }) tt))))
   where
     lists : List ℕ → List ℕ → List ℕ → Reading (List (List ℕ) × List ℕ)
@@ -183,7 +192,8 @@ pub read-front : (f : List ℕ) → readRoster (take inputSize f) ≡ readRoster
 unfolding readRoster
 read-front f = by-cases (decLt inputSize (length f))
     (λ h. let l : length (take inputSize f) ≡ inputSize = length-take-le inputSize f (omega arith) in
-    ap oneSided (same (readSections (take inputSize f)) (readSections (take inputSize f ++ drop inputSize f)) l (reach-sections (take inputSize f) (drop inputSize f) (omega arith)))
+    ap oneSided (same (readSections (take inputSize f)) (readSections (take inputSize f ++ drop inputSize f)) l
+    (reach-sections (take inputSize f) (drop inputSize f) (omega arith)))
     ∙ ap (λ b. oneSided (whole (readSections b))) (take-append-drop inputSize f))
     (λ h. ap (λ b. oneSided (whole (readSections b))) (take-all inputSize f (omega arith)))
   where
@@ -191,6 +201,7 @@ read-front f = by-cases (decLt inputSize (length f))
     over r [] tail h = absurd (omega arith)
     over r (x ∷ rest) tail h = refl
 
-    same : (a b : Reading (Roster × List ℕ)) → length (take inputSize f) ≡ inputSize → Alike rosterSize any (take inputSize f) (drop inputSize f) a b → whole a ≡ whole b
+    same : (a b : Reading (Roster × List ℕ)) → length (take inputSize f) ≡ inputSize → Alike rosterSize any (take inputSize f) (drop inputSize f) a b
+        → whole a ≡ whole b
     same a b l (stops n d e) = ap whole d ∙ sym (ap whole e)
     same a b l (goes r rest p d e m) = ap whole d ∙ over r rest (drop inputSize f) (omega arith) ∙ sym (ap whole e)

@@ -88,7 +88,8 @@ refuseBy-no zero r e = refl
 refuseBy-no (suc n) r e = absurd (omega arith)
 
 -- ---- fields in a row
-module _ {S A : Type 0} {field : List ℕ → Reading (A × List ℕ)} {write : A → List ℕ} {P : A → Type 0} (R : Reads field write P) (check : S → A → ℕ) (next : S → A → S) where
+module _ {S A : Type 0} {field : List ℕ → Reading (A × List ℕ)} {write : A → List ℕ} {P : A → Type 0} (R : Reads field write P) (check : S → A → ℕ)
+    (next : S → A → S) where
   -- each field passes its check
   abbrev pub Passes : S → List A → Type 0
   Passes s [] = Unit {0}
@@ -113,13 +114,15 @@ module _ {S A : Type 0} {field : List ℕ → Reading (A × List ℕ)} {write : 
       given (R .back bs x mid t e₁) (λ (w, p).
       given (each-back n (next s x) mid ys end (rest-bytes (write x) mid w t) e₃) (λ (v, l, q, k).
       given (read-value h₃) (λ (d : x ∷ ys ≡ xs). (
-        w ∙ ap (λ z. write x ++ z) (v ∙ ap (λ z. gather write ys ++ z) (read-rest h₃)) ∙ sym (append-assoc (write x) (gather write ys) rest) ∙ ap (λ z. gather write z ++ rest) d,
+        w ∙ ap (λ z. write x ++ z) (v ∙ ap (λ z. gather write ys ++ z) (read-rest h₃)) ∙ sym (append-assoc (write x) (gather write ys) rest)
+            ∙ ap (λ z. gather write z ++ rest) d,
         ap length (sym d) ∙ ap suc l,
         subst (All P) d (p, q),
         subst (Passes s) d (c, k),
       )))))))
 
-  each-forth : (s : S) (xs : List A) (rest : List ℕ) → All P xs → Passes s xs → readEach field check next (length xs) s (gather write xs ++ rest) ≡ accepted (xs, rest)
+  each-forth : (s : S) (xs : List A) (rest : List ℕ) → All P xs → Passes s xs
+      → readEach field check next (length xs) s (gather write xs ++ rest) ≡ accepted (xs, rest)
   unfolding readEach
   each-forth s [] rest p k = refl
   each-forth s (x ∷ xs) rest p k =
@@ -152,8 +155,10 @@ every-any : (xs : List ℕ) → All any xs
 every-any [] = tt
 every-any (x ∷ xs) = (tt, every-any xs)
 
-pub bytes : {S : Type 0} (check : S → ℕ → ℕ) (next : S → ℕ → S) (n : ℕ) (s : S) → Reads (readEach byte check next n s) (λ xs. xs) (λ xs. (length xs ≡ n) × Passes a-byte check next s xs)
+pub bytes : {S : Type 0} (check : S → ℕ → ℕ) (next : S → ℕ → S) (n : ℕ) (s : S)
+    → Reads (readEach byte check next n s) (λ xs. xs) (λ xs. (length xs ≡ n) × Passes a-byte check next s xs)
 bytes check next n s = record {
   back = λ bs xs rest t e. given (each a-byte check next n s .back bs xs rest t e) (λ (w, (l, p, k)). (w ∙ ap (λ z. z ++ rest) (singles xs), (l, k)));
-  forth = λ xs rest (l, k). ap (λ z. readEach byte check next n s (z ++ rest)) (sym (singles xs)) ∙ each a-byte check next n s .forth xs rest (l, every-any xs, k);
+  forth = λ xs rest (l, k). ap (λ z. readEach byte check next n s (z ++ rest)) (sym (singles xs))
+      ∙ each a-byte check next n s .forth xs rest (l, every-any xs, k);
 }

@@ -55,12 +55,14 @@ module _ (r : Roster) (ok : T (fits r)) where
   list-fits i h = given (fits-parts r ok) (λ ((q, u, (l, a, k), v), n). all-∈ (listFits nt) (r .listsS) a (listS r i) (getD-∈ (r .listsS) i [] (omega arith)))
 
   ranking-fits : (j : ℕ) → j < nt → T (rankingFits ns (listT r j))
-  ranking-fits j h = given (fits-parts r ok) (λ ((q, u, v, (l, a, k)), n). all-∈ (rankingFits ns) (r .listsT) a (listT r j) (getD-∈ (r .listsT) j (record { strict = []; tied = [] }) (omega arith)))
+  ranking-fits j h = given (fits-parts r ok)
+      (λ ((q, u, v, (l, a, k)), n). all-∈ (rankingFits ns) (r .listsT) a (listT r j) (getD-∈ (r .listsT) j (record { strict = []; tied = [] }) (omega arith)))
 
   pub back : (i j : ℕ) → i < ns → j < nt → T (listed r i j) → T (listedBack r i j)
   unfolding bothOrNeither
   back i j h k t = given (fits-parts r ok) (λ (p, n). same-bool (listed r i j) (listedBack r i j)
-      (all-∈ (λ j. alike (listed r i j) (listedBack r i j)) (upTo nt) (all-∈ (λ i. all? (λ j. alike (listed r i j) (listedBack r i j)) (upTo nt)) (upTo ns) n i (upTo-∈ ns i h)) j (upTo-∈ nt j k)) t)
+      (all-∈ (λ j. alike (listed r i j) (listedBack r i j)) (upTo nt)
+      (all-∈ (λ i. all? (λ j. alike (listed r i j) (listedBack r i j)) (upTo nt)) (upTo ns) n i (upTo-∈ ns i h)) j (upTo-∈ nt j k)) t)
 
   pub list-length : (i : ℕ) → i < ns → length (listS r i) ≤ nt
   list-length i h = leb→le (length (listS r i)) nt (and-l (leb (length (listS r i)) nt) _ (list-fits i h))
@@ -75,10 +77,12 @@ module _ (r : Roster) (ok : T (fits r)) where
   entries-fit j h = and-l (listFits ns (entries (listT r j))) (ascending 0 (D j)) (ranking-fits j h)
 
   pub strict-length : (j : ℕ) → j < nt → length (S j) + length (D j) ≤ ns
-  strict-length j h = subst (λ k. k ≤ ns) (length-append (S j) (D j)) (leb→le (length (entries (listT r j))) ns (and-l (leb (length (entries (listT r j))) ns) _ (entries-fit j h)))
+  strict-length j h = subst (λ k. k ≤ ns) (length-append (S j) (D j))
+      (leb→le (length (entries (listT r j))) ns (and-l (leb (length (entries (listT r j))) ns) _ (entries-fit j h)))
 
   distinct-entries : (j : ℕ) → j < nt → T (distinct (S j ++ D j))
-  distinct-entries j h = and-r (all? (λ x. not (outside ns x)) (S j ++ D j)) (distinct (S j ++ D j)) (and-r (leb (length (entries (listT r j))) ns) _ (entries-fit j h))
+  distinct-entries j h = and-r (all? (λ x. not (outside ns x)) (S j ++ D j)) (distinct (S j ++ D j))
+      (and-r (leb (length (entries (listT r j))) ns) _ (entries-fit j h))
 
   -- ---- an edge by its number
   abbrev es : List Edge
@@ -96,8 +100,10 @@ module _ (r : Roster) (ok : T (fits r)) where
   unfolding listed
   same-S x y a b s k =
       let i : a .i ≡ b .i = sym (ap (λ z. z .surveyor) (a .is)) ∙ s ∙ ap (λ z. z .surveyor) (b .is) in
-      let p : position (suc (a .j)) (listS r (a .i)) ≡ position (suc (b .j)) (listS r (b .i)) = sym (ap (λ z. z .rankS) (a .is)) ∙ k ∙ ap (λ z. z .rankS) (b .is) in
-      let q : suc (a .j) ≡ suc (b .j) = position-same (suc (a .j)) (suc (b .j)) (listS r (a .i)) (a .pair) (p ∙ ap (λ z. position (suc (b .j)) (listS r z)) (sym i)) in
+      let p : position (suc (a .j)) (listS r (a .i)) ≡ position (suc (b .j)) (listS r (b .i)) = sym (ap (λ z. z .rankS) (a .is)) ∙ k
+      ∙ ap (λ z. z .rankS) (b .is) in
+      let q : suc (a .j) ≡ suc (b .j) =
+      position-same (suc (a .j)) (suc (b .j)) (listS r (a .i)) (a .pair) (p ∙ ap (λ z. position (suc (b .j)) (listS r z)) (sym i)) in
       ap (λ z. z .stand) (a .is) ∙ suc-inj q ∙ sym (ap (λ z. z .stand) (b .is))
 
   -- ---- stands: strict entries by their place, tied ones behind them
@@ -121,10 +127,12 @@ module _ (r : Roster) (ok : T (fits r)) where
 
   -- not tied: in the strict list
   strict-in : (x : Edge) (a : IsEdge r x) → T (not (x .tied)) → T (elem (suc (a .i)) (S (a .j)))
-  strict-in x a n = ⊎-elim (λ s. s) (λ d. absurd (T-not (elem (suc (a .i)) (D (a .j))) (subst (λ z. T (not (z .tied))) (a .is) n) d)) (strict-or-tied (a .i) (a .j) (a .i-in) (a .j-in) (a .pair))
+  strict-in x a n = ⊎-elim (λ s. s) (λ d. absurd (T-not (elem (suc (a .i)) (D (a .j))) (subst (λ z. T (not (z .tied))) (a .is) n) d))
+      (strict-or-tied (a .i) (a .j) (a .i-in) (a .j-in) (a .pair))
 
   tied-last : (x : Edge) (a : IsEdge r x) → T (x .tied) → x .rankT ≡ suc (length (S (a .j)))
-  tied-last x a t = ap (λ z. z .rankT) (a .is) ∙ position-out (suc (a .i)) (S (a .j)) (tied-not-strict (a .i) (a .j) (a .j-in) (subst (λ z. T (z .tied)) (a .is) t))
+  tied-last x a t = ap (λ z. z .rankT) (a .is)
+      ∙ position-out (suc (a .i)) (S (a .j)) (tied-not-strict (a .i) (a .j) (a .j-in) (subst (λ z. T (z .tied)) (a .is) t))
 
   same-stand : (x y : Edge) (a : IsEdge r x) (b : IsEdge r y) → x .stand ≡ y .stand → a .j ≡ b .j
   same-stand x y a b s = sym (ap (λ z. z .stand) (a .is)) ∙ s ∙ ap (λ z. z .stand) (b .is)
@@ -133,7 +141,8 @@ module _ (r : Roster) (ok : T (fits r)) where
   same-T x y a b s k n =
       let j = same-stand x y a b s in
       let p : position (suc (a .i)) (S (a .j)) ≡ position (suc (b .i)) (S (b .j)) = sym (ap (λ z. z .rankT) (a .is)) ∙ k ∙ ap (λ z. z .rankT) (b .is) in
-      let q : suc (a .i) ≡ suc (b .i) = position-same (suc (a .i)) (suc (b .i)) (S (a .j)) (strict-in x a n) (p ∙ ap (λ z. position (suc (b .i)) (S z)) (sym j)) in
+      let q : suc (a .i) ≡ suc (b .i) =
+      position-same (suc (a .i)) (suc (b .i)) (S (a .j)) (strict-in x a n) (p ∙ ap (λ z. position (suc (b .i)) (S z)) (sym j)) in
       ap (λ z. z .surveyor) (a .is) ∙ suc-inj q ∙ sym (ap (λ z. z .surveyor) (b .is))
 
   tie-last : (x y : Edge) → IsEdge r x → IsEdge r y → x .stand ≡ y .stand → T (x .tied) → y .rankT ≤ x .rankT
@@ -149,7 +158,8 @@ module _ (r : Roster) (ok : T (fits r)) where
       omega (arith, p, ap (λ z. z .rankT) (b .is), position-in (suc (b .i)) (S (b .j)) (strict-in y b n))
 
   -- two edges with the same ends are one
-  pub pairs-differ : (d e : ℕ) → d < instanceOf r .m → e < instanceOf r .m → instanceOf r .sv d ≡ instanceOf r .sv e → instanceOf r .st d ≡ instanceOf r .st e → d ≡ e
+  pub pairs-differ : (d e : ℕ) → d < instanceOf r .m → e < instanceOf r .m → instanceOf r .sv d ≡ instanceOf r .sv e
+      → instanceOf r .st d ≡ instanceOf r .st e → d ≡ e
   unfolding instanceOf
   pairs-differ = ends-differ es (edges-ascend r)
 
@@ -204,5 +214,6 @@ module _ (r : Roster) (ok : T (fits r)) where
     insideT = lawful .atT .inside;
     differ = pairs-differ;
     few = given (fits-parts r ok) (λ ((q, u, l, v), n). subst (λ k. k ≤ planLimit) (sym (sum-places (r .quotasS)))
-        (leb→le (sum (λ q. q) (r .quotasS)) quotaSumLimit (and-r (all? (λ q. leb q quotaLimit) (r .quotasS)) (leb (sum (λ q. q) (r .quotasS)) quotaSumLimit) (and-r (leb ns nodeLimit) _ q))));
+        (leb→le (sum (λ q. q) (r .quotasS)) quotaSumLimit
+        (and-r (all? (λ q. leb q quotaLimit) (r .quotasS)) (leb (sum (λ q. q) (r .quotasS)) quotaSumLimit) (and-r (leb ns nodeLimit) _ q))));
   }

@@ -31,7 +31,8 @@ rankingsFit ns nt = SectionFits (rankingFits ns) totalT (ranking ns) nt
 
 -- within the limits, but for the pairs that one side alone lists
 abbrev pub SectionsFit : Roster → Type 0
-SectionsFit r = T (quotasFit (r .quotasS)) × T (quotasFit (r .quotasT)) × listsFit (surveyorCount r) (standCount r) (r .listsS) × rankingsFit (surveyorCount r) (standCount r) (r .listsT)
+SectionsFit r = T (quotasFit (r .quotasS)) × T (quotasFit (r .quotasT)) × listsFit (surveyorCount r) (standCount r) (r .listsS)
+    × rankingsFit (surveyorCount r) (standCount r) (r .listsT)
 
 abbrev partA : Roster → List ℕ
 partA r = wideBytes (totalS (r .listsS)) ++ gather listBytes (r .listsS)
@@ -53,9 +54,11 @@ second qs rest = readNodes rest then third qs
 
 -- the bytes of the four sections, one behind the other and before the rest
 regroup : (a b c d rest : List ℕ) → a ++ (b ++ (c ++ (d ++ rest))) ≡ (a ++ (b ++ (c ++ d))) ++ rest
-regroup a b c d rest = ap (λ z. a ++ z) (ap (λ z. b ++ z) (sym (append-assoc c d rest)) ∙ sym (append-assoc b (c ++ d) rest)) ∙ sym (append-assoc a (b ++ (c ++ d)) rest)
+regroup a b c d rest = ap (λ z. a ++ z) (ap (λ z. b ++ z) (sym (append-assoc c d rest)) ∙ sym (append-assoc b (c ++ d) rest))
+    ∙ sym (append-assoc a (b ++ (c ++ d)) rest)
 
-sections-back : (bs : List ℕ) (r : Roster) (rest : List ℕ) → T (isBytes bs) → readSections bs ≡ accepted (r, rest) → (bs ≡ writeRoster r ++ rest) × SectionsFit r
+sections-back : (bs : List ℕ) (r : Roster) (rest : List ℕ) → T (isBytes bs) → readSections bs ≡ accepted (r, rest)
+    → (bs ≡ writeRoster r ++ rest) × SectionsFit r
 unfolding writeRoster
 sections-back bs r rest t e =
     given (then-read (readNodes bs) second e) (λ (qs, m₁, e₁, h₁).
@@ -67,8 +70,12 @@ sections-back bs r rest t e =
     given (nodes .back m₁ qt m₂ t₁ e₂) (λ (w₂, p₂).
     given (rest-bytes (listBytes qt) m₂ w₂ t₁) (λ t₂.
     given (section (listFits (length qt)) totalS (list (length qt)) (length qs) .back m₂ ls m₃ t₂ e₃) (λ (w₃, p₃).
-    given (section (rankingFits (length qs)) totalT (ranking (length qs)) (length qt) .back m₃ ts m₄ (rest-bytes (wideBytes (totalS ls) ++ gather listBytes ls) m₃ w₃ t₂) e₄) (λ (w₄, p₄). (
-      w₁ ∙ ap (λ z. listBytes qs ++ z) (w₂ ∙ ap (λ z. listBytes qt ++ z) (w₃ ∙ ap (λ z. (wideBytes (totalS ls) ++ gather listBytes ls) ++ z) (w₄ ∙ ap (λ z. (wideBytes (totalT ts) ++ gather rankingBytes ts) ++ z) (read-rest h₄))))
+    given (section (rankingFits (length qs)) totalT (ranking (length qs)) (length qt) .back m₃ ts m₄
+    (rest-bytes (wideBytes (totalS ls) ++ gather listBytes ls) m₃ w₃ t₂) e₄) (λ (w₄, p₄). (
+      w₁ ∙ ap (λ z. listBytes qs ++ z)
+          (w₂ ∙ ap (λ z. listBytes qt ++ z)
+          (w₃ ∙ ap (λ z. (wideBytes (totalS ls) ++ gather listBytes ls) ++ z)
+          (w₄ ∙ ap (λ z. (wideBytes (totalT ts) ++ gather rankingBytes ts) ++ z) (read-rest h₄))))
           ∙ regroup (listBytes qs) (listBytes qt) (wideBytes (totalS ls) ++ gather listBytes ls) (wideBytes (totalT ts) ++ gather rankingBytes ts) rest
           ∙ ap (λ r. (listBytes (r .quotasS) ++ (listBytes (r .quotasT) ++ (partA r ++ partB r))) ++ rest) (read-value h₄),
       subst SectionsFit (read-value h₄) (p₁, p₂, p₃, p₄),
@@ -80,8 +87,10 @@ sections-forth r rest (p₁, p₂, p₃, p₄) =
     ap readSections (sym (regroup (listBytes (r .quotasS)) (listBytes (r .quotasT)) (partA r) (partB r) rest))
     ∙ ap (λ x. x then second) (nodes .forth (r .quotasS) (listBytes (r .quotasT) ++ (partA r ++ (partB r ++ rest))) p₁)
     ∙ ap (λ x. x then third (r .quotasS)) (nodes .forth (r .quotasT) (partA r ++ (partB r ++ rest)) p₂)
-    ∙ ap (λ x. x then fourth (r .quotasS) (r .quotasT)) (section (listFits (standCount r)) totalS (list (standCount r)) (surveyorCount r) .forth (r .listsS) (partB r ++ rest) p₃)
-    ∙ ap (λ x. x then finish (r .quotasS) (r .quotasT) (r .listsS)) (section (rankingFits (surveyorCount r)) totalT (ranking (surveyorCount r)) (standCount r) .forth (r .listsT) rest p₄)
+    ∙ ap (λ x. x then fourth (r .quotasS) (r .quotasT))
+    (section (listFits (standCount r)) totalS (list (standCount r)) (surveyorCount r) .forth (r .listsS) (partB r ++ rest) p₃)
+    ∙ ap (λ x. x then finish (r .quotasS) (r .quotasT) (r .listsS))
+    (section (rankingFits (surveyorCount r)) totalT (ranking (surveyorCount r)) (standCount r) .forth (r .listsT) rest p₄)
 
 -- ---- `fits`, taken apart and put together
 pub fits-parts : (r : Roster) → T (fits r) → SectionsFit r × T (bothOrNeither r)
@@ -116,9 +125,12 @@ parts-fit r (a, b, (c, d, e), (f, g, h)) n =
     let f′ = eq→eqb (length (r .listsT)) (standCount r) f in
     and-i (quotasFit (r .quotasS) && quotasFit (r .quotasT)) _ (and-i (quotasFit (r .quotasS)) (quotasFit (r .quotasT)) a b)
     (and-i (eqb (length (r .listsS)) (surveyorCount r) && (all? (listFits (standCount r)) (r .listsS) && leb (totalS (r .listsS)) entryLimit)) _
-    (and-i (eqb (length (r .listsS)) (surveyorCount r)) (all? (listFits (standCount r)) (r .listsS) && leb (totalS (r .listsS)) entryLimit) c′ (and-i (all? (listFits (standCount r)) (r .listsS)) (leb (totalS (r .listsS)) entryLimit) d e))
-    (and-i (eqb (length (r .listsT)) (standCount r) && (all? (rankingFits (surveyorCount r)) (r .listsT) && leb (totalT (r .listsT)) entryLimit)) (bothOrNeither r)
-    (and-i (eqb (length (r .listsT)) (standCount r)) (all? (rankingFits (surveyorCount r)) (r .listsT) && leb (totalT (r .listsT)) entryLimit) f′ (and-i (all? (rankingFits (surveyorCount r)) (r .listsT)) (leb (totalT (r .listsT)) entryLimit) g h))
+    (and-i (eqb (length (r .listsS)) (surveyorCount r)) (all? (listFits (standCount r)) (r .listsS) && leb (totalS (r .listsS)) entryLimit) c′
+    (and-i (all? (listFits (standCount r)) (r .listsS)) (leb (totalS (r .listsS)) entryLimit) d e))
+    (and-i (eqb (length (r .listsT)) (standCount r) && (all? (rankingFits (surveyorCount r)) (r .listsT) && leb (totalT (r .listsT)) entryLimit))
+    (bothOrNeither r)
+    (and-i (eqb (length (r .listsT)) (standCount r)) (all? (rankingFits (surveyorCount r)) (r .listsT) && leb (totalT (r .listsT)) entryLimit) f′
+    (and-i (all? (rankingFits (surveyorCount r)) (r .listsT)) (leb (totalT (r .listsT)) entryLimit) g h))
     n))
 
 -- ---- the whole file

@@ -18,7 +18,8 @@ use Rattle.theory_files.specs.Reads.{isBytes, rest-bytes, Reads, read-va
 use Rattle.theory_files.specs.Entries.{fresh, fresh-distinct, distinct-fresh, fresh-append, inRange, small, quotas→, →quotas, entries→, →entries, tied→, →tied}
 
 -- the same agreement about facts that say the same
-pub alike : {A : Type 0} {read : List ℕ → Reading (A × List ℕ)} {write : A → List ℕ} {P Q : A → Type 0} → ((a : A) → P a → Q a) → ((a : A) → Q a → P a) → Reads read write P → Reads read write Q
+pub alike : {A : Type 0} {read : List ℕ → Reading (A × List ℕ)} {write : A → List ℕ} {P Q : A → Type 0} → ((a : A) → P a → Q a)
+    → ((a : A) → Q a → P a) → Reads read write P → Reads read write Q
 alike f g R = record {
   back = λ bs a rest t e. given (R .back bs a rest t e) (λ (w, p). (w, f a p));
   forth = λ a rest q. R .forth a rest (g a q);
@@ -33,17 +34,21 @@ above-not limit n t = le→nltb limit n (leb→le n limit t)
 
 -- ---- a count byte, and as many of something behind it
 pub counted : (limit : ℕ) {A : Type 0} {body : ℕ → List ℕ → Reading (A × List ℕ)} {write : A → List ℕ} {size : A → ℕ} {P : A → Type 0}
-    → ((n : ℕ) → Reads (body n) write (λ a. (size a ≡ n) × P a)) → Reads (λ bs. readCount limit bs then body) (λ a. size a ∷ write a) (λ a. T (leb (size a) limit) × P a)
+    → ((n : ℕ) → Reads (body n) write (λ a. (size a ≡ n) × P a))
+    → Reads (λ bs. readCount limit bs then body) (λ a. size a ∷ write a) (λ a. T (leb (size a) limit) × P a)
 counted limit {A} {body} {write} {size} {P} R = record {
   back = λ bs a rest t e.
       given (then-read (readCount limit bs) body e) (λ (n, mid, e₁, h₁).
       given (then-read (byte bs) (λ n rest. refuseIf (ltb limit n) 2 (accepted (n, rest))) e₁) (λ (k, mid′, e₂, h₂).
       given (refuse-read (ltb limit k) 2 h₂) (λ (l, h₃).
       given (byte-read bs e₂) (λ w.
-      given (R n .back mid a rest (subst (λ z. T (isBytes z)) (read-rest h₃) (rest-bytes (k ∷ []) mid′ w t)) h₁) (λ (v, (s, p)).
-      (w ∙ ap₂ (λ z zs. z ∷ zs) (read-value h₃ ∙ sym s) (read-rest h₃ ∙ v), (subst (λ z. T (leb z limit)) (read-value h₃ ∙ sym s) (not-above limit k l), p)))))));
+      given (R n .back mid a rest (subst (λ z. T (isBytes z)) (read-rest h₃) (rest-bytes (k ∷ []) mid′ w t)) h₁) (λ (v, (s, p)). (
+        w ∙ ap₂ (λ z zs. z ∷ zs) (read-value h₃ ∙ sym s) (read-rest h₃ ∙ v),
+        (subst (λ z. T (leb z limit)) (read-value h₃ ∙ sym s) (not-above limit k l), p),
+      ))))));
   forth = λ a rest (l, p).
-      ap (λ r. r then body) (refuse-no (ltb limit (size a)) 2 (accepted (size a, write a ++ rest)) (above-not limit (size a) l)) ∙ R (size a) .forth a rest (refl, p);
+      ap (λ r. r then body) (refuse-no (ltb limit (size a)) 2 (accepted (size a, write a ++ rest)) (above-not limit (size a) l))
+      ∙ R (size a) .forth a rest (refl, p);
 }
 
 -- ---- "Surveyors: a count byte 0 to 32, then one quota byte each, 0 to 8. Stands: likewise."
@@ -53,14 +58,16 @@ nodes = alike
     (and-i (small qs) (leb (sum (λ q. q) qs) quotaSumLimit) a (le→leb (sum (λ q. q) qs) quotaSumLimit (omega arith)))))
     (λ qs t. given (and-r (leb (length qs) nodeLimit) (small qs && leb (sum (λ q. q) qs) quotaSumLimit) t) (λ u. (
       and-l (leb (length qs) nodeLimit) (small qs && leb (sum (λ q. q) qs) quotaSumLimit) t,
-      →quotas 0 qs (and-l (small qs) (leb (sum (λ q. q) qs) quotaSumLimit) u) (given (leb→le (sum (λ q. q) qs) quotaSumLimit (and-r (small qs) (leb (sum (λ q. q) qs) quotaSumLimit) u)) (λ h. omega arith)),
+      →quotas 0 qs (and-l (small qs) (leb (sum (λ q. q) qs) quotaSumLimit) u)
+          (given (leb→le (sum (λ q. q) qs) quotaSumLimit (and-r (small qs) (leb (sum (λ q. q) qs) quotaSumLimit) u)) (λ h. omega arith)),
     )))
     (counted nodeLimit (λ n. bytes quotaCheck (λ so q. so + q) n 0))
 
 -- ---- "for each surveyor a length byte and stand numbers, best first"
 pub list : (count : ℕ) → Reads (readList count count) listBytes (λ xs. T (listFits count xs))
 list count = alike
-    (λ xs (l, p). given (entries→ count [] xs p) (λ (r, f). and-i (leb (length xs) count) (inRange count xs && distinct xs) l (and-i (inRange count xs) (distinct xs) r (fresh-distinct xs f))))
+    (λ xs (l, p). given (entries→ count [] xs p)
+    (λ (r, f). and-i (leb (length xs) count) (inRange count xs && distinct xs) l (and-i (inRange count xs) (distinct xs) r (fresh-distinct xs f))))
     (λ xs t. given (and-r (leb (length xs) count) (inRange count xs && distinct xs) t) (λ u. (
       and-l (leb (length xs) count) (inRange count xs && distinct xs) t,
       →entries count [] xs (and-l (inRange count xs) (distinct xs) u) (distinct-fresh xs (and-r (inRange count xs) (distinct xs) u)),
@@ -69,20 +76,24 @@ list count = alike
 
 -- ---- "for each stand the strict length byte, the tie length byte, the strict surveyors best first, the tied ones ascending"
 strict-part : (count n : ℕ) → Reads (readEntries count n) (λ xs. xs) (λ xs. (length xs ≡ n) × (T (inRange count xs) × T (fresh [] xs)))
-strict-part count n = alike (λ xs (l, p). (l, entries→ count [] xs p)) (λ xs (l, (r, f)). (l, →entries count [] xs r f)) (bytes (entryCheck count) (λ seen x. seen ++ x ∷ []) n [])
+strict-part count n = alike (λ xs (l, p). (l, entries→ count [] xs p)) (λ xs (l, (r, f)). (l, →entries count [] xs r f))
+    (bytes (entryCheck count) (λ seen x. seen ++ x ∷ []) n [])
 
-tied-part : (count : ℕ) (strict : List ℕ) (n : ℕ) → Reads (readTied count strict n) (λ xs. xs) (λ xs. (length xs ≡ n) × (T (inRange count xs) × T (fresh strict xs) × T (ascending 0 xs)))
+tied-part : (count : ℕ) (strict : List ℕ) (n : ℕ)
+    → Reads (readTied count strict n) (λ xs. xs) (λ xs. (length xs ≡ n) × (T (inRange count xs) × T (fresh strict xs) × T (ascending 0 xs)))
 tied-part count strict n = alike
     (λ xs (l, p). (l, tied→ count (record { seen = strict; last = 0 }) xs p))
     (λ xs (l, (r, f, u)). (l, →tied count (record { seen = strict; last = 0 }) xs r f u))
     (bytes (tiedCheck count) (λ s x. record { seen = s .seen ++ x ∷ []; last = x }) n (record { seen = strict; last = 0 }))
 
 -- the two parts together are a list that fits, and the tie ascends
-fits-join : (count : ℕ) (xs ys : List ℕ) → T (leb (length xs + length ys) count) → T (inRange count xs) → T (fresh [] xs) → T (inRange count ys) → T (fresh xs ys) → T (ascending 0 ys)
+fits-join : (count : ℕ) (xs ys : List ℕ) → T (leb (length xs + length ys) count) → T (inRange count xs) → T (fresh [] xs) → T (inRange count ys)
+    → T (fresh xs ys) → T (ascending 0 ys)
     → T (rankingFits count (record { strict = xs; tied = ys }))
 fits-join count xs ys l r f r′ f′ u = and-i (listFits count (xs ++ ys)) (ascending 0 ys)
     (and-i (leb (length (xs ++ ys)) count) (inRange count (xs ++ ys) && distinct (xs ++ ys)) (subst (λ k. T (leb k count)) (sym (length-append xs ys)) l)
-    (and-i (inRange count (xs ++ ys)) (distinct (xs ++ ys)) (subst T (sym (all-append (λ x. not (outside count x)) xs ys)) (and-i (inRange count xs) (inRange count ys) r r′))
+    (and-i (inRange count (xs ++ ys)) (distinct (xs ++ ys))
+    (subst T (sym (all-append (λ x. not (outside count x)) xs ys)) (and-i (inRange count xs) (inRange count ys) r r′))
     (fresh-distinct (xs ++ ys) (subst T (sym (fresh-append [] xs ys)) (and-i (fresh [] xs) (fresh xs ys) f f′)))))
     u
 
@@ -108,7 +119,8 @@ module _ (count : ℕ) where
   abbrev body : ℕ → ℕ → List ℕ → Reading (Ranking × List ℕ)
   body a b rest = refuseIf (ltb count (a + b)) 2 (readEntries count a rest then behind b)
 
-  ranking-back : (bs : List ℕ) (R : Ranking) (rest : List ℕ) → T (isBytes bs) → readRanking count count bs ≡ accepted (R, rest) → (bs ≡ rankingBytes R ++ rest) × T (rankingFits count R)
+  ranking-back : (bs : List ℕ) (R : Ranking) (rest : List ℕ) → T (isBytes bs) → readRanking count count bs ≡ accepted (R, rest)
+      → (bs ≡ rankingBytes R ++ rest) × T (rankingFits count R)
   ranking-back bs R rest t e =
       given (then-read (byte bs) (λ a rest. byte rest then body a) e) (λ (a, m₁, e₁, h₁).
       given (then-read (byte m₁) (body a) h₁) (λ (b, m₂, e₂, h₂).
@@ -119,7 +131,8 @@ module _ (count : ℕ) where
       given (rest-bytes (a ∷ b ∷ []) m₂ w t) (λ t₂.
       given (strict-part count a .back m₂ xs m₃ t₂ e₄) (λ (w₃, (l₃, (r₃, f₃))).
       given (tied-part count xs b .back m₃ ys m₄ (rest-bytes xs m₃ w₃ t₂) e₅) (λ (w₄, (l₄, (r₄, f₄, u₄))). (
-        w ∙ ap₂ (λ x y. x ∷ y ∷ m₂) (sym l₃) (sym l₄) ∙ ap (λ z. length xs ∷ length ys ∷ z) (w₃ ∙ ap (λ z. xs ++ z) (w₄ ∙ ap (λ z. ys ++ z) (read-rest h₅)) ∙ sym (append-assoc xs ys rest))
+        w ∙ ap₂ (λ x y. x ∷ y ∷ m₂) (sym l₃) (sym l₄)
+            ∙ ap (λ z. length xs ∷ length ys ∷ z) (w₃ ∙ ap (λ z. xs ++ z) (w₄ ∙ ap (λ z. ys ++ z) (read-rest h₅)) ∙ sym (append-assoc xs ys rest))
             ∙ ap (λ Q. rankingBytes Q ++ rest) (read-value h₅),
         subst (λ Q. T (rankingFits count Q)) (read-value h₅)
             (fits-join count xs ys (subst (λ k. T (leb k count)) (ap₂ _+_ (sym l₃) (sym l₄)) (not-above count (a + b) l)) r₃ f₃ r₄ f₄ u₄),
@@ -128,7 +141,9 @@ module _ (count : ℕ) where
   ranking-forth : (R : Ranking) (rest : List ℕ) → T (rankingFits count R) → readRanking count count (rankingBytes R ++ rest) ≡ accepted (R, rest)
   ranking-forth R rest t =
       given (fits-split count (R .strict) (R .tied) t) (λ (l, s, u).
-      refuse-no (ltb count (length (R .strict) + length (R .tied))) 2 (readEntries count (length (R .strict)) (entries R ++ rest) then behind (length (R .tied))) (above-not count (length (R .strict) + length (R .tied)) l)
+      refuse-no (ltb count (length (R .strict) + length (R .tied))) 2
+      (readEntries count (length (R .strict)) (entries R ++ rest) then behind (length (R .tied)))
+      (above-not count (length (R .strict) + length (R .tied)) l)
       ∙ ap (λ z. readEntries count (length (R .strict)) z then behind (length (R .tied))) (append-assoc (R .strict) (R .tied) rest)
       ∙ ap (λ r. r then behind (length (R .tied))) (strict-part count (length (R .strict)) .forth (R .strict) (R .tied ++ rest) (refl, s))
       ∙ ap (λ r. r then paired (R .strict)) (tied-part count (R .strict) (length (R .tied)) .forth (R .tied) rest (refl, u)))
@@ -145,7 +160,8 @@ all-every : {A : Type 0} (p : A → Bool) (xs : List A) → T (all? p xs) → Al
 all-every p [] t = tt
 all-every p (x ∷ xs) t = (and-l (p x) (all? p xs) t, all-every p xs (and-r (p x) (all? p xs) t))
 
-unchecked : {A : Type 0} {field : List ℕ → Reading (A × List ℕ)} {write : A → List ℕ} {P : A → Type 0} (R : Reads field write P) (xs : List A) → Passes {S = Unit {0}} R (λ s x. 0) (λ s x. s) tt xs
+unchecked : {A : Type 0} {field : List ℕ → Reading (A × List ℕ)} {write : A → List ℕ} {P : A → Type 0} (R : Reads field write P) (xs : List A)
+    → Passes {S = Unit {0}} R (λ s x. 0) (λ s x. s) tt xs
 unchecked R [] = tt
 unchecked R (x ∷ xs) = (refl, unchecked R xs)
 
@@ -158,7 +174,8 @@ wide-high x y h = omega arith
 wide-whole : (n : ℕ) → n % 256 + 256 * (n / 256) ≡ n
 wide-whole n = omega arith
 
-module _ {A : Type 0} {field : List ℕ → Reading (A × List ℕ)} {write : A → List ℕ} (fit : A → Bool) (total : List A → ℕ) (R : Reads field write (λ a. T (fit a))) (n : ℕ) where
+module _ {A : Type 0} {field : List ℕ → Reading (A × List ℕ)} {write : A → List ℕ} (fit : A → Bool) (total : List A → ℕ)
+    (R : Reads field write (λ a. T (fit a))) (n : ℕ) where
   -- as many lists as nodes, each within its limits, and no more entries than a section may have
   abbrev pub SectionFits : List A → Type 0
   SectionFits xs = (length xs ≡ n) × T (all? fit xs) × T (leb (total xs) entryLimit)
@@ -175,7 +192,8 @@ module _ {A : Type 0} {field : List ℕ → Reading (A × List ℕ)} {write : A 
   abbrev wide : ℕ × ℕ → ℕ
   wide w = w .0 + 256 * w .1
 
-  section-back : (bs : List ℕ) (xs : List A) (rest : List ℕ) → T (isBytes bs) → readSection field total n bs ≡ accepted (xs, rest) → (bs ≡ sectionBytes xs ++ rest) × SectionFits xs
+  section-back : (bs : List ℕ) (xs : List A) (rest : List ℕ) → T (isBytes bs) → readSection field total n bs ≡ accepted (xs, rest)
+      → (bs ≡ sectionBytes xs ++ rest) × SectionFits xs
   section-back bs xs rest t e =
       given (then-read (readWideCount bs) lists e) (λ (w, m₁, e₁, h₁).
       given (then-read (twoBytes bs) (λ w rest. refuseIf (ltb entryLimit (wide w)) 2 (accepted (wide w, rest))) e₁) (λ (v, m₂, e₂, h₂).
@@ -187,7 +205,8 @@ module _ {A : Type 0} {field : List ℕ → Reading (A × List ℕ)} {write : A 
       given (each R (λ s x. 0) (λ s x. s) n tt .back m₁ ys m₃ (subst (λ z. T (isBytes z)) (read-rest h₃) t₂) e₄) (λ (w₄, (l₄, p₄, k₄)).
       given (ltb→lt (v .0) 256 (and-l (ltb (v .0) 256) (isBytes (v .1 ∷ m₂)) (subst (λ z. T (isBytes z)) wv t))) (λ small.
       given (read-value h₃ ∙ eqb→eq w (total ys) (twice (eqb w (total ys)) s)) (λ (same : wide v ≡ total ys). (
-        wv ∙ ap₂ (λ x y. x ∷ y ∷ m₂) (sym (wide-low (v .0) (v .1) small) ∙ ap (λ k. k % 256) same) (sym (wide-high (v .0) (v .1) small) ∙ ap (λ k. k / 256) same)
+        wv ∙ ap₂ (λ x y. x ∷ y ∷ m₂) (sym (wide-low (v .0) (v .1) small) ∙ ap (λ k. k % 256) same)
+            (sym (wide-high (v .0) (v .1) small) ∙ ap (λ k. k / 256) same)
             ∙ ap (λ z. wideBytes (total ys) ++ z) (read-rest h₃ ∙ w₄ ∙ ap (λ z. gather write ys ++ z) (read-rest h₅))
             ∙ ap (λ zs. sectionBytes zs ++ rest) (read-value h₅),
         subst SectionFits (read-value h₅) (l₄, every-all fit ys p₄, subst (λ k. T (leb k entryLimit)) same (not-above entryLimit (wide v) l)),
@@ -200,7 +219,8 @@ module _ {A : Type 0} {field : List ℕ → Reading (A × List ℕ)} {write : A 
   section-forth : (xs : List A) (rest : List ℕ) → SectionFits xs → readSection field total n (sectionBytes xs ++ rest) ≡ accepted (xs, rest)
   section-forth xs rest (l, a, k) =
       ap (λ r. r then lists)
-      (ap (λ c. refuseIf (ltb entryLimit c) 2 (accepted (c, gather write xs ++ rest))) (wide-whole (total xs)) ∙ refuse-no (ltb entryLimit (total xs)) 2 (accepted (total xs, gather write xs ++ rest)) (above-not entryLimit (total xs) k))
+      (ap (λ c. refuseIf (ltb entryLimit c) 2 (accepted (c, gather write xs ++ rest))) (wide-whole (total xs))
+      ∙ refuse-no (ltb entryLimit (total xs)) 2 (accepted (total xs, gather write xs ++ rest)) (above-not entryLimit (total xs) k))
       ∙ ap (λ r. r then checked (total xs)) (each R (λ s x. 0) (λ s x. s) n tt .forth xs rest (l, all-every fit xs a, unchecked R xs))
       ∙ refuse-no (not (eqb (total xs) (total xs))) 7 (accepted (xs, rest)) (same (eqb (total xs) (total xs)) (eq→eqb (total xs) (total xs) refl))
     where

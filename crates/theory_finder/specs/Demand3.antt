@@ -39,7 +39,8 @@ module _ (r : Roster) (ok : T (fits r)) where
   pub verdict-computed : (M : Plan) → M ∈ plansOf (instanceOf r) → computedVerdict (instanceOf r) M ≡ verdictOf (instanceOf r) M
   verdict-computed M m = computed-verdict (instanceOf r) M (lawful r ok) m (plan-few (instanceOf r) (fileable r ok) M m)
 
-  pub rival-holds : (M : Plan) → M ∈ plansOf (instanceOf r) → T (not (isStrong (verdictOf (instanceOf r) M))) → Rival (instanceOf r) M (rivalOf (instanceOf r) M)
+  pub rival-holds : (M : Plan) → M ∈ plansOf (instanceOf r) → T (not (isStrong (verdictOf (instanceOf r) M)))
+      → Rival (instanceOf r) M (rivalOf (instanceOf r) M)
   rival-holds M m = by-verdict (verdictOf (instanceOf r) M)
       (popular-rival (instanceOf r) M (lawful r ok) m (plan-few (instanceOf r) (fileable r ok) M m))
       (beaten-rival (instanceOf r) M (lawful r ok) m (plan-few (instanceOf r) (fileable r ok) M m))

@@ -51,7 +51,8 @@ plan-sound h r file t f s = go (readPlan (instanceOf r) file) refl
     go : (x : Reading Plan) → readPlan (instanceOf r) file ≡ x → T (sound (withPlan h r x))
     go (accepted M) e = given (plan-read-within (instanceOf r) file M t e) (λ m.
         and-i (fits r) (eqb (length M) (instanceOf r .m) && within (instanceOf r) (on M)) f
-        (and-i (eqb (length M) (instanceOf r .m)) (within (instanceOf r) (on M)) (eq→eqb (length M) (instanceOf r .m) (plan-length (instanceOf r) m)) (plan-within (instanceOf r) m)))
+        (and-i (eqb (length M) (instanceOf r .m)) (within (instanceOf r) (on M)) (eq→eqb (length M) (instanceOf r .m) (plan-length (instanceOf r) m))
+        (plan-within (instanceOf r) m)))
     go (refused n) e = s
 
 -- a call that leaves the desk alike, refused by the state or not
@@ -64,7 +65,8 @@ unfolding deskAfter stateRefusal sound
 desk-sound h (loadRoster file) t s = roster-sound h file t s
 desk-sound nothing (loadPlan file) t s = tt
 desk-sound (roster r) (loadPlan file) t s = plan-sound (roster r) r file t s s
-desk-sound (planned r M) (loadPlan file) t s = plan-sound (planned r M) r file t (and-l (fits r) (eqb (length M) (instanceOf r .m) && within (instanceOf r) (on M)) s) s
+desk-sound (planned r M) (loadPlan file) t s =
+    plan-sound (planned r M) r file t (and-l (fits r) (eqb (length M) (instanceOf r .m) && within (instanceOf r) (on M)) s) s
 desk-sound h (writeRosterTo buffer) t s = alike (ltb 0 (stateRefusal h (writeRosterTo buffer))) h s
 desk-sound h (writePlanTo buffer) t s = alike (ltb 0 (stateRefusal h (writePlanTo buffer))) h s
 desk-sound h (find d l p v) t s = alike (ltb 0 (stateRefusal h (find d l p v))) h s

@@ -70,7 +70,8 @@ module _ (G : Instance) (L : Lawful G) where
   nothing-left : (M : Plan) → M ∈ strongPlans G → leftOf G ≡ []
   unfolding leftOf
   nothing-left M m = given (strong-member M m) (λ (k, e). no-element (edgesIn (G .m) (endOf G .rem)) (λ d h.
-      given (∈-keep (endOf G .rem) (range 0 (G .m)) h) (λ (r, t). left-none L (plan-matching G L k) (strong-walks M k e) d (given (∈-range (G .m) 0 r .1) (λ l. omega arith)) t)))
+      given (∈-keep (endOf G .rem) (range 0 (G .m)) h)
+      (λ (r, t). left-none L (plan-matching G L k) (strong-walks M k e) d (given (∈-range (G .m) 0 r .1) (λ l. omega arith)) t)))
 
   pub candidate-plan : candidateOf G ∈ plansOf G
   unfolding candidateOf
@@ -123,7 +124,8 @@ module _ (G : Instance) (L : Lawful G) where
       some : (x : ℕ) (xs : List ℕ) → x ∷ xs ≢ []
       some x xs q = subst (λ z. T (not (isEmpty z))) q tt
 
-      by-left : (es : List ℕ) → leftOf G ≡ es → Answers G (elim (isEmpty es) as (λ b. Found) [ true ↦ found G rivalOf (verdictOf G (candidateOf G)) | false ↦ left es ])
+      by-left : (es : List ℕ) → leftOf G ≡ es
+          → Answers G (elim (isEmpty es) as (λ b. Found) [ true ↦ found G rivalOf (verdictOf G (candidateOf G)) | false ↦ left es ])
       by-left [] e = judged e (verdictOf G (candidateOf G)) refl
       by-left (x ∷ xs) e = (left-empty (λ q. some x xs (sym e ∙ q)), sym e, some x xs)
 
@@ -133,7 +135,8 @@ module _ (G : Instance) (L : Lawful G) where
   counted (left es) (e, x, y) = (ap (λ Ms. eqb (length Ms) 1) (sym e), ap (λ Ms. eqb (length Ms) 0) (sym e))
   counted (rivalled F N v) (e, x, y, z) = (ap (λ Ms. eqb (length Ms) 1) (sym e), ap (λ Ms. eqb (length Ms) 0) (sym e))
 
-  pub finder-counts : (rivalOf : Plan → Plan) → (handsBack (finderOf G rivalOf) ≡ eqb (strongCount G) 1) × (not (handsBack (finderOf G rivalOf)) ≡ eqb (strongCount G) 0)
+  pub finder-counts : (rivalOf : Plan → Plan)
+      → (handsBack (finderOf G rivalOf) ≡ eqb (strongCount G) 1) × (not (handsBack (finderOf G rivalOf)) ≡ eqb (strongCount G) 0)
   finder-counts rivalOf = counted (finderOf G rivalOf) (finder-answers rivalOf)
 
   -- ---- a strongly popular plan has no blocking pair

@@ -23,7 +23,8 @@ module _ (G : Instance) (M : Plan) where
   unfolding firstBlocking someBlocks
   first-below h =
       let e = low (blocks G (on M)) (G .m) in
-      T-true (⊎-elim (λ y. y .0) (λ n. absurd (T-not (blocks G (on M) e) (n .1 e (upTo-∈ (G .m) e h)) (low-is (blocks G (on M)) (G .m) .2 h))) (any-or (blocks G (on M)) (upTo (G .m))))
+      T-true (⊎-elim (λ y. y .0) (λ n. absurd (T-not (blocks G (on M) e) (n .1 e (upTo-∈ (G .m) e h)) (low-is (blocks G (on M)) (G .m) .2 h)))
+      (any-or (blocks G (on M)) (upTo (G .m))))
 
   pub first-behind : G .m ≤ firstBlocking G M → someBlocks G (on M) ≡ false
   unfolding firstBlocking someBlocks

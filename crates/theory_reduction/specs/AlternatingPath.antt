@@ -55,7 +55,17 @@ module _ {G : Instance} {M rem : ℕ → Bool} where
 
   -- a walk back to x, and f, which the stand of x likes no less
   pub arrive : {x f : ℕ} → Back G M rem x → G .st f ≡ G .st x → G .rankT f ≤ G .rankT x → Arrival G M rem f 0 1
-  arrive {x} {f} b i h = record { from = b .from; at = x; c = 0; d = 1; from-in = b .from-in; way = b .way; stand = i; cost = omega (arith, up-no (G .rankT x) (G .rankT f) h) }
+  arrive {x} {f} b i h = record {
+    from = b .from;
+    at = x;
+    c = 0;
+    d = 1;
+    from-in = b .from-in;
+    way = b .way;
+    stand = i;
+    cost = omega
+        (arith, up-no (G .rankT x) (G .rankT f) h);
+  }
 
   -- ---- wholes that Lemma W refuses
   module _ (W : NoBad G M) where
@@ -74,7 +84,8 @@ module _ {G : Instance} {M rem : ℕ → Bool} where
         → (G .sv f ≡ G .sv (A .from) → up (G .rankS (A .from)) (G .rankS f) ≤ k + up (G .rankS f) (G .rankS (A .from))) → ⊥
     no-LG f k nf rm A h = by-cases (ℕ-discrete (G .sv f) (G .sv (A .from)))
         (λ e. no-loop (A .from-in) (loosen 1 0 0 (join (A .way)
-        (hop (up (G .rankT (A .at)) (G .rankT f) + up (G .rankS (A .from)) (G .rankS f)) (up (G .rankT f) (G .rankT (A .at)) + up (G .rankS f) (G .rankS (A .from))) nf (A .from-in) (A .stand) e (omega arith)))
+        (hop (up (G .rankT (A .at)) (G .rankT f) + up (G .rankS (A .from)) (G .rankS f))
+        (up (G .rankT f) (G .rankT (A .at)) + up (G .rankS f) (G .rankS (A .from))) nf (A .from-in) (A .stand) e (omega arith)))
         (omega arith) (omega (arith, h e))))
         (λ n. omega (arith, W .LG (A .from) (A .way .steps) (A .at) f (A .from-in .lt, A .from-in .mem) (A .way .walk) nf (A .stand) rm n, A .way .cost))
 
@@ -84,7 +95,8 @@ module _ {G : Instance} {M rem : ℕ → Bool} where
         → (G .st f ≡ G .st y → up (G .rankT y) (G .rankT f) ≤ k + up (G .rankT f) (G .rankT y)) → ⊥
     no-GL f k x y c d nf rm ix i r h v = by-cases (ℕ-discrete (G .st f) (G .st y))
         (λ e. no-loop ix (loosen 1 0 0 (join r
-        (hop (up (G .rankT y) (G .rankT f) + up (G .rankS x) (G .rankS f)) (up (G .rankT f) (G .rankT y) + up (G .rankS f) (G .rankS x)) nf ix e i (omega arith)))
+        (hop (up (G .rankT y) (G .rankT f) + up (G .rankS x) (G .rankS f)) (up (G .rankT f) (G .rankT y) + up (G .rankS f) (G .rankS x)) nf ix e i
+        (omega arith)))
         (omega arith) (omega (arith, v e))))
         (λ n. omega (arith, W .GL f x (r .steps) y nf rm (ix .lt, ix .mem) i (r .walk) n, r .cost))
 
@@ -99,7 +111,8 @@ module _ {G : Instance} {M rem : ℕ → Bool} where
     pub no-arrival : (f : ℕ) → New G M f → Arrival G M rem f 0 1 → Blocks (surveyors G) M rem f → ⊥
     no-arrival f nf A (inl rm) = no-LG f 1 nf rm A (λ e. omega (arith, up-one (G .rankS (A .from)) (G .rankS f)))
     no-arrival f nf A (inr (y, iy, i, w)) = no-LL (A .from-in) (loosen 0 0 2 (join (A .way)
-        (hop (up (G .rankT (A .at)) (G .rankT f)) (up (G .rankT f) (G .rankT (A .at)) + 1) nf iy (A .stand) i (omega (arith, up-no (G .rankS y) (G .rankS f) (omega arith), up-yes (G .rankS f) (G .rankS y) w))))
+        (hop (up (G .rankT (A .at)) (G .rankT f)) (up (G .rankT f) (G .rankT (A .at)) + 1) nf iy (A .stand) i
+        (omega (arith, up-no (G .rankS y) (G .rankS f) (omega arith), up-yes (G .rankS f) (G .rankS y) w))))
         (omega arith) (omega arith))
 
     -- a gain by f into x, where nothing of the plan at f's stand is better than f

@@ -53,7 +53,8 @@ module _ (K : Side) (rem : ℕ → Bool) where
   pub some-none-ahead : (e : ℕ) → e < K .m → T (rem e) → T (not (K .tie e))
       → (w : ℕ) × (w < K .m) × T (rem w) × T (not (K .tie w)) × (K .end w ≡ K .end e) × (ahead K rem (K .end w) (K .rank w) ≡ 0)
   unfolding ahead
-  some-none-ahead e l r s = given (best-at K (K .rank) (strictLeft K rem) (K .end e) (deg-pos K (strictLeft K rem) (K .end e) e l refl (and-i (rem e) (not (K .tie e)) r s)))
+  some-none-ahead e l r s = given
+      (best-at K (K .rank) (strictLeft K rem) (K .end e) (deg-pos K (strictLeft K rem) (K .end e) e l refl (and-i (rem e) (not (K .tie e)) r s)))
       (λ (w, wl, wt, wi, best). (
         w,
         wl,

@@ -76,7 +76,12 @@ module _ {G : Instance} {Z : State} {M : ℕ → Bool} (H : Sit G Z M) where
           let u = up-no (G .rankS x) (G .rankS g) (omega arith) in
           let v = up-yes (G .rankS g) (G .rankS x) w in
           ⊎-elim
-          (λ h. record { from = y; from-in = iy; way = loosen 0 0 1 (hop 0 1 ng ix j i (omega (arith, up-no (G .rankT y) (G .rankT g) h))) (omega arith) (omega arith) })
+          (λ h. record {
+            from = y;
+            from-in = iy;
+            way = loosen 0 0 1 (hop 0 1 ng ix j i (omega (arith, up-no (G .rankT y) (G .rankT g) h)))
+                (omega arith) (omega arith);
+          })
           (λ ny. let h : Reach G M 1 y x 0 0 = hop 0 0 ng ix j i (omega (arith, up-one (G .rankT y) (G .rankT g))) in after (ih y (iy, ny) h) h)
           k))
 
@@ -99,7 +104,8 @@ module _ {G : Instance} {Z : State} {M : ℕ → Bool} (H : Sit G Z M) where
   -- where g is in N(s) and not in the plan, and s is full, the plan has an edge at s outside N(s): N(s) is no larger than the quota
   pub to-stray : Quiet G Z (rule4 G Z) → (g : ℕ) → New G M g → T (reserved G Z g) → cutS G Z (G .sv g) ≤ deg (surveyors G) (both AS) (G .sv g)
       → (x : ℕ) × Stray x × (G .sv g ≡ G .sv x)
-  to-stray Q4 g ng t h = given (plan-instead AS (reserved G Z) g ng t (omega (arith, rule4-quiet G Z Q4 (G .sv g)))) (λ (x, ix, n, i). (x, outside-stray x ix n, i))
+  to-stray Q4 g ng t h = given (plan-instead AS (reserved G Z) g ng t (omega (arith, rule4-quiet G Z Q4 (G .sv g))))
+      (λ (x, ix, n, i). (x, outside-stray x ix n, i))
 
   -- Lemma F: a way and an end
   pub way-forth : Quiet G Z (rule1 G Z) → Quiet G Z (rule3 G Z) → Quiet G Z (rule4 G Z) → (x : ℕ) → Stray x → ForthFrom x
@@ -108,18 +114,22 @@ module _ {G : Instance} {Z : State} {M : ℕ → Bool} (H : Sit G Z M) where
       (λ x p r. no-loop (H .noBad) (p .0) r) ForthFrom step
     where
       -- (a) an arrow g of the stand is not in the plan
-      missing : (x : ℕ) → Stray x → ((y : ℕ) → Stray y → Reach G M 1 x y 0 0 → ForthFrom y) → (g : ℕ) → New G M g → T (arrowT G Z g) → G .st g ≡ G .st x → ForthFrom x
+      missing : (x : ℕ) → Stray x → ((y : ℕ) → Stray y → Reach G M 1 x y 0 0 → ForthFrom y) → (g : ℕ) → New G M g → T (arrowT G Z g)
+          → G .st g ≡ G .st x → ForthFrom x
       missing x (ix, nl, na) ih g ng t i =
           let w = arrow-beats AT g x ng t ix na i in
           given (to-stray Q4 g ng (arrow-reserved G Z g t) (no-room AS g (λ b. no-both-block (H .noBad) g ng b (inr (x, ix, i, w))))) (λ (y, sy, j).
-          let h : Reach G M 1 x y 0 0 = hop 0 0 ng (sy .0) i j (omega (arith, up-no (G .rankT x) (G .rankT g) (omega arith), up-yes (G .rankT g) (G .rankT x) w, up-one (G .rankS y) (G .rankS g))) in
+          let h : Reach G M 1 x y 0 0 = hop 0 0 ng (sy .0) i j
+          (omega (arith, up-no (G .rankT x) (G .rankT g) (omega arith), up-yes (G .rankT g) (G .rankT x) w, up-one (G .rankS y) (G .rankS g))) in
           before h (ih y sy h))
 
       -- (b) an arrow g into the stand is not in the plan
       incoming : (x : ℕ) → Mem x → (g : ℕ) → New G M g → T (arrowS G Z g) → G .st g ≡ G .st x → G .rankT g ≤ G .rankT x → ForthFrom x
       incoming x ix g ng s i v = let u = up-no (G .rankT x) (G .rankT g) v in ⊎-elim
           (λ rm. gained x g 0 0 ng rm i (stay x) (omega arith))
-          (λ (y, iy, j, w). lost y iy (loosen 0 0 1 (hop 0 1 ng iy i j (omega (arith, up-no (G .rankS y) (G .rankS g) (omega arith), up-yes (G .rankS g) (G .rankS y) w))) (omega arith) (omega arith)))
+          (λ (y, iy, j, w). lost y iy (loosen 0 0 1
+          (hop 0 1 ng iy i j (omega (arith, up-no (G .rankS y) (G .rankS g) (omega arith), up-yes (G .rankS g) (G .rankS y) w))) (omega arith)
+          (omega arith)))
           (arrow-blocks AS g ng s)
 
       -- the plan at the stand has no more edges than it sends arrows, or more; then, by rule 3, it has fewer than arrows in and out
@@ -129,7 +139,8 @@ module _ {G : Instance} {Z : State} {M : ℕ → Bool} (H : Sit G Z M) where
           (λ h. let few : deg (stands G) (arrowT G Z) (G .st x) < cutT G Z (G .st x) = omega (arith, fits AT (G .st x)) in
           given (deg-some (stands G) (arrowS G Z) (G .st x) (firm-in G Z (G .st x) nl few)) (λ (d, dl, da, di).
           let many = subst (λ t. cutT G Z t < deg (stands G) (arrowS G Z) t + deg (stands G) (arrowT G Z) t) di (rule3-quiet G Z Q3 d dl da) in
-          given (beyond-plan AT (λ e. arrowS G Z e || arrowT G Z e) (G .st x) (λ e t. ⊎-elim (arrowS-rem G Z e) (arrowT-rem G Z e) (or-case (arrowS G Z e) (arrowT G Z e) t))
+          given (beyond-plan AT (λ e. arrowS G Z e || arrowT G Z e) (G .st x)
+          (λ e t. ⊎-elim (arrowS-rem G Z e) (arrowT-rem G Z e) (or-case (arrowS G Z e) (arrowT G Z e) t))
           (omega (arith, fits AT (G .st x), in-or-out G Z Q1 (G .st x)))) (λ (g, ng, t, i).
           ⊎-elim
           (λ s. incoming x ix g ng s i (spare-beats AT g x ng ix na i (subst (λ t. deg (stands G) (arrowT G Z) t < cutT G Z t) (sym i) few)))

@@ -37,11 +37,13 @@ module _ (G : Instance) (Z : State) where
   by-rule P e p1 p2 p3 p4 p5 p6 p7 (suc (suc (suc (suc (suc (suc (suc (suc r)))))))) t = absurd t
 
   names-range : (r e : ℕ) → T (names G Z r e) → (1 ≤ r) × (r ≤ 7)
-  names-range r e = by-rule (λ r. (1 ≤ r) × (r ≤ 7)) e (λ t. omega arith) (λ t. omega arith) (λ t. omega arith) (λ t. omega arith) (λ t. omega arith) (λ t. omega arith) (λ t. omega arith) r
+  names-range r e = by-rule (λ r. (1 ≤ r) × (r ≤ 7)) e (λ t. omega arith) (λ t. omega arith) (λ t. omega arith) (λ t. omega arith) (λ t. omega arith)
+      (λ t. omega arith) (λ t. omega arith) r
 
   none-lowest : (r : ℕ) → T (not (ltb (lowest G Z r) (G .m))) → Quiet G Z (names G Z r)
   unfolding lowest
-  none-lowest r n e l t = nand-r (Z .rem e) (names G Z r e) (low-is (λ e. Z .rem e && names G Z r e) (G .m) .1 e (omega (arith, nltb→le (lowest G Z r) (G .m) n))) t
+  none-lowest r n e l t = nand-r (Z .rem e) (names G Z r e)
+      (low-is (λ e. Z .rem e && names G Z r e) (G .m) .1 e (omega (arith, nltb→le (lowest G Z r) (G .m) n))) t
 
   earlier-quiet : (k : ℕ) → k < ruleOf G Z → Quiet G Z (names G Z k)
   unfolding ruleOf
@@ -75,11 +77,13 @@ module _ (G : Instance) (Z : State) where
   unfolding ruleOf edgeOf lowest
   chosen-is r e rl Q l t n =
       let at : lowest G Z r ≡ e = low-hit (λ d. Z .rem d && names G Z r d) e (G .m) (low-none (λ d. Z .rem d && names G Z r d) e n) t l in
-      let is : ruleOf G Z ≡ r = low-hit (λ k. ltb (lowest G Z k) (G .m)) r 8 (low-none (λ k. ltb (lowest G Z k) (G .m)) r silent) (lt-ltb (lowest G Z r) (G .m) (omega arith)) rl in
+      let is : ruleOf G Z ≡ r = low-hit (λ k. ltb (lowest G Z k) (G .m)) r 8 (low-none (λ k. ltb (lowest G Z k) (G .m)) r silent)
+      (lt-ltb (lowest G Z r) (G .m) (omega arith)) rl in
       (is, ap (lowest G Z) is ∙ at)
     where
       silent : (k : ℕ) → k < r → ltb (lowest G Z k) (G .m) ≡ false
-      silent k h = le-ltb (lowest G Z k) (G .m) (let i = low-none (λ d. Z .rem d && names G Z k d) (G .m) (λ d dl. quiet-false (Z .rem d) (names G Z k d) (Q k h d dl)) in omega arith)
+      silent k h = le-ltb (lowest G Z k) (G .m)
+          (let i = low-none (λ d. Z .rem d && names G Z k d) (G .m) (λ d dl. quiet-false (Z .rem d) (names G Z k d) (Q k h d dl)) in omega arith)
 
   -- its edge is the lowest
   pub below-edge : (d : ℕ) → d < edgeOf G Z → T (not (Z .rem d && names G Z (ruleOf G Z) d))
@@ -107,9 +111,11 @@ module _ (G : Instance) (Z : State) where
       → T (fixes (fateOf r)) → (0 < cutS G Z (G .sv e)) × (0 < cutT G Z (G .st e))
   unfolding names fateOf
   fixes-room r e l t n = by-rule (λ r. ((k : ℕ) → k < r → Quiet G Z (names G Z k)) → T (fixes (fateOf r)) → Room) e
-      (λ n Q f. given (rule1-says G Z e n) (λ (a, b). omega (arith, arrow-few (surveyors G) (Z .rem) (cutS G Z) e a, arrow-few (stands G) (Z .rem) (cutT G Z) e b)))
+      (λ n Q f. given (rule1-says G Z e n)
+      (λ (a, b). omega (arith, arrow-few (surveyors G) (Z .rem) (cutS G Z) e a, arrow-few (stands G) (Z .rem) (cutT G Z) e b)))
       (λ n Q f. absurd f)
-      (λ n Q f. given (rule3-says G Z e n) (λ (a, h). omega (arith, arrow-few (surveyors G) (Z .rem) (cutS G Z) e a, deg-pos (stands G) (arrowS G Z) (G .st e) e l refl a)))
+      (λ n Q f. given (rule3-says G Z e n)
+      (λ (a, h). omega (arith, arrow-few (surveyors G) (Z .rem) (cutS G Z) e a, deg-pos (stands G) (arrowS G Z) (G .st e) e l refl a)))
       (λ n Q f. absurd f)
       (λ n Q f. absurd f)
       (λ n Q f. omega (arith, rule6-says G Z e n, rule2-quiet G Z (Q 2 (omega arith)) e l t))

@@ -82,7 +82,8 @@ module _ (G : Instance) where
   unfolding stateAfter
   all-taken = along (λ n Z ss Y. (s : Step) → s ∈ ss → Taken Z s) (λ n Z h s k. absurd (List·Memᴰ·not-nil k)) more
     where
-      more : (n : ℕ) (Z : State) (ss : List Step) (Y : State) → ruleOf G Z < 8 → ((s : Step) → s ∈ ss → Taken (next G Z) s) → (s : Step) → s ∈ (stepOf G Z ∷ ss) → Taken Z s
+      more : (n : ℕ) (Z : State) (ss : List Step) (Y : State) → ruleOf G Z < 8 → ((s : Step) → s ∈ ss → Taken (next G Z) s) → (s : Step)
+          → s ∈ (stepOf G Z ∷ ss) → Taken Z s
       more n Z ss Y h ih s (List·Memᴰ·head i) = (0, acts G Z h, i)
       more n Z ss Y h ih s (List·Memᴰ·tail k) = given (ih s k) (λ (i, A, e). let j = sym (after-more i Z h) in (suc i, subst (Acts G) j A, e ∙ ap (stepOf G) j))
 
@@ -94,7 +95,8 @@ module _ (G : Instance) where
   steps-below s k = given (steps-taken s k) (λ (i, A, e). subst (λ s. s .edge < G .m) (sym e) (A .inside))
 
   pub steps-rule : (s : Step) → s ∈ stepsOf G → (1 ≤ s .rule) × (s .rule ≤ 7) × (s .fate ≡ fateOf (s .rule))
-  steps-rule s k = given (steps-taken s k) (λ (i, A, e). subst (λ s. (1 ≤ s .rule) × (s .rule ≤ 7) × (s .fate ≡ fateOf (s .rule))) (sym e) (A .range .0, A .range .1, refl))
+  steps-rule s k = given (steps-taken s k)
+      (λ (i, A, e). subst (λ s. (1 ≤ s .rule) × (s .rule ≤ 7) × (s .fate ≡ fateOf (s .rule))) (sym e) (A .range .0, A .range .1, refl))
 
   -- ---- no edge twice, so no more steps than edges
   next-other : (Z : State) (e : ℕ) → T (next G Z .rem e) → T (Z .rem e) × T (not (eqb e (edgeOf G Z)))
@@ -114,7 +116,11 @@ module _ (G : Instance) where
 
       more : (n : ℕ) (Z : State) (ss : List Step) (Y : State) → ruleOf G Z < 8 → Once (next G Z) ss → Once Z (stepOf G Z ∷ ss)
       more n Z ss Y h (u, k) = (
-        ((λ m. given (Memᴰ·of-map (λ s. s .edge) ss m) (λ (s, j, i). T-not (eqb (s .edge) (edgeOf G Z)) (next-other Z (s .edge) (k s j) .1) (eq→eqb (s .edge) (edgeOf G Z) i))), u),
+        (
+          (λ m. given (Memᴰ·of-map (λ s. s .edge) ss m)
+              (λ (s, j, i). T-not (eqb (s .edge) (edgeOf G Z)) (next-other Z (s .edge) (k s j) .1) (eq→eqb (s .edge) (edgeOf G Z) i))),
+          u,
+        ),
         inside Z ss h (u, k),
       )
 

@@ -36,7 +36,8 @@ module _ {G : Instance} {Z : State} {M : ℕ → Bool} (H : Sit G Z M) where
       (some-or-room (AT H) (G .st e) (omega arith)))
       (some-or-room (AS H) (G .sv e) (omega arith))))
 
-  module _ (Q1 : Quiet G Z (rule1 G Z)) (Q2 : Quiet G Z (rule2 G Z)) (Q3 : Quiet G Z (rule3 G Z)) (Q4 : Quiet G Z (rule4 G Z)) (Q6 : Quiet G Z (rule6 G Z)) (Q7 : Quiet G Z (rule7 G Z)) where
+  module _ (Q1 : Quiet G Z (rule1 G Z)) (Q2 : Quiet G Z (rule2 G Z)) (Q3 : Quiet G Z (rule3 G Z)) (Q4 : Quiet G Z (rule4 G Z))
+      (Q6 : Quiet G Z (rule6 G Z)) (Q7 : Quiet G Z (rule7 G Z)) where
     -- no arc into x from an edge of the plan costs at most the fall of the height
     abbrev Alone : ℕ → Type 0
     Alone x = (y : ℕ) → Mem H y → Reach G M 1 y x (height y) (height x) → ⊥
@@ -70,14 +71,16 @@ module _ {G : Instance} {Z : State} {M : ℕ → Bool} (H : Sit G Z M) where
     -- a loose stand has no strict edge left, by rule 7
     loose-beats : (f y : ℕ) → New G M f → Mem H y → T (loose G Z (G .st f)) → G .st f ≡ G .st y → G .rankT f ≤ G .rankT y
     loose-beats f y nf iy lo j = given (loose-says G Z (G .st f) lo) (λ (few, none). spare-beats (AT H) f y nf iy
-        (not-T (arrowT G Z y) (λ t. omega (arith, subst (λ v. cutT G Z v ≤ deg (stands G) (arrowS G Z) v) (sym j) (rule7-quiet G Z Q7 y (iy .lt) (iy .left) (arrowT-strict G Z y t)))))
+        (not-T (arrowT G Z y) (λ t. omega
+        (arith, subst (λ v. cutT G Z v ≤ deg (stands G) (arrowS G Z) v) (sym j) (rule7-quiet G Z Q7 y (iy .lt) (iy .left) (arrowT-strict G Z y t)))))
         j few)
 
     -- or f's stand is loose
     loose-not-alone : (x f : ℕ) → Mem H x → Alone x → T (arrowS G Z x) → T (not (reserved G Z x)) → New G M f → T (loose G Z (G .st f)) → G .sv f ≡ G .sv x → ⊥
     loose-not-alone x f ix alone a out nf lo i = given (loose-says G Z (G .st f) lo) (λ (few, none).
         by-cases (decLt (deg (stands G) (both (AT H)) (G .st f)) (cutT G Z (G .st f)))
-        (λ h. no-gain (H .noBad) f x nf (room (AT H) (G .st f) h) ix i (λ y iy j. loose-beats f y nf iy lo j) (way-forth H Q1 Q3 Q4 x (outside-stray H x ix out)))
+        (λ h. no-gain (H .noBad) f x nf (room (AT H) (G .st f) h) ix i (λ y iy j. loose-beats f y nf iy lo j)
+        (way-forth H Q1 Q3 Q4 x (outside-stray H x ix out)))
         (λ h. given (plan-beyond (AT H) (arrowT G Z) (G .st f) (omega arith)) (λ (y, iy, n, j).
         alone y iy (hop (height y) (height x) nf ix j i (omega (
           arith,
@@ -94,7 +97,8 @@ module _ {G : Instance} {Z : State} {M : ℕ → Bool} (H : Sit G Z M) where
         (λ lo. T-not (arrowS G Z x) (deg-none (stands G) (arrowS G Z) (G .st x) (loose-says G Z (G .st x) lo .1) x (ix .lt) refl) a)
         (λ b. rule1-quiet G Z Q1 x (ix .lt) a b)
         (reserved-says G Z x t)) in
-        given (instead-of-plan (AS H) (reserved G Z) x (reserved-rem G Z) ix out (omega (arith, fits (AS H) (G .sv x), rule6-quiet G Z Q6 x (ix .lt) (ix .left)))) (λ (f, nf, t, i).
+        given (instead-of-plan (AS H) (reserved G Z) x (reserved-rem G Z) ix out
+        (omega (arith, fits (AS H) (G .sv x), rule6-quiet G Z Q6 x (ix .lt) (ix .left)))) (λ (f, nf, t, i).
         ⊎-elim (λ lo. loose-not-alone x f ix alone a out nf lo i) (λ b. firm-not-alone x f ix alone a nf b i) (reserved-says G Z f t))
 
     none-remains : (e : ℕ) → e < G .m → T (Z .rem e) → ⊥

@@ -25,13 +25,15 @@ unfolding first
 first-at p make zero i e h k t l = absurd (omega arith)
 first-at p make (suc n) i e h k t l = by-cases (decLt i e)
     (λ b. ap (λ x. cond x (some (make i)) (first p make (range (suc i) n))) (l i b) ∙ first-at p make n (suc i) e b (omega arith) t l)
-    (λ b. let q : e ≡ i = omega arith in ap (λ x. cond x (some (make i)) (first p make (range (suc i) n))) (ap p (sym q) ∙ t) ∙ ap (λ (d : ℕ). some (make d)) (sym q))
+    (λ b. let q : e ≡ i = omega arith in ap (λ x. cond x (some (make i)) (first p make (range (suc i) n))) (ap p (sym q) ∙ t)
+    ∙ ap (λ (d : ℕ). some (make d)) (sym q))
 
 module _ (G : Instance) (Z : State) where
   -- ---- one rule
   pass : (R : Rule) (Rs : List Rule) → Quiet G Z (R .names) → firstStep G Z (R ∷ Rs) ≡ firstStep G Z Rs
   unfolding firstStep stepBy orElse
-  pass R Rs q = ap (λ (o : Option Step). orElse o (firstStep G Z Rs)) (first-none (λ e. Z .rem e && R .names e) (λ e. record { fate = R .fate; edge = e; rule = R .number })
+  pass R Rs q = ap (λ (o : Option Step). orElse o (firstStep G Z Rs))
+      (first-none (λ e. Z .rem e && R .names e) (λ e. record { fate = R .fate; edge = e; rule = R .number })
       (range 0 (G .m)) (λ e m. false-T (quiet-false (Z .rem e) (R .names e) (q e (given (∈-range (G .m) 0 m .1) (λ l. omega arith))))))
 
   hit : (R : Rule) (Rs : List Rule) (e : ℕ) → e < G .m → Z .rem e && R .names e ≡ true → ((d : ℕ) → d < e → Z .rem d && R .names d ≡ false)

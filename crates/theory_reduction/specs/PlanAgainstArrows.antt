@@ -105,8 +105,10 @@ module _ (A : PlanAgainstArrows) where
   pub plan-beyond : (p : ℕ → Bool) (v : ℕ) → deg K p v < deg K both v → (x : ℕ) × Mem x × T (not (p x)) × (v ≡ K .end x)
   plan-beyond p v h = given (deg-lt K p both v h) (λ (x, l, t, n, i). (x, both-in x l t, n, sym i))
 
-  pub plan-instead : (p : ℕ → Bool) (f : ℕ) → Fresh f → T (p f) → deg K p (K .end f) ≤ deg K both (K .end f) → (x : ℕ) × Mem x × T (not (p x)) × (K .end f ≡ K .end x)
-  plan-instead p f nf t h = given (deg-swap K p both (K .end f) h f (nf .0) refl t (nand-i (M f) (rem f) (nf .1))) (λ (x, l, s, n, i). (x, both-in x l s, n, sym i))
+  pub plan-instead : (p : ℕ → Bool) (f : ℕ) → Fresh f → T (p f) → deg K p (K .end f) ≤ deg K both (K .end f)
+      → (x : ℕ) × Mem x × T (not (p x)) × (K .end f ≡ K .end x)
+  plan-instead p f nf t h = given (deg-swap K p both (K .end f) h f (nf .0) refl t (nand-i (M f) (rem f) (nf .1)))
+      (λ (x, l, s, n, i). (x, both-in x l s, n, sym i))
 
   -- an edge of p that is not in the plan
   pub beyond-plan : (p : ℕ → Bool) (v : ℕ) → ((e : ℕ) → T (p e) → T (rem e)) → deg K both v < deg K p v → (f : ℕ) × Fresh f × T (p f) × (K .end f ≡ v)
@@ -161,6 +163,7 @@ module _ (A : PlanAgainstArrows) where
       (λ h. absurd (omega (arith, A .q-is v, deg-sub K rem a v (λ e l i r. spare-all K rem q v h e l i r (s e)))))
       (λ h. omega arith)
 
-  pub better-arrow : ((e : ℕ) → T (not (K .tie e))) → (x : ℕ) → Mem x → T (not (a x)) → (f : ℕ) × Fresh f × T (a f) × (K .end f ≡ K .end x) × (K .rank f < K .rank x)
+  pub better-arrow : ((e : ℕ) → T (not (K .tie e))) → (x : ℕ) → Mem x → T (not (a x))
+      → (f : ℕ) × Fresh f × T (a f) × (K .end f ≡ K .end x) × (K .rank f < K .rank x)
   better-arrow s x ix n = given (instead-of-plan a x (arrow-rem K rem q) ix n (omega (arith, fits (K .end x), arrows-all s (K .end x))))
       (λ (f, nf, t, i). (f, nf, t, i, arrow-beats f x nf t ix n i))

@@ -26,7 +26,8 @@ begin-counted K rem = record {
 }
 
 -- the numbers of a node, before and after a step at an edge that is fixed (b) or struck, and is at the node (c) or not
-cut-step : (b c : Bool) (quota F F′ R R′ x : ℕ) → x ≡ min (quota - F) R → R ≡ R′ + bit c → F′ ≡ F + bit (b && c) → min (x - bit (b && c)) R′ ≡ min (quota - F′) R′
+cut-step : (b c : Bool) (quota F F′ R R′ x : ℕ) → x ≡ min (quota - F) R → R ≡ R′ + bit c → F′ ≡ F + bit (b && c)
+    → min (x - bit (b && c)) R′ ≡ min (quota - F′) R′
 cut-step true true quota F F′ R R′ x h k g = omega arith
 cut-step true false quota F F′ R R′ x h k g = omega arith
 cut-step false true quota F F′ R R′ x h k g = omega arith
@@ -43,10 +44,12 @@ act-counted : (K : Side) (rem fixed : ℕ → Bool) (q : ℕ → ℕ) → Counte
     → Counted K (λ d. rem d && not (eqb d e)) (λ d. fixed d || (b && eqb d e)) (λ v. cut K rem q v - bit (b && eqb v (K .end e)))
 unfolding cut
 act-counted K rem fixed q C b e l r n room = record {
-  cut-is = λ v. cut-step b (eqb v (K .end e)) (K .quota v) (deg K fixed v) (deg K (λ d. fixed d || (b && eqb d e)) v) (deg K rem v) (deg K (λ d. rem d && not (eqb d e)) v)
+  cut-is = λ v. cut-step b (eqb v (K .end e)) (K .quota v) (deg K fixed v) (deg K (λ d. fixed d || (b && eqb d e)) v) (deg K rem v)
+      (deg K (λ d. rem d && not (eqb d e)) v)
       (cut K rem q v) (C .cut-is v) (deg-without K rem e v l r) (deg-with K fixed b e v l n);
   within = λ v. within-step b (eqb v (K .end e)) (K .quota v) (deg K fixed v) (deg K (λ d. fixed d || (b && eqb d e)) v) (deg K rem v)
-      (cut K rem q v) (C .cut-is v) (C .within v) (λ tb tc. subst (λ u. 0 < cut K rem q u) (sym (eqb→eq v (K .end e) tc)) (room tb)) (deg-with K fixed b e v l n);
+      (cut K rem q v) (C .cut-is v) (C .within v) (λ tb tc. subst (λ u. 0 < cut K rem q u) (sym (eqb→eq v (K .end e) tc)) (room tb))
+      (deg-with K fixed b e v l n);
 }
 
 -- ---- a state: nothing that is fixed remains, and both sides' counts are right

@@ -40,8 +40,10 @@ module _ {G : Instance} {M : ℕ → Bool} where
         plan = H .plan;
         noBad = H .noBad;
         sound = next-sound G Z (H .sound) h;
-        kept = λ d l t. kept-step (Z .fixed d) b (eqb d (edgeOf G Z)) (M d) (H .kept d l) (λ f c. subst (λ z. T (M z)) (sym (eqb→eq d (edgeOf G Z) c)) (fixed f)) t;
-        rest = λ d l t n. rest-step (Z .fixed d) b (eqb d (edgeOf G Z)) (Z .rem d) (M d) (H .rest d l) (λ f c. subst (λ z. T (not (M z))) (sym (eqb→eq d (edgeOf G Z) c)) (struck f)) t n;
+        kept = λ d l t. kept-step (Z .fixed d) b (eqb d (edgeOf G Z)) (M d) (H .kept d l)
+            (λ f c. subst (λ z. T (M z)) (sym (eqb→eq d (edgeOf G Z) c)) (fixed f)) t;
+        rest = λ d l t n. rest-step (Z .fixed d) b (eqb d (edgeOf G Z)) (Z .rem d) (M d) (H .rest d l)
+            (λ f c. subst (λ z. T (not (M z))) (sym (eqb→eq d (edgeOf G Z) c)) (struck f)) t n;
       }))
 
   begin-sit : Lawful G → Matching G M → NoBad G M → Sit G (begin G) M

@@ -31,7 +31,8 @@ module _ (K : Side) (rem : ℕ → Bool) (e : ℕ) where
   ahead-kept : (v r : ℕ) → (K .end e ≡ v → (strictLeft K rem e && ltb (K .rank e) r) ≡ false) → ahead K rem′ v r ≡ ahead K rem v r
   unfolding ahead
   ahead-kept v r h = deg-cong K (λ d. strictLeft K rem′ d && ltb (K .rank d) r) (λ d. strictLeft K rem d && ltb (K .rank d) r) v (λ d l i. by-eq d e
-      (λ q t. ap (λ b. (b && not (K .tie d)) && ltb (K .rank d) r) (gone d t) ∙ sym (subst (λ x. (strictLeft K rem x && ltb (K .rank x) r) ≡ false) (sym q) (h (ap (K .end) (sym q) ∙ i))))
+      (λ q t. ap (λ b. (b && not (K .tie d)) && ltb (K .rank d) r) (gone d t)
+      ∙ sym (subst (λ x. (strictLeft K rem x && ltb (K .rank x) r) ≡ false) (sym q) (h (ap (K .end) (sym q) ∙ i))))
       (λ n t. ap (λ b. (b && not (K .tie d)) && ltb (K .rank d) r) (other d t)))
 
   -- those ahead of e are ahead of what is worse, before and after
@@ -41,22 +42,27 @@ module _ (K : Side) (rem : ℕ → Bool) (e : ℕ) where
     deg-sub K (λ d. strictLeft K rem d && ltb (K .rank d) (K .rank e)) (λ d. strictLeft K rem′ d && ltb (K .rank d) r) v (λ d l j t. by-eq d e
         (λ q s. let k = ltb→lt (K .rank d) (K .rank e) (search parts) in absurd (omega (arith, ap (K .rank) q)))
         (λ n s. let k = ltb→lt (K .rank d) (K .rank e) (search parts) in
-        and-i (strictLeft K rem′ d) (ltb (K .rank d) r) (subst (λ b. T (b && not (K .tie d))) (sym (other d s)) (search parts)) (lt→ltb (K .rank d) r (omega arith)))),
+        and-i (strictLeft K rem′ d) (ltb (K .rank d) r) (subst (λ b. T (b && not (K .tie d))) (sym (other d s)) (search parts))
+        (lt→ltb (K .rank d) r (omega arith)))),
     deg-sub K (λ d. strictLeft K rem d && ltb (K .rank d) (K .rank e)) (λ d. strictLeft K rem d && ltb (K .rank d) r) v (λ d l j t.
-        let k = ltb→lt (K .rank d) (K .rank e) (search parts) in and-i (strictLeft K rem d) (ltb (K .rank d) r) (search parts) (lt→ltb (K .rank d) r (omega arith))),
+        let k = ltb→lt (K .rank d) (K .rank e) (search parts) in
+        and-i (strictLeft K rem d) (ltb (K .rank d) r) (search parts) (lt→ltb (K .rank d) r (omega arith))),
   )
 
   module _ (q : ℕ → ℕ) (n : T (not (arrow K rem q e))) where
     -- e sends no arrow: as many are ahead of it as the quota
     full : T (strictLeft K rem e) → q (K .end e) ≤ ahead K rem (K .end e) (K .rank e)
     unfolding arrow
-    full s = nltb→le (ahead K rem (K .end e) (K .rank e)) (q (K .end e)) (nand-r (strictLeft K rem e) (ltb (ahead K rem (K .end e) (K .rank e)) (q (K .end e))) n s)
+    full s = nltb→le (ahead K rem (K .end e) (K .rank e)) (q (K .end e))
+        (nand-r (strictLeft K rem e) (ltb (ahead K rem (K .end e) (K .rank e)) (q (K .end e))) n s)
 
     pub arrow-kept : (d : ℕ) → arrow K rem′ q d ≡ arrow K rem q d
     unfolding arrow
     arrow-kept d = by-eq d e
-        (λ i t. ap (λ b. (b && not (K .tie d)) && ltb (ahead K rem′ (K .end d) (K .rank d)) (q (K .end d))) (gone d t) ∙ sym (subst (λ x. arrow K rem q x ≡ false) (sym i) (T-false n)))
-        (λ ne t. ap (λ b. (b && not (K .tie d)) && ltb (ahead K rem′ (K .end d) (K .rank d)) (q (K .end d))) (other d t) ∙ ap (λ b. strictLeft K rem d && b) (test d))
+        (λ i t. ap (λ b. (b && not (K .tie d)) && ltb (ahead K rem′ (K .end d) (K .rank d)) (q (K .end d))) (gone d t)
+        ∙ sym (subst (λ x. arrow K rem q x ≡ false) (sym i) (T-false n)))
+        (λ ne t. ap (λ b. (b && not (K .tie d)) && ltb (ahead K rem′ (K .end d) (K .rank d)) (q (K .end d))) (other d t)
+        ∙ ap (λ b. strictLeft K rem d && b) (test d))
       where
         test : (d : ℕ) → ltb (ahead K rem′ (K .end d) (K .rank d)) (q (K .end d)) ≡ ltb (ahead K rem (K .end d) (K .rank d)) (q (K .end d))
         test d = by-test (eqb (K .end e) (K .end d) && (strictLeft K rem e && ltb (K .rank e) (K .rank d)))
@@ -64,13 +70,19 @@ module _ (K : Side) (rem : ℕ → Bool) (e : ℕ) where
             let i = eqb→eq (K .end e) (K .end d) (and-l (eqb (K .end e) (K .end d)) (strictLeft K rem e && ltb (K .rank e) (K .rank d)) s) in
             let u = and-r (eqb (K .end e) (K .end d)) (strictLeft K rem e && ltb (K .rank e) (K .rank d)) s in
             let w = ltb→lt (K .rank e) (K .rank d) (and-r (strictLeft K rem e) (ltb (K .rank e) (K .rank d)) u) in
-            let f : q (K .end d) ≤ ahead K rem (K .end d) (K .rank e) = subst (λ x. q x ≤ ahead K rem x (K .rank e)) i (full (and-l (strictLeft K rem e) (ltb (K .rank e) (K .rank d)) u)) in
+            let f : q (K .end d) ≤ ahead K rem (K .end d) (K .rank e) =
+            subst (λ x. q x ≤ ahead K rem x (K .rank e)) i (full (and-l (strictLeft K rem e) (ltb (K .rank e) (K .rank d)) u)) in
             given (ahead-more (K .end d) (K .rank d) i w) (λ (a, b).
-            le-ltb (ahead K rem′ (K .end d) (K .rank d)) (q (K .end d)) (omega arith) ∙ sym (le-ltb (ahead K rem (K .end d) (K .rank d)) (q (K .end d)) (omega arith))))
-            (λ s. ap (λ x. ltb x (q (K .end d))) (ahead-kept (K .end d) (K .rank d) (λ i. T-false (nand-r (eqb (K .end e) (K .end d)) (strictLeft K rem e && ltb (K .rank e) (K .rank d)) s (subst (λ x. T (eqb (K .end e) x)) i (eqb-refl (K .end e)))))))
+            le-ltb (ahead K rem′ (K .end d) (K .rank d)) (q (K .end d)) (omega arith)
+            ∙ sym (le-ltb (ahead K rem (K .end d) (K .rank d)) (q (K .end d)) (omega arith))))
+            (λ s. ap (λ x. ltb x (q (K .end d)))
+            (ahead-kept (K .end d) (K .rank d)
+            (λ i. T-false (nand-r (eqb (K .end e) (K .end d)) (strictLeft K rem e && ltb (K .rank e) (K .rank d)) s
+            (subst (λ x. T (eqb (K .end e) x)) i (eqb-refl (K .end e)))))))
 
   -- the node of e keeps its cut quota if it has more remaining edges
-  pub cut-kept : (k : ℕ → ℕ) → e < K .m → T (rem e) → cut K rem k (K .end e) < deg K rem (K .end e) → (v : ℕ) → min (cut K rem k v - 0) (deg K rem′ v) ≡ cut K rem k v
+  pub cut-kept : (k : ℕ → ℕ) → e < K .m → T (rem e) → cut K rem k (K .end e) < deg K rem (K .end e) → (v : ℕ)
+      → min (cut K rem k v - 0) (deg K rem′ v) ≡ cut K rem k v
   unfolding cut
   cut-kept k l r h v = by-eq v (K .end e)
       (λ i t. omega (arith, deg-without K rem e v l r, ap bit t, ap (deg K rem) i, ap k i))
@@ -139,13 +151,16 @@ module _ (G : Instance) (Z : State) (e : ℕ) where
       unfolding reserved act
       reserved-same d = by-eq d e
           (λ i t. ap (λ b. b && ((not (loose G Y (G .st d)) && arrowT G Y d) || loose G Y (G .st d))) (gone (stands G) (Z .rem) e d t)
-          ∙ sym (ap (λ b. Z .rem d && b) (ap₂ (λ (x y : Bool). (not x && y) || x) (ap (λ z. loose G Z (G .st z)) i ∙ T-false firm) (ap (arrowT G Z) i ∙ T-false (C .noT))) ∙ and-false (Z .rem d)))
+          ∙ sym (ap (λ b. Z .rem d && b)
+          (ap₂ (λ (x y : Bool). (not x && y) || x) (ap (λ z. loose G Z (G .st z)) i ∙ T-false firm) (ap (arrowT G Z) i ∙ T-false (C .noT)))
+          ∙ and-false (Z .rem d)))
           (λ n t. ap (λ b. b && ((not (loose G Y (G .st d)) && arrowT G Y d) || loose G Y (G .st d))) (other (stands G) (Z .rem) e d t)
           ∙ ap₂ (λ (x y : Bool). Z .rem d && ((not x && y) || x)) (loose-same (G .st d)) (arrowT-same d))
 
       rule4-same : (d : ℕ) → rule4 G Y d ≡ rule4 G Z d
       unfolding rule4 worseReserved
-      rule4-same d = ap₂ (λ (r : ℕ → Bool) (c : ℕ → ℕ). r d && (ltb (c (G .sv d)) (deg (surveyors G) r (G .sv d)) && eqb (deg (surveyors G) (λ x. r x && ltb (G .rankS d) (G .rankS x)) (G .sv d)) 0))
+      rule4-same d = ap₂ (λ (r : ℕ → Bool) (c : ℕ → ℕ). r d
+          && (ltb (c (G .sv d)) (deg (surveyors G) r (G .sv d)) && eqb (deg (surveyors G) (λ x. r x && ltb (G .rankS d) (G .rankS x)) (G .sv d)) 0))
           (fun-ext reserved-same) cutS-same
 
       rule5-same : (d : ℕ) → rule5 G Y d ≡ rule5 G Z d

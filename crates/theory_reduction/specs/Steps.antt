@@ -31,13 +31,16 @@ module _ {G : Instance} {Z : State} {M : ℕ → Bool} (H : Sit G Z M) where
 
   -- an arrow of both ends outside the plan blocks at both
   fix1 : (e : ℕ) → e < G .m → T (rule1 G Z e) → T (M e)
-  fix1 e l t = given (rule1-says G Z e t) (λ (s, u). in-plan e l (λ nf. no-both-block (H .noBad) e nf (arrow-blocks (AS H) e nf s) (arrow-blocks (AT H) e nf u)))
+  fix1 e l t = given (rule1-says G Z e t)
+      (λ (s, u). in-plan e l (λ nf. no-both-block (H .noBad) e nf (arrow-blocks (AS H) e nf s) (arrow-blocks (AT H) e nf u)))
 
   -- one of the better edges that come in is outside the plan: it blocks here, by e, and at the end that its arrow leaves
   strike2 : (e : ℕ) → e < G .m → T (Z .rem e) → T (rule2 G Z e) → T (not (M e))
   strike2 e l r t = not-in e l r (λ ie. ⊎-elim
-      (λ h. given (better-beyond (AS H) (arrowT G Z) e (arrowT-rem G Z) ie h) (λ (g, ng, s, i, w). no-both-block (H .noBad) g ng (inr (e, ie, i, w)) (arrow-blocks (AT H) g ng s)))
-      (λ h. given (better-beyond (AT H) (arrowS G Z) e (arrowS-rem G Z) ie h) (λ (g, ng, s, i, w). no-both-block (H .noBad) g ng (arrow-blocks (AS H) g ng s) (inr (e, ie, i, w))))
+      (λ h. given (better-beyond (AS H) (arrowT G Z) e (arrowT-rem G Z) ie h)
+      (λ (g, ng, s, i, w). no-both-block (H .noBad) g ng (inr (e, ie, i, w)) (arrow-blocks (AT H) g ng s)))
+      (λ h. given (better-beyond (AT H) (arrowS G Z) e (arrowS-rem G Z) ie h)
+      (λ (g, ng, s, i, w). no-both-block (H .noBad) g ng (arrow-blocks (AS H) g ng s) (inr (e, ie, i, w))))
       (rule2-says G Z e t))
 
   -- outside the plan, e leaves a place at its stand to an edge x without any arrow; a way back to x, then e, and e blocks at its surveyor
@@ -46,8 +49,10 @@ module _ {G : Instance} {Z : State} {M : ℕ → Bool} (H : Sit G Z M) where
       let bS = arrow-blocks (AS H) e nf s in
       let full = no-room (AT H) e (no-both-block (H .noBad) e nf bS) in
       let one = deg-pos (stands G) (arrowS G Z) (G .st e) e l refl s in
-      given (plan-instead (AT H) (λ d. arrowS G Z d || arrowT G Z d) e nf (or-l (arrowS G Z e) (arrowT G Z e) s) (omega (arith, in-or-out G Z Q1 (G .st e)))) (λ (x, ix, n, i).
-      no-arrival (H .noBad) e nf (arrive (way-back H Q2 x ix (nor-l (arrowS G Z x) (arrowT G Z x) n)) i (spare-beats (AT H) e x nf ix (nor-r (arrowS G Z x) (arrowT G Z x) n) i (omega arith))) bS)))
+      given (plan-instead (AT H) (λ d. arrowS G Z d || arrowT G Z d) e nf (or-l (arrowS G Z e) (arrowT G Z e) s)
+      (omega (arith, in-or-out G Z Q1 (G .st e)))) (λ (x, ix, n, i).
+      no-arrival (H .noBad) e nf (arrive (way-back H Q2 x ix (nor-l (arrowS G Z x) (arrowT G Z x) n)) i
+      (spare-beats (AT H) e x nf ix (nor-r (arrowS G Z x) (arrowT G Z x) n) i (omega arith))) bS)))
 
   -- in the plan, the worst e leaves some f of N(s) out, which blocks at s; so f's stand is loose, and the plan has an edge without any arrow there
   strike4 : Quiet G Z (rule2 G Z) → (e : ℕ) → e < G .m → T (Z .rem e) → T (rule4 G Z e) → T (not (M e))
@@ -57,14 +62,16 @@ module _ {G : Instance} {Z : State} {M : ℕ → Bool} (H : Sit G Z M) where
       let full = no-room (AT H) f (no-both-block (H .noBad) f nf bS) in
       ⊎-elim
       (λ lo. given (loose-says G Z (G .st f) lo) (λ (few, none). given (plan-beyond (AT H) (arrowT G Z) (G .st f) (omega arith)) (λ (x, ix, n, j).
-      no-arrival (H .noBad) f nf (arrive (way-back H Q2 x ix (deg-none (stands G) (arrowS G Z) (G .st f) none x (ix .lt) (sym j))) j (spare-beats (AT H) f x nf ix n j few)) bS)))
+      no-arrival (H .noBad) f nf (arrive (way-back H Q2 x ix (deg-none (stands G) (arrowS G Z) (G .st f) none x (ix .lt) (sym j))) j
+      (spare-beats (AT H) f x nf ix n j few)) bS)))
       (λ s. no-both-block (H .noBad) f nf bS (arrow-blocks (AT H) f nf s))
       (reserved-says G Z f nr))))
 
   module _ (Q1 : Quiet G Z (rule1 G Z)) (Q2 : Quiet G Z (rule2 G Z)) (Q3 : Quiet G Z (rule3 G Z)) (Q4 : Quiet G Z (rule4 G Z)) where
     -- in the plan, e has a way back and a way forth
     strike5 : (e : ℕ) → e < G .m → T (Z .rem e) → T (rule5 G Z e) → T (not (M e))
-    strike5 e l r t = given (rule5-says G Z e t) (λ (firm, ns, nt). not-in e l r (λ ie. no-back-forth (H .noBad) (way-back H Q2 e ie ns) (way-forth H Q1 Q3 Q4 e (ie, firm, nt))))
+    strike5 e l r t = given (rule5-says G Z e t)
+        (λ (firm, ns, nt). not-in e l r (λ ie. no-back-forth (H .noBad) (way-back H Q2 e ie ns) (way-forth H Q1 Q3 Q4 e (ie, firm, nt))))
 
     -- outside the plan, e is arrived at; where s has room, e ends a whole there, and else the plan has an edge outside N(s), with a way forth
     fix6 : (e : ℕ) → e < G .m → T (Z .rem e) → T (rule6 G Z e) → T (M e)
@@ -90,7 +97,8 @@ module _ {G : Instance} {Z : State} {M : ℕ → Bool} (H : Sit G Z M) where
     fix7 : (e : ℕ) → e < G .m → T (Z .rem e) → T (rule7 G Z e) → T (M e)
     fix7 e l r t = given (rule7-says G Z e t) (λ (few, s, z). in-plan e l (λ nf.
         let a = few-arrow (stands G) (Z .rem) (cutT G Z) e r s (omega arith) in
-        given (to-stray H Q4 e nf (arrow-reserved G Z e a) (no-room (AS H) e (λ b. no-both-block (H .noBad) e nf b (arrow-blocks (AT H) e nf a)))) (λ (x, sx, i).
+        given (to-stray H Q4 e nf (arrow-reserved G Z e a) (no-room (AS H) e (λ b. no-both-block (H .noBad) e nf b (arrow-blocks (AT H) e nf a))))
+        (λ (x, sx, i).
         given (way-forth H Q1 Q3 Q4 x sx) (λ F.
         by-cases (decLt (deg (stands G) (both (AT H)) (G .st e)) (cutT G Z (G .st e)))
         (λ h. no-gain (H .noBad) e x nf (room (AT H) (G .st e) h) (sx .0) i (λ y iy j. first-beats (AT H) e y nf z iy j) F)
@@ -103,7 +111,8 @@ module _ {G : Instance} {Z : State} {M : ℕ → Bool} (H : Sit G Z M) where
   pub step : (r e : ℕ) → e < G .m → T (Z .rem e) → T (names G Z r e) → ((k : ℕ) → k < r → Quiet G Z (names G Z k))
       → (T (fixes (fateOf r)) → T (M e)) × (T (not (fixes (fateOf r))) → T (not (M e)))
   unfolding names fateOf
-  step r e l t n = by-rule G Z (λ r. ((k : ℕ) → k < r → Quiet G Z (names G Z k)) → (T (fixes (fateOf r)) → T (M e)) × (T (not (fixes (fateOf r))) → T (not (M e)))) e
+  step r e l t n = by-rule G Z (λ r. ((k : ℕ) → k < r → Quiet G Z (names G Z k))
+      → (T (fixes (fateOf r)) → T (M e)) × (T (not (fixes (fateOf r))) → T (not (M e)))) e
       (λ n Q. (λ f. fix1 e l n, λ f. absurd f))
       (λ n Q. (λ f. absurd f, λ f. strike2 e l t n))
       (λ n Q. (λ f. fix3 (Q 1 (omega arith)) (Q 2 (omega arith)) e l n, λ f. absurd f))

@@ -111,13 +111,16 @@ module _ (G : Instance) (M : ℕ → Bool) where
           (λ e. omega (arith, sum-append (λ c. bit (eqb (c .1) e)) (tails w) (yields x a), tails-new e w, yields-new x a e, comers-occ e))
 
       news : All (New G M) (comers a w b)
-      news = All-++ (New G M) (fresh a) (fs w ++ fresh b) (start-sides a x (h .start) .2) (All-++ (New G M) (fs w) (fresh b) (walk-new G M x w y (h .walk)) (stop-sides y b (h .stop) .2))
+      news = All-++ (New G M) (fresh a) (fs w ++ fresh b) (start-sides a x (h .start) .2)
+          (All-++ (New G M) (fs w) (fresh b) (walk-new G M x w y (h .walk)) (stop-sides y b (h .stop) .2))
 
       pub simple : Once (x ∷ zs w) → Once (comers a w b)
-          → Rival G M (swapped M (x ∷ zs w) (comers a w b)) (minus G x w + (startMinus G a x + stopMinus G y b)) (plus G x w + (startPlus G a x + stopPlus G y b))
+          → Rival G M (swapped M (x ∷ zs w) (comers a w b)) (minus G x w + (startMinus G a x + stopMinus G y b))
+          (plus G x w + (startPlus G a x + stopPlus G y b))
       unfolding cS cT
       simple uR uF = rival-cast
-          (X-rival G M (x ∷ zs w) (comers a w b) uR uF (h .old, walk-old G M x w y (h .walk)) news law (free b ++ cS) (lossOf x a) (free a ++ cT) (lossOf y b) movesS movesT
+          (X-rival G M (x ∷ zs w) (comers a w b) uR uF (h .old, walk-old G M x w y (h .walk)) news law (free b ++ cS) (lossOf x a) (free a ++ cT)
+          (lossOf y b) movesS movesT
           x (omega (arith, ap bit (eqb-yes x x refl))))
           (omega (
             arith,
@@ -132,7 +135,8 @@ module _ (G : Instance) (M : ℕ → Bool) where
           ))
 
     -- ---- a closed walk
-    pub simple-loop : (x : ℕ) (w : Steps) → Walk G M x w x → Once (zs w) → Once (fs w) → (e : ℕ) → e ∈ zs w → Rival G M (swapped M (zs w) (fs w)) (minus G x w) (plus G x w)
+    pub simple-loop : (x : ℕ) (w : Steps) → Walk G M x w x → Once (zs w) → Once (fs w) → (e : ℕ) → e ∈ zs w
+        → Rival G M (swapped M (zs w) (fs w)) (minus G x w) (plus G x w)
     simple-loop x w h uR uF e m = rival-cast
         (X-rival G M (zs w) (fs w) uR uF (walk-old G M x w x h) (walk-new G M x w x h) law (tails w) [] (heads x w) []
         (ends-moves (surveyors G) M (plan .atS) lose tt (tails w) (tails-link G M x w x h) [] (zs w) (fs w)
@@ -144,7 +148,8 @@ module _ (G : Instance) (M : ℕ → Bool) where
 
     -- ---- an edge with room at both ends
     pub simple-direct : (f : ℕ) → New G M f → RoomS G M f → RoomT G M f → Rival G M (swapped M [] (f ∷ [])) 2 0
-    simple-direct f nf rs rt = X-rival G M [] (f ∷ []) (λ e. zero-le) (λ e. omega (arith, bit-one (eqb f e))) tt (nf, tt) law ((empty, f) ∷ []) [] ((empty, f) ∷ []) []
+    simple-direct f nf rs rt = X-rival G M [] (f ∷ []) (λ e. zero-le) (λ e. omega (arith, bit-one (eqb f e))) tt (nf, tt) law ((empty, f) ∷ []) []
+        ((empty, f) ∷ []) []
         (ends-moves (surveyors G) M (plan .atS) (gain f) rs [] tt [] [] (f ∷ []) (λ v. inl refl) (λ e. refl) (λ e. omega arith))
         (ends-moves (stands G) M (plan .atT) (gain f) rt [] tt [] [] (f ∷ []) (λ v. inl refl) (λ e. refl) (λ e. omega arith))
         f (omega (arith, ap bit (eqb-yes f f refl)))

@@ -66,7 +66,8 @@ module _ (G : Instance) where
 
 module _ (G : Instance) (M : ℕ → Bool) where
   -- at the stands every edge of the walk but the last gives way, at the surveyors every one but the first
-  pub heads-old : (e x : ℕ) (w : Steps) (y : ℕ) → Walk G M x w y → sum (λ c. bit (same (c .0) (edge e))) (heads x w) + bit (eqb y e) ≡ bit (eqb x e) + occ e (zs w)
+  pub heads-old : (e x : ℕ) (w : Steps) (y : ℕ) → Walk G M x w y
+      → sum (λ c. bit (same (c .0) (edge e))) (heads x w) + bit (eqb y e) ≡ bit (eqb x e) + occ e (zs w)
   heads-old e x [] y h = omega (arith, ap (λ z. bit (eqb z e)) h)
   heads-old e x ((f, z) ∷ w) y h = omega (arith, heads-old e z w y (h .1))
 

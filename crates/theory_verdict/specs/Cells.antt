@@ -43,12 +43,14 @@ module _ (G : Instance) (M : ℕ → Bool) where
     joins-∈ {f} n r e = List·Memᴰ·tail (Memᴰ·map gain (new-∈ (joins? M K J z) n
         (and-i (eqb (K .end f) (K .end z)) (room? M J f) (eq→eqb (K .end f) (K .end z) e) (lt→ltb (deg J M (J .end f)) (J .quota (J .end f)) r))))
 
-    ways-ind : (P : Way → Type 0) → P lose → ((f : ℕ) → New G M f → deg J M (J .end f) < J .quota (J .end f) → K .end f ≡ K .end z → P (gain f)) → (b : Way) → b ∈ ways G M K J z → P b
+    ways-ind : (P : Way → Type 0) → P lose → ((f : ℕ) → New G M f → deg J M (J .end f) < J .quota (J .end f) → K .end f ≡ K .end z → P (gain f))
+        → (b : Way) → b ∈ ways G M K J z → P b
     ways-ind P l g b (List·Memᴰ·head e) = subst P (sym e) l
     ways-ind P l g b (List·Memᴰ·tail m) =
         let (f, q, e) = Memᴰ·of-map gain (news G M (joins? M K J z)) m in
         let (n, t) = ∈-new (joins? M K J z) q in
-        subst P e (g f n (ltb→lt (deg J M (J .end f)) (J .quota (J .end f)) (and-r (eqb (K .end f) (K .end z)) (room? M J f) t)) (eqb→eq (K .end f) (K .end z) (and-l (eqb (K .end f) (K .end z)) (room? M J f) t)))
+        subst P e (g f n (ltb→lt (deg J M (J .end f)) (J .quota (J .end f)) (and-r (eqb (K .end f) (K .end z)) (room? M J f) t))
+        (eqb→eq (K .end f) (K .end z) (and-l (eqb (K .end f) (K .end z)) (room? M J f) t)))
 
   start-∈ : (a : Way) (x : ℕ) → Start G M a x → a ∈ ways G M (surveyors G) (stands G) x
   start-∈ lose x s = List·Memᴰ·head refl
@@ -80,7 +82,8 @@ module _ (G : Instance) (M : ℕ → Bool) where
   unfolding terminal
   terminals = record {
     low = λ a x y b s e d. best-≤ (λ p. (terminalPrice G x y p, p)) (6, (lose, lose)) (terminalsAt G M x y) (a, b)
-        (keep-∈ (apart? G x y) (both x y) (product-∈ (ways G M (surveyors G) (stands G) x) (ways G M (stands G) (surveyors G) y) (start-∈ a x s) (stop-∈ y b e)) (apart-test a x y b d));
+        (keep-∈ (apart? G x y) (both x y)
+        (product-∈ (ways G M (surveyors G) (stands G) x) (ways G M (stands G) (surveyors G) y) (start-∈ a x s) (stop-∈ y b e)) (apart-test a x y b d));
     hit = λ x y. best-ind (λ p. (terminalPrice G x y p, p)) (Good x y) (6, (lose, lose)) (terminalsAt G M x y) (tt, tt, tt, refl) (this x y);
   }
     where
@@ -103,7 +106,8 @@ module _ (G : Instance) (M : ℕ → Bool) where
     arcs = record {
       low = λ x f z o (n, oz, d, s). best-≤ (λ f. (price G x f z, f)) (lid, 0) (news G M (links? G x z)) f
           (new-∈ (links? G x z) n (and-i (eqb (G .st f) (G .st x)) (eqb (G .sv f) (G .sv z)) (eq→eqb (G .st f) (G .st x) d) (eq→eqb (G .sv f) (G .sv z) s)));
-      hit = λ x z ox oz. best-ind (λ f. (price G x f z, f)) (Good x z) (lid, 0) (news G M (links? G x z)) (λ h. absurd (omega arith)) (λ f m h. this x z oz f m);
+      hit = λ x z ox oz. best-ind (λ f. (price G x f z, f)) (Good x z) (lid, 0) (news G M (links? G x z)) (λ h. absurd (omega arith))
+          (λ f m h. this x z oz f m);
     }
       where
         Good : ℕ → ℕ → ℕ × ℕ → Type 0
@@ -111,8 +115,16 @@ module _ (G : Instance) (M : ℕ → Bool) where
 
         this : (x z : ℕ) → Old G M z → (f : ℕ) → f ∈ news G M (links? G x z) → Arc G M x f z × (price G x f z ≡ price G x f z)
         this x z oz f m =
-            let (n, t) = ∈-new (links? G x z) m in
-            ((n, oz, eqb→eq (G .st f) (G .st x) (and-l (eqb (G .st f) (G .st x)) (eqb (G .sv f) (G .sv z)) t), eqb→eq (G .sv f) (G .sv z) (and-r (eqb (G .st f) (G .st x)) (eqb (G .sv f) (G .sv z)) t)), refl)
+            let (n, t) = ∈-new (links? G x z) m in (
+              (
+                n,
+                oz,
+                eqb→eq (G .st f) (G .st x) (and-l (eqb (G .st f) (G .st x)) (eqb (G .sv f) (G .sv z)) t),
+                eqb→eq (G .sv f) (G .sv z)
+                    (and-r (eqb (G .st f) (G .st x)) (eqb (G .sv f) (G .sv z)) t),
+              ),
+              refl,
+            )
 
     -- ---- the layers
     pub next : (n : ℕ) → Next G M lid (arc G M lid) (walkPrice G M lid n) (trace G M lid n) (walkPrice G M lid (suc n)) (trace G M lid (suc n))

@@ -123,7 +123,8 @@ module _ (G : Instance) (M : ℕ → Bool) where
   pub repeats-open : (x : ℕ) (w : Steps) (y : ℕ) → Walk G M x w y → (Once (x ∷ zs w) × Once (fs w)) ⊎ Cut x w y
   repeats-open x w y h = go (repeats x w y h) (find-at (λ s. s .1) x w)
     where
-      go : (Once (zs w) × Once (fs w)) ⊎ ((c : Cut x w y) × (0 < length (c .rest))) → (occ x (zs w) ≡ 0) ⊎ At (λ s. s .1) x w → (Once (x ∷ zs w) × Once (fs w)) ⊎ Cut x w y
+      go : (Once (zs w) × Once (fs w)) ⊎ ((c : Cut x w y) × (0 < length (c .rest))) → (occ x (zs w) ≡ 0) ⊎ At (λ s. s .1) x w
+          → (Once (x ∷ zs w) × Once (fs w)) ⊎ Cut x w y
       go (inr t) r = inr (t .0)
       go (inl u) (inl n) = inl (once-cons x (zs w) n (u .0), u .1)
       go (inl u) (inr t) = inr (subst (λ w. Walk G M x w y → Cut x w y) (sym (t .eq)) (cut-back x (t .pre) (t .x) (t .post) y (t .is)) h)

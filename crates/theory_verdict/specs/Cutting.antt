@@ -58,7 +58,8 @@ module _ (G : Instance) (M : ℕ → Bool) (k n : ℕ) (costly : CostAtLeastBelo
         }) in
         (omega arith, λ p. omega arith)
 
-    start-lost : (cS : List Couple) (l : ℕ) (lS : List ℕ) (cT : List Couple) (lT : List ℕ) → length cT + length lS ≤ size → filled cT < n → Left G M cS (l ∷ lS) cT lT [] [] → Fine cS (l ∷ lS) cT lT
+    start-lost : (cS : List Couple) (l : ℕ) (lS : List ℕ) (cT : List Couple) (lT : List ℕ) → length cT + length lS ≤ size → filled cT < n
+        → Left G M cS (l ∷ lS) cT lT [] [] → Fine cS (l ∷ lS) cT lT
     start-lost cS l lS cT lT h b st =
         let q = follow G M k n costly rest lose l (filled cT) {w = []} {y = l} {cS = cS} {cT = cT} {lS = lS} {lT = lT} (omega arith) (record {
           few = omega arith;
@@ -77,12 +78,14 @@ module _ (G : Instance) (M : ℕ → Bool) (k n : ℕ) (costly : CostAtLeastBelo
         }) in
         (omega arith, λ p. omega arith)
 
-    start-gained : (cS : List Couple) (lS : List ℕ) (cT : List Couple) (lT : List ℕ) → length cT + length lS ≤ suc size → filled cT < n → Left G M cS lS cT lT [] []
+    start-gained : (cS : List Couple) (lS : List ℕ) (cT : List Couple) (lT : List ℕ) → length cT + length lS ≤ suc size → filled cT < n
+        → Left G M cS lS cT lT [] []
         → (f : ℕ) (mT : _∈_ {A = Couple} (empty, f) cT) (x : ℕ) (mS : _∈_ {A = Couple} (edge x, f) cS) → Fine cS lS cT lT
     start-gained cS lS cT lT h b st f mT x mS =
         let (o, e) = st .atS .meet mS in
         let less = sum-remove (λ c. bit (not (same (c .0) empty))) mT in
-        let q = follow G M k n costly rest (gain f) x (filled (remove mT)) {w = []} {y = x} {cS = remove mS} {cT = remove mT} {lS = lS} {lT = lT} (omega arith) (record {
+        let q = follow G M k n costly rest (gain f) x (filled (remove mT)) {w = []} {y = x} {cS = remove mS} {cT = remove mT} {lS = lS} {lT = lT}
+        (omega arith) (record {
           few = omega (arith, less);
           less = omega (arith, remove-length mT);
           left = record {
@@ -103,7 +106,8 @@ module _ (G : Instance) (M : ℕ → Bool) (k n : ℕ) (costly : CostAtLeastBelo
         let e = sum-remove (against (G .rankT)) mT in
         (omega arith, λ p. omega arith)
 
-  pieces : (size : ℕ) (cS : List Couple) (lS : List ℕ) (cT : List Couple) (lT : List ℕ) → length cT + length lS ≤ size → filled cT < n → Left G M cS lS cT lT [] [] → Fine cS lS cT lT
+  pieces : (size : ℕ) (cS : List Couple) (lS : List ℕ) (cT : List Couple) (lT : List ℕ) → length cT + length lS ≤ size → filled cT < n
+      → Left G M cS lS cT lT [] [] → Fine cS lS cT lT
   pieces zero cS (l ∷ lS) cT lT h b st = absurd (omega arith)
   pieces zero cS [] (c ∷ cT) lT h b st = absurd (omega arith)
   pieces zero [] [] [] lT h b st = (zero-le, λ p. absurd (omega arith))

@@ -97,7 +97,8 @@ module _ (K : Side) (M : ℕ → Bool) where
   ends-moves w p o cs links ls R F apart gone come = record {
     gone = λ e. omega (arith, sum-append (λ c. bit (same (c .0) (edge e))) (free p) cs, free-old p e, gone e);
     come = λ e. omega (arith, sum-append (λ c. bit (eqb (c .1) e)) (free p) cs, free-new p e, come e);
-    meet = λ c k d e. ⊎-elim (λ j. absurd (free-meet p c j d e)) (λ j. link-meet (K .end) c (All-∈ (Link (K .end)) cs links c j) d e) (List·Memᴰ·append-cases (free p) k);
+    meet = λ c k d e. ⊎-elim (λ j. absurd (free-meet p c j d e)) (λ j. link-meet (K .end) c (All-∈ (Link (K .end)) cs links c j) d e)
+        (List·Memᴰ·append-cases (free p) k);
     room = λ v. omega (arith, gain-all v, free-room w p o v);
     apart = λ v. ⊎-elim inl (λ g. inr (omega (arith, gain-all v))) (apart v);
   }

@@ -84,7 +84,12 @@ module _ (K : Side) (M : ℕ → Bool) where
       goer d h = let (o, n, l) = goer-is (K .m) M N R F sw d h in (l, true-T o)
 
       gain : {f : ℕ} → _∈_ {A = Couple} (empty, f) cs → 0 < gains K cs (K .end f)
-      gain {f} m = omega (arith, sum-mem (λ c. pk (eqb (K .end (c .1)) (K .end f)) (bit (same (c .0) empty))) m, ap (λ b. pk b 1) (eqb-yes (K .end f) (K .end f) refl))
+      gain {f} m = omega (
+        arith,
+        sum-mem (λ c. pk (eqb (K .end (c .1)) (K .end f)) (bit (same (c .0) empty))) m,
+        ap (λ b. pk b 1)
+            (eqb-yes (K .end f) (K .end f) refl),
+      )
 
   -- every couple has an edge of the instance or an empty place; every edge that comes, every edge lost, is one
   yield-census : {cs : List Couple} {ls : List ℕ} → Known cs ls → sum (λ e. yielding (edge e) cs) (upTo (K .m)) + grown cs ≡ length cs
@@ -126,7 +131,8 @@ module _ (G : Instance) (M : ℕ → Bool) where
     pub come : (e : ℕ) → enters e cS + occ e gs ≡ enters e cT
 
   -- y gives way to f at its stand, p at the surveyor: both couples are taken out
-  pub left-without : {p : Place} {y f : ℕ} {cS cT : List Couple} {lS lT gs : List ℕ} (ys zs : List ℕ) (mS : _∈_ {A = Couple} (p, f) cS) (mT : _∈_ {A = Couple} (edge y, f) cT)
+  pub left-without : {p : Place} {y f : ℕ} {cS cT : List Couple} {lS lT gs : List ℕ} (ys zs : List ℕ) (mS : _∈_ {A = Couple} (p, f) cS)
+      (mT : _∈_ {A = Couple} (edge y, f) cT)
       → ((e : ℕ) → occ e zs + bit (eqb y e) ≡ occ e ys + bit (same p (edge e))) → Left cS lS cT lT ys gs → Left (remove mS) lS (remove mT) lT zs gs
   left-without ys zs mS mT h st = record {
     atS = known-part (surveyors G) M (λ c q. remove-∈ mS q) (λ l q. q) (st .atS);
@@ -152,7 +158,8 @@ module _ (G : Instance) (M : ℕ → Bool) where
   )
 
   -- neither couples nor starts: nothing at all
-  pub left-nothing : (cS : List Couple) (lS : List ℕ) (cT : List Couple) (lT : List ℕ) → length cT + length lS ≡ 0 → Left cS lS cT lT [] [] → (e : ℕ) → (leaves e cT lT ≡ 0) × (enters e cT ≡ 0)
+  pub left-nothing : (cS : List Couple) (lS : List ℕ) (cT : List Couple) (lT : List ℕ) → length cT + length lS ≡ 0 → Left cS lS cT lT [] [] → (e : ℕ)
+      → (leaves e cT lT ≡ 0) × (enters e cT ≡ 0)
   left-nothing cS (l ∷ lS) cT lT h st e = absurd (omega arith)
   left-nothing cS [] (c ∷ cT) lT h st e = absurd (omega arith)
   left-nothing cS [] [] (l ∷ lT) h st e = absurd (omega (arith, left-even st))

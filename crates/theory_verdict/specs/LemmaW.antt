@@ -131,7 +131,8 @@ module _ (G : Instance) (M : ℕ → Bool) (k : ℕ) where
           let s = h .stop in
           let l₁ = length-append post ((g, z) ∷ []) in
           let l₂ = length-append pre ((g, z) ∷ post) in
-          let loop = cl z (post ++ ((g, z) ∷ [])) (omega arith) (omega arith) (walk-append G M z y z post ((g, z) ∷ []) (q .1) ((c .0, c .1, s .2, c .3), refl)) in
+          let loop = cl z (post ++ ((g, z) ∷ [])) (omega arith) (omega arith)
+          (walk-append G M z y z post ((g, z) ∷ []) (q .1) ((c .0, c .1, s .2, c .3), refl)) in
           let rest = ih x pre u (omega arith) (record { old = h .old; walk = hp; start = h .start; stop = (s .0, s .1, c .2); apart = still u a (h .apart) }) in
           omega (
             arith,
@@ -141,20 +142,24 @@ module _ (G : Instance) (M : ℕ → Bool) (k : ℕ) where
             minus-append G M z y post ((g, z) ∷ []) (q .1),
           )
 
-  start-free : (a : Way) (x : ℕ) (w : Steps) (y : ℕ) (b : Way) → CostAtLeastTo (suc (length w)) → PathCostAtLeastTo a b (length w) → AlternatingPath G M a x w y b → Free a w ⊎ PathCostAtLeast G k a x w y b
+  start-free : (a : Way) (x : ℕ) (w : Steps) (y : ℕ) (b : Way) → CostAtLeastTo (suc (length w)) → PathCostAtLeastTo a b (length w)
+      → AlternatingPath G M a x w y b → Free a w ⊎ PathCostAtLeast G k a x w y b
   start-free lose x w y b cl ih h = inl tt
   start-free (gain f) x w y b cl ih h = ⊎-map (λ n. n) found (find-at (λ s. s .0) f w)
     where
       found : At (λ s. s .0) f w → PathCostAtLeast G k (gain f) x w y b
-      found t = subst (λ w. CostAtLeastTo (suc (length w)) → PathCostAtLeastTo (gain f) b (length w) → AlternatingPath G M (gain f) x w y b → PathCostAtLeast G k (gain f) x w y b)
+      found t = subst (λ w. CostAtLeastTo (suc (length w)) → PathCostAtLeastTo (gain f) b (length w) → AlternatingPath G M (gain f) x w y b
+          → PathCostAtLeast G k (gain f) x w y b)
           (sym (t .eq ∙ ap (λ g. t .pre ++ ((g, t .x .1) ∷ t .post)) (t .is))) (cut-start f x (t .pre) (t .x .1) (t .post) y b) cl ih h
 
-  stop-free : (a : Way) (x : ℕ) (w : Steps) (y : ℕ) (b : Way) → CostAtLeastTo (suc (length w)) → PathCostAtLeastTo a b (length w) → AlternatingPath G M a x w y b → Free b w ⊎ PathCostAtLeast G k a x w y b
+  stop-free : (a : Way) (x : ℕ) (w : Steps) (y : ℕ) (b : Way) → CostAtLeastTo (suc (length w)) → PathCostAtLeastTo a b (length w)
+      → AlternatingPath G M a x w y b → Free b w ⊎ PathCostAtLeast G k a x w y b
   stop-free a x w y lose cl ih h = inl tt
   stop-free a x w y (gain g) cl ih h = ⊎-map (λ n. n) found (find-at (λ s. s .0) g w)
     where
       found : At (λ s. s .0) g w → PathCostAtLeast G k a x w y (gain g)
-      found t = subst (λ w. CostAtLeastTo (suc (length w)) → PathCostAtLeastTo a (gain g) (length w) → AlternatingPath G M a x w y (gain g) → PathCostAtLeast G k a x w y (gain g))
+      found t = subst (λ w. CostAtLeastTo (suc (length w)) → PathCostAtLeastTo a (gain g) (length w) → AlternatingPath G M a x w y (gain g)
+          → PathCostAtLeast G k a x w y (gain g))
           (sym (t .eq ∙ ap (λ f. t .pre ++ ((f, t .x .1) ∷ t .post)) (t .is))) (cut-stop a x (t .pre) (t .x .1) (t .post) y g) cl ih h
 
   -- there is no direct edge, so what is gained at the two ends differs
@@ -165,14 +170,17 @@ module _ (G : Instance) (M : ℕ → Bool) (k : ℕ) where
 
   -- a whole costs at least k if all wholes with the same two ends and fewer arcs and all closed walks of no more arcs do, or nothing
   -- comes twice in it
-  pub path-step : (a : Way) (x : ℕ) (w : Steps) (y : ℕ) (b : Way) → NoDirect G M → CostAtLeastTo (suc (length w)) → PathCostAtLeastTo a b (length w) → AlternatingPath G M a x w y b
+  pub path-step : (a : Way) (x : ℕ) (w : Steps) (y : ℕ) (b : Way) → NoDirect G M → CostAtLeastTo (suc (length w)) → PathCostAtLeastTo a b (length w)
+      → AlternatingPath G M a x w y b
       → PathCostAtLeast G k a x w y b ⊎ (Once (x ∷ zs w) × Once (comers a w b))
   path-step a x w y b none cl ih h = go (repeats-open G M x w y (h .walk)) (start-free a x w y b cl ih h) (stop-free a x w y b cl ih h)
     where
-      go : (Once (x ∷ zs w) × Once (fs w)) ⊎ Cut G M x w y → Free a w ⊎ PathCostAtLeast G k a x w y b → Free b w ⊎ PathCostAtLeast G k a x w y b → PathCostAtLeast G k a x w y b ⊎ (Once (x ∷ zs w) × Once (comers a w b))
+      go : (Once (x ∷ zs w) × Once (fs w)) ⊎ Cut G M x w y → Free a w ⊎ PathCostAtLeast G k a x w y b → Free b w ⊎ PathCostAtLeast G k a x w y b
+          → PathCostAtLeast G k a x w y b ⊎ (Once (x ∷ zs w) × Once (comers a w b))
       go (inr c) r s =
           let k₁ = cl (c .z) (c .loop) (omega (arith, c .size)) (c .loop-pos) (c .loop-walk) in
-          let k₂ = ih x (c .rest) y (omega (arith, c .size, c .loop-pos)) (record { old = h .old; walk = c .rest-walk; start = h .start; stop = h .stop; apart = h .apart }) in
+          let k₂ = ih x (c .rest) y (omega (arith, c .size, c .loop-pos))
+          (record { old = h .old; walk = c .rest-walk; start = h .start; stop = h .stop; apart = h .apart }) in
           inl (omega (arith, c .plus-eq, c .minus-eq))
       go (inl u) (inr r) s = inl r
       go (inl u) (inl r) (inr s) = inl s
@@ -193,7 +201,8 @@ module _ (G : Instance) (M : ℕ → Bool) (k : ℕ) where
     no-direct f nf rs rt = omega (arith, holds-cost st (simple-direct G M law (st .plan) f nf rs rt))
 
     pub path : (a : Way) (x : ℕ) (w : Steps) (y : ℕ) (b : Way) → AlternatingPath G M a x w y b → PathCostAtLeast G k a x w y b
-    path a x w y b h = strong (λ n. (x : ℕ) (w : Steps) (y : ℕ) → length w ≡ n → AlternatingPath G M a x w y b → PathCostAtLeast G k a x w y b) step (length w) x w y refl h
+    path a x w y b h = strong (λ n. (x : ℕ) (w : Steps) (y : ℕ) → length w ≡ n → AlternatingPath G M a x w y b → PathCostAtLeast G k a x w y b) step
+        (length w) x w y refl h
       where
         step : (n : ℕ) → ((m : ℕ) → m < n → (x : ℕ) (w : Steps) (y : ℕ) → length w ≡ m → AlternatingPath G M a x w y b → PathCostAtLeast G k a x w y b)
             → (x : ℕ) (w : Steps) (y : ℕ) → length w ≡ n → AlternatingPath G M a x w y b → PathCostAtLeast G k a x w y b

@@ -51,7 +51,8 @@ swap-case false false false u a b p p′ q q′ h ha hb = let s = p′ tt in let
 -- edges of a set, none twice
 once-in : (m : ℕ) (S : ℕ → Bool) (xs : List ℕ) → Once xs → All (λ e. (e < m) × T (S e)) xs → (e : ℕ) → occ e xs ≤ pk (S e) (occ e (upTo m))
 once-in m S xs u h e = by-cases (decLt 0 (occ e xs))
-    (λ l. let t = All-∈ (λ e. (e < m) × T (S e)) xs h e (∈-occ e xs l) in omega (arith, u e, occ-upTo m e (t .0), ap (λ b. pk b (occ e (upTo m))) (T-true {b = S e} (t .1))))
+    (λ l. let t = All-∈ (λ e. (e < m) × T (S e)) xs h e (∈-occ e xs l) in
+    omega (arith, u e, occ-upTo m e (t .0), ap (λ b. pk b (occ e (upTo m))) (T-true {b = S e} (t .1))))
     (λ n. omega arith)
 
 module _ (G : Instance) (M : ℕ → Bool) (R F : List ℕ)
@@ -63,20 +64,28 @@ module _ (G : Instance) (M : ℕ → Bool) (R F : List ℕ)
       both : (e : ℕ) → (pk (M e && swapped M R F e) (occ e (upTo (G .m))) + occ e R ≡ pk (M e) (occ e (upTo (G .m))))
           × (pk (M e && swapped M R F e) (occ e (upTo (G .m))) + occ e F ≡ pk (swapped M R F e) (occ e (upTo (G .m))))
       both e = swap-case (M e) (ltb 0 (occ e R)) (ltb 0 (occ e F)) (occ e (upTo (G .m))) (occ e R) (occ e F)
-          (ltb→lt 0 (occ e R)) (nltb→le 0 (occ e R)) (ltb→lt 0 (occ e F)) (nltb→le 0 (occ e F)) (occ-upTo-≤ (G .m) e) (once-in (G .m) M R onceR inR e) (once-in (G .m) (λ d. not (M d)) F onceF inF e)
+          (ltb→lt 0 (occ e R)) (nltb→le 0 (occ e R)) (ltb→lt 0 (occ e F)) (nltb→le 0 (occ e F)) (occ-upTo-≤ (G .m) e) (once-in (G .m) M R onceR inR e)
+          (once-in (G .m) (λ d. not (M d)) F onceF inF e)
 
   differs : (e : ℕ) → 0 < occ e R + occ e F → Same G M (swapped M R F) → ⊥
   differs e h s = by-cases (decLt 0 (occ e R))
       (λ l. let (m, n, b) = goer-is (G .m) M (swapped M R F) R F swap e l in subst T (sym m ∙ s e b ∙ n) tt)
       (λ k. let (n, m, b) = comer-is (G .m) M (swapped M R F) R F swap e (omega arith) in subst T (sym n ∙ sym (s e b) ∙ m) tt)
 
-  pub X-rival : Lawful G → (cS : List Couple) (lS : List ℕ) (cT : List Couple) (lT : List ℕ) → Moves (surveyors G) M R F cS lS → Moves (stands G) M R F cT lT → (e : ℕ) → 0 < occ e R + occ e F
-      → Rival G M (swapped M R F) (sum (against (G .rankS)) cS + sum (against (G .rankT)) cT) ((sum (for (G .rankS)) cS + length lS) + (sum (for (G .rankT)) cT + length lT))
+  pub X-rival : Lawful G → (cS : List Couple) (lS : List ℕ) (cT : List Couple) (lT : List ℕ) → Moves (surveyors G) M R F cS lS
+      → Moves (stands G) M R F cT lT → (e : ℕ) → 0 < occ e R + occ e F
+      → Rival G M (swapped M R F) (sum (against (G .rankS)) cS + sum (against (G .rankT)) cT)
+      ((sum (for (G .rankS)) cS + length lS) + (sum (for (G .rankT)) cT + length lT))
   X-rival law cS lS cT lT mS mT e h = record {
     plan = record {
       atS = exchange-within (surveyors G) M (swapped M R F) R F swap cS lS mS;
       atT = exchange-within (stands G) M (swapped M R F) R F swap cT lT mT;
     };
     other = differs e h;
-    vote = omega (arith, exchange-cost (surveyors G) M (swapped M R F) R F swap cS lS mS (law .atS), exchange-cost (stands G) M (swapped M R F) R F swap cT lT mT (law .atT));
+    vote = omega (
+      arith,
+      exchange-cost (surveyors G) M (swapped M R F) R F swap cS lS mS (law .atS),
+      exchange-cost (stands G) M
+          (swapped M R F) R F swap cT lT mT (law .atT),
+    );
   }

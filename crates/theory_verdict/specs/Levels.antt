@@ -39,13 +39,17 @@ module _ (G : Instance) (M : ℕ → Bool) where
         (λ x m t. h x (∈-old G M m) (ltb→lt (walkPrice G M lid n x x) (2 * suc n + k) t))
         (λ none x o. nltb→le (walkPrice G M lid n x x) (2 * suc n + k) (none x (old-∈ G M o)))
 
-    pub pathAt-answer : ((x y : ℕ) → Old G M x → Old G M y → walkPrice G M lid n x y + terminal G M x y .0 < 2 * suc n + 4 + k → P (asPath G M x y (trace G M lid n x y)))
+    pub pathAt-answer : ((x y : ℕ) → Old G M x → Old G M y → walkPrice G M lid n x y + terminal G M x y .0 < 2 * suc n + 4 + k
+        → P (asPath G M x y (trace G M lid n x y)))
         → Answer P ((x y : ℕ) → Old G M x → Old G M y → 2 * suc n + 4 + k ≤ walkPrice G M lid n x y + terminal G M x y .0) (pathAt G M lid k n)
     unfolding pathAt
-    pathAt-answer h = first-answer (λ p. ltb (walkPrice G M lid n (p .0) (p .1) + terminal G M (p .0) (p .1) .0) (2 * suc n + 4 + k)) (λ p. asPath G M (p .0) (p .1) (trace G M lid n (p .0) (p .1)))
+    pathAt-answer h = first-answer (λ p. ltb (walkPrice G M lid n (p .0) (p .1) + terminal G M (p .0) (p .1) .0) (2 * suc n + 4 + k))
+        (λ p. asPath G M (p .0) (p .1) (trace G M lid n (p .0) (p .1)))
         (product (olds G M) (olds G M))
-        (λ p m t. let (i, j) = ∈-product p (olds G M) (olds G M) m in h (p .0) (p .1) (∈-old G M i) (∈-old G M j) (ltb→lt (walkPrice G M lid n (p .0) (p .1) + terminal G M (p .0) (p .1) .0) (2 * suc n + 4 + k) t))
-        (λ none x y ox oy. nltb→le (walkPrice G M lid n x y + terminal G M x y .0) (2 * suc n + 4 + k) (none (x, y) (product-∈ (olds G M) (olds G M) (old-∈ G M ox) (old-∈ G M oy))))
+        (λ p m t. let (i, j) = ∈-product p (olds G M) (olds G M) m in
+        h (p .0) (p .1) (∈-old G M i) (∈-old G M j) (ltb→lt (walkPrice G M lid n (p .0) (p .1) + terminal G M (p .0) (p .1) .0) (2 * suc n + 4 + k) t))
+        (λ none x y ox oy. nltb→le (walkPrice G M lid n x y + terminal G M x y .0) (2 * suc n + 4 + k)
+        (none (x, y) (product-∈ (olds G M) (olds G M) (old-∈ G M ox) (old-∈ G M oy))))
 
   module _ (law : Lawful G) (plan : Matching G M) (lid k : ℕ) where
     abbrev pub Beats : Hit → Type 0
@@ -76,7 +80,8 @@ module _ (G : Instance) (M : ℕ → Bool) where
       unfolding aloneAt
       alone-ok = first-answer (λ x. ltb (terminal G M x x .0) (4 + k)) (λ x. asPath G M x x []) (olds G M)
           (λ x m t. let (a, b, d, c) = terminals G M .hit x x in
-          path-found G M k law plan {n = 0} (terminal G M x x .1 .0) x [] x (terminal G M x x .1 .1) none (λ x w q p h. absurd (omega arith)) (λ x w y q h. absurd (omega arith)) (omega arith)
+          path-found G M k law plan {n = 0} (terminal G M x x .1 .0) x [] x (terminal G M x x .1 .1) none (λ x w q p h. absurd (omega arith))
+          (λ x w y q h. absurd (omega arith)) (omega arith)
           (record { old = ∈-old G M m; walk = refl; start = a; stop = b; apart = d })
           (omega (arith, c, ltb→lt (terminal G M x x .0) (4 + k) t, terminal-price G x x (terminal G M x x .1 .0) (terminal G M x x .1 .1))))
           (λ none. alone-done G M k (terminals G M) (λ x o. nltb→le (terminal G M x x .0) (4 + k) (none x (old-∈ G M o))))
@@ -87,26 +92,35 @@ module _ (G : Instance) (M : ℕ → Bool) where
       path-ok n h cl cw x y ox oy c =
           let (w, p, l, d) = layers G M lid n .hit x y ox oy (omega arith) in
           let (s, e, a, q) = terminals G M .hit x y in
-          path-found G M k law plan (terminal G M x y .1 .0) x (trace G M lid n x y) y (terminal G M x y .1 .1) none cl (cw (terminal G M x y .1 .0) (terminal G M x y .1 .1)) l
+          path-found G M k law plan (terminal G M x y .1 .0) x (trace G M lid n x y) y (terminal G M x y .1 .1) none cl
+          (cw (terminal G M x y .1 .0) (terminal G M x y .1 .1)) l
           (record { old = ox; walk = w; start = s; stop = e; apart = a })
           (omega (arith, d, q, terminal-price G x y (terminal G M x y .1 .0) (terminal G M x y .1 .1)))
 
-      loop-ok : (n : ℕ) → 2 * suc n + 4 + k ≤ lid → CostAtLeastTo G M k (suc n) → (x : ℕ) → Old G M x → walkPrice G M lid n x x < 2 * suc n + k → Beats (loop x (trace G M lid n x x))
+      loop-ok : (n : ℕ) → 2 * suc n + 4 + k ≤ lid → CostAtLeastTo G M k (suc n) → (x : ℕ) → Old G M x → walkPrice G M lid n x x < 2 * suc n + k
+          → Beats (loop x (trace G M lid n x x))
       loop-ok n h cl x o c =
           let (w, p, l, d) = layers G M lid n .hit x x o o (omega arith) in
           loop-found G M k law plan x (trace G M lid n x x) cl p l w (omega (arith, d))
 
-      levels-ok : (B j n : ℕ) → j + n ≡ B → 2 * B + 4 + k ≤ lid → PathsCostAtLeast G M k 1 → CostAtLeastTo G M k (suc n) → PathsCostAtLeast G M k (suc n) → Answer Beats (CostAtLeastBelow G M k (suc B)) (levels G M lid k j n)
+      levels-ok : (B j n : ℕ) → j + n ≡ B → 2 * B + 4 + k ≤ lid → PathsCostAtLeast G M k 1 → CostAtLeastTo G M k (suc n)
+          → PathsCostAtLeast G M k (suc n) → Answer Beats (CostAtLeastBelow G M k (suc B)) (levels G M lid k j n)
       unfolding levels
-      levels-ok B zero n e h alone cl cw = nothing (record { direct = none; loops = λ x w q. cl x w (omega arith); paths = λ a b x w y q. cw a b x w y (omega arith) })
+      levels-ok B zero n e h alone cl cw =
+          nothing (record { direct = none; loops = λ x w q. cl x w (omega arith); paths = λ a b x w y q. cw a b x w y (omega arith) })
       levels-ok B (suc j) n e h alone cl cw = or-answer (loopAt-answer lid k n (loop-ok n (omega arith) cl)) (λ no-loop.
           let cl′ = loops-done G M k (layers G M lid n) no-loop in
           or-answer (pathAt-answer lid k n (path-ok n (omega arith) cl′ cw)) (λ no-path.
           levels-ok B j (suc n) (omega arith) h alone cl′ (paths-done G M k (layers G M lid n) (terminals G M) alone no-path)))
 
     -- ---- the search
-    pub search-ok : (B : ℕ) → length (olds G M) ≤ B → 2 * B + 4 + k ≤ lid → Answer Beats (Holds G k M × ((N : ℕ → Bool) → Matching G N → quotas G ≤ tally G M N)) (search G M lid k B)
+    pub search-ok : (B : ℕ) → length (olds G M) ≤ B → 2 * B + 4 + k ≤ lid
+        → Answer Beats (Holds G k M × ((N : ℕ → Bool) → Matching G N → quotas G ≤ tally G M N)) (search G M lid k B)
     unfolding search
     search-ok B few h = or-answer directs-ok (λ none. or-answer (alone-ok none) (λ alone.
-        answer-map (λ h r. r) (λ d. (cutting G M law plan k (suc B) d (omega (arith, olds-count G M)), unbeaten G M law plan k (suc B) d (omega (arith, olds-count G M))))
+        answer-map (λ h r. r) (λ d. (
+          cutting G M law plan k (suc B) d (omega (arith, olds-count G M)),
+          unbeaten G M law plan k (suc B) d
+              (omega (arith, olds-count G M)),
+        ))
         (levels-ok none B B 0 (omega arith) h alone (λ x w q p. absurd (omega arith)) alone)))

@@ -39,7 +39,8 @@ module _ (G : Instance) (M : Plan) where
   even N = leZ (voteOf G M N) (pos 0) && leZ (pos 0) (voteOf G M N)
 
   even-zero : (N : Plan) → T (even N) → voteOf G M N ≡ pos 0
-  even-zero N t = ≤-antisym (voteOf G M N) (pos 0) (leZ-yes (and-l (leZ (voteOf G M N) (pos 0)) (leZ (pos 0) (voteOf G M N)) t)) (leZ-yes (and-r (leZ (voteOf G M N) (pos 0)) (leZ (pos 0) (voteOf G M N)) t))
+  even-zero N t = ≤-antisym (voteOf G M N) (pos 0) (leZ-yes (and-l (leZ (voteOf G M N) (pos 0)) (leZ (pos 0) (voteOf G M N)) t))
+      (leZ-yes (and-r (leZ (voteOf G M N) (pos 0)) (leZ (pos 0) (voteOf G M N)) t))
 
   uneven-above : (N : Plan) → pos 0 ≤ℤ voteOf G M N → T (not (even N)) → pos 0 <ℤ voteOf G M N
   uneven-above N l t = by-test (ltZ (pos 0) (voteOf G M N))
@@ -51,7 +52,8 @@ module _ (G : Instance) (M : Plan) where
   verdict-says = if-ind Means (any? (beatenBy G M) (plansOf G))
       (λ b. let (N, m, t) = any-∈ (beatenBy G M) (plansOf G) b in (N, m, ltZ-yes t))
       (λ b. given (λ N m. ltZ-no (none-∈ (beatenBy G M) (plansOf G) b N m)) (λ (u : Unbeaten). if-ind Means (any? (drawnWith G M) (plansOf G))
-      (λ e. let (N, m, t) = any-∈ (drawnWith G M) (plansOf G) e in (u, (N, m, and-l (not (samePlan M N)) (even N) t, even-zero N (and-r (not (samePlan M N)) (even N) t))))
+      (λ e. let (N, m, t) = any-∈ (drawnWith G M) (plansOf G) e in
+      (u, (N, m, and-l (not (samePlan M N)) (even N) t, even-zero N (and-r (not (samePlan M N)) (even N) t))))
       (λ e N m o. uneven-above N (u N m) (nand-r (not (samePlan M N)) (even N) (none-∈ (drawnWith G M) (plansOf G) e N m) o))))
 
   -- ---- one of the three
@@ -59,7 +61,8 @@ module _ (G : Instance) (M : Plan) where
     -- against itself a plan's vote is zero
     at-least : Strong → Unbeaten
     at-least s N m = by-test (samePlan M N)
-        (λ t. subst (λ L. pos 0 ≤ℤ voteOf G M L) (same-plan M N .0 t) (subst (λ z. pos 0 ≤ℤ z) (sym (vote-self G (on M) (plan-matching G law ok))) (≤ℤ-refl (pos 0))))
+        (λ t. subst (λ L. pos 0 ≤ℤ voteOf G M L) (same-plan M N .0 t)
+        (subst (λ z. pos 0 ≤ℤ z) (sym (vote-self G (on M) (plan-matching G law ok))) (≤ℤ-refl (pos 0))))
         (λ n. <→≤ (s N m n))
 
     beaten-not : Unbeaten → Beaten → ⊥
@@ -85,7 +88,8 @@ module _ (G : Instance) (M : Plan) where
     pub strong-means : (verdictOf G M ≡ strong) ↔ ((N : Plan) → N ∈ plansOf G → T (not (samePlan M N)) → pos 0 <ℤ voteOf G M N)
     strong-means = verdict-means strong
 
-    pub popular-means : (verdictOf G M ≡ popular) ↔ (((N : Plan) → N ∈ plansOf G → pos 0 ≤ℤ voteOf G M N) × ((N : Plan) × (N ∈ plansOf G) × T (not (samePlan M N)) × (voteOf G M N ≡ pos 0)))
+    pub popular-means : (verdictOf G M ≡ popular) ↔
+        (((N : Plan) → N ∈ plansOf G → pos 0 ≤ℤ voteOf G M N) × ((N : Plan) × (N ∈ plansOf G) × T (not (samePlan M N)) × (voteOf G M N ≡ pos 0)))
     popular-means = verdict-means popular
 
     pub beaten-means : (verdictOf G M ≡ beaten) ↔ ((N : Plan) × (N ∈ plansOf G) × (voteOf G M N <ℤ pos 0))

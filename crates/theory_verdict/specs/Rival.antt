@@ -54,11 +54,18 @@ module _ (G : Instance) (M : Plan) where
   module _ (law : Lawful G) (ok : M ∈ plansOf G) (few : sizeOf G M ≤ planLimit) where
     told : Told (computedVerdict G M) (rivalOf G M)
     unfolding computedVerdict rivalOf
-    told = go (verdictBy G (on M) lid (sizeOf G M)) (rivalEdges G (on M) lid (sizeOf G M)) (judged G (on M) law (plan-matching G law ok) lid (sizeOf G M) (omega arith) (omega arith))
+    told = go (verdictBy G (on M) lid (sizeOf G M)) (rivalEdges G (on M) lid (sizeOf G M))
+        (judged G (on M) law (plan-matching G law ok) lid (sizeOf G M) (omega arith) (omega arith))
       where
         go : (v : Verdict) (N : ℕ → Bool) → Judged G (on M) v N → Told v (planOf (G .m) N)
         go strong N s = λ L m o. s (on L) (plan-matching G law m) (other-edges G ok m o)
-        go popular N (u, r) = ((λ L m. u (on L) (plan-matching G law m)), matching-plan G (r .plan), other-plan G M (r .other), sym (vote-planOf G M N) ∙ r .vote)
+        go popular N (u, r) = (
+          (λ L m. u (on L) (plan-matching G law m)),
+          matching-plan G (r .plan),
+          other-plan G M (r .other),
+          sym
+              (vote-planOf G M N) ∙ r .vote,
+        )
         go beaten N r = (matching-plan G (r .plan), other-plan G M (r .other), subst (λ z. z <ℤ pos 0) (vote-planOf G M N) (r .vote))
 
     pub computed-verdict : computedVerdict G M ≡ verdictOf G M

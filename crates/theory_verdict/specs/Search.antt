@@ -143,7 +143,8 @@ module _ (G : Instance) (M : ℕ → Bool) where
     loopAt n = first (λ x. ltb (walkPrice lid n x x) (2 * suc n + k)) (λ x. loop x (trace lid n x x)) olds
 
     unfoldable pub pathAt : ℕ → Option Hit
-    pathAt n = first (λ p. ltb (walkPrice lid n (p .0) (p .1) + terminal (p .0) (p .1) .0) (2 * suc n + 4 + k)) (λ p. asPath (p .0) (p .1) (trace lid n (p .0) (p .1))) (product olds olds)
+    pathAt n = first (λ p. ltb (walkPrice lid n (p .0) (p .1) + terminal (p .0) (p .1) .0) (2 * suc n + 4 + k))
+        (λ p. asPath (p .0) (p .1) (trace lid n (p .0) (p .1))) (product olds olds)
 
     -- ---- level by level, closed walks first: so nothing comes twice in what is found first
     unfoldable pub levels : ℕ → ℕ → Option Hit

@@ -43,7 +43,8 @@ module _ (G : Instance) (M : ℕ → Bool) (lid k : ℕ) where
   quiet-none n q = (
     first-none (λ x. ltb (walkPrice G M lid n x x) (2 * suc n + k)) (λ x. loop x (trace G M lid n x x)) (olds G M)
         (λ x m. le→nltb (walkPrice G M lid n x x) (2 * suc n + k) (q .loops x (∈-old G M m))),
-    first-none (λ p. ltb (walkPrice G M lid n (p .0) (p .1) + terminal G M (p .0) (p .1) .0) (2 * suc n + 4 + k)) (λ p. asPath G M (p .0) (p .1) (trace G M lid n (p .0) (p .1))) (product (olds G M) (olds G M))
+    first-none (λ p. ltb (walkPrice G M lid n (p .0) (p .1) + terminal G M (p .0) (p .1) .0) (2 * suc n + 4 + k))
+        (λ p. asPath G M (p .0) (p .1) (trace G M lid n (p .0) (p .1))) (product (olds G M) (olds G M))
         (λ p m. let (i, j) = ∈-product p (olds G M) (olds G M) m in
         le→nltb (walkPrice G M lid n (p .0) (p .1) + terminal G M (p .0) (p .1) .0) (2 * suc n + 4 + k) (q .paths (p .0) (p .1) (∈-old G M i) (∈-old G M j))),
   )
@@ -55,12 +56,14 @@ module _ (G : Instance) (M : ℕ → Bool) (lid k : ℕ) where
   silent (suc j) n h s q =
       let q′ = quiet-on n (omega arith) s q in
       let (a, b) = quiet-none (suc n) q′ in
-      ap₂ (λ o r. orElse o (orElse r (levels G M lid k j (suc (suc n))))) a b ∙ silent j (suc n) (omega arith) (still-next G M (next G M lid n) (next G M lid (suc n)) s) q′
+      ap₂ (λ o r. orElse o (orElse r (levels G M lid k j (suc (suc n))))) a b
+      ∙ silent j (suc n) (omega arith) (still-next G M (next G M lid n) (next G M lid (suc n)) s) q′
 
   levels-same : (B j n : ℕ) → j + n ≡ B → 2 * B + 4 + k ≤ lid → levels′ G M lid k j n ≡ levels G M lid k j n
   unfolding levels levels′
   levels-same B zero n e h = refl
-  levels-same B (suc j) n e h = or-same (loopAt-answer G M lid k n {P = λ t. Unit {0}} (λ x o l. tt)) (λ loops. or-same (pathAt-answer G M lid k n {P = λ t. Unit {0}} (λ x y ox oy l. tt)) (λ paths.
+  levels-same B (suc j) n e h = or-same (loopAt-answer G M lid k n {P = λ t. Unit {0}} (λ x o l. tt))
+      (λ loops. or-same (pathAt-answer G M lid k n {P = λ t. Unit {0}} (λ x y ox oy l. tt)) (λ paths.
       if-ind (λ o. o ≡ levels G M lid k j (suc n)) (still G M lid k n)
       (λ t. sym (silent j n (omega arith) (stays n t) (record { loops = loops; paths = paths })))
       (λ t. levels-same B j (suc n) (omega arith) h)))

@@ -22,7 +22,15 @@ pub record Holds (G : Instance) (k : ℕ) (M : ℕ → Bool) : Type 0 where
 
 module _ (G : Instance) (M : ℕ → Bool) where
   pub strong-holds : Strong G M → Holds G 1 M
-  strong-holds s = record { plan = s .plan; wins = λ N p o. omega (arith, <-sub 0 0 (tally G M N) (quotas G) (rw (vote-tally G M N (s .plan) p) at (s .wins N p o))) }
+  strong-holds s = record {
+    plan = s .plan;
+    wins = λ N p o. omega
+        (arith, <-sub 0 0 (tally G M N) (quotas G) (rw (vote-tally G M N (s .plan) p) at (s .wins N p o)));
+  }
 
   pub holds-strong : Holds G 1 M → Strong G M
-  holds-strong s = record { plan = s .plan; wins = λ N p o. rw (vote-tally G M N (s .plan) p) (sub-< 0 0 (tally G M N) (quotas G) (omega (arith, s .wins N p o))) }
+  holds-strong s = record {
+    plan = s .plan;
+    wins = λ N p o. rw (vote-tally G M N (s .plan) p)
+        (sub-< 0 0 (tally G M N) (quotas G) (omega (arith, s .wins N p o)));
+  }

@@ -26,7 +26,8 @@ end-price : (rank : ℕ → ℕ) (z : ℕ) (b : Way) → endPrice rank z b + end
 end-price rank z lose = omega arith
 end-price rank z (gain f) = omega (arith, rate-up (rank z) (rank f))
 
-pub terminal-price : (G : Instance) (x y : ℕ) (a b : Way) → terminalPrice G x y (a, b) + (startMinus G a x + stopMinus G y b) ≡ startPlus G a x + stopPlus G y b + 4
+pub terminal-price : (G : Instance) (x y : ℕ) (a b : Way)
+    → terminalPrice G x y (a, b) + (startMinus G a x + stopMinus G y b) ≡ startPlus G a x + stopPlus G y b + 4
 terminal-price G x y a b = omega (arith, end-price (G .rankS) x a, end-price (G .rankT) y b)
 
 module _ (G : Instance) (M : ℕ → Bool) where
@@ -52,7 +53,8 @@ module _ (G : Instance) (M : ℕ → Bool) where
   -- the least price of a start at x with an end at y, and these two
   pub record Terminals (t : ℕ → ℕ → ℕ × (Way × Way)) : Type 0 where
     pub low : (a : Way) (x y : ℕ) (b : Way) → Start G M a x → Stop G M y b → Apart G a x y b → t x y .0 ≤ terminalPrice G x y (a, b)
-    pub hit : (x y : ℕ) → Start G M (t x y .1 .0) x × Stop G M y (t x y .1 .1) × Apart G (t x y .1 .0) x y (t x y .1 .1) × (terminalPrice G x y (t x y .1) ≡ t x y .0)
+    pub hit : (x y : ℕ) → Start G M (t x y .1 .0) x × Stop G M y (t x y .1 .1) × Apart G (t x y .1 .0) x y (t x y .1 .1)
+        × (terminalPrice G x y (t x y .1) ≡ t x y .0)
 
   -- ---- layer after layer
   walk-last : (x : ℕ) (w : Steps) (y : ℕ) → Old G M x → Walk G M x w y → Old G M y
@@ -68,7 +70,8 @@ module _ (G : Instance) (M : ℕ → Bool) where
     where
       low : (x : ℕ) (w : Steps) (y : ℕ) → Old G M x → Walk G M x w y → 0 < length w → length w ≤ 1 → a x y .0 + minus G x w ≤ plus G x w + 2 * 1
       low x [] y o h p q = absurd (omega arith)
-      low x ((f, z) ∷ []) y o h p q = omega (arith, t .low x f z o (h .0), ap (λ u. a x u .0) (h .1), rate-up (G .rankT x) (G .rankT f), rate-up (G .rankS z) (G .rankS f))
+      low x ((f, z) ∷ []) y o h p q =
+          omega (arith, t .low x f z o (h .0), ap (λ u. a x u .0) (h .1), rate-up (G .rankT x) (G .rankT f), rate-up (G .rankS z) (G .rankS f))
       low x ((f, z) ∷ s ∷ w) y o h p q = absurd (omega arith)
 
   pub next-layer : {lid n : ℕ} {a : ℕ → ℕ → ℕ × ℕ} {d d′ : ℕ → ℕ → ℕ} {tr tr′ : ℕ → ℕ → Steps}
@@ -95,8 +98,13 @@ module _ (G : Instance) (M : ℕ → Bool) where
           (λ (q, e). subst (Good x y) (sym e) (let r = l .hit x y ox oy (omega (arith, q)) in (r .0, r .1, omega (arith, r .2), omega (arith, q, r .3))))
           (λ (u, ou, q, e). subst (Good x y) (sym e) (
           let r = l .hit u y ou oy (omega (arith, q)) in
-          let s = t .hit x u ox ou (omega (arith, q)) in
-          ((s .0, r .0), omega arith, omega (arith, r .2), omega (arith, q, r .3, s .1, rate-up (G .rankT x) (G .rankT (a x u .1)), rate-up (G .rankS u) (G .rankS (a x u .1))))))
+          let s = t .hit x u ox ou (omega (arith, q)) in (
+            (s .0, r .0),
+            omega arith,
+            omega (arith, r .2),
+            omega
+                (arith, q, r .3, s .1, rate-up (G .rankT x) (G .rankT (a x u .1)), rate-up (G .rankS u) (G .rankS (a x u .1))),
+          )))
           (nx .from x y ox oy h)
 
   -- ---- nothing below k
@@ -105,7 +113,8 @@ module _ (G : Instance) (M : ℕ → Bool) where
     loop-old x [] p h = absurd (omega arith)
     loop-old x ((f, z) ∷ w) p h = walk-last z w x (h .0 .1) (h .1)
 
-    pub loops-done : {lid n : ℕ} {d : ℕ → ℕ → ℕ} {tr : ℕ → ℕ → Steps} → Layer lid n d tr → ((x : ℕ) → Old G M x → 2 * n + k ≤ d x x) → CostAtLeastTo G M k (suc n)
+    pub loops-done : {lid n : ℕ} {d : ℕ → ℕ → ℕ} {tr : ℕ → ℕ → Steps} → Layer lid n d tr → ((x : ℕ) → Old G M x → 2 * n + k ≤ d x x)
+        → CostAtLeastTo G M k (suc n)
     loops-done l h x w q p wk = let o = loop-old x w p wk in omega (arith, l .low x w x o wk p (omega arith), h x o)
 
     pub alone-done : {t : ℕ → ℕ → ℕ × (Way × Way)} → Terminals t → ((x : ℕ) → Old G M x → 4 + k ≤ t x x .0) → PathsCostAtLeast G M k 1
@@ -131,16 +140,20 @@ module _ (G : Instance) (M : ℕ → Bool) where
 
     -- ---- what is found first repeats nothing: it makes a rival with a vote below k
     module _ (law : Lawful G) (plan : Matching G M) where
-      pub loop-found : {n : ℕ} (x : ℕ) (w : Steps) → CostAtLeastTo G M k n → 0 < length w → length w ≤ n → Walk G M x w x → plus G x w < minus G x w + k → Rival G M (swapped M (zs w) (fs w)) 1 k
+      pub loop-found : {n : ℕ} (x : ℕ) (w : Steps) → CostAtLeastTo G M k n → 0 < length w → length w ≤ n → Walk G M x w x
+          → plus G x w < minus G x w + k → Rival G M (swapped M (zs w) (fs w)) 1 k
       loop-found x w cl p q wk c = go (closed-step G M k x w (λ x′ w′ r. cl x′ w′ (omega arith)) wk)
         where
           go : CostAtLeast G k x w ⊎ (Once (zs w) × Once (fs w)) → Rival G M (swapped M (zs w) (fs w)) 1 k
           go (inl d) = absurd (omega arith)
           go (inr (u, v)) = let (e, m) = first-∈ w p in rival-cast (simple-loop G M law plan x w wk u v e m) (omega arith)
 
-      pub path-found : {n : ℕ} (a : Way) (x : ℕ) (w : Steps) (y : ℕ) (b : Way) → NoDirect G M → CostAtLeastTo G M k (suc n) → PathCostAtLeastTo G M k a b n → length w ≤ n → AlternatingPath G M a x w y b
-          → plus G x w + (startPlus G a x + stopPlus G y b) < minus G x w + (startMinus G a x + stopMinus G y b) + k → Rival G M (swapped M (x ∷ zs w) (comers a w b)) 1 k
-      path-found a x w y b none cl ih q wh c = go (path-step G M k a x w y b none (λ x′ w′ r. cl x′ w′ (omega arith)) (λ x′ w′ y′ r. ih x′ w′ y′ (omega arith)) wh)
+      pub path-found : {n : ℕ} (a : Way) (x : ℕ) (w : Steps) (y : ℕ) (b : Way) → NoDirect G M → CostAtLeastTo G M k (suc n)
+          → PathCostAtLeastTo G M k a b n → length w ≤ n → AlternatingPath G M a x w y b
+          → plus G x w + (startPlus G a x + stopPlus G y b) < minus G x w + (startMinus G a x + stopMinus G y b) + k
+          → Rival G M (swapped M (x ∷ zs w) (comers a w b)) 1 k
+      path-found a x w y b none cl ih q wh c =
+          go (path-step G M k a x w y b none (λ x′ w′ r. cl x′ w′ (omega arith)) (λ x′ w′ y′ r. ih x′ w′ y′ (omega arith)) wh)
         where
           go : PathCostAtLeast G k a x w y b ⊎ (Once (x ∷ zs w) × Once (comers a w b)) → Rival G M (swapped M (x ∷ zs w) (comers a w b)) 1 k
           go (inl d) = absurd (omega arith)

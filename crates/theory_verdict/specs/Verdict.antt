@@ -68,8 +68,10 @@ module _ (G : Instance) (M : ℕ → Bool) where
     unfolding verdictBy rivalEdges Option·elim orElse
     judged = go beaten-or-not strong-or-not
       where
-        go : {o p : Option Hit} → Answer (λ h. Against (λ z. z <ℤ pos 0) (rivalBy M h)) Unbeaten o → Answer (λ h. Against (λ z. z ≤ℤ pos 0) (rivalBy M h)) Strongest p
+        go : {o p : Option Hit} → Answer (λ h. Against (λ z. z <ℤ pos 0) (rivalBy M h)) Unbeaten o
+            → Answer (λ h. Against (λ z. z ≤ℤ pos 0) (rivalBy M h)) Strongest p
             → Judged (judge o p) (Option·elim (orElse o p) M (rivalBy M))
         go (nothing u) (nothing s) = s
-        go (nothing u) (found {a = h} r) = (u, record { plan = r .plan; other = r .other; vote = ≤-antisym (vote G M (rivalBy M h)) (pos 0) (r .vote) (u (rivalBy M h) (r .plan)) })
+        go (nothing u) (found {a = h} r) =
+            (u, record { plan = r .plan; other = r .other; vote = ≤-antisym (vote G M (rivalBy M h)) (pos 0) (r .vote) (u (rivalBy M h) (r .plan)) })
         go (found r) p = r

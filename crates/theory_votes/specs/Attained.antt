@@ -81,7 +81,8 @@ module _ (K : Side) (v : ℕ) where
 
 module _ (K : Side) (M N : ℕ → Bool) (v : ℕ) where
   -- M's edges at v are the common ones and its own, N's likewise
-  pub parts : (g : ℕ → ℕ) → (sum g (common K v M N) + sum g (alone K v M N) ≡ sum g (here K M v)) × (sum g (common K v M N) + sum g (alone K v N M) ≡ sum g (here K N v))
+  pub parts : (g : ℕ → ℕ) → (sum g (common K v M N) + sum g (alone K v M N) ≡ sum g (here K M v))
+      × (sum g (common K v M N) + sum g (alone K v N M) ≡ sum g (here K N v))
   parts g = (split M N (λ e. refl), split N M (λ e. and-comm (M e) (N e)))
     where
       one : (x y a : Bool) (n : ℕ) → pk ((x && y) && a) n + pk ((x && not y) && a) n ≡ pk (x && a) n
@@ -90,7 +91,8 @@ module _ (K : Side) (M N : ℕ → Bool) (v : ℕ) where
       one false y a n = omega arith
 
       split : (A B : ℕ → Bool) → ((e : ℕ) → (M e && N e) ≡ (A e && B e)) → sum g (common K v M N) + sum g (alone K v A B) ≡ sum g (here K A v)
-      split A B h = sum-keep-add g (λ e. (M e && N e) && eqb (K .end e) v) (λ e. (A e && not (B e)) && eqb (K .end e) v) (λ e. A e && eqb (K .end e) v) (upTo (K .m))
+      split A B h = sum-keep-add g (λ e. (M e && N e) && eqb (K .end e) v) (λ e. (A e && not (B e)) && eqb (K .end e) v)
+          (λ e. A e && eqb (K .end e) v) (upTo (K .m))
           (λ e n. ap (λ b. pk (b && eqb (K .end e) v) n + pk ((A e && not (B e)) && eqb (K .end e) v) n) (h e) ∙ one (A e) (B e) (eqb (K .end e) v) n)
 
   -- the common edges against themselves, the others as far as they go, then empty places
@@ -101,7 +103,8 @@ module _ (K : Side) (M N : ℕ → Bool) (v : ℕ) where
   some = base ++ replicate (K .quota v - length base) (empty, empty)
 
   some-sum : (g : Place × Place → ℕ)
-      → sum g some ≡ sum (λ e. g (edge e, edge e)) (common K v M N) + sum g (match (alone K v M N) (alone K v N M)) + (K .quota v - length base) * g (empty, empty)
+      → sum g some ≡ sum (λ e. g (edge e, edge e)) (common K v M N) + sum g (match (alone K v M N) (alone K v N M)) + (K .quota v - length base) * g
+      (empty, empty)
   unfolding base some
   some-sum g = omega (
     arith,
@@ -122,8 +125,11 @@ module _ (K : Side) (M N : ℕ → Bool) (v : ℕ) where
   pub counts : (length (common K v M N) + length (alone K v M N) ≡ deg K M v) × (length (common K v M N) + length (alone K v N M) ≡ deg K N v)
   counts =
       let t = parts (λ e. 1) in
-      let b = sum-length (common K v M N) in
-      (omega (arith, sum-length (alone K v M N), sum-length (here K M v), here-deg K M v), omega (arith, sum-length (alone K v N M), sum-length (here K N v), here-deg K N v))
+      let b = sum-length (common K v M N) in (
+        omega (arith, sum-length (alone K v M N), sum-length (here K M v), here-deg K M v),
+        omega
+            (arith, sum-length (alone K v N M), sum-length (here K N v), here-deg K N v),
+      )
 
   module _ (hM : deg K M v ≤ K .quota v) (hN : deg K N v ≤ K .quota v) where
     some-fair : Fair M N (placesAt K M v) (placesAt K N v) some
@@ -194,7 +200,8 @@ module _ (K : Side) (M N : ℕ → Bool) (v : ℕ) where
     pub some-valid : (r : Pairing) × (r ∈ keep (valid M N) (pairings (places (K .quota v) (here K M v)) (places (K .quota v) (here K N v))))
     some-valid = let t = fair-valid M N (placesAt K M v) (placesAt K N v) some some-fair in (t .0, t .1)
 
-    pub attained : (r : Pairing) × (r ∈ pairings (placesAt K M v) (placesAt K N v)) × Fair M N (placesAt K M v) (placesAt K N v) r × (score K M N v ≡ sum (mark (K .rank)) r)
+    pub attained : (r : Pairing) × (r ∈ pairings (placesAt K M v) (placesAt K N v)) × Fair M N (placesAt K M v) (placesAt K N v) r
+        × (score K M N v ≡ sum (mark (K .rank)) r)
     unfolding score
     attained =
         let total : Pairing → ℕ = sum (mark (K .rank)) in

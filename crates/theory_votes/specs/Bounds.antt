@@ -34,20 +34,27 @@ module _ (M N : ℕ → Bool) where
   faces-flip : (c : Place × Place) → faces N M (c .1, c .0) ≡ faces M N c
   faces-flip c =
       ap (λ b. b || not (shared N M (c .1) || shared N M (c .0))) (same-sym (c .1) (c .0))
-      ∙ ap (λ b. same (c .0) (c .1) || not b) (or-comm (shared N M (c .1)) (shared N M (c .0)) ∙ ap (λ b. b || shared N M (c .1)) (shared-comm (c .0)) ∙ ap (λ b. shared M N (c .0) || b) (shared-comm (c .1)))
+      ∙ ap (λ b. same (c .0) (c .1) || not b)
+      (or-comm (shared N M (c .1)) (shared N M (c .0)) ∙ ap (λ b. b || shared N M (c .1)) (shared-comm (c .0))
+      ∙ ap (λ b. shared M N (c .0) || b) (shared-comm (c .1)))
 
   fair-flip : (ps qs : List Place) (r : Pairing) → Fair M N ps qs r → Fair N M qs ps (map flip r)
   unfolding flip
   fair-flip ps qs r f = record {
     on-left = λ a. f .on-right a ∙ sym (sum-map (λ c. bit (same (c .0) a)) flip r);
     on-right = λ a. f .on-left a ∙ sym (sum-map (λ c. bit (same (c .1) a)) flip r);
-    own = sum-map (λ c. bit (not (faces N M c))) flip r ∙ sum-cong (λ c. bit (not (faces N M (c .1, c .0)))) (λ c. bit (not (faces M N c))) r (λ c m. ap (λ b. bit (not b)) (faces-flip c)) ∙ f .own;
+    own = sum-map (λ c. bit (not (faces N M c))) flip r
+        ∙ sum-cong (λ c. bit (not (faces N M (c .1, c .0)))) (λ c. bit (not (faces M N c))) r (λ c m. ap (λ b. bit (not b)) (faces-flip c)) ∙ f .own;
     not-both = go (f .not-both);
   }
     where
       go : NotBoth r → NotBoth (map flip r)
-      go (inl e) = inr (sum-map (λ c. bit (emptyFacesPair c)) flip r ∙ sum-cong (λ c. bit (emptyFacesPair (c .1, c .0))) (λ c. bit (pairFacesEmpty c)) r (λ c m. ap bit (and-comm (same (c .1) empty) (not (same (c .0) empty)))) ∙ e)
-      go (inr e) = inl (sum-map (λ c. bit (pairFacesEmpty c)) flip r ∙ sum-cong (λ c. bit (pairFacesEmpty (c .1, c .0))) (λ c. bit (emptyFacesPair c)) r (λ c m. ap bit (and-comm (not (same (c .1) empty)) (same (c .0) empty))) ∙ e)
+      go (inl e) = inr (sum-map (λ c. bit (emptyFacesPair c)) flip r
+          ∙ sum-cong (λ c. bit (emptyFacesPair (c .1, c .0))) (λ c. bit (pairFacesEmpty c)) r
+          (λ c m. ap bit (and-comm (same (c .1) empty) (not (same (c .0) empty)))) ∙ e)
+      go (inr e) = inl (sum-map (λ c. bit (pairFacesEmpty c)) flip r
+          ∙ sum-cong (λ c. bit (pairFacesEmpty (c .1, c .0))) (λ c. bit (emptyFacesPair c)) r
+          (λ c m. ap bit (and-comm (not (same (c .1) empty)) (same (c .0) empty))) ∙ e)
 
 -- ---- bounds
 module _ (K : Side) (M N : ℕ → Bool) (v : ℕ) (hM : deg K M v ≤ K .quota v) (hN : deg K N v ≤ K .quota v) where
@@ -103,5 +110,6 @@ score-self K M v h =
     even r f (edge d, q) k =
         let e = same→ (edge d) q (alike (same (edge d) q) (M d) (shared M M q) (left-here K M M v r f (edge d, q) k d refl .0) (facing r f (edge d, q) k)) in
         ap (λ p. mark (K .rank) (edge d, p)) (sym e) ∙ mark-same (K .rank) (edge d)
-    even r f (empty, edge d) k = absurd (alike false (M d) false (right-here K M M v r f (empty, edge d) k d refl .0) (rw (or-false (M d && M d)) (facing r f (empty, edge d) k)))
+    even r f (empty, edge d) k = absurd
+        (alike false (M d) false (right-here K M M v r f (empty, edge d) k d refl .0) (rw (or-false (M d && M d)) (facing r f (empty, edge d) k)))
     even r f (empty, empty) k = mark-same (K .rank) empty

@@ -77,11 +77,13 @@ module _ (K : Side) (M N : ℕ → Bool) (hM : Within K M) (hN : Within K N) whe
 
   sum-couples : (g : Couple → ℕ) → sum g couplesTo ≡ sum (λ v. sum (onCouple M g) (pair v)) (upTo (K .n))
   unfolding couplesTo
-  sum-couples g = sum-gather g (λ v. couplesOf M (pair v)) (upTo (K .n)) ∙ sum-cong (λ v. sum g (couplesOf M (pair v))) (λ v. sum (onCouple M g) (pair v)) (upTo (K .n)) (λ v m. couples-sum M g (pair v))
+  sum-couples g = sum-gather g (λ v. couplesOf M (pair v)) (upTo (K .n))
+      ∙ sum-cong (λ v. sum g (couplesOf M (pair v))) (λ v. sum (onCouple M g) (pair v)) (upTo (K .n)) (λ v m. couples-sum M g (pair v))
 
   sum-losses : (h : ℕ → ℕ) → sum h lossesTo ≡ sum (λ v. sum (onLoss h) (pair v)) (upTo (K .n))
   unfolding lossesTo
-  sum-losses h = sum-gather h (λ v. lossesOf (pair v)) (upTo (K .n)) ∙ sum-cong (λ v. sum h (lossesOf (pair v))) (λ v. sum (onLoss h) (pair v)) (upTo (K .n)) (λ v m. losses-sum h (pair v))
+  sum-losses h = sum-gather h (λ v. lossesOf (pair v)) (upTo (K .n))
+      ∙ sum-cong (λ v. sum h (lossesOf (pair v))) (λ v. sum (onLoss h) (pair v)) (upTo (K .n)) (λ v m. losses-sum h (pair v))
 
   meet : (c : Couple) → c ∈ couplesTo → (d : ℕ) → c .0 ≡ edge d → K .end d ≡ K .end (c .1)
   unfolding couplesTo
@@ -91,7 +93,8 @@ module _ (K : Side) (M N : ℕ → Bool) (hM : Within K M) (hN : Within K N) whe
       pair-left (t .0) (c .0, edge (c .1)) j d e .1 ∙ sym (pair-right (t .0) (c .0, edge (c .1)) j (c .1) refl .1)
 
   -- ---- what goes and what comes
-  gone-at : (e : ℕ) (c : Place × Place) → Kind M N c → onCouple M (λ c. bit (same (c .0) (edge e))) c + onLoss (λ l. bit (eqb l e)) c ≡ pk (not (N e)) (bit (same (c .0) (edge e)))
+  gone-at : (e : ℕ) (c : Place × Place) → Kind M N c
+      → onCouple M (λ c. bit (same (c .0) (edge e))) c + onLoss (λ l. bit (eqb l e)) c ≡ pk (not (N e)) (bit (same (c .0) (edge e)))
   gone-at e c (shares {d = d} {f = f} p mf nd) = omega (arith, test-at N d e, ap (λ x. pk (not x) (bit (eqb d e))) nd, ap (λ x. pk (not x) (bit (eqb d e))) mf)
   gone-at e c (swaps {d = d} {f = f} mf nd) = omega (arith, test-at N d e, ap (λ x. pk (not x) (bit (eqb d e))) nd, ap (λ x. pk (not x) (bit (eqb d e))) mf)
   gone-at e c (loses {d = d} nd) = omega (arith, test-at N d e, ap (λ x. pk (not x) (bit (eqb d e))) nd)
@@ -130,12 +133,14 @@ module _ (K : Side) (M N : ℕ → Bool) (hM : Within K M) (hN : Within K N) whe
           sum-cong (λ c. pk (eqb (K .end (c .1)) v) (bit (same (c .0) empty))) (λ c. pk (eqb u v) (bit (same (c .0) empty))) (couplesOf M (pair u))
           (λ c k. ap (λ z. pk (eqb z v) (bit (same (c .0) empty))) (pair-right u (c .0, edge (c .1)) (couples-∈ M (pair u) c k) (c .1) refl .1))
           ∙ sum-pk (eqb u v) (λ c. bit (same (c .0) empty)) (couplesOf M (pair u))
-          ∙ ap (λ z. pk (eqb u v) z) (couples-sum M (λ c. bit (same (c .0) empty)) (pair u) ∙ sum-cong (onCouple M (λ c. bit (same (c .0) empty))) (λ c. bit (emptyFacesPair c)) (pair u) (λ c k. gain-at c (pair-kind u c k)))
+          ∙ ap (λ z. pk (eqb u v) z) (couples-sum M (λ c. bit (same (c .0) empty)) (pair u)
+          ∙ sum-cong (onCouple M (λ c. bit (same (c .0) empty))) (λ c. bit (emptyFacesPair c)) (pair u) (λ c k. gain-at c (pair-kind u c k)))
 
       all : gains K couplesTo v ≡ sum (λ u. pk (eqb u v) (gainedAt u)) (upTo (K .n))
       all =
           sum-gather (λ c. pk (eqb (K .end (c .1)) v) (bit (same (c .0) empty))) (λ u. couplesOf M (pair u)) (upTo (K .n))
-          ∙ sum-cong (λ u. sum (λ c. pk (eqb (K .end (c .1)) v) (bit (same (c .0) empty))) (couplesOf M (pair u))) (λ u. pk (eqb u v) (gainedAt u)) (upTo (K .n)) (λ u m. one u)
+          ∙ sum-cong (λ u. sum (λ c. pk (eqb (K .end (c .1)) v) (bit (same (c .0) empty))) (couplesOf M (pair u))) (λ u. pk (eqb u v) (gainedAt u))
+          (upTo (K .n)) (λ u m. one u)
 
   losses-at : (v : ℕ) → (losses K lossesTo v ≡ lostAt v) ⊎ (losses K lossesTo v ≡ 0)
   unfolding lossesTo
@@ -155,7 +160,15 @@ module _ (K : Side) (M N : ℕ → Bool) (hM : Within K M) (hN : Within K N) whe
 
   room : (v : ℕ) → deg K M v + gains K couplesTo v ≤ K .quota v
   room v = ⊎-elim
-      (λ e. omega (arith, sum-mono (λ c. bit (emptyFacesPair c)) (λ c. bit (same (c .0) empty)) (pair v) (λ c k. less c), pair-fair v .on-left empty, times-empty (K .quota v) (here K M v), here-deg K M v, hM v))
+      (λ e. omega (
+        arith,
+        sum-mono (λ c. bit (emptyFacesPair c)) (λ c. bit (same (c .0) empty)) (pair v)
+            (λ c k. less c),
+        pair-fair v .on-left empty,
+        times-empty (K .quota v) (here K M v),
+        here-deg K M v,
+        hM v,
+      ))
       (λ e. omega (arith, hM v))
       (gains-at v)
     where
@@ -183,15 +196,18 @@ module _ (K : Side) (M N : ℕ → Bool) (hM : Within K M) (hN : Within K N) whe
         u = occ e (upTo (K .m))
 
         at-one : sum (λ v. pk (x && eqb (K .end e) v) (occ e (upTo (K .m)))) (upTo (K .n)) ≡ pk x (occ e (upTo (K .m)))
-        at-one = sum-cong (λ v. pk (x && eqb (K .end e) v) u) (λ v. pk (eqb (K .end e) v) (pk x u)) (upTo (K .n)) (λ v m. pk-and x (eqb (K .end e) v) u) ∙ by-cases (decLt 0 u)
+        at-one = sum-cong (λ v. pk (x && eqb (K .end e) v) u) (λ v. pk (eqb (K .end e) v) (pk x u)) (upTo (K .n))
+            (λ v m. pk-and x (eqb (K .end e) v) u) ∙ by-cases (decLt 0 u)
             (λ h. sum-one (λ v. pk x u) (K .n) (K .end e) (ranked .inside e (occ-< (K .m) e h)))
-            (λ n. let z : pk x u ≡ 0 = omega (arith, pk-le x u) in sum-zeros (λ v. pk (eqb (K .end e) v) (pk x u)) (upTo (K .n)) (λ v m. pk-zero (eqb (K .end e) v) z) ∙ sym z)
+            (λ n. let z : pk x u ≡ 0 = omega (arith, pk-le x u) in
+            sum-zeros (λ v. pk (eqb (K .end e) v) (pk x u)) (upTo (K .n)) (λ v m. pk-zero (eqb (K .end e) v) z) ∙ sym z)
 
     gone : (e : ℕ) → sum (λ c. bit (same (c .0) (edge e))) couplesTo + occ e lossesTo ≡ occ e (goers (K .m) M N)
     gone e =
         let g : Couple → ℕ = λ c. bit (same (c .0) (edge e)) in
         let h : ℕ → ℕ = λ l. bit (eqb l e) in
-        let per = sum-cong (λ v. sum (onCouple M g) (pair v) + sum (onLoss h) (pair v)) (λ v. pk (not (N e)) (pk (M e && eqb (K .end e) v) (occ e (upTo (K .m))))) (upTo (K .n))
+        let per = sum-cong (λ v. sum (onCouple M g) (pair v) + sum (onLoss h) (pair v))
+        (λ v. pk (not (N e)) (pk (M e && eqb (K .end e) v) (occ e (upTo (K .m))))) (upTo (K .n))
         (λ v m. sym (sum-add (onCouple M g) (onLoss h) (pair v))
         ∙ sum-cong (λ c. onCouple M g c + onLoss h c) (λ c. pk (not (N e)) (bit (same (c .0) (edge e)))) (pair v) (λ c k. gone-at e c (pair-kind v c k))
         ∙ sum-pk (not (N e)) (λ c. bit (same (c .0) (edge e))) (pair v) ∙ ap (λ z. pk (not (N e)) z) (fair-left K M N v (pair v) (pair-fair v) e)) in
@@ -236,12 +252,14 @@ module _ (K : Side) (M N : ℕ → Bool) (hM : Within K M) (hN : Within K N) whe
     cost-at c hd hf (gets {f = f} mf) = omega (arith, mark-gained (K .rank) f (hf f refl), ap (λ x. pk (not x) 1) mf, pk-0 (not (M f)))
     cost-at c hd hf void = omega (arith, mark-same (K .rank) empty)
 
-    node-cost : (v : ℕ) → score K M N v + sum (onCouple M (against (K .rank))) (pair v) ≡ K .quota v + (sum (onCouple M (for (K .rank))) (pair v) + sum (onLoss (λ l. 1)) (pair v))
+    node-cost : (v : ℕ) → score K M N v + sum (onCouple M (against (K .rank))) (pair v)
+        ≡ K .quota v + (sum (onCouple M (for (K .rank))) (pair v) + sum (onLoss (λ l. 1)) (pair v))
     node-cost v = omega (
       arith,
       pair-score v,
       sum-add (mark (K .rank)) (onCouple M (against (K .rank))) (pair v),
-      sum-cong (λ c. mark (K .rank) c + onCouple M (against (K .rank)) c) (λ c. 1 + (onCouple M (for (K .rank)) c + onLoss (λ l. 1) c)) (pair v) (λ c k. cost-at c
+      sum-cong (λ c. mark (K .rank) c + onCouple M (against (K .rank)) c) (λ c. 1 + (onCouple M (for (K .rank)) c + onLoss (λ l. 1) c)) (pair v)
+          (λ c k. cost-at c
           (λ d e. ranked .placed d (pair-left v c k d e .2))
           (λ f e. ranked .placed f (pair-right v c k f e .2))
           (pair-kind v c k)),
@@ -251,7 +269,8 @@ module _ (K : Side) (M N : ℕ → Bool) (hM : Within K M) (hN : Within K N) whe
       node-places K M v (hM v),
     )
 
-    pub cost-of : sum (score K M N) (upTo (K .n)) + sum (against (K .rank)) couplesTo ≡ sum (K .quota) (upTo (K .n)) + (sum (for (K .rank)) couplesTo + length lossesTo)
+    pub cost-of : sum (score K M N) (upTo (K .n)) + sum (against (K .rank)) couplesTo
+        ≡ sum (K .quota) (upTo (K .n)) + (sum (for (K .rank)) couplesTo + length lossesTo)
     cost-of =
         let A : ℕ → ℕ = λ v. sum (onCouple M (against (K .rank))) (pair v) in
         let B : ℕ → ℕ = λ v. sum (onCouple M (for (K .rank))) (pair v) in

@@ -29,7 +29,8 @@ module _ (M : ℕ → Bool) where
   couples-sum g [] = refl
   couples-sum g ((p, edge f) ∷ r) = go (M f) (couples-sum g r)
     where
-      go : (b : Bool) → sum g (couplesOf r) ≡ sum (onCouple g) r → sum g (cond b (couplesOf r) ((p, f) ∷ couplesOf r)) ≡ pk (not b) (g (p, f)) + sum (onCouple g) r
+      go : (b : Bool) → sum g (couplesOf r) ≡ sum (onCouple g) r
+          → sum g (cond b (couplesOf r) ((p, f) ∷ couplesOf r)) ≡ pk (not b) (g (p, f)) + sum (onCouple g) r
       go true h = omega arith
       go false h = omega arith
   couples-sum g ((p, empty) ∷ r) = omega (arith, couples-sum g r)
@@ -38,11 +39,13 @@ module _ (M : ℕ → Bool) where
   couples-∈ [] c k = absurd (List·Memᴰ·not-nil k)
   couples-∈ ((p, edge f) ∷ r) c k = go (M f) (couples-∈ r c) k
     where
-      hd : c ∈ ((p, f) ∷ couplesOf r) → (c ∈ couplesOf r → _∈_ {A = Place × Place} (c .0, edge (c .1)) r) → _∈_ {A = Place × Place} (c .0, edge (c .1)) ((p, edge f) ∷ r)
+      hd : c ∈ ((p, f) ∷ couplesOf r) → (c ∈ couplesOf r → _∈_ {A = Place × Place} (c .0, edge (c .1)) r)
+          → _∈_ {A = Place × Place} (c .0, edge (c .1)) ((p, edge f) ∷ r)
       hd (List·Memᴰ·head e) ih = List·Memᴰ·head (ap (λ d. (d .0, edge (d .1))) e)
       hd (List·Memᴰ·tail j) ih = List·Memᴰ·tail (ih j)
 
-      go : (b : Bool) → (c ∈ couplesOf r → _∈_ {A = Place × Place} (c .0, edge (c .1)) r) → c ∈ cond b (couplesOf r) ((p, f) ∷ couplesOf r) → _∈_ {A = Place × Place} (c .0, edge (c .1)) ((p, edge f) ∷ r)
+      go : (b : Bool) → (c ∈ couplesOf r → _∈_ {A = Place × Place} (c .0, edge (c .1)) r) → c ∈ cond b (couplesOf r) ((p, f) ∷ couplesOf r)
+          → _∈_ {A = Place × Place} (c .0, edge (c .1)) ((p, edge f) ∷ r)
       go true ih j = List·Memᴰ·tail (ih j)
       go false ih j = hd j ih
   couples-∈ ((p, empty) ∷ r) c k = List·Memᴰ·tail (couples-∈ r c k)

@@ -40,7 +40,8 @@ pub record Swap (m : ℕ) (M N : ℕ → Bool) (R F : List ℕ) : Type 0 where
   pub goes : (e : ℕ) → pk (M e && N e) (occ e (upTo m)) + occ e R ≡ pk (M e) (occ e (upTo m))
   pub comes : (e : ℕ) → pk (M e && N e) (occ e (upTo m)) + occ e F ≡ pk (N e) (occ e (upTo m))
 
-one-alone : (m : ℕ) (A B : ℕ → Bool) (e n : ℕ) → pk (A e && B e) (occ e (upTo m)) + n ≡ pk (A e) (occ e (upTo m)) → 0 < n → (A e ≡ true) × (B e ≡ false) × (e < m)
+one-alone : (m : ℕ) (A B : ℕ → Bool) (e n : ℕ) → pk (A e && B e) (occ e (upTo m)) + n ≡ pk (A e) (occ e (upTo m)) → 0 < n
+    → (A e ≡ true) × (B e ≡ false) × (e < m)
 one-alone m A B e n = go (A e) (B e)
   where
     go : (x y : Bool) → pk (x && y) (occ e (upTo m)) + n ≡ pk x (occ e (upTo m)) → 0 < n → (x ≡ true) × (y ≡ false) × (e < m)

@@ -77,7 +77,9 @@ module _ (M N : ℕ → Bool) (ps qs : List Place) (r : Pairing) where
     on-right = λ a. sym (pairing-right (λ p. bit (same p a)) ps qs r l m);
     own = all-zero (faces M N) r (and-l (all? (faces M N) r) (not (any? pairFacesEmpty r && any? emptyFacesPair r)) t);
     not-both = by-bool (any? pairFacesEmpty r)
-        (λ e. inr (none-zero emptyFacesPair r (nand-r (any? pairFacesEmpty r) (any? emptyFacesPair r) (and-r (all? (faces M N) r) (not (any? pairFacesEmpty r && any? emptyFacesPair r)) t) (true-T e))))
+        (λ e. inr (none-zero emptyFacesPair r
+        (nand-r (any? pairFacesEmpty r) (any? emptyFacesPair r)
+        (and-r (all? (faces M N) r) (not (any? pairFacesEmpty r && any? emptyFacesPair r)) t) (true-T e))))
         (λ e. inl (none-zero pairFacesEmpty r (false-T e)));
   }
 
@@ -88,11 +90,14 @@ module _ (M N : ℕ → Bool) (ps qs : List Place) (r : Pairing) where
       t = reorder ps qs r (f .on-left) (f .on-right)
 
       apart : NotBoth r → T (not (any? pairFacesEmpty (t .to) && any? emptyFacesPair (t .to)))
-      apart (inl e) = nand-i (any? pairFacesEmpty (t .to)) (any? emptyFacesPair (t .to)) (zero-none pairFacesEmpty (t .to) (t .sums (λ c. bit (pairFacesEmpty c)) ∙ e))
-      apart (inr e) = nand-ir (any? pairFacesEmpty (t .to)) (any? emptyFacesPair (t .to)) (zero-none emptyFacesPair (t .to) (t .sums (λ c. bit (emptyFacesPair c)) ∙ e))
+      apart (inl e) = nand-i (any? pairFacesEmpty (t .to)) (any? emptyFacesPair (t .to))
+          (zero-none pairFacesEmpty (t .to) (t .sums (λ c. bit (pairFacesEmpty c)) ∙ e))
+      apart (inr e) = nand-ir (any? pairFacesEmpty (t .to)) (any? emptyFacesPair (t .to))
+          (zero-none emptyFacesPair (t .to) (t .sums (λ c. bit (emptyFacesPair c)) ∙ e))
 
       ok : T (valid M N (t .to))
-      ok = and-i (all? (faces M N) (t .to)) (not (any? pairFacesEmpty (t .to) && any? emptyFacesPair (t .to))) (zero-all (faces M N) (t .to) (t .sums (λ c. bit (not (faces M N c))) ∙ f .own)) (apart (f .not-both))
+      ok = and-i (all? (faces M N) (t .to)) (not (any? pairFacesEmpty (t .to) && any? emptyFacesPair (t .to)))
+          (zero-all (faces M N) (t .to) (t .sums (λ c. bit (not (faces M N c))) ∙ f .own)) (apart (f .not-both))
 
   pub fair-faces : Fair M N ps qs r → (c : Place × Place) → c ∈ r → T (faces M N c)
   fair-faces f c k = go (faces M N c) (omega (arith, f .own, sum-mem (λ c. bit (not (faces M N c))) k))
@@ -133,7 +138,9 @@ module _ (K : Side) (M N : ℕ → Bool) (v : ℕ) (r : Pairing) (f : Fair M N (
 
   -- on the left of a couple stand edges of M at the node, on the right edges of N
   pub left-here : (c : Place × Place) → c ∈ r → (d : ℕ) → c .0 ≡ edge d → Here K v M d
-  left-here c k d e = is-here K v M d (omega (arith, fair-left d, sum-mem (λ b. bit (same (b .0) (edge d))) k, ap (λ p. bit (same p (edge d))) e, same-refl (edge d)))
+  left-here c k d e = is-here K v M d
+      (omega (arith, fair-left d, sum-mem (λ b. bit (same (b .0) (edge d))) k, ap (λ p. bit (same p (edge d))) e, same-refl (edge d)))
 
   pub right-here : (c : Place × Place) → c ∈ r → (d : ℕ) → c .1 ≡ edge d → Here K v N d
-  right-here c k d e = is-here K v N d (omega (arith, fair-right d, sum-mem (λ b. bit (same (b .1) (edge d))) k, ap (λ p. bit (same p (edge d))) e, same-refl (edge d)))
+  right-here c k d e = is-here K v N d
+      (omega (arith, fair-right d, sum-mem (λ b. bit (same (b .1) (edge d))) k, ap (λ p. bit (same p (edge d))) e, same-refl (edge d)))

@@ -36,7 +36,8 @@ least-≤ (x ∷ xs) ys r h = go (least-≤ xs) (sum-pos (λ c. bit (eqb (c .0) 
         → (c : ℕ × ℕ) × (c ∈ r) × (0 < bit (eqb (c .0) x)) → leastSum (x ∷ xs) ys ≤ cost own r
     go ih (c, m, l) =
         let e : c .0 ≡ x = eqb→eq (c .0) x (bit-pos (eqb (c .0) x) l) in
-        let k : c .1 ∈ ys = ∈-occ (c .1) ys (omega (arith, h .on-right (λ a. bit (eqb a (c .1))), sum-mem (λ d. bit (eqb (d .1) (c .1))) m, ap bit (eqb-yes (c .1) (c .1) refl))) in
+        let k : c .1 ∈ ys = ∈-occ (c .1) ys
+        (omega (arith, h .on-right (λ a. bit (eqb a (c .1))), sum-mem (λ d. bit (eqb (d .1) (c .1))) m, ap bit (eqb-yes (c .1) (c .1) refl))) in
         let rest : Columns own xs (remove k) (remove m) = record {
           on-left = λ φ. omega (arith, h .on-left φ, sum-remove (λ d. φ (d .0)) m, ap φ e);
           on-right = λ φ. omega (arith, h .on-right φ, sum-remove (λ d. φ (d .1)) m, sum-remove φ k);
@@ -44,7 +45,8 @@ least-≤ (x ∷ xs) ys r h = go (least-≤ xs) (sum-pos (λ c. bit (eqb (c .0) 
         omega (
           arith,
           ih (remove k) (remove m) rest,
-          leastOf-≤ (map (λ p. rate x (p .0) + leastSum xs (p .1)) (picks ys)) (rate x (c .1) + leastSum xs (remove k)) (Memᴰ·map (λ p. rate x (p .0) + leastSum xs (p .1)) (remove-picks k)),
+          leastOf-≤ (map (λ p. rate x (p .0) + leastSum xs (p .1)) (picks ys)) (rate x (c .1) + leastSum xs (remove k))
+              (Memᴰ·map (λ p. rate x (p .0) + leastSum xs (p .1)) (remove-picks k)),
           sum-remove (λ d. rate (d .0) (d .1)) m,
           ap (λ z. rate z (c .1)) e,
         )
@@ -95,7 +97,14 @@ pub least-leads : (n : ℕ) (xs ys vs ws : List ℕ) → length xs ≡ length ys
 least-leads n xs ys vs ws l m u w h =
     let t = two (lead own xs ys) n in
     let s = two (lead own vs ws) n in
-    omega (arith, least-two n xs ys l u t, least-two n vs ws m w s, both-≤ (lead own xs ys) (lead own vs ws) n t s h, both-≤ (lead own vs ws) (lead own xs ys) n s t (λ x k. sym (h x k)))
+    omega (
+      arith,
+      least-two n xs ys l u t,
+      least-two n vs ws m w s,
+      both-≤ (lead own xs ys) (lead own vs ws) n t s h,
+      both-≤ (lead own vs ws)
+          (lead own xs ys) n s t (λ x k. sym (h x k)),
+    )
 
 -- ---- by the turns
 module _ (xs ys : List ℕ) (l : length xs ≡ length ys) where
@@ -109,10 +118,16 @@ module _ (xs ys : List ℕ) (l : length xs ≡ length ys) where
   turned-whole : (j : ℕ) → j ≡ length xs → turned j xs ≡ turned 0 xs
   turned-whole j e = rw (e, drop-length, take-length, append-nil)
 
-  pub turn-reached : (n : ℕ) → Sorted own xs → Sorted own ys → Below n ys → (j : ℕ) × ((j ≡ 0) ⊎ (j < length xs)) × (cost own (against (turned j xs) ys) ≤ leastSum xs ys)
+  pub turn-reached : (n : ℕ) → Sorted own xs → Sorted own ys → Below n ys
+      → (j : ℕ) × ((j ≡ 0) ⊎ (j < length xs)) × (cost own (against (turned j xs) ys) ≤ leastSum xs ys)
   turn-reached n sx sy u = by-cases (decLt (t .second) (length xs))
       (λ h. (t .second, inr h, at-second))
-      (λ h. (0, inl refl, subst (λ zs. cost own (against zs ys) ≤ leastSum xs ys) (turned-whole (t .second) (omega (arith, second-≤ own n xs ys sx sy l u t))) at-second))
+      (λ h. (
+        0,
+        inl refl,
+        subst (λ zs. cost own (against zs ys) ≤ leastSum xs ys)
+            (turned-whole (t .second) (omega (arith, second-≤ own n xs ys sx sy l u t))) at-second,
+      ))
     where
       t : Two (lead own xs ys) n
       t = two (lead own xs ys) n

@@ -100,15 +100,23 @@ module _ (K : Side) (M N : ℕ → Bool) (R F : List ℕ) (sw : Swap (K .m) M N 
     left-empty = omega (arith, core-sum K M N cs ls v (λ c. bit (same (c .0) empty)), sum-pk-0 (sharedAt K M N v) (upTo (K .m)), sum-pk-0 (at K v) ls)
 
     right-empty : right empty (core K M N cs ls v) ≡ losses K ls v
-    right-empty = omega (arith, core-sum K M N cs ls v (λ c. bit (same (c .1) empty)), sum-pk-0 (sharedAt K M N v) (upTo (K .m)), sum-pk-0 (λ c. at K v (c .1)) cs)
+    right-empty = omega (
+      arith,
+      core-sum K M N cs ls v (λ c. bit (same (c .1) empty)),
+      sum-pk-0 (sharedAt K M N v) (upTo (K .m)),
+      sum-pk-0
+          (λ c. at K v (c .1)) cs,
+    )
 
     -- ---- and in all
-    column-all : (S : ℕ → Bool) (f : Place × Place → Place) → ((e : ℕ) → sum (λ c. bit (same (f c) (edge e))) (core K M N cs ls v) ≡ pk (S e && eqb (K .end e) v) (occ e (upTo (K .m))))
+    column-all : (S : ℕ → Bool) (f : Place × Place → Place)
+        → ((e : ℕ) → sum (λ c. bit (same (f c) (edge e))) (core K M N cs ls v) ≡ pk (S e && eqb (K .end e) v) (occ e (upTo (K .m))))
         → deg K S v + sum (λ c. bit (same (f c) empty)) (core K M N cs ls v) ≡ length (core K M N cs ls v)
     column-all S f h = omega (
       arith,
       census (K .m) f (core K M N cs ls v) bound,
-      sum-cong (λ e. sum (λ c. bit (same (f c) (edge e))) (core K M N cs ls v)) (λ e. pk (S e && eqb (K .end e) v) (occ e (upTo (K .m)))) (upTo (K .m)) (λ e k. h e),
+      sum-cong (λ e. sum (λ c. bit (same (f c) (edge e))) (core K M N cs ls v)) (λ e. pk (S e && eqb (K .end e) v) (occ e (upTo (K .m))))
+          (upTo (K .m)) (λ e k. h e),
       deg-occ K S v,
     )
       where
@@ -145,7 +153,16 @@ module _ (K : Side) (M N : ℕ → Bool) (R F : List ℕ) (sw : Swap (K .m) M N 
 
     on-left : (a : Place) → times a (placesAt K M v) ≡ left a full
     on-left (edge e) = omega (arith, full-sum (λ c. bit (same (c .0) (edge e))), left-edge e, times-edge (K .quota v) e (here K M v), here-occ K M v e)
-    on-left empty = omega (arith, full-sum (λ c. bit (same (c .0) empty)), left-empty, left-all, mv .room v, times-empty (K .quota v) (here K M v), here-deg K M v)
+    on-left empty = omega (
+      arith,
+      full-sum (λ c. bit (same (c .0) empty)),
+      left-empty,
+      left-all,
+      mv .room v,
+      times-empty (K .quota v)
+          (here K M v),
+      here-deg K M v,
+    )
 
     on-right : (a : Place) → times a (placesAt K N v) ≡ right a full
     on-right (edge e) = omega (arith, full-sum (λ c. bit (same (c .1) (edge e))), right-edge e, times-edge (K .quota v) e (here K N v), here-occ K N v e)
@@ -180,8 +197,10 @@ module _ (K : Side) (M N : ℕ → Bool) (R F : List ℕ) (sw : Swap (K .m) M N 
           core-sum K M N cs ls v g,
           sum-zeros (λ e. pk (sharedAt K M N v e) (g (edge e, edge e))) (upTo (K .m)) (λ e k. pk-zero (sharedAt K M N v e) (faces-self M N e)),
           sum-zeros (λ c. pk (at K v (c .1)) (g (c .0, edge (c .1)))) cs
-              (λ c k. pk-zero (at K v (c .1)) (faces-apart M N (c .0) (edge (c .1)) (couple-apart c k (c .0) refl) (comer-apart (c .1) (couple-comes K M R F cs ls mv c k)))),
-          sum-zeros (λ l. pk (at K v l) (g (edge l, empty))) ls (λ l k. pk-zero (at K v l) (faces-apart M N (edge l) empty (goer-apart l (loss-goes K M R F cs ls mv l k)) refl)),
+              (λ c k. pk-zero (at K v (c .1))
+              (faces-apart M N (c .0) (edge (c .1)) (couple-apart c k (c .0) refl) (comer-apart (c .1) (couple-comes K M R F cs ls mv c k)))),
+          sum-zeros (λ l. pk (at K v l) (g (edge l, empty))) ls
+              (λ l k. pk-zero (at K v l) (faces-apart M N (edge l) empty (goer-apart l (loss-goes K M R F cs ls mv l k)) refl)),
         )
 
     lost-count : sum (λ c. bit (pairFacesEmpty c)) full ≡ losses K ls v
@@ -190,7 +209,8 @@ module _ (K : Side) (M N : ℕ → Bool) (R F : List ℕ) (sw : Swap (K .m) M N 
       full-sum (λ c. bit (pairFacesEmpty c)),
       core-sum K M N cs ls v (λ c. bit (pairFacesEmpty c)),
       sum-pk-0 (sharedAt K M N v) (upTo (K .m)),
-      sum-zeros (λ c. pk (at K v (c .1)) (bit (pairFacesEmpty (c .0, edge (c .1))))) cs (λ c k. pk-zero (at K v (c .1)) (ap bit (and-comm (not (same (c .0) empty)) false))),
+      sum-zeros (λ c. pk (at K v (c .1)) (bit (pairFacesEmpty (c .0, edge (c .1))))) cs
+          (λ c k. pk-zero (at K v (c .1)) (ap bit (and-comm (not (same (c .0) empty)) false))),
     )
 
     gained-count : sum (λ c. bit (emptyFacesPair c)) full ≡ gains K cs v
@@ -227,11 +247,14 @@ module _ (K : Side) (M N : ℕ → Bool) (R F : List ℕ) (sw : Swap (K .m) M N 
         let mk : Place × Place → ℕ = mark (K .rank) in
         let ag : Couple → ℕ = against (K .rank) in
         let fo : Couple → ℕ = for (K .rank) in
-        let ones = sum-cong (λ e. pk (s e) (mk (edge e, edge e))) (λ e. pk (s e) 1) (upTo (K .m)) (λ e k. ap (λ z. pk (s e) z) (mark-same (K .rank) (edge e))) in
+        let ones = sum-cong (λ e. pk (s e) (mk (edge e, edge e))) (λ e. pk (s e) 1) (upTo (K .m))
+        (λ e k. ap (λ z. pk (s e) z) (mark-same (K .rank) (edge e))) in
         let twos = sum-cong (λ l. pk (at K v l) (mk (edge l, empty))) (λ l. pk (at K v l) 1 + pk (at K v l) 1) ls
         (λ l k. ap (λ z. pk (at K v l) z) (mark-lost (K .rank) l (ranked .placed l (loss-in l k))) ∙ pk-add (at K v l) 1 1) in
-        let even = sum-cong (λ c. pk (at K v (c .1)) (mk (c .0, edge (c .1))) + pk (at K v (c .1)) (ag c)) (λ c. pk (at K v (c .1)) 1 + pk (at K v (c .1)) (fo c)) cs
-        (λ c k. sym (pk-add (at K v (c .1)) (mk (c .0, edge (c .1))) (ag c)) ∙ ap (λ z. pk (at K v (c .1)) z) (mark-couple (K .rank) c (ranked .placed (c .1) (come-in c k))) ∙ pk-add (at K v (c .1)) 1 (fo c)) in
+        let even = sum-cong (λ c. pk (at K v (c .1)) (mk (c .0, edge (c .1))) + pk (at K v (c .1)) (ag c))
+        (λ c. pk (at K v (c .1)) 1 + pk (at K v (c .1)) (fo c)) cs
+        (λ c k. sym (pk-add (at K v (c .1)) (mk (c .0, edge (c .1))) (ag c))
+        ∙ ap (λ z. pk (at K v (c .1)) z) (mark-couple (K .rank) c (ranked .placed (c .1) (come-in c k))) ∙ pk-add (at K v (c .1)) 1 (fo c)) in
         omega (
           arith,
           score-≤ K M N v (full v) (fair v),

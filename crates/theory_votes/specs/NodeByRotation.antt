@@ -41,7 +41,8 @@ unfoldable pub leastVote : List ℕ → List ℕ → ℤ
 leastVote xs ys = let k = max (length xs) (length ys) in subℕ (leastSum (fill k xs) (fill k ys)) k
 
 -- places and ranks, filled up
-filled-sum : (rank : ℕ → ℕ) (g : ℕ → ℕ) (k : ℕ) (es : List ℕ) → sum (λ p. g (placeRank rank p)) (places k es) ≡ sum (λ e. g (rank e)) es + (k - length es) * g emptyRank
+filled-sum : (rank : ℕ → ℕ) (g : ℕ → ℕ) (k : ℕ) (es : List ℕ)
+    → sum (λ p. g (placeRank rank p)) (places k es) ≡ sum (λ e. g (rank e)) es + (k - length es) * g emptyRank
 filled-sum rank g k es = omega (
   arith,
   sum-append (λ p. g (placeRank rank p)) (map edge es) (replicate (k - length es) empty),
@@ -81,7 +82,8 @@ module _ (K : Side) (M N : ℕ → Bool) (v : ℕ) where
       go false false = refl
 
   -- over the places of one of the two sets
-  unshared-sum : (A B : ℕ → Bool) → ((e : ℕ) → (M e && N e) ≡ (A e && B e)) → (α : ℕ → ℕ) → sum (unshared α) (placesAt K A v) ≡ sum (λ e. α (K .rank e)) (alone K v A B)
+  unshared-sum : (A B : ℕ → Bool) → ((e : ℕ) → (M e && N e) ≡ (A e && B e)) → (α : ℕ → ℕ)
+      → sum (unshared α) (placesAt K A v) ≡ sum (λ e. α (K .rank e)) (alone K v A B)
   unfolding unshared
   unshared-sum A B h α = omega (
     arith,
@@ -110,7 +112,8 @@ module _ (K : Side) (M N : ℕ → Bool) (v : ℕ) where
     sum-keep (λ e. bit (M e && N e)) (λ e. M e && eqb (K .end e) v) (upTo (K .m)),
     sum-length (common K v M N),
     sum-keep (λ e. 1) (λ e. (M e && N e) && eqb (K .end e) v) (upTo (K .m)),
-    sum-cong (λ e. pk (M e && eqb (K .end e) v) (bit (M e && N e))) (λ e. pk ((M e && N e) && eqb (K .end e) v) 1) (upTo (K .m)) (λ e k. one (M e) (N e) (eqb (K .end e) v)),
+    sum-cong (λ e. pk (M e && eqb (K .end e) v) (bit (M e && N e))) (λ e. pk ((M e && N e) && eqb (K .end e) v) 1) (upTo (K .m))
+        (λ e k. one (M e) (N e) (eqb (K .end e) v)),
   )
     where
       one : (x y a : Bool) → pk (x && a) (bit (x && y)) ≡ pk ((x && y) && a) 1
@@ -145,15 +148,18 @@ module _ (K : Side) (M N : ℕ → Bool) (v : ℕ) where
       couple empty empty f b = omega (arith, rate-same emptyRank emptyRank refl)
 
       abbrev Under : Type 0
-      Under = sum (λ e. α (K .rank e)) (alone K v M N) + (K .quota v - max (length (alone K v M N)) (length (alone K v N M))) ≤ score K M N v + sum (λ e. β (K .rank e)) (alone K v N M)
+      Under = sum (λ e. α (K .rank e)) (alone K v M N) + (K .quota v - max (length (alone K v M N)) (length (alone K v N M))) ≤ score K M N v + sum
+          (λ e. β (K .rank e)) (alone K v N M)
 
       pub under-score : Under
       under-score = go (attained K M N v hM hN)
         where
-          go : (r : Pairing) × (r ∈ pairings (placesAt K M v) (placesAt K N v)) × Fair M N (placesAt K M v) (placesAt K N v) r × (score K M N v ≡ sum (mark (K .rank)) r) → Under
+          go : (r : Pairing) × (r ∈ pairings (placesAt K M v) (placesAt K N v)) × Fair M N (placesAt K M v) (placesAt K N v) r
+              × (score K M N v ≡ sum (mark (K .rank)) r) → Under
           go (r, m, f, e) = end (f .not-both)
             where
-              all : sum (λ d. α (K .rank d)) (alone K v M N) + (length (common K v M N) + sum both-empty r) ≤ score K M N v + sum (λ d. β (K .rank d)) (alone K v N M)
+              all : sum (λ d. α (K .rank d)) (alone K v M N) + (length (common K v M N) + sum both-empty r) ≤ score K M N v + sum (λ d. β (K .rank d))
+                  (alone K v N M)
               all = omega (
                 arith,
                 sum-mono (λ c. unshared α (c .0) + (bit (shared M N (c .0)) + both-empty c)) (λ c. mark (K .rank) c + unshared β (c .1)) r
@@ -211,7 +217,8 @@ module _ (K : Side) (M N : ℕ → Bool) (v : ℕ) where
       whole : Pairing
       whole = map (λ e. (edge e, edge e)) (common K v M N) ++ (r ++ replicate (K .quota v - (length (common K v M N) + most)) (empty, empty))
 
-      whole-sum : (g : Place × Place → ℕ) → sum g whole ≡ sum (λ e. g (edge e, edge e)) (common K v M N) + (sum g r + (K .quota v - (length (common K v M N) + most)) * g (empty, empty))
+      whole-sum : (g : Place × Place → ℕ)
+          → sum g whole ≡ sum (λ e. g (edge e, edge e)) (common K v M N) + (sum g r + (K .quota v - (length (common K v M N) + most)) * g (empty, empty))
       unfolding whole
       whole-sum g = omega (
         arith,
@@ -339,11 +346,21 @@ module _ (K : Side) (M N : ℕ → Bool) (v : ℕ) where
     alone-placed A B e k = placed e (upTo-< (K .m) (∈-keep (λ d. (A d && not (B d)) && eqb (K .end d) v) (upTo (K .m)) k .0))
 
     -- ---- the leads of the filled lists are those of the unshared edges
-    leads : (x : ℕ) → x < 34 → lead (placeRank (K .rank)) filledM filledN x ≡ sum (λ e. upto x (K .rank e)) (alone K v M N) - sum (λ e. under x (K .rank e)) (alone K v N M)
+    leads : (x : ℕ) → x < 34 → lead (placeRank (K .rank)) filledM filledN x
+        ≡ sum (λ e. upto x (K .rank e)) (alone K v M N) - sum (λ e. under x (K .rank e)) (alone K v N M)
     unfolding most filledM filledN
     leads x h = by-cases (decLt x emptyRank)
         (λ l. omega (arith, up, down, none (most - length (alone K v M N)) (upto-no x emptyRank l), last))
-        (λ l. omega (arith, up, down, one (most - length (alone K v M N)) (upto-yes x emptyRank (omega arith)), last, all-up (omega arith), all-down (omega arith)))
+        (λ l. omega (
+          arith,
+          up,
+          down,
+          one (most - length (alone K v M N)) (upto-yes x emptyRank (omega arith)),
+          last,
+          all-up (omega arith),
+          all-down
+              (omega arith),
+        ))
       where
         none : (n : ℕ) {u : ℕ} → u ≡ 0 → n * u ≡ 0
         none n e = let z : n * 0 ≡ 0 = omega arith in ap (λ u. n * u) e ∙ z
@@ -361,10 +378,12 @@ module _ (K : Side) (M N : ℕ → Bool) (v : ℕ) where
         last = none (most - length (alone K v N M)) (under-no x emptyRank (omega arith))
 
         all-up : x ≡ 33 → sum (λ e. upto x (K .rank e)) (alone K v M N) ≡ length (alone K v M N)
-        all-up q = sum-cong (λ e. upto x (K .rank e)) (λ e. 1) (alone K v M N) (λ e k. upto-yes x (K .rank e) (omega (arith, alone-placed M N e k))) ∙ sym (sum-length (alone K v M N))
+        all-up q = sum-cong (λ e. upto x (K .rank e)) (λ e. 1) (alone K v M N) (λ e k. upto-yes x (K .rank e) (omega (arith, alone-placed M N e k)))
+            ∙ sym (sum-length (alone K v M N))
 
         all-down : x ≡ 33 → sum (λ e. under x (K .rank e)) (alone K v N M) ≡ length (alone K v N M)
-        all-down q = sum-cong (λ e. under x (K .rank e)) (λ e. 1) (alone K v N M) (λ e k. under-yes x (K .rank e) (omega (arith, alone-placed N M e k))) ∙ sym (sum-length (alone K v N M))
+        all-down q = sum-cong (λ e. under x (K .rank e)) (λ e. 1) (alone K v N M)
+            (λ e k. under-yes x (K .rank e) (omega (arith, alone-placed N M e k))) ∙ sym (sum-length (alone K v N M))
 
     -- ---- the score, and the vote
     filled-length : (k : ℕ) (es : List ℕ) → length es ≤ k → length (places k es) ≡ k
@@ -381,7 +400,8 @@ module _ (K : Side) (M N : ℕ → Bool) (v : ℕ) where
     unfolding most
     one-lead x h = omega (arith, leads x h, under-most, under-score (upto x) (under x) (bar x) (λ a. omega (arith, bit-one (leb a x))))
 
-    two-leads : (x y : ℕ) → x < y → y < 34 → lead (placeRank (K .rank)) filledM filledN x + lead (placeRank (K .rank)) filledM filledN y ≤ score K M N v - (K .quota v - most)
+    two-leads : (x y : ℕ) → x < y → y < 34
+        → lead (placeRank (K .rank)) filledM filledN x + lead (placeRank (K .rank)) filledM filledN y ≤ score K M N v - (K .quota v - most)
     unfolding most
     two-leads x y l h = rw (leads x (omega arith), leads y h) (two-cut
         (sum (λ e. upto x (K .rank e)) (alone K v M N)) (sum (λ e. under x (K .rank e)) (alone K v N M))
@@ -393,7 +413,8 @@ module _ (K : Side) (M N : ℕ → Bool) (v : ℕ) where
         crossed = omega (
           arith,
           under-most,
-          under-score (λ a. upto x a + upto y a) (λ b. under x b + under y b) (λ a b. bars x y a b l) (λ a. omega (arith, bit-one (leb a x), bit-one (leb a y))),
+          under-score (λ a. upto x a + upto y a) (λ b. under x b + under y b) (λ a b. bars x y a b l)
+              (λ a. omega (arith, bit-one (leb a x), bit-one (leb a y))),
           sum-add (λ e. upto x (K .rank e)) (λ e. upto y (K .rank e)) (alone K v M N),
           sum-add (λ e. under x (K .rank e)) (λ e. under y (K .rank e)) (alone K v N M),
         )
@@ -401,7 +422,8 @@ module _ (K : Side) (M N : ℕ → Bool) (v : ℕ) where
     score-two : score K M N v ≡ t .first + t .second + (K .quota v - most)
     unfolding most filledM filledN
     score-two =
-        let (r, c, h) = reach (placeRank (K .rank)) 34 filledM filledN (filled-length most (alone K v M N) (omega arith) ∙ sym (filled-length most (alone K v N M) (omega arith))) below t in
+        let (r, c, h) = reach (placeRank (K .rank)) 34 filledM filledN
+        (filled-length most (alone K v M N) (omega arith) ∙ sym (filled-length most (alone K v N M) (omega arith))) below t in
         omega (arith, over-score r c, under-most, t .both (score K M N v - (K .quota v - most)) one-lead two-leads)
       where
         below : (q : Place) → q ∈ filledN → placeRank (K .rank) q < 34
@@ -411,7 +433,8 @@ module _ (K : Side) (M N : ℕ → Bool) (v : ℕ) where
           sum-zeros (λ e. upto (K .rank e) 34) (alone K v N M) (λ e k. upto-no (K .rank e) 34 (omega (arith, alone-placed N M e k))),
         ))
 
-    module _ (xs ys : List ℕ) (hx : (φ : ℕ → ℕ) → sum φ xs ≡ sum (λ e. φ (K .rank e)) (alone K v M N)) (hy : (φ : ℕ → ℕ) → sum φ ys ≡ sum (λ e. φ (K .rank e)) (alone K v N M)) where
+    module _ (xs ys : List ℕ) (hx : (φ : ℕ → ℕ) → sum φ xs ≡ sum (λ e. φ (K .rank e)) (alone K v M N))
+        (hy : (φ : ℕ → ℕ) → sum φ ys ≡ sum (λ e. φ (K .rank e)) (alone K v N M)) where
       sizes : (length xs ≡ length (alone K v M N)) × (length ys ≡ length (alone K v N M))
       sizes = (omega (arith, hx (λ a. 1), sum-length xs, sum-length (alone K v M N)), omega (arith, hy (λ a. 1), sum-length ys, sum-length (alone K v N M)))
 

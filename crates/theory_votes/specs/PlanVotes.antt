@@ -30,7 +30,8 @@ module _ (K : Side) (M N : ℕ → Bool) (v : ℕ) (hM : deg K M v ≤ K .quota 
   nodeVote-least = rw (neg-sub (K .quota v), nodeVote-score K M N v hM hN) (sub-≤ 0 (K .quota v) (score K M N v) (K .quota v) (omega arith))
 
   pub nodeVote-most : nodeVote K M N v ≤ℤ pos (K .quota v)
-  nodeVote-most = rw (pos-sub (K .quota v), nodeVote-score K M N v hM hN) (sub-≤ (score K M N v) (K .quota v) (K .quota v) 0 (omega (arith, score-≤-two K M N v hM hN)))
+  nodeVote-most = rw (pos-sub (K .quota v), nodeVote-score K M N v hM hN)
+      (sub-≤ (score K M N v) (K .quota v) (K .quota v) 0 (omega (arith, score-≤-two K M N v hM hN)))
 
   pub nodeVote-both : (nodeVote K M N v +ℤ nodeVote K N M v) ≤ℤ pos 0
   nodeVote-both = rw (nodeVote-score K M N v hM hN, nodeVote-score K N M v hN hM, sub-add (score K M N v) (K .quota v) (score K N M v) (K .quota v))
@@ -67,10 +68,18 @@ module _ (G : Instance) where
 -- ---- the same edges, the same votes
 module _ (K : Side) (M N M′ N′ : ℕ → Bool) (v : ℕ) (sM : (e : ℕ) → e < K .m → M e ≡ M′ e) (sN : (e : ℕ) → e < K .m → N e ≡ N′ e) where
   here-same : (A B : ℕ → Bool) → ((e : ℕ) → e < K .m → A e ≡ B e) → here K A v ≡ here K B v
-  here-same A B h = keep-cong (λ e. A e && eqb (K .end e) v) (λ e. B e && eqb (K .end e) v) (upTo (K .m)) (λ e k. ap (λ b. b && eqb (K .end e) v) (h e (upTo-< (K .m) k)))
+  here-same A B h = keep-cong (λ e. A e && eqb (K .end e) v) (λ e. B e && eqb (K .end e) v) (upTo (K .m))
+      (λ e k. ap (λ b. b && eqb (K .end e) v) (h e (upTo-< (K .m) k)))
 
   shared-same : (A : ℕ → Bool) (p : Place) → 0 < times p (placesAt K A v) → shared M N p ≡ shared M′ N′ p
-  shared-same A (edge d) h = let l = occ-< (K .m) d (omega (arith, times-edge (K .quota v) d (here K A v), here-occ K A v d, pk-le (A d && eqb (K .end d) v) (occ d (upTo (K .m))))) in ap₂ _&&_ (sM d l) (sN d l)
+  shared-same A (edge d) h = let l =
+      occ-< (K .m) d (omega (
+        arith,
+        times-edge (K .quota v) d (here K A v),
+        here-occ K A v d,
+        pk-le (A d && eqb (K .end d) v)
+            (occ d (upTo (K .m))),
+      )) in ap₂ _&&_ (sM d l) (sN d l)
   shared-same A empty h = refl
 
   valid-same : (r : Pairing) → r ∈ pairings (placesAt K M v) (placesAt K N v) → valid M N r ≡ valid M′ N′ r
@@ -78,8 +87,20 @@ module _ (K : Side) (M N M′ N′ : ℕ → Bool) (v : ℕ) (sM : (e : ℕ) →
     where
       faces-same : (c : Place × Place) → c ∈ r → faces M N c ≡ faces M′ N′ c
       faces-same c k = ap₂ (λ x y. same (c .0) (c .1) || not (x || y))
-          (shared-same M (c .0) (omega (arith, pairing-left (λ p. bit (same p (c .0))) (placesAt K M v) (placesAt K N v) r m, sum-mem (λ b. bit (same (b .0) (c .0))) k, same-refl (c .0))))
-          (shared-same N (c .1) (omega (arith, pairing-right-≤ (λ p. bit (same p (c .1))) (placesAt K M v) (placesAt K N v) r m, sum-mem (λ b. bit (same (b .1) (c .1))) k, same-refl (c .1))))
+          (shared-same M (c .0) (omega (
+            arith,
+            pairing-left (λ p. bit (same p (c .0))) (placesAt K M v) (placesAt K N v) r m,
+            sum-mem
+                (λ b. bit (same (b .0) (c .0))) k,
+            same-refl (c .0),
+          )))
+          (shared-same N (c .1) (omega (
+            arith,
+            pairing-right-≤ (λ p. bit (same p (c .1))) (placesAt K M v) (placesAt K N v) r m,
+            sum-mem
+                (λ b. bit (same (b .1) (c .1))) k,
+            same-refl (c .1),
+          )))
 
   pub nodeVote-same : nodeVote K M N v ≡ nodeVote K M′ N′ v
   unfolding nodeVote
@@ -91,5 +112,6 @@ pub vote-same : (G : Instance) (M N M′ N′ : ℕ → Bool) → Same G M M′ 
 unfolding vote
 vote-same G M N M′ N′ sM sN = ap₂ _+ℤ_ (side (surveyors G) sM sN) (side (stands G) sM sN)
   where
-    side : (K : Side) → ((e : ℕ) → e < K .m → M e ≡ M′ e) → ((e : ℕ) → e < K .m → N e ≡ N′ e) → sumℤ (nodeVote K M N) (upTo (K .n)) ≡ sumℤ (nodeVote K M′ N′) (upTo (K .n))
+    side : (K : Side) → ((e : ℕ) → e < K .m → M e ≡ M′ e) → ((e : ℕ) → e < K .m → N e ≡ N′ e)
+        → sumℤ (nodeVote K M N) (upTo (K .n)) ≡ sumℤ (nodeVote K M′ N′) (upTo (K .n))
     side K a b = sumℤ-cong (nodeVote K M N) (nodeVote K M′ N′) (upTo (K .n)) (λ v k. nodeVote-same K M N M′ N′ v a b)

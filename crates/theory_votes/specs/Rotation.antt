@@ -105,7 +105,8 @@ module _ {A : Type 0} (rank : A → ℕ) where
       h .on-left (λ p. upto y (rank p)),
       h .on-right (λ q. under y (rank q)),
       sum-add (λ c. upto x (rank (c .0))) (λ c. upto y (rank (c .0))) r,
-      sum-mono (λ c. upto x (rank (c .0)) + upto y (rank (c .0))) (λ c. rate (rank (c .0)) (rank (c .1)) + (under x (rank (c .1)) + under y (rank (c .1)))) r (λ c k. bars x y (rank (c .0)) (rank (c .1)) l),
+      sum-mono (λ c. upto x (rank (c .0)) + upto y (rank (c .0)))
+          (λ c. rate (rank (c .0)) (rank (c .1)) + (under x (rank (c .1)) + under y (rank (c .1)))) r (λ c k. bars x y (rank (c .0)) (rank (c .1)) l),
       sum-add (λ c. rate (rank (c .0)) (rank (c .1))) (λ c. under x (rank (c .1)) + under y (rank (c .1))) r,
       sum-add (λ c. under x (rank (c .1))) (λ c. under y (rank (c .1))) r,
     )
@@ -151,7 +152,8 @@ module _ {A : Type 0} (rank : A → ℕ) where
         rate-same (rank p) (rank q) equal,
         own,
         each (rank p) inside,
-        ih (λ x k. omega (arith, falls x k, each x k)) (λ x y k m. min-falls (lead (p ∷ ps) (q ∷ qs) x) (lead (p ∷ ps) (q ∷ qs) y) 1 (falls x (omega arith)) (falls y m) (omega (arith, alone x y k m))),
+        ih (λ x k. omega (arith, falls x k, each x k))
+            (λ x y k m. min-falls (lead (p ∷ ps) (q ∷ qs) x) (lead (p ∷ ps) (q ∷ qs) y) 1 (falls x (omega arith)) (falls y m) (omega (arith, alone x y k m))),
       )
         where
           inside : rank p < n
@@ -161,7 +163,13 @@ module _ {A : Type 0} (rank : A → ℕ) where
           own = omega (arith, upto-yes (rank p) (rank p) (omega arith), under-no (rank p) (rank q) (omega arith), before-q (rank p) (omega arith))
 
           next : rank p < rank q → 1 ≤ lead (p ∷ ps) (q ∷ qs) (rank p + 1)
-          next k = omega (arith, upto-yes (rank p + 1) (rank p) (omega arith), under-no (rank p + 1) (rank q) (omega arith), before-q (rank p + 1) (omega arith))
+          next k = omega (
+            arith,
+            upto-yes (rank p + 1) (rank p) (omega arith),
+            under-no (rank p + 1) (rank q) (omega arith),
+            before-q (rank p + 1)
+                (omega arith),
+          )
 
           equal : rank p ≡ rank q
           equal = by-cases (decLt (rank p) (rank q))
@@ -176,7 +184,8 @@ module _ {A : Type 0} (rank : A → ℕ) where
               (λ j. omega (arith, upto-yes x (rank p) (omega arith), under-no x (rank q) (omega (arith, equal)), before-q x (omega (arith, equal)))))
 
   -- ---- the turn by the second lead
-  module _ (n : ℕ) (ps qs : List A) (sp : Sorted rank ps) (sq : Sorted rank qs) (l : length ps ≡ length qs) (u : (q : A) → q ∈ qs → rank q < n) (t : Two (lead ps qs) n) where
+  module _ (n : ℕ) (ps qs : List A) (sp : Sorted rank ps) (sq : Sorted rank qs) (l : length ps ≡ length qs) (u : (q : A) → q ∈ qs → rank q < n)
+      (t : Two (lead ps qs) n) where
     some : (x : ℕ) → uptos rank ps x ≤ length ps
     some x = omega (arith, sum-mono (λ p. upto x (rank p)) (λ p. 1) ps (λ p k. bit-one (leb (rank p) x)), sum-length ps)
 
@@ -192,7 +201,8 @@ module _ {A : Type 0} (rank : A → ℕ) where
       few,
       in-order n (t .first - t .second) back low (sorted-drop rank (t .second) ps sp) (sorted-take rank (length back) qs sq)
           (omega (arith, length-take (length back) qs, length-drop (t .second) ps)) (λ q k. u q (∈-take rank (length back) qs q k))
-          (λ x k. omega (arith, lowered x, t .each x k)) (λ x y k m. min-falls (lead ps qs x) (lead ps qs y) (t .second) (lowered x) (lowered y) (t .pair x y k m)),
+          (λ x k. omega (arith, lowered x, t .each x k))
+          (λ x y k m. min-falls (lead ps qs x) (lead ps qs y) (t .second) (lowered x) (lowered y) (t .pair x y k m)),
     )
       where
         back : List A
@@ -213,10 +223,12 @@ module _ {A : Type 0} (rank : A → ℕ) where
   -- ---- whatever the order of the lists, some couples come to no more than the two greatest leads
   -- all ranks are below n if none is counted from n on
   pub below-none : (n : ℕ) (qs : List A) → sum (λ p. upto (rank p) n) qs ≡ 0 → (q : A) → q ∈ qs → rank q < n
-  below-none n qs h q k = by-cases (decLt (rank q) n) (λ l. l) (λ l. absurd (omega (arith, sum-mem (λ p. upto (rank p) n) k, upto-yes (rank q) n (omega arith))))
+  below-none n qs h q k = by-cases (decLt (rank q) n) (λ l. l)
+      (λ l. absurd (omega (arith, sum-mem (λ p. upto (rank p) n) k, upto-yes (rank q) n (omega arith))))
 
   below-sort : (n : ℕ) (qs : List A) → ((q : A) → q ∈ qs → rank q < n) → (q : A) → q ∈ sort rank qs → rank q < n
-  below-sort n qs h = below-none n (sort rank qs) (sum-sort rank (λ p. upto (rank p) n) qs ∙ sum-zeros (λ p. upto (rank p) n) qs (λ p m. upto-no (rank p) n (h p m)))
+  below-sort n qs h = below-none n (sort rank qs)
+      (sum-sort rank (λ p. upto (rank p) n) qs ∙ sum-zeros (λ p. upto (rank p) n) qs (λ p m. upto-no (rank p) n (h p m)))
 
   pub reach : (n : ℕ) (ps qs : List A) → length ps ≡ length qs → ((q : A) → q ∈ qs → rank q < n) → (t : Two (lead ps qs) n)
       → (r : List (A × A)) × Columns ps qs r × (cost r ≤ t .first + t .second)
@@ -229,7 +241,8 @@ module _ {A : Type 0} (rank : A → ℕ) where
         omega (
           arith,
           turn-≤ n (sort rank ps) (sort rank qs) (sorted-sort rank ps) (sorted-sort rank qs) e (below-sort n qs u) s,
-          both-≤ (lead (sort rank ps) (sort rank qs)) (lead ps qs) n s t (λ x k. omega (arith, sum-sort rank (λ p. upto x (rank p)) ps, sum-sort rank (λ q. under x (rank q)) qs)),
+          both-≤ (lead (sort rank ps) (sort rank qs)) (lead ps qs) n s t
+              (λ x k. omega (arith, sum-sort rank (λ p. upto x (rank p)) ps, sum-sort rank (λ q. under x (rank q)) qs)),
         ),
       )
     where

@@ -39,7 +39,8 @@ pub rate-up : (a b : ℕ) → rate a b + up b a ≡ 1 + up a b
 unfolding up
 rate-up a b = go (ltb a b) (leb a b) (ltb b a) (ltb→lt a b) (nltb→le a b) (leb→le a b) (nleb→lt a b) (ltb→lt b a) (nltb→le b a)
   where
-    go : (x y z : Bool) → (T x → a < b) → (T (not x) → b ≤ a) → (T y → a ≤ b) → (T (not y) → b < a) → (T z → b < a) → (T (not z) → a ≤ b) → bit x + bit y + bit z ≡ 1 + bit x
+    go : (x y z : Bool) → (T x → a < b) → (T (not x) → b ≤ a) → (T y → a ≤ b) → (T (not y) → b < a) → (T z → b < a) → (T (not z) → a ≤ b)
+        → bit x + bit y + bit z ≡ 1 + bit x
     go true true true p p′ q q′ r r′ = absurd (omega (arith, p tt, r tt))
     go true true false p p′ q q′ r r′ = omega arith
     go true false z p p′ q q′ r r′ = absurd (omega (arith, p tt, q′ tt))

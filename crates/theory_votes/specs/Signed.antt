@@ -38,11 +38,14 @@ min-sub a c b = go (leZ (subℕ a b) (subℕ c b)) (λ t. ≤-sub a b c b (leZ-y
     go true h k = let s : a ≡ min a c = omega (arith, h tt) in ap (λ z. subℕ z b) s
     go false h k = let s : c ≡ min a c = by-cases (decLe c a) (λ l. omega arith) (λ n. absurd (k (omega arith))) in ap (λ z. subℕ z b) s
 
-least-sub : {A : Type 0} (b : ℕ) (f : A → ℤ) (g : A → ℕ) (x : A) (xs : List A) → ((y : A) → y ∈ (x ∷ xs) → f y ≡ subℕ (g y) b) → leastℤ (f x) (map f xs) ≡ subℕ (least (g x) (map g xs)) b
+least-sub : {A : Type 0} (b : ℕ) (f : A → ℤ) (g : A → ℕ) (x : A) (xs : List A) → ((y : A) → y ∈ (x ∷ xs) → f y ≡ subℕ (g y) b)
+    → leastℤ (f x) (map f xs) ≡ subℕ (least (g x) (map g xs)) b
 least-sub b f g x [] h = h x (List·Memᴰ·head refl)
-least-sub b f g x (y ∷ ys) h = ap₂ minℤ (h x (List·Memᴰ·head refl)) (least-sub b f g y ys (λ z k. h z (List·Memᴰ·tail k))) ∙ min-sub (g x) (least (g y) (map g ys)) b
+least-sub b f g x (y ∷ ys) h = ap₂ minℤ (h x (List·Memᴰ·head refl)) (least-sub b f g y ys (λ z k. h z (List·Memᴰ·tail k)))
+    ∙ min-sub (g x) (least (g y) (map g ys)) b
 
-leastOf-sub : {A : Type 0} (b : ℕ) (f : A → ℤ) (g : A → ℕ) (xs : List A) {x : A} → x ∈ xs → ((y : A) → y ∈ xs → f y ≡ subℕ (g y) b) → leastOfℤ (map f xs) ≡ subℕ (leastOf (map g xs)) b
+leastOf-sub : {A : Type 0} (b : ℕ) (f : A → ℤ) (g : A → ℕ) (xs : List A) {x : A} → x ∈ xs → ((y : A) → y ∈ xs → f y ≡ subℕ (g y) b)
+    → leastOfℤ (map f xs) ≡ subℕ (leastOf (map g xs)) b
 leastOf-sub b f g [] k h = absurd (List·Memᴰ·not-nil k)
 leastOf-sub b f g (x ∷ xs) k h = least-sub b f g x xs h
 
@@ -50,7 +53,8 @@ leastOf-sub b f g (x ∷ xs) k h = least-sub b f g x xs h
 rankVote-rate : (a b : ℕ) → rankVote a b ≡ subℕ (rate a b) 1
 rankVote-rate a b = go (ltb a b) (leb a b) (ltb b a) (ltb→lt a b) (leb→le a b) (nleb→lt a b) (ltb→lt b a) (nltb→le b a)
   where
-    go : (x y z : Bool) → (T x → a < b) → (T y → a ≤ b) → (T (not y) → b < a) → (T z → b < a) → (T (not z) → a ≤ b) → cond x (pos 1) (cond z (negsuc 0) (pos 0)) ≡ subℕ (bit x + bit y) 1
+    go : (x y z : Bool) → (T x → a < b) → (T y → a ≤ b) → (T (not y) → b < a) → (T z → b < a) → (T (not z) → a ≤ b)
+        → cond x (pos 1) (cond z (negsuc 0) (pos 0)) ≡ subℕ (bit x + bit y) 1
     go true true z p q q′ r r′ = refl
     go true false z p q q′ r r′ = absurd (omega (arith, p tt, q′ tt))
     go false true true p q q′ r r′ = absurd (omega (arith, q tt, r tt))
@@ -62,16 +66,21 @@ placeVote-mark : (rank : ℕ → ℕ) (c : Place × Place) → placeVote rank c 
 unfolding mark
 placeVote-mark rank c = rankVote-rate (placeRank rank (c .0)) (placeRank rank (c .1))
 
-pub nodeVote-score : (K : Side) (M N : ℕ → Bool) (v : ℕ) → deg K M v ≤ K .quota v → deg K N v ≤ K .quota v → nodeVote K M N v ≡ subℕ (score K M N v) (K .quota v)
+pub nodeVote-score : (K : Side) (M N : ℕ → Bool) (v : ℕ) → deg K M v ≤ K .quota v → deg K N v ≤ K .quota v
+    → nodeVote K M N v ≡ subℕ (score K M N v) (K .quota v)
 unfolding nodeVote score
-nodeVote-score K M N v hM hN = leastOf-sub (K .quota v) (sumℤ (placeVote (K .rank))) (sum (mark (K .rank))) (validPairings K M N v) (some-valid K M N v hM hN .1)
+nodeVote-score K M N v hM hN =
+    leastOf-sub (K .quota v) (sumℤ (placeVote (K .rank))) (sum (mark (K .rank))) (validPairings K M N v) (some-valid K M N v hM hN .1)
     (λ r k. sum-sub (placeVote (K .rank)) (mark (K .rank)) (λ c. 1) r (λ c j. placeVote-mark (K .rank) c)
-    ∙ ap (λ z. subℕ (sum (mark (K .rank)) r) z) (pairing-length (placesAt K M v) (placesAt K N v) r (∈-keep (valid M N) (pairings (placesAt K M v) (placesAt K N v)) k .0) ∙ node-places K M v hM))
+    ∙ ap (λ z. subℕ (sum (mark (K .rank)) r) z)
+    (pairing-length (placesAt K M v) (placesAt K N v) r (∈-keep (valid M N) (pairings (placesAt K M v) (placesAt K N v)) k .0) ∙ node-places K M v hM))
 
 pub vote-tally : (G : Instance) (M N : ℕ → Bool) → Matching G M → Matching G N → vote G M N ≡ subℕ (tally G M N) (quotas G)
 unfolding vote
 vote-tally G M N pM pN =
     ap₂ _+ℤ_
-    (sum-sub (nodeVote (surveyors G) M N) (score (surveyors G) M N) (G .quotaS) (upTo (G .ns)) (λ v k. nodeVote-score (surveyors G) M N v (pM .atS v) (pN .atS v)))
+    (sum-sub (nodeVote (surveyors G) M N) (score (surveyors G) M N) (G .quotaS) (upTo (G .ns))
+    (λ v k. nodeVote-score (surveyors G) M N v (pM .atS v) (pN .atS v)))
     (sum-sub (nodeVote (stands G) M N) (score (stands G) M N) (G .quotaT) (upTo (G .nt)) (λ v k. nodeVote-score (stands G) M N v (pM .atT v) (pN .atT v)))
-    ∙ sub-add (sum (score (surveyors G) M N) (upTo (G .ns))) (sum (G .quotaS) (upTo (G .ns))) (sum (score (stands G) M N) (upTo (G .nt))) (sum (G .quotaT) (upTo (G .nt)))
+    ∙ sub-add (sum (score (surveyors G) M N) (upTo (G .ns))) (sum (G .quotaS) (upTo (G .ns))) (sum (score (stands G) M N) (upTo (G .nt)))
+    (sum (G .quotaT) (upTo (G .nt)))
