@@ -3,9 +3,9 @@
 -- Which rival and which blocking pair are open: they are fields of a record `Choices`, with what holds of them.
 use Prim.Native.Nat.{ℕ, suc}
 use mathlib.Core.Bool.{Bool, true, false, not, cond, _&&_, _||_}
-use mathlib.Core.List.{List, [], _++_}
+use mathlib.Core.List.{List, _++_}
 use lib.ListN.{length, drop}
-use lib.Dec.{T, eqb, ltb}
+use lib.Dec.{T, ltb}
 use lib.IntN.{ℤ}
 use Rattle.lists.specs.Sum.{_∈_}
 use Rattle.model.specs.Limits.{planSize, rosterSize, diarySize, leftSize}
@@ -17,7 +17,7 @@ use Rattle.model.specs.RosterFile.{readRoster, writeRoster}
 use Rattle.model.specs.Edges.{instanceOf}
 use Rattle.model.specs.Instance.{Instance}
 use Rattle.model.specs.Plans as P
-use Rattle.model.specs.Plans.{Plan, Verdict, isStrong, on, within, plansOf, voteOf, verdictOf}
+use Rattle.model.specs.Plans.{Plan, Verdict, isStrong, on, plansOf, voteOf, verdictOf}
 use Rattle.model.specs.PlanFile.{pairList, planBytes, readPlan}
 use Rattle.model.specs.Reduction.{stepsOf}
 use Rattle.model.specs.Finder as F

@@ -7,7 +7,7 @@ use mathlib.Core.List.{List, [], _∷_, _++_, append-assoc}
 use lib.ListN.{length, getD}
 use lib.Dec.{T, ltb, lt→ltb}
 use Rattle.lists.specs.Test.{given, and-r, and-i}
-use Rattle.lists.specs.Keep.{all?, gather, All}
+use Rattle.lists.specs.Keep.{gather, All}
 use Rattle.model.specs.Reading.{Reading, accepted, refused, _then_, refuseIf, refuseBy, byte, twoBytes, readEach, whole}
 pub use Rattle.model.specs.Reading.{isBytes}
 

@@ -6,7 +6,7 @@ use native.Mathlib.Omega.{arith}
 use native.Mathlib.Decide.{decLt}
 use mathlib.Core.Path.{_≡_, refl, sym, ap, _∙_, subst}
 use mathlib.Core.Logic.{_⊎_, inl, inr, by-cases}
-use mathlib.Core.Bool.{Bool, true, false, not, _&&_, _||_, and-true, or-false, or-assoc}
+use mathlib.Core.Bool.{false, not, _&&_, _||_, and-true, or-false, or-assoc}
 use mathlib.Core.Option.{Option, Option·elim}
 use mathlib.Core.List.{List, [], _∷_, map, List·Memᴰ·head, List·Memᴰ·tail, List·Memᴰ·not-nil, Memᴰ·of-map}
 use lib.ListN.{length, length-map}

@@ -4,7 +4,7 @@
 -- An arc, a start and an end cost at least -2 each: a table holds costs with 2 added for each, so that they are numbers, and cuts them at
 -- a lid, which stands for "none". With at most 64 edges in M the lid 133 is enough, so that a byte holds every price.
 -- A program needs the table of the arcs, that of the ends, and one layer, changed level by level; the walk that is found is read back
--- from one column of the layers (crates column, readback).
+-- from one column of the layers (rival_columns, rival_walk).
 use Prim.Native.Nat.{ℕ, zero, suc, _+_, _*_, min}
 use mathlib.Core.Bool.{Bool, true, not, cond, _&&_}
 use mathlib.Core.Option.{Option, none, some, orElse, Option·elim}

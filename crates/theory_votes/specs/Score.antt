@@ -5,15 +5,14 @@ use Prim.Native.Nat.{ℕ, _+_, _≤_, _<_}
 use native.Mathlib.Omega.{arith}
 use mathlib.Core.Path.{_≡_}
 use mathlib.Core.Bool.{Bool, true, false, not}
-use mathlib.Core.List.{List, map}
+use mathlib.Core.List.{map}
 use lib.Dec.{T, leb, ltb, ltb→lt, nltb→le, leb→le, nleb→lt}
 use Rattle.lists.specs.Test.{bit}
 use Rattle.lists.specs.Sum.{sum, upTo}
-use Rattle.lists.specs.Keep.{keep}
 use Rattle.lists.specs.Least.{leastOf}
 use Rattle.model.specs.Limits.{emptyRank}
 use Rattle.model.specs.Instance.{Instance, Side, surveyors, stands}
-use Rattle.model.specs.Vote.{Place, edge, empty, placeRank, here, places, Pairing, pairings, valid, validPairings}
+use Rattle.model.specs.Vote.{Place, edge, empty, placeRank, validPairings}
 use Rattle.theory_instance.specs.Walk.{up, up-yes, up-no}
 
 -- one more than the vote of rank a against rank b
