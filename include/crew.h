@@ -14,7 +14,6 @@ extern "C" {
 /* sizes that buffers need, however little is written */
 #define CREW_ROSTER_BYTES 2214
 #define CREW_PLAN_BYTES 129
-#define CREW_PAIRS_BYTES 5120
 #define CREW_DIARY_RECORDS 1024
 #define CREW_LEFT_BYTES 2048
 
@@ -111,32 +110,6 @@ uint8_t crew_group(uint8_t number);
 /* a roster file: its refusal, 0 if it is accepted */
 uint8_t crew_read_roster(const uint8_t *file, size_t file_len);
 
-/* writes the roster of a file to the front of out, which has at least CREW_ROSTER_BYTES (else 15) */
-struct crew_outcome crew_write_roster(const uint8_t *file, size_t file_len, uint8_t *out, size_t out_len);
-
-/* the pairs of a roster, ascending, five bytes each: surveyor, stand, rank at the surveyor, rank at the stand, tied (1 or 0); out has at
-   least CREW_PAIRS_BYTES (else 15) */
-struct crew_outcome crew_pairs(const uint8_t *roster, size_t roster_len, uint8_t *out, size_t out_len);
-
-/* a plan file against a roster, which is judged first: the refusal, 0 if both are accepted */
-uint8_t crew_read_plan(const uint8_t *roster, size_t roster_len, const uint8_t *file, size_t file_len);
-
-/* writes the plan of a file to the front of out, which has at least CREW_PLAN_BYTES (else 15) */
-struct crew_outcome crew_write_plan(const uint8_t *roster, size_t roster_len, const uint8_t *file, size_t file_len, uint8_t *out,
-                                    size_t out_len);
-
-/* two plan files against a roster, which is judged first, then the first file in full, then the second */
-struct crew_compared crew_compare(const uint8_t *roster, size_t roster_len, const uint8_t *first, size_t first_len, const uint8_t *second,
-                                  size_t second_len);
-
-/* a blocking pair of a plan file against a roster, which is judged first */
-struct crew_blocker crew_blocking(const uint8_t *roster, size_t roster_len, const uint8_t *file, size_t file_len);
-
-/* the verdict on a plan file against a roster. A plan that is not strong has a rival, whose bytes go to the front of rival, which has at
-   least CREW_PLAN_BYTES (else 15, before the roster is judged, and that before the plan); for a strong plan nothing is written */
-struct crew_judged crew_verdict(const uint8_t *roster, size_t roster_len, const uint8_t *file, size_t file_len, uint8_t *rival,
-                                size_t rival_len);
-
 /* a desk with nothing loaded */
 struct crew_desk crew_open(void);
 
@@ -149,21 +122,21 @@ struct crew_desk_loaded crew_load_plan(struct crew_desk desk, const uint8_t *fil
 /* the calls below leave the desk as it is. 13 without a roster, then 14 without a plan where one is needed, then 15 */
 
 /* writes the held roster to the front of out, which has at least CREW_ROSTER_BYTES */
-struct crew_desk_written crew_desk_write_roster(struct crew_desk desk, uint8_t *out, size_t out_len);
+struct crew_desk_written crew_write_roster(struct crew_desk desk, uint8_t *out, size_t out_len);
 
 /* writes the held plan to the front of out, which has at least CREW_PLAN_BYTES */
-struct crew_desk_written crew_desk_write_plan(struct crew_desk desk, uint8_t *out, size_t out_len);
+struct crew_desk_written crew_write_plan(struct crew_desk desk, uint8_t *out, size_t out_len);
 
 /* the verdict on the held plan. A plan that is not strong has a rival, whose bytes go to the front of rival, which has at least
    CREW_PLAN_BYTES; for a strong plan nothing is written */
-struct crew_desk_judged crew_desk_judge(struct crew_desk desk, uint8_t *rival, size_t rival_len);
+struct crew_desk_judged crew_judge(struct crew_desk desk, uint8_t *rival, size_t rival_len);
 
 /* two plan files against the held roster, the first one in full before the second */
-struct crew_desk_compared crew_desk_compare(struct crew_desk desk, const uint8_t *first, size_t first_len, const uint8_t *second,
-                                            size_t second_len);
+struct crew_desk_compared crew_compare(struct crew_desk desk, const uint8_t *first, size_t first_len, const uint8_t *second,
+                                       size_t second_len);
 
 /* a blocking pair of the held plan */
-struct crew_desk_blocker crew_desk_blocking(struct crew_desk desk);
+struct crew_desk_blocker crew_blocking(struct crew_desk desk);
 
 /* the finder on the held roster: the steps go to the diary, of at least CREW_DIARY_RECORDS; kind 1 writes the strongly popular plan, kind 2 the
    pairs left, kind 3 the candidate to plan and its rival; left has at least CREW_LEFT_BYTES, plan and rival CREW_PLAN_BYTES each */

@@ -3,15 +3,13 @@
 ghost use mathlib.Core.Path.{_≡_};
 ghost use Rattle.model.specs.Desk.{opening, loadRoster, loadPlan, writeRosterTo, writePlanTo, judge, compare, blocking};
 ghost use Rattle.desk.specs.Held.{heldOf};
-ghost use Rattle.abi.specs.Desks.{loadNumber, refusalIn, outcomeIn, judgedIn, comparedIn, blockerIn, Served};
-use super::Outcome;
-use super::votes;
-use super::votes::Blocker;
-use super::votes::Compared;
-use super::weighing;
-use super::weighing::Judged;
+ghost use Rattle.abi_numbers.specs.Numbers.{refusalIn, outcomeIn, judgedIn, comparedIn, blockerIn};
+ghost use Rattle.abi.specs.Desks.{Served};
+use abi_numbers::Blocker;
+use abi_numbers::Compared;
+use abi_numbers::Judged;
+use abi_numbers::Outcome;
 use desk::Desk;
-use desk::Loading;
 
 // a refusal, 0 for none
 #[repr(C)]
@@ -44,15 +42,6 @@ pub struct DeskBlocker {
     pub blocker: Blocker,
 }
 
-pub(crate) fn load_number(a: Loading) -> u8
-    ensures { λ r. ⌜ r ≡ loadNumber a ⌝ }
-{
-    match a {
-        Loading::Loaded => 0,
-        Loading::Refused(number, _) => number,
-    }
-}
-
 // a desk with nothing loaded
 #[no_mangle]
 pub extern "C" fn crew_open() -> Desk
@@ -71,7 +60,7 @@ pub extern "C" fn crew_load_roster(desk: Desk, file: &[u8]) -> DeskLoaded
     let a = r.answer;
     DeskLoaded {
         desk: d,
-        refusal: load_number(a),
+        refusal: abi_numbers::file_number(a),
     }
 }
 
@@ -85,19 +74,19 @@ pub extern "C" fn crew_load_plan(desk: Desk, file: &[u8]) -> DeskLoaded
     let a = r.answer;
     DeskLoaded {
         desk: d,
-        refusal: load_number(a),
+        refusal: abi_numbers::file_number(a),
     }
 }
 
 // writes the held roster to the front of out, which has at least 2,214 bytes, else 15
 #[no_mangle]
-pub extern "C" fn crew_desk_write_roster(desk: Desk, out: &mut [u8]) -> DeskWritten
+pub extern "C" fn crew_write_roster(desk: Desk, out: &mut [u8]) -> DeskWritten
     ensures { λ r. ⌜ Served outcomeIn desk (writeRosterTo (now (out .entry))) (r .outcome) (writeRosterTo (now (out .exit))) (r .desk) ⌝ }
 {
     let r = desk.write_roster(out);
     let d = r.desk;
     let a = r.answer;
-    let n = super::as_numbers(a);
+    let n = abi_numbers::written_numbers(a);
     DeskWritten {
         desk: d,
         outcome: n,
@@ -106,13 +95,13 @@ pub extern "C" fn crew_desk_write_roster(desk: Desk, out: &mut [u8]) -> DeskWrit
 
 // writes the held plan to the front of out, which has at least 129 bytes, else 15
 #[no_mangle]
-pub extern "C" fn crew_desk_write_plan(desk: Desk, out: &mut [u8]) -> DeskWritten
+pub extern "C" fn crew_write_plan(desk: Desk, out: &mut [u8]) -> DeskWritten
     ensures { λ r. ⌜ Served outcomeIn desk (writePlanTo (now (out .entry))) (r .outcome) (writePlanTo (now (out .exit))) (r .desk) ⌝ }
 {
     let r = desk.write_plan(out);
     let d = r.desk;
     let a = r.answer;
-    let n = super::as_numbers(a);
+    let n = abi_numbers::written_numbers(a);
     DeskWritten {
         desk: d,
         outcome: n,
@@ -121,25 +110,25 @@ pub extern "C" fn crew_desk_write_plan(desk: Desk, out: &mut [u8]) -> DeskWritte
 
 // the verdict on the held plan; a rival goes to the front of the buffer, which has at least 129 bytes, else 15
 #[no_mangle]
-pub extern "C" fn crew_desk_judge(desk: Desk, rival: &mut [u8]) -> DeskJudged
+pub extern "C" fn crew_judge(desk: Desk, rival: &mut [u8]) -> DeskJudged
     ensures { λ r. ⌜ Served judgedIn desk (judge (now (rival .entry))) (r .judged) (judge (now (rival .exit))) (r .desk) ⌝ }
 {
     let r = desk.judge(rival);
     let d = r.desk;
     let a = r.answer;
-    let n = weighing::as_judged(a);
+    let n = abi_numbers::verdict_numbers(a);
     DeskJudged { desk: d, judged: n }
 }
 
 // two plan files against the held roster
 #[no_mangle]
-pub extern "C" fn crew_desk_compare(desk: Desk, first: &[u8], second: &[u8]) -> DeskCompared
+pub extern "C" fn crew_compare(desk: Desk, first: &[u8], second: &[u8]) -> DeskCompared
     ensures { λ r. ⌜ Served comparedIn desk (compare (now (first .entry)) (now (second .entry))) (r .compared) (compare (now (first .entry)) (now (second .entry))) (r .desk) ⌝ }
 {
     let r = desk.compare(first, second);
     let d = r.desk;
     let a = r.answer;
-    let n = votes::compared_numbers(a, first, second);
+    let n = abi_numbers::comparison_numbers(a, first, second);
     DeskCompared {
         desk: d,
         compared: n,
@@ -148,13 +137,13 @@ pub extern "C" fn crew_desk_compare(desk: Desk, first: &[u8], second: &[u8]) -> 
 
 // a blocking pair of the held plan
 #[no_mangle]
-pub extern "C" fn crew_desk_blocking(desk: Desk) -> DeskBlocker
+pub extern "C" fn crew_blocking(desk: Desk) -> DeskBlocker
     ensures { λ r. ⌜ Served blockerIn desk blocking (r .blocker) blocking (r .desk) ⌝ }
 {
     let r = desk.blocking();
     let d = r.desk;
     let a = r.answer;
-    let n = votes::blocker_numbers(a);
+    let n = abi_numbers::blocked_numbers(a);
     DeskBlocker {
         desk: d,
         blocker: n,

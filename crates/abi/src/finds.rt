@@ -1,14 +1,11 @@
 // The finder for C: the desk goes in by value and comes back; the diary is a lent list of step records.
 ghost use mathlib.Core.Path.{_≡_};
 ghost use Rattle.abi.specs.Finds.{numbersOf, Numbered};
-use answers::Found;
-use answers::NoneKind;
 use desk::Desk;
 use desk::FindReply;
 use diary::Step;
 
-// kind: 1 a plan, 2 none with pairs left, 3 none with a rival, 4 a refusal; then the refusal's number, the candidate's vote against its rival, the
-// number of steps and the number of pairs left, each 0 where the answer has none
+// the desk, and the numbers of what was found (abi_numbers, FoundNumbers)
 #[repr(C)]
 pub struct DeskFound {
     pub desk: Desk,
@@ -24,41 +21,14 @@ pub(crate) fn numbers_of(r: FindReply) -> DeskFound
 {
     let d = r.desk;
     let a = r.answer;
-    match a {
-        Found::Plan(steps) => DeskFound {
-            desk: d,
-            kind: 1,
-            refusal: 0,
-            vote: 0,
-            steps: steps,
-            left: 0,
-        },
-        Found::None(steps, why) => match why {
-            NoneKind::Left(left) => DeskFound {
-                desk: d,
-                kind: 2,
-                refusal: 0,
-                vote: 0,
-                steps: steps,
-                left: left,
-            },
-            NoneKind::Rivalled(vote) => DeskFound {
-                desk: d,
-                kind: 3,
-                refusal: 0,
-                vote: vote,
-                steps: steps,
-                left: 0,
-            },
-        },
-        Found::Refused(number, _) => DeskFound {
-            desk: d,
-            kind: 4,
-            refusal: number,
-            vote: 0,
-            steps: 0,
-            left: 0,
-        },
+    let n = abi_numbers::found_numbers(a);
+    DeskFound {
+        desk: d,
+        kind: n.kind,
+        refusal: n.refusal,
+        vote: n.vote,
+        steps: n.steps,
+        left: n.left,
     }
 }
 

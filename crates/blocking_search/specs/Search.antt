@@ -1,7 +1,8 @@
--- From the numbers that the passes compute to the model's blocking pairs.
-use Prim.Native.Nat.{ℕ, _≤_, _<_}
+-- From the numbers that the passes compute to the model's blocking pairs: the lowest edge that is wanted at both its ends is the lowest that blocks.
+use Prim.Native.Nat.{ℕ, _+_, _≤_, _<_}
 use native.Mathlib.Omega.{arith}
 use native.Mathlib.Decide.{decLt}
+use native.Mathlib.Numerals.{add-one}
 use mathlib.Core.Path.{_≡_, sym, ap, ap₂, _∙_, subst}
 use mathlib.Core.Logic.{⊎-elim, by-cases}
 use mathlib.Core.Bool.{Bool, true, false, not, _&&_}
@@ -12,18 +13,20 @@ use Rattle.lists.specs.Test.{given, T-true, T-false, false-T}
 use Rattle.lists.specs.Sum.{_∈_, upTo, upTo-∈, upTo-<}
 use Rattle.lists.specs.Keep.{any-or}
 use Rattle.lists.specs.Search.{low, low-is, low-cong}
-use Rattle.model.specs.Instance.{Instance}
+use Rattle.model.specs.Instance as model
 use Rattle.model.specs.Plans.{Plan, on}
 use Rattle.model.specs.Blocking.{yields, blocks, someBlocks}
-use Rattle.arrays.specs.ArrayInstance.{flag, shown}
-use Rattle.blocking_search.specs.declared.Blocking.the-variants.{Pair, Nothing}
-use Rattle.blocking_thresholds.specs.Threshold.{Thresholds, sideOf}
+use Rattle.arrays.specs.ArrayInstance.{at, flag, shown}
+use Rattle.answers.specs.declared.Blocked.the-variants.{Pair, Unblocked}
+use Rattle.instance.specs.declared.Instance.{Instance}
+use Rattle.instance.specs.Loaded.{Loaded}
+use Rattle.blocking_thresholds.specs.Threshold.{Edges, Thresholds, sideOf}
 use Rattle.theory_instance.specs.FirstBlocking.{firstBlocking, first-below, first-behind}
-use Rattle.blocking_search.specs.Blocking.{answer, blockingOf, Placed, wanted}
+use Rattle.blocking_search.specs.Blocking.{named, blockedBy, Placed, wanted}
 
 module _ (m : ℕ) (sv st rs rt qs qt ls lt : List ℕ) (p : List Bool) (os : Placed m rs) (ot : Placed m rt) (hs : Thresholds m sv rs qs p ls) (ht : Thresholds m st rt qt p lt)
     (ns nt : ℕ) (tied : List Bool) where
-  abbrev G : Instance
+  abbrev G : model.Instance
   G = shown m ns nt sv st rs rt tied qs qt
 
   is-wanted : (e : ℕ) → e < m → wanted sv st rs rt ls lt p e ≡ blocks G (flag p) e
@@ -36,8 +39,20 @@ module _ (m : ℕ) (sv st rs rt qs qt ls lt : List ℕ) (p : List Bool) (os : Pl
   unfolding firstBlocking
   first-is = low-cong (wanted sv st rs rt ls lt p) (blocks G (flag p)) m is-wanted
 
-  pub answer-yes : (e : ℕ) → e ≡ low (wanted sv st rs rt ls lt p) m → e < m → Pair e ≡ blockingOf G p
-  answer-yes e q h = let s = q ∙ first-is in ap Pair s ∙ sym (ap (λ b. answer b (firstBlocking G p)) (first-below G p (subst (λ z. z < m) s h)))
+  pub answer-yes : (e : ℕ) → e ≡ low (wanted sv st rs rt ls lt p) m → e < m → Pair (at sv e + 1) (at st e + 1) ≡ blockedBy G p
+  answer-yes e q h =
+      let s = q ∙ first-is in
+      ap₂ Pair (add-one (at sv e)) (add-one (at st e)) ∙ ap (λ d. named G d true) s
+      ∙ sym (ap (named G (firstBlocking G p)) (first-below G p (subst (λ z. z < m) s h)))
 
-  pub answer-no : m ≤ low (wanted sv st rs rt ls lt p) m → Nothing ≡ blockingOf G p
-  answer-no h = sym (ap (λ b. answer b (firstBlocking G p)) (first-behind G p (subst (λ z. m ≤ z) first-is h)))
+  pub answer-no : m ≤ low (wanted sv st rs rt ls lt p) m → Unblocked ≡ blockedBy G p
+  answer-no h = sym (ap (named G (firstBlocking G p)) (first-behind G p (subst (λ z. m ≤ z) first-is h)))
+
+-- the arrays of an accepted roster are what the search asks for
+pub may-search : (g : Instance) → Loaded g → Edges (g .m) (g .sv) × Edges (g .m) (g .st) × Placed (g .m) (g .«rank_s») × Placed (g .m) (g .«rank_t»)
+may-search g L = (
+  record { edges = L .edges; ends = λ e h. L .low-sv e },
+  record { edges = L .edges; ends = λ e h. L .low-st e },
+  L .lawful .atS .placed,
+  L .lawful .atT .placed,
+)

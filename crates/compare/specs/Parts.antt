@@ -10,8 +10,6 @@ use lib.IntN.{ℤ}
 use lib.Dec.{T}
 use denote.Ref.{RefT, ptr, now}
 use Rattle.model.specs.Reading.{Reading, accepted, refused}
-use Rattle.model.specs.Roster.{Roster}
-use Rattle.model.specs.Edges.{instanceOf}
 use Rattle.model.specs.Instance as model
 use Rattle.model.specs.Plans.{Plan}
 use Rattle.model.specs.PlanFile.{readPlan}
@@ -24,7 +22,7 @@ use Rattle.answers.specs.declared.Winner.{Winner}
 use Rattle.answers.specs.declared.Winner.the-variants.{First, Second, Neither}
 use Rattle.answers.specs.declared.Comparison.{Comparison}
 use Rattle.answers.specs.declared.Comparison.the-variants.{Votes, Refused}
-use Rattle.compare.specs.Answers.{winnerCase, answered, comparisonReply}
+use Rattle.answers.specs.ComparisonCases.{winnerShown, partShown, comparisonCase, winner-shown}
 
 -- a block of memory, the place in it, and the bytes from there on
 abbrev pub Placed : Type 0
@@ -38,39 +36,19 @@ fileOf secondFile a b = b
 abbrev pub placed : RefT (List ℕ) → RefT (List ℕ) → Part → Placed
 placed a b p = ((ptr (fileOf (p .file) a b) .0, ptr (fileOf (p .file) a b) .1 + p .from), p .bytes)
 
--- "with no winner, and on a refusal, the part is empty, taken from the first file": also where the roster is refused
-abbrev pub partReply : Reading Roster → (firstBytes secondBytes : List ℕ) → Part
-partReply (refused n) a b = winnerPart compare.neither a b
-partReply (accepted R) a b = partOf (instanceOf R) a b
-
 -- ---- the answer says which part it is
-abbrev pub shownWinner : Winner → compare.Winner
-shownWinner First = compare.first
-shownWinner Second = compare.second
-shownWinner Neither = compare.neither
-
-abbrev pub partCase : Comparison → (firstBytes secondBytes : List ℕ) → Part
-partCase (Votes v w x) a b = winnerPart (shownWinner x) a b
-partCase (Refused n k) a b = winnerPart compare.neither a b
-
-pub part-is : (x : Reading Roster) (a b : List ℕ) → partCase (comparisonReply x a b) a b ≡ partReply x a b
+pub part-is : (G : model.Instance) (a b : List ℕ) → partShown (comparisonCase (comparisonOf G a b)) a b ≡ partOf G a b
 unfolding partOf
-part-is (refused n) a b = refl
-part-is (accepted R) a b = go (comparisonOf (instanceOf R) a b)
+part-is G a b = go (comparisonOf G a b)
   where
-    shown-case : (w : compare.Winner) → shownWinner (winnerCase w) ≡ w
-    shown-case compare.first = refl
-    shown-case compare.second = refl
-    shown-case compare.neither = refl
-
-    go : (c : compare.Comparison) → partCase (answered c) a b ≡ compare.comparisonPart c a b
-    go (compare.votes v w x) = ap (λ y. winnerPart y a b) (shown-case x)
+    go : (c : compare.Comparison) → partShown (comparisonCase c) a b ≡ compare.comparisonPart c a b
+    go (compare.votes v w x) = ap (λ y. winnerPart y a b) (winner-shown x)
     go (compare.refused n) = refl
 
 -- ---- the parts that the code hands back
-module _ (x : Reading Roster) (f s : RefT (List ℕ)) where
+module _ (G : model.Instance) (f s : RefT (List ℕ)) where
   abbrev Handed : Placed → Type 0
-  Handed p = p ≡ placed f s (partReply x (now f) (now s))
+  Handed p = p ≡ placed f s (partOf G (now f) (now s))
 
   -- the part of a file behind its count byte
   behind : (h : RefT (List ℕ)) → _≡_ {A = Placed} ((ptr h .0, 1 + ptr h .1), take (length (now h) - 1) (drop 1 (now h))) ((ptr h .0, ptr h .1 + 1), drop 1 (now h))
@@ -79,15 +57,16 @@ module _ (x : Reading Roster) (f s : RefT (List ℕ)) where
       one : (k : ℕ) → 1 + k ≡ k + 1
       one k = omega arith
 
-  front : (ptr f, []) ≡ placed f s (winnerPart compare.neither (now f) (now s))
-  front = ap (λ (k : ℕ). ((ptr f .0, k), [])) (none (ptr f .1))
+  -- the empty part at the first file's start
+  pub no-bytes : (ptr f, []) ≡ placed f s (winnerPart compare.neither (now f) (now s))
+  no-bytes = ap (λ (k : ℕ). ((ptr f .0, k), [])) (none (ptr f .1))
     where
       none : (k : ℕ) → k ≡ k + 0
       none k = omega arith
 
-  module _ {v w : ℤ} {y : Winner} (e : Votes v w y ≡ comparisonReply x (now f) (now s)) where
-    voted-part : (z : Winner) → y ≡ z → placed f s (winnerPart (shownWinner z) (now f) (now s)) ≡ placed f s (partReply x (now f) (now s))
-    voted-part z q = ap (placed f s) (sym (ap (λ y. winnerPart (shownWinner y) (now f) (now s)) q) ∙ ap (λ c. partCase c (now f) (now s)) e ∙ part-is x (now f) (now s))
+  module _ {v w : ℤ} {y : Winner} (e : Votes v w y ≡ comparisonCase (comparisonOf G (now f) (now s))) where
+    voted-part : (z : Winner) → y ≡ z → placed f s (winnerPart (winnerShown z) (now f) (now s)) ≡ placed f s (partOf G (now f) (now s))
+    voted-part z q = ap (placed f s) (sym (ap (λ y. winnerPart (winnerShown y) (now f) (now s)) q) ∙ ap (λ c. partShown c (now f) (now s)) e ∙ part-is G (now f) (now s))
 
     pub first-part : y ≡ First → Handed ((ptr f .0, 1 + ptr f .1), take (length (now f) - 1) (drop 1 (now f)))
     first-part q = behind f ∙ voted-part First q
@@ -96,31 +75,28 @@ module _ (x : Reading Roster) (f s : RefT (List ℕ)) where
     second-part q = behind s ∙ voted-part Second q
 
     pub no-part : y ≡ Neither → Handed (ptr f, [])
-    no-part q = front ∙ voted-part Neither q
+    no-part q = no-bytes ∙ voted-part Neither q
 
-  pub refused-part : {n : ℕ} {k : Group} → Refused n k ≡ comparisonReply x (now f) (now s) → Handed (ptr f, [])
-  refused-part e = front ∙ ap (placed f s) (ap (λ c. partCase c (now f) (now s)) e ∙ part-is x (now f) (now s))
+  pub refused-part : {n : ℕ} {k : Group} → Refused n k ≡ comparisonCase (comparisonOf G (now f) (now s)) → Handed (ptr f, [])
+  refused-part e = no-bytes ∙ ap (placed f s) (ap (λ c. partShown c (now f) (now s)) e ∙ part-is G (now f) (now s))
 
 -- ---- where there is a vote, both files are accepted, and so have their count byte
 abbrev hasVotes : Comparison → Bool
 hasVotes (Votes v w x) = true
 hasVotes (Refused n k) = false
 
-there : (x : Reading Roster) (a b : List ℕ) → T (isBytes a) → T (isBytes b) → T (hasVotes (comparisonReply x a b)) → (1 ≤ length a) × (1 ≤ length b)
-unfolding comparisonOf
-there (refused n) a b ta tb t = absurd t
-there (accepted R) a b ta tb t = by-first (readPlan G a) refl t
-  where
-    G : model.Instance
-    G = instanceOf R
+module _ (G : model.Instance) (a b : List ℕ) (ta : T (isBytes a)) (tb : T (isBytes b)) where
+  there : T (hasVotes (comparisonCase (comparisonOf G a b))) → (1 ≤ length a) × (1 ≤ length b)
+  unfolding comparisonOf
+  there t = by-first (readPlan G a) refl t
+    where
+      by-second : (M : Plan) (y : Reading Plan) → readPlan G b ≡ y → T (hasVotes (comparisonCase (secondJudged G M y))) → 1 ≤ length b
+      by-second M (accepted N) e t = plan-accepted-count G b N tb e
+      by-second M (refused n) e t = absurd t
 
-    by-second : (M : Plan) (y : Reading Plan) → readPlan G b ≡ y → T (hasVotes (answered (secondJudged G M y))) → 1 ≤ length b
-    by-second M (accepted N) e t = plan-accepted-count G b N tb e
-    by-second M (refused n) e t = absurd t
+      by-first : (y : Reading Plan) → readPlan G a ≡ y → T (hasVotes (comparisonCase (firstJudged G y b))) → (1 ≤ length a) × (1 ≤ length b)
+      by-first (accepted M) e t = (plan-accepted-count G a M ta e, by-second M (readPlan G b) refl t)
+      by-first (refused n) e t = absurd t
 
-    by-first : (y : Reading Plan) → readPlan G a ≡ y → T (hasVotes (answered (firstJudged G y b))) → (1 ≤ length a) × (1 ≤ length b)
-    by-first (accepted M) e t = (plan-accepted-count G a M ta e, by-second M (readPlan G b) refl t)
-    by-first (refused n) e t = absurd t
-
-pub counts-there : (x : Reading Roster) (a b : List ℕ) → T (isBytes a) → T (isBytes b) → {v w : ℤ} {y : Winner} → Votes v w y ≡ comparisonReply x a b → (1 ≤ length a) × (1 ≤ length b)
-counts-there x a b ta tb e = there x a b ta tb (subst (λ c. T (hasVotes c)) e tt)
+  pub counts-there : {v w : ℤ} {y : Winner} → Votes v w y ≡ comparisonCase (comparisonOf G a b) → (1 ≤ length a) × (1 ≤ length b)
+  counts-there e = there (subst (λ c. T (hasVotes c)) e tt)

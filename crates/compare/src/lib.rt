@@ -1,17 +1,15 @@
-// The comparison of two plan files against a roster: both votes, the winner, and the winner's pair bytes as a part of its own file. Each
-// call takes the bytes as they are, judges the roster first, then the first file in full, then the second, and asks nothing of its caller.
+// The comparison of two plan files against the arrays of an accepted roster: both votes, the winner, and the winner's pair bytes as a part of
+// its own file. The first file is judged in full before the second.
 ghost use mathlib.Core.Path.{_≡_};
-ghost use Rattle.model.specs.RosterFile.{readRoster};
+ghost use denote.Ref.{ptr};
 ghost use Rattle.model.specs.PlanFile.{readPlan};
-ghost use Rattle.model.specs.Compare.{winnerOf, compared, secondJudged};
+ghost use Rattle.model.specs.Compare.{winnerOf, compared, secondJudged, comparisonOf, partOf};
+ghost use Rattle.answers.specs.ComparisonCases.{winnerCase, comparisonCase};
 ghost use Rattle.instance.specs.Decoded.{shownBy};
 ghost use Rattle.instance.specs.Loaded.{Loaded};
-ghost use Rattle.instance.specs.Accepted.{RosterAccepted};
-ghost use Rattle.compare.specs.Answers.{winnerCase, answered, Planned, comparisonReply, ComparedAs};
-ghost use denote.Ref.{ptr};
-ghost use Rattle.compare.specs.Parts.{placed, partReply};
+ghost use Rattle.compare.specs.TwoPlans.{Planned};
+ghost use Rattle.compare.specs.Parts.{placed};
 use answers::Comparison;
-use answers::FileAnswer;
 use answers::Winner;
 use instance::Instance;
 use plan_reader::PlanAnswer;
@@ -40,7 +38,7 @@ pub(crate) fn voted(
     qe: &[u16; 64],
 ) -> Comparison
     requires { ⌜ Loaded g × Planned g (now p) pn (now pe) × Planned g (now q) qn (now qe) ⌝ }
-    ensures { λ r. ⌜ r ≡ answered (compared (shownBy g) (now (p .entry)) (now (q .entry))) ⌝ }
+    ensures { λ r. ⌜ r ≡ comparisonCase (compared (shownBy g) (now (p .entry)) (now (q .entry))) ⌝ }
 {
     let sv = g.sv;
     let st = g.st;
@@ -62,7 +60,7 @@ pub(crate) fn second_judged(
     second: &[u8],
 ) -> Comparison
     requires { ⌜ Loaded g × Planned g (now p) pn (now pe) ⌝ }
-    ensures { λ r. ⌜ r ≡ answered (secondJudged (shownBy g) (now (p .entry)) (readPlan (shownBy g) (now (second .entry)))) ⌝ }
+    ensures { λ r. ⌜ r ≡ comparisonCase (secondJudged (shownBy g) (now (p .entry)) (readPlan (shownBy g) (now (second .entry)))) ⌝ }
 {
     let sv = g.sv;
     let st = g.st;
@@ -80,12 +78,11 @@ pub(crate) fn second_judged(
     }
 }
 
-// Two plan files against an accepted roster file. "The first file is checked in full before the second."
-pub(crate) fn judged(roster: &[u8], first: &[u8], second: &[u8]) -> Comparison
-    requires { ⌜ RosterAccepted (now roster) ⌝ }
-    ensures { λ r. ⌜ ComparedAs (now (roster .entry)) (now (first .entry)) (now (second .entry)) r ⌝ }
+// Two plan files against the arrays of an accepted roster. "The first file is checked in full before the second."
+pub fn compare(g: Instance, first: &[u8], second: &[u8]) -> Comparison
+    requires { ⌜ Loaded g ⌝ }
+    ensures { λ r. ⌜ r ≡ comparisonCase (comparisonOf (shownBy g) (now (first .entry)) (now (second .entry))) ⌝ }
 {
-    let g = instance::instance_of(roster);
     let sv = g.sv;
     let st = g.st;
     let qs = g.quota_s;
@@ -102,23 +99,13 @@ pub(crate) fn judged(roster: &[u8], first: &[u8], second: &[u8]) -> Comparison
     }
 }
 
-// Two plan files against a roster file: the roster is judged first, and its refusal is the answer.
-pub fn compare(roster: &[u8], first: &[u8], second: &[u8]) -> Comparison
-    ensures { λ r. ⌜ r ≡ comparisonReply (readRoster (now (roster .entry))) (now (first .entry)) (now (second .entry)) ⌝ }
-{
-    let a = roster::read_roster(roster);
-    match a {
-        FileAnswer::Refused(number, group) => Comparison::Refused(number, group),
-        FileAnswer::Accepted => judged(roster, first, second),
-    }
-}
-
 // The winner's pair bytes, as a part of its own file; "with no winner, and on a refusal, the part is empty, taken from the first file".
 // An accepted plan file's pair bytes are all but its count byte.
-pub fn winner_part<'r, 'a>(roster: &'r [u8], first: &'a [u8], second: &'a [u8]) -> &'a [u8]
-    ensures { λ r. ⌜ (ptr r, now r) ≡ placed (first .entry) (second .entry) (partReply (readRoster (now (roster .entry))) (now (first .entry)) (now (second .entry))) ⌝ }
+pub fn winner_part<'a>(g: Instance, first: &'a [u8], second: &'a [u8]) -> &'a [u8]
+    requires { ⌜ Loaded g ⌝ }
+    ensures { λ r. ⌜ (ptr r, now r) ≡ placed (first .entry) (second .entry) (partOf (shownBy g) (now (first .entry)) (now (second .entry))) ⌝ }
 {
-    let c = compare(roster, first, second);
+    let c = compare(g, first, second);
     match c {
         Comparison::Votes(_, _, w) => match w {
             Winner::First => &first[1..],

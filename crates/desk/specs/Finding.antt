@@ -38,9 +38,10 @@ use Rattle.desk.specs.Outcomes.{FindsFor, short, OutcomeFor, Outcomes}
 use Rattle.desk.specs.declared.Desk.{Desk}
 use Rattle.desk.specs.declared.FindReply.{FindReply}
 use Rattle.desk.specs.declared.CoreReply.{CoreReply}
-use Rattle.desk.specs.Held.{rosterBytes, planBytes, heldPlan, held, heldOf, stateNumber}
+use Rattle.desk_loaded.specs.Held.{heldPlan, held, stateNumber}
+use Rattle.desk.specs.Held.{rosterBytes, planBytes, heldOf}
 use Rattle.desk.specs.Replies.{Replied}
-use Rattle.desk.specs.Laws.{states, by-state, pass-answer, pass-lent, desk-alike}
+use Rattle.desk.specs.State.{states, by-state, pass-answer, pass-lent, desk-alike}
 
 -- what the core hands back, as the finder's outcome
 abbrev pub outcomeIn : CoreReply → Outcome

@@ -1,9 +1,8 @@
 -- What a desk holds, "nothing loaded, a roster, or a roster and a plan": defined by reading its bytes. The empty file is refused by both
 -- readers, so a length of 0 is nothing loaded, or no plan.
 use Prim.Native.Nat.{ℕ}
-use mathlib.Core.Path.{_≡_, refl, sym, subst}
-use mathlib.Core.Bool.{Bool, cond, _&&_}
-use mathlib.Core.List.{List}
+use mathlib.Core.Path.{_≡_, refl, sym, ap, subst}
+use mathlib.Core.List.{List, []}
 use lib.ListN.{take}
 use lib.Dec.{T}
 use Rattle.model.specs.Reading.{Reading, accepted, refused}
@@ -15,6 +14,7 @@ use Rattle.model.specs.PlanFile.{readPlan}
 use Rattle.model.specs.Desk.{Held, nothing, roster, planned, opening, loadRoster, loadPlan, noRoster, noPlan, withRoster, withPlan, stateRefusal, deskAfter}
 use Rattle.theory_files.specs.Reads.{isBytes}
 use Rattle.theory_finder.specs.Desks.{sound, desk-sound}
+use Rattle.desk_loaded.specs.Held.{heldPlan, held}
 use Rattle.desk.specs.declared.Desk.{Desk}
 
 -- a length above the array's is the whole array
@@ -24,21 +24,13 @@ rosterBytes d = take (d .«roster_len») (d .roster)
 abbrev pub planBytes : Desk → List ℕ
 planBytes d = take (d .«plan_len») (d .plan)
 
--- for each case of the plan's reading, and of the roster's
-abbrev pub heldPlan : Roster → Reading Plan → Held
-heldPlan r (accepted M) = planned r M
-heldPlan r (refused n) = roster r
-
-abbrev pub held : Reading Roster → (plan : List ℕ) → Held
-held (accepted r) plan = heldPlan r (readPlan (instanceOf r) plan)
-held (refused n) plan = nothing
-
 unfoldable pub heldOf : Desk → Held
 heldOf d = held (readRoster (rosterBytes d)) (planBytes d)
 
--- the state's refusal of a call that needs a roster, and perhaps a plan; 0 for none
-abbrev pub stateNumber : Held → (plan short : Bool) → ℕ
-stateNumber h plan short = cond (noRoster h) 13 (cond (plan && noPlan h) 14 (cond short 15 0))
+-- no bytes, nothing loaded
+pub held-empty : (d : Desk) → rosterBytes d ≡ [] → heldOf d ≡ opening
+unfolding heldOf readRoster
+held-empty d e = ap (λ bs. held (readRoster bs) (planBytes d)) e
 
 -- ---- a desk holds what a new one holds after loading its bytes; so what any desk holds is sound
 pub held-loads : (file plan : List ℕ) → held (readRoster file) plan ≡ deskAfter (deskAfter opening (loadRoster file)) (loadPlan plan)

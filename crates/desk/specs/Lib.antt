@@ -1,9 +1,8 @@
 pub mod Held
-pub mod Cut
+pub mod Front
 pub mod Replies
-pub mod Laws
-pub mod Passing
+pub mod State
+pub mod Calls
 pub mod Loads
 pub mod Outcomes
 pub mod Finding
-pub mod Verdicts

@@ -8,38 +8,8 @@ use Rattle.model.specs.Compare as model
 use Rattle.model.specs.Compare.{Part, winnerPart}
 use Rattle.model.specs.Desk.{Held, Call, loadRoster, loadPlan, writeRosterTo, writePlanTo, find, judge, compare, blocking, Answer, refused, loaded, wrote, plan, none, strong, popular, beaten, votes, refusedPart, blockedBy, unblocked, answerOf, lentAfter, deskAfter}
 use Rattle.theory_finder.specs.Choices.{chosen}
-use Rattle.answers.specs.GroupCases.{groupShown}
-use Rattle.answers.specs.declared.Written.{Written}
-use Rattle.answers.specs.declared.Written.the-variants as written
-use Rattle.answers.specs.declared.Comparison.{Comparison}
-use Rattle.answers.specs.declared.Comparison.the-variants as comparison
-use Rattle.compare.specs.Parts.{shownWinner}
-use Rattle.answers.specs.declared.Verdict.{Verdict}
-use Rattle.answers.specs.declared.Verdict.the-variants as verdict
 use Rattle.desk.specs.declared.Desk.{Desk}
-use Rattle.desk.specs.declared.Loading.{Loading}
-use Rattle.desk.specs.declared.Loading.the-variants as loading
 use Rattle.desk.specs.Held.{rosterBytes, planBytes, heldOf}
-
--- ---- what the cases of each answer say. A blocking pair's are in crate blocking_pairs, Answers.deskAnswer.
-abbrev pub loadShown : Loading → Answer
-loadShown loading.Loaded = loaded
-loadShown (loading.Refused n g) = refused n (groupShown g)
-
-abbrev pub writtenShown : Written → Answer
-writtenShown (written.Wrote n) = wrote n
-writtenShown (written.Refused n g) = refused n (groupShown g)
-
-abbrev pub verdictShown : Verdict → Answer
-verdictShown verdict.Strong = strong
-verdictShown (verdict.Popular v) = popular v
-verdictShown (verdict.Beaten v) = beaten v
-verdictShown (verdict.Refused n g) = refused n (groupShown g)
-
--- a comparison of two files: the winner's part, or the empty one, belongs to the answer
-abbrev pub comparisonShown : (firstBytes secondBytes : List ℕ) → Comparison → Answer
-comparisonShown a b (comparison.Votes v w x) = votes v w (shownWinner x) (winnerPart (shownWinner x) a b)
-comparisonShown a b (comparison.Refused n g) = refusedPart n (groupShown g) (winnerPart model.neither a b)
 
 -- the part in an answer; the empty one where it has none
 abbrev pub partIn : Answer → Part

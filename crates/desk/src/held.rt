@@ -1,83 +1,38 @@
-// The bytes that a desk holds, handed to the calls on files: each call's promise, with the desk's bytes in the place of a file.
+// The bytes that a desk holds: the front of each array, as long as its length says, or the whole of it.
 ghost use mathlib.Core.Path.{_≡_};
-ghost use Prim.Native.Nat.{min};
-ghost use Rattle.model.specs.RosterFile.{readRoster};
-ghost use Rattle.roster_writer.specs.Writes.{RosterWritten};
-ghost use Rattle.files.specs.Replies.{planReply, PlanWritten};
-ghost use Rattle.compare.specs.Answers.{comparisonReply};
-ghost use Rattle.blocking_pairs.specs.Answers.{blockedReply};
-ghost use Rattle.verdicts.specs.Answers.{VerdictGiven};
+ghost use Prim.Native.Nat.{_≤_};
+ghost use lib.ListN.{length, take};
+ghost use Rattle.model.specs.Desk.{onto};
+ghost use Rattle.desk_loaded.specs.OnDesk.{LoadedFrom};
 ghost use Rattle.desk.specs.Held.{rosterBytes, planBytes};
 use super::Desk;
-use answers::Blocked;
-use answers::Comparison;
-use answers::Verdict;
-use answers::Written;
-use files::PlanReply;
-use limits::PLAN_SIZE;
-use limits::ROSTER_SIZE;
+use desk_loaded::OnDesk;
 
-// a length, cut to the array's size
-pub(crate) fn clamped(len: usize, size: usize) -> usize
-    ensures { λ r. ⌜ r ≡ min len size ⌝ }
+pub(crate) fn front<'a>(array: &'a [u8], len: usize) -> &'a [u8]
+    ensures { λ r. ⌜ now r ≡ take len (now (array .entry)) ⌝ }
 {
-    if len < size {
-        return len;
+    if len < array.len() {
+        return &array[..len];
     }
-    size
+    array
 }
 
-// a plan file against the roster held
-pub(crate) fn read_plan(desk: Desk, file: &[u8]) -> PlanReply
-    ensures { λ r. ⌜ r ≡ planReply (readRoster (rosterBytes desk)) (now (file .entry)) ⌝ }
+// the front of an array written to the front of a buffer; gives its length
+pub(crate) fn copied(array: &[u8], len: usize, out: &mut [u8]) -> usize
+    requires { ⌜ length (now array) ≤ length (now out) ⌝ }
+    ensures { λ r. ⌜ (r ≡ length (take len (now (array .entry)))) × (now (out .exit) ≡ onto (take len (now (array .entry))) (now (out .entry))) ⌝ }
 {
-    let bytes = desk.roster;
-    let len = clamped(desk.roster_len, ROSTER_SIZE);
-    files::read_plan(&bytes[..len], file)
+    let held = front(array, len);
+    bytes::copy(held, out)
 }
 
-pub(crate) fn write_roster(desk: Desk, out: &mut [u8]) -> Written
-    ensures { λ r. ⌜ RosterWritten (rosterBytes desk) (now (out .entry)) r (now (out .exit)) ⌝ }
-{
-    let bytes = desk.roster;
-    let len = clamped(desk.roster_len, ROSTER_SIZE);
-    roster_writer::write_roster(&bytes[..len], out)
-}
-
-pub(crate) fn write_plan(desk: Desk, out: &mut [u8]) -> Written
-    ensures { λ r. ⌜ PlanWritten (rosterBytes desk) (planBytes desk) (now (out .entry)) r (now (out .exit)) ⌝ }
+// what a call has to work on; `needs`: it needs a plan; `short`: a buffer lent to it is below its size
+pub(crate) fn loaded(desk: Desk, needs: bool, short: bool) -> OnDesk
+    ensures { λ r. ⌜ LoadedFrom (rosterBytes desk) (planBytes desk) needs short r ⌝ }
 {
     let roster = desk.roster;
     let plan = desk.plan;
-    let n = clamped(desk.roster_len, ROSTER_SIZE);
-    let m = clamped(desk.plan_len, PLAN_SIZE);
-    files::write_plan(&roster[..n], &plan[..m], out)
-}
-
-pub(crate) fn judge(desk: Desk, rival: &mut [u8]) -> Verdict
-    ensures { λ r. ⌜ VerdictGiven (rosterBytes desk) (planBytes desk) (now (rival .entry)) r (now (rival .exit)) ⌝ }
-{
-    let roster = desk.roster;
-    let plan = desk.plan;
-    let n = clamped(desk.roster_len, ROSTER_SIZE);
-    let m = clamped(desk.plan_len, PLAN_SIZE);
-    verdicts::judge(&roster[..n], &plan[..m], rival)
-}
-
-pub(crate) fn compare(desk: Desk, first: &[u8], second: &[u8]) -> Comparison
-    ensures { λ r. ⌜ r ≡ comparisonReply (readRoster (rosterBytes desk)) (now (first .entry)) (now (second .entry)) ⌝ }
-{
-    let bytes = desk.roster;
-    let len = clamped(desk.roster_len, ROSTER_SIZE);
-    compare::compare(&bytes[..len], first, second)
-}
-
-pub(crate) fn blocking(desk: Desk) -> Blocked
-    ensures { λ r. ⌜ r ≡ blockedReply (readRoster (rosterBytes desk)) (planBytes desk) ⌝ }
-{
-    let roster = desk.roster;
-    let plan = desk.plan;
-    let n = clamped(desk.roster_len, ROSTER_SIZE);
-    let m = clamped(desk.plan_len, PLAN_SIZE);
-    blocking_pairs::blocking(&roster[..n], &plan[..m])
+    let r = front(&roster, desk.roster_len);
+    let p = front(&plan, desk.plan_len);
+    desk_loaded::loaded(r, p, needs, short)
 }

@@ -3,21 +3,24 @@
 // are no roster are nothing loaded, and bytes that are no plan of the roster are no plan held. No call asks anything of its caller.
 mod finding;
 mod held;
-mod state;
 mod store;
 
 ghost use mathlib.Core.Path.{_≡_};
 ghost use denote.Ref.{ptr};
 ghost use Rattle.model.specs.Desk.{opening, loadRoster, loadPlan, writeRosterTo, writePlanTo, judge, compare, blocking};
+ghost use Rattle.answers.specs.FileCases.{fileShown};
+ghost use Rattle.answers.specs.WrittenCases.{writtenShown};
+ghost use Rattle.answers.specs.VerdictCases.{verdictShown};
+ghost use Rattle.answers.specs.ComparisonCases.{comparisonShown};
+ghost use Rattle.answers.specs.BlockedCases.{blockedShown};
 ghost use Rattle.compare.specs.Parts.{placed};
-ghost use Rattle.blocking_pairs.specs.Answers.{deskAnswer};
 ghost use Rattle.desk.specs.Held.{heldOf};
 ghost use Rattle.desk.specs.Finding.{Done, Finds};
-ghost use Rattle.desk.specs.Replies.{Replied, loadShown, writtenShown, verdictShown, comparisonShown, partIn, answered};
+ghost use Rattle.desk.specs.Replies.{Replied, partIn, answered};
 use answers::Blocked;
 use answers::Comparison;
+use answers::FileAnswer;
 use answers::Found;
-use answers::Group;
 use answers::Verdict;
 use answers::Written;
 use diary::Step;
@@ -34,15 +37,9 @@ pub struct Desk {
     pub plan: [u8; 129],
 }
 
-// A file was loaded, or the refusal with its number and group.
-pub enum Loading {
-    Loaded,
-    Refused(u8, Group),
-}
-
 pub struct LoadReply {
     pub desk: Desk,
-    pub answer: Loading,
+    pub answer: FileAnswer,
 }
 
 pub struct WriteReply {
@@ -88,8 +85,8 @@ pub(crate) fn core(
     ensures { λ r. ⌜ Done desk room (now (left .entry)) (now (plan .entry)) (now (rival .entry)) r (now (left .exit)) (now (plan .exit)) (now (rival .exit)) ⌝ }
 {
     let bytes = desk.roster;
-    let len = held::clamped(desk.roster_len, ROSTER_SIZE);
-    let o = finding::found(&bytes[..len], room, left, plan, rival);
+    let file = held::front(&bytes, desk.roster_len);
+    let o = finding::found(file, room, left, plan, rival);
     let answer = o.answer;
     let flat = o.flat;
     let reply = FindReply {
@@ -118,19 +115,19 @@ impl Desk {
 
     // "Loading a roster drops the plan and is the only call that needs none loaded"; a refused file leaves roster and plan.
     pub fn load_roster(self, file: &[u8]) -> LoadReply
-        ensures { λ r. ⌜ Replied self (loadRoster (now (file .entry))) (loadShown (r .answer)) (loadRoster (now (file .entry))) (r .desk) ⌝ }
+        ensures { λ r. ⌜ Replied self (loadRoster (now (file .entry))) (fileShown (r .answer)) (loadRoster (now (file .entry))) (r .desk) ⌝ }
     {
         let a = roster::read_roster(file);
         match a {
-            answers::FileAnswer::Refused(number, group) => LoadReply {
+            FileAnswer::Refused(number, group) => LoadReply {
                 desk: self,
-                answer: Loading::Refused(number, group),
+                answer: FileAnswer::Refused(number, group),
             },
-            answers::FileAnswer::Accepted => {
+            FileAnswer::Accepted => {
                 let d = store::with_roster(self, file);
                 LoadReply {
                     desk: d,
-                    answer: Loading::Loaded,
+                    answer: FileAnswer::Accepted,
                 }
             }
         }
@@ -138,26 +135,27 @@ impl Desk {
 
     // "plan files are judged against the held roster"; an accepted one takes the place of the plan held.
     pub fn load_plan(self, file: &[u8]) -> LoadReply
-        ensures { λ r. ⌜ Replied self (loadPlan (now (file .entry))) (loadShown (r .answer)) (loadPlan (now (file .entry))) (r .desk) ⌝ }
+        ensures { λ r. ⌜ Replied self (loadPlan (now (file .entry))) (fileShown (r .answer)) (loadPlan (now (file .entry))) (r .desk) ⌝ }
     {
-        let n = state::state_refusal(self, false, false);
+        let l = held::loaded(self, false, false);
+        let n = l.refusal;
         if 0 < n {
             return LoadReply {
                 desk: self,
-                answer: Loading::Refused(n, answers::group_of(n)),
+                answer: FileAnswer::Refused(n, answers::group_of(n)),
             };
         }
-        let a = held::read_plan(self, file);
+        let a = desk_loaded::read_plan(l.g, file);
         match a {
-            files::PlanReply::Refused(number, group) => LoadReply {
+            FileAnswer::Refused(number, group) => LoadReply {
                 desk: self,
-                answer: Loading::Refused(number, group),
+                answer: FileAnswer::Refused(number, group),
             },
-            files::PlanReply::Accepted => {
+            FileAnswer::Accepted => {
                 let p = store::with_plan(self, file);
                 LoadReply {
                     desk: p,
-                    answer: Loading::Loaded,
+                    answer: FileAnswer::Accepted,
                 }
             }
         }
@@ -166,34 +164,38 @@ impl Desk {
     pub fn write_roster(self, out: &mut [u8]) -> WriteReply
         ensures { λ r. ⌜ Replied self (writeRosterTo (now (out .entry))) (writtenShown (r .answer)) (writeRosterTo (now (out .exit))) (r .desk) ⌝ }
     {
-        let n = state::state_refusal(self, false, out.len() < ROSTER_SIZE);
+        let l = held::loaded(self, false, out.len() < ROSTER_SIZE);
+        let n = l.refusal;
         if 0 < n {
             return WriteReply {
                 desk: self,
                 answer: Written::Refused(n, answers::group_of(n)),
             };
         }
-        let w = held::write_roster(self, out);
+        let roster = self.roster;
+        let k = held::copied(&roster, self.roster_len, out);
         WriteReply {
             desk: self,
-            answer: w,
+            answer: Written::Wrote(k),
         }
     }
 
     pub fn write_plan(self, out: &mut [u8]) -> WriteReply
         ensures { λ r. ⌜ Replied self (writePlanTo (now (out .entry))) (writtenShown (r .answer)) (writePlanTo (now (out .exit))) (r .desk) ⌝ }
     {
-        let n = state::state_refusal(self, true, out.len() < PLAN_SIZE);
+        let l = held::loaded(self, true, out.len() < PLAN_SIZE);
+        let n = l.refusal;
         if 0 < n {
             return WriteReply {
                 desk: self,
                 answer: Written::Refused(n, answers::group_of(n)),
             };
         }
-        let w = held::write_plan(self, out);
+        let plan = self.plan;
+        let k = held::copied(&plan, self.plan_len, out);
         WriteReply {
             desk: self,
-            answer: w,
+            answer: Written::Wrote(k),
         }
     }
 
@@ -201,14 +203,17 @@ impl Desk {
     pub fn judge(self, rival: &mut [u8]) -> JudgeReply
         ensures { λ r. ⌜ Replied self (judge (now (rival .entry))) (verdictShown (r .answer)) (judge (now (rival .exit))) (r .desk) ⌝ }
     {
-        let n = state::state_refusal(self, true, rival.len() < PLAN_SIZE);
+        let l = held::loaded(self, true, rival.len() < PLAN_SIZE);
+        let n = l.refusal;
         if 0 < n {
             return JudgeReply {
                 desk: self,
                 answer: Verdict::Refused(n, answers::group_of(n)),
             };
         }
-        let v = held::judge(self, rival);
+        let plan = l.plan;
+        let edges = l.edges;
+        let v = verdict::weigh(l.g, &plan, l.n, &edges, rival);
         JudgeReply {
             desk: self,
             answer: v,
@@ -219,14 +224,15 @@ impl Desk {
     pub fn compare(self, first: &[u8], second: &[u8]) -> CompareReply
         ensures { λ r. ⌜ Replied self (compare (now (first .entry)) (now (second .entry))) (comparisonShown (now (first .entry)) (now (second .entry)) (r .answer)) (compare (now (first .entry)) (now (second .entry))) (r .desk) ⌝ }
     {
-        let n = state::state_refusal(self, false, false);
+        let l = held::loaded(self, false, false);
+        let n = l.refusal;
         if 0 < n {
             return CompareReply {
                 desk: self,
                 answer: Comparison::Refused(n, answers::group_of(n)),
             };
         }
-        let c = held::compare(self, first, second);
+        let c = compare::compare(l.g, first, second);
         CompareReply {
             desk: self,
             answer: c,
@@ -237,22 +243,26 @@ impl Desk {
     pub fn winner_part<'a>(self, first: &'a [u8], second: &'a [u8]) -> &'a [u8]
         ensures { λ r. ⌜ (ptr r, now r) ≡ placed (first .entry) (second .entry) (partIn (answered (heldOf self) (compare (now (first .entry)) (now (second .entry))))) ⌝ }
     {
-        let bytes = self.roster;
-        let len = held::clamped(self.roster_len, ROSTER_SIZE);
-        compare::winner_part(&bytes[..len], first, second)
+        let l = held::loaded(self, false, false);
+        if 0 < l.refusal {
+            return &first[..0];
+        }
+        compare::winner_part(l.g, first, second)
     }
 
     pub fn blocking(self) -> BlockingReply
-        ensures { λ r. ⌜ Replied self blocking (deskAnswer (r .answer)) blocking (r .desk) ⌝ }
+        ensures { λ r. ⌜ Replied self blocking (blockedShown (r .answer)) blocking (r .desk) ⌝ }
     {
-        let n = state::state_refusal(self, true, false);
+        let l = held::loaded(self, true, false);
+        let n = l.refusal;
         if 0 < n {
             return BlockingReply {
                 desk: self,
                 answer: Blocked::Refused(n, answers::group_of(n)),
             };
         }
-        let b = held::blocking(self);
+        let plan = l.plan;
+        let b = blocking_search::blocking(l.g, &plan);
         BlockingReply {
             desk: self,
             answer: b,

@@ -1,39 +1,45 @@
--- `compare::compare` meets its contract: the roster is judged first. Assumes nothing.
-use mathlib.Core.Path.{sym, _∙_}
-use Rattle.answers.specs.FileCases.{case-accepted}
-use Rattle.model.specs.RosterFile.{readRoster}
-use Rattle.compare.specs.Laws.{reply-refused, reply-judged}
+-- `compare::compare` meets its contract: the first file is read, then the second, against the same arrays. Assumes nothing.
+use lib.Dec.{T}
+use Rattle.theory_files.specs.Reads.{isBytes}
+use Rattle.roster_reading.specs.Place.{bytes-of}
+use Rattle.compare.specs.TwoPlans.{read-planned, first-refused, first-accepted}
 use borrow.Author.Needs.{needs}
 use Rattle.compare.proofs.compare.Statement.{statement}
 use Rattle.compare.proofs.compare.Tie as tie
 
--- src/lib.rt:103:9
-read-roster-requires : tie.Need-read-roster-requires
-read-roster-requires c κs = search needs
+read-plan-requires : tie.Need-read-plan-requires
+read-plan-requires c κs = let L = c .before .before .before .before .before .before .before .before .before .before .pre in (L .edges, λ e h. L .low-sv e, λ e h. L .low-st e, L .fileable .differ)
 
--- src/lib.rt:105:25
 enum-known-a : tie.Need-enum-known-a
 enum-known-a c = search needs
 
--- src/lib.rt:106:29
-enum-told : tie.Need-enum-told
-enum-told c = search needs
+group-of-requires : tie.Need-group-of-requires
+group-of-requires c κs = search needs
 
--- src/lib.rt:106:29
-judged-requires : tie.Need-judged-requires
-judged-requires c κs = let a = c .before .before .before .before .before .before .args in case-accepted (readRoster (a .roster .now)) (sym (c .enum-told .given .1) ∙ c .before .before .read-roster .ensures)
+enum-known-a-2 : tie.Need-enum-known-a-2
+enum-known-a-2 c = search needs
 
--- src/lib.rt:100:1
+second-judged-requires : tie.Need-second-judged-requires
+second-judged-requires c κs =
+    let s = c .before .before .before .before .before .before .before .before .before .before .before .before .before .before .before .before .before .before in
+    let f = s .args .first .now in
+    let r = c .before .before .before .before .before .before .before .read-plan in
+    let isF : T (isBytes f) = bytes-of f (λ j. c .before .before .before .before .before .before .before .before .before .before .before .before .before .before .before .before .before .shared-slice-known .given j) in
+    (s .pre, read-planned (s .args .g) f (r .result) (r .ensures) (s .pre) isF (c .before .before .before .before .before .a2 .given .1))
+
 returns : tie.Need-returns
-returns c = let a = c .before .before .before .before .before .before .before .args in reply-refused (a .roster .now) (a .first .now) (a .second .now) (sym (c .before .a .given .1) ∙ c .before .before .before .read-roster .ensures)
+returns c =
+    let a = c .before .before .before .before .before .before .before .before .before .before .before .before .before .before .before .args in
+    let r = c .before .before .before .before .read-plan in
+    first-refused (a .g) (a .first .now) (r .result) (r .ensures) (a .second .now) (c .group-of .result) (c .before .before .a .given .1) (c .group-of .ensures)
 
--- src/lib.rt:100:1
 returns-2 : tie.Need-returns-2
 returns-2 c =
-    let a = c .before .before .before .before .before .before .before .args in
-    reply-judged (a .roster .now) (a .first .now) (a .second .now) (case-accepted (readRoster (a .roster .now)) (sym (c .before .enum-told .given .1) ∙ c .before .before .before .read-roster .ensures)) (c .judged .ensures)
+    let a = c .before .before .before .before .before .before .before .before .before .before .before .before .before .before .before .before .before .before .before .args in
+    let r = c .before .before .before .before .before .before .before .before .read-plan in
+    first-accepted (a .g) (a .first .now) (r .result) (r .ensures) (a .second .now) (c .before .before .before .before .before .before .a2 .given .1) (c .second-judged .ensures)
 
 pub compare-spec : {M : Type 1} → statement M
 compare-spec =
     tie.close
-    (tie.spec read-roster-requires enum-known-a enum-told judged-requires returns returns-2)
+    (tie.spec read-plan-requires enum-known-a group-of-requires enum-known-a-2 second-judged-requires returns returns-2)

@@ -2,28 +2,23 @@
 use lib.Dec.{T}
 use Rattle.theory_files.specs.Reads.{isBytes}
 use Rattle.roster_reading.specs.Place.{bytes-of}
-use Rattle.compare.specs.Laws.{read-planned, second-refused, second-accepted}
+use Rattle.compare.specs.TwoPlans.{read-planned, second-refused, second-accepted}
 use borrow.Author.Needs.{needs}
 use Rattle.compare.proofs.second_judged.Statement.{statement}
 use Rattle.compare.proofs.second_judged.Tie as tie
 
--- src/lib.rt:82:9
 read-plan-requires : tie.Need-read-plan-requires
 read-plan-requires c κs = let L = c .before .before .before .before .before .before .before .before .before .pre .0 in (L .edges, λ e h. L .low-sv e, λ e h. L .low-st e, L .fileable .differ)
 
--- src/lib.rt:85:29
 enum-known-a : tie.Need-enum-known-a
 enum-known-a c = search needs
 
--- src/lib.rt:85:58
 group-of-requires : tie.Need-group-of-requires
 group-of-requires c κs = search needs
 
--- src/lib.rt:86:30
 enum-known-a-2 : tie.Need-enum-known-a-2
 enum-known-a-2 c = search needs
 
--- src/lib.rt:89:13
 voted-requires : tie.Need-voted-requires
 voted-requires c κs =
     let k = c .before .before .before .before .before .before .before .before .before .before .before .before .before .before .before .before in
@@ -32,14 +27,12 @@ voted-requires c κs =
     let isB : T (isBytes (s .args .second .now)) = bytes-of (s .args .second .now) (λ i. k .shared-slice-known .given i) in
     (s .pre .0, s .pre .1, read-planned (s .args .g) (s .args .second .now) (r .result) (r .ensures) (s .pre .0) isB (c .before .before .before .before .before .a2 .given .1))
 
--- src/lib.rt:68:1
 returns : tie.Need-returns
 returns c =
     let s = c .before .before .before .before .before .before .before .before .before .before .before .before .before .before in
     let r = c .before .before .before .before .read-plan in
     second-refused (s .args .g) (s .args .second .now) (r .result) (r .ensures) (s .args .p .now) (c .group-of .result) (c .before .before .a .given .1) (c .group-of .ensures)
 
--- src/lib.rt:68:1
 returns-2 : tie.Need-returns-2
 returns-2 c =
     let s = c .before .before .before .before .before .before .before .before .before .before .before .before .before .before .before .before .before .before in

@@ -4,14 +4,13 @@ use mir.Syntax.{w16}
 use mir.ValLaws.{toZ-ofZ}
 use Rattle.model.specs.Compare.{winnerOf}
 use Rattle.answers.specs.declared.Comparison.the-variants.{Votes}
-use Rattle.compare.specs.Answers.{winnerCase}
+use Rattle.answers.specs.ComparisonCases.{winnerCase}
 use Rattle.vote_of_flags.specs.Votable.{side-arrays, light}
-use Rattle.compare.specs.Laws.{votes-are}
+use Rattle.compare.specs.TwoPlans.{votes-are}
 use borrow.Author.Needs.{needs, sfits-of}
 use Rattle.compare.proofs.voted.Statement.{statement}
 use Rattle.compare.proofs.voted.Tie as tie
 
--- src/lib.rt:60:9
 plan-votes-requires : tie.Need-plan-votes-requires
 plan-votes-requires c κs =
     let s = c .before .before .before .before .before .before .before .before in
@@ -22,11 +21,9 @@ plan-votes-requires c κs =
     let b = light g (s .pre .0) (s .args .q .now) (q .matching) in
     (side-arrays g (s .pre .0), ((a .0, b .0, a .1, b .1), (p .listed, q .listed)))
 
--- src/lib.rt:63:9
 winner-of-requires : tie.Need-winner-of-requires
 winner-of-requires c κs = search needs
 
--- src/lib.rt:44:1
 returns : tie.Need-returns
 returns c =
     let both = c .before .before .before .plan-votes in

@@ -13,15 +13,12 @@ use Rattle.compare.proofs.winner_of.Tie as tie
 above : (z : ℤ) {b : Bool} → SFits w16 z → ltZ (pos 0) (toZ w16 (ofZ w16 z)) ≡ b → ltZ (pos 0) z ≡ b
 above z f e = sym (ap (ltZ (pos 0)) (toZ-ofZ w16 z f)) ∙ e
 
--- src/lib.rt:35:9
 returns : tie.Need-returns
 returns c = simp (above (c .before .args .v) (c .before .fits .v) (c .if1 .taken))
 
--- src/lib.rt:38:9
 returns-2 : tie.Need-returns-2
 returns-2 c = let s = c .before .before in simp (above (s .args .v) (s .fits .v) (c .before .if1 .left), above (s .args .w) (s .fits .w) (c .if2 .taken))
 
--- src/lib.rt:31:1
 returns-3 : tie.Need-returns-3
 returns-3 c = let s = c .before .before in simp (above (s .args .v) (s .fits .v) (c .before .if1 .left), above (s .args .w) (s .fits .w) (c .if2 .left))
 

@@ -1,23 +1,18 @@
--- `abi::crew_load_roster` meets its contract. Assumes nothing.
-use mathlib.Core.Path.{_∙_}
-use Rattle.abi.specs.Desks.{refusalIn, served, load-number}
+-- `abi::crew_load_roster` meets its contract: the numbers of the desk's answer. Assumes nothing.
+use Rattle.abi_numbers.specs.Numbers.{refusalIn}
+use Rattle.abi.specs.Desks.{served}
 use borrow.Author.Needs.{needs}
 use Rattle.abi.proofs.desks.crew_load_roster.Statement.{statement}
 use Rattle.abi.proofs.desks.crew_load_roster.Tie as tie
 
--- src/desks.rt:61:9
 load-roster-requires : tie.Need-load-roster-requires
 load-roster-requires c κs = search needs
 
--- src/desks.rt:66:18
-load-number-requires : tie.Need-load-number-requires
-load-number-requires c κs = search needs
+file-number-requires : tie.Need-file-number-requires
+file-number-requires c κs = search needs
 
--- src/desks.rt:57:1
 returns : tie.Need-returns
-returns c =
-    let r = c .before .before .load-roster in
-    served refusalIn (r .ensures) (c .load-number .ensures ∙ load-number (r .result .answer))
+returns c = served refusalIn (c .before .before .load-roster .ensures) (c .file-number .ensures)
 
 pub crew-load-roster-spec : {M : Type 1} → statement M
-crew-load-roster-spec = tie.close (tie.spec load-roster-requires load-number-requires returns)
+crew-load-roster-spec = tie.close (tie.spec load-roster-requires file-number-requires returns)

@@ -1,49 +1,46 @@
 -- `desk::Desk::judge` meets its contract. Assumes nothing.
+use mathlib.Core.Path.{refl}
+use Rattle.model.specs.Limits.{planSize}
 use mathlib.Core.Path.{ap}
 use Rattle.model.specs.Desk.{judge, refused}
-use Rattle.desk.specs.Laws.{by-state}
-use Rattle.desk.specs.Verdicts.{judge-reply}
+use Rattle.desk.specs.State.{by-state}
+use Rattle.desk.specs.Calls.{state-is, arrays-are, long-enough, plan-shown, plan-listed, judge-reply}
 use borrow.Author.Needs.{needs}
 use Rattle.desk.proofs.Desk.judge.Statement.{statement}
 use Rattle.desk.proofs.Desk.judge.Tie as tie
 
--- src/lib.rt:139:13
-state-refusal-requires : tie.Need-state-refusal-requires
-state-refusal-requires c κs = search needs
+loaded-requires : tie.Need-loaded-requires
+loaded-requires c κs = search needs
 
--- src/lib.rt:143:45
 group-of-requires : tie.Need-group-of-requires
 group-of-requires c κs = search needs
 
--- src/lib.rt:141:13
 returns : tie.Need-returns
 returns c =
-    let n = c .before .before .state-refusal in
-    let a = c .before .before .before .before .args in
-    by-state (a .self) (judge (a .rival .now)) tt (n .ensures) (c .before .if1 .taken) (ap (refused (n .result)) (c .group-of .ensures))
+    let d = c .before .before .before .before .args in
+    let l = c .before .before .loaded in
+    by-state (d .self) (judge (d .rival .now)) tt (state-is (d .self) (l .ensures)) (c .before .if1 .taken) (ap (refused (l .result .refusal)) (c .group-of .ensures))
 
--- src/lib.rt:146:13
-judge-requires : tie.Need-judge-requires
-judge-requires c κs = search needs
+weigh-requires : tie.Need-weigh-requires
+weigh-requires c κs =
+    let d = c .before .before .before .before .before .before .before .before .args in
+    let F = c .before .before .before .before .before .before .loaded .ensures in
+    let z = c .before .before .before .before .before .if1 .left in
+    (arrays-are (d .self) F z, plan-shown (d .self) F z, plan-listed (d .self) F z, long-enough (d .rival .now) planSize F z)
 
--- src/lib.rt:136:5
 same-length : tie.Need-same-length
 same-length c = search needs
 
--- src/lib.rt:136:5
 returns-2 : tie.Need-returns-2
-returns-2 c =
-    let n = c .before .before .before .before .before .state-refusal in
-    let a = c .before .before .before .before .before .before .before .args in
-    judge-reply (a .self) (c .before .before .before .before .if1 .left) (a .rival .now) (n .ensures) (c .before .before .judge .ensures)
+returns-2 c = let d = c .before .before .before .before .before .before .before .before .before .before .before .args in judge-reply (d .self) (c .before .before .before .before .before .before .before .before .before .loaded .ensures) (c .before .before .before .before .before .before .before .before .if1 .left) (d .rival .now) refl (c .before .before .weigh .ensures)
 
 pub judge-spec : {M : Type 1} → statement M
 judge-spec =
     tie.close
     (tie.spec
-    state-refusal-requires
+    loaded-requires
     group-of-requires
     returns
-    judge-requires
+    weigh-requires
     same-length
     returns-2)

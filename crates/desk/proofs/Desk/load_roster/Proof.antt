@@ -8,19 +8,15 @@ use borrow.Author.Needs.{needs}
 use Rattle.desk.proofs.Desk.load_roster.Statement.{statement}
 use Rattle.desk.proofs.Desk.load_roster.Tie as tie
 
--- src/lib.rt:76:13
 read-roster-requires : tie.Need-read-roster-requires
 read-roster-requires c κs = search needs
 
--- src/lib.rt:78:37
 enum-known-a : tie.Need-enum-known-a
 enum-known-a c = search needs
 
--- src/lib.rt:83:21
 enum-told : tie.Need-enum-told
 enum-told c = search needs
 
--- src/lib.rt:83:21
 with-roster-requires : tie.Need-with-roster-requires
 with-roster-requires c κs =
     let k = c .before .before .before in
@@ -28,13 +24,11 @@ with-roster-requires c κs =
     let isB : T (isBytes (a .file .now)) = bytes-of (a .file .now) (λ i. k .shared-slice-known .given i) in
     roster-small (a .self) (a .file .now) (sym (c .enum-told .given .1) ∙ c .before .before .read-roster .ensures) isB
 
--- src/lib.rt:73:5
 returns : tie.Need-returns
 returns c =
     let a = c .before .before .before .before .before .args in
     roster-refused (a .self) (a .file .now) (sym (c .before .a .given .1) ∙ c .before .before .before .read-roster .ensures)
 
--- src/lib.rt:73:5
 returns-2 : tie.Need-returns-2
 returns-2 c =
     let a = c .before .before .before .before .before .args in

@@ -1,10 +1,9 @@
 -- `desk::Desk::open` meets its contract. Assumes nothing.
 use mathlib.Core.Path.{refl}
-use Rattle.desk.specs.Laws.{held-empty}
+use Rattle.desk.specs.Held.{held-empty}
 use Rattle.desk.proofs.Desk.open.Statement.{statement}
 use Rattle.desk.proofs.Desk.open.Tie as tie
 
--- src/lib.rt:61:5
 returns : tie.Need-returns
 returns c = held-empty _ refl
 

@@ -4,16 +4,14 @@ use native.Mathlib.Omega.{arith}
 use mathlib.Core.Path.{_≡_, refl}
 use lib.ListN.{length}
 use Rattle.model.specs.Limits.{rosterSize}
-use Rattle.desk.specs.Cut.{front-copied}
+use Rattle.desk.specs.Front.{front-copied}
 use borrow.Author.Needs.{needs}
 use Rattle.desk.proofs.store.with_roster.Statement.{statement}
 use Rattle.desk.proofs.store.with_roster.Tie as tie
 
--- src/store.rt:16:31
 slice-aggregate-copy : tie.Need-slice-aggregate-copy
 slice-aggregate-copy c = search needs
 
--- src/store.rt:16:9
 copy-requires : tie.Need-copy-requires
 copy-requires c κs =
     let s = c .before .before .before in
@@ -21,7 +19,6 @@ copy-requires c κs =
     let h : length (s .args .file .now) ≤ rosterSize = s .pre in
     omega arith
 
--- src/store.rt:11:1
 returns : tie.Need-returns
 returns c =
     let a = c .before .before .before .before .before .before .args in

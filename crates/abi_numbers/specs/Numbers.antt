@@ -1,0 +1,195 @@
+-- What an answer's numbers are, read off the model's answer. 0 is no refusal, and what an answer does not have.
+use Prim.Native.Nat.{ℕ, _-_}
+use mathlib.Core.Path.{_≡_, refl, sym, ap, ap₂, _∙_}
+use mathlib.Core.List.{List}
+use lib.ListN.{length, length-drop}
+use lib.IntN.{ℤ, pos}
+use Rattle.model.specs.Reading as reading
+use Rattle.model.specs.Reading.{Reading, accepted}
+use Rattle.model.specs.Refusal as model
+use Rattle.model.specs.Compare as compare
+use Rattle.model.specs.Desk.{NoneKind, left, rivalled, Answer, refused, loaded, wrote, plan, none, strong, popular, beaten, votes, refusedPart, blockedBy, unblocked}
+use Rattle.answers.specs.declared.Group.{Group}
+use Rattle.answers.specs.declared.Winner.{Winner}
+use Rattle.answers.specs.declared.Winner.the-variants as winner
+use Rattle.answers.specs.declared.Comparison.{Comparison}
+use Rattle.answers.specs.declared.Comparison.the-variants as comparison
+use Rattle.answers.specs.FileCases.{fileShown, fileCase}
+use Rattle.answers.specs.ComparisonCases.{comparisonShown}
+use Rattle.abi_numbers.specs.declared.Outcome.{Outcome}
+use Rattle.abi_numbers.specs.declared.Judged.{Judged}
+use Rattle.abi_numbers.specs.declared.Compared.{Compared}
+use Rattle.abi_numbers.specs.declared.Blocker.{Blocker}
+use Rattle.abi_numbers.specs.declared.FoundNumbers.{FoundNumbers}
+
+-- the groups as numbers
+abbrev pub groupNumber : model.Group → ℕ
+groupNumber model.form = 1
+groupNumber model.content = 2
+groupNumber model.plan = 3
+groupNumber model.desk = 4
+
+abbrev pub refusalIn : Answer → ℕ
+refusalIn (refused n g) = n
+refusalIn loaded = 0
+refusalIn (wrote n) = 0
+refusalIn (plan n) = 0
+refusalIn (none n k) = 0
+refusalIn strong = 0
+refusalIn (popular v) = 0
+refusalIn (beaten v) = 0
+refusalIn (votes v w x p) = 0
+refusalIn (refusedPart n g p) = n
+refusalIn (blockedBy s t) = 0
+refusalIn unblocked = 0
+
+-- a refusal, or 0 and the length written
+abbrev pub lengthIn : Answer → ℕ
+lengthIn (refused n g) = 0
+lengthIn loaded = 0
+lengthIn (wrote n) = n
+lengthIn (plan n) = 0
+lengthIn (none n k) = 0
+lengthIn strong = 0
+lengthIn (popular v) = 0
+lengthIn (beaten v) = 0
+lengthIn (votes v w x p) = 0
+lengthIn (refusedPart n g p) = 0
+lengthIn (blockedBy s t) = 0
+lengthIn unblocked = 0
+
+abbrev pub outcomeIn : Answer → Outcome
+outcomeIn a = record { refusal = refusalIn a; length = lengthIn a }
+
+-- the verdict: 1 strong, 2 popular, 3 beaten; and the vote against the rival
+abbrev pub noVerdict : ℕ → Judged
+noVerdict n = record { refusal = n; verdict = 0; vote = pos 0 }
+
+abbrev pub judgedIn : Answer → Judged
+judgedIn (refused n g) = noVerdict n
+judgedIn loaded = noVerdict 0
+judgedIn (wrote n) = noVerdict 0
+judgedIn (plan n) = noVerdict 0
+judgedIn (none n k) = noVerdict 0
+judgedIn strong = record { refusal = 0; verdict = 1; vote = pos 0 }
+judgedIn (popular v) = record { refusal = 0; verdict = 2; vote = v }
+judgedIn (beaten v) = record { refusal = 0; verdict = 3; vote = v }
+judgedIn (votes v w x p) = noVerdict 0
+judgedIn (refusedPart n g p) = noVerdict n
+judgedIn (blockedBy s t) = noVerdict 0
+judgedIn unblocked = noVerdict 0
+
+-- both votes, the winner and the part, as numbers
+abbrev pub winnerCode : compare.Winner → ℕ
+winnerCode compare.first = 1
+winnerCode compare.second = 2
+winnerCode compare.neither = 0
+
+abbrev pub fileNumber : compare.File → ℕ
+fileNumber compare.firstFile = 1
+fileNumber compare.secondFile = 2
+
+abbrev pub noVotes : Compared
+noVotes = record { refusal = 0; winner = 0; «first_vote» = pos 0; «second_vote» = pos 0; file = 0; from = 0; length = 0 }
+
+abbrev pub comparedIn : Answer → Compared
+comparedIn (refused n g) = noVotes
+comparedIn loaded = noVotes
+comparedIn (wrote n) = noVotes
+comparedIn (plan n) = noVotes
+comparedIn (none n k) = noVotes
+comparedIn strong = noVotes
+comparedIn (popular v) = noVotes
+comparedIn (beaten v) = noVotes
+comparedIn (votes v w x p) = record { refusal = 0; winner = winnerCode x; «first_vote» = v; «second_vote» = w; file = fileNumber (p .file); from = p .from; length = length (p .bytes) }
+comparedIn (refusedPart n g p) = record { refusal = n; winner = 0; «first_vote» = pos 0; «second_vote» = pos 0; file = fileNumber (p .file); from = p .from; length = length (p .bytes) }
+comparedIn (blockedBy s t) = noVotes
+comparedIn unblocked = noVotes
+
+-- the numbers of a blocking pair
+abbrev pub surveyorIn : Answer → ℕ
+surveyorIn (refused n g) = 0
+surveyorIn loaded = 0
+surveyorIn (wrote n) = 0
+surveyorIn (plan n) = 0
+surveyorIn (none n k) = 0
+surveyorIn strong = 0
+surveyorIn (popular v) = 0
+surveyorIn (beaten v) = 0
+surveyorIn (votes v w x p) = 0
+surveyorIn (refusedPart n g p) = 0
+surveyorIn (blockedBy s t) = s
+surveyorIn unblocked = 0
+
+abbrev pub standIn : Answer → ℕ
+standIn (refused n g) = 0
+standIn loaded = 0
+standIn (wrote n) = 0
+standIn (plan n) = 0
+standIn (none n k) = 0
+standIn strong = 0
+standIn (popular v) = 0
+standIn (beaten v) = 0
+standIn (votes v w x p) = 0
+standIn (refusedPart n g p) = 0
+standIn (blockedBy s t) = t
+standIn unblocked = 0
+
+abbrev pub blockerIn : Answer → Blocker
+blockerIn a = record { refusal = refusalIn a; surveyor = surveyorIn a; stand = standIn a }
+
+-- what the finder found
+abbrev pub nothingFound : FoundNumbers
+nothingFound = record { kind = 0; refusal = 0; vote = pos 0; steps = 0; left = 0 }
+
+abbrev pub noneIn : ℕ → NoneKind → FoundNumbers
+noneIn n (left k) = record { kind = 2; refusal = 0; vote = pos 0; steps = n; left = k }
+noneIn n (rivalled v) = record { kind = 3; refusal = 0; vote = v; steps = n; left = 0 }
+
+abbrev pub foundIn : Answer → FoundNumbers
+foundIn (refused n g) = record { kind = 4; refusal = n; vote = pos 0; steps = 0; left = 0 }
+foundIn loaded = nothingFound
+foundIn (wrote n) = nothingFound
+foundIn (plan n) = record { kind = 1; refusal = 0; vote = pos 0; steps = n; left = 0 }
+foundIn (none n k) = noneIn n k
+foundIn strong = nothingFound
+foundIn (popular v) = nothingFound
+foundIn (beaten v) = nothingFound
+foundIn (votes v w x p) = nothingFound
+foundIn (refusedPart n g p) = nothingFound
+foundIn (blockedBy s t) = nothingFound
+foundIn unblocked = nothingFound
+
+-- ---- the refusal of a reading, 0 for none
+abbrev pub refusalOf : {A : Type 0} → Reading A → ℕ
+refusalOf (accepted a) = 0
+refusalOf (reading.refused n) = n
+
+pub reading-number : {A : Type 0} (x : Reading A) → refusalIn (fileShown (fileCase x)) ≡ refusalOf x
+reading-number (accepted a) = refl
+reading-number (reading.refused n) = refl
+
+-- ---- the numbers of each case of a comparison
+abbrev pub voted : (winner file from length : ℕ) → ℤ → ℤ → Compared
+voted x f i n v w = record { refusal = 0; winner = x; «first_vote» = v; «second_vote» = w; file = f; from = i; length = n }
+
+module _ (a b : List ℕ) where
+  abbrev numbersOf : Comparison → Compared
+  numbersOf c = comparedIn (comparisonShown a b c)
+
+  module _ {c : Comparison} {v w : ℤ} {y : Winner} (e : c ≡ comparison.Votes v w y) where
+    won : (z : Winner) → y ≡ z → numbersOf (comparison.Votes v w z) ≡ numbersOf c
+    won z q = sym (ap numbersOf (e ∙ ap (comparison.Votes v w) q))
+
+    pub first-numbers : y ≡ winner.First → {n : ℕ} → n ≡ length a - 1 → voted 1 1 1 n v w ≡ numbersOf c
+    first-numbers q k = ap (λ n. voted 1 1 1 n v w) (k ∙ sym (length-drop 1 a)) ∙ won winner.First q
+
+    pub second-numbers : y ≡ winner.Second → {n : ℕ} → n ≡ length b - 1 → voted 2 2 1 n v w ≡ numbersOf c
+    second-numbers q k = ap (λ n. voted 2 2 1 n v w) (k ∙ sym (length-drop 1 b)) ∙ won winner.Second q
+
+    pub neither-numbers : y ≡ winner.Neither → voted 0 1 0 0 v w ≡ numbersOf c
+    neither-numbers q = won winner.Neither q
+
+  pub refused-numbers : {c : Comparison} {n : ℕ} {k : Group} → c ≡ comparison.Refused n k
+      → record { refusal = n; winner = 0; «first_vote» = pos 0; «second_vote» = pos 0; file = 1; from = 0; length = 0 } ≡ numbersOf c
+  refused-numbers e = sym (ap numbersOf e)

@@ -1,0 +1,252 @@
+// The answers as numbers, for C: a refusal is its number, 0 for none, and what an answer does not have is 0.
+ghost use mathlib.Core.Path.{_≡_};
+ghost use Prim.Native.Nat.{_-_};
+ghost use Rattle.answers.specs.GroupCases.{groupShown};
+ghost use Rattle.answers.specs.FileCases.{fileShown};
+ghost use Rattle.answers.specs.WrittenCases.{writtenShown};
+ghost use Rattle.answers.specs.FinderCases.{foundShown};
+ghost use Rattle.answers.specs.VerdictCases.{verdictShown};
+ghost use Rattle.answers.specs.ComparisonCases.{comparisonShown};
+ghost use Rattle.answers.specs.BlockedCases.{blockedShown};
+ghost use Rattle.abi_numbers.specs.Numbers.{groupNumber, refusalIn, outcomeIn, judgedIn, comparedIn, blockerIn, foundIn};
+use answers::Blocked;
+use answers::Comparison;
+use answers::FileAnswer;
+use answers::Found;
+use answers::Group;
+use answers::NoneKind;
+use answers::Verdict;
+use answers::Winner;
+use answers::Written;
+
+// a refusal, or 0 and the length written
+#[repr(C)]
+pub struct Outcome {
+    pub refusal: u8,
+    pub length: usize,
+}
+
+// A refusal, 0 for none; the verdict, 1 strong, 2 popular, 3 beaten, 0 on a refusal; and the vote of the plan against the rival that is
+// written, 0 where none is.
+#[repr(C)]
+pub struct Judged {
+    pub refusal: u8,
+    pub verdict: u8,
+    pub vote: i16,
+}
+
+// A refusal, 0 for none; both votes, first against second and second against first; the winner, 0 neither, 1 first, 2 second; and its
+// pair bytes: the file, 1 first, 2 second, where they begin in it and how many they are. On a refusal the votes are 0; with no winner and
+// on a refusal the part is the empty one at the first file's start.
+#[repr(C)]
+pub struct Compared {
+    pub refusal: u8,
+    pub winner: u8,
+    pub first_vote: i16,
+    pub second_vote: i16,
+    pub file: u8,
+    pub from: usize,
+    pub length: usize,
+}
+
+// A refusal, 0 for none; the numbers of a blocking pair, 0 0 if there is none.
+#[repr(C)]
+pub struct Blocker {
+    pub refusal: u8,
+    pub surveyor: u8,
+    pub stand: u8,
+}
+
+// kind: 1 a plan, 2 none with pairs left, 3 none with a rival, 4 a refusal; then the refusal's number, the candidate's vote against its
+// rival, the number of steps and the number of pairs left, each 0 where the answer has none
+#[repr(C)]
+pub struct FoundNumbers {
+    pub kind: u8,
+    pub refusal: u8,
+    pub vote: i16,
+    pub steps: usize,
+    pub left: usize,
+}
+
+// the group of a refusal: 1 form, 2 content, 3 plan, 4 desk
+pub fn group_number(g: Group) -> u8
+    ensures { λ r. ⌜ r ≡ groupNumber (groupShown g) ⌝ }
+{
+    match g {
+        Group::Form => 1,
+        Group::Content => 2,
+        Group::Plan => 3,
+        Group::Desk => 4,
+    }
+}
+
+// a file read, or loaded: its refusal
+pub fn file_number(a: FileAnswer) -> u8
+    ensures { λ r. ⌜ r ≡ refusalIn (fileShown a) ⌝ }
+{
+    match a {
+        FileAnswer::Accepted => 0,
+        FileAnswer::Refused(number, _) => number,
+    }
+}
+
+// bytes written
+pub fn written_numbers(w: Written) -> Outcome
+    ensures { λ r. ⌜ r ≡ outcomeIn (writtenShown w) ⌝ }
+{
+    match w {
+        Written::Wrote(n) => Outcome {
+            refusal: 0,
+            length: n,
+        },
+        Written::Refused(number, _) => Outcome {
+            refusal: number,
+            length: 0,
+        },
+    }
+}
+
+// the verdict on a plan
+pub fn verdict_numbers(v: Verdict) -> Judged
+    ensures { λ r. ⌜ r ≡ judgedIn (verdictShown v) ⌝ }
+{
+    match v {
+        Verdict::Strong => Judged {
+            refusal: 0,
+            verdict: 1,
+            vote: 0,
+        },
+        Verdict::Popular(w) => Judged {
+            refusal: 0,
+            verdict: 2,
+            vote: w,
+        },
+        Verdict::Beaten(w) => Judged {
+            refusal: 0,
+            verdict: 3,
+            vote: w,
+        },
+        Verdict::Refused(number, _) => Judged {
+            refusal: number,
+            verdict: 0,
+            vote: 0,
+        },
+    }
+}
+
+// the size of a file behind its count byte
+pub(crate) fn behind_count(size: usize) -> usize
+    ensures { λ r. ⌜ r ≡ size - 1 ⌝ }
+{
+    if 0 < size {
+        return size - 1;
+    }
+    0
+}
+
+// a comparison of two files, with the winner's part as the file, the byte that it begins at and its length
+pub fn comparison_numbers(c: Comparison, first: &[u8], second: &[u8]) -> Compared
+    ensures { λ r. ⌜ r ≡ comparedIn (comparisonShown (now (first .entry)) (now (second .entry)) c) ⌝ }
+{
+    match c {
+        Comparison::Votes(v, w, x) => match x {
+            Winner::First => Compared {
+                refusal: 0,
+                winner: 1,
+                first_vote: v,
+                second_vote: w,
+                file: 1,
+                from: 1,
+                length: behind_count(first.len()),
+            },
+            Winner::Second => Compared {
+                refusal: 0,
+                winner: 2,
+                first_vote: v,
+                second_vote: w,
+                file: 2,
+                from: 1,
+                length: behind_count(second.len()),
+            },
+            Winner::Neither => Compared {
+                refusal: 0,
+                winner: 0,
+                first_vote: v,
+                second_vote: w,
+                file: 1,
+                from: 0,
+                length: 0,
+            },
+        },
+        Comparison::Refused(number, _) => Compared {
+            refusal: number,
+            winner: 0,
+            first_vote: 0,
+            second_vote: 0,
+            file: 1,
+            from: 0,
+            length: 0,
+        },
+    }
+}
+
+// a blocking pair
+pub fn blocked_numbers(b: Blocked) -> Blocker
+    ensures { λ r. ⌜ r ≡ blockerIn (blockedShown b) ⌝ }
+{
+    match b {
+        Blocked::Pair(s, t) => Blocker {
+            refusal: 0,
+            surveyor: s,
+            stand: t,
+        },
+        Blocked::Unblocked => Blocker {
+            refusal: 0,
+            surveyor: 0,
+            stand: 0,
+        },
+        Blocked::Refused(number, _) => Blocker {
+            refusal: number,
+            surveyor: 0,
+            stand: 0,
+        },
+    }
+}
+
+// what the finder found
+pub fn found_numbers(a: Found) -> FoundNumbers
+    ensures { λ r. ⌜ r ≡ foundIn (foundShown a) ⌝ }
+{
+    match a {
+        Found::Plan(steps) => FoundNumbers {
+            kind: 1,
+            refusal: 0,
+            vote: 0,
+            steps: steps,
+            left: 0,
+        },
+        Found::None(steps, why) => match why {
+            NoneKind::Left(left) => FoundNumbers {
+                kind: 2,
+                refusal: 0,
+                vote: 0,
+                steps: steps,
+                left: left,
+            },
+            NoneKind::Rivalled(vote) => FoundNumbers {
+                kind: 3,
+                refusal: 0,
+                vote: vote,
+                steps: steps,
+                left: 0,
+            },
+        },
+        Found::Refused(number, _) => FoundNumbers {
+            kind: 4,
+            refusal: number,
+            vote: 0,
+            steps: 0,
+            left: 0,
+        },
+    }
+}
