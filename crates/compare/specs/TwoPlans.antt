@@ -28,7 +28,8 @@ use Rattle.instance.specs.Loaded.{Loaded}
 use Rattle.plan_reader.specs.declared.PlanRead.{PlanRead}
 use Rattle.plan_reader.specs.declared.PlanAnswer.the-variants as plan
 use Rattle.plan_reader.specs.Answers.{ReadAs, ReadFor, accepted-read, accepted-edges, refused-read}
-use Rattle.vote_plans.specs.Plan.{Listed, PlanVotes}
+use Rattle.plan_lookup.specs.PlanEdges.{Listed}
+use Rattle.vote_plans.specs.Plan.{PlanVotes}
 use Rattle.answers.specs.declared.Winner.{Winner}
 use Rattle.answers.specs.declared.Comparison.{Comparison}
 use Rattle.answers.specs.declared.Comparison.the-variants.{Votes, Refused}
