@@ -47,7 +47,8 @@ module _ (p : ℕ → Bool) (front : List ℕ) (m c : ℕ) where
 
   pub kept-no : p c ≡ false → Kept p front m c → Kept p front m (c + 1)
   kept-no t (a, b) =
-      let e = ap (λ k. keep p (range 0 k)) (add-one c) ∙ keep-last p c ∙ ap (λ b. keep p (range 0 c) ++ cond b (c ∷ []) []) t ∙ append-nil (keep p (range 0 c)) in
+      let e =
+      ap (λ k. keep p (range 0 k)) (add-one c) ∙ keep-last p c ∙ ap (λ b. keep p (range 0 c) ++ cond b (c ∷ []) []) t ∙ append-nil (keep p (range 0 c)) in
       (a ∙ ap length (sym e), b ∙ sym e)
 
   -- the number is stored in any case, and counted if it meets the test

@@ -34,14 +34,19 @@ raise true x w r = go (ltb w r) (ltb→lt w r) (nltb→le w r)
         down false b e f = refl
 
 -- ---- the worst ranks
-pub worst-next : (end rank : List ℕ) (p : List Bool) (w : List ℕ) (i : ℕ) → at end i < length w → ((v x : ℕ) → ltb x (getD w v 0) ≡ any? (worse end rank p v x) (upTo i))
-    → (v x : ℕ) → ltb x (getD (set w (at end i) (cond (flag p i && ltb (getD w (at end i) 0) (at rank i)) (at rank i) (getD w (at end i) 0))) v 0) ≡ any? (worse end rank p v x) (upTo (i + 1))
+pub worst-next : (end rank : List ℕ) (p : List Bool) (w : List ℕ) (i : ℕ) → at end i < length w
+    → ((v x : ℕ) → ltb x (getD w v 0) ≡ any? (worse end rank p v x) (upTo i))
+    → (v x : ℕ)
+    → ltb x (getD (set w (at end i) (cond (flag p i && ltb (getD w (at end i) 0) (at rank i)) (at rank i) (getD w (at end i) 0))) v 0) ≡ any?
+    (worse end rank p v x) (upTo (i + 1))
 worst-next end rank p w i l h v x = rw (add-one) (by-eq (at end i) v
     (λ e q. subst (λ z. ltb x (getD (set w (at end i) new) z 0) ≡ any? (worse end rank p z x) (upTo (suc i))) e
     (ap (ltb x) (getD-set-same w (at end i) new 0 l) ∙ raise (flag p i) x (getD w (at end i) 0) (at rank i)
     ∙ ap (λ b. (flag p i && ltb x (at rank i)) || b) (h (at end i) x)
-    ∙ ap (λ b. (flag p i && b) || any? (worse end rank p (at end i) x) (upTo i)) (sym (same (eqb (at end i) (at end i)) (self (at end i)) (ltb x (at rank i))))))
-    (λ n q. ap (ltb x) (getD-set-other w (at end i) v new 0 (λ e. n (sym e))) ∙ h v x ∙ sym (other (flag p i) (eqb (at end i) v) q (ltb x (at rank i)) (any? (worse end rank p v x) (upTo i)))))
+    ∙ ap (λ b. (flag p i && b) || any? (worse end rank p (at end i) x) (upTo i))
+    (sym (same (eqb (at end i) (at end i)) (self (at end i)) (ltb x (at rank i))))))
+    (λ n q. ap (ltb x) (getD-set-other w (at end i) v new 0 (λ e. n (sym e))) ∙ h v x
+    ∙ sym (other (flag p i) (eqb (at end i) v) q (ltb x (at rank i)) (any? (worse end rank p v x) (upTo i)))))
   where
     new : ℕ
     new = cond (flag p i && ltb (getD w (at end i) 0) (at rank i)) (at rank i) (getD w (at end i) 0)

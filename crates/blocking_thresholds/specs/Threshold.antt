@@ -42,7 +42,8 @@ pub thresholds-yield : (m : ℕ) (end rank quota : List ℕ) (p : List Bool) (d 
     → ((v : ℕ) → v < 32 → getD l v 0 ≡ cond (ltb (at d v) (at quota v)) 33 (at w v)) → Thresholds m end rank quota p l
 unfolding deg
 thresholds-yield m end rank quota p d w l h hd hw hl n tie e k r =
-    ap (ltb (at rank e)) (hl (at end e) (h .ends e k)) ∙ go (ltb (at d (at end e)) (at quota (at end e))) (ap (λ z. ltb z (at quota (at end e))) (hd (at end e)))
+    ap (ltb (at rank e)) (hl (at end e) (h .ends e k))
+    ∙ go (ltb (at d (at end e)) (at quota (at end e))) (ap (λ z. ltb z (at quota (at end e))) (hd (at end e)))
   where
     go : (b : Bool) → b ≡ ltb (deg (sideOf m n end rank quota tie) (flag p) (at end e)) (at quota (at end e))
         → ltb (at rank e) (cond b 33 (at w (at end e))) ≡ yields (sideOf m n end rank quota tie) (flag p) e

@@ -14,7 +14,8 @@ use Rattle.reduction_counts.specs.Filled.{byte-one}
 use Rattle.reduction_counts.specs.Mark.{marked}
 
 pub marked-turn : (end : ℕ → ℕ) (p : ℕ → Bool) (ord t o : List ℕ) (k : ℕ) → k < length ord
-    → marked end p (drop k ord) t o ≡ marked end p (drop (k + 1) ord) (set t (end (at ord k)) (at t (end (at ord k)) + boolByte (p (at ord k)))) (set o (at ord k) (at t (end (at ord k))))
+    → marked end p (drop k ord) t o ≡ marked end p (drop (k + 1) ord) (set t (end (at ord k)) (at t (end (at ord k)) + boolByte (p (at ord k))))
+    (set o (at ord k) (at t (end (at ord k))))
 unfolding marked
 marked-turn end p ord t o k h = rw (add-one, drop-cons ord k 0 h)
 

@@ -61,14 +61,16 @@ module _ (K : Side) (law : Ranked K) (p : ℕ → Bool) (strict : (d : ℕ) → 
   same-bit false b c h = refl
 
   -- those better than e are those before it
-  before : (pre post : List ℕ) (e v : ℕ) → e < K .m → K .end e ≡ v → occ e pre ≡ 0 → Ordered (K .rank) (pre ++ (e ∷ post)) → All (λ d. d < K .m) (pre ++ (e ∷ post))
+  before : (pre post : List ℕ) (e v : ℕ) → e < K .m → K .end e ≡ v → occ e pre ≡ 0 → Ordered (K .rank) (pre ++ (e ∷ post))
+      → All (λ d. d < K .m) (pre ++ (e ∷ post))
       → passing (λ d. better e d && eqb (K .end d) v) (pre ++ (e ∷ post)) ≡ passing (λ d. p d && eqb (K .end d) v) pre
   before [] post e v el i o up below = passing-none (λ d. better e d && eqb (K .end d) v) (e ∷ post)
       (worse e (omega arith), all-map (λ d. K .rank e ≤ K .rank d) (λ d. T (not (better e d && eqb (K .end d) v))) post worse (up .0))
     where
       worse : (d : ℕ) → K .rank e ≤ K .rank d → T (not (better e d && eqb (K .end d) v))
       worse d h = not-T (better e d && eqb (K .end d) v) (λ t.
-          let k : K .rank d < K .rank e = ltb→lt (K .rank d) (K .rank e) (and-r (p d) (ltb (K .rank d) (K .rank e)) (and-l (better e d) (eqb (K .end d) v) t)) in
+          let k : K .rank d < K .rank e =
+          ltb→lt (K .rank d) (K .rank e) (and-r (p d) (ltb (K .rank d) (K .rank e)) (and-l (better e d) (eqb (K .end d) v) t)) in
           absurd (omega arith))
   before (x ∷ pre) post e v el i o up below =
       let ih = before pre post e v el i (omega arith) (up .1) (below .1) in
@@ -116,5 +118,7 @@ module _ (K : Side) (law : Ranked K) (p : ℕ → Bool) (strict : (d : ℕ) → 
       → (e : ℕ) → e < K .m → (q : ℕ → Bool) → ((d : ℕ) → d < K .m → K .end d ≡ K .end e → better e d ≡ q d)
       → at (marked (K .end) p xs (replicate 32 0) blank) e ≡ deg K q (K .end e)
   unfolding blank
-  pass xs l h L e el q same = pass-is xs (replicate 32 0) (replicate 1024 0) 1024 32 e (L (K .end e)) refl (length-replicate {A = ℕ} 1024 0) (inside xs l h (L (K .end e) .below)) (zeros 32 (K .end e)) el
+  pass xs l h L e el q same =
+      pass-is xs (replicate 32 0) (replicate 1024 0) 1024 32 e (L (K .end e)) refl (length-replicate {A = ℕ} 1024 0)
+      (inside xs l h (L (K .end e) .below)) (zeros 32 (K .end e)) el
       ∙ deg-cong K (better e) q (K .end e) same

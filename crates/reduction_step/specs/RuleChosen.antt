@@ -52,10 +52,12 @@ module _ (A : Setting) where
 -- ---- what the functions of a step promise, of every lawful instance with these ends, ties and orders, and every state with these remaining edges
 module _ (m : ℕ) (sv st : List ℕ) (tied : List Bool) (os ot : List ℕ) (rem : List Bool) where
   abbrev pub settingOf : (quotaS quotaT : List ℕ) (fixed : List Bool) (kS kT : ℕ → ℕ) → Known m sv st tied quotaS quotaT os ot → Setting
-  settingOf quotaS quotaT fixed kS kT K = record { m = m; sv = sv; st = st; tied = tied; quotaS = quotaS; quotaT = quotaT; os = os; ot = ot; known = K; rem = rem; fixed = fixed; kS = kS; kT = kT }
+  settingOf quotaS quotaT fixed kS kT K =
+      record { m = m; sv = sv; st = st; tied = tied; quotaS = quotaS; quotaT = quotaT; os = os; ot = ot; known = K; rem = rem; fixed = fixed; kS = kS; kT = kT }
 
   abbrev pub Every : (Setting → Type 0) → Type 0
-  Every P = (quotaS quotaT : List ℕ) (K : Known m sv st tied quotaS quotaT os ot) (fixed : List Bool) (kS kT : ℕ → ℕ) → P (settingOf quotaS quotaT fixed kS kT K)
+  Every P =
+      (quotaS quotaT : List ℕ) (K : Known m sv st tied quotaS quotaT os ot) (fixed : List Bool) (kS kT : ℕ → ℕ) → P (settingOf quotaS quotaT fixed kS kT K)
 
   abbrev pub Viewed : (qs qt hs ht : List ℕ) (fs ft : List Bool) → Type 0
   Viewed qs qt hs ht fs ft = Every (λ A. Quotas A qs qt → Aheads A hs ht × Arrows A fs ft)
@@ -64,7 +66,8 @@ module _ (m : ℕ) (sv st : List ℕ) (tied : List Bool) (os ot : List ℕ) (rem
   Named2 qs qt fs ft hit = Every (λ A. Quotas A qs qt → Arrows A fs ft → Names A 2 (flag hit))
 
   abbrev pub Last : (qs qt hs ht : List ℕ) (fs ft lo : List Bool) (ns got : List ℕ) (r e : ℕ) (hit : List Bool) → Type 0
-  Last qs qt hs ht fs ft lo ns got r e hit = Every (λ A. Quotas A qs qt → Aheads A hs ht → Arrows A fs ft → Loose A lo → Sizes A ns → Got A got → Silent A 5 → Says A r e hit)
+  Last qs qt hs ht fs ft lo ns got r e hit =
+      Every (λ A. Quotas A qs qt → Aheads A hs ht → Arrows A fs ft → Loose A lo → Sizes A ns → Got A got → Silent A 5 → Says A r e hit)
 
   abbrev pub Late : (qs qt hs ht : List ℕ) (fs ft : List Bool) (r e : ℕ) (hit : List Bool) → Type 0
   Late qs qt hs ht fs ft r e hit = Every (λ A. Quotas A qs qt → Aheads A hs ht → Arrows A fs ft → Silent A 3 → Says A r e hit)

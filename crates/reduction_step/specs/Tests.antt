@@ -138,7 +138,8 @@ module _ (A : Setting) where
 
     pub reserved-are : (lo x : List Bool) → Loose lo → Made false x (λ e. flag (A .rem) e && (flag lo (at (A .st) e) || flag ft e)) m → Reserved x
     unfolding reserved
-    reserved-are lo x L X e l = X e l ∙ rw (L (at (A .st) e) (A .known .fitT e l), F .atT e l) (either (flag (A .rem) e) (loose (G A) (Z A) (at (A .st) e)) (arrowT (G A) (Z A) e))
+    reserved-are lo x L X e l =
+        X e l ∙ rw (L (at (A .st) e) (A .known .fitT e l), F .atT e l) (either (flag (A .rem) e) (loose (G A) (Z A) (at (A .st) e)) (arrowT (G A) (Z A) e))
 
     -- ---- rule by rule
     pub rule1-is : Names 1 (λ e. flag (A .rem) e && (flag fs e && flag ft e))
@@ -146,15 +147,21 @@ module _ (A : Setting) where
     rule1-is e l = rw (F .atS e l, F .atT e l)
 
     -- how many better edges come in
-    in-S : (gs : List ℕ) → gs ≡ marked (at (A .sv)) (flag ft) (A .os) (replicate 32 0) blank → (e : ℕ) → e < m → at gs e ≡ degS (G A) (Z A) (betterS (G A) (Z A) e) (at (A .sv) e)
+    in-S : (gs : List ℕ) → gs ≡ marked (at (A .sv)) (flag ft) (A .os) (replicate 32 0) blank → (e : ℕ) → e < m
+        → at gs e ≡ degS (G A) (Z A) (betterS (G A) (Z A) e) (at (A .sv) e)
     unfolding betterS
-    in-S gs H e l = ap (λ x. at x e) H ∙ pass (surveyors (G A)) (A .known .law .atS) (flag ft) (λ d k t. tt) (A .os) (A .known .size) (A .known .fitS) (A .known .byS) e l
+    in-S gs H e l =
+        ap (λ x. at x e) H ∙ pass (surveyors (G A)) (A .known .law .atS) (flag ft) (λ d k t. tt) (A .os) (A .known .size) (A .known .fitS) (A .known .byS) e l
         (betterS (G A) (Z A) e) (λ d k i. ap (λ x. x && ltb (at (A .known .rankS) d) (at (A .known .rankS) e)) (F .atT d k))
 
-    in-T : (fr : List Bool) (gt : List ℕ) → Made false fr (λ e. flag fs e && not (flag (A .tied) e)) m → gt ≡ marked (at (A .st)) (flag fr) (A .ot) (replicate 32 0) blank
+    in-T : (fr : List Bool) (gt : List ℕ) → Made false fr (λ e. flag fs e && not (flag (A .tied) e)) m
+        → gt ≡ marked (at (A .st)) (flag fr) (A .ot) (replicate 32 0) blank
         → (e : ℕ) → e < m → at gt e ≡ degT (G A) (Z A) (betterT (G A) (Z A) e) (at (A .st) e)
     unfolding betterT
-    in-T fr gt R H e l = ap (λ x. at x e) H ∙ pass (stands (G A)) (A .known .law .atT) (flag fr) (λ d k t. and-r (flag fs d) (not (flag (A .tied) d)) (subst T (R d k) t)) (A .ot) (A .known .size) (A .known .fitT) (A .known .byT) e l
+    in-T fr gt R H e l =
+        ap (λ x. at x e) H
+        ∙ pass (stands (G A)) (A .known .law .atT) (flag fr) (λ d k t. and-r (flag fs d) (not (flag (A .tied) d)) (subst T (R d k) t)) (A .ot)
+        (A .known .size) (A .known .fitT) (A .known .byT) e l
         (betterT (G A) (Z A) e)
         (λ d k i. ap (λ x. x && less d e) (R d k ∙ ap (λ x. x && not (flag (A .tied) d)) (F .atS d k))
         ∙ drop-tie (arrowS (G A) (Z A) d) (flag (A .tied) d) (less d e) (λ t. not-T (less d e) (λ s.
@@ -167,7 +174,8 @@ module _ (A : Setting) where
         → Made false fr (λ e. flag fs e && not (flag (A .tied) e)) m → gt ≡ marked (at (A .st)) (flag fr) (A .ot) (replicate 32 0) blank
         → Made false x (λ e. flag (A .rem) e && (leb (at qs (at (A .sv) e)) (at gs e) || leb (at qt (at (A .st) e)) (at gt e))) m → Names 2 (flag x)
     unfolding names rule2
-    rule2-is gs gt fr x GS R GT X e l = X e l ∙ rw (Q .atS (at (A .sv) e) (A .known .fitS e l), Q .atT (at (A .st) e) (A .known .fitT e l), in-S gs GS e l, in-T fr gt R GT e l)
+    rule2-is gs gt fr x GS R GT X e l =
+        X e l ∙ rw (Q .atS (at (A .sv) e) (A .known .fitS e l), Q .atT (at (A .st) e) (A .known .fitT e l), in-S gs GS e l, in-T fr gt R GT e l)
 
     pub rule3-is : (got sent : List ℕ) → Got got → Sent sent
         → Names 3 (λ e. flag (A .rem) e && (flag fs e && leb (at got (at (A .st) e) + at sent (at (A .st) e)) (at qt (at (A .st) e))))
@@ -179,7 +187,8 @@ module _ (A : Setting) where
     unfolding names rule4 worseReserved
     rule4-is x ns nb R C B e l = ap (λ z. flag (A .rem) e && z) (rw (R e l, C (at (A .sv) e), Q .atS (at (A .sv) e) (A .known .fitS e l), before)
         (and-if (reserved (G A) (Z A) e) (ltb (cutS (G A) (Z A) (at (A .sv) e)) (degS (G A) (Z A) (reserved (G A) (Z A)) (at (A .sv) e)))
-        (eqb (degS (G A) (Z A) (λ d. reserved (G A) (Z A) d && ltb (at (A .known .rankS) d) (at (A .known .rankS) e)) (at (A .sv) e) + 1) (degS (G A) (Z A) (reserved (G A) (Z A)) (at (A .sv) e)))
+        (eqb (degS (G A) (Z A) (λ d. reserved (G A) (Z A) d && ltb (at (A .known .rankS) d) (at (A .known .rankS) e)) (at (A .sv) e) + 1)
+        (degS (G A) (Z A) (reserved (G A) (Z A)) (at (A .sv) e)))
         (eqb (degS (G A) (Z A) (λ d. reserved (G A) (Z A) d && ltb (at (A .known .rankS) e) (at (A .known .rankS) d)) (at (A .sv) e)) 0)
         (λ t. last-none (degS (G A) (Z A) (λ d. reserved (G A) (Z A) d && ltb (at (A .known .rankS) d) (at (A .known .rankS) e)) (at (A .sv) e))
         (degS (G A) (Z A) (λ d. reserved (G A) (Z A) d && ltb (at (A .known .rankS) e) (at (A .known .rankS) d)) (at (A .sv) e))
@@ -187,10 +196,14 @@ module _ (A : Setting) where
         (better-worse (surveyors (G A)) (A .known .law .atS) (reserved (G A) (Z A)) (λ d. tt) e l t))))
       where
         before : at nb e ≡ degS (G A) (Z A) (λ d. reserved (G A) (Z A) d && ltb (at (A .known .rankS) d) (at (A .known .rankS) e)) (at (A .sv) e)
-        before = ap (λ x. at x e) B ∙ pass (surveyors (G A)) (A .known .law .atS) (flag x) (λ d k t. tt) (A .os) (A .known .size) (A .known .fitS) (A .known .byS) e l
-            (λ d. reserved (G A) (Z A) d && ltb (at (A .known .rankS) d) (at (A .known .rankS) e)) (λ d k i. ap (λ x. x && ltb (at (A .known .rankS) d) (at (A .known .rankS) e)) (R d k))
+        before =
+            ap (λ x. at x e) B
+            ∙ pass (surveyors (G A)) (A .known .law .atS) (flag x) (λ d k t. tt) (A .os) (A .known .size) (A .known .fitS) (A .known .byS) e l
+            (λ d. reserved (G A) (Z A) d && ltb (at (A .known .rankS) d) (at (A .known .rankS) e))
+            (λ d k i. ap (λ x. x && ltb (at (A .known .rankS) d) (at (A .known .rankS) e)) (R d k))
 
-    pub rule5-is : (lo x : List Bool) → Loose lo → Made false x (λ e. flag (A .rem) e && (not (flag lo (at (A .st) e)) && (not (flag fs e) && not (flag ft e)))) m → Names 5 (flag x)
+    pub rule5-is : (lo x : List Bool) → Loose lo
+        → Made false x (λ e. flag (A .rem) e && (not (flag lo (at (A .st) e)) && (not (flag fs e) && not (flag ft e)))) m → Names 5 (flag x)
     unfolding names rule5
     rule5-is lo x L X e l = X e l ∙ rw (L (at (A .st) e) (A .known .fitT e l), F .atS e l, F .atT e l)
 
@@ -199,6 +212,7 @@ module _ (A : Setting) where
       unfolding names rule6
       rule6-is ns C e l = rw (C (at (A .sv) e), Q .atS (at (A .sv) e) (A .known .fitS e l), H .atS e l)
 
-      pub rule7-is : (got : List ℕ) → Got got → Names 7 (λ e. flag (A .rem) e && (ltb (at got (at (A .st) e)) (at qt (at (A .st) e)) && (not (flag (A .tied) e) && eqb (at ht e) 0)))
+      pub rule7-is : (got : List ℕ) → Got got
+          → Names 7 (λ e. flag (A .rem) e && (ltb (at got (at (A .st) e)) (at qt (at (A .st) e)) && (not (flag (A .tied) e) && eqb (at ht e) 0)))
       unfolding names rule7
       rule7-is got I e l = rw (I (at (A .st) e), Q .atT (at (A .st) e) (A .known .fitT e l), H .atT e l)

@@ -85,19 +85,28 @@ module _ (A : Setting) where
   loose-end a b = ap (λ x. x && b) (sym (and-true a))
 
   pub aheads-are : (sr : List Bool) (hs ht : List ℕ) → hs ≡ marked (at (A .sv)) (flag (A .rem)) (A .os) (replicate 32 0) blank
-      → Made false sr (λ e. flag (A .rem) e && not (flag (A .tied) e)) (A .m) → ht ≡ marked (at (A .st)) (flag sr) (A .ot) (replicate 32 0) blank → Aheads A hs ht
+      → Made false sr (λ e. flag (A .rem) e && not (flag (A .tied) e)) (A .m) → ht ≡ marked (at (A .st)) (flag sr) (A .ot) (replicate 32 0) blank
+      → Aheads A hs ht
   unfolding ahead
   aheads-are sr hs ht HS R HT = record {
     atS = λ e l. ap (λ x. at x e) HS ∙ pass KS (A .known .law .atS) (flag (A .rem)) (λ d k t. tt) (A .os) (A .known .size) (A .known .fitS) (A .known .byS) e l
         (λ d. strictLeft KS (flag (A .rem)) d && ltb (KS .rank d) (KS .rank e)) (λ d k i. loose-end (flag (A .rem) d) (ltb (KS .rank d) (KS .rank e)));
-    atT = λ e l. ap (λ x. at x e) HT ∙ pass KT (A .known .law .atT) (flag sr) (λ d k t. and-r (flag (A .rem) d) (not (flag (A .tied) d)) (subst T (R d k) t)) (A .ot) (A .known .size) (A .known .fitT) (A .known .byT) e l
+    atT =
+        λ e l. ap (λ x. at x e) HT
+        ∙ pass KT (A .known .law .atT) (flag sr) (λ d k t. and-r (flag (A .rem) d) (not (flag (A .tied) d)) (subst T (R d k) t)) (A .ot)
+        (A .known .size) (A .known .fitT) (A .known .byT) e l
         (λ d. strictLeft KT (flag (A .rem)) d && ltb (KT .rank d) (KT .rank e)) (λ d k i. ap (λ x. x && ltb (KT .rank d) (KT .rank e)) (R d k));
   }
 
-  pub arrows-are : (sr fs ft : List Bool) (qs qt hs ht : List ℕ) → Quotas A qs qt → Aheads A hs ht → Made false sr (λ e. flag (A .rem) e && not (flag (A .tied) e)) (A .m)
-      → Made false fs (λ e. flag (A .rem) e && ltb (at hs e) (at qs (at (A .sv) e))) (A .m) → Made false ft (λ e. flag sr e && ltb (at ht e) (at qt (at (A .st) e))) (A .m) → Arrows A fs ft
+  pub arrows-are : (sr fs ft : List Bool) (qs qt hs ht : List ℕ) → Quotas A qs qt → Aheads A hs ht
+      → Made false sr (λ e. flag (A .rem) e && not (flag (A .tied) e)) (A .m)
+      → Made false fs (λ e. flag (A .rem) e && ltb (at hs e) (at qs (at (A .sv) e))) (A .m)
+      → Made false ft (λ e. flag sr e && ltb (at ht e) (at qt (at (A .st) e))) (A .m) → Arrows A fs ft
   unfolding arrow
   arrows-are sr fs ft qs qt hs ht Q H R FS FT = record {
-    atS = λ e l. FS e l ∙ rw (H .atS e l, Q .atS (at (A .sv) e) (A .known .fitS e l)) (loose-end (flag (A .rem) e) (ltb (aheadS (G A) (Z A) e) (cutS (G A) (Z A) (at (A .sv) e))));
+    atS =
+        λ e l. FS e l
+        ∙ rw (H .atS e l, Q .atS (at (A .sv) e) (A .known .fitS e l))
+        (loose-end (flag (A .rem) e) (ltb (aheadS (G A) (Z A) e) (cutS (G A) (Z A) (at (A .sv) e))));
     atT = λ e l. FT e l ∙ rw (R e l, H .atT e l, Q .atT (at (A .st) e) (A .known .fitT e l));
   }

@@ -36,11 +36,13 @@ module _ (m : ℕ) (sv st rs rt : List ℕ) (plan : List Bool) (t b s a : ℕ) w
   arc-end v f h = cheapest-end (joining sv st plan t s) (priceOf rs rt b a) v f m h
 
   -- an edge in the plan, or at another stand, changes nothing; else it is an offer if its surveyor is s
-  pub arc-past : (v f : ℕ) → f < m → not (flag plan f) && eqb (at st f) t ≡ false → arcRest m sv st rs rt plan t b s a v f ≡ arcRest m sv st rs rt plan t b s a v (f + 1)
+  pub arc-past : (v f : ℕ) → f < m → not (flag plan f) && eqb (at st f) t ≡ false
+      → arcRest m sv st rs rt plan t b s a v f ≡ arcRest m sv st rs rt plan t b s a v (f + 1)
   unfolding arcRest
   arc-past v f h e =
       cheapest-turn (joining sv st plan t s) (priceOf rs rt b a) v f m h
-      ∙ ap (λ x. cheapest (joining sv st plan t s) (priceOf rs rt b a) (offer x (priceOf rs rt b a f) v) (f + 1) (m - (f + 1))) (fails (not (flag plan f)) (eqb (at st f) t) (eqb (at sv f) s) e)
+      ∙ ap (λ x. cheapest (joining sv st plan t s) (priceOf rs rt b a) (offer x (priceOf rs rt b a f) v) (f + 1) (m - (f + 1)))
+      (fails (not (flag plan f)) (eqb (at st f) t) (eqb (at sv f) s) e)
     where
       fails : (x y z : Bool) → x && y ≡ false → x && (y && z) ≡ false
       fails true true z e = absurd (T-no e)
@@ -55,7 +57,8 @@ module _ (m : ℕ) (sv st rs rt : List ℕ) (plan : List Bool) (t b s a : ℕ) w
   unfolding arcRest
   arc-turn v f h e =
       cheapest-turn (joining sv st plan t s) (priceOf rs rt b a) v f m h
-      ∙ ap (λ x. cheapest (joining sv st plan t s) (priceOf rs rt b a) (offer x (priceOf rs rt b a f) v) (f + 1) (m - (f + 1))) (passes (not (flag plan f)) (eqb (at st f) t) (eqb (at sv f) s) e)
+      ∙ ap (λ x. cheapest (joining sv st plan t s) (priceOf rs rt b a) (offer x (priceOf rs rt b a f) v) (f + 1) (m - (f + 1)))
+      (passes (not (flag plan f)) (eqb (at st f) t) (eqb (at sv f) s) e)
     where
       passes : (x y z : Bool) → x && y ≡ true → x && (y && z) ≡ z
       passes true true z e = refl

@@ -37,9 +37,12 @@ module _ (arcs : List ℕ) (n : ℕ) (c : ℕ → ℕ) (i : ℕ) where
   unfolding leadRest
   lead-end held y h = best-end (bidAt arcs c i) (λ y. true) held y n h
 
-  turn : (b : Bool) (v p y : ℕ) → y < n → ltb (cell arcs i y + c y) v ≡ b → leadRest arcs n c i (v, p) y ≡ leadRest arcs n c i (cond b (bidAt arcs c i y) (v, p)) (y + 1)
+  turn : (b : Bool) (v p y : ℕ) → y < n → ltb (cell arcs i y + c y) v ≡ b
+      → leadRest arcs n c i (v, p) y ≡ leadRest arcs n c i (cond b (bidAt arcs c i y) (v, p)) (y + 1)
   unfolding leadRest
-  turn b v p y h e = best-turn (bidAt arcs c i) (λ y. true) (v, p) y n h ∙ ap (λ (b : Bool). best (bidAt arcs c i) (cond b (bidAt arcs c i y) (v, p)) (keep (λ y. true) (range (y + 1) (n - (y + 1))))) e
+  turn b v p y h e =
+      best-turn (bidAt arcs c i) (λ y. true) (v, p) y n h
+      ∙ ap (λ (b : Bool). best (bidAt arcs c i) (cond b (bidAt arcs c i y) (v, p)) (keep (λ y. true) (range (y + 1) (n - (y + 1))))) e
 
   pub lead-lower : (v p y : ℕ) → y < n → cell arcs i y + c y < v → leadRest arcs n c i (v, p) y ≡ leadRest arcs n c i (bidAt arcs c i y) (y + 1)
   lead-lower v p y h l = turn true v p y h (lt-ltb (cell arcs i y + c y) v l)
@@ -64,7 +67,8 @@ lead-price arcs n k i j = best-keep (bidAt arcs (λ y. layerAt arcs n k y j) i) 
 pub layer-small : (arcs : List ℕ) (n k i j : ℕ) → Small n arcs → i < n → j < 64 → layerAt arcs n k i j ≤ 133
 unfolding layerAt
 layer-small arcs n zero i j s il jl = s i j il jl
-layer-small arcs n (suc k) i j s il jl = omega (arith, cheapest-≤ (λ y. true) (λ y. cell arcs i y + layerAt arcs n k y j) (keptPrice (layerAt arcs n k i j)) 0 n)
+layer-small arcs n (suc k) i j s il jl =
+    omega (arith, cheapest-≤ (λ y. true) (λ y. cell arcs i y + layerAt arcs n k y j) (keptPrice (layerAt arcs n k i j)) 0 n)
 
 -- ---- the table: row k is column j of layer k, for the layers up to l
 abbrev pub Column : (arcs : List ℕ) → ℕ → ℕ → ℕ → List ℕ → Type 0
@@ -80,7 +84,8 @@ module _ (arcs : List ℕ) (n j : ℕ) (fits : n ≤ 64) (t row r : List ℕ) wh
   pub column-next : (l : ℕ) → Column arcs n j l t → Made 0 row (λ i. leadAt arcs n (cell t l) i .0) n → Put t row (l + 1) r → Column arcs n j (l + 1) r
   column-next l c m p k i h il = by-eq k (l + 1)
       (λ e q. p k i (omega arith) ∙ ap (λ b. cond b (at row i) (cell t k i)) q ∙ m i il
-      ∙ ap (λ a. a .0) (lead-cong arcs n (cell t l) (λ y. layerAt arcs n l y j) i il (λ y yl. c l y (omega arith) yl)) ∙ lead-price arcs n l i j ∙ ap (λ z. layerAt arcs n z i j) (next e))
+      ∙ ap (λ a. a .0) (lead-cong arcs n (cell t l) (λ y. layerAt arcs n l y j) i il (λ y yl. c l y (omega arith) yl)) ∙ lead-price arcs n l i j
+      ∙ ap (λ z. layerAt arcs n z i j) (next e))
       (λ q b. p k i (omega arith) ∙ ap (λ b. cond b (at row i) (cell t k i)) b ∙ c k i (omega arith) il)
     where
       next : k ≡ l + 1 → suc l ≡ k

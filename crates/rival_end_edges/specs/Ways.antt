@@ -91,7 +91,8 @@ module _ (m : ℕ) (sv st rs rt : List ℕ) (x y : ℕ) where
         go true = refl
         go false = refl
 
-    pub round-begin : (s : Way) (held next : ℕ × (Way × Way)) (free : Bool) (a : ℕ) → free ≡ apart (s, lose) → a ≡ endPrice (at rs) x s → next ≡ cond (free && ltb (a + 3) (held .0)) (a + 3, (s, wayOf m m)) held
+    pub round-begin : (s : Way) (held next : ℕ × (Way × Way)) (free : Bool) (a : ℕ) → free ≡ apart (s, lose) → a ≡ endPrice (at rs) x s
+        → next ≡ cond (free && ltb (a + 3) (held .0)) (a + 3, (s, wayOf m m)) held
         → roundRest s next 0 ≡ round s held
     round-begin s held next free a e q n =
         ap (λ o. roundRest s o 0) (n ∙ ap (λ (w : Way). cond (free && ltb (a + 3) (held .0)) (a + 3, (s, w)) held) (way-lose m)
@@ -105,7 +106,9 @@ module _ (m : ℕ) (sv st rs rt : List ℕ) (x y : ℕ) where
         → next ≡ cond (ok && ltb p (held .0)) (p, (s, wayOf m g)) held → roundRest s next (g + 1) ≡ roundRest s held g
     unfolding roundRest
     round-turn s held next g ok p h e q n =
-        ap (λ o. best (λ g. bid (s, gain g)) o rest) (n ∙ ap (λ (w : Way). cond (ok && ltb p (held .0)) (p, (s, w)) held) (way-gain m g h) ∙ ap₂ (λ (b : Bool) (p : ℕ). cond (b && ltb p (held .0)) (p, (s, gain g)) held) e q)
+        ap (λ o. best (λ g. bid (s, gain g)) o rest)
+        (n ∙ ap (λ (w : Way). cond (ok && ltb p (held .0)) (p, (s, w)) held) (way-gain m g h)
+        ∙ ap₂ (λ (b : Bool) (p : ℕ). cond (b && ltb p (held .0)) (p, (s, gain g)) held) e q)
         ∙ sym (best-turn (λ g. bid (s, gain g)) (λ g. stops g && apart (s, gain g)) held g m h)
       where
         rest : List ℕ
@@ -119,9 +122,11 @@ module _ (m : ℕ) (sv st rs rt : List ℕ) (x y : ℕ) where
         go true = refl
         go false = refl
 
-    onward : (held : ℕ × (Way × Way)) (s : Way) (ss : List Way) → best bid held (keep apart (couples s ++ gather couples ss)) ≡ best bid (round s held) (keep apart (gather couples ss))
+    onward : (held : ℕ × (Way × Way)) (s : Way) (ss : List Way)
+        → best bid held (keep apart (couples s ++ gather couples ss)) ≡ best bid (round s held) (keep apart (gather couples ss))
     unfolding round
-    onward held s ss = ap (best bid held) (keep-append apart (couples s) (gather couples ss)) ∙ best-append bid held (keep apart (couples s)) (keep apart (gather couples ss))
+    onward held s ss =
+        ap (best bid held) (keep-append apart (couples s) (gather couples ss)) ∙ best-append bid held (keep apart (couples s)) (keep apart (gather couples ss))
 
     module _ (roomT : List Bool) where
       -- f may be gained at the start; at the end
@@ -137,8 +142,10 @@ module _ (m : ℕ) (sv st rs rt : List ℕ) (x y : ℕ) where
           → terminal (shown m ns nt sv st rs rt tied quotaS quotaT) (flag plan) x y ≡ terminalBy
       unfolding terminal terminalBy
       terminal-by ns nt tied quotaS quotaT hS hT = ap₂ (λ is bs. best bid (6, (lose, lose)) (keep apart (product (lose ∷ map gain is) (lose ∷ map gain bs))))
-          (keep-cong (λ f. not (flag plan f) && joins? (flag plan) (surveyors G) (stands G) x f) starts (range 0 m) (λ f k. let (u, w) = ∈-range m 0 k in ap (λ r. not (flag plan f) && (eqb (at sv f) (at sv x) && r)) (sym (hT f (omega arith)))))
-          (keep-cong (λ f. not (flag plan f) && joins? (flag plan) (stands G) (surveyors G) y f) stops (range 0 m) (λ f k. let (u, w) = ∈-range m 0 k in ap (λ r. not (flag plan f) && (eqb (at st f) (at st y) && r)) (sym (hS f (omega arith)))))
+          (keep-cong (λ f. not (flag plan f) && joins? (flag plan) (surveyors G) (stands G) x f) starts (range 0 m)
+          (λ f k. let (u, w) = ∈-range m 0 k in ap (λ r. not (flag plan f) && (eqb (at sv f) (at sv x) && r)) (sym (hT f (omega arith)))))
+          (keep-cong (λ f. not (flag plan f) && joins? (flag plan) (stands G) (surveyors G) y f) stops (range 0 m)
+          (λ f k. let (u, w) = ∈-range m 0 k in ap (λ r. not (flag plan f) && (eqb (at st f) (at st y) && r)) (sym (hS f (omega arith)))))
         where
           G : Instance
           G = shown m ns nt sv st rs rt tied quotaS quotaT
@@ -149,7 +156,10 @@ module _ (m : ℕ) (sv st rs rt : List ℕ) (x y : ℕ) where
 
       pub terminal-start : terminalRest (round lose (6, (lose, lose))) 0 ≡ terminalBy
       unfolding terminalRest terminalBy
-      terminal-start = let e : m - 0 ≡ m = omega arith in ap (λ k. best bid (round lose (6, (lose, lose))) (keep apart (gather couples (map gain (keep starts (range 0 k)))))) e ∙ sym (onward (6, (lose, lose)) lose (gainings starts))
+      terminal-start =
+          let e : m - 0 ≡ m = omega arith in
+          ap (λ k. best bid (round lose (6, (lose, lose))) (keep apart (gather couples (map gain (keep starts (range 0 k)))))) e
+          ∙ sym (onward (6, (lose, lose)) lose (gainings starts))
 
       pub terminal-end : (held : ℕ × (Way × Way)) (f : ℕ) → m ≤ f → terminalRest held f ≡ held
       unfolding terminalRest best
@@ -161,14 +171,19 @@ module _ (m : ℕ) (sv st rs rt : List ℕ) (x y : ℕ) where
           let k : m - f ≡ suc (m - (f + 1)) = omega arith in
           let s : suc f ≡ f + 1 = omega arith in
           ap (λ n. best bid held (keep apart (gather couples (map gain (keep starts (range f n)))))) k
-          ∙ ap (λ (b : Bool). best bid held (keep apart (gather couples (map gain (cond b (f ∷ keep starts (range (suc f) (m - (f + 1)))) (keep starts (range (suc f) (m - (f + 1))))))))) e
+          ∙ ap
+          (λ (b : Bool). best bid held
+          (keep apart (gather couples (map gain (cond b (f ∷ keep starts (range (suc f) (m - (f + 1)))) (keep starts (range (suc f) (m - (f + 1)))))))))
+          e
           ∙ go b
           ∙ ap (λ i. best bid (cond b (round (gain f) held) held) (keep apart (gather couples (map gain (keep starts (range i (m - (f + 1)))))))) s
         where
           ks : List ℕ
           ks = keep starts (range (suc f) (m - (f + 1)))
 
-          go : (b : Bool) → best bid held (keep apart (gather couples (map gain (cond b (f ∷ ks) ks)))) ≡ best bid (cond b (round (gain f) held) held) (keep apart (gather couples (map gain ks)))
+          go : (b : Bool)
+              → best bid held (keep apart (gather couples (map gain (cond b (f ∷ ks) ks)))) ≡ best bid (cond b (round (gain f) held) held)
+              (keep apart (gather couples (map gain ks)))
           go true = onward held (gain f) (map gain ks)
           go false = refl
 

@@ -70,17 +70,22 @@ pub blank-one : (k m c : ℕ) (r : List Bool) → c < m → Marked (replicate k 
 blank-one k m c r l h e = blank-marks k (cond (ltb c m) (c ∷ []) []) r h e ∙ ap (λ (b : Bool). listed e (cond b (c ∷ []) [])) (lt-ltb c m l)
 
 -- what is gained at both ends
-pub marks-ends : (m : ℕ) (t : Ends) (p : ℕ × (Way × Way)) (k : ℕ) (g r : List Bool) → told m t ≡ p → Marked (replicate k false) (cond (ltb (t .start) m) (t .start ∷ []) []) g
+pub marks-ends : (m : ℕ) (t : Ends) (p : ℕ × (Way × Way)) (k : ℕ) (g r : List Bool) → told m t ≡ p
+    → Marked (replicate k false) (cond (ltb (t .start) m) (t .start ∷ []) []) g
     → Marked g (cond (ltb (t .stop) m) (t .stop ∷ []) []) r → Marks r (fresh (p .1 .0) ++ fresh (p .1 .1))
 marks-ends m t p k g r q a b e =
-    marks-more g (cond (ltb (t .start) m) (t .start ∷ []) []) (cond (ltb (t .stop) m) (t .stop ∷ []) []) r (blank-marks k (cond (ltb (t .start) m) (t .start ∷ []) []) g a) b e
+    marks-more g (cond (ltb (t .start) m) (t .start ∷ []) []) (cond (ltb (t .stop) m) (t .stop ∷ []) []) r
+    (blank-marks k (cond (ltb (t .start) m) (t .start ∷ []) []) g a) b e
     ∙ ap₂ (λ xs ys. listed e (xs ++ ys)) (sym (fresh-way m (t .start))) (sym (fresh-way m (t .stop)))
     ∙ ap (λ (p : ℕ × (Way × Way)). listed e (fresh (p .1 .0) ++ fresh (p .1 .1))) q
 
 -- the walk's edges are marked after those of its ends
 pub marks-path : (a b : Way) (w : Steps) (g r : List Bool) → Marks g (fresh a ++ fresh b) → Marked g (fs w) r → Marks r (comers a w b)
-marks-path a b w g r h k e = marks-more g (fresh a ++ fresh b) (fs w) r h k e ∙ listed-append e (fresh a ++ fresh b) (fs w) ∙ ap (λ c. c || listed e (fs w)) (listed-append e (fresh a) (fresh b))
-    ∙ swap (listed e (fresh a)) (listed e (fresh b)) (listed e (fs w)) ∙ sym (listed-append e (fresh a) (fs w ++ fresh b) ∙ ap (λ c. listed e (fresh a) || c) (listed-append e (fs w) (fresh b)))
+marks-path a b w g r h k e =
+    marks-more g (fresh a ++ fresh b) (fs w) r h k e ∙ listed-append e (fresh a ++ fresh b) (fs w)
+    ∙ ap (λ c. c || listed e (fs w)) (listed-append e (fresh a) (fresh b))
+    ∙ swap (listed e (fresh a)) (listed e (fresh b)) (listed e (fs w))
+    ∙ sym (listed-append e (fresh a) (fs w ++ fresh b) ∙ ap (λ c. listed e (fresh a) || c) (listed-append e (fs w) (fresh b)))
   where
     swap : (x y z : Bool) → (x || y) || z ≡ x || (z || y)
     swap true y z = refl
@@ -125,7 +130,8 @@ module _ (m : ℕ) (sv st rs rt : List ℕ) (plan roomS roomT : List Bool) (es a
 
     module _ (lists : olds G M ≡ map (at es) (range 0 n)) (terminals : List ℕ)
         (arcsShow : Grid arcs n (λ i j. arc G M 133 (at es i) (at es j) .0)) (terminalsShow : Grid terminals n (λ i j. terminal G M (at es i) (at es j) .0))
-        (roomsS : (f : ℕ) → f < m → flag roomS (at sv f) ≡ room? M (surveyors G) f) (roomsT : (f : ℕ) → f < m → flag roomT (at st f) ≡ room? M (stands G) f) where
+        (roomsS : (f : ℕ) → f < m → flag roomS (at sv f) ≡ room? M (surveyors G) f)
+        (roomsT : (f : ℕ) → f < m → flag roomT (at st f) ≡ room? M (stands G) f) where
       walk-is : (l i j : ℕ) → i < n → j < n → walkBy l i j ≡ trace G M 133 l (at es i) (at es j)
       unfolding arc arcEdge
       walk-is l i j il jl = sym (trace-is G M es n lists arcs terminals arcsShow terminalsShow l i j il jl)
@@ -147,10 +153,12 @@ module _ (m : ℕ) (sv st rs rt : List ℕ) (plan roomS roomT : List Bool) (es a
       rival-at (found.Alone i) b e = ap (λ p. (M e && not (listed e (at es i ∷ []))) || listed e (fresh (p .0) ++ fresh (p .1))) (ways-are (at es i) (at es i))
       rival-at (found.Closed l i) b e = ap (λ w. (M e && not (listed e (zs w))) || listed e (fs w)) (walk-is l i i (b .1) (b .1))
       rival-at (found.Open l i j) b e =
-          ap₂ (λ w p. (M e && not (listed e (at es i ∷ zs w))) || listed e (comers (p .0) w (p .1))) (walk-is l i j (b .1) (b .2)) (ways-are (at es i) (at es j))
+          ap₂ (λ w p. (M e && not (listed e (at es i ∷ zs w))) || listed e (comers (p .0) w (p .1))) (walk-is l i j (b .1) (b .2))
+          (ways-are (at es i) (at es j))
 
 -- ---- as a plan
 pub shows-plan : (m : ℕ) (r : List Bool) (p : ℕ → Bool) → Shows false r m p → (e : ℕ) → flag r e ≡ on (planOf m p) e
 shows-plan m r p s e = s e ∙ by-cases (decLt e m)
     (λ h. ap (λ (b : Bool). cond b (p e) false) (lt-ltb e m h) ∙ sym (on-planOf m p e h))
-    (λ n. ap (λ (b : Bool). cond b (p e) false) (le-ltb e m (omega arith)) ∙ sym (List·getD-eq-default (planOf m p) false (let h : length (planOf m p) ≤ e = omega (arith, planOf-length m p) in h)))
+    (λ n. ap (λ (b : Bool). cond b (p e) false) (le-ltb e m (omega arith))
+    ∙ sym (List·getD-eq-default (planOf m p) false (let h : length (planOf m p) ≤ e = omega (arith, planOf-length m p) in h)))

@@ -41,7 +41,9 @@ module _ (m : ℕ) (end other rank : List ℕ) (plan room : List Bool) (e b : �
   unfolding gainRest
   gain-end v f h = cheapest-end (gainable end other plan room e) (λ f. rate b (at rank f)) v f m h
 
-  pub gain-turn : (v f : ℕ) → f < m → gainRest m end other rank plan room e b v f ≡ gainRest m end other rank plan room e b (offer (gainable end other plan room e f) (rate b (at rank f)) v) (f + 1)
+  pub gain-turn : (v f : ℕ) → f < m
+      → gainRest m end other rank plan room e b v f ≡ gainRest m end other rank plan room e b
+      (offer (gainable end other plan room e f) (rate b (at rank f)) v) (f + 1)
   unfolding gainRest
   gain-turn v f h = cheapest-turn (gainable end other plan room e) (λ f. rate b (at rank f)) v f m h
 
@@ -54,15 +56,23 @@ module _ (m : ℕ) (end other rank : List ℕ) (plan room : List Bool) (e b : �
     unfolding gainRestBut
     but-end v f h = cheapest-end (gainableBut end other plan room e d) (λ f. rate b (at rank f)) v f m h
 
-    pub but-past : (v f : ℕ) → f < m → gainable end other plan room e f ≡ false → gainRestBut m end other rank plan room e b d v f ≡ gainRestBut m end other rank plan room e b d v (f + 1)
+    pub but-past : (v f : ℕ) → f < m → gainable end other plan room e f ≡ false
+        → gainRestBut m end other rank plan room e b d v f ≡ gainRestBut m end other rank plan room e b d v (f + 1)
     unfolding gainRestBut
     but-past v f h q =
         cheapest-turn (gainableBut end other plan room e d) (λ f. rate b (at rank f)) v f m h
-        ∙ ap (λ x. cheapest (gainableBut end other plan room e d) (λ f. rate b (at rank f)) (offer (x && not (eqb (at other f) d)) (rate b (at rank f)) v) (f + 1) (m - (f + 1))) q
+        ∙ ap
+        (λ x. cheapest (gainableBut end other plan room e d) (λ f. rate b (at rank f))
+        (offer (x && not (eqb (at other f) d)) (rate b (at rank f)) v) (f + 1) (m - (f + 1)))
+        q
 
     pub but-turn : (v f : ℕ) → f < m → gainable end other plan room e f ≡ true
-        → gainRestBut m end other rank plan room e b d v f ≡ gainRestBut m end other rank plan room e b d (offer (not (eqb (at other f) d)) (rate b (at rank f)) v) (f + 1)
+        → gainRestBut m end other rank plan room e b d v f ≡ gainRestBut m end other rank plan room e b d
+        (offer (not (eqb (at other f) d)) (rate b (at rank f)) v) (f + 1)
     unfolding gainRestBut
     but-turn v f h q =
         cheapest-turn (gainableBut end other plan room e d) (λ f. rate b (at rank f)) v f m h
-        ∙ ap (λ x. cheapest (gainableBut end other plan room e d) (λ f. rate b (at rank f)) (offer (x && not (eqb (at other f) d)) (rate b (at rank f)) v) (f + 1) (m - (f + 1))) q
+        ∙ ap
+        (λ x. cheapest (gainableBut end other plan room e d) (λ f. rate b (at rank f))
+        (offer (x && not (eqb (at other f) d)) (rate b (at rank f)) v) (f + 1) (m - (f + 1)))
+        q

@@ -24,7 +24,8 @@ module _ {A B : Type 0} where
   first-append p make [] ys = refl
   first-append p make (x ∷ xs) ys = go (p x) (first-append p make xs ys)
     where
-      go : (b : Bool) → first p make (xs ++ ys) ≡ orElse (first p make xs) (first p make ys) → cond b (some (make x)) (first p make (xs ++ ys)) ≡ orElse (cond b (some (make x)) (first p make xs)) (first p make ys)
+      go : (b : Bool) → first p make (xs ++ ys) ≡ orElse (first p make xs) (first p make ys)
+          → cond b (some (make x)) (first p make (xs ++ ys)) ≡ orElse (cond b (some (make x)) (first p make xs)) (first p make ys)
       go true e = refl
       go false e = e
 
@@ -34,14 +35,17 @@ module _ {B : Type 0} (p : ℕ → Bool) (make : ℕ → B) where
   unfolding first
   first-at i zero k l h f t = absurd (omega arith)
   first-at i (suc n) k l h f t = by-bool (ltb i k)
-      (λ e. ap (λ b. cond b (some (make i)) (first p make (range (suc i) n))) (f i (omega arith) (ltb-true i k e)) ∙ first-at (suc i) n k (ltb-true i k e) (omega arith) (λ d q r. f d (omega arith) r) t)
+      (λ e. ap (λ b. cond b (some (make i)) (first p make (range (suc i) n))) (f i (omega arith) (ltb-true i k e))
+      ∙ first-at (suc i) n k (ltb-true i k e) (omega arith) (λ d q r. f d (omega arith) r) t)
       (λ e. let q : i ≡ k = omega (arith, ltb-false i k e) in
       ap (λ b. cond b (some (make i)) (first p make (range (suc i) n))) (ap p q ∙ t) ∙ ap (λ z. some (make z)) q)
 
   first-past : (i n : ℕ) → ((e : ℕ) → i ≤ e → e < i + n → p e ≡ false) → first p make (range i n) ≡ none
   unfolding first
   first-past i zero f = refl
-  first-past i (suc n) f = ap (λ b. cond b (some (make i)) (first p make (range (suc i) n))) (f i (omega arith) (omega arith)) ∙ first-past (suc i) n (λ e q r. f e (omega arith) (omega arith))
+  first-past i (suc n) f =
+      ap (λ b. cond b (some (make i)) (first p make (range (suc i) n))) (f i (omega arith) (omega arith))
+      ∙ first-past (suc i) n (λ e q r. f e (omega arith) (omega arith))
 
   pub first-hit : (n : ℕ) → low p n < n → first p make (range 0 n) ≡ some (make (low p n))
   first-hit n h = let (a, b, c) = low-is p n in first-at 0 n (low p n) zero-le (omega arith) (λ e q r. T-false (b e r)) (T-true (c h))
@@ -63,18 +67,22 @@ module _ {B : Type 0} (p : ℕ × ℕ → Bool) (make : ℕ × ℕ → B) (g : �
   row-first : (i : ℕ) → first p make (rowOf (g i)) ≡ first (test i) (λ j. make (g i, g j)) (range 0 w)
   row-first i = first-map p make (λ y. (g i, y)) columns ∙ first-map (λ y. p (g i, y)) (λ y. make (g i, y)) g (range 0 w)
 
-  rows-at : (i n k : ℕ) (h : B) → i ≤ k → k < i + n → ((e : ℕ) → i ≤ e → e < k → first p make (rowOf (g e)) ≡ none) → first p make (rowOf (g k)) ≡ some h → first p make (gather rowOf (map g (range i n))) ≡ some h
+  rows-at : (i n k : ℕ) (h : B) → i ≤ k → k < i + n → ((e : ℕ) → i ≤ e → e < k → first p make (rowOf (g e)) ≡ none)
+      → first p make (rowOf (g k)) ≡ some h → first p make (gather rowOf (map g (range i n))) ≡ some h
   unfolding orElse
   rows-at i zero k h l m f t = absurd (omega arith)
   rows-at i (suc n) k h l m f t = first-append p make (rowOf (g i)) (gather rowOf (map g (range (suc i) n))) ∙ by-bool (ltb i k)
-      (λ e. ap (λ o. orElse o (first p make (gather rowOf (map g (range (suc i) n))))) (f i (omega arith) (ltb-true i k e)) ∙ rows-at (suc i) n k h (ltb-true i k e) (omega arith) (λ d q r. f d (omega arith) r) t)
-      (λ e. let q : i ≡ k = omega (arith, ltb-false i k e) in ap (λ o. orElse o (first p make (gather rowOf (map g (range (suc i) n))))) (ap (λ z. first p make (rowOf (g z))) q ∙ t))
+      (λ e. ap (λ o. orElse o (first p make (gather rowOf (map g (range (suc i) n))))) (f i (omega arith) (ltb-true i k e))
+      ∙ rows-at (suc i) n k h (ltb-true i k e) (omega arith) (λ d q r. f d (omega arith) r) t)
+      (λ e. let q : i ≡ k = omega (arith, ltb-false i k e) in
+      ap (λ o. orElse o (first p make (gather rowOf (map g (range (suc i) n))))) (ap (λ z. first p make (rowOf (g z))) q ∙ t))
 
   rows-past : (i n : ℕ) → ((e : ℕ) → i ≤ e → e < i + n → first p make (rowOf (g e)) ≡ none) → first p make (gather rowOf (map g (range i n))) ≡ none
   unfolding first orElse
   rows-past i zero f = refl
   rows-past i (suc n) f = first-append p make (rowOf (g i)) (gather rowOf (map g (range (suc i) n)))
-      ∙ ap (λ o. orElse o (first p make (gather rowOf (map g (range (suc i) n))))) (f i (omega arith) (omega arith)) ∙ rows-past (suc i) n (λ e q r. f e (omega arith) (omega arith))
+      ∙ ap (λ o. orElse o (first p make (gather rowOf (map g (range (suc i) n))))) (f i (omega arith) (omega arith))
+      ∙ rows-past (suc i) n (λ e q r. f e (omega arith) (omega arith))
 
   -- the first row that has a column, and the column
   abbrev column : ℕ → ℕ
@@ -115,7 +123,9 @@ module _ (p : ℕ × ℕ → Bool) (g : ℕ → ℕ) (w : ℕ) where
           let (a, b, c) = low-is (λ i. ltb (fails i) w) w in
           let l : fails failing < w = ltb-true (fails failing) w (T-true (c h)) in
           let (x, y, z) = low-is (λ j. not (p (g failing, g j))) w in
-          clash (p (g failing, g (fails failing))) (z l) (all-∈ p (product (map g (range 0 w)) (map g (range 0 w))) t (g failing, g (fails failing)) (product-∈ (map g (range 0 w)) (map g (range 0 w)) (member failing h) (member (fails failing) l)))
+          clash (p (g failing, g (fails failing))) (z l)
+          (all-∈ p (product (map g (range 0 w)) (map g (range 0 w))) t (g failing, g (fails failing))
+          (product-∈ (map g (range 0 w)) (map g (range 0 w)) (member failing h) (member (fails failing) l)))
         where
           clash : (b : Bool) → T (not b) → T b → ⊥
           clash true n y = n

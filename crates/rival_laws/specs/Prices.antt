@@ -103,13 +103,15 @@ module _ (G : Instance) (M : ℕ → Bool) where
     below-start : terminal G M x y .0 ≤ aStart + 3
     below-start = ⊎-elim
         (λ e. omega (arith, six))
-        (λ (f, l, h, t, e). let (u, w) = split (joining? S T′ x f) (not (eqb (G .st f) (G .st y))) t in omega (arith, member (gain f) lose (gaining S T′ x f (omega arith) u) (losing T′ S y) w))
+        (λ (f, l, h, t, e). let (u, w) = split (joining? S T′ x f) (not (eqb (G .st f) (G .st y))) t in
+        omega (arith, member (gain f) lose (gaining S T′ x f (omega arith) u) (losing T′ S y) w))
         (cheapest-reach startBut rateS 3 0 (G .m))
 
     below-stop : terminal G M x y .0 ≤ aStop + 3
     below-stop = ⊎-elim
         (λ e. omega (arith, six))
-        (λ (g, l, h, t, e). let (u, w) = split (joining? T′ S y g) (not (eqb (G .sv g) (G .sv x))) t in omega (arith, member lose (gain g) (losing S T′ x) (gaining T′ S y g (omega arith) u) w))
+        (λ (g, l, h, t, e). let (u, w) = split (joining? T′ S y g) (not (eqb (G .sv g) (G .sv x))) t in
+        omega (arith, member lose (gain g) (losing S T′ x) (gaining T′ S y g (omega arith) u) w))
         (cheapest-reach stopBut rateT 3 0 (G .m))
 
     below-both : terminal G M x y .0 ≤ oStart + oStop
@@ -132,14 +134,21 @@ module _ (G : Instance) (M : ℕ → Bool) where
         go lose (gain g) i j t = let (h, u) = gained T′ S y g j in
             omega (arith, cheapest-at stopBut rateT 3 0 (G .m) g zero-le (omega arith) (T-true (and-i (joining? T′ S y g) (not (eqb (G .sv g) (G .sv x))) u t)))
         go (gain f) lose i j t = let (h, u) = gained S T′ x f i in
-            omega (arith, cheapest-at startBut rateS 3 0 (G .m) f zero-le (omega arith) (T-true (and-i (joining? S T′ x f) (not (eqb (G .st f) (G .st y))) u t)))
+            omega
+            (arith, cheapest-at startBut rateS 3 0 (G .m) f zero-le (omega arith) (T-true (and-i (joining? S T′ x f) (not (eqb (G .st f) (G .st y))) u t)))
         go (gain f) (gain g) i j t = let (h, u) = gained S T′ x f i in let (k, w) = gained T′ S y g j in
-            omega (arith, cheapest-at (joining? S T′ x) rateS 6 0 (G .m) f zero-le (omega arith) (T-true u), cheapest-at (joining? T′ S y) rateT 6 0 (G .m) g zero-le (omega arith) (T-true w))
+            omega (
+              arith,
+              cheapest-at (joining? S T′ x) rateS 6 0 (G .m) f zero-le (omega arith) (T-true u),
+              cheapest-at (joining? T′ S y) rateT 6 0 (G .m) g zero-le (omega arith) (T-true w),
+            )
 
     pub terminal-is : terminal G M x y .0 ≡ min (min aStart aStop + 3) (oStart + oStop)
     unfolding terminal
     terminal-is =
-        let up : low-terminal ≤ terminal G M x y .0 = best-ind (λ p. (terminalPrice G x y p, p)) (λ c. low-terminal ≤ c .0) (6, (lose, lose)) (terminalsAt G M x y) (omega (arith, cheapest-≤ startBut rateS 3 0 (G .m))) above in
+        let up : low-terminal ≤ terminal G M x y .0 =
+        best-ind (λ p. (terminalPrice G x y p, p)) (λ c. low-terminal ≤ c .0) (6, (lose, lose)) (terminalsAt G M x y)
+        (omega (arith, cheapest-≤ startBut rateS 3 0 (G .m))) above in
         omega (arith, below-start, below-stop, below-both)
 
 -- ---- room

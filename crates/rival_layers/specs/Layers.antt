@@ -64,4 +64,5 @@ unfolding layerAt nextPrice
 layer-next arcs d e n k h g i j l m =
     g i j l m
     ∙ ap (λ c. cheapest (λ y. true) (onward arcs d i j) (keptPrice c) 0 n) (h i j l m)
-    ∙ cheapest-cong (λ y. true) (λ y. true) (onward arcs d i j) (λ y. cell arcs i y + layerAt arcs n k y j) (keptPrice (layerAt arcs n k i j)) 0 n (λ y p q. refl) (λ y p q. ap (λ c. cell arcs i y + c) (h y j (omega arith) m))
+    ∙ cheapest-cong (λ y. true) (λ y. true) (onward arcs d i j) (λ y. cell arcs i y + layerAt arcs n k y j) (keptPrice (layerAt arcs n k i j)) 0 n
+    (λ y p q. refl) (λ y p q. ap (λ c. cell arcs i y + c) (h y j (omega arith) m))

@@ -57,7 +57,8 @@ unfoldable pub levelsAt : (arcs terminals : List ℕ) → ℕ → ℕ → ℕ �
 levelsAt arcs terminals n k zero l = found.Nothing
 levelsAt arcs terminals n k (suc b) l = levelAt arcs terminals n k l (levelsAt arcs terminals n k b (suc l))
 
-pub levels-turn : (arcs terminals : List ℕ) (n k l : ℕ) → l < n → levelsAt arcs terminals n k (n - l) l ≡ levelAt arcs terminals n k l (levelsAt arcs terminals n k (n - (l + 1)) (l + 1))
+pub levels-turn : (arcs terminals : List ℕ) (n k l : ℕ) → l < n
+    → levelsAt arcs terminals n k (n - l) l ≡ levelAt arcs terminals n k l (levelsAt arcs terminals n k (n - (l + 1)) (l + 1))
 unfolding levelsAt
 levels-turn arcs terminals n k l h = let e : n - l ≡ suc (n - (l + 1)) = omega arith in rw (e, add-one)
 
@@ -71,40 +72,55 @@ levels-start arcs terminals n k = let e : n - 0 ≡ n = omega arith in ap (λ b.
 -- ---- a table that shows a layer finds what the layer does
 module _ (arcs terminals d : List ℕ) (n k l : ℕ) (fits : n ≤ 64) (shows : Rows d n (layerAt arcs n l)) where
   pub loop-is : (bound i : ℕ) → bound ≡ 2 * suc l + k → i ≡ diagAt (cell d) n bound → i ≡ levelLoop arcs n k l
-  loop-is bound i e q = q ∙ low-cong (λ i. ltb (cell d i i) bound) (λ i. ltb (layerAt arcs n l i i) (2 * suc l + k)) n (λ i h. ap₂ ltb (shows i i h (omega arith)) e)
+  loop-is bound i e q =
+      q ∙ low-cong (λ i. ltb (cell d i i) bound) (λ i. ltb (layerAt arcs n l i i) (2 * suc l + k)) n (λ i h. ap₂ ltb (shows i i h (omega arith)) e)
 
-  ends-is : (bound i : ℕ) → bound ≡ 2 * suc l + 4 + k → i < n → endsAt (cell d) terminals n bound i ≡ endsAt (layerAt arcs n l) terminals n (2 * suc l + 4 + k) i
+  ends-is : (bound i : ℕ) → bound ≡ 2 * suc l + 4 + k → i < n
+      → endsAt (cell d) terminals n bound i ≡ endsAt (layerAt arcs n l) terminals n (2 * suc l + 4 + k) i
   ends-is bound i e h = low-cong (λ j. ltb (cell d i j + cell terminals i j) bound) (λ j. ltb (layerAt arcs n l i j + cell terminals i j) (2 * suc l + 4 + k)) n
       (λ j g. ap₂ (λ x y. ltb (x + cell terminals i j) y) (shows i j h (omega arith)) e)
 
   pub row-is : (bound r : ℕ) → bound ≡ 2 * suc l + 4 + k → r ≡ pairAt (cell d) terminals n bound → r ≡ levelRow arcs terminals n k l
-  row-is bound r e q = q ∙ low-cong (λ i. ltb (endsAt (cell d) terminals n bound i) n) (λ i. ltb (endsAt (layerAt arcs n l) terminals n (2 * suc l + 4 + k) i) n) n (λ i h. ap (λ x. ltb x n) (ends-is bound i e h))
+  row-is bound r e q =
+      q
+      ∙ low-cong (λ i. ltb (endsAt (cell d) terminals n bound i) n) (λ i. ltb (endsAt (layerAt arcs n l) terminals n (2 * suc l + 4 + k) i) n) n
+      (λ i h. ap (λ x. ltb x n) (ends-is bound i e h))
 
-  pub column-is : (bound r c : ℕ) → bound ≡ 2 * suc l + 4 + k → r ≡ pairAt (cell d) terminals n bound → r < n → c ≡ endsAt (cell d) terminals n bound r → c ≡ levelColumn arcs terminals n k l
+  pub column-is : (bound r c : ℕ) → bound ≡ 2 * suc l + 4 + k → r ≡ pairAt (cell d) terminals n bound → r < n
+      → c ≡ endsAt (cell d) terminals n bound r → c ≡ levelColumn arcs terminals n k l
   column-is bound r c e q h p = p ∙ ends-is bound r e h ∙ ap (endsAt (layerAt arcs n l) terminals n (2 * suc l + 4 + k)) (row-is bound r e q)
 
   pub change-is : (e : List ℕ) (c : ℕ) → Rows e n (layerAt arcs n (suc l)) → c ≡ changedAt (cell d) (cell e) n → c ≡ levelChange arcs n l
   change-is e c g q = q ∙ low-cong (λ i. ltb (loweredAt (cell d) (cell e) n i) n) (λ i. ltb (loweredAt (layerAt arcs n l) (layerAt arcs n (suc l)) n i) n) n
-      (λ i h. ap (λ x. ltb x n) (low-cong (λ j. ltb (cell e i j) (keptPrice (cell d i j))) (λ j. ltb (layerAt arcs n (suc l) i j) (keptPrice (layerAt arcs n l i j))) n
+      (λ i h. ap (λ x. ltb x n)
+      (low-cong (λ j. ltb (cell e i j) (keptPrice (cell d i j))) (λ j. ltb (layerAt arcs n (suc l) i j) (keptPrice (layerAt arcs n l i j))) n
       (λ j p. ap₂ (λ x y. ltb x (keptPrice y)) (g i j h (omega arith)) (shows i j h (omega arith)))))
 
 -- ---- the ways out of a level
 module _ (arcs terminals : List ℕ) (n k l : ℕ) (rest : Found) where
   abbrev ask : Bool → Bool → Bool → Found
-  ask x y z = cond x (found.Closed l (levelLoop arcs n k l)) (cond y (found.Open l (levelRow arcs terminals n k l) (levelColumn arcs terminals n k l)) (cond z rest found.Nothing))
+  ask x y z =
+      cond x (found.Closed l (levelLoop arcs n k l))
+      (cond y (found.Open l (levelRow arcs terminals n k l) (levelColumn arcs terminals n k l)) (cond z rest found.Nothing))
 
   pub out-closed : (i : ℕ) → i ≡ levelLoop arcs n k l → i < n → found.Closed l i ≡ levelAt arcs terminals n k l rest
-  out-closed i e h = ap (found.Closed l) e ∙ sym (ap (λ x. ask x (ltb (levelRow arcs terminals n k l) n) (ltb (levelChange arcs n l) n)) (ap (λ j. ltb j n) (sym e) ∙ lt-ltb i n h))
+  out-closed i e h =
+      ap (found.Closed l) e
+      ∙ sym (ap (λ x. ask x (ltb (levelRow arcs terminals n k l) n) (ltb (levelChange arcs n l) n)) (ap (λ j. ltb j n) (sym e) ∙ lt-ltb i n h))
 
-  pub out-open : (i r c : ℕ) → i ≡ levelLoop arcs n k l → n ≤ i → r ≡ levelRow arcs terminals n k l → r < n → c ≡ levelColumn arcs terminals n k l → found.Open l r c ≡ levelAt arcs terminals n k l rest
+  pub out-open : (i r c : ℕ) → i ≡ levelLoop arcs n k l → n ≤ i → r ≡ levelRow arcs terminals n k l → r < n → c ≡ levelColumn arcs terminals n k l
+      → found.Open l r c ≡ levelAt arcs terminals n k l rest
   out-open i r c e h p g q = ap₂ (found.Open l) p q
       ∙ sym (ap₂ (λ x y. ask x y (ltb (levelChange arcs n l) n)) (ap (λ j. ltb j n) (sym e) ∙ le-ltb i n h) (ap (λ j. ltb j n) (sym p) ∙ lt-ltb r n g))
 
-  missed : (i r : ℕ) → i ≡ levelLoop arcs n k l → n ≤ i → r ≡ levelRow arcs terminals n k l → n ≤ r → levelAt arcs terminals n k l rest ≡ cond (ltb (levelChange arcs n l) n) rest found.Nothing
+  missed : (i r : ℕ) → i ≡ levelLoop arcs n k l → n ≤ i → r ≡ levelRow arcs terminals n k l → n ≤ r
+      → levelAt arcs terminals n k l rest ≡ cond (ltb (levelChange arcs n l) n) rest found.Nothing
   missed i r e h p g = ap₂ (λ x y. ask x y (ltb (levelChange arcs n l) n)) (ap (λ j. ltb j n) (sym e) ∙ le-ltb i n h) (ap (λ j. ltb j n) (sym p) ∙ le-ltb r n g)
 
-  pub out-nothing : (i r c : ℕ) → i ≡ levelLoop arcs n k l → n ≤ i → r ≡ levelRow arcs terminals n k l → n ≤ r → c ≡ levelChange arcs n l → n ≤ c → found.Nothing ≡ levelAt arcs terminals n k l rest
+  pub out-nothing : (i r c : ℕ) → i ≡ levelLoop arcs n k l → n ≤ i → r ≡ levelRow arcs terminals n k l → n ≤ r → c ≡ levelChange arcs n l → n ≤ c
+      → found.Nothing ≡ levelAt arcs terminals n k l rest
   out-nothing i r c e h p g q f = sym (missed i r e h p g ∙ ap (λ x. cond x rest found.Nothing) (ap (λ j. ltb j n) (sym q) ∙ le-ltb c n f))
 
-  pub out-on : (i r c : ℕ) → i ≡ levelLoop arcs n k l → n ≤ i → r ≡ levelRow arcs terminals n k l → n ≤ r → c ≡ levelChange arcs n l → c < n → rest ≡ levelAt arcs terminals n k l rest
+  pub out-on : (i r c : ℕ) → i ≡ levelLoop arcs n k l → n ≤ i → r ≡ levelRow arcs terminals n k l → n ≤ r → c ≡ levelChange arcs n l → c < n
+      → rest ≡ levelAt arcs terminals n k l rest
   out-on i r c e h p g q f = sym (missed i r e h p g ∙ ap (λ x. cond x rest found.Nothing) (ap (λ j. ltb j n) (sym q) ∙ lt-ltb c n f))

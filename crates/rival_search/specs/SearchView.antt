@@ -70,7 +70,8 @@ pub arc-small : (m : ℕ) (sv st rs rt : List ℕ) (plan : List Bool) (t b s a :
 unfolding arcPrice
 arc-small m sv st rs rt plan t b s a = cheapest-≤ (joining sv st plan t s) (priceOf rs rt b a) 133 0 m
 
-pub arc-cheap : (m : ℕ) (sv st rs rt : List ℕ) (plan : List Bool) (t b s a : ℕ) → arcPrice m sv st rs rt plan t b s a < 133 → arcPrice m sv st rs rt plan t b s a ≤ 4
+pub arc-cheap : (m : ℕ) (sv st rs rt : List ℕ) (plan : List Bool) (t b s a : ℕ) → arcPrice m sv st rs rt plan t b s a < 133
+    → arcPrice m sv st rs rt plan t b s a ≤ 4
 unfolding arcPrice
 arc-cheap m sv st rs rt plan t b s a h = ⊎-elim
     (λ e. absurd (omega arith))
@@ -86,8 +87,10 @@ unfolding gainPrice
 gain-small m end other rank plan room e b = cheapest-≤ (gainable end other plan room e) (λ f. rate b (at rank f)) 6 0 m
 
 -- ---- the tables show the instance's prices
-module _ (m ns nt : ℕ) (sv st rs rt : List ℕ) (tied : List Bool) (quotaS quotaT : List ℕ) (plan : List Bool) (n : ℕ) (es ps pt qs qt : List ℕ) (roomS roomT : List Bool)
-    (lowS : Low m sv 32) (lowT : Low m st 32) (lists : Lists m plan n es) (views : Views n es sv st rs rt ps pt qs qt) (roomyS : Roomy n ps quotaS roomS) (roomyT : Roomy n pt quotaT roomT) where
+module _ (m ns nt : ℕ) (sv st rs rt : List ℕ) (tied : List Bool) (quotaS quotaT : List ℕ) (plan : List Bool) (n : ℕ) (es ps pt qs qt : List ℕ)
+    (roomS roomT : List Bool)
+    (lowS : Low m sv 32) (lowT : Low m st 32) (lists : Lists m plan n es) (views : Views n es sv st rs rt ps pt qs qt)
+    (roomyS : Roomy n ps quotaS roomS) (roomyT : Roomy n pt quotaT roomT) where
   abbrev G : Instance
   G = shown m ns nt sv st rs rt tied quotaS quotaT
 
@@ -96,7 +99,8 @@ module _ (m ns nt : ℕ) (sv st rs rt : List ℕ) (tied : List Bool) (quotaS quo
 
   pub arc-shown : (i j : ℕ) → i < n → j < n → arcCell m sv st rs rt plan ps pt qs qt i j ≡ arc G M 133 (at es i) (at es j) .0
   unfolding arcPrice
-  arc-shown i j il jl = cheapest-cong (joining sv st plan (at pt i) (at ps j)) (λ f. not (M f) && (eqb (at st f) (at st (at es i)) && eqb (at sv f) (at sv (at es j))))
+  arc-shown i j il jl =
+      cheapest-cong (joining sv st plan (at pt i) (at ps j)) (λ f. not (M f) && (eqb (at st f) (at st (at es i)) && eqb (at sv f) (at sv (at es j))))
       (priceOf rs rt (at qt i) (at qs j)) (λ f. rate (at rt (at es i)) (at rt f) + rate (at rs (at es j)) (at rs f)) 133 0 m
       (λ f p q. ap₂ (λ t s. not (M f) && (eqb (at st f) t && eqb (at sv f) s)) (views .st-at i il) (views .sv-at j jl))
       (λ f p q. ap₂ (λ b a. rate b (at rt f) + rate a (at rs f)) (views .rt-at i il) (views .rs-at j jl))
@@ -120,17 +124,25 @@ module _ (m ns nt : ℕ) (sv st rs rt : List ℕ) (tied : List Bool) (quotaS quo
   pub terminal-shown : (i j : ℕ) → i < n → j < n → terminalCell m sv st rs rt plan roomS roomT ps pt qs qt i j ≡ terminal G M (at es i) (at es j) .0
   unfolding gainPrice gainPriceBut
   terminal-shown i j il jl = ap₂ (λ a b. min (a + 3) b) (ap₂ min
-      (cheapest-cong (gainableBut sv st plan roomT (at ps i) (at pt j)) (λ f. (not (M f) && (eqb (at sv f) (at sv x) && room? M (stands G) f)) && not (eqb (at st f) (at st y))) (λ f. rate (at qs i) (at rs f)) (λ f. rate (at rs x) (at rs f)) 3 0 m
-      (λ f p q. ap₂ (λ s t. (not (M f) && (eqb (at sv f) s && flag roomT (at st f))) && not (eqb (at st f) t)) (views .sv-at i il) (views .st-at j jl) ∙ ap (λ r. (not (M f) && (eqb (at sv f) (at sv x) && r)) && not (eqb (at st f) (at st y))) (room-T f (omega arith)))
+      (cheapest-cong (gainableBut sv st plan roomT (at ps i) (at pt j))
+      (λ f. (not (M f) && (eqb (at sv f) (at sv x) && room? M (stands G) f)) && not (eqb (at st f) (at st y))) (λ f. rate (at qs i) (at rs f))
+      (λ f. rate (at rs x) (at rs f)) 3 0 m
+      (λ f p q. ap₂ (λ s t. (not (M f) && (eqb (at sv f) s && flag roomT (at st f))) && not (eqb (at st f) t)) (views .sv-at i il) (views .st-at j jl)
+      ∙ ap (λ r. (not (M f) && (eqb (at sv f) (at sv x) && r)) && not (eqb (at st f) (at st y))) (room-T f (omega arith)))
       (λ f p q. ap (λ a. rate a (at rs f)) (views .rs-at i il)))
-      (cheapest-cong (gainableBut st sv plan roomS (at pt j) (at ps i)) (λ f. (not (M f) && (eqb (at st f) (at st y) && room? M (surveyors G) f)) && not (eqb (at sv f) (at sv x))) (λ f. rate (at qt j) (at rt f)) (λ f. rate (at rt y) (at rt f)) 3 0 m
-      (λ f p q. ap₂ (λ s t. (not (M f) && (eqb (at st f) t && flag roomS (at sv f))) && not (eqb (at sv f) s)) (views .sv-at i il) (views .st-at j jl) ∙ ap (λ r. (not (M f) && (eqb (at st f) (at st y) && r)) && not (eqb (at sv f) (at sv x))) (room-S f (omega arith)))
+      (cheapest-cong (gainableBut st sv plan roomS (at pt j) (at ps i))
+      (λ f. (not (M f) && (eqb (at st f) (at st y) && room? M (surveyors G) f)) && not (eqb (at sv f) (at sv x))) (λ f. rate (at qt j) (at rt f))
+      (λ f. rate (at rt y) (at rt f)) 3 0 m
+      (λ f p q. ap₂ (λ s t. (not (M f) && (eqb (at st f) t && flag roomS (at sv f))) && not (eqb (at sv f) s)) (views .sv-at i il) (views .st-at j jl)
+      ∙ ap (λ r. (not (M f) && (eqb (at st f) (at st y) && r)) && not (eqb (at sv f) (at sv x))) (room-S f (omega arith)))
       (λ f p q. ap (λ a. rate a (at rt f)) (views .rt-at j jl))))
       (ap₂ (λ a b. a + b)
-      (cheapest-cong (gainable sv st plan roomT (at ps i)) (λ f. not (M f) && (eqb (at sv f) (at sv x) && room? M (stands G) f)) (λ f. rate (at qs i) (at rs f)) (λ f. rate (at rs x) (at rs f)) 6 0 m
+      (cheapest-cong (gainable sv st plan roomT (at ps i)) (λ f. not (M f) && (eqb (at sv f) (at sv x) && room? M (stands G) f))
+      (λ f. rate (at qs i) (at rs f)) (λ f. rate (at rs x) (at rs f)) 6 0 m
       (λ f p q. ap₂ (λ s r. not (M f) && (eqb (at sv f) s && r)) (views .sv-at i il) (room-T f (omega arith)))
       (λ f p q. ap (λ a. rate a (at rs f)) (views .rs-at i il)))
-      (cheapest-cong (gainable st sv plan roomS (at pt j)) (λ f. not (M f) && (eqb (at st f) (at st y) && room? M (surveyors G) f)) (λ f. rate (at qt j) (at rt f)) (λ f. rate (at rt y) (at rt f)) 6 0 m
+      (cheapest-cong (gainable st sv plan roomS (at pt j)) (λ f. not (M f) && (eqb (at st f) (at st y) && room? M (surveyors G) f))
+      (λ f. rate (at qt j) (at rt f)) (λ f. rate (at rt y) (at rt f)) 6 0 m
       (λ f p q. ap₂ (λ s r. not (M f) && (eqb (at st f) s && r)) (views .st-at j jl) (room-S f (omega arith)))
       (λ f p q. ap (λ a. rate a (at rt f)) (views .rt-at j jl))))
       ∙ sym (terminal-is G M (at es i) (at es j))
@@ -141,8 +153,10 @@ module _ (m ns nt : ℕ) (sv st rs rt : List ℕ) (tied : List Bool) (quotaS quo
       y : ℕ
       y = at es j
 
-  pub search-shown : (arcs terminals : List ℕ) (k : ℕ) → Grid arcs n (arcCell m sv st rs rt plan ps pt qs qt) → Grid terminals n (terminalCell m sv st rs rt plan roomS roomT ps pt qs qt)
+  pub search-shown : (arcs terminals : List ℕ) (k : ℕ) → Grid arcs n (arcCell m sv st rs rt plan ps pt qs qt)
+      → Grid terminals n (terminalCell m sv st rs rt plan roomS roomT ps pt qs qt)
       → 2 * n + 4 + k ≤ 133 → hitOf G M es (searchAt m (freeAt sv st plan roomS roomT) arcs terminals n k) ≡ search G M 133 k n
   search-shown arcs terminals k a t h =
-      search-is G M es n lists arcs terminals (λ i j il jl. a i j il jl ∙ arc-shown i j il jl) (λ i j il jl. t i j il jl ∙ terminal-shown i j il jl) k (freeAt sv st plan roomS roomT) free-shown
+      search-is G M es n lists arcs terminals (λ i j il jl. a i j il jl ∙ arc-shown i j il jl) (λ i j il jl. t i j il jl ∙ terminal-shown i j il jl)
+      k (freeAt sv st plan roomS roomT) free-shown
       ∙ search-same G M 133 k n h

@@ -26,9 +26,13 @@ searched (found.Closed l i) o = (true, found.Closed l i)
 searched (found.Open l i j) o = (true, found.Open l i j)
 
 -- on the table of the arcs and that of the ends
-abbrev pub Searched : (m : ℕ) (sv st rs rt : List ℕ) (plan : List Bool) (n : ℕ) (ps pt qs qt : List ℕ) (roomS roomT : List Bool) (arcs : List ℕ) → Bool → Found → Type 0
-Searched m sv st rs rt plan n ps pt qs qt roomS roomT arcs below what = (terminals : List ℕ) × Grid terminals n (terminalCell m sv st rs rt plan roomS roomT ps pt qs qt)
-    × (_≡_ {A = Bool × Found} (below, what) (searched (searchAt m (freeAt sv st plan roomS roomT) arcs terminals n 0) (searchAt m (freeAt sv st plan roomS roomT) arcs terminals n 1)))
+abbrev pub Searched : (m : ℕ) (sv st rs rt : List ℕ) (plan : List Bool) (n : ℕ) (ps pt qs qt : List ℕ) (roomS roomT : List Bool) (arcs : List ℕ)
+    → Bool → Found → Type 0
+Searched m sv st rs rt plan n ps pt qs qt roomS roomT arcs below what =
+    (terminals : List ℕ) × Grid terminals n (terminalCell m sv st rs rt plan roomS roomT ps pt qs qt)
+    ×
+    (_≡_ {A = Bool × Found} (below, what)
+    (searched (searchAt m (freeAt sv st plan roomS roomT) arcs terminals n 0) (searchAt m (freeAt sv st plan roomS roomT) arcs terminals n 1)))
 
 pub searched-hit : (G : Instance) (M : ℕ → Bool) (es : List ℕ) (a b : Found) → hitOf G M es (searched a b .1) ≡ orElse (hitOf G M es a) (hitOf G M es b)
 unfolding orElse
@@ -64,18 +68,23 @@ module _ (m : ℕ) (arcs terminals : List ℕ) (n k : ℕ) where
       (λ t. if-ind (Bounded m n) (ltb (levelChange arcs n l) n) (λ t. levels-bounded b (suc l) (omega arith)) (λ t. tt)))
     where
       column : levelRow arcs terminals n k l < n → levelColumn arcs terminals n k l < n
-      column h = let (a, b, c) = low-is (λ i. ltb (endsAt (layerAt arcs n l) terminals n (2 * suc l + 4 + k) i) n) n in ltb→lt (levelColumn arcs terminals n k l) n (c h)
+      column h =
+          let (a, b, c) = low-is (λ i. ltb (endsAt (layerAt arcs n l) terminals n (2 * suc l + 4 + k) i) n) n in
+          ltb→lt (levelColumn arcs terminals n k l) n (c h)
 
   search-bounded : (free : ℕ → Bool) → Bounded m n (searchAt m free arcs terminals n k)
   unfolding searchAt
   search-bounded free = if-ind (Bounded m n) (ltb (low free m) m)
       (λ t. ltb→lt (low free m) m t)
-      (λ t. if-ind (Bounded m n) (ltb (diagAt (cell terminals) n (4 + k)) n) (λ t. ltb→lt (diagAt (cell terminals) n (4 + k)) n t) (λ t. levels-bounded n 0 (omega arith)))
+      (λ t. if-ind (Bounded m n) (ltb (diagAt (cell terminals) n (4 + k)) n) (λ t. ltb→lt (diagAt (cell terminals) n (4 + k)) n t)
+      (λ t. levels-bounded n 0 (omega arith)))
 
-pub searching-bounded : (m : ℕ) (sv st rs rt : List ℕ) (plan : List Bool) (n : ℕ) (ps pt qs qt : List ℕ) (roomS roomT : List Bool) (arcs : List ℕ) (below : Bool) (what : Found)
+pub searching-bounded : (m : ℕ) (sv st rs rt : List ℕ) (plan : List Bool) (n : ℕ) (ps pt qs qt : List ℕ) (roomS roomT : List Bool) (arcs : List ℕ)
+    (below : Bool) (what : Found)
     → Searched m sv st rs rt plan n ps pt qs qt roomS roomT arcs below what → Bounded m n what
 searching-bounded m sv st rs rt plan n ps pt qs qt roomS roomT arcs below what (terminals, t, e) = subst (λ (h : Bool × Found). Bounded m n (h .1)) (sym e)
-    (searched-bounded m n (searchAt m free arcs terminals n 0) (searchAt m free arcs terminals n 1) (search-bounded m arcs terminals n 0 free) (search-bounded m arcs terminals n 1 free))
+    (searched-bounded m n (searchAt m free arcs terminals n 0) (searchAt m free arcs terminals n 1) (search-bounded m arcs terminals n 0 free)
+    (search-bounded m arcs terminals n 1 free))
   where
     free : ℕ → Bool
     free = freeAt sv st plan roomS roomT

@@ -21,7 +21,9 @@ module _ {B : Type 0} (bid : ℕ → ℕ × B) (t : ℕ → Bool) where
       let s : suc i ≡ i + 1 = omega arith in
       ap (λ k. best bid held (keep t (range i k))) e ∙ go (t i) ∙ ap (λ k. best bid (taken held i) (keep t (range k (m - (i + 1))))) s
     where
-      go : (b : Bool) → best bid held (cond b (i ∷ keep t (range (suc i) (m - (i + 1)))) (keep t (range (suc i) (m - (i + 1))))) ≡ best bid (cond (b && ltb (bid i .0) (held .0)) (bid i) held) (keep t (range (suc i) (m - (i + 1))))
+      go : (b : Bool)
+          → best bid held (cond b (i ∷ keep t (range (suc i) (m - (i + 1)))) (keep t (range (suc i) (m - (i + 1))))) ≡ best bid
+          (cond (b && ltb (bid i .0) (held .0)) (bid i) held) (keep t (range (suc i) (m - (i + 1))))
       go true = refl
       go false = refl
 
@@ -52,17 +54,20 @@ module _ {A B : Type 0} (bid : A → ℕ × B) where
       ∙ ap (λ (o : ℕ × B). best offer (cond (ltb (o .0) (held .0)) o held) xs) (h x (List·Memᴰ·head refl))
 
   -- what passes a test twice
-  pub best-keep-map : {C : Type 0} (p : A → Bool) (h : C → A) (t : C → Bool) (held : ℕ × B) (xs : List C) → best bid held (keep p (map h (keep t xs))) ≡ best (λ c. bid (h c)) held (keep (λ c. t c && p (h c)) xs)
+  pub best-keep-map : {C : Type 0} (p : A → Bool) (h : C → A) (t : C → Bool) (held : ℕ × B) (xs : List C)
+      → best bid held (keep p (map h (keep t xs))) ≡ best (λ c. bid (h c)) held (keep (λ c. t c && p (h c)) xs)
   unfolding best
   best-keep-map p h t held [] = refl
   best-keep-map p h t held (x ∷ xs) = go (t x) (p (h x)) (λ held. best-keep-map p h t held xs)
     where
       go : (a b : Bool) → ((held : ℕ × B) → best bid held (keep p (map h (keep t xs))) ≡ best (λ c. bid (h c)) held (keep (λ c. t c && p (h c)) xs))
-          → best bid held (keep p (map h (cond a (x ∷ keep t xs) (keep t xs)))) ≡ best (λ c. bid (h c)) held (cond (a && p (h x)) (x ∷ keep (λ c. t c && p (h c)) xs) (keep (λ c. t c && p (h c)) xs))
+          → best bid held (keep p (map h (cond a (x ∷ keep t xs) (keep t xs)))) ≡ best (λ c. bid (h c)) held
+          (cond (a && p (h x)) (x ∷ keep (λ c. t c && p (h c)) xs) (keep (λ c. t c && p (h c)) xs))
       go true b ih = passed (p (h x)) ih
         where
           passed : (b : Bool) → ((held : ℕ × B) → best bid held (keep p (map h (keep t xs))) ≡ best (λ c. bid (h c)) held (keep (λ c. t c && p (h c)) xs))
-              → best bid held (cond b (h x ∷ keep p (map h (keep t xs))) (keep p (map h (keep t xs)))) ≡ best (λ c. bid (h c)) held (cond b (x ∷ keep (λ c. t c && p (h c)) xs) (keep (λ c. t c && p (h c)) xs))
+              → best bid held (cond b (h x ∷ keep p (map h (keep t xs))) (keep p (map h (keep t xs)))) ≡ best (λ c. bid (h c)) held
+              (cond b (x ∷ keep (λ c. t c && p (h c)) xs) (keep (λ c. t c && p (h c)) xs))
           passed true ih = ih (cond (ltb (bid (h x) .0) (held .0)) (bid (h x)) held)
           passed false ih = ih held
       go false b ih = ih held
@@ -79,6 +84,7 @@ module _ {A B C D : Type 0} (bid : A → ℕ × B) (call : C → ℕ × D) (g : 
       ap (λ (o : ℕ × B). best bid (cond (ltb (o .0) (held .0)) o (named held)) (map g xs)) (h x (List·Memᴰ·head refl))
       ∙ go (ltb (call x .0) (held .0)) (λ held. best-named held xs (λ c m. h c (List·Memᴰ·tail m)))
     where
-      go : (b : Bool) → ((held : ℕ × D) → best bid (named held) (map g xs) ≡ named (best call held xs)) → best bid (cond b (named (call x)) (named held)) (map g xs) ≡ named (best call (cond b (call x) held) xs)
+      go : (b : Bool) → ((held : ℕ × D) → best bid (named held) (map g xs) ≡ named (best call held xs))
+          → best bid (cond b (named (call x)) (named held)) (map g xs) ≡ named (best call (cond b (call x) held) xs)
       go true ih = ih (call x)
       go false ih = ih held

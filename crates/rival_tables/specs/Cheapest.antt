@@ -32,7 +32,8 @@ unfolding cheapest
 cheapest-end t p v i m h = let e : m - i ≡ 0 = omega arith in rw e
 
 -- tests and prices that agree on the numbers in question
-pub cheapest-cong : (t u : ℕ → Bool) (p q : ℕ → ℕ) (v i n : ℕ) → ((e : ℕ) → i ≤ e → e < i + n → t e ≡ u e) → ((e : ℕ) → i ≤ e → e < i + n → p e ≡ q e) → cheapest t p v i n ≡ cheapest u q v i n
+pub cheapest-cong : (t u : ℕ → Bool) (p q : ℕ → ℕ) (v i n : ℕ) → ((e : ℕ) → i ≤ e → e < i + n → t e ≡ u e)
+    → ((e : ℕ) → i ≤ e → e < i + n → p e ≡ q e) → cheapest t p v i n ≡ cheapest u q v i n
 unfolding cheapest
 cheapest-cong t u p q v i zero h k = refl
 cheapest-cong t u p q v i (suc n) h k =
@@ -59,16 +60,20 @@ module _ {A B : Type 0} (bid : A → ℕ × B) where
   unfolding best cheapest
   best-map g held i zero = refl
   best-map g held i (suc n) =
-      best-map g (cond (ltb (bid (g i) .0) (held .0)) (bid (g i)) held) (suc i) n ∙ ap (λ v. cheapest (λ j. true) (λ j. bid (g j) .0) v (suc i) n) (taken (g i) held)
+      best-map g (cond (ltb (bid (g i) .0) (held .0)) (bid (g i)) held) (suc i) n
+      ∙ ap (λ v. cheapest (λ j. true) (λ j. bid (g j) .0) v (suc i) n) (taken (g i) held)
 
-pub best-keep : {B : Type 0} (bid : ℕ → ℕ × B) (t : ℕ → Bool) (held : ℕ × B) (i n : ℕ) → best bid held (keep t (range i n)) .0 ≡ cheapest t (λ j. bid j .0) (held .0) i n
+pub best-keep : {B : Type 0} (bid : ℕ → ℕ × B) (t : ℕ → Bool) (held : ℕ × B) (i n : ℕ)
+    → best bid held (keep t (range i n)) .0 ≡ cheapest t (λ j. bid j .0) (held .0) i n
 unfolding best cheapest
 best-keep bid t held i zero = refl
 best-keep {B} bid t held i (suc n) = go (t i) (best-keep bid t held (suc i) n) (best-keep bid t (cond (ltb (bid i .0) (held .0)) (bid i) held) (suc i) n)
   where
     go : (b : Bool) → best bid held (keep t (range (suc i) n)) .0 ≡ cheapest t (λ j. bid j .0) (held .0) (suc i) n
-        → best bid (cond (ltb (bid i .0) (held .0)) (bid i) held) (keep t (range (suc i) n)) .0 ≡ cheapest t (λ j. bid j .0) (cond (ltb (bid i .0) (held .0)) (bid i) held .0) (suc i) n
-        → best bid held (cond b (i ∷ keep t (range (suc i) n)) (keep t (range (suc i) n))) .0 ≡ cheapest t (λ j. bid j .0) (offer b (bid i .0) (held .0)) (suc i) n
+        → best bid (cond (ltb (bid i .0) (held .0)) (bid i) held) (keep t (range (suc i) n)) .0 ≡ cheapest t (λ j. bid j .0)
+        (cond (ltb (bid i .0) (held .0)) (bid i) held .0) (suc i) n
+        → best bid held (cond b (i ∷ keep t (range (suc i) n)) (keep t (range (suc i) n))) .0 ≡ cheapest t (λ j. bid j .0)
+        (offer b (bid i .0) (held .0)) (suc i) n
     go true p q = q ∙ ap (λ v. cheapest t (λ j. bid j .0) v (suc i) n) (taken bid i held)
     go false p q = p
 
@@ -81,7 +86,8 @@ cheapest-at t p v i (suc n) e l h k = by-bool (ltb i e)
     (λ q. let s : i ≡ e = omega (arith, ltb-false i e q) in
     omega (arith, cheapest-≤ t p (offer (t i) (p i) v) (suc i) n, ap (λ b. offer b (p i) v) (ap t s ∙ k), ap p s))
 
-pub cheapest-reach : (t : ℕ → Bool) (p : ℕ → ℕ) (v i n : ℕ) → (cheapest t p v i n ≡ v) ⊎ ((e : ℕ) × (i ≤ e) × (e < i + n) × (t e ≡ true) × (cheapest t p v i n ≡ p e))
+pub cheapest-reach : (t : ℕ → Bool) (p : ℕ → ℕ) (v i n : ℕ)
+    → (cheapest t p v i n ≡ v) ⊎ ((e : ℕ) × (i ≤ e) × (e < i + n) × (t e ≡ true) × (cheapest t p v i n ≡ p e))
 unfolding cheapest
 cheapest-reach t p v i zero = inl refl
 cheapest-reach t p v i (suc n) = ⊎-elim
@@ -90,7 +96,9 @@ cheapest-reach t p v i (suc n) = ⊎-elim
     (cheapest-reach t p (offer (t i) (p i) v) (suc i) n)
   where
     here : (b : Bool) → t i ≡ b → cheapest t p (offer (t i) (p i) v) (suc i) n ≡ offer b (p i) v
-        → (cheapest t p (offer (t i) (p i) v) (suc i) n ≡ v) ⊎ ((e : ℕ) × (i ≤ e) × (e < i + suc n) × (t e ≡ true) × (cheapest t p (offer (t i) (p i) v) (suc i) n ≡ p e))
+        →
+        (cheapest t p (offer (t i) (p i) v) (suc i) n ≡ v) ⊎ ((e : ℕ) × (i ≤ e) × (e < i + suc n) × (t e ≡ true)
+        × (cheapest t p (offer (t i) (p i) v) (suc i) n ≡ p e))
     here true s q = by-bool (ltb (p i) v)
         (λ d. inr (i, omega arith, omega arith, s, omega (arith, ltb-true (p i) v d)))
         (λ d. inl (omega (arith, ltb-false (p i) v d)))

@@ -64,13 +64,18 @@ put-start t row i a b h = go (eqb a i)
     go true = sym (ap (λ s. cond s (at row b) (cell t a b)) (le-ltb b 0 (omega arith)))
     go false = refl
 
-pub put-next : (t row : List ℕ) (i k : ℕ) (r : List ℕ) → i * 64 + k < length r → k < 64 → Putting t row i k r → Putting t row i (k + 1) (set r (i * 64 + k) (at row k))
+pub put-next : (t row : List ℕ) (i k : ℕ) (r : List ℕ) → i * 64 + k < length r → k < 64 → Putting t row i k r
+    → Putting t row i (k + 1) (set r (i * 64 + k) (at row k))
 put-next t row i k r l kl h a b bl = by-eq a i
     (λ e s. by-eq b k
     (λ d u. subst (λ z. at (set r (i * 64 + k) (at row k)) z ≡ cond (eqb a i) (cond (ltb b (k + 1)) (at row b) (cell t a b)) (cell t a b)) (same e d)
-    (getD-set-same r (i * 64 + k) (at row k) 0 l ∙ ap (at row) (sym d) ∙ sym (ap₂ (λ x y. cond x (cond y (at row b) (cell t a b)) (cell t a b)) s (lt-ltb b (k + 1) (omega arith)))))
-    (λ n u. getD-set-other r (i * 64 + k) (a * 64 + b) (at row k) 0 (λ q. n (omega arith)) ∙ h a b bl ∙ ap (λ x. cond (eqb a i) (cond x (at row b) (cell t a b)) (cell t a b)) (other n)))
-    (λ n s. getD-set-other r (i * 64 + k) (a * 64 + b) (at row k) 0 (λ q. n (omega arith)) ∙ h a b bl ∙ ap (λ x. cond x (cond (ltb b k) (at row b) (cell t a b)) (cell t a b)) s ∙ sym (ap (λ x. cond x (cond (ltb b (k + 1)) (at row b) (cell t a b)) (cell t a b)) s))
+    (getD-set-same r (i * 64 + k) (at row k) 0 l ∙ ap (at row) (sym d)
+    ∙ sym (ap₂ (λ x y. cond x (cond y (at row b) (cell t a b)) (cell t a b)) s (lt-ltb b (k + 1) (omega arith)))))
+    (λ n u. getD-set-other r (i * 64 + k) (a * 64 + b) (at row k) 0 (λ q. n (omega arith)) ∙ h a b bl
+    ∙ ap (λ x. cond (eqb a i) (cond x (at row b) (cell t a b)) (cell t a b)) (other n)))
+    (λ n s. getD-set-other r (i * 64 + k) (a * 64 + b) (at row k) 0 (λ q. n (omega arith)) ∙ h a b bl
+    ∙ ap (λ x. cond x (cond (ltb b k) (at row b) (cell t a b)) (cell t a b)) s
+    ∙ sym (ap (λ x. cond x (cond (ltb b (k + 1)) (at row b) (cell t a b)) (cell t a b)) s))
   where
     same : a ≡ i → b ≡ k → i * 64 + k ≡ a * 64 + b
     same e d = omega arith

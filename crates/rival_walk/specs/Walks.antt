@@ -56,13 +56,20 @@ module _ (by : ℕ → ℕ → ℕ) (es arcs : List ℕ) (n j : ℕ) where
   -- ---- while it is read back: what is marked, and what the walk from c still names, are what the whole walk of level l from i names
   module _ (l i : ℕ) (gone₀ come₀ : List Bool) where
     abbrev pub Read : List Bool → List Bool → ℕ → ℕ → Type 0
-    Read gone come k c = (e : ℕ) → (flag gone e || listed e (zs (walkAt k c)) ≡ flag gone₀ e || listed e (zs (walkAt l i))) × (flag come e || listed e (fs (walkAt k c)) ≡ flag come₀ e || listed e (fs (walkAt l i)))
+    Read gone come k c =
+        (e : ℕ)
+        → (flag gone e || listed e (zs (walkAt k c)) ≡ flag gone₀ e || listed e (zs (walkAt l i)))
+        × (flag come e || listed e (fs (walkAt k c)) ≡ flag come₀ e || listed e (fs (walkAt l i)))
 
     module _ (gone come : List Bool) (k c y : ℕ) (read : Read gone come k c) (pos : 0 < k) (is : y ≡ ahead (k - 1) c) (gone′ come′ : List Bool) (c′ : ℕ) where
-      pub read-on : (f : ℕ) → y < n → at es y < length gone → f ≡ by (at es c) (at es y) → f < length come → gone′ ≡ set gone (at es y) true → come′ ≡ set come f true → c′ ≡ y → Read gone′ come′ (k - 1) c′
+      pub read-on : (f : ℕ) → y < n → at es y < length gone → f ≡ by (at es c) (at es y) → f < length come → gone′ ≡ set gone (at es y) true
+          → come′ ≡ set come f true → c′ ≡ y → Read gone′ come′ (k - 1) c′
       read-on f h g q l u v w e = (
-        ap₂ (λ r c. flag r e || listed e (zs (walkAt (k - 1) c))) u w ∙ note gone (at es y) (zs (walkAt (k - 1) y)) e g ∙ ap (λ w. flag gone e || listed e (zs w)) (sym (walk-on k c y pos is h)) ∙ read e .0,
-        ap₂ (λ r c. flag r e || listed e (fs (walkAt (k - 1) c))) v w ∙ note come f (fs (walkAt (k - 1) y)) e l ∙ ap (λ f. flag come e || listed e (f ∷ fs (walkAt (k - 1) y))) q ∙ ap (λ w. flag come e || listed e (fs w)) (sym (walk-on k c y pos is h)) ∙ read e .1,
+        ap₂ (λ r c. flag r e || listed e (zs (walkAt (k - 1) c))) u w ∙ note gone (at es y) (zs (walkAt (k - 1) y)) e g
+            ∙ ap (λ w. flag gone e || listed e (zs w)) (sym (walk-on k c y pos is h)) ∙ read e .0,
+        ap₂ (λ r c. flag r e || listed e (fs (walkAt (k - 1) c))) v w ∙ note come f (fs (walkAt (k - 1) y)) e l
+            ∙ ap (λ f. flag come e || listed e (f ∷ fs (walkAt (k - 1) y))) q ∙ ap (λ w. flag come e || listed e (fs w)) (sym (walk-on k c y pos is h))
+            ∙ read e .1,
       )
 
       pub read-stay : n ≤ y → gone′ ≡ gone → come′ ≡ come → c′ ≡ c → Read gone′ come′ (k - 1) c′
@@ -75,7 +82,8 @@ module _ (by : ℕ → ℕ → ℕ) (es arcs : List ℕ) (n j : ℕ) where
         → Marked gone₀ (zs (walkAt l i)) (set gone (at es j) true) × Marked come₀ (fs (walkAt l i)) (set come f true)
     read-last gone come k c f read z g q h = (
       λ e. none-left (flag (set gone (at es j) true) e) e ∙ note gone (at es j) [] e g ∙ ap (λ w. flag gone e || listed e (zs w)) (sym last) ∙ read e .0,
-      λ e. none-left (flag (set come f true) e) e ∙ note come f [] e h ∙ ap (λ f. flag come e || listed e (f ∷ [])) q ∙ ap (λ w. flag come e || listed e (fs w)) (sym last) ∙ read e .1,
+      λ e. none-left (flag (set come f true) e) e ∙ note come f [] e h ∙ ap (λ f. flag come e || listed e (f ∷ [])) q
+          ∙ ap (λ w. flag come e || listed e (fs w)) (sym last) ∙ read e .1,
     )
       where
         last : walkAt k c ≡ arcTo c j ∷ []
@@ -83,7 +91,8 @@ module _ (by : ℕ → ℕ → ℕ) (es arcs : List ℕ) (n j : ℕ) where
 
 -- ---- it is the search's
 module _ (G : Instance) (M : ℕ → Bool) (es : List ℕ) (n : ℕ) (lists : olds G M ≡ map (at es) (range 0 n))
-    (arcs terminals : List ℕ) (arcsShow : Grid arcs n (λ i j. arc G M 133 (at es i) (at es j) .0)) (terminalsShow : Grid terminals n (λ i j. terminal G M (at es i) (at es j) .0)) where
+    (arcs terminals : List ℕ) (arcsShow : Grid arcs n (λ i j. arc G M 133 (at es i) (at es j) .0))
+    (terminalsShow : Grid terminals n (λ i j. terminal G M (at es i) (at es j) .0)) where
   abbrev by : ℕ → ℕ → ℕ
   by x z = arc G M 133 x z .1
 
@@ -94,7 +103,9 @@ module _ (G : Instance) (M : ℕ → Bool) (es : List ℕ) (n : ℕ) (lists : ol
   unfolding layer leadAt
   lead-is k i j il jl =
       ap (λ xs. best bid (kept 133 (walkPrice G M 133 k (at es i) (at es j)), stay) xs .1) lists
-      ∙ ap₂ (λ v l. best bid (v, l) (map (at es) (range 0 n)) .1) (ap keptPrice (layer-is G M es n lists arcs terminals arcsShow terminalsShow k i j il jl)) (sym (ap (λ (b : Bool). cond b (via (at es n)) stay) (le-ltb n n (omega arith))))
+      ∙ ap₂ (λ v l. best bid (v, l) (map (at es) (range 0 n)) .1)
+      (ap keptPrice (layer-is G M es n lists arcs terminals arcsShow terminalsShow k i j il jl))
+      (sym (ap (λ (b : Bool). cond b (via (at es n)) stay) (le-ltb n n (omega arith))))
       ∙ ap (λ c. c .1) (best-named bid (bidAt arcs column i) (at es) named (keptPrice (column i), n) (range 0 n) same)
       ∙ ap (λ xs. named (best (bidAt arcs column i) (keptPrice (column i), n) xs .1)) (sym (keep-all (range 0 n)))
     where
@@ -108,7 +119,9 @@ module _ (G : Instance) (M : ℕ → Bool) (es : List ℕ) (n : ℕ) (lists : ol
       same y m =
           let (u, w) = ∈-range n 0 m in
           let l : y < n = omega arith in
-          ap₂ (λ (p : ℕ) (l : Lead). (p, l)) (ap₂ (λ a b. a + b) (sym (arcsShow i y il l)) (layer-is G M es n lists arcs terminals arcsShow terminalsShow k y j l jl)) (sym (ap (λ (b : Bool). cond b (via (at es y)) stay) (lt-ltb y n l)))
+          ap₂ (λ (p : ℕ) (l : Lead). (p, l))
+          (ap₂ (λ a b. a + b) (sym (arcsShow i y il l)) (layer-is G M es n lists arcs terminals arcsShow terminalsShow k y j l jl))
+          (sym (ap (λ (b : Bool). cond b (via (at es y)) stay) (lt-ltb y n l)))
 
   pub trace-is : (k i j : ℕ) → i < n → j < n → trace G M 133 k (at es i) (at es j) ≡ walkAt by es arcs n j k i
   unfolding trace walkAt
@@ -116,10 +129,14 @@ module _ (G : Instance) (M : ℕ → Bool) (es : List ℕ) (n : ℕ) (lists : ol
   trace-is (suc k) i j il jl =
       ap (λ l. onLead l (trace G M 133 k (at es i) (at es j)) (λ y. (by (at es i) y, y) ∷ trace G M 133 k y (at es j))) (lead-is k i j il jl)
       ∙ by-bool (ltb c n)
-      (λ e. ap (λ (b : Bool). onLead (cond b (via (at es c)) stay) (trace G M 133 k (at es i) (at es j)) (λ y. (by (at es i) y, y) ∷ trace G M 133 k y (at es j))) e
+      (λ e. ap
+      (λ (b : Bool). onLead (cond b (via (at es c)) stay) (trace G M 133 k (at es i) (at es j)) (λ y. (by (at es i) y, y) ∷ trace G M 133 k y (at es j)))
+      e
       ∙ ap (λ w. (by (at es i) (at es c), at es c) ∷ w) (trace-is k c j (ltb-true c n e) jl)
       ∙ sym (ap (λ (b : Bool). cond b (arcTo by es arcs n j i c ∷ walkAt by es arcs n j k c) (walkAt by es arcs n j k i)) e))
-      (λ e. ap (λ (b : Bool). onLead (cond b (via (at es c)) stay) (trace G M 133 k (at es i) (at es j)) (λ y. (by (at es i) y, y) ∷ trace G M 133 k y (at es j))) e
+      (λ e. ap
+      (λ (b : Bool). onLead (cond b (via (at es c)) stay) (trace G M 133 k (at es i) (at es j)) (λ y. (by (at es i) y, y) ∷ trace G M 133 k y (at es j)))
+      e
       ∙ trace-is k i j il jl
       ∙ sym (ap (λ (b : Bool). cond b (arcTo by es arcs n j i c ∷ walkAt by es arcs n j k c) (walkAt by es arcs n j k i)) e))
     where

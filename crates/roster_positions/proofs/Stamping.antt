@@ -50,7 +50,8 @@ module _ (f : List ℕ) (n i at : ℕ) where
   unfolding listsStamped
   lists-done h t = rw (left-none n i h)
 
-  pub strict-turn : i < n → (a b : ℕ) → a ≡ getD f at 0 → b ≡ getD f (at + 1) 0 → (xs : List ℕ) → xs ≡ take a (drop (at + 2) f) → (t u : List ℕ) → u ≡ stamped (i * 32) xs 1 t
+  pub strict-turn : i < n → (a b : ℕ) → a ≡ getD f at 0 → b ≡ getD f (at + 1) 0 → (xs : List ℕ) → xs ≡ take a (drop (at + 2) f) → (t u : List ℕ)
+      → u ≡ stamped (i * 32) xs 1 t
       → strictStamped f (n - i) (i * 32) at t ≡ strictStamped f (n - (i + 1)) ((i + 1) * 32) (at + (a + b + 2)) u
   unfolding strictStamped
   strict-turn h a b e d xs x t u w = rw (w, x, e, d, left-suc n i h, ← next-row i)

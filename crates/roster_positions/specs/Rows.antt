@@ -57,7 +57,8 @@ stamped-at row (x ∷ xs) k t j l h w = by-eq (suc j) x
 pub stamped-else : (row : ℕ) (xs : List ℕ) (k : ℕ) (t : List ℕ) (c : ℕ) → ((y : ℕ) → y < 32 → c ≢ row + y) → getD (stamped row xs k t) c 0 ≡ getD t c 0
 unfolding stamped
 stamped-else row [] k t c h = refl
-stamped-else row (x ∷ xs) k t c h = getD-set-other (stamped row xs (suc k) t) (row + column x) c k 0 (h (column x) (omega arith)) ∙ stamped-else row xs (suc k) t c h
+stamped-else row (x ∷ xs) k t c h =
+    getD-set-other (stamped row xs (suc k) t) (row + column x) c k 0 (h (column x) (omega arith)) ∙ stamped-else row xs (suc k) t c h
 
 -- ---- list after list, row after row
 unfoldable pub allStamped : ℕ → List (List ℕ) → List ℕ → List ℕ
@@ -70,7 +71,8 @@ positionIn xs j = cond (elem (suc j) xs) (position (suc j) xs) 0
 before-rows : (ls : List (List ℕ)) (row : ℕ) (t : List ℕ) (c : ℕ) → c < row → getD (allStamped row ls t) c 0 ≡ getD t c 0
 unfolding allStamped
 before-rows [] row t c h = refl
-before-rows (xs ∷ ls) row t c h = before-rows ls (row + 32) (stamped row xs 1 t) c (omega arith) ∙ stamped-else row xs 1 t c (λ y l. λ (q : c ≡ row + y). omega arith)
+before-rows (xs ∷ ls) row t c h =
+    before-rows ls (row + 32) (stamped row xs 1 t) c (omega arith) ∙ stamped-else row xs 1 t c (λ y l. λ (q : c ≡ row + y). omega arith)
 
 pub all-at : (ls : List (List ℕ)) (row : ℕ) (t : List ℕ) → row + length ls * 32 ≤ length t → All (Within 32) ls → ((c : ℕ) → row ≤ c → getD t c 0 ≡ 0)
     → (i j : ℕ) → j < 32 → getD (allStamped row ls t) (row + i * 32 + j) 0 ≡ positionIn (getD ls i []) j
@@ -89,7 +91,8 @@ all-at (xs ∷ ls) row t l w z zero j h =
     none p = omega arith
 all-at (xs ∷ ls) row t l w z (suc i) j h =
     ap (λ c. getD (allStamped (row + 32) ls (stamped row xs 1 t)) c 0) (down row i j)
-    ∙ all-at ls (row + 32) (stamped row xs 1 t) (omega (arith, stamped-length row xs 1 t)) (w .1) (λ c k. stamped-else row xs 1 t c (λ y m. λ (q : c ≡ row + y). omega arith) ∙ z c (omega arith)) i j h
+    ∙ all-at ls (row + 32) (stamped row xs 1 t) (omega (arith, stamped-length row xs 1 t)) (w .1)
+    (λ c k. stamped-else row xs 1 t c (λ y m. λ (q : c ≡ row + y). omega arith) ∙ z c (omega arith)) i j h
   where
     down : (row i j : ℕ) → row + suc i * 32 + j ≡ row + 32 + i * 32 + j
     down row i j = omega arith
@@ -102,8 +105,13 @@ lists-are [] f at post e row t = (refl, e)
 lists-are (xs ∷ ls) f at post e row t =
     given (head-is f at (length xs) ((xs ++ gather listBytes ls) ++ post) e) (λ h.
     given (tail-is f at (length xs) ((xs ++ gather listBytes ls) ++ post) e ∙ append-assoc xs (gather listBytes ls) post) (λ d.
-    given (part-is f (at + 1) (length xs) xs (gather listBytes ls ++ post) d refl, rest-is f (at + 1) (length xs) xs (gather listBytes ls ++ post) d refl) (λ (x, y).
-    given (lists-are ls f (at + (getD f at 0 + 1)) post (ap (λ k. drop k f) (move at (getD f at 0) (length xs) h) ∙ y) (row + 32) (stamped row (take (getD f at 0) (drop (at + 1) f)) 1 t)) (λ (u, v).
+    given
+    (part-is f (at + 1) (length xs) xs (gather listBytes ls ++ post) d refl, rest-is f (at + 1) (length xs) xs (gather listBytes ls ++ post) d refl)
+    (λ (x, y).
+    given
+    (lists-are ls f (at + (getD f at 0 + 1)) post (ap (λ k. drop k f) (move at (getD f at 0) (length xs) h) ∙ y) (row + 32)
+    (stamped row (take (getD f at 0) (drop (at + 1) f)) 1 t))
+    (λ (u, v).
     (u ∙ ap (λ z. allStamped (row + 32) ls (stamped row z 1 t)) (ap (λ k. take k (drop (at + 1) f)) h ∙ x), v)))))
   where
     move : (at b n : ℕ) → b ≡ n → at + (b + 1) ≡ at + 1 + n
@@ -126,11 +134,18 @@ rankings-are (R ∷ ts) f at post e row j t u =
     given (head-is f at (length (R .strict)) (length (R .tied) ∷ ((entries R ++ more) ++ post)) e) (λ h.
     given (tail-is f at (length (R .strict)) (length (R .tied) ∷ ((entries R ++ more) ++ post)) e) (λ d.
     given (head-is f (at + 1) (length (R .tied)) ((entries R ++ more) ++ post) d) (λ g.
-    given (ap (λ k. drop k f) (two at) ∙ tail-is f (at + 1) (length (R .tied)) ((entries R ++ more) ++ post) d ∙ append-assoc (entries R) more post) (λ (d₂ : drop (at + 2) f ≡ entries R ++ (more ++ post)).
+    given (ap (λ k. drop k f) (two at) ∙ tail-is f (at + 1) (length (R .tied)) ((entries R ++ more) ++ post) d ∙ append-assoc (entries R) more post)
+    (λ (d₂ : drop (at + 2) f ≡ entries R ++ (more ++ post)).
     given (d₂ ∙ append-assoc (R .strict) (R .tied) (more ++ post)) (λ d₃.
-    given (part-is f (at + 2) (length (R .strict)) (R .strict) (R .tied ++ (more ++ post)) d₃ refl, rest-is f (at + 2) (length (R .strict)) (R .strict) (R .tied ++ (more ++ post)) d₃ refl) (λ (x, y).
+    given (
+      part-is f (at + 2) (length (R .strict)) (R .strict) (R .tied ++ (more ++ post)) d₃ refl,
+      rest-is f (at + 2) (length (R .strict)) (R .strict) (R .tied ++ (more ++ post)) d₃ refl,
+    )
+    (λ (x, y).
     given (rest-is f (at + 2 + length (R .strict)) (length (R .tied)) (R .tied) (more ++ post) y refl) (λ z.
-    given (rankings-are ts f (behind f at) post (ap (λ k. drop k f) (move at (getD f at 0) (getD f (at + 1) 0) (length (R .strict)) (length (R .tied)) h g) ∙ z) (row + 32) (suc j)
+    given
+    (rankings-are ts f (behind f at) post
+    (ap (λ k. drop k f) (move at (getD f at 0) (getD f (at + 1) 0) (length (R .strict)) (length (R .tied)) h g) ∙ z) (row + 32) (suc j)
     (stamped row (take (getD f at 0) (drop (at + 2) f)) 1 t) (set u j ((getD f at 0 + 1) % 256))) (λ (p, q). (
       p ∙ ap (λ z. allStamped (row + 32) (strictLists ts) (stamped row z 1 t)) (ap (λ k. take k (drop (at + 2) f)) h ∙ x),
       q ∙ ap (λ k. nextAll (suc j) ts (set u j ((k + 1) % 256))) h,
@@ -146,7 +161,9 @@ rankings-are (R ∷ ts) f at post e row j t u =
 next-before : (ts : List Ranking) (j : ℕ) (t : List ℕ) (c : ℕ) → c < j → getD (nextAll j ts t) c 0 ≡ getD t c 0
 unfolding nextAll
 next-before [] j t c h = refl
-next-before (R ∷ ts) j t c h = next-before ts (suc j) (set t j ((length (R .strict) + 1) % 256)) c (omega arith) ∙ getD-set-other t j c ((length (R .strict) + 1) % 256) 0 (λ (q : c ≡ j). omega arith)
+next-before (R ∷ ts) j t c h =
+    next-before ts (suc j) (set t j ((length (R .strict) + 1) % 256)) c (omega arith)
+    ∙ getD-set-other t j c ((length (R .strict) + 1) % 256) 0 (λ (q : c ≡ j). omega arith)
 
 pub next-at : (ts : List Ranking) (j : ℕ) (t : List ℕ) → j + length ts ≤ length t → (i : ℕ) → i < length ts
     → getD (nextAll j ts t) (j + i) 0 ≡ (length (getD ts i (record { strict = []; tied = [] }) .strict) + 1) % 256

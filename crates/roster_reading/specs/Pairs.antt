@@ -37,7 +37,8 @@ module _ (byS byT : List Bool) where
   unfolding rowAlike
   row-step i n h =
       let e : n ≡ suc (n - 1) = omega arith in
-      ap (λ k. all? (pairAlike i) (upTo k)) e ∙ ap (λ b. b && rowAlike i (n - 1)) (sym (same-alike (getD byS (i * rowWidth + (n - 1) + 1) false) (getD byT ((n - 1) * rowWidth + i + 1) false)))
+      ap (λ k. all? (pairAlike i) (upTo k)) e
+      ∙ ap (λ b. b && rowAlike i (n - 1)) (sym (same-alike (getD byS (i * rowWidth + (n - 1) + 1) false) (getD byT ((n - 1) * rowWidth + i + 1) false)))
 
   pub row-unlike : (i n : ℕ) → 0 < n → differ i (n - 1) ≡ true → rowAlike i n ≡ false
   row-unlike i n h d = row-step i n h ∙ ap (λ b. not b && rowAlike i (n - 1)) d
@@ -63,10 +64,13 @@ module _ (byS byT : List Bool) where
   unfolding bothAlike
   both-end m n h = let e : m ≡ 0 = omega arith in ap (λ k. all? (λ i. rowAlike i n) (upTo k)) e
 
-  pub both-alike : (R : Roster) (m n : ℕ) → surveyorCount R ≡ m → standCount R ≡ n → m ≤ nodeLimit → n ≤ nodeLimit → ListsShown byS (R .listsS) → RankingsShown byT (R .listsT) → bothAlike m n ≡ bothOrNeither R
+  pub both-alike : (R : Roster) (m n : ℕ) → surveyorCount R ≡ m → standCount R ≡ n → m ≤ nodeLimit → n ≤ nodeLimit → ListsShown byS (R .listsS)
+      → RankingsShown byT (R .listsT) → bothAlike m n ≡ bothOrNeither R
   unfolding bothAlike rowAlike bothOrNeither listed listedBack
-  both-alike R m n a b p q s t = simp (a, b) (all-cong (λ i. all? (pairAlike i) (upTo n)) (λ i. all? (λ j. alike (listed R i j) (listedBack R i j)) (upTo n)) (upTo m) (λ i k.
+  both-alike R m n a b p q s t =
+      simp (a, b) (all-cong (λ i. all? (pairAlike i) (upTo n)) (λ i. all? (λ j. alike (listed R i j) (listedBack R i j)) (upTo n)) (upTo m) (λ i k.
       all-cong (pairAlike i) (λ j. alike (listed R i j) (listedBack R i j)) (upTo n) (λ j l.
       let e : i * rowWidth + j + 1 ≡ i * rowWidth + suc j = omega arith in
       let d : j * rowWidth + i + 1 ≡ j * rowWidth + suc i = omega arith in
-      ap₂ alike (ap (λ z. getD byS z false) e ∙ s i (suc j) (omega (arith, upTo-< n l))) (ap (λ z. getD byT z false) d ∙ t j (suc i) (omega (arith, upTo-< m k))))))
+      ap₂ alike (ap (λ z. getD byS z false) e ∙ s i (suc j) (omega (arith, upTo-< n l)))
+      (ap (λ z. getD byT z false) d ∙ t j (suc i) (omega (arith, upTo-< m k))))))

@@ -72,7 +72,8 @@ place-read {A} {read} {write} {P} R f at {next} t h e = go (read (drop at f)) re
         let n : next ≡ length f - length rest = ap placeOf e in
         let l = simp (length-drop, length-append) at (ap length w) in
         let k : next ≡ at + length (write a) = omega arith in
-        let s : drop next f ≡ rest = ap (λ k. drop k f) k ∙ sym (drop-drop (length (write a)) at f) ∙ ap (drop (length (write a))) w ∙ drop-at (write a) rest (length (write a)) refl in
+        let s : drop next f ≡ rest =
+        ap (λ k. drop k f) k ∙ sym (drop-drop (length (write a)) at f) ∙ ap (drop (length (write a))) w ∙ drop-at (write a) rest (length (write a)) refl in
         record {
           value = a;
           is = d ∙ ap ((λ bs. accepted (a, bs))) (sym s);

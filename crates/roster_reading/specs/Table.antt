@@ -41,7 +41,10 @@ module _ {A : Type 0} (entries : A → List ℕ) (none : A) where
   module _ (empty : entries none ≡ []) where
     -- no mark is set
     pub table-clear : (n : ℕ) → Shown (replicate n false) []
-    table-clear n i k b = by-cases (decLt (i * rowWidth + k) n) (λ h. getD-replicate n (i * rowWidth + k) false false h) (λ h. List·getD-eq-default (replicate n false) false (simp length-replicate (omega (arith, h)))) ∙ sym (ap (elem k) empty)
+    table-clear n i k b =
+        by-cases (decLt (i * rowWidth + k) n) (λ h. getD-replicate n (i * rowWidth + k) false false h)
+        (λ h. List·getD-eq-default (replicate n false) false (simp length-replicate (omega (arith, h))))
+        ∙ sym (ap (elem k) empty)
 
     pub row-clear : (table : List Bool) (ls : List A) (n : ℕ) → Shown table ls → length ls ≡ n → Shows (rowOf table n) []
     row-clear table ls n h l k = rw span-is (by-cases (decLt k rowWidth)
@@ -49,7 +52,8 @@ module _ {A : Type 0} (entries : A → List ℕ) (none : A) where
         ∙ ap (λ x. elem k (entries x)) (List·getD-eq-default ls none (omega arith)) ∙ ap (elem k) empty)
         (λ s. List·getD-eq-default (take rowWidth (drop (n * rowWidth) table)) false (simp length-take (omega (arith, s)))))
 
-    pub row-more : (table row : List Bool) (ls : List A) (x : A) (n : ℕ) → Shown table ls → length ls ≡ n → n * rowWidth + rowWidth ≤ length table → length row ≡ rowWidth
+    pub row-more : (table row : List Bool) (ls : List A) (x : A) (n : ℕ) → Shown table ls → length ls ≡ n → n * rowWidth + rowWidth ≤ length table
+        → length row ≡ rowWidth
         → Shows row (entries x) → Shown (withRow table n row) (ls ++ x ∷ [])
     row-more table row ls x n h l room w s i k b = by-cases (decLt i n) before (λ p. by-cases (decLt n i) (after p) (λ q. here p q))
       where
@@ -58,16 +62,20 @@ module _ {A : Type 0} (entries : A → List ℕ) (none : A) where
 
         before : i < n → getD (withRow table n row) (i * rowWidth + k) false ≡ elem k (entries (getD (ls ++ x ∷ []) i none))
         before p = List·getD-append (take (n * rowWidth) table) (row ++ drop (span n) (drop (n * rowWidth) table)) false (i * rowWidth + k) (omega (arith, low))
-            ∙ getD-take (n * rowWidth) table (i * rowWidth + k) false (omega arith) ∙ h i k b ∙ ap (λ y. elem k (entries y)) (sym (List·getD-append ls (x ∷ []) none i (omega arith)))
+            ∙ getD-take (n * rowWidth) table (i * rowWidth + k) false (omega arith) ∙ h i k b
+            ∙ ap (λ y. elem k (entries y)) (sym (List·getD-append ls (x ∷ []) none i (omega arith)))
 
         -- behind the rows before it
         rest : (j : ℕ) → getD (withRow table n row) (n * rowWidth + j) false ≡ getD (row ++ drop (span n) (drop (n * rowWidth) table)) j false
-        rest j = ap (λ m. getD (withRow table n row) (m + j) false) (sym low) ∙ getD-append-add (take (n * rowWidth) table) (row ++ drop (span n) (drop (n * rowWidth) table)) j false
+        rest j =
+            ap (λ m. getD (withRow table n row) (m + j) false) (sym low)
+            ∙ getD-append-add (take (n * rowWidth) table) (row ++ drop (span n) (drop (n * rowWidth) table)) j false
 
         here : (i < n → ⊥) → (n < i → ⊥) → getD (withRow table n row) (i * rowWidth + k) false ≡ elem k (entries (getD (ls ++ x ∷ []) i none))
         here p q =
             let e : i ≡ n = omega (arith, p, q) in
-            ap (λ m. getD (withRow table n row) (m * rowWidth + k) false) e ∙ rest k ∙ List·getD-append row (drop (span n) (drop (n * rowWidth) table)) false k (omega arith) ∙ s k
+            ap (λ m. getD (withRow table n row) (m * rowWidth + k) false) e ∙ rest k
+            ∙ List·getD-append row (drop (span n) (drop (n * rowWidth) table)) false k (omega arith) ∙ s k
             ∙ ap (λ y. elem k (entries y)) (sym (ap (λ m. getD (ls ++ x ∷ []) m none) e ∙ getD-at ls x [] none n l))
 
         after : (i < n → ⊥) → n < i → getD (withRow table n row) (i * rowWidth + k) false ≡ elem k (entries (getD (ls ++ x ∷ []) i none))
@@ -79,7 +87,8 @@ module _ {A : Type 0} (entries : A → List ℕ) (none : A) where
             ∙ getD-drop (span n) (drop (n * rowWidth) table) ((i - n - 1) * rowWidth + k) false
             ∙ getD-drop (n * rowWidth) table (span n + ((i - n - 1) * rowWidth + k)) false
             ∙ ap (λ m. getD table m false) d ∙ h i k b
-            ∙ ap (λ y. elem k (entries y)) (List·getD-eq-default ls none (omega arith) ∙ sym (List·getD-eq-default (ls ++ x ∷ []) none (simp length-append (omega arith))))
+            ∙ ap (λ y. elem k (entries y))
+            (List·getD-eq-default ls none (omega arith) ∙ sym (List·getD-eq-default (ls ++ x ∷ []) none (simp length-append (omega arith))))
 
 -- the rows of the surveyors' lists, and of the stands'
 abbrev pub ListsShown : List Bool → List (List ℕ) → Type 0

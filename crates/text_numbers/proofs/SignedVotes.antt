@@ -27,7 +27,8 @@ positive (negsuc n) t = let z : _≡_ {A = ℕ} 0 1 = cc in absurd (omega arith)
 
 -- -1 less a vote below zero
 one-less : (n : ℕ) → negsuc 0 -ℤ negsuc n ≡ pos n
-one-less n = ap (λ (b : Bool). cond b (negsuc (1 - suc (suc n))) (pos (suc n - 1))) (le-ltb (suc n) 1 (omega arith)) ∙ ap pos (let e : suc n - 1 ≡ n = omega arith in e)
+one-less n =
+    ap (λ (b : Bool). cond b (negsuc (1 - suc (suc n))) (pos (suc n - 1))) (le-ltb (suc n) 1 (omega arith)) ∙ ap pos (let e : suc n - 1 ≡ n = omega arith in e)
 
 module _ (v : ℤ) (f : SFits w16 v) where
   kept : toZ w16 (ofZ w16 v) ≡ v

@@ -18,7 +18,8 @@ append-as {out} {after} {x} {y} {at} {next} e a = subst (λ (z : List ℕ). Appe
 
 module _ (out : List ℕ) (at : ℕ) where
   pub append-none : Appended out at [] out at
-  append-none = record { place = omega arith; bytes = sym (ap (λ k. take at out ++ drop k out) (let e : at + 0 ≡ at = omega arith in e) ∙ take-append-drop at out) }
+  append-none =
+      record { place = omega arith; bytes = sym (ap (λ k. take at out ++ drop k out) (let e : at + 0 ≡ at = omega arith in e) ∙ take-append-drop at out) }
 
   pub append-one : (b : ℕ) → at < length out → Appended out at (b ∷ []) (set out at b) (at + 1)
   append-one b h = record { place = refl; bytes = set-split out at b h ∙ ap (λ k. take at out ++ (b ∷ drop k out)) (sym (add-one at)) }
@@ -27,7 +28,9 @@ module _ (out : List ℕ) (at : ℕ) where
   pub append-word : (w after : List ℕ) (n : ℕ) → n ≡ length w → after ≡ paste out at w n → Appended out at w after (at + n)
   append-word w after n e p = record {
     place = ap (λ k. at + k) e;
-    bytes = p ∙ ap (λ k. paste out at w k) e ∙ ap (λ (l : List ℕ). (take at out ++ l) ++ drop (at + length w) out) (take-length w) ∙ append-assoc (take at out) w (drop (at + length w) out);
+    bytes =
+        p ∙ ap (λ k. paste out at w k) e ∙ ap (λ (l : List ℕ). (take at out ++ l) ++ drop (at + length w) out) (take-length w)
+        ∙ append-assoc (take at out) w (drop (at + length w) out);
   }
 
   module _ {x y mid after : List ℕ} {p q : ℕ} (h : at ≤ length out) (a : Appended out at x mid p) (b : Appended mid p y after q) where

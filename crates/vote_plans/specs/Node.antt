@@ -44,7 +44,8 @@ module _ (K : Side) (ranks : (e : ℕ) → e < K .m → (1 ≤ K .rank e) × (K 
   -- are kept whole where A has few edges at the node
   pub own-sound : (A B : ℕ → Bool) (v : ℕ) → deg K A v ≤ quotaLimit → Sound (own K A B v) (keptAt (K .end) (K .rank) B v (edgesIn (K .m) A))
   own-sound A B v d =
-      let few : length (own K A B v) ≤ quotaLimit = omega (arith, sum-length (own K A B v), ranks-alone K A B v (λ x. 1), sum-length (alone K v A B), counts K A B v) in
+      let few : length (own K A B v) ≤ quotaLimit =
+      omega (arith, sum-length (own K A B v), ranks-alone K A B v (λ x. 1), sum-length (alone K v A B), counts K A B v) in
       record {
         kept = kept-at (K .end) (K .rank) B v (edgesIn (K .m) A) few;
         few = few;

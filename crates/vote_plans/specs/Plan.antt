@@ -36,7 +36,8 @@ abbrev pub sideOf : (m n : ℕ) (end rank : List ℕ) (tie : ℕ → Bool) (quot
 sideOf m n end rank tie quota = record { m = m; n = n; end = at end; rank = at rank; tie = tie; quota = quota }
 
 -- a plan within quotas that are within the limit is so
-pub within-light : (m n : ℕ) (end rank : List ℕ) (tie : ℕ → Bool) (quota : ℕ → ℕ) (p : List Bool) → ((v : ℕ) → quota v ≤ quotaLimit) → Within (sideOf m n end rank tie quota) (flag p) → Light m end p
+pub within-light : (m n : ℕ) (end rank : List ℕ) (tie : ℕ → Bool) (quota : ℕ → ℕ) (p : List Bool) → ((v : ℕ) → quota v ≤ quotaLimit)
+    → Within (sideOf m n end rank tie quota) (flag p) → Light m end p
 unfolding deg
 within-light m n end rank tie quota p few h v = omega (arith, few v, h v)
 

@@ -38,12 +38,15 @@ pub upped-fits : (a b : ℕ) → SFits w8 (upped (rankVote a b))
 upped-fits a b = each-vote (λ z. SFits w8 (upped z)) (sfits-of (omega arith)) (sfits-of (omega arith)) (sfits-of (omega arith)) (ltb a b) (ltb b a)
 
 pub upped-casts : (a b : ℕ) → T (nonNeg (toZ w8 (ofZ w8 (upped (rankVote a b))))) × Fits w64 (natAbs (toZ w8 (ofZ w8 (upped (rankVote a b)))))
-upped-casts a b = each-vote (λ z. T (nonNeg (toZ w8 (ofZ w8 (upped z)))) × Fits w64 (natAbs (toZ w8 (ofZ w8 (upped z))))) (tt, fits-lit tt) (tt, fits-lit tt) (tt, fits-lit tt) (ltb a b) (ltb b a)
+upped-casts a b =
+    each-vote (λ z. T (nonNeg (toZ w8 (ofZ w8 (upped z)))) × Fits w64 (natAbs (toZ w8 (ofZ w8 (upped z))))) (tt, fits-lit tt) (tt, fits-lit tt)
+    (tt, fits-lit tt) (ltb a b) (ltb b a)
 
 pub upped-rate : (a b : ℕ) → natAbs (toZ w8 (ofZ w8 (upped (rankVote a b)))) ≡ rate a b
 upped-rate a b = go (ltb a b) (leb a b) (ltb b a) (ltb→lt a b) (leb→le a b) (nleb→lt a b) (ltb→lt b a) (nltb→le b a)
   where
-    go : (x y z : Bool) → (T x → a < b) → (T y → a ≤ b) → (T (not y) → b < a) → (T z → b < a) → (T (not z) → a ≤ b) → natAbs (toZ w8 (ofZ w8 (upped (cond x (pos 1) (cond z (negsuc 0) (pos 0)))))) ≡ bit x + bit y
+    go : (x y z : Bool) → (T x → a < b) → (T y → a ≤ b) → (T (not y) → b < a) → (T z → b < a) → (T (not z) → a ≤ b)
+        → natAbs (toZ w8 (ofZ w8 (upped (cond x (pos 1) (cond z (negsuc 0) (pos 0)))))) ≡ bit x + bit y
     go true true z p q q′ r r′ = refl
     go true false z p q q′ r r′ = absurd (omega (arith, p tt, q′ tt))
     go false true true p q q′ r r′ = absurd (omega (arith, q tt, r tt))
@@ -65,7 +68,8 @@ wrap-< k p h = if-ind (λ z. z < k) (ltb p k) (λ t. ltb→lt p k t) (λ t. omeg
 module _ (a b : List ℕ) (k i j : ℕ) (la : k ≤ length a) (lb : k ≤ length b) (h : j ≤ k) where
   pub rest-end : k ≤ i → restSum i j (take k a) (take k b) ≡ 0
   unfolding restSum
-  rest-end l = let e : length (turned j (take k a)) ≤ i = omega (arith, turned-length j (take k a), length-take k a) in rw (drop-of-length-le (turned j (take k a)) e)
+  rest-end l =
+      let e : length (turned j (take k a)) ≤ i = omega (arith, turned-length j (take k a), length-take k a) in rw (drop-of-length-le (turned j (take k a)) e)
 
   turned-at : i < k → getD (turned j (take k a)) i 0 ≡ getD a (wrap k (i + j)) 0
   turned-at l = if-ind (λ z. getD (turned j (take k a)) i 0 ≡ getD a z 0) (ltb (i + j) k) (λ t. front (ltb→lt (i + j) k t)) (λ t. back (nltb→le (i + j) k t))
@@ -76,7 +80,8 @@ module _ (a b : List ℕ) (k i j : ℕ) (la : k ≤ length a) (lb : k ≤ length
       front : i + j < k → getD (turned j (take k a)) i 0 ≡ getD a (i + j) 0
       front m =
           let e : j + i ≡ i + j = omega arith in
-          List·getD-append (drop j (take k a)) (take j (take k a)) 0 i (omega (arith, size)) ∙ getD-drop j (take k a) i 0 ∙ getD-take k a (j + i) 0 (omega arith) ∙ ap (λ z. getD a z 0) e
+          List·getD-append (drop j (take k a)) (take j (take k a)) 0 i (omega (arith, size)) ∙ getD-drop j (take k a) i 0
+          ∙ getD-take k a (j + i) 0 (omega arith) ∙ ap (λ z. getD a z 0) e
 
       back : k ≤ i + j → getD (turned j (take k a)) i 0 ≡ getD a (i + j - k) 0
       back m =
@@ -108,6 +113,7 @@ module _ (a b : List ℕ) (k : ℕ) (oa : Ordered k a) (ob : Ordered k b) where
   unfolding turnSum
   sum-reached j l h m each = go (turn-reached (take k a) (take k b) same 34 (oa .sorted) (ob .sorted) (λ y w. omega (arith, ob .own .ranks y w)))
     where
-      go : (i : ℕ) × ((i ≡ 0) ⊎ (i < length (take k a))) × (cost (λ a. a) (against (turned i (take k a)) (take k b)) ≤ leastSum (take k a) (take k b)) → l ≤ leastSum (take k a) (take k b)
+      go : (i : ℕ) × ((i ≡ 0) ⊎ (i < length (take k a))) × (cost (λ a. a) (against (turned i (take k a)) (take k b)) ≤ leastSum (take k a) (take k b))
+          → l ≤ leastSum (take k a) (take k b)
       go (i, inl e, q) = omega (arith, each i (omega arith))
       go (i, inr e, q) = omega (arith, each i (omega (arith, length-take k a)))

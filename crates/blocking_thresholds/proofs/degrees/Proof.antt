@@ -32,9 +32,6 @@ cast-v c = let l = c .before .before in omega (arith, l .before .pre .ends (l .l
 element-copy-out-t : tie.Need-element-copy-out-t Inv-loop μ-loop
 element-copy-out-t c = omega (arith, c .before .before .before .pre .edges)
 
-cast-t : tie.Need-cast-t Inv-loop μ-loop
-cast-t c = search needs
-
 mul-t : tie.Need-mul-t Inv-loop μ-loop
 mul-t c = omega (arith, inside c)
 
@@ -46,7 +43,8 @@ add-t c =
     let l = c .before .before .before in
     let a = l .before .args in
     let v = at (a .end .now) (l .loop .i) in
-    omega (arith, l .loop .inv .2 v, keyed-≤ (at (a .end .now)) (flag (a .p .now)) v (l .loop .i), byte-≤ (flag (a .p .now) (l .loop .i)), l .before .pre .edges)
+    omega
+    (arith, l .loop .inv .2 v, keyed-≤ (at (a .end .now)) (flag (a .p .now)) v (l .loop .i), byte-≤ (flag (a .p .now) (l .loop .i)), l .before .pre .edges)
 
 array-write-t : tie.Need-array-write-t Inv-loop μ-loop
 array-write-t c = inside c
@@ -54,14 +52,14 @@ array-write-t c = inside c
 add-i : tie.Need-add-i Inv-loop μ-loop
 add-i c = omega (arith, c .before .before .before .before .pre .edges)
 
-loop-less : tie.Need-loop-less Inv-loop μ-loop
-loop-less c = omega arith
-
 loop-again : tie.Need-loop-again Inv-loop μ-loop
 loop-again c =
     let l = c .before .before .before in
-    let a = l .before .args in
-    (omega arith, simp length-set (l .loop .inv .1), tally-next (at (a .end .now)) (flag (a .p .now)) (l .loop .t) (l .loop .i) (omega (arith, inside c)) (l .loop .inv .2))
+    let a = l .before .args in (
+      omega arith,
+      simp length-set (l .loop .inv .1),
+      tally-next (at (a .end .now)) (flag (a .p .now)) (l .loop .t) (l .loop .i) (omega (arith, inside c)) (l .loop .inv .2),
+    )
 
 returns : tie.Need-returns Inv-loop μ-loop
 returns c =
@@ -72,20 +70,5 @@ returns c =
 
 pub degrees-spec : {M : Type 1} → statement M
 degrees-spec =
-    tie.close
-    (tie.spec
-    Inv-loop
-    μ-loop
-    loop-holds
-    element-copy-out-v
-    cast-v
-    element-copy-out-t
-    cast-t
-    mul-t
-    array-read-t
-    add-t
-    array-write-t
-    add-i
-    loop-less
-    loop-again
-    returns)
+    tie.close (tie.spec Inv-loop μ-loop loop-holds element-copy-out-v cast-v element-copy-out-t (λ c. search needs) mul-t array-read-t add-t
+    array-write-t add-i (λ c. omega arith) loop-again returns)

@@ -4,22 +4,14 @@ use Rattle.blocking_thresholds.specs.Threshold.{thresholds-yield}
 use Rattle.blocking_thresholds.proofs.side_thresholds.Statement.{statement}
 use Rattle.blocking_thresholds.proofs.side_thresholds.Tie as tie
 
-degrees-requires : tie.Need-degrees-requires
-degrees-requires c κs = search needs
-
-worst-requires : tie.Need-worst-requires
-worst-requires c κs = search needs
-
-thresholds-requires : tie.Need-thresholds-requires
-thresholds-requires c κs = search needs
-
 returns : tie.Need-returns
 returns c =
     let u = c .before .before .before in
     let d = u .before in
     let s = d .before in
     let a = s .args in
-    thresholds-yield (a .m) (a .end .now) (a .rank .now) (a .quota .now) (a .p .now) (d .degrees .result) (u .worst .result) (c .thresholds .result) (s .pre) (d .degrees .ensures) (u .worst .ensures) (c .thresholds .ensures)
+    thresholds-yield (a .m) (a .end .now) (a .rank .now) (a .quota .now) (a .p .now) (d .degrees .result) (u .worst .result) (c .thresholds .result)
+    (s .pre) (d .degrees .ensures) (u .worst .ensures) (c .thresholds .ensures)
 
 pub side-thresholds-spec : {M : Type 1} → statement M
-side-thresholds-spec = tie.close (tie.spec degrees-requires worst-requires thresholds-requires returns)
+side-thresholds-spec = tie.close (tie.spec (λ c κs. search needs) (λ c κs. search needs) (λ c κs. search needs) returns)

@@ -25,53 +25,19 @@ abbrev μ-loop : tie.MeasureT-loop
 loop-holds : tie.Need-loop-holds Inv-loop μ-loop
 loop-holds c = (zero-le, length-replicate {A = ℕ} 32 0, λ e h. absurd (not-suc-le-zero h))
 
-mul-threshold : tie.Need-mul-threshold Inv-loop μ-loop
-mul-threshold c = omega arith
-
-element-copy-out-threshold : tie.Need-element-copy-out-threshold Inv-loop μ-loop
-element-copy-out-threshold c = omega arith
-
-element-copy-out-threshold-2 : tie.Need-element-copy-out-threshold-2 Inv-loop μ-loop
-element-copy-out-threshold-2 c = omega arith
-
-element-copy-out-threshold-3 : tie.Need-element-copy-out-threshold-3 Inv-loop μ-loop
-element-copy-out-threshold-3 c = omega arith
-
-threshold-requires : tie.Need-threshold-requires Inv-loop μ-loop
-threshold-requires c κs = search needs
-
-array-write-o : tie.Need-array-write-o Inv-loop μ-loop
-array-write-o c = omega arith
-
-add-i : tie.Need-add-i Inv-loop μ-loop
-add-i c = omega arith
-
-loop-less : tie.Need-loop-less Inv-loop μ-loop
-loop-less c = omega arith
-
 loop-again : tie.Need-loop-again Inv-loop μ-loop
 loop-again c =
     let l = c .before .before .before .before .before in
-    let a = l .before .args in
-    (omega arith, simp length-set (l .loop .inv .1), rw (c .threshold .ensures) (made-next (l .loop .o) (entry (a .d .now) (a .quota .now) (a .w .now)) (l .loop .i) (omega arith) (l .loop .inv .2)))
+    let a = l .before .args in (
+      omega arith,
+      simp length-set (l .loop .inv .1),
+      rw (c .threshold .ensures) (made-next (l .loop .o) (entry (a .d .now) (a .quota .now) (a .w .now)) (l .loop .i) (omega arith) (l .loop .inv .2)),
+    )
 
 returns : tie.Need-returns Inv-loop μ-loop
 returns c = λ v h. c .before .loop .inv .2 v (omega arith)
 
 pub thresholds-spec : {M : Type 1} → statement M
 thresholds-spec =
-    tie.close
-    (tie.spec
-    Inv-loop
-    μ-loop
-    loop-holds
-    mul-threshold
-    element-copy-out-threshold
-    element-copy-out-threshold-2
-    element-copy-out-threshold-3
-    threshold-requires
-    array-write-o
-    add-i
-    loop-less
-    loop-again
-    returns)
+    tie.close (tie.spec Inv-loop μ-loop loop-holds (λ c. omega arith) (λ c. omega arith) (λ c. omega arith) (λ c. omega arith)
+    (λ c κs. search needs) (λ c. omega arith) (λ c. omega arith) (λ c. omega arith) loop-again returns)

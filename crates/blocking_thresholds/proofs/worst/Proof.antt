@@ -42,17 +42,11 @@ element-copy-out-raised c = omega (arith, c .before .before .before .pre .edges)
 element-copy-out-raised-2 : tie.Need-element-copy-out-raised-2 Inv-loop μ-loop
 element-copy-out-raised-2 c = omega (arith, c .before .before .before .before .pre .edges)
 
-raised-requires : tie.Need-raised-requires Inv-loop μ-loop
-raised-requires c κs = search needs
-
 array-write-w : tie.Need-array-write-w Inv-loop μ-loop
 array-write-w c = inside (c .before .before .before)
 
 add-i : tie.Need-add-i Inv-loop μ-loop
 add-i c = omega (arith, c .before .before .before .before .before .before .pre .edges)
-
-loop-less : tie.Need-loop-less Inv-loop μ-loop
-loop-less c = omega arith
 
 loop-again : tie.Need-loop-again Inv-loop μ-loop
 loop-again c =
@@ -60,7 +54,8 @@ loop-again c =
     let a = l .before .args in (
       omega arith,
       simp length-set (l .loop .inv .1),
-      rw (c .raised .ensures) (worst-next (a .end .now) (a .rank .now) (a .p .now) (l .loop .w) (l .loop .i) (omega (arith, inside (c .before .before .before))) (l .loop .inv .2)),
+      rw (c .raised .ensures)
+          (worst-next (a .end .now) (a .rank .now) (a .p .now) (l .loop .w) (l .loop .i) (omega (arith, inside (c .before .before .before))) (l .loop .inv .2)),
     )
 
 returns : tie.Need-returns Inv-loop μ-loop
@@ -72,19 +67,5 @@ returns c =
 
 pub worst-spec : {M : Type 1} → statement M
 worst-spec =
-    tie.close
-    (tie.spec
-    Inv-loop
-    μ-loop
-    loop-holds
-    element-copy-out-v
-    cast-v
-    array-read-raised
-    element-copy-out-raised
-    element-copy-out-raised-2
-    raised-requires
-    array-write-w
-    add-i
-    loop-less
-    loop-again
-    returns)
+    tie.close (tie.spec Inv-loop μ-loop loop-holds element-copy-out-v cast-v array-read-raised element-copy-out-raised
+    element-copy-out-raised-2 (λ c κs. search needs) array-write-w add-i (λ c. omega arith) loop-again returns)

@@ -18,53 +18,19 @@ abbrev μ-loop : tie.MeasureT-loop
 loop-holds : tie.Need-loop-holds Inv-loop μ-loop
 loop-holds c = (zero-le, refl, λ e h. absurd (not-suc-le-zero h))
 
-element-copy-out-cut : tie.Need-element-copy-out-cut Inv-loop μ-loop
-element-copy-out-cut c = omega arith
-
-mul-cut : tie.Need-mul-cut Inv-loop μ-loop
-mul-cut c = omega arith
-
-element-copy-out-cut-2 : tie.Need-element-copy-out-cut-2 Inv-loop μ-loop
-element-copy-out-cut-2 c = omega arith
-
-cut-requires : tie.Need-cut-requires Inv-loop μ-loop
-cut-requires c κs = omega arith
-
-mul-o : tie.Need-mul-o Inv-loop μ-loop
-mul-o c = omega arith
-
-array-write-o : tie.Need-array-write-o Inv-loop μ-loop
-array-write-o c = omega arith
-
-add-i : tie.Need-add-i Inv-loop μ-loop
-add-i c = omega arith
-
-loop-less : tie.Need-loop-less Inv-loop μ-loop
-loop-less c = omega arith
-
 loop-again : tie.Need-loop-again Inv-loop μ-loop
 loop-again c =
     let l = c .before .before .before .before in
-    let a = l .before .args in
-    (omega arith, simp length-set (l .loop .inv .1), rw (c .cut .ensures) (made-next 0 (l .loop .o) (λ v. min (at (a .quota .now) v) (at (a .d .now) v)) (l .loop .i) (omega arith) (l .loop .inv .2)))
+    let a = l .before .args in (
+      omega arith,
+      simp length-set (l .loop .inv .1),
+      rw (c .cut .ensures) (made-next 0 (l .loop .o) (λ v. min (at (a .quota .now) v) (at (a .d .now) v)) (l .loop .i) (omega arith) (l .loop .inv .2)),
+    )
 
 returns : tie.Need-returns Inv-loop μ-loop
 returns c = λ e h. c .before .loop .inv .2 e (omega arith)
 
 pub cuts-spec : {M : Type 1} → statement M
 cuts-spec =
-    tie.close
-    (tie.spec
-    Inv-loop
-    μ-loop
-    loop-holds
-    element-copy-out-cut
-    mul-cut
-    element-copy-out-cut-2
-    cut-requires
-    mul-o
-    array-write-o
-    add-i
-    loop-less
-    loop-again
-    returns)
+    tie.close (tie.spec Inv-loop μ-loop loop-holds (λ c. omega arith) (λ c. omega arith) (λ c. omega arith) (λ c κs. omega arith)
+    (λ c. omega arith) (λ c. omega arith) (λ c. omega arith) (λ c. omega arith) loop-again returns)

@@ -11,7 +11,9 @@ use Rattle.reduction_counts.proofs.mark.Statement.{statement}
 use Rattle.reduction_counts.proofs.mark.Tie as tie
 
 abbrev Inv-loop : tie.InvT-loop
-Inv-loop ord end p t₀ out₀ k₀ t out k = (k ≤ length ord) × (length t ≡ 32) × (length out ≡ 1024) × ((v : ℕ) → at t v ≤ k) × (marked (at end) (flag p) ord (replicate 32 0) blank ≡ marked (at end) (flag p) (drop k ord) t out) × ((v : ℕ) → at out v ≤ k)
+Inv-loop ord end p t₀ out₀ k₀ t out k =
+    (k ≤ length ord) × (length t ≡ 32) × (length out ≡ 1024) × ((v : ℕ) → at t v ≤ k)
+    × (marked (at end) (flag p) ord (replicate 32 0) blank ≡ marked (at end) (flag p) (drop k ord) t out) × ((v : ℕ) → at out v ≤ k)
 
 abbrev μ-loop : tie.MeasureT-loop
 μ-loop ord end p t₀ out₀ k₀ t out k = length ord - k
@@ -26,12 +28,6 @@ v-in c = c .before .before .pre .2 (c .before .loop .k) (c .loop-test .taken)
 loop-holds : tie.Need-loop-holds Inv-loop μ-loop
 unfolding blank
 loop-holds c = (zero-le, refl, refl, (λ v. omega (arith, zeros 32 v)), refl, λ v. omega (arith, zeros 1024 v))
-
-mul-e : tie.Need-mul-e Inv-loop μ-loop
-mul-e c = omega arith
-
-shared-slice-read-e : tie.Need-shared-slice-read-e Inv-loop μ-loop
-shared-slice-read-e c = omega arith
 
 cast-e : tie.Need-cast-e Inv-loop μ-loop
 cast-e c = omega (arith, e-in (c .before), v-in (c .before))
@@ -57,9 +53,6 @@ array-write-out c = omega (arith, e-in (c .before .before), v-in (c .before .bef
 element-copy-out-t : tie.Need-element-copy-out-t Inv-loop μ-loop
 element-copy-out-t c = omega (arith, e-in (c .before .before), v-in (c .before .before))
 
-cast-t : tie.Need-cast-t Inv-loop μ-loop
-cast-t c = omega arith
-
 add-t : tie.Need-add-t Inv-loop μ-loop
 add-t c =
     let l = c .before .before .before .before in
@@ -73,12 +66,6 @@ mul-t c = omega (arith, e-in (c .before .before .before), v-in (c .before .befor
 array-write-t : tie.Need-array-write-t Inv-loop μ-loop
 array-write-t c = omega (arith, e-in (c .before .before .before), v-in (c .before .before .before))
 
-add-k : tie.Need-add-k Inv-loop μ-loop
-add-k c = omega arith
-
-loop-less : tie.Need-loop-less Inv-loop μ-loop
-loop-less c = omega arith
-
 loop-again : tie.Need-loop-again Inv-loop μ-loop
 loop-again c =
     let l = c .before .before .before .before in
@@ -90,8 +77,11 @@ loop-again c =
       simp length-set (l .loop .inv .1),
       simp length-set (l .loop .inv .2),
       small-count (l .loop .t) (l .loop .k) (at (a .end .now) e) (flag (a .p .now) e) (omega arith) (l .loop .inv .3),
-      l .loop .inv .4 ∙ marked-turn (at (a .end .now)) (flag (a .p .now)) (a .ord .now) (l .loop .t) (l .loop .out) (l .loop .k) (c .before .before .before .loop-test .taken),
-      small-set (l .loop .out) (l .loop .k) e (at (l .loop .t) (at (a .end .now) e)) (omega arith) (omega (arith, l .loop .inv .3 (at (a .end .now) e))) (l .loop .inv .5),
+      l .loop .inv .4
+          ∙ marked-turn (at (a .end .now)) (flag (a .p .now)) (a .ord .now) (l .loop .t) (l .loop .out) (l .loop .k)
+          (c .before .before .before .loop-test .taken),
+      small-set (l .loop .out) (l .loop .k) e (at (l .loop .t) (at (a .end .now) e)) (omega arith)
+          (omega (arith, l .loop .inv .3 (at (a .end .now) e))) (l .loop .inv .5),
     )
 
 returns : tie.Need-returns Inv-loop μ-loop
@@ -104,26 +94,6 @@ returns c =
 
 pub mark-spec : {M : Type 1} → statement M
 mark-spec =
-    tie.close
-    (tie.spec
-    Inv-loop
-    μ-loop
-    loop-holds
-    mul-e
-    shared-slice-read-e
-    cast-e
-    element-copy-out-v
-    cast-v
-    mul-c
-    array-read-c
-    mul-out
-    array-write-out
-    element-copy-out-t
-    cast-t
-    add-t
-    mul-t
-    array-write-t
-    add-k
-    loop-less
-    loop-again
-    returns)
+    tie.close (tie.spec Inv-loop μ-loop loop-holds (λ c. omega arith) (λ c. omega arith) cast-e element-copy-out-v cast-v mul-c array-read-c
+    mul-out array-write-out element-copy-out-t (λ c. omega arith) add-t mul-t array-write-t (λ c. omega arith) (λ c. omega arith)
+    loop-again returns)

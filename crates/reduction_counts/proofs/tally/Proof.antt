@@ -49,12 +49,6 @@ add-t c =
 array-write-t : tie.Need-array-write-t Inv-loop μ-loop
 array-write-t c = omega (arith, c .before .before .before .before .pre .1 (c .before .before .before .loop .i) (omega arith))
 
-add-i : tie.Need-add-i Inv-loop μ-loop
-add-i c = omega arith
-
-loop-less : tie.Need-loop-less Inv-loop μ-loop
-loop-less c = omega arith
-
 loop-again : tie.Need-loop-again Inv-loop μ-loop
 loop-again c =
     let l = c .before .before .before in
@@ -75,20 +69,5 @@ returns c =
 
 pub tally-spec : {M : Type 1} → statement M
 tally-spec =
-    tie.close
-    (tie.spec
-    Inv-loop
-    μ-loop
-    loop-holds
-    element-copy-out-v
-    cast-v
-    element-copy-out-t
-    cast-t
-    mul-t
-    array-read-t
-    add-t
-    array-write-t
-    add-i
-    loop-less
-    loop-again
-    returns)
+    tie.close (tie.spec Inv-loop μ-loop loop-holds element-copy-out-v cast-v element-copy-out-t cast-t mul-t array-read-t add-t
+    array-write-t (λ c. omega arith) (λ c. omega arith) loop-again returns)

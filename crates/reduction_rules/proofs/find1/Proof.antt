@@ -22,26 +22,11 @@ loop-holds : tie.Need-loop-holds Inv-loop μ-loop
 unfolding low
 loop-holds c = (zero-le, refl)
 
-element-copy-out-if1 : tie.Need-element-copy-out-if1 Inv-loop μ-loop
-element-copy-out-if1 c = omega arith
-
-element-copy-out-if1-2 : tie.Need-element-copy-out-if1-2 Inv-loop μ-loop
-element-copy-out-if1-2 c = omega arith
-
-element-copy-out-if1-3 : tie.Need-element-copy-out-if1-3 Inv-loop μ-loop
-element-copy-out-if1-3 c = omega arith
-
 returns : tie.Need-returns Inv-loop μ-loop
 returns c =
     let l = c .before .before .before .before .before in
     let a = l .before .args in
     sym (low-hit (test (a .rem .now) (a .fs .now) (a .ft .now)) (l .loop .i) (a .m) (l .loop .inv .1) (c .if1 .taken) (omega arith))
-
-add-i : tie.Need-add-i Inv-loop μ-loop
-add-i c = omega arith
-
-loop-less : tie.Need-loop-less Inv-loop μ-loop
-loop-less c = omega arith
 
 loop-again : tie.Need-loop-again Inv-loop μ-loop
 loop-again c =
@@ -58,16 +43,5 @@ returns-2 c =
 
 pub find1-spec : {M : Type 1} → statement M
 find1-spec =
-    tie.close
-    (tie.spec
-    Inv-loop
-    μ-loop
-    loop-holds
-    element-copy-out-if1
-    element-copy-out-if1-2
-    element-copy-out-if1-3
-    returns
-    add-i
-    loop-less
-    loop-again
-    returns-2)
+    tie.close (tie.spec Inv-loop μ-loop loop-holds (λ c. omega arith) (λ c. omega arith) (λ c. omega arith) returns (λ c. omega arith)
+    (λ c. omega arith) loop-again returns-2)

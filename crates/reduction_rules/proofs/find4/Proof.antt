@@ -45,34 +45,45 @@ mul-if1-2 : tie.Need-mul-if1-2 Inv-loop μ-loop
 mul-if1-2 c = omega (arith, c .before .before .before .before .before .before .pre .1 (c .before .before .before .before .before .loop .i) (omega arith))
 
 element-copy-out-if1-4 : tie.Need-element-copy-out-if1-4 Inv-loop μ-loop
-element-copy-out-if1-4 c = omega (arith, c .before .before .before .before .before .before .pre .1 (c .before .before .before .before .before .loop .i) (omega arith))
+element-copy-out-if1-4 c =
+    omega (arith, c .before .before .before .before .before .before .pre .1 (c .before .before .before .before .before .loop .i) (omega arith))
 
 mul-if1-3 : tie.Need-mul-if1-3 Inv-loop μ-loop
-mul-if1-3 c = omega (arith, c .before .before .before .before .before .before .before .pre .1 (c .before .before .before .before .before .before .loop .i) (omega arith))
+mul-if1-3 c =
+    omega (arith, c .before .before .before .before .before .before .before .pre .1 (c .before .before .before .before .before .before .loop .i) (omega arith))
 
 element-copy-out-if1-5 : tie.Need-element-copy-out-if1-5 Inv-loop μ-loop
-element-copy-out-if1-5 c = omega (arith, c .before .before .before .before .before .before .before .pre .1 (c .before .before .before .before .before .before .loop .i) (omega arith))
+element-copy-out-if1-5 c =
+    omega (arith, c .before .before .before .before .before .before .before .pre .1 (c .before .before .before .before .before .before .loop .i) (omega arith))
 
 add-if1 : tie.Need-add-if1 Inv-loop μ-loop
-add-if1 c = omega (arith, c .before .before .before .before .before .before .before .before .pre .2 (c .before .before .before .before .before .before .before .loop .i))
+add-if1 c =
+    omega
+    (arith, c .before .before .before .before .before .before .before .before .pre .2 (c .before .before .before .before .before .before .before .loop .i))
 
 mul-if1-4 : tie.Need-mul-if1-4 Inv-loop μ-loop
-mul-if1-4 c = omega (arith, c .before .before .before .before .before .before .before .before .pre .1 (c .before .before .before .before .before .before .before .loop .i) (omega arith))
+mul-if1-4 c =
+    omega (
+      arith,
+      c .before .before .before .before .before .before .before .before .pre .1
+          (c .before .before .before .before .before .before .before .loop .i) (omega arith),
+    )
 
 element-copy-out-if1-6 : tie.Need-element-copy-out-if1-6 Inv-loop μ-loop
-element-copy-out-if1-6 c = omega (arith, c .before .before .before .before .before .before .before .before .pre .1 (c .before .before .before .before .before .before .before .loop .i) (omega arith))
+element-copy-out-if1-6 c =
+    omega (
+      arith,
+      c .before .before .before .before .before .before .before .before .pre .1
+          (c .before .before .before .before .before .before .before .loop .i) (omega arith),
+    )
 
 returns : tie.Need-returns Inv-loop μ-loop
 returns c =
     let l = c .before .before .before .before .before .before .before .before .before in
     let a = l .before .args in
-    sym (low-hit (test (a .rem .now) (a .sv .now) (a .res .now) (a .ns .now) (a .qs .now) (a .nb .now)) (l .loop .i) (a .m) (l .loop .inv .1) (c .if1 .taken) (omega arith))
-
-add-i : tie.Need-add-i Inv-loop μ-loop
-add-i c = omega arith
-
-loop-less : tie.Need-loop-less Inv-loop μ-loop
-loop-less c = omega arith
+    sym
+    (low-hit (test (a .rem .now) (a .sv .now) (a .res .now) (a .ns .now) (a .qs .now) (a .nb .now)) (l .loop .i) (a .m) (l .loop .inv .1)
+    (c .if1 .taken) (omega arith))
 
 loop-again : tie.Need-loop-again Inv-loop μ-loop
 loop-again c =
@@ -89,26 +100,6 @@ returns-2 c =
 
 pub find4-spec : {M : Type 1} → statement M
 find4-spec =
-    tie.close
-    (tie.spec
-    Inv-loop
-    μ-loop
-    loop-holds
-    element-copy-out-s
-    cast-s
-    element-copy-out-if1
-    element-copy-out-if1-2
-    mul-if1
-    element-copy-out-if1-3
-    mul-if1-2
-    element-copy-out-if1-4
-    mul-if1-3
-    element-copy-out-if1-5
-    add-if1
-    mul-if1-4
-    element-copy-out-if1-6
-    returns
-    add-i
-    loop-less
-    loop-again
-    returns-2)
+    tie.close (tie.spec Inv-loop μ-loop loop-holds element-copy-out-s cast-s element-copy-out-if1 element-copy-out-if1-2 mul-if1
+    element-copy-out-if1-3 mul-if1-2 element-copy-out-if1-4 mul-if1-3 element-copy-out-if1-5 add-if1 mul-if1-4 element-copy-out-if1-6
+    returns (λ c. omega arith) (λ c. omega arith) loop-again returns-2)

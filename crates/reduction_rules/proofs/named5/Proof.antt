@@ -11,7 +11,8 @@ use Rattle.reduction_rules.proofs.named5.Statement.{statement}
 use Rattle.reduction_rules.proofs.named5.Tie as tie
 
 abbrev Inv-loop : tie.InvT-loop
-Inv-loop m rem st lo fs ft o₀ i₀ o i = (i ≤ m) × (length o ≡ 1024) × Made false o (λ e. flag rem e && (not (flag lo (at st e)) && (not (flag fs e) && not (flag ft e)))) i
+Inv-loop m rem st lo fs ft o₀ i₀ o i =
+    (i ≤ m) × (length o ≡ 1024) × Made false o (λ e. flag rem e && (not (flag lo (at st e)) && (not (flag fs e) && not (flag ft e)))) i
 
 abbrev μ-loop : tie.MeasureT-loop
 μ-loop m rem st lo fs ft o₀ i₀ o i = m - i
@@ -35,41 +36,28 @@ element-copy-out-o-3 : tie.Need-element-copy-out-o-3 Inv-loop μ-loop
 element-copy-out-o-3 c = omega (arith, c .before .before .before .before .before .pre .1 (c .before .before .before .before .loop .i) (omega arith))
 
 element-copy-out-o-4 : tie.Need-element-copy-out-o-4 Inv-loop μ-loop
-element-copy-out-o-4 c = omega (arith, c .before .before .before .before .before .before .pre .1 (c .before .before .before .before .before .loop .i) (omega arith))
+element-copy-out-o-4 c =
+    omega (arith, c .before .before .before .before .before .before .pre .1 (c .before .before .before .before .before .loop .i) (omega arith))
 
 array-write-o : tie.Need-array-write-o Inv-loop μ-loop
-array-write-o c = omega (arith, c .before .before .before .before .before .before .before .pre .1 (c .before .before .before .before .before .before .loop .i) (omega arith))
-
-add-i : tie.Need-add-i Inv-loop μ-loop
-add-i c = omega arith
-
-loop-less : tie.Need-loop-less Inv-loop μ-loop
-loop-less c = omega arith
+array-write-o c =
+    omega (arith, c .before .before .before .before .before .before .before .pre .1 (c .before .before .before .before .before .before .loop .i) (omega arith))
 
 loop-again : tie.Need-loop-again Inv-loop μ-loop
 loop-again c =
     let l = c .before .before .before .before .before .before in
-    let a = l .before .args in
-    (omega arith, simp length-set (l .loop .inv .1), made-next false (l .loop .o) (λ e. flag (a .rem .now) e && (not (flag (a .lo .now) (at (a .st .now) e)) && (not (flag (a .fs .now) e) && not (flag (a .ft .now) e)))) (l .loop .i) (omega arith) (l .loop .inv .2))
+    let a = l .before .args in (
+      omega arith,
+      simp length-set (l .loop .inv .1),
+      made-next false (l .loop .o)
+          (λ e. flag (a .rem .now) e && (not (flag (a .lo .now) (at (a .st .now) e)) && (not (flag (a .fs .now) e) && not (flag (a .ft .now) e))))
+          (l .loop .i) (omega arith) (l .loop .inv .2),
+    )
 
 returns : tie.Need-returns Inv-loop μ-loop
 returns c = λ e h. c .before .loop .inv .2 e (omega arith)
 
 pub named5-spec : {M : Type 1} → statement M
 named5-spec =
-    tie.close
-    (tie.spec
-    Inv-loop
-    μ-loop
-    loop-holds
-    element-copy-out-t
-    cast-t
-    element-copy-out-o
-    element-copy-out-o-2
-    element-copy-out-o-3
-    element-copy-out-o-4
-    array-write-o
-    add-i
-    loop-less
-    loop-again
-    returns)
+    tie.close (tie.spec Inv-loop μ-loop loop-holds element-copy-out-t cast-t element-copy-out-o element-copy-out-o-2 element-copy-out-o-3
+    element-copy-out-o-4 array-write-o (λ c. omega arith) (λ c. omega arith) loop-again returns)

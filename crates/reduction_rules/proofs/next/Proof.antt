@@ -18,28 +18,27 @@ abbrev μ-loop : tie.MeasureT-loop
 μ-loop m p from i₀ i = m - i
 
 loop-holds : tie.Need-loop-holds Inv-loop μ-loop
-loop-holds c = let a = c .args in (omega arith, c .pre .1, low-none (λ e. leb (a .from) e && flag (a .p .now) e) (a .from) (λ e l. ap (λ b. b && flag (a .p .now) e) (lt-leb (a .from) e l)))
-
-element-copy-out-if1 : tie.Need-element-copy-out-if1 Inv-loop μ-loop
-element-copy-out-if1 c = omega arith
+loop-holds c =
+    let a = c .args in
+    (omega arith, c .pre .1, low-none (λ e. leb (a .from) e && flag (a .p .now) e) (a .from) (λ e l. ap (λ b. b && flag (a .p .now) e) (lt-leb (a .from) e l)))
 
 returns : tie.Need-returns Inv-loop μ-loop
 returns c =
     let l = c .before .before .before in
     let a = l .before .args in
-    sym (low-hit (λ e. leb (a .from) e && flag (a .p .now) e) (l .loop .i) (a .m) (l .loop .inv .2) (ap (λ b. b && flag (a .p .now) (l .loop .i)) (le-leb (a .from) (l .loop .i) (l .loop .inv .0)) ∙ c .if1 .taken) (omega arith))
-
-add-i : tie.Need-add-i Inv-loop μ-loop
-add-i c = omega arith
-
-loop-less : tie.Need-loop-less Inv-loop μ-loop
-loop-less c = omega arith
+    sym
+    (low-hit (λ e. leb (a .from) e && flag (a .p .now) e) (l .loop .i) (a .m) (l .loop .inv .2)
+    (ap (λ b. b && flag (a .p .now) (l .loop .i)) (le-leb (a .from) (l .loop .i) (l .loop .inv .0)) ∙ c .if1 .taken) (omega arith))
 
 loop-again : tie.Need-loop-again Inv-loop μ-loop
 loop-again c =
     let l = c .before .before .before in
-    let a = l .before .args in
-    (omega arith, omega arith, low-miss (λ e. leb (a .from) e && flag (a .p .now) e) (l .loop .i) (l .loop .inv .2) (ap (λ b. b && flag (a .p .now) (l .loop .i)) (le-leb (a .from) (l .loop .i) (l .loop .inv .0)) ∙ c .if1 .left))
+    let a = l .before .args in (
+      omega arith,
+      omega arith,
+      low-miss (λ e. leb (a .from) e && flag (a .p .now) e) (l .loop .i) (l .loop .inv .2)
+          (ap (λ b. b && flag (a .p .now) (l .loop .i)) (le-leb (a .from) (l .loop .i) (l .loop .inv .0)) ∙ c .if1 .left),
+    )
 
 returns-2 : tie.Need-returns-2 Inv-loop μ-loop
 returns-2 c =
@@ -49,15 +48,4 @@ returns-2 c =
     sym (l .loop .inv .2) ∙ ap (low (λ e. leb (a .from) e && flag (a .p .now) e)) e
 
 pub next-spec : {M : Type 1} → statement M
-next-spec =
-    tie.close
-    (tie.spec
-    Inv-loop
-    μ-loop
-    loop-holds
-    element-copy-out-if1
-    returns
-    add-i
-    loop-less
-    loop-again
-    returns-2)
+next-spec = tie.close (tie.spec Inv-loop μ-loop loop-holds (λ c. omega arith) returns (λ c. omega arith) (λ c. omega arith) loop-again returns-2)

@@ -15,55 +15,58 @@ use Rattle.rival_arcs.proofs.arc_row.Statement.{statement}
 use Rattle.rival_arcs.proofs.arc_row.Tie as tie
 
 abbrev Inv-loop : tie.InvT-loop
-Inv-loop m sv st rs rt plan ps qs t b o₀ f₀ o f = (f ≤ m) × ((j : ℕ) → j < 64 → arcRest m sv st rs rt plan t b (at ps j) (at qs j) (at o j) f ≡ arcPrice m sv st rs rt plan t b (at ps j) (at qs j))
+Inv-loop m sv st rs rt plan ps qs t b o₀ f₀ o f =
+    (f ≤ m) × ((j : ℕ) → j < 64 → arcRest m sv st rs rt plan t b (at ps j) (at qs j) (at o j) f ≡ arcPrice m sv st rs rt plan t b (at ps j) (at qs j))
 
 abbrev μ-loop : tie.MeasureT-loop
 μ-loop m sv st rs rt plan ps qs t b o₀ f₀ o f = m - f
 
 loop-holds : tie.Need-loop-holds Inv-loop μ-loop
 loop-holds c =
-    let a = c .args in
-    (zero-le, λ j h. ap (λ v. arcRest (a .m) (a .sv .now) (a .st .now) (a .rs .now) (a .rt .now) (a .plan .now) (a .t) (a .b) (at (a .ps .now) j) (at (a .qs .now) j) v 0) (getD-replicate 64 j 133 0 h) ∙ arc-start (a .m) (a .sv .now) (a .st .now) (a .rs .now) (a .rt .now) (a .plan .now) (a .t) (a .b) (at (a .ps .now) j) (at (a .qs .now) j))
-
-element-copy-out-if1 : tie.Need-element-copy-out-if1 Inv-loop μ-loop
-element-copy-out-if1 c = search needs
-
-element-copy-out-if1-2 : tie.Need-element-copy-out-if1-2 Inv-loop μ-loop
-element-copy-out-if1-2 c = search needs
-
-element-copy-out-rated : tie.Need-element-copy-out-rated Inv-loop μ-loop
-element-copy-out-rated c = search needs
-
-rated-requires : tie.Need-rated-requires Inv-loop μ-loop
-rated-requires c κs = search needs
-
-element-copy-out-joined : tie.Need-element-copy-out-joined Inv-loop μ-loop
-element-copy-out-joined c = search needs
-
-element-copy-out-joined-2 : tie.Need-element-copy-out-joined-2 Inv-loop μ-loop
-element-copy-out-joined-2 c = search needs
-
-joined-requires : tie.Need-joined-requires Inv-loop μ-loop
-joined-requires c κs = search needs
-
-add-f : tie.Need-add-f Inv-loop μ-loop
-add-f c = search needs
-
-loop-less : tie.Need-loop-less Inv-loop μ-loop
-loop-less c = search needs
+    let a = c .args in (
+      zero-le,
+      λ j h. ap
+          (λ v. arcRest (a .m) (a .sv .now) (a .st .now) (a .rs .now) (a .rt .now) (a .plan .now) (a .t) (a .b) (at (a .ps .now) j) (at (a .qs .now) j) v 0)
+          (getD-replicate 64 j 133 0 h)
+          ∙ arc-start (a .m) (a .sv .now) (a .st .now) (a .rs .now) (a .rt .now) (a .plan .now) (a .t) (a .b) (at (a .ps .now) j) (at (a .qs .now) j),
+    )
 
 loop-again : tie.Need-loop-again Inv-loop μ-loop
 loop-again c =
     let l = c .before .before .before .before in
     let a = l .before .args in
-    let g : (j : ℕ) → j < 64 → arcRest (a .m) (a .sv .now) (a .st .now) (a .rs .now) (a .rt .now) (a .plan .now) (a .t) (a .b) (at (a .ps .now) j) (at (a .qs .now) j) (at (l .loop .o) j) (l .loop .f) ≡ arcPrice (a .m) (a .sv .now) (a .st .now) (a .rs .now) (a .rt .now) (a .plan .now) (a .t) (a .b) (at (a .ps .now) j) (at (a .qs .now) j) = l .loop .inv .1 in
+    let g : (j : ℕ) → j < 64
+    → arcRest (a .m) (a .sv .now) (a .st .now) (a .rs .now) (a .rt .now) (a .plan .now) (a .t) (a .b) (at (a .ps .now) j) (at (a .qs .now) j)
+    (at (l .loop .o) j) (l .loop .f) ≡ arcPrice (a .m) (a .sv .now) (a .st .now) (a .rs .now) (a .rt .now) (a .plan .now) (a .t) (a .b)
+    (at (a .ps .now) j) (at (a .qs .now) j) =
+    l .loop .inv .1 in
     let o : List ℕ = c .if1 .o in (
       omega arith,
       λ j h. ⊎-elim
-          (λ w. ap (λ z. arcRest (a .m) (a .sv .now) (a .st .now) (a .rs .now) (a .rt .now) (a .plan .now) (a .t) (a .b) (at (a .ps .now) j) (at (a .qs .now) j) (at z j) (l .loop .f + 1)) (w .6)
-          ∙ ap (λ v. arcRest (a .m) (a .sv .now) (a .st .now) (a .rs .now) (a .rt .now) (a .plan .now) (a .t) (a .b) (at (a .ps .now) j) (at (a .qs .now) j) v (l .loop .f + 1)) (w .5 .ensures j h ∙ ap (λ p. offer (eqb (at (a .sv .now) (l .loop .f)) (at (a .ps .now) j)) (p + rate (at (a .qs .now) j) (at (a .rs .now) (l .loop .f))) (at (l .loop .o) j)) (w .2 .ensures .0))
-          ∙ sym (arc-turn (a .m) (a .sv .now) (a .st .now) (a .rs .now) (a .rt .now) (a .plan .now) (a .t) (a .b) (at (a .ps .now) j) (at (a .qs .now) j) (at (l .loop .o) j) (l .loop .f) (omega arith) (w .0 .taken)) ∙ g j h)
-          (λ w. ap (λ z. arcRest (a .m) (a .sv .now) (a .st .now) (a .rs .now) (a .rt .now) (a .plan .now) (a .t) (a .b) (at (a .ps .now) j) (at (a .qs .now) j) (at z j) (l .loop .f + 1)) (w .1) ∙ sym (arc-past (a .m) (a .sv .now) (a .st .now) (a .rs .now) (a .rt .now) (a .plan .now) (a .t) (a .b) (at (a .ps .now) j) (at (a .qs .now) j) (at (l .loop .o) j) (l .loop .f) (omega arith) (w .0 .left)) ∙ g j h)
+          (λ w. ap
+          (λ z. arcRest (a .m) (a .sv .now) (a .st .now) (a .rs .now) (a .rt .now) (a .plan .now) (a .t) (a .b) (at (a .ps .now) j)
+          (at (a .qs .now) j) (at z j) (l .loop .f + 1))
+          (w .6)
+          ∙ ap
+          (λ v. arcRest (a .m) (a .sv .now) (a .st .now) (a .rs .now) (a .rt .now) (a .plan .now) (a .t) (a .b) (at (a .ps .now) j)
+          (at (a .qs .now) j) v (l .loop .f + 1))
+          (w .5 .ensures j h
+          ∙ ap
+          (λ p. offer (eqb (at (a .sv .now) (l .loop .f)) (at (a .ps .now) j))
+          (p + rate (at (a .qs .now) j) (at (a .rs .now) (l .loop .f))) (at (l .loop .o) j))
+          (w .2 .ensures .0))
+          ∙ sym
+          (arc-turn (a .m) (a .sv .now) (a .st .now) (a .rs .now) (a .rt .now) (a .plan .now) (a .t) (a .b) (at (a .ps .now) j)
+          (at (a .qs .now) j) (at (l .loop .o) j) (l .loop .f) (omega arith) (w .0 .taken))
+          ∙ g j h)
+          (λ w. ap
+          (λ z. arcRest (a .m) (a .sv .now) (a .st .now) (a .rs .now) (a .rt .now) (a .plan .now) (a .t) (a .b) (at (a .ps .now) j)
+          (at (a .qs .now) j) (at z j) (l .loop .f + 1))
+          (w .1)
+          ∙ sym
+          (arc-past (a .m) (a .sv .now) (a .st .now) (a .rs .now) (a .rt .now) (a .plan .now) (a .t) (a .b) (at (a .ps .now) j)
+          (at (a .qs .now) j) (at (l .loop .o) j) (l .loop .f) (omega arith) (w .0 .left))
+          ∙ g j h)
           (c .if1 .came),
     )
 
@@ -71,23 +74,12 @@ returns : tie.Need-returns Inv-loop μ-loop
 returns c =
     let l = c .before in
     let a = l .before .args in
-    λ j h. sym (arc-end (a .m) (a .sv .now) (a .st .now) (a .rs .now) (a .rt .now) (a .plan .now) (a .t) (a .b) (at (a .ps .now) j) (at (a .qs .now) j) (at (l .loop .o) j) (l .loop .f) (omega arith)) ∙ l .loop .inv .1 j h
+    λ j h. sym
+    (arc-end (a .m) (a .sv .now) (a .st .now) (a .rs .now) (a .rt .now) (a .plan .now) (a .t) (a .b) (at (a .ps .now) j) (at (a .qs .now) j)
+    (at (l .loop .o) j) (l .loop .f) (omega arith))
+    ∙ l .loop .inv .1 j h
 
 pub arc-row-spec : {M : Type 1} → statement M
 arc-row-spec =
-    tie.close
-    (tie.spec
-    Inv-loop
-    μ-loop
-    loop-holds
-    element-copy-out-if1
-    element-copy-out-if1-2
-    element-copy-out-rated
-    rated-requires
-    element-copy-out-joined
-    element-copy-out-joined-2
-    joined-requires
-    add-f
-    loop-less
-    loop-again
-    returns)
+    tie.close (tie.spec Inv-loop μ-loop loop-holds (λ c. search needs) (λ c. search needs) (λ c. search needs) (λ c κs. search needs)
+    (λ c. search needs) (λ c. search needs) (λ c κs. search needs) (λ c. search needs) (λ c. search needs) loop-again returns)

@@ -18,45 +18,21 @@ abbrev μ-loop : tie.MeasureT-loop
 loop-holds : tie.Need-loop-holds Inv-loop μ-loop
 loop-holds c = (zero-le, λ i j h. absurd (not-suc-le-zero h))
 
-element-copy-out-arc-row : tie.Need-element-copy-out-arc-row Inv-loop μ-loop
-element-copy-out-arc-row c = search needs
-
-element-copy-out-arc-row-2 : tie.Need-element-copy-out-arc-row-2 Inv-loop μ-loop
-element-copy-out-arc-row-2 c = search needs
-
-arc-row-requires : tie.Need-arc-row-requires Inv-loop μ-loop
-arc-row-requires c κs = search needs
-
-put-row-requires : tie.Need-put-row-requires Inv-loop μ-loop
-put-row-requires c κs = search needs
-
-add-i : tie.Need-add-i Inv-loop μ-loop
-add-i c = search needs
-
-loop-less : tie.Need-loop-less Inv-loop μ-loop
-loop-less c = search needs
-
 loop-again : tie.Need-loop-again Inv-loop μ-loop
 loop-again c =
     let l = c .before .before .before .before .before in
-    let a = l .before .args in
-    (omega arith, rows-next (l .loop .o) (c .before .arc-row .result) (c .put-row .result) (λ i j. arcPrice (a .m) (a .sv .now) (a .st .now) (a .rs .now) (a .rt .now) (a .plan .now) (at (a .pt .now) i) (at (a .qt .now) i) (at (a .ps .now) j) (at (a .qs .now) j)) (l .loop .i) (l .loop .inv .1) (c .before .arc-row .ensures) (c .put-row .ensures))
+    let a = l .before .args in (
+      omega arith,
+      rows-next (l .loop .o) (c .before .arc-row .result) (c .put-row .result)
+          (λ i j. arcPrice (a .m) (a .sv .now) (a .st .now) (a .rs .now) (a .rt .now) (a .plan .now) (at (a .pt .now) i) (at (a .qt .now) i)
+          (at (a .ps .now) j) (at (a .qs .now) j))
+          (l .loop .i) (l .loop .inv .1) (c .before .arc-row .ensures) (c .put-row .ensures),
+    )
 
 returns : tie.Need-returns Inv-loop μ-loop
 returns c = λ i j h k. c .before .loop .inv .1 i j (omega arith) k
 
 pub arcs-spec : {M : Type 1} → statement M
 arcs-spec =
-    tie.close
-    (tie.spec
-    Inv-loop
-    μ-loop
-    loop-holds
-    element-copy-out-arc-row
-    element-copy-out-arc-row-2
-    arc-row-requires
-    put-row-requires
-    add-i
-    loop-less
-    loop-again
-    returns)
+    tie.close (tie.spec Inv-loop μ-loop loop-holds (λ c. search needs) (λ c. search needs) (λ c κs. search needs) (λ c κs. search needs)
+    (λ c. search needs) (λ c. search needs) loop-again returns)

@@ -22,33 +22,6 @@ abbrev μ-loop : tie.MeasureT-loop
 loop-holds : tie.Need-loop-holds Inv-loop μ-loop
 loop-holds c = (zero-le, refl, λ e h. absurd (not-suc-le-zero h))
 
-element-copy-out-rated : tie.Need-element-copy-out-rated Inv-loop μ-loop
-element-copy-out-rated c = search needs
-
-rated-requires : tie.Need-rated-requires Inv-loop μ-loop
-rated-requires c κs = search needs
-
-add-p : tie.Need-add-p Inv-loop μ-loop
-add-p c = search needs
-
-element-copy-out-offered : tie.Need-element-copy-out-offered Inv-loop μ-loop
-element-copy-out-offered c = search needs
-
-array-read-offered : tie.Need-array-read-offered Inv-loop μ-loop
-array-read-offered c = search needs
-
-offered-requires : tie.Need-offered-requires Inv-loop μ-loop
-offered-requires c κs = search needs
-
-array-write-o : tie.Need-array-write-o Inv-loop μ-loop
-array-write-o c = search needs
-
-add-j : tie.Need-add-j Inv-loop μ-loop
-add-j c = search needs
-
-loop-less : tie.Need-loop-less Inv-loop μ-loop
-loop-less c = search needs
-
 loop-again : tie.Need-loop-again Inv-loop μ-loop
 loop-again c =
     let l = c .before .before .before .before .before in
@@ -57,7 +30,9 @@ loop-again c =
       omega arith,
       simp length-set (l .loop .inv .1),
       made-set 0 (l .loop .o) f (l .loop .j) (c .offered .result) (omega arith)
-          (c .offered .ensures ∙ ap (λ p. offer (eqb (a .s) (at (a .ps .now) (l .loop .j))) (a .a + p) (at (a .t1) (l .loop .j))) (c .before .before .rated .ensures .0)) (l .loop .inv .2),
+          (c .offered .ensures
+          ∙ ap (λ p. offer (eqb (a .s) (at (a .ps .now) (l .loop .j))) (a .a + p) (at (a .t1) (l .loop .j)))
+          (c .before .before .rated .ensures .0)) (l .loop .inv .2),
     )
 
 returns : tie.Need-returns Inv-loop μ-loop
@@ -65,19 +40,5 @@ returns c = λ e h. c .before .loop .inv .2 e (omega arith)
 
 pub joined-spec : {M : Type 1} → statement M
 joined-spec =
-    tie.close
-    (tie.spec
-    Inv-loop
-    μ-loop
-    loop-holds
-    element-copy-out-rated
-    rated-requires
-    add-p
-    element-copy-out-offered
-    array-read-offered
-    offered-requires
-    array-write-o
-    add-j
-    loop-less
-    loop-again
-    returns)
+    tie.close (tie.spec Inv-loop μ-loop loop-holds (λ c. search needs) (λ c κs. search needs) (λ c. search needs) (λ c. search needs)
+    (λ c. search needs) (λ c κs. search needs) (λ c. search needs) (λ c. search needs) (λ c. search needs) loop-again returns)

@@ -19,44 +19,35 @@ loop-holds : tie.Need-loop-holds Inv-loop μ-loop
 unfolding low
 loop-holds c = (zero-le, refl)
 
-element-copy-out-s : tie.Need-element-copy-out-s Inv-loop μ-loop
-element-copy-out-s c = search needs
-
 cast-s : tie.Need-cast-s Inv-loop μ-loop
 cast-s c = omega (arith, c .before .before .before .pre .1 (c .before .before .loop .f) (omega arith))
 
-element-copy-out-t : tie.Need-element-copy-out-t Inv-loop μ-loop
-element-copy-out-t c = search needs
-
 cast-t : tie.Need-cast-t Inv-loop μ-loop
 cast-t c = omega (arith, c .before .before .before .before .pre .2 (c .before .before .before .loop .f) (omega arith))
-
-element-copy-out-if1 : tie.Need-element-copy-out-if1 Inv-loop μ-loop
-element-copy-out-if1 c = search needs
 
 element-copy-out-if1-2 : tie.Need-element-copy-out-if1-2 Inv-loop μ-loop
 element-copy-out-if1-2 c = omega (arith, c .before .before .before .before .before .pre .1 (c .before .before .before .before .loop .f) (omega arith))
 
 element-copy-out-if1-3 : tie.Need-element-copy-out-if1-3 Inv-loop μ-loop
-element-copy-out-if1-3 c = omega (arith, c .before .before .before .before .before .before .pre .2 (c .before .before .before .before .before .loop .f) (omega arith))
+element-copy-out-if1-3 c =
+    omega (arith, c .before .before .before .before .before .before .pre .2 (c .before .before .before .before .before .loop .f) (omega arith))
 
 returns : tie.Need-returns Inv-loop μ-loop
 returns c =
     let l = c .before .before .before .before .before .before .before in
     let a = c .before .before .before .before .before .before .before .before .args in
-    sym (low-hit (λ f. not (flag (a .plan .now) f) && (flag (a .rs .now) (at (a .sv .now) f) && flag (a .rt .now) (at (a .st .now) f))) (l .loop .f) (a .m) (l .loop .inv .1) (c .if1 .taken) (omega arith))
-
-add-f : tie.Need-add-f Inv-loop μ-loop
-add-f c = search needs
-
-loop-less : tie.Need-loop-less Inv-loop μ-loop
-loop-less c = search needs
+    sym
+    (low-hit (λ f. not (flag (a .plan .now) f) && (flag (a .rs .now) (at (a .sv .now) f) && flag (a .rt .now) (at (a .st .now) f))) (l .loop .f)
+    (a .m) (l .loop .inv .1) (c .if1 .taken) (omega arith))
 
 loop-again : tie.Need-loop-again Inv-loop μ-loop
 loop-again c =
     let l = c .before .before .before .before .before .before .before in
-    let a = c .before .before .before .before .before .before .before .before .args in
-    (omega arith, low-miss (λ f. not (flag (a .plan .now) f) && (flag (a .rs .now) (at (a .sv .now) f) && flag (a .rt .now) (at (a .st .now) f))) (l .loop .f) (l .loop .inv .1) (c .if1 .left))
+    let a = c .before .before .before .before .before .before .before .before .args in (
+      omega arith,
+      low-miss (λ f. not (flag (a .plan .now) f) && (flag (a .rs .now) (at (a .sv .now) f) && flag (a .rt .now) (at (a .st .now) f))) (l .loop .f)
+          (l .loop .inv .1) (c .if1 .left),
+    )
 
 returns-2 : tie.Need-returns-2 Inv-loop μ-loop
 returns-2 c =
@@ -67,20 +58,5 @@ returns-2 c =
 
 pub direct-spec : {M : Type 1} → statement M
 direct-spec =
-    tie.close
-    (tie.spec
-    Inv-loop
-    μ-loop
-    loop-holds
-    element-copy-out-s
-    cast-s
-    element-copy-out-t
-    cast-t
-    element-copy-out-if1
-    element-copy-out-if1-2
-    element-copy-out-if1-3
-    returns
-    add-f
-    loop-less
-    loop-again
-    returns-2)
+    tie.close (tie.spec Inv-loop μ-loop loop-holds (λ c. search needs) cast-s (λ c. search needs) cast-t (λ c. search needs)
+    element-copy-out-if1-2 element-copy-out-if1-3 returns (λ c. search needs) (λ c. search needs) loop-again returns-2)

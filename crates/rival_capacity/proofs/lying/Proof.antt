@@ -26,28 +26,24 @@ loop-holds : tie.Need-loop-holds Inv-loop μ-loop
 unfolding count
 loop-holds c = (zero-le, refl)
 
-element-copy-out-c : tie.Need-element-copy-out-c Inv-loop μ-loop
-element-copy-out-c c = search needs
-
-cast-c : tie.Need-cast-c Inv-loop μ-loop
-cast-c c = search needs
-
 add-c : tie.Need-add-c Inv-loop μ-loop
 add-c c =
     let a = c .before .before .before .args in
-    omega (arith, count-≤ (λ j. eqb (at (a .nodes .now) j) (a .v)) (c .before .before .loop .j), byte-one (eqb (at (a .nodes .now) (c .before .before .loop .j)) (a .v)), c .before .before .loop .inv .1)
-
-add-j : tie.Need-add-j Inv-loop μ-loop
-add-j c = search needs
-
-loop-less : tie.Need-loop-less Inv-loop μ-loop
-loop-less c = search needs
+    omega (
+      arith,
+      count-≤ (λ j. eqb (at (a .nodes .now) j) (a .v)) (c .before .before .loop .j),
+      byte-one (eqb (at (a .nodes .now) (c .before .before .loop .j)) (a .v)),
+      c .before .before .loop .inv .1,
+    )
 
 loop-again : tie.Need-loop-again Inv-loop μ-loop
 loop-again c =
     let l = c .before .before in
-    let a = c .before .before .before .args in
-    (omega arith, omega (arith, count-next (λ j. eqb (at (a .nodes .now) j) (a .v)) (l .loop .j), byte-bit (eqb (at (a .nodes .now) (l .loop .j)) (a .v)), l .loop .inv .1))
+    let a = c .before .before .before .args in (
+      omega arith,
+      omega
+          (arith, count-next (λ j. eqb (at (a .nodes .now) j) (a .v)) (l .loop .j), byte-bit (eqb (at (a .nodes .now) (l .loop .j)) (a .v)), l .loop .inv .1),
+    )
 
 returns : tie.Need-returns Inv-loop μ-loop
 returns c =
@@ -58,15 +54,5 @@ returns c =
 
 pub lying-spec : {M : Type 1} → statement M
 lying-spec =
-    tie.close
-    (tie.spec
-    Inv-loop
-    μ-loop
-    loop-holds
-    element-copy-out-c
-    cast-c
-    add-c
-    add-j
-    loop-less
-    loop-again
-    returns)
+    tie.close (tie.spec Inv-loop μ-loop loop-holds (λ c. search needs) (λ c. search needs) add-c (λ c. search needs) (λ c. search needs)
+    loop-again returns)

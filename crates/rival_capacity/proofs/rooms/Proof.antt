@@ -22,45 +22,21 @@ abbrev μ-loop : tie.MeasureT-loop
 loop-holds : tie.Need-loop-holds Inv-loop μ-loop
 loop-holds c = (zero-le, refl, λ e h. absurd (not-suc-le-zero h))
 
-cast-lying : tie.Need-cast-lying Inv-loop μ-loop
-cast-lying c = search needs
-
-lying-requires : tie.Need-lying-requires Inv-loop μ-loop
-lying-requires c κs = search needs
-
-element-copy-out-o : tie.Need-element-copy-out-o Inv-loop μ-loop
-element-copy-out-o c = search needs
-
-array-write-o : tie.Need-array-write-o Inv-loop μ-loop
-array-write-o c = search needs
-
-add-v : tie.Need-add-v Inv-loop μ-loop
-add-v c = search needs
-
-loop-less : tie.Need-loop-less Inv-loop μ-loop
-loop-less c = search needs
-
 loop-again : tie.Need-loop-again Inv-loop μ-loop
 loop-again c =
     let l = c .before .before .before in
-    let a = c .before .before .before .before .args in
-    (omega arith, simp length-set (l .loop .inv .1), made-set false (l .loop .o) (λ v. ltb (count (λ j. eqb (at (a .nodes .now) j) v) (a .n)) (at (a .quota .now) v)) (l .loop .v) (ltb (c .before .lying .result) (at (a .quota .now) (l .loop .v))) (omega arith) (ap (λ x. ltb x (at (a .quota .now) (l .loop .v))) (c .before .lying .ensures)) (l .loop .inv .2))
+    let a = c .before .before .before .before .args in (
+      omega arith,
+      simp length-set (l .loop .inv .1),
+      made-set false (l .loop .o) (λ v. ltb (count (λ j. eqb (at (a .nodes .now) j) v) (a .n)) (at (a .quota .now) v)) (l .loop .v)
+          (ltb (c .before .lying .result) (at (a .quota .now) (l .loop .v))) (omega arith)
+          (ap (λ x. ltb x (at (a .quota .now) (l .loop .v))) (c .before .lying .ensures)) (l .loop .inv .2),
+    )
 
 returns : tie.Need-returns Inv-loop μ-loop
 returns c = λ e h. c .before .loop .inv .2 e (omega arith)
 
 pub rooms-spec : {M : Type 1} → statement M
 rooms-spec =
-    tie.close
-    (tie.spec
-    Inv-loop
-    μ-loop
-    loop-holds
-    cast-lying
-    lying-requires
-    element-copy-out-o
-    array-write-o
-    add-v
-    loop-less
-    loop-again
-    returns)
+    tie.close (tie.spec Inv-loop μ-loop loop-holds (λ c. search needs) (λ c κs. search needs) (λ c. search needs) (λ c. search needs)
+    (λ c. search needs) (λ c. search needs) loop-again returns)

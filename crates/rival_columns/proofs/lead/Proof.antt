@@ -16,47 +16,26 @@ Inv-loop n arcs table k i b c v₀ p₀ y₀ v p y = (y ≤ n) × (v ≤ 133) ×
 abbrev μ-loop : tie.MeasureT-loop
 μ-loop n arcs table k i b c v₀ p₀ y₀ v p y = n - y
 
-mul-b : tie.Need-mul-b Inv-loop μ-loop
-mul-b c = search needs
-
-mul-c : tie.Need-mul-c Inv-loop μ-loop
-mul-c c = search needs
-
-add-lesser : tie.Need-add-lesser Inv-loop μ-loop
-add-lesser c = search needs
-
-element-copy-out-lesser : tie.Need-element-copy-out-lesser Inv-loop μ-loop
-element-copy-out-lesser c = search needs
-
 add-lesser-2 : tie.Need-add-lesser-2 Inv-loop μ-loop
 add-lesser-2 c = omega (arith, c .before .pre .4 (c .before .args .i) (c .before .pre .1))
-
-lesser-requires : tie.Need-lesser-requires Inv-loop μ-loop
-lesser-requires c κs = search needs
-
-cast-v : tie.Need-cast-v Inv-loop μ-loop
-cast-v c = search needs
 
 loop-holds : tie.Need-loop-holds Inv-loop μ-loop
 loop-holds c =
     let a = c .before .before .args in
-    let e : c .lesser .result ≡ keptPrice (cell (a .table .now) (a .k) (a .i)) = c .lesser .ensures in
-    (zero-le, omega (arith, e), ap (λ v. leadRest (a .arcs .now) (a .n) (cell (a .table .now) (a .k)) (a .i) (v, a .n) 0) e ∙ lead-start (a .arcs .now) (a .n) (cell (a .table .now) (a .k)) (a .i))
-
-add-s : tie.Need-add-s Inv-loop μ-loop
-add-s c = search needs
-
-element-copy-out-s : tie.Need-element-copy-out-s Inv-loop μ-loop
-element-copy-out-s c = search needs
+    let e : c .lesser .result ≡ keptPrice (cell (a .table .now) (a .k) (a .i)) = c .lesser .ensures in (
+      zero-le,
+      omega (arith, e),
+      ap (λ v. leadRest (a .arcs .now) (a .n) (cell (a .table .now) (a .k)) (a .i) (v, a .n) 0) e
+          ∙ lead-start (a .arcs .now) (a .n) (cell (a .table .now) (a .k)) (a .i),
+    )
 
 cast-s : tie.Need-cast-s Inv-loop μ-loop
-cast-s c = omega (arith, c .before .before .before .before .before .pre .3 (c .before .before .before .before .before .args .i) (c .before .before .loop .y) (omega arith) (omega arith))
-
-add-s-2 : tie.Need-add-s-2 Inv-loop μ-loop
-add-s-2 c = search needs
-
-element-copy-out-s-2 : tie.Need-element-copy-out-s-2 Inv-loop μ-loop
-element-copy-out-s-2 c = search needs
+cast-s c =
+    omega (
+      arith,
+      c .before .before .before .before .before .pre .3 (c .before .before .before .before .before .args .i) (c .before .before .loop .y)
+          (omega arith) (omega arith),
+    )
 
 cast-s-2 : tie.Need-cast-s-2 Inv-loop μ-loop
 cast-s-2 c = omega (arith, c .before .before .before .before .before .before .pre .4 (c .before .before .before .loop .y) (omega arith))
@@ -67,12 +46,6 @@ add-s-3 c =
     let y = c .before .before .before .loop .y in
     omega (arith, s .pre .3 (s .args .i) y (omega arith) (omega arith), s .pre .4 y (omega arith))
 
-add-y : tie.Need-add-y Inv-loop μ-loop
-add-y c = search needs
-
-loop-less : tie.Need-loop-less Inv-loop μ-loop
-loop-less c = search needs
-
 loop-again : tie.Need-loop-again Inv-loop μ-loop
 loop-again c =
     let l = c .before .before .before .before in
@@ -80,7 +53,8 @@ loop-again c =
     let y = l .loop .y in
     let v = l .loop .v in
     let p = l .loop .p in
-    let e : leadRest (a .arcs .now) (a .n) (cell (a .table .now) (a .k)) (a .i) (v, p) y ≡ leadAt (a .arcs .now) (a .n) (cell (a .table .now) (a .k)) (a .i) = l .loop .inv .2 in
+    let e : leadRest (a .arcs .now) (a .n) (cell (a .table .now) (a .k)) (a .i) (v, p) y ≡ leadAt (a .arcs .now) (a .n) (cell (a .table .now) (a .k)) (a .i) =
+    l .loop .inv .2 in
     ⊎-elim
     (λ w. (
       omega arith,
@@ -96,9 +70,6 @@ loop-again c =
     ))
     (c .if1 .came)
 
-cast-t12 : tie.Need-cast-t12 Inv-loop μ-loop
-cast-t12 c = search needs
-
 returns : tie.Need-returns Inv-loop μ-loop
 returns c =
     let l = c .before in
@@ -107,27 +78,6 @@ returns c =
 
 pub lead-spec : {M : Type 1} → statement M
 lead-spec =
-    tie.close
-    (tie.spec
-    Inv-loop
-    μ-loop
-    mul-b
-    mul-c
-    add-lesser
-    element-copy-out-lesser
-    add-lesser-2
-    lesser-requires
-    cast-v
-    loop-holds
-    add-s
-    element-copy-out-s
-    cast-s
-    add-s-2
-    element-copy-out-s-2
-    cast-s-2
-    add-s-3
-    add-y
-    loop-less
-    loop-again
-    cast-t12
-    returns)
+    tie.close (tie.spec Inv-loop μ-loop (λ c. search needs) (λ c. search needs) (λ c. search needs) (λ c. search needs) add-lesser-2
+    (λ c κs. search needs) (λ c. search needs) loop-holds (λ c. search needs) (λ c. search needs) cast-s (λ c. search needs)
+    (λ c. search needs) cast-s-2 add-s-3 (λ c. search needs) (λ c. search needs) loop-again (λ c. search needs) returns)

@@ -24,34 +24,20 @@ lead-requires c κs =
     let p = c .before .before .pre in
     (p .0, omega arith, p .1, p .2, p .3)
 
-array-write-o : tie.Need-array-write-o Inv-loop μ-loop
-array-write-o c = search needs
-
-add-i : tie.Need-add-i Inv-loop μ-loop
-add-i c = search needs
-
-loop-less : tie.Need-loop-less Inv-loop μ-loop
-loop-less c = search needs
-
 loop-again : tie.Need-loop-again Inv-loop μ-loop
 loop-again c =
     let l = c .before .before in
-    let a = l .before .args in
-    (omega arith, simp length-set (l .loop .inv .1), made-set 0 (l .loop .o) (λ i. leadAt (a .arcs .now) (a .n) (cell (a .table .now) (a .k)) i .0) (l .loop .i) (c .lead .result .price) (omega arith) (ap (λ r. r .0) (c .lead .ensures)) (l .loop .inv .2))
+    let a = l .before .args in (
+      omega arith,
+      simp length-set (l .loop .inv .1),
+      made-set 0 (l .loop .o) (λ i. leadAt (a .arcs .now) (a .n) (cell (a .table .now) (a .k)) i .0) (l .loop .i) (c .lead .result .price)
+          (omega arith) (ap (λ r. r .0) (c .lead .ensures)) (l .loop .inv .2),
+    )
 
 returns : tie.Need-returns Inv-loop μ-loop
 returns c = λ e h. c .before .loop .inv .2 e (omega arith)
 
 pub next-column-spec : {M : Type 1} → statement M
 next-column-spec =
-    tie.close
-    (tie.spec
-    Inv-loop
-    μ-loop
-    loop-holds
-    lead-requires
-    array-write-o
-    add-i
-    loop-less
-    loop-again
+    tie.close (tie.spec Inv-loop μ-loop loop-holds lead-requires (λ c. search needs) (λ c. search needs) (λ c. search needs) loop-again
     returns)

@@ -11,64 +11,25 @@ use Rattle.rival_end_edges.proofs.round.Statement.{statement}
 use Rattle.rival_end_edges.proofs.round.Tie as tie
 
 abbrev Inv-loop : tie.InvT-loop
-Inv-loop m sv st rs rt plan fs x y start a free s t b o₀ g₀ o g = (g ≤ m) × (roundRest m sv st rs rt x y plan fs (wayOf m start) (told m o) g ≡ roundRest m sv st rs rt x y plan fs (wayOf m start) (told m o₀) 0)
+Inv-loop m sv st rs rt plan fs x y start a free s t b o₀ g₀ o g =
+    (g ≤ m) × (roundRest m sv st rs rt x y plan fs (wayOf m start) (told m o) g ≡ roundRest m sv st rs rt x y plan fs (wayOf m start) (told m o₀) 0)
 
 abbrev μ-loop : tie.MeasureT-loop
 μ-loop m sv st rs rt plan fs x y start a free s t b o₀ g₀ o g = m - g
 
-element-copy-out-s : tie.Need-element-copy-out-s Inv-loop μ-loop
-element-copy-out-s c = search needs
-
-element-copy-out-t : tie.Need-element-copy-out-t Inv-loop μ-loop
-element-copy-out-t c = search needs
-
-element-copy-out-b : tie.Need-element-copy-out-b Inv-loop μ-loop
-element-copy-out-b c = search needs
-
-add-offered : tie.Need-add-offered Inv-loop μ-loop
-add-offered c = search needs
-
-offered-requires : tie.Need-offered-requires Inv-loop μ-loop
-offered-requires c κs = search needs
-
 loop-holds : tie.Need-loop-holds Inv-loop μ-loop
 loop-holds c = (zero-le, refl)
-
-element-copy-out-v : tie.Need-element-copy-out-v Inv-loop μ-loop
-element-copy-out-v c = search needs
 
 cast-v : tie.Need-cast-v Inv-loop μ-loop
 cast-v c = omega (arith, c .before .before .before .before .before .before .before .pre .1 (c .before .before .loop .g) (omega arith))
 
-element-copy-out-rated : tie.Need-element-copy-out-rated Inv-loop μ-loop
-element-copy-out-rated c = search needs
-
-rated-requires : tie.Need-rated-requires Inv-loop μ-loop
-rated-requires c κs = search needs
-
-element-copy-out-ok : tie.Need-element-copy-out-ok Inv-loop μ-loop
-element-copy-out-ok c = search needs
-
-element-copy-out-ok-2 : tie.Need-element-copy-out-ok-2 Inv-loop μ-loop
-element-copy-out-ok-2 c = search needs
-
 element-copy-out-ok-3 : tie.Need-element-copy-out-ok-3 Inv-loop μ-loop
-element-copy-out-ok-3 c = omega (arith, c .before .before .before .before .before .before .before .before .before .before .before .pre .1 (c .before .before .before .before .before .before .loop .g) (omega arith))
-
-element-copy-out-ok-4 : tie.Need-element-copy-out-ok-4 Inv-loop μ-loop
-element-copy-out-ok-4 c = search needs
-
-add-offered-2 : tie.Need-add-offered-2 Inv-loop μ-loop
-add-offered-2 c = search needs
-
-offered-requires-2 : tie.Need-offered-requires-2 Inv-loop μ-loop
-offered-requires-2 c κs = search needs
-
-add-g : tie.Need-add-g Inv-loop μ-loop
-add-g c = search needs
-
-loop-less : tie.Need-loop-less Inv-loop μ-loop
-loop-less c = search needs
+element-copy-out-ok-3 c =
+    omega (
+      arith,
+      c .before .before .before .before .before .before .before .before .before .before .before .pre .1
+          (c .before .before .before .before .before .before .loop .g) (omega arith),
+    )
 
 loop-again : tie.Need-loop-again Inv-loop μ-loop
 loop-again c =
@@ -79,10 +40,13 @@ loop-again c =
     let h : g < a .m = c .before .before .before .before .before .before .before .before .loop-test .taken in
     let k : g + 1 ≤ a .m = omega (arith, h) in (
       k,
-      round-turn (a .m) (a .sv .now) (a .st .now) (a .rs .now) (a .rt .now) (a .x) (a .y) (a .plan .now) (a .fs .now) (wayOf (a .m) (a .start)) (told (a .m) (l .loop .o)) (told (a .m) (c .offered2 .result)) g
-          (stops (a .m) (a .sv .now) (a .st .now) (a .rs .now) (a .rt .now) (a .x) (a .y) (a .plan .now) (a .fs .now) g && (ltb (a .start) (a .m) || not (eqb (at (a .sv .now) g) (at (a .sv .now) (a .x)))))
+      round-turn (a .m) (a .sv .now) (a .st .now) (a .rs .now) (a .rt .now) (a .x) (a .y) (a .plan .now) (a .fs .now) (wayOf (a .m) (a .start))
+          (told (a .m) (l .loop .o)) (told (a .m) (c .offered2 .result)) g
+          (stops (a .m) (a .sv .now) (a .st .now) (a .rs .now) (a .rt .now) (a .x) (a .y) (a .plan .now) (a .fs .now) g
+          && (ltb (a .start) (a .m) || not (eqb (at (a .sv .now) g) (at (a .sv .now) (a .x)))))
           (a .a + c .before .before .before .before .before .rated .result) h
-          (ap (λ b. stops (a .m) (a .sv .now) (a .st .now) (a .rs .now) (a .rt .now) (a .x) (a .y) (a .plan .now) (a .fs .now) g && b) (sym (apart-way (a .m) (a .sv .now) (a .st .now) (a .rs .now) (a .rt .now) (a .x) (a .y) (a .plan .now) (a .fs .now) (a .start) g)))
+          (ap (λ b. stops (a .m) (a .sv .now) (a .st .now) (a .rs .now) (a .rt .now) (a .x) (a .y) (a .plan .now) (a .fs .now) g && b)
+          (sym (apart-way (a .m) (a .sv .now) (a .st .now) (a .rs .now) (a .rt .now) (a .x) (a .y) (a .plan .now) (a .fs .now) (a .start) g)))
           (ap₂ (λ u w. u + w) (s .pre .5) (c .before .before .before .before .before .rated .ensures .0))
           (c .offered2 .ensures (a .m)) ∙ l .loop .inv .1,
     )
@@ -92,33 +56,17 @@ returns c =
     let l = c .before in
     let s = l .before .before .before .before .before in
     let a = s .args in
-    sym (round-end (a .m) (a .sv .now) (a .st .now) (a .rs .now) (a .rt .now) (a .x) (a .y) (a .plan .now) (a .fs .now) (wayOf (a .m) (a .start)) (told (a .m) (l .loop .o)) (l .loop .g) (omega arith))
+    sym
+    (round-end (a .m) (a .sv .now) (a .st .now) (a .rs .now) (a .rt .now) (a .x) (a .y) (a .plan .now) (a .fs .now) (wayOf (a .m) (a .start))
+    (told (a .m) (l .loop .o)) (l .loop .g) (omega arith))
     ∙ l .loop .inv .1
-    ∙ round-begin (a .m) (a .sv .now) (a .st .now) (a .rs .now) (a .rt .now) (a .x) (a .y) (a .plan .now) (a .fs .now) (wayOf (a .m) (a .start)) (told (a .m) (a .held)) (told (a .m) (c .before .before .offered .result)) (a .free) (a .a) (s .pre .6) (s .pre .5) (c .before .before .offered .ensures (a .m))
+    ∙ round-begin (a .m) (a .sv .now) (a .st .now) (a .rs .now) (a .rt .now) (a .x) (a .y) (a .plan .now) (a .fs .now) (wayOf (a .m) (a .start))
+    (told (a .m) (a .held)) (told (a .m) (c .before .before .offered .result)) (a .free) (a .a) (s .pre .6) (s .pre .5)
+    (c .before .before .offered .ensures (a .m))
 
 pub round-spec : {M : Type 1} → statement M
 round-spec =
-    tie.close
-    (tie.spec
-    Inv-loop
-    μ-loop
-    element-copy-out-s
-    element-copy-out-t
-    element-copy-out-b
-    add-offered
-    offered-requires
-    loop-holds
-    element-copy-out-v
-    cast-v
-    element-copy-out-rated
-    rated-requires
-    element-copy-out-ok
-    element-copy-out-ok-2
-    element-copy-out-ok-3
-    element-copy-out-ok-4
-    add-offered-2
-    offered-requires-2
-    add-g
-    loop-less
-    loop-again
-    returns)
+    tie.close (tie.spec Inv-loop μ-loop (λ c. search needs) (λ c. search needs) (λ c. search needs) (λ c. search needs)
+    (λ c κs. search needs) loop-holds (λ c. search needs) cast-v (λ c. search needs) (λ c κs. search needs) (λ c. search needs)
+    (λ c. search needs) element-copy-out-ok-3 (λ c. search needs) (λ c. search needs) (λ c κs. search needs) (λ c. search needs)
+    (λ c. search needs) loop-again returns)

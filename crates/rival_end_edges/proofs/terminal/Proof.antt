@@ -12,68 +12,59 @@ use Rattle.rival_end_edges.proofs.terminal.Statement.{statement}
 use Rattle.rival_end_edges.proofs.terminal.Tie as tie
 
 abbrev Inv-loop : tie.InvT-loop
-Inv-loop m sv st rs rt plan fs ft x y s t b o₀ f₀ o f = (f ≤ m) × (terminalRest m sv st rs rt x y plan fs ft (told m o) f ≡ terminalBy m sv st rs rt x y plan fs ft)
+Inv-loop m sv st rs rt plan fs ft x y s t b o₀ f₀ o f =
+    (f ≤ m) × (terminalRest m sv st rs rt x y plan fs ft (told m o) f ≡ terminalBy m sv st rs rt x y plan fs ft)
 
 abbrev μ-loop : tie.MeasureT-loop
 μ-loop m sv st rs rt plan fs ft x y s t b o₀ f₀ o f = m - f
 
-element-copy-out-s : tie.Need-element-copy-out-s Inv-loop μ-loop
-element-copy-out-s c = search needs
-
-element-copy-out-t : tie.Need-element-copy-out-t Inv-loop μ-loop
-element-copy-out-t c = search needs
-
-element-copy-out-b : tie.Need-element-copy-out-b Inv-loop μ-loop
-element-copy-out-b c = search needs
-
 round-requires : tie.Need-round-requires Inv-loop μ-loop
 round-requires c κs =
     let s = c .before .before .before in
-    let a = s .args in
-    (s .pre .0, s .pre .1, s .pre .3, s .pre .4, omega arith, sym (ap (endPrice (at (a .rs .now)) (a .x)) (way-lose (a .m))), sym (ap (λ w. apart (a .m) (a .sv .now) (a .st .now) (a .rs .now) (a .rt .now) (a .x) (a .y) (w, lose)) (way-lose (a .m))))
+    let a = s .args in (
+      s .pre .0,
+      s .pre .1,
+      s .pre .3,
+      s .pre .4,
+      omega arith,
+      sym (ap (endPrice (at (a .rs .now)) (a .x)) (way-lose (a .m))),
+      sym (ap (λ w. apart (a .m) (a .sv .now) (a .st .now) (a .rs .now) (a .rt .now) (a .x) (a .y) (w, lose)) (way-lose (a .m))),
+    )
 
 loop-holds : tie.Need-loop-holds Inv-loop μ-loop
 loop-holds c =
-    let a = c .before .before .before .before .args in
-    (zero-le, ap (λ o. terminalRest (a .m) (a .sv .now) (a .st .now) (a .rs .now) (a .rt .now) (a .x) (a .y) (a .plan .now) (a .fs .now) (a .ft .now) o 0) (c .round .ensures ∙ ap₂ (λ u w. round (a .m) (a .sv .now) (a .st .now) (a .rs .now) (a .rt .now) (a .x) (a .y) (a .plan .now) (a .fs .now) u (6, (w, w))) (way-lose (a .m)) (way-lose (a .m))) ∙ terminal-start (a .m) (a .sv .now) (a .st .now) (a .rs .now) (a .rt .now) (a .x) (a .y) (a .plan .now) (a .fs .now) (a .ft .now))
-
-element-copy-out-v : tie.Need-element-copy-out-v Inv-loop μ-loop
-element-copy-out-v c = search needs
+    let a = c .before .before .before .before .args in (
+      zero-le,
+      ap (λ o. terminalRest (a .m) (a .sv .now) (a .st .now) (a .rs .now) (a .rt .now) (a .x) (a .y) (a .plan .now) (a .fs .now) (a .ft .now) o 0)
+          (c .round .ensures
+          ∙ ap₂
+          (λ u w. round (a .m) (a .sv .now) (a .st .now) (a .rs .now) (a .rt .now) (a .x) (a .y) (a .plan .now) (a .fs .now) u (6, (w, w)))
+          (way-lose (a .m)) (way-lose (a .m)))
+          ∙ terminal-start (a .m) (a .sv .now) (a .st .now) (a .rs .now) (a .rt .now) (a .x) (a .y) (a .plan .now) (a .fs .now) (a .ft .now),
+    )
 
 cast-v : tie.Need-cast-v Inv-loop μ-loop
 cast-v c = omega (arith, c .before .before .before .before .before .before .before .pre .2 (c .before .before .loop .f) (omega arith))
 
-element-copy-out-if1 : tie.Need-element-copy-out-if1 Inv-loop μ-loop
-element-copy-out-if1 c = search needs
-
-element-copy-out-if1-2 : tie.Need-element-copy-out-if1-2 Inv-loop μ-loop
-element-copy-out-if1-2 c = search needs
-
 element-copy-out-if1-3 : tie.Need-element-copy-out-if1-3 Inv-loop μ-loop
-element-copy-out-if1-3 c = omega (arith, c .before .before .before .before .before .before .before .before .before .pre .2 (c .before .before .before .before .loop .f) (omega arith))
-
-element-copy-out-rated : tie.Need-element-copy-out-rated Inv-loop μ-loop
-element-copy-out-rated c = search needs
-
-rated-requires : tie.Need-rated-requires Inv-loop μ-loop
-rated-requires c κs = search needs
-
-element-copy-out-round : tie.Need-element-copy-out-round Inv-loop μ-loop
-element-copy-out-round c = search needs
+element-copy-out-if1-3 c =
+    omega (arith, c .before .before .before .before .before .before .before .before .before .pre .2 (c .before .before .before .before .loop .f) (omega arith))
 
 round-requires-2 : tie.Need-round-requires-2 Inv-loop μ-loop
 round-requires-2 c κs =
     let l = c .before .before .before .before .before .before .before .before .before in
     let s = l .before .before .before .before .before in
     let a = s .args in
-    let h : l .loop .f < a .m = c .before .before .before .before .before .before .before .before .loop-test .taken in
-    (s .pre .0, s .pre .1, s .pre .3, s .pre .4, omega (arith, c .before .rated .ensures .1), c .before .rated .ensures .0 ∙ sym (ap (endPrice (at (a .rs .now)) (a .x)) (way-gain (a .m) (l .loop .f) h)), sym (ap (λ w. apart (a .m) (a .sv .now) (a .st .now) (a .rs .now) (a .rt .now) (a .x) (a .y) (w, lose)) (way-gain (a .m) (l .loop .f) h)))
-
-add-f : tie.Need-add-f Inv-loop μ-loop
-add-f c = search needs
-
-loop-less : tie.Need-loop-less Inv-loop μ-loop
-loop-less c = search needs
+    let h : l .loop .f < a .m = c .before .before .before .before .before .before .before .before .loop-test .taken in (
+      s .pre .0,
+      s .pre .1,
+      s .pre .3,
+      s .pre .4,
+      omega (arith, c .before .rated .ensures .1),
+      c .before .rated .ensures .0
+          ∙ sym (ap (endPrice (at (a .rs .now)) (a .x)) (way-gain (a .m) (l .loop .f) h)),
+      sym (ap (λ w. apart (a .m) (a .sv .now) (a .st .now) (a .rs .now) (a .rt .now) (a .x) (a .y) (w, lose)) (way-gain (a .m) (l .loop .f) h)),
+    )
 
 loop-again : tie.Need-loop-again Inv-loop μ-loop
 loop-again c =
@@ -85,8 +76,30 @@ loop-again c =
     let k : f + 1 ≤ a .m = omega (arith, h) in (
       k,
       ⊎-elim
-          (λ w. ap (λ o. terminalRest (a .m) (a .sv .now) (a .st .now) (a .rs .now) (a .rt .now) (a .x) (a .y) (a .plan .now) (a .fs .now) (a .ft .now) (told (a .m) o) (f + 1)) (w .5) ∙ ap (λ o. terminalRest (a .m) (a .sv .now) (a .st .now) (a .rs .now) (a .rt .now) (a .x) (a .y) (a .plan .now) (a .fs .now) (a .ft .now) o (f + 1)) (w .4 .ensures ∙ ap (λ u. round (a .m) (a .sv .now) (a .st .now) (a .rs .now) (a .rt .now) (a .x) (a .y) (a .plan .now) (a .fs .now) u (told (a .m) (l .loop .o))) (way-gain (a .m) f h)) ∙ sym (terminal-turn (a .m) (a .sv .now) (a .st .now) (a .rs .now) (a .rt .now) (a .x) (a .y) (a .plan .now) (a .fs .now) (a .ft .now) (told (a .m) (l .loop .o)) f h (w .0 .taken)) ∙ l .loop .inv .1)
-          (λ w. ap (λ o. terminalRest (a .m) (a .sv .now) (a .st .now) (a .rs .now) (a .rt .now) (a .x) (a .y) (a .plan .now) (a .fs .now) (a .ft .now) (told (a .m) o) (f + 1)) (w .1) ∙ sym (terminal-past (a .m) (a .sv .now) (a .st .now) (a .rs .now) (a .rt .now) (a .x) (a .y) (a .plan .now) (a .fs .now) (a .ft .now) (told (a .m) (l .loop .o)) f h (w .0 .left)) ∙ l .loop .inv .1)
+          (λ w. ap
+          (λ o. terminalRest (a .m) (a .sv .now) (a .st .now) (a .rs .now) (a .rt .now) (a .x) (a .y) (a .plan .now) (a .fs .now) (a .ft .now)
+          (told (a .m) o) (f + 1))
+          (w .5)
+          ∙ ap
+          (λ o. terminalRest (a .m) (a .sv .now) (a .st .now) (a .rs .now) (a .rt .now) (a .x) (a .y) (a .plan .now) (a .fs .now)
+          (a .ft .now) o (f + 1))
+          (w .4 .ensures
+          ∙ ap
+          (λ u. round (a .m) (a .sv .now) (a .st .now) (a .rs .now) (a .rt .now) (a .x) (a .y) (a .plan .now) (a .fs .now) u
+          (told (a .m) (l .loop .o)))
+          (way-gain (a .m) f h))
+          ∙ sym
+          (terminal-turn (a .m) (a .sv .now) (a .st .now) (a .rs .now) (a .rt .now) (a .x) (a .y) (a .plan .now) (a .fs .now) (a .ft .now)
+          (told (a .m) (l .loop .o)) f h (w .0 .taken))
+          ∙ l .loop .inv .1)
+          (λ w. ap
+          (λ o. terminalRest (a .m) (a .sv .now) (a .st .now) (a .rs .now) (a .rt .now) (a .x) (a .y) (a .plan .now) (a .fs .now) (a .ft .now)
+          (told (a .m) o) (f + 1))
+          (w .1)
+          ∙ sym
+          (terminal-past (a .m) (a .sv .now) (a .st .now) (a .rs .now) (a .rt .now) (a .x) (a .y) (a .plan .now) (a .fs .now) (a .ft .now)
+          (told (a .m) (l .loop .o)) f h (w .0 .left))
+          ∙ l .loop .inv .1)
           (c .if1 .came),
     )
 
@@ -94,29 +107,13 @@ returns : tie.Need-returns Inv-loop μ-loop
 returns c =
     let l = c .before in
     let a = l .before .before .before .before .before .args in
-    sym (terminal-end (a .m) (a .sv .now) (a .st .now) (a .rs .now) (a .rt .now) (a .x) (a .y) (a .plan .now) (a .fs .now) (a .ft .now) (told (a .m) (l .loop .o)) (l .loop .f) (omega arith)) ∙ l .loop .inv .1
+    sym
+    (terminal-end (a .m) (a .sv .now) (a .st .now) (a .rs .now) (a .rt .now) (a .x) (a .y) (a .plan .now) (a .fs .now) (a .ft .now)
+    (told (a .m) (l .loop .o)) (l .loop .f) (omega arith))
+    ∙ l .loop .inv .1
 
 pub terminal-spec : {M : Type 1} → statement M
 terminal-spec =
-    tie.close
-    (tie.spec
-    Inv-loop
-    μ-loop
-    element-copy-out-s
-    element-copy-out-t
-    element-copy-out-b
-    round-requires
-    loop-holds
-    element-copy-out-v
-    cast-v
-    element-copy-out-if1
-    element-copy-out-if1-2
-    element-copy-out-if1-3
-    element-copy-out-rated
-    rated-requires
-    element-copy-out-round
-    round-requires-2
-    add-f
-    loop-less
-    loop-again
-    returns)
+    tie.close (tie.spec Inv-loop μ-loop (λ c. search needs) (λ c. search needs) (λ c. search needs) round-requires loop-holds
+    (λ c. search needs) cast-v (λ c. search needs) (λ c. search needs) element-copy-out-if1-3 (λ c. search needs) (λ c κs. search needs)
+    (λ c. search needs) round-requires-2 (λ c. search needs) (λ c. search needs) loop-again returns)

@@ -19,34 +19,20 @@ loop-holds c = (zero-le, λ i j h. absurd (not-suc-le-zero h))
 terminal-row-requires : tie.Need-terminal-row-requires Inv-loop μ-loop
 terminal-row-requires c κs = (omega arith, omega arith, c .before .before .pre .1)
 
-put-row-requires : tie.Need-put-row-requires Inv-loop μ-loop
-put-row-requires c κs = search needs
-
-add-i : tie.Need-add-i Inv-loop μ-loop
-add-i c = search needs
-
-loop-less : tie.Need-loop-less Inv-loop μ-loop
-loop-less c = search needs
-
 loop-again : tie.Need-loop-again Inv-loop μ-loop
 loop-again c =
     let l = c .before .before .before in
-    let a = c .before .before .before .before .args in
-    (omega arith, part-next (l .loop .o) (c .before .terminal-row .result) (c .put-row .result) (terminalAt (a .starts .now) (a .stops .now) (a .gs .now) (a .gt .now)) (a .n) (l .loop .i) (omega arith) (l .loop .inv .1) (c .before .terminal-row .ensures) (c .put-row .ensures))
+    let a = c .before .before .before .before .args in (
+      omega arith,
+      part-next (l .loop .o) (c .before .terminal-row .result) (c .put-row .result)
+          (terminalAt (a .starts .now) (a .stops .now) (a .gs .now) (a .gt .now)) (a .n) (l .loop .i) (omega arith) (l .loop .inv .1)
+          (c .before .terminal-row .ensures) (c .put-row .ensures),
+    )
 
 returns : tie.Need-returns Inv-loop μ-loop
 returns c = λ i j h k. c .before .loop .inv .1 i j (omega arith) k
 
 pub terminals-spec : {M : Type 1} → statement M
 terminals-spec =
-    tie.close
-    (tie.spec
-    Inv-loop
-    μ-loop
-    loop-holds
-    terminal-row-requires
-    put-row-requires
-    add-i
-    loop-less
-    loop-again
-    returns)
+    tie.close (tie.spec Inv-loop μ-loop loop-holds terminal-row-requires (λ c κs. search needs) (λ c. search needs) (λ c. search needs)
+    loop-again returns)

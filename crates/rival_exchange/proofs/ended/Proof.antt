@@ -8,23 +8,16 @@ use Rattle.rival_exchange.proofs.ended.Tie as tie
 terminal-requires : tie.Need-terminal-requires
 terminal-requires c κs = (c .pre .0, c .pre .1, c .pre .2, c .pre .3, c .pre .4)
 
-gained-requires : tie.Need-gained-requires
-gained-requires c κs = search needs
-
-gained-requires-2 : tie.Need-gained-requires-2
-gained-requires-2 c κs = search needs
-
-gained-requires-3 : tie.Need-gained-requires-3
-gained-requires-3 c κs = search needs
-
 returns : tie.Need-returns
 returns c =
     let s = c .before .before .before .before in
     let a = s .args in
     let t = c .before .before .before .terminal in (
       blank-one 1024 1024 (a .x) (c .before .before .gained .result) (s .pre .3) (c .before .before .gained .ensures),
-      marks-ends (a .m) (t .result) (terminalBy (a .m) (a .sv .now) (a .st .now) (a .rs .now) (a .rt .now) (a .x) (a .y) (a .plan .now) (a .fs .now) (a .ft .now)) 1024 (c .before .gained2 .result) (c .gained3 .result) (t .ensures) (c .before .gained2 .ensures) (c .gained3 .ensures),
+      marks-ends (a .m) (t .result)
+          (terminalBy (a .m) (a .sv .now) (a .st .now) (a .rs .now) (a .rt .now) (a .x) (a .y) (a .plan .now) (a .fs .now) (a .ft .now)) 1024
+          (c .before .gained2 .result) (c .gained3 .result) (t .ensures) (c .before .gained2 .ensures) (c .gained3 .ensures),
     )
 
 pub ended-spec : {M : Type 1} → statement M
-ended-spec = tie.close (tie.spec terminal-requires gained-requires gained-requires-2 gained-requires-3 returns)
+ended-spec = tie.close (tie.spec terminal-requires (λ c κs. search needs) (λ c κs. search needs) (λ c κs. search needs) returns)

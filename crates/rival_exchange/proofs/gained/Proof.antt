@@ -7,9 +7,6 @@ use Rattle.rival_exchange.specs.Swaps.{mark-one, mark-none}
 use Rattle.rival_exchange.proofs.gained.Statement.{statement}
 use Rattle.rival_exchange.proofs.gained.Tie as tie
 
-array-write-o : tie.Need-array-write-o
-array-write-o c = search needs
-
 returns : tie.Need-returns
 returns c =
     let a = c .before .args in
@@ -20,4 +17,4 @@ returns-2 : tie.Need-returns-2
 returns-2 c = mark-none (c .before .args .g) (c .before .args .m) (c .before .args .c) (c .if1 .left)
 
 pub gained-spec : {M : Type 1} → statement M
-gained-spec = tie.close (tie.spec array-write-o returns returns-2)
+gained-spec = tie.close (tie.spec (λ c. search needs) returns returns-2)

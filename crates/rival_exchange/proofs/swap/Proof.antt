@@ -15,18 +15,6 @@ use Rattle.rival_exchange.specs.Swaps.{Marks, blank-none, blank-marks, b
 use Rattle.rival_exchange.proofs.swap.Statement.{statement}
 use Rattle.rival_exchange.proofs.swap.Tie as tie
 
-enum-told : tie.Need-enum-told
-enum-told c = search needs
-
-enum-known-found : tie.Need-enum-known-found
-enum-known-found c = search needs
-
-gained-requires : tie.Need-gained-requires
-gained-requires c κs = search needs
-
-enum-known-found-2 : tie.Need-enum-known-found-2
-enum-known-found-2 c = search needs
-
 mul-x : tie.Need-mul-x
 mul-x c =
     let s = c .before .before .before in
@@ -51,17 +39,11 @@ ended-requires c κs =
     let b = subst (Bounded (s .args .m) (s .args .n)) (c .before .before .found2 .given .1) (s .pre .6) in
     (s .pre .0, s .pre .2, s .pre .3, s .pre .4 (c .before .before .found2 .given .0 .0) b, s .pre .4 (c .before .before .found2 .given .0 .0) b)
 
-enum-known-found-3 : tie.Need-enum-known-found-3
-enum-known-found-3 c = search needs
-
 walked-requires : tie.Need-walked-requires
 walked-requires c κs =
     let s = c .before .before .before in
     let b = subst (Bounded (s .args .m) (s .args .n)) (c .before .found3 .given .1) (s .pre .6) in
     (s .pre .0, s .pre .1, s .pre .4, s .pre .5, omega (arith, b .0), b .1, b .1)
-
-enum-known-found-4 : tie.Need-enum-known-found-4
-enum-known-found-4 c = search needs
 
 mul-x-2 : tie.Need-mul-x-2
 mul-x-2 c =
@@ -102,8 +84,13 @@ cast-y c =
 ended-requires-2 : tie.Need-ended-requires-2
 ended-requires-2 c κs =
     let s = c .before .before .before .before .before in
-    let b = subst (Bounded (s .args .m) (s .args .n)) (c .before .before .before .found4 .given .1) (s .pre .6) in
-    (s .pre .0, s .pre .2, s .pre .3, s .pre .4 (c .before .before .before .found4 .given .0 .1 .0) (b .1), s .pre .4 (c .before .before .before .found4 .given .0 .1 .1 .0) (b .2))
+    let b = subst (Bounded (s .args .m) (s .args .n)) (c .before .before .before .found4 .given .1) (s .pre .6) in (
+      s .pre .0,
+      s .pre .2,
+      s .pre .3,
+      s .pre .4 (c .before .before .before .found4 .given .0 .1 .0) (b .1),
+      s .pre .4 (c .before .before .before .found4 .given .0 .1 .1 .0) (b .2),
+    )
 
 walked-requires-2 : tie.Need-walked-requires-2
 walked-requires-2 c κs =
@@ -114,58 +101,95 @@ walked-requires-2 c κs =
 returns : tie.Need-returns
 returns c =
     let a = c .before .before .args in
-    subst (λ (f : Found). Marks (replicate 1024 false) (goneBy (a .m) (a .sv .now) (a .st .now) (a .rs .now) (a .rt .now) (a .plan .now) (a .fs .now) (a .ft .now) (a .es .now) (a .arcs .now) (a .n) f) × Marks (replicate 1024 false) (comeBy (a .m) (a .sv .now) (a .st .now) (a .rs .now) (a .rt .now) (a .plan .now) (a .fs .now) (a .ft .now) (a .es .now) (a .arcs .now) (a .n) f)) (sym (c .enum-told .given .1))
+    subst
+    (λ (f : Found). Marks (replicate 1024 false)
+    (goneBy (a .m) (a .sv .now) (a .st .now) (a .rs .now) (a .rt .now) (a .plan .now) (a .fs .now) (a .ft .now) (a .es .now) (a .arcs .now) (a .n) f)
+    × Marks (replicate 1024 false)
+    (comeBy (a .m) (a .sv .now) (a .st .now) (a .rs .now) (a .rt .now) (a .plan .now) (a .fs .now) (a .ft .now) (a .es .now)
+    (a .arcs .now) (a .n) f))
+    (sym (c .enum-told .given .1))
     (blank-none 1024, blank-none 1024)
 
 returns-2 : tie.Need-returns-2
 returns-2 c =
     let a = c .before .before .before .before .args in
-    subst (λ (f : Found). Marks (replicate 1024 false) (goneBy (a .m) (a .sv .now) (a .st .now) (a .rs .now) (a .rt .now) (a .plan .now) (a .fs .now) (a .ft .now) (a .es .now) (a .arcs .now) (a .n) f) × Marks (c .gained .result) (comeBy (a .m) (a .sv .now) (a .st .now) (a .rs .now) (a .rt .now) (a .plan .now) (a .fs .now) (a .ft .now) (a .es .now) (a .arcs .now) (a .n) f)) (sym (c .before .before .found .given .1))
-    (blank-none 1024, blank-one 1024 (a .m) (c .before .before .found .given .0 .0) (c .gained .result) (subst (Bounded (a .m) (a .n)) (c .before .before .found .given .1) (c .before .before .before .before .pre .6)) (c .gained .ensures))
+    subst
+    (λ (f : Found). Marks (replicate 1024 false)
+    (goneBy (a .m) (a .sv .now) (a .st .now) (a .rs .now) (a .rt .now) (a .plan .now) (a .fs .now) (a .ft .now) (a .es .now) (a .arcs .now) (a .n) f)
+    × Marks (c .gained .result)
+    (comeBy (a .m) (a .sv .now) (a .st .now) (a .rs .now) (a .rt .now) (a .plan .now) (a .fs .now) (a .ft .now) (a .es .now)
+    (a .arcs .now) (a .n) f))
+    (sym (c .before .before .found .given .1)) (
+      blank-none 1024,
+      blank-one 1024 (a .m) (c .before .before .found .given .0 .0) (c .gained .result)
+          (subst (Bounded (a .m) (a .n)) (c .before .before .found .given .1) (c .before .before .before .before .pre .6)) (c .gained .ensures),
+    )
 
 returns-3 : tie.Need-returns-3
 returns-3 c =
     let a = c .before .before .before .before .before .args in
-    subst (λ (f : Found). Marks (c .ended .result .gone) (goneBy (a .m) (a .sv .now) (a .st .now) (a .rs .now) (a .rt .now) (a .plan .now) (a .fs .now) (a .ft .now) (a .es .now) (a .arcs .now) (a .n) f) × Marks (c .ended .result .come) (comeBy (a .m) (a .sv .now) (a .st .now) (a .rs .now) (a .rt .now) (a .plan .now) (a .fs .now) (a .ft .now) (a .es .now) (a .arcs .now) (a .n) f)) (sym (c .before .before .before .found2 .given .1))
+    subst
+    (λ (f : Found). Marks (c .ended .result .gone)
+    (goneBy (a .m) (a .sv .now) (a .st .now) (a .rs .now) (a .rt .now) (a .plan .now) (a .fs .now) (a .ft .now) (a .es .now) (a .arcs .now) (a .n) f)
+    × Marks (c .ended .result .come)
+    (comeBy (a .m) (a .sv .now) (a .st .now) (a .rs .now) (a .rt .now) (a .plan .now) (a .fs .now) (a .ft .now) (a .es .now)
+    (a .arcs .now) (a .n) f))
+    (sym (c .before .before .before .found2 .given .1))
     (c .ended .ensures .0, c .ended .ensures .1)
 
 returns-4 : tie.Need-returns-4
 returns-4 c =
     let a = c .before .before .before .before .args in
-    subst (λ (f : Found). Marks (c .walked .result .gone) (goneBy (a .m) (a .sv .now) (a .st .now) (a .rs .now) (a .rt .now) (a .plan .now) (a .fs .now) (a .ft .now) (a .es .now) (a .arcs .now) (a .n) f) × Marks (c .walked .result .come) (comeBy (a .m) (a .sv .now) (a .st .now) (a .rs .now) (a .rt .now) (a .plan .now) (a .fs .now) (a .ft .now) (a .es .now) (a .arcs .now) (a .n) f)) (sym (c .before .before .found3 .given .1))
-    (blank-marks 1024 (zs (walkAt (arcEdge (a .m) (a .sv .now) (a .st .now) (a .rs .now) (a .rt .now) (a .plan .now)) (a .es .now) (a .arcs .now) (a .n) (c .before .before .found3 .given .0 .1 .0) (c .before .before .found3 .given .0 .0) (c .before .before .found3 .given .0 .1 .0))) (c .walked .result .gone) (c .walked .ensures .0), blank-marks 1024 (fs (walkAt (arcEdge (a .m) (a .sv .now) (a .st .now) (a .rs .now) (a .rt .now) (a .plan .now)) (a .es .now) (a .arcs .now) (a .n) (c .before .before .found3 .given .0 .1 .0) (c .before .before .found3 .given .0 .0) (c .before .before .found3 .given .0 .1 .0))) (c .walked .result .come) (c .walked .ensures .1))
+    subst
+    (λ (f : Found). Marks (c .walked .result .gone)
+    (goneBy (a .m) (a .sv .now) (a .st .now) (a .rs .now) (a .rt .now) (a .plan .now) (a .fs .now) (a .ft .now) (a .es .now) (a .arcs .now) (a .n) f)
+    × Marks (c .walked .result .come)
+    (comeBy (a .m) (a .sv .now) (a .st .now) (a .rs .now) (a .rt .now) (a .plan .now) (a .fs .now) (a .ft .now) (a .es .now)
+    (a .arcs .now) (a .n) f))
+    (sym (c .before .before .found3 .given .1)) (
+      blank-marks 1024
+          (zs
+          (walkAt (arcEdge (a .m) (a .sv .now) (a .st .now) (a .rs .now) (a .rt .now) (a .plan .now)) (a .es .now) (a .arcs .now) (a .n)
+          (c .before .before .found3 .given .0 .1 .0) (c .before .before .found3 .given .0 .0) (c .before .before .found3 .given .0 .1 .0)))
+          (c .walked .result .gone) (c .walked .ensures .0),
+      blank-marks 1024
+          (fs
+          (walkAt (arcEdge (a .m) (a .sv .now) (a .st .now) (a .rs .now) (a .rt .now) (a .plan .now)) (a .es .now) (a .arcs .now) (a .n)
+          (c .before .before .found3 .given .0 .1 .0) (c .before .before .found3 .given .0 .0) (c .before .before .found3 .given .0 .1 .0)))
+          (c .walked .result .come) (c .walked .ensures .1),
+    )
 
 returns-5 : tie.Need-returns-5
 returns-5 c =
     let a = c .before .before .before .before .before .before .before .args in
-    subst (λ (f : Found). Marks (c .walked2 .result .gone) (goneBy (a .m) (a .sv .now) (a .st .now) (a .rs .now) (a .rt .now) (a .plan .now) (a .fs .now) (a .ft .now) (a .es .now) (a .arcs .now) (a .n) f) × Marks (c .walked2 .result .come) (comeBy (a .m) (a .sv .now) (a .st .now) (a .rs .now) (a .rt .now) (a .plan .now) (a .fs .now) (a .ft .now) (a .es .now) (a .arcs .now) (a .n) f)) (sym (c .before .before .before .before .before .found4 .given .1))
-    (marks-more (c .before .ended2 .result .gone) (at (a .es .now) (c .before .before .before .before .before .found4 .given .0 .1 .0) ∷ []) (zs (walkAt (arcEdge (a .m) (a .sv .now) (a .st .now) (a .rs .now) (a .rt .now) (a .plan .now)) (a .es .now) (a .arcs .now) (a .n) (c .before .before .before .before .before .found4 .given .0 .1 .1 .0) (c .before .before .before .before .before .found4 .given .0 .0) (c .before .before .before .before .before .found4 .given .0 .1 .0))) (c .walked2 .result .gone) (c .before .ended2 .ensures .0) (c .walked2 .ensures .0), marks-path (waysBy (a .m) (a .sv .now) (a .st .now) (a .rs .now) (a .rt .now) (a .plan .now) (a .fs .now) (a .ft .now) (a .es .now) (a .arcs .now) (a .n) (at (a .es .now) (c .before .before .before .before .before .found4 .given .0 .1 .0)) (at (a .es .now) (c .before .before .before .before .before .found4 .given .0 .1 .1 .0)) .0) (waysBy (a .m) (a .sv .now) (a .st .now) (a .rs .now) (a .rt .now) (a .plan .now) (a .fs .now) (a .ft .now) (a .es .now) (a .arcs .now) (a .n) (at (a .es .now) (c .before .before .before .before .before .found4 .given .0 .1 .0)) (at (a .es .now) (c .before .before .before .before .before .found4 .given .0 .1 .1 .0)) .1) (walkAt (arcEdge (a .m) (a .sv .now) (a .st .now) (a .rs .now) (a .rt .now) (a .plan .now)) (a .es .now) (a .arcs .now) (a .n) (c .before .before .before .before .before .found4 .given .0 .1 .1 .0) (c .before .before .before .before .before .found4 .given .0 .0) (c .before .before .before .before .before .found4 .given .0 .1 .0)) (c .before .ended2 .result .come) (c .walked2 .result .come) (c .before .ended2 .ensures .1) (c .walked2 .ensures .1))
+    subst
+    (λ (f : Found). Marks (c .walked2 .result .gone)
+    (goneBy (a .m) (a .sv .now) (a .st .now) (a .rs .now) (a .rt .now) (a .plan .now) (a .fs .now) (a .ft .now) (a .es .now) (a .arcs .now) (a .n) f)
+    × Marks (c .walked2 .result .come)
+    (comeBy (a .m) (a .sv .now) (a .st .now) (a .rs .now) (a .rt .now) (a .plan .now) (a .fs .now) (a .ft .now) (a .es .now)
+    (a .arcs .now) (a .n) f))
+    (sym (c .before .before .before .before .before .found4 .given .1)) (
+      marks-more (c .before .ended2 .result .gone) (at (a .es .now) (c .before .before .before .before .before .found4 .given .0 .1 .0) ∷ [])
+          (zs
+          (walkAt (arcEdge (a .m) (a .sv .now) (a .st .now) (a .rs .now) (a .rt .now) (a .plan .now)) (a .es .now) (a .arcs .now) (a .n)
+          (c .before .before .before .before .before .found4 .given .0 .1 .1 .0) (c .before .before .before .before .before .found4 .given .0 .0)
+          (c .before .before .before .before .before .found4 .given .0 .1 .0)))
+          (c .walked2 .result .gone) (c .before .ended2 .ensures .0) (c .walked2 .ensures .0),
+      marks-path
+          (waysBy (a .m) (a .sv .now) (a .st .now) (a .rs .now) (a .rt .now) (a .plan .now) (a .fs .now) (a .ft .now) (a .es .now) (a .arcs .now)
+          (a .n) (at (a .es .now) (c .before .before .before .before .before .found4 .given .0 .1 .0))
+          (at (a .es .now) (c .before .before .before .before .before .found4 .given .0 .1 .1 .0)) .0)
+          (waysBy (a .m) (a .sv .now) (a .st .now) (a .rs .now) (a .rt .now) (a .plan .now) (a .fs .now) (a .ft .now) (a .es .now) (a .arcs .now)
+          (a .n) (at (a .es .now) (c .before .before .before .before .before .found4 .given .0 .1 .0))
+          (at (a .es .now) (c .before .before .before .before .before .found4 .given .0 .1 .1 .0)) .1)
+          (walkAt (arcEdge (a .m) (a .sv .now) (a .st .now) (a .rs .now) (a .rt .now) (a .plan .now)) (a .es .now) (a .arcs .now) (a .n)
+          (c .before .before .before .before .before .found4 .given .0 .1 .1 .0) (c .before .before .before .before .before .found4 .given .0 .0)
+          (c .before .before .before .before .before .found4 .given .0 .1 .0))
+          (c .before .ended2 .result .come) (c .walked2 .result .come) (c .before .ended2 .ensures .1) (c .walked2 .ensures .1),
+    )
 
 pub swap-spec : {M : Type 1} → statement M
 swap-spec =
-    tie.close
-    (tie.spec
-    enum-told
-    enum-known-found
-    gained-requires
-    enum-known-found-2
-    mul-x
-    element-copy-out-x
-    cast-x
-    ended-requires
-    enum-known-found-3
-    walked-requires
-    enum-known-found-4
-    mul-x-2
-    element-copy-out-x-2
-    cast-x-2
-    mul-y
-    element-copy-out-y
-    cast-y
-    ended-requires-2
-    walked-requires-2
-    returns
-    returns-2
-    returns-3
-    returns-4
-    returns-5)
+    tie.close (tie.spec (λ c. search needs) (λ c. search needs) (λ c κs. search needs) (λ c. search needs) mul-x element-copy-out-x cast-x
+    ended-requires (λ c. search needs) walked-requires (λ c. search needs) mul-x-2 element-copy-out-x-2 cast-x-2 mul-y
+    element-copy-out-y cast-y ended-requires-2 walked-requires-2 returns returns-2 returns-3 returns-4 returns-5)

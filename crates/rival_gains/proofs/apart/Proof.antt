@@ -18,45 +18,24 @@ abbrev μ-loop : tie.MeasureT-loop
 loop-holds : tie.Need-loop-holds Inv-loop μ-loop
 loop-holds c = (zero-le, λ i j h. absurd (not-suc-le-zero h))
 
-element-copy-out-apart-row : tie.Need-element-copy-out-apart-row Inv-loop μ-loop
-element-copy-out-apart-row c = search needs
-
-element-copy-out-apart-row-2 : tie.Need-element-copy-out-apart-row-2 Inv-loop μ-loop
-element-copy-out-apart-row-2 c = search needs
-
 apart-row-requires : tie.Need-apart-row-requires Inv-loop μ-loop
 apart-row-requires c κs = (omega arith, c .before .before .before .before .pre .1)
-
-put-row-requires : tie.Need-put-row-requires Inv-loop μ-loop
-put-row-requires c κs = search needs
-
-add-i : tie.Need-add-i Inv-loop μ-loop
-add-i c = search needs
-
-loop-less : tie.Need-loop-less Inv-loop μ-loop
-loop-less c = search needs
 
 loop-again : tie.Need-loop-again Inv-loop μ-loop
 loop-again c =
     let l = c .before .before .before .before .before in
-    let a = c .before .before .before .before .before .before .args in
-    (omega arith, rows-next (l .loop .o) (c .before .apart-row .result) (c .put-row .result) (λ i j. gainPriceBut (a .m) (a .end .now) (a .other .now) (a .rank .now) (a .plan .now) (a .room .now) 3 (at (a .pe .now) i) (at (a .pr .now) i) (at (a .po .now) j)) (l .loop .i) (l .loop .inv .1) (c .before .apart-row .ensures) (c .put-row .ensures))
+    let a = c .before .before .before .before .before .before .args in (
+      omega arith,
+      rows-next (l .loop .o) (c .before .apart-row .result) (c .put-row .result)
+          (λ i j. gainPriceBut (a .m) (a .end .now) (a .other .now) (a .rank .now) (a .plan .now) (a .room .now) 3 (at (a .pe .now) i)
+          (at (a .pr .now) i) (at (a .po .now) j))
+          (l .loop .i) (l .loop .inv .1) (c .before .apart-row .ensures) (c .put-row .ensures),
+    )
 
 returns : tie.Need-returns Inv-loop μ-loop
 returns c = λ i j h k. c .before .loop .inv .1 i j (omega arith) k
 
 pub apart-spec : {M : Type 1} → statement M
 apart-spec =
-    tie.close
-    (tie.spec
-    Inv-loop
-    μ-loop
-    loop-holds
-    element-copy-out-apart-row
-    element-copy-out-apart-row-2
-    apart-row-requires
-    put-row-requires
-    add-i
-    loop-less
-    loop-again
-    returns)
+    tie.close (tie.spec Inv-loop μ-loop loop-holds (λ c. search needs) (λ c. search needs) apart-row-requires (λ c κs. search needs)
+    (λ c. search needs) (λ c. search needs) loop-again returns)

@@ -14,58 +14,59 @@ use Rattle.rival_gains.proofs.apart_row.Statement.{statement}
 use Rattle.rival_gains.proofs.apart_row.Tie as tie
 
 abbrev Inv-loop : tie.InvT-loop
-Inv-loop m end other rank plan room po e b o₀ f₀ o f = (f ≤ m) × ((j : ℕ) → j < 64 → gainRestBut m end other rank plan room e b (at po j) (at o j) f ≡ gainPriceBut m end other rank plan room 3 e b (at po j))
+Inv-loop m end other rank plan room po e b o₀ f₀ o f =
+    (f ≤ m) × ((j : ℕ) → j < 64 → gainRestBut m end other rank plan room e b (at po j) (at o j) f ≡ gainPriceBut m end other rank plan room 3 e b (at po j))
 
 abbrev μ-loop : tie.MeasureT-loop
 μ-loop m end other rank plan room po e b o₀ f₀ o f = m - f
 
 loop-holds : tie.Need-loop-holds Inv-loop μ-loop
 loop-holds c =
-    let a = c .args in
-    (zero-le, λ j h. ap (λ v. gainRestBut (a .m) (a .end .now) (a .other .now) (a .rank .now) (a .plan .now) (a .room .now) (a .e) (a .b) (at (a .po .now) j) v 0) (getD-replicate 64 j 3 0 h) ∙ but-start (a .m) (a .end .now) (a .other .now) (a .rank .now) (a .plan .now) (a .room .now) (a .e) (a .b) (at (a .po .now) j) 3)
-
-element-copy-out-d : tie.Need-element-copy-out-d Inv-loop μ-loop
-element-copy-out-d c = search needs
+    let a = c .args in (
+      zero-le,
+      λ j h. ap
+          (λ v. gainRestBut (a .m) (a .end .now) (a .other .now) (a .rank .now) (a .plan .now) (a .room .now) (a .e) (a .b) (at (a .po .now) j) v 0)
+          (getD-replicate 64 j 3 0 h)
+          ∙ but-start (a .m) (a .end .now) (a .other .now) (a .rank .now) (a .plan .now) (a .room .now) (a .e) (a .b) (at (a .po .now) j) 3,
+    )
 
 cast-v : tie.Need-cast-v Inv-loop μ-loop
 cast-v c = omega (arith, c .before .before .before .pre .1 (c .before .before .loop .f) (omega arith))
 
-element-copy-out-if1 : tie.Need-element-copy-out-if1 Inv-loop μ-loop
-element-copy-out-if1 c = search needs
-
-element-copy-out-if1-2 : tie.Need-element-copy-out-if1-2 Inv-loop μ-loop
-element-copy-out-if1-2 c = search needs
-
 element-copy-out-if1-3 : tie.Need-element-copy-out-if1-3 Inv-loop μ-loop
 element-copy-out-if1-3 c = omega (arith, c .before .before .before .before .before .pre .1 (c .before .before .before .before .loop .f) (omega arith))
-
-element-copy-out-rated : tie.Need-element-copy-out-rated Inv-loop μ-loop
-element-copy-out-rated c = search needs
-
-rated-requires : tie.Need-rated-requires Inv-loop μ-loop
-rated-requires c κs = search needs
-
-parted-requires : tie.Need-parted-requires Inv-loop μ-loop
-parted-requires c κs = search needs
-
-add-f : tie.Need-add-f Inv-loop μ-loop
-add-f c = search needs
-
-loop-less : tie.Need-loop-less Inv-loop μ-loop
-loop-less c = search needs
 
 loop-again : tie.Need-loop-again Inv-loop μ-loop
 loop-again c =
     let l = c .before .before .before .before .before .before in
     let a = c .before .before .before .before .before .before .before .args in
     let f = l .loop .f in
-    let g : (j : ℕ) → j < 64 → gainRestBut (a .m) (a .end .now) (a .other .now) (a .rank .now) (a .plan .now) (a .room .now) (a .e) (a .b) (at (a .po .now) j) (at (l .loop .o) j) f ≡ gainPriceBut (a .m) (a .end .now) (a .other .now) (a .rank .now) (a .plan .now) (a .room .now) 3 (a .e) (a .b) (at (a .po .now) j) = l .loop .inv .1 in (
+    let g : (j : ℕ) → j < 64
+    → gainRestBut (a .m) (a .end .now) (a .other .now) (a .rank .now) (a .plan .now) (a .room .now) (a .e) (a .b) (at (a .po .now) j)
+    (at (l .loop .o) j) f ≡ gainPriceBut (a .m) (a .end .now) (a .other .now) (a .rank .now) (a .plan .now) (a .room .now) 3 (a .e) (a .b)
+    (at (a .po .now) j) =
+    l .loop .inv .1 in (
       omega arith,
       λ j h. ⊎-elim
-          (λ w. ap (λ z. gainRestBut (a .m) (a .end .now) (a .other .now) (a .rank .now) (a .plan .now) (a .room .now) (a .e) (a .b) (at (a .po .now) j) (at z j) (f + 1)) (w .4)
-          ∙ ap (λ v. gainRestBut (a .m) (a .end .now) (a .other .now) (a .rank .now) (a .plan .now) (a .room .now) (a .e) (a .b) (at (a .po .now) j) v (f + 1)) (w .3 .ensures j h ∙ ap (λ p. offer (not (eqb (at (a .other .now) f) (at (a .po .now) j))) p (at (l .loop .o) j)) (w .2 .ensures .0))
-          ∙ sym (but-turn (a .m) (a .end .now) (a .other .now) (a .rank .now) (a .plan .now) (a .room .now) (a .e) (a .b) (at (a .po .now) j) (at (l .loop .o) j) f (omega arith) (w .0 .taken)) ∙ g j h)
-          (λ w. ap (λ z. gainRestBut (a .m) (a .end .now) (a .other .now) (a .rank .now) (a .plan .now) (a .room .now) (a .e) (a .b) (at (a .po .now) j) (at z j) (f + 1)) (w .1) ∙ sym (but-past (a .m) (a .end .now) (a .other .now) (a .rank .now) (a .plan .now) (a .room .now) (a .e) (a .b) (at (a .po .now) j) (at (l .loop .o) j) f (omega arith) (w .0 .left)) ∙ g j h)
+          (λ w. ap
+          (λ z. gainRestBut (a .m) (a .end .now) (a .other .now) (a .rank .now) (a .plan .now) (a .room .now) (a .e) (a .b) (at (a .po .now) j)
+          (at z j) (f + 1))
+          (w .4)
+          ∙ ap
+          (λ v. gainRestBut (a .m) (a .end .now) (a .other .now) (a .rank .now) (a .plan .now) (a .room .now) (a .e) (a .b) (at (a .po .now) j) v (f + 1))
+          (w .3 .ensures j h ∙ ap (λ p. offer (not (eqb (at (a .other .now) f) (at (a .po .now) j))) p (at (l .loop .o) j)) (w .2 .ensures .0))
+          ∙ sym
+          (but-turn (a .m) (a .end .now) (a .other .now) (a .rank .now) (a .plan .now) (a .room .now) (a .e) (a .b) (at (a .po .now) j)
+          (at (l .loop .o) j) f (omega arith) (w .0 .taken))
+          ∙ g j h)
+          (λ w. ap
+          (λ z. gainRestBut (a .m) (a .end .now) (a .other .now) (a .rank .now) (a .plan .now) (a .room .now) (a .e) (a .b) (at (a .po .now) j)
+          (at z j) (f + 1))
+          (w .1)
+          ∙ sym
+          (but-past (a .m) (a .end .now) (a .other .now) (a .rank .now) (a .plan .now) (a .room .now) (a .e) (a .b) (at (a .po .now) j)
+          (at (l .loop .o) j) f (omega arith) (w .0 .left))
+          ∙ g j h)
           (c .if1 .came),
     )
 
@@ -73,24 +74,12 @@ returns : tie.Need-returns Inv-loop μ-loop
 returns c =
     let l = c .before in
     let a = c .before .before .args in
-    λ j h. sym (but-end (a .m) (a .end .now) (a .other .now) (a .rank .now) (a .plan .now) (a .room .now) (a .e) (a .b) (at (a .po .now) j) (at (l .loop .o) j) (l .loop .f) (omega arith)) ∙ l .loop .inv .1 j h
+    λ j h. sym
+    (but-end (a .m) (a .end .now) (a .other .now) (a .rank .now) (a .plan .now) (a .room .now) (a .e) (a .b) (at (a .po .now) j)
+    (at (l .loop .o) j) (l .loop .f) (omega arith))
+    ∙ l .loop .inv .1 j h
 
 pub apart-row-spec : {M : Type 1} → statement M
 apart-row-spec =
-    tie.close
-    (tie.spec
-    Inv-loop
-    μ-loop
-    loop-holds
-    element-copy-out-d
-    cast-v
-    element-copy-out-if1
-    element-copy-out-if1-2
-    element-copy-out-if1-3
-    element-copy-out-rated
-    rated-requires
-    parted-requires
-    add-f
-    loop-less
-    loop-again
-    returns)
+    tie.close (tie.spec Inv-loop μ-loop loop-holds (λ c. search needs) cast-v (λ c. search needs) (λ c. search needs) element-copy-out-if1-3
+    (λ c. search needs) (λ c κs. search needs) (λ c κs. search needs) (λ c. search needs) (λ c. search needs) loop-again returns)

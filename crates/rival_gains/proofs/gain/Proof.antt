@@ -23,35 +23,11 @@ loop-holds c =
     let a = c .args in
     (zero-le, gain-start (a .m) (a .end .now) (a .other .now) (a .rank .now) (a .plan .now) (a .room .now) (a .e) (a .b) 6)
 
-element-copy-out-v : tie.Need-element-copy-out-v Inv-loop μ-loop
-element-copy-out-v c = search needs
-
 cast-v : tie.Need-cast-v Inv-loop μ-loop
 cast-v c = omega (arith, c .before .before .before .pre .1 (c .before .before .loop .f) (omega arith))
 
-element-copy-out-ok : tie.Need-element-copy-out-ok Inv-loop μ-loop
-element-copy-out-ok c = search needs
-
-element-copy-out-ok-2 : tie.Need-element-copy-out-ok-2 Inv-loop μ-loop
-element-copy-out-ok-2 c = search needs
-
 element-copy-out-ok-3 : tie.Need-element-copy-out-ok-3 Inv-loop μ-loop
 element-copy-out-ok-3 c = omega (arith, c .before .before .before .before .before .pre .1 (c .before .before .before .before .loop .f) (omega arith))
-
-element-copy-out-rated : tie.Need-element-copy-out-rated Inv-loop μ-loop
-element-copy-out-rated c = search needs
-
-rated-requires : tie.Need-rated-requires Inv-loop μ-loop
-rated-requires c κs = search needs
-
-lesser-requires : tie.Need-lesser-requires Inv-loop μ-loop
-lesser-requires c κs = search needs
-
-add-f : tie.Need-add-f Inv-loop μ-loop
-add-f c = search needs
-
-loop-less : tie.Need-loop-less Inv-loop μ-loop
-loop-less c = search needs
 
 loop-again : tie.Need-loop-again Inv-loop μ-loop
 loop-again c =
@@ -59,12 +35,22 @@ loop-again c =
     let a = l .before .args in
     let f = l .loop .f in
     let turn : (t : Bool) → gainable (a .end .now) (a .other .now) (a .plan .now) (a .room .now) (a .e) f ≡ t
-    → gainRest (a .m) (a .end .now) (a .other .now) (a .rank .now) (a .plan .now) (a .room .now) (a .e) (a .b) (offer t (rate (a .b) (at (a .rank .now) f)) (l .loop .o)) (f + 1) ≡ gainPrice (a .m) (a .end .now) (a .other .now) (a .rank .now) (a .plan .now) (a .room .now) 6 (a .e) (a .b) =
-    (λ t q. ap (λ t. gainRest (a .m) (a .end .now) (a .other .now) (a .rank .now) (a .plan .now) (a .room .now) (a .e) (a .b) (offer t (rate (a .b) (at (a .rank .now) f)) (l .loop .o)) (f + 1)) (sym q) ∙ sym (gain-turn (a .m) (a .end .now) (a .other .now) (a .rank .now) (a .plan .now) (a .room .now) (a .e) (a .b) (l .loop .o) f (omega arith)) ∙ l .loop .inv .1) in (
+    → gainRest (a .m) (a .end .now) (a .other .now) (a .rank .now) (a .plan .now) (a .room .now) (a .e) (a .b)
+    (offer t (rate (a .b) (at (a .rank .now) f)) (l .loop .o)) (f + 1) ≡ gainPrice (a .m) (a .end .now) (a .other .now) (a .rank .now) (a .plan .now)
+    (a .room .now) 6 (a .e) (a .b) =
+    (λ t q. ap
+    (λ t. gainRest (a .m) (a .end .now) (a .other .now) (a .rank .now) (a .plan .now) (a .room .now) (a .e) (a .b)
+    (offer t (rate (a .b) (at (a .rank .now) f)) (l .loop .o)) (f + 1))
+    (sym q)
+    ∙ sym (gain-turn (a .m) (a .end .now) (a .other .now) (a .rank .now) (a .plan .now) (a .room .now) (a .e) (a .b) (l .loop .o) f (omega arith))
+    ∙ l .loop .inv .1) in (
       omega arith,
       ⊎-elim
-          (λ w. ap (λ v. gainRest (a .m) (a .end .now) (a .other .now) (a .rank .now) (a .plan .now) (a .room .now) (a .e) (a .b) v (f + 1)) (w .4 ∙ w .3 .ensures ∙ ap (λ p. min p (l .loop .o)) (w .2 .ensures .0)) ∙ turn true (w .0 .taken))
-          (λ w. ap (λ v. gainRest (a .m) (a .end .now) (a .other .now) (a .rank .now) (a .plan .now) (a .room .now) (a .e) (a .b) v (f + 1)) (w .1) ∙ turn false (w .0 .left))
+          (λ w. ap (λ v. gainRest (a .m) (a .end .now) (a .other .now) (a .rank .now) (a .plan .now) (a .room .now) (a .e) (a .b) v (f + 1))
+          (w .4 ∙ w .3 .ensures ∙ ap (λ p. min p (l .loop .o)) (w .2 .ensures .0))
+          ∙ turn true (w .0 .taken))
+          (λ w. ap (λ v. gainRest (a .m) (a .end .now) (a .other .now) (a .rank .now) (a .plan .now) (a .room .now) (a .e) (a .b) v (f + 1)) (w .1)
+          ∙ turn false (w .0 .left))
           (c .if1 .came),
     )
 
@@ -72,24 +58,10 @@ returns : tie.Need-returns Inv-loop μ-loop
 returns c =
     let l = c .before in
     let a = c .before .before .args in
-    sym (gain-end (a .m) (a .end .now) (a .other .now) (a .rank .now) (a .plan .now) (a .room .now) (a .e) (a .b) (l .loop .o) (l .loop .f) (omega arith)) ∙ l .loop .inv .1
+    sym (gain-end (a .m) (a .end .now) (a .other .now) (a .rank .now) (a .plan .now) (a .room .now) (a .e) (a .b) (l .loop .o) (l .loop .f) (omega arith))
+    ∙ l .loop .inv .1
 
 pub gain-spec : {M : Type 1} → statement M
 gain-spec =
-    tie.close
-    (tie.spec
-    Inv-loop
-    μ-loop
-    loop-holds
-    element-copy-out-v
-    cast-v
-    element-copy-out-ok
-    element-copy-out-ok-2
-    element-copy-out-ok-3
-    element-copy-out-rated
-    rated-requires
-    lesser-requires
-    add-f
-    loop-less
-    loop-again
-    returns)
+    tie.close (tie.spec Inv-loop μ-loop loop-holds (λ c. search needs) cast-v (λ c. search needs) (λ c. search needs) element-copy-out-ok-3
+    (λ c. search needs) (λ c κs. search needs) (λ c κs. search needs) (λ c. search needs) (λ c. search needs) loop-again returns)

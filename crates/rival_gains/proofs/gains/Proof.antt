@@ -20,45 +20,24 @@ abbrev μ-loop : tie.MeasureT-loop
 loop-holds : tie.Need-loop-holds Inv-loop μ-loop
 loop-holds c = (zero-le, refl, λ i h. absurd (not-suc-le-zero h))
 
-element-copy-out-gain : tie.Need-element-copy-out-gain Inv-loop μ-loop
-element-copy-out-gain c = search needs
-
-element-copy-out-gain-2 : tie.Need-element-copy-out-gain-2 Inv-loop μ-loop
-element-copy-out-gain-2 c = search needs
-
 gain-requires : tie.Need-gain-requires Inv-loop μ-loop
 gain-requires c κs = (omega arith, c .before .before .before .before .pre .1)
-
-array-write-o : tie.Need-array-write-o Inv-loop μ-loop
-array-write-o c = search needs
-
-add-i : tie.Need-add-i Inv-loop μ-loop
-add-i c = search needs
-
-loop-less : tie.Need-loop-less Inv-loop μ-loop
-loop-less c = search needs
 
 loop-again : tie.Need-loop-again Inv-loop μ-loop
 loop-again c =
     let l = c .before .before .before .before in
-    let a = c .before .before .before .before .before .args in
-    (omega arith, simp length-set (l .loop .inv .1), made-set 0 (l .loop .o) (λ i. gainPrice (a .m) (a .end .now) (a .other .now) (a .rank .now) (a .plan .now) (a .room .now) 6 (at (a .pe .now) i) (at (a .pr .now) i)) (l .loop .i) (c .gain .result) (omega arith) (c .gain .ensures) (l .loop .inv .2))
+    let a = c .before .before .before .before .before .args in (
+      omega arith,
+      simp length-set (l .loop .inv .1),
+      made-set 0 (l .loop .o)
+          (λ i. gainPrice (a .m) (a .end .now) (a .other .now) (a .rank .now) (a .plan .now) (a .room .now) 6 (at (a .pe .now) i) (at (a .pr .now) i))
+          (l .loop .i) (c .gain .result) (omega arith) (c .gain .ensures) (l .loop .inv .2),
+    )
 
 returns : tie.Need-returns Inv-loop μ-loop
 returns c = λ i h. c .before .loop .inv .2 i (omega arith)
 
 pub gains-spec : {M : Type 1} → statement M
 gains-spec =
-    tie.close
-    (tie.spec
-    Inv-loop
-    μ-loop
-    loop-holds
-    element-copy-out-gain
-    element-copy-out-gain-2
-    gain-requires
-    array-write-o
-    add-i
-    loop-less
-    loop-again
-    returns)
+    tie.close (tie.spec Inv-loop μ-loop loop-holds (λ c. search needs) (λ c. search needs) gain-requires (λ c. search needs)
+    (λ c. search needs) (λ c. search needs) loop-again returns)

@@ -20,34 +20,19 @@ loop-holds c = (zero-le, λ i j h. absurd (not-suc-le-zero h))
 next-row-requires : tie.Need-next-row-requires Inv-loop μ-loop
 next-row-requires c κs = (omega arith, omega arith, c .before .before .pre .1, c .before .before .pre .2)
 
-put-row-requires : tie.Need-put-row-requires Inv-loop μ-loop
-put-row-requires c κs = search needs
-
-add-i : tie.Need-add-i Inv-loop μ-loop
-add-i c = search needs
-
-loop-less : tie.Need-loop-less Inv-loop μ-loop
-loop-less c = search needs
-
 loop-again : tie.Need-loop-again Inv-loop μ-loop
 loop-again c =
     let l = c .before .before .before in
-    let a = c .before .before .before .before .args in
-    (omega arith, rows-next (l .loop .o) (c .before .next-row .result) (c .put-row .result) (nextPrice (a .arcs .now) (a .d .now) (a .n)) (l .loop .i) (l .loop .inv .1) (c .before .next-row .ensures) (c .put-row .ensures))
+    let a = c .before .before .before .before .args in (
+      omega arith,
+      rows-next (l .loop .o) (c .before .next-row .result) (c .put-row .result) (nextPrice (a .arcs .now) (a .d .now) (a .n)) (l .loop .i)
+          (l .loop .inv .1) (c .before .next-row .ensures) (c .put-row .ensures),
+    )
 
 returns : tie.Need-returns Inv-loop μ-loop
 returns c = λ i j h k. c .before .loop .inv .1 i j (omega arith) k
 
 pub next-layer-spec : {M : Type 1} → statement M
 next-layer-spec =
-    tie.close
-    (tie.spec
-    Inv-loop
-    μ-loop
-    loop-holds
-    next-row-requires
-    put-row-requires
-    add-i
-    loop-less
-    loop-again
-    returns)
+    tie.close (tie.spec Inv-loop μ-loop loop-holds next-row-requires (λ c κs. search needs) (λ c. search needs) (λ c. search needs)
+    loop-again returns)

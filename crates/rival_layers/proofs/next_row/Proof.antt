@@ -16,26 +16,20 @@ Inv-loop n arcs d i b o₀ y₀ o y = (y ≤ n) × ((j : ℕ) → j < 64 → (at
 abbrev μ-loop : tie.MeasureT-loop
 μ-loop n arcs d i b o₀ y₀ o y = n - y
 
-mul-b : tie.Need-mul-b Inv-loop μ-loop
-mul-b c = search needs
-
 kept-row-requires : tie.Need-kept-row-requires Inv-loop μ-loop
 kept-row-requires c κs = (omega arith, λ j h. c .pre .2 (c .args .i) j (omega arith) h)
 
 loop-holds : tie.Need-loop-holds Inv-loop μ-loop
 loop-holds c =
     let a = c .before .args in
-    let e : (j : ℕ) → j < 64 → at (c .kept-row .result) j ≡ keptPrice (cell (a .d .now) (a .i) j) = c .kept-row .ensures in
-    (zero-le, λ j h. (omega (arith, e j h), ap (λ v. nextRest (a .arcs .now) (a .d .now) (a .n) (a .i) j v 0) (e j h) ∙ next-start (a .arcs .now) (a .d .now) (a .n) (a .i) j))
-
-add-a : tie.Need-add-a Inv-loop μ-loop
-add-a c = search needs
-
-element-copy-out-a : tie.Need-element-copy-out-a Inv-loop μ-loop
-element-copy-out-a c = search needs
-
-mul-c : tie.Need-mul-c Inv-loop μ-loop
-mul-c c = search needs
+    let e : (j : ℕ) → j < 64 → at (c .kept-row .result) j ≡ keptPrice (cell (a .d .now) (a .i) j) = c .kept-row .ensures in (
+      zero-le,
+      λ j h. (
+        omega (arith, e j h),
+        ap (λ v. nextRest (a .arcs .now) (a .d .now) (a .n) (a .i) j v 0) (e j h)
+            ∙ next-start (a .arcs .now) (a .d .now) (a .n) (a .i) j,
+      ),
+    )
 
 lower-requires : tie.Need-lower-requires Inv-loop μ-loop
 lower-requires c κs =
@@ -43,24 +37,28 @@ lower-requires c κs =
     let y = c .before .before .before .loop .y in
     (omega arith, (λ j h. s .pre .2 y j (omega arith) h), s .pre .3 (s .args .i) y (omega arith) (omega arith) (c .if1 .taken))
 
-add-y : tie.Need-add-y Inv-loop μ-loop
-add-y c = search needs
-
-loop-less : tie.Need-loop-less Inv-loop μ-loop
-loop-less c = search needs
-
 loop-again : tie.Need-loop-again Inv-loop μ-loop
 loop-again c =
     let l = c .before .before .before in
     let a = c .before .before .before .before .before .args in
     let y = l .loop .y in
-    let g : (j : ℕ) → j < 64 → (at (l .loop .o) j ≤ 133) × (nextRest (a .arcs .now) (a .d .now) (a .n) (a .i) j (at (l .loop .o) j) y ≡ nextPrice (a .arcs .now) (a .d .now) (a .n) (a .i) j) = l .loop .inv .1 in (
+    let g : (j : ℕ) → j < 64
+    → (at (l .loop .o) j ≤ 133)
+    × (nextRest (a .arcs .now) (a .d .now) (a .n) (a .i) j (at (l .loop .o) j) y ≡ nextPrice (a .arcs .now) (a .d .now) (a .n) (a .i) j) =
+    l .loop .inv .1 in (
       omega arith,
       λ j h. ⊎-elim
-          (λ w. let e : at (c .if1 .o) j ≡ min (cell (a .arcs .now) (a .i) y + cell (a .d .now) y j) (at (l .loop .o) j) = ap (λ z. at z j) (w .2) ∙ w .1 .ensures j h in
-          (omega (arith, g j h .0), ap (λ v. nextRest (a .arcs .now) (a .d .now) (a .n) (a .i) j v (y + 1)) e ∙ sym (next-turn (a .arcs .now) (a .d .now) (a .n) (a .i) j (at (l .loop .o) j) y (omega arith)) ∙ g j h .1))
-          (λ w. let e : at (c .if1 .o) j ≡ at (l .loop .o) j = ap (λ z. at z j) (w .1) in
-          (omega (arith, g j h .0), ap (λ v. nextRest (a .arcs .now) (a .d .now) (a .n) (a .i) j v (y + 1)) e ∙ sym (next-past (a .arcs .now) (a .d .now) (a .n) (a .i) j (at (l .loop .o) j) y (omega arith) (w .0 .left) (g j h .0)) ∙ g j h .1))
+          (λ w. let e : at (c .if1 .o) j ≡ min (cell (a .arcs .now) (a .i) y + cell (a .d .now) y j) (at (l .loop .o) j) = ap (λ z. at z j) (w .2)
+          ∙ w .1 .ensures j h in (
+            omega (arith, g j h .0),
+            ap (λ v. nextRest (a .arcs .now) (a .d .now) (a .n) (a .i) j v (y + 1)) e
+                ∙ sym (next-turn (a .arcs .now) (a .d .now) (a .n) (a .i) j (at (l .loop .o) j) y (omega arith)) ∙ g j h .1,
+          ))
+          (λ w. let e : at (c .if1 .o) j ≡ at (l .loop .o) j = ap (λ z. at z j) (w .1) in (
+            omega (arith, g j h .0),
+            ap (λ v. nextRest (a .arcs .now) (a .d .now) (a .n) (a .i) j v (y + 1)) e
+                ∙ sym (next-past (a .arcs .now) (a .d .now) (a .n) (a .i) j (at (l .loop .o) j) y (omega arith) (w .0 .left) (g j h .0)) ∙ g j h .1,
+          ))
           (c .if1 .came),
     )
 
@@ -72,18 +70,5 @@ returns c =
 
 pub next-row-spec : {M : Type 1} → statement M
 next-row-spec =
-    tie.close
-    (tie.spec
-    Inv-loop
-    μ-loop
-    mul-b
-    kept-row-requires
-    loop-holds
-    add-a
-    element-copy-out-a
-    mul-c
-    lower-requires
-    add-y
-    loop-less
-    loop-again
-    returns)
+    tie.close (tie.spec Inv-loop μ-loop (λ c. search needs) kept-row-requires loop-holds (λ c. search needs) (λ c. search needs)
+    (λ c. search needs) lower-requires (λ c. search needs) (λ c. search needs) loop-again returns)

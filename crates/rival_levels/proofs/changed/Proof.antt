@@ -21,9 +21,6 @@ loop-holds : tie.Need-loop-holds Inv-loop μ-loop
 unfolding low
 loop-holds c = (zero-le, refl)
 
-mul-b : tie.Need-mul-b Inv-loop μ-loop
-mul-b c = search needs
-
 lowered-requires : tie.Need-lowered-requires Inv-loop μ-loop
 lowered-requires c κs = (omega arith, omega arith, λ j h. c .before .before .pre .1 (c .before .loop .i) j (omega arith) h)
 
@@ -31,19 +28,19 @@ returns : tie.Need-returns Inv-loop μ-loop
 returns c =
     let l = c .before .before .before in
     let a = c .before .before .before .before .args in
-    sym (low-hit (λ i. ltb (loweredAt (cell (a .d .now)) (cell (a .e .now)) (a .n) i) (a .n)) (l .loop .i) (a .n) (l .loop .inv .1) (lt-ltb (loweredAt (cell (a .d .now)) (cell (a .e .now)) (a .n) (l .loop .i)) (a .n) (omega (arith, c .before .lowered .ensures, c .if1 .taken))) (omega arith))
-
-add-i : tie.Need-add-i Inv-loop μ-loop
-add-i c = search needs
-
-loop-less : tie.Need-loop-less Inv-loop μ-loop
-loop-less c = search needs
+    sym
+    (low-hit (λ i. ltb (loweredAt (cell (a .d .now)) (cell (a .e .now)) (a .n) i) (a .n)) (l .loop .i) (a .n) (l .loop .inv .1)
+    (lt-ltb (loweredAt (cell (a .d .now)) (cell (a .e .now)) (a .n) (l .loop .i)) (a .n) (omega (arith, c .before .lowered .ensures, c .if1 .taken)))
+    (omega arith))
 
 loop-again : tie.Need-loop-again Inv-loop μ-loop
 loop-again c =
     let l = c .before .before .before in
-    let a = c .before .before .before .before .args in
-    (omega arith, low-miss (λ i. ltb (loweredAt (cell (a .d .now)) (cell (a .e .now)) (a .n) i) (a .n)) (l .loop .i) (l .loop .inv .1) (le-ltb (loweredAt (cell (a .d .now)) (cell (a .e .now)) (a .n) (l .loop .i)) (a .n) (omega (arith, c .before .lowered .ensures, c .if1 .left))))
+    let a = c .before .before .before .before .args in (
+      omega arith,
+      low-miss (λ i. ltb (loweredAt (cell (a .d .now)) (cell (a .e .now)) (a .n) i) (a .n)) (l .loop .i) (l .loop .inv .1)
+          (le-ltb (loweredAt (cell (a .d .now)) (cell (a .e .now)) (a .n) (l .loop .i)) (a .n) (omega (arith, c .before .lowered .ensures, c .if1 .left))),
+    )
 
 returns-2 : tie.Need-returns-2 Inv-loop μ-loop
 returns-2 c =
@@ -54,15 +51,5 @@ returns-2 c =
 
 pub changed-spec : {M : Type 1} → statement M
 changed-spec =
-    tie.close
-    (tie.spec
-    Inv-loop
-    μ-loop
-    loop-holds
-    mul-b
-    lowered-requires
-    returns
-    add-i
-    loop-less
-    loop-again
-    returns-2)
+    tie.close (tie.spec Inv-loop μ-loop loop-holds (λ c. search needs) lowered-requires returns (λ c. search needs) (λ c. search needs)
+    loop-again returns-2)

@@ -20,32 +20,22 @@ loop-holds : tie.Need-loop-holds Inv-loop μ-loop
 unfolding low
 loop-holds c = (zero-le, refl)
 
-mul-if1 : tie.Need-mul-if1 Inv-loop μ-loop
-mul-if1 c = search needs
-
-add-if1 : tie.Need-add-if1 Inv-loop μ-loop
-add-if1 c = search needs
-
-element-copy-out-if1 : tie.Need-element-copy-out-if1 Inv-loop μ-loop
-element-copy-out-if1 c = search needs
-
 returns : tie.Need-returns Inv-loop μ-loop
 returns c =
     let l = c .before .before .before in
     let a = c .before .before .before .before .args in
-    sym (low-hit (λ i. ltb (cell (a .d .now) i i) (a .bound)) (l .loop .i) (a .n) (l .loop .inv .1) (lt-ltb (cell (a .d .now) (l .loop .i) (l .loop .i)) (a .bound) (c .if1 .taken)) (omega arith))
-
-add-i : tie.Need-add-i Inv-loop μ-loop
-add-i c = search needs
-
-loop-less : tie.Need-loop-less Inv-loop μ-loop
-loop-less c = search needs
+    sym
+    (low-hit (λ i. ltb (cell (a .d .now) i i) (a .bound)) (l .loop .i) (a .n) (l .loop .inv .1)
+    (lt-ltb (cell (a .d .now) (l .loop .i) (l .loop .i)) (a .bound) (c .if1 .taken)) (omega arith))
 
 loop-again : tie.Need-loop-again Inv-loop μ-loop
 loop-again c =
     let l = c .before .before .before in
-    let a = c .before .before .before .before .args in
-    (omega arith, low-miss (λ i. ltb (cell (a .d .now) i i) (a .bound)) (l .loop .i) (l .loop .inv .1) (le-ltb (cell (a .d .now) (l .loop .i) (l .loop .i)) (a .bound) (c .if1 .left)))
+    let a = c .before .before .before .before .args in (
+      omega arith,
+      low-miss (λ i. ltb (cell (a .d .now) i i) (a .bound)) (l .loop .i) (l .loop .inv .1)
+          (le-ltb (cell (a .d .now) (l .loop .i) (l .loop .i)) (a .bound) (c .if1 .left)),
+    )
 
 returns-2 : tie.Need-returns-2 Inv-loop μ-loop
 returns-2 c =
@@ -56,16 +46,5 @@ returns-2 c =
 
 pub diagonal-spec : {M : Type 1} → statement M
 diagonal-spec =
-    tie.close
-    (tie.spec
-    Inv-loop
-    μ-loop
-    loop-holds
-    mul-if1
-    add-if1
-    element-copy-out-if1
-    returns
-    add-i
-    loop-less
-    loop-again
-    returns-2)
+    tie.close (tie.spec Inv-loop μ-loop loop-holds (λ c. search needs) (λ c. search needs) (λ c. search needs) returns (λ c. search needs)
+    (λ c. search needs) loop-again returns-2)

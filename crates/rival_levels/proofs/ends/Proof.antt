@@ -20,18 +20,6 @@ loop-holds : tie.Need-loop-holds Inv-loop μ-loop
 unfolding low
 loop-holds c = (zero-le, refl)
 
-add-if1 : tie.Need-add-if1 Inv-loop μ-loop
-add-if1 c = search needs
-
-element-copy-out-if1 : tie.Need-element-copy-out-if1 Inv-loop μ-loop
-element-copy-out-if1 c = search needs
-
-add-if1-2 : tie.Need-add-if1-2 Inv-loop μ-loop
-add-if1-2 c = search needs
-
-element-copy-out-if1-2 : tie.Need-element-copy-out-if1-2 Inv-loop μ-loop
-element-copy-out-if1-2 c = search needs
-
 add-if1-3 : tie.Need-add-if1-3 Inv-loop μ-loop
 add-if1-3 c = omega (arith, c .before .before .before .before .pre .2 (c .before .before .before .loop .j) (omega arith))
 
@@ -39,19 +27,18 @@ returns : tie.Need-returns Inv-loop μ-loop
 returns c =
     let l = c .before .before .before .before in
     let a = c .before .before .before .before .before .args in
-    sym (low-hit (λ j. ltb (at (a .d .now) (a .b + j) + at (a .terminals .now) (a .b + j)) (a .bound)) (l .loop .j) (a .n) (l .loop .inv .1) (lt-ltb (at (a .d .now) (a .b + l .loop .j) + at (a .terminals .now) (a .b + l .loop .j)) (a .bound) (c .if1 .taken)) (omega arith))
-
-add-j : tie.Need-add-j Inv-loop μ-loop
-add-j c = search needs
-
-loop-less : tie.Need-loop-less Inv-loop μ-loop
-loop-less c = search needs
+    sym
+    (low-hit (λ j. ltb (at (a .d .now) (a .b + j) + at (a .terminals .now) (a .b + j)) (a .bound)) (l .loop .j) (a .n) (l .loop .inv .1)
+    (lt-ltb (at (a .d .now) (a .b + l .loop .j) + at (a .terminals .now) (a .b + l .loop .j)) (a .bound) (c .if1 .taken)) (omega arith))
 
 loop-again : tie.Need-loop-again Inv-loop μ-loop
 loop-again c =
     let l = c .before .before .before .before in
-    let a = c .before .before .before .before .before .args in
-    (omega arith, low-miss (λ j. ltb (at (a .d .now) (a .b + j) + at (a .terminals .now) (a .b + j)) (a .bound)) (l .loop .j) (l .loop .inv .1) (le-ltb (at (a .d .now) (a .b + l .loop .j) + at (a .terminals .now) (a .b + l .loop .j)) (a .bound) (c .if1 .left)))
+    let a = c .before .before .before .before .before .args in (
+      omega arith,
+      low-miss (λ j. ltb (at (a .d .now) (a .b + j) + at (a .terminals .now) (a .b + j)) (a .bound)) (l .loop .j) (l .loop .inv .1)
+          (le-ltb (at (a .d .now) (a .b + l .loop .j) + at (a .terminals .now) (a .b + l .loop .j)) (a .bound) (c .if1 .left)),
+    )
 
 returns-2 : tie.Need-returns-2 Inv-loop μ-loop
 returns-2 c =
@@ -62,18 +49,5 @@ returns-2 c =
 
 pub ends-spec : {M : Type 1} → statement M
 ends-spec =
-    tie.close
-    (tie.spec
-    Inv-loop
-    μ-loop
-    loop-holds
-    add-if1
-    element-copy-out-if1
-    add-if1-2
-    element-copy-out-if1-2
-    add-if1-3
-    returns
-    add-j
-    loop-less
-    loop-again
-    returns-2)
+    tie.close (tie.spec Inv-loop μ-loop loop-holds (λ c. search needs) (λ c. search needs) (λ c. search needs) (λ c. search needs) add-if1-3
+    returns (λ c. search needs) (λ c. search needs) loop-again returns-2)

@@ -11,7 +11,8 @@ use Rattle.rival_levels.proofs.levels.Statement.{statement}
 use Rattle.rival_levels.proofs.levels.Tie as tie
 
 abbrev Inv-loop : tie.InvT-loop
-Inv-loop n arcs terminals k d₀ l₀ d l = (l ≤ n) × Small n d × Rows d n (layerAt arcs n l) × (levelsAt arcs terminals n k (n - l) l ≡ levelsAt arcs terminals n k n 0)
+Inv-loop n arcs terminals k d₀ l₀ d l =
+    (l ≤ n) × Small n d × Rows d n (layerAt arcs n l) × (levelsAt arcs terminals n k (n - l) l ≡ levelsAt arcs terminals n k n 0)
 
 abbrev μ-loop : tie.MeasureT-loop
 μ-loop n arcs terminals k d₀ l₀ d l = n - l
@@ -21,32 +22,19 @@ loop-holds c =
     let a = c .before .args in
     (zero-le, c .before .pre .2, layer-first (a .arcs .now) (a .n), levels-start (a .arcs .now) (a .terminals .now) (a .n) (a .k))
 
-add-bound : tie.Need-add-bound Inv-loop μ-loop
-add-bound c = search needs
-
-mul-bound : tie.Need-mul-bound Inv-loop μ-loop
-mul-bound c = search needs
-
-cast-bound : tie.Need-cast-bound Inv-loop μ-loop
-cast-bound c = search needs
-
-add-bound-2 : tie.Need-add-bound-2 Inv-loop μ-loop
-add-bound-2 c = search needs
-
-diagonal-requires : tie.Need-diagonal-requires Inv-loop μ-loop
-diagonal-requires c κs = search needs
-
 returns : tie.Need-returns Inv-loop μ-loop
 returns c =
     let l = c .before .before .before .before in
     let a = c .before .before .before .before .before .before .args in
     let b : ℕ = 2 * (l .loop .l + 1) + a .k in
     let e : b ≡ 2 * suc (l .loop .l) + a .k = omega arith in
-    let i : c .before .diagonal .result ≡ levelLoop (a .arcs .now) (a .n) (a .k) (l .loop .l) = loop-is (a .arcs .now) (a .terminals .now) (l .loop .d) (a .n) (a .k) (l .loop .l) (omega arith) (l .loop .inv .2) b (c .before .diagonal .result) e (c .before .diagonal .ensures) in
-    out-closed (a .arcs .now) (a .terminals .now) (a .n) (a .k) (l .loop .l) (levelsAt (a .arcs .now) (a .terminals .now) (a .n) (a .k) (a .n - (l .loop .l + 1)) (l .loop .l + 1)) (c .before .diagonal .result) i (c .if1 .taken) ∙ sym (levels-turn (a .arcs .now) (a .terminals .now) (a .n) (a .k) (l .loop .l) (omega arith)) ∙ l .loop .inv .3
-
-add-pair : tie.Need-add-pair Inv-loop μ-loop
-add-pair c = search needs
+    let i : c .before .diagonal .result ≡ levelLoop (a .arcs .now) (a .n) (a .k) (l .loop .l) =
+    loop-is (a .arcs .now) (a .terminals .now) (l .loop .d) (a .n) (a .k) (l .loop .l) (omega arith) (l .loop .inv .2) b
+    (c .before .diagonal .result) e (c .before .diagonal .ensures) in
+    out-closed (a .arcs .now) (a .terminals .now) (a .n) (a .k) (l .loop .l)
+    (levelsAt (a .arcs .now) (a .terminals .now) (a .n) (a .k) (a .n - (l .loop .l + 1)) (l .loop .l + 1)) (c .before .diagonal .result) i
+    (c .if1 .taken)
+    ∙ sym (levels-turn (a .arcs .now) (a .terminals .now) (a .n) (a .k) (l .loop .l) (omega arith)) ∙ l .loop .inv .3
 
 pair-requires : tie.Need-pair-requires Inv-loop μ-loop
 pair-requires c κs = (omega arith, c .before .before .before .before .before .loop .inv .1, c .before .before .before .before .before .before .before .pre .4)
@@ -57,14 +45,28 @@ returns-2 c =
     let a = c .before .before .before .before .before .before .before .before .before .before .args in
     let b : ℕ = 2 * (l .loop .l + 1) + a .k in
     let e : b ≡ 2 * suc (l .loop .l) + a .k = omega arith in
-    let i : c .before .before .before .before .before .diagonal .result ≡ levelLoop (a .arcs .now) (a .n) (a .k) (l .loop .l) = loop-is (a .arcs .now) (a .terminals .now) (l .loop .d) (a .n) (a .k) (l .loop .l) (omega arith) (l .loop .inv .2) b (c .before .before .before .before .before .diagonal .result) e (c .before .before .before .before .before .diagonal .ensures) in
+    let i : c .before .before .before .before .before .diagonal .result ≡ levelLoop (a .arcs .now) (a .n) (a .k) (l .loop .l) =
+    loop-is (a .arcs .now) (a .terminals .now) (l .loop .d) (a .n) (a .k) (l .loop .l) (omega arith) (l .loop .inv .2) b
+    (c .before .before .before .before .before .diagonal .result) e (c .before .before .before .before .before .diagonal .ensures) in
     let f : b + 4 ≡ 2 * suc (l .loop .l) + 4 + a .k = omega arith in
-    let r : c .before .before .pair .result .row ≡ levelRow (a .arcs .now) (a .terminals .now) (a .n) (a .k) (l .loop .l) = row-is (a .arcs .now) (a .terminals .now) (l .loop .d) (a .n) (a .k) (l .loop .l) (omega arith) (l .loop .inv .2) (b + 4) (c .before .before .pair .result .row) f (c .before .before .pair .ensures .0) in
-    out-open (a .arcs .now) (a .terminals .now) (a .n) (a .k) (l .loop .l) (levelsAt (a .arcs .now) (a .terminals .now) (a .n) (a .k) (a .n - (l .loop .l + 1)) (l .loop .l + 1)) (c .before .before .before .before .before .diagonal .result) (c .before .before .pair .result .row) (c .before .before .pair .result .column) i (c .before .before .before .before .if1 .left) r (c .if2 .taken)
-    (column-is (a .arcs .now) (a .terminals .now) (l .loop .d) (a .n) (a .k) (l .loop .l) (omega arith) (l .loop .inv .2) (b + 4) (c .before .before .pair .result .row) (c .before .before .pair .result .column) f (c .before .before .pair .ensures .0) (c .if2 .taken) (c .before .before .pair .ensures .1 (c .if2 .taken))) ∙ sym (levels-turn (a .arcs .now) (a .terminals .now) (a .n) (a .k) (l .loop .l) (omega arith)) ∙ l .loop .inv .3
+    let r : c .before .before .pair .result .row ≡ levelRow (a .arcs .now) (a .terminals .now) (a .n) (a .k) (l .loop .l) =
+    row-is (a .arcs .now) (a .terminals .now) (l .loop .d) (a .n) (a .k) (l .loop .l) (omega arith) (l .loop .inv .2) (b + 4)
+    (c .before .before .pair .result .row) f (c .before .before .pair .ensures .0) in
+    out-open (a .arcs .now) (a .terminals .now) (a .n) (a .k) (l .loop .l)
+    (levelsAt (a .arcs .now) (a .terminals .now) (a .n) (a .k) (a .n - (l .loop .l + 1)) (l .loop .l + 1))
+    (c .before .before .before .before .before .diagonal .result) (c .before .before .pair .result .row) (c .before .before .pair .result .column) i
+    (c .before .before .before .before .if1 .left) r (c .if2 .taken)
+    (column-is (a .arcs .now) (a .terminals .now) (l .loop .d) (a .n) (a .k) (l .loop .l) (omega arith) (l .loop .inv .2) (b + 4)
+    (c .before .before .pair .result .row) (c .before .before .pair .result .column) f (c .before .before .pair .ensures .0) (c .if2 .taken)
+    (c .before .before .pair .ensures .1 (c .if2 .taken)))
+    ∙ sym (levels-turn (a .arcs .now) (a .terminals .now) (a .n) (a .k) (l .loop .l) (omega arith)) ∙ l .loop .inv .3
 
 next-layer-requires : tie.Need-next-layer-requires Inv-loop μ-loop
-next-layer-requires c κs = (omega arith, c .before .before .before .before .before .before .before .before .before .loop .inv .1, c .before .before .before .before .before .before .before .before .before .before .before .pre .3)
+next-layer-requires c κs = (
+  omega arith,
+  c .before .before .before .before .before .before .before .before .before .loop .inv .1,
+  c .before .before .before .before .before .before .before .before .before .before .before .pre .3,
+)
 
 changed-requires : tie.Need-changed-requires Inv-loop μ-loop
 changed-requires c κs = (omega arith, c .before .before .before .before .before .before .before .before .before .before .before .before .loop .inv .1)
@@ -75,18 +77,30 @@ returns-3 c =
     let a = c .before .before .before .before .before .before .before .before .before .before .before .before .before .before .before .before .args in
     let b : ℕ = 2 * (l .loop .l + 1) + a .k in
     let e : b ≡ 2 * suc (l .loop .l) + a .k = omega arith in
-    let i : c .before .before .before .before .before .before .before .before .before .before .before .diagonal .result ≡ levelLoop (a .arcs .now) (a .n) (a .k) (l .loop .l) = loop-is (a .arcs .now) (a .terminals .now) (l .loop .d) (a .n) (a .k) (l .loop .l) (omega arith) (l .loop .inv .2) b (c .before .before .before .before .before .before .before .before .before .before .before .diagonal .result) e (c .before .before .before .before .before .before .before .before .before .before .before .diagonal .ensures) in
+    let i : c .before .before .before .before .before .before .before .before .before .before .before .diagonal .result ≡ levelLoop (a .arcs .now)
+    (a .n) (a .k) (l .loop .l) =
+    loop-is (a .arcs .now) (a .terminals .now) (l .loop .d) (a .n) (a .k) (l .loop .l) (omega arith) (l .loop .inv .2) b
+    (c .before .before .before .before .before .before .before .before .before .before .before .diagonal .result) e
+    (c .before .before .before .before .before .before .before .before .before .before .before .diagonal .ensures) in
     let f : b + 4 ≡ 2 * suc (l .loop .l) + 4 + a .k = omega arith in
-    let r : c .before .before .before .before .before .before .before .before .pair .result .row ≡ levelRow (a .arcs .now) (a .terminals .now) (a .n) (a .k) (l .loop .l) = row-is (a .arcs .now) (a .terminals .now) (l .loop .d) (a .n) (a .k) (l .loop .l) (omega arith) (l .loop .inv .2) (b + 4) (c .before .before .before .before .before .before .before .before .pair .result .row) f (c .before .before .before .before .before .before .before .before .pair .ensures .0) in
-    let s : Rows (c .before .before .before .before .next-layer .result) (a .n) (layerAt (a .arcs .now) (a .n) (suc (l .loop .l))) = layer-next (a .arcs .now) (l .loop .d) (c .before .before .before .before .next-layer .result) (a .n) (l .loop .l) (l .loop .inv .2) (c .before .before .before .before .next-layer .ensures) in
-    let g : c .before .changed .result ≡ levelChange (a .arcs .now) (a .n) (l .loop .l) = change-is (a .arcs .now) (a .terminals .now) (l .loop .d) (a .n) (a .k) (l .loop .l) (omega arith) (l .loop .inv .2) (c .before .before .before .before .next-layer .result) (c .before .changed .result) s (c .before .changed .ensures) in
-    out-nothing (a .arcs .now) (a .terminals .now) (a .n) (a .k) (l .loop .l) (levelsAt (a .arcs .now) (a .terminals .now) (a .n) (a .k) (a .n - (l .loop .l + 1)) (l .loop .l + 1)) (c .before .before .before .before .before .before .before .before .before .before .before .diagonal .result) (c .before .before .before .before .before .before .before .before .pair .result .row) (c .before .changed .result) i (c .before .before .before .before .before .before .before .before .before .before .if1 .left) r (c .before .before .before .before .before .before .if2 .left) g (c .if3 .taken) ∙ sym (levels-turn (a .arcs .now) (a .terminals .now) (a .n) (a .k) (l .loop .l) (omega arith)) ∙ l .loop .inv .3
-
-add-l : tie.Need-add-l Inv-loop μ-loop
-add-l c = search needs
-
-loop-less : tie.Need-loop-less Inv-loop μ-loop
-loop-less c = search needs
+    let r : c .before .before .before .before .before .before .before .before .pair .result .row ≡ levelRow (a .arcs .now) (a .terminals .now) (a .n)
+    (a .k) (l .loop .l) =
+    row-is (a .arcs .now) (a .terminals .now) (l .loop .d) (a .n) (a .k) (l .loop .l) (omega arith) (l .loop .inv .2) (b + 4)
+    (c .before .before .before .before .before .before .before .before .pair .result .row) f
+    (c .before .before .before .before .before .before .before .before .pair .ensures .0) in
+    let s : Rows (c .before .before .before .before .next-layer .result) (a .n) (layerAt (a .arcs .now) (a .n) (suc (l .loop .l))) =
+    layer-next (a .arcs .now) (l .loop .d) (c .before .before .before .before .next-layer .result) (a .n) (l .loop .l) (l .loop .inv .2)
+    (c .before .before .before .before .next-layer .ensures) in
+    let g : c .before .changed .result ≡ levelChange (a .arcs .now) (a .n) (l .loop .l) =
+    change-is (a .arcs .now) (a .terminals .now) (l .loop .d) (a .n) (a .k) (l .loop .l) (omega arith) (l .loop .inv .2)
+    (c .before .before .before .before .next-layer .result) (c .before .changed .result) s (c .before .changed .ensures) in
+    out-nothing (a .arcs .now) (a .terminals .now) (a .n) (a .k) (l .loop .l)
+    (levelsAt (a .arcs .now) (a .terminals .now) (a .n) (a .k) (a .n - (l .loop .l + 1)) (l .loop .l + 1))
+    (c .before .before .before .before .before .before .before .before .before .before .before .diagonal .result)
+    (c .before .before .before .before .before .before .before .before .pair .result .row) (c .before .changed .result) i
+    (c .before .before .before .before .before .before .before .before .before .before .if1 .left) r
+    (c .before .before .before .before .before .before .if2 .left) g (c .if3 .taken)
+    ∙ sym (levels-turn (a .arcs .now) (a .terminals .now) (a .n) (a .k) (l .loop .l) (omega arith)) ∙ l .loop .inv .3
 
 loop-again : tie.Need-loop-again Inv-loop μ-loop
 loop-again c =
@@ -94,16 +108,34 @@ loop-again c =
     let a = c .before .before .before .before .before .before .before .before .before .before .before .before .before .before .before .before .args in
     let b : ℕ = 2 * (l .loop .l + 1) + a .k in
     let e : b ≡ 2 * suc (l .loop .l) + a .k = omega arith in
-    let i : c .before .before .before .before .before .before .before .before .before .before .before .diagonal .result ≡ levelLoop (a .arcs .now) (a .n) (a .k) (l .loop .l) = loop-is (a .arcs .now) (a .terminals .now) (l .loop .d) (a .n) (a .k) (l .loop .l) (omega arith) (l .loop .inv .2) b (c .before .before .before .before .before .before .before .before .before .before .before .diagonal .result) e (c .before .before .before .before .before .before .before .before .before .before .before .diagonal .ensures) in
+    let i : c .before .before .before .before .before .before .before .before .before .before .before .diagonal .result ≡ levelLoop (a .arcs .now)
+    (a .n) (a .k) (l .loop .l) =
+    loop-is (a .arcs .now) (a .terminals .now) (l .loop .d) (a .n) (a .k) (l .loop .l) (omega arith) (l .loop .inv .2) b
+    (c .before .before .before .before .before .before .before .before .before .before .before .diagonal .result) e
+    (c .before .before .before .before .before .before .before .before .before .before .before .diagonal .ensures) in
     let f : b + 4 ≡ 2 * suc (l .loop .l) + 4 + a .k = omega arith in
-    let r : c .before .before .before .before .before .before .before .before .pair .result .row ≡ levelRow (a .arcs .now) (a .terminals .now) (a .n) (a .k) (l .loop .l) = row-is (a .arcs .now) (a .terminals .now) (l .loop .d) (a .n) (a .k) (l .loop .l) (omega arith) (l .loop .inv .2) (b + 4) (c .before .before .before .before .before .before .before .before .pair .result .row) f (c .before .before .before .before .before .before .before .before .pair .ensures .0) in
-    let s : Rows (c .before .before .before .before .next-layer .result) (a .n) (layerAt (a .arcs .now) (a .n) (suc (l .loop .l))) = layer-next (a .arcs .now) (l .loop .d) (c .before .before .before .before .next-layer .result) (a .n) (l .loop .l) (l .loop .inv .2) (c .before .before .before .before .next-layer .ensures) in
-    let g : c .before .changed .result ≡ levelChange (a .arcs .now) (a .n) (l .loop .l) = change-is (a .arcs .now) (a .terminals .now) (l .loop .d) (a .n) (a .k) (l .loop .l) (omega arith) (l .loop .inv .2) (c .before .before .before .before .next-layer .result) (c .before .changed .result) s (c .before .changed .ensures) in
+    let r : c .before .before .before .before .before .before .before .before .pair .result .row ≡ levelRow (a .arcs .now) (a .terminals .now) (a .n)
+    (a .k) (l .loop .l) =
+    row-is (a .arcs .now) (a .terminals .now) (l .loop .d) (a .n) (a .k) (l .loop .l) (omega arith) (l .loop .inv .2) (b + 4)
+    (c .before .before .before .before .before .before .before .before .pair .result .row) f
+    (c .before .before .before .before .before .before .before .before .pair .ensures .0) in
+    let s : Rows (c .before .before .before .before .next-layer .result) (a .n) (layerAt (a .arcs .now) (a .n) (suc (l .loop .l))) =
+    layer-next (a .arcs .now) (l .loop .d) (c .before .before .before .before .next-layer .result) (a .n) (l .loop .l) (l .loop .inv .2)
+    (c .before .before .before .before .next-layer .ensures) in
+    let g : c .before .changed .result ≡ levelChange (a .arcs .now) (a .n) (l .loop .l) =
+    change-is (a .arcs .now) (a .terminals .now) (l .loop .d) (a .n) (a .k) (l .loop .l) (omega arith) (l .loop .inv .2)
+    (c .before .before .before .before .next-layer .result) (c .before .changed .result) s (c .before .changed .ensures) in
     let o : suc (l .loop .l) ≡ l .loop .l + 1 = omega arith in (
       omega arith,
       (λ i j h k. omega (arith, c .before .before .before .before .next-layer .ensures i j h k, next-≤ (a .arcs .now) (l .loop .d) (a .n) i j)),
       subst (λ z. Rows (c .before .before .before .before .next-layer .result) (a .n) (layerAt (a .arcs .now) (a .n) z)) o s,
-      out-on (a .arcs .now) (a .terminals .now) (a .n) (a .k) (l .loop .l) (levelsAt (a .arcs .now) (a .terminals .now) (a .n) (a .k) (a .n - (l .loop .l + 1)) (l .loop .l + 1)) (c .before .before .before .before .before .before .before .before .before .before .before .diagonal .result) (c .before .before .before .before .before .before .before .before .pair .result .row) (c .before .changed .result) i (c .before .before .before .before .before .before .before .before .before .before .if1 .left) r (c .before .before .before .before .before .before .if2 .left) g (c .if3 .left) ∙ sym (levels-turn (a .arcs .now) (a .terminals .now) (a .n) (a .k) (l .loop .l) (omega arith)) ∙ l .loop .inv .3,
+      out-on (a .arcs .now) (a .terminals .now) (a .n) (a .k) (l .loop .l)
+          (levelsAt (a .arcs .now) (a .terminals .now) (a .n) (a .k) (a .n - (l .loop .l + 1)) (l .loop .l + 1))
+          (c .before .before .before .before .before .before .before .before .before .before .before .diagonal .result)
+          (c .before .before .before .before .before .before .before .before .pair .result .row) (c .before .changed .result) i
+          (c .before .before .before .before .before .before .before .before .before .before .if1 .left) r
+          (c .before .before .before .before .before .before .if2 .left) g (c .if3 .left)
+          ∙ sym (levels-turn (a .arcs .now) (a .terminals .now) (a .n) (a .k) (l .loop .l) (omega arith)) ∙ l .loop .inv .3,
     )
 
 returns-4 : tie.Need-returns-4 Inv-loop μ-loop
@@ -114,24 +146,6 @@ returns-4 c =
 
 pub levels-spec : {M : Type 1} → statement M
 levels-spec =
-    tie.close
-    (tie.spec
-    Inv-loop
-    μ-loop
-    loop-holds
-    add-bound
-    mul-bound
-    cast-bound
-    add-bound-2
-    diagonal-requires
-    returns
-    add-pair
-    pair-requires
-    returns-2
-    next-layer-requires
-    changed-requires
-    returns-3
-    add-l
-    loop-less
-    loop-again
-    returns-4)
+    tie.close (tie.spec Inv-loop μ-loop loop-holds (λ c. search needs) (λ c. search needs) (λ c. search needs) (λ c. search needs)
+    (λ c κs. search needs) returns (λ c. search needs) pair-requires returns-2 next-layer-requires changed-requires returns-3
+    (λ c. search needs) (λ c. search needs) loop-again returns-4)

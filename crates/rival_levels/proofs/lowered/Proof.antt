@@ -21,41 +21,28 @@ loop-holds : tie.Need-loop-holds Inv-loop μ-loop
 unfolding low
 loop-holds c = (zero-le, refl)
 
-add-lesser : tie.Need-add-lesser Inv-loop μ-loop
-add-lesser c = search needs
-
-element-copy-out-lesser : tie.Need-element-copy-out-lesser Inv-loop μ-loop
-element-copy-out-lesser c = search needs
-
 add-lesser-2 : tie.Need-add-lesser-2 Inv-loop μ-loop
 add-lesser-2 c = omega (arith, c .before .before .before .pre .2 (c .before .before .loop .j) (omega arith))
-
-lesser-requires : tie.Need-lesser-requires Inv-loop μ-loop
-lesser-requires c κs = search needs
-
-add-if1 : tie.Need-add-if1 Inv-loop μ-loop
-add-if1 c = search needs
-
-element-copy-out-if1 : tie.Need-element-copy-out-if1 Inv-loop μ-loop
-element-copy-out-if1 c = search needs
 
 returns : tie.Need-returns Inv-loop μ-loop
 returns c =
     let l = c .before .before .before .before .before in
     let a = c .before .before .before .before .before .before .args in
-    sym (low-hit (λ j. ltb (at (a .e .now) (a .b + j)) (keptPrice (at (a .d .now) (a .b + j)))) (l .loop .j) (a .n) (l .loop .inv .1) (lt-ltb (at (a .e .now) (a .b + l .loop .j)) (keptPrice (at (a .d .now) (a .b + l .loop .j))) (omega (arith, c .before .before .lesser .ensures, c .if1 .taken))) (omega arith))
-
-add-j : tie.Need-add-j Inv-loop μ-loop
-add-j c = search needs
-
-loop-less : tie.Need-loop-less Inv-loop μ-loop
-loop-less c = search needs
+    sym
+    (low-hit (λ j. ltb (at (a .e .now) (a .b + j)) (keptPrice (at (a .d .now) (a .b + j)))) (l .loop .j) (a .n) (l .loop .inv .1)
+    (lt-ltb (at (a .e .now) (a .b + l .loop .j)) (keptPrice (at (a .d .now) (a .b + l .loop .j)))
+    (omega (arith, c .before .before .lesser .ensures, c .if1 .taken)))
+    (omega arith))
 
 loop-again : tie.Need-loop-again Inv-loop μ-loop
 loop-again c =
     let l = c .before .before .before .before .before in
-    let a = c .before .before .before .before .before .before .args in
-    (omega arith, low-miss (λ j. ltb (at (a .e .now) (a .b + j)) (keptPrice (at (a .d .now) (a .b + j)))) (l .loop .j) (l .loop .inv .1) (le-ltb (at (a .e .now) (a .b + l .loop .j)) (keptPrice (at (a .d .now) (a .b + l .loop .j))) (omega (arith, c .before .before .lesser .ensures, c .if1 .left))))
+    let a = c .before .before .before .before .before .before .args in (
+      omega arith,
+      low-miss (λ j. ltb (at (a .e .now) (a .b + j)) (keptPrice (at (a .d .now) (a .b + j)))) (l .loop .j) (l .loop .inv .1)
+          (le-ltb (at (a .e .now) (a .b + l .loop .j)) (keptPrice (at (a .d .now) (a .b + l .loop .j)))
+          (omega (arith, c .before .before .lesser .ensures, c .if1 .left))),
+    )
 
 returns-2 : tie.Need-returns-2 Inv-loop μ-loop
 returns-2 c =
@@ -66,19 +53,5 @@ returns-2 c =
 
 pub lowered-spec : {M : Type 1} → statement M
 lowered-spec =
-    tie.close
-    (tie.spec
-    Inv-loop
-    μ-loop
-    loop-holds
-    add-lesser
-    element-copy-out-lesser
-    add-lesser-2
-    lesser-requires
-    add-if1
-    element-copy-out-if1
-    returns
-    add-j
-    loop-less
-    loop-again
-    returns-2)
+    tie.close (tie.spec Inv-loop μ-loop loop-holds (λ c. search needs) (λ c. search needs) add-lesser-2 (λ c κs. search needs)
+    (λ c. search needs) (λ c. search needs) returns (λ c. search needs) (λ c. search needs) loop-again returns-2)

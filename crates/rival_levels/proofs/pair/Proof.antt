@@ -21,29 +21,39 @@ loop-holds : tie.Need-loop-holds Inv-loop μ-loop
 unfolding low
 loop-holds c = (zero-le, refl)
 
-mul-b : tie.Need-mul-b Inv-loop μ-loop
-mul-b c = search needs
-
 ends-requires : tie.Need-ends-requires Inv-loop μ-loop
-ends-requires c κs = (omega arith, omega arith, λ j h. omega (arith, c .before .before .pre .1 (c .before .loop .i) j (omega arith) (omega arith), c .before .before .pre .2 (c .before .loop .i) j (omega arith) h))
+ends-requires c κs = (
+  omega arith,
+  omega arith,
+  λ j h. omega (
+    arith,
+    c .before .before .pre .1 (c .before .loop .i) j (omega arith) (omega arith),
+    c .before .before .pre .2 (c .before .loop .i) j (omega arith) h,
+  ),
+)
 
 returns : tie.Need-returns Inv-loop μ-loop
 returns c =
     let l = c .before .before .before in
-    let a = c .before .before .before .before .args in
-    (sym (low-hit (λ i. ltb (endsAt (cell (a .d .now)) (a .terminals .now) (a .n) (a .bound) i) (a .n)) (l .loop .i) (a .n) (l .loop .inv .1) (lt-ltb (endsAt (cell (a .d .now)) (a .terminals .now) (a .n) (a .bound) (l .loop .i)) (a .n) (omega (arith, c .before .ends .ensures, c .if1 .taken))) (omega arith)), λ h. c .before .ends .ensures)
-
-add-i : tie.Need-add-i Inv-loop μ-loop
-add-i c = search needs
-
-loop-less : tie.Need-loop-less Inv-loop μ-loop
-loop-less c = search needs
+    let a = c .before .before .before .before .args in (
+      sym
+          (low-hit (λ i. ltb (endsAt (cell (a .d .now)) (a .terminals .now) (a .n) (a .bound) i) (a .n)) (l .loop .i) (a .n) (l .loop .inv .1)
+          (lt-ltb (endsAt (cell (a .d .now)) (a .terminals .now) (a .n) (a .bound) (l .loop .i)) (a .n)
+          (omega (arith, c .before .ends .ensures, c .if1 .taken)))
+          (omega arith)),
+      λ h.
+          c .before .ends .ensures,
+    )
 
 loop-again : tie.Need-loop-again Inv-loop μ-loop
 loop-again c =
     let l = c .before .before .before in
-    let a = c .before .before .before .before .args in
-    (omega arith, low-miss (λ i. ltb (endsAt (cell (a .d .now)) (a .terminals .now) (a .n) (a .bound) i) (a .n)) (l .loop .i) (l .loop .inv .1) (le-ltb (endsAt (cell (a .d .now)) (a .terminals .now) (a .n) (a .bound) (l .loop .i)) (a .n) (omega (arith, c .before .ends .ensures, c .if1 .left))))
+    let a = c .before .before .before .before .args in (
+      omega arith,
+      low-miss (λ i. ltb (endsAt (cell (a .d .now)) (a .terminals .now) (a .n) (a .bound) i) (a .n)) (l .loop .i) (l .loop .inv .1)
+          (le-ltb (endsAt (cell (a .d .now)) (a .terminals .now) (a .n) (a .bound) (l .loop .i)) (a .n)
+          (omega (arith, c .before .ends .ensures, c .if1 .left))),
+    )
 
 returns-2 : tie.Need-returns-2 Inv-loop μ-loop
 returns-2 c =
@@ -54,15 +64,5 @@ returns-2 c =
 
 pub pair-spec : {M : Type 1} → statement M
 pair-spec =
-    tie.close
-    (tie.spec
-    Inv-loop
-    μ-loop
-    loop-holds
-    mul-b
-    ends-requires
-    returns
-    add-i
-    loop-less
-    loop-again
-    returns-2)
+    tie.close (tie.spec Inv-loop μ-loop loop-holds (λ c. search needs) ends-requires returns (λ c. search needs) (λ c. search needs)
+    loop-again returns-2)

@@ -44,35 +44,27 @@ direct-requires c κs = (omega arith, c .pre .3, c .pre .4)
 returns : tie.Need-returns
 returns c =
     let a = c .before .before .args in
-    out-direct (a .m) (freeAt (a .sv .now) (a .st .now) (a .plan .now) (a .fs .now) (a .ft .now)) (a .arcs .now) (a .ends .now) (a .n) (a .k) (c .before .direct .result) (c .before .direct .ensures) (c .if1 .taken)
-
-add-diagonal : tie.Need-add-diagonal
-add-diagonal c = search needs
-
-diagonal-requires : tie.Need-diagonal-requires
-diagonal-requires c κs = search needs
+    out-direct (a .m) (freeAt (a .sv .now) (a .st .now) (a .plan .now) (a .fs .now) (a .ft .now)) (a .arcs .now) (a .ends .now) (a .n) (a .k)
+    (c .before .direct .result) (c .before .direct .ensures) (c .if1 .taken)
 
 returns-2 : tie.Need-returns-2
 returns-2 c =
     let a = c .before .before .before .before .args in
-    out-alone (a .m) (freeAt (a .sv .now) (a .st .now) (a .plan .now) (a .fs .now) (a .ft .now)) (a .arcs .now) (a .ends .now) (a .n) (a .k) (c .before .before .before .direct .result) (c .before .before .before .direct .ensures) (c .before .before .if1 .left) (c .before .diagonal .result) (c .before .diagonal .ensures) (c .if2 .taken)
+    out-alone (a .m) (freeAt (a .sv .now) (a .st .now) (a .plan .now) (a .fs .now) (a .ft .now)) (a .arcs .now) (a .ends .now) (a .n) (a .k)
+    (c .before .before .before .direct .result) (c .before .before .before .direct .ensures) (c .before .before .if1 .left)
+    (c .before .diagonal .result) (c .before .diagonal .ensures) (c .if2 .taken)
 
 levels-requires : tie.Need-levels-requires
-levels-requires c κs = (omega arith, omega arith, c .before .before .before .before .pre .5, c .before .before .before .before .pre .6, c .before .before .before .before .pre .7)
+levels-requires c κs =
+    (omega arith, omega arith, c .before .before .before .before .pre .5, c .before .before .before .before .pre .6, c .before .before .before .before .pre .7)
 
 returns-3 : tie.Need-returns-3
 returns-3 c =
     let a = c .before .before .before .before .before .args in
-    c .levels .ensures ∙ out-levels (a .m) (freeAt (a .sv .now) (a .st .now) (a .plan .now) (a .fs .now) (a .ft .now)) (a .arcs .now) (a .ends .now) (a .n) (a .k) (c .before .before .before .before .direct .result) (c .before .before .before .before .direct .ensures) (c .before .before .before .if1 .left) (c .before .before .diagonal .result) (c .before .before .diagonal .ensures) (c .before .if2 .left)
+    c .levels .ensures
+    ∙ out-levels (a .m) (freeAt (a .sv .now) (a .st .now) (a .plan .now) (a .fs .now) (a .ft .now)) (a .arcs .now) (a .ends .now) (a .n) (a .k)
+    (c .before .before .before .before .direct .result) (c .before .before .before .before .direct .ensures)
+    (c .before .before .before .if1 .left) (c .before .before .diagonal .result) (c .before .before .diagonal .ensures) (c .before .if2 .left)
 
 pub search-spec : {M : Type 1} → statement M
-search-spec =
-    tie.close
-    (tie.spec
-    direct-requires
-    returns
-    add-diagonal
-    diagonal-requires
-    returns-2
-    levels-requires
-    returns-3)
+search-spec = tie.close (tie.spec direct-requires returns (λ c. search needs) (λ c κs. search needs) returns-2 levels-requires returns-3)

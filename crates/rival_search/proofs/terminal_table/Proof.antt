@@ -25,24 +25,40 @@ terminals-requires c κs =
     let a = c .before .before .before .before .before .before .before .before .args in (
       omega arith,
       record {
-        start = λ i j h k. omega (arith, c .before .before .before .before .before .before .before .apart .ensures i j h (omega arith), but-small (a .m) (a .sv .now) (a .st .now) (a .rs .now) (a .plan .now) (a .ft .now) (at (a .ps .now) i) (at (a .qs .now) i) (at (a .pt .now) j));
-        stop = λ i j h k. omega (arith, c .before .before .before .before .before .before .apart2 .ensures i j h (omega arith), but-small (a .m) (a .st .now) (a .sv .now) (a .rt .now) (a .plan .now) (a .fs .now) (at (a .pt .now) i) (at (a .qt .now) i) (at (a .ps .now) j));
-        both = λ i j h k. omega (arith, c .before .before .before .before .before .gains .ensures i h, c .before .before .before .before .gains2 .ensures j k, gain-small (a .m) (a .sv .now) (a .st .now) (a .rs .now) (a .plan .now) (a .ft .now) (at (a .ps .now) i) (at (a .qs .now) i), gain-small (a .m) (a .st .now) (a .sv .now) (a .rt .now) (a .plan .now) (a .fs .now) (at (a .pt .now) j) (at (a .qt .now) j));
+        start =
+            λ i j h k. omega (
+              arith,
+              c .before .before .before .before .before .before .before .apart .ensures i j h (omega arith),
+              but-small (a .m) (a .sv .now) (a .st .now) (a .rs .now) (a .plan .now) (a .ft .now) (at (a .ps .now) i) (at (a .qs .now) i)
+                  (at (a .pt .now) j),
+            );
+        stop =
+            λ i j h k. omega (
+              arith,
+              c .before .before .before .before .before .before .apart2 .ensures i j h (omega arith),
+              but-small (a .m) (a .st .now) (a .sv .now) (a .rt .now) (a .plan .now) (a .fs .now) (at (a .pt .now) i) (at (a .qt .now) i)
+                  (at (a .ps .now) j),
+            );
+        both =
+            λ i j h k. omega (
+              arith,
+              c .before .before .before .before .before .gains .ensures i h,
+              c .before .before .before .before .gains2 .ensures j k,
+              gain-small (a .m) (a .sv .now) (a .st .now) (a .rs .now) (a .plan .now) (a .ft .now) (at (a .ps .now) i) (at (a .qs .now) i),
+              gain-small (a .m) (a .st .now) (a .sv .now) (a .rt .now) (a .plan .now) (a .fs .now) (at (a .pt .now) j) (at (a .qt .now) j),
+            );
       },
     )
 
 returns : tie.Need-returns
 returns c =
     let a = c .before .before .before .before .before .before .before .before .before .args in
-    λ i j h k. c .terminals .ensures i j h k ∙ ap₂ (λ x y. min (x + 3) y) (ap₂ min (c .before .before .before .before .before .before .before .before .apart .ensures i j h (omega arith)) (c .before .before .before .before .before .before .before .apart2 .ensures j i k (omega arith))) (ap₂ (λ x y. x + y) (c .before .before .before .before .before .before .gains .ensures i h) (c .before .before .before .before .before .gains2 .ensures j k))
+    λ i j h k. c .terminals .ensures i j h k
+    ∙ ap₂ (λ x y. min (x + 3) y)
+    (ap₂ min (c .before .before .before .before .before .before .before .before .apart .ensures i j h (omega arith))
+    (c .before .before .before .before .before .before .before .apart2 .ensures j i k (omega arith)))
+    (ap₂ (λ x y. x + y) (c .before .before .before .before .before .before .gains .ensures i h)
+    (c .before .before .before .before .before .gains2 .ensures j k))
 
 pub terminal-table-spec : {M : Type 1} → statement M
-terminal-table-spec =
-    tie.close
-    (tie.spec
-    apart-requires
-    apart-requires-2
-    gains-requires
-    gains-requires-2
-    terminals-requires
-    returns)
+terminal-table-spec = tie.close (tie.spec apart-requires apart-requires-2 gains-requires gains-requires-2 terminals-requires returns)

@@ -19,49 +19,25 @@ abbrev μ-loop : tie.MeasureT-loop
 loop-holds : tie.Need-loop-holds Inv-loop μ-loop
 loop-holds c = (zero-le, refl, λ e h. absurd (not-suc-le-zero h))
 
-mul-e : tie.Need-mul-e Inv-loop μ-loop
-mul-e c = search needs
-
-element-copy-out-e : tie.Need-element-copy-out-e Inv-loop μ-loop
-element-copy-out-e c = search needs
-
 cast-e : tie.Need-cast-e Inv-loop μ-loop
 cast-e c = omega (arith, c .before .before .before .pre .1 (c .before .before .loop .i) (omega arith))
 
 element-copy-out-o : tie.Need-element-copy-out-o Inv-loop μ-loop
 element-copy-out-o c = omega (arith, c .before .before .before .pre .1 (c .before .before .loop .i) (omega arith))
 
-array-write-o : tie.Need-array-write-o Inv-loop μ-loop
-array-write-o c = search needs
-
-add-i : tie.Need-add-i Inv-loop μ-loop
-add-i c = search needs
-
-loop-less : tie.Need-loop-less Inv-loop μ-loop
-loop-less c = search needs
-
 loop-again : tie.Need-loop-again Inv-loop μ-loop
 loop-again c =
     let l = c .before .before .before in
-    let a = l .before .args in
-    (omega arith, simp length-set (l .loop .inv .1), made-next 0 (l .loop .o) (λ k. at (a .xs .now) (at (a .es .now) k)) (l .loop .i) (omega arith) (l .loop .inv .2))
+    let a = l .before .args in (
+      omega arith,
+      simp length-set (l .loop .inv .1),
+      made-next 0 (l .loop .o) (λ k. at (a .xs .now) (at (a .es .now) k)) (l .loop .i) (omega arith) (l .loop .inv .2),
+    )
 
 returns : tie.Need-returns Inv-loop μ-loop
 returns c = λ e h. c .before .loop .inv .2 e (omega arith)
 
 pub gathered-spec : {M : Type 1} → statement M
 gathered-spec =
-    tie.close
-    (tie.spec
-    Inv-loop
-    μ-loop
-    loop-holds
-    mul-e
-    element-copy-out-e
-    cast-e
-    element-copy-out-o
-    array-write-o
-    add-i
-    loop-less
-    loop-again
-    returns)
+    tie.close (tie.spec Inv-loop μ-loop loop-holds (λ c. search needs) (λ c. search needs) cast-e element-copy-out-o (λ c. search needs)
+    (λ c. search needs) (λ c. search needs) loop-again returns)

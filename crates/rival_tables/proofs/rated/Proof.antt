@@ -7,17 +7,14 @@ use Rattle.rival_tables.specs.Filled.{byte-bit, byte-one}
 use Rattle.rival_tables.proofs.rated.Statement.{statement}
 use Rattle.rival_tables.proofs.rated.Tie as tie
 
-cast-result : tie.Need-cast-result
-cast-result c = search needs
-
-cast-result-2 : tie.Need-cast-result-2
-cast-result-2 c = search needs
-
 add-result : tie.Need-add-result
 add-result c = omega (arith, byte-one (ltb (c .args .a) (c .args .b)), byte-one (leb (c .args .a) (c .args .b)))
 
 returns : tie.Need-returns
-returns c = (omega (arith, byte-bit (ltb (c .args .a) (c .args .b)), byte-bit (leb (c .args .a) (c .args .b))), omega (arith, byte-one (ltb (c .args .a) (c .args .b)), byte-one (leb (c .args .a) (c .args .b))))
+returns c = (
+  omega (arith, byte-bit (ltb (c .args .a) (c .args .b)), byte-bit (leb (c .args .a) (c .args .b))),
+  omega (arith, byte-one (ltb (c .args .a) (c .args .b)), byte-one (leb (c .args .a) (c .args .b))),
+)
 
 pub rated-spec : {M : Type 1} → statement M
-rated-spec = tie.close (tie.spec cast-result cast-result-2 add-result returns)
+rated-spec = tie.close (tie.spec (λ c. search needs) (λ c. search needs) add-result returns)

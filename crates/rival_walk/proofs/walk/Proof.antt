@@ -16,7 +16,8 @@ use Rattle.rival_walk.proofs.walk.Statement.{statement}
 use Rattle.rival_walk.proofs.walk.Tie as tie
 
 abbrev Inv-loop : tie.InvT-loop
-Inv-loop m sv st rs rt plan n es arcs table l i j gone₀ come₀ k₀ c₀ gone come k c = (k ≤ l) × (c < n) × (length gone ≡ 1024) × (length come ≡ 1024) × Read (arcEdge m sv st rs rt plan) es arcs n j l i gone₀ come₀ gone come k c
+Inv-loop m sv st rs rt plan n es arcs table l i j gone₀ come₀ k₀ c₀ gone come k c =
+    (k ≤ l) × (c < n) × (length gone ≡ 1024) × (length come ≡ 1024) × Read (arcEdge m sv st rs rt plan) es arcs n j l i gone₀ come₀ gone come k c
 
 abbrev μ-loop : tie.MeasureT-loop
 μ-loop m sv st rs rt plan n es arcs table l i j gone₀ come₀ k₀ c₀ gone come k c = k
@@ -26,32 +27,36 @@ loop-holds c =
     let p = c .before .before .pre in
     (omega arith, p .5, search needs, search needs, λ e. (refl, refl))
 
-sub-lead : tie.Need-sub-lead Inv-loop μ-loop
-sub-lead c = search needs
-
 lead-requires : tie.Need-lead-requires Inv-loop μ-loop
 lead-requires c κs =
     let s = c .before .before .before .before in
-    let l = c .before .loop in
-    (s .pre .1, l .inv .1, omega arith, s .pre .3, λ y h. omega (arith, s .pre .7 (l .k - 1) y (omega arith) h, layer-small (s .args .arcs .now) (s .args .n) (l .k - 1) y (s .args .j) (s .pre .3) h (omega arith)))
-
-mul-x : tie.Need-mul-x Inv-loop μ-loop
-mul-x c = search needs
-
-element-copy-out-x : tie.Need-element-copy-out-x Inv-loop μ-loop
-element-copy-out-x c = search needs
+    let l = c .before .loop in (
+      s .pre .1,
+      l .inv .1,
+      omega arith,
+      s .pre .3,
+      λ y h. omega (
+        arith,
+        s .pre .7 (l .k - 1) y (omega arith) h,
+        layer-small (s .args .arcs .now) (s .args .n) (l .k - 1) y (s .args .j) (s .pre .3) h (omega arith),
+      ),
+    )
 
 cast-x : tie.Need-cast-x Inv-loop μ-loop
-cast-x c = omega (arith, c .before .before .before .before .before .before .before .pre .2 (c .before .before .before .before .loop .c) (c .before .before .before .before .loop .inv .1))
-
-mul-z : tie.Need-mul-z Inv-loop μ-loop
-mul-z c = search needs
-
-element-copy-out-z : tie.Need-element-copy-out-z Inv-loop μ-loop
-element-copy-out-z c = search needs
+cast-x c =
+    omega (
+      arith,
+      c .before .before .before .before .before .before .before .pre .2 (c .before .before .before .before .loop .c)
+          (c .before .before .before .before .loop .inv .1),
+    )
 
 cast-z : tie.Need-cast-z Inv-loop μ-loop
-cast-z c = omega (arith, c .before .before .before .before .before .before .before .before .pre .2 (c .before .before .before .lead .result .place) (c .before .before .if1 .taken))
+cast-z c =
+    omega (
+      arith,
+      c .before .before .before .before .before .before .before .before .pre .2 (c .before .before .before .lead .result .place)
+          (c .before .before .if1 .taken),
+    )
 
 arc-edge-requires : tie.Need-arc-edge-requires Inv-loop μ-loop
 arc-edge-requires c κs =
@@ -60,16 +65,12 @@ arc-edge-requires c κs =
     (s .pre .0, s .pre .2 (l .loop .c) (l .loop .inv .1), s .pre .2 (c .before .before .before .lead .result .place) (c .before .before .if1 .taken))
 
 array-write-gone : tie.Need-array-write-gone Inv-loop μ-loop
-array-write-gone c = omega (arith, c .before .before .before .before .before .before .before .before .before .pre .2 (c .before .before .before .before .lead .result .place) (c .before .before .before .if1 .taken))
-
-array-write-come : tie.Need-array-write-come Inv-loop μ-loop
-array-write-come c = search needs
-
-sub-k : tie.Need-sub-k Inv-loop μ-loop
-sub-k c = search needs
-
-loop-less : tie.Need-loop-less Inv-loop μ-loop
-loop-less c = search needs
+array-write-gone c =
+    omega (
+      arith,
+      c .before .before .before .before .before .before .before .before .before .pre .2
+          (c .before .before .before .before .lead .result .place) (c .before .before .before .if1 .taken),
+    )
 
 loop-again : tie.Need-loop-again Inv-loop μ-loop
 loop-again c =
@@ -78,42 +79,44 @@ loop-again c =
     let a = s .args in
     let k = l .loop .k in
     let y = c .before .lead .result .place in
-    let is : y ≡ ahead (arcEdge (a .m) (a .sv .now) (a .st .now) (a .rs .now) (a .rt .now) (a .plan .now)) (a .es .now) (a .arcs .now) (a .n) (a .j) (k - 1) (l .loop .c) =
-    ap (λ r. r .1) (c .before .lead .ensures) ∙ ap (λ r. r .1) (lead-cong (a .arcs .now) (a .n) (cell (a .table .now) (k - 1)) (λ y. layerAt (a .arcs .now) (a .n) (k - 1) y (a .j)) (l .loop .c) (l .loop .inv .1) (λ y h. s .pre .7 (k - 1) y (omega arith) h)) in
+    let is : y ≡ ahead (arcEdge (a .m) (a .sv .now) (a .st .now) (a .rs .now) (a .rt .now) (a .plan .now)) (a .es .now) (a .arcs .now) (a .n) (a .j)
+    (k - 1) (l .loop .c) =
+    ap (λ r. r .1) (c .before .lead .ensures)
+    ∙ ap (λ r. r .1)
+    (lead-cong (a .arcs .now) (a .n) (cell (a .table .now) (k - 1)) (λ y. layerAt (a .arcs .now) (a .n) (k - 1) y (a .j)) (l .loop .c)
+    (l .loop .inv .1) (λ y h. s .pre .7 (k - 1) y (omega arith) h)) in
     ⊎-elim
     (λ w. (
       omega arith,
       omega (arith, w .0 .taken, w .6),
       ap length (w .4) ∙ length-set (l .loop .gone) (at (a .es .now) y) true ∙ l .loop .inv .2,
       ap length (w .5) ∙ length-set (l .loop .come) (w .3 .result) true ∙ l .loop .inv .3,
-      read-on (arcEdge (a .m) (a .sv .now) (a .st .now) (a .rs .now) (a .rt .now) (a .plan .now)) (a .es .now) (a .arcs .now) (a .n) (a .j) (a .l) (a .i) (a .start .gone) (a .start .come) (l .loop .gone) (l .loop .come) k (l .loop .c) y (l .loop .inv .4) (omega arith) is (c .if1 .gone) (c .if1 .come) (c .if1 .c) (w .3 .result) (w .0 .taken) (omega (arith, s .pre .2 y (w .0 .taken), l .loop .inv .2)) (w .3 .ensures .0) (omega (arith, w .3 .ensures .1, l .loop .inv .3)) (w .4) (w .5) (w .6),
+      read-on (arcEdge (a .m) (a .sv .now) (a .st .now) (a .rs .now) (a .rt .now) (a .plan .now)) (a .es .now) (a .arcs .now) (a .n) (a .j) (a .l)
+          (a .i) (a .start .gone) (a .start .come) (l .loop .gone) (l .loop .come) k (l .loop .c) y (l .loop .inv .4) (omega arith) is (c .if1 .gone)
+          (c .if1 .come) (c .if1 .c) (w .3 .result) (w .0 .taken) (omega (arith, s .pre .2 y (w .0 .taken), l .loop .inv .2)) (w .3 .ensures .0)
+          (omega (arith, w .3 .ensures .1, l .loop .inv .3)) (w .4) (w .5) (w .6),
     ))
     (λ w. (
       omega arith,
       omega (arith, l .loop .inv .1, w .3),
       ap length (w .1) ∙ l .loop .inv .2,
       ap length (w .2) ∙ l .loop .inv .3,
-      read-stay (arcEdge (a .m) (a .sv .now) (a .st .now) (a .rs .now) (a .rt .now) (a .plan .now)) (a .es .now) (a .arcs .now) (a .n) (a .j) (a .l) (a .i) (a .start .gone) (a .start .come) (l .loop .gone) (l .loop .come) k (l .loop .c) y (l .loop .inv .4) (omega arith) is (c .if1 .gone) (c .if1 .come) (c .if1 .c) (w .0 .left) (w .1) (w .2) (w .3),
+      read-stay (arcEdge (a .m) (a .sv .now) (a .st .now) (a .rs .now) (a .rt .now) (a .plan .now)) (a .es .now) (a .arcs .now) (a .n) (a .j) (a .l)
+          (a .i) (a .start .gone) (a .start .come) (l .loop .gone) (l .loop .come) k (l .loop .c) y (l .loop .inv .4) (omega arith) is (c .if1 .gone)
+          (c .if1 .come) (c .if1 .c) (w .0 .left) (w .1) (w .2) (w .3),
     ))
     (c .if1 .came)
-
-mul-x-2 : tie.Need-mul-x-2 Inv-loop μ-loop
-mul-x-2 c = search needs
-
-element-copy-out-x-2 : tie.Need-element-copy-out-x-2 Inv-loop μ-loop
-element-copy-out-x-2 c = search needs
 
 cast-x-2 : tie.Need-cast-x-2 Inv-loop μ-loop
 cast-x-2 c = omega (arith, c .before .before .before .before .before .pre .2 (c .before .before .loop .c) (c .before .before .loop .inv .1))
 
-mul-z-2 : tie.Need-mul-z-2 Inv-loop μ-loop
-mul-z-2 c = search needs
-
-element-copy-out-z-2 : tie.Need-element-copy-out-z-2 Inv-loop μ-loop
-element-copy-out-z-2 c = search needs
-
 cast-z-2 : tie.Need-cast-z-2 Inv-loop μ-loop
-cast-z-2 c = omega (arith, c .before .before .before .before .before .before .pre .2 (c .before .before .before .before .before .before .args .j) (c .before .before .before .before .before .before .pre .6))
+cast-z-2 c =
+    omega (
+      arith,
+      c .before .before .before .before .before .before .pre .2 (c .before .before .before .before .before .before .args .j)
+          (c .before .before .before .before .before .before .pre .6),
+    )
 
 arc-edge-requires-2 : tie.Need-arc-edge-requires-2 Inv-loop μ-loop
 arc-edge-requires-2 c κs =
@@ -122,46 +125,26 @@ arc-edge-requires-2 c κs =
     (s .pre .0, s .pre .2 (l .loop .c) (l .loop .inv .1), s .pre .2 (s .args .j) (s .pre .6))
 
 array-write-gone-2 : tie.Need-array-write-gone-2 Inv-loop μ-loop
-array-write-gone-2 c = omega (arith, c .before .before .before .before .before .before .before .pre .2 (c .before .before .before .before .before .before .before .args .j) (c .before .before .before .before .before .before .before .pre .6))
-
-array-write-come-2 : tie.Need-array-write-come-2 Inv-loop μ-loop
-array-write-come-2 c = search needs
+array-write-gone-2 c =
+    omega (
+      arith,
+      c .before .before .before .before .before .before .before .pre .2 (c .before .before .before .before .before .before .before .args .j)
+          (c .before .before .before .before .before .before .before .pre .6),
+    )
 
 returns : tie.Need-returns Inv-loop μ-loop
 returns c =
     let l = c .before .before .before .before in
     let s = l .before .before .before in
     let a = s .args in
-    read-last (arcEdge (a .m) (a .sv .now) (a .st .now) (a .rs .now) (a .rt .now) (a .plan .now)) (a .es .now) (a .arcs .now) (a .n) (a .j) (a .l) (a .i) (a .start .gone) (a .start .come) (l .loop .gone) (l .loop .come) (l .loop .k) (l .loop .c) (c .arc-edge2 .result) (l .loop .inv .4) (omega arith) (omega (arith, s .pre .2 (a .j) (s .pre .6), l .loop .inv .2)) (c .arc-edge2 .ensures .0) (omega (arith, c .arc-edge2 .ensures .1, l .loop .inv .3))
+    read-last (arcEdge (a .m) (a .sv .now) (a .st .now) (a .rs .now) (a .rt .now) (a .plan .now)) (a .es .now) (a .arcs .now) (a .n) (a .j) (a .l)
+    (a .i) (a .start .gone) (a .start .come) (l .loop .gone) (l .loop .come) (l .loop .k) (l .loop .c) (c .arc-edge2 .result) (l .loop .inv .4)
+    (omega arith) (omega (arith, s .pre .2 (a .j) (s .pre .6), l .loop .inv .2)) (c .arc-edge2 .ensures .0)
+    (omega (arith, c .arc-edge2 .ensures .1, l .loop .inv .3))
 
 pub walk-spec : {M : Type 1} → statement M
 walk-spec =
-    tie.close
-    (tie.spec
-    Inv-loop
-    μ-loop
-    loop-holds
-    sub-lead
-    lead-requires
-    mul-x
-    element-copy-out-x
-    cast-x
-    mul-z
-    element-copy-out-z
-    cast-z
-    arc-edge-requires
-    array-write-gone
-    array-write-come
-    sub-k
-    loop-less
-    loop-again
-    mul-x-2
-    element-copy-out-x-2
-    cast-x-2
-    mul-z-2
-    element-copy-out-z-2
-    cast-z-2
-    arc-edge-requires-2
-    array-write-gone-2
-    array-write-come-2
-    returns)
+    tie.close (tie.spec Inv-loop μ-loop loop-holds (λ c. search needs) lead-requires (λ c. search needs) (λ c. search needs) cast-x
+    (λ c. search needs) (λ c. search needs) cast-z arc-edge-requires array-write-gone (λ c. search needs) (λ c. search needs)
+    (λ c. search needs) loop-again (λ c. search needs) (λ c. search needs) cast-x-2 (λ c. search needs) (λ c. search needs) cast-z-2
+    arc-edge-requires-2 array-write-gone-2 (λ c. search needs) returns)

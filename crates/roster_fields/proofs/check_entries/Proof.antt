@@ -18,65 +18,55 @@ abbrev refusal : ℕ → List ℕ → List ℕ → ℕ
 refusal other seen xs = refusalOf (entryCheck other) (λ seen x. seen ++ x ∷ []) seen xs
 
 abbrev Inv-loop : tie.InvT-loop
-Inv-loop part other row₀ i₀ row i = (i ≤ length part) × (length row ≡ length row₀) × ((seen : List ℕ) → Shows row₀ seen → (refusal other seen part ≡ refusal other (seen ++ take i part) (drop i part)) × Shows row (seen ++ take i part))
+Inv-loop part other row₀ i₀ row i =
+    (i ≤ length part) × (length row ≡ length row₀)
+    × ((seen : List ℕ) → Shows row₀ seen → (refusal other seen part ≡ refusal other (seen ++ take i part) (drop i part)) × Shows row (seen ++ take i part))
 
 abbrev μ-loop : tie.MeasureT-loop
 μ-loop part other row₀ i₀ row i = length part - i
 
 -- what a turn does to the refusal that is looked for
-turn : (c : tie.In-loop Inv-loop μ-loop) (seen : List ℕ) → let l = c .before in let part = l .before .args .part .now in let other = l .before .args .other in let passed = seen ++ take (l .loop .i) part in
-    Shows (l .before .args .row .now) seen → refusal other seen part ≡ firstOf (entryCheck other passed (getD part (l .loop .i) 0)) (refusal other (seen ++ take (l .loop .i + 1) part) (drop (l .loop .i + 1) part))
+turn : (c : tie.In-loop Inv-loop μ-loop) (seen : List ℕ) → let l =
+    c .before in let part = l .before .args .part .now in let other = l .before .args .other in let passed = seen ++ take (l .loop .i) part in
+    Shows (l .before .args .row .now) seen
+    → refusal other seen part ≡ firstOf (entryCheck other passed (getD part (l .loop .i) 0))
+    (refusal other (seen ++ take (l .loop .i + 1) part) (drop (l .loop .i + 1) part))
 turn c seen h =
     let l = c .before in
     let part = l .before .args .part .now in
-    l .loop .inv .2 seen h .0 ∙ refusal-step (entryCheck (l .before .args .other)) (λ seen x. seen ++ x ∷ []) (seen ++ take (l .loop .i) part) part (l .loop .i) (c .loop-test .taken)
-    ∙ ap (λ s. firstOf (entryCheck (l .before .args .other) (seen ++ take (l .loop .i) part) (getD part (l .loop .i) 0)) (refusal (l .before .args .other) s (drop (l .loop .i + 1) part))) (seen-more seen part (l .loop .i) (c .loop-test .taken))
+    l .loop .inv .2 seen h .0
+    ∙ refusal-step (entryCheck (l .before .args .other)) (λ seen x. seen ++ x ∷ []) (seen ++ take (l .loop .i) part) part (l .loop .i) (c .loop-test .taken)
+    ∙ ap
+    (λ s. firstOf (entryCheck (l .before .args .other) (seen ++ take (l .loop .i) part) (getD part (l .loop .i) 0))
+    (refusal (l .before .args .other) s (drop (l .loop .i + 1) part)))
+    (seen-more seen part (l .loop .i) (c .loop-test .taken))
 
 -- the entry's mark says whether it has been passed before
 marked : (c : tie.In-loop Inv-loop μ-loop) (seen : List ℕ) → let l = c .before in let part = l .before .args .part .now in
-    Shows (l .before .args .row .now) seen → getD (l .loop .row) (getD part (l .loop .i) 0) false ≡ elem (getD part (l .loop .i) 0) (seen ++ take (l .loop .i) part)
+    Shows (l .before .args .row .now) seen
+    → getD (l .loop .row) (getD part (l .loop .i) 0) false ≡ elem (getD part (l .loop .i) 0) (seen ++ take (l .loop .i) part)
 marked c seen h = let l = c .before in l .loop .inv .2 seen h .1 (getD (l .before .args .part .now) (l .loop .i) 0)
 
 loop-holds : tie.Need-loop-holds Inv-loop μ-loop
-loop-holds c = (zero-le, refl, λ seen h. (ap (λ l. refusal (c .args .other) l (c .args .part .now)) (sym (append-nil seen)), subst (Shows (c .args .row .now)) (sym (append-nil seen)) h))
-
-shared-slice-read-x : tie.Need-shared-slice-read-x Inv-loop μ-loop
-shared-slice-read-x c = search needs
-
-same-length : tie.Need-same-length Inv-loop μ-loop
-same-length c = search needs
+loop-holds c = (
+  zero-le,
+  refl,
+  λ seen h.
+      (ap (λ l. refusal (c .args .other) l (c .args .part .now)) (sym (append-nil seen)), subst (Shows (c .args .row .now)) (sym (append-nil seen)) h),
+)
 
 returns : tie.Need-returns Inv-loop μ-loop
 returns c = λ seen h. checked-no (turn (c .before .before) seen h ∙ simp (eq-eqb _ _ (c .if1 .taken)))
 
-same-length-2 : tie.Need-same-length-2 Inv-loop μ-loop
-same-length-2 c = search needs
-
 returns-2 : tie.Need-returns-2 Inv-loop μ-loop
 returns-2 c = λ seen h. checked-no (turn (c .before .before .before) seen h ∙ simp (ne-eqb _ _ (c .before .if1 .left), lt-ltb _ _ (c .if2 .taken)))
-
-cast-k : tie.Need-cast-k Inv-loop μ-loop
-cast-k c = search needs
-
-slice-read-if3 : tie.Need-slice-read-if3 Inv-loop μ-loop
-slice-read-if3 c = search needs
-
-same-length-3 : tie.Need-same-length-3 Inv-loop μ-loop
-same-length-3 c = search needs
 
 returns-3 : tie.Need-returns-3 Inv-loop μ-loop
 returns-3 c =
     let t = c .before .before in
-    λ seen h. checked-no (turn (t .before .before .before) seen h ∙ simp (ne-eqb _ _ (t .before .if1 .left), le-ltb _ _ (t .if2 .left), sym (marked (t .before .before .before) seen h) ∙ c .if3 .taken))
-
-slice-write-row : tie.Need-slice-write-row Inv-loop μ-loop
-slice-write-row c = omega arith
-
-add-i : tie.Need-add-i Inv-loop μ-loop
-add-i c = search needs
-
-loop-less : tie.Need-loop-less Inv-loop μ-loop
-loop-less c = omega arith
+    λ seen h. checked-no
+    (turn (t .before .before .before) seen h
+    ∙ simp (ne-eqb _ _ (t .before .if1 .left), le-ltb _ _ (t .if2 .left), sym (marked (t .before .before .before) seen h) ∙ c .if3 .taken))
 
 loop-again : tie.Need-loop-again Inv-loop μ-loop
 loop-again c =
@@ -93,37 +83,21 @@ loop-again c =
       ),
     )
 
-same-length-4 : tie.Need-same-length-4 Inv-loop μ-loop
-same-length-4 c = search needs
-
 returns-4 : tie.Need-returns-4 Inv-loop μ-loop
 returns-4 c =
     let l = c .before in
     let part = l .before .args .part .now in
     λ seen h. record {
-      number = sym (l .loop .inv .2 seen h .0 ∙ refusal-end (entryCheck (l .before .args .other)) (λ seen x. seen ++ x ∷ []) (seen ++ take (l .loop .i) part) part (l .loop .i) (c .loop-test .left));
+      number =
+          sym
+          (l .loop .inv .2 seen h .0
+          ∙ refusal-end (entryCheck (l .before .args .other)) (λ seen x. seen ++ x ∷ []) (seen ++ take (l .loop .i) part) part (l .loop .i)
+          (c .loop-test .left));
       marks = λ z. seen-all (l .loop .row) seen part (l .loop .i) (l .loop .inv .2 seen h .1) (c .loop-test .left);
     }
 
 pub check-entries-spec : {M : Type 1} → statement M
 check-entries-spec =
-    tie.close
-    (tie.spec
-    Inv-loop
-    μ-loop
-    loop-holds
-    shared-slice-read-x
-    same-length
-    returns
-    same-length-2
-    returns-2
-    cast-k
-    slice-read-if3
-    same-length-3
-    returns-3
-    slice-write-row
-    add-i
-    loop-less
-    loop-again
-    same-length-4
-    returns-4)
+    tie.close (tie.spec Inv-loop μ-loop loop-holds (λ c. search needs) (λ c. search needs) returns (λ c. search needs) returns-2
+    (λ c. search needs) (λ c. search needs) (λ c. search needs) returns-3 (λ c. omega arith) (λ c. search needs) (λ c. omega arith)
+    loop-again (λ c. search needs) returns-4)

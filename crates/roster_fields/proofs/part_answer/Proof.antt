@@ -4,9 +4,6 @@ use borrow.Author.Tests.{eq-eqb, ne-eqb, lt-ltb, le-ltb}
 use Rattle.roster_fields.proofs.part_answer.Statement.{statement}
 use Rattle.roster_fields.proofs.part_answer.Tie as tie
 
-sub-if2 : tie.Need-sub-if2
-sub-if2 c = search needs
-
 returns : tie.Need-returns
 returns c = simp (eq-eqb _ _ (c .before .if1 .taken), lt-ltb _ _ (c .if2 .taken))
 
@@ -17,4 +14,4 @@ returns-3 : tie.Need-returns-3
 returns-3 c = simp (ne-eqb _ _ (c .if1 .left))
 
 pub part-answer-spec : {M : Type 1} → statement M
-part-answer-spec = tie.close (tie.spec sub-if2 returns returns-2 returns-3)
+part-answer-spec = tie.close (tie.spec (λ c. search needs) returns returns-2 returns-3)

@@ -9,23 +9,8 @@ use Rattle.roster_lists.proofs.list_at.Tie as tie
 returns : tie.Need-returns
 returns c = let a = c .before .before .before .args in list-end (a .longest) (a .other) (a .file .now) (a .at) (c .if1 .taken)
 
-shared-slice-read-n : tie.Need-shared-slice-read-n
-shared-slice-read-n c = search needs
-
 returns-2 : tie.Need-returns-2
 returns-2 c = let a = c .before .before .before .before .before .args in list-long (a .longest) (a .other) (a .file .now) (a .at) (omega arith) (c .if2 .taken)
-
-add-start : tie.Need-add-start
-add-start c = search needs
-
-cast-count : tie.Need-cast-count
-cast-count c = search needs
-
-entries-at-requires : tie.Need-entries-at-requires
-entries-at-requires c κs = search needs
-
-same-length : tie.Need-same-length
-same-length c = search needs
 
 returns-3 : tie.Need-returns-3
 returns-3 c =
@@ -35,13 +20,5 @@ returns-3 c =
 
 pub list-at-spec : {M : Type 1} → statement M
 list-at-spec =
-    tie.close
-    (tie.spec
-    returns
-    shared-slice-read-n
-    returns-2
-    add-start
-    cast-count
-    entries-at-requires
-    same-length
-    returns-3)
+    tie.close (tie.spec returns (λ c. search needs) returns-2 (λ c. search needs) (λ c. search needs) (λ c κs. search needs)
+    (λ c. search needs) returns-3)

@@ -10,20 +10,8 @@ use Rattle.roster_reading.specs.Lists.{ranking-end, ranking-long, ranking-refus
 use Rattle.roster_lists.proofs.ranking_at.Statement.{statement}
 use Rattle.roster_lists.proofs.ranking_at.Tie as tie
 
-sub-if1 : tie.Need-sub-if1
-sub-if1 c = search needs
-
 returns : tie.Need-returns
 returns c = let a = c .before .before .before .args in ranking-end (a .longest) (a .other) (a .file .now) (a .at) (omega arith)
-
-add-second : tie.Need-add-second
-add-second c = search needs
-
-shared-slice-read-a : tie.Need-shared-slice-read-a
-shared-slice-read-a c = search needs
-
-shared-slice-read-b : tie.Need-shared-slice-read-b
-shared-slice-read-b c = search needs
 
 cast-strict : tie.Need-cast-strict
 cast-strict c = omega (arith, c .shared-slice-known3 .given (c .before .before .before .before .before .args .at))
@@ -32,68 +20,47 @@ cast-tied : tie.Need-cast-tied
 cast-tied c = omega (arith, c .shared-slice-known3 .given (c .before .before .before .before .before .args .at + 1))
 
 add-if2 : tie.Need-add-if2
-add-if2 c = let a = c .before .before .before .before .before .args in omega (arith, c .shared-slice-known3 .given (a .at), c .shared-slice-known3 .given (a .at + 1))
+add-if2 c =
+    let a = c .before .before .before .before .before .args in omega (arith, c .shared-slice-known3 .given (a .at), c .shared-slice-known3 .given (a .at + 1))
 
 returns-2 : tie.Need-returns-2
-returns-2 c = let a = c .before .before .before .before .before .before .args in ranking-long (a .longest) (a .other) (a .file .now) (a .at) (omega arith) (c .if2 .taken)
-
-add-start : tie.Need-add-start
-add-start c = search needs
-
-entries-at-requires : tie.Need-entries-at-requires
-entries-at-requires c κs = search needs
-
-enum-known-s : tie.Need-enum-known-s
-enum-known-s c = search needs
-
-enum-told : tie.Need-enum-told
-enum-told c = search needs
-
-same-length : tie.Need-same-length
-same-length c = search needs
+returns-2 c =
+    let a = c .before .before .before .before .before .before .args in ranking-long (a .longest) (a .other) (a .file .now) (a .at) (omega arith) (c .if2 .taken)
 
 returns-3 : tie.Need-returns-3
 returns-3 c =
     let s = c .before .before .before .before .before .before .before .before .before .before .before .before in
     let a = s .args in
-    ranking-refused (a .longest) (a .other) (a .file .now) (a .at) (omega arith) (omega arith) (c .before .before .before .before .entries-at .ensures [] (s .pre .2)) (c .enum-told .given .1)
+    ranking-refused (a .longest) (a .other) (a .file .now) (a .at) (omega arith) (omega arith)
+    (c .before .before .before .before .entries-at .ensures [] (s .pre .2)) (c .enum-told .given .1)
 
 tied-at-requires : tie.Need-tied-at-requires
 tied-at-requires c κs =
     let s = c .before .before .before .before .before .before .before .before .before .before .before .before .before .before in
     let a = s .args in
-    let isB : T (isBytes (a .file .now)) = bytes-of (a .file .now) (λ i. c .before .before .before .before .before .before .before .before .before .before .before .before .before .shared-slice-known .given i) in
-    (tie-within (a .longest) (a .other) (a .file .now) (a .at) (omega arith) (omega arith) (c .before .before .before .before .before .before .entries-at .ensures [] (s .pre .2)) isB (c .before .before .s .given .1), omega arith)
-
-same-length-2 : tie.Need-same-length-2
-same-length-2 c = search needs
+    let isB : T (isBytes (a .file .now)) =
+    bytes-of (a .file .now)
+    (λ i. c .before .before .before .before .before .before .before .before .before .before .before .before .before .shared-slice-known .given i) in (
+      tie-within (a .longest) (a .other) (a .file .now) (a .at) (omega arith) (omega arith)
+          (c .before .before .before .before .before .before .entries-at .ensures [] (s .pre .2)) isB (c .before .before .s .given .1),
+      omega arith,
+    )
 
 returns-4 : tie.Need-returns-4
 returns-4 c =
     let s = c .before .before .before .before .before .before .before .before .before .before .before .before .before .before .before .before .before in
     let a = s .args in
-    let isB : T (isBytes (a .file .now)) = bytes-of (a .file .now) (λ i. c .before .before .before .before .before .before .before .before .before .before .before .before .before .before .before .before .shared-slice-known .given i) in
-    ranking-goes (a .longest) (a .other) (a .file .now) (a .at) (omega arith) (omega arith) (c .before .before .before .before .before .before .before .before .before .entries-at .ensures [] (s .pre .2)) isB (c .before .before .before .before .before .s .given .1) (c .before .before .tied-at .ensures)
+    let isB : T (isBytes (a .file .now)) =
+    bytes-of (a .file .now)
+    (λ i.
+    c .before .before .before .before .before .before .before .before .before .before .before .before .before .before .before .before .shared-slice-known .given
+    i) in
+    ranking-goes (a .longest) (a .other) (a .file .now) (a .at) (omega arith) (omega arith)
+    (c .before .before .before .before .before .before .before .before .before .entries-at .ensures [] (s .pre .2)) isB
+    (c .before .before .before .before .before .s .given .1) (c .before .before .tied-at .ensures)
 
 pub ranking-at-spec : {M : Type 1} → statement M
 ranking-at-spec =
-    tie.close
-    (tie.spec
-    sub-if1
-    returns
-    add-second
-    shared-slice-read-a
-    shared-slice-read-b
-    cast-strict
-    cast-tied
-    add-if2
-    returns-2
-    add-start
-    entries-at-requires
-    enum-known-s
-    enum-told
-    same-length
-    returns-3
-    tied-at-requires
-    same-length-2
-    returns-4)
+    tie.close (tie.spec (λ c. search needs) returns (λ c. search needs) (λ c. search needs) (λ c. search needs) cast-strict cast-tied
+    add-if2 returns-2 (λ c. search needs) (λ c κs. search needs) (λ c. search needs) (λ c. search needs) (λ c. search needs) returns-3
+    tied-at-requires (λ c. search needs) returns-4)

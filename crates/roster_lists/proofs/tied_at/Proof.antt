@@ -6,43 +6,16 @@ use Rattle.roster_reading.specs.Row.{moreTied, marked-as, marked-part}
 use Rattle.roster_lists.proofs.tied_at.Statement.{statement}
 use Rattle.roster_lists.proofs.tied_at.Tie as tie
 
-part-end-requires : tie.Need-part-end-requires
-part-end-requires c κs = search needs
-
-sub-check-tied : tie.Need-sub-check-tied
-sub-check-tied c = search needs
-
-part-check-tied-start : tie.Need-part-check-tied-start
-part-check-tied-start c = search needs
-
-part-check-tied-end : tie.Need-part-check-tied-end
-part-check-tied-end c = search needs
-
-check-tied-requires : tie.Need-check-tied-requires
-check-tied-requires c κs = search needs
-
-part-answer-requires : tie.Need-part-answer-requires
-part-answer-requires c κs = search needs
-
-same-length : tie.Need-same-length
-same-length c = search needs
-
 returns : tie.Need-returns
 returns c =
     let e = c .before .before .before .before .before .before in
     let s = e .before .before .before in
     let a = s .args in
-    λ seen h. marked-as (sym (c .part-answer .ensures)) (marked-part (tiedCheck (a .other)) moreTied (record { seen = seen; last = 0 }) seen (a .file .now) (a .at) (a .n) (e .part-end .result) (c .before .before .before .check-tied .result) _ (s .pre .0) (e .part-end .ensures) (c .before .before .before .check-tied .ensures seen h))
+    λ seen h. marked-as (sym (c .part-answer .ensures))
+    (marked-part (tiedCheck (a .other)) moreTied (record { seen = seen; last = 0 }) seen (a .file .now) (a .at) (a .n) (e .part-end .result)
+    (c .before .before .before .check-tied .result) _ (s .pre .0) (e .part-end .ensures) (c .before .before .before .check-tied .ensures seen h))
 
 pub tied-at-spec : {M : Type 1} → statement M
 tied-at-spec =
-    tie.close
-    (tie.spec
-    part-end-requires
-    sub-check-tied
-    part-check-tied-start
-    part-check-tied-end
-    check-tied-requires
-    part-answer-requires
-    same-length
-    returns)
+    tie.close (tie.spec (λ c κs. search needs) (λ c. search needs) (λ c. search needs) (λ c. search needs) (λ c κs. search needs)
+    (λ c κs. search needs) (λ c. search needs) returns)

@@ -19,54 +19,24 @@ Inv-loop list row table₀ k₀ table k = (k ≤ length list) × (table ≡ stam
 abbrev μ-loop : tie.MeasureT-loop
 μ-loop list row table₀ k₀ table k = k
 
--- src/lib.rt:38:5
 loop-holds : tie.Need-loop-holds Inv-loop μ-loop
 loop-holds c = (omega arith, sym (stamped-none (c .args .row) (c .args .list .now) _ (c .args .table .now)))
 
--- src/lib.rt:39:22
-sub-x : tie.Need-sub-x Inv-loop μ-loop
-sub-x c = search needs
-
--- src/lib.rt:39:17
-shared-slice-read-x : tie.Need-shared-slice-read-x Inv-loop μ-loop
-shared-slice-read-x c = search needs
-
--- src/lib.rt:39:17
 cast-x : tie.Need-cast-x Inv-loop μ-loop
 cast-x c = omega (arith, c .shared-slice-known .given (c .before .before .loop .k - 1))
 
--- src/lib.rt:40:38
-cast-table : tie.Need-cast-table Inv-loop μ-loop
-cast-table c = search needs
-
--- src/lib.rt:40:22
 add-table : tie.Need-add-table Inv-loop μ-loop
 add-table c = omega (arith, c .shared-slice-known .given (c .before .before .loop .k - 1))
 
--- src/lib.rt:40:15
-add-table-2 : tie.Need-add-table-2 Inv-loop μ-loop
-add-table-2 c = search needs
-
--- src/lib.rt:40:9
-element-write-table : tie.Need-element-write-table Inv-loop μ-loop
-element-write-table c = search needs
-
--- src/lib.rt:41:9
-sub-k : tie.Need-sub-k Inv-loop μ-loop
-sub-k c = search needs
-
--- src/lib.rt:38:5
-loop-less : tie.Need-loop-less Inv-loop μ-loop
-loop-less c = search needs
-
--- src/lib.rt:38:5
 loop-again : tie.Need-loop-again Inv-loop μ-loop
 loop-again c =
     let l = c .before .before in
-    let a = l .before .args in
-    (omega arith, ap (λ t. set t (a .row + column (getD (a .list .now) (l .loop .k - 1) 0)) (l .loop .k)) (l .loop .inv .1) ∙ stamped-turn (a .row) (a .list .now) (l .loop .k) (a .table .now) (c .before .loop-test .taken) (l .loop .inv .0))
+    let a = l .before .args in (
+      omega arith,
+      ap (λ t. set t (a .row + column (getD (a .list .now) (l .loop .k - 1) 0)) (l .loop .k)) (l .loop .inv .1)
+          ∙ stamped-turn (a .row) (a .list .now) (l .loop .k) (a .table .now) (c .before .loop-test .taken) (l .loop .inv .0),
+    )
 
--- src/lib.rt:33:1
 returns : tie.Need-returns Inv-loop μ-loop
 returns c =
     let l = c .before in
@@ -76,19 +46,5 @@ returns c =
 
 pub stamp-spec : {M : Type 1} → statement M
 stamp-spec =
-    tie.close
-    (tie.spec
-    Inv-loop
-    μ-loop
-    loop-holds
-    sub-x
-    shared-slice-read-x
-    cast-x
-    cast-table
-    add-table
-    add-table-2
-    element-write-table
-    sub-k
-    loop-less
-    loop-again
-    returns)
+    tie.close (tie.spec Inv-loop μ-loop loop-holds (λ c. search needs) (λ c. search needs) cast-x (λ c. search needs) add-table
+    (λ c. search needs) (λ c. search needs) (λ c. search needs) (λ c. search needs) loop-again returns)

@@ -14,59 +14,26 @@ use Rattle.roster_positions.proofs.part.Reads as part-reads
 use Rattle.roster_positions.proofs.stamp.Reads as stamp-reads
 
 abbrev Inv-loop : tie.InvT-loop
-Inv-loop file start n table₀ at₀ i₀ table at i = (i ≤ n) × (at ≤ 1000 + 256 * i) × (listsEnd file n start ≡ listsEnd file (n - i) at) × (listsStamped file n 0 start table₀ ≡ listsStamped file (n - i) (i * 32) at table)
+Inv-loop file start n table₀ at₀ i₀ table at i =
+    (i ≤ n) × (at ≤ 1000 + 256 * i) × (listsEnd file n start ≡ listsEnd file (n - i) at)
+    × (listsStamped file n 0 start table₀ ≡ listsStamped file (n - i) (i * 32) at table)
 
 abbrev μ-loop : tie.MeasureT-loop
 μ-loop file start n table₀ at₀ i₀ table at i = n - i
 
--- src/lib.rt:53:5
 loop-holds : tie.Need-loop-holds Inv-loop μ-loop
 loop-holds c =
     let s = c .before in
-    let a = s .args in
-    (zero-le, omega arith, ap (λ k. listsEnd (a .file .now) k (a .start)) (left-all (a .n)), ap (λ k. listsStamped (a .file .now) k 0 (a .start) (a .table .now)) (left-all (a .n)))
+    let a = s .args in (
+      zero-le,
+      omega arith,
+      ap (λ k. listsEnd (a .file .now) k (a .start)) (left-all (a .n)),
+      ap (λ k. listsStamped (a .file .now) k 0 (a .start) (a .table .now)) (left-all (a .n)),
+    )
 
--- src/lib.rt:54:17
-byte-at-requires : tie.Need-byte-at-requires Inv-loop μ-loop
-byte-at-requires c κs = search needs
-
--- src/lib.rt:54:17
-cast-k : tie.Need-cast-k Inv-loop μ-loop
-cast-k c = search needs
-
--- src/lib.rt:55:31
-add-part : tie.Need-add-part Inv-loop μ-loop
-add-part c = search needs
-
--- src/lib.rt:55:13
-part-requires : tie.Need-part-requires Inv-loop μ-loop
-part-requires c κs = search needs
-
--- src/lib.rt:56:21
-mul-stamp : tie.Need-mul-stamp Inv-loop μ-loop
-mul-stamp c = search needs
-
--- src/lib.rt:56:9
 stamp-requires : tie.Need-stamp-requires Inv-loop μ-loop
 stamp-requires c κs = (short (c .before .before .byte-at .result) (c .before .part .result .now) _ (c .before .part .ensures) (omega arith), omega arith)
 
--- src/lib.rt:57:15
-add-at : tie.Need-add-at Inv-loop μ-loop
-add-at c = search needs
-
--- src/lib.rt:57:9
-add-at-2 : tie.Need-add-at-2 Inv-loop μ-loop
-add-at-2 c = search needs
-
--- src/lib.rt:58:9
-add-i : tie.Need-add-i Inv-loop μ-loop
-add-i c = search needs
-
--- src/lib.rt:53:5
-loop-less : tie.Need-loop-less Inv-loop μ-loop
-loop-less c = search needs
-
--- src/lib.rt:53:5
 loop-again : tie.Need-loop-again Inv-loop μ-loop
 loop-again c =
     let t = c .before .before .before .before in
@@ -76,10 +43,11 @@ loop-again c =
       omega arith,
       omega arith,
       l .loop .inv .2 ∙ end-turn (a .file .now) (a .n) (l .loop .i) (l .loop .at) (t .loop-test .taken) (b .result) (b .ensures),
-      l .loop .inv .3 ∙ lists-turn (a .file .now) (a .n) (l .loop .i) (l .loop .at) (t .loop-test .taken) (b .result) (b .ensures) (c .before .before .part .result .now) (c .before .before .part .ensures) (l .loop .table) _ (c .stamp .ensures),
+      l .loop .inv .3
+          ∙ lists-turn (a .file .now) (a .n) (l .loop .i) (l .loop .at) (t .loop-test .taken) (b .result) (b .ensures)
+          (c .before .before .part .result .now) (c .before .before .part .ensures) (l .loop .table) _ (c .stamp .ensures),
     )
 
--- src/lib.rt:46:1
 returns : tie.Need-returns Inv-loop μ-loop
 returns c =
     let l = c .before in
@@ -90,20 +58,6 @@ returns c =
 
 pub stamp-lists-spec : {M : Type 1} → statement M
 stamp-lists-spec =
-    tie.close
-    (tie.spec
-    Inv-loop
-    μ-loop
-    loop-holds
-    byte-at-requires
-    cast-k
-    add-part
-    part-requires
-    mul-stamp
-    stamp-requires
-    add-at
-    add-at-2
-    add-i
-    loop-less
-    loop-again
+    tie.close (tie.spec Inv-loop μ-loop loop-holds (λ c κs. search needs) (λ c. search needs) (λ c. search needs) (λ c κs. search needs)
+    (λ c. search needs) stamp-requires (λ c. search needs) (λ c. search needs) (λ c. search needs) (λ c. search needs) loop-again
     returns)

@@ -24,87 +24,49 @@ use Rattle.roster_sections.proofs.lists_section.Tie as tie
 sizes-of : (n : ℕ) (ls : List (List ℕ)) → length ls ≡ n → length (gather listBytes ls) ≡ n + totalS ls
 sizes-of n ls h = omega (arith, lists-size ls)
 
-sub-if1 : tie.Need-sub-if1
-sub-if1 c = search needs
-
 returns : tie.Need-returns
 returns c = let a = c .before .before .before .args in section-cut (readList (a .count) (a .count)) totalS (a .file .now) (a .at) (a .n) (omega arith)
 
-wide-requires : tie.Need-wide-requires
-wide-requires c κs = search needs
-
 returns-2 : tie.Need-returns-2
-returns-2 c = let a = c .before .before .before .before .before .args in section-long (readList (a .count) (a .count)) totalS (a .file .now) (a .at) (a .n) (omega arith) (omega arith)
-
-add-start : tie.Need-add-start
-add-start c = search needs
-
-lists-at-requires : tie.Need-lists-at-requires
-lists-at-requires c κs = search needs
-
-enum-known-s : tie.Need-enum-known-s
-enum-known-s c = search needs
-
-enum-told : tie.Need-enum-told
-enum-told c = search needs
-
-same-length : tie.Need-same-length
-same-length c = search needs
+returns-2 c =
+    let a = c .before .before .before .before .before .args in
+    section-long (readList (a .count) (a .count)) totalS (a .file .now) (a .at) (a .n) (omega arith) (omega arith)
 
 returns-3 : tie.Need-returns-3
 returns-3 c =
     let s = c .before .before .before .before .before .before .before .before .before .before .before in
     let a = s .args in
     let e = c .enum-told .given .1 in
-    marked-as (sym e) (section-refused (readList (a .count) (a .count)) totalS (a .file .now) (a .at) (a .n) (omega arith) (omega arith) (marked-as e (c .before .before .before .before .lists-at .ensures)))
-
-add-if3 : tie.Need-add-if3
-add-if3 c = search needs
-
-add-if3-2 : tie.Need-add-if3-2
-add-if3-2 c = search needs
-
-same-length-2 : tie.Need-same-length-2
-same-length-2 c = search needs
+    marked-as (sym e)
+    (section-refused (readList (a .count) (a .count)) totalS (a .file .now) (a .at) (a .n) (omega arith) (omega arith)
+    (marked-as e (c .before .before .before .before .lists-at .ensures)))
 
 returns-4 : tie.Need-returns-4
 returns-4 c =
     let s = c .before .before .before .before .before .before .before .before .before .before .before .before .before in
     let a = s .args in
-    let isB : T (isBytes (a .file .now)) = bytes-of (a .file .now) (λ i. c .before .before .before .before .before .before .before .before .before .before .before .before .shared-slice-known .given i) in
+    let isB : T (isBytes (a .file .now)) =
+    bytes-of (a .file .now)
+    (λ i. c .before .before .before .before .before .before .before .before .before .before .before .before .shared-slice-known .given i) in
     let small : wide (a .file .now) (a .at) ≤ entryLimit = omega arith in
     let e = c .before .before .s .given .1 in
-    section-sum (readList (a .count) (a .count)) totalS (a .file .now) (a .at) (a .n) (omega arith) small (list (a .count)) isB (a .n) (sizes-of (a .n)) (marked-as e (c .before .before .before .before .before .before .lists-at .ensures)) (omega arith)
-
-same-length-3 : tie.Need-same-length-3
-same-length-3 c = search needs
+    section-sum (readList (a .count) (a .count)) totalS (a .file .now) (a .at) (a .n) (omega arith) small (list (a .count)) isB (a .n)
+    (sizes-of (a .n)) (marked-as e (c .before .before .before .before .before .before .lists-at .ensures)) (omega arith)
 
 returns-5 : tie.Need-returns-5
 returns-5 c =
     let s = c .before .before .before .before .before .before .before .before .before .before .before .before .before in
     let a = s .args in
-    let isB : T (isBytes (a .file .now)) = bytes-of (a .file .now) (λ i. c .before .before .before .before .before .before .before .before .before .before .before .before .shared-slice-known .given i) in
+    let isB : T (isBytes (a .file .now)) =
+    bytes-of (a .file .now)
+    (λ i. c .before .before .before .before .before .before .before .before .before .before .before .before .shared-slice-known .given i) in
     let small : wide (a .file .now) (a .at) ≤ entryLimit = omega arith in
     let e = c .before .before .s .given .1 in
-    section-uneven (readList (a .count) (a .count)) totalS (a .file .now) (a .at) (a .n) (omega arith) small (list (a .count)) isB (a .n) (sizes-of (a .n)) (marked-as e (c .before .before .before .before .before .before .lists-at .ensures)) (λ q. c .if3 .left (omega arith))
+    section-uneven (readList (a .count) (a .count)) totalS (a .file .now) (a .at) (a .n) (omega arith) small (list (a .count)) isB (a .n)
+    (sizes-of (a .n)) (marked-as e (c .before .before .before .before .before .before .lists-at .ensures)) (λ q. c .if3 .left (omega arith))
 
 pub lists-section-spec : {M : Type 1} → statement M
 lists-section-spec =
-    tie.close
-    (tie.spec
-    sub-if1
-    returns
-    wide-requires
-    returns-2
-    add-start
-    lists-at-requires
-    enum-known-s
-    enum-told
-    same-length
-    returns-3
-    add-if3
-    add-if3-2
-    same-length-2
-    returns-4
-    same-length-3
-    returns-5)
+    tie.close (tie.spec (λ c. search needs) returns (λ c κs. search needs) returns-2 (λ c. search needs) (λ c κs. search needs)
+    (λ c. search needs) (λ c. search needs) (λ c. search needs) returns-3 (λ c. search needs) (λ c. search needs) (λ c. search needs)
+    returns-4 (λ c. search needs) returns-5)

@@ -12,32 +12,15 @@ use Rattle.roster_sections.proofs.nodes_at.Tie as tie
 returns : tie.Need-returns
 returns c = let a = c .before .before .args in sym (ap (placed (a .file .now)) (count-end (a .file .now) (a .at) nodeLimit readQuotas (c .if1 .taken)))
 
-shared-slice-read-n : tie.Need-shared-slice-read-n
-shared-slice-read-n c = search needs
-
 returns-2 : tie.Need-returns-2
-returns-2 c = let a = c .before .before .before .before .args in sym (ap (placed (a .file .now)) (count-long (a .file .now) (a .at) nodeLimit readQuotas (omega arith) (c .if2 .taken)))
-
-add-start : tie.Need-add-start
-add-start c = search needs
-
-cast-count : tie.Need-cast-count
-cast-count c = search needs
-
-quotas-at-requires : tie.Need-quotas-at-requires
-quotas-at-requires c κs = search needs
+returns-2 c =
+    let a = c .before .before .before .before .args in
+    sym (ap (placed (a .file .now)) (count-long (a .file .now) (a .at) nodeLimit readQuotas (omega arith) (c .if2 .taken)))
 
 returns-3 : tie.Need-returns-3
-returns-3 c = let a = c .before .before .before .before .before .args in c .quotas-at .ensures ∙ sym (ap (placed (a .file .now)) (count-goes (a .file .now) (a .at) nodeLimit readQuotas (omega arith) (c .before .if2 .left)))
+returns-3 c =
+    let a = c .before .before .before .before .before .args in
+    c .quotas-at .ensures ∙ sym (ap (placed (a .file .now)) (count-goes (a .file .now) (a .at) nodeLimit readQuotas (omega arith) (c .before .if2 .left)))
 
 pub nodes-at-spec : {M : Type 1} → statement M
-nodes-at-spec =
-    tie.close
-    (tie.spec
-    returns
-    shared-slice-read-n
-    returns-2
-    add-start
-    cast-count
-    quotas-at-requires
-    returns-3)
+nodes-at-spec = tie.close (tie.spec returns (λ c. search needs) returns-2 (λ c. search needs) (λ c. search needs) (λ c κs. search needs) returns-3)

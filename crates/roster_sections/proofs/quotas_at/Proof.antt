@@ -7,24 +7,6 @@ use Rattle.roster_reading.specs.Check.{partAnswer, part-is}
 use Rattle.roster_sections.proofs.quotas_at.Statement.{statement}
 use Rattle.roster_sections.proofs.quotas_at.Tie as tie
 
-part-end-requires : tie.Need-part-end-requires
-part-end-requires c κs = search needs
-
-sub-check-quotas : tie.Need-sub-check-quotas
-sub-check-quotas c = search needs
-
-part-check-quotas-start : tie.Need-part-check-quotas-start
-part-check-quotas-start c = search needs
-
-part-check-quotas-end : tie.Need-part-check-quotas-end
-part-check-quotas-end c = search needs
-
-check-quotas-requires : tie.Need-check-quotas-requires
-check-quotas-requires c κs = search needs
-
-part-answer-requires : tie.Need-part-answer-requires
-part-answer-requires c κs = search needs
-
 returns : tie.Need-returns
 returns c =
     let e = c .before .before .before in
@@ -35,12 +17,5 @@ returns c =
 
 pub quotas-at-spec : {M : Type 1} → statement M
 quotas-at-spec =
-    tie.close
-    (tie.spec
-    part-end-requires
-    sub-check-quotas
-    part-check-quotas-start
-    part-check-quotas-end
-    check-quotas-requires
-    part-answer-requires
-    returns)
+    tie.close (tie.spec (λ c κs. search needs) (λ c. search needs) (λ c. search needs) (λ c. search needs) (λ c κs. search needs)
+    (λ c κs. search needs) returns)

@@ -24,91 +24,49 @@ use Rattle.roster_sections.proofs.rankings_section.Tie as tie
 sizes-of : (n : ℕ) (ls : List Ranking) → length ls ≡ n → length (gather rankingBytes ls) ≡ 2 * n + totalT ls
 sizes-of n ls h = omega (arith, rankings-size ls)
 
-sub-if1 : tie.Need-sub-if1
-sub-if1 c = search needs
-
 returns : tie.Need-returns
 returns c = let a = c .before .before .before .args in section-cut (readRanking (a .count) (a .count)) totalT (a .file .now) (a .at) (a .n) (omega arith)
 
-wide-requires : tie.Need-wide-requires
-wide-requires c κs = search needs
-
 returns-2 : tie.Need-returns-2
-returns-2 c = let a = c .before .before .before .before .before .args in section-long (readRanking (a .count) (a .count)) totalT (a .file .now) (a .at) (a .n) (omega arith) (omega arith)
-
-add-start : tie.Need-add-start
-add-start c = search needs
-
-rankings-at-requires : tie.Need-rankings-at-requires
-rankings-at-requires c κs = search needs
-
-enum-known-s : tie.Need-enum-known-s
-enum-known-s c = search needs
-
-enum-told : tie.Need-enum-told
-enum-told c = search needs
-
-same-length : tie.Need-same-length
-same-length c = search needs
+returns-2 c =
+    let a = c .before .before .before .before .before .args in
+    section-long (readRanking (a .count) (a .count)) totalT (a .file .now) (a .at) (a .n) (omega arith) (omega arith)
 
 returns-3 : tie.Need-returns-3
 returns-3 c =
     let s = c .before .before .before .before .before .before .before .before .before .before .before in
     let a = s .args in
     let e = c .enum-told .given .1 in
-    marked-as (sym e) (section-refused (readRanking (a .count) (a .count)) totalT (a .file .now) (a .at) (a .n) (omega arith) (omega arith) (marked-as e (c .before .before .before .before .rankings-at .ensures)))
-
-mul-if3 : tie.Need-mul-if3
-mul-if3 c = search needs
-
-add-if3 : tie.Need-add-if3
-add-if3 c = search needs
-
-add-if3-2 : tie.Need-add-if3-2
-add-if3-2 c = search needs
-
-same-length-2 : tie.Need-same-length-2
-same-length-2 c = search needs
+    marked-as (sym e)
+    (section-refused (readRanking (a .count) (a .count)) totalT (a .file .now) (a .at) (a .n) (omega arith) (omega arith)
+    (marked-as e (c .before .before .before .before .rankings-at .ensures)))
 
 returns-4 : tie.Need-returns-4
 returns-4 c =
     let s = c .before .before .before .before .before .before .before .before .before .before .before .before .before in
     let a = s .args in
-    let isB : T (isBytes (a .file .now)) = bytes-of (a .file .now) (λ i. c .before .before .before .before .before .before .before .before .before .before .before .before .shared-slice-known .given i) in
+    let isB : T (isBytes (a .file .now)) =
+    bytes-of (a .file .now)
+    (λ i. c .before .before .before .before .before .before .before .before .before .before .before .before .shared-slice-known .given i) in
     let small : wide (a .file .now) (a .at) ≤ entryLimit = omega arith in
     let e = c .before .before .s .given .1 in
-    section-sum (readRanking (a .count) (a .count)) totalT (a .file .now) (a .at) (a .n) (omega arith) small (ranking (a .count)) isB (2 * a .n) (sizes-of (a .n)) (marked-as e (c .before .before .before .before .before .before .rankings-at .ensures)) (omega arith)
-
-same-length-3 : tie.Need-same-length-3
-same-length-3 c = search needs
+    section-sum (readRanking (a .count) (a .count)) totalT (a .file .now) (a .at) (a .n) (omega arith) small (ranking (a .count)) isB (2 * a .n)
+    (sizes-of (a .n)) (marked-as e (c .before .before .before .before .before .before .rankings-at .ensures)) (omega arith)
 
 returns-5 : tie.Need-returns-5
 returns-5 c =
     let s = c .before .before .before .before .before .before .before .before .before .before .before .before .before in
     let a = s .args in
-    let isB : T (isBytes (a .file .now)) = bytes-of (a .file .now) (λ i. c .before .before .before .before .before .before .before .before .before .before .before .before .shared-slice-known .given i) in
+    let isB : T (isBytes (a .file .now)) =
+    bytes-of (a .file .now)
+    (λ i. c .before .before .before .before .before .before .before .before .before .before .before .before .shared-slice-known .given i) in
     let small : wide (a .file .now) (a .at) ≤ entryLimit = omega arith in
     let e = c .before .before .s .given .1 in
-    section-uneven (readRanking (a .count) (a .count)) totalT (a .file .now) (a .at) (a .n) (omega arith) small (ranking (a .count)) isB (2 * a .n) (sizes-of (a .n)) (marked-as e (c .before .before .before .before .before .before .rankings-at .ensures)) (λ q. c .if3 .left (omega arith))
+    section-uneven (readRanking (a .count) (a .count)) totalT (a .file .now) (a .at) (a .n) (omega arith) small (ranking (a .count)) isB (2 * a .n)
+    (sizes-of (a .n)) (marked-as e (c .before .before .before .before .before .before .rankings-at .ensures)) (λ q. c .if3 .left (omega arith))
 
 pub rankings-section-spec : {M : Type 1} → statement M
 rankings-section-spec =
-    tie.close
-    (tie.spec
-    sub-if1
-    returns
-    wide-requires
-    returns-2
-    add-start
-    rankings-at-requires
-    enum-known-s
-    enum-told
-    same-length
-    returns-3
-    mul-if3
-    add-if3
-    add-if3-2
-    same-length-2
-    returns-4
-    same-length-3
-    returns-5)
+    tie.close (tie.spec (λ c. search needs) returns (λ c κs. search needs) returns-2 (λ c. search needs) (λ c κs. search needs)
+    (λ c. search needs) (λ c. search needs) (λ c. search needs) returns-3 (λ c. search needs) (λ c. search needs) (λ c. search needs)
+    (λ c. search needs) returns-4 (λ c. search needs) returns-5)

@@ -6,19 +6,16 @@ use Rattle.text_numbers.specs.Digits.{digits-length}
 use Rattle.text_numbers.proofs.put_field.Statement.{statement}
 use Rattle.text_numbers.proofs.put_field.Tie as tie
 
-put-digits-requires : tie.Need-put-digits-requires
-put-digits-requires c κs = search needs
-
 put-byte-requires : tie.Need-put-byte-requires
-put-byte-requires c κs = let d = c .before .before .before .put-digits in omega (arith, d .ensures .place, digits-length 4 (c .before .before .before .before .before .before .args .n))
-
-same-length : tie.Need-same-length
-same-length c = search needs
+put-byte-requires c κs =
+    let d = c .before .before .before .put-digits in
+    omega (arith, d .ensures .place, digits-length 4 (c .before .before .before .before .before .before .args .n))
 
 returns : tie.Need-returns
 returns c =
     let a = c .before .before .before .before .before .before .before .before .before .args in
-    append-then (a .out .now) (a .at) (omega arith) (c .before .before .before .before .before .before .put-digits .ensures) (c .before .before .put-byte .ensures)
+    append-then (a .out .now) (a .at) (omega arith) (c .before .before .before .before .before .before .put-digits .ensures)
+    (c .before .before .put-byte .ensures)
 
 pub put-field-spec : {M : Type 1} → statement M
-put-field-spec = tie.close (tie.spec put-digits-requires put-byte-requires same-length returns)
+put-field-spec = tie.close (tie.spec (λ c κs. search needs) put-byte-requires (λ c. search needs) returns)

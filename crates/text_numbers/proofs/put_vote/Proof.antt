@@ -10,50 +10,28 @@ use Rattle.text_numbers.proofs.SignedVotes.{below-text, above-text}
 use Rattle.text_numbers.proofs.put_vote.Statement.{statement}
 use Rattle.text_numbers.proofs.put_vote.Tie as tie
 
-size-requires : tie.Need-size-requires
-size-requires c κs = search needs
-
-put-byte-requires : tie.Need-put-byte-requires
-put-byte-requires c κs = search needs
-
-put-field-requires : tie.Need-put-field-requires
-put-field-requires c κs = search needs
-
-same-length : tie.Need-same-length
-same-length c = search needs
-
 returns : tie.Need-returns
 unfolding text
 returns c =
     let s = c .before .before .before .before .before .before .before .before .before .before .before in
     let a = s .args in
     append-as
-    (ap (λ (x : List ℕ). x ++ 10 ∷ []) (below-text (a .vote) (s .fits .vote) (c .before .before .before .before .before .before .before .before .if1 .taken) (c .before .before .before .before .before .before .before .before .before .size .ensures)))
-    (append-then (a .out .now) (a .at) (omega arith) (c .before .before .before .before .before .before .put-byte .ensures) (c .before .before .put-field .ensures))
-
-put-field-requires-2 : tie.Need-put-field-requires-2
-put-field-requires-2 c κs = search needs
-
-same-length-2 : tie.Need-same-length-2
-same-length-2 c = search needs
+    (ap (λ (x : List ℕ). x ++ 10 ∷ [])
+    (below-text (a .vote) (s .fits .vote) (c .before .before .before .before .before .before .before .before .if1 .taken)
+    (c .before .before .before .before .before .before .before .before .before .size .ensures)))
+    (append-then (a .out .now) (a .at) (omega arith) (c .before .before .before .before .before .before .put-byte .ensures)
+    (c .before .before .put-field .ensures))
 
 returns-2 : tie.Need-returns-2
 returns-2 c =
     let s = c .before .before .before .before .before .before .before in
     let a = s .args in
     append-as
-    (ap (λ (x : List ℕ). x ++ 10 ∷ []) (above-text (a .vote) (s .fits .vote) (c .before .before .before .before .if1 .left) (c .before .before .before .before .before .size .ensures)))
+    (ap (λ (x : List ℕ). x ++ 10 ∷ [])
+    (above-text (a .vote) (s .fits .vote) (c .before .before .before .before .if1 .left) (c .before .before .before .before .before .size .ensures)))
     (c .before .before .put-field2 .ensures)
 
 pub put-vote-spec : {M : Type 1} → statement M
 put-vote-spec =
-    tie.close
-    (tie.spec
-    size-requires
-    put-byte-requires
-    put-field-requires
-    same-length
-    returns
-    put-field-requires-2
-    same-length-2
-    returns-2)
+    tie.close (tie.spec (λ c κs. search needs) (λ c κs. search needs) (λ c κs. search needs) (λ c. search needs) returns
+    (λ c κs. search needs) (λ c. search needs) returns-2)

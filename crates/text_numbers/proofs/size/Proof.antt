@@ -19,8 +19,5 @@ returns c = below-size (c .before .args .vote) (c .before .fits .vote) (c .if1 .
 cast-result-2 : tie.Need-cast-result-2
 cast-result-2 c = above-cast (c .before .args .vote) (c .before .fits .vote) (c .if1 .left)
 
-returns-2 : tie.Need-returns-2
-returns-2 c = search needs
-
 pub size-spec : {M : Type 1} → statement M
-size-spec = tie.close (tie.spec sub-below cast-result add-result returns cast-result-2 returns-2)
+size-spec = tie.close (tie.spec sub-below cast-result add-result returns cast-result-2 (λ c. search needs))

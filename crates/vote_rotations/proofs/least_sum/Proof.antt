@@ -33,16 +33,11 @@ loop-holds c =
 turn-sum-requires-2 : tie.Need-turn-sum-requires-2 Inv-loop μ-loop
 turn-sum-requires-2 c κs = let p = c .before .before .before .pre in (p .0, omega arith, p .1 .own, p .2 .own, p .3)
 
-add-j : tie.Need-add-j Inv-loop μ-loop
-add-j c = omega arith
-
-loop-less : tie.Need-loop-less Inv-loop μ-loop
-loop-less c = omega arith
-
 -- the lower of the two
 lower : (c : tie.Joined1 Inv-loop μ-loop) → let l = c .before .before .before in
     let a = l .before .before .args in
-    (c .if1 .least ≤ l .loop .least) × (c .if1 .least ≤ c .before .turn-sum2 .result) × (leastSum (take (a .k) (a .a .now)) (take (a .k) (a .b .now)) ≤ c .if1 .least)
+    (c .if1 .least ≤ l .loop .least) × (c .if1 .least ≤ c .before .turn-sum2 .result)
+    × (leastSum (take (a .k) (a .a .now)) (take (a .k) (a .b .now)) ≤ c .if1 .least)
 lower c =
     let l = c .before .before .before in
     let s = l .before .before in
@@ -70,18 +65,13 @@ returns c =
     let l = c .before in
     let s = l .before .before in
     let a = s .args in
-    omega (arith, l .loop .inv .1, sum-reached (a .a .now) (a .b .now) (a .k) (s .pre .1) (s .pre .2) (l .loop .j) (l .loop .least) (omega arith) (omega arith) (l .loop .inv .2))
+    omega (
+      arith,
+      l .loop .inv .1,
+      sum-reached (a .a .now) (a .b .now) (a .k) (s .pre .1) (s .pre .2) (l .loop .j) (l .loop .least) (omega arith) (omega arith) (l .loop .inv .2),
+    )
 
 pub least-sum-spec : {M : Type 1} → statement M
 least-sum-spec =
-    tie.close
-    (tie.spec
-    Inv-loop
-    μ-loop
-    turn-sum-requires
-    loop-holds
-    turn-sum-requires-2
-    add-j
-    loop-less
-    loop-again
+    tie.close (tie.spec Inv-loop μ-loop turn-sum-requires loop-holds turn-sum-requires-2 (λ c. omega arith) (λ c. omega arith) loop-again
     returns)

@@ -4,9 +4,6 @@ use Rattle.vote_rotations.proofs.RankVotes.{upped-fits, upped-casts, up
 use Rattle.vote_rotations.proofs.rated.Statement.{statement}
 use Rattle.vote_rotations.proofs.rated.Tie as tie
 
-rank-vote-requires : tie.Need-rank-vote-requires
-rank-vote-requires c κs = search needs
-
 add-up : tie.Need-add-up
 add-up c = let a = c .before .args in rw (c .rank-vote .ensures) (upped-fits (a .a) (a .b))
 
@@ -17,4 +14,4 @@ returns : tie.Need-returns
 returns c = let a = c .before .args in rw (c .rank-vote .ensures) (upped-rate (a .a) (a .b))
 
 pub rated-spec : {M : Type 1} → statement M
-rated-spec = tie.close (tie.spec rank-vote-requires add-up cast-result returns)
+rated-spec = tie.close (tie.spec (λ c κs. search needs) add-up cast-result returns)

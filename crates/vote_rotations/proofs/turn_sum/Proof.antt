@@ -21,9 +21,6 @@ loop-holds c =
     let a = c .args in
     (zero-le, omega (arith, rest-start (a .j) (take (a .k) (a .a .now)) (take (a .k) (a .b .now))), zero-le)
 
-add-wrapped : tie.Need-add-wrapped Inv-loop μ-loop
-add-wrapped c = omega arith
-
 wrapped-requires : tie.Need-wrapped-requires Inv-loop μ-loop
 wrapped-requires c κs = tt
 
@@ -32,9 +29,6 @@ element-copy-out-rated c =
     let l = c .before .before in
     let a = l .before .args in
     omega (arith, c .wrapped .ensures, wrap-< (a .k) (l .loop .i + a .j) (omega arith))
-
-element-copy-out-rated-2 : tie.Need-element-copy-out-rated-2 Inv-loop μ-loop
-element-copy-out-rated-2 c = omega arith
 
 rated-requires : tie.Need-rated-requires Inv-loop μ-loop
 rated-requires c κs =
@@ -50,23 +44,20 @@ rated-requires c κs =
 couple : (c : tie.After-rated Inv-loop μ-loop)
     → let l = c .before .before .before .before .before in
     let a = l .before .args in
-    (restSum (l .loop .i) (a .j) (take (a .k) (a .a .now)) (take (a .k) (a .b .now)) ≡ c .rated .result + restSum (l .loop .i + 1) (a .j) (take (a .k) (a .a .now)) (take (a .k) (a .b .now))) × (c .rated .result ≤ 2)
+    (restSum (l .loop .i) (a .j) (take (a .k) (a .a .now)) (take (a .k) (a .b .now)) ≡ c .rated .result + restSum (l .loop .i + 1) (a .j)
+    (take (a .k) (a .a .now)) (take (a .k) (a .b .now)))
+    × (c .rated .result ≤ 2)
 couple c =
     let w = c .before .before .before in
     let l = w .before .before in
     let a = l .before .args in
-    let e : c .rated .result ≡ rate (getD (a .a .now) (wrap (a .k) (l .loop .i + a .j)) 0) (getD (a .b .now) (l .loop .i) 0) = c .rated .ensures ∙ ap (λ p. rate (getD (a .a .now) p 0) (getD (a .b .now) (l .loop .i) 0)) (w .wrapped .ensures) in
+    let e : c .rated .result ≡ rate (getD (a .a .now) (wrap (a .k) (l .loop .i + a .j)) 0) (getD (a .b .now) (l .loop .i) 0) =
+    c .rated .ensures ∙ ap (λ p. rate (getD (a .a .now) p 0) (getD (a .b .now) (l .loop .i) 0)) (w .wrapped .ensures) in
     let step = rest-step (a .a .now) (a .b .now) (a .k) (l .loop .i) (a .j) (l .before .pre .2 .there) (l .before .pre .3 .there) (omega arith) (omega arith) in
     omega (arith, rate-≤ (getD (a .a .now) (wrap (a .k) (l .loop .i + a .j)) 0) (getD (a .b .now) (l .loop .i) 0))
 
 add-sum : tie.Need-add-sum Inv-loop μ-loop
 add-sum c = omega (arith, couple c)
-
-add-i : tie.Need-add-i Inv-loop μ-loop
-add-i c = omega arith
-
-loop-less : tie.Need-loop-less Inv-loop μ-loop
-loop-less c = omega arith
 
 loop-again : tie.Need-loop-again Inv-loop μ-loop
 loop-again c = omega (arith, couple c)
@@ -79,18 +70,5 @@ returns c =
 
 pub turn-sum-spec : {M : Type 1} → statement M
 turn-sum-spec =
-    tie.close
-    (tie.spec
-    Inv-loop
-    μ-loop
-    loop-holds
-    add-wrapped
-    wrapped-requires
-    element-copy-out-rated
-    element-copy-out-rated-2
-    rated-requires
-    add-sum
-    add-i
-    loop-less
-    loop-again
-    returns)
+    tie.close (tie.spec Inv-loop μ-loop loop-holds (λ c. omega arith) wrapped-requires element-copy-out-rated (λ c. omega arith)
+    rated-requires add-sum (λ c. omega arith) (λ c. omega arith) loop-again returns)
