@@ -6,7 +6,7 @@ mod calls;
 mod common;
 mod lent;
 
-use calls::Desk;
+use calls::{Calls, Desk};
 use common::damage;
 use lent::{Buffers, SIZES};
 use reference::desk::{record, Found, NoneKind, Record};

@@ -40,12 +40,17 @@ impl Refusal {
 
     /// The group of the refusal, by its number.
     pub fn group(self) -> Group {
-        match self.number() {
-            1 | 2 | 9 => Group::Form,
-            10..=12 => Group::Plan,
-            13..=15 => Group::Desk,
-            _ => Group::Content,
-        }
+        group_of(self.number())
+    }
+}
+
+/// The group of a number; one that document 01 does not use is content.
+pub fn group_of(number: u8) -> Group {
+    match number {
+        1 | 2 | 9 => Group::Form,
+        10..=12 => Group::Plan,
+        13..=15 => Group::Desk,
+        _ => Group::Content,
     }
 }
 

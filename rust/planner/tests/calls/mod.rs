@@ -56,32 +56,47 @@ fn place(part: &[u8], first: &[u8], second: &[u8]) -> Part {
     Part { file, range }
 }
 
+/// The calls of a desk as the reference makes them: the desk goes in by value
+/// and comes back with the answer.
+pub trait Calls: Sized {
+    fn load_roster(self, file: &[u8]) -> (Self, Result<(), u8>);
+    fn load_plan(self, file: &[u8]) -> (Self, Result<(), u8>);
+    fn write_roster(self, out: &mut [u8]) -> (Self, Result<usize, u8>);
+    fn write_plan(self, out: &mut [u8]) -> (Self, Result<usize, u8>);
+    fn find(self, lent: Lent) -> (Self, Result<Found, u8>);
+    fn judge(self, rival: &mut [u8]) -> (Self, Result<Judged, u8>);
+    fn compare(self, first: &[u8], second: &[u8]) -> (Self, Compared);
+    fn blocking(self) -> (Self, Result<Option<(u8, u8)>, u8>);
+}
+
 impl Desk {
     pub fn open() -> Desk {
         Desk(planner::Desk::open())
     }
+}
 
-    pub fn load_roster(mut self, file: &[u8]) -> (Desk, Result<(), u8>) {
+impl Calls for Desk {
+    fn load_roster(mut self, file: &[u8]) -> (Desk, Result<(), u8>) {
         let answer = self.0.load_roster(file).map_err(number);
         (self, answer)
     }
 
-    pub fn load_plan(mut self, file: &[u8]) -> (Desk, Result<(), u8>) {
+    fn load_plan(mut self, file: &[u8]) -> (Desk, Result<(), u8>) {
         let answer = self.0.load_plan(file).map_err(number);
         (self, answer)
     }
 
-    pub fn write_roster(self, out: &mut [u8]) -> (Desk, Result<usize, u8>) {
+    fn write_roster(self, out: &mut [u8]) -> (Desk, Result<usize, u8>) {
         let answer = self.0.write_roster(out).map_err(number);
         (self, answer)
     }
 
-    pub fn write_plan(self, out: &mut [u8]) -> (Desk, Result<usize, u8>) {
+    fn write_plan(self, out: &mut [u8]) -> (Desk, Result<usize, u8>) {
         let answer = self.0.write_plan(out).map_err(number);
         (self, answer)
     }
 
-    pub fn find(self, lent: Lent) -> (Desk, Result<Found, u8>) {
+    fn find(self, lent: Lent) -> (Desk, Result<Found, u8>) {
         let step = |record: &Record| Step {
             fate: record.fate,
             surveyor: record.surveyor,
@@ -101,19 +116,19 @@ impl Desk {
         (self, answer.map(found).map_err(number))
     }
 
-    pub fn judge(self, rival: &mut [u8]) -> (Desk, Result<Judged, u8>) {
+    fn judge(self, rival: &mut [u8]) -> (Desk, Result<Judged, u8>) {
         let answer = self.0.judge(rival).map(judged).map_err(number);
         (self, answer)
     }
 
-    pub fn compare(self, first: &[u8], second: &[u8]) -> (Desk, Compared) {
+    fn compare(self, first: &[u8], second: &[u8]) -> (Desk, Compared) {
         let answer = self.0.compare(first, second);
         let outcome = answer.outcome.map(|votes| (votes.first, votes.second));
         let part = place(answer.part, first, second);
         (self, (outcome.map_err(number), part))
     }
 
-    pub fn blocking(self) -> (Desk, Result<Option<(u8, u8)>, u8>) {
+    fn blocking(self) -> (Desk, Result<Option<(u8, u8)>, u8>) {
         let answer = self.0.blocking().map_err(number);
         (self, answer)
     }

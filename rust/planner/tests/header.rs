@@ -1,0 +1,325 @@
+//! `include/crew.h` as a user has it: a C program and a C++ program that make
+//! every call (`c/desk.c`) are compiled with warnings as errors, linked to the
+//! static library and driven over a pipe, each call held against the reference;
+//! once more with the sanitizers.
+
+mod calls;
+mod common;
+mod lent;
+mod sequence;
+
+use std::cell::RefCell;
+use std::io::{BufReader, Read, Write};
+use std::path::{Path, PathBuf};
+use std::process::{Child, ChildStdin, ChildStdout, Command, Stdio};
+use std::rc::Rc;
+
+use calls::{Calls, Compared};
+use common::{damage, shape};
+use reference::compare::{File, Part};
+use reference::desk::{Found, Judged, Lent, NoneKind, Record};
+use reference::random::{self, Random};
+use reference::refusal::Group;
+use reference::roster;
+
+const C: &[&str] = &[
+    "-std=c99",
+    "-pedantic",
+    "-Wall",
+    "-Wextra",
+    "-Werror",
+    "-O1",
+];
+const CPP: &[&str] = &[
+    "-std=c++11",
+    "-pedantic",
+    "-Wall",
+    "-Wextra",
+    "-Werror",
+    "-O1",
+];
+const SANITIZERS: &[&str] = &[
+    "-g",
+    "-fsanitize=address,undefined",
+    "-fno-sanitize-recover=all",
+];
+
+fn root() -> PathBuf {
+    Path::new(env!("CARGO_MANIFEST_DIR")).join("../..")
+}
+
+/// Compiles a source of `c/` and links it to the static library.
+fn compile(compiler: &str, source: &str, flags: &[&[&str]]) -> PathBuf {
+    let program = std::env::temp_dir().join(format!(
+        "crew-{}-{compiler}-{source}-{}",
+        std::process::id(),
+        flags.len()
+    ));
+    let status = Command::new(compiler)
+        .args(flags.concat())
+        .arg("-I")
+        .arg(root().join("include"))
+        .arg(root().join("c").join(source))
+        .arg(root().join("target/staticlib/libabi.a"))
+        .arg("-o")
+        .arg(&program)
+        .status();
+    assert!(
+        status.is_ok_and(|status| status.success()),
+        "{compiler} {source}"
+    );
+    program
+}
+
+/// A running program, its desk and the way back from it.
+struct Pipe {
+    child: Child,
+    input: ChildStdin,
+    output: BufReader<ChildStdout>,
+}
+
+impl Pipe {
+    fn start(program: &Path) -> Pipe {
+        let mut child = Command::new(program)
+            .stdin(Stdio::piped())
+            .stdout(Stdio::piped())
+            .spawn()
+            .expect("the program starts");
+        let input = child.stdin.take().expect("a pipe");
+        let output = BufReader::new(child.stdout.take().expect("a pipe"));
+        Pipe {
+            child,
+            input,
+            output,
+        }
+    }
+
+    /// A call by its letter, and what is lent to it, a length before each.
+    fn send(&mut self, call: u8, lent: &[&[u8]]) {
+        let mut message = vec![call];
+        for bytes in lent {
+            message.extend((bytes.len() as u32).to_le_bytes());
+            message.extend_from_slice(bytes);
+        }
+        self.input.write_all(&message).expect("the program reads");
+    }
+
+    fn fill(&mut self, buffer: &mut [u8]) {
+        self.output.read_exact(buffer).expect("the program answers");
+    }
+
+    fn numbers<const N: usize>(&mut self) -> [i64; N] {
+        [(); N].map(|()| {
+            let mut bytes = [0; 8];
+            self.fill(&mut bytes);
+            i64::from_le_bytes(bytes)
+        })
+    }
+
+    /// The program ends with its input, in good order.
+    fn finish(mut self) {
+        drop(self.input);
+        let status = self.child.wait().expect("the program ends");
+        assert!(status.success(), "{status}");
+    }
+}
+
+/// A desk of the program.
+struct Desk(Rc<RefCell<Pipe>>);
+
+fn refusal(number: i64) -> Result<(), u8> {
+    match number {
+        0 => Ok(()),
+        number => Err(number as u8),
+    }
+}
+
+impl Desk {
+    fn load(self, call: u8, file: &[u8]) -> (Desk, Result<(), u8>) {
+        let [number] = {
+            let mut pipe = self.0.borrow_mut();
+            pipe.send(call, &[file]);
+            pipe.numbers()
+        };
+        (self, refusal(number))
+    }
+
+    fn write(self, call: u8, out: &mut [u8]) -> (Desk, Result<usize, u8>) {
+        let [number, length] = {
+            let mut pipe = self.0.borrow_mut();
+            pipe.send(call, &[out]);
+            let numbers = pipe.numbers();
+            pipe.fill(out);
+            numbers
+        };
+        (self, refusal(number).map(|()| length as usize))
+    }
+}
+
+impl Calls for Desk {
+    fn load_roster(self, file: &[u8]) -> (Desk, Result<(), u8>) {
+        self.load(b'R', file)
+    }
+
+    fn load_plan(self, file: &[u8]) -> (Desk, Result<(), u8>) {
+        self.load(b'P', file)
+    }
+
+    fn write_roster(self, out: &mut [u8]) -> (Desk, Result<usize, u8>) {
+        self.write(b'r', out)
+    }
+
+    fn write_plan(self, out: &mut [u8]) -> (Desk, Result<usize, u8>) {
+        self.write(b'p', out)
+    }
+
+    fn find(self, lent: Lent) -> (Desk, Result<Found, u8>) {
+        let bytes = |record: &Record| [record.fate, record.surveyor, record.stand, record.rule];
+        let mut diary: Vec<u8> = lent.diary.iter().flat_map(bytes).collect();
+        let [kind, number, vote, steps, left] = {
+            let mut pipe = self.0.borrow_mut();
+            pipe.send(b'f', &[&diary, lent.left, lent.plan, lent.rival]);
+            let numbers = pipe.numbers();
+            pipe.fill(&mut diary);
+            pipe.fill(lent.left);
+            pipe.fill(lent.plan);
+            pipe.fill(lent.rival);
+            numbers
+        };
+        for (record, bytes) in lent.diary.iter_mut().zip(diary.chunks_exact(4)) {
+            *record = Record {
+                fate: bytes[0],
+                surveyor: bytes[1],
+                stand: bytes[2],
+                rule: bytes[3],
+            };
+        }
+        let steps = steps as usize;
+        let found = match kind {
+            1 => Found::Plan { steps },
+            2 => Found::None {
+                steps,
+                kind: NoneKind::Left(left as usize),
+            },
+            3 => Found::None {
+                steps,
+                kind: NoneKind::Rivalled(vote as i16),
+            },
+            _ => Found::Plan { steps: 0 },
+        };
+        (self, refusal(number).map(|()| found))
+    }
+
+    fn judge(self, rival: &mut [u8]) -> (Desk, Result<Judged, u8>) {
+        let [number, verdict, vote] = {
+            let mut pipe = self.0.borrow_mut();
+            pipe.send(b'j', &[rival]);
+            let numbers = pipe.numbers();
+            pipe.fill(rival);
+            numbers
+        };
+        let judged = match verdict {
+            1 => Judged::Strong,
+            2 => Judged::Popular(vote as i16),
+            _ => Judged::Beaten(vote as i16),
+        };
+        (self, refusal(number).map(|()| judged))
+    }
+
+    fn compare(self, first: &[u8], second: &[u8]) -> (Desk, Compared) {
+        let [number, winner, one, other, file, from, length] = {
+            let mut pipe = self.0.borrow_mut();
+            pipe.send(b'c', &[first, second]);
+            pipe.numbers()
+        };
+        let expected = match (one > 0, other > 0) {
+            (true, _) => 1,
+            (_, true) => 2,
+            _ => 0,
+        };
+        assert_eq!(winner, expected);
+        let part = Part {
+            file: if file == 2 { File::Second } else { File::First },
+            range: from as usize..(from + length) as usize,
+        };
+        let votes = refusal(number).map(|()| (one as i16, other as i16));
+        (self, (votes, part))
+    }
+
+    fn blocking(self) -> (Desk, Result<Option<(u8, u8)>, u8>) {
+        let [number, surveyor, stand] = {
+            let mut pipe = self.0.borrow_mut();
+            pipe.send(b'b', &[]);
+            pipe.numbers()
+        };
+        let pair = (surveyor != 0).then_some((surveyor as u8, stand as u8));
+        (self, refusal(number).map(|()| pair))
+    }
+}
+
+/// The two calls without a desk: every refusal's group, and roster files.
+fn check_files(pipe: &mut Pipe, files: usize) {
+    for number in 0..=255u8 {
+        pipe.send(b'g', &[]);
+        pipe.input.write_all(&[number]).expect("the program reads");
+        let [group] = pipe.numbers();
+        let expected = match reference::refusal::group_of(number) {
+            Group::Form => 1,
+            Group::Content => 2,
+            Group::Plan => 3,
+            Group::Desk => 4,
+        };
+        assert_eq!(group, expected, "{number}");
+    }
+    let mut random = Random::new(93);
+    for _ in 0..files {
+        let shape = shape(&mut random);
+        let mut file = roster::write(&random::roster(&mut random, &shape));
+        for _ in 0..random.below(3) {
+            damage(&mut random, &mut file);
+        }
+        pipe.send(b'a', &[&file]);
+        let [number] = pipe.numbers();
+        let expected = roster::read(&file)
+            .err()
+            .map_or(0, |refusal| refusal.number());
+        assert_eq!(number, i64::from(expected), "{file:?}");
+    }
+}
+
+fn check(program: &Path, sequences: usize, least: usize) {
+    let pipe = Rc::new(RefCell::new(Pipe::start(program)));
+    check_files(&mut pipe.borrow_mut(), sequences);
+    let open = || {
+        pipe.borrow_mut().send(b'O', &[]);
+        Desk(Rc::clone(&pipe))
+    };
+    sequence::run(open, 92, sequences, least);
+    let pipe = Rc::into_inner(pipe).expect("no desk is left");
+    pipe.into_inner().finish();
+    std::fs::remove_file(program).expect("the program was there");
+}
+
+#[test]
+fn a_c_program() {
+    check(&compile("gcc", "desk.c", &[C]), 8_000, 3);
+}
+
+#[test]
+fn a_cpp_program() {
+    check(&compile("g++", "desk.cpp", &[CPP]), 4_000, 1);
+}
+
+#[test]
+fn with_sanitizers() {
+    check(&compile("gcc", "desk.c", &[C, SANITIZERS]), 4_000, 1);
+}
+
+#[test]
+fn by_clang_where_it_is_there() {
+    if Command::new("clang").arg("--version").output().is_err() {
+        println!("no clang here");
+        return;
+    }
+    check(&compile("clang", "desk.c", &[C]), 4_000, 1);
+}

@@ -1,0 +1,325 @@
+//! Random sequences of desk calls, on a desk under test and on the reference
+//! desk: the same answers, the same bytes in every lent buffer, the same held
+//! after each call. Of a rival and a blocking pair only what document 01
+//! settles is asked.
+
+use crate::calls::Calls;
+use crate::common::{damage, junk};
+use crate::lent::{only_front, Buffers, SIZES};
+use reference::desk::{Found, Judged, NoneKind};
+use reference::limits::{MAX_PLAN_BYTES, MAX_ROSTER_BYTES};
+use reference::plan::{self, Plan};
+use reference::random::{self, Random, Shape};
+use reference::refusal::Refusal;
+use reference::roster::{self, Pair, Roster};
+use reference::votes::plan_vote;
+
+/// The calls, as rows of the tally.
+const CALLS: [&str; 8] = [
+    "load roster",
+    "load plan",
+    "write roster",
+    "write plan",
+    "find",
+    "judge",
+    "compare",
+    "blocking",
+];
+
+/// How often each call answered and was refused by each number, 0 for none.
+#[derive(Default)]
+struct Tally([[usize; 16]; CALLS.len()]);
+
+impl Tally {
+    /// Whether the two answers are the same refusal, or both none; counts it.
+    fn refusals<A, B>(&mut self, call: usize, ours: &Result<A, u8>, theirs: &Result<B, Refusal>) {
+        let number = theirs.as_ref().err().map_or(0, |refusal| refusal.number());
+        let own = ours.as_ref().err().copied().unwrap_or(0);
+        assert_eq!(own, number, "{}", CALLS[call]);
+        self.0[call][usize::from(number)] += 1;
+    }
+}
+
+/// What a sequence draws its files from.
+struct Pool {
+    rosters: Vec<Vec<u8>>,
+    plans: Vec<Vec<u8>>,
+}
+
+impl Pool {
+    /// Two rosters and a damaged one; plans of each, one of them damaged.
+    fn new(random: &mut Random) -> Pool {
+        let mut pool = Pool {
+            rosters: Vec::new(),
+            plans: Vec::new(),
+        };
+        for _ in 0..2 {
+            let shape = Shape {
+                counts: [1..=3, 1..=3],
+                quotas: [0..=2, 0..=2],
+                pairs: 75,
+                ties: 50,
+                opposed: 60,
+            };
+            let roster = random::roster(random, &shape);
+            for percent in [60, 90, 100] {
+                let plan = random::plan(random, &roster, percent);
+                pool.plans.push(plan::write(&roster, &plan));
+            }
+            pool.rosters.push(roster::write(&roster));
+        }
+        let mut damaged = pool.rosters[0].clone();
+        damage(random, &mut damaged);
+        pool.rosters.push(damaged);
+        let mut damaged = pool.plans[random.below(6)].clone();
+        damage(random, &mut damaged);
+        pool.plans.push(damaged);
+        pool
+    }
+
+    fn roster(&self, random: &mut Random) -> &[u8] {
+        &self.rosters[random.below(self.rosters.len())]
+    }
+
+    fn plan(&self, random: &mut Random) -> &[u8] {
+        &self.plans[random.below(self.plans.len())]
+    }
+}
+
+/// A size, sometimes below what is needed.
+fn size(random: &mut Random, needed: usize) -> usize {
+    match random.below(10) {
+        0 => needed - 1,
+        1 => random.below(needed),
+        2 => needed + 1,
+        _ => needed,
+    }
+}
+
+/// The two desks side by side.
+struct Desks<D> {
+    ours: D,
+    theirs: reference::desk::Desk,
+}
+
+impl<D: Calls> Desks<D> {
+    /// The held roster and plan, by the reference.
+    fn held(&self) -> (Option<&Roster>, Option<&Plan>) {
+        use reference::desk::Desk;
+        match &self.theirs {
+            Desk::Nothing => (None, None),
+            Desk::Roster(roster) => (Some(roster), None),
+            Desk::RosterAndPlan(roster, plan) => (Some(roster), Some(plan)),
+        }
+    }
+
+    fn load_roster(self, tally: &mut Tally, file: &[u8]) -> Desks<D> {
+        let (ours, answer) = self.ours.load_roster(file);
+        let (theirs, expected) = self.theirs.load_roster(file);
+        tally.refusals(0, &answer, &expected);
+        Desks { ours, theirs }
+    }
+
+    fn load_plan(self, tally: &mut Tally, file: &[u8]) -> Desks<D> {
+        let (ours, answer) = self.ours.load_plan(file);
+        let (theirs, expected) = self.theirs.load_plan(file);
+        tally.refusals(1, &answer, &expected);
+        Desks { ours, theirs }
+    }
+
+    fn write_roster(self, tally: &mut Tally, before: &[u8]) -> Desks<D> {
+        let [mut own, mut other] = [before.to_vec(), before.to_vec()];
+        let (ours, answer) = self.ours.write_roster(&mut own);
+        let (theirs, expected) = self.theirs.write_roster(&mut other);
+        tally.refusals(2, &answer, &expected);
+        assert_eq!((answer.ok(), own), (expected.ok(), other));
+        Desks { ours, theirs }
+    }
+
+    fn write_plan(self, tally: &mut Tally, before: &[u8]) -> Desks<D> {
+        let [mut own, mut other] = [before.to_vec(), before.to_vec()];
+        let (ours, answer) = self.ours.write_plan(&mut own);
+        let (theirs, expected) = self.theirs.write_plan(&mut other);
+        tally.refusals(3, &answer, &expected);
+        assert_eq!((answer.ok(), own), (expected.ok(), other));
+        Desks { ours, theirs }
+    }
+
+    fn find(self, tally: &mut Tally, before: &Buffers) -> Desks<D> {
+        let [mut own, mut other] = [before.clone(), before.clone()];
+        let (ours, answer) = self.ours.find(own.lend());
+        let (theirs, expected) = self.theirs.find(other.lend());
+        tally.refusals(4, &answer, &expected);
+        let desks = Desks { ours, theirs };
+        if let (Ok(found), Ok(expected)) = (answer, expected) {
+            assert_eq!(without_vote(found), without_vote(expected));
+            if let Found::None {
+                kind: NoneKind::Rivalled(vote),
+                ..
+            } = found
+            {
+                let roster = desks.held().0.expect("a roster");
+                let candidate = read_front(roster, &own.plan);
+                check_rival(roster, &candidate, &before.rival, &own.rival, vote);
+                other.rival.clone_from(&own.rival);
+            }
+        }
+        assert_eq!(own, other);
+        desks
+    }
+
+    fn judge(self, tally: &mut Tally, before: &[u8]) -> Desks<D> {
+        let [mut own, mut other] = [before.to_vec(), before.to_vec()];
+        let (ours, answer) = self.ours.judge(&mut own);
+        let (theirs, expected) = self.theirs.judge(&mut other);
+        tally.refusals(5, &answer, &expected);
+        let desks = Desks { ours, theirs };
+        let (Ok(judged), Ok(expected)) = (answer, expected) else {
+            assert_eq!(own, before);
+            return desks;
+        };
+        let vote = match (judged, expected) {
+            (Judged::Strong, Judged::Strong) => {
+                assert_eq!(own, before);
+                return desks;
+            }
+            (Judged::Popular(vote), Judged::Popular(_)) => vote,
+            (Judged::Beaten(vote), Judged::Beaten(_)) => vote,
+            _ => panic!("{judged:?}, but {expected:?}"),
+        };
+        let (Some(roster), Some(plan)) = desks.held() else {
+            panic!("a verdict without roster and plan");
+        };
+        check_rival(roster, plan, before, &own, vote);
+        desks
+    }
+
+    fn compare(self, tally: &mut Tally, first: &[u8], second: &[u8]) -> Desks<D> {
+        let (ours, (answer, part)) = self.ours.compare(first, second);
+        let (theirs, expected) = self.theirs.compare(first, second);
+        tally.refusals(6, &answer, &expected.outcome);
+        let votes = expected.outcome.ok();
+        let votes = votes.map(|votes| (votes.first_against_second, votes.second_against_first));
+        assert_eq!((answer.ok(), part), (votes, expected.part));
+        Desks { ours, theirs }
+    }
+
+    fn blocking(self, tally: &mut Tally) -> Desks<D> {
+        let (ours, answer) = self.ours.blocking();
+        let (theirs, expected) = self.theirs.blocking();
+        tally.refusals(7, &answer, &expected);
+        if let (Ok(named), Ok(pairs)) = (answer, expected) {
+            match named {
+                Some((surveyor, stand)) => assert!(pairs.contains(&Pair { surveyor, stand })),
+                None => assert_eq!(pairs, []),
+            }
+        }
+        Desks { ours, theirs }
+    }
+
+    /// A random call.
+    fn call(self, random: &mut Random, tally: &mut Tally, pool: &Pool) -> Desks<D> {
+        match random.below(12) {
+            0 | 1 => self.load_roster(tally, pool.roster(random)),
+            2..=4 => self.load_plan(tally, pool.plan(random)),
+            5 => {
+                let size = size(random, MAX_ROSTER_BYTES);
+                self.write_roster(tally, &junk(random, size))
+            }
+            6 => {
+                let size = size(random, MAX_PLAN_BYTES);
+                self.write_plan(tally, &junk(random, size))
+            }
+            7 => {
+                let mut sizes = SIZES;
+                if random.chance(20) {
+                    let place = random.below(SIZES.len());
+                    sizes[place] = size(random, sizes[place]);
+                }
+                self.find(tally, &Buffers::new(random, sizes))
+            }
+            8 => {
+                let size = size(random, MAX_PLAN_BYTES);
+                self.judge(tally, &junk(random, size))
+            }
+            9 | 10 => self.compare(tally, pool.plan(random), pool.plan(random)),
+            _ => self.blocking(tally),
+        }
+    }
+}
+
+/// The answer without the vote, of which only the sign is settled.
+fn without_vote(found: Found) -> Found {
+    match found {
+        Found::None {
+            steps,
+            kind: NoneKind::Rivalled(vote),
+        } => Found::None {
+            steps,
+            kind: NoneKind::Rivalled(vote.signum()),
+        },
+        other => other,
+    }
+}
+
+/// The plan at the front of a buffer.
+fn read_front(roster: &Roster, buffer: &[u8]) -> Plan {
+    let front = &buffer[..1 + 2 * usize::from(buffer[0])];
+    plan::read(roster, front).expect("a plan within the quotas")
+}
+
+/// Whether a rival was written, another plan with this vote, and nothing else.
+fn check_rival(roster: &Roster, plan: &Plan, before: &[u8], after: &[u8], vote: i16) {
+    let rival = read_front(roster, after);
+    assert_ne!(rival, *plan);
+    assert_eq!(plan_vote(roster, plan, &rival), vote);
+    only_front(before, after, &plan::write(roster, &rival));
+}
+
+/// Runs so many sequences, each on a desk that `open` gives; every answer that a
+/// call can meet comes at least `least` times.
+pub fn run<D: Calls>(mut open: impl FnMut() -> D, seed: u64, sequences: usize, least: usize) {
+    let mut random = Random::new(seed);
+    let mut tally = Tally::default();
+    let full = [MAX_ROSTER_BYTES, MAX_PLAN_BYTES].map(|size| junk(&mut random, size));
+    for _ in 0..sequences {
+        let pool = Pool::new(&mut random);
+        let mut desks = Desks {
+            ours: open(),
+            theirs: reference::desk::Desk::default(),
+        };
+        if random.chance(80) {
+            desks = desks.load_roster(&mut tally, &pool.rosters[0]);
+        }
+        for _ in 0..4 + random.below(8) {
+            desks = desks.call(&mut random, &mut tally, &pool);
+        }
+        // what is held at the end
+        desks = desks.write_roster(&mut tally, &full[0]);
+        desks.write_plan(&mut tally, &full[1]);
+    }
+    for (call, counts) in CALLS.iter().zip(&tally.0) {
+        println!("{call}: answered and refused {counts:?}");
+    }
+    let plan_refusals = [0, 1, 2, 9, 10, 11, 12, 13];
+    let expected: [&[usize]; CALLS.len()] = [
+        &[0, 1, 2, 3, 4, 5, 6, 7, 8, 9],
+        &plan_refusals,
+        &[0, 13, 15],
+        &[0, 13, 14, 15],
+        &[0, 13, 15],
+        &[0, 13, 14, 15],
+        &plan_refusals,
+        &[0, 13, 14],
+    ];
+    for (call, numbers) in expected.iter().enumerate() {
+        for &number in *numbers {
+            let count = tally.0[call][number];
+            assert!(
+                count >= least,
+                "{}: {number} came {count} times",
+                CALLS[call]
+            );
+        }
+    }
+}
