@@ -1,4 +1,4 @@
--- What a turn of each loop does. Assumes nothing.
+-- The worst ranks after one edge more. Assumes nothing.
 use Prim.Native.Nat.{ℕ, suc, _+_, _≤_, _<_}
 use native.Mathlib.Omega.{arith}
 use native.Mathlib.Numerals.{add-one}
@@ -33,7 +33,6 @@ raise true x w r = go (ltb w r) (ltb→lt w r) (nltb→le w r)
         down true b e f = sym e ∙ f tt
         down false b e f = refl
 
--- ---- the worst ranks
 pub worst-next : (end rank : List ℕ) (p : List Bool) (w : List ℕ) (i : ℕ) → at end i < length w
     → ((v x : ℕ) → ltb x (getD w v 0) ≡ any? (worse end rank p v x) (upTo i))
     → (v x : ℕ)
@@ -62,9 +61,3 @@ worst-next end rank p w i l h v x = rw (add-one) (by-eq (at end i) v
     other true true e b r = absurd (subst T e tt)
     other true false e b r = refl
     other false a e b r = refl
-
--- ---- an array made entry by entry
-pub made-next : (o : List ℕ) (f : ℕ → ℕ) (i : ℕ) → i < length o → ((e : ℕ) → e < i → getD o e 0 ≡ f e) → (e : ℕ) → e < i + 1 → getD (set o i (f i)) e 0 ≡ f e
-made-next o f i l h e k = by-eq e i
-    (λ q t. subst (λ z. getD (set o i (f i)) z 0 ≡ f z) (sym q) (getD-set-same o i (f i) 0 l))
-    (λ n t. getD-set-other o i e (f i) 0 n ∙ h e (omega arith))

@@ -1,4 +1,4 @@
--- What the passes over one side's arrays compute: degrees, worst ranks, thresholds. When a node yields to an edge is the model's (Blocking).
+-- What the passes over one side's arrays compute: worst ranks and thresholds, beside the degrees (reduction_counts, Filled). When a node yields to an edge is the model's (Blocking).
 use Prim.Native.Nat.{ℕ, _≤_, _<_}
 use mathlib.Core.Path.{_≡_, ap, _∙_}
 use mathlib.Core.Bool.{Bool, true, false, cond, _&&_, _||_}
@@ -6,20 +6,18 @@ use mathlib.Core.List.{List}
 use lib.ListN.{getD}
 use lib.Dec.{eqb, ltb}
 use borrow.Author.Tests.{lt-ltb}
-use Rattle.lists.specs.Sum.{upTo, count}
+use Rattle.lists.specs.Sum.{upTo}
 use Rattle.lists.specs.Keep.{any?}
 use Rattle.model.specs.Limits.{emptyRank, nodeLimit, entryLimit}
 use Rattle.model.specs.Instance.{Side, deg}
 use Rattle.model.specs.Blocking.{yields}
 use Rattle.arrays.specs.ArrayInstance.{at, flag}
+use Rattle.reduction_counts.specs.Filled.{Tally}
 
 -- the edges and their nodes on one side
 pub record Edges (m : ℕ) (end : List ℕ) : Type 0 where
   pub edges : m ≤ entryLimit
   pub ends : (e : ℕ) → e < m → at end e < nodeLimit
-
-abbrev pub Degrees : ℕ → List ℕ → List Bool → List ℕ → Type 0
-Degrees m end p t = (v : ℕ) → getD t v 0 ≡ count (λ e. flag p e && eqb (at end e) v) m
 
 -- a rank is better than the worst at the node exactly if some edge of the plan there is worse than it
 abbrev pub worse : List ℕ → List ℕ → List Bool → ℕ → ℕ → ℕ → Bool
@@ -38,7 +36,7 @@ Thresholds m end rank quota p l = (n : ℕ) (tie : ℕ → Bool) (e : ℕ) → e
     → ltb (at rank e) (getD l (at end e) 0) ≡ yields (sideOf m n end rank quota tie) (flag p) e
 
 -- ---- a node's worst place
-pub thresholds-yield : (m : ℕ) (end rank quota : List ℕ) (p : List Bool) (d w l : List ℕ) → Edges m end → Degrees m end p d → Worst m end rank p w
+pub thresholds-yield : (m : ℕ) (end rank quota : List ℕ) (p : List Bool) (d w l : List ℕ) → Edges m end → Tally d m end p → Worst m end rank p w
     → ((v : ℕ) → v < 32 → getD l v 0 ≡ cond (ltb (at d v) (at quota v)) 33 (at w v)) → Thresholds m end rank quota p l
 unfolding deg
 thresholds-yield m end rank quota p d w l h hd hw hl n tie e k r =

@@ -6,22 +6,7 @@ ghost use Prim.Native.Nat.{ℕ, _<_};
 ghost use lib.Dec.{ltb};
 ghost use lib.ListN.{getD};
 ghost use Rattle.arrays.specs.ArrayInstance.{at};
-ghost use Rattle.blocking_thresholds.specs.Threshold.{Edges, Degrees, Worst, Thresholds};
-
-// How many edges of the plan each node has.
-pub fn degrees(m: usize, end: &[u8; 1024], p: &[bool; 1024]) -> [u16; 32]
-    requires { ⌜ Edges m (now end) ⌝ }
-    ensures { λ r. ⌜ Degrees m (now (end .entry)) (now (p .entry)) r ⌝ }
-{
-    let mut t = [0u16; 32];
-    let mut i = 0;
-    while i < m {
-        let v = end[i] as usize;
-        t[v] += p[i] as u16;
-        i += 1;
-    }
-    t
-}
+ghost use Rattle.blocking_thresholds.specs.Threshold.{Edges, Worst, Thresholds};
 
 // The greater of two ranks, if the second counts.
 fn raised(w: u8, r: u8, counts: bool) -> u8
@@ -83,7 +68,7 @@ pub fn side_thresholds(
     requires { ⌜ Edges m (now end) ⌝ }
     ensures { λ r. ⌜ Thresholds m (now (end .entry)) (now (rank .entry)) (now (quota .entry)) (now (p .entry)) r ⌝ }
 {
-    let d = degrees(m, end, p);
+    let d = reduction_counts::tally(m, end, p);
     let w = worst(m, end, rank, p);
     thresholds(&d, quota, &w)
 }

@@ -1,4 +1,4 @@
--- The prices of the arcs, read from arrays. Of the edges of the plan are known their surveyors ps, stands pt and ranks qs, qt there, by
+-- The prices of the arcs, read from arrays. Of the edges of the plan are known their surveyors ps, stands pt and ranks rps, rpt there, by
 -- their places in the plan's list; of all m edges sv, st, rs, rt, and which are in the plan.
 use Prim.Native.Nat.{ℕ, _+_, _-_, _≤_, _<_}
 use native.Mathlib.Omega.{arith}

@@ -35,11 +35,11 @@ listed-low m plan n es l i h =
     omega arith
 
 -- ends and ranks of the plan's edges, by their places
-pub record Views (n : ℕ) (es sv st rs rt ps pt qs qt : List ℕ) : Type 0 where
+pub record Views (n : ℕ) (es sv st rs rt ps pt rps rpt : List ℕ) : Type 0 where
   pub sv-at : Made 0 ps (λ i. at sv (at es i)) n
   pub st-at : Made 0 pt (λ i. at st (at es i)) n
-  pub rs-at : Made 0 qs (λ i. at rs (at es i)) n
-  pub rt-at : Made 0 qt (λ i. at rt (at es i)) n
+  pub rs-at : Made 0 rps (λ i. at rs (at es i)) n
+  pub rt-at : Made 0 rpt (λ i. at rt (at es i)) n
 
 -- room at the nodes of one side
 abbrev pub Roomy : ℕ → (nodes quota : List ℕ) → List Bool → Type 0
@@ -50,13 +50,13 @@ abbrev pub freeAt : (sv st : List ℕ) (plan roomS roomT : List Bool) → ℕ �
 freeAt sv st plan roomS roomT f = not (flag plan f) && (flag roomS (at sv f) && flag roomT (at st f))
 
 -- the two tables, from the views
-abbrev pub arcCell : (m : ℕ) (sv st rs rt : List ℕ) (plan : List Bool) (ps pt qs qt : List ℕ) → ℕ → ℕ → ℕ
-arcCell m sv st rs rt plan ps pt qs qt i j = arcPrice m sv st rs rt plan (at pt i) (at qt i) (at ps j) (at qs j)
+abbrev pub arcCell : (m : ℕ) (sv st rs rt : List ℕ) (plan : List Bool) (ps pt rps rpt : List ℕ) → ℕ → ℕ → ℕ
+arcCell m sv st rs rt plan ps pt rps rpt i j = arcPrice m sv st rs rt plan (at pt i) (at rpt i) (at ps j) (at rps j)
 
-abbrev pub terminalCell : (m : ℕ) (sv st rs rt : List ℕ) (plan roomS roomT : List Bool) (ps pt qs qt : List ℕ) → ℕ → ℕ → ℕ
-terminalCell m sv st rs rt plan roomS roomT ps pt qs qt i j =
-    min (min (gainPriceBut m sv st rs plan roomT 3 (at ps i) (at qs i) (at pt j)) (gainPriceBut m st sv rt plan roomS 3 (at pt j) (at qt j) (at ps i)) + 3)
-    (gainPrice m sv st rs plan roomT 6 (at ps i) (at qs i) + gainPrice m st sv rt plan roomS 6 (at pt j) (at qt j))
+abbrev pub terminalCell : (m : ℕ) (sv st rs rt : List ℕ) (plan roomS roomT : List Bool) (ps pt rps rpt : List ℕ) → ℕ → ℕ → ℕ
+terminalCell m sv st rs rt plan roomS roomT ps pt rps rpt i j =
+    min (min (gainPriceBut m sv st rs plan roomT 3 (at ps i) (at rps i) (at pt j)) (gainPriceBut m st sv rt plan roomS 3 (at pt j) (at rpt j) (at ps i)) + 3)
+    (gainPrice m sv st rs plan roomT 6 (at ps i) (at rps i) + gainPrice m st sv rt plan roomS 6 (at pt j) (at rpt j))
 
 count-same : (p q : ℕ → Bool) (n : ℕ) → ((e : ℕ) → e < n → p e ≡ q e) → count p n ≡ count q n
 unfolding count
@@ -87,9 +87,9 @@ unfolding gainPrice
 gain-small m end other rank plan room e b = cheapest-≤ (gainable end other plan room e) (λ f. rate b (at rank f)) 6 0 m
 
 -- ---- the tables show the instance's prices
-module _ (m ns nt : ℕ) (sv st rs rt : List ℕ) (tied : List Bool) (quotaS quotaT : List ℕ) (plan : List Bool) (n : ℕ) (es ps pt qs qt : List ℕ)
+module _ (m ns nt : ℕ) (sv st rs rt : List ℕ) (tied : List Bool) (quotaS quotaT : List ℕ) (plan : List Bool) (n : ℕ) (es ps pt rps rpt : List ℕ)
     (roomS roomT : List Bool)
-    (lowS : Low m sv 32) (lowT : Low m st 32) (lists : Lists m plan n es) (views : Views n es sv st rs rt ps pt qs qt)
+    (lowS : Low m sv 32) (lowT : Low m st 32) (lists : Lists m plan n es) (views : Views n es sv st rs rt ps pt rps rpt)
     (roomyS : Roomy n ps quotaS roomS) (roomyT : Roomy n pt quotaT roomT) where
   abbrev G : Instance
   G = shown m ns nt sv st rs rt tied quotaS quotaT
@@ -97,11 +97,11 @@ module _ (m ns nt : ℕ) (sv st rs rt : List ℕ) (tied : List Bool) (quotaS quo
   abbrev M : ℕ → Bool
   M = flag plan
 
-  pub arc-shown : (i j : ℕ) → i < n → j < n → arcCell m sv st rs rt plan ps pt qs qt i j ≡ arc G M 133 (at es i) (at es j) .0
+  pub arc-shown : (i j : ℕ) → i < n → j < n → arcCell m sv st rs rt plan ps pt rps rpt i j ≡ arc G M 133 (at es i) (at es j) .0
   unfolding arcPrice
   arc-shown i j il jl =
       cheapest-cong (joining sv st plan (at pt i) (at ps j)) (λ f. not (M f) && (eqb (at st f) (at st (at es i)) && eqb (at sv f) (at sv (at es j))))
-      (priceOf rs rt (at qt i) (at qs j)) (λ f. rate (at rt (at es i)) (at rt f) + rate (at rs (at es j)) (at rs f)) 133 0 m
+      (priceOf rs rt (at rpt i) (at rps j)) (λ f. rate (at rt (at es i)) (at rt f) + rate (at rs (at es j)) (at rs f)) 133 0 m
       (λ f p q. ap₂ (λ t s. not (M f) && (eqb (at st f) t && eqb (at sv f) s)) (views .st-at i il) (views .sv-at j jl))
       (λ f p q. ap₂ (λ b a. rate b (at rt f) + rate a (at rs f)) (views .rt-at i il) (views .rs-at j jl))
       ∙ sym (arc-is G M (at es i) (at es j))
@@ -121,28 +121,28 @@ module _ (m ns nt : ℕ) (sv st rs rt : List ℕ) (tied : List Bool) (quotaS quo
   pub free-shown : (f : ℕ) → f < m → freeAt sv st plan roomS roomT f ≡ not (M f) && (room? M (surveyors G) f && room? M (stands G) f)
   free-shown f h = ap₂ (λ a b. not (M f) && (a && b)) (room-S f h) (room-T f h)
 
-  pub terminal-shown : (i j : ℕ) → i < n → j < n → terminalCell m sv st rs rt plan roomS roomT ps pt qs qt i j ≡ terminal G M (at es i) (at es j) .0
+  pub terminal-shown : (i j : ℕ) → i < n → j < n → terminalCell m sv st rs rt plan roomS roomT ps pt rps rpt i j ≡ terminal G M (at es i) (at es j) .0
   unfolding gainPrice gainPriceBut
   terminal-shown i j il jl = ap₂ (λ a b. min (a + 3) b) (ap₂ min
       (cheapest-cong (gainableBut sv st plan roomT (at ps i) (at pt j))
-      (λ f. (not (M f) && (eqb (at sv f) (at sv x) && room? M (stands G) f)) && not (eqb (at st f) (at st y))) (λ f. rate (at qs i) (at rs f))
+      (λ f. (not (M f) && (eqb (at sv f) (at sv x) && room? M (stands G) f)) && not (eqb (at st f) (at st y))) (λ f. rate (at rps i) (at rs f))
       (λ f. rate (at rs x) (at rs f)) 3 0 m
       (λ f p q. ap₂ (λ s t. (not (M f) && (eqb (at sv f) s && flag roomT (at st f))) && not (eqb (at st f) t)) (views .sv-at i il) (views .st-at j jl)
       ∙ ap (λ r. (not (M f) && (eqb (at sv f) (at sv x) && r)) && not (eqb (at st f) (at st y))) (room-T f (omega arith)))
       (λ f p q. ap (λ a. rate a (at rs f)) (views .rs-at i il)))
       (cheapest-cong (gainableBut st sv plan roomS (at pt j) (at ps i))
-      (λ f. (not (M f) && (eqb (at st f) (at st y) && room? M (surveyors G) f)) && not (eqb (at sv f) (at sv x))) (λ f. rate (at qt j) (at rt f))
+      (λ f. (not (M f) && (eqb (at st f) (at st y) && room? M (surveyors G) f)) && not (eqb (at sv f) (at sv x))) (λ f. rate (at rpt j) (at rt f))
       (λ f. rate (at rt y) (at rt f)) 3 0 m
       (λ f p q. ap₂ (λ s t. (not (M f) && (eqb (at st f) t && flag roomS (at sv f))) && not (eqb (at sv f) s)) (views .sv-at i il) (views .st-at j jl)
       ∙ ap (λ r. (not (M f) && (eqb (at st f) (at st y) && r)) && not (eqb (at sv f) (at sv x))) (room-S f (omega arith)))
       (λ f p q. ap (λ a. rate a (at rt f)) (views .rt-at j jl))))
       (ap₂ (λ a b. a + b)
       (cheapest-cong (gainable sv st plan roomT (at ps i)) (λ f. not (M f) && (eqb (at sv f) (at sv x) && room? M (stands G) f))
-      (λ f. rate (at qs i) (at rs f)) (λ f. rate (at rs x) (at rs f)) 6 0 m
+      (λ f. rate (at rps i) (at rs f)) (λ f. rate (at rs x) (at rs f)) 6 0 m
       (λ f p q. ap₂ (λ s r. not (M f) && (eqb (at sv f) s && r)) (views .sv-at i il) (room-T f (omega arith)))
       (λ f p q. ap (λ a. rate a (at rs f)) (views .rs-at i il)))
       (cheapest-cong (gainable st sv plan roomS (at pt j)) (λ f. not (M f) && (eqb (at st f) (at st y) && room? M (surveyors G) f))
-      (λ f. rate (at qt j) (at rt f)) (λ f. rate (at rt y) (at rt f)) 6 0 m
+      (λ f. rate (at rpt j) (at rt f)) (λ f. rate (at rt y) (at rt f)) 6 0 m
       (λ f p q. ap₂ (λ s r. not (M f) && (eqb (at st f) s && r)) (views .st-at j jl) (room-S f (omega arith)))
       (λ f p q. ap (λ a. rate a (at rt f)) (views .rt-at j jl))))
       ∙ sym (terminal-is G M (at es i) (at es j))
@@ -153,8 +153,8 @@ module _ (m ns nt : ℕ) (sv st rs rt : List ℕ) (tied : List Bool) (quotaS quo
       y : ℕ
       y = at es j
 
-  pub search-shown : (arcs terminals : List ℕ) (k : ℕ) → Grid arcs n (arcCell m sv st rs rt plan ps pt qs qt)
-      → Grid terminals n (terminalCell m sv st rs rt plan roomS roomT ps pt qs qt)
+  pub search-shown : (arcs terminals : List ℕ) (k : ℕ) → Grid arcs n (arcCell m sv st rs rt plan ps pt rps rpt)
+      → Grid terminals n (terminalCell m sv st rs rt plan roomS roomT ps pt rps rpt)
       → 2 * n + 4 + k ≤ 133 → hitOf G M es (searchAt m (freeAt sv st plan roomS roomT) arcs terminals n k) ≡ search G M 133 k n
   search-shown arcs terminals k a t h =
       search-is G M es n lists arcs terminals (λ i j il jl. a i j il jl ∙ arc-shown i j il jl) (λ i j il jl. t i j il jl ∙ terminal-shown i j il jl)

@@ -26,10 +26,10 @@ searched (found.Closed l i) o = (true, found.Closed l i)
 searched (found.Open l i j) o = (true, found.Open l i j)
 
 -- on the table of the arcs and that of the ends
-abbrev pub Searched : (m : ℕ) (sv st rs rt : List ℕ) (plan : List Bool) (n : ℕ) (ps pt qs qt : List ℕ) (roomS roomT : List Bool) (arcs : List ℕ)
+abbrev pub Searched : (m : ℕ) (sv st rs rt : List ℕ) (plan : List Bool) (n : ℕ) (ps pt rps rpt : List ℕ) (roomS roomT : List Bool) (arcs : List ℕ)
     → Bool → Found → Type 0
-Searched m sv st rs rt plan n ps pt qs qt roomS roomT arcs below what =
-    (terminals : List ℕ) × Grid terminals n (terminalCell m sv st rs rt plan roomS roomT ps pt qs qt)
+Searched m sv st rs rt plan n ps pt rps rpt roomS roomT arcs below what =
+    (terminals : List ℕ) × Grid terminals n (terminalCell m sv st rs rt plan roomS roomT ps pt rps rpt)
     ×
     (_≡_ {A = Bool × Found} (below, what)
     (searched (searchAt m (freeAt sv st plan roomS roomT) arcs terminals n 0) (searchAt m (freeAt sv st plan roomS roomT) arcs terminals n 1)))
@@ -79,10 +79,10 @@ module _ (m : ℕ) (arcs terminals : List ℕ) (n k : ℕ) where
       (λ t. if-ind (Bounded m n) (ltb (diagAt (cell terminals) n (4 + k)) n) (λ t. ltb→lt (diagAt (cell terminals) n (4 + k)) n t)
       (λ t. levels-bounded n 0 (omega arith)))
 
-pub searching-bounded : (m : ℕ) (sv st rs rt : List ℕ) (plan : List Bool) (n : ℕ) (ps pt qs qt : List ℕ) (roomS roomT : List Bool) (arcs : List ℕ)
+pub searching-bounded : (m : ℕ) (sv st rs rt : List ℕ) (plan : List Bool) (n : ℕ) (ps pt rps rpt : List ℕ) (roomS roomT : List Bool) (arcs : List ℕ)
     (below : Bool) (what : Found)
-    → Searched m sv st rs rt plan n ps pt qs qt roomS roomT arcs below what → Bounded m n what
-searching-bounded m sv st rs rt plan n ps pt qs qt roomS roomT arcs below what (terminals, t, e) = subst (λ (h : Bool × Found). Bounded m n (h .1)) (sym e)
+    → Searched m sv st rs rt plan n ps pt rps rpt roomS roomT arcs below what → Bounded m n what
+searching-bounded m sv st rs rt plan n ps pt rps rpt roomS roomT arcs below what (terminals, t, e) = subst (λ (h : Bool × Found). Bounded m n (h .1)) (sym e)
     (searched-bounded m n (searchAt m free arcs terminals n 0) (searchAt m free arcs terminals n 1) (search-bounded m arcs terminals n 0 free)
     (search-bounded m arcs terminals n 1 free))
   where

@@ -9,7 +9,7 @@ use lib.ListN.{length, getD, length-set, length-replicate}
 use lib.Dec.{ltb}
 use borrow.Author.Needs.{needs}
 use Rattle.arrays.specs.ArrayInstance.{at}
-use Rattle.blocking_thresholds.proofs.WorstRank.{made-next}
+use Rattle.reduction_counts.specs.Filled.{made-next}
 use Rattle.blocking_thresholds.proofs.thresholds.Statement.{statement}
 use Rattle.blocking_thresholds.proofs.thresholds.Tie as tie
 
@@ -31,7 +31,7 @@ loop-again c =
     let a = l .before .args in (
       omega arith,
       simp length-set (l .loop .inv .1),
-      rw (c .threshold .ensures) (made-next (l .loop .o) (entry (a .d .now) (a .quota .now) (a .w .now)) (l .loop .i) (omega arith) (l .loop .inv .2)),
+      rw (c .threshold .ensures) (made-next 0 (l .loop .o) (entry (a .d .now) (a .quota .now) (a .w .now)) (l .loop .i) (omega arith) (l .loop .inv .2)),
     )
 
 returns : tie.Need-returns Inv-loop μ-loop

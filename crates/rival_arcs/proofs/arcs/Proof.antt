@@ -10,10 +10,10 @@ use Rattle.rival_arcs.proofs.arcs.Statement.{statement}
 use Rattle.rival_arcs.proofs.arcs.Tie as tie
 
 abbrev Inv-loop : tie.InvT-loop
-Inv-loop m sv st rs rt plan n ps pt qs qt o₀ i₀ o i = (i ≤ n) × Rows o i (λ i j. arcPrice m sv st rs rt plan (at pt i) (at qt i) (at ps j) (at qs j))
+Inv-loop m sv st rs rt plan n ps pt rps rpt o₀ i₀ o i = (i ≤ n) × Rows o i (λ i j. arcPrice m sv st rs rt plan (at pt i) (at rpt i) (at ps j) (at rps j))
 
 abbrev μ-loop : tie.MeasureT-loop
-μ-loop m sv st rs rt plan n ps pt qs qt o₀ i₀ o i = n - i
+μ-loop m sv st rs rt plan n ps pt rps rpt o₀ i₀ o i = n - i
 
 loop-holds : tie.Need-loop-holds Inv-loop μ-loop
 loop-holds c = (zero-le, λ i j h. absurd (not-suc-le-zero h))
@@ -24,8 +24,8 @@ loop-again c =
     let a = l .before .args in (
       omega arith,
       rows-next (l .loop .o) (c .before .arc-row .result) (c .put-row .result)
-          (λ i j. arcPrice (a .m) (a .sv .now) (a .st .now) (a .rs .now) (a .rt .now) (a .plan .now) (at (a .pt .now) i) (at (a .qt .now) i)
-          (at (a .ps .now) j) (at (a .qs .now) j))
+          (λ i j. arcPrice (a .m) (a .sv .now) (a .st .now) (a .rs .now) (a .rt .now) (a .plan .now) (at (a .pt .now) i) (at (a .rpt .now) i)
+          (at (a .ps .now) j) (at (a .rps .now) j))
           (l .loop .i) (l .loop .inv .1) (c .before .arc-row .ensures) (c .put-row .ensures),
     )
 

@@ -14,10 +14,10 @@ use Rattle.rival_arcs.proofs.joined.Statement.{statement}
 use Rattle.rival_arcs.proofs.joined.Tie as tie
 
 abbrev Inv-loop : tie.InvT-loop
-Inv-loop ps qs s r a row o₀ j₀ o j = (j ≤ 64) × (length o ≡ 64) × Made 0 o (λ k. offer (eqb s (at ps k)) (a + rate (at qs k) r) (at row k)) j
+Inv-loop ps rps s r a row o₀ j₀ o j = (j ≤ 64) × (length o ≡ 64) × Made 0 o (λ k. offer (eqb s (at ps k)) (a + rate (at rps k) r) (at row k)) j
 
 abbrev μ-loop : tie.MeasureT-loop
-μ-loop ps qs s r a row o₀ j₀ o j = 64 - j
+μ-loop ps rps s r a row o₀ j₀ o j = 64 - j
 
 loop-holds : tie.Need-loop-holds Inv-loop μ-loop
 loop-holds c = (zero-le, refl, λ e h. absurd (not-suc-le-zero h))
@@ -26,7 +26,7 @@ loop-again : tie.Need-loop-again Inv-loop μ-loop
 loop-again c =
     let l = c .before .before .before .before .before in
     let a = l .before .args in
-    let f : ℕ → ℕ = (λ k. offer (eqb (a .s) (at (a .ps .now) k)) (a .a + rate (at (a .qs .now) k) (a .r)) (at (a .t1) k)) in (
+    let f : ℕ → ℕ = (λ k. offer (eqb (a .s) (at (a .ps .now) k)) (a .a + rate (at (a .rps .now) k) (a .r)) (at (a .t1) k)) in (
       omega arith,
       simp length-set (l .loop .inv .1),
       made-set 0 (l .loop .o) f (l .loop .j) (c .offered .result) (omega arith)

@@ -10,10 +10,10 @@ use Rattle.rival_capacity.proofs.direct.Statement.{statement}
 use Rattle.rival_capacity.proofs.direct.Tie as tie
 
 abbrev Inv-loop : tie.InvT-loop
-Inv-loop m sv st plan rs rt f₀ f = (f ≤ m) × (low (λ f. not (flag plan f) && (flag rs (at sv f) && flag rt (at st f))) f ≡ f)
+Inv-loop m sv st plan fs ft f₀ f = (f ≤ m) × (low (λ f. not (flag plan f) && (flag fs (at sv f) && flag ft (at st f))) f ≡ f)
 
 abbrev μ-loop : tie.MeasureT-loop
-μ-loop m sv st plan rs rt f₀ f = m - f
+μ-loop m sv st plan fs ft f₀ f = m - f
 
 loop-holds : tie.Need-loop-holds Inv-loop μ-loop
 unfolding low
@@ -37,7 +37,7 @@ returns c =
     let l = c .before .before .before .before .before .before .before in
     let a = c .before .before .before .before .before .before .before .before .args in
     sym
-    (low-hit (λ f. not (flag (a .plan .now) f) && (flag (a .rs .now) (at (a .sv .now) f) && flag (a .rt .now) (at (a .st .now) f))) (l .loop .f)
+    (low-hit (λ f. not (flag (a .plan .now) f) && (flag (a .fs .now) (at (a .sv .now) f) && flag (a .ft .now) (at (a .st .now) f))) (l .loop .f)
     (a .m) (l .loop .inv .1) (c .if1 .taken) (omega arith))
 
 loop-again : tie.Need-loop-again Inv-loop μ-loop
@@ -45,7 +45,7 @@ loop-again c =
     let l = c .before .before .before .before .before .before .before in
     let a = c .before .before .before .before .before .before .before .before .args in (
       omega arith,
-      low-miss (λ f. not (flag (a .plan .now) f) && (flag (a .rs .now) (at (a .sv .now) f) && flag (a .rt .now) (at (a .st .now) f))) (l .loop .f)
+      low-miss (λ f. not (flag (a .plan .now) f) && (flag (a .fs .now) (at (a .sv .now) f) && flag (a .ft .now) (at (a .st .now) f))) (l .loop .f)
           (l .loop .inv .1) (c .if1 .left),
     )
 
@@ -54,7 +54,7 @@ returns-2 c =
     let l = c .before in
     let a = c .before .before .args in
     let e : l .loop .f ≡ a .m = omega arith in
-    sym (l .loop .inv .1) ∙ ap (low (λ f. not (flag (a .plan .now) f) && (flag (a .rs .now) (at (a .sv .now) f) && flag (a .rt .now) (at (a .st .now) f)))) e
+    sym (l .loop .inv .1) ∙ ap (low (λ f. not (flag (a .plan .now) f) && (flag (a .fs .now) (at (a .sv .now) f) && flag (a .ft .now) (at (a .st .now) f)))) e
 
 pub direct-spec : {M : Type 1} → statement M
 direct-spec =

@@ -34,11 +34,11 @@ search-requires c κs =
     let a = s .args in
     let e : (i j : ℕ) → i < a .n → j < 64
     → cell (a .arcs .now) i j ≡ arcCell (a .m) (a .sv .now) (a .st .now) (a .rs .now) (a .rt .now) (a .plan .now) (a .ps .now) (a .pt .now)
-    (a .qs .now) (a .qt .now) i j =
+    (a .rps .now) (a .rpt .now) i j =
     s .pre .4 in
     let t : (i j : ℕ) → i < a .n → j < a .n
     → cell (c .before .terminal-table .result) i j ≡ terminalCell (a .m) (a .sv .now) (a .st .now) (a .rs .now) (a .rt .now) (a .plan .now)
-    (a .fs .now) (a .ft .now) (a .ps .now) (a .pt .now) (a .qs .now) (a .qt .now) i j =
+    (a .fs .now) (a .ft .now) (a .ps .now) (a .pt .now) (a .rps .now) (a .rpt .now) i j =
     c .before .terminal-table .ensures in (
       s .pre .0,
       s .pre .1,
@@ -48,19 +48,19 @@ search-requires c κs =
       (λ i j h k. omega (
         arith,
         e i j h k,
-        arc-small (a .m) (a .sv .now) (a .st .now) (a .rs .now) (a .rt .now) (a .plan .now) (at (a .pt .now) i) (at (a .qt .now) i)
-            (at (a .ps .now) j) (at (a .qs .now) j),
+        arc-small (a .m) (a .sv .now) (a .st .now) (a .rs .now) (a .rt .now) (a .plan .now) (at (a .pt .now) i) (at (a .rpt .now) i)
+            (at (a .ps .now) j) (at (a .rps .now) j),
       )),
       (λ i j h k l. omega (
         arith,
         e i j h k,
-        arc-cheap (a .m) (a .sv .now) (a .st .now) (a .rs .now) (a .rt .now) (a .plan .now) (at (a .pt .now) i) (at (a .qt .now) i)
-            (at (a .ps .now) j) (at (a .qs .now) j) (omega (arith, e i j h k)),
+        arc-cheap (a .m) (a .sv .now) (a .st .now) (a .rs .now) (a .rt .now) (a .plan .now) (at (a .pt .now) i) (at (a .rpt .now) i)
+            (at (a .ps .now) j) (at (a .rps .now) j) (omega (arith, e i j h k)),
       )),
       (λ i j h k. omega (
         arith,
         t i j h k,
-        but-small (a .m) (a .sv .now) (a .st .now) (a .rs .now) (a .plan .now) (a .ft .now) (at (a .ps .now) i) (at (a .qs .now) i) (at (a .pt .now) j),
+        but-small (a .m) (a .sv .now) (a .st .now) (a .rs .now) (a .plan .now) (a .ft .now) (at (a .ps .now) i) (at (a .rps .now) i) (at (a .pt .now) j),
       )),
     )
 
@@ -70,11 +70,11 @@ search-requires-2 c κs =
     let a = s .args in
     let e : (i j : ℕ) → i < a .n → j < 64
     → cell (a .arcs .now) i j ≡ arcCell (a .m) (a .sv .now) (a .st .now) (a .rs .now) (a .rt .now) (a .plan .now) (a .ps .now) (a .pt .now)
-    (a .qs .now) (a .qt .now) i j =
+    (a .rps .now) (a .rpt .now) i j =
     s .pre .4 in
     let t : (i j : ℕ) → i < a .n → j < a .n
     → cell (c .before .before .before .before .before .terminal-table .result) i j ≡ terminalCell (a .m) (a .sv .now) (a .st .now) (a .rs .now)
-    (a .rt .now) (a .plan .now) (a .fs .now) (a .ft .now) (a .ps .now) (a .pt .now) (a .qs .now) (a .qt .now) i j =
+    (a .rt .now) (a .plan .now) (a .fs .now) (a .ft .now) (a .ps .now) (a .pt .now) (a .rps .now) (a .rpt .now) i j =
     c .before .before .before .before .before .terminal-table .ensures in (
       s .pre .0,
       s .pre .1,
@@ -84,19 +84,19 @@ search-requires-2 c κs =
       (λ i j h k. omega (
         arith,
         e i j h k,
-        arc-small (a .m) (a .sv .now) (a .st .now) (a .rs .now) (a .rt .now) (a .plan .now) (at (a .pt .now) i) (at (a .qt .now) i)
-            (at (a .ps .now) j) (at (a .qs .now) j),
+        arc-small (a .m) (a .sv .now) (a .st .now) (a .rs .now) (a .rt .now) (a .plan .now) (at (a .pt .now) i) (at (a .rpt .now) i)
+            (at (a .ps .now) j) (at (a .rps .now) j),
       )),
       (λ i j h k l. omega (
         arith,
         e i j h k,
-        arc-cheap (a .m) (a .sv .now) (a .st .now) (a .rs .now) (a .rt .now) (a .plan .now) (at (a .pt .now) i) (at (a .qt .now) i)
-            (at (a .ps .now) j) (at (a .qs .now) j) (omega (arith, e i j h k)),
+        arc-cheap (a .m) (a .sv .now) (a .st .now) (a .rs .now) (a .rt .now) (a .plan .now) (at (a .pt .now) i) (at (a .rpt .now) i)
+            (at (a .ps .now) j) (at (a .rps .now) j) (omega (arith, e i j h k)),
       )),
       (λ i j h k. omega (
         arith,
         t i j h k,
-        but-small (a .m) (a .sv .now) (a .st .now) (a .rs .now) (a .plan .now) (a .ft .now) (at (a .ps .now) i) (at (a .qs .now) i) (at (a .pt .now) j),
+        but-small (a .m) (a .sv .now) (a .st .now) (a .rs .now) (a .plan .now) (a .ft .now) (at (a .ps .now) i) (at (a .rps .now) i) (at (a .pt .now) j),
       )),
     )
 

@@ -29,14 +29,14 @@ terminals-requires c κs =
             λ i j h k. omega (
               arith,
               c .before .before .before .before .before .before .before .apart .ensures i j h (omega arith),
-              but-small (a .m) (a .sv .now) (a .st .now) (a .rs .now) (a .plan .now) (a .ft .now) (at (a .ps .now) i) (at (a .qs .now) i)
+              but-small (a .m) (a .sv .now) (a .st .now) (a .rs .now) (a .plan .now) (a .ft .now) (at (a .ps .now) i) (at (a .rps .now) i)
                   (at (a .pt .now) j),
             );
         stop =
             λ i j h k. omega (
               arith,
               c .before .before .before .before .before .before .apart2 .ensures i j h (omega arith),
-              but-small (a .m) (a .st .now) (a .sv .now) (a .rt .now) (a .plan .now) (a .fs .now) (at (a .pt .now) i) (at (a .qt .now) i)
+              but-small (a .m) (a .st .now) (a .sv .now) (a .rt .now) (a .plan .now) (a .fs .now) (at (a .pt .now) i) (at (a .rpt .now) i)
                   (at (a .ps .now) j),
             );
         both =
@@ -44,8 +44,8 @@ terminals-requires c κs =
               arith,
               c .before .before .before .before .before .gains .ensures i h,
               c .before .before .before .before .gains2 .ensures j k,
-              gain-small (a .m) (a .sv .now) (a .st .now) (a .rs .now) (a .plan .now) (a .ft .now) (at (a .ps .now) i) (at (a .qs .now) i),
-              gain-small (a .m) (a .st .now) (a .sv .now) (a .rt .now) (a .plan .now) (a .fs .now) (at (a .pt .now) j) (at (a .qt .now) j),
+              gain-small (a .m) (a .sv .now) (a .st .now) (a .rs .now) (a .plan .now) (a .ft .now) (at (a .ps .now) i) (at (a .rps .now) i),
+              gain-small (a .m) (a .st .now) (a .sv .now) (a .rt .now) (a .plan .now) (a .fs .now) (at (a .pt .now) j) (at (a .rpt .now) j),
             );
       },
     )
