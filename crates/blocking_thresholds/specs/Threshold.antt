@@ -1,4 +1,5 @@
--- What the passes over one side's arrays compute: worst ranks and thresholds, beside the degrees (reduction_counts, Filled). When a node yields to an edge is the model's (Blocking).
+-- What the passes over one side's arrays compute: worst ranks and thresholds, beside the degrees (reduction_counts, Filled). When a node yields to an
+-- edge is the model's (Blocking).
 use Prim.Native.Nat.{ℕ, _≤_, _<_}
 use mathlib.Core.Path.{_≡_, ap, _∙_}
 use mathlib.Core.Bool.{Bool, true, false, cond, _&&_, _||_}

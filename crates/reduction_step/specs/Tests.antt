@@ -11,7 +11,8 @@ use borrow.Author.Tests.{le-leb}
 use Rattle.lists.specs.Test.{by-eq, by-test, bool-eq, and-l, and-r, and-i, or-l, or-r, or-case, eq→eqb, eqb-yes, eqb-no, bit}
 use Rattle.lists.specs.Search.{low, low-cong}
 use Rattle.model.specs.Instance.{Side, surveyors, stands, deg}
-use Rattle.model.specs.Reduction.{cutS, arrowS, arrowT, degS, degT, loose, reserved, betterS, betterT, worseReserved, rule1, rule2, rule3, rule4, rule5, rule6, rule7}
+use Rattle.model.specs.Reduction.{cutS, arrowS, arrowT, degS, degT, loose, reserved, betterS, betterT, worseReserved, rule1, rule2, rule3, rule4}
+use Rattle.model.specs.Reduction.{rule5, rule6, rule7}
 use Rattle.theory_reduction.specs.RuleNumbers.{names, lowest}
 use Rattle.theory_instance.specs.Lawful.{Ranked}
 use Rattle.theory_instance.specs.Degree.{deg-cong, deg-or, deg-without}

@@ -14,7 +14,8 @@ use Rattle.lists.specs.Keep.{product, all?}
 use Rattle.lists.specs.Search.{low, low-cong}
 use Rattle.lists.specs.First.{first, best}
 use Rattle.model.specs.Instance.{Instance, surveyors, stands}
-use Rattle.theory_verdict.specs.Search.{Hit, direct, loop, stay, via, kept, olds, terminal, arc, layer, walkPrice, trace, asPath, room?, directs, aloneAt, loopAt, pathAt, still, levels′, search′}
+use Rattle.theory_verdict.specs.Search.{Hit, direct, loop, stay, via, kept, olds, terminal, arc, layer, walkPrice, trace, asPath, room?, directs}
+use Rattle.theory_verdict.specs.Search.{aloneAt, loopAt, pathAt, still, levels′, search′}
 use Rattle.arrays.specs.ArrayInstance.{at}
 use Rattle.rival_tables.specs.Filled.{cell, Grid}
 use Rattle.rival_tables.specs.Cheapest.{cheapest, cheapest-cong, best-map}

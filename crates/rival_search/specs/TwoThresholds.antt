@@ -30,8 +30,7 @@ abbrev pub Searched : (m : ℕ) (sv st rs rt : List ℕ) (plan : List Bool) (n :
     → Bool → Found → Type 0
 Searched m sv st rs rt plan n ps pt rps rpt roomS roomT arcs below what =
     (terminals : List ℕ) × Grid terminals n (terminalCell m sv st rs rt plan roomS roomT ps pt rps rpt)
-    ×
-    (_≡_ {A = Bool × Found} (below, what)
+    × (_≡_ {A = Bool × Found} (below, what)
     (searched (searchAt m (freeAt sv st plan roomS roomT) arcs terminals n 0) (searchAt m (freeAt sv st plan roomS roomT) arcs terminals n 1)))
 
 pub searched-hit : (G : Instance) (M : ℕ → Bool) (es : List ℕ) (a b : Found) → hitOf G M es (searched a b .1) ≡ orElse (hitOf G M es a) (hitOf G M es b)

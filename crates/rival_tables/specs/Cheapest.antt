@@ -96,8 +96,7 @@ cheapest-reach t p v i (suc n) = ⊎-elim
     (cheapest-reach t p (offer (t i) (p i) v) (suc i) n)
   where
     here : (b : Bool) → t i ≡ b → cheapest t p (offer (t i) (p i) v) (suc i) n ≡ offer b (p i) v
-        →
-        (cheapest t p (offer (t i) (p i) v) (suc i) n ≡ v) ⊎ ((e : ℕ) × (i ≤ e) × (e < i + suc n) × (t e ≡ true)
+        → (cheapest t p (offer (t i) (p i) v) (suc i) n ≡ v) ⊎ ((e : ℕ) × (i ≤ e) × (e < i + suc n) × (t e ≡ true)
         × (cheapest t p (offer (t i) (p i) v) (suc i) n ≡ p e))
     here true s q = by-bool (ltb (p i) v)
         (λ d. inr (i, omega arith, omega arith, s, omega (arith, ltb-true (p i) v d)))

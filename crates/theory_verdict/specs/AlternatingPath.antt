@@ -18,8 +18,10 @@ use Rattle.theory_instance.specs.Lawful.{Lawful, Matching}
 use Rattle.theory_instance.specs.Walk.{Steps, Old, New, Walk, RoomS, RoomT, plus, minus}
 use Rattle.theory_votes.specs.Exchange.{Couple, for, against, Moves}
 use Rattle.theory_verdict.specs.LemmaX.{swapped, Rival, rival-cast, X-rival}
-use Rattle.theory_verdict.specs.Arcs.{Link, heads, tails, fs, zs, heads-new, tails-new, tails-old, walk-plus, walk-minus, heads-old, heads-link, tails-link, walk-old, walk-new}
-use Rattle.theory_verdict.specs.Ends.{Way, lose, gain, fresh, free, yields, lossOf, yields-new, yields-old, endPlus, endMinus, end-cost, Opens, ends-moves, Joins, yields-link, Parted, parted}
+use Rattle.theory_verdict.specs.Arcs.{Link, heads, tails, fs, zs, heads-new, tails-new, tails-old, walk-plus, walk-minus, heads-old}
+use Rattle.theory_verdict.specs.Arcs.{heads-link, tails-link, walk-old, walk-new}
+use Rattle.theory_verdict.specs.Ends.{Way, lose, gain, fresh, free, yields, lossOf, yields-new, yields-old, endPlus, endMinus, end-cost}
+use Rattle.theory_verdict.specs.Ends.{Opens, ends-moves, Joins, yields-link, Parted, parted}
 
 module _ (G : Instance) where
   -- no node both gains and loses

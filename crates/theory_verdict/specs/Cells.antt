@@ -14,7 +14,8 @@ use Rattle.model.specs.Instance.{Instance, Side, surveyors, stands, deg}
 use Rattle.theory_instance.specs.Walk.{Steps, Old, New, Arc}
 use Rattle.theory_verdict.specs.Ends.{Way, lose, gain}
 use Rattle.theory_verdict.specs.AlternatingPath.{Start, Stop, Apart}
-use Rattle.theory_verdict.specs.Search.{kept, Lead, stay, via, onLead, price, terminalPrice, apart?, olds, news, room?, joins?, ways, terminalsAt, terminal, links?, arc, layer, walkPrice, trace}
+use Rattle.theory_verdict.specs.Search.{kept, Lead, stay, via, onLead, price, terminalPrice, apart?, olds, news, room?, joins?, ways}
+use Rattle.theory_verdict.specs.Search.{terminalsAt, terminal, links?, arc, layer, walkPrice, trace}
 use Rattle.theory_verdict.specs.Table.{Arcs, Layer, Next, Terminals, first-layer, next-layer}
 
 module _ (G : Instance) (M : ℕ → Bool) where

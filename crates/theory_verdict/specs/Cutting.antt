@@ -25,7 +25,8 @@ use Rattle.theory_votes.specs.Converse.{goers, swap-of, couplesTo, lossesTo, mo
 use Rattle.theory_verdict.specs.Strong.{Holds}
 use Rattle.theory_verdict.specs.Ends.{lose, gain}
 use Rattle.theory_verdict.specs.CostAtLeast.{CostAtLeastBelow}
-use Rattle.theory_verdict.specs.Left.{filled, grown, yielding, take-yielding, take-entering, known-part, moves-known, filled-census, votesFor, votesAgainst, Left, left-even, left-nothing}
+use Rattle.theory_verdict.specs.Left.{filled, grown, yielding, take-yielding, take-entering, known-part, moves-known, filled-census, votesFor}
+use Rattle.theory_verdict.specs.Left.{votesAgainst, Left, left-even, left-nothing}
 use Rattle.theory_verdict.specs.Follow.{Rest, follow, circle}
 
 module _ (G : Instance) (M : ℕ → Bool) (k n : ℕ) (costly : CostAtLeastBelow G M k n) where

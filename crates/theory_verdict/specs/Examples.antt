@@ -12,7 +12,8 @@ use Rattle.lists.specs.First.{first, best}
 use Rattle.model.specs.Instance.{Instance, deg}
 use Rattle.theory_verdict.specs.LemmaX.{swapped}
 use Rattle.theory_verdict.specs.Ends.{lose, gain}
-use Rattle.theory_verdict.specs.Search.{direct, loop, path, arc, layer, trace, terminal, directs, aloneAt, loopAt, pathAt, levels, search, still, levels′, search′, rivalEdges}
+use Rattle.theory_verdict.specs.Search.{direct, loop, path, arc, layer, trace, terminal, directs, aloneAt, loopAt, pathAt, levels, search}
+use Rattle.theory_verdict.specs.Search.{still, levels′, search′, rivalEdges}
 use Rattle.theory_verdict.specs.Rival.{lid, rivalOf}
 
 -- edges by surveyor, stand, rank there and rank here; n nodes a side, quotas of 1; all edges are tied at the stands, or none

@@ -26,7 +26,8 @@ use Rattle.theory_verdict.specs.Strong.{Strong, Holds, strong-holds}
 use Rattle.theory_verdict.specs.LemmaX.{holds-cost}
 use Rattle.theory_verdict.specs.Arcs.{fs, zs}
 use Rattle.theory_verdict.specs.Ends.{Way, lose, gain, fresh}
-use Rattle.theory_verdict.specs.AlternatingPath.{startPlus, startMinus, stopPlus, stopMinus, comers, Start, Stop, Apart, AlternatingPath, simple, simple-loop, simple-direct}
+use Rattle.theory_verdict.specs.AlternatingPath.{startPlus, startMinus, stopPlus, stopMinus, comers, Start, Stop, Apart, AlternatingPath}
+use Rattle.theory_verdict.specs.AlternatingPath.{simple, simple-loop, simple-direct}
 use Rattle.theory_verdict.specs.Cut.{Cut, repeats, repeats-open}
 
 -- ---- nothing comes twice

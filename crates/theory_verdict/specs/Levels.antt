@@ -19,7 +19,8 @@ use Rattle.theory_verdict.specs.Strong.{Holds}
 use Rattle.theory_verdict.specs.LemmaX.{Rival, rival-cast}
 use Rattle.theory_verdict.specs.AlternatingPath.{simple-direct}
 use Rattle.theory_verdict.specs.LemmaW.{NoDirect, CostAtLeastTo}
-use Rattle.theory_verdict.specs.Search.{Hit, direct, loop, rivalBy, olds, room?, terminal, walkPrice, trace, asPath, directs, aloneAt, loopAt, pathAt, levels, search}
+use Rattle.theory_verdict.specs.Search.{Hit, direct, loop, rivalBy, olds, room?, terminal, walkPrice, trace, asPath, directs, aloneAt, loopAt}
+use Rattle.theory_verdict.specs.Search.{pathAt, levels, search}
 use Rattle.theory_verdict.specs.CostAtLeast.{PathsCostAtLeast, CostAtLeastBelow}
 use Rattle.theory_verdict.specs.Cutting.{cutting, unbeaten}
 use Rattle.theory_verdict.specs.Table.{terminal-price, loops-done, alone-done, paths-done, loop-found, path-found}

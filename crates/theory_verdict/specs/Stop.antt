@@ -12,7 +12,8 @@ use Rattle.lists.specs.Keep.{all-∈, product, product-∈, ∈-product}
 use Rattle.lists.specs.First.{or-same, first-none}
 use Rattle.model.specs.Instance.{Instance}
 use Rattle.theory_instance.specs.Walk.{Old}
-use Rattle.theory_verdict.specs.Search.{kept, loop, olds, terminal, walkPrice, trace, asPath, directs, aloneAt, loopAt, pathAt, levels, search, still, levels′, search′}
+use Rattle.theory_verdict.specs.Search.{kept, loop, olds, terminal, walkPrice, trace, asPath, directs, aloneAt, loopAt, pathAt, levels}
+use Rattle.theory_verdict.specs.Search.{search, still, levels′, search′}
 use Rattle.theory_verdict.specs.Table.{Still, still-next}
 use Rattle.theory_verdict.specs.Cells.{old-∈, ∈-old, next}
 use Rattle.theory_verdict.specs.Levels.{loopAt-answer, pathAt-answer}

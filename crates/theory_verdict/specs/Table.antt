@@ -17,7 +17,8 @@ use Rattle.theory_votes.specs.Score.{rate-up}
 use Rattle.theory_verdict.specs.LemmaX.{swapped, Rival, rival-cast}
 use Rattle.theory_verdict.specs.Arcs.{fs, zs}
 use Rattle.theory_verdict.specs.Ends.{Way, lose, gain, endPlus, endMinus}
-use Rattle.theory_verdict.specs.AlternatingPath.{Start, Stop, Apart, AlternatingPath, startPlus, startMinus, stopPlus, stopMinus, comers, simple, simple-loop}
+use Rattle.theory_verdict.specs.AlternatingPath.{Start, Stop, Apart, AlternatingPath, startPlus, startMinus, stopPlus, stopMinus, comers}
+use Rattle.theory_verdict.specs.AlternatingPath.{simple, simple-loop}
 use Rattle.theory_verdict.specs.LemmaW.{CostAtLeast, PathCostAtLeast, NoDirect, CostAtLeastTo, PathCostAtLeastTo, closed-step, path-step, first-∈}
 use Rattle.theory_verdict.specs.Search.{kept, price, endPrice, terminalPrice}
 use Rattle.theory_verdict.specs.CostAtLeast.{PathsCostAtLeast}

@@ -72,8 +72,7 @@ returns-3 c =
     let x7 =
     lowest-is A 7 (c .before .find7 .result)
     (λ e. flag (a .rem .now) e
-    &&
-    (ltb (at (a .got .now) (at (a .st .now) e)) (at (a .qt .now) (at (a .st .now) e))
+    && (ltb (at (a .got .now) (at (a .st .now) e)) (at (a .qt .now) (at (a .st .now) e))
     && (not (flag (a .tied .now) e) && eqb (at (a .ht .now) e) 0)))
     (rule7-is A (a .qs .now) (a .qt .now) (a .fs .now) (a .ft .now) Q F (a .hs .now) (a .ht .now) H (a .got .now) I)
     (c .before .find7 .ensures) in
@@ -104,8 +103,7 @@ returns-4 c =
     let x7 =
     lowest-is A 7 (c .before .find7 .result)
     (λ e. flag (a .rem .now) e
-    &&
-    (ltb (at (a .got .now) (at (a .st .now) e)) (at (a .qt .now) (at (a .st .now) e))
+    && (ltb (at (a .got .now) (at (a .st .now) e)) (at (a .qt .now) (at (a .st .now) e))
     && (not (flag (a .tied .now) e) && eqb (at (a .ht .now) e) 0)))
     (rule7-is A (a .qs .now) (a .qt .now) (a .fs .now) (a .ft .now) Q F (a .hs .now) (a .ht .now) H (a .got .now) I)
     (c .before .find7 .ensures) in

@@ -40,8 +40,7 @@ returns c =
     let x3 =
     lowest-is A 3 (c .before .find3 .result)
     (λ e. flag (a .rem .now) e
-    &&
-    (flag (a .fs .now) e
+    && (flag (a .fs .now) e
     && leb
     (at (c .before .before .before .before .before .tally .result)
     (at (a .st .now) e) + at (c .before .before .before .before .tally2 .result) (at (a .st .now) e))
@@ -89,8 +88,7 @@ returns-2 c =
     lowest-is A 3
     (c .before .before .before .before .before .before .before .before .before .before .before .before .before .before .before .find3 .result)
     (λ e. flag (a .rem .now) e
-    &&
-    (flag (a .fs .now) e
+    && (flag (a .fs .now) e
     && leb
     (at
     (c .before .before .before .before .before .before .before .before .before .before .before .before .before .before .before .before .before .before .before .tally .result)
@@ -125,10 +123,8 @@ returns-2 c =
     let x4 =
     lowest-is A 4 (c .before .find4 .result)
     (λ e. flag (a .rem .now) e
-    &&
-    (flag (c .before .before .before .before .before .before .before .before .before .reserved .result) e
-    &&
-    (ltb (at (a .qs .now) (at (a .sv .now) e))
+    && (flag (c .before .before .before .before .before .before .before .before .before .reserved .result) e
+    && (ltb (at (a .qs .now) (at (a .sv .now) e))
     (at (c .before .before .before .before .before .before .before .tally3 .result) (at (a .sv .now) e))
     && eqb (at (c .before .before .before .before .before .mark .result) e + 1)
     (at (c .before .before .before .before .before .before .before .tally3 .result) (at (a .sv .now) e)))))
@@ -162,8 +158,7 @@ returns-3 c =
     lowest-is A 3
     (c .before .before .before .before .before .before .before .before .before .before .before .before .before .before .before .before .before .before .before .find3 .result)
     (λ e. flag (a .rem .now) e
-    &&
-    (flag (a .fs .now) e
+    && (flag (a .fs .now) e
     && leb
     (at
     (c .before .before .before .before .before .before .before .before .before .before .before .before .before .before .before .before .before .before .before .before .before .before .before .tally .result)
@@ -200,10 +195,8 @@ returns-3 c =
     let x4 =
     lowest-is A 4 (c .before .before .before .before .before .find4 .result)
     (λ e. flag (a .rem .now) e
-    &&
-    (flag (c .before .before .before .before .before .before .before .before .before .before .before .before .before .reserved .result) e
-    &&
-    (ltb (at (a .qs .now) (at (a .sv .now) e))
+    && (flag (c .before .before .before .before .before .before .before .before .before .before .before .before .before .reserved .result) e
+    && (ltb (at (a .qs .now) (at (a .sv .now) e))
     (at (c .before .before .before .before .before .before .before .before .before .before .before .tally3 .result)
     (at (a .sv .now) e))
     && eqb (at (c .before .before .before .before .before .before .before .before .before .mark .result) e + 1)

@@ -26,8 +26,7 @@ returns c =
     let x1 =
     lowest-is A 1 (c .before .find1 .result)
     (λ e. flag (a .rem .now) e
-    &&
-    (flag (c .before .before .before .before .before .before .look .result .fs) e
+    && (flag (c .before .before .before .before .before .before .look .result .fs) e
     && flag (c .before .before .before .before .before .before .look .result .ft) e))
     (rule1-is A (a .qs .now) (a .qt .now) (c .before .before .before .before .before .before .look .result .fs)
     (c .before .before .before .before .before .before .look .result .ft) Q (w .1))
@@ -52,8 +51,7 @@ returns-2 c =
     let x1 =
     lowest-is A 1 (c .before .before .before .before .before .before .before .find1 .result)
     (λ e. flag (a .rem .now) e
-    &&
-    (flag (c .before .before .before .before .before .before .before .before .before .before .before .before .look .result .fs) e
+    && (flag (c .before .before .before .before .before .before .before .before .before .before .before .before .look .result .fs) e
     && flag (c .before .before .before .before .before .before .before .before .before .before .before .before .look .result .ft) e))
     (rule1-is A (a .qs .now) (a .qt .now)
     (c .before .before .before .before .before .before .before .before .before .before .before .before .look .result .fs)
@@ -84,8 +82,7 @@ returns-3 c =
     lowest-is A 1
     (c .before .before .before .before .before .before .before .before .before .before .before .before .before .before .before .find1 .result)
     (λ e. flag (a .rem .now) e
-    &&
-    (flag
+    && (flag
     (c .before .before .before .before .before .before .before .before .before .before .before .before .before .before .before .before .before .before .before .before .look .result .fs)
     e
     && flag

@@ -7,7 +7,8 @@ use borrow.Author.Needs.{needs}
 use Rattle.arrays.specs.ArrayInstance.{at}
 use Rattle.theory_verdict.specs.Ends.{lose}
 use Rattle.theory_verdict.specs.Search.{endPrice}
-use Rattle.rival_end_edges.specs.Ways.{told, way-gain, way-lose, apart, round, terminalRest, terminalBy, terminal-start, terminal-end, terminal-turn, terminal-past}
+use Rattle.rival_end_edges.specs.Ways.{told, way-gain, way-lose, apart, round, terminalRest, terminalBy, terminal-start, terminal-end}
+use Rattle.rival_end_edges.specs.Ways.{terminal-turn, terminal-past}
 use Rattle.rival_end_edges.proofs.terminal.Statement.{statement}
 use Rattle.rival_end_edges.proofs.terminal.Tie as tie
 

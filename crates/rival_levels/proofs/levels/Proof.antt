@@ -6,7 +6,8 @@ use borrow.Author.Needs.{needs}
 use Rattle.rival_tables.specs.Filled.{Rows}
 use Rattle.rival_layers.specs.Layers.{Small, next-≤, layerAt, layer-first, layer-next}
 use Rattle.rival_levels.specs.Levels.{levelsAt}
-use Rattle.rival_levels.specs.Levels.{levels-turn, levels-end, levels-start, loop-is, row-is, column-is, change-is, out-closed, out-open, out-nothing, out-on, levelLoop, levelRow, levelChange}
+use Rattle.rival_levels.specs.Levels.{levels-turn, levels-end, levels-start, loop-is, row-is, column-is, change-is, out-closed, out-open}
+use Rattle.rival_levels.specs.Levels.{out-nothing, out-on, levelLoop, levelRow, levelChange}
 use Rattle.rival_levels.proofs.levels.Statement.{statement}
 use Rattle.rival_levels.proofs.levels.Tie as tie
 

@@ -1,4 +1,5 @@
--- `roster_checks::check_tied` meets its contract: the tied entries that are left, behind those passed, have the refusal of all, and the row shows those passed. Assumes nothing.
+-- `roster_checks::check_tied` meets its contract: the tied entries that are left, behind those passed, have the refusal of all, and the row shows
+-- those passed. Assumes nothing.
 use Prim.Native.Nat.{ℕ, _+_, _-_, _≤_, _<_, zero-le}
 use native.Mathlib.Omega.{arith}
 use mathlib.Core.Path.{_≡_, refl, sym, ap, _∙_, subst}
@@ -20,8 +21,7 @@ refusal other seen last xs = refusalOf (tiedCheck other) moreTied (record { seen
 abbrev Inv-loop : tie.InvT-loop
 Inv-loop part other row₀ last₀ i₀ row last i =
     (i ≤ length part) × (length row ≡ length row₀)
-    ×
-    ((seen : List ℕ) → Shows row₀ seen
+    × ((seen : List ℕ) → Shows row₀ seen
     → (refusal other seen 0 part ≡ refusal other (seen ++ take i part) last (drop i part)) × Shows row (seen ++ take i part))
 
 abbrev μ-loop : tie.MeasureT-loop
