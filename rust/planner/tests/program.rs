@@ -3,11 +3,13 @@
 
 mod common;
 
-use std::fs;
+use std::fs::{self, File};
 use std::io::Write;
 use std::path::{Path, PathBuf};
 use std::process::{Command, Stdio};
 use std::sync::Once;
+use std::thread;
+use std::time::Duration;
 
 use common::damage;
 use reference::finder::find_large;
@@ -37,20 +39,42 @@ fn program() -> PathBuf {
     program
 }
 
-/// Runs the program on an input.
-fn run(input: &[u8]) -> Vec<u8> {
+/// Runs the program on an input that comes in pieces of this size.
+fn run_pieces(input: &[u8], size: usize, pause: Duration) -> Vec<u8> {
     let mut child = Command::new(program())
         .stdin(Stdio::piped())
         .stdout(Stdio::piped())
         .spawn()
         .expect("the program starts");
     let mut stdin = child.stdin.take().expect("a pipe");
-    // the program stops reading behind the longest roster
-    let _ = stdin.write_all(input);
+    for piece in input.chunks(size) {
+        // the program stops reading behind the longest roster
+        let _ = stdin.write_all(piece);
+        thread::sleep(pause);
+    }
     drop(stdin);
     let output = child.wait_with_output().expect("the program ends");
     assert!(output.status.success(), "{input:?}");
     output.stdout
+}
+
+/// Runs the program on an input.
+fn run(input: &[u8]) -> Vec<u8> {
+    run_pieces(input, input.len().max(1), Duration::ZERO)
+}
+
+/// Runs the program between these, and gives what it says on standard output
+/// and on standard error.
+fn run_between(input: File, output: Stdio) -> (Vec<u8>, String) {
+    let child = Command::new(program())
+        .stdin(input)
+        .stdout(output)
+        .stderr(Stdio::piped())
+        .spawn();
+    let child = child.expect("the program starts");
+    let output = child.wait_with_output().expect("the program ends");
+    let error = String::from_utf8(output.stderr).expect("plain text");
+    (output.stdout, error)
 }
 
 #[test]
@@ -160,4 +184,40 @@ fn inputs_that_are_too_long() {
     long[0] = 33;
     assert_eq!(run(&long), b"refused 2 form\n");
     assert_eq!(run(&[]), b"refused 1 form\n");
+}
+
+#[test]
+fn input_in_pieces() {
+    let sample = root().join("samples/two-for-one");
+    let roster = fs::read(sample.with_extension("roster")).expect("its bytes");
+    let out = fs::read(sample.with_extension("out")).expect("its output");
+    for size in [1, 2, 5] {
+        assert_eq!(run_pieces(&roster, size, Duration::from_millis(5)), out);
+    }
+}
+
+#[test]
+fn a_million_bytes() {
+    let roster = fs::read(root().join("samples/two-for-one.roster")).expect("its bytes");
+    let mut input = roster;
+    input.resize(1_000_000, 7);
+    assert_eq!(run(&input), b"refused 9 form\n");
+    assert_eq!(run(&vec![33; 1_000_000]), b"refused 2 form\n");
+}
+
+#[test]
+fn a_read_that_fails() {
+    // a folder can be opened, and no byte of it be read
+    let folder = File::open(root()).expect("the folder");
+    let (output, error) = run_between(folder, Stdio::piped());
+    assert_eq!(output, b"");
+    assert_eq!(error, "crew: the roster cannot be read\n");
+}
+
+#[test]
+fn a_write_that_fails() {
+    let roster = File::open(root().join("samples/two-for-one.roster")).expect("its bytes");
+    let full = File::options().write(true).open("/dev/full");
+    let (_, error) = run_between(roster, full.expect("the full device").into());
+    assert_eq!(error, "crew: the answer cannot be written\n");
 }
