@@ -15,4 +15,11 @@ pub mod Compare
 pub mod Text
 pub mod Printed
 pub mod Desk
+pub mod Decimal
+pub mod Claims
 pub mod Cases
+pub mod MoreCases
+pub mod RosterCases
+pub mod PlanCases
+pub mod DeskCases
+pub mod GroupCases

@@ -1,0 +1,12 @@
+-- The group of every refusal, and of numbers that are none, run by the checker.
+use Prim.Native.Nat.{ℕ}
+use mathlib.Core.Path.{_≡_, refl}
+use mathlib.Core.List.{List, [], _∷_, map}
+use Rattle.lists.specs.Sum.{range}
+use Rattle.model.specs.Refusal.{Group, form, content, plan, desk, groupOf}
+
+-- 0 and 16 are no refusals of document 01
+pub groups : map groupOf (range 0 17) ≡ content ∷ form ∷ form ∷ content ∷ content ∷ content ∷ content ∷ content ∷ content ∷ form ∷ plan ∷ plan ∷ plan
+    ∷ desk ∷ desk ∷ desk ∷ content ∷ []
+unfolding groupOf
+groups = refl

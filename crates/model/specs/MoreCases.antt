@@ -1,0 +1,103 @@
+-- More rosters than document 01 has, run by the checker: each of rules 4 to 6 in turn, a quota that is cut, a surveyor with room, a vote
+-- below zero, two digits, the worst rank, and what is printed for a refusal. Outputs are the reference's.
+use mathlib.Core.Path.{_≡_, refl}
+use mathlib.Core.Bool.{true}
+use mathlib.Core.Option.{Option·elim, orElse}
+use mathlib.Core.List.{[], _∷_, _++_}
+use lib.ListN.{replicate}
+use lib.IntN.{pos}
+use Rattle.lists.specs.Sum.{count, range}
+use Rattle.lists.specs.Search.{low}
+use Rattle.lists.specs.First.{first}
+use Rattle.lists.specs.Keep.{all?, gather}
+use Rattle.model.specs.Decimal.{bytes, numbersFrom}
+use Rattle.model.specs.Claims.{Case, isTrue, prints, strongOnes, standVotes, judged, rivals, cutTo}
+use Rattle.model.specs.Text.{text}
+use Rattle.model.specs.Refusal.{groupOf}
+use Rattle.model.specs.Reading.{readEach}
+use Rattle.model.specs.Roster.{listed, listedBack, bothOrNeither}
+use Rattle.model.specs.RosterFile.{readRoster}
+use Rattle.model.specs.Edges.{position, edgesOf, instanceOf}
+use Rattle.model.specs.Instance.{deg}
+use Rattle.model.specs.Vote.{nodeVote, vote}
+use Rattle.model.specs.Plans.{beaten, choices, within, plansOf, samePlan, beatenBy, drawnWith, verdictOf, strongPlans}
+use Rattle.model.specs.Reduction.{cut, ahead, arrow, loose, reserved, betterS, betterT, worseReserved, rule1, rule2, rule3, rule4, rule5}
+use Rattle.model.specs.Reduction.{rule6, rule7, act, rules, stepBy, firstStep, begin, stepsFrom, stateAfter, stepsOf, endOf}
+use Rattle.model.specs.PlanFile.{planBytes, edgeOfPair, readPlan}
+use Rattle.model.specs.Finder.{diaryOf, leftOf, candidateOf, finderOf}
+use Rattle.model.specs.Blocking.{blocks, someBlocks}
+use Rattle.model.specs.Printed.{digits, printed}
+
+-- the same for a surveyor that a strong plan leaves with room: surveyor 1, quota 2, and surveyor 2 rank stand 1, then 2; stand 1 ties
+-- them; stand 2 ranks 2, 1
+abbrev P11 : Case
+P11 = record {
+  file = bytes "2 2 1 2 1 1 4 0 2 1 2 2 1 2 4 0 0 2 1 2 2 0 2 1";
+  claims = prints "fix 1 1 6\nstrike 2 1 2\nfix 2 2 1\nstrike 1 2 2\nplan 2\n1 1\n2 2\n" ∷ strongOnes 1 ∷ [];
+}
+
+-- a quota above the stand's pairs is cut to their number; no step is another for it (docs/DECISIONS.md), so it is said of the cut itself
+abbrev P12 : Case
+P12 = record { file = bytes "1 1 1 2 1 0 1 1 1 0 1 0 1"; claims = prints "fix 1 1 1\nplan 1\n1 1\n" ∷ cutTo 0 1 ∷ [] }
+
+-- refusals, with their groups
+abbrev P13 : Case
+P13 = record { file = []; claims = prints "refused 1 form\n" ∷ [] }
+
+abbrev P14 : Case
+P14 = record { file = bytes "1 9"; claims = prints "refused 3 content\n" ∷ [] }
+
+-- rules 4, 5 and 6 in turn, with outputs from the reference: N(s) of surveyor 1 is too large; 1-2 has no arrow at a firm stand; N(s) of
+-- surveyor 2 is too small
+abbrev P15 : Case
+P15 =
+    record {
+      file = bytes "3 1 2 2 3 1 1 1 4 0 3 2 1 3 0 1 2 4 0 0 1 1 0 2 1 3 0 1 1";
+      claims = prints "strike 1 3 4\nfix 3 2 6\nstrike 1 2 2\nfix 1 1 3\nplan 2\n1 1\n3 2\n"
+          ∷ strongOnes 1 ∷ [];
+    }
+
+abbrev P16 : Case
+P16 =
+    record {
+      file = bytes "3 1 2 1 2 1 1 4 0 2 1 2 0 2 1 2 4 0 0 2 1 3 2 0 3 1";
+      claims = prints "strike 1 2 5\nfix 1 1 6\nstrike 3 1 2\nfix 3 2 1\nplan 2\n1 1\n3 2\n"
+          ∷ strongOnes 1 ∷ [];
+    }
+
+abbrev P17 : Case
+P17 =
+    record {
+      file = bytes "3 1 2 2 2 2 1 3 0 2 2 1 1 2 0 3 0 0 1 1 0 2 1 2";
+      claims = prints "fix 2 2 6\nstrike 1 2 2\nfix 1 1 3\nplan 2\n1 1\n2 2\n"
+          ∷ strongOnes 1 ∷ [];
+    }
+
+-- a vote below zero: two surveyors, the first with quota 2, rank stands 1, 2 and 2, 1; stand 1 has surveyor 1 before a tie of 2, stand 2 ranks 1, 2
+abbrev P18 : Case
+P18 = record {
+  file = bytes "2 2 1 2 1 1 4 0 2 1 2 2 2 1 4 0 1 1 2 1 0 2 1 2";
+  claims = prints "fix 1 1 6\nstrike 2 1 2\nfix 1 2 6\nstrike 2 2 2\nnone rivalled -1\ncandidate 2\n1 1\n1 2\nrival 2\n1 2\n2 1\n" ∷ strongOnes 0
+      ∷ rivals (bytes "2 1 1 1 2") (bytes "2 1 2 2 1" ∷ []) ∷ judged (bytes "2 1 1 1 2") beaten ∷ [];
+}
+
+-- numbers of two digits: of 19 surveyors the last one alone has a pair
+abbrev P19 : Case
+P19 = record {
+  file = (19 ∷ replicate 19 1) ++ (bytes "1 1 1 0" ++ (replicate 18 0 ++ bytes "1 1 1 0 1 0 19"));
+  claims = prints "fix 19 1 1\nplan 1\n19 1\n" ∷ [];
+}
+
+-- "an empty place has rank 33": a pair of rank 32 is better
+abbrev P20 : Case
+P20 = record {
+  file = (32 ∷ replicate 32 1) ++ ((1 ∷ 1 ∷ 32 ∷ 0 ∷ []) ++ (gather (λ n. 1 ∷ 1 ∷ []) (range 1 32) ++ ((32 ∷ 0 ∷ 32 ∷ 0 ∷ []) ++ range 1 32)));
+  claims = standVotes 0 (bytes "1 32 1") (bytes "0") (pos 1) ∷ [];
+}
+
+pub more-cases : all? isTrue (P11 ∷ P12 ∷ P13 ∷ P14 ∷ P15 ∷ P16 ∷ P17 ∷ P18 ∷ P19 ∷ P20 ∷ []) ≡ true
+unfolding numbersFrom count low text groupOf listed listedBack bothOrNeither readEach readRoster position edgesOf instanceOf deg nodeVote vote
+    choices within plansOf samePlan beatenBy drawnWith verdictOf strongPlans cut ahead arrow loose reserved betterS betterT worseReserved rule1 rule2
+    rule3 rule4 rule5 rule6 rule7 act rules first orElse Option·elim stepBy firstStep begin stepsFrom stateAfter stepsOf endOf planBytes edgeOfPair
+    readPlan diaryOf leftOf candidateOf finderOf blocks someBlocks digits printed
+more-cases = refl
