@@ -10,5 +10,6 @@ pub record Served {A : Type 0} (numbersIn : Answer → A) (d : Desk) (c : Call) 
   pub numbers : n ≡ numbersIn (answered (heldOf d) c)
   pub reply : Replied d c (answered (heldOf d) c) c′ d′
 
-pub served : {A : Type 0} (numbersIn : Answer → A) {d : Desk} {c : Call} {a : Answer} {n : A} {c′ : Call} {d′ : Desk} → Replied d c a c′ d′ → n ≡ numbersIn a → Served numbersIn d c n c′ d′
+pub served : {A : Type 0} (numbersIn : Answer → A) {d : Desk} {c : Call} {a : Answer} {n : A} {c′ : Call} {d′ : Desk} → Replied d c a c′ d′
+    → n ≡ numbersIn a → Served numbersIn d c n c′ d′
 served numbersIn {d} {c} {a} {n} {c′} {d′} R e = record { numbers = e ∙ ap numbersIn (R .answer); reply = subst (λ z. Replied d c z c′ d′) (R .answer) R }

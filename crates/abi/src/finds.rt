@@ -41,7 +41,8 @@ pub extern "C" fn crew_find(
     plan: &mut [u8],
     rival: &mut [u8],
 ) -> DeskFound
-    ensures { λ r. ⌜ Numbered desk (now (diary .entry)) (now (left .entry)) (now (plan .entry)) (now (rival .entry)) r (now (diary .exit)) (now (left .exit)) (now (plan .exit)) (now (rival .exit)) ⌝ }
+    ensures { λ r. ⌜ Numbered desk (now (diary .entry)) (now (left .entry)) (now (plan .entry)) (now (rival .entry)) r (now (diary .exit)) (now (left .exit))
+        (now (plan .exit)) (now (rival .exit)) ⌝ }
 {
     let r = desk.find(diary, left, plan, rival);
     numbers_of(r)

@@ -8,7 +8,8 @@ use Rattle.model.specs.Reading as reading
 use Rattle.model.specs.Reading.{Reading, accepted}
 use Rattle.model.specs.Refusal as model
 use Rattle.model.specs.Compare as compare
-use Rattle.model.specs.Desk.{NoneKind, left, rivalled, Answer, refused, loaded, wrote, plan, none, strong, popular, beaten, votes, refusedPart, blockedBy, unblocked}
+use Rattle.model.specs.Desk.{NoneKind, left, rivalled, Answer, refused, loaded, wrote, plan, none, strong, popular, beaten, votes, refusedPart}
+use Rattle.model.specs.Desk.{blockedBy, unblocked}
 use Rattle.answers.specs.declared.Group.{Group}
 use Rattle.answers.specs.declared.Winner.{Winner}
 use Rattle.answers.specs.declared.Winner.the-variants as winner
@@ -101,8 +102,10 @@ comparedIn (none n k) = noVotes
 comparedIn strong = noVotes
 comparedIn (popular v) = noVotes
 comparedIn (beaten v) = noVotes
-comparedIn (votes v w x p) = record { refusal = 0; winner = winnerCode x; «first_vote» = v; «second_vote» = w; file = fileNumber (p .file); from = p .from; length = length (p .bytes) }
-comparedIn (refusedPart n g p) = record { refusal = n; winner = 0; «first_vote» = pos 0; «second_vote» = pos 0; file = fileNumber (p .file); from = p .from; length = length (p .bytes) }
+comparedIn (votes v w x p) =
+    record { refusal = 0; winner = winnerCode x; «first_vote» = v; «second_vote» = w; file = fileNumber (p .file); from = p .from; length = length (p .bytes) }
+comparedIn (refusedPart n g p) =
+    record { refusal = n; winner = 0; «first_vote» = pos 0; «second_vote» = pos 0; file = fileNumber (p .file); from = p .from; length = length (p .bytes) }
 comparedIn (blockedBy s t) = noVotes
 comparedIn unblocked = noVotes
 

@@ -2,3 +2,4 @@ pub mod ArrayInstance
 pub mod Passes
 pub mod Tally
 pub mod Kept
+pub mod Filled

@@ -24,7 +24,8 @@ use Rattle.blocking_thresholds.specs.Threshold.{Edges, Thresholds, sideOf}
 use Rattle.theory_instance.specs.FirstBlocking.{firstBlocking, first-below, first-behind}
 use Rattle.blocking_search.specs.Blocking.{named, blockedBy, Placed, wanted}
 
-module _ (m : ℕ) (sv st rs rt qs qt ls lt : List ℕ) (p : List Bool) (os : Placed m rs) (ot : Placed m rt) (hs : Thresholds m sv rs qs p ls) (ht : Thresholds m st rt qt p lt)
+module _ (m : ℕ) (sv st rs rt qs qt ls lt : List ℕ) (p : List Bool) (os : Placed m rs) (ot : Placed m rt) (hs : Thresholds m sv rs qs p ls)
+    (ht : Thresholds m st rt qt p lt)
     (ns nt : ℕ) (tied : List Bool) where
   abbrev G : model.Instance
   G = shown m ns nt sv st rs rt tied qs qt
@@ -33,7 +34,10 @@ module _ (m : ℕ) (sv st rs rt qs qt ls lt : List ℕ) (p : List Bool) (os : Pl
   unfolding blocks
   is-wanted e h =
       ap (λ z. not (flag p e) && z) (ap₂ _&&_ (hs ns (λ d. false) e h (os e h)) (ht nt (flag tied) e h (ot e h)))
-      ∙ sym (ap (λ z. z && (not (flag p e) && (yields (sideOf m ns sv rs qs (λ d. false)) (flag p) e && yields (sideOf m nt st rt qt (flag tied)) (flag p) e))) (lt-ltb e m h))
+      ∙ sym
+      (ap
+      (λ z. z && (not (flag p e) && (yields (sideOf m ns sv rs qs (λ d. false)) (flag p) e && yields (sideOf m nt st rt qt (flag tied)) (flag p) e)))
+      (lt-ltb e m h))
 
   first-is : low (wanted sv st rs rt ls lt p) m ≡ firstBlocking G p
   unfolding firstBlocking

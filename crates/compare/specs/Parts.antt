@@ -51,8 +51,11 @@ module _ (G : model.Instance) (f s : RefT (List ℕ)) where
   Handed p = p ≡ placed f s (partOf G (now f) (now s))
 
   -- the part of a file behind its count byte
-  behind : (h : RefT (List ℕ)) → _≡_ {A = Placed} ((ptr h .0, 1 + ptr h .1), take (length (now h) - 1) (drop 1 (now h))) ((ptr h .0, ptr h .1 + 1), drop 1 (now h))
-  behind h = ap₂ (λ (k : ℕ) (bs : List ℕ). ((ptr h .0, k), bs)) (one (ptr h .1)) (ap (λ n. take n (drop 1 (now h))) (sym (length-drop 1 (now h))) ∙ take-length (drop 1 (now h)))
+  behind : (h : RefT (List ℕ))
+      → _≡_ {A = Placed} ((ptr h .0, 1 + ptr h .1), take (length (now h) - 1) (drop 1 (now h))) ((ptr h .0, ptr h .1 + 1), drop 1 (now h))
+  behind h =
+      ap₂ (λ (k : ℕ) (bs : List ℕ). ((ptr h .0, k), bs)) (one (ptr h .1))
+      (ap (λ n. take n (drop 1 (now h))) (sym (length-drop 1 (now h))) ∙ take-length (drop 1 (now h)))
     where
       one : (k : ℕ) → 1 + k ≡ k + 1
       one k = omega arith
@@ -66,7 +69,8 @@ module _ (G : model.Instance) (f s : RefT (List ℕ)) where
 
   module _ {v w : ℤ} {y : Winner} (e : Votes v w y ≡ comparisonCase (comparisonOf G (now f) (now s))) where
     voted-part : (z : Winner) → y ≡ z → placed f s (winnerPart (winnerShown z) (now f) (now s)) ≡ placed f s (partOf G (now f) (now s))
-    voted-part z q = ap (placed f s) (sym (ap (λ y. winnerPart (winnerShown y) (now f) (now s)) q) ∙ ap (λ c. partShown c (now f) (now s)) e ∙ part-is G (now f) (now s))
+    voted-part z q =
+        ap (placed f s) (sym (ap (λ y. winnerPart (winnerShown y) (now f) (now s)) q) ∙ ap (λ c. partShown c (now f) (now s)) e ∙ part-is G (now f) (now s))
 
     pub first-part : y ≡ First → Handed ((ptr f .0, 1 + ptr f .1), take (length (now f) - 1) (drop 1 (now f)))
     first-part q = behind f ∙ voted-part First q

@@ -78,10 +78,12 @@ module _ (g : Instance) (file : List ℕ) (r : PlanRead) (A : ReadFor (g .m) (g 
 
   -- as the second file, after plan p
   module _ (p : Plan) where
-    pub second-refused : {n : ℕ} (k : Group) → r .answer ≡ plan.Refused n → groupShown k ≡ groupOf n → Refused n k ≡ comparisonCase (secondJudged G p (readPlan G file))
+    pub second-refused : {n : ℕ} (k : Group) → r .answer ≡ plan.Refused n → groupShown k ≡ groupOf n
+        → Refused n k ≡ comparisonCase (secondJudged G p (readPlan G file))
     second-refused {n} k q e = ap (Refused n) (shows-case k e) ∙ sym (ap (λ x. comparisonCase (secondJudged G p x)) (refused-read here q))
 
-    pub second-accepted : {n : ℕ} {c : Comparison} → r .answer ≡ plan.Accepted n → c ≡ comparisonCase (compared G p (r .chosen)) → c ≡ comparisonCase (secondJudged G p (readPlan G file))
+    pub second-accepted : {n : ℕ} {c : Comparison} → r .answer ≡ plan.Accepted n → c ≡ comparisonCase (compared G p (r .chosen))
+        → c ≡ comparisonCase (secondJudged G p (readPlan G file))
     second-accepted q e = given (accepted-read here q) (λ (M, a, s). e ∙ ap (byEdges G (on p)) s ∙ sym (ap (λ x. comparisonCase (secondJudged G p x)) a))
 
   -- as the first file

@@ -20,7 +20,8 @@ use Rattle.model.specs.PlanFile.{edgesIn, readPlan}
 use Rattle.model.specs.Blocking.{someBlocks}
 use Rattle.model.specs.Compare as outcome
 use Rattle.model.specs.Compare.{winnerPart, partOf, comparisonOf}
-use Rattle.model.specs.Desk.{planned, writeRosterTo, writePlanTo, judge, compare, blocking, refusal, wrote, votes, refusedPart, onto, verdictAnswer, verdictWritten, comparisonAnswer, blockingAnswer}
+use Rattle.model.specs.Desk.{planned, writeRosterTo, writePlanTo, judge, compare, blocking, refusal, wrote, votes, refusedPart, onto, verdictAnswer}
+use Rattle.model.specs.Desk.{verdictWritten, comparisonAnswer, blockingAnswer}
 use Rattle.theory_verdict.specs.Rival.{rivalOf}
 use Rattle.theory_instance.specs.FirstBlocking.{firstBlocking}
 use Rattle.arrays.specs.ArrayInstance.{at, flag}
@@ -47,7 +48,8 @@ use Rattle.desk.specs.State.{by-state, of-roster, roster-held, passes}
 
 -- ---- what the call knows of what it works on
 -- the state's refusal
-pub state-is : (d : Desk) {needs short : Bool} {l : OnDesk} → LoadedFrom (rosterBytes d) (planBytes d) needs short l → l .refusal ≡ stateNumber (heldOf d) needs short
+pub state-is : (d : Desk) {needs short : Bool} {l : OnDesk} → LoadedFrom (rosterBytes d) (planBytes d) needs short l
+    → l .refusal ≡ stateNumber (heldOf d) needs short
 unfolding heldOf
 state-is d F = F .refusal
 
@@ -55,13 +57,15 @@ pub arrays-are : (d : Desk) {needs short : Bool} {l : OnDesk} → LoadedFrom (ro
 arrays-are d F z = given (its-roster z F) (λ (R, a). F .instance R a .0)
 
 -- the buffer lent to it has its size
-pub long-enough : (out : List ℕ) (size : ℕ) {roster plan : List ℕ} {needs : Bool} {l : OnDesk} → LoadedFrom roster plan needs (ltb (length out) size) l → l .refusal ≤ 0
+pub long-enough : (out : List ℕ) (size : ℕ) {roster plan : List ℕ} {needs : Bool} {l : OnDesk}
+    → LoadedFrom roster plan needs (ltb (length out) size) l → l .refusal ≤ 0
     → size ≤ length out
 long-enough out size F z = nltb→le (length out) size (false-T (its-length z F))
 
 -- ---- with the roster held
 module _ (d : Desk) {short : Bool} {l : OnDesk} (F : LoadedFrom (rosterBytes d) (planBytes d) false short l) (z : l .refusal ≤ 0) where
-  pub write-roster-reply : (out : List ℕ) {k : ℕ} {after : List ℕ} → short ≡ ltb (length out) rosterSize → k ≡ length (rosterBytes d) → after ≡ onto (rosterBytes d) out
+  pub write-roster-reply : (out : List ℕ) {k : ℕ} {after : List ℕ} → short ≡ ltb (length out) rosterSize → k ≡ length (rosterBytes d)
+      → after ≡ onto (rosterBytes d) out
       → Replied d (writeRosterTo out) (wrote k) (writeRosterTo after) d
   write-roster-reply out s p q = given (its-roster z F) (λ (R, a).
       let y = readPlan (instanceOf R) (planBytes d) in
@@ -72,7 +76,8 @@ module _ (d : Desk) {short : Bool} {l : OnDesk} (F : LoadedFrom (rosterBytes d) 
       refl refl)
 
 -- the model's answer to a comparison, for each case of the code's
-compared-shown : (G : Instance) (a b : List ℕ) → comparisonShown a b (comparisonCase (comparisonOf G a b)) ≡ comparisonAnswer (partOf G a b) (comparisonOf G a b)
+compared-shown : (G : Instance) (a b : List ℕ)
+    → comparisonShown a b (comparisonCase (comparisonOf G a b)) ≡ comparisonAnswer (partOf G a b) (comparisonOf G a b)
 unfolding partOf
 compared-shown G a b = go (comparisonOf G a b)
   where
@@ -81,7 +86,8 @@ compared-shown G a b = go (comparisonOf G a b)
     go (outcome.refused n) = ap (λ g. refusedPart n g (winnerPart outcome.neither a b)) (shown-case (groupOf n))
 
 module _ (d : Desk) {l : OnDesk} (F : LoadedFrom (rosterBytes d) (planBytes d) false false l) (a b : List ℕ) where
-  pub compare-reply : l .refusal ≤ 0 → {c : Comparison} → c ≡ comparisonCase (comparisonOf (shownBy (l .g)) a b) → Replied d (compare a b) (comparisonShown a b c) (compare a b) d
+  pub compare-reply : l .refusal ≤ 0 → {c : Comparison} → c ≡ comparisonCase (comparisonOf (shownBy (l .g)) a b)
+      → Replied d (compare a b) (comparisonShown a b c) (compare a b) d
   compare-reply z e = given (its-roster z F) (λ (R, r).
       let y = readPlan (instanceOf R) (planBytes d) in
       passes d (compare a b) tt (state-is d F) z (heldPlan R y) (roster-held d R r)
@@ -104,7 +110,8 @@ module _ (d : Desk) {l : OnDesk} (F : LoadedFrom (rosterBytes d) (planBytes d) f
 
 -- ---- with the plan held
 module _ (d : Desk) {short : Bool} {l : OnDesk} (F : LoadedFrom (rosterBytes d) (planBytes d) true short l) (z : l .refusal ≤ 0) where
-  its-plan-held : (R : Roster) × (M : Plan) × (heldOf d ≡ planned R M) × (shownBy (l .g) ≡ instanceOf R) × PlanIn l M × (plans.planBytes (instanceOf R) M ≡ planBytes d)
+  its-plan-held : (R : Roster) × (M : Plan) × (heldOf d ≡ planned R M) × (shownBy (l .g) ≡ instanceOf R) × PlanIn l M
+      × (plans.planBytes (instanceOf R) M ≡ planBytes d)
   its-plan-held = given (its-plan z F) (λ (R, M, a, b).
       (R, M, roster-held d R a ∙ ap (heldPlan R) b, F .instance R a .1, F .planned R a tt M b .0, F .planned R a tt M b .1))
 

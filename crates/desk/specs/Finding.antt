@@ -55,16 +55,19 @@ pub record Done (d : Desk) (room : ℕ) (l p v : List ℕ) (c : CoreReply) (l′
 pub record Finds (d : Desk) (s : List Step) (l p v : List ℕ) (r : FindReply) (s′ : List Step) (l′ p′ v′ : List ℕ) : Type 0 where
   pub replied : Replied d (find (recordsIn s) l p v) (foundShown (r .answer)) (find (recordsIn s′) l′ p′ v′) (r .desk)
   -- demand 3, whole, for the roster held and buffers of their sizes
-  pub demand3 : (R : Roster) → readRoster (rosterBytes d) ≡ accepted R → T (not (lentShort (find (recordsIn s) l p v))) → Promise R (r .answer) (recordsIn s) l p v (recordsIn s′) l′ p′ v′
+  pub demand3 : (R : Roster) → readRoster (rosterBytes d) ≡ accepted R → T (not (lentShort (find (recordsIn s) l p v)))
+      → Promise R (r .answer) (recordsIn s) l p v (recordsIn s′) l′ p′ v′
 
 -- ---- the records fit
-fit : (room : ℕ) (l p v : List ℕ) (o : Outcome) (l′ p′ v′ : List ℕ) (x : Reading Roster) (b : Bool) → short room l p v ≡ b → OutcomeFor x b l p v o l′ p′ v′ → (o .steps ≤ diarySize) × (o .steps ≤ room)
+fit : (room : ℕ) (l p v : List ℕ) (o : Outcome) (l′ p′ v′ : List ℕ) (x : Reading Roster) (b : Bool) → short room l p v ≡ b
+    → OutcomeFor x b l p v o l′ p′ v′ → (o .steps ≤ diarySize) × (o .steps ≤ room)
 fit room l p v o l′ p′ v′ (reading.refused n) b q k = (omega (arith, k .refuses .steps), omega (arith, k .refuses .steps))
 fit room l p v o l′ p′ v′ (accepted R) true q k = (omega (arith, k .refuses .steps), omega (arith, k .refuses .steps))
 fit room l p v o l′ p′ v′ (accepted R) false q (f, e) =
     let G = instanceOf R in
     let n : o .steps ≡ length (stepsOf G) = e ∙ ap promise.stepsIn (f .finds .wrote .answer) ∙ steps-are (length (stepsOf G)) (finderOf G (rivalOf G)) in
-    let h : diarySize ≤ room = nltb→le room diarySize (first (ltb room diarySize) (ltb (length l) leftSize || (ltb (length p) planSize || ltb (length v) planSize)) q) in
+    let h : diarySize ≤ room =
+    nltb→le room diarySize (first (ltb room diarySize) (ltb (length l) leftSize || (ltb (length p) planSize || ltb (length v) planSize)) q) in
     (omega (arith, steps-few G, f .few), omega (arith, steps-few G, f .few))
   where
     first : (a b : Bool) → a || b ≡ false → T (not a)
@@ -96,27 +99,34 @@ module _ (s : List Step) (l p v : List ℕ) where
       go (reading.refused n) = refl
 
   -- what is asked of the roster held
-  answer-on : (R : Roster) (plan : List ℕ) → answerOn chosen (held (accepted R) plan) call ≡ foundAnswer (length (stepsOf (instanceOf R))) (finderOf (instanceOf R) (rivalOf (instanceOf R)))
+  answer-on : (R : Roster) (plan : List ℕ)
+      → answerOn chosen (held (accepted R) plan) call ≡ foundAnswer (length (stepsOf (instanceOf R))) (finderOf (instanceOf R) (rivalOf (instanceOf R)))
   answer-on R plan = go (readPlan (instanceOf R) plan)
     where
-      go : (y : Reading Plan) → answerOn chosen (heldPlan R y) call ≡ foundAnswer (length (stepsOf (instanceOf R))) (finderOf (instanceOf R) (rivalOf (instanceOf R)))
+      go : (y : Reading Plan)
+          → answerOn chosen (heldPlan R y) call ≡ foundAnswer (length (stepsOf (instanceOf R))) (finderOf (instanceOf R) (rivalOf (instanceOf R)))
       go (accepted M) = refl
       go (reading.refused n) = refl
 
-  lent-on : (R : Roster) (plan : List ℕ) → lentOn chosen (held (accepted R) plan) call ≡ foundWritten (instanceOf R) (finderOf (instanceOf R) (rivalOf (instanceOf R))) (recordsIn s) l p v
+  lent-on : (R : Roster) (plan : List ℕ)
+      → lentOn chosen (held (accepted R) plan) call ≡ foundWritten (instanceOf R) (finderOf (instanceOf R) (rivalOf (instanceOf R))) (recordsIn s) l p v
   lent-on R plan = go (readPlan (instanceOf R) plan)
     where
-      go : (y : Reading Plan) → lentOn chosen (heldPlan R y) call ≡ foundWritten (instanceOf R) (finderOf (instanceOf R) (rivalOf (instanceOf R))) (recordsIn s) l p v
+      go : (y : Reading Plan)
+          → lentOn chosen (heldPlan R y) call ≡ foundWritten (instanceOf R) (finderOf (instanceOf R) (rivalOf (instanceOf R))) (recordsIn s) l p v
       go (accepted M) = refl
       go (reading.refused n) = refl
 
   module _ (d : Desk) (r : FindReply) (same : r .desk ≡ d) (flat : List ℕ) (s′ : List Step) (l′ p′ v′ : List ℕ) where
-    state-here : (x : Reading Roster) → readRoster (rosterBytes d) ≡ x → (b : Bool) → short (length s) l p v ≡ b → stateAt x b ≡ stateNumber (heldOf d) false (lentShort call)
+    state-here : (x : Reading Roster) → readRoster (rosterBytes d) ≡ x → (b : Bool) → short (length s) l p v ≡ b
+        → stateAt x b ≡ stateNumber (heldOf d) false (lentShort call)
     unfolding heldOf
-    state-here x e b q = ap (stateAt x) (sym q ∙ short-is) ∙ state-at x (planBytes d) ∙ ap (λ y. stateNumber (held y (planBytes d)) false (lentShort call)) (sym e)
+    state-here x e b q =
+        ap (stateAt x) (sym q ∙ short-is) ∙ state-at x (planBytes d) ∙ ap (λ y. stateNumber (held y (planBytes d)) false (lentShort call)) (sym e)
 
     -- a refusal by 13 or 15
-    refused-reply : (n : ℕ) → 0 < n → n ≡ stateNumber (heldOf d) false (lentShort call) → (o : Outcome) → o .answer ≡ r .answer → finds.Kept n l p v o l′ p′ v′ → s′ ≡ s
+    refused-reply : (n : ℕ) → 0 < n → n ≡ stateNumber (heldOf d) false (lentShort call) → (o : Outcome) → o .answer ≡ r .answer
+        → finds.Kept n l p v o l′ p′ v′ → s′ ≡ s
         → Replied d call (foundShown (r .answer)) (find (recordsIn s′) l′ p′ v′) (r .desk)
     refused-reply n h e o a k q =
         subst (λ z. Replied d call (foundShown (r .answer)) (find (recordsIn s′) l′ p′ v′) z) (sym same)
@@ -124,7 +134,8 @@ module _ (s : List Step) (l p v : List ℕ) where
         (by-state d call tt e h (ap foundShown (sym a ∙ k .refuses .answer) ∙ ap (refused n) (shown-case (groupOf n)))))
 
     -- what was found
-    module _ (R : Roster) (e : readRoster (rosterBytes d) ≡ accepted R) (f : FindsFor R (replicate flatSize 0) l p v (r .answer) flat l′ p′ v′) (q : recordsIn s′ ≡ onto (diaryOf (instanceOf R)) (recordsIn s)) where
+    module _ (R : Roster) (e : readRoster (rosterBytes d) ≡ accepted R) (f : FindsFor R (replicate flatSize 0) l p v (r .answer) flat l′ p′ v′)
+        (q : recordsIn s′ ≡ onto (diaryOf (instanceOf R)) (recordsIn s)) where
       abbrev x : F.Found
       x = finderOf (instanceOf R) (rivalOf (instanceOf R))
 
@@ -136,7 +147,9 @@ module _ (s : List Step) (l p v : List ℕ) where
       answer-here = ap foundShown (f .finds .wrote .answer) ∙ shown-is (length (stepsOf (instanceOf R))) x
 
       lent-here : find (recordsIn s′) l′ p′ v′ ≡ foundWritten (instanceOf R) x (recordsIn s) l p v
-      lent-here = (λ i. find (q i) (f .finds .wrote .left i) (f .finds .wrote .plan i) (f .finds .wrote .rival i)) ∙ sym (written-is (instanceOf R) x (recordsIn s) l p v)
+      lent-here =
+          (λ i. find (q i) (f .finds .wrote .left i) (f .finds .wrote .plan i) (f .finds .wrote .rival i))
+          ∙ sym (written-is (instanceOf R) x (recordsIn s) l p v)
 
       found-reply : 0 ≡ stateRefusal (heldOf d) call → Replied d call (foundShown (r .answer)) (find (recordsIn s′) l′ p′ v′) (r .desk)
       found-reply z = record {
@@ -150,26 +163,39 @@ module _ (s : List Step) (l p v : List ℕ) where
       promised-here =
           subst (λ a. Promise R a (recordsIn s) l p v (recordsIn s′) l′ p′ v′) (sym (f .finds .wrote .answer))
           (subst (λ z. Promise R (answerFor (length (stepsOf (instanceOf R))) x) (recordsIn s) l p v z l′ p′ v′) (sym q)
-          (subst (λ z. Promise R (answerFor (length (stepsOf (instanceOf R))) x) (recordsIn s) l p v (onto (diaryOf (instanceOf R)) (recordsIn s)) z p′ v′) (sym (f .finds .wrote .left))
-          (subst (λ z. Promise R (answerFor (length (stepsOf (instanceOf R))) x) (recordsIn s) l p v (onto (diaryOf (instanceOf R)) (recordsIn s)) (leftAfter (instanceOf R) x l) z v′) (sym (f .finds .wrote .plan))
-          (subst (λ z. Promise R (answerFor (length (stepsOf (instanceOf R))) x) (recordsIn s) l p v (onto (diaryOf (instanceOf R)) (recordsIn s)) (leftAfter (instanceOf R) x l) (planAfter (instanceOf R) x p) z) (sym (f .finds .wrote .rival))
+          (subst
+          (λ z. Promise R (answerFor (length (stepsOf (instanceOf R))) x) (recordsIn s) l p v (onto (diaryOf (instanceOf R)) (recordsIn s)) z p′ v′)
+          (sym (f .finds .wrote .left))
+          (subst
+          (λ z. Promise R (answerFor (length (stepsOf (instanceOf R))) x) (recordsIn s) l p v (onto (diaryOf (instanceOf R)) (recordsIn s))
+          (leftAfter (instanceOf R) x l) z v′)
+          (sym (f .finds .wrote .plan))
+          (subst
+          (λ z. Promise R (answerFor (length (stepsOf (instanceOf R))) x) (recordsIn s) l p v (onto (diaryOf (instanceOf R)) (recordsIn s))
+          (leftAfter (instanceOf R) x l) (planAfter (instanceOf R) x p) z)
+          (sym (f .finds .wrote .rival))
           (promised R (f .fitting) (recordsIn s) l p v)))))
 
     -- the filled diary is the model's
-    diary-here : (R : Roster) (steps : ℕ) → FindsFor R (replicate flatSize 0) l p v (r .answer) flat l′ p′ v′ → steps ≡ promise.stepsIn (r .answer) → s′ ≡ onto (stepsIn steps flat) s → recordsIn s′ ≡ onto (diaryOf (instanceOf R)) (recordsIn s)
+    diary-here : (R : Roster) (steps : ℕ) → FindsFor R (replicate flatSize 0) l p v (r .answer) flat l′ p′ v′ → steps ≡ promise.stepsIn (r .answer)
+        → s′ ≡ onto (stepsIn steps flat) s → recordsIn s′ ≡ onto (diaryOf (instanceOf R)) (recordsIn s)
     unfolding diaryOf
     diary-here R steps f n w = filled-diary (diaryOf (instanceOf R)) steps flat (replicate flatSize 0) s s′ (f .finds .diary)
-        (n ∙ ap promise.stepsIn (f .finds .wrote .answer) ∙ steps-are (length (stepsOf (instanceOf R))) (finderOf (instanceOf R) (rivalOf (instanceOf R))) ∙ sym (length-map (stepsOf (instanceOf R)) (recordOf (instanceOf R)))) w
+        (n ∙ ap promise.stepsIn (f .finds .wrote .answer)
+        ∙ steps-are (length (stepsOf (instanceOf R))) (finderOf (instanceOf R) (rivalOf (instanceOf R)))
+        ∙ sym (length-map (stepsOf (instanceOf R)) (recordOf (instanceOf R)))) w
 
     -- by the roster's reading and the buffers' sizes
     abbrev Both : Type 0
     Both = Replied d call (foundShown (r .answer)) (find (recordsIn s′) l′ p′ v′) (r .desk)
-        × ((R : Roster) → readRoster (rosterBytes d) ≡ accepted R → T (not (lentShort call)) → Promise R (r .answer) (recordsIn s) l p v (recordsIn s′) l′ p′ v′)
+        × ((R : Roster) → readRoster (rosterBytes d) ≡ accepted R → T (not (lentShort call))
+        → Promise R (r .answer) (recordsIn s) l p v (recordsIn s′) l′ p′ v′)
 
     by-outcome : (x : Reading Roster) → readRoster (rosterBytes d) ≡ x → (b : Bool) → short (length s) l p v ≡ b → (steps : ℕ)
         → OutcomeFor x b l p v (record { answer = r .answer; flat = flat; steps = steps }) l′ p′ v′ → s′ ≡ onto (stepsIn steps flat) s → Both
     by-outcome (reading.refused n) e b q steps k w = (
-      refused-reply 13 (omega arith) (state-here (reading.refused n) e b q) (record { answer = r .answer; flat = flat; steps = steps }) refl k (filled-none steps flat s s′ (k .refuses .steps) w),
+      refused-reply 13 (omega arith) (state-here (reading.refused n) e b q) (record { answer = r .answer; flat = flat; steps = steps }) refl k
+          (filled-none steps flat s s′ (k .refuses .steps) w),
       λ R a t. absurd (no-roster (sym e ∙ a)),
     )
       where
@@ -180,12 +206,14 @@ module _ (s : List Step) (l p v : List ℕ) where
         no-roster : {n : ℕ} {R : Roster} → reading.refused n ≡ accepted R → ⊥
         no-roster z = subst (λ y. T (isTurned y)) z tt
     by-outcome (accepted R) e true q steps k w = (
-      refused-reply 15 (omega arith) (state-here (accepted R) e true q) (record { answer = r .answer; flat = flat; steps = steps }) refl k (filled-none steps flat s s′ (k .refuses .steps) w),
+      refused-reply 15 (omega arith) (state-here (accepted R) e true q) (record { answer = r .answer; flat = flat; steps = steps }) refl k
+          (filled-none steps flat s s′ (k .refuses .steps) w),
       λ R a t. absurd (subst (λ b. T (not b)) (sym short-is ∙ q) t),
     )
     by-outcome (accepted R) e false q steps (f, n) w = (
       found-reply R e f (diary-here R steps f n w) (state-here (accepted R) e false q ∙ states (heldOf d) call tt),
-      λ R′ a t. subst (λ Q. Promise Q (r .answer) (recordsIn s) l p v (recordsIn s′) l′ p′ v′) (one (sym e ∙ a)) (promised-here R e f (diary-here R steps f n w)),
+      λ R′ a t. subst (λ Q. Promise Q (r .answer) (recordsIn s) l p v (recordsIn s′) l′ p′ v′) (one (sym e ∙ a))
+          (promised-here R e f (diary-here R steps f n w)),
     )
       where
         rosterOf : Roster → Reading Roster → Roster
@@ -195,8 +223,11 @@ module _ (s : List Step) (l p v : List ℕ) where
         one : {Q R : Roster} → accepted Q ≡ accepted R → Q ≡ R
         one {Q} z = ap (rosterOf Q) z
 
-pub found : (d : Desk) (s : List Step) (l p v : List ℕ) (c : CoreReply) (s′ : List Step) (l′ p′ v′ : List ℕ) → Done d (length s) l p v c l′ p′ v′ → s′ ≡ onto (stepsIn (c .steps) (c .flat)) s
+pub found : (d : Desk) (s : List Step) (l p v : List ℕ) (c : CoreReply) (s′ : List Step) (l′ p′ v′ : List ℕ) → Done d (length s) l p v c l′ p′ v′
+    → s′ ≡ onto (stepsIn (c .steps) (c .flat)) s
     → Finds d s l p v (c .reply) s′ l′ p′ v′
 found d s l p v c s′ l′ p′ v′ D w =
-    let (a, b) = by-outcome s l p v d (c .reply) (D .same) (c .flat) s′ l′ p′ v′ (readRoster (rosterBytes d)) refl (short (length s) l p v) refl (c .steps) (D .outcome) w in
+    let (a, b) =
+    by-outcome s l p v d (c .reply) (D .same) (c .flat) s′ l′ p′ v′ (readRoster (rosterBytes d)) refl (short (length s) l p v) refl (c .steps)
+    (D .outcome) w in
     record { replied = a; demand3 = b }

@@ -6,9 +6,11 @@ use lib.ListN.{length, take, drop}
 use lib.Seq.{take-length, take-append-seam}
 
 -- a file copied over the front of an array
-pub front-copied : (file array : List ℕ) {n : ℕ} {after : List ℕ} → n ≡ length file → after ≡ take (length file) file ++ drop (length file) array → take n after ≡ file
+pub front-copied : (file array : List ℕ) {n : ℕ} {after : List ℕ} → n ≡ length file → after ≡ take (length file) file ++ drop (length file) array
+    → take n after ≡ file
 front-copied file array {n} {after} e q =
-    ap (λ k. take k after) e ∙ ap (take (length file)) (q ∙ ap (λ l. l ++ drop (length file) array) (take-length file)) ∙ take-append-seam file (drop (length file) array)
+    ap (λ k. take k after) e ∙ ap (take (length file)) (q ∙ ap (λ l. l ++ drop (length file) array) (take-length file))
+    ∙ take-append-seam file (drop (length file) array)
 
 -- the front of an array copied over a buffer
 pub copied : (out : List ℕ) {held front : List ℕ} → front ≡ held → {n : ℕ} {after : List ℕ} → n ≡ length front

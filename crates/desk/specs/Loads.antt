@@ -13,7 +13,8 @@ use Rattle.model.specs.RosterFile.{readRoster}
 use Rattle.model.specs.Edges.{instanceOf}
 use Rattle.model.specs.Plans.{Plan}
 use Rattle.model.specs.PlanFile.{readPlan}
-use Rattle.model.specs.Desk.{Held, loadRoster, loadPlan, refusal, stateRefusal, answerOf, answerOn, loadedRoster, loadedPlan, withRoster, withPlan, deskOn, deskAfter}
+use Rattle.model.specs.Desk.{Held, loadRoster, loadPlan, refusal, stateRefusal, answerOf, answerOn, loadedRoster, loadedPlan, withRoster, withPlan}
+use Rattle.model.specs.Desk.{deskOn, deskAfter}
 use Rattle.theory_files.specs.Reads.{isBytes}
 use Rattle.theory_files.specs.Rosters.{accepted-size}
 use Rattle.theory_files.specs.PlanFiles.{plan-accepted-size}
@@ -42,7 +43,8 @@ unfolding answerOf stateRefusal
 roster-answer h file e = ap fileShown e ∙ roster-shown (readRoster file)
 
 module _ (d : Desk) (file : List ℕ) where
-  pub roster-refused : {n : ℕ} {g : Group} → Refused n g ≡ fileCase (readRoster file) → Replied d (loadRoster file) (fileShown (Refused n g)) (loadRoster file) d
+  pub roster-refused : {n : ℕ} {g : Group} → Refused n g ≡ fileCase (readRoster file)
+      → Replied d (loadRoster file) (fileShown (Refused n g)) (loadRoster file) d
   unfolding deskAfter stateRefusal
   roster-refused e = record {
     answer = roster-answer (heldOf d) file e;
@@ -73,16 +75,19 @@ plan-shown (refused n) = refusal-shown n
 
 module _ (d : Desk) (file : List ℕ) {l : OnDesk} (F : LoadedFrom (rosterBytes d) (planBytes d) false false l) (z : l .refusal ≤ 0) where
   -- the reading against the roster held
-  against : {a : FileAnswer} → a ≡ fileCase (readPlan (shownBy (l .g)) file) → (R : Roster) → readRoster (rosterBytes d) ≡ accepted R → a ≡ fileCase (readPlan (instanceOf R) file)
+  against : {a : FileAnswer} → a ≡ fileCase (readPlan (shownBy (l .g)) file) → (R : Roster) → readRoster (rosterBytes d) ≡ accepted R
+      → a ≡ fileCase (readPlan (instanceOf R) file)
   against {a} e R r = subst (λ G. a ≡ fileCase (readPlan G file)) (F .instance R r .1) e
 
-  answers : {a : FileAnswer} (R : Roster) (y : Reading Plan) → a ≡ fileCase (readPlan (instanceOf R) file) → fileShown a ≡ answerOn chosen (heldPlan R y) (loadPlan file)
+  answers : {a : FileAnswer} (R : Roster) (y : Reading Plan) → a ≡ fileCase (readPlan (instanceOf R) file)
+      → fileShown a ≡ answerOn chosen (heldPlan R y) (loadPlan file)
   answers R y e = ap fileShown e ∙ plan-shown (readPlan (instanceOf R) file) ∙ of-roster (refusal 13) (λ r. loadedPlan (readPlan (instanceOf r) file)) R y
 
   holds : (R : Roster) (y : Reading Plan) → withPlan (heldPlan R y) R (readPlan (instanceOf R) file) ≡ deskOn (heldPlan R y) (loadPlan file)
   holds R y = of-roster (heldPlan R y) (λ r. withPlan (heldPlan R y) r (readPlan (instanceOf r) file)) R y
 
-  pub plan-refused : {n : ℕ} {g : Group} → Refused n g ≡ fileCase (readPlan (shownBy (l .g)) file) → Replied d (loadPlan file) (fileShown (Refused n g)) (loadPlan file) d
+  pub plan-refused : {n : ℕ} {g : Group} → Refused n g ≡ fileCase (readPlan (shownBy (l .g)) file)
+      → Replied d (loadPlan file) (fileShown (Refused n g)) (loadPlan file) d
   plan-refused e = given (its-roster z F) (λ (R, r).
       let y = readPlan (instanceOf R) (planBytes d) in
       passes d (loadPlan file) tt (state-is d F) z (heldPlan R y) (roster-held d R r) (answers R y (against e R r)) refl
@@ -99,7 +104,8 @@ module _ (d : Desk) (file : List ℕ) {l : OnDesk} (F : LoadedFrom (rosterBytes 
         let s = passed d (loadPlan file) tt (state-is d F) z in
         let t = case-accepted (readPlan (instanceOf R) file) (against e R r) in
         record {
-          answer = answers R y (against e R r) ∙ ap (λ h. answerOn chosen h (loadPlan file)) (sym (roster-held d R r)) ∙ pass-answer (heldOf d) (loadPlan file) s;
+          answer =
+              answers R y (against e R r) ∙ ap (λ h. answerOn chosen h (loadPlan file)) (sym (roster-held d R r)) ∙ pass-answer (heldOf d) (loadPlan file) s;
           lent = lent-alike (heldOf d) (loadPlan file) refl;
           desk = roster-held d′ R (ap readRoster (ap₂ take m b) ∙ r) ∙ ap (λ q. heldPlan R (readPlan (instanceOf R) q)) p ∙ ap (heldPlan R) (t .1)
               ∙ sym (ap (withPlan (heldPlan R y) R) (t .1)) ∙ holds R y ∙ ap (λ h. deskOn h (loadPlan file)) (sym (roster-held d R r))

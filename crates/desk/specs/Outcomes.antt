@@ -134,8 +134,10 @@ module _ (roster : List ℕ) (room : ℕ) (l p v : List ℕ) (o : Outcome) where
   pub out-13 : {n : ℕ} {k : Group} → answer.Refused n k ≡ fileCase (readRoster roster) → Refuses 13 o → Outcomes roster room l p v o l p v
   out-13 e r = subst (λ x. OutcomeFor x (short room l p v) l p v o l p v) (sym (case-refused (readRoster roster) e)) (kept-all 13 r)
 
-  at-roster : (R : Roster) (b : Bool) (l′ p′ v′ : List ℕ) → readRoster roster ≡ accepted R → short room l p v ≡ b → OutcomeFor (accepted R) b l p v o l′ p′ v′ → Outcomes roster room l p v o l′ p′ v′
-  at-roster R b l′ p′ v′ e s x = subst (λ y. OutcomeFor y (short room l p v) l p v o l′ p′ v′) (sym e) (subst (λ y. OutcomeFor (accepted R) y l p v o l′ p′ v′) (sym s) x)
+  at-roster : (R : Roster) (b : Bool) (l′ p′ v′ : List ℕ) → readRoster roster ≡ accepted R → short room l p v ≡ b
+      → OutcomeFor (accepted R) b l p v o l′ p′ v′ → Outcomes roster room l p v o l′ p′ v′
+  at-roster R b l′ p′ v′ e s x =
+      subst (λ y. OutcomeFor y (short room l p v) l p v o l′ p′ v′) (sym e) (subst (λ y. OutcomeFor (accepted R) y l p v o l′ p′ v′) (sym s) x)
 
   pub out-15 : RosterAccepted roster → short room l p v ≡ true → Refuses 15 o → Outcomes roster room l p v o l p v
   out-15 (R, e) s r = at-roster R true l p v e s (kept-all 15 r)

@@ -11,7 +11,9 @@ use Rattle.model.specs.Reading.{Reading, accepted, refused}
 use Rattle.model.specs.Roster.{Roster}
 use Rattle.model.specs.RosterFile.{readRoster}
 use Rattle.model.specs.Plans.{Plan}
-use Rattle.model.specs.Desk.{Held, onRoster, Call, loadRoster, loadPlan, writeRosterTo, writePlanTo, find, judge, compare, blocking, Answer, needsRoster, needsPlan, lentShort, noRoster, noPlan, stateRefusal, answerOn, lentOn, stateRefused, answerOf, lentAfter, deskOn, deskAfter}
+use Rattle.model.specs.Desk.{Held, onRoster, Call, loadRoster, loadPlan, writeRosterTo, writePlanTo, find, judge, compare, blocking, Answer}
+use Rattle.model.specs.Desk.{needsRoster, needsPlan, lentShort, noRoster, noPlan, stateRefusal, answerOn, lentOn, stateRefused, answerOf, lentAfter}
+use Rattle.model.specs.Desk.{deskOn, deskAfter}
 use Rattle.theory_finder.specs.Choices.{chosen}
 use Rattle.desk.specs.declared.Desk.{Desk}
 use Rattle.desk_loaded.specs.Held.{heldPlan, held, stateNumber}
@@ -35,9 +37,11 @@ same-desk d n blocking = refl
 -- a call that needs a roster
 pub states : (h : Held) (c : Call) → T (needsRoster c) → stateNumber h (needsPlan c) (lentShort c) ≡ stateRefusal h c
 unfolding stateRefusal
-states h c t = ap (λ b. cond (b && noRoster h) 13 (cond (needsPlan c && noPlan h) 14 (cond (lentShort c) 15 0))) {y = needsRoster c} (sym (T-true {b = needsRoster c} t))
+states h c t =
+    ap (λ b. cond (b && noRoster h) 13 (cond (needsPlan c && noPlan h) 14 (cond (lentShort c) 15 0))) {y = needsRoster c} (sym (T-true {b = needsRoster c} t))
 
-pub by-state : (d : Desk) (c : Call) → T (needsRoster c) → {n : ℕ} {a : Answer} → n ≡ stateNumber (heldOf d) (needsPlan c) (lentShort c) → 0 < n → a ≡ stateRefused n c → Replied d c a c d
+pub by-state : (d : Desk) (c : Call) → T (needsRoster c) → {n : ℕ} {a : Answer} → n ≡ stateNumber (heldOf d) (needsPlan c) (lentShort c) → 0 < n
+    → a ≡ stateRefused n c → Replied d c a c d
 unfolding answerOf lentAfter deskAfter
 by-state d c t {n} {a} i h q = record {
   answer = q ∙ by-number (λ k. stateRefused k c) (answerOn chosen (heldOf d) c) e h;
@@ -96,7 +100,8 @@ module _ (d : Desk) (c : Call) (t : T (needsRoster c)) {n : ℕ} (i : n ≡ stat
   pub passed : 0 ≡ stateRefusal (heldOf d) c
   passed = no-number z i ∙ states (heldOf d) c t
 
-  pub passes : {a : Answer} {c′ : Call} (h : Held) → heldOf d ≡ h → a ≡ answerOn chosen h c → c′ ≡ lentOn chosen h c → h ≡ deskOn h c → Stored c (isLoaded a) d d → Replied d c a c′ d
+  pub passes : {a : Answer} {c′ : Call} (h : Held) → heldOf d ≡ h → a ≡ answerOn chosen h c → c′ ≡ lentOn chosen h c → h ≡ deskOn h c
+      → Stored c (isLoaded a) d d → Replied d c a c′ d
   passes h e p q k s = record {
     answer = p ∙ ap (λ h. answerOn chosen h c) (sym e) ∙ pass-answer (heldOf d) c passed;
     lent = q ∙ ap (λ h. lentOn chosen h c) (sym e) ∙ pass-lent (heldOf d) c passed;

@@ -57,7 +57,8 @@ pub(crate) fn found(
     plan: &mut [u8],
     rival: &mut [u8],
 ) -> Outcome
-    ensures { λ r. ⌜ Outcomes (now (roster .entry)) room (now (left .entry)) (now (plan .entry)) (now (rival .entry)) r (now (left .exit)) (now (plan .exit)) (now (rival .exit)) ⌝ }
+    ensures { λ r. ⌜ Outcomes (now (roster .entry)) room (now (left .entry)) (now (plan .entry)) (now (rival .entry)) r (now (left .exit)) (now (plan .exit))
+        (now (rival .exit)) ⌝ }
 {
     let a = roster::read_roster(roster);
     match a {

@@ -222,7 +222,8 @@ impl Desk {
 
     // Both votes and the winner; the winner's part is what `winner_part` hands back for the same files.
     pub fn compare(self, first: &[u8], second: &[u8]) -> CompareReply
-        ensures { λ r. ⌜ Replied self (compare (now (first .entry)) (now (second .entry))) (comparisonShown (now (first .entry)) (now (second .entry)) (r .answer)) (compare (now (first .entry)) (now (second .entry))) (r .desk) ⌝ }
+        ensures { λ r. ⌜ Replied self (compare (now (first .entry)) (now (second .entry)))
+            (comparisonShown (now (first .entry)) (now (second .entry)) (r .answer)) (compare (now (first .entry)) (now (second .entry))) (r .desk) ⌝ }
     {
         let l = held::loaded(self, false, false);
         let n = l.refusal;
@@ -277,7 +278,8 @@ impl Desk {
         plan: &mut [u8],
         rival: &mut [u8],
     ) -> FindReply
-        ensures { λ r. ⌜ Finds self (now (diary .entry)) (now (left .entry)) (now (plan .entry)) (now (rival .entry)) r (now (diary .exit)) (now (left .exit)) (now (plan .exit)) (now (rival .exit)) ⌝ }
+        ensures { λ r. ⌜ Finds self (now (diary .entry)) (now (left .entry)) (now (plan .entry)) (now (rival .entry)) r (now (diary .exit)) (now (left .exit))
+            (now (plan .exit)) (now (rival .exit)) ⌝ }
     {
         let c = core(self, diary.len(), left, plan, rival);
         diary::fill(diary, c.flat, c.steps);

@@ -85,7 +85,8 @@ module _ (g : Instance) (file : List ℕ) (p : PlanRead) (A : ReadAs (shownBy g)
     plan-there isB {n} q e en ep ee = given (accepted-read A q) (λ (M, a, s). record {
       arrays = same;
       refusal = λ R. e ∙ sym (ap (λ y. stateNumber (heldPlan R y) true short) a);
-      planned = λ t N b. let w = subst (λ z. readPlan (shownBy g) file ≡ accepted z) (one (sym a ∙ b)) a in (in-arrays N w, plan-read-write (shownBy g) file N isB w);
+      planned =
+          λ t N b. let w = subst (λ z. readPlan (shownBy g) file ≡ accepted z) (one (sym a ∙ b)) a in (in-arrays N w, plan-read-write (shownBy g) file N isB w);
     })
       where
         planIn : Plan → Reading Plan → Plan
@@ -159,10 +160,12 @@ module _ {roster file : List ℕ} {short : Bool} {r : OnDesk} (z : r .refusal �
       go (refused n) a e = no-number z e
 
   -- and a plan, where one is needed
-  pub its-plan : LoadedFrom roster file true short r → (R : Roster) × (M : Plan) × (readRoster roster ≡ accepted R) × (readPlan (instanceOf R) file ≡ accepted M)
+  pub its-plan : LoadedFrom roster file true short r
+      → (R : Roster) × (M : Plan) × (readRoster roster ≡ accepted R) × (readPlan (instanceOf R) file ≡ accepted M)
   its-plan F = given (its-roster F) (λ (R, a). go R a (readPlan (instanceOf R) file) refl (F .refusal ∙ ap (λ x. stateNumber (held x file) true short) a))
     where
-      go : (R : Roster) → readRoster roster ≡ accepted R → (y : Reading Plan) → readPlan (instanceOf R) file ≡ y → r .refusal ≡ stateNumber (heldPlan R y) true short
+      go : (R : Roster) → readRoster roster ≡ accepted R → (y : Reading Plan) → readPlan (instanceOf R) file ≡ y
+          → r .refusal ≡ stateNumber (heldPlan R y) true short
           → (R : Roster) × (M : Plan) × (readRoster roster ≡ accepted R) × (readPlan (instanceOf R) file ≡ accepted M)
       go R a (accepted M) b e = (R, M, a, b)
       go R a (refused n) b e = no-number z e

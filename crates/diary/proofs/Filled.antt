@@ -24,10 +24,12 @@ one-more : (xs d : List Step) (n : ℕ) (s : Step) → length xs ≡ n → suc n
 one-more xs d n s h k =
     let l : n + 1 ≡ suc n = omega arith in
     ap (λ (m : ℕ). set (xs ++ drop m d) n s) h ∙ ap (λ (l : List Step). set (xs ++ l) n s) (drop-cons d n s k) ∙ set-at xs (getD d n s) (drop (suc n) d) s n h
-    ∙ ap (λ (m : ℕ). xs ++ s ∷ drop m d) (sym (length-append xs (s ∷ []) ∙ ap (λ (m : ℕ). m + 1) h ∙ l)) ∙ sym (append-assoc xs (s ∷ []) (drop (length (xs ++ (s ∷ []))) d))
+    ∙ ap (λ (m : ℕ). xs ++ s ∷ drop m d) (sym (length-append xs (s ∷ []) ∙ ap (λ (m : ℕ). m + 1) h ∙ l))
+    ∙ sym (append-assoc xs (s ∷ []) (drop (length (xs ++ (s ∷ []))) d))
 
 pub filled-onto : (n : ℕ) (f : List ℕ) (d : List Step) → n ≤ length d → filled n f d ≡ onto (stepsIn n f) d
 unfolding stepsIn
 filled-onto zero f d h = refl
 filled-onto (suc n) f d h =
-    ap (λ (l : List Step). set l n (stepAt f n)) (filled-onto n f d (omega arith)) ∙ one-more (stepsIn n f) d n (stepAt f n) (steps-length n f) h ∙ ap (λ (l : List Step). onto l d) (sym (steps-more n f))
+    ap (λ (l : List Step). set l n (stepAt f n)) (filled-onto n f d (omega arith)) ∙ one-more (stepsIn n f) d n (stepAt f n) (steps-length n f) h
+    ∙ ap (λ (l : List Step). onto l d) (sym (steps-more n f))

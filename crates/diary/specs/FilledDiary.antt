@@ -57,15 +57,19 @@ map-append [] ys = refl
 map-append (x ∷ xs) ys = ap (λ (l : List Record). recordIn x ∷ l) (map-append xs ys)
 
 pub records-onto : (xs d : List Step) → recordsIn (onto xs d) ≡ onto (recordsIn xs) (recordsIn d)
-records-onto xs d = map-append xs (drop (length xs) d) ∙ ap (λ (l : List Record). recordsIn xs ++ l) (map-drop (length xs) d ∙ ap (λ (n : ℕ). drop n (recordsIn d)) (sym (length-map xs recordIn)))
+records-onto xs d =
+    map-append xs (drop (length xs) d)
+    ∙ ap (λ (l : List Record). recordsIn xs ++ l) (map-drop (length xs) d ∙ ap (λ (n : ℕ). drop n (recordsIn d)) (sym (length-map xs recordIn)))
 
 -- what `fill` leaves of a flat diary that holds records, as the model's records: these at the front, the rest as it was
-pub filled-diary : (rs : List Record) (n : ℕ) (flat room : List ℕ) (before after : List Step) → flat ≡ written rs room → n ≡ length rs → after ≡ onto (stepsIn n flat) before
+pub filled-diary : (rs : List Record) (n : ℕ) (flat room : List ℕ) (before after : List Step) → flat ≡ written rs room → n ≡ length rs
+    → after ≡ onto (stepsIn n flat) before
     → recordsIn after ≡ onto rs (recordsIn before)
 unfolding written
 filled-diary rs n flat room before after e h k =
     ap recordsIn k ∙ records-onto (stepsIn n flat) before
-    ∙ ap (λ (l : List Record). onto l (recordsIn before)) (ap (λ (m : ℕ). recordsIn (stepsIn m flat)) h ∙ ap (λ (l : List ℕ). recordsIn (stepsIn (length rs) l)) e ∙ held rs (drop (4 * length rs) room))
+    ∙ ap (λ (l : List Record). onto l (recordsIn before))
+    (ap (λ (m : ℕ). recordsIn (stepsIn m flat)) h ∙ ap (λ (l : List ℕ). recordsIn (stepsIn (length rs) l)) e ∙ held rs (drop (4 * length rs) room))
 
 -- the same of the trace of a whole run: the lent diary begins with the model's diary
 pub filled-run : (G : Instance) (sv st : List ℕ) → G .sv ≡ at sv → G .st ≡ at st → (t : Trace) → Traced (stepsOf G) t → (before after : List Step)

@@ -48,7 +48,8 @@ put-length d d′ b r e = ap length e ∙ simp length-set
 -- a buffer that starts with xs: a store behind them
 behind : (xs ys : List ℕ) (b i x : ℕ) → length xs ≡ b → set (xs ++ ys) (b + i) x ≡ xs ++ set ys i x
 behind [] ys b i x h = ap (λ k. set ys k x) (let e : b + i ≡ i = omega arith in e)
-behind (y ∷ xs) ys b i x h = ap (λ k. set ((y ∷ xs) ++ ys) k x) (let e : b + i ≡ suc (length xs + i) = omega arith in e) ∙ ap (λ (l : List ℕ). y ∷ l) (behind xs ys (length xs) i x refl)
+behind (y ∷ xs) ys b i x h =
+    ap (λ k. set ((y ∷ xs) ++ ys) k x) (let e : b + i ≡ suc (length xs + i) = omega arith in e) ∙ ap (λ (l : List ℕ). y ∷ l) (behind xs ys (length xs) i x refl)
 
 four : (ys : List ℕ) (r : Record) → 4 ≤ length ys → put ys 0 r ≡ numbers r ++ drop 4 ys
 four [] r h = absurd (omega arith)

@@ -15,7 +15,7 @@ use Rattle.model.specs.Finder.{Record, recordOf, diaryOf}
 use Rattle.theory_reduction.specs.RuleNumbers.{stepOf}
 use Rattle.theory_reduction.specs.Course.{along, steps-below, steps-few}
 use Rattle.arrays.specs.ArrayInstance.{at}
-use Rattle.reduction_counts.specs.Filled.{Low}
+use Rattle.arrays.specs.Passes.{Low}
 use Rattle.reduction_state.specs.declared.Trace.{Trace}
 use Rattle.reduction_state.specs.Trace.{Traced}
 use Rattle.diary.specs.FlatDiary.{flatSize, entry, written, put, put-length, laid, laid-is}
@@ -52,7 +52,8 @@ module _ (sv st : List ℕ) where
     ahead = ap (λ n. laid 0 (map (entryAt t) (range 0 n)) (replicate flatSize 0)) e;
   }
 
-  pub telling-next : (t : Trace) (i : ℕ) (flat flat′ : List ℕ) → Telling t i flat → i < t .steps → flat′ ≡ put flat (i * 4) (entryAt t i) → Telling t (i + 1) flat′
+  pub telling-next : (t : Trace) (i : ℕ) (flat flat′ : List ℕ) → Telling t i flat → i < t .steps → flat′ ≡ put flat (i * 4) (entryAt t i)
+      → Telling t (i + 1) flat′
   unfolding laid
   telling-next t i flat flat′ T h q =
       let k : t .steps - i ≡ suc (t .steps - (i + 1)) = omega arith in
@@ -97,7 +98,8 @@ module _ (sv st : List ℕ) where
   entries-are : (ss : List Step) (t : Trace) → Traced ss t → recordsOf t ≡ map of-step ss
   entries-are ss t T =
       (λ i. map (entryAt (record { edges = T .edges i; rules = T .rules i; steps = T .steps i })) (range 0 (T .steps i)))
-      ∙ entries-from ss [] [] (drop (length (map (λ s. s .edge) ss)) (replicate entryLimit 0)) (drop (length (map (λ s. s .rule) ss)) (replicate entryLimit 0)) 0
+      ∙ entries-from ss [] [] (drop (length (map (λ s. s .edge) ss)) (replicate entryLimit 0))
+      (drop (length (map (λ s. s .rule) ss)) (replicate entryLimit 0)) 0
       (length ss) refl refl
 
 -- ---- of the steps that the model takes: a step's fate is its rule's
@@ -128,7 +130,8 @@ readable G sv st few a b t T = record {
   few = omega (arith, T .steps, steps-few G);
   edges = λ i h.
       let k : i < length edges = omega (arith, T .steps, length-map (stepsOf G) (λ s. s .edge)) in
-      let q : at (t .edges) i ≡ getD edges i 0 = ap (λ (l : List ℕ). at l i) (T .edges) ∙ List·getD-append edges (drop (length edges) (replicate entryLimit 0)) 0 i k in
+      let q : at (t .edges) i ≡ getD edges i 0 =
+      ap (λ (l : List ℕ). at l i) (T .edges) ∙ List·getD-append edges (drop (length edges) (replicate entryLimit 0)) 0 i k in
       given (Memᴰ·of-map (λ s. s .edge) (stepsOf G) (getD-∈ edges i 0 k)) (λ (s, j, e). omega (arith, steps-below G s j));
   low-sv = λ e h. a e;
   low-st = λ e h. b e;

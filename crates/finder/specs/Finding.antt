@@ -39,7 +39,8 @@ pub record Finds (G : Instance) (l p v : List ℕ) (o : Outcome) (l′ p′ v′
 -- what is found is the model's
 pub end-found : (G : Instance) (es : List ℕ) → es ≡ leftOf G → atEnd G (candidateOf G) es ≡ finderOf G (rivalOf G)
 unfolding finderOf
-end-found G es e = ap₂ (λ b zs. elim b as (λ b. Found) [ true ↦ candidate G (candidateOf G) (verdictOf G (candidateOf G)) | false ↦ F.left zs ]) (ap isEmpty e) e
+end-found G es e =
+    ap₂ (λ b zs. elim b as (λ b. Found) [ true ↦ candidate G (candidateOf G) (verdictOf G (candidateOf G)) | false ↦ F.left zs ]) (ap isEmpty e) e
     ∙ ap (λ x. elim (isEmpty (leftOf G)) as (λ b. Found) [ true ↦ x | false ↦ F.left (leftOf G) ]) (same (verdictOf G (candidateOf G)))
   where
     same : (x : Verdict) → candidate G (candidateOf G) x ≡ found G (rivalOf G) x
@@ -53,7 +54,8 @@ module _ (G : Instance) (fixed : List Bool) (is : (e : ℕ) → flag fixed e ≡
   unfolding candidateOf
   fixed-candidate e = by-cases (decLt e (G .m))
       (λ h. is e ∙ sym (on-planOf (G .m) (endOf G .fixed) e h))
-      (λ n. is e ∙ fixed-behind G e (omega arith) ∙ sym (List·getD-eq-default (planOf (G .m) (endOf G .fixed)) false (omega (arith, planOf-length (G .m) (endOf G .fixed)))))
+      (λ n. is e ∙ fixed-behind G e (omega arith)
+      ∙ sym (List·getD-eq-default (planOf (G .m) (endOf G .fixed)) false (omega (arith, planOf-length (G .m) (endOf G .fixed)))))
 
 -- for the arrays of an accepted roster
 module _ (g : arrays.Instance) (L : Loaded g) (rem fixed : List Bool) (t : Trace)

@@ -46,17 +46,20 @@ answerOn steps (Beaten v) = says.None steps (kind.Rivalled v)
 answerOn steps (Refused n g) = says.Refused n g
 
 module _ (G : Instance) (M : Plan) (steps : ℕ) (l p v p′ v′ : List ℕ) (w : weighed.Verdict) where
-  by-verdict : (x : Verdict) → w ≡ weighedAs G M x → v′ ≡ rivalWritten G M x v → p′ ≡ onto (planBytes G M) p → Wrote G (candidate G M x) steps l p v (answerOn steps w) l p′ v′
+  by-verdict : (x : Verdict) → w ≡ weighedAs G M x → v′ ≡ rivalWritten G M x v → p′ ≡ onto (planBytes G M) p
+      → Wrote G (candidate G M x) steps l p v (answerOn steps w) l p′ v′
   by-verdict P.strong a b c = record { answer = ap (answerOn steps) a; left = refl; plan = c; rival = b }
   by-verdict P.popular a b c = record { answer = ap (answerOn steps) a; left = refl; plan = c; rival = b }
   by-verdict P.beaten a b c = record { answer = ap (answerOn steps) a; left = refl; plan = c; rival = b }
 
-  pub wrote-judged : WeighedBy G M v w v′ → p′ ≡ onto (planBytes G M) p → {r : code.Found} → r ≡ answerOn steps w → Wrote G (candidate G M (verdictOf G M)) steps l p v r l p′ v′
+  pub wrote-judged : WeighedBy G M v w v′ → p′ ≡ onto (planBytes G M) p → {r : code.Found} → r ≡ answerOn steps w
+      → Wrote G (candidate G M (verdictOf G M)) steps l p v r l p′ v′
   wrote-judged W c e = subst (λ r. Wrote G (candidate G M (verdictOf G M)) steps l p v r l p′ v′) (sym e) (by-verdict (verdictOf G M) (W .reply) (W .buffer) c)
 
 -- a plan within the quotas has at most 64 edges
 pub few-edges : (g : arrays.Instance) → Loaded g → (p : List Bool) → ((M : Plan) × Shows (shownBy g) p M) → length (edgesIn (g .m) (flag p)) ≤ planLimit
-few-edges g L p (M, (ok, same)) = subst (λ es. length es ≤ planLimit) (edgesIn-cong (g .m) (on M) (flag p) (λ e h. sym (same e))) (plan-few (shownBy g) (L .fileable) M ok)
+few-edges g L p (M, (ok, same)) =
+    subst (λ es. length es ≤ planLimit) (edgesIn-cong (g .m) (on M) (flag p) (λ e h. sym (same e))) (plan-few (shownBy g) (L .fileable) M ok)
 
 -- the bytes that the plan writer leaves
 pub plan-onto : (g : arrays.Instance) (chosen : List Bool) (p p′ : List ℕ) → WrittenFor (g .m) (g .sv) (g .st) chosen p p′
@@ -89,10 +92,12 @@ module _ (g : arrays.Instance) (M : Plan) (es : List ℕ) (steps : ℕ) (l p v l
       filled (x ∷ xs) h = refl
 
   -- none is left: the buffer is as it was
-  pub none-left : k ≤ 0 → {r : code.Found} {p′ v′ : List ℕ} → ((l : List ℕ) → Wrote G (candidate G M (verdictOf G M)) steps l p v r l p′ v′) → Wrote G (atEnd G M es) steps l p v r l′ p′ v′
+  pub none-left : k ≤ 0 → {r : code.Found} {p′ v′ : List ℕ} → ((l : List ℕ) → Wrote G (candidate G M (verdictOf G M)) steps l p v r l p′ v′)
+      → Wrote G (atEnd G M es) steps l p v r l′ p′ v′
   none-left h {r} {p′} {v′} W =
       let e : es ≡ [] = nothing es (omega arith) in
-      subst (λ z. Wrote G (atEnd G M z) steps l p v r l′ p′ v′) (sym e) (subst (λ z. Wrote G (candidate G M (verdictOf G M)) steps l p v r z p′ v′) (sym (left-bytes ∙ ap (λ z. onto (pairList G z) l) e)) (W l))
+      subst (λ z. Wrote G (atEnd G M z) steps l p v r l′ p′ v′) (sym e)
+      (subst (λ z. Wrote G (candidate G M (verdictOf G M)) steps l p v r z p′ v′) (sym (left-bytes ∙ ap (λ z. onto (pairList G z) l) e)) (W l))
     where
       nothing : (xs : List ℕ) → length xs ≤ 0 → xs ≡ []
       nothing [] h = refl

@@ -49,8 +49,10 @@ pub fn ended(
     plan: &mut [u8],
     rival: &mut [u8],
 ) -> Found
-    requires { ⌜ Loaded g × ((M : Plan) × Shows (shownBy g) (now fixed) M) × (leftSize ≤ length (now left)) × (planSize ≤ length (now plan)) × (planSize ≤ length (now rival)) ⌝ }
-    ensures { λ r. ⌜ Ends g (now (rem .entry)) (now (fixed .entry)) steps (now (left .entry)) (now (plan .entry)) (now (rival .entry)) r (now (left .exit)) (now (plan .exit)) (now (rival .exit)) ⌝ }
+    requires { ⌜ Loaded g × ((M : Plan) × Shows (shownBy g) (now fixed) M) × (leftSize ≤ length (now left)) × (planSize ≤ length (now plan))
+        × (planSize ≤ length (now rival)) ⌝ }
+    ensures { λ r. ⌜ Ends g (now (rem .entry)) (now (fixed .entry)) steps (now (left .entry)) (now (plan .entry)) (now (rival .entry)) r (now (left .exit))
+        (now (plan .exit)) (now (rival .exit)) ⌝ }
 {
     let m = g.m;
     let sv = g.sv;

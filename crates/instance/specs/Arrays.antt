@@ -77,7 +77,8 @@ module _ (f : List ℕ) (r : Roster) (ok : T (fits r)) (O : Offsets f r) where
   abbrev nextTable : List ℕ
   nextTable = nextRanks f nt 0 start (replicate 32 0)
 
-  from-bytes : (listedTable ≡ allStamped 0 (r .listsS) (replicate 1024 0)) × (strictTable ≡ allStamped 0 (strictLists (r .listsT)) (replicate 1024 0)) × (nextTable ≡ nextAll 0 (r .listsT) (replicate 32 0))
+  from-bytes : (listedTable ≡ allStamped 0 (r .listsS) (replicate 1024 0))
+      × (strictTable ≡ allStamped 0 (strictLists (r .listsT)) (replicate 1024 0)) × (nextTable ≡ nextAll 0 (r .listsT) (replicate 32 0))
   from-bytes =
       given (lists-are (r .listsS) f (listsStart r) (rankingSection r) (O .lists) 0 (replicate 1024 0)) (λ (a, b).
       given (ap (λ k. listsEnd f k (listsStart r)) (sym lists-count)) (λ c.
@@ -111,8 +112,11 @@ module _ (f : List ℕ) (r : Roster) (ok : T (fits r)) (O : Offsets f r) where
   strict-at j i h =
       ap (λ t. at t (j * 32 + i)) (from-bytes .1)
       ∙ ap (at (allStamped 0 (strictLists (r .listsT)) (replicate 1024 0))) (none j i)
-      ∙ all-at (strictLists (r .listsT)) 0 (replicate 1024 0) (omega (arith, length-map (r .listsT) (λ R. R .strict), rankings-count, nt-small r ok, length-replicate {A = ℕ} 1024 0))
-      (All-getD (Within 32) [] (strictLists (r .listsT)) (λ j l. subst (Within 32) (sym (strict-list j)) (strict-within r ok 32 j (ns-small r ok) (omega (arith, length-map (r .listsT) (λ R. R .strict), rankings-count)))))
+      ∙ all-at (strictLists (r .listsT)) 0 (replicate 1024 0)
+      (omega (arith, length-map (r .listsT) (λ R. R .strict), rankings-count, nt-small r ok, length-replicate {A = ℕ} 1024 0))
+      (All-getD (Within 32) [] (strictLists (r .listsT))
+      (λ j l. subst (Within 32) (sym (strict-list j))
+      (strict-within r ok 32 j (ns-small r ok) (omega (arith, length-map (r .listsT) (λ R. R .strict), rankings-count)))))
       (λ c k. all-blank 0 1024 c) j i h
       ∙ ap (λ xs. positionIn xs i) (strict-list j)
     where
@@ -138,7 +142,8 @@ module _ (f : List ℕ) (r : Roster) (ok : T (fits r)) (O : Offsets f r) where
 
   cell-listed : (i j : ℕ) → j < 32 → not (eqb (at listedTable (i * 32 + j)) 0) ≡ listed r i j
   unfolding listed
-  cell-listed i j h = ap (λ z. not (eqb z 0)) (listed-at i j h) ∙ there (elem (suc j) (listS r i)) (position (suc j) (listS r i)) (position-pos (suc j) (listS r i))
+  cell-listed i j h =
+      ap (λ z. not (eqb z 0)) (listed-at i j h) ∙ there (elem (suc j) (listS r i)) (position (suc j) (listS r i)) (position-pos (suc j) (listS r i))
 
   some-stand : (i j : ℕ) → i < ns → T (listed r i j) → j < nt
   some-stand i j h t = by-cases (decLt j nt) (λ l. l) (λ n. absurd (T-not (listed r i j) (false-T (listed-none r ok i j h (omega arith))) t))
@@ -185,15 +190,18 @@ module _ (f : List ℕ) (r : Roster) (ok : T (fits r)) (O : Offsets f r) where
     edge-count : m ≡ length (edgesOf r)
     edge-count = L .count ∙ sym (length-map (listedCells ns listedTable) g) ∙ ap length edges-are
 
-    array-is : {A : Type 0} (d : A) (field : Edge → A) → field noEdge ≡ d → (o : List A) → Shows d o m (λ e. field (g (at cell e))) → (e : ℕ) → getD o e d ≡ field (edgeAt (edgesOf r) e)
+    array-is : {A : Type 0} (d : A) (field : Edge → A) → field noEdge ≡ d → (o : List A) → Shows d o m (λ e. field (g (at cell e))) → (e : ℕ)
+        → getD o e d ≡ field (edgeAt (edgesOf r) e)
     array-is d field z o s e = by-cases (decLt e m)
         (λ h. shows-at d o (λ e. field (g (at cell e))) m e s h
         ∙ ap (λ c. field (g c)) (sym (getD-take m cell e 0 h) ∙ ap (λ xs. getD xs e 0) (L .cells))
         ∙ ap field (sym (map-at g (listedCells ns listedTable) e 0 noEdge (omega (arith, L .count))) ∙ ap (λ es. edgeAt es e) edges-are))
-        (λ n. shows-behind d o (λ e. field (g (at cell e))) m e s (omega arith) ∙ sym z ∙ sym (ap field (List·getD-eq-default (edgesOf r) noEdge (omega (arith, edge-count)))))
+        (λ n. shows-behind d o (λ e. field (g (at cell e))) m e s (omega arith) ∙ sym z
+        ∙ sym (ap field (List·getD-eq-default (edgesOf r) noEdge (omega (arith, edge-count)))))
 
 -- ---- quotas
-quotas-are : (f : List ℕ) (off n : ℕ) (qs o : List ℕ) → length qs ≡ n → ((i : ℕ) → i < n → getD f (off + i) 0 ≡ getD qs i 0) → Shows 0 o n (λ i. getD f (off + i) 0) → (i : ℕ) → at o i ≡ getD qs i 0
+quotas-are : (f : List ℕ) (off n : ℕ) (qs o : List ℕ) → length qs ≡ n → ((i : ℕ) → i < n → getD f (off + i) 0 ≡ getD qs i 0)
+    → Shows 0 o n (λ i. getD f (off + i) 0) → (i : ℕ) → at o i ≡ getD qs i 0
 quotas-are f off n qs o l h s i = by-cases (decLt i n)
     (λ k. shows-at 0 o (λ i. getD f (off + i) 0) n i s k ∙ h i k)
     (λ k. shows-behind 0 o (λ i. getD f (off + i) 0) n i s (omega arith) ∙ sym (List·getD-eq-default qs 0 (omega arith)))
@@ -248,7 +256,8 @@ module _ (f : List ℕ) (r : Roster) (ok : T (fits r)) (O : Offsets f r) (g : In
       let l : P .listed ≡ listedTable f r ok O = P .listed-is ∙ ap₂ (λ x y. listsStamped f x 0 (x + y + 4) (replicate 1024 0)) a b in
       let t : P .strict ≡ strictTable f r ok O = P .strict-is ∙ ap₂ (λ y z. strictStamped f y 0 (z + 2) (replicate 1024 0)) b s in
       let n : P .next ≡ nextTable f r ok O = P .next-is ∙ ap₂ (λ y z. nextRanks f y 0 (z + 2) (replicate 32 0)) b s in
-      let same : Shown (P .ns) (P .nt) (P .listed) (P .strict) (P .next) ≡ Shown (surveyorCount r) (standCount r) (listedTable f r ok O) (strictTable f r ok O) (nextTable f r ok O)
+      let same : Shown (P .ns) (P .nt) (P .listed) (P .strict) (P .next) ≡ Shown (surveyorCount r) (standCount r) (listedTable f r ok O)
+      (strictTable f r ok O) (nextTable f r ok O)
       = λ k. Shown (a k) (b k) (l k) (t k) (n k) in
       subst (λ X. X) (sym same) at-values (P .m) (P .cell) (P .qs) (P .qt) (P .qs-are) (P .qt-are) (P .found) (P .made)
     where

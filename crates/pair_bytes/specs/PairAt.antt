@@ -27,10 +27,12 @@ abbrev pub pairFrom : List ℕ → ℕ → Pair
 pairFrom d i = record { surveyor = getD d i 0; stand = getD d (i + 1) 0 }
 
 -- behind a front that is written
-pub pair-behind : (w d : List ℕ) (i s t : ℕ) → length w ≡ i → i + pairWidth ≤ length d → withPair (w ++ drop i d) i s t ≡ (w ++ pairOf s t) ++ drop (i + pairWidth) d
+pub pair-behind : (w d : List ℕ) (i s t : ℕ) → length w ≡ i → i + pairWidth ≤ length d
+    → withPair (w ++ drop i d) i s t ≡ (w ++ pairOf s t) ++ drop (i + pairWidth) d
 pair-behind w d i s t l h =
     ap (λ z. withPair (w ++ z) i s t) (drop-cons d i 0 (omega arith) ∙ ap (λ z. getD d i 0 ∷ z) (drop-cons d (suc i) 0 (omega arith)))
-    ∙ ap (λ z. set z (i + 1) (suc t)) (set-at w (getD d i 0) (getD d (suc i) 0 ∷ rest) (suc s) i l ∙ sym (append-assoc w (suc s ∷ []) (getD d (suc i) 0 ∷ rest)))
+    ∙ ap (λ z. set z (i + 1) (suc t))
+    (set-at w (getD d i 0) (getD d (suc i) 0 ∷ rest) (suc s) i l ∙ sym (append-assoc w (suc s ∷ []) (getD d (suc i) 0 ∷ rest)))
     ∙ set-at (w ++ suc s ∷ []) (getD d (suc i) 0) rest (suc t) (i + 1) (length-append w (suc s ∷ []) ∙ ap (λ n. n + 1) l)
     ∙ append-assoc w (suc s ∷ []) (suc t ∷ rest)
     ∙ ap (λ n. w ++ suc s ∷ suc t ∷ drop n d) (two i)

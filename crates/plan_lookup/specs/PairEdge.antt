@@ -53,8 +53,10 @@ module _ (m : ℕ) (sv st : List ℕ) (x y s t : ℕ) (xs : x ≡ suc s) (yt : y
       none e k = by-cases (decLt e from)
           (λ l. not-T (Ends sv st s t e) (λ y.
           let z = S .hit h in
-          let i : at sv e ≡ at sv r = eqb→eq (at sv e) s (and-l (eqb (at sv e) s) (eqb (at st e) t) y) ∙ sym (eqb→eq (at sv r) s (and-l (eqb (at sv r) s) (eqb (at st r) t) z)) in
-          let j : at st e ≡ at st r = eqb→eq (at st e) t (and-r (eqb (at sv e) s) (eqb (at st e) t) y) ∙ sym (eqb→eq (at st r) t (and-r (eqb (at sv r) s) (eqb (at st r) t) z)) in
+          let i : at sv e ≡ at sv r =
+          eqb→eq (at sv e) s (and-l (eqb (at sv e) s) (eqb (at st e) t) y) ∙ sym (eqb→eq (at sv r) s (and-l (eqb (at sv r) s) (eqb (at st r) t) z)) in
+          let j : at st e ≡ at st r =
+          eqb→eq (at st e) t (and-r (eqb (at sv e) s) (eqb (at st e) t) y) ∙ sym (eqb→eq (at st r) t (and-r (eqb (at sv r) s) (eqb (at st r) t) z)) in
           let q : e ≡ r = differ e r (omega arith) h i j in
           absurd (omega arith)))
           (λ l. S .none e (omega arith) k)
@@ -71,11 +73,15 @@ module _ (m : ℕ) (sv st : List ℕ) (x y s t : ℕ) (xs : x ≡ suc s) (yt : y
 -- no number is 0
 pub none-zero : (m : ℕ) (sv st : List ℕ) (x y : ℕ) → (x ≡ 0) → m ≡ low (Names sv st x y) m
 none-zero m sv st x y q = low-unique (Names sv st x y) m m (omega arith)
-    (λ e j. not-T (Names sv st x y e) (λ z. let i = eqb→eq (suc (at sv e)) x (and-l (eqb (suc (at sv e)) x) (eqb (suc (at st e)) y) z) in absurd (omega arith))) (λ j. absurd (omega arith))
+    (λ e j. not-T (Names sv st x y e)
+    (λ z. let i = eqb→eq (suc (at sv e)) x (and-l (eqb (suc (at sv e)) x) (eqb (suc (at st e)) y) z) in absurd (omega arith))) (λ j. absurd
+    (omega arith))
 
 pub none-zero-2 : (m : ℕ) (sv st : List ℕ) (x y : ℕ) → (y ≡ 0) → m ≡ low (Names sv st x y) m
 none-zero-2 m sv st x y q = low-unique (Names sv st x y) m m (omega arith)
-    (λ e j. not-T (Names sv st x y e) (λ z. let i = eqb→eq (suc (at st e)) y (and-r (eqb (suc (at sv e)) x) (eqb (suc (at st e)) y) z) in absurd (omega arith))) (λ j. absurd (omega arith))
+    (λ e j. not-T (Names sv st x y e)
+    (λ z. let i = eqb→eq (suc (at st e)) y (and-r (eqb (suc (at sv e)) x) (eqb (suc (at st e)) y) z) in absurd (omega arith))) (λ j. absurd
+    (omega arith))
 
 -- one edge more that is not it
 pub none-next : (p : ℕ → Bool) (start e : ℕ) → ((d : ℕ) → start ≤ d → d < e → T (not (p d))) → p e ≡ false → (d : ℕ) → start ≤ d → d < e + 1 → T (not (p d))

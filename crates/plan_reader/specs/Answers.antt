@@ -54,7 +54,8 @@ module _ {G : Instance} {file : List ℕ} {r : PlanRead} (A : ReadAs G file r) w
       go (refused k) p e = absurd (subst (λ a. T (isAccepted a)) e tt)
 
   -- and its edges are the first n of the list
-  pub accepted-edges : {n : ℕ} → r .answer ≡ Accepted n → (M : Plan) → readPlan G file ≡ accepted M → (n ≡ length (edgesIn (G .m) (on M))) × (take n (r .edges) ≡ edgesIn (G .m) (on M))
+  pub accepted-edges : {n : ℕ} → r .answer ≡ Accepted n → (M : Plan) → readPlan G file ≡ accepted M
+      → (n ≡ length (edgesIn (G .m) (on M))) × (take n (r .edges) ≡ edgesIn (G .m) (on M))
   accepted-edges {n} q M a =
       let c : n ≡ length (edgesIn (G .m) (on M)) = ap countOf (sym q ∙ A .answer ∙ ap (answerOf (G .m)) a) in
       (c, ap (λ k. take k (r .edges)) c ∙ A .edges M a)

@@ -8,7 +8,8 @@ use mathlib.Core.Path.{_≡_, refl, sym, ap, ap₂, _∙_, subst}
 use mathlib.Core.Logic.{by-cases}
 use mathlib.Core.Bool.{Bool, true, false, cond, _||_}
 use mathlib.Core.List.{List, [], _∷_, _++_, map, map-append}
-use lib.ListN.{length, take, drop, getD, set, replicate, length-set, length-append, length-map, length-replicate, length-drop, drop-of-length-le, List·getD-eq-default}
+use lib.ListN.{length, take, drop, getD, set, replicate, length-set, length-append, length-map, length-replicate, length-drop, drop-of-length-le}
+use lib.ListN.{List·getD-eq-default}
 use lib.Seq.{drop-cons, getD-set-same, getD-set-other, take-suc-set}
 use lib.Dec.{eqb, leb, ltb, nleb→lt}
 use borrow.Author.Tests.{le-leb}
@@ -50,7 +51,8 @@ below-not m e (d ∷ es) h b = ap (λ z. z || elem e es) (eqb-no e d (λ (q : e 
 -- ---- a flag set, a place taken
 flag-snoc : (o : List Bool) (es : List ℕ) (e : ℕ) → e < length o → ((d : ℕ) → flag o d ≡ elem d es) → (d : ℕ) → flag (set o e true) d ≡ elem d (es ++ e ∷ [])
 flag-snoc o es e l h d = by-eq d e
-    (λ q b. ap (flag (set o e true)) q ∙ getD-set-same o e true false l ∙ sym (any-append (eqb d) es (e ∷ []) ∙ ap (λ z. elem d es || (z || false)) b ∙ or-true (elem d es)))
+    (λ q b. ap (flag (set o e true)) q ∙ getD-set-same o e true false l
+    ∙ sym (any-append (eqb d) es (e ∷ []) ∙ ap (λ z. elem d es || (z || false)) b ∙ or-true (elem d es)))
     (λ q b. getD-set-other o e d true false q ∙ h d ∙ sym (any-append (eqb d) es (e ∷ []) ∙ ap (λ z. elem d es || (z || false)) b ∙ or-false (elem d es)))
   where
     or-true : (b : Bool) → b || true ≡ true
@@ -61,7 +63,8 @@ flag-snoc o es e l h d = by-eq d e
     or-false true = refl
     or-false false = refl
 
-used-snoc : (K : Side) (u : List ℕ) (es : List ℕ) (e : ℕ) → K .end e < length u → ((v : ℕ) → at u v ≡ atNode K v es) → (v : ℕ) → at (set u (K .end e) (at u (K .end e) + 1)) v ≡ atNode K v (es ++ e ∷ [])
+used-snoc : (K : Side) (u : List ℕ) (es : List ℕ) (e : ℕ) → K .end e < length u → ((v : ℕ) → at u v ≡ atNode K v es) → (v : ℕ)
+    → at (set u (K .end e) (at u (K .end e) + 1)) v ≡ atNode K v (es ++ e ∷ [])
 used-snoc K u es e l h v = by-eq (K .end e) v
     (λ q b. omega (
       arith,
@@ -85,7 +88,8 @@ refusal-same : (m e from : ℕ) (a b c d : Bool) → (e < m → (a ≡ c) × (b 
 unfolding pairRefusal
 refusal-same m e from a b c d h = by-cases (decLt e m)
     (λ l. given (h l) (λ (p, q). ap₂ (λ x y. cond (leb m e) 10 (cond (ltb e from) 11 (cond (x || y) 12 0))) p q))
-    (λ n. let y = le-leb m e (omega arith) in ap (λ z. cond z 10 (cond (ltb e from) 11 (cond (a || b) 12 0))) y ∙ sym (ap (λ z. cond z 10 (cond (ltb e from) 11 (cond (c || d) 12 0))) y))
+    (λ n. let y = le-leb m e (omega arith) in
+    ap (λ z. cond z 10 (cond (ltb e from) 11 (cond (a || b) 12 0))) y ∙ sym (ap (λ z. cond z 10 (cond (ltb e from) 11 (cond (c || d) 12 0))) y))
 
 refused-by : (c : ℕ) (r : Reading (Plan × List ℕ)) → 0 < c → whole (refuseBy c r) ≡ refused c
 refused-by zero r h = absurd (omega arith)
@@ -135,13 +139,16 @@ module _ (m : ℕ) (sv st qs qt file : List ℕ) where
       let l = ap length (sym (now .named)) ∙ length-map (now .ps) (edgeOfPair G) ∙ now .count in
       (omega (arith, l, now .used-s v, at-few (surveyors G) v (now .es)), omega (arith, l, now .used-t v, at-few (stands G) v (now .es)))
 
-  pub invariant-first : (n : ℕ) → 0 < length file → getD file 0 0 ≡ n → n ≤ planLimit → Invariant n 0 0 (replicate 1024 false) (replicate 64 0) (replicate 32 0) (replicate 32 0)
+  pub invariant-first : (n : ℕ) → 0 < length file → getD file 0 0 ≡ n → n ≤ planLimit
+      → Invariant n 0 0 (replicate 1024 false) (replicate 64 0) (replicate 32 0) (replicate 32 0)
   invariant-first n l h k = record {
     ps = [];
     es = [];
     named = refl;
     count = refl;
-    reading = ap (readPlan G) (drop-cons file 0 0 l ∙ ap (λ z. z ∷ drop 1 file) h) ∙ plan-starts G n (drop 1 file) k ∙ ap (λ z. whole (pairsLeft G z noPairs (drop 1 file) [])) (all n);
+    reading =
+        ap (readPlan G) (drop-cons file 0 0 l ∙ ap (λ z. z ∷ drop 1 file) h) ∙ plan-starts G n (drop 1 file) k
+        ∙ ap (λ z. whole (pairsLeft G z noPairs (drop 1 file) [])) (all n);
     ascending = tt;
     below = tt;
     small = omega arith;
@@ -173,13 +180,18 @@ module _ (m : ℕ) (sv st qs qt file : List ℕ) where
         short (x ∷ []) l = left-cut G (n - (k + 1)) s (now .ps) .1 x
         short (x ∷ y ∷ bs) l = absurd (omega arith)
 
-    module _ (low-s : Low m sv 32) (low-t : Low m st 32) (long : pairWidth * k + 1 + 2 ≤ length file) (e : ℕ) (is : e ≡ edgeOfPair G (getD file (pairWidth * k + 1) 0, getD file (pairWidth * k + 1 + 1) 0))
+    module _ (low-s : Low m sv 32) (low-t : Low m st 32) (long : pairWidth * k + 1 + 2 ≤ length file) (e : ℕ)
+        (is : e ≡ edgeOfPair G (getD file (pairWidth * k + 1) 0, getD file (pairWidth * k + 1 + 1) 0))
         (c : ℕ) (check : c ≡ pairRefusal m e from (leb (at qs (at sv e)) (at us (at sv e))) (leb (at qt (at st e)) (at ut (at st e)))) where
       abbrev p : ℕ × ℕ
       p = (getD file (pairWidth * k + 1) 0, getD file (pairWidth * k + 1 + 1) 0)
 
       bytes : drop (pairWidth * k + 1) file ≡ p .0 ∷ p .1 ∷ drop (pairWidth * (k + 1) + 1) file
-      bytes = drop-cons file (pairWidth * k + 1) 0 (omega arith) ∙ ap (λ z. p .0 ∷ z) (ap (λ i. drop i file) (one (pairWidth * k + 1)) ∙ drop-cons file (pairWidth * k + 1 + 1) 0 (omega arith) ∙ ap (λ i. p .1 ∷ drop i file) (two k))
+      bytes =
+          drop-cons file (pairWidth * k + 1) 0 (omega arith)
+          ∙ ap (λ z. p .0 ∷ z)
+          (ap (λ i. drop i file) (one (pairWidth * k + 1)) ∙ drop-cons file (pairWidth * k + 1 + 1) 0 (omega arith)
+          ∙ ap (λ i. p .1 ∷ drop i file) (two k))
         where
           one : (i : ℕ) → suc i ≡ i + 1
           one i = omega arith
@@ -189,7 +201,10 @@ module _ (m : ℕ) (sv st qs qt file : List ℕ) where
 
       checked : c ≡ pairCheck G s p
       unfolding pairRefusal
-      checked = check ∙ refusal-same m e from (leb (at qs (at sv e)) (at us (at sv e))) (leb (at qt (at st e)) (at ut (at st e))) (full (surveyors G) (now .es) e) (full (stands G) (now .es) e)
+      checked =
+          check
+          ∙ refusal-same m e from (leb (at qs (at sv e)) (at us (at sv e))) (leb (at qt (at st e)) (at ut (at st e)))
+          (full (surveyors G) (now .es) e) (full (stands G) (now .es) e)
           (λ l. (ap (leb (at qs (at sv e))) (now .used-s (at sv e)), ap (leb (at qt (at st e))) (now .used-t (at st e))))
           ∙ ap (λ d. pairRefusal m d from (full (surveyors G) (now .es) d) (full (stands G) (now .es) d)) is
 
@@ -203,10 +218,12 @@ module _ (m : ℕ) (sv st qs qt file : List ℕ) where
       invariant-refused h = next ∙ refused-by c (pairsLeft G (n - (k + 1)) (withPair G s p) (drop (pairWidth * (k + 1) + 1) file) (now .ps ++ p ∷ [])) h
 
       pub invariant-passed : c ≡ 0 → (e < m) × (from ≤ e) × (at us (at sv e) < at qs (at sv e)) × (at ut (at st e) < at qt (at st e))
-      invariant-passed z = given (passed m e from (leb (at qs (at sv e)) (at us (at sv e))) (leb (at qt (at st e)) (at ut (at st e))) (sym check ∙ z)) (λ (a, b, x, y).
+      invariant-passed z =
+          given (passed m e from (leb (at qs (at sv e)) (at us (at sv e))) (leb (at qt (at st e)) (at ut (at st e))) (sym check ∙ z)) (λ (a, b, x, y).
           (a, b, nleb→lt (at qs (at sv e)) (at us (at sv e)) x, nleb→lt (at qt (at st e)) (at ut (at st e)) y))
 
-      pub invariant-on : c ≡ 0 → k < 64 → m ≤ 1024 → Invariant n (k + 1) (e + 1) (set chosen e true) (set edges k e) (set us (at sv e) (at us (at sv e) + 1)) (set ut (at st e) (at ut (at st e) + 1))
+      pub invariant-on : c ≡ 0 → k < 64 → m ≤ 1024
+          → Invariant n (k + 1) (e + 1) (set chosen e true) (set edges k e) (set us (at sv e) (at us (at sv e) + 1)) (set ut (at st e) (at ut (at st e) + 1))
       invariant-on z k64 m1024 = given (invariant-passed z) (λ (a, b, x, y). record {
         ps = now .ps ++ p ∷ [];
         es = now .es ++ e ∷ [];
@@ -221,17 +238,25 @@ module _ (m : ℕ) (sv st qs qt file : List ℕ) where
         listed = ap (λ i. take i (set edges k e)) (add-one k) ∙ take-suc-set edges k e (omega (arith, now .sizes .1)) ∙ ap (λ u. u ++ e ∷ []) (now .listed);
         used-s = used-snoc (surveyors G) us (now .es) e (omega (arith, low-s e a, now .sizes .2)) (now .used-s);
         used-t = used-snoc (stands G) ut (now .es) e (omega (arith, low-t e a, now .sizes .3)) (now .used-t);
-        sizes = (length-set chosen e true ∙ now .sizes .0, length-set edges k e ∙ now .sizes .1, length-set us (at sv e) (at us (at sv e) + 1) ∙ now .sizes .2, length-set ut (at st e) (at ut (at st e) + 1) ∙ now .sizes .3);
+        sizes = (
+          length-set chosen e true ∙ now .sizes .0,
+          length-set edges k e ∙ now .sizes .1,
+          length-set us (at sv e) (at us (at sv e) + 1)
+              ∙ now .sizes .2,
+          length-set ut (at st e) (at ut (at st e) + 1) ∙ now .sizes .3,
+        );
       })
         where
           same-state : withPair G s p ≡ record { seen = now .es ++ e ∷ []; from = e + 1 }
-          same-state = ap (λ d. record { seen = now .es ++ d ∷ []; from = suc d }) (sym is) ∙ ap (λ i. record { seen = now .es ++ e ∷ []; from = i }) (sym (add-one e))
+          same-state =
+              ap (λ d. record { seen = now .es ++ d ∷ []; from = suc d }) (sym is) ∙ ap (λ i. record { seen = now .es ++ e ∷ []; from = i }) (sym (add-one e))
 
   -- ---- the end
   module _ (n k from : ℕ) (chosen : List Bool) (edges us ut : List ℕ) (now : Invariant n k from chosen edges us ut) (end : k ≡ n) where
     ended : readPlan G file ≡ whole (accepted (planOfPairs G (now .ps), drop (pairWidth * n + 1) file))
     ended = now .reading ∙ ap (λ i. whole (pairsLeft G i (record { seen = now .es; from = from }) (drop (pairWidth * k + 1) file) (now .ps))) none
-        ∙ ap whole (left-none G (record { seen = now .es; from = from }) (drop (pairWidth * k + 1) file) (now .ps)) ∙ ap (λ i. whole (accepted (planOfPairs G (now .ps), drop (pairWidth * i + 1) file))) end
+        ∙ ap whole (left-none G (record { seen = now .es; from = from }) (drop (pairWidth * k + 1) file) (now .ps))
+        ∙ ap (λ i. whole (accepted (planOfPairs G (now .ps), drop (pairWidth * i + 1) file))) end
       where
         none : n - k ≡ 0
         none = omega arith
@@ -249,7 +274,9 @@ module _ (m : ℕ) (sv st qs qt file : List ℕ) where
         ∙ sym (below-not m e (now .es) (omega arith) (below-weaker from m (now .es) (now .small) (now .below))))
 
     M-edges : edgesIn m (on M) ≡ now .es
-    M-edges = edgesIn-cong m (on M) (λ e. elem e (now .es)) (λ e h. M-at e) ∙ edges-of-elem m (now .es) (now .ascending) (below-weaker from m (now .es) (now .small) (now .below))
+    M-edges =
+        edgesIn-cong m (on M) (λ e. elem e (now .es)) (λ e h. M-at e)
+        ∙ edges-of-elem m (now .es) (now .ascending) (below-weaker from m (now .es) (now .small) (now .below))
 
     M-count : length (edgesIn m (on M)) ≡ n
     M-count = ap length (M-edges ∙ sym (now .named)) ∙ length-map (now .ps) (edgeOfPair G) ∙ now .count ∙ end
@@ -259,11 +286,14 @@ module _ (m : ℕ) (sv st qs qt file : List ℕ) where
         given (ended ∙ ap (λ z. whole (accepted (planOfPairs G (now .ps), z))) (drop-of-length-le file h)) (λ (q : readPlan G file ≡ accepted M). record {
           answer = ap Accepted (sym M-count) ∙ sym (ap (answerOf m) q);
           chosen = λ N a e. now .flags e ∙ sym (M-at e) ∙ ap (λ z. on z e) (accepted-value (sym q ∙ a));
-          edges = λ N a. subst (λ z. take (length (edgesIn m (on z))) edges ≡ edgesIn m (on z)) (accepted-value (sym q ∙ a)) (ap (λ i. take i edges) (M-count ∙ sym end) ∙ now .listed ∙ sym M-edges);
+          edges =
+              λ N a. subst (λ z. take (length (edgesIn m (on z))) edges ≡ edgesIn m (on z)) (accepted-value (sym q ∙ a))
+              (ap (λ i. take i edges) (M-count ∙ sym end) ∙ now .listed ∙ sym M-edges);
         })
 
   -- refused
-  pub refused-as : (c : ℕ) (chosen : List Bool) (edges : List ℕ) → readPlan G file ≡ refused c → ReadAs G file (record { answer = Refused c; chosen = chosen; edges = edges })
+  pub refused-as : (c : ℕ) (chosen : List Bool) (edges : List ℕ) → readPlan G file ≡ refused c
+      → ReadAs G file (record { answer = Refused c; chosen = chosen; edges = edges })
   refused-as c chosen edges q = record {
     answer = sym (ap (answerOf m) q);
     chosen = λ M a. refused-not (sym q ∙ a);

@@ -40,7 +40,8 @@ pub(crate) fn pair_refusal(
     e: usize,
 ) -> u8
     requires { ⌜ (m ≤ entryLimit) × Low m (now sv) nodeLimit × Low m (now st) nodeLimit ⌝ }
-    ensures { λ r. ⌜ r ≡ pairRefusal m e from (leb (at (now (qs .entry)) (at (now (sv .entry)) e)) (at (now (us .entry)) (at (now (sv .entry)) e))) (leb (at (now (qt .entry)) (at (now (st .entry)) e)) (at (now (ut .entry)) (at (now (st .entry)) e))) ⌝ }
+    ensures { λ r. ⌜ r ≡ pairRefusal m e from (leb (at (now (qs .entry)) (at (now (sv .entry)) e)) (at (now (us .entry)) (at (now (sv .entry)) e)))
+        (leb (at (now (qt .entry)) (at (now (st .entry)) e)) (at (now (ut .entry)) (at (now (st .entry)) e))) ⌝ }
 {
     if m <= e {
         return 10;

@@ -42,12 +42,14 @@ module _ (sv st : List ℕ) (chosen : List Bool) (from : ℕ) (d : List ℕ) whe
     pub turn-not : flag chosen e ≡ false → (k ≡ length (es (e + 1))) × (o ≡ front (e + 1) ++ drop (pairWidth * k + from) d)
     turn-not q = (count ∙ ap length (sym (es-not e q)), so ∙ ap (λ z. (take from d ++ pairsOf sv st z) ++ drop (pairWidth * k + from) d) (sym (es-not e q)))
 
-    pub turn-one : flag chosen e ≡ true → pairWidth * k + from + pairWidth ≤ length d → {o′ : List ℕ} → o′ ≡ withPair o (pairWidth * k + from) (at sv e) (at st e)
+    pub turn-one : flag chosen e ≡ true → pairWidth * k + from + pairWidth ≤ length d → {o′ : List ℕ}
+        → o′ ≡ withPair o (pairWidth * k + from) (at sv e) (at st e)
         → (k + 1 ≡ length (es (e + 1))) × (o′ ≡ front (e + 1) ++ drop (pairWidth * (k + 1) + from) d)
     turn-one q l w = (
       omega (arith, ap length (es-one e q), length-append (es e) (e ∷ [])),
       w ∙ ap (λ z. withPair z (pairWidth * k + from) (at sv e) (at st e)) so
-          ∙ pair-behind (front e) d (pairWidth * k + from) (at sv e) (at st e) (front-length e (omega arith) ∙ ap (λ n. pairWidth * n + from) (sym count)) (omega arith)
+          ∙ pair-behind (front e) d (pairWidth * k + from) (at sv e) (at st e)
+          (front-length e (omega arith) ∙ ap (λ n. pairWidth * n + from) (sym count)) (omega arith)
           ∙ ap₂ (λ z n. z ++ drop n d) grown (after k),
     )
       where
@@ -60,17 +62,20 @@ module _ (sv st : List ℕ) (chosen : List Bool) (from : ℕ) (d : List ℕ) whe
 
 -- pairs written from the first place on
 pub pairs-onto : (sv st es d : List ℕ) → (take 0 d ++ pairsOf sv st es) ++ drop (pairWidth * length es + 0) d ≡ onto (pairsOf sv st es) d
-pairs-onto sv st es d = ap (λ n. pairsOf sv st es ++ drop n d) (let e : pairWidth * length es + 0 ≡ length (pairsOf sv st es) = omega (arith, pairs-length sv st es) in e)
+pairs-onto sv st es d =
+    ap (λ n. pairsOf sv st es ++ drop n d) (let e : pairWidth * length es + 0 ≡ length (pairsOf sv st es) = omega (arith, pairs-length sv st es) in e)
 
 -- the whole front: the count in the first place
-whole-front : (d : List ℕ) (ps : List ℕ) (k : ℕ) → 1 ≤ length d → length ps ≡ pairWidth * k → set ((take 1 d ++ ps) ++ drop (pairWidth * k + 1) d) 0 k ≡ (k ∷ ps) ++ drop (length (k ∷ ps)) d
+whole-front : (d : List ℕ) (ps : List ℕ) (k : ℕ) → 1 ≤ length d → length ps ≡ pairWidth * k
+    → set ((take 1 d ++ ps) ++ drop (pairWidth * k + 1) d) 0 k ≡ (k ∷ ps) ++ drop (length (k ∷ ps)) d
 whole-front [] ps k h l = absurd (omega arith)
 whole-front (x ∷ d) ps k h l = ap (λ n. (k ∷ ps) ++ drop n (x ∷ d)) (same k (length ps) l)
   where
     same : (k n : ℕ) → n ≡ pairWidth * k → pairWidth * k + 1 ≡ suc n
     same k n l = omega arith
 
-pub written : (m : ℕ) (sv st : List ℕ) (chosen : List Bool) (before : List ℕ) → planSize ≤ length before → (k : ℕ) (o : List ℕ) → k ≡ length (edgesIn m (flag chosen))
+pub written : (m : ℕ) (sv st : List ℕ) (chosen : List Bool) (before : List ℕ) → planSize ≤ length before → (k : ℕ) (o : List ℕ)
+    → k ≡ length (edgesIn m (flag chosen))
     → o ≡ (take 1 before ++ pairsOf sv st (edgesIn m (flag chosen))) ++ drop (pairWidth * k + 1) before → WrittenFor m sv st chosen before (set o 0 k)
 unfolding planBytes
 written m sv st chosen before h k o count so ns nt rankS rankT tied quotaS quotaT M same =
@@ -83,7 +88,8 @@ written m sv st chosen before h k o count so ns nt rankS rankT tied quotaS quota
 -- an edge chosen below m: there is room for its pair
 pub room-for : (sv st : List ℕ) (chosen : List Bool) (from : ℕ) (d : List ℕ) (m e k : ℕ) → e < m → flag chosen e ≡ true → k ≡ length (edgesIn e (flag chosen))
     → pairWidth * length (edgesIn m (flag chosen)) + from ≤ length d → pairWidth * k + from + pairWidth ≤ length d
-room-for sv st chosen from d m e k h q count few = omega (arith, keep-few (flag chosen) (e + 1) m (omega arith), ap length (es-one sv st chosen from d e q), length-append (edgesIn e (flag chosen)) (e ∷ []))
+room-for sv st chosen from d m e k h q count few =
+    omega (arith, keep-few (flag chosen) (e + 1) m (omega arith), ap length (es-one sv st chosen from d e q), length-append (edgesIn e (flag chosen)) (e ∷ []))
 
 pub not-yes : (b : Bool) → not b ≡ true → b ≡ false
 not-yes true q = sym q
@@ -95,4 +101,5 @@ not-no false q = sym q
 
 -- nothing written yet
 pub front-none : (from : ℕ) (d : List ℕ) → d ≡ (take from d ++ []) ++ drop (pairWidth * 0 + from) d
-front-none from d = let z : from ≡ pairWidth * 0 + from = omega arith in sym (take-append-drop from d) ∙ ap₂ (λ l n. l ++ drop n d) (sym (append-nil (take from d))) z
+front-none from d =
+    let z : from ≡ pairWidth * 0 + from = omega arith in sym (take-append-drop from d) ∙ ap₂ (λ l n. l ++ drop n d) (sym (append-nil (take from d))) z

@@ -71,7 +71,8 @@ module _ (input : List ℕ) (isB : T (isBytes input)) where
     pub can-print : flatSize ≤ length flat → leftSize ≤ length left → planSize ≤ length plan → planSize ≤ length rival → Printable a flat left plan rival
     can-print d l p v = file-printable (readRoster input) fit a flat left plan rival d l p v h
 
-    pub prints : (before : List ℕ) (n : ℕ) (after : List ℕ) → textSize ≤ length before → Answered a flat left plan rival before n after → Prints input before n after
+    pub prints : (before : List ℕ) (n : ℕ) (after : List ℕ) → textSize ≤ length before → Answered a flat left plan rival before n after
+        → Prints input before n after
     prints before n after k w =
         let t = answered-text (readRoster input) h w in
         let few : length (answerText (readRoster input) rivalOf) ≤ textSize = answer-length (readRoster input) fit in
@@ -94,10 +95,12 @@ module _ (input : List ℕ) (isB : T (isBytes input)) where
   found-readable (R, e) g D l p v o l′ p′ v′ F = readable (shownBy g) (g .sv) (g .st) (D .edges) (D .low-sv) (D .low-st) (o .trace) (F .traced)
 
   -- a refusal
-  pub refused-handed : {n : ℕ} {k : Group} → answer.Refused n k ≡ fileCase (readRoster input) → (flat left plan rival : List ℕ) → HandedFor (readRoster input) (says.Refused n k) flat left plan rival
+  pub refused-handed : {n : ℕ} {k : Group} → answer.Refused n k ≡ fileCase (readRoster input) → (flat left plan rival : List ℕ)
+      → HandedFor (readRoster input) (says.Refused n k) flat left plan rival
   refused-handed {n} {k} e flat left plan rival =
       let t = case-refused (readRoster input) e in
-      subst (λ y. HandedFor y (says.Refused n k) flat left plan rival) (sym t) (ap (refused n) (ap groupShown (ap (grouped k) (e ∙ ap fileCase t)) ∙ shown-case (groupOf n)))
+      subst (λ y. HandedFor y (says.Refused n k) flat left plan rival) (sym t)
+      (ap (refused n) (ap groupShown (ap (grouped k) (e ∙ ap fileCase t)) ∙ shown-case (groupOf n)))
     where
       grouped : Group → FileAnswer → Group
       grouped d answer.Accepted = d

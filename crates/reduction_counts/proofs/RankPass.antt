@@ -10,7 +10,7 @@ use lib.Seq.{drop-cons, getD-set-same, getD-set-other}
 use mir.Val.{boolByte}
 use Rattle.lists.specs.Test.{by-eq}
 use Rattle.arrays.specs.ArrayInstance.{at}
-use Rattle.reduction_counts.specs.Filled.{byte-one}
+use Rattle.arrays.specs.Tally.{byte-one}
 use Rattle.reduction_counts.specs.Mark.{marked}
 
 pub marked-turn : (end : ℕ → ℕ) (p : ℕ → Bool) (ord t o : List ℕ) (k : ℕ) → k < length ord

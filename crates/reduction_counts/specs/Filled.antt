@@ -1,4 +1,4 @@
--- Arrays that a loop fills, and arrays of counters: what a turn of the loop does to them. An array is a list here, read by `at` and
+-- Arrays of counters: what a turn of the loop does to them. An array is a list here, read by `at` and
 -- `flag` (crate arrays).
 use Prim.Native.Nat.{ℕ, zero, suc, _+_, _≤_, _<_}
 use native.Mathlib.Omega.{arith}
@@ -15,38 +15,13 @@ use Rattle.lists.specs.Test.{bit, by-eq, bit-one}
 use Rattle.lists.specs.Sum.{count, count-≤}
 use Rattle.model.specs.Instance.{Side, deg}
 use Rattle.arrays.specs.ArrayInstance.{at, flag}
+use Rattle.arrays.specs.Tally.{byte-bit}
 
--- the first n entries are below k
-abbrev pub Low : ℕ → List ℕ → ℕ → Type 0
-Low n xs k = (i : ℕ) → i < n → at xs i < k
-
--- the first n entries are f's
-abbrev pub Made : {A : Type 0} → A → List A → (ℕ → A) → ℕ → Type 0
-Made d o f n = (e : ℕ) → e < n → getD o e d ≡ f e
-
-pub made-next : {A : Type 0} (d : A) (o : List A) (f : ℕ → A) (i : ℕ) → i < length o → Made d o f i → Made d (set o i (f i)) f (i + 1)
-made-next d o f i l h e k = ⊎-elim
-    (λ q. subst (λ (k : ℕ). getD (set o i (f i)) k d ≡ f k) (sym q) (getD-set-same o i (f i) d l))
-    (λ q. let ne : e ≡ i → ⊥ = (λ (x : e ≡ i). omega arith) in getD-set-other o i e (f i) d ne ∙ h e q)
-    (let g : e ≤ i = omega arith in eq-or-lt-of-le g)
-
--- arrays of zeros; that of 1,024 under a name, so that it is not written out
-pub zeros : (n v : ℕ) → _≡_ {A = ℕ} (at (replicate n 0) v) 0
-zeros zero v = refl
-zeros (suc n) zero = refl
-zeros (suc n) (suc v) = zeros n v
-
+-- an array of 1,024 zeros, under a name, so that it is not written out
 unfoldable pub blank : List ℕ
 blank = replicate 1024 0
 
 -- ---- counters
-pub byte-bit : (b : Bool) → boolByte b ≡ bit b
-byte-bit true = refl
-byte-bit false = refl
-
-pub byte-one : (b : Bool) → boolByte b ≤ 1
-byte-one b = omega (arith, byte-bit b, bit-one b)
-
 bit-all : (a : Bool) → bit (a && true) ≡ bit a
 bit-all true = refl
 bit-all false = refl

@@ -15,7 +15,8 @@ use Rattle.model.specs.Instance.{Side, deg}
 use Rattle.theory_instance.specs.Lawful.{Ranked}
 use Rattle.theory_instance.specs.Degree.{deg-only, deg-cong}
 use Rattle.arrays.specs.ArrayInstance.{at}
-use Rattle.reduction_counts.specs.Filled.{blank, zeros}
+use Rattle.arrays.specs.Tally.{zeros}
+use Rattle.reduction_counts.specs.Filled.{blank}
 use Rattle.reduction_counts.specs.Mark.{passing, marked, Inside, marked-is}
 
 -- the ranks do not fall

@@ -7,7 +7,9 @@ ghost use lib.Dec.{eqb, ltb, leb};
 ghost use Rattle.lists.specs.Search.{low};
 ghost use Rattle.model.specs.Limits.{entryLimit, nodeLimit};
 ghost use Rattle.arrays.specs.ArrayInstance.{at, flag};
-ghost use Rattle.reduction_counts.specs.Filled.{Low, Made, Small};
+ghost use Rattle.arrays.specs.Passes.{Low};
+ghost use Rattle.arrays.specs.Filled.{Made};
+ghost use Rattle.reduction_counts.specs.Filled.{Small};
 
 // The lowest edge of a set from an edge on.
 pub fn next(m: usize, p: &[bool; 1024], from: usize) -> usize
@@ -51,7 +53,11 @@ pub fn named2(
     gt: &[u16; 1024],
 ) -> [bool; 1024]
     requires { ⌜ (m ≤ entryLimit) × Low m (now sv) nodeLimit × Low m (now st) nodeLimit ⌝ }
-    ensures { λ r. ⌜ Made false r (λ e. flag (now (rem .entry)) e && (leb (at (now (qs .entry)) (at (now (sv .entry)) e)) (at (now (gs .entry)) e) || leb (at (now (qt .entry)) (at (now (st .entry)) e)) (at (now (gt .entry)) e))) m ⌝ }
+    ensures { λ r. ⌜ Made false r
+        (λ e. flag (now (rem .entry)) e
+        && (leb (at (now (qs .entry)) (at (now (sv .entry)) e)) (at (now (gs .entry)) e)
+        || leb (at (now (qt .entry)) (at (now (st .entry)) e)) (at (now (gt .entry)) e)))
+        m ⌝ }
 {
     let mut o = [false; 1024];
     let mut i = 0;
@@ -75,7 +81,12 @@ pub fn find3(
     qt: &[u16; 32],
 ) -> usize
     requires { ⌜ (m ≤ entryLimit) × Low m (now st) nodeLimit × Small (now got) × Small (now sent) ⌝ }
-    ensures { λ r. ⌜ r ≡ low (λ e. flag (now (rem .entry)) e && (flag (now (fs .entry)) e && leb (at (now (got .entry)) (at (now (st .entry)) e) + at (now (sent .entry)) (at (now (st .entry)) e)) (at (now (qt .entry)) (at (now (st .entry)) e)))) m ⌝ }
+    ensures { λ r. ⌜ r ≡ low
+        (λ e. flag (now (rem .entry)) e
+        && (flag (now (fs .entry)) e
+        && leb (at (now (got .entry)) (at (now (st .entry)) e) + at (now (sent .entry)) (at (now (st .entry)) e))
+        (at (now (qt .entry)) (at (now (st .entry)) e))))
+        m ⌝ }
 {
     let mut i = 0;
     while i < m {
@@ -99,7 +110,12 @@ pub fn find4(
     nb: &[u16; 1024],
 ) -> usize
     requires { ⌜ (m ≤ entryLimit) × Low m (now sv) nodeLimit × Small (now nb) ⌝ }
-    ensures { λ r. ⌜ r ≡ low (λ e. flag (now (rem .entry)) e && (flag (now (res .entry)) e && (ltb (at (now (qs .entry)) (at (now (sv .entry)) e)) (at (now (ns .entry)) (at (now (sv .entry)) e)) && eqb (at (now (nb .entry)) e + 1) (at (now (ns .entry)) (at (now (sv .entry)) e))))) m ⌝ }
+    ensures { λ r. ⌜ r ≡ low
+        (λ e. flag (now (rem .entry)) e
+        && (flag (now (res .entry)) e
+        && (ltb (at (now (qs .entry)) (at (now (sv .entry)) e)) (at (now (ns .entry)) (at (now (sv .entry)) e))
+        && eqb (at (now (nb .entry)) e + 1) (at (now (ns .entry)) (at (now (sv .entry)) e)))))
+        m ⌝ }
 {
     let mut i = 0;
     while i < m {
@@ -122,7 +138,10 @@ pub fn named5(
     ft: &[bool; 1024],
 ) -> [bool; 1024]
     requires { ⌜ (m ≤ entryLimit) × Low m (now st) nodeLimit ⌝ }
-    ensures { λ r. ⌜ Made false r (λ e. flag (now (rem .entry)) e && (not (flag (now (lo .entry)) (at (now (st .entry)) e)) && (not (flag (now (fs .entry)) e) && not (flag (now (ft .entry)) e)))) m ⌝ }
+    ensures { λ r. ⌜ Made false r
+        (λ e. flag (now (rem .entry)) e
+        && (not (flag (now (lo .entry)) (at (now (st .entry)) e)) && (not (flag (now (fs .entry)) e) && not (flag (now (ft .entry)) e))))
+        m ⌝ }
 {
     let mut o = [false; 1024];
     let mut i = 0;
@@ -144,7 +163,10 @@ pub fn find6(
     hs: &[u16; 1024],
 ) -> usize
     requires { ⌜ (m ≤ entryLimit) × Low m (now sv) nodeLimit ⌝ }
-    ensures { λ r. ⌜ r ≡ low (λ e. flag (now (rem .entry)) e && (ltb (at (now (ns .entry)) (at (now (sv .entry)) e)) (at (now (qs .entry)) (at (now (sv .entry)) e)) && eqb (at (now (hs .entry)) e) 0)) m ⌝ }
+    ensures { λ r. ⌜ r ≡ low
+        (λ e. flag (now (rem .entry)) e
+        && (ltb (at (now (ns .entry)) (at (now (sv .entry)) e)) (at (now (qs .entry)) (at (now (sv .entry)) e)) && eqb (at (now (hs .entry)) e) 0))
+        m ⌝ }
 {
     let mut i = 0;
     while i < m {
@@ -168,7 +190,11 @@ pub fn find7(
     ht: &[u16; 1024],
 ) -> usize
     requires { ⌜ (m ≤ entryLimit) × Low m (now st) nodeLimit ⌝ }
-    ensures { λ r. ⌜ r ≡ low (λ e. flag (now (rem .entry)) e && (ltb (at (now (got .entry)) (at (now (st .entry)) e)) (at (now (qt .entry)) (at (now (st .entry)) e)) && (not (flag (now (tied .entry)) e) && eqb (at (now (ht .entry)) e) 0))) m ⌝ }
+    ensures { λ r. ⌜ r ≡ low
+        (λ e. flag (now (rem .entry)) e
+        && (ltb (at (now (got .entry)) (at (now (st .entry)) e)) (at (now (qt .entry)) (at (now (st .entry)) e))
+        && (not (flag (now (tied .entry)) e) && eqb (at (now (ht .entry)) e) 0)))
+        m ⌝ }
 {
     let mut i = 0;
     while i < m {

@@ -38,10 +38,12 @@ struck G Z r e s = ap (λ f. act G Z f e) (⊎-elim (λ i. ap fateOf i) (λ i. a
 -- the next edge stands behind
 pub further : (hit : List Bool) (m e j : ℕ) → j ≡ low (λ d. leb (e + 1) d && flag hit d) m → j < m → e < j
 further hit m e j q l =
-    let t : T (leb (e + 1) j && flag hit j) = subst (λ z. T (leb (e + 1) z && flag hit z)) (sym q) (low-is (λ d. leb (e + 1) d && flag hit d) m .2 (omega arith)) in
+    let t : T (leb (e + 1) j && flag hit j) =
+    subst (λ z. T (leb (e + 1) z && flag hit z)) (sym q) (low-is (λ d. leb (e + 1) d && flag hit d) m .2 (omega arith)) in
     omega (arith, leb→le (e + 1) j (and-l (leb (e + 1) j) (flag hit j) t))
 
-module _ {m : ℕ} {sv st : List ℕ} {tied : List Bool} {quotaS quotaT os ot : List ℕ} (K : Known m sv st tied quotaS quotaT os ot) (hit fs ft : List Bool) (r : ℕ) where
+module _ {m : ℕ} {sv st : List ℕ} {tied : List Bool} {quotaS quotaT os ot : List ℕ} (K : Known m sv st tied quotaS quotaT os ot)
+    (hit fs ft : List Bool) (r : ℕ) where
   abbrev G : Instance
   G = instanceOf K
 
@@ -52,12 +54,27 @@ module _ {m : ℕ} {sv st : List ℕ} {tied : List Bool} {quotaS quotaT os ot : 
       → stableStrike sv st fs ft r x e ≡ true → GoesOnWith G hit fs ft r (act G Z (fateOf r) e) e
   after-stable Z e x H ri ei l FS FT N c = given (true-T c) (λ t.
       let s : Striking r = ⊎-elim (λ u. inl (eqb→eq r 2 u)) (λ u. inr (eqb→eq r 5 u)) (or-case (eqb r 2) (eqb r 5) (search parts)) in
-      let k = and-r (eqb r 2 || eqb r 5) ((not (flag fs e) && not (flag ft e)) && (ltb (at (x .qs) (at sv e)) (at (x .ds) (at sv e)) && ltb (at (x .qt) (at st e)) (at (x .dt) (at st e)))) t in
+      let k =
+      and-r (eqb r 2 || eqb r 5)
+      ((not (flag fs e) && not (flag ft e)) && (ltb (at (x .qs) (at sv e)) (at (x .ds) (at sv e)) && ltb (at (x .qt) (at st e)) (at (x .dt) (at st e))))
+      t in
       let C : Calm G Z e = record {
         noS = subst (λ b. T (not b)) (FS e l) (search parts);
         noT = subst (λ b. T (not b)) (FT e l) (search parts);
-        spareS = omega (arith, ltb→lt (at (x .qs) (at sv e)) (at (x .ds) (at sv e)) (search parts), H .atS .cut-is (at sv e) (K .fitS e l), H .atS .deg-is (at sv e) (K .fitS e l));
-        spareT = omega (arith, ltb→lt (at (x .qt) (at st e)) (at (x .dt) (at st e)) (search parts), H .atT .cut-is (at st e) (K .fitT e l), H .atT .deg-is (at st e) (K .fitT e l));
+        spareS =
+            omega (
+              arith,
+              ltb→lt (at (x .qs) (at sv e)) (at (x .ds) (at sv e)) (search parts),
+              H .atS .cut-is (at sv e) (K .fitS e l),
+              H .atS .deg-is (at sv e) (K .fitS e l),
+            );
+        spareT =
+            omega (
+              arith,
+              ltb→lt (at (x .qt) (at st e)) (at (x .dt) (at st e)) (search parts),
+              H .atT .cut-is (at st e) (K .fitT e l),
+              H .atT .deg-is (at st e) (K .fitT e l),
+            );
       } in
       let a : ruleOf G Z < 8 = edge-acts G Z (omega arith) in
       let left : T (Z .rem e) = subst (λ z. T (Z .rem z)) ei (acts G Z a .left) in
@@ -69,11 +86,13 @@ module _ {m : ℕ} {sv st : List ℕ} {tied : List Bool} {quotaS quotaT os ot : 
       }))
 
   -- the next edge that the rule named is the next step's
-  pub choose-next : (Z : State) (e j : ℕ) → GoesOnWith G hit fs ft r Z e → j ≡ low (λ d. leb (e + 1) d && flag hit d) m → j < m → (ruleOf G Z ≡ r) × (edgeOf G Z ≡ j)
+  pub choose-next : (Z : State) (e j : ℕ) → GoesOnWith G hit fs ft r Z e → j ≡ low (λ d. leb (e + 1) d && flag hit d) m → j < m
+      → (ruleOf G Z ≡ r) × (edgeOf G Z ≡ j)
   choose-next Z e j W q l = given (low-is (λ d. leb (e + 1) d && flag hit d) m) (λ (a, b, c).
       let t : T (leb (e + 1) j && flag hit j) = subst (λ z. T (leb (e + 1) z && flag hit z)) (sym q) (c (omega arith)) in
       let h = further hit m e j q l in
-      chosen-is G Z r j (⊎-elim (λ (i : r ≡ 2). let x : r < 8 = omega arith in x) (λ (i : r ≡ 5). let x : r < 8 = omega arith in x) (W .striking)) (W .on .quiet) l
+      chosen-is G Z r j (⊎-elim (λ (i : r ≡ 2). let x : r < 8 = omega arith in x) (λ (i : r ≡ 5). let x : r < 8 = omega arith in x) (W .striking))
+      (W .on .quiet) l
       (sym (W .on .hits j l (omega arith)) ∙ T-true (and-r (leb (e + 1) j) (flag hit j) t))
       (λ d dl. by-le d dl (b d (omega arith))))
     where

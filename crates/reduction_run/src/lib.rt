@@ -5,7 +5,7 @@ ghost use Prim.Native.Nat.{ℕ, _≤_, _<_};
 ghost use lib.ListN.{length};
 ghost use Rattle.model.specs.Limits.{nodeLimit, entryLimit, emptyRank};
 ghost use Rattle.arrays.specs.ArrayInstance.{at};
-ghost use Rattle.reduction_counts.specs.Filled.{Low};
+ghost use Rattle.arrays.specs.Passes.{Low};
 ghost use Rattle.reduction_step.specs.View.{Known, instanceOf};
 ghost use Rattle.reduction_state.specs.Outcome.{Reduced, ReducedFrom};
 ghost use Rattle.reduction_state.specs.RunState.{Sized};

@@ -45,4 +45,9 @@ fixes-is (suc (suc (suc (suc (suc (suc zero)))))) = refl
 fixes-is (suc (suc (suc (suc (suc (suc (suc zero))))))) = refl
 fixes-is (suc (suc (suc (suc (suc (suc (suc (suc n)))))))) =
     let r = suc (suc (suc (suc (suc (suc (suc (suc n))))))) in
-    rw (ne-eqb r 1 (λ (q : r ≡ 1). omega arith), ne-eqb r 3 (λ (q : r ≡ 3). omega arith), ne-eqb r 6 (λ (q : r ≡ 6). omega arith), ne-eqb r 7 (λ (q : r ≡ 7). omega arith))
+    rw (
+      ne-eqb r 1 (λ (q : r ≡ 1). omega arith),
+      ne-eqb r 3 (λ (q : r ≡ 3). omega arith),
+      ne-eqb r 6 (λ (q : r ≡ 6). omega arith),
+      ne-eqb r 7 (λ (q : r ≡ 7). omega arith),
+    )

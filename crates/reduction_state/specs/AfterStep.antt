@@ -16,7 +16,7 @@ use Rattle.model.specs.Instance.{Instance, Side, surveyors, stands, deg}
 use Rattle.model.specs.Reduction.{State, cut, Fate, fixes, act}
 use Rattle.theory_instance.specs.Degree.{deg-without}
 use Rattle.arrays.specs.ArrayInstance.{at, flag}
-use Rattle.reduction_counts.specs.Filled.{byte-bit}
+use Rattle.arrays.specs.Tally.{byte-bit}
 use Rattle.reduction_step.specs.View.{stateOf}
 
 -- ---- flags
@@ -27,14 +27,17 @@ struck rem e d = by-eq d e
     (λ n t. getD-set-other rem e d false false n ∙ sym (ap (λ x. flag rem d && not x) t ∙ and-true (flag rem d)))
   where
     gone : flag (set rem e false) e ≡ false
-    gone = by-cases (decLt e (length rem)) (λ l. getD-set-same rem e false false l) (λ n. List·getD-eq-default (set rem e false) false (omega (arith, length-set rem e false)))
+    gone =
+        by-cases (decLt e (length rem)) (λ l. getD-set-same rem e false false l)
+        (λ n. List·getD-eq-default (set rem e false) false (omega (arith, length-set rem e false)))
 
 -- an edge is fixed, if b
 held : (fixed : List Bool) (e : ℕ) (b : Bool) (d : ℕ) → e < length fixed → flag (set fixed e (flag fixed e || b)) d ≡ flag fixed d || (b && eqb d e)
 held fixed e b d l = by-eq d e
     (λ i t. subst (λ z. flag (set fixed e (flag fixed e || b)) z ≡ flag fixed z || (b && eqb d e)) (sym i)
     (getD-set-same fixed e (flag fixed e || b) false l ∙ ap (λ x. flag fixed e || x) (sym (ap (λ x. b && x) t ∙ and-true b))))
-    (λ n t. getD-set-other fixed e d (flag fixed e || b) false n ∙ sym (ap (λ x. flag fixed d || (b && x)) t ∙ ap (λ x. flag fixed d || x) (and-false b) ∙ or-false (flag fixed d)))
+    (λ n t. getD-set-other fixed e d (flag fixed e || b) false n
+    ∙ sym (ap (λ x. flag fixed d || (b && x)) t ∙ ap (λ x. flag fixed d || x) (and-false b) ∙ or-false (flag fixed d)))
 
 pub state-acted : (G : Instance) (rem fixed : List Bool) (kS kT : ℕ → ℕ) (f : Fate) (e : ℕ) → e < length fixed
     → let Y = act G (stateOf rem fixed kS kT) f e in stateOf (set rem e false) (set fixed e (flag fixed e || fixes f)) (Y .qS) (Y .qT) ≡ Y
@@ -54,18 +57,28 @@ d′ K d e = set d (K .end e) (at d (K .end e) - 1)
 abbrev pub q′ : (K : Side) (q d : List ℕ) (b : Bool) (e : ℕ) → List ℕ
 q′ K q d b e = set q (K .end e) (min (at q (K .end e) - boolByte b) (at d (K .end e) - 1))
 
-module _ (K : Side) (rem : ℕ → Bool) (k : ℕ → ℕ) (d q : List ℕ) (C : Counters K rem k d q) (b : Bool) (e : ℕ) (l : e < K .m) (r : T (rem e)) (w : K .end e < nodeLimit) where
+module _ (K : Side) (rem : ℕ → Bool) (k : ℕ → ℕ) (d q : List ℕ) (C : Counters K rem k d q) (b : Bool) (e : ℕ) (l : e < K .m) (r : T (rem e))
+    (w : K .end e < nodeLimit) where
   abbrev rem′ : ℕ → Bool
   rem′ x = rem x && not (eqb x e)
 
   bit-and-true : (b : Bool) → bit (b && true) ≡ bit b
   bit-and-true b = ap bit (and-true b)
 
-  pub counters-acted : length d ≡ nodeLimit → length q ≡ nodeLimit → Counters K rem′ (λ v. cut K rem k v - bit (b && eqb v (K .end e))) (d′ K d e) (q′ K q d b e)
+  pub counters-acted : length d ≡ nodeLimit → length q ≡ nodeLimit
+      → Counters K rem′ (λ v. cut K rem k v - bit (b && eqb v (K .end e))) (d′ K d e) (q′ K q d b e)
   unfolding cut
   counters-acted ld lq = record {
     deg-is = λ v h. by-eq v (K .end e)
-        (λ i t. omega (arith, deg-without K rem e v l r, ap bit t, C .deg-is v h, ap (at (d′ K d e)) i, getD-set-same d (K .end e) (at d (K .end e) - 1) 0 (omega arith), ap (at d) i))
+        (λ i t. omega (
+          arith,
+          deg-without K rem e v l r,
+          ap bit t,
+          C .deg-is v h,
+          ap (at (d′ K d e)) i,
+          getD-set-same d (K .end e) (at d (K .end e) - 1) 0 (omega arith),
+          ap (at d) i,
+        ))
         (λ n t. omega (arith, deg-without K rem e v l r, ap bit t, C .deg-is v h, getD-set-other d (K .end e) v (at d (K .end e) - 1) 0 n));
     cut-is = λ v h. by-eq v (K .end e)
         (λ i t. omega (

@@ -105,7 +105,8 @@ module _ {m : ℕ} {sv st : List ℕ} {tied : List Bool} {quotaS quotaT os ot : 
     abbrev pub Onward : (r e : ℕ) (y : arrays.State) (t′ : Trace) → Type 0
     Onward r e y t′ = (S′ : Stands G y t′) × (stateAt S′ ≡ act G (stateAt S) (fateOf r) e)
 
-    stands-act : (r e : ℕ) → ruleOf G (stateAt S) ≡ r → edgeOf G (stateAt S) ≡ e → e < m → t .steps < m → Sized x → Onward r e (acted sv st x r e) (entered t e r)
+    stands-act : (r e : ℕ) → ruleOf G (stateAt S) ≡ r → edgeOf G (stateAt S) ≡ e → e < m → t .steps < m → Sized x
+        → Onward r e (acted sv st x r e) (entered t e r)
     unfolding next
     stands-act r e ri ei l nl L =
         let Z = stateAt S in

@@ -53,7 +53,8 @@ laid-parts [] t = ap (λ (n : ℕ). record { edges = t .edges; rules = t .rules;
 laid-parts (s ∷ ss) t =
     let u = entered t (s .edge) (s .rule) in
     let e : t .steps + 1 + length ss ≡ t .steps + suc (length ss) = omega arith in
-    laid-parts ss u ∙ ap (λ (n : ℕ). record { edges = filled (λ s. s .edge) (u .steps) ss (u .edges); rules = filled (λ s. s .rule) (u .steps) ss (u .rules); steps = n }) e
+    laid-parts ss u
+    ∙ ap (λ (n : ℕ). record { edges = filled (λ s. s .edge) (u .steps) ss (u .edges); rules = filled (λ s. s .rule) (u .steps) ss (u .rules); steps = n }) e
 
 pub laid-traced : (ss : List Step) → length ss ≤ entryLimit → Traced ss (laid ss blank)
 laid-traced ss h =

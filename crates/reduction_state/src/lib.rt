@@ -9,7 +9,7 @@ ghost use mir.Val.{boolByte};
 ghost use Rattle.model.specs.Reduction as reduction;
 ghost use Rattle.theory_reduction.specs.RuleNumbers as numbers;
 ghost use Rattle.arrays.specs.ArrayInstance.{at, flag};
-ghost use Rattle.reduction_counts.specs.Filled.{Low};
+ghost use Rattle.arrays.specs.Passes.{Low};
 ghost use Rattle.model.specs.Limits.{nodeLimit, entryLimit};
 ghost use Rattle.reduction_state.specs.RunState.{acted, Started, stableStrike};
 use limits::ENTRY_LIMIT;

@@ -17,7 +17,8 @@ use Rattle.theory_reduction.specs.RuleNumbers.{names, lowest}
 use Rattle.theory_instance.specs.Lawful.{Ranked}
 use Rattle.theory_instance.specs.Degree.{deg-cong, deg-or, deg-without}
 use Rattle.arrays.specs.ArrayInstance.{at, flag}
-use Rattle.reduction_counts.specs.Filled.{Made, Tally, blank}
+use Rattle.arrays.specs.Filled.{Made}
+use Rattle.reduction_counts.specs.Filled.{Tally, blank}
 use Rattle.reduction_counts.specs.Mark.{marked}
 use Rattle.reduction_counts.specs.Ranks.{pass}
 use Rattle.reduction_step.specs.View.{Setting, G, Z, Quotas, Arrows, Aheads}

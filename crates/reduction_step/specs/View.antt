@@ -11,7 +11,9 @@ use Rattle.model.specs.Instance.{Instance, Side, surveyors, stands}
 use Rattle.model.specs.Reduction.{State, cutS, cutT, strictLeft, ahead, arrow, arrowS, arrowT, aheadS, aheadT}
 use Rattle.theory_instance.specs.Lawful.{Lawful}
 use Rattle.arrays.specs.ArrayInstance.{at, flag, shown}
-use Rattle.reduction_counts.specs.Filled.{Low, Made, blank}
+use Rattle.arrays.specs.Passes.{Low}
+use Rattle.arrays.specs.Filled.{Made}
+use Rattle.reduction_counts.specs.Filled.{blank}
 use Rattle.reduction_counts.specs.Mark.{marked}
 use Rattle.reduction_counts.specs.Ranks.{Lists, pass}
 

@@ -7,7 +7,7 @@ ghost use Prim.Native.Nat.{ℕ, _≤_, _<_};
 ghost use lib.ListN.{length};
 ghost use Rattle.model.specs.Limits.{entryLimit, nodeLimit};
 ghost use Rattle.arrays.specs.ArrayInstance.{at};
-ghost use Rattle.reduction_counts.specs.Filled.{Low};
+ghost use Rattle.arrays.specs.Passes.{Low};
 ghost use Rattle.reduction_step.specs.RuleChosen.{Viewed, Named2, Last, Late, Steps};
 
 // How many strict remaining edges are ahead of each edge, and the arrows.
@@ -48,7 +48,8 @@ pub fn look(
     requires { ⌜ (m ≤ entryLimit) × Low m (now sv) nodeLimit × Low m (now st) nodeLimit ⌝ }
     requires { ⌜ (length (now os) ≤ entryLimit) × Low (length (now os)) (now os) entryLimit × ((k : ℕ) → k < length (now os) → at (now sv) (at (now os) k) < nodeLimit) ⌝ }
     requires { ⌜ (length (now ot) ≤ entryLimit) × Low (length (now ot)) (now ot) entryLimit × ((k : ℕ) → k < length (now ot) → at (now st) (at (now ot) k) < nodeLimit) ⌝ }
-    ensures { λ r. ⌜ Viewed m (now (sv .entry)) (now (st .entry)) (now (tied .entry)) (now (os .entry)) (now (ot .entry)) (now (rem .entry)) (now (qs .entry)) (now (qt .entry)) (r .hs) (r .ht) (r .fs) (r .ft) ⌝ }
+    ensures { λ r. ⌜ Viewed m (now (sv .entry)) (now (st .entry)) (now (tied .entry)) (now (os .entry)) (now (ot .entry)) (now (rem .entry)) (now (qs .entry))
+        (now (qt .entry)) (r .hs) (r .ht) (r .fs) (r .ft) ⌝ }
 {
     let hs = reduction_counts::mark(os, sv, rem);
     let sr = reduction_counts::strict(m, rem, tied);
@@ -80,7 +81,8 @@ pub fn second(
     requires { ⌜ (m ≤ entryLimit) × Low m (now sv) nodeLimit × Low m (now st) nodeLimit ⌝ }
     requires { ⌜ (length (now os) ≤ entryLimit) × Low (length (now os)) (now os) entryLimit × ((k : ℕ) → k < length (now os) → at (now sv) (at (now os) k) < nodeLimit) ⌝ }
     requires { ⌜ (length (now ot) ≤ entryLimit) × Low (length (now ot)) (now ot) entryLimit × ((k : ℕ) → k < length (now ot) → at (now st) (at (now ot) k) < nodeLimit) ⌝ }
-    ensures { λ r. ⌜ Named2 m (now (sv .entry)) (now (st .entry)) (now (tied .entry)) (now (os .entry)) (now (ot .entry)) (now (rem .entry)) (now (qs .entry)) (now (qt .entry)) (now (fs .entry)) (now (ft .entry)) r ⌝ }
+    ensures { λ r. ⌜ Named2 m (now (sv .entry)) (now (st .entry)) (now (tied .entry)) (now (os .entry)) (now (ot .entry)) (now (rem .entry)) (now (qs .entry))
+        (now (qt .entry)) (now (fs .entry)) (now (ft .entry)) r ⌝ }
 {
     let gs = reduction_counts::mark(os, sv, ft);
     let fr = reduction_counts::strict(m, fs, tied);
@@ -106,7 +108,10 @@ pub fn last(
     got: &[u16; 32],
 ) -> Named
     requires { ⌜ (m ≤ entryLimit) × Low m (now sv) nodeLimit × Low m (now st) nodeLimit ⌝ }
-    ensures { λ r. ⌜ ((os ot : List ℕ) → Last m (now (sv .entry)) (now (st .entry)) (now (tied .entry)) os ot (now (rem .entry)) (now (qs .entry)) (now (qt .entry)) (now (hs .entry)) (now (ht .entry)) (now (fs .entry)) (now (ft .entry)) (now (lo .entry)) (now (ns .entry)) (now (got .entry)) (r .rule) (r .edge) (r .hit)) ⌝ }
+    ensures { λ r. ⌜ ((os ot : List ℕ)
+        → Last m (now (sv .entry)) (now (st .entry)) (now (tied .entry)) os ot (now (rem .entry)) (now (qs .entry)) (now (qt .entry))
+        (now (hs .entry)) (now (ht .entry)) (now (fs .entry)) (now (ft .entry)) (now (lo .entry)) (now (ns .entry)) (now (got .entry)) (r .rule)
+        (r .edge) (r .hit)) ⌝ }
 {
     let hit = reduction_rules::named5(m, rem, st, lo, fs, ft);
     let e5 = reduction_rules::next(m, &hit, 0);
@@ -157,7 +162,9 @@ pub fn late(
 ) -> Named
     requires { ⌜ (m ≤ entryLimit) × Low m (now sv) nodeLimit × Low m (now st) nodeLimit ⌝ }
     requires { ⌜ (length (now os) ≤ entryLimit) × Low (length (now os)) (now os) entryLimit × ((k : ℕ) → k < length (now os) → at (now sv) (at (now os) k) < nodeLimit) ⌝ }
-    ensures { λ r. ⌜ ((ot : List ℕ) → Late m (now (sv .entry)) (now (st .entry)) (now (tied .entry)) (now (os .entry)) ot (now (rem .entry)) (now (qs .entry)) (now (qt .entry)) (now (hs .entry)) (now (ht .entry)) (now (fs .entry)) (now (ft .entry)) (r .rule) (r .edge) (r .hit)) ⌝ }
+    ensures { λ r. ⌜ ((ot : List ℕ)
+        → Late m (now (sv .entry)) (now (st .entry)) (now (tied .entry)) (now (os .entry)) ot (now (rem .entry)) (now (qs .entry))
+        (now (qt .entry)) (now (hs .entry)) (now (ht .entry)) (now (fs .entry)) (now (ft .entry)) (r .rule) (r .edge) (r .hit)) ⌝ }
 {
     let got = reduction_counts::tally(m, st, fs);
     let sent = reduction_counts::tally(m, st, ft);
@@ -199,7 +206,8 @@ pub fn step(
     requires { ⌜ (m ≤ entryLimit) × Low m (now sv) nodeLimit × Low m (now st) nodeLimit ⌝ }
     requires { ⌜ (length (now os) ≤ entryLimit) × Low (length (now os)) (now os) entryLimit × ((k : ℕ) → k < length (now os) → at (now sv) (at (now os) k) < nodeLimit) ⌝ }
     requires { ⌜ (length (now ot) ≤ entryLimit) × Low (length (now ot)) (now ot) entryLimit × ((k : ℕ) → k < length (now ot) → at (now st) (at (now ot) k) < nodeLimit) ⌝ }
-    ensures { λ r. ⌜ Steps m (now (sv .entry)) (now (st .entry)) (now (tied .entry)) (now (os .entry)) (now (ot .entry)) (now (rem .entry)) (now (qs .entry)) (now (qt .entry)) (r .rule) (r .edge) (r .hit) (r .fs) (r .ft) ⌝ }
+    ensures { λ r. ⌜ Steps m (now (sv .entry)) (now (st .entry)) (now (tied .entry)) (now (os .entry)) (now (ot .entry)) (now (rem .entry)) (now (qs .entry))
+        (now (qt .entry)) (r .rule) (r .edge) (r .hit) (r .fs) (r .ft) ⌝ }
 {
     let a = look(m, sv, st, tied, os, ot, rem, qs, qt);
     let fs = a.fs;

@@ -7,7 +7,8 @@ ghost use Rattle.lists.specs.Sum.{count};
 ghost use Rattle.lists.specs.Search.{low};
 ghost use Rattle.model.specs.Limits.{entryLimit, nodeLimit, planLimit};
 ghost use Rattle.arrays.specs.ArrayInstance.{at, flag};
-ghost use Rattle.rival_tables.specs.Filled.{Low, Made};
+ghost use Rattle.arrays.specs.Passes.{Low};
+ghost use Rattle.arrays.specs.Filled.{Made};
 
 // How many edges of the plan lie at a node, from the nodes of its n edges.
 pub fn lying(n: usize, nodes: &[u8; 64], v: u8) -> u8
@@ -44,17 +45,19 @@ pub fn direct(
     sv: &[u8; 1024],
     st: &[u8; 1024],
     plan: &[bool; 1024],
-    rs: &[bool; 32],
-    rt: &[bool; 32],
+    fs: &[bool; 32],
+    ft: &[bool; 32],
 ) -> usize
     requires { ⌜ (m ≤ entryLimit) × Low m (now sv) nodeLimit × Low m (now st) nodeLimit ⌝ }
-    ensures { λ r. ⌜ r ≡ low (λ f. not (flag (now (plan .entry)) f) && (flag (now (rs .entry)) (at (now (sv .entry)) f) && flag (now (rt .entry)) (at (now (st .entry)) f))) m ⌝ }
+    ensures { λ r. ⌜ r ≡ low
+        (λ f. not (flag (now (plan .entry)) f) && (flag (now (fs .entry)) (at (now (sv .entry)) f) && flag (now (ft .entry)) (at (now (st .entry)) f)))
+        m ⌝ }
 {
     let mut f = 0;
     while f < m {
         let s = sv[f] as usize;
         let t = st[f] as usize;
-        if !plan[f] & (rs[s] & rt[t]) {
+        if !plan[f] & (fs[s] & ft[t]) {
             return f;
         }
         f += 1;

@@ -12,7 +12,8 @@ use Rattle.lists.specs.Sum.{_∈_, range, ∈-range}
 use Rattle.lists.specs.Keep.{keep, ∈-keep}
 use Rattle.lists.specs.First.{best}
 use Rattle.arrays.specs.ArrayInstance.{at}
-use Rattle.rival_tables.specs.Filled.{cell, Made, Put}
+use Rattle.arrays.specs.Filled.{Made}
+use Rattle.rival_tables.specs.Filled.{cell, Put}
 use Rattle.rival_tables.specs.Cheapest.{cheapest-≤, best-keep}
 use Rattle.rival_tables.specs.Best.{best-turn, best-end, best-start, best-cong}
 use Rattle.rival_layers.specs.Layers.{keptPrice, Small, layerAt}

@@ -3,7 +3,8 @@
 ghost use mathlib.Core.Path.{_≡_};
 ghost use Prim.Native.Nat.{ℕ, _≤_, _<_};
 ghost use Rattle.model.specs.Limits.{planLimit};
-ghost use Rattle.rival_tables.specs.Filled.{cell, Made};
+ghost use Rattle.arrays.specs.Filled.{Made};
+ghost use Rattle.rival_tables.specs.Filled.{cell};
 ghost use Rattle.rival_layers.specs.Layers.{Small};
 ghost use Rattle.rival_columns.specs.Leads.{leadAt, Column};
 

@@ -1,5 +1,5 @@
 -- The start and the end of a walk with the edges themselves, read from arrays: of all ways to lose an edge of the plan or to gain another in its
--- place, at the start x and at the end y, the first cheapest two that are apart. They are the search's (search, Search.tip).
+-- place, at the start x and at the end y, the first cheapest two that are apart. They are the search's (theory_verdict, Search.tip).
 use Prim.Native.Nat.{ℕ, suc, _+_, _-_, _≤_, _<_}
 use native.Mathlib.Omega.{arith}
 use mathlib.Core.Path.{_≡_, refl, sym, ap, ap₂, _∙_}

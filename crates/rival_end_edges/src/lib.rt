@@ -5,7 +5,7 @@ ghost use Rattle.model.specs.Limits.{entryLimit, nodeLimit};
 ghost use Rattle.theory_verdict.specs.Ends.{lose};
 ghost use Rattle.theory_verdict.specs.Search.{endPrice};
 ghost use Rattle.arrays.specs.ArrayInstance.{at};
-ghost use Rattle.rival_tables.specs.Filled.{Low};
+ghost use Rattle.arrays.specs.Passes.{Low};
 ghost use Rattle.rival_end_edges.specs.Ways.{wayOf, told, Offered, apart, round, terminalBy};
 
 // The price, the edge gained at the start and the one gained at the end; the number of all edges where the plan's edge is lost.
@@ -45,8 +45,10 @@ pub fn round(
     free: bool,
     held: Ends,
 ) -> Ends
-    requires { ⌜ (m ≤ entryLimit) × Low m (now sv) nodeLimit × (x < entryLimit) × (y < entryLimit) × (a ≤ 3) × (a ≡ endPrice (at (now rs)) x (wayOf m start)) × (free ≡ apart m (now sv) (now st) (now rs) (now rt) x y (wayOf m start, lose)) ⌝ }
-    ensures { λ r. ⌜ told m r ≡ round m (now (sv .entry)) (now (st .entry)) (now (rs .entry)) (now (rt .entry)) x y (now (plan .entry)) (now (fs .entry)) (wayOf m start) (told m held) ⌝ }
+    requires { ⌜ (m ≤ entryLimit) × Low m (now sv) nodeLimit × (x < entryLimit) × (y < entryLimit) × (a ≤ 3) × (a ≡ endPrice (at (now rs)) x (wayOf m start))
+        × (free ≡ apart m (now sv) (now st) (now rs) (now rt) x y (wayOf m start, lose)) ⌝ }
+    ensures { λ r. ⌜ told m r ≡ round m (now (sv .entry)) (now (st .entry)) (now (rs .entry)) (now (rt .entry)) x y (now (plan .entry)) (now (fs .entry))
+        (wayOf m start) (told m held) ⌝ }
 {
     let s = sv[x];
     let t = st[y];
@@ -78,7 +80,8 @@ pub fn terminal(
     y: usize,
 ) -> Ends
     requires { ⌜ (m ≤ entryLimit) × Low m (now sv) nodeLimit × Low m (now st) nodeLimit × (x < entryLimit) × (y < entryLimit) ⌝ }
-    ensures { λ r. ⌜ told m r ≡ terminalBy m (now (sv .entry)) (now (st .entry)) (now (rs .entry)) (now (rt .entry)) x y (now (plan .entry)) (now (fs .entry)) (now (ft .entry)) ⌝ }
+    ensures { λ r. ⌜ told m r ≡ terminalBy m (now (sv .entry)) (now (st .entry)) (now (rs .entry)) (now (rt .entry)) x y (now (plan .entry)) (now (fs .entry))
+        (now (ft .entry)) ⌝ }
 {
     let s = sv[x];
     let t = st[y];

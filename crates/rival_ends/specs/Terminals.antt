@@ -7,7 +7,8 @@ use mathlib.Core.Bool.{cond}
 use mathlib.Core.List.{List}
 use Rattle.lists.specs.Test.{by-eq}
 use Rattle.arrays.specs.ArrayInstance.{at}
-use Rattle.rival_tables.specs.Filled.{cell, Made, Put}
+use Rattle.arrays.specs.Filled.{Made}
+use Rattle.rival_tables.specs.Filled.{cell, Put}
 
 -- starts: gained at the start apart from the end's node; stops: gained at the end apart from the start's node, by end and start; gs, gt: gained at the
 -- start, at the end

@@ -2,7 +2,8 @@
 ghost use mathlib.Core.Path.{_≡_};
 ghost use Prim.Native.Nat.{ℕ, _≤_, _<_};
 ghost use Rattle.model.specs.Limits.{planLimit};
-ghost use Rattle.rival_tables.specs.Filled.{Made, Grid};
+ghost use Rattle.arrays.specs.Filled.{Made};
+ghost use Rattle.rival_tables.specs.Filled.{Grid};
 ghost use Rattle.rival_ends.specs.Terminals.{terminalAt, Rates};
 
 // The row of starts at place i.

@@ -6,7 +6,7 @@ ghost use lib.Dec.{ltb};
 ghost use Rattle.model.specs.Limits.{entryLimit, nodeLimit, planLimit};
 ghost use Rattle.theory_verdict.specs.Arcs.{fs, zs};
 ghost use Rattle.theory_verdict.specs.Ends.{fresh};
-ghost use Rattle.rival_tables.specs.Filled.{Low};
+ghost use Rattle.arrays.specs.Passes.{Low};
 ghost use Rattle.rival_layers.specs.Layers.{Small};
 ghost use Rattle.rival_walk.specs.Edges.{arcEdge};
 ghost use Rattle.rival_walk.specs.Marks.{Marked};
@@ -43,7 +43,14 @@ pub fn ended(
     y: usize,
 ) -> Swap
     requires { ⌜ (m ≤ entryLimit) × Low m (now sv) nodeLimit × Low m (now st) nodeLimit × (x < entryLimit) × (y < entryLimit) ⌝ }
-    ensures { λ r. ⌜ Marks (r .gone) (x ∷ []) × Marks (r .come) (fresh (terminalBy m (now (sv .entry)) (now (st .entry)) (now (rs .entry)) (now (rt .entry)) x y (now (plan .entry)) (now (fs .entry)) (now (ft .entry)) .1 .0) ++ fresh (terminalBy m (now (sv .entry)) (now (st .entry)) (now (rs .entry)) (now (rt .entry)) x y (now (plan .entry)) (now (fs .entry)) (now (ft .entry)) .1 .1)) ⌝ }
+    ensures { λ r. ⌜ Marks (r .gone) (x ∷ [])
+        × Marks (r .come)
+        (fresh
+        (terminalBy m (now (sv .entry)) (now (st .entry)) (now (rs .entry)) (now (rt .entry)) x y (now (plan .entry)) (now (fs .entry))
+        (now (ft .entry)) .1 .0)
+        ++ fresh
+        (terminalBy m (now (sv .entry)) (now (st .entry)) (now (rs .entry)) (now (rt .entry)) x y (now (plan .entry))
+        (now (fs .entry)) (now (ft .entry)) .1 .1)) ⌝ }
 {
     let t = rival_end_edges::terminal(m, sv, st, rs, rt, plan, fs, ft, x, y);
     let a = t.start;
@@ -74,7 +81,16 @@ pub fn walked(
     start: Swap,
 ) -> Swap
     requires { ⌜ (m ≤ entryLimit) × (n ≤ planLimit) × Low n (now es) entryLimit × Small n (now arcs) × (l < 64) × (i < n) × (j < n) ⌝ }
-    ensures { λ r. ⌜ Marked (start .gone) (zs (walkAt (arcEdge m (now (sv .entry)) (now (st .entry)) (now (rs .entry)) (now (rt .entry)) (now (plan .entry))) (now (es .entry)) (now (arcs .entry)) n j l i)) (r .gone) × Marked (start .come) (fs (walkAt (arcEdge m (now (sv .entry)) (now (st .entry)) (now (rs .entry)) (now (rt .entry)) (now (plan .entry))) (now (es .entry)) (now (arcs .entry)) n j l i)) (r .come) ⌝ }
+    ensures { λ r. ⌜ Marked (start .gone)
+        (zs
+        (walkAt (arcEdge m (now (sv .entry)) (now (st .entry)) (now (rs .entry)) (now (rt .entry)) (now (plan .entry))) (now (es .entry))
+        (now (arcs .entry)) n j l i))
+        (r .gone)
+        × Marked (start .come)
+        (fs
+        (walkAt (arcEdge m (now (sv .entry)) (now (st .entry)) (now (rs .entry)) (now (rt .entry)) (now (plan .entry))) (now (es .entry))
+        (now (arcs .entry)) n j l i))
+        (r .come) ⌝ }
 {
     let table = rival_columns::columns(n, arcs, j, l);
     rival_walk::walk(m, sv, st, rs, rt, plan, n, es, arcs, &table, l, i, j, start)
@@ -95,8 +111,14 @@ pub fn swap(
     arcs: &[u8; 4096],
     found: Found,
 ) -> Swap
-    requires { ⌜ (m ≤ entryLimit) × (n ≤ planLimit) × Low m (now sv) nodeLimit × Low m (now st) nodeLimit × Low n (now es) entryLimit × Small n (now arcs) × Bounded m n found ⌝ }
-    ensures { λ r. ⌜ Marks (r .gone) (goneBy m (now (sv .entry)) (now (st .entry)) (now (rs .entry)) (now (rt .entry)) (now (plan .entry)) (now (fs .entry)) (now (ft .entry)) (now (es .entry)) (now (arcs .entry)) n found) × Marks (r .come) (comeBy m (now (sv .entry)) (now (st .entry)) (now (rs .entry)) (now (rt .entry)) (now (plan .entry)) (now (fs .entry)) (now (ft .entry)) (now (es .entry)) (now (arcs .entry)) n found) ⌝ }
+    requires { ⌜ (m ≤ entryLimit) × (n ≤ planLimit) × Low m (now sv) nodeLimit × Low m (now st) nodeLimit × Low n (now es) entryLimit × Small n (now arcs)
+        × Bounded m n found ⌝ }
+    ensures { λ r. ⌜ Marks (r .gone)
+        (goneBy m (now (sv .entry)) (now (st .entry)) (now (rs .entry)) (now (rt .entry)) (now (plan .entry)) (now (fs .entry)) (now (ft .entry))
+        (now (es .entry)) (now (arcs .entry)) n found)
+        × Marks (r .come)
+        (comeBy m (now (sv .entry)) (now (st .entry)) (now (rs .entry)) (now (rt .entry)) (now (plan .entry)) (now (fs .entry))
+        (now (ft .entry)) (now (es .entry)) (now (arcs .entry)) n found) ⌝ }
 {
     let blank = Swap {
         gone: [false; 1024],

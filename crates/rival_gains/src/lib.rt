@@ -6,7 +6,9 @@ ghost use Prim.Native.Nat.{ℕ, _≤_, _<_};
 ghost use lib.Dec.{eqb};
 ghost use Rattle.model.specs.Limits.{entryLimit, nodeLimit, planLimit};
 ghost use Rattle.arrays.specs.ArrayInstance.{at};
-ghost use Rattle.rival_tables.specs.Filled.{Low, Made, Rows};
+ghost use Rattle.arrays.specs.Passes.{Low};
+ghost use Rattle.arrays.specs.Filled.{Made};
+ghost use Rattle.rival_tables.specs.Filled.{Rows};
 ghost use Rattle.rival_tables.specs.Cheapest.{offer};
 ghost use Rattle.rival_gains.specs.Gains.{gainPrice, gainPriceBut};
 
@@ -36,7 +38,10 @@ pub fn apart_row(
     b: u8,
 ) -> [u8; 64]
     requires { ⌜ (m ≤ entryLimit) × Low m (now other) nodeLimit ⌝ }
-    ensures { λ o. ⌜ Made 0 o (λ j. gainPriceBut m (now (end .entry)) (now (other .entry)) (now (rank .entry)) (now (plan .entry)) (now (room .entry)) 3 e b (at (now (po .entry)) j)) 64 ⌝ }
+    ensures { λ o. ⌜ Made 0 o
+        (λ j. gainPriceBut m (now (end .entry)) (now (other .entry)) (now (rank .entry)) (now (plan .entry)) (now (room .entry)) 3 e b
+        (at (now (po .entry)) j))
+        64 ⌝ }
 {
     let mut o = [3u8; 64];
     let mut f = 0;
@@ -67,7 +72,9 @@ pub fn apart(
     pr: &[u8; 64],
 ) -> [u8; 4096]
     requires { ⌜ (m ≤ entryLimit) × Low m (now other) nodeLimit × (n ≤ planLimit) ⌝ }
-    ensures { λ r. ⌜ Rows r n (λ i j. gainPriceBut m (now (end .entry)) (now (other .entry)) (now (rank .entry)) (now (plan .entry)) (now (room .entry)) 3 (at (now (pe .entry)) i) (at (now (pr .entry)) i) (at (now (po .entry)) j)) ⌝ }
+    ensures { λ r. ⌜ Rows r n
+        (λ i j. gainPriceBut m (now (end .entry)) (now (other .entry)) (now (rank .entry)) (now (plan .entry)) (now (room .entry)) 3
+        (at (now (pe .entry)) i) (at (now (pr .entry)) i) (at (now (po .entry)) j)) ⌝ }
 {
     let mut o = [3u8; 4096];
     let mut i = 0;
@@ -121,7 +128,10 @@ pub fn gains(
     pr: &[u8; 64],
 ) -> [u8; 64]
     requires { ⌜ (m ≤ entryLimit) × Low m (now other) nodeLimit × (n ≤ planLimit) ⌝ }
-    ensures { λ r. ⌜ Made 0 r (λ i. gainPrice m (now (end .entry)) (now (other .entry)) (now (rank .entry)) (now (plan .entry)) (now (room .entry)) 6 (at (now (pe .entry)) i) (at (now (pr .entry)) i)) n ⌝ }
+    ensures { λ r. ⌜ Made 0 r
+        (λ i. gainPrice m (now (end .entry)) (now (other .entry)) (now (rank .entry)) (now (plan .entry)) (now (room .entry)) 6
+        (at (now (pe .entry)) i) (at (now (pr .entry)) i))
+        n ⌝ }
 {
     let mut o = [0u8; 64];
     let mut i = 0;

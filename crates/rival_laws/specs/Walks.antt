@@ -186,7 +186,7 @@ module _ (G : Instance) (M : ℕ → Bool) (es : List ℕ) (n : ℕ) (lists : ol
             (ap (λ o. orElse o (cond (still G M 133 k l) none (levels′ G M 133 k b (suc l))))
             (path-miss l (ltb-false (levelRow arcs terminals n k l) n e))))
 
-    -- ---- the whole search
+    -- ---- the alternating path search
     abbrev aloneTest : ℕ → Bool
     aloneTest x = ltb (terminal G M x x .0) (4 + k)
 

@@ -1,1 +1,1 @@
-// That the search by places in a plan's list is the search of crate search: no code.
+// That the search by places in a plan's list is the search of crate theory_verdict: no code.

@@ -5,7 +5,8 @@ ghost use lib.Dec.{ltb};
 ghost use Rattle.lists.specs.Search.{low};
 ghost use Rattle.model.specs.Limits.{planLimit};
 ghost use Rattle.arrays.specs.ArrayInstance.{at};
-ghost use Rattle.rival_tables.specs.Filled.{Made, Rows, cell};
+ghost use Rattle.arrays.specs.Filled.{Made};
+ghost use Rattle.rival_tables.specs.Filled.{Rows, cell};
 ghost use Rattle.rival_layers.specs.Layers.{keptPrice, Small, Cheap, nextPrice};
 
 // A row as it is counted with one arc more.

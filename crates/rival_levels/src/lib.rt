@@ -57,7 +57,8 @@ pub fn ends(n: usize, d: &[u8; 4096], terminals: &[u8; 4096], b: usize, bound: u
 // The first row in which that finds a column, and the column; n if there is none.
 pub fn pair(n: usize, d: &[u8; 4096], terminals: &[u8; 4096], bound: u8) -> Place
     requires { ⌜ (n ≤ planLimit) × Small n (now d) × SmallEnds n (now terminals) ⌝ }
-    ensures { λ r. ⌜ (r .row ≡ pairAt (cell (now (d .entry))) (now (terminals .entry)) n bound) × (r .row < n → r .column ≡ endsAt (cell (now (d .entry))) (now (terminals .entry)) n bound (r .row)) ⌝ }
+    ensures { λ r. ⌜ (r .row ≡ pairAt (cell (now (d .entry))) (now (terminals .entry)) n bound)
+        × (r .row < n → r .column ≡ endsAt (cell (now (d .entry))) (now (terminals .entry)) n bound (r .row)) ⌝ }
 {
     let mut i = 0;
     while i < n {

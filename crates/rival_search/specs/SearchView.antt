@@ -16,7 +16,9 @@ use Rattle.theory_votes.specs.Score.{rate}
 use Rattle.theory_verdict.specs.Search.{terminal, arc, room?, search}
 use Rattle.theory_verdict.specs.Stop.{search-same}
 use Rattle.arrays.specs.ArrayInstance.{at, flag, shown}
-use Rattle.rival_tables.specs.Filled.{Grid, Made, Low}
+use Rattle.arrays.specs.Passes.{Low}
+use Rattle.arrays.specs.Filled.{Made}
+use Rattle.rival_tables.specs.Filled.{Grid}
 use Rattle.rival_tables.specs.Cheapest.{cheapest-cong, cheapest-≤, cheapest-reach}
 use Rattle.rival_arcs.specs.Arcs.{joining, priceOf, arcPrice}
 use Rattle.rival_gains.specs.Gains.{gainable, gainableBut, gainPrice, gainPriceBut}

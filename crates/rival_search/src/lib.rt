@@ -3,7 +3,8 @@
 ghost use mathlib.Core.Path.{_≡_};
 ghost use Prim.Native.Nat.{ℕ, _≤_, _<_};
 ghost use Rattle.model.specs.Limits.{entryLimit, nodeLimit, planLimit};
-ghost use Rattle.rival_tables.specs.Filled.{Low, Grid, Rows};
+ghost use Rattle.arrays.specs.Passes.{Low};
+ghost use Rattle.rival_tables.specs.Filled.{Grid, Rows};
 ghost use Rattle.rival_layers.specs.Layers.{Small, Cheap};
 ghost use Rattle.rival_levels.specs.Levels.{SmallEnds};
 ghost use Rattle.rival_laws.specs.Walks.{searchAt};
@@ -21,18 +22,20 @@ pub fn terminal_table(
     n: usize,
     ps: &[u8; 64],
     pt: &[u8; 64],
-    qs: &[u8; 64],
-    qt: &[u8; 64],
+    rps: &[u8; 64],
+    rpt: &[u8; 64],
     fs: &[bool; 32],
     ft: &[bool; 32],
 ) -> [u8; 4096]
     requires { ⌜ (m ≤ entryLimit) × (n ≤ planLimit) × Low m (now sv) nodeLimit × Low m (now st) nodeLimit ⌝ }
-    ensures { λ r. ⌜ Grid r n (terminalCell m (now (sv .entry)) (now (st .entry)) (now (rs .entry)) (now (rt .entry)) (now (plan .entry)) (now (fs .entry)) (now (ft .entry)) (now (ps .entry)) (now (pt .entry)) (now (qs .entry)) (now (qt .entry))) ⌝ }
+    ensures { λ r. ⌜ Grid r n
+        (terminalCell m (now (sv .entry)) (now (st .entry)) (now (rs .entry)) (now (rt .entry)) (now (plan .entry)) (now (fs .entry))
+        (now (ft .entry)) (now (ps .entry)) (now (pt .entry)) (now (rps .entry)) (now (rpt .entry))) ⌝ }
 {
-    let starts = rival_gains::apart(m, sv, st, rs, plan, ft, n, ps, pt, qs);
-    let stops = rival_gains::apart(m, st, sv, rt, plan, fs, n, pt, ps, qt);
-    let gs = rival_gains::gains(m, sv, st, rs, plan, ft, n, ps, qs);
-    let gt = rival_gains::gains(m, st, sv, rt, plan, fs, n, pt, qt);
+    let starts = rival_gains::apart(m, sv, st, rs, plan, ft, n, ps, pt, rps);
+    let stops = rival_gains::apart(m, st, sv, rt, plan, fs, n, pt, ps, rpt);
+    let gs = rival_gains::gains(m, sv, st, rs, plan, ft, n, ps, rps);
+    let gt = rival_gains::gains(m, st, sv, rt, plan, fs, n, pt, rpt);
     rival_ends::terminals(n, &starts, &stops, &gs, &gt)
 }
 
@@ -49,8 +52,10 @@ pub fn search(
     ends: &[u8; 4096],
     k: u8,
 ) -> rival_levels::Found
-    requires { ⌜ (m ≤ entryLimit) × (n ≤ planLimit) × (k ≤ 1) × Low m (now sv) nodeLimit × Low m (now st) nodeLimit × Small n (now arcs) × Cheap n (now arcs) × SmallEnds n (now ends) ⌝ }
-    ensures { λ r. ⌜ r ≡ searchAt m (freeAt (now (sv .entry)) (now (st .entry)) (now (plan .entry)) (now (fs .entry)) (now (ft .entry))) (now (arcs .entry)) (now (ends .entry)) n k ⌝ }
+    requires { ⌜ (m ≤ entryLimit) × (n ≤ planLimit) × (k ≤ 1) × Low m (now sv) nodeLimit × Low m (now st) nodeLimit × Small n (now arcs) × Cheap n (now arcs)
+        × SmallEnds n (now ends) ⌝ }
+    ensures { λ r. ⌜ r ≡ searchAt m (freeAt (now (sv .entry)) (now (st .entry)) (now (plan .entry)) (now (fs .entry)) (now (ft .entry))) (now (arcs .entry))
+        (now (ends .entry)) n k ⌝ }
 {
     let f = rival_capacity::direct(m, sv, st, plan, fs, ft);
     if f < m {
@@ -81,16 +86,18 @@ pub fn searched(
     n: usize,
     ps: &[u8; 64],
     pt: &[u8; 64],
-    qs: &[u8; 64],
-    qt: &[u8; 64],
+    rps: &[u8; 64],
+    rpt: &[u8; 64],
     fs: &[bool; 32],
     ft: &[bool; 32],
     arcs: &[u8; 4096],
 ) -> Hunt
-    requires { ⌜ (m ≤ entryLimit) × (n ≤ planLimit) × Low m (now sv) nodeLimit × Low m (now st) nodeLimit × Rows (now arcs) n (arcCell m (now sv) (now st) (now rs) (now rt) (now plan) (now ps) (now pt) (now qs) (now qt)) ⌝ }
-    ensures { λ r. ⌜ Searched m (now (sv .entry)) (now (st .entry)) (now (rs .entry)) (now (rt .entry)) (now (plan .entry)) n (now (ps .entry)) (now (pt .entry)) (now (qs .entry)) (now (qt .entry)) (now (fs .entry)) (now (ft .entry)) (now (arcs .entry)) (r .below) (r .found) ⌝ }
+    requires { ⌜ (m ≤ entryLimit) × (n ≤ planLimit) × Low m (now sv) nodeLimit × Low m (now st) nodeLimit
+        × Rows (now arcs) n (arcCell m (now sv) (now st) (now rs) (now rt) (now plan) (now ps) (now pt) (now rps) (now rpt)) ⌝ }
+    ensures { λ r. ⌜ Searched m (now (sv .entry)) (now (st .entry)) (now (rs .entry)) (now (rt .entry)) (now (plan .entry)) n (now (ps .entry)) (now (pt .entry))
+        (now (rps .entry)) (now (rpt .entry)) (now (fs .entry)) (now (ft .entry)) (now (arcs .entry)) (r .below) (r .found) ⌝ }
 {
-    let ends = terminal_table(m, sv, st, rs, rt, plan, n, ps, pt, qs, qt, fs, ft);
+    let ends = terminal_table(m, sv, st, rs, rt, plan, n, ps, pt, rps, rpt, fs, ft);
     let first = search(m, sv, st, plan, fs, ft, n, arcs, &ends, 0);
     match first {
         rival_levels::Found::Nothing => {

@@ -1,4 +1,4 @@
--- Arrays that loops fill: the first entries, and square tables of 64 columns that lie row after row in one array.
+-- Square tables of 64 columns that lie row after row in one array, filled row by row.
 use Prim.Native.Nat.{ℕ, _+_, _*_, _≤_, _<_}
 use native.Mathlib.Omega.{arith}
 use native.Mathlib.Nat.{eq-or-lt-of-le}
@@ -13,30 +13,7 @@ use borrow.Author.Tests.{lt-ltb, le-ltb, ltb-true, ltb-false}
 use mir.Val.{boolByte}
 use Rattle.lists.specs.Test.{by-bool, bit, by-eq, bit-one}
 use Rattle.arrays.specs.ArrayInstance.{at}
-
--- the first n entries are below k
-abbrev pub Low : ℕ → List ℕ → ℕ → Type 0
-Low n xs k = (i : ℕ) → i < n → at xs i < k
-
--- the first n entries are f's
-abbrev pub Made : {A : Type 0} → A → List A → (ℕ → A) → ℕ → Type 0
-Made d o f n = (e : ℕ) → e < n → getD o e d ≡ f e
-
-pub made-next : {A : Type 0} (d : A) (o : List A) (f : ℕ → A) (i : ℕ) → i < length o → Made d o f i → Made d (set o i (f i)) f (i + 1)
-made-next d o f i l h e k = ⊎-elim
-    (λ q. subst (λ (k : ℕ). getD (set o i (f i)) k d ≡ f k) (sym q) (getD-set-same o i (f i) d l))
-    (λ q. let ne : e ≡ i → ⊥ = (λ (x : e ≡ i). omega arith) in getD-set-other o i e (f i) d ne ∙ h e q)
-    (let g : e ≤ i = omega arith in eq-or-lt-of-le g)
-
-pub made-set : {A : Type 0} (d : A) (o : List A) (f : ℕ → A) (i : ℕ) (v : A) → i < length o → v ≡ f i → Made d o f i → Made d (set o i v) f (i + 1)
-made-set d o f i v l e h = subst (λ z. Made d (set o i z) f (i + 1)) (sym e) (made-next d o f i l h)
-
-pub byte-bit : (b : Bool) → boolByte b ≡ bit b
-byte-bit true = refl
-byte-bit false = refl
-
-pub byte-one : (b : Bool) → boolByte b ≤ 1
-byte-one b = omega (arith, byte-bit b, bit-one b)
+use Rattle.arrays.specs.Filled.{Made}
 
 -- ---- a table: the entry of row i, column j; the first n rows and columns are f's; no entry is above k
 abbrev pub cell : List ℕ → ℕ → ℕ → ℕ

@@ -6,7 +6,9 @@ ghost use Prim.Native.Nat.{ℕ, _≤_, _<_, min};
 ghost use Rattle.model.specs.Limits.{entryLimit, planLimit};
 ghost use Rattle.arrays.specs.ArrayInstance.{at};
 ghost use Rattle.theory_votes.specs.Score.{rate};
-ghost use Rattle.rival_tables.specs.Filled.{Low, Made, Put};
+ghost use Rattle.arrays.specs.Passes.{Low};
+ghost use Rattle.arrays.specs.Filled.{Made};
+ghost use Rattle.rival_tables.specs.Filled.{Put};
 ghost use Rattle.rival_tables.specs.Cheapest.{offer};
 
 // One more than the vote of rank a against rank b.

@@ -1,4 +1,4 @@
--- The verdict that the code gives is the search's, hence the model's (search, Rival): by what was found below 0, or else below 1.
+-- The verdict that the code gives is the search's, hence the model's (theory_verdict, Rival): by what was found below 0, or else below 1.
 use Prim.Native.Nat.{ℕ}
 use mathlib.Core.Path.{_≡_, refl}
 use mathlib.Core.Bool.{Bool, true, false}

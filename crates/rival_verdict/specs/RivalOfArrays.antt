@@ -1,4 +1,5 @@
--- What the arrays show of a plan: its verdict and its rival are those of the search (search, Rival), for every instance that the arrays show. And what a
+-- What the arrays show of a plan: its verdict and its rival are those of the search (theory_verdict, Rival), for every instance that the arrays show.
+-- And what a
 -- caller has of it who knows the plan as the model's: both are asked of the set of edges alone.
 use Prim.Native.Nat.{ℕ, _≤_}
 use native.Mathlib.Omega.{arith}
@@ -18,8 +19,8 @@ use Rattle.theory_files.specs.Chosen.{planOf-cong}
 use Rattle.theory_verdict.specs.Search.{Hit, rivalBy, search, judge, verdictBy, rivalEdges}
 use Rattle.theory_verdict.specs.Rival.{lid, sizeOf, computedVerdict, rivalOf, computed-verdict}
 use Rattle.arrays.specs.ArrayInstance.{at, flag, shown}
-use Rattle.arrays.specs.Passes.{Shows}
-use Rattle.rival_tables.specs.Filled.{Low, Grid, Rows}
+use Rattle.arrays.specs.Passes.{Shows, Low}
+use Rattle.rival_tables.specs.Filled.{Grid, Rows}
 use Rattle.rival_levels.specs.declared.Found.{Found}
 use Rattle.rival_laws.specs.Walks.{hitOf, searchAt}
 use Rattle.rival_search.specs.SearchView.{Lists, Views, Roomy, freeAt, arcCell, search-shown, arc-shown, terminal-shown, room-S, room-T}
@@ -33,7 +34,8 @@ pub record RivalShown (m : ℕ) (sv st rs rt quotaS quotaT : List ℕ) (plan : L
 
 -- the same for all quotas that leave this room at the nodes
 abbrev pub ShownFor : (m : ℕ) (sv st rs rt : List ℕ) (plan : List Bool) (n : ℕ) (ps pt : List ℕ) (roomS roomT : List Bool) → Verdict → List Bool → Type 0
-ShownFor m sv st rs rt plan n ps pt roomS roomT v rival = (quotaS quotaT : List ℕ) → Roomy n ps quotaS roomS → Roomy n pt quotaT roomT → RivalShown m sv st rs rt quotaS quotaT plan v rival
+ShownFor m sv st rs rt plan n ps pt roomS roomT v rival =
+    (quotaS quotaT : List ℕ) → Roomy n ps quotaS roomS → Roomy n pt quotaT roomT → RivalShown m sv st rs rt quotaS quotaT plan v rival
 
 -- ---- plans with the same edges
 module _ (G : Instance) (M N : Plan) (same : (e : ℕ) → on M e ≡ on N e) where
@@ -56,8 +58,10 @@ module _ (m ns nt : ℕ) (sv st rs rt : List ℕ) (tied : List Bool) (quotaS quo
   shown-rival e = R .flags ns nt tied e ∙ ap (λ G. on (rivalOf G plan) e) is ∙ ap (λ N. on N e) (rival-on G plan M same)
 
 -- ---- what the code finds shows the verdict and the rival
-module _ (m : ℕ) (sv st rs rt quotaS quotaT : List ℕ) (plan : List Bool) (n : ℕ) (es ps pt qs qt : List ℕ) (roomS roomT : List Bool) (arcs : List ℕ) (below : Bool) (what : Found)
-    (fits : n ≤ 64) (lowS : Low m sv 32) (lowT : Low m st 32) (lists : Lists m plan n es) (views : Views n es sv st rs rt ps pt qs qt) (roomyS : Roomy n ps quotaS roomS) (roomyT : Roomy n pt quotaT roomT)
+module _ (m : ℕ) (sv st rs rt quotaS quotaT : List ℕ) (plan : List Bool) (n : ℕ) (es ps pt qs qt : List ℕ) (roomS roomT : List Bool) (arcs : List ℕ)
+    (below : Bool) (what : Found)
+    (fits : n ≤ 64) (lowS : Low m sv 32) (lowT : Low m st 32) (lists : Lists m plan n es) (views : Views n es sv st rs rt ps pt qs qt)
+    (roomyS : Roomy n ps quotaS roomS) (roomyT : Roomy n pt quotaT roomT)
     (table : Rows arcs n (arcCell m sv st rs rt plan ps pt qs qt)) (searching : Searched m sv st rs rt plan n ps pt qs qt roomS roomT arcs below what) where
   terminals : List ℕ
   terminals = searching .0
@@ -75,7 +79,9 @@ module _ (m : ℕ) (sv st rs rt quotaS quotaT : List ℕ) (plan : List Bool) (n 
 
     hit : (k : ℕ) → k ≤ 1 → hitOf H (flag plan) es (finds k) ≡ search H (flag plan) 133 k n
     unfolding finds terminals
-    hit k h = search-shown m ns nt sv st rs rt tied quotaS quotaT plan n es ps pt qs qt roomS roomT lowS lowT lists views roomyS roomyT arcs terminals k shows-arcs (searching .1) (omega arith)
+    hit k h =
+        search-shown m ns nt sv st rs rt tied quotaS quotaT plan n es ps pt qs qt roomS roomT lowS lowT lists views roomyS roomyT arcs terminals k
+        shows-arcs (searching .1) (omega arith)
 
     size : length (edgesIn m (flag plan)) ≡ n
     size = ap length lists ∙ length-map (range 0 n) (at es) ∙ range-length 0 n
@@ -95,21 +101,29 @@ module _ (m : ℕ) (sv st rs rt quotaS quotaT : List ℕ) (plan : List Bool) (n 
         ∙ searched-hit H (flag plan) es (finds 0) (finds 1)
         ∙ ap₂ orElse (hit 0 (omega arith)) (hit 1 (omega arith))
 
-    found-rival : (rival : List Bool) → Shows false rival m (rivalAt m sv st rs rt plan roomS roomT es arcs n what) → (e : ℕ) → flag rival e ≡ on (rivalOf H plan) e
+    found-rival : (rival : List Bool) → Shows false rival m (rivalAt m sv st rs rt plan roomS roomT es arcs n what) → (e : ℕ)
+        → flag rival e ≡ on (rivalOf H plan) e
     unfolding rivalOf rivalEdges terminals
     found-rival rival s e =
         shows-plan m rival (rivalAt m sv st rs rt plan roomS roomT es arcs n what) s e
-        ∙ ap (λ N. on N e) (planOf-cong m (rivalAt m sv st rs rt plan roomS roomT es arcs n what) (Option·elim (hitOf H (flag plan) es what) (flag plan) (rivalBy (flag plan))) (λ d h.
+        ∙ ap (λ N. on N e)
+        (planOf-cong m (rivalAt m sv st rs rt plan roomS roomT es arcs n what)
+        (Option·elim (hitOf H (flag plan) es what) (flag plan) (rivalBy (flag plan))) (λ d h.
         rival-at m sv st rs rt plan roomS roomT es arcs n ns nt tied quotaS quotaT lists terminals
-        (λ i j il jl. shows-arcs i j il jl ∙ arc-shown m ns nt sv st rs rt tied quotaS quotaT plan n es ps pt qs qt roomS roomT lowS lowT lists views roomyS roomyT i j il jl)
-        (λ i j il jl. searching .1 i j il jl ∙ terminal-shown m ns nt sv st rs rt tied quotaS quotaT plan n es ps pt qs qt roomS roomT lowS lowT lists views roomyS roomyT i j il jl)
+        (λ i j il jl. shows-arcs i j il jl
+        ∙ arc-shown m ns nt sv st rs rt tied quotaS quotaT plan n es ps pt qs qt roomS roomT lowS lowT lists views roomyS roomyT i j il jl)
+        (λ i j il jl. searching .1 i j il jl
+        ∙ terminal-shown m ns nt sv st rs rt tied quotaS quotaT plan n es ps pt qs qt roomS roomT lowS lowT lists views roomyS roomyT i j il jl)
         (room-S m ns nt sv st rs rt tied quotaS quotaT plan n es ps pt qs qt roomS roomT lowS lowT lists views roomyS roomyT)
         (room-T m ns nt sv st rs rt tied quotaS quotaT plan n es ps pt qs qt roomS roomT lowS lowT lists views roomyS roomyT)
         what (searching-bounded m sv st rs rt plan n ps pt qs qt roomS roomT arcs below what searching) d))
         ∙ ap (λ (o : Option Hit). on (planOf m (Option·elim o (flag plan) (rivalBy (flag plan)))) e) found-hit
-        ∙ ap (λ k. on (planOf m (Option·elim (orElse (search H (flag plan) 133 0 k) (search H (flag plan) 133 1 k)) (flag plan) (rivalBy (flag plan)))) e) (sym size)
+        ∙ ap
+        (λ k. on (planOf m (Option·elim (orElse (search H (flag plan) 133 0 k) (search H (flag plan) 133 1 k)) (flag plan) (rivalBy (flag plan)))) e)
+        (sym size)
 
-  pub found-shown : (v : Verdict) (gone come rival : List Bool) → v ≡ verdictFor below (isSomething what) → Marks gone (goneBy m sv st rs rt plan roomS roomT es arcs n what) → Marks come (comeBy m sv st rs rt plan roomS roomT es arcs n what)
+  pub found-shown : (v : Verdict) (gone come rival : List Bool) → v ≡ verdictFor below (isSomething what)
+      → Marks gone (goneBy m sv st rs rt plan roomS roomT es arcs n what) → Marks come (comeBy m sv st rs rt plan roomS roomT es arcs n what)
       → Shows false rival m (λ e. (flag plan e && not (flag gone e)) || flag come e) → RivalShown m sv st rs rt quotaS quotaT plan v rival
   found-shown v gone come rival e g c s = record {
     verdict = λ ns nt tied. e ∙ found-verdict ns nt tied;

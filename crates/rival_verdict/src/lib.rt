@@ -5,8 +5,7 @@ ghost use mathlib.Core.Bool.{false, not, _&&_, _||_};
 ghost use Prim.Native.Nat.{_≤_};
 ghost use Rattle.model.specs.Limits.{entryLimit, nodeLimit, planLimit};
 ghost use Rattle.arrays.specs.ArrayInstance.{flag};
-ghost use Rattle.arrays.specs.Passes.{Shows};
-ghost use Rattle.rival_tables.specs.Filled.{Low};
+ghost use Rattle.arrays.specs.Passes.{Shows, Low};
 ghost use Rattle.rival_search.specs.SearchView.{Lists, Views};
 ghost use Rattle.rival_verdict.specs.RivalOfArrays.{RivalShown, ShownFor};
 ghost use Rattle.rival_verdict.specs.Judged.{verdictFor, isSomething};
@@ -65,8 +64,10 @@ pub fn judged_on(
     fs: &[bool; 32],
     ft: &[bool; 32],
 ) -> Judged
-    requires { ⌜ (m ≤ entryLimit) × (n ≤ planLimit) × Low m (now sv) nodeLimit × Low m (now st) nodeLimit × Lists m (now plan) n (now es) × Views n (now es) (now sv) (now st) (now rs) (now rt) (now ps) (now pt) (now qs) (now qt) ⌝ }
-    ensures { λ r. ⌜ ShownFor m (now (sv .entry)) (now (st .entry)) (now (rs .entry)) (now (rt .entry)) (now (plan .entry)) n (now (ps .entry)) (now (pt .entry)) (now (fs .entry)) (now (ft .entry)) (verdictFor (r .beaten) (r .rivalled)) (r .rival) ⌝ }
+    requires { ⌜ (m ≤ entryLimit) × (n ≤ planLimit) × Low m (now sv) nodeLimit × Low m (now st) nodeLimit × Lists m (now plan) n (now es)
+        × Views n (now es) (now sv) (now st) (now rs) (now rt) (now ps) (now pt) (now qs) (now qt) ⌝ }
+    ensures { λ r. ⌜ ShownFor m (now (sv .entry)) (now (st .entry)) (now (rs .entry)) (now (rt .entry)) (now (plan .entry)) n (now (ps .entry)) (now (pt .entry))
+        (now (fs .entry)) (now (ft .entry)) (verdictFor (r .beaten) (r .rivalled)) (r .rival) ⌝ }
 {
     let arcs = rival_arcs::arcs(m, sv, st, rs, rt, plan, n, ps, pt, qs, qt);
     let h = rival_search::searched(m, sv, st, rs, rt, plan, n, ps, pt, qs, qt, fs, ft, &arcs);
@@ -97,7 +98,8 @@ pub fn judge(
     es: &[u16; 64],
 ) -> Judged
     requires { ⌜ (m ≤ entryLimit) × (n ≤ planLimit) × Low m (now sv) nodeLimit × Low m (now st) nodeLimit × Lists m (now plan) n (now es) ⌝ }
-    ensures { λ r. ⌜ RivalShown m (now (sv .entry)) (now (st .entry)) (now (rs .entry)) (now (rt .entry)) (now (bs .entry)) (now (bt .entry)) (now (plan .entry)) (verdictFor (r .beaten) (r .rivalled)) (r .rival) ⌝ }
+    ensures { λ r. ⌜ RivalShown m (now (sv .entry)) (now (st .entry)) (now (rs .entry)) (now (rt .entry)) (now (bs .entry)) (now (bt .entry)) (now (plan .entry))
+        (verdictFor (r .beaten) (r .rivalled)) (r .rival) ⌝ }
 {
     let ps = rival_tables::gathered(n, es, sv);
     let pt = rival_tables::gathered(n, es, st);

@@ -1,4 +1,4 @@
--- The edge of an arc, read from arrays: the first cheapest one, as in the search (search, Search.arc).
+-- The edge of an arc, read from arrays: the first cheapest one, as in the search (theory_verdict, Search.arc).
 use Prim.Native.Nat.{ℕ, _+_, _-_, _≤_, _<_}
 use mathlib.Core.Path.{_≡_, sym, ap, _∙_}
 use mathlib.Core.Bool.{Bool, cond, _&&_}

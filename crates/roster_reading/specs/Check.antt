@@ -63,7 +63,8 @@ module _ {S : Type 0} (check : S → ℕ → ℕ) (next : S → ℕ → S) where
   unfolding refusalOf
   refusal-end s xs i h = rw (drop-of-length-le xs h)
 
-  pub refusal-step : (s : S) (xs : List ℕ) (i : ℕ) → i < length xs → refusalOf s (drop i xs) ≡ firstOf (check s (getD xs i 0)) (refusalOf (next s (getD xs i 0)) (drop (i + 1) xs))
+  pub refusal-step : (s : S) (xs : List ℕ) (i : ℕ) → i < length xs
+      → refusalOf s (drop i xs) ≡ firstOf (check s (getD xs i 0)) (refusalOf (next s (getD xs i 0)) (drop (i + 1) xs))
   unfolding refusalOf
   refusal-step s xs i h = rw (add-one, drop-cons xs i 0 h)
 
@@ -75,8 +76,11 @@ module _ {S : Type 0} (check : S → ℕ → ℕ) (next : S → ℕ → S) where
   each-is (suc n) s (x ∷ bs) = go (check s x) (each-is n (next s x) bs)
     where
       go : (m : ℕ) → readEach byte check next n (next s x) bs ≡ refuseBy (refusalOf (next s x) (take n bs)) (some n bs)
-          → refuseBy m (readEach byte check next n (next s x) bs then (λ xs rest. accepted (x ∷ xs, rest))) ≡ refuseBy (firstOf m (refusalOf (next s x) (take n bs))) (some n bs then (λ xs rest. accepted (x ∷ xs, rest)))
-      go zero e = ap (λ r. r then (λ xs rest. accepted (x ∷ xs, rest))) e ∙ refuse-then (refusalOf (next s x) (take n bs)) (some n bs) (λ xs rest. accepted (x ∷ xs, rest))
+          → refuseBy m (readEach byte check next n (next s x) bs then (λ xs rest. accepted (x ∷ xs, rest))) ≡ refuseBy
+          (firstOf m (refusalOf (next s x) (take n bs))) (some n bs then (λ xs rest. accepted (x ∷ xs, rest)))
+      go zero e =
+          ap (λ r. r then (λ xs rest. accepted (x ∷ xs, rest))) e
+          ∙ refuse-then (refusalOf (next s x) (take n bs)) (some n bs) (λ xs rest. accepted (x ∷ xs, rest))
       go (suc m) e = refl
 
   -- the code's answer for n fields at a place: a refusal of the part from there to its end, or where the part is short, 1
@@ -87,7 +91,8 @@ module _ {S : Type 0} (check : S → ℕ → ℕ) (next : S → ℕ → S) where
       size : length (drop at f) ≡ length f - at
       size = length-drop at f
 
-      cut : length f - at < n → partAnswer (refusalOf s (take (e - at) (drop at f))) at e n ≡ placed f (refuseBy (refusalOf s (take n (drop at f))) (some n (drop at f)))
+      cut : length f - at < n
+          → partAnswer (refusalOf s (take (e - at) (drop at f))) at e n ≡ placed f (refuseBy (refusalOf s (take n (drop at f))) (some n (drop at f)))
       cut k =
           let a : take (e - at) (drop at f) ≡ drop at f = take-all (e - at) (drop at f) (omega (arith, size)) in
           let b : take n (drop at f) ≡ drop at f = take-all n (drop at f) (omega (arith, size)) in
@@ -97,18 +102,21 @@ module _ {S : Type 0} (check : S → ℕ → ℕ) (next : S → ℕ → S) where
           go zero = refl
           go (suc m) = rw eqb·suc-zero
 
-      whole : (length f - at < n → ⊥) → partAnswer (refusalOf s (take (e - at) (drop at f))) at e n ≡ placed f (refuseBy (refusalOf s (take n (drop at f))) (some n (drop at f)))
+      whole : (length f - at < n → ⊥)
+          → partAnswer (refusalOf s (take (e - at) (drop at f))) at e n ≡ placed f (refuseBy (refusalOf s (take n (drop at f))) (some n (drop at f)))
       whole k =
           let a : e - at ≡ n = omega (arith, k) in
           let b : e ≡ length f - length (drop n (drop at f)) = simp (length-drop) (omega (arith, k)) in
           simp (a, some-whole n (drop at f) (omega (arith, size, k)), le-ltb n n (le-refl n)) (go (refusalOf s (take n (drop at f))) b)
         where
-          go : (m : ℕ) → e ≡ length f - length (drop n (drop at f)) → cond (eqb m 0) (section.Read e) (section.Refused m) ≡ placed f (refuseBy m (accepted (take n (drop at f), drop n (drop at f))))
+          go : (m : ℕ) → e ≡ length f - length (drop n (drop at f))
+              → cond (eqb m 0) (section.Read e) (section.Refused m) ≡ placed f (refuseBy m (accepted (take n (drop at f), drop n (drop at f))))
           go zero b = ap section.Read b
           go (suc m) b = rw eqb·suc-zero
 
   -- where all fields pass, they are that part
-  pub part-read : (s : S) (f : List ℕ) (at n e : ℕ) {xs rest : List ℕ} → at ≤ length f → e ≡ partEnd (length f) at n → readEach byte check next n s (drop at f) ≡ accepted (xs, rest)
+  pub part-read : (s : S) (f : List ℕ) (at n e : ℕ) {xs rest : List ℕ} → at ≤ length f → e ≡ partEnd (length f) at n
+      → readEach byte check next n s (drop at f) ≡ accepted (xs, rest)
       → (refusalOf s (take (e - at) (drop at f)) ≡ 0) × (xs ≡ take (e - at) (drop at f))
   part-read s f at n e {xs} {rest} h d q =
       given (refuseBy-read (refusalOf s (take n (drop at f))) (sym (each-is n s (drop at f)) ∙ q)) (λ (z, g).

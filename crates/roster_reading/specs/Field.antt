@@ -53,7 +53,9 @@ wide f at = getD f at 0 + 256 * getD f (at + 1) 0
 
 module _ {A : Type 0} (f : List ℕ) (at : ℕ) (body : ℕ → List ℕ → Reading (A × List ℕ)) where
   pub wide-end : length f < at + 2 → (readWideCount (drop at f) then body) ≡ refused 1
-  wide-end h = ap (λ r. r then body) (two-cut (drop at f) (λ w rest. refuseIf (ltb entryLimit (w .0 + 256 * w .1)) 2 (accepted (w .0 + 256 * w .1, rest))) (from-cut f at h))
+  wide-end h =
+      ap (λ r. r then body)
+      (two-cut (drop at f) (λ w rest. refuseIf (ltb entryLimit (w .0 + 256 * w .1)) 2 (accepted (w .0 + 256 * w .1, rest))) (from-cut f at h))
 
   pub wide-long : at + 1 < length f → entryLimit < wide f at → (readWideCount (drop at f) then body) ≡ refused 2
   wide-long h k = simp (from-two f at h, lt-ltb entryLimit (wide f at) k)

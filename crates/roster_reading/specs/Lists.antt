@@ -36,24 +36,30 @@ module _ (longest other : ℕ) (f : List ℕ) (at : ℕ) where
   pub ranking-end : {after : List Bool} → length f < at + 2 → Marked (readRanking longest other) ShowsR f at (section.Refused 1) after
   ranking-end h = marked-refused (lengths-end f at longest other h)
 
-  pub ranking-long : {after : List Bool} → at + 1 < length f → longest < getD f at 0 + getD f (at + 1) 0 → Marked (readRanking longest other) ShowsR f at (section.Refused 2) after
+  pub ranking-long : {after : List Bool} → at + 1 < length f → longest < getD f at 0 + getD f (at + 1) 0
+      → Marked (readRanking longest other) ShowsR f at (section.Refused 2) after
   ranking-long h k = marked-refused (lengths-long f at longest other h k)
 
   module _ (h : at + 1 < length f) (k : getD f at 0 + getD f (at + 1) 0 ≤ longest) {between : List Bool} {s : Section}
       (m : Marked (readEntries other (getD f at 0)) Shows f (at + 2) s between) where
     pub ranking-refused : {n : ℕ} → s ≡ section.Refused n → Marked (readRanking longest other) ShowsR f at s between
     ranking-refused e = marked-as (sym e) (marked-refused (lengths-goes f at longest other h k
-        ∙ ap (λ r. r then tieBehind f at longest other (getD f (at + 1) 0)) (place-refused f (readEntries other (getD f at 0) (drop (at + 2) f)) (sym e ∙ m .place))))
+        ∙ ap (λ r. r then tieBehind f at longest other (getD f (at + 1) 0))
+        (place-refused f (readEntries other (getD f at 0) (drop (at + 2) f)) (sym e ∙ m .place))))
 
     module _ (isB : T (isBytes f)) {next : ℕ} (e : s ≡ section.Read next) where
       strict : (xs : List ℕ) × (readEntries other (getD f at 0) (drop (at + 2) f) ≡ accepted (xs, drop next f)) × (next ≤ length f)
-      strict = given (place-read (bytes (entryCheck other) (λ seen x. seen ++ x ∷ []) (getD f at 0) []) f (at + 2) isB (omega arith) (sym e ∙ m .place)) (λ x. (x .value, x .is, x .within))
+      strict =
+          given (place-read (bytes (entryCheck other) (λ seen x. seen ++ x ∷ []) (getD f at 0) []) f (at + 2) isB (omega arith) (sym e ∙ m .place))
+          (λ x. (x .value, x .is, x .within))
 
       pub tie-within : next ≤ length f
       tie-within = strict .2
 
-      pub ranking-goes : {after : List Bool} {r : Section} → TiedAt other (getD f (at + 1) 0) f next between r after → Marked (readRanking longest other) ShowsR f at r after
+      pub ranking-goes : {after : List Bool} {r : Section} → TiedAt other (getD f (at + 1) 0) f next between r after
+          → Marked (readRanking longest other) ShowsR f at r after
       ranking-goes t = given strict (λ (xs, is, w).
-          marked-behind {other = λ bs. readTied other xs (getD f (at + 1) 0) bs then (λ ys rest. accepted (record { strict = xs; tied = ys }, rest))} {next = next}
+          marked-behind {other = λ bs. readTied other xs (getD f (at + 1) 0) bs then (λ ys rest. accepted (record { strict = xs; tied = ys }, rest))}
+          {next = next}
           (lengths-goes f at longest other h k ∙ ap (λ r. r then tieBehind f at longest other (getD f (at + 1) 0)) is)
           (marked-map (readTied other xs (getD f (at + 1) 0)) (λ ys. record { strict = xs; tied = ys }) (t xs (m .marks xs (drop next f) is))))

@@ -36,7 +36,8 @@ module _ {A : Type 0} (field : List ℕ → Reading (A × List ℕ)) (entries : 
       let e : n - 0 ≡ n = omega arith in
       record { lists = []; reads = rw e (then-id (readMany field n (drop start f))); count = refl; shown = h }
 
-  step : (k : ℕ) (bs : List ℕ) → k < n → readMany field (n - k) bs ≡ (field bs then (λ x rest. readMany field (n - (k + 1)) rest then (λ xs rest. accepted (x ∷ xs, rest))))
+  step : (k : ℕ) (bs : List ℕ) → k < n
+      → readMany field (n - k) bs ≡ (field bs then (λ x rest. readMany field (n - (k + 1)) rest then (λ xs rest. accepted (x ∷ xs, rest))))
   unfolding readEach
   step k bs h = let e : n - k ≡ suc (n - (k + 1)) = omega arith in rw e
 
@@ -44,9 +45,13 @@ module _ {A : Type 0} (field : List ℕ → Reading (A × List ℕ)) (entries : 
       → Marked field shows f at (section.Refused m) row → Marked (readMany field n) (Shown entries none) f start (section.Refused m) after
   turn-refused {at} {k} {m = m} t h c =
       let e = place-refused f (field (drop at f)) (c .place) in
-      marked-refused (t .reads ∙ ap (λ r. r then (λ xs rest. accepted (t .lists ++ xs, rest))) (step k (drop at f) h ∙ ap (λ r. r then (λ x rest. readMany field (n - (k + 1)) rest then (λ xs rest. accepted (x ∷ xs, rest)))) e))
+      marked-refused
+      (t .reads
+      ∙ ap (λ r. r then (λ xs rest. accepted (t .lists ++ xs, rest)))
+      (step k (drop at f) h ∙ ap (λ r. r then (λ x rest. readMany field (n - (k + 1)) rest then (λ xs rest. accepted (x ∷ xs, rest)))) e))
 
-  pub turn-end : {at k : ℕ} {table : List Bool} → Turn at k table → n ≤ k → at ≤ length f → Marked (readMany field n) (Shown entries none) f start (section.Read at) table
+  pub turn-end : {at k : ℕ} {table : List Bool} → Turn at k table → n ≤ k → at ≤ length f
+      → Marked (readMany field n) (Shown entries none) f start (section.Read at) table
   unfolding readEach
   turn-end {at} {k} {table} t h l =
       let z : n - k ≡ 0 = omega arith in
@@ -58,21 +63,28 @@ module _ {A : Type 0} (field : List ℕ → Reading (A × List ℕ)) (entries : 
       }
 
   module _ (empty : entries none ≡ []) {write : A → List ℕ} {P : A → Type 0} (R : Reads field write P) (isB : T (isBytes f)) where
-    pub turn-next : {at k next : ℕ} {table row : List Bool} → Turn at k table → k < n → at ≤ length f → k * rowWidth + rowWidth ≤ length table → length row ≡ rowWidth
+    pub turn-next : {at k next : ℕ} {table row : List Bool} → Turn at k table → k < n → at ≤ length f → k * rowWidth + rowWidth ≤ length table
+        → length row ≡ rowWidth
         → Marked field (λ row a. Shows row (entries a)) f at (section.Read next) row → (next ≤ length f) × Turn next (k + 1) (withRow table k row)
     turn-next {at} {k} {next} {table} {row} t h l room w c =
         given (place-read R f at isB l (c .place)) (λ x. (
           x .within,
           record {
             lists = t .lists ++ x .value ∷ [];
-            reads = t .reads ∙ ap (λ r. r then (λ xs rest. accepted (t .lists ++ xs, rest))) (step k (drop at f) h ∙ ap (λ r. r then (λ x rest. readMany field (n - (k + 1)) rest then (λ xs rest. accepted (x ∷ xs, rest)))) (x .is))
+            reads =
+                t .reads
+                ∙ ap (λ r. r then (λ xs rest. accepted (t .lists ++ xs, rest)))
+                (step k (drop at f) h
+                ∙ ap (λ r. r then (λ x rest. readMany field (n - (k + 1)) rest then (λ xs rest. accepted (x ∷ xs, rest)))) (x .is))
                 ∙ joined (x .value) (t .lists) (readMany field (n - (k + 1)) (drop next f));
             count = simp length-append (omega (arith, t .count));
             shown = row-more entries none empty table row (t .lists) (x .value) k (t .shown) (t .count) room w (c .marks (x .value) (drop next f) (x .is));
           },
         ))
       where
-        joined : (x : A) (ls : List A) (r : Reading (List A × List ℕ)) → (r then (λ xs rest. accepted (x ∷ xs, rest)) then (λ xs rest. accepted (ls ++ xs, rest))) ≡ (r then (λ xs rest. accepted ((ls ++ x ∷ []) ++ xs, rest)))
+        joined : (x : A) (ls : List A) (r : Reading (List A × List ℕ))
+            → (r then (λ xs rest. accepted (x ∷ xs, rest)) then (λ xs rest. accepted (ls ++ xs, rest))) ≡ (r then
+            (λ xs rest. accepted ((ls ++ x ∷ []) ++ xs, rest)))
         joined x ls (accepted (xs, rest)) = ap (λ z. accepted (z, rest)) (sym (append-assoc ls (x ∷ []) xs))
         joined x ls (refused m) = refl
 
@@ -85,17 +97,23 @@ module _ {A : Type 0} (field : List ℕ → Reading (A × List ℕ)) (total : Li
   abbrev behind : ℕ → List ℕ → Reading (List A × List ℕ)
   behind w rest = readMany field n rest then summed w
 
-  pub section-cut : {shows : List Bool → List A → Type 0} {after : List Bool} → length f < at + 2 → Marked (readSection field total n) shows f at (section.Refused 1) after
+  pub section-cut : {shows : List Bool → List A → Type 0} {after : List Bool} → length f < at + 2
+      → Marked (readSection field total n) shows f at (section.Refused 1) after
   section-cut h = marked-refused (wide-end f at behind h)
 
-  pub section-long : {shows : List Bool → List A → Type 0} {after : List Bool} → at + 1 < length f → entryLimit < wide f at → Marked (readSection field total n) shows f at (section.Refused 2) after
+  pub section-long : {shows : List Bool → List A → Type 0} {after : List Bool} → at + 1 < length f → entryLimit < wide f at
+      → Marked (readSection field total n) shows f at (section.Refused 2) after
   section-long h k = marked-refused (wide-long f at behind h k)
 
   module _ (room : at + 1 < length f) (small : wide f at ≤ entryLimit) {shows : List Bool → List A → Type 0} {after : List Bool} where
-    pub section-refused : {m : ℕ} → Marked (readMany field n) shows f (at + 2) (section.Refused m) after → Marked (readSection field total n) shows f at (section.Refused m) after
-    section-refused c = marked-refused (wide-goes f at behind room small ∙ ap (λ r. r then summed (wide f at)) (place-refused f (readMany field n (drop (at + 2) f)) (c .place)))
+    pub section-refused : {m : ℕ} → Marked (readMany field n) shows f (at + 2) (section.Refused m) after
+        → Marked (readSection field total n) shows f at (section.Refused m) after
+    section-refused c =
+        marked-refused
+        (wide-goes f at behind room small ∙ ap (λ r. r then summed (wide f at)) (place-refused f (readMany field n (drop (at + 2) f)) (c .place)))
 
-    module _ {write : A → List ℕ} {P : A → Type 0} (R : Reads field write P) (isB : T (isBytes f)) (heads : ℕ) (sizes : (ls : List A) → length ls ≡ n → length (gather write ls) ≡ heads + total ls)
+    module _ {write : A → List ℕ} {P : A → Type 0} (R : Reads field write P) (isB : T (isBytes f)) (heads : ℕ)
+        (sizes : (ls : List A) → length ls ≡ n → length (gather write ls) ≡ heads + total ls)
         {end : ℕ} (c : Marked (readMany field n) shows f (at + 2) (section.Read end) after) where
       found : (ls : List A) × (readMany field n (drop (at + 2) f) ≡ accepted (ls, drop end f)) × (end ≡ at + 2 + (heads + total ls)) × (end ≤ length f)
       found = given (place-read (each R (λ s x. 0) (λ s x. s) n tt) f (at + 2) isB (omega arith) (c .place)) (λ x.
@@ -105,7 +123,8 @@ module _ {A : Type 0} (field : List ℕ → Reading (A × List ℕ)) (total : Li
       section-sum e = given found (λ (ls, d, l, b).
           let t : wide f at ≡ total ls = omega arith in
           let p : end ≡ length f - length (drop end f) = simp length-drop (omega arith) in
-          let g : readSection field total n (drop at f) ≡ accepted (ls, drop end f) = wide-goes f at behind room small ∙ ap (λ r. r then summed (wide f at)) d ∙ simp (eq-eqb (wide f at) (total ls) t) in
+          let g : readSection field total n (drop at f) ≡ accepted (ls, drop end f) =
+          wide-goes f at behind room small ∙ ap (λ r. r then summed (wide f at)) d ∙ simp (eq-eqb (wide f at) (total ls) t) in
           record {
             place = ap section.Read p ∙ sym (ap (placed f) g);
             marks = λ xs rest q. subst (shows after) (read-value (sym g ∙ q)) (c .marks ls (drop end f) d);
@@ -113,4 +132,6 @@ module _ {A : Type 0} (field : List ℕ → Reading (A × List ℕ)) (total : Li
 
       pub section-uneven : (end ≡ at + 2 + heads + wide f at → ⊥) → Marked (readSection field total n) shows f at (section.Refused 7) after
       section-uneven e = given found (λ (ls, d, l, b).
-          marked-refused (wide-goes f at behind room small ∙ ap (λ r. r then summed (wide f at)) d ∙ simp (ne-eqb (wide f at) (total ls) (λ (q : wide f at ≡ total ls). e (omega arith)))))
+          marked-refused
+          (wide-goes f at behind room small ∙ ap (λ r. r then summed (wide f at)) d
+          ∙ simp (ne-eqb (wide f at) (total ls) (λ (q : wide f at ≡ total ls). e (omega arith)))))

@@ -66,34 +66,43 @@ ListsRead ns nt f at r = (qs qt : List ℕ) → length qs ≡ ns → length qt �
 
 module _ (ns nt : ℕ) (f : List ℕ) (at : ℕ) where
   -- with the counts as the code has them
-  counted : (qs qt : List ℕ) → length qs ≡ ns → length qt ≡ nt → readLists qs qt (drop at f) ≡ (lists ns nt (drop at f) then (λ ls rest. rankings ns nt rest then finish qs qt ls))
+  counted : (qs qt : List ℕ) → length qs ≡ ns → length qt ≡ nt
+      → readLists qs qt (drop at f) ≡ (lists ns nt (drop at f) then (λ ls rest. rankings ns nt rest then finish qs qt ls))
   counted qs qt a b = simp (a, b)
 
   pub lists-refused : {s : Section} {n : ℕ} {after : List Bool} → Marked (lists ns nt) ListsShown f at s after → s ≡ section.Refused n → ListsRead ns nt f at s
   lists-refused m e qs qt a b = e ∙ sym (ap (λ r. closed f (oneSided (whole r))) (counted qs qt a b
       ∙ ap (λ r. r then (λ ls rest. rankings ns nt rest then finish qs qt ls)) (place-refused f (lists ns nt (drop at f)) (sym e ∙ m .place))))
 
-  module _ (isB : T (isBytes f)) (h : at ≤ length f) {s : Section} {mid : ℕ} {byS : List Bool} (m : Marked (lists ns nt) ListsShown f at s byS) (e : s ≡ section.Read mid) where
+  module _ (isB : T (isBytes f)) (h : at ≤ length f) {s : Section} {mid : ℕ} {byS : List Bool} (m : Marked (lists ns nt) ListsShown f at s byS)
+      (e : s ≡ section.Read mid) where
     first : (ls : List (List ℕ)) × (lists ns nt (drop at f) ≡ accepted (ls, drop mid f)) × (mid ≤ length f) × ListsShown byS ls
-    first = given (place-read (section-reads (listFits nt) totalS (list nt) ns) f at isB h (sym e ∙ m .place)) (λ x. (x .value, x .is, x .within, m .marks (x .value) (drop mid f) (x .is)))
+    first =
+        given (place-read (section-reads (listFits nt) totalS (list nt) ns) f at isB h (sym e ∙ m .place))
+        (λ x. (x .value, x .is, x .within, m .marks (x .value) (drop mid f) (x .is)))
 
     pub mid-within : mid ≤ length f
     mid-within = first .2
 
-    pub rankings-refused : {t : Section} {n : ℕ} {after : List Bool} → Marked (rankings ns nt) RankingsShown f mid t after → t ≡ section.Refused n → ListsRead ns nt f at t
+    pub rankings-refused : {t : Section} {n : ℕ} {after : List Bool} → Marked (rankings ns nt) RankingsShown f mid t after → t ≡ section.Refused n
+        → ListsRead ns nt f at t
     rankings-refused k d qs qt a b = d ∙ sym (ap (λ r. closed f (oneSided (whole r))) (counted qs qt a b
         ∙ ap (λ r. r then (λ ls rest. rankings ns nt rest then finish qs qt ls)) (first .1)
         ∙ ap (λ r. r then finish qs qt (first .0)) (place-refused f (rankings ns nt (drop mid f)) (sym d ∙ k .place))))
 
     module _ {t : Section} {end : ℕ} {byT : List Bool} (k : Marked (rankings ns nt) RankingsShown f mid t byT) (d : t ≡ section.Read end) where
       last : (ts : List Ranking) × (rankings ns nt (drop mid f) ≡ accepted (ts, drop end f)) × (end ≤ length f) × RankingsShown byT ts
-      last = given (place-read (section-reads (rankingFits ns) totalT (ranking ns) nt) f mid isB mid-within (sym d ∙ k .place)) (λ x. (x .value, x .is, x .within, k .marks (x .value) (drop end f) (x .is)))
+      last =
+          given (place-read (section-reads (rankingFits ns) totalT (ranking ns) nt) f mid isB mid-within (sym d ∙ k .place))
+          (λ x. (x .value, x .is, x .within, k .marks (x .value) (drop end f) (x .is)))
 
       abbrev here : List ℕ → List ℕ → Roster
       here qs qt = record { quotasS = qs; quotasT = qt; listsS = first .0; listsT = last .0 }
 
       read : (qs qt : List ℕ) → length qs ≡ ns → length qt ≡ nt → readLists qs qt (drop at f) ≡ accepted (here qs qt, drop end f)
-      read qs qt a b = counted qs qt a b ∙ ap (λ r. r then (λ ls rest. rankings ns nt rest then finish qs qt ls)) (first .1) ∙ ap (λ r. r then finish qs qt (first .0)) (last .1)
+      read qs qt a b =
+          counted qs qt a b ∙ ap (λ r. r then (λ ls rest. rankings ns nt rest then finish qs qt ls)) (first .1)
+          ∙ ap (λ r. r then finish qs qt (first .0)) (last .1)
 
       -- "9 bytes after the end"
       pub lists-behind : end < length f → ListsRead ns nt f at (section.Refused 9)
@@ -106,7 +115,9 @@ module _ (ns nt : ℕ) (f : List ℕ) (at : ℕ) where
 
       closes : length f ≤ end → (qs qt : List ℕ) → length qs ≡ ns → length qt ≡ nt
           → closed f (oneSided (whole (readLists qs qt (drop at f)))) ≡ cond (bothOrNeither (here qs qt)) (section.Read (length f)) (section.Refused 8)
-      closes l qs qt a b = ap (λ r. closed f (oneSided (whole r))) (read qs qt a b ∙ ap ((λ bs. accepted (here qs qt, bs))) (drop-of-length-le f l)) ∙ branch (bothOrNeither (here qs qt))
+      closes l qs qt a b =
+          ap (λ r. closed f (oneSided (whole r))) (read qs qt a b ∙ ap ((λ bs. accepted (here qs qt, bs))) (drop-of-length-le f l))
+          ∙ branch (bothOrNeither (here qs qt))
         where
           branch : (c : Bool) → closed f (cond c (accepted (here qs qt)) (refused 8)) ≡ cond c (section.Read (length f)) (section.Refused 8)
           branch true = refl
@@ -132,7 +143,11 @@ nodes-refused f m e = e ∙ sym (ap (λ r. closed f (oneSided (whole (r then sec
 module _ (f : List ℕ) {a : ℕ} (ns : Nodes f 0 a) where
   pub stands-refused : {t : Section} {n : ℕ} → t ≡ placed f (readNodes (drop a f)) → t ≡ section.Refused n → t ≡ closed f (readRoster f)
   unfolding readRoster
-  stands-refused m e = e ∙ sym (ap (λ r. closed f (oneSided (whole (r then second)))) (ns .is) ∙ ap (λ r. closed f (oneSided (whole (r then readLists (ns .quotas))))) (place-refused f (readNodes (drop a f)) (sym e ∙ m)))
+  stands-refused m e =
+      e
+      ∙ sym
+      (ap (λ r. closed f (oneSided (whole (r then second)))) (ns .is)
+      ∙ ap (λ r. closed f (oneSided (whole (r then readLists (ns .quotas))))) (place-refused f (readNodes (drop a f)) (sym e ∙ m)))
 
   pub roster-read : {b : ℕ} (nt : Nodes f a b) {r : Section} → ListsRead (getD f 0 0) (getD f a 0) f b r → r ≡ closed f (readRoster f)
   unfolding readRoster
@@ -140,7 +155,8 @@ module _ (f : List ℕ) {a : ℕ} (ns : Nodes f 0 a) where
       ∙ sym (ap (λ r. closed f (oneSided (whole (r then second)))) (ns .is) ∙ ap (λ r. closed f (oneSided (whole (r then readLists (ns .quotas))))) (nt .is))
 
 -- ---- what the file's end says of its reading
-pub closed-accepted : {A : Type 0} (f : List ℕ) (x : Reading Roster) {n : ℕ} (g : Reading Roster → A) {a : A} → ((R : Roster) → g (accepted R) ≡ a) → section.Read n ≡ closed f x → g x ≡ a
+pub closed-accepted : {A : Type 0} (f : List ℕ) (x : Reading Roster) {n : ℕ} (g : Reading Roster → A) {a : A} → ((R : Roster) → g (accepted R) ≡ a)
+    → section.Read n ≡ closed f x → g x ≡ a
 closed-accepted f (accepted R) g h e = h R
 closed-accepted f (refused m) g h e = read-not e
 

@@ -52,7 +52,8 @@ refused-line : (k : ℕ) (g : Group) → refusedText k g ≡ line (text "refused
 unfolding text
 refused-line k g = simp append-assoc
 
-pub answered : {a : Found} {flat left plan rival before after : List ℕ} {n : ℕ} → Appended before 0 (shownText a flat left plan rival) after n → Answered a flat left plan rival before n after
+pub answered : {a : Found} {flat left plan rival before after : List ℕ} {n : ℕ} → Appended before 0 (shownText a flat left plan rival) after n
+    → Answered a flat left plan rival before n after
 answered {a} {flat} {left} {plan} {rival} w = record {
   found = λ G f h. wrote-as (handed-text f h) w;
   refused = λ k g e. wrote-as (ap (λ a. shownText a flat left plan rival) e ∙ refused-line k g) w;
@@ -63,4 +64,5 @@ pub answered-text : (x : Reading Roster) {a : Found} {flat left plan rival befor
     → HandedFor x a flat left plan rival → Answered a flat left plan rival before n after → Wrote (answerText x (chosen .rivalOf)) before n after
 answered-text (accepted r) h w = w .found (instanceOf r) (F.finderOf (instanceOf r) (chosen .rivalOf (instanceOf r))) h
 answered-text (reading.refused k) {a} {before = before} {after = after} {n = n} h w =
-    subst (λ g. Wrote (line (text "refused" ∷ number k ∷ groupWord g ∷ [])) before n after) (shown-case (groupOf k)) (w .refused k (groupCase (groupOf k)) (shows-found a h))
+    subst (λ g. Wrote (line (text "refused" ∷ number k ∷ groupWord g ∷ [])) before n after) (shown-case (groupOf k))
+    (w .refused k (groupCase (groupOf k)) (shows-found a h))

@@ -64,7 +64,8 @@ module _ (G : Instance) where
 
   plan-text : (w : List ℕ) (M : Plan) (buffer : List ℕ) → Front (planBytes G M) buffer → planText (w ++ 32 ∷ []) buffer ≡ planLines G w M
   unfolding planBytes
-  plan-text w M buffer (rest, e) = ap (planText (w ++ 32 ∷ [])) e ∙ pairs-text w (edgesIn (G .m) (on M)) (pairList G (edgesIn (G .m) (on M)) ++ rest) (rest, refl)
+  plan-text w M buffer (rest, e) =
+      ap (planText (w ++ 32 ∷ [])) e ∙ pairs-text w (edgesIn (G .m) (on M)) (pairList G (edgesIn (G .m) (on M)) ++ rest) (rest, refl)
 
   diary-text : (flat : List ℕ) → ((d : List ℕ) × (flat ≡ written (diaryOf G) d)) → texts (diaryAt flat) (length (stepsOf G)) ≡ gather diaryLine (diaryOf G)
   unfolding diaryOf
@@ -86,4 +87,5 @@ module _ {G : Instance} {a : Found} {flat left plan rival : List ℕ} where
       rivalled-text : Front (planBytes G M) plan → Front (planBytes G N) rival → rivalledText v plan rival ≡ ending G (F.rivalled M N v)
       rivalled-text p q =
           rivalled-lines (text "none rivalled") (signed v) (planText (text "candidate ") plan) (planText (text "rival ") rival)
-          ∙ ap₂ (λ (x y : List ℕ). line (text "none rivalled" ∷ signed v ∷ []) ++ (x ++ y)) (plan-text G (text "candidate") M plan p) (plan-text G (text "rival") N rival q)
+          ∙ ap₂ (λ (x y : List ℕ). line (text "none rivalled" ∷ signed v ∷ []) ++ (x ++ y)) (plan-text G (text "candidate") M plan p)
+          (plan-text G (text "rival") N rival q)

@@ -39,7 +39,8 @@ use Rattle.text_answer.specs.Sizes.{gather-length, Small, refused-length
 bytes-front : (n : ℕ) (bs : List ℕ) → T (isBytes bs) → T (isBytes (take n bs))
 bytes-front zero bs t = tt
 bytes-front (suc n) [] t = tt
-bytes-front (suc n) (x ∷ bs) t = and-i (ltb x 256) (isBytes (take n bs)) (and-l (ltb x 256) (isBytes bs) t) (bytes-front n bs (and-r (ltb x 256) (isBytes bs) t))
+bytes-front (suc n) (x ∷ bs) t =
+    and-i (ltb x 256) (isBytes (take n bs)) (and-l (ltb x 256) (isBytes bs) t) (bytes-front n bs (and-r (ltb x 256) (isBytes bs) t))
 
 -- at most one pair for a surveyor and a stand
 pub edges-few : (r : Roster) → T (fits r) → instanceOf r .m ≤ entryLimit
@@ -50,7 +51,13 @@ edges-few r ok = omega (arith, gather-length row nodeLimit few (range 0 (surveyo
     row i = gather (λ j. cond (listed r i j) (pairEdge r i j ∷ []) []) (range 0 (standCount r))
 
     few : (i : ℕ) → length (row i) ≤ nodeLimit
-    few i = omega (arith, gather-length (λ j. cond (listed r i j) (pairEdge r i j ∷ []) []) 1 (λ j. one (listed r i j) (pairEdge r i j)) (range 0 (standCount r)), range-length 0 (standCount r), nt-small r ok)
+    few i =
+        omega (
+          arith,
+          gather-length (λ j. cond (listed r i j) (pairEdge r i j ∷ []) []) 1 (λ j. one (listed r i j) (pairEdge r i j)) (range 0 (standCount r)),
+          range-length 0 (standCount r),
+          nt-small r ok,
+        )
       where
         one : (b : Bool) (e : Edge) → length (cond b (e ∷ []) []) ≤ 1
         one true e = omega arith
@@ -92,12 +99,15 @@ module _ (r : Roster) (ok : T (fits r)) where
 
 -- what is handed over for a roster file can be printed
 pub file-printable : (x : Reading Roster) → ((r : Roster) → x ≡ accepted r → T (fits r)) → (a : Found) (flat left plan rival : List ℕ)
-    → 4 * diarySize ≤ length flat → leftSize ≤ length left → planSize ≤ length plan → planSize ≤ length rival → HandedFor x a flat left plan rival → Printable a flat left plan rival
-file-printable (accepted r) ok a flat left plan rival d l p v h = handed-printable (steps-fit r (ok r refl)) d l p v (finderOf (instanceOf r) (chosen .rivalOf (instanceOf r))) (found-small r (ok r refl)) h
+    → 4 * diarySize ≤ length flat → leftSize ≤ length left → planSize ≤ length plan → planSize ≤ length rival → HandedFor x a flat left plan rival
+    → Printable a flat left plan rival
+file-printable (accepted r) ok a flat left plan rival d l p v h =
+    handed-printable (steps-fit r (ok r refl)) d l p v (finderOf (instanceOf r) (chosen .rivalOf (instanceOf r))) (found-small r (ok r refl)) h
 file-printable (refused n) ok a flat left plan rival d l p v h = subst (λ k. Printable k flat left plan rival) (sym (shows-found a h)) tt
 
 pub answer-length : (x : Reading Roster) → ((r : Roster) → x ≡ accepted r → T (fits r)) → length (answerText x (chosen .rivalOf)) ≤ textSize
-answer-length (accepted r) h = text-length (instanceOf r) (finderOf (instanceOf r) (chosen .rivalOf (instanceOf r))) (steps-fit r (h r refl)) (found-small r (h r refl))
+answer-length (accepted r) h =
+    text-length (instanceOf r) (finderOf (instanceOf r) (chosen .rivalOf (instanceOf r))) (steps-fit r (h r refl)) (found-small r (h r refl))
 answer-length (refused n) h = refused-length n
 
 -- so a buffer of so many bytes holds whatever is printed

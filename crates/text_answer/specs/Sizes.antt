@@ -33,7 +33,8 @@ Small G (F.rivalled M N v) = (length (edgesIn (G .m) (on M)) ≤ planLimit) × (
 -- ---- the text's length
 pub gather-length : {A B : Type 0} (g : A → List B) (size : ℕ) → ((x : A) → length (g x) ≤ size) → (xs : List A) → length (gather g xs) ≤ size * length xs
 gather-length g size h [] = omega arith
-gather-length g size h (x ∷ xs) = let e : size * suc (length xs) ≡ size + size * length xs = omega arith in simp length-append (omega (arith, h x, gather-length g size h xs))
+gather-length g size h (x ∷ xs) =
+    let e : size * suc (length xs) ≡ size + size * length xs = omega arith in simp length-append (omega (arith, h x, gather-length g size h xs))
 
 group-length : (g : Group) → length (groupWord g) ≤ 7
 unfolding text
@@ -48,7 +49,13 @@ refused-length n = simp length-append (omega (arith, simp length-append at (fiel
 
 module _ (G : Instance) where
   counted-length : (w es : List ℕ) → length (counted G w es) ≤ length w + 1 + fieldSize + pairLineSize * length es
-  counted-length w es = simp length-append (omega (arith, simp length-append at (field-length (length es) 10), gather-length (pairLine G) pairLineSize (λ e. pair-length (suc (G .sv e)) (suc (G .st e))) es))
+  counted-length w es =
+      simp length-append
+      (omega (
+        arith,
+        simp length-append at (field-length (length es) 10),
+        gather-length (pairLine G) pairLineSize (λ e. pair-length (suc (G .sv e)) (suc (G .st e))) es,
+      ))
 
   ending-length : (f : F.Found) → Small G f → length (ending G f) ≤ endingSize
   unfolding text
@@ -67,14 +74,16 @@ module _ (G : Instance) where
       (omega (arith, gather-length diaryLine diaryLineSize diary-length (diaryOf G), length-map (stepsOf G) (recordOf G), ending-length f s))
 
 -- ---- what is handed over is printable
-plan-counted : (G : Instance) (M : Plan) (buffer : List ℕ) → length (edgesIn (G .m) (on M)) ≤ planLimit → planSize ≤ length buffer → Front (planBytes G M) buffer → Counted buffer
+plan-counted : (G : Instance) (M : Plan) (buffer : List ℕ) → length (edgesIn (G .m) (on M)) ≤ planLimit → planSize ≤ length buffer
+    → Front (planBytes G M) buffer → Counted buffer
 unfolding planBytes
 plan-counted G M buffer h k (rest, e) = (omega (arith, ap (λ b. getD b 0 0) e), k)
 
 module _ {G : Instance} {a : Found} {flat left plan rival : List ℕ} (steps : length (stepsOf G) ≤ diarySize)
     (d : 4 * diarySize ≤ length flat) (l : leftSize ≤ length left) (p : planSize ≤ length plan) (v : planSize ≤ length rival) where
   pub handed-printable : (f : F.Found) → Small G f → Handed G f a flat left plan rival → Printable a flat left plan rival
-  handed-printable (F.plan M) s h = subst (λ k. Printable k flat left plan rival) (sym (shows-found a (h .answer))) ((steps, d), plan-counted G M plan s p (h .pairs))
+  handed-printable (F.plan M) s h =
+      subst (λ k. Printable k flat left plan rival) (sym (shows-found a (h .answer))) ((steps, d), plan-counted G M plan s p (h .pairs))
   handed-printable (F.left es) s h = subst (λ k. Printable k flat left plan rival) (sym (shows-found a (h .answer))) ((steps, d), (s, l))
   handed-printable (F.rivalled M N w) s h = subst (λ k. Printable k flat left plan rival) (sym (shows-found a (h .answer)))
       ((steps, d), (plan-counted G M plan (s .0) p (h .pairs .0), plan-counted G N rival (s .1) v (h .pairs .1)))

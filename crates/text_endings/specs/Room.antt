@@ -39,7 +39,13 @@ refusedSize = 8 + fieldSize + groupSize
 
 pub counted-length : (word pairs : List ℕ) (n : ℕ) → length (countedText word pairs n) ≤ length word + fieldSize + pairLineSize * n
 counted-length word pairs n =
-    simp length-append (omega (arith, simp length-append at (field-length n 10), texts-length (pairAt pairs) pairLineSize (λ i. pair-length (pairFrom pairs (pairWidth * i) .surveyor) (pairFrom pairs (pairWidth * i) .stand)) n))
+    simp length-append
+    (omega (
+      arith,
+      simp length-append at (field-length n 10),
+      texts-length (pairAt pairs) pairLineSize
+          (λ i. pair-length (pairFrom pairs (pairWidth * i) .surveyor) (pairFrom pairs (pairWidth * i) .stand)) n,
+    ))
 
 pub plan-length : (word plan : List ℕ) → Counted plan → length (planText word plan) ≤ length word + fieldSize + pairLineSize * planLimit
 plan-length word plan h = omega (arith, counted-length word (drop 1 plan) (getD plan 0 0))

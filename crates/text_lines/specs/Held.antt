@@ -24,7 +24,8 @@ module _ {A : Type 0} (w : ℕ) (f : A → List ℕ) (d : A) (wide : (x : A) →
       ap₂ (λ (l : List ℕ) n. getD l n 0) (append-assoc (f x) (gather f xs) rest) e ∙ List·getD-append (f x) (gather f xs ++ rest) 0 j (omega (arith, wide x))
   gather-at (x ∷ xs) rest (suc i) j h k =
       let e : w * suc i + j ≡ length (f x) + (w * i + j) = omega (arith, wide x) in
-      ap₂ (λ (l : List ℕ) n. getD l n 0) (append-assoc (f x) (gather f xs) rest) e ∙ getD-append-add (f x) (gather f xs ++ rest) (w * i + j) 0 ∙ gather-at xs rest i j (omega arith) k
+      ap₂ (λ (l : List ℕ) n. getD l n 0) (append-assoc (f x) (gather f xs) rest) e ∙ getD-append-add (f x) (gather f xs ++ rest) (w * i + j) 0
+      ∙ gather-at xs rest i j (omega arith) k
 
 -- a flat diary's records
 abbrev made : (f s t r : ℕ) → Record

@@ -31,6 +31,8 @@ texts-first f zero = sym (append-nil (f 0))
 texts-first f (suc n) = ap (λ (l : List ℕ). l ++ f (suc n)) (texts-first f n) ∙ append-assoc (f 0) (texts (λ i. f (suc i)) n) (f (suc n))
 
 -- a text for each element of a list
-pub texts-gather : {A : Type 0} (g : A → List ℕ) (d : A) (xs : List A) (f : ℕ → List ℕ) → ((i : ℕ) → i < length xs → f i ≡ g (getD xs i d)) → texts f (length xs) ≡ gather g xs
+pub texts-gather : {A : Type 0} (g : A → List ℕ) (d : A) (xs : List A) (f : ℕ → List ℕ) → ((i : ℕ) → i < length xs → f i ≡ g (getD xs i d))
+    → texts f (length xs) ≡ gather g xs
 texts-gather g d [] f h = texts-none f
-texts-gather g d (x ∷ xs) f h = texts-first f (length xs) ∙ ap₂ (λ (l r : List ℕ). l ++ r) (h 0 (omega arith)) (texts-gather g d xs (λ i. f (suc i)) (λ i k. h (suc i) (omega arith)))
+texts-gather g d (x ∷ xs) f h =
+    texts-first f (length xs) ∙ ap₂ (λ (l r : List ℕ). l ++ r) (h 0 (omega arith)) (texts-gather g d xs (λ i. f (suc i)) (λ i k. h (suc i) (omega arith)))

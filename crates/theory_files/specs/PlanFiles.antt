@@ -27,7 +27,8 @@ use Rattle.theory_instance.specs.Within.{within-side, within-matching, matching
 use Rattle.theory_files.specs.Reads.{isBytes, Reads, Passes, each, two-bytes, read-value, read-rest, then-read, whole-accepted}
 use Rattle.theory_files.specs.Entries.{cond-zero, zero-cond}
 use Rattle.theory_files.specs.Sections.{alike, counted}
-use Rattle.theory_files.specs.Chosen.{on-planOf, planOf-length, planOf-on, planOf-cong, edgesIn-cong, plan-length, plan-within, within-plan, From, Below, keep-from, keep-below, edges-of-elem, elem-edgesIn, atNode, deg-atNode}
+use Rattle.theory_files.specs.Chosen.{on-planOf, planOf-length, planOf-on, planOf-cong, edgesIn-cong, plan-length, plan-within, within-plan}
+use Rattle.theory_files.specs.Chosen.{From, Below, keep-from, keep-below, edges-of-elem, elem-edgesIn, atNode, deg-atNode}
 
 -- what the laws ask of an instance
 pub record Fileable (G : Instance) : Type 0 where

@@ -13,7 +13,8 @@ use lib.Dec.{T, eqb, ltb, nltb→le}
 use Rattle.model.specs.Limits.{nodeLimit, entryLimit, rosterSize, inputSize}
 use Rattle.model.specs.Reading.{Reading, accepted, refused, _then_, refuseIf, refuseBy, byte, twoBytes, readEach, whole}
 use Rattle.model.specs.Roster.{Ranking, Roster, totalS, totalT}
-use Rattle.model.specs.RosterFile.{readCount, readWideCount, quotaCheck, readQuotas, readNodes, entryCheck, readEntries, tiedCheck, readTied, readList, readRanking, readMany, readSection, readSections, oneSided, readRoster}
+use Rattle.model.specs.RosterFile.{readCount, readWideCount, quotaCheck, readQuotas, readNodes, entryCheck, readEntries, tiedCheck, readTied}
+use Rattle.model.specs.RosterFile.{readList, readRanking, readMany, readSection, readSections, oneSided, readRoster}
 
 -- a reading of some bytes, and of the same with more behind them: both refuse alike, or both give the same and the rest, of which no more
 -- than k bytes are gone

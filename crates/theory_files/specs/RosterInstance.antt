@@ -13,7 +13,8 @@ use Rattle.lists.specs.Test.{given, and-l, and-r, or-case, or-r}
 use Rattle.lists.specs.Sum.{sum, sum-places, upTo, upTo-∈}
 use Rattle.lists.specs.Keep.{all?, all-∈, any-append, getD-∈}
 use Rattle.model.specs.Limits.{nodeLimit, quotaLimit, quotaSumLimit, planLimit, emptyRank}
-use Rattle.model.specs.Roster.{Roster, entries, surveyorCount, standCount, listS, listT, elem, distinct, outside, listed, listedBack, alike, bothOrNeither, listFits, rankingFits, fits, ascending}
+use Rattle.model.specs.Roster.{Roster, entries, surveyorCount, standCount, listS, listT, elem, distinct, outside, listed, listedBack, alike}
+use Rattle.model.specs.Roster.{bothOrNeither, listFits, rankingFits, fits, ascending}
 use Rattle.model.specs.Edges.{Edge, position, edgesOf, noEdge, edgeAt, instanceOf}
 use Rattle.theory_instance.specs.Lawful.{Lawful}
 use Rattle.theory_files.specs.Rosters.{fits-parts}

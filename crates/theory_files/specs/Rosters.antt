@@ -12,7 +12,8 @@ use Rattle.lists.specs.Keep.{all?, gather}
 use Rattle.model.specs.Limits.{nodeLimit, entryLimit, rosterSize}
 use Rattle.model.specs.Reading.{Reading, accepted, _then_, refused, whole}
 use Rattle.model.specs.Roster.{Ranking, Roster, surveyorCount, standCount, totalS, totalT, quotasFit, listFits, rankingFits, bothOrNeither, fits}
-use Rattle.model.specs.RosterFile.{readNodes, readList, readRanking, readSection, readSections, oneSided, readRoster, wideBytes, listBytes, rankingBytes, writeRoster}
+use Rattle.model.specs.RosterFile.{readNodes, readList, readRanking, readSection, readSections, oneSided, readRoster, wideBytes, listBytes}
+use Rattle.model.specs.RosterFile.{rankingBytes, writeRoster}
 use Rattle.theory_files.specs.Reads.{isBytes, rest-bytes, read-value, read-rest, then-read, accepted-value, refused-not, whole-accepted}
 use Rattle.theory_files.specs.Sections.{nodes, list, ranking, SectionFits, section}
 

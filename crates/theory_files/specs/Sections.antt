@@ -13,9 +13,12 @@ use Rattle.lists.specs.Keep.{all?, gather, all-append, All}
 use Rattle.model.specs.Limits.{nodeLimit, quotaSumLimit, entryLimit}
 use Rattle.model.specs.Reading.{Reading, accepted, _then_, refuseIf, byte, twoBytes}
 use Rattle.model.specs.Roster.{Ranking, entries, outside, distinct, ascending, quotasFit, listFits, rankingFits}
-use Rattle.model.specs.RosterFile.{readCount, readWideCount, quotaCheck, readNodes, entryCheck, readEntries, tiedCheck, readTied, readList, readRanking, readMany, readSection, wideBytes, listBytes, rankingBytes}
-use Rattle.theory_files.specs.Reads.{isBytes, rest-bytes, Reads, read-value, read-rest, refuse-read, refuse-no, then-read, byte-read, twoBytes-read, Passes, each, bytes}
-use Rattle.theory_files.specs.Entries.{fresh, fresh-distinct, distinct-fresh, fresh-append, inRange, small, quotas→, →quotas, entries→, →entries, tied→, →tied}
+use Rattle.model.specs.RosterFile.{readCount, readWideCount, quotaCheck, readNodes, entryCheck, readEntries, tiedCheck, readTied, readList}
+use Rattle.model.specs.RosterFile.{readRanking, readMany, readSection, wideBytes, listBytes, rankingBytes}
+use Rattle.theory_files.specs.Reads.{isBytes, rest-bytes, Reads, read-value, read-rest, refuse-read, refuse-no, then-read, byte-read}
+use Rattle.theory_files.specs.Reads.{twoBytes-read, Passes, each, bytes}
+use Rattle.theory_files.specs.Entries.{fresh, fresh-distinct, distinct-fresh, fresh-append, inRange, small, quotas→, →quotas, entries→}
+use Rattle.theory_files.specs.Entries.{→entries, tied→, →tied}
 
 -- the same agreement about facts that say the same
 pub alike : {A : Type 0} {read : List ℕ → Reading (A × List ℕ)} {write : A → List ℕ} {P Q : A → Type 0} → ((a : A) → P a → Q a)

@@ -12,7 +12,8 @@ use Rattle.model.specs.RosterFile.{readRoster}
 use Rattle.model.specs.Edges.{instanceOf}
 use Rattle.model.specs.Plans.{Plan, on, within}
 use Rattle.model.specs.PlanFile.{readPlan}
-use Rattle.model.specs.Desk.{Held, nothing, roster, planned, Call, loadRoster, loadPlan, writeRosterTo, writePlanTo, find, judge, compare, blocking, withRoster, withPlan, stateRefusal, deskAfter}
+use Rattle.model.specs.Desk.{Held, nothing, roster, planned, Call, loadRoster, loadPlan, writeRosterTo, writePlanTo, find, judge, compare, blocking}
+use Rattle.model.specs.Desk.{withRoster, withPlan, stateRefusal, deskAfter}
 use Rattle.theory_files.specs.Reads.{isBytes}
 use Rattle.theory_files.specs.Rosters.{read-fits}
 use Rattle.theory_files.specs.Chosen.{plan-length, plan-within}

@@ -1,4 +1,4 @@
--- Wholes: a start, a walk and an end. Lemma W (graph, NoBad) in the forms that the rules use, and no blocking edge: no edge outside
+-- Alternating paths: a start, a walk and an end. Lemma W (theory_instance, NoBad) in the forms that the rules use, and no blocking edge: no edge outside
 -- a plan that Lemma W holds of is welcome at both its ends. Arcs and ends are those of the whole instance; `rem` only says where
 -- starts and losses lie.
 use Prim.Native.Nat.{ℕ, _+_, _≤_, _<_}
@@ -67,7 +67,7 @@ module _ {G : Instance} {M rem : ℕ → Bool} where
         (arith, up-no (G .rankT x) (G .rankT f) h);
   }
 
-  -- ---- wholes that Lemma W refuses
+  -- ---- alternating paths that Lemma W refuses
   module _ (W : NoBad G M) where
     pub no-loop : {x : ℕ} → In (G .m) M rem x → Reach G M 1 x x 0 0 → ⊥
     no-loop {x} ix r = go (r .steps) (r .walk) (r .long) (r .cost)
@@ -79,7 +79,7 @@ module _ {G : Instance} {M rem : ℕ → Bool} where
     no-LL : {x y : ℕ} → In (G .m) M rem x → Reach G M 0 x y 0 2 → ⊥
     no-LL {x} {y} ix r = omega (arith, W .LL x (r .steps) y (ix .lt, ix .mem) (r .walk))
 
-    -- loss and gain: where both are at one surveyor the whole closes to a loop, and f's vote there comes in
+    -- loss and gain: where both are at one surveyor the alternating path closes to a loop, and f's vote there comes in
     pub no-LG : (f k : ℕ) → New G M f → RoomS G M f → (A : Arrival G M rem f 0 k)
         → (G .sv f ≡ G .sv (A .from) → up (G .rankS (A .from)) (G .rankS f) ≤ k + up (G .rankS f) (G .rankS (A .from))) → ⊥
     no-LG f k nf rm A h = by-cases (ℕ-discrete (G .sv f) (G .sv (A .from)))

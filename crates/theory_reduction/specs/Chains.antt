@@ -16,10 +16,12 @@ use Rattle.theory_instance.specs.Lawful.{Lawful, Matching}
 use Rattle.theory_instance.specs.Degree.{deg-some}
 use Rattle.theory_instance.specs.Walk.{up-one, up-yes, up-no, New, NoBad}
 use Rattle.theory_reduction.specs.Arrows.{better, better-not}
-use Rattle.theory_reduction.specs.Facts.{Quiet, arrowS-rem, arrowT-rem, firm-in, arrow-reserved, unreserved-says, in-or-out, rule2-quiet, rule3-quiet, rule4-quiet}
+use Rattle.theory_reduction.specs.Facts.{Quiet, arrowS-rem, arrowT-rem, firm-in, arrow-reserved, unreserved-says, in-or-out, rule2-quiet}
+use Rattle.theory_reduction.specs.Facts.{rule3-quiet, rule4-quiet}
 use Rattle.theory_reduction.specs.Quotas.{Sound}
 use Rattle.theory_reduction.specs.Reach.{Reach, stay, join, loosen}
-use Rattle.theory_reduction.specs.PlanAgainstArrows.{In, PlanAgainstArrows, both, fits, no-room, plan-beyond, plan-instead, beyond-plan, instead-of-plan, arrow-beats, spare-beats, arrow-blocks, better-arrow}
+use Rattle.theory_reduction.specs.PlanAgainstArrows.{In, PlanAgainstArrows, both, fits, no-room, plan-beyond, plan-instead, beyond-plan}
+use Rattle.theory_reduction.specs.PlanAgainstArrows.{instead-of-plan, arrow-beats, spare-beats, arrow-blocks, better-arrow}
 use Rattle.theory_reduction.specs.AlternatingPath.{Arrival, Back, Forth, lost, gained, hop, before, after, no-loop, no-both-block}
 
 -- The situation: a plan that Lemma W holds of, and a state that it goes through: what is fixed is in the plan, and what else is in
@@ -35,12 +37,38 @@ pub record Sit (G : Instance) (Z : State) (M : ℕ → Bool) : Type 0 where
 module _ {G : Instance} {Z : State} {M : ℕ → Bool} (H : Sit G Z M) where
   -- the plan at the surveyors, at the stands
   abbrev pub AS : PlanAgainstArrows
-  AS = record { K = surveyors G; law = H .law .atS; M = M; plan = H .plan .atS; rem = Z .rem; fixed = Z .fixed; kept = H .kept; rest = H .rest; apart = H .sound .apart; q = cutS G Z; q-is = H .sound .atS .cut-is }
+  AS =
+      record {
+        K = surveyors G;
+        law = H .law .atS;
+        M = M;
+        plan = H .plan .atS;
+        rem = Z .rem;
+        fixed = Z .fixed;
+        kept = H .kept;
+        rest = H .rest;
+        apart = H .sound .apart;
+        q = cutS G Z;
+        q-is = H .sound .atS .cut-is;
+      }
 
   abbrev pub AT : PlanAgainstArrows
-  AT = record { K = stands G; law = H .law .atT; M = M; plan = H .plan .atT; rem = Z .rem; fixed = Z .fixed; kept = H .kept; rest = H .rest; apart = H .sound .apart; q = cutT G Z; q-is = H .sound .atT .cut-is }
+  AT =
+      record {
+        K = stands G;
+        law = H .law .atT;
+        M = M;
+        plan = H .plan .atT;
+        rem = Z .rem;
+        fixed = Z .fixed;
+        kept = H .kept;
+        rest = H .rest;
+        apart = H .sound .apart;
+        q = cutT G Z;
+        q-is = H .sound .atT .cut-is;
+      }
 
-  -- an edge of the plan that remains; the three kinds of parts of a whole
+  -- an edge of the plan that remains; the three kinds of parts of an alternating path
   abbrev pub Mem : ℕ → Type 0
   Mem = In (G .m) M (Z .rem)
 

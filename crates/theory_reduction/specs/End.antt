@@ -15,9 +15,11 @@ use Rattle.model.specs.Reduction.{State, cutT, arrowS, arrowT, loose, reserved,
 use Rattle.theory_reduction.specs.RuleNumbers.{names}
 use Rattle.theory_instance.specs.Degree.{deg-none}
 use Rattle.theory_instance.specs.Walk.{up-one, up-yes, up-no, New}
-use Rattle.theory_reduction.specs.Facts.{Quiet, arrowS-rem, arrowT-rem, arrowT-strict, loose-says, reserved-rem, reserved-says, rule1-quiet, rule2-quiet, rule6-quiet, rule7-quiet}
+use Rattle.theory_reduction.specs.Facts.{Quiet, arrowS-rem, arrowT-rem, arrowT-strict, loose-says, reserved-rem, reserved-says, rule1-quiet}
+use Rattle.theory_reduction.specs.Facts.{rule2-quiet, rule6-quiet, rule7-quiet}
 use Rattle.theory_reduction.specs.Reach.{Reach, join, loosen}
-use Rattle.theory_reduction.specs.PlanAgainstArrows.{both, fits, room, some-or-room, plan-beyond, beyond-plan, instead-of-plan, spare-beats, arrow-out-worse, arrow-blocks, better-arrow}
+use Rattle.theory_reduction.specs.PlanAgainstArrows.{both, fits, room, some-or-room, plan-beyond, beyond-plan, instead-of-plan, spare-beats}
+use Rattle.theory_reduction.specs.PlanAgainstArrows.{arrow-out-worse, arrow-blocks, better-arrow}
 use Rattle.theory_reduction.specs.AlternatingPath.{hop, no-loop, no-gain, no-both-block}
 use Rattle.theory_reduction.specs.Chains.{Sit, AS, AT, Mem, no-better-in, outside-stray, way-forth}
 

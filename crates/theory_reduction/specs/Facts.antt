@@ -9,7 +9,8 @@ use mathlib.Core.Bool.{Bool, not, _&&_, _||_}
 use lib.Dec.{T, leb, ltb, eqb, ltb→lt, nltb→le, leb→le, nleb→lt, eqb→eq, T-not}
 use Rattle.lists.specs.Test.{by-test, given, and-r, and-i, nand-r, or-l, or-r, or-case, nor-l, nor-r, parts, whole}
 use Rattle.model.specs.Instance.{Instance, surveyors, stands}
-use Rattle.model.specs.Reduction.{State, cutS, cutT, arrowS, arrowT, degS, degT, aheadS, aheadT, loose, reserved, betterS, betterT, worseReserved, rule1, rule2, rule3, rule4, rule5, rule6, rule7}
+use Rattle.model.specs.Reduction.{State, cutS, cutT, arrowS, arrowT, degS, degT, aheadS, aheadT, loose, reserved, betterS, betterT, worseReserved}
+use Rattle.model.specs.Reduction.{rule1, rule2, rule3, rule4, rule5, rule6, rule7}
 use Rattle.theory_instance.specs.Degree.{deg-none, deg-zero, deg-or, worst-at}
 use Rattle.theory_reduction.specs.Arrows.{better, arrow-rem, arrow-strict, some-none-ahead}
 

@@ -1,5 +1,5 @@
 -- Walks with a bound on their cost: what the proofs about a plan use in place of lists of arcs. Only the definition of a walk and
--- of its votes (graph, Walk) is to be believed.
+-- of its votes (theory_instance, Walk) is to be believed.
 use Prim.Native.Nat.{ℕ, _+_, _≤_, zero-le}
 use native.Mathlib.Omega.{arith}
 use mathlib.Core.Path.{refl}

@@ -10,7 +10,8 @@ use lib.Dec.{T, leb, ltb, eqb, eqb→eq, eqb-refl, ltb→lt, lt→ltb, nltb→le
 use borrow.Author.Tests.{le-ltb}
 use Rattle.lists.specs.Test.{by-test, by-eq, eqb-no, given, and-l, and-r, and-i, nand-r, T-false, bit, parts}
 use Rattle.model.specs.Instance.{Instance, Side, surveyors, stands, deg}
-use Rattle.model.specs.Reduction.{State, cut, strictLeft, ahead, arrow, cutS, cutT, arrowS, arrowT, degS, degT, loose, reserved, betterS, betterT, worseReserved, rule1, rule2, rule3, rule4, rule5, strike, act}
+use Rattle.model.specs.Reduction.{State, cut, strictLeft, ahead, arrow, cutS, cutT, arrowS, arrowT, degS, degT, loose, reserved, betterS, betterT}
+use Rattle.model.specs.Reduction.{worseReserved, rule1, rule2, rule3, rule4, rule5, strike, act}
 use Rattle.theory_reduction.specs.RuleNumbers.{names, ruleOf, edgeOf}
 use Rattle.theory_instance.specs.Degree.{deg-cong, deg-sub, deg-without}
 use Rattle.theory_reduction.specs.Facts.{Quiet, rule5-says}

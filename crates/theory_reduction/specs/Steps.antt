@@ -14,10 +14,12 @@ use Rattle.theory_reduction.specs.RuleNumbers.{names, fateOf}
 use Rattle.theory_instance.specs.Degree.{deg-none, deg-pos}
 use Rattle.theory_instance.specs.Walk.{up, up-one, up-yes, up-no, New}
 use Rattle.theory_reduction.specs.Arrows.{few-arrow}
-use Rattle.theory_reduction.specs.Facts.{Quiet, arrowS-rem, arrowT-rem, loose-says, reserved-rem, arrow-reserved, reserved-says, in-or-out, rule1-says, rule2-says, rule3-says, rule4-says, rule5-says, rule6-says, rule7-says}
+use Rattle.theory_reduction.specs.Facts.{Quiet, arrowS-rem, arrowT-rem, loose-says, reserved-rem, arrow-reserved, reserved-says, in-or-out}
+use Rattle.theory_reduction.specs.Facts.{rule1-says, rule2-says, rule3-says, rule4-says, rule5-says, rule6-says, rule7-says}
 use Rattle.theory_reduction.specs.Chosen.{by-rule}
 use Rattle.theory_reduction.specs.Reach.{join, loosen}
-use Rattle.theory_reduction.specs.PlanAgainstArrows.{Blocks, both, fits, room, no-room, plan-beyond, plan-instead, beyond-plan, better-beyond, sharp, spare-beats, first-beats, arrow-blocks}
+use Rattle.theory_reduction.specs.PlanAgainstArrows.{Blocks, both, fits, room, no-room, plan-beyond, plan-instead, beyond-plan, better-beyond}
+use Rattle.theory_reduction.specs.PlanAgainstArrows.{sharp, spare-beats, first-beats, arrow-blocks}
 use Rattle.theory_reduction.specs.AlternatingPath.{hop, after, arrive, no-LG, no-back-forth, no-arrival, no-gain, no-both-block}
 use Rattle.theory_reduction.specs.Chains.{Sit, AS, AT, Mem, way-back, arrival, outside-stray, to-stray, way-forth}
 
@@ -73,7 +75,7 @@ module _ {G : Instance} {Z : State} {M : ℕ → Bool} (H : Sit G Z M) where
     strike5 e l r t = given (rule5-says G Z e t)
         (λ (firm, ns, nt). not-in e l r (λ ie. no-back-forth (H .noBad) (way-back H Q2 e ie ns) (way-forth H Q1 Q3 Q4 e (ie, firm, nt))))
 
-    -- outside the plan, e is arrived at; where s has room, e ends a whole there, and else the plan has an edge outside N(s), with a way forth
+    -- outside the plan, e is arrived at; where s has room, e ends an alternating path there, and else the plan has an edge outside N(s), with a way forth
     fix6 : (e : ℕ) → e < G .m → T (Z .rem e) → T (rule6 G Z e) → T (M e)
     fix6 e l r t = given (rule6-says G Z e t) (λ (few, z). in-plan e l (λ nf.
         given (arrival H Q2 e nf (few-arrow (surveyors G) (Z .rem) (cutS G Z) e r tt (omega arith))) (λ A.

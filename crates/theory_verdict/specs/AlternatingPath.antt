@@ -1,6 +1,6 @@
--- Wholes: a start, a walk, an end; closed walks; and single edges with room at both ends. Where nothing comes twice each of them is
--- a valid exchange, so it makes a rival, and the vote against it is at most the cost. `Whole` with `Start`, `Stop`, `Apart` and the
--- votes at the ends are the four kinds of wholes that Lemma W speaks of.
+-- Alternating paths: a start, a walk, an end; closed walks; and single edges with room at both ends. Where nothing comes twice each of them is
+-- a valid exchange, so it makes a rival, and the vote against it is at most the cost. `AlternatingPath` with `Start`, `Stop`, `Apart` and the
+-- votes at the ends are the four kinds of alternating paths that Lemma W speaks of.
 use Prim.Native.Nat.{ℕ, _+_, zero-le}
 use native.Mathlib.Omega.{arith}
 use mathlib.Core.Path.{_≡_, refl, ap}
@@ -85,7 +85,7 @@ module _ (G : Instance) (M : ℕ → Bool) where
   apart-sides (gain f) x y (gain g) h = (tt, tt)
 
   module _ (law : Lawful G) (plan : Matching G M) where
-    -- ---- a whole
+    -- ---- an alternating path
     module _ (a : Way) (x : ℕ) (w : Steps) (y : ℕ) (b : Way) (h : AlternatingPath a x w y b) where
       comers-occ : (e : ℕ) → occ e (comers a w b) ≡ occ e (fresh a) + (occ e (fs w) + occ e (fresh b))
       comers-occ e = sum-three (λ f. bit (eqb f e)) (fresh a) (fs w) (fresh b)

@@ -1,4 +1,4 @@
--- The exchange that makes a plan N of M, followed from start to end, falls into wholes and closed walks. So if each of these of at most
+-- The exchange that makes a plan N of M, followed from start to end, falls into alternating paths and closed walks. So if each of these of at most
 -- as many arcs as M has edges costs at least k, the vote of M against N is at least k; no distances are needed, and nothing of Lemma W.
 -- First the starts are followed, losses at surveyors and then gains at stands; as many ends as starts are then taken, and what is left
 -- are closed walks.

@@ -67,7 +67,7 @@ crossed-beaten : search crossed (set (0 ∷ 1 ∷ [])) lid 0 2 ≡ some (loop 0 
 unfolding crossed made set search directs aloneAt levels loopAt pathAt first best arc layer trace terminal orElse deg count
 crossed-beaten = refl
 
--- why closed walks come first: the whole from 0-0 round to 0-0 costs less than 0 as well, and it would remove 0-0 twice
+-- why closed walks come first: the alternating path from 0-0 round to 0-0 costs less than 0 as well, and it would remove 0-0 twice
 crossed-not-simple : pathAt crossed (set (0 ∷ 1 ∷ [])) lid 0 1 ≡ some (path lose 0 ((3, 1) ∷ (2, 0) ∷ []) 0 lose)
 unfolding crossed made set pathAt first best arc layer trace terminal deg count
 crossed-not-simple = refl

@@ -1,9 +1,9 @@
 -- Lemma W: if the vote of a plan M against every other plan is at least k, every closed walk and every whole costs at least k, repeats
 -- or not, and no edge has room at both ends. By induction on the length: where something comes twice, a closed walk is cut out, and it
--- and the rest obey the lemma; else the walk is an exchange (Lemma X). First for closed walks, then with them for wholes: an edge of M
+-- and the rest obey the lemma; else the walk is an exchange (Lemma X). First for closed walks, then with them for alternating paths: an edge of M
 -- that is lost at both ends and comes round to itself leaves, when cut, a closed walk with no fewer arcs.
 -- `no-bad` is what the reduction uses. To believe it: the model's votes (Vote), a strong plan (Strong.antt), a lawful instance and
--- walks (graph, Lawful and Walk).
+-- walks (theory_instance, Lawful and Walk).
 use Prim.Native.Nat.{ℕ, suc, _+_, _≤_, _<_}
 use native.Mathlib.Omega.{arith}
 use native.Mathlib.Nat.{not-suc-le-zero}
@@ -72,7 +72,7 @@ abbrev pub NoDirect : Instance → (ℕ → Bool) → Type 0
 NoDirect G M = (f : ℕ) → New G M f → RoomS G M f → RoomT G M f → ⊥
 
 module _ (G : Instance) (M : ℕ → Bool) (k : ℕ) where
-  -- all closed walks, all wholes with these two ends, of less than n arcs
+  -- all closed walks, all alternating paths with these two ends, of less than n arcs
   abbrev pub CostAtLeastTo : ℕ → Type 0
   CostAtLeastTo n = (x : ℕ) (w : Steps) → length w < n → 0 < length w → Walk G M x w x → CostAtLeast G k x w
 
@@ -169,7 +169,7 @@ module _ (G : Instance) (M : ℕ → Bool) (k : ℕ) where
   distinct none (gain f) x y lose s e = tt
   distinct none (gain f) x y (gain g) s e = λ p. none f (s .0) (subst (RoomS G M) (sym p) (e .1)) (s .1)
 
-  -- a whole costs at least k if all wholes with the same two ends and fewer arcs and all closed walks of no more arcs do, or nothing
+  -- an alternating path costs at least k if all alternating paths with the same two ends and fewer arcs and all closed walks of no more arcs do, or nothing
   -- comes twice in it
   pub path-step : (a : Way) (x : ℕ) (w : Steps) (y : ℕ) (b : Way) → NoDirect G M → CostAtLeastTo (suc (length w)) → PathCostAtLeastTo a b (length w)
       → AlternatingPath G M a x w y b

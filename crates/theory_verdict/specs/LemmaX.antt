@@ -1,5 +1,5 @@
 -- Lemma X: a valid exchange of a plan M, told by its couples and losses on both sides, makes another plan, against which the vote
--- of M is at most what the exchange costs. What such a rival is, `Rival` says over tallies (votes, Score).
+-- of M is at most what the exchange costs. What such a rival is, `Rival` says over tallies (theory_votes, Score).
 use Prim.Native.Nat.{ℕ, _+_, _≤_, _<_}
 use native.Mathlib.Omega.{arith}
 use native.Mathlib.Decide.{decLt}

@@ -87,7 +87,7 @@ module _ (G : Instance) (M : ℕ → Bool) where
           (omega (arith, c, ltb→lt (terminal G M x x .0) (4 + k) t, terminal-price G x x (terminal G M x x .1 .0) (terminal G M x x .1 .1))))
           (λ none. alone-done G M k (terminals G M) (λ x o. nltb→le (terminal G M x x .0) (4 + k) (none x (old-∈ G M o))))
 
-      -- a whole that the tables show
+      -- an alternating path that the tables show
       path-ok : (n : ℕ) → 2 * suc n + 4 + k ≤ lid → CostAtLeastTo G M k (suc (suc n)) → PathsCostAtLeast G M k (suc n)
           → (x y : ℕ) → Old G M x → Old G M y → walkPrice G M lid n x y + terminal G M x y .0 < 2 * suc n + 4 + k → Beats (asPath G M x y (trace G M lid n x y))
       path-ok n h cl cw x y ox oy c =

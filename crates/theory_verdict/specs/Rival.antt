@@ -1,8 +1,8 @@
 -- The verdict on a plan and its rival as the program computes them, and that they are the model's: the verdict is `verdictOf`, and where
--- it is not strong the rival is a `Rival`. To believe it: the model's Plans and Finder, and what a lawful instance is (graph, Lawful).
+-- it is not strong the rival is a `Rival`. To believe it: the model's Plans and Finder, and what a lawful instance is (theory_instance, Lawful).
 -- The program lists the edges of M, at most 64. It fills the table of the arcs and that of the ends, each price in a byte. It looks for an edge
--- with room at both ends, then for a whole without an arc, then it makes the layers one from the other, and at each of them looks for a closed
--- walk first and for a whole next: all this below 0, as many levels as M has edges, or until a layer adds nothing (Stop); and
+-- with room at both ends, then for an alternating path without an arc, then it makes the layers one from the other, and at each of them looks for a closed
+-- walk first and for an alternating path next: all this below 0, as many levels as M has edges, or until a layer adds nothing (Stop); and
 -- if nothing is found, all of it below 1. The first hit ends the search. Its walk is read back from one column of the layers, and the
 -- rival is M without the edges that go and with those that come.
 use Prim.Native.Nat.{ℕ, _+_, _*_, _≤_}

@@ -134,11 +134,11 @@ module _ (G : Instance) (M : ℕ → Bool) where
   directs = first (λ f. not (M f) && (room? M (surveyors G) f && room? M (stands G) f)) direct (range 0 (G .m))
 
   module _ (lid k : ℕ) where
-    -- wholes without an arc
+    -- alternating paths without an arc
     unfoldable pub aloneAt : Option Hit
     aloneAt = first (λ x. ltb (terminal x x .0) (4 + k)) (λ x. asPath x x []) olds
 
-    -- closed walks, wholes, of at most n + 1 arcs
+    -- closed walks, alternating paths, of at most n + 1 arcs
     unfoldable pub loopAt : ℕ → Option Hit
     loopAt n = first (λ x. ltb (walkPrice lid n x x) (2 * suc n + k)) (λ x. loop x (trace lid n x x)) olds
 

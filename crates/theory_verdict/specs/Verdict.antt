@@ -1,7 +1,7 @@
 -- What the search says in the model's votes, for a set M within the quotas of at most B edges and a lid of at least 2 B + 5. Below 0: a hit
 -- makes another plan that beats M, no hit means that none does. Below 1: a hit makes another plan that beats M or draws with it, no
 -- hit means that M beats every other. So the verdict by the two searches is right, and so is the rival that they give.
--- To believe it: the model's votes (Vote), what a matching is (graph, Lawful), the search (Search).
+-- To believe it: the model's votes (Vote), what a matching is (theory_instance, Lawful), the search (Search).
 use Prim.Native.Nat.{ℕ, _+_, _*_, _≤_}
 use native.Mathlib.Omega.{arith}
 use mathlib.Core.Path.{_≡_}

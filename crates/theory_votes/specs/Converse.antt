@@ -23,7 +23,8 @@ use Rattle.theory_votes.specs.Places.{here-deg, times-empty, node-places
 use Rattle.theory_votes.specs.Fair.{NotBoth, Fair, Here, fair-left, fair-right, left-here, right-here}
 use Rattle.theory_votes.specs.Attained.{attained}
 use Rattle.theory_votes.specs.Exchange.{Couple, for, against, Swap, losses, gains, Moves}
-use Rattle.theory_votes.specs.Couples.{couplesOf, onCouple, couples-sum, couples-∈, lossesOf, onLoss, losses-sum, losses-∈, Kind, shares, swaps, loses, gets, void, kind}
+use Rattle.theory_votes.specs.Couples.{couplesOf, onCouple, couples-sum, couples-∈, lossesOf, onLoss, losses-sum, losses-∈, Kind, shares}
+use Rattle.theory_votes.specs.Couples.{swaps, loses, gets, void, kind}
 
 -- the edges of M that N lacks: what goes from M to N, what comes from N to M
 abbrev pub goers : ℕ → (ℕ → Bool) → (ℕ → Bool) → List ℕ

@@ -16,7 +16,8 @@ use Rattle.lists.specs.Least.{leastOf, leastOf-≤, leastOf-∈}
 use Rattle.theory_votes.specs.Score.{rate}
 use Rattle.theory_votes.specs.Two.{Two, two, both-≤}
 use Rattle.theory_votes.specs.Sorted.{Sorted}
-use Rattle.theory_votes.specs.Rotation.{against, against-≤, turned, turned-length, cost, cost-≤, lead, Columns, turned-columns, over, turn-≤, second-≤, reach}
+use Rattle.theory_votes.specs.Rotation.{against, against-≤, turned, turned-length, cost, cost-≤, lead, Columns, turned-columns, over, turn-≤}
+use Rattle.theory_votes.specs.Rotation.{second-≤, reach}
 
 -- the first on the left faces any on the right, and the others face the rest
 unfoldable pub leastSum : List ℕ → List ℕ → ℕ

@@ -10,7 +10,8 @@ use mathlib.Core.List.{List, _++_, map}
 use lib.ListN.{length, replicate}
 use lib.Dec.{eqb, eqb→eq}
 use Rattle.lists.specs.Test.{bit, pk, pk-0, pk-zero, pk-le, pk-add, pk-and, pk-when}
-use Rattle.lists.specs.Sum.{_∈_, sum, sum-zeros, sum-pk-0, sum-add, sum-append, sum-map, sum-cong, sum-mono, sum-mem, sum-length, sum-replicate, sum-pk, upTo, occ}
+use Rattle.lists.specs.Sum.{_∈_, sum, sum-zeros, sum-pk-0, sum-add, sum-append, sum-map, sum-cong, sum-mono, sum-mem, sum-length, sum-replicate}
+use Rattle.lists.specs.Sum.{sum-pk, upTo, occ}
 use Rattle.lists.specs.Keep.{keep, sum-keep}
 use Rattle.lists.specs.Occur.{occ-<, sum-at, sum-by}
 use Rattle.model.specs.Instance.{Side, deg}
@@ -19,7 +20,8 @@ use Rattle.theory_instance.specs.Lawful.{Ranked}
 use Rattle.theory_votes.specs.Score.{mark, mark-same, mark-lost, score}
 use Rattle.theory_votes.specs.Places.{same→, same-refl, times, left, right, census, here-occ, here-deg, deg-occ, times-edge, times-empty}
 use Rattle.theory_votes.specs.Fair.{NotBoth, faces-self, faces-apart, Fair, score-≤}
-use Rattle.theory_votes.specs.Exchange.{Couple, for, against, mark-couple, Swap, goer-is, comer-is, losses, gains, Moves, couple-comes, couple-goes, loss-goes}
+use Rattle.theory_votes.specs.Exchange.{Couple, for, against, mark-couple, Swap, goer-is, comer-is, losses, gains, Moves, couple-comes}
+use Rattle.theory_votes.specs.Exchange.{couple-goes, loss-goes}
 
 abbrev at : Side → ℕ → ℕ → Bool
 at K v e = eqb (K .end e) v

@@ -17,7 +17,8 @@ use Rattle.lists.specs.Keep.{sum-keep, ∈-keep}
 use Rattle.lists.specs.Integer.{sub-add, sub-self}
 use Rattle.model.specs.Limits.{emptyRank}
 use Rattle.model.specs.Instance.{Side, deg}
-use Rattle.model.specs.Vote.{Place, edge, empty, same, placeRank, here, places, Pairing, pairings, shared, faces, pairFacesEmpty, emptyFacesPair, nodeVote, placesAt}
+use Rattle.model.specs.Vote.{Place, edge, empty, same, placeRank, here, places, Pairing, pairings, shared, faces, pairFacesEmpty, emptyFacesPair}
+use Rattle.model.specs.Vote.{nodeVote, placesAt}
 use Rattle.theory_votes.specs.Score.{rate, mark, mark-same, score}
 use Rattle.theory_votes.specs.Places.{times, left, right, here-deg, times-edge, times-empty, pairing-left, pairing-right, node-places}
 use Rattle.theory_votes.specs.Fair.{faces-self, Fair, NotBoth, fair-faces, left-here, score-≤}

@@ -8,7 +8,8 @@ use mathlib.Core.List.{List, [], _∷_, map, List·Memᴰ·head, List·Memᴰ·t
 use lib.ListN.{length, replicate, length-append, length-replicate, length-map}
 use lib.Dec.{T, eqb, eqb→eq}
 use Rattle.lists.specs.Test.{bit, bit-pk, bit-pos, pk, eqb-yes}
-use Rattle.lists.specs.Sum.{_∈_, sum, sum-zero, sum-add, sum-append, sum-map, sum-cong, sum-pos, sum-length, sum-replicate, sum-swap, sum-one, upTo, upTo-<, occ, count}
+use Rattle.lists.specs.Sum.{_∈_, sum, sum-zero, sum-add, sum-append, sum-map, sum-cong, sum-pos, sum-length, sum-replicate, sum-swap, sum-one, upTo}
+use Rattle.lists.specs.Sum.{upTo-<, occ, count}
 use Rattle.lists.specs.Keep.{sum-keep, picks, picks-sum, gather-∈}
 use Rattle.lists.specs.Occur.{occ-upTo, sum-at}
 use Rattle.model.specs.Instance.{Side, deg}

@@ -15,7 +15,8 @@ use Rattle.lists.specs.Keep.{keep, keep-cong, all-cong, any?}
 use Rattle.lists.specs.Occur.{occ-<}
 use Rattle.lists.specs.Integer.{pos-sub, neg-sub, sub-self, sub-add, sub-≤}
 use Rattle.model.specs.Instance.{Instance, Side, surveyors, stands, deg}
-use Rattle.model.specs.Vote.{Place, edge, empty, same, here, places, Pairing, pairings, shared, faces, pairFacesEmpty, emptyFacesPair, valid, sumℤ, leastOfℤ, placeVote, nodeVote, vote, placesAt}
+use Rattle.model.specs.Vote.{Place, edge, empty, same, here, places, Pairing, pairings, shared, faces, pairFacesEmpty, emptyFacesPair, valid, sumℤ}
+use Rattle.model.specs.Vote.{leastOfℤ, placeVote, nodeVote, vote, placesAt}
 use Rattle.theory_instance.specs.Lawful.{Within, Matching, Same}
 use Rattle.theory_votes.specs.Score.{score, tally, quotas}
 use Rattle.theory_votes.specs.Places.{same-refl, times, here-occ, times-edge, pairing-left, pairing-right-≤}

@@ -1,4 +1,4 @@
--- What one couple of ranks adds to a sum of votes counted from one up (votes, Score: rate), against how many ranks lie at or below a bar
+-- What one couple of ranks adds to a sum of votes counted from one up (theory_votes, Score: rate), against how many ranks lie at or below a bar
 -- on the left and below it on the right.
 use Prim.Native.Nat.{ℕ, _+_, _≤_, _<_}
 use native.Mathlib.Omega.{arith}

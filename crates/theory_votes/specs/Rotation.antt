@@ -17,7 +17,8 @@ use Rattle.lists.specs.Sum.{_∈_, sum, sum-append, sum-add, sum-mono, sum-leng
 use Rattle.theory_votes.specs.Score.{rate}
 use Rattle.theory_votes.specs.Two.{Two, two, both-≤}
 use Rattle.theory_votes.specs.Rate.{upto, under, upto-yes, upto-no, under-yes, under-no, rate-worse, rate-same, rate-≤, bar, bars}
-use Rattle.theory_votes.specs.Sorted.{Sorted, uptos, unders, uptos-none, unders-none, uptos-drop, unders-take, ∈-take, sorted-take, sorted-drop, sort, sum-sort, sorted-sort}
+use Rattle.theory_votes.specs.Sorted.{Sorted, uptos, unders, uptos-none, unders-none, uptos-drop, unders-take, ∈-take, sorted-take}
+use Rattle.theory_votes.specs.Sorted.{sorted-drop, sort, sum-sort, sorted-sort}
 
 -- what falls below both falls to nothing in one
 min-falls : {a c : ℕ} (b d s : ℕ) → a ≤ b - s → c ≤ d - s → min b d ≤ s → min a c ≡ 0

@@ -40,13 +40,16 @@ voted g plan rival out a b = record {
 }
 
 -- the vote as it is handed on
-pub voted-as : {G : model.Instance} {plan rival : List Bool} {out : List ℕ} {v w : ℤ} {after : List ℕ} → v ≡ w → Voted G plan rival out w after → Voted G plan rival out v after
+pub voted-as : {G : model.Instance} {plan rival : List Bool} {out : List ℕ} {v w : ℤ} {after : List ℕ} → v ≡ w → Voted G plan rival out w after
+    → Voted G plan rival out v after
 voted-as e h = record { vote = e ∙ h .vote; buffer = h .buffer }
 
-pub popular-as : {G : model.Instance} {M : Plan} {out : List ℕ} {v w : ℤ} {after : List ℕ} → v ≡ w → WeighedBy G M out (Popular w) after → WeighedBy G M out (Popular v) after
+pub popular-as : {G : model.Instance} {M : Plan} {out : List ℕ} {v w : ℤ} {after : List ℕ} → v ≡ w → WeighedBy G M out (Popular w) after
+    → WeighedBy G M out (Popular v) after
 popular-as e h = record { reply = ap Popular e ∙ h .reply; buffer = h .buffer }
 
-pub beaten-as : {G : model.Instance} {M : Plan} {out : List ℕ} {v w : ℤ} {after : List ℕ} → v ≡ w → WeighedBy G M out (Beaten w) after → WeighedBy G M out (Beaten v) after
+pub beaten-as : {G : model.Instance} {M : Plan} {out : List ℕ} {v w : ℤ} {after : List ℕ} → v ≡ w → WeighedBy G M out (Beaten w) after
+    → WeighedBy G M out (Beaten v) after
 beaten-as e h = record { reply = ap Beaten e ∙ h .reply; buffer = h .buffer }
 
 module _ (g : Instance) (L : Loaded g) (plan : List Bool) (M : Plan) (S : Shows (shownBy g) plan M) where
@@ -57,20 +60,33 @@ module _ (g : Instance) (L : Loaded g) (plan : List Bool) (M : Plan) (S : Shows 
   same = fun-ext (S .1)
 
   pub few : (n : ℕ) (es : List ℕ) → Lists (g .m) plan n es → n ≤ 64
-  few n es l = omega (arith, plan-few G (L .fileable) M (S .0), sym (ap (λ (p : ℕ → Bool). length (edgesIn (g .m) p)) same) ∙ ap length l ∙ length-map (range 0 n) (at es) ∙ range-length 0 n)
+  few n es l =
+      omega (
+        arith,
+        plan-few G (L .fileable) M (S .0),
+        sym (ap (λ (p : ℕ → Bool). length (edgesIn (g .m) p)) same) ∙ ap length l
+            ∙ length-map (range 0 n) (at es) ∙ range-length 0 n,
+      )
 
   pub plan-within : Matching G (flag plan)
   plan-within = subst (Matching G) (sym same) (plan-matching G (L .lawful) (S .0))
 
-  module _ (v : Verdict) (rival : List Bool) (R : RivalShown (g .m) (g .sv) (g .st) (g .«rank_s») (g .«rank_t») (g .«quota_s») (g .«quota_t») plan v rival) where
+  module _ (v : Verdict) (rival : List Bool)
+      (R : RivalShown (g .m) (g .sv) (g .st) (g .«rank_s») (g .«rank_t») (g .«quota_s») (g .«quota_t») plan v rival) where
     is-verdict : v ≡ verdictOf G M
-    is-verdict = shown-verdict (g .m) (g .ns) (g .nt) (g .sv) (g .st) (g .«rank_s») (g .«rank_t») (g .tied) (g .«quota_s») (g .«quota_t») plan v rival R G refl M (S .1) (L .lawful) (S .0) (plan-few G (L .fileable) M (S .0))
+    is-verdict =
+        shown-verdict (g .m) (g .ns) (g .nt) (g .sv) (g .st) (g .«rank_s») (g .«rank_t») (g .tied) (g .«quota_s») (g .«quota_t») plan v rival R G
+        refl M (S .1) (L .lawful) (S .0) (plan-few G (L .fileable) M (S .0))
 
     is-rival : flag rival ≡ on (rivalOf G M)
-    is-rival = fun-ext (shown-rival (g .m) (g .ns) (g .nt) (g .sv) (g .st) (g .«rank_s») (g .«rank_t») (g .tied) (g .«quota_s») (g .«quota_t») plan v rival R G refl M (S .1))
+    is-rival =
+        fun-ext
+        (shown-rival (g .m) (g .ns) (g .nt) (g .sv) (g .st) (g .«rank_s») (g .«rank_t») (g .tied) (g .«quota_s») (g .«quota_t») plan v rival R G
+        refl M (S .1))
 
     pub strong-weighed : (out : List ℕ) → v ≡ verdict.strong → WeighedBy G M out Strong out
-    strong-weighed out e = let q : verdict.strong ≡ verdictOf G M = sym e ∙ is-verdict in record { reply = ap (weighedAs G M) q; buffer = ap (λ w. rivalWritten G M w out) q }
+    strong-weighed out e =
+        let q : verdict.strong ≡ verdictOf G M = sym e ∙ is-verdict in record { reply = ap (weighedAs G M) q; buffer = ap (λ w. rivalWritten G M w out) q }
 
     -- there is a rival
     abbrev pub Rivalled : Type 0
@@ -98,7 +114,11 @@ module _ (g : Instance) (L : Loaded g) (plan : List Bool) (M : Plan) (S : Shows 
       its-bytes = W .buffer ∙ ap (λ (p : ℕ → Bool). onto (length (edgesIn (g .m) p) ∷ pairList G (edgesIn (g .m) p)) out) is-rival
 
       pub popular-weighed : v ≡ verdict.popular → WeighedBy G M out (Popular z) after
-      popular-weighed e = let q : verdict.popular ≡ verdictOf G M = sym e ∙ is-verdict in record { reply = ap Popular its-vote ∙ ap (weighedAs G M) q; buffer = its-bytes ∙ ap (λ w. rivalWritten G M w out) q }
+      popular-weighed e =
+          let q : verdict.popular ≡ verdictOf G M = sym e ∙ is-verdict in
+          record { reply = ap Popular its-vote ∙ ap (weighedAs G M) q; buffer = its-bytes ∙ ap (λ w. rivalWritten G M w out) q }
 
       pub beaten-weighed : v ≡ verdict.beaten → WeighedBy G M out (Beaten z) after
-      beaten-weighed e = let q : verdict.beaten ≡ verdictOf G M = sym e ∙ is-verdict in record { reply = ap Beaten its-vote ∙ ap (weighedAs G M) q; buffer = its-bytes ∙ ap (λ w. rivalWritten G M w out) q }
+      beaten-weighed e =
+          let q : verdict.beaten ≡ verdictOf G M = sym e ∙ is-verdict in
+          record { reply = ap Beaten its-vote ∙ ap (weighedAs G M) q; buffer = its-bytes ∙ ap (λ w. rivalWritten G M w out) q }

@@ -16,7 +16,8 @@ use instance::Instance;
 
 // The rival's bytes written to the buffer's front, and the vote of the plan against it.
 pub(crate) fn voted(g: Instance, plan: &[bool; 1024], rival: &[bool; 1024], out: &mut [u8]) -> i16
-    requires { ⌜ Loaded g × Matching (shownBy g) (flag (now plan)) × Matching (shownBy g) (flag (now rival)) × (length (edgesIn (g .m) (flag (now rival))) ≤ planLimit) × (planSize ≤ length (now out)) ⌝ }
+    requires { ⌜ Loaded g × Matching (shownBy g) (flag (now plan)) × Matching (shownBy g) (flag (now rival))
+        × (length (edgesIn (g .m) (flag (now rival))) ≤ planLimit) × (planSize ≤ length (now out)) ⌝ }
     ensures { λ r. ⌜ Voted (shownBy g) (now (plan .entry)) (now (rival .entry)) (now (out .entry)) r (now (out .exit)) ⌝ }
 {
     let sv = g.sv;

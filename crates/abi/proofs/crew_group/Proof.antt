@@ -5,14 +5,8 @@ use borrow.Author.Needs.{needs}
 use Rattle.abi.proofs.crew_group.Statement.{statement}
 use Rattle.abi.proofs.crew_group.Tie as tie
 
-group-of-requires : tie.Need-group-of-requires
-group-of-requires c κs = search needs
-
-group-number-requires : tie.Need-group-number-requires
-group-number-requires c κs = search needs
-
 returns : tie.Need-returns
 returns c = c .group-number .ensures ∙ ap groupNumber (c .before .group-of .ensures)
 
 pub crew-group-spec : {M : Type 1} → statement M
-crew-group-spec = tie.close (tie.spec group-of-requires group-number-requires returns)
+crew-group-spec = tie.close (tie.spec (λ c κs. search needs) (λ c κs. search needs) returns)

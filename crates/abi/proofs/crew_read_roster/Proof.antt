@@ -7,16 +7,10 @@ use borrow.Author.Needs.{needs}
 use Rattle.abi.proofs.crew_read_roster.Statement.{statement}
 use Rattle.abi.proofs.crew_read_roster.Tie as tie
 
-read-roster-requires : tie.Need-read-roster-requires
-read-roster-requires c κs = search needs
-
-file-number-requires : tie.Need-file-number-requires
-file-number-requires c κs = search needs
-
 returns : tie.Need-returns
 returns c =
     let f = c .before .before .before .args .file .now in
     c .file-number .ensures ∙ ap (λ a. refusalIn (fileShown a)) (c .before .read-roster .ensures) ∙ reading-number (readRoster f)
 
 pub crew-read-roster-spec : {M : Type 1} → statement M
-crew-read-roster-spec = tie.close (tie.spec read-roster-requires file-number-requires returns)
+crew-read-roster-spec = tie.close (tie.spec (λ c κs. search needs) (λ c κs. search needs) returns)

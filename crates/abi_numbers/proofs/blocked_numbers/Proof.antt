@@ -6,15 +6,6 @@ use borrow.Author.Needs.{needs}
 use Rattle.abi_numbers.proofs.blocked_numbers.Statement.{statement}
 use Rattle.abi_numbers.proofs.blocked_numbers.Tie as tie
 
-enum-known-b : tie.Need-enum-known-b
-enum-known-b c = search needs
-
-enum-told : tie.Need-enum-told
-enum-told c = search needs
-
-enum-known-b-2 : tie.Need-enum-known-b-2
-enum-known-b-2 c = search needs
-
 returns : tie.Need-returns
 returns c = ap (λ b. blockerIn (blockedShown b)) (sym (c .before .b .given .1))
 
@@ -25,5 +16,4 @@ returns-3 : tie.Need-returns-3
 returns-3 c = ap (λ b. blockerIn (blockedShown b)) (sym (c .before .b2 .given .1))
 
 pub blocked-numbers-spec : {M : Type 1} → statement M
-blocked-numbers-spec =
-    tie.close (tie.spec enum-known-b enum-told enum-known-b-2 returns returns-2 returns-3)
+blocked-numbers-spec = tie.close (tie.spec (λ c. search needs) (λ c. search needs) (λ c. search needs) returns returns-2 returns-3)

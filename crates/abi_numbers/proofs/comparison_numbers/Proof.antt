@@ -7,33 +7,13 @@ use borrow.Author.Needs.{needs, sfits-of}
 use Rattle.abi_numbers.proofs.comparison_numbers.Statement.{statement}
 use Rattle.abi_numbers.proofs.comparison_numbers.Tie as tie
 
-enum-known-c : tie.Need-enum-known-c
-enum-known-c c = search needs
-
-enum-told : tie.Need-enum-told
-enum-told c = search needs
-
-behind-count-requires : tie.Need-behind-count-requires
-behind-count-requires c κs = search needs
-
-enum-told-2 : tie.Need-enum-told-2
-enum-told-2 c = search needs
-
-behind-count-requires-2 : tie.Need-behind-count-requires-2
-behind-count-requires-2 c κs = search needs
-
-enum-told-3 : tie.Need-enum-told-3
-enum-told-3 c = search needs
-
-enum-known-c-2 : tie.Need-enum-known-c-2
-enum-known-c-2 c = search needs
-
 returns : tie.Need-returns
 returns c =
     let a = c .before .before .before .before .before .before .before .before .args in
     let m = c .before .before .before .before in
     let t = c .before .before .before .known-told .given in
-    ap₂ (voted 1 1 1 (c .behind-count .result)) (toZ-ofZ w16 (m .c .given .0 .0) (sfits-of (t .0 .1))) (toZ-ofZ w16 (m .c .given .0 .1 .0) (sfits-of (t .1 .0 .1)))
+    ap₂ (voted 1 1 1 (c .behind-count .result)) (toZ-ofZ w16 (m .c .given .0 .0) (sfits-of (t .0 .1)))
+    (toZ-ofZ w16 (m .c .given .0 .1 .0) (sfits-of (t .1 .0 .1)))
     ∙ first-numbers (a .first .now) (a .second .now) (m .c .given .1) (c .before .enum-told .given .1) (c .behind-count .ensures)
 
 returns-2 : tie.Need-returns-2
@@ -41,7 +21,8 @@ returns-2 c =
     let a = c .before .before .before .before .before .before .before .before .args in
     let m = c .before .before .before .before in
     let t = c .before .before .before .known-told .given in
-    ap₂ (voted 2 2 1 (c .behind-count2 .result)) (toZ-ofZ w16 (m .c .given .0 .0) (sfits-of (t .0 .1))) (toZ-ofZ w16 (m .c .given .0 .1 .0) (sfits-of (t .1 .0 .1)))
+    ap₂ (voted 2 2 1 (c .behind-count2 .result)) (toZ-ofZ w16 (m .c .given .0 .0) (sfits-of (t .0 .1)))
+    (toZ-ofZ w16 (m .c .given .0 .1 .0) (sfits-of (t .1 .0 .1)))
     ∙ second-numbers (a .first .now) (a .second .now) (m .c .given .1) (c .before .enum-told2 .given .1) (c .behind-count2 .ensures)
 
 returns-3 : tie.Need-returns-3
@@ -57,16 +38,5 @@ returns-4 c = let a = c .before .before .before .before .before .args in refused
 
 pub comparison-numbers-spec : {M : Type 1} → statement M
 comparison-numbers-spec =
-    tie.close
-    (tie.spec
-    enum-known-c
-    enum-told
-    behind-count-requires
-    enum-told-2
-    behind-count-requires-2
-    enum-told-3
-    enum-known-c-2
-    returns
-    returns-2
-    returns-3
-    returns-4)
+    tie.close (tie.spec (λ c. search needs) (λ c. search needs) (λ c κs. search needs) (λ c. search needs) (λ c κs. search needs)
+    (λ c. search needs) (λ c. search needs) returns returns-2 returns-3 returns-4)

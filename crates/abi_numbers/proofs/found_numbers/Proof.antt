@@ -16,21 +16,6 @@ use Rattle.abi_numbers.proofs.found_numbers.Tie as tie
 abbrev numbers : Found → FoundNumbers
 numbers a = foundIn (foundShown a)
 
-enum-known-a : tie.Need-enum-known-a
-enum-known-a c = search needs
-
-enum-known-a-2 : tie.Need-enum-known-a-2
-enum-known-a-2 c = search needs
-
-enum-known-why : tie.Need-enum-known-why
-enum-known-why c = search needs
-
-enum-known-why-2 : tie.Need-enum-known-why-2
-enum-known-why-2 c = search needs
-
-enum-known-a-3 : tie.Need-enum-known-a-3
-enum-known-a-3 c = search needs
-
 returns : tie.Need-returns
 returns c = ap numbers (sym (c .before .a .given .1))
 
@@ -51,14 +36,5 @@ returns-4 c = ap numbers (sym (c .before .a3 .given .1))
 
 pub found-numbers-spec : {M : Type 1} → statement M
 found-numbers-spec =
-    tie.close
-    (tie.spec
-    enum-known-a
-    enum-known-a-2
-    enum-known-why
-    enum-known-why-2
-    enum-known-a-3
-    returns
-    returns-2
-    returns-3
-    returns-4)
+    tie.close (tie.spec (λ c. search needs) (λ c. search needs) (λ c. search needs) (λ c. search needs) (λ c. search needs) returns
+    returns-2 returns-3 returns-4)

@@ -10,29 +10,23 @@ use Rattle.abi_numbers.specs.Numbers.{judgedIn}
 use Rattle.abi_numbers.proofs.verdict_numbers.Statement.{statement}
 use Rattle.abi_numbers.proofs.verdict_numbers.Tie as tie
 
-enum-told : tie.Need-enum-told
-enum-told c = search needs
-
-enum-known-v : tie.Need-enum-known-v
-enum-known-v c = search needs
-
-enum-known-v-2 : tie.Need-enum-known-v-2
-enum-known-v-2 c = search needs
-
-enum-known-v-3 : tie.Need-enum-known-v-3
-enum-known-v-3 c = search needs
-
 returns : tie.Need-returns
 returns c = sym (ap (λ v. judgedIn (verdictShown v)) (c .enum-told .given .1))
 
 returns-2 : tie.Need-returns-2
-returns-2 c = ap (λ (z : ℤ). judgedIn (verdictShown (verdict.Popular z))) (toZ-ofZ w16 (c .before .v .given .0 .0) (sfits-of (c .known-told .given .0 .1))) ∙ sym (ap (λ v. judgedIn (verdictShown v)) (c .before .v .given .1))
+returns-2 c =
+    ap (λ (z : ℤ). judgedIn (verdictShown (verdict.Popular z))) (toZ-ofZ w16 (c .before .v .given .0 .0) (sfits-of (c .known-told .given .0 .1)))
+    ∙ sym (ap (λ v. judgedIn (verdictShown v)) (c .before .v .given .1))
 
 returns-3 : tie.Need-returns-3
-returns-3 c = ap (λ (z : ℤ). judgedIn (verdictShown (verdict.Beaten z))) (toZ-ofZ w16 (c .before .v2 .given .0 .0) (sfits-of (c .known-told2 .given .0 .1))) ∙ sym (ap (λ v. judgedIn (verdictShown v)) (c .before .v2 .given .1))
+returns-3 c =
+    ap (λ (z : ℤ). judgedIn (verdictShown (verdict.Beaten z))) (toZ-ofZ w16 (c .before .v2 .given .0 .0) (sfits-of (c .known-told2 .given .0 .1)))
+    ∙ sym (ap (λ v. judgedIn (verdictShown v)) (c .before .v2 .given .1))
 
 returns-4 : tie.Need-returns-4
 returns-4 c = sym (ap (λ v. judgedIn (verdictShown v)) (c .before .v3 .given .1))
 
 pub verdict-numbers-spec : {M : Type 1} → statement M
-verdict-numbers-spec = tie.close (tie.spec enum-told enum-known-v enum-known-v-2 enum-known-v-3 returns returns-2 returns-3 returns-4)
+verdict-numbers-spec =
+    tie.close (tie.spec (λ c. search needs) (λ c. search needs) (λ c. search needs) (λ c. search needs) returns returns-2 returns-3
+    returns-4)

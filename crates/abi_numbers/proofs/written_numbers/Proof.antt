@@ -6,12 +6,6 @@ use borrow.Author.Needs.{needs}
 use Rattle.abi_numbers.proofs.written_numbers.Statement.{statement}
 use Rattle.abi_numbers.proofs.written_numbers.Tie as tie
 
-enum-known-w : tie.Need-enum-known-w
-enum-known-w c = search needs
-
-enum-known-w-2 : tie.Need-enum-known-w-2
-enum-known-w-2 c = search needs
-
 returns : tie.Need-returns
 returns c = ap (λ w. outcomeIn (writtenShown w)) (sym (c .before .w .given .1))
 
@@ -19,4 +13,4 @@ returns-2 : tie.Need-returns-2
 returns-2 c = ap (λ w. outcomeIn (writtenShown w)) (sym (c .before .w2 .given .1))
 
 pub written-numbers-spec : {M : Type 1} → statement M
-written-numbers-spec = tie.close (tie.spec enum-known-w enum-known-w-2 returns returns-2)
+written-numbers-spec = tie.close (tie.spec (λ c. search needs) (λ c. search needs) returns returns-2)

@@ -1,4 +1,4 @@
--- `refusal::group_of` meets its contract: the bounds that each arm of the `match` leaves settle the model's tests. Assumes nothing.
+-- `answers::group_of` meets its contract: the bounds that each arm of the `match` leaves settle the model's tests. Assumes nothing.
 use Prim.Native.Nat.{ℕ, zero, suc, _≤_, _<_}
 use native.Mathlib.Omega.{arith}
 use mathlib.Core.Path.{_≡_, refl, sym, ap}
@@ -29,7 +29,16 @@ is-plan n lo hi = simp (above n 1 (omega arith), above n 2 (omega arith), above 
 
 is-desk : (n : ℕ) → 13 ≤ n → n < 16 → desk ≡ groupOf n
 unfolding groupOf
-is-desk n lo hi = simp (above n 1 (omega arith), above n 2 (omega arith), above n 9 (omega arith), lt-leb n 12 lo, le-leb 10 n (omega arith), le-leb 13 n lo, le-leb n 15 (omega arith))
+is-desk n lo hi =
+    simp (
+      above n 1 (omega arith),
+      above n 2 (omega arith),
+      above n 9 (omega arith),
+      lt-leb n 12 lo,
+      le-leb 10 n (omega arith),
+      le-leb 13 n lo,
+      le-leb n 15 (omega arith),
+    )
 
 is-none : (n : ℕ) → n < 1 → content ≡ groupOf n
 unfolding groupOf
@@ -41,7 +50,16 @@ is-content n lo hi = simp (above n 1 (omega arith), above n 2 (omega arith), bel
 
 is-later : (n : ℕ) → 16 ≤ n → content ≡ groupOf n
 unfolding groupOf
-is-later n lo = simp (above n 1 (omega arith), above n 2 (omega arith), above n 9 (omega arith), le-leb 10 n (omega arith), lt-leb n 12 (omega arith), le-leb 13 n (omega arith), lt-leb n 15 lo)
+is-later n lo =
+    simp (
+      above n 1 (omega arith),
+      above n 2 (omega arith),
+      above n 9 (omega arith),
+      le-leb 10 n (omega arith),
+      lt-leb n 12 (omega arith),
+      le-leb 13 n (omega arith),
+      lt-leb n 15 lo,
+    )
 
 returns : tie.Need-returns
 returns c = is-plan (c .before .before .before .before .before .args .number) (omega (arith, c .before .before .before .before .match .rest .1)) (c .if4 .taken)
@@ -66,5 +84,4 @@ returns-7 : tie.Need-returns-7
 returns-7 c = is-form (c .before .before .before .args .number) (omega arith) (c .if2 .taken)
 
 pub group-of-spec : {M : Type 1} → statement M
-group-of-spec =
-    tie.close (tie.spec returns returns-2 returns-3 returns-4 returns-5 returns-6 returns-7)
+group-of-spec = tie.close (tie.spec returns returns-2 returns-3 returns-4 returns-5 returns-6 returns-7)

@@ -9,26 +9,34 @@ side-thresholds-requires : tie.Need-side-thresholds-requires
 side-thresholds-requires c κs = let s = c .before .before .before .before .before .before .before .before .before in may-search (s .args .g) (s .pre) .0
 
 side-thresholds-requires-2 : tie.Need-side-thresholds-requires-2
-side-thresholds-requires-2 c κs = let s = c .before .before .before .before .before .before .before .before .before .before .before .before .before in may-search (s .args .g) (s .pre) .1
+side-thresholds-requires-2 c κs =
+    let s = c .before .before .before .before .before .before .before .before .before .before .before .before .before in may-search (s .args .g) (s .pre) .1
 
 first-wanted-requires : tie.Need-first-wanted-requires
-first-wanted-requires c κs = let s = c .before .before .before .before .before .before .before .before .before .before .before .before .before .before .before .before .before .before .before .before in let m = may-search (s .args .g) (s .pre) in (m .0, m .1)
-
-array-read-t29 : tie.Need-array-read-t29
-array-read-t29 c = search needs
+first-wanted-requires c κs =
+    let s =
+    c .before .before .before .before .before .before .before .before .before .before .before .before .before .before .before .before .before .before .before .before in
+    let m = may-search (s .args .g) (s .pre) in
+    (m .0, m .1)
 
 add-t30 : tie.Need-add-t30
-add-t30 c = let s = c .before .before .before .before .before .before .before .before .before .before .before .before .before .before .before .before .before .before .before .before .before .before in let h = s .pre .low-sv (c .before .first-wanted .result) in omega (arith, h)
-
-array-read-t33 : tie.Need-array-read-t33
-array-read-t33 c = search needs
+add-t30 c =
+    let s =
+    c .before .before .before .before .before .before .before .before .before .before .before .before .before .before .before .before .before .before .before .before .before .before in
+    let h = s .pre .low-sv (c .before .first-wanted .result) in
+    omega (arith, h)
 
 add-t34 : tie.Need-add-t34
-add-t34 c = let s = c .before .before .before .before .before .before .before .before .before .before .before .before .before .before .before .before .before .before .before .before .before .before in let h = s .pre .low-st (c .before .first-wanted .result) in omega (arith, h)
+add-t34 c =
+    let s =
+    c .before .before .before .before .before .before .before .before .before .before .before .before .before .before .before .before .before .before .before .before .before .before in
+    let h = s .pre .low-st (c .before .first-wanted .result) in
+    omega (arith, h)
 
 returns : tie.Need-returns
 returns c =
-    let s = c .before .before .before .before .before .before .before .before .before .before .before .before .before .before .before .before .before .before .before .before .before .before in
+    let s =
+    c .before .before .before .before .before .before .before .before .before .before .before .before .before .before .before .before .before .before .before .before .before .before in
     let g = s .args .g in
     let l = c .before .before .before .before .before .before .before .before .before .before .before .before .side-thresholds in
     let k = c .before .before .before .before .before .before .before .before .side-thresholds2 in
@@ -38,7 +46,8 @@ returns c =
 
 returns-2 : tie.Need-returns-2
 returns-2 c =
-    let s = c .before .before .before .before .before .before .before .before .before .before .before .before .before .before .before .before .before .before .before .before .before .before in
+    let s =
+    c .before .before .before .before .before .before .before .before .before .before .before .before .before .before .before .before .before .before .before .before .before .before in
     let g = s .args .g in
     let l = c .before .before .before .before .before .before .before .before .before .before .before .before .side-thresholds in
     let k = c .before .before .before .before .before .before .before .before .side-thresholds2 in
@@ -48,14 +57,5 @@ returns-2 c =
 
 pub blocking-spec : {M : Type 1} → statement M
 blocking-spec =
-    tie.close
-    (tie.spec
-    side-thresholds-requires
-    side-thresholds-requires-2
-    first-wanted-requires
-    array-read-t29
-    add-t30
-    array-read-t33
-    add-t34
-    returns
-    returns-2)
+    tie.close (tie.spec side-thresholds-requires side-thresholds-requires-2 first-wanted-requires (λ c. search needs) add-t30
+    (λ c. search needs) add-t34 returns returns-2)

@@ -48,19 +48,21 @@ returns : tie.Need-returns Inv-loop μ-loop
 returns c =
     let l = c .before .before .before .before .before .before .before .before .before in
     let a = l .before .args in
-    sym (low-hit (wanted (a .sv .now) (a .st .now) (a .rs .now) (a .rt .now) (a .ls .now) (a .lt .now) (a .p .now)) (l .loop .i) (a .m) (l .loop .inv .1) (c .if1 .taken) (omega arith))
+    sym
+    (low-hit (wanted (a .sv .now) (a .st .now) (a .rs .now) (a .rt .now) (a .ls .now) (a .lt .now) (a .p .now)) (l .loop .i) (a .m)
+    (l .loop .inv .1) (c .if1 .taken) (omega arith))
 
 add-i : tie.Need-add-i Inv-loop μ-loop
 add-i c = omega (arith, c .before .before .before .before .before .before .before .before .before .before .pre .0 .edges)
 
-loop-less : tie.Need-loop-less Inv-loop μ-loop
-loop-less c = omega arith
-
 loop-again : tie.Need-loop-again Inv-loop μ-loop
 loop-again c =
     let l = c .before .before .before .before .before .before .before .before .before in
-    let a = l .before .args in
-    (omega arith, low-miss (wanted (a .sv .now) (a .st .now) (a .rs .now) (a .rt .now) (a .ls .now) (a .lt .now) (a .p .now)) (l .loop .i) (l .loop .inv .1) (c .if1 .left))
+    let a = l .before .args in (
+      omega arith,
+      low-miss (wanted (a .sv .now) (a .st .now) (a .rs .now) (a .rt .now) (a .ls .now) (a .lt .now) (a .p .now)) (l .loop .i) (l .loop .inv .1)
+          (c .if1 .left),
+    )
 
 returns-2 : tie.Need-returns-2 Inv-loop μ-loop
 returns-2 c =
@@ -71,22 +73,6 @@ returns-2 c =
 
 pub first-wanted-spec : {M : Type 1} → statement M
 first-wanted-spec =
-    tie.close
-    (tie.spec
-    Inv-loop
-    μ-loop
-    loop-holds
-    element-copy-out-s
-    cast-s
-    element-copy-out-t
-    cast-t
-    element-copy-out-if1
-    element-copy-out-if1-2
-    element-copy-out-if1-3
-    element-copy-out-if1-4
-    element-copy-out-if1-5
-    returns
-    add-i
-    loop-less
-    loop-again
-    returns-2)
+    tie.close (tie.spec Inv-loop μ-loop loop-holds element-copy-out-s cast-s element-copy-out-t cast-t element-copy-out-if1
+    element-copy-out-if1-2 element-copy-out-if1-3 element-copy-out-if1-4 element-copy-out-if1-5 returns add-i (λ c. omega arith)
+    loop-again returns-2)

@@ -9,7 +9,7 @@ use lib.ListN.{length, getD, length-set, length-replicate}
 use lib.Dec.{ltb}
 use borrow.Author.Needs.{needs}
 use Rattle.arrays.specs.ArrayInstance.{at}
-use Rattle.reduction_counts.specs.Filled.{made-next}
+use Rattle.arrays.specs.Filled.{made-next}
 use Rattle.blocking_thresholds.proofs.thresholds.Statement.{statement}
 use Rattle.blocking_thresholds.proofs.thresholds.Tie as tie
 

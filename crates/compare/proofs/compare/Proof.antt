@@ -8,23 +8,20 @@ use Rattle.compare.proofs.compare.Statement.{statement}
 use Rattle.compare.proofs.compare.Tie as tie
 
 read-plan-requires : tie.Need-read-plan-requires
-read-plan-requires c κs = let L = c .before .before .before .before .before .before .before .before .before .before .pre in (L .edges, λ e h. L .low-sv e, λ e h. L .low-st e, L .fileable .differ)
-
-enum-known-a : tie.Need-enum-known-a
-enum-known-a c = search needs
-
-group-of-requires : tie.Need-group-of-requires
-group-of-requires c κs = search needs
-
-enum-known-a-2 : tie.Need-enum-known-a-2
-enum-known-a-2 c = search needs
+read-plan-requires c κs =
+    let L = c .before .before .before .before .before .before .before .before .before .before .pre in
+    (L .edges, λ e h. L .low-sv e, λ e h. L .low-st e, L .fileable .differ)
 
 second-judged-requires : tie.Need-second-judged-requires
 second-judged-requires c κs =
     let s = c .before .before .before .before .before .before .before .before .before .before .before .before .before .before .before .before .before .before in
     let f = s .args .first .now in
     let r = c .before .before .before .before .before .before .before .read-plan in
-    let isF : T (isBytes f) = bytes-of f (λ j. c .before .before .before .before .before .before .before .before .before .before .before .before .before .before .before .before .before .shared-slice-known .given j) in
+    let isF : T (isBytes f) =
+    bytes-of f
+    (λ j.
+    c .before .before .before .before .before .before .before .before .before .before .before .before .before .before .before .before .before .shared-slice-known .given
+    j) in
     (s .pre, read-planned (s .args .g) f (r .result) (r .ensures) (s .pre) isF (c .before .before .before .before .before .a2 .given .1))
 
 returns : tie.Need-returns
@@ -35,11 +32,13 @@ returns c =
 
 returns-2 : tie.Need-returns-2
 returns-2 c =
-    let a = c .before .before .before .before .before .before .before .before .before .before .before .before .before .before .before .before .before .before .before .args in
+    let a =
+    c .before .before .before .before .before .before .before .before .before .before .before .before .before .before .before .before .before .before .before .args in
     let r = c .before .before .before .before .before .before .before .before .read-plan in
-    first-accepted (a .g) (a .first .now) (r .result) (r .ensures) (a .second .now) (c .before .before .before .before .before .before .a2 .given .1) (c .second-judged .ensures)
+    first-accepted (a .g) (a .first .now) (r .result) (r .ensures) (a .second .now) (c .before .before .before .before .before .before .a2 .given .1)
+    (c .second-judged .ensures)
 
 pub compare-spec : {M : Type 1} → statement M
 compare-spec =
-    tie.close
-    (tie.spec read-plan-requires enum-known-a group-of-requires enum-known-a-2 second-judged-requires returns returns-2)
+    tie.close (tie.spec read-plan-requires (λ c. search needs) (λ c κs. search needs) (λ c. search needs) second-judged-requires returns
+    returns-2)

@@ -8,45 +8,35 @@ use Rattle.compare.proofs.second_judged.Statement.{statement}
 use Rattle.compare.proofs.second_judged.Tie as tie
 
 read-plan-requires : tie.Need-read-plan-requires
-read-plan-requires c κs = let L = c .before .before .before .before .before .before .before .before .before .pre .0 in (L .edges, λ e h. L .low-sv e, λ e h. L .low-st e, L .fileable .differ)
-
-enum-known-a : tie.Need-enum-known-a
-enum-known-a c = search needs
-
-group-of-requires : tie.Need-group-of-requires
-group-of-requires c κs = search needs
-
-enum-known-a-2 : tie.Need-enum-known-a-2
-enum-known-a-2 c = search needs
+read-plan-requires c κs =
+    let L = c .before .before .before .before .before .before .before .before .before .pre .0 in
+    (L .edges, λ e h. L .low-sv e, λ e h. L .low-st e, L .fileable .differ)
 
 voted-requires : tie.Need-voted-requires
 voted-requires c κs =
     let k = c .before .before .before .before .before .before .before .before .before .before .before .before .before .before .before .before in
     let s = k .before in
     let r = c .before .before .before .before .before .before .before .read-plan in
-    let isB : T (isBytes (s .args .second .now)) = bytes-of (s .args .second .now) (λ i. k .shared-slice-known .given i) in
-    (s .pre .0, s .pre .1, read-planned (s .args .g) (s .args .second .now) (r .result) (r .ensures) (s .pre .0) isB (c .before .before .before .before .before .a2 .given .1))
+    let isB : T (isBytes (s .args .second .now)) = bytes-of (s .args .second .now) (λ i. k .shared-slice-known .given i) in (
+      s .pre .0,
+      s .pre .1,
+      read-planned (s .args .g) (s .args .second .now) (r .result) (r .ensures) (s .pre .0) isB (c .before .before .before .before .before .a2 .given .1),
+    )
 
 returns : tie.Need-returns
 returns c =
     let s = c .before .before .before .before .before .before .before .before .before .before .before .before .before .before in
     let r = c .before .before .before .before .read-plan in
-    second-refused (s .args .g) (s .args .second .now) (r .result) (r .ensures) (s .args .p .now) (c .group-of .result) (c .before .before .a .given .1) (c .group-of .ensures)
+    second-refused (s .args .g) (s .args .second .now) (r .result) (r .ensures) (s .args .p .now) (c .group-of .result)
+    (c .before .before .a .given .1) (c .group-of .ensures)
 
 returns-2 : tie.Need-returns-2
 returns-2 c =
     let s = c .before .before .before .before .before .before .before .before .before .before .before .before .before .before .before .before .before .before in
     let r = c .before .before .before .before .before .before .before .before .read-plan in
-    second-accepted (s .args .g) (s .args .second .now) (r .result) (r .ensures) (s .args .p .now) (c .before .before .before .before .before .before .a2 .given .1) (c .voted .ensures)
+    second-accepted (s .args .g) (s .args .second .now) (r .result) (r .ensures) (s .args .p .now)
+    (c .before .before .before .before .before .before .a2 .given .1) (c .voted .ensures)
 
 pub second-judged-spec : {M : Type 1} → statement M
 second-judged-spec =
-    tie.close
-    (tie.spec
-    read-plan-requires
-    enum-known-a
-    group-of-requires
-    enum-known-a-2
-    voted-requires
-    returns
-    returns-2)
+    tie.close (tie.spec read-plan-requires (λ c. search needs) (λ c κs. search needs) (λ c. search needs) voted-requires returns returns-2)

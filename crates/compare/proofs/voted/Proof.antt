@@ -21,9 +21,6 @@ plan-votes-requires c κs =
     let b = light g (s .pre .0) (s .args .q .now) (q .matching) in
     (side-arrays g (s .pre .0), ((a .0, b .0, a .1, b .1), (p .listed, q .listed)))
 
-winner-of-requires : tie.Need-winner-of-requires
-winner-of-requires c κs = search needs
-
 returns : tie.Need-returns
 returns c =
     let both = c .before .before .before .plan-votes in
@@ -32,7 +29,8 @@ returns c =
     let kv = toZ-ofZ w16 (both .result .first) (sfits-of (c .before .before .struct-told .given .0 .1)) in
     let kw = toZ-ofZ w16 (both .result .second) (sfits-of (c .before .struct-told2 .given .1 .0 .1)) in
     ap₂ (λ y z. Votes y z (c .winner-of .result)) kv kw
-    ∙ votes-are (a .g) (a .p .now) (a .q .now) (s .pre .1 .matching) (s .pre .2 .matching) (both .ensures) (c .winner-of .ensures ∙ ap₂ (λ y z. winnerCase (winnerOf y z)) kv kw)
+    ∙ votes-are (a .g) (a .p .now) (a .q .now) (s .pre .1 .matching) (s .pre .2 .matching) (both .ensures)
+    (c .winner-of .ensures ∙ ap₂ (λ y z. winnerCase (winnerOf y z)) kv kw)
 
 pub voted-spec : {M : Type 1} → statement M
-voted-spec = tie.close (tie.spec plan-votes-requires winner-of-requires returns)
+voted-spec = tie.close (tie.spec plan-votes-requires (λ c κs. search needs) returns)

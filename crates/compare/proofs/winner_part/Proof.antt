@@ -24,26 +24,11 @@ counts k =
     let isS : T (isBytes (a .second .now)) = bytes-of (a .second .now) (λ j. k .before .before .before .shared-slice-known2 .given j) in
     counts-there (shownBy (a .g)) (a .first .now) (a .second .now) isF isS (sym (k .c .given .1) ∙ k .before .before .compare .ensures)
 
-compare-requires : tie.Need-compare-requires
-compare-requires c κs = search needs
-
-enum-known-c : tie.Need-enum-known-c
-enum-known-c c = search needs
-
-enum-told : tie.Need-enum-told
-enum-told c = search needs
-
 sub-result : tie.Need-sub-result
 sub-result c = let h = counts (c .before .before .before) in omega (arith, h .0, h .1)
 
 part-result-start : tie.Need-part-result-start
 part-result-start c = let h = counts (c .before .before .before) in omega (arith, h .0, h .1)
-
-part-result-end : tie.Need-part-result-end
-part-result-end c = search needs
-
-enum-told-2 : tie.Need-enum-told-2
-enum-told-2 c = search needs
 
 sub-result-2 : tie.Need-sub-result-2
 sub-result-2 c = let h = counts (c .before .before .before) in omega (arith, h .0, h .1)
@@ -51,35 +36,26 @@ sub-result-2 c = let h = counts (c .before .before .before) in omega (arith, h .
 part-result-start-2 : tie.Need-part-result-start-2
 part-result-start-2 c = let h = counts (c .before .before .before) in omega (arith, h .0, h .1)
 
-part-result-end-2 : tie.Need-part-result-end-2
-part-result-end-2 c = search needs
-
-enum-told-3 : tie.Need-enum-told-3
-enum-told-3 c = search needs
-
-slice-aggregate-result : tie.Need-slice-aggregate-result
-slice-aggregate-result c = search needs
-
-enum-told-4 : tie.Need-enum-told-4
-enum-told-4 c = search needs
-
-slice-aggregate-result-2 : tie.Need-slice-aggregate-result-2
-slice-aggregate-result-2 c = search needs
-
 returns : tie.Need-returns
 returns c =
     let a = c .before .before .before .before .before .before .before .before .before .args in
-    first-part (shownBy (a .g)) (a .first) (a .second) (sym (c .before .before .before .before .c .given .1) ∙ c .before .before .before .before .before .before .compare .ensures) (c .before .enum-told .given .1)
+    first-part (shownBy (a .g)) (a .first) (a .second)
+    (sym (c .before .before .before .before .c .given .1) ∙ c .before .before .before .before .before .before .compare .ensures)
+    (c .before .enum-told .given .1)
 
 returns-2 : tie.Need-returns-2
 returns-2 c =
     let a = c .before .before .before .before .before .before .before .before .before .args in
-    second-part (shownBy (a .g)) (a .first) (a .second) (sym (c .before .before .before .before .c .given .1) ∙ c .before .before .before .before .before .before .compare .ensures) (c .before .enum-told2 .given .1)
+    second-part (shownBy (a .g)) (a .first) (a .second)
+    (sym (c .before .before .before .before .c .given .1) ∙ c .before .before .before .before .before .before .compare .ensures)
+    (c .before .enum-told2 .given .1)
 
 returns-3 : tie.Need-returns-3
 returns-3 c =
     let a = c .before .before .before .before .before .before .before .before .before .args in
-    no-part (shownBy (a .g)) (a .first) (a .second) (sym (c .before .before .before .before .c .given .1) ∙ c .before .before .before .before .before .before .compare .ensures) (c .before .enum-told3 .given .1)
+    no-part (shownBy (a .g)) (a .first) (a .second)
+    (sym (c .before .before .before .before .c .given .1) ∙ c .before .before .before .before .before .before .compare .ensures)
+    (c .before .enum-told3 .given .1)
 
 returns-4 : tie.Need-returns-4
 returns-4 c =
@@ -88,23 +64,6 @@ returns-4 c =
 
 pub winner-part-spec : {M : Type 1} → statement M
 winner-part-spec =
-    tie.close
-    (tie.spec
-    compare-requires
-    enum-known-c
-    enum-told
-    sub-result
-    part-result-start
-    part-result-end
-    enum-told-2
-    sub-result-2
-    part-result-start-2
-    part-result-end-2
-    enum-told-3
-    slice-aggregate-result
-    enum-told-4
-    slice-aggregate-result-2
-    returns
-    returns-2
-    returns-3
-    returns-4)
+    tie.close (tie.spec (λ c κs. search needs) (λ c. search needs) (λ c. search needs) sub-result part-result-start (λ c. search needs)
+    (λ c. search needs) sub-result-2 part-result-start-2 (λ c. search needs) (λ c. search needs) (λ c. search needs) (λ c. search needs)
+    (λ c. search needs) returns returns-2 returns-3 returns-4)

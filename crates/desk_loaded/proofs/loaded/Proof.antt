@@ -8,21 +8,6 @@ use Rattle.desk_loaded.specs.OnDesk.{roster-missing, roster-there, array
 use Rattle.desk_loaded.proofs.loaded.Statement.{statement}
 use Rattle.desk_loaded.proofs.loaded.Tie as tie
 
-read-roster-requires : tie.Need-read-roster-requires
-read-roster-requires c κs = search needs
-
-instance-of-requires : tie.Need-instance-of-requires
-instance-of-requires c κs = search needs
-
-enum-told : tie.Need-enum-told
-enum-told c = search needs
-
-bare-requires : tie.Need-bare-requires
-bare-requires c κs = search needs
-
-enum-told-2 : tie.Need-enum-told-2
-enum-told-2 c = search needs
-
 on-roster-requires : tie.Need-on-roster-requires
 on-roster-requires c κs =
     let a = c .before .before .before .before .before .before .args in
@@ -47,13 +32,5 @@ returns-2 c =
 
 pub loaded-spec : {M : Type 1} → statement M
 loaded-spec =
-    tie.close
-    (tie.spec
-    read-roster-requires
-    instance-of-requires
-    enum-told
-    bare-requires
-    enum-told-2
-    on-roster-requires
-    returns
-    returns-2)
+    tie.close (tie.spec (λ c κs. search needs) (λ c κs. search needs) (λ c. search needs) (λ c κs. search needs) (λ c. search needs)
+    on-roster-requires returns returns-2)

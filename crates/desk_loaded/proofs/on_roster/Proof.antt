@@ -5,19 +5,10 @@ use Rattle.desk_loaded.specs.OnDesk.{OnRoster, plan-unneeded}
 use Rattle.desk_loaded.proofs.on_roster.Statement.{statement}
 use Rattle.desk_loaded.proofs.on_roster.Tie as tie
 
-with-plan-requires : tie.Need-with-plan-requires
-with-plan-requires c κs = search needs
-
 returns : tie.Need-returns
 returns c =
     let a = c .before .before .before .args in
     subst (λ b. OnRoster (a .g) (a .plan .now) b (a .short) (c .with-plan .result)) (sym (c .before .if1 .taken)) (c .with-plan .ensures)
-
-short-refusal-requires : tie.Need-short-refusal-requires
-short-refusal-requires c κs = search needs
-
-bare-requires : tie.Need-bare-requires
-bare-requires c κs = search needs
 
 returns-2 : tie.Need-returns-2
 returns-2 c =
@@ -27,5 +18,4 @@ returns-2 c =
     (plan-unneeded (a .g) (a .plan .now) (a .short) (b .result) (b .ensures .0) (b .ensures .1 ∙ c .before .short-refusal .ensures))
 
 pub on-roster-spec : {M : Type 1} → statement M
-on-roster-spec =
-    tie.close (tie.spec with-plan-requires returns short-refusal-requires bare-requires returns-2)
+on-roster-spec = tie.close (tie.spec (λ c κs. search needs) returns (λ c κs. search needs) (λ c κs. search needs) returns-2)

@@ -3,10 +3,14 @@ use Rattle.desk_loaded.proofs.plan_read.Statement.{statement}
 use Rattle.desk_loaded.proofs.plan_read.Tie as tie
 
 read-plan-requires : tie.Need-read-plan-requires
-read-plan-requires c κs = let L = c .before .before .before .before .before .before .before .before .before .pre in (L .edges, λ e h. L .low-sv e, λ e h. L .low-st e, L .fileable .differ)
+read-plan-requires c κs =
+    let L = c .before .before .before .before .before .before .before .before .before .pre in
+    (L .edges, λ e h. L .low-sv e, λ e h. L .low-st e, L .fileable .differ)
 
 returns : tie.Need-returns
-returns c = let g = c .before .before .before .before .before .before .before .before .before .before .args .g in c .read-plan .ensures (g .ns) (g .nt) (g .«rank_s») (g .«rank_t») (g .tied)
+returns c =
+    let g = c .before .before .before .before .before .before .before .before .before .before .args .g in
+    c .read-plan .ensures (g .ns) (g .nt) (g .«rank_s») (g .«rank_t») (g .tied)
 
 pub plan-read-spec : {M : Type 1} → statement M
 plan-read-spec = tie.close (tie.spec read-plan-requires returns)

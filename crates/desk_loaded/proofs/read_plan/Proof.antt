@@ -4,18 +4,6 @@ use Rattle.desk_loaded.specs.OnDesk.{answer-accepted, answer-refused}
 use Rattle.desk_loaded.proofs.read_plan.Statement.{statement}
 use Rattle.desk_loaded.proofs.read_plan.Tie as tie
 
-plan-read-requires : tie.Need-plan-read-requires
-plan-read-requires c κs = search needs
-
-enum-told : tie.Need-enum-told
-enum-told c = search needs
-
-enum-known-a : tie.Need-enum-known-a
-enum-known-a c = search needs
-
-group-of-requires : tie.Need-group-of-requires
-group-of-requires c κs = search needs
-
 returns : tie.Need-returns
 returns c =
     let a = c .before .before .before .before .args in
@@ -29,6 +17,4 @@ returns-2 c =
     answer-refused (a .g) (a .file .now) (p .result) (p .ensures) (c .group-of .result) (c .before .before .a .given .1) (c .group-of .ensures)
 
 pub read-plan-spec : {M : Type 1} → statement M
-read-plan-spec =
-    tie.close
-    (tie.spec plan-read-requires enum-told enum-known-a group-of-requires returns returns-2)
+read-plan-spec = tie.close (tie.spec (λ c κs. search needs) (λ c. search needs) (λ c. search needs) (λ c κs. search needs) returns returns-2)

@@ -8,21 +8,6 @@ use Rattle.desk_loaded.specs.OnDesk.{plan-missing, plan-there}
 use Rattle.desk_loaded.proofs.with_plan.Statement.{statement}
 use Rattle.desk_loaded.proofs.with_plan.Tie as tie
 
-plan-read-requires : tie.Need-plan-read-requires
-plan-read-requires c κs = search needs
-
-enum-told : tie.Need-enum-told
-enum-told c = search needs
-
-bare-requires : tie.Need-bare-requires
-bare-requires c κs = search needs
-
-enum-known-a : tie.Need-enum-known-a
-enum-known-a c = search needs
-
-short-refusal-requires : tie.Need-short-refusal-requires
-short-refusal-requires c κs = search needs
-
 returns : tie.Need-returns
 returns c =
     let a = c .before .before .before .before .before .args in
@@ -34,18 +19,12 @@ returns-2 : tie.Need-returns-2
 returns-2 c =
     let a = c .before .before .before .before .before .before .before .before .args in
     let p = c .before .before .before .before .before .before .plan-read in
-    let isB : T (isBytes (a .plan .now)) = bytes-of (a .plan .now) (λ i. c .before .before .before .before .before .before .before .shared-slice-known .given i) in
+    let isB : T (isBytes (a .plan .now)) =
+    bytes-of (a .plan .now) (λ i. c .before .before .before .before .before .before .before .shared-slice-known .given i) in
     plan-there (a .g) (a .plan .now) (p .result) (p .ensures) (a .short) _ refl isB (c .before .before .before .before .a .given .1)
     (c .before .before .short-refusal .ensures) refl refl refl
 
 pub with-plan-spec : {M : Type 1} → statement M
 with-plan-spec =
-    tie.close
-    (tie.spec
-    plan-read-requires
-    enum-told
-    bare-requires
-    enum-known-a
-    short-refusal-requires
-    returns
+    tie.close (tie.spec (λ c κs. search needs) (λ c. search needs) (λ c κs. search needs) (λ c. search needs) (λ c κs. search needs) returns
     returns-2)

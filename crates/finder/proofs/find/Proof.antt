@@ -15,15 +15,6 @@ ended-requires c κs =
     let s = R .before .before .before .before .before .before .before .before .before .before .before .before .before .before .before .before .before .before in
     (s .pre .0, fixed-planned (s .args .g) (s .pre .0) _ _ _ (R .reduce .ensures), s .pre .1, s .pre .2, s .pre .3)
 
-same-length : tie.Need-same-length
-same-length c = search needs
-
-same-length-2 : tie.Need-same-length-2
-same-length-2 c = search needs
-
-same-length-3 : tie.Need-same-length-3
-same-length-3 c = search needs
-
 returns : tie.Need-returns
 returns c =
     let R = c .before .before .before .before .before .before .before .before .before .before .before .before .before .before .before in
@@ -31,4 +22,4 @@ returns c =
     finds (s .args .g) (s .pre .0) _ _ _ (R .reduce .ensures) _ _ _ _ _ _ _ (c .before .before .before .before .before .before .ended .ensures)
 
 pub find-spec : {M : Type 1} → statement M
-find-spec = tie.close (tie.spec reduce-requires ended-requires same-length same-length-2 same-length-3 returns)
+find-spec = tie.close (tie.spec reduce-requires ended-requires (λ c. search needs) (λ c. search needs) (λ c. search needs) returns)

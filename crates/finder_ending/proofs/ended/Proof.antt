@@ -10,37 +10,32 @@ use Rattle.finder_ending.proofs.ended.Tie as tie
 write-pairs-requires : tie.Need-write-pairs-requires
 write-pairs-requires c κs =
     let b = c .before .before .before .before .before .before .before .before in
-    let L = b .pre .0 in
-    (L .edges, (λ e h. L .low-sv e), (λ e h. L .low-st e), omega arith, left-room (b .args .g .m) (b .args .rem .now) (b .args .left .now) (L .edges) (b .pre .2))
-
-same-length : tie.Need-same-length
-same-length c = search needs
+    let L = b .pre .0 in (
+      L .edges,
+      (λ e h. L .low-sv e),
+      (λ e h. L .low-st e),
+      omega arith,
+      left-room (b .args .g .m) (b .args .rem .now) (b .args .left .now) (L .edges) (b .pre .2),
+    )
 
 returns : tie.Need-returns
 returns c =
     let b = c .before .before .before .before .before .before .before .before .before .before .before .before in
     let a = b .args in
     let w = c .before .before .before .write-pairs .ensures in
-    λ M S. some-left (a .g) M (edgesIn (a .g .m) (flag (a .rem .now))) (a .steps) (a .left .now) (a .plan .now) (a .rival .now) _ _ (w .0) (w .1) (c .if1 .taken)
-
-judged-requires : tie.Need-judged-requires
-judged-requires c κs = search needs
-
-same-length-2 : tie.Need-same-length-2
-same-length-2 c = search needs
-
-same-length-3 : tie.Need-same-length-3
-same-length-3 c = search needs
-
-same-length-4 : tie.Need-same-length-4
-same-length-4 c = search needs
+    λ M S. some-left (a .g) M (edgesIn (a .g .m) (flag (a .rem .now))) (a .steps) (a .left .now) (a .plan .now) (a .rival .now) _ _ (w .0) (w .1)
+    (c .if1 .taken)
 
 returns-2 : tie.Need-returns-2
 returns-2 c =
-    let b = c .before .before .before .before .before .before .before .before .before .before .before .before .before .before .before .before .before .before .before in
+    let b =
+    c .before .before .before .before .before .before .before .before .before .before .before .before .before .before .before .before .before .before .before in
     let a = b .args in
     let w = c .before .before .before .before .before .before .before .before .before .before .write-pairs .ensures in
-    λ M S. none-left (a .g) M (edgesIn (a .g .m) (flag (a .rem .now))) (a .steps) (a .left .now) (a .plan .now) (a .rival .now) _ _ (w .0) (w .1) (c .before .before .before .before .before .before .before .if1 .left) (c .before .before .before .before .judged .ensures M S)
+    λ M S. none-left (a .g) M (edgesIn (a .g .m) (flag (a .rem .now))) (a .steps) (a .left .now) (a .plan .now) (a .rival .now) _ _ (w .0) (w .1)
+    (c .before .before .before .before .before .before .before .if1 .left) (c .before .before .before .before .judged .ensures M S)
 
 pub ended-spec : {M : Type 1} → statement M
-ended-spec = tie.close (tie.spec write-pairs-requires same-length returns judged-requires same-length-2 same-length-3 same-length-4 returns-2)
+ended-spec =
+    tie.close (tie.spec write-pairs-requires (λ c. search needs) returns (λ c κs. search needs) (λ c. search needs) (λ c. search needs)
+    (λ c. search needs) returns-2)

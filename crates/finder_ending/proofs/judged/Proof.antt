@@ -27,98 +27,54 @@ weigh-requires c κs =
     let l = c .before .before .before .before .before .before .before .before .before .list-edges .ensures in
     (b .pre .0, b .pre .1, lists-are (b .args .g .m) (b .args .fixed .now) _ _ l, b .pre .3)
 
-enum-told : tie.Need-enum-told
-enum-told c = search needs
-
-enum-known-w : tie.Need-enum-known-w
-enum-known-w c = search needs
-
-enum-known-w-2 : tie.Need-enum-known-w-2
-enum-known-w-2 c = search needs
-
-enum-known-w-3 : tie.Need-enum-known-w-3
-enum-known-w-3 c = search needs
-
-same-length : tie.Need-same-length
-same-length c = search needs
-
-same-length-2 : tie.Need-same-length-2
-same-length-2 c = search needs
-
 returns : tie.Need-returns
 returns c =
-    let b = c .before .before .before .before .before .before .before .before .before .before .before .before .before .before .before .before .before .before .before in
+    let b =
+    c .before .before .before .before .before .before .before .before .before .before .before .before .before .before .before .before .before .before .before in
     let a = b .args in
     let w = c .before .before .before .before .weigh in
     λ M S l. wrote-judged _ M (a .steps) l (a .plan .now) (a .rival .now) _ _ (w .result) (w .ensures M S)
-    (plan-onto (a .g) (a .fixed .now) (a .plan .now) _ (c .before .before .before .before .before .before .before .before .before .write-plan .ensures) M (S .1))
+    (plan-onto (a .g) (a .fixed .now) (a .plan .now) _
+    (c .before .before .before .before .before .before .before .before .before .write-plan .ensures) M (S .1))
     (ap (answerOn (a .steps)) (sym (c .enum-told .given .1)))
-
-same-length-3 : tie.Need-same-length-3
-same-length-3 c = search needs
-
-same-length-4 : tie.Need-same-length-4
-same-length-4 c = search needs
 
 returns-2 : tie.Need-returns-2
 returns-2 c =
-    let b = c .before .before .before .before .before .before .before .before .before .before .before .before .before .before .before .before .before .before .before .before in
+    let b =
+    c .before .before .before .before .before .before .before .before .before .before .before .before .before .before .before .before .before .before .before .before in
     let a = b .args in
     let w = c .before .before .before .before .before .weigh in
     λ M S l. wrote-judged _ M (a .steps) l (a .plan .now) (a .rival .now) _ _ (w .result) (w .ensures M S)
-    (plan-onto (a .g) (a .fixed .now) (a .plan .now) _ (c .before .before .before .before .before .before .before .before .before .before .write-plan .ensures) M (S .1))
-    (ap (λ z. says.None (a .steps) (kind.Rivalled z)) (toZ-ofZ w16 (c .before .w .given .0 .0) (sfits-of (c .known-told .given .0 .1))) ∙ ap (answerOn (a .steps)) (sym (c .before .w .given .1)))
-
-same-length-5 : tie.Need-same-length-5
-same-length-5 c = search needs
-
-same-length-6 : tie.Need-same-length-6
-same-length-6 c = search needs
+    (plan-onto (a .g) (a .fixed .now) (a .plan .now) _
+    (c .before .before .before .before .before .before .before .before .before .before .write-plan .ensures) M (S .1))
+    (ap (λ z. says.None (a .steps) (kind.Rivalled z)) (toZ-ofZ w16 (c .before .w .given .0 .0) (sfits-of (c .known-told .given .0 .1)))
+    ∙ ap (answerOn (a .steps)) (sym (c .before .w .given .1)))
 
 returns-3 : tie.Need-returns-3
 returns-3 c =
-    let b = c .before .before .before .before .before .before .before .before .before .before .before .before .before .before .before .before .before .before .before .before in
+    let b =
+    c .before .before .before .before .before .before .before .before .before .before .before .before .before .before .before .before .before .before .before .before in
     let a = b .args in
     let w = c .before .before .before .before .before .weigh in
     λ M S l. wrote-judged _ M (a .steps) l (a .plan .now) (a .rival .now) _ _ (w .result) (w .ensures M S)
-    (plan-onto (a .g) (a .fixed .now) (a .plan .now) _ (c .before .before .before .before .before .before .before .before .before .before .write-plan .ensures) M (S .1))
-    (ap (λ z. says.None (a .steps) (kind.Rivalled z)) (toZ-ofZ w16 (c .before .w2 .given .0 .0) (sfits-of (c .known-told2 .given .0 .1))) ∙ ap (answerOn (a .steps)) (sym (c .before .w2 .given .1)))
-
-same-length-7 : tie.Need-same-length-7
-same-length-7 c = search needs
-
-same-length-8 : tie.Need-same-length-8
-same-length-8 c = search needs
+    (plan-onto (a .g) (a .fixed .now) (a .plan .now) _
+    (c .before .before .before .before .before .before .before .before .before .before .write-plan .ensures) M (S .1))
+    (ap (λ z. says.None (a .steps) (kind.Rivalled z)) (toZ-ofZ w16 (c .before .w2 .given .0 .0) (sfits-of (c .known-told2 .given .0 .1)))
+    ∙ ap (answerOn (a .steps)) (sym (c .before .w2 .given .1)))
 
 returns-4 : tie.Need-returns-4
 returns-4 c =
-    let b = c .before .before .before .before .before .before .before .before .before .before .before .before .before .before .before .before .before .before .before .before in
+    let b =
+    c .before .before .before .before .before .before .before .before .before .before .before .before .before .before .before .before .before .before .before .before in
     let a = b .args in
     let w = c .before .before .before .before .before .weigh in
     λ M S l. wrote-judged _ M (a .steps) l (a .plan .now) (a .rival .now) _ _ (w .result) (w .ensures M S)
-    (plan-onto (a .g) (a .fixed .now) (a .plan .now) _ (c .before .before .before .before .before .before .before .before .before .before .write-plan .ensures) M (S .1))
+    (plan-onto (a .g) (a .fixed .now) (a .plan .now) _
+    (c .before .before .before .before .before .before .before .before .before .before .write-plan .ensures) M (S .1))
     (ap (answerOn (a .steps)) (sym (c .before .w3 .given .1)))
 
 pub judged-spec : {M : Type 1} → statement M
 judged-spec =
-    tie.close
-    (tie.spec
-    list-edges-requires
-    write-plan-requires
-    weigh-requires
-    enum-told
-    enum-known-w
-    enum-known-w-2
-    enum-known-w-3
-    same-length
-    same-length-2
-    returns
-    same-length-3
-    same-length-4
-    returns-2
-    same-length-5
-    same-length-6
-    returns-3
-    same-length-7
-    same-length-8
-    returns-4)
+    tie.close (tie.spec list-edges-requires write-plan-requires weigh-requires (λ c. search needs) (λ c. search needs) (λ c. search needs)
+    (λ c. search needs) (λ c. search needs) (λ c. search needs) returns (λ c. search needs) (λ c. search needs) returns-2
+    (λ c. search needs) (λ c. search needs) returns-3 (λ c. search needs) (λ c. search needs) returns-4)

@@ -6,7 +6,7 @@ use native.Mathlib.Omega.{arith}
 use lib.ListN.{length, length-replicate, length-set}
 use lib.Dec.{eqb}
 use Rattle.arrays.specs.ArrayInstance.{at}
-use Rattle.arrays.specs.Tally.{byte-≤}
+use Rattle.arrays.specs.Tally.{byte-one}
 use Rattle.arrays.specs.Kept.{Kept, kept-turn}
 use Rattle.instance.proofs.Collected.{kept-listed}
 use borrow.Author.Needs.{needs}
@@ -21,55 +21,24 @@ Inv-loop n table cell₀ m₀ end c₀ cell m c = (c ≤ end) × (m ≤ c) × (l
 abbrev μ-loop : tie.MeasureT-loop
 μ-loop n table cell₀ m₀ end c₀ cell m c = end - c
 
--- src/lib.rt:65:15
-mul-end : tie.Need-mul-end Inv-loop μ-loop
-mul-end c = search needs
-
--- src/lib.rt:67:5
 loop-holds : tie.Need-loop-holds Inv-loop μ-loop
 loop-holds c = (zero-le, zero-le, length-replicate {A = ℕ} 1024 0, (refl, refl))
 
--- src/lib.rt:68:19
-cast-cell : tie.Need-cast-cell Inv-loop μ-loop
-cast-cell c = search needs
-
--- src/lib.rt:68:9
-mul-cell : tie.Need-mul-cell Inv-loop μ-loop
-mul-cell c = search needs
-
--- src/lib.rt:68:9
-array-write-cell : tie.Need-array-write-cell Inv-loop μ-loop
-array-write-cell c = search needs
-
--- src/lib.rt:69:15
-element-copy-out-m : tie.Need-element-copy-out-m Inv-loop μ-loop
-element-copy-out-m c = search needs
-
--- src/lib.rt:69:14
-cast-m : tie.Need-cast-m Inv-loop μ-loop
-cast-m c = search needs
-
--- src/lib.rt:69:9
 add-m : tie.Need-add-m Inv-loop μ-loop
-add-m c = let l = c .before .before in let b = byte-≤ (not (eqb (at (l .before .args .table .now) (l .loop .c)) 0)) in omega arith
+add-m c = let l = c .before .before in let b = byte-one (not (eqb (at (l .before .args .table .now) (l .loop .c)) 0)) in omega arith
 
--- src/lib.rt:70:9
-add-c : tie.Need-add-c Inv-loop μ-loop
-add-c c = search needs
-
--- src/lib.rt:67:5
-loop-less : tie.Need-loop-less Inv-loop μ-loop
-loop-less c = search needs
-
--- src/lib.rt:67:5
 loop-again : tie.Need-loop-again Inv-loop μ-loop
 loop-again c =
     let l = c .before .before in
     let a = l .before .args in
-    let b = byte-≤ (not (eqb (at (a .table .now) (l .loop .c)) 0)) in
-    (omega arith, omega arith, length-set (l .loop .cell) (l .loop .m) (l .loop .c) ∙ l .loop .inv .2, kept-turn (λ c. not (eqb (at (a .table .now) c) 0)) (l .loop .cell) (l .loop .m) (l .loop .c) (omega arith) (l .loop .inv .3))
+    let b = byte-one (not (eqb (at (a .table .now) (l .loop .c)) 0)) in (
+      omega arith,
+      omega arith,
+      length-set (l .loop .cell) (l .loop .m) (l .loop .c)
+          ∙ l .loop .inv .2,
+      kept-turn (λ c. not (eqb (at (a .table .now) c) 0)) (l .loop .cell) (l .loop .m) (l .loop .c) (omega arith) (l .loop .inv .3),
+    )
 
--- src/lib.rt:59:1
 returns : tie.Need-returns Inv-loop μ-loop
 returns c =
     let l = c .before in
@@ -78,19 +47,5 @@ returns c =
 
 pub listed-cells-spec : {M : Type 1} → statement M
 listed-cells-spec =
-    tie.close
-    (tie.spec
-    Inv-loop
-    μ-loop
-    mul-end
-    loop-holds
-    cast-cell
-    mul-cell
-    array-write-cell
-    element-copy-out-m
-    cast-m
-    add-m
-    add-c
-    loop-less
-    loop-again
-    returns)
+    tie.close (tie.spec Inv-loop μ-loop (λ c. search needs) loop-holds (λ c. search needs) (λ c. search needs) (λ c. search needs)
+    (λ c. search needs) (λ c. search needs) add-m (λ c. search needs) (λ c. search needs) loop-again returns)

@@ -17,38 +17,18 @@ Inv-loop file at n q₀ i₀ q i = (i ≤ n) × Fill 0 32 q i (λ i. getD file (
 abbrev μ-loop : tie.MeasureT-loop
 μ-loop file at n q₀ i₀ q i = n - i
 
--- src/lib.rt:51:5
 loop-holds : tie.Need-loop-holds Inv-loop μ-loop
 loop-holds c = let a = c .before .args in (zero-le, fill-none 0 32 (λ i. getD (a .file .now) (a .at + i) 0))
 
--- src/lib.rt:52:41
-add-byte-at : tie.Need-add-byte-at Inv-loop μ-loop
-add-byte-at c = search needs
-
--- src/lib.rt:52:16
-byte-at-requires : tie.Need-byte-at-requires Inv-loop μ-loop
-byte-at-requires c κs = search needs
-
--- src/lib.rt:52:9
-array-write-q : tie.Need-array-write-q Inv-loop μ-loop
-array-write-q c = search needs
-
--- src/lib.rt:53:9
-add-i : tie.Need-add-i Inv-loop μ-loop
-add-i c = search needs
-
--- src/lib.rt:51:5
-loop-less : tie.Need-loop-less Inv-loop μ-loop
-loop-less c = search needs
-
--- src/lib.rt:51:5
 loop-again : tie.Need-loop-again Inv-loop μ-loop
 loop-again c =
     let l = c .before .before in
-    let a = l .before .before .args in
-    (omega arith, fill-next 0 32 (l .loop .q) (λ i. getD (a .file .now) (a .at + i) 0) (l .loop .i) (c .byte-at .result) (c .byte-at .ensures) (omega arith) (l .loop .inv .1))
+    let a = l .before .before .args in (
+      omega arith,
+      fill-next 0 32 (l .loop .q) (λ i. getD (a .file .now) (a .at + i) 0) (l .loop .i) (c .byte-at .result) (c .byte-at .ensures) (omega arith)
+          (l .loop .inv .1),
+    )
 
--- src/lib.rt:45:1
 returns : tie.Need-returns Inv-loop μ-loop
 returns c =
     let l = c .before in
@@ -58,15 +38,5 @@ returns c =
 
 pub quotas-spec : {M : Type 1} → statement M
 quotas-spec =
-    tie.close
-    (tie.spec
-    Inv-loop
-    μ-loop
-    loop-holds
-    add-byte-at
-    byte-at-requires
-    array-write-q
-    add-i
-    loop-less
-    loop-again
-    returns)
+    tie.close (tie.spec Inv-loop μ-loop loop-holds (λ c. search needs) (λ c κs. search needs) (λ c. search needs) (λ c. search needs)
+    (λ c. search needs) loop-again returns)

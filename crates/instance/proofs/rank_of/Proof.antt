@@ -5,11 +5,9 @@ use Rattle.instance.proofs.rank_of.Tie as tie
 use Rattle.instance.proofs.rank_of.Reads as reads
 use Rattle.instance.proofs.rank_of.Lts as lts
 
--- src/lib.rt:80:9
 returns : tie.Need-returns
 returns c = simp (eq-eqb _ _ (c .if1 .taken))
 
--- src/lib.rt:76:1
 returns-2 : tie.Need-returns-2
 returns-2 c = simp (ne-eqb _ _ (c .if1 .left))
 

@@ -12,48 +12,30 @@ returns c = let a = c .before .args in none-zero (a .m) (a .sv .now) (a .st .now
 returns-2 : tie.Need-returns-2
 returns-2 c = let a = c .before .before .args in none-zero-2 (a .m) (a .sv .now) (a .st .now) (a .x) (a .y) (c .if2 .taken)
 
-sub-s : tie.Need-sub-s
-sub-s c = search needs
-
-sub-t : tie.Need-sub-t
-sub-t c = search needs
-
-scan-requires : tie.Need-scan-requires
-scan-requires c κs = search needs
-
 returns-3 : tie.Need-returns-3
 returns-3 c =
     let s = c .before .before .before .before in
     let a = s .args in
-    found-later (a .m) (a .sv .now) (a .st .now) (a .x) (a .y) (a .x - 1) (a .y - 1) (omega arith) (omega arith) (s .pre .2) (a .from) (c .before .scan .result) (c .before .scan .ensures) (c .if3 .taken)
-
-scan-requires-2 : tie.Need-scan-requires-2
-scan-requires-2 c κs = search needs
+    found-later (a .m) (a .sv .now) (a .st .now) (a .x) (a .y) (a .x - 1) (a .y - 1) (omega arith) (omega arith) (s .pre .2) (a .from)
+    (c .before .scan .result) (c .before .scan .ensures) (c .if3 .taken)
 
 returns-4 : tie.Need-returns-4
 returns-4 c =
     let s = c .before .before .before .before .before .before in
     let a = s .args in
     let k = c .before .before .before in
-    found-before (a .m) (a .sv .now) (a .st .now) (a .x) (a .y) (a .x - 1) (a .y - 1) (omega arith) (omega arith) (a .from) (k .scan .result) (c .before .scan2 .result) (s .pre .0) (k .scan .ensures) (c .before .before .if3 .left) (c .before .scan2 .ensures) (c .if4 .taken)
+    found-before (a .m) (a .sv .now) (a .st .now) (a .x) (a .y) (a .x - 1) (a .y - 1) (omega arith) (omega arith) (a .from) (k .scan .result)
+    (c .before .scan2 .result) (s .pre .0) (k .scan .ensures) (c .before .before .if3 .left) (c .before .scan2 .ensures) (c .if4 .taken)
 
 returns-5 : tie.Need-returns-5
 returns-5 c =
     let s = c .before .before .before .before .before .before in
     let a = s .args in
     let k = c .before .before .before in
-    found-not (a .m) (a .sv .now) (a .st .now) (a .x) (a .y) (a .x - 1) (a .y - 1) (omega arith) (omega arith) (a .from) (k .scan .result) (c .before .scan2 .result) (s .pre .0) (k .scan .ensures) (c .before .before .if3 .left) (c .before .scan2 .ensures) (c .if4 .left)
+    found-not (a .m) (a .sv .now) (a .st .now) (a .x) (a .y) (a .x - 1) (a .y - 1) (omega arith) (omega arith) (a .from) (k .scan .result)
+    (c .before .scan2 .result) (s .pre .0) (k .scan .ensures) (c .before .before .if3 .left) (c .before .scan2 .ensures) (c .if4 .left)
 
 pub edge-of-spec : {M : Type 1} → statement M
 edge-of-spec =
-    tie.close
-    (tie.spec
-    returns
-    returns-2
-    sub-s
-    sub-t
-    scan-requires
-    returns-3
-    scan-requires-2
-    returns-4
-    returns-5)
+    tie.close (tie.spec returns returns-2 (λ c. search needs) (λ c. search needs) (λ c κs. search needs) returns-3 (λ c κs. search needs)
+    returns-4 returns-5)

@@ -31,28 +31,17 @@ room : (c : tie.Else1 Inv-loop μ-loop) → c .before .before .before .loop .n +
 room c =
     let l = c .before .before .before in
     let a = l .before .args in
-    room-left (a .chosen .now) (l .loop .edges) (l .loop .n) (l .loop .e) (a .m) (l .loop .inv .2) (not-no _ (c .if1 .left)) (c .before .before .loop-test .taken) (l .before .pre .1)
+    room-left (a .chosen .now) (l .loop .edges) (l .loop .n) (l .loop .e) (a .m) (l .loop .inv .2) (not-no _ (c .if1 .left))
+    (c .before .before .loop-test .taken) (l .before .pre .1)
 
 loop-holds : tie.Need-loop-holds Inv-loop μ-loop
 loop-holds c = (zero-le, length-replicate {A = ℕ} planLimit 0, (refl, refl))
-
-element-copy-out-if1 : tie.Need-element-copy-out-if1 Inv-loop μ-loop
-element-copy-out-if1 c = search needs
-
-add-e : tie.Need-add-e Inv-loop μ-loop
-add-e c = search needs
-
-loop-less : tie.Need-loop-less Inv-loop μ-loop
-loop-less c = search needs
 
 loop-again : tie.Need-loop-again Inv-loop μ-loop
 loop-again c =
     let l = c .before .before .before in
     let a = l .before .args in
     (omega arith, l .loop .inv .1, kept-no (flag (a .chosen .now)) (l .loop .edges) (l .loop .n) (l .loop .e) (not-yes _ (c .if1 .taken)) (l .loop .inv .2))
-
-cast-edges : tie.Need-cast-edges Inv-loop μ-loop
-cast-edges c = search needs
 
 mul-edges : tie.Need-mul-edges Inv-loop μ-loop
 mul-edges c = omega (arith, room c)
@@ -63,17 +52,16 @@ array-write-edges c = omega (arith, room c)
 add-n : tie.Need-add-n Inv-loop μ-loop
 add-n c = omega (arith, room c)
 
-add-e-2 : tie.Need-add-e-2 Inv-loop μ-loop
-add-e-2 c = search needs
-
-loop-less-2 : tie.Need-loop-less-2 Inv-loop μ-loop
-loop-less-2 c = search needs
-
 loop-again-2 : tie.Need-loop-again-2 Inv-loop μ-loop
 loop-again-2 c =
     let l = c .before .before .before in
-    let a = l .before .args in
-    (omega arith, length-set (l .loop .edges) (l .loop .n) (l .loop .e) ∙ l .loop .inv .1, kept-yes (flag (a .chosen .now)) (l .loop .edges) (l .loop .n) (l .loop .e) (not-no _ (c .if1 .left)) (omega (arith, room c, l .loop .inv .1)) (l .loop .inv .2))
+    let a = l .before .args in (
+      omega arith,
+      length-set (l .loop .edges) (l .loop .n) (l .loop .e)
+          ∙ l .loop .inv .1,
+      kept-yes (flag (a .chosen .now)) (l .loop .edges) (l .loop .n) (l .loop .e) (not-no _ (c .if1 .left))
+          (omega (arith, room c, l .loop .inv .1)) (l .loop .inv .2),
+    )
 
 returns : tie.Need-returns Inv-loop μ-loop
 returns c =
@@ -84,20 +72,5 @@ returns c =
 
 pub list-edges-spec : {M : Type 1} → statement M
 list-edges-spec =
-    tie.close
-    (tie.spec
-    Inv-loop
-    μ-loop
-    loop-holds
-    element-copy-out-if1
-    add-e
-    loop-less
-    loop-again
-    cast-edges
-    mul-edges
-    array-write-edges
-    add-n
-    add-e-2
-    loop-less-2
-    loop-again-2
-    returns)
+    tie.close (tie.spec Inv-loop μ-loop loop-holds (λ c. search needs) (λ c. search needs) (λ c. search needs) loop-again
+    (λ c. search needs) mul-edges array-write-edges add-n (λ c. search needs) (λ c. search needs) loop-again-2 returns)

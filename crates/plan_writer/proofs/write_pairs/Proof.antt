@@ -33,15 +33,6 @@ room c =
 loop-holds : tie.Need-loop-holds Inv-loop μ-loop
 loop-holds c = let a = c .before .args in (zero-le, (refl, front-none (a .from) (a .out .now)), refl)
 
-element-copy-out-if1 : tie.Need-element-copy-out-if1 Inv-loop μ-loop
-element-copy-out-if1 c = omega arith
-
-add-e : tie.Need-add-e Inv-loop μ-loop
-add-e c = omega arith
-
-loop-less : tie.Need-loop-less Inv-loop μ-loop
-loop-less c = omega arith
-
 loop-again : tie.Need-loop-again Inv-loop μ-loop
 loop-again c =
     let l = c .before .before .before in
@@ -58,12 +49,6 @@ mul-put c = omega (arith, room (c .before))
 add-put : tie.Need-add-put Inv-loop μ-loop
 add-put c = omega (arith, room (c .before))
 
-element-copy-out-put : tie.Need-element-copy-out-put Inv-loop μ-loop
-element-copy-out-put c = omega arith
-
-element-copy-out-put-2 : tie.Need-element-copy-out-put-2 Inv-loop μ-loop
-element-copy-out-put-2 c = omega arith
-
 put-requires : tie.Need-put-requires Inv-loop μ-loop
 put-requires c κs =
     let l = c .before .before .before .before .before .before in
@@ -75,7 +60,9 @@ add-k : tie.Need-add-k Inv-loop μ-loop
 add-k c = omega (arith, room (c .before .before .before .before .before .before))
 
 add-e-2 : tie.Need-add-e-2 Inv-loop μ-loop
-add-e-2 c = let h = c .before .before .before .before .before .before .before .before .loop-test .taken in omega (arith, h, c .before .before .before .before .before .before .before .before .before .before .before .pre .0)
+add-e-2 c =
+    let h = c .before .before .before .before .before .before .before .before .loop-test .taken in
+    omega (arith, h, c .before .before .before .before .before .before .before .before .before .before .before .pre .0)
 
 loop-less-2 : tie.Need-loop-less-2 Inv-loop μ-loop
 loop-less-2 c = omega (arith, c .before .before .before .before .before .before .before .before .loop-test .taken)
@@ -87,8 +74,10 @@ loop-again-2 c =
     let w = c .before .before .put .ensures in (
       omega (arith, c .before .before .before .before .before .before .before .before .loop-test .taken),
       turn-one (a .sv .now) (a .st .now) (a .chosen .now) (a .from) (a .out .now) (l .loop .e) (l .loop .k) (l .loop .out) (l .loop .inv .1 .0)
-          (l .loop .inv .1 .1) (not-no _ (c .before .before .before .before .before .before .if1 .left)) (room (c .before .before .before .before .before .before)) w,
-      ap length w ∙ with-length (l .loop .out) (pairWidth * l .loop .k + a .from) (at (a .sv .now) (l .loop .e)) (at (a .st .now) (l .loop .e)) ∙ l .loop .inv .2,
+          (l .loop .inv .1 .1) (not-no _ (c .before .before .before .before .before .before .if1 .left))
+          (room (c .before .before .before .before .before .before)) w,
+      ap length w ∙ with-length (l .loop .out) (pairWidth * l .loop .k + a .from) (at (a .sv .now) (l .loop .e)) (at (a .st .now) (l .loop .e))
+          ∙ l .loop .inv .2,
     )
 
 same-length : tie.Need-same-length Inv-loop μ-loop
@@ -106,23 +95,5 @@ returns c =
 
 pub write-pairs-spec : {M : Type 1} → statement M
 write-pairs-spec =
-    tie.close
-    (tie.spec
-    Inv-loop
-    μ-loop
-    loop-holds
-    element-copy-out-if1
-    add-e
-    loop-less
-    loop-again
-    mul-put
-    add-put
-    element-copy-out-put
-    element-copy-out-put-2
-    put-requires
-    add-k
-    add-e-2
-    loop-less-2
-    loop-again-2
-    same-length
-    returns)
+    tie.close (tie.spec Inv-loop μ-loop loop-holds (λ c. omega arith) (λ c. omega arith) (λ c. omega arith) loop-again mul-put add-put
+    (λ c. omega arith) (λ c. omega arith) put-requires add-k add-e-2 loop-less-2 loop-again-2 same-length returns)

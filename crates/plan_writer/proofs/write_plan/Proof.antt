@@ -4,18 +4,6 @@ use borrow.Author.Needs.{needs}
 use Rattle.plan_writer.proofs.write_plan.Statement.{statement}
 use Rattle.plan_writer.proofs.write_plan.Tie as tie
 
-write-pairs-requires : tie.Need-write-pairs-requires
-write-pairs-requires c κs = search needs
-
-cast-out : tie.Need-cast-out
-cast-out c = search needs
-
-slice-write-out : tie.Need-slice-write-out
-slice-write-out c = search needs
-
-same-length : tie.Need-same-length
-same-length c = search needs
-
 returns : tie.Need-returns
 returns c =
     let w = c .before .before .write-pairs in
@@ -24,5 +12,4 @@ returns c =
     written (a .m) (a .sv .now) (a .st .now) (a .chosen .now) (a .out .now) (s .pre .4) (w .result) _ (w .ensures .0) (w .ensures .1)
 
 pub write-plan-spec : {M : Type 1} → statement M
-write-plan-spec =
-    tie.close (tie.spec write-pairs-requires cast-out slice-write-out same-length returns)
+write-plan-spec = tie.close (tie.spec (λ c κs. search needs) (λ c. search needs) (λ c. search needs) (λ c. search needs) returns)

@@ -14,18 +14,6 @@ use Rattle.program.proofs.worked.Tie as tie
 full : (c : tie.After-flat-records) → length (c .flat-records .result) ≡ 4096
 full c = search needs
 
-instance-of-requires : tie.Need-instance-of-requires
-instance-of-requires c κs = search needs
-
-slice-aggregate-find : tie.Need-slice-aggregate-find
-slice-aggregate-find c = search needs
-
-slice-aggregate-find-2 : tie.Need-slice-aggregate-find-2
-slice-aggregate-find-2 c = search needs
-
-slice-aggregate-find-3 : tie.Need-slice-aggregate-find-3
-slice-aggregate-find-3 c = search needs
-
 find-requires : tie.Need-find-requires
 find-requires c κs =
     let i = c .before .before .before .before .before in
@@ -45,18 +33,6 @@ flat-records-requires c κs =
     let f = c .before .before .before .before .before .before .find in
     found-readable file isB (s .pre) (g .result) (g .ensures) _ _ _ (f .result) _ _ _ (f .ensures)
 
-slice-aggregate-answer-text : tie.Need-slice-aggregate-answer-text
-slice-aggregate-answer-text c = search needs
-
-slice-aggregate-answer-text-2 : tie.Need-slice-aggregate-answer-text-2
-slice-aggregate-answer-text-2 c = search needs
-
-slice-aggregate-answer-text-3 : tie.Need-slice-aggregate-answer-text-3
-slice-aggregate-answer-text-3 c = search needs
-
-slice-aggregate-answer-text-4 : tie.Need-slice-aggregate-answer-text-4
-slice-aggregate-answer-text-4 c = search needs
-
 answer-text-requires : tie.Need-answer-text-requires
 answer-text-requires c κs =
     let i = c .before .before .before .before .before .before .before .before .before .before .before .before .before .before .before .before .before .before in
@@ -65,33 +41,29 @@ answer-text-requires c κs =
     let isB = bytes-of file (λ k. i .before .shared-slice-known .given k) in
     let g = i .instance-of in
     let f = c .before .before .before .before .before .before .before .before .before .before .before .before .find in
-    let h = found-handed file isB (s .pre) (g .result) (g .ensures) _ _ _ (f .result) _ _ _ _ (f .ensures) (c .before .before .before .before .before .flat-records .ensures) in
-    (can-print file isB (f .result .answer) _ _ _ _ h (omega (arith, full (c .before .before .before .before .before))) (search needs) (search needs) (search needs), search needs)
+    let h =
+    found-handed file isB (s .pre) (g .result) (g .ensures) _ _ _ (f .result) _ _ _ _ (f .ensures)
+    (c .before .before .before .before .before .flat-records .ensures) in (
+      can-print file isB (f .result .answer) _ _ _ _ h (omega (arith, full (c .before .before .before .before .before))) (search needs) (search needs)
+          (search needs),
+      search needs,
+    )
 
 returns : tie.Need-returns
 returns c =
-    let i = c .before .before .before .before .before .before .before .before .before .before .before .before .before .before .before .before .before .before .before in
+    let i =
+    c .before .before .before .before .before .before .before .before .before .before .before .before .before .before .before .before .before .before .before in
     let s = i .before .before in
     let file = s .args .roster .now in
     let isB = bytes-of file (λ k. i .before .shared-slice-known .given k) in
     let g = i .instance-of in
     let f = c .before .before .before .before .before .before .before .before .before .before .before .before .before .find in
-    let h = found-handed file isB (s .pre) (g .result) (g .ensures) _ _ _ (f .result) _ _ _ _ (f .ensures) (c .before .before .before .before .before .before .flat-records .ensures) in
+    let h =
+    found-handed file isB (s .pre) (g .result) (g .ensures) _ _ _ (f .result) _ _ _ _ (f .ensures)
+    (c .before .before .before .before .before .before .flat-records .ensures) in
     prints file isB (f .result .answer) _ _ _ _ h _ _ _ (search needs) (c .answer-text .ensures)
 
 pub worked-spec : {M : Type 1} → statement M
 worked-spec =
-    tie.close
-    (tie.spec
-    instance-of-requires
-    slice-aggregate-find
-    slice-aggregate-find-2
-    slice-aggregate-find-3
-    find-requires
-    flat-records-requires
-    slice-aggregate-answer-text
-    slice-aggregate-answer-text-2
-    slice-aggregate-answer-text-3
-    slice-aggregate-answer-text-4
-    answer-text-requires
-    returns)
+    tie.close (tie.spec (λ c κs. search needs) (λ c. search needs) (λ c. search needs) (λ c. search needs) find-requires
+    flat-records-requires (λ c. search needs) (λ c. search needs) (λ c. search needs) (λ c. search needs) answer-text-requires returns)

@@ -7,7 +7,7 @@ use native.Mathlib.Nat.{not-suc-le-zero}
 use lib.ListN.{length, length-set, length-replicate}
 use lib.Dec.{ltb}
 use Rattle.arrays.specs.ArrayInstance.{at, flag}
-use Rattle.reduction_counts.specs.Filled.{Made, made-next}
+use Rattle.arrays.specs.Filled.{Made, made-next}
 use Rattle.reduction_counts.proofs.arrows.Statement.{statement}
 use Rattle.reduction_counts.proofs.arrows.Tie as tie
 

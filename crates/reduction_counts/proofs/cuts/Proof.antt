@@ -5,7 +5,7 @@ use native.Mathlib.Omega.{arith}
 use native.Mathlib.Nat.{not-suc-le-zero}
 use lib.ListN.{length, length-set}
 use Rattle.arrays.specs.ArrayInstance.{at}
-use Rattle.reduction_counts.specs.Filled.{Made, made-next}
+use Rattle.arrays.specs.Filled.{Made, made-next}
 use Rattle.reduction_counts.proofs.cuts.Statement.{statement}
 use Rattle.reduction_counts.proofs.cuts.Tie as tie
 

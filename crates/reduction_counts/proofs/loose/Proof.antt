@@ -7,7 +7,7 @@ use native.Mathlib.Nat.{not-suc-le-zero}
 use lib.ListN.{length, length-set}
 use lib.Dec.{eqb, ltb}
 use Rattle.arrays.specs.ArrayInstance.{at}
-use Rattle.reduction_counts.specs.Filled.{Made, made-next}
+use Rattle.arrays.specs.Filled.{Made, made-next}
 use Rattle.reduction_counts.proofs.loose.Statement.{statement}
 use Rattle.reduction_counts.proofs.loose.Tie as tie
 

@@ -4,7 +4,8 @@ use Prim.Native.Nat.{ℕ, _-_, _≤_, _<_, zero-le}
 use native.Mathlib.Omega.{arith}
 use lib.ListN.{length, drop, replicate, length-set}
 use Rattle.arrays.specs.ArrayInstance.{at, flag}
-use Rattle.reduction_counts.specs.Filled.{blank, zeros, byte-one}
+use Rattle.arrays.specs.Tally.{zeros, byte-one}
+use Rattle.reduction_counts.specs.Filled.{blank}
 use Rattle.reduction_counts.specs.Mark.{marked}
 use Rattle.reduction_counts.proofs.RankPass.{marked-turn, marked-end, small-count, small-set}
 use Rattle.reduction_counts.proofs.mark.Statement.{statement}

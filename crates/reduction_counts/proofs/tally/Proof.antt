@@ -6,7 +6,8 @@ use native.Mathlib.Omega.{arith}
 use lib.ListN.{length, length-set}
 use lib.Dec.{eqb}
 use Rattle.arrays.specs.ArrayInstance.{at, flag}
-use Rattle.reduction_counts.specs.Filled.{zeros, byte-one, counted, seen, seen-next}
+use Rattle.arrays.specs.Tally.{zeros, byte-one}
+use Rattle.reduction_counts.specs.Filled.{counted, seen, seen-next}
 use Rattle.lists.specs.Sum.{count, count-≤}
 use Rattle.reduction_counts.proofs.tally.Statement.{statement}
 use Rattle.reduction_counts.proofs.tally.Tie as tie

@@ -7,7 +7,7 @@ use native.Mathlib.Nat.{not-suc-le-zero}
 use lib.ListN.{length, length-set, length-replicate}
 use lib.Dec.{leb}
 use Rattle.arrays.specs.ArrayInstance.{at, flag}
-use Rattle.reduction_counts.specs.Filled.{Made, made-next}
+use Rattle.arrays.specs.Filled.{Made, made-next}
 use Rattle.reduction_rules.proofs.named2.Statement.{statement}
 use Rattle.reduction_rules.proofs.named2.Tie as tie
 

@@ -7,20 +7,8 @@ use Rattle.reduction_run.specs.Given.{order-fits, knownOf}
 use Rattle.reduction_run.proofs.reduce.Statement.{statement}
 use Rattle.reduction_run.proofs.reduce.Tie as tie
 
-by-rank-requires : tie.Need-by-rank-requires
-by-rank-requires c κs = search needs
-
-by-rank-requires-2 : tie.Need-by-rank-requires-2
-by-rank-requires-2 c κs = search needs
-
-array-share-prefix-os : tie.Need-array-share-prefix-os
-array-share-prefix-os c = search needs
-
 slice-aggregate-run : tie.Need-slice-aggregate-run
 slice-aggregate-run c = let h : length (c .before .before .by-rank .result) ≡ 1025 = search needs in simp length-take (omega arith)
-
-array-share-prefix-ot : tie.Need-array-share-prefix-ot
-array-share-prefix-ot c = search needs
 
 slice-aggregate-run-2 : tie.Need-slice-aggregate-run-2
 slice-aggregate-run-2 c = let h : length (c .before .before .by-rank2 .result) ≡ 1025 = search needs in simp length-take (omega arith)
@@ -49,13 +37,5 @@ returns c =
 
 pub reduce-spec : {M : Type 1} → statement M
 reduce-spec =
-    tie.close
-    (tie.spec
-    by-rank-requires
-    by-rank-requires-2
-    array-share-prefix-os
-    slice-aggregate-run
-    array-share-prefix-ot
-    slice-aggregate-run-2
-    run-requires
-    returns)
+    tie.close (tie.spec (λ c κs. search needs) (λ c κs. search needs) (λ c. search needs) slice-aggregate-run (λ c. search needs)
+    slice-aggregate-run-2 run-requires returns)

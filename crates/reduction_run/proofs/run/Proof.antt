@@ -110,13 +110,16 @@ loop-again c =
       λ K.
           let S = l .inv .1 K in
           let t : Trace = record { edges = l .edges; rules = l .rules; steps = l .n } in
-          let y = h .step .ensures (a .qs .now) (a .qt .now) K (l .x .fixed) (S .kS) (S .kT) (record { atS = S .holds .atS .cut-is; atT = S .holds .atT .cut-is }) in
+          let y =
+          h .step .ensures (a .qs .now) (a .qt .now) K (l .x .fixed) (S .kS) (S .kT)
+          (record { atS = S .holds .atS .cut-is; atT = S .holds .atT .cut-is }) in
           let act = c .before .before .before .before .before .before .before .act in
           let stable = c .before .before .before .before .before .before .before .before .stable in
           let N = stands-next K (l .x) t S r e (y .0 .rule-is) (y .0 .edge-is) below test (l .inv .0) (act .result) (act .ensures) in
           c .before .strikes .ensures .1 (a .tied .now) (a .qs .now) (a .qt .now) (a .os .now) (a .ot .now) K (N .0)
           (λ g. subst (λ Y. GoesOnWith (instanceOf K) (h .step .result .hit) (h .step .result .fs) (h .step .result .ft) r Y e) (sym (N .1))
-          (after-stable K (h .step .result .hit) (h .step .result .fs) (h .step .result .ft) r (stateAt S) e (l .x) (S .holds) (y .0 .rule-is) (y .0 .edge-is) below
+          (after-stable K (h .step .result .hit) (h .step .result .fs) (h .step .result .ft) r (stateAt S) e (l .x) (S .holds) (y .0 .rule-is)
+          (y .0 .edge-is) below
           (y .1 .atS) (y .1 .atT) (λ s k kl h. y .0 .hits s k kl) (sym (stable .ensures) ∙ g))),
     )
 
@@ -135,21 +138,5 @@ returns c =
 
 pub run-spec : {M : Type 1} → statement M
 run-spec =
-    tie.close
-    (tie.spec
-    Inv-loop
-    μ-loop
-    start-requires
-    loop-holds
-    step-requires
-    stable-requires
-    cast-edges
-    mul-edges
-    array-write-edges
-    array-write-rules
-    act-requires
-    add-strikes
-    strikes-requires
-    loop-less
-    loop-again
-    returns)
+    tie.close (tie.spec Inv-loop μ-loop start-requires loop-holds step-requires stable-requires cast-edges mul-edges array-write-edges
+    array-write-rules act-requires add-strikes strikes-requires loop-less loop-again returns)

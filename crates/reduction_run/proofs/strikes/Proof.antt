@@ -78,7 +78,8 @@ act-requires c κs =
 add-n : tie.Need-add-n Inv-loop μ-loop
 add-n c =
     let s = c .before .before .before .before .before .before in
-    let b = both-below (s .args .m) (c .before .before .before .next .result) (c .before .before .before .before .before .loop .n) (c .before .before .if1 .left) in
+    let b =
+    both-below (s .args .m) (c .before .before .before .next .result) (c .before .before .before .before .before .loop .n) (c .before .before .if1 .left) in
     omega (arith, s .pre .0)
 
 loop-less : tie.Need-loop-less Inv-loop μ-loop
@@ -109,21 +110,5 @@ returns-2 c = let i = c .before .loop .inv in ((i .0, i .2), repeated _ _ _ (i .
 
 pub strikes-spec : {M : Type 1} → statement M
 strikes-spec =
-    tie.close
-    (tie.spec
-    Inv-loop
-    μ-loop
-    loop-holds
-    add-next
-    next-requires
-    returns
-    stable-requires
-    cast-edges
-    mul-edges
-    element-write-edges
-    element-write-rules
-    act-requires
-    add-n
-    loop-less
-    loop-again
-    returns-2)
+    tie.close (tie.spec Inv-loop μ-loop loop-holds add-next next-requires returns stable-requires cast-edges mul-edges element-write-edges
+    element-write-rules act-requires add-n loop-less loop-again returns-2)

@@ -19,15 +19,6 @@ abbrev μ-loop : tie.MeasureT-loop
 loop-holds : tie.Need-loop-holds Inv-loop μ-loop
 loop-holds c = (zero-le, length-replicate 1024 false, none-yet)
 
-array-write-o : tie.Need-array-write-o Inv-loop μ-loop
-array-write-o c = omega arith
-
-add-i : tie.Need-add-i Inv-loop μ-loop
-add-i c = omega arith
-
-loop-less : tie.Need-loop-less Inv-loop μ-loop
-loop-less c = omega arith
-
 loop-again : tie.Need-loop-again Inv-loop μ-loop
 loop-again c =
     let l = c .before in
@@ -40,6 +31,4 @@ returns c =
     λ d. l .loop .inv .2 d ∙ ap (ltb d) e
 
 pub all-spec : {M : Type 1} → statement M
-all-spec =
-    tie.close
-    (tie.spec Inv-loop μ-loop loop-holds array-write-o add-i loop-less loop-again returns)
+all-spec = tie.close (tie.spec Inv-loop μ-loop loop-holds (λ c. omega arith) (λ c. omega arith) (λ c. omega arith) loop-again returns)

@@ -7,7 +7,7 @@ use lib.ListN.{length, length-set}
 use lib.Dec.{eqb}
 use borrow.Author.Needs.{needs}
 use Rattle.arrays.specs.ArrayInstance.{at}
-use Rattle.rival_tables.specs.Filled.{Made, made-set}
+use Rattle.arrays.specs.Filled.{Made, made-set}
 use Rattle.rival_tables.specs.Cheapest.{offer}
 use Rattle.theory_votes.specs.Score.{rate}
 use Rattle.rival_arcs.proofs.joined.Statement.{statement}

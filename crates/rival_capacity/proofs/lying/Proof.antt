@@ -6,7 +6,7 @@ use native.Mathlib.Omega.{arith}
 use lib.Dec.{eqb}
 use borrow.Author.Needs.{needs}
 use Rattle.arrays.specs.ArrayInstance.{at}
-use Rattle.rival_tables.specs.Filled.{byte-bit, byte-one}
+use Rattle.arrays.specs.Tally.{byte-bit, byte-one}
 use Rattle.lists.specs.Sum.{count, count-≤}
 use Rattle.lists.specs.Test.{bit}
 use Rattle.rival_capacity.proofs.lying.Statement.{statement}

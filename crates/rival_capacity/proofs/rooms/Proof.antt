@@ -8,7 +8,7 @@ use lib.ListN.{length, length-set}
 use lib.Dec.{eqb, ltb}
 use borrow.Author.Needs.{needs}
 use Rattle.arrays.specs.ArrayInstance.{at}
-use Rattle.rival_tables.specs.Filled.{Made, made-set}
+use Rattle.arrays.specs.Filled.{Made, made-set}
 use Rattle.lists.specs.Sum.{count}
 use Rattle.rival_capacity.proofs.rooms.Statement.{statement}
 use Rattle.rival_capacity.proofs.rooms.Tie as tie

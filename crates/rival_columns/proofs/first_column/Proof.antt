@@ -5,7 +5,8 @@ use native.Mathlib.Omega.{arith}
 use native.Mathlib.Nat.{not-suc-le-zero}
 use lib.ListN.{length, length-set}
 use borrow.Author.Needs.{needs}
-use Rattle.rival_tables.specs.Filled.{cell, Made, made-next}
+use Rattle.arrays.specs.Filled.{Made, made-next}
+use Rattle.rival_tables.specs.Filled.{cell}
 use Rattle.rival_columns.proofs.first_column.Statement.{statement}
 use Rattle.rival_columns.proofs.first_column.Tie as tie
 

@@ -5,7 +5,8 @@ use native.Mathlib.Omega.{arith}
 use native.Mathlib.Nat.{not-suc-le-zero}
 use lib.ListN.{length, length-set}
 use borrow.Author.Needs.{needs}
-use Rattle.rival_tables.specs.Filled.{cell, Made, made-set}
+use Rattle.arrays.specs.Filled.{Made, made-set}
+use Rattle.rival_tables.specs.Filled.{cell}
 use Rattle.rival_columns.specs.Leads.{leadAt}
 use Rattle.rival_columns.proofs.next_column.Statement.{statement}
 use Rattle.rival_columns.proofs.next_column.Tie as tie

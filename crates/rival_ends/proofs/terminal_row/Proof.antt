@@ -6,7 +6,7 @@ use native.Mathlib.Nat.{not-suc-le-zero}
 use lib.ListN.{length, length-set}
 use borrow.Author.Needs.{needs}
 use Rattle.arrays.specs.ArrayInstance.{at}
-use Rattle.rival_tables.specs.Filled.{Made, made-set}
+use Rattle.arrays.specs.Filled.{Made, made-set}
 use Rattle.rival_ends.specs.Terminals.{terminalAt}
 use Rattle.rival_ends.proofs.terminal_row.Statement.{statement}
 use Rattle.rival_ends.proofs.terminal_row.Tie as tie

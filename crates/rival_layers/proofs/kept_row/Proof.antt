@@ -6,7 +6,7 @@ use native.Mathlib.Nat.{not-suc-le-zero}
 use lib.ListN.{length, length-set}
 use borrow.Author.Needs.{needs}
 use Rattle.arrays.specs.ArrayInstance.{at}
-use Rattle.rival_tables.specs.Filled.{Made, made-set}
+use Rattle.arrays.specs.Filled.{Made, made-set}
 use Rattle.rival_layers.specs.Layers.{keptPrice}
 use Rattle.rival_layers.proofs.kept_row.Statement.{statement}
 use Rattle.rival_layers.proofs.kept_row.Tie as tie

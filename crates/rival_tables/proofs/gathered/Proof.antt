@@ -6,7 +6,7 @@ use native.Mathlib.Nat.{not-suc-le-zero}
 use lib.ListN.{length, length-set}
 use borrow.Author.Needs.{needs}
 use Rattle.arrays.specs.ArrayInstance.{at}
-use Rattle.rival_tables.specs.Filled.{Made, made-next}
+use Rattle.arrays.specs.Filled.{Made, made-next}
 use Rattle.rival_tables.proofs.gathered.Statement.{statement}
 use Rattle.rival_tables.proofs.gathered.Tie as tie
 

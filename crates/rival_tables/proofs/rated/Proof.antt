@@ -3,7 +3,7 @@ use Prim.Native.Nat.{_-_}
 use native.Mathlib.Omega.{arith}
 use lib.Dec.{ltb, leb}
 use borrow.Author.Needs.{needs}
-use Rattle.rival_tables.specs.Filled.{byte-bit, byte-one}
+use Rattle.arrays.specs.Tally.{byte-bit, byte-one}
 use Rattle.rival_tables.proofs.rated.Statement.{statement}
 use Rattle.rival_tables.proofs.rated.Tie as tie
 

@@ -20,29 +20,15 @@ loop-holds c =
     let a = c .args in
     (zero-le, fill-none false 1024 (λ e. (flag (a .plan .now) e && not (flag (a .gone .now) e)) || flag (a .come .now) e))
 
-element-copy-out-o : tie.Need-element-copy-out-o Inv-loop μ-loop
-element-copy-out-o c = search needs
-
-element-copy-out-o-2 : tie.Need-element-copy-out-o-2 Inv-loop μ-loop
-element-copy-out-o-2 c = search needs
-
-element-copy-out-o-3 : tie.Need-element-copy-out-o-3 Inv-loop μ-loop
-element-copy-out-o-3 c = search needs
-
-array-write-o : tie.Need-array-write-o Inv-loop μ-loop
-array-write-o c = search needs
-
-add-e : tie.Need-add-e Inv-loop μ-loop
-add-e c = search needs
-
-loop-less : tie.Need-loop-less Inv-loop μ-loop
-loop-less c = search needs
-
 loop-again : tie.Need-loop-again Inv-loop μ-loop
 loop-again c =
     let l = c .before .before .before .before in
-    let a = l .before .args in
-    (omega arith, fill-next false 1024 (l .loop .o) (λ e. (flag (a .plan .now) e && not (flag (a .gone .now) e)) || flag (a .come .now) e) (l .loop .e) ((flag (a .plan .now) (l .loop .e) && not (flag (a .gone .now) (l .loop .e))) || flag (a .come .now) (l .loop .e)) refl (omega arith) (l .loop .inv .1))
+    let a = l .before .args in (
+      omega arith,
+      fill-next false 1024 (l .loop .o) (λ e. (flag (a .plan .now) e && not (flag (a .gone .now) e)) || flag (a .come .now) e) (l .loop .e)
+          ((flag (a .plan .now) (l .loop .e) && not (flag (a .gone .now) (l .loop .e))) || flag (a .come .now) (l .loop .e)) refl (omega arith)
+          (l .loop .inv .1),
+    )
 
 returns : tie.Need-returns Inv-loop μ-loop
 returns c =
@@ -53,16 +39,5 @@ returns c =
 
 pub exchanged-spec : {M : Type 1} → statement M
 exchanged-spec =
-    tie.close
-    (tie.spec
-    Inv-loop
-    μ-loop
-    loop-holds
-    element-copy-out-o
-    element-copy-out-o-2
-    element-copy-out-o-3
-    array-write-o
-    add-e
-    loop-less
-    loop-again
-    returns)
+    tie.close (tie.spec Inv-loop μ-loop loop-holds (λ c. search needs) (λ c. search needs) (λ c. search needs) (λ c. search needs)
+    (λ c. search needs) (λ c. search needs) loop-again returns)

@@ -19,14 +19,8 @@ some-level (found.Alone i) h = refl
 some-level (found.Closed l i) h = refl
 some-level (found.Open l i j) h = refl
 
-enum-told : tie.Need-enum-told
-enum-told c = search needs
-
-returns : tie.Need-returns
-returns c = search needs
-
 returns-2 : tie.Need-returns-2
 returns-2 c = some-level (c .before .args .found) (c .match .keys2)
 
 pub is-something-spec : {M : Type 1} → statement M
-is-something-spec = tie.close (tie.spec enum-told returns returns-2)
+is-something-spec = tie.close (tie.spec (λ c. search needs) (λ c. search needs) returns-2)

@@ -20,23 +20,29 @@ searched-requires c κs =
     let s = c .before .before in
     (s .pre .0, s .pre .1, s .pre .2, s .pre .3, c .before .arcs .ensures)
 
-is-something-requires : tie.Need-is-something-requires
-is-something-requires c κs = search needs
-
 swap-requires : tie.Need-swap-requires
 swap-requires c κs =
     let s = c .before .before .before .before .before in
     let a = s .args in
     let t = c .before .before .before .before .arcs in
     let h = c .before .before .searched in
-    let e : (i j : ℕ) → i < a .n → j < 64 → cell (t .result) i j ≡ arcCell (a .m) (a .sv .now) (a .st .now) (a .rs .now) (a .rt .now) (a .plan .now) (a .ps .now) (a .pt .now) (a .qs .now) (a .qt .now) i j = t .ensures in (
+    let e : (i j : ℕ) → i < a .n → j < 64
+    → cell (t .result) i j ≡ arcCell (a .m) (a .sv .now) (a .st .now) (a .rs .now) (a .rt .now) (a .plan .now) (a .ps .now) (a .pt .now)
+    (a .qs .now) (a .qt .now) i j =
+    t .ensures in (
       s .pre .0,
       s .pre .1,
       s .pre .2,
       s .pre .3,
       (λ i l. omega (arith, listed-low (a .m) (a .plan .now) (a .n) (a .es .now) (s .pre .4) i l, s .pre .0)),
-      (λ i j il jl. omega (arith, e i j il jl, arc-small (a .m) (a .sv .now) (a .st .now) (a .rs .now) (a .rt .now) (a .plan .now) (at (a .pt .now) i) (at (a .qt .now) i) (at (a .ps .now) j) (at (a .qs .now) j))),
-      searching-bounded (a .m) (a .sv .now) (a .st .now) (a .rs .now) (a .rt .now) (a .plan .now) (a .n) (a .ps .now) (a .pt .now) (a .qs .now) (a .qt .now) (a .fs .now) (a .ft .now) (t .result) (h .result .below) (h .result .found) (h .ensures),
+      (λ i j il jl. omega (
+        arith,
+        e i j il jl,
+        arc-small (a .m) (a .sv .now) (a .st .now) (a .rs .now) (a .rt .now) (a .plan .now) (at (a .pt .now) i) (at (a .qt .now) i)
+            (at (a .ps .now) j) (at (a .qs .now) j),
+      )),
+      searching-bounded (a .m) (a .sv .now) (a .st .now) (a .rs .now) (a .rt .now) (a .plan .now) (a .n) (a .ps .now) (a .pt .now) (a .qs .now)
+          (a .qt .now) (a .fs .now) (a .ft .now) (t .result) (h .result .below) (h .result .found) (h .ensures),
     )
 
 exchanged-requires : tie.Need-exchanged-requires
@@ -49,9 +55,13 @@ returns c =
     let h = c .before .before .before .before .before .before .before .before .searched in
     let w = c .before .before .before .before .before .swap in
     let t = c .before .before .before .before .before .before .before .is-something in
-    λ quotaS quotaT roomyS roomyT. found-shown (a .m) (a .sv .now) (a .st .now) (a .rs .now) (a .rt .now) quotaS quotaT (a .plan .now) (a .n) (a .es .now) (a .ps .now) (a .pt .now) (a .qs .now) (a .qt .now) (a .fs .now) (a .ft .now) (c .before .before .before .before .before .before .before .before .before .before .arcs .result) (h .result .below) (h .result .found)
-    (s .pre .1) (s .pre .2) (s .pre .3) (s .pre .4) (s .pre .5) roomyS roomyT (c .before .before .before .before .before .before .before .before .before .before .arcs .ensures) (h .ensures) (verdictFor (h .result .below) (t .result)) (w .result .gone) (w .result .come) (c .exchanged .result)
+    λ quotaS quotaT roomyS roomyT. found-shown (a .m) (a .sv .now) (a .st .now) (a .rs .now) (a .rt .now) quotaS quotaT (a .plan .now) (a .n)
+    (a .es .now) (a .ps .now) (a .pt .now) (a .qs .now) (a .qt .now) (a .fs .now) (a .ft .now)
+    (c .before .before .before .before .before .before .before .before .before .before .arcs .result) (h .result .below) (h .result .found)
+    (s .pre .1) (s .pre .2) (s .pre .3) (s .pre .4) (s .pre .5) roomyS roomyT
+    (c .before .before .before .before .before .before .before .before .before .before .arcs .ensures) (h .ensures)
+    (verdictFor (h .result .below) (t .result)) (w .result .gone) (w .result .come) (c .exchanged .result)
     (ap (verdictFor (h .result .below)) (t .ensures)) (w .ensures .0) (w .ensures .1) (c .exchanged .ensures)
 
 pub judged-on-spec : {M : Type 1} → statement M
-judged-on-spec = tie.close (tie.spec arcs-requires searched-requires is-something-requires swap-requires exchanged-requires returns)
+judged-on-spec = tie.close (tie.spec arcs-requires searched-requires (λ c κs. search needs) swap-requires exchanged-requires returns)

@@ -9,28 +9,17 @@ use Rattle.answers.specs.FileCases.{fileCase}
 use Rattle.roster.proofs.read_roster.Statement.{statement}
 use Rattle.roster.proofs.read_roster.Tie as tie
 
-roster-file-requires : tie.Need-roster-file-requires
-roster-file-requires c κs = search needs
-
-enum-told : tie.Need-enum-told
-enum-told c = search needs
-
-enum-known-s : tie.Need-enum-known-s
-enum-known-s c = search needs
-
-group-of-requires : tie.Need-group-of-requires
-group-of-requires c κs = search needs
-
 returns : tie.Need-returns
-returns c = let f = c .before .before .before .before .args .file .now in sym (closed-accepted f (readRoster f) fileCase (λ R. refl) (sym (c .enum-told .given .1) ∙ c .before .before .roster-file .ensures))
+returns c =
+    let f = c .before .before .before .before .args .file .now in
+    sym (closed-accepted f (readRoster f) fileCase (λ R. refl) (sym (c .enum-told .given .1) ∙ c .before .before .roster-file .ensures))
 
 returns-2 : tie.Need-returns-2
 returns-2 c =
     let f = c .before .before .before .before .before .before .args .file .now in
     let n = c .before .before .s .given .0 .0 in
-    ap (Refused n) (shows-case (c .group-of .result) (c .group-of .ensures)) ∙ sym (ap fileCase (closed-refused f (readRoster f) (sym (c .before .before .s .given .1) ∙ c .before .before .before .before .roster-file .ensures)))
+    ap (Refused n) (shows-case (c .group-of .result) (c .group-of .ensures))
+    ∙ sym (ap fileCase (closed-refused f (readRoster f) (sym (c .before .before .s .given .1) ∙ c .before .before .before .before .roster-file .ensures)))
 
 pub read-roster-spec : {M : Type 1} → statement M
-read-roster-spec =
-    tie.close
-    (tie.spec roster-file-requires enum-told enum-known-s group-of-requires returns returns-2)
+read-roster-spec = tie.close (tie.spec (λ c κs. search needs) (λ c. search needs) (λ c. search needs) (λ c κs. search needs) returns returns-2)

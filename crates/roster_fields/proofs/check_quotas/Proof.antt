@@ -1,4 +1,4 @@
--- `roster_checks::check_quotas` meets its contract: the quotas that are left, behind the sum of those passed, have the refusal of all. Assumes nothing.
+-- `roster_fields::check_quotas` meets its contract: the quotas that are left, behind the sum of those passed, have the refusal of all. Assumes nothing.
 use Prim.Native.Nat.{_+_, _-_, _≤_, zero-le}
 use native.Mathlib.Omega.{arith}
 use mathlib.Core.Path.{_≡_, refl, sym, _∙_}

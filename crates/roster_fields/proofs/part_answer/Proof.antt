@@ -1,4 +1,4 @@
--- `roster_checks::part_answer` meets its contract, by its two tests. Assumes nothing.
+-- `roster_fields::part_answer` meets its contract, by its two tests. Assumes nothing.
 use borrow.Author.Needs.{needs}
 use borrow.Author.Tests.{eq-eqb, ne-eqb, lt-ltb, le-ltb}
 use Rattle.roster_fields.proofs.part_answer.Statement.{statement}

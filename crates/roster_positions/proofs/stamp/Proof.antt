@@ -1,4 +1,4 @@
--- `positions::stamp` meets its contract: what is behind k is written. Assumes nothing.
+-- `roster_positions::stamp` meets its contract: what is behind k is written. Assumes nothing.
 use lib.ListN.{getD, set}
 use Rattle.roster_positions.specs.Tables.{column}
 use mathlib.Core.Path.{_≡_, sym, ap, _∙_}

@@ -1,4 +1,4 @@
--- `positions::stamp_rankings` meets its contract: the lists that are left take both tables to what all of them do. Assumes nothing.
+-- `roster_positions::stamp_rankings` meets its contract: the lists that are left take both tables to what all of them do. Assumes nothing.
 use mathlib.Core.Path.{_≡_, sym, ap, _∙_}
 use Prim.Native.Nat.{_+_, _-_, _*_, _≤_, zero-le}
 use native.Mathlib.Omega.{arith}

@@ -16,56 +16,50 @@ use borrow.Author.Needs.{needs}
 use Rattle.text_endings.proofs.put_rivalled.Statement.{statement}
 use Rattle.text_endings.proofs.put_rivalled.Tie as tie
 
-slice-aggregate-put-word : tie.Need-slice-aggregate-put-word
-slice-aggregate-put-word c = search needs
-
-put-word-requires : tie.Need-put-word-requires
-put-word-requires c κs = search needs
-
-put-vote-requires : tie.Need-put-vote-requires
-put-vote-requires c κs = search needs
-
-slice-aggregate-put-plan : tie.Need-slice-aggregate-put-plan
-slice-aggregate-put-plan c = search needs
-
 put-plan-requires : tie.Need-put-plan-requires
-put-plan-requires c κs = let s = c .before .before .before .before .before .before .before .before .before .before .before .before .before .before in omega (arith, s .pre, c .before .before .before .before .before .before .before .before .put-word .ensures .place, c .before .before .before .before .put-vote .ensures .place, vote-length (toZ w16 (ofZ w16 (s .args .vote))))
-
-slice-aggregate-put-plan-2 : tie.Need-slice-aggregate-put-plan-2
-slice-aggregate-put-plan-2 c = search needs
+put-plan-requires c κs =
+    let s = c .before .before .before .before .before .before .before .before .before .before .before .before .before .before in
+    omega (
+      arith,
+      s .pre,
+      c .before .before .before .before .before .before .before .before .put-word .ensures .place,
+      c .before .before .before .before .put-vote .ensures .place,
+      vote-length (toZ w16 (ofZ w16 (s .args .vote))),
+    )
 
 put-plan-requires-2 : tie.Need-put-plan-requires-2
 unfolding text
 put-plan-requires-2 c κs =
-    let s = c .before .before .before .before .before .before .before .before .before .before .before .before .before .before .before .before .before .before .before in
+    let s =
+    c .before .before .before .before .before .before .before .before .before .before .before .before .before .before .before .before .before .before .before in
     let a = s .args in
-    omega (arith, s .pre, c .before .before .before .before .before .before .before .before .before .before .before .before .before .put-word .ensures .place, c .before .before .before .before .before .before .before .before .before .put-vote .ensures .place, vote-length (toZ w16 (ofZ w16 (a .vote))), c .before .before .before .before .put-plan .ensures .place, plan-length (text "candidate ") (a .plan .now) (s .pre .0))
-
-same-length : tie.Need-same-length
-same-length c = search needs
+    omega (
+      arith,
+      s .pre,
+      c .before .before .before .before .before .before .before .before .before .before .before .before .before .put-word .ensures .place,
+      c .before .before .before .before .before .before .before .before .before .put-vote .ensures .place,
+      vote-length (toZ w16 (ofZ w16 (a .vote))),
+      c .before .before .before .before .put-plan .ensures .place,
+      plan-length (text "candidate ") (a .plan .now) (s .pre .0),
+    )
 
 returns : tie.Need-returns
 unfolding text
 returns c =
-    let s = c .before .before .before .before .before .before .before .before .before .before .before .before .before .before .before .before .before .before .before .before .before .before in
+    let s =
+    c .before .before .before .before .before .before .before .before .before .before .before .before .before .before .before .before .before .before .before .before .before .before in
     let a = s .args in
     let h : a .at ≤ length (a .out .now) = omega (arith, s .pre) in
     append-then (a .out .now) (a .at) h
     (append-then (a .out .now) (a .at) h
-    (append-then (a .out .now) (a .at) h (c .before .before .before .before .before .before .before .before .before .before .before .before .before .before .before .before .put-word .ensures) (append-as (ap (λ v. signed v ++ 10 ∷ []) (toZ-ofZ w16 (a .vote) (s .fits .vote))) (c .before .before .before .before .before .before .before .before .before .before .before .before .put-vote .ensures)))
+    (append-then (a .out .now) (a .at) h
+    (c .before .before .before .before .before .before .before .before .before .before .before .before .before .before .before .before .put-word .ensures)
+    (append-as (ap (λ v. signed v ++ 10 ∷ []) (toZ-ofZ w16 (a .vote) (s .fits .vote)))
+    (c .before .before .before .before .before .before .before .before .before .before .before .before .put-vote .ensures)))
     (c .before .before .before .before .before .before .before .put-plan .ensures))
     (c .before .before .put-plan2 .ensures)
 
 pub put-rivalled-spec : {M : Type 1} → statement M
 put-rivalled-spec =
-    tie.close
-    (tie.spec
-    slice-aggregate-put-word
-    put-word-requires
-    put-vote-requires
-    slice-aggregate-put-plan
-    put-plan-requires
-    slice-aggregate-put-plan-2
-    put-plan-requires-2
-    same-length
-    returns)
+    tie.close (tie.spec (λ c. search needs) (λ c κs. search needs) (λ c κs. search needs) (λ c. search needs) put-plan-requires
+    (λ c. search needs) put-plan-requires-2 (λ c. search needs) returns)

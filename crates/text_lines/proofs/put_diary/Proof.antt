@@ -18,53 +18,23 @@ abbrev μ-loop : tie.MeasureT-loop
 loop-holds : tie.Need-loop-holds Inv-loop μ-loop
 loop-holds c = let a = c .before .before .args in (omega arith, append-as (sym (texts-none (diaryAt (a .flat .now)))) (append-none (a .out .now) (a .at)), refl)
 
-mul-b : tie.Need-mul-b Inv-loop μ-loop
-mul-b c = omega arith
-
-shared-slice-read-put-record : tie.Need-shared-slice-read-put-record Inv-loop μ-loop
-shared-slice-read-put-record c = omega arith
-
-add-put-record : tie.Need-add-put-record Inv-loop μ-loop
-add-put-record c = omega arith
-
-shared-slice-read-put-record-2 : tie.Need-shared-slice-read-put-record-2 Inv-loop μ-loop
-shared-slice-read-put-record-2 c = omega arith
-
-add-put-record-2 : tie.Need-add-put-record-2 Inv-loop μ-loop
-add-put-record-2 c = omega arith
-
-shared-slice-read-put-record-3 : tie.Need-shared-slice-read-put-record-3 Inv-loop μ-loop
-shared-slice-read-put-record-3 c = omega arith
-
-add-put-record-3 : tie.Need-add-put-record-3 Inv-loop μ-loop
-add-put-record-3 c = omega arith
-
-shared-slice-read-put-record-4 : tie.Need-shared-slice-read-put-record-4 Inv-loop μ-loop
-shared-slice-read-put-record-4 c = omega arith
-
 put-record-requires : tie.Need-put-record-requires Inv-loop μ-loop
 put-record-requires c κs =
     let a = c .before .before .before .before .before .before .before .before .before .args in
     let l = c .before .before .before .before .before .before .loop in
     omega (arith, l .inv .1 .place, texts-length (diaryAt (a .flat .now)) diaryLineSize (λ j. diary-length (recordAt (a .flat .now) j)) (l .i))
 
-add-i : tie.Need-add-i Inv-loop μ-loop
-add-i c = omega arith
-
-loop-less : tie.Need-loop-less Inv-loop μ-loop
-loop-less c = omega arith
-
 loop-again : tie.Need-loop-again Inv-loop μ-loop
 loop-again c =
     let a = c .before .before .before .before .before .before .before .before .before .before .before .before .args in
     let l = c .before .before .before .before .before .before .before .before .before .loop in (
       omega arith,
-      append-as (texts-more (diaryAt (a .flat .now)) (l .i)) (append-then (a .out .now) (a .at) (omega (arith, c .before .before .before .before .before .before .before .before .before .before .before .before .pre)) (l .inv .1) (c .before .before .put-record .ensures)),
+      append-as (texts-more (diaryAt (a .flat .now)) (l .i))
+          (append-then (a .out .now) (a .at)
+          (omega (arith, c .before .before .before .before .before .before .before .before .before .before .before .before .pre)) (l .inv .1)
+          (c .before .before .put-record .ensures)),
       omega arith,
     )
-
-same-length : tie.Need-same-length Inv-loop μ-loop
-same-length c = omega arith
 
 returns : tie.Need-returns Inv-loop μ-loop
 returns c =
@@ -75,22 +45,6 @@ returns c =
 
 pub put-diary-spec : {M : Type 1} → statement M
 put-diary-spec =
-    tie.close
-    (tie.spec
-    Inv-loop
-    μ-loop
-    loop-holds
-    mul-b
-    shared-slice-read-put-record
-    add-put-record
-    shared-slice-read-put-record-2
-    add-put-record-2
-    shared-slice-read-put-record-3
-    add-put-record-3
-    shared-slice-read-put-record-4
-    put-record-requires
-    add-i
-    loop-less
-    loop-again
-    same-length
-    returns)
+    tie.close (tie.spec Inv-loop μ-loop loop-holds (λ c. omega arith) (λ c. omega arith) (λ c. omega arith) (λ c. omega arith)
+    (λ c. omega arith) (λ c. omega arith) (λ c. omega arith) (λ c. omega arith) put-record-requires (λ c. omega arith)
+    (λ c. omega arith) loop-again (λ c. omega arith) returns)

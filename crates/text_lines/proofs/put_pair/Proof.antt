@@ -8,19 +8,16 @@ use borrow.Author.Needs.{needs}
 use Rattle.text_lines.proofs.put_pair.Statement.{statement}
 use Rattle.text_lines.proofs.put_pair.Tie as tie
 
-put-field-requires : tie.Need-put-field-requires
-put-field-requires c κs = search needs
-
 put-field-requires-2 : tie.Need-put-field-requires-2
-put-field-requires-2 c κs = omega (arith, c .before .before .before .put-field .ensures .place, field-length (c .before .before .before .before .before .before .args .surveyor) 32)
-
-same-length : tie.Need-same-length
-same-length c = search needs
+put-field-requires-2 c κs =
+    omega (arith, c .before .before .before .put-field .ensures .place, field-length (c .before .before .before .before .before .before .args .surveyor) 32)
 
 returns : tie.Need-returns
 returns c =
     let a = c .before .before .before .before .before .before .before .before .before .args in
-    append-as (two-fields (number (a .surveyor)) (number (a .stand))) (append-then (a .out .now) (a .at) (omega arith) (c .before .before .before .before .before .before .put-field .ensures) (c .before .before .put-field2 .ensures))
+    append-as (two-fields (number (a .surveyor)) (number (a .stand)))
+    (append-then (a .out .now) (a .at) (omega arith) (c .before .before .before .before .before .before .put-field .ensures)
+    (c .before .before .put-field2 .ensures))
 
 pub put-pair-spec : {M : Type 1} → statement M
-put-pair-spec = tie.close (tie.spec put-field-requires put-field-requires-2 same-length returns)
+put-pair-spec = tie.close (tie.spec (λ c κs. search needs) put-field-requires-2 (λ c. search needs) returns)

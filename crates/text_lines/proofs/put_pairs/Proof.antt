@@ -21,12 +21,6 @@ abbrev μ-loop : tie.MeasureT-loop
 loop-holds : tie.Need-loop-holds Inv-loop μ-loop
 loop-holds c = let a = c .before .before .args in (omega arith, append-as (sym (texts-none (pairAt (a .pairs .now)))) (append-none (a .out .now) (a .at)), refl)
 
-mul-get : tie.Need-mul-get Inv-loop μ-loop
-mul-get c = omega arith
-
-get-requires : tie.Need-get-requires Inv-loop μ-loop
-get-requires c κs = omega arith
-
 put-pair-requires : tie.Need-put-pair-requires Inv-loop μ-loop
 put-pair-requires c κs =
     let a = c .before .before .before .before .before .before .args in
@@ -38,25 +32,18 @@ put-pair-requires c κs =
           (λ j. pair-length (pairFrom (a .pairs .now) (pairWidth * j) .surveyor) (pairFrom (a .pairs .now) (pairWidth * j) .stand)) (l .i),
     )
 
-add-i : tie.Need-add-i Inv-loop μ-loop
-add-i c = omega arith
-
-loop-less : tie.Need-loop-less Inv-loop μ-loop
-loop-less c = omega arith
-
 loop-again : tie.Need-loop-again Inv-loop μ-loop
 loop-again c =
     let s = c .before .before .before .before .before .before .before .before .before in
     let a = s .args in
     let l = c .before .before .before .before .before .before .loop in
-    let line = append-as (ap (λ (p : Pair). pairText (p .surveyor) (p .stand)) (c .before .before .before .before .get .ensures)) (c .before .before .put-pair .ensures) in (
+    let line =
+    append-as (ap (λ (p : Pair). pairText (p .surveyor) (p .stand)) (c .before .before .before .before .get .ensures))
+    (c .before .before .put-pair .ensures) in (
       omega arith,
       append-as (texts-more (pairAt (a .pairs .now)) (l .i)) (append-then (a .out .now) (a .at) (omega (arith, s .pre)) (l .inv .1) line),
       omega arith,
     )
-
-same-length : tie.Need-same-length Inv-loop μ-loop
-same-length c = omega arith
 
 returns : tie.Need-returns Inv-loop μ-loop
 returns c =
@@ -67,16 +54,5 @@ returns c =
 
 pub put-pairs-spec : {M : Type 1} → statement M
 put-pairs-spec =
-    tie.close
-    (tie.spec
-    Inv-loop
-    μ-loop
-    loop-holds
-    mul-get
-    get-requires
-    put-pair-requires
-    add-i
-    loop-less
-    loop-again
-    same-length
-    returns)
+    tie.close (tie.spec Inv-loop μ-loop loop-holds (λ c. omega arith) (λ c κs. omega arith) put-pair-requires (λ c. omega arith)
+    (λ c. omega arith) loop-again (λ c. omega arith) returns)

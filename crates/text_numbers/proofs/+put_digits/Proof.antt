@@ -1,4 +1,4 @@
--- `text::put_digits` meets its contract: it calls itself for the digits before the last, with one place fewer. Assumes nothing.
+-- `text_numbers::put_digits` meets its contract: it calls itself for the digits before the last, with one place fewer. Assumes nothing.
 use Prim.Native.Nat.{ℕ, _<_, _-_, _/_}
 use borrow.Author.Needs.{needs}
 use native.Mathlib.Omega.{arith}

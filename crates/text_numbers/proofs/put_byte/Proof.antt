@@ -1,4 +1,4 @@
--- `text::put_byte` meets its contract: one store. Assumes nothing.
+-- `text_numbers::put_byte` meets its contract: one store. Assumes nothing.
 use borrow.Author.Needs.{needs}
 use Rattle.text_numbers.specs.Appended.{append-one}
 use Rattle.text_numbers.proofs.put_byte.Statement.{statement}

@@ -1,4 +1,4 @@
--- `text::put_field` meets its contract: a number and one byte more. Assumes nothing.
+-- `text_numbers::put_field` meets its contract: a number and one byte more. Assumes nothing.
 use borrow.Author.Needs.{needs}
 use native.Mathlib.Omega.{arith}
 use Rattle.text_numbers.specs.Appended.{append-then}

@@ -1,4 +1,4 @@
--- `text::put_vote` meets its contract: the sign, then the number. Assumes nothing.
+-- `text_numbers::put_vote` meets its contract: the sign, then the number. Assumes nothing.
 use borrow.Author.Needs.{needs}
 use Prim.Native.Nat.{ℕ}
 use native.Mathlib.Omega.{arith}

@@ -1,4 +1,4 @@
--- `text::put_word` meets its contract: so far the word's first i bytes are copied. Assumes nothing.
+-- `text_numbers::put_word` meets its contract: so far the word's first i bytes are copied. Assumes nothing.
 use Prim.Native.Nat.{_+_, _-_, _≤_}
 use native.Mathlib.Omega.{arith}
 use native.Mathlib.Numerals.{add-one}

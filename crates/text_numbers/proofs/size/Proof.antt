@@ -1,4 +1,4 @@
--- `text::size` meets its contract: below zero, -1 less the vote is a number of 16 bits too. Assumes nothing.
+-- `text_numbers::size` meets its contract: below zero, -1 less the vote is a number of 16 bits too. Assumes nothing.
 use borrow.Author.Needs.{needs}
 use Rattle.text_numbers.proofs.SignedVotes.{below-fits, below-cast, below-add, below-size, above-cast}
 use Rattle.text_numbers.proofs.size.Statement.{statement}

@@ -15,14 +15,13 @@ write-plan-requires c κs =
 vote-between-requires : tie.Need-vote-between-requires
 vote-between-requires c κs = let s = c .before .before .before .before .before .before .before .before .before in (s .pre .0, s .pre .1, s .pre .2)
 
-same-length : tie.Need-same-length
-same-length c = search needs
-
 returns : tie.Need-returns
 returns c =
     let s = c .before .before .before .before .before .before .before .before .before .before in
     let a = s .args in
-    voted (a .g) (a .plan .now) (a .rival .now) (a .out .now) (toZ-ofZ w16 (c .vote-between .result) (sfits-of (c .vote-between .ok)) ∙ c .vote-between .ensures) (c .before .before .before .write-plan .ensures)
+    voted (a .g) (a .plan .now) (a .rival .now) (a .out .now)
+    (toZ-ofZ w16 (c .vote-between .result) (sfits-of (c .vote-between .ok)) ∙ c .vote-between .ensures)
+    (c .before .before .before .write-plan .ensures)
 
 pub voted-spec : {M : Type 1} → statement M
-voted-spec = tie.close (tie.spec write-plan-requires vote-between-requires same-length returns)
+voted-spec = tie.close (tie.spec write-plan-requires vote-between-requires (λ c. search needs) returns)

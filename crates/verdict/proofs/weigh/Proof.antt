@@ -27,7 +27,9 @@ voted-requires c κs =
     let a = s .args in
     let j = c .before .before .before .before .judge in
     let v = verdictFor (j .result .beaten) (j .result .rivalled) in
-    let k = made.beaten-there (a .g) (s .pre .0) (a .plan .now) (s .pre .1 .0) (s .pre .1 .1) v (j .result .rival) (j .ensures) (ap (λ (b : Bool). verdictFor b (j .result .rivalled)) (c .before .before .if1 .taken)) in (
+    let k =
+    made.beaten-there (a .g) (s .pre .0) (a .plan .now) (s .pre .1 .0) (s .pre .1 .1) v (j .result .rival) (j .ensures)
+    (ap (λ (b : Bool). verdictFor b (j .result .rivalled)) (c .before .before .if1 .taken)) in (
       s .pre .0,
       plan-within (a .g) (s .pre .0) (a .plan .now) (s .pre .1 .0) (s .pre .1 .1),
       made.rival-within (a .g) (s .pre .0) (a .plan .now) (s .pre .1 .0) (s .pre .1 .1) v (j .result .rival) (j .ensures) k,
@@ -35,12 +37,10 @@ voted-requires c κs =
       s .pre .3,
     )
 
-same-length : tie.Need-same-length
-same-length c = search needs
-
 returns : tie.Need-returns
 returns c =
-    let s = c .before .before .before .before .before .before .before .before .before .before .before .before .before .before .before .before .before .before .before .before .before in
+    let s =
+    c .before .before .before .before .before .before .before .before .before .before .before .before .before .before .before .before .before .before .before .before .before in
     let a = s .args in
     let j = c .before .before .before .before .before .before .before .judge in
     let v = verdictFor (j .result .beaten) (j .result .rivalled) in
@@ -51,11 +51,14 @@ returns c =
 
 voted-requires-2 : tie.Need-voted-requires-2
 voted-requires-2 c κs =
-    let s = c .before .before .before .before .before .before .before .before .before .before .before .before .before .before .before .before .before .before .before in
+    let s =
+    c .before .before .before .before .before .before .before .before .before .before .before .before .before .before .before .before .before .before .before in
     let a = s .args in
     let j = c .before .before .before .before .before .judge in
     let v = verdictFor (j .result .beaten) (j .result .rivalled) in
-    let k = made.popular-there (a .g) (s .pre .0) (a .plan .now) (s .pre .1 .0) (s .pre .1 .1) v (j .result .rival) (j .ensures) (ap₂ verdictFor (c .before .before .before .if1 .left) (c .before .before .if2 .taken)) in (
+    let k =
+    made.popular-there (a .g) (s .pre .0) (a .plan .now) (s .pre .1 .0) (s .pre .1 .1) v (j .result .rival) (j .ensures)
+    (ap₂ verdictFor (c .before .before .before .if1 .left) (c .before .before .if2 .taken)) in (
       s .pre .0,
       plan-within (a .g) (s .pre .0) (a .plan .now) (s .pre .1 .0) (s .pre .1 .1),
       made.rival-within (a .g) (s .pre .0) (a .plan .now) (s .pre .1 .0) (s .pre .1 .1) v (j .result .rival) (j .ensures) k,
@@ -63,12 +66,10 @@ voted-requires-2 c κs =
       s .pre .3,
     )
 
-same-length-2 : tie.Need-same-length-2
-same-length-2 c = search needs
-
 returns-2 : tie.Need-returns-2
 returns-2 c =
-    let s = c .before .before .before .before .before .before .before .before .before .before .before .before .before .before .before .before .before .before .before .before .before .before in
+    let s =
+    c .before .before .before .before .before .before .before .before .before .before .before .before .before .before .before .before .before .before .before .before .before .before in
     let a = s .args in
     let j = c .before .before .before .before .before .before .before .before .judge in
     let v = verdictFor (j .result .beaten) (j .result .rivalled) in
@@ -87,6 +88,4 @@ returns-3 c =
     (ap₂ verdictFor (c .before .if1 .left) (c .if2 .left))
 
 pub weigh-spec : {M : Type 1} → statement M
-weigh-spec =
-    tie.close
-    (tie.spec judge-requires voted-requires same-length returns voted-requires-2 same-length-2 returns-2 returns-3)
+weigh-spec = tie.close (tie.spec judge-requires voted-requires (λ c. search needs) returns voted-requires-2 (λ c. search needs) returns-2 returns-3)

@@ -11,14 +11,23 @@ list-edges-requires : tie.Need-list-edges-requires
 list-edges-requires c κs = let b = c .before .before .before .before in (b .pre .0 .edges, few-edges (b .args .g) (b .pre .0) (b .args .p .now) (b .pre .1))
 
 list-edges-requires-2 : tie.Need-list-edges-requires-2
-list-edges-requires-2 c κs = let b = c .before .before .before .before .before in (b .pre .0 .edges, few-edges (b .args .g) (b .pre .0) (b .args .q .now) (b .pre .2))
+list-edges-requires-2 c κs =
+    let b = c .before .before .before .before .before in (b .pre .0 .edges, few-edges (b .args .g) (b .pre .0) (b .args .q .now) (b .pre .2))
 
 plan-votes-requires : tie.Need-plan-votes-requires
 plan-votes-requires c κs =
     let b = c .before .before .before .before .before .before .before .before .before .before .before .before .before .before in
     let x = light (b .args .g) (b .pre .0) (b .args .p .now) (b .pre .1) in
-    let y = light (b .args .g) (b .pre .0) (b .args .q .now) (b .pre .2) in
-    (side-arrays (b .args .g) (b .pre .0), ((x .0, y .0, x .1, y .1), (c .before .before .before .before .before .before .before .before .before .list-edges .ensures, c .before .before .before .before .before .before .before .before .list-edges2 .ensures)))
+    let y = light (b .args .g) (b .pre .0) (b .args .q .now) (b .pre .2) in (
+      side-arrays (b .args .g) (b .pre .0),
+      (
+        (x .0, y .0, x .1, y .1),
+        (
+          c .before .before .before .before .before .before .before .before .before .list-edges .ensures,
+          c .before .before .before .before .before .before .before .before .list-edges2 .ensures,
+        ),
+      ),
+    )
 
 returns : tie.Need-returns
 returns c =

@@ -1,4 +1,4 @@
--- turns::least_sum answers the least sum of all: no turn tried has a lower one, and one of all turns reaches the least (rotation, Least).
+-- turns::least_sum answers the least sum of all: no turn tried has a lower one, and one of all turns reaches the least (theory_votes, Least).
 -- Assumes nothing.
 use Prim.Native.Nat.{ℕ, _-_, _≤_, _<_, zero-le}
 use native.Mathlib.Omega.{arith}

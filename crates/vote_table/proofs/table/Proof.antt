@@ -5,7 +5,6 @@ use Rattle.vote_table.proofs.table.Tie as tie
 use Rattle.vote_table.proofs.table.Reads as reads
 use Rattle.vote_table.proofs.table.Lts as lts
 
--- src/lib.rt:12:1
 returns : tie.Need-returns
 returns c a b ra rb = carried a b (ra .0) (ra .1) (rb .0) (rb .1)
 

@@ -5,14 +5,8 @@ use borrow.Author.Needs.{needs}
 use Rattle.abi.proofs.desks.crew_blocking.Statement.{statement}
 use Rattle.abi.proofs.desks.crew_blocking.Tie as tie
 
-blocking-requires : tie.Need-blocking-requires
-blocking-requires c κs = search needs
-
-blocked-numbers-requires : tie.Need-blocked-numbers-requires
-blocked-numbers-requires c κs = search needs
-
 returns : tie.Need-returns
 returns c = served blockerIn (c .before .before .blocking .ensures) (c .blocked-numbers .ensures)
 
 pub crew-blocking-spec : {M : Type 1} → statement M
-crew-blocking-spec = tie.close (tie.spec blocking-requires blocked-numbers-requires returns)
+crew-blocking-spec = tie.close (tie.spec (λ c κs. search needs) (λ c κs. search needs) returns)

@@ -5,14 +5,8 @@ use borrow.Author.Needs.{needs}
 use Rattle.abi.proofs.desks.crew_compare.Statement.{statement}
 use Rattle.abi.proofs.desks.crew_compare.Tie as tie
 
-compare-requires : tie.Need-compare-requires
-compare-requires c κs = search needs
-
-comparison-numbers-requires : tie.Need-comparison-numbers-requires
-comparison-numbers-requires c κs = search needs
-
 returns : tie.Need-returns
 returns c = served comparedIn (c .before .before .compare .ensures) (c .comparison-numbers .ensures)
 
 pub crew-compare-spec : {M : Type 1} → statement M
-crew-compare-spec = tie.close (tie.spec compare-requires comparison-numbers-requires returns)
+crew-compare-spec = tie.close (tie.spec (λ c κs. search needs) (λ c κs. search needs) returns)

@@ -5,14 +5,8 @@ use borrow.Author.Needs.{needs}
 use Rattle.abi.proofs.desks.crew_load_roster.Statement.{statement}
 use Rattle.abi.proofs.desks.crew_load_roster.Tie as tie
 
-load-roster-requires : tie.Need-load-roster-requires
-load-roster-requires c κs = search needs
-
-file-number-requires : tie.Need-file-number-requires
-file-number-requires c κs = search needs
-
 returns : tie.Need-returns
 returns c = served refusalIn (c .before .before .load-roster .ensures) (c .file-number .ensures)
 
 pub crew-load-roster-spec : {M : Type 1} → statement M
-crew-load-roster-spec = tie.close (tie.spec load-roster-requires file-number-requires returns)
+crew-load-roster-spec = tie.close (tie.spec (λ c κs. search needs) (λ c κs. search needs) returns)

@@ -5,17 +5,8 @@ use borrow.Author.Needs.{needs}
 use Rattle.abi.proofs.desks.crew_write_roster.Statement.{statement}
 use Rattle.abi.proofs.desks.crew_write_roster.Tie as tie
 
-write-roster-requires : tie.Need-write-roster-requires
-write-roster-requires c κs = search needs
-
-written-numbers-requires : tie.Need-written-numbers-requires
-written-numbers-requires c κs = search needs
-
-same-length : tie.Need-same-length
-same-length c = search needs
-
 returns : tie.Need-returns
 returns c = served outcomeIn (c .before .before .before .before .write-roster .ensures) (c .written-numbers .ensures)
 
 pub crew-write-roster-spec : {M : Type 1} → statement M
-crew-write-roster-spec = tie.close (tie.spec write-roster-requires written-numbers-requires same-length returns)
+crew-write-roster-spec = tie.close (tie.spec (λ c κs. search needs) (λ c κs. search needs) (λ c. search needs) returns)

@@ -9,9 +9,6 @@ use Rattle.abi.specs.declared.finds.DeskFound.{DeskFound}
 use Rattle.abi.proofs.finds.numbers_of.Statement.{statement}
 use Rattle.abi.proofs.finds.numbers_of.Tie as tie
 
-found-numbers-requires : tie.Need-found-numbers-requires
-found-numbers-requires c κs = search needs
-
 returns : tie.Need-returns
 unfolding numbersOf
 returns c =
@@ -21,4 +18,4 @@ returns c =
     (toZ-ofZ w16 (n .vote) (sfits-of (c .struct-told .given .1 .1 .0 .1))) ∙ ap (withDesk d) (c .before .found-numbers .ensures)
 
 pub numbers-of-spec : {M : Type 1} → statement M
-numbers-of-spec = tie.close (tie.spec found-numbers-requires returns)
+numbers-of-spec = tie.close (tie.spec (λ c κs. search needs) returns)

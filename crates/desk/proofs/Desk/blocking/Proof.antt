@@ -8,12 +8,6 @@ use borrow.Author.Needs.{needs}
 use Rattle.desk.proofs.Desk.blocking.Statement.{statement}
 use Rattle.desk.proofs.Desk.blocking.Tie as tie
 
-loaded-requires : tie.Need-loaded-requires
-loaded-requires c κs = search needs
-
-group-of-requires : tie.Need-group-of-requires
-group-of-requires c κs = search needs
-
 returns : tie.Need-returns
 returns c =
     let d = c .before .before .before .args in
@@ -24,14 +18,9 @@ blocking-requires : tie.Need-blocking-requires
 blocking-requires c κs = arrays-are (c .before .before .before .before .args .self) (c .before .before .before .loaded .ensures) (c .before .before .if1 .left)
 
 returns-2 : tie.Need-returns-2
-returns-2 c = blocking-reply (c .before .before .before .before .before .args .self) (c .before .before .before .before .loaded .ensures) (c .before .before .before .if1 .left) refl (c .blocking .ensures)
+returns-2 c =
+    blocking-reply (c .before .before .before .before .before .args .self) (c .before .before .before .before .loaded .ensures)
+    (c .before .before .before .if1 .left) refl (c .blocking .ensures)
 
 pub blocking-spec : {M : Type 1} → statement M
-blocking-spec =
-    tie.close
-    (tie.spec
-    loaded-requires
-    group-of-requires
-    returns
-    blocking-requires
-    returns-2)
+blocking-spec = tie.close (tie.spec (λ c κs. search needs) (λ c κs. search needs) returns blocking-requires returns-2)

@@ -9,12 +9,6 @@ use borrow.Author.Needs.{needs}
 use Rattle.desk.proofs.Desk.compare.Statement.{statement}
 use Rattle.desk.proofs.Desk.compare.Tie as tie
 
-loaded-requires : tie.Need-loaded-requires
-loaded-requires c κs = search needs
-
-group-of-requires : tie.Need-group-of-requires
-group-of-requires c κs = search needs
-
 returns : tie.Need-returns
 returns c =
     let d = c .before .before .before .before .before .args in
@@ -26,14 +20,9 @@ compare-requires : tie.Need-compare-requires
 compare-requires c κs = arrays-are (c .before .before .before .before .args .self) (c .before .loaded .ensures) (c .if1 .left)
 
 returns-2 : tie.Need-returns-2
-returns-2 c = let d = c .before .before .before .before .before .args in compare-reply (d .self) (c .before .before .loaded .ensures) (d .first .now) (d .second .now) (c .before .if1 .left) (c .compare .ensures)
+returns-2 c =
+    let d = c .before .before .before .before .before .args in
+    compare-reply (d .self) (c .before .before .loaded .ensures) (d .first .now) (d .second .now) (c .before .if1 .left) (c .compare .ensures)
 
 pub compare-spec : {M : Type 1} → statement M
-compare-spec =
-    tie.close
-    (tie.spec
-    loaded-requires
-    group-of-requires
-    returns
-    compare-requires
-    returns-2)
+compare-spec = tie.close (tie.spec (λ c κs. search needs) (λ c κs. search needs) returns compare-requires returns-2)

@@ -9,17 +9,12 @@ use borrow.Author.Needs.{needs}
 use Rattle.desk.proofs.Desk.judge.Statement.{statement}
 use Rattle.desk.proofs.Desk.judge.Tie as tie
 
-loaded-requires : tie.Need-loaded-requires
-loaded-requires c κs = search needs
-
-group-of-requires : tie.Need-group-of-requires
-group-of-requires c κs = search needs
-
 returns : tie.Need-returns
 returns c =
     let d = c .before .before .before .before .args in
     let l = c .before .before .loaded in
-    by-state (d .self) (judge (d .rival .now)) tt (state-is (d .self) (l .ensures)) (c .before .if1 .taken) (ap (refused (l .result .refusal)) (c .group-of .ensures))
+    by-state (d .self) (judge (d .rival .now)) tt (state-is (d .self) (l .ensures)) (c .before .if1 .taken)
+    (ap (refused (l .result .refusal)) (c .group-of .ensures))
 
 weigh-requires : tie.Need-weigh-requires
 weigh-requires c κs =
@@ -28,19 +23,11 @@ weigh-requires c κs =
     let z = c .before .before .before .before .before .if1 .left in
     (arrays-are (d .self) F z, plan-shown (d .self) F z, plan-listed (d .self) F z, long-enough (d .rival .now) planSize F z)
 
-same-length : tie.Need-same-length
-same-length c = search needs
-
 returns-2 : tie.Need-returns-2
-returns-2 c = let d = c .before .before .before .before .before .before .before .before .before .before .before .args in judge-reply (d .self) (c .before .before .before .before .before .before .before .before .before .loaded .ensures) (c .before .before .before .before .before .before .before .before .if1 .left) (d .rival .now) refl (c .before .before .weigh .ensures)
+returns-2 c =
+    let d = c .before .before .before .before .before .before .before .before .before .before .before .args in
+    judge-reply (d .self) (c .before .before .before .before .before .before .before .before .before .loaded .ensures)
+    (c .before .before .before .before .before .before .before .before .if1 .left) (d .rival .now) refl (c .before .before .weigh .ensures)
 
 pub judge-spec : {M : Type 1} → statement M
-judge-spec =
-    tie.close
-    (tie.spec
-    loaded-requires
-    group-of-requires
-    returns
-    weigh-requires
-    same-length
-    returns-2)
+judge-spec = tie.close (tie.spec (λ c κs. search needs) (λ c κs. search needs) returns weigh-requires (λ c. search needs) returns-2)

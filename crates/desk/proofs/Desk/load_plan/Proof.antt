@@ -12,52 +12,37 @@ use borrow.Author.Needs.{needs}
 use Rattle.desk.proofs.Desk.load_plan.Statement.{statement}
 use Rattle.desk.proofs.Desk.load_plan.Tie as tie
 
-loaded-requires : tie.Need-loaded-requires
-loaded-requires c κs = search needs
-
-group-of-requires : tie.Need-group-of-requires
-group-of-requires c κs = search needs
-
 returns : tie.Need-returns
 returns c =
     let d = c .before .before .before .before .args in
     let l = c .before .before .loaded in
-    by-state (d .self) (loadPlan (d .file .now)) tt (state-is (d .self) (l .ensures)) (c .before .if1 .taken) (ap (refused (l .result .refusal)) (c .group-of .ensures))
+    by-state (d .self) (loadPlan (d .file .now)) tt (state-is (d .self) (l .ensures)) (c .before .if1 .taken)
+    (ap (refused (l .result .refusal)) (c .group-of .ensures))
 
 read-plan-requires : tie.Need-read-plan-requires
 read-plan-requires c κs = arrays-are (c .before .before .before .args .self) (c .before .loaded .ensures) (c .if1 .left)
-
-enum-known-a : tie.Need-enum-known-a
-enum-known-a c = search needs
-
-enum-told : tie.Need-enum-told
-enum-told c = search needs
 
 with-plan-requires : tie.Need-with-plan-requires
 with-plan-requires c κs =
     let d = c .before .before .before .before .before .before .args in
     let isB : T (isBytes (d .file .now)) = bytes-of (d .file .now) (λ i. c .before .before .before .before .before .shared-slice-known .given i) in
-    plan-small (d .self) (d .file .now) (c .before .before .before .before .loaded .ensures) (c .before .before .before .if1 .left) (sym (c .enum-told .given .1) ∙ c .before .before .read-plan .ensures) isB
+    plan-small (d .self) (d .file .now) (c .before .before .before .before .loaded .ensures) (c .before .before .before .if1 .left)
+    (sym (c .enum-told .given .1) ∙ c .before .before .read-plan .ensures) isB
 
 returns-2 : tie.Need-returns-2
-returns-2 c = let d = c .before .before .before .before .before .before .before .args in plan-refused (d .self) (d .file .now) (c .before .before .before .before .before .loaded .ensures) (c .before .before .before .before .if1 .left) (sym (c .before .a .given .1) ∙ c .before .before .before .read-plan .ensures)
+returns-2 c =
+    let d = c .before .before .before .before .before .before .before .args in
+    plan-refused (d .self) (d .file .now) (c .before .before .before .before .before .loaded .ensures) (c .before .before .before .before .if1 .left)
+    (sym (c .before .a .given .1) ∙ c .before .before .before .read-plan .ensures)
 
 returns-3 : tie.Need-returns-3
 returns-3 c =
     let d = c .before .before .before .before .before .before .before .args in
-    plan-loaded (d .self) (d .file .now) (c .before .before .before .before .before .loaded .ensures) (c .before .before .before .before .if1 .left) (sym (c .before .enum-told .given .1) ∙ c .before .before .before .read-plan .ensures)
+    plan-loaded (d .self) (d .file .now) (c .before .before .before .before .before .loaded .ensures) (c .before .before .before .before .if1 .left)
+    (sym (c .before .enum-told .given .1) ∙ c .before .before .before .read-plan .ensures)
     (c .with-plan .result) (c .with-plan .ensures)
 
 pub load-plan-spec : {M : Type 1} → statement M
 load-plan-spec =
-    tie.close
-    (tie.spec
-    loaded-requires
-    group-of-requires
-    returns
-    read-plan-requires
-    enum-known-a
-    enum-told
-    with-plan-requires
-    returns-2
-    returns-3)
+    tie.close (tie.spec (λ c κs. search needs) (λ c κs. search needs) returns read-plan-requires (λ c. search needs) (λ c. search needs)
+    with-plan-requires returns-2 returns-3)

@@ -8,15 +8,6 @@ use borrow.Author.Needs.{needs}
 use Rattle.desk.proofs.Desk.load_roster.Statement.{statement}
 use Rattle.desk.proofs.Desk.load_roster.Tie as tie
 
-read-roster-requires : tie.Need-read-roster-requires
-read-roster-requires c κs = search needs
-
-enum-known-a : tie.Need-enum-known-a
-enum-known-a c = search needs
-
-enum-told : tie.Need-enum-told
-enum-told c = search needs
-
 with-roster-requires : tie.Need-with-roster-requires
 with-roster-requires c κs =
     let k = c .before .before .before in
@@ -32,9 +23,8 @@ returns c =
 returns-2 : tie.Need-returns-2
 returns-2 c =
     let a = c .before .before .before .before .before .args in
-    roster-loaded (a .self) (a .file .now) (sym (c .before .enum-told .given .1) ∙ c .before .before .before .read-roster .ensures) (c .with-roster .result) (c .with-roster .ensures .0) (c .with-roster .ensures .1)
+    roster-loaded (a .self) (a .file .now) (sym (c .before .enum-told .given .1) ∙ c .before .before .before .read-roster .ensures)
+    (c .with-roster .result) (c .with-roster .ensures .0) (c .with-roster .ensures .1)
 
 pub load-roster-spec : {M : Type 1} → statement M
-load-roster-spec =
-    tie.close
-    (tie.spec read-roster-requires enum-known-a enum-told with-roster-requires returns returns-2)
+load-roster-spec = tie.close (tie.spec (λ c κs. search needs) (λ c. search needs) (λ c. search needs) with-roster-requires returns returns-2)

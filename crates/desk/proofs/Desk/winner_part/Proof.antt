@@ -7,12 +7,6 @@ use borrow.Author.Needs.{needs}
 use Rattle.desk.proofs.Desk.winner_part.Statement.{statement}
 use Rattle.desk.proofs.Desk.winner_part.Tie as tie
 
-loaded-requires : tie.Need-loaded-requires
-loaded-requires c κs = search needs
-
-slice-aggregate-result : tie.Need-slice-aggregate-result
-slice-aggregate-result c = search needs
-
 returns : tie.Need-returns
 returns c =
     let d = c .before .before .before .before .before .before .args in
@@ -27,14 +21,8 @@ returns-2 : tie.Need-returns-2
 returns-2 c =
     let d = c .before .before .before .before .before .before .args in
     c .winner-part .ensures
-    ∙ ap (placed (d .first) (d .second)) (part-reply (d .self) (c .before .before .before .loaded .ensures) (d .first .now) (d .second .now) (c .before .if1 .left))
+    ∙ ap (placed (d .first) (d .second))
+    (part-reply (d .self) (c .before .before .before .loaded .ensures) (d .first .now) (d .second .now) (c .before .if1 .left))
 
 pub winner-part-spec : {M : Type 1} → statement M
-winner-part-spec =
-    tie.close
-    (tie.spec
-    loaded-requires
-    slice-aggregate-result
-    returns
-    winner-part-requires
-    returns-2)
+winner-part-spec = tie.close (tie.spec (λ c κs. search needs) (λ c. search needs) returns winner-part-requires returns-2)

@@ -8,42 +8,28 @@ use Rattle.desk.specs.Outcomes.{short-first, short-second, none-short, l
 use Rattle.desk.proofs.finding.found.Statement.{statement}
 use Rattle.desk.proofs.finding.found.Tie as tie
 
-read-roster-requires : tie.Need-read-roster-requires
-read-roster-requires c κs = search needs
-
-enum-told : tie.Need-enum-told
-enum-told c = search needs
-
-refused-requires : tie.Need-refused-requires
-refused-requires c κs = search needs
-
-enum-told-2 : tie.Need-enum-told-2
-enum-told-2 c = search needs
-
-refused-requires-2 : tie.Need-refused-requires-2
-refused-requires-2 c κs = search needs
-
 returns : tie.Need-returns
 returns c =
     let a = c .before .before .before .before .before .before .before .before .before .args in
     out-15 (a .roster .now) (a .room) (a .left .now) (a .plan .now) (a .rival .now) (c .refused2 .result)
     (case-accepted _ (sym (c .before .before .enum-told2 .given .1) ∙ c .before .before .before .before .read-roster .ensures))
-    (short-first (ltb (a .room) 1024) (ltb (length (a .left .now)) 2048) (ltb (length (a .plan .now)) 129) (ltb (length (a .rival .now)) 129) (c .before .if1 .taken)) (c .refused2 .ensures)
-
-refused-requires-3 : tie.Need-refused-requires-3
-refused-requires-3 c κs = search needs
+    (short-first (ltb (a .room) 1024) (ltb (length (a .left .now)) 2048) (ltb (length (a .plan .now)) 129) (ltb (length (a .rival .now)) 129)
+    (c .before .if1 .taken)) (c .refused2 .ensures)
 
 returns-2 : tie.Need-returns-2
 returns-2 c =
     let a = c .before .before .before .before .before .before .before .before .before .before .args in
     out-15 (a .roster .now) (a .room) (a .left .now) (a .plan .now) (a .rival .now) (c .refused3 .result)
     (case-accepted _ (sym (c .before .before .before .enum-told2 .given .1) ∙ c .before .before .before .before .before .read-roster .ensures))
-    (short-second (ltb (a .room) 1024) (ltb (length (a .left .now)) 2048) (ltb (length (a .plan .now)) 129) (ltb (length (a .rival .now)) 129) (c .before .before .if1 .left) (c .before .if2 .taken)) (c .refused3 .ensures)
+    (short-second (ltb (a .room) 1024) (ltb (length (a .left .now)) 2048) (ltb (length (a .plan .now)) 129) (ltb (length (a .rival .now)) 129)
+    (c .before .before .if1 .left) (c .before .if2 .taken)) (c .refused3 .ensures)
 
 worked-requires : tie.Need-worked-requires
 worked-requires c κs =
     let a = c .before .before .before .before .before .before .before .before .before .before .before .before .args in (
-      case-accepted _ (sym (c .before .before .before .before .before .enum-told2 .given .1) ∙ c .before .before .before .before .before .before .before .read-roster .ensures),
+      case-accepted _
+          (sym (c .before .before .before .before .before .enum-told2 .given .1)
+          ∙ c .before .before .before .before .before .before .before .read-roster .ensures),
       long-enough (ltb (a .room) 1024) (length (a .left .now)) 2048 (c .before .before .before .before .if1 .left),
       long-first (length (a .plan .now)) 129 (ltb (length (a .rival .now)) 129) (c .before .before .before .if2 .left),
       long-enough (ltb (length (a .plan .now)) 129) (length (a .rival .now)) 129 (c .before .before .before .if2 .left),
@@ -55,37 +41,19 @@ returns-3 c =
     out-13 (a .roster .now) (a .room) (a .left .now) (a .plan .now) (a .rival .now) (c .refused .result)
     (sym (c .before .enum-told .given .1) ∙ c .before .before .before .read-roster .ensures) (c .refused .ensures)
 
-same-length : tie.Need-same-length
-same-length c = search needs
-
-same-length-2 : tie.Need-same-length-2
-same-length-2 c = search needs
-
-same-length-3 : tie.Need-same-length-3
-same-length-3 c = search needs
-
 returns-4 : tie.Need-returns-4
 returns-4 c =
-    let a = c .before .before .before .before .before .before .before .before .before .before .before .before .before .before .before .before .before .before .before .args in
+    let a =
+    c .before .before .before .before .before .before .before .before .before .before .before .before .before .before .before .before .before .before .before .args in
     out-found (a .roster .now) (a .room) (a .left .now) (a .plan .now) (a .rival .now) (c .before .before .before .before .before .before .worked .result) _ _ _
-    (case-accepted _ (sym (c .before .before .before .before .before .before .before .before .before .before .before .before .enum-told2 .given .1) ∙ c .before .before .before .before .before .before .before .before .before .before .before .before .before .before .read-roster .ensures))
-    (none-short (ltb (a .room) 1024) (ltb (length (a .left .now)) 2048) (ltb (length (a .plan .now)) 129) (ltb (length (a .rival .now)) 129) (c .before .before .before .before .before .before .before .before .before .before .before .if1 .left) (c .before .before .before .before .before .before .before .before .before .before .if2 .left)) (c .before .before .before .before .before .before .worked .ensures)
+    (case-accepted _
+    (sym (c .before .before .before .before .before .before .before .before .before .before .before .before .enum-told2 .given .1)
+    ∙ c .before .before .before .before .before .before .before .before .before .before .before .before .before .before .read-roster .ensures))
+    (none-short (ltb (a .room) 1024) (ltb (length (a .left .now)) 2048) (ltb (length (a .plan .now)) 129) (ltb (length (a .rival .now)) 129)
+    (c .before .before .before .before .before .before .before .before .before .before .before .if1 .left)
+    (c .before .before .before .before .before .before .before .before .before .before .if2 .left)) (c .before .before .before .before .before .before .worked .ensures)
 
 pub found-spec : {M : Type 1} → statement M
 found-spec =
-    tie.close
-    (tie.spec
-    read-roster-requires
-    enum-told
-    refused-requires
-    enum-told-2
-    refused-requires-2
-    returns
-    refused-requires-3
-    returns-2
-    worked-requires
-    returns-3
-    same-length
-    same-length-2
-    same-length-3
-    returns-4)
+    tie.close (tie.spec (λ c κs. search needs) (λ c. search needs) (λ c κs. search needs) (λ c. search needs) (λ c κs. search needs) returns
+    (λ c κs. search needs) returns-2 worked-requires returns-3 (λ c. search needs) (λ c. search needs) (λ c. search needs) returns-4)

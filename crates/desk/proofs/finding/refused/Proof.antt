@@ -6,11 +6,8 @@ use Rattle.answers.specs.declared.Found.the-variants as says
 use Rattle.desk.proofs.finding.refused.Statement.{statement}
 use Rattle.desk.proofs.finding.refused.Tie as tie
 
-group-of-requires : tie.Need-group-of-requires
-group-of-requires c κs = search needs
-
 returns : tie.Need-returns
 returns c = record { answer = ap (says.Refused (c .before .args .number)) (shows-case (c .group-of .result) (c .group-of .ensures)); steps = refl }
 
 pub refused-spec : {M : Type 1} → statement M
-refused-spec = tie.close (tie.spec group-of-requires returns)
+refused-spec = tie.close (tie.spec (λ c κs. search needs) returns)

@@ -6,9 +6,6 @@ use Rattle.desk.specs.Outcomes.{can-read, works}
 use Rattle.desk.proofs.finding.worked.Statement.{statement}
 use Rattle.desk.proofs.finding.worked.Tie as tie
 
-instance-of-requires : tie.Need-instance-of-requires
-instance-of-requires c κs = search needs
-
 find-requires : tie.Need-find-requires
 find-requires c κs =
     let i = c .before .before .before .before .before in
@@ -28,15 +25,6 @@ flat-records-requires c κs =
     let f = c .before .before .before .before .before .before .before .before .before .find in
     can-read file isB (g .result) (g .ensures) _ _ _ (f .result) _ _ _ (f .ensures)
 
-same-length : tie.Need-same-length
-same-length c = search needs
-
-same-length-2 : tie.Need-same-length-2
-same-length-2 c = search needs
-
-same-length-3 : tie.Need-same-length-3
-same-length-3 c = search needs
-
 returns : tie.Need-returns
 returns c =
     let i = c .before .before .before .before .before .before .before .before .before .before .before .before .before .before .before .before in
@@ -49,12 +37,5 @@ returns c =
 
 pub worked-spec : {M : Type 1} → statement M
 worked-spec =
-    tie.close
-    (tie.spec
-    instance-of-requires
-    find-requires
-    flat-records-requires
-    same-length
-    same-length-2
-    same-length-3
-    returns)
+    tie.close (tie.spec (λ c κs. search needs) find-requires flat-records-requires (λ c. search needs) (λ c. search needs)
+    (λ c. search needs) returns)

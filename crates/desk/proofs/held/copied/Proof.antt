@@ -7,25 +7,15 @@ use borrow.Author.Needs.{needs}
 use Rattle.desk.proofs.held.copied.Statement.{statement}
 use Rattle.desk.proofs.held.copied.Tie as tie
 
-front-requires : tie.Need-front-requires
-front-requires c κs = search needs
-
 copy-requires : tie.Need-copy-requires
 copy-requires c κs =
     let s = c .before .before .before .before in
     omega (arith, ap length (c .before .front .ensures), length-take (s .args .len) (s .args .array .now), s .pre)
 
-same-length : tie.Need-same-length
-same-length c = search needs
-
 returns : tie.Need-returns
-returns c = copied (c .before .before .before .before .before .before .before .args .out .now) (c .before .before .before .before .front .ensures) (c .before .before .copy .ensures .0) (c .before .before .copy .ensures .1)
+returns c =
+    copied (c .before .before .before .before .before .before .before .args .out .now) (c .before .before .before .before .front .ensures)
+    (c .before .before .copy .ensures .0) (c .before .before .copy .ensures .1)
 
 pub copied-spec : {M : Type 1} → statement M
-copied-spec =
-    tie.close
-    (tie.spec
-    front-requires
-    copy-requires
-    same-length
-    returns)
+copied-spec = tie.close (tie.spec (λ c κs. search needs) copy-requires (λ c. search needs) returns)

@@ -9,16 +9,8 @@ use Rattle.desk.proofs.held.front.Tie as tie
 slice-aggregate-result : tie.Need-slice-aggregate-result
 slice-aggregate-result c = let a = c .before .before .args in sym (length-take-le (a .len) (a .array .now) (omega (arith, c .before .if1 .taken)))
 
-returns : tie.Need-returns
-returns c = search needs
-
 returns-2 : tie.Need-returns-2
 returns-2 c = let a = c .before .args in sym (take-all (a .len) (a .array .now) (c .if1 .left))
 
 pub front-spec : {M : Type 1} → statement M
-front-spec =
-    tie.close
-    (tie.spec
-    slice-aggregate-result
-    returns
-    returns-2)
+front-spec = tie.close (tie.spec slice-aggregate-result (λ c. search needs) returns-2)

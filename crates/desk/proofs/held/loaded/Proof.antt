@@ -6,21 +6,6 @@ use borrow.Author.Needs.{needs}
 use Rattle.desk.proofs.held.loaded.Statement.{statement}
 use Rattle.desk.proofs.held.loaded.Tie as tie
 
-slice-aggregate-front : tie.Need-slice-aggregate-front
-slice-aggregate-front c = search needs
-
-front-requires : tie.Need-front-requires
-front-requires c κs = search needs
-
-slice-aggregate-front-2 : tie.Need-slice-aggregate-front-2
-slice-aggregate-front-2 c = search needs
-
-front-requires-2 : tie.Need-front-requires-2
-front-requires-2 c κs = search needs
-
-loaded-requires : tie.Need-loaded-requires
-loaded-requires c κs = search needs
-
 returns : tie.Need-returns
 returns c =
     let a = c .before .before .before .before .before .before .before .args in
@@ -31,11 +16,4 @@ returns c =
 
 pub loaded-spec : {M : Type 1} → statement M
 loaded-spec =
-    tie.close
-    (tie.spec
-    slice-aggregate-front
-    front-requires
-    slice-aggregate-front-2
-    front-requires-2
-    loaded-requires
-    returns)
+    tie.close (tie.spec (λ c. search needs) (λ c κs. search needs) (λ c. search needs) (λ c κs. search needs) (λ c κs. search needs) returns)

@@ -9,9 +9,6 @@ use borrow.Author.Needs.{needs}
 use Rattle.desk.proofs.store.with_plan.Statement.{statement}
 use Rattle.desk.proofs.store.with_plan.Tie as tie
 
-slice-aggregate-copy : tie.Need-slice-aggregate-copy
-slice-aggregate-copy c = search needs
-
 copy-requires : tie.Need-copy-requires
 copy-requires c κs =
     let s = c .before .before .before in
@@ -25,4 +22,4 @@ returns c =
     (refl, refl, front-copied (a .file .now) (a .desk .plan) (c .before .before .copy .ensures .0) (c .before .before .copy .ensures .1))
 
 pub with-plan-spec : {M : Type 1} → statement M
-with-plan-spec = tie.close (tie.spec slice-aggregate-copy copy-requires returns)
+with-plan-spec = tie.close (tie.spec (λ c. search needs) copy-requires returns)

@@ -9,9 +9,6 @@ use borrow.Author.Needs.{needs}
 use Rattle.desk.proofs.store.with_roster.Statement.{statement}
 use Rattle.desk.proofs.store.with_roster.Tie as tie
 
-slice-aggregate-copy : tie.Need-slice-aggregate-copy
-slice-aggregate-copy c = search needs
-
 copy-requires : tie.Need-copy-requires
 copy-requires c κs =
     let s = c .before .before .before in
@@ -25,4 +22,4 @@ returns c =
     (front-copied (a .file .now) (a .desk .roster) (c .before .before .copy .ensures .0) (c .before .before .copy .ensures .1), refl)
 
 pub with-roster-spec : {M : Type 1} → statement M
-with-roster-spec = tie.close (tie.spec slice-aggregate-copy copy-requires returns)
+with-roster-spec = tie.close (tie.spec (λ c. search needs) copy-requires returns)

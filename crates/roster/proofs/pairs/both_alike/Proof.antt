@@ -18,26 +18,24 @@ abbrev μ-loop : tie.MeasureT-loop
 loop-holds : tie.Need-loop-holds Inv-loop μ-loop
 loop-holds c = (le-refl _, refl)
 
-sub-i : tie.Need-sub-i Inv-loop μ-loop
-sub-i c = search needs
-
-row-alike-requires : tie.Need-row-alike-requires Inv-loop μ-loop
-row-alike-requires c κs = search needs
-
 returns : tie.Need-returns Inv-loop μ-loop
 returns c =
     let l = c .before .before .before in
     let a = l .before .before .before .args in
-    sym (l .loop .inv .1 ∙ both-unlike (a .surveyors .now) (a .stands .now) (l .loop .i) (a .n) (c .before .before .loop-test .taken) (sym (c .before .row-alike .ensures) ∙ not-true (c .before .row-alike .result) (c .if1 .taken)))
-
-loop-less : tie.Need-loop-less Inv-loop μ-loop
-loop-less c = omega arith
+    sym
+    (l .loop .inv .1
+    ∙ both-unlike (a .surveyors .now) (a .stands .now) (l .loop .i) (a .n) (c .before .before .loop-test .taken)
+    (sym (c .before .row-alike .ensures) ∙ not-true (c .before .row-alike .result) (c .if1 .taken)))
 
 loop-again : tie.Need-loop-again Inv-loop μ-loop
 loop-again c =
     let l = c .before .before .before in
-    let a = l .before .before .before .args in
-    (omega arith, l .loop .inv .1 ∙ both-like (a .surveyors .now) (a .stands .now) (l .loop .i) (a .n) (c .before .before .loop-test .taken) (sym (c .before .row-alike .ensures) ∙ not-false (c .before .row-alike .result) (c .if1 .left)))
+    let a = l .before .before .before .args in (
+      omega arith,
+      l .loop .inv .1
+          ∙ both-like (a .surveyors .now) (a .stands .now) (l .loop .i) (a .n) (c .before .before .loop-test .taken)
+          (sym (c .before .row-alike .ensures) ∙ not-false (c .before .row-alike .result) (c .if1 .left)),
+    )
 
 returns-2 : tie.Need-returns-2 Inv-loop μ-loop
 returns-2 c =
@@ -47,14 +45,5 @@ returns-2 c =
 
 pub both-alike-spec : {M : Type 1} → statement M
 both-alike-spec =
-    tie.close
-    (tie.spec
-    Inv-loop
-    μ-loop
-    loop-holds
-    sub-i
-    row-alike-requires
-    returns
-    loop-less
-    loop-again
+    tie.close (tie.spec Inv-loop μ-loop loop-holds (λ c. search needs) (λ c κs. search needs) returns (λ c. omega arith) loop-again
     returns-2)

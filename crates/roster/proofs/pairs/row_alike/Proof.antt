@@ -17,47 +17,20 @@ abbrev μ-loop : tie.MeasureT-loop
 loop-holds : tie.Need-loop-holds Inv-loop μ-loop
 loop-holds c = (le-refl _, refl)
 
-sub-j : tie.Need-sub-j Inv-loop μ-loop
-sub-j c = search needs
-
-mul-a : tie.Need-mul-a Inv-loop μ-loop
-mul-a c = search needs
-
-add-a : tie.Need-add-a Inv-loop μ-loop
-add-a c = search needs
-
-add-a-2 : tie.Need-add-a-2 Inv-loop μ-loop
-add-a-2 c = search needs
-
-mul-b : tie.Need-mul-b Inv-loop μ-loop
-mul-b c = search needs
-
-add-b : tie.Need-add-b Inv-loop μ-loop
-add-b c = search needs
-
-add-b-2 : tie.Need-add-b-2 Inv-loop μ-loop
-add-b-2 c = search needs
-
-shared-slice-read-here : tie.Need-shared-slice-read-here Inv-loop μ-loop
-shared-slice-read-here c = search needs
-
-shared-slice-read-there : tie.Need-shared-slice-read-there Inv-loop μ-loop
-shared-slice-read-there c = search needs
-
 returns : tie.Need-returns Inv-loop μ-loop
 returns c =
     let l = c .before .before .before .before in
     let a = l .before .args in
     sym (l .loop .inv .1 ∙ row-unlike (a .surveyors .now) (a .stands .now) (a .i) (l .loop .j) (c .before .before .before .loop-test .taken) (c .if1 .taken))
 
-loop-less : tie.Need-loop-less Inv-loop μ-loop
-loop-less c = omega arith
-
 loop-again : tie.Need-loop-again Inv-loop μ-loop
 loop-again c =
     let l = c .before .before .before .before in
-    let a = l .before .args in
-    (omega arith, l .loop .inv .1 ∙ row-like (a .surveyors .now) (a .stands .now) (a .i) (l .loop .j) (c .before .before .before .loop-test .taken) (c .if1 .left))
+    let a = l .before .args in (
+      omega arith,
+      l .loop .inv .1
+          ∙ row-like (a .surveyors .now) (a .stands .now) (a .i) (l .loop .j) (c .before .before .before .loop-test .taken) (c .if1 .left),
+    )
 
 returns-2 : tie.Need-returns-2 Inv-loop μ-loop
 returns-2 c =
@@ -67,21 +40,6 @@ returns-2 c =
 
 pub row-alike-spec : {M : Type 1} → statement M
 row-alike-spec =
-    tie.close
-    (tie.spec
-    Inv-loop
-    μ-loop
-    loop-holds
-    sub-j
-    mul-a
-    add-a
-    add-a-2
-    mul-b
-    add-b
-    add-b-2
-    shared-slice-read-here
-    shared-slice-read-there
-    returns
-    loop-less
-    loop-again
-    returns-2)
+    tie.close (tie.spec Inv-loop μ-loop loop-holds (λ c. search needs) (λ c. search needs) (λ c. search needs) (λ c. search needs)
+    (λ c. search needs) (λ c. search needs) (λ c. search needs) (λ c. search needs) (λ c. search needs) returns (λ c. omega arith)
+    loop-again returns-2)
