@@ -1,6 +1,9 @@
 /* The crew planner's proved calls, for C. Rosters and plans are files in document 01's bytes; a slice is a pointer and a length. A
    refusal is document 01's number, 0 for none. On a refusal no byte of any buffer changes; beyond what is written a buffer keeps its
-   bytes. What each call promises is its contract in crates/abi/src. Link with target/staticlib/libabi.a (rt staticlib abi). */
+   bytes. What each call promises is its contract in crates/abi/src. Link with target/staticlib/libabi.a (rt staticlib abi).
+
+   A lent slice is a pointer to as many bytes (or records) as its length says, readable, and writable where it is not const, for the time of the
+   call. It is never null, also where the length is 0, and no two slices of one call overlap. */
 #ifndef CREW_H
 #define CREW_H
 

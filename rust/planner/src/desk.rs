@@ -42,8 +42,7 @@ impl Desk {
     /// Writes the held roster to the front of `out` and gives its length. On a
     /// refusal no byte changes.
     pub fn write_roster(&self, out: &mut [u8]) -> Result<usize, Refusal> {
-        let reply =
-            unsafe { ffi::crew_desk_write_roster(self.clone(), out.as_mut_ptr(), out.len()) };
+        let reply = unsafe { ffi::crew_write_roster(self.clone(), out.as_mut_ptr(), out.len()) };
         debug_assert!(*self == reply.desk);
         answers::length(&reply.outcome)
     }
@@ -51,7 +50,7 @@ impl Desk {
     /// Writes the held plan to the front of `out` and gives its length. On a
     /// refusal no byte changes.
     pub fn write_plan(&self, out: &mut [u8]) -> Result<usize, Refusal> {
-        let reply = unsafe { ffi::crew_desk_write_plan(self.clone(), out.as_mut_ptr(), out.len()) };
+        let reply = unsafe { ffi::crew_write_plan(self.clone(), out.as_mut_ptr(), out.len()) };
         debug_assert!(*self == reply.desk);
         answers::length(&reply.outcome)
     }
@@ -59,7 +58,7 @@ impl Desk {
     /// The verdict on the held plan. The plan of a rival is written to the
     /// front of `rival`; for a strong plan and on a refusal no byte changes.
     pub fn judge(&self, rival: &mut [u8]) -> Result<Verdict, Refusal> {
-        let reply = unsafe { ffi::crew_desk_judge(self.clone(), rival.as_mut_ptr(), rival.len()) };
+        let reply = unsafe { ffi::crew_judge(self.clone(), rival.as_mut_ptr(), rival.len()) };
         debug_assert!(*self == reply.desk);
         answers::verdict(&reply.judged)
     }
@@ -68,7 +67,7 @@ impl Desk {
     /// the second.
     pub fn compare<'a>(&self, first: &'a [u8], second: &'a [u8]) -> Comparison<'a> {
         let reply = unsafe {
-            ffi::crew_desk_compare(
+            ffi::crew_compare(
                 self.clone(),
                 first.as_ptr(),
                 first.len(),
@@ -83,7 +82,7 @@ impl Desk {
     /// A blocking pair of the held plan, by the numbers of its surveyor and its
     /// stand, or that there is none.
     pub fn blocking(&self) -> Result<Option<(u8, u8)>, Refusal> {
-        let reply = unsafe { ffi::crew_desk_blocking(self.clone()) };
+        let reply = unsafe { ffi::crew_blocking(self.clone()) };
         debug_assert!(*self == reply.desk);
         answers::blocking(&reply.blocker)
     }

@@ -79,17 +79,17 @@ extern "C" {
     pub fn crew_open() -> Desk;
     pub fn crew_load_roster(desk: Desk, file: *const u8, file_len: usize) -> DeskLoaded;
     pub fn crew_load_plan(desk: Desk, file: *const u8, file_len: usize) -> DeskLoaded;
-    pub fn crew_desk_write_roster(desk: Desk, out: *mut u8, out_len: usize) -> DeskWritten;
-    pub fn crew_desk_write_plan(desk: Desk, out: *mut u8, out_len: usize) -> DeskWritten;
-    pub fn crew_desk_judge(desk: Desk, rival: *mut u8, rival_len: usize) -> DeskJudged;
-    pub fn crew_desk_compare(
+    pub fn crew_write_roster(desk: Desk, out: *mut u8, out_len: usize) -> DeskWritten;
+    pub fn crew_write_plan(desk: Desk, out: *mut u8, out_len: usize) -> DeskWritten;
+    pub fn crew_judge(desk: Desk, rival: *mut u8, rival_len: usize) -> DeskJudged;
+    pub fn crew_compare(
         desk: Desk,
         first: *const u8,
         first_len: usize,
         second: *const u8,
         second_len: usize,
     ) -> DeskCompared;
-    pub fn crew_desk_blocking(desk: Desk) -> DeskBlocker;
+    pub fn crew_blocking(desk: Desk) -> DeskBlocker;
     pub fn crew_find(
         desk: Desk,
         diary: *mut Step,
