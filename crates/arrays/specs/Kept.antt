@@ -18,6 +18,15 @@ use Rattle.arrays.specs.ArrayInstance.{at}
 abbrev pub Kept : (ℕ → Bool) → List ℕ → ℕ → ℕ → Type 0
 Kept p front m c = (m ≡ length (keep p (range 0 c))) × (take m front ≡ keep p (range 0 c))
 
+-- no more than there are
+pub keep-most : (p : ℕ → Bool) (xs : List ℕ) → length (keep p xs) ≤ length xs
+keep-most p [] = omega arith
+keep-most p (x ∷ xs) = go (p x) (keep-most p xs)
+  where
+    go : (b : Bool) → length (keep p xs) ≤ length xs → length (cond b (x ∷ keep p xs) (keep p xs)) ≤ suc (length xs)
+    go true h = omega arith
+    go false h = omega arith
+
 -- no more below a than below b
 pub keep-few : (p : ℕ → Bool) (a b : ℕ) → a ≤ b → length (keep p (range 0 a)) ≤ length (keep p (range 0 b))
 keep-few p a b h = omega (

@@ -15,7 +15,7 @@ use Rattle.arrays.specs.ArrayInstance.{flag}
 use Rattle.answers.specs.GroupCases.{groupCase}
 use Rattle.instance.specs.declared.Instance.{Instance}
 use Rattle.instance.specs.Decoded.{shownBy}
-use Rattle.vote_plans.specs.Plan.{Listed}
+use Rattle.plan_lookup.specs.PlanEdges.{Listed}
 use Rattle.answers.specs.declared.Winner.{Winner}
 use Rattle.answers.specs.declared.Winner.the-variants.{First, Second, Neither}
 use Rattle.answers.specs.declared.Comparison.{Comparison}

@@ -8,6 +8,7 @@ ghost use Rattle.model.specs.Limits.{diarySize};
 ghost use Rattle.model.specs.Desk.{onto};
 ghost use Rattle.diary.specs.LentSteps.{stepAt, stepsIn};
 ghost use Rattle.diary.specs.TraceRecords.{Readable, flatOf};
+use limits::ENTRY_LIMIT;
 use limits::FLAT_SIZE;
 use reduction_state::Trace;
 
@@ -21,7 +22,7 @@ pub struct Step {
 }
 
 // The records of a trace, four numbers each.
-pub fn flat_records(sv: &[u8; 1024], st: &[u8; 1024], trace: Trace) -> [u8; FLAT_SIZE]
+pub fn flat_records(sv: &[u8; ENTRY_LIMIT], st: &[u8; ENTRY_LIMIT], trace: Trace) -> [u8; FLAT_SIZE]
     requires { ⌜ Readable (now sv) (now st) trace ⌝ }
     ensures { λ r. ⌜ r ≡ flatOf (now (sv .entry)) (now (st .entry)) trace ⌝ }
 {
@@ -42,7 +43,7 @@ pub fn flat_records(sv: &[u8; 1024], st: &[u8; 1024], trace: Trace) -> [u8; FLAT
 }
 
 // The i-th record of a flat diary.
-pub fn step_at(flat: [u8; 4096], i: usize) -> Step
+pub fn step_at(flat: [u8; FLAT_SIZE], i: usize) -> Step
     requires { ⌜ i < diarySize ⌝ }
     ensures { λ r. ⌜ r ≡ stepAt flat i ⌝ }
 {
@@ -56,7 +57,7 @@ pub fn step_at(flat: [u8; 4096], i: usize) -> Step
 }
 
 // The first n records of a flat diary go to the front of the lent one; behind them it keeps its records.
-pub fn fill(diary: &mut [Step], flat: [u8; 4096], n: usize)
+pub fn fill(diary: &mut [Step], flat: [u8; FLAT_SIZE], n: usize)
     requires { ⌜ (n ≤ diarySize) × (n ≤ length (now diary)) ⌝ }
     ensures { λ _. ⌜ now (diary .exit) ≡ onto (stepsIn n flat) (now (diary .entry)) ⌝ }
 {

@@ -28,7 +28,7 @@ use Rattle.instance.specs.Decoded.{Decoded}
 use Rattle.instance.specs.Arrays.{decoded-fileable}
 use Rattle.plan_reader.specs.declared.PlanAnswer.the-variants as plan
 use Rattle.plan_reader.specs.declared.PlanRead.{PlanRead}
-use Rattle.plan_reader.specs.Edges.{Differ}
+use Rattle.plan_lookup.specs.PairEdge.{Differ}
 use Rattle.plan_reader.specs.Answers.{ReadAs, ReadFor, accepted-read, refused-read}
 use Rattle.files.specs.declared.PlanReply.{PlanReply}
 use Rattle.files.specs.declared.PlanReply.the-variants.{Accepted, Refused}

@@ -1,15 +1,12 @@
 -- What the functions find on their ways, and that what they promise follows.
-use Prim.Native.Nat.{ℕ, zero, suc, _+_, _*_, _≤_, _<_}
+use Prim.Native.Nat.{ℕ, _+_, _*_, _≤_, _<_}
 use native.Mathlib.Omega.{arith}
 use mathlib.Core.Path.{_≡_, refl, sym, ap, _∙_, subst}
 use mathlib.Core.Bool.{Bool, true, false, cond}
 use mathlib.Core.List.{List, [], _∷_, _++_}
-use lib.ListN.{length, take, drop, length-append}
-use borrow.Author.Tests.{le-ltb}
-use Rattle.lists.specs.Sum.{range}
-use Rattle.lists.specs.Keep.{keep}
-use Rattle.lists.specs.Ranges.{keep-last}
-use Rattle.model.specs.Limits.{entryLimit, planLimit, planSize, leftSize}
+use lib.ListN.{length, take, drop}
+use Rattle.lists.specs.Sum.{range, range-length}
+use Rattle.model.specs.Limits.{entryLimit, planLimit, pairWidth, leftSize}
 use Rattle.model.specs.Instance.{Instance}
 use Rattle.model.specs.Plans as P
 use Rattle.model.specs.Plans.{Plan, on, Verdict, verdictOf}
@@ -20,10 +17,9 @@ use Rattle.model.specs.Desk.{onto}
 use Rattle.theory_files.specs.PlanFiles.{plan-few}
 use Rattle.theory_files.specs.Chosen.{edgesIn-cong}
 use Rattle.arrays.specs.ArrayInstance.{flag}
-use Rattle.arrays.specs.Kept.{front-is}
-use Rattle.vote_plans.specs.Plan.{Listed}
+use Rattle.arrays.specs.Kept.{front-is, keep-most}
+use Rattle.plan_lookup.specs.PlanEdges.{Listed}
 use Rattle.rival_search.specs.SearchView.{Lists}
-use Rattle.plan_writer.specs.declared.PlanWritten.{PlanWritten}
 use Rattle.plan_writer.specs.Written.{pairsOf, WrittenFor}
 use Rattle.plan_writer.specs.PairByPair.{pairs-onto}
 use Rattle.instance.specs.declared.Instance as arrays
@@ -62,21 +58,19 @@ module _ (G : Instance) (M : Plan) (steps : ℕ) (l p v p′ v′ : List ℕ) (w
 pub few-edges : (g : arrays.Instance) → Loaded g → (p : List Bool) → ((M : Plan) × Shows (shownBy g) p M) → length (edgesIn (g .m) (flag p)) ≤ planLimit
 few-edges g L p (M, (ok, same)) = subst (λ es. length es ≤ planLimit) (edgesIn-cong (g .m) (on M) (flag p) (λ e h. sym (same e))) (plan-few (shownBy g) (L .fileable) M ok)
 
--- the bytes that the plan writer leaves in a buffer of its size
-pub plan-onto : (g : arrays.Instance) (chosen : List Bool) (p : List ℕ) (w : PlanWritten) (p′ : List ℕ) → planSize ≤ length p → WrittenFor (g .m) (g .sv) (g .st) chosen p w p′
+-- the bytes that the plan writer leaves
+pub plan-onto : (g : arrays.Instance) (chosen : List Bool) (p p′ : List ℕ) → WrittenFor (g .m) (g .sv) (g .st) chosen p p′
     → (M : Plan) → ((e : ℕ) → flag chosen e ≡ on M e) → p′ ≡ onto (planBytes (shownBy g) M) p
-plan-onto g chosen p w p′ h W M same =
-    W (g .ns) (g .nt) (g .«rank_s») (g .«rank_t») (g .tied) (g .«quota_s») (g .«quota_t») M (λ e k. sym (same e)) .bytes
-    ∙ ap (λ b. cond b p (onto (planBytes (shownBy g) M) p)) (le-ltb (length p) planSize h)
+plan-onto g chosen p p′ W M same = W (g .ns) (g .nt) (g .«rank_s») (g .«rank_t») (g .tied) (g .«quota_s») (g .«quota_t») M (λ e k. sym (same e))
 
 -- ---- the end of the steps
 module _ (g : arrays.Instance) (M : Plan) (es : List ℕ) (steps : ℕ) (l p v l′ : List ℕ) (k : ℕ) (count : k ≡ length es)
-    (wrote : l′ ≡ (take 0 l ++ pairsOf (g .sv) (g .st) es) ++ drop (2 * k + 0) l) where
+    (wrote : l′ ≡ (take 0 l ++ pairsOf (g .sv) (g .st) es) ++ drop (pairWidth * k + 0) l) where
   abbrev G : Instance
   G = shownBy g
 
   left-bytes : l′ ≡ onto (pairList G es) l
-  left-bytes = wrote ∙ ap (λ n. (take 0 l ++ pairsOf (g .sv) (g .st) es) ++ drop (2 * n + 0) l) count ∙ pairs-onto (g .sv) (g .st) es l
+  left-bytes = wrote ∙ ap (λ n. (take 0 l ++ pairsOf (g .sv) (g .st) es) ++ drop (pairWidth * n + 0) l) count ∙ pairs-onto (g .sv) (g .st) es l
 
   -- some pairs are left
   pub some-left : 0 < k → Wrote G (atEnd G M es) steps l p v (says.None steps (kind.Left k)) l′ p v
@@ -104,14 +98,6 @@ module _ (g : arrays.Instance) (M : Plan) (es : List ℕ) (steps : ℕ) (l p v l
       nothing [] h = refl
       nothing (x ∷ xs) h = absurd (omega arith)
 
-few-kept : (p : ℕ → Bool) (m : ℕ) → length (keep p (range 0 m)) ≤ m
-few-kept p zero = omega arith
-few-kept p (suc m) = go (p m) (few-kept p m) (ap length (keep-last p m) ∙ length-append (keep p (range 0 m)) (cond (p m) (m ∷ []) []))
-  where
-    go : (b : Bool) → length (keep p (range 0 m)) ≤ m → length (keep p (range 0 (suc m))) ≡ length (keep p (range 0 m)) + length (cond b (m ∷ []) []) → length (keep p (range 0 (suc m))) ≤ suc m
-    go true h e = omega arith
-    go false h e = omega arith
-
 -- room for all pairs in a buffer of its size
-pub left-room : (m : ℕ) (rem : List Bool) (l : List ℕ) → m ≤ entryLimit → leftSize ≤ length l → 2 * length (edgesIn m (flag rem)) + 0 ≤ length l
-left-room m rem l h k = omega (arith, few-kept (flag rem) m)
+pub left-room : (m : ℕ) (rem : List Bool) (l : List ℕ) → m ≤ entryLimit → leftSize ≤ length l → pairWidth * length (edgesIn m (flag rem)) + 0 ≤ length l
+left-room m rem l h k = omega (arith, keep-most (flag rem) (range 0 m), range-length 0 m)

@@ -11,11 +11,12 @@ use answers::Found;
 use answers::NoneKind;
 use answers::Verdict;
 use instance::Instance;
+use limits::ENTRY_LIMIT;
 
 // "Otherwise the fixed pairs are the candidate: strong gives the plan; else none, rivalled": after so many steps.
 pub(crate) fn judged(
     g: Instance,
-    fixed: &[bool; 1024],
+    fixed: &[bool; ENTRY_LIMIT],
     steps: usize,
     plan: &mut [u8],
     rival: &mut [u8],
@@ -26,7 +27,7 @@ pub(crate) fn judged(
     let m = g.m;
     let sv = g.sv;
     let st = g.st;
-    let l = vote_of_flags::list_edges(m, fixed);
+    let l = plan_lookup::list_edges(m, fixed);
     let es = l.edges;
     plan_writer::write_plan(m, &sv, &st, fixed, &mut *plan);
     let w = verdict::weigh(g, fixed, l.n, &es, &mut *rival);
@@ -41,8 +42,8 @@ pub(crate) fn judged(
 // "If pairs remain when no rule acts, the answer is none, left, with those pairs"
 pub fn ended(
     g: Instance,
-    rem: &[bool; 1024],
-    fixed: &[bool; 1024],
+    rem: &[bool; ENTRY_LIMIT],
+    fixed: &[bool; ENTRY_LIMIT],
     steps: usize,
     left: &mut [u8],
     plan: &mut [u8],

@@ -11,6 +11,12 @@ pub const QUOTA_SUM_LIMIT: u8 = 64;
 // "a two-byte count of all entries, low byte first, at most 1,024"
 pub const ENTRY_LIMIT: usize = 1024;
 
+// a plan's "count byte 0 to 64"
+pub const PLAN_LIMIT: usize = 64;
+
+// "two bytes a pair (surveyor, stand)"
+pub const PAIR_WIDTH: usize = 2;
+
 // "a buffer for a plan, candidate or rival needs 129 bytes, for a roster 2,214, the diary and the left pairs 1,024 entries each", a pair left
 // being two bytes
 pub const PLAN_SIZE: usize = 129;
@@ -23,3 +29,9 @@ pub const LEFT_SIZE: usize = 2048;
 
 // the size of a flat diary, four numbers a record
 pub const FLAT_SIZE: usize = 4096;
+
+// "a roster of at most 2,215 bytes from standard input"
+pub const INPUT_SIZE: usize = 2215;
+
+// the size of the program's text: 1,024 diary lines and the longest ending
+pub const TEXT_SIZE: usize = 32783;

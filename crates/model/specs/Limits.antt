@@ -20,6 +20,10 @@ entryLimit = 1024
 abbrev pub planLimit : ℕ
 planLimit = 64
 
+-- "two bytes a pair (surveyor, stand)"
+abbrev pub pairWidth : ℕ
+pairWidth = 2
+
 -- "an empty place has rank 33"
 abbrev pub emptyRank : ℕ
 emptyRank = 33

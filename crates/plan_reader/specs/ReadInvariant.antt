@@ -15,7 +15,7 @@ use borrow.Author.Tests.{le-leb}
 use Rattle.lists.specs.Test.{given, by-eq, bit, bit-one, eqb-no}
 use Rattle.lists.specs.Sum.{sum-append}
 use Rattle.lists.specs.Keep.{any-append}
-use Rattle.model.specs.Limits.{planLimit}
+use Rattle.model.specs.Limits.{planLimit, pairWidth}
 use Rattle.model.specs.Reading.{Reading, accepted, refused, refuseBy, whole}
 use Rattle.model.specs.Roster.{elem}
 use Rattle.model.specs.Instance.{Instance, Side, surveyors, stands}
@@ -115,7 +115,7 @@ module _ (m : ℕ) (sv st qs qt file : List ℕ) where
     pub es : List ℕ
     pub named : map (edgeOfPair G) ps ≡ es
     pub count : length ps ≡ k
-    pub reading : readPlan G file ≡ whole (pairsLeft G (n - k) (record { seen = es; from = from }) (drop (2 * k + 1) file) ps)
+    pub reading : readPlan G file ≡ whole (pairsLeft G (n - k) (record { seen = es; from = from }) (drop (pairWidth * k + 1) file) ps)
     pub ascending : From 0 es
     pub below : Below from es
     pub small : from ≤ m
@@ -164,27 +164,27 @@ module _ (m : ℕ) (sv st qs qt file : List ℕ) where
     left = omega arith
 
     -- the file ends inside it
-    pub invariant-cut : length file < 2 * k + 1 + 2 → readPlan G file ≡ refused 1
-    invariant-cut h = now .reading ∙ ap (λ z. whole (pairsLeft G z s (drop (2 * k + 1) file) (now .ps))) left
-        ∙ ap whole (short (drop (2 * k + 1) file) (omega (arith, length-drop (2 * k + 1) file)))
+    pub invariant-cut : length file < pairWidth * k + 1 + 2 → readPlan G file ≡ refused 1
+    invariant-cut h = now .reading ∙ ap (λ z. whole (pairsLeft G z s (drop (pairWidth * k + 1) file) (now .ps))) left
+        ∙ ap whole (short (drop (pairWidth * k + 1) file) (omega (arith, length-drop (pairWidth * k + 1) file)))
       where
         short : (bs : List ℕ) → length bs < 2 → pairsLeft G (suc (n - (k + 1))) s bs (now .ps) ≡ refused 1
         short [] l = left-cut G (n - (k + 1)) s (now .ps) .0
         short (x ∷ []) l = left-cut G (n - (k + 1)) s (now .ps) .1 x
         short (x ∷ y ∷ bs) l = absurd (omega arith)
 
-    module _ (low-s : Low m sv 32) (low-t : Low m st 32) (long : 2 * k + 1 + 2 ≤ length file) (e : ℕ) (is : e ≡ edgeOfPair G (getD file (2 * k + 1) 0, getD file (2 * k + 1 + 1) 0))
+    module _ (low-s : Low m sv 32) (low-t : Low m st 32) (long : pairWidth * k + 1 + 2 ≤ length file) (e : ℕ) (is : e ≡ edgeOfPair G (getD file (pairWidth * k + 1) 0, getD file (pairWidth * k + 1 + 1) 0))
         (c : ℕ) (check : c ≡ pairRefusal m e from (leb (at qs (at sv e)) (at us (at sv e))) (leb (at qt (at st e)) (at ut (at st e)))) where
       abbrev p : ℕ × ℕ
-      p = (getD file (2 * k + 1) 0, getD file (2 * k + 1 + 1) 0)
+      p = (getD file (pairWidth * k + 1) 0, getD file (pairWidth * k + 1 + 1) 0)
 
-      bytes : drop (2 * k + 1) file ≡ p .0 ∷ p .1 ∷ drop (2 * (k + 1) + 1) file
-      bytes = drop-cons file (2 * k + 1) 0 (omega arith) ∙ ap (λ z. p .0 ∷ z) (ap (λ i. drop i file) (one (2 * k + 1)) ∙ drop-cons file (2 * k + 1 + 1) 0 (omega arith) ∙ ap (λ i. p .1 ∷ drop i file) (two k))
+      bytes : drop (pairWidth * k + 1) file ≡ p .0 ∷ p .1 ∷ drop (pairWidth * (k + 1) + 1) file
+      bytes = drop-cons file (pairWidth * k + 1) 0 (omega arith) ∙ ap (λ z. p .0 ∷ z) (ap (λ i. drop i file) (one (pairWidth * k + 1)) ∙ drop-cons file (pairWidth * k + 1 + 1) 0 (omega arith) ∙ ap (λ i. p .1 ∷ drop i file) (two k))
         where
           one : (i : ℕ) → suc i ≡ i + 1
           one i = omega arith
 
-          two : (k : ℕ) → suc (2 * k + 1 + 1) ≡ 2 * (k + 1) + 1
+          two : (k : ℕ) → suc (pairWidth * k + 1 + 1) ≡ pairWidth * (k + 1) + 1
           two k = omega arith
 
       checked : c ≡ pairCheck G s p
@@ -193,14 +193,14 @@ module _ (m : ℕ) (sv st qs qt file : List ℕ) where
           (λ l. (ap (leb (at qs (at sv e))) (now .used-s (at sv e)), ap (leb (at qt (at st e))) (now .used-t (at st e))))
           ∙ ap (λ d. pairRefusal m d from (full (surveyors G) (now .es) d) (full (stands G) (now .es) d)) is
 
-      next : readPlan G file ≡ whole (refuseBy c (pairsLeft G (n - (k + 1)) (withPair G s p) (drop (2 * (k + 1) + 1) file) (now .ps ++ p ∷ [])))
-      next = now .reading ∙ ap (λ z. whole (pairsLeft G z s (drop (2 * k + 1) file) (now .ps))) left
+      next : readPlan G file ≡ whole (refuseBy c (pairsLeft G (n - (k + 1)) (withPair G s p) (drop (pairWidth * (k + 1) + 1) file) (now .ps ++ p ∷ [])))
+      next = now .reading ∙ ap (λ z. whole (pairsLeft G z s (drop (pairWidth * k + 1) file) (now .ps))) left
           ∙ ap (λ z. whole (pairsLeft G (suc (n - (k + 1))) s z (now .ps))) bytes
-          ∙ ap whole (left-pair G (n - (k + 1)) s (p .0) (p .1) (drop (2 * (k + 1) + 1) file) (now .ps))
-          ∙ ap (λ z. whole (refuseBy z (pairsLeft G (n - (k + 1)) (withPair G s p) (drop (2 * (k + 1) + 1) file) (now .ps ++ p ∷ [])))) (sym checked)
+          ∙ ap whole (left-pair G (n - (k + 1)) s (p .0) (p .1) (drop (pairWidth * (k + 1) + 1) file) (now .ps))
+          ∙ ap (λ z. whole (refuseBy z (pairsLeft G (n - (k + 1)) (withPair G s p) (drop (pairWidth * (k + 1) + 1) file) (now .ps ++ p ∷ [])))) (sym checked)
 
       pub invariant-refused : 0 < c → readPlan G file ≡ refused c
-      invariant-refused h = next ∙ refused-by c (pairsLeft G (n - (k + 1)) (withPair G s p) (drop (2 * (k + 1) + 1) file) (now .ps ++ p ∷ [])) h
+      invariant-refused h = next ∙ refused-by c (pairsLeft G (n - (k + 1)) (withPair G s p) (drop (pairWidth * (k + 1) + 1) file) (now .ps ++ p ∷ [])) h
 
       pub invariant-passed : c ≡ 0 → (e < m) × (from ≤ e) × (at us (at sv e) < at qs (at sv e)) × (at ut (at st e) < at qt (at st e))
       invariant-passed z = given (passed m e from (leb (at qs (at sv e)) (at us (at sv e))) (leb (at qt (at st e)) (at ut (at st e))) (sym check ∙ z)) (λ (a, b, x, y).
@@ -212,8 +212,8 @@ module _ (m : ℕ) (sv st qs qt file : List ℕ) where
         es = now .es ++ e ∷ [];
         named = map-append (edgeOfPair G) (now .ps) (p ∷ []) ∙ ap₂ (λ u v. u ++ v ∷ []) (now .named) (sym is);
         count = length-append (now .ps) (p ∷ []) ∙ ap (λ i. i + 1) (now .count);
-        reading = next ∙ ap whole (passes-by c (pairsLeft G (n - (k + 1)) (withPair G s p) (drop (2 * (k + 1) + 1) file) (now .ps ++ p ∷ [])) z)
-            ∙ ap (λ t. whole (pairsLeft G (n - (k + 1)) t (drop (2 * (k + 1) + 1) file) (now .ps ++ p ∷ []))) same-state;
+        reading = next ∙ ap whole (passes-by c (pairsLeft G (n - (k + 1)) (withPair G s p) (drop (pairWidth * (k + 1) + 1) file) (now .ps ++ p ∷ [])) z)
+            ∙ ap (λ t. whole (pairsLeft G (n - (k + 1)) t (drop (pairWidth * (k + 1) + 1) file) (now .ps ++ p ∷ []))) same-state;
         ascending = from-snoc 0 from e (now .es) (omega arith) b (now .ascending) (now .below);
         below = below-snoc from e (now .es) b (now .below);
         small = omega arith;
@@ -229,15 +229,15 @@ module _ (m : ℕ) (sv st qs qt file : List ℕ) where
 
   -- ---- the end
   module _ (n k from : ℕ) (chosen : List Bool) (edges us ut : List ℕ) (now : Invariant n k from chosen edges us ut) (end : k ≡ n) where
-    ended : readPlan G file ≡ whole (accepted (planOfPairs G (now .ps), drop (2 * n + 1) file))
-    ended = now .reading ∙ ap (λ i. whole (pairsLeft G i (record { seen = now .es; from = from }) (drop (2 * k + 1) file) (now .ps))) none
-        ∙ ap whole (left-none G (record { seen = now .es; from = from }) (drop (2 * k + 1) file) (now .ps)) ∙ ap (λ i. whole (accepted (planOfPairs G (now .ps), drop (2 * i + 1) file))) end
+    ended : readPlan G file ≡ whole (accepted (planOfPairs G (now .ps), drop (pairWidth * n + 1) file))
+    ended = now .reading ∙ ap (λ i. whole (pairsLeft G i (record { seen = now .es; from = from }) (drop (pairWidth * k + 1) file) (now .ps))) none
+        ∙ ap whole (left-none G (record { seen = now .es; from = from }) (drop (pairWidth * k + 1) file) (now .ps)) ∙ ap (λ i. whole (accepted (planOfPairs G (now .ps), drop (pairWidth * i + 1) file))) end
       where
         none : n - k ≡ 0
         none = omega arith
 
-    pub invariant-long : 2 * n + 1 < length file → readPlan G file ≡ refused 9
-    invariant-long h = ended ∙ ap (λ z. whole (accepted (planOfPairs G (now .ps), z))) (drop-cons file (2 * n + 1) 0 h)
+    pub invariant-long : pairWidth * n + 1 < length file → readPlan G file ≡ refused 9
+    invariant-long h = ended ∙ ap (λ z. whole (accepted (planOfPairs G (now .ps), z))) (drop-cons file (pairWidth * n + 1) 0 h)
 
     abbrev M : Plan
     M = planOfPairs G (now .ps)
@@ -254,7 +254,7 @@ module _ (m : ℕ) (sv st qs qt file : List ℕ) where
     M-count : length (edgesIn m (on M)) ≡ n
     M-count = ap length (M-edges ∙ sym (now .named)) ∙ length-map (now .ps) (edgeOfPair G) ∙ now .count ∙ end
 
-    pub invariant-accepted : length file ≤ 2 * n + 1 → ReadAs G file (record { answer = Accepted n; chosen = chosen; edges = edges })
+    pub invariant-accepted : length file ≤ pairWidth * n + 1 → ReadAs G file (record { answer = Accepted n; chosen = chosen; edges = edges })
     invariant-accepted h =
         given (ended ∙ ap (λ z. whole (accepted (planOfPairs G (now .ps), z))) (drop-of-length-le file h)) (λ (q : readPlan G file ≡ accepted M). record {
           answer = ap Accepted (sym M-count) ∙ sym (ap (answerOf m) q);

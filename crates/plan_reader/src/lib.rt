@@ -5,11 +5,14 @@ ghost use mathlib.Core.Bool.{_&&_};
 ghost use Prim.Native.Nat.{ℕ, _+_, _≤_, _<_};
 ghost use lib.ListN.{length, getD};
 ghost use lib.Dec.{eqb, leb};
-ghost use Rattle.lists.specs.Search.{low};
 ghost use Rattle.arrays.specs.ArrayInstance.{at};
 ghost use Rattle.arrays.specs.Passes.{Low};
-ghost use Rattle.plan_reader.specs.Edges.{Differ, Names, Scanned};
+ghost use Rattle.model.specs.Limits.{nodeLimit, entryLimit, planLimit};
+ghost use Rattle.plan_lookup.specs.PairEdge.{Differ};
 ghost use Rattle.plan_reader.specs.Answers.{pairRefusal, ReadFor};
+use limits::ENTRY_LIMIT;
+use limits::PAIR_WIDTH;
+use limits::PLAN_LIMIT;
 
 // a plan is accepted, with the number of its pairs, or refused
 pub enum PlanAnswer {
@@ -20,54 +23,15 @@ pub enum PlanAnswer {
 // the answer, and for an accepted plan its edges: as flags, and ascending as the first numbers of a list
 pub struct PlanRead {
     pub answer: PlanAnswer,
-    pub chosen: [bool; 1024],
-    pub edges: [u16; 64],
-}
-
-// the lowest edge from start on, and below end, of surveyor s and stand t; end if there is none
-pub fn scan(start: usize, end: usize, sv: &[u8; 1024], st: &[u8; 1024], s: u8, t: u8) -> usize
-    requires { ⌜ (start ≤ end) × (end ≤ 1024) ⌝ }
-    ensures { λ r. ⌜ Scanned start end (now (sv .entry)) (now (st .entry)) s t r ⌝ }
-{
-    let mut e = start;
-    while e < end {
-        if (sv[e] == s) & (st[e] == t) {
-            return e;
-        }
-        e += 1;
-    }
-    e
-}
-
-// the edge that two bytes name, m if there is none; from is where the next edge of an ascending plan is looked for first
-pub fn edge_of(m: usize, sv: &[u8; 1024], st: &[u8; 1024], from: usize, x: u8, y: u8) -> usize
-    requires { ⌜ (from ≤ m) × (m ≤ 1024) × Differ m (now sv) (now st) ⌝ }
-    ensures { λ r. ⌜ r ≡ low (Names (now (sv .entry)) (now (st .entry)) x y) m ⌝ }
-{
-    if x == 0 {
-        return m;
-    }
-    if y == 0 {
-        return m;
-    }
-    let s = x - 1;
-    let t = y - 1;
-    let e = scan(from, m, sv, st, s, t);
-    if e < m {
-        return e;
-    }
-    let d = scan(0, from, sv, st, s, t);
-    if d < from {
-        return d;
-    }
-    m
+    pub chosen: [bool; ENTRY_LIMIT],
+    pub edges: [u16; PLAN_LIMIT],
 }
 
 // the refusal of a pair that names edge e, 0 for none; us, ut: the places that the pairs before it take at each node
-pub fn pair_refusal(
+pub(crate) fn pair_refusal(
     m: usize,
-    sv: &[u8; 1024],
-    st: &[u8; 1024],
+    sv: &[u8; ENTRY_LIMIT],
+    st: &[u8; ENTRY_LIMIT],
     qs: &[u8; 32],
     qt: &[u8; 32],
     us: &[u8; 32],
@@ -75,7 +39,7 @@ pub fn pair_refusal(
     from: usize,
     e: usize,
 ) -> u8
-    requires { ⌜ (m ≤ 1024) × Low m (now sv) 32 × Low m (now st) 32 ⌝ }
+    requires { ⌜ (m ≤ entryLimit) × Low m (now sv) nodeLimit × Low m (now st) nodeLimit ⌝ }
     ensures { λ r. ⌜ r ≡ pairRefusal m e from (leb (at (now (qs .entry)) (at (now (sv .entry)) e)) (at (now (us .entry)) (at (now (sv .entry)) e))) (leb (at (now (qt .entry)) (at (now (st .entry)) e)) (at (now (ut .entry)) (at (now (st .entry)) e))) ⌝ }
 {
     if m <= e {
@@ -93,35 +57,36 @@ pub fn pair_refusal(
 }
 
 // the n pairs behind the count byte
-pub fn read_pairs(
+pub(crate) fn read_pairs(
     m: usize,
-    sv: &[u8; 1024],
-    st: &[u8; 1024],
+    sv: &[u8; ENTRY_LIMIT],
+    st: &[u8; ENTRY_LIMIT],
     qs: &[u8; 32],
     qt: &[u8; 32],
     n: usize,
     file: &[u8],
 ) -> PlanRead
-    requires { ⌜ (m ≤ 1024) × Low m (now sv) 32 × Low m (now st) 32 × Differ m (now sv) (now st) ⌝ }
-    requires { ⌜ (n ≤ 64) × (0 < length (now file)) × (getD (now file) 0 0 ≡ n) ⌝ }
+    requires { ⌜ (m ≤ entryLimit) × Low m (now sv) nodeLimit × Low m (now st) nodeLimit × Differ m (now sv) (now st) ⌝ }
+    requires { ⌜ (n ≤ planLimit) × (0 < length (now file)) × (getD (now file) 0 0 ≡ n) ⌝ }
     ensures { λ r. ⌜ ReadFor m (now (sv .entry)) (now (st .entry)) (now (qs .entry)) (now (qt .entry)) (now (file .entry)) r ⌝ }
 {
-    let mut chosen = [false; 1024];
-    let mut edges = [0u16; 64];
+    let mut chosen = [false; ENTRY_LIMIT];
+    let mut edges = [0u16; PLAN_LIMIT];
     let mut us = [0u8; 32];
     let mut ut = [0u8; 32];
     let mut from: usize = 0;
     let mut k: usize = 0;
     while k < n {
-        let at = 2 * k + 1;
-        if file.len() < at + 2 {
+        let at = PAIR_WIDTH * k + 1;
+        if file.len() < at + PAIR_WIDTH {
             return PlanRead {
                 answer: PlanAnswer::Refused(1),
                 chosen: chosen,
                 edges: edges,
             };
         }
-        let e = edge_of(m, sv, st, from, file[at], file[at + 1]);
+        let p = pair_bytes::get(file, at);
+        let e = plan_lookup::edge_of(m, sv, st, from, p.surveyor, p.stand);
         let c = pair_refusal(m, sv, st, qs, qt, &us, &ut, from, e);
         if c != 0 {
             return PlanRead {
@@ -139,7 +104,7 @@ pub fn read_pairs(
         from = e + 1;
         k += 1;
     }
-    if 2 * n + 1 < file.len() {
+    if PAIR_WIDTH * n + 1 < file.len() {
         return PlanRead {
             answer: PlanAnswer::Refused(9),
             chosen: chosen,
@@ -156,28 +121,28 @@ pub fn read_pairs(
 // a plan file
 pub fn read_plan(
     m: usize,
-    sv: &[u8; 1024],
-    st: &[u8; 1024],
+    sv: &[u8; ENTRY_LIMIT],
+    st: &[u8; ENTRY_LIMIT],
     qs: &[u8; 32],
     qt: &[u8; 32],
     file: &[u8],
 ) -> PlanRead
-    requires { ⌜ (m ≤ 1024) × Low m (now sv) 32 × Low m (now st) 32 × Differ m (now sv) (now st) ⌝ }
+    requires { ⌜ (m ≤ entryLimit) × Low m (now sv) nodeLimit × Low m (now st) nodeLimit × Differ m (now sv) (now st) ⌝ }
     ensures { λ r. ⌜ ReadFor m (now (sv .entry)) (now (st .entry)) (now (qs .entry)) (now (qt .entry)) (now (file .entry)) r ⌝ }
 {
     if file.len() == 0 {
         return PlanRead {
             answer: PlanAnswer::Refused(1),
-            chosen: [false; 1024],
-            edges: [0u16; 64],
+            chosen: [false; ENTRY_LIMIT],
+            edges: [0u16; PLAN_LIMIT],
         };
     }
     let n = file[0];
-    if 64 < n {
+    if (PLAN_LIMIT as u8) < n {
         return PlanRead {
             answer: PlanAnswer::Refused(2),
-            chosen: [false; 1024],
-            edges: [0u16; 64],
+            chosen: [false; ENTRY_LIMIT],
+            edges: [0u16; PLAN_LIMIT],
         };
     }
     read_pairs(m, sv, st, qs, qt, n as usize, file)

@@ -5,36 +5,21 @@ use native.Mathlib.Numerals.{add-one}
 use mathlib.Core.Path.{_≡_, refl, sym, ap, ap₂, _∙_}
 use mathlib.Core.Bool.{Bool, true, false, not, cond}
 use mathlib.Core.List.{List, [], _∷_, _++_, append-assoc, append-nil}
-use lib.ListN.{length, take, drop, getD, set, length-append, length-take, take-append-drop}
-use lib.Seq.{set-at, drop-cons}
-use borrow.Author.Tests.{lt-ltb, le-ltb}
+use lib.ListN.{length, take, drop, set, length-append, length-take, take-append-drop}
 use Rattle.lists.specs.Ranges.{gather-append, keep-last}
-use Rattle.model.specs.Limits.{planSize}
+use Rattle.model.specs.Limits.{pairWidth, planSize}
 use Rattle.model.specs.Plans.{on}
 use Rattle.model.specs.PlanFile.{edgesIn, planBytes}
 use Rattle.model.specs.Desk.{onto}
 use Rattle.theory_files.specs.Chosen.{edgesIn-cong}
 use Rattle.arrays.specs.ArrayInstance.{at, flag, shown}
 use Rattle.arrays.specs.Kept.{keep-few}
-use Rattle.plan_writer.specs.declared.PlanWritten.the-variants.{Wrote, Refused}
+use Rattle.pair_bytes.specs.PairAt.{pairOf, withPair, pair-behind}
 use Rattle.plan_writer.specs.Written.{pairsOf, WrittenFor}
 
-pairs-length : (sv st es : List ℕ) → length (pairsOf sv st es) ≡ 2 * length es
+pairs-length : (sv st es : List ℕ) → length (pairsOf sv st es) ≡ pairWidth * length es
 pairs-length sv st [] = refl
 pairs-length sv st (e ∷ es) = omega (arith, pairs-length sv st es)
-
--- two bytes behind a front
-put-two : (w d : List ℕ) (i a b : ℕ) → length w ≡ i → i + 2 ≤ length d → set (set (w ++ drop i d) i a) (i + 1) b ≡ (w ++ a ∷ b ∷ []) ++ drop (i + 2) d
-put-two w d i a b l h =
-    ap (λ z. set (set (w ++ z) i a) (i + 1) b) (drop-cons d i 0 (omega arith) ∙ ap (λ z. getD d i 0 ∷ z) (drop-cons d (suc i) 0 (omega arith)))
-    ∙ ap (λ z. set z (i + 1) b) (set-at w (getD d i 0) (getD d (suc i) 0 ∷ drop (suc (suc i)) d) a i l ∙ sym (append-assoc w (a ∷ []) (getD d (suc i) 0 ∷ drop (suc (suc i)) d)))
-    ∙ set-at (w ++ a ∷ []) (getD d (suc i) 0) (drop (suc (suc i)) d) b (i + 1) (length-append w (a ∷ []) ∙ ap (λ n. n + 1) l)
-    ∙ append-assoc w (a ∷ []) (b ∷ drop (suc (suc i)) d)
-    ∙ ap (λ n. w ++ a ∷ b ∷ drop n d) (two i)
-    ∙ sym (append-assoc w (a ∷ b ∷ []) (drop (i + 2) d))
-  where
-    two : (i : ℕ) → suc (suc i) ≡ i + 2
-    two i = omega arith
 
 module _ (sv st : List ℕ) (chosen : List Bool) (from : ℕ) (d : List ℕ) where
   abbrev pub es : ℕ → List ℕ
@@ -44,7 +29,7 @@ module _ (sv st : List ℕ) (chosen : List Bool) (from : ℕ) (d : List ℕ) whe
   abbrev pub front : ℕ → List ℕ
   front e = take from d ++ pairsOf sv st (es e)
 
-  front-length : (e : ℕ) → from ≤ length d → length (front e) ≡ 2 * length (es e) + from
+  front-length : (e : ℕ) → from ≤ length d → length (front e) ≡ pairWidth * length (es e) + from
   front-length e h = omega (arith, length-append (take from d) (pairsOf sv st (es e)), length-take from d, pairs-length sv st (es e))
 
   es-not : (e : ℕ) → flag chosen e ≡ false → es (e + 1) ≡ es e
@@ -53,66 +38,51 @@ module _ (sv st : List ℕ) (chosen : List Bool) (from : ℕ) (d : List ℕ) whe
   es-one : (e : ℕ) → flag chosen e ≡ true → es (e + 1) ≡ es e ++ e ∷ []
   es-one e q = ap es (add-one e) ∙ keep-last (flag chosen) e ∙ ap (λ b. es e ++ cond b (e ∷ []) []) q
 
-  module _ (e k : ℕ) (o : List ℕ) (count : k ≡ length (es e)) (so : o ≡ front e ++ drop (2 * k + from) d) where
-    pub turn-not : flag chosen e ≡ false → (k ≡ length (es (e + 1))) × (o ≡ front (e + 1) ++ drop (2 * k + from) d)
-    turn-not q = (count ∙ ap length (sym (es-not e q)), so ∙ ap (λ z. (take from d ++ pairsOf sv st z) ++ drop (2 * k + from) d) (sym (es-not e q)))
+  module _ (e k : ℕ) (o : List ℕ) (count : k ≡ length (es e)) (so : o ≡ front e ++ drop (pairWidth * k + from) d) where
+    pub turn-not : flag chosen e ≡ false → (k ≡ length (es (e + 1))) × (o ≡ front (e + 1) ++ drop (pairWidth * k + from) d)
+    turn-not q = (count ∙ ap length (sym (es-not e q)), so ∙ ap (λ z. (take from d ++ pairsOf sv st z) ++ drop (pairWidth * k + from) d) (sym (es-not e q)))
 
-    pub turn-one : flag chosen e ≡ true → 2 * k + from + 2 ≤ length d
-        → (k + 1 ≡ length (es (e + 1))) × (set (set o (2 * k + from) (at sv e + 1)) (2 * k + from + 1) (at st e + 1) ≡ front (e + 1) ++ drop (2 * (k + 1) + from) d)
-    turn-one q l = (
+    pub turn-one : flag chosen e ≡ true → pairWidth * k + from + pairWidth ≤ length d → {o′ : List ℕ} → o′ ≡ withPair o (pairWidth * k + from) (at sv e) (at st e)
+        → (k + 1 ≡ length (es (e + 1))) × (o′ ≡ front (e + 1) ++ drop (pairWidth * (k + 1) + from) d)
+    turn-one q l w = (
       omega (arith, ap length (es-one e q), length-append (es e) (e ∷ [])),
-      ap (λ z. set (set z (2 * k + from) (at sv e + 1)) (2 * k + from + 1) (at st e + 1)) so
-          ∙ put-two (front e) d (2 * k + from) (at sv e + 1) (at st e + 1) (front-length e (omega arith) ∙ ap (λ n. 2 * n + from) (sym count)) (omega arith)
+      w ∙ ap (λ z. withPair z (pairWidth * k + from) (at sv e) (at st e)) so
+          ∙ pair-behind (front e) d (pairWidth * k + from) (at sv e) (at st e) (front-length e (omega arith) ∙ ap (λ n. pairWidth * n + from) (sym count)) (omega arith)
           ∙ ap₂ (λ z n. z ++ drop n d) grown (after k),
     )
       where
-        after : (k : ℕ) → 2 * k + from + 2 ≡ 2 * (k + 1) + from
+        after : (k : ℕ) → pairWidth * k + from + pairWidth ≡ pairWidth * (k + 1) + from
         after k = omega arith
 
-        grown : front e ++ (at sv e + 1) ∷ (at st e + 1) ∷ [] ≡ front (e + 1)
-        grown = append-assoc (take from d) (pairsOf sv st (es e)) ((at sv e + 1) ∷ (at st e + 1) ∷ [])
-            ∙ ap (λ z. take from d ++ z) (ap₂ (λ a b. pairsOf sv st (es e) ++ a ∷ b ∷ []) (add-one (at sv e)) (add-one (at st e))
-            ∙ sym (gather-append (λ e. suc (at sv e) ∷ suc (at st e) ∷ []) (es e) (e ∷ [])) ∙ ap (pairsOf sv st) (sym (es-one e q)))
+        grown : front e ++ pairOf (at sv e) (at st e) ≡ front (e + 1)
+        grown = append-assoc (take from d) (pairsOf sv st (es e)) (pairOf (at sv e) (at st e))
+            ∙ ap (λ z. take from d ++ z) (sym (gather-append (λ e. pairOf (at sv e) (at st e)) (es e) (e ∷ [])) ∙ ap (pairsOf sv st) (sym (es-one e q)))
 
 -- pairs written from the first place on
-pub pairs-onto : (sv st es d : List ℕ) → (take 0 d ++ pairsOf sv st es) ++ drop (2 * length es + 0) d ≡ onto (pairsOf sv st es) d
-pairs-onto sv st es d = ap (λ n. pairsOf sv st es ++ drop n d) (let e : 2 * length es + 0 ≡ length (pairsOf sv st es) = omega (arith, pairs-length sv st es) in e)
+pub pairs-onto : (sv st es d : List ℕ) → (take 0 d ++ pairsOf sv st es) ++ drop (pairWidth * length es + 0) d ≡ onto (pairsOf sv st es) d
+pairs-onto sv st es d = ap (λ n. pairsOf sv st es ++ drop n d) (let e : pairWidth * length es + 0 ≡ length (pairsOf sv st es) = omega (arith, pairs-length sv st es) in e)
 
 -- the whole front: the count in the first place
-whole-front : (d : List ℕ) (ps : List ℕ) (k : ℕ) → 1 ≤ length d → length ps ≡ 2 * k → set ((take 1 d ++ ps) ++ drop (2 * k + 1) d) 0 k ≡ (k ∷ ps) ++ drop (length (k ∷ ps)) d
+whole-front : (d : List ℕ) (ps : List ℕ) (k : ℕ) → 1 ≤ length d → length ps ≡ pairWidth * k → set ((take 1 d ++ ps) ++ drop (pairWidth * k + 1) d) 0 k ≡ (k ∷ ps) ++ drop (length (k ∷ ps)) d
 whole-front [] ps k h l = absurd (omega arith)
 whole-front (x ∷ d) ps k h l = ap (λ n. (k ∷ ps) ++ drop n (x ∷ d)) (same k (length ps) l)
   where
-    same : (k n : ℕ) → n ≡ 2 * k → 2 * k + 1 ≡ suc n
+    same : (k n : ℕ) → n ≡ pairWidth * k → pairWidth * k + 1 ≡ suc n
     same k n l = omega arith
 
-module _ (m : ℕ) (sv st : List ℕ) (chosen : List Bool) (before : List ℕ) where
-  pub too-small : length before < planSize → WrittenFor m sv st chosen before (Refused 15) before
-  too-small h ns nt rankS rankT tied quotaS quotaT M same = record {
-    reply = sym (ap (λ b. cond b (Refused 15) (Wrote (length (planBytes (shown m ns nt sv st rankS rankT tied quotaS quotaT) M)))) (lt-ltb (length before) planSize h));
-    bytes = sym (ap (λ b. cond b before (planBytes (shown m ns nt sv st rankS rankT tied quotaS quotaT) M ++ drop (length (planBytes (shown m ns nt sv st rankS rankT tied quotaS quotaT) M)) before)) (lt-ltb (length before) planSize h));
-  }
-
-  pub written : planSize ≤ length before → (k : ℕ) (o : List ℕ) → k ≡ length (edgesIn m (flag chosen)) → o ≡ (take 1 before ++ pairsOf sv st (edgesIn m (flag chosen))) ++ drop (2 * k + 1) before
-      → WrittenFor m sv st chosen before (Wrote (2 * k + 1)) (set o 0 k)
-  unfolding planBytes
-  written h k o count so ns nt rankS rankT tied quotaS quotaT M same =
-      let fs = edgesIn m (flag chosen) in
-      let bs : planBytes (shown m ns nt sv st rankS rankT tied quotaS quotaT) M ≡ k ∷ pairsOf sv st fs
-      = ap (λ z. length z ∷ pairsOf sv st z) (edgesIn-cong m (on M) (flag chosen) same) ∙ ap (λ n. n ∷ pairsOf sv st fs) (sym count) in
-      let l : length (pairsOf sv st fs) ≡ 2 * k = pairs-length sv st fs ∙ ap (λ n. 2 * n) (sym count) in
-      record {
-        reply = ap Wrote (size k (length (pairsOf sv st fs)) l ∙ sym (ap length bs)) ∙ sym (ap (λ b. cond b (Refused 15) (Wrote (length (planBytes (shown m ns nt sv st rankS rankT tied quotaS quotaT) M)))) (le-ltb (length before) planSize h));
-        bytes = ap (λ z. set z 0 k) so ∙ whole-front before (pairsOf sv st fs) k (omega arith) l ∙ ap (λ z. z ++ drop (length z) before) (sym bs)
-            ∙ sym (ap (λ b. cond b before (planBytes (shown m ns nt sv st rankS rankT tied quotaS quotaT) M ++ drop (length (planBytes (shown m ns nt sv st rankS rankT tied quotaS quotaT) M)) before)) (le-ltb (length before) planSize h));
-      }
-    where
-      size : (k n : ℕ) → n ≡ 2 * k → 2 * k + 1 ≡ suc n
-      size k n l = omega arith
+pub written : (m : ℕ) (sv st : List ℕ) (chosen : List Bool) (before : List ℕ) → planSize ≤ length before → (k : ℕ) (o : List ℕ) → k ≡ length (edgesIn m (flag chosen))
+    → o ≡ (take 1 before ++ pairsOf sv st (edgesIn m (flag chosen))) ++ drop (pairWidth * k + 1) before → WrittenFor m sv st chosen before (set o 0 k)
+unfolding planBytes
+written m sv st chosen before h k o count so ns nt rankS rankT tied quotaS quotaT M same =
+    let fs = edgesIn m (flag chosen) in
+    let bs : planBytes (shown m ns nt sv st rankS rankT tied quotaS quotaT) M ≡ k ∷ pairsOf sv st fs
+    = ap (λ z. length z ∷ pairsOf sv st z) (edgesIn-cong m (on M) (flag chosen) same) ∙ ap (λ n. n ∷ pairsOf sv st fs) (sym count) in
+    let l : length (pairsOf sv st fs) ≡ pairWidth * k = pairs-length sv st fs ∙ ap (λ n. pairWidth * n) (sym count) in
+    ap (λ z. set z 0 k) so ∙ whole-front before (pairsOf sv st fs) k (omega arith) l ∙ ap (λ z. onto z before) (sym bs)
 
 -- an edge chosen below m: there is room for its pair
 pub room-for : (sv st : List ℕ) (chosen : List Bool) (from : ℕ) (d : List ℕ) (m e k : ℕ) → e < m → flag chosen e ≡ true → k ≡ length (edgesIn e (flag chosen))
-    → 2 * length (edgesIn m (flag chosen)) + from ≤ length d → 2 * k + from + 2 ≤ length d
+    → pairWidth * length (edgesIn m (flag chosen)) + from ≤ length d → pairWidth * k + from + pairWidth ≤ length d
 room-for sv st chosen from d m e k h q count few = omega (arith, keep-few (flag chosen) (e + 1) m (omega arith), ap length (es-one sv st chosen from d e q), length-append (edgesIn e (flag chosen)) (e ∷ []))
 
 pub not-yes : (b : Bool) → not b ≡ true → b ≡ false
@@ -124,5 +94,5 @@ not-no true q = refl
 not-no false q = sym q
 
 -- nothing written yet
-pub front-none : (from : ℕ) (d : List ℕ) → d ≡ (take from d ++ []) ++ drop (2 * 0 + from) d
-front-none from d = let z : from ≡ 2 * 0 + from = omega arith in sym (take-append-drop from d) ∙ ap₂ (λ l n. l ++ drop n d) (sym (append-nil (take from d))) z
+pub front-none : (from : ℕ) (d : List ℕ) → d ≡ (take from d ++ []) ++ drop (pairWidth * 0 + from) d
+front-none from d = let z : from ≡ pairWidth * 0 + from = omega arith in sym (take-append-drop from d) ∙ ap₂ (λ l n. l ++ drop n d) (sym (append-nil (take from d))) z

@@ -8,9 +8,10 @@ use answers::FileAnswer;
 use answers::Found;
 use limits::LEFT_SIZE;
 use limits::PLAN_SIZE;
+use limits::TEXT_SIZE;
 
 // The text for an accepted roster.
-pub(crate) fn worked(roster: &[u8], out: &mut [u8; 32783]) -> usize
+pub(crate) fn worked(roster: &[u8], out: &mut [u8; TEXT_SIZE]) -> usize
     requires { ⌜ RosterAccepted (now roster) ⌝ }
     ensures { λ r. ⌜ Prints (now (roster .entry)) (now (out .entry)) r (now (out .exit)) ⌝ }
 {
@@ -28,7 +29,7 @@ pub(crate) fn worked(roster: &[u8], out: &mut [u8; 32783]) -> usize
 }
 
 // "prints the finder's answer": the text at the front of out, and its length. No text is longer than out.
-pub fn answer(input: &[u8], out: &mut [u8; 32783]) -> usize
+pub fn answer(input: &[u8], out: &mut [u8; TEXT_SIZE]) -> usize
     ensures { λ r. ⌜ Prints (now (input .entry)) (now (out .entry)) r (now (out .exit)) ⌝ }
 {
     let a = roster::read_roster(input);

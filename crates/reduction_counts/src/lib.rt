@@ -5,13 +5,14 @@ ghost use mathlib.Core.Bool.{_&&_, _||_, not, false};
 ghost use Prim.Native.Nat.{ℕ, _≤_, _<_, min};
 ghost use lib.ListN.{length, replicate};
 ghost use lib.Dec.{eqb, ltb};
+ghost use Rattle.model.specs.Limits.{entryLimit, nodeLimit};
 ghost use Rattle.arrays.specs.ArrayInstance.{at, flag};
 ghost use Rattle.reduction_counts.specs.Filled.{Low, Made, Tally, Small, blank};
 ghost use Rattle.reduction_counts.specs.Mark.{marked};
 
 // How many edges of the set p lie at each node.
 pub fn tally(m: usize, end: &[u8; 1024], p: &[bool; 1024]) -> [u16; 32]
-    requires { ⌜ (m ≤ 1024) × Low m (now end) 32 ⌝ }
+    requires { ⌜ (m ≤ entryLimit) × Low m (now end) nodeLimit ⌝ }
     ensures { λ r. ⌜ Tally r m (now (end .entry)) (now (p .entry)) ⌝ }
 {
     let mut t = [0u16; 32];
@@ -26,7 +27,7 @@ pub fn tally(m: usize, end: &[u8; 1024], p: &[bool; 1024]) -> [u16; 32]
 
 // Over edges in the order ord: for each of them, how many edges of the set p came before it at its node.
 pub fn mark(ord: &[u16], end: &[u8; 1024], p: &[bool; 1024]) -> [u16; 1024]
-    requires { ⌜ (length (now ord) ≤ 1024) × Low (length (now ord)) (now ord) 1024 × ((k : ℕ) → k < length (now ord) → at (now end) (at (now ord) k) < 32) ⌝ }
+    requires { ⌜ (length (now ord) ≤ entryLimit) × Low (length (now ord)) (now ord) entryLimit × ((k : ℕ) → k < length (now ord) → at (now end) (at (now ord) k) < nodeLimit) ⌝ }
     ensures { λ r. ⌜ (r ≡ marked (at (now (end .entry))) (flag (now (p .entry))) (now (ord .entry)) (replicate 32 0) blank) × Small r ⌝ }
 {
     let mut t = [0u16; 32];
@@ -45,7 +46,7 @@ pub fn mark(ord: &[u16], end: &[u8; 1024], p: &[bool; 1024]) -> [u16; 1024]
 
 // The edges of a set that are not tied.
 pub fn strict(m: usize, p: &[bool; 1024], tied: &[bool; 1024]) -> [bool; 1024]
-    requires { ⌜ m ≤ 1024 ⌝ }
+    requires { ⌜ m ≤ entryLimit ⌝ }
     ensures { λ r. ⌜ Made false r (λ e. flag (now (p .entry)) e && not (flag (now (tied .entry)) e)) m ⌝ }
 {
     let mut o = [false; 1024];
@@ -65,7 +66,7 @@ pub fn arrows(
     ahead: &[u16; 1024],
     q: &[u16; 32],
 ) -> [bool; 1024]
-    requires { ⌜ (m ≤ 1024) × Low m (now end) 32 ⌝ }
+    requires { ⌜ (m ≤ entryLimit) × Low m (now end) nodeLimit ⌝ }
     ensures { λ r. ⌜ Made false r (λ e. flag (now (p .entry)) e && ltb (at (now (ahead .entry)) e) (at (now (q .entry)) (at (now (end .entry)) e))) m ⌝ }
 {
     let mut o = [false; 1024];
@@ -99,7 +100,7 @@ pub fn reserved(
     lo: &[bool; 32],
     ft: &[bool; 1024],
 ) -> [bool; 1024]
-    requires { ⌜ (m ≤ 1024) × Low m (now st) 32 ⌝ }
+    requires { ⌜ (m ≤ entryLimit) × Low m (now st) nodeLimit ⌝ }
     ensures { λ r. ⌜ Made false r (λ e. flag (now (rem .entry)) e && (flag (now (lo .entry)) (at (now (st .entry)) e) || flag (now (ft .entry)) e)) m ⌝ }
 {
     let mut o = [false; 1024];

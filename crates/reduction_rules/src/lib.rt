@@ -5,12 +5,13 @@ ghost use mathlib.Core.Bool.{_&&_, _||_, not, false};
 ghost use Prim.Native.Nat.{ℕ, _+_, _≤_, _<_};
 ghost use lib.Dec.{eqb, ltb, leb};
 ghost use Rattle.lists.specs.Search.{low};
+ghost use Rattle.model.specs.Limits.{entryLimit, nodeLimit};
 ghost use Rattle.arrays.specs.ArrayInstance.{at, flag};
 ghost use Rattle.reduction_counts.specs.Filled.{Low, Made, Small};
 
 // The lowest edge of a set from an edge on.
 pub fn next(m: usize, p: &[bool; 1024], from: usize) -> usize
-    requires { ⌜ (m ≤ 1024) × (from ≤ m) ⌝ }
+    requires { ⌜ (m ≤ entryLimit) × (from ≤ m) ⌝ }
     ensures { λ r. ⌜ r ≡ low (λ e. leb from e && flag (now (p .entry)) e) m ⌝ }
 {
     let mut i = from;
@@ -25,7 +26,7 @@ pub fn next(m: usize, p: &[bool; 1024], from: usize) -> usize
 
 // Rule 1: arrows both ways.
 pub fn find1(m: usize, rem: &[bool; 1024], fs: &[bool; 1024], ft: &[bool; 1024]) -> usize
-    requires { ⌜ m ≤ 1024 ⌝ }
+    requires { ⌜ m ≤ entryLimit ⌝ }
     ensures { λ r. ⌜ r ≡ low (λ e. flag (now (rem .entry)) e && (flag (now (fs .entry)) e && flag (now (ft .entry)) e)) m ⌝ }
 {
     let mut i = 0;
@@ -49,7 +50,7 @@ pub fn named2(
     gs: &[u16; 1024],
     gt: &[u16; 1024],
 ) -> [bool; 1024]
-    requires { ⌜ (m ≤ 1024) × Low m (now sv) 32 × Low m (now st) 32 ⌝ }
+    requires { ⌜ (m ≤ entryLimit) × Low m (now sv) nodeLimit × Low m (now st) nodeLimit ⌝ }
     ensures { λ r. ⌜ Made false r (λ e. flag (now (rem .entry)) e && (leb (at (now (qs .entry)) (at (now (sv .entry)) e)) (at (now (gs .entry)) e) || leb (at (now (qt .entry)) (at (now (st .entry)) e)) (at (now (gt .entry)) e))) m ⌝ }
 {
     let mut o = [false; 1024];
@@ -73,7 +74,7 @@ pub fn find3(
     sent: &[u16; 32],
     qt: &[u16; 32],
 ) -> usize
-    requires { ⌜ (m ≤ 1024) × Low m (now st) 32 × Small (now got) × Small (now sent) ⌝ }
+    requires { ⌜ (m ≤ entryLimit) × Low m (now st) nodeLimit × Small (now got) × Small (now sent) ⌝ }
     ensures { λ r. ⌜ r ≡ low (λ e. flag (now (rem .entry)) e && (flag (now (fs .entry)) e && leb (at (now (got .entry)) (at (now (st .entry)) e) + at (now (sent .entry)) (at (now (st .entry)) e)) (at (now (qt .entry)) (at (now (st .entry)) e)))) m ⌝ }
 {
     let mut i = 0;
@@ -97,7 +98,7 @@ pub fn find4(
     qs: &[u16; 32],
     nb: &[u16; 1024],
 ) -> usize
-    requires { ⌜ (m ≤ 1024) × Low m (now sv) 32 × Small (now nb) ⌝ }
+    requires { ⌜ (m ≤ entryLimit) × Low m (now sv) nodeLimit × Small (now nb) ⌝ }
     ensures { λ r. ⌜ r ≡ low (λ e. flag (now (rem .entry)) e && (flag (now (res .entry)) e && (ltb (at (now (qs .entry)) (at (now (sv .entry)) e)) (at (now (ns .entry)) (at (now (sv .entry)) e)) && eqb (at (now (nb .entry)) e + 1) (at (now (ns .entry)) (at (now (sv .entry)) e))))) m ⌝ }
 {
     let mut i = 0;
@@ -120,7 +121,7 @@ pub fn named5(
     fs: &[bool; 1024],
     ft: &[bool; 1024],
 ) -> [bool; 1024]
-    requires { ⌜ (m ≤ 1024) × Low m (now st) 32 ⌝ }
+    requires { ⌜ (m ≤ entryLimit) × Low m (now st) nodeLimit ⌝ }
     ensures { λ r. ⌜ Made false r (λ e. flag (now (rem .entry)) e && (not (flag (now (lo .entry)) (at (now (st .entry)) e)) && (not (flag (now (fs .entry)) e) && not (flag (now (ft .entry)) e)))) m ⌝ }
 {
     let mut o = [false; 1024];
@@ -142,7 +143,7 @@ pub fn find6(
     qs: &[u16; 32],
     hs: &[u16; 1024],
 ) -> usize
-    requires { ⌜ (m ≤ 1024) × Low m (now sv) 32 ⌝ }
+    requires { ⌜ (m ≤ entryLimit) × Low m (now sv) nodeLimit ⌝ }
     ensures { λ r. ⌜ r ≡ low (λ e. flag (now (rem .entry)) e && (ltb (at (now (ns .entry)) (at (now (sv .entry)) e)) (at (now (qs .entry)) (at (now (sv .entry)) e)) && eqb (at (now (hs .entry)) e) 0)) m ⌝ }
 {
     let mut i = 0;
@@ -166,7 +167,7 @@ pub fn find7(
     qt: &[u16; 32],
     ht: &[u16; 1024],
 ) -> usize
-    requires { ⌜ (m ≤ 1024) × Low m (now st) 32 ⌝ }
+    requires { ⌜ (m ≤ entryLimit) × Low m (now st) nodeLimit ⌝ }
     ensures { λ r. ⌜ r ≡ low (λ e. flag (now (rem .entry)) e && (ltb (at (now (got .entry)) (at (now (st .entry)) e)) (at (now (qt .entry)) (at (now (st .entry)) e)) && (not (flag (now (tied .entry)) e) && eqb (at (now (ht .entry)) e) 0))) m ⌝ }
 {
     let mut i = 0;

@@ -10,13 +10,14 @@ ghost use Rattle.reduction_step.specs.View.{Known, instanceOf};
 ghost use Rattle.reduction_state.specs.Outcome.{Reduced, ReducedFrom};
 ghost use Rattle.reduction_state.specs.RunState.{Sized};
 ghost use Rattle.reduction_run.specs.RepeatedStrikes.{Repeated};
+use limits::ENTRY_LIMIT;
 use reduction_state::State;
 use reduction_state::Trace;
 
 // What a run leaves: what remains, what is fixed, and its trace.
 pub struct Reduction {
-    pub rem: [bool; 1024],
-    pub fixed: [bool; 1024],
+    pub rem: [bool; ENTRY_LIMIT],
+    pub fixed: [bool; ENTRY_LIMIT],
     pub trace: Trace,
 }
 
@@ -29,18 +30,18 @@ pub struct Struck {
 // Further strikes of a rule behind its edge, of the edges in hit, as long as they are stable.
 pub(crate) fn strikes(
     m: usize,
-    sv: &[u8; 1024],
-    st: &[u8; 1024],
-    hit: &[bool; 1024],
-    fs: &[bool; 1024],
-    ft: &[bool; 1024],
+    sv: &[u8; ENTRY_LIMIT],
+    st: &[u8; ENTRY_LIMIT],
+    hit: &[bool; ENTRY_LIMIT],
+    fs: &[bool; ENTRY_LIMIT],
+    ft: &[bool; ENTRY_LIMIT],
     rule: u8,
     edge: usize,
     stable: bool,
     x: State,
     steps: usize,
-    edges: &mut [u16; 1024],
-    rules: &mut [u8; 1024],
+    edges: &mut [u16; ENTRY_LIMIT],
+    rules: &mut [u8; ENTRY_LIMIT],
 ) -> Struck
     requires { ⌜ (m ≤ entryLimit) × Low m (now sv) nodeLimit × Low m (now st) nodeLimit × (edge < m) ⌝ }
     ensures { λ r. ⌜ (steps ≤ r .steps) × Sized (r .state) ⌝ }
@@ -73,9 +74,9 @@ pub(crate) fn strikes(
 // All steps, with the edges in the order of their ranks on both sides.
 pub(crate) fn run(
     m: usize,
-    sv: &[u8; 1024],
-    st: &[u8; 1024],
-    tied: &[bool; 1024],
+    sv: &[u8; ENTRY_LIMIT],
+    st: &[u8; ENTRY_LIMIT],
+    tied: &[bool; ENTRY_LIMIT],
     qs: &[u8; 32],
     qt: &[u8; 32],
     os: &[u16],
@@ -89,8 +90,8 @@ pub(crate) fn run(
     ensures { λ r. ⌜ ((K : Known m (now (sv .entry)) (now (st .entry)) (now (tied .entry)) (now (qs .entry)) (now (qt .entry)) (now (os .entry)) (now (ot .entry)))
         → Reduced (instanceOf K) (r .rem) (r .fixed) (r .trace)) ⌝ }
 {
-    let mut edges = [0u16; 1024];
-    let mut rules = [0u8; 1024];
+    let mut edges = [0u16; ENTRY_LIMIT];
+    let mut rules = [0u8; ENTRY_LIMIT];
     let mut x = reduction_state::start(m, sv, st, qs, qt);
     let mut n = 0;
     while n < m {
@@ -145,11 +146,11 @@ pub(crate) fn run(
 // All steps of an instance, from the ranks of its edges.
 pub fn reduce(
     m: usize,
-    sv: &[u8; 1024],
-    st: &[u8; 1024],
-    rs: &[u8; 1024],
-    rt: &[u8; 1024],
-    tied: &[bool; 1024],
+    sv: &[u8; ENTRY_LIMIT],
+    st: &[u8; ENTRY_LIMIT],
+    rs: &[u8; ENTRY_LIMIT],
+    rt: &[u8; ENTRY_LIMIT],
+    tied: &[bool; ENTRY_LIMIT],
     qs: &[u8; 32],
     qt: &[u8; 32],
 ) -> Reduction

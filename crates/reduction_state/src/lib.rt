@@ -12,11 +12,12 @@ ghost use Rattle.arrays.specs.ArrayInstance.{at, flag};
 ghost use Rattle.reduction_counts.specs.Filled.{Low};
 ghost use Rattle.model.specs.Limits.{nodeLimit, entryLimit};
 ghost use Rattle.reduction_state.specs.RunState.{acted, Started, stableStrike};
+use limits::ENTRY_LIMIT;
 
 // The arrays of a state: remaining and fixed edges; by node, the cut quotas and the numbers of remaining edges.
 pub struct State {
-    pub rem: [bool; 1024],
-    pub fixed: [bool; 1024],
+    pub rem: [bool; ENTRY_LIMIT],
+    pub fixed: [bool; ENTRY_LIMIT],
     pub qs: [u16; 32],
     pub qt: [u16; 32],
     pub ds: [u16; 32],
@@ -25,17 +26,17 @@ pub struct State {
 
 // The trace of a run: the edges and the rules of its steps, in front of the arrays.
 pub struct Trace {
-    pub edges: [u16; 1024],
-    pub rules: [u8; 1024],
+    pub edges: [u16; ENTRY_LIMIT],
+    pub rules: [u8; ENTRY_LIMIT],
     pub steps: usize,
 }
 
 // All edges.
-pub fn all(m: usize) -> [bool; 1024]
+pub fn all(m: usize) -> [bool; ENTRY_LIMIT]
     requires { ⌜ m ≤ entryLimit ⌝ }
     ensures { λ r. ⌜ ((e : ℕ) → flag r e ≡ ltb e m) ⌝ }
 {
-    let mut o = [false; 1024];
+    let mut o = [false; ENTRY_LIMIT];
     let mut i = 0;
     while i < m {
         o[i] = true;
@@ -83,7 +84,7 @@ pub fn lowered(q: u16, fix: bool, d: u16) -> u16
 }
 
 // The state after a step.
-pub fn act(sv: &[u8; 1024], st: &[u8; 1024], x: State, rule: u8, e: usize) -> State
+pub fn act(sv: &[u8; ENTRY_LIMIT], st: &[u8; ENTRY_LIMIT], x: State, rule: u8, e: usize) -> State
     requires { ⌜ (e < entryLimit) × (at (now sv) e < nodeLimit) × (at (now st) e < nodeLimit) ⌝ }
     ensures { λ r. ⌜ r ≡ acted (now (sv .entry)) (now (st .entry)) x rule e ⌝ }
 {
@@ -103,7 +104,13 @@ pub fn act(sv: &[u8; 1024], st: &[u8; 1024], x: State, rule: u8, e: usize) -> St
 }
 
 // The state at the beginning.
-pub fn start(m: usize, sv: &[u8; 1024], st: &[u8; 1024], qs: &[u8; 32], qt: &[u8; 32]) -> State
+pub fn start(
+    m: usize,
+    sv: &[u8; ENTRY_LIMIT],
+    st: &[u8; ENTRY_LIMIT],
+    qs: &[u8; 32],
+    qt: &[u8; 32],
+) -> State
     requires { ⌜ (m ≤ entryLimit) × Low m (now sv) nodeLimit × Low m (now st) nodeLimit ⌝ }
     ensures { λ r. ⌜ Started m (now (sv .entry)) (now (st .entry)) (now (qs .entry)) (now (qt .entry)) r ⌝ }
 {
@@ -114,7 +121,7 @@ pub fn start(m: usize, sv: &[u8; 1024], st: &[u8; 1024], qs: &[u8; 32], qt: &[u8
     let cut_t = reduction_counts::cuts(qt, &dt);
     State {
         rem: rem,
-        fixed: [false; 1024],
+        fixed: [false; ENTRY_LIMIT],
         qs: cut_s,
         qt: cut_t,
         ds: ds,
@@ -126,10 +133,10 @@ pub fn start(m: usize, sv: &[u8; 1024], st: &[u8; 1024], qs: &[u8; 32], qt: &[u8
 // more remaining edges than their quotas.
 pub fn stable(
     rule: u8,
-    sv: &[u8; 1024],
-    st: &[u8; 1024],
-    fs: &[bool; 1024],
-    ft: &[bool; 1024],
+    sv: &[u8; ENTRY_LIMIT],
+    st: &[u8; ENTRY_LIMIT],
+    fs: &[bool; ENTRY_LIMIT],
+    ft: &[bool; ENTRY_LIMIT],
     x: State,
     e: usize,
 ) -> bool

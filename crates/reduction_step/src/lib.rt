@@ -5,6 +5,7 @@ ghost use mathlib.Core.Bool.{Bool};
 ghost use mathlib.Core.List.{List};
 ghost use Prim.Native.Nat.{ℕ, _≤_, _<_};
 ghost use lib.ListN.{length};
+ghost use Rattle.model.specs.Limits.{entryLimit, nodeLimit};
 ghost use Rattle.arrays.specs.ArrayInstance.{at};
 ghost use Rattle.reduction_counts.specs.Filled.{Low};
 ghost use Rattle.reduction_step.specs.RuleChosen.{Viewed, Named2, Last, Late, Steps};
@@ -44,9 +45,9 @@ pub fn look(
     qs: &[u16; 32],
     qt: &[u16; 32],
 ) -> View
-    requires { ⌜ (m ≤ 1024) × Low m (now sv) 32 × Low m (now st) 32 ⌝ }
-    requires { ⌜ (length (now os) ≤ 1024) × Low (length (now os)) (now os) 1024 × ((k : ℕ) → k < length (now os) → at (now sv) (at (now os) k) < 32) ⌝ }
-    requires { ⌜ (length (now ot) ≤ 1024) × Low (length (now ot)) (now ot) 1024 × ((k : ℕ) → k < length (now ot) → at (now st) (at (now ot) k) < 32) ⌝ }
+    requires { ⌜ (m ≤ entryLimit) × Low m (now sv) nodeLimit × Low m (now st) nodeLimit ⌝ }
+    requires { ⌜ (length (now os) ≤ entryLimit) × Low (length (now os)) (now os) entryLimit × ((k : ℕ) → k < length (now os) → at (now sv) (at (now os) k) < nodeLimit) ⌝ }
+    requires { ⌜ (length (now ot) ≤ entryLimit) × Low (length (now ot)) (now ot) entryLimit × ((k : ℕ) → k < length (now ot) → at (now st) (at (now ot) k) < nodeLimit) ⌝ }
     ensures { λ r. ⌜ Viewed m (now (sv .entry)) (now (st .entry)) (now (tied .entry)) (now (os .entry)) (now (ot .entry)) (now (rem .entry)) (now (qs .entry)) (now (qt .entry)) (r .hs) (r .ht) (r .fs) (r .ft) ⌝ }
 {
     let hs = reduction_counts::mark(os, sv, rem);
@@ -76,9 +77,9 @@ pub fn second(
     fs: &[bool; 1024],
     ft: &[bool; 1024],
 ) -> [bool; 1024]
-    requires { ⌜ (m ≤ 1024) × Low m (now sv) 32 × Low m (now st) 32 ⌝ }
-    requires { ⌜ (length (now os) ≤ 1024) × Low (length (now os)) (now os) 1024 × ((k : ℕ) → k < length (now os) → at (now sv) (at (now os) k) < 32) ⌝ }
-    requires { ⌜ (length (now ot) ≤ 1024) × Low (length (now ot)) (now ot) 1024 × ((k : ℕ) → k < length (now ot) → at (now st) (at (now ot) k) < 32) ⌝ }
+    requires { ⌜ (m ≤ entryLimit) × Low m (now sv) nodeLimit × Low m (now st) nodeLimit ⌝ }
+    requires { ⌜ (length (now os) ≤ entryLimit) × Low (length (now os)) (now os) entryLimit × ((k : ℕ) → k < length (now os) → at (now sv) (at (now os) k) < nodeLimit) ⌝ }
+    requires { ⌜ (length (now ot) ≤ entryLimit) × Low (length (now ot)) (now ot) entryLimit × ((k : ℕ) → k < length (now ot) → at (now st) (at (now ot) k) < nodeLimit) ⌝ }
     ensures { λ r. ⌜ Named2 m (now (sv .entry)) (now (st .entry)) (now (tied .entry)) (now (os .entry)) (now (ot .entry)) (now (rem .entry)) (now (qs .entry)) (now (qt .entry)) (now (fs .entry)) (now (ft .entry)) r ⌝ }
 {
     let gs = reduction_counts::mark(os, sv, ft);
@@ -104,7 +105,7 @@ pub fn last(
     ns: &[u16; 32],
     got: &[u16; 32],
 ) -> Named
-    requires { ⌜ (m ≤ 1024) × Low m (now sv) 32 × Low m (now st) 32 ⌝ }
+    requires { ⌜ (m ≤ entryLimit) × Low m (now sv) nodeLimit × Low m (now st) nodeLimit ⌝ }
     ensures { λ r. ⌜ ((os ot : List ℕ) → Last m (now (sv .entry)) (now (st .entry)) (now (tied .entry)) os ot (now (rem .entry)) (now (qs .entry)) (now (qt .entry)) (now (hs .entry)) (now (ht .entry)) (now (fs .entry)) (now (ft .entry)) (now (lo .entry)) (now (ns .entry)) (now (got .entry)) (r .rule) (r .edge) (r .hit)) ⌝ }
 {
     let hit = reduction_rules::named5(m, rem, st, lo, fs, ft);
@@ -154,8 +155,8 @@ pub fn late(
     fs: &[bool; 1024],
     ft: &[bool; 1024],
 ) -> Named
-    requires { ⌜ (m ≤ 1024) × Low m (now sv) 32 × Low m (now st) 32 ⌝ }
-    requires { ⌜ (length (now os) ≤ 1024) × Low (length (now os)) (now os) 1024 × ((k : ℕ) → k < length (now os) → at (now sv) (at (now os) k) < 32) ⌝ }
+    requires { ⌜ (m ≤ entryLimit) × Low m (now sv) nodeLimit × Low m (now st) nodeLimit ⌝ }
+    requires { ⌜ (length (now os) ≤ entryLimit) × Low (length (now os)) (now os) entryLimit × ((k : ℕ) → k < length (now os) → at (now sv) (at (now os) k) < nodeLimit) ⌝ }
     ensures { λ r. ⌜ ((ot : List ℕ) → Late m (now (sv .entry)) (now (st .entry)) (now (tied .entry)) (now (os .entry)) ot (now (rem .entry)) (now (qs .entry)) (now (qt .entry)) (now (hs .entry)) (now (ht .entry)) (now (fs .entry)) (now (ft .entry)) (r .rule) (r .edge) (r .hit)) ⌝ }
 {
     let got = reduction_counts::tally(m, st, fs);
@@ -195,9 +196,9 @@ pub fn step(
     qs: &[u16; 32],
     qt: &[u16; 32],
 ) -> Stepped
-    requires { ⌜ (m ≤ 1024) × Low m (now sv) 32 × Low m (now st) 32 ⌝ }
-    requires { ⌜ (length (now os) ≤ 1024) × Low (length (now os)) (now os) 1024 × ((k : ℕ) → k < length (now os) → at (now sv) (at (now os) k) < 32) ⌝ }
-    requires { ⌜ (length (now ot) ≤ 1024) × Low (length (now ot)) (now ot) 1024 × ((k : ℕ) → k < length (now ot) → at (now st) (at (now ot) k) < 32) ⌝ }
+    requires { ⌜ (m ≤ entryLimit) × Low m (now sv) nodeLimit × Low m (now st) nodeLimit ⌝ }
+    requires { ⌜ (length (now os) ≤ entryLimit) × Low (length (now os)) (now os) entryLimit × ((k : ℕ) → k < length (now os) → at (now sv) (at (now os) k) < nodeLimit) ⌝ }
+    requires { ⌜ (length (now ot) ≤ entryLimit) × Low (length (now ot)) (now ot) entryLimit × ((k : ℕ) → k < length (now ot) → at (now st) (at (now ot) k) < nodeLimit) ⌝ }
     ensures { λ r. ⌜ Steps m (now (sv .entry)) (now (st .entry)) (now (tied .entry)) (now (os .entry)) (now (ot .entry)) (now (rem .entry)) (now (qs .entry)) (now (qt .entry)) (r .rule) (r .edge) (r .hit) (r .fs) (r .ft) ⌝ }
 {
     let a = look(m, sv, st, tied, os, ot, rem, qs, qt);

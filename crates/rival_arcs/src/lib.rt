@@ -3,6 +3,7 @@
 ghost use mathlib.Core.Path.{_≡_};
 ghost use Prim.Native.Nat.{ℕ, _+_, _≤_, _<_};
 ghost use lib.Dec.{eqb};
+ghost use Rattle.model.specs.Limits.{entryLimit, planLimit};
 ghost use Rattle.theory_votes.specs.Score.{rate};
 ghost use Rattle.arrays.specs.ArrayInstance.{at};
 ghost use Rattle.rival_tables.specs.Filled.{Made, Rows};
@@ -37,7 +38,7 @@ pub fn arc_row(
     t: u8,
     b: u8,
 ) -> [u8; 64]
-    requires { ⌜ m ≤ 1024 ⌝ }
+    requires { ⌜ m ≤ entryLimit ⌝ }
     ensures { λ o. ⌜ Made 0 o (λ j. arcPrice m (now (sv .entry)) (now (st .entry)) (now (rs .entry)) (now (rt .entry)) (now (plan .entry)) t b (at (now (ps .entry)) j) (at (now (qs .entry)) j)) 64 ⌝ }
 {
     let mut o = [133u8; 64];
@@ -67,7 +68,7 @@ pub fn arcs(
     qs: &[u8; 64],
     qt: &[u8; 64],
 ) -> [u8; 4096]
-    requires { ⌜ (m ≤ 1024) × (n ≤ 64) ⌝ }
+    requires { ⌜ (m ≤ entryLimit) × (n ≤ planLimit) ⌝ }
     ensures { λ r. ⌜ Rows r n (λ i j. arcPrice m (now (sv .entry)) (now (st .entry)) (now (rs .entry)) (now (rt .entry)) (now (plan .entry)) (at (now (pt .entry)) i) (at (now (qt .entry)) i) (at (now (ps .entry)) j) (at (now (qs .entry)) j)) ⌝ }
 {
     let mut o = [133u8; 4096];

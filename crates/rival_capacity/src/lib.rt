@@ -5,12 +5,13 @@ ghost use Prim.Native.Nat.{ℕ, _≤_, _<_};
 ghost use lib.Dec.{eqb, ltb};
 ghost use Rattle.lists.specs.Sum.{count};
 ghost use Rattle.lists.specs.Search.{low};
+ghost use Rattle.model.specs.Limits.{entryLimit, nodeLimit, planLimit};
 ghost use Rattle.arrays.specs.ArrayInstance.{at, flag};
 ghost use Rattle.rival_tables.specs.Filled.{Low, Made};
 
 // How many edges of the plan lie at a node, from the nodes of its n edges.
 pub fn lying(n: usize, nodes: &[u8; 64], v: u8) -> u8
-    requires { ⌜ n ≤ 64 ⌝ }
+    requires { ⌜ n ≤ planLimit ⌝ }
     ensures { λ r. ⌜ r ≡ count (λ j. eqb (at (now (nodes .entry)) j) v) n ⌝ }
 {
     let mut c = 0;
@@ -24,7 +25,7 @@ pub fn lying(n: usize, nodes: &[u8; 64], v: u8) -> u8
 
 // The nodes that have room.
 pub fn rooms(n: usize, nodes: &[u8; 64], quota: &[u8; 32]) -> [bool; 32]
-    requires { ⌜ n ≤ 64 ⌝ }
+    requires { ⌜ n ≤ planLimit ⌝ }
     ensures { λ r. ⌜ Made false r (λ v. ltb (count (λ j. eqb (at (now (nodes .entry)) j) v) n) (at (now (quota .entry)) v)) 32 ⌝ }
 {
     let mut o = [false; 32];
@@ -46,7 +47,7 @@ pub fn direct(
     rs: &[bool; 32],
     rt: &[bool; 32],
 ) -> usize
-    requires { ⌜ (m ≤ 1024) × Low m (now sv) 32 × Low m (now st) 32 ⌝ }
+    requires { ⌜ (m ≤ entryLimit) × Low m (now sv) nodeLimit × Low m (now st) nodeLimit ⌝ }
     ensures { λ r. ⌜ r ≡ low (λ f. not (flag (now (plan .entry)) f) && (flag (now (rs .entry)) (at (now (sv .entry)) f) && flag (now (rt .entry)) (at (now (st .entry)) f))) m ⌝ }
 {
     let mut f = 0;

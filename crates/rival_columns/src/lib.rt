@@ -2,6 +2,7 @@
 // walk back.
 ghost use mathlib.Core.Path.{_≡_};
 ghost use Prim.Native.Nat.{ℕ, _≤_, _<_};
+ghost use Rattle.model.specs.Limits.{planLimit};
 ghost use Rattle.rival_tables.specs.Filled.{cell, Made};
 ghost use Rattle.rival_layers.specs.Layers.{Small};
 ghost use Rattle.rival_columns.specs.Leads.{leadAt, Column};
@@ -14,7 +15,7 @@ pub struct Way {
 
 // From place i, where row k of the table is the column of the layer before.
 pub fn lead(n: usize, arcs: &[u8; 4096], table: &[u8; 4096], k: usize, i: usize) -> Way
-    requires { ⌜ (n ≤ 64) × (i < n) × (k < 64) × Small n (now arcs) × ((y : ℕ) → y < n → cell (now table) k y ≤ 133) ⌝ }
+    requires { ⌜ (n ≤ planLimit) × (i < n) × (k < 64) × Small n (now arcs) × ((y : ℕ) → y < n → cell (now table) k y ≤ 133) ⌝ }
     ensures { λ r. ⌜ _≡_ {A = ℕ × ℕ} (r .price, r .place) (leadAt (now (arcs .entry)) n (cell (now (table .entry)) k) i) ⌝ }
 {
     let b = i * 64;
@@ -38,7 +39,7 @@ pub fn lead(n: usize, arcs: &[u8; 4096], table: &[u8; 4096], k: usize, i: usize)
 
 // The column in the layer of the arcs.
 pub fn first_column(n: usize, arcs: &[u8; 4096], j: usize) -> [u8; 64]
-    requires { ⌜ (n ≤ 64) × (j < n) ⌝ }
+    requires { ⌜ (n ≤ planLimit) × (j < n) ⌝ }
     ensures { λ r. ⌜ Made 0 r (λ i. cell (now (arcs .entry)) i j) n ⌝ }
 {
     let mut o = [133u8; 64];
@@ -52,7 +53,7 @@ pub fn first_column(n: usize, arcs: &[u8; 4096], j: usize) -> [u8; 64]
 
 // The column in the layer after that of row k.
 pub fn next_column(n: usize, arcs: &[u8; 4096], table: &[u8; 4096], k: usize) -> [u8; 64]
-    requires { ⌜ (n ≤ 64) × (k < 64) × Small n (now arcs) × ((y : ℕ) → y < n → cell (now table) k y ≤ 133) ⌝ }
+    requires { ⌜ (n ≤ planLimit) × (k < 64) × Small n (now arcs) × ((y : ℕ) → y < n → cell (now table) k y ≤ 133) ⌝ }
     ensures { λ r. ⌜ Made 0 r (λ i. leadAt (now (arcs .entry)) n (cell (now (table .entry)) k) i .0) n ⌝ }
 {
     let mut o = [133u8; 64];
@@ -67,7 +68,7 @@ pub fn next_column(n: usize, arcs: &[u8; 4096], table: &[u8; 4096], k: usize) ->
 
 // Column j of the layers up to l, a row for each.
 pub fn columns(n: usize, arcs: &[u8; 4096], j: usize, l: usize) -> [u8; 4096]
-    requires { ⌜ (n ≤ 64) × (j < n) × (l < 64) × Small n (now arcs) ⌝ }
+    requires { ⌜ (n ≤ planLimit) × (j < n) × (l < 64) × Small n (now arcs) ⌝ }
     ensures { λ r. ⌜ Column (now (arcs .entry)) n j l r ⌝ }
 {
     let first = first_column(n, arcs, j);

@@ -1,6 +1,7 @@
 // The start and the end of a walk, with the edges that are gained there: the first cheapest two of all that are apart.
 ghost use mathlib.Core.Path.{_≡_};
 ghost use Prim.Native.Nat.{_≤_, _<_};
+ghost use Rattle.model.specs.Limits.{entryLimit, nodeLimit};
 ghost use Rattle.theory_verdict.specs.Ends.{lose};
 ghost use Rattle.theory_verdict.specs.Search.{endPrice};
 ghost use Rattle.arrays.specs.ArrayInstance.{at};
@@ -44,7 +45,7 @@ pub fn round(
     free: bool,
     held: Ends,
 ) -> Ends
-    requires { ⌜ (m ≤ 1024) × Low m (now sv) 32 × (x < 1024) × (y < 1024) × (a ≤ 3) × (a ≡ endPrice (at (now rs)) x (wayOf m start)) × (free ≡ apart m (now sv) (now st) (now rs) (now rt) x y (wayOf m start, lose)) ⌝ }
+    requires { ⌜ (m ≤ entryLimit) × Low m (now sv) nodeLimit × (x < entryLimit) × (y < entryLimit) × (a ≤ 3) × (a ≡ endPrice (at (now rs)) x (wayOf m start)) × (free ≡ apart m (now sv) (now st) (now rs) (now rt) x y (wayOf m start, lose)) ⌝ }
     ensures { λ r. ⌜ told m r ≡ round m (now (sv .entry)) (now (st .entry)) (now (rs .entry)) (now (rt .entry)) x y (now (plan .entry)) (now (fs .entry)) (wayOf m start) (told m held) ⌝ }
 {
     let s = sv[x];
@@ -76,7 +77,7 @@ pub fn terminal(
     x: usize,
     y: usize,
 ) -> Ends
-    requires { ⌜ (m ≤ 1024) × Low m (now sv) 32 × Low m (now st) 32 × (x < 1024) × (y < 1024) ⌝ }
+    requires { ⌜ (m ≤ entryLimit) × Low m (now sv) nodeLimit × Low m (now st) nodeLimit × (x < entryLimit) × (y < entryLimit) ⌝ }
     ensures { λ r. ⌜ told m r ≡ terminalBy m (now (sv .entry)) (now (st .entry)) (now (rs .entry)) (now (rt .entry)) x y (now (plan .entry)) (now (fs .entry)) (now (ft .entry)) ⌝ }
 {
     let s = sv[x];

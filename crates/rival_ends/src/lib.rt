@@ -1,6 +1,7 @@
 // The table of the ends: the least price of a start at one edge of the plan with an end at another.
 ghost use mathlib.Core.Path.{_≡_};
 ghost use Prim.Native.Nat.{ℕ, _≤_, _<_};
+ghost use Rattle.model.specs.Limits.{planLimit};
 ghost use Rattle.rival_tables.specs.Filled.{Made, Grid};
 ghost use Rattle.rival_ends.specs.Terminals.{terminalAt, Rates};
 
@@ -13,7 +14,7 @@ pub fn terminal_row(
     gt: &[u8; 64],
     i: usize,
 ) -> [u8; 64]
-    requires { ⌜ (n ≤ 64) × (i < n) × Rates n (now starts) (now stops) (now gs) (now gt) ⌝ }
+    requires { ⌜ (n ≤ planLimit) × (i < n) × Rates n (now starts) (now stops) (now gs) (now gt) ⌝ }
     ensures { λ r. ⌜ Made 0 r (terminalAt (now (starts .entry)) (now (stops .entry)) (now (gs .entry)) (now (gt .entry)) i) n ⌝ }
 {
     let mut o = [0u8; 64];
@@ -36,7 +37,7 @@ pub fn terminals(
     gs: &[u8; 64],
     gt: &[u8; 64],
 ) -> [u8; 4096]
-    requires { ⌜ (n ≤ 64) × Rates n (now starts) (now stops) (now gs) (now gt) ⌝ }
+    requires { ⌜ (n ≤ planLimit) × Rates n (now starts) (now stops) (now gs) (now gt) ⌝ }
     ensures { λ r. ⌜ Grid r n (terminalAt (now (starts .entry)) (now (stops .entry)) (now (gs .entry)) (now (gt .entry))) ⌝ }
 {
     let mut o = [0u8; 4096];

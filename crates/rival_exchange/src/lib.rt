@@ -3,6 +3,7 @@ ghost use mathlib.Core.Bool.{cond};
 ghost use mathlib.Core.List.{[], _∷_, _++_};
 ghost use Prim.Native.Nat.{_≤_, _<_};
 ghost use lib.Dec.{ltb};
+ghost use Rattle.model.specs.Limits.{entryLimit, nodeLimit, planLimit};
 ghost use Rattle.theory_verdict.specs.Arcs.{fs, zs};
 ghost use Rattle.theory_verdict.specs.Ends.{fresh};
 ghost use Rattle.rival_tables.specs.Filled.{Low};
@@ -18,7 +19,7 @@ use rival_walk::Swap;
 
 // One more edge is marked, if there is one: the number of all edges stands for none.
 pub fn gained(g: [bool; 1024], m: usize, c: usize) -> [bool; 1024]
-    requires { ⌜ m ≤ 1024 ⌝ }
+    requires { ⌜ m ≤ entryLimit ⌝ }
     ensures { λ r. ⌜ Marked g (cond (ltb c m) (c ∷ []) []) r ⌝ }
 {
     let mut o = g;
@@ -41,7 +42,7 @@ pub fn ended(
     x: usize,
     y: usize,
 ) -> Swap
-    requires { ⌜ (m ≤ 1024) × Low m (now sv) 32 × Low m (now st) 32 × (x < 1024) × (y < 1024) ⌝ }
+    requires { ⌜ (m ≤ entryLimit) × Low m (now sv) nodeLimit × Low m (now st) nodeLimit × (x < entryLimit) × (y < entryLimit) ⌝ }
     ensures { λ r. ⌜ Marks (r .gone) (x ∷ []) × Marks (r .come) (fresh (terminalBy m (now (sv .entry)) (now (st .entry)) (now (rs .entry)) (now (rt .entry)) x y (now (plan .entry)) (now (fs .entry)) (now (ft .entry)) .1 .0) ++ fresh (terminalBy m (now (sv .entry)) (now (st .entry)) (now (rs .entry)) (now (rt .entry)) x y (now (plan .entry)) (now (fs .entry)) (now (ft .entry)) .1 .1)) ⌝ }
 {
     let t = rival_end_edges::terminal(m, sv, st, rs, rt, plan, fs, ft, x, y);
@@ -72,7 +73,7 @@ pub fn walked(
     j: usize,
     start: Swap,
 ) -> Swap
-    requires { ⌜ (m ≤ 1024) × (n ≤ 64) × Low n (now es) 1024 × Small n (now arcs) × (l < 64) × (i < n) × (j < n) ⌝ }
+    requires { ⌜ (m ≤ entryLimit) × (n ≤ planLimit) × Low n (now es) entryLimit × Small n (now arcs) × (l < 64) × (i < n) × (j < n) ⌝ }
     ensures { λ r. ⌜ Marked (start .gone) (zs (walkAt (arcEdge m (now (sv .entry)) (now (st .entry)) (now (rs .entry)) (now (rt .entry)) (now (plan .entry))) (now (es .entry)) (now (arcs .entry)) n j l i)) (r .gone) × Marked (start .come) (fs (walkAt (arcEdge m (now (sv .entry)) (now (st .entry)) (now (rs .entry)) (now (rt .entry)) (now (plan .entry))) (now (es .entry)) (now (arcs .entry)) n j l i)) (r .come) ⌝ }
 {
     let table = rival_columns::columns(n, arcs, j, l);
@@ -94,7 +95,7 @@ pub fn swap(
     arcs: &[u8; 4096],
     found: Found,
 ) -> Swap
-    requires { ⌜ (m ≤ 1024) × (n ≤ 64) × Low m (now sv) 32 × Low m (now st) 32 × Low n (now es) 1024 × Small n (now arcs) × Bounded m n found ⌝ }
+    requires { ⌜ (m ≤ entryLimit) × (n ≤ planLimit) × Low m (now sv) nodeLimit × Low m (now st) nodeLimit × Low n (now es) entryLimit × Small n (now arcs) × Bounded m n found ⌝ }
     ensures { λ r. ⌜ Marks (r .gone) (goneBy m (now (sv .entry)) (now (st .entry)) (now (rs .entry)) (now (rt .entry)) (now (plan .entry)) (now (fs .entry)) (now (ft .entry)) (now (es .entry)) (now (arcs .entry)) n found) × Marks (r .come) (comeBy m (now (sv .entry)) (now (st .entry)) (now (rs .entry)) (now (rt .entry)) (now (plan .entry)) (now (fs .entry)) (now (ft .entry)) (now (es .entry)) (now (arcs .entry)) n found) ⌝ }
 {
     let blank = Swap {

@@ -4,6 +4,7 @@ ghost use mathlib.Core.Path.{_≡_};
 ghost use mathlib.Core.Bool.{not};
 ghost use Prim.Native.Nat.{ℕ, _≤_, _<_};
 ghost use lib.Dec.{eqb};
+ghost use Rattle.model.specs.Limits.{entryLimit, nodeLimit, planLimit};
 ghost use Rattle.arrays.specs.ArrayInstance.{at};
 ghost use Rattle.rival_tables.specs.Filled.{Low, Made, Rows};
 ghost use Rattle.rival_tables.specs.Cheapest.{offer};
@@ -34,7 +35,7 @@ pub fn apart_row(
     e: u8,
     b: u8,
 ) -> [u8; 64]
-    requires { ⌜ (m ≤ 1024) × Low m (now other) 32 ⌝ }
+    requires { ⌜ (m ≤ entryLimit) × Low m (now other) nodeLimit ⌝ }
     ensures { λ o. ⌜ Made 0 o (λ j. gainPriceBut m (now (end .entry)) (now (other .entry)) (now (rank .entry)) (now (plan .entry)) (now (room .entry)) 3 e b (at (now (po .entry)) j)) 64 ⌝ }
 {
     let mut o = [3u8; 64];
@@ -65,7 +66,7 @@ pub fn apart(
     po: &[u8; 64],
     pr: &[u8; 64],
 ) -> [u8; 4096]
-    requires { ⌜ (m ≤ 1024) × Low m (now other) 32 × (n ≤ 64) ⌝ }
+    requires { ⌜ (m ≤ entryLimit) × Low m (now other) nodeLimit × (n ≤ planLimit) ⌝ }
     ensures { λ r. ⌜ Rows r n (λ i j. gainPriceBut m (now (end .entry)) (now (other .entry)) (now (rank .entry)) (now (plan .entry)) (now (room .entry)) 3 (at (now (pe .entry)) i) (at (now (pr .entry)) i) (at (now (po .entry)) j)) ⌝ }
 {
     let mut o = [3u8; 4096];
@@ -90,7 +91,7 @@ pub fn gain(
     e: u8,
     b: u8,
 ) -> u8
-    requires { ⌜ (m ≤ 1024) × Low m (now other) 32 ⌝ }
+    requires { ⌜ (m ≤ entryLimit) × Low m (now other) nodeLimit ⌝ }
     ensures { λ r. ⌜ r ≡ gainPrice m (now (end .entry)) (now (other .entry)) (now (rank .entry)) (now (plan .entry)) (now (room .entry)) 6 e b ⌝ }
 {
     let mut o = 6;
@@ -119,7 +120,7 @@ pub fn gains(
     pe: &[u8; 64],
     pr: &[u8; 64],
 ) -> [u8; 64]
-    requires { ⌜ (m ≤ 1024) × Low m (now other) 32 × (n ≤ 64) ⌝ }
+    requires { ⌜ (m ≤ entryLimit) × Low m (now other) nodeLimit × (n ≤ planLimit) ⌝ }
     ensures { λ r. ⌜ Made 0 r (λ i. gainPrice m (now (end .entry)) (now (other .entry)) (now (rank .entry)) (now (plan .entry)) (now (room .entry)) 6 (at (now (pe .entry)) i) (at (now (pr .entry)) i)) n ⌝ }
 {
     let mut o = [0u8; 64];

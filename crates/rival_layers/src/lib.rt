@@ -3,6 +3,7 @@ ghost use mathlib.Core.Path.{_≡_};
 ghost use Prim.Native.Nat.{ℕ, _+_, _≤_, _<_, min};
 ghost use lib.Dec.{ltb};
 ghost use Rattle.lists.specs.Search.{low};
+ghost use Rattle.model.specs.Limits.{planLimit};
 ghost use Rattle.arrays.specs.ArrayInstance.{at};
 ghost use Rattle.rival_tables.specs.Filled.{Made, Rows, cell};
 ghost use Rattle.rival_layers.specs.Layers.{keptPrice, Small, Cheap, nextPrice};
@@ -37,7 +38,7 @@ pub fn lower(row: [u8; 64], d: &[u8; 4096], b: usize, a: u8) -> [u8; 64]
 
 // Row i of the next layer.
 pub fn next_row(n: usize, arcs: &[u8; 4096], d: &[u8; 4096], i: usize) -> [u8; 64]
-    requires { ⌜ (n ≤ 64) × (i < n) × Small n (now d) × Cheap n (now arcs) ⌝ }
+    requires { ⌜ (n ≤ planLimit) × (i < n) × Small n (now d) × Cheap n (now arcs) ⌝ }
     ensures { λ r. ⌜ Made 0 r (nextPrice (now (arcs .entry)) (now (d .entry)) n i) 64 ⌝ }
 {
     let b = i * 64;
@@ -57,7 +58,7 @@ pub fn next_row(n: usize, arcs: &[u8; 4096], d: &[u8; 4096], i: usize) -> [u8; 6
 
 // The next layer.
 pub fn next_layer(n: usize, arcs: &[u8; 4096], d: &[u8; 4096]) -> [u8; 4096]
-    requires { ⌜ (n ≤ 64) × Small n (now d) × Cheap n (now arcs) ⌝ }
+    requires { ⌜ (n ≤ planLimit) × Small n (now d) × Cheap n (now arcs) ⌝ }
     ensures { λ r. ⌜ Rows r n (nextPrice (now (arcs .entry)) (now (d .entry)) n) ⌝ }
 {
     let mut o = [133u8; 4096];

@@ -3,6 +3,7 @@ ghost use mathlib.Core.Path.{_≡_};
 ghost use Prim.Native.Nat.{ℕ, _+_, _*_, _≤_, _<_};
 ghost use lib.Dec.{ltb};
 ghost use Rattle.lists.specs.Search.{low};
+ghost use Rattle.model.specs.Limits.{planLimit};
 ghost use Rattle.arrays.specs.ArrayInstance.{at};
 ghost use Rattle.rival_tables.specs.Filled.{cell};
 ghost use Rattle.rival_layers.specs.Layers.{keptPrice, Small, Cheap};
@@ -25,7 +26,7 @@ pub struct Place {
 
 // The first place on the diagonal that is below a bound, n if there is none.
 pub fn diagonal(n: usize, d: &[u8; 4096], bound: u8) -> usize
-    requires { ⌜ n ≤ 64 ⌝ }
+    requires { ⌜ n ≤ planLimit ⌝ }
     ensures { λ r. ⌜ r ≡ diagAt (cell (now (d .entry))) n bound ⌝ }
 {
     let mut i = 0;
@@ -40,7 +41,7 @@ pub fn diagonal(n: usize, d: &[u8; 4096], bound: u8) -> usize
 
 // The first column in which a row of prices and a row of ends are below a bound together, n if there is none.
 pub fn ends(n: usize, d: &[u8; 4096], terminals: &[u8; 4096], b: usize, bound: u8) -> usize
-    requires { ⌜ (n ≤ 64) × (b + 64 ≤ 4096) × ((j : ℕ) → j < n → at (now d) (b + j) + at (now terminals) (b + j) ≤ 139) ⌝ }
+    requires { ⌜ (n ≤ planLimit) × (b + 64 ≤ 4096) × ((j : ℕ) → j < n → at (now d) (b + j) + at (now terminals) (b + j) ≤ 139) ⌝ }
     ensures { λ r. ⌜ r ≡ low (λ j. ltb (at (now (d .entry)) (b + j) + at (now (terminals .entry)) (b + j)) bound) n ⌝ }
 {
     let mut j = 0;
@@ -55,7 +56,7 @@ pub fn ends(n: usize, d: &[u8; 4096], terminals: &[u8; 4096], b: usize, bound: u
 
 // The first row in which that finds a column, and the column; n if there is none.
 pub fn pair(n: usize, d: &[u8; 4096], terminals: &[u8; 4096], bound: u8) -> Place
-    requires { ⌜ (n ≤ 64) × Small n (now d) × SmallEnds n (now terminals) ⌝ }
+    requires { ⌜ (n ≤ planLimit) × Small n (now d) × SmallEnds n (now terminals) ⌝ }
     ensures { λ r. ⌜ (r .row ≡ pairAt (cell (now (d .entry))) (now (terminals .entry)) n bound) × (r .row < n → r .column ≡ endsAt (cell (now (d .entry))) (now (terminals .entry)) n bound (r .row)) ⌝ }
 {
     let mut i = 0;
@@ -72,7 +73,7 @@ pub fn pair(n: usize, d: &[u8; 4096], terminals: &[u8; 4096], bound: u8) -> Plac
 
 // The first column in which the next layer's row is lower than the row kept, n if there is none.
 pub fn lowered(n: usize, d: &[u8; 4096], e: &[u8; 4096], b: usize) -> usize
-    requires { ⌜ (n ≤ 64) × (b + 64 ≤ 4096) × ((j : ℕ) → j < 64 → at (now d) (b + j) ≤ 133) ⌝ }
+    requires { ⌜ (n ≤ planLimit) × (b + 64 ≤ 4096) × ((j : ℕ) → j < 64 → at (now d) (b + j) ≤ 133) ⌝ }
     ensures { λ r. ⌜ r ≡ low (λ j. ltb (at (now (e .entry)) (b + j)) (keptPrice (at (now (d .entry)) (b + j)))) n ⌝ }
 {
     let mut j = 0;
@@ -88,7 +89,7 @@ pub fn lowered(n: usize, d: &[u8; 4096], e: &[u8; 4096], b: usize) -> usize
 
 // The first row that has such a column, n if there is none.
 pub fn changed(n: usize, d: &[u8; 4096], e: &[u8; 4096]) -> usize
-    requires { ⌜ (n ≤ 64) × Small n (now d) ⌝ }
+    requires { ⌜ (n ≤ planLimit) × Small n (now d) ⌝ }
     ensures { λ r. ⌜ r ≡ changedAt (cell (now (d .entry))) (cell (now (e .entry))) n ⌝ }
 {
     let mut i = 0;
@@ -105,7 +106,7 @@ pub fn changed(n: usize, d: &[u8; 4096], e: &[u8; 4096]) -> usize
 
 // All levels, until a layer changes nothing.
 pub fn levels(n: usize, arcs: &[u8; 4096], terminals: &[u8; 4096], k: u8) -> Found
-    requires { ⌜ (n ≤ 64) × (k ≤ 1) × Small n (now arcs) × Cheap n (now arcs) × SmallEnds n (now terminals) ⌝ }
+    requires { ⌜ (n ≤ planLimit) × (k ≤ 1) × Small n (now arcs) × Cheap n (now arcs) × SmallEnds n (now terminals) ⌝ }
     ensures { λ r. ⌜ r ≡ levelsAt (now (arcs .entry)) (now (terminals .entry)) n k n 0 ⌝ }
 {
     let mut d = *arcs;

@@ -2,6 +2,7 @@
 // finds nothing.
 ghost use mathlib.Core.Path.{_≡_};
 ghost use Prim.Native.Nat.{ℕ, _≤_, _<_};
+ghost use Rattle.model.specs.Limits.{entryLimit, nodeLimit, planLimit};
 ghost use Rattle.rival_tables.specs.Filled.{Low, Grid, Rows};
 ghost use Rattle.rival_layers.specs.Layers.{Small, Cheap};
 ghost use Rattle.rival_levels.specs.Levels.{SmallEnds};
@@ -25,7 +26,7 @@ pub fn terminal_table(
     fs: &[bool; 32],
     ft: &[bool; 32],
 ) -> [u8; 4096]
-    requires { ⌜ (m ≤ 1024) × (n ≤ 64) × Low m (now sv) 32 × Low m (now st) 32 ⌝ }
+    requires { ⌜ (m ≤ entryLimit) × (n ≤ planLimit) × Low m (now sv) nodeLimit × Low m (now st) nodeLimit ⌝ }
     ensures { λ r. ⌜ Grid r n (terminalCell m (now (sv .entry)) (now (st .entry)) (now (rs .entry)) (now (rt .entry)) (now (plan .entry)) (now (fs .entry)) (now (ft .entry)) (now (ps .entry)) (now (pt .entry)) (now (qs .entry)) (now (qt .entry))) ⌝ }
 {
     let starts = rival_gains::apart(m, sv, st, rs, plan, ft, n, ps, pt, qs);
@@ -48,7 +49,7 @@ pub fn search(
     ends: &[u8; 4096],
     k: u8,
 ) -> rival_levels::Found
-    requires { ⌜ (m ≤ 1024) × (n ≤ 64) × (k ≤ 1) × Low m (now sv) 32 × Low m (now st) 32 × Small n (now arcs) × Cheap n (now arcs) × SmallEnds n (now ends) ⌝ }
+    requires { ⌜ (m ≤ entryLimit) × (n ≤ planLimit) × (k ≤ 1) × Low m (now sv) nodeLimit × Low m (now st) nodeLimit × Small n (now arcs) × Cheap n (now arcs) × SmallEnds n (now ends) ⌝ }
     ensures { λ r. ⌜ r ≡ searchAt m (freeAt (now (sv .entry)) (now (st .entry)) (now (plan .entry)) (now (fs .entry)) (now (ft .entry))) (now (arcs .entry)) (now (ends .entry)) n k ⌝ }
 {
     let f = rival_capacity::direct(m, sv, st, plan, fs, ft);
@@ -86,7 +87,7 @@ pub fn searched(
     ft: &[bool; 32],
     arcs: &[u8; 4096],
 ) -> Hunt
-    requires { ⌜ (m ≤ 1024) × (n ≤ 64) × Low m (now sv) 32 × Low m (now st) 32 × Rows (now arcs) n (arcCell m (now sv) (now st) (now rs) (now rt) (now plan) (now ps) (now pt) (now qs) (now qt)) ⌝ }
+    requires { ⌜ (m ≤ entryLimit) × (n ≤ planLimit) × Low m (now sv) nodeLimit × Low m (now st) nodeLimit × Rows (now arcs) n (arcCell m (now sv) (now st) (now rs) (now rt) (now plan) (now ps) (now pt) (now qs) (now qt)) ⌝ }
     ensures { λ r. ⌜ Searched m (now (sv .entry)) (now (st .entry)) (now (rs .entry)) (now (rt .entry)) (now (plan .entry)) n (now (ps .entry)) (now (pt .entry)) (now (qs .entry)) (now (qt .entry)) (now (fs .entry)) (now (ft .entry)) (now (arcs .entry)) (r .below) (r .found) ⌝ }
 {
     let ends = terminal_table(m, sv, st, rs, rt, plan, n, ps, pt, qs, qt, fs, ft);

@@ -3,6 +3,7 @@
 ghost use mathlib.Core.Path.{_≡_};
 ghost use mathlib.Core.Bool.{cond};
 ghost use Prim.Native.Nat.{ℕ, _≤_, _<_, min};
+ghost use Rattle.model.specs.Limits.{entryLimit, planLimit};
 ghost use Rattle.arrays.specs.ArrayInstance.{at};
 ghost use Rattle.theory_votes.specs.Score.{rate};
 ghost use Rattle.rival_tables.specs.Filled.{Low, Made, Put};
@@ -32,7 +33,7 @@ pub fn offered(t: bool, p: u8, v: u8) -> u8
 
 // What an array has for the first n edges of a list.
 pub fn gathered(n: usize, es: &[u16; 64], xs: &[u8; 1024]) -> [u8; 64]
-    requires { ⌜ (n ≤ 64) × Low n (now es) 1024 ⌝ }
+    requires { ⌜ (n ≤ planLimit) × Low n (now es) entryLimit ⌝ }
     ensures { λ r. ⌜ Made 0 r (λ i. at (now (xs .entry)) (at (now (es .entry)) i)) n ⌝ }
 {
     let mut o = [0u8; 64];

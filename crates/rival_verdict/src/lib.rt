@@ -3,6 +3,7 @@
 ghost use mathlib.Core.Path.{_≡_};
 ghost use mathlib.Core.Bool.{false, not, _&&_, _||_};
 ghost use Prim.Native.Nat.{_≤_};
+ghost use Rattle.model.specs.Limits.{entryLimit, nodeLimit, planLimit};
 ghost use Rattle.arrays.specs.ArrayInstance.{flag};
 ghost use Rattle.arrays.specs.Passes.{Shows};
 ghost use Rattle.rival_tables.specs.Filled.{Low};
@@ -27,7 +28,7 @@ pub fn exchanged(
     gone: &[bool; 1024],
     come: &[bool; 1024],
 ) -> [bool; 1024]
-    requires { ⌜ m ≤ 1024 ⌝ }
+    requires { ⌜ m ≤ entryLimit ⌝ }
     ensures { λ r. ⌜ Shows false r m (λ e. (flag (now (plan .entry)) e && not (flag (now (gone .entry)) e)) || flag (now (come .entry)) e) ⌝ }
 {
     let mut o = [false; 1024];
@@ -64,7 +65,7 @@ pub fn judged_on(
     fs: &[bool; 32],
     ft: &[bool; 32],
 ) -> Judged
-    requires { ⌜ (m ≤ 1024) × (n ≤ 64) × Low m (now sv) 32 × Low m (now st) 32 × Lists m (now plan) n (now es) × Views n (now es) (now sv) (now st) (now rs) (now rt) (now ps) (now pt) (now qs) (now qt) ⌝ }
+    requires { ⌜ (m ≤ entryLimit) × (n ≤ planLimit) × Low m (now sv) nodeLimit × Low m (now st) nodeLimit × Lists m (now plan) n (now es) × Views n (now es) (now sv) (now st) (now rs) (now rt) (now ps) (now pt) (now qs) (now qt) ⌝ }
     ensures { λ r. ⌜ ShownFor m (now (sv .entry)) (now (st .entry)) (now (rs .entry)) (now (rt .entry)) (now (plan .entry)) n (now (ps .entry)) (now (pt .entry)) (now (fs .entry)) (now (ft .entry)) (verdictFor (r .beaten) (r .rivalled)) (r .rival) ⌝ }
 {
     let arcs = rival_arcs::arcs(m, sv, st, rs, rt, plan, n, ps, pt, qs, qt);
@@ -95,7 +96,7 @@ pub fn judge(
     n: usize,
     es: &[u16; 64],
 ) -> Judged
-    requires { ⌜ (m ≤ 1024) × (n ≤ 64) × Low m (now sv) 32 × Low m (now st) 32 × Lists m (now plan) n (now es) ⌝ }
+    requires { ⌜ (m ≤ entryLimit) × (n ≤ planLimit) × Low m (now sv) nodeLimit × Low m (now st) nodeLimit × Lists m (now plan) n (now es) ⌝ }
     ensures { λ r. ⌜ RivalShown m (now (sv .entry)) (now (st .entry)) (now (rs .entry)) (now (rt .entry)) (now (bs .entry)) (now (bt .entry)) (now (plan .entry)) (verdictFor (r .beaten) (r .rivalled)) (r .rival) ⌝ }
 {
     let ps = rival_tables::gathered(n, es, sv);

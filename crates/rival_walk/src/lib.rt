@@ -1,6 +1,7 @@
 // The walk that a search found, read back: the edges of the plan that go and the edges that come are marked, arc by arc.
 ghost use mathlib.Core.Path.{_≡_};
 ghost use Prim.Native.Nat.{_≤_, _<_};
+ghost use Rattle.model.specs.Limits.{entryLimit, planLimit};
 ghost use Rattle.theory_verdict.specs.Arcs.{fs, zs};
 ghost use Rattle.rival_tables.specs.Filled.{Low};
 ghost use Rattle.rival_layers.specs.Layers.{Small};
@@ -26,7 +27,7 @@ pub fn arc_edge(
     x: usize,
     z: usize,
 ) -> usize
-    requires { ⌜ (m ≤ 1024) × (x < 1024) × (z < 1024) ⌝ }
+    requires { ⌜ (m ≤ entryLimit) × (x < entryLimit) × (z < entryLimit) ⌝ }
     ensures { λ r. ⌜ (r ≡ arcEdge m (now (sv .entry)) (now (st .entry)) (now (rs .entry)) (now (rt .entry)) (now (plan .entry)) x z) × (r < 1024) ⌝ }
 {
     let t = st[x];
@@ -65,7 +66,7 @@ pub fn walk(
     j: usize,
     start: Swap,
 ) -> Swap
-    requires { ⌜ (m ≤ 1024) × (n ≤ 64) × Low n (now es) 1024 × Small n (now arcs) × (l < 64) × (i < n) × (j < n) × Column (now arcs) n j l (now table) ⌝ }
+    requires { ⌜ (m ≤ entryLimit) × (n ≤ planLimit) × Low n (now es) entryLimit × Small n (now arcs) × (l < 64) × (i < n) × (j < n) × Column (now arcs) n j l (now table) ⌝ }
     ensures { λ r. ⌜ Marked (start .gone) (zs (walkAt (arcEdge m (now (sv .entry)) (now (st .entry)) (now (rs .entry)) (now (rt .entry)) (now (plan .entry))) (now (es .entry)) (now (arcs .entry)) n j l i)) (r .gone) × Marked (start .come) (fs (walkAt (arcEdge m (now (sv .entry)) (now (st .entry)) (now (rs .entry)) (now (rt .entry)) (now (plan .entry))) (now (es .entry)) (now (arcs .entry)) n j l i)) (r .come) ⌝ }
 {
     let mut gone = start.gone;

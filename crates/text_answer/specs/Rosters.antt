@@ -8,7 +8,7 @@ use lib.ListN.{length, take}
 use lib.Dec.{T, ltb}
 use Rattle.lists.specs.Test.{and-l, and-r, and-i}
 use Rattle.lists.specs.Sum.{_∈_, range, range-length}
-use Rattle.lists.specs.Keep.{gather, keep}
+use Rattle.lists.specs.Keep.{gather}
 use Rattle.model.specs.Limits.{nodeLimit, entryLimit, planLimit, planSize, diarySize, leftSize, inputSize}
 use Rattle.model.specs.Reading.{Reading, accepted, refused}
 use Rattle.model.specs.Roster.{Roster, fits, surveyorCount, standCount, listed}
@@ -29,19 +29,12 @@ use Rattle.theory_verdict.specs.Plans.{matching-plan}
 use Rattle.theory_files.specs.RosterInstance.{ns-small, nt-small, fileable}
 use Rattle.theory_files.specs.PlanFiles.{plan-few}
 use Rattle.theory_finder.specs.Choices.{chosen}
+use Rattle.arrays.specs.Kept.{keep-most}
 use Rattle.answers.specs.declared.Found.{Found}
 use Rattle.answers.specs.FinderCases.{shows-found}
 use Rattle.text_answer.specs.Printable.{Printable, textSize}
 use Rattle.text_answer.specs.Handed.{HandedFor}
 use Rattle.text_answer.specs.Sizes.{gather-length, Small, refused-length, text-length, handed-printable}
-
-keep-few : (p : ℕ → Bool) (xs : List ℕ) → length (keep p xs) ≤ length xs
-keep-few p [] = omega arith
-keep-few p (x ∷ xs) = go (p x) (keep-few p xs)
-  where
-    go : (b : Bool) → length (keep p xs) ≤ length xs → length (cond b (x ∷ keep p xs) (keep p xs)) ≤ suc (length xs)
-    go true h = omega arith
-    go false h = omega arith
 
 bytes-front : (n : ℕ) (bs : List ℕ) → T (isBytes bs) → T (isBytes (take n bs))
 bytes-front zero bs t = tt
@@ -76,7 +69,7 @@ module _ (r : Roster) (ok : T (fits r)) where
 
   left-few : length (leftOf G) ≤ entryLimit
   unfolding leftOf
-  left-few = omega (arith, keep-few (endOf G .rem) (range 0 (G .m)), range-length 0 (G .m), edges-few r ok)
+  left-few = omega (arith, keep-most (endOf G .rem) (range 0 (G .m)), range-length 0 (G .m), edges-few r ok)
 
   pub found-small : Small (instanceOf r) (finderOf (instanceOf r) (chosen .rivalOf (instanceOf r)))
   unfolding finderOf

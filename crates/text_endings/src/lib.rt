@@ -1,7 +1,7 @@
 // The endings of the program's text: counted pair lines under a word, and the lines of each answer behind its diary.
 ghost use Prim.Native.Nat.{_+_, _*_, _≤_};
 ghost use lib.ListN.{length};
-ghost use Rattle.model.specs.Limits.{planLimit};
+ghost use Rattle.model.specs.Limits.{planLimit, pairWidth};
 ghost use Rattle.text_numbers.specs.Appended.{Appended};
 ghost use Rattle.text_numbers.specs.Digits.{fieldSize};
 ghost use Rattle.text_lines.specs.Lines.{pairLineSize};
@@ -12,7 +12,7 @@ use answers::NoneKind;
 
 // "K counts them": a word with a space behind it, the count, and so many pair lines
 fn put_counted(out: &mut [u8], at: usize, word: &[u8], pairs: &[u8], n: usize) -> usize
-    requires { ⌜ (2 * n ≤ length (now pairs)) × (at + length (now word) + fieldSize + pairLineSize * n ≤ length (now out)) ⌝ }
+    requires { ⌜ (pairWidth * n ≤ length (now pairs)) × (at + length (now word) + fieldSize + pairLineSize * n ≤ length (now out)) ⌝ }
     ensures { λ r. ⌜ Appended (now (out .entry)) at (countedText (now (word .entry)) (now (pairs .entry)) n) (now (out .exit)) r ⌝ }
 {
     let next = text_numbers::put_word(out, at, word);

@@ -1,4 +1,4 @@
--- The words of fates, and fields in a row as one line. Assumes nothing.
+-- The words of fates, and fields in a row as one line.
 use Prim.Native.Nat.{ℕ, zero, suc}
 use mathlib.Core.Path.{_≡_, refl}
 use mathlib.Core.List.{List, [], _∷_, _++_, append-assoc}

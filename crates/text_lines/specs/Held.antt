@@ -6,6 +6,7 @@ use mathlib.Core.List.{List, [], _∷_, _++_, append-assoc}
 use lib.ListN.{length, getD, drop, List·getD-append}
 use lib.Seq.{getD-append-add}
 use Rattle.lists.specs.Keep.{gather}
+use Rattle.model.specs.Limits.{pairWidth}
 use Rattle.model.specs.Instance.{Instance}
 use Rattle.model.specs.PlanFile.{pairBytes, pairList}
 use Rattle.model.specs.Finder.{Record}
@@ -47,5 +48,6 @@ diary-lines rs d = texts-gather diaryLine (made 0 0 0 0) rs (diaryAt (written rs
 -- the pairs of some edges
 pub pair-lines : (G : Instance) (es rest : List ℕ) → texts (pairAt (pairList G es ++ rest)) (length es) ≡ pairLines G es
 pair-lines G es rest = texts-gather (pairLine G) 0 es (pairAt (pairList G es ++ rest)) (λ i h.
-    let e : 2 * i + 0 ≡ 2 * i = omega arith in
-    ap₂ pairText (ap (λ n. getD (pairList G es ++ rest) n 0) (sym e) ∙ gather-at 2 (pairBytes G) 0 (λ x. refl) es rest i 0 h (omega arith)) (gather-at 2 (pairBytes G) 0 (λ x. refl) es rest i 1 h (omega arith)))
+    let e : pairWidth * i + 0 ≡ pairWidth * i = omega arith in
+    ap₂ pairText (ap (λ n. getD (pairList G es ++ rest) n 0) (sym e) ∙ gather-at pairWidth (pairBytes G) 0 (λ x. refl) es rest i 0 h (omega arith))
+    (gather-at pairWidth (pairBytes G) 0 (λ x. refl) es rest i 1 h (omega arith)))

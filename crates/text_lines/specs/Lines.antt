@@ -4,9 +4,11 @@ use Prim.Native.Nat.{ℕ, zero, suc, _+_, _*_, _≤_}
 use native.Mathlib.Omega.{arith}
 use mathlib.Core.List.{List, [], _∷_}
 use lib.ListN.{length, getD, length-append}
+use Rattle.model.specs.Limits.{pairWidth}
 use Rattle.model.specs.Text.{text}
 use Rattle.model.specs.Finder.{Record}
 use Rattle.model.specs.Printed.{number, line, fateWord, diaryLine}
+use Rattle.pair_bytes.specs.PairAt.{pairFrom}
 use Rattle.text_numbers.specs.Digits.{digits-length, fieldSize}
 
 -- "strike" and a space
@@ -30,7 +32,7 @@ abbrev pub diaryAt : List ℕ → ℕ → List ℕ
 diaryAt flat i = diaryLine (recordAt flat i)
 
 abbrev pub pairAt : List ℕ → ℕ → List ℕ
-pairAt pairs i = pairText (getD pairs (2 * i) 0) (getD pairs (2 * i + 1) 0)
+pairAt pairs i = pairText (pairFrom pairs (pairWidth * i) .surveyor) (pairFrom pairs (pairWidth * i) .stand)
 
 pub fate-length : (n : ℕ) → length (fateWord n) ≤ 6
 unfolding text

@@ -2,10 +2,12 @@
 ghost use mathlib.Core.List.{[], _∷_, _++_};
 ghost use Prim.Native.Nat.{_+_, _*_, _≤_};
 ghost use lib.ListN.{length};
+ghost use Rattle.model.specs.Limits.{pairWidth};
 ghost use Rattle.model.specs.Printed.{fateWord, diaryLine};
 ghost use Rattle.text_numbers.specs.Appended.{Appended};
 ghost use Rattle.text_lines.specs.Texts.{texts};
 ghost use Rattle.text_lines.specs.Lines.{fateSize, diaryLineSize, pairLineSize, pairText, diaryAt, pairAt};
+use limits::PAIR_WIDTH;
 
 // the word of a fate and a space
 fn put_fate(out: &mut [u8], at: usize, fate: u8) -> usize
@@ -58,14 +60,14 @@ fn put_pair(out: &mut [u8], at: usize, surveyor: u8, stand: u8) -> usize
 
 // the lines of the first pairs of some pair bytes
 pub fn put_pairs(out: &mut [u8], at: usize, pairs: &[u8], n: usize) -> usize
-    requires { ⌜ (2 * n ≤ length (now pairs)) × (at + pairLineSize * n ≤ length (now out)) ⌝ }
+    requires { ⌜ (pairWidth * n ≤ length (now pairs)) × (at + pairLineSize * n ≤ length (now out)) ⌝ }
     ensures { λ r. ⌜ Appended (now (out .entry)) at (texts (pairAt (now (pairs .entry))) n) (now (out .exit)) r ⌝ }
 {
     let mut next = at;
     let mut i: usize = 0;
     while i < n {
-        let b = 2 * i;
-        next = put_pair(out, next, pairs[b], pairs[b + 1]);
+        let p = pair_bytes::get(pairs, PAIR_WIDTH * i);
+        next = put_pair(out, next, p.surveyor, p.stand);
         i += 1;
     }
     next

@@ -2,13 +2,11 @@
 use Prim.Native.Nat.{ℕ, _≤_}
 use native.Mathlib.Omega.{arith}
 use mathlib.Core.Path.{_≡_, refl, sym, ap, ap₂, _∙_, subst, fun-ext}
-use mathlib.Core.Bool.{Bool, cond}
+use mathlib.Core.Bool.{Bool}
 use mathlib.Core.List.{List, _∷_}
 use lib.ListN.{length, length-map}
 use lib.IntN.{ℤ}
-use borrow.Author.Tests.{le-ltb}
 use Rattle.lists.specs.Sum.{_∈_, range, range-length}
-use Rattle.model.specs.Limits.{planSize}
 use Rattle.model.specs.Instance as model
 use Rattle.model.specs.Vote.{vote}
 use Rattle.model.specs.Plans.{Plan, on, plansOf, Verdict, voteOf, verdictOf}
@@ -23,7 +21,6 @@ use Rattle.arrays.specs.ArrayInstance.{at, flag}
 use Rattle.instance.specs.declared.Instance.{Instance}
 use Rattle.instance.specs.Decoded.{shownBy}
 use Rattle.instance.specs.Loaded.{Loaded}
-use Rattle.plan_writer.specs.declared.PlanWritten.{PlanWritten}
 use Rattle.plan_writer.specs.Written.{WrittenFor}
 use Rattle.rival_search.specs.SearchView.{Lists}
 use Rattle.rival_verdict.specs.RivalOfArrays.{RivalShown, shown-verdict, shown-rival}
@@ -35,12 +32,11 @@ pub record Voted (G : model.Instance) (plan rival : List Bool) (out : List ℕ) 
   pub vote : v ≡ vote G (flag plan) (flag rival)
   pub buffer : after ≡ onto (planBytes G rival) out
 
-pub voted : (g : Instance) (plan rival : List Bool) (out : List ℕ) {v : ℤ} {w : PlanWritten} {after : List ℕ} → planSize ≤ length out
-    → v ≡ vote (shownBy g) (flag plan) (flag rival) → WrittenFor (g .m) (g .sv) (g .st) rival out w after → Voted (shownBy g) plan rival out v after
-voted g plan rival out h a b = record {
+pub voted : (g : Instance) (plan rival : List Bool) (out : List ℕ) {v : ℤ} {after : List ℕ} → v ≡ vote (shownBy g) (flag plan) (flag rival)
+    → WrittenFor (g .m) (g .sv) (g .st) rival out after → Voted (shownBy g) plan rival out v after
+voted g plan rival out a b = record {
   vote = a;
-  buffer = b (g .ns) (g .nt) (g .«rank_s») (g .«rank_t») (g .tied) (g .«quota_s») (g .«quota_t») rival (λ e l. refl) .bytes
-      ∙ ap (λ (t : Bool). cond t out (onto (planBytes (shownBy g) rival) out)) (le-ltb (length out) planSize h);
+  buffer = b (g .ns) (g .nt) (g .«rank_s») (g .«rank_t») (g .tied) (g .«quota_s») (g .«quota_t») rival (λ e l. refl);
 }
 
 -- the vote as it is handed on

@@ -1,4 +1,4 @@
--- The arrays of an accepted roster, and plans within its quotas, are what the vote asks for; and the pass that lists a plan's edges.
+-- The arrays of an accepted roster, and plans within its quotas, are what the vote asks for.
 use Prim.Native.Nat.{ℕ, _+_, _≤_, _<_}
 use native.Mathlib.Omega.{arith}
 use native.Mathlib.Numerals.{add-one}
@@ -21,7 +21,7 @@ use Rattle.arrays.specs.Kept.{Kept, keep-few}
 use Rattle.instance.specs.declared.Instance.{Instance}
 use Rattle.instance.specs.Decoded.{shownBy}
 use Rattle.instance.specs.Loaded.{Loaded}
-use Rattle.vote_plans.specs.Plan.{Arrays, Light, Listed, within-light}
+use Rattle.vote_plans.specs.Plan.{Arrays, Light, within-light}
 
 module _ (g : Instance) (L : Loaded g) where
   pub side-arrays : Arrays (g .m) (g .ns) (g .sv) (g .«rank_s») × Arrays (g .m) (g .nt) (g .st) (g .«rank_t»)
@@ -41,20 +41,3 @@ module _ (g : Instance) (L : Loaded g) where
     pub few-edges : length (edgesIn (g .m) (flag p)) ≤ planLimit
     few-edges = subst (λ es. length es ≤ planLimit) (edgesIn-cong (g .m) (on (planOf (g .m) (flag p))) (flag p) (on-planOf (g .m) (flag p)))
         (plan-few (shownBy g) (L .fileable) (planOf (g .m) (flag p)) (matching-plan (shownBy g) M))
-
--- ---- the edges of a plan listed
-module _ (p : List Bool) (front : List ℕ) (n e m : ℕ) (K : Kept (flag p) front n e) where
-  -- one more is chosen below m, so there is room for it
-  pub room-left : flag p e ≡ true → e < m → length (edgesIn m (flag p)) ≤ 64 → n + 1 ≤ 64
-  room-left t h few = omega (
-    arith,
-    keep-few (flag p) (e + 1) m (omega arith),
-    ap (λ k. length (keep (flag p) (range 0 k))) (add-one e) ∙ ap length (keep-last (flag p) e ∙ ap (λ b. keep (flag p) (range 0 e) ++ cond b (e ∷ []) []) t),
-    length-append (keep (flag p) (range 0 e)) (e ∷ []),
-    K .0,
-  )
-
-  pub all-listed : e ≡ m → length front ≡ 64 → length (edgesIn m (flag p)) ≤ 64 → Listed m p n front
-  all-listed q l few =
-      let c : n ≡ length (edgesIn m (flag p)) = K .0 ∙ ap (λ k. length (keep (flag p) (range 0 k))) q in
-      record { few = omega arith; there = omega arith; are = K .1 ∙ ap (λ k. keep (flag p) (range 0 k)) q }

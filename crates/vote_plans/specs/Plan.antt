@@ -31,12 +31,6 @@ pub record Arrays (m n : ℕ) (end rank : List ℕ) : Type 0 where
 abbrev pub Light : ℕ → List ℕ → List Bool → Type 0
 Light m end p = (v : ℕ) → count (λ e. flag p e && eqb (at end e) v) m ≤ quotaLimit
 
--- the first n numbers of a list are the plan's edges, ascending
-pub record Listed (m : ℕ) (p : List Bool) (n : ℕ) (es : List ℕ) : Type 0 where
-  pub few : n ≤ planLimit
-  pub there : n ≤ length es
-  pub are : take n es ≡ edgesIn m (flag p)
-
 -- the side that the arrays show, with any ties and quotas
 abbrev pub sideOf : (m n : ℕ) (end rank : List ℕ) (tie : ℕ → Bool) (quota : ℕ → ℕ) → Side
 sideOf m n end rank tie quota = record { m = m; n = n; end = at end; rank = at rank; tie = tie; quota = quota }

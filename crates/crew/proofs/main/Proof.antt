@@ -1,4 +1,4 @@
--- `crew::main` reads, calls and writes. Assumes nothing.
+-- `crew::main` reads, calls and writes.
 use mathlib.Core.Path.{sym}
 use native.Mathlib.Omega.{arith}
 use lib.Seq.{length-take-le}
@@ -6,41 +6,32 @@ use borrow.Author.Needs.{needs}
 use Rattle.crew.proofs.main.Statement.{statement}
 use Rattle.crew.proofs.main.Tie as tie
 
--- src/main.rt:7:41
 slice-aggregate-read-full : tie.Need-slice-aggregate-read-full
 slice-aggregate-read-full c = search needs
 
--- src/main.rt:7:9
 read-full-requires : tie.Need-read-full-requires
 read-full-requires c κs = search needs
 
--- src/main.rt:9:29
 array-share-prefix-input : tie.Need-array-share-prefix-input
 array-share-prefix-input c = search needs
 
--- src/main.rt:9:29
 slice-aggregate-answer : tie.Need-slice-aggregate-answer
 slice-aggregate-answer c = search needs
 
--- src/main.rt:9:9
 answer-requires : tie.Need-answer-requires
 answer-requires c κs = search needs
 
--- src/main.rt:10:34
 array-share-prefix-out : tie.Need-array-share-prefix-out
 array-share-prefix-out c = omega (arith, c .answer .ensures .room, c .answer .ensures .size)
 
--- src/main.rt:10:34
 slice-aggregate-write-all : tie.Need-slice-aggregate-write-all
 slice-aggregate-write-all c =
     let a = c .before .answer in
     sym (length-take-le (a .result) (a .last .1 .0) (omega (arith, a .ensures .room, a .ensures .size)))
 
--- src/main.rt:10:5
 write-all-requires : tie.Need-write-all-requires
 write-all-requires c κs = search needs
 
--- src/main.rt:5:1
 returns : tie.Need-returns
 returns c = search needs
 

@@ -1,7 +1,7 @@
 -- `diary::fill` meets its contract: a walk of its MIR, by hand, since no function over a slice of structs is covered. The borrow of the lent
 -- diary is opened once, before the loop, and closed once, after it. A turn has one record from `step_at`, of which the proof knows the contract
 -- alone, and stores it.
--- Assumes nothing.
+--
 use mathlib.Core.Path.{_≡_, refl, sym, ap, subst}
 use Prim.Native.Nat.{ℕ, zero, suc, _<_, _≤_, _+_, _-_, _*_, _^_}
 use mathlib.Core.List.{[], _∷_, List}

@@ -19,7 +19,7 @@ write-plan-requires : tie.Need-write-plan-requires
 write-plan-requires c κs =
     let b = c .before .before .before .before .before .before .before .before .before in
     let L = b .pre .0 in
-    (L .edges, (λ e h. L .low-sv e), (λ e h. L .low-st e), few-edges (b .args .g) L (b .args .fixed .now) (b .pre .1))
+    (L .edges, (λ e h. L .low-sv e), (λ e h. L .low-st e), few-edges (b .args .g) L (b .args .fixed .now) (b .pre .1), b .pre .2)
 
 weigh-requires : tie.Need-weigh-requires
 weigh-requires c κs =
@@ -51,7 +51,7 @@ returns c =
     let a = b .args in
     let w = c .before .before .before .before .weigh in
     λ M S l. wrote-judged _ M (a .steps) l (a .plan .now) (a .rival .now) _ _ (w .result) (w .ensures M S)
-    (plan-onto (a .g) (a .fixed .now) (a .plan .now) _ _ (b .pre .2) (c .before .before .before .before .before .before .before .before .before .write-plan .ensures) M (S .1))
+    (plan-onto (a .g) (a .fixed .now) (a .plan .now) _ (c .before .before .before .before .before .before .before .before .before .write-plan .ensures) M (S .1))
     (ap (answerOn (a .steps)) (sym (c .enum-told .given .1)))
 
 same-length-3 : tie.Need-same-length-3
@@ -66,7 +66,7 @@ returns-2 c =
     let a = b .args in
     let w = c .before .before .before .before .before .weigh in
     λ M S l. wrote-judged _ M (a .steps) l (a .plan .now) (a .rival .now) _ _ (w .result) (w .ensures M S)
-    (plan-onto (a .g) (a .fixed .now) (a .plan .now) _ _ (b .pre .2) (c .before .before .before .before .before .before .before .before .before .before .write-plan .ensures) M (S .1))
+    (plan-onto (a .g) (a .fixed .now) (a .plan .now) _ (c .before .before .before .before .before .before .before .before .before .before .write-plan .ensures) M (S .1))
     (ap (λ z. says.None (a .steps) (kind.Rivalled z)) (toZ-ofZ w16 (c .before .w .given .0 .0) (sfits-of (c .known-told .given .0 .1))) ∙ ap (answerOn (a .steps)) (sym (c .before .w .given .1)))
 
 same-length-5 : tie.Need-same-length-5
@@ -81,7 +81,7 @@ returns-3 c =
     let a = b .args in
     let w = c .before .before .before .before .before .weigh in
     λ M S l. wrote-judged _ M (a .steps) l (a .plan .now) (a .rival .now) _ _ (w .result) (w .ensures M S)
-    (plan-onto (a .g) (a .fixed .now) (a .plan .now) _ _ (b .pre .2) (c .before .before .before .before .before .before .before .before .before .before .write-plan .ensures) M (S .1))
+    (plan-onto (a .g) (a .fixed .now) (a .plan .now) _ (c .before .before .before .before .before .before .before .before .before .before .write-plan .ensures) M (S .1))
     (ap (λ z. says.None (a .steps) (kind.Rivalled z)) (toZ-ofZ w16 (c .before .w2 .given .0 .0) (sfits-of (c .known-told2 .given .0 .1))) ∙ ap (answerOn (a .steps)) (sym (c .before .w2 .given .1)))
 
 same-length-7 : tie.Need-same-length-7
@@ -96,7 +96,7 @@ returns-4 c =
     let a = b .args in
     let w = c .before .before .before .before .before .weigh in
     λ M S l. wrote-judged _ M (a .steps) l (a .plan .now) (a .rival .now) _ _ (w .result) (w .ensures M S)
-    (plan-onto (a .g) (a .fixed .now) (a .plan .now) _ _ (b .pre .2) (c .before .before .before .before .before .before .before .before .before .before .write-plan .ensures) M (S .1))
+    (plan-onto (a .g) (a .fixed .now) (a .plan .now) _ (c .before .before .before .before .before .before .before .before .before .before .write-plan .ensures) M (S .1))
     (ap (answerOn (a .steps)) (sym (c .before .w3 .given .1)))
 
 pub judged-spec : {M : Type 1} → statement M

@@ -1,4 +1,4 @@
--- program::answer writes the program's text. Assumes nothing.
+-- program::answer writes the program's text.
 use mathlib.Core.Path.{sym, _∙_}
 use borrow.Author.Needs.{needs}
 use Rattle.roster_reading.specs.Place.{bytes-of}
@@ -7,50 +7,39 @@ use Rattle.program.specs.BuffersPrinted.{prints, refused-handed}
 use Rattle.program.proofs.answer.Statement.{statement}
 use Rattle.program.proofs.answer.Tie as tie
 
--- src/lib.rt:27:9
 read-roster-requires : tie.Need-read-roster-requires
 read-roster-requires c κs = search needs
 
--- src/lib.rt:29:25
 enum-known-a : tie.Need-enum-known-a
 enum-known-a c = search needs
 
--- src/lib.rt:33:17
 slice-aggregate-answer-text : tie.Need-slice-aggregate-answer-text
 slice-aggregate-answer-text c = search needs
 
--- src/lib.rt:34:17
 slice-aggregate-answer-text-2 : tie.Need-slice-aggregate-answer-text-2
 slice-aggregate-answer-text-2 c = search needs
 
--- src/lib.rt:35:17
 slice-aggregate-answer-text-3 : tie.Need-slice-aggregate-answer-text-3
 slice-aggregate-answer-text-3 c = search needs
 
--- src/lib.rt:36:17
 slice-aggregate-answer-text-4 : tie.Need-slice-aggregate-answer-text-4
 slice-aggregate-answer-text-4 c = search needs
 
--- src/lib.rt:31:13
 answer-text-requires : tie.Need-answer-text-requires
 answer-text-requires c κs = search needs
 
--- src/lib.rt:40:43
 enum-told : tie.Need-enum-told
 enum-told c = search needs
 
--- src/lib.rt:40:29
 worked-requires : tie.Need-worked-requires
 worked-requires c κs = case-accepted _ (sym (c .before .enum-told .given .1) ∙ c .before .before .before .read-roster .ensures)
 
--- src/lib.rt:24:1
 returns : tie.Need-returns
 returns c =
     let b = c .before .before .before .before .before .before .before .before .before .before .before in
     let isB = bytes-of (b .args .input .now) (λ k. c .before .before .before .before .before .before .before .before .before .before .shared-slice-known .given k) in
     prints (b .args .input .now) isB _ _ _ _ _ (refused-handed (b .args .input .now) isB (sym (c .before .before .before .before .before .before .before .a .given .1) ∙ c .before .before .before .before .before .before .before .before .before .read-roster .ensures) _ _ _ _) _ _ _ (search needs) (c .answer-text .ensures)
 
--- src/lib.rt:24:1
 returns-2 : tie.Need-returns-2
 returns-2 c = search needs
 

@@ -1,7 +1,6 @@
 -- The board after a step.
 use Prim.Native.Nat.{_-_}
 use borrow.Author.Needs.{needs}
-use borrow.Author.Needs.{needs}
 use Rattle.reduction_state.proofs.act.Statement.{statement}
 use Rattle.reduction_state.proofs.act.Tie as tie
 

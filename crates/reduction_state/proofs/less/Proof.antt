@@ -3,7 +3,6 @@ use Prim.Native.Nat.{_-_}
 use native.Mathlib.Omega.{arith}
 use borrow.Author.Needs.{needs}
 use Rattle.reduction_counts.specs.Filled.{byte-one}
-use borrow.Author.Needs.{needs}
 use Rattle.reduction_state.proofs.less.Statement.{statement}
 use Rattle.reduction_state.proofs.less.Tie as tie
 

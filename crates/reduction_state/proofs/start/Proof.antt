@@ -2,7 +2,6 @@
 use Prim.Native.Nat.{_-_}
 use borrow.Author.Needs.{needs}
 use Rattle.reduction_state.proofs.Flags.{no-flags}
-use borrow.Author.Needs.{needs}
 use Rattle.reduction_state.proofs.start.Statement.{statement}
 use Rattle.reduction_state.proofs.start.Tie as tie
 

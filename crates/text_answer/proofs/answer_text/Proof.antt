@@ -1,4 +1,4 @@
--- `printer::answer_text` meets its contract: the diary, then the ending. Assumes nothing.
+-- `text_answer::answer_text` meets its contract: the diary, then the ending.
 use Prim.Native.Nat.{zero-le}
 use native.Mathlib.Omega.{arith}
 use mathlib.Core.Path.{sym, ap, subst}

@@ -1,4 +1,4 @@
--- `endings::put_counted` meets its contract: a word, the count, the pairs. Assumes nothing.
+-- `text_endings::put_counted` meets its contract: a word, the count, the pairs.
 use Prim.Native.Nat.{_≤_}
 use native.Mathlib.Omega.{arith}
 use lib.ListN.{length}

@@ -1,4 +1,4 @@
--- `endings::put_group` meets its contract: a word for each group. Assumes nothing.
+-- `text_endings::put_group` meets its contract: a word for each group.
 use mathlib.Core.Path.{sym, ap}
 use Rattle.model.specs.Text.{text}
 use Rattle.text_numbers.specs.Appended.{append-as}

@@ -1,4 +1,4 @@
--- `endings::put_none` meets its contract: a text for each kind. Assumes nothing.
+-- `text_endings::put_none` meets its contract: a text for each kind.
 use native.Mathlib.Omega.{arith}
 use mathlib.Core.Path.{sym, ap, _∙_, subst}
 use mir.Syntax.{w16}

@@ -1,4 +1,4 @@
--- `endings::put_plan` meets its contract: the pairs are the part behind the count byte. Assumes nothing.
+-- `text_endings::put_plan` meets its contract: the pairs are the part behind the count byte.
 use Prim.Native.Nat.{ℕ, _-_}
 use native.Mathlib.Omega.{arith}
 use mathlib.Core.Path.{ap}

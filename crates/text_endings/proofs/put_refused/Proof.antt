@@ -1,4 +1,4 @@
--- `endings::put_refused` meets its contract: a word, the number, the group's word. Assumes nothing.
+-- `text_endings::put_refused` meets its contract: a word, the number, the group's word.
 use Prim.Native.Nat.{_≤_}
 use native.Mathlib.Omega.{arith}
 use lib.ListN.{length}

@@ -1,4 +1,4 @@
--- `endings::put_rivalled` meets its contract: the vote, and two plans. Assumes nothing.
+-- `text_endings::put_rivalled` meets its contract: the vote, and two plans.
 use Prim.Native.Nat.{_≤_}
 use native.Mathlib.Omega.{arith}
 use mathlib.Core.Path.{ap}

@@ -1,4 +1,4 @@
--- `lines::put_diary` meets its contract: so far the lines of the first i records stand there. Assumes nothing.
+-- `text_lines::put_diary` meets its contract: so far the lines of the first i records stand there.
 use Prim.Native.Nat.{_-_, _≤_}
 use native.Mathlib.Omega.{arith}
 use mathlib.Core.Path.{_≡_, refl, sym, ap}

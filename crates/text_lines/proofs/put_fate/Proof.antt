@@ -1,4 +1,4 @@
--- `lines::put_fate` meets its contract: a word for each fate. Assumes nothing.
+-- `text_lines::put_fate` meets its contract: a word for each fate.
 use Rattle.model.specs.Text.{text}
 use Rattle.text_numbers.specs.Appended.{append-as}
 use Rattle.text_lines.proofs.Fields.{fate-none, fate-fix, fate-strike}

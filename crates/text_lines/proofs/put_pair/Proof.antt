@@ -1,4 +1,4 @@
--- `lines::put_pair` meets its contract: two numbers. Assumes nothing.
+-- `text_lines::put_pair` meets its contract: two numbers.
 use native.Mathlib.Omega.{arith}
 use Rattle.model.specs.Printed.{number}
 use Rattle.text_numbers.specs.Appended.{append-as, append-then}

@@ -1,11 +1,14 @@
--- `lines::put_pairs` meets its contract: so far the lines of the first i pairs stand there. Assumes nothing.
+-- text_lines::put_pairs: so far the lines of the first i pairs stand there.
 use Prim.Native.Nat.{_+_, _*_, _-_, _≤_}
 use native.Mathlib.Omega.{arith}
 use mathlib.Core.Path.{_≡_, refl, sym, ap}
-use lib.ListN.{length, getD}
+use lib.ListN.{length}
+use Rattle.model.specs.Limits.{pairWidth}
+use Rattle.pair_bytes.specs.declared.Pair.{Pair}
+use Rattle.pair_bytes.specs.PairAt.{pairFrom}
 use Rattle.text_numbers.specs.Appended.{Appended, append-as, append-none, append-then}
 use Rattle.text_lines.specs.Texts.{texts, texts-none, texts-more, texts-length}
-use Rattle.text_lines.specs.Lines.{pairAt, pairLineSize, pair-length}
+use Rattle.text_lines.specs.Lines.{pairText, pairAt, pairLineSize, pair-length}
 use Rattle.text_lines.proofs.put_pairs.Statement.{statement}
 use Rattle.text_lines.proofs.put_pairs.Tie as tie
 
@@ -18,23 +21,22 @@ abbrev μ-loop : tie.MeasureT-loop
 loop-holds : tie.Need-loop-holds Inv-loop μ-loop
 loop-holds c = let a = c .before .before .args in (omega arith, append-as (sym (texts-none (pairAt (a .pairs .now)))) (append-none (a .out .now) (a .at)), refl)
 
-mul-b : tie.Need-mul-b Inv-loop μ-loop
-mul-b c = omega arith
+mul-get : tie.Need-mul-get Inv-loop μ-loop
+mul-get c = omega arith
 
-shared-slice-read-put-pair : tie.Need-shared-slice-read-put-pair Inv-loop μ-loop
-shared-slice-read-put-pair c = omega arith
-
-add-put-pair : tie.Need-add-put-pair Inv-loop μ-loop
-add-put-pair c = omega arith
-
-shared-slice-read-put-pair-2 : tie.Need-shared-slice-read-put-pair-2 Inv-loop μ-loop
-shared-slice-read-put-pair-2 c = omega arith
+get-requires : tie.Need-get-requires Inv-loop μ-loop
+get-requires c κs = omega arith
 
 put-pair-requires : tie.Need-put-pair-requires Inv-loop μ-loop
 put-pair-requires c κs =
-    let a = c .before .before .before .before .before .before .before .args in
-    let l = c .before .before .before .before .loop in
-    omega (arith, l .inv .1 .place, texts-length (pairAt (a .pairs .now)) pairLineSize (λ j. pair-length (getD (a .pairs .now) (2 * j) 0) (getD (a .pairs .now) (2 * j + 1) 0)) (l .i))
+    let a = c .before .before .before .before .before .before .args in
+    let l = c .before .before .before .loop in
+    omega (
+      arith,
+      l .inv .1 .place,
+      texts-length (pairAt (a .pairs .now)) pairLineSize
+          (λ j. pair-length (pairFrom (a .pairs .now) (pairWidth * j) .surveyor) (pairFrom (a .pairs .now) (pairWidth * j) .stand)) (l .i),
+    )
 
 add-i : tie.Need-add-i Inv-loop μ-loop
 add-i c = omega arith
@@ -44,10 +46,12 @@ loop-less c = omega arith
 
 loop-again : tie.Need-loop-again Inv-loop μ-loop
 loop-again c =
-    let a = c .before .before .before .before .before .before .before .before .before .before .args in
-    let l = c .before .before .before .before .before .before .before .loop in (
+    let s = c .before .before .before .before .before .before .before .before .before in
+    let a = s .args in
+    let l = c .before .before .before .before .before .before .loop in
+    let line = append-as (ap (λ (p : Pair). pairText (p .surveyor) (p .stand)) (c .before .before .before .before .get .ensures)) (c .before .before .put-pair .ensures) in (
       omega arith,
-      append-as (texts-more (pairAt (a .pairs .now)) (l .i)) (append-then (a .out .now) (a .at) (omega (arith, c .before .before .before .before .before .before .before .before .before .before .pre)) (l .inv .1) (c .before .before .put-pair .ensures)),
+      append-as (texts-more (pairAt (a .pairs .now)) (l .i)) (append-then (a .out .now) (a .at) (omega (arith, s .pre)) (l .inv .1) line),
       omega arith,
     )
 
@@ -68,10 +72,8 @@ put-pairs-spec =
     Inv-loop
     μ-loop
     loop-holds
-    mul-b
-    shared-slice-read-put-pair
-    add-put-pair
-    shared-slice-read-put-pair-2
+    mul-get
+    get-requires
     put-pair-requires
     add-i
     loop-less

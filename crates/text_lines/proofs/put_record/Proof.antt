@@ -1,4 +1,4 @@
--- `lines::put_record` meets its contract: a word and three numbers. Assumes nothing.
+-- `text_lines::put_record` meets its contract: a word and three numbers.
 use Prim.Native.Nat.{_≤_}
 use native.Mathlib.Omega.{arith}
 use lib.ListN.{length, length-append}

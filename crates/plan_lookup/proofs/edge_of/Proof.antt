@@ -1,46 +1,35 @@
--- `plan::edge_of` meets its contract: found from `from` on, or before it, or nowhere. Assumes nothing.
+-- `plan_reader::edge_of` meets its contract: found from `from` on, or before it, or nowhere.
 use Prim.Native.Nat.{_-_}
 use native.Mathlib.Omega.{arith}
-use Rattle.plan_reader.specs.Edges.{found-later, found-before, found-not, none-zero, none-zero-2}
+use Rattle.plan_lookup.specs.PairEdge.{found-later, found-before, found-not, none-zero, none-zero-2}
 use borrow.Author.Needs.{needs}
-use Rattle.plan_reader.proofs.edge_of.Statement.{statement}
-use Rattle.plan_reader.proofs.edge_of.Tie as tie
-use Rattle.plan_reader.proofs.edge_of.Reads as reads
-use Rattle.plan_reader.proofs.edge_of.Lts as lts
-use Rattle.plan_reader.proofs.scan.Reads as scan-reads
+use Rattle.plan_lookup.proofs.edge_of.Statement.{statement}
+use Rattle.plan_lookup.proofs.edge_of.Tie as tie
 
--- src/lib.rt:47:9
 returns : tie.Need-returns
 returns c = let a = c .before .args in none-zero (a .m) (a .sv .now) (a .st .now) (a .x) (a .y) (c .if1 .taken)
 
--- src/lib.rt:50:9
 returns-2 : tie.Need-returns-2
 returns-2 c = let a = c .before .before .args in none-zero-2 (a .m) (a .sv .now) (a .st .now) (a .x) (a .y) (c .if2 .taken)
 
--- src/lib.rt:52:13
 sub-s : tie.Need-sub-s
 sub-s c = search needs
 
--- src/lib.rt:53:13
 sub-t : tie.Need-sub-t
 sub-t c = search needs
 
--- src/lib.rt:54:9
 scan-requires : tie.Need-scan-requires
 scan-requires c κs = search needs
 
--- src/lib.rt:56:9
 returns-3 : tie.Need-returns-3
 returns-3 c =
     let s = c .before .before .before .before in
     let a = s .args in
     found-later (a .m) (a .sv .now) (a .st .now) (a .x) (a .y) (a .x - 1) (a .y - 1) (omega arith) (omega arith) (s .pre .2) (a .from) (c .before .scan .result) (c .before .scan .ensures) (c .if3 .taken)
 
--- src/lib.rt:58:9
 scan-requires-2 : tie.Need-scan-requires-2
 scan-requires-2 c κs = search needs
 
--- src/lib.rt:60:9
 returns-4 : tie.Need-returns-4
 returns-4 c =
     let s = c .before .before .before .before .before .before in
@@ -48,7 +37,6 @@ returns-4 c =
     let k = c .before .before .before in
     found-before (a .m) (a .sv .now) (a .st .now) (a .x) (a .y) (a .x - 1) (a .y - 1) (omega arith) (omega arith) (a .from) (k .scan .result) (c .before .scan2 .result) (s .pre .0) (k .scan .ensures) (c .before .before .if3 .left) (c .before .scan2 .ensures) (c .if4 .taken)
 
--- src/lib.rt:42:1
 returns-5 : tie.Need-returns-5
 returns-5 c =
     let s = c .before .before .before .before .before .before in

@@ -1,15 +1,16 @@
--- poll::list_edges meets its contract: the edges chosen below e stand in the array's front. Assumes nothing.
+-- plan_lookup::list_edges meets its contract: the edges chosen below e stand in the array's front.
 use mathlib.Core.Path.{_≡_, refl, sym, _∙_}
 use mathlib.Core.Bool.{Bool, true, false, not}
 use Prim.Native.Nat.{ℕ, _+_, _-_, _≤_, zero-le}
 use native.Mathlib.Omega.{arith}
 use lib.ListN.{length, length-replicate, length-set}
 use borrow.Author.Needs.{needs}
+use Rattle.model.specs.Limits.{planLimit}
 use Rattle.arrays.specs.ArrayInstance.{flag}
 use Rattle.arrays.specs.Kept.{Kept, kept-yes, kept-no}
-use Rattle.vote_of_flags.specs.Votable.{room-left, all-listed}
-use Rattle.vote_of_flags.proofs.list_edges.Statement.{statement}
-use Rattle.vote_of_flags.proofs.list_edges.Tie as tie
+use Rattle.plan_lookup.specs.PlanEdges.{room-left, all-listed}
+use Rattle.plan_lookup.proofs.list_edges.Statement.{statement}
+use Rattle.plan_lookup.proofs.list_edges.Tie as tie
 
 not-yes : (b : Bool) → not b ≡ true → b ≡ false
 not-yes true q = sym q
@@ -20,20 +21,20 @@ not-no true q = refl
 not-no false q = sym q
 
 abbrev Inv-loop : tie.InvT-loop
-Inv-loop m chosen edges₀ n₀ e₀ edges n e = (e ≤ m) × (length edges ≡ 64) × Kept (flag chosen) edges n e
+Inv-loop m chosen edges₀ n₀ e₀ edges n e = (e ≤ m) × (length edges ≡ planLimit) × Kept (flag chosen) edges n e
 
 abbrev μ-loop : tie.MeasureT-loop
 μ-loop m chosen edges₀ n₀ e₀ edges n e = m - e
 
 -- the edge is chosen, and there is room for it
-room : (c : tie.Else1 Inv-loop μ-loop) → c .before .before .before .loop .n + 1 ≤ 64
+room : (c : tie.Else1 Inv-loop μ-loop) → c .before .before .before .loop .n + 1 ≤ planLimit
 room c =
     let l = c .before .before .before in
     let a = l .before .args in
     room-left (a .chosen .now) (l .loop .edges) (l .loop .n) (l .loop .e) (a .m) (l .loop .inv .2) (not-no _ (c .if1 .left)) (c .before .before .loop-test .taken) (l .before .pre .1)
 
 loop-holds : tie.Need-loop-holds Inv-loop μ-loop
-loop-holds c = (zero-le, length-replicate {A = ℕ} 64 0, (refl, refl))
+loop-holds c = (zero-le, length-replicate {A = ℕ} planLimit 0, (refl, refl))
 
 element-copy-out-if1 : tie.Need-element-copy-out-if1 Inv-loop μ-loop
 element-copy-out-if1 c = search needs

@@ -1,14 +1,12 @@
--- `plan::scan` meets its contract: no edge passed has these ends. Assumes nothing.
+-- `plan_reader::scan` meets its contract: no edge passed has these ends.
 use mathlib.Core.Bool.{not}
 use Prim.Native.Nat.{ℕ, _-_, _≤_, _<_}
 use native.Mathlib.Omega.{arith}
 use lib.Dec.{T}
 use Rattle.lists.specs.Test.{true-T}
-use Rattle.plan_reader.specs.Edges.{Ends, none-next}
-use Rattle.plan_reader.proofs.scan.Statement.{statement}
-use Rattle.plan_reader.proofs.scan.Tie as tie
-use Rattle.plan_reader.proofs.scan.Reads as reads
-use Rattle.plan_reader.proofs.scan.Lts as lts
+use Rattle.plan_lookup.specs.PairEdge.{Ends, none-next}
+use Rattle.plan_lookup.proofs.scan.Statement.{statement}
+use Rattle.plan_lookup.proofs.scan.Tie as tie
 
 abbrev Inv-loop : tie.InvT-loop
 Inv-loop start end sv st s t e₀ e = (start ≤ e) × (e ≤ end) × ((d : ℕ) → start ≤ d → d < e → T (not (Ends sv st s t d)))
@@ -16,40 +14,32 @@ Inv-loop start end sv st s t e₀ e = (start ≤ e) × (e ≤ end) × ((d : ℕ)
 abbrev μ-loop : tie.MeasureT-loop
 μ-loop start end sv st s t e₀ e = end - e
 
--- src/lib.rt:32:5
 loop-holds : tie.Need-loop-holds Inv-loop μ-loop
 loop-holds c = (omega arith, c .pre .0, λ d h k. absurd (omega arith))
 
--- src/lib.rt:33:13
 element-copy-out-if1 : tie.Need-element-copy-out-if1 Inv-loop μ-loop
 element-copy-out-if1 c = omega arith
 
--- src/lib.rt:33:28
 element-copy-out-if1-2 : tie.Need-element-copy-out-if1-2 Inv-loop μ-loop
 element-copy-out-if1-2 c = omega arith
 
--- src/lib.rt:34:13
 returns : tie.Need-returns Inv-loop μ-loop
 returns c =
     let l = c .before .before .before .before in
     record { from = l .loop .inv .0; to = l .loop .inv .1; none = l .loop .inv .2; hit = λ h. true-T (c .if1 .taken) }
 
--- src/lib.rt:36:9
 add-e : tie.Need-add-e Inv-loop μ-loop
 add-e c = omega arith
 
--- src/lib.rt:32:5
 loop-less : tie.Need-loop-less Inv-loop μ-loop
 loop-less c = omega arith
 
--- src/lib.rt:32:5
 loop-again : tie.Need-loop-again Inv-loop μ-loop
 loop-again c =
     let l = c .before .before .before .before in
     let a = l .before .args in
     (omega arith, omega arith, none-next (Ends (a .sv .now) (a .st .now) (a .s) (a .t)) (a .start) (l .loop .e) (l .loop .inv .2) (c .if1 .left))
 
--- src/lib.rt:27:1
 returns-2 : tie.Need-returns-2 Inv-loop μ-loop
 returns-2 c =
     let l = c .before in

@@ -1,0 +1,2 @@
+pub mod PairEdge
+pub mod PlanEdges

@@ -1,0 +1,91 @@
+// From pairs and flags to edges: the edge that a pair names, and the edges of a plan listed.
+ghost use mathlib.Core.Path.{_≡_};
+ghost use Prim.Native.Nat.{_≤_};
+ghost use lib.ListN.{length};
+ghost use Rattle.lists.specs.Search.{low};
+ghost use Rattle.model.specs.Limits.{entryLimit, planLimit};
+ghost use Rattle.model.specs.PlanFile.{edgesIn};
+ghost use Rattle.arrays.specs.ArrayInstance.{flag};
+ghost use Rattle.plan_lookup.specs.PairEdge.{Differ, Names, Scanned};
+ghost use Rattle.plan_lookup.specs.PlanEdges as edges;
+use limits::ENTRY_LIMIT;
+use limits::PLAN_LIMIT;
+
+// the lowest edge from start on, and below end, of surveyor s and stand t; end if there is none
+pub(crate) fn scan(
+    start: usize,
+    end: usize,
+    sv: &[u8; ENTRY_LIMIT],
+    st: &[u8; ENTRY_LIMIT],
+    s: u8,
+    t: u8,
+) -> usize
+    requires { ⌜ (start ≤ end) × (end ≤ entryLimit) ⌝ }
+    ensures { λ r. ⌜ Scanned start end (now (sv .entry)) (now (st .entry)) s t r ⌝ }
+{
+    let mut e = start;
+    while e < end {
+        if (sv[e] == s) & (st[e] == t) {
+            return e;
+        }
+        e += 1;
+    }
+    e
+}
+
+// the edge that two bytes name, m if there is none; from is where the next edge of an ascending plan is looked for first
+pub fn edge_of(
+    m: usize,
+    sv: &[u8; ENTRY_LIMIT],
+    st: &[u8; ENTRY_LIMIT],
+    from: usize,
+    x: u8,
+    y: u8,
+) -> usize
+    requires { ⌜ (from ≤ m) × (m ≤ entryLimit) × Differ m (now sv) (now st) ⌝ }
+    ensures { λ r. ⌜ r ≡ low (Names (now (sv .entry)) (now (st .entry)) x y) m ⌝ }
+{
+    if x == 0 {
+        return m;
+    }
+    if y == 0 {
+        return m;
+    }
+    let s = x - 1;
+    let t = y - 1;
+    let e = scan(from, m, sv, st, s, t);
+    if e < m {
+        return e;
+    }
+    let d = scan(0, from, sv, st, s, t);
+    if d < from {
+        return d;
+    }
+    m
+}
+
+// The edges of a plan, ascending: n of them.
+pub struct Listed {
+    pub n: usize,
+    pub edges: [u16; PLAN_LIMIT],
+}
+
+// Those of the flags that are set below m.
+pub fn list_edges(m: usize, chosen: &[bool; ENTRY_LIMIT]) -> Listed
+    requires { ⌜ (m ≤ entryLimit) × (length (edgesIn m (flag (now chosen))) ≤ planLimit) ⌝ }
+    ensures { λ r. ⌜ edges.Listed m (now (chosen .entry)) (r .n) (r .edges) ⌝ }
+{
+    let mut edges = [0u16; PLAN_LIMIT];
+    let mut n = 0;
+    let mut e = 0;
+    while e < m {
+        if !chosen[e] {
+            e += 1;
+            continue;
+        }
+        edges[n] = e as u16;
+        n += 1;
+        e += 1;
+    }
+    Listed { n: n, edges: edges }
+}
