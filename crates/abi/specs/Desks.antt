@@ -1,8 +1,19 @@
 -- What the desk's calls for C answer: the numbers in the model's answer, and all that the desk promises.
+use Prim.Native.Nat.{ℕ}
 use mathlib.Core.Path.{_≡_, ap, _∙_, subst}
-use Rattle.model.specs.Desk.{Call, Answer}
+use mathlib.Core.List.{List}
+use Rattle.model.specs.Roster.{Roster}
+use Rattle.model.specs.Edges.{instanceOf}
+use Rattle.model.specs.Plans.{Plan}
+use Rattle.model.specs.Desk.{planned, Call, judge, Answer}
+use Rattle.theory_finder.specs.RivalSaid.{RivalSaid}
+use Rattle.answers.specs.declared.Verdict.{Verdict}
+use Rattle.answers.specs.VerdictCases.{verdictShown}
+use Rattle.abi_numbers.specs.declared.Judged.{Judged}
+use Rattle.abi_numbers.specs.Numbers.{judgedIn}
 use Rattle.desk.specs.declared.Desk.{Desk}
 use Rattle.desk.specs.Held.{heldOf}
+use Rattle.desk.specs.Judging.{Judges}
 use Rattle.desk.specs.Replies.{answered, Replied}
 
 -- a call on a desk: its numbers, and all that the desk promises
@@ -13,3 +24,15 @@ pub record Served {A : Type 0} (numbersIn : Answer → A) (d : Desk) (c : Call) 
 pub served : {A : Type 0} (numbersIn : Answer → A) {d : Desk} {c : Call} {a : Answer} {n : A} {c′ : Call} {d′ : Desk} → Replied d c a c′ d′
     → n ≡ numbersIn a → Served numbersIn d c n c′ d′
 served numbersIn {d} {c} {a} {n} {c′} {d′} R e = record { numbers = e ∙ ap numbersIn (R .answer); reply = subst (λ z. Replied d c z c′ d′) (R .answer) R }
+
+-- the verdict's call: the same, and what holds of the rival that it writes
+pub record JudgedFor (d : Desk) (v : List ℕ) (n : Judged) (v′ : List ℕ) (d′ : Desk) : Type 0 where
+  pub served : Served judgedIn d (judge v) n (judge v′) d′
+  pub rival : (R : Roster) (M : Plan) → heldOf d ≡ planned R M → RivalSaid (instanceOf R) M (answered (heldOf d) (judge v)) v v′
+
+pub judged : {d : Desk} {v : List ℕ} {a : Verdict} {n : Judged} {v′ : List ℕ} {d′ : Desk} → Judges d v a v′ d′ → n ≡ judgedIn (verdictShown a)
+    → JudgedFor d v n v′ d′
+judged {d} {v} {a} {n} {v′} {d′} J e = record {
+  served = served judgedIn (J .replied) e;
+  rival = λ R M h. subst (λ x. RivalSaid (instanceOf R) M x v v′) (J .replied .answer) (J .rival R M h);
+}

@@ -1,10 +1,10 @@
 // The desk for C: it goes into each call by value and comes back in the reply, beside the answer's numbers. Any bytes may stand in its
 // fields. A refused load, and every call but a load, hands it back as it came.
 ghost use mathlib.Core.Path.{_≡_};
-ghost use Rattle.model.specs.Desk.{opening, loadRoster, loadPlan, writeRosterTo, writePlanTo, judge, compare, blocking};
+ghost use Rattle.model.specs.Desk.{opening, loadRoster, loadPlan, writeRosterTo, writePlanTo, compare, blocking};
 ghost use Rattle.desk.specs.Held.{heldOf};
-ghost use Rattle.abi_numbers.specs.Numbers.{refusalIn, outcomeIn, judgedIn, comparedIn, blockerIn};
-ghost use Rattle.abi.specs.Desks.{Served};
+ghost use Rattle.abi_numbers.specs.Numbers.{refusalIn, outcomeIn, comparedIn, blockerIn};
+ghost use Rattle.abi.specs.Desks.{Served, JudgedFor};
 use abi_numbers::Blocker;
 use abi_numbers::Compared;
 use abi_numbers::Judged;
@@ -111,7 +111,7 @@ pub extern "C" fn crew_write_plan(desk: Desk, out: &mut [u8]) -> DeskWritten
 // the verdict on the held plan; a rival goes to the front of the buffer, which has at least 129 bytes, else 15
 #[no_mangle]
 pub extern "C" fn crew_judge(desk: Desk, rival: &mut [u8]) -> DeskJudged
-    ensures { λ r. ⌜ Served judgedIn desk (judge (now (rival .entry))) (r .judged) (judge (now (rival .exit))) (r .desk) ⌝ }
+    ensures { λ r. ⌜ JudgedFor desk (now (rival .entry)) (r .judged) (now (rival .exit)) (r .desk) ⌝ }
 {
     let r = desk.judge(rival);
     let d = r.desk;

@@ -3,6 +3,7 @@ pub mod Front
 pub mod Replies
 pub mod State
 pub mod Calls
+pub mod Judging
 pub mod Loads
 pub mod Outcomes
 pub mod Finding

@@ -7,15 +7,15 @@ mod store;
 
 ghost use mathlib.Core.Path.{_≡_};
 ghost use denote.Ref.{ptr};
-ghost use Rattle.model.specs.Desk.{opening, loadRoster, loadPlan, writeRosterTo, writePlanTo, judge, compare, blocking};
+ghost use Rattle.model.specs.Desk.{opening, loadRoster, loadPlan, writeRosterTo, writePlanTo, compare, blocking};
 ghost use Rattle.answers.specs.FileCases.{fileShown};
 ghost use Rattle.answers.specs.WrittenCases.{writtenShown};
-ghost use Rattle.answers.specs.VerdictCases.{verdictShown};
 ghost use Rattle.answers.specs.ComparisonCases.{comparisonShown};
 ghost use Rattle.answers.specs.BlockedCases.{blockedShown};
 ghost use Rattle.compare.specs.Parts.{placed};
 ghost use Rattle.desk.specs.Held.{heldOf};
 ghost use Rattle.desk.specs.Finding.{Done, Finds};
+ghost use Rattle.desk.specs.Judging.{Judges};
 ghost use Rattle.desk.specs.Replies.{Replied, partIn, answered};
 use answers::Blocked;
 use answers::Comparison;
@@ -199,9 +199,9 @@ impl Desk {
         }
     }
 
-    // The verdict on the held plan; the rival of a plan that is not strong goes to the front of the buffer.
+    // The verdict on the held plan; the rival of a plan that is not strong goes to the front of the buffer, and what holds of it is promised.
     pub fn judge(self, rival: &mut [u8]) -> JudgeReply
-        ensures { λ r. ⌜ Replied self (judge (now (rival .entry))) (verdictShown (r .answer)) (judge (now (rival .exit))) (r .desk) ⌝ }
+        ensures { λ r. ⌜ Judges self (now (rival .entry)) (r .answer) (now (rival .exit)) (r .desk) ⌝ }
     {
         let l = held::loaded(self, true, rival.len() < PLAN_SIZE);
         let n = l.refusal;

@@ -11,7 +11,7 @@ use Rattle.lists.specs.Test.{given}
 use Rattle.lists.specs.Sum.{_∈_, range}
 use Rattle.model.specs.Reading.{Reading, accepted, refused}
 use Rattle.model.specs.Refusal.{groupOf}
-use Rattle.model.specs.Roster.{Roster}
+use Rattle.model.specs.Roster.{Roster, fits}
 use Rattle.model.specs.RosterFile.{readRoster, writeRoster}
 use Rattle.model.specs.Instance as model
 use Rattle.model.specs.Edges.{instanceOf}
@@ -19,7 +19,7 @@ use Rattle.model.specs.Plans.{Plan, on, plansOf}
 use Rattle.model.specs.PlanFile.{edgesIn, planBytes, readPlan}
 use Rattle.model.specs.Desk.{Held, noRoster, noPlan}
 use Rattle.theory_files.specs.Reads.{isBytes}
-use Rattle.theory_files.specs.Rosters.{read-write}
+use Rattle.theory_files.specs.Rosters.{read-write, read-fits}
 use Rattle.theory_files.specs.PlanFiles.{plan-read-within, plan-read-write}
 use Rattle.arrays.specs.ArrayInstance.{at, flag}
 use Rattle.arrays.specs.Kept.{front-is}
@@ -52,6 +52,7 @@ pub record OnRoster (g : Instance) (file : List ℕ) (needs short : Bool) (r : O
 pub record LoadedFrom (roster plan : List ℕ) (needs short : Bool) (r : OnDesk) : Type 0 where
   pub refusal : r .refusal ≡ stateNumber (held (readRoster roster) plan) needs short
   pub instance : (R : Roster) → readRoster roster ≡ accepted R → Loaded (r .g) × (shownBy (r .g) ≡ instanceOf R) × (writeRoster R ≡ roster)
+  pub fitting : (R : Roster) → readRoster roster ≡ accepted R → T (fits R)
   pub planned : (R : Roster) → readRoster roster ≡ accepted R → T needs → (M : Plan) → readPlan (instanceOf R) plan ≡ accepted M
       → PlanIn r M × (planBytes (instanceOf R) M ≡ plan)
 
@@ -122,6 +123,7 @@ pub roster-missing : (roster file : List ℕ) (needs short : Bool) (r : OnDesk) 
 roster-missing roster file needs short r {n} e q = record {
   refusal = q ∙ sym (ap (λ x. stateNumber (held x file) needs short) t);
   instance = λ R a. none (sym t ∙ a);
+  fitting = λ R a. none (sym t ∙ a);
   planned = λ R a. none (sym t ∙ a);
 }
   where
@@ -143,6 +145,7 @@ module _ (roster : List ℕ) (isB : T (isBytes roster)) (e : answer.Accepted ≡
     refusal = O .refusal R₀ ∙ ap (λ G. stateNumber (heldPlan R₀ (readPlan G file)) needs short) (D .shows R₀ a₀)
         ∙ sym (ap (λ x. stateNumber (held x file) needs short) a₀);
     instance = λ R a. (subst Loaded (sym (O .arrays)) arrays-loaded, ap shownBy (O .arrays) ∙ D .shows R a, read-write roster R isB a);
+    fitting = λ R a. read-fits roster R isB a;
     planned = λ R a. subst (λ G. T needs → (M : Plan) → readPlan G file ≡ accepted M → PlanIn r M × (planBytes G M ≡ file)) (D .shows R a) (O .planned);
   }
 

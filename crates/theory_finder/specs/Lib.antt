@@ -2,3 +2,4 @@ pub mod Choices
 pub mod FoundPlan
 pub mod Demand3
 pub mod Desks
+pub mod RivalSaid
