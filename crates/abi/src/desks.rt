@@ -123,9 +123,10 @@ pub extern "C" fn crew_judge(desk: Desk, rival: &mut [u8]) -> DeskJudged
 // two plan files against the held roster
 #[no_mangle]
 pub extern "C" fn crew_compare(desk: Desk, first: &[u8], second: &[u8]) -> DeskCompared
-    ensures { λ r. ⌜ Served comparedIn desk (compare (now (first .entry)) (now (second .entry))) (r .compared) (compare (now (first .entry)) (now (second .entry))) (r .desk) ⌝ }
+    ensures { λ r. ⌜ Served comparedIn desk (compare (now (first .entry)) (now (second .entry))) (r .compared)
+        (compare (now (first .entry)) (now (second .entry))) (r .desk) ⌝ }
 {
-    let r = desk.compare(first, second);
+    let r = desk.compare_votes(first, second);
     let d = r.desk;
     let a = r.answer;
     let n = abi_numbers::comparison_numbers(a, first, second);

@@ -3,12 +3,12 @@
 ghost use mathlib.Core.Path.{_≡_};
 ghost use denote.Ref.{ptr};
 ghost use Rattle.model.specs.PlanFile.{readPlan};
-ghost use Rattle.model.specs.Compare.{winnerOf, compared, secondJudged, comparisonOf, partOf};
-ghost use Rattle.answers.specs.ComparisonCases.{winnerCase, comparisonCase};
+ghost use Rattle.model.specs.Compare.{winnerOf, compared, secondJudged, comparisonOf};
+ghost use Rattle.answers.specs.ComparisonCases.{winnerCase, partShown, comparisonCase};
 ghost use Rattle.instance.specs.Decoded.{shownBy};
 ghost use Rattle.instance.specs.Loaded.{Loaded};
 ghost use Rattle.compare.specs.TwoPlans.{Planned};
-ghost use Rattle.compare.specs.Parts.{placed};
+ghost use Rattle.compare.specs.Parts.{placed, Counted};
 use answers::Comparison;
 use answers::Winner;
 use instance::Instance;
@@ -99,14 +99,13 @@ pub fn compare(g: Instance, first: &[u8], second: &[u8]) -> Comparison
     }
 }
 
-// The winner's pair bytes, as a part of its own file; "with no winner, and on a refusal, the part is empty, taken from the first file".
+// The part that an answer names, of the file that it is in; "with no winner, and on a refusal, the part is empty, taken from the first file".
 // An accepted plan file's pair bytes are all but its count byte.
-pub fn winner_part<'a>(g: Instance, first: &'a [u8], second: &'a [u8]) -> &'a [u8]
-    requires { ⌜ Loaded g ⌝ }
-    ensures { λ r. ⌜ (ptr r, now r) ≡ placed (first .entry) (second .entry) (partOf (shownBy g) (now (first .entry)) (now (second .entry))) ⌝ }
+pub fn part_of<'a>(answer: Comparison, first: &'a [u8], second: &'a [u8]) -> &'a [u8]
+    requires { ⌜ Counted answer (now first) (now second) ⌝ }
+    ensures { λ r. ⌜ (ptr r, now r) ≡ placed (first .entry) (second .entry) (partShown answer (now (first .entry)) (now (second .entry))) ⌝ }
 {
-    let c = compare(g, first, second);
-    match c {
+    match answer {
         Comparison::Votes(_, _, w) => match w {
             Winner::First => &first[1..],
             Winner::Second => &second[1..],

@@ -1,5 +1,5 @@
 -- The calls that the state lets pass: from what each call on the arrays promises to the desk's reply.
-use Prim.Native.Nat.{ℕ, _≤_, _<_}
+use Prim.Native.Nat.{ℕ, _≤_}
 use mathlib.Core.Path.{_≡_, refl, sym, ap, _∙_, fun-ext}
 use mathlib.Core.Bool.{Bool, true, false}
 use mathlib.Core.List.{List, map}
@@ -27,24 +27,22 @@ use Rattle.theory_instance.specs.FirstBlocking.{firstBlocking}
 use Rattle.arrays.specs.ArrayInstance.{at, flag}
 use Rattle.answers.specs.declared.Verdict.{Verdict}
 use Rattle.answers.specs.declared.Comparison.{Comparison}
-use Rattle.answers.specs.declared.Comparison.the-variants as says
 use Rattle.answers.specs.declared.Blocked.{Blocked}
 use Rattle.answers.specs.GroupCases.{shown-case}
 use Rattle.answers.specs.VerdictCases.{verdictShown}
-use Rattle.answers.specs.ComparisonCases.{partShown, comparisonShown, comparisonCase, winner-shown}
+use Rattle.answers.specs.ComparisonCases.{comparisonShown, comparisonCase, winner-shown}
 use Rattle.answers.specs.BlockedCases.{blockedShown}
 use Rattle.instance.specs.Decoded.{shownBy}
 use Rattle.instance.specs.Loaded.{Loaded}
 use Rattle.verdict.specs.Weighing.{Shows, WeighedFor, desk-answer, desk-written}
-use Rattle.compare.specs.Parts.{part-is}
 use Rattle.blocking_search.specs.Blocking.{blockedBy, blocked-shown, same-plan}
 use Rattle.desk_loaded.specs.declared.OnDesk.{OnDesk}
 use Rattle.desk_loaded.specs.Held.{heldPlan, stateNumber}
 use Rattle.desk_loaded.specs.OnDesk.{PlanIn, LoadedFrom, its-roster, its-plan, its-length}
 use Rattle.desk.specs.declared.Desk.{Desk}
 use Rattle.desk.specs.Held.{rosterBytes, planBytes, heldOf}
-use Rattle.desk.specs.Replies.{partIn, answered, Replied}
-use Rattle.desk.specs.State.{by-state, of-roster, roster-held, passes}
+use Rattle.desk.specs.Replies.{Replied}
+use Rattle.desk.specs.State.{of-roster, roster-held, passes}
 
 -- ---- what the call knows of what it works on
 -- the state's refusal
@@ -94,19 +92,6 @@ module _ (d : Desk) {l : OnDesk} (F : LoadedFrom (rosterBytes d) (planBytes d) f
       (ap (comparisonShown a b) e ∙ compared-shown (shownBy (l .g)) a b ∙ ap (λ G. comparisonAnswer (partOf G a b) (comparisonOf G a b)) (F .instance R r .1)
       ∙ of-roster (refusal 13) (λ r. comparisonAnswer (partOf (instanceOf r) a b) (comparisonOf (instanceOf r) a b)) R y)
       refl refl refl)
-
-  -- the part in the answer
-  in-answer : (c : Comparison) → partShown c a b ≡ partIn (comparisonShown a b c)
-  in-answer (says.Votes v w x) = refl
-  in-answer (says.Refused n g) = refl
-
-  pub part-reply : l .refusal ≤ 0 → partOf (shownBy (l .g)) a b ≡ partIn (answered (heldOf d) (compare a b))
-  part-reply z =
-      let G = shownBy (l .g) in
-      sym (part-is G a b) ∙ in-answer (comparisonCase (comparisonOf G a b)) ∙ ap partIn (compare-reply z refl .answer)
-
-  pub part-refused : 0 < l .refusal → winnerPart outcome.neither a b ≡ partIn (answered (heldOf d) (compare a b))
-  part-refused h = ap partIn (by-state d (compare a b) tt (state-is d F) h refl .answer)
 
 -- ---- with the plan held
 module _ (d : Desk) {short : Bool} {l : OnDesk} (F : LoadedFrom (rosterBytes d) (planBytes d) true short l) (z : l .refusal ≤ 0) where

@@ -4,6 +4,7 @@ pub mod Replies
 pub mod State
 pub mod Calls
 pub mod Judging
+pub mod Comparing
 pub mod Loads
 pub mod Outcomes
 pub mod Finding

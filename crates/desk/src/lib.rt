@@ -6,17 +6,16 @@ mod held;
 mod store;
 
 ghost use mathlib.Core.Path.{_≡_};
-ghost use denote.Ref.{ptr};
 ghost use Rattle.model.specs.Desk.{opening, loadRoster, loadPlan, writeRosterTo, writePlanTo, compare, blocking};
 ghost use Rattle.answers.specs.FileCases.{fileShown};
 ghost use Rattle.answers.specs.WrittenCases.{writtenShown};
 ghost use Rattle.answers.specs.ComparisonCases.{comparisonShown};
 ghost use Rattle.answers.specs.BlockedCases.{blockedShown};
-ghost use Rattle.compare.specs.Parts.{placed};
 ghost use Rattle.desk.specs.Held.{heldOf};
+ghost use Rattle.desk.specs.Comparing.{Compares};
 ghost use Rattle.desk.specs.Finding.{Done, Finds};
 ghost use Rattle.desk.specs.Judging.{Judges};
-ghost use Rattle.desk.specs.Replies.{Replied, partIn, answered};
+ghost use Rattle.desk.specs.Replies.{Replied};
 use answers::Blocked;
 use answers::Comparison;
 use answers::FileAnswer;
@@ -55,6 +54,13 @@ pub struct JudgeReply {
 pub struct CompareReply {
     pub desk: Desk,
     pub answer: Comparison,
+}
+
+// The same, and the winner's part of its own file.
+pub struct Compared<'a> {
+    pub desk: Desk,
+    pub answer: Comparison,
+    pub part: &'a [u8],
 }
 
 pub struct BlockingReply {
@@ -220,8 +226,8 @@ impl Desk {
         }
     }
 
-    // Both votes and the winner; the winner's part is what `winner_part` hands back for the same files.
-    pub fn compare(self, first: &[u8], second: &[u8]) -> CompareReply
+    // Both votes and the winner, without the part: for the C interface, which hands out no reference.
+    pub fn compare_votes(self, first: &[u8], second: &[u8]) -> CompareReply
         ensures { λ r. ⌜ Replied self (compare (now (first .entry)) (now (second .entry)))
             (comparisonShown (now (first .entry)) (now (second .entry)) (r .answer)) (compare (now (first .entry)) (now (second .entry))) (r .desk) ⌝ }
     {
@@ -240,15 +246,17 @@ impl Desk {
         }
     }
 
-    // The part in that same answer: its place in memory, and its bytes.
-    pub fn winner_part<'a>(self, first: &'a [u8], second: &'a [u8]) -> &'a [u8]
-        ensures { λ r. ⌜ (ptr r, now r) ≡ placed (first .entry) (second .entry) (partIn (answered (heldOf self) (compare (now (first .entry)) (now (second .entry))))) ⌝ }
+    // Both votes, the winner and its part: "with no winner, and on a refusal, the part is empty, taken from the first file".
+    pub fn compare<'a>(self, first: &'a [u8], second: &'a [u8]) -> Compared<'a>
+        ensures { λ r. ⌜ Compares self (first .entry) (second .entry) (r .answer) (r .part) (r .desk) ⌝ }
     {
-        let l = held::loaded(self, false, false);
-        if 0 < l.refusal {
-            return &first[..0];
+        let c = self.compare_votes(first, second);
+        let p = compare::part_of(c.answer, first, second);
+        Compared {
+            desk: c.desk,
+            answer: c.answer,
+            part: p,
         }
-        compare::winner_part(l.g, first, second)
     }
 
     pub fn blocking(self) -> BlockingReply
