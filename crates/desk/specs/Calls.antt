@@ -9,9 +9,8 @@ use Rattle.lists.specs.Test.{given, false-T}
 use Rattle.lists.specs.Sum.{range}
 use Rattle.model.specs.Limits.{planSize, rosterSize}
 use Rattle.model.specs.Refusal.{groupOf}
-use Rattle.model.specs.Reading.{accepted}
 use Rattle.model.specs.Roster.{Roster}
-use Rattle.model.specs.RosterFile.{readRoster, writeRoster}
+use Rattle.model.specs.RosterFile.{writeRoster}
 use Rattle.model.specs.Instance.{Instance}
 use Rattle.model.specs.Edges.{instanceOf}
 use Rattle.model.specs.Plans.{Plan, on, verdictOf}

@@ -1,7 +1,7 @@
 -- What holds of the rival that a call names, in the words of its answer: "Beaten and popular write a rival, such an N, and the vote of M against
 -- it". A field of the promise of every call that judges a plan.
 use Prim.Native.Nat.{ℕ}
-use mathlib.Core.Path.{_≡_, refl, sym, ap, _∙_, subst}
+use mathlib.Core.Path.{_≡_, refl, sym, ap, subst}
 use mathlib.Core.Bool.{Bool, true, false, not, cond}
 use mathlib.Core.List.{List, []}
 use lib.IntN.{ℤ, pos}
@@ -15,7 +15,6 @@ use Rattle.model.specs.Instance.{Instance}
 use Rattle.model.specs.Plans as P
 use Rattle.model.specs.Plans.{Plan, plansOf, samePlan, isStrong, voteOf, verdictOf}
 use Rattle.model.specs.PlanFile.{planBytes}
-use Rattle.model.specs.Finder.{Rival}
 use Rattle.model.specs.Desk as D
 use Rattle.model.specs.Desk.{Answer, Call, judge, planned, short, onto, refused, strong, popular, beaten, stateRefusal, answerOf, lentAfter}
 use Rattle.model.specs.Desk.{verdictAnswer, verdictWritten}

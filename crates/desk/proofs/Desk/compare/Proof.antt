@@ -1,7 +1,7 @@
 -- `Desk::compare` meets its contract: a walk of its MIR, by hand, over two calls of covered functions; of what they hand back, and nothing else, the
 -- reply is made. The first takes what the function was passed, and the files are had twice; the second takes the first one's answer and the files.
 -- Nothing is kept for the exit. Assumes nothing.
-use mathlib.Core.Path.{_≡_, refl, ap, subst, _∙_}
+use mathlib.Core.Path.{_≡_, refl, ap, subst}
 use Prim.Native.Nat.{ℕ}
 use mathlib.Core.List.{[], _∷_, List}
 use lib.ListN.{length}
