@@ -14,12 +14,13 @@ pub enum Group {
 }
 
 // The group of a refusal: "form for 1, 2 and 9; content for 3 to 8; plan for 10 to 12; desk for 13 to 15". A number that document 01
-// does not use is content.
+// does not use has no group of its own: content.
 pub fn group_of(number: u8) -> Group
     ensures { λ r. ⌜ groupShown r ≡ groupOf number ⌝ }
 {
     match number {
         1 | 2 | 9 => Group::Form,
+        3..=8 => Group::Content,
         10..=12 => Group::Plan,
         13..=15 => Group::Desk,
         _ => Group::Content,

@@ -19,7 +19,7 @@ use Rattle.model.specs.Instance.{Instance}
 use Rattle.model.specs.Plans as P
 use Rattle.model.specs.Plans.{Plan, Verdict, isStrong, voteOf, verdictOf, strongPlans, strongCount}
 use Rattle.model.specs.PlanFile.{pairList, planBytes}
-use Rattle.model.specs.Reduction.{Step, stepsOf}
+use Rattle.model.specs.Reduction.{Step, Rule, rules, stepsOf, endOf}
 use Rattle.model.specs.Finder as F
 use Rattle.model.specs.Finder.{Record, diaryOf, leftOf, candidateOf, Rival, Found, found, isEmpty, finderOf}
 use Rattle.model.specs.Desk.{find, onto, foundAnswer, foundWritten}
@@ -27,6 +27,7 @@ use Rattle.theory_verdict.specs.Rival.{rivalOf}
 use Rattle.theory_verdict.specs.Meaning.{Beaten, verdict-means}
 use Rattle.theory_files.specs.RosterInstance.{lawful}
 use Rattle.theory_finder.specs.FoundPlan.{Answers, handsBack, candidate-plan}
+use Rattle.theory_finder.specs.DiaryPairs.{PairOf, pairIn, diary-pairs, diary-once, diary-all}
 use Rattle.theory_finder.specs.Demand3.{rival-holds, demand3}
 use Rattle.answers.specs.declared.Found as code
 use Rattle.answers.specs.declared.Found.the-variants as says
@@ -97,6 +98,11 @@ module _ (r : Roster) where
     pub pairs : (s : Step) → s ∈ stepsOf (instanceOf r) → s .edge < instanceOf r .m
     pub once : Nodup (map (λ s. s .edge) (stepsOf (instanceOf r)))
     pub few : length (diaryOf (instanceOf r)) ≤ instanceOf r .m
+    -- the same in the diary's own words: every record names a pair of the roster, no two the same; and no rule names a pair that remains at the end
+    pub recordPairs : (x : Record) → x ∈ diaryOf (instanceOf r) → PairOf r (x .surveyor) (x .stand)
+    pub recordOnce : Nodup (map pairIn (diaryOf (instanceOf r)))
+    pub allTaken : (R : Rule) → R ∈ rules (instanceOf r) (endOf (instanceOf r)) → (e : ℕ) → e < instanceOf r .m
+        → T (endOf (instanceOf r) .rem e) → T (not (R .names e))
     pub one : isPlan a ≡ eqb (strongCount (instanceOf r)) 1
     pub zero : isNone a ≡ eqb (strongCount (instanceOf r)) 0
     pub ending : Ending a l p v l′ p′ v′
@@ -190,6 +196,9 @@ module _ (r : Roster) (ok : T (fits r)) where
       pairs = D .pairs;
       once = D .once;
       few = subst (λ n. n ≤ G .m) (sym diary-length) (D .few);
+      recordPairs = diary-pairs r ok;
+      recordOnce = diary-once r ok;
+      allTaken = diary-all r ok;
       one = plan-back (length (stepsOf G)) finds ∙ D .one;
       zero = none-back (length (stepsOf G)) finds ∙ D .none;
       ending = ends (D .answers);

@@ -3,3 +3,4 @@ pub mod FoundPlan
 pub mod Demand3
 pub mod Desks
 pub mod RivalSaid
+pub mod DiaryPairs

@@ -62,16 +62,16 @@ is-later n lo =
     )
 
 returns : tie.Need-returns
-returns c = is-plan (c .before .before .before .before .before .args .number) (omega (arith, c .before .before .before .before .match .rest .1)) (c .if4 .taken)
+returns c = is-content (c .before .before .before .before .args .number) (omega arith) (c .if3 .taken)
 
 returns-2 : tie.Need-returns-2
-returns-2 c = is-desk (c .before .before .before .before .before .before .args .number) (omega arith) (c .if5 .taken)
+returns-2 c = is-plan (c .before .before .before .before .before .args .number) (omega (arith, c .before .before .before .before .match .rest .1)) (c .if4 .taken)
 
 returns-3 : tie.Need-returns-3
-returns-3 c = is-none (c .before .before .args .number) (c .if1 .taken)
+returns-3 c = is-desk (c .before .before .before .before .before .before .args .number) (omega arith) (c .if5 .taken)
 
 returns-4 : tie.Need-returns-4
-returns-4 c = is-content (c .before .before .before .before .args .number) (omega arith) (c .if3 .taken)
+returns-4 c = is-none (c .before .before .args .number) (c .if1 .taken)
 
 returns-5 : tie.Need-returns-5
 returns-5 c = is-later (c .before .before .before .before .before .before .args .number) (c .if5 .left)

@@ -1,0 +1,93 @@
+-- The diary in its own words: "The diary names only pairs of the roster and each of them at most once", and no rule names a pair that remains
+-- when it ends: the steps are "all of them".
+use Prim.Native.Nat.{ℕ, suc, _<_}
+use native.Mathlib.Nat.{suc-inj}
+use mathlib.Core.Path.{_≡_, refl, sym, ap, _∙_, subst}
+use mathlib.Core.Bool.{not}
+use mathlib.Core.List.{List, [], _∷_, map, List·Memᴰ·head, List·Memᴰ·tail, Memᴰ·map, Memᴰ·of-map}
+use lib.ListN.{length}
+use lib.Dec.{T}
+use Rattle.lists.specs.Sum.{_∈_}
+use Rattle.lists.specs.Keep.{getD-∈}
+use Rattle.lists.specs.Distinct.{Nodup}
+use Rattle.model.specs.Roster.{Roster, fits, listed}
+use Rattle.model.specs.Edges.{edgesOf, edgeAt, noEdge, instanceOf}
+use Rattle.model.specs.Instance.{Instance}
+use Rattle.model.specs.Reduction.{Rule, Step, rules, stepsOf, endOf}
+use Rattle.model.specs.Finder.{Record, recordOf, diaryOf}
+use Rattle.theory_reduction.specs.Course.{steps-below, steps-once, end-quiet}
+use Rattle.theory_reduction.specs.RuleNumbers.{names}
+use Rattle.theory_files.specs.Ascending.{IsEdge, edge-is}
+use Rattle.theory_files.specs.RosterInstance.{pairs-differ}
+
+-- a pair of the roster: surveyor i and stand j, whose numbers are one more
+pub record PairOf (r : Roster) (surveyor stand : ℕ) : Type 0 where
+  pub i : ℕ
+  pub j : ℕ
+  pub pair : T (listed r i j)
+  pub surveyor-is : surveyor ≡ suc i
+  pub stand-is : stand ≡ suc j
+
+-- the numbers of a record's pair
+abbrev pub pairIn : Record → ℕ × ℕ
+pairIn x = (x .surveyor, x .stand)
+
+-- a fact of every element of a list
+abbrev Every : (Rule → Type 0) → List Rule → Type 0
+Every P [] = Unit {0}
+Every P (x ∷ xs) = P x × Every P xs
+
+every : (P : Rule → Type 0) (xs : List Rule) → Every P xs → (x : Rule) → x ∈ xs → P x
+every P (y ∷ ys) h x (List·Memᴰ·head q) = subst P (sym q) (h .0)
+every P (y ∷ ys) h x (List·Memᴰ·tail k) = every P ys (h .1) x k
+
+module _ (r : Roster) (ok : T (fits r)) where
+  abbrev G : Instance
+  G = instanceOf r
+
+  -- every edge is a pair of the roster
+  edge-pair : (e : ℕ) → e < G .m → PairOf r (suc (G .sv e)) (suc (G .st e))
+  unfolding instanceOf
+  edge-pair e h =
+      let x = edge-is r (edgeAt (edgesOf r) e) (getD-∈ (edgesOf r) e noEdge h) in
+      record {
+        i = x .i;
+        j = x .j;
+        pair = x .pair;
+        surveyor-is = ap (λ y. suc (y .surveyor)) (x .is);
+        stand-is = ap (λ y. suc (y .stand)) (x .is);
+      }
+
+  pub diary-pairs : (x : Record) → x ∈ diaryOf G → PairOf r (x .surveyor) (x .stand)
+  unfolding diaryOf
+  diary-pairs x k =
+      let (s, m, e) = Memᴰ·of-map (recordOf G) (stepsOf G) k in
+      subst (λ y. PairOf r (y .surveyor) (y .stand)) e (edge-pair (s .edge) (steps-below G s m))
+
+  -- two records of one pair are records of one edge
+  once : (ss : List Step) → ((s : Step) → s ∈ ss → s .edge < G .m) → Nodup (map (λ s. s .edge) ss) → Nodup (map pairIn (map (recordOf G) ss))
+  once [] h u = tt
+  once (s ∷ ss) h u = (
+    (λ k.
+    let (x, m, e) = Memᴰ·of-map pairIn (map (recordOf G) ss) k in
+    let (t, n, q) = Memᴰ·of-map (recordOf G) ss m in
+    let same : t .edge ≡ s .edge = pairs-differ r ok (t .edge) (s .edge) (h t (List·Memᴰ·tail n)) (h s (List·Memᴰ·head refl))
+        (suc-inj (ap (λ y. y .surveyor) q ∙ ap (λ (p : ℕ × ℕ). p .0) e)) (suc-inj (ap (λ y. y .stand) q ∙ ap (λ (p : ℕ × ℕ). p .1) e)) in
+    u .0 (subst (λ z. z ∈ map (λ s. s .edge) ss) same (Memᴰ·map (λ s. s .edge) n))),
+    once ss (λ t n. h t (List·Memᴰ·tail n)) (u .1),
+  )
+
+  pub diary-once : Nodup (map pairIn (diaryOf G))
+  unfolding diaryOf
+  diary-once = once (stepsOf G) (steps-below G) (steps-once G)
+
+  -- at the end no rule names a pair that remains
+  abbrev Silent : Rule → Type 0
+  Silent R = (e : ℕ) → e < G .m → T (endOf G .rem e) → T (not (R .names e))
+
+  silent : Every Silent (rules G (endOf G))
+  unfolding rules names
+  silent = (end-quiet G 1, (end-quiet G 2, (end-quiet G 3, (end-quiet G 4, (end-quiet G 5, (end-quiet G 6, (end-quiet G 7, tt)))))))
+
+  pub diary-all : (R : Rule) → R ∈ rules G (endOf G) → (e : ℕ) → e < G .m → T (endOf G .rem e) → T (not (R .names e))
+  diary-all R = every Silent (rules G (endOf G)) silent R
