@@ -51,6 +51,7 @@ pub record FindsFor (R : Roster) (d l p v : List ℕ) (r : code.Found) (d′ l�
 pub record Refuses (n : ℕ) (o : Outcome) : Type 0 where
   pub answer : o .answer ≡ says.Refused n (groupCase (groupOf n))
   pub steps : o .steps ≡ 0
+  pub flat : o .flat ≡ replicate flatSize 0  -- the flat diary of a refused find is blank
 
 pub record Works (roster l p v : List ℕ) (o : Outcome) (l′ p′ v′ : List ℕ) : Type 0 where
   pub finds : (R : Roster) → readRoster roster ≡ accepted R → FindsFor R (replicate flatSize 0) l p v (o .answer) (o .flat) l′ p′ v′

@@ -31,9 +31,9 @@ use limits::ROSTER_SIZE;
 #[repr(C)]
 pub struct Desk {
     pub roster_len: usize,
-    pub roster: [u8; 2214],
+    pub roster: [u8; ROSTER_SIZE],
     pub plan_len: usize,
-    pub plan: [u8; 129],
+    pub plan: [u8; PLAN_SIZE],
 }
 
 pub struct LoadReply {
@@ -113,9 +113,9 @@ impl Desk {
     {
         Desk {
             roster_len: 0,
-            roster: [0; 2214],
+            roster: [0; ROSTER_SIZE],
             plan_len: 0,
-            plan: [0; 129],
+            plan: [0; PLAN_SIZE],
         }
     }
 

@@ -10,6 +10,7 @@ ghost use Rattle.plan_reader.specs.Answers.{ReadAs};
 ghost use Rattle.desk_loaded.specs.OnDesk.{OnRoster, LoadedFrom};
 use answers::FileAnswer;
 use instance::Instance;
+use limits::ENTRY_LIMIT;
 use plan_reader::PlanAnswer;
 use plan_reader::PlanRead;
 
@@ -19,7 +20,7 @@ pub struct OnDesk {
     pub refusal: u8,
     pub g: Instance,
     pub n: usize,
-    pub plan: [bool; 1024],
+    pub plan: [bool; ENTRY_LIMIT],
     pub edges: [u16; 64],
 }
 
@@ -66,7 +67,7 @@ pub(crate) fn bare(g: Instance, refusal: u8) -> OnDesk
         refusal: refusal,
         g: g,
         n: 0,
-        plan: [false; 1024],
+        plan: [false; ENTRY_LIMIT],
         edges: [0; 64],
     }
 }

@@ -43,7 +43,7 @@ pub fn flat_records(sv: &[u8; ENTRY_LIMIT], st: &[u8; ENTRY_LIMIT], trace: Trace
 }
 
 // The i-th record of a flat diary.
-pub fn step_at(flat: [u8; FLAT_SIZE], i: usize) -> Step
+pub(crate) fn step_at(flat: [u8; FLAT_SIZE], i: usize) -> Step
     requires { ⌜ i < diarySize ⌝ }
     ensures { λ r. ⌜ r ≡ stepAt flat i ⌝ }
 {

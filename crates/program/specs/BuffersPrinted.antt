@@ -14,7 +14,7 @@ use Rattle.model.specs.Instance.{Instance}
 use Rattle.model.specs.PlanFile.{pairList, planBytes}
 use Rattle.model.specs.Reduction.{stepsOf}
 use Rattle.model.specs.Finder as F
-use Rattle.model.specs.Finder.{diaryOf, finderOf}
+use Rattle.model.specs.Finder.{diaryOf, finderOf, candidateOf}
 use Rattle.model.specs.Desk.{refused, onto}
 use Rattle.model.specs.Printed.{answerText}
 use Rattle.theory_files.specs.Reads.{isBytes}
@@ -43,6 +43,9 @@ use Rattle.text_answer.specs.Handed.{Pairs, Handed, HandedFor}
 use Rattle.text_answer.specs.Answered.{Wrote, Answered, answered-text}
 use Rattle.text_answer.specs.Rosters.{file-printable, answer-length, printed-whole}
 use Rattle.program.specs.Printing.{Prints}
+use Rattle.theory_files.specs.RosterInstance.{lawful}
+use Rattle.theory_finder.specs.Demand3.{rival-holds}
+use Rattle.theory_finder.specs.FoundPlan.{candidate-plan}
 
 -- ---- handed over
 module _ (G : Instance) (l p v l′ p′ v′ : List ℕ) where
@@ -80,6 +83,7 @@ module _ (input : List ℕ) (isB : T (isBytes input)) where
           text = subst (λ y. Wrote y before n after) (sym (printed-whole input)) t;
           room = subst (λ k. k ≤ textSize) (sym (t .size)) few;
           size = ap length (t .bytes) ∙ onto-length (answerText (readRoster input) rivalOf) before (omega arith);
+          rival = λ R e s. rival-holds R (fit R e) (candidateOf (instanceOf R)) (candidate-plan (instanceOf R) (lawful R (fit R e))) s;
         }
 
   -- what the finder hands over for an accepted roster, with the flat diary of its trace

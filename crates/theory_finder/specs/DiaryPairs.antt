@@ -69,11 +69,11 @@ module _ (r : Roster) (ok : T (fits r)) where
   once [] h u = tt
   once (s ∷ ss) h u = (
     (λ k.
-    let (x, m, e) = Memᴰ·of-map pairIn (map (recordOf G) ss) k in
-    let (t, n, q) = Memᴰ·of-map (recordOf G) ss m in
-    let same : t .edge ≡ s .edge = pairs-differ r ok (t .edge) (s .edge) (h t (List·Memᴰ·tail n)) (h s (List·Memᴰ·head refl))
+        let (x, m, e) = Memᴰ·of-map pairIn (map (recordOf G) ss) k in
+        let (t, n, q) = Memᴰ·of-map (recordOf G) ss m in
+        let same : t .edge ≡ s .edge = pairs-differ r ok (t .edge) (s .edge) (h t (List·Memᴰ·tail n)) (h s (List·Memᴰ·head refl))
         (suc-inj (ap (λ y. y .surveyor) q ∙ ap (λ (p : ℕ × ℕ). p .0) e)) (suc-inj (ap (λ y. y .stand) q ∙ ap (λ (p : ℕ × ℕ). p .1) e)) in
-    u .0 (subst (λ z. z ∈ map (λ s. s .edge) ss) same (Memᴰ·map (λ s. s .edge) n))),
+        u .0 (subst (λ z. z ∈ map (λ s. s .edge) ss) same (Memᴰ·map (λ s. s .edge) n))),
     once ss (λ t n. h t (List·Memᴰ·tail n)) (u .1),
   )
 

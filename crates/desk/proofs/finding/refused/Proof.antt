@@ -7,7 +7,7 @@ use Rattle.desk.proofs.finding.refused.Statement.{statement}
 use Rattle.desk.proofs.finding.refused.Tie as tie
 
 returns : tie.Need-returns
-returns c = record { answer = ap (says.Refused (c .before .args .number)) (shows-case (c .group-of .result) (c .group-of .ensures)); steps = refl }
+returns c = record { answer = ap (says.Refused (c .before .args .number)) (shows-case (c .group-of .result) (c .group-of .ensures)); steps = refl; flat = refl }
 
 pub refused-spec : {M : Type 1} → statement M
 refused-spec = tie.close (tie.spec (λ c κs. search needs) returns)
