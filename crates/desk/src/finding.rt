@@ -1,11 +1,15 @@
-// The finder on the desk's roster bytes, with a flat diary (crate diary).
+// The finder on the roster that a desk holds, with a flat diary (crate diary).
 ghost use Prim.Native.Nat.{_≤_};
 ghost use lib.ListN.{length};
 ghost use Rattle.model.specs.Limits.{planSize, leftSize};
-ghost use Rattle.instance.specs.Accepted.{RosterAccepted};
+ghost use Rattle.instance.specs.Decoded.{shownBy};
+ghost use Rattle.instance.specs.Loaded.{Loaded};
+ghost use Rattle.desk.specs.Held.{rosterBytes};
 ghost use Rattle.desk.specs.Outcomes.{Refuses, Works, Outcomes};
-use answers::FileAnswer;
+use super::Desk;
+use super::held;
 use answers::Found;
+use instance::Instance;
 use limits::DIARY_SIZE;
 use limits::FLAT_SIZE;
 use limits::LEFT_SIZE;
@@ -29,13 +33,12 @@ pub(crate) fn refused(number: u8) -> Outcome
     }
 }
 
-// The finder on an accepted roster, and the flat diary of its trace.
-pub(crate) fn worked(roster: &[u8], left: &mut [u8], plan: &mut [u8], rival: &mut [u8]) -> Outcome
-    requires { ⌜ RosterAccepted (now roster) × (leftSize ≤ length (now left)) × (planSize ≤ length (now plan)) × (planSize ≤ length (now rival)) ⌝ }
-    ensures { λ r. ⌜ Works (now (roster .entry)) (now (left .entry)) (now (plan .entry)) (now (rival .entry)) r (now (left .exit)) (now (plan .exit))
+// The finder on the arrays of an accepted roster, and the flat diary of its trace.
+pub(crate) fn worked(g: Instance, left: &mut [u8], plan: &mut [u8], rival: &mut [u8]) -> Outcome
+    requires { ⌜ Loaded g × (leftSize ≤ length (now left)) × (planSize ≤ length (now plan)) × (planSize ≤ length (now rival)) ⌝ }
+    ensures { λ r. ⌜ Works (shownBy g) (now (left .entry)) (now (plan .entry)) (now (rival .entry)) r (now (left .exit)) (now (plan .exit))
         (now (rival .exit)) ⌝ }
 {
-    let g = instance::instance_of(roster);
     let sv = g.sv;
     let st = g.st;
     let o = finder::find(g, left, plan, rival);
@@ -49,28 +52,22 @@ pub(crate) fn worked(roster: &[u8], left: &mut [u8], plan: &mut [u8], rival: &mu
     }
 }
 
-// The finder on the bytes of a roster, for a lent diary of so many records: 13 if they are no roster, then 15 if a buffer is below its size.
+// The finder on the roster held, for a lent diary of so many records: 13 if there is none, then 15 if a buffer is below its size.
 pub(crate) fn found(
-    roster: &[u8],
+    desk: Desk,
     room: usize,
     left: &mut [u8],
     plan: &mut [u8],
     rival: &mut [u8],
 ) -> Outcome
-    ensures { λ r. ⌜ Outcomes (now (roster .entry)) room (now (left .entry)) (now (plan .entry)) (now (rival .entry)) r (now (left .exit)) (now (plan .exit))
+    ensures { λ r. ⌜ Outcomes (rosterBytes desk) room (now (left .entry)) (now (plan .entry)) (now (rival .entry)) r (now (left .exit)) (now (plan .exit))
         (now (rival .exit)) ⌝ }
 {
-    let a = roster::read_roster(roster);
-    match a {
-        FileAnswer::Refused(_, _) => refused(13),
-        FileAnswer::Accepted => {
-            if (room < DIARY_SIZE) | (left.len() < LEFT_SIZE) {
-                return refused(15);
-            }
-            if (plan.len() < PLAN_SIZE) | (rival.len() < PLAN_SIZE) {
-                return refused(15);
-            }
-            worked(roster, left, plan, rival)
-        }
+    let small = (left.len() < LEFT_SIZE) | ((plan.len() < PLAN_SIZE) | (rival.len() < PLAN_SIZE));
+    let l = held::loaded(desk, false, (room < DIARY_SIZE) | small);
+    let n = l.refusal;
+    if 0 < n {
+        return refused(n);
     }
+    worked(l.g, left, plan, rival)
 }

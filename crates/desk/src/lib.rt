@@ -90,9 +90,7 @@ pub(crate) fn core(
 ) -> CoreReply
     ensures { λ r. ⌜ Done desk room (now (left .entry)) (now (plan .entry)) (now (rival .entry)) r (now (left .exit)) (now (plan .exit)) (now (rival .exit)) ⌝ }
 {
-    let bytes = desk.roster;
-    let file = held::front(&bytes, desk.roster_len);
-    let o = finding::found(file, room, left, plan, rival);
+    let o = finding::found(desk, room, left, plan, rival);
     let answer = o.answer;
     let flat = o.flat;
     let reply = FindReply {

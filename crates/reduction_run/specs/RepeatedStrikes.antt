@@ -15,7 +15,7 @@ use Rattle.model.specs.Instance.{Instance}
 use Rattle.model.specs.Reduction.{State, arrowS, arrowT, strike, act}
 use Rattle.theory_reduction.specs.RuleNumbers.{names, ruleOf, edgeOf, fateOf}
 use Rattle.theory_reduction.specs.Chosen.{acts, edge-acts, chosen-is}
-use Rattle.theory_reduction.specs.StableStrike.{Calm, GoesOn, Striking, goes-on, arrowS-same, arrowT-same}
+use Rattle.theory_reduction.specs.StableStrike.{Stable, GoesOn, Striking, goes-on, arrowS-same, arrowT-same}
 use Rattle.arrays.specs.ArrayInstance.{at, flag}
 use Rattle.reduction_step.specs.View.{Known, instanceOf}
 use Rattle.reduction_state.specs.declared.State as arrays
@@ -58,7 +58,7 @@ module _ {m : ℕ} {sv st : List ℕ} {tied : List Bool} {quotaS quotaT os ot : 
       and-r (eqb r 2 || eqb r 5)
       ((not (flag fs e) && not (flag ft e)) && (ltb (at (x .qs) (at sv e)) (at (x .ds) (at sv e)) && ltb (at (x .qt) (at st e)) (at (x .dt) (at st e))))
       t in
-      let C : Calm G Z e = record {
+      let C : Stable G Z e = record {
         noS = subst (λ b. T (not b)) (FS e l) (search parts);
         noT = subst (λ b. T (not b)) (FT e l) (search parts);
         spareS =
@@ -123,17 +123,17 @@ abbrev pub place : (edge : ℕ) (stable : Bool) (x : arrays.State) (edges rules 
 place e b x es rs n = record { edge = e; stable = b; state = x; trace = record { edges = es; rules = rs; steps = n } }
 
 module _ (w : Told) where
-  abbrev Going : {tied : List Bool} {quotaS quotaT os ot : List ℕ} (K : Known (w .m) (w .sv) (w .st) tied quotaS quotaT os ot) (p : Place)
+  abbrev Continued : {tied : List Bool} {quotaS quotaT os ot : List ℕ} (K : Known (w .m) (w .sv) (w .st) tied quotaS quotaT os ot) (p : Place)
       → Stands (instanceOf K) (p .state) (p .trace) → Type 0
-  Going K p S = p .stable ≡ true → GoesOnWith (instanceOf K) (w .hit) (w .fs) (w .ft) (w .rule) (stateAt S) (p .edge)
+  Continued K p S = p .stable ≡ true → GoesOnWith (instanceOf K) (w .hit) (w .fs) (w .ft) (w .rule) (stateAt S) (p .edge)
 
   abbrev pub Repeating : (p₀ p : Place) → Type 0
   Repeating p₀ p = (tied : List Bool) (quotaS quotaT os ot : List ℕ) (K : Known (w .m) (w .sv) (w .st) tied quotaS quotaT os ot)
-      (S₀ : Stands (instanceOf K) (p₀ .state) (p₀ .trace)) → Going K p₀ S₀ → (S : Stands (instanceOf K) (p .state) (p .trace)) × Going K p S
+      (S₀ : Stands (instanceOf K) (p₀ .state) (p₀ .trace)) → Continued K p₀ S₀ → (S : Stands (instanceOf K) (p .state) (p .trace)) × Continued K p S
 
   abbrev pub Repeated : (p₀ : Place) (x : arrays.State) (t : Trace) → Type 0
   Repeated p₀ x t = (tied : List Bool) (quotaS quotaT os ot : List ℕ) (K : Known (w .m) (w .sv) (w .st) tied quotaS quotaT os ot)
-      (S₀ : Stands (instanceOf K) (p₀ .state) (p₀ .trace)) → Going K p₀ S₀ → Stands (instanceOf K) x t
+      (S₀ : Stands (instanceOf K) (p₀ .state) (p₀ .trace)) → Continued K p₀ S₀ → Stands (instanceOf K) x t
 
   -- none yet
   pub repeating-first : (p : Place) → Repeating p p

@@ -92,7 +92,7 @@ module _ (K : Side) (rem : ℕ → Bool) (e : ℕ) where
 -- ---- the state
 module _ (G : Instance) (Z : State) (e : ℕ) where
   -- the struck edge carries no arrow, and its ends have more remaining edges than their cut quotas
-  pub record Calm : Type 0 where
+  pub record Stable : Type 0 where
     pub noS : T (not (arrowS G Z e))
     pub noT : T (not (arrowT G Z e))
     pub spareS : cutS G Z (G .sv e) < degS G Z (Z .rem) (G .sv e)
@@ -101,7 +101,7 @@ module _ (G : Instance) (Z : State) (e : ℕ) where
   abbrev Y : State
   Y = act G Z strike e
 
-  module _ (l : e < G .m) (left : T (Z .rem e)) (C : Calm) where
+  module _ (l : e < G .m) (left : T (Z .rem e)) (C : Stable) where
     cutS-same : cutS G Y ≡ cutS G Z
     unfolding act cut
     cutS-same = fun-ext (λ v. cut-kept (surveyors G) (Z .rem) e (Z .qS) l left (C .spareS) v)
@@ -199,7 +199,7 @@ unfolding names
 five G Z e t = t
 
 pub goes-on : (G : Instance) (Z : State) (r e : ℕ) (hit : ℕ → Bool) → Striking r → ruleOf G Z ≡ r → edgeOf G Z ≡ e → e < G .m
-    → ((d : ℕ) → d < G .m → e < d → hit d ≡ Z .rem d && names G Z r d) → Calm G Z e → GoesOn G (act G Z strike e) r e hit
+    → ((d : ℕ) → d < G .m → e < d → hit d ≡ Z .rem d && names G Z r d) → Stable G Z e → GoesOn G (act G Z strike e) r e hit
 unfolding act
 goes-on G Z r e hit s ri ei l H C = record {
   quiet = λ k h d dl t. subst (λ b. T (not b)) (sym (kept k (omega arith) d)) (earlier k h d dl (and-l (Z .rem d) (not (eqb d e)) t));
