@@ -138,7 +138,7 @@ struct crew_desk_judged crew_judge(struct crew_desk desk, uint8_t *rival, size_t
 struct crew_desk_compared crew_compare(struct crew_desk desk, const uint8_t *first, size_t first_len, const uint8_t *second,
                                        size_t second_len);
 
-/* a blocking pair of the held plan */
+/* the first blocking pair of the held plan: of the lowest surveyor that has one, the pair best in that surveyor's list */
 struct crew_desk_blocker crew_blocking(struct crew_desk desk);
 
 /* the finder on the held roster: the steps go to the diary, of at least CREW_DIARY_RECORDS; kind 1 writes the strongly popular plan, kind 2 the

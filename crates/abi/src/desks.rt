@@ -136,7 +136,7 @@ pub extern "C" fn crew_compare(desk: Desk, first: &[u8], second: &[u8]) -> DeskC
     }
 }
 
-// a blocking pair of the held plan
+// the first blocking pair of the held plan
 #[no_mangle]
 pub extern "C" fn crew_blocking(desk: Desk) -> DeskBlocker
     ensures { λ r. ⌜ Served blockerIn desk blocking (r .blocker) blocking (r .desk) ⌝ }

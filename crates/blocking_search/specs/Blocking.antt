@@ -1,29 +1,26 @@
--- What the search for a blocking pair looks for, and what its answer is. What a blocking pair is is the model's; which one is named is
--- open there, and here it is the lowest.
+-- What the search for a blocking pair looks for, and what its answer is.
 use Prim.Native.Nat.{ℕ, suc, _<_}
 use mathlib.Core.Path.{_≡_, refl, ap, _∙_}
 use mathlib.Core.Bool.{Bool, true, false, not, _&&_}
 use mathlib.Core.List.{List}
 use lib.Dec.{ltb}
-use Rattle.lists.specs.Search.{low}
 use Rattle.model.specs.Limits.{emptyRank}
 use Rattle.model.specs.Instance.{Instance}
 use Rattle.model.specs.Plans.{Plan, on}
-use Rattle.model.specs.Blocking.{blocks, someBlocks}
+use Rattle.model.specs.Blocking.{someBlocks, topBlocking}
 use Rattle.model.specs.Desk.{blockingAnswer}
-use Rattle.theory_instance.specs.FirstBlocking.{firstBlocking}
 use Rattle.arrays.specs.ArrayInstance.{at, flag}
 use Rattle.answers.specs.declared.Blocked.{Blocked}
 use Rattle.answers.specs.declared.Blocked.the-variants.{Pair, Unblocked}
 use Rattle.answers.specs.BlockedCases.{blockedShown}
 
--- "yes with some such pair, or no": the pair is edge e
+-- yes with the pair of edge e, or no
 abbrev pub named : Instance → (e : ℕ) → Bool → Blocked
 named G e true = Pair (suc (G .sv e)) (suc (G .st e))
 named G e false = Unblocked
 
 abbrev pub blockedBy : Instance → Plan → Blocked
-blockedBy G M = named G (firstBlocking G M) (someBlocks G (on M))
+blockedBy G M = named G (topBlocking G (on M)) (someBlocks G (on M))
 
 -- this is the desk's answer
 pub blocked-shown : (G : Instance) (e : ℕ) (b : Bool) → blockedShown (named G e b) ≡ blockingAnswer G e b
@@ -32,8 +29,7 @@ blocked-shown G e false = refl
 
 -- which plan it is matters by its edges alone
 pub same-plan : (G : Instance) (M N : Plan) → on M ≡ on N → blockedBy G M ≡ blockedBy G N
-unfolding firstBlocking
-same-plan G M N e = ap (λ f. named G (low (blocks G f) (G .m)) (someBlocks G f)) e
+same-plan G M N e = ap (λ f. named G (topBlocking G f) (someBlocks G f)) e
 
 -- every edge is better than an empty place
 abbrev pub Placed : ℕ → List ℕ → Type 0

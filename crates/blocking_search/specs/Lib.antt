@@ -1,2 +1,3 @@
 pub mod Blocking
+pub mod TopSearch
 pub mod Search

@@ -1,4 +1,4 @@
--- From the numbers that the passes compute to the model's blocking pairs: the lowest edge that is wanted at both its ends is the lowest that blocks.
+-- From the numbers that the passes compute to the model's blocking pairs: the first edge that is wanted at both its ends is the first that blocks.
 use Prim.Native.Nat.{ℕ, _+_, _≤_, _<_}
 use native.Mathlib.Omega.{arith}
 use native.Mathlib.Decide.{decLt}
@@ -15,13 +15,13 @@ use Rattle.lists.specs.Keep.{any-or}
 use Rattle.lists.specs.Search.{low, low-is, low-cong}
 use Rattle.model.specs.Instance as model
 use Rattle.model.specs.Plans.{Plan, on}
-use Rattle.model.specs.Blocking.{yields, blocks, someBlocks}
+use Rattle.model.specs.Blocking.{yields, blocks, topOf, topBlocking}
 use Rattle.arrays.specs.ArrayInstance.{at, flag, shown}
 use Rattle.answers.specs.declared.Blocked.the-variants.{Pair, Unblocked}
 use Rattle.instance.specs.declared.Instance.{Instance}
 use Rattle.instance.specs.Loaded.{Loaded}
 use Rattle.blocking_thresholds.specs.Threshold.{Edges, Thresholds, sideOf}
-use Rattle.theory_instance.specs.FirstBlocking.{firstBlocking, first-below, first-behind}
+use Rattle.theory_instance.specs.TopBlocking.{top-cong, top-below, top-behind}
 use Rattle.blocking_search.specs.Blocking.{named, blockedBy, Placed, wanted}
 
 module _ (m : ℕ) (sv st rs rt qs qt ls lt : List ℕ) (p : List Bool) (os : Placed m rs) (ot : Placed m rt) (hs : Thresholds m sv rs qs p ls)
@@ -39,18 +39,19 @@ module _ (m : ℕ) (sv st rs rt qs qt ls lt : List ℕ) (p : List Bool) (os : Pl
       (λ z. z && (not (flag p e) && (yields (sideOf m ns sv rs qs (λ d. false)) (flag p) e && yields (sideOf m nt st rt qt (flag tied)) (flag p) e)))
       (lt-ltb e m h))
 
-  first-is : low (wanted sv st rs rt ls lt p) m ≡ firstBlocking G p
-  unfolding firstBlocking
-  first-is = low-cong (wanted sv st rs rt ls lt p) (blocks G (flag p)) m is-wanted
+  top-is-wanted : topOf (at sv) (at rs) m (wanted sv st rs rt ls lt p) ≡ topBlocking G (flag p)
+  unfolding topBlocking
+  top-is-wanted = top-cong (at sv) (at rs) m (wanted sv st rs rt ls lt p) (blocks G (flag p)) is-wanted
 
-  pub answer-yes : (e : ℕ) → e ≡ low (wanted sv st rs rt ls lt p) m → e < m → Pair (at sv e + 1) (at st e + 1) ≡ blockedBy G p
+  -- the edge named is the model's, and there is one exactly if some edge blocks
+  pub answer-yes : (e : ℕ) → e ≡ topOf (at sv) (at rs) m (wanted sv st rs rt ls lt p) → e < m → Pair (at sv e + 1) (at st e + 1) ≡ blockedBy G p
   answer-yes e q h =
-      let s = q ∙ first-is in
+      let s = q ∙ top-is-wanted in
       ap₂ Pair (add-one (at sv e)) (add-one (at st e)) ∙ ap (λ d. named G d true) s
-      ∙ sym (ap (named G (firstBlocking G p)) (first-below G p (subst (λ z. z < m) s h)))
+      ∙ sym (ap (named G (topBlocking G (flag p))) (top-below G (flag p) os (subst (λ z. z < m) s h)))
 
-  pub answer-no : m ≤ low (wanted sv st rs rt ls lt p) m → Unblocked ≡ blockedBy G p
-  answer-no h = sym (ap (named G (firstBlocking G p)) (first-behind G p (subst (λ z. m ≤ z) first-is h)))
+  pub answer-no : m ≤ topOf (at sv) (at rs) m (wanted sv st rs rt ls lt p) → Unblocked ≡ blockedBy G p
+  answer-no h = sym (ap (named G (topBlocking G (flag p))) (top-behind G (flag p) os (subst (λ z. m ≤ z) top-is-wanted h)))
 
 -- the arrays of an accepted roster are what the search asks for
 pub may-search : (g : Instance) → Loaded g → Edges (g .m) (g .sv) × Edges (g .m) (g .st) × Placed (g .m) (g .«rank_s») × Placed (g .m) (g .«rank_t»)

@@ -1,15 +1,19 @@
-// A blocking pair of a plan, over the arrays of an instance: an edge outside the plan that is better than the worst place of both its ends.
+// The first blocking pair of a plan, over the arrays of an instance: an edge outside the plan that is better than the worst place of both its ends.
 ghost use mathlib.Core.Path.{_≡_};
-ghost use Rattle.lists.specs.Search.{low};
 ghost use Rattle.blocking_thresholds.specs.Threshold.{Edges};
 ghost use Rattle.instance.specs.Decoded.{shownBy};
 ghost use Rattle.instance.specs.Loaded.{Loaded};
-ghost use Rattle.blocking_search.specs.Blocking.{wanted, blockedBy};
+ghost use Rattle.model.specs.Blocking.{topOf};
+ghost use Rattle.arrays.specs.ArrayInstance.{at};
+ghost use Rattle.blocking_search.specs.Blocking.{Placed, wanted, blockedBy};
 use answers::Blocked;
 use instance::Instance;
+use limits::EMPTY_RANK;
+use limits::NODE_LIMIT;
 
-// The lowest edge outside the plan that is better than the worst place of both its ends; m if there is none.
-pub fn first_wanted(
+// Of the edges outside the plan that are better than the worst place of both their ends, the one of the lowest surveyor, and there of the best
+// rank; m if there is none. Surveyor and rank make one number; it begins above all of them.
+pub fn top_wanted(
     m: usize,
     sv: &[u8; 1024],
     st: &[u8; 1024],
@@ -19,22 +23,27 @@ pub fn first_wanted(
     lt: &[u8; 32],
     p: &[bool; 1024],
 ) -> usize
-    requires { ⌜ Edges m (now sv) × Edges m (now st) ⌝ }
-    ensures { λ r. ⌜ r ≡ low (wanted (now (sv .entry)) (now (st .entry)) (now (rs .entry)) (now (rt .entry)) (now (ls .entry)) (now (lt .entry)) (now (p .entry))) m ⌝ }
+    requires { ⌜ Edges m (now sv) × Edges m (now st) × Placed m (now rs) ⌝ }
+    ensures { λ r. ⌜ r ≡ topOf (at (now (sv .entry))) (at (now (rs .entry))) m (wanted (now (sv .entry)) (now (st .entry)) (now (rs .entry))
+        (now (rt .entry)) (now (ls .entry)) (now (lt .entry)) (now (p .entry))) ⌝ }
 {
+    let mut top = m;
+    let mut key = NODE_LIMIT as usize * EMPTY_RANK;
     let mut i = 0;
     while i < m {
         let s = sv[i] as usize;
         let t = st[i] as usize;
-        if !p[i] & ((rs[i] < ls[s]) & (rt[i] < lt[t])) {
-            return i;
+        let k = s * EMPTY_RANK + rs[i] as usize;
+        if (!p[i] & ((rs[i] < ls[s]) & (rt[i] < lt[t]))) & (k < key) {
+            top = i;
+            key = k;
         }
         i += 1;
     }
-    i
+    top
 }
 
-// A plan within the quotas of an accepted roster, by its flags: the lowest blocking pair, by the numbers of its surveyor and its stand, or that
+// A plan within the quotas of an accepted roster, by its flags: the first blocking pair, by the numbers of its surveyor and its stand, or that
 // there is none.
 pub fn blocking(g: Instance, p: &[bool; 1024]) -> Blocked
     requires { ⌜ Loaded g ⌝ }
@@ -49,7 +58,7 @@ pub fn blocking(g: Instance, p: &[bool; 1024]) -> Blocked
     let qt = g.quota_t;
     let ls = blocking_thresholds::side_thresholds(m, &sv, &rs, &qs, p);
     let lt = blocking_thresholds::side_thresholds(m, &st, &rt, &qt, p);
-    let e = first_wanted(m, &sv, &st, &rs, &rt, &ls, &lt, p);
+    let e = top_wanted(m, &sv, &st, &rs, &rt, &ls, &lt, p);
     if e < m {
         return Blocked::Pair(sv[e] + 1, st[e] + 1);
     }

@@ -16,13 +16,12 @@ use Rattle.model.specs.Edges.{instanceOf}
 use Rattle.model.specs.Plans.{Plan, on, verdictOf}
 use Rattle.model.specs.PlanFile as plans
 use Rattle.model.specs.PlanFile.{edgesIn, readPlan}
-use Rattle.model.specs.Blocking.{someBlocks}
+use Rattle.model.specs.Blocking.{someBlocks, topBlocking}
 use Rattle.model.specs.Compare as outcome
 use Rattle.model.specs.Compare.{winnerPart, partOf, comparisonOf}
 use Rattle.model.specs.Desk.{planned, writeRosterTo, writePlanTo, judge, compare, blocking, refusal, wrote, votes, refusedPart, onto, verdictAnswer}
 use Rattle.model.specs.Desk.{verdictWritten, comparisonAnswer, blockingAnswer}
 use Rattle.theory_verdict.specs.Rival.{rivalOf}
-use Rattle.theory_instance.specs.FirstBlocking.{firstBlocking}
 use Rattle.arrays.specs.ArrayInstance.{at, flag}
 use Rattle.answers.specs.declared.Verdict.{Verdict}
 use Rattle.answers.specs.declared.Comparison.{Comparison}
@@ -125,6 +124,6 @@ module _ (d : Desk) {short : Bool} {l : OnDesk} (F : LoadedFrom (rosterBytes d) 
   blocking-reply s q = given its-plan-held (λ (R, M, e, g, P, w).
       let G = shownBy (l .g) in
       passes d blocking tt (state-is d F ∙ ap (stateNumber (heldOf d) true) s) z (planned R M) e
-      (ap blockedShown (q ∙ same-plan G (l .plan) M (fun-ext (P .flags))) ∙ blocked-shown G (firstBlocking G M) (someBlocks G (on M))
-      ∙ ap (λ G. blockingAnswer G (firstBlocking G M) (someBlocks G (on M))) g)
+      (ap blockedShown (q ∙ same-plan G (l .plan) M (fun-ext (P .flags))) ∙ blocked-shown G (topBlocking G (on M)) (someBlocks G (on M))
+      ∙ ap (λ G. blockingAnswer G (topBlocking G (on M)) (someBlocks G (on M))) g)
       refl refl refl)

@@ -14,6 +14,9 @@ pub const ENTRY_LIMIT: usize = 1024;
 // a plan's "count byte 0 to 64"
 pub const PLAN_LIMIT: usize = 64;
 
+// "an empty place has rank 33"
+pub const EMPTY_RANK: usize = 33;
+
 // "two bytes a pair (surveyor, stand)"
 pub const PAIR_WIDTH: usize = 2;
 

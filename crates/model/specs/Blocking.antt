@@ -1,9 +1,10 @@
--- Blocking pairs: section "Comparison, blocking, desk" of document 01. Which of them is named is open; what makes one is not.
+-- Blocking pairs: section "Comparison, blocking, desk" of document 01, and request W-201 of document 02, which settles the pair that is named.
 use Prim.Native.Nat.{ℕ}
 use mathlib.Core.Bool.{Bool, not, _&&_, _||_}
 use lib.Dec.{eqb, ltb}
 use Rattle.lists.specs.Sum.{upTo}
 use Rattle.lists.specs.Keep.{any?}
+use Rattle.lists.specs.Search.{low}
 use Rattle.model.specs.Instance.{Instance, Side, surveyors, stands, deg}
 
 -- "A blocking pair is not in the plan, and each end has an unfilled quota or a strictly worse pair in the plan."
@@ -16,3 +17,19 @@ blocks G M e = ltb e (G .m) && (not (M e) && (yields (surveyors G) M e && yields
 
 unfoldable pub someBlocks : Instance → (ℕ → Bool) → Bool
 someBlocks G M = any? (blocks G M) (upTo (G .m))
+
+-- ---- W-201: "The blocking pair is now the first: the lowest surveyor number that has one, and of that surveyor's blocking pairs the one
+-- best in the surveyor's list."
+-- d goes before e: a lower surveyor, or the same one, who ranks d better
+abbrev pub above : (sv rank : ℕ → ℕ) → ℕ → ℕ → Bool
+above sv rank d e = ltb (sv d) (sv e) || (eqb (sv d) (sv e) && ltb (rank d) (rank e))
+
+-- of the edges below m that pass, the first: none that passes goes before it; m if none passes
+abbrev pub isTop : (sv rank : ℕ → ℕ) → ℕ → (ℕ → Bool) → ℕ → Bool
+isTop sv rank m p e = p e && not (any? (λ d. p d && above sv rank d e) (upTo m))
+
+abbrev pub topOf : (sv rank : ℕ → ℕ) → ℕ → (ℕ → Bool) → ℕ
+topOf sv rank m p = low (isTop sv rank m p) m
+
+unfoldable pub topBlocking : Instance → (ℕ → Bool) → ℕ
+topBlocking G M = topOf (G .sv) (G .rankS) (G .m) (blocks G M)

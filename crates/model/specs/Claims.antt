@@ -1,6 +1,6 @@
 -- What is claimed of a roster, as a test that the checker computes. A roster of which more is claimed than what is printed, and every plan file
 -- in a claim, must be accepted. Stands are counted from 0 here.
-use Prim.Native.Nat.{ℕ}
+use Prim.Native.Nat.{ℕ, suc}
 use Prim.Native.String.{String}
 use mathlib.Core.Bool.{Bool, true, false, _&&_}
 use mathlib.Core.List.{List, [], _∷_, map}
@@ -19,7 +19,7 @@ use Rattle.model.specs.Vote.{nodeVote, vote}
 use Rattle.model.specs.Plans.{Plan, on, plansOf, Verdict, strong, popular, beaten, beatenBy, drawnWith, verdictOf, strongCount}
 use Rattle.model.specs.Reduction.{cutT, begin}
 use Rattle.model.specs.PlanFile.{planBytes, readPlan}
-use Rattle.model.specs.Blocking.{someBlocks}
+use Rattle.model.specs.Blocking.{someBlocks, topBlocking}
 use Rattle.model.specs.Printed.{printed}
 
 -- plans are given as plan files
@@ -31,6 +31,7 @@ pub data Claim : Type 0 where
   judged : List ℕ → Verdict → Claim  -- the verdict on a plan
   rivals : List ℕ → List (List ℕ) → Claim  -- all plans that may be named as its rival
   blocked : List ℕ → Bool → Claim  -- whether it has a blocking pair
+  blockedAt : List ℕ → (surveyor stand : ℕ) → Claim  -- the numbers of the one that is named
   cutTo : ℕ → ℕ → Claim  -- a stand's quota as the first step cuts it
 
 pub record Case : Type 0 where
@@ -87,6 +88,7 @@ holdsOf G (standVotes t a b v) = onPlan (readPlan G a) (λ M. onPlan (readPlan G
 holdsOf G (judged a v) = onPlan (readPlan G a) (λ M. sameVerdict (verdictOf G M) v)
 holdsOf G (rivals a bs) = onPlan (readPlan G a) (λ M. sameFiles (map (planBytes G) (allowed G M)) bs)
 holdsOf G (blocked a b) = onPlan (readPlan G a) (λ M. alike (someBlocks G (on M)) b)
+holdsOf G (blockedAt a s t) = onPlan (readPlan G a) (λ M. let e = topBlocking G (on M) in eqb (suc (G .sv e)) s && eqb (suc (G .st e)) t)
 holdsOf G (cutTo t q) = eqb (cutT G (begin G) t) q
 
 abbrev onRoster : Reading Roster → Claim → Bool
@@ -101,6 +103,7 @@ holds file (standVotes t a b v) = onRoster (readRoster file) (standVotes t a b v
 holds file (judged a v) = onRoster (readRoster file) (judged a v)
 holds file (rivals a bs) = onRoster (readRoster file) (rivals a bs)
 holds file (blocked a b) = onRoster (readRoster file) (blocked a b)
+holds file (blockedAt a s t) = onRoster (readRoster file) (blockedAt a s t)
 holds file (cutTo t q) = onRoster (readRoster file) (cutTo t q)
 
 abbrev pub isTrue : Case → Bool

@@ -1,6 +1,6 @@
 -- The desk, document 01's session state, and each call on it: what the call answers, every byte lent to it afterwards, and what the
 -- desk then holds. A `Call` is a call with the files and buffers lent to it; it also stands for the same buffers as they are afterwards.
--- Which rival and which blocking pair are open: they are fields of a record `Choices`, with what holds of them.
+-- Which rival is open: it is a field of a record `Choices`, with what holds of it.
 use Prim.Native.Nat.{ℕ, suc}
 use mathlib.Core.Bool.{Bool, true, false, not, cond, _&&_, _||_}
 use mathlib.Core.List.{List, _++_}
@@ -24,7 +24,7 @@ use Rattle.model.specs.Finder as F
 use Rattle.model.specs.Finder.{Record, diaryOf, Rival, Found, finderOf}
 use Rattle.model.specs.Compare as C
 use Rattle.model.specs.Compare.{Comparison, Winner, Part, comparisonOf, partOf}
-use Rattle.model.specs.Blocking.{blocks, someBlocks}
+use Rattle.model.specs.Blocking.{someBlocks, topBlocking}
 
 -- "nothing loaded, a roster, or a roster and a plan"
 pub data Held : Type 0 where
@@ -161,7 +161,7 @@ abbrev pub comparisonAnswer : Part → Comparison → Answer
 comparisonAnswer p (C.votes v w x) = votes v w x p
 comparisonAnswer p (C.refused n) = refusedPart n (groupOf n) p
 
--- "The answer is yes with some such pair, or no": the pair is edge e
+-- "The answer is yes with some such pair, or no": the pair is edge e, W-201's first one
 abbrev pub blockingAnswer : Instance → (e : ℕ) → Bool → Answer
 blockingAnswer G e true = blockedBy (suc (G .sv e)) (suc (G .st e))
 blockingAnswer G e false = unblocked
@@ -189,14 +189,11 @@ onPlan x (roster r) f = x
 onPlan x (planned r M) f = f r M
 
 -- ---- the answer, and the bytes lent
--- "Only which rival and which blocking pair is open; what holds of them is said above."
+-- "Only which rival and which blocking pair is open; what holds of them is said above." W-201 has closed the second.
 pub record Choices : Type 0 where
   pub rivalOf : Instance → Plan → Plan
   pub rival-holds : (r : Roster) → T (fits r) → (M : Plan) → M ∈ plansOf (instanceOf r)
       → T (not (isStrong (verdictOf (instanceOf r) M))) → Rival (instanceOf r) M (rivalOf (instanceOf r) M)
-  pub blockingOf : Instance → Plan → ℕ
-  pub blocking-holds : (r : Roster) → T (fits r) → (M : Plan) → M ∈ plansOf (instanceOf r)
-      → T (someBlocks (instanceOf r) (on M)) → T (blocks (instanceOf r) (on M) (blockingOf (instanceOf r) M))
 
 module _ (ch : Choices) where
   -- a call that the state lets pass
@@ -208,7 +205,7 @@ module _ (ch : Choices) where
   answerOn h (find d l p v) = onRoster (refusal 13) h (λ r. let G = instanceOf r in foundAnswer (length (stepsOf G)) (finderOf G (ch .rivalOf G)))
   answerOn h (judge v) = onPlan (refusal 14) h (λ r M. let G = instanceOf r in verdictAnswer G M (ch .rivalOf G M) (verdictOf G M))
   answerOn h (compare a b) = onRoster (refusal 13) h (λ r. let G = instanceOf r in comparisonAnswer (partOf G a b) (comparisonOf G a b))
-  answerOn h blocking = onPlan (refusal 14) h (λ r M. let G = instanceOf r in blockingAnswer G (ch .blockingOf G M) (someBlocks G (on M)))
+  answerOn h blocking = onPlan (refusal 14) h (λ r M. let G = instanceOf r in blockingAnswer G (topBlocking G (on M)) (someBlocks G (on M)))
 
   abbrev pub lentOn : Held → Call → Call
   lentOn h (loadRoster file) = loadRoster file

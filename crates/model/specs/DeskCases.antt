@@ -1,5 +1,5 @@
 -- The desk in a session, run by the checker: what each call leaves held (`holds`), and what it answers (`answers`). What is held is written out, so
--- that the two lists together are the session. No answer here depends on which rival or blocking pair is named, so they hold for every choice.
+-- that the two lists together are the session. No answer here depends on which rival is named, so they hold for every choice.
 use Prim.Native.Nat.{ℕ}
 use mathlib.Core.Path.{_≡_, refl, _∙_}
 use mathlib.Core.Bool.{true, false}
@@ -24,7 +24,7 @@ use Rattle.model.specs.Reduction as R
 use Rattle.model.specs.PlanFile.{planBytes, edgeOfPair, readPlan}
 use Rattle.model.specs.Finder.{Record, diaryOf, leftOf, candidateOf, finderOf}
 use Rattle.model.specs.Compare.{Part, firstFile, secondFile, first, second, neither, comparisonOf, partOf}
-use Rattle.model.specs.Blocking.{blocks, someBlocks}
+use Rattle.model.specs.Blocking.{blocks, someBlocks, topBlocking}
 use Rattle.model.specs.Desk as D
 use Rattle.model.specs.Desk.{Choices, Held, nothing, roster, planned, Call, Answer, stateRefusal, answerOf, lentAfter, deskAfter, loaded}
 use Rattle.model.specs.Desk.{refused, wrote, strong, none, left}
@@ -212,11 +212,12 @@ unfolding numbersFrom count low groupOf listed listedBack bothOrNeither readEach
     R.stepsOf R.endOf planBytes edgeOfPair readPlan diaryOf leftOf candidateOf finderOf comparisonOf partOf blocks someBlocks stateRefusal answerOf
 written-said ch = (refl, (refl, tt))
 
--- the verdict, the blocking pair and the finder, where no rival and no pair is named
+-- the verdict, the blocking pair and the finder, where no rival is named
 abbrev found : List Said
 found =
     record { held = one; call = D.judge (whole 129); answer = strong }
     ∷ record { held = one; call = D.blocking; answer = D.unblocked }
+    ∷ record { held = two; call = D.blocking; answer = D.blockedBy 1 1 }
     ∷ record { held = roster sample; call = find; answer = D.plan 2 }
     ∷ record { held = roster four; call = find; answer = none 0 (left 4) } ∷ []
 
@@ -224,8 +225,8 @@ pub found-said : (ch : Choices) → Answered ch found
 unfolding numbersFrom count low groupOf listed listedBack bothOrNeither readEach readRoster writeRoster position edgesOf instanceOf deg nodeVote
     vote choices within plansOf samePlan beatenBy drawnWith verdictOf R.cut R.ahead R.arrow R.loose R.reserved R.betterS R.betterT R.worseReserved
     R.rule1 R.rule2 R.rule3 R.rule4 R.rule5 R.rule6 R.rule7 Fst.first Option·elim orElse R.rules R.stepBy R.firstStep R.act R.begin R.stepsFrom R.stateAfter
-    R.stepsOf R.endOf planBytes edgeOfPair readPlan diaryOf leftOf candidateOf finderOf comparisonOf partOf blocks someBlocks stateRefusal answerOf
-found-said ch = (refl, (refl, (refl, (refl, tt))))
+    R.stepsOf R.endOf planBytes edgeOfPair readPlan diaryOf leftOf candidateOf finderOf comparisonOf partOf blocks someBlocks topBlocking stateRefusal answerOf
+found-said ch = (refl, (refl, (refl, (refl, (refl, tt)))))
 
 -- the comparison's parts: the first wins, the second, neither; the first file is judged in full before the second
 abbrev compared : List Said
@@ -318,7 +319,7 @@ unfolding numbersFrom count low listed position edgesOf instanceOf deg nodeVote 
     candidateOf finderOf
 found-written = (refl, refl)
 
--- a verdict with its rival, and a blocking pair, whichever are named: on the sample with the plan of its second pair, and its first pair's plan
+-- a verdict with its rival, whichever is named, and a blocking pair: on the sample with the plan of its second pair, and its first pair's plan
 -- as rival, the vote is -1, the rival's bytes are in front, and pair 0 is 1 1
 abbrev other : Plan
 other = true ∷ false ∷ []

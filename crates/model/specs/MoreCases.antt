@@ -1,7 +1,7 @@
 -- More rosters than document 01 has, run by the checker: each of rules 4 to 6 in turn, a quota that is cut, a surveyor with room, a vote
--- below zero, two digits, the worst rank, and what is printed for a refusal. Outputs are the reference's.
+-- below zero, two digits, the worst rank, what is printed for a refusal, and the blocking pair that is named. Outputs are the reference's.
 use mathlib.Core.Path.{_≡_, refl}
-use mathlib.Core.Bool.{true}
+use mathlib.Core.Bool.{true, false}
 use mathlib.Core.Option.{Option·elim, orElse}
 use mathlib.Core.List.{[], _∷_, _++_}
 use lib.ListN.{replicate}
@@ -11,7 +11,7 @@ use Rattle.lists.specs.Search.{low}
 use Rattle.lists.specs.First.{first}
 use Rattle.lists.specs.Keep.{all?, gather}
 use Rattle.model.specs.Decimal.{bytes, numbersFrom}
-use Rattle.model.specs.Claims.{Case, isTrue, prints, strongOnes, standVotes, judged, rivals, cutTo}
+use Rattle.model.specs.Claims.{Case, isTrue, prints, strongOnes, standVotes, judged, rivals, blocked, blockedAt, cutTo}
 use Rattle.model.specs.Text.{text}
 use Rattle.model.specs.Refusal.{groupOf}
 use Rattle.model.specs.Reading.{readEach}
@@ -25,7 +25,7 @@ use Rattle.model.specs.Reduction.{cut, ahead, arrow, loose, reserved, be
 use Rattle.model.specs.Reduction.{rule6, rule7, act, rules, stepBy, firstStep, begin, stepsFrom, stateAfter, stepsOf, endOf}
 use Rattle.model.specs.PlanFile.{planBytes, edgeOfPair, readPlan}
 use Rattle.model.specs.Finder.{diaryOf, leftOf, candidateOf, finderOf}
-use Rattle.model.specs.Blocking.{blocks, someBlocks}
+use Rattle.model.specs.Blocking.{blocks, someBlocks, topBlocking}
 use Rattle.model.specs.Printed.{digits, printed}
 
 -- the same for a surveyor that a strong plan leaves with room: surveyor 1, quota 2, and surveyor 2 rank stand 1, then 2; stand 1 ties
@@ -95,9 +95,24 @@ P20 = record {
   claims = standVotes 0 (bytes "1 32 1") (bytes "0") (pos 1) ∷ [];
 }
 
-pub more-cases : all? isTrue (P11 ∷ P12 ∷ P13 ∷ P14 ∷ P15 ∷ P16 ∷ P17 ∷ P18 ∷ P19 ∷ P20 ∷ []) ≡ true
+-- W-201, the best in the surveyor's list: surveyor 1 ranks stand 2, then 1
+abbrev P21 : Case
+P21 = record {
+  file = bytes "1 1 2 1 1 2 0 2 2 1 2 0 1 0 1 1 0 1";
+  claims = blockedAt (bytes "0") 1 2 ∷ blockedAt (bytes "1 1 1") 1 2 ∷ blocked (bytes "1 1 2") false ∷ [];
+}
+
+-- W-201, the lowest surveyor before the best rank: surveyor 1 ranks 3, 2, 1, surveyor 2, quota 2, ranks 1, 3, 2; stand 1 ranks 1, 2, stands 2
+-- and 3 rank 2, 1. With 2-3 held, surveyor 1 blocks with 2 and 1, and surveyor 2 with 1, whom it ranks best.
+abbrev P22 : Case
+P22 = record {
+  file = bytes "2 1 2 3 1 1 1 6 0 3 3 2 1 3 1 3 2 6 0 2 0 1 2 2 0 2 1 2 0 2 1";
+  claims = blockedAt (bytes "1 2 3") 1 2 ∷ blockedAt (bytes "2 1 2 2 3") 2 1 ∷ [];
+}
+
+pub more-cases : all? isTrue (P11 ∷ P12 ∷ P13 ∷ P14 ∷ P15 ∷ P16 ∷ P17 ∷ P18 ∷ P19 ∷ P20 ∷ P21 ∷ P22 ∷ []) ≡ true
 unfolding numbersFrom count low text groupOf listed listedBack bothOrNeither readEach readRoster position edgesOf instanceOf deg nodeVote vote
     choices within plansOf samePlan beatenBy drawnWith verdictOf strongPlans cut ahead arrow loose reserved betterS betterT worseReserved rule1 rule2
     rule3 rule4 rule5 rule6 rule7 act rules first orElse Option·elim stepBy firstStep begin stepsFrom stateAfter stepsOf endOf planBytes edgeOfPair
-    readPlan diaryOf leftOf candidateOf finderOf blocks someBlocks digits printed
+    readPlan diaryOf leftOf candidateOf finderOf blocks someBlocks topBlocking digits printed
 more-cases = refl

@@ -3,4 +3,4 @@ pub mod Degree
 pub mod Within
 pub mod Walk
 pub mod Append
-pub mod FirstBlocking
+pub mod TopBlocking

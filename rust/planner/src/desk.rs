@@ -79,8 +79,9 @@ impl Desk {
         answers::comparison(&reply.compared, first, second)
     }
 
-    /// A blocking pair of the held plan, by the numbers of its surveyor and its
-    /// stand, or that there is none.
+    /// The first blocking pair of the held plan, by the numbers of its surveyor
+    /// and its stand, or that there is none: of the lowest surveyor that has
+    /// one, the pair best in this surveyor's list.
     pub fn blocking(&self) -> Result<Option<(u8, u8)>, Refusal> {
         let reply = unsafe { ffi::crew_blocking(self.clone()) };
         debug_assert!(*self == reply.desk);

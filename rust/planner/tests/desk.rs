@@ -230,9 +230,8 @@ fn blocking_pair(desk: &Desk, held: &Held) -> u8 {
     match held.plan() {
         Err(refusal) => assert_eq!(number(&answer), refusal),
         Ok((roster, plan)) => {
-            let pairs = blocking::blocking_pairs(roster, plan);
-            let lowest = pairs.first().map(|&index| roster.pairs()[index]);
-            assert_eq!(answer, Ok(lowest.map(|pair| (pair.surveyor, pair.stand))));
+            let first = blocking::first_blocking_pair(roster, plan);
+            assert_eq!(answer, Ok(first.map(|pair| (pair.surveyor, pair.stand))));
         }
     }
     number(&answer)

@@ -6,13 +6,13 @@ mod common;
 
 use common::{desk_with, desk_with_plan, same_refusal};
 use planner::{Desk, Votes, Winner};
-use reference::blocking::blocking_pairs;
+use reference::blocking::{blocking_pairs, first_blocking_pair};
 use reference::compare::{self, File};
 use reference::fast;
-use reference::plan;
+use reference::plan::{self, Plan};
 use reference::random::{self, Random, Shape};
-use reference::roster::{self, List, Node, Roster, Side};
-use reference::votes::{node_vote, plan_vote};
+use reference::roster::{self, List, Node, Pair, Roster, Side};
+use reference::votes::{node_vote, plan_vote, rank};
 
 fn held(roster: &Roster) -> Desk {
     desk_with(&roster::write(roster)).expect("accepted")
@@ -353,9 +353,11 @@ fn no_roster_and_two_refused_files() {
 #[test]
 fn blocking_pairs_of_random_plans() {
     let mut random = Random::new(66);
-    // some pair, none, refused
+    // a pair, none, refused
     let mut met = [0usize; 3];
-    let mut some = 0;
+    // the pair shown is not the lowest one; nor the one of the lowest stand,
+    // the best in a stand's list, or the best rank of all
+    let mut apart = [0usize; 4];
     for _ in 0..40_000 {
         let shape = shape(&mut random, &[2, 4, 6]);
         let roster = random::roster(&mut random, &shape);
@@ -366,21 +368,17 @@ fn blocking_pairs_of_random_plans() {
                 damage(&mut random, &mut file);
             }
             let ours = desk_with_plan(&bytes, &file).and_then(|desk| desk.blocking());
-            let theirs = plan::read(&roster, &file).map(|plan| blocking_pairs(&roster, &plan));
+            let theirs = plan::read(&roster, &file);
             match (ours, theirs) {
-                (Ok(Some(pair)), Ok(all)) => {
-                    let numbers = |index: &usize| {
-                        let pair = roster.pairs()[*index];
-                        (pair.surveyor, pair.stand)
-                    };
-                    // the contract names the lowest
-                    assert_eq!(Some(pair), all.first().map(numbers), "{bytes:?} {file:?}");
-                    some += usize::from(all.len() > 1);
-                    met[0] += 1;
-                }
-                (Ok(None), Ok(all)) => {
-                    assert_eq!(all, [], "{bytes:?} {file:?}");
-                    met[1] += 1;
+                (Ok(shown), Ok(plan)) => {
+                    let first = first_blocking_pair(&roster, &plan);
+                    let numbers = first.map(|pair| (pair.surveyor, pair.stand));
+                    assert_eq!(shown, numbers, "{bytes:?} {file:?}");
+                    assert_eq!(shown, fast_blocking_pair(&bytes, &file));
+                    met[usize::from(shown.is_none())] += 1;
+                    for (times, other) in apart.iter_mut().zip(other_firsts(&roster, &plan)) {
+                        *times += usize::from(other != first);
+                    }
                 }
                 (Err(ours), Err(theirs)) => {
                     same_refusal(ours, theirs);
@@ -390,9 +388,42 @@ fn blocking_pairs_of_random_plans() {
             }
         }
     }
-    println!("a pair, none, refused: {met:?}; {some} times with more than one");
+    println!("a pair, none, refused: {met:?}; not what other orders show: {apart:?}");
     assert!(met.iter().all(|&times| times > 5_000));
-    assert!(some > 5_000);
+    assert!(apart.iter().all(|&times| times > 5_000));
     assert_eq!(desk_with_plan(&[33], &[65]).unwrap_err().number, 2);
     assert_eq!(desk_with_plan(&[1, 9], &[65]).unwrap_err().number, 3);
+}
+
+fn fast_blocking_pair(roster: &[u8], plan: &[u8]) -> Option<(u8, u8)> {
+    let instance = fast::roster::read(roster).expect("accepted");
+    let chosen = fast::plan::read(&instance, plan).expect("accepted");
+    fast::blocking::first(&instance, &chosen)
+}
+
+/// The pairs that other readings of "the first" would show: the lowest pair,
+/// the lowest stand's, the lowest surveyor's best in the stand's list, and the
+/// best rank before the lowest surveyor.
+fn other_firsts(roster: &Roster, plan: &Plan) -> [Option<Pair>; 4] {
+    let pairs = blocking_pairs(roster, plan).into_iter();
+    let pairs: Vec<Pair> = pairs.map(|pair| roster.pairs()[pair]).collect();
+    let rank = |pair: &Pair, side: Side| {
+        let list = &roster.node(side, pair.end(side)).list;
+        rank(list, Some(pair.end(side.other())))
+    };
+    [
+        pairs.first().copied(),
+        pairs
+            .iter()
+            .copied()
+            .min_by_key(|pair| (pair.stand, pair.surveyor)),
+        pairs
+            .iter()
+            .copied()
+            .min_by_key(|pair| (pair.surveyor, rank(pair, Side::Stands))),
+        pairs
+            .iter()
+            .copied()
+            .min_by_key(|pair| (rank(pair, Side::Surveyors), pair.surveyor)),
+    ]
 }

@@ -1,7 +1,7 @@
-//! Blocking pairs of a plan.
+//! Blocking pairs of a plan, and the one that is shown.
 
 use crate::plan::Plan;
-use crate::roster::{Roster, Side, SIDES};
+use crate::roster::{Pair, Roster, Side, SIDES};
 use crate::votes::rank;
 
 /// All blocking pairs, ascending: pairs of the roster outside the plan for
@@ -11,6 +11,16 @@ pub fn blocking_pairs(roster: &Roster, plan: &Plan) -> Vec<usize> {
         .filter(|&pair| !plan.holds(pair))
         .filter(|&pair| SIDES.iter().all(|&side| welcomes(roster, plan, pair, side)))
         .collect()
+}
+
+/// The blocking pair that is shown: of the lowest surveyor that has one, the
+/// pair that stands best in this surveyor's list.
+pub fn first_blocking_pair(roster: &Roster, plan: &Plan) -> Option<Pair> {
+    let pairs = blocking_pairs(roster, plan).into_iter();
+    pairs.map(|pair| roster.pairs()[pair]).min_by_key(|pair| {
+        let list = &roster.node(Side::Surveyors, pair.surveyor).list;
+        (pair.surveyor, rank(list, Some(pair.stand)))
+    })
 }
 
 /// Whether the pair's end on that side has an unfilled quota or a strictly

@@ -3,7 +3,7 @@
 //! reading's, so that every roster is answered at once; the tests hold it
 //! against the votes of all plans.
 
-use crate::blocking::blocking_pairs;
+use crate::blocking::first_blocking_pair;
 use crate::compare::{compare, Comparison, Part};
 use crate::finder::{find_large, verdict_large, Answer, Why};
 use crate::limits::{MAX_ENTRIES, MAX_PLAN_BYTES, MAX_ROSTER_BYTES, PAIR_FIELD};
@@ -170,12 +170,11 @@ impl Desk {
         (self, answer)
     }
 
-    /// All blocking pairs of the held plan, ascending; an answer names any.
-    pub fn blocking(self) -> (Desk, Result<Vec<Pair>, Refusal>) {
-        let answer = self.roster_and_plan().map(|(roster, held)| {
-            let pairs = blocking_pairs(roster, held).into_iter();
-            pairs.map(|pair| roster.pairs()[pair]).collect()
-        });
+    /// The first blocking pair of the held plan.
+    pub fn blocking(self) -> (Desk, Result<Option<Pair>, Refusal>) {
+        let answer = self
+            .roster_and_plan()
+            .map(|(roster, held)| first_blocking_pair(roster, held));
         (self, answer)
     }
 }

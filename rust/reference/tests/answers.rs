@@ -3,7 +3,7 @@
 mod common;
 
 use common::{plan, roster, Bytes, Pairs, P2, P3, P4, P7};
-use reference::blocking::blocking_pairs;
+use reference::blocking::{blocking_pairs, first_blocking_pair};
 use reference::compare::{compare, Comparison, File, Part, Votes};
 use reference::program;
 use reference::refusal::Refusal;
@@ -98,6 +98,34 @@ fn blocking_pairs_of_plans() {
         let roster = roster(file);
         let plan = plan(&roster, pairs);
         assert_eq!(blocking_pairs(&roster, &plan), blocking, "{name}");
+    }
+}
+
+#[test]
+fn the_first_blocking_pair() {
+    // One surveyor of quota 1 ranks stands 2 and 1.
+    const CHOICE: Bytes = &[1, 1, 2, 1, 1, 2, 0, 2, 2, 1, 2, 0, 1, 0, 1, 1, 0, 1];
+    // Surveyor 1 ranks 3, 2, 1; surveyor 2, quota 2, ranks 1, 3, 2; stand 1
+    // ranks 1, 2; stands 2 and 3 rank 2, 1.
+    const TWO: Bytes = &[
+        2, 1, 2, 3, 1, 1, 1, 6, 0, 3, 3, 2, 1, 3, 1, 3, 2, 6, 0, 2, 0, 1, 2, 2, 0, 2, 1, 2, 0, 2, 1,
+    ];
+    let cases: [(&str, Bytes, Pairs, Option<(u8, u8)>); 6] = [
+        ("best in the list", CHOICE, &[], Some((1, 2))),
+        ("better than the held one", CHOICE, &[(1, 1)], Some((1, 2))),
+        ("none", CHOICE, &[(1, 2)], None),
+        ("the lowest surveyor's", TWO, &[], Some((1, 3))),
+        ("before a better rank", TWO, &[(2, 3)], Some((1, 2))),
+        ("the next surveyor's", TWO, &[(1, 2), (2, 3)], Some((2, 1))),
+    ];
+    for (name, file, pairs, expected) in cases {
+        let roster = roster(file);
+        let pair = first_blocking_pair(&roster, &plan(&roster, pairs));
+        assert_eq!(
+            pair.map(|pair| (pair.surveyor, pair.stand)),
+            expected,
+            "{name}"
+        );
     }
 }
 

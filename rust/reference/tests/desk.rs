@@ -210,11 +210,11 @@ fn comparison_and_blocking() {
     let (_, blocking) = desk_with_plan(P3, &[1, 2, 1]).blocking();
     assert_eq!(
         blocking,
-        Ok(vec![Pair {
+        Ok(Some(Pair {
             surveyor: 1,
             stand: 1
-        }])
+        }))
     );
     let (_, blocking) = desk_with_plan(P3, &[1, 1, 1]).blocking();
-    assert_eq!(blocking, Ok(vec![]));
+    assert_eq!(blocking, Ok(None));
 }

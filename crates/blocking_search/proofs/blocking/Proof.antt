@@ -1,4 +1,4 @@
--- `blocking_search::blocking` meets its contract: a blocking pair of the model exactly if there is one, and the lowest. Assumes nothing.
+-- `blocking_search::blocking` meets its contract: the model's blocking pair exactly if there is one. Assumes nothing.
 use native.Mathlib.Omega.{arith}
 use borrow.Author.Needs.{needs}
 use Rattle.blocking_search.specs.Search.{answer-yes, answer-no, may-search}
@@ -12,25 +12,25 @@ side-thresholds-requires-2 : tie.Need-side-thresholds-requires-2
 side-thresholds-requires-2 c κs =
     let s = c .before .before .before .before .before .before .before .before .before .before .before .before .before in may-search (s .args .g) (s .pre) .1
 
-first-wanted-requires : tie.Need-first-wanted-requires
-first-wanted-requires c κs =
+top-wanted-requires : tie.Need-top-wanted-requires
+top-wanted-requires c κs =
     let s =
     c .before .before .before .before .before .before .before .before .before .before .before .before .before .before .before .before .before .before .before .before in
     let m = may-search (s .args .g) (s .pre) in
-    (m .0, m .1)
+    (m .0, m .1, m .2)
 
 add-t30 : tie.Need-add-t30
 add-t30 c =
     let s =
     c .before .before .before .before .before .before .before .before .before .before .before .before .before .before .before .before .before .before .before .before .before .before in
-    let h = s .pre .low-sv (c .before .first-wanted .result) in
+    let h = s .pre .low-sv (c .before .top-wanted .result) in
     omega (arith, h)
 
 add-t34 : tie.Need-add-t34
 add-t34 c =
     let s =
     c .before .before .before .before .before .before .before .before .before .before .before .before .before .before .before .before .before .before .before .before .before .before in
-    let h = s .pre .low-st (c .before .first-wanted .result) in
+    let h = s .pre .low-st (c .before .top-wanted .result) in
     omega (arith, h)
 
 returns : tie.Need-returns
@@ -42,7 +42,7 @@ returns c =
     let k = c .before .before .before .before .before .before .before .before .side-thresholds2 in
     let m = may-search g (s .pre) in
     answer-yes (g .m) (g .sv) (g .st) (g .«rank_s») (g .«rank_t») (g .«quota_s») (g .«quota_t») (l .result) (k .result) (s .args .p .now) (m .2) (m .3)
-    (l .ensures) (k .ensures) (g .ns) (g .nt) (g .tied) (c .before .first-wanted .result) (c .before .first-wanted .ensures) (c .if1 .taken)
+    (l .ensures) (k .ensures) (g .ns) (g .nt) (g .tied) (c .before .top-wanted .result) (c .before .top-wanted .ensures) (c .if1 .taken)
 
 returns-2 : tie.Need-returns-2
 returns-2 c =
@@ -53,9 +53,9 @@ returns-2 c =
     let k = c .before .before .before .before .before .before .before .before .side-thresholds2 in
     let m = may-search g (s .pre) in
     answer-no (g .m) (g .sv) (g .st) (g .«rank_s») (g .«rank_t») (g .«quota_s») (g .«quota_t») (l .result) (k .result) (s .args .p .now) (m .2) (m .3)
-    (l .ensures) (k .ensures) (g .ns) (g .nt) (g .tied) (rw (← c .before .first-wanted .ensures) (c .if1 .left))
+    (l .ensures) (k .ensures) (g .ns) (g .nt) (g .tied) (rw (← c .before .top-wanted .ensures) (c .if1 .left))
 
 pub blocking-spec : {M : Type 1} → statement M
 blocking-spec =
-    tie.close (tie.spec side-thresholds-requires side-thresholds-requires-2 first-wanted-requires (λ c. search needs) add-t30
+    tie.close (tie.spec side-thresholds-requires side-thresholds-requires-2 top-wanted-requires (λ c. search needs) add-t30
     (λ c. search needs) add-t34 returns returns-2)

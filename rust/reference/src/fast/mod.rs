@@ -5,6 +5,7 @@
 //!
 //! Refusals are bare numbers here, 0 for none.
 
+pub mod blocking;
 pub mod finder;
 pub mod plan;
 pub mod reduction;

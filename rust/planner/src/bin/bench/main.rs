@@ -4,6 +4,7 @@
 //!
 //! Run with `cargo run --release --offline --bin bench`.
 
+mod blocking;
 mod files;
 mod finder;
 mod stack;
@@ -41,6 +42,8 @@ fn main() {
     files::run();
     println!();
     votes::run();
+    println!();
+    blocking::run();
     println!();
     verdict::run();
     println!();
