@@ -10,6 +10,7 @@ pub mod Roster
 pub mod RosterFile
 pub mod Edges
 pub mod PlanFile
+pub mod Changes
 pub mod Finder
 pub mod Compare
 pub mod Text
