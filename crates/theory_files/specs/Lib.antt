@@ -12,3 +12,5 @@ pub mod Sections
 pub mod Rosters
 pub mod Reach
 pub mod PairRefusals
+pub mod ByLists
+pub mod Joined
