@@ -146,7 +146,7 @@ entered-at s list k (R ∷ ts) (suc j) h = entered-at s list (suc k) ts j (omega
     move k j = omega arith
 
 -- ---- the whole roster
-module _ (r : Roster) (ok : T (fits r)) (q : ℕ) (list : List ℕ) where
+module _ (r : Roster) (q : ℕ) (list : List ℕ) (ok : T (fits r)) where
   abbrev ns : ℕ
   ns = surveyorCount r
 
@@ -260,4 +260,4 @@ module _ (r : Roster) (q : ℕ) (file : List ℕ) (h : Roster) (isB : T (isBytes
   -- the changed bytes are read to the changed roster, and fit into the buffer of a roster
   pub join-storable : T (fits r) → Storable h
   join-storable ok = given join-parts (λ J. subst Storable (sym (J .is))
-      (storable (joined r q (J .list)) (fits-joined r ok q (J .list) (J .quota) (J .room) (J .places) (J .fit))))
+      (storable (joined r q (J .list)) (fits-joined r q (J .list) ok (J .quota) (J .room) (J .places) (J .fit))))

@@ -14,3 +14,4 @@ pub mod Reach
 pub mod PairRefusals
 pub mod ByLists
 pub mod Joined
+pub mod Departed
