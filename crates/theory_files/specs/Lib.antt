@@ -15,3 +15,5 @@ pub mod PairRefusals
 pub mod ByLists
 pub mod Joined
 pub mod Departed
+pub mod PlanCells
+pub mod Carried
