@@ -10,6 +10,7 @@ pub mod Roster
 pub mod RosterFile
 pub mod Edges
 pub mod PlanFile
+pub mod Changes
 pub mod Finder
 pub mod Compare
 pub mod Text
@@ -21,5 +22,6 @@ pub mod Cases
 pub mod MoreCases
 pub mod RosterCases
 pub mod PlanCases
+pub mod ChangeCases
 pub mod DeskCases
 pub mod GroupCases

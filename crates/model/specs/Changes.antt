@@ -1,0 +1,69 @@
+-- Surveyors who join and leave in the field: request W-202 of document 02. What the roster is afterwards, which change is refused, and
+-- which pairs of the held plan remain.
+use Prim.Native.Nat.{ℕ, suc, _+_, _-_}
+use mathlib.Core.Bool.{Bool, not, cond, _&&_, _||_}
+use mathlib.Core.List.{List, [], _∷_, _++_, map}
+use lib.Dec.{eqb, leb, ltb}
+use lib.ListN.{set}
+use Rattle.lists.specs.Sum.{sum}
+use Rattle.lists.specs.Keep.{keep}
+use Rattle.model.specs.Limits.{nodeLimit, quotaLimit, quotaSumLimit}
+use Rattle.model.specs.Instance.{Instance}
+use Rattle.model.specs.Plans.{Plan, on}
+use Rattle.model.specs.Reading.{Reading, accepted, refused, whole}
+use Rattle.model.specs.Roster.{Ranking, Roster, surveyorCount, standCount, elem, outside}
+use Rattle.model.specs.RosterFile.{readList}
+use Rattle.model.specs.PlanFile.{planOf, edgeOfPair}
+
+-- ---- a joiner
+-- "enters each listed stand's tie at its end": the stands from number j on
+abbrev pub entered : (joiner : ℕ) (list : List ℕ) → ℕ → List Ranking → List Ranking
+entered s list j [] = []
+entered s list j (R ∷ Rs) = cond (elem j list) (record { strict = R .strict; tied = R .tied ++ s ∷ [] }) R ∷ entered s list (suc j) Rs
+
+-- "A joiner brings a quota and (..) one stand list (..), takes the number after the highest"
+unfoldable pub joined : Roster → (quota : ℕ) → (list : List ℕ) → Roster
+joined r q list = record {
+  quotasS = r .quotasS ++ q ∷ [];
+  quotasT = r .quotasT;
+  listsS = r .listsS ++ list ∷ [];
+  listsT = entered (suc (surveyorCount r)) list 1 (r .listsT);
+}
+
+-- 17: "when 32 numbers are taken, leavers' included, or the quotas would pass 64"
+abbrev pub noPlace : Roster → ℕ → Bool
+noPlace r q = leb nodeLimit (surveyorCount r) || ltb quotaSumLimit (sum (λ x. x) (r .quotasS) + q)
+
+abbrev pub joinedBy : Roster → ℕ → Reading (List ℕ) → Reading Roster
+joinedBy r q (accepted list) = accepted (joined r q list)
+joinedBy r q (refused n) = refused n
+
+-- "A joiner's quota above 8 meets 3 straight after 15; a bad list meets 1, 2, 4, 5 and 9 in document 01's order"; 17 "before the list is read"
+unfoldable pub joinOn : Roster → (quota : ℕ) → (file : List ℕ) → Reading Roster
+joinOn r q file = cond (ltb quotaLimit q) (refused 3)
+    (cond (noPlace r q) (refused 17) (joinedBy r q (whole (readList (standCount r) (standCount r) file))))
+
+-- ---- a leaver
+abbrev pub without : ℕ → List ℕ → List ℕ
+without s xs = keep (λ x. not (eqb s x)) xs
+
+-- "A leaver keeps the number, with quota zero and no pairs"
+unfoldable pub departed : Roster → (number : ℕ) → Roster
+departed r s = record {
+  quotasS = set (r .quotasS) (s - 1) 0;
+  quotasT = r .quotasT;
+  listsS = set (r .listsS) (s - 1) [];
+  listsT = map (λ R. record { strict = without s (R .strict); tied = without s (R .tied) }) (r .listsT);
+}
+
+-- 16: "a leaver's number outside the surveyors"
+unfoldable pub leaveOn : Roster → (number : ℕ) → Reading Roster
+leaveOn r s = cond (outside (surveyorCount r) s) (refused 16) (accepted (departed r s))
+
+-- ---- the held plan
+-- "The held plan loses the leaver's pairs": the pairs of a plan of G that H still has
+abbrev pub sameEdge : Instance → Instance → ℕ → ℕ
+sameEdge G H e = edgeOfPair G (suc (H .sv e), suc (H .st e))
+
+unfoldable pub carried : Instance → Instance → Plan → Plan
+carried G H M = planOf (H .m) (λ e. ltb (sameEdge G H e) (G .m) && on M (sameEdge G H e))
