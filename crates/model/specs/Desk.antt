@@ -25,6 +25,7 @@ use Rattle.model.specs.Finder.{Record, diaryOf, Rival, Found, finderOf}
 use Rattle.model.specs.Compare as C
 use Rattle.model.specs.Compare.{Comparison, Winner, Part, comparisonOf, partOf}
 use Rattle.model.specs.Blocking.{someBlocks, topBlocking}
+use Rattle.model.specs.Changes.{joinOn, leaveOn, carried}
 
 -- "nothing loaded, a roster, or a roster and a plan"
 pub data Held : Type 0 where
@@ -44,6 +45,8 @@ pub data Call : Type 0 where
   writeRosterTo : (buffer : List ℕ) → Call
   writePlanTo : (buffer : List ℕ) → Call
   find : (diary : List Record) (left plan rival : List ℕ) → Call
+  join : (quota : ℕ) (file : List ℕ) (diary : List Record) (left plan rival : List ℕ) → Call  -- W-202: "both calls are also lent the finder's buffers"
+  leave : (number : ℕ) (diary : List Record) (left plan rival : List ℕ) → Call
   judge : (rival : List ℕ) → Call
   compare : (first second : List ℕ) → Call
   blocking : Call
@@ -74,6 +77,8 @@ needsRoster (loadPlan file) = true
 needsRoster (writeRosterTo buffer) = true
 needsRoster (writePlanTo buffer) = true
 needsRoster (find d l p v) = true
+needsRoster (join q f d l p v) = true
+needsRoster (leave s d l p v) = true
 needsRoster (judge v) = true
 needsRoster (compare a b) = true
 needsRoster blocking = true
@@ -84,6 +89,8 @@ needsPlan (loadPlan file) = false
 needsPlan (writeRosterTo buffer) = false
 needsPlan (writePlanTo buffer) = true
 needsPlan (find d l p v) = false
+needsPlan (join q f d l p v) = false
+needsPlan (leave s d l p v) = false
 needsPlan (judge v) = true
 needsPlan (compare a b) = false
 needsPlan blocking = true
@@ -93,12 +100,17 @@ needsPlan blocking = true
 abbrev pub short : List ℕ → ℕ → Bool
 short buffer size = ltb (length buffer) size
 
+abbrev pub finderShort : List Record → (left plan rival : List ℕ) → Bool
+finderShort d l p v = ltb (length d) diarySize || (short l leftSize || (short p planSize || short v planSize))
+
 abbrev pub lentShort : Call → Bool
 lentShort (loadRoster file) = false
 lentShort (loadPlan file) = false
 lentShort (writeRosterTo buffer) = short buffer rosterSize
 lentShort (writePlanTo buffer) = short buffer planSize
-lentShort (find d l p v) = ltb (length d) diarySize || (short l leftSize || (short p planSize || short v planSize))
+lentShort (find d l p v) = finderShort d l p v
+lentShort (join q f d l p v) = finderShort d l p v
+lentShort (leave s d l p v) = finderShort d l p v
 lentShort (judge v) = short v planSize
 lentShort (compare a b) = false
 lentShort blocking = false
@@ -140,10 +152,14 @@ foundAnswer n (F.plan M) = plan n
 foundAnswer n (F.left es) = none n (left (length es))
 foundAnswer n (F.rivalled M N v) = none n (rivalled v)
 
-abbrev pub foundWritten : Instance → Found → List Record → (l p v : List ℕ) → Call
-foundWritten G (F.plan M) d l p v = find (onto (diaryOf G) d) l (onto (planBytes G M) p) v
-foundWritten G (F.left es) d l p v = find (onto (diaryOf G) d) (onto (pairList G es) l) p v
-foundWritten G (F.rivalled M N w) d l p v = find (onto (diaryOf G) d) l (onto (planBytes G M) p) (onto (planBytes G N) v)
+-- a call that is lent the finder's buffers: diary, left pairs, plan, rival
+abbrev pub Lends : Type 0
+Lends = List Record → (left plan rival : List ℕ) → Call
+
+abbrev pub foundWritten : Lends → Instance → Found → Lends
+foundWritten call G (F.plan M) d l p v = call (onto (diaryOf G) d) l (onto (planBytes G M) p) v
+foundWritten call G (F.left es) d l p v = call (onto (diaryOf G) d) (onto (pairList G es) l) p v
+foundWritten call G (F.rivalled M N w) d l p v = call (onto (diaryOf G) d) l (onto (planBytes G M) p) (onto (planBytes G N) v)
 
 -- the verdict on M, with its rival N: "Beaten and popular write a rival, such an N, and the vote of M against it."
 abbrev pub verdictAnswer : Instance → (M N : Plan) → Verdict → Answer
@@ -173,6 +189,8 @@ stateRefused n (loadPlan file) = refusal n
 stateRefused n (writeRosterTo buffer) = refusal n
 stateRefused n (writePlanTo buffer) = refusal n
 stateRefused n (find d l p v) = refusal n
+stateRefused n (join q f d l p v) = refusal n
+stateRefused n (leave s d l p v) = refusal n
 stateRefused n (judge v) = refusal n
 stateRefused n (compare a b) = refusedPart n (groupOf n) (C.winnerPart C.neither a b)
 stateRefused n blocking = refusal n
@@ -196,13 +214,31 @@ pub record Choices : Type 0 where
       → T (not (isStrong (verdictOf (instanceOf r) M))) → Rival (instanceOf r) M (rivalOf (instanceOf r) M)
 
 module _ (ch : Choices) where
+  -- the finder on a roster: its answer, and the bytes lent
+  abbrev pub foundOn : Roster → Answer
+  foundOn r = let G = instanceOf r in foundAnswer (length (stepsOf G)) (finderOf G (ch .rivalOf G))
+
+  abbrev pub foundBytes : Lends → Roster → Lends
+  foundBytes call r = let G = instanceOf r in foundWritten call G (finderOf G (ch .rivalOf G))
+
+  -- W-202: "they answer and write there exactly what the finder, called afresh on the changed roster, does, rival included"
+  abbrev pub changedAnswer : Reading Roster → Answer
+  changedAnswer (accepted r) = foundOn r
+  changedAnswer (reading.refused n) = refusal n
+
+  abbrev pub changedBytes : Lends → Reading Roster → Lends
+  changedBytes call (accepted r) = foundBytes call r
+  changedBytes call (reading.refused n) = call
+
   -- a call that the state lets pass
   abbrev pub answerOn : Held → Call → Answer
   answerOn h (loadRoster file) = loadedRoster (readRoster file)
   answerOn h (loadPlan file) = onRoster (refusal 13) h (λ r. loadedPlan (readPlan (instanceOf r) file))
   answerOn h (writeRosterTo buffer) = onRoster (refusal 13) h (λ r. wrote (length (writeRoster r)))
   answerOn h (writePlanTo buffer) = onPlan (refusal 14) h (λ r M. wrote (length (planBytes (instanceOf r) M)))
-  answerOn h (find d l p v) = onRoster (refusal 13) h (λ r. let G = instanceOf r in foundAnswer (length (stepsOf G)) (finderOf G (ch .rivalOf G)))
+  answerOn h (find d l p v) = onRoster (refusal 13) h foundOn
+  answerOn h (join q f d l p v) = onRoster (refusal 13) h (λ r. changedAnswer (joinOn r q f))
+  answerOn h (leave s d l p v) = onRoster (refusal 13) h (λ r. changedAnswer (leaveOn r s))
   answerOn h (judge v) = onPlan (refusal 14) h (λ r M. let G = instanceOf r in verdictAnswer G M (ch .rivalOf G M) (verdictOf G M))
   answerOn h (compare a b) = onRoster (refusal 13) h (λ r. let G = instanceOf r in comparisonAnswer (partOf G a b) (comparisonOf G a b))
   answerOn h blocking = onPlan (refusal 14) h (λ r M. let G = instanceOf r in blockingAnswer G (topBlocking G (on M)) (someBlocks G (on M)))
@@ -212,7 +248,9 @@ module _ (ch : Choices) where
   lentOn h (loadPlan file) = loadPlan file
   lentOn h (writeRosterTo b) = onRoster (writeRosterTo b) h (λ r. writeRosterTo (onto (writeRoster r) b))
   lentOn h (writePlanTo b) = onPlan (writePlanTo b) h (λ r M. writePlanTo (onto (planBytes (instanceOf r) M) b))
-  lentOn h (find d l p v) = onRoster (find d l p v) h (λ r. let G = instanceOf r in foundWritten G (finderOf G (ch .rivalOf G)) d l p v)
+  lentOn h (find d l p v) = onRoster (find d l p v) h (λ r. foundBytes find r d l p v)
+  lentOn h (join q f d l p v) = onRoster (join q f d l p v) h (λ r. changedBytes (join q f) (joinOn r q f) d l p v)
+  lentOn h (leave s d l p v) = onRoster (leave s d l p v) h (λ r. changedBytes (leave s) (leaveOn r s) d l p v)
   lentOn h (judge v) = onPlan (judge v) h (λ r M. let G = instanceOf r in verdictWritten G (ch .rivalOf G M) (verdictOf G M) v)
   lentOn h (compare a b) = compare a b
   lentOn h blocking = blocking
@@ -234,6 +272,13 @@ abbrev pub withPlan : Held → Roster → Reading Plan → Held
 withPlan h r (accepted M) = planned r M
 withPlan h r (reading.refused n) = h
 
+-- W-202: the changed roster, and the held plan less the pairs that it no longer has
+abbrev pub withChange : Held → Reading Roster → Held
+withChange h (reading.refused n) = h
+withChange nothing (accepted r′) = nothing
+withChange (roster r) (accepted r′) = roster r′
+withChange (planned r M) (accepted r′) = planned r′ (carried (instanceOf r) (instanceOf r′) M)
+
 -- "Finder, verdict, comparison, blocking and writing leave the desk alike."
 abbrev pub deskOn : Held → Call → Held
 deskOn h (loadRoster file) = withRoster h (readRoster file)
@@ -241,6 +286,8 @@ deskOn h (loadPlan file) = onRoster h h (λ r. withPlan h r (readPlan (instanceO
 deskOn h (writeRosterTo buffer) = h
 deskOn h (writePlanTo buffer) = h
 deskOn h (find d l p v) = h
+deskOn h (join q f d l p v) = onRoster h h (λ r. withChange h (joinOn r q f))
+deskOn h (leave s d l p v) = onRoster h h (λ r. withChange h (leaveOn r s))
 deskOn h (judge v) = h
 deskOn h (compare a b) = h
 deskOn h blocking = h

@@ -30,17 +30,17 @@ use Rattle.model.specs.Desk.{Choices, Held, nothing, roster, planned, Ca
 use Rattle.model.specs.Desk.{refused, wrote, strong, none, left}
 
 -- buffers of a size
-abbrev whole : ℕ → List ℕ
+abbrev pub whole : ℕ → List ℕ
 whole n = replicate n 7
 
-abbrev diary : ℕ → List Record
+abbrev pub diary : ℕ → List Record
 diary n = replicate n (record { fate = 7; surveyor = 7; stand = 7; rule = 7 })
 
 abbrev find : Call
 find = D.find (diary 1024) (whole 2048) (whole 129) (whole 129)
 
 -- document 01's sample; P6; five surveyors with a stand each
-abbrev sample : Roster
+abbrev pub sample : Roster
 sample = record {
   quotasS = bytes "1 1";
   quotasT = bytes "1";
@@ -66,10 +66,10 @@ five = record {
 }
 
 -- the sample with the plan of its first pair, of its second
-abbrev one : Held
+abbrev pub one : Held
 one = planned sample (true ∷ false ∷ [])
 
-abbrev two : Held
+abbrev pub two : Held
 two = planned sample (false ∷ true ∷ [])
 
 abbrev sampleFile : List ℕ
@@ -309,7 +309,7 @@ unfolding numbersFrom writeRoster
 roster-written = refl
 
 abbrev foundFor : Roster → Call
-foundFor r = D.foundWritten (instanceOf r) (finderOf (instanceOf r) (λ M. M)) (diary 1024) (whole 2048) (whole 129) (whole 129)
+foundFor r = D.foundWritten D.find (instanceOf r) (finderOf (instanceOf r) (λ M. M)) (diary 1024) (whole 2048) (whole 129) (whole 129)
 
 pub found-written : (foundFor sample ≡ D.find (step 1 1 1 1 ∷ step 2 2 1 2 ∷ diary 1022) (whole 2048) (onto (bytes "1 1 1") 126) (whole 129))
     × (foundFor four ≡ D.find (diary 1024) (onto (bytes "1 1 1 2 2 1 2 2") 2040) (whole 129) (whole 129))

@@ -24,4 +24,5 @@ pub mod RosterCases
 pub mod PlanCases
 pub mod ChangeCases
 pub mod DeskCases
+pub mod DeskChangeCases
 pub mod GroupCases

@@ -37,6 +37,11 @@ pub record Fileable (G : Instance) : Type 0 where
   pub differ : (d e : ℕ) → d < G .m → e < G .m → G .sv d ≡ G .sv e → G .st d ≡ G .st e → d ≡ e
   pub few : sum (G .quotaS) (upTo (G .ns)) ≤ planLimit
 
+-- pairs are as long as their number says
+pub pairs-size : (G : Instance) (ds : List ℕ) → length (pairList G ds) ≡ 2 * length ds
+pairs-size G [] = refl
+pairs-size G (d ∷ ds) = omega (arith, length-append (pairBytes G d) (pairList G ds), pairs-size G ds)
+
 module _ (G : Instance) where
   abbrev pub pairOf : ℕ → ℕ × ℕ
   pairOf e = (suc (G .sv e), suc (G .st e))
@@ -302,8 +307,4 @@ module _ (G : Instance) where
     -- a plan has at most 129 bytes
     pub plan-size : length (planBytes G M) ≤ planSize
     unfolding planBytes
-    plan-size = omega (arith, plan-few, pairs-size es)
-      where
-        pairs-size : (ds : List ℕ) → length (pairList G ds) ≡ 2 * length ds
-        pairs-size [] = refl
-        pairs-size (d ∷ ds) = omega (arith, length-append (pairBytes G d) (pairList G ds), pairs-size ds)
+    plan-size = omega (arith, plan-few, pairs-size G es)

@@ -1,0 +1,55 @@
+-- `plan_carried::carried` meets its contract: the edges that stay are written as a plan, whose first byte tells its length. Assumes nothing.
+use native.Mathlib.Omega.{arith}
+use borrow.Author.Needs.{needs}
+use Rattle.plan_carried.specs.Remaining.{few-stay, count-small, carried-is}
+use Rattle.plan_carried.proofs.carried.Statement.{statement}
+use Rattle.plan_carried.proofs.carried.Tie as tie
+
+besides-requires : tie.Need-besides-requires
+besides-requires c κs = let L = c .before .before .before .pre .0 in (L .edges, λ e h. L .low-sv e)
+
+write-plan-requires : tie.Need-write-plan-requires
+write-plan-requires c κs =
+    let s = c .before .before .before .before .before .before .before .before in
+    let a = s .args in
+    let L = s .pre .0 in
+    let b = c .before .before .before .before .besides in (
+      L .edges,
+      (λ e h. L .low-sv e),
+      (λ e h. L .low-st e),
+      few-stay (a .g .m) (a .g .sv) (a .plan .now) (a .number) (b .result) (b .ensures) (s .pre .1),
+      search needs,
+    )
+
+-- the first byte is at most 64
+cast-t19 : tie.Need-cast-t19
+cast-t19 c =
+    let s = c .before .before .before .before .before .before .before .before .before .before in
+    let a = s .args in
+    let b = c .before .before .before .before .before .before .besides in
+    omega (arith, count-small (a .g) (a .plan .now) (a .number) (s .pre .1) (b .result) (b .ensures) _ (c .before .write-plan .ensures))
+
+mul-t20 : tie.Need-mul-t20
+mul-t20 c =
+    let s = c .before .before .before .before .before .before .before .before .before .before in
+    let a = s .args in
+    let b = c .before .before .before .before .before .before .besides in
+    omega (arith, count-small (a .g) (a .plan .now) (a .number) (s .pre .1) (b .result) (b .ensures) _ (c .before .write-plan .ensures))
+
+add-t21 : tie.Need-add-t21
+add-t21 c =
+    let s = c .before .before .before .before .before .before .before .before .before .before in
+    let a = s .args in
+    let b = c .before .before .before .before .before .before .besides in
+    omega (arith, count-small (a .g) (a .plan .now) (a .number) (s .pre .1) (b .result) (b .ensures) _ (c .before .write-plan .ensures))
+
+returns : tie.Need-returns
+returns c =
+    let s = c .before .before .before .before .before .before .before .before .before .before in
+    let a = s .args in
+    let b = c .before .before .before .before .before .before .besides in
+    carried-is (a .g) (a .plan .now) (a .number) (s .pre .1) (b .result) (b .ensures) _ (c .before .write-plan .ensures)
+
+pub carried-spec : {M : Type 1} → statement M
+carried-spec =
+    tie.close (tie.spec besides-requires (λ c. search needs) write-plan-requires (λ c. search needs) cast-t19 mul-t20 add-t21 returns)
