@@ -10,7 +10,7 @@ use Rattle.lists.specs.Keep.{gather}
 use Rattle.model.specs.Limits.{rosterSize}
 use Rattle.model.specs.Reading.{Reading, accepted, refused}
 use Rattle.model.specs.Roster.{Roster, totalS, totalT, fits}
-use Rattle.model.specs.RosterFile.{listBytes, rankingBytes, wideBytes, writeRoster}
+use Rattle.model.specs.RosterFile.{listBytes, rankingBytes, wideBytes, readRoster, writeRoster}
 use Rattle.theory_files.specs.Rosters.{lists-size, rankings-size, roster-size}
 use Rattle.roster_parts.specs.declared.Changed.{Changed}
 use Rattle.roster_parts.specs.Growth.{sectionOf}
@@ -18,6 +18,10 @@ use Rattle.roster_parts.specs.Growth.{sectionOf}
 abbrev pub Gives : Reading Roster → Changed → Type 0
 Gives (accepted H) c = (c .refusal ≡ 0) × (c .len ≤ rosterSize) × (take (c .len) (c .roster) ≡ writeRoster H)
 Gives (refused n) c = (c .refusal ≡ n) × (0 < n)
+
+-- the answer of a change to the roster that the file is
+abbrev pub ChangedBy : (Roster → Reading Roster) → List ℕ → Changed → Type 0
+ChangedBy change f c = (R : Roster) → readRoster f ≡ accepted R → Gives (change R) c
 
 -- a roster's bytes from those of its nodes, of its surveyors' lists and of its stands', as many as there is room for
 abbrev pub rosterOf : (ns nt : ℕ) (nodes lists rankings : List ℕ) → List ℕ

@@ -2,10 +2,12 @@
 use Prim.Native.Nat.{ℕ, zero, suc, _+_, _-_, _≤_, _<_}
 use native.Mathlib.Omega.{arith}
 use native.Mathlib.Numerals.{add-one}
+use native.Mathlib.Decide.{decLt}
 use mathlib.Core.Path.{_≡_, refl, sym, ap, _∙_, subst}
+use mathlib.Core.Logic.{by-cases}
 use mathlib.Core.List.{List, [], _∷_, _++_, append-assoc, append-nil}
 use lib.ListN.{length, take, set, length-take, length-set, length-append}
-use lib.Seq.{take-all, take-append-le, take-suc-set, length-take-le}
+use lib.Seq.{take-all, take-append-le, take-suc-set, take-set-lt, take-set-le, set-out, length-take-le}
 use Rattle.model.specs.Limits.{rosterSize}
 use Rattle.model.specs.RosterFile.{wideBytes}
 
@@ -84,6 +86,18 @@ going-past {whole} {left} {more} e g = record { done = g .done; grown = g .grown
 
 pub going-ends : {whole left : List ℕ} {n r : ℕ} {o q : List ℕ} → left ≡ [] → Going whole left n o r q → Grown whole n o r q
 going-ends {whole} {left} e g = grown-as (sym (append-nil (g .done)) ∙ ap (λ z. g .done ++ z) (sym e) ∙ g .is) (g .grown)
+
+-- ---- a byte of the front written anew
+take-set : (n : ℕ) (xs : List ℕ) (i a : ℕ) → take n (set xs i a) ≡ set (take n xs) i a
+take-set n xs i a = by-cases (decLt i n) (take-set-lt n xs i a)
+    (λ h. take-set-le n xs i a (omega (arith, h)) ∙ sym (set-out (take n xs) i a (omega (arith, h, length-take n xs))))
+
+pub grown-set : {xs : List ℕ} {r : ℕ} {o q : List ℕ} (i a : ℕ) → Grown xs 0 o r q → Grown (set xs i a) 0 o r (set q i a)
+grown-set {xs} {r} {o} {q} i a g = record {
+  few = g .few;
+  size = length-set q i a ∙ g .size;
+  front = take-set r q i a ∙ ap (λ z. set z i a) (g .front) ∙ sym (take-set rosterSize xs i a);
+}
 
 -- ---- the front of an array that was filled from its start
 pub grown-whole : {xs : List ℕ} {r : ℕ} {o q : List ℕ} → length xs ≤ rosterSize → Grown xs 0 o r q → take r q ≡ xs
