@@ -139,9 +139,9 @@ pub(crate) fn left(file: &[u8], ns: usize, nt: usize, number: u8) -> Changed
     let mut lists = [0u8; ROSTER_SIZE];
     let a = nodes_left(&mut out, file, ns + nt + 2, number);
     let k = lists_left(&mut lists, file, start, mine, next, end);
-    let b = roster_parts::append_section(&mut out, a, ns, &lists[..k]);
+    let b = roster_parts::append_section(&mut out, a, ns, &lists, k);
     let m = rankings_left(&mut lists, file, end + 2, nt, number);
-    let len = roster_parts::append_section(&mut out, b, 2 * nt, &lists[..m]);
+    let len = roster_parts::append_section(&mut out, b, 2 * nt, &lists, m);
     Changed {
         refusal: 0,
         len: len,

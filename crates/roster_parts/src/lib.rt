@@ -3,8 +3,7 @@
 ghost use mathlib.Core.Path.{_≡_};
 ghost use mathlib.Core.List.{[], _∷_};
 ghost use Prim.Native.Nat.{_+_, _-_, _*_, _≤_};
-ghost use lib.ListN.{length};
-ghost use Rattle.model.specs.Limits.{rosterSize};
+ghost use lib.ListN.{take};
 ghost use Rattle.roster_positions.specs.Tables.{listsEnd};
 ghost use Rattle.roster_parts.specs.Growth.{Room, Grown, sectionOf};
 use limits::ROSTER_SIZE;
@@ -62,15 +61,22 @@ pub(crate) fn entry_count(size: usize, lengths: usize) -> usize
     0
 }
 
-// "a two-byte count of all entries, low byte first", then the lists: so many of their bytes are lengths, the others entries
-pub fn append_section(out: &mut [u8; ROSTER_SIZE], n: usize, lengths: usize, lists: &[u8]) -> usize
-    requires { ⌜ Room n (now out) × (length (now lists) ≤ rosterSize) ⌝ }
-    ensures { λ r. ⌜ Grown (sectionOf lengths (now (lists .entry))) n (now (out .entry)) r (now (out .exit)) ⌝ }
+// "a two-byte count of all entries, low byte first", then the lists, the first k of an array: so many of these bytes are lengths, the others
+// entries
+pub fn append_section(
+    out: &mut [u8; ROSTER_SIZE],
+    n: usize,
+    lengths: usize,
+    lists: &[u8],
+    k: usize,
+) -> usize
+    requires { ⌜ Room n (now out) × Room k (now lists) ⌝ }
+    ensures { λ r. ⌜ Grown (sectionOf lengths (take k (now (lists .entry)))) n (now (out .entry)) r (now (out .exit)) ⌝ }
 {
-    let total = entry_count(lists.len(), lengths);
+    let total = entry_count(k, lengths);
     let low = append_byte(&mut *out, n, (total % 256) as u8);
     let high = append_byte(&mut *out, low, (total / 256) as u8);
-    append(&mut *out, high, lists)
+    append(&mut *out, high, &lists[..k])
 }
 
 // the place behind n surveyors' lists, a length byte before each
