@@ -22,5 +22,6 @@ pub mod Cases
 pub mod MoreCases
 pub mod RosterCases
 pub mod PlanCases
+pub mod ChangeCases
 pub mod DeskCases
 pub mod GroupCases

@@ -21,7 +21,7 @@ abbrev roster : List ℕ
 roster = bytes "3 1 1 2 3 1 1 1 8 0 3 1 2 3 3 2 3 1 2 2 1 8 0 3 0 1 2 3 3 0 2 1 3 2 0 1 2"
 
 -- a plan file that is read against a roster; a roster that is refused is no case
-abbrev meetsOn : Reading Roster → List ℕ → ℕ → Bool
+abbrev pub meetsOn : Reading Roster → List ℕ → ℕ → Bool
 meetsOn (accepted r) file n = eqb (refusalIn (readPlan (instanceOf r) file)) n
 meetsOn (refused k) file n = eqb 0 1
 

@@ -68,7 +68,7 @@ written-back = refl
 
 -- ---- the limits: "Quota 8 taken, 9 is 3; 32 surveyors taken, 33 is 2; sum 64 taken, 65 is 3."
 -- so many surveyors of this quota, no stands, no lists
-abbrev alone : List ℕ → List ℕ
+abbrev pub alone : List ℕ → List ℕ
 alone quotas = (length quotas ∷ quotas) ++ ((0 ∷ 0 ∷ 0 ∷ []) ++ (replicate (length quotas) 0 ++ (0 ∷ 0 ∷ [])))
 
 pub limits : all? (λ (c : List ℕ × ℕ). meets (alone (c .0)) (c .1))

@@ -12,3 +12,8 @@ pub mod Sections
 pub mod Rosters
 pub mod Reach
 pub mod PairRefusals
+pub mod ByLists
+pub mod Joined
+pub mod Departed
+pub mod PlanCells
+pub mod Carried

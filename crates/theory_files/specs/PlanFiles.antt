@@ -38,7 +38,7 @@ pub record Fileable (G : Instance) : Type 0 where
   pub few : sum (G .quotaS) (upTo (G .ns)) ≤ planLimit
 
 module _ (G : Instance) where
-  abbrev pairOf : ℕ → ℕ × ℕ
+  abbrev pub pairOf : ℕ → ℕ × ℕ
   pairOf e = (suc (G .sv e), suc (G .st e))
 
   abbrev pub names : ℕ × ℕ → ℕ → Bool
@@ -55,7 +55,7 @@ module _ (G : Instance) where
             (and-r (eqb (suc (G .sv e)) (p .0)) (eqb (suc (G .st e)) (p .1)) t),
       )
 
-  found : Fileable G → (e : ℕ) → e < G .m → edgeOfPair G (pairOf e) ≡ e
+  pub found : Fileable G → (e : ℕ) → e < G .m → edgeOfPair G (pairOf e) ≡ e
   unfolding edgeOfPair
   found F e h =
       let l = low-is (names (pairOf e)) (G .m) in
@@ -145,6 +145,18 @@ module _ (G : Instance) where
 
   abbrev two : ℕ × ℕ → List ℕ
   two w = w .0 ∷ w .1 ∷ []
+
+  -- the pairs of a plan; its bytes are theirs
+  abbrev pub pairsIn : Plan → List (ℕ × ℕ)
+  pairsIn M = map pairOf (edgesIn (G .m) (on M))
+
+  pub plan-bytes : (M : Plan) → planBytes G M ≡ length (pairsIn M) ∷ gather two (pairsIn M)
+  unfolding planBytes
+  plan-bytes M = ap₂ (λ n zs. n ∷ zs) (sym (length-map (edgesIn (G .m) (on M)) pairOf)) (bytes-are (edgesIn (G .m) (on M)))
+    where
+      bytes-are : (ds : List ℕ) → pairList G ds ≡ gather two (map pairOf ds)
+      bytes-are [] = refl
+      bytes-are (d ∷ ds) = ap (λ z. suc (G .sv d) ∷ suc (G .st d) ∷ z) (bytes-are ds)
 
   abbrev Listed : List (ℕ × ℕ) → Type 0
   Listed ps = T (leb (length ps) planLimit) × (All (λ w. Unit {0}) ps × PairsPass start ps)
@@ -270,20 +282,15 @@ module _ (G : Instance) where
     edges-back [] b = refl
     edges-back (d ∷ ds) b = ap₂ (λ x xs. x ∷ xs) (found F d (b .0)) (edges-back ds (b .1))
 
-    bytes-are : (ds : List ℕ) → pairList G ds ≡ gather two (map pairOf ds)
-    bytes-are [] = refl
-    bytes-are (d ∷ ds) = ap (λ z. suc (G .sv d) ∷ suc (G .st d) ∷ z) (bytes-are ds)
-
     every-unit : (ps : List (ℕ × ℕ)) → All (λ w. Unit {0}) ps
     every-unit [] = tt
     every-unit (p ∷ ps) = (tt, every-unit ps)
 
     pub plan-write-read : readPlan G (planBytes G M) ≡ accepted M
-    unfolding readPlan planBytes
+    unfolding readPlan
     plan-write-read =
-        let ps = map pairOf es in
-        let file : length es ∷ pairList G es ≡ (length ps ∷ gather two ps) ++ [] = ap₂ (λ n zs. n ∷ zs) (sym (length-map es pairOf)) (bytes-are es)
-        ∙ sym (append-nil (length ps ∷ gather two ps)) in
+        let ps = pairsIn M in
+        let file : planBytes G M ≡ (length ps ∷ gather two ps) ++ [] = plan-bytes M ∙ sym (append-nil (length ps ∷ gather two ps)) in
         let small : T (leb (length ps) planLimit) = le→leb (length ps) planLimit (subst (λ n. n ≤ planLimit) (sym (length-map es pairOf)) plan-few) in
         let pass : PairsPass start ps = written-passes F start es (keep-from (on M) 0 (G .m)) below fitsS fitsT in
         let read = ap (λ bs. readCount planLimit bs then readPairs G) file ∙ pairs .forth ps [] (small, (every-unit ps, pass)) in

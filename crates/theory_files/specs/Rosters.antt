@@ -119,7 +119,7 @@ fits-parts r t =
       and-r (f && (g && h)) (bothOrNeither r) v,
     )
 
-parts-fit : (r : Roster) → SectionsFit r → T (bothOrNeither r) → T (fits r)
+pub parts-fit : (r : Roster) → SectionsFit r → T (bothOrNeither r) → T (fits r)
 unfolding fits
 parts-fit r (a, b, (c, d, e), (f, g, h)) n =
     let c′ = eq→eqb (length (r .listsS)) (surveyorCount r) c in

@@ -1,0 +1,90 @@
+-- A roster within the limits, list by list: where every list is within its limit, so are the section counts. And what a roster within the
+-- limits is good for: its bytes are read back to it, and fit into the buffer of a roster.
+use Prim.Native.Nat.{ℕ, _*_, _≤_, _<_}
+use native.Mathlib.Omega.{arith}
+use mathlib.Core.Path.{_≡_, refl, sym, subst}
+use mathlib.Core.Bool.{Bool, true, false}
+use mathlib.Core.List.{List, [], _∷_, List·Memᴰ·head, List·Memᴰ·tail}
+use lib.ListN.{length}
+use lib.Dec.{T, leb, leb→le, le→leb}
+use Rattle.lists.specs.Test.{given, and-l, T-true}
+use Rattle.lists.specs.Sum.{_∈_, sum, upTo, upTo-∈, upTo-<}
+use Rattle.lists.specs.Keep.{all?, all-∈, ∈-all}
+use Rattle.model.specs.Limits.{nodeLimit, entryLimit, rosterSize}
+use Rattle.model.specs.Reading.{accepted}
+use Rattle.model.specs.Roster.{Roster, entries, surveyorCount, standCount, listed, listedBack, alike, bothOrNeither, ascending, quotasFit}
+use Rattle.model.specs.Roster.{listFits, rankingFits, totalS, totalT, fits}
+use Rattle.model.specs.RosterFile.{readRoster, writeRoster}
+use Rattle.theory_files.specs.Rosters.{fits-parts, parts-fit, write-read, roster-size}
+
+pub record ByLists (r : Roster) : Type 0 where
+  pub quotaS : T (quotasFit (r .quotasS))
+  pub quotaT : T (quotasFit (r .quotasT))
+  pub countS : length (r .listsS) ≡ surveyorCount r
+  pub countT : length (r .listsT) ≡ standCount r
+  pub fitS : T (all? (listFits (standCount r)) (r .listsS))
+  pub fitT : T (all? (rankingFits (surveyorCount r)) (r .listsT))
+  pub pairs : (i j : ℕ) → i < surveyorCount r → j < standCount r → listed r i j ≡ listedBack r i j
+
+same-alike : (a b : Bool) → a ≡ b → T (alike a b)
+same-alike true b e = subst T e tt
+same-alike false true e = absurd (subst T (sym e) tt)
+same-alike false false e = tt
+
+alike-same : (a b : Bool) → T (alike a b) → a ≡ b
+alike-same true b t = sym (T-true t)
+alike-same false true t = absurd t
+alike-same false false t = refl
+
+pub fits-lists : (r : Roster) → T (fits r) → ByLists r
+unfolding bothOrNeither
+fits-lists r ok = given (fits-parts r ok) (λ ((a, b, (cl, dl, el), (ct, dt, et)), n). record {
+  quotaS = a;
+  quotaT = b;
+  countS = cl;
+  countT = ct;
+  fitS = dl;
+  fitT = dt;
+  pairs = λ i j hi hj. alike-same (listed r i j) (listedBack r i j)
+      (all-∈ (λ j. alike (listed r i j) (listedBack r i j)) (upTo (standCount r))
+      (all-∈ (λ i. all? (λ j. alike (listed r i j) (listedBack r i j)) (upTo (standCount r))) (upTo (surveyorCount r)) n i (upTo-∈ (surveyorCount r) i hi))
+      j (upTo-∈ (standCount r) j hj));
+})
+
+-- lists of no more entries than there can be nodes
+total-small : {A : Type 0} (size : A → ℕ) (ls : List A) → ((x : A) → x ∈ ls → size x ≤ nodeLimit) → sum size ls ≤ nodeLimit * length ls
+total-small size [] h = omega arith
+total-small size (x ∷ ls) h = omega (arith, h x (List·Memᴰ·head refl), total-small size ls (λ y m. h y (List·Memᴰ·tail m)))
+
+node-count : (qs : List ℕ) → T (quotasFit qs) → length qs ≤ nodeLimit
+node-count qs t = leb→le (length qs) nodeLimit (and-l (leb (length qs) nodeLimit) _ t)
+
+list-count : (count : ℕ) (xs : List ℕ) → T (listFits count xs) → length xs ≤ count
+list-count count xs t = leb→le (length xs) count (and-l (leb (length xs) count) _ t)
+
+pub lists-fit : (r : Roster) → ByLists r → T (fits r)
+unfolding bothOrNeither
+lists-fit r b =
+    let ns = surveyorCount r in
+    let nt = standCount r in
+    given (node-count (r .quotasS) (b .quotaS)) (λ hs.
+    given (node-count (r .quotasT) (b .quotaT)) (λ ht.
+    given (total-small length (r .listsS) (λ xs m. given (list-count nt xs (all-∈ (listFits nt) (r .listsS) (b .fitS) xs m)) (λ h. omega arith))) (λ fewS.
+    given (total-small (λ R. length (entries R)) (r .listsT) (λ R m. given (list-count ns (entries R)
+    (and-l (listFits ns (entries R)) (ascending 0 (R .tied)) (all-∈ (rankingFits ns) (r .listsT) (b .fitT) R m))) (λ h. omega arith))) (λ fewT.
+    parts-fit r (
+      b .quotaS,
+      b .quotaT,
+      (b .countS, b .fitS, le→leb (totalS (r .listsS)) entryLimit (omega (arith, b .countS))),
+      (b .countT, b .fitT, le→leb (totalT (r .listsT)) entryLimit (omega (arith, b .countT))),
+    )
+    (∈-all (λ i. all? (λ j. alike (listed r i j) (listedBack r i j)) (upTo nt)) (upTo ns) (λ i mi.
+    ∈-all (λ j. alike (listed r i j) (listedBack r i j)) (upTo nt) (λ j mj.
+    same-alike (listed r i j) (listedBack r i j) (b .pairs i j (upTo-< ns mi) (upTo-< nt mj)))))))))
+
+-- ---- a roster that can be stored as bytes
+abbrev pub Storable : Roster → Type 0
+Storable h = T (fits h) × (readRoster (writeRoster h) ≡ accepted h) × (length (writeRoster h) ≤ rosterSize)
+
+pub storable : (h : Roster) → T (fits h) → Storable h
+storable h t = (t, write-read h t, roster-size h t)
