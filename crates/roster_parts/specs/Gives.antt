@@ -1,7 +1,7 @@
 -- The answer of a change: the bytes of the changed roster, or the model's refusal.
 use Prim.Native.Nat.{ℕ, _+_, _*_, _-_, _≤_, _<_}
 use native.Mathlib.Omega.{arith}
-use mathlib.Core.Path.{_≡_, sym, ap, ap₂, _∙_}
+use mathlib.Core.Path.{_≡_, refl, sym, ap, ap₂, _∙_, subst}
 use mathlib.Core.List.{List, [], _++_, append-assoc}
 use lib.ListN.{length, take, length-append}
 use lib.Seq.{take-all}
@@ -13,11 +13,14 @@ use Rattle.model.specs.Roster.{Roster, totalS, totalT, fits}
 use Rattle.model.specs.RosterFile.{listBytes, rankingBytes, wideBytes, readRoster, writeRoster}
 use Rattle.theory_files.specs.Rosters.{lists-size, rankings-size, roster-size}
 use Rattle.roster_parts.specs.declared.Changed.{Changed}
-use Rattle.roster_parts.specs.Growth.{sectionOf}
+use Rattle.roster_parts.specs.Growth.{sectionOf, Grown, grown-then, grown-as}
 
 abbrev pub Gives : Reading Roster → Changed → Type 0
 Gives (accepted H) c = (c .refusal ≡ 0) × (c .len ≤ rosterSize) × (take (c .len) (c .roster) ≡ writeRoster H)
 Gives (refused n) c = (c .refusal ≡ n) × (0 < n)
+
+pub gives-refused : (x : Reading Roster) (n : ℕ) (c : Changed) → x ≡ refused n → 0 < n → c .refusal ≡ n → Gives x c
+gives-refused x n c e h q = subst (λ z. Gives z c) (sym e) (q, h)
 
 -- the answer of a change to the roster that the file is
 abbrev pub ChangedBy : (Roster → Reading Roster) → List ℕ → Changed → Type 0
@@ -32,6 +35,19 @@ pub record Holds (bytes : List ℕ) (c : Changed) : Type 0 where
   pub none : c .refusal ≡ 0
   pub few : c .len ≤ rosterSize
   pub front : take (c .len) (c .roster) ≡ take rosterSize bytes
+
+-- the nodes first, then both sections, each of them from the front of an array that its lists were written to
+pub held : (ns nt : ℕ) {nodes lists rankings : List ℕ} {a k b m r : ℕ} {o p q out₀ out₁ out₂ out : List ℕ} → Grown nodes 0 out₀ a out₁ → Grown lists 0 o k p
+    → Grown (sectionOf ns (take k p)) a out₁ b out₂ → Grown rankings 0 p m q → Grown (sectionOf (2 * nt) (take m q)) b out₂ r out
+    → Holds (rosterOf ns nt nodes lists rankings) (record { refusal = 0; len = r; roster = out })
+held ns nt {nodes} {lists} {rankings} n l s t u =
+    let g = grown-then (grown-then n (grown-as (ap (sectionOf ns) (l .front)) s)) (grown-as (ap (sectionOf (2 * nt)) (t .front)) u) in
+    record {
+      none = refl;
+      few = g .few;
+      front = g .front
+          ∙ ap (take rosterSize) (append-assoc nodes (sectionOf ns (take rosterSize lists)) (sectionOf (2 * nt) (take rosterSize rankings)));
+    }
 
 -- a roster within the limits has room
 module _ (H : Roster) (ok : T (fits H)) (nodes lists rankings : List ℕ) (n : nodes ≡ listBytes (H .quotasS) ++ listBytes (H .quotasT))
@@ -66,5 +82,11 @@ module _ (H : Roster) (ok : T (fits H)) (nodes lists rankings : List ℕ) (n : n
       (ap (sectionOf (2 * length (H .listsT))) (ap (take rosterSize) t ∙ take-all rosterSize T′ ht) ∙ ap (λ k. wideBytes k ++ T′) b))
       ∙ append-assoc (listBytes (H .quotasS)) (listBytes (H .quotasT)) sections
 
-  pub gives-held : {c : Changed} → Holds (rosterOf (length (H .listsS)) (length (H .listsT)) nodes lists rankings) c → Gives (accepted H) c
-  gives-held {c} h = (h .none, h .few, h .front ∙ ap (take rosterSize) written ∙ take-all rosterSize (writeRoster H) (roster-size H ok))
+  pub gives-held : {c : Changed} (ns nt : ℕ) → length (H .listsS) ≡ ns → length (H .listsT) ≡ nt → Holds (rosterOf ns nt nodes lists rankings) c
+      → Gives (accepted H) c
+  gives-held {c} ns nt a b h = (
+    h .none,
+    h .few,
+    h .front ∙ ap (take rosterSize) (ap₂ (λ x y. rosterOf x y nodes lists rankings) (sym a) (sym b) ∙ written)
+        ∙ take-all rosterSize (writeRoster H) (roster-size H ok),
+  )

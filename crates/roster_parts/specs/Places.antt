@@ -3,13 +3,15 @@ use Prim.Native.Nat.{ℕ, suc, _+_, _-_, _≤_, _<_}
 use native.Mathlib.Omega.{arith}
 use mathlib.Core.Path.{_≡_, refl, sym, ap, _∙_}
 use mathlib.Core.List.{List, [], _∷_, _++_, append-assoc}
-use lib.ListN.{length, take, drop, length-append, length-drop}
+use lib.ListN.{length, take, drop, getD, length-append, length-drop}
 use lib.Seq.{take-at, drop-at}
-use Rattle.lists.specs.Test.{given}
+use lib.Dec.{T}
 use Rattle.lists.specs.Keep.{gather}
-use Rattle.model.specs.Roster.{Roster, surveyorCount, standCount}
+use Rattle.model.specs.Limits.{nodeLimit}
+use Rattle.model.specs.Roster.{Roster, surveyorCount, standCount, fits}
 use Rattle.model.specs.RosterFile.{listBytes, writeRoster}
-use Rattle.theory_files.specs.Offsets.{part-is}
+use Rattle.theory_files.specs.Offsets.{part-is, offsets}
+use Rattle.theory_files.specs.RosterInstance.{ns-small, nt-small}
 use Rattle.roster_positions.specs.Tables.{listsEnd}
 use Rattle.roster_positions.specs.Rows.{lists-are}
 
@@ -36,18 +38,30 @@ module _ (f : List ℕ) (r : Roster) (e : writeRoster r ≡ f) where
       ap (take (surveyorCount r + standCount r + 2)) (sym e ∙ sym (append-assoc (listBytes (r .quotasS)) (listBytes (r .quotasT)) _))
       ∙ take-at (listBytes (r .quotasS) ++ listBytes (r .quotasT)) _ (surveyorCount r + standCount r + 2) n
 
--- ---- some surveyors' lists, up to the place behind them
-module _ (ls : List (List ℕ)) (f : List ℕ) (at : ℕ) (post : List ℕ) (e : drop at f ≡ gather listBytes ls ++ post) (some : 0 < length post) where
-  pub lists-behind : drop (listsEnd f (length ls) at) f ≡ post
-  lists-behind = lists-are ls f at post e 0 [] .1
+-- ---- the counts, as the code reads them
+module _ (f : List ℕ) (r : Roster) (e : writeRoster r ≡ f) (n : ℕ) (c : n ≡ getD f 0 0) where
+  pub surveyors-are : n ≡ surveyorCount r
+  surveyors-are = c ∙ offsets f r e .surveyors
 
-  lists-length : length (gather listBytes ls) ≡ listsEnd f (length ls) at - at
+  pub stands-are : (m : ℕ) → m ≡ getD f (n + 1) 0 → m ≡ standCount r
+  stands-are m d = d ∙ ap (λ k. getD f (k + 1) 0) surveyors-are ∙ offsets f r e .stands
+
+  pub counts-small : T (fits r) → (m : ℕ) → m ≡ getD f (n + 1) 0 → (n ≤ nodeLimit) × (m ≤ nodeLimit)
+  counts-small ok m d = (omega (arith, surveyors-are, ns-small r ok), omega (arith, stands-are m d, nt-small r ok))
+
+-- ---- n surveyors' lists, up to the place behind them
+module _ (ls : List (List ℕ)) (n : ℕ) (count : length ls ≡ n) (f : List ℕ) (at : ℕ) (post : List ℕ) (e : drop at f ≡ gather listBytes ls ++ post)
+    (some : 0 < length post) where
+  pub lists-behind : drop (listsEnd f n at) f ≡ post
+  lists-behind = ap (λ k. drop (listsEnd f k at) f) (sym count) ∙ lists-are ls f at post e 0 [] .1
+
+  lists-length : length (gather listBytes ls) ≡ listsEnd f n at - at
   lists-length = omega (
     arith,
     sym (length-drop at f) ∙ ap length e,
     length-append (gather listBytes ls) post,
-    sym (length-drop (listsEnd f (length ls) at) f) ∙ ap length lists-behind,
+    sym (length-drop (listsEnd f n at) f) ∙ ap length lists-behind,
   )
 
-  pub lists-part : take (listsEnd f (length ls) at - at) (drop at f) ≡ gather listBytes ls
-  lists-part = part-is f at (listsEnd f (length ls) at - at) (gather listBytes ls) post e lists-length
+  pub lists-part : take (listsEnd f n at - at) (drop at f) ≡ gather listBytes ls
+  lists-part = part-is f at (listsEnd f n at - at) (gather listBytes ls) post e lists-length

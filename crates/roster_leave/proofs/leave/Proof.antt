@@ -1,68 +1,45 @@
+-- `roster_leave::leave` meets its contract: the number is outside the surveyors, or its surveyor leaves. Assumes nothing.
+use Prim.Native.Nat.{_<_}
+use native.Mathlib.Omega.{arith}
 use borrow.Author.Needs.{needs}
+use Rattle.lists.specs.Test.{given}
+use Rattle.theory_files.specs.Reads.{bytes-are}
+use Rattle.theory_files.specs.Rosters.{read-write, read-fits}
+use Rattle.roster_parts.specs.Places.{counts-small}
+use Rattle.roster_leave.specs.Departing.{leaves-none, leaves-above, leaves}
 use Rattle.roster_leave.proofs.leave.Statement.{statement}
 use Rattle.roster_leave.proofs.leave.Tie as tie
-use Rattle.roster_leave.proofs.leave.Reads as reads
-use Rattle.roster_leave.proofs.leave.Lts as lts
-use Rattle.roster_leave.proofs.left.Reads as left-reads
-use Rattle.roster_parts.proofs.refused.Reads as refused-reads
-use Rattle.roster_positions.proofs.byte_at.Reads as byte-at-reads
 
--- src/lib.rt:141:9
-byte-at-requires : tie.Need-byte-at-requires
-byte-at-requires c κs = search needs
-
--- src/lib.rt:143:9
-refused-requires : tie.Need-refused-requires
-refused-requires c κs = search needs
-
--- src/lib.rt:143:9
 returns : tie.Need-returns
-returns c = ?
+returns c =
+    let f = c .before .before .before .before .args .file .now in
+    let isB = bytes-are f (λ i. omega (arith, c .before .before .before .shared-slice-known .given i)) in
+    λ R a. leaves-none f isB R a (c .before .before .byte-at .result) (c .before .before .byte-at .ensures) (c .before .before .before .before .args .number) (c .refused .result) (c .before .if1 .taken) (c .refused .ensures)
 
--- src/lib.rt:146:9
-refused-requires-2 : tie.Need-refused-requires-2
-refused-requires-2 c κs = search needs
-
--- src/lib.rt:146:9
 returns-2 : tie.Need-returns-2
-returns-2 c = ?
+returns-2 c =
+    let f = c .before .before .before .before .before .args .file .now in
+    let isB = bytes-are f (λ i. omega (arith, c .before .before .before .before .shared-slice-known .given i)) in
+    λ R a. leaves-above f isB R a (c .before .before .before .byte-at .result) (c .before .before .before .byte-at .ensures) (c .before .before .before .before .before .args .number) (c .refused2 .result) (c .before .if2 .taken)
+    (c .refused2 .ensures)
 
--- src/lib.rt:148:13
-cast-m : tie.Need-cast-m
-cast-m c = search needs
-
--- src/lib.rt:149:45
-add-byte-at : tie.Need-add-byte-at
-add-byte-at c = search needs
-
--- src/lib.rt:149:13
-byte-at-requires-2 : tie.Need-byte-at-requires-2
-byte-at-requires-2 c κs = search needs
-
--- src/lib.rt:149:13
-cast-n : tie.Need-cast-n
-cast-n c = search needs
-
--- src/lib.rt:150:5
 left-requires : tie.Need-left-requires
-left-requires c κs = ?
+left-requires c κs =
+    let f = c .before .before .before .before .before .args .file .now in
+    let isB = bytes-are f (λ i. omega (arith, c .before .before .before .before .shared-slice-known .given i)) in
+    let (R, a) = c .before .before .before .before .before .pre in
+    let (ns, nt) = counts-small f R (read-write f R isB a) (c .before .before .before .byte-at .result) (c .before .before .before .byte-at .ensures) (read-fits f R isB a) (c .byte-at2 .result)
+    (c .byte-at2 .ensures) in
+    (ns, nt, omega (arith, c .before .before .if1 .left), c .before .if2 .left)
 
--- src/lib.rt:137:1
 returns-3 : tie.Need-returns-3
-returns-3 c = ?
+returns-3 c =
+    let f = c .before .before .before .before .before .before .args .file .now in
+    let isB = bytes-are f (λ i. omega (arith, c .before .before .before .before .before .shared-slice-known .given i)) in
+    λ R a. leaves f isB R a (c .before .before .before .before .byte-at .result) (c .before .before .before .before .byte-at .ensures) (c .before .before .before .before .before .before .args .number) (c .left .result)
+    (let h : 0 < c .before .before .before .before .before .before .args .number = omega (arith, c .before .before .before .if1 .left) in h) (c .before .before .if2 .left) (c .before .byte-at2 .result) (c .before .byte-at2 .ensures) (c .left .ensures)
 
 pub leave-spec : {M : Type 1} → statement M
 leave-spec =
-    tie.close
-    (tie.spec
-    byte-at-requires
-    refused-requires
-    returns
-    refused-requires-2
-    returns-2
-    cast-m
-    add-byte-at
-    byte-at-requires-2
-    cast-n
-    left-requires
-    returns-3)
+    tie.close (tie.spec (λ c κs. search needs) (λ c κs. search needs) returns (λ c κs. search needs) returns-2 (λ c. search needs)
+    (λ c. search needs) (λ c κs. search needs) (λ c. search needs) left-requires returns-3)
