@@ -109,11 +109,11 @@ module _ (s : List Step) (l p v : List ℕ) where
       go (reading.refused n) = refl
 
   lent-on : (R : Roster) (plan : List ℕ)
-      → lentOn chosen (held (accepted R) plan) call ≡ foundWritten (instanceOf R) (finderOf (instanceOf R) (rivalOf (instanceOf R))) (recordsIn s) l p v
+      → lentOn chosen (held (accepted R) plan) call ≡ foundWritten find (instanceOf R) (finderOf (instanceOf R) (rivalOf (instanceOf R))) (recordsIn s) l p v
   lent-on R plan = go (readPlan (instanceOf R) plan)
     where
       go : (y : Reading Plan)
-          → lentOn chosen (heldPlan R y) call ≡ foundWritten (instanceOf R) (finderOf (instanceOf R) (rivalOf (instanceOf R))) (recordsIn s) l p v
+          → lentOn chosen (heldPlan R y) call ≡ foundWritten find (instanceOf R) (finderOf (instanceOf R) (rivalOf (instanceOf R))) (recordsIn s) l p v
       go (accepted M) = refl
       go (reading.refused n) = refl
 
@@ -146,10 +146,10 @@ module _ (s : List Step) (l p v : List ℕ) where
       answer-here : foundShown (r .answer) ≡ foundAnswer (length (stepsOf (instanceOf R))) x
       answer-here = ap foundShown (f .finds .wrote .answer) ∙ shown-is (length (stepsOf (instanceOf R))) x
 
-      lent-here : find (recordsIn s′) l′ p′ v′ ≡ foundWritten (instanceOf R) x (recordsIn s) l p v
+      lent-here : find (recordsIn s′) l′ p′ v′ ≡ foundWritten find (instanceOf R) x (recordsIn s) l p v
       lent-here =
           (λ i. find (q i) (f .finds .wrote .left i) (f .finds .wrote .plan i) (f .finds .wrote .rival i))
-          ∙ sym (written-is (instanceOf R) x (recordsIn s) l p v)
+          ∙ sym (written-is find (instanceOf R) x (recordsIn s) l p v)
 
       found-reply : 0 ≡ stateRefusal (heldOf d) call → Replied d call (foundShown (r .answer)) (find (recordsIn s′) l′ p′ v′) (r .desk)
       found-reply z = record {

@@ -1,13 +1,16 @@
 -- What each call on the desk promises, in one record: its answer, every byte lent to it, what the desk holds then, and the desk's fields.
--- Which rival and which blocking pair: those that the search and the scan for a blocking pair find.
+-- Which rival: the one that the search finds.
 use Prim.Native.Nat.{ℕ}
 use mathlib.Core.Path.{_≡_}
 use mathlib.Core.Bool.{Bool, true, false}
 use mathlib.Core.List.{List, []}
+use Rattle.model.specs.RosterFile.{writeRoster}
+use Rattle.model.specs.Edges.{instanceOf}
+use Rattle.model.specs.PlanFile as plans
 use Rattle.model.specs.Compare as model
 use Rattle.model.specs.Compare.{Part, winnerPart}
-use Rattle.model.specs.Desk.{Held, Call, loadRoster, loadPlan, writeRosterTo, writePlanTo, find, judge, compare, blocking, Answer, refused, loaded}
-use Rattle.model.specs.Desk.{wrote, plan, none, strong, popular, beaten, votes, refusedPart, blockedBy, unblocked, answerOf, lentAfter, deskAfter}
+use Rattle.model.specs.Desk.{Held, Call, loadRoster, loadPlan, writeRosterTo, writePlanTo, find, join, leave, judge, compare, blocking, Answer}
+use Rattle.model.specs.Desk.{onRoster, onPlan, refused, loaded, wrote, plan, none, strong, popular, beaten, votes, refusedPart, blockedBy, unblocked, answerOf, lentAfter, deskAfter}
 use Rattle.theory_finder.specs.Choices.{chosen}
 use Rattle.desk.specs.declared.Desk.{Desk}
 use Rattle.desk.specs.Held.{rosterBytes, planBytes, heldOf}
@@ -34,20 +37,21 @@ answered h c = answerOf chosen h c
 abbrev pub lentThen : Held → Call → Call
 lentThen h c = lentAfter chosen h c
 
--- ---- the desk's fields: an accepted load takes its file in; every other call, and a refused load, hands back the desk as it came
-abbrev pub isLoaded : Answer → Bool
-isLoaded (refused n g) = false
-isLoaded loaded = true
-isLoaded (wrote n) = false
-isLoaded (plan n) = false
-isLoaded (none n k) = false
-isLoaded strong = false
-isLoaded (popular v) = false
-isLoaded (beaten v) = false
-isLoaded (votes v w x p) = false
-isLoaded (refusedPart n g p) = false
-isLoaded (blockedBy s t) = false
-isLoaded unblocked = false
+-- ---- the desk's fields: an accepted load takes its file in, an accepted change the changed files; every other call, and what is refused, hands
+-- back the desk as it came
+abbrev pub isAccepted : Answer → Bool
+isAccepted (refused n g) = false
+isAccepted loaded = true
+isAccepted (wrote n) = true
+isAccepted (plan n) = true
+isAccepted (none n k) = true
+isAccepted strong = true
+isAccepted (popular v) = true
+isAccepted (beaten v) = true
+isAccepted (votes v w x p) = true
+isAccepted (refusedPart n g p) = false
+isAccepted (blockedBy s t) = true
+isAccepted unblocked = true
 
 abbrev pub RosterIn : (file : List ℕ) → Bool → (before after : Desk) → Type 0
 RosterIn file true d d′ = (rosterBytes d′ ≡ file) × (planBytes d′ ≡ [])
@@ -57,12 +61,25 @@ abbrev pub PlanIn : (file : List ℕ) → Bool → (before after : Desk) → Typ
 PlanIn file true d d′ = (d′ .«roster_len» ≡ d .«roster_len») × (d′ .roster ≡ d .roster) × (planBytes d′ ≡ file)
 PlanIn file false d d′ = d′ ≡ d
 
+-- W-202: the bytes are those of what is held and nothing else; without a plan there are none of one
+abbrev pub rosterFile : Held → List ℕ
+rosterFile h = onRoster [] h writeRoster
+
+abbrev pub planFile : Held → List ℕ
+planFile h = onPlan [] h (λ r M. plans.planBytes (instanceOf r) M)
+
+abbrev pub ChangeIn : Bool → (before after : Desk) → Type 0
+ChangeIn true d d′ = (rosterBytes d′ ≡ rosterFile (heldOf d′)) × (planBytes d′ ≡ planFile (heldOf d′))
+ChangeIn false d d′ = d′ ≡ d
+
 abbrev pub Stored : Call → Bool → (before after : Desk) → Type 0
 Stored (loadRoster file) t d d′ = RosterIn file t d d′
 Stored (loadPlan file) t d d′ = PlanIn file t d d′
 Stored (writeRosterTo buffer) t d d′ = d′ ≡ d
 Stored (writePlanTo buffer) t d d′ = d′ ≡ d
 Stored (find s l p v) t d d′ = d′ ≡ d
+Stored (join q f s l p v) t d d′ = ChangeIn t d d′
+Stored (leave n s l p v) t d d′ = ChangeIn t d d′
 Stored (judge v) t d d′ = d′ ≡ d
 Stored (compare a b) t d d′ = d′ ≡ d
 Stored blocking t d d′ = d′ ≡ d
@@ -72,4 +89,4 @@ pub record Replied (d : Desk) (c : Call) (a : Answer) (c′ : Call) (d′ : Desk
   pub answer : a ≡ answered (heldOf d) c
   pub lent : c′ ≡ lentThen (heldOf d) c
   pub desk : heldOf d′ ≡ deskAfter (heldOf d) c
-  pub stored : Stored c (isLoaded a) d d′
+  pub stored : Stored c (isAccepted a) d d′

@@ -11,25 +11,27 @@ use Rattle.model.specs.Reading.{Reading, accepted, refused}
 use Rattle.model.specs.Roster.{Roster}
 use Rattle.model.specs.RosterFile.{readRoster}
 use Rattle.model.specs.Plans.{Plan}
-use Rattle.model.specs.Desk.{Held, onRoster, Call, loadRoster, loadPlan, writeRosterTo, writePlanTo, find, judge, compare, blocking, Answer}
+use Rattle.model.specs.Desk.{Held, onRoster, Call, loadRoster, loadPlan, writeRosterTo, writePlanTo, find, join, leave, judge, compare, blocking, Answer}
 use Rattle.model.specs.Desk.{needsRoster, needsPlan, lentShort, noRoster, noPlan, stateRefusal, answerOn, lentOn, stateRefused, answerOf, lentAfter}
 use Rattle.model.specs.Desk.{deskOn, deskAfter}
 use Rattle.theory_finder.specs.Choices.{chosen}
 use Rattle.desk.specs.declared.Desk.{Desk}
 use Rattle.desk_loaded.specs.Held.{heldPlan, held, stateNumber}
 use Rattle.desk.specs.Held.{rosterBytes, planBytes, heldOf}
-use Rattle.desk.specs.Replies.{answered, lentThen, isLoaded, Stored, Replied}
+use Rattle.desk.specs.Replies.{answered, lentThen, isAccepted, Stored, Replied}
 
 -- ---- a refusal by the state
 by-number : {A : Type 0} (f : ℕ → A) (x : A) {n s : ℕ} → n ≡ s → 0 < n → f n ≡ cond (ltb 0 s) (f s) x
 by-number f x {n} {s} e h = sym (ap (λ b. cond b (f n) x) (lt-ltb 0 n h)) ∙ ap (λ k. cond (ltb 0 k) (f k) x) e
 
-same-desk : (d : Desk) (n : ℕ) (c : Call) → Stored c (isLoaded (stateRefused n c)) d d
+same-desk : (d : Desk) (n : ℕ) (c : Call) → Stored c (isAccepted (stateRefused n c)) d d
 same-desk d n (loadRoster file) = refl
 same-desk d n (loadPlan file) = refl
 same-desk d n (writeRosterTo buffer) = refl
 same-desk d n (writePlanTo buffer) = refl
 same-desk d n (find s l p v) = refl
+same-desk d n (join q f s l p v) = refl
+same-desk d n (leave m s l p v) = refl
 same-desk d n (judge v) = refl
 same-desk d n (compare a b) = refl
 same-desk d n blocking = refl
@@ -47,7 +49,7 @@ by-state d c t {n} {a} i h q = record {
   answer = q ∙ by-number (λ k. stateRefused k c) (answerOn chosen (heldOf d) c) e h;
   lent = by-number (λ k. c) (lentOn chosen (heldOf d) c) e h;
   desk = by-number (λ k. heldOf d) (deskOn (heldOf d) c) e h;
-  stored = subst (λ z. Stored c (isLoaded z) d d) (sym q) (same-desk d n c);
+  stored = subst (λ z. Stored c (isAccepted z) d d) (sym q) (same-desk d n c);
 }
   where
     e : n ≡ stateRefusal (heldOf d) c
@@ -101,7 +103,7 @@ module _ (d : Desk) (c : Call) (t : T (needsRoster c)) {n : ℕ} (i : n ≡ stat
   passed = no-number z i ∙ states (heldOf d) c t
 
   pub passes : {a : Answer} {c′ : Call} (h : Held) → heldOf d ≡ h → a ≡ answerOn chosen h c → c′ ≡ lentOn chosen h c → h ≡ deskOn h c
-      → Stored c (isLoaded a) d d → Replied d c a c′ d
+      → Stored c (isAccepted a) d d → Replied d c a c′ d
   passes h e p q k s = record {
     answer = p ∙ ap (λ h. answerOn chosen h c) (sym e) ∙ pass-answer (heldOf d) c passed;
     lent = q ∙ ap (λ h. lentOn chosen h c) (sym e) ∙ pass-lent (heldOf d) c passed;

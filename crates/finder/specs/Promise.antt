@@ -22,7 +22,7 @@ use Rattle.model.specs.PlanFile.{pairList, planBytes}
 use Rattle.model.specs.Reduction.{Step, Rule, rules, stepsOf, endOf}
 use Rattle.model.specs.Finder as F
 use Rattle.model.specs.Finder.{Record, diaryOf, leftOf, candidateOf, Rival, Found, found, isEmpty, finderOf}
-use Rattle.model.specs.Desk.{find, onto, foundAnswer, foundWritten}
+use Rattle.model.specs.Desk.{Lends, onto, foundAnswer, foundWritten}
 use Rattle.theory_verdict.specs.Rival.{rivalOf}
 use Rattle.theory_verdict.specs.Meaning.{Beaten, verdict-means}
 use Rattle.theory_files.specs.RosterInstance.{lawful}
@@ -35,12 +35,12 @@ use Rattle.answers.specs.declared.NoneKind.the-variants as kind
 use Rattle.answers.specs.FinderCases.{foundShown}
 use Rattle.finder_ending.specs.EndBuffers.{leftAfter, planAfter, rivalAfter, answerFor}
 
--- ---- the buffers after a find are those of the desk's call
-pub written-is : (G : Instance) (x : Found) (d : List Record) (l p v : List ℕ)
-    → foundWritten G x d l p v ≡ find (onto (diaryOf G) d) (leftAfter G x l) (planAfter G x p) (rivalAfter G x v)
-written-is G (F.plan M) d l p v = refl
-written-is G (F.left es) d l p v = refl
-written-is G (F.rivalled M N w) d l p v = refl
+-- ---- the buffers after a call that is lent the finder's are those of the desk's call
+pub written-is : (call : Lends) (G : Instance) (x : Found) (d : List Record) (l p v : List ℕ)
+    → foundWritten call G x d l p v ≡ call (onto (diaryOf G) d) (leftAfter G x l) (planAfter G x p) (rivalAfter G x v)
+written-is call G (F.plan M) d l p v = refl
+written-is call G (F.left es) d l p v = refl
+written-is call G (F.rivalled M N w) d l p v = refl
 
 -- ---- the promise
 -- the answer's number of steps, and whether it is a plan or none

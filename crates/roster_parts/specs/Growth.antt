@@ -1,0 +1,107 @@
+-- The front of an array that grows: what is appended to it, part by part. What is above a roster's size is cut off.
+use Prim.Native.Nat.{ℕ, zero, suc, _+_, _-_, _≤_, _<_}
+use native.Mathlib.Omega.{arith}
+use native.Mathlib.Numerals.{add-one}
+use native.Mathlib.Decide.{decLt}
+use mathlib.Core.Path.{_≡_, refl, sym, ap, _∙_, subst}
+use mathlib.Core.Logic.{by-cases}
+use mathlib.Core.List.{List, [], _∷_, _++_, append-assoc, append-nil}
+use lib.ListN.{length, take, set, length-take, length-set, length-append}
+use lib.Seq.{take-all, take-append-le, take-suc-set, take-set-lt, take-set-le, set-out, length-take-le}
+use Rattle.model.specs.Limits.{rosterSize}
+use Rattle.model.specs.RosterFile.{wideBytes}
+
+-- an array of a roster's size, of which the first n are written
+abbrev pub Room : (n : ℕ) → List ℕ → Type 0
+Room n o = (n ≤ rosterSize) × (length o ≡ rosterSize)
+
+-- xs behind the first n of `before`, and both together are the first r of `after`
+pub record Grown (xs : List ℕ) (n : ℕ) (before : List ℕ) (r : ℕ) (after : List ℕ) : Type 0 where
+  pub few : r ≤ rosterSize
+  pub size : length after ≡ rosterSize
+  pub front : take r after ≡ take rosterSize (take n before ++ xs)
+
+-- a section's bytes: the count of its entries, and the bytes of its lists, of which so many are lengths
+abbrev pub sectionOf : (lengths : ℕ) (lists : List ℕ) → List ℕ
+sectionOf k bs = wideBytes (length bs - k) ++ bs
+
+cut-front : (c : ℕ) (xs ys : List ℕ) → take c (take c xs ++ ys) ≡ take c (xs ++ ys)
+cut-front zero xs ys = refl
+cut-front (suc c) [] ys = refl
+cut-front (suc c) (x ∷ xs) ys = ap (λ z. x ∷ z) (cut-front c xs ys)
+
+-- ---- nothing, one byte, one part behind another
+pub grown-none : (n : ℕ) (o : List ℕ) → Room n o → Grown [] n o n o
+grown-none n o (h, l) = record {
+  few = h;
+  size = l;
+  front = sym (ap (take rosterSize) (append-nil (take n o)) ∙ take-all rosterSize (take n o) (omega (arith, length-take n o)));
+}
+
+pub grown-byte : (b n : ℕ) (o : List ℕ) → length o ≡ rosterSize → n < rosterSize → Grown (b ∷ []) n o (n + 1) (set o n b)
+grown-byte b n o l h = record {
+  few = omega arith;
+  size = length-set o n b ∙ l;
+  front = ap (λ k. take k (set o n b)) (add-one n) ∙ take-suc-set o n b (omega arith)
+      ∙ sym (take-all rosterSize (take n o ++ b ∷ []) (omega (arith, length-take n o, length-append (take n o) (b ∷ []))));
+}
+
+pub grown-full : (xs : List ℕ) (n : ℕ) (o : List ℕ) → length o ≡ rosterSize → n ≡ rosterSize → Grown xs n o n o
+grown-full xs n o l e = record {
+  few = omega arith;
+  size = l;
+  front = sym (take-append-le rosterSize (take n o) xs (omega (arith, length-take n o)) ∙ take-all rosterSize (take n o) (omega (arith, length-take n o)));
+}
+
+pub grown-then : {xs ys : List ℕ} {n m r : ℕ} {o p q : List ℕ} → Grown xs n o m p → Grown ys m p r q → Grown (xs ++ ys) n o r q
+grown-then {xs} {ys} {n} {m} {r} {o} a b = record {
+  few = b .few;
+  size = b .size;
+  front = b .front ∙ ap (λ z. take rosterSize (z ++ ys)) (a .front) ∙ cut-front rosterSize (take n o ++ xs) ys
+      ∙ ap (take rosterSize) (append-assoc (take n o) xs ys);
+}
+
+pub grown-as : {xs ys : List ℕ} {n r : ℕ} {o q : List ℕ} → xs ≡ ys → Grown xs n o r q → Grown ys n o r q
+grown-as {xs} {ys} {n} {r} {o} {q} e g = subst (λ z. Grown z n o r q) e g
+
+-- ---- a loop that appends: some is appended, and with what is left it is the whole
+pub record Going (whole left : List ℕ) (n : ℕ) (before : List ℕ) (r : ℕ) (after : List ℕ) : Type 0 where
+  pub done : List ℕ
+  pub grown : Grown done n before r after
+  pub is : done ++ left ≡ whole
+
+pub going-starts : (whole : List ℕ) (n : ℕ) (o : List ℕ) → Room n o → Going whole whole n o n o
+going-starts whole n o h = record { done = []; grown = grown-none n o h; is = refl }
+
+pub going-on : {whole left more xs : List ℕ} {n m r : ℕ} {o p q : List ℕ} → left ≡ xs ++ more → Going whole left n o m p → Grown xs m p r q
+    → Going whole more n o r q
+going-on {whole} {left} {more} {xs} e g h = record {
+  done = g .done ++ xs;
+  grown = grown-then (g .grown) h;
+  is = append-assoc (g .done) xs more ∙ ap (λ z. g .done ++ z) (sym e) ∙ g .is;
+}
+
+pub going-past : {whole left more : List ℕ} {n r : ℕ} {o q : List ℕ} → left ≡ more → Going whole left n o r q → Going whole more n o r q
+going-past {whole} {left} {more} e g = record { done = g .done; grown = g .grown; is = ap (λ z. g .done ++ z) (sym e) ∙ g .is }
+
+pub going-ends : {whole left : List ℕ} {n r : ℕ} {o q : List ℕ} → left ≡ [] → Going whole left n o r q → Grown whole n o r q
+going-ends {whole} {left} e g = grown-as (sym (append-nil (g .done)) ∙ ap (λ z. g .done ++ z) (sym e) ∙ g .is) (g .grown)
+
+-- ---- a byte of the front written anew
+take-set : (n : ℕ) (xs : List ℕ) (i a : ℕ) → take n (set xs i a) ≡ set (take n xs) i a
+take-set n xs i a = by-cases (decLt i n) (take-set-lt n xs i a)
+    (λ h. take-set-le n xs i a (omega (arith, h)) ∙ sym (set-out (take n xs) i a (omega (arith, h, length-take n xs))))
+
+pub grown-set : {xs : List ℕ} {r : ℕ} {o q : List ℕ} (i a : ℕ) → Grown xs 0 o r q → Grown (set xs i a) 0 o r (set q i a)
+grown-set {xs} {r} {o} {q} i a g = record {
+  few = g .few;
+  size = length-set q i a ∙ g .size;
+  front = take-set r q i a ∙ ap (λ z. set z i a) (g .front) ∙ sym (take-set rosterSize xs i a);
+}
+
+-- ---- the front of an array that was filled from its start
+pub grown-whole : {xs : List ℕ} {r : ℕ} {o q : List ℕ} → length xs ≤ rosterSize → Grown xs 0 o r q → take r q ≡ xs
+grown-whole {xs} h g = g .front ∙ take-all rosterSize xs h
+
+pub grown-length : {xs : List ℕ} {r : ℕ} {o q : List ℕ} → length xs ≤ rosterSize → Grown xs 0 o r q → r ≡ length xs
+grown-length {xs} {r} {o} {q} h g = sym (length-take-le r q (omega (arith, g .few, g .size))) ∙ ap length (grown-whole h g)

@@ -1,0 +1,5 @@
+pub mod Growth
+pub mod Steps
+pub mod Rankings
+pub mod Places
+pub mod Gives
