@@ -33,7 +33,8 @@ pub fn top_wanted(
     while i < m {
         let s = sv[i] as usize;
         let t = st[i] as usize;
-        let k = s * EMPTY_RANK + rs[i] as usize;
+        let r = rs[i] as usize;
+        let k = s * EMPTY_RANK + r;
         if (!p[i] & ((rs[i] < ls[s]) & (rt[i] < lt[t]))) & (k < key) {
             top = i;
             key = k;

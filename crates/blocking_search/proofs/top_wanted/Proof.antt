@@ -42,19 +42,22 @@ element-copy-out-t c = omega (arith, c .before .before .before .pre .0 .edges)
 cast-t : tie.Need-cast-t Inv-loop μ-loop
 cast-t c = let l = c .before .before .before in omega (arith, l .before .pre .1 .ends (l .loop .i) (omega arith))
 
+element-copy-out-r : tie.Need-element-copy-out-r Inv-loop μ-loop
+element-copy-out-r c = omega (arith, c .before .before .before .before .pre .0 .edges)
+
+cast-r : tie.Need-cast-r Inv-loop μ-loop
+cast-r c = let l = c .before .before .before .before in omega (arith, l .before .pre .2 (l .loop .i) (omega arith))
+
+-- surveyor, stand and rank are small
 mul-k : tie.Need-mul-k Inv-loop μ-loop
-mul-k c = let l = c .before .before .before in omega (arith, l .before .pre .0 .ends (l .loop .i) (omega arith))
-
-element-copy-out-k : tie.Need-element-copy-out-k Inv-loop μ-loop
-element-copy-out-k c = omega (arith, c .before .before .before .before .pre .0 .edges)
-
-cast-k : tie.Need-cast-k Inv-loop μ-loop
-cast-k c = let l = c .before .before .before .before in omega (arith, l .before .pre .2 (l .loop .i) (omega arith))
+mul-k c =
+    let l = c .before .before .before .before in
+    omega (arith, l .before .pre .0 .ends (l .loop .i) (omega arith), l .before .pre .1 .ends (l .loop .i) (omega arith), l .before .pre .2 (l .loop .i) (omega arith))
 
 add-k : tie.Need-add-k Inv-loop μ-loop
 add-k c =
     let l = c .before .before .before .before in
-    omega (arith, l .before .pre .0 .ends (l .loop .i) (omega arith), l .before .pre .2 (l .loop .i) (omega arith))
+    omega (arith, l .before .pre .0 .ends (l .loop .i) (omega arith), l .before .pre .1 .ends (l .loop .i) (omega arith), l .before .pre .2 (l .loop .i) (omega arith))
 
 element-copy-out-if1 : tie.Need-element-copy-out-if1 Inv-loop μ-loop
 element-copy-out-if1 c = omega (arith, c .before .before .before .before .before .pre .0 .edges)
@@ -97,6 +100,6 @@ returns c =
 
 pub top-wanted-spec : {M : Type 1} → statement M
 top-wanted-spec =
-    tie.close (tie.spec Inv-loop μ-loop cast-key mul-key loop-holds element-copy-out-s cast-s element-copy-out-t cast-t mul-k element-copy-out-k cast-k
+    tie.close (tie.spec Inv-loop μ-loop cast-key mul-key loop-holds element-copy-out-s cast-s element-copy-out-t cast-t element-copy-out-r cast-r mul-k
     add-k element-copy-out-if1 element-copy-out-if1-2 element-copy-out-if1-3 element-copy-out-if1-4 element-copy-out-if1-5 add-i (λ c. omega arith)
     loop-again returns)
