@@ -8,3 +8,5 @@ pub mod Comparing
 pub mod Loads
 pub mod Outcomes
 pub mod Finding
+pub mod Changing
+pub mod ChangeSteps

@@ -1,6 +1,7 @@
 // The desk, document 01's session state: "The desk goes into each call by value and comes back: nothing loaded, a roster, or a roster and
 // a plan." What it holds is said by its bytes alone, so any field values may come in: a length above its array is cut to it, bytes that
 // are no roster are nothing loaded, and bytes that are no plan of the roster are no plan held. No call asks anything of its caller.
+mod changing;
 mod finding;
 mod held;
 mod store;

@@ -73,7 +73,7 @@ pub(crate) fn bare(g: Instance, refusal: u8) -> OnDesk
 }
 
 // "14 no plan held" before 15
-pub(crate) fn with_plan(g: Instance, plan: &[u8], short: bool) -> OnDesk
+pub fn with_plan(g: Instance, plan: &[u8], short: bool) -> OnDesk
     requires { ⌜ Loaded g ⌝ }
     ensures { λ r. ⌜ OnRoster g (now (plan .entry)) true short r ⌝ }
 {

@@ -53,6 +53,8 @@ bufferIn (D.loadPlan file) = file
 bufferIn (D.writeRosterTo b) = b
 bufferIn (D.writePlanTo b) = b
 bufferIn (D.find d l p v) = v
+bufferIn (D.join q f d l p v) = v
+bufferIn (D.leave n d l p v) = v
 bufferIn (D.compare a b) = a
 bufferIn D.blocking = []
 
