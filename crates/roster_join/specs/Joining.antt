@@ -22,7 +22,7 @@ use Rattle.theory_files.specs.ByLists.{fits-lists}
 use Rattle.theory_files.specs.Rosters.{read-write, read-fits}
 use Rattle.theory_files.specs.RosterInstance.{ns-small}
 use Rattle.theory_files.specs.Offsets.{listsStart, rankingSection, offsets, rankings-from}
-use Rattle.theory_files.specs.Joined.{fits-joined}
+use Rattle.theory_files.specs.Joined.{joined-counts, fits-joined}
 use Rattle.roster_parts.specs.declared.Changed.{Changed}
 use Rattle.roster_parts.specs.Rankings.{gatherFrom, rankings-are}
 use Rattle.roster_parts.specs.Places.{quotas-part, stands-part, surveyors-are, stands-are, lists-behind, lists-part}
@@ -30,20 +30,14 @@ use Rattle.roster_parts.specs.Gives.{Gives, gives-refused, Holds, gives-held}
 use Rattle.roster_join.specs.Entering.{withLast, entering, nodesWith, listsWith, rankingsWith, endAt, joinedBytes}
 use Rattle.roster_join.specs.Listing.{MadeBy}
 
-snoc-length : {A : Type 0} (xs : List A) (x : A) → length (xs ++ x ∷ []) ≡ suc (length xs)
-snoc-length xs x = omega (arith, length-append xs (x ∷ []))
-
 -- ---- the stands' lists: a tie of at most 32 has room for one more in its length byte
 one-entered : (s : ℕ) (b : Bool) (R : Ranking) → length (R .tied) ≤ 32
     → withLast (cond b (s ∷ []) []) R ≡ rankingBytes (cond b (record { strict = R .strict; tied = R .tied ++ s ∷ [] }) R)
-one-entered s true R h = ap₂ (λ n z. length (R .strict) ∷ n ∷ z) (more (length (R .tied)) h ∙ sym (snoc-length (R .tied) s)) (append-assoc (R .strict) (R .tied) (s ∷ []))
-  where
-    more : (n : ℕ) → n ≤ 32 → (n + 1) % 256 ≡ suc n
-    more n h = omega arith
-one-entered s false R h = ap₂ (λ n z. length (R .strict) ∷ n ∷ z) (same (length (R .tied)) h) (append-nil (entries R))
-  where
-    same : (n : ℕ) → n ≤ 32 → (n + 0) % 256 ≡ n
-    same n h = omega arith
+one-entered s true R h =
+    let n : (length (R .tied) + 1) % 256 ≡ length (R .tied ++ s ∷ []) = omega (arith, length-append (R .tied) (s ∷ [])) in
+    ap₂ (λ n z. length (R .strict) ∷ n ∷ z) n (append-assoc (R .strict) (R .tied) (s ∷ []))
+one-entered s false R h =
+    let n : (length (R .tied) + 0) % 256 ≡ length (R .tied) = omega arith in ap₂ (λ n z. length (R .strict) ∷ n ∷ z) n (append-nil (entries R))
 
 each-entered : (count s : ℕ) (xs : List ℕ) (j : ℕ) (ts : List Ranking) → count ≤ 32 → T (all? (rankingFits count) ts)
     → gatherFrom (entering (s ∷ []) (λ j. elem j xs)) j ts ≡ gather rankingBytes (entered s xs j ts)
@@ -67,7 +61,7 @@ module _ (f : List ℕ) (r : Roster) (e : writeRoster r ≡ f) (ok : T (fits r))
 
   nodes-are : nodesWith f ns nt q ≡ listBytes (r .quotasS ++ q ∷ []) ++ listBytes (r .quotasT)
   nodes-are =
-      let n : ns + 1 ≡ length (r .quotasS ++ q ∷ []) = omega (arith, snoc-length (r .quotasS) q) in
+      let n : ns + 1 ≡ length (r .quotasS ++ q ∷ []) = omega (arith, length-append (r .quotasS) (q ∷ [])) in
       ap₂ (λ x y. ((((ns + 1) ∷ []) ++ x) ++ q ∷ []) ++ y) (quotas-part f r e) (stands-part f r e)
       ∙ ap (λ k. k ∷ ((r .quotasS ++ q ∷ []) ++ listBytes (r .quotasT))) n
 
@@ -93,12 +87,8 @@ module _ (f : List ℕ) (r : Roster) (e : writeRoster r ≡ f) (ok : T (fits r))
   unfolding joined
   joined-gives hq room hs fit c h = gives-held (joined r q xs) (fits-joined r q xs ok hq room hs fit)
       (nodesWith f ns nt q) (listsWith f (listsStart r) (endAt f ns nt) (listBytes xs))
-      (rankingsWith f (endAt f ns nt + 2) nt ((ns + 1) ∷ []) (λ j. elem j xs)) nodes-are lists-are rankings-entered {c = c} (ns + 1) nt
-      (omega (arith, snoc-length (r .listsS) xs, fits-lists r ok .countS)) (entered-length (suc ns) 1 (r .listsT) ∙ fits-lists r ok .countT) h
-    where
-      entered-length : (s j : ℕ) (ts : List Ranking) → length (entered s xs j ts) ≡ length ts
-      entered-length s j [] = refl
-      entered-length s j (R ∷ ts) = ap suc (entered-length s (suc j) ts)
+      (rankingsWith f (endAt f ns nt + 2) nt ((ns + 1) ∷ []) (λ j. elem j xs)) nodes-are lists-are rankings-entered (ns + 1) nt
+      (omega (arith, joined-counts r q xs ok .0)) (joined-counts r q xs ok .1) h
 
 -- ---- the call on the roster that the file is
 module _ (r : Roster) (q : ℕ) (file : List ℕ) where
