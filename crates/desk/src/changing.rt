@@ -87,8 +87,23 @@ pub(crate) fn taken(desk: Desk, g: Instance, c: Changed, number: u8) -> Change
     }
 }
 
+// a surveyor joins; `short`: a buffer lent to the call is below its size
+pub(crate) fn joined(desk: Desk, short: bool, quota: u8, list: &[u8]) -> Change
+    ensures { λ r. ⌜ ChangedTo desk short (λ R. joinOn R quota (now (list .entry))) 0 r ⌝ }
+{
+    let l = held::loaded(desk, false, short);
+    let n = l.refusal;
+    if 0 < n {
+        return unchanged(desk, n);
+    }
+    let array = desk.roster;
+    let file = held::front(&array, desk.roster_len);
+    let c = roster_join::join(file, quota, list);
+    taken(desk, l.g, c, 0)
+}
+
 // a surveyor leaves; `short`: a buffer lent to the call is below its size
-pub(crate) fn without(desk: Desk, short: bool, number: u8) -> Change
+pub(crate) fn departed(desk: Desk, short: bool, number: u8) -> Change
     ensures { λ r. ⌜ ChangedTo desk short (λ R. leaveOn R number) number r ⌝ }
 {
     let l = held::loaded(desk, false, short);
@@ -131,6 +146,24 @@ pub(crate) fn found_on(
     super::core(desk, room, left, plan, rival)
 }
 
+// All of a join but the lent diary, of which it is told the length.
+pub(crate) fn join_core(
+    desk: Desk,
+    quota: u8,
+    list: &[u8],
+    room: usize,
+    left: &mut [u8],
+    plan: &mut [u8],
+    rival: &mut [u8],
+) -> CoreReply
+    ensures { λ r. ⌜ ChangeDone desk (λ R. joinOn R quota (now (list .entry))) 0 room (now (left .entry)) (now (plan .entry)) (now (rival .entry)) r
+        (now (left .exit)) (now (plan .exit)) (now (rival .exit)) ⌝ }
+{
+    let small = (left.len() < LEFT_SIZE) | ((plan.len() < PLAN_SIZE) | (rival.len() < PLAN_SIZE));
+    let c = joined(desk, (room < DIARY_SIZE) | small, quota, list);
+    found_on(c, room, left, plan, rival)
+}
+
 // All of a leave but the lent diary, of which it is told the length.
 pub(crate) fn leave_core(
     desk: Desk,
@@ -144,6 +177,6 @@ pub(crate) fn leave_core(
         (now (plan .exit)) (now (rival .exit)) ⌝ }
 {
     let small = (left.len() < LEFT_SIZE) | ((plan.len() < PLAN_SIZE) | (rival.len() < PLAN_SIZE));
-    let c = without(desk, (room < DIARY_SIZE) | small, number);
+    let c = departed(desk, (room < DIARY_SIZE) | small, number);
     found_on(c, room, left, plan, rival)
 }

@@ -4,7 +4,7 @@ use native.Mathlib.Omega.{arith}
 use mathlib.Core.Path.{_≡_, refl, sym, ap, ap₂, _∙_, subst}
 use mathlib.Core.Bool.{Bool, true, false, cond, _||_}
 use mathlib.Core.List.{List, [], _∷_, _++_, map, append-assoc, append-nil}
-use lib.ListN.{length, take, drop, getD, set, length-append, length-drop, length-map, length-set}
+use lib.ListN.{length, take, drop, getD, set, length-append, length-drop, length-set}
 use lib.Seq.{length-take-le, set-append-left, set-split, split-at}
 use lib.Dec.{T, eqb, ltb}
 use borrow.Author.Tests.{lt-ltb, le-ltb, eq-eqb, ne-eqb}
@@ -19,7 +19,7 @@ use Rattle.theory_files.specs.Reads.{isBytes}
 use Rattle.theory_files.specs.ByLists.{fits-lists}
 use Rattle.theory_files.specs.Rosters.{read-write, read-fits}
 use Rattle.theory_files.specs.Offsets.{listsStart, rankingSection, offsets, rankings-from}
-use Rattle.theory_files.specs.Departed.{fits-departed}
+use Rattle.theory_files.specs.Departed.{departed-counts, fits-departed}
 use Rattle.roster_parts.specs.declared.Changed.{Changed}
 use Rattle.roster_parts.specs.Rankings.{gatherFrom, rankings-are}
 use Rattle.roster_parts.specs.Places.{nodes-part, surveyors-are, stands-are, lists-behind, lists-part}
@@ -110,8 +110,7 @@ module _ (f : List ℕ) (r : Roster) (e : writeRoster r ≡ f) (ok : T (fits r))
       (rankingsLeft f (endAt f ns nt (suc v) + 2) nt (suc v))
       (nodes-are ∙ ap (λ k. listBytes (set (r .quotasS) k 0) ++ listBytes (r .quotasT)) (sym (one-less v)))
       (lists-are ∙ ap (λ k. gather listBytes (set (r .listsS) k [])) (sym (one-less v)))
-      rankings-left {c = c} ns nt (length-set (r .listsS) (suc v - 1) [] ∙ fits-lists r ok .countS)
-      (length-map (r .listsT) (leftBy (suc v)) ∙ fits-lists r ok .countT) h
+      rankings-left ns nt (departed-counts r v .0) (departed-counts r v .1) h
 
 -- ---- the call on the roster that the file is
 module _ (r : Roster) (s : ℕ) where
@@ -148,4 +147,4 @@ module _ (f : List ℕ) (isB : T (isBytes f)) (r : Roster) (a : readRoster f ≡
     where
       by-number : (s : ℕ) → 0 < s → s ≤ surveyorCount r → Holds (leftBytes f (surveyorCount r) (standCount r) s) c → Gives (accepted (departed r s)) c
       by-number zero h l k = absurd (omega arith)
-      by-number (suc v) h l k = left-gives f r (read-write f r isB a) (read-fits f r isB a) v (omega arith) {c = c} k
+      by-number (suc v) h l k = left-gives f r (read-write f r isB a) (read-fits f r isB a) v (omega arith) k

@@ -9,8 +9,9 @@ use lib.Dec.{T}
 use Rattle.lists.specs.Keep.{gather}
 use Rattle.model.specs.Limits.{rosterSize}
 use Rattle.model.specs.Reading.{Reading, accepted, refused}
-use Rattle.model.specs.Roster.{Roster, totalS, totalT, fits}
+use Rattle.model.specs.Roster.{Roster, surveyorCount, standCount, totalS, totalT, fits}
 use Rattle.model.specs.RosterFile.{listBytes, rankingBytes, wideBytes, readRoster, writeRoster}
+use Rattle.theory_files.specs.ByLists.{fits-lists}
 use Rattle.theory_files.specs.Rosters.{lists-size, rankings-size, roster-size}
 use Rattle.roster_parts.specs.declared.Changed.{Changed}
 use Rattle.roster_parts.specs.Growth.{sectionOf, Grown, grown-then, grown-as}
@@ -52,41 +53,41 @@ held ns nt {nodes} {lists} {rankings} n l s t u =
 -- a roster within the limits has room
 module _ (H : Roster) (ok : T (fits H)) (nodes lists rankings : List ℕ) (n : nodes ≡ listBytes (H .quotasS) ++ listBytes (H .quotasT))
     (l : lists ≡ gather listBytes (H .listsS)) (t : rankings ≡ gather rankingBytes (H .listsT)) where
-  abbrev S : List ℕ
-  S = gather listBytes (H .listsS)
+  abbrev listed : List ℕ
+  listed = gather listBytes (H .listsS)
 
-  abbrev T′ : List ℕ
-  T′ = gather rankingBytes (H .listsT)
+  abbrev ranked : List ℕ
+  ranked = gather rankingBytes (H .listsT)
 
   abbrev sections : List ℕ
-  sections = (wideBytes (totalS (H .listsS)) ++ S) ++ (wideBytes (totalT (H .listsT)) ++ T′)
+  sections = (wideBytes (totalS (H .listsS)) ++ listed) ++ (wideBytes (totalT (H .listsT)) ++ ranked)
 
-  sections-fit : (length S ≤ rosterSize) × (length T′ ≤ rosterSize)
+  sections-fit : (length listed ≤ rosterSize) × (length ranked ≤ rosterSize)
   unfolding writeRoster
   sections-fit =
       let h = roster-size H ok in
       let a = length-append (listBytes (H .quotasS)) (listBytes (H .quotasT) ++ sections) in
       let b = length-append (listBytes (H .quotasT)) sections in
-      let c = length-append (wideBytes (totalS (H .listsS)) ++ S) (wideBytes (totalT (H .listsT)) ++ T′) in
+      let c = length-append (wideBytes (totalS (H .listsS)) ++ listed) (wideBytes (totalT (H .listsT)) ++ ranked) in
       (omega arith, omega arith)
 
   written : rosterOf (length (H .listsS)) (length (H .listsT)) nodes lists rankings ≡ writeRoster H
   unfolding writeRoster
   written =
       let (hs, ht) = sections-fit in
-      let a : length S - length (H .listsS) ≡ totalS (H .listsS) = omega (arith, lists-size (H .listsS)) in
-      let b : length T′ - 2 * length (H .listsT) ≡ totalT (H .listsT) = omega (arith, rankings-size (H .listsT)) in
+      let a : length listed - length (H .listsS) ≡ totalS (H .listsS) = omega (arith, lists-size (H .listsS)) in
+      let b : length ranked - 2 * length (H .listsT) ≡ totalT (H .listsT) = omega (arith, rankings-size (H .listsT)) in
       ap₂ (λ x y. x ++ y) n
       (ap₂ (λ x y. x ++ y)
-      (ap (sectionOf (length (H .listsS))) (ap (take rosterSize) l ∙ take-all rosterSize S hs) ∙ ap (λ k. wideBytes k ++ S) a)
-      (ap (sectionOf (2 * length (H .listsT))) (ap (take rosterSize) t ∙ take-all rosterSize T′ ht) ∙ ap (λ k. wideBytes k ++ T′) b))
+      (ap (sectionOf (length (H .listsS))) (ap (take rosterSize) l ∙ take-all rosterSize listed hs) ∙ ap (λ k. wideBytes k ++ listed) a)
+      (ap (sectionOf (2 * length (H .listsT))) (ap (take rosterSize) t ∙ take-all rosterSize ranked ht) ∙ ap (λ k. wideBytes k ++ ranked) b))
       ∙ append-assoc (listBytes (H .quotasS)) (listBytes (H .quotasT)) sections
 
-  pub gives-held : {c : Changed} (ns nt : ℕ) → length (H .listsS) ≡ ns → length (H .listsT) ≡ nt → Holds (rosterOf ns nt nodes lists rankings) c
+  pub gives-held : {c : Changed} (ns nt : ℕ) → surveyorCount H ≡ ns → standCount H ≡ nt → Holds (rosterOf ns nt nodes lists rankings) c
       → Gives (accepted H) c
   gives-held {c} ns nt a b h = (
     h .none,
     h .few,
-    h .front ∙ ap (take rosterSize) (ap₂ (λ x y. rosterOf x y nodes lists rankings) (sym a) (sym b) ∙ written)
+    h .front ∙ ap (take rosterSize) (ap₂ (λ x y. rosterOf x y nodes lists rankings) (sym (fits-lists H ok .countS ∙ a)) (sym (fits-lists H ok .countT ∙ b)) ∙ written)
         ∙ take-all rosterSize (writeRoster H) (roster-size H ok),
   )

@@ -16,7 +16,7 @@ use Rattle.model.specs.RosterFile.{listBytes, rankingBytes}
 use Rattle.model.specs.Edges.{position}
 use Rattle.theory_files.specs.Cells.{Within}
 use Rattle.theory_files.specs.Offsets.{head-is, tail-is, part-is, rest-is}
-use Rattle.roster_positions.specs.Tables.{column, stamped, listsStamped, listsEnd, strictStamped, nextRanks, behind}
+use Rattle.roster_positions.specs.Tables.{column, stamped, listsStamped, listsEnd, strictStamped, nextRanks, rankingAt, behind}
 
 -- ---- one list
 pub stamped-length : (row : ℕ) (xs : List ℕ) (k : ℕ) (t : List ℕ) → length (stamped row xs k t) ≡ length t
@@ -125,30 +125,26 @@ unfoldable pub nextAll : ℕ → List Ranking → List ℕ → List ℕ
 nextAll j [] t = t
 nextAll j (R ∷ ts) t = nextAll (suc j) ts (set t j ((length (R .strict) + 1) % 256))
 
-pub rankings-are : (ts : List Ranking) (f : List ℕ) (at : ℕ) (post : List ℕ) → drop at f ≡ gather rankingBytes ts ++ post → (row j : ℕ) (t u : List ℕ)
-    → (strictStamped f (length ts) row at t ≡ allStamped row (strictLists ts) t) × (nextRanks f (length ts) j at u ≡ nextAll j ts u)
-unfolding strictStamped nextRanks allStamped nextAll
-rankings-are [] f at post e row j t u = (refl, refl)
-rankings-are (R ∷ ts) f at post e row j t u =
-    let more = gather rankingBytes ts in
-    given (head-is f at (length (R .strict)) (length (R .tied) ∷ ((entries R ++ more) ++ post)) e) (λ h.
-    given (tail-is f at (length (R .strict)) (length (R .tied) ∷ ((entries R ++ more) ++ post)) e) (λ d.
-    given (head-is f (at + 1) (length (R .tied)) ((entries R ++ more) ++ post) d) (λ g.
-    given (ap (λ k. drop k f) (two at) ∙ tail-is f (at + 1) (length (R .tied)) ((entries R ++ more) ++ post) d ∙ append-assoc (entries R) more post)
-    (λ (d₂ : drop (at + 2) f ≡ entries R ++ (more ++ post)).
-    given (d₂ ∙ append-assoc (R .strict) (R .tied) (more ++ post)) (λ d₃.
+-- a stand's list at its place, and what follows it
+pub ranking-is : (f : List ℕ) (at : ℕ) (R : Ranking) (more : List ℕ) → drop at f ≡ rankingBytes R ++ more
+    → (rankingAt f at ≡ R) × (drop (behind f at) f ≡ more)
+ranking-is f at R more e =
+    given (head-is f at (length (R .strict)) (length (R .tied) ∷ (entries R ++ more)) e) (λ h.
+    given (tail-is f at (length (R .strict)) (length (R .tied) ∷ (entries R ++ more)) e) (λ d.
+    given (head-is f (at + 1) (length (R .tied)) (entries R ++ more) d) (λ g.
+    given (ap (λ k. drop k f) (two at) ∙ tail-is f (at + 1) (length (R .tied)) (entries R ++ more) d ∙ append-assoc (R .strict) (R .tied) more) (λ d₂.
     given (
-      part-is f (at + 2) (length (R .strict)) (R .strict) (R .tied ++ (more ++ post)) d₃ refl,
-      rest-is f (at + 2) (length (R .strict)) (R .strict) (R .tied ++ (more ++ post)) d₃ refl,
-    )
-    (λ (x, y).
-    given (rest-is f (at + 2 + length (R .strict)) (length (R .tied)) (R .tied) (more ++ post) y refl) (λ z.
-    given
-    (rankings-are ts f (behind f at) post
-    (ap (λ k. drop k f) (move at (getD f at 0) (getD f (at + 1) 0) (length (R .strict)) (length (R .tied)) h g) ∙ z) (row + 32) (suc j)
-    (stamped row (take (getD f at 0) (drop (at + 2) f)) 1 t) (set u j ((getD f at 0 + 1) % 256))) (λ (p, q). (
-      p ∙ ap (λ z. allStamped (row + 32) (strictLists ts) (stamped row z 1 t)) (ap (λ k. take k (drop (at + 2) f)) h ∙ x),
-      q ∙ ap (λ k. nextAll (suc j) ts (set u j ((k + 1) % 256))) h,
+      part-is f (at + 2) (length (R .strict)) (R .strict) (R .tied ++ more) d₂ refl,
+      rest-is f (at + 2) (length (R .strict)) (R .strict) (R .tied ++ more) d₂ refl,
+    ) (λ (x, d₃).
+    given (
+      part-is f (at + 2 + length (R .strict)) (length (R .tied)) (R .tied) more d₃ refl,
+      rest-is f (at + 2 + length (R .strict)) (length (R .tied)) (R .tied) more d₃ refl,
+    ) (λ (y, d₄).
+    given (ap (λ k. take k (drop (at + 2) f)) h ∙ x) (λ p.
+    given (ap₂ (λ a b. take b (drop (at + 2 + a) f)) h g ∙ y) (λ q. (
+      λ k. record { strict = p k; tied = q k },
+      ap (λ k. drop k f) (move at (getD f at 0) (getD f (at + 1) 0) (length (R .strict)) (length (R .tied)) h g) ∙ d₄,
     )))))))))
   where
     two : (at : ℕ) → at + 2 ≡ at + 1 + 1
@@ -156,6 +152,18 @@ rankings-are (R ∷ ts) f at post e row j t u =
 
     move : (at a b m n : ℕ) → a ≡ m → b ≡ n → at + (a + b + 2) ≡ at + 2 + m + n
     move at a b m n d e = omega arith
+
+pub rankings-are : (ts : List Ranking) (f : List ℕ) (at : ℕ) (post : List ℕ) → drop at f ≡ gather rankingBytes ts ++ post → (row j : ℕ) (t u : List ℕ)
+    → (strictStamped f (length ts) row at t ≡ allStamped row (strictLists ts) t) × (nextRanks f (length ts) j at u ≡ nextAll j ts u)
+unfolding strictStamped nextRanks allStamped nextAll
+rankings-are [] f at post e row j t u = (refl, refl)
+rankings-are (R ∷ ts) f at post e row j t u =
+    given (head-is f at (length (R .strict)) (length (R .tied) ∷ ((entries R ++ gather rankingBytes ts) ++ post)) e) (λ h.
+    given (ranking-is f at R (gather rankingBytes ts ++ post) (e ∙ append-assoc (rankingBytes R) (gather rankingBytes ts) post)) (λ (p, d).
+    given (rankings-are ts f (behind f at) post d (row + 32) (suc j) (stamped row (rankingAt f at .strict) 1 t) (set u j ((getD f at 0 + 1) % 256))) (λ (x, y). (
+      x ∙ ap (λ Q. allStamped (row + 32) (strictLists ts) (stamped row (Q .strict) 1 t)) p,
+      y ∙ ap (λ k. nextAll (suc j) ts (set u j ((k + 1) % 256))) h,
+    ))))
 
 -- ---- the ranks behind the strict parts, one by one
 next-before : (ts : List Ranking) (j : ℕ) (t : List ℕ) (c : ℕ) → c < j → getD (nextAll j ts t) c 0 ≡ getD t c 0

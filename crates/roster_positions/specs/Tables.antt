@@ -3,6 +3,7 @@
 use Prim.Native.Nat.{ℕ, zero, suc, _+_, _%_}
 use mathlib.Core.List.{List, [], _∷_}
 use lib.ListN.{take, drop, getD, set}
+use Rattle.model.specs.Roster.{Ranking}
 
 -- the place of an entry in its row
 abbrev pub column : ℕ → ℕ
@@ -27,10 +28,14 @@ listsEnd f (suc n) at = listsEnd f n (at + (getD f at 0 + 1))
 abbrev pub behind : List ℕ → ℕ → ℕ
 behind f at = at + (getD f at 0 + getD f (at + 1) 0 + 2)
 
+-- the stand's list at a place of the file: "the strict length byte, the tie length byte, the strict surveyors (..), the tied ones"
+abbrev pub rankingAt : List ℕ → ℕ → Ranking
+rankingAt f at = record { strict = take (getD f at 0) (drop (at + 2) f); tied = take (getD f (at + 1) 0) (drop (at + 2 + getD f at 0) f) }
+
 -- the strict parts of n stands' lists from a place of the file on
 unfoldable pub strictStamped : List ℕ → ℕ → ℕ → ℕ → List ℕ → List ℕ
 strictStamped f zero row at t = t
-strictStamped f (suc n) row at t = strictStamped f n (row + 32) (behind f at) (stamped row (take (getD f at 0) (drop (at + 2) f)) 1 t)
+strictStamped f (suc n) row at t = strictStamped f n (row + 32) (behind f at) (stamped row (rankingAt f at .strict) 1 t)
 
 -- and the rank behind each of them
 unfoldable pub nextRanks : List ℕ → ℕ → ℕ → ℕ → List ℕ → List ℕ

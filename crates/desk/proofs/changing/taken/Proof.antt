@@ -1,26 +1,21 @@
+-- `desk::changing::taken` meets its contract. Assumes nothing.
+use mathlib.Core.Path.{refl}
+use Rattle.instance.specs.Decoded.{shownBy}
+use Rattle.desk.specs.ChangeSteps.{taken-refused, taken-stored}
 use borrow.Author.Needs.{needs}
 use Rattle.desk.proofs.changing.taken.Statement.{statement}
 use Rattle.desk.proofs.changing.taken.Tie as tie
-use Rattle.desk.proofs.changing.taken.Reads as reads
-use Rattle.desk.proofs.changing.taken.Lts as lts
-use Rattle.desk.proofs.changing.stored.Reads as stored-reads
-use Rattle.desk.proofs.changing.unchanged.Reads as unchanged-reads
 
--- src/changing.rt:80:9
-unchanged-requires : tie.Need-unchanged-requires
-unchanged-requires c κs = search needs
-
--- src/changing.rt:80:9
 returns : tie.Need-returns
-returns c = ?
+returns c =
+    let a = c .before .before .args in
+    taken-refused (shownBy (a .g)) (a .desk) (a .number) (a .c) (c .unchanged .result) (c .before .if1 .taken) (c .unchanged .ensures)
 
--- src/changing.rt:83:9
-stored-requires : tie.Need-stored-requires
-stored-requires c κs = search needs
-
--- src/changing.rt:74:1
 returns-2 : tie.Need-returns-2
-returns-2 c = ?
+returns-2 c =
+    let a = c .before .before .before .args in
+    taken-stored (shownBy (a .g)) (a .desk) (a .number) (a .c) (record { refusal = 0; desk = c .stored .result }) (c .before .before .if1 .left) refl
+    (c .stored .ensures)
 
 pub taken-spec : {M : Type 1} → statement M
-taken-spec = tie.close (tie.spec unchanged-requires returns stored-requires returns-2)
+taken-spec = tie.close (tie.spec (λ c κs. search needs) returns (λ c κs. search needs) returns-2)

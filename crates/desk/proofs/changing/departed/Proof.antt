@@ -1,0 +1,27 @@
+-- `desk::changing::departed` meets its contract. Assumes nothing.
+use Rattle.model.specs.Changes.{leaveOn}
+use Rattle.desk_loaded.specs.OnDesk.{its-roster}
+use Rattle.desk.specs.Calls.{arrays-are}
+use Rattle.desk.specs.ChangeSteps.{change-refused, change-taken}
+use borrow.Author.Needs.{needs}
+use Rattle.desk.proofs.changing.departed.Statement.{statement}
+use Rattle.desk.proofs.changing.departed.Tie as tie
+
+returns : tie.Need-returns
+returns c =
+    let a = c .before .before .before .args in
+    change-refused (a .desk) (a .short) (λ R. leaveOn R (a .number)) (a .number) (c .before .before .loaded .ensures) (c .before .if1 .taken) (c .unchanged .ensures)
+
+leave-requires : tie.Need-leave-requires
+leave-requires c κs = ?
+
+taken-requires : tie.Need-taken-requires
+taken-requires c κs = ?
+
+returns-2 : tie.Need-returns-2
+returns-2 c = ?
+
+pub departed-spec : {M : Type 1} → statement M
+departed-spec =
+    tie.close (tie.spec (λ c κs. search needs) (λ c κs. search needs) returns (λ c. search needs) (λ c κs. search needs) leave-requires taken-requires
+    returns-2)
