@@ -13,7 +13,7 @@ returns c = record {
 
 returns-2 : tie.Need-returns-2
 returns-2 c = record {
-  refuses = λ h. absurd (let z = c .before .before .before .before .before .before .before .if1 .left in let z : ⊥ = omega arith in z);
+  refuses = λ h. absurd (let z = c .before .before .before .before .before .before .before .before .before .before .if1 .left in let z : ⊥ = omega arith in z);
   finds = λ z. c .before .before .before .before .before .before .core .ensures;
 }
 

@@ -1,5 +1,6 @@
 -- `desk::changing::stored` meets its contract. Assumes nothing.
-use mathlib.Core.Path.{refl, ap, _∙_}
+use mathlib.Core.Path.{_≡_, refl, ap, _∙_, subst}
+use mathlib.Core.List.{[]}
 use Rattle.model.specs.PlanFile.{readPlan}
 use Rattle.instance.specs.Decoded.{shownBy}
 use Rattle.desk.specs.Changing.{lessOf}
@@ -9,13 +10,27 @@ use Rattle.desk.proofs.changing.stored.Statement.{statement}
 use Rattle.desk.proofs.changing.stored.Tie as tie
 
 returns : tie.Need-returns
-returns c = ?
+returns c =
+    let a = c .before .before .before .before .before .before .args in
+    let f = c .before .before .before .front in
+    let G = shownBy (a .g) in
+    (refl, subst (λ file. [] ≡ lessOf G (a .number) (readPlan G file)) (f .ensures)
+    (no-plan (a .g) (f .result .now) (c .before .before .with-plan .ensures) (a .number) (c .if1 .taken)))
 
 carried-requires : tie.Need-carried-requires
-carried-requires c κs = ?
+carried-requires c κs =
+    let s = c .before .before .before .before .before .before .before .before in
+    (s .pre, plan-few (s .args .g) (c .before .before .before .before .before .front .result .now) (c .before .before .before .before .with-plan .ensures) (s .pre) (c .before .before .if1 .left))
 
 returns-2 : tie.Need-returns-2
-returns-2 c = ?
+returns-2 c =
+    let s = c .before .before .before .before .before .before .before .before .before .before in
+    let a = s .args in
+    let f = c .before .before .before .before .before .before .before .front in
+    let G = shownBy (a .g) in
+    let k = c .before .carried in
+    (refl, plan-less (a .g) (f .result .now) (c .before .before .before .before .before .before .with-plan .ensures) (s .pre) (c .before .before .before .before .if1 .left) (a .number) (k .result) (k .ensures)
+    ∙ ap (λ file. lessOf G (a .number) (readPlan G file)) (f .ensures))
 
 pub stored-spec : {M : Type 1} → statement M
 stored-spec = tie.close (tie.spec (λ c. search needs) (λ c κs. search needs) (λ c κs. search needs) returns carried-requires returns-2)
