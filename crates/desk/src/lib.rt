@@ -7,12 +7,13 @@ mod held;
 mod store;
 
 ghost use mathlib.Core.Path.{_≡_};
-ghost use Rattle.model.specs.Desk.{opening, loadRoster, loadPlan, writeRosterTo, writePlanTo, compare, blocking};
+ghost use Rattle.model.specs.Desk.{opening, loadRoster, loadPlan, writeRosterTo, writePlanTo, join, leave, compare, blocking};
 ghost use Rattle.answers.specs.FileCases.{fileShown};
 ghost use Rattle.answers.specs.WrittenCases.{writtenShown};
 ghost use Rattle.answers.specs.ComparisonCases.{comparisonShown};
 ghost use Rattle.answers.specs.BlockedCases.{blockedShown};
 ghost use Rattle.desk.specs.Held.{heldOf};
+ghost use Rattle.desk.specs.Changes.{Changes};
 ghost use Rattle.desk.specs.Comparing.{Compares};
 ghost use Rattle.desk.specs.Finding.{Done, Finds};
 ghost use Rattle.desk.specs.Judging.{Judges};
@@ -289,6 +290,41 @@ impl Desk {
             (now (plan .exit)) (now (rival .exit)) ⌝ }
     {
         let c = core(self, diary.len(), left, plan, rival);
+        diary::fill(diary, c.flat, c.steps);
+        c.reply
+    }
+
+    // A surveyor joins, with a quota and a list file: a length byte, then stand numbers, best first.
+    pub fn join(
+        self,
+        quota: u8,
+        list: &[u8],
+        diary: &mut [Step],
+        left: &mut [u8],
+        plan: &mut [u8],
+        rival: &mut [u8],
+    ) -> FindReply
+        ensures { λ r. ⌜ Changes self (join quota (now (list .entry))) (now (diary .entry)) (now (left .entry)) (now (plan .entry)) (now (rival .entry)) r
+            (now (diary .exit)) (now (left .exit)) (now (plan .exit)) (now (rival .exit)) ⌝ }
+    {
+        let c = changing::join_core(self, quota, list, diary.len(), left, plan, rival);
+        diary::fill(diary, c.flat, c.steps);
+        c.reply
+    }
+
+    // The surveyor of a number leaves and keeps the number.
+    pub fn leave(
+        self,
+        number: u8,
+        diary: &mut [Step],
+        left: &mut [u8],
+        plan: &mut [u8],
+        rival: &mut [u8],
+    ) -> FindReply
+        ensures { λ r. ⌜ Changes self (leave number) (now (diary .entry)) (now (left .entry)) (now (plan .entry)) (now (rival .entry)) r (now (diary .exit))
+            (now (left .exit)) (now (plan .exit)) (now (rival .exit)) ⌝ }
+    {
+        let c = changing::leave_core(self, number, diary.len(), left, plan, rival);
         diary::fill(diary, c.flat, c.steps);
         c.reply
     }

@@ -13,9 +13,11 @@ returns : tie.Need-returns
 returns c =
     let a = c .before .before .before .before .before .before .args in
     let f = c .before .before .before .front in
-    let G = shownBy (a .g) in
-    (refl, subst (λ file. [] ≡ lessOf G (a .number) (readPlan G file)) (f .ensures)
-    (no-plan (a .g) (f .result .now) (c .before .before .with-plan .ensures) (a .number) (c .if1 .taken)))
+    let G = shownBy (a .g) in (
+      refl,
+      subst (λ file. [] ≡ lessOf G (a .number) (readPlan G file)) (f .ensures)
+          (no-plan (a .g) (f .result .now) (c .before .before .with-plan .ensures) (a .number) (c .if1 .taken)),
+    )
 
 carried-requires : tie.Need-carried-requires
 carried-requires c κs =
@@ -28,9 +30,11 @@ returns-2 c =
     let a = s .args in
     let f = c .before .before .before .before .before .before .before .front in
     let G = shownBy (a .g) in
-    let k = c .before .carried in
-    (refl, plan-less (a .g) (f .result .now) (c .before .before .before .before .before .before .with-plan .ensures) (s .pre) (c .before .before .before .before .if1 .left) (a .number) (k .result) (k .ensures)
-    ∙ ap (λ file. lessOf G (a .number) (readPlan G file)) (f .ensures))
+    let k = c .before .carried in (
+      refl,
+      plan-less (a .g) (f .result .now) (c .before .before .before .before .before .before .with-plan .ensures) (s .pre) (c .before .before .before .before .if1 .left) (a .number) (k .result) (k .ensures)
+          ∙ ap (λ file. lessOf G (a .number) (readPlan G file)) (f .ensures),
+    )
 
 pub stored-spec : {M : Type 1} → statement M
 stored-spec = tie.close (tie.spec (λ c. search needs) (λ c κs. search needs) (λ c κs. search needs) returns carried-requires returns-2)
