@@ -22,7 +22,7 @@ use Rattle.desk.specs.declared.FindReply.{FindReply}
 use Rattle.desk.specs.declared.CoreReply.{CoreReply}
 use Rattle.desk.specs.Held.{rosterBytes, heldOf}
 use Rattle.desk.specs.Replies.{answered, lentThen, isAccepted, Replied}
-use Rattle.desk.specs.Changing.{ToRoster, ChangeDone}
+use Rattle.desk.specs.Changing.{ToRoster, ChangeDone, JoinDone}
 
 -- `call` is join with its quota and its list, or leave with its number
 pub record Changes (d : Desk) (call : Lends) (s : List Step) (l p v : List ℕ) (r : FindReply) (s′ : List Step) (l′ p′ v′ : List ℕ) : Type 0 where
@@ -40,10 +40,10 @@ pub within-change : (d : Desk) (change : ToRoster) (n room : ℕ) (l p v : List 
     → ChangeDone d change n room l p v c l′ p′ v′ → (c .steps ≤ 1024) × (c .steps ≤ room)
 within-change d change n room l p v c l′ p′ v′ D = ?
 
-pub joins : (d : Desk) (q : ℕ) (file : List ℕ) → T (isBytes file) → (s : List Step) (l p v : List ℕ) (c : CoreReply) (s′ : List Step) (l′ p′ v′ : List ℕ)
-    → ChangeDone d (λ R. joinOn R q file) 0 (length s) l p v c l′ p′ v′ → s′ ≡ onto (stepsIn (c .steps) (c .flat)) s
+pub joins : (d : Desk) (q : ℕ) (file : List ℕ) (s : List Step) (l p v : List ℕ) (c : CoreReply) (s′ : List Step) (l′ p′ v′ : List ℕ)
+    → JoinDone d q file (length s) l p v c l′ p′ v′ → s′ ≡ onto (stepsIn (c .steps) (c .flat)) s
     → Changes d (join q file) s l p v (c .reply) s′ l′ p′ v′
-joins d q file isB s l p v c s′ l′ p′ v′ D w = ?
+joins d q file s l p v c s′ l′ p′ v′ (isB, D) w = ?
 
 pub leaves : (d : Desk) (n : ℕ) (s : List Step) (l p v : List ℕ) (c : CoreReply) (s′ : List Step) (l′ p′ v′ : List ℕ)
     → ChangeDone d (λ R. leaveOn R n) n (length s) l p v c l′ p′ v′ → s′ ≡ onto (stepsIn (c .steps) (c .flat)) s

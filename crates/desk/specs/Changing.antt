@@ -5,14 +5,17 @@ use mathlib.Core.Path.{_≡_}
 use mathlib.Core.Bool.{Bool, true, false}
 use mathlib.Core.List.{List, []}
 use lib.ListN.{take}
+use lib.Dec.{T}
 use Rattle.model.specs.Reading.{Reading, accepted, refused}
 use Rattle.model.specs.Roster.{Roster}
 use Rattle.model.specs.RosterFile.{readRoster, writeRoster}
 use Rattle.model.specs.Edges.{instanceOf}
 use Rattle.model.specs.Instance.{Instance}
+use Rattle.model.specs.Changes.{joinOn}
 use Rattle.model.specs.Plans.{Plan}
 use Rattle.model.specs.PlanFile as plans
 use Rattle.model.specs.PlanFile.{readPlan}
+use Rattle.theory_files.specs.Reads.{isBytes}
 use Rattle.theory_files.specs.Carried.{besides}
 use Rattle.roster_parts.specs.declared.Changed.{Changed}
 use Rattle.desk.specs.declared.Desk.{Desk}
@@ -66,3 +69,7 @@ pub record ChangeDone (d : Desk) (change : ToRoster) (s room : ℕ) (l p v : Lis
   pub made : Change
   pub changed : ChangedTo d (short room l p v) change s made
   pub found : FoundOn made room l p v r l′ p′ v′
+
+-- a joiner's list is bytes
+abbrev pub JoinDone : Desk → (q : ℕ) (file : List ℕ) (room : ℕ) (l p v : List ℕ) → CoreReply → (l′ p′ v′ : List ℕ) → Type 0
+JoinDone d q file room l p v r l′ p′ v′ = T (isBytes file) × ChangeDone d (λ R. joinOn R q file) 0 room l p v r l′ p′ v′

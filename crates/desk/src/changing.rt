@@ -8,7 +8,7 @@ ghost use Rattle.instance.specs.Decoded.{shownBy};
 ghost use Rattle.instance.specs.Loaded.{Loaded};
 ghost use Rattle.roster_parts.specs.Gives.{Gives};
 ghost use Rattle.desk.specs.Held.{rosterBytes, planBytes};
-ghost use Rattle.desk.specs.Changing.{Unchanged, StoredAs, Taken, ChangedTo, FoundOn, ChangeDone};
+ghost use Rattle.desk.specs.Changing.{Unchanged, StoredAs, Taken, ChangedTo, FoundOn, ChangeDone, JoinDone};
 use super::CoreReply;
 use super::Desk;
 use super::FindReply;
@@ -156,8 +156,8 @@ pub(crate) fn join_core(
     plan: &mut [u8],
     rival: &mut [u8],
 ) -> CoreReply
-    ensures { λ r. ⌜ ChangeDone desk (λ R. joinOn R quota (now (list .entry))) 0 room (now (left .entry)) (now (plan .entry)) (now (rival .entry)) r
-        (now (left .exit)) (now (plan .exit)) (now (rival .exit)) ⌝ }
+    ensures { λ r. ⌜ JoinDone desk quota (now (list .entry)) room (now (left .entry)) (now (plan .entry)) (now (rival .entry)) r (now (left .exit))
+        (now (plan .exit)) (now (rival .exit)) ⌝ }
 {
     let small = (left.len() < LEFT_SIZE) | ((plan.len() < PLAN_SIZE) | (rival.len() < PLAN_SIZE));
     let c = joined(desk, (room < DIARY_SIZE) | small, quota, list);
