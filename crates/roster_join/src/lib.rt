@@ -30,16 +30,10 @@ pub(crate) fn quota_sum(quotas: &[u8]) -> usize
     let mut total: usize = 0;
     let mut i = 0;
     while i < quotas.len() {
-        total += wide(quotas[i]);
+        total += roster_positions::byte_at(quotas, i) as usize;
         i += 1;
     }
     total
-}
-
-fn wide(b: u8) -> usize
-    ensures { λ r. ⌜ (r ≡ b) × (r ≤ 255) ⌝ }
-{
-    b as usize
 }
 
 // what comes behind a tie: the joiner, or nothing
@@ -199,9 +193,9 @@ pub fn join(file: &[u8], quota: u8, list: &[u8]) -> Changed
     let m = ns as usize;
     let quotas = roster_positions::part(file, 1, m);
     let sum = quota_sum(quotas);
-    if (QUOTA_SUM_LIMIT as usize) < sum + quota as usize {
-        return roster_parts::refused(17);
+    if sum + quota as usize <= QUOTA_SUM_LIMIT as usize {
+        let nt = roster_positions::byte_at(file, m + 1);
+        return listed(file, m, nt, quota, list);
     }
-    let nt = roster_positions::byte_at(file, m + 1);
-    listed(file, m, nt, quota, list)
+    roster_parts::refused(17)
 }

@@ -1,5 +1,4 @@
 -- `roster_join::listed` meets its contract: the list's refusal, or the roster with the joiner. Assumes nothing.
-use Prim.Native.Nat.{_<_}
 use native.Mathlib.Omega.{arith}
 use mathlib.Core.Bool.{false}
 use borrow.Author.Needs.{needs}

@@ -1,5 +1,5 @@
 -- `roster_leave::append_ranking` meets its contract: both lengths, then both parts without the number. Assumes nothing.
-use mathlib.Core.Path.{sym, ap₂}
+use mathlib.Core.Path.{ap₂}
 use mathlib.Core.List.{_∷_, _++_}
 use borrow.Author.Needs.{needs}
 use Rattle.model.specs.Changes.{without}

@@ -2,7 +2,6 @@
 use Prim.Native.Nat.{_<_}
 use native.Mathlib.Omega.{arith}
 use borrow.Author.Needs.{needs}
-use Rattle.lists.specs.Test.{given}
 use Rattle.theory_files.specs.Reads.{bytes-are}
 use Rattle.theory_files.specs.Rosters.{read-write, read-fits}
 use Rattle.roster_parts.specs.Places.{counts-small}
