@@ -30,7 +30,8 @@ abbrev Told : {A : Type 0} → Reading A → Type 0
 Told (accepted a) = Unit {0}
 Told (refused n) = 0 < n
 
-told-then : {A B : Type 0} (r : Reading (A × List ℕ)) (f : A → List ℕ → Reading (B × List ℕ)) → Told r → ((a : A) (bs : List ℕ) → Told (f a bs)) → Told (r then f)
+told-then : {A B : Type 0} (r : Reading (A × List ℕ)) (f : A → List ℕ → Reading (B × List ℕ)) → Told r → ((a : A) (bs : List ℕ) → Told (f a bs))
+    → Told (r then f)
 told-then (accepted (a, bs)) f t h = h a bs
 told-then (refused n) f t h = t
 

@@ -88,6 +88,7 @@ module _ (H : Roster) (ok : T (fits H)) (nodes lists rankings : List ℕ) (n : n
   gives-held {c} ns nt a b h = (
     h .none,
     h .few,
-    h .front ∙ ap (take rosterSize) (ap₂ (λ x y. rosterOf x y nodes lists rankings) (sym (fits-lists H ok .countS ∙ a)) (sym (fits-lists H ok .countT ∙ b)) ∙ written)
+    h .front ∙ ap (take rosterSize)
+        (ap₂ (λ x y. rosterOf x y nodes lists rankings) (sym (fits-lists H ok .countS ∙ a)) (sym (fits-lists H ok .countT ∙ b)) ∙ written)
         ∙ take-all rosterSize (writeRoster H) (roster-size H ok),
   )
