@@ -91,7 +91,7 @@ module _ (f : List ℕ) (r : Roster) (e : writeRoster r ≡ f) (ok : T (fits r))
       ∙ rankings-are (entering (suc ns ∷ []) (λ j. elem j xs)) (r .listsT) f (endAt f ns nt + 2) [] (rankings-from f r (endAt f ns nt) from-end) 1
       ∙ each-entered ns (suc ns) xs 1 (r .listsT) (ns-small r ok) (fits-lists r ok .fitT)
 
-  pub joined-gives : q ≤ quotaLimit → ns < nodeLimit → sum (λ x. x) (r .quotasS) + q ≤ quotaSumLimit → T (listFits nt xs) → (c : Changed)
+  joined-gives : q ≤ quotaLimit → ns < nodeLimit → sum (λ x. x) (r .quotasS) + q ≤ quotaSumLimit → T (listFits nt xs) → (c : Changed)
       → Holds (joinedBytes f ns nt q (listBytes xs) (λ j. elem j xs)) c → Gives (accepted (joined r q xs)) c
   unfolding joined
   joined-gives hq room hs fit c h = gives-held (joined r q xs) (fits-joined r q xs ok hq room hs fit)

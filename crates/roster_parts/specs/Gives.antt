@@ -16,6 +16,7 @@ use Rattle.theory_files.specs.Rosters.{lists-size, rankings-size, roster-size}
 use Rattle.roster_parts.specs.declared.Changed.{Changed}
 use Rattle.roster_parts.specs.Growth.{sectionOf, Grown, grown-then, grown-as}
 
+-- accepted: the front of the array is the changed roster's bytes; refused: the number of the refusal, which is never 0
 abbrev pub Gives : Reading Roster → Changed → Type 0
 Gives (accepted H) c = (c .refusal ≡ 0) × (c .len ≤ rosterSize) × (take (c .len) (c .roster) ≡ writeRoster H)
 Gives (refused n) c = (c .refusal ≡ n) × (0 < n)

@@ -5,7 +5,7 @@ use mathlib.Core.Path.{_≡_, ap}
 use lib.ListN.{length, drop, drop-of-length-le}
 use borrow.Author.Needs.{needs}
 use Rattle.lists.specs.Sum.{sum}
-use Rattle.roster_parts.specs.Steps.{next-byte}
+use Rattle.roster_parts.specs.Growth.{next-byte}
 use Rattle.roster_join.proofs.quota_sum.Statement.{statement}
 use Rattle.roster_join.proofs.quota_sum.Tie as tie
 
