@@ -50,7 +50,7 @@ pub(crate) fn append_others(out: &mut [u8; ROSTER_SIZE], n: usize, list: &[u8], 
     at
 }
 
-// a stand's list: "those behind move up"
+// a stand's list without the number; those behind it move up
 pub(crate) fn append_ranking(
     out: &mut [u8; ROSTER_SIZE],
     n: usize,
