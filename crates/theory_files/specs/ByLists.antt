@@ -7,15 +7,27 @@ use mathlib.Core.Bool.{Bool, true, false}
 use mathlib.Core.List.{List, [], _∷_, List·Memᴰ·head, List·Memᴰ·tail}
 use lib.ListN.{length}
 use lib.Dec.{T, leb, leb→le, le→leb}
-use Rattle.lists.specs.Test.{given, and-l, T-true}
+use Rattle.lists.specs.Test.{given, and-l, and-r, T-true}
 use Rattle.lists.specs.Sum.{_∈_, sum, upTo, upTo-∈, upTo-<}
 use Rattle.lists.specs.Keep.{all?, all-∈, ∈-all}
 use Rattle.model.specs.Limits.{nodeLimit, entryLimit, rosterSize}
 use Rattle.model.specs.Reading.{accepted}
-use Rattle.model.specs.Roster.{Roster, entries, surveyorCount, standCount, listed, listedBack, alike, bothOrNeither, ascending, quotasFit}
-use Rattle.model.specs.Roster.{listFits, rankingFits, totalS, totalT, fits}
+use Rattle.model.specs.Roster.{Roster, entries, surveyorCount, standCount, listed, listedBack, alike, bothOrNeither, distinct, ascending}
+use Rattle.model.specs.Roster.{quotasFit, listFits, rankingFits, totalS, totalT, fits}
 use Rattle.model.specs.RosterFile.{readRoster, writeRoster}
+use Rattle.theory_files.specs.Entries.{inRange}
 use Rattle.theory_files.specs.Rosters.{fits-parts, parts-fit, write-read, roster-size}
+
+-- what holds of a list within its limit
+module _ (count : ℕ) (xs : List ℕ) (t : T (listFits count xs)) where
+  pub list-short : length xs ≤ count
+  list-short = leb→le (length xs) count (and-l (leb (length xs) count) _ t)
+
+  pub list-range : T (inRange count xs)
+  list-range = and-l (inRange count xs) (distinct xs) (and-r (leb (length xs) count) _ t)
+
+  pub list-distinct : T (distinct xs)
+  list-distinct = and-r (inRange count xs) (distinct xs) (and-r (leb (length xs) count) _ t)
 
 pub record ByLists (r : Roster) : Type 0 where
   pub quotaS : T (quotasFit (r .quotasS))
@@ -59,9 +71,6 @@ total-small size (x ∷ ls) h = omega (arith, h x (List·Memᴰ·head refl), tot
 node-count : (qs : List ℕ) → T (quotasFit qs) → length qs ≤ nodeLimit
 node-count qs t = leb→le (length qs) nodeLimit (and-l (leb (length qs) nodeLimit) _ t)
 
-list-count : (count : ℕ) (xs : List ℕ) → T (listFits count xs) → length xs ≤ count
-list-count count xs t = leb→le (length xs) count (and-l (leb (length xs) count) _ t)
-
 pub lists-fit : (r : Roster) → ByLists r → T (fits r)
 unfolding bothOrNeither
 lists-fit r b =
@@ -69,8 +78,8 @@ lists-fit r b =
     let nt = standCount r in
     given (node-count (r .quotasS) (b .quotaS)) (λ hs.
     given (node-count (r .quotasT) (b .quotaT)) (λ ht.
-    given (total-small length (r .listsS) (λ xs m. given (list-count nt xs (all-∈ (listFits nt) (r .listsS) (b .fitS) xs m)) (λ h. omega arith))) (λ fewS.
-    given (total-small (λ R. length (entries R)) (r .listsT) (λ R m. given (list-count ns (entries R)
+    given (total-small length (r .listsS) (λ xs m. given (list-short nt xs (all-∈ (listFits nt) (r .listsS) (b .fitS) xs m)) (λ h. omega arith))) (λ fewS.
+    given (total-small (λ R. length (entries R)) (r .listsT) (λ R m. given (list-short ns (entries R)
     (and-l (listFits ns (entries R)) (ascending 0 (R .tied)) (all-∈ (rankingFits ns) (r .listsT) (b .fitT) R m))) (λ h. omega arith))) (λ fewT.
     parts-fit r (
       b .quotaS,

@@ -5,14 +5,14 @@ use native.Mathlib.Omega.{arith}
 use mathlib.Core.Path.{_≡_, refl, ap, _∙_}
 use mathlib.Core.Bool.{Bool, false, not, cond, _||_}
 use mathlib.Core.List.{List, [], _∷_, _++_, map, append-nil}
-use lib.ListN.{length}
-use lib.Dec.{T, eqb, leb, ltb, nltb→le}
+use lib.Dec.{T, eqb, ltb, nltb→le}
 use Rattle.lists.specs.Test.{given, and-l, and-r, nor-l, nor-r, eqb-no}
 use Rattle.lists.specs.Sum.{range, ∈-range}
 use Rattle.lists.specs.Keep.{all?, keep, gather, All}
 use Rattle.lists.specs.Ranges.{range-add, gather-append, gather-cong, gather-none, grid}
-use Rattle.model.specs.Roster.{Roster, entries, surveyorCount, standCount, listS, listT, elem, outside, listed, distinct, fits}
+use Rattle.model.specs.Roster.{Roster, entries, surveyorCount, standCount, listS, listT, elem, outside, listed, fits}
 use Rattle.model.specs.Edges.{Edge, pairEdge, edgesOf}
+use Rattle.theory_files.specs.ByLists.{list-range}
 use Rattle.theory_files.specs.RosterInstance.{list-fits, entries-fit}
 
 -- the entries of a list are from 1 to the other side's count
@@ -43,15 +43,11 @@ within-front k (x ∷ xs) ys w = (w .0, within-front k xs ys (w .1))
 
 module _ (r : Roster) (ok : T (fits r)) where
   pub list-within : (k i : ℕ) → standCount r ≤ k → i < surveyorCount r → Within k (listS r i)
-  list-within k i h l = within (standCount r) k h (listS r i)
-      (and-l (all? (λ x. not (outside (standCount r) x)) (listS r i)) (distinct (listS r i))
-      (and-r (leb (length (listS r i)) (standCount r)) _ (list-fits r ok i l)))
+  list-within k i h l = within (standCount r) k h (listS r i) (list-range (standCount r) (listS r i) (list-fits r ok i l))
 
   pub strict-within : (k j : ℕ) → surveyorCount r ≤ k → j < standCount r → Within k (listT r j .strict)
   strict-within k j h l = within-front k (listT r j .strict) (listT r j .tied)
-      (within (surveyorCount r) k h (entries (listT r j))
-      (and-l (all? (λ x. not (outside (surveyorCount r) x)) (entries (listT r j))) (distinct (entries (listT r j)))
-      (and-r (leb (length (entries (listT r j))) (surveyorCount r)) _ (entries-fit r ok j l))))
+      (within (surveyorCount r) k h (entries (listT r j)) (list-range (surveyorCount r) (entries (listT r j)) (entries-fit r ok j l)))
 
   -- a surveyor lists no stand behind the last
   pub listed-none : (i j : ℕ) → i < surveyorCount r → standCount r ≤ j → listed r i j ≡ false

@@ -20,7 +20,7 @@ use Rattle.model.specs.Roster.{quotasFit, listFits, rankingFits, fits}
 use Rattle.model.specs.Changes.{without, departed, leaveOn}
 use Rattle.theory_files.specs.Reads.{accepted-value, refuse-read, refuse-no}
 use Rattle.theory_files.specs.Entries.{inRange, small}
-use Rattle.theory_files.specs.ByLists.{fits-lists, lists-fit, Storable, storable}
+use Rattle.theory_files.specs.ByLists.{list-short, list-range, list-distinct, fits-lists, lists-fit, Storable, storable}
 
 -- ---- a part of a list
 keep-short : (p : ℕ → Bool) (xs : List ℕ) → length (keep p xs) ≤ length xs
@@ -71,12 +71,10 @@ keep-ascending p last (x ∷ xs) t = go (p x) (and-l (ltb last x) (ascending x x
 
 keep-fits : (p : ℕ → Bool) (c : ℕ) (xs : List ℕ) → T (listFits c xs) → T (listFits c (keep p xs))
 keep-fits p c xs t =
-    let u = and-r (leb (length xs) c) _ t in
-    and-i (leb (length (keep p xs)) c) _
-    (le→leb (length (keep p xs)) c (omega (arith, keep-short p xs, leb→le (length xs) c (and-l (leb (length xs) c) _ t))))
+    and-i (leb (length (keep p xs)) c) _ (le→leb (length (keep p xs)) c (omega (arith, keep-short p xs, list-short c xs t)))
     (and-i (inRange c (keep p xs)) (distinct (keep p xs))
-    (∈-all (λ x. not (outside c x)) (keep p xs) (λ x m. all-∈ (λ x. not (outside c x)) xs (and-l (inRange c xs) (distinct xs) u) x (∈-keep p xs m .0)))
-    (keep-distinct p xs (and-r (inRange c xs) (distinct xs) u)))
+    (∈-all (λ x. not (outside c x)) (keep p xs) (λ x m. all-∈ (λ x. not (outside c x)) xs (list-range c xs t) x (∈-keep p xs m .0)))
+    (keep-distinct p xs (list-distinct c xs t)))
 
 -- ---- a stand's list
 abbrev others : ℕ → Ranking → Ranking
@@ -160,7 +158,7 @@ module _ (r : Roster) (v : ℕ) where
 
   module _ (ok : T (fits r)) (l : v < surveyorCount r) where
     -- the leaver lists nobody
-    pub departed-list : listS h v ≡ []
+    departed-list : listS h v ≡ []
     unfolding departed
     departed-list = ap (λ k. getD (set (r .listsS) k []) v []) (one-less v)
         ∙ getD-set-same (r .listsS) v [] [] (given (fits-lists r ok .countS) (λ e. omega arith))

@@ -9,7 +9,7 @@ use mathlib.Core.Bool.{Bool, true, false, not, cond, _&&_, _||_, and-true, and-f
 use mathlib.Core.List.{List, [], _∷_, _++_, append-assoc, append-nil}
 use lib.ListN.{length, getD, length-append, List·getD-append}
 use lib.Seq.{getD-append-seam}
-use lib.Dec.{T, eqb, leb, ltb, leb→le, le→leb, lt→ltb, nltb→le, nleb→lt}
+use lib.Dec.{T, eqb, leb, ltb, le→leb, lt→ltb, nltb→le, nleb→lt}
 use lib.Arith.{le→nltb}
 use Rattle.lists.specs.Test.{given, and-l, and-r, and-i, nor-l, nor-r, nor-i, eqb-yes, eqb-no, false-T}
 use Rattle.lists.specs.Sum.{sum, sum-append}
@@ -25,7 +25,7 @@ use Rattle.theory_files.specs.Entries.{fresh, fresh-append, fresh-distin
 use Rattle.theory_files.specs.Sections as Sections
 use Rattle.theory_files.specs.RosterInstance.{entries-fit}
 use Rattle.theory_files.specs.Cells.{Within, within, above-out}
-use Rattle.theory_files.specs.ByLists.{fits-lists, lists-fit, Storable, storable}
+use Rattle.theory_files.specs.ByLists.{list-short, list-range, list-distinct, fits-lists, lists-fit, Storable, storable}
 
 -- ---- lists with one number more at their end
 snoc-length : {A : Type 0} (xs : List A) (x : A) → length (xs ++ x ∷ []) ≡ suc (length xs)
@@ -59,27 +59,18 @@ range-more c xs t = ∈-all (λ x. not (outside (suc c) x)) xs (λ x m. given (a
     (le→nltb (suc c) x (given (nltb→le c x (nor-r (eqb x 0) (ltb c x) u)) (λ h. omega arith)))))
 
 module _ (c : ℕ) (xs : List ℕ) (t : T (listFits c xs)) where
-  short : length xs ≤ c
-  short = leb→le (length xs) c (and-l (leb (length xs) c) _ t)
-
-  range : T (inRange c xs)
-  range = and-l (inRange c xs) (distinct xs) (and-r (leb (length xs) c) _ t)
-
-  apart : T (distinct xs)
-  apart = and-r (inRange c xs) (distinct xs) (and-r (leb (length xs) c) _ t)
-
   list-more : T (listFits (suc c) xs)
-  list-more = and-i (leb (length xs) (suc c)) _ (le→leb (length xs) (suc c) (omega (arith, short)))
-      (and-i (inRange (suc c) xs) (distinct xs) (range-more c xs range) apart)
+  list-more = and-i (leb (length xs) (suc c)) _ (le→leb (length xs) (suc c) (omega (arith, list-short c xs t)))
+      (and-i (inRange (suc c) xs) (distinct xs) (range-more c xs (list-range c xs t)) (list-distinct c xs t))
 
   list-snoc : T (listFits (suc c) (xs ++ suc c ∷ []))
   list-snoc =
       let ys = xs ++ suc c ∷ [] in
-      and-i (leb (length ys) (suc c)) _ (le→leb (length ys) (suc c) (omega (arith, snoc-length xs (suc c), short)))
+      and-i (leb (length ys) (suc c)) _ (le→leb (length ys) (suc c) (omega (arith, snoc-length xs (suc c), list-short c xs t)))
       (and-i (inRange (suc c) ys) (distinct ys)
-      (snoc-all (λ x. not (outside (suc c) x)) xs (suc c) (range-more c xs range)
+      (snoc-all (λ x. not (outside (suc c) x)) xs (suc c) (range-more c xs (list-range c xs t))
       (nor-i (eqb (suc c) 0) (ltb (suc c) (suc c)) (false-T (eqb-no (suc c) 0 (λ (q : suc c ≡ 0). omega arith))) (le→nltb (suc c) (suc c) (omega arith))))
-      (distinct-snoc xs (suc c) apart (above-out c (suc c) (omega arith) xs (within c c (omega arith) xs range))))
+      (distinct-snoc xs (suc c) (list-distinct c xs t) (above-out c (suc c) (omega arith) xs (within c c (omega arith) xs (list-range c xs t)))))
 
 -- ---- a stand's list
 abbrev withTied : ℕ → Ranking → Ranking
@@ -96,7 +87,7 @@ within-back k [] ys w = w
 within-back k (x ∷ xs) ys w = within-back k xs ys (w .1)
 
 ranking-within : (c : ℕ) (R : Ranking) → T (rankingFits c R) → Within c (entries R)
-ranking-within c R t = within c c (omega arith) (entries R) (range c (entries R) (and-l (listFits c (entries R)) (ascending 0 (R .tied)) t))
+ranking-within c R t = within c c (omega arith) (entries R) (list-range c (entries R) (and-l (listFits c (entries R)) (ascending 0 (R .tied)) t))
 
 ranking-entered : (c : ℕ) (b : Bool) (R : Ranking) → T (rankingFits c R) → T (rankingFits (suc c) (enteredIf b (suc c) R))
 ranking-entered c true R t =
@@ -172,7 +163,7 @@ module _ (r : Roster) (q : ℕ) (list : List ℕ) (ok : T (fits r)) where
   pub no-list-too-long : (j : ℕ) → j < standCount h → length (entries (listT h j)) ≤ surveyorCount h
   no-list-too-long j l =
       given (subst (λ n. j < n) (joined-counts .1) l) (λ k.
-      given (leb→le (length (entries (listT r j))) ns (and-l (leb (length (entries (listT r j))) ns) _ (entries-fit r ok j k))) (λ old.
+      given (list-short ns (entries (listT r j)) (entries-fit r ok j k)) (λ old.
       omega (arith, joined-counts .0, ap (λ R. length (entries R)) (ranking-at j k), entered-length (suc ns) (elem (suc j) list) (listT r j))))
 
   -- the surveyors who were there list whom they listed; the joiner lists the stands of the list
@@ -197,7 +188,7 @@ module _ (r : Roster) (q : ℕ) (list : List ℕ) (ok : T (fits r)) where
   unfolding listedBack
   back-joiner j k = back-is ns j k
       ∙ ap₂ (λ a b. a || (elem (suc j) list && b)) (above-out ns (suc ns) (omega arith) (entries (listT r j)) (within ns ns (omega arith) (entries (listT r j))
-      (range ns (entries (listT r j)) (entries-fit r ok j k)))) (eqb-yes (suc ns) (suc ns) refl)
+      (list-range ns (entries (listT r j)) (entries-fit r ok j k)))) (eqb-yes (suc ns) (suc ns) refl)
       ∙ and-true (elem (suc j) list)
 
   pairs-both : (i j : ℕ) → i < suc ns → j < nt → listed h i j ≡ listedBack h i j

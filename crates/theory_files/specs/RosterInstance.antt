@@ -10,21 +10,18 @@ use mathlib.Core.List.{List, [], _∷_, _++_}
 use lib.ListN.{length, getD, length-append, List·getD-eq-default}
 use lib.Dec.{T, eqb, leb, leb→le, eqb→eq, T-not}
 use Rattle.lists.specs.Test.{given, and-l, and-r, or-case, or-r}
-use Rattle.lists.specs.Sum.{sum, sum-places, upTo, upTo-∈}
+use Rattle.lists.specs.Sum.{sum, sum-places}
 use Rattle.lists.specs.Keep.{all?, all-∈, any-append, getD-∈}
 use Rattle.model.specs.Limits.{nodeLimit, quotaLimit, quotaSumLimit, planLimit, emptyRank}
-use Rattle.model.specs.Roster.{Roster, entries, surveyorCount, standCount, listS, listT, elem, distinct, outside, listed, listedBack, alike}
-use Rattle.model.specs.Roster.{bothOrNeither, listFits, rankingFits, fits, ascending}
+use Rattle.model.specs.Roster.{Roster, entries, surveyorCount, standCount, listS, listT, elem, distinct, listed, listedBack}
+use Rattle.model.specs.Roster.{listFits, rankingFits, fits, ascending}
 use Rattle.model.specs.Edges.{Edge, position, edgesOf, noEdge, edgeAt, instanceOf}
 use Rattle.theory_instance.specs.Lawful.{Lawful}
 use Rattle.theory_files.specs.Rosters.{fits-parts}
+use Rattle.theory_files.specs.ByLists.{list-short, list-distinct, fits-lists}
 use Rattle.theory_files.specs.Position.{position-pos, position-in, position-out, position-≤, position-same}
 use Rattle.theory_files.specs.PlanFiles.{Fileable}
 use Rattle.theory_files.specs.Ascending.{IsEdge, edge-is, edges-ascend, ends-differ}
-
-same-bool : (a b : Bool) → T (alike a b) → T a → T b
-same-bool true b t s = t
-same-bool false b t s = absurd s
 
 -- a number of the first part of a list without repeats is not in the second
 distinct-apart : (x : ℕ) (xs ys : List ℕ) → T (distinct (xs ++ ys)) → T (elem x ys) → T (not (elem x xs))
@@ -60,13 +57,10 @@ module _ (r : Roster) (ok : T (fits r)) where
       (λ ((q, u, v, (l, a, k)), n). all-∈ (rankingFits ns) (r .listsT) a (listT r j) (getD-∈ (r .listsT) j (record { strict = []; tied = [] }) (omega arith)))
 
   pub back : (i j : ℕ) → i < ns → j < nt → T (listed r i j) → T (listedBack r i j)
-  unfolding bothOrNeither
-  back i j h k t = given (fits-parts r ok) (λ (p, n). same-bool (listed r i j) (listedBack r i j)
-      (all-∈ (λ j. alike (listed r i j) (listedBack r i j)) (upTo nt)
-      (all-∈ (λ i. all? (λ j. alike (listed r i j) (listedBack r i j)) (upTo nt)) (upTo ns) n i (upTo-∈ ns i h)) j (upTo-∈ nt j k)) t)
+  back i j h k t = subst T (fits-lists r ok .pairs i j h k) t
 
   pub list-length : (i : ℕ) → i < ns → length (listS r i) ≤ nt
-  list-length i h = leb→le (length (listS r i)) nt (and-l (leb (length (listS r i)) nt) _ (list-fits i h))
+  list-length i h = list-short nt (listS r i) (list-fits i h)
 
   abbrev S : ℕ → List ℕ
   S j = listT r j .strict
@@ -78,12 +72,10 @@ module _ (r : Roster) (ok : T (fits r)) where
   entries-fit j h = and-l (listFits ns (entries (listT r j))) (ascending 0 (D j)) (ranking-fits j h)
 
   pub strict-length : (j : ℕ) → j < nt → length (S j) + length (D j) ≤ ns
-  strict-length j h = subst (λ k. k ≤ ns) (length-append (S j) (D j))
-      (leb→le (length (entries (listT r j))) ns (and-l (leb (length (entries (listT r j))) ns) _ (entries-fit j h)))
+  strict-length j h = subst (λ k. k ≤ ns) (length-append (S j) (D j)) (list-short ns (entries (listT r j)) (entries-fit j h))
 
   distinct-entries : (j : ℕ) → j < nt → T (distinct (S j ++ D j))
-  distinct-entries j h = and-r (all? (λ x. not (outside ns x)) (S j ++ D j)) (distinct (S j ++ D j))
-      (and-r (leb (length (entries (listT r j))) ns) _ (entries-fit j h))
+  distinct-entries j h = list-distinct ns (entries (listT r j)) (entries-fit j h)
 
   -- ---- an edge by its number
   abbrev es : List Edge
