@@ -78,14 +78,16 @@ pub enum Judged {
 }
 
 impl Desk {
-    fn roster(&self) -> Result<&Roster, Refusal> {
+    /// The held roster, which most calls need.
+    pub fn roster(&self) -> Result<&Roster, Refusal> {
         match self {
             Desk::Nothing => Err(Refusal::NoRosterLoaded),
             Desk::Roster(roster) | Desk::RosterAndPlan(roster, _) => Ok(roster),
         }
     }
 
-    fn roster_and_plan(&self) -> Result<(&Roster, &Plan), Refusal> {
+    /// The held plan with its roster.
+    pub fn roster_and_plan(&self) -> Result<(&Roster, &Plan), Refusal> {
         match self {
             Desk::Nothing => Err(Refusal::NoRosterLoaded),
             Desk::Roster(_) => Err(Refusal::NoPlanHeld),
@@ -171,8 +173,9 @@ impl Desk {
         }
     }
 
-    /// The desk with the changed roster in the place of the held one.
-    fn with_roster(self, after: Roster) -> Desk {
+    /// The desk with the changed roster in the place of the held one, and what
+    /// is then left of the held plan.
+    pub fn with_roster(self, after: Roster) -> Desk {
         match self {
             Desk::RosterAndPlan(before, held) => {
                 let held = changes::carried(&before, &after, &held);
