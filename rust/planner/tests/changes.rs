@@ -66,14 +66,14 @@ fn ranked() -> Desk {
     desk_with(&RANKED).expect("accepted")
 }
 
-/// A desk with surveyors of these quotas, one stand and no pairs.
+/// A desk with surveyors of these quotas, one stand, no pairs and the empty plan.
 fn crowd(quotas: &[u8]) -> Desk {
     let mut file = vec![narrow(quotas.len())];
     file.extend(quotas);
     file.extend([1, 1, 0, 0]);
     file.extend(quotas.iter().map(|_| 0));
     file.extend([0, 0, 0, 0]);
-    desk_with(&file).expect("accepted")
+    desk_with_plan(&file, &[0]).expect("accepted")
 }
 
 #[test]
