@@ -1,4 +1,4 @@
--- turns::least_sum answers the least sum of all: no turn tried has a lower one, and one of all turns reaches the least (theory_votes, Least).
+-- vote_rotations::least_sum answers the least sum of all: no turn tried has a lower one, and one of all turns reaches the least (theory_votes, Least).
 -- Assumes nothing.
 use Prim.Native.Nat.{ℕ, _-_, _≤_, _<_, zero-le}
 use native.Mathlib.Omega.{arith}
@@ -8,30 +8,30 @@ use lib.ListN.{take}
 use Rattle.lists.specs.Test.{by-eq}
 use Rattle.theory_votes.specs.Least.{leastSum}
 use Rattle.vote_rotations.specs.Turn.{turnSum}
-use Rattle.vote_rotations.proofs.RankVotes.{sum-above, sum-reached}
+use Rattle.vote_rotations.proofs.TurnSums.{sum-above, sum-reached}
 use Rattle.vote_rotations.proofs.least_sum.Statement.{statement}
 use Rattle.vote_rotations.proofs.least_sum.Tie as tie
 
 abbrev Inv-loop : tie.InvT-loop
-Inv-loop table a b k least₀ j₀ least j = (1 ≤ j) × (leastSum (take k a) (take k b) ≤ least) × ((i : ℕ) → i < j → least ≤ turnSum i (take k a) (take k b))
+Inv-loop a b k least₀ j₀ least j = (1 ≤ j) × (leastSum (take k a) (take k b) ≤ least) × ((i : ℕ) → i < j → least ≤ turnSum i (take k a) (take k b))
 
 abbrev μ-loop : tie.MeasureT-loop
-μ-loop table a b k least₀ j₀ least j = k - j
+μ-loop a b k least₀ j₀ least j = k - j
 
 turn-sum-requires : tie.Need-turn-sum-requires Inv-loop μ-loop
-turn-sum-requires c κs = (c .pre .0, zero-le, c .pre .1 .own, c .pre .2 .own, c .pre .3)
+turn-sum-requires c κs = let p = c .pre .0 in (p .0, zero-le, p .1, p .2)
 
 loop-holds : tie.Need-loop-holds Inv-loop μ-loop
 loop-holds c =
     let a = c .before .args in
-    let p = c .before .pre in (
+    let p = c .before .pre .0 in (
       omega arith,
       omega (arith, c .turn-sum .ensures, sum-above (a .a .now) (a .b .now) (a .k) (p .1) (p .2) 0),
       λ i h. let e : i ≡ 0 = omega arith in omega (arith, c .turn-sum .ensures, ap (λ z. turnSum z (take (a .k) (a .a .now)) (take (a .k) (a .b .now))) e),
     )
 
 turn-sum-requires-2 : tie.Need-turn-sum-requires-2 Inv-loop μ-loop
-turn-sum-requires-2 c κs = let p = c .before .before .before .pre in (p .0, omega arith, p .1 .own, p .2 .own, p .3)
+turn-sum-requires-2 c κs = let p = c .before .before .before .pre .0 in (p .0, omega arith, p .1, p .2)
 
 -- the lower of the two
 lower : (c : tie.Joined1 Inv-loop μ-loop) → let l = c .before .before .before in
@@ -45,7 +45,7 @@ lower c =
     let above : leastSum (take (a .k) (a .a .now)) (take (a .k) (a .b .now)) ≤ c .before .turn-sum2 .result = omega (
       arith,
       c .before .turn-sum2 .ensures,
-      sum-above (a .a .now) (a .b .now) (a .k) (s .pre .1) (s .pre .2) (l .loop .j),
+      sum-above (a .a .now) (a .b .now) (a .k) (s .pre .0 .1) (s .pre .0 .2) (l .loop .j),
     ) in
     ⊎-elim (λ w. omega arith) (λ w. omega arith) (c .if1 .came)
 
@@ -68,7 +68,8 @@ returns c =
     omega (
       arith,
       l .loop .inv .1,
-      sum-reached (a .a .now) (a .b .now) (a .k) (s .pre .1) (s .pre .2) (l .loop .j) (l .loop .least) (omega arith) (omega arith) (l .loop .inv .2),
+      sum-reached (a .a .now) (a .b .now) (a .k) (s .pre .0 .1) (s .pre .0 .2) (s .pre .1 .0) (s .pre .1 .1) (l .loop .j) (l .loop .least) (omega arith)
+          (omega arith) (l .loop .inv .2),
     )
 
 pub least-sum-spec : {M : Type 1} → statement M
