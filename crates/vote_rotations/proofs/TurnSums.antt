@@ -1,8 +1,9 @@
 -- What a turn of each loop does. Assumes nothing.
-use Prim.Native.Nat.{ℕ, _+_, _-_, _≤_, _<_}
+use Prim.Native.Nat.{ℕ, _+_, _-_, _*_, _≤_, _<_}
 use native.Mathlib.Omega.{arith}
+use native.Mathlib.Decide.{decLt}
 use mathlib.Core.Path.{_≡_, refl, ap, _∙_}
-use mathlib.Core.Logic.{_⊎_, inl, inr}
+use mathlib.Core.Logic.{_⊎_, inl, inr, by-cases}
 use mathlib.Core.List.{List}
 use native.Mathlib.Numerals.{add-one}
 use lib.ListN.{length, getD, take, drop, length-take, length-drop, drop-of-length-le, List·getD-append}
@@ -12,7 +13,7 @@ use Rattle.lists.specs.Test.{if-ind}
 use Rattle.theory_votes.specs.Score.{rate}
 use Rattle.theory_votes.specs.Sorted.{Sorted}
 use Rattle.theory_votes.specs.Rotation.{against, turned, turned-length, cost}
-use Rattle.theory_votes.specs.Least.{leastSum, turn-above, turn-reached}
+use Rattle.theory_votes.specs.Least.{leastSum, turn-above, least-most, turn-reached}
 use Rattle.vote_rotations.specs.Turn.{wrap, turnSum}
 
 -- ---- what is left of a turn's sum from couple i on
@@ -66,13 +67,16 @@ module _ (a b : List ℕ) (k : ℕ) (la : k ≤ length a) (lb : k ≤ length b) 
   unfolding turnSum
   sum-above j = turn-above (take k a) (take k b) same j
 
+  pub sum-most : leastSum (take k a) (take k b) ≤ 2 * k
+  sum-most = omega (arith, least-most (take k a) (take k b) same, length-take k a)
+
   -- what is no more than any turn's sum is no more than the least, if both lists are in order
-  pub sum-reached : Sorted (λ x. x) (take k a) → Sorted (λ x. x) (take k b) → (j l : ℕ) → 1 ≤ j → k ≤ j
-      → ((i : ℕ) → i < j → l ≤ turnSum i (take k a) (take k b)) → l ≤ leastSum (take k a) (take k b)
+  pub sum-reached : Sorted (λ x. x) (take k a) → Sorted (λ x. x) (take k b) → (l : ℕ) → l ≤ 2 * k
+      → ((i : ℕ) → i < k → l ≤ turnSum i (take k a) (take k b)) → l ≤ leastSum (take k a) (take k b)
   unfolding turnSum
-  sum-reached sa sb j l h m each = go (turn-reached (take k a) (take k b) same sa sb)
+  sum-reached sa sb l h each = go (turn-reached (take k a) (take k b) same sa sb)
     where
       go : (i : ℕ) × ((i ≡ 0) ⊎ (i < length (take k a))) × (cost (λ a. a) (against (turned i (take k a)) (take k b)) ≤ leastSum (take k a) (take k b))
           → l ≤ leastSum (take k a) (take k b)
-      go (i, inl e, q) = omega (arith, each i (omega arith))
+      go (i, inl e, q) = by-cases (decLt 0 k) (λ m. omega (arith, each i (omega arith))) (λ n. omega arith)
       go (i, inr e, q) = omega (arith, each i (omega (arith, length-take k a)))

@@ -34,14 +34,14 @@ fn turn_sum(a: &[u8; 8], b: &[u8; 8], k: usize, j: usize) -> usize
     sum
 }
 
-// The least sum of all.
+// The least sum of all; no sum is above twice the number of couples.
 pub fn least_sum(a: &[u8; 8], b: &[u8; 8], k: usize) -> usize
     requires { ⌜ (k ≤ quotaLimit) × (k ≤ length (now a)) × (k ≤ length (now b)) ⌝ }
     requires { ⌜ Sorted (λ x. x) (take k (now a)) × Sorted (λ x. x) (take k (now b)) ⌝ }
     ensures { λ r. ⌜ r ≡ leastSum (take k (now (a .entry))) (take k (now (b .entry))) ⌝ }
 {
-    let mut least = turn_sum(a, b, k, 0);
-    let mut j = 1;
+    let mut least = 2 * k;
+    let mut j = 0;
     while j < k {
         let s = turn_sum(a, b, k, j);
         if s < least {
