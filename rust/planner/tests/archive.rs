@@ -2,20 +2,16 @@
 //! be it as constants or as code that writes one. A compiler may turn a table
 //! of constants into stores to the stack, so both are looked at.
 
-use std::path::{Path, PathBuf};
+mod common;
+
+use std::path::Path;
 use std::process::Command;
 
+use common::{program, root};
 use reference::limits::EMPTY_RANK;
 
 /// The bytes of a table with a vote for each two ranks.
 const TABLE: usize = EMPTY_RANK as usize * EMPTY_RANK as usize;
-
-fn built(file: &str) -> PathBuf {
-    let root = Path::new(env!("CARGO_MANIFEST_DIR")).join("../..");
-    let built = root.join("target").join(file);
-    assert!(built.exists(), "{built:?} is not built");
-    built
-}
 
 fn output(tool: &str, words: &[&str], file: &Path) -> String {
     let output = Command::new(tool).args(words).arg(file).output();
@@ -90,10 +86,10 @@ fn has_no_table(file: &Path) {
 
 #[test]
 fn no_table_of_votes_in_the_static_library() {
-    has_no_table(&built("staticlib/libabi.a"));
+    has_no_table(&root().join("target/staticlib/libabi.a"));
 }
 
 #[test]
 fn no_table_of_votes_in_the_program() {
-    has_no_table(&built("bin/crew"));
+    has_no_table(&program());
 }
