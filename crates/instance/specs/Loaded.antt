@@ -11,7 +11,7 @@ use Rattle.theory_files.specs.Reads.{isBytes}
 use Rattle.theory_files.specs.Rosters.{read-fits}
 use Rattle.theory_instance.specs.Lawful.{Lawful}
 use Rattle.theory_files.specs.PlanFiles.{Fileable}
-use Rattle.theory_files.specs.RosterInstance.{ranks-from-one, quotas-small}
+use Rattle.theory_files.specs.RosterInstance.{quotas-small}
 use Rattle.arrays.specs.ArrayInstance.{at}
 use Rattle.instance.specs.declared.Instance.{Instance}
 use Rattle.instance.specs.Decoded.{shownBy, Decoded}
@@ -25,7 +25,6 @@ pub record Loaded (g : Instance) : Type 0 where
   pub low-st : (e : ℕ) → at (g .st) e < nodeLimit
   pub lawful : Lawful (shownBy g)
   pub fileable : Fileable (shownBy g)
-  pub ranks : (e : ℕ) → e < g .m → (1 ≤ at (g .«rank_s») e) × (1 ≤ at (g .«rank_t») e)
   pub quotas : (v : ℕ) → (at (g .«quota_s») v ≤ quotaLimit) × (at (g .«quota_t») v ≤ quotaLimit)
 
 pub loaded : (f : List ℕ) (g : Instance) → T (isBytes f) → Decoded f g → (r : Roster) → readRoster f ≡ accepted r → Loaded g
@@ -40,6 +39,5 @@ loaded f g isB D r a =
       low-st = D .low-st;
       lawful = decoded-lawful f g isB D r a;
       fileable = decoded-fileable f g isB D r a;
-      ranks = subst (λ G. (e : ℕ) → e < G .m → (1 ≤ G .rankS e) × (1 ≤ G .rankT e)) s (ranks-from-one r ok);
       quotas = subst (λ G. (v : ℕ) → (G .quotaS v ≤ quotaLimit) × (G .quotaT v ≤ quotaLimit)) s (quotas-small r ok);
     }

@@ -19,7 +19,7 @@ pub fn joined(row: [u8; 64], ps: &[u8; 64], rps: &[u8; 64], s: u8, r: u8, a: u8)
     let mut o = [0u8; 64];
     let mut j = 0;
     while j < 64 {
-        let p = a + rival_tables::rated(rps[j], r);
+        let p = a + vote_ranks::rated(rps[j], r);
         o[j] = rival_tables::offered(s == ps[j], p, row[j]);
         j += 1;
     }
@@ -49,7 +49,7 @@ pub fn arc_row(
     let mut f = 0;
     while f < m {
         if !plan[f] & (st[f] == t) {
-            let a = rival_tables::rated(b, rt[f]);
+            let a = vote_ranks::rated(b, rt[f]);
             let next = joined(o, ps, rps, sv[f], rs[f], a);
             o = next;
         }

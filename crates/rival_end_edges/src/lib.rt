@@ -57,7 +57,7 @@ pub fn round(
     let mut g = 0;
     while g < m {
         let v = sv[g] as usize;
-        let p = rival_tables::rated(b, rt[g]);
+        let p = vote_ranks::rated(b, rt[g]);
         let ok = (!plan[g] & ((st[g] == t) & fs[v])) & ((start < m) | !(sv[g] == s));
         let next = offered(ok, a + p, start, g, o);
         o = next;
@@ -96,7 +96,7 @@ pub fn terminal(
     while f < m {
         let v = st[f] as usize;
         if !plan[f] & ((sv[f] == s) & ft[v]) {
-            let a = rival_tables::rated(b, rs[f]);
+            let a = vote_ranks::rated(b, rs[f]);
             let next = round(m, sv, st, rs, rt, plan, fs, x, y, f, a, !(st[f] == t), o);
             o = next;
         }

@@ -49,7 +49,7 @@ pub fn apart_row(
         let d = other[f];
         let v = d as usize;
         if !plan[f] & ((end[f] == e) & room[v]) {
-            let p = rival_tables::rated(b, rank[f]);
+            let p = vote_ranks::rated(b, rank[f]);
             let next = parted(o, po, d, p);
             o = next;
         }
@@ -107,7 +107,7 @@ pub fn gain(
         let v = other[f] as usize;
         let ok = !plan[f] & ((end[f] == e) & room[v]);
         if ok {
-            let p = rival_tables::rated(b, rank[f]);
+            let p = vote_ranks::rated(b, rank[f]);
             o = rival_tables::lesser(p, o);
         }
         f += 1;

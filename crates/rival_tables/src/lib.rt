@@ -1,22 +1,13 @@
-// Small parts of the search for a rival: the rate of a rank against another, an offer taken or not, an array read through a list of
-// edges, and a table of 64 columns into which a row is put.
+// Small parts of the search for a rival: an offer taken or not, an array read through a list of edges, and a table of 64 columns into
+// which a row is put.
 ghost use mathlib.Core.Path.{_≡_};
-ghost use mathlib.Core.Bool.{cond};
-ghost use Prim.Native.Nat.{ℕ, _≤_, _<_, min};
+ghost use Prim.Native.Nat.{_≤_, _<_, min};
 ghost use Rattle.model.specs.Limits.{entryLimit, planLimit};
 ghost use Rattle.arrays.specs.ArrayInstance.{at};
-ghost use Rattle.theory_votes.specs.Score.{rate};
 ghost use Rattle.arrays.specs.Passes.{Low};
 ghost use Rattle.arrays.specs.Filled.{Made};
 ghost use Rattle.rival_tables.specs.Filled.{Put};
 ghost use Rattle.rival_tables.specs.Cheapest.{offer};
-
-// One more than the vote of rank a against rank b.
-pub fn rated(a: u8, b: u8) -> u8
-    ensures { λ r. ⌜ (r ≡ rate a b) × (r ≤ 2) ⌝ }
-{
-    (a < b) as u8 + (a <= b) as u8
-}
 
 // The lesser of two.
 pub fn lesser(a: u8, b: u8) -> u8

@@ -38,8 +38,8 @@ pub fn arc_edge(
     let mut o = 0;
     let mut f = 0;
     while f < m {
-        let p = rival_tables::rated(b, rt[f]);
-        let q = rival_tables::rated(a, rs[f]);
+        let p = vote_ranks::rated(b, rt[f]);
+        let q = vote_ranks::rated(a, rs[f]);
         if (!plan[f] & ((st[f] == t) & (sv[f] == s))) & (p + q < v) {
             v = p + q;
             o = f;

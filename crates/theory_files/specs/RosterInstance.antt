@@ -19,7 +19,7 @@ use Rattle.model.specs.Edges.{Edge, position, edgesOf, noEdge, edgeAt, instance
 use Rattle.theory_instance.specs.Lawful.{Lawful}
 use Rattle.theory_files.specs.Rosters.{fits-parts}
 use Rattle.theory_files.specs.ByLists.{list-short, list-distinct, fits-lists}
-use Rattle.theory_files.specs.Position.{position-pos, position-in, position-out, position-≤, position-same}
+use Rattle.theory_files.specs.Position.{position-in, position-out, position-≤, position-same}
 use Rattle.theory_files.specs.PlanFiles.{Fileable}
 use Rattle.theory_files.specs.Ascending.{IsEdge, edge-is, edges-ascend, ends-differ}
 
@@ -174,14 +174,6 @@ module _ (r : Roster) (ok : T (fits r)) where
       below = λ d e h k s t n. tie-below (edgeAt es d) (edgeAt es e) (at d h) (at e k) s t n;
     };
   }
-
-  -- ranks are counted from 1
-  pub ranks-from-one : (e : ℕ) → e < instanceOf r .m → (1 ≤ instanceOf r .rankS e) × (1 ≤ instanceOf r .rankT e)
-  unfolding instanceOf
-  ranks-from-one e h = let a = at e h in (
-    subst (λ z. 1 ≤ z .rankS) (sym (a .is)) (position-pos (suc (a .j)) (listS r (a .i))),
-    subst (λ z. 1 ≤ z .rankT) (sym (a .is)) (position-pos (suc (a .i)) (S (a .j))),
-  )
 
   -- a quota is within its limit; where there is no node it is 0
   quota-small : (qs : List ℕ) → T (all? (λ q. leb q quotaLimit) qs) → (v : ℕ) → getD qs v 0 ≤ quotaLimit

@@ -10,7 +10,7 @@ use lib.ListN.{length}
 use lib.Seq.{take-length, drop-length}
 use lib.Dec.{eqb, eqb→eq}
 use Rattle.lists.specs.Test.{bit, bit-pos, eqb-yes}
-use Rattle.lists.specs.Sum.{_∈_, sum-pos, sum-mem, sum-length, ∈-occ}
+use Rattle.lists.specs.Sum.{_∈_, sum, sum-pos, sum-mem, sum-length, ∈-occ}
 use Rattle.lists.specs.Keep.{picks, picks-sum, remove, remove-picks, sum-remove}
 use Rattle.lists.specs.Least.{leastOf, leastOf-≤, leastOf-∈}
 use Rattle.theory_votes.specs.Score.{rate}
@@ -119,9 +119,10 @@ module _ (xs ys : List ℕ) (l : length xs ≡ length ys) where
   turned-whole : (j : ℕ) → j ≡ length xs → turned j xs ≡ turned 0 xs
   turned-whole j e = rw (e, drop-length, take-length, append-nil)
 
-  pub turn-reached : (n : ℕ) → Sorted own xs → Sorted own ys → Below n ys
+  -- where all of the second list are below n, some turn reaches it
+  reached-below : (n : ℕ) → Sorted own xs → Sorted own ys → Below n ys
       → (j : ℕ) × ((j ≡ 0) ⊎ (j < length xs)) × (cost own (against (turned j xs) ys) ≤ leastSum xs ys)
-  turn-reached n sx sy u = by-cases (decLt (t .second) (length xs))
+  reached-below n sx sy u = by-cases (decLt (t .second) (length xs))
       (λ h. (t .second, inr h, at-second))
       (λ h. (
         0,
@@ -135,3 +136,7 @@ module _ (xs ys : List ℕ) (l : length xs ≡ length ys) where
 
       at-second : cost own (against (turned (t .second) xs) ys) ≤ leastSum xs ys
       at-second = omega (arith, least-two n xs ys l u t, turn-≤ own n xs ys sx sy l u t)
+
+  -- and all of them are below one more than their sum
+  pub turn-reached : Sorted own xs → Sorted own ys → (j : ℕ) × ((j ≡ 0) ⊎ (j < length xs)) × (cost own (against (turned j xs) ys) ≤ leastSum xs ys)
+  turn-reached sx sy = reached-below (sum own ys + 1) sx sy (λ y m. omega (arith, sum-mem own m))

@@ -1,14 +1,9 @@
 -- The arrays of an accepted roster, and plans within its quotas, are what the vote asks for.
-use Prim.Native.Nat.{ℕ, _+_, _≤_, _<_}
-use native.Mathlib.Omega.{arith}
-use native.Mathlib.Numerals.{add-one}
-use mathlib.Core.Path.{_≡_, ap, _∙_, subst}
-use mathlib.Core.Bool.{Bool, true, false, cond}
-use mathlib.Core.List.{List, [], _∷_, _++_}
-use lib.ListN.{length, length-append}
-use Rattle.lists.specs.Sum.{range}
-use Rattle.lists.specs.Keep.{keep}
-use Rattle.lists.specs.Ranges.{keep-last}
+use Prim.Native.Nat.{_≤_}
+use mathlib.Core.Path.{subst}
+use mathlib.Core.Bool.{Bool, false}
+use mathlib.Core.List.{List}
+use lib.ListN.{length}
 use Rattle.model.specs.Limits.{planLimit}
 use Rattle.model.specs.Plans.{on}
 use Rattle.model.specs.PlanFile.{edgesIn, planOf}
@@ -17,7 +12,6 @@ use Rattle.theory_files.specs.Chosen.{on-planOf, edgesIn-cong}
 use Rattle.theory_files.specs.PlanFiles.{plan-few}
 use Rattle.theory_verdict.specs.Plans.{matching-plan}
 use Rattle.arrays.specs.ArrayInstance.{at, flag}
-use Rattle.arrays.specs.Kept.{Kept, keep-few}
 use Rattle.instance.specs.declared.Instance.{Instance}
 use Rattle.instance.specs.Decoded.{shownBy}
 use Rattle.instance.specs.Loaded.{Loaded}
@@ -26,8 +20,8 @@ use Rattle.vote_plans.specs.Plan.{Arrays, Light, within-light}
 module _ (g : Instance) (L : Loaded g) where
   pub side-arrays : Arrays (g .m) (g .ns) (g .sv) (g .«rank_s») × Arrays (g .m) (g .nt) (g .st) (g .«rank_t»)
   side-arrays = (
-    record { edges = L .edges; nodes = L .surveyors; ends = λ e h. L .low-sv e; ranks = λ e h. (L .ranks e h .0, L .lawful .atS .placed e h) },
-    record { edges = L .edges; nodes = L .stands; ends = λ e h. L .low-st e; ranks = λ e h. (L .ranks e h .1, L .lawful .atT .placed e h) },
+    record { edges = L .edges; nodes = L .surveyors; ends = λ e h. L .low-sv e; ranks = L .lawful .atS .placed },
+    record { edges = L .edges; nodes = L .stands; ends = λ e h. L .low-st e; ranks = L .lawful .atT .placed },
   )
 
   module _ (p : List Bool) (M : Matching (shownBy g) (flag p)) where

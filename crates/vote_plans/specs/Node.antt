@@ -28,7 +28,7 @@ pub record Sound (xs : List ℕ) (r : Ranked) : Type 0 where
   pub kept : Kept xs r
   pub few : length xs ≤ quotaLimit
   pub sorted : Sorted (λ z. z) xs
-  pub ranks : (z : ℕ) → z ∈ xs → (1 ≤ z) × (z ≤ emptyRank)
+  pub most : (z : ℕ) → z ∈ xs → z ≤ emptyRank
 
 abbrev pub Ready : Ranked → Type 0
 Ready r = Sound (ranksIn r) r
@@ -40,7 +40,7 @@ kept-is xs r K = ap₂ take (K .many) (K .are) ∙ take-append-seam xs (replicat
 abbrev pub own : Side → (ℕ → Bool) → (ℕ → Bool) → ℕ → List ℕ
 own K A B v = ranksAt (K .end) (K .rank) B v (edgesIn (K .m) A)
 
-module _ (K : Side) (ranks : (e : ℕ) → e < K .m → (1 ≤ K .rank e) × (K .rank e < emptyRank)) where
+module _ (K : Side) (ranks : (e : ℕ) → e < K .m → K .rank e < emptyRank) where
   -- are kept whole where A has few edges at the node
   pub own-sound : (A B : ℕ → Bool) (v : ℕ) → deg K A v ≤ quotaLimit → Sound (own K A B v) (keptAt (K .end) (K .rank) B v (edgesIn (K .m) A))
   own-sound A B v d =
@@ -50,13 +50,11 @@ module _ (K : Side) (ranks : (e : ℕ) → e < K .m → (1 ≤ K .rank e) × (K 
         kept = kept-at (K .end) (K .rank) B v (edgesIn (K .m) A) few;
         few = few;
         sorted = ranks-sorted (K .end) (K .rank) B v (edgesIn (K .m) A);
-        ranks = ranks-all (K .end) (K .rank) B v (λ z. (1 ≤ z) × (z ≤ emptyRank)) (edgesIn (K .m) A) (λ e k.
-            let h : e < K .m = inside e k in
-            (ranks e h .0, omega (arith, ranks e h)));
+        most = ranks-all (K .end) (K .rank) B v (λ z. z ≤ emptyRank) (edgesIn (K .m) A) (λ e k. omega (arith, ranks e (inside e k)));
       }
     where
       inside : (e : ℕ) → e ∈ edgesIn (K .m) A → e < K .m
       inside e k = let (l, h) = ∈-range (K .m) 0 (∈-keep A (range 0 (K .m)) k .0) in omega arith
 
   pub own-vote : (M N : ℕ → Bool) (v : ℕ) → deg K M v ≤ K .quota v → deg K N v ≤ K .quota v → leastVote (own K M N v) (own K N M v) ≡ nodeVote K M N v
-  own-vote M N v hM hN = sym (nodeVote-least K M N v (λ e k. ranks e k .1) hM hN (own K M N v) (own K N M v) (ranks-alone K M N v) (ranks-alone K N M v))
+  own-vote M N v hM hN = sym (nodeVote-least K M N v ranks hM hN (own K M N v) (own K N M v) (ranks-alone K M N v) (ranks-alone K N M v))

@@ -4,14 +4,13 @@ use native.Mathlib.Omega.{arith}
 use mathlib.Core.Path.{_≡_}
 use mathlib.Core.Bool.{Bool, _&&_}
 use mathlib.Core.List.{List}
-use lib.ListN.{length, getD, take}
+use lib.ListN.{getD}
 use lib.Dec.{eqb}
 use lib.IntN.{ℤ}
 use lib.Signed.{mag}
 use Rattle.lists.specs.Sum.{upTo, count}
-use Rattle.model.specs.Limits.{emptyRank, quotaLimit, nodeLimit, entryLimit, planLimit}
+use Rattle.model.specs.Limits.{emptyRank, quotaLimit, nodeLimit, entryLimit}
 use Rattle.model.specs.Instance.{Side, deg}
-use Rattle.model.specs.PlanFile.{edgesIn}
 use Rattle.model.specs.Vote.{sumℤ, vote}
 use Rattle.theory_instance.specs.Lawful.{Within, Matching}
 use Rattle.arrays.specs.ArrayInstance.{at, flag, shown}
@@ -25,7 +24,7 @@ pub record Arrays (m n : ℕ) (end rank : List ℕ) : Type 0 where
   pub edges : m ≤ entryLimit
   pub nodes : n ≤ nodeLimit
   pub ends : (e : ℕ) → e < m → at end e < nodeLimit
-  pub ranks : (e : ℕ) → e < m → (1 ≤ at rank e) × (at rank e < emptyRank)
+  pub ranks : (e : ℕ) → e < m → at rank e < emptyRank
 
 -- no node has more edges of the plan than a quota allows
 abbrev pub Light : ℕ → List ℕ → List Bool → Type 0

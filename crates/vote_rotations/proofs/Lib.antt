@@ -1,1 +1,1 @@
-pub mod RankVotes
+pub mod TurnSums

@@ -1,22 +1,12 @@
 // The least sum of votes over all ways to set one list of ranks against another: over the turns of the first, both lists in order.
 // Sums count each vote from one up, 2, 1 or 0 for 1, 0 or -1, so that they are numbers.
 ghost use mathlib.Core.Path.{_≡_};
-ghost use Prim.Native.Nat.{_≤_, _<_};
-ghost use lib.ListN.{take};
-ghost use Rattle.theory_votes.specs.Score.{rate};
-ghost use Rattle.vote_table.specs.Table.{IsRank, IsTable};
+ghost use Prim.Native.Nat.{_≤_};
+ghost use lib.ListN.{length, take};
+ghost use Rattle.model.specs.Limits.{quotaLimit};
 ghost use Rattle.theory_votes.specs.Least.{leastSum};
-ghost use Rattle.vote_rotations.specs.Turn.{wrap, turnSum, Ranks, Ordered};
-
-// One more than the vote of rank a against rank b.
-pub fn rated(table: &[i8; 1089], a: u8, b: u8) -> usize
-    requires { ⌜ IsTable (now table) × IsRank a × IsRank b ⌝ }
-    ensures { λ r. ⌜ r ≡ rate a b ⌝ }
-{
-    let v = vote_table::rank_vote(table, a, b);
-    let up = v + 1;
-    up as usize
-}
+ghost use Rattle.theory_votes.specs.Sorted.{Sorted};
+ghost use Rattle.vote_rotations.specs.Turn.{wrap, turnSum};
 
 // Place p of k places in a ring.
 fn wrapped(p: usize, k: usize) -> usize
@@ -29,29 +19,31 @@ fn wrapped(p: usize, k: usize) -> usize
 }
 
 // The sum with the first list turned by j places.
-pub fn turn_sum(table: &[i8; 1089], a: &[u8; 8], b: &[u8; 8], k: usize, j: usize) -> usize
-    requires { ⌜ (k ≤ 8) × (j ≤ k) × Ranks k (now a) × Ranks k (now b) × IsTable (now table) ⌝ }
+fn turn_sum(a: &[u8; 8], b: &[u8; 8], k: usize, j: usize) -> usize
+    requires { ⌜ (k ≤ quotaLimit) × (j ≤ k) × (k ≤ length (now a)) × (k ≤ length (now b)) ⌝ }
     ensures { λ r. ⌜ r ≡ turnSum j (take k (now (a .entry))) (take k (now (b .entry))) ⌝ }
 {
     let mut sum = 0;
     let mut i = 0;
     while i < k {
         let p = wrapped(i + j, k);
-        sum += rated(table, a[p], b[i]);
+        let rate = vote_ranks::rated(a[p], b[i]);
+        sum += rate as usize;
         i += 1;
     }
     sum
 }
 
-// The least sum of all.
-pub fn least_sum(table: &[i8; 1089], a: &[u8; 8], b: &[u8; 8], k: usize) -> usize
-    requires { ⌜ (k ≤ 8) × Ordered k (now a) × Ordered k (now b) × IsTable (now table) ⌝ }
+// The least sum of all; no sum is above twice the number of couples.
+pub fn least_sum(a: &[u8; 8], b: &[u8; 8], k: usize) -> usize
+    requires { ⌜ (k ≤ quotaLimit) × (k ≤ length (now a)) × (k ≤ length (now b)) ⌝ }
+    requires { ⌜ Sorted (λ x. x) (take k (now a)) × Sorted (λ x. x) (take k (now b)) ⌝ }
     ensures { λ r. ⌜ r ≡ leastSum (take k (now (a .entry))) (take k (now (b .entry))) ⌝ }
 {
-    let mut least = turn_sum(table, a, b, k, 0);
-    let mut j = 1;
+    let mut least = 2 * k;
+    let mut j = 0;
     while j < k {
-        let s = turn_sum(table, a, b, k, j);
+        let s = turn_sum(a, b, k, j);
         if s < least {
             least = s;
         }

@@ -17,7 +17,7 @@ use std::process::{Child, ChildStdin, ChildStdout, Command, Stdio};
 use std::rc::Rc;
 
 use calls::{Calls, Compared};
-use common::{damage, shape};
+use common::{damage, root, shape};
 use reference::compare::{File, Part};
 use reference::desk::{Found, Judged, Lent, NoneKind, Record};
 use reference::random::{self, Random};
@@ -45,10 +45,6 @@ const SANITIZERS: &[&str] = &[
     "-fsanitize=address,undefined",
     "-fno-sanitize-recover=all",
 ];
-
-fn root() -> PathBuf {
-    Path::new(env!("CARGO_MANIFEST_DIR")).join("../..")
-}
 
 /// Compiles a source of `c/` and links it to the static library.
 fn compile(compiler: &str, source: &str, flags: &[&[&str]]) -> PathBuf {

@@ -5,13 +5,11 @@ mod common;
 
 use std::fs::{self, File};
 use std::io::Write;
-use std::path::{Path, PathBuf};
 use std::process::{Command, Stdio};
-use std::sync::Once;
 use std::thread;
 use std::time::Duration;
 
-use common::damage;
+use common::{damage, program, root};
 use reference::finder::find_large;
 use reference::limits::MAX_INPUT_BYTES;
 use reference::plan;
@@ -19,25 +17,6 @@ use reference::program::run_with;
 use reference::random::{self, Random};
 use reference::roster::{self, Roster};
 use reference::votes::plan_vote;
-
-/// The repository's folder.
-fn root() -> PathBuf {
-    Path::new(env!("CARGO_MANIFEST_DIR")).join("../..")
-}
-
-/// The program. If it is not there yet, it is built: that proves it once more.
-fn program() -> PathBuf {
-    static BUILT: Once = Once::new();
-    let program = root().join("target/bin/crew");
-    BUILT.call_once(|| {
-        if !program.exists() {
-            let mut check = Command::new("rt");
-            let built = check.args(["check", "crew"]).current_dir(root()).status();
-            assert!(built.is_ok_and(|status| status.success()), "rt check crew");
-        }
-    });
-    program
-}
 
 /// Runs the program on an input that comes in pieces of this size.
 fn run_pieces(input: &[u8], size: usize, pause: Duration) -> Vec<u8> {

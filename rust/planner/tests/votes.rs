@@ -1,6 +1,6 @@
-//! The proved comparison and blocking pair against the reference: node votes
-//! of every small shape, random plan pairs on rosters up to the limits, the
-//! winner's part, and the order of refusals.
+//! The proved comparison and blocking pair against the reference: votes of
+//! every two ranks, node votes of every small shape, random plan pairs on
+//! rosters up to the limits, the winner's part, and the order of refusals.
 
 mod common;
 
@@ -9,10 +9,11 @@ use planner::{Desk, Votes, Winner};
 use reference::blocking::{blocking_pairs, first_blocking_pair};
 use reference::compare::{self, File};
 use reference::fast;
+use reference::limits::EMPTY_RANK;
 use reference::plan::{self, Plan};
 use reference::random::{self, Random, Shape};
 use reference::roster::{self, List, Node, Pair, Roster, Side};
-use reference::votes::{node_vote, plan_vote, rank};
+use reference::votes::{node_vote, plan_vote, rank, rank_vote};
 
 fn held(roster: &Roster) -> Desk {
     desk_with(&roster::write(roster)).expect("accepted")
@@ -85,6 +86,41 @@ fn stated_node_votes() {
         let roster = one_stand(quota, surveyors, 0);
         assert_eq!(stand_vote(&roster, mine, theirs), vote, "{name}");
     }
+}
+
+/// Two ranks at a stand that can have one surveyor of 32: the roster, and the
+/// surveyor of each rank, none for that of an empty place. Two surveyors of one
+/// rank are tied behind all better ones; the last rank has one surveyor only.
+fn with_ranks(mine: u8, theirs: u8) -> (Roster, [Option<u8>; 2]) {
+    const LAST: u8 = EMPTY_RANK - 1;
+    let (tied, second) = if mine == theirs && mine < LAST {
+        (LAST - mine + 1, mine + 1)
+    } else {
+        (0, theirs)
+    };
+    let surveyors = [mine, second].map(|number| Some(number).filter(|&number| number <= LAST));
+    (one_stand(1, LAST, tied), surveyors)
+}
+
+#[test]
+fn votes_of_every_two_ranks() {
+    let mut different = 0;
+    for mine in 1..=EMPTY_RANK {
+        for theirs in 1..=EMPTY_RANK {
+            let (roster, surveyors) = with_ranks(mine, theirs);
+            let list = &roster.node(Side::Stands, 1).list;
+            assert_eq!(
+                surveyors.map(|surveyor| rank(list, surveyor)),
+                [mine, theirs]
+            );
+            let [first, second] = surveyors.map(Vec::from_iter);
+            let vote = stand_vote(&roster, &first, &second);
+            assert_eq!(vote, rank_vote(mine, theirs), "{mine} against {theirs}");
+            different += usize::from(first != second);
+        }
+    }
+    // all but the last rank and the empty place against themselves
+    assert_eq!(different, 33 * 33 - 2);
 }
 
 /// Every way to give each of some surveyors to the first plan, the second or

@@ -1,4 +1,4 @@
--- turns::wrapped answers a place in a ring. Assumes nothing.
+-- vote_rotations::wrapped answers a place in a ring. Assumes nothing.
 use borrow.Author.Tests.{lt-ltb, le-ltb}
 use Rattle.vote_rotations.proofs.wrapped.Statement.{statement}
 use Rattle.vote_rotations.proofs.wrapped.Tie as tie

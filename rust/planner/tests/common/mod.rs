@@ -1,6 +1,11 @@
-//! What the tests of the proved calls share: counts of the refusals met, junk in
-//! lent buffers, damaged files. Each test file uses a part of it.
+//! What the tests of the proved calls share: where the program is, counts of the
+//! refusals met, junk in lent buffers, damaged files. Each test file uses a part
+//! of it.
 #![allow(dead_code)]
+
+use std::path::{Path, PathBuf};
+use std::process::Command;
+use std::sync::Once;
 
 use planner::{Desk, Refusal};
 use reference::desk::Desk as Held;
@@ -11,6 +16,25 @@ use reference::roster;
 /// How many numbers an answer can be counted under: 0 for accepted, and every
 /// refusal's.
 pub const NUMBERS: usize = 18;
+
+/// The repository's folder.
+pub fn root() -> PathBuf {
+    Path::new(env!("CARGO_MANIFEST_DIR")).join("../..")
+}
+
+/// The program. If it is not there yet, it is built: that proves it once more.
+pub fn program() -> PathBuf {
+    static BUILT: Once = Once::new();
+    let program = root().join("target/bin/crew");
+    BUILT.call_once(|| {
+        if !program.exists() {
+            let mut check = Command::new("rt");
+            let built = check.args(["check", "crew"]).current_dir(root()).status();
+            assert!(built.is_ok_and(|status| status.success()), "rt check crew");
+        }
+    });
+    program
+}
 
 /// How often each refusal occurred, 0 for accepted.
 #[derive(Default)]

@@ -1,11 +1,10 @@
--- Both tests as numbers.
-use Prim.Native.Nat.{_-_}
+-- Both tests as numbers; each is at most 1, so the sum fits. Assumes nothing.
 use native.Mathlib.Omega.{arith}
 use lib.Dec.{ltb, leb}
 use borrow.Author.Needs.{needs}
 use Rattle.arrays.specs.Tally.{byte-bit, byte-one}
-use Rattle.rival_tables.proofs.rated.Statement.{statement}
-use Rattle.rival_tables.proofs.rated.Tie as tie
+use Rattle.vote_ranks.proofs.rated.Statement.{statement}
+use Rattle.vote_ranks.proofs.rated.Tie as tie
 
 add-result : tie.Need-add-result
 add-result c = omega (arith, byte-one (ltb (c .args .a) (c .args .b)), byte-one (leb (c .args .a) (c .args .b)))
