@@ -35,18 +35,18 @@ module _ (sv rank : ℕ → ℕ) (m : ℕ) (p : ℕ → Bool) where
   seen-same {i} {top} {k} s l h = record {
     least = λ d b t. ⊎-elim (λ e. subst (λ z. k ≤ key sv rank z) (sym e) (h (subst (λ z. T (p z)) e t))) (λ c. s .least d c t) (at-or-below b);
     here = ⊎-elim
-        (λ (e, q, none). inl (e, q, λ d b. ⊎-elim (λ e. subst (λ z. T (not (p z))) (sym e) (not-T (p i) (λ t. absurd (past q t)))) (none d) (at-or-below b)))
+        (λ (e, q, none). inl (e, q, λ d b. ⊎-elim (λ e. subst (λ z. T (not (p z))) (sym e) (fails q)) (none d) (at-or-below b)))
         (λ (b, q, t, least). inr (omega arith, q, t, least))
         (s .here);
   }
     where
-      past : k ≡ nodeLimit * emptyRank → T (p i) → ⊥
-      past q t = let g = h t in omega arith
+      fails : k ≡ nodeLimit * emptyRank → T (not (p i))
+      fails q = not-T (p i) (λ t. let g = h t in let z : ⊥ = omega arith in absurd z)
 
   -- edge i passes with a lower key
   seen-new : {i top k : ℕ} → Seen i top k → T (p i) → key sv rank i < k → Seen (i + 1) i (key sv rank i)
   seen-new {i} {top} {k} s t h = record {
-    least = λ d b u. ⊎-elim (λ e. subst (λ z. key sv rank i ≤ key sv rank z) (sym e) (omega arith)) (λ c. let g = s .least d c u in omega arith) (at-or-below b);
+    least = λ d b u. ⊎-elim (λ e. subst (λ z. key sv rank i ≤ key sv rank z) (sym e) (omega arith)) (λ c. omega (arith, s .least d c u)) (at-or-below b);
     here = inr (omega arith, refl, t, λ d b u. let g = s .least d b u in omega arith);
   }
 
@@ -61,5 +61,5 @@ module _ (sv rank : ℕ → ℕ) (m : ℕ) (p : ℕ → Bool) where
   pub seen-all : {top k : ℕ} → Seen m top k → ((e : ℕ) → e < m → rank e < emptyRank) → top ≡ topOf sv rank m p
   seen-all {top} {k} s placed = ⊎-elim
       (λ (e, q, none). e ∙ sym (top-none sv rank m p placed none))
-      (λ (b, q, t, least). sym (top-is sv rank m p placed top b t (λ d c u. let g = s .least d c u in omega arith) (λ d c u. let g = least d c u in omega arith)))
+      (λ (b, q, t, least). sym (top-is sv rank m p placed top b t (λ d c u. omega (arith, s .least d c u)) (λ d c u. omega (arith, least d c u))))
       (s .here)

@@ -287,7 +287,8 @@ module _ (call : Lends) (change : ToRoster) (n : ℕ) (K : IsChange call change 
       change-taken = record {
         replied = subst (λ z. Replied d C (foundShown (r .answer)) C′ z) (sym (done .same)) reply;
         afresh = λ y. subst (λ z. (foundShown (r .answer) ≡ answered (heldOf z) (find (recordsIn s) l p v))
-            × (find (recordsIn s′) l′ p′ v′ ≡ lentThen (heldOf z) (find (recordsIn s) l p v))) (sym (done .same)) (finds .replied .answer, finds .replied .lent);
+            × (find (recordsIn s′) l′ p′ v′ ≡ lentThen (heldOf z) (find (recordsIn s) l p v))) (sym (done .same))
+            (finds .replied .answer, finds .replied .lent);
         demand3 = λ y Q q. finds .demand3 Q (ap (λ z. readRoster (rosterBytes z)) (sym (done .same)) ∙ q) (false-T long);
       }
 

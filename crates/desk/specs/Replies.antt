@@ -10,7 +10,8 @@ use Rattle.model.specs.PlanFile as plans
 use Rattle.model.specs.Compare as model
 use Rattle.model.specs.Compare.{Part, winnerPart}
 use Rattle.model.specs.Desk.{Held, Call, loadRoster, loadPlan, writeRosterTo, writePlanTo, find, join, leave, judge, compare, blocking, Answer}
-use Rattle.model.specs.Desk.{onRoster, onPlan, refused, loaded, wrote, plan, none, strong, popular, beaten, votes, refusedPart, blockedBy, unblocked, answerOf, lentAfter, deskAfter}
+use Rattle.model.specs.Desk.{onRoster, onPlan, refused, loaded, wrote, plan, none, strong, popular, beaten, votes, refusedPart, blockedBy, unblocked}
+use Rattle.model.specs.Desk.{answerOf, lentAfter, deskAfter}
 use Rattle.theory_finder.specs.Choices.{chosen}
 use Rattle.desk.specs.declared.Desk.{Desk}
 use Rattle.desk.specs.Held.{rosterBytes, planBytes, heldOf}

@@ -13,8 +13,8 @@ use Rattle.model.specs.RosterFile.{readRoster}
 use Rattle.model.specs.Edges.{instanceOf}
 use Rattle.model.specs.Plans.{Plan, on, within, plansOf}
 use Rattle.model.specs.PlanFile.{readPlan}
-use Rattle.model.specs.Desk.{Held, nothing, roster, planned, Call, loadRoster, loadPlan, writeRosterTo, writePlanTo, find, join, leave, judge, compare, blocking}
-use Rattle.model.specs.Desk.{withRoster, withPlan, withChange, stateRefusal, deskAfter}
+use Rattle.model.specs.Desk.{Held, nothing, roster, planned, Call, loadRoster, loadPlan, writeRosterTo, writePlanTo, find, join, leave, judge, compare}
+use Rattle.model.specs.Desk.{blocking, withRoster, withPlan, withChange, stateRefusal, deskAfter}
 use Rattle.model.specs.Changes.{joinOn, leaveOn, carried}
 use Rattle.theory_files.specs.Reads.{isBytes}
 use Rattle.theory_files.specs.Rosters.{read-fits}

@@ -52,12 +52,16 @@ cast-r c = let l = c .before .before .before .before in omega (arith, l .before 
 mul-k : tie.Need-mul-k Inv-loop μ-loop
 mul-k c =
     let l = c .before .before .before .before in
-    omega (arith, l .before .pre .0 .ends (l .loop .i) (omega arith), l .before .pre .1 .ends (l .loop .i) (omega arith), l .before .pre .2 (l .loop .i) (omega arith))
+    let i = l .loop .i in
+    let p = l .before .pre in
+    omega (arith, p .0 .ends i (omega arith), p .1 .ends i (omega arith), p .2 i (omega arith))
 
 add-k : tie.Need-add-k Inv-loop μ-loop
 add-k c =
     let l = c .before .before .before .before in
-    omega (arith, l .before .pre .0 .ends (l .loop .i) (omega arith), l .before .pre .1 .ends (l .loop .i) (omega arith), l .before .pre .2 (l .loop .i) (omega arith))
+    let i = l .loop .i in
+    let p = l .before .pre in
+    omega (arith, p .0 .ends i (omega arith), p .1 .ends i (omega arith), p .2 i (omega arith))
 
 element-copy-out-if1 : tie.Need-element-copy-out-if1 Inv-loop μ-loop
 element-copy-out-if1 c = omega (arith, c .before .before .before .before .before .pre .0 .edges)

@@ -6,9 +6,11 @@ use Rattle.desk.proofs.changing.join_core.Tie as tie
 
 returns : tie.Need-returns
 returns c =
-    let k = c .before .before .before .before .before .before .before .before .before .before .before .before .before .before in (
+    let f = c .before .before .before .before .before .before in
+    let j = f .before .before .before .before in
+    let k = j .before .before .before .before in (
       bytes-of (k .before .args .list .now) (λ i. k .shared-slice-known .given i),
-      record { made = c .before .before .before .before .before .before .before .before .before .before .joined .result; changed = c .before .before .before .before .before .before .before .before .before .before .joined .ensures; found = c .before .before .before .before .before .before .found-on .ensures },
+      record { made = j .joined .result; changed = j .joined .ensures; found = f .found-on .ensures },
     )
 
 pub join-core-spec : {M : Type 1} → statement M

@@ -14,20 +14,25 @@ use Rattle.desk.proofs.changing.joined.Tie as tie
 returns : tie.Need-returns
 returns c =
     let a = c .before .before .before .before .args in
-    change-refused (a .desk) (a .short) (λ R. joinOn R (a .quota) (a .list .now)) (0) (c .before .before .loaded .ensures) (c .before .if1 .taken) (c .unchanged .ensures)
+    let l = c .before .before .loaded in
+    change-refused (a .desk) (a .short) (λ R. joinOn R (a .quota) (a .list .now)) 0 (l .ensures) (c .before .if1 .taken) (c .unchanged .ensures)
 
 join-requires : tie.Need-join-requires
-join-requires c κs = given (its-roster (c .before .before .before .if1 .left) (c .before .before .before .before .loaded .ensures)) (λ (R, a). (R, ap readRoster (c .front .ensures) ∙ a))
+join-requires c κs =
+    let s = c .before .before .before in
+    given (its-roster (s .if1 .left) (s .before .loaded .ensures)) (λ (R, a). (R, ap readRoster (c .front .ensures) ∙ a))
 
 taken-requires : tie.Need-taken-requires
-taken-requires c κs = arrays-are (c .before .before .before .before .before .before .before .args .desk) (c .before .before .before .before .before .loaded .ensures) (c .before .before .before .before .if1 .left)
+taken-requires c κs = let s = c .before .before .before .before in arrays-are (s .before .before .before .args .desk) (s .before .loaded .ensures) (s .if1 .left)
 
 returns-2 : tie.Need-returns-2
 returns-2 c =
-    let a = c .before .before .before .before .before .before .before .before .args in
+    let s = c .before .before .before .before .before in
+    let a = s .before .before .before .args in
     let k = c .before .join in
-    change-taken (a .desk) (a .short) (λ R. joinOn R (a .quota) (a .list .now)) (0) (c .before .before .before .before .before .before .loaded .ensures) (c .before .before .before .before .before .if1 .left)
-    (subst (λ file. ChangedBy (λ R. joinOn R (a .quota) (a .list .now)) file (k .result)) (c .before .before .front .ensures) (k .ensures)) (c .taken .ensures)
+    let f = c .before .before .front in
+    let changed = subst (λ file. ChangedBy (λ R. joinOn R (a .quota) (a .list .now)) file (k .result)) (f .ensures) (k .ensures) in
+    change-taken (a .desk) (a .short) (λ R. joinOn R (a .quota) (a .list .now)) 0 (s .before .loaded .ensures) (s .if1 .left) changed (c .taken .ensures)
 
 pub joined-spec : {M : Type 1} → statement M
 joined-spec =

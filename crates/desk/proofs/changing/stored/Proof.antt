@@ -23,18 +23,22 @@ returns c =
 carried-requires : tie.Need-carried-requires
 carried-requires c κs =
     let s = c .before .before .before .before .before .before .before .before in
-    (s .pre, plan-few (s .args .g) (c .before .before .before .before .before .front .result .now) (c .before .before .before .before .with-plan .ensures) (s .pre) (c .before .before .if1 .left))
+    let f = c .before .before .before .before .before .front in
+    let l = c .before .before .before .before .with-plan in
+    (s .pre, plan-few (s .args .g) (f .result .now) (l .ensures) (s .pre) (c .before .before .if1 .left))
 
 returns-2 : tie.Need-returns-2
 returns-2 c =
     let s = c .before .before .before .before .before .before .before .before .before .before in
     let a = s .args in
     let f = c .before .before .before .before .before .before .before .front in
+    let l = c .before .before .before .before .before .before .with-plan in
     let G = shownBy (a .g) in
-    let k = c .before .carried in (
+    let k = c .before .carried in
+    let z = c .before .before .before .before .if1 .left in (
       refl,
       subst (λ file. LessOf G (a .number) (readPlan G file) (take (k .result .len) (k .result .bytes))) (f .ensures)
-          (plan-less (a .g) (f .result .now) (c .before .before .before .before .before .before .with-plan .ensures) (s .pre) (c .before .before .before .before .if1 .left) (a .number) (k .result) (k .ensures)),
+          (plan-less (a .g) (f .result .now) (l .ensures) (s .pre) z (a .number) (k .result) (k .ensures)),
     )
 
 pub stored-spec : {M : Type 1} → statement M
