@@ -53,7 +53,7 @@ module _ (m : ℕ) (sv st rs rt qs qt ls lt : List ℕ) (p : List Bool) (os : Pl
   pub answer-no : m ≤ topOf (at sv) (at rs) m (wanted sv st rs rt ls lt p) → Unblocked ≡ blockedBy G p
   answer-no h = sym (ap (named G (topBlocking G (flag p))) (top-behind G (flag p) os (subst (λ z. m ≤ z) top-is-wanted h)))
 
--- the arrays of an accepted roster are what the search asks for
+-- the arrays of an accepted roster, and the list of a plan's edges, are what the search asks for
 pub may-search : (g : Instance) → Loaded g → Edges (g .m) (g .sv) × Edges (g .m) (g .st) × Placed (g .m) (g .«rank_s») × Placed (g .m) (g .«rank_t»)
 may-search g L = (
   record { edges = L .edges; ends = λ e h. L .low-sv e },

@@ -1,34 +1,51 @@
 // At each node one number decides which edges it would rather have: its threshold, the rank of its worst place. That is the rank of an empty
 // place where the quota is not filled, and else the worst rank of its edges in the plan.
 ghost use mathlib.Core.Path.{_≡_};
-ghost use mathlib.Core.Bool.{_&&_, cond};
+ghost use mathlib.Core.Bool.{cond};
 ghost use Prim.Native.Nat.{ℕ, _<_};
 ghost use lib.Dec.{ltb};
 ghost use lib.ListN.{getD};
 ghost use Rattle.arrays.specs.ArrayInstance.{at};
-ghost use Rattle.blocking_thresholds.specs.Threshold.{Edges, Worst, Thresholds};
+ghost use Rattle.blocking_thresholds.specs.PlanList.{Places, AtNodes, WorstOf, ThresholdsOf};
 
-// The greater of two ranks, if the second counts.
-fn raised(w: u8, r: u8, counts: bool) -> u8
-    ensures { λ x. ⌜ x ≡ cond (counts && ltb w r) r w ⌝ }
+// The greater of two ranks.
+fn raised(w: u8, r: u8) -> u8
+    ensures { λ x. ⌜ x ≡ cond (ltb w r) r w ⌝ }
 {
-    if counts & (w < r) {
+    if w < r {
         return r;
     }
     w
 }
 
-// The worst rank of the plan's edges at each node; 0 where there is none.
-pub fn worst(m: usize, end: &[u8; 1024], rank: &[u8; 1024], p: &[bool; 1024]) -> [u8; 32]
-    requires { ⌜ Edges m (now end) ⌝ }
-    ensures { λ r. ⌜ Worst m (now (end .entry)) (now (rank .entry)) (now (p .entry)) r ⌝ }
+// How many of a plan's n edges lie at each node.
+pub fn held(n: usize, es: &[u16; 64], end: &[u8; 1024]) -> [u16; 32]
+    requires { ⌜ Places n (now es) (now end) ⌝ }
+    ensures { λ r. ⌜ AtNodes (now (end .entry)) (now (es .entry)) n r ⌝ }
+{
+    let mut d = [0u16; 32];
+    let mut k = 0;
+    while k < n {
+        let e = es[k] as usize;
+        let v = end[e] as usize;
+        d[v] += 1;
+        k += 1;
+    }
+    d
+}
+
+// The worst rank of a plan's n edges at each node; 0 where there is none.
+pub fn worst(n: usize, es: &[u16; 64], end: &[u8; 1024], rank: &[u8; 1024]) -> [u8; 32]
+    requires { ⌜ Places n (now es) (now end) ⌝ }
+    ensures { λ r. ⌜ WorstOf (now (end .entry)) (now (rank .entry)) (now (es .entry)) n r ⌝ }
 {
     let mut w = [0u8; 32];
-    let mut i = 0;
-    while i < m {
-        let v = end[i] as usize;
-        w[v] = raised(w[v], rank[i], p[i]);
-        i += 1;
+    let mut k = 0;
+    while k < n {
+        let e = es[k] as usize;
+        let v = end[e] as usize;
+        w[v] = raised(w[v], rank[e]);
+        k += 1;
     }
     w
 }
@@ -57,18 +74,18 @@ pub fn thresholds(d: &[u16; 32], quota: &[u8; 32], w: &[u8; 32]) -> [u8; 32]
     o
 }
 
-// The same, from a side's arrays.
+// The same, from a side's arrays and the list of the plan's edges; for every plan that the list is of.
 pub fn side_thresholds(
-    m: usize,
+    n: usize,
+    es: &[u16; 64],
     end: &[u8; 1024],
     rank: &[u8; 1024],
     quota: &[u8; 32],
-    p: &[bool; 1024],
 ) -> [u8; 32]
-    requires { ⌜ Edges m (now end) ⌝ }
-    ensures { λ r. ⌜ Thresholds m (now (end .entry)) (now (rank .entry)) (now (quota .entry)) (now (p .entry)) r ⌝ }
+    requires { ⌜ Places n (now es) (now end) ⌝ }
+    ensures { λ r. ⌜ ThresholdsOf n (now (es .entry)) (now (end .entry)) (now (rank .entry)) (now (quota .entry)) r ⌝ }
 {
-    let d = reduction_counts::tally(m, end, p);
-    let w = worst(m, end, rank, p);
+    let d = held(n, es, end);
+    let w = worst(n, es, end, rank);
     thresholds(&d, quota, &w)
 }

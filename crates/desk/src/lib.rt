@@ -271,7 +271,8 @@ impl Desk {
             };
         }
         let plan = l.plan;
-        let b = blocking_search::blocking(l.g, &plan);
+        let edges = l.edges;
+        let b = blocking_search::blocking(l.g, &plan, l.n, &edges);
         BlockingReply {
             desk: self,
             answer: b,

@@ -1,36 +1,44 @@
 -- `blocking_search::blocking` meets its contract: the model's blocking pair exactly if there is one. Assumes nothing.
 use native.Mathlib.Omega.{arith}
 use borrow.Author.Needs.{needs}
+use Rattle.blocking_thresholds.specs.PlanList.{places}
 use Rattle.blocking_search.specs.Search.{answer-yes, answer-no, may-search}
 use Rattle.blocking_search.proofs.blocking.Statement.{statement}
 use Rattle.blocking_search.proofs.blocking.Tie as tie
 
 side-thresholds-requires : tie.Need-side-thresholds-requires
-side-thresholds-requires c κs = let s = c .before .before .before .before .before .before .before .before .before in may-search (s .args .g) (s .pre) .0
+side-thresholds-requires c κs =
+    let s = c .before .before .before .before .before .before .before .before .before in
+    let (L, few, l) = s .pre in
+    let a = s .args in
+    places (a .g .m) (a .p .now) (a .n) (a .es .now) (a .g .sv) (L .edges) (L .low-sv) l few
 
 side-thresholds-requires-2 : tie.Need-side-thresholds-requires-2
 side-thresholds-requires-2 c κs =
-    let s = c .before .before .before .before .before .before .before .before .before .before .before .before .before in may-search (s .args .g) (s .pre) .1
+    let s = c .before .before .before .before .before .before .before .before .before .before .before .before .before in
+    let (L, few, l) = s .pre in
+    let a = s .args in
+    places (a .g .m) (a .p .now) (a .n) (a .es .now) (a .g .st) (L .edges) (L .low-st) l few
 
 top-wanted-requires : tie.Need-top-wanted-requires
 top-wanted-requires c κs =
     let s =
     c .before .before .before .before .before .before .before .before .before .before .before .before .before .before .before .before .before .before .before .before in
-    let m = may-search (s .args .g) (s .pre) in
+    let m = may-search (s .args .g) (s .pre .0) in
     (m .0, m .1, m .2)
 
-add-t30 : tie.Need-add-t30
-add-t30 c =
+add-t32 : tie.Need-add-t32
+add-t32 c =
     let s =
     c .before .before .before .before .before .before .before .before .before .before .before .before .before .before .before .before .before .before .before .before .before .before in
-    let h = s .pre .low-sv (c .before .top-wanted .result) in
+    let h = s .pre .0 .low-sv (c .before .top-wanted .result) in
     omega (arith, h)
 
-add-t34 : tie.Need-add-t34
-add-t34 c =
+add-t36 : tie.Need-add-t36
+add-t36 c =
     let s =
     c .before .before .before .before .before .before .before .before .before .before .before .before .before .before .before .before .before .before .before .before .before .before in
-    let h = s .pre .low-st (c .before .top-wanted .result) in
+    let h = s .pre .0 .low-st (c .before .top-wanted .result) in
     omega (arith, h)
 
 returns : tie.Need-returns
@@ -40,9 +48,9 @@ returns c =
     let g = s .args .g in
     let l = c .before .before .before .before .before .before .before .before .before .before .before .before .side-thresholds in
     let k = c .before .before .before .before .before .before .before .before .side-thresholds2 in
-    let m = may-search g (s .pre) in
+    let m = may-search g (s .pre .0) in
     answer-yes (g .m) (g .sv) (g .st) (g .«rank_s») (g .«rank_t») (g .«quota_s») (g .«quota_t») (l .result) (k .result) (s .args .p .now) (m .2) (m .3)
-    (l .ensures) (k .ensures) (g .ns) (g .nt) (g .tied) (c .before .top-wanted .result) (c .before .top-wanted .ensures) (c .if1 .taken)
+    (l .ensures (g .m) (s .args .p .now) (m .0) (s .pre .2)) (k .ensures (g .m) (s .args .p .now) (m .1) (s .pre .2)) (g .ns) (g .nt) (g .tied) (c .before .top-wanted .result) (c .before .top-wanted .ensures) (c .if1 .taken)
 
 returns-2 : tie.Need-returns-2
 returns-2 c =
@@ -51,11 +59,11 @@ returns-2 c =
     let g = s .args .g in
     let l = c .before .before .before .before .before .before .before .before .before .before .before .before .side-thresholds in
     let k = c .before .before .before .before .before .before .before .before .side-thresholds2 in
-    let m = may-search g (s .pre) in
+    let m = may-search g (s .pre .0) in
     answer-no (g .m) (g .sv) (g .st) (g .«rank_s») (g .«rank_t») (g .«quota_s») (g .«quota_t») (l .result) (k .result) (s .args .p .now) (m .2) (m .3)
-    (l .ensures) (k .ensures) (g .ns) (g .nt) (g .tied) (rw (← c .before .top-wanted .ensures) (c .if1 .left))
+    (l .ensures (g .m) (s .args .p .now) (m .0) (s .pre .2)) (k .ensures (g .m) (s .args .p .now) (m .1) (s .pre .2)) (g .ns) (g .nt) (g .tied) (rw (← c .before .top-wanted .ensures) (c .if1 .left))
 
 pub blocking-spec : {M : Type 1} → statement M
 blocking-spec =
-    tie.close (tie.spec side-thresholds-requires side-thresholds-requires-2 top-wanted-requires (λ c. search needs) add-t30
-    (λ c. search needs) add-t34 returns returns-2)
+    tie.close (tie.spec side-thresholds-requires side-thresholds-requires-2 top-wanted-requires (λ c. search needs) add-t32
+    (λ c. search needs) add-t36 returns returns-2)

@@ -3,7 +3,8 @@ use mathlib.Core.Path.{refl}
 use mathlib.Core.Path.{ap}
 use Rattle.model.specs.Desk.{blocking, refused}
 use Rattle.desk.specs.State.{by-state}
-use Rattle.desk.specs.Calls.{state-is, arrays-are, blocking-reply}
+use Rattle.finder_ending.specs.EndReached.{few-edges}
+use Rattle.desk.specs.Calls.{state-is, arrays-are, plan-shown, plan-listed, blocking-reply}
 use borrow.Author.Needs.{needs}
 use Rattle.desk.proofs.Desk.blocking.Statement.{statement}
 use Rattle.desk.proofs.Desk.blocking.Tie as tie
@@ -15,12 +16,16 @@ returns c =
     by-state (d .self) blocking tt (state-is (d .self) (l .ensures)) (c .before .if1 .taken) (ap (refused (l .result .refusal)) (c .group-of .ensures))
 
 blocking-requires : tie.Need-blocking-requires
-blocking-requires c κs = arrays-are (c .before .before .before .before .args .self) (c .before .before .before .loaded .ensures) (c .before .before .if1 .left)
+blocking-requires c κs =
+    let d = c .before .before .before .before .before .before .args .self in
+    let k = c .before .before .before .before .before .loaded in
+    let z = c .before .before .before .before .if1 .left in
+    let L = arrays-are d (k .ensures) z in
+    (L, few-edges (k .result .g) L (k .result .plan) (plan-shown d (k .ensures) z), plan-listed d (k .ensures) z)
 
 returns-2 : tie.Need-returns-2
 returns-2 c =
-    blocking-reply (c .before .before .before .before .before .args .self) (c .before .before .before .before .loaded .ensures)
-    (c .before .before .before .if1 .left) refl (c .blocking .ensures)
+    blocking-reply (c .before .before .before .before .before .before .before .args .self) (c .before .before .before .before .before .before .loaded .ensures) (c .before .before .before .before .before .if1 .left) refl (c .blocking .ensures)
 
 pub blocking-spec : {M : Type 1} → statement M
 blocking-spec = tie.close (tie.spec (λ c κs. search needs) (λ c κs. search needs) returns blocking-requires returns-2)
