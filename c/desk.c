@@ -1,6 +1,7 @@
 /* A desk behind a pipe: reads calls from standard input, makes each through crew.h and writes its numbers and its buffers to standard
-   output. The tests in rust/planner/tests/header.rs start it and hold every answer against the reference. A number travels as eight bytes,
-   low byte first; a buffer as its bytes. It ends with its input. */
+   output. The tests in rust/planner/tests/header.rs start it and hold every answer against the reference. A call is a letter, its number of one
+   byte where it has one, and what it is lent, each after its length. Of an answer a number travels as eight bytes, low byte first; a buffer as
+   its bytes. It ends with its input. */
 #include <crew.h>
 
 #include <stdio.h>
@@ -28,6 +29,12 @@ static void give(const void *from, size_t length) {
     if (fwrite(from, 1, length, stdout) != length) {
         exit(2);
     }
+}
+
+static uint8_t take_byte(void) {
+    uint8_t byte;
+    take(&byte, 1);
+    return byte;
 }
 
 static size_t take_length(void) {
@@ -136,28 +143,66 @@ static struct crew_desk blocking(struct crew_desk desk) {
     return reply.desk;
 }
 
-static struct crew_desk find(struct crew_desk desk) {
-    struct lent records = take_lent();
-    struct lent left = take_lent();
-    struct lent plan = take_lent();
-    struct lent rival = take_lent();
-    size_t steps = records.length / sizeof(struct crew_step);
-    struct crew_step *diary = (struct crew_step *)buffer(steps * sizeof(struct crew_step));
-    struct crew_desk_found reply;
-    memcpy(diary, records.bytes, steps * sizeof(struct crew_step));
-    reply = crew_find(desk, diary, steps, left.bytes, left.length, plan.bytes, plan.length, rival.bytes, rival.length);
-    memcpy(records.bytes, diary, steps * sizeof(struct crew_step));
-    free(diary);
+/* the finder's buffers; the diary's records travel as their bytes */
+struct buffers {
+    struct lent records;
+    struct lent left;
+    struct lent plan;
+    struct lent rival;
+    struct crew_step *diary;
+    size_t steps;
+};
+
+static struct buffers take_buffers(void) {
+    struct buffers lent;
+    lent.records = take_lent();
+    lent.left = take_lent();
+    lent.plan = take_lent();
+    lent.rival = take_lent();
+    lent.steps = lent.records.length / sizeof(struct crew_step);
+    lent.diary = (struct crew_step *)buffer(lent.steps * sizeof(struct crew_step));
+    memcpy(lent.diary, lent.records.bytes, lent.steps * sizeof(struct crew_step));
+    return lent;
+}
+
+static struct crew_desk give_found(struct crew_desk_found reply, struct buffers lent) {
+    memcpy(lent.records.bytes, lent.diary, lent.steps * sizeof(struct crew_step));
+    free(lent.diary);
     give_number(reply.kind);
     give_number(reply.refusal);
     give_number(reply.vote);
     give_number((int64_t)reply.steps);
     give_number((int64_t)reply.left);
-    give_back(records);
-    give_back(left);
-    give_back(plan);
-    give_back(rival);
+    give_back(lent.records);
+    give_back(lent.left);
+    give_back(lent.plan);
+    give_back(lent.rival);
     return reply.desk;
+}
+
+static struct crew_desk find(struct crew_desk desk) {
+    struct buffers lent = take_buffers();
+    struct crew_desk_found reply = crew_find(desk, lent.diary, lent.steps, lent.left.bytes, lent.left.length, lent.plan.bytes,
+                                             lent.plan.length, lent.rival.bytes, lent.rival.length);
+    return give_found(reply, lent);
+}
+
+static struct crew_desk join(struct crew_desk desk) {
+    uint8_t quota = take_byte();
+    struct lent list = take_lent();
+    struct buffers lent = take_buffers();
+    struct crew_desk_found reply = crew_join(desk, quota, list.bytes, list.length, lent.diary, lent.steps, lent.left.bytes, lent.left.length,
+                                             lent.plan.bytes, lent.plan.length, lent.rival.bytes, lent.rival.length);
+    free(list.bytes);
+    return give_found(reply, lent);
+}
+
+static struct crew_desk leave(struct crew_desk desk) {
+    uint8_t number = take_byte();
+    struct buffers lent = take_buffers();
+    struct crew_desk_found reply = crew_leave(desk, number, lent.diary, lent.steps, lent.left.bytes, lent.left.length, lent.plan.bytes,
+                                              lent.plan.length, lent.rival.bytes, lent.rival.length);
+    return give_found(reply, lent);
 }
 
 static void read_roster(void) {
@@ -167,17 +212,13 @@ static void read_roster(void) {
 }
 
 static void group(void) {
-    uint8_t number;
-    take(&number, 1);
-    give_number(crew_group(number));
+    give_number(crew_group(take_byte()));
 }
 
 int main(void) {
     struct crew_desk desk = crew_open();
     for (;;) {
-        uint8_t call;
-        take(&call, 1);
-        switch (call) {
+        switch (take_byte()) {
         case 'O': desk = crew_open(); break;
         case 'R': desk = load_roster(desk); break;
         case 'P': desk = load_plan(desk); break;
@@ -187,6 +228,8 @@ int main(void) {
         case 'c': desk = compare(desk); break;
         case 'b': desk = blocking(desk); break;
         case 'f': desk = find(desk); break;
+        case 'J': desk = join(desk); break;
+        case 'L': desk = leave(desk); break;
         case 'a': read_roster(); break;
         case 'g': group(); break;
         default: return 2;

@@ -97,7 +97,8 @@ struct crew_step {
     uint8_t rule;
 };
 
-/* what the finder answers: kind 1 a plan, 2 none with pairs left, 3 none with a rival, 4 a refusal; each number 0 where the answer has none */
+/* what the finder answers, and joining and leaving with it: kind 1 a plan, 2 none with pairs left, 3 none with a rival, 4 a refusal; each
+   number 0 where the answer has none */
 struct crew_desk_found {
     struct crew_desk desk;
     uint8_t kind;
@@ -122,7 +123,7 @@ struct crew_desk_loaded crew_load_roster(struct crew_desk desk, const uint8_t *f
 /* takes a plan of the held roster in, in the place of the one held; a refused file changes nothing; 13 without a roster */
 struct crew_desk_loaded crew_load_plan(struct crew_desk desk, const uint8_t *file, size_t file_len);
 
-/* the calls below leave the desk as it is. 13 without a roster, then 14 without a plan where one is needed, then 15 */
+/* the calls from here to crew_find leave the desk as it is. 13 without a roster, then 14 without a plan where one is needed, then 15 */
 
 /* writes the held roster to the front of out, which has at least CREW_ROSTER_BYTES */
 struct crew_desk_written crew_write_roster(struct crew_desk desk, uint8_t *out, size_t out_len);
@@ -145,6 +146,21 @@ struct crew_desk_blocker crew_blocking(struct crew_desk desk);
    pairs left, kind 3 the candidate to plan and its rival; left has at least CREW_LEFT_BYTES, plan and rival CREW_PLAN_BYTES each */
 struct crew_desk_found crew_find(struct crew_desk desk, struct crew_step *diary, size_t diary_len, uint8_t *left, size_t left_len,
                                  uint8_t *plan, size_t plan_len, uint8_t *rival, size_t rival_len);
+
+/* the two calls below change the held roster, and answer and write what crew_find does on the changed one, into buffers of the same sizes.
+   A refused call changes nothing. 13 without a roster, then 15; 14 never */
+
+/* a surveyor joins, with the number after the highest: the quota, and one stand list as a file: a length byte, then stand numbers, best first.
+   Each listed stand has the joiner at the end of its tie. The held plan stays. After 15: 3 for a quota above 8; 17 where all 32 numbers are
+   taken, leavers' too, or the quotas would pass 64; then the list's own refusals, 1, 2, 4, 5 and 9 */
+struct crew_desk_found crew_join(struct crew_desk desk, uint8_t quota, const uint8_t *list, size_t list_len, struct crew_step *diary,
+                                 size_t diary_len, uint8_t *left, size_t left_len, uint8_t *plan, size_t plan_len, uint8_t *rival,
+                                 size_t rival_len);
+
+/* a surveyor leaves and keeps the number, with quota 0 and no pairs; the held plan loses the leaver's pairs. Leaving twice changes nothing
+   more. After 15: 16 for a number that is 0 or above the surveyors' count */
+struct crew_desk_found crew_leave(struct crew_desk desk, uint8_t number, struct crew_step *diary, size_t diary_len, uint8_t *left,
+                                  size_t left_len, uint8_t *plan, size_t plan_len, uint8_t *rival, size_t rival_len);
 
 #ifdef __cplusplus
 }

@@ -12,7 +12,7 @@ use Rattle.model.specs.Roster.{Roster}
 use Rattle.model.specs.RosterFile.{readRoster}
 use Rattle.model.specs.Edges.{instanceOf}
 use Rattle.model.specs.Instance.{Instance}
-use Rattle.model.specs.Plans.{Plan, plansOf}
+use Rattle.model.specs.Plans.{Plan, on, plansOf}
 use Rattle.model.specs.PlanFile.{readPlan}
 use Rattle.arrays.specs.ArrayInstance.{flag}
 use Rattle.instance.specs.declared.Instance as arrays
@@ -29,7 +29,7 @@ use Rattle.desk_loaded.specs.OnDesk.{PlanIn, OnRoster, LoadedFrom, its-roster, 
 use Rattle.desk.specs.declared.Desk.{Desk}
 use Rattle.desk.specs.declared.changing.Change.{Change}
 use Rattle.desk.specs.Held.{rosterBytes, planBytes}
-use Rattle.desk.specs.Changing.{ToRoster, Unchanged, lessOf, StoredAs, Taken, ChangedFor, ChangeFor, ChangedTo}
+use Rattle.desk.specs.Changing.{ToRoster, Unchanged, LessOf, StoredAs, Taken, ChangedFor, ChangeFor, ChangedTo}
 
 -- ---- the plan held, or none
 -- that there is a plan does not depend on the roster it is held with
@@ -37,10 +37,10 @@ abbrev nobody : Roster
 nobody = record { quotasS = []; quotasT = []; listsS = []; listsT = [] }
 
 module _ (g : arrays.Instance) (file : List ℕ) {l : OnDesk} (F : OnRoster g file true false l) where
-  pub no-plan : (s : ℕ) → 0 < l .refusal → [] ≡ lessOf (shownBy g) s (readPlan (shownBy g) file)
+  pub no-plan : (s : ℕ) → 0 < l .refusal → LessOf (shownBy g) s (readPlan (shownBy g) file) []
   no-plan s h = go (readPlan (shownBy g) file) (F .refusal nobody)
     where
-      go : (y : Reading Plan) → l .refusal ≡ stateNumber (heldPlan nobody y) true false → [] ≡ lessOf (shownBy g) s y
+      go : (y : Reading Plan) → l .refusal ≡ stateNumber (heldPlan nobody y) true false → LessOf (shownBy g) s y []
       go (accepted M) e = absurd (let z : ⊥ = omega arith in z)
       go (refused n) e = refl
 
@@ -53,14 +53,18 @@ module _ (g : arrays.Instance) (file : List ℕ) {l : OnDesk} (F : OnRoster g fi
       go (refused n) a e = absurd (let z : ⊥ = omega arith in z)
 
   module _ (L : Loaded g) (z : l .refusal ≤ 0) where
-    pub plan-few : Few (g .m) (l .plan)
-    plan-few = given (its-plan z) (λ (M, a).
+    plan-here : (M : Plan) × (readPlan (shownBy g) file ≡ accepted M) × (M ∈ plansOf (shownBy g)) × ((e : ℕ) → flag (l .plan) e ≡ on M e)
+    plan-here = given (its-plan z) (λ (M, a).
         let P = F .planned tt M a .0 in
-        few-edges g L (l .plan) (M, (subst (λ h. M ∈ plansOf (shownBy h)) (F .arrays) (P .within), P .flags)))
+        (M, a, subst (λ h. M ∈ plansOf (shownBy h)) (F .arrays) (P .within), P .flags))
 
-    pub plan-less : (s : ℕ) (c : CarriedPlan) → CarriedFor (shownBy g) (l .plan) s c → take (c .len) (c .bytes) ≡ lessOf (shownBy g) s (readPlan (shownBy g) file)
-    plan-less s c C = given (its-plan z) (λ (M, a).
-        C M (λ e h. F .planned tt M a .0 .flags e) .1 ∙ sym (ap (lessOf (shownBy g) s) a))
+    pub plan-few : Few (g .m) (l .plan)
+    plan-few = given plan-here (λ (M, a, m, f). few-edges g L (l .plan) (M, (m, f)))
+
+    pub plan-less : (s : ℕ) (c : CarriedPlan) → CarriedFor (shownBy g) (l .plan) s c
+        → LessOf (shownBy g) s (readPlan (shownBy g) file) (take (c .len) (c .bytes))
+    plan-less s c C = given plan-here (λ (M, a, m, f).
+        subst (λ y. LessOf (shownBy g) s y (take (c .len) (c .bytes))) (sym a) (m, C M (λ e h. f e) .1))
 
 -- ---- the answer of the change's bytes
 module _ (G : Instance) (d : Desk) (s : ℕ) (c : Changed) (r : Change) where
@@ -89,7 +93,7 @@ module _ (d : Desk) (b : Bool) (change : ToRoster) (s : ℕ) {l : OnDesk} (F : L
     change-taken {c} C {r} t = given (its-roster z F) (λ (R, a).
         subst (λ x. ChangeFor x b change s d r) (sym a)
         (subst (λ b. ChangeFor (accepted R) b change s d r) (sym (its-length z F))
-        (go R (change R) (C R a) (subst (λ G. Taken G d s c r) (F .instance R a .1) t))))
+        (F .fitting R a, go R (change R) (C R a) (subst (λ G. Taken G d s c r) (F .instance R a .1) t))))
       where
         go : (R : Roster) (x : Reading Roster) → Gives x c → Taken (instanceOf R) d s c r → ChangedFor R x s d r
         go R (refused n) (e, h) k = (h, subst (λ n. Unchanged n d r) e (k .refuses (subst (λ n. 0 < n) (sym e) h)))

@@ -6,13 +6,14 @@ use mathlib.Core.Bool.{Bool, true, false}
 use mathlib.Core.List.{List, []}
 use lib.ListN.{take}
 use lib.Dec.{T}
+use Rattle.lists.specs.Sum.{_∈_}
 use Rattle.model.specs.Reading.{Reading, accepted, refused}
-use Rattle.model.specs.Roster.{Roster}
+use Rattle.model.specs.Roster.{Roster, fits}
 use Rattle.model.specs.RosterFile.{readRoster, writeRoster}
 use Rattle.model.specs.Edges.{instanceOf}
 use Rattle.model.specs.Instance.{Instance}
 use Rattle.model.specs.Changes.{joinOn}
-use Rattle.model.specs.Plans.{Plan}
+use Rattle.model.specs.Plans.{Plan, plansOf}
 use Rattle.model.specs.PlanFile as plans
 use Rattle.model.specs.PlanFile.{readPlan}
 use Rattle.theory_files.specs.Reads.{isBytes}
@@ -34,13 +35,13 @@ ToRoster = Roster → Reading Roster
 abbrev pub Unchanged : ℕ → Desk → Change → Type 0
 Unchanged n d r = (r .refusal ≡ n) × (r .desk ≡ d)
 
--- the bytes of a plan held less the pairs of a number; none where no plan is held
-abbrev pub lessOf : Instance → (number : ℕ) → Reading Plan → List ℕ
-lessOf G s (accepted M) = plans.planBytes G (besides G M s)
-lessOf G s (refused n) = []
+-- the bytes of the plan held, which is within the quotas, less the pairs of a number; none where no plan is held
+abbrev pub LessOf : Instance → (number : ℕ) → Reading Plan → List ℕ → Type 0
+LessOf G s (accepted M) bytes = (M ∈ plansOf G) × (bytes ≡ plans.planBytes G (besides G M s))
+LessOf G s (refused n) bytes = bytes ≡ []
 
 abbrev pub StoredAs : Instance → (plan : List ℕ) → (number : ℕ) → (roster : List ℕ) → Desk → Type 0
-StoredAs G plan s roster d′ = (rosterBytes d′ ≡ roster) × (planBytes d′ ≡ lessOf G s (readPlan G plan))
+StoredAs G plan s roster d′ = (rosterBytes d′ ≡ roster) × LessOf G s (readPlan G plan) (planBytes d′)
 
 -- by the answer of the change's bytes
 pub record Taken (G : Instance) (d : Desk) (s : ℕ) (c : Changed) (r : Change) : Type 0 where
@@ -55,7 +56,7 @@ ChangedFor R (accepted H) s d r = (r .refusal ≡ 0) × StoredAs (instanceOf R) 
 abbrev pub ChangeFor : Reading Roster → (isShort : Bool) → ToRoster → (number : ℕ) → Desk → Change → Type 0
 ChangeFor (refused n) b change s d r = Unchanged 13 d r
 ChangeFor (accepted R) true change s d r = Unchanged 15 d r
-ChangeFor (accepted R) false change s d r = ChangedFor R (change R) s d r
+ChangeFor (accepted R) false change s d r = T (fits R) × ChangedFor R (change R) s d r
 
 abbrev pub ChangedTo : Desk → (isShort : Bool) → ToRoster → (number : ℕ) → Change → Type 0
 ChangedTo d b change s r = ChangeFor (readRoster (rosterBytes d)) b change s d r

@@ -82,7 +82,7 @@ module _ (s : List Step) (l p v : List ℕ) where
   abbrev call : Call
   call = find (recordsIn s) l p v
 
-  short-is : short (length s) l p v ≡ lentShort call
+  pub short-is : short (length s) l p v ≡ lentShort call
   short-is = ap (λ n. ltb n diarySize || (ltb (length l) leftSize || (ltb (length p) planSize || ltb (length v) planSize))) (sym (length-map s recordIn))
 
   -- the state's refusal, by the roster's reading

@@ -10,7 +10,7 @@ use Rattle.roster_parts.specs.Gives.{rosterOf}
 
 -- a stand's list with some entries behind its tie
 abbrev pub withLast : List ℕ → Ranking → List ℕ
-withLast last R = length (R .strict) ∷ (length (R .tied) + length last) % 256 ∷ (entries R ++ last)
+withLast last R = length (R .strict) % 256 ∷ (length (R .tied) + length last) % 256 ∷ (entries R ++ last)
 
 -- "enters each listed stand's tie at its end"
 abbrev pub entering : (joiner : List ℕ) (enters : ℕ → Bool) → ℕ → Ranking → List ℕ

@@ -1,5 +1,5 @@
 -- The bytes written where a surveyor joins are those of the roster with the joiner.
-use Prim.Native.Nat.{ℕ, suc, _+_, _-_, _%_, _≤_, _<_, zero-le, suc-le-suc}
+use Prim.Native.Nat.{ℕ, suc, _+_, _%_, _≤_, _<_, zero-le, suc-le-suc}
 use native.Mathlib.Omega.{arith}
 use mathlib.Core.Path.{_≡_, refl, sym, ap, ap₂, _∙_, subst}
 use mathlib.Core.Bool.{Bool, true, false, cond, _||_}
@@ -30,27 +30,36 @@ use Rattle.roster_parts.specs.Gives.{Gives, gives-refused, Holds, gives-held}
 use Rattle.roster_join.specs.Entering.{withLast, entering, nodesWith, listsWith, rankingsWith, endAt, joinedBytes}
 use Rattle.roster_join.specs.Listing.{MadeBy}
 
--- ---- the stands' lists: a tie of at most 32 has room for one more in its length byte
-one-entered : (s : ℕ) (b : Bool) (R : Ranking) → length (R .tied) ≤ 32
+-- ---- the stands' lists: a list within the limit has room for one entry more in its length bytes
+one-entered : (s : ℕ) (b : Bool) (R : Ranking) → length (entries R) ≤ nodeLimit
     → withLast (cond b (s ∷ []) []) R ≡ rankingBytes (cond b (record { strict = R .strict; tied = R .tied ++ s ∷ [] }) R)
-one-entered s true R h =
-    let n : (length (R .tied) + 1) % 256 ≡ length (R .tied ++ s ∷ []) = omega (arith, length-append (R .tied) (s ∷ [])) in
-    ap₂ (λ n z. length (R .strict) ∷ n ∷ z) n (append-assoc (R .strict) (R .tied) (s ∷ []))
-one-entered s false R h =
-    let n : (length (R .tied) + 0) % 256 ≡ length (R .tied) = omega arith in ap₂ (λ n z. length (R .strict) ∷ n ∷ z) n (append-nil (entries R))
+one-entered s b R h = go b (length-append (R .strict) (R .tied))
+  where
+    go : (b : Bool) → length (entries R) ≡ length (R .strict) + length (R .tied)
+        → withLast (cond b (s ∷ []) []) R ≡ rankingBytes (cond b (record { strict = R .strict; tied = R .tied ++ s ∷ [] }) R)
+    go true l =
+        let m : length (R .strict) % 256 ≡ length (R .strict) = omega arith in
+        let n : (length (R .tied) + 1) % 256 ≡ length (R .tied ++ s ∷ []) = omega (arith, length-append (R .tied) (s ∷ [])) in
+        ap₂ (λ x y. x ∷ y ∷ (entries R ++ s ∷ [])) m n
+        ∙ ap (λ z. length (R .strict) ∷ length (R .tied ++ s ∷ []) ∷ z) (append-assoc (R .strict) (R .tied) (s ∷ []))
+    go false l =
+        let m : length (R .strict) % 256 ≡ length (R .strict) = omega arith in
+        let n : (length (R .tied) + 0) % 256 ≡ length (R .tied) = omega arith in
+        ap₂ (λ x y. x ∷ y ∷ (entries R ++ [])) m n ∙ ap (λ z. length (R .strict) ∷ length (R .tied) ∷ z) (append-nil (entries R))
 
-each-entered : (count s : ℕ) (xs : List ℕ) (j : ℕ) (ts : List Ranking) → count ≤ 32 → T (all? (rankingFits count) ts)
+each-entered : (count s : ℕ) (xs : List ℕ) (j : ℕ) (ts : List Ranking) → count ≤ nodeLimit → T (all? (rankingFits count) ts)
     → gatherFrom (entering (s ∷ []) (λ j. elem j xs)) j ts ≡ gather rankingBytes (entered s xs j ts)
 unfolding gatherFrom
 each-entered count s xs j [] h t = refl
 each-entered count s xs j (R ∷ ts) h t =
     ap₂ (λ a b. a ++ b)
-    (one-entered s (elem j xs) R (tie-short (and-l (rankingFits count R) (all? (rankingFits count) ts) t)))
+    (one-entered s (elem j xs) R (list-short (and-l (rankingFits count R) (all? (rankingFits count) ts) t)))
     (each-entered count s xs (suc j) ts h (and-r (rankingFits count R) (all? (rankingFits count) ts) t))
   where
-    tie-short : T (rankingFits count R) → length (R .tied) ≤ 32
-    tie-short f = given (leb→le (length (entries R)) count (and-l (leb (length (entries R)) count) _ (and-l (listFits count (entries R)) (ascending 0 (R .tied)) f)))
-        (λ l. omega (arith, length-append (R .strict) (R .tied)))
+    list-short : T (rankingFits count R) → length (entries R) ≤ nodeLimit
+    list-short f =
+        let fit = and-l (listFits count (entries R)) (ascending 0 (R .tied)) f in
+        given (leb→le (length (entries R)) count (and-l (leb (length (entries R)) count) _ fit)) (λ l. omega arith)
 
 module _ (f : List ℕ) (r : Roster) (e : writeRoster r ≡ f) (ok : T (fits r)) (q : ℕ) (xs : List ℕ) where
   abbrev ns : ℕ
@@ -82,7 +91,7 @@ module _ (f : List ℕ) (r : Roster) (e : writeRoster r ≡ f) (ok : T (fits r))
       ∙ rankings-are (entering (suc ns ∷ []) (λ j. elem j xs)) (r .listsT) f (endAt f ns nt + 2) [] (rankings-from f r (endAt f ns nt) from-end) 1
       ∙ each-entered ns (suc ns) xs 1 (r .listsT) (ns-small r ok) (fits-lists r ok .fitT)
 
-  pub joined-gives : q ≤ quotaLimit → ns < nodeLimit → sum (λ x. x) (r .quotasS) + q ≤ quotaSumLimit → T (listFits nt xs) → (c : Changed)
+  joined-gives : q ≤ quotaLimit → ns < nodeLimit → sum (λ x. x) (r .quotasS) + q ≤ quotaSumLimit → T (listFits nt xs) → (c : Changed)
       → Holds (joinedBytes f ns nt q (listBytes xs) (λ j. elem j xs)) c → Gives (accepted (joined r q xs)) c
   unfolding joined
   joined-gives hq room hs fit c h = gives-held (joined r q xs) (fits-joined r q xs ok hq room hs fit)

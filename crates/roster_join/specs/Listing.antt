@@ -1,8 +1,7 @@
 -- The joiner's list, read as a file of its own: the roster with the joiner, or the list's refusal.
 use Prim.Native.Nat.{ℕ, zero, suc, _≤_, _<_, zero-le, suc-le-suc}
-use native.Mathlib.Omega.{arith}
-use mathlib.Core.Path.{_≡_, refl, sym, ap, _∙_, subst}
-use mathlib.Core.Bool.{Bool, true, false, not}
+use mathlib.Core.Path.{_≡_, sym, ap, _∙_, subst}
+use mathlib.Core.Bool.{Bool, true, false}
 use mathlib.Core.List.{List, [], _∷_, _++_}
 use lib.ListN.{length, drop, getD, drop-of-length-le}
 use lib.Seq.{drop-cons}
@@ -15,7 +14,7 @@ use Rattle.theory_files.specs.Reads.{isBytes}
 use Rattle.theory_files.specs.Sections.{list}
 use Rattle.roster_reading.specs.declared.Section.{Section}
 use Rattle.roster_reading.specs.declared.Section.the-variants as section
-use Rattle.roster_reading.specs.Place.{placed, place-refused, place-read}
+use Rattle.roster_reading.specs.Place.{place-refused, place-read}
 use Rattle.roster_reading.specs.Row.{Marked, Shows}
 use Rattle.roster_parts.specs.declared.Changed.{Changed}
 use Rattle.roster_parts.specs.Gives.{Holds}
@@ -31,7 +30,8 @@ abbrev Told : {A : Type 0} → Reading A → Type 0
 Told (accepted a) = Unit {0}
 Told (refused n) = 0 < n
 
-told-then : {A B : Type 0} (r : Reading (A × List ℕ)) (f : A → List ℕ → Reading (B × List ℕ)) → Told r → ((a : A) (bs : List ℕ) → Told (f a bs)) → Told (r then f)
+told-then : {A B : Type 0} (r : Reading (A × List ℕ)) (f : A → List ℕ → Reading (B × List ℕ)) → Told r → ((a : A) (bs : List ℕ) → Told (f a bs))
+    → Told (r then f)
 told-then (accepted (a, bs)) f t h = h a bs
 told-then (refused n) f t h = t
 

@@ -3,9 +3,10 @@
 ghost use mathlib.Core.Path.{_≡_};
 ghost use mathlib.Core.Bool.{false, cond};
 ghost use mathlib.Core.List.{[]};
-ghost use Prim.Native.Nat.{_+_, _*_, _≤_, _<_};
+ghost use Prim.Native.Nat.{_≤_};
 ghost use lib.ListN.{length, getD};
 ghost use Rattle.lists.specs.Sum.{sum};
+ghost use Rattle.model.specs.Limits.{nodeLimit};
 ghost use Rattle.model.specs.Reading.{whole};
 ghost use Rattle.model.specs.RosterFile.{readList};
 ghost use Rattle.model.specs.Changes.{joinOn};
@@ -30,16 +31,10 @@ pub(crate) fn quota_sum(quotas: &[u8]) -> usize
     let mut total: usize = 0;
     let mut i = 0;
     while i < quotas.len() {
-        total += wide(quotas[i]);
+        total += roster_positions::byte_at(quotas, i) as usize;
         i += 1;
     }
     total
-}
-
-fn wide(b: u8) -> usize
-    ensures { λ r. ⌜ (r ≡ b) × (r ≤ 255) ⌝ }
-{
-    b as usize
 }
 
 // what comes behind a tie: the joiner, or nothing
@@ -60,16 +55,15 @@ pub(crate) fn append_ranking(
     tied: &[u8],
     last: &[u8],
 ) -> usize
-    requires { ⌜ Room n (now out) × (length (now strict) ≤ 255) × (length (now tied) ≤ 255) ⌝ }
-    ensures { λ r. ⌜ Grown (withLast (now (last .entry)) (record { strict = now (strict .entry); tied = now (tied .entry) })) n (now (out .entry)) r (now (out .exit)) ⌝ }
+    requires { ⌜ Room n (now out) ⌝ }
+    ensures { λ r. ⌜ Grown (withLast (now (last .entry)) (record { strict = now (strict .entry); tied = now (tied .entry) })) n
+        (now (out .entry)) r (now (out .exit)) ⌝ }
 {
-    let second = roster_parts::append_byte(&mut *out, n, strict.len() as u8);
-    let first = roster_parts::append_byte(
-        &mut *out,
-        second,
-        ((tied.len() + last.len()) % 256) as u8,
-    );
-    let tie = roster_parts::append(&mut *out, first, strict);
+    let strict_len = strict.len();
+    let tie_len = tied.len() + last.len();
+    let second = roster_parts::append_byte(&mut *out, n, (strict_len % 256) as u8);
+    let entries = roster_parts::append_byte(&mut *out, second, (tie_len % 256) as u8);
+    let tie = roster_parts::append(&mut *out, entries, strict);
     let end = roster_parts::append(&mut *out, tie, tied);
     roster_parts::append(&mut *out, end, last)
 }
@@ -83,8 +77,9 @@ pub(crate) fn rankings_with(
     joiner: &[u8],
     row: &[bool; ROW],
 ) -> usize
-    requires { ⌜ Room 0 (now out) × (start ≤ 10000) × (n ≤ 32) ⌝ }
-    ensures { λ r. ⌜ Grown (rankingsWith (now (file .entry)) start n (now (joiner .entry)) (λ j. getD (now (row .entry)) j false)) 0 (now (out .entry)) r (now (out .exit)) ⌝ }
+    requires { ⌜ Room 0 (now out) × (start ≤ 10000) × (n ≤ nodeLimit) ⌝ }
+    ensures { λ r. ⌜ Grown (rankingsWith (now (file .entry)) start n (now (joiner .entry)) (λ j. getD (now (row .entry)) j false)) 0
+        (now (out .entry)) r (now (out .exit)) ⌝ }
 {
     let mut len = 0;
     let mut at = start;
@@ -110,7 +105,7 @@ pub(crate) fn nodes_with(
     nt: usize,
     quota: u8,
 ) -> usize
-    requires { ⌜ Room 0 (now out) × (ns ≤ 32) × (nt ≤ 32) ⌝ }
+    requires { ⌜ Room 0 (now out) × (ns ≤ nodeLimit) × (nt ≤ nodeLimit) ⌝ }
     ensures { λ r. ⌜ Grown (nodesWith (now (file .entry)) ns nt quota) 0 (now (out .entry)) r (now (out .exit)) ⌝ }
 {
     let quotas = roster_positions::part(file, 1, ns);
@@ -146,7 +141,7 @@ pub(crate) fn joined(
     list: &[u8],
     row: &[bool; ROW],
 ) -> Changed
-    requires { ⌜ (ns ≤ 32) × (nt ≤ 32) ⌝ }
+    requires { ⌜ (ns ≤ nodeLimit) × (nt ≤ nodeLimit) ⌝ }
     ensures { λ r. ⌜ Holds (joinedBytes (now (file .entry)) ns nt quota (now (list .entry)) (λ j. getD (now (row .entry)) j false)) r ⌝ }
 {
     let start = ns + nt + 4;
@@ -168,7 +163,7 @@ pub(crate) fn joined(
 
 // "a bad list meets 1, 2, 4, 5 and 9 in document 01's order"
 pub(crate) fn listed(file: &[u8], ns: usize, nt: u8, quota: u8, list: &[u8]) -> Changed
-    requires { ⌜ (ns ≤ 32) × (nt ≤ 32) ⌝ }
+    requires { ⌜ (ns ≤ nodeLimit) × (nt ≤ nodeLimit) ⌝ }
     ensures { λ r. ⌜ MadeBy (now (file .entry)) ns nt quota (now (list .entry)) (whole (readList nt nt (now (list .entry)))) r ⌝ }
 {
     let mut row = [false; ROW];
@@ -199,9 +194,9 @@ pub fn join(file: &[u8], quota: u8, list: &[u8]) -> Changed
     let m = ns as usize;
     let quotas = roster_positions::part(file, 1, m);
     let sum = quota_sum(quotas);
-    if (QUOTA_SUM_LIMIT as usize) < sum + quota as usize {
-        return roster_parts::refused(17);
+    if sum + quota as usize <= QUOTA_SUM_LIMIT as usize {
+        let nt = roster_positions::byte_at(file, m + 1);
+        return listed(file, m, nt, quota, list);
     }
-    let nt = roster_positions::byte_at(file, m + 1);
-    listed(file, m, nt, quota, list)
+    roster_parts::refused(17)
 }

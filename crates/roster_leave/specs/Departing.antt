@@ -103,7 +103,7 @@ module _ (f : List ℕ) (r : Roster) (e : writeRoster r ≡ f) (ok : T (fits r))
       (rankings-from f r (endAt f ns nt (suc v)) from-end) 1
       ∙ each-left (suc v) 1 (r .listsT)
 
-  pub left-gives : {c : Changed} → Holds (leftBytes f ns nt (suc v)) c → Gives (accepted (departed r (suc v))) c
+  left-gives : {c : Changed} → Holds (leftBytes f ns nt (suc v)) c → Gives (accepted (departed r (suc v))) c
   unfolding departed
   left-gives {c} h = gives-held (departed r (suc v)) (fits-departed r v ok inside)
       (nodesLeft f (ns + nt + 2) (suc v)) (listsLeft f (listsStart r) (mineAt f ns nt (suc v)) (nextAt f ns nt (suc v)) (endAt f ns nt (suc v)))

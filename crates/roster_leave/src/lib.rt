@@ -1,8 +1,9 @@
 // A surveyor leaves the field: request W-202 of document 02. The bytes of the roster in which the leaver keeps the number, with quota zero and
 // no pairs, made from the bytes of an accepted roster.
 ghost use mathlib.Core.Path.{_≡_};
-ghost use Prim.Native.Nat.{_+_, _≤_, _<_};
+ghost use Prim.Native.Nat.{_≤_, _<_};
 ghost use lib.ListN.{length};
+ghost use Rattle.model.specs.Limits.{nodeLimit};
 ghost use Rattle.model.specs.RosterFile.{rankingBytes};
 ghost use Rattle.model.specs.Changes.{without, leaveOn};
 ghost use Rattle.instance.specs.Accepted.{RosterAccepted};
@@ -49,7 +50,7 @@ pub(crate) fn append_others(out: &mut [u8; ROSTER_SIZE], n: usize, list: &[u8], 
     at
 }
 
-// a stand's list: "those behind move up"
+// a stand's list without the number; those behind it move up
 pub(crate) fn append_ranking(
     out: &mut [u8; ROSTER_SIZE],
     n: usize,
@@ -58,14 +59,15 @@ pub(crate) fn append_ranking(
     number: u8,
 ) -> usize
     requires { ⌜ Room n (now out) × (length (now strict) ≤ 255) × (length (now tied) ≤ 255) ⌝ }
-    ensures { λ r. ⌜ Grown (rankingBytes (leftBy number (record { strict = now (strict .entry); tied = now (tied .entry) }))) n (now (out .entry)) r (now (out .exit)) ⌝ }
+    ensures { λ r. ⌜ Grown (rankingBytes (leftBy number (record { strict = now (strict .entry); tied = now (tied .entry) }))) n
+        (now (out .entry)) r (now (out .exit)) ⌝ }
 {
     let a = others(strict, number);
     let b = others(tied, number);
     let second = roster_parts::append_byte(&mut *out, n, a as u8);
-    let first = roster_parts::append_byte(&mut *out, second, b as u8);
-    let behind = append_others(&mut *out, first, strict, number);
-    append_others(&mut *out, behind, tied, number)
+    let entries = roster_parts::append_byte(&mut *out, second, b as u8);
+    let tie = append_others(&mut *out, entries, strict, number);
+    append_others(&mut *out, tie, tied, number)
 }
 
 // n stands' lists from a place of the file on
@@ -76,7 +78,7 @@ pub(crate) fn rankings_left(
     n: usize,
     number: u8,
 ) -> usize
-    requires { ⌜ Room 0 (now out) × (start ≤ 10000) × (n ≤ 32) ⌝ }
+    requires { ⌜ Room 0 (now out) × (start ≤ 10000) × (n ≤ nodeLimit) ⌝ }
     ensures { λ r. ⌜ Grown (rankingsLeft (now (file .entry)) start n number) 0 (now (out .entry)) r (now (out .exit)) ⌝ }
 {
     let mut len = 0;
@@ -127,7 +129,7 @@ pub(crate) fn lists_left(
 
 // the roster of ns surveyors and nt stands without the pairs of one of them
 pub(crate) fn left(file: &[u8], ns: usize, nt: usize, number: u8) -> Changed
-    requires { ⌜ (ns ≤ 32) × (nt ≤ 32) × (0 < number) × (number ≤ ns) ⌝ }
+    requires { ⌜ (ns ≤ nodeLimit) × (nt ≤ nodeLimit) × (0 < number) × (number ≤ ns) ⌝ }
     ensures { λ r. ⌜ Holds (leftBytes (now (file .entry)) ns nt number) r ⌝ }
 {
     let s = number as usize;

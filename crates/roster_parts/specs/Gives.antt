@@ -1,8 +1,8 @@
 -- The answer of a change: the bytes of the changed roster, or the model's refusal.
-use Prim.Native.Nat.{ℕ, _+_, _*_, _-_, _≤_, _<_}
+use Prim.Native.Nat.{ℕ, _*_, _-_, _≤_, _<_}
 use native.Mathlib.Omega.{arith}
 use mathlib.Core.Path.{_≡_, refl, sym, ap, ap₂, _∙_, subst}
-use mathlib.Core.List.{List, [], _++_, append-assoc}
+use mathlib.Core.List.{List, _++_, append-assoc}
 use lib.ListN.{length, take, length-append}
 use lib.Seq.{take-all}
 use lib.Dec.{T}
@@ -16,6 +16,7 @@ use Rattle.theory_files.specs.Rosters.{lists-size, rankings-size, roster-size}
 use Rattle.roster_parts.specs.declared.Changed.{Changed}
 use Rattle.roster_parts.specs.Growth.{sectionOf, Grown, grown-then, grown-as}
 
+-- accepted: the front of the array is the changed roster's bytes; refused: the number of the refusal, which is never 0
 abbrev pub Gives : Reading Roster → Changed → Type 0
 Gives (accepted H) c = (c .refusal ≡ 0) × (c .len ≤ rosterSize) × (take (c .len) (c .roster) ≡ writeRoster H)
 Gives (refused n) c = (c .refusal ≡ n) × (0 < n)
@@ -88,6 +89,7 @@ module _ (H : Roster) (ok : T (fits H)) (nodes lists rankings : List ℕ) (n : n
   gives-held {c} ns nt a b h = (
     h .none,
     h .few,
-    h .front ∙ ap (take rosterSize) (ap₂ (λ x y. rosterOf x y nodes lists rankings) (sym (fits-lists H ok .countS ∙ a)) (sym (fits-lists H ok .countT ∙ b)) ∙ written)
+    h .front ∙ ap (take rosterSize)
+        (ap₂ (λ x y. rosterOf x y nodes lists rankings) (sym (fits-lists H ok .countS ∙ a)) (sym (fits-lists H ok .countT ∙ b)) ∙ written)
         ∙ take-all rosterSize (writeRoster H) (roster-size H ok),
   )

@@ -6,8 +6,8 @@ use native.Mathlib.Decide.{decLt}
 use mathlib.Core.Path.{_≡_, refl, sym, ap, _∙_, subst}
 use mathlib.Core.Logic.{by-cases}
 use mathlib.Core.List.{List, [], _∷_, _++_, append-assoc, append-nil}
-use lib.ListN.{length, take, set, length-take, length-set, length-append}
-use lib.Seq.{take-all, take-append-le, take-suc-set, take-set-lt, take-set-le, set-out, length-take-le}
+use lib.ListN.{length, take, drop, getD, set, length-take, length-set, length-append}
+use lib.Seq.{take-all, take-append-le, take-suc-set, take-set-lt, take-set-le, set-out, drop-cons}
 use Rattle.model.specs.Limits.{rosterSize}
 use Rattle.model.specs.RosterFile.{wideBytes}
 
@@ -31,7 +31,7 @@ cut-front (suc c) [] ys = refl
 cut-front (suc c) (x ∷ xs) ys = ap (λ z. x ∷ z) (cut-front c xs ys)
 
 -- ---- nothing, one byte, one part behind another
-pub grown-none : (n : ℕ) (o : List ℕ) → Room n o → Grown [] n o n o
+grown-none : (n : ℕ) (o : List ℕ) → Room n o → Grown [] n o n o
 grown-none n o (h, l) = record {
   few = h;
   size = l;
@@ -87,6 +87,10 @@ going-past {whole} {left} {more} e g = record { done = g .done; grown = g .grown
 pub going-ends : {whole left : List ℕ} {n r : ℕ} {o q : List ℕ} → left ≡ [] → Going whole left n o r q → Grown whole n o r q
 going-ends {whole} {left} e g = grown-as (sym (append-nil (g .done)) ∙ ap (λ z. g .done ++ z) (sym e) ∙ g .is) (g .grown)
 
+-- the bytes of a part from a place on: one, and those behind it
+pub next-byte : (xs : List ℕ) (i : ℕ) → i < length xs → drop i xs ≡ (getD xs i 0 ∷ []) ++ drop (i + 1) xs
+next-byte xs i h = rw (add-one, drop-cons xs i 0 h)
+
 -- ---- a byte of the front written anew
 take-set : (n : ℕ) (xs : List ℕ) (i a : ℕ) → take n (set xs i a) ≡ set (take n xs) i a
 take-set n xs i a = by-cases (decLt i n) (take-set-lt n xs i a)
@@ -98,10 +102,3 @@ grown-set {xs} {r} {o} {q} i a g = record {
   size = length-set q i a ∙ g .size;
   front = take-set r q i a ∙ ap (λ z. set z i a) (g .front) ∙ sym (take-set rosterSize xs i a);
 }
-
--- ---- the front of an array that was filled from its start
-pub grown-whole : {xs : List ℕ} {r : ℕ} {o q : List ℕ} → length xs ≤ rosterSize → Grown xs 0 o r q → take r q ≡ xs
-grown-whole {xs} h g = g .front ∙ take-all rosterSize xs h
-
-pub grown-length : {xs : List ℕ} {r : ℕ} {o q : List ℕ} → length xs ≤ rosterSize → Grown xs 0 o r q → r ≡ length xs
-grown-length {xs} {r} {o} {q} h g = sym (length-take-le r q (omega (arith, g .few, g .size))) ∙ ap length (grown-whole h g)

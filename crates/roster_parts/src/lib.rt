@@ -4,6 +4,7 @@ ghost use mathlib.Core.Path.{_≡_};
 ghost use mathlib.Core.List.{[], _∷_};
 ghost use Prim.Native.Nat.{_+_, _-_, _*_, _≤_};
 ghost use lib.ListN.{take};
+ghost use Rattle.model.specs.Limits.{nodeLimit};
 ghost use Rattle.roster_positions.specs.Tables.{listsEnd};
 ghost use Rattle.roster_parts.specs.Growth.{Room, Grown, sectionOf};
 use limits::ROSTER_SIZE;
@@ -81,7 +82,7 @@ pub fn append_section(
 
 // the place behind n surveyors' lists, a length byte before each
 pub fn lists_end(file: &[u8], start: usize, n: usize) -> usize
-    requires { ⌜ (start ≤ 10000) × (n ≤ 32) ⌝ }
+    requires { ⌜ (start ≤ 10000) × (n ≤ nodeLimit) ⌝ }
     ensures { λ r. ⌜ (r ≡ listsEnd (now (file .entry)) n start) × (start ≤ r) × (r ≤ start + 256 * n) ⌝ }
 {
     let mut at = start;

@@ -160,7 +160,8 @@ rankings-are [] f at post e row j t u = (refl, refl)
 rankings-are (R ∷ ts) f at post e row j t u =
     given (head-is f at (length (R .strict)) (length (R .tied) ∷ ((entries R ++ gather rankingBytes ts) ++ post)) e) (λ h.
     given (ranking-is f at R (gather rankingBytes ts ++ post) (e ∙ append-assoc (rankingBytes R) (gather rankingBytes ts) post)) (λ (p, d).
-    given (rankings-are ts f (behind f at) post d (row + 32) (suc j) (stamped row (rankingAt f at .strict) 1 t) (set u j ((getD f at 0 + 1) % 256))) (λ (x, y). (
+    given (rankings-are ts f (behind f at) post d (row + 32) (suc j) (stamped row (rankingAt f at .strict) 1 t) (set u j ((getD f at 0 + 1) % 256)))
+    (λ (x, y). (
       x ∙ ap (λ Q. allStamped (row + 32) (strictLists ts) (stamped row (Q .strict) 1 t)) p,
       y ∙ ap (λ k. nextAll (suc j) ts (set u j ((k + 1) % 256))) h,
     ))))

@@ -2,9 +2,13 @@
 //! found, two plans are compared, and the better one is held, judged and looked
 //! at for a blocking pair.
 
-use planner::{Desk, Found, Refusal, Step, DIARY_RECORDS, LEFT_BYTES, PLAN_BYTES};
+use std::error::Error;
+use std::io::{self, Write};
 
-fn main() -> Result<(), Refusal> {
+use planner::{Desk, Found, Step, DIARY_RECORDS, LEFT_BYTES, PLAN_BYTES};
+
+/// Tells the morning.
+pub fn tell(out: &mut impl Write) -> Result<(), Box<dyn Error>> {
     // two surveyors rank one stand; the stand ranks 1 before 2
     let roster = [2, 1, 1, 1, 1, 2, 0, 1, 1, 1, 1, 2, 0, 2, 0, 1, 2];
     let (first, second) = ([1, 1, 1], [1, 2, 1]);
@@ -20,21 +24,25 @@ fn main() -> Result<(), Refusal> {
         &mut plan,
         &mut [0; PLAN_BYTES],
     )?;
-    println!("{found:?}");
+    writeln!(out, "{found:?}")?;
     if let Found::Plan { steps } = found {
-        println!("steps: {:?}", &diary[..steps]);
-        println!("plan: {:?}", &plan[..1 + 2 * usize::from(plan[0])]);
+        writeln!(out, "steps: {:?}", &diary[..steps])?;
+        writeln!(out, "plan: {:?}", &plan[..1 + 2 * usize::from(plan[0])])?;
     }
 
     let compared = desk.compare(&first, &second);
-    println!("{:?}", compared.outcome?);
-    println!("the winner's pairs: {:?}", compared.part);
+    writeln!(out, "{:?}", compared.outcome?)?;
+    writeln!(out, "the winner's pairs: {:?}", compared.part)?;
 
     desk.load_plan(&first)?;
-    println!("verdict: {:?}", desk.judge(&mut [0; PLAN_BYTES])?);
-    println!("blocking pair: {:?}", desk.blocking()?);
+    writeln!(out, "verdict: {:?}", desk.judge(&mut [0; PLAN_BYTES])?)?;
+    writeln!(out, "blocking pair: {:?}", desk.blocking()?)?;
     let refusal = desk.load_plan(&[1, 1, 2]).unwrap_err();
-    println!("{}: {refusal}", refusal.number);
-    println!("blocking pair: {:?}", desk.blocking()?);
+    writeln!(out, "{}: {refusal}", refusal.number)?;
+    writeln!(out, "blocking pair: {:?}", desk.blocking()?)?;
     Ok(())
+}
+
+fn main() -> Result<(), Box<dyn Error>> {
+    tell(&mut io::stdout())
 }

@@ -37,7 +37,8 @@ pub struct Comparison<'a> {
     pub part: &'a [u8],
 }
 
-/// What the finder answers, with the number of steps that are in the diary.
+/// What the finder answers, and a change of the roster with it, with the number
+/// of steps that are in the diary.
 #[derive(Clone, Copy, Debug, PartialEq, Eq)]
 pub enum Found {
     /// The strongly popular plan is in the plan's buffer.

@@ -23,18 +23,18 @@ impl Desk {
     /// Takes a roster in and drops the plan. A refused file changes nothing.
     pub fn load_roster(&mut self, file: &[u8]) -> Result<(), Refusal> {
         let reply = unsafe { ffi::crew_load_roster(self.clone(), file.as_ptr(), file.len()) };
-        self.take(reply)
+        self.take_loaded(reply)
     }
 
     /// Takes a plan of the held roster in, in the place of the one held. A
     /// refused file changes nothing.
     pub fn load_plan(&mut self, file: &[u8]) -> Result<(), Refusal> {
         let reply = unsafe { ffi::crew_load_plan(self.clone(), file.as_ptr(), file.len()) };
-        self.take(reply)
+        self.take_loaded(reply)
     }
 
     /// The desk that a load hands back, in the place of this one.
-    fn take(&mut self, reply: ffi::DeskLoaded) -> Result<(), Refusal> {
+    fn take_loaded(&mut self, reply: ffi::DeskLoaded) -> Result<(), Refusal> {
         *self = reply.desk;
         refusal::check(reply.refusal)
     }
@@ -114,5 +114,74 @@ impl Desk {
         };
         debug_assert!(*self == reply.desk);
         answers::found(&reply)
+    }
+
+    /// A surveyor joins the held roster, with the number after the highest:
+    /// a quota, and one stand list as a file, a length and then stand numbers,
+    /// best first. The held plan stays. Answers and writes what [`Desk::find`]
+    /// does on the changed roster. A refused call changes nothing.
+    pub fn join(
+        &mut self,
+        quota: u8,
+        list: &[u8],
+        diary: &mut [Step],
+        left: &mut [u8],
+        plan: &mut [u8],
+        rival: &mut [u8],
+    ) -> Result<Found, Refusal> {
+        let reply = unsafe {
+            ffi::crew_join(
+                self.clone(),
+                quota,
+                list.as_ptr(),
+                list.len(),
+                diary.as_mut_ptr(),
+                diary.len(),
+                left.as_mut_ptr(),
+                left.len(),
+                plan.as_mut_ptr(),
+                plan.len(),
+                rival.as_mut_ptr(),
+                rival.len(),
+            )
+        };
+        self.take_changed(reply)
+    }
+
+    /// A surveyor leaves the held roster and keeps the number, with quota 0 and
+    /// no pairs. The held plan loses the leaver's pairs. Answers and writes what
+    /// [`Desk::find`] does on the changed roster. A refused call changes
+    /// nothing.
+    pub fn leave(
+        &mut self,
+        number: u8,
+        diary: &mut [Step],
+        left: &mut [u8],
+        plan: &mut [u8],
+        rival: &mut [u8],
+    ) -> Result<Found, Refusal> {
+        let reply = unsafe {
+            ffi::crew_leave(
+                self.clone(),
+                number,
+                diary.as_mut_ptr(),
+                diary.len(),
+                left.as_mut_ptr(),
+                left.len(),
+                plan.as_mut_ptr(),
+                plan.len(),
+                rival.as_mut_ptr(),
+                rival.len(),
+            )
+        };
+        self.take_changed(reply)
+    }
+
+    /// The desk that a change of the roster hands back, in the place of this
+    /// one.
+    fn take_changed(&mut self, reply: ffi::DeskFound) -> Result<Found, Refusal> {
+        let answer = answers::found(&reply);
+        *self = reply.desk;
+        answer
     }
 }

@@ -101,4 +101,30 @@ extern "C" {
         rival: *mut u8,
         rival_len: usize,
     ) -> DeskFound;
+    pub fn crew_join(
+        desk: Desk,
+        quota: u8,
+        list: *const u8,
+        list_len: usize,
+        diary: *mut Step,
+        diary_len: usize,
+        left: *mut u8,
+        left_len: usize,
+        plan: *mut u8,
+        plan_len: usize,
+        rival: *mut u8,
+        rival_len: usize,
+    ) -> DeskFound;
+    pub fn crew_leave(
+        desk: Desk,
+        number: u8,
+        diary: *mut Step,
+        diary_len: usize,
+        left: *mut u8,
+        left_len: usize,
+        plan: *mut u8,
+        plan_len: usize,
+        rival: *mut u8,
+        rival_len: usize,
+    ) -> DeskFound;
 }

@@ -13,7 +13,7 @@ pub enum Group {
     Desk,
 }
 
-/// Why an input is turned back: document 01's number, and its group.
+/// Why an input is turned back: its number, and its group.
 #[derive(Clone, Copy, Debug, PartialEq, Eq)]
 pub struct Refusal {
     pub number: u8,
@@ -58,6 +58,8 @@ impl fmt::Display for Refusal {
             13 => "no roster is loaded",
             14 => "no plan is held",
             15 => "a lent buffer is below its size",
+            16 => "the leaver's number is 0 or above the surveyors' count",
+            17 => "all 32 numbers are taken, or the surveyors' quotas would be above 64 together",
             _ => "refused",
         })
     }

@@ -1,51 +1,24 @@
 //! Calls on a desk, one after another, against the reference: every answer,
-//! every byte lent, and the desk itself, which only an accepted load changes.
-//! Now and then the desk's own bytes are damaged.
+//! every byte lent, and the desk itself, which only an accepted load or change
+//! changes. Now and then the desk's own bytes are damaged.
 
+mod calls;
+mod change;
 mod common;
+mod found;
+mod lent;
 
-use common::{check_written, damage, junk, number, shape, Met};
+use change::Change;
+use common::{check_written, damage, held_by, junk, number, shape, Met};
+use found::check_rival;
+use lent::{Buffers, SIZES};
 use planner::{Desk, Verdict, Winner};
+use reference::desk::Desk as Held;
 use reference::plan::{self, Plan};
 use reference::random::{self, Random};
+use reference::refusal::Refusal;
 use reference::roster::{self, Roster};
-use reference::{blocking, compare, fast, votes};
-
-/// What the desk should hold.
-enum Held {
-    Nothing,
-    Roster(Roster),
-    Planned(Roster, Plan),
-}
-
-impl Held {
-    fn roster(&self) -> Result<&Roster, u8> {
-        match self {
-            Held::Nothing => Err(13),
-            Held::Roster(roster) | Held::Planned(roster, _) => Ok(roster),
-        }
-    }
-
-    fn plan(&self) -> Result<(&Roster, &Plan), u8> {
-        match self {
-            Held::Nothing => Err(13),
-            Held::Roster(_) => Err(14),
-            Held::Planned(roster, plan) => Ok((roster, plan)),
-        }
-    }
-
-    /// What the bytes of a desk are read to.
-    fn by_bytes(desk: &Desk) -> Held {
-        let front = |bytes: &[u8], len: usize| bytes[..len.min(bytes.len())].to_vec();
-        let Ok(roster) = roster::read(&front(&desk.roster, desk.roster_len)) else {
-            return Held::Nothing;
-        };
-        match plan::read(&roster, &front(&desk.plan, desk.plan_len)) {
-            Ok(plan) => Held::Planned(roster, plan),
-            Err(_) => Held::Roster(roster),
-        }
-    }
-}
+use reference::{blocking, compare, fast};
 
 /// A plan file: of the held roster if there is one, damaged now and then.
 fn plan_file(random: &mut Random, held: &Held) -> Vec<u8> {
@@ -78,38 +51,22 @@ fn load_roster(random: &mut Random, desk: &mut Desk, held: Held) -> (Held, u8) {
     }
     let before = desk.clone();
     let answer = desk.load_roster(&file);
-    match roster::read(&file) {
-        Ok(roster) => {
-            assert_eq!(answer, Ok(()));
-            (Held::Roster(roster), 0)
-        }
-        Err(refusal) => {
-            assert_eq!(number(&answer), refusal.number());
-            assert!(*desk == before);
-            (held, refusal.number())
-        }
-    }
+    let (held, expected) = held.load_roster(&file);
+    let expected = expected.err().map_or(0, Refusal::number);
+    assert_eq!(number(&answer), expected);
+    assert!(expected == 0 || *desk == before);
+    (held, expected)
 }
 
 fn load_plan(random: &mut Random, desk: &mut Desk, held: Held) -> (Held, u8) {
     let file = plan_file(random, &held);
     let before = desk.clone();
     let answer = desk.load_plan(&file);
-    let read = held
-        .roster()
-        .and_then(|roster| plan::read(roster, &file).map_err(|refusal| refusal.number()));
-    match (held, read) {
-        (Held::Roster(roster) | Held::Planned(roster, _), Ok(plan)) => {
-            assert_eq!(answer, Ok(()));
-            (Held::Planned(roster, plan), 0)
-        }
-        (held, refused) => {
-            let refusal = refused.expect_err("no plan without a roster");
-            assert_eq!(number(&answer), refusal);
-            assert!(*desk == before);
-            (held, refusal)
-        }
-    }
+    let (held, expected) = held.load_plan(&file);
+    let expected = expected.err().map_or(0, Refusal::number);
+    assert_eq!(number(&answer), expected);
+    assert!(expected == 0 || *desk == before);
+    (held, expected)
 }
 
 fn write_roster(random: &mut Random, desk: &Desk, held: &Held) -> u8 {
@@ -117,7 +74,7 @@ fn write_roster(random: &mut Random, desk: &Desk, held: &Held) -> u8 {
     let mut out = before.clone();
     let answer = desk.write_roster(&mut out);
     let expected = match held.roster() {
-        Err(refusal) => Err(refusal),
+        Err(refusal) => Err(refusal.number()),
         Ok(_) if before.len() < planner::ROSTER_BYTES => Err(15),
         Ok(roster) => Ok(roster::write(roster)),
     };
@@ -129,8 +86,8 @@ fn write_plan(random: &mut Random, desk: &Desk, held: &Held) -> u8 {
     let before = buffer(random, planner::PLAN_BYTES);
     let mut out = before.clone();
     let answer = desk.write_plan(&mut out);
-    let expected = match held.plan() {
-        Err(refusal) => Err(refusal),
+    let expected = match held.roster_and_plan() {
+        Err(refusal) => Err(refusal.number()),
         Ok(_) if before.len() < planner::PLAN_BYTES => Err(15),
         Ok((roster, plan)) => Ok(plan::write(roster, plan)),
     };
@@ -144,15 +101,15 @@ fn judge(random: &mut Random, desk: &Desk, held: &Held) -> u8 {
     let before = buffer(random, planner::PLAN_BYTES);
     let mut rival = before.clone();
     let answer = desk.judge(&mut rival);
-    let expected = held.plan().and_then(|held| match held {
-        _ if before.len() < planner::PLAN_BYTES => Err(15),
+    let expected = held.roster_and_plan().and_then(|held| match held {
+        _ if before.len() < planner::PLAN_BYTES => Err(Refusal::BufferTooSmall),
         held => Ok(held),
     });
     let (roster, plan) = match expected {
         Ok(held) => held,
         Err(refusal) => {
-            assert_eq!((number(&answer), rival), (refusal, before));
-            return refusal;
+            assert_eq!((number(&answer), rival), (refusal.number(), before));
+            return refusal.number();
         }
     };
     let verdict = answer.expect("a plan is held");
@@ -172,11 +129,7 @@ fn judge(random: &mut Random, desk: &Desk, held: &Held) -> u8 {
             vote
         }
     };
-    let front = &rival[..1 + 2 * usize::from(rival[0])];
-    let other = plan::read(roster, front).expect("a plan within the quotas");
-    assert_ne!(other, *plan);
-    assert_eq!(votes::plan_vote(roster, plan, &other), vote);
-    assert_eq!(rival[front.len()..], before[front.len()..]);
+    check_rival(roster, plan, &before, &rival, vote);
     0
 }
 
@@ -200,9 +153,9 @@ fn compare_two(random: &mut Random, desk: &Desk, held: &Held) -> u8 {
     let roster = match held.roster() {
         Ok(roster) => roster,
         Err(refusal) => {
-            assert_eq!(number(&answer.outcome), refusal);
+            assert_eq!(number(&answer.outcome), refusal.number());
             assert_eq!(part, empty);
-            return refusal;
+            return refusal.number();
         }
     };
     let expected = compare::compare(roster, &first, &second);
@@ -227,14 +180,26 @@ fn compare_two(random: &mut Random, desk: &Desk, held: &Held) -> u8 {
 
 fn blocking_pair(desk: &Desk, held: &Held) -> u8 {
     let answer = desk.blocking();
-    match held.plan() {
-        Err(refusal) => assert_eq!(number(&answer), refusal),
+    match held.roster_and_plan() {
+        Err(refusal) => assert_eq!(number(&answer), refusal.number()),
         Ok((roster, plan)) => {
             let first = blocking::first_blocking_pair(roster, plan);
             assert_eq!(answer, Ok(first.map(|pair| (pair.surveyor, pair.stand))));
         }
     }
     number(&answer)
+}
+
+/// A surveyor joins or leaves; the desk then holds what the change left.
+fn change(random: &mut Random, desk: &mut Desk, held: &Held) -> (Held, u8) {
+    let mut sizes = SIZES;
+    if random.chance(15) {
+        let place = random.below(SIZES.len());
+        sizes[place] = random.below(SIZES[place]);
+    }
+    let change = Change::random(random, held);
+    let answer = change.check_desk(desk, &Buffers::new(random, sizes));
+    (held_by(desk), answer.err().unwrap_or(0))
 }
 
 /// Any bytes may stand in a desk.
@@ -258,7 +223,7 @@ fn calls_one_after_another() {
         let mut desk = Desk::open();
         let mut held = Held::Nothing;
         for _ in 0..random.below(20) {
-            let refusal = match random.below(8) {
+            let refusal = match random.below(10) {
                 0 => {
                     let (next, refusal) = load_roster(&mut random, &mut desk, held);
                     held = next;
@@ -273,16 +238,21 @@ fn calls_one_after_another() {
                 4 => write_plan(&mut random, &desk, &held),
                 5 => judge(&mut random, &desk, &held),
                 6 => compare_two(&mut random, &desk, &held),
-                _ => blocking_pair(&desk, &held),
+                7 => blocking_pair(&desk, &held),
+                _ => {
+                    let (next, refusal) = change(&mut random, &mut desk, &held);
+                    held = next;
+                    refusal
+                }
             };
             met.count(refusal);
             if random.chance(4) {
                 damage_desk(&mut random, &mut desk);
-                held = Held::by_bytes(&desk);
+                held = held_by(&desk);
             }
         }
     }
-    met.require(&[0, 1, 2, 10, 11, 12, 13, 14, 15], 100);
+    met.require(&[0, 1, 2, 10, 11, 12, 13, 14, 15, 16], 100);
 }
 
 #[test]

@@ -1,7 +1,9 @@
 //! Random sequences of desk calls through the wrapper.
 
 mod calls;
+mod change;
 mod common;
+mod found;
 mod lent;
 mod sequence;
 

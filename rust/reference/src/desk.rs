@@ -4,6 +4,7 @@
 //! against the votes of all plans.
 
 use crate::blocking::first_blocking_pair;
+use crate::changes;
 use crate::compare::{compare, Comparison, Part};
 use crate::finder::{find_large, verdict_large, Answer, Why};
 use crate::limits::{MAX_ENTRIES, MAX_PLAN_BYTES, MAX_ROSTER_BYTES, PAIR_FIELD};
@@ -77,14 +78,16 @@ pub enum Judged {
 }
 
 impl Desk {
-    fn roster(&self) -> Result<&Roster, Refusal> {
+    /// The held roster, which most calls need.
+    pub fn roster(&self) -> Result<&Roster, Refusal> {
         match self {
             Desk::Nothing => Err(Refusal::NoRosterLoaded),
             Desk::Roster(roster) | Desk::RosterAndPlan(roster, _) => Ok(roster),
         }
     }
 
-    fn roster_and_plan(&self) -> Result<(&Roster, &Plan), Refusal> {
+    /// The held plan with its roster.
+    pub fn roster_and_plan(&self) -> Result<(&Roster, &Plan), Refusal> {
         match self {
             Desk::Nothing => Err(Refusal::NoRosterLoaded),
             Desk::Roster(_) => Err(Refusal::NoPlanHeld),
@@ -137,6 +140,49 @@ impl Desk {
             Ok(put_answer(roster, lent, &find_large(roster)))
         });
         (self, answer)
+    }
+
+    /// A surveyor joins the held roster, with a quota and one stand list in a
+    /// file's bytes. The held plan is kept. Answers and writes what the finder
+    /// does on the changed roster.
+    pub fn join(self, quota: u8, list: &[u8], lent: Lent) -> (Desk, Result<Found, Refusal>) {
+        self.change(lent, |roster| changes::join(roster, quota, list))
+    }
+
+    /// A surveyor leaves the held roster and keeps the number. The held plan
+    /// loses the leaver's pairs. Answers and writes what the finder does on the
+    /// changed roster.
+    pub fn leave(self, number: u8, lent: Lent) -> (Desk, Result<Found, Refusal>) {
+        self.change(lent, |roster| changes::leave(roster, number))
+    }
+
+    /// A change of the held roster, then the finder afresh. A refused change
+    /// leaves desk and buffers alike.
+    fn change(
+        self,
+        lent: Lent,
+        changed: impl FnOnce(&Roster) -> Result<Roster, Refusal>,
+    ) -> (Desk, Result<Found, Refusal>) {
+        let changed = self.roster().and_then(|roster| {
+            lent.check()?;
+            changed(roster)
+        });
+        match changed {
+            Ok(roster) => self.with_roster(roster).find(lent),
+            Err(refusal) => (self, Err(refusal)),
+        }
+    }
+
+    /// The desk with the changed roster in the place of the held one, and what
+    /// is then left of the held plan.
+    pub fn with_roster(self, after: Roster) -> Desk {
+        match self {
+            Desk::RosterAndPlan(before, held) => {
+                let held = changes::carried(&before, &after, &held);
+                Desk::RosterAndPlan(after, held)
+            }
+            Desk::Nothing | Desk::Roster(_) => Desk::Roster(after),
+        }
     }
 
     /// The verdict on the held plan; a rival is written.

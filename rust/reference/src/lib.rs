@@ -1,11 +1,13 @@
-//! A plain reading of document 01, "The crew vote", kept apart from the proved
-//! crates so that the two can be held against each other.
+//! A plain reading of document 01, "The crew vote", and of the requests landed
+//! since, kept apart from the proved crates so that the two can be held against
+//! each other.
 //!
 //! Everything here follows the definitions by brute force: a node's vote tries
 //! all pairings and a verdict votes against all plans. It is meant for small
 //! rosters; reading and writing take every roster and plan.
 
 pub mod blocking;
+pub mod changes;
 pub mod compare;
 pub mod desk;
 pub mod every;

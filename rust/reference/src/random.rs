@@ -139,6 +139,14 @@ fn surveyor(random: &mut Random, shape: &Shape, stands: u8) -> Node {
     }
 }
 
+/// A joiner's list of some of the stands, as its file.
+pub fn stand_list(random: &mut Random, stands: u8, percent: u8) -> Vec<u8> {
+    let mut list: Vec<u8> = (1..=stands).filter(|_| random.chance(percent)).collect();
+    random.shuffle(&mut list);
+    list.insert(0, narrow(list.len()));
+    list
+}
+
 /// A stand that ranks the surveyors who rank it.
 fn stand(random: &mut Random, shape: &Shape, surveyors: &[Node], number: u8) -> Node {
     let position = |surveyor: &Node| surveyor.list.entries().position(|entry| entry == number);

@@ -1,8 +1,9 @@
-//! Refusals: the numbers of document 01 and the group of each.
+//! Refusals: the numbers of document 01, with those that requests added, and the
+//! group of each.
 
 use std::fmt;
 
-/// Why an input or a call is turned back, with document 01's number.
+/// Why an input or a call is turned back, with its number.
 #[derive(Clone, Copy, Debug, PartialEq, Eq)]
 #[repr(u8)]
 pub enum Refusal {
@@ -21,6 +22,8 @@ pub enum Refusal {
     NoRosterLoaded = 13,
     NoPlanHeld = 14,
     BufferTooSmall = 15,
+    NotASurveyor = 16,
+    NoPlaceForJoiner = 17,
 }
 
 /// The four groups of refusals.
@@ -33,7 +36,7 @@ pub enum Group {
 }
 
 impl Refusal {
-    /// The number under which document 01 lists the refusal.
+    /// The number under which the refusal is listed.
     pub fn number(self) -> u8 {
         self as u8
     }
@@ -44,7 +47,7 @@ impl Refusal {
     }
 }
 
-/// The group of a number; one that document 01 does not use is content.
+/// The group of a number; 16, 17 and numbers not in use are content.
 pub fn group_of(number: u8) -> Group {
     match number {
         1 | 2 | 9 => Group::Form,
@@ -74,6 +77,10 @@ impl fmt::Display for Refusal {
             Refusal::NoRosterLoaded => "no roster is loaded",
             Refusal::NoPlanHeld => "no plan is held",
             Refusal::BufferTooSmall => "a lent buffer is below its size",
+            Refusal::NotASurveyor => "the leaver's number is 0 or above the surveyors' count",
+            Refusal::NoPlaceForJoiner => {
+                "all 32 numbers are taken, or the surveyors' quotas would be above 64 together"
+            }
         })
     }
 }

@@ -189,7 +189,7 @@ fn read_lists(
 
 /// One list: its lengths, then its entries. A stand's two lengths are both
 /// read before their sum is held against the limit.
-fn read_list(reader: &mut Reader, side: Side, others: usize) -> Result<List, Refusal> {
+pub fn read_list(reader: &mut Reader, side: Side, others: usize) -> Result<List, Refusal> {
     let strict = usize::from(reader.narrow()?);
     let tied = match side {
         Side::Surveyors => 0,

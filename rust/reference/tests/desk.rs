@@ -1,87 +1,17 @@
-//! The desk: what each state turns back, what each call writes, and that only
-//! loading changes what is held.
+//! The desk: what each state turns back, what each call writes, and that of
+//! these calls only loading changes what is held. Joining and leaving are tested
+//! in `changes`.
 
 mod common;
+mod lent;
 
-use common::{P10, P3, P4, P6};
+use common::{desk, desk_with_plan, P10, P3, P4, P6};
+use lent::{record, Buffers, JUNK, SIZES};
 use reference::compare::File;
-use reference::desk::{Desk, Found, Judged, Lent, NoneKind, Record, DIARY_RECORDS, LEFT_BYTES};
+use reference::desk::{Desk, Found, Judged, NoneKind};
 use reference::limits::{MAX_PLAN_BYTES, MAX_ROSTER_BYTES};
 use reference::refusal::Refusal;
 use reference::roster::Pair;
-
-const JUNK: u8 = 0xa5;
-const NO_RECORD: Record = Record {
-    fate: JUNK,
-    surveyor: JUNK,
-    stand: JUNK,
-    rule: JUNK,
-};
-
-fn desk(roster: &[u8]) -> Desk {
-    let (desk, answer) = Desk::default().load_roster(roster);
-    answer.expect("accepted");
-    desk
-}
-
-fn desk_with_plan(roster: &[u8], plan: &[u8]) -> Desk {
-    let (desk, answer) = desk(roster).load_plan(plan);
-    answer.expect("accepted");
-    desk
-}
-
-/// Buffers of given sizes, full of junk.
-struct Buffers {
-    diary: Vec<Record>,
-    left: Vec<u8>,
-    plan: Vec<u8>,
-    rival: Vec<u8>,
-}
-
-impl Buffers {
-    fn new([diary, left, plan, rival]: [usize; 4]) -> Buffers {
-        Buffers {
-            diary: vec![NO_RECORD; diary],
-            left: vec![JUNK; left],
-            plan: vec![JUNK; plan],
-            rival: vec![JUNK; rival],
-        }
-    }
-
-    fn lend(&mut self) -> Lent<'_> {
-        Lent {
-            diary: &mut self.diary,
-            left: &mut self.left,
-            plan: &mut self.plan,
-            rival: &mut self.rival,
-        }
-    }
-
-    /// Whether the buffers begin with these and are junk behind them.
-    fn hold(&self, diary: &[Record], left: &[u8], plan: &[u8], rival: &[u8]) {
-        let bytes = |buffer: &[u8], front: &[u8]| {
-            assert_eq!(&buffer[..front.len()], front);
-            assert!(buffer[front.len()..].iter().all(|&byte| byte == JUNK));
-        };
-        bytes(&self.left, left);
-        bytes(&self.plan, plan);
-        bytes(&self.rival, rival);
-        assert_eq!(&self.diary[..diary.len()], diary);
-        let behind = &self.diary[diary.len()..];
-        assert!(behind.iter().all(|&record| record == NO_RECORD));
-    }
-}
-
-const SIZES: [usize; 4] = [DIARY_RECORDS, LEFT_BYTES, MAX_PLAN_BYTES, MAX_PLAN_BYTES];
-
-fn record(fate: u8, surveyor: u8, stand: u8, rule: u8) -> Record {
-    Record {
-        fate,
-        surveyor,
-        stand,
-        rule,
-    }
-}
 
 #[test]
 fn nothing_loaded_is_13_everywhere() {

@@ -2,7 +2,7 @@
 
 mod common;
 
-use common::{plan, roster};
+use common::{plan, roster, without_pairs};
 use reference::limits::{MAX_INPUT_BYTES, MAX_PLAN_BYTES, MAX_ROSTER_BYTES};
 use reference::plan;
 use reference::reduction::reduce;
@@ -13,20 +13,6 @@ use reference::votes::{node_vote, plan_vote, rank, rank_vote};
 /// The number under which a roster is refused, if it is.
 fn refused(file: &[u8]) -> Option<u8> {
     read(file).err().map(Refusal::number)
-}
-
-/// A roster of these quotas without any pairs.
-fn without_pairs(surveyors: &[u8], stands: &[u8]) -> Vec<u8> {
-    let mut file = Vec::new();
-    for quotas in [surveyors, stands] {
-        file.push(u8::try_from(quotas.len()).expect("few nodes"));
-        file.extend(quotas);
-    }
-    file.extend([0, 0]);
-    file.extend(surveyors.iter().map(|_| 0));
-    file.extend([0, 0]);
-    file.extend(stands.iter().flat_map(|_| [0, 0]));
-    file
 }
 
 /// The longest roster: 32 by 32 nodes of quota 2, all of them pairs, and each

@@ -145,12 +145,12 @@ fn check(cases: &[Case], refusal: impl Fn(&[u8]) -> Option<Refusal>) -> [usize; 
     seen
 }
 
-/// Document 01's groups, written out.
+/// The groups from 1 on, written out.
 fn group(number: u8) -> Group {
     use Group::{Content, Desk, Form, Plan};
     [
         Form, Form, Content, Content, Content, Content, Content, Content, Form, Plan, Plan, Plan,
-        Desk, Desk, Desk,
+        Desk, Desk, Desk, Content, Content,
     ][usize::from(number) - 1]
 }
 
@@ -175,11 +175,13 @@ fn the_first_refusal_wins() {
 }
 
 #[test]
-fn the_desk_has_its_own_group() {
+fn refusals_of_no_file() {
     let refusals = [
         Refusal::NoRosterLoaded,
         Refusal::NoPlanHeld,
         Refusal::BufferTooSmall,
+        Refusal::NotASurveyor,
+        Refusal::NoPlaceForJoiner,
     ];
     for (number, refusal) in (13..).zip(refusals) {
         assert_eq!(refusal.number(), number);

@@ -6,10 +6,13 @@ use Rattle.roster_join.proofs.append_ranking.Tie as tie
 
 returns : tie.Need-returns
 returns c =
-    grown-then (grown-then (grown-then (grown-then (c .before .before .before .before .before .before .before .before .append-byte .ensures) (c .before .before .before .before .before .before .append-byte2 .ensures)) (c .before .before .before .before .append .ensures)) (c .before .before .append2 .ensures))
+    grown-then (grown-then
+    (grown-then (grown-then (c .before .before .before .before .before .before .before .before .append-byte .ensures)
+    (c .before .before .before .before .before .before .append-byte2 .ensures)) (c .before .before .before .before .append .ensures))
+    (c .before .before .append2 .ensures))
     (c .append3 .ensures)
 
 pub append-ranking-spec : {M : Type 1} → statement M
 append-ranking-spec =
-    tie.close (tie.spec (λ c. search needs) (λ c κs. search needs) (λ c. search needs) (λ c. search needs) (λ c κs. search needs)
+    tie.close (tie.spec (λ c. search needs) (λ c. search needs) (λ c κs. search needs) (λ c. search needs) (λ c κs. search needs)
     (λ c κs. search needs) (λ c κs. search needs) (λ c κs. search needs) returns)

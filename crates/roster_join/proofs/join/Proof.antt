@@ -23,40 +23,47 @@ returns-2 c =
     let a = c .before .before .before .before .before .before .args in
     let f = a .file .now in
     let isB = bytes-are f (λ i. omega (arith, c .before .before .before .before .before .shared-slice-known .given i)) in
-    λ R d. joins-full f isB R d (a .quota) (a .list .now) (c .refused2 .result) (c .before .before .before .if1 .left) (c .before .before .byte-at .result) (c .before .before .byte-at .ensures) (c .before .if2 .taken)
+    λ R d. joins-full f isB R d (a .quota) (a .list .now) (c .refused2 .result) (c .before .before .before .if1 .left) (c .before .before .byte-at .result)
+    (c .before .before .byte-at .ensures) (omega (arith, c .before .if2 .taken))
     (c .refused2 .ensures)
 
 quota-sum-requires : tie.Need-quota-sum-requires
 quota-sum-requires c κs = short (c .before .before .byte-at .result) (c .part .result .now) _ (c .part .ensures) (omega arith)
-
-returns-3 : tie.Need-returns-3
-returns-3 c =
-    let a = c .before .before .before .before .before .before .before .before .before .args in
-    let f = a .file .now in
-    let isB = bytes-are f (λ i. omega (arith, c .before .before .before .before .before .before .before .before .shared-slice-known .given i)) in
-    λ R d. joins-over f isB R d (a .quota) (a .list .now) (c .refused3 .result) (c .before .before .before .before .before .before .if1 .left) (c .before .before .before .before .before .byte-at .result) (c .before .before .before .before .before .byte-at .ensures)
-    (omega (arith, c .before .before .before .before .if2 .left)) (c .before .before .quota-sum .result) (c .before .before .quota-sum .ensures .0 ∙ ap (sum (λ q. q)) (c .before .before .before .part .ensures)) (c .before .if3 .taken)
-    (c .refused3 .ensures)
 
 listed-requires : tie.Need-listed-requires
 listed-requires c κs =
     let f = c .before .before .before .before .before .before .before .before .before .args .file .now in
     let isB = bytes-are f (λ i. omega (arith, c .before .before .before .before .before .before .before .before .shared-slice-known .given i)) in
     let (R, d) = c .before .before .before .before .before .before .before .before .before .pre in
-    counts-small f R (read-write f R isB d) (c .before .before .before .before .before .byte-at .result) (c .before .before .before .before .before .byte-at .ensures) (read-fits f R isB d) (c .byte-at2 .result) (c .byte-at2 .ensures)
+    counts-small f R (read-write f R isB d) (c .before .before .before .before .before .byte-at .result)
+    (c .before .before .before .before .before .byte-at .ensures) (read-fits f R isB d) (c .byte-at2 .result) (c .byte-at2 .ensures)
 
-returns-4 : tie.Need-returns-4
-returns-4 c =
+returns-3 : tie.Need-returns-3
+returns-3 c =
     let a = c .before .before .before .before .before .before .before .before .before .before .args in
     let f = a .file .now in
     let isB = bytes-are f (λ i. omega (arith, c .before .before .before .before .before .before .before .before .before .shared-slice-known .given i)) in
     let isF = bytes-are (a .list .now) (λ i. omega (arith, c .before .before .before .before .before .before .before .before .shared-slice-known2 .given i)) in
-    λ R d. joins f isB R d (a .quota) (a .list .now) (c .listed .result) (c .before .before .before .before .before .before .before .if1 .left) (c .before .before .before .before .before .before .byte-at .result) (c .before .before .before .before .before .before .byte-at .ensures)
-    (omega (arith, c .before .before .before .before .before .if2 .left)) (c .before .before .before .quota-sum .result) (c .before .before .before .quota-sum .ensures .0 ∙ ap (sum (λ q. q)) (c .before .before .before .before .part .ensures)) (c .before .before .if3 .left) isF
+    λ R d. joins f isB R d (a .quota) (a .list .now) (c .listed .result) (c .before .before .before .before .before .before .before .if1 .left)
+    (c .before .before .before .before .before .before .byte-at .result) (c .before .before .before .before .before .before .byte-at .ensures)
+    (omega (arith, c .before .before .before .before .before .if2 .left)) (c .before .before .before .quota-sum .result)
+    (c .before .before .before .quota-sum .ensures .0 ∙ ap (sum (λ q. q)) (c .before .before .before .before .part .ensures))
+    (c .before .before .if3 .taken) isF
     (c .before .byte-at2 .result) (c .before .byte-at2 .ensures) (c .listed .ensures)
+
+returns-4 : tie.Need-returns-4
+returns-4 c =
+    let a = c .before .before .before .before .before .before .before .before .before .args in
+    let f = a .file .now in
+    let isB = bytes-are f (λ i. omega (arith, c .before .before .before .before .before .before .before .before .shared-slice-known .given i)) in
+    λ R d. joins-over f isB R d (a .quota) (a .list .now) (c .refused3 .result) (c .before .before .before .before .before .before .if1 .left)
+    (c .before .before .before .before .before .byte-at .result) (c .before .before .before .before .before .byte-at .ensures)
+    (omega (arith, c .before .before .before .before .if2 .left)) (c .before .before .quota-sum .result)
+    (c .before .before .quota-sum .ensures .0 ∙ ap (sum (λ q. q)) (c .before .before .before .part .ensures)) (c .before .if3 .left)
+    (c .refused3 .ensures)
 
 pub join-spec : {M : Type 1} → statement M
 join-spec =
     tie.close (tie.spec (λ c κs. search needs) returns (λ c κs. search needs) (λ c κs. search needs) returns-2 (λ c. search needs)
-    (λ c κs. search needs) quota-sum-requires (λ c. search needs) (λ c. search needs) (λ c κs. search needs) returns-3 (λ c. search needs)
-    (λ c κs. search needs) listed-requires returns-4)
+    (λ c κs. search needs) quota-sum-requires (λ c. search needs) (λ c. search needs) (λ c. search needs) (λ c κs. search needs)
+    listed-requires returns-3 (λ c κs. search needs) returns-4)

@@ -1,34 +1,38 @@
 -- `roster_join::listed` meets its contract: the list's refusal, or the roster with the joiner. Assumes nothing.
-use Prim.Native.Nat.{_<_}
 use native.Mathlib.Omega.{arith}
 use mathlib.Core.Bool.{false}
 use borrow.Author.Needs.{needs}
 use Rattle.theory_files.specs.Reads.{bytes-are}
 use Rattle.arrays.specs.Passes.{all-blank}
+use Rattle.roster_reading.specs.Table.{rowWidth}
 use Rattle.roster_join.specs.Listing.{list-refused, list-behind, list-whole}
 use Rattle.roster_join.proofs.listed.Statement.{statement}
 use Rattle.roster_join.proofs.listed.Tie as tie
 
 list-at-requires : tie.Need-list-at-requires
-list-at-requires c κs = (omega arith, all-blank false 33)
+list-at-requires c κs = (omega arith, all-blank false rowWidth)
 
 returns : tie.Need-returns
 returns c =
     let a = c .before .before .before .before .before .before .before .before .before .before .args in
     let isB = bytes-are (a .list .now) (λ i. omega (arith, c .before .before .before .before .before .before .before .before .shared-slice-known2 .given i)) in
-    list-behind (a .file .now) (a .ns) (a .nt) (a .quota) (a .list .now) (c .before .before .before .before .before .before .list-at .ensures) (c .refused2 .result) isB (c .before .before .before .s2 .given .1)
+    list-behind (a .file .now) (a .ns) (a .nt) (a .quota) (a .list .now) (c .before .before .before .before .before .before .list-at .ensures)
+    (c .refused2 .result) isB (c .before .before .before .s2 .given .1)
     (c .before .if1 .taken) (c .refused2 .ensures)
 
 returns-2 : tie.Need-returns-2
 returns-2 c =
     let a = c .before .before .before .before .before .before .before .before .before .args in
-    list-refused (a .file .now) (a .ns) (a .nt) (a .quota) (a .list .now) (c .before .before .before .before .before .list-at .ensures) (c .refused .result) (c .before .before .s .given .1) (c .refused .ensures)
+    list-refused (a .file .now) (a .ns) (a .nt) (a .quota) (a .list .now) (c .before .before .before .before .before .list-at .ensures)
+    (c .refused .result) (c .before .before .s .given .1) (c .refused .ensures)
 
 returns-3 : tie.Need-returns-3
 returns-3 c =
     let a = c .before .before .before .before .before .before .before .before .before .before .before .args in
-    let isB = bytes-are (a .list .now) (λ i. omega (arith, c .before .before .before .before .before .before .before .before .before .shared-slice-known2 .given i)) in
-    list-whole (a .file .now) (a .ns) (a .nt) (a .quota) (a .list .now) (c .before .before .before .before .before .before .before .list-at .ensures) (c .joined .result) isB (c .before .before .before .before .s2 .given .1)
+    let isB = bytes-are (a .list .now)
+    (λ i. omega (arith, c .before .before .before .before .before .before .before .before .before .shared-slice-known2 .given i)) in
+    list-whole (a .file .now) (a .ns) (a .nt) (a .quota) (a .list .now) (c .before .before .before .before .before .before .before .list-at .ensures)
+    (c .joined .result) isB (c .before .before .before .before .s2 .given .1)
     (c .before .before .if1 .left) (c .joined .ensures)
 
 pub listed-spec : {M : Type 1} → statement M

@@ -9,7 +9,8 @@ use Rattle.roster_join.proofs.lists_with.Tie as tie
 returns : tie.Need-returns
 returns c =
     let a = c .before .before .before .before .before .before .before .args in
-    grown-as (ap (λ x. x ++ a .list .now) (c .before .before .before .before .part .ensures)) (grown-then (c .before .before .append .ensures) (c .append2 .ensures))
+    grown-as (ap (λ x. x ++ a .list .now) (c .before .before .before .before .part .ensures))
+    (grown-then (c .before .before .append .ensures) (c .append2 .ensures))
 
 pub lists-with-spec : {M : Type 1} → statement M
 lists-with-spec =

@@ -10,8 +10,12 @@ use Rattle.roster_join.proofs.nodes_with.Tie as tie
 returns : tie.Need-returns
 returns c =
     let a = c .before .before .before .before .before .before .before .before .before .before .before .args in
-    grown-as (ap₂ (λ x y. ((((a .ns + 1) ∷ []) ++ x) ++ a .quota ∷ []) ++ y) (c .before .before .before .before .before .before .before .before .before .part .ensures) (c .before .before .before .before .before .before .before .before .part2 .ensures))
-    (grown-then (grown-then (grown-then (c .before .before .before .before .before .before .append-byte .ensures) (c .before .before .before .before .append .ensures)) (c .before .before .append-byte2 .ensures)) (c .append2 .ensures))
+    grown-as (ap₂ (λ x y. ((((a .ns + 1) ∷ []) ++ x) ++ a .quota ∷ []) ++ y)
+    (c .before .before .before .before .before .before .before .before .before .part .ensures)
+    (c .before .before .before .before .before .before .before .before .part2 .ensures))
+    (grown-then (grown-then
+    (grown-then (c .before .before .before .before .before .before .append-byte .ensures) (c .before .before .before .before .append .ensures))
+    (c .before .before .append-byte2 .ensures)) (c .append2 .ensures))
 
 pub nodes-with-spec : {M : Type 1} → statement M
 nodes-with-spec =

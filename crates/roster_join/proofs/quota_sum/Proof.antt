@@ -5,7 +5,7 @@ use mathlib.Core.Path.{_≡_, ap}
 use lib.ListN.{length, drop, drop-of-length-le}
 use borrow.Author.Needs.{needs}
 use Rattle.lists.specs.Sum.{sum}
-use Rattle.roster_parts.specs.Steps.{next-byte}
+use Rattle.roster_parts.specs.Growth.{next-byte}
 use Rattle.roster_join.proofs.quota_sum.Statement.{statement}
 use Rattle.roster_join.proofs.quota_sum.Tie as tie
 
@@ -20,9 +20,9 @@ loop-holds c = (zero-le, zero-le, omega arith)
 
 loop-again : tie.Need-loop-again Inv-loop μ-loop
 loop-again c =
-    let l = c .before .before .before in
+    let l = c .before .before in
     let a = l .before .before .args in
-    (omega arith, omega arith, omega (arith, ap (sum (λ q. q)) (next-byte (a .quotas .now) (l .loop .i) (c .before .before .loop-test .taken)), c .wide .ensures))
+    (omega arith, omega arith, omega (arith, ap (sum (λ q. q)) (next-byte (a .quotas .now) (l .loop .i) (c .before .loop-test .taken)), c .byte-at .ensures))
 
 returns : tie.Need-returns Inv-loop μ-loop
 returns c =
@@ -32,5 +32,5 @@ returns c =
 
 pub quota-sum-spec : {M : Type 1} → statement M
 quota-sum-spec =
-    tie.close (tie.spec Inv-loop μ-loop loop-holds (λ c. search needs) (λ c κs. search needs) (λ c. search needs) (λ c. search needs)
+    tie.close (tie.spec Inv-loop μ-loop loop-holds (λ c κs. search needs) (λ c. search needs) (λ c. search needs) (λ c. search needs)
     (λ c. search needs) loop-again returns)

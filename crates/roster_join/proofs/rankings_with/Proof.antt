@@ -5,7 +5,7 @@ use mathlib.Core.Path.{ap}
 use mathlib.Core.Bool.{false}
 use lib.ListN.{getD}
 use borrow.Author.Needs.{needs}
-use Rattle.roster_positions.proofs.Stamping.{left-all, short}
+use Rattle.roster_positions.proofs.Stamping.{left-all}
 use Rattle.roster_parts.specs.Growth.{Going, grown-as, going-starts, going-on, going-past, going-ends}
 use Rattle.roster_parts.specs.Rankings.{rankingsFrom, rankings-turn, rankings-done}
 use Rattle.roster_join.specs.Entering.{withLast, entering, rankingsWith}
@@ -33,12 +33,7 @@ loop-holds c =
     )
 
 append-ranking-requires : tie.Need-append-ranking-requires Inv-loop μ-loop
-append-ranking-requires c κs =
-    let g = c .before .before .before .before .before .before .before .before .loop .inv .2 .grown in (
-      (g .few, g .size),
-      short (c .before .before .before .before .before .before .byte-at .result) (c .before .before .before .before .part .result .now) _ (c .before .before .before .before .part .ensures) (omega arith),
-      short (c .before .before .before .before .before .byte-at2 .result) (c .before .before .before .part2 .result .now) _ (c .before .before .before .part2 .ensures) (omega arith),
-    )
+append-ranking-requires c κs = let g = c .before .before .before .before .before .before .before .before .loop .inv .2 .grown in (g .few, g .size)
 
 loop-again : tie.Need-loop-again Inv-loop μ-loop
 loop-again c =
@@ -55,7 +50,8 @@ loop-again c =
           (rankings-turn (entering (a .joiner .now) (λ j. getD (a .row .now) j false)) (a .file .now) (a .n) (l .loop .j) (l .loop .at) h
           (p .result) (q .result) (p .ensures) (q .ensures) (x .result .now) (y .result .now) (x .ensures) (y .ensures))
           (l .loop .inv .2)
-          (grown-as (ap (λ z. withLast z (record { strict = x .result .now; tied = y .result .now })) (c .before .before .last-of .ensures)) (c .append-ranking .ensures)),
+          (grown-as (ap (λ z. withLast z (record { strict = x .result .now; tied = y .result .now })) (c .before .before .last-of .ensures))
+          (c .append-ranking .ensures)),
     )
 
 returns : tie.Need-returns Inv-loop μ-loop

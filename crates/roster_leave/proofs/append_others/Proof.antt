@@ -34,7 +34,8 @@ loop-again-2 c =
     let l = c .before .before .before .before .before in
     let a = l .before .before .args in (
       omega arith,
-      going-on (other-one (a .number) (a .list .now) (l .loop .i) (c .before .before .before .before .loop-test .taken) (c .before .before .if1 .left)) (l .loop .inv .1) (c .append-byte .ensures),
+      going-on (other-one (a .number) (a .list .now) (l .loop .i) (c .before .before .before .before .loop-test .taken) (c .before .before .if1 .left))
+          (l .loop .inv .1) (c .append-byte .ensures),
     )
 
 returns : tie.Need-returns Inv-loop μ-loop

@@ -14,10 +14,14 @@ returns c =
     let a = c .before .before .before .before .before .before .before .before .before .before .before .before .before .before .before .before .args in
     let f = a .file .now in
     let mine = c .before .before .before .before .before .before .before .before .before .before .before .before .before .before .lists-end .ensures .0 in
-    let next = c .before .before .before .before .before .before .before .before .before .before .before .before .before .lists-end2 .ensures .0 ∙ ap (listsEnd f 1) mine in
-    let end = c .before .before .before .before .before .before .before .before .before .before .before .before .lists-end3 .ensures .0 ∙ ap (listsEnd f (a .ns - a .number)) next in
+    let next = c .before .before .before .before .before .before .before .before .before .before .before .before .before .lists-end2 .ensures .0
+    ∙ ap (listsEnd f 1) mine in
+    let end = c .before .before .before .before .before .before .before .before .before .before .before .before .lists-end3 .ensures .0
+    ∙ ap (listsEnd f (a .ns - a .number)) next in
     held (a .ns) (a .nt) (c .before .before .before .before .before .before .before .before .before .before .nodes-left .ensures)
-    (grown-as (λ k. listsLeft f (a .ns + a .nt + 4) (mine k) (next k) (end k)) (c .before .before .before .before .before .before .before .before .lists-left .ensures)) (c .before .before .before .before .before .append-section .ensures)
+    (grown-as (λ k. listsLeft f (a .ns + a .nt + 4) (mine k) (next k) (end k))
+    (c .before .before .before .before .before .before .before .before .lists-left .ensures))
+    (c .before .before .before .before .before .append-section .ensures)
     (grown-as (ap (λ k. rankingsLeft f (k + 2) (a .nt) (a .number)) end) (c .before .before .before .rankings-left .ensures)) (c .append-section2 .ensures)
 
 pub left-spec : {M : Type 1} → statement M

@@ -8,7 +8,8 @@ use Rattle.roster_leave.proofs.lists_left.Tie as tie
 
 returns : tie.Need-returns
 returns c =
-    grown-as (ap₂ (λ x y. (x ++ 0 ∷ []) ++ y) (c .before .before .before .before .before .before .before .part .ensures) (c .before .before .before .before .before .before .part2 .ensures))
+    grown-as (ap₂ (λ x y. (x ++ 0 ∷ []) ++ y) (c .before .before .before .before .before .before .before .part .ensures)
+    (c .before .before .before .before .before .before .part2 .ensures))
     (grown-then (grown-then (c .before .before .before .before .append .ensures) (c .before .before .append-byte .ensures)) (c .append2 .ensures))
 
 pub lists-left-spec : {M : Type 1} → statement M

@@ -22,13 +22,15 @@ loop-again : tie.Need-loop-again Inv-loop μ-loop
 loop-again c =
     let l = c .before .before .before in
     let a = l .before .args in
-    (omega arith, omega arith, omega (arith, ap length (other-not (a .number) (a .list .now) (l .loop .i) (c .before .before .loop-test .taken) (c .if1 .taken))))
+    let e = other-not (a .number) (a .list .now) (l .loop .i) (c .before .before .loop-test .taken) (c .if1 .taken) in
+    (omega arith, omega arith, omega (arith, ap length e))
 
 loop-again-2 : tie.Need-loop-again-2 Inv-loop μ-loop
 loop-again-2 c =
     let l = c .before .before .before in
     let a = l .before .args in
-    (omega arith, omega arith, omega (arith, ap length (other-one (a .number) (a .list .now) (l .loop .i) (c .before .before .loop-test .taken) (c .if1 .left))))
+    let e = other-one (a .number) (a .list .now) (l .loop .i) (c .before .before .loop-test .taken) (c .if1 .left) in
+    (omega arith, omega arith, omega (arith, ap length e))
 
 returns : tie.Need-returns Inv-loop μ-loop
 returns c =

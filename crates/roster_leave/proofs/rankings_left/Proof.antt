@@ -46,8 +46,10 @@ loop-again c =
       omega arith,
       omega arith,
       going-on
-          (rankings-turn (λ j R. rankingBytes (leftBy (a .number) R)) (a .file .now) (a .n) (l .loop .j) (l .loop .at) (c .before .before .before .before .before .before .loop-test .taken)
-          (p .result) (q .result) (p .ensures) (q .ensures) (c .before .before .before .part .result .now) (c .before .before .part2 .result .now) (c .before .before .before .part .ensures)
+          (rankings-turn (λ j R. rankingBytes (leftBy (a .number) R)) (a .file .now) (a .n) (l .loop .j) (l .loop .at)
+          (c .before .before .before .before .before .before .loop-test .taken)
+          (p .result) (q .result) (p .ensures) (q .ensures) (c .before .before .before .part .result .now) (c .before .before .part2 .result .now)
+          (c .before .before .before .part .ensures)
           (c .before .before .part2 .ensures))
           (l .loop .inv .2) (c .append-ranking .ensures),
     )

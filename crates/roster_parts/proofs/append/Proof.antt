@@ -3,8 +3,7 @@ use Prim.Native.Nat.{_-_, _≤_, zero-le}
 use native.Mathlib.Omega.{arith}
 use lib.ListN.{length, drop, drop-of-length-le}
 use borrow.Author.Needs.{needs}
-use Rattle.roster_parts.specs.Growth.{Going, going-starts, going-on, going-ends}
-use Rattle.roster_parts.specs.Steps.{next-byte}
+use Rattle.roster_parts.specs.Growth.{Going, going-starts, going-on, going-ends, next-byte}
 use Rattle.roster_parts.proofs.append.Statement.{statement}
 use Rattle.roster_parts.proofs.append.Tie as tie
 

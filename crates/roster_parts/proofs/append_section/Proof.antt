@@ -20,7 +20,8 @@ returns c =
     let a = t .before .before .args in
     let n : length (take (a .k) (a .lists .now)) ≡ a .k = length-take-le (a .k) (a .lists .now) (omega arith) in
     grown-as (ap (λ k. wideBytes k ++ take (a .k) (a .lists .now)) (t .entry-count .ensures ∙ ap (λ k. k - a .lengths) (sym n)))
-    (grown-then (grown-then (c .before .before .before .before .before .append-byte .ensures) (c .before .before .before .append-byte2 .ensures)) (c .append .ensures))
+    (grown-then (grown-then (c .before .before .before .before .before .append-byte .ensures) (c .before .before .before .append-byte2 .ensures))
+    (c .append .ensures))
 
 pub append-section-spec : {M : Type 1} → statement M
 append-section-spec =

@@ -9,7 +9,7 @@ use planner::{Refusal, Step, Verdict};
 use reference::compare::{File, Part};
 use reference::desk::{Found, Judged, Lent, NoneKind, Record};
 
-pub struct Desk(planner::Desk);
+pub struct Desk(pub planner::Desk);
 
 /// Both votes, and the part that is handed back.
 pub type Compared = (Result<(i16, i16), u8>, Part);
@@ -41,6 +41,30 @@ fn found(answer: planner::Found) -> Found {
     }
 }
 
+/// A call that is lent these buffers, with the diary's records as steps.
+fn with_steps(
+    lent: Lent,
+    call: impl FnOnce(&mut [Step], &mut [u8], &mut [u8], &mut [u8]) -> Result<planner::Found, Refusal>,
+) -> Result<Found, u8> {
+    let step = |record: &Record| Step {
+        fate: record.fate,
+        surveyor: record.surveyor,
+        stand: record.stand,
+        rule: record.rule,
+    };
+    let mut diary: Vec<Step> = lent.diary.iter().map(step).collect();
+    let answer = call(&mut diary, lent.left, lent.plan, lent.rival);
+    for (record, step) in lent.diary.iter_mut().zip(&diary) {
+        *record = Record {
+            fate: step.fate,
+            surveyor: step.surveyor,
+            stand: step.stand,
+            rule: step.rule,
+        };
+    }
+    answer.map(found).map_err(number)
+}
+
 /// Which range of which file a part is.
 fn place(part: &[u8], first: &[u8], second: &[u8]) -> Part {
     let within = |file: &[u8]| {
@@ -64,6 +88,8 @@ pub trait Calls: Sized {
     fn write_roster(self, out: &mut [u8]) -> (Self, Result<usize, u8>);
     fn write_plan(self, out: &mut [u8]) -> (Self, Result<usize, u8>);
     fn find(self, lent: Lent) -> (Self, Result<Found, u8>);
+    fn join(self, quota: u8, list: &[u8], lent: Lent) -> (Self, Result<Found, u8>);
+    fn leave(self, number: u8, lent: Lent) -> (Self, Result<Found, u8>);
     fn judge(self, rival: &mut [u8]) -> (Self, Result<Judged, u8>);
     fn compare(self, first: &[u8], second: &[u8]) -> (Self, Compared);
     fn blocking(self) -> (Self, Result<Option<(u8, u8)>, u8>);
@@ -97,23 +123,24 @@ impl Calls for Desk {
     }
 
     fn find(self, lent: Lent) -> (Desk, Result<Found, u8>) {
-        let step = |record: &Record| Step {
-            fate: record.fate,
-            surveyor: record.surveyor,
-            stand: record.stand,
-            rule: record.rule,
-        };
-        let mut diary: Vec<Step> = lent.diary.iter().map(step).collect();
-        let answer = self.0.find(&mut diary, lent.left, lent.plan, lent.rival);
-        for (record, step) in lent.diary.iter_mut().zip(&diary) {
-            *record = Record {
-                fate: step.fate,
-                surveyor: step.surveyor,
-                stand: step.stand,
-                rule: step.rule,
-            };
-        }
-        (self, answer.map(found).map_err(number))
+        let answer = with_steps(lent, |diary, left, plan, rival| {
+            self.0.find(diary, left, plan, rival)
+        });
+        (self, answer)
+    }
+
+    fn join(mut self, quota: u8, list: &[u8], lent: Lent) -> (Desk, Result<Found, u8>) {
+        let answer = with_steps(lent, |diary, left, plan, rival| {
+            self.0.join(quota, list, diary, left, plan, rival)
+        });
+        (self, answer)
+    }
+
+    fn leave(mut self, number: u8, lent: Lent) -> (Desk, Result<Found, u8>) {
+        let answer = with_steps(lent, |diary, left, plan, rival| {
+            self.0.leave(number, diary, left, plan, rival)
+        });
+        (self, answer)
     }
 
     fn judge(self, rival: &mut [u8]) -> (Desk, Result<Judged, u8>) {

@@ -3,11 +3,18 @@
 #![allow(dead_code)]
 
 use planner::{Desk, Refusal};
+use reference::desk::Desk as Held;
+use reference::plan;
 use reference::random::{Random, Shape};
+use reference::roster;
+
+/// How many numbers an answer can be counted under: 0 for accepted, and every
+/// refusal's.
+pub const NUMBERS: usize = 18;
 
 /// How often each refusal occurred, 0 for accepted.
 #[derive(Default)]
-pub struct Met([usize; 16]);
+pub struct Met([usize; NUMBERS]);
 
 impl Met {
     pub fn count(&mut self, number: u8) {
@@ -52,6 +59,23 @@ pub fn desk_with_plan(roster: &[u8], plan: &[u8]) -> Result<Desk, Refusal> {
     let mut desk = desk_with(roster)?;
     desk.load_plan(plan)?;
     Ok(desk)
+}
+
+/// What the bytes of a desk are read to. A length above its array is the whole
+/// array.
+pub fn held_by(desk: &Desk) -> Held {
+    let Ok(roster) = roster::read(front(&desk.roster, desk.roster_len)) else {
+        return Held::Nothing;
+    };
+    match plan::read(&roster, front(&desk.plan, desk.plan_len)) {
+        Ok(plan) => Held::RosterAndPlan(roster, plan),
+        Err(_) => Held::Roster(roster),
+    }
+}
+
+/// The file at the front of an array.
+pub fn front(bytes: &[u8], length: usize) -> &[u8] {
+    &bytes[..length.min(bytes.len())]
 }
 
 /// A buffer's length: below its size now and then.

@@ -3,18 +3,19 @@
 //! after each call. Of a rival only what document 01 settles is asked.
 
 use crate::calls::Calls;
-use crate::common::{damage, junk};
-use crate::lent::{only_front, Buffers, SIZES};
-use reference::desk::{Found, Judged, NoneKind};
+use crate::change::Change;
+use crate::common::{damage, junk, NUMBERS};
+use crate::found::{check_rival, same_found};
+use crate::lent::{Buffers, SIZES};
+use reference::desk::{Desk as Held, Judged};
 use reference::limits::{MAX_PLAN_BYTES, MAX_ROSTER_BYTES};
-use reference::plan::{self, Plan};
+use reference::plan;
 use reference::random::{self, Random, Shape};
 use reference::refusal::Refusal;
-use reference::roster::{self, Roster};
-use reference::votes::plan_vote;
+use reference::roster;
 
 /// The calls, as rows of the tally.
-const CALLS: [&str; 8] = [
+const CALLS: [&str; 10] = [
     "load roster",
     "load plan",
     "write roster",
@@ -23,11 +24,13 @@ const CALLS: [&str; 8] = [
     "judge",
     "compare",
     "blocking",
+    "join",
+    "leave",
 ];
 
 /// How often each call answered and was refused by each number, 0 for none.
 #[derive(Default)]
-struct Tally([[usize; 16]; CALLS.len()]);
+struct Tally([[usize; NUMBERS]; CALLS.len()]);
 
 impl Tally {
     /// Whether the two answers are the same refusal, or both none; counts it.
@@ -35,6 +38,10 @@ impl Tally {
         let number = theirs.as_ref().err().map_or(0, |refusal| refusal.number());
         let own = ours.as_ref().err().copied().unwrap_or(0);
         assert_eq!(own, number, "{}", CALLS[call]);
+        self.count(call, number);
+    }
+
+    fn count(&mut self, call: usize, number: u8) {
         self.0[call][usize::from(number)] += 1;
     }
 }
@@ -46,20 +53,25 @@ struct Pool {
 }
 
 impl Pool {
-    /// Two rosters and a damaged one; plans of each, one of them damaged.
+    /// Two rosters and a damaged one; plans of each, one of them damaged. Few
+    /// rosters have no room for another surveyor, or just for one.
     fn new(random: &mut Random) -> Pool {
         let mut pool = Pool {
             rosters: Vec::new(),
             plans: Vec::new(),
         };
         for _ in 0..2 {
-            let shape = Shape {
+            let mut shape = Shape {
                 counts: [1..=3, 1..=3],
                 quotas: [0..=2, 0..=2],
                 pairs: 75,
                 ties: 50,
                 opposed: 60,
             };
+            if random.chance(3) {
+                shape.counts = [31..=32, 1..=2];
+                shape.quotas[0] = 2..=2;
+            }
             let roster = random::roster(random, &shape);
             for percent in [60, 90, 100] {
                 let plan = random::plan(random, &roster, percent);
@@ -98,20 +110,10 @@ fn size(random: &mut Random, needed: usize) -> usize {
 /// The two desks side by side.
 struct Desks<D> {
     ours: D,
-    theirs: reference::desk::Desk,
+    theirs: Held,
 }
 
 impl<D: Calls> Desks<D> {
-    /// The held roster and plan, by the reference.
-    fn held(&self) -> (Option<&Roster>, Option<&Plan>) {
-        use reference::desk::Desk;
-        match &self.theirs {
-            Desk::Nothing => (None, None),
-            Desk::Roster(roster) => (Some(roster), None),
-            Desk::RosterAndPlan(roster, plan) => (Some(roster), Some(plan)),
-        }
-    }
-
     fn load_roster(self, tally: &mut Tally, file: &[u8]) -> Desks<D> {
         let (ours, answer) = self.ours.load_roster(file);
         let (theirs, expected) = self.theirs.load_roster(file);
@@ -149,22 +151,14 @@ impl<D: Calls> Desks<D> {
         let (ours, answer) = self.ours.find(own.lend());
         let (theirs, expected) = self.theirs.find(other.lend());
         tally.refusals(4, &answer, &expected);
-        let desks = Desks { ours, theirs };
-        if let (Ok(found), Ok(expected)) = (answer, expected) {
-            assert_eq!(without_vote(found), without_vote(expected));
-            if let Found::None {
-                kind: NoneKind::Rivalled(vote),
-                ..
-            } = found
-            {
-                let roster = desks.held().0.expect("a roster");
-                let candidate = read_front(roster, &own.plan);
-                check_rival(roster, &candidate, &before.rival, &own.rival, vote);
-                other.rival.clone_from(&own.rival);
+        match (answer, expected) {
+            (Ok(found), Ok(expected)) => {
+                let roster = theirs.roster().expect("a roster");
+                same_found(roster, before, (found, &own), (expected, other));
             }
+            _ => assert_eq!(own, *before),
         }
-        assert_eq!(own, other);
-        desks
+        Desks { ours, theirs }
     }
 
     fn judge(self, tally: &mut Tally, before: &[u8]) -> Desks<D> {
@@ -172,25 +166,18 @@ impl<D: Calls> Desks<D> {
         let (ours, answer) = self.ours.judge(&mut own);
         let (theirs, expected) = self.theirs.judge(&mut other);
         tally.refusals(5, &answer, &expected);
-        let desks = Desks { ours, theirs };
-        let (Ok(judged), Ok(expected)) = (answer, expected) else {
-            assert_eq!(own, before);
-            return desks;
-        };
-        let vote = match (judged, expected) {
-            (Judged::Strong, Judged::Strong) => {
+        let vote = match (answer, expected) {
+            (Ok(Judged::Popular(vote)), Ok(Judged::Popular(_))) => vote,
+            (Ok(Judged::Beaten(vote)), Ok(Judged::Beaten(_))) => vote,
+            (Ok(Judged::Strong), Ok(Judged::Strong)) | (Err(_), _) => {
                 assert_eq!(own, before);
-                return desks;
+                return Desks { ours, theirs };
             }
-            (Judged::Popular(vote), Judged::Popular(_)) => vote,
-            (Judged::Beaten(vote), Judged::Beaten(_)) => vote,
-            _ => panic!("{judged:?}, but {expected:?}"),
+            _ => panic!("{answer:?}, but {expected:?}"),
         };
-        let (Some(roster), Some(plan)) = desks.held() else {
-            panic!("a verdict without roster and plan");
-        };
+        let (roster, plan) = theirs.roster_and_plan().expect("roster and plan");
         check_rival(roster, plan, before, &own, vote);
-        desks
+        Desks { ours, theirs }
     }
 
     fn compare(self, tally: &mut Tally, first: &[u8], second: &[u8]) -> Desks<D> {
@@ -213,9 +200,23 @@ impl<D: Calls> Desks<D> {
         Desks { ours, theirs }
     }
 
+    /// A surveyor joins or leaves.
+    fn change(self, tally: &mut Tally, change: &Change, before: &Buffers) -> Desks<D> {
+        let changed = change.check(self.ours, self.theirs, before);
+        let call = match change {
+            Change::Join(..) => 8,
+            Change::Leave(_) => 9,
+        };
+        tally.count(call, changed.answer.err().unwrap_or(0));
+        Desks {
+            ours: changed.ours,
+            theirs: changed.theirs,
+        }
+    }
+
     /// A random call.
     fn call(self, random: &mut Random, tally: &mut Tally, pool: &Pool) -> Desks<D> {
-        match random.below(12) {
+        match random.below(16) {
             0 | 1 => self.load_roster(tally, pool.roster(random)),
             2..=4 => self.load_plan(tally, pool.plan(random)),
             5 => {
@@ -226,50 +227,29 @@ impl<D: Calls> Desks<D> {
                 let size = size(random, MAX_PLAN_BYTES);
                 self.write_plan(tally, &junk(random, size))
             }
-            7 => {
-                let mut sizes = SIZES;
-                if random.chance(20) {
-                    let place = random.below(SIZES.len());
-                    sizes[place] = size(random, sizes[place]);
-                }
-                self.find(tally, &Buffers::new(random, sizes))
-            }
+            7 => self.find(tally, &buffers(random)),
             8 => {
                 let size = size(random, MAX_PLAN_BYTES);
                 self.judge(tally, &junk(random, size))
             }
             9 | 10 => self.compare(tally, pool.plan(random), pool.plan(random)),
-            _ => self.blocking(tally),
+            11 => self.blocking(tally),
+            _ => {
+                let change = Change::random(random, &self.theirs);
+                self.change(tally, &change, &buffers(random))
+            }
         }
     }
 }
 
-/// The answer without the vote, of which only the sign is settled.
-fn without_vote(found: Found) -> Found {
-    match found {
-        Found::None {
-            steps,
-            kind: NoneKind::Rivalled(vote),
-        } => Found::None {
-            steps,
-            kind: NoneKind::Rivalled(vote.signum()),
-        },
-        other => other,
+/// Buffers for the finder, one of them sometimes below its size.
+fn buffers(random: &mut Random) -> Buffers {
+    let mut sizes = SIZES;
+    if random.chance(20) {
+        let place = random.below(SIZES.len());
+        sizes[place] = size(random, sizes[place]);
     }
-}
-
-/// The plan at the front of a buffer.
-fn read_front(roster: &Roster, buffer: &[u8]) -> Plan {
-    let front = &buffer[..1 + 2 * usize::from(buffer[0])];
-    plan::read(roster, front).expect("a plan within the quotas")
-}
-
-/// Whether a rival was written, another plan with this vote, and nothing else.
-fn check_rival(roster: &Roster, plan: &Plan, before: &[u8], after: &[u8], vote: i16) {
-    let rival = read_front(roster, after);
-    assert_ne!(rival, *plan);
-    assert_eq!(plan_vote(roster, plan, &rival), vote);
-    only_front(before, after, &plan::write(roster, &rival));
+    Buffers::new(random, sizes)
 }
 
 /// Runs so many sequences, each on a desk that `open` gives; every answer that a
@@ -282,12 +262,12 @@ pub fn run<D: Calls>(mut open: impl FnMut() -> D, seed: u64, sequences: usize, l
         let pool = Pool::new(&mut random);
         let mut desks = Desks {
             ours: open(),
-            theirs: reference::desk::Desk::default(),
+            theirs: Held::default(),
         };
         if random.chance(80) {
             desks = desks.load_roster(&mut tally, &pool.rosters[0]);
         }
-        for _ in 0..4 + random.below(8) {
+        for _ in 0..4 + random.below(10) {
             desks = desks.call(&mut random, &mut tally, &pool);
         }
         // what is held at the end
@@ -307,6 +287,8 @@ pub fn run<D: Calls>(mut open: impl FnMut() -> D, seed: u64, sequences: usize, l
         &[0, 13, 14, 15],
         &plan_refusals,
         &[0, 13, 14],
+        &[0, 1, 2, 3, 4, 5, 9, 13, 15, 17],
+        &[0, 13, 15, 16],
     ];
     for (call, numbers) in expected.iter().enumerate() {
         for &number in *numbers {

@@ -1,8 +1,10 @@
-//! What the tests share: rosters and plans from their bytes or pairs.
+//! What the tests share: rosters and plans from their bytes or pairs, desks that
+//! hold them.
 
 // Every test file compiles this module for itself and uses its part of it.
 #![allow(dead_code)]
 
+use reference::desk::Desk;
 use reference::plan::Plan;
 use reference::roster::{read, Pair, Roster};
 
@@ -54,4 +56,31 @@ pub fn plan(roster: &Roster, pairs: &[(u8, u8)]) -> Plan {
         roster.index_of(pair).expect("a pair of the roster")
     };
     pairs.iter().map(index).collect()
+}
+
+/// A roster of these quotas without any pairs.
+pub fn without_pairs(surveyors: &[u8], stands: &[u8]) -> Vec<u8> {
+    let mut file = Vec::new();
+    for quotas in [surveyors, stands] {
+        file.push(u8::try_from(quotas.len()).expect("few nodes"));
+        file.extend(quotas);
+    }
+    file.extend([0, 0]);
+    file.extend(surveyors.iter().map(|_| 0));
+    file.extend([0, 0]);
+    file.extend(stands.iter().flat_map(|_| [0, 0]));
+    file
+}
+
+/// A desk that holds a roster, and one that holds a plan too.
+pub fn desk(roster: &[u8]) -> Desk {
+    let (desk, answer) = Desk::default().load_roster(roster);
+    answer.expect("accepted");
+    desk
+}
+
+pub fn desk_with_plan(roster: &[u8], plan: &[u8]) -> Desk {
+    let (desk, answer) = desk(roster).load_plan(plan);
+    answer.expect("accepted");
+    desk
 }

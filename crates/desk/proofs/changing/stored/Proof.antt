@@ -1,9 +1,10 @@
 -- `desk::changing::stored` meets its contract. Assumes nothing.
-use mathlib.Core.Path.{_≡_, refl, ap, _∙_, subst}
+use mathlib.Core.Path.{refl, subst}
 use mathlib.Core.List.{[]}
+use lib.ListN.{take}
 use Rattle.model.specs.PlanFile.{readPlan}
 use Rattle.instance.specs.Decoded.{shownBy}
-use Rattle.desk.specs.Changing.{lessOf}
+use Rattle.desk.specs.Changing.{LessOf}
 use Rattle.desk.specs.ChangeSteps.{no-plan, plan-few, plan-less}
 use borrow.Author.Needs.{needs}
 use Rattle.desk.proofs.changing.stored.Statement.{statement}
@@ -15,7 +16,7 @@ returns c =
     let f = c .before .before .before .front in
     let G = shownBy (a .g) in (
       refl,
-      subst (λ file. [] ≡ lessOf G (a .number) (readPlan G file)) (f .ensures)
+      subst (λ file. LessOf G (a .number) (readPlan G file) []) (f .ensures)
           (no-plan (a .g) (f .result .now) (c .before .before .with-plan .ensures) (a .number) (c .if1 .taken)),
     )
 
@@ -32,8 +33,8 @@ returns-2 c =
     let G = shownBy (a .g) in
     let k = c .before .carried in (
       refl,
-      plan-less (a .g) (f .result .now) (c .before .before .before .before .before .before .with-plan .ensures) (s .pre) (c .before .before .before .before .if1 .left) (a .number) (k .result) (k .ensures)
-          ∙ ap (λ file. lessOf G (a .number) (readPlan G file)) (f .ensures),
+      subst (λ file. LessOf G (a .number) (readPlan G file) (take (k .result .len) (k .result .bytes))) (f .ensures)
+          (plan-less (a .g) (f .result .now) (c .before .before .before .before .before .before .with-plan .ensures) (s .pre) (c .before .before .before .before .if1 .left) (a .number) (k .result) (k .ensures)),
     )
 
 pub stored-spec : {M : Type 1} → statement M

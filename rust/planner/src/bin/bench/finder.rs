@@ -4,48 +4,15 @@
 use std::hint::black_box;
 use std::time::Instant;
 
-use planner::{Desk, Step};
+use planner::Step;
 use reference::fast::{self, finder::Ending};
 use reference::random::{self, Random};
 use reference::roster;
 
+use crate::lent::{loaded, Buffers};
+use crate::longest::longest;
 use crate::stack;
 use crate::{heading, report, time};
-
-/// The buffers that a call is lent.
-struct Buffers {
-    diary: Vec<Step>,
-    left: Vec<u8>,
-    plan: Vec<u8>,
-    rival: Vec<u8>,
-}
-
-impl Buffers {
-    fn new() -> Buffers {
-        Buffers {
-            diary: vec![Step::default(); planner::DIARY_RECORDS],
-            left: vec![0; planner::LEFT_BYTES],
-            plan: vec![0; planner::PLAN_BYTES],
-            rival: vec![0; planner::PLAN_BYTES],
-        }
-    }
-
-    fn find(&mut self, desk: &Desk) {
-        let found = desk.find(
-            &mut self.diary,
-            &mut self.left,
-            &mut self.plan,
-            &mut self.rival,
-        );
-        black_box(found).expect("a roster is held");
-    }
-}
-
-fn loaded(bytes: &[u8]) -> Desk {
-    let mut desk = Desk::open();
-    desk.load_roster(bytes).expect("accepted");
-    desk
-}
 
 /// The fast reading's finder with all bytes written.
 fn find(bytes: &[u8], out: &mut Buffers) {
@@ -136,26 +103,21 @@ fn measure(what: &str, bytes: &[u8], buffers: &mut Buffers) {
 pub fn run() {
     let mut random = Random::new(10);
     let mut buffers = Buffers::new();
-    let agreed = random::agreed(&mut random, 0).0;
-    let tied = random::agreed(&mut random, 16).0;
-    let chained = random::chained(&mut random).0;
-    let typical = random::roster(&mut random, &random::longest_shape(50, 20));
+    let rosters = longest(&mut random).map(|(name, roster)| (name, roster::write(&roster)));
     let random_rosters = random_rosters(&mut random);
     let (name, slowest) = slowest(&random_rosters, &mut buffers);
     heading();
-    measure("all agree", &roster::write(&agreed), &mut buffers);
-    measure("all agree, all tied", &roster::write(&tied), &mut buffers);
-    measure("long walks", &roster::write(&chained), &mut buffers);
-    measure("typical", &roster::write(&typical), &mut buffers);
+    for (name, bytes) in &rosters {
+        measure(name, bytes, &mut buffers);
+    }
     let what = format!("slowest of {} ({name})", random_rosters.len());
     measure(&what, slowest, &mut buffers);
     println!();
-    let deepest = [agreed, tied, chained, typical].map(|roster| {
-        let desk = loaded(&roster::write(&roster));
+    let files = rosters.iter().map(|(_, bytes)| bytes).chain([slowest]);
+    let depths = files.map(|bytes| {
+        let desk = loaded(bytes);
         stack::depth(move || Buffers::new().find(&desk))
     });
-    let slowest = loaded(slowest);
-    let slowest = stack::depth(move || Buffers::new().find(&slowest));
-    let deepest = deepest.into_iter().chain([slowest]).max().unwrap_or(0);
+    let deepest = depths.max().unwrap_or(0);
     println!("stack of a find call: {} KiB", deepest.div_ceil(1024));
 }

@@ -1,12 +1,16 @@
 //! How long the proved calls take, against the reference written for speed:
 //! same machine, same input, both built for release. Each time is the least of
-//! several rounds, in microseconds a call; the ratio is ours to theirs.
+//! several rounds, in microseconds a call; the ratio is ours to theirs. Joining
+//! and leaving are held against the proved finder.
 //!
 //! Run with `cargo run --release --offline --bin bench`.
 
 mod blocking;
+mod changes;
 mod files;
 mod finder;
+mod lent;
+mod longest;
 mod stack;
 mod verdict;
 mod votes;
@@ -48,4 +52,6 @@ fn main() {
     verdict::run();
     println!();
     finder::run();
+    println!();
+    changes::run();
 }

@@ -1,0 +1,174 @@
+//! Nine days in the field: surveyors join and leave, some entries are mistaken,
+//! and each day the planner says what has changed. Pairs are written
+//! surveyor-stand.
+
+use std::error::Error;
+use std::io::{self, Write};
+
+use planner::{Desk, Found, Refusal, Step, Verdict, DIARY_RECORDS, LEFT_BYTES, PLAN_BYTES};
+use Event::{Join, Leave};
+
+/// Three surveyors and four stands.
+const ROSTER: [u8; 44] = [
+    3, 2, 1, 2, // surveyors 1 and 3 measure two stands, surveyor 2 one
+    4, 1, 2, 1, 2, // stands 2 and 4 are measured twice
+    10, 0, 3, 3, 4, 2, 4, 2, 3, 4, 1, 3, 1, 4, 3, // what each surveyor ranks
+    10, 0, 2, 0, 2, 3, 0, 2, 1, 2, 3, 0, 3, 2, 1, 3, 0, 2, 1, 3, // and each stand
+];
+
+/// A joiner's quota and stand list, or a leaver's number.
+enum Event {
+    Join(u8, &'static [u8]),
+    Leave(u8),
+}
+
+/// What happens from the second day on.
+#[rustfmt::skip]
+const DAYS: [(&str, Event); 8] = [
+    ("a surveyor joins, for one of the stands 4, 2, 1", Join(1, &[3, 4, 2, 1])),
+    ("a surveyor would join and ranks stand 5, but there are four", Join(1, &[2, 4, 5])),
+    ("surveyor 1 leaves", Leave(1)),
+    ("the same is entered once more", Leave(1)),
+    ("a surveyor joins, for two of the stands 1, 2, 4, 3", Join(2, &[4, 1, 2, 4, 3])),
+    ("surveyor 9 is entered as leaving, but there are five", Leave(9)),
+    ("surveyor 2 leaves", Leave(2)),
+    ("a surveyor joins, for stand 3", Join(1, &[1, 3])),
+];
+
+/// The desk and the buffers that it is lent.
+struct Planner {
+    desk: Desk,
+    diary: [Step; DIARY_RECORDS],
+    left: [u8; LEFT_BYTES],
+    plan: [u8; PLAN_BYTES],
+    rival: [u8; PLAN_BYTES],
+}
+
+impl Planner {
+    fn open() -> Planner {
+        Planner {
+            desk: Desk::open(),
+            diary: [Step::default(); DIARY_RECORDS],
+            left: [0; LEFT_BYTES],
+            plan: [0; PLAN_BYTES],
+            rival: [0; PLAN_BYTES],
+        }
+    }
+
+    /// Loads the roster, and the answer comes from the finder.
+    fn start(&mut self) -> Result<Found, Refusal> {
+        self.desk.load_roster(&ROSTER)?;
+        let (left, plan, rival) = (&mut self.left, &mut self.plan, &mut self.rival);
+        self.desk.find(&mut self.diary, left, plan, rival)
+    }
+
+    /// Changes the roster, and the finder's answer comes with it.
+    fn enter(&mut self, event: &Event) -> Result<Found, Refusal> {
+        let (diary, left) = (&mut self.diary, &mut self.left);
+        let (plan, rival) = (&mut self.plan, &mut self.rival);
+        match *event {
+            Join(quota, list) => self.desk.join(quota, list, diary, left, plan, rival),
+            Leave(number) => self.desk.leave(number, diary, left, plan, rival),
+        }
+    }
+
+    /// An answer in words.
+    fn answer(&self, found: Found) -> String {
+        let plan = listed(plan_pairs(&self.plan));
+        match found {
+            Found::Plan { .. } => format!("strongly popular is {plan}"),
+            Found::Left { pairs, .. } => {
+                let left = listed(&self.left[..2 * pairs]);
+                format!("no plan is strongly popular: the pairs {left} are left")
+            }
+            Found::Rivalled { vote, .. } => {
+                let rival = listed(plan_pairs(&self.rival));
+                format!("no plan is strongly popular: {plan} has vote {vote} against {rival}")
+            }
+        }
+    }
+
+    /// The held plan in words, with the verdict on it.
+    fn held(&self) -> Result<String, Refusal> {
+        let mut plan = [0; PLAN_BYTES];
+        self.desk.write_plan(&mut plan)?;
+        let verdict = match self.desk.judge(&mut [0; PLAN_BYTES])? {
+            Verdict::Strong => "strongly popular",
+            Verdict::Popular(_) => "popular",
+            Verdict::Beaten(_) => "beaten by another",
+        };
+        let pairs = listed(plan_pairs(&plan));
+        Ok(format!("the held plan is {pairs}, {verdict}"))
+    }
+
+    /// Holds the plan that was answered.
+    fn take(&mut self) -> Result<(), Refusal> {
+        let count = usize::from(self.plan[0]);
+        self.desk.load_plan(&self.plan[..1 + 2 * count])
+    }
+}
+
+/// The pair bytes of a plan's file.
+fn plan_pairs(plan: &[u8]) -> &[u8] {
+    &plan[1..1 + 2 * usize::from(plan[0])]
+}
+
+fn listed(pairs: &[u8]) -> String {
+    let pairs = pairs.chunks_exact(2);
+    let words: Vec<String> = pairs
+        .map(|pair| format!("{}-{}", pair[0], pair[1]))
+        .collect();
+    words.join(" ")
+}
+
+/// The two files that a desk holds.
+fn files(desk: &Desk) -> (&[u8], &[u8]) {
+    (&desk.roster[..desk.roster_len], &desk.plan[..desk.plan_len])
+}
+
+/// Tells what a day's event changes.
+fn tell_event(
+    planner: &mut Planner,
+    event: &Event,
+    out: &mut impl Write,
+) -> Result<(), Box<dyn Error>> {
+    let before = planner.desk.clone();
+    let entered = planner.enter(event);
+    if let Err(refusal) = entered {
+        writeln!(out, "  refused by number {}: {refusal}", refusal.number)?;
+    }
+    if files(&planner.desk) == files(&before) {
+        writeln!(out, "  nothing changes")?;
+        return Ok(());
+    }
+    let found = entered?;
+    if let Join(..) = event {
+        writeln!(out, "  the joiner is surveyor {}", planner.desk.roster[0])?;
+    }
+    writeln!(out, "  {}", planner.held()?)?;
+    writeln!(out, "  {}", planner.answer(found))?;
+    if let Found::Plan { .. } = found {
+        planner.take()?;
+        writeln!(out, "  it is held from now on")?;
+    }
+    Ok(())
+}
+
+/// Tells all nine days.
+pub fn tell(out: &mut impl Write) -> Result<(), Box<dyn Error>> {
+    let mut planner = Planner::open();
+    let found = planner.start()?;
+    writeln!(out, "day 1: three surveyors set out to four stands")?;
+    writeln!(out, "  {}", planner.answer(found))?;
+    planner.take()?;
+    writeln!(out, "  it is held from now on")?;
+    for (day, (what, event)) in (2..).zip(&DAYS) {
+        writeln!(out, "day {day}: {what}")?;
+        tell_event(&mut planner, event, out)?;
+    }
+    Ok(())
+}
+
+fn main() -> Result<(), Box<dyn Error>> {
+    tell(&mut io::stdout())
+}

@@ -1,0 +1,31 @@
+//! The examples tell what is stored beside them.
+
+use std::error::Error;
+
+// each example is a program of its own, whose main is not called here
+#[allow(dead_code)]
+#[path = "../examples/desk.rs"]
+mod desk;
+#[allow(dead_code)]
+#[path = "../examples/nine_days.rs"]
+mod nine_days;
+
+/// What an example tells.
+fn told(tell: impl FnOnce(&mut Vec<u8>) -> Result<(), Box<dyn Error>>) -> String {
+    let mut text = Vec::new();
+    tell(&mut text).expect("no call is refused that the story does not tell");
+    String::from_utf8(text).expect("plain text")
+}
+
+#[test]
+fn a_morning_at_the_desk() {
+    assert_eq!(told(desk::tell), include_str!("../examples/desk.out"));
+}
+
+#[test]
+fn nine_days_in_the_field() {
+    assert_eq!(
+        told(nine_days::tell),
+        include_str!("../examples/nine_days.out")
+    );
+}

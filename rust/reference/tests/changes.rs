@@ -1,0 +1,265 @@
+//! Joining and leaving: the rosters and plans that come of it, every refusal and
+//! their order, the limits.
+
+mod common;
+mod lent;
+
+use common::{desk, desk_with_plan, roster, without_pairs, Bytes, P1, P3, P4, P5, P6};
+use lent::{Buffers, SIZES};
+use reference::changes::{join, leave};
+use reference::desk::{Desk, Found};
+use reference::limits::MAX_ROSTER_BYTES;
+use reference::random::{self, Random};
+use reference::refusal::Refusal;
+use reference::roster::{read, write, Roster};
+use Change::{Join, Leave};
+
+/// A joiner's quota and list, or a leaver's number.
+#[derive(Clone, Copy, Debug)]
+enum Change<'a> {
+    Join(u8, &'a [u8]),
+    Leave(u8),
+}
+
+fn changed(roster: &Roster, change: Change) -> Result<Roster, Refusal> {
+    match change {
+        Join(quota, list) => join(roster, quota, list),
+        Leave(number) => leave(roster, number),
+    }
+}
+
+/// The bytes of the changed roster, which are read back to it, or the refusal's
+/// number.
+fn bytes_after(file: &[u8], change: Change) -> Result<Vec<u8>, u8> {
+    let after = changed(&roster(file), change).map_err(Refusal::number)?;
+    let bytes = write(&after);
+    assert_eq!(read(&bytes), Ok(after), "{change:?}");
+    Ok(bytes)
+}
+
+/// The call on a desk. On a refusal desk and buffers are as they were.
+fn made(desk: Desk, change: Change, buffers: &mut Buffers) -> (Desk, Result<Found, Refusal>) {
+    let (held, junk) = (desk.clone(), buffers.clone());
+    let (desk, answer) = match change {
+        Join(quota, list) => desk.join(quota, list, buffers.lend()),
+        Leave(number) => desk.leave(number, buffers.lend()),
+    };
+    if answer.is_err() {
+        assert_eq!((&desk, &*buffers), (&held, &junk), "{change:?}");
+    }
+    (desk, answer)
+}
+
+/// The desk after an accepted change.
+fn after(desk: Desk, change: Change) -> Desk {
+    let (desk, answer) = made(desk, change, &mut Buffers::new(SIZES));
+    answer.expect("accepted");
+    desk
+}
+
+/// The number that a call with buffers of their sizes is refused by, 0 for none.
+fn refused(desk: &Desk, change: Change) -> u8 {
+    let (_, answer) = made(desk.clone(), change, &mut Buffers::new(SIZES));
+    answer.err().map_or(0, Refusal::number)
+}
+
+/// A roster, a change of it, and the bytes that come of it.
+type Case = (Bytes, Change<'static>, Bytes);
+
+#[rustfmt::skip]
+const CHANGED: &[Case] = &[
+    (P3, Join(1, &[1, 1]), &[3, 1, 1, 1, 1, 1, 3, 0, 1, 1, 1, 1, 1, 1, 3, 0, 2, 1, 1, 2, 3]),
+    (P3, Join(0, &[1, 1]), &[3, 1, 1, 0, 1, 1, 3, 0, 1, 1, 1, 1, 1, 1, 3, 0, 2, 1, 1, 2, 3]),
+    (P3, Join(0, &[0]), &[3, 1, 1, 0, 1, 1, 2, 0, 1, 1, 1, 1, 0, 2, 0, 2, 0, 1, 2]),
+    (P3, Leave(1), &[2, 0, 1, 1, 1, 1, 0, 0, 1, 1, 1, 0, 1, 0, 2]),
+    (P3, Leave(2), &[2, 1, 0, 1, 1, 1, 0, 1, 1, 0, 1, 0, 1, 0, 1]),
+    // a tie grows at its end, and a tie of one stays a tie
+    (P4, Join(2, &[1, 1]), &[3, 1, 1, 2, 1, 1, 3, 0, 1, 1, 1, 1, 1, 1, 3, 0, 0, 3, 1, 2, 3]),
+    (P4, Leave(2), &[2, 1, 0, 1, 1, 1, 0, 1, 1, 0, 1, 0, 0, 1, 1]),
+    // every listed stand gets an entry, the others none
+    (P6, Join(1, &[2, 2, 1]), &[
+        3, 1, 1, 1, 2, 1, 1, 6, 0, 2, 1, 2, 2, 2, 1, 2, 2, 1, 6, 0, 2, 1, 2, 1, 3, 2, 1, 1, 2, 3]),
+    (P6, Join(1, &[1, 2]), &[
+        3, 1, 1, 1, 2, 1, 1, 5, 0, 2, 1, 2, 2, 2, 1, 1, 2, 5, 0, 2, 0, 2, 1, 2, 1, 1, 2, 3]),
+    (P6, Leave(1), &[2, 0, 1, 2, 1, 1, 2, 0, 0, 2, 2, 1, 2, 0, 1, 0, 2, 1, 0, 2]),
+    // no stands, and the first surveyor of all
+    (P1, Join(8, &[0]), &[1, 8, 0, 0, 0, 0, 0, 0]),
+];
+
+#[test]
+fn rosters_after_a_change() {
+    for &(file, change, bytes) in CHANGED {
+        let after = bytes_after(file, change);
+        assert_eq!(after.as_deref(), Ok(bytes), "{file:?} {change:?}");
+    }
+}
+
+#[test]
+fn leaving_twice() {
+    for file in [P3, P4, P5, P6] {
+        let once = bytes_after(file, Leave(1)).expect("accepted");
+        assert_eq!(bytes_after(&once, Leave(1)), Ok(once.clone()));
+        // the call still answers and writes
+        let [mut first, mut second] = [(); 2].map(|()| Buffers::new(SIZES));
+        let (held, answer) = made(desk_with_plan(file, &[1, 1, 1]), Leave(1), &mut first);
+        let (again, twice) = made(held.clone(), Leave(1), &mut second);
+        assert_eq!((again, twice, second), (held, answer, first));
+    }
+}
+
+#[test]
+fn numbers_are_not_given_twice() {
+    let held = after(after(desk(P3), Leave(2)), Join(1, &[1, 1]));
+    let bytes = [3, 1, 0, 1, 1, 1, 2, 0, 1, 1, 0, 1, 1, 2, 0, 1, 1, 1, 3];
+    assert_eq!(held, desk(&bytes));
+    // the last one too
+    let held = after(after(held, Leave(3)), Join(2, &[0]));
+    let bytes = [4, 1, 0, 0, 2, 1, 1, 1, 0, 1, 1, 0, 0, 0, 1, 0, 1, 0, 1];
+    assert_eq!(held, desk(&bytes));
+}
+
+#[test]
+fn all_leave() {
+    let held = after(
+        after(desk_with_plan(P5, &[2, 1, 1, 2, 1]), Leave(2)),
+        Leave(1),
+    );
+    let bytes = [2, 0, 0, 1, 2, 0, 0, 0, 0, 0, 0, 0, 0];
+    assert_eq!(held, desk_with_plan(&bytes, &[0]));
+}
+
+#[test]
+fn the_held_plan() {
+    let both: Bytes = &[2, 1, 1, 2, 1];
+    let cases: [(Change, Bytes); 5] = [
+        (Leave(1), &[1, 2, 1]),
+        (Leave(2), &[1, 1, 1]),
+        (Join(1, &[1, 1]), both),
+        (Join(0, &[1, 1]), both),
+        (Join(8, &[0]), both),
+    ];
+    for (change, plan) in cases {
+        let bytes = bytes_after(P5, change).expect("accepted");
+        let held = after(desk_with_plan(P5, both), change);
+        assert_eq!(held, desk_with_plan(&bytes, plan), "{change:?}");
+        assert_eq!(after(desk(P5), change), desk(&bytes), "{change:?}");
+    }
+    // an empty plan stays held
+    let held = after(desk_with_plan(P3, &[1, 1, 1]), Leave(1));
+    let bytes = bytes_after(P3, Leave(1)).expect("accepted");
+    assert_eq!(held, desk_with_plan(&bytes, &[0]));
+}
+
+#[rustfmt::skip]
+const REFUSED: &[(Bytes, Change, u8)] = &[
+    (P3, Join(9, &[]), 3),
+    (P3, Join(255, &[1, 1]), 3),
+    (P3, Join(1, &[]), 1),
+    (P3, Join(1, &[1]), 1),
+    (P3, Join(1, &[2, 1]), 2),
+    (P3, Join(1, &[2]), 2),
+    (P3, Join(1, &[255, 0]), 2),
+    (P1, Join(1, &[1, 1]), 2),
+    (P3, Join(1, &[1, 0]), 4),
+    (P3, Join(1, &[1, 2]), 4),
+    (P6, Join(1, &[2, 3]), 4),
+    (P6, Join(1, &[2, 0, 0]), 4),
+    (P6, Join(1, &[2, 1, 1]), 5),
+    (P6, Join(1, &[2, 2, 2, 0]), 5),
+    (P6, Join(1, &[2, 1]), 1),
+    (P6, Join(1, &[2, 1, 3, 9]), 4),
+    (P3, Join(1, &[1, 1, 7]), 9),
+    (P1, Join(1, &[0, 0]), 9),
+    (P3, Leave(0), 16),
+    (P3, Leave(3), 16),
+    (P3, Leave(255), 16),
+    (P1, Leave(0), 16),
+    (P1, Leave(1), 16),
+];
+
+#[test]
+fn every_refusal() {
+    for &(file, change, number) in REFUSED {
+        assert_eq!(
+            bytes_after(file, change),
+            Err(number),
+            "{file:?} {change:?}"
+        );
+        assert_eq!(refused(&desk(file), change), number, "{file:?} {change:?}");
+    }
+}
+
+/// A desk with surveyors of these quotas, one stand and no pairs.
+fn crowd(quotas: &[u8]) -> Desk {
+    desk(&without_pairs(quotas, &[1]))
+}
+
+#[test]
+fn numbers_that_are_taken() {
+    let one_free = crowd(&[1; 31]);
+    assert_eq!(refused(&one_free, Join(1, &[1, 1])), 0);
+    let full = after(one_free, Join(1, &[1, 1]));
+    for list in [&[1, 1][..], &[0], &[], &[9]] {
+        assert_eq!(refused(&full, Join(0, list)), 17, "{list:?}");
+        assert_eq!(refused(&full, Join(9, list)), 3, "{list:?}");
+    }
+    // leavers' numbers stay taken
+    let fewer = after(after(full, Leave(32)), Leave(1));
+    assert_eq!(refused(&fewer, Join(1, &[1, 1])), 17);
+    let gone = (1..=32).fold(fewer, |desk, number| after(desk, Leave(number)));
+    assert_eq!(refused(&gone, Join(0, &[0])), 17);
+}
+
+#[test]
+fn sums_of_quotas() {
+    let eights = crowd(&[8; 8]);
+    assert_eq!(refused(&eights, Join(1, &[])), 17);
+    assert_eq!(refused(&eights, Join(9, &[])), 3);
+    assert_eq!(refused(&eights, Join(0, &[0])), 0);
+    assert_eq!(refused(&eights, Join(0, &[])), 1);
+    let some = crowd(&[8, 8, 8, 8, 8, 8, 8, 3]);
+    assert_eq!(refused(&some, Join(5, &[1, 1])), 0);
+    assert_eq!(refused(&some, Join(6, &[1, 1])), 17);
+    // a leaver's quota is free again, the number is not
+    let fewer = after(eights, Leave(3));
+    assert_eq!(refused(&fewer, Join(8, &[1, 1])), 0);
+    let full = after(fewer, Join(8, &[1, 1]));
+    assert_eq!(refused(&full, Join(1, &[1, 1])), 17);
+    // the stands' quotas are not counted
+    let stands = desk(&without_pairs(&[], &[8; 8]));
+    assert_eq!(refused(&stands, Join(8, &[0])), 0);
+}
+
+#[test]
+fn the_state_comes_first() {
+    let changes = [Join(9, &[]), Join(1, &[1, 1]), Leave(0), Leave(1)];
+    for change in changes {
+        let (_, answer) = made(Desk::default(), change, &mut Buffers::new([0; 4]));
+        assert_eq!(answer, Err(Refusal::NoRosterLoaded), "{change:?}");
+        for place in 0..SIZES.len() {
+            let mut sizes = SIZES;
+            sizes[place] -= 1;
+            let (_, answer) = made(desk(P3), change, &mut Buffers::new(sizes));
+            assert_eq!(answer, Err(Refusal::BufferTooSmall), "{change:?}");
+        }
+        let (_, answer) = made(crowd(&[2; 32]), change, &mut Buffers::new([0; 4]));
+        assert_eq!(answer, Err(Refusal::BufferTooSmall), "{change:?}");
+    }
+}
+
+/// The longest roster comes of a join, and no longer one does.
+#[test]
+fn the_longest_roster_is_joined() {
+    let mut random = Random::new(21);
+    let mut shape = random::longest_shape(50, 20);
+    shape.counts[0] = 31..=31;
+    let shorter = random::roster(&mut random, &shape);
+    let list: Vec<u8> = std::iter::once(32).chain(1..=32).collect();
+    let longest = join(&shorter, 2, &list).expect("accepted");
+    let bytes = write(&longest);
+    assert_eq!(
+        (bytes.len(), longest.pairs().len()),
+        (MAX_ROSTER_BYTES, 1_024)
+    );
+    assert_eq!(read(&bytes), Ok(longest));
+}
