@@ -1,5 +1,8 @@
-// The finder for C: the desk goes in by value and comes back; the diary is a lent list of step records.
+// The finder, and joining and leaving, for C: the desk goes in by value and comes back; the diary is a lent list of step records.
 ghost use mathlib.Core.Path.{_≡_};
+ghost use Rattle.model.specs.Desk.{join, leave};
+ghost use Rattle.desk.specs.Changes.{Changes};
+ghost use Rattle.desk.specs.Finding.{Finds};
 ghost use Rattle.abi.specs.Finds.{numbersOf, Numbered};
 use desk::Desk;
 use desk::FindReply;
@@ -41,9 +44,44 @@ pub extern "C" fn crew_find(
     plan: &mut [u8],
     rival: &mut [u8],
 ) -> DeskFound
-    ensures { λ r. ⌜ Numbered desk (now (diary .entry)) (now (left .entry)) (now (plan .entry)) (now (rival .entry)) r (now (diary .exit)) (now (left .exit))
-        (now (plan .exit)) (now (rival .exit)) ⌝ }
+    ensures { λ r. ⌜ Numbered (λ q. Finds desk (now (diary .entry)) (now (left .entry)) (now (plan .entry)) (now (rival .entry)) q (now (diary .exit))
+        (now (left .exit)) (now (plan .exit)) (now (rival .exit))) r ⌝ }
 {
     let r = desk.find(diary, left, plan, rival);
+    numbers_of(r)
+}
+
+// a surveyor joins the held roster, with a quota and a list file; then as crew_find on the changed roster, in buffers of the same sizes
+#[no_mangle]
+pub extern "C" fn crew_join(
+    desk: Desk,
+    quota: u8,
+    list: &[u8],
+    diary: &mut [Step],
+    left: &mut [u8],
+    plan: &mut [u8],
+    rival: &mut [u8],
+) -> DeskFound
+    ensures { λ r. ⌜ Numbered (λ q. Changes desk (join quota (now (list .entry))) (now (diary .entry)) (now (left .entry)) (now (plan .entry))
+        (now (rival .entry)) q (now (diary .exit)) (now (left .exit)) (now (plan .exit)) (now (rival .exit))) r ⌝ }
+{
+    let r = desk.join(quota, list, diary, left, plan, rival);
+    numbers_of(r)
+}
+
+// the surveyor of a number leaves the held roster and keeps the number; then as crew_find on the changed roster, in buffers of the same sizes
+#[no_mangle]
+pub extern "C" fn crew_leave(
+    desk: Desk,
+    number: u8,
+    diary: &mut [Step],
+    left: &mut [u8],
+    plan: &mut [u8],
+    rival: &mut [u8],
+) -> DeskFound
+    ensures { λ r. ⌜ Numbered (λ q. Changes desk (leave number) (now (diary .entry)) (now (left .entry)) (now (plan .entry)) (now (rival .entry)) q
+        (now (diary .exit)) (now (left .exit)) (now (plan .exit)) (now (rival .exit))) r ⌝ }
+{
+    let r = desk.leave(number, diary, left, plan, rival);
     numbers_of(r)
 }

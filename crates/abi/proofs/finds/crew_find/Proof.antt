@@ -120,7 +120,7 @@ module _ {M : Type 1} (𝓤 : URA M) (H : Heap 𝓤) (A : Atoms 𝓤) (W : Given
   abbrev Tokens : Item 𝓤
   Tokens = ‵ (flft κ₀ q₀) ⊛ ‵ (flft κ₁ q₁) ⊛ ‵ (flft κ₂ q₂) ⊛ ‵ (flft κ₃ q₃) ⊛ ‵ ftrue
 
-  exits : (n : DeskFound) (u : Val) (s : List Step) (l p r : List ℕ) → Numbered d (S .now) (L .now) (P .now) (R .now) n s l p r
+  exits : (n : DeskFound) (u : Val) (s : List Step) (l p r : List ℕ) → Numbered (λ z. Finds d (S .now) (L .now) (P .now) (R .now) z s l p r) n
       → length s ≡ length (S .now) → length l ≡ length (L .now) → length p ≡ length (P .now) → length r ≡ length (R .now)
       → ent 𝓤
       (⋆ 𝓤 H A
@@ -249,7 +249,7 @@ module _ {M : Type 1} (𝓤 : URA M) (H : Heap 𝓤) (A : Atoms 𝓤) (W : Given
         (18 ∷ 19 ∷ []) $ free1 ! $ move ! (16 ∷ 17 ∷ []) $ free1 ! $ move ! (14 ∷ 15 ∷ []) $ free1 ! $ move ! (12 ∷ 13 ∷ []) $ free1 ! $ move !
         (10 ∷ 11 ∷ []) $ free1 ! $ move ! (8 ∷ 9 ∷ []) $ free1 ! $ move ! (6 ∷ 7 ∷ []) $ free1 ! $ free0 ! $
         keep ! (1 ∷ 5 ∷ 4 ∷ 3 ∷ 2 ∷ 0 ∷ []) $ by !
-        (exits n u (ws .1 .0) (ws .1 .1 .0) (ws .1 .1 .1 .0) (ws .1 .1 .1 .1 .0) (record { reply = r; numbers = e′; finds = e }) hs hl hp
+        (exits n u (ws .1 .0) (ws .1 .1 .0) (ws .1 .1 .1 .0) (ws .1 .1 .1 .1 .0) (record { reply = r; numbers = e′; promised = e }) hs hl hp
         hr)))))))))))))))))))))))))))))
 
 module _ {M : Type 1} (𝓤 : URA M) (H : Heap 𝓤) (A : Atoms 𝓤) (W : Given 𝓤 H A) (at-mem : Memory → SProp 𝓤) (run : Routine → Fun 𝓤) (𝓣 : Tables 𝓤 H)
