@@ -1,5 +1,4 @@
--- What the calls for C that answer as the finder does, find, join and leave, answer: the numbers of a reply of which the desk's call says its
--- promise, demand 3 in it.
+-- What the calls for C that are lent the finder's buffers answer: the numbers of a reply of which the desk's call says its promise, demand 3 in it.
 use mathlib.Core.Path.{_≡_}
 use Rattle.answers.specs.FinderCases.{foundShown}
 use Rattle.abi_numbers.specs.declared.FoundNumbers.{FoundNumbers}
@@ -15,8 +14,8 @@ withDesk d n = record { desk = d; kind = n .kind; refusal = n .refusal; vote = n
 unfoldable pub numbersOf : FindReply → DeskFound
 numbersOf r = withDesk (r .desk) (foundIn (foundShown (r .answer)))
 
--- `promise`: what the desk's call promises of a reply, all that is lent in it
-pub record Numbered (promise : FindReply → Type 0) (n : DeskFound) : Type 0 where
+-- what is promised of the reply that the numbers are of
+pub record Numbered (Promised : FindReply → Type 0) (n : DeskFound) : Type 0 where
   pub reply : FindReply
   pub numbers : n ≡ numbersOf reply
-  pub promised : promise reply
+  pub promised : Promised reply

@@ -1,8 +1,9 @@
-// The finder, and joining and leaving, for C: the desk goes in by value and comes back; the diary is a lent list of step records.
+// The finder for C, and joining and leaving, which are lent its buffers: the desk goes in by value and comes back; the diary is a lent list of step
+// records.
 ghost use mathlib.Core.Path.{_≡_};
 ghost use Rattle.model.specs.Desk.{join, leave};
-ghost use Rattle.desk.specs.Changes.{Changes};
 ghost use Rattle.desk.specs.Finding.{Finds};
+ghost use Rattle.desk.specs.Changes.{Changes};
 ghost use Rattle.abi.specs.Finds.{numbersOf, Numbered};
 use desk::Desk;
 use desk::FindReply;
@@ -44,14 +45,14 @@ pub extern "C" fn crew_find(
     plan: &mut [u8],
     rival: &mut [u8],
 ) -> DeskFound
-    ensures { λ r. ⌜ Numbered (λ q. Finds desk (now (diary .entry)) (now (left .entry)) (now (plan .entry)) (now (rival .entry)) q (now (diary .exit))
+    ensures { λ r. ⌜ Numbered (λ x. Finds desk (now (diary .entry)) (now (left .entry)) (now (plan .entry)) (now (rival .entry)) x (now (diary .exit))
         (now (left .exit)) (now (plan .exit)) (now (rival .exit))) r ⌝ }
 {
     let r = desk.find(diary, left, plan, rival);
     numbers_of(r)
 }
 
-// a surveyor joins the held roster, with a quota and a list file; then as crew_find on the changed roster, in buffers of the same sizes
+// a surveyor joins the held roster, with a quota and a list file; the buffers are the finder's
 #[no_mangle]
 pub extern "C" fn crew_join(
     desk: Desk,
@@ -62,14 +63,14 @@ pub extern "C" fn crew_join(
     plan: &mut [u8],
     rival: &mut [u8],
 ) -> DeskFound
-    ensures { λ r. ⌜ Numbered (λ q. Changes desk (join quota (now (list .entry))) (now (diary .entry)) (now (left .entry)) (now (plan .entry))
-        (now (rival .entry)) q (now (diary .exit)) (now (left .exit)) (now (plan .exit)) (now (rival .exit))) r ⌝ }
+    ensures { λ r. ⌜ Numbered (λ x. Changes desk (join quota (now (list .entry))) (now (diary .entry)) (now (left .entry)) (now (plan .entry))
+        (now (rival .entry)) x (now (diary .exit)) (now (left .exit)) (now (plan .exit)) (now (rival .exit))) r ⌝ }
 {
     let r = desk.join(quota, list, diary, left, plan, rival);
     numbers_of(r)
 }
 
-// the surveyor of a number leaves the held roster and keeps the number; then as crew_find on the changed roster, in buffers of the same sizes
+// the surveyor of a number leaves the held roster; the buffers are the finder's
 #[no_mangle]
 pub extern "C" fn crew_leave(
     desk: Desk,
@@ -79,7 +80,7 @@ pub extern "C" fn crew_leave(
     plan: &mut [u8],
     rival: &mut [u8],
 ) -> DeskFound
-    ensures { λ r. ⌜ Numbered (λ q. Changes desk (leave number) (now (diary .entry)) (now (left .entry)) (now (plan .entry)) (now (rival .entry)) q
+    ensures { λ r. ⌜ Numbered (λ x. Changes desk (leave number) (now (diary .entry)) (now (left .entry)) (now (plan .entry)) (now (rival .entry)) x
         (now (diary .exit)) (now (left .exit)) (now (plan .exit)) (now (rival .exit))) r ⌝ }
 {
     let r = desk.leave(number, diary, left, plan, rival);

@@ -120,7 +120,7 @@ module _ {M : Type 1} (𝓤 : URA M) (H : Heap 𝓤) (A : Atoms 𝓤) (W : Given
   abbrev Tokens : Item 𝓤
   Tokens = ‵ (flft κ₀ q₀) ⊛ ‵ (flft κ₁ q₁) ⊛ ‵ (flft κ₂ q₂) ⊛ ‵ (flft κ₃ q₃) ⊛ ‵ ftrue
 
-  exits : (n : DeskFound) (u : Val) (s : List Step) (l p r : List ℕ) → Numbered (λ z. Finds d (S .now) (L .now) (P .now) (R .now) z s l p r) n
+  exits : (n : DeskFound) (u : Val) (s : List Step) (l p r : List ℕ) → Numbered (λ x. Finds d (S .now) (L .now) (P .now) (R .now) x s l p r) n
       → length s ≡ length (S .now) → length l ≡ length (L .now) → length p ≡ length (P .now) → length r ≡ length (R .now)
       → ent 𝓤
       (⋆ 𝓤 H A
