@@ -1,17 +1,15 @@
 -- Arrays of counters: what a turn of the loop does to them. An array is a list here, read by `at` and
 -- `flag` (crate arrays).
-use Prim.Native.Nat.{ℕ, zero, suc, _+_, _≤_, _<_}
+use Prim.Native.Nat.{ℕ, suc, _+_, _≤_, _<_}
 use native.Mathlib.Omega.{arith}
-use native.Mathlib.Nat.{eq-or-lt-of-le}
-use mathlib.Core.Path.{_≡_, refl, sym, ap, _∙_, subst}
-use mathlib.Core.Logic.{⊎-elim}
+use mathlib.Core.Path.{_≡_, refl, sym, ap, subst}
 use mathlib.Core.Bool.{Bool, true, false, _&&_}
 use mathlib.Core.List.{List}
-use lib.ListN.{length, getD, set, replicate}
+use lib.ListN.{length, set, replicate}
 use lib.Seq.{getD-set-same, getD-set-other}
 use lib.Dec.{eqb}
 use mir.Val.{boolByte}
-use Rattle.lists.specs.Test.{bit, by-eq, bit-one}
+use Rattle.lists.specs.Test.{bit, by-eq}
 use Rattle.lists.specs.Sum.{count, count-≤}
 use Rattle.model.specs.Instance.{Side, deg}
 use Rattle.arrays.specs.ArrayInstance.{at, flag}

@@ -1,5 +1,5 @@
 -- One pass over edges in some order: for each edge, how many of a set came before it at the same node.
-use Prim.Native.Nat.{ℕ, _+_, _<_}
+use Prim.Native.Nat.{ℕ, _+_, _≤_, _<_}
 use native.Mathlib.Omega.{arith}
 use mathlib.Core.Path.{_≡_, refl, sym, ap, _∙_}
 use mathlib.Core.Bool.{Bool, _&&_}
@@ -11,8 +11,16 @@ use lib.Dec.{eqb}
 use Rattle.lists.specs.Test.{bit, eqb-yes}
 use Rattle.lists.specs.Sum.{sum, occ}
 use Rattle.lists.specs.Keep.{All}
+use Rattle.model.specs.Limits.{entryLimit, nodeLimit}
 use Rattle.arrays.specs.ArrayInstance.{at}
+use Rattle.arrays.specs.Passes.{Low}
 use Rattle.reduction_counts.specs.Filled.{counted}
+
+-- an order of edges, each with a node at its end
+pub record Order (end ord : List ℕ) : Type 0 where
+  pub size : length ord ≤ entryLimit
+  pub edges : Low (length ord) ord entryLimit
+  pub ends : (k : ℕ) → k < length ord → at end (at ord k) < nodeLimit
 
 -- how many of a list pass
 abbrev pub passing : (ℕ → Bool) → List ℕ → ℕ

@@ -2,15 +2,15 @@
 // by rank, and arrays made edge by edge or node by node. At most 1,024 edges and 32 nodes a side. Numbers and flags are combined without branches.
 ghost use mathlib.Core.Path.{_≡_};
 ghost use mathlib.Core.Bool.{_&&_, _||_, not, false};
-ghost use Prim.Native.Nat.{ℕ, _≤_, _<_, min};
-ghost use lib.ListN.{length, replicate};
+ghost use Prim.Native.Nat.{_≤_, _<_, min};
+ghost use lib.ListN.{replicate};
 ghost use lib.Dec.{eqb, ltb};
 ghost use Rattle.model.specs.Limits.{entryLimit, nodeLimit};
 ghost use Rattle.arrays.specs.ArrayInstance.{at, flag};
 ghost use Rattle.arrays.specs.Passes.{Low};
 ghost use Rattle.arrays.specs.Filled.{Made};
 ghost use Rattle.reduction_counts.specs.Filled.{Tally, Small, blank};
-ghost use Rattle.reduction_counts.specs.Mark.{marked};
+ghost use Rattle.reduction_counts.specs.Mark.{Order, marked};
 
 // How many edges of the set p lie at each node.
 pub fn tally(m: usize, end: &[u8; 1024], p: &[bool; 1024]) -> [u16; 32]
@@ -29,8 +29,7 @@ pub fn tally(m: usize, end: &[u8; 1024], p: &[bool; 1024]) -> [u16; 32]
 
 // Over edges in the order ord: for each of them, how many edges of the set p came before it at its node.
 pub fn mark(ord: &[u16], end: &[u8; 1024], p: &[bool; 1024]) -> [u16; 1024]
-    requires { ⌜ (length (now ord) ≤ entryLimit) × Low (length (now ord)) (now ord) entryLimit
-        × ((k : ℕ) → k < length (now ord) → at (now end) (at (now ord) k) < nodeLimit) ⌝ }
+    requires { ⌜ Order (now end) (now ord) ⌝ }
     ensures { λ r. ⌜ (r ≡ marked (at (now (end .entry))) (flag (now (p .entry))) (now (ord .entry)) (replicate 32 0) blank) × Small r ⌝ }
 {
     let mut t = [0u16; 32];

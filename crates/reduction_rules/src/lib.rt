@@ -2,7 +2,7 @@
 // name many edges that are struck one after the other, all that the rule names.
 ghost use mathlib.Core.Path.{_≡_};
 ghost use mathlib.Core.Bool.{_&&_, _||_, not, false};
-ghost use Prim.Native.Nat.{ℕ, _+_, _≤_, _<_};
+ghost use Prim.Native.Nat.{_+_, _≤_, _<_};
 ghost use lib.Dec.{eqb, ltb, leb};
 ghost use Rattle.lists.specs.Search.{low};
 ghost use Rattle.model.specs.Limits.{entryLimit, nodeLimit};
@@ -99,13 +99,13 @@ pub fn find3(
     i
 }
 
-// Rule 4: the worst of N(s) where N(s), of ns edges, is larger than the quota; nb of them are better than the edge.
+// Rule 4: the worst of N(s) where N(s), by its size, is larger than the quota; nb edges of it are better than the edge.
 pub fn find4(
     m: usize,
     rem: &[bool; 1024],
     sv: &[u8; 1024],
     res: &[bool; 1024],
-    ns: &[u16; 32],
+    sizes: &[u16; 32],
     qs: &[u16; 32],
     nb: &[u16; 1024],
 ) -> usize
@@ -113,14 +113,14 @@ pub fn find4(
     ensures { λ r. ⌜ r ≡ low
         (λ e. flag (now (rem .entry)) e
         && (flag (now (res .entry)) e
-        && (ltb (at (now (qs .entry)) (at (now (sv .entry)) e)) (at (now (ns .entry)) (at (now (sv .entry)) e))
-        && eqb (at (now (nb .entry)) e + 1) (at (now (ns .entry)) (at (now (sv .entry)) e)))))
+        && (ltb (at (now (qs .entry)) (at (now (sv .entry)) e)) (at (now (sizes .entry)) (at (now (sv .entry)) e))
+        && eqb (at (now (nb .entry)) e + 1) (at (now (sizes .entry)) (at (now (sv .entry)) e)))))
         m ⌝ }
 {
     let mut i = 0;
     while i < m {
         let s = sv[i] as usize;
-        if rem[i] & (res[i] & ((qs[s] < ns[s]) & (nb[i] + 1 == ns[s]))) {
+        if rem[i] & (res[i] & ((qs[s] < sizes[s]) & (nb[i] + 1 == sizes[s]))) {
             return i;
         }
         i += 1;
@@ -153,53 +153,25 @@ pub fn named5(
     o
 }
 
-// Rule 6: the best edge of s where N(s), of ns edges, is smaller than the quota; hs edges are ahead of the edge.
-pub fn find6(
+// Rules 6 and 7: the best edge of a set at a node that has fewer than its quota; ahead says how many edges of the set are ahead of an edge.
+pub fn find_short(
     m: usize,
-    rem: &[bool; 1024],
-    sv: &[u8; 1024],
-    ns: &[u16; 32],
-    qs: &[u16; 32],
-    hs: &[u16; 1024],
+    p: &[bool; 1024],
+    end: &[u8; 1024],
+    have: &[u16; 32],
+    q: &[u16; 32],
+    ahead: &[u16; 1024],
 ) -> usize
-    requires { ⌜ (m ≤ entryLimit) × Low m (now sv) nodeLimit ⌝ }
+    requires { ⌜ (m ≤ entryLimit) × Low m (now end) nodeLimit ⌝ }
     ensures { λ r. ⌜ r ≡ low
-        (λ e. flag (now (rem .entry)) e
-        && (ltb (at (now (ns .entry)) (at (now (sv .entry)) e)) (at (now (qs .entry)) (at (now (sv .entry)) e)) && eqb (at (now (hs .entry)) e) 0))
+        (λ e. flag (now (p .entry)) e
+        && (ltb (at (now (have .entry)) (at (now (end .entry)) e)) (at (now (q .entry)) (at (now (end .entry)) e)) && eqb (at (now (ahead .entry)) e) 0))
         m ⌝ }
 {
     let mut i = 0;
     while i < m {
-        let s = sv[i] as usize;
-        if rem[i] & ((ns[s] < qs[s]) & (hs[i] == 0)) {
-            return i;
-        }
-        i += 1;
-    }
-    i
-}
-
-// Rule 7: the best strict edge of a stand with fewer arrows in than its quota; ht edges are ahead of the edge.
-pub fn find7(
-    m: usize,
-    rem: &[bool; 1024],
-    st: &[u8; 1024],
-    tied: &[bool; 1024],
-    got: &[u16; 32],
-    qt: &[u16; 32],
-    ht: &[u16; 1024],
-) -> usize
-    requires { ⌜ (m ≤ entryLimit) × Low m (now st) nodeLimit ⌝ }
-    ensures { λ r. ⌜ r ≡ low
-        (λ e. flag (now (rem .entry)) e
-        && (ltb (at (now (got .entry)) (at (now (st .entry)) e)) (at (now (qt .entry)) (at (now (st .entry)) e))
-        && (not (flag (now (tied .entry)) e) && eqb (at (now (ht .entry)) e) 0)))
-        m ⌝ }
-{
-    let mut i = 0;
-    while i < m {
-        let t = st[i] as usize;
-        if rem[i] & ((got[t] < qt[t]) & (!tied[i] & (ht[i] == 0))) {
+        let v = end[i] as usize;
+        if p[i] & ((have[v] < q[v]) & (ahead[i] == 0)) {
             return i;
         }
         i += 1;

@@ -1,27 +1,29 @@
--- The orders by rank are what a run asks for.
-use Prim.Native.Nat.{ℕ, _≤_, _<_}
+-- What a run gives to what it calls: the orders by rank are orders of edges, and where it stands a step can be made.
+use Prim.Native.Nat.{ℕ, _≤_}
 use native.Mathlib.Omega.{arith}
 use mathlib.Core.Path.{_≡_, sym, subst}
 use mathlib.Core.Bool.{Bool}
 use mathlib.Core.List.{List}
-use lib.ListN.{length}
 use Rattle.model.specs.Limits.{nodeLimit, entryLimit, emptyRank}
 use Rattle.model.specs.Instance.{surveyors, stands}
 use Rattle.theory_instance.specs.Lawful.{Lawful}
 use Rattle.arrays.specs.ArrayInstance.{at, shown}
 use Rattle.arrays.specs.Passes.{Low}
+use Rattle.reduction_counts.specs.Mark.{Order}
 use Rattle.reduction_counts.specs.Ranks.{Lists}
-use Rattle.reduction_step.specs.View.{Known}
+use Rattle.reduction_step.specs.View.{Known, instanceOf, Setting}
+use Rattle.reduction_state.specs.declared.State as arrays
+use Rattle.reduction_state.specs.declared.Trace.{Trace}
+use Rattle.reduction_state.specs.RunState.{Stands}
 use Rattle.reduction_order.specs.Ranked.{ranked, ranked-full, ranked-edges, ranked-lists}
 
 pub order-fits : (m : ℕ) (end rank xs : List ℕ) → m ≤ entryLimit → Low m end nodeLimit → Low m rank emptyRank → xs ≡ ranked (at rank) m emptyRank
-    → (length xs ≤ entryLimit) × Low (length xs) xs entryLimit × ((k : ℕ) → k < length xs → at end (at xs k) < nodeLimit)
-order-fits m end rank xs l e r q =
-    subst (λ xs. (length xs ≤ entryLimit) × Low (length xs) xs entryLimit × ((k : ℕ) → k < length xs → at end (at xs k) < nodeLimit)) (sym q) (
-      omega (arith, ranked-full (at rank) m emptyRank r),
-      λ k h. omega (arith, ranked-edges (at rank) m emptyRank k h),
-      λ k h. e (at (ranked (at rank) m emptyRank) k) (ranked-edges (at rank) m emptyRank k h),
-    )
+    → Order end xs
+order-fits m end rank xs l e r q = subst (Order end) (sym q) (record {
+  size = omega (arith, ranked-full (at rank) m emptyRank r);
+  edges = λ k h. omega (arith, ranked-edges (at rank) m emptyRank k h);
+  ends = λ k h. e (at (ranked (at rank) m emptyRank) k) (ranked-edges (at rank) m emptyRank k h);
+})
 
 abbrev pub knownOf : (m ns nt : ℕ) (sv st rankS rankT : List ℕ) (tied : List Bool) (quotaS quotaT os ot : List ℕ)
     → Lawful (shown m ns nt sv st rankS rankT tied quotaS quotaT)
@@ -42,4 +44,18 @@ knownOf m ns nt sv st rankS rankT tied quotaS quotaT os ot law size fitS fitT qs
   size = size;
   fitS = fitS;
   fitT = fitT;
+}
+
+abbrev pub settingOf : {m : ℕ} {sv st : List ℕ} {tied : List Bool} {quotaS quotaT os ot : List ℕ} (K : Known m sv st tied quotaS quotaT os ot)
+    (x : arrays.State) {t : Trace} → Stands (instanceOf K) x t
+    → Setting (record { m = m; sv = sv; st = st; tied = tied }) (record { rem = x .rem; qs = x .qs; qt = x .qt }) os ot
+settingOf {quotaS} {quotaT} K x S = record {
+  quotaS = quotaS;
+  quotaT = quotaT;
+  known = K;
+  fixed = x .fixed;
+  kS = S .kS;
+  kT = S .kT;
+  atS = S .holds .atS .cut-is;
+  atT = S .holds .atT .cut-is;
 }

@@ -1,6 +1,6 @@
 -- Strikes of one rule after the other: after a stable strike the rule goes on (crate theory_reduction, StableStrike), so the next edge that it
 -- named is the next step's edge.
-use Prim.Native.Nat.{ℕ, _+_, _*_, _<_}
+use Prim.Native.Nat.{ℕ, _+_, _<_}
 use native.Mathlib.Omega.{arith}
 use mathlib.Core.Path.{_≡_, sym, ap, _∙_, subst}
 use native.Mathlib.Decide.{decLt}

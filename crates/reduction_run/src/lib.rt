@@ -1,12 +1,10 @@
 // The whole reduction: all steps, each entered in the trace, and what remains and what is fixed at the end. After a stable strike (crate
 // reduction_state) the rule goes on with the next edge that it named, and nothing is computed anew.
-ghost use mathlib.Core.Path.{_≡_};
-ghost use Prim.Native.Nat.{ℕ, _≤_, _<_};
-ghost use lib.ListN.{length};
+ghost use Prim.Native.Nat.{_≤_, _<_};
 ghost use Rattle.model.specs.Limits.{nodeLimit, entryLimit, emptyRank};
-ghost use Rattle.arrays.specs.ArrayInstance.{at};
 ghost use Rattle.arrays.specs.Passes.{Low};
-ghost use Rattle.reduction_step.specs.View.{Known, instanceOf};
+ghost use Rattle.reduction_counts.specs.Mark.{Order};
+ghost use Rattle.reduction_step.specs.View.{Known, instanceOf, Ends};
 ghost use Rattle.reduction_state.specs.Outcome.{Reduced, ReducedFrom};
 ghost use Rattle.reduction_state.specs.RunState.{Sized};
 ghost use Rattle.reduction_run.specs.RepeatedStrikes.{Repeated};
@@ -82,12 +80,11 @@ pub(crate) fn run(
     os: &[u16],
     ot: &[u16],
 ) -> Reduction
-    requires { ⌜ (m ≤ entryLimit) × Low m (now sv) nodeLimit × Low m (now st) nodeLimit ⌝ }
-    requires { ⌜ (length (now os) ≤ entryLimit) × Low (length (now os)) (now os) entryLimit
-        × ((k : ℕ) → k < length (now os) → at (now sv) (at (now os) k) < nodeLimit) ⌝ }
-    requires { ⌜ (length (now ot) ≤ entryLimit) × Low (length (now ot)) (now ot) entryLimit
-        × ((k : ℕ) → k < length (now ot) → at (now st) (at (now ot) k) < nodeLimit) ⌝ }
-    ensures { λ r. ⌜ ((K : Known m (now (sv .entry)) (now (st .entry)) (now (tied .entry)) (now (qs .entry)) (now (qt .entry)) (now (os .entry)) (now (ot .entry)))
+    requires { ⌜ Ends m (now sv) (now st) ⌝ }
+    requires { ⌜ Order (now sv) (now os) ⌝ }
+    requires { ⌜ Order (now st) (now ot) ⌝ }
+    ensures { λ r. ⌜ ((K : Known m (now (sv .entry)) (now (st .entry)) (now (tied .entry)) (now (qs .entry)) (now (qt .entry)) (now (os .entry))
+        (now (ot .entry)))
         → Reduced (instanceOf K) (r .rem) (r .fixed) (r .trace)) ⌝ }
 {
     let mut edges = [0u16; ENTRY_LIMIT];

@@ -1,10 +1,8 @@
 // The state of a run of the reduction: what remains, what is fixed, and by node the cut quotas and the numbers of remaining edges, which a step
 // renews at the two ends of its edge; and the trace of a run, an edge and a rule for each step.
 ghost use mathlib.Core.Path.{_≡_};
-ghost use mathlib.Core.Bool.{Bool, not, _&&_, _||_};
-ghost use Prim.Native.Nat.{ℕ, _+_, _-_, _*_, _≤_, _<_, min};
-ghost use lib.ListN.{length};
-ghost use lib.Dec.{ltb, eqb};
+ghost use Prim.Native.Nat.{ℕ, _-_, _≤_, _<_, min};
+ghost use lib.Dec.{ltb};
 ghost use mir.Val.{boolByte};
 ghost use Rattle.model.specs.Reduction as reduction;
 ghost use Rattle.theory_reduction.specs.RuleNumbers as numbers;

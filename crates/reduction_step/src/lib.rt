@@ -1,13 +1,7 @@
 // One step of the reduction: which rule acts, and on which edge. The quotas come in as they are after the cut; the orders os and ot have the
 // edges by their ranks at surveyors and at stands.
-ghost use mathlib.Core.Path.{_≡_};
-ghost use mathlib.Core.Bool.{Bool};
-ghost use mathlib.Core.List.{List};
-ghost use Prim.Native.Nat.{ℕ, _≤_, _<_};
-ghost use lib.ListN.{length};
-ghost use Rattle.model.specs.Limits.{entryLimit, nodeLimit};
-ghost use Rattle.arrays.specs.ArrayInstance.{at};
-ghost use Rattle.arrays.specs.Passes.{Low};
+ghost use Rattle.reduction_counts.specs.Mark.{Order};
+ghost use Rattle.reduction_step.specs.View.{Ends};
 ghost use Rattle.reduction_step.specs.RuleChosen.{Viewed, Named2, Last, Late, Steps};
 
 // How many strict remaining edges are ahead of each edge, and the arrows.
@@ -45,11 +39,13 @@ pub fn look(
     qs: &[u16; 32],
     qt: &[u16; 32],
 ) -> View
-    requires { ⌜ (m ≤ entryLimit) × Low m (now sv) nodeLimit × Low m (now st) nodeLimit ⌝ }
-    requires { ⌜ (length (now os) ≤ entryLimit) × Low (length (now os)) (now os) entryLimit × ((k : ℕ) → k < length (now os) → at (now sv) (at (now os) k) < nodeLimit) ⌝ }
-    requires { ⌜ (length (now ot) ≤ entryLimit) × Low (length (now ot)) (now ot) entryLimit × ((k : ℕ) → k < length (now ot) → at (now st) (at (now ot) k) < nodeLimit) ⌝ }
-    ensures { λ r. ⌜ Viewed m (now (sv .entry)) (now (st .entry)) (now (tied .entry)) (now (os .entry)) (now (ot .entry)) (now (rem .entry)) (now (qs .entry))
-        (now (qt .entry)) (r .hs) (r .ht) (r .fs) (r .ft) ⌝ }
+    requires { ⌜ Ends m (now sv) (now st) ⌝ }
+    requires { ⌜ Order (now sv) (now os) ⌝ }
+    requires { ⌜ Order (now st) (now ot) ⌝ }
+    ensures { λ r. ⌜ Viewed
+        (record { m = m; sv = now (sv .entry); st = now (st .entry); tied = now (tied .entry) })
+        (record { rem = now (rem .entry); qs = now (qs .entry); qt = now (qt .entry) })
+        (now (os .entry)) (now (ot .entry)) r ⌝ }
 {
     let hs = reduction_counts::mark(os, sv, rem);
     let sr = reduction_counts::strict(m, rem, tied);
@@ -78,11 +74,13 @@ pub fn second(
     fs: &[bool; 1024],
     ft: &[bool; 1024],
 ) -> [bool; 1024]
-    requires { ⌜ (m ≤ entryLimit) × Low m (now sv) nodeLimit × Low m (now st) nodeLimit ⌝ }
-    requires { ⌜ (length (now os) ≤ entryLimit) × Low (length (now os)) (now os) entryLimit × ((k : ℕ) → k < length (now os) → at (now sv) (at (now os) k) < nodeLimit) ⌝ }
-    requires { ⌜ (length (now ot) ≤ entryLimit) × Low (length (now ot)) (now ot) entryLimit × ((k : ℕ) → k < length (now ot) → at (now st) (at (now ot) k) < nodeLimit) ⌝ }
-    ensures { λ r. ⌜ Named2 m (now (sv .entry)) (now (st .entry)) (now (tied .entry)) (now (os .entry)) (now (ot .entry)) (now (rem .entry)) (now (qs .entry))
-        (now (qt .entry)) (now (fs .entry)) (now (ft .entry)) r ⌝ }
+    requires { ⌜ Ends m (now sv) (now st) ⌝ }
+    requires { ⌜ Order (now sv) (now os) ⌝ }
+    requires { ⌜ Order (now st) (now ot) ⌝ }
+    ensures { λ r. ⌜ Named2
+        (record { m = m; sv = now (sv .entry); st = now (st .entry); tied = now (tied .entry) })
+        (record { rem = now (rem .entry); qs = now (qs .entry); qt = now (qt .entry) })
+        (now (os .entry)) (now (ot .entry)) (now (fs .entry)) (now (ft .entry)) r ⌝ }
 {
     let gs = reduction_counts::mark(os, sv, ft);
     let fr = reduction_counts::strict(m, fs, tied);
@@ -104,14 +102,15 @@ pub fn last(
     fs: &[bool; 1024],
     ft: &[bool; 1024],
     lo: &[bool; 32],
-    ns: &[u16; 32],
+    sizes: &[u16; 32],
     got: &[u16; 32],
 ) -> Named
-    requires { ⌜ (m ≤ entryLimit) × Low m (now sv) nodeLimit × Low m (now st) nodeLimit ⌝ }
-    ensures { λ r. ⌜ ((os ot : List ℕ)
-        → Last m (now (sv .entry)) (now (st .entry)) (now (tied .entry)) os ot (now (rem .entry)) (now (qs .entry)) (now (qt .entry))
-        (now (hs .entry)) (now (ht .entry)) (now (fs .entry)) (now (ft .entry)) (now (lo .entry)) (now (ns .entry)) (now (got .entry)) (r .rule)
-        (r .edge) (r .hit)) ⌝ }
+    requires { ⌜ Ends m (now sv) (now st) ⌝ }
+    ensures { λ r. ⌜ Last
+        (record { m = m; sv = now (sv .entry); st = now (st .entry); tied = now (tied .entry) })
+        (record { rem = now (rem .entry); qs = now (qs .entry); qt = now (qt .entry) })
+        (record { hs = now (hs .entry); ht = now (ht .entry); fs = now (fs .entry); ft = now (ft .entry) })
+        (record { lo = now (lo .entry); sizes = now (sizes .entry); got = now (got .entry) }) r ⌝ }
 {
     let hit = reduction_rules::named5(m, rem, st, lo, fs, ft);
     let e5 = reduction_rules::next(m, &hit, 0);
@@ -122,7 +121,7 @@ pub fn last(
             hit: hit,
         };
     }
-    let e6 = reduction_rules::find6(m, rem, sv, ns, qs, hs);
+    let e6 = reduction_rules::find_short(m, rem, sv, sizes, qs, hs);
     if e6 < m {
         return Named {
             rule: 6,
@@ -130,7 +129,8 @@ pub fn last(
             hit: hit,
         };
     }
-    let e7 = reduction_rules::find7(m, rem, st, tied, got, qt, ht);
+    let sr = reduction_counts::strict(m, rem, tied);
+    let e7 = reduction_rules::find_short(m, &sr, st, got, qt, ht);
     if e7 < m {
         return Named {
             rule: 7,
@@ -160,11 +160,13 @@ pub fn late(
     fs: &[bool; 1024],
     ft: &[bool; 1024],
 ) -> Named
-    requires { ⌜ (m ≤ entryLimit) × Low m (now sv) nodeLimit × Low m (now st) nodeLimit ⌝ }
-    requires { ⌜ (length (now os) ≤ entryLimit) × Low (length (now os)) (now os) entryLimit × ((k : ℕ) → k < length (now os) → at (now sv) (at (now os) k) < nodeLimit) ⌝ }
-    ensures { λ r. ⌜ ((ot : List ℕ)
-        → Late m (now (sv .entry)) (now (st .entry)) (now (tied .entry)) (now (os .entry)) ot (now (rem .entry)) (now (qs .entry))
-        (now (qt .entry)) (now (hs .entry)) (now (ht .entry)) (now (fs .entry)) (now (ft .entry)) (r .rule) (r .edge) (r .hit)) ⌝ }
+    requires { ⌜ Ends m (now sv) (now st) ⌝ }
+    requires { ⌜ Order (now sv) (now os) ⌝ }
+    ensures { λ r. ⌜ Late
+        (record { m = m; sv = now (sv .entry); st = now (st .entry); tied = now (tied .entry) })
+        (record { rem = now (rem .entry); qs = now (qs .entry); qt = now (qt .entry) })
+        (now (os .entry))
+        (record { hs = now (hs .entry); ht = now (ht .entry); fs = now (fs .entry); ft = now (ft .entry) }) r ⌝ }
 {
     let got = reduction_counts::tally(m, st, fs);
     let sent = reduction_counts::tally(m, st, ft);
@@ -178,9 +180,9 @@ pub fn late(
     }
     let lo = reduction_counts::loose(&sent, &got, qt);
     let res = reduction_counts::reserved(m, st, rem, &lo, ft);
-    let ns = reduction_counts::tally(m, sv, &res);
+    let sizes = reduction_counts::tally(m, sv, &res);
     let nb = reduction_counts::mark(os, sv, &res);
-    let e4 = reduction_rules::find4(m, rem, sv, &res, &ns, qs, &nb);
+    let e4 = reduction_rules::find4(m, rem, sv, &res, &sizes, qs, &nb);
     if e4 < m {
         return Named {
             rule: 4,
@@ -188,7 +190,22 @@ pub fn late(
             hit: res,
         };
     }
-    last(m, sv, st, tied, rem, qs, qt, hs, ht, fs, ft, &lo, &ns, &got)
+    last(
+        m,
+        sv,
+        st,
+        tied,
+        rem,
+        qs,
+        qt,
+        hs,
+        ht,
+        fs,
+        ft,
+        &lo,
+        &sizes,
+        &got,
+    )
 }
 
 // The first rule that names an edge, and the lowest edge that it names; 8 and m if none does.
@@ -203,11 +220,13 @@ pub fn step(
     qs: &[u16; 32],
     qt: &[u16; 32],
 ) -> Stepped
-    requires { ⌜ (m ≤ entryLimit) × Low m (now sv) nodeLimit × Low m (now st) nodeLimit ⌝ }
-    requires { ⌜ (length (now os) ≤ entryLimit) × Low (length (now os)) (now os) entryLimit × ((k : ℕ) → k < length (now os) → at (now sv) (at (now os) k) < nodeLimit) ⌝ }
-    requires { ⌜ (length (now ot) ≤ entryLimit) × Low (length (now ot)) (now ot) entryLimit × ((k : ℕ) → k < length (now ot) → at (now st) (at (now ot) k) < nodeLimit) ⌝ }
-    ensures { λ r. ⌜ Steps m (now (sv .entry)) (now (st .entry)) (now (tied .entry)) (now (os .entry)) (now (ot .entry)) (now (rem .entry)) (now (qs .entry))
-        (now (qt .entry)) (r .rule) (r .edge) (r .hit) (r .fs) (r .ft) ⌝ }
+    requires { ⌜ Ends m (now sv) (now st) ⌝ }
+    requires { ⌜ Order (now sv) (now os) ⌝ }
+    requires { ⌜ Order (now st) (now ot) ⌝ }
+    ensures { λ r. ⌜ Steps
+        (record { m = m; sv = now (sv .entry); st = now (st .entry); tied = now (tied .entry) })
+        (record { rem = now (rem .entry); qs = now (qs .entry); qt = now (qt .entry) })
+        (now (os .entry)) (now (ot .entry)) r ⌝ }
 {
     let a = look(m, sv, st, tied, os, ot, rem, qs, qt);
     let fs = a.fs;

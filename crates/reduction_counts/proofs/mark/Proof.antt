@@ -21,10 +21,10 @@ abbrev μ-loop : tie.MeasureT-loop
 
 -- the edge of a turn and its node are in range
 e-in : (c : tie.In-loop Inv-loop μ-loop) → at (c .before .before .args .ord .now) (c .before .loop .k) < 1024
-e-in c = c .before .before .pre .1 (c .before .loop .k) (c .loop-test .taken)
+e-in c = c .before .before .pre .edges (c .before .loop .k) (c .loop-test .taken)
 
 v-in : (c : tie.In-loop Inv-loop μ-loop) → at (c .before .before .args .end .now) (at (c .before .before .args .ord .now) (c .before .loop .k)) < 32
-v-in c = c .before .before .pre .2 (c .before .loop .k) (c .loop-test .taken)
+v-in c = c .before .before .pre .ends (c .before .loop .k) (c .loop-test .taken)
 
 loop-holds : tie.Need-loop-holds Inv-loop μ-loop
 unfolding blank

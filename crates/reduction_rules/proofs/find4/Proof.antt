@@ -11,13 +11,13 @@ use Rattle.reduction_rules.proofs.find4.Statement.{statement}
 use Rattle.reduction_rules.proofs.find4.Tie as tie
 
 abbrev test : List Bool → List ℕ → List Bool → List ℕ → List ℕ → List ℕ → ℕ → Bool
-test rem sv res ns qs nb e = flag rem e && (flag res e && (ltb (at qs (at sv e)) (at ns (at sv e)) && eqb (at nb e + 1) (at ns (at sv e))))
+test rem sv res sizes qs nb e = flag rem e && (flag res e && (ltb (at qs (at sv e)) (at sizes (at sv e)) && eqb (at nb e + 1) (at sizes (at sv e))))
 
 abbrev Inv-loop : tie.InvT-loop
-Inv-loop m rem sv res ns qs nb i₀ i = (i ≤ m) × (low (test rem sv res ns qs nb) i ≡ i)
+Inv-loop m rem sv res sizes qs nb i₀ i = (i ≤ m) × (low (test rem sv res sizes qs nb) i ≡ i)
 
 abbrev μ-loop : tie.MeasureT-loop
-μ-loop m rem sv res ns qs nb i₀ i = m - i
+μ-loop m rem sv res sizes qs nb i₀ i = m - i
 
 loop-holds : tie.Need-loop-holds Inv-loop μ-loop
 unfolding low
@@ -82,21 +82,22 @@ returns c =
     let l = c .before .before .before .before .before .before .before .before .before in
     let a = l .before .args in
     sym
-    (low-hit (test (a .rem .now) (a .sv .now) (a .res .now) (a .ns .now) (a .qs .now) (a .nb .now)) (l .loop .i) (a .m) (l .loop .inv .1)
+    (low-hit (test (a .rem .now) (a .sv .now) (a .res .now) (a .sizes .now) (a .qs .now) (a .nb .now)) (l .loop .i) (a .m) (l .loop .inv .1)
     (c .if1 .taken) (omega arith))
 
 loop-again : tie.Need-loop-again Inv-loop μ-loop
 loop-again c =
     let l = c .before .before .before .before .before .before .before .before .before in
     let a = l .before .args in
-    (omega arith, low-miss (test (a .rem .now) (a .sv .now) (a .res .now) (a .ns .now) (a .qs .now) (a .nb .now)) (l .loop .i) (l .loop .inv .1) (c .if1 .left))
+    let p = test (a .rem .now) (a .sv .now) (a .res .now) (a .sizes .now) (a .qs .now) (a .nb .now) in
+    (omega arith, low-miss p (l .loop .i) (l .loop .inv .1) (c .if1 .left))
 
 returns-2 : tie.Need-returns-2 Inv-loop μ-loop
 returns-2 c =
     let l = c .before in
     let a = l .before .args in
     let e : l .loop .i ≡ a .m = omega arith in
-    sym (l .loop .inv .1) ∙ ap (low (test (a .rem .now) (a .sv .now) (a .res .now) (a .ns .now) (a .qs .now) (a .nb .now))) e
+    sym (l .loop .inv .1) ∙ ap (low (test (a .rem .now) (a .sv .now) (a .res .now) (a .sizes .now) (a .qs .now) (a .nb .now))) e
 
 pub find4-spec : {M : Type 1} → statement M
 find4-spec =

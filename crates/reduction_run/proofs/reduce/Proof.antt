@@ -19,7 +19,7 @@ run-requires c κs =
     let p = c .before .before .before .before .pre in
     let os = c .before .before .before .by-rank in
     let ot = c .before .before .by-rank2 in (
-      (p .0, p .1, p .2),
+      record { edges = p .0; atS = p .1; atT = p .2 },
       (
         order-fits (a .m) (a .sv .now) (a .rs .now) (take (a .m) (os .result)) (p .0) (p .1) (p .3) (os .ensures),
         order-fits (a .m) (a .st .now) (a .rt .now) (take (a .m) (ot .result)) (p .0) (p .2) (p .4) (ot .ensures),

@@ -1,11 +1,12 @@
 -- A run: where it stands after each step and its repeated strikes.
-use mathlib.Core.Path.{_≡_, refl, sym, _∙_, subst}
+use mathlib.Core.Path.{sym, _∙_, subst}
 use mathlib.Core.Logic.{⊎-elim}
 use Prim.Native.Nat.{_-_}
 use native.Mathlib.Omega.{arith}
 use borrow.Author.Needs.{needs}
 use Rattle.reduction_state.specs.declared.Trace.{Trace}
 use Rattle.reduction_state.specs.RunState.{Sized, Stands, stateAt, stands-first, stands-next, stands-end, stands-full}
+use Rattle.reduction_run.specs.Given.{settingOf}
 use Rattle.reduction_run.specs.RepeatedStrikes.{GoesOnWith, after-stable}
 use Rattle.reduction_step.specs.View.{Known, instanceOf}
 use Rattle.reduction_run.proofs.run.Statement.{statement}
@@ -19,7 +20,7 @@ abbrev μ-loop : tie.MeasureT-loop
 μ-loop m sv st tied qs qt os ot edges₀ rules₀ x₀ n₀ edges rules x n = m - n
 
 start-requires : tie.Need-start-requires Inv-loop μ-loop
-start-requires c κs = c .before .before .pre .0
+start-requires c κs = let e = c .before .before .pre .0 in (e .edges, e .atS, e .atT)
 
 loop-holds : tie.Need-loop-holds Inv-loop μ-loop
 loop-holds c = (
@@ -29,8 +30,7 @@ loop-holds c = (
 
 step-requires : tie.Need-step-requires Inv-loop μ-loop
 step-requires c κs =
-    let s = c .before .before .before .before .before .before .before .before .before .before .before in
-    (s .pre .0, (s .pre .1 .0, s .pre .1 .1))
+    c .before .before .before .before .before .before .before .before .before .before .before .pre
 
 stable-requires : tie.Need-stable-requires Inv-loop μ-loop
 stable-requires c κs =
@@ -38,35 +38,35 @@ stable-requires c κs =
     let e = h .step .result .edge in
     let below = c .before .before .before .before .before .if1 .left in
     let s = h .before .before .before .before .before .before .before .before .before .before .before .before in
-    (omega (arith, below, s .pre .0 .0), s .pre .0 .1 e below, s .pre .0 .2 e below)
+    (omega (arith, below, s .pre .0 .edges), s .pre .0 .atS e below, s .pre .0 .atT e below)
 
 cast-edges : tie.Need-cast-edges Inv-loop μ-loop
 cast-edges c =
     let h = c .before .before .before .before .before .before .before in
     let below = c .before .before .before .before .before .before .if1 .left in
     let s = h .before .before .before .before .before .before .before .before .before .before .before .before in
-    omega (arith, below, s .pre .0 .0)
+    omega (arith, below, s .pre .0 .edges)
 
 mul-edges : tie.Need-mul-edges Inv-loop μ-loop
 mul-edges c =
     let h = c .before .before .before .before .before .before .before in
     let test = h .before .before .before .before .before .before .before .loop-test .taken in
     let s = h .before .before .before .before .before .before .before .before .before .before .before .before in
-    omega (arith, test, s .pre .0 .0)
+    omega (arith, test, s .pre .0 .edges)
 
 array-write-edges : tie.Need-array-write-edges Inv-loop μ-loop
 array-write-edges c =
     let h = c .before .before .before .before .before .before .before in
     let test = h .before .before .before .before .before .before .before .loop-test .taken in
     let s = h .before .before .before .before .before .before .before .before .before .before .before .before in
-    omega (arith, test, s .pre .0 .0)
+    omega (arith, test, s .pre .0 .edges)
 
 array-write-rules : tie.Need-array-write-rules Inv-loop μ-loop
 array-write-rules c =
     let h = c .before .before .before .before .before .before .before in
     let test = h .before .before .before .before .before .before .before .loop-test .taken in
     let s = h .before .before .before .before .before .before .before .before .before .before .before .before in
-    omega (arith, test, s .pre .0 .0)
+    omega (arith, test, s .pre .0 .edges)
 
 act-requires : tie.Need-act-requires Inv-loop μ-loop
 act-requires c κs =
@@ -74,21 +74,21 @@ act-requires c κs =
     let e = h .step .result .edge in
     let below = c .before .before .before .before .before .before .if1 .left in
     let s = h .before .before .before .before .before .before .before .before .before .before .before .before in
-    (omega (arith, below, s .pre .0 .0), s .pre .0 .1 e below, s .pre .0 .2 e below)
+    (omega (arith, below, s .pre .0 .edges), s .pre .0 .atS e below, s .pre .0 .atT e below)
 
 add-strikes : tie.Need-add-strikes Inv-loop μ-loop
 add-strikes c =
     let h = c .before .before .before .before .before .before .before .before .before .before .before in
     let test = h .before .before .before .before .before .before .before .loop-test .taken in
     let s = h .before .before .before .before .before .before .before .before .before .before .before .before in
-    omega (arith, test, s .pre .0 .0)
+    omega (arith, test, s .pre .0 .edges)
 
 strikes-requires : tie.Need-strikes-requires Inv-loop μ-loop
 strikes-requires c κs =
     let h = c .before .before .before .before .before .before .before .before .before .before .before .before .before in
     let below = c .before .before .before .before .before .before .before .before .before .before .before .before .if1 .left in
     let s = h .before .before .before .before .before .before .before .before .before .before .before .before in
-    (s .pre .0 .0, s .pre .0 .1, s .pre .0 .2, below)
+    (s .pre .0 .edges, s .pre .0 .atS, s .pre .0 .atT, below)
 
 loop-less : tie.Need-loop-less Inv-loop μ-loop
 loop-less c =
@@ -110,9 +110,7 @@ loop-again c =
       λ K.
           let S = l .inv .1 K in
           let t : Trace = record { edges = l .edges; rules = l .rules; steps = l .n } in
-          let y =
-          h .step .ensures (a .qs .now) (a .qt .now) K (l .x .fixed) (S .kS) (S .kT)
-          (record { atS = S .holds .atS .cut-is; atT = S .holds .atT .cut-is }) in
+          let y = h .step .ensures (settingOf K (l .x) S) in
           let act = c .before .before .before .before .before .before .before .act in
           let stable = c .before .before .before .before .before .before .before .before .stable in
           let N = stands-next K (l .x) t S r e (y .0 .rule-is) (y .0 .edge-is) below test (l .inv .0) (act .result) (act .ensures) in
@@ -126,13 +124,12 @@ loop-again c =
 returns : tie.Need-returns Inv-loop μ-loop
 returns c =
     let l = c .before .before .before .loop in
-    let a = c .before .before .before .before .before .before .before .args in
     λ K.
     let S = l .inv .1 K in
     let t : Trace = record { edges = l .edges; rules = l .rules; steps = l .n } in
     ⊎-elim (λ test. stands-full K (l .x) t S (test .left))
     (λ went.
-    let y = went .7 .ensures (a .qs .now) (a .qt .now) K (l .x .fixed) (S .kS) (S .kT) (record { atS = S .holds .atS .cut-is; atT = S .holds .atT .cut-is }) in
+    let y = went .7 .ensures (settingOf K (l .x) S) in
     stands-end K (l .x) t S (omega (arith, y .0 .edge-is, went .8 .taken)))
     (c .before .before .loop-test .came)
 

@@ -1,5 +1,4 @@
 -- Strikes of one rule: where the run stands, and that the rule goes on after a stable one.
-use mathlib.Core.Path.{_≡_}
 use Prim.Native.Nat.{ℕ, _-_, _≤_, _<_}
 use native.Mathlib.Omega.{arith}
 use mathlib.Core.Bool.{Bool}

@@ -1,5 +1,4 @@
 -- The state after a step.
-use Prim.Native.Nat.{_-_}
 use borrow.Author.Needs.{needs}
 use Rattle.reduction_state.proofs.act.Statement.{statement}
 use Rattle.reduction_state.proofs.act.Tie as tie

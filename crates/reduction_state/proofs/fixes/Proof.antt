@@ -1,5 +1,4 @@
 -- Rules 1, 3, 6 and 7 fix.
-use Prim.Native.Nat.{_-_}
 use Rattle.reduction_state.proofs.Flags.{fixes-is}
 use Rattle.reduction_state.proofs.fixes.Statement.{statement}
 use Rattle.reduction_state.proofs.fixes.Tie as tie

@@ -1,5 +1,4 @@
 -- The subtraction does not go below 0.
-use Prim.Native.Nat.{_-_}
 use native.Mathlib.Omega.{arith}
 use borrow.Author.Needs.{needs}
 use Rattle.arrays.specs.Tally.{byte-one}

@@ -1,5 +1,4 @@
 -- The state at the beginning.
-use Prim.Native.Nat.{_-_}
 use borrow.Author.Needs.{needs}
 use Rattle.reduction_state.proofs.Flags.{no-flags}
 use Rattle.reduction_state.proofs.start.Statement.{statement}

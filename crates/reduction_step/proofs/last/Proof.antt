@@ -1,117 +1,81 @@
 -- Rules 5 to 7, one after the other.
-use mathlib.Core.Path.{_≡_, _∙_}
-use mathlib.Core.Bool.{not, _&&_}
-use mathlib.Core.Logic.{⊎-elim}
-use Prim.Native.Nat.{ℕ, _-_, zero-le}
+use mathlib.Core.List.{List}
+use Prim.Native.Nat.{ℕ, zero-le}
 use native.Mathlib.Omega.{arith}
-use lib.Dec.{eqb, ltb}
 use borrow.Author.Needs.{needs}
-use Rattle.arrays.specs.ArrayInstance.{at, flag}
-use Rattle.reduction_step.specs.Tests.{from-zero, lowest-is, rule5-is, rule6-is, rule7-is}
-use Rattle.reduction_step.specs.RuleChosen.{settingOf, silent, says, says-none}
-use borrow.Author.Needs.{needs}
+use Rattle.arrays.specs.ArrayInstance.{flag}
+use Rattle.reduction_step.specs.declared.View.{View}
+use Rattle.reduction_step.specs.View.{Edges, Remaining, Setting}
+use Rattle.reduction_step.specs.Tests.{Names, rule5-is, rule6-is, rule7-is}
+use Rattle.reduction_step.specs.RuleChosen.{Nodes, Seen, Counted, Silent, passes, passes-all, names-one, names-all, says-none}
 use Rattle.reduction_step.proofs.last.Statement.{statement}
 use Rattle.reduction_step.proofs.last.Tie as tie
 
+abbrev edges : tie.Start → Edges
+edges s = let a = s .args in record { m = a .m; sv = a .sv .now; st = a .st .now; tied = a .tied .now }
+
+abbrev remaining : tie.Start → Remaining
+remaining s = let a = s .args in record { rem = a .rem .now; qs = a .qs .now; qt = a .qt .now }
+
+abbrev view : tie.Start → View
+view s = let a = s .args in record { hs = a .hs .now; ht = a .ht .now; fs = a .fs .now; ft = a .ft .now }
+
+abbrev nodes : tie.Start → Nodes
+nodes s = let a = s .args in record { lo = a .lo .now; sizes = a .sizes .now; got = a .got .now }
+
+-- what holds of every setting in which the rules before are silent
+abbrev Asked : (s : tie.Start) → ((os ot : List ℕ) → Setting (edges s) (remaining s) os ot → Type 0) → Type 0
+Asked s P = (os ot : List ℕ) (X : Setting (edges s) (remaining s) os ot) → Seen X (view s) → Counted X (nodes s) → Silent X 5 → P os ot X
+
+five : (c : tie.After-named5) → Asked (c .before) (λ os ot X. Names X 5 (flag (c .named5 .result)))
+five c os ot X S N s5 =
+    let a = c .before .args in rule5-is X (a .fs .now) (a .ft .now) (S .arrows) (a .lo .now) (c .named5 .result) (N .lo) (c .named5 .ensures)
+
+silent-6 : (c : tie.Else1) → Asked (c .before .before .before .before) (λ os ot X. Silent X 6)
+silent-6 c os ot X S N s5 =
+    let n = c .before .before .before in
+    passes-all X 5 (c .before .next .result) (n .named5 .result) s5 (five n os ot X S N s5) (c .before .next .ensures) (c .if1 .left)
+
+silent-7 : (c : tie.Else2) → Asked (c .before .before .before .before .before .before) (λ os ot X. Silent X 7)
+silent-7 c os ot X S N s5 =
+    let a = c .before .before .before .before .before .before .args in
+    passes X 6 (c .before .find-short .result) _ (silent-6 (c .before .before) os ot X S N s5)
+    (rule6-is X (a .fs .now) (a .ft .now) (S .arrows) (a .hs .now) (a .ht .now) (S .aheads) (a .sizes .now) (N .sizes)) (c .before .find-short .ensures)
+    (c .if2 .left)
+
 next-requires : tie.Need-next-requires
-next-requires c κs = (c .before .before .pre .0, zero-le)
+next-requires c κs = (c .before .before .pre .edges, zero-le)
 
 returns : tie.Need-returns
-returns c =
-    let a = c .before .before .before .before .args in
-    λ os ot bs bt K fixed kS kT Q H F L C I s5.
-    let A = settingOf (a .m) (a .sv .now) (a .st .now) (a .tied .now) os ot (a .rem .now) bs bt fixed kS kT K in
-    let n5 =
-    rule5-is A (a .qs .now) (a .qt .now) (a .fs .now) (a .ft .now) Q F (a .lo .now) (c .before .before .before .named5 .result) L
-    (c .before .before .before .named5 .ensures) in
-    let x5 =
-    lowest-is A 5 (c .before .next .result) (flag (c .before .before .before .named5 .result)) n5
-    (c .before .next .ensures ∙ from-zero (c .before .before .before .named5 .result) (a .m)) in
-    says A 5 (c .before .next .result) (c .before .before .before .named5 .result) s5 (omega arith) x5 (c .if1 .taken) (λ q. n5)
+returns c os ot X S N s5 =
+    let n = c .before .before .before in
+    names-all X 5 (c .before .next .result) (n .named5 .result) s5 (omega arith) (five n os ot X S N s5) (c .before .next .ensures) (c .if1 .taken)
 
 returns-2 : tie.Need-returns-2
-returns-2 c =
+returns-2 c os ot X S N s5 =
     let a = c .before .before .before .before .before .before .args in
-    λ os ot bs bt K fixed kS kT Q H F L C I s5.
-    let A = settingOf (a .m) (a .sv .now) (a .st .now) (a .tied .now) os ot (a .rem .now) bs bt fixed kS kT K in
-    let n5 =
-    rule5-is A (a .qs .now) (a .qt .now) (a .fs .now) (a .ft .now) Q F (a .lo .now) (c .before .before .before .before .before .named5 .result) L
-    (c .before .before .before .before .before .named5 .ensures) in
-    let x5 =
-    lowest-is A 5 (c .before .before .before .next .result) (flag (c .before .before .before .before .before .named5 .result)) n5
-    (c .before .before .before .next .ensures ∙ from-zero (c .before .before .before .before .before .named5 .result) (a .m)) in
-    let s6 = silent A 5 (c .before .before .before .next .result) s5 x5 (c .before .before .if1 .left) in
-    let x6 =
-    lowest-is A 6 (c .before .find6 .result)
-    (λ e. flag (a .rem .now) e && (ltb (at (a .ns .now) (at (a .sv .now) e)) (at (a .qs .now) (at (a .sv .now) e)) && eqb (at (a .hs .now) e) 0))
-    (rule6-is A (a .qs .now) (a .qt .now) (a .fs .now) (a .ft .now) Q F (a .hs .now) (a .ht .now) H (a .ns .now) C) (c .before .find6 .ensures) in
-    says A 6 (c .before .find6 .result) (c .before .before .before .before .before .named5 .result) s6 (omega arith) x6 (c .if2 .taken)
-    (⊎-elim (λ (q : _≡_ {A = ℕ} 6 2). absurd (omega arith)) (λ (q : _≡_ {A = ℕ} 6 5). absurd (omega arith)))
+    names-one X 6 (c .before .find-short .result) _ _ tt (silent-6 (c .before .before) os ot X S N s5) (omega arith)
+    (rule6-is X (a .fs .now) (a .ft .now) (S .arrows) (a .hs .now) (a .ht .now) (S .aheads) (a .sizes .now) (N .sizes)) (c .before .find-short .ensures)
+    (c .if2 .taken)
 
 returns-3 : tie.Need-returns-3
-returns-3 c =
-    let a = c .before .before .before .before .before .before .before .before .args in
-    λ os ot bs bt K fixed kS kT Q H F L C I s5.
-    let A = settingOf (a .m) (a .sv .now) (a .st .now) (a .tied .now) os ot (a .rem .now) bs bt fixed kS kT K in
-    let n5 =
-    rule5-is A (a .qs .now) (a .qt .now) (a .fs .now) (a .ft .now) Q F (a .lo .now)
-    (c .before .before .before .before .before .before .before .named5 .result) L
-    (c .before .before .before .before .before .before .before .named5 .ensures) in
-    let x5 =
-    lowest-is A 5 (c .before .before .before .before .before .next .result)
-    (flag (c .before .before .before .before .before .before .before .named5 .result)) n5
-    (c .before .before .before .before .before .next .ensures
-    ∙ from-zero (c .before .before .before .before .before .before .before .named5 .result) (a .m)) in
-    let s6 = silent A 5 (c .before .before .before .before .before .next .result) s5 x5 (c .before .before .before .before .if1 .left) in
-    let x6 =
-    lowest-is A 6 (c .before .before .before .find6 .result)
-    (λ e. flag (a .rem .now) e && (ltb (at (a .ns .now) (at (a .sv .now) e)) (at (a .qs .now) (at (a .sv .now) e)) && eqb (at (a .hs .now) e) 0))
-    (rule6-is A (a .qs .now) (a .qt .now) (a .fs .now) (a .ft .now) Q F (a .hs .now) (a .ht .now) H (a .ns .now) C)
-    (c .before .before .before .find6 .ensures) in
-    let s7 = silent A 6 (c .before .before .before .find6 .result) s6 x6 (c .before .before .if2 .left) in
-    let x7 =
-    lowest-is A 7 (c .before .find7 .result)
-    (λ e. flag (a .rem .now) e
-    && (ltb (at (a .got .now) (at (a .st .now) e)) (at (a .qt .now) (at (a .st .now) e))
-    && (not (flag (a .tied .now) e) && eqb (at (a .ht .now) e) 0)))
-    (rule7-is A (a .qs .now) (a .qt .now) (a .fs .now) (a .ft .now) Q F (a .hs .now) (a .ht .now) H (a .got .now) I)
-    (c .before .find7 .ensures) in
-    says A 7 (c .before .find7 .result) (c .before .before .before .before .before .before .before .named5 .result) s7 (omega arith) x7
-    (c .if3 .taken) (⊎-elim (λ (q : _≡_ {A = ℕ} 7 2). absurd (omega arith)) (λ (q : _≡_ {A = ℕ} 7 5). absurd (omega arith)))
+returns-3 c os ot X S N s5 =
+    let r = c .before .before .before in
+    let a = r .before .before .before .before .before .before .before .args in
+    names-one X 7 (c .before .find-short2 .result) _ _ tt (silent-7 (r .before) os ot X S N s5) (omega arith)
+    (rule7-is X (a .fs .now) (a .ft .now) (S .arrows) (a .hs .now) (a .ht .now) (S .aheads) (a .got .now) (r .strict .result) (N .got) (r .strict .ensures))
+    (c .before .find-short2 .ensures) (c .if3 .taken)
 
 returns-4 : tie.Need-returns-4
-returns-4 c =
-    let a = c .before .before .before .before .before .before .before .before .args in
-    λ os ot bs bt K fixed kS kT Q H F L C I s5.
-    let A = settingOf (a .m) (a .sv .now) (a .st .now) (a .tied .now) os ot (a .rem .now) bs bt fixed kS kT K in
-    let n5 =
-    rule5-is A (a .qs .now) (a .qt .now) (a .fs .now) (a .ft .now) Q F (a .lo .now)
-    (c .before .before .before .before .before .before .before .named5 .result) L
-    (c .before .before .before .before .before .before .before .named5 .ensures) in
-    let x5 =
-    lowest-is A 5 (c .before .before .before .before .before .next .result)
-    (flag (c .before .before .before .before .before .before .before .named5 .result)) n5
-    (c .before .before .before .before .before .next .ensures
-    ∙ from-zero (c .before .before .before .before .before .before .before .named5 .result) (a .m)) in
-    let s6 = silent A 5 (c .before .before .before .before .before .next .result) s5 x5 (c .before .before .before .before .if1 .left) in
-    let x6 =
-    lowest-is A 6 (c .before .before .before .find6 .result)
-    (λ e. flag (a .rem .now) e && (ltb (at (a .ns .now) (at (a .sv .now) e)) (at (a .qs .now) (at (a .sv .now) e)) && eqb (at (a .hs .now) e) 0))
-    (rule6-is A (a .qs .now) (a .qt .now) (a .fs .now) (a .ft .now) Q F (a .hs .now) (a .ht .now) H (a .ns .now) C)
-    (c .before .before .before .find6 .ensures) in
-    let s7 = silent A 6 (c .before .before .before .find6 .result) s6 x6 (c .before .before .if2 .left) in
-    let x7 =
-    lowest-is A 7 (c .before .find7 .result)
-    (λ e. flag (a .rem .now) e
-    && (ltb (at (a .got .now) (at (a .st .now) e)) (at (a .qt .now) (at (a .st .now) e))
-    && (not (flag (a .tied .now) e) && eqb (at (a .ht .now) e) 0)))
-    (rule7-is A (a .qs .now) (a .qt .now) (a .fs .now) (a .ft .now) Q F (a .hs .now) (a .ht .now) H (a .got .now) I)
-    (c .before .find7 .ensures) in
-    let s8 = silent A 7 (c .before .find7 .result) s7 x7 (c .if3 .left) in
-    says-none A (c .before .before .before .before .before .before .before .named5 .result) s8
-    (⊎-elim (λ (q : _≡_ {A = ℕ} 8 2). absurd (omega arith)) (λ (q : _≡_ {A = ℕ} 8 5). absurd (omega arith)))
+returns-4 c os ot X S N s5 =
+    let r = c .before .before .before in
+    let a = r .before .before .before .before .before .before .before .args in
+    says-none X _
+    (passes X 7 (c .before .find-short2 .result) _ (silent-7 (r .before) os ot X S N s5)
+    (rule7-is X (a .fs .now) (a .ft .now) (S .arrows) (a .hs .now) (a .ht .now) (S .aheads) (a .got .now) (r .strict .result) (N .got) (r .strict .ensures))
+    (c .before .find-short2 .ensures) (c .if3 .left))
 
 pub last-spec : {M : Type 1} → statement M
 last-spec =
-    tie.close (tie.spec (λ c κs. search needs) next-requires returns (λ c κs. search needs) returns-2 (λ c κs. search needs) returns-3
-    returns-4)
+    tie.close (tie.spec (λ c κs. search needs) next-requires returns (λ c κs. search needs) returns-2 (λ c κs. search needs) (λ c κs. search needs)
+    returns-3 returns-4)

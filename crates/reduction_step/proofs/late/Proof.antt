@@ -1,217 +1,126 @@
 -- Rules 3 and 4, then the rest.
-use mathlib.Core.Path.{_≡_}
-use mathlib.Core.Bool.{false, _&&_}
-use mathlib.Core.Logic.{⊎-elim}
-use Prim.Native.Nat.{ℕ, _+_, _-_}
+use mathlib.Core.List.{List}
+use Prim.Native.Nat.{ℕ}
 use native.Mathlib.Omega.{arith}
-use lib.ListN.{replicate}
-use lib.Dec.{eqb, ltb, leb}
 use borrow.Author.Needs.{needs}
-use Rattle.arrays.specs.ArrayInstance.{at, flag}
 use Rattle.reduction_counts.specs.Filled.{tally-small}
-use Rattle.reduction_step.specs.Tests.{lowest-is, got-are, sent-are, loose-are, reserved-are, sizes-are, rule3-is, rule4-is}
-use Rattle.reduction_step.specs.RuleChosen.{settingOf, silent, says}
-use borrow.Author.Needs.{needs}
+use Rattle.reduction_step.specs.declared.View.{View}
+use Rattle.reduction_step.specs.View.{Edges, Remaining, Setting}
+use Rattle.reduction_step.specs.Tests.{Got, Sent, Loose, Reserved, Sizes, got-are, sent-are, loose-are, reserved-are, sizes-are, rule3-is, rule4-is}
+use Rattle.reduction_step.specs.RuleChosen.{Seen, Silent, passes, names-one}
 use Rattle.reduction_step.proofs.late.Statement.{statement}
 use Rattle.reduction_step.proofs.late.Tie as tie
 
+abbrev edges : tie.Start → Edges
+edges s = let a = s .args in record { m = a .m; sv = a .sv .now; st = a .st .now; tied = a .tied .now }
+
+abbrev remaining : tie.Start → Remaining
+remaining s = let a = s .args in record { rem = a .rem .now; qs = a .qs .now; qt = a .qt .now }
+
+abbrev view : tie.Start → View
+view s = let a = s .args in record { hs = a .hs .now; ht = a .ht .now; fs = a .fs .now; ft = a .ft .now }
+
+-- what holds of every setting in which the rules before are silent
+abbrev Asked : (s : tie.Start) → ((ot : List ℕ) → Setting (edges s) (remaining s) (s .args .os .now) ot → Type 0) → Type 0
+Asked s P = (ot : List ℕ) (X : Setting (edges s) (remaining s) (s .args .os .now) ot) → Seen X (view s) → Silent X 3 → P ot X
+
+got : (c : tie.After-tally) → Asked (c .before .before) (λ ot X. Got X (c .tally .result))
+got c ot X S s3 = let a = c .before .before .args in got-are X (a .fs .now) (a .ft .now) (S .arrows) (c .tally .result) (c .tally .ensures)
+
+sent : (c : tie.After-tally2) → Asked (c .before .before .before) (λ ot X. Sent X (c .tally2 .result))
+sent c ot X S s3 = let a = c .before .before .before .args in sent-are X (a .fs .now) (a .ft .now) (S .arrows) (c .tally2 .result) (c .tally2 .ensures)
+
+silent-4 : (c : tie.Else1) → Asked (c .before .before .before .before .before .before .before) (λ ot X. Silent X 4)
+silent-4 c ot X S s3 =
+    let d = c .before .before .before .before in
+    let a = d .before .before .before .args in
+    passes X 3 (c .before .find3 .result) _ s3
+    (rule3-is X (a .fs .now) (a .ft .now) (S .arrows) (d .before .tally .result) (d .tally2 .result) (got (d .before) ot X S s3) (sent d ot X S s3))
+    (c .before .find3 .ensures) (c .if1 .left)
+
+loose : (c : tie.After-loose) → Asked (c .before .before .before .before .before .before .before .before .before .before) (λ ot X. Loose X (c .loose .result))
+loose c ot X S s3 =
+    let d = c .before .before .before .before .before .before .before in
+    let a = d .before .before .before .args in
+    loose-are X (a .fs .now) (a .ft .now) (S .arrows) (d .before .tally .result) (d .tally2 .result) (c .loose .result) (got (d .before) ot X S s3)
+    (sent d ot X S s3) (c .loose .ensures)
+
+reserved : (c : tie.After-reserved)
+    → Asked (c .before .before .before .before .before .before .before .before .before .before .before .before) (λ ot X. Reserved X (c .reserved .result))
+reserved c ot X S s3 =
+    let d = c .before .before in
+    let a = d .before .before .before .before .before .before .before .before .before .before .args in
+    reserved-are X (a .fs .now) (a .ft .now) (S .arrows) (d .loose .result) (c .reserved .result) (loose d ot X S s3) (c .reserved .ensures)
+
+sizes : (c : tie.After-tally3)
+    → let r = c .before .before in
+    Asked (r .before .before .before .before .before .before .before .before .before .before .before .before) (λ ot X. Sizes X (c .tally3 .result))
+sizes c ot X S s3 =
+    sizes-are X (c .before .before .reserved .result) (c .tally3 .result) (reserved (c .before .before) ot X S s3) (c .tally3 .ensures)
+
 find3-requires : tie.Need-find3-requires
 find3-requires c κs =
-    let a = c .before .before .before .before .before .args in (
-      c .before .before .before .before .before .pre .0 .0,
-      c .before .before .before .before .before .pre .0 .2,
-      tally-small (c .before .before .before .tally .result) (a .m) (a .st .now) (a .fs .now)
-          (c .before .before .before .before .before .pre .0 .0) (c .before .before .before .tally .ensures),
-      tally-small (c .before .before .tally2 .result) (a .m) (a .st .now) (a .ft .now) (c .before .before .before .before .before .pre .0 .0)
-          (c .before .before .tally2 .ensures),
+    let s = c .before .before .before .before .before in
+    let a = s .args in
+    let d = c .before .before in (
+      s .pre .0 .edges,
+      s .pre .0 .atT,
+      tally-small (d .before .tally .result) (a .m) (a .st .now) (a .fs .now) (s .pre .0 .edges) (d .before .tally .ensures),
+      tally-small (d .tally2 .result) (a .m) (a .st .now) (a .ft .now) (s .pre .0 .edges) (d .tally2 .ensures),
     )
 
 returns : tie.Need-returns
-returns c =
-    let a = c .before .before .before .before .before .before .before .args in
-    λ ot bs bt K fixed kS kT Q H F s3.
-    let A = settingOf (a .m) (a .sv .now) (a .st .now) (a .tied .now) (a .os .now) ot (a .rem .now) bs bt fixed kS kT K in
-    let I =
-    got-are A (a .qs .now) (a .qt .now) (a .fs .now) (a .ft .now) Q F (c .before .before .before .before .before .tally .result)
-    (c .before .before .before .before .before .tally .ensures) in
-    let O =
-    sent-are A (a .qs .now) (a .qt .now) (a .fs .now) (a .ft .now) Q F (c .before .before .before .before .tally2 .result)
-    (c .before .before .before .before .tally2 .ensures) in
-    let x3 =
-    lowest-is A 3 (c .before .find3 .result)
-    (λ e. flag (a .rem .now) e
-    && (flag (a .fs .now) e
-    && leb
-    (at (c .before .before .before .before .before .tally .result)
-    (at (a .st .now) e) + at (c .before .before .before .before .tally2 .result) (at (a .st .now) e))
-    (at (a .qt .now) (at (a .st .now) e))))
-    (rule3-is A (a .qs .now) (a .qt .now) (a .fs .now) (a .ft .now) Q F (c .before .before .before .before .before .tally .result)
-    (c .before .before .before .before .tally2 .result) I O)
-    (c .before .find3 .ensures) in
-    says A 3 (c .before .find3 .result) (replicate 1024 false) s3 (omega arith) x3 (c .if1 .taken)
-    (⊎-elim (λ (q : _≡_ {A = ℕ} 3 2). absurd (omega arith)) (λ (q : _≡_ {A = ℕ} 3 5). absurd (omega arith)))
-
-reserved-requires : tie.Need-reserved-requires
-reserved-requires c κs = (
-  c .before .before .before .before .before .before .before .before .before .before .before .pre .0 .0,
-  c .before .before .before .before .before .before .before .before .before .before .before .pre .0 .2,
-)
-
-tally-requires-3 : tie.Need-tally-requires-3
-tally-requires-3 c κs = (
-  c .before .before .before .before .before .before .before .before .before .before .before .before .before .pre .0 .0,
-  c .before .before .before .before .before .before .before .before .before .before .before .before .before .pre .0 .1,
-)
-
-mark-requires : tie.Need-mark-requires
-mark-requires c κs = c .before .before .before .before .before .before .before .before .before .before .before .before .before .before .before .pre .1
+returns c ot X S s3 =
+    let d = c .before .before .before .before in
+    let a = d .before .before .before .args in
+    names-one X 3 (c .before .find3 .result) _ _ tt s3 (omega arith)
+    (rule3-is X (a .fs .now) (a .ft .now) (S .arrows) (d .before .tally .result) (d .tally2 .result) (got (d .before) ot X S s3) (sent d ot X S s3))
+    (c .before .find3 .ensures) (c .if1 .taken)
 
 find4-requires : tie.Need-find4-requires
 find4-requires c κs =
-    (c .before .before .before .before .before .before .before .before .before .before .before .before .before .before .before .before .before .before .before .pre .0 .0, c .before .before .before .before .before .before .before .before .before .before .before .before .before .before .before .before .before .before .before .pre .0 .1, c .before .before .before .mark .ensures .1)
+    let d = c .before .before .before in
+    let s = d .before .before .before .before .before .before .before .before .before .before .before .before .before .before .before .before in
+    (s .pre .0 .edges, s .pre .0 .atS, d .mark .ensures .1)
 
 returns-2 : tie.Need-returns-2
-returns-2 c =
-    let a =
-    c .before .before .before .before .before .before .before .before .before .before .before .before .before .before .before .before .before .before .before .before .before .args in
-    λ ot bs bt K fixed kS kT Q H F s3.
-    let A = settingOf (a .m) (a .sv .now) (a .st .now) (a .tied .now) (a .os .now) ot (a .rem .now) bs bt fixed kS kT K in
-    let I =
-    got-are A (a .qs .now) (a .qt .now) (a .fs .now) (a .ft .now) Q F
-    (c .before .before .before .before .before .before .before .before .before .before .before .before .before .before .before .before .before .before .before .tally .result)
-    (c .before .before .before .before .before .before .before .before .before .before .before .before .before .before .before .before .before .before .before .tally .ensures) in
-    let O =
-    sent-are A (a .qs .now) (a .qt .now) (a .fs .now) (a .ft .now) Q F
-    (c .before .before .before .before .before .before .before .before .before .before .before .before .before .before .before .before .before .before .tally2 .result)
-    (c .before .before .before .before .before .before .before .before .before .before .before .before .before .before .before .before .before .before .tally2 .ensures) in
-    let x3 =
-    lowest-is A 3
-    (c .before .before .before .before .before .before .before .before .before .before .before .before .before .before .before .find3 .result)
-    (λ e. flag (a .rem .now) e
-    && (flag (a .fs .now) e
-    && leb
-    (at
-    (c .before .before .before .before .before .before .before .before .before .before .before .before .before .before .before .before .before .before .before .tally .result)
-    (at (a .st .now)
-    e) + at (c .before .before .before .before .before .before .before .before .before .before .before .before .before .before .before .before .before .before .tally2 .result)
-    (at (a .st .now) e))
-    (at (a .qt .now) (at (a .st .now) e))))
-    (rule3-is A (a .qs .now) (a .qt .now) (a .fs .now) (a .ft .now) Q F
-    (c .before .before .before .before .before .before .before .before .before .before .before .before .before .before .before .before .before .before .before .tally .result)
-    (c .before .before .before .before .before .before .before .before .before .before .before .before .before .before .before .before .before .before .tally2 .result)
-    I O)
-    (c .before .before .before .before .before .before .before .before .before .before .before .before .before .before .before .find3 .ensures) in
-    let s4 =
-    silent A 3
-    (c .before .before .before .before .before .before .before .before .before .before .before .before .before .before .before .find3 .result) s3
-    x3 (c .before .before .before .before .before .before .before .before .before .before .before .before .before .before .if1 .left) in
-    let L =
-    loose-are A (a .qs .now) (a .qt .now) (a .fs .now) (a .ft .now) Q F
-    (c .before .before .before .before .before .before .before .before .before .before .before .before .before .before .before .before .before .before .before .tally .result)
-    (c .before .before .before .before .before .before .before .before .before .before .before .before .before .before .before .before .before .before .tally2 .result)
-    (c .before .before .before .before .before .before .before .before .before .before .before .loose .result) I O
-    (c .before .before .before .before .before .before .before .before .before .before .before .loose .ensures) in
-    let R =
-    reserved-are A (a .qs .now) (a .qt .now) (a .fs .now) (a .ft .now) Q F
-    (c .before .before .before .before .before .before .before .before .before .before .before .loose .result)
-    (c .before .before .before .before .before .before .before .before .before .reserved .result) L
-    (c .before .before .before .before .before .before .before .before .before .reserved .ensures) in
-    let C =
-    sizes-are A (c .before .before .before .before .before .before .before .before .before .reserved .result)
-    (c .before .before .before .before .before .before .before .tally3 .result) R
-    (c .before .before .before .before .before .before .before .tally3 .ensures) in
-    let x4 =
-    lowest-is A 4 (c .before .find4 .result)
-    (λ e. flag (a .rem .now) e
-    && (flag (c .before .before .before .before .before .before .before .before .before .reserved .result) e
-    && (ltb (at (a .qs .now) (at (a .sv .now) e))
-    (at (c .before .before .before .before .before .before .before .tally3 .result) (at (a .sv .now) e))
-    && eqb (at (c .before .before .before .before .before .mark .result) e + 1)
-    (at (c .before .before .before .before .before .before .before .tally3 .result) (at (a .sv .now) e)))))
-    (rule4-is A (a .qs .now) (a .qt .now) (a .fs .now) (a .ft .now) Q F
-    (c .before .before .before .before .before .before .before .before .before .reserved .result)
-    (c .before .before .before .before .before .before .before .tally3 .result) (c .before .before .before .before .before .mark .result) R C
-    (c .before .before .before .before .before .mark .ensures .0))
-    (c .before .find4 .ensures) in
-    says A 4 (c .before .find4 .result) (c .before .before .before .before .before .before .before .before .before .reserved .result) s4
-    (omega arith) x4 (c .if2 .taken) (⊎-elim (λ (q : _≡_ {A = ℕ} 4 2). absurd (omega arith)) (λ (q : _≡_ {A = ℕ} 4 5). absurd (omega arith)))
+returns-2 c ot X S s3 =
+    let b = c .before .before .before .before .before in
+    let n = b .before .before in
+    let r = n .before .before in
+    let a = r .before .before .before .before .before .before .before .before .before .before .before .before .args in
+    names-one X 4 (c .before .find4 .result) _ _ tt (silent-4 (r .before .before .before .before .before) ot X S s3) (omega arith)
+    (rule4-is X (a .fs .now) (a .ft .now) (S .arrows) (r .reserved .result) (n .tally3 .result) (b .mark .result) (reserved r ot X S s3) (sizes n ot X S s3)
+    (b .mark .ensures .0))
+    (c .before .find4 .ensures) (c .if2 .taken)
+
+silent-5 : (c : tie.Else2)
+    → let e = c .before .before .before .before .before .before .before .before .before .before .before .before .before .before in
+    Asked (e .before .before .before .before .before .before .before) (λ ot X. Silent X 5)
+silent-5 c ot X S s3 =
+    let b = c .before .before .before .before .before in
+    let n = b .before .before in
+    let r = n .before .before in
+    let a = r .before .before .before .before .before .before .before .before .before .before .before .before .args in
+    passes X 4 (c .before .find4 .result) _ (silent-4 (r .before .before .before .before .before) ot X S s3)
+    (rule4-is X (a .fs .now) (a .ft .now) (S .arrows) (r .reserved .result) (n .tally3 .result) (b .mark .result) (reserved r ot X S s3) (sizes n ot X S s3)
+    (b .mark .ensures .0))
+    (c .before .find4 .ensures) (c .if2 .left)
 
 last-requires : tie.Need-last-requires
 last-requires c κs =
-    c .before .before .before .before .before .before .before .before .before .before .before .before .before .before .before .before .before .before .before .before .before .before .before .before .pre .0
+    let e = c .before .before .before .before .before .before .before .before .before .before .before .before in
+    e .before .before .before .before .before .before .before .before .before .before .before .before .pre .0
 
 returns-3 : tie.Need-returns-3
-returns-3 c =
-    let a =
-    c .before .before .before .before .before .before .before .before .before .before .before .before .before .before .before .before .before .before .before .before .before .before .before .before .before .args in
-    λ ot bs bt K fixed kS kT Q H F s3.
-    let A = settingOf (a .m) (a .sv .now) (a .st .now) (a .tied .now) (a .os .now) ot (a .rem .now) bs bt fixed kS kT K in
-    let I =
-    got-are A (a .qs .now) (a .qt .now) (a .fs .now) (a .ft .now) Q F
-    (c .before .before .before .before .before .before .before .before .before .before .before .before .before .before .before .before .before .before .before .before .before .before .before .tally .result)
-    (c .before .before .before .before .before .before .before .before .before .before .before .before .before .before .before .before .before .before .before .before .before .before .before .tally .ensures) in
-    let O =
-    sent-are A (a .qs .now) (a .qt .now) (a .fs .now) (a .ft .now) Q F
-    (c .before .before .before .before .before .before .before .before .before .before .before .before .before .before .before .before .before .before .before .before .before .before .tally2 .result)
-    (c .before .before .before .before .before .before .before .before .before .before .before .before .before .before .before .before .before .before .before .before .before .before .tally2 .ensures) in
-    let x3 =
-    lowest-is A 3
-    (c .before .before .before .before .before .before .before .before .before .before .before .before .before .before .before .before .before .before .before .find3 .result)
-    (λ e. flag (a .rem .now) e
-    && (flag (a .fs .now) e
-    && leb
-    (at
-    (c .before .before .before .before .before .before .before .before .before .before .before .before .before .before .before .before .before .before .before .before .before .before .before .tally .result)
-    (at (a .st .now)
-    e) + at (c .before .before .before .before .before .before .before .before .before .before .before .before .before .before .before .before .before .before .before .before .before .before .tally2 .result)
-    (at (a .st .now) e))
-    (at (a .qt .now) (at (a .st .now) e))))
-    (rule3-is A (a .qs .now) (a .qt .now) (a .fs .now) (a .ft .now) Q F
-    (c .before .before .before .before .before .before .before .before .before .before .before .before .before .before .before .before .before .before .before .before .before .before .before .tally .result)
-    (c .before .before .before .before .before .before .before .before .before .before .before .before .before .before .before .before .before .before .before .before .before .before .tally2 .result)
-    I O)
-    (c .before .before .before .before .before .before .before .before .before .before .before .before .before .before .before .before .before .before .before .find3 .ensures) in
-    let s4 =
-    silent A 3
-    (c .before .before .before .before .before .before .before .before .before .before .before .before .before .before .before .before .before .before .before .find3 .result)
-    s3 x3
-    (c .before .before .before .before .before .before .before .before .before .before .before .before .before .before .before .before .before .before .if1 .left) in
-    let L =
-    loose-are A (a .qs .now) (a .qt .now) (a .fs .now) (a .ft .now) Q F
-    (c .before .before .before .before .before .before .before .before .before .before .before .before .before .before .before .before .before .before .before .before .before .before .before .tally .result)
-    (c .before .before .before .before .before .before .before .before .before .before .before .before .before .before .before .before .before .before .before .before .before .before .tally2 .result)
-    (c .before .before .before .before .before .before .before .before .before .before .before .before .before .before .before .loose .result) I
-    O
-    (c .before .before .before .before .before .before .before .before .before .before .before .before .before .before .before .loose .ensures) in
-    let R =
-    reserved-are A (a .qs .now) (a .qt .now) (a .fs .now) (a .ft .now) Q F
-    (c .before .before .before .before .before .before .before .before .before .before .before .before .before .before .before .loose .result)
-    (c .before .before .before .before .before .before .before .before .before .before .before .before .before .reserved .result) L
-    (c .before .before .before .before .before .before .before .before .before .before .before .before .before .reserved .ensures) in
-    let C =
-    sizes-are A (c .before .before .before .before .before .before .before .before .before .before .before .before .before .reserved .result)
-    (c .before .before .before .before .before .before .before .before .before .before .before .tally3 .result) R
-    (c .before .before .before .before .before .before .before .before .before .before .before .tally3 .ensures) in
-    let x4 =
-    lowest-is A 4 (c .before .before .before .before .before .find4 .result)
-    (λ e. flag (a .rem .now) e
-    && (flag (c .before .before .before .before .before .before .before .before .before .before .before .before .before .reserved .result) e
-    && (ltb (at (a .qs .now) (at (a .sv .now) e))
-    (at (c .before .before .before .before .before .before .before .before .before .before .before .tally3 .result)
-    (at (a .sv .now) e))
-    && eqb (at (c .before .before .before .before .before .before .before .before .before .mark .result) e + 1)
-    (at (c .before .before .before .before .before .before .before .before .before .before .before .tally3 .result)
-    (at (a .sv .now) e)))))
-    (rule4-is A (a .qs .now) (a .qt .now) (a .fs .now) (a .ft .now) Q F
-    (c .before .before .before .before .before .before .before .before .before .before .before .before .before .reserved .result)
-    (c .before .before .before .before .before .before .before .before .before .before .before .tally3 .result)
-    (c .before .before .before .before .before .before .before .before .before .mark .result) R C
-    (c .before .before .before .before .before .before .before .before .before .mark .ensures .0))
-    (c .before .before .before .before .before .find4 .ensures) in
-    let s5 = silent A 4 (c .before .before .before .before .before .find4 .result) s4 x4 (c .before .before .before .before .if2 .left) in
-    c .last .ensures (a .os .now) ot bs bt K fixed kS kT Q H F L C I s5
+returns-3 c ot X S s3 =
+    let e = c .before .before .before .before in
+    let n = e .before .before .before .before .before .before .before in
+    let d = n .before .before .before .before in
+    let g = d .before .before .before .before .before .before .before .before in
+    c .last .ensures _ ot X S (record { lo = loose d ot X S s3; sizes = sizes n ot X S s3; got = got g ot X S s3 }) (silent-5 e ot X S s3)
 
 pub late-spec : {M : Type 1} → statement M
 late-spec =
-    tie.close (tie.spec (λ c κs. search needs) (λ c κs. search needs) find3-requires returns (λ c κs. search needs) reserved-requires
-    tally-requires-3 mark-requires find4-requires returns-2 last-requires returns-3)
+    tie.close (tie.spec (λ c κs. search needs) (λ c κs. search needs) find3-requires returns (λ c κs. search needs) (λ c κs. search needs)
+    (λ c κs. search needs) (λ c κs. search needs) find4-requires returns-2 last-requires returns-3)

@@ -1,113 +1,72 @@
 -- Rules 1 and 2, then the rest.
-use mathlib.Core.Path.{_≡_, _∙_}
-use mathlib.Core.Bool.{false, _&&_}
-use mathlib.Core.Logic.{⊎-elim}
-use Prim.Native.Nat.{ℕ, _-_, zero-le}
+use Prim.Native.Nat.{zero-le}
 use native.Mathlib.Omega.{arith}
-use lib.ListN.{replicate}
+use borrow.Author.Needs.{needs}
 use Rattle.arrays.specs.ArrayInstance.{flag}
-use Rattle.reduction_step.specs.Tests.{from-zero, lowest-is, rule1-is}
-use Rattle.reduction_step.specs.RuleChosen.{settingOf, silent-1, silent, says}
+use Rattle.reduction_step.specs.View.{Edges, Remaining, Setting}
+use Rattle.reduction_step.specs.Tests.{Names, rule1-is}
+use Rattle.reduction_step.specs.RuleChosen.{Silent, silent-1, passes, passes-all, names-one, names-all}
 use Rattle.reduction_step.proofs.step.Statement.{statement}
 use Rattle.reduction_step.proofs.step.Tie as tie
 
-look-requires : tie.Need-look-requires
-look-requires c κs = c .before .before .pre
+abbrev edges : tie.Start → Edges
+edges s = let a = s .args in record { m = a .m; sv = a .sv .now; st = a .st .now; tied = a .tied .now }
+
+abbrev remaining : tie.Start → Remaining
+remaining s = let a = s .args in record { rem = a .rem .now; qs = a .qs .now; qt = a .qt .now }
+
+-- what holds of every setting
+abbrev Asked : (s : tie.Start) → (Setting (edges s) (remaining s) (s .args .os .now) (s .args .ot .now) → Type 0) → Type 0
+Asked s P = (X : Setting (edges s) (remaining s) (s .args .os .now) (s .args .ot .now)) → P X
+
+silent-2 : (c : tie.Else1) → Asked (c .before .before .before .before .before .before .before .before .before) (λ X. Silent X 2)
+silent-2 c X =
+    let v = c .before .before .before .before .before .before .look in
+    passes X 1 (c .before .find1 .result) _ (silent-1 X) (rule1-is X (v .result .fs) (v .result .ft) (v .ensures X .arrows)) (c .before .find1 .ensures)
+    (c .if1 .left)
+
+two : (c : tie.After-second)
+    → Asked (c .before .before .before .before .before .before .before .before .before .before .before .before) (λ X. Names X 2 (flag (c .second .result)))
+two c X = c .second .ensures X (c .before .before .before .before .before .before .before .before .before .look .ensures X .arrows)
+
+silent-3 : (c : tie.Else2)
+    → Asked (c .before .before .before .before .before .before .before .before .before .before .before .before .before .before .before) (λ X. Silent X 3)
+silent-3 c X =
+    let d = c .before .before .before in
+    passes-all X 2 (c .before .next .result) (d .second .result) (silent-2 (d .before .before .before) X) (two d X) (c .before .next .ensures) (c .if2 .left)
 
 find1-requires : tie.Need-find1-requires
-find1-requires c κs = c .before .before .before .before .before .before .before .pre .0 .0
+find1-requires c κs = c .before .before .before .before .before .before .before .pre .0 .edges
 
 returns : tie.Need-returns
-returns c =
-    let a = c .before .before .before .before .before .before .before .before .before .args in
-    λ bs bt K fixed kS kT Q.
-    let A = settingOf (a .m) (a .sv .now) (a .st .now) (a .tied .now) (a .os .now) (a .ot .now) (a .rem .now) bs bt fixed kS kT K in
-    let w = c .before .before .before .before .before .before .look .ensures bs bt K fixed kS kT Q in
-    let x1 =
-    lowest-is A 1 (c .before .find1 .result)
-    (λ e. flag (a .rem .now) e
-    && (flag (c .before .before .before .before .before .before .look .result .fs) e
-    && flag (c .before .before .before .before .before .before .look .result .ft) e))
-    (rule1-is A (a .qs .now) (a .qt .now) (c .before .before .before .before .before .before .look .result .fs)
-    (c .before .before .before .before .before .before .look .result .ft) Q (w .1))
-    (c .before .find1 .ensures) in (
-      says A 1 (c .before .find1 .result) (replicate 1024 false) (silent-1 A) (omega arith) x1 (c .if1 .taken)
-          (⊎-elim (λ (q : _≡_ {A = ℕ} 1 2). absurd (omega arith)) (λ (q : _≡_ {A = ℕ} 1 5). absurd (omega arith))),
-      w .1,
-    )
-
-second-requires : tie.Need-second-requires
-second-requires c κs = c .before .before .before .before .before .before .before .before .before .before .before .pre
+returns c X =
+    let v = c .before .before .before .before .before .before .look in
+    let F = v .ensures X .arrows in
+    let N = rule1-is X (v .result .fs) (v .result .ft) F in
+    (names-one X 1 (c .before .find1 .result) _ _ tt (silent-1 X) (omega arith) N (c .before .find1 .ensures) (c .if1 .taken), F)
 
 next-requires : tie.Need-next-requires
-next-requires c κs = (c .before .before .before .before .before .before .before .before .before .before .before .before .before .pre .0 .0, zero-le)
+next-requires c κs = (c .before .before .before .before .before .before .before .before .before .before .before .before .before .pre .0 .edges, zero-le)
 
 returns-2 : tie.Need-returns-2
-returns-2 c =
-    let a = c .before .before .before .before .before .before .before .before .before .before .before .before .before .before .before .args in
-    λ bs bt K fixed kS kT Q.
-    let A = settingOf (a .m) (a .sv .now) (a .st .now) (a .tied .now) (a .os .now) (a .ot .now) (a .rem .now) bs bt fixed kS kT K in
-    let w = c .before .before .before .before .before .before .before .before .before .before .before .before .look .ensures bs bt K fixed kS kT Q in
-    let x1 =
-    lowest-is A 1 (c .before .before .before .before .before .before .before .find1 .result)
-    (λ e. flag (a .rem .now) e
-    && (flag (c .before .before .before .before .before .before .before .before .before .before .before .before .look .result .fs) e
-    && flag (c .before .before .before .before .before .before .before .before .before .before .before .before .look .result .ft) e))
-    (rule1-is A (a .qs .now) (a .qt .now)
-    (c .before .before .before .before .before .before .before .before .before .before .before .before .look .result .fs)
-    (c .before .before .before .before .before .before .before .before .before .before .before .before .look .result .ft) Q (w .1))
-    (c .before .before .before .before .before .before .before .find1 .ensures) in
-    let s2 =
-    silent A 1 (c .before .before .before .before .before .before .before .find1 .result) (silent-1 A) x1
-    (c .before .before .before .before .before .before .if1 .left) in
-    let n2 = c .before .before .before .second .ensures bs bt K fixed kS kT Q (w .1) in
-    let x2 =
-    lowest-is A 2 (c .before .next .result) (flag (c .before .before .before .second .result)) n2
-    (c .before .next .ensures ∙ from-zero (c .before .before .before .second .result) (a .m)) in
-    (says A 2 (c .before .next .result) (c .before .before .before .second .result) s2 (omega arith) x2 (c .if2 .taken) (λ q. n2), w .1)
+returns-2 c X =
+    let d = c .before .before .before in
+    let v = d .before .before .before .before .before .before .before .before .before .look in
+    let s = silent-2 (d .before .before .before) X in
+    (names-all X 2 (c .before .next .result) (d .second .result) s (omega arith) (two d X) (c .before .next .ensures) (c .if2 .taken), v .ensures X .arrows)
 
 late-requires : tie.Need-late-requires
 late-requires c κs =
-    (c .before .before .before .before .before .before .before .before .before .before .before .before .before .before .before .before .before .before .before .before .before .pre .0, c .before .before .before .before .before .before .before .before .before .before .before .before .before .before .before .before .before .before .before .before .before .pre .1 .0)
+    let e = c .before .before .before .before .before .before .before .before .before .before .before .before in
+    let s = e .before .before .before .before .before .before .before .before .before in
+    (s .pre .0, s .pre .1 .0)
 
 returns-3 : tie.Need-returns-3
-returns-3 c =
-    let a =
-    c .before .before .before .before .before .before .before .before .before .before .before .before .before .before .before .before .before .before .before .before .before .before .before .args in
-    λ bs bt K fixed kS kT Q.
-    let A = settingOf (a .m) (a .sv .now) (a .st .now) (a .tied .now) (a .os .now) (a .ot .now) (a .rem .now) bs bt fixed kS kT K in
-    let w =
-    c .before .before .before .before .before .before .before .before .before .before .before .before .before .before .before .before .before .before .before .before .look .ensures bs bt K fixed kS kT Q in
-    let x1 =
-    lowest-is A 1
-    (c .before .before .before .before .before .before .before .before .before .before .before .before .before .before .before .find1 .result)
-    (λ e. flag (a .rem .now) e
-    && (flag
-    (c .before .before .before .before .before .before .before .before .before .before .before .before .before .before .before .before .before .before .before .before .look .result .fs)
-    e
-    && flag
-    (c .before .before .before .before .before .before .before .before .before .before .before .before .before .before .before .before .before .before .before .before .look .result .ft)
-    e))
-    (rule1-is A (a .qs .now) (a .qt .now)
-    (c .before .before .before .before .before .before .before .before .before .before .before .before .before .before .before .before .before .before .before .before .look .result .fs)
-    (c .before .before .before .before .before .before .before .before .before .before .before .before .before .before .before .before .before .before .before .before .look .result .ft)
-    Q (w .1))
-    (c .before .before .before .before .before .before .before .before .before .before .before .before .before .before .before .find1 .ensures) in
-    let s2 =
-    silent A 1
-    (c .before .before .before .before .before .before .before .before .before .before .before .before .before .before .before .find1 .result)
-    (silent-1 A) x1
-    (c .before .before .before .before .before .before .before .before .before .before .before .before .before .before .if1 .left) in
-    let n2 = c .before .before .before .before .before .before .before .before .before .before .before .second .ensures bs bt K fixed kS kT Q (w .1) in
-    let x2 =
-    lowest-is A 2 (c .before .before .before .before .before .before .before .before .before .next .result)
-    (flag (c .before .before .before .before .before .before .before .before .before .before .before .second .result)) n2
-    (c .before .before .before .before .before .before .before .before .before .next .ensures
-    ∙ from-zero (c .before .before .before .before .before .before .before .before .before .before .before .second .result) (a .m)) in
-    let s3 =
-    silent A 2 (c .before .before .before .before .before .before .before .before .before .next .result) s2 x2
-    (c .before .before .before .before .before .before .before .before .if2 .left) in
-    (c .before .late .ensures (a .ot .now) bs bt K fixed kS kT Q (w .0) (w .1) s3, w .1)
+returns-3 c X =
+    let e = c .before .before .before .before .before .before .before .before in
+    let v = e .before .before .before .before .before .before .before .before .before .before .before .before .look in
+    (c .before .late .ensures _ X (v .ensures X) (silent-3 e X), v .ensures X .arrows)
 
 pub step-spec : {M : Type 1} → statement M
-step-spec = tie.close (tie.spec look-requires find1-requires returns second-requires next-requires returns-2 late-requires returns-3)
+step-spec =
+    tie.close (tie.spec (λ c κs. search needs) find1-requires returns (λ c κs. search needs) next-requires returns-2 late-requires returns-3)
