@@ -81,8 +81,7 @@ pub fn arcs(
     let mut i = 0;
     while i < n {
         let row = arc_row(m, sv, st, rs, rt, plan, ps, rps, pt[i], rpt[i]);
-        let next = rival_tables::put_row(o, row, i);
-        o = next;
+        rival_tables::put_row(&mut o, &row, i);
         i += 1;
     }
     o

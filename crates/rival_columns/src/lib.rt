@@ -73,13 +73,12 @@ pub fn columns(n: usize, arcs: &[u8; 4096], j: usize, l: usize) -> [u8; 4096]
     ensures { λ r. ⌜ Column (now (arcs .entry)) n j l r ⌝ }
 {
     let first = first_column(n, arcs, j);
-    let blank = [133u8; 4096];
-    let mut o = rival_tables::put_row(blank, first, 0);
+    let mut o = [133u8; 4096];
+    rival_tables::put_row(&mut o, &first, 0);
     let mut k = 0;
     while k < l {
         let row = next_column(n, arcs, &o, k);
-        let next = rival_tables::put_row(o, row, k + 1);
-        o = next;
+        rival_tables::put_row(&mut o, &row, k + 1);
         k += 1;
     }
     o

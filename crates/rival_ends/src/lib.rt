@@ -45,8 +45,7 @@ pub fn terminals(
     let mut i = 0;
     while i < n {
         let row = terminal_row(n, starts, stops, gs, gt, i);
-        let next = rival_tables::put_row(o, row, i);
-        o = next;
+        rival_tables::put_row(&mut o, &row, i);
         i += 1;
     }
     o

@@ -80,8 +80,7 @@ pub fn apart(
     let mut i = 0;
     while i < n {
         let row = apart_row(m, end, other, rank, plan, room, po, pe[i], pr[i]);
-        let next = rival_tables::put_row(o, row, i);
-        o = next;
+        rival_tables::put_row(&mut o, &row, i);
         i += 1;
     }
     o

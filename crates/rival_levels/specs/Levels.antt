@@ -3,8 +3,9 @@
 use Prim.Native.Nat.{ℕ, zero, suc, _+_, _-_, _*_, _≤_, _<_}
 use native.Mathlib.Omega.{arith}
 use native.Mathlib.Numerals.{add-one}
-use mathlib.Core.Path.{_≡_, sym, ap, ap₂, _∙_}
-use mathlib.Core.Bool.{Bool, cond}
+use mathlib.Core.Path.{_≡_, refl, sym, ap, ap₂, _∙_}
+use mathlib.Core.Logic.{_⊎_, inl, inr}
+use mathlib.Core.Bool.{Bool, true, false, cond}
 use mathlib.Core.List.{List}
 use lib.Dec.{ltb}
 use borrow.Author.Tests.{lt-ltb, le-ltb}
@@ -57,17 +58,36 @@ unfoldable pub levelsAt : (arcs terminals : List ℕ) → ℕ → ℕ → ℕ �
 levelsAt arcs terminals n k zero l = found.Nothing
 levelsAt arcs terminals n k (suc b) l = levelAt arcs terminals n k l (levelsAt arcs terminals n k b (suc l))
 
-pub levels-turn : (arcs terminals : List ℕ) (n k l : ℕ) → l < n
-    → levelsAt arcs terminals n k (n - l) l ≡ levelAt arcs terminals n k l (levelsAt arcs terminals n k (n - (l + 1)) (l + 1))
+pub levels-turn : (arcs terminals : List ℕ) (n k b l : ℕ) → l < b
+    → levelsAt arcs terminals n k (b - l) l ≡ levelAt arcs terminals n k l (levelsAt arcs terminals n k (b - (l + 1)) (l + 1))
 unfolding levelsAt
-levels-turn arcs terminals n k l h = let e : n - l ≡ suc (n - (l + 1)) = omega arith in rw (e, add-one)
+levels-turn arcs terminals n k b l h = let e : b - l ≡ suc (b - (l + 1)) = omega arith in rw (e, add-one)
 
-pub levels-end : (arcs terminals : List ℕ) (n k l : ℕ) → n ≤ l → levelsAt arcs terminals n k (n - l) l ≡ found.Nothing
+pub levels-end : (arcs terminals : List ℕ) (n k b l : ℕ) → b ≤ l → levelsAt arcs terminals n k (b - l) l ≡ found.Nothing
 unfolding levelsAt
-levels-end arcs terminals n k l h = let e : n - l ≡ 0 = omega arith in rw e
+levels-end arcs terminals n k b l h = let e : b - l ≡ 0 = omega arith in rw e
 
-pub levels-start : (arcs terminals : List ℕ) (n k : ℕ) → levelsAt arcs terminals n k (n - 0) 0 ≡ levelsAt arcs terminals n k n 0
-levels-start arcs terminals n k = let e : n - 0 ≡ n = omega arith in ap (λ b. levelsAt arcs terminals n k b 0) e
+pub levels-start : (arcs terminals : List ℕ) (n k b : ℕ) → levelsAt arcs terminals n k (b - 0) 0 ≡ levelsAt arcs terminals n k b 0
+levels-start arcs terminals n k b = let e : b - 0 ≡ b = omega arith in ap (λ c. levelsAt arcs terminals n k c 0) e
+
+-- levels that find something find what more levels do
+more : (a b : Found) (x y z : Bool) (r s : Found) → (r ≡ found.Nothing) ⊎ (s ≡ r)
+    → (cond x a (cond y b (cond z r found.Nothing)) ≡ found.Nothing)
+    ⊎ (cond x a (cond y b (cond z s found.Nothing)) ≡ cond x a (cond y b (cond z r found.Nothing)))
+more a b true y z r s h = inr refl
+more a b false true z r s h = inr refl
+more a b false false true r s h = h
+more a b false false false r s h = inl refl
+
+pub levels-more : (arcs terminals : List ℕ) (n k b c l : ℕ) → b ≤ c
+    → (levelsAt arcs terminals n k b l ≡ found.Nothing) ⊎ (levelsAt arcs terminals n k c l ≡ levelsAt arcs terminals n k b l)
+unfolding levelsAt
+levels-more arcs terminals n k zero c l h = inl refl
+levels-more arcs terminals n k (suc b) zero l h = absurd (omega arith)
+levels-more arcs terminals n k (suc b) (suc c) l h =
+    more (found.Closed l (levelLoop arcs n k l)) (found.Open l (levelRow arcs terminals n k l) (levelColumn arcs terminals n k l))
+    (ltb (levelLoop arcs n k l) n) (ltb (levelRow arcs terminals n k l) n) (ltb (levelChange arcs n l) n)
+    (levelsAt arcs terminals n k b (suc l)) (levelsAt arcs terminals n k c (suc l)) (levels-more arcs terminals n k b c (suc l) (omega arith))
 
 -- ---- a table that shows a layer finds what the layer does
 module _ (arcs terminals d : List ℕ) (n k l : ℕ) (fits : n ≤ 64) (shows : Rows d n (layerAt arcs n l)) where
@@ -124,3 +144,12 @@ module _ (arcs terminals : List ℕ) (n k l : ℕ) (rest : Found) where
   pub out-on : (i r c : ℕ) → i ≡ levelLoop arcs n k l → n ≤ i → r ≡ levelRow arcs terminals n k l → n ≤ r → c ≡ levelChange arcs n l → c < n
       → rest ≡ levelAt arcs terminals n k l rest
   out-on i r c e h p g q f = sym (missed i r e h p g ∙ ap (λ x. cond x rest found.Nothing) (ap (λ j. ltb j n) (sym q) ∙ lt-ltb c n f))
+
+  -- the last of the levels asked for
+  pub out-last : (i r : ℕ) → i ≡ levelLoop arcs n k l → n ≤ i → r ≡ levelRow arcs terminals n k l → n ≤ r → rest ≡ found.Nothing
+      → found.Nothing ≡ levelAt arcs terminals n k l rest
+  out-last i r e h p g q = sym (missed i r e h p g ∙ either (ltb (levelChange arcs n l) n))
+    where
+      either : (z : Bool) → cond z rest found.Nothing ≡ found.Nothing
+      either true = q
+      either false = refl

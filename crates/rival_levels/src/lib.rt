@@ -105,14 +105,14 @@ pub fn changed(n: usize, d: &[u8; 4096], e: &[u8; 4096]) -> usize
     i
 }
 
-// All levels, until a layer changes nothing.
-pub fn levels(n: usize, arcs: &[u8; 4096], terminals: &[u8; 4096], k: u8) -> Found
-    requires { ⌜ (n ≤ planLimit) × (k ≤ 1) × Small n (now arcs) × Cheap n (now arcs) × SmallEnds n (now terminals) ⌝ }
-    ensures { λ r. ⌜ r ≡ levelsAt (now (arcs .entry)) (now (terminals .entry)) n k n 0 ⌝ }
+// The first b levels, until a layer changes nothing.
+pub fn levels(n: usize, b: usize, arcs: &[u8; 4096], terminals: &[u8; 4096], k: u8) -> Found
+    requires { ⌜ (n ≤ planLimit) × (b ≤ n) × (k ≤ 1) × Small n (now arcs) × Cheap n (now arcs) × SmallEnds n (now terminals) ⌝ }
+    ensures { λ r. ⌜ r ≡ levelsAt (now (arcs .entry)) (now (terminals .entry)) n k b 0 ⌝ }
 {
     let mut d = *arcs;
     let mut l = 0;
-    while l < n {
+    while l < b {
         let bound = (2 * (l + 1)) as u8 + k;
         let i = diagonal(n, &d, bound);
         if i < n {
@@ -121,6 +121,9 @@ pub fn levels(n: usize, arcs: &[u8; 4096], terminals: &[u8; 4096], k: u8) -> Fou
         let p = pair(n, &d, terminals, bound + 4);
         if p.row < n {
             return Found::Open(l, p.row, p.column);
+        }
+        if l + 1 >= b {
+            return Found::Nothing;
         }
         let e = rival_layers::next_layer(n, arcs, &d);
         let c = changed(n, &d, &e);

@@ -1,11 +1,12 @@
 -- The search below 0, and the search below 1 if that one finds nothing: what is found, by places that are there.
 use Prim.Native.Nat.{ℕ, zero, suc, _+_, _*_, _≤_, _<_}
 use native.Mathlib.Omega.{arith}
-use mathlib.Core.Path.{_≡_, refl, sym, subst}
-use mathlib.Core.Bool.{Bool, true, false}
+use mathlib.Core.Path.{_≡_, refl, sym, ap, _∙_, subst}
+use mathlib.Core.Bool.{Bool, true, false, cond}
 use mathlib.Core.Option.{orElse}
 use mathlib.Core.List.{List}
 use lib.Dec.{ltb, ltb→lt}
+use borrow.Author.Tests.{lt-ltb, le-ltb}
 use Rattle.lists.specs.Test.{if-ind}
 use Rattle.lists.specs.Search.{low, low-is}
 use Rattle.model.specs.Instance.{Instance}
@@ -24,6 +25,36 @@ searched (found.Direct f) o = (true, found.Direct f)
 searched (found.Alone i) o = (true, found.Alone i)
 searched (found.Closed l i) o = (true, found.Closed l i)
 searched (found.Open l i j) o = (true, found.Open l i j)
+
+-- the search below k where no edge has room at both ends: a walk without an arc, or the levels
+abbrev pub placesAt : (arcs terminals : List ℕ) → ℕ → ℕ → Found
+placesAt arcs terminals n k =
+    cond (ltb (diagAt (cell terminals) n (4 + k)) n) (found.Alone (diagAt (cell terminals) n (4 + k))) (levelsAt arcs terminals n k n 0)
+
+abbrev pub OnTables : (arcs terminals : List ℕ) → ℕ → Bool → Found → Type 0
+OnTables arcs terminals n below what = _≡_ {A = Bool × Found} (below, what) (searched (placesAt arcs terminals n 0) (placesAt arcs terminals n 1))
+
+-- the ways out of it
+module _ (arcs terminals : List ℕ) (n k i : ℕ) (e : i ≡ diagAt (cell terminals) n (4 + k)) where
+  abbrev onward : Bool → Found
+  onward x = cond x (found.Alone (diagAt (cell terminals) n (4 + k))) (levelsAt arcs terminals n k n 0)
+
+  pub out-alone : i < n → found.Alone i ≡ placesAt arcs terminals n k
+  out-alone h = ap found.Alone e ∙ sym (ap onward (ap (λ z. ltb z n) (sym e) ∙ lt-ltb i n h))
+
+  pub out-levels : n ≤ i → levelsAt arcs terminals n k n 0 ≡ placesAt arcs terminals n k
+  out-levels h = sym (ap onward (ap (λ z. ltb z n) (sym e) ∙ le-ltb i n h))
+
+-- an edge with room at both ends comes before
+module _ (m : ℕ) (free : ℕ → Bool) (arcs terminals : List ℕ) (n f : ℕ) (e : f ≡ low free m) where
+  pub search-direct : (k : ℕ) → f < m → searchAt m free arcs terminals n k ≡ found.Direct f
+  unfolding searchAt
+  search-direct k h =
+      ap (λ x. cond x (found.Direct (low free m)) (placesAt arcs terminals n k)) (ap (λ z. ltb z m) (sym e) ∙ lt-ltb f m h) ∙ ap found.Direct (sym e)
+
+  pub search-places : (k : ℕ) → m ≤ f → searchAt m free arcs terminals n k ≡ placesAt arcs terminals n k
+  unfolding searchAt
+  search-places k h = ap (λ x. cond x (found.Direct (low free m)) (placesAt arcs terminals n k)) (ap (λ z. ltb z m) (sym e) ∙ le-ltb f m h)
 
 -- on the table of the arcs and that of the ends
 abbrev pub Searched : (m : ℕ) (sv st rs rt : List ℕ) (plan : List Bool) (n : ℕ) (ps pt rps rpt : List ℕ) (roomS roomT : List Bool) (arcs : List ℕ)

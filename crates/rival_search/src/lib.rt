@@ -1,15 +1,18 @@
 // The search for a rival of a plan: the table of the ends, then on it and on the table of the arcs the search below 0, and the search below 1 if that one
 // finds nothing.
 ghost use mathlib.Core.Path.{_≡_};
+ghost use mathlib.Core.Logic.{_⊎_};
+ghost use mathlib.Core.Bool.{true};
 ghost use Prim.Native.Nat.{ℕ, _≤_, _<_};
 ghost use Rattle.model.specs.Limits.{entryLimit, nodeLimit, planLimit};
 ghost use Rattle.arrays.specs.Passes.{Low};
 ghost use Rattle.rival_tables.specs.Filled.{Grid, Rows};
 ghost use Rattle.rival_layers.specs.Layers.{Small, Cheap};
 ghost use Rattle.rival_levels.specs.Levels.{SmallEnds};
-ghost use Rattle.rival_laws.specs.Walks.{searchAt};
-ghost use Rattle.rival_search.specs.SearchView.{freeAt, arcCell, terminalCell};
-ghost use Rattle.rival_search.specs.TwoThresholds.{Searched};
+ghost use Rattle.rival_levels.specs.declared.Found.the-variants as found;
+ghost use Rattle.rival_certificate.specs.Certified.{Closed};
+ghost use Rattle.rival_search.specs.SearchView.{arcCell, terminalCell};
+ghost use Rattle.rival_search.specs.TwoThresholds.{placesAt, OnTables, Searched};
 
 // The table of the ends, from the ends and ranks of the plan's edges and the room at the nodes.
 pub fn terminal_table(
@@ -39,39 +42,88 @@ pub fn terminal_table(
     rival_ends::terminals(n, &starts, &stops, &gs, &gt)
 }
 
-// The search below k: an edge with room at both ends, a walk without an arc, the levels.
-pub fn search(
-    m: usize,
-    sv: &[u8; 1024],
-    st: &[u8; 1024],
-    plan: &[bool; 1024],
-    fs: &[bool; 32],
-    ft: &[bool; 32],
+// Two levels of the search below 0: what they find, or nothing, which decides nothing.
+fn first_levels(n: usize, arcs: &[u8; 4096], ends: &[u8; 4096]) -> rival_levels::Found
+    requires { ⌜ (n ≤ planLimit) × Small n (now arcs) × Cheap n (now arcs) × SmallEnds n (now ends) ⌝ }
+    ensures { λ r. ⌜ (r ≡ found.Nothing) ⊎ (r ≡ placesAt (now (arcs .entry)) (now (ends .entry)) n 0) ⌝ }
+{
+    let i = rival_levels::diagonal(n, ends, 4);
+    if i < n {
+        return rival_levels::Found::Alone(i);
+    }
+    let b = if n < 2 { n } else { 2 };
+    rival_levels::levels(n, b, arcs, ends, 0)
+}
+
+// The search below k: a walk without an arc, then the levels, unless the table of costs, if it is closed, shows that they find nothing.
+fn search(
     n: usize,
     arcs: &[u8; 4096],
     ends: &[u8; 4096],
+    closed: bool,
+    costs: &[u8; 4096],
     k: u8,
 ) -> rival_levels::Found
-    requires { ⌜ (m ≤ entryLimit) × (n ≤ planLimit) × (k ≤ 1) × Low m (now sv) nodeLimit × Low m (now st) nodeLimit × Small n (now arcs) × Cheap n (now arcs)
-        × SmallEnds n (now ends) ⌝ }
-    ensures { λ r. ⌜ r ≡ searchAt m (freeAt (now (sv .entry)) (now (st .entry)) (now (plan .entry)) (now (fs .entry)) (now (ft .entry))) (now (arcs .entry))
-        (now (ends .entry)) n k ⌝ }
+    requires { ⌜ (n ≤ planLimit) × (k ≤ 1) × Small n (now arcs) × Cheap n (now arcs) × SmallEnds n (now ends)
+        × (closed ≡ true → Closed (now arcs) (now costs) n) ⌝ }
+    ensures { λ r. ⌜ r ≡ placesAt (now (arcs .entry)) (now (ends .entry)) n k ⌝ }
 {
-    let f = rival_capacity::direct(m, sv, st, plan, fs, ft);
-    if f < m {
-        return rival_levels::Found::Direct(f);
-    }
     let i = rival_levels::diagonal(n, ends, 4 + k);
     if i < n {
         return rival_levels::Found::Alone(i);
     }
-    rival_levels::levels(n, arcs, ends, k)
+    if closed {
+        let none = rival_certificate::clear(n, costs, ends, k);
+        if none {
+            return rival_levels::Found::Nothing;
+        }
+    }
+    rival_levels::levels(n, n, arcs, ends, k)
 }
 
 // What is found below 0, or below 1 if that is nothing.
 pub struct Hunt {
     pub below: bool,
     pub found: rival_levels::Found,
+}
+
+// Both searches with the table of costs.
+fn searched_by_costs(n: usize, arcs: &[u8; 4096], ends: &[u8; 4096]) -> Hunt
+    requires { ⌜ (n ≤ planLimit) × Small n (now arcs) × Cheap n (now arcs) × SmallEnds n (now ends) ⌝ }
+    ensures { λ r. ⌜ OnTables (now (arcs .entry)) (now (ends .entry)) n (r .below) (r .found) ⌝ }
+{
+    let certificate = rival_certificate::certificate(n, arcs);
+    let closed = certificate.closed;
+    let costs = certificate.table;
+    let first = search(n, arcs, ends, closed, &costs, 0);
+    match first {
+        rival_levels::Found::Nothing => {
+            let second = search(n, arcs, ends, closed, &costs, 1);
+            Hunt {
+                below: false,
+                found: second,
+            }
+        }
+        _ => Hunt {
+            below: true,
+            found: first,
+        },
+    }
+}
+
+// Both searches on the two tables. Most plans that are beaten are so by a walk of the first two levels.
+fn searched_on(n: usize, arcs: &[u8; 4096], ends: &[u8; 4096]) -> Hunt
+    requires { ⌜ (n ≤ planLimit) × Small n (now arcs) × Cheap n (now arcs) × SmallEnds n (now ends) ⌝ }
+    ensures { λ r. ⌜ OnTables (now (arcs .entry)) (now (ends .entry)) n (r .below) (r .found) ⌝ }
+{
+    let first = first_levels(n, arcs, ends);
+    match first {
+        rival_levels::Found::Nothing => searched_by_costs(n, arcs, ends),
+        _ => Hunt {
+            below: true,
+            found: first,
+        },
+    }
 }
 
 // The search below 0, and the search below 1 if that one finds nothing, from the ends and ranks of the plan's edges, the room at the nodes and the
@@ -98,18 +150,12 @@ pub fn searched(
         (now (rps .entry)) (now (rpt .entry)) (now (fs .entry)) (now (ft .entry)) (now (arcs .entry)) (r .below) (r .found) ⌝ }
 {
     let ends = terminal_table(m, sv, st, rs, rt, plan, n, ps, pt, rps, rpt, fs, ft);
-    let first = search(m, sv, st, plan, fs, ft, n, arcs, &ends, 0);
-    match first {
-        rival_levels::Found::Nothing => {
-            let second = search(m, sv, st, plan, fs, ft, n, arcs, &ends, 1);
-            Hunt {
-                below: false,
-                found: second,
-            }
-        }
-        _ => Hunt {
+    let f = rival_capacity::direct(m, sv, st, plan, fs, ft);
+    if f < m {
+        return Hunt {
             below: true,
-            found: first,
-        },
+            found: rival_levels::Found::Direct(f),
+        };
     }
+    searched_on(n, arcs, &ends)
 }

@@ -70,3 +70,29 @@ pub rows-next : (t row r : List ℕ) (f : ℕ → ℕ → ℕ) (i : ℕ) → Row
 rows-next t row r f i h m p a b al bl = by-eq a i
     (λ e s. p a b bl ∙ ap (λ x. cond x (at row b) (cell t a b)) s ∙ m b bl ∙ ap (λ z. f z b) (sym e))
     (λ n s. p a b bl ∙ ap (λ x. cond x (at row b) (cell t a b)) s ∙ h a b (omega arith) bl)
+
+-- ---- a row of 64 that is written anew in place, from its front: its first k entries are f's, the others as they were
+abbrev pub Remade : List ℕ → (ℕ → ℕ) → ℕ → List ℕ → Type 0
+Remade t f k r = (j : ℕ) → j < 64 → at r j ≡ cond (ltb j k) (f j) (at t j)
+
+module _ (t : List ℕ) (f : ℕ → ℕ) where
+  pub remade-start : Remade t f 0 t
+  remade-start j h = sym (ap (λ b. cond b (f j) (at t j)) (le-ltb j 0 (omega arith)))
+
+  -- entry k is as it was
+  pub remade-here : (k : ℕ) (r : List ℕ) → k < 64 → Remade t f k r → at r k ≡ at t k
+  remade-here k r h m = m k h ∙ ap (λ b. cond b (f k) (at t k)) (le-ltb k k (omega arith))
+
+  pub remade-next : (k : ℕ) (r : List ℕ) (v : ℕ) → length r ≡ 64 → k < 64 → v ≡ f k → Remade t f k r → Remade t f (k + 1) (set r k v)
+  remade-next k r v l h e m j g = by-eq j k
+      (λ q s. ap (at (set r k v)) q ∙ getD-set-same r k v 0 (omega arith) ∙ e ∙ ap f (sym q)
+      ∙ sym (ap (λ b. cond b (f j) (at t j)) (lt-ltb j (k + 1) (omega arith))))
+      (λ n s. getD-set-other r k j v 0 n ∙ m j g ∙ ap (λ b. cond b (f j) (at t j)) (same n))
+    where
+      same : {j : ℕ} → (j ≡ k → ⊥) → ltb j k ≡ ltb j (k + 1)
+      same {j} n = by-bool (ltb j k)
+          (λ e. e ∙ sym (lt-ltb j (k + 1) (omega (arith, ltb-true j k e))))
+          (λ e. e ∙ sym (le-ltb j (k + 1) (omega (arith, ltb-false j k e))))
+
+  pub remade-end : (k : ℕ) (r : List ℕ) → 64 ≤ k → Remade t f k r → Made 0 r f 64
+  remade-end k r h m j g = m j g ∙ ap (λ b. cond b (f j) (at t j)) (lt-ltb j k (omega arith))

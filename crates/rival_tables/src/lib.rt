@@ -2,6 +2,7 @@
 // which a row is put.
 ghost use mathlib.Core.Path.{_≡_};
 ghost use Prim.Native.Nat.{_≤_, _<_, min};
+ghost use lib.ListN.{length};
 ghost use Rattle.model.specs.Limits.{entryLimit, planLimit};
 ghost use Rattle.arrays.specs.ArrayInstance.{at};
 ghost use Rattle.arrays.specs.Passes.{Low};
@@ -39,16 +40,14 @@ pub fn gathered(n: usize, es: &[u16; 64], xs: &[u8; 1024]) -> [u8; 64]
     o
 }
 
-// A table with another row i.
-pub fn put_row(table: [u8; 4096], row: [u8; 64], i: usize) -> [u8; 4096]
-    requires { ⌜ i < 64 ⌝ }
-    ensures { λ r. ⌜ Put table row i r ⌝ }
+// Row i of a table becomes another one.
+pub fn put_row(table: &mut [u8; 4096], row: &[u8; 64], i: usize)
+    requires { ⌜ (i < 64) × (length (now table) ≡ 4096) ⌝ }
+    ensures { λ _. ⌜ (length (now (table .exit)) ≡ 4096) × Put (now (table .entry)) (now (row .entry)) i (now (table .exit)) ⌝ }
 {
-    let mut o = table;
     let mut k = 0;
     while k < 64 {
-        o[i * 64 + k] = row[k];
+        table[i * 64 + k] = row[k];
         k += 1;
     }
-    o
 }

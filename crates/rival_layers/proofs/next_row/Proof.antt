@@ -3,6 +3,7 @@ use mathlib.Core.Path.{_≡_, sym, ap, _∙_}
 use mathlib.Core.Logic.{⊎-elim}
 use Prim.Native.Nat.{ℕ, _+_, _-_, _≤_, _<_, min, zero-le}
 use native.Mathlib.Omega.{arith}
+use lib.ListN.{length}
 use borrow.Author.Needs.{needs}
 use Rattle.arrays.specs.ArrayInstance.{at}
 use Rattle.rival_tables.specs.Filled.{cell}
@@ -11,7 +12,8 @@ use Rattle.rival_layers.proofs.next_row.Statement.{statement}
 use Rattle.rival_layers.proofs.next_row.Tie as tie
 
 abbrev Inv-loop : tie.InvT-loop
-Inv-loop n arcs d i b o₀ y₀ o y = (y ≤ n) × ((j : ℕ) → j < 64 → (at o j ≤ 133) × (nextRest arcs d n i j (at o j) y ≡ nextPrice arcs d n i j))
+Inv-loop n arcs d i b o₀ y₀ o y =
+    (y ≤ n) × (length o ≡ 64) × ((j : ℕ) → j < 64 → (at o j ≤ 133) × (nextRest arcs d n i j (at o j) y ≡ nextPrice arcs d n i j))
 
 abbrev μ-loop : tie.MeasureT-loop
 μ-loop n arcs d i b o₀ y₀ o y = n - y
@@ -24,6 +26,7 @@ loop-holds c =
     let a = c .before .args in
     let e : (j : ℕ) → j < 64 → at (c .kept-row .result) j ≡ keptPrice (cell (a .d .now) (a .i) j) = c .kept-row .ensures in (
       zero-le,
+      search needs,
       λ j h. (
         omega (arith, e j h),
         ap (λ v. nextRest (a .arcs .now) (a .d .now) (a .n) (a .i) j v 0) (e j h)
@@ -33,23 +36,25 @@ loop-holds c =
 
 lower-requires : tie.Need-lower-requires Inv-loop μ-loop
 lower-requires c κs =
-    let s = c .before .before .before .before .before in
-    let y = c .before .before .before .loop .y in
-    (omega arith, (λ j h. s .pre .2 y j (omega arith) h), s .pre .3 (s .args .i) y (omega arith) (omega arith) (c .if1 .taken))
+    let l = c .before .before .before .before in
+    let s = l .before .before in
+    let y = l .loop .y in
+    (l .loop .inv .1, omega arith, (λ j h. s .pre .2 y j (omega arith) h), s .pre .3 (s .args .i) y (omega arith) (omega arith) (c .before .if1 .taken))
 
 loop-again : tie.Need-loop-again Inv-loop μ-loop
 loop-again c =
     let l = c .before .before .before in
-    let a = c .before .before .before .before .before .args in
+    let a = l .before .before .args in
     let y = l .loop .y in
     let g : (j : ℕ) → j < 64
     → (at (l .loop .o) j ≤ 133)
     × (nextRest (a .arcs .now) (a .d .now) (a .n) (a .i) j (at (l .loop .o) j) y ≡ nextPrice (a .arcs .now) (a .d .now) (a .n) (a .i) j) =
-    l .loop .inv .1 in (
+    l .loop .inv .2 in (
       omega arith,
+      ⊎-elim (λ w. ap length (w .3) ∙ w .2 .ensures .0) (λ w. ap length (w .1) ∙ l .loop .inv .1) (c .if1 .came),
       λ j h. ⊎-elim
-          (λ w. let e : at (c .if1 .o) j ≡ min (cell (a .arcs .now) (a .i) y + cell (a .d .now) y j) (at (l .loop .o) j) = ap (λ z. at z j) (w .2)
-          ∙ w .1 .ensures j h in (
+          (λ w. let e : at (c .if1 .o) j ≡ min (cell (a .arcs .now) (a .i) y + cell (a .d .now) y j) (at (l .loop .o) j) = ap (λ z. at z j) (w .3)
+          ∙ w .2 .ensures .1 j h in (
             omega (arith, g j h .0),
             ap (λ v. nextRest (a .arcs .now) (a .d .now) (a .n) (a .i) j v (y + 1)) e
                 ∙ sym (next-turn (a .arcs .now) (a .d .now) (a .n) (a .i) j (at (l .loop .o) j) y (omega arith)) ∙ g j h .1,
@@ -66,7 +71,7 @@ returns : tie.Need-returns Inv-loop μ-loop
 returns c =
     let l = c .before in
     let a = c .before .before .before .args in
-    λ j h. sym (next-end (a .arcs .now) (a .d .now) (a .n) (a .i) j (at (l .loop .o) j) (l .loop .y) (omega arith)) ∙ l .loop .inv .1 j h .1
+    λ j h. sym (next-end (a .arcs .now) (a .d .now) (a .n) (a .i) j (at (l .loop .o) j) (l .loop .y) (omega arith)) ∙ l .loop .inv .2 j h .1
 
 pub next-row-spec : {M : Type 1} → statement M
 next-row-spec =
