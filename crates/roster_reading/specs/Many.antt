@@ -2,21 +2,23 @@
 use Prim.Native.Nat.{ℕ, suc, _+_, _*_, _-_, _≤_, _<_}
 use native.Mathlib.Omega.{arith}
 use mathlib.Core.Path.{_≡_, refl, sym, ap, _∙_, subst}
-use mathlib.Core.Bool.{Bool, not}
+use mathlib.Core.Logic.{_⊎_, ⊎-elim}
+use mathlib.Core.Bool.{Bool, cond, not}
 use mathlib.Core.List.{List, [], _∷_, _++_, append-assoc, append-nil}
 use lib.ListN.{length, drop, length-append, length-drop}
 use lib.Dec.{T, eqb}
 use borrow.Author.Tests.{eq-eqb, ne-eqb}
-use Rattle.lists.specs.Test.{given}
+use Rattle.lists.specs.Test.{given, by-eq}
 use Rattle.lists.specs.Keep.{gather}
 use Rattle.model.specs.Limits.{entryLimit}
 use Rattle.model.specs.Reading.{Reading, accepted, refused, _then_, refuseIf, readEach}
 use Rattle.model.specs.RosterFile.{readMany, readSection}
 use Rattle.theory_files.specs.Reads.{isBytes, Reads, each, read-value}
+use Rattle.roster_reading.specs.declared.Section.{Section}
 use Rattle.roster_reading.specs.declared.Section.the-variants as section
 use Rattle.roster_reading.specs.Place.{placed, place-refused, place-read}
 use Rattle.roster_reading.specs.Field.{wide, wide-end, wide-long, wide-goes}
-use Rattle.roster_reading.specs.Row.{Shows, Marked, marked-refused}
+use Rattle.roster_reading.specs.Row.{Shows, Marked, marked-as, marked-refused}
 use Rattle.roster_reading.specs.Table.{rowWidth, withRow, Shown, row-more}
 
 then-id : {A : Type 0} (r : Reading (A × List ℕ)) → r ≡ (r then (λ a rest. accepted (a, rest)))
@@ -90,6 +92,19 @@ module _ {A : Type 0} (field : List ℕ → Reading (A × List ℕ)) (entries : 
 
 -- ---- a section: its count, the lists, and then the count against the sum of their lengths. The lists take their entries and as
 -- many length bytes as `heads` says, so that the sum shows in the place behind them.
+-- what the count tells: the place behind the section, or the refusal of the count
+abbrev pub Told : (f : List ℕ) (at heads : ℕ) → Section → Type 0
+Told f at heads (section.Read end) = (at + 1 < length f) × (wide f at ≤ entryLimit) × (end ≡ at + 2 + heads + wide f at)
+Told f at heads (section.Refused m) = ((m ≡ 1) × (length f < at + 2)) ⊎ ((m ≡ 2) × (at + 1 < length f) × (entryLimit < wide f at))
+
+pub told-room : (f : List ℕ) (at heads : ℕ) (r : Section) → Told f at heads r → {end : ℕ} → r ≡ section.Read end → at + 2 ≤ length f
+told-room f at heads r t q = let s = subst (Told f at heads) q t in omega (arith, s)
+
+-- the answer of the lists, if they end at the place told
+abbrev pub endedAt : Section → ℕ → Section
+endedAt (section.Read stop) end = cond (eqb stop end) (section.Read stop) (section.Refused 7)
+endedAt (section.Refused m) end = section.Refused m
+
 module _ {A : Type 0} (field : List ℕ → Reading (A × List ℕ)) (total : List A → ℕ) (f : List ℕ) (at n : ℕ) where
   abbrev summed : ℕ → List A → List ℕ → Reading (List A × List ℕ)
   summed w xs rest = refuseIf (not (eqb w (total xs))) 7 (accepted (xs, rest))
@@ -97,16 +112,16 @@ module _ {A : Type 0} (field : List ℕ → Reading (A × List ℕ)) (total : Li
   abbrev behind : ℕ → List ℕ → Reading (List A × List ℕ)
   behind w rest = readMany field n rest then summed w
 
-  pub section-cut : {shows : List Bool → List A → Type 0} {after : List Bool} → length f < at + 2
+  section-cut : {shows : List Bool → List A → Type 0} {after : List Bool} → length f < at + 2
       → Marked (readSection field total n) shows f at (section.Refused 1) after
   section-cut h = marked-refused (wide-end f at behind h)
 
-  pub section-long : {shows : List Bool → List A → Type 0} {after : List Bool} → at + 1 < length f → entryLimit < wide f at
+  section-long : {shows : List Bool → List A → Type 0} {after : List Bool} → at + 1 < length f → entryLimit < wide f at
       → Marked (readSection field total n) shows f at (section.Refused 2) after
   section-long h k = marked-refused (wide-long f at behind h k)
 
   module _ (room : at + 1 < length f) (small : wide f at ≤ entryLimit) {shows : List Bool → List A → Type 0} {after : List Bool} where
-    pub section-refused : {m : ℕ} → Marked (readMany field n) shows f (at + 2) (section.Refused m) after
+    section-refused : {m : ℕ} → Marked (readMany field n) shows f (at + 2) (section.Refused m) after
         → Marked (readSection field total n) shows f at (section.Refused m) after
     section-refused c =
         marked-refused
@@ -119,7 +134,7 @@ module _ {A : Type 0} (field : List ℕ → Reading (A × List ℕ)) (total : Li
       found = given (place-read (each R (λ s x. 0) (λ s x. s) n tt) f (at + 2) isB (omega arith) (c .place)) (λ x.
           (x .value, x .is, x .size ∙ ap (λ k. at + 2 + k) (sizes (x .value) (x .fits .0)), x .within))
 
-      pub section-sum : end ≡ at + 2 + heads + wide f at → Marked (readSection field total n) shows f at (section.Read end) after
+      section-sum : end ≡ at + 2 + heads + wide f at → Marked (readSection field total n) shows f at (section.Read end) after
       section-sum e = given found (λ (ls, d, l, b).
           let t : wide f at ≡ total ls = omega arith in
           let p : end ≡ length f - length (drop end f) = simp length-drop (omega arith) in
@@ -130,8 +145,28 @@ module _ {A : Type 0} (field : List ℕ → Reading (A × List ℕ)) (total : Li
             marks = λ xs rest q. subst (shows after) (read-value (sym g ∙ q)) (c .marks ls (drop end f) d);
           })
 
-      pub section-uneven : (end ≡ at + 2 + heads + wide f at → ⊥) → Marked (readSection field total n) shows f at (section.Refused 7) after
+      section-uneven : (end ≡ at + 2 + heads + wide f at → ⊥) → Marked (readSection field total n) shows f at (section.Refused 7) after
       section-uneven e = given found (λ (ls, d, l, b).
           marked-refused
           (wide-goes f at behind room small ∙ ap (λ r. r then summed (wide f at)) d
           ∙ simp (ne-eqb (wide f at) (total ls) (λ (q : wide f at ≡ total ls). e (omega arith)))))
+
+  module _ (heads : ℕ) (r : Section) (told : Told f at heads r) {shows : List Bool → List A → Type 0} {after : List Bool} where
+    pub section-untold : {m : ℕ} → r ≡ section.Refused m → Marked (readSection field total n) shows f at r after
+    section-untold {m} q = marked-as (sym q) (⊎-elim
+        (λ (e, h). marked-as (ap section.Refused (sym e)) (section-cut h))
+        (λ (e, h, k). marked-as (ap section.Refused (sym e)) (section-long h k))
+        (subst (Told f at heads) q told))
+
+    pub section-ends : {write : A → List ℕ} {P : A → Type 0} → Reads field write P → T (isBytes f)
+        → ((ls : List A) → length ls ≡ n → length (gather write ls) ≡ heads + total ls)
+        → {end : ℕ} → r ≡ section.Read end → (s : Section) → Marked (readMany field n) shows f (at + 2) s after
+        → Marked (readSection field total n) shows f at (endedAt s end) after
+    section-ends R isB sizes {end} q = go (subst (Told f at heads) q told)
+      where
+        go : Told f at heads (section.Read end) → (s : Section) → Marked (readMany field n) shows f (at + 2) s after
+            → Marked (readSection field total n) shows f at (endedAt s end) after
+        go (h, k, e) (section.Refused m) c = section-refused h k c
+        go (h, k, e) (section.Read stop) c = by-eq stop end
+            (λ i t. rw t (section-sum h k R isB heads sizes c (i ∙ e)))
+            (λ i t. rw t (section-uneven h k R isB heads sizes c (λ z. i (z ∙ sym e))))

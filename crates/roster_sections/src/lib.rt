@@ -9,6 +9,7 @@ ghost use Rattle.model.specs.RosterFile.{readQuotas, readNodes, readList, readR
 ghost use Rattle.roster_reading.specs.Place.{placed};
 ghost use Rattle.roster_reading.specs.Field as field;
 ghost use Rattle.roster_reading.specs.Row.{Marked};
+ghost use Rattle.roster_reading.specs.Many.{Told, endedAt};
 ghost use Rattle.roster_reading.specs.Table.{ListsShown, RankingsShown};
 use limits::ENTRY_LIMIT;
 use limits::NODE_LIMIT;
@@ -53,11 +54,10 @@ pub fn wide(file: &[u8], at: usize) -> usize
     a + 256 * b
 }
 
-// The surveyors' lists: the count of all entries, n lists, and then "7 a section count that is not the sum of its lengths". The lists
-// take a length byte each beside their entries.
-pub fn lists_section(file: &[u8], at: usize, n: usize, count: u8, table: &mut [bool]) -> Section
-    requires { ⌜ (at ≤ length (now file)) × (n ≤ 32) × (n * 33 ≤ length (now table)) × (count < 33) × ListsShown (now table) [] ⌝ }
-    ensures { λ r. ⌜ Marked (readSection (readList count count) totalS n) ListsShown (now (file .entry)) at r (now (table .exit)) ⌝ }
+// The place behind a section, as its count says: two bytes of the count, the lists' length bytes, and as many entries.
+pub(crate) fn told_end(file: &[u8], at: usize, heads: usize) -> Section
+    requires { ⌜ (at ≤ length (now file)) × (heads ≤ 64) ⌝ }
+    ensures { λ r. ⌜ Told (now (file .entry)) at heads r ⌝ }
 {
     if file.len() - at < 2 {
         return Section::Refused(1);
@@ -66,15 +66,33 @@ pub fn lists_section(file: &[u8], at: usize, n: usize, count: u8, table: &mut [b
     if ENTRY_LIMIT < total {
         return Section::Refused(2);
     }
-    let start = at + 2;
-    let s = roster_lists::lists_at(file, start, n, count, table);
-    let Section::Read(end) = s else {
+    Section::Read(at + 2 + heads + total)
+}
+
+// "7 a section count that is not the sum of its lengths": what the lists answer, if they end at the place told.
+pub(crate) fn ended(s: Section, end: usize) -> Section
+    ensures { λ r. ⌜ r ≡ endedAt s end ⌝ }
+{
+    let Section::Read(stop) = s else {
         return s;
     };
-    if end == start + n + total {
+    if stop == end {
         return s;
     }
     Section::Refused(7)
+}
+
+// The surveyors' lists: the count of all entries and n lists, with a length byte each beside their entries.
+pub fn lists_section(file: &[u8], at: usize, n: usize, count: u8, table: &mut [bool]) -> Section
+    requires { ⌜ (at ≤ length (now file)) × (n ≤ 32) × (n * 33 ≤ length (now table)) × (count < 33) × ListsShown (now table) [] ⌝ }
+    ensures { λ r. ⌜ Marked (readSection (readList count count) totalS n) ListsShown (now (file .entry)) at r (now (table .exit)) ⌝ }
+{
+    let told = told_end(file, at, n);
+    let Section::Read(end) = told else {
+        return told;
+    };
+    let s = roster_lists::lists_at(file, at + 2, n, count, table);
+    ended(s, end)
 }
 
 // The stands' lists, likewise, with two length bytes each.
@@ -82,20 +100,10 @@ pub fn rankings_section(file: &[u8], at: usize, n: usize, count: u8, table: &mut
     requires { ⌜ (at ≤ length (now file)) × (n ≤ 32) × (n * 33 ≤ length (now table)) × (count < 33) × RankingsShown (now table) [] ⌝ }
     ensures { λ r. ⌜ Marked (readSection (readRanking count count) totalT n) RankingsShown (now (file .entry)) at r (now (table .exit)) ⌝ }
 {
-    if file.len() - at < 2 {
-        return Section::Refused(1);
-    }
-    let total = wide(file, at);
-    if ENTRY_LIMIT < total {
-        return Section::Refused(2);
-    }
-    let start = at + 2;
-    let s = roster_lists::rankings_at(file, start, n, count, table);
-    let Section::Read(end) = s else {
-        return s;
+    let told = told_end(file, at, 2 * n);
+    let Section::Read(end) = told else {
+        return told;
     };
-    if end == start + 2 * n + total {
-        return s;
-    }
-    Section::Refused(7)
+    let s = roster_lists::rankings_at(file, at + 2, n, count, table);
+    ended(s, end)
 }

@@ -1,72 +1,50 @@
--- `roster_sections::lists_section` meets its contract: the count, the lists, and the count again in the place behind them. Assumes nothing.
-use Prim.Native.Nat.{ℕ, _+_, _≤_}
+-- `roster_sections::lists_section` meets its contract: the count, the lists, and the place behind them. Assumes nothing.
+use Prim.Native.Nat.{ℕ, _+_}
 use native.Mathlib.Omega.{arith}
 use mathlib.Core.Path.{_≡_, sym}
 use mathlib.Core.List.{List}
 use lib.ListN.{length}
-use lib.Dec.{T}
 use borrow.Author.Needs.{needs}
 use Rattle.lists.specs.Keep.{gather}
-use Rattle.model.specs.Limits.{entryLimit}
 use Rattle.model.specs.Roster.{totalS}
 use Rattle.model.specs.RosterFile.{readList, listBytes}
-use Rattle.theory_files.specs.Reads.{isBytes}
 use Rattle.theory_files.specs.Sections.{list}
 use Rattle.theory_files.specs.Rosters.{lists-size}
 use Rattle.roster_reading.specs.Place.{bytes-of}
-use Rattle.roster_reading.specs.Field.{wide}
 use Rattle.roster_reading.specs.Row.{marked-as}
-use Rattle.roster_reading.specs.Many.{section-cut, section-long, section-refused, section-sum, section-uneven}
+use Rattle.roster_reading.specs.Many.{told-room, section-untold, section-ends}
 use Rattle.roster_sections.proofs.lists_section.Statement.{statement}
 use Rattle.roster_sections.proofs.lists_section.Tie as tie
+
+returns : tie.Need-returns
+returns c =
+    let s = c .before .before in
+    let a = s .before .before .before .args in
+    section-untold (readList (a .count) (a .count)) totalS (a .file .now) (a .at) (a .n) (a .n) (s .told-end .result) (s .told-end .ensures)
+    (c .enum-told .given .1)
+
+lists-at-requires : tie.Need-lists-at-requires
+lists-at-requires c κs =
+    let s = c .before .before .before .before in
+    let a = s .before .before .before .args in
+    let p = s .before .before .before .pre in
+    (told-room (a .file .now) (a .at) (a .n) (s .told-end .result) (s .told-end .ensures) (c .before .before .told .given .1), p .2, p .3, p .4)
 
 -- the bytes that lists take: their length bytes and their entries
 sizes-of : (n : ℕ) (ls : List (List ℕ)) → length ls ≡ n → length (gather listBytes ls) ≡ n + totalS ls
 sizes-of n ls h = omega (arith, lists-size ls)
 
-returns : tie.Need-returns
-returns c = let a = c .before .before .before .args in section-cut (readList (a .count) (a .count)) totalS (a .file .now) (a .at) (a .n) (omega arith)
-
 returns-2 : tie.Need-returns-2
 returns-2 c =
-    let a = c .before .before .before .before .before .args in
-    section-long (readList (a .count) (a .count)) totalS (a .file .now) (a .at) (a .n) (omega arith) (omega arith)
-
-returns-3 : tie.Need-returns-3
-returns-3 c =
-    let s = c .before .before .before .before .before .before .before .before .before .before .before in
-    let a = s .args in
-    let e = c .enum-told .given .1 in
-    marked-as (sym e)
-    (section-refused (readList (a .count) (a .count)) totalS (a .file .now) (a .at) (a .n) (omega arith) (omega arith)
-    (marked-as e (c .before .before .before .before .lists-at .ensures)))
-
-returns-4 : tie.Need-returns-4
-returns-4 c =
-    let s = c .before .before .before .before .before .before .before .before .before .before .before .before .before in
-    let a = s .args in
-    let isB : T (isBytes (a .file .now)) =
-    bytes-of (a .file .now)
-    (λ i. c .before .before .before .before .before .before .before .before .before .before .before .before .shared-slice-known .given i) in
-    let small : wide (a .file .now) (a .at) ≤ entryLimit = omega arith in
-    let e = c .before .before .s .given .1 in
-    section-sum (readList (a .count) (a .count)) totalS (a .file .now) (a .at) (a .n) (omega arith) small (list (a .count)) isB (a .n)
-    (sizes-of (a .n)) (marked-as e (c .before .before .before .before .before .before .lists-at .ensures)) (omega arith)
-
-returns-5 : tie.Need-returns-5
-returns-5 c =
-    let s = c .before .before .before .before .before .before .before .before .before .before .before .before .before in
-    let a = s .args in
-    let isB : T (isBytes (a .file .now)) =
-    bytes-of (a .file .now)
-    (λ i. c .before .before .before .before .before .before .before .before .before .before .before .before .shared-slice-known .given i) in
-    let small : wide (a .file .now) (a .at) ≤ entryLimit = omega arith in
-    let e = c .before .before .s .given .1 in
-    section-uneven (readList (a .count) (a .count)) totalS (a .file .now) (a .at) (a .n) (omega arith) small (list (a .count)) isB (a .n)
-    (sizes-of (a .n)) (marked-as e (c .before .before .before .before .before .before .lists-at .ensures)) (λ q. c .if3 .left (omega arith))
+    let d = c .before .before .before .before .before .before in
+    let s = d .before .before in
+    let a = s .before .before .before .args in
+    marked-as (sym (c .ended .ensures))
+    (section-ends (readList (a .count) (a .count)) totalS (a .file .now) (a .at) (a .n) (a .n) (s .told-end .result) (s .told-end .ensures)
+    (list (a .count)) (bytes-of (a .file .now) (s .before .before .shared-slice-known .given)) (sizes-of (a .n)) (d .told .given .1)
+    (c .before .before .before .lists-at .result) (c .before .before .before .lists-at .ensures))
 
 pub lists-section-spec : {M : Type 1} → statement M
 lists-section-spec =
-    tie.close (tie.spec (λ c. search needs) returns (λ c κs. search needs) returns-2 (λ c. search needs) (λ c κs. search needs)
-    (λ c. search needs) (λ c. search needs) (λ c. search needs) returns-3 (λ c. search needs) (λ c. search needs) (λ c. search needs)
-    returns-4 (λ c. search needs) returns-5)
+    tie.close (tie.spec (λ c κs. search needs) (λ c. search needs) (λ c. search needs) returns (λ c. search needs) lists-at-requires
+    (λ c κs. search needs) (λ c. search needs) returns-2)
