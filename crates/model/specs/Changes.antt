@@ -4,25 +4,29 @@ use Prim.Native.Nat.{ℕ, suc, _+_, _-_}
 use mathlib.Core.Bool.{Bool, not, cond, _&&_, _||_}
 use mathlib.Core.List.{List, [], _∷_, _++_, map}
 use lib.Dec.{eqb, leb, ltb}
-use lib.ListN.{set}
+use lib.ListN.{length, set}
 use Rattle.lists.specs.Sum.{sum}
-use Rattle.lists.specs.Keep.{keep}
-use Rattle.model.specs.Limits.{nodeLimit, quotaLimit, quotaSumLimit}
+use Rattle.lists.specs.Keep.{keep, any?, gather}
+use Rattle.model.specs.Limits.{nodeLimit, quotaLimit, quotaSumLimit, listLimit}
 use Rattle.model.specs.Instance.{Instance}
 use Rattle.model.specs.Plans.{Plan, on}
 use Rattle.model.specs.Reading.{Reading, accepted, refused, whole}
-use Rattle.model.specs.Roster.{Ranking, Roster, surveyorCount, standCount, elem, outside}
-use Rattle.model.specs.RosterFile.{readList}
-use Rattle.model.specs.PlanFile.{planOf, edgeOfPair}
+use Rattle.model.specs.Roster.{Entry, Ranking, Roster, surveyorCount, standCount, entries, has, shifts, outside}
+use Rattle.model.specs.RosterFile.{shifted, readList}
+use Rattle.model.specs.PlanFile.{planOf, nameOf, edgeOfPair}
 
 -- ---- a joiner
+-- W-204: "the joiner's entries join a stand's tie in shift order": those at stand j
+abbrev pub joinerAt : (joiner : ℕ) (list : List Entry) → ℕ → List Entry
+joinerAt s list j = gather (λ k. cond (has (record { number = j; shift = k }) list) (record { number = s; shift = k } ∷ []) []) shifts
+
 -- "enters each listed stand's tie at its end": the stands from number j on
-abbrev pub entered : (joiner : ℕ) (list : List ℕ) → ℕ → List Ranking → List Ranking
+abbrev pub entered : (joiner : ℕ) (list : List Entry) → ℕ → List Ranking → List Ranking
 entered s list j [] = []
-entered s list j (R ∷ Rs) = cond (elem j list) (record { strict = R .strict; tied = R .tied ++ s ∷ [] }) R ∷ entered s list (suc j) Rs
+entered s list j (R ∷ Rs) = record { strict = R .strict; tied = R .tied ++ joinerAt s list j } ∷ entered s list (suc j) Rs
 
 -- "A joiner brings a quota and (..) one stand list (..), takes the number after the highest"
-unfoldable pub joined : Roster → (quota : ℕ) → (list : List ℕ) → Roster
+unfoldable pub joined : Roster → (quota : ℕ) → (list : List Entry) → Roster
 joined r q list = record {
   quotasS = r .quotasS ++ q ∷ [];
   quotasT = r .quotasT;
@@ -34,18 +38,23 @@ joined r q list = record {
 abbrev pub noPlace : Roster → ℕ → Bool
 noPlace r q = leb nodeLimit (surveyorCount r) || ltb quotaSumLimit (sum (λ x. x) (r .quotasS) + q)
 
-abbrev pub joinedBy : Roster → ℕ → Reading (List ℕ) → Reading Roster
-joinedBy r q (accepted list) = accepted (joined r q list)
+-- W-204: "A joiner's entry that takes a stand's list past 32 meets 2, after all checks of the joiner's own list."
+abbrev pub tooLong : Roster → Bool
+tooLong r = any? (λ R. ltb listLimit (length (entries R))) (r .listsT)
+
+abbrev pub joinedBy : Roster → ℕ → Reading (List Entry) → Reading Roster
+joinedBy r q (accepted list) = cond (tooLong (joined r q list)) (refused 2) (accepted (joined r q list))
 joinedBy r q (refused n) = refused n
 
--- "A joiner's quota above 8 meets 3 straight after 15; a bad list meets 1, 2, 4, 5 and 9 in document 01's order"; 17 "before the list is read"
+-- "A joiner's quota above 8 meets 3 straight after 15; a bad list meets 1, 2, 4, 5 and 9 in document 01's order", and
+-- 18 after 4 (W-204); 17 "before the list is read"
 unfoldable pub joinOn : Roster → (quota : ℕ) → (file : List ℕ) → Reading Roster
 joinOn r q file = cond (ltb quotaLimit q) (refused 3)
-    (cond (noPlace r q) (refused 17) (joinedBy r q (whole (readList (standCount r) (standCount r) file))))
+    (cond (noPlace r q) (refused 17) (joinedBy r q (whole (readList shifted listLimit (standCount r) file))))
 
 -- ---- a leaver
-abbrev pub without : ℕ → List ℕ → List ℕ
-without s xs = keep (λ x. not (eqb s x)) xs
+abbrev pub without : ℕ → List Entry → List Entry
+without s xs = keep (λ x. not (eqb s (x .number))) xs
 
 -- "A leaver keeps the number, with quota zero and no pairs"
 unfoldable pub departed : Roster → (number : ℕ) → Roster
@@ -63,7 +72,7 @@ leaveOn r s = cond (outside (surveyorCount r) s) (refused 16) (accepted (departe
 -- ---- the held plan
 -- "The held plan loses the leaver's pairs": the pairs of a plan of G that H still has
 abbrev pub sameEdge : Instance → Instance → ℕ → ℕ
-sameEdge G H e = edgeOfPair G (suc (H .sv e), suc (H .st e))
+sameEdge G H e = edgeOfPair G (nameOf H e)
 
 unfoldable pub carried : Instance → Instance → Plan → Plan
 carried G H M = planOf (H .m) (λ e. ltb (sameEdge G H e) (G .m) && on M (sameEdge G H e))

@@ -31,7 +31,7 @@ pub data Claim : Type 0 where
   judged : List ℕ → Verdict → Claim  -- the verdict on a plan
   rivals : List ℕ → List (List ℕ) → Claim  -- all plans that may be named as its rival
   blocked : List ℕ → Bool → Claim  -- whether it has a blocking pair
-  blockedAt : List ℕ → (surveyor stand : ℕ) → Claim  -- the numbers of the one that is named
+  blockedAt : List ℕ → (surveyor stand shift : ℕ) → Claim  -- the numbers of the one that is named
   cutTo : ℕ → ℕ → Claim  -- a stand's quota as the first step cuts it
 
 pub record Case : Type 0 where
@@ -88,7 +88,8 @@ holdsOf G (standVotes t a b v) = onPlan (readPlan G a) (λ M. onPlan (readPlan G
 holdsOf G (judged a v) = onPlan (readPlan G a) (λ M. sameVerdict (verdictOf G M) v)
 holdsOf G (rivals a bs) = onPlan (readPlan G a) (λ M. sameFiles (map (planBytes G) (allowed G M)) bs)
 holdsOf G (blocked a b) = onPlan (readPlan G a) (λ M. alike (someBlocks G (on M)) b)
-holdsOf G (blockedAt a s t) = onPlan (readPlan G a) (λ M. let e = topBlocking G (on M) in eqb (suc (G .sv e)) s && eqb (suc (G .st e)) t)
+holdsOf G (blockedAt a s t k) =
+    onPlan (readPlan G a) (λ M. let e = topBlocking G (on M) in eqb (suc (G .sv e)) s && (eqb (suc (G .st e)) t && eqb (G .sh e) k))
 holdsOf G (cutTo t q) = eqb (cutT G (begin G) t) q
 
 abbrev onRoster : Reading Roster → Claim → Bool
@@ -103,7 +104,7 @@ holds file (standVotes t a b v) = onRoster (readRoster file) (standVotes t a b v
 holds file (judged a v) = onRoster (readRoster file) (judged a v)
 holds file (rivals a bs) = onRoster (readRoster file) (rivals a bs)
 holds file (blocked a b) = onRoster (readRoster file) (blocked a b)
-holds file (blockedAt a s t) = onRoster (readRoster file) (blockedAt a s t)
+holds file (blockedAt a s t k) = onRoster (readRoster file) (blockedAt a s t k)
 holds file (cutTo t q) = onRoster (readRoster file) (cutTo t q)
 
 abbrev pub isTrue : Case → Bool

@@ -37,7 +37,7 @@ pub data Held : Type 0 where
 abbrev pub opening : Held
 opening = nothing
 
--- the calls, with the files and buffers lent to them. The left pairs' buffer is bytes, two for each of its 1,024 entries; the finder's
+-- the calls, with the files and buffers lent to them. The left pairs' buffer is bytes, three for each of its 1,024 entries; the finder's
 -- plan and its candidate share one buffer, as there is never more than one of them.
 pub data Call : Type 0 where
   loadRoster : (file : List ℕ) → Call
@@ -67,7 +67,7 @@ pub data Answer : Type 0 where
   beaten : ℤ → Answer
   votes : ℤ → ℤ → Winner → Part → Answer  -- the comparison's
   refusedPart : ℕ → Group → Part → Answer
-  blockedBy : (surveyor stand : ℕ) → Answer  -- yes, with the pair
+  blockedBy : (surveyor stand shift : ℕ) → Answer  -- yes, with the pair
   unblocked : Answer
 
 -- "13, 14, 15 come first, in that order": what a call needs
@@ -95,8 +95,8 @@ needsPlan (judge v) = true
 needsPlan (compare a b) = false
 needsPlan blocking = true
 
--- "a buffer for a plan, candidate or rival needs 129 bytes, for a roster 2,214, the diary and the left pairs 1,024 entries each, however
--- little is written"
+-- "a buffer for a plan, candidate or rival needs" 193 bytes, "for a roster" 4,262 (W-204), "the diary and the left pairs 1,024 entries
+-- each, however little is written"
 abbrev pub short : List ℕ → ℕ → Bool
 short buffer size = ltb (length buffer) size
 
@@ -179,7 +179,7 @@ comparisonAnswer p (C.refused n) = refusedPart n (groupOf n) p
 
 -- "The answer is yes with some such pair, or no": the pair is edge e, W-201's first one
 abbrev pub blockingAnswer : Instance → (e : ℕ) → Bool → Answer
-blockingAnswer G e true = blockedBy (suc (G .sv e)) (suc (G .st e))
+blockingAnswer G e true = blockedBy (suc (G .sv e)) (suc (G .st e)) (G .sh e)
 blockingAnswer G e false = unblocked
 
 -- "with no winner, and on a refusal, the part is empty, taken from the first file"

@@ -13,12 +13,13 @@ use Rattle.model.specs.Plans.{Plan, plansOf, samePlan, Verdict, strong, 
 use Rattle.model.specs.Reduction.{Fate, fix, strike, Step, stepsOf, endOf}
 use Rattle.model.specs.PlanFile.{edgesIn, planOf}
 
--- "The diary is a lent list of step records: fate, surveyor, stand, rule." Fate 1 is fix and 2 strike; the other three are document
--- 01's numbers, so the surveyor and the stand count from 1.
+-- "The diary is a lent list of step records: fate, surveyor, stand, rule", with "the shift after the stand" (W-204). Fate 1 is fix and 2
+-- strike; the others are document 01's numbers, so the surveyor and the stand count from 1.
 pub record Record : Type 0 where
   pub fate : ℕ
   pub surveyor : ℕ
   pub stand : ℕ
+  pub shift : ℕ
   pub rule : ℕ
 
 abbrev pub fateNumber : Fate → ℕ
@@ -26,7 +27,13 @@ fateNumber fix = 1
 fateNumber strike = 2
 
 abbrev pub recordOf : Instance → Step → Record
-recordOf G x = record { fate = fateNumber (x .fate); surveyor = suc (G .sv (x .edge)); stand = suc (G .st (x .edge)); rule = x .rule }
+recordOf G x = record {
+  fate = fateNumber (x .fate);
+  surveyor = suc (G .sv (x .edge));
+  stand = suc (G .st (x .edge));
+  shift = G .sh (x .edge);
+  rule = x .rule;
+}
 
 unfoldable pub diaryOf : Instance → List Record
 diaryOf G = map (recordOf G) (stepsOf G)

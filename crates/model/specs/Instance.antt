@@ -12,6 +12,7 @@ pub record Instance : Type 0 where
   pub nt : ℕ
   pub sv : ℕ → ℕ  -- an edge's surveyor, its stand
   pub st : ℕ → ℕ
+  pub sh : ℕ → ℕ  -- its shift: files tell edges apart by it, votes and rules never look at it
   pub rankS : ℕ → ℕ  -- its rank at the surveyor, at the stand: the less the better
   pub rankT : ℕ → ℕ
   pub tied : ℕ → Bool  -- tied at its stand

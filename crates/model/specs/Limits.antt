@@ -16,32 +16,43 @@ quotaSumLimit = 64
 abbrev pub entryLimit : ℕ
 entryLimit = 1024
 
+-- W-204: "A list may now be longer than the other side's count, but has at most 32 entries."
+abbrev pub listLimit : ℕ
+listLimit = 32
+
+-- W-204: "a shift byte, 1 to 3"
+abbrev pub shiftLimit : ℕ
+shiftLimit = 3
+
 -- a plan's "count byte 0 to 64"
 abbrev pub planLimit : ℕ
 planLimit = 64
 
--- "two bytes a pair (surveyor, stand)"
+-- an entry's bytes: "a shift byte, 1 to 3, after its number"; a pair's: surveyor, stand, shift
+abbrev pub entryWidth : ℕ
+entryWidth = 2
+
 abbrev pub pairWidth : ℕ
-pairWidth = 2
+pairWidth = 3
 
 -- "an empty place has rank 33"
 abbrev pub emptyRank : ℕ
 emptyRank = 33
 
--- "a buffer for a plan, candidate or rival needs 129 bytes, for a roster 2,214, the diary and the left pairs 1,024 entries each"
+-- W-204: "Plans of up to 64 entries now need 193 bytes, rosters 4,262"; "the diary and the left pairs 1,024 entries each"
 abbrev pub planSize : ℕ
-planSize = 129
+planSize = 193
 
 abbrev pub rosterSize : ℕ
-rosterSize = 2214
+rosterSize = 4262
 
 abbrev pub diarySize : ℕ
 diarySize = 1024
 
--- 1,024 entries of two bytes, a pair each
+-- 1,024 entries of three bytes, a pair each
 abbrev pub leftSize : ℕ
-leftSize = 2048
+leftSize = 3072
 
--- "a roster of at most 2,215 bytes from standard input"
+-- W-204: "the program reads at most 4,263"
 abbrev pub inputSize : ℕ
-inputSize = 2215
+inputSize = 4263

@@ -1,7 +1,6 @@
--- Plan bytes, read against the instance of a roster and written: "a count byte 0 to 64, then two bytes a pair (surveyor, stand),
--- ascending by surveyor, then by stand. Every pair is in the roster and no quota is passed." An edge stands for its pair: the edges of a
--- roster differ in their pairs and are numbered in the pairs' order, so that 10, 11 and 12, said of edges here, are the same said of
--- pairs (theory_files, plan-refusals).
+-- Plan bytes, read against the instance of a roster, whose edges differ in their pairs and are numbered in the pairs' order, and
+-- written: "a count byte 0 to 64, then" three bytes a pair (surveyor, stand, shift), ascending by these. "Every pair is in the roster and
+-- no quota is passed."
 use Prim.Native.Nat.{ℕ, suc}
 use mathlib.Core.Bool.{Bool, cond, _&&_, _||_}
 use mathlib.Core.List.{List, [], _∷_, _++_, map}
@@ -12,15 +11,41 @@ use Rattle.lists.specs.Sum.{sum, range}
 use Rattle.lists.specs.Keep.{keep, gather}
 use Rattle.lists.specs.Search.{low}
 use Rattle.model.specs.Limits.{planLimit}
-use Rattle.model.specs.Reading.{Reading, accepted, _then_, twoBytes, readEach, whole}
+use Rattle.model.specs.Reading.{Reading, accepted, refused, _then_, twoBytes, readEach, whole}
 use Rattle.model.specs.RosterFile.{readCount}
 use Rattle.model.specs.Roster.{elem}
 use Rattle.model.specs.Instance.{Instance, Side, surveyors, stands}
 use Rattle.model.specs.Plans.{Plan, on}
 
--- a pair's two bytes: the numbers of its surveyor and its stand
-abbrev pub pairBytes : Instance → ℕ → List ℕ
-pairBytes G e = suc (G .sv e) ∷ suc (G .st e) ∷ []
+-- a pair's three numbers, as files have them
+pub record Named : Type 0 where
+  pub surveyor : ℕ
+  pub stand : ℕ
+  pub shift : ℕ
+
+abbrev pub nameOf : Instance → ℕ → Named
+nameOf G e = record { surveyor = suc (G .sv e); stand = suc (G .st e); shift = G .sh e }
+
+abbrev pub sameName : Named → Named → Bool
+sameName p q = eqb (p .surveyor) (q .surveyor) && (eqb (p .stand) (q .stand) && eqb (p .shift) (q .shift))
+
+-- ---- how a pair stands in a file: "a plan pair, with its shift is one field"
+pub record PairLayout : Type 0 where
+  pub field : List ℕ → Reading (Named × List ℕ)
+  pub bytes : Named → List ℕ
+
+abbrev pub threeBytes : List ℕ → Reading (Named × List ℕ)
+threeBytes [] = refused 1
+threeBytes (x ∷ []) = refused 1
+threeBytes (x ∷ y ∷ []) = refused 1
+threeBytes (x ∷ y ∷ z ∷ bs) = accepted (record { surveyor = x; stand = y; shift = z }, bs)
+
+abbrev pub shiftedPair : PairLayout
+shiftedPair = record { field = threeBytes; bytes = λ p. p .surveyor ∷ p .stand ∷ p .shift ∷ [] }
+
+-- "an old one with shift 1"
+abbrev pub plainPair : PairLayout
+plainPair = record { field = λ bs. twoBytes bs then (λ w rest. accepted (record { surveyor = w .0; stand = w .1; shift = 1 }, rest)); bytes = λ p. p .surveyor ∷ p .stand ∷ [] }
 
 -- the edges of a plan, ascending; the plan of some edges
 abbrev pub edgesIn : ℕ → (ℕ → Bool) → List ℕ
@@ -29,16 +54,26 @@ edgesIn m p = keep p (range 0 m)
 abbrev pub planOf : ℕ → (ℕ → Bool) → Plan
 planOf m p = map p (range 0 m)
 
-abbrev pub pairList : Instance → List ℕ → List ℕ
-pairList G es = gather (pairBytes G) es
+-- ---- written
+abbrev pub pairListBy : PairLayout → Instance → List ℕ → List ℕ
+pairListBy L G es = gather (λ e. L .bytes (nameOf G e)) es
 
-unfoldable pub planBytes : Instance → Plan → List ℕ
-planBytes G M = length (edgesIn (G .m) (on M)) ∷ pairList G (edgesIn (G .m) (on M))
+unfoldable pub planBytesBy : PairLayout → Instance → Plan → List ℕ
+planBytesBy L G M = length (edgesIn (G .m) (on M)) ∷ pairListBy L G (edgesIn (G .m) (on M))
+
+abbrev pub pairBytes : Instance → ℕ → List ℕ
+pairBytes G e = shiftedPair .bytes (nameOf G e)
+
+abbrev pub pairList : Instance → List ℕ → List ℕ
+pairList G es = pairListBy shiftedPair G es
+
+abbrev pub planBytes : Instance → Plan → List ℕ
+planBytes G M = planBytesBy shiftedPair G M
 
 -- ---- read
--- the edge that two bytes name; m if there is none
-unfoldable pub edgeOfPair : Instance → ℕ × ℕ → ℕ
-edgeOfPair G p = low (λ e. eqb (suc (G .sv e)) (p .0) && eqb (suc (G .st e)) (p .1)) (G .m)
+-- the edge that three numbers name; m if there is none
+unfoldable pub edgeOfPair : Instance → Named → ℕ
+edgeOfPair G p = low (λ e. sameName (nameOf G e) p) (G .m)
 
 -- the edges already read fill the quota of e's end
 abbrev pub full : Side → List ℕ → ℕ → Bool
@@ -49,20 +84,23 @@ pub record Pairs : Type 0 where
   pub seen : List ℕ
   pub from : ℕ
 
--- "10 a plan pair not in the roster", "11 plan pairs not strictly ascending", "12 a pair that takes a node past its quota"
-abbrev pub pairCheck : Instance → Pairs → ℕ × ℕ → ℕ
+-- "10 a plan pair not in the roster" (a shift outside 1 to 3 is in none), "11 plan pairs not strictly ascending", "12 a pair that takes a node past its quota"
+abbrev pub pairCheck : Instance → Pairs → Named → ℕ
 pairCheck G s p = cond (leb (G .m) (edgeOfPair G p)) 10 (cond (ltb (edgeOfPair G p) (s .from)) 11
     (cond (full (surveyors G) (s .seen) (edgeOfPair G p) || full (stands G) (s .seen) (edgeOfPair G p)) 12 0))
 
-abbrev pub withPair : Instance → Pairs → ℕ × ℕ → Pairs
+abbrev pub withPair : Instance → Pairs → Named → Pairs
 withPair G s p = record { seen = s .seen ++ edgeOfPair G p ∷ []; from = suc (edgeOfPair G p) }
 
 -- "a pair being one field"
-abbrev pub readPairs : Instance → ℕ → List ℕ → Reading ((List (ℕ × ℕ)) × List ℕ)
-readPairs G n bs = readEach twoBytes (pairCheck G) (withPair G) n (record { seen = []; from = 0 }) bs
+abbrev pub readPairsBy : PairLayout → Instance → ℕ → List ℕ → Reading (List Named × List ℕ)
+readPairsBy L G n bs = readEach (L .field) (pairCheck G) (withPair G) n (record { seen = []; from = 0 }) bs
 
-abbrev pub planOfPairs : Instance → List (ℕ × ℕ) → Plan
+abbrev pub planOfPairs : Instance → List Named → Plan
 planOfPairs G ps = planOf (G .m) (λ e. elem e (map (edgeOfPair G) ps))
 
-unfoldable pub readPlan : Instance → List ℕ → Reading Plan
-readPlan G bs = whole (readCount planLimit bs then readPairs G then (λ ps rest. accepted (planOfPairs G ps, rest)))
+unfoldable pub readPlanBy : PairLayout → Instance → List ℕ → Reading Plan
+readPlanBy L G bs = whole (readCount planLimit bs then readPairsBy L G then (λ ps rest. accepted (planOfPairs G ps, rest)))
+
+abbrev pub readPlan : Instance → List ℕ → Reading Plan
+readPlan G bs = readPlanBy shiftedPair G bs

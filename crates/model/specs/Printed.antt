@@ -39,18 +39,18 @@ line [] = 10 ∷ []
 line (x ∷ []) = x ++ 10 ∷ []
 line (x ∷ y ∷ xs) = x ++ 32 ∷ line (y ∷ xs)
 
--- "Diary lines are fate, surveyor, stand, rule"
+-- "Diary lines are fate, surveyor, stand, rule", and all lines "carry the shift after the stand" (W-204)
 abbrev pub fateWord : ℕ → List ℕ
 fateWord zero = []
 fateWord (suc zero) = text "fix"
 fateWord (suc (suc n)) = text "strike"
 
 abbrev pub diaryLine : Record → List ℕ
-diaryLine x = line (fateWord (x .fate) ∷ number (x .surveyor) ∷ number (x .stand) ∷ number (x .rule) ∷ [])
+diaryLine x = line (fateWord (x .fate) ∷ number (x .surveyor) ∷ number (x .stand) ∷ number (x .shift) ∷ number (x .rule) ∷ [])
 
 -- "Pair lines are surveyor, stand; K counts them", after a line of a word and K
 abbrev pub pairLine : Instance → ℕ → List ℕ
-pairLine G e = line (number (suc (G .sv e)) ∷ number (suc (G .st e)) ∷ [])
+pairLine G e = line (number (suc (G .sv e)) ∷ number (suc (G .st e)) ∷ number (G .sh e) ∷ [])
 
 abbrev pub pairLines : Instance → List ℕ → List ℕ
 pairLines G es = gather (pairLine G) es
@@ -77,6 +77,6 @@ abbrev pub answerText : Reading Roster → (Instance → Plan → Plan) → List
 answerText (accepted r) rivalOf = gather diaryLine (diaryOf (instanceOf r)) ++ ending (instanceOf r) (finderOf (instanceOf r) (rivalOf (instanceOf r)))
 answerText (refused n) rivalOf = line (text "refused" ∷ number n ∷ groupWord (groupOf n) ∷ [])
 
--- "It reads a roster of at most 2,215 bytes from standard input and prints the finder's answer."
+-- "It reads a roster of at most" 4,263 bytes (W-204) "from standard input and prints the finder's answer."
 unfoldable pub printed : (Instance → Plan → Plan) → List ℕ → List ℕ
 printed rivalOf input = answerText (readRoster (take inputSize input)) rivalOf

@@ -4,11 +4,11 @@ use Prim.Native.Nat.{ℕ, _+_, _*_, _/_, _%_}
 use mathlib.Core.Bool.{not, cond, _||_}
 use mathlib.Core.List.{List, [], _∷_, _++_}
 use lib.ListN.{length}
-use lib.Dec.{eqb, leb, ltb}
+use lib.Dec.{eqb, ltb}
 use Rattle.lists.specs.Keep.{gather}
-use Rattle.model.specs.Limits.{nodeLimit, quotaLimit, quotaSumLimit, entryLimit}
-use Rattle.model.specs.Reading.{Reading, accepted, _then_, refuseIf, byte, twoBytes, readEach, refused, whole}
-use Rattle.model.specs.Roster.{Ranking, Roster, entries, elem, outside, totalS, totalT, bothOrNeither}
+use Rattle.model.specs.Limits.{nodeLimit, quotaLimit, quotaSumLimit, entryLimit, listLimit, shiftLimit}
+use Rattle.model.specs.Reading.{Reading, accepted, refused, _then_, refuseIf, byte, twoBytes, readEach, whole}
+use Rattle.model.specs.Roster.{Entry, Ranking, Roster, entries, has, before, noEntry, outside, totalS, totalT, bothOrNeither}
 
 -- "2 a count or list length above its limit"
 abbrev pub readCount : ℕ → List ℕ → Reading (ℕ × List ℕ)
@@ -29,34 +29,44 @@ readQuotas n bs = readEach byte quotaCheck (λ so q. so + q) n 0 bs
 abbrev pub readNodes : List ℕ → Reading (List ℕ × List ℕ)
 readNodes bs = readCount nodeLimit bs then readQuotas
 
--- "4 a list entry that is 0 or above the other side's count"; "5 an entry twice in one list": among those before it
-abbrev pub entryCheck : (other : ℕ) (seen : List ℕ) → ℕ → ℕ
-entryCheck other seen x = cond (outside other x) 4 (cond (elem x seen) 5 0)
+-- ---- how an entry stands in a file, and how long a list may be where the other side has so many
+pub record Layout : Type 0 where
+  pub field : List ℕ → Reading (Entry × List ℕ)
+  pub bytes : Entry → List ℕ
+  pub longest : ℕ → ℕ
 
-abbrev pub readEntries : (other : ℕ) → ℕ → List ℕ → Reading (List ℕ × List ℕ)
-readEntries other n bs = readEach byte (entryCheck other) (λ seen x. seen ++ x ∷ []) n [] bs
+-- "An entry .. with its shift is one field"; "has at most 32 entries"
+abbrev pub shifted : Layout
+shifted = record {
+  field = λ bs. twoBytes bs then (λ w rest. accepted (record { number = w .0; shift = w .1 }, rest));
+  bytes = λ x. x .number ∷ x .shift ∷ [];
+  longest = λ count. listLimit;
+}
+
+-- a file from before the shifts: "shift 1 throughout"; "an old roster keeps the list limit from before W-204"
+abbrev pub plain : Layout
+plain = record {
+  field = λ bs. byte bs then (λ n rest. accepted (record { number = n; shift = 1 }, rest));
+  bytes = λ x. x .number ∷ [];
+  longest = λ count. count;
+}
+
+-- "4 a list entry that is 0 or above the other side's count"; "a shift outside 1 to 3 in a list (18, straight after 4)"
+abbrev pub entryRefusal : (other : ℕ) → Entry → ℕ → ℕ
+entryRefusal other x n = cond (outside other (x .number)) 4 (cond (outside shiftLimit (x .shift)) 18 n)
+
+-- "5 an entry twice in one list": among those before it
+abbrev pub entryCheck : (other : ℕ) (seen : List Entry) → Entry → ℕ
+entryCheck other seen x = entryRefusal other x (cond (has x seen) 5 0)
 
 -- a tie goes on in the same list, behind its strict entries, which count as seen, and must also ascend: "6 a tie that does not
--- ascend". Each tied entry is above the one before it, the first above 0, that is, above none.
+-- ascend". Each tied entry is behind the one before it, the first behind none.
 pub record Tie : Type 0 where
-  pub seen : List ℕ
-  pub last : ℕ
+  pub seen : List Entry
+  pub last : Entry
 
-abbrev pub tiedCheck : (other : ℕ) → Tie → ℕ → ℕ
-tiedCheck other s x = cond (outside other x) 4 (cond (elem x (s .seen)) 5 (cond (leb x (s .last)) 6 0))
-
-abbrev pub readTied : (other : ℕ) (strict : List ℕ) → ℕ → List ℕ → Reading (List ℕ × List ℕ)
-readTied other strict n bs = readEach byte (tiedCheck other) (λ s x. record { seen = s .seen ++ x ∷ []; last = x }) n (record { seen = strict; last = 0 }) bs
-
--- "a length byte and stand numbers, best first"; a list has at most `longest` entries and numbers up to `other`
-abbrev pub readList : (longest other : ℕ) → List ℕ → Reading (List ℕ × List ℕ)
-readList longest other bs = readCount longest bs then readEntries other
-
--- "the strict length byte, the tie length byte, the strict surveyors best first, the tied ones ascending"; "A stand's two lengths
--- are read, then their sum is checked."
-abbrev pub readRanking : (longest other : ℕ) → List ℕ → Reading (Ranking × List ℕ)
-readRanking longest other bs = byte bs then (λ a rest. byte rest then (λ b rest. refuseIf (ltb longest (a + b)) 2
-    (readEntries other a rest then (λ xs rest. readTied other xs b rest then (λ ys rest. accepted (record { strict = xs; tied = ys }, rest))))))
+abbrev pub tiedCheck : (other : ℕ) → Tie → Entry → ℕ
+tiedCheck other s x = entryRefusal other x (cond (has x (s .seen)) 5 (cond (before (s .last) x) 0 6))
 
 -- n lists, one after another, with nothing to check between them
 abbrev pub readMany : {A : Type 0} → (List ℕ → Reading (A × List ℕ)) → ℕ → List ℕ → Reading (List A × List ℕ)
@@ -66,32 +76,60 @@ readMany {A} field n bs = readEach {S = Unit {0}} {A = A} field (λ s x. 0) (λ 
 abbrev pub readSection : {A : Type 0} → (List ℕ → Reading (A × List ℕ)) → (List A → ℕ) → ℕ → List ℕ → Reading (List A × List ℕ)
 readSection f total n bs = readWideCount bs then (λ w rest. readMany f n rest then (λ xs rest. refuseIf (not (eqb w (total xs))) 7 (accepted (xs, rest))))
 
--- the four sections in their order
-abbrev pub readSections : List ℕ → Reading (Roster × List ℕ)
-readSections bs = readNodes bs then (λ qs rest. readNodes rest then (λ qt rest.
-    readSection (readList (length qt) (length qt)) totalS (length qs) rest then (λ ls rest.
-    readSection (readRanking (length qs) (length qs)) totalT (length qt) rest then (λ ts rest.
-    accepted (record { quotasS = qs; quotasT = qt; listsS = ls; listsT = ts }, rest)))))
-
 -- "8 a pair listed by one side only", after 9
 abbrev pub oneSided : Reading Roster → Reading Roster
 oneSided (accepted r) = cond (bothOrNeither r) (accepted r) (refused 8)
 oneSided (refused n) = refused n
 
-unfoldable pub readRoster : List ℕ → Reading Roster
-readRoster bs = oneSided (whole (readSections bs))
-
--- ---- written
+-- ---- written: a count of two bytes, quotas
 abbrev pub wideBytes : ℕ → List ℕ
 wideBytes n = n % 256 ∷ n / 256 ∷ []
 
 abbrev pub listBytes : List ℕ → List ℕ
 listBytes xs = length xs ∷ xs
 
-abbrev pub rankingBytes : Ranking → List ℕ
-rankingBytes R = length (R .strict) ∷ length (R .tied) ∷ entries R
+-- ---- all that depends on the layout
+module _ (L : Layout) where
+  abbrev pub readEntries : (other : ℕ) → ℕ → List ℕ → Reading (List Entry × List ℕ)
+  readEntries other n bs = readEach (L .field) (entryCheck other) (λ seen x. seen ++ x ∷ []) n [] bs
 
-unfoldable pub writeRoster : Roster → List ℕ
-writeRoster r = listBytes (r .quotasS) ++ (listBytes (r .quotasT)
-    ++ ((wideBytes (totalS (r .listsS)) ++ gather listBytes (r .listsS))
-    ++ (wideBytes (totalT (r .listsT)) ++ gather rankingBytes (r .listsT))))
+  abbrev pub readTied : (other : ℕ) (strict : List Entry) → ℕ → List ℕ → Reading (List Entry × List ℕ)
+  readTied other strict n bs = readEach (L .field) (tiedCheck other) (λ s x. record { seen = s .seen ++ x ∷ []; last = x }) n (record { seen = strict; last = noEntry }) bs
+
+  -- "a length byte and stand numbers, best first"; a list has at most `longest` entries and numbers up to `other`
+  abbrev pub readList : (longest other : ℕ) → List ℕ → Reading (List Entry × List ℕ)
+  readList longest other bs = readCount longest bs then readEntries other
+
+  -- "the strict length byte, the tie length byte, the strict surveyors best first, the tied ones ascending"; "A stand's two lengths
+  -- are read, then their sum is checked."
+  abbrev pub readRanking : (longest other : ℕ) → List ℕ → Reading (Ranking × List ℕ)
+  readRanking longest other bs = byte bs then (λ a rest. byte rest then (λ b rest. refuseIf (ltb longest (a + b)) 2
+      (readEntries other a rest then (λ xs rest. readTied other xs b rest then (λ ys rest. accepted (record { strict = xs; tied = ys }, rest))))))
+
+  -- the four sections in their order
+  abbrev pub readSections : List ℕ → Reading (Roster × List ℕ)
+  readSections bs = readNodes bs then (λ qs rest. readNodes rest then (λ qt rest.
+      readSection (readList (L .longest (length qt)) (length qt)) totalS (length qs) rest then (λ ls rest.
+      readSection (readRanking (L .longest (length qs)) (length qs)) totalT (length qt) rest then (λ ts rest.
+      accepted (record { quotasS = qs; quotasT = qt; listsS = ls; listsT = ts }, rest)))))
+
+  unfoldable pub readRosterBy : List ℕ → Reading Roster
+  readRosterBy bs = oneSided (whole (readSections bs))
+
+  abbrev pub entriesBytes : List Entry → List ℕ
+  entriesBytes xs = length xs ∷ gather (L .bytes) xs
+
+  abbrev pub rankingBytes : Ranking → List ℕ
+  rankingBytes R = length (R .strict) ∷ length (R .tied) ∷ gather (L .bytes) (entries R)
+
+  unfoldable pub writeRosterBy : Roster → List ℕ
+  writeRosterBy r = listBytes (r .quotasS) ++ (listBytes (r .quotasT)
+      ++ ((wideBytes (totalS (r .listsS)) ++ gather entriesBytes (r .listsS))
+      ++ (wideBytes (totalT (r .listsT)) ++ gather rankingBytes (r .listsT))))
+
+-- a roster's bytes
+abbrev pub readRoster : List ℕ → Reading Roster
+readRoster bs = readRosterBy shifted bs
+
+abbrev pub writeRoster : Roster → List ℕ
+writeRoster r = writeRosterBy shifted r
