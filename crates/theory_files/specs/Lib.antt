@@ -8,12 +8,7 @@ pub mod Offsets
 pub mod PlanPairs
 pub mod Reads
 pub mod Entries
+pub mod Layouts
 pub mod Sections
 pub mod Rosters
 pub mod Reach
-pub mod PairRefusals
-pub mod ByLists
-pub mod Joined
-pub mod Departed
-pub mod PlanCells
-pub mod Carried

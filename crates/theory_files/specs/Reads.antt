@@ -88,24 +88,25 @@ refuseBy-no zero r e = refl
 refuseBy-no (suc n) r e = absurd (omega arith)
 
 -- ---- fields in a row
-module _ {S A : Type 0} {field : List ℕ → Reading (A × List ℕ)} {write : A → List ℕ} {P : A → Type 0} (R : Reads field write P) (check : S → A → ℕ)
-    (next : S → A → S) where
+module _ {S A : Type 0} (check : S → A → ℕ) (next : S → A → S) where
   -- each field passes its check
   abbrev pub Passes : S → List A → Type 0
   Passes s [] = Unit {0}
   Passes s (x ∷ xs) = (check s x ≡ 0) × Passes (next s x) xs
 
+module _ {S A : Type 0} {field : List ℕ → Reading (A × List ℕ)} {write : A → List ℕ} {P : A → Type 0} (R : Reads field write P) (check : S → A → ℕ)
+    (next : S → A → S) where
   abbrev more : S → A → ℕ → List ℕ → Reading (List A × List ℕ)
   more s x n rest = readEach field check next n (next s x) rest then (λ xs rest. accepted (x ∷ xs, rest))
 
   each-back : (n : ℕ) (s : S) (bs : List ℕ) (xs : List A) (rest : List ℕ) → T (isBytes bs) → readEach field check next n s bs ≡ accepted (xs, rest)
-      → (bs ≡ gather write xs ++ rest) × (length xs ≡ n) × All P xs × Passes s xs
+      → (bs ≡ gather write xs ++ rest) × (length xs ≡ n) × All P xs × Passes check next s xs
   unfolding readEach
   each-back zero s bs xs rest t e = (
     read-rest e ∙ ap (λ (z : List A). gather write z ++ rest) (read-value e),
     ap length (sym (read-value e)),
     subst (All P) (read-value e) tt,
-    subst (Passes s) (read-value e) tt,
+    subst (Passes check next s) (read-value e) tt,
   )
   each-back (suc n) s bs xs rest t e =
       given (then-read (field bs) (λ x rest. refuseBy (check s x) (more s x n rest)) e) (λ (x, mid, e₁, h₁).
@@ -118,10 +119,10 @@ module _ {S A : Type 0} {field : List ℕ → Reading (A × List ℕ)} {write : 
             ∙ ap (λ z. gather write z ++ rest) d,
         ap length (sym d) ∙ ap suc l,
         subst (All P) d (p, q),
-        subst (Passes s) d (c, k),
+        subst (Passes check next s) d (c, k),
       )))))))
 
-  each-forth : (s : S) (xs : List A) (rest : List ℕ) → All P xs → Passes s xs
+  each-forth : (s : S) (xs : List A) (rest : List ℕ) → All P xs → Passes check next s xs
       → readEach field check next (length xs) s (gather write xs ++ rest) ≡ accepted (xs, rest)
   unfolding readEach
   each-forth s [] rest p k = refl
@@ -131,7 +132,7 @@ module _ {S A : Type 0} {field : List ℕ → Reading (A × List ℕ)} {write : 
       ∙ refuseBy-no (check s x) (more s x (length xs) (gather write xs ++ rest)) (k .0)
       ∙ ap (λ r. r then (λ xs rest. accepted (x ∷ xs, rest))) (each-forth (next s x) xs rest (p .1) (k .1))
 
-  pub each : (n : ℕ) (s : S) → Reads (readEach field check next n s) (gather write) (λ xs. (length xs ≡ n) × All P xs × Passes s xs)
+  pub each : (n : ℕ) (s : S) → Reads (readEach field check next n s) (gather write) (λ xs. (length xs ≡ n) × All P xs × Passes check next s xs)
   each n s = record {
     back = λ bs xs rest t e. given (each-back n s bs xs rest t e) (λ (w, l, p, k). (w, (l, p, k)));
     forth = λ xs rest (l, p, k). subst (λ k. readEach field check next k s (gather write xs ++ rest) ≡ accepted (xs, rest)) l (each-forth s xs rest p k);
@@ -156,7 +157,7 @@ every-any [] = tt
 every-any (x ∷ xs) = (tt, every-any xs)
 
 pub bytes : {S : Type 0} (check : S → ℕ → ℕ) (next : S → ℕ → S) (n : ℕ) (s : S)
-    → Reads (readEach byte check next n s) (λ xs. xs) (λ xs. (length xs ≡ n) × Passes a-byte check next s xs)
+    → Reads (readEach byte check next n s) (λ xs. xs) (λ xs. (length xs ≡ n) × Passes check next s xs)
 bytes check next n s = record {
   back = λ bs xs rest t e. given (each a-byte check next n s .back bs xs rest t e) (λ (w, (l, p, k)). (w ∙ ap (λ z. z ++ rest) (singles xs), (l, k)));
   forth = λ xs rest (l, k). ap (λ z. readEach byte check next n s (z ++ rest)) (sym (singles xs))
