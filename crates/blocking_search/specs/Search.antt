@@ -26,9 +26,9 @@ use Rattle.blocking_search.specs.Blocking.{named, blockedBy, Placed, wan
 
 module _ (m : ℕ) (sv st rs rt qs qt ls lt : List ℕ) (p : List Bool) (os : Placed m rs) (ot : Placed m rt) (hs : Thresholds m sv rs qs p ls)
     (ht : Thresholds m st rt qt p lt)
-    (ns nt : ℕ) (tied : List Bool) where
+    (ns nt : ℕ) (sh : List ℕ) (tied : List Bool) where
   abbrev G : model.Instance
-  G = shown m ns nt sv st rs rt tied qs qt
+  G = shown m ns nt sv st rs rt sh tied qs qt
 
   is-wanted : (e : ℕ) → e < m → wanted sv st rs rt ls lt p e ≡ blocks G (flag p) e
   unfolding blocks

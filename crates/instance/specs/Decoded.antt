@@ -13,7 +13,7 @@ use Rattle.instance.specs.declared.Instance.{Instance}
 
 -- the instance that the arrays show
 abbrev pub shownBy : Instance → model.Instance
-shownBy g = shown (g .m) (g .ns) (g .nt) (g .sv) (g .st) (g .«rank_s») (g .«rank_t») (g .tied) (g .«quota_s») (g .«quota_t»)
+shownBy g = shown (g .m) (g .ns) (g .nt) (g .sv) (g .st) (g .«rank_s») (g .«rank_t») (g .sh) (g .tied) (g .«quota_s») (g .«quota_t»)
 
 pub record Decoded (file : List ℕ) (g : Instance) : Type 0 where
   pub edges : g .m ≤ entryLimit
