@@ -1,3 +1,4 @@
+pub mod Order
 pub mod Position
 pub mod Ascending
 pub mod Chosen
@@ -12,3 +13,4 @@ pub mod Layouts
 pub mod Sections
 pub mod Rosters
 pub mod Reach
+pub mod PairRefusals

@@ -45,19 +45,19 @@ name-parts p q t =
     let c = eqb (p .shift) (q .shift) in
     given (and-r a (b && c) t) (λ u. (eqb→eq (p .surveyor) (q .surveyor) (and-l a (b && c) t), eqb→eq (p .stand) (q .stand) (and-l b c u), eqb→eq (p .shift) (q .shift) (and-r b c u)))
 
-same-name : (p q : Named) → (p .surveyor ≡ q .surveyor) × (p .stand ≡ q .stand) × (p .shift ≡ q .shift) → p ≡ q
+pub same-name : (p q : Named) → (p .surveyor ≡ q .surveyor) × (p .stand ≡ q .stand) × (p .shift ≡ q .shift) → p ≡ q
 same-name p q (a, b, c) = λ i. record { surveyor = a i; stand = b i; shift = c i }
 
 module _ (G : Instance) where
   -- the edge that is found has the pair's numbers
-  found-parts : (p : Named) → edgeOfPair G p < G .m → (suc (G .sv (edgeOfPair G p)) ≡ p .surveyor) × (suc (G .st (edgeOfPair G p)) ≡ p .stand) × (G .sh (edgeOfPair G p) ≡ p .shift)
+  pub found-parts : (p : Named) → edgeOfPair G p < G .m → (suc (G .sv (edgeOfPair G p)) ≡ p .surveyor) × (suc (G .st (edgeOfPair G p)) ≡ p .stand) × (G .sh (edgeOfPair G p) ≡ p .shift)
   unfolding edgeOfPair
   found-parts p h = name-parts (nameOf G (edgeOfPair G p)) p (low-is (λ e. sameName (nameOf G e) p) (G .m) .2 h)
 
-  found-is : (p : Named) → edgeOfPair G p < G .m → nameOf G (edgeOfPair G p) ≡ p
+  pub found-is : (p : Named) → edgeOfPair G p < G .m → nameOf G (edgeOfPair G p) ≡ p
   found-is p h = same-name (nameOf G (edgeOfPair G p)) p (found-parts p h)
 
-  found : Fileable G → (e : ℕ) → e < G .m → edgeOfPair G (nameOf G e) ≡ e
+  pub found : Fileable G → (e : ℕ) → e < G .m → edgeOfPair G (nameOf G e) ≡ e
   unfolding edgeOfPair
   found F e h =
       let l = low-is (λ d. sameName (nameOf G d) (nameOf G e)) (G .m) in
