@@ -14,3 +14,4 @@ pub mod Sections
 pub mod Rosters
 pub mod Reach
 pub mod PairRefusals
+pub mod ByLists
