@@ -15,3 +15,4 @@ pub mod Rosters
 pub mod Reach
 pub mod PairRefusals
 pub mod ByLists
+pub mod Departed
