@@ -16,3 +16,5 @@ pub mod Reach
 pub mod PairRefusals
 pub mod ByLists
 pub mod Departed
+pub mod Joiner
+pub mod Joined
