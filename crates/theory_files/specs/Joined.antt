@@ -4,7 +4,7 @@ use Prim.Native.Nat.{ℕ, zero, suc, _+_, _≤_, _<_}
 use native.Mathlib.Omega.{arith}
 use native.Mathlib.Decide.{decLt}
 use mathlib.Core.Path.{_≡_, refl, sym, ap, ap₂, _∙_, subst}
-use mathlib.Core.Logic.{_≢_, inl, by-cases, ⊎-elim}
+use mathlib.Core.Logic.{inl, by-cases, ⊎-elim}
 use mathlib.Core.Bool.{Bool, true, false, not, cond, _&&_, _||_, or-false}
 use mathlib.Core.List.{List, [], _∷_, _++_, append-assoc, append-nil, List·Memᴰ·head, List·Memᴰ·tail}
 use lib.ListN.{length, getD, length-append, List·getD-append}
@@ -14,7 +14,7 @@ use lib.Arith.{le→nltb, lt→nleb}
 use Rattle.lists.specs.Test.{given, and-l, and-r, and-i, or-l, or-r, or-case, nor-l, nor-r, nor-i, false-T, T-true}
 use Rattle.lists.specs.Sum.{_∈_, sum, sum-append}
 use Rattle.lists.specs.Keep.{all?, any?, all-append, any-append, all-∈, ∈-all, All-∈}
-use Rattle.model.specs.Limits.{nodeLimit, quotaLimit, quotaSumLimit, listLimit, shiftLimit}
+use Rattle.model.specs.Limits.{nodeLimit, quotaLimit, quotaSumLimit, listLimit}
 use Rattle.model.specs.Reading.{Reading, accepted, refused, whole}
 use Rattle.model.specs.Roster.{Entry, Ranking, Roster, entries, surveyorCount, standCount, listT, same, has, before, noEntry, shifts, listed, listedBack}
 use Rattle.model.specs.Roster.{distinct, ascending, entryFits, quotasFit, listFits, rankingFits, fits}
@@ -109,8 +109,8 @@ lists-length : (s : ℕ) (list : List Entry) (j : ℕ) (ts : List Ranking) → l
 lists-length s list j [] = refl
 lists-length s list j (R ∷ ts) = ap suc (lists-length s list (suc j) ts)
 
-lists-entered : (c : ℕ) (list : List Entry) (j : ℕ) (ts : List Ranking) → T (all? (rankingFits listLimit c) ts) → T (not (any? long (entered (suc c) list j ts)))
-    → T (all? (rankingFits listLimit (suc c)) (entered (suc c) list j ts))
+lists-entered : (c : ℕ) (list : List Entry) (j : ℕ) (ts : List Ranking) → T (all? (rankingFits listLimit c) ts)
+    → T (not (any? long (entered (suc c) list j ts))) → T (all? (rankingFits listLimit (suc c)) (entered (suc c) list j ts))
 lists-entered c list j [] t n = tt
 lists-entered c list j (R ∷ ts) t n =
     let R′ = withTied (joinerAt (suc c) list j) R in
@@ -271,7 +271,8 @@ module _ (r : Roster) (q : ℕ) (file : List ℕ) (h : Roster) (isB : T (isBytes
 
   -- no stand's list has passed its limit
   pub no-list-too-long : (j : ℕ) → length (entries (listT h j)) ≤ listLimit
-  no-list-too-long j = given join-parts (λ J. subst (λ h. length (entries (listT h j)) ≤ listLimit) (sym (J .is)) (short-at (joined r q (J .list) .listsT) (J .short) j))
+  no-list-too-long j = given join-parts (λ J. subst (λ h. length (entries (listT h j)) ≤ listLimit) (sym (J .is))
+      (short-at (joined r q (J .list) .listsT) (J .short) j))
 
 -- ---- "A joiner's entry that takes a stand's list past 32 meets 2, after all checks of the joiner's own list."
 long-at : (ts : List Ranking) → T (any? long ts) → (j : ℕ) × (j < length ts) × T (long (getD ts j noRanking))

@@ -88,7 +88,8 @@ module _ (s : ℕ) (list : List Entry) (j : ℕ) where
   from-ascends last k (suc n) t =
       go (asked k) (from-ascends (own k) (suc k) n (next k)) (from-ascends last (suc k) n (before-on last (own k) (own (suc k)) t (next k)))
     where
-      go : (b : Bool) → T (ascending (own k) (from (suc k) n)) → T (ascending last (from (suc k) n)) → T (ascending last (cond b (own k ∷ []) [] ++ from (suc k) n))
+      go : (b : Bool) → T (ascending (own k) (from (suc k) n)) → T (ascending last (from (suc k) n))
+          → T (ascending last (cond b (own k ∷ []) [] ++ from (suc k) n))
       go true a c = and-i (before last (own k)) (ascending (own k) (from (suc k) n)) t a
       go false a c = c
 

@@ -18,3 +18,5 @@ pub mod ByLists
 pub mod Departed
 pub mod Joiner
 pub mod Joined
+pub mod PlanCells
+pub mod Carried
