@@ -5,6 +5,7 @@ use mathlib.Core.Path.{_≡_, refl, sym, ap, ap₂, _∙_, subst}
 use mathlib.Core.Logic.{_≢_, inr}
 use mathlib.Core.Bool.{Bool, true, false, not, cond, _&&_, _||_, and-true, and-false, or-false}
 use mathlib.Core.List.{List, [], _∷_, _++_, List·Memᴰ·head, List·Memᴰ·tail, List·Memᴰ·not-nil}
+use lib.ListN.{length}
 use lib.Dec.{T, eqb}
 use Rattle.lists.specs.Test.{given, and-i, by-eq, eqb-yes, eqb-no, false-T}
 use Rattle.lists.specs.Sum.{_∈_, range, ∈-range}
@@ -93,6 +94,14 @@ module _ (s : ℕ) (list : List Entry) (j : ℕ) where
       go true a c = and-i (before last (own k)) (ascending (own k) (from (suc k) n)) t a
       go false a c = c
 
+  from-short : (k n : ℕ) → length (from k n) ≤ n
+  from-short k zero = omega arith
+  from-short k (suc n) = go (asked k) (from-short (suc k) n)
+    where
+      go : (b : Bool) → length (from (suc k) n) ≤ n → length (cond b (own k ∷ []) [] ++ from (suc k) n) ≤ suc n
+      go true h = omega arith
+      go false h = omega arith
+
   -- ---- in the three shifts
   pub joiner-others : (x : Entry) → x .number ≢ s → has x (joinerAt s list j) ≡ false
   joiner-others x d = others-not x d 1 shiftLimit
@@ -106,6 +115,10 @@ module _ (s : ℕ) (list : List Entry) (j : ℕ) where
   pub joiner-range : 1 ≤ s → T (inRange s (joinerAt s list j))
   joiner-range h = ∈-all (entryFits s) (joinerAt s list j) (λ x m. given (from-∈ x 1 shiftLimit m) (λ (a, b, c).
       range-in s x (omega arith) (omega arith) b (omega arith)))
+
+  -- a stand gains three entries at most
+  pub joiner-short : length (joinerAt s list j) ≤ shiftLimit
+  joiner-short = from-short 1 shiftLimit
 
   pub joiner-distinct : T (distinct (joinerAt s list j))
   joiner-distinct = from-distinct 1 shiftLimit
