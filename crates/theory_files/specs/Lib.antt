@@ -1,3 +1,4 @@
+pub mod Order
 pub mod Position
 pub mod Ascending
 pub mod Chosen
@@ -12,3 +13,10 @@ pub mod Layouts
 pub mod Sections
 pub mod Rosters
 pub mod Reach
+pub mod PairRefusals
+pub mod ByLists
+pub mod Departed
+pub mod Joiner
+pub mod Joined
+pub mod PlanCells
+pub mod Carried
