@@ -24,16 +24,16 @@ pub →first : (a b : ℕ) (t : Bool) → First a b (T t) → T (first a b t)
 →first a b t (inr (e, u)) = or-r (ltb a b) (eqb a b && t) (and-i (eqb a b) t (eq→eqb a b e) u)
 
 -- ---- entries
-abbrev pub Before : Entry → Entry → Type 0
-Before x y = First (x .number) (y .number) (x .shift < y .shift)
+abbrev pub InOrder : Entry → Entry → Type 0
+InOrder x y = First (x .number) (y .number) (x .shift < y .shift)
 
-pub before→ : (x y : Entry) → T (before x y) → Before x y
+pub before→ : (x y : Entry) → T (before x y) → InOrder x y
 before→ x y t = ⊎-map (λ l. l) (λ (e, u). (e, ltb→lt (x .shift) (y .shift) u)) (first→ (x .number) (y .number) (ltb (x .shift) (y .shift)) t)
 
-pub →before : (x y : Entry) → Before x y → T (before x y)
+pub →before : (x y : Entry) → InOrder x y → T (before x y)
 →before x y b = →first (x .number) (y .number) (ltb (x .shift) (y .shift)) (⊎-map (λ l. l) (λ (e, l). (e, lt→ltb (x .shift) (y .shift) l)) b)
 
-before-trans : (x y z : Entry) → Before x y → Before y z → Before x z
+before-trans : (x y z : Entry) → InOrder x y → InOrder y z → InOrder x z
 before-trans x y z (inl k) (inl l) = inl (omega arith)
 before-trans x y z (inl k) (inr (e, l)) = inl (omega arith)
 before-trans x y z (inr (d, k)) (inl l) = inl (omega arith)
