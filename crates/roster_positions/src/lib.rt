@@ -39,9 +39,10 @@ pub fn stamp(list: &[u8], row: usize, table: &mut [u8; 3072])
 {
     let mut k = list.len() / ENTRY_WIDTH;
     while 0 < k {
-        let x = list[2 * k - 2] as usize;
-        let s = list[2 * k - 1] as usize;
-        table[row + 3 * ((x + 31) % 32) + (s + 2) % 3] = k as u8;
+        let at = ENTRY_WIDTH * (k - 1);
+        let x = list[at] as usize;
+        let s = list[at + 1] as usize;
+        table[row + (3 * ((x + 31) % 32) + (s + 2) % 3)] = k as u8;
         k -= 1;
     }
 }
@@ -55,10 +56,10 @@ pub fn stamp_lists(file: &[u8], start: usize, n: usize, table: &mut [u8; 3072]) 
     let mut at = start;
     let mut i = 0;
     while i < n {
-        let k = ENTRY_WIDTH * byte_at(file, at) as usize;
-        let list = part(file, at + 1, k);
+        let k = byte_at(file, at) as usize;
+        let list = part(file, at + 1, ENTRY_WIDTH * k);
         stamp(list, i * 96, &mut *table);
-        at += k + 1;
+        at += ENTRY_WIDTH * k + 1;
         i += 1;
     }
     at
