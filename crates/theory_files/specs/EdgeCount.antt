@@ -20,9 +20,13 @@ use Rattle.theory_files.specs.Rosters.{fits-parts}
 at-most-one : (p : ℕ → Bool) → ((j k : ℕ) → T (p j) → T (p k) → j ≡ k) → (i n : ℕ) → sum (λ k. bit (p k)) (range i n) ≤ 1
 at-most-one p h i zero = omega arith
 at-most-one p h i (suc n) = by-test (p i)
-    (λ t. omega (arith, bit-yes (p i) t, sum-zeros (λ k. bit (p k)) (range (suc i) n) (λ k m. by-test (p k)
-    (λ u. given (∈-range n (suc i) m .0) (λ l. absurd (omega (arith, h i k t u))))
-    (λ u. bit-no (p k) u))))
+    (λ t. omega (
+      arith,
+      bit-yes (p i) t,
+      sum-zeros (λ k. bit (p k)) (range (suc i) n) (λ k m. by-test (p k)
+          (λ u. given (∈-range n (suc i) m .0) (λ l. absurd (omega (arith, h i k t u))))
+          (λ u. bit-no (p k) u)),
+    ))
     (λ t. omega (arith, bit-no (p i) t, at-most-one p h (suc i) n))
 
 abbrev entry : ℕ → ℕ → Entry
