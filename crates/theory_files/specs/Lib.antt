@@ -5,6 +5,7 @@ pub mod Chosen
 pub mod PlanFiles
 pub mod RosterInstance
 pub mod Cells
+pub mod EdgeCount
 pub mod Offsets
 pub mod PlanPairs
 pub mod Reads
