@@ -82,8 +82,8 @@ unfoldable pub allStamped : ℕ → List (List Entry) → List ℕ → List ℕ
 allStamped row [] t = t
 allStamped row (xs ∷ ls) t = allStamped (row + rowWidth) ls (stamped row xs 1 t)
 
-abbrev pub positionIn : List Entry → ℕ → ℕ
-positionIn xs c = cond (has (entryOf c) xs) (position (entryOf c) xs) 0
+abbrev pub positionIn : List Entry → Entry → ℕ
+positionIn xs y = cond (has y xs) (position y xs) 0
 
 before-rows : (ls : List (List Entry)) (row : ℕ) (t : List ℕ) (c : ℕ) → c < row → getD (allStamped row ls t) c 0 ≡ getD t c 0
 unfolding allStamped
@@ -93,7 +93,7 @@ before-rows (xs ∷ ls) row t c h =
 
 pub all-at : (ls : List (List Entry)) (row : ℕ) (t : List ℕ) → row + length ls * rowWidth ≤ length t → All (Within 32) ls
     → ((c : ℕ) → row ≤ c → getD t c 0 ≡ 0)
-    → (i c : ℕ) → c < rowWidth → getD (allStamped row ls t) (row + i * rowWidth + c) 0 ≡ positionIn (getD ls i []) c
+    → (i c : ℕ) → c < rowWidth → getD (allStamped row ls t) (row + i * rowWidth + c) 0 ≡ positionIn (getD ls i []) (entryOf c)
 unfolding allStamped
 all-at [] row t l w z i c h = z (row + i * rowWidth + c) (omega arith)
 all-at (xs ∷ ls) row t l w z zero c h =
