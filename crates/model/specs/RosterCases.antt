@@ -1,5 +1,5 @@
 -- Roster files with the refusal that each meets, 0 for none, run by the checker: every number from 1 to 9, and 18, at least twice, and files with
--- two faults, which show the order in which they are looked for.
+-- two faults, which show the order in which they are looked for. The longest roster is in theory_files/LongestRoster.
 use Prim.Native.Nat.{ℕ}
 use Prim.Native.String.{String}
 use mathlib.Core.Path.{_≡_, refl}
@@ -7,15 +7,11 @@ use mathlib.Core.Bool.{Bool, true, false}
 use mathlib.Core.List.{List, [], _∷_, _++_}
 use lib.ListN.{length, replicate}
 use lib.Dec.{eqb}
-use Rattle.lists.specs.Keep.{all?, gather}
-use Rattle.lists.specs.Sum.{range}
+use Rattle.lists.specs.Keep.{all?}
 use Rattle.model.specs.Decimal.{bytes, numbersFrom, sameBytes}
 use Rattle.model.specs.Reading.{Reading, accepted, refused, readEach}
-use Rattle.model.specs.Roster.{Entry, Roster, listed, listedBack, bothOrNeither}
+use Rattle.model.specs.Roster.{Roster, listed, listedBack, bothOrNeither}
 use Rattle.model.specs.RosterFile.{readRosterBy, readRoster, writeRosterBy, writeRoster}
-use Rattle.model.specs.Text.{text}
-use Rattle.model.specs.Refusal.{groupOf}
-use Rattle.model.specs.Printed.{digits, printed}
 
 -- the number of a refusal, 0 for none
 abbrev pub refusalIn : {A : Type 0} → Reading A → ℕ
@@ -93,26 +89,3 @@ pub limits : all? (λ (c : List ℕ × ℕ). meets (alone (c .0)) (c .1))
     ((8 ∷ [], 0) ∷ (9 ∷ [], 3) ∷ (replicate 32 2, 0) ∷ (replicate 33 1, 2) ∷ (replicate 8 8, 0) ∷ (replicate 8 8 ++ 1 ∷ [], 3) ∷ []) ≡ true
 unfolding numbersFrom listed listedBack bothOrNeither readEach readRosterBy
 limits = refl
-
--- ---- W-204: "rosters 4,262" bytes, and there is one. 32 surveyors and 32 stands of quota 2; the first half of each with the first half of the
--- other in shifts 1 and 3, the second with the second in shifts 2 and 3: 32 entries a list, 1,024 a side
-abbrev block : (from size : ℕ) (early late : ℕ) → List Entry
-block from size early late = gather (λ n. record { number = n; shift = early } ∷ record { number = n; shift = late } ∷ []) (range from size)
-
-abbrev full : Roster
-full = record {
-  quotasS = replicate 32 2;
-  quotasT = replicate 32 2;
-  listsS = replicate 16 (block 1 16 1 3) ++ replicate 16 (block 17 16 2 3);
-  listsT = replicate 16 (record { strict = block 1 10 1 3; tied = block 11 6 1 3 })
-      ++ replicate 16 (record { strict = block 17 10 2 3; tied = block 27 6 2 3 });
-}
-
-pub longest : (length (writeRoster full) ≡ 4262) × (writesBack (readRoster (writeRoster full)) (writeRoster full) ≡ true)
-unfolding writeRosterBy listed listedBack bothOrNeither readEach readRosterBy
-longest = (refl, refl)
-
--- "the program reads at most 4,263": one byte behind the longest roster is still read, and refused
-pub behind-longest : printed (λ G M. M) (writeRoster full ++ 0 ∷ []) ≡ text "refused 9 form\n"
-unfolding text groupOf digits printed writeRosterBy listed listedBack bothOrNeither readEach readRosterBy
-behind-longest = refl

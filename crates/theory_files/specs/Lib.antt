@@ -14,6 +14,7 @@ pub mod Layouts
 pub mod Sections
 pub mod Rosters
 pub mod Reach
+pub mod LongestRoster
 pub mod PairRefusals
 pub mod ByLists
 pub mod Departed

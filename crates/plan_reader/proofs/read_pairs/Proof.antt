@@ -172,7 +172,7 @@ loop-again c =
       invariant-on (a .shifts) (a .m) (a .sv .now) (a .st .now) (a .sh .now) (a .qs .now) (a .qt .now) (a .file .now) (a .n) (l .loop .k) (l .loop .at) (l .loop .from) (l .loop .chosen)
           (l .loop .edges) (l .loop .us) (l .loop .ut) (l .loop .inv .1)
           (c .before .before .before .before .before .before .before .before .before .loop-test .taken) (l .before .width .result) (l .before .width .ensures)
-    (s .pre .0 .1) (s .pre .0 .2)
+          (s .pre .0 .1) (s .pre .0 .2)
           (c .before .before .before .before .before .before .before .before .if1 .left) (k .edge-of .result) (found k)
           (c .before .before .before .pair-refusal .result) (c .before .before .before .pair-refusal .ensures) (omega arith) (omega arith) (s .pre .0 .0),
     )
