@@ -2,7 +2,7 @@
 use Prim.Native.Nat.{ℕ, _≤_}
 use native.Mathlib.Omega.{arith}
 use mathlib.Core.Path.{_≡_, refl, sym, ap, ap₂, _∙_, subst}
-use mathlib.Core.Bool.{Bool}
+use mathlib.Core.Bool.{Bool, true}
 use mathlib.Core.List.{List}
 use lib.ListN.{length, length-take}
 use lib.Dec.{T}
@@ -45,8 +45,8 @@ module _ (g : Instance) (p q : List Bool) (Mp : Matching (shownBy g) (flag p)) (
   pub votes-are : {v w : ℤ} {x : Winner} → PlanVotes (g .m) (g .ns) (g .nt) (g .sv) (g .st) (g .«rank_s») (g .«rank_t») p q v w → x ≡ winnerCase (winnerOf v w)
       → Votes v w x ≡ comparisonCase (compared (shownBy g) p q)
   votes-are {v} {w} {x} both e =
-      let a : v ≡ voteOf (shownBy g) p q = both .first (g .tied) (g .«quota_s») (g .«quota_t») Mp Mq in
-      let b : w ≡ voteOf (shownBy g) q p = both .second (g .tied) (g .«quota_s») (g .«quota_t») Mq Mp in
+      let a : v ≡ voteOf (shownBy g) p q = both .first (g .sh) (g .tied) (g .«quota_s») (g .«quota_t») Mp Mq in
+      let b : w ≡ voteOf (shownBy g) q p = both .second (g .sh) (g .tied) (g .«quota_s») (g .«quota_t») Mq Mp in
       ap (Votes v w) e ∙ ap₂ (λ y z. Votes y z (winnerCase (winnerOf y z))) a b
 
 -- ---- which plan it is matters by its edges alone
@@ -58,11 +58,11 @@ same-first G M M′ e (accepted N) = ap (λ f. byEdges G f (on N)) e
 same-first G M M′ e (refused n) = refl
 
 -- ---- a plan file read against the arrays of an accepted roster
-module _ (g : Instance) (file : List ℕ) (r : PlanRead) (A : ReadFor (g .m) (g .sv) (g .st) (g .«quota_s») (g .«quota_t») file r) where
+module _ (g : Instance) (file : List ℕ) (r : PlanRead) (A : ReadFor true (g .m) (g .sv) (g .st) (g .sh) (g .«quota_s») (g .«quota_t») file r) where
   abbrev G : model.Instance
   G = shownBy g
 
-  here : ReadAs G file r
+  here : ReadAs true G file r
   here = A (g .ns) (g .nt) (g .«rank_s») (g .«rank_t») (g .tied)
 
   -- the plan that its flags are is within the quotas, and its edges are listed

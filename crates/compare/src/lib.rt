@@ -64,9 +64,10 @@ pub(crate) fn second_judged(
 {
     let sv = g.sv;
     let st = g.st;
+    let sh = g.sh;
     let qs = g.quota_s;
     let qt = g.quota_t;
-    let read = plan_reader::read_plan(g.m, &sv, &st, &qs, &qt, second);
+    let read = plan_reader::read_plan(g.m, &sv, &st, &sh, &qs, &qt, second, true);
     let a = read.answer;
     match a {
         PlanAnswer::Refused(n) => Comparison::Refused(n, answers::group_of(n)),
@@ -85,9 +86,10 @@ pub fn compare(g: Instance, first: &[u8], second: &[u8]) -> Comparison
 {
     let sv = g.sv;
     let st = g.st;
+    let sh = g.sh;
     let qs = g.quota_s;
     let qt = g.quota_t;
-    let read = plan_reader::read_plan(g.m, &sv, &st, &qs, &qt, first);
+    let read = plan_reader::read_plan(g.m, &sv, &st, &sh, &qs, &qt, first, true);
     let a = read.answer;
     match a {
         PlanAnswer::Refused(n) => Comparison::Refused(n, answers::group_of(n)),

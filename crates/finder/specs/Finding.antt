@@ -61,7 +61,7 @@ module _ (G : Instance) (fixed : List Bool) (is : (e : ℕ) → flag fixed e ≡
 module _ (g : arrays.Instance) (L : Loaded g) (rem fixed : List Bool) (t : Trace)
     (R : ReducedFrom (g .m) (g .sv) (g .st) (g .«rank_s») (g .«rank_t») (g .tied) (g .«quota_s») (g .«quota_t») rem fixed t) where
   reduced : Reduced (shownBy g) rem fixed t
-  reduced = R (g .ns) (g .nt) (L .lawful)
+  reduced = R (g .ns) (g .nt) (g .sh) (L .lawful)
 
   -- the fixed edges are the candidate, a plan within the quotas
   shows-candidate : Shows (shownBy g) fixed (candidateOf (shownBy g))

@@ -62,18 +62,18 @@ few-edges g L p (M, (ok, same)) =
     subst (λ es. length es ≤ planLimit) (edgesIn-cong (g .m) (on M) (flag p) (λ e h. sym (same e))) (plan-few (shownBy g) (L .fileable) M ok)
 
 -- the bytes that the plan writer leaves
-pub plan-onto : (g : arrays.Instance) (chosen : List Bool) (p p′ : List ℕ) → WrittenFor (g .m) (g .sv) (g .st) chosen p p′
+pub plan-onto : (g : arrays.Instance) (chosen : List Bool) (p p′ : List ℕ) → WrittenFor (g .m) (g .sv) (g .st) (g .sh) chosen p p′
     → (M : Plan) → ((e : ℕ) → flag chosen e ≡ on M e) → p′ ≡ onto (planBytes (shownBy g) M) p
 plan-onto g chosen p p′ W M same = W (g .ns) (g .nt) (g .«rank_s») (g .«rank_t») (g .tied) (g .«quota_s») (g .«quota_t») M (λ e k. sym (same e))
 
 -- ---- the end of the steps
 module _ (g : arrays.Instance) (M : Plan) (es : List ℕ) (steps : ℕ) (l p v l′ : List ℕ) (k : ℕ) (count : k ≡ length es)
-    (wrote : l′ ≡ (take 0 l ++ pairsOf (g .sv) (g .st) es) ++ drop (pairWidth * k + 0) l) where
+    (wrote : l′ ≡ (take 0 l ++ pairsOf (g .sv) (g .st) (g .sh) es) ++ drop (pairWidth * k + 0) l) where
   abbrev G : Instance
   G = shownBy g
 
   left-bytes : l′ ≡ onto (pairList G es) l
-  left-bytes = wrote ∙ ap (λ n. (take 0 l ++ pairsOf (g .sv) (g .st) es) ++ drop (pairWidth * n + 0) l) count ∙ pairs-onto (g .sv) (g .st) es l
+  left-bytes = wrote ∙ ap (λ n. (take 0 l ++ pairsOf (g .sv) (g .st) (g .sh) es) ++ drop (pairWidth * n + 0) l) count ∙ pairs-onto (g .sv) (g .st) (g .sh) es l
 
   -- some pairs are left
   pub some-left : 0 < k → Wrote G (atEnd G M es) steps l p v (says.None steps (kind.Left k)) l′ p v

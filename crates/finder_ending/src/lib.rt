@@ -29,7 +29,8 @@ pub(crate) fn judged(
     let st = g.st;
     let l = plan_lookup::list_edges(m, fixed);
     let es = l.edges;
-    plan_writer::write_plan(m, &sv, &st, fixed, &mut *plan);
+    let sh = g.sh;
+    plan_writer::write_plan(m, &sv, &st, &sh, fixed, &mut *plan);
     let w = verdict::weigh(g, fixed, l.n, &es, &mut *rival);
     match w {
         Verdict::Strong => Found::Plan(steps),
@@ -57,7 +58,8 @@ pub fn ended(
     let m = g.m;
     let sv = g.sv;
     let st = g.st;
-    let k = plan_writer::write_pairs(m, &sv, &st, rem, 0, &mut *left);
+    let sh = g.sh;
+    let k = plan_writer::write_pairs(m, &sv, &st, &sh, rem, 0, &mut *left);
     if 0 < k {
         return Found::None(steps, NoneKind::Left(k));
     }

@@ -13,7 +13,7 @@ use Rattle.lists.specs.Keep.{keep-length}
 use Rattle.model.specs.Limits.{planLimit, planSize, pairWidth}
 use Rattle.model.specs.Instance.{Instance}
 use Rattle.model.specs.Plans.{Plan, on}
-use Rattle.model.specs.PlanFile.{edgesIn, planOf, planBytes}
+use Rattle.model.specs.PlanFile.{edgesIn, planOf, planBytesBy, planBytes}
 use Rattle.model.specs.Desk.{onto}
 use Rattle.theory_files.specs.Chosen.{on-planOf, edgesIn-cong}
 use Rattle.theory_files.specs.PlanFiles.{pairs-size}
@@ -50,7 +50,7 @@ few-stay m sv plan s kept h few =
     subst (λ es. length es ≤ planLimit) (sym e) (omega arith)
 
 -- what is written, by its first byte
-module _ (g : arrays.Instance) (kept : List Bool) (out : List ℕ) (w : WrittenFor (g .m) (g .sv) (g .st) kept (replicate planSize 0) out) where
+module _ (g : arrays.Instance) (kept : List Bool) (out : List ℕ) (w : WrittenFor (g .m) (g .sv) (g .st) (g .sh) kept (replicate planSize 0) out) where
   abbrev G : Instance
   G = shownBy g
 
@@ -63,11 +63,11 @@ module _ (g : arrays.Instance) (kept : List Bool) (out : List ℕ) (w : WrittenF
     is-plan = w (g .ns) (g .nt) (g .«rank_s») (g .«rank_t») (g .tied) (g .«quota_s») (g .«quota_t») N k
 
     count-is : at out 0 ≡ length (es N)
-    unfolding planBytes
+    unfolding planBytesBy
     count-is = ap (λ o. at o 0) is-plan
 
     size-is : length (planBytes G N) ≡ at out 0 * pairWidth + 1
-    unfolding planBytes
+    unfolding planBytesBy
     size-is = let c = count-is in omega (arith, pairs-size G (es N))
 
     front-is : take (at out 0 * pairWidth + 1) out ≡ planBytes G N
@@ -80,7 +80,7 @@ module _ (g : arrays.Instance) (kept : List Bool) (out : List ℕ) (w : WrittenF
       subst (λ n. n ≤ planLimit) (ap length (edgesIn-cong (g .m) (flag kept) (on N) (λ e l. sym (k e l))) ∙ sym (count-is N k)) few
 
 module _ (g : arrays.Instance) (plan : List Bool) (s : ℕ) (few : Few (g .m) plan) (kept : List Bool) (h : Shows false kept (g .m) (stays (g .sv) plan s))
-    (out : List ℕ) (w : WrittenFor (g .m) (g .sv) (g .st) kept (replicate planSize 0) out) where
+    (out : List ℕ) (w : WrittenFor (g .m) (g .sv) (g .st) (g .sh) kept (replicate planSize 0) out) where
   pub count-small : at out 0 ≤ planLimit
   count-small = count-few g kept out w (few-stay (g .m) (g .sv) plan s kept h few)
 

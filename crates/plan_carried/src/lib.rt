@@ -46,7 +46,8 @@ pub fn carried(g: Instance, plan: &[bool; ENTRY_LIMIT], number: u8) -> CarriedPl
     let st = g.st;
     let kept = besides(g.m, &sv, plan, number);
     let mut bytes = [0u8; PLAN_SIZE];
-    plan_writer::write_plan(g.m, &sv, &st, &kept, &mut bytes);
+    let sh = g.sh;
+    plan_writer::write_plan(g.m, &sv, &st, &sh, &kept, &mut bytes);
     CarriedPlan {
         len: bytes[0] as usize * PAIR_WIDTH + 1,
         bytes: bytes,

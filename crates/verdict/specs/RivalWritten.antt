@@ -11,7 +11,7 @@ use Rattle.model.specs.Instance as model
 use Rattle.model.specs.Vote.{vote}
 use Rattle.model.specs.Plans.{Plan, on, plansOf, Verdict, voteOf, verdictOf}
 use Rattle.model.specs.Plans as verdict
-use Rattle.model.specs.PlanFile.{edgesIn, pairList, planBytes}
+use Rattle.model.specs.PlanFile.{edgesIn, pairList, planBytesBy, planBytes}
 use Rattle.model.specs.Desk.{onto}
 use Rattle.theory_instance.specs.Lawful.{Matching}
 use Rattle.theory_files.specs.PlanFiles.{plan-few}
@@ -33,10 +33,10 @@ pub record Voted (G : model.Instance) (plan rival : List Bool) (out : List ℕ) 
   pub buffer : after ≡ onto (planBytes G rival) out
 
 pub voted : (g : Instance) (plan rival : List Bool) (out : List ℕ) {v : ℤ} {after : List ℕ} → v ≡ vote (shownBy g) (flag plan) (flag rival)
-    → WrittenFor (g .m) (g .sv) (g .st) rival out after → Voted (shownBy g) plan rival out v after
+    → WrittenFor (g .m) (g .sv) (g .st) (g .sh) rival out after → Voted (shownBy g) plan rival out v after
 voted g plan rival out a b = record {
   vote = a;
-  buffer = b (g .ns) (g .nt) (g .«rank_s») (g .«rank_t») (g .sh) (g .tied) (g .«quota_s») (g .«quota_t») rival (λ e l. refl);
+  buffer = b (g .ns) (g .nt) (g .«rank_s») (g .«rank_t») (g .tied) (g .«quota_s») (g .«quota_t») rival (λ e l. refl);
 }
 
 -- the vote as it is handed on
@@ -110,7 +110,7 @@ module _ (g : Instance) (L : Loaded g) (plan : List Bool) (M : Plan) (S : Shows 
       its-vote = W .vote ∙ ap₂ (vote G) same is-rival
 
       its-bytes : after ≡ onto (planBytes G (rivalOf G M)) out
-      unfolding planBytes
+      unfolding planBytesBy
       its-bytes = W .buffer ∙ ap (λ (p : ℕ → Bool). onto (length (edgesIn (g .m) p) ∷ pairList G (edgesIn (g .m) p)) out) is-rival
 
       pub popular-weighed : v ≡ verdict.popular → WeighedBy G M out (Popular z) after

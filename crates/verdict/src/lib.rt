@@ -22,7 +22,8 @@ pub(crate) fn voted(g: Instance, plan: &[bool; 1024], rival: &[bool; 1024], out:
 {
     let sv = g.sv;
     let st = g.st;
-    plan_writer::write_plan(g.m, &sv, &st, rival, &mut *out);
+    let sh = g.sh;
+    plan_writer::write_plan(g.m, &sv, &st, &sh, rival, &mut *out);
     vote_of_flags::vote_between(g, plan, rival)
 }
 
