@@ -8,7 +8,8 @@ use mathlib.Core.List.{List, [], _∷_, _++_, append-assoc}
 use lib.ListN.{length, getD, set, drop, length-append, length-set}
 use lib.Seq.{set-at, drop-cons}
 use Rattle.model.specs.Limits.{pairWidth}
-use Rattle.model.specs.PlanFile.{PairLayout, shiftedPair, plainPair}
+use Rattle.model.specs.PlanFile.{Named, PairLayout, threeBytes, shiftedPair, plainPair}
+use Rattle.model.specs.Reading.{accepted, refused}
 use Rattle.pair_bytes.specs.declared.Pair.{Pair}
 
 -- the bytes of the pair of surveyor s and stand t in shift k
@@ -67,5 +68,46 @@ pub width-least : (shifts : Bool) → 2 ≤ widthOf shifts
 width-least true = omega arith
 width-least false = omega arith
 
+pub width-most : (shifts : Bool) → widthOf shifts ≤ pairWidth
+width-most true = omega arith
+width-most false = omega arith
+
 pub width-shifts : {shifts : Bool} → shifts ≡ true → widthOf shifts ≡ pairWidth
 width-shifts e = ap widthOf e
+
+-- ---- the model's reading of a pair in such a file: cut short, or the pair at the place
+abbrev pub namedAt : Bool → List ℕ → ℕ → Named
+namedAt shifts d i = let p = pairFrom shifts d i in record { surveyor = p .surveyor; stand = p .stand; shift = p .shift }
+
+pub field-cut : (shifts : Bool) (bs : List ℕ) → length bs < widthOf shifts → pairLayout shifts .field bs ≡ refused 1
+field-cut true [] h = refl
+field-cut true (x ∷ []) h = refl
+field-cut true (x ∷ y ∷ []) h = refl
+field-cut true (x ∷ y ∷ z ∷ bs) h = absurd (omega arith)
+field-cut false [] h = refl
+field-cut false (x ∷ []) h = refl
+field-cut false (x ∷ y ∷ bs) h = absurd (omega arith)
+
+pub field-at : (shifts : Bool) (f : List ℕ) (i : ℕ) → i + widthOf shifts ≤ length f
+    → pairLayout shifts .field (drop i f) ≡ accepted (namedAt shifts f i, drop (i + widthOf shifts) f)
+field-at shifts f i h =
+    let e : drop i f ≡ getD f i 0 ∷ getD f (i + 1) 0 ∷ drop (i + 2) f =
+    one i (omega (arith, width-least shifts)) ∙ ap (λ z. getD f i 0 ∷ z) (one (i + 1) (omega (arith, width-least shifts)) ∙ ap (λ k. getD f (i + 1) 0 ∷ drop k f) (two i)) in
+    ap (pairLayout shifts .field) e ∙ go shifts h
+  where
+    one : (k : ℕ) → k < length f → drop k f ≡ getD f k 0 ∷ drop (k + 1) f
+    one k l = drop-cons f k 0 l ∙ ap (λ n. getD f k 0 ∷ drop n f) (next k)
+      where
+        next : (k : ℕ) → suc k ≡ k + 1
+        next k = omega arith
+
+    two : (k : ℕ) → k + 1 + 1 ≡ k + 2
+    two k = omega arith
+
+    three : (k : ℕ) → k + 2 + 1 ≡ k + pairWidth
+    three k = omega arith
+
+    go : (b : Bool) → i + widthOf b ≤ length f
+        → pairLayout b .field (getD f i 0 ∷ getD f (i + 1) 0 ∷ drop (i + 2) f) ≡ accepted (namedAt b f i, drop (i + widthOf b) f)
+    go true l = ap (λ z. threeBytes (getD f i 0 ∷ getD f (i + 1) 0 ∷ z)) (one (i + 2) (omega arith)) ∙ ap (λ k. accepted (namedAt true f i, drop k f)) (three i)
+    go false l = refl
