@@ -13,7 +13,7 @@ use Rattle.model.specs.Desk.{onto}
 use Rattle.arrays.specs.ArrayInstance.{at}
 use Rattle.reduction_state.specs.declared.Trace.{Trace}
 use Rattle.reduction_state.specs.Trace.{Traced}
-use Rattle.diary.specs.FlatDiary.{numbers, written, flatSize}
+use Rattle.diary.specs.FlatDiary.{numbers, written, recordWidth, flatSize}
 use Rattle.diary.specs.TraceRecords.{flatOf, trace-flat}
 use Rattle.diary.specs.declared.Step.{Step}
 use Rattle.diary.specs.LentSteps.{recordIn, recordsIn, stepAt, stepsIn}
@@ -21,25 +21,26 @@ use Rattle.diary.specs.LentSteps.{recordIn, recordsIn, stepAt, stepsIn}
 pub steps-length : (n : ℕ) (f : List ℕ) → length (stepsIn n f) ≡ n
 unfolding stepsIn
 steps-length zero f = refl
-steps-length (suc n) f = ap suc (steps-length n (drop 4 f))
+steps-length (suc n) f = ap suc (steps-length n (drop recordWidth f))
 
--- the record behind the first four numbers
-shifted : (f : List ℕ) (i : ℕ) → stepAt (drop 4 f) i ≡ stepAt f (suc i)
+-- the record behind the first one's numbers
+shifted : (f : List ℕ) (i : ℕ) → stepAt (drop recordWidth f) i ≡ stepAt f (suc i)
 shifted f i = λ j. record {
-  fate = at (i * 4) (suc i * 4) (omega arith) j;
-  surveyor = at (i * 4 + 1) (suc i * 4 + 1) (omega arith) j;
-  stand = at (i * 4 + 2) (suc i * 4 + 2) (omega arith) j;
-  rule = at (i * 4 + 3) (suc i * 4 + 3) (omega arith) j;
+  fate = at (i * recordWidth) (suc i * recordWidth) (omega arith) j;
+  surveyor = at (i * recordWidth + 1) (suc i * recordWidth + 1) (omega arith) j;
+  stand = at (i * recordWidth + 2) (suc i * recordWidth + 2) (omega arith) j;
+  shift = at (i * recordWidth + 3) (suc i * recordWidth + 3) (omega arith) j;
+  rule = at (i * recordWidth + 4) (suc i * recordWidth + 4) (omega arith) j;
 }
   where
-    at : (k l : ℕ) → 4 + k ≡ l → getD (drop 4 f) k 0 ≡ getD f l 0
-    at k l e = getD-drop 4 f k 0 ∙ ap (λ m. getD f m 0) e
+    at : (k l : ℕ) → recordWidth + k ≡ l → getD (drop recordWidth f) k 0 ≡ getD f l 0
+    at k l e = getD-drop recordWidth f k 0 ∙ ap (λ m. getD f m 0) e
 
 -- one record more: the last one
 pub steps-more : (n : ℕ) (f : List ℕ) → stepsIn (suc n) f ≡ stepsIn n f ++ (stepAt f n ∷ [])
 unfolding stepsIn
 steps-more zero f = refl
-steps-more (suc n) f = ap (λ (l : List Step). stepAt f 0 ∷ l) (steps-more n (drop 4 f) ∙ ap (λ (s : Step). stepsIn n (drop 4 f) ++ (s ∷ [])) (shifted f n))
+steps-more (suc n) f = ap (λ (l : List Step). stepAt f 0 ∷ l) (steps-more n (drop recordWidth f) ∙ ap (λ (s : Step). stepsIn n (drop recordWidth f) ++ (s ∷ [])) (shifted f n))
 
 -- a flat diary that holds records gives them
 held : (rs : List Record) (tail : List ℕ) → recordsIn (stepsIn (length rs) (gather numbers rs ++ tail)) ≡ rs
@@ -69,15 +70,16 @@ unfolding written
 filled-diary rs n flat room before after e h k =
     ap recordsIn k ∙ records-onto (stepsIn n flat) before
     ∙ ap (λ (l : List Record). onto l (recordsIn before))
-    (ap (λ (m : ℕ). recordsIn (stepsIn m flat)) h ∙ ap (λ (l : List ℕ). recordsIn (stepsIn (length rs) l)) e ∙ held rs (drop (4 * length rs) room))
+    (ap (λ (m : ℕ). recordsIn (stepsIn m flat)) h ∙ ap (λ (l : List ℕ). recordsIn (stepsIn (length rs) l)) e ∙ held rs (drop (recordWidth * length rs) room))
 
 -- the same of the trace of a whole run: the lent diary begins with the model's diary
-pub filled-run : (G : Instance) (sv st : List ℕ) → G .sv ≡ at sv → G .st ≡ at st → (t : Trace) → Traced (stepsOf G) t → (before after : List Step)
-    → after ≡ onto (stepsIn (t .steps) (flatOf sv st t)) before → recordsIn after ≡ onto (diaryOf G) (recordsIn before)
+pub filled-run : (G : Instance) (sv st sh : List ℕ) → G .sv ≡ at sv → G .st ≡ at st → G .sh ≡ at sh → (t : Trace) → Traced (stepsOf G) t
+    → (before after : List Step)
+    → after ≡ onto (stepsIn (t .steps) (flatOf sv st sh t)) before → recordsIn after ≡ onto (diaryOf G) (recordsIn before)
 unfolding diaryOf
-filled-run G sv st a b t T before after k =
-    filled-diary (diaryOf G) (t .steps) (flatOf sv st t) (replicate flatSize 0) before after
-    (trace-flat G sv st a b t T) (T .steps ∙ sym (length-map (stepsOf G) (recordOf G))) k
+filled-run G sv st sh a b c t T before after k =
+    filled-diary (diaryOf G) (t .steps) (flatOf sv st sh t) (replicate flatSize 0) before after
+    (trace-flat G sv st sh a b c t T) (T .steps ∙ sym (length-map (stepsOf G) (recordOf G))) k
 
 -- no record, as on a refusal: the lent diary is left as it was
 pub filled-none : (n : ℕ) (flat : List ℕ) (before after : List Step) → n ≡ 0 → after ≡ onto (stepsIn n flat) before → after ≡ before

@@ -1,4 +1,4 @@
-pub mod LentSteps
 pub mod FlatDiary
+pub mod LentSteps
 pub mod TraceRecords
 pub mod FilledDiary

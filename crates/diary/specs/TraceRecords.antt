@@ -1,4 +1,4 @@
--- The records of a run's trace: of each entry its rule, the rule's fate, and the ends of its edge. They are the model's diary.
+-- The records of a run's trace: of each entry its rule, the rule's fate, and the ends and the shift of its edge. They are the model's diary.
 use Prim.Native.Nat.{ℕ, zero, suc, _+_, _-_, _*_, _≤_, _<_, zero-le}
 use native.Mathlib.Omega.{arith}
 use mathlib.Core.Path.{_≡_, refl, sym, ap, ap₂, _∙_}
@@ -18,12 +18,19 @@ use Rattle.arrays.specs.ArrayInstance.{at}
 use Rattle.arrays.specs.Passes.{Low}
 use Rattle.reduction_state.specs.declared.Trace.{Trace}
 use Rattle.reduction_state.specs.Trace.{Traced}
-use Rattle.diary.specs.FlatDiary.{flatSize, entry, written, put, put-length, laid, laid-is}
+use Rattle.diary.specs.FlatDiary.{recordWidth, flatSize, entry, written, put, put-length, laid, laid-is}
 
-module _ (sv st : List ℕ) where
+-- what can be read of a trace: entries that are there, of edges that are there; of shifts nothing is asked
+pub record Readable (sv st : List ℕ) (t : Trace) : Type 0 where
+  pub few : t .steps ≤ entryLimit
+  pub edges : (i : ℕ) → i < t .steps → at (t .edges) i < entryLimit
+  pub low-sv : Low entryLimit sv nodeLimit
+  pub low-st : Low entryLimit st nodeLimit
+
+module _ (sv st sh : List ℕ) where
   -- the record of an entry
   abbrev pub entryAt : Trace → ℕ → Record
-  entryAt t i = entry (at (t .rules) i) (at sv (at (t .edges) i)) (at st (at (t .edges) i))
+  entryAt t i = entry (at (t .rules) i) (at sv (at (t .edges) i)) (at st (at (t .edges) i)) (at sh (at (t .edges) i))
 
   abbrev pub recordsOf : Trace → List Record
   recordsOf t = map (entryAt t) (range 0 (t .steps))
@@ -31,13 +38,6 @@ module _ (sv st : List ℕ) where
   -- the flat diary of a trace
   abbrev pub flatOf : Trace → List ℕ
   flatOf t = written (recordsOf t) (replicate flatSize 0)
-
-  -- what can be read of it: entries that are there, of edges that are there
-  pub record Readable (t : Trace) : Type 0 where
-    pub few : t .steps ≤ entryLimit
-    pub edges : (i : ℕ) → i < t .steps → at (t .edges) i < entryLimit
-    pub low-sv : Low entryLimit sv nodeLimit
-    pub low-st : Low entryLimit st nodeLimit
 
   -- ---- entry by entry: a flat diary with the records below i written
   pub record Telling (t : Trace) (i : ℕ) (flat : List ℕ) : Type 0 where
@@ -52,7 +52,7 @@ module _ (sv st : List ℕ) where
     ahead = ap (λ n. laid 0 (map (entryAt t) (range 0 n)) (replicate flatSize 0)) e;
   }
 
-  pub telling-next : (t : Trace) (i : ℕ) (flat flat′ : List ℕ) → Telling t i flat → i < t .steps → flat′ ≡ put flat (i * 4) (entryAt t i)
+  pub telling-next : (t : Trace) (i : ℕ) (flat flat′ : List ℕ) → Telling t i flat → i < t .steps → flat′ ≡ put flat (i * recordWidth) (entryAt t i)
       → Telling t (i + 1) flat′
   unfolding laid
   telling-next t i flat flat′ T h q =
@@ -60,7 +60,7 @@ module _ (sv st : List ℕ) where
       let one : suc i ≡ i + 1 = omega arith in
       record {
         within = omega arith;
-        size = put-length flat flat′ (i * 4) (entryAt t i) q ∙ T .size;
+        size = put-length flat flat′ (i * recordWidth) (entryAt t i) q ∙ T .size;
         ahead = T .ahead ∙ ap (λ n. laid i (map (entryAt t) (range i n)) flat) k
             ∙ ap₂ (λ (n : ℕ) (d : List ℕ). laid (i + 1) (map (entryAt t) (range n (t .steps - (i + 1)))) d) one (sym q);
       }
@@ -75,7 +75,7 @@ module _ (sv st : List ℕ) where
 
   -- ---- the entries of some steps
   abbrev of-step : Step → Record
-  of-step s = entry (s .rule) (at sv (s .edge)) (at st (s .edge))
+  of-step s = entry (s .rule) (at sv (s .edge)) (at st (s .edge)) (at sh (s .edge))
 
   head-at : (xs : List ℕ) (y : ℕ) (zs : List ℕ) (k : ℕ) → length xs ≡ k → at (xs ++ y ∷ zs) k ≡ y
   head-at xs y zs k h = ap (at (xs ++ y ∷ zs)) (let e : k ≡ length xs + 0 = omega arith in e) ∙ getD-append-add xs (y ∷ zs) 0 0
@@ -90,7 +90,7 @@ module _ (sv st : List ℕ) where
       let longer : (zs : List ℕ) (z : ℕ) → length zs ≡ k → length (zs ++ z ∷ []) ≡ suc k
       = λ zs z h. omega (arith, length-append zs (z ∷ [])) in
       ap₂ (λ (x : Record) (l : List Record). x ∷ l)
-      (ap₂ (λ (i j : ℕ). entry i (at sv j) (at st j)) r e)
+      (ap₂ (λ (i j : ℕ). entry i (at sv j) (at st j) (at sh j)) r e)
       (ap₂ (λ (u v : List ℕ). map (entryAt (record { edges = u; rules = v; steps = n })) (range (suc k) (length ss)))
       (sym (append-assoc xs (s .edge ∷ []) (map (λ s. s .edge) ss ++ es))) (sym (append-assoc ys (s .rule ∷ []) (map (λ s. s .rule) ss ++ rs)))
       ∙ entries-from ss (xs ++ s .edge ∷ []) (ys ++ s .rule ∷ []) es rs (suc k) n (longer xs (s .edge) a) (longer ys (s .rule) b))
@@ -105,23 +105,25 @@ module _ (sv st : List ℕ) where
 -- ---- of the steps that the model takes: a step's fate is its rule's
 module _ (G : Instance) where
   abbrev step-record : Step → Record
-  step-record s = entry (s .rule) (G .sv (s .edge)) (G .st (s .edge))
+  step-record s = entry (s .rule) (G .sv (s .edge)) (G .st (s .edge)) (G .sh (s .edge))
 
   steps-records : (n : ℕ) (Z : State) → map step-record (stepsFrom G n Z) ≡ map (recordOf G) (stepsFrom G n Z)
   steps-records = along G (λ n Z ss Y. map step-record ss ≡ map (recordOf G) ss) (λ n Z h. refl)
       (λ n Z ss Y h same. ap (λ (l : List Record). recordOf G (stepOf G Z) ∷ l) same)
 
 -- the trace of a whole run has the model's records
-pub trace-diary : (G : Instance) (sv st : List ℕ) → G .sv ≡ at sv → G .st ≡ at st → (t : Trace) → Traced (stepsOf G) t → recordsOf sv st t ≡ diaryOf G
+pub trace-diary : (G : Instance) (sv st sh : List ℕ) → G .sv ≡ at sv → G .st ≡ at st → G .sh ≡ at sh → (t : Trace) → Traced (stepsOf G) t
+    → recordsOf sv st sh t ≡ diaryOf G
 unfolding diaryOf stepsOf
-trace-diary G sv st a b t T = entries-are sv st (stepsOf G) t T
-    ∙ ap₂ (λ (f g : ℕ → ℕ). map (λ s. entry (s .rule) (f (s .edge)) (g (s .edge))) (stepsOf G)) (sym a) (sym b)
+trace-diary G sv st sh a b c t T = entries-are sv st sh (stepsOf G) t T
+    ∙ ap₂ (λ (f g : ℕ → ℕ). map (λ s. entry (s .rule) (f (s .edge)) (g (s .edge)) (at sh (s .edge))) (stepsOf G)) (sym a) (sym b)
+    ∙ ap (λ (f : ℕ → ℕ). map (λ s. entry (s .rule) (G .sv (s .edge)) (G .st (s .edge)) (f (s .edge))) (stepsOf G)) (sym c)
     ∙ steps-records G (G .m) (begin G)
 
 -- and its flat diary holds them
-pub trace-flat : (G : Instance) (sv st : List ℕ) → G .sv ≡ at sv → G .st ≡ at st → (t : Trace) → Traced (stepsOf G) t
-    → flatOf sv st t ≡ written (diaryOf G) (replicate flatSize 0)
-trace-flat G sv st a b t T = ap (λ (rs : List Record). written rs (replicate flatSize 0)) (trace-diary G sv st a b t T)
+pub trace-flat : (G : Instance) (sv st sh : List ℕ) → G .sv ≡ at sv → G .st ≡ at st → G .sh ≡ at sh → (t : Trace) → Traced (stepsOf G) t
+    → flatOf sv st sh t ≡ written (diaryOf G) (replicate flatSize 0)
+trace-flat G sv st sh a b c t T = ap (λ (rs : List Record). written rs (replicate flatSize 0)) (trace-diary G sv st sh a b c t T)
 
 -- it can be read
 pub readable : (G : Instance) (sv st : List ℕ) → G .m ≤ entryLimit → ((e : ℕ) → at sv e < nodeLimit) → ((e : ℕ) → at st e < nodeLimit)

@@ -11,7 +11,7 @@ use Rattle.model.specs.Roster.{Roster}
 use Rattle.model.specs.Edges.{instanceOf}
 use Rattle.model.specs.Instance.{Instance}
 use Rattle.model.specs.Plans.{Plan, on}
-use Rattle.model.specs.PlanFile.{edgesIn, pairList, planBytes}
+use Rattle.model.specs.PlanFile.{edgesIn, pairList, planBytesBy, planBytes}
 use Rattle.model.specs.Reduction.{stepsOf}
 use Rattle.model.specs.Finder as F
 use Rattle.model.specs.Finder.{recordOf, diaryOf}
@@ -63,7 +63,7 @@ module _ (G : Instance) where
       ∙ ap (λ p. line (w ∷ number (length es) ∷ []) ++ p) (pair-lines G es rest)
 
   plan-text : (w : List ℕ) (M : Plan) (buffer : List ℕ) → Front (planBytes G M) buffer → planText (w ++ 32 ∷ []) buffer ≡ planLines G w M
-  unfolding planBytes
+  unfolding planBytesBy
   plan-text w M buffer (rest, e) =
       ap (planText (w ++ 32 ∷ [])) e ∙ pairs-text w (edgesIn (G .m) (on M)) (pairList G (edgesIn (G .m) (on M)) ++ rest) (rest, refl)
 

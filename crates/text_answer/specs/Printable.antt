@@ -5,6 +5,7 @@ use mathlib.Core.List.{List, _++_}
 use lib.ListN.{length}
 use Rattle.model.specs.Limits.{diarySize}
 use Rattle.model.specs.Text.{text}
+use Rattle.diary.specs.FlatDiary.{flatSize}
 use Rattle.answers.specs.declared.Found.{Found}
 use Rattle.answers.specs.declared.Found.the-variants.{Plan, None, Refused}
 use Rattle.text_lines.specs.Texts.{texts, texts-length}
@@ -19,7 +20,7 @@ shownText (Refused n g) flat left plan rival = refusedText n g
 
 -- so many records in a flat diary
 abbrev pub Noted : ℕ → List ℕ → Type 0
-Noted n flat = (n ≤ diarySize) × (4 * diarySize ≤ length flat)
+Noted n flat = (n ≤ diarySize) × (flatSize ≤ length flat)
 
 abbrev pub Printable : Found → (flat left plan rival : List ℕ) → Type 0
 Printable (Plan n) flat left plan rival = Noted n flat × Counted plan

@@ -1,19 +1,18 @@
 -- The same for every roster within the limits and every input: a fixed buffer holds the text.
-use Prim.Native.Nat.{ℕ, zero, suc, _*_, _≤_}
+use Prim.Native.Nat.{ℕ, zero, suc, _≤_}
 use native.Mathlib.Omega.{arith}
 use mathlib.Core.Path.{_≡_, refl, sym, ap, subst}
-use mathlib.Core.Bool.{Bool, true, false, not, cond}
+use mathlib.Core.Bool.{Bool, true, false, not}
 use mathlib.Core.List.{List, [], _∷_}
 use lib.ListN.{length, take}
 use lib.Dec.{T, ltb}
 use Rattle.lists.specs.Test.{and-l, and-r, and-i}
 use Rattle.lists.specs.Sum.{_∈_, range, range-length}
-use Rattle.lists.specs.Keep.{gather}
-use Rattle.model.specs.Limits.{nodeLimit, entryLimit, planLimit, planSize, diarySize, leftSize, inputSize}
+use Rattle.model.specs.Limits.{entryLimit, planLimit, planSize, diarySize, leftSize, inputSize}
 use Rattle.model.specs.Reading.{Reading, accepted, refused}
-use Rattle.model.specs.Roster.{Roster, fits, surveyorCount, standCount, listed}
+use Rattle.model.specs.Roster.{Roster, fits}
 use Rattle.model.specs.RosterFile.{readRoster}
-use Rattle.model.specs.Edges.{Edge, edgesOf, pairEdge, instanceOf}
+use Rattle.model.specs.Edges.{instanceOf}
 use Rattle.model.specs.Instance.{Instance}
 use Rattle.model.specs.Plans.{Plan, on, plansOf, Verdict, strong, popular, beaten, isStrong, verdictOf}
 use Rattle.model.specs.PlanFile.{edgesIn}
@@ -24,17 +23,19 @@ use Rattle.model.specs.Printed.{answerText, printed}
 use Rattle.theory_files.specs.Reads.{isBytes}
 use Rattle.theory_files.specs.Rosters.{read-fits}
 use Rattle.theory_files.specs.Reach.{read-front}
+use Rattle.theory_files.specs.EdgeCount.{edges-few}
 use Rattle.theory_reduction.specs.Course.{end-matching, steps-few}
 use Rattle.theory_verdict.specs.Plans.{matching-plan}
-use Rattle.theory_files.specs.RosterInstance.{ns-small, nt-small, fileable}
+use Rattle.theory_files.specs.RosterInstance.{fileable}
 use Rattle.theory_files.specs.PlanFiles.{plan-few}
 use Rattle.theory_finder.specs.Choices.{chosen}
 use Rattle.arrays.specs.Kept.{keep-most}
+use Rattle.diary.specs.FlatDiary.{flatSize}
 use Rattle.answers.specs.declared.Found.{Found}
 use Rattle.answers.specs.FinderCases.{shows-found}
 use Rattle.text_answer.specs.Printable.{Printable, textSize}
 use Rattle.text_answer.specs.Handed.{HandedFor}
-use Rattle.text_answer.specs.Sizes.{gather-length, Small, refused-length, text-length, handed-printable}
+use Rattle.text_answer.specs.Sizes.{Small, refused-length, text-length, handed-printable}
 
 bytes-front : (n : ℕ) (bs : List ℕ) → T (isBytes bs) → T (isBytes (take n bs))
 bytes-front zero bs t = tt
@@ -42,33 +43,16 @@ bytes-front (suc n) [] t = tt
 bytes-front (suc n) (x ∷ bs) t =
     and-i (ltb x 256) (isBytes (take n bs)) (and-l (ltb x 256) (isBytes bs) t) (bytes-front n bs (and-r (ltb x 256) (isBytes bs) t))
 
--- at most one pair for a surveyor and a stand
-pub edges-few : (r : Roster) → T (fits r) → instanceOf r .m ≤ entryLimit
-unfolding instanceOf edgesOf
-edges-few r ok = omega (arith, gather-length row nodeLimit few (range 0 (surveyorCount r)), range-length 0 (surveyorCount r), ns-small r ok)
-  where
-    row : ℕ → List Edge
-    row i = gather (λ j. cond (listed r i j) (pairEdge r i j ∷ []) []) (range 0 (standCount r))
-
-    few : (i : ℕ) → length (row i) ≤ nodeLimit
-    few i =
-        omega (
-          arith,
-          gather-length (λ j. cond (listed r i j) (pairEdge r i j ∷ []) []) 1 (λ j. one (listed r i j) (pairEdge r i j)) (range 0 (standCount r)),
-          range-length 0 (standCount r),
-          nt-small r ok,
-        )
-      where
-        one : (b : Bool) (e : Edge) → length (cond b (e ∷ []) []) ≤ 1
-        one true e = omega arith
-        one false e = omega arith
-
 module _ (r : Roster) (ok : T (fits r)) where
   abbrev G : Instance
   G = instanceOf r
 
+  edges-fit : G .m ≤ entryLimit
+  unfolding instanceOf
+  edges-fit = edges-few r ok
+
   pub steps-fit : length (stepsOf (instanceOf r)) ≤ diarySize
-  steps-fit = omega (arith, steps-few (instanceOf r), edges-few r ok)
+  steps-fit = omega (arith, steps-few (instanceOf r), edges-fit)
 
   candidate-plan : candidateOf G ∈ plansOf G
   unfolding candidateOf
@@ -76,7 +60,7 @@ module _ (r : Roster) (ok : T (fits r)) where
 
   left-few : length (leftOf G) ≤ entryLimit
   unfolding leftOf
-  left-few = omega (arith, keep-most (endOf G .rem) (range 0 (G .m)), range-length 0 (G .m), edges-few r ok)
+  left-few = omega (arith, keep-most (endOf G .rem) (range 0 (G .m)), range-length 0 (G .m), edges-fit)
 
   pub found-small : Small (instanceOf r) (finderOf (instanceOf r) (chosen .rivalOf (instanceOf r)))
   unfolding finderOf
@@ -99,7 +83,7 @@ module _ (r : Roster) (ok : T (fits r)) where
 
 -- what is handed over for a roster file can be printed
 pub file-printable : (x : Reading Roster) → ((r : Roster) → x ≡ accepted r → T (fits r)) → (a : Found) (flat left plan rival : List ℕ)
-    → 4 * diarySize ≤ length flat → leftSize ≤ length left → planSize ≤ length plan → planSize ≤ length rival → HandedFor x a flat left plan rival
+    → flatSize ≤ length flat → leftSize ≤ length left → planSize ≤ length plan → planSize ≤ length rival → HandedFor x a flat left plan rival
     → Printable a flat left plan rival
 file-printable (accepted r) ok a flat left plan rival d l p v h =
     handed-printable (steps-fit r (ok r refl)) d l p v (finderOf (instanceOf r) (chosen .rivalOf (instanceOf r))) (found-small r (ok r refl)) h
@@ -115,7 +99,7 @@ pub printed-length : (input : List ℕ) → T (isBytes input) → length (printe
 unfolding printed
 printed-length input isB = answer-length (readRoster (take inputSize input)) (λ r e. read-fits (take inputSize input) r (bytes-front inputSize input isB) e)
 
--- a longer input has the answer of its first 2,215 bytes
+-- a longer input has the answer of its first 4,263 bytes
 pub printed-whole : (input : List ℕ) → printed (chosen .rivalOf) input ≡ answerText (readRoster input) (chosen .rivalOf)
 unfolding printed
 printed-whole input = ap (λ x. answerText x (chosen .rivalOf)) (read-front input)

@@ -10,11 +10,12 @@ use Rattle.model.specs.Text.{text}
 use Rattle.model.specs.Refusal.{Group, form, content, plan, desk, groupOf}
 use Rattle.model.specs.Instance.{Instance}
 use Rattle.model.specs.Plans.{Plan, on}
-use Rattle.model.specs.PlanFile.{edgesIn, planBytes}
+use Rattle.model.specs.PlanFile.{edgesIn, planBytesBy, planBytes}
 use Rattle.model.specs.Reduction.{stepsOf}
 use Rattle.model.specs.Finder as F
 use Rattle.model.specs.Finder.{recordOf, diaryOf}
 use Rattle.model.specs.Printed.{number, line, diaryLine, pairLine, counted, ending, groupWord}
+use Rattle.diary.specs.FlatDiary.{flatSize}
 use Rattle.answers.specs.declared.Found.{Found}
 use Rattle.answers.specs.FinderCases.{shows-found}
 use Rattle.text_numbers.specs.Digits.{fieldSize, field-length}
@@ -31,7 +32,7 @@ Small G (F.left es) = length es ≤ entryLimit
 Small G (F.rivalled M N v) = (length (edgesIn (G .m) (on M)) ≤ planLimit) × (length (edgesIn (G .m) (on N)) ≤ planLimit)
 
 -- ---- the text's length
-pub gather-length : {A B : Type 0} (g : A → List B) (size : ℕ) → ((x : A) → length (g x) ≤ size) → (xs : List A) → length (gather g xs) ≤ size * length xs
+gather-length : {A B : Type 0} (g : A → List B) (size : ℕ) → ((x : A) → length (g x) ≤ size) → (xs : List A) → length (gather g xs) ≤ size * length xs
 gather-length g size h [] = omega arith
 gather-length g size h (x ∷ xs) =
     let e : size * suc (length xs) ≡ size + size * length xs = omega arith in simp length-append (omega (arith, h x, gather-length g size h xs))
@@ -54,7 +55,7 @@ module _ (G : Instance) where
       (omega (
         arith,
         simp length-append at (field-length (length es) 10),
-        gather-length (pairLine G) pairLineSize (λ e. pair-length (suc (G .sv e)) (suc (G .st e))) es,
+        gather-length (pairLine G) pairLineSize (λ e. pair-length (suc (G .sv e)) (suc (G .st e)) (G .sh e) 10) es,
       ))
 
   ending-length : (f : F.Found) → Small G f → length (ending G f) ≤ endingSize
@@ -76,11 +77,11 @@ module _ (G : Instance) where
 -- ---- what is handed over is printable
 plan-counted : (G : Instance) (M : Plan) (buffer : List ℕ) → length (edgesIn (G .m) (on M)) ≤ planLimit → planSize ≤ length buffer
     → Front (planBytes G M) buffer → Counted buffer
-unfolding planBytes
+unfolding planBytesBy
 plan-counted G M buffer h k (rest, e) = (omega (arith, ap (λ b. getD b 0 0) e), k)
 
 module _ {G : Instance} {a : Found} {flat left plan rival : List ℕ} (steps : length (stepsOf G) ≤ diarySize)
-    (d : 4 * diarySize ≤ length flat) (l : leftSize ≤ length left) (p : planSize ≤ length plan) (v : planSize ≤ length rival) where
+    (d : flatSize ≤ length flat) (l : leftSize ≤ length left) (p : planSize ≤ length plan) (v : planSize ≤ length rival) where
   pub handed-printable : (f : F.Found) → Small G f → Handed G f a flat left plan rival → Printable a flat left plan rival
   handed-printable (F.plan M) s h =
       subst (λ k. Printable k flat left plan rival) (sym (shows-found a (h .answer))) ((steps, d), plan-counted G M plan s p (h .pairs))

@@ -3,14 +3,13 @@ use Prim.Native.Nat.{ℕ, _+_, _*_, _≤_}
 use native.Mathlib.Omega.{arith}
 use mathlib.Core.List.{List}
 use lib.ListN.{length, getD, drop, length-append}
-use Rattle.model.specs.Limits.{entryLimit, planLimit, pairWidth, planSize, leftSize}
+use Rattle.model.specs.Limits.{entryLimit, planLimit, planSize, leftSize}
 use Rattle.answers.specs.declared.NoneKind.{NoneKind}
 use Rattle.answers.specs.declared.NoneKind.the-variants.{Left, Rivalled}
 use Rattle.text_numbers.specs.Digits.{fieldSize, field-length}
 use Rattle.text_numbers.specs.Votes.{voteSize}
-use Rattle.pair_bytes.specs.PairAt.{pairFrom}
 use Rattle.text_lines.specs.Texts.{texts-length}
-use Rattle.text_lines.specs.Lines.{pairAt, pairLineSize, pair-length}
+use Rattle.text_lines.specs.Lines.{pairAt, pairLineSize, pair-at-length}
 use Rattle.text_endings.specs.Endings.{countedText, planText}
 
 -- a plan buffer whose count byte is one
@@ -40,12 +39,7 @@ refusedSize = 8 + fieldSize + groupSize
 pub counted-length : (word pairs : List ℕ) (n : ℕ) → length (countedText word pairs n) ≤ length word + fieldSize + pairLineSize * n
 counted-length word pairs n =
     simp length-append
-    (omega (
-      arith,
-      simp length-append at (field-length n 10),
-      texts-length (pairAt pairs) pairLineSize
-          (λ i. pair-length (pairFrom pairs (pairWidth * i) .surveyor) (pairFrom pairs (pairWidth * i) .stand)) n,
-    ))
+    (omega (arith, simp length-append at (field-length n 10), texts-length (pairAt pairs) pairLineSize (pair-at-length pairs) n))
 
 pub plan-length : (word plan : List ℕ) → Counted plan → length (planText word plan) ≤ length word + fieldSize + pairLineSize * planLimit
 plan-length word plan h = omega (arith, counted-length word (drop 1 plan) (getD plan 0 0))

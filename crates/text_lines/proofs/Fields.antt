@@ -1,9 +1,11 @@
--- The words of fates, and fields in a row as one line.
+-- The words of fates, and fields in a row as one text.
 use Prim.Native.Nat.{ℕ, zero, suc}
 use mathlib.Core.Path.{_≡_, refl}
 use mathlib.Core.List.{List, [], _∷_, _++_, append-assoc}
 use Rattle.model.specs.Text.{text}
-use Rattle.model.specs.Printed.{line, fateWord}
+use Rattle.model.specs.Finder.{Record}
+use Rattle.model.specs.Printed.{number, fateWord, diaryLine}
+use Rattle.text_lines.specs.Lines.{pairText}
 
 pub fate-none : (n : ℕ) → n ≡ 0 → 32 ∷ [] ≡ fateWord n ++ 32 ∷ []
 fate-none n e = rw e
@@ -18,8 +20,9 @@ fate-strike zero f g = absurd (f refl)
 fate-strike (suc zero) f g = absurd (g refl)
 fate-strike (suc (suc n)) f g = refl
 
-pub four-fields : (a b c d : List ℕ) → (((a ++ 32 ∷ []) ++ (b ++ 32 ∷ [])) ++ (c ++ 32 ∷ [])) ++ (d ++ 10 ∷ []) ≡ line (a ∷ b ∷ c ∷ d ∷ [])
-four-fields a b c d = simp append-assoc
+pub pair-fields : (s t k end : ℕ) → ((number s ++ 32 ∷ []) ++ (number t ++ 32 ∷ [])) ++ (number k ++ end ∷ []) ≡ pairText s t k end
+pair-fields s t k end = simp append-assoc
 
-pub two-fields : (a b : List ℕ) → (a ++ 32 ∷ []) ++ (b ++ 10 ∷ []) ≡ line (a ∷ b ∷ [])
-two-fields a b = simp append-assoc
+pub record-fields : (x : Record)
+    → ((fateWord (x .fate) ++ 32 ∷ []) ++ pairText (x .surveyor) (x .stand) (x .shift) 32) ++ (number (x .rule) ++ 10 ∷ []) ≡ diaryLine x
+record-fields x = simp append-assoc

@@ -11,7 +11,7 @@ use Rattle.model.specs.Instance.{Instance}
 use Rattle.model.specs.PlanFile.{pairBytes, pairList}
 use Rattle.model.specs.Finder.{Record}
 use Rattle.model.specs.Printed.{diaryLine, pairLine, pairLines}
-use Rattle.diary.specs.FlatDiary.{numbers, written}
+use Rattle.diary.specs.FlatDiary.{numbers, written, recordWidth}
 use Rattle.text_lines.specs.Texts.{texts, texts-gather}
 use Rattle.text_lines.specs.Lines.{pairText, recordAt, diaryAt, pairAt}
 
@@ -27,28 +27,39 @@ module _ {A : Type 0} (w : ℕ) (f : A → List ℕ) (d : A) (wide : (x : A) →
       ap₂ (λ (l : List ℕ) n. getD l n 0) (append-assoc (f x) (gather f xs) rest) e ∙ getD-append-add (f x) (gather f xs ++ rest) (w * i + j) 0
       ∙ gather-at xs rest i j (omega arith) k
 
--- a flat diary's records
-abbrev made : (f s t r : ℕ) → Record
-made f s t r = record { fate = f; surveyor = s; stand = t; rule = r }
+  -- the same for the first byte, whose place has nothing added
+  gather-first : (xs : List A) (rest : List ℕ) (i : ℕ) → i < length xs → 0 < w → getD (gather f xs ++ rest) (w * i) 0 ≡ getD (f (getD xs i d)) 0 0
+  gather-first xs rest i h k = let e : w * i ≡ w * i + 0 = omega arith in ap (λ n. getD (gather f xs ++ rest) n 0) e ∙ gather-at xs rest i 0 h k
 
-record-at : (rs : List Record) (d : List ℕ) (i : ℕ) → i < length rs → recordAt (written rs d) i ≡ getD rs i (made 0 0 0 0)
+-- a flat diary's records
+abbrev none : Record
+none = record { fate = 0; surveyor = 0; stand = 0; shift = 0; rule = 0 }
+
+record-at : (rs : List Record) (d : List ℕ) (i : ℕ) → i < length rs → recordAt (written rs d) i ≡ getD rs i none
 unfolding written
-record-at rs d i h =
-    let x = getD rs i (made 0 0 0 0) in
-    let flat = written rs d in
-    let e : 4 * i + 0 ≡ 4 * i = omega arith in
-    ap₂ (λ a b. made a b (getD flat (4 * i + 2) 0) (getD flat (4 * i + 3) 0)) (ap (λ n. getD flat n 0) (sym e) ∙ held 0 (omega arith)) (held 1 (omega arith))
-    ∙ ap₂ (made (x .fate) (x .surveyor)) (held 2 (omega arith)) (held 3 (omega arith))
+record-at rs d i h = λ j. record {
+  fate = gather-first recordWidth numbers none (λ x. refl) rs rest i h (omega arith) j;
+  surveyor = held 1 (omega arith) j;
+  stand = held 2 (omega arith) j;
+  shift = held 3 (omega arith) j;
+  rule = held 4 (omega arith) j;
+}
   where
-    held : (j : ℕ) → j < 4 → getD (gather numbers rs ++ drop (4 * length rs) d) (4 * i + j) 0 ≡ getD (numbers (getD rs i (made 0 0 0 0))) j 0
-    held j k = gather-at 4 numbers (made 0 0 0 0) (λ x. refl) rs (drop (4 * length rs) d) i j h k
+    rest : List ℕ
+    rest = drop (recordWidth * length rs) d
+
+    held : (j : ℕ) → j < recordWidth → getD (gather numbers rs ++ rest) (recordWidth * i + j) 0 ≡ getD (numbers (getD rs i none)) j 0
+    held j k = gather-at recordWidth numbers none (λ x. refl) rs rest i j h k
 
 pub diary-lines : (rs : List Record) (d : List ℕ) → texts (diaryAt (written rs d)) (length rs) ≡ gather diaryLine rs
-diary-lines rs d = texts-gather diaryLine (made 0 0 0 0) rs (diaryAt (written rs d)) (λ i h. ap diaryLine (record-at rs d i h))
+diary-lines rs d = texts-gather diaryLine none rs (diaryAt (written rs d)) (λ i h. ap diaryLine (record-at rs d i h))
 
 -- the pairs of some edges
+pair-at : (G : Instance) (es rest : List ℕ) (i : ℕ) → i < length es → pairAt (pairList G es ++ rest) i ≡ pairLine G (getD es i 0)
+pair-at G es rest i h = λ j. pairText (gather-first pairWidth (pairBytes G) 0 (λ x. refl) es rest i h (omega arith) j) (held 1 (omega arith) j) (held 2 (omega arith) j) 10
+  where
+    held : (j : ℕ) → j < pairWidth → getD (pairList G es ++ rest) (pairWidth * i + j) 0 ≡ getD (pairBytes G (getD es i 0)) j 0
+    held j k = gather-at pairWidth (pairBytes G) 0 (λ x. refl) es rest i j h k
+
 pub pair-lines : (G : Instance) (es rest : List ℕ) → texts (pairAt (pairList G es ++ rest)) (length es) ≡ pairLines G es
-pair-lines G es rest = texts-gather (pairLine G) 0 es (pairAt (pairList G es ++ rest)) (λ i h.
-    let e : pairWidth * i + 0 ≡ pairWidth * i = omega arith in
-    ap₂ pairText (ap (λ n. getD (pairList G es ++ rest) n 0) (sym e) ∙ gather-at pairWidth (pairBytes G) 0 (λ x. refl) es rest i 0 h (omega arith))
-    (gather-at pairWidth (pairBytes G) 0 (λ x. refl) es rest i 1 h (omega arith)))
+pair-lines G es rest = texts-gather (pairLine G) 0 es (pairAt (pairList G es ++ rest)) (pair-at G es rest)

@@ -2,12 +2,15 @@
 -- four digits, a byte behind each.
 use Prim.Native.Nat.{ℕ, zero, suc, _+_, _*_, _≤_}
 use native.Mathlib.Omega.{arith}
-use mathlib.Core.List.{List, [], _∷_}
+use mathlib.Core.Bool.{true}
+use mathlib.Core.List.{List, [], _∷_, _++_}
 use lib.ListN.{length, getD, length-append}
 use Rattle.model.specs.Limits.{pairWidth}
 use Rattle.model.specs.Text.{text}
 use Rattle.model.specs.Finder.{Record}
-use Rattle.model.specs.Printed.{number, line, fateWord, diaryLine}
+use Rattle.model.specs.Printed.{number, fateWord, diaryLine}
+use Rattle.diary.specs.FlatDiary.{recordWidth}
+use Rattle.pair_bytes.specs.declared.Pair.{Pair}
 use Rattle.pair_bytes.specs.PairAt.{pairFrom}
 use Rattle.text_numbers.specs.Digits.{digits-length, fieldSize}
 
@@ -15,24 +18,34 @@ use Rattle.text_numbers.specs.Digits.{digits-length, fieldSize}
 abbrev pub fateSize : ℕ
 fateSize = 7
 
-abbrev pub diaryLineSize : ℕ
-diaryLineSize = fateSize + 3 * fieldSize
-
 abbrev pub pairLineSize : ℕ
-pairLineSize = 2 * fieldSize
+pairLineSize = 3 * fieldSize
 
-abbrev pub pairText : (surveyor stand : ℕ) → List ℕ
-pairText s t = line (number s ∷ number t ∷ [])
+abbrev pub diaryLineSize : ℕ
+diaryLineSize = fateSize + pairLineSize + fieldSize
+
+-- the numbers of a pair: a space behind the first two, a byte behind the shift
+abbrev pub pairText : (surveyor stand shift end : ℕ) → List ℕ
+pairText s t k end = number s ++ 32 ∷ (number t ++ 32 ∷ (number k ++ end ∷ []))
 
 -- the i-th record of a flat diary, its line, and the line of the i-th pair of some pair bytes
 abbrev pub recordAt : List ℕ → ℕ → Record
-recordAt flat i = record { fate = getD flat (4 * i) 0; surveyor = getD flat (4 * i + 1) 0; stand = getD flat (4 * i + 2) 0; rule = getD flat (4 * i + 3) 0 }
+recordAt flat i = record {
+  fate = getD flat (recordWidth * i) 0;
+  surveyor = getD flat (recordWidth * i + 1) 0;
+  stand = getD flat (recordWidth * i + 2) 0;
+  shift = getD flat (recordWidth * i + 3) 0;
+  rule = getD flat (recordWidth * i + 4) 0;
+}
 
 abbrev pub diaryAt : List ℕ → ℕ → List ℕ
 diaryAt flat i = diaryLine (recordAt flat i)
 
+abbrev pub lineOf : Pair → List ℕ
+lineOf p = pairText (p .surveyor) (p .stand) (p .shift) 10
+
 abbrev pub pairAt : List ℕ → ℕ → List ℕ
-pairAt pairs i = pairText (pairFrom pairs (pairWidth * i) .surveyor) (pairFrom pairs (pairWidth * i) .stand)
+pairAt pairs i = lineOf (pairFrom true pairs (pairWidth * i))
 
 pub fate-length : (n : ℕ) → length (fateWord n) ≤ 6
 unfolding text
@@ -41,7 +54,17 @@ fate-length (suc zero) = omega arith
 fate-length (suc (suc n)) = omega arith
 
 pub diary-length : (x : Record) → length (diaryLine x) ≤ diaryLineSize
-diary-length x = simp length-append (omega (arith, fate-length (x .fate), digits-length 4 (x .surveyor), digits-length 4 (x .stand), digits-length 4 (x .rule)))
+diary-length x = simp length-append (omega (
+  arith,
+  fate-length (x .fate),
+  digits-length 4 (x .surveyor),
+  digits-length 4 (x .stand),
+  digits-length 4 (x .shift),
+  digits-length 4 (x .rule),
+))
 
-pub pair-length : (s t : ℕ) → length (pairText s t) ≤ pairLineSize
-pair-length s t = simp length-append (omega (arith, digits-length 4 s, digits-length 4 t))
+pub pair-length : (s t k end : ℕ) → length (pairText s t k end) ≤ pairLineSize
+pair-length s t k end = simp length-append (omega (arith, digits-length 4 s, digits-length 4 t, digits-length 4 k))
+
+pub pair-at-length : (pairs : List ℕ) (i : ℕ) → length (pairAt pairs i) ≤ pairLineSize
+pair-at-length pairs i = let p = pairFrom true pairs (pairWidth * i) in pair-length (p .surveyor) (p .stand) (p .shift) 10

@@ -4,10 +4,12 @@ ghost use Prim.Native.Nat.{_+_, _*_, _≤_};
 ghost use lib.ListN.{length};
 ghost use Rattle.model.specs.Limits.{pairWidth};
 ghost use Rattle.model.specs.Printed.{fateWord, diaryLine};
+ghost use Rattle.diary.specs.FlatDiary.{recordWidth};
 ghost use Rattle.text_numbers.specs.Appended.{Appended};
 ghost use Rattle.text_lines.specs.Texts.{texts};
 ghost use Rattle.text_lines.specs.Lines.{fateSize, diaryLineSize, pairLineSize, pairText, diaryAt, pairAt};
 use limits::PAIR_WIDTH;
+use limits::RECORD_WIDTH;
 
 // the word of a fate and a space
 fn put_fate(out: &mut [u8], at: usize, fate: u8) -> usize
@@ -23,42 +25,58 @@ fn put_fate(out: &mut [u8], at: usize, fate: u8) -> usize
     text_numbers::put_word(out, at, b"strike ")
 }
 
+// "carry the shift after the stand" (W-204): the numbers of a pair, as diary lines and pair lines have them, a space behind each but the last
+fn put_pair(out: &mut [u8], at: usize, surveyor: u8, stand: u8, shift: u8, end: u8) -> usize
+    requires { ⌜ at + pairLineSize ≤ length (now out) ⌝ }
+    ensures { λ r. ⌜ Appended (now (out .entry)) at (pairText surveyor stand shift end) (now (out .exit)) r ⌝ }
+{
+    let next = text_numbers::put_field(out, at, surveyor as usize, b' ');
+    let next = text_numbers::put_field(out, next, stand as usize, b' ');
+    text_numbers::put_field(out, next, shift as usize, end)
+}
+
 // "Diary lines are fate, surveyor, stand, rule"
-fn put_record(out: &mut [u8], at: usize, fate: u8, surveyor: u8, stand: u8, rule: u8) -> usize
+fn put_record(
+    out: &mut [u8],
+    at: usize,
+    fate: u8,
+    surveyor: u8,
+    stand: u8,
+    shift: u8,
+    rule: u8,
+) -> usize
     requires { ⌜ at + diaryLineSize ≤ length (now out) ⌝ }
-    ensures { λ r. ⌜ Appended (now (out .entry)) at (diaryLine (record { fate = fate; surveyor = surveyor; stand = stand; rule = rule })) (now (out .exit)) r ⌝ }
+    ensures { λ r. ⌜ Appended (now (out .entry)) at (diaryLine (record { fate = fate; surveyor = surveyor; stand = stand; shift = shift; rule = rule })) (now (out .exit)) r ⌝ }
 {
     let next = put_fate(out, at, fate);
-    let next = text_numbers::put_field(out, next, surveyor as usize, b' ');
-    let next = text_numbers::put_field(out, next, stand as usize, b' ');
+    let next = put_pair(out, next, surveyor, stand, shift, b' ');
     text_numbers::put_field(out, next, rule as usize, b'\n')
 }
 
 // the lines of a flat diary's first records
 pub fn put_diary(out: &mut [u8], at: usize, flat: &[u8], n: usize) -> usize
-    requires { ⌜ (4 * n ≤ length (now flat)) × (at + diaryLineSize * n ≤ length (now out)) ⌝ }
+    requires { ⌜ (recordWidth * n ≤ length (now flat)) × (at + diaryLineSize * n ≤ length (now out)) ⌝ }
     ensures { λ r. ⌜ Appended (now (out .entry)) at (texts (diaryAt (now (flat .entry))) n) (now (out .exit)) r ⌝ }
 {
     let mut next = at;
     let mut i: usize = 0;
     while i < n {
-        let b = 4 * i;
-        next = put_record(out, next, flat[b], flat[b + 1], flat[b + 2], flat[b + 3]);
+        let b = RECORD_WIDTH * i;
+        next = put_record(
+            out,
+            next,
+            flat[b],
+            flat[b + 1],
+            flat[b + 2],
+            flat[b + 3],
+            flat[b + 4],
+        );
         i += 1;
     }
     next
 }
 
-// "Pair lines are surveyor, stand"
-fn put_pair(out: &mut [u8], at: usize, surveyor: u8, stand: u8) -> usize
-    requires { ⌜ at + pairLineSize ≤ length (now out) ⌝ }
-    ensures { λ r. ⌜ Appended (now (out .entry)) at (pairText surveyor stand) (now (out .exit)) r ⌝ }
-{
-    let next = text_numbers::put_field(out, at, surveyor as usize, b' ');
-    text_numbers::put_field(out, next, stand as usize, b'\n')
-}
-
-// the lines of the first pairs of some pair bytes
+// "Pair lines are surveyor, stand": the lines of the first pairs of some pair bytes
 pub fn put_pairs(out: &mut [u8], at: usize, pairs: &[u8], n: usize) -> usize
     requires { ⌜ (pairWidth * n ≤ length (now pairs)) × (at + pairLineSize * n ≤ length (now out)) ⌝ }
     ensures { λ r. ⌜ Appended (now (out .entry)) at (texts (pairAt (now (pairs .entry))) n) (now (out .exit)) r ⌝ }
@@ -66,8 +84,8 @@ pub fn put_pairs(out: &mut [u8], at: usize, pairs: &[u8], n: usize) -> usize
     let mut next = at;
     let mut i: usize = 0;
     while i < n {
-        let p = pair_bytes::get(pairs, PAIR_WIDTH * i);
-        next = put_pair(out, next, p.surveyor, p.stand);
+        let p = pair_bytes::get(pairs, PAIR_WIDTH * i, true);
+        next = put_pair(out, next, p.surveyor, p.stand, p.shift, b'\n');
         i += 1;
     }
     next

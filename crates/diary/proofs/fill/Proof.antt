@@ -56,6 +56,7 @@ use denote.Triple.Clauses.{ensured, lasts}
 use denote.Triple.Table.{entered, cited}
 use denote.Triple.Walked.{says, needs, Stays, stay-slice, stay-dropped, walkOf, Walks, ends-at, walked, goes-slice, goes-dropped, walk-meets}
 use Rattle.diary.specs.declared.Step.{Step}
+use Rattle.diary.specs.FlatDiary.{recordWidth, flatSize}
 use Rattle.diary.specs.LentSteps.{stepAt}
 use Rattle.diary.proofs.Filled.{filled, filled-length, filled-onto}
 use Rattle.diary.proofs.Step as T
@@ -74,7 +75,7 @@ use Rattle.diary.proofs.fill.Code.Mir as mir′
 abbrev stayed : Stays (fill′.ended .signature .params) (fill′.ended .kept)
 stayed = (
   stay-slice (0 ∷ []) tt (plain (λ _. T.the-row)),
-  (stay-dropped (ArrayOf (plain (λ _. u8)) (λ _. tt) 4096) yes, (stay-dropped (plain (λ _. usize)) yes, tt)),
+  (stay-dropped (ArrayOf (plain (λ _. u8)) (λ _. tt) flatSize) yes, (stay-dropped (plain (λ _. usize)) yes, tt)),
 )
 
 abbrev Arg : Type 0
@@ -82,7 +83,9 @@ Arg = RefT (List Step) × (List ℕ × (ℕ × Unit {0}))
 
 -- a record's machine value
 abbrev mach : Step → Val
-mach s = vstruct (vcons (vint w8 (s .fate)) (vcons (vint w8 (s .surveyor)) (vcons (vint w8 (s .stand)) (vcons (vint w8 (s .rule)) vnil))))
+mach s =
+    vstruct (vcons (vint w8 (s .fate)) (vcons (vint w8 (s .surveyor))
+    (vcons (vint w8 (s .stand)) (vcons (vint w8 (s .shift)) (vcons (vint w8 (s .rule)) vnil)))))
 
 -- the locals' types
 abbrev word : Ty
@@ -92,13 +95,13 @@ abbrev diaryTy : Ty
 diaryTy = sliceTy (tyRef (named 0) mut (pointee (T.the-row .written)))
 
 abbrev flatTy : Ty
-flatTy = tyArray (tyInt w8) 4096
+flatTy = tyArray (tyInt w8) flatSize
 
 abbrev stepTy : Ty
 stepTy = T′.mir
 
 -- ---- plain facts
-scaled : (i n : ℕ) → i < n → n ≤ 1024 → i * 4 < 2 ^ 64
+scaled : (i n : ℕ) → i < n → n ≤ 1024 → i * recordWidth < 2 ^ 64
 scaled i n h r = omega arith
 
 next-fits : (i n : ℕ) → i < n → n ≤ 1024 → i + 1 < 2 ^ 64
@@ -161,7 +164,7 @@ module _ {M : Type 1} (𝓤 : URA M) (H : Heap 𝓤) (A : Atoms 𝓤) (W : Given
       nothing ! $ nothing ! $ fjoin ! $ nothing ! $ fjoin ! $ move ! (1 ∷ 0 ∷ []) $ fjoin ! $ frame ! $
       feqI ! (List Val) (vunit ∷ []) (vunit ∷ []) refl $ done !
 
-  module _ (is-flat : Is (Array u8 4096) f (fv ∷ [])) where
+  module _ (is-flat : Is (Array u8 flatSize) f (fv ∷ [])) where
     -- what `step_at`'s triple binds outside, at i
     abbrev to : ℕ → StepAt 𝓤 H A at-mem run .Ghost
     to i = ((tt, tt, tt, (f, (i, tt)), (fv ∷ [], (vint w64 i ∷ [], tt))), tt)
@@ -169,8 +172,8 @@ module _ {M : Type 1} (𝓤 : URA M) (H : Heap 𝓤) (A : Atoms 𝓤) (W : Given
     asks : (i : ℕ) → i < 2 ^ 64 → i < 1024 → ent 𝓤 (sem 𝓤 H A ftrue) (StepAt 𝓤 H A at-mem run .pre (to i))
     asks i i-fits h =
         qed W (‵ ftrue ∷ []) ∵ says ! h $ frame ! $
-        nothing ! $ owned ! usize (Is usize) (uint-makes 𝓤 H A W w64) i _ (refl, i-fits) $ fjoin ! $ owned ! (Array u8 4096) (Is (Array u8 4096))
-        (array-makes 𝓤 H A W u8 (uint-makes 𝓤 H A W w8) 4096) f _ is-flat $ fjoin ! $ done !
+        nothing ! $ owned ! usize (Is usize) (uint-makes 𝓤 H A W w64) i _ (refl, i-fits) $ fjoin ! $ owned ! (Array u8 flatSize) (Is (Array u8 flatSize))
+        (array-makes 𝓤 H A W u8 (uint-makes 𝓤 H A W w8) flatSize) f _ is-flat $ fjoin ! $ done !
 
     said : (i : ℕ) (r : Step) → ent 𝓤 (ensured 𝓤 H A step-at.ended (step-at.clauses 𝓤 H A at-mem run) tt (f, (i, tt)) tt r) (fact 𝓤 (r ≡ stepAt f i))
     said i r = exE 𝓤 _ (λ ws. snd∗ 𝓤 (sem 𝓤 H A (lasts step-at.ended tt (f, (i, tt)) ws)) (fact 𝓤 (r ≡ stepAt f i)))
@@ -235,7 +238,7 @@ module _ {M : Type 1} (𝓤 : URA M) (H : Heap 𝓤) (A : Atoms 𝓤) (W : Given
           assigns !
           (bin ! (load ! (from ! (fld ! refl (stop !))) (look-in ! 7 (sub ! 0 refl (whole !)))) (load ! (from ! (stop !)) (look ! 5 refl)) tt)
           (from ! (stop !)) (init ! 6 refl (tt, tt)) $
-          rewrite ! 6 (λ (p : ℕ). ‵ (fat fullShare tyPtr l₈ 0 (vptr b p))) (sym (place-is 4 o i)) refl $
+          rewrite ! 6 (λ (p : ℕ). ‵ (fat fullShare tyPtr l₈ 0 (vptr b p))) (sym (place-is recordWidth o i)) refl $
           move ! (1 ∷ []) $ elem-out ! T.the-row (Is T.the-row) (shows 𝓤 H A T.the-row) (LL.vals T.the-type T′.the-laws)
           (LL.tells T.the-type T′.the-laws) fullShare (filled i f ys) i r b o (inside i less) (λ _.
           -- [diary[i]; what it owns; the others; the record's; _4; …]
@@ -300,8 +303,8 @@ module _ {M : Type 1} (𝓤 : URA M) (H : Heap 𝓤) (A : Atoms 𝓤) (W : Given
     walk : (𝓣 : Tables 𝓤 H) → Triple 𝓤 (𝓣 .C #diary·step-at) (StepAt 𝓤 H A at-mem run) → Room T.the-row (length ys) → n < 2 ^ 64 → (n ≤ 1024) × (n ≤ length ys)
         → ent 𝓤 (onEntry 𝓤 H A fill′.signature (κ, tt) (q, tt) x at) (WpFn 𝓤 H (𝓣 .C) (𝓣 .Λ) code.function (sv ∷ fv ∷ vint w64 n ∷ []) Post)
     walk 𝓣 known g n-fits h =
-        let typed = array-lawful 𝓤 H A W u8 (uint-lawful 𝓤 H A W w8) 4096 .typed f _ is-flat .0 in
-        qed W ((‵ (flft κ q) ⊛ ‵ ftrue) ∷ ‵ (owns (MutSlice (named 0) κ T.the-row ∷ Array u8 4096 ∷ usize ∷ []) x at) ∷ []) ∵ enter ! (𝓣 .C) (𝓣 .Λ)
+        let typed = array-lawful 𝓤 H A W u8 (uint-lawful 𝓤 H A W w8) flatSize .typed f _ is-flat .0 in
+        qed W ((‵ (flft κ q) ⊛ ‵ ftrue) ∷ ‵ (owns (MutSlice (named 0) κ T.the-row ∷ Array u8 flatSize ∷ usize ∷ []) x at) ∷ []) ∵ enter ! (𝓣 .C) (𝓣 .Λ)
         code.function (sv ∷ fv ∷ vint w64 n ∷ []) _ $
         alloc1 !
         (λ l₀. alloc1 !
@@ -321,7 +324,7 @@ module _ {M : Type 1} (𝓤 : URA M) (H : Heap 𝓤) (A : Atoms 𝓤) (W : Given
   fill-walks : Walks 𝓤 H A fill′.ended stayed (WpFn 𝓤 H (𝓣 .C) (𝓣 .Λ) code.function) (fill′.clauses 𝓤 H A at-mem run)
   fill-walks = walked 𝓤 H A fill′.ended stayed (fill′.clauses 𝓤 H A at-mem run) (WpFn 𝓤 H (𝓣 .C) (𝓣 .Λ) code.function)
       (λ κs. (slice-vals, (array-vals (uint-vals w8), (uint-vals w64, tt))))
-      (λ κs. (mut-slice-tells (named 0) (κs .0) T.the-row, (array-tells u8 (uint-vals w8) (uint-tells w8) 4096, (uint-tells w64, tt))))
+      (λ κs. (mut-slice-tells (named 0) (κs .0) T.the-row, (array-tells u8 (uint-vals w8) (uint-tells w8) flatSize, (uint-tells w64, tt))))
       (λ κs qs bounds a g are. needs 𝓤 ((a .1 .1 .0 ≤ 1024) × (a .1 .1 .0 ≤ length (now (a .0)))) _
       (walk 𝓤 H A W at-mem run (κs .0) (qs .0) (a .0 .ptr .0) (a .0 .ptr .1) (a .0 .name) (a .0 .now) (a .1 .0) (a .1 .1 .0) (are .1 .0) 𝓣 known
       (are .0 .0 .1) (are .1 .1 .0 .1)))
@@ -331,7 +334,7 @@ module _ {M : Type 1} (𝓤 : URA M) (H : Heap 𝓤) (A : Atoms 𝓤) (W : Given
       walk-meets 𝓤 H A fill′.ended stayed W (
         goes-slice 𝓤 H A W 1 0 tt (plain (λ _. T.the-row)),
         (
-          goes-dropped 𝓤 H A W 1 (ArrayOf (plain (λ _. u8)) (λ _. tt) 4096) yes (λ κs x f. refl),
+          goes-dropped 𝓤 H A W 1 (ArrayOf (plain (λ _. u8)) (λ _. tt) flatSize) yes (λ κs x f. refl),
           (goes-dropped 𝓤 H A W 1 (plain (λ _. usize)) yes (λ κs x f. refl), tt),
         ),
       )

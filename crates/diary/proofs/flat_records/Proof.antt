@@ -10,13 +10,13 @@ use Rattle.diary.proofs.flat_records.Statement.{statement}
 use Rattle.diary.proofs.flat_records.Tie as tie
 
 abbrev Inv-loop : tie.InvT-loop
-Inv-loop sv st trace flat₀ i₀ flat i = Telling sv st trace i flat
+Inv-loop sv st sh trace flat₀ i₀ flat i = Telling sv st sh trace i flat
 
 abbrev μ-loop : tie.MeasureT-loop
-μ-loop sv st trace flat₀ i₀ flat i = trace .steps - i
+μ-loop sv st sh trace flat₀ i₀ flat i = trace .steps - i
 
 loop-holds : tie.Need-loop-holds Inv-loop μ-loop
-loop-holds c = telling-first _ _ _
+loop-holds c = telling-first _ _ _ _
 
 mul-e : tie.Need-mul-e Inv-loop μ-loop
 mul-e c = omega (arith, c .before .before .pre .few, c .before .loop .inv .size)
@@ -42,12 +42,8 @@ element-copy-out-flat c =
 
 add-flat : tie.Need-add-flat Inv-loop μ-loop
 add-flat c =
-    omega (
-      arith,
-      c .before .before .before .before .before .before .pre .low-sv _
-          (c .before .before .before .before .before .before .pre .edges (c .before .before .before .before .before .loop .i)
-          (c .before .before .before .before .loop-test .taken)),
-    )
+    let s = c .before .before .before .before .before .before in
+    omega (arith, s .pre .low-sv _ (s .pre .edges (c .before .before .before .before .before .loop .i) (c .before .before .before .before .loop-test .taken)))
 
 add-flat-2 : tie.Need-add-flat-2 Inv-loop μ-loop
 add-flat-2 c = omega (arith, c .before .before .before .before .before .before .pre .few, c .before .before .before .before .before .loop .inv .size)
@@ -57,55 +53,59 @@ array-write-flat-2 c = omega (arith, c .before .before .before .before .before .
 
 element-copy-out-flat-2 : tie.Need-element-copy-out-flat-2 Inv-loop μ-loop
 element-copy-out-flat-2 c =
-    c .before .before .before .before .before .before .pre .edges (c .before .before .before .before .before .loop .i)
-    (c .before .before .before .before .loop-test .taken)
+    c .before .before .before .before .before .before .pre .edges (c .before .before .before .before .before .loop .i) (c .before .before .before .before .loop-test .taken)
 
 add-flat-3 : tie.Need-add-flat-3 Inv-loop μ-loop
 add-flat-3 c =
-    omega (
-      arith,
-      c .before .before .before .before .before .before .before .pre .low-st _
-          (c .before .before .before .before .before .before .before .pre .edges (c .before .before .before .before .before .before .loop .i)
-          (c .before .before .before .before .before .loop-test .taken)),
-    )
+    let s = c .before .before .before .before .before .before .before in
+    omega (arith, s .pre .low-st _ (s .pre .edges (c .before .before .before .before .before .before .loop .i) (c .before .before .before .before .before .loop-test .taken)))
 
 add-flat-4 : tie.Need-add-flat-4 Inv-loop μ-loop
-add-flat-4 c =
-    omega (arith, c .before .before .before .before .before .before .before .pre .few, c .before .before .before .before .before .before .loop .inv .size)
+add-flat-4 c = omega (arith, c .before .before .before .before .before .before .before .pre .few, c .before .before .before .before .before .before .loop .inv .size)
 
 array-write-flat-3 : tie.Need-array-write-flat-3 Inv-loop μ-loop
-array-write-flat-3 c =
-    omega (arith, c .before .before .before .before .before .before .before .pre .few, c .before .before .before .before .before .before .loop .inv .size)
+array-write-flat-3 c = omega (arith, c .before .before .before .before .before .before .before .pre .few, c .before .before .before .before .before .before .loop .inv .size)
+
+element-copy-out-flat-3 : tie.Need-element-copy-out-flat-3 Inv-loop μ-loop
+element-copy-out-flat-3 c =
+    c .before .before .before .before .before .before .before .pre .edges (c .before .before .before .before .before .before .loop .i) (c .before .before .before .before .before .loop-test .taken)
 
 add-flat-5 : tie.Need-add-flat-5 Inv-loop μ-loop
-add-flat-5 c =
-    omega (arith, c .before .before .before .before .before .before .before .pre .few, c .before .before .before .before .before .before .loop .inv .size)
+add-flat-5 c = omega (arith, c .before .before .before .before .before .before .before .before .pre .few, c .before .before .before .before .before .before .before .loop .inv .size)
 
 array-write-flat-4 : tie.Need-array-write-flat-4 Inv-loop μ-loop
-array-write-flat-4 c =
-    omega (arith, c .before .before .before .before .before .before .before .pre .few, c .before .before .before .before .before .before .loop .inv .size)
+array-write-flat-4 c = omega (arith, c .before .before .before .before .before .before .before .before .pre .few, c .before .before .before .before .before .before .before .loop .inv .size)
+
+add-flat-6 : tie.Need-add-flat-6 Inv-loop μ-loop
+add-flat-6 c = omega (arith, c .before .before .before .before .before .before .before .before .pre .few, c .before .before .before .before .before .before .before .loop .inv .size)
+
+array-write-flat-5 : tie.Need-array-write-flat-5 Inv-loop μ-loop
+array-write-flat-5 c = omega (arith, c .before .before .before .before .before .before .before .before .pre .few, c .before .before .before .before .before .before .before .loop .inv .size)
 
 add-i : tie.Need-add-i Inv-loop μ-loop
-add-i c = omega (arith, c .before .before .before .before .before .before .before .pre .few, c .before .before .before .before .before .before .loop .inv .size)
+add-i c = omega (arith, c .before .before .before .before .before .before .before .before .pre .few, c .before .before .before .before .before .before .before .loop .inv .size)
 
 loop-less : tie.Need-loop-less Inv-loop μ-loop
-loop-less c =
-    omega (arith, c .before .before .before .before .before .before .before .pre .few, c .before .before .before .before .before .before .loop .inv .size)
+loop-less c = omega (arith, c .before .before .before .before .before .before .before .before .pre .few, c .before .before .before .before .before .before .before .loop .inv .size)
 
 loop-again : tie.Need-loop-again Inv-loop μ-loop
 loop-again c =
-    let s = c .before .before .before .before .before .before .before in
-    let l = c .before .before .before .before .before .before .loop in
-    telling-next (s .args .sv .now) (s .args .st .now) (s .args .t3) (l .i) (l .flat) _ (l .inv) (c .before .before .before .before .before .loop-test .taken)
-    (simp (c .before .before .fixes .ensures, fate-byte, add-one))
+    let s = c .before .before .before .before .before .before .before .before in
+    let a = s .args in
+    let l = c .before .before .before .before .before .before .before .loop in
+    telling-next (a .sv .now) (a .st .now) (a .sh .now) (a .t4) (l .i) (l .flat) _ (l .inv) (c .before .before .before .before .before .before .loop-test .taken)
+    (simp (c .before .before .before .fixes .ensures, fate-byte, add-one))
 
 returns : tie.Need-returns Inv-loop μ-loop
 returns c =
-    told (c .before .before .args .sv .now) (c .before .before .args .st .now) (c .before .before .args .t3) (c .before .loop .i)
-    (c .before .loop .flat) (c .before .loop .inv) (c .loop-test .left) (c .before .before .pre .few)
+    let s = c .before .before in
+    let a = s .args in
+    let l = c .before .loop in
+    told (a .sv .now) (a .st .now) (a .sh .now) (a .t4) (l .i) (l .flat) (l .inv) (c .loop-test .left) (s .pre .few)
 
 pub flat-records-spec : {M : Type 1} → statement M
 flat-records-spec =
     tie.close (tie.spec Inv-loop μ-loop loop-holds mul-e element-copy-out-e (λ c. search needs) element-copy-out-rule (λ c κs. search needs)
     mul-b (λ c. search needs) sub-flat array-write-flat element-copy-out-flat add-flat add-flat-2 array-write-flat-2
-    element-copy-out-flat-2 add-flat-3 add-flat-4 array-write-flat-3 add-flat-5 array-write-flat-4 add-i loop-less loop-again returns)
+    element-copy-out-flat-2 add-flat-3 add-flat-4 array-write-flat-3 element-copy-out-flat-3 add-flat-5 array-write-flat-4 add-flat-6
+    array-write-flat-5 add-i loop-less loop-again returns)

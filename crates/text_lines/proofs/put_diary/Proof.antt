@@ -20,19 +20,18 @@ loop-holds c = let a = c .before .before .args in (omega arith, append-as (sym (
 
 put-record-requires : tie.Need-put-record-requires Inv-loop μ-loop
 put-record-requires c κs =
-    let a = c .before .before .before .before .before .before .before .before .before .args in
-    let l = c .before .before .before .before .before .before .loop in
+    let a = c .before .before .before .before .before .before .before .before .before .before .args in
+    let l = c .before .before .before .before .before .before .before .loop in
     omega (arith, l .inv .1 .place, texts-length (diaryAt (a .flat .now)) diaryLineSize (λ j. diary-length (recordAt (a .flat .now) j)) (l .i))
 
 loop-again : tie.Need-loop-again Inv-loop μ-loop
 loop-again c =
-    let a = c .before .before .before .before .before .before .before .before .before .before .before .before .args in
-    let l = c .before .before .before .before .before .before .before .before .before .loop in (
+    let s = c .before .before .before .before .before .before .before .before .before .before .before .before .before in
+    let a = s .args in
+    let l = c .before .before .before .before .before .before .before .before .before .before .loop in (
       omega arith,
       append-as (texts-more (diaryAt (a .flat .now)) (l .i))
-          (append-then (a .out .now) (a .at)
-          (omega (arith, c .before .before .before .before .before .before .before .before .before .before .before .before .pre)) (l .inv .1)
-          (c .before .before .put-record .ensures)),
+          (append-then (a .out .now) (a .at) {y = diaryAt (a .flat .now) (l .i)} (omega (arith, s .pre)) (l .inv .1) (c .before .before .put-record .ensures)),
       omega arith,
     )
 
@@ -46,5 +45,5 @@ returns c =
 pub put-diary-spec : {M : Type 1} → statement M
 put-diary-spec =
     tie.close (tie.spec Inv-loop μ-loop loop-holds (λ c. omega arith) (λ c. omega arith) (λ c. omega arith) (λ c. omega arith)
-    (λ c. omega arith) (λ c. omega arith) (λ c. omega arith) (λ c. omega arith) put-record-requires (λ c. omega arith)
+    (λ c. omega arith) (λ c. omega arith) (λ c. omega arith) (λ c. omega arith) (λ c. omega arith) (λ c. omega arith) put-record-requires (λ c. omega arith)
     (λ c. omega arith) loop-again (λ c. omega arith) returns)

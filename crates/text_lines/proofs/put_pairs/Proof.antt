@@ -1,14 +1,11 @@
 -- text_lines::put_pairs: so far the lines of the first i pairs stand there.
-use Prim.Native.Nat.{_+_, _*_, _-_, _≤_}
+use Prim.Native.Nat.{_-_, _≤_}
 use native.Mathlib.Omega.{arith}
 use mathlib.Core.Path.{_≡_, refl, sym, ap}
 use lib.ListN.{length}
-use Rattle.model.specs.Limits.{pairWidth}
-use Rattle.pair_bytes.specs.declared.Pair.{Pair}
-use Rattle.pair_bytes.specs.PairAt.{pairFrom}
 use Rattle.text_numbers.specs.Appended.{Appended, append-as, append-none, append-then}
 use Rattle.text_lines.specs.Texts.{texts, texts-none, texts-more, texts-length}
-use Rattle.text_lines.specs.Lines.{pairText, pairAt, pairLineSize, pair-length}
+use Rattle.text_lines.specs.Lines.{lineOf, pairAt, pairLineSize, pair-at-length}
 use Rattle.text_lines.proofs.put_pairs.Statement.{statement}
 use Rattle.text_lines.proofs.put_pairs.Tie as tie
 
@@ -25,21 +22,14 @@ put-pair-requires : tie.Need-put-pair-requires Inv-loop μ-loop
 put-pair-requires c κs =
     let a = c .before .before .before .before .before .before .args in
     let l = c .before .before .before .loop in
-    omega (
-      arith,
-      l .inv .1 .place,
-      texts-length (pairAt (a .pairs .now)) pairLineSize
-          (λ j. pair-length (pairFrom (a .pairs .now) (pairWidth * j) .surveyor) (pairFrom (a .pairs .now) (pairWidth * j) .stand)) (l .i),
-    )
+    omega (arith, l .inv .1 .place, texts-length (pairAt (a .pairs .now)) pairLineSize (pair-at-length (a .pairs .now)) (l .i))
 
 loop-again : tie.Need-loop-again Inv-loop μ-loop
 loop-again c =
     let s = c .before .before .before .before .before .before .before .before .before in
     let a = s .args in
     let l = c .before .before .before .before .before .before .loop in
-    let line =
-    append-as (ap (λ (p : Pair). pairText (p .surveyor) (p .stand)) (c .before .before .before .before .get .ensures))
-    (c .before .before .put-pair .ensures) in (
+    let line = append-as (ap lineOf (c .before .before .before .before .get .ensures)) (c .before .before .put-pair .ensures) in (
       omega arith,
       append-as (texts-more (pairAt (a .pairs .now)) (l .i)) (append-then (a .out .now) (a .at) (omega (arith, s .pre)) (l .inv .1) line),
       omega arith,
