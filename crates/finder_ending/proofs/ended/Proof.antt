@@ -9,7 +9,7 @@ use Rattle.finder_ending.proofs.ended.Tie as tie
 
 write-pairs-requires : tie.Need-write-pairs-requires
 write-pairs-requires c κs =
-    let b = c .before .before .before .before .before .before .before .before in
+    let b = c .before .before .before .before .before .before .before .before .before .before in
     let L = b .pre .0 in (
       L .edges,
       (λ e h. L .low-sv e),
@@ -20,7 +20,7 @@ write-pairs-requires c κs =
 
 returns : tie.Need-returns
 returns c =
-    let b = c .before .before .before .before .before .before .before .before .before .before .before .before in
+    let b = c .before .before .before .before .before .before .before .before .before .before .before .before .before .before in
     let a = b .args in
     let w = c .before .before .before .write-pairs .ensures in
     λ M S. some-left (a .g) M (edgesIn (a .g .m) (flag (a .rem .now))) (a .steps) (a .left .now) (a .plan .now) (a .rival .now) _ _ (w .0) (w .1)
@@ -29,7 +29,7 @@ returns c =
 returns-2 : tie.Need-returns-2
 returns-2 c =
     let b =
-    c .before .before .before .before .before .before .before .before .before .before .before .before .before .before .before .before .before .before .before in
+    c .before .before .before .before .before .before .before .before .before .before .before .before .before .before .before .before .before .before .before .before .before in
     let a = b .args in
     let w = c .before .before .before .before .before .before .before .before .before .before .write-pairs .ensures in
     λ M S. none-left (a .g) M (edgesIn (a .g .m) (flag (a .rem .now))) (a .steps) (a .left .now) (a .plan .now) (a .rival .now) _ _ (w .0) (w .1)

@@ -10,10 +10,10 @@ besides-requires c κs = let L = c .before .before .before .pre .0 in (L .edges,
 
 write-plan-requires : tie.Need-write-plan-requires
 write-plan-requires c κs =
-    let s = c .before .before .before .before .before .before .before .before in
+    let s = c .before .before .before .before .before .before .before .before .before .before in
     let a = s .args in
     let L = s .pre .0 in
-    let b = c .before .before .before .before .besides in (
+    let b = c .before .before .before .before .before .before .besides in (
       L .edges,
       (λ e h. L .low-sv e),
       (λ e h. L .low-st e),
@@ -22,34 +22,34 @@ write-plan-requires c κs =
     )
 
 -- the first byte is at most 64
-cast-t19 : tie.Need-cast-t19
-cast-t19 c =
-    let s = c .before .before .before .before .before .before .before .before .before .before in
+cast-t21 : tie.Need-cast-t21
+cast-t21 c =
+    let s = c .before .before .before .before .before .before .before .before .before .before .before .before in
     let a = s .args in
-    let b = c .before .before .before .before .before .before .besides in
+    let b = c .before .before .before .before .before .before .before .before .besides in
     omega (arith, count-small (a .g) (a .plan .now) (a .number) (s .pre .1) (b .result) (b .ensures) _ (c .before .write-plan .ensures))
 
-mul-t20 : tie.Need-mul-t20
-mul-t20 c =
-    let s = c .before .before .before .before .before .before .before .before .before .before in
+mul-t22 : tie.Need-mul-t22
+mul-t22 c =
+    let s = c .before .before .before .before .before .before .before .before .before .before .before .before in
     let a = s .args in
-    let b = c .before .before .before .before .before .before .besides in
+    let b = c .before .before .before .before .before .before .before .before .besides in
     omega (arith, count-small (a .g) (a .plan .now) (a .number) (s .pre .1) (b .result) (b .ensures) _ (c .before .write-plan .ensures))
 
-add-t21 : tie.Need-add-t21
-add-t21 c =
-    let s = c .before .before .before .before .before .before .before .before .before .before in
+add-t23 : tie.Need-add-t23
+add-t23 c =
+    let s = c .before .before .before .before .before .before .before .before .before .before .before .before in
     let a = s .args in
-    let b = c .before .before .before .before .before .before .besides in
+    let b = c .before .before .before .before .before .before .before .before .besides in
     omega (arith, count-small (a .g) (a .plan .now) (a .number) (s .pre .1) (b .result) (b .ensures) _ (c .before .write-plan .ensures))
 
 returns : tie.Need-returns
 returns c =
-    let s = c .before .before .before .before .before .before .before .before .before .before in
+    let s = c .before .before .before .before .before .before .before .before .before .before .before .before in
     let a = s .args in
-    let b = c .before .before .before .before .before .before .besides in
+    let b = c .before .before .before .before .before .before .before .before .besides in
     carried-is (a .g) (a .plan .now) (a .number) (s .pre .1) (b .result) (b .ensures) _ (c .before .write-plan .ensures)
 
 pub carried-spec : {M : Type 1} → statement M
 carried-spec =
-    tie.close (tie.spec besides-requires (λ c. search needs) write-plan-requires (λ c. search needs) cast-t19 mul-t20 add-t21 returns)
+    tie.close (tie.spec besides-requires (λ c. search needs) write-plan-requires (λ c. search needs) cast-t21 mul-t22 add-t23 returns)

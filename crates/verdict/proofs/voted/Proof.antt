@@ -9,15 +9,15 @@ use Rattle.verdict.proofs.voted.Tie as tie
 
 write-plan-requires : tie.Need-write-plan-requires
 write-plan-requires c κs =
-    let s = c .before .before .before .before .before .before in
+    let s = c .before .before .before .before .before .before .before .before in
     (s .pre .0 .edges, λ e h. s .pre .0 .low-sv e, λ e h. s .pre .0 .low-st e, s .pre .3, s .pre .4)
 
 vote-between-requires : tie.Need-vote-between-requires
-vote-between-requires c κs = let s = c .before .before .before .before .before .before .before .before .before in (s .pre .0, s .pre .1, s .pre .2)
+vote-between-requires c κs = let s = c .before .before .before .before .before .before .before .before .before .before .before in (s .pre .0, s .pre .1, s .pre .2)
 
 returns : tie.Need-returns
 returns c =
-    let s = c .before .before .before .before .before .before .before .before .before .before in
+    let s = c .before .before .before .before .before .before .before .before .before .before .before .before in
     let a = s .args in
     voted (a .g) (a .plan .now) (a .rival .now) (a .out .now)
     (toZ-ofZ w16 (c .vote-between .result) (sfits-of (c .vote-between .ok)) ∙ c .vote-between .ensures)
