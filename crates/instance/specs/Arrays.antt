@@ -23,7 +23,7 @@ use Rattle.theory_files.specs.Rosters.{fits-parts, read-write, read-fits}
 use Rattle.theory_instance.specs.Lawful.{Lawful}
 use Rattle.theory_files.specs.PlanFiles.{Fileable}
 use Rattle.theory_files.specs.Position.{position-pos, position-out}
-use Rattle.theory_files.specs.RosterInstance.{ns-small, nt-small, strict-or-tied, tied-not-strict, strict-length, lawful, fileable}
+use Rattle.theory_files.specs.RosterInstance.{ns-small, nt-small, lists-count, rankings-count, strict-or-tied, tied-not-strict, strict-length, lawful, fileable}
 use Rattle.theory_files.specs.Ascending.{IsEdge}
 use Rattle.theory_files.specs.EdgeCount.{edges-few}
 use Rattle.theory_files.specs.Cells.{Within, list-within, strict-within, listed-none, edges-cells}
@@ -73,12 +73,6 @@ module _ (f : List ℕ) (r : Roster) (ok : T (fits r)) (O : Offsets shifted f r)
   abbrev nt : ℕ
   nt = standCount r
 
-  lists-count : length (r .listsS) ≡ ns
-  lists-count = given (fits-parts r ok) (λ ((q, u, (l, a, k), v), n). l)
-
-  rankings-count : length (r .listsT) ≡ nt
-  rankings-count = given (fits-parts r ok) (λ ((q, u, v, (l, a, k)), n). l)
-
   abbrev listedTable : List ℕ
   listedTable = listsStamped f ns 0 (listsStart r) (replicate 3072 0)
 
@@ -95,12 +89,12 @@ module _ (f : List ℕ) (r : Roster) (ok : T (fits r)) (O : Offsets shifted f r)
       × (strictTable ≡ allStamped 0 (strictLists (r .listsT)) (replicate 3072 0)) × (nextTable ≡ nextAll 0 (r .listsT) (replicate 32 0))
   from-bytes =
       given (lists-are (r .listsS) f (listsStart r) (rankingSection shifted r) (O .lists) 0 (replicate 3072 0)) (λ (a, b).
-      given (ap (λ k. listsEnd f k (listsStart r)) (sym lists-count)) (λ c.
+      given (ap (λ k. listsEnd f k (listsStart r)) (sym (lists-count r ok))) (λ c.
       given (rankings-from shifted f r (listsEnd f ns (listsStart r)) (subst (λ k. drop′ k) (sym c) b)) (λ d.
       given (rankings-are (r .listsT) f start [] d 0 0 (replicate 3072 0) (replicate 32 0)) (λ (x, y). (
-        ap (λ k. listsStamped f k 0 (listsStart r) (replicate 3072 0)) (sym lists-count) ∙ a,
-        ap (λ k. strictStamped f k 0 start (replicate 3072 0)) (sym rankings-count) ∙ x,
-        ap (λ k. nextRanks f k 0 start (replicate 32 0)) (sym rankings-count) ∙ y,
+        ap (λ k. listsStamped f k 0 (listsStart r) (replicate 3072 0)) (sym (lists-count r ok)) ∙ a,
+        ap (λ k. strictStamped f k 0 start (replicate 3072 0)) (sym (rankings-count r ok)) ∙ x,
+        ap (λ k. nextRanks f k 0 start (replicate 32 0)) (sym (rankings-count r ok)) ∙ y,
       )))))
     where
       drop′ : ℕ → Type 0
@@ -110,8 +104,8 @@ module _ (f : List ℕ) (r : Roster) (ok : T (fits r)) (O : Offsets shifted f r)
   listed-at i c h =
       ap (λ t. at t (i * rowWidth + c)) (from-bytes .0)
       ∙ ap (at (allStamped 0 (r .listsS) (replicate 3072 0))) (none i c)
-      ∙ all-at (r .listsS) 0 (replicate 3072 0) (omega (arith, lists-count, ns-small r ok, length-replicate {A = ℕ} 3072 0))
-      (All-getD (Within 32) [] (r .listsS) (λ i l. list-within r ok 32 i (nt-small r ok) (omega (arith, lists-count)))) (λ c k. all-blank 0 3072 c) i c h
+      ∙ all-at (r .listsS) 0 (replicate 3072 0) (omega (arith, lists-count r ok, ns-small r ok, length-replicate {A = ℕ} 3072 0))
+      (All-getD (Within 32) [] (r .listsS) (λ i l. list-within r ok 32 i (nt-small r ok) (omega (arith, lists-count r ok)))) (λ c k. all-blank 0 3072 c) i c h
     where
       none : (i c : ℕ) → i * rowWidth + c ≡ 0 + i * rowWidth + c
       none i c = omega arith
@@ -127,10 +121,10 @@ module _ (f : List ℕ) (r : Roster) (ok : T (fits r)) (O : Offsets shifted f r)
       ap (λ t. at t (j * rowWidth + c)) (from-bytes .1)
       ∙ ap (at (allStamped 0 (strictLists (r .listsT)) (replicate 3072 0))) (none j c)
       ∙ all-at (strictLists (r .listsT)) 0 (replicate 3072 0)
-      (omega (arith, length-map (r .listsT) (λ R. R .strict), rankings-count, nt-small r ok, length-replicate {A = ℕ} 3072 0))
+      (omega (arith, length-map (r .listsT) (λ R. R .strict), rankings-count r ok, nt-small r ok, length-replicate {A = ℕ} 3072 0))
       (All-getD (Within 32) [] (strictLists (r .listsT))
       (λ j l. subst (Within 32) (sym (strict-list j))
-      (strict-within r ok 32 j (ns-small r ok) (omega (arith, length-map (r .listsT) (λ R. R .strict), rankings-count)))))
+      (strict-within r ok 32 j (ns-small r ok) (omega (arith, length-map (r .listsT) (λ R. R .strict), rankings-count r ok)))))
       (λ c k. all-blank 0 3072 c) j c h
       ∙ ap (λ xs. positionIn xs (entryOf c)) (strict-list j)
     where
@@ -141,7 +135,7 @@ module _ (f : List ℕ) (r : Roster) (ok : T (fits r)) (O : Offsets shifted f r)
   next-is j h =
       ap (λ t. at t j) (from-bytes .2)
       ∙ ap (at (nextAll 0 (r .listsT) (replicate 32 0))) (none j)
-      ∙ next-at (r .listsT) 0 (replicate 32 0) (omega (arith, rankings-count, nt-small r ok, length-replicate {A = ℕ} 32 0)) j (omega (arith, rankings-count))
+      ∙ next-at (r .listsT) 0 (replicate 32 0) (omega (arith, rankings-count r ok, nt-small r ok, length-replicate {A = ℕ} 32 0)) j (omega (arith, rankings-count r ok))
       ∙ small (length (listT r j .strict)) (omega (arith, strict-length r ok j h))
     where
       none : (j : ℕ) → j ≡ 0 + j

@@ -28,11 +28,11 @@ pub const ENTRY_WIDTH: usize = 2;
 // "two bytes a pair (surveyor, stand)"
 pub const PAIR_WIDTH: usize = 2;
 
-// "a buffer for a plan, candidate or rival needs 129 bytes, for a roster 2,214, the diary and the left pairs 1,024 entries each", a pair left
-// being two bytes
+// "a buffer for a plan, candidate or rival needs 129 bytes, (..) the diary and the left pairs 1,024 entries each", a pair left being two
+// bytes; W-204: "rosters 4,262"
 pub const PLAN_SIZE: usize = 129;
 
-pub const ROSTER_SIZE: usize = 2214;
+pub const ROSTER_SIZE: usize = 4262;
 
 pub const DIARY_SIZE: usize = 1024;
 
