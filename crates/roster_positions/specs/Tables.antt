@@ -1,4 +1,4 @@
--- Tables of positions: what the loops over a roster's lists write. A table has a row of 96 numbers for each list, three of them for each
+-- Tables of positions: what the loops over a roster's lists write. A table has 32 rows, one for each list, of 96 numbers, three for each
 -- number that an entry may have, one a shift; the number 1 in shift 1 stands at the row's first place.
 use Prim.Native.Nat.{ℕ, zero, suc, _+_, _*_, _/_, _%_}
 use mathlib.Core.List.{List, [], _∷_}
@@ -8,6 +8,9 @@ use Rattle.model.specs.Roster.{Entry}
 
 abbrev pub rowWidth : ℕ
 rowWidth = 96
+
+abbrev pub tableSize : ℕ
+tableSize = 3072
 
 -- the place of an entry in its row, and the entry of a place
 abbrev pub column : Entry → ℕ
