@@ -19,16 +19,16 @@ use Rattle.model.specs.Limits.{entryLimit, shiftLimit}
 use Rattle.model.specs.Roster.{Entry, Ranking, Roster, surveyorCount, standCount, listS, listT, has, listed, fits}
 use Rattle.model.specs.Edges.{Edge, position, pairEdge, edgesOf, noEdge, edgeAt, instanceOf}
 use Rattle.theory_files.specs.Reads.{isBytes, bytes-are}
-use Rattle.theory_files.specs.Rosters.{fits-parts, read-write, read-fits}
+use Rattle.theory_files.specs.Rosters.{read-write, read-fits}
 use Rattle.theory_instance.specs.Lawful.{Lawful}
 use Rattle.theory_files.specs.PlanFiles.{Fileable}
 use Rattle.theory_files.specs.Position.{position-pos, position-out}
-use Rattle.theory_files.specs.RosterInstance.{ns-small, nt-small, strict-or-tied, tied-not-strict, strict-length, lawful, fileable}
+use Rattle.theory_files.specs.RosterInstance.{ns-small, nt-small, lists-count, rankings-count, strict-or-tied, tied-not-strict, strict-length, lawful, fileable}
 use Rattle.theory_files.specs.Ascending.{IsEdge}
 use Rattle.theory_files.specs.EdgeCount.{edges-few}
 use Rattle.theory_files.specs.Cells.{Within, list-within, strict-within, listed-none, edges-cells}
 use Rattle.theory_files.specs.Offsets.{listsStart, rankingSection, Offsets, offsets, rankings-from}
-use Rattle.roster_positions.specs.Tables.{rowWidth, entryOf, listsStamped, listsEnd, strictStamped, nextRanks}
+use Rattle.roster_positions.specs.Tables.{rowWidth, tableSize, entryOf, listsStamped, listsEnd, strictStamped, nextRanks}
 use Rattle.roster_positions.specs.Rows.{allStamped, positionIn, all-at, lists-are, strictLists, nextAll, rankings-are, next-at}
 use Rattle.arrays.specs.ArrayInstance.{at}
 use Rattle.arrays.specs.Passes.{Shows, all-blank, shows-at, shows-behind, shown-is}
@@ -73,34 +73,28 @@ module _ (f : List ℕ) (r : Roster) (ok : T (fits r)) (O : Offsets shifted f r)
   abbrev nt : ℕ
   nt = standCount r
 
-  lists-count : length (r .listsS) ≡ ns
-  lists-count = given (fits-parts r ok) (λ ((q, u, (l, a, k), v), n). l)
-
-  rankings-count : length (r .listsT) ≡ nt
-  rankings-count = given (fits-parts r ok) (λ ((q, u, v, (l, a, k)), n). l)
-
   abbrev listedTable : List ℕ
-  listedTable = listsStamped f ns 0 (listsStart r) (replicate 3072 0)
+  listedTable = listsStamped f ns 0 (listsStart r) (replicate tableSize 0)
 
   abbrev start : ℕ
   start = listsEnd f ns (listsStart r) + 2
 
   abbrev strictTable : List ℕ
-  strictTable = strictStamped f nt 0 start (replicate 3072 0)
+  strictTable = strictStamped f nt 0 start (replicate tableSize 0)
 
   abbrev nextTable : List ℕ
   nextTable = nextRanks f nt 0 start (replicate 32 0)
 
-  from-bytes : (listedTable ≡ allStamped 0 (r .listsS) (replicate 3072 0))
-      × (strictTable ≡ allStamped 0 (strictLists (r .listsT)) (replicate 3072 0)) × (nextTable ≡ nextAll 0 (r .listsT) (replicate 32 0))
+  from-bytes : (listedTable ≡ allStamped 0 (r .listsS) (replicate tableSize 0))
+      × (strictTable ≡ allStamped 0 (strictLists (r .listsT)) (replicate tableSize 0)) × (nextTable ≡ nextAll 0 (r .listsT) (replicate 32 0))
   from-bytes =
-      given (lists-are (r .listsS) f (listsStart r) (rankingSection shifted r) (O .lists) 0 (replicate 3072 0)) (λ (a, b).
-      given (ap (λ k. listsEnd f k (listsStart r)) (sym lists-count)) (λ c.
+      given (lists-are (r .listsS) f (listsStart r) (rankingSection shifted r) (O .lists) 0 (replicate tableSize 0)) (λ (a, b).
+      given (ap (λ k. listsEnd f k (listsStart r)) (sym (lists-count r ok))) (λ c.
       given (rankings-from shifted f r (listsEnd f ns (listsStart r)) (subst (λ k. drop′ k) (sym c) b)) (λ d.
-      given (rankings-are (r .listsT) f start [] d 0 0 (replicate 3072 0) (replicate 32 0)) (λ (x, y). (
-        ap (λ k. listsStamped f k 0 (listsStart r) (replicate 3072 0)) (sym lists-count) ∙ a,
-        ap (λ k. strictStamped f k 0 start (replicate 3072 0)) (sym rankings-count) ∙ x,
-        ap (λ k. nextRanks f k 0 start (replicate 32 0)) (sym rankings-count) ∙ y,
+      given (rankings-are (r .listsT) f start [] d 0 0 (replicate tableSize 0) (replicate 32 0)) (λ (x, y). (
+        ap (λ k. listsStamped f k 0 (listsStart r) (replicate tableSize 0)) (sym (lists-count r ok)) ∙ a,
+        ap (λ k. strictStamped f k 0 start (replicate tableSize 0)) (sym (rankings-count r ok)) ∙ x,
+        ap (λ k. nextRanks f k 0 start (replicate 32 0)) (sym (rankings-count r ok)) ∙ y,
       )))))
     where
       drop′ : ℕ → Type 0
@@ -109,9 +103,9 @@ module _ (f : List ℕ) (r : Roster) (ok : T (fits r)) (O : Offsets shifted f r)
   listed-at : (i c : ℕ) → c < rowWidth → at listedTable (i * rowWidth + c) ≡ positionIn (listS r i) (entryOf c)
   listed-at i c h =
       ap (λ t. at t (i * rowWidth + c)) (from-bytes .0)
-      ∙ ap (at (allStamped 0 (r .listsS) (replicate 3072 0))) (none i c)
-      ∙ all-at (r .listsS) 0 (replicate 3072 0) (omega (arith, lists-count, ns-small r ok, length-replicate {A = ℕ} 3072 0))
-      (All-getD (Within 32) [] (r .listsS) (λ i l. list-within r ok 32 i (nt-small r ok) (omega (arith, lists-count)))) (λ c k. all-blank 0 3072 c) i c h
+      ∙ ap (at (allStamped 0 (r .listsS) (replicate tableSize 0))) (none i c)
+      ∙ all-at (r .listsS) 0 (replicate tableSize 0) (omega (arith, lists-count r ok, ns-small r ok, length-replicate {A = ℕ} tableSize 0))
+      (All-getD (Within 32) [] (r .listsS) (λ i l. list-within r ok 32 i (nt-small r ok) (omega (arith, lists-count r ok)))) (λ c k. all-blank 0 tableSize c) i c h
     where
       none : (i c : ℕ) → i * rowWidth + c ≡ 0 + i * rowWidth + c
       none i c = omega arith
@@ -125,13 +119,13 @@ module _ (f : List ℕ) (r : Roster) (ok : T (fits r)) (O : Offsets shifted f r)
   strict-at : (j c : ℕ) → c < rowWidth → at strictTable (j * rowWidth + c) ≡ positionIn (listT r j .strict) (entryOf c)
   strict-at j c h =
       ap (λ t. at t (j * rowWidth + c)) (from-bytes .1)
-      ∙ ap (at (allStamped 0 (strictLists (r .listsT)) (replicate 3072 0))) (none j c)
-      ∙ all-at (strictLists (r .listsT)) 0 (replicate 3072 0)
-      (omega (arith, length-map (r .listsT) (λ R. R .strict), rankings-count, nt-small r ok, length-replicate {A = ℕ} 3072 0))
+      ∙ ap (at (allStamped 0 (strictLists (r .listsT)) (replicate tableSize 0))) (none j c)
+      ∙ all-at (strictLists (r .listsT)) 0 (replicate tableSize 0)
+      (omega (arith, length-map (r .listsT) (λ R. R .strict), rankings-count r ok, nt-small r ok, length-replicate {A = ℕ} tableSize 0))
       (All-getD (Within 32) [] (strictLists (r .listsT))
       (λ j l. subst (Within 32) (sym (strict-list j))
-      (strict-within r ok 32 j (ns-small r ok) (omega (arith, length-map (r .listsT) (λ R. R .strict), rankings-count)))))
-      (λ c k. all-blank 0 3072 c) j c h
+      (strict-within r ok 32 j (ns-small r ok) (omega (arith, length-map (r .listsT) (λ R. R .strict), rankings-count r ok)))))
+      (λ c k. all-blank 0 tableSize c) j c h
       ∙ ap (λ xs. positionIn xs (entryOf c)) (strict-list j)
     where
       none : (j c : ℕ) → j * rowWidth + c ≡ 0 + j * rowWidth + c
@@ -141,7 +135,7 @@ module _ (f : List ℕ) (r : Roster) (ok : T (fits r)) (O : Offsets shifted f r)
   next-is j h =
       ap (λ t. at t j) (from-bytes .2)
       ∙ ap (at (nextAll 0 (r .listsT) (replicate 32 0))) (none j)
-      ∙ next-at (r .listsT) 0 (replicate 32 0) (omega (arith, rankings-count, nt-small r ok, length-replicate {A = ℕ} 32 0)) j (omega (arith, rankings-count))
+      ∙ next-at (r .listsT) 0 (replicate 32 0) (omega (arith, rankings-count r ok, nt-small r ok, length-replicate {A = ℕ} 32 0)) j (omega (arith, rankings-count r ok))
       ∙ small (length (listT r j .strict)) (omega (arith, strict-length r ok j h))
     where
       none : (j : ℕ) → j ≡ 0 + j
@@ -254,8 +248,8 @@ pub record Parts (f : List ℕ) (g : Instance) : Type 0 where
   pub nt-is : nt ≡ min (getD f (ns + 1) 0) 32
   pub qt-are : Shows 0 qt nt (λ i. getD f (ns + 2 + i) 0)
   pub start-is : start ≡ listsEnd f ns (ns + nt + 4)
-  pub listed-is : listed ≡ listsStamped f ns 0 (ns + nt + 4) (replicate 3072 0)
-  pub strict-is : strict ≡ strictStamped f nt 0 (start + 2) (replicate 3072 0)
+  pub listed-is : listed ≡ listsStamped f ns 0 (ns + nt + 4) (replicate tableSize 0)
+  pub strict-is : strict ≡ strictStamped f nt 0 (start + 2) (replicate tableSize 0)
   pub next-is : next ≡ nextRanks f nt 0 (start + 2) (replicate 32 0)
   pub found : Listed ns listed k cell
   pub m-is : m ≡ min k entryLimit
@@ -296,8 +290,8 @@ module _ (f : List ℕ) (r : Roster) (ok : T (fits r)) (O : Offsets shifted f r)
       let a : P .ns ≡ surveyorCount r = P .ns-is ∙ ap (λ k. min k 32) (O .surveyors) ∙ least (surveyorCount r) (ns-small r ok) in
       let b : P .nt ≡ standCount r = P .nt-is ∙ ap (λ k. min (getD f (k + 1) 0) 32) a ∙ ap (λ k. min k 32) (O .stands) ∙ least (standCount r) (nt-small r ok) in
       let s : P .start ≡ listsEnd f (surveyorCount r) (listsStart r) = P .start-is ∙ ap₂ (λ x y. listsEnd f x (x + y + 4)) a b in
-      let l : P .listed ≡ listedTable f r ok O = P .listed-is ∙ ap₂ (λ x y. listsStamped f x 0 (x + y + 4) (replicate 3072 0)) a b in
-      let t : P .strict ≡ strictTable f r ok O = P .strict-is ∙ ap₂ (λ y z. strictStamped f y 0 (z + 2) (replicate 3072 0)) b s in
+      let l : P .listed ≡ listedTable f r ok O = P .listed-is ∙ ap₂ (λ x y. listsStamped f x 0 (x + y + 4) (replicate tableSize 0)) a b in
+      let t : P .strict ≡ strictTable f r ok O = P .strict-is ∙ ap₂ (λ y z. strictStamped f y 0 (z + 2) (replicate tableSize 0)) b s in
       let n : P .next ≡ nextTable f r ok O = P .next-is ∙ ap₂ (λ y z. nextRanks f y 0 (z + 2) (replicate 32 0)) b s in
       let same : Shown (P .ns) (P .nt) (P .listed) (P .strict) (P .next) ≡ Shown (surveyorCount r) (standCount r) (listedTable f r ok O)
       (strictTable f r ok O) (nextTable f r ok O)

@@ -8,7 +8,7 @@ use lib.Dec.{eqb}
 use Rattle.lists.specs.Sum.{range}
 use Rattle.lists.specs.Keep.{keep}
 use Rattle.model.specs.Edges.{Edge}
-use Rattle.roster_positions.specs.Tables.{rowWidth}
+use Rattle.roster_positions.specs.Tables.{rowWidth, tableSize}
 use Rattle.arrays.specs.ArrayInstance.{at}
 use Rattle.arrays.specs.Passes.{Low, Shows}
 use Rattle.instance.specs.declared.Instance.{Instance}
@@ -20,7 +20,7 @@ listedCells n table = keep (λ c. not (eqb (at table c) 0)) (range 0 (n * rowWid
 pub record Listed (n : ℕ) (table : List ℕ) (k : ℕ) (cell : List ℕ) : Type 0 where
   pub count : k ≡ length (listedCells n table)
   pub cells : take k cell ≡ listedCells n table
-  pub below : Low k cell 3072
+  pub below : Low k cell tableSize
 
 -- the stand of a cell, and its shift from 0
 abbrev pub standOf : ℕ → ℕ

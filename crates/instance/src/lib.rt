@@ -4,13 +4,16 @@
 ghost use mathlib.Core.Path.{_≡_};
 ghost use Prim.Native.Nat.{_+_, _*_, _≤_, min};
 ghost use mathlib.Core.Bool.{cond};
-ghost use lib.ListN.{length, getD};
+ghost use lib.ListN.{getD};
 ghost use lib.Dec.{eqb};
 ghost use Rattle.model.specs.Limits.{entryLimit};
+ghost use Rattle.roster_positions.specs.Tables.{tableSize};
 ghost use Rattle.arrays.specs.Passes.{Low, Shows};
 ghost use Rattle.instance.specs.Cells.{Listed, Filled};
 ghost use Rattle.instance.specs.Decoded.{Decoded};
 use limits::ENTRY_LIMIT;
+use roster_positions::ROW;
+use roster_positions::TABLE;
 
 // surveyor, stand, shift, the rank at each end and whether the edge is tied at its stand, for each of m edges; quotas of ns surveyors and nt
 // stands
@@ -33,7 +36,7 @@ pub struct Instance {
 // to fill no more than 1,024, and so the loop that finds them stores without a test.
 pub struct Found {
     pub n: usize,
-    pub cell: [u16; 3072],
+    pub cell: [u16; TABLE],
 }
 
 // a count byte, at most 32
@@ -62,13 +65,13 @@ pub fn quotas(file: &[u8], at: usize, n: usize) -> [u8; 32]
 }
 
 // the cells of n rows that hold a position
-pub fn listed_cells(n: usize, table: &[u8; 3072]) -> Found
+pub fn listed_cells(n: usize, table: &[u8; TABLE]) -> Found
     requires { ⌜ n ≤ 32 ⌝ }
     ensures { λ r. ⌜ Listed n (now (table .entry)) (r .n) (r .cell) ⌝ }
 {
-    let mut cell = [0u16; 3072];
+    let mut cell = [0u16; TABLE];
     let mut m: usize = 0;
-    let end = n * 96;
+    let end = n * ROW;
     let mut c: usize = 0;
     while c < end {
         cell[m] = c as u16;
@@ -103,14 +106,14 @@ pub fn filled(
     ns: usize,
     nt: usize,
     m: usize,
-    cell: &[u16; 3072],
-    listed: &[u8; 3072],
-    strict: &[u8; 3072],
+    cell: &[u16; TABLE],
+    listed: &[u8; TABLE],
+    strict: &[u8; TABLE],
     next: &[u8; 32],
     qs: [u8; 32],
     qt: [u8; 32],
 ) -> Instance
-    requires { ⌜ (m ≤ entryLimit) × Low m (now cell) 3072 ⌝ }
+    requires { ⌜ (m ≤ entryLimit) × Low m (now cell) tableSize ⌝ }
     ensures { λ r. ⌜ Filled ns nt m (now (cell .entry)) (now (listed .entry)) (now (strict .entry)) (now (next .entry)) qs qt r ⌝ }
 {
     let mut sv = [0u8; 1024];
@@ -122,10 +125,10 @@ pub fn filled(
     let mut e = 0;
     while e < m {
         let c = cell[e] as usize;
-        let i = c / 96;
-        let j = c % 96 / 3;
+        let i = c / ROW;
+        let j = c % ROW / 3;
         let k = c % 3;
-        let t = strict[j * 96 + (3 * i + k)];
+        let t = strict[j * ROW + (3 * i + k)];
         sv[e] = i as u8;
         st[e] = j as u8;
         sh[e] = (k + 1) as u8;
@@ -157,9 +160,9 @@ pub fn instance_of(file: &[u8]) -> Instance
     let quota_s = quotas(file, 1, ns);
     let nt = count_at(file, ns + 1);
     let quota_t = quotas(file, ns + 2, nt);
-    let mut listed = [0u8; 3072];
+    let mut listed = [0u8; TABLE];
     let at = roster_positions::stamp_lists(file, ns + nt + 4, ns, &mut listed);
-    let mut strict = [0u8; 3072];
+    let mut strict = [0u8; TABLE];
     let mut next = [0u8; 32];
     roster_positions::stamp_rankings(file, at + 2, nt, &mut strict, &mut next);
     let found = listed_cells(ns, &listed);

@@ -1,5 +1,5 @@
 -- The answer of a change: the bytes of the changed roster, or the model's refusal.
-use Prim.Native.Nat.{ℕ, _*_, _-_, _≤_, _<_}
+use Prim.Native.Nat.{ℕ, _*_, _-_, _/_, _≤_, _<_}
 use native.Mathlib.Omega.{arith}
 use mathlib.Core.Path.{_≡_, refl, sym, ap, ap₂, _∙_, subst}
 use mathlib.Core.List.{List, _++_, append-assoc}
@@ -7,11 +7,11 @@ use lib.ListN.{length, take, length-append}
 use lib.Seq.{take-all}
 use lib.Dec.{T}
 use Rattle.lists.specs.Keep.{gather}
-use Rattle.model.specs.Limits.{rosterSize}
+use Rattle.model.specs.Limits.{entryWidth, rosterSize}
 use Rattle.model.specs.Reading.{Reading, accepted, refused}
 use Rattle.model.specs.Roster.{Roster, surveyorCount, standCount, totalS, totalT, fits}
-use Rattle.model.specs.RosterFile.{listBytes, rankingBytes, wideBytes, readRoster, writeRoster}
-use Rattle.theory_files.specs.ByLists.{fits-lists}
+use Rattle.model.specs.RosterFile.{shifted, listBytes, entriesBytes, rankingBytes, wideBytes, readRoster, writeRosterBy, writeRoster}
+use Rattle.theory_files.specs.RosterInstance.{lists-count, rankings-count}
 use Rattle.theory_files.specs.Rosters.{lists-size, rankings-size, roster-size}
 use Rattle.roster_parts.specs.declared.Changed.{Changed}
 use Rattle.roster_parts.specs.Growth.{sectionOf, Grown, grown-then, grown-as}
@@ -53,18 +53,19 @@ held ns nt {nodes} {lists} {rankings} n l s t u =
 
 -- a roster within the limits has room
 module _ (H : Roster) (ok : T (fits H)) (nodes lists rankings : List ℕ) (n : nodes ≡ listBytes (H .quotasS) ++ listBytes (H .quotasT))
-    (l : lists ≡ gather listBytes (H .listsS)) (t : rankings ≡ gather rankingBytes (H .listsT)) where
+    (l : lists ≡ gather (entriesBytes shifted) (H .listsS))
+    (t : rankings ≡ gather (rankingBytes shifted) (H .listsT)) where
   abbrev listed : List ℕ
-  listed = gather listBytes (H .listsS)
+  listed = gather (entriesBytes shifted) (H .listsS)
 
   abbrev ranked : List ℕ
-  ranked = gather rankingBytes (H .listsT)
+  ranked = gather (rankingBytes shifted) (H .listsT)
 
   abbrev sections : List ℕ
   sections = (wideBytes (totalS (H .listsS)) ++ listed) ++ (wideBytes (totalT (H .listsT)) ++ ranked)
 
   sections-fit : (length listed ≤ rosterSize) × (length ranked ≤ rosterSize)
-  unfolding writeRoster
+  unfolding writeRosterBy
   sections-fit =
       let h = roster-size H ok in
       let a = length-append (listBytes (H .quotasS)) (listBytes (H .quotasT) ++ sections) in
@@ -73,11 +74,11 @@ module _ (H : Roster) (ok : T (fits H)) (nodes lists rankings : List ℕ) (n : n
       (omega arith, omega arith)
 
   written : rosterOf (length (H .listsS)) (length (H .listsT)) nodes lists rankings ≡ writeRoster H
-  unfolding writeRoster
+  unfolding writeRosterBy
   written =
       let (hs, ht) = sections-fit in
-      let a : length listed - length (H .listsS) ≡ totalS (H .listsS) = omega (arith, lists-size (H .listsS)) in
-      let b : length ranked - 2 * length (H .listsT) ≡ totalT (H .listsT) = omega (arith, rankings-size (H .listsT)) in
+      let a : (length listed - length (H .listsS)) / entryWidth ≡ totalS (H .listsS) = omega (arith, lists-size (H .listsS)) in
+      let b : (length ranked - 2 * length (H .listsT)) / entryWidth ≡ totalT (H .listsT) = omega (arith, rankings-size (H .listsT)) in
       ap₂ (λ x y. x ++ y) n
       (ap₂ (λ x y. x ++ y)
       (ap (sectionOf (length (H .listsS))) (ap (take rosterSize) l ∙ take-all rosterSize listed hs) ∙ ap (λ k. wideBytes k ++ listed) a)
@@ -90,6 +91,6 @@ module _ (H : Roster) (ok : T (fits H)) (nodes lists rankings : List ℕ) (n : n
     h .none,
     h .few,
     h .front ∙ ap (take rosterSize)
-        (ap₂ (λ x y. rosterOf x y nodes lists rankings) (sym (fits-lists H ok .countS ∙ a)) (sym (fits-lists H ok .countT ∙ b)) ∙ written)
+        (ap₂ (λ x y. rosterOf x y nodes lists rankings) (sym (lists-count H ok ∙ a)) (sym (rankings-count H ok ∙ b)) ∙ written)
         ∙ take-all rosterSize (writeRoster H) (roster-size H ok),
   )

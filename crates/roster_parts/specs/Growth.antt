@@ -1,5 +1,5 @@
 -- The front of an array that grows: what is appended to it, part by part. What is above a roster's size is cut off.
-use Prim.Native.Nat.{ℕ, zero, suc, _+_, _-_, _≤_, _<_}
+use Prim.Native.Nat.{ℕ, zero, suc, _+_, _-_, _/_, _≤_, _<_}
 use native.Mathlib.Omega.{arith}
 use native.Mathlib.Numerals.{add-one}
 use native.Mathlib.Decide.{decLt}
@@ -8,7 +8,7 @@ use mathlib.Core.Logic.{by-cases}
 use mathlib.Core.List.{List, [], _∷_, _++_, append-assoc, append-nil}
 use lib.ListN.{length, take, drop, getD, set, length-take, length-set, length-append}
 use lib.Seq.{take-all, take-append-le, take-suc-set, take-set-lt, take-set-le, set-out, drop-cons}
-use Rattle.model.specs.Limits.{rosterSize}
+use Rattle.model.specs.Limits.{entryWidth, rosterSize}
 use Rattle.model.specs.RosterFile.{wideBytes}
 
 -- an array of a roster's size, of which the first n are written
@@ -23,7 +23,7 @@ pub record Grown (xs : List ℕ) (n : ℕ) (before : List ℕ) (r : ℕ) (after 
 
 -- a section's bytes: the count of its entries, and the bytes of its lists, of which so many are lengths
 abbrev pub sectionOf : (lengths : ℕ) (lists : List ℕ) → List ℕ
-sectionOf k bs = wideBytes (length bs - k) ++ bs
+sectionOf k bs = wideBytes ((length bs - k) / entryWidth) ++ bs
 
 cut-front : (c : ℕ) (xs ys : List ℕ) → take c (take c xs ++ ys) ≡ take c (xs ++ ys)
 cut-front zero xs ys = refl

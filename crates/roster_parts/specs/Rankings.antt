@@ -1,32 +1,34 @@
--- The stands' lists in a roster's bytes, one behind the other, and what is made of each of them.
-use Prim.Native.Nat.{ℕ, zero, suc, _+_, _-_, _≤_, _<_}
+-- The stands' lists in a roster's bytes, one behind the other, and what is made of the bytes of each of them: of its strict part's and of its
+-- tie's.
+use Prim.Native.Nat.{ℕ, zero, suc, _+_, _-_, _*_, _≤_, _<_}
 use native.Mathlib.Omega.{arith}
 use native.Mathlib.Numerals.{add-one}
-use mathlib.Core.Path.{_≡_, refl, ap₂, _∙_}
+use mathlib.Core.Path.{_≡_, refl, ap, ap₂, _∙_}
 use mathlib.Core.List.{List, [], _∷_, _++_, append-assoc}
 use lib.ListN.{length, take, drop, getD}
 use Rattle.lists.specs.Test.{given}
 use Rattle.lists.specs.Keep.{gather}
+use Rattle.model.specs.Limits.{entryWidth}
 use Rattle.model.specs.Roster.{Ranking}
-use Rattle.model.specs.RosterFile.{rankingBytes}
-use Rattle.roster_positions.specs.Tables.{rankingAt, behind}
-use Rattle.roster_positions.specs.Rows.{ranking-is}
+use Rattle.model.specs.RosterFile.{shifted, rankingBytes}
+use Rattle.roster_positions.specs.Tables.{strictAt, tiedAt, behind}
+use Rattle.roster_positions.specs.Rows.{bytesOf, ranking-is}
 
 -- the bytes that w makes of n stands' lists from a place on, the first of them stand j's
-unfoldable pub rankingsFrom : (w : ℕ → Ranking → List ℕ) (f : List ℕ) (n j at : ℕ) → List ℕ
+unfoldable pub rankingsFrom : (w : ℕ → (strict tied : List ℕ) → List ℕ) (f : List ℕ) (n j at : ℕ) → List ℕ
 rankingsFrom w f zero j at = []
-rankingsFrom w f (suc n) j at = w j (rankingAt f at) ++ rankingsFrom w f n (suc j) (behind f at)
+rankingsFrom w f (suc n) j at = w j (strictAt f at) (tiedAt f at) ++ rankingsFrom w f n (suc j) (behind f at)
 
 -- and of the model's lists
-unfoldable pub gatherFrom : (w : ℕ → Ranking → List ℕ) (j : ℕ) → List Ranking → List ℕ
+unfoldable pub gatherFrom : (w : ℕ → (strict tied : List ℕ) → List ℕ) (j : ℕ) → List Ranking → List ℕ
 gatherFrom w j [] = []
-gatherFrom w j (R ∷ ts) = w j R ++ gatherFrom w (suc j) ts
+gatherFrom w j (R ∷ ts) = w j (bytesOf (R .strict)) (bytesOf (R .tied)) ++ gatherFrom w (suc j) ts
 
 -- ---- one turn of a loop over them
-module _ (w : ℕ → Ranking → List ℕ) (f : List ℕ) (n i at : ℕ) where
-  pub rankings-turn : i < n → (a b : ℕ) → a ≡ getD f at 0 → b ≡ getD f (at + 1) 0 → (xs ys : List ℕ) → xs ≡ take a (drop (at + 2) f)
-      → ys ≡ take b (drop (at + 2 + a) f)
-      → rankingsFrom w f (n - i) (i + 1) at ≡ w (i + 1) (record { strict = xs; tied = ys }) ++ rankingsFrom w f (n - (i + 1)) (i + 1 + 1) (at + (a + b + 2))
+module _ (w : ℕ → (strict tied : List ℕ) → List ℕ) (f : List ℕ) (n i at : ℕ) where
+  pub rankings-turn : i < n → (a b : ℕ) → a ≡ getD f at 0 → b ≡ getD f (at + 1) 0 → (xs ys : List ℕ) → xs ≡ take (entryWidth * a) (drop (at + 2) f)
+      → ys ≡ take (entryWidth * b) (drop (at + 2 + entryWidth * a) f)
+      → rankingsFrom w f (n - i) (i + 1) at ≡ w (i + 1) xs ys ++ rankingsFrom w f (n - (i + 1)) (i + 1 + 1) (at + (entryWidth * (a + b) + 2))
   unfolding rankingsFrom
   rankings-turn h a b d e xs ys x y = let k : n - i ≡ suc (n - (i + 1)) = omega arith in rw (x, y, d, e, k, add-one (i + 1))
 
@@ -35,10 +37,12 @@ module _ (w : ℕ → Ranking → List ℕ) (f : List ℕ) (n i at : ℕ) where
   rankings-done h = let k : n - i ≡ 0 = omega arith in rw k
 
 -- ---- the bytes are those of the model's lists
-pub rankings-are : (w : ℕ → Ranking → List ℕ) (ts : List Ranking) (f : List ℕ) (at : ℕ) (post : List ℕ) → drop at f ≡ gather rankingBytes ts ++ post
-    → (j : ℕ) → rankingsFrom w f (length ts) j at ≡ gatherFrom w j ts
+pub rankings-are : (w : ℕ → (strict tied : List ℕ) → List ℕ) (ts : List Ranking) (f : List ℕ) (at : ℕ) (post : List ℕ)
+    → drop at f ≡ gather (rankingBytes shifted) ts ++ post → (j : ℕ) → rankingsFrom w f (length ts) j at ≡ gatherFrom w j ts
 unfolding rankingsFrom gatherFrom
 rankings-are w [] f at post e j = refl
 rankings-are w (R ∷ ts) f at post e j =
-    given (ranking-is f at R (gather rankingBytes ts ++ post) (e ∙ append-assoc (rankingBytes R) (gather rankingBytes ts) post)) (λ (p, d).
-    ap₂ (λ Q z. w j Q ++ z) p (rankings-are w ts f (behind f at) post d (suc j)))
+    let rest = gather (rankingBytes shifted) ts in
+    given (ranking-is f at R (rest ++ post) (e ∙ append-assoc (rankingBytes shifted R) rest post)) (λ q.
+    ap (λ z. z ++ rankingsFrom w f (length ts) (suc j) (behind f at)) (ap₂ (w j) (q .strict) (q .tied))
+    ∙ ap (λ z. w j (bytesOf (R .strict)) (bytesOf (R .tied)) ++ z) (rankings-are w ts f (behind f at) post (q .rest) (suc j)))

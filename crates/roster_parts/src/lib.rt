@@ -2,11 +2,12 @@
 // and the answer of a change. What does not fit into the array is left out; a roster within the limits always fits.
 ghost use mathlib.Core.Path.{_≡_};
 ghost use mathlib.Core.List.{[], _∷_};
-ghost use Prim.Native.Nat.{_+_, _-_, _*_, _≤_};
+ghost use Prim.Native.Nat.{_+_, _-_, _*_, _/_, _≤_};
 ghost use lib.ListN.{take};
-ghost use Rattle.model.specs.Limits.{nodeLimit};
+ghost use Rattle.model.specs.Limits.{nodeLimit, entryWidth};
 ghost use Rattle.roster_positions.specs.Tables.{listsEnd};
 ghost use Rattle.roster_parts.specs.Growth.{Room, Grown, sectionOf};
+use limits::ENTRY_WIDTH;
 use limits::ROSTER_SIZE;
 
 // the answer of a change: the changed roster in the front of the array, or the number of the refusal, 0 for none
@@ -52,12 +53,12 @@ pub fn append(out: &mut [u8; ROSTER_SIZE], n: usize, part: &[u8]) -> usize
     at
 }
 
-// the entries among the bytes of some lists, the others being lengths
+// the entries among the bytes of some lists, of which so many are lengths
 pub(crate) fn entry_count(size: usize, lengths: usize) -> usize
-    ensures { λ r. ⌜ r ≡ size - lengths ⌝ }
+    ensures { λ r. ⌜ r ≡ (size - lengths) / entryWidth ⌝ }
 {
     if lengths <= size {
-        return size - lengths;
+        return (size - lengths) / ENTRY_WIDTH;
     }
     0
 }
@@ -82,14 +83,14 @@ pub fn append_section(
 
 // the place behind n surveyors' lists, a length byte before each
 pub fn lists_end(file: &[u8], start: usize, n: usize) -> usize
-    requires { ⌜ (start ≤ 10000) × (n ≤ nodeLimit) ⌝ }
-    ensures { λ r. ⌜ (r ≡ listsEnd (now (file .entry)) n start) × (start ≤ r) × (r ≤ start + 256 * n) ⌝ }
+    requires { ⌜ (start ≤ 20000) × (n ≤ nodeLimit) ⌝ }
+    ensures { λ r. ⌜ (r ≡ listsEnd (now (file .entry)) n start) × (start ≤ r) × (r ≤ start + 511 * n) ⌝ }
 {
     let mut at = start;
     let mut i = 0;
     while i < n {
         let k = roster_positions::byte_at(file, at) as usize;
-        at += k + 1;
+        at += ENTRY_WIDTH * k + 1;
         i += 1;
     }
     at

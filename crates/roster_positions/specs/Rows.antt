@@ -3,11 +3,11 @@
 use Prim.Native.Nat.{ℕ, zero, suc, _+_, _*_, _/_, _%_, _≤_, _<_}
 use native.Mathlib.Omega.{arith}
 use native.Mathlib.Nat.{add-zero}
-use mathlib.Core.Path.{_≡_, refl, sym, ap, ap₂, _∙_, subst}
+use mathlib.Core.Path.{_≡_, refl, sym, ap, ap₂, _∙_}
 use mathlib.Core.Logic.{_≢_}
-use mathlib.Core.Bool.{true, false, cond, _||_}
+use mathlib.Core.Bool.{cond, _||_}
 use mathlib.Core.List.{List, [], _∷_, _++_, map, append-assoc}
-use lib.ListN.{length, take, drop, getD, set, length-set}
+use lib.ListN.{length, drop, getD, set, length-set}
 use lib.Seq.{getD-set-same, getD-set-other}
 use lib.Dec.{T-not}
 use Rattle.lists.specs.Test.{given, by-bool, true-T, false-T}
@@ -20,8 +20,8 @@ use Rattle.model.specs.Edges.{position}
 use Rattle.theory_files.specs.Position.{same→eq, eq→same}
 use Rattle.theory_files.specs.Cells.{Within}
 use Rattle.theory_files.specs.Offsets.{head-is, tail-is, part-is, rest-is}
-use Rattle.roster_positions.specs.Tables.{rowWidth, column, entryOf, entriesIn, entriesAt, stamped, listsStamped, listsEnd, strictStamped, nextRanks}
-use Rattle.roster_positions.specs.Tables.{rankingAt, behind, behindList}
+use Rattle.roster_positions.specs.Tables.{rowWidth, column, entryOf, entriesIn, entryBytes, stamped, listAt, behindList, listsStamped, listsEnd}
+use Rattle.roster_positions.specs.Tables.{strictAt, tiedAt, behind, strictStamped, nextRanks}
 
 -- ---- one list
 pub stamped-length : (row : ℕ) (xs : List Entry) (k : ℕ) (t : List ℕ) → length (stamped row xs k t) ≡ length t
@@ -133,11 +133,15 @@ module _ (f : List ℕ) (at n : ℕ) (xs : List Entry) (more : List ℕ) (e : dr
   size : length (bytesOf xs) ≡ entryWidth * n
   size = bytes-length xs ∙ ap (λ k. entryWidth * k) (sym l)
 
-  pub entries-part : entriesAt f at n ≡ xs
-  entries-part = ap entriesIn (part-is f at (entryWidth * n) (bytesOf xs) more e size) ∙ entries-are xs
+  pub bytes-part : entryBytes f at n ≡ bytesOf xs
+  bytes-part = part-is f at (entryWidth * n) (bytesOf xs) more e size
 
-  pub entries-rest : drop (at + entryWidth * n) f ≡ more
-  entries-rest = rest-is f at (entryWidth * n) (bytesOf xs) more e size
+  pub bytes-rest : drop (at + entryWidth * n) f ≡ more
+  bytes-rest = rest-is f at (entryWidth * n) (bytesOf xs) more e size
+
+-- what was stamped by a part's bytes was by its entries
+stamped-part : (row : ℕ) (bs : List ℕ) (xs : List Entry) (t : List ℕ) → bs ≡ bytesOf xs → stamped row (entriesIn bs) 1 t ≡ stamped row xs 1 t
+stamped-part row bs xs t e = ap (λ z. stamped row z 1 t) (ap entriesIn e ∙ entries-are xs)
 
 -- ---- the surveyors' lists
 pub lists-are : (ls : List (List Entry)) (f : List ℕ) (at : ℕ) (post : List ℕ) → drop at f ≡ gather (entriesBytes shifted) ls ++ post
@@ -147,16 +151,12 @@ unfolding listsStamped listsEnd allStamped
 lists-are [] f at post e row t = (refl, e)
 lists-are (xs ∷ ls) f at post e row t =
     let rest = gather (entriesBytes shifted) ls in
+    let n = getD f at 0 in
     given (head-is f at (length xs) ((bytesOf xs ++ rest) ++ post) e) (λ h.
     given (tail-is f at (length xs) ((bytesOf xs ++ rest) ++ post) e ∙ append-assoc (bytesOf xs) rest post) (λ d.
-    given (
-      entries-part f (at + 1) (getD f at 0) xs (rest ++ post) d h,
-      entries-rest f (at + 1) (getD f at 0) xs (rest ++ post) d h,
-    ) (λ (x, y).
-    given
-    (lists-are ls f (behindList f at) post (ap (λ k. drop k f) (move at (getD f at 0)) ∙ y) (row + rowWidth)
-    (stamped row (entriesAt f (at + 1) (getD f at 0)) 1 t))
-    (λ (u, v). (u ∙ ap (λ z. allStamped (row + rowWidth) ls (stamped row z 1 t)) x, v)))))
+    given (ap (λ k. drop k f) (move at n) ∙ bytes-rest f (at + 1) n xs (rest ++ post) d h) (λ y.
+    given (lists-are ls f (behindList f at) post y (row + rowWidth) (stamped row (entriesIn (listAt f at)) 1 t)) (λ (u, v).
+    (u ∙ ap (allStamped (row + rowWidth) ls) (stamped-part row (listAt f at) xs t (bytes-part f (at + 1) n xs (rest ++ post) d h)), v)))))
   where
     move : (at b : ℕ) → at + (entryWidth * b + 1) ≡ at + 1 + entryWidth * b
     move at b = omega arith
@@ -171,8 +171,13 @@ nextAll j [] t = t
 nextAll j (R ∷ ts) t = nextAll (suc j) ts (set t j ((length (R .strict) + 1) % 256))
 
 -- a stand's list at its place, and what follows it
-pub ranking-is : (f : List ℕ) (at : ℕ) (R : Ranking) (more : List ℕ) → drop at f ≡ rankingBytes shifted R ++ more
-    → (rankingAt f at ≡ R) × (drop (behind f at) f ≡ more)
+pub record RankingIs (f : List ℕ) (at : ℕ) (R : Ranking) (more : List ℕ) : Type 0 where
+  pub count : getD f at 0 ≡ length (R .strict)
+  pub strict : strictAt f at ≡ bytesOf (R .strict)
+  pub tied : tiedAt f at ≡ bytesOf (R .tied)
+  pub rest : drop (behind f at) f ≡ more
+
+pub ranking-is : (f : List ℕ) (at : ℕ) (R : Ranking) (more : List ℕ) → drop at f ≡ rankingBytes shifted R ++ more → RankingIs f at R more
 ranking-is f at R more e =
     let a = getD f at 0 in
     let b = getD f (at + 1) 0 in
@@ -182,12 +187,13 @@ ranking-is f at R more e =
     given (ap (λ k. drop k f) (two at) ∙ tail-is f (at + 1) (length (R .tied)) (bytesOf (entries R) ++ more) d
     ∙ ap (λ z. z ++ more) (gather-append (shifted .bytes) (R .strict) (R .tied))
     ∙ append-assoc (bytesOf (R .strict)) (bytesOf (R .tied)) more) (λ d₂.
-    given (entries-rest f (at + 2) a (R .strict) (bytesOf (R .tied) ++ more) d₂ h) (λ d₃.
-    given (entries-part f (at + 2) a (R .strict) (bytesOf (R .tied) ++ more) d₂ h) (λ p.
-    given (entries-part f (at + 2 + entryWidth * a) b (R .tied) more d₃ g) (λ q. (
-      λ k. record { strict = p k; tied = q k },
-      ap (λ k. drop k f) (move at a b) ∙ entries-rest f (at + 2 + entryWidth * a) b (R .tied) more d₃ g,
-    ))))))))
+    given (bytes-rest f (at + 2) a (R .strict) (bytesOf (R .tied) ++ more) d₂ h) (λ d₃.
+    record {
+      count = h;
+      strict = bytes-part f (at + 2) a (R .strict) (bytesOf (R .tied) ++ more) d₂ h;
+      tied = bytes-part f (at + 2 + entryWidth * a) b (R .tied) more d₃ g;
+      rest = ap (λ k. drop k f) (move at a b) ∙ bytes-rest f (at + 2 + entryWidth * a) b (R .tied) more d₃ g;
+    })))))
   where
     two : (at : ℕ) → at + 2 ≡ at + 1 + 1
     two at = omega arith
@@ -202,13 +208,14 @@ unfolding strictStamped nextRanks allStamped nextAll
 rankings-are [] f at post e row j t u = (refl, refl)
 rankings-are (R ∷ ts) f at post e row j t u =
     let rest = gather (rankingBytes shifted) ts in
-    given (head-is f at (length (R .strict)) (length (R .tied) ∷ ((bytesOf (entries R) ++ rest) ++ post)) e) (λ h.
-    given (ranking-is f at R (rest ++ post) (e ∙ append-assoc (rankingBytes shifted R) rest post)) (λ (p, d).
-    given (rankings-are ts f (behind f at) post d (row + rowWidth) (suc j) (stamped row (rankingAt f at .strict) 1 t) (set u j ((getD f at 0 + 1) % 256)))
+    given (ranking-is f at R (rest ++ post) (e ∙ append-assoc (rankingBytes shifted R) rest post)) (λ q.
+    given
+    (rankings-are ts f (behind f at) post (q .rest) (row + rowWidth) (suc j) (stamped row (entriesIn (strictAt f at)) 1 t)
+    (set u j ((getD f at 0 + 1) % 256)))
     (λ (x, y). (
-      x ∙ ap (λ Q. allStamped (row + rowWidth) (strictLists ts) (stamped row (Q .strict) 1 t)) p,
-      y ∙ ap (λ k. nextAll (suc j) ts (set u j ((k + 1) % 256))) h,
-    ))))
+      x ∙ ap (allStamped (row + rowWidth) (strictLists ts)) (stamped-part row (strictAt f at) (R .strict) t (q .strict)),
+      y ∙ ap (λ k. nextAll (suc j) ts (set u j ((k + 1) % 256))) (q .count),
+    )))
 
 -- ---- the ranks behind the strict parts, one by one
 next-before : (ts : List Ranking) (j : ℕ) (t : List ℕ) (c : ℕ) → c < j → getD (nextAll j ts t) c 0 ≡ getD t c 0

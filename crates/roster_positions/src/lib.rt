@@ -5,8 +5,13 @@ ghost use mathlib.Core.Path.{_≡_};
 ghost use Prim.Native.Nat.{_+_, _*_, _≤_};
 ghost use lib.ListN.{length, take, drop, getD};
 ghost use Rattle.model.specs.Limits.{nodeLimit};
-ghost use Rattle.roster_positions.specs.Tables.{entriesIn, stamped, listsStamped, listsEnd, strictStamped, nextRanks};
+ghost use Rattle.roster_positions.specs.Tables.{rowWidth, tableSize, entriesIn, stamped, listsStamped, listsEnd, strictStamped, nextRanks};
 use limits::ENTRY_WIDTH;
+
+// a list's row: three places for each of 32 numbers; and a table, of 32 rows
+pub const ROW: usize = 96;
+
+pub const TABLE: usize = 3072;
 
 // the byte at a place of the file, 0 behind its end
 pub fn byte_at(file: &[u8], at: usize) -> u8
@@ -33,8 +38,8 @@ pub fn part(file: &[u8], at: usize, n: usize) -> &[u8]
 }
 
 // the positions from 1 of a list's entries, each written at its number and shift in a row of the table; from the last entry to the first
-pub fn stamp(list: &[u8], row: usize, table: &mut [u8; 3072])
-    requires { ⌜ (length (now list) ≤ 510) × (row ≤ 2976) ⌝ }
+pub fn stamp(list: &[u8], row: usize, table: &mut [u8; TABLE])
+    requires { ⌜ (length (now list) ≤ 510) × (row + rowWidth ≤ tableSize) ⌝ }
     ensures { λ _. ⌜ now (table .exit) ≡ stamped row (entriesIn (now (list .entry))) 1 (now (table .entry)) ⌝ }
 {
     let mut k = list.len() / ENTRY_WIDTH;
@@ -48,7 +53,7 @@ pub fn stamp(list: &[u8], row: usize, table: &mut [u8; 3072])
 }
 
 // n surveyors' lists from a place on, a length byte before each; gives the place behind them
-pub fn stamp_lists(file: &[u8], start: usize, n: usize, table: &mut [u8; 3072]) -> usize
+pub fn stamp_lists(file: &[u8], start: usize, n: usize, table: &mut [u8; TABLE]) -> usize
     requires { ⌜ (start ≤ 1000) × (n ≤ nodeLimit) ⌝ }
     ensures { λ r. ⌜ (r ≡ listsEnd (now (file .entry)) n start) × (r ≤ start + 511 * n) ⌝ }
     ensures { λ r. ⌜ now (table .exit) ≡ listsStamped (now (file .entry)) n 0 start (now (table .entry)) ⌝ }
@@ -58,7 +63,7 @@ pub fn stamp_lists(file: &[u8], start: usize, n: usize, table: &mut [u8; 3072]) 
     while i < n {
         let k = byte_at(file, at) as usize;
         let list = part(file, at + 1, ENTRY_WIDTH * k);
-        stamp(list, i * 96, &mut *table);
+        stamp(list, i * ROW, &mut *table);
         at += ENTRY_WIDTH * k + 1;
         i += 1;
     }
@@ -71,7 +76,7 @@ pub fn stamp_rankings(
     file: &[u8],
     start: usize,
     n: usize,
-    table: &mut [u8; 3072],
+    table: &mut [u8; TABLE],
     next: &mut [u8; 32],
 )
     requires { ⌜ (start ≤ 20000) × (n ≤ nodeLimit) ⌝ }
@@ -84,7 +89,7 @@ pub fn stamp_rankings(
         let a = byte_at(file, at) as usize;
         let b = byte_at(file, at + 1) as usize;
         let list = part(file, at + 2, ENTRY_WIDTH * a);
-        stamp(list, j * 96, &mut *table);
+        stamp(list, j * ROW, &mut *table);
         next[j] = ((a + 1) % 256) as u8;
         at += ENTRY_WIDTH * (a + b) + 2;
         j += 1;

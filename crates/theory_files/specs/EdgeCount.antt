@@ -1,6 +1,6 @@
 -- A roster has no more edges than its surveyors' lists have entries, so within the limits at most 1,024: each entry is the pair of one
 -- stand and one shift.
-use Prim.Native.Nat.{ℕ, zero, suc, _+_, _≤_, _<_}
+use Prim.Native.Nat.{ℕ, zero, suc, _+_, _≤_}
 use native.Mathlib.Omega.{arith}
 use native.Mathlib.Nat.{suc-inj}
 use mathlib.Core.Path.{_≡_, refl, sym, ap, _∙_}

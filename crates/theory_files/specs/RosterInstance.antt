@@ -51,6 +51,12 @@ module _ (r : Roster) (ok : T (fits r)) where
   pub nt-small : nt ≤ nodeLimit
   nt-small = given (fits-parts r ok) (λ ((q, u, l, v), n). leb→le nt nodeLimit (and-l (leb nt nodeLimit) _ u))
 
+  pub lists-count : length (r .listsS) ≡ ns
+  lists-count = given (fits-parts r ok) (λ ((q, u, (l, a, k), v), n). l)
+
+  pub rankings-count : length (r .listsT) ≡ nt
+  rankings-count = given (fits-parts r ok) (λ ((q, u, v, (l, a, k)), n). l)
+
   pub list-fits : (i : ℕ) → i < ns → T (listFits listLimit nt (listS r i))
   list-fits i h = given (fits-parts r ok) (λ ((q, u, (l, a, k), v), n). all-∈ (listFits listLimit nt) (r .listsS) a (listS r i) (getD-∈ (r .listsS) i [] (omega arith)))
 

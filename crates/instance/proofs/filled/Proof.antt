@@ -4,6 +4,7 @@ use mathlib.Core.Bool.{false}
 use Prim.Native.Nat.{ℕ, _-_, _≤_, _<_, zero-le}
 use native.Mathlib.Omega.{arith}
 use Rattle.model.specs.Edges.{Edge}
+use Rattle.roster_positions.specs.Tables.{tableSize}
 use Rattle.arrays.specs.ArrayInstance.{at}
 use Rattle.arrays.specs.Passes.{Shows, Fill, fill-none, fill-next}
 use Rattle.instance.specs.Cells.{cellEdge}
@@ -25,7 +26,7 @@ abbrev μ-loop : tie.MeasureT-loop
 μ-loop ns nt m cell listed strict next qs qt sv₀ st₀ sh₀ rank-s₀ rank-t₀ tied₀ e₀ sv st sh rank-s rank-t tied e = m - e
 
 -- the cell of a turn is one of the grid's
-low : (c : tie.In-loop Inv-loop μ-loop) → at (c .before .before .args .cell .now) (c .before .loop .e) < 3072
+low : (c : tie.In-loop Inv-loop μ-loop) → at (c .before .before .args .cell .now) (c .before .loop .e) < tableSize
 low c = c .before .before .pre .1 (c .before .loop .e) (c .loop-test .taken)
 
 loop-holds : tie.Need-loop-holds Inv-loop μ-loop

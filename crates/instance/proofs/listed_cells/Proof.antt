@@ -5,6 +5,7 @@ use Prim.Native.Nat.{ℕ, _-_, _≤_, zero-le}
 use native.Mathlib.Omega.{arith}
 use lib.ListN.{length, length-replicate, length-set}
 use lib.Dec.{eqb}
+use Rattle.roster_positions.specs.Tables.{tableSize}
 use Rattle.arrays.specs.ArrayInstance.{at}
 use Rattle.arrays.specs.Tally.{byte-one}
 use Rattle.arrays.specs.Kept.{Kept, kept-turn}
@@ -16,13 +17,13 @@ use Rattle.instance.proofs.listed_cells.Reads as reads
 use Rattle.instance.proofs.listed_cells.Lts as lts
 
 abbrev Inv-loop : tie.InvT-loop
-Inv-loop n table cell₀ m₀ end c₀ cell m c = (c ≤ end) × (m ≤ c) × (length cell ≡ 3072) × Kept (λ c. not (eqb (at table c) 0)) cell m c
+Inv-loop n table cell₀ m₀ end c₀ cell m c = (c ≤ end) × (m ≤ c) × (length cell ≡ tableSize) × Kept (λ c. not (eqb (at table c) 0)) cell m c
 
 abbrev μ-loop : tie.MeasureT-loop
 μ-loop n table cell₀ m₀ end c₀ cell m c = end - c
 
 loop-holds : tie.Need-loop-holds Inv-loop μ-loop
-loop-holds c = (zero-le, zero-le, length-replicate {A = ℕ} 3072 0, (refl, refl))
+loop-holds c = (zero-le, zero-le, length-replicate {A = ℕ} tableSize 0, (refl, refl))
 
 add-m : tie.Need-add-m Inv-loop μ-loop
 add-m c = let l = c .before .before in let b = byte-one (not (eqb (at (l .before .args .table .now) (l .loop .c)) 0)) in omega arith

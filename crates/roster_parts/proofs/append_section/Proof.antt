@@ -2,10 +2,11 @@
 use native.Mathlib.Omega.{arith}
 use mathlib.Core.Path.{_≡_, sym, ap, _∙_}
 use mathlib.Core.List.{_++_}
-use Prim.Native.Nat.{_-_}
+use Prim.Native.Nat.{_-_, _/_}
 use lib.ListN.{length, take, length-take}
 use lib.Seq.{length-take-le}
 use borrow.Author.Needs.{needs}
+use Rattle.model.specs.Limits.{entryWidth}
 use Rattle.model.specs.RosterFile.{wideBytes}
 use Rattle.roster_parts.specs.Growth.{grown-then, grown-as}
 use Rattle.roster_parts.proofs.append_section.Statement.{statement}
@@ -19,7 +20,7 @@ returns c =
     let t = c .before .before .before .before .before .before .before in
     let a = t .before .before .args in
     let n : length (take (a .k) (a .lists .now)) ≡ a .k = length-take-le (a .k) (a .lists .now) (omega arith) in
-    grown-as (ap (λ k. wideBytes k ++ take (a .k) (a .lists .now)) (t .entry-count .ensures ∙ ap (λ k. k - a .lengths) (sym n)))
+    grown-as (ap (λ k. wideBytes k ++ take (a .k) (a .lists .now)) (t .entry-count .ensures ∙ ap (λ k. (k - a .lengths) / entryWidth) (sym n)))
     (grown-then (grown-then (c .before .before .before .before .before .append-byte .ensures) (c .before .before .before .append-byte2 .ensures))
     (c .append .ensures))
 

@@ -9,7 +9,7 @@ use Rattle.roster_parts.proofs.lists_end.Statement.{statement}
 use Rattle.roster_parts.proofs.lists_end.Tie as tie
 
 abbrev Inv-loop : tie.InvT-loop
-Inv-loop file start n at₀ i₀ at i = (i ≤ n) × (start ≤ at) × (at ≤ start + 256 * i) × (listsEnd file n start ≡ listsEnd file (n - i) at)
+Inv-loop file start n at₀ i₀ at i = (i ≤ n) × (start ≤ at) × (at ≤ start + 511 * i) × (listsEnd file n start ≡ listsEnd file (n - i) at)
 
 abbrev μ-loop : tie.MeasureT-loop
 μ-loop file start n at₀ i₀ at i = n - i
@@ -42,4 +42,4 @@ returns c =
 pub lists-end-spec : {M : Type 1} → statement M
 lists-end-spec =
     tie.close (tie.spec Inv-loop μ-loop loop-holds (λ c κs. search needs) (λ c. search needs) (λ c. search needs) (λ c. search needs)
-    (λ c. search needs) (λ c. search needs) loop-again returns)
+    (λ c. search needs) (λ c. search needs) (λ c. search needs) loop-again returns)
