@@ -13,17 +13,14 @@ ghost use Rattle.roster_reading.specs.Layout.{entryOf, widthOf, entryFrom, entr
 ghost use Rattle.roster_reading.specs.Slot.{Placed, slotOf};
 ghost use Rattle.roster_reading.specs.Row.{markCheck, EntriesChecked};
 use limits::ENTRY_WIDTH;
-use limits::NODE_LIMIT;
 use limits::QUOTA_LIMIT;
 use limits::QUOTA_SUM_LIMIT;
 use limits::SHIFT_LIMIT;
 use roster_reading::Entry;
 use roster_reading::Section;
 
-// The shifts of a node, and the marks of a row: one for each number from 1 to 32 and each of its shifts.
+// The places of a number in a row of marks, one for each shift.
 pub const SHIFTS: usize = SHIFT_LIMIT as usize;
-
-pub const ROW: usize = NODE_LIMIT as usize * SHIFTS;
 
 // The whole fields of `width` bytes among n from a place on, in a file of so many bytes: "1 bytes end inside a field", so that one is not
 // there.
@@ -126,7 +123,7 @@ pub(crate) fn ascends(x: Entry, y: Entry) -> bool
 
 // "4 a list entry that is 0 or above the other side's count", "a shift outside 1 to 3 in a list (18, straight after 4 ..)", "5 an entry
 // twice in one list", and in a tie also "6 a tie that does not ascend". The row has a mark for each entry before it in its list.
-pub(crate) fn entry_refusal(x: Entry, last: Entry, tied: bool, other: u8, row: &[bool]) -> u8
+pub(crate) fn entry_refusal(x: Entry, last: Entry, other: u8, tied: bool, row: &[bool]) -> u8
     requires { ⌜ other * shiftLimit ≤ length (now row) ⌝ }
     ensures { λ r. ⌜ r ≡ markCheck tied other (now (row .entry)) (entryOf last) (entryOf x) ⌝ }
 {
@@ -160,9 +157,9 @@ pub(crate) fn entry_refusal(x: Entry, last: Entry, tied: bool, other: u8, row: &
 pub fn check_entries(
     part: &[u8],
     n: usize,
+    other: u8,
     shifts: bool,
     tied: bool,
-    other: u8,
     row: &mut [bool],
 ) -> u8
     requires { ⌜ (widthOf shifts * n ≤ length (now part)) × (other * shiftLimit ≤ length (now row)) ⌝ }
@@ -175,7 +172,7 @@ pub fn check_entries(
     let mut i = 0;
     while i < n {
         let x = entry_at(part, i, shifts);
-        let refusal = entry_refusal(x, last, tied, other, &*row);
+        let refusal = entry_refusal(x, last, other, tied, &*row);
         if 0 < refusal {
             return refusal;
         }

@@ -6,7 +6,7 @@ use native.Mathlib.Omega.{arith}
 use native.Mathlib.Numerals.{add-one}
 use native.Mathlib.Decide.{decLt}
 use native.Mathlib.Nat.{le-refl, not-suc-le-zero, mul-le-mul-left, mul-div-le, lt-mul-div-succ}
-use mathlib.Core.Path.{_≡_, refl, sym, ap, ap₂, _∙_, subst}
+use mathlib.Core.Path.{_≡_, refl, sym, ap, ap₂, _∙_}
 use mathlib.Core.Logic.{by-cases}
 use mathlib.Core.Bool.{cond}
 use mathlib.Core.List.{List, [], _∷_}
@@ -164,9 +164,10 @@ module _ {S A : Type 0} (check : S → A → ℕ) (next : S → A → S) where
       whole : (k < n → ⊥) → readEach field check next n s (drop at f) ≡ refuseBy (refusalOf s part) (accepted (part, drop e f))
       whole l =
           let q : n ≡ k = omega (arith, l) in
+          let r : drop (w * k) (drop at f) ≡ drop e f = drop-drop (w * k) at f ∙ ap (λ j. drop j f) (sym d) in
           rw same-part (ap (λ m. readEach field check next m s (drop at f)) q
           ∙ each-whole k s (drop at f) (omega (arith, length-drop at f, fields-room w (length f) at n c))
-          ∙ ap (λ rest. refuseBy (refusalOf s (fields k (drop at f))) (accepted (fields k (drop at f), rest))) (drop-drop (w * k) at f ∙ ap (λ j. drop j f) (sym d)))
+          ∙ ap (λ rest. refuseBy (refusalOf s (fields k (drop at f))) (accepted (fields k (drop at f), rest))) r)
 
       -- the code's answer for n fields at a place: a refusal of the part that holds the whole ones, or where these are not all, 1
       pub part-is : partAnswer (refusalOf s part) k n e ≡ placed f (readEach field check next n s (drop at f))

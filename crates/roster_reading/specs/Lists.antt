@@ -7,7 +7,7 @@ use mathlib.Core.List.{List, [], _∷_, _++_}
 use lib.ListN.{length, drop, getD}
 use lib.Dec.{T}
 use Rattle.lists.specs.Test.{given}
-use Rattle.model.specs.Reading.{Reading, accepted, _then_}
+use Rattle.model.specs.Reading.{accepted, _then_}
 use Rattle.model.specs.Roster.{Entry, Ranking, entries}
 use Rattle.model.specs.RosterFile.{Layout, entryCheck, readEntries, readTied, readList, readRanking}
 use Rattle.theory_files.specs.Reads.{isBytes, each}

@@ -145,6 +145,11 @@ module _ {A : Type 0} {read : List ℕ → Reading (A × List ℕ)} {shows : Lis
       → Marked other shows f next r after → Marked read shows f at r after
   marked-behind e m = record { place = m .place ∙ sym (ap (placed f) e); marks = λ a rest d. m .marks a rest (sym e ∙ d) }
 
+pub marked-by : {A : Type 0} {read read′ : List ℕ → Reading (A × List ℕ)} {shows : List Bool → A → Type 0} {f : List ℕ} {at : ℕ} {r : Section}
+    {after : List Bool}
+    → read ≡ read′ → Marked read shows f at r after → Marked read′ shows f at r after
+marked-by {shows = shows} {f} {at} {r} {after} e m = subst (λ z. Marked z shows f at r after) e m
+
 -- what is made of the value read
 pub marked-map : {A B : Type 0} (read : List ℕ → Reading (A × List ℕ)) (g : A → B) {shows : List Bool → B → Type 0} {f : List ℕ} {at : ℕ}
     {r : Section} {after : List Bool}

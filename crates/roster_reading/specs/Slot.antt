@@ -3,6 +3,7 @@
 use Prim.Native.Nat.{ℕ, suc, _+_, _-_, _*_, _/_, _%_, _≤_, _<_}
 use native.Mathlib.Omega.{arith}
 use mathlib.Core.Path.{_≡_, ap₂}
+use mathlib.Core.Bool.{Bool}
 use lib.Dec.{eqb, eqb→eq}
 use Rattle.lists.specs.Test.{given, bool-eq, and-l, and-r, and-i, eq→eqb}
 use Rattle.model.specs.Limits.{nodeLimit, shiftLimit}
@@ -30,13 +31,20 @@ module _ (x : Entry) (p : Placed x) where
       let b : suc (slotOf x % shiftLimit) ≡ x .shift = omega arith in
       ap₂ (λ n k. record { number = n; shift = k }) a b
 
+  abbrev ofNumber : ℕ → Bool
+  ofNumber k = eqb (suc (k / shiftLimit)) (x .number)
+
+  abbrev ofShift : ℕ → Bool
+  ofShift k = eqb (suc (k % shiftLimit)) (x .shift)
+
   pub same-slot : (k : ℕ) → same (atSlot k) x ≡ eqb k (slotOf x)
   same-slot k = bool-eq (same (atSlot k) x) (eqb k (slotOf x))
-      (λ t. eq→eqb k (slotOf x) (given (eqb→eq (suc (k / shiftLimit)) (x .number) (and-l (eqb (suc (k / shiftLimit)) (x .number)) (eqb (suc (k % shiftLimit)) (x .shift)) t)) (λ a.
-      given (eqb→eq (suc (k % shiftLimit)) (x .shift) (and-r (eqb (suc (k / shiftLimit)) (x .number)) (eqb (suc (k % shiftLimit)) (x .shift)) t)) (λ b. omega arith))))
-      (λ t. let e = eqb→eq k (slotOf x) t in
-      and-i (eqb (suc (k / shiftLimit)) (x .number)) (eqb (suc (k % shiftLimit)) (x .shift)) (eq→eqb (suc (k / shiftLimit)) (x .number) (omega arith))
-      (eq→eqb (suc (k % shiftLimit)) (x .shift) (omega arith)))
+      (λ t. eq→eqb k (slotOf x)
+      (given (eqb→eq (suc (k / shiftLimit)) (x .number) (and-l (ofNumber k) (ofShift k) t)) (λ a.
+      given (eqb→eq (suc (k % shiftLimit)) (x .shift) (and-r (ofNumber k) (ofShift k) t)) (λ b. omega arith))))
+      (λ t.
+      let e = eqb→eq k (slotOf x) t in
+      and-i (ofNumber k) (ofShift k) (eq→eqb (suc (k / shiftLimit)) (x .number) (omega arith)) (eq→eqb (suc (k % shiftLimit)) (x .shift) (omega arith)))
 
   -- it lies in the row
   pub slot-room : (count : ℕ) → x .number ≤ count → slotOf x < count * shiftLimit

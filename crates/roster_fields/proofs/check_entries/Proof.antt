@@ -1,6 +1,6 @@
 -- `roster_fields::check_entries` meets its contract: the entries that are left, behind those passed, have the refusal of all, and the row
 -- shows those passed. Assumes nothing.
-use Prim.Native.Nat.{ℕ, _+_, _-_, _*_, _≤_, _<_, zero-le}
+use Prim.Native.Nat.{ℕ, _+_, _-_, _≤_, _<_, zero-le}
 use native.Mathlib.Omega.{arith}
 use native.Mathlib.Nat.{mul-le-mul-left}
 use mathlib.Core.Path.{_≡_, refl, sym, ap, _∙_, subst}
@@ -21,7 +21,7 @@ abbrev refusal : Bool → ℕ → List Entry → Entry → List Entry → ℕ
 refusal tied other seen last xs = refusalOf (listCheck tied other) passed (record { seen = seen; last = last }) xs
 
 abbrev Inv-loop : tie.InvT-loop
-Inv-loop part n shifts tied other row₀ last₀ i₀ row last i =
+Inv-loop part n other shifts tied row₀ last₀ i₀ row last i =
     (i ≤ n) × (length row ≡ length row₀)
     × ((seen : List Entry) → Shows row₀ seen
     → (refusal tied other seen noEntry (entriesIn shifts n part)
@@ -29,7 +29,7 @@ Inv-loop part n shifts tied other row₀ last₀ i₀ row last i =
     × Shows row (seen ++ take i (entriesIn shifts n part)))
 
 abbrev μ-loop : tie.MeasureT-loop
-μ-loop part n shifts tied other row₀ last₀ i₀ row last i = n - i
+μ-loop part n other shifts tied row₀ last₀ i₀ row last i = n - i
 
 sized : (shifts : Bool) (n : ℕ) (part : List ℕ) → length (entriesIn shifts n part) ≡ n
 sized shifts n part = fields-length (widthOf shifts) (entryFrom shifts) n part
@@ -40,7 +40,8 @@ met : (p : tie.After-entry-at Inv-loop μ-loop) → let l = p .before .before in
 met p =
     let l = p .before .before in
     let a = l .before .before .before .args in
-    p .entry-at .ensures ∙ sym (fields-at (widthOf (a .shifts)) (entryFrom (a .shifts)) (a .n) (a .part .now) (l .loop .i) noEntry (p .before .loop-test .taken))
+    p .entry-at .ensures
+    ∙ sym (fields-at (widthOf (a .shifts)) (entryFrom (a .shifts)) (a .n) (a .part .now) (l .loop .i) noEntry (p .before .loop-test .taken))
 
 -- what a turn does to the refusal that is looked for
 turn : (p : tie.After-entry-refusal Inv-loop μ-loop) (seen : List Entry) → let e = p .before .before in let l = e .before .before in
