@@ -41,7 +41,7 @@ refusalIn (popular v) = 0
 refusalIn (beaten v) = 0
 refusalIn (votes v w x p) = 0
 refusalIn (refusedPart n g p) = n
-refusalIn (blockedBy s t) = 0
+refusalIn (blockedBy s t k) = 0
 refusalIn unblocked = 0
 
 -- a refusal, or 0 and the length written
@@ -56,7 +56,7 @@ lengthIn (popular v) = 0
 lengthIn (beaten v) = 0
 lengthIn (votes v w x p) = 0
 lengthIn (refusedPart n g p) = 0
-lengthIn (blockedBy s t) = 0
+lengthIn (blockedBy s t k) = 0
 lengthIn unblocked = 0
 
 abbrev pub outcomeIn : Answer → Outcome
@@ -77,7 +77,7 @@ judgedIn (popular v) = record { refusal = 0; verdict = 2; vote = v }
 judgedIn (beaten v) = record { refusal = 0; verdict = 3; vote = v }
 judgedIn (votes v w x p) = noVerdict 0
 judgedIn (refusedPart n g p) = noVerdict n
-judgedIn (blockedBy s t) = noVerdict 0
+judgedIn (blockedBy s t k) = noVerdict 0
 judgedIn unblocked = noVerdict 0
 
 -- both votes, the winner and the part, as numbers
@@ -106,40 +106,26 @@ comparedIn (votes v w x p) =
     record { refusal = 0; winner = winnerCode x; «first_vote» = v; «second_vote» = w; file = fileNumber (p .file); from = p .from; length = length (p .bytes) }
 comparedIn (refusedPart n g p) =
     record { refusal = n; winner = 0; «first_vote» = pos 0; «second_vote» = pos 0; file = fileNumber (p .file); from = p .from; length = length (p .bytes) }
-comparedIn (blockedBy s t) = noVotes
+comparedIn (blockedBy s t k) = noVotes
 comparedIn unblocked = noVotes
 
--- the numbers of a blocking pair
-abbrev pub surveyorIn : Answer → ℕ
-surveyorIn (refused n g) = 0
-surveyorIn loaded = 0
-surveyorIn (wrote n) = 0
-surveyorIn (plan n) = 0
-surveyorIn (none n k) = 0
-surveyorIn strong = 0
-surveyorIn (popular v) = 0
-surveyorIn (beaten v) = 0
-surveyorIn (votes v w x p) = 0
-surveyorIn (refusedPart n g p) = 0
-surveyorIn (blockedBy s t) = s
-surveyorIn unblocked = 0
-
-abbrev pub standIn : Answer → ℕ
-standIn (refused n g) = 0
-standIn loaded = 0
-standIn (wrote n) = 0
-standIn (plan n) = 0
-standIn (none n k) = 0
-standIn strong = 0
-standIn (popular v) = 0
-standIn (beaten v) = 0
-standIn (votes v w x p) = 0
-standIn (refusedPart n g p) = 0
-standIn (blockedBy s t) = t
-standIn unblocked = 0
+-- the numbers of a blocking pair: surveyor, stand, shift
+abbrev pub pairIn : Answer → ℕ × ℕ × ℕ
+pairIn (refused n g) = (0, 0, 0)
+pairIn loaded = (0, 0, 0)
+pairIn (wrote n) = (0, 0, 0)
+pairIn (plan n) = (0, 0, 0)
+pairIn (none n k) = (0, 0, 0)
+pairIn strong = (0, 0, 0)
+pairIn (popular v) = (0, 0, 0)
+pairIn (beaten v) = (0, 0, 0)
+pairIn (votes v w x p) = (0, 0, 0)
+pairIn (refusedPart n g p) = (0, 0, 0)
+pairIn (blockedBy s t k) = (s, t, k)
+pairIn unblocked = (0, 0, 0)
 
 abbrev pub blockerIn : Answer → Blocker
-blockerIn a = record { refusal = refusalIn a; surveyor = surveyorIn a; stand = standIn a }
+blockerIn a = record { refusal = refusalIn a; surveyor = pairIn a .0; stand = pairIn a .1; shift = pairIn a .2 }
 
 -- what the finder found
 abbrev pub nothingFound : FoundNumbers
@@ -160,7 +146,7 @@ foundIn (popular v) = nothingFound
 foundIn (beaten v) = nothingFound
 foundIn (votes v w x p) = nothingFound
 foundIn (refusedPart n g p) = nothingFound
-foundIn (blockedBy s t) = nothingFound
+foundIn (blockedBy s t k) = nothingFound
 foundIn unblocked = nothingFound
 
 -- ---- the refusal of a reading, 0 for none

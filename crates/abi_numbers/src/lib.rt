@@ -49,12 +49,13 @@ pub struct Compared {
     pub length: usize,
 }
 
-// A refusal, 0 for none; the numbers of a blocking pair, 0 0 if there is none.
+// A refusal, 0 for none; the numbers of a blocking pair, 0 0 0 if there is none.
 #[repr(C)]
 pub struct Blocker {
     pub refusal: u8,
     pub surveyor: u8,
     pub stand: u8,
+    pub shift: u8,
 }
 
 // kind: 1 a plan, 2 none with pairs left, 3 none with a rival, 4 a refusal; then the refusal's number, the candidate's vote against its
@@ -195,20 +196,23 @@ pub fn blocked_numbers(b: Blocked) -> Blocker
     ensures { λ r. ⌜ r ≡ blockerIn (blockedShown b) ⌝ }
 {
     match b {
-        Blocked::Pair(s, t) => Blocker {
+        Blocked::Pair(s, t, k) => Blocker {
             refusal: 0,
             surveyor: s,
             stand: t,
+            shift: k,
         },
         Blocked::Unblocked => Blocker {
             refusal: 0,
             surveyor: 0,
             stand: 0,
+            shift: 0,
         },
         Blocked::Refused(number, _) => Blocker {
             refusal: number,
             surveyor: 0,
             stand: 0,
+            shift: 0,
         },
     }
 }

@@ -5,6 +5,6 @@ use Rattle.answers.specs.declared.Blocked.{Blocked}
 use Rattle.answers.specs.declared.Blocked.the-variants.{Pair, Unblocked, Refused}
 
 abbrev pub blockedShown : Blocked → model.Answer
-blockedShown (Pair s t) = model.blockedBy s t
+blockedShown (Pair s t k) = model.blockedBy s t k
 blockedShown Unblocked = model.unblocked
 blockedShown (Refused n g) = model.refused n (groupShown g)

@@ -33,7 +33,7 @@ foundCase (model.popular v) = found.Plan 0
 foundCase (model.beaten v) = found.Plan 0
 foundCase (model.votes v w x p) = found.Plan 0
 foundCase (model.refusedPart n g p) = found.Plan 0
-foundCase (model.blockedBy s t) = found.Plan 0
+foundCase (model.blockedBy s t k) = found.Plan 0
 foundCase model.unblocked = found.Plan 0
 
 kind-shown : (k : NoneKind) → kindCase (kindShown k) ≡ k

@@ -72,9 +72,9 @@ pub enum Winner {
     Neither,
 }
 
-// A blocking pair, by the numbers of its surveyor and its stand; or that there is none.
+// A blocking pair, by the numbers of its surveyor, its stand and its shift; or that there is none.
 pub enum Blocked {
-    Pair(u8, u8),
+    Pair(u8, u8, u8),
     Unblocked,
     Refused(u8, Group),
 }

@@ -13,14 +13,15 @@ at xs e = getD xs e 0
 abbrev pub flag : List Bool → ℕ → Bool
 flag xs e = getD xs e false
 
--- edges: surveyor, stand, rank at each, tied; nodes: quotas
-abbrev pub shown : (m ns nt : ℕ) (sv st rankS rankT : List ℕ) (tied : List Bool) (quotaS quotaT : List ℕ) → Instance
-shown m ns nt sv st rankS rankT tied quotaS quotaT = record {
+-- edges: surveyor, stand, rank at each, shift, tied; nodes: quotas
+abbrev pub shown : (m ns nt : ℕ) (sv st rankS rankT sh : List ℕ) (tied : List Bool) (quotaS quotaT : List ℕ) → Instance
+shown m ns nt sv st rankS rankT sh tied quotaS quotaT = record {
   m = m;
   ns = ns;
   nt = nt;
   sv = at sv;
   st = at st;
+  sh = at sh;
   rankS = at rankS;
   rankT = at rankT;
   tied = flag tied;

@@ -57,17 +57,18 @@ module _ {A : Type 0} (d : A) where
   fill-next k o f i v w l F = record { size = length-set o i v ∙ F .size; shows = shows-next o f i v w (subst (λ z. i < z) (sym (F .size)) l) (F .shows) }
 
 -- arrays that show an instance number by number show the instance
-pub shown-is : (m ns nt : ℕ) (sv st rankS rankT : List ℕ) (tied : List Bool) (quotaS quotaT : List ℕ) (G : Instance)
+pub shown-is : (m ns nt : ℕ) (sv st rankS rankT sh : List ℕ) (tied : List Bool) (quotaS quotaT : List ℕ) (G : Instance)
     → m ≡ G .m → ns ≡ G .ns → nt ≡ G .nt → ((e : ℕ) → at sv e ≡ G .sv e) → ((e : ℕ) → at st e ≡ G .st e)
-    → ((e : ℕ) → at rankS e ≡ G .rankS e) → ((e : ℕ) → at rankT e ≡ G .rankT e) → ((e : ℕ) → flag tied e ≡ G .tied e)
+    → ((e : ℕ) → at rankS e ≡ G .rankS e) → ((e : ℕ) → at rankT e ≡ G .rankT e) → ((e : ℕ) → at sh e ≡ G .sh e) → ((e : ℕ) → flag tied e ≡ G .tied e)
     → ((i : ℕ) → at quotaS i ≡ G .quotaS i) → ((j : ℕ) → at quotaT j ≡ G .quotaT j)
-    → shown m ns nt sv st rankS rankT tied quotaS quotaT ≡ G
-shown-is m ns nt sv st rankS rankT tied quotaS quotaT G a b c p q r s t u v = λ k. record {
+    → shown m ns nt sv st rankS rankT sh tied quotaS quotaT ≡ G
+shown-is m ns nt sv st rankS rankT sh tied quotaS quotaT G a b c p q r s z t u v = λ k. record {
   m = a k;
   ns = b k;
   nt = c k;
   sv = λ e. p e k;
   st = λ e. q e k;
+  sh = λ e. z e k;
   rankS = λ e. r e k;
   rankT = λ e. s e k;
   tied = λ e. t e k;

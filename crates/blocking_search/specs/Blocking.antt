@@ -16,7 +16,7 @@ use Rattle.answers.specs.BlockedCases.{blockedShown}
 
 -- yes with the pair of edge e, or no
 abbrev pub named : Instance → (e : ℕ) → Bool → Blocked
-named G e true = Pair (suc (G .sv e)) (suc (G .st e))
+named G e true = Pair (suc (G .sv e)) (suc (G .st e)) (G .sh e)
 named G e false = Unblocked
 
 abbrev pub blockedBy : Instance → Plan → Blocked

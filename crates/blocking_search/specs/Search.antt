@@ -26,9 +26,9 @@ use Rattle.blocking_search.specs.Blocking.{named, blockedBy, Placed, wan
 
 module _ (m : ℕ) (sv st rs rt qs qt ls lt : List ℕ) (p : List Bool) (os : Placed m rs) (ot : Placed m rt) (hs : Thresholds m sv rs qs p ls)
     (ht : Thresholds m st rt qt p lt)
-    (ns nt : ℕ) (tied : List Bool) where
+    (ns nt : ℕ) (sh : List ℕ) (tied : List Bool) where
   abbrev G : model.Instance
-  G = shown m ns nt sv st rs rt tied qs qt
+  G = shown m ns nt sv st rs rt sh tied qs qt
 
   is-wanted : (e : ℕ) → e < m → wanted sv st rs rt ls lt p e ≡ blocks G (flag p) e
   unfolding blocks
@@ -44,10 +44,11 @@ module _ (m : ℕ) (sv st rs rt qs qt ls lt : List ℕ) (p : List Bool) (os : Pl
   top-is-wanted = top-cong (at sv) (at rs) m (wanted sv st rs rt ls lt p) (blocks G (flag p)) is-wanted
 
   -- the edge named is the model's, and there is one exactly if some edge blocks
-  pub answer-yes : (e : ℕ) → e ≡ topOf (at sv) (at rs) m (wanted sv st rs rt ls lt p) → e < m → Pair (at sv e + 1) (at st e + 1) ≡ blockedBy G p
+  pub answer-yes : (e : ℕ) → e ≡ topOf (at sv) (at rs) m (wanted sv st rs rt ls lt p) → e < m
+      → Pair (at sv e + 1) (at st e + 1) (at sh e) ≡ blockedBy G p
   answer-yes e q h =
       let s = q ∙ top-is-wanted in
-      ap₂ Pair (add-one (at sv e)) (add-one (at st e)) ∙ ap (λ d. named G d true) s
+      ap₂ (λ x y. Pair x y (at sh e)) (add-one (at sv e)) (add-one (at st e)) ∙ ap (λ d. named G d true) s
       ∙ sym (ap (named G (topBlocking G (flag p))) (top-below G (flag p) os (subst (λ z. z < m) s h)))
 
   pub answer-no : m ≤ topOf (at sv) (at rs) m (wanted sv st rs rt ls lt p) → Unblocked ≡ blockedBy G p

@@ -49,8 +49,8 @@ pub fn top_wanted(
     top
 }
 
-// A plan within the quotas of an accepted roster, by its flags and by the list of its n edges: the first blocking pair, by the numbers of its surveyor
-// and its stand, or that there is none.
+// A plan within the quotas of an accepted roster, by its flags and by the list of its n edges: the first blocking pair, by the numbers of its surveyor,
+// its stand and its shift, or that there is none.
 pub fn blocking(g: Instance, p: &[bool; 1024], n: usize, es: &[u16; 64]) -> Blocked
     requires { ⌜ Loaded g × (length (edgesIn (g .m) (flag (now p))) ≤ planLimit) × Listed (g .m) (now p) n (now es) ⌝ }
     ensures { λ r. ⌜ r ≡ blockedBy (shownBy g) (now (p .entry)) ⌝ }
@@ -66,7 +66,8 @@ pub fn blocking(g: Instance, p: &[bool; 1024], n: usize, es: &[u16; 64]) -> Bloc
     let lt = blocking_thresholds::side_thresholds(n, es, &st, &rt, &qt);
     let e = top_wanted(m, &sv, &st, &rs, &rt, &ls, &lt, p);
     if e < m {
-        return Blocked::Pair(sv[e] + 1, st[e] + 1);
+        let sh = g.sh;
+        return Blocked::Pair(sv[e] + 1, st[e] + 1, sh[e]);
     }
     Blocked::Unblocked
 }

@@ -14,24 +14,22 @@ use Rattle.lists.specs.Test.{given}
 use Rattle.lists.specs.Sum.{range, ∈-range}
 use Rattle.lists.specs.Keep.{keep, ∈-keep, getD-∈}
 use Rattle.lists.specs.Ranges.{keep-last}
+use Rattle.roster_positions.specs.Tables.{rowWidth}
 use Rattle.arrays.specs.ArrayInstance.{at}
 use Rattle.arrays.specs.Passes.{Low}
 use Rattle.arrays.specs.Kept.{Kept}
 use Rattle.instance.specs.Cells.{listedCells, Listed}
 
-pub kept-listed : (n : ℕ) (table cell : List ℕ) (m c : ℕ) → n ≤ 32 → c ≡ n * 32 → m ≤ c → Kept (λ c. not (eqb (at table c) 0)) cell m c → Listed n table m cell
-kept-listed n table cell m c h q l (a, b) = record { count = count; cells = cells; few = omega arith; below = below }
+pub kept-listed : (n : ℕ) (table cell : List ℕ) (k c : ℕ) → n ≤ 32 → c ≡ n * rowWidth → Kept (λ c. not (eqb (at table c) 0)) cell k c → Listed n table k cell
+kept-listed n table cell k c h q (a, b) = record { count = count; cells = cells; below = below }
   where
-    p : ℕ → Bool
-    p = λ c. not (eqb (at table c) 0)
+    count : k ≡ length (listedCells n table)
+    count = a ∙ ap (λ z. length (keep (λ c. not (eqb (at table c) 0)) (range 0 z))) q
 
-    count : m ≡ length (listedCells n table)
-    count = a ∙ ap (λ k. length (keep (λ c. not (eqb (at table c) 0)) (range 0 k))) q
+    cells : take k cell ≡ listedCells n table
+    cells = b ∙ ap (λ z. keep (λ c. not (eqb (at table c) 0)) (range 0 z)) q
 
-    cells : take m cell ≡ listedCells n table
-    cells = b ∙ ap (λ k. keep (λ c. not (eqb (at table c) 0)) (range 0 k)) q
-
-    below : Low m cell 1024
-    below e k = subst (λ z. z < 1024) (ap (λ z. getD z e 0) (sym cells) ∙ getD-take m cell e 0 k)
-        (given (getD-∈ (listedCells n table) e 0 (subst (λ z. e < z) count k)) (λ i.
-        given (∈-range (n * 32) 0 (∈-keep (λ c. not (eqb (at table c) 0)) (range 0 (n * 32)) i .0) .1) (λ u. omega arith)))
+    below : Low k cell 3072
+    below e l = subst (λ z. z < 3072) (ap (λ z. getD z e 0) (sym cells) ∙ getD-take k cell e 0 l)
+        (given (getD-∈ (listedCells n table) e 0 (subst (λ z. e < z) count l)) (λ i.
+        given (∈-range (n * rowWidth) 0 (∈-keep (λ c. not (eqb (at table c) 0)) (range 0 (n * rowWidth)) i .0) .1) (λ u. omega arith)))

@@ -14,8 +14,9 @@ use Rattle.lists.specs.Test.{given, eqb-no, T-true, T-false, false-T}
 use Rattle.lists.specs.Keep.{All-getD}
 use Rattle.lists.specs.Ranges.{map-at}
 use Rattle.model.specs.Reading.{accepted}
-use Rattle.model.specs.RosterFile.{readRoster}
-use Rattle.model.specs.Roster.{Ranking, Roster, surveyorCount, standCount, listS, listT, elem, listed, fits}
+use Rattle.model.specs.RosterFile.{shifted, readRoster}
+use Rattle.model.specs.Limits.{entryLimit, shiftLimit}
+use Rattle.model.specs.Roster.{Entry, Ranking, Roster, surveyorCount, standCount, listS, listT, has, listed, fits}
 use Rattle.model.specs.Edges.{Edge, position, pairEdge, edgesOf, noEdge, edgeAt, instanceOf}
 use Rattle.theory_files.specs.Reads.{isBytes, bytes-are}
 use Rattle.theory_files.specs.Rosters.{fits-parts, read-write, read-fits}
@@ -23,19 +24,32 @@ use Rattle.theory_instance.specs.Lawful.{Lawful}
 use Rattle.theory_files.specs.PlanFiles.{Fileable}
 use Rattle.theory_files.specs.Position.{position-pos, position-out}
 use Rattle.theory_files.specs.RosterInstance.{ns-small, nt-small, strict-or-tied, tied-not-strict, strict-length, lawful, fileable}
+use Rattle.theory_files.specs.Ascending.{IsEdge}
+use Rattle.theory_files.specs.EdgeCount.{edges-few}
 use Rattle.theory_files.specs.Cells.{Within, list-within, strict-within, listed-none, edges-cells}
 use Rattle.theory_files.specs.Offsets.{listsStart, rankingSection, Offsets, offsets, rankings-from}
-use Rattle.roster_positions.specs.Tables.{listsStamped, listsEnd, strictStamped, nextRanks}
+use Rattle.roster_positions.specs.Tables.{rowWidth, entryOf, listsStamped, listsEnd, strictStamped, nextRanks}
 use Rattle.roster_positions.specs.Rows.{allStamped, positionIn, all-at, lists-are, strictLists, nextAll, rankings-are, next-at}
 use Rattle.arrays.specs.ArrayInstance.{at}
 use Rattle.arrays.specs.Passes.{Shows, all-blank, shows-at, shows-behind, shown-is}
 use Rattle.instance.specs.declared.Instance.{Instance}
-use Rattle.instance.specs.Cells.{listedCells, Listed, across, cellEdge, Filled}
+use Rattle.instance.specs.Cells.{listedCells, Listed, standOf, shiftOf, across, cellEdge, Filled}
 use Rattle.instance.specs.Decoded.{shownBy, Decoded}
 
 -- ---- small facts
-edge-is : (x y : Edge) → x .surveyor ≡ y .surveyor → x .stand ≡ y .stand → x .rankS ≡ y .rankS → x .rankT ≡ y .rankT → x .tied ≡ y .tied → x ≡ y
-edge-is x y a b c d e = λ k. record { surveyor = a k; stand = b k; rankS = c k; rankT = d k; tied = e k }
+edge-is : (x y : Edge) → x .surveyor ≡ y .surveyor → x .stand ≡ y .stand → x .shift ≡ y .shift → x .rankS ≡ y .rankS → x .rankT ≡ y .rankT
+    → x .tied ≡ y .tied → x ≡ y
+edge-is x y a b s c d e = λ k. record { surveyor = a k; stand = b k; shift = s k; rankS = c k; rankT = d k; tied = e k }
+
+-- the entry of a node in a shift, both counted from 0, and its place in a row
+abbrev entry : ℕ → ℕ → Entry
+entry j k = record { number = suc j; shift = suc k }
+
+place : (j k : ℕ) → k < shiftLimit → entryOf (3 * j + k) ≡ entry j k
+place j k h =
+    let a : suc ((3 * j + k) / 3) ≡ suc j = omega arith in
+    let b : suc ((3 * j + k) % 3) ≡ suc k = omega arith in
+    λ i. record { number = a i; shift = b i }
 
 -- a position that is there is above 0
 there : (b : Bool) (p : ℕ) → 0 < p → not (eqb (cond b p 0) 0) ≡ b
@@ -52,7 +66,7 @@ tied-is true t p h n y = eqb-no p 0 (λ (q : p ≡ 0). omega arith) ∙ sym (T-f
 tied-is false t p h n y = sym (T-true (y tt))
 
 -- ---- what the tables hold
-module _ (f : List ℕ) (r : Roster) (ok : T (fits r)) (O : Offsets f r) where
+module _ (f : List ℕ) (r : Roster) (ok : T (fits r)) (O : Offsets shifted f r) where
   abbrev ns : ℕ
   ns = surveyorCount r
 
@@ -66,41 +80,41 @@ module _ (f : List ℕ) (r : Roster) (ok : T (fits r)) (O : Offsets f r) where
   rankings-count = given (fits-parts r ok) (λ ((q, u, v, (l, a, k)), n). l)
 
   abbrev listedTable : List ℕ
-  listedTable = listsStamped f ns 0 (listsStart r) (replicate 1024 0)
+  listedTable = listsStamped f ns 0 (listsStart r) (replicate 3072 0)
 
   abbrev start : ℕ
   start = listsEnd f ns (listsStart r) + 2
 
   abbrev strictTable : List ℕ
-  strictTable = strictStamped f nt 0 start (replicate 1024 0)
+  strictTable = strictStamped f nt 0 start (replicate 3072 0)
 
   abbrev nextTable : List ℕ
   nextTable = nextRanks f nt 0 start (replicate 32 0)
 
-  from-bytes : (listedTable ≡ allStamped 0 (r .listsS) (replicate 1024 0))
-      × (strictTable ≡ allStamped 0 (strictLists (r .listsT)) (replicate 1024 0)) × (nextTable ≡ nextAll 0 (r .listsT) (replicate 32 0))
+  from-bytes : (listedTable ≡ allStamped 0 (r .listsS) (replicate 3072 0))
+      × (strictTable ≡ allStamped 0 (strictLists (r .listsT)) (replicate 3072 0)) × (nextTable ≡ nextAll 0 (r .listsT) (replicate 32 0))
   from-bytes =
-      given (lists-are (r .listsS) f (listsStart r) (rankingSection r) (O .lists) 0 (replicate 1024 0)) (λ (a, b).
+      given (lists-are (r .listsS) f (listsStart r) (rankingSection shifted r) (O .lists) 0 (replicate 3072 0)) (λ (a, b).
       given (ap (λ k. listsEnd f k (listsStart r)) (sym lists-count)) (λ c.
-      given (rankings-from f r (listsEnd f ns (listsStart r)) (subst (λ k. drop′ k) (sym c) b)) (λ d.
-      given (rankings-are (r .listsT) f start [] d 0 0 (replicate 1024 0) (replicate 32 0)) (λ (x, y). (
-        ap (λ k. listsStamped f k 0 (listsStart r) (replicate 1024 0)) (sym lists-count) ∙ a,
-        ap (λ k. strictStamped f k 0 start (replicate 1024 0)) (sym rankings-count) ∙ x,
+      given (rankings-from shifted f r (listsEnd f ns (listsStart r)) (subst (λ k. drop′ k) (sym c) b)) (λ d.
+      given (rankings-are (r .listsT) f start [] d 0 0 (replicate 3072 0) (replicate 32 0)) (λ (x, y). (
+        ap (λ k. listsStamped f k 0 (listsStart r) (replicate 3072 0)) (sym lists-count) ∙ a,
+        ap (λ k. strictStamped f k 0 start (replicate 3072 0)) (sym rankings-count) ∙ x,
         ap (λ k. nextRanks f k 0 start (replicate 32 0)) (sym rankings-count) ∙ y,
       )))))
     where
       drop′ : ℕ → Type 0
-      drop′ k = lib.ListN.drop k f ≡ rankingSection r
+      drop′ k = lib.ListN.drop k f ≡ rankingSection shifted r
 
-  listed-at : (i j : ℕ) → j < 32 → at listedTable (i * 32 + j) ≡ positionIn (listS r i) j
-  listed-at i j h =
-      ap (λ t. at t (i * 32 + j)) (from-bytes .0)
-      ∙ ap (at (allStamped 0 (r .listsS) (replicate 1024 0))) (none i j)
-      ∙ all-at (r .listsS) 0 (replicate 1024 0) (omega (arith, lists-count, ns-small r ok, length-replicate {A = ℕ} 1024 0))
-      (All-getD (Within 32) [] (r .listsS) (λ i l. list-within r ok 32 i (nt-small r ok) (omega (arith, lists-count)))) (λ c k. all-blank 0 1024 c) i j h
+  listed-at : (i c : ℕ) → c < rowWidth → at listedTable (i * rowWidth + c) ≡ positionIn (listS r i) (entryOf c)
+  listed-at i c h =
+      ap (λ t. at t (i * rowWidth + c)) (from-bytes .0)
+      ∙ ap (at (allStamped 0 (r .listsS) (replicate 3072 0))) (none i c)
+      ∙ all-at (r .listsS) 0 (replicate 3072 0) (omega (arith, lists-count, ns-small r ok, length-replicate {A = ℕ} 3072 0))
+      (All-getD (Within 32) [] (r .listsS) (λ i l. list-within r ok 32 i (nt-small r ok) (omega (arith, lists-count)))) (λ c k. all-blank 0 3072 c) i c h
     where
-      none : (i j : ℕ) → i * 32 + j ≡ 0 + i * 32 + j
-      none i j = omega arith
+      none : (i c : ℕ) → i * rowWidth + c ≡ 0 + i * rowWidth + c
+      none i c = omega arith
 
   abbrev noRanking : Ranking
   noRanking = record { strict = []; tied = [] }
@@ -108,27 +122,27 @@ module _ (f : List ℕ) (r : Roster) (ok : T (fits r)) (O : Offsets f r) where
   strict-list : (j : ℕ) → getD (strictLists (r .listsT)) j [] ≡ listT r j .strict
   strict-list j = List·getD-map (λ R. R .strict) (r .listsT) j noRanking
 
-  strict-at : (j i : ℕ) → i < 32 → at strictTable (j * 32 + i) ≡ positionIn (listT r j .strict) i
-  strict-at j i h =
-      ap (λ t. at t (j * 32 + i)) (from-bytes .1)
-      ∙ ap (at (allStamped 0 (strictLists (r .listsT)) (replicate 1024 0))) (none j i)
-      ∙ all-at (strictLists (r .listsT)) 0 (replicate 1024 0)
-      (omega (arith, length-map (r .listsT) (λ R. R .strict), rankings-count, nt-small r ok, length-replicate {A = ℕ} 1024 0))
+  strict-at : (j c : ℕ) → c < rowWidth → at strictTable (j * rowWidth + c) ≡ positionIn (listT r j .strict) (entryOf c)
+  strict-at j c h =
+      ap (λ t. at t (j * rowWidth + c)) (from-bytes .1)
+      ∙ ap (at (allStamped 0 (strictLists (r .listsT)) (replicate 3072 0))) (none j c)
+      ∙ all-at (strictLists (r .listsT)) 0 (replicate 3072 0)
+      (omega (arith, length-map (r .listsT) (λ R. R .strict), rankings-count, nt-small r ok, length-replicate {A = ℕ} 3072 0))
       (All-getD (Within 32) [] (strictLists (r .listsT))
       (λ j l. subst (Within 32) (sym (strict-list j))
       (strict-within r ok 32 j (ns-small r ok) (omega (arith, length-map (r .listsT) (λ R. R .strict), rankings-count)))))
-      (λ c k. all-blank 0 1024 c) j i h
-      ∙ ap (λ xs. positionIn xs i) (strict-list j)
+      (λ c k. all-blank 0 3072 c) j c h
+      ∙ ap (λ xs. positionIn xs (entryOf c)) (strict-list j)
     where
-      none : (i j : ℕ) → i * 32 + j ≡ 0 + i * 32 + j
-      none i j = omega arith
+      none : (j c : ℕ) → j * rowWidth + c ≡ 0 + j * rowWidth + c
+      none j c = omega arith
 
   next-is : (j : ℕ) → j < nt → at nextTable j ≡ suc (length (listT r j .strict))
   next-is j h =
       ap (λ t. at t j) (from-bytes .2)
       ∙ ap (at (nextAll 0 (r .listsT) (replicate 32 0))) (none j)
       ∙ next-at (r .listsT) 0 (replicate 32 0) (omega (arith, rankings-count, nt-small r ok, length-replicate {A = ℕ} 32 0)) j (omega (arith, rankings-count))
-      ∙ small (length (listT r j .strict)) (omega (arith, strict-length r ok j h, ns-small r ok))
+      ∙ small (length (listT r j .strict)) (omega (arith, strict-length r ok j h))
     where
       none : (j : ℕ) → j ≡ 0 + j
       none j = omega arith
@@ -140,42 +154,57 @@ module _ (f : List ℕ) (r : Roster) (ok : T (fits r)) (O : Offsets f r) where
   abbrev g : ℕ → Edge
   g = cellEdge listedTable strictTable nextTable
 
-  cell-listed : (i j : ℕ) → j < 32 → not (eqb (at listedTable (i * 32 + j)) 0) ≡ listed r i j
-  unfolding listed
-  cell-listed i j h =
-      ap (λ z. not (eqb z 0)) (listed-at i j h) ∙ there (elem (suc j) (listS r i)) (position (suc j) (listS r i)) (position-pos (suc j) (listS r i))
+  abbrev cellOf : ℕ → ℕ → ℕ → ℕ
+  cellOf i j k = i * rowWidth + (3 * j + k)
 
-  some-stand : (i j : ℕ) → i < ns → T (listed r i j) → j < nt
-  some-stand i j h t = by-cases (decLt j nt) (λ l. l) (λ n. absurd (T-not (listed r i j) (false-T (listed-none r ok i j h (omega arith))) t))
+  listed-cell : (i j k : ℕ) → j < 32 → k < shiftLimit → at listedTable (cellOf i j k) ≡ positionIn (listS r i) (entry j k)
+  listed-cell i j k h l = listed-at i (3 * j + k) (omega arith) ∙ ap (positionIn (listS r i)) (place j k l)
 
-  rankS-is : (i j : ℕ) → j < 32 → T (listed r i j) → at listedTable (i * 32 + j) ≡ position (suc j) (listS r i)
-  unfolding listed
-  rankS-is i j h t = listed-at i j h ∙ ap (λ b. cond b (position (suc j) (listS r i)) 0) (T-true {b = elem (suc j) (listS r i)} t)
-
-  strict-cell : (i j : ℕ) → i < 32 → j < 32 → at strictTable (across (i * 32 + j)) ≡ positionIn (listT r j .strict) i
-  strict-cell i j h k = ap (at strictTable) (turn i j h k) ∙ strict-at j i h
+  strict-cell : (i j k : ℕ) → i < 32 → j < 32 → k < shiftLimit → at strictTable (across (cellOf i j k)) ≡ positionIn (listT r j .strict) (entry i k)
+  strict-cell i j k h l m =
+      ap (at strictTable) (turn i j k h l m) ∙ strict-at j (3 * i + k) (omega arith) ∙ ap (positionIn (listT r j .strict)) (place i k m)
     where
-      turn : (i j : ℕ) → i < 32 → j < 32 → across (i * 32 + j) ≡ j * 32 + i
-      turn i j h k = omega arith
+      turn : (i j k : ℕ) → i < 32 → j < 32 → k < shiftLimit → across (cellOf i j k) ≡ j * rowWidth + (3 * i + k)
+      turn i j k h l m = omega arith
 
-  cell-edge : (i j : ℕ) → i < ns → j < 32 → T (listed r i j) → g (i * 32 + j) ≡ pairEdge r i j
-  cell-edge i j h k t =
-      let l = some-stand i j h t in
+  cell-listed : (i j k : ℕ) → j < 32 → k < shiftLimit → not (eqb (at listedTable (cellOf i j k)) 0) ≡ listed r i j (suc k)
+  unfolding listed
+  cell-listed i j k h l =
+      ap (λ z. not (eqb z 0)) (listed-cell i j k h l)
+      ∙ there (has (entry j k) (listS r i)) (position (entry j k) (listS r i)) (position-pos (entry j k) (listS r i))
+
+  some-stand : (i j k : ℕ) → i < ns → T (listed r i j k) → j < nt
+  some-stand i j k h t =
+      by-cases (decLt j nt) (λ l. l) (λ n. absurd (T-not (listed r i j k) (false-T (listed-none r ok i j k h (omega arith))) t))
+
+  rankS-is : (i j k : ℕ) → j < 32 → k < shiftLimit → T (listed r i j (suc k)) → at listedTable (cellOf i j k) ≡ position (entry j k) (listS r i)
+  unfolding listed
+  rankS-is i j k h l t =
+      listed-cell i j k h l ∙ ap (λ b. cond b (position (entry j k) (listS r i)) 0) (T-true {b = has (entry j k) (listS r i)} t)
+
+  cell-edge : (i j k : ℕ) → i < ns → j < 32 → k < shiftLimit → T (listed r i j (suc k)) → g (cellOf i j k) ≡ pairEdge r i j (suc k)
+  cell-edge i j k h m l t =
+      let n = some-stand i j (suc k) h t in
       let S = listT r j .strict in
-      let i32 : i < 32 = omega (arith, ns-small r ok) in
-      let stamp = strict-cell i j i32 k in
-      edge-is (g (i * 32 + j)) (pairEdge r i j) (high i j k) (low i j k) (rankS-is i j k t)
-      (ap₂ (λ z n. cond (eqb z 0) n z) stamp (ap (at nextTable) (low i j k) ∙ next-is j l)
-      ∙ rank-is (elem (suc i) S) (position (suc i) S) (suc (length S)) (position-pos (suc i) S) (λ n. sym (position-out (suc i) S n)))
-      (ap (λ z. eqb z 0) stamp ∙ tied-is (elem (suc i) S) (elem (suc i) (listT r j .tied)) (position (suc i) S) (position-pos (suc i) S)
-      (λ y. not-both (elem (suc i) S) (elem (suc i) (listT r j .tied)) y (tied-not-strict r ok i j l))
-      (λ n. ⊎-elim (λ s. absurd (T-not (elem (suc i) S) n s)) (λ d. d) (strict-or-tied r ok i j h l t)))
+      let x = entry i k in
+      let stamp = strict-cell i j k (omega (arith, ns-small r ok)) m l in
+      let edge : IsEdge r (pairEdge r i j (suc k))
+      = record { i = i; j = j; k = suc k; i-in = h; j-in = n; k-from = omega arith; k-in = l; pair = t; is = refl } in
+      edge-is (g (cellOf i j k)) (pairEdge r i j (suc k)) (high i j k m l) (low i j k m l) (last i j k l) (rankS-is i j k m l t)
+      (ap₂ (λ z n. cond (eqb z 0) n z) stamp (ap (at nextTable) (low i j k m l) ∙ next-is j n)
+      ∙ rank-is (has x S) (position x S) (suc (length S)) (position-pos x S) (λ n. sym (position-out x S n)))
+      (ap (λ z. eqb z 0) stamp ∙ tied-is (has x S) (has x (listT r j .tied)) (position x S) (position-pos x S)
+      (λ y. not-both (has x S) (has x (listT r j .tied)) y (tied-not-strict r ok x j n))
+      (λ n. ⊎-elim (λ s. absurd (T-not (has x S) n s)) (λ d. d) (strict-or-tied r ok (pairEdge r i j (suc k)) edge)))
     where
-      high : (i j : ℕ) → j < 32 → (i * 32 + j) / 32 ≡ i
-      high i j h = omega arith
+      high : (i j k : ℕ) → j < 32 → k < shiftLimit → cellOf i j k / rowWidth ≡ i
+      high i j k h l = omega arith
 
-      low : (i j : ℕ) → j < 32 → (i * 32 + j) % 32 ≡ j
-      low i j h = omega arith
+      low : (i j k : ℕ) → j < 32 → k < shiftLimit → standOf (cellOf i j k) ≡ j
+      low i j k h l = omega arith
+
+      last : (i j k : ℕ) → k < shiftLimit → shiftOf (cellOf i j k) + 1 ≡ suc k
+      last i j k l = omega arith
 
       not-both : (a b : Bool) → T a → (T b → T (not a)) → T (not b)
       not-both true true y h = h tt
@@ -183,7 +212,8 @@ module _ (f : List ℕ) (r : Roster) (ok : T (fits r)) (O : Offsets f r) where
       not-both false b y h = absurd y
 
   edges-are : map g (listedCells ns listedTable) ≡ edgesOf r
-  edges-are = edges-cells r ok 32 (nt-small r ok) (λ c. not (eqb (at listedTable c) 0)) g (λ i j h k. (cell-listed i j k, cell-edge i j h k))
+  edges-are = edges-cells r ok 32 (nt-small r ok) (λ c. not (eqb (at listedTable c) 0)) g
+      (λ i j k h m l. (cell-listed i j k m l, cell-edge i j k h m l))
 
   -- ---- the arrays
   module _ (m : ℕ) (cell : List ℕ) (L : Listed ns listedTable m cell) where
@@ -214,6 +244,7 @@ pub record Parts (f : List ℕ) (g : Instance) : Type 0 where
   pub listed : List ℕ
   pub strict : List ℕ
   pub next : List ℕ
+  pub k : ℕ
   pub m : ℕ
   pub cell : List ℕ
   pub qs : List ℕ
@@ -223,63 +254,78 @@ pub record Parts (f : List ℕ) (g : Instance) : Type 0 where
   pub nt-is : nt ≡ min (getD f (ns + 1) 0) 32
   pub qt-are : Shows 0 qt nt (λ i. getD f (ns + 2 + i) 0)
   pub start-is : start ≡ listsEnd f ns (ns + nt + 4)
-  pub listed-is : listed ≡ listsStamped f ns 0 (ns + nt + 4) (replicate 1024 0)
-  pub strict-is : strict ≡ strictStamped f nt 0 (start + 2) (replicate 1024 0)
+  pub listed-is : listed ≡ listsStamped f ns 0 (ns + nt + 4) (replicate 3072 0)
+  pub strict-is : strict ≡ strictStamped f nt 0 (start + 2) (replicate 3072 0)
   pub next-is : next ≡ nextRanks f nt 0 (start + 2) (replicate 32 0)
-  pub found : Listed ns listed m cell
+  pub found : Listed ns listed k cell
+  pub m-is : m ≡ min k entryLimit
   pub made : Filled ns nt m cell listed strict next qs qt g
 
 -- the arrays show the instance: first with everything at its value for the roster, then as it was computed
-module _ (f : List ℕ) (r : Roster) (ok : T (fits r)) (O : Offsets f r) (g : Instance) where
+module _ (f : List ℕ) (r : Roster) (ok : T (fits r)) (O : Offsets shifted f r) (g : Instance) where
   abbrev Shown : ℕ → ℕ → List ℕ → List ℕ → List ℕ → Type 0
-  Shown ns nt listed strict next = (m : ℕ) (cell qs qt : List ℕ) → Shows 0 qs ns (λ i. getD f (1 + i) 0) → Shows 0 qt nt (λ i. getD f (ns + 2 + i) 0)
-      → Listed ns listed m cell → Filled ns nt m cell listed strict next qs qt g → shownBy g ≡ instanceOf r
+  Shown ns nt listed strict next = (k m : ℕ) (cell qs qt : List ℕ) → Shows 0 qs ns (λ i. getD f (1 + i) 0) → Shows 0 qt nt (λ i. getD f (ns + 2 + i) 0)
+      → Listed ns listed k cell → m ≡ min k entryLimit → Filled ns nt m cell listed strict next qs qt g → shownBy g ≡ instanceOf r
 
-  at-values : Shown (surveyorCount r) (standCount r) (listedTable f r ok O) (strictTable f r ok O) (nextTable f r ok O)
+  -- where all cells found are edges
+  all-values : (m : ℕ) (cell qs qt : List ℕ) → Shows 0 qs (surveyorCount r) (λ i. getD f (1 + i) 0)
+      → Shows 0 qt (standCount r) (λ i. getD f (surveyorCount r + 2 + i) 0) → Listed (surveyorCount r) (listedTable f r ok O) m cell
+      → Filled (surveyorCount r) (standCount r) m cell (listedTable f r ok O) (strictTable f r ok O) (nextTable f r ok O) qs qt g → shownBy g ≡ instanceOf r
   unfolding instanceOf
-  at-values m cell qs qt a b L F =
-      shown-is (g .m) (g .ns) (g .nt) (g .sv) (g .st) (g .«rank_s») (g .«rank_t») (g .tied) (g .«quota_s») (g .«quota_t») (instanceOf r)
+  all-values m cell qs qt a b L F =
+      shown-is (g .m) (g .ns) (g .nt) (g .sv) (g .st) (g .«rank_s») (g .«rank_t») (g .sh) (g .tied) (g .«quota_s») (g .«quota_t») (instanceOf r)
       (F .edges ∙ edge-count f r ok O m cell L) (F .surveyors) (F .stands)
       (array-is f r ok O m cell L 0 (λ x. x .surveyor) refl (g .sv) (F .sv))
       (array-is f r ok O m cell L 0 (λ x. x .stand) refl (g .st) (F .st))
       (array-is f r ok O m cell L 0 (λ x. x .rankS) refl (g .«rank_s») (F .rankS))
       (array-is f r ok O m cell L 0 (λ x. x .rankT) refl (g .«rank_t») (F .rankT))
+      (array-is f r ok O m cell L 0 (λ x. x .shift) refl (g .sh) (F .sh))
       (array-is f r ok O m cell L false (λ x. x .tied) refl (g .tied) (F .tied))
       (λ i. ap (λ q. at q i) (F .quotaS) ∙ quotas-are f 1 (surveyorCount r) (r .quotasS) qs refl (O .quotasS) a i)
       (λ j. ap (λ q. at q j) (F .quotaT) ∙ quotas-are f (surveyorCount r + 2) (standCount r) (r .quotasT) qt refl (O .quotasT) b j)
+
+  -- and a roster has no more than the arrays have room for
+  at-values : Shown (surveyorCount r) (standCount r) (listedTable f r ok O) (strictTable f r ok O) (nextTable f r ok O)
+  at-values k m cell qs qt a b L h F =
+      let e : m ≡ k = omega (arith, edge-count f r ok O k cell L, edges-few r ok) in
+      all-values k cell qs qt a b L
+      (subst (λ z. Filled (surveyorCount r) (standCount r) z cell (listedTable f r ok O) (strictTable f r ok O) (nextTable f r ok O) qs qt g) e F)
 
   pub parts-show : Parts f g → shownBy g ≡ instanceOf r
   parts-show P =
       let a : P .ns ≡ surveyorCount r = P .ns-is ∙ ap (λ k. min k 32) (O .surveyors) ∙ least (surveyorCount r) (ns-small r ok) in
       let b : P .nt ≡ standCount r = P .nt-is ∙ ap (λ k. min (getD f (k + 1) 0) 32) a ∙ ap (λ k. min k 32) (O .stands) ∙ least (standCount r) (nt-small r ok) in
       let s : P .start ≡ listsEnd f (surveyorCount r) (listsStart r) = P .start-is ∙ ap₂ (λ x y. listsEnd f x (x + y + 4)) a b in
-      let l : P .listed ≡ listedTable f r ok O = P .listed-is ∙ ap₂ (λ x y. listsStamped f x 0 (x + y + 4) (replicate 1024 0)) a b in
-      let t : P .strict ≡ strictTable f r ok O = P .strict-is ∙ ap₂ (λ y z. strictStamped f y 0 (z + 2) (replicate 1024 0)) b s in
+      let l : P .listed ≡ listedTable f r ok O = P .listed-is ∙ ap₂ (λ x y. listsStamped f x 0 (x + y + 4) (replicate 3072 0)) a b in
+      let t : P .strict ≡ strictTable f r ok O = P .strict-is ∙ ap₂ (λ y z. strictStamped f y 0 (z + 2) (replicate 3072 0)) b s in
       let n : P .next ≡ nextTable f r ok O = P .next-is ∙ ap₂ (λ y z. nextRanks f y 0 (z + 2) (replicate 32 0)) b s in
       let same : Shown (P .ns) (P .nt) (P .listed) (P .strict) (P .next) ≡ Shown (surveyorCount r) (standCount r) (listedTable f r ok O)
       (strictTable f r ok O) (nextTable f r ok O)
       = λ k. Shown (a k) (b k) (l k) (t k) (n k) in
-      subst (λ X. X) (sym same) at-values (P .m) (P .cell) (P .qs) (P .qt) (P .qs-are) (P .qt-are) (P .found) (P .made)
+      subst (λ X. X) (sym same) at-values (P .k) (P .m) (P .cell) (P .qs) (P .qt) (P .qs-are) (P .qt-are) (P .found) (P .m-is)
+      (P .made)
     where
       least : (k : ℕ) → k ≤ 32 → min k 32 ≡ k
       least k h = omega arith
 
 pub decoded : (f : List ℕ) (g : Instance) → ((i : ℕ) → getD f i 0 < 256) → Parts f g → Decoded f g
 decoded f g small P = record {
-  edges = omega (arith, P .made .edges, P .found .few);
+  edges = omega (arith, P .made .edges, P .m-is);
   surveyors = omega (arith, P .made .surveyors, P .ns-is);
   stands = omega (arith, P .made .stands, P .nt-is);
-  low-sv = λ e. low (g .sv) (λ e. at (P .cell) e / 32) (P .made .sv) (λ e h. given (P .found .below e h) (λ k. omega arith)) e;
-  low-st = λ e. low (g .st) (λ e. at (P .cell) e % 32) (P .made .st) (λ e h. omega arith) e;
+  low-sv = λ e. low 32 (omega arith) (g .sv) (λ e. at (P .cell) e / rowWidth) (P .made .sv)
+      (λ e h. given (P .found .below e (omega (arith, P .m-is))) (λ k. omega arith)) e;
+  low-st = λ e. low 32 (omega arith) (g .st) (λ e. standOf (at (P .cell) e)) (P .made .st) (λ e h. omega arith) e;
+  low-sh = λ e. given (low 4 (omega arith) (g .sh) (λ e. shiftOf (at (P .cell) e) + 1) (P .made .sh) (λ e h. omega arith) e) (λ h. omega arith);
   shows = λ r a.
       given (bytes-are f small) (λ isB.
-      parts-show f r (read-fits f r isB a) (offsets f r (read-write f r isB a)) g P);
+      parts-show f r (read-fits f r isB a) (offsets shifted f r (read-write f r isB a)) g P);
 }
   where
-    low : (o : List ℕ) (v : ℕ → ℕ) → Shows 0 o (P .m) v → ((e : ℕ) → e < P .m → v e < 32) → (e : ℕ) → at o e < 32
-    low o v s h e = by-cases (decLt e (P .m))
-        (λ k. subst (λ z. z < 32) (sym (shows-at 0 o v (P .m) e s k)) (h e k))
-        (λ k. subst (λ z. z < 32) (sym (shows-behind 0 o v (P .m) e s (omega arith))) (omega arith))
+    low : (b : ℕ) → 0 < b → (o : List ℕ) (v : ℕ → ℕ) → Shows 0 o (P .m) v → ((e : ℕ) → e < P .m → v e < b) → (e : ℕ) → at o e < b
+    low b z o v s h e = by-cases (decLt e (P .m))
+        (λ k. subst (λ y. y < b) (sym (shows-at 0 o v (P .m) e s k)) (h e k))
+        (λ k. subst (λ y. y < b) (sym (shows-behind 0 o v (P .m) e s (omega arith))) z)
 
 -- ---- the laws that votes, rules and plan files ask of the arrays of an accepted roster
 module _ (f : List ℕ) (g : Instance) (isB : T (isBytes f)) (D : Decoded f g) (r : Roster) (a : readRoster f ≡ accepted r) where

@@ -2,7 +2,7 @@
 use Prim.Native.Nat.{ℕ, _≤_, _<_}
 use mathlib.Core.Path.{_≡_}
 use mathlib.Core.List.{List}
-use Rattle.model.specs.Limits.{nodeLimit, entryLimit}
+use Rattle.model.specs.Limits.{nodeLimit, entryLimit, shiftLimit}
 use Rattle.model.specs.Reading.{accepted}
 use Rattle.model.specs.Roster.{Roster}
 use Rattle.model.specs.RosterFile.{readRoster}
@@ -13,7 +13,7 @@ use Rattle.instance.specs.declared.Instance.{Instance}
 
 -- the instance that the arrays show
 abbrev pub shownBy : Instance → model.Instance
-shownBy g = shown (g .m) (g .ns) (g .nt) (g .sv) (g .st) (g .«rank_s») (g .«rank_t») (g .tied) (g .«quota_s») (g .«quota_t»)
+shownBy g = shown (g .m) (g .ns) (g .nt) (g .sv) (g .st) (g .«rank_s») (g .«rank_t») (g .sh) (g .tied) (g .«quota_s») (g .«quota_t»)
 
 pub record Decoded (file : List ℕ) (g : Instance) : Type 0 where
   pub edges : g .m ≤ entryLimit
@@ -21,4 +21,5 @@ pub record Decoded (file : List ℕ) (g : Instance) : Type 0 where
   pub stands : g .nt ≤ nodeLimit
   pub low-sv : (e : ℕ) → at (g .sv) e < 32
   pub low-st : (e : ℕ) → at (g .st) e < 32
+  pub low-sh : (e : ℕ) → at (g .sh) e ≤ shiftLimit
   pub shows : (r : Roster) → readRoster file ≡ accepted r → shownBy g ≡ instanceOf r

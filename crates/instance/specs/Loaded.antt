@@ -3,7 +3,7 @@ use Prim.Native.Nat.{ℕ, _≤_, _<_}
 use mathlib.Core.Path.{_≡_, sym, subst}
 use mathlib.Core.List.{List}
 use lib.Dec.{T}
-use Rattle.model.specs.Limits.{nodeLimit, entryLimit, quotaLimit}
+use Rattle.model.specs.Limits.{nodeLimit, entryLimit, shiftLimit, quotaLimit}
 use Rattle.model.specs.Reading.{accepted}
 use Rattle.model.specs.Roster.{Roster}
 use Rattle.model.specs.RosterFile.{readRoster}
@@ -23,6 +23,7 @@ pub record Loaded (g : Instance) : Type 0 where
   pub stands : g .nt ≤ nodeLimit
   pub low-sv : (e : ℕ) → at (g .sv) e < nodeLimit
   pub low-st : (e : ℕ) → at (g .st) e < nodeLimit
+  pub low-sh : (e : ℕ) → at (g .sh) e ≤ shiftLimit
   pub lawful : Lawful (shownBy g)
   pub fileable : Fileable (shownBy g)
   pub quotas : (v : ℕ) → (at (g .«quota_s») v ≤ quotaLimit) × (at (g .«quota_t») v ≤ quotaLimit)
@@ -37,6 +38,7 @@ loaded f g isB D r a =
       stands = D .stands;
       low-sv = D .low-sv;
       low-st = D .low-st;
+      low-sh = D .low-sh;
       lawful = decoded-lawful f g isB D r a;
       fileable = decoded-fileable f g isB D r a;
       quotas = subst (λ G. (v : ℕ) → (G .quotaS v ≤ quotaLimit) × (G .quotaT v ≤ quotaLimit)) s (quotas-small r ok);

@@ -1,22 +1,27 @@
 // The instance of a roster as plain arrays, read from the bytes of an accepted roster file. An edge's number is its place among the
-// roster's pairs, ascending by surveyor, then by stand; surveyors and stands are counted from 0. Behind the edges and the nodes the
-// arrays hold 0 and false. Bytes that are no roster give arrays too, about which only the ranges are promised.
+// roster's pairs, ascending by surveyor, stand, shift; surveyors and stands are counted from 0, shifts from 1. Behind the edges and the
+// nodes the arrays hold 0 and false. Bytes that are no roster give arrays too, about which only the ranges are promised.
 ghost use mathlib.Core.Path.{_≡_};
 ghost use Prim.Native.Nat.{_+_, _*_, _≤_, min};
 ghost use mathlib.Core.Bool.{cond};
 ghost use lib.ListN.{length, getD};
 ghost use lib.Dec.{eqb};
+ghost use Rattle.model.specs.Limits.{entryLimit};
 ghost use Rattle.arrays.specs.Passes.{Low, Shows};
 ghost use Rattle.instance.specs.Cells.{Listed, Filled};
 ghost use Rattle.instance.specs.Decoded.{Decoded};
+use limits::ENTRY_LIMIT;
 
-// surveyor, stand, the rank at each and whether the edge is tied at its stand, for each of m edges; quotas of ns surveyors and nt stands
+// surveyor, stand, shift, the rank at each end and whether the edge is tied at its stand, for each of m edges; quotas of ns surveyors and nt
+// stands
 pub struct Instance {
     pub m: usize,
     pub ns: usize,
     pub nt: usize,
     pub sv: [u8; 1024],
     pub st: [u8; 1024],
+    // the shift of each edge
+    pub sh: [u8; 1024],
     pub rank_s: [u8; 1024],
     pub rank_t: [u8; 1024],
     pub tied: [bool; 1024],
@@ -24,10 +29,11 @@ pub struct Instance {
     pub quota_t: [u8; 32],
 }
 
-// the cells of a table that hold a position, ascending: m of them
+// the cells of a table that hold a position, ascending: n of them. There is room for all cells of a table: only a roster's lists are known
+// to fill no more than 1,024, and so the loop that finds them stores without a test.
 pub struct Found {
-    pub m: usize,
-    pub cell: [u16; 1024],
+    pub n: usize,
+    pub cell: [u16; 3072],
 }
 
 // a count byte, at most 32
@@ -56,20 +62,30 @@ pub fn quotas(file: &[u8], at: usize, n: usize) -> [u8; 32]
 }
 
 // the cells of n rows that hold a position
-pub fn listed_cells(n: usize, table: &[u8; 1024]) -> Found
+pub fn listed_cells(n: usize, table: &[u8; 3072]) -> Found
     requires { ⌜ n ≤ 32 ⌝ }
-    ensures { λ r. ⌜ Listed n (now (table .entry)) (r .m) (r .cell) ⌝ }
+    ensures { λ r. ⌜ Listed n (now (table .entry)) (r .n) (r .cell) ⌝ }
 {
-    let mut cell = [0u16; 1024];
+    let mut cell = [0u16; 3072];
     let mut m: usize = 0;
-    let end = n * 32;
+    let end = n * 96;
     let mut c: usize = 0;
     while c < end {
         cell[m] = c as u16;
         m += (table[c] != 0) as usize;
         c += 1;
     }
-    Found { m: m, cell: cell }
+    Found { n: m, cell: cell }
+}
+
+// as many edges as the arrays have room for; a roster never has more
+pub fn edge_count(n: usize) -> usize
+    ensures { λ r. ⌜ r ≡ min n entryLimit ⌝ }
+{
+    if n <= ENTRY_LIMIT {
+        return n;
+    }
+    ENTRY_LIMIT
 }
 
 // the rank at a stand: the position in the strict part, or the rank behind that part where the surveyor is not in it
@@ -87,29 +103,32 @@ pub fn filled(
     ns: usize,
     nt: usize,
     m: usize,
-    cell: &[u16; 1024],
-    listed: &[u8; 1024],
-    strict: &[u8; 1024],
+    cell: &[u16; 3072],
+    listed: &[u8; 3072],
+    strict: &[u8; 3072],
     next: &[u8; 32],
     qs: [u8; 32],
     qt: [u8; 32],
 ) -> Instance
-    requires { ⌜ (m ≤ 1024) × Low m (now cell) 1024 ⌝ }
+    requires { ⌜ (m ≤ entryLimit) × Low m (now cell) 3072 ⌝ }
     ensures { λ r. ⌜ Filled ns nt m (now (cell .entry)) (now (listed .entry)) (now (strict .entry)) (now (next .entry)) qs qt r ⌝ }
 {
     let mut sv = [0u8; 1024];
     let mut st = [0u8; 1024];
+    let mut sh = [0u8; 1024];
     let mut rank_s = [0u8; 1024];
     let mut rank_t = [0u8; 1024];
     let mut tied = [false; 1024];
     let mut e = 0;
     while e < m {
         let c = cell[e] as usize;
-        let i = c / 32;
-        let j = c % 32;
-        let t = strict[j * 32 + i];
+        let i = c / 96;
+        let j = c % 96 / 3;
+        let k = c % 3;
+        let t = strict[j * 96 + (3 * i + k)];
         sv[e] = i as u8;
         st[e] = j as u8;
+        sh[e] = (k + 1) as u8;
         rank_s[e] = listed[c];
         rank_t[e] = rank_of(t, next[j]);
         tied[e] = t == 0;
@@ -121,6 +140,7 @@ pub fn filled(
         nt: nt,
         sv: sv,
         st: st,
+        sh: sh,
         rank_s: rank_s,
         rank_t: rank_t,
         tied: tied,
@@ -137,13 +157,13 @@ pub fn instance_of(file: &[u8]) -> Instance
     let quota_s = quotas(file, 1, ns);
     let nt = count_at(file, ns + 1);
     let quota_t = quotas(file, ns + 2, nt);
-    let mut listed = [0u8; 1024];
+    let mut listed = [0u8; 3072];
     let at = roster_positions::stamp_lists(file, ns + nt + 4, ns, &mut listed);
-    let mut strict = [0u8; 1024];
+    let mut strict = [0u8; 3072];
     let mut next = [0u8; 32];
     roster_positions::stamp_rankings(file, at + 2, nt, &mut strict, &mut next);
     let found = listed_cells(ns, &listed);
-    let m = found.m;
+    let m = edge_count(found.n);
     let cell = found.cell;
     filled(ns, nt, m, &cell, &listed, &strict, &next, quota_s, quota_t)
 }

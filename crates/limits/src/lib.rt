@@ -24,24 +24,33 @@ pub const PLAN_LIMIT: usize = 64;
 // "an empty place has rank 33"
 pub const EMPTY_RANK: usize = 33;
 
-// "two bytes a pair (surveyor, stand)"
-pub const PAIR_WIDTH: usize = 2;
+// W-204: "A list may now be longer than the other side's count, but has at most 32 entries"; "a shift byte, 1 to 3"
+pub const LIST_LIMIT: u8 = 32;
 
-// "a buffer for a plan, candidate or rival needs 129 bytes, for a roster 2,214, the diary and the left pairs 1,024 entries each", a pair left
-// being two bytes
-pub const PLAN_SIZE: usize = 129;
+pub const SHIFT_LIMIT: u8 = 3;
 
-pub const ROSTER_SIZE: usize = 2214;
+// an entry's bytes: number, shift; a pair's: surveyor, stand, shift; a diary record's: fate, surveyor, stand, shift, rule
+pub const ENTRY_WIDTH: usize = 2;
+
+pub const PAIR_WIDTH: usize = 3;
+
+pub const RECORD_WIDTH: usize = 5;
+
+// W-204: "Plans of up to 64 entries now need 193 bytes, rosters 4,262"; "the diary and the left pairs 1,024 entries each", a pair left being
+// three bytes
+pub const PLAN_SIZE: usize = 193;
+
+pub const ROSTER_SIZE: usize = 4262;
 
 pub const DIARY_SIZE: usize = 1024;
 
-pub const LEFT_SIZE: usize = 2048;
+pub const LEFT_SIZE: usize = 3072;
 
-// the size of a flat diary, four numbers a record
-pub const FLAT_SIZE: usize = 4096;
+// the size of a flat diary, five numbers a record
+pub const FLAT_SIZE: usize = 5120;
 
-// "a roster of at most 2,215 bytes from standard input"
-pub const INPUT_SIZE: usize = 2215;
+// W-204: "the program reads at most 4,263"
+pub const INPUT_SIZE: usize = 4263;
 
 // the size of the program's text: 1,024 diary lines and the longest ending
-pub const TEXT_SIZE: usize = 32783;
+pub const TEXT_SIZE: usize = 43023;

@@ -18,4 +18,11 @@ pub mod Printed
 pub mod Desk
 pub mod Decimal
 pub mod Claims
+pub mod Cases
+pub mod MoreCases
+pub mod RosterCases
+pub mod PlanCases
+pub mod ChangeCases
+pub mod DeskCases
+pub mod DeskChangeCases
 pub mod GroupCases

@@ -1,45 +1,113 @@
--- A pair's bytes at a place, put and read, and what putting them does to a buffer of which the front is written.
-use Prim.Native.Nat.{ℕ, suc, _+_, _≤_}
+-- A pair's bytes at a place, put and read, and what putting them does to a buffer of which the front is written. Old files (W-205) have no
+-- shift byte, and mean shift 1.
+use Prim.Native.Nat.{ℕ, suc, _+_, _≤_, _<_}
 use native.Mathlib.Omega.{arith}
 use mathlib.Core.Path.{_≡_, refl, sym, ap, _∙_}
+use mathlib.Core.Bool.{Bool, true, false, cond}
 use mathlib.Core.List.{List, [], _∷_, _++_, append-assoc}
 use lib.ListN.{length, getD, set, drop, length-append, length-set}
 use lib.Seq.{set-at, drop-cons}
 use Rattle.model.specs.Limits.{pairWidth}
+use Rattle.model.specs.PlanFile.{Named, PairLayout, threeBytes, shiftedPair, plainPair}
+use Rattle.model.specs.Reading.{accepted, refused}
 use Rattle.pair_bytes.specs.declared.Pair.{Pair}
 
--- the bytes of the pair of surveyor s and stand t
-abbrev pub pairOf : (s t : ℕ) → List ℕ
-pairOf s t = suc s ∷ suc t ∷ []
+-- the bytes of the pair of surveyor s and stand t in shift k
+abbrev pub pairOf : (s t k : ℕ) → List ℕ
+pairOf s t k = suc s ∷ suc t ∷ k ∷ []
 
-pub pair-wide : (s t : ℕ) → length (pairOf s t) ≡ pairWidth
-pair-wide s t = refl
+pub pair-wide : (s t k : ℕ) → length (pairOf s t k) ≡ pairWidth
+pair-wide s t k = refl
 
 -- a buffer with them at a place
-abbrev pub withPair : List ℕ → (at s t : ℕ) → List ℕ
-withPair d i s t = set (set d i (suc s)) (i + 1) (suc t)
+abbrev pub withPair : List ℕ → (at s t k : ℕ) → List ℕ
+withPair d i s t k = set (set (set d i (suc s)) (i + 1) (suc t)) (i + 2) k
 
-pub with-length : (d : List ℕ) (i s t : ℕ) → length (withPair d i s t) ≡ length d
-with-length d i s t = simp length-set refl
+pub with-length : (d : List ℕ) (i s t k : ℕ) → length (withPair d i s t k) ≡ length d
+with-length d i s t k = simp length-set refl
+
+-- the layout of a file's pairs: with shifts, or without
+abbrev pub pairLayout : Bool → PairLayout
+pairLayout true = shiftedPair
+pairLayout false = plainPair
+
+-- how many bytes a pair has there
+abbrev pub widthOf : Bool → ℕ
+widthOf shifts = cond shifts pairWidth 2
 
 -- the pair that the bytes at a place name
-abbrev pub pairFrom : List ℕ → ℕ → Pair
-pairFrom d i = record { surveyor = getD d i 0; stand = getD d (i + 1) 0 }
+abbrev pub pairFrom : Bool → List ℕ → ℕ → Pair
+pairFrom shifts d i = record { surveyor = getD d i 0; stand = getD d (i + 1) 0; shift = cond shifts (getD d (i + 2) 0) 1 }
+
+-- one byte behind a front that is written
+byte-behind : (w d : List ℕ) (i v : ℕ) → length w ≡ i → i < length d → set (w ++ drop i d) i v ≡ (w ++ v ∷ []) ++ drop (i + 1) d
+byte-behind w d i v l h =
+    ap (λ z. set (w ++ z) i v) (drop-cons d i 0 h) ∙ set-at w (getD d i 0) (drop (suc i) d) v i l ∙ sym (append-assoc w (v ∷ []) (drop (suc i) d))
+    ∙ ap (λ n. (w ++ v ∷ []) ++ drop n d) (next i)
+  where
+    next : (i : ℕ) → suc i ≡ i + 1
+    next i = omega arith
 
 -- behind a front that is written
-pub pair-behind : (w d : List ℕ) (i s t : ℕ) → length w ≡ i → i + pairWidth ≤ length d
-    → withPair (w ++ drop i d) i s t ≡ (w ++ pairOf s t) ++ drop (i + pairWidth) d
-pair-behind w d i s t l h =
-    ap (λ z. withPair (w ++ z) i s t) (drop-cons d i 0 (omega arith) ∙ ap (λ z. getD d i 0 ∷ z) (drop-cons d (suc i) 0 (omega arith)))
-    ∙ ap (λ z. set z (i + 1) (suc t))
-    (set-at w (getD d i 0) (getD d (suc i) 0 ∷ rest) (suc s) i l ∙ sym (append-assoc w (suc s ∷ []) (getD d (suc i) 0 ∷ rest)))
-    ∙ set-at (w ++ suc s ∷ []) (getD d (suc i) 0) rest (suc t) (i + 1) (length-append w (suc s ∷ []) ∙ ap (λ n. n + 1) l)
-    ∙ append-assoc w (suc s ∷ []) (suc t ∷ rest)
-    ∙ ap (λ n. w ++ suc s ∷ suc t ∷ drop n d) (two i)
-    ∙ sym (append-assoc w (pairOf s t) (drop (i + pairWidth) d))
-  where
-    rest : List ℕ
-    rest = drop (suc (suc i)) d
+pub pair-behind : (w d : List ℕ) (i s t k : ℕ) → length w ≡ i → i + pairWidth ≤ length d
+    → withPair (w ++ drop i d) i s t k ≡ (w ++ pairOf s t k) ++ drop (i + pairWidth) d
+pair-behind w d i s t k l h =
+    let a : length (w ++ suc s ∷ []) ≡ i + 1 = length-append w (suc s ∷ []) ∙ ap (λ n. n + 1) l in
+    let b : length ((w ++ suc s ∷ []) ++ suc t ∷ []) ≡ i + 2 = omega (arith, a, length-append (w ++ suc s ∷ []) (suc t ∷ [])) in
+    let n : i + 1 + 1 ≡ i + 2 = omega arith in
+    let m : i + 2 + 1 ≡ i + pairWidth = omega arith in
+    ap (λ z. set (set z (i + 1) (suc t)) (i + 2) k) (byte-behind w d i (suc s) l (omega arith))
+    ∙ ap (λ z. set z (i + 2) k) (byte-behind (w ++ suc s ∷ []) d (i + 1) (suc t) a (omega arith))
+    ∙ ap (λ z. set (((w ++ suc s ∷ []) ++ suc t ∷ []) ++ drop z d) (i + 2) k) n
+    ∙ byte-behind ((w ++ suc s ∷ []) ++ suc t ∷ []) d (i + 2) k b (omega arith)
+    ∙ ap (λ z. (((w ++ suc s ∷ []) ++ suc t ∷ []) ++ k ∷ []) ++ drop z d) m
+    ∙ ap (λ z. z ++ drop (i + pairWidth) d)
+    (append-assoc (w ++ suc s ∷ []) (suc t ∷ []) (k ∷ []) ∙ append-assoc w (suc s ∷ []) (suc t ∷ k ∷ []))
 
-    two : (i : ℕ) → suc (suc i) ≡ i + pairWidth
-    two i = omega arith
+pub width-least : (shifts : Bool) → 2 ≤ widthOf shifts
+width-least true = omega arith
+width-least false = omega arith
+
+pub width-most : (shifts : Bool) → widthOf shifts ≤ pairWidth
+width-most true = omega arith
+width-most false = omega arith
+
+pub width-shifts : {shifts : Bool} → shifts ≡ true → widthOf shifts ≡ pairWidth
+width-shifts e = ap widthOf e
+
+-- ---- the model's reading of a pair in such a file: cut short, or the pair at the place
+abbrev pub namedAt : Bool → List ℕ → ℕ → Named
+namedAt shifts d i = let p = pairFrom shifts d i in record { surveyor = p .surveyor; stand = p .stand; shift = p .shift }
+
+pub field-cut : (shifts : Bool) (bs : List ℕ) → length bs < widthOf shifts → pairLayout shifts .field bs ≡ refused 1
+field-cut true [] h = refl
+field-cut true (x ∷ []) h = refl
+field-cut true (x ∷ y ∷ []) h = refl
+field-cut true (x ∷ y ∷ z ∷ bs) h = absurd (omega arith)
+field-cut false [] h = refl
+field-cut false (x ∷ []) h = refl
+field-cut false (x ∷ y ∷ bs) h = absurd (omega arith)
+
+pub field-at : (shifts : Bool) (f : List ℕ) (i : ℕ) → i + widthOf shifts ≤ length f
+    → pairLayout shifts .field (drop i f) ≡ accepted (namedAt shifts f i, drop (i + widthOf shifts) f)
+field-at shifts f i h =
+    let e : drop i f ≡ getD f i 0 ∷ getD f (i + 1) 0 ∷ drop (i + 2) f =
+    one i (omega (arith, width-least shifts)) ∙ ap (λ z. getD f i 0 ∷ z) (one (i + 1) (omega (arith, width-least shifts)) ∙ ap (λ k. getD f (i + 1) 0 ∷ drop k f) (two i)) in
+    ap (pairLayout shifts .field) e ∙ go shifts h
+  where
+    one : (k : ℕ) → k < length f → drop k f ≡ getD f k 0 ∷ drop (k + 1) f
+    one k l = drop-cons f k 0 l ∙ ap (λ n. getD f k 0 ∷ drop n f) (next k)
+      where
+        next : (k : ℕ) → suc k ≡ k + 1
+        next k = omega arith
+
+    two : (k : ℕ) → k + 1 + 1 ≡ k + 2
+    two k = omega arith
+
+    three : (k : ℕ) → k + 2 + 1 ≡ k + pairWidth
+    three k = omega arith
+
+    go : (b : Bool) → i + widthOf b ≤ length f
+        → pairLayout b .field (getD f i 0 ∷ getD f (i + 1) 0 ∷ drop (i + 2) f) ≡ accepted (namedAt b f i, drop (i + widthOf b) f)
+    go true l = ap (λ z. threeBytes (getD f i 0 ∷ getD f (i + 1) 0 ∷ z)) (one (i + 2) (omega arith)) ∙ ap (λ k. accepted (namedAt true f i, drop k f)) (three i)
+    go false l = refl

@@ -11,21 +11,23 @@ ghost use Rattle.plan_lookup.specs.PlanEdges as edges;
 use limits::ENTRY_LIMIT;
 use limits::PLAN_LIMIT;
 
-// the lowest edge from start on, and below end, of surveyor s and stand t; end if there is none
+// the lowest edge from start on, and below end, of surveyor s and stand t in shift k; end if there is none
 pub(crate) fn scan(
     start: usize,
     end: usize,
     sv: &[u8; ENTRY_LIMIT],
     st: &[u8; ENTRY_LIMIT],
+    sh: &[u8; ENTRY_LIMIT],
     s: u8,
     t: u8,
+    k: u8,
 ) -> usize
     requires { ⌜ (start ≤ end) × (end ≤ entryLimit) ⌝ }
-    ensures { λ r. ⌜ Scanned start end (now (sv .entry)) (now (st .entry)) s t r ⌝ }
+    ensures { λ r. ⌜ Scanned start end (now (sv .entry)) (now (st .entry)) (now (sh .entry)) s t k r ⌝ }
 {
     let mut e = start;
     while e < end {
-        if (sv[e] == s) & (st[e] == t) {
+        if (sv[e] == s) & ((st[e] == t) & (sh[e] == k)) {
             return e;
         }
         e += 1;
@@ -33,17 +35,19 @@ pub(crate) fn scan(
     e
 }
 
-// the edge that two bytes name, m if there is none; from is where the next edge of an ascending plan is looked for first
+// the edge that three bytes name, m if there is none; from is where the next edge of an ascending plan is looked for first
 pub fn edge_of(
     m: usize,
     sv: &[u8; ENTRY_LIMIT],
     st: &[u8; ENTRY_LIMIT],
+    sh: &[u8; ENTRY_LIMIT],
     from: usize,
     x: u8,
     y: u8,
+    k: u8,
 ) -> usize
-    requires { ⌜ (from ≤ m) × (m ≤ entryLimit) × Differ m (now sv) (now st) ⌝ }
-    ensures { λ r. ⌜ r ≡ low (Names (now (sv .entry)) (now (st .entry)) x y) m ⌝ }
+    requires { ⌜ (from ≤ m) × (m ≤ entryLimit) × Differ m (now sv) (now st) (now sh) ⌝ }
+    ensures { λ r. ⌜ r ≡ low (Names (now (sv .entry)) (now (st .entry)) (now (sh .entry)) x y k) m ⌝ }
 {
     if x == 0 {
         return m;
@@ -53,11 +57,11 @@ pub fn edge_of(
     }
     let s = x - 1;
     let t = y - 1;
-    let e = scan(from, m, sv, st, s, t);
+    let e = scan(from, m, sv, st, sh, s, t, k);
     if e < m {
         return e;
     }
-    let d = scan(0, from, sv, st, s, t);
+    let d = scan(0, from, sv, st, sh, s, t, k);
     if d < from {
         return d;
     }

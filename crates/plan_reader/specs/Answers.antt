@@ -11,8 +11,9 @@ use Rattle.theory_files.specs.Entries.{cond-zero}
 use Rattle.model.specs.Reading.{Reading, accepted, refused}
 use Rattle.model.specs.Instance.{Instance}
 use Rattle.model.specs.Plans.{Plan, on}
-use Rattle.model.specs.PlanFile.{edgesIn, readPlan}
+use Rattle.model.specs.PlanFile.{edgesIn, readPlanBy}
 use Rattle.arrays.specs.ArrayInstance.{flag, shown}
+use Rattle.pair_bytes.specs.PairAt.{pairLayout}
 use Rattle.plan_reader.specs.declared.PlanAnswer.{PlanAnswer}
 use Rattle.plan_reader.specs.declared.PlanAnswer.the-variants.{Accepted, Refused}
 use Rattle.plan_reader.specs.declared.PlanRead.{PlanRead}
@@ -22,14 +23,19 @@ abbrev pub answerOf : ℕ → Reading Plan → PlanAnswer
 answerOf m (accepted M) = Accepted (length (edgesIn m (on M)))
 answerOf m (refused n) = Refused n
 
-pub record ReadAs (G : Instance) (file : List ℕ) (r : PlanRead) : Type 0 where
-  pub answer : r .answer ≡ answerOf (G .m) (readPlan G file)
-  pub chosen : (M : Plan) → readPlan G file ≡ accepted M → (e : ℕ) → flag (r .chosen) e ≡ on M e
-  pub edges : (M : Plan) → readPlan G file ≡ accepted M → take (length (edgesIn (G .m) (on M))) (r .edges) ≡ edgesIn (G .m) (on M)
+-- a file with shifts, or without
+abbrev pub planIn : Bool → Instance → List ℕ → Reading Plan
+planIn shifts G file = readPlanBy (pairLayout shifts) G file
+
+pub record ReadAs (shifts : Bool) (G : Instance) (file : List ℕ) (r : PlanRead) : Type 0 where
+  pub answer : r .answer ≡ answerOf (G .m) (planIn shifts G file)
+  pub chosen : (M : Plan) → planIn shifts G file ≡ accepted M → (e : ℕ) → flag (r .chosen) e ≡ on M e
+  pub edges : (M : Plan) → planIn shifts G file ≡ accepted M → take (length (edgesIn (G .m) (on M))) (r .edges) ≡ edgesIn (G .m) (on M)
 
 -- for the instance that the arrays show, whatever its node counts, ranks and ties
-abbrev pub ReadFor : (m : ℕ) (sv st qs qt file : List ℕ) (r : PlanRead) → Type 0
-ReadFor m sv st qs qt file r = (ns nt : ℕ) (rankS rankT : List ℕ) (tied : List Bool) → ReadAs (shown m ns nt sv st rankS rankT tied qs qt) file r
+abbrev pub ReadFor : (shifts : Bool) (m : ℕ) (sv st sh qs qt file : List ℕ) (r : PlanRead) → Type 0
+ReadFor shifts m sv st sh qs qt file r =
+    (ns nt : ℕ) (rankS rankT : List ℕ) (tied : List Bool) → ReadAs shifts (shown m ns nt sv st rankS rankT sh tied qs qt) file r
 
 -- ---- what an answer says of the reading
 abbrev isAccepted : PlanAnswer → Bool
@@ -44,24 +50,24 @@ abbrev numberOf : PlanAnswer → ℕ
 numberOf (Accepted n) = 0
 numberOf (Refused n) = n
 
-module _ {G : Instance} {file : List ℕ} {r : PlanRead} (A : ReadAs G file r) where
+module _ {shifts : Bool} {G : Instance} {file : List ℕ} {r : PlanRead} (A : ReadAs shifts G file r) where
   -- accepted: there is a plan, and the flags are its edges
-  pub accepted-read : {n : ℕ} → r .answer ≡ Accepted n → (M : Plan) × (readPlan G file ≡ accepted M) × (flag (r .chosen) ≡ on M)
-  accepted-read {n} q = go (readPlan G file) refl (sym q ∙ A .answer)
+  pub accepted-read : {n : ℕ} → r .answer ≡ Accepted n → (M : Plan) × (planIn shifts G file ≡ accepted M) × (flag (r .chosen) ≡ on M)
+  accepted-read {n} q = go (planIn shifts G file) refl (sym q ∙ A .answer)
     where
-      go : (x : Reading Plan) → readPlan G file ≡ x → Accepted n ≡ answerOf (G .m) x → (M : Plan) × (readPlan G file ≡ accepted M) × (flag (r .chosen) ≡ on M)
+      go : (x : Reading Plan) → planIn shifts G file ≡ x → Accepted n ≡ answerOf (G .m) x → (M : Plan) × (planIn shifts G file ≡ accepted M) × (flag (r .chosen) ≡ on M)
       go (accepted M) p e = (M, p, λ k d. A .chosen M p d k)
       go (refused k) p e = absurd (subst (λ a. T (isAccepted a)) e tt)
 
   -- and its edges are the first n of the list
-  pub accepted-edges : {n : ℕ} → r .answer ≡ Accepted n → (M : Plan) → readPlan G file ≡ accepted M
+  pub accepted-edges : {n : ℕ} → r .answer ≡ Accepted n → (M : Plan) → planIn shifts G file ≡ accepted M
       → (n ≡ length (edgesIn (G .m) (on M))) × (take n (r .edges) ≡ edgesIn (G .m) (on M))
   accepted-edges {n} q M a =
       let c : n ≡ length (edgesIn (G .m) (on M)) = ap countOf (sym q ∙ A .answer ∙ ap (answerOf (G .m)) a) in
       (c, ap (λ k. take k (r .edges)) c ∙ A .edges M a)
 
-  pub refused-read : {n : ℕ} → r .answer ≡ Refused n → readPlan G file ≡ refused n
-  refused-read {n} q = go (readPlan G file) (sym q ∙ A .answer)
+  pub refused-read : {n : ℕ} → r .answer ≡ Refused n → planIn shifts G file ≡ refused n
+  refused-read {n} q = go (planIn shifts G file) (sym q ∙ A .answer)
     where
       go : (x : Reading Plan) → Refused n ≡ answerOf (G .m) x → x ≡ refused n
       go (accepted M) e = absurd (subst (λ a. T (isAccepted a)) (sym e) tt)

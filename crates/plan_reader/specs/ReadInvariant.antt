@@ -21,7 +21,7 @@ use Rattle.model.specs.Reading.{Reading, accepted, refused, refuseBy, whole}
 use Rattle.model.specs.Roster.{elem}
 use Rattle.model.specs.Instance.{Instance, Side, surveyors, stands}
 use Rattle.model.specs.Plans.{Plan, on}
-use Rattle.model.specs.PlanFile.{edgesIn, edgeOfPair, full, Pairs, pairCheck, withPair, planOfPairs, readPlan}
+use Rattle.model.specs.PlanFile.{Named, PairLayout, edgesIn, edgeOfPair, full, Pairs, pairCheck, withPair, planOfPairs, readPlanBy}
 use Rattle.theory_files.specs.Reads.{accepted-value, refused-not}
 use Rattle.theory_files.specs.Chosen.{on-planOf, planOf-length, edgesIn-cong, From, Below, edges-of-elem, atNode}
 use Rattle.theory_files.specs.PlanPairs.{noPairs, pairsLeft, plan-empty, plan-long, plan-starts, left-cut, left-pair, left-none}
@@ -29,7 +29,8 @@ use Rattle.arrays.specs.ArrayInstance.{at, flag, shown}
 use Rattle.plan_reader.specs.declared.PlanAnswer.the-variants.{Accepted, Refused}
 use Rattle.plan_reader.specs.declared.PlanRead.{PlanRead}
 use Rattle.arrays.specs.Passes.{Low, all-blank}
-use Rattle.plan_reader.specs.Answers.{answerOf, ReadAs, ReadFor, pairRefusal, passed}
+use Rattle.pair_bytes.specs.PairAt.{pairLayout, widthOf, width-most, namedAt, field-cut, field-at}
+use Rattle.plan_reader.specs.Answers.{answerOf, planIn, ReadAs, ReadFor, pairRefusal, passed}
 
 -- ---- ascending lists with one number more
 from-snoc : (j f e : ℕ) (es : List ℕ) → j ≤ e → f ≤ e → From j es → Below f es → From j (es ++ e ∷ [])
@@ -99,27 +100,33 @@ passes-by : (c : ℕ) (r : Reading (Plan × List ℕ)) → c ≡ 0 → refuseBy 
 passes-by zero r e = refl
 passes-by (suc c) r e = absurd (omega arith)
 
-module _ (m : ℕ) (sv st qs qt file : List ℕ) where
+module _ (shifts : Bool) (m : ℕ) (sv st sh qs qt file : List ℕ) where
+  abbrev L : PairLayout
+  L = pairLayout shifts
+
   -- node counts, ranks and ties do not matter to a plan file
   abbrev pub G : Instance
-  G = shown m 0 0 sv st [] [] [] qs qt
+  G = shown m 0 0 sv st [] [] sh [] qs qt
 
-  same-reading : (ns nt : ℕ) (rankS rankT : List ℕ) (tied : List Bool) → readPlan G file ≡ readPlan (shown m ns nt sv st rankS rankT tied qs qt) file
-  unfolding readPlan edgeOfPair
+  same-reading : (ns nt : ℕ) (rankS rankT : List ℕ) (tied : List Bool)
+      → planIn shifts G file ≡ planIn shifts (shown m ns nt sv st rankS rankT sh tied qs qt) file
+  unfolding readPlanBy edgeOfPair
   same-reading ns nt rankS rankT tied = refl
 
-  pub for-all : (r : PlanRead) → ReadAs G file r → ReadFor m sv st qs qt file r
+  pub for-all : (r : PlanRead) → ReadAs shifts G file r → ReadFor shifts m sv st sh qs qt file r
   for-all r A ns nt rankS rankT tied =
       let s = same-reading ns nt rankS rankT tied in
       record { answer = A .answer ∙ ap (answerOf m) s; chosen = λ M q. A .chosen M (s ∙ q); edges = λ M q. A .edges M (s ∙ q) }
 
-  -- k of n pairs are read: es are their edges, from is the lowest that may come next; us, ut count them at each node
-  pub record Invariant (n k from : ℕ) (chosen : List Bool) (edges us ut : List ℕ) : Type 0 where
-    pub ps : List (ℕ × ℕ)
+  -- k of n pairs are read, up to the place `at′`: es are their edges, from is the lowest that may come next; us, ut count them at each node
+  pub record Invariant (n k at′ from : ℕ) (chosen : List Bool) (edges us ut : List ℕ) : Type 0 where
+    pub ps : List Named
     pub es : List ℕ
     pub named : map (edgeOfPair G) ps ≡ es
     pub count : length ps ≡ k
-    pub reading : readPlan G file ≡ whole (pairsLeft G (n - k) (record { seen = es; from = from }) (drop (pairWidth * k + 1) file) ps)
+    pub reading : planIn shifts G file ≡ whole (pairsLeft L G (n - k) (record { seen = es; from = from }) (drop at′ file) ps)
+    pub inside : at′ ≤ length file
+    pub early : at′ ≤ pairWidth * k + 1
     pub ascending : From 0 es
     pub below : Below from es
     pub small : from ≤ m
@@ -134,21 +141,23 @@ module _ (m : ℕ) (sv st qs qt file : List ℕ) where
   at-few K v [] = omega arith
   at-few K v (e ∷ es) = omega (arith, bit-one (eqb (K .end e) v), at-few K v es)
 
-  pub used-few : (n k from : ℕ) (chosen : List Bool) (edges us ut : List ℕ) → Invariant n k from chosen edges us ut → (v : ℕ) → (at us v ≤ k) × (at ut v ≤ k)
-  used-few n k from chosen edges us ut now v =
+  pub used-few : (n k at′ from : ℕ) (chosen : List Bool) (edges us ut : List ℕ) → Invariant n k at′ from chosen edges us ut → (v : ℕ) → (at us v ≤ k) × (at ut v ≤ k)
+  used-few n k at′ from chosen edges us ut now v =
       let l = ap length (sym (now .named)) ∙ length-map (now .ps) (edgeOfPair G) ∙ now .count in
       (omega (arith, l, now .used-s v, at-few (surveyors G) v (now .es)), omega (arith, l, now .used-t v, at-few (stands G) v (now .es)))
 
   pub invariant-first : (n : ℕ) → 0 < length file → getD file 0 0 ≡ n → n ≤ planLimit
-      → Invariant n 0 0 (replicate 1024 false) (replicate 64 0) (replicate 32 0) (replicate 32 0)
+      → Invariant n 0 1 0 (replicate 1024 false) (replicate 64 0) (replicate 32 0) (replicate 32 0)
   invariant-first n l h k = record {
     ps = [];
     es = [];
     named = refl;
     count = refl;
     reading =
-        ap (readPlan G) (drop-cons file 0 0 l ∙ ap (λ z. z ∷ drop 1 file) h) ∙ plan-starts G n (drop 1 file) k
-        ∙ ap (λ z. whole (pairsLeft G z noPairs (drop 1 file) [])) (all n);
+        ap (planIn shifts G) (drop-cons file 0 0 l ∙ ap (λ z. z ∷ drop 1 file) h) ∙ plan-starts L G n (drop 1 file) k
+        ∙ ap (λ z. whole (pairsLeft L G z noPairs (drop 1 file) [])) (all n);
+    inside = l;
+    early = omega arith;
     ascending = tt;
     below = tt;
     small = omega arith;
@@ -163,7 +172,8 @@ module _ (m : ℕ) (sv st qs qt file : List ℕ) where
       all n = omega arith
 
   -- ---- the next pair
-  module _ (n k from : ℕ) (chosen : List Bool) (edges us ut : List ℕ) (now : Invariant n k from chosen edges us ut) (more : k < n) where
+  module _ (n k at′ from : ℕ) (chosen : List Bool) (edges us ut : List ℕ) (now : Invariant n k at′ from chosen edges us ut) (more : k < n)
+      (w : ℕ) (wide : w ≡ widthOf shifts) where
     abbrev s : Pairs
     s = record { seen = now .es; from = from }
 
@@ -171,33 +181,21 @@ module _ (m : ℕ) (sv st qs qt file : List ℕ) where
     left = omega arith
 
     -- the file ends inside it
-    pub invariant-cut : length file < pairWidth * k + 1 + 2 → readPlan G file ≡ refused 1
-    invariant-cut h = now .reading ∙ ap (λ z. whole (pairsLeft G z s (drop (pairWidth * k + 1) file) (now .ps))) left
-        ∙ ap whole (short (drop (pairWidth * k + 1) file) (omega (arith, length-drop (pairWidth * k + 1) file)))
+    pub invariant-cut : length file < at′ + w → planIn shifts G file ≡ refused 1
+    invariant-cut h = now .reading ∙ ap (λ z. whole (pairsLeft L G z s (drop at′ file) (now .ps))) left
+        ∙ ap whole (left-cut L G (n - (k + 1)) s (drop at′ file) (now .ps) (field-cut shifts (drop at′ file) (short (length-drop at′ file))))
       where
-        short : (bs : List ℕ) → length bs < 2 → pairsLeft G (suc (n - (k + 1))) s bs (now .ps) ≡ refused 1
-        short [] l = left-cut G (n - (k + 1)) s (now .ps) .0
-        short (x ∷ []) l = left-cut G (n - (k + 1)) s (now .ps) .1 x
-        short (x ∷ y ∷ bs) l = absurd (omega arith)
+        short : length (drop at′ file) ≡ length file - at′ → length (drop at′ file) < widthOf shifts
+        short e = omega (arith, now .inside, wide)
 
-    module _ (low-s : Low m sv 32) (low-t : Low m st 32) (long : pairWidth * k + 1 + 2 ≤ length file) (e : ℕ)
-        (is : e ≡ edgeOfPair G (getD file (pairWidth * k + 1) 0, getD file (pairWidth * k + 1 + 1) 0))
+    module _ (low-s : Low m sv 32) (low-t : Low m st 32) (long : at′ + w ≤ length file) (e : ℕ)
+        (is : e ≡ edgeOfPair G (namedAt shifts file at′))
         (c : ℕ) (check : c ≡ pairRefusal m e from (leb (at qs (at sv e)) (at us (at sv e))) (leb (at qt (at st e)) (at ut (at st e)))) where
-      abbrev p : ℕ × ℕ
-      p = (getD file (pairWidth * k + 1) 0, getD file (pairWidth * k + 1 + 1) 0)
+      abbrev p : Named
+      p = namedAt shifts file at′
 
-      bytes : drop (pairWidth * k + 1) file ≡ p .0 ∷ p .1 ∷ drop (pairWidth * (k + 1) + 1) file
-      bytes =
-          drop-cons file (pairWidth * k + 1) 0 (omega arith)
-          ∙ ap (λ z. p .0 ∷ z)
-          (ap (λ i. drop i file) (one (pairWidth * k + 1)) ∙ drop-cons file (pairWidth * k + 1 + 1) 0 (omega arith)
-          ∙ ap (λ i. p .1 ∷ drop i file) (two k))
-        where
-          one : (i : ℕ) → suc i ≡ i + 1
-          one i = omega arith
-
-          two : (k : ℕ) → suc (pairWidth * k + 1 + 1) ≡ pairWidth * (k + 1) + 1
-          two k = omega arith
+      field-here : L .field (drop at′ file) ≡ accepted (p, drop (at′ + w) file)
+      field-here = field-at shifts file at′ (omega (arith, wide)) ∙ ap (λ z. accepted (p, drop (at′ + z) file)) (sym wide)
 
       checked : c ≡ pairCheck G s p
       unfolding pairRefusal
@@ -208,14 +206,13 @@ module _ (m : ℕ) (sv st qs qt file : List ℕ) where
           (λ l. (ap (leb (at qs (at sv e))) (now .used-s (at sv e)), ap (leb (at qt (at st e))) (now .used-t (at st e))))
           ∙ ap (λ d. pairRefusal m d from (full (surveyors G) (now .es) d) (full (stands G) (now .es) d)) is
 
-      next : readPlan G file ≡ whole (refuseBy c (pairsLeft G (n - (k + 1)) (withPair G s p) (drop (pairWidth * (k + 1) + 1) file) (now .ps ++ p ∷ [])))
-      next = now .reading ∙ ap (λ z. whole (pairsLeft G z s (drop (pairWidth * k + 1) file) (now .ps))) left
-          ∙ ap (λ z. whole (pairsLeft G (suc (n - (k + 1))) s z (now .ps))) bytes
-          ∙ ap whole (left-pair G (n - (k + 1)) s (p .0) (p .1) (drop (pairWidth * (k + 1) + 1) file) (now .ps))
-          ∙ ap (λ z. whole (refuseBy z (pairsLeft G (n - (k + 1)) (withPair G s p) (drop (pairWidth * (k + 1) + 1) file) (now .ps ++ p ∷ [])))) (sym checked)
+      next : planIn shifts G file ≡ whole (refuseBy c (pairsLeft L G (n - (k + 1)) (withPair G s p) (drop (at′ + w) file) (now .ps ++ p ∷ [])))
+      next = now .reading ∙ ap (λ z. whole (pairsLeft L G z s (drop at′ file) (now .ps))) left
+          ∙ ap whole (left-pair L G (n - (k + 1)) s p (drop at′ file) (drop (at′ + w) file) (now .ps) field-here)
+          ∙ ap (λ z. whole (refuseBy z (pairsLeft L G (n - (k + 1)) (withPair G s p) (drop (at′ + w) file) (now .ps ++ p ∷ [])))) (sym checked)
 
-      pub invariant-refused : 0 < c → readPlan G file ≡ refused c
-      invariant-refused h = next ∙ refused-by c (pairsLeft G (n - (k + 1)) (withPair G s p) (drop (pairWidth * (k + 1) + 1) file) (now .ps ++ p ∷ [])) h
+      pub invariant-refused : 0 < c → planIn shifts G file ≡ refused c
+      invariant-refused h = next ∙ refused-by c (pairsLeft L G (n - (k + 1)) (withPair G s p) (drop (at′ + w) file) (now .ps ++ p ∷ [])) h
 
       pub invariant-passed : c ≡ 0 → (e < m) × (from ≤ e) × (at us (at sv e) < at qs (at sv e)) × (at ut (at st e) < at qt (at st e))
       invariant-passed z =
@@ -223,14 +220,16 @@ module _ (m : ℕ) (sv st qs qt file : List ℕ) where
           (a, b, nleb→lt (at qs (at sv e)) (at us (at sv e)) x, nleb→lt (at qt (at st e)) (at ut (at st e)) y))
 
       pub invariant-on : c ≡ 0 → k < 64 → m ≤ 1024
-          → Invariant n (k + 1) (e + 1) (set chosen e true) (set edges k e) (set us (at sv e) (at us (at sv e) + 1)) (set ut (at st e) (at ut (at st e) + 1))
+          → Invariant n (k + 1) (at′ + w) (e + 1) (set chosen e true) (set edges k e) (set us (at sv e) (at us (at sv e) + 1)) (set ut (at st e) (at ut (at st e) + 1))
       invariant-on z k64 m1024 = given (invariant-passed z) (λ (a, b, x, y). record {
         ps = now .ps ++ p ∷ [];
         es = now .es ++ e ∷ [];
         named = map-append (edgeOfPair G) (now .ps) (p ∷ []) ∙ ap₂ (λ u v. u ++ v ∷ []) (now .named) (sym is);
         count = length-append (now .ps) (p ∷ []) ∙ ap (λ i. i + 1) (now .count);
-        reading = next ∙ ap whole (passes-by c (pairsLeft G (n - (k + 1)) (withPair G s p) (drop (pairWidth * (k + 1) + 1) file) (now .ps ++ p ∷ [])) z)
-            ∙ ap (λ t. whole (pairsLeft G (n - (k + 1)) t (drop (pairWidth * (k + 1) + 1) file) (now .ps ++ p ∷ []))) same-state;
+        reading = next ∙ ap whole (passes-by c (pairsLeft L G (n - (k + 1)) (withPair G s p) (drop (at′ + w) file) (now .ps ++ p ∷ [])) z)
+            ∙ ap (λ t. whole (pairsLeft L G (n - (k + 1)) t (drop (at′ + w) file) (now .ps ++ p ∷ []))) same-state;
+        inside = long;
+        early = omega (arith, now .early, width-most shifts, wide);
         ascending = from-snoc 0 from e (now .es) (omega arith) b (now .ascending) (now .below);
         below = below-snoc from e (now .es) b (now .below);
         small = omega arith;
@@ -252,17 +251,16 @@ module _ (m : ℕ) (sv st qs qt file : List ℕ) where
               ap (λ d. record { seen = now .es ++ d ∷ []; from = suc d }) (sym is) ∙ ap (λ i. record { seen = now .es ++ e ∷ []; from = i }) (sym (add-one e))
 
   -- ---- the end
-  module _ (n k from : ℕ) (chosen : List Bool) (edges us ut : List ℕ) (now : Invariant n k from chosen edges us ut) (end : k ≡ n) where
-    ended : readPlan G file ≡ whole (accepted (planOfPairs G (now .ps), drop (pairWidth * n + 1) file))
-    ended = now .reading ∙ ap (λ i. whole (pairsLeft G i (record { seen = now .es; from = from }) (drop (pairWidth * k + 1) file) (now .ps))) none
-        ∙ ap whole (left-none G (record { seen = now .es; from = from }) (drop (pairWidth * k + 1) file) (now .ps))
-        ∙ ap (λ i. whole (accepted (planOfPairs G (now .ps), drop (pairWidth * i + 1) file))) end
+  module _ (n k at′ from : ℕ) (chosen : List Bool) (edges us ut : List ℕ) (now : Invariant n k at′ from chosen edges us ut) (end : k ≡ n) where
+    ended : planIn shifts G file ≡ whole (accepted (planOfPairs G (now .ps), drop at′ file))
+    ended = now .reading ∙ ap (λ i. whole (pairsLeft L G i (record { seen = now .es; from = from }) (drop at′ file) (now .ps))) none
+        ∙ ap whole (left-none L G (record { seen = now .es; from = from }) (drop at′ file) (now .ps))
       where
         none : n - k ≡ 0
         none = omega arith
 
-    pub invariant-long : pairWidth * n + 1 < length file → readPlan G file ≡ refused 9
-    invariant-long h = ended ∙ ap (λ z. whole (accepted (planOfPairs G (now .ps), z))) (drop-cons file (pairWidth * n + 1) 0 h)
+    pub invariant-long : at′ < length file → planIn shifts G file ≡ refused 9
+    invariant-long h = ended ∙ ap (λ z. whole (accepted (planOfPairs G (now .ps), z))) (drop-cons file at′ 0 h)
 
     abbrev M : Plan
     M = planOfPairs G (now .ps)
@@ -281,9 +279,9 @@ module _ (m : ℕ) (sv st qs qt file : List ℕ) where
     M-count : length (edgesIn m (on M)) ≡ n
     M-count = ap length (M-edges ∙ sym (now .named)) ∙ length-map (now .ps) (edgeOfPair G) ∙ now .count ∙ end
 
-    pub invariant-accepted : length file ≤ pairWidth * n + 1 → ReadAs G file (record { answer = Accepted n; chosen = chosen; edges = edges })
+    pub invariant-accepted : length file ≤ at′ → ReadAs shifts G file (record { answer = Accepted n; chosen = chosen; edges = edges })
     invariant-accepted h =
-        given (ended ∙ ap (λ z. whole (accepted (planOfPairs G (now .ps), z))) (drop-of-length-le file h)) (λ (q : readPlan G file ≡ accepted M). record {
+        given (ended ∙ ap (λ z. whole (accepted (planOfPairs G (now .ps), z))) (drop-of-length-le file h)) (λ (q : planIn shifts G file ≡ accepted M). record {
           answer = ap Accepted (sym M-count) ∙ sym (ap (answerOf m) q);
           chosen = λ N a e. now .flags e ∙ sym (M-at e) ∙ ap (λ z. on z e) (accepted-value (sym q ∙ a));
           edges =
@@ -292,20 +290,20 @@ module _ (m : ℕ) (sv st qs qt file : List ℕ) where
         })
 
   -- refused
-  pub refused-as : (c : ℕ) (chosen : List Bool) (edges : List ℕ) → readPlan G file ≡ refused c
-      → ReadAs G file (record { answer = Refused c; chosen = chosen; edges = edges })
+  pub refused-as : (c : ℕ) (chosen : List Bool) (edges : List ℕ) → planIn shifts G file ≡ refused c
+      → ReadAs shifts G file (record { answer = Refused c; chosen = chosen; edges = edges })
   refused-as c chosen edges q = record {
     answer = sym (ap (answerOf m) q);
     chosen = λ M a. refused-not (sym q ∙ a);
     edges = λ M a. refused-not (sym q ∙ a);
   }
 
-  pub empty-file : length file ≤ 0 → readPlan G file ≡ refused 1
-  empty-file h = ap (readPlan G) (none file h) ∙ plan-empty G
+  pub empty-file : length file ≤ 0 → planIn shifts G file ≡ refused 1
+  empty-file h = ap (planIn shifts G) (none file h) ∙ plan-empty L G
     where
       none : (f : List ℕ) → length f ≤ 0 → f ≡ []
       none [] h = refl
       none (x ∷ f) h = absurd (omega arith)
 
-  pub long-count : 0 < length file → planLimit < getD file 0 0 → readPlan G file ≡ refused 2
-  long-count l h = ap (readPlan G) (drop-cons file 0 0 l) ∙ plan-long G (getD file 0 0) (drop 1 file) h
+  pub long-count : 0 < length file → planLimit < getD file 0 0 → planIn shifts G file ≡ refused 2
+  long-count l h = ap (planIn shifts G) (drop-cons file 0 0 l) ∙ plan-long L G (getD file 0 0) (drop 1 file) h

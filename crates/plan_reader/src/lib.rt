@@ -1,5 +1,6 @@
-// Plan files judged against an instance's arrays: "a count byte 0 to 64, then two bytes a pair (surveyor, stand), ascending by surveyor,
-// then by stand." Refusals in document 01's order: 1, 2, then pair by pair 1, 10, 11, 12, then 9.
+// Plan files judged against an instance's arrays: "a count byte 0 to 64, then" three bytes a pair (surveyor, stand, shift), ascending by
+// these, or two in a file without shifts, where every pair is in shift 1. Refusals in document 01's order: 1, 2, then pair by pair 1, 10,
+// 11, 12, then 9.
 ghost use mathlib.Core.Path.{_≡_};
 ghost use mathlib.Core.Bool.{_&&_};
 ghost use Prim.Native.Nat.{ℕ, _+_, _≤_, _<_};
@@ -11,7 +12,6 @@ ghost use Rattle.model.specs.Limits.{nodeLimit, entryLimit, planLimit};
 ghost use Rattle.plan_lookup.specs.PairEdge.{Differ};
 ghost use Rattle.plan_reader.specs.Answers.{pairRefusal, ReadFor};
 use limits::ENTRY_LIMIT;
-use limits::PAIR_WIDTH;
 use limits::PLAN_LIMIT;
 
 // a plan is accepted, with the number of its pairs, or refused
@@ -62,32 +62,35 @@ pub(crate) fn read_pairs(
     m: usize,
     sv: &[u8; ENTRY_LIMIT],
     st: &[u8; ENTRY_LIMIT],
+    sh: &[u8; ENTRY_LIMIT],
     qs: &[u8; 32],
     qt: &[u8; 32],
     n: usize,
     file: &[u8],
+    shifts: bool,
 ) -> PlanRead
-    requires { ⌜ (m ≤ entryLimit) × Low m (now sv) nodeLimit × Low m (now st) nodeLimit × Differ m (now sv) (now st) ⌝ }
+    requires { ⌜ (m ≤ entryLimit) × Low m (now sv) nodeLimit × Low m (now st) nodeLimit × Differ m (now sv) (now st) (now sh) ⌝ }
     requires { ⌜ (n ≤ planLimit) × (0 < length (now file)) × (getD (now file) 0 0 ≡ n) ⌝ }
-    ensures { λ r. ⌜ ReadFor m (now (sv .entry)) (now (st .entry)) (now (qs .entry)) (now (qt .entry)) (now (file .entry)) r ⌝ }
+    ensures { λ r. ⌜ ReadFor shifts m (now (sv .entry)) (now (st .entry)) (now (sh .entry)) (now (qs .entry)) (now (qt .entry)) (now (file .entry)) r ⌝ }
 {
     let mut chosen = [false; ENTRY_LIMIT];
     let mut edges = [0u16; PLAN_LIMIT];
     let mut us = [0u8; 32];
     let mut ut = [0u8; 32];
+    let width = pair_bytes::width(shifts);
+    let mut at: usize = 1;
     let mut from: usize = 0;
     let mut k: usize = 0;
     while k < n {
-        let at = PAIR_WIDTH * k + 1;
-        if file.len() < at + PAIR_WIDTH {
+        if file.len() < at + width {
             return PlanRead {
                 answer: PlanAnswer::Refused(1),
                 chosen: chosen,
                 edges: edges,
             };
         }
-        let p = pair_bytes::get(file, at);
-        let e = plan_lookup::edge_of(m, sv, st, from, p.surveyor, p.stand);
+        let p = pair_bytes::get(file, at, shifts);
+        let e = plan_lookup::edge_of(m, sv, st, sh, from, p.surveyor, p.stand, p.shift);
         let c = pair_refusal(m, sv, st, qs, qt, &us, &ut, from, e);
         if c != 0 {
             return PlanRead {
@@ -103,9 +106,10 @@ pub(crate) fn read_pairs(
         chosen[e] = true;
         edges[k] = e as u16;
         from = e + 1;
+        at += width;
         k += 1;
     }
-    if PAIR_WIDTH * n + 1 < file.len() {
+    if at < file.len() {
         return PlanRead {
             answer: PlanAnswer::Refused(9),
             chosen: chosen,
@@ -119,17 +123,19 @@ pub(crate) fn read_pairs(
     }
 }
 
-// a plan file
+// a plan file, with shifts or without
 pub fn read_plan(
     m: usize,
     sv: &[u8; ENTRY_LIMIT],
     st: &[u8; ENTRY_LIMIT],
+    sh: &[u8; ENTRY_LIMIT],
     qs: &[u8; 32],
     qt: &[u8; 32],
     file: &[u8],
+    shifts: bool,
 ) -> PlanRead
-    requires { ⌜ (m ≤ entryLimit) × Low m (now sv) nodeLimit × Low m (now st) nodeLimit × Differ m (now sv) (now st) ⌝ }
-    ensures { λ r. ⌜ ReadFor m (now (sv .entry)) (now (st .entry)) (now (qs .entry)) (now (qt .entry)) (now (file .entry)) r ⌝ }
+    requires { ⌜ (m ≤ entryLimit) × Low m (now sv) nodeLimit × Low m (now st) nodeLimit × Differ m (now sv) (now st) (now sh) ⌝ }
+    ensures { λ r. ⌜ ReadFor shifts m (now (sv .entry)) (now (st .entry)) (now (sh .entry)) (now (qs .entry)) (now (qt .entry)) (now (file .entry)) r ⌝ }
 {
     if file.len() == 0 {
         return PlanRead {
@@ -146,5 +152,5 @@ pub fn read_plan(
             edges: [0u16; PLAN_LIMIT],
         };
     }
-    read_pairs(m, sv, st, qs, qt, n as usize, file)
+    read_pairs(m, sv, st, sh, qs, qt, n as usize, file, shifts)
 }

@@ -11,10 +11,10 @@ use Rattle.arrays.specs.ArrayInstance.{at, flag, shown}
 use Rattle.pair_bytes.specs.PairAt.{pairOf}
 
 -- the bytes of some edges' pairs
-abbrev pub pairsOf : List ℕ → List ℕ → List ℕ → List ℕ
-pairsOf sv st es = gather (λ e. pairOf (at sv e) (at st e)) es
+abbrev pub pairsOf : (sv st sh : List ℕ) → List ℕ → List ℕ
+pairsOf sv st sh es = gather (λ e. pairOf (at sv e) (at st e) (at sh e)) es
 
 -- for the instance that the arrays show, whatever its node counts, ranks, ties and quotas, and the plan that the flags show
-abbrev pub WrittenFor : (m : ℕ) (sv st : List ℕ) (chosen : List Bool) (before after : List ℕ) → Type 0
-WrittenFor m sv st chosen before after = (ns nt : ℕ) (rankS rankT : List ℕ) (tied : List Bool) (quotaS quotaT : List ℕ) (M : Plan)
-    → ((e : ℕ) → e < m → on M e ≡ flag chosen e) → after ≡ onto (planBytes (shown m ns nt sv st rankS rankT tied quotaS quotaT) M) before
+abbrev pub WrittenFor : (m : ℕ) (sv st sh : List ℕ) (chosen : List Bool) (before after : List ℕ) → Type 0
+WrittenFor m sv st sh chosen before after = (ns nt : ℕ) (rankS rankT : List ℕ) (tied : List Bool) (quotaS quotaT : List ℕ) (M : Plan)
+    → ((e : ℕ) → e < m → on M e ≡ flag chosen e) → after ≡ onto (planBytes (shown m ns nt sv st rankS rankT sh tied quotaS quotaT) M) before

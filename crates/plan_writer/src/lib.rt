@@ -16,6 +16,7 @@ pub fn write_pairs(
     m: usize,
     sv: &[u8; ENTRY_LIMIT],
     st: &[u8; ENTRY_LIMIT],
+    sh: &[u8; ENTRY_LIMIT],
     chosen: &[bool; ENTRY_LIMIT],
     from: usize,
     out: &mut [u8],
@@ -24,7 +25,7 @@ pub fn write_pairs(
         × (pairWidth * length (edgesIn m (flag (now chosen))) + from ≤ length (now out)) ⌝ }
     ensures { λ r. ⌜ r ≡ length (edgesIn m (flag (now (chosen .entry)))) ⌝ }
     ensures { λ r. ⌜ now (out .exit)
-        ≡ (take from (now (out .entry)) ++ pairsOf (now (sv .entry)) (now (st .entry)) (edgesIn m (flag (now (chosen .entry)))))
+        ≡ (take from (now (out .entry)) ++ pairsOf (now (sv .entry)) (now (st .entry)) (now (sh .entry)) (edgesIn m (flag (now (chosen .entry)))))
         ++ drop (pairWidth * r + from) (now (out .entry)) ⌝ }
 {
     let mut k: usize = 0;
@@ -34,7 +35,7 @@ pub fn write_pairs(
             e += 1;
             continue;
         }
-        pair_bytes::put(&mut *out, PAIR_WIDTH * k + from, sv[e], st[e]);
+        pair_bytes::put(&mut *out, PAIR_WIDTH * k + from, sv[e], st[e], sh[e]);
         k += 1;
         e += 1;
     }
@@ -46,13 +47,14 @@ pub fn write_plan(
     m: usize,
     sv: &[u8; ENTRY_LIMIT],
     st: &[u8; ENTRY_LIMIT],
+    sh: &[u8; ENTRY_LIMIT],
     chosen: &[bool; ENTRY_LIMIT],
     out: &mut [u8],
 )
     requires { ⌜ (m ≤ entryLimit) × Low m (now sv) nodeLimit × Low m (now st) nodeLimit
         × (length (edgesIn m (flag (now chosen))) ≤ planLimit) × (planSize ≤ length (now out)) ⌝ }
-    ensures { λ _. ⌜ WrittenFor m (now (sv .entry)) (now (st .entry)) (now (chosen .entry)) (now (out .entry)) (now (out .exit)) ⌝ }
+    ensures { λ _. ⌜ WrittenFor m (now (sv .entry)) (now (st .entry)) (now (sh .entry)) (now (chosen .entry)) (now (out .entry)) (now (out .exit)) ⌝ }
 {
-    let k = write_pairs(m, sv, st, chosen, 1, &mut *out);
+    let k = write_pairs(m, sv, st, sh, chosen, 1, &mut *out);
     out[0] = k as u8;
 }

@@ -25,22 +25,23 @@ order-fits m end rank xs l e r q = subst (Order end) (sym q) (record {
   ends = λ k h. e (at (ranked (at rank) m emptyRank) k) (ranked-edges (at rank) m emptyRank k h);
 })
 
-abbrev pub knownOf : (m ns nt : ℕ) (sv st rankS rankT : List ℕ) (tied : List Bool) (quotaS quotaT os ot : List ℕ)
-    → Lawful (shown m ns nt sv st rankS rankT tied quotaS quotaT)
+abbrev pub knownOf : (m ns nt : ℕ) (sv st rankS rankT sh : List ℕ) (tied : List Bool) (quotaS quotaT os ot : List ℕ)
+    → Lawful (shown m ns nt sv st rankS rankT sh tied quotaS quotaT)
     → m ≤ entryLimit → Low m sv nodeLimit → Low m st nodeLimit → os ≡ ranked (at rankS) m emptyRank → ot ≡ ranked (at rankT) m emptyRank
     → Known m sv st tied quotaS quotaT os ot
-knownOf m ns nt sv st rankS rankT tied quotaS quotaT os ot law size fitS fitT qs qt = record {
+knownOf m ns nt sv st rankS rankT sh tied quotaS quotaT os ot law size fitS fitT qs qt = record {
   ns = ns;
   nt = nt;
   rankS = rankS;
   rankT = rankT;
+  sh = sh;
   law = law;
   byS =
-      λ v. subst (λ xs. Lists (surveyors (shown m ns nt sv st rankS rankT tied quotaS quotaT)) xs v) (sym qs)
-      (ranked-lists (surveyors (shown m ns nt sv st rankS rankT tied quotaS quotaT)) (law .atS) v);
+      λ v. subst (λ xs. Lists (surveyors (shown m ns nt sv st rankS rankT sh tied quotaS quotaT)) xs v) (sym qs)
+      (ranked-lists (surveyors (shown m ns nt sv st rankS rankT sh tied quotaS quotaT)) (law .atS) v);
   byT =
-      λ v. subst (λ xs. Lists (stands (shown m ns nt sv st rankS rankT tied quotaS quotaT)) xs v) (sym qt)
-      (ranked-lists (stands (shown m ns nt sv st rankS rankT tied quotaS quotaT)) (law .atT) v);
+      λ v. subst (λ xs. Lists (stands (shown m ns nt sv st rankS rankT sh tied quotaS quotaT)) xs v) (sym qt)
+      (ranked-lists (stands (shown m ns nt sv st rankS rankT sh tied quotaS quotaT)) (law .atT) v);
   size = size;
   fitS = fitS;
   fitT = fitT;

@@ -61,5 +61,5 @@ reduced G rem fixed kS kT t h e = let q = sym e ∙ whole G in record {
 
 -- the same of every lawful instance that the arrays show
 abbrev pub ReducedFrom : (m : ℕ) (sv st rankS rankT : List ℕ) (tied : List Bool) (quotaS quotaT : List ℕ) (rem fixed : List Bool) (t : Trace) → Type 0
-ReducedFrom m sv st rankS rankT tied quotaS quotaT rem fixed t = (ns nt : ℕ) → Lawful (shown m ns nt sv st rankS rankT tied quotaS quotaT)
-    → Reduced (shown m ns nt sv st rankS rankT tied quotaS quotaT) rem fixed t
+ReducedFrom m sv st rankS rankT tied quotaS quotaT rem fixed t = (ns nt : ℕ) (sh : List ℕ) → Lawful (shown m ns nt sv st rankS rankT sh tied quotaS quotaT)
+    → Reduced (shown m ns nt sv st rankS rankT sh tied quotaS quotaT) rem fixed t

@@ -18,22 +18,23 @@ use Rattle.reduction_counts.specs.Filled.{blank}
 use Rattle.reduction_counts.specs.Mark.{marked}
 use Rattle.reduction_counts.specs.Ranks.{Lists, pass}
 
--- the edges' ends and ties and the quotas, with the ranks, which the code of a step does not look at: together a lawful instance, of which
+-- the edges' ends and ties and the quotas, with the ranks and shifts, which the code of a step does not look at: together a lawful instance, of which
 -- os and ot have every node's edges by rank
 pub record Known (m : ℕ) (sv st : List ℕ) (tied : List Bool) (quotaS quotaT os ot : List ℕ) : Type 0 where
   pub ns : ℕ
   pub nt : ℕ
   pub rankS : List ℕ
   pub rankT : List ℕ
-  pub law : Lawful (shown m ns nt sv st rankS rankT tied quotaS quotaT)
-  pub byS : (v : ℕ) → Lists (surveyors (shown m ns nt sv st rankS rankT tied quotaS quotaT)) os v
-  pub byT : (v : ℕ) → Lists (stands (shown m ns nt sv st rankS rankT tied quotaS quotaT)) ot v
+  pub sh : List ℕ
+  pub law : Lawful (shown m ns nt sv st rankS rankT sh tied quotaS quotaT)
+  pub byS : (v : ℕ) → Lists (surveyors (shown m ns nt sv st rankS rankT sh tied quotaS quotaT)) os v
+  pub byT : (v : ℕ) → Lists (stands (shown m ns nt sv st rankS rankT sh tied quotaS quotaT)) ot v
   pub size : m ≤ entryLimit
   pub fitS : Low m sv nodeLimit
   pub fitT : Low m st nodeLimit
 
 abbrev pub instanceOf : {m : ℕ} {sv st : List ℕ} {tied : List Bool} {quotaS quotaT os ot : List ℕ} → Known m sv st tied quotaS quotaT os ot → Instance
-instanceOf {m} {sv} {st} {tied} {quotaS} {quotaT} K = shown m (K .ns) (K .nt) sv st (K .rankS) (K .rankT) tied quotaS quotaT
+instanceOf {m} {sv} {st} {tied} {quotaS} {quotaT} K = shown m (K .ns) (K .nt) sv st (K .rankS) (K .rankT) (K .sh) tied quotaS quotaT
 
 -- the state whose quotas are kS, kT
 abbrev pub stateOf : (rem fixed : List Bool) (kS kT : ℕ → ℕ) → State

@@ -50,7 +50,7 @@ map-map f g (x ∷ xs) = ap (λ ys. f (g x) ∷ ys) (map-map f g xs)
 module _ (m : ℕ) (sv st rs rt : List ℕ) (x y : ℕ) where
   -- ---- the tests and prices of the search, which the ends and ranks decide
   abbrev pub apart : Way × Way → Bool
-  apart = apart? (shown m 0 0 sv st rs rt [] [] []) x y
+  apart = apart? (shown m 0 0 sv st rs rt [] [] [] []) x y
 
   abbrev pub bid : Way × Way → ℕ × (Way × Way)
   bid p = (endPrice (at rs) x (p .0) + endPrice (at rt) y (p .1), p)
@@ -136,19 +136,19 @@ module _ (m : ℕ) (sv st rs rt : List ℕ) (x y : ℕ) where
       unfoldable pub terminalBy : ℕ × (Way × Way)
       terminalBy = best bid (6, (lose, lose)) (keep apart (product (lose ∷ gainings starts) (lose ∷ gainings stops)))
 
-      pub terminal-by : (ns nt : ℕ) (tied : List Bool) (quotaS quotaT : List ℕ)
-          → ((f : ℕ) → f < m → flag roomS (at sv f) ≡ room? (flag plan) (surveyors (shown m ns nt sv st rs rt tied quotaS quotaT)) f)
-          → ((f : ℕ) → f < m → flag roomT (at st f) ≡ room? (flag plan) (stands (shown m ns nt sv st rs rt tied quotaS quotaT)) f)
-          → terminal (shown m ns nt sv st rs rt tied quotaS quotaT) (flag plan) x y ≡ terminalBy
+      pub terminal-by : (ns nt : ℕ) (sh : List ℕ) (tied : List Bool) (quotaS quotaT : List ℕ)
+          → ((f : ℕ) → f < m → flag roomS (at sv f) ≡ room? (flag plan) (surveyors (shown m ns nt sv st rs rt sh tied quotaS quotaT)) f)
+          → ((f : ℕ) → f < m → flag roomT (at st f) ≡ room? (flag plan) (stands (shown m ns nt sv st rs rt sh tied quotaS quotaT)) f)
+          → terminal (shown m ns nt sv st rs rt sh tied quotaS quotaT) (flag plan) x y ≡ terminalBy
       unfolding terminal terminalBy
-      terminal-by ns nt tied quotaS quotaT hS hT = ap₂ (λ is bs. best bid (6, (lose, lose)) (keep apart (product (lose ∷ map gain is) (lose ∷ map gain bs))))
+      terminal-by ns nt sh tied quotaS quotaT hS hT = ap₂ (λ is bs. best bid (6, (lose, lose)) (keep apart (product (lose ∷ map gain is) (lose ∷ map gain bs))))
           (keep-cong (λ f. not (flag plan f) && joins? (flag plan) (surveyors G) (stands G) x f) starts (range 0 m)
           (λ f k. let (u, w) = ∈-range m 0 k in ap (λ r. not (flag plan f) && (eqb (at sv f) (at sv x) && r)) (sym (hT f (omega arith)))))
           (keep-cong (λ f. not (flag plan f) && joins? (flag plan) (stands G) (surveyors G) y f) stops (range 0 m)
           (λ f k. let (u, w) = ∈-range m 0 k in ap (λ r. not (flag plan f) && (eqb (at st f) (at st y) && r)) (sym (hS f (omega arith)))))
         where
           G : Instance
-          G = shown m ns nt sv st rs rt tied quotaS quotaT
+          G = shown m ns nt sv st rs rt sh tied quotaS quotaT
 
       -- ---- all starts: the start lost first, then the edges gained; while those from f on are still to come
       unfoldable pub terminalRest : ℕ × (Way × Way) → ℕ → ℕ × (Way × Way)

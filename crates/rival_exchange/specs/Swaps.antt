@@ -121,9 +121,9 @@ module _ (m : ℕ) (sv st rs rt : List ℕ) (plan roomS roomT : List Bool) (es a
   rivalAt f e = (flag plan e && not (listed e (goneBy f))) || listed e (comeBy f)
 
   -- ---- they are the search's
-  module _ (ns nt : ℕ) (tied : List Bool) (quotaS quotaT : List ℕ) where
+  module _ (ns nt : ℕ) (sh : List ℕ) (tied : List Bool) (quotaS quotaT : List ℕ) where
     abbrev G : Instance
-    G = shown m ns nt sv st rs rt tied quotaS quotaT
+    G = shown m ns nt sv st rs rt sh tied quotaS quotaT
 
     abbrev M : ℕ → Bool
     M = flag plan
@@ -137,7 +137,7 @@ module _ (m : ℕ) (sv st rs rt : List ℕ) (plan roomS roomT : List Bool) (es a
       walk-is l i j il jl = sym (trace-is G M es n lists arcs terminals arcsShow terminalsShow l i j il jl)
 
       ways-are : (x y : ℕ) → waysBy x y ≡ terminal G M x y .1
-      ways-are x y = sym (ap (λ t. t .1) (terminal-by m sv st rs rt x y plan roomS roomT ns nt tied quotaS quotaT roomsS roomsT))
+      ways-are x y = sym (ap (λ t. t .1) (terminal-by m sv st rs rt x y plan roomS roomT ns nt sh tied quotaS quotaT roomsS roomsT))
 
       abbrev elsewhere : Option Hit → ℕ → Bool
       elsewhere o = Option·elim o M (rivalBy M)

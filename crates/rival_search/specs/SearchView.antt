@@ -89,12 +89,12 @@ unfolding gainPrice
 gain-small m end other rank plan room e b = cheapest-≤ (gainable end other plan room e) (λ f. rate b (at rank f)) 6 0 m
 
 -- ---- the tables show the instance's prices
-module _ (m ns nt : ℕ) (sv st rs rt : List ℕ) (tied : List Bool) (quotaS quotaT : List ℕ) (plan : List Bool) (n : ℕ) (es ps pt rps rpt : List ℕ)
+module _ (m ns nt : ℕ) (sv st rs rt sh : List ℕ) (tied : List Bool) (quotaS quotaT : List ℕ) (plan : List Bool) (n : ℕ) (es ps pt rps rpt : List ℕ)
     (roomS roomT : List Bool)
     (lowS : Low m sv 32) (lowT : Low m st 32) (lists : Lists m plan n es) (views : Views n es sv st rs rt ps pt rps rpt)
     (roomyS : Roomy n ps quotaS roomS) (roomyT : Roomy n pt quotaT roomT) where
   abbrev G : Instance
-  G = shown m ns nt sv st rs rt tied quotaS quotaT
+  G = shown m ns nt sv st rs rt sh tied quotaS quotaT
 
   abbrev M : ℕ → Bool
   M = flag plan

@@ -29,8 +29,8 @@ use Rattle.rival_verdict.specs.Judged.{isSomething, verdictFor, verdict-
 use Rattle.rival_exchange.specs.Swaps.{Marks, goneBy, comeBy, rivalAt, rival-at, shows-plan}
 
 pub record RivalShown (m : ℕ) (sv st rs rt quotaS quotaT : List ℕ) (plan : List Bool) (v : Verdict) (rival : List Bool) : Type 0 where
-  pub verdict : (ns nt : ℕ) (tied : List Bool) → v ≡ computedVerdict (shown m ns nt sv st rs rt tied quotaS quotaT) plan
-  pub flags : (ns nt : ℕ) (tied : List Bool) (e : ℕ) → flag rival e ≡ on (rivalOf (shown m ns nt sv st rs rt tied quotaS quotaT) plan) e
+  pub verdict : (ns nt : ℕ) (sh : List ℕ) (tied : List Bool) → v ≡ computedVerdict (shown m ns nt sv st rs rt sh tied quotaS quotaT) plan
+  pub flags : (ns nt : ℕ) (sh : List ℕ) (tied : List Bool) (e : ℕ) → flag rival e ≡ on (rivalOf (shown m ns nt sv st rs rt sh tied quotaS quotaT) plan) e
 
 -- the same for all quotas that leave this room at the nodes
 abbrev pub ShownFor : (m : ℕ) (sv st rs rt : List ℕ) (plan : List Bool) (n : ℕ) (ps pt : List ℕ) (roomS roomT : List Bool) → Verdict → List Bool → Type 0
@@ -48,14 +48,14 @@ module _ (G : Instance) (M N : Plan) (same : (e : ℕ) → on M e ≡ on N e) wh
   rival-on = ap (λ (p : ℕ → Bool). planOf (G .m) (rivalEdges G p lid (length (edgesIn (G .m) p)))) (fun-ext same)
 
 -- ---- for a plan of the model that the array shows
-module _ (m ns nt : ℕ) (sv st rs rt : List ℕ) (tied : List Bool) (quotaS quotaT : List ℕ) (plan : List Bool) (v : Verdict) (rival : List Bool)
-    (R : RivalShown m sv st rs rt quotaS quotaT plan v rival) (G : Instance) (is : shown m ns nt sv st rs rt tied quotaS quotaT ≡ G)
+module _ (m ns nt : ℕ) (sv st rs rt sh : List ℕ) (tied : List Bool) (quotaS quotaT : List ℕ) (plan : List Bool) (v : Verdict) (rival : List Bool)
+    (R : RivalShown m sv st rs rt quotaS quotaT plan v rival) (G : Instance) (is : shown m ns nt sv st rs rt sh tied quotaS quotaT ≡ G)
     (M : Plan) (same : (e : ℕ) → flag plan e ≡ on M e) where
   pub shown-verdict : Lawful G → M ∈ plansOf G → sizeOf G M ≤ planLimit → v ≡ verdictOf G M
-  shown-verdict law ok few = R .verdict ns nt tied ∙ ap (λ G. computedVerdict G plan) is ∙ verdict-on G plan M same ∙ computed-verdict G M law ok few
+  shown-verdict law ok few = R .verdict ns nt sh tied ∙ ap (λ G. computedVerdict G plan) is ∙ verdict-on G plan M same ∙ computed-verdict G M law ok few
 
   pub shown-rival : (e : ℕ) → flag rival e ≡ on (rivalOf G M) e
-  shown-rival e = R .flags ns nt tied e ∙ ap (λ G. on (rivalOf G plan) e) is ∙ ap (λ N. on N e) (rival-on G plan M same)
+  shown-rival e = R .flags ns nt sh tied e ∙ ap (λ G. on (rivalOf G plan) e) is ∙ ap (λ N. on N e) (rival-on G plan M same)
 
 -- ---- what the code finds shows the verdict and the rival
 module _ (m : ℕ) (sv st rs rt quotaS quotaT : List ℕ) (plan : List Bool) (n : ℕ) (es ps pt qs qt : List ℕ) (roomS roomT : List Bool) (arcs : List ℕ)
@@ -73,14 +73,14 @@ module _ (m : ℕ) (sv st rs rt quotaS quotaT : List ℕ) (plan : List Bool) (n 
   shows-arcs : Grid arcs n (arcCell m sv st rs rt plan ps pt qs qt)
   shows-arcs i j il jl = table i j il (omega arith)
 
-  module _ (ns nt : ℕ) (tied : List Bool) where
+  module _ (ns nt : ℕ) (sh : List ℕ) (tied : List Bool) where
     abbrev H : Instance
-    H = shown m ns nt sv st rs rt tied quotaS quotaT
+    H = shown m ns nt sv st rs rt sh tied quotaS quotaT
 
     hit : (k : ℕ) → k ≤ 1 → hitOf H (flag plan) es (finds k) ≡ search H (flag plan) 133 k n
     unfolding finds terminals
     hit k h =
-        search-shown m ns nt sv st rs rt tied quotaS quotaT plan n es ps pt qs qt roomS roomT lowS lowT lists views roomyS roomyT arcs terminals k
+        search-shown m ns nt sv st rs rt sh tied quotaS quotaT plan n es ps pt qs qt roomS roomT lowS lowT lists views roomyS roomyT arcs terminals k
         shows-arcs (searching .1) (omega arith)
 
     size : length (edgesIn m (flag plan)) ≡ n
@@ -109,13 +109,13 @@ module _ (m : ℕ) (sv st rs rt quotaS quotaT : List ℕ) (plan : List Bool) (n 
         ∙ ap (λ N. on N e)
         (planOf-cong m (rivalAt m sv st rs rt plan roomS roomT es arcs n what)
         (Option·elim (hitOf H (flag plan) es what) (flag plan) (rivalBy (flag plan))) (λ d h.
-        rival-at m sv st rs rt plan roomS roomT es arcs n ns nt tied quotaS quotaT lists terminals
+        rival-at m sv st rs rt plan roomS roomT es arcs n ns nt sh tied quotaS quotaT lists terminals
         (λ i j il jl. shows-arcs i j il jl
-        ∙ arc-shown m ns nt sv st rs rt tied quotaS quotaT plan n es ps pt qs qt roomS roomT lowS lowT lists views roomyS roomyT i j il jl)
+        ∙ arc-shown m ns nt sv st rs rt sh tied quotaS quotaT plan n es ps pt qs qt roomS roomT lowS lowT lists views roomyS roomyT i j il jl)
         (λ i j il jl. searching .1 i j il jl
-        ∙ terminal-shown m ns nt sv st rs rt tied quotaS quotaT plan n es ps pt qs qt roomS roomT lowS lowT lists views roomyS roomyT i j il jl)
-        (room-S m ns nt sv st rs rt tied quotaS quotaT plan n es ps pt qs qt roomS roomT lowS lowT lists views roomyS roomyT)
-        (room-T m ns nt sv st rs rt tied quotaS quotaT plan n es ps pt qs qt roomS roomT lowS lowT lists views roomyS roomyT)
+        ∙ terminal-shown m ns nt sv st rs rt sh tied quotaS quotaT plan n es ps pt qs qt roomS roomT lowS lowT lists views roomyS roomyT i j il jl)
+        (room-S m ns nt sv st rs rt sh tied quotaS quotaT plan n es ps pt qs qt roomS roomT lowS lowT lists views roomyS roomyT)
+        (room-T m ns nt sv st rs rt sh tied quotaS quotaT plan n es ps pt qs qt roomS roomT lowS lowT lists views roomyS roomyT)
         what (searching-bounded m sv st rs rt plan n ps pt qs qt roomS roomT arcs below what searching) d))
         ∙ ap (λ (o : Option Hit). on (planOf m (Option·elim o (flag plan) (rivalBy (flag plan)))) e) found-hit
         ∙ ap
@@ -126,6 +126,6 @@ module _ (m : ℕ) (sv st rs rt quotaS quotaT : List ℕ) (plan : List Bool) (n 
       → Marks gone (goneBy m sv st rs rt plan roomS roomT es arcs n what) → Marks come (comeBy m sv st rs rt plan roomS roomT es arcs n what)
       → Shows false rival m (λ e. (flag plan e && not (flag gone e)) || flag come e) → RivalShown m sv st rs rt quotaS quotaT plan v rival
   found-shown v gone come rival e g c s = record {
-    verdict = λ ns nt tied. e ∙ found-verdict ns nt tied;
-    flags = λ ns nt tied. found-rival ns nt tied rival (λ d. s d ∙ ap₂ (λ (x y : Bool). cond (ltb d m) ((flag plan d && not x) || y) false) (g d) (c d));
+    verdict = λ ns nt sh tied. e ∙ found-verdict ns nt sh tied;
+    flags = λ ns nt sh tied. found-rival ns nt sh tied rival (λ d. s d ∙ ap₂ (λ (x y : Bool). cond (ltb d m) ((flag plan d && not x) || y) false) (g d) (c d));
   }

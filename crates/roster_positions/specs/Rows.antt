@@ -1,49 +1,65 @@
--- What the tables hold, number by number: the position of each entry of each list, 0 where a number is not listed; and what the
--- loops over a file's bytes write, by the lists that the bytes are.
-use Prim.Native.Nat.{ℕ, zero, suc, _+_, _*_, _%_, _≤_, _<_}
+-- What the tables hold, entry by entry: the position of each entry of each list, 0 where it is not listed; and what the loops over a
+-- file's bytes write, by the lists that the bytes are.
+use Prim.Native.Nat.{ℕ, zero, suc, _+_, _*_, _/_, _%_, _≤_, _<_}
 use native.Mathlib.Omega.{arith}
 use native.Mathlib.Nat.{add-zero}
-use mathlib.Core.Path.{_≡_, refl, sym, ap, ap₂, _∙_}
+use mathlib.Core.Path.{_≡_, refl, sym, ap, ap₂, _∙_, subst}
 use mathlib.Core.Logic.{_≢_}
-use mathlib.Core.Bool.{cond, _||_}
+use mathlib.Core.Bool.{true, false, cond, _||_}
 use mathlib.Core.List.{List, [], _∷_, _++_, map, append-assoc}
 use lib.ListN.{length, take, drop, getD, set, length-set}
 use lib.Seq.{getD-set-same, getD-set-other}
-use Rattle.lists.specs.Test.{given, by-eq}
+use lib.Dec.{T-not}
+use Rattle.lists.specs.Test.{given, by-bool, true-T, false-T}
 use Rattle.lists.specs.Keep.{gather, All}
-use Rattle.model.specs.Roster.{Ranking, entries, elem}
-use Rattle.model.specs.RosterFile.{listBytes, rankingBytes}
+use Rattle.lists.specs.Ranges.{gather-append}
+use Rattle.model.specs.Limits.{entryWidth}
+use Rattle.model.specs.Roster.{Entry, Ranking, entries, same, has}
+use Rattle.model.specs.RosterFile.{shifted, entriesBytes, rankingBytes}
 use Rattle.model.specs.Edges.{position}
+use Rattle.theory_files.specs.Position.{same→eq, eq→same}
 use Rattle.theory_files.specs.Cells.{Within}
 use Rattle.theory_files.specs.Offsets.{head-is, tail-is, part-is, rest-is}
-use Rattle.roster_positions.specs.Tables.{column, stamped, listsStamped, listsEnd, strictStamped, nextRanks, rankingAt, behind}
+use Rattle.roster_positions.specs.Tables.{rowWidth, column, entryOf, entriesIn, entriesAt, stamped, listsStamped, listsEnd, strictStamped, nextRanks}
+use Rattle.roster_positions.specs.Tables.{rankingAt, behind, behindList}
 
 -- ---- one list
-pub stamped-length : (row : ℕ) (xs : List ℕ) (k : ℕ) (t : List ℕ) → length (stamped row xs k t) ≡ length t
+pub stamped-length : (row : ℕ) (xs : List Entry) (k : ℕ) (t : List ℕ) → length (stamped row xs k t) ≡ length t
 unfolding stamped
 stamped-length row [] k t = refl
 stamped-length row (x ∷ xs) k t = length-set (stamped row xs (suc k) t) (row + column x) k ∙ stamped-length row xs (suc k) t
 
-column-is : (j : ℕ) → j < 32 → column (suc j) ≡ j
-column-is j h = omega arith
+column-is : (c : ℕ) → c < rowWidth → column (entryOf c) ≡ c
+column-is c h = omega arith
 
-column-not : (x j : ℕ) → 0 < x → x ≤ 32 → j < 32 → suc j ≢ x → (row : ℕ) → row + j ≢ row + column x
-column-not x j a b h n row q = n (omega arith)
+-- a place belongs to one entry
+entry-is : (x : Entry) → 1 ≤ x .number → x .number ≤ 32 → 1 ≤ x .shift → x .shift ≤ 3 → entryOf (column x) ≡ x
+entry-is x a b c d =
+    let n : suc (column x / 3) ≡ x .number = omega arith in
+    let k : suc (column x % 3) ≡ x .shift = omega arith in
+    λ i. record { number = n i; shift = k i }
+
+column-not : (x : Entry) (c : ℕ) → entryOf (column x) ≡ x → entryOf c ≢ x → (row : ℕ) → row + c ≢ row + column x
+column-not x c e n row q = let d : c ≡ column x = omega (arith, q) in n (ap entryOf d ∙ e)
 
 -- the positions counted from k + 1
-pub stamped-at : (row : ℕ) (xs : List ℕ) (k : ℕ) (t : List ℕ) (j : ℕ) → row + 31 < length t → j < 32 → Within 32 xs
-    → getD (stamped row xs (suc k) t) (row + j) 0 ≡ cond (elem (suc j) xs) (k + position (suc j) xs) (getD t (row + j) 0)
+pub stamped-at : (row : ℕ) (xs : List Entry) (k : ℕ) (t : List ℕ) (c : ℕ) → row + 95 < length t → c < rowWidth → Within 32 xs
+    → getD (stamped row xs (suc k) t) (row + c) 0 ≡ cond (has (entryOf c) xs) (k + position (entryOf c) xs) (getD t (row + c) 0)
 unfolding stamped position
-stamped-at row [] k t j l h w = refl
-stamped-at row (x ∷ xs) k t j l h w = by-eq (suc j) x
-    (λ q b. ap (λ z. getD (set s z (suc k)) (row + j) 0) (ap (λ z. row + column z) (sym q) ∙ ap (λ z. row + z) (column-is j h))
-    ∙ getD-set-same s (row + j) (suc k) 0 (omega (arith, stamped-length row xs (suc (suc k)) t))
-    ∙ one k ∙ ap (λ z. cond (z || elem (suc j) xs) (k + cond z 1 (suc (position (suc j) xs))) (getD t (row + j) 0)) (sym b))
-    (λ q b. getD-set-other s (row + column x) (row + j) (suc k) 0 (column-not x j (w .0 .0) (w .0 .1) h q row)
-    ∙ stamped-at row xs (suc k) t j l h (w .1)
-    ∙ ap (λ z. cond (elem (suc j) xs) z (getD t (row + j) 0)) (move k (position (suc j) xs))
-    ∙ ap (λ z. cond (z || elem (suc j) xs) (k + cond z 1 (suc (position (suc j) xs))) (getD t (row + j) 0)) (sym b))
+stamped-at row [] k t c l h w = refl
+stamped-at row (x ∷ xs) k t c l h w = by-bool (same y x)
+    (λ b. ap (λ z. getD (set s (row + z) (suc k)) (row + c) 0) (ap column (sym (same→eq y x (true-T b))) ∙ column-is c h)
+    ∙ getD-set-same s (row + c) (suc k) 0 (omega (arith, stamped-length row xs (suc (suc k)) t))
+    ∙ one k ∙ ap (λ z. cond (z || has y xs) (k + cond z 1 (suc (position y xs))) (getD t (row + c) 0)) (sym b))
+    (λ b. getD-set-other s (row + column x) (row + c) (suc k) 0
+    (column-not x c (entry-is x (w .0 .0) (w .0 .1) (w .0 .2) (w .0 .3)) (λ q. T-not (same y x) (false-T b) (eq→same y x q)) row)
+    ∙ stamped-at row xs (suc k) t c l h (w .1)
+    ∙ ap (λ z. cond (has y xs) z (getD t (row + c) 0)) (move k (position y xs))
+    ∙ ap (λ z. cond (z || has y xs) (k + cond z 1 (suc (position y xs))) (getD t (row + c) 0)) (sym b))
   where
+    y : Entry
+    y = entryOf c
+
     s : List ℕ
     s = stamped row xs (suc (suc k)) t
 
@@ -54,70 +70,99 @@ stamped-at row (x ∷ xs) k t j l h w = by-eq (suc j) x
     move k p = omega arith
 
 -- other rows keep their numbers
-pub stamped-else : (row : ℕ) (xs : List ℕ) (k : ℕ) (t : List ℕ) (c : ℕ) → ((y : ℕ) → y < 32 → c ≢ row + y) → getD (stamped row xs k t) c 0 ≡ getD t c 0
+pub stamped-else : (row : ℕ) (xs : List Entry) (k : ℕ) (t : List ℕ) (c : ℕ) → ((y : ℕ) → y < rowWidth → c ≢ row + y)
+    → getD (stamped row xs k t) c 0 ≡ getD t c 0
 unfolding stamped
 stamped-else row [] k t c h = refl
 stamped-else row (x ∷ xs) k t c h =
     getD-set-other (stamped row xs (suc k) t) (row + column x) c k 0 (h (column x) (omega arith)) ∙ stamped-else row xs (suc k) t c h
 
 -- ---- list after list, row after row
-unfoldable pub allStamped : ℕ → List (List ℕ) → List ℕ → List ℕ
+unfoldable pub allStamped : ℕ → List (List Entry) → List ℕ → List ℕ
 allStamped row [] t = t
-allStamped row (xs ∷ ls) t = allStamped (row + 32) ls (stamped row xs 1 t)
+allStamped row (xs ∷ ls) t = allStamped (row + rowWidth) ls (stamped row xs 1 t)
 
-abbrev pub positionIn : List ℕ → ℕ → ℕ
-positionIn xs j = cond (elem (suc j) xs) (position (suc j) xs) 0
+abbrev pub positionIn : List Entry → Entry → ℕ
+positionIn xs y = cond (has y xs) (position y xs) 0
 
-before-rows : (ls : List (List ℕ)) (row : ℕ) (t : List ℕ) (c : ℕ) → c < row → getD (allStamped row ls t) c 0 ≡ getD t c 0
+before-rows : (ls : List (List Entry)) (row : ℕ) (t : List ℕ) (c : ℕ) → c < row → getD (allStamped row ls t) c 0 ≡ getD t c 0
 unfolding allStamped
 before-rows [] row t c h = refl
 before-rows (xs ∷ ls) row t c h =
-    before-rows ls (row + 32) (stamped row xs 1 t) c (omega arith) ∙ stamped-else row xs 1 t c (λ y l. λ (q : c ≡ row + y). omega arith)
+    before-rows ls (row + rowWidth) (stamped row xs 1 t) c (omega arith) ∙ stamped-else row xs 1 t c (λ y l. λ (q : c ≡ row + y). omega arith)
 
-pub all-at : (ls : List (List ℕ)) (row : ℕ) (t : List ℕ) → row + length ls * 32 ≤ length t → All (Within 32) ls → ((c : ℕ) → row ≤ c → getD t c 0 ≡ 0)
-    → (i j : ℕ) → j < 32 → getD (allStamped row ls t) (row + i * 32 + j) 0 ≡ positionIn (getD ls i []) j
+pub all-at : (ls : List (List Entry)) (row : ℕ) (t : List ℕ) → row + length ls * rowWidth ≤ length t → All (Within 32) ls
+    → ((c : ℕ) → row ≤ c → getD t c 0 ≡ 0)
+    → (i c : ℕ) → c < rowWidth → getD (allStamped row ls t) (row + i * rowWidth + c) 0 ≡ positionIn (getD ls i []) (entryOf c)
 unfolding allStamped
-all-at [] row t l w z i j h = z (row + i * 32 + j) (omega arith)
-all-at (xs ∷ ls) row t l w z zero j h =
-    ap (λ c. getD (allStamped (row + 32) ls (stamped row xs 1 t)) c 0) (here row j)
-    ∙ before-rows ls (row + 32) (stamped row xs 1 t) (row + j) (omega arith)
-    ∙ stamped-at row xs 0 t j (omega arith) h (w .0)
-    ∙ ap₂ (λ a b. cond (elem (suc j) xs) a b) (none (position (suc j) xs)) (z (row + j) (omega arith))
+all-at [] row t l w z i c h = z (row + i * rowWidth + c) (omega arith)
+all-at (xs ∷ ls) row t l w z zero c h =
+    ap (λ d. getD (allStamped (row + rowWidth) ls (stamped row xs 1 t)) d 0) (here row c)
+    ∙ before-rows ls (row + rowWidth) (stamped row xs 1 t) (row + c) (omega arith)
+    ∙ stamped-at row xs 0 t c (omega arith) h (w .0)
+    ∙ ap₂ (λ a b. cond (has (entryOf c) xs) a b) (none (position (entryOf c) xs)) (z (row + c) (omega arith))
   where
-    here : (row j : ℕ) → row + 0 * 32 + j ≡ row + j
-    here row j = omega arith
+    here : (row c : ℕ) → row + 0 * rowWidth + c ≡ row + c
+    here row c = omega arith
 
     none : (p : ℕ) → 0 + p ≡ p
     none p = omega arith
-all-at (xs ∷ ls) row t l w z (suc i) j h =
-    ap (λ c. getD (allStamped (row + 32) ls (stamped row xs 1 t)) c 0) (down row i j)
-    ∙ all-at ls (row + 32) (stamped row xs 1 t) (omega (arith, stamped-length row xs 1 t)) (w .1)
-    (λ c k. stamped-else row xs 1 t c (λ y m. λ (q : c ≡ row + y). omega arith) ∙ z c (omega arith)) i j h
+all-at (xs ∷ ls) row t l w z (suc i) c h =
+    ap (λ d. getD (allStamped (row + rowWidth) ls (stamped row xs 1 t)) d 0) (down row i c)
+    ∙ all-at ls (row + rowWidth) (stamped row xs 1 t) (omega (arith, stamped-length row xs 1 t)) (w .1)
+    (λ d k. stamped-else row xs 1 t d (λ y m. λ (q : d ≡ row + y). omega arith) ∙ z d (omega arith)) i c h
   where
-    down : (row i j : ℕ) → row + suc i * 32 + j ≡ row + 32 + i * 32 + j
-    down row i j = omega arith
+    down : (row i c : ℕ) → row + suc i * rowWidth + c ≡ row + rowWidth + i * rowWidth + c
+    down row i c = omega arith
 
--- ---- from the bytes
-pub lists-are : (ls : List (List ℕ)) (f : List ℕ) (at : ℕ) (post : List ℕ) → drop at f ≡ gather listBytes ls ++ post → (row : ℕ) (t : List ℕ)
+-- ---- from the bytes: the entries of a part
+abbrev pub bytesOf : List Entry → List ℕ
+bytesOf xs = gather (shifted .bytes) xs
+
+pub bytes-length : (xs : List Entry) → length (bytesOf xs) ≡ entryWidth * length xs
+bytes-length [] = refl
+bytes-length (x ∷ xs) = omega (arith, bytes-length xs)
+
+pub entries-are : (xs : List Entry) → entriesIn (bytesOf xs) ≡ xs
+unfolding entriesIn
+entries-are [] = refl
+entries-are (x ∷ xs) = ap (λ z. x ∷ z) (entries-are xs)
+
+-- n entries at a place, and what follows them
+module _ (f : List ℕ) (at n : ℕ) (xs : List Entry) (more : List ℕ) (e : drop at f ≡ bytesOf xs ++ more) (l : n ≡ length xs) where
+  size : length (bytesOf xs) ≡ entryWidth * n
+  size = bytes-length xs ∙ ap (λ k. entryWidth * k) (sym l)
+
+  pub entries-part : entriesAt f at n ≡ xs
+  entries-part = ap entriesIn (part-is f at (entryWidth * n) (bytesOf xs) more e size) ∙ entries-are xs
+
+  pub entries-rest : drop (at + entryWidth * n) f ≡ more
+  entries-rest = rest-is f at (entryWidth * n) (bytesOf xs) more e size
+
+-- ---- the surveyors' lists
+pub lists-are : (ls : List (List Entry)) (f : List ℕ) (at : ℕ) (post : List ℕ) → drop at f ≡ gather (entriesBytes shifted) ls ++ post
+    → (row : ℕ) (t : List ℕ)
     → (listsStamped f (length ls) row at t ≡ allStamped row ls t) × (drop (listsEnd f (length ls) at) f ≡ post)
 unfolding listsStamped listsEnd allStamped
 lists-are [] f at post e row t = (refl, e)
 lists-are (xs ∷ ls) f at post e row t =
-    given (head-is f at (length xs) ((xs ++ gather listBytes ls) ++ post) e) (λ h.
-    given (tail-is f at (length xs) ((xs ++ gather listBytes ls) ++ post) e ∙ append-assoc xs (gather listBytes ls) post) (λ d.
+    let rest = gather (entriesBytes shifted) ls in
+    given (head-is f at (length xs) ((bytesOf xs ++ rest) ++ post) e) (λ h.
+    given (tail-is f at (length xs) ((bytesOf xs ++ rest) ++ post) e ∙ append-assoc (bytesOf xs) rest post) (λ d.
+    given (
+      entries-part f (at + 1) (getD f at 0) xs (rest ++ post) d h,
+      entries-rest f (at + 1) (getD f at 0) xs (rest ++ post) d h,
+    ) (λ (x, y).
     given
-    (part-is f (at + 1) (length xs) xs (gather listBytes ls ++ post) d refl, rest-is f (at + 1) (length xs) xs (gather listBytes ls ++ post) d refl)
-    (λ (x, y).
-    given
-    (lists-are ls f (at + (getD f at 0 + 1)) post (ap (λ k. drop k f) (move at (getD f at 0) (length xs) h) ∙ y) (row + 32)
-    (stamped row (take (getD f at 0) (drop (at + 1) f)) 1 t))
-    (λ (u, v).
-    (u ∙ ap (λ z. allStamped (row + 32) ls (stamped row z 1 t)) (ap (λ k. take k (drop (at + 1) f)) h ∙ x), v)))))
+    (lists-are ls f (behindList f at) post (ap (λ k. drop k f) (move at (getD f at 0)) ∙ y) (row + rowWidth)
+    (stamped row (entriesAt f (at + 1) (getD f at 0)) 1 t))
+    (λ (u, v). (u ∙ ap (λ z. allStamped (row + rowWidth) ls (stamped row z 1 t)) x, v)))))
   where
-    move : (at b n : ℕ) → b ≡ n → at + (b + 1) ≡ at + 1 + n
-    move at b n e = omega arith
+    move : (at b : ℕ) → at + (entryWidth * b + 1) ≡ at + 1 + entryWidth * b
+    move at b = omega arith
 
-abbrev pub strictLists : List Ranking → List (List ℕ)
+-- ---- the stands' lists
+abbrev pub strictLists : List Ranking → List (List Entry)
 strictLists ts = map (λ R. R .strict) ts
 
 -- the ranks behind the strict parts, written from place j on
@@ -126,43 +171,42 @@ nextAll j [] t = t
 nextAll j (R ∷ ts) t = nextAll (suc j) ts (set t j ((length (R .strict) + 1) % 256))
 
 -- a stand's list at its place, and what follows it
-pub ranking-is : (f : List ℕ) (at : ℕ) (R : Ranking) (more : List ℕ) → drop at f ≡ rankingBytes R ++ more
+pub ranking-is : (f : List ℕ) (at : ℕ) (R : Ranking) (more : List ℕ) → drop at f ≡ rankingBytes shifted R ++ more
     → (rankingAt f at ≡ R) × (drop (behind f at) f ≡ more)
 ranking-is f at R more e =
-    given (head-is f at (length (R .strict)) (length (R .tied) ∷ (entries R ++ more)) e) (λ h.
-    given (tail-is f at (length (R .strict)) (length (R .tied) ∷ (entries R ++ more)) e) (λ d.
-    given (head-is f (at + 1) (length (R .tied)) (entries R ++ more) d) (λ g.
-    given (ap (λ k. drop k f) (two at) ∙ tail-is f (at + 1) (length (R .tied)) (entries R ++ more) d ∙ append-assoc (R .strict) (R .tied) more) (λ d₂.
-    given (
-      part-is f (at + 2) (length (R .strict)) (R .strict) (R .tied ++ more) d₂ refl,
-      rest-is f (at + 2) (length (R .strict)) (R .strict) (R .tied ++ more) d₂ refl,
-    ) (λ (x, d₃).
-    given (
-      part-is f (at + 2 + length (R .strict)) (length (R .tied)) (R .tied) more d₃ refl,
-      rest-is f (at + 2 + length (R .strict)) (length (R .tied)) (R .tied) more d₃ refl,
-    ) (λ (y, d₄).
-    given (ap (λ k. take k (drop (at + 2) f)) h ∙ x) (λ p.
-    given (ap₂ (λ a b. take b (drop (at + 2 + a) f)) h g ∙ y) (λ q. (
+    let a = getD f at 0 in
+    let b = getD f (at + 1) 0 in
+    given (head-is f at (length (R .strict)) (length (R .tied) ∷ (bytesOf (entries R) ++ more)) e) (λ h.
+    given (tail-is f at (length (R .strict)) (length (R .tied) ∷ (bytesOf (entries R) ++ more)) e) (λ d.
+    given (head-is f (at + 1) (length (R .tied)) (bytesOf (entries R) ++ more) d) (λ g.
+    given (ap (λ k. drop k f) (two at) ∙ tail-is f (at + 1) (length (R .tied)) (bytesOf (entries R) ++ more) d
+    ∙ ap (λ z. z ++ more) (gather-append (shifted .bytes) (R .strict) (R .tied))
+    ∙ append-assoc (bytesOf (R .strict)) (bytesOf (R .tied)) more) (λ d₂.
+    given (entries-rest f (at + 2) a (R .strict) (bytesOf (R .tied) ++ more) d₂ h) (λ d₃.
+    given (entries-part f (at + 2) a (R .strict) (bytesOf (R .tied) ++ more) d₂ h) (λ p.
+    given (entries-part f (at + 2 + entryWidth * a) b (R .tied) more d₃ g) (λ q. (
       λ k. record { strict = p k; tied = q k },
-      ap (λ k. drop k f) (move at (getD f at 0) (getD f (at + 1) 0) (length (R .strict)) (length (R .tied)) h g) ∙ d₄,
-    )))))))))
+      ap (λ k. drop k f) (move at a b) ∙ entries-rest f (at + 2 + entryWidth * a) b (R .tied) more d₃ g,
+    ))))))))
   where
     two : (at : ℕ) → at + 2 ≡ at + 1 + 1
     two at = omega arith
 
-    move : (at a b m n : ℕ) → a ≡ m → b ≡ n → at + (a + b + 2) ≡ at + 2 + m + n
-    move at a b m n d e = omega arith
+    move : (at a b : ℕ) → at + (entryWidth * (a + b) + 2) ≡ at + 2 + entryWidth * a + entryWidth * b
+    move at a b = omega arith
 
-pub rankings-are : (ts : List Ranking) (f : List ℕ) (at : ℕ) (post : List ℕ) → drop at f ≡ gather rankingBytes ts ++ post → (row j : ℕ) (t u : List ℕ)
+pub rankings-are : (ts : List Ranking) (f : List ℕ) (at : ℕ) (post : List ℕ) → drop at f ≡ gather (rankingBytes shifted) ts ++ post
+    → (row j : ℕ) (t u : List ℕ)
     → (strictStamped f (length ts) row at t ≡ allStamped row (strictLists ts) t) × (nextRanks f (length ts) j at u ≡ nextAll j ts u)
 unfolding strictStamped nextRanks allStamped nextAll
 rankings-are [] f at post e row j t u = (refl, refl)
 rankings-are (R ∷ ts) f at post e row j t u =
-    given (head-is f at (length (R .strict)) (length (R .tied) ∷ ((entries R ++ gather rankingBytes ts) ++ post)) e) (λ h.
-    given (ranking-is f at R (gather rankingBytes ts ++ post) (e ∙ append-assoc (rankingBytes R) (gather rankingBytes ts) post)) (λ (p, d).
-    given (rankings-are ts f (behind f at) post d (row + 32) (suc j) (stamped row (rankingAt f at .strict) 1 t) (set u j ((getD f at 0 + 1) % 256)))
+    let rest = gather (rankingBytes shifted) ts in
+    given (head-is f at (length (R .strict)) (length (R .tied) ∷ ((bytesOf (entries R) ++ rest) ++ post)) e) (λ h.
+    given (ranking-is f at R (rest ++ post) (e ∙ append-assoc (rankingBytes shifted R) rest post)) (λ (p, d).
+    given (rankings-are ts f (behind f at) post d (row + rowWidth) (suc j) (stamped row (rankingAt f at .strict) 1 t) (set u j ((getD f at 0 + 1) % 256)))
     (λ (x, y). (
-      x ∙ ap (λ Q. allStamped (row + 32) (strictLists ts) (stamped row (Q .strict) 1 t)) p,
+      x ∙ ap (λ Q. allStamped (row + rowWidth) (strictLists ts) (stamped row (Q .strict) 1 t)) p,
       y ∙ ap (λ k. nextAll (suc j) ts (set u j ((k + 1) % 256))) h,
     ))))
 

@@ -1,41 +1,65 @@
--- Tables of positions: what the loops over a roster's lists write. A table has a row of 32 numbers for each list; the number 1 stands
--- at the row's first place.
-use Prim.Native.Nat.{ℕ, zero, suc, _+_, _%_}
+-- Tables of positions: what the loops over a roster's lists write. A table has a row of 96 numbers for each list, three of them for each
+-- number that an entry may have, one a shift; the number 1 in shift 1 stands at the row's first place.
+use Prim.Native.Nat.{ℕ, zero, suc, _+_, _*_, _/_, _%_}
 use mathlib.Core.List.{List, [], _∷_}
 use lib.ListN.{take, drop, getD, set}
-use Rattle.model.specs.Roster.{Ranking}
+use Rattle.model.specs.Limits.{entryWidth}
+use Rattle.model.specs.Roster.{Entry, Ranking}
 
--- the place of an entry in its row
-abbrev pub column : ℕ → ℕ
-column x = (x + 31) % 32
+abbrev pub rowWidth : ℕ
+rowWidth = 96
+
+-- the place of an entry in its row, and the entry of a place
+abbrev pub column : Entry → ℕ
+column x = 3 * ((x .number + 31) % 32) + (x .shift + 2) % 3
+
+abbrev pub entryOf : ℕ → Entry
+entryOf c = record { number = suc (c / 3); shift = suc (c % 3) }
+
+-- the entries that some bytes of a file are, number and shift of each; half an entry at the end is none
+unfoldable pub entriesIn : List ℕ → List Entry
+entriesIn [] = []
+entriesIn (x ∷ []) = []
+entriesIn (x ∷ k ∷ bs) = record { number = x; shift = k } ∷ entriesIn bs
+
+-- the n entries from a place of the file on
+abbrev pub entriesAt : List ℕ → ℕ → ℕ → List Entry
+entriesAt f at n = entriesIn (take (entryWidth * n) (drop at f))
 
 -- a list's entries, the first of them at position k
-unfoldable pub stamped : ℕ → List ℕ → ℕ → List ℕ → List ℕ
+unfoldable pub stamped : ℕ → List Entry → ℕ → List ℕ → List ℕ
 stamped row [] k t = t
 stamped row (x ∷ xs) k t = set (stamped row xs (suc k) t) (row + column x) k
+
+-- the place behind a surveyor's list
+abbrev pub behindList : List ℕ → ℕ → ℕ
+behindList f at = at + (entryWidth * getD f at 0 + 1)
 
 -- n surveyors' lists from a place of the file on
 unfoldable pub listsStamped : List ℕ → ℕ → ℕ → ℕ → List ℕ → List ℕ
 listsStamped f zero row at t = t
-listsStamped f (suc n) row at t = listsStamped f n (row + 32) (at + (getD f at 0 + 1)) (stamped row (take (getD f at 0) (drop (at + 1) f)) 1 t)
+listsStamped f (suc n) row at t = listsStamped f n (row + rowWidth) (behindList f at) (stamped row (entriesAt f (at + 1) (getD f at 0)) 1 t)
 
 -- the place behind them
 unfoldable pub listsEnd : List ℕ → ℕ → ℕ → ℕ
 listsEnd f zero at = at
-listsEnd f (suc n) at = listsEnd f n (at + (getD f at 0 + 1))
+listsEnd f (suc n) at = listsEnd f n (behindList f at)
 
 -- the place behind a stand's list
 abbrev pub behind : List ℕ → ℕ → ℕ
-behind f at = at + (getD f at 0 + getD f (at + 1) 0 + 2)
+behind f at = at + (entryWidth * (getD f at 0 + getD f (at + 1) 0) + 2)
 
 -- the stand's list at a place of the file: "the strict length byte, the tie length byte, the strict surveyors (..), the tied ones"
 abbrev pub rankingAt : List ℕ → ℕ → Ranking
-rankingAt f at = record { strict = take (getD f at 0) (drop (at + 2) f); tied = take (getD f (at + 1) 0) (drop (at + 2 + getD f at 0) f) }
+rankingAt f at = record {
+  strict = entriesAt f (at + 2) (getD f at 0);
+  tied = entriesAt f (at + 2 + entryWidth * getD f at 0) (getD f (at + 1) 0);
+}
 
 -- the strict parts of n stands' lists from a place of the file on
 unfoldable pub strictStamped : List ℕ → ℕ → ℕ → ℕ → List ℕ → List ℕ
 strictStamped f zero row at t = t
-strictStamped f (suc n) row at t = strictStamped f n (row + 32) (behind f at) (stamped row (rankingAt f at .strict) 1 t)
+strictStamped f (suc n) row at t = strictStamped f n (row + rowWidth) (behind f at) (stamped row (rankingAt f at .strict) 1 t)
 
 -- and the rank behind each of them
 unfoldable pub nextRanks : List ℕ → ℕ → ℕ → ℕ → List ℕ → List ℕ

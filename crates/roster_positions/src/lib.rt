@@ -1,9 +1,12 @@
-// Where each entry stands in its list: tables of positions, one row of 32 numbers for each list of a roster file. Lists are read as
-// parts of the file. Nothing here checks a roster: on bytes that are none, the tables hold what these functions say and no more.
+// Where each entry stands in its list: tables of positions, one row of 96 numbers for each list of a roster file, three of them for each
+// number that an entry may have, one a shift. Lists are read as parts of the file. Nothing here checks a roster: on bytes that are none, the
+// tables hold what these functions say and no more.
 ghost use mathlib.Core.Path.{_≡_};
 ghost use Prim.Native.Nat.{_+_, _*_, _≤_};
 ghost use lib.ListN.{length, take, drop, getD};
-ghost use Rattle.roster_positions.specs.Tables.{stamped, listsStamped, listsEnd, strictStamped, nextRanks};
+ghost use Rattle.model.specs.Limits.{nodeLimit};
+ghost use Rattle.roster_positions.specs.Tables.{entriesIn, stamped, listsStamped, listsEnd, strictStamped, nextRanks};
+use limits::ENTRY_WIDTH;
 
 // the byte at a place of the file, 0 behind its end
 pub fn byte_at(file: &[u8], at: usize) -> u8
@@ -29,32 +32,34 @@ pub fn part(file: &[u8], at: usize, n: usize) -> &[u8]
     &file[at..e]
 }
 
-// the positions from 1 of a list's entries, each written at its number in a row of the table; from the last entry to the first
-pub fn stamp(list: &[u8], row: usize, table: &mut [u8; 1024])
-    requires { ⌜ (length (now list) ≤ 255) × (row ≤ 992) ⌝ }
-    ensures { λ _. ⌜ now (table .exit) ≡ stamped row (now (list .entry)) 1 (now (table .entry)) ⌝ }
+// the positions from 1 of a list's entries, each written at its number and shift in a row of the table; from the last entry to the first
+pub fn stamp(list: &[u8], row: usize, table: &mut [u8; 3072])
+    requires { ⌜ (length (now list) ≤ 510) × (row ≤ 2976) ⌝ }
+    ensures { λ _. ⌜ now (table .exit) ≡ stamped row (entriesIn (now (list .entry))) 1 (now (table .entry)) ⌝ }
 {
-    let mut k = list.len();
+    let mut k = list.len() / ENTRY_WIDTH;
     while 0 < k {
-        let x = list[k - 1] as usize;
-        table[row + (x + 31) % 32] = k as u8;
+        let at = ENTRY_WIDTH * (k - 1);
+        let x = list[at] as usize;
+        let s = list[at + 1] as usize;
+        table[row + (3 * ((x + 31) % 32) + (s + 2) % 3)] = k as u8;
         k -= 1;
     }
 }
 
 // n surveyors' lists from a place on, a length byte before each; gives the place behind them
-pub fn stamp_lists(file: &[u8], start: usize, n: usize, table: &mut [u8; 1024]) -> usize
-    requires { ⌜ (start ≤ 1000) × (n ≤ 32) ⌝ }
-    ensures { λ r. ⌜ (r ≡ listsEnd (now (file .entry)) n start) × (r ≤ 9192) ⌝ }
+pub fn stamp_lists(file: &[u8], start: usize, n: usize, table: &mut [u8; 3072]) -> usize
+    requires { ⌜ (start ≤ 1000) × (n ≤ nodeLimit) ⌝ }
+    ensures { λ r. ⌜ (r ≡ listsEnd (now (file .entry)) n start) × (r ≤ start + 511 * n) ⌝ }
     ensures { λ r. ⌜ now (table .exit) ≡ listsStamped (now (file .entry)) n 0 start (now (table .entry)) ⌝ }
 {
     let mut at = start;
     let mut i = 0;
     while i < n {
         let k = byte_at(file, at) as usize;
-        let list = part(file, at + 1, k);
-        stamp(list, i * 32, &mut *table);
-        at += k + 1;
+        let list = part(file, at + 1, ENTRY_WIDTH * k);
+        stamp(list, i * 96, &mut *table);
+        at += ENTRY_WIDTH * k + 1;
         i += 1;
     }
     at
@@ -66,10 +71,10 @@ pub fn stamp_rankings(
     file: &[u8],
     start: usize,
     n: usize,
-    table: &mut [u8; 1024],
+    table: &mut [u8; 3072],
     next: &mut [u8; 32],
 )
-    requires { ⌜ (start ≤ 10000) × (n ≤ 32) ⌝ }
+    requires { ⌜ (start ≤ 20000) × (n ≤ nodeLimit) ⌝ }
     ensures { λ _. ⌜ now (table .exit) ≡ strictStamped (now (file .entry)) n 0 start (now (table .entry)) ⌝ }
     ensures { λ _. ⌜ now (next .exit) ≡ nextRanks (now (file .entry)) n 0 start (now (next .entry)) ⌝ }
 {
@@ -78,10 +83,10 @@ pub fn stamp_rankings(
     while j < n {
         let a = byte_at(file, at) as usize;
         let b = byte_at(file, at + 1) as usize;
-        let list = part(file, at + 2, a);
-        stamp(list, j * 32, &mut *table);
+        let list = part(file, at + 2, ENTRY_WIDTH * a);
+        stamp(list, j * 96, &mut *table);
         next[j] = ((a + 1) % 256) as u8;
-        at += a + b + 2;
+        at += ENTRY_WIDTH * (a + b) + 2;
         j += 1;
     }
 }

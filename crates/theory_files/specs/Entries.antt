@@ -6,7 +6,7 @@ use mathlib.Core.Bool.{Bool, true, false, not, cond, _&&_, _||_}
 use mathlib.Core.List.{List, [], _∷_, _++_, append-assoc, append-nil}
 use lib.Dec.{T, eqb, leb, ltb, leb→le, le→leb, nltb→le}
 use lib.Arith.{le→nltb}
-use Rattle.lists.specs.Test.{given, and-l, and-r, and-i, nor-l, nor-r, nor-i, eqb-sym}
+use Rattle.lists.specs.Test.{given, and-l, and-r, and-i, nor-l, nor-r, nor-i, eqb-no, eqb-sym, false-T}
 use Rattle.lists.specs.Sum.{sum}
 use Rattle.lists.specs.Keep.{all?, any-append}
 use Rattle.model.specs.Limits.{quotaLimit, quotaSumLimit, shiftLimit}
@@ -97,6 +97,11 @@ fresh-append seen (x ∷ xs) ys = go (not (has x seen)) (fresh-append (seen ++ x
     go true e = e
     go false e = refl
 
+-- and none of the second part in the first
+pub distinct-append : (xs ys : List Entry) → T (distinct xs) → T (distinct ys) → T (apart xs ys) → T (distinct (xs ++ ys))
+distinct-append xs ys d e a = fresh-distinct (xs ++ ys)
+    (subst T (sym (fresh-append [] xs ys)) (and-i (fresh [] xs) (fresh xs ys) (distinct-fresh xs d) (→fresh xs ys a e)))
+
 abbrev pub inRange : ℕ → List Entry → Bool
 inRange other xs = all? (entryFits other) xs
 
@@ -114,6 +119,12 @@ in-range count x t =
     above : (n : ℕ) → T (not (eqb n 0)) → 1 ≤ n
     above zero t = absurd t
     above (suc n) t = omega arith
+
+pub range-in : (count : ℕ) (x : Entry) → 1 ≤ x .number → x .number ≤ count → 1 ≤ x .shift → x .shift ≤ shiftLimit → T (entryFits count x)
+range-in count x a b c d = and-i (not (outside count (x .number))) (not (outside shiftLimit (x .shift))) (inside count (x .number) a b) (inside shiftLimit (x .shift) c d)
+  where
+    inside : (count n : ℕ) → 1 ≤ n → n ≤ count → T (not (outside count n))
+    inside count n a b = nor-i (eqb n 0) (ltb count n) (false-T (eqb-no n 0 (λ (e : n ≡ 0). omega arith))) (le→nltb count n b)
 
 -- ---- quotas
 abbrev pub small : List ℕ → Bool

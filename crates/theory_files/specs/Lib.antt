@@ -1,9 +1,11 @@
+pub mod Order
 pub mod Position
 pub mod Ascending
 pub mod Chosen
 pub mod PlanFiles
 pub mod RosterInstance
 pub mod Cells
+pub mod EdgeCount
 pub mod Offsets
 pub mod PlanPairs
 pub mod Reads
@@ -12,3 +14,11 @@ pub mod Layouts
 pub mod Sections
 pub mod Rosters
 pub mod Reach
+pub mod LongestRoster
+pub mod PairRefusals
+pub mod ByLists
+pub mod Departed
+pub mod Joiner
+pub mod Joined
+pub mod PlanCells
+pub mod Carried

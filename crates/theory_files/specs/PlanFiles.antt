@@ -16,13 +16,13 @@ use Rattle.lists.specs.Test.{given, and-l, and-r, and-i, nor-l, nor-r, nor-i, b
 use Rattle.lists.specs.Sum.{_∈_, sum, sum-append, sum-mono, sum-swap, sum-one, sum-cong, upTo}
 use Rattle.lists.specs.Keep.{all?, gather, All}
 use Rattle.lists.specs.Search.{low-is}
-use Rattle.model.specs.Limits.{planLimit, planSize}
+use Rattle.model.specs.Limits.{planLimit, pairWidth, planSize}
 use Rattle.model.specs.Reading.{_then_, accepted, whole}
 use Rattle.model.specs.RosterFile.{readCount}
 use Rattle.model.specs.Roster.{elem}
 use Rattle.model.specs.Instance.{Instance, Side, surveyors, stands}
 use Rattle.model.specs.Plans.{Plan, on, withinSide, within, plansOf}
-use Rattle.model.specs.PlanFile.{Named, nameOf, sameName, PairLayout, shiftedPair, plainPair, edgesIn, pairListBy, planBytesBy, planBytes, edgeOfPair, full, Pairs, pairCheck, withPair, readPairsBy, planOfPairs, readPlanBy, readPlan}
+use Rattle.model.specs.PlanFile.{Named, nameOf, sameName, PairLayout, shiftedPair, plainPair, edgesIn, pairListBy, planBytesBy, pairList, planBytes, edgeOfPair, full, Pairs, pairCheck, withPair, readPairsBy, planOfPairs, readPlanBy, readPlan}
 use Rattle.theory_instance.specs.Lawful.{Lawful, Matching}
 use Rattle.theory_instance.specs.Within.{within-side, within-matching, matching-within}
 use Rattle.theory_files.specs.Reads.{isBytes, Reads, Passes, each, read-value, read-rest, then-read, whole-accepted}
@@ -45,19 +45,19 @@ name-parts p q t =
     let c = eqb (p .shift) (q .shift) in
     given (and-r a (b && c) t) (λ u. (eqb→eq (p .surveyor) (q .surveyor) (and-l a (b && c) t), eqb→eq (p .stand) (q .stand) (and-l b c u), eqb→eq (p .shift) (q .shift) (and-r b c u)))
 
-same-name : (p q : Named) → (p .surveyor ≡ q .surveyor) × (p .stand ≡ q .stand) × (p .shift ≡ q .shift) → p ≡ q
+pub same-name : (p q : Named) → (p .surveyor ≡ q .surveyor) × (p .stand ≡ q .stand) × (p .shift ≡ q .shift) → p ≡ q
 same-name p q (a, b, c) = λ i. record { surveyor = a i; stand = b i; shift = c i }
 
 module _ (G : Instance) where
   -- the edge that is found has the pair's numbers
-  found-parts : (p : Named) → edgeOfPair G p < G .m → (suc (G .sv (edgeOfPair G p)) ≡ p .surveyor) × (suc (G .st (edgeOfPair G p)) ≡ p .stand) × (G .sh (edgeOfPair G p) ≡ p .shift)
+  pub found-parts : (p : Named) → edgeOfPair G p < G .m → (suc (G .sv (edgeOfPair G p)) ≡ p .surveyor) × (suc (G .st (edgeOfPair G p)) ≡ p .stand) × (G .sh (edgeOfPair G p) ≡ p .shift)
   unfolding edgeOfPair
   found-parts p h = name-parts (nameOf G (edgeOfPair G p)) p (low-is (λ e. sameName (nameOf G e) p) (G .m) .2 h)
 
-  found-is : (p : Named) → edgeOfPair G p < G .m → nameOf G (edgeOfPair G p) ≡ p
+  pub found-is : (p : Named) → edgeOfPair G p < G .m → nameOf G (edgeOfPair G p) ≡ p
   found-is p h = same-name (nameOf G (edgeOfPair G p)) p (found-parts p h)
 
-  found : Fileable G → (e : ℕ) → e < G .m → edgeOfPair G (nameOf G e) ≡ e
+  pub found : Fileable G → (e : ℕ) → e < G .m → edgeOfPair G (nameOf G e) ≡ e
   unfolding edgeOfPair
   found F e h =
       let l = low-is (λ d. sameName (nameOf G d) (nameOf G e)) (G .m) in
@@ -276,7 +276,7 @@ module _ (G : Instance) where
       plan-accepted-size-by = given (plan-pairs bs M isB e) (λ X. given (mul-le-mul-left (A .width) (leb→le (length (X .ps)) planLimit (X .small))) (λ h. subst (λ z. length z ≤ planSizeBy) (sym (X .file)) (omega (arith, bytes-size (X .ps)))))
 
     -- a plan within the quotas, written and read
-    bytes-are : (ds : List ℕ) → pairListBy L G ds ≡ gather (L .bytes) (map (nameOf G) ds)
+    pub bytes-are : (ds : List ℕ) → pairListBy L G ds ≡ gather (L .bytes) (map (nameOf G) ds)
     bytes-are [] = refl
     bytes-are (d ∷ ds) = ap (λ z. L .bytes (nameOf G d) ++ z) (bytes-are ds)
 
@@ -296,6 +296,11 @@ module _ (G : Instance) where
       plan-size-by = omega (arith, mul-le-mul-left (A .width) (plan-few F M ok), ap length (bytes-are (edgesIn (G .m) (on M))), bytes-size (map (nameOf G) (edgesIn (G .m) (on M))), ap (λ n. A .width * n) (length-map (edgesIn (G .m) (on M)) (nameOf G)))
 
   -- ---- plans with shifts
+  -- pairs are as long as their number says
+  pub pairs-size : (ds : List ℕ) → length (pairList G ds) ≡ pairWidth * length ds
+  pairs-size ds =
+      omega (arith, ap length (bytes-are shiftedPair in-shiftedPair ds), bytes-size shiftedPair in-shiftedPair (map (nameOf G) ds), length-map ds (nameOf G))
+
   held-shifted : (M : Plan) → PlanHeld shiftedPair in-shiftedPair M
   held-shifted M = go (edgesIn (G .m) (on M))
     where

@@ -2,6 +2,7 @@
 use Prim.Native.Nat.{ℕ, zero, suc, _+_, _<_}
 use native.Mathlib.Omega.{arith}
 use mathlib.Core.Path.{_≡_, refl, sym, ap, ap₂, _∙_, subst}
+use mathlib.Core.Logic.{_≢_}
 use mathlib.Core.Bool.{Bool, true, false, not}
 use mathlib.Core.List.{List, [], _∷_, _++_, append-assoc}
 use lib.ListN.{length, getD}
@@ -30,6 +31,18 @@ module _ {A : Type 0} where
 
   pub refused-not {ℓ} : {C : Type ℓ} {n : ℕ} {a : A} → _≡_ {A = Reading A} (refused n) (accepted a) → C
   refused-not e = absurd (subst (λ r. T (not (isAccepted r))) e tt)
+
+  abbrev numberIn : Reading A → ℕ
+  numberIn (accepted a) = 0
+  numberIn (refused n) = n
+
+  pub refused-number : {n k : ℕ} → _≡_ {A = Reading A} (refused n) (refused k) → n ≡ k
+  refused-number e = ap numberIn e
+
+  -- a refusal of another number came later
+  pub refuse-other : (b : Bool) (n : ℕ) {r : Reading A} {k : ℕ} → n ≢ k → refuseIf b n r ≡ refused k → r ≡ refused k
+  refuse-other true n d e = absurd (d (refused-number e))
+  refuse-other false n d e = e
 
   pub refuse-read : (b : Bool) (n : ℕ) {r : Reading A} {a : A} → refuseIf b n r ≡ accepted a → T (not b) × (r ≡ accepted a)
   refuse-read true n e = refused-not e

@@ -110,9 +110,12 @@ module _ (r : Roster) (ok : T (fits r)) where
       (ap (λ z. z .stand) (a .is) ∙ suc-inj (ap (λ z. z .number) q) ∙ sym (ap (λ z. z .stand) (b .is)), ap (λ z. z .shift) (a .is) ∙ ap (λ z. z .shift) q ∙ sym (ap (λ z. z .shift) (b .is)))
 
   -- ---- stands: strict entries by their place, tied ones behind them
-  strict-or-tied : (x : Edge) (a : IsEdge r x) → T (has (ofT x a) (S (a .j))) ⊎ T (has (ofT x a) (D (a .j)))
+  pub strict-or-tied : (x : Edge) (a : IsEdge r x) → T (has (ofT x a) (S (a .j))) ⊎ T (has (ofT x a) (D (a .j)))
   unfolding listedBack
   strict-or-tied x a = or-case (has (ofT x a) (S (a .j))) (has (ofT x a) (D (a .j))) (subst T (any-append (same (ofT x a)) (S (a .j)) (D (a .j))) (back (a .i) (a .j) (a .k) (a .i-in) (a .j-in) (a .k-from) (a .k-in) (a .pair)))
+
+  pub tied-not-strict : (x : Entry) (j : ℕ) → j < nt → T (has x (D j)) → T (not (has x (S j)))
+  tied-not-strict x j h t = distinct-apart x (S j) (D j) (distinct-entries j h) t
 
   some-length : (x : Entry) (xs : List Entry) → T (has x xs) → 0 < length xs
   some-length x [] t = absurd t
@@ -128,7 +131,7 @@ module _ (r : Roster) (ok : T (fits r)) where
   strict-in x a n = ⊎-elim (λ s. s) (λ d. absurd (T-not (has (ofT x a) (D (a .j))) (subst (λ z. T (not (z .tied))) (a .is) n) d)) (strict-or-tied x a)
 
   tied-last : (x : Edge) (a : IsEdge r x) → T (x .tied) → x .rankT ≡ suc (length (S (a .j)))
-  tied-last x a t = ap (λ z. z .rankT) (a .is) ∙ position-out (ofT x a) (S (a .j)) (distinct-apart (ofT x a) (S (a .j)) (D (a .j)) (distinct-entries (a .j) (a .j-in)) (subst (λ z. T (z .tied)) (a .is) t))
+  tied-last x a t = ap (λ z. z .rankT) (a .is) ∙ position-out (ofT x a) (S (a .j)) (tied-not-strict (ofT x a) (a .j) (a .j-in) (subst (λ z. T (z .tied)) (a .is) t))
 
   same-stand : (x y : Edge) (a : IsEdge r x) (b : IsEdge r y) → x .stand ≡ y .stand → a .j ≡ b .j
   same-stand x y a b s = sym (ap (λ z. z .stand) (a .is)) ∙ s ∙ ap (λ z. z .stand) (b .is)

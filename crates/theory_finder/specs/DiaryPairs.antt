@@ -1,6 +1,6 @@
 -- The diary in its own words: "The diary names only pairs of the roster and each of them at most once", and no rule names a pair that remains
 -- when it ends: the steps are "all of them".
-use Prim.Native.Nat.{ℕ, suc, _<_}
+use Prim.Native.Nat.{ℕ, suc, _≤_, _<_}
 use native.Mathlib.Nat.{suc-inj}
 use mathlib.Core.Path.{_≡_, refl, sym, ap, _∙_, subst}
 use mathlib.Core.Bool.{not}
@@ -10,27 +10,31 @@ use lib.Dec.{T}
 use Rattle.lists.specs.Sum.{_∈_}
 use Rattle.lists.specs.Keep.{getD-∈}
 use Rattle.lists.specs.Distinct.{Nodup}
+use Rattle.model.specs.Limits.{shiftLimit}
 use Rattle.model.specs.Roster.{Roster, fits, listed}
-use Rattle.model.specs.Edges.{edgesOf, edgeAt, noEdge, instanceOf}
+use Rattle.model.specs.Edges.{Edge, edgesOf, edgeAt, noEdge, instanceOf}
 use Rattle.model.specs.Instance.{Instance}
 use Rattle.model.specs.Reduction.{Rule, Step, rules, stepsOf, endOf}
+use Rattle.model.specs.PlanFile.{Named, nameOf}
 use Rattle.model.specs.Finder.{Record, recordOf, diaryOf}
 use Rattle.theory_reduction.specs.Course.{steps-below, steps-once, end-quiet}
 use Rattle.theory_reduction.specs.RuleNumbers.{names}
 use Rattle.theory_files.specs.Ascending.{IsEdge, edge-is}
 use Rattle.theory_files.specs.RosterInstance.{pairs-differ}
 
--- a pair of the roster: surveyor i and stand j, whose numbers are one more
-pub record PairOf (r : Roster) (surveyor stand : ℕ) : Type 0 where
+-- a pair of the roster: surveyor i and stand j, whose numbers are one more, in a shift from 1 to 3
+pub record PairOf (r : Roster) (p : Named) : Type 0 where
   pub i : ℕ
   pub j : ℕ
-  pub pair : T (listed r i j)
-  pub surveyor-is : surveyor ≡ suc i
-  pub stand-is : stand ≡ suc j
+  pub pair : T (listed r i j (p .shift))
+  pub surveyor-is : p .surveyor ≡ suc i
+  pub stand-is : p .stand ≡ suc j
+  pub shift-from : 1 ≤ p .shift
+  pub shift-in : p .shift ≤ shiftLimit
 
 -- the numbers of a record's pair
-abbrev pub pairIn : Record → ℕ × ℕ
-pairIn x = (x .surveyor, x .stand)
+abbrev pub pairIn : Record → Named
+pairIn x = record { surveyor = x .surveyor; stand = x .stand; shift = x .shift }
 
 -- a fact of every element of a list
 abbrev Every : (Rule → Type 0) → List Rule → Type 0
@@ -46,23 +50,28 @@ module _ (r : Roster) (ok : T (fits r)) where
   G = instanceOf r
 
   -- every edge is a pair of the roster
-  edge-pair : (e : ℕ) → e < G .m → PairOf r (suc (G .sv e)) (suc (G .st e))
+  edge-pair : (e : ℕ) → e < G .m → PairOf r (nameOf G e)
   unfolding instanceOf
   edge-pair e h =
       let x = edge-is r (edgeAt (edgesOf r) e) (getD-∈ (edgesOf r) e noEdge h) in
       record {
         i = x .i;
         j = x .j;
-        pair = x .pair;
+        pair = subst (λ k. T (listed r (x .i) (x .j) k)) (sym (shift-is x)) (x .pair);
         surveyor-is = ap (λ y. suc (y .surveyor)) (x .is);
         stand-is = ap (λ y. suc (y .stand)) (x .is);
+        shift-from = subst (λ k. 1 ≤ k) (sym (shift-is x)) (x .k-from);
+        shift-in = subst (λ k. k ≤ shiftLimit) (sym (shift-is x)) (x .k-in);
       }
+    where
+      shift-is : {x : Edge} (a : IsEdge r x) → x .shift ≡ a .k
+      shift-is a = ap (λ y. y .shift) (a .is)
 
-  pub diary-pairs : (x : Record) → x ∈ diaryOf G → PairOf r (x .surveyor) (x .stand)
+  pub diary-pairs : (x : Record) → x ∈ diaryOf G → PairOf r (pairIn x)
   unfolding diaryOf
   diary-pairs x k =
       let (s, m, e) = Memᴰ·of-map (recordOf G) (stepsOf G) k in
-      subst (λ y. PairOf r (y .surveyor) (y .stand)) e (edge-pair (s .edge) (steps-below G s m))
+      subst (λ y. PairOf r (pairIn y)) e (edge-pair (s .edge) (steps-below G s m))
 
   -- two records of one pair are records of one edge
   once : (ss : List Step) → ((s : Step) → s ∈ ss → s .edge < G .m) → Nodup (map (λ s. s .edge) ss) → Nodup (map pairIn (map (recordOf G) ss))
@@ -72,7 +81,8 @@ module _ (r : Roster) (ok : T (fits r)) where
         let (x, m, e) = Memᴰ·of-map pairIn (map (recordOf G) ss) k in
         let (t, n, q) = Memᴰ·of-map (recordOf G) ss m in
         let same : t .edge ≡ s .edge = pairs-differ r ok (t .edge) (s .edge) (h t (List·Memᴰ·tail n)) (h s (List·Memᴰ·head refl))
-        (suc-inj (ap (λ y. y .surveyor) q ∙ ap (λ (p : ℕ × ℕ). p .0) e)) (suc-inj (ap (λ y. y .stand) q ∙ ap (λ (p : ℕ × ℕ). p .1) e)) in
+        (suc-inj (ap (λ y. y .surveyor) q ∙ ap (λ (p : Named). p .surveyor) e)) (suc-inj (ap (λ y. y .stand) q ∙ ap (λ (p : Named). p .stand) e))
+        (ap (λ y. y .shift) q ∙ ap (λ (p : Named). p .shift) e) in
         u .0 (subst (λ z. z ∈ map (λ s. s .edge) ss) same (Memᴰ·map (λ s. s .edge) n))),
     once ss (λ t n. h t (List·Memᴰ·tail n)) (u .1),
   )

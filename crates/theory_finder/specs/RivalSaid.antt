@@ -42,7 +42,7 @@ RivalSaid G M (D.plan n) b a = Unit {0}
 RivalSaid G M (D.none n k) b a = Unit {0}
 RivalSaid G M (D.votes v w x p) b a = Unit {0}
 RivalSaid G M (D.refusedPart n g p) b a = Unit {0}
-RivalSaid G M (D.blockedBy s t) b a = Unit {0}
+RivalSaid G M (D.blockedBy s t k) b a = Unit {0}
 RivalSaid G M D.unblocked b a = Unit {0}
 
 -- the buffer of a call for a verdict

@@ -24,6 +24,7 @@ made n tied es = record {
   nt = n;
   sv = λ e. getD es e (0, 0, 0, 0) .0;
   st = λ e. getD es e (0, 0, 0, 0) .1;
+  sh = λ e. 1;
   rankS = λ e. getD es e (0, 0, 0, 0) .2;
   rankT = λ e. getD es e (0, 0, 0, 0) .3;
   tied = λ e. tied;

@@ -36,7 +36,7 @@ pub voted : (g : Instance) (plan rival : List Bool) (out : List ℕ) {v : ℤ} {
     → WrittenFor (g .m) (g .sv) (g .st) rival out after → Voted (shownBy g) plan rival out v after
 voted g plan rival out a b = record {
   vote = a;
-  buffer = b (g .ns) (g .nt) (g .«rank_s») (g .«rank_t») (g .tied) (g .«quota_s») (g .«quota_t») rival (λ e l. refl);
+  buffer = b (g .ns) (g .nt) (g .«rank_s») (g .«rank_t») (g .sh) (g .tied) (g .«quota_s») (g .«quota_t») rival (λ e l. refl);
 }
 
 -- the vote as it is handed on
@@ -75,13 +75,13 @@ module _ (g : Instance) (L : Loaded g) (plan : List Bool) (M : Plan) (S : Shows 
       (R : RivalShown (g .m) (g .sv) (g .st) (g .«rank_s») (g .«rank_t») (g .«quota_s») (g .«quota_t») plan v rival) where
     is-verdict : v ≡ verdictOf G M
     is-verdict =
-        shown-verdict (g .m) (g .ns) (g .nt) (g .sv) (g .st) (g .«rank_s») (g .«rank_t») (g .tied) (g .«quota_s») (g .«quota_t») plan v rival R G
+        shown-verdict (g .m) (g .ns) (g .nt) (g .sv) (g .st) (g .«rank_s») (g .«rank_t») (g .sh) (g .tied) (g .«quota_s») (g .«quota_t») plan v rival R G
         refl M (S .1) (L .lawful) (S .0) (plan-few G (L .fileable) M (S .0))
 
     is-rival : flag rival ≡ on (rivalOf G M)
     is-rival =
         fun-ext
-        (shown-rival (g .m) (g .ns) (g .nt) (g .sv) (g .st) (g .«rank_s») (g .«rank_t») (g .tied) (g .«quota_s») (g .«quota_t») plan v rival R G
+        (shown-rival (g .m) (g .ns) (g .nt) (g .sv) (g .st) (g .«rank_s») (g .«rank_t») (g .sh) (g .tied) (g .«quota_s») (g .«quota_t») plan v rival R G
         refl M (S .1))
 
     pub strong-weighed : (out : List ℕ) → v ≡ verdict.strong → WeighedBy G M out Strong out

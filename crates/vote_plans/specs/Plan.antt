@@ -50,9 +50,9 @@ pub record SideVote (n : ℕ) (a b : List Ranked) (r : ℤ) : Type 0 where
 
 -- whatever quotas both plans keep, r is the model's vote of p against q in the instance that the arrays show
 abbrev pub PlanVote : (m ns nt : ℕ) (sv st rankS rankT : List ℕ) (p q : List Bool) → ℤ → Type 0
-PlanVote m ns nt sv st rankS rankT p q r = (tied : List Bool) (quotaS quotaT : List ℕ)
-    → Matching (shown m ns nt sv st rankS rankT tied quotaS quotaT) (flag p) → Matching (shown m ns nt sv st rankS rankT tied quotaS quotaT) (flag q)
-    → r ≡ vote (shown m ns nt sv st rankS rankT tied quotaS quotaT) (flag p) (flag q)
+PlanVote m ns nt sv st rankS rankT p q r = (sh : List ℕ) (tied : List Bool) (quotaS quotaT : List ℕ)
+    → Matching (shown m ns nt sv st rankS rankT sh tied quotaS quotaT) (flag p) → Matching (shown m ns nt sv st rankS rankT sh tied quotaS quotaT) (flag q)
+    → r ≡ vote (shown m ns nt sv st rankS rankT sh tied quotaS quotaT) (flag p) (flag q)
 
 -- both votes
 pub record PlanVotes (m ns nt : ℕ) (sv st rankS rankT : List ℕ) (p q : List Bool) (v w : ℤ) : Type 0 where

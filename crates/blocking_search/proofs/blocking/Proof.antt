@@ -27,30 +27,48 @@ top-wanted-requires c κs =
     let m = may-search (s .args .g) (s .pre .0) in
     (m .0, m .1, m .2)
 
-add-t32 : tie.Need-add-t32
-add-t32 c =
+read-t32 : tie.Need-array-read-t32
+read-t32 c =
     let s =
-    c .before .before .before .before .before .before .before .before .before .before .before .before .before .before .before .before .before .before .before .before .before .before in
-    let h = s .pre .0 .low-sv (c .before .top-wanted .result) in
+    c .before .before .before .before .before .before .before .before .before .before .before .before .before .before .before .before .before .before .before .before .before .before .before in
+    omega (arith, s .pre .0 .edges)
+
+read-t36 : tie.Need-array-read-t36
+read-t36 c =
+    let s =
+    c .before .before .before .before .before .before .before .before .before .before .before .before .before .before .before .before .before .before .before .before .before .before .before in
+    omega (arith, s .pre .0 .edges)
+
+read-t40 : tie.Need-array-read-t40
+read-t40 c =
+    let s =
+    c .before .before .before .before .before .before .before .before .before .before .before .before .before .before .before .before .before .before .before .before .before .before .before in
+    omega (arith, s .pre .0 .edges)
+
+add-t33 : tie.Need-add-t33
+add-t33 c =
+    let s =
+    c .before .before .before .before .before .before .before .before .before .before .before .before .before .before .before .before .before .before .before .before .before .before .before in
+    let h = s .pre .0 .low-sv (c .before .before .top-wanted .result) in
     omega (arith, h)
 
-add-t36 : tie.Need-add-t36
-add-t36 c =
+add-t37 : tie.Need-add-t37
+add-t37 c =
     let s =
-    c .before .before .before .before .before .before .before .before .before .before .before .before .before .before .before .before .before .before .before .before .before .before in
-    let h = s .pre .0 .low-st (c .before .top-wanted .result) in
+    c .before .before .before .before .before .before .before .before .before .before .before .before .before .before .before .before .before .before .before .before .before .before .before in
+    let h = s .pre .0 .low-st (c .before .before .top-wanted .result) in
     omega (arith, h)
 
 returns : tie.Need-returns
 returns c =
     let s =
-    c .before .before .before .before .before .before .before .before .before .before .before .before .before .before .before .before .before .before .before .before .before .before in
+    c .before .before .before .before .before .before .before .before .before .before .before .before .before .before .before .before .before .before .before .before .before .before .before in
     let g = s .args .g in
-    let l = c .before .before .before .before .before .before .before .before .before .before .before .before .side-thresholds in
-    let k = c .before .before .before .before .before .before .before .before .side-thresholds2 in
+    let l = c .before .before .before .before .before .before .before .before .before .before .before .before .before .side-thresholds in
+    let k = c .before .before .before .before .before .before .before .before .before .side-thresholds2 in
     let m = may-search g (s .pre .0) in
     answer-yes (g .m) (g .sv) (g .st) (g .«rank_s») (g .«rank_t») (g .«quota_s») (g .«quota_t») (l .result) (k .result) (s .args .p .now) (m .2) (m .3)
-    (l .ensures (g .m) (s .args .p .now) (m .0) (s .pre .2)) (k .ensures (g .m) (s .args .p .now) (m .1) (s .pre .2)) (g .ns) (g .nt) (g .tied) (c .before .top-wanted .result) (c .before .top-wanted .ensures) (c .if1 .taken)
+    (l .ensures (g .m) (s .args .p .now) (m .0) (s .pre .2)) (k .ensures (g .m) (s .args .p .now) (m .1) (s .pre .2)) (g .ns) (g .nt) (g .sh) (g .tied) (c .before .before .top-wanted .result) (c .before .before .top-wanted .ensures) (c .before .if1 .taken)
 
 returns-2 : tie.Need-returns-2
 returns-2 c =
@@ -61,9 +79,9 @@ returns-2 c =
     let k = c .before .before .before .before .before .before .before .before .side-thresholds2 in
     let m = may-search g (s .pre .0) in
     answer-no (g .m) (g .sv) (g .st) (g .«rank_s») (g .«rank_t») (g .«quota_s») (g .«quota_t») (l .result) (k .result) (s .args .p .now) (m .2) (m .3)
-    (l .ensures (g .m) (s .args .p .now) (m .0) (s .pre .2)) (k .ensures (g .m) (s .args .p .now) (m .1) (s .pre .2)) (g .ns) (g .nt) (g .tied) (rw (← c .before .top-wanted .ensures) (c .if1 .left))
+    (l .ensures (g .m) (s .args .p .now) (m .0) (s .pre .2)) (k .ensures (g .m) (s .args .p .now) (m .1) (s .pre .2)) (g .ns) (g .nt) (g .sh) (g .tied) (rw (← c .before .top-wanted .ensures) (c .if1 .left))
 
 pub blocking-spec : {M : Type 1} → statement M
 blocking-spec =
-    tie.close (tie.spec side-thresholds-requires side-thresholds-requires-2 top-wanted-requires (λ c. search needs) add-t32
-    (λ c. search needs) add-t36 returns returns-2)
+    tie.close (tie.spec side-thresholds-requires side-thresholds-requires-2 top-wanted-requires read-t32 add-t33 read-t36 add-t37
+    read-t40 returns returns-2)

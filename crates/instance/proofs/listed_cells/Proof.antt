@@ -16,13 +16,13 @@ use Rattle.instance.proofs.listed_cells.Reads as reads
 use Rattle.instance.proofs.listed_cells.Lts as lts
 
 abbrev Inv-loop : tie.InvT-loop
-Inv-loop n table cell₀ m₀ end c₀ cell m c = (c ≤ end) × (m ≤ c) × (length cell ≡ 1024) × Kept (λ c. not (eqb (at table c) 0)) cell m c
+Inv-loop n table cell₀ m₀ end c₀ cell m c = (c ≤ end) × (m ≤ c) × (length cell ≡ 3072) × Kept (λ c. not (eqb (at table c) 0)) cell m c
 
 abbrev μ-loop : tie.MeasureT-loop
 μ-loop n table cell₀ m₀ end c₀ cell m c = end - c
 
 loop-holds : tie.Need-loop-holds Inv-loop μ-loop
-loop-holds c = (zero-le, zero-le, length-replicate {A = ℕ} 1024 0, (refl, refl))
+loop-holds c = (zero-le, zero-le, length-replicate {A = ℕ} 3072 0, (refl, refl))
 
 add-m : tie.Need-add-m Inv-loop μ-loop
 add-m c = let l = c .before .before in let b = byte-one (not (eqb (at (l .before .args .table .now) (l .loop .c)) 0)) in omega arith
@@ -43,7 +43,7 @@ returns : tie.Need-returns Inv-loop μ-loop
 returns c =
     let l = c .before in
     let a = l .before .args in
-    kept-listed (a .n) (a .table .now) (l .loop .cell) (l .loop .m) (l .loop .c) (l .before .pre) (omega arith) (l .loop .inv .1) (l .loop .inv .3)
+    kept-listed (a .n) (a .table .now) (l .loop .cell) (l .loop .m) (l .loop .c) (l .before .pre) (omega arith) (l .loop .inv .3)
 
 pub listed-cells-spec : {M : Type 1} → statement M
 listed-cells-spec =

@@ -2,12 +2,11 @@
 use mathlib.Core.Path.{_≡_, ap, _∙_}
 use Prim.Native.Nat.{_+_, _-_, _*_, _≤_, _<_, zero-le}
 use native.Mathlib.Omega.{arith}
-use lib.ListN.{getD}
 use Rattle.arrays.specs.ArrayInstance.{at}
 use Rattle.lists.specs.Search.{low}
-use Rattle.model.specs.Limits.{pairWidth}
 use Rattle.model.specs.PlanFile.{edgeOfPair}
 use Rattle.pair_bytes.specs.declared.Pair.{Pair}
+use Rattle.pair_bytes.specs.PairAt.{namedAt, width-most}
 use Rattle.plan_lookup.specs.PairEdge.{Names}
 use Rattle.plan_reader.specs.ReadInvariant.{G, Invariant, for-all, invariant-first, invariant-cut, invariant-refused, invariant-passed}
 use Rattle.plan_reader.specs.ReadInvariant.{invariant-on, invariant-long, invariant-accepted, refused-as, used-few}
@@ -16,70 +15,77 @@ use Rattle.plan_reader.proofs.read_pairs.Statement.{statement}
 use Rattle.plan_reader.proofs.read_pairs.Tie as tie
 
 abbrev Inv-loop : tie.InvT-loop
-Inv-loop m sv st qs qt n file chosen₀ edges₀ us₀ ut₀ from₀ k₀ chosen edges us ut from k = (k ≤ n) × Invariant m sv st qs qt file n k from chosen edges us ut
+Inv-loop m sv st sh qs qt n file shifts chosen₀ edges₀ us₀ ut₀ width at₀ from₀ k₀ chosen edges us ut at from k =
+    (k ≤ n) × Invariant shifts m sv st sh qs qt file n k at from chosen edges us ut
 
 abbrev μ-loop : tie.MeasureT-loop
-μ-loop m sv st qs qt n file chosen₀ edges₀ us₀ ut₀ from₀ k₀ chosen edges us ut from k = n - k
+μ-loop m sv st sh qs qt n file shifts chosen₀ edges₀ us₀ ut₀ width at₀ from₀ k₀ chosen edges us ut at from k = n - k
 
 -- the edge found is the model's
-found : (c : tie.After-edge-of Inv-loop μ-loop) → let l = c .before .before .before .before in let a = l .before .before .args in
-    c .edge-of .result ≡ edgeOfPair (G (a .m) (a .sv .now) (a .st .now) (a .qs .now) (a .qt .now) (a .file .now))
-    (getD (a .file .now) (pairWidth * l .loop .k + 1) 0, getD (a .file .now) (pairWidth * l .loop .k + 1 + 1) 0)
+found : (c : tie.After-edge-of Inv-loop μ-loop) → let l = c .before .before .before .before in let a = l .before .before .before .args in
+    c .edge-of .result ≡ edgeOfPair (G (a .shifts) (a .m) (a .sv .now) (a .st .now) (a .sh .now) (a .qs .now) (a .qt .now) (a .file .now))
+    (namedAt (a .shifts) (a .file .now) (l .loop .at))
 unfolding edgeOfPair
 found c =
-    let a = c .before .before .before .before .before .before .args in
-    c .edge-of .ensures ∙ ap (λ (p : Pair). low (Names (a .sv .now) (a .st .now) (p .surveyor) (p .stand)) (a .m)) (c .before .get .ensures)
+    let a = c .before .before .before .before .before .before .before .args in
+    c .edge-of .ensures ∙ ap (λ (p : Pair). low (Names (a .sv .now) (a .st .now) (a .sh .now) (p .surveyor) (p .stand) (p .shift)) (a .m)) (c .before .get .ensures)
 
 -- a pair that is not refused names an edge
 passing : (c : tie.Else2 Inv-loop μ-loop) → let l =
     c .before .before .before .before .before .before .before .before in
-    let a = l .before .before .args in
+    let a = l .before .before .before .args in
     let e = c .before .before .before .before .edge-of .result in
     (e < a .m) × (l .loop .from ≤ e) × (at (l .loop .us) (at (a .sv .now) e) < at (a .qs .now) (at (a .sv .now) e))
     × (at (l .loop .ut) (at (a .st .now) e) < at (a .qt .now) (at (a .st .now) e))
 passing c =
     let l = c .before .before .before .before .before .before .before .before in
-    let s = l .before .before in
+    let s = l .before .before .before in
     let a = s .args in
     let k = c .before .before .before .before in
-    invariant-passed (a .m) (a .sv .now) (a .st .now) (a .qs .now) (a .qt .now) (a .file .now) (a .n) (l .loop .k) (l .loop .from) (l .loop .chosen)
-    (l .loop .edges) (l .loop .us) (l .loop .ut) (l .loop .inv .1) (c .before .before .before .before .before .before .before .loop-test .taken)
+    invariant-passed (a .shifts) (a .m) (a .sv .now) (a .st .now) (a .sh .now) (a .qs .now) (a .qt .now) (a .file .now) (a .n) (l .loop .k) (l .loop .at) (l .loop .from) (l .loop .chosen)
+    (l .loop .edges) (l .loop .us) (l .loop .ut) (l .loop .inv .1) (c .before .before .before .before .before .before .before .loop-test .taken) (l .before .width .result) (l .before .width .ensures)
     (s .pre .0 .1) (s .pre .0 .2) (c .before .before .before .before .before .before .if1 .left) (k .edge-of .result) (found k)
     (c .before .pair-refusal .result) (c .before .pair-refusal .ensures) (omega arith)
 
 loop-holds : tie.Need-loop-holds Inv-loop μ-loop
 loop-holds c =
-    let s = c .before in
+    let s = c .before .before in
     let a = s .args in
-    (zero-le, invariant-first (a .m) (a .sv .now) (a .st .now) (a .qs .now) (a .qt .now) (a .file .now) (a .n) (s .pre .1 .1) (s .pre .1 .2) (s .pre .1 .0))
+    (zero-le, invariant-first (a .shifts) (a .m) (a .sv .now) (a .st .now) (a .sh .now) (a .qs .now) (a .qt .now) (a .file .now) (a .n) (s .pre .1 .1) (s .pre .1 .2) (s .pre .1 .0))
+
+add-end : tie.Need-add-if1 Inv-loop μ-loop
+add-end c =
+    let l = c .before in
+    omega (arith, l .loop .inv .1 .early, l .before .width .ensures, width-most (l .before .before .before .args .shifts))
 
 returns : tie.Need-returns Inv-loop μ-loop
 returns c =
     let l = c .before .before in
-    let a = l .before .before .args in
-    for-all (a .m) (a .sv .now) (a .st .now) (a .qs .now) (a .qt .now) (a .file .now) _
-    (refused-as (a .m) (a .sv .now) (a .st .now) (a .qs .now) (a .qt .now) (a .file .now) 1 (l .loop .chosen) (l .loop .edges)
-    (invariant-cut (a .m) (a .sv .now) (a .st .now) (a .qs .now) (a .qt .now) (a .file .now) (a .n) (l .loop .k) (l .loop .from)
-    (l .loop .chosen) (l .loop .edges) (l .loop .us) (l .loop .ut) (l .loop .inv .1) (c .before .loop-test .taken) (c .if1 .taken)))
+    let a = l .before .before .before .args in
+    for-all (a .shifts) (a .m) (a .sv .now) (a .st .now) (a .sh .now) (a .qs .now) (a .qt .now) (a .file .now) _
+    (refused-as (a .shifts) (a .m) (a .sv .now) (a .st .now) (a .sh .now) (a .qs .now) (a .qt .now) (a .file .now) 1 (l .loop .chosen) (l .loop .edges)
+    (invariant-cut (a .shifts) (a .m) (a .sv .now) (a .st .now) (a .sh .now) (a .qs .now) (a .qt .now) (a .file .now) (a .n) (l .loop .k) (l .loop .at) (l .loop .from)
+    (l .loop .chosen) (l .loop .edges) (l .loop .us) (l .loop .ut) (l .loop .inv .1) (c .before .loop-test .taken) (l .before .width .result) (l .before .width .ensures) (c .if1 .taken)))
 
 edge-of-requires : tie.Need-edge-of-requires Inv-loop μ-loop
-edge-of-requires c κs = let l = c .before .before .before in let s = l .before .before in (l .loop .inv .1 .small, s .pre .0 .0, s .pre .0 .3)
+edge-of-requires c κs = let l = c .before .before .before in let s = l .before .before .before in (l .loop .inv .1 .small, s .pre .0 .0, s .pre .0 .3)
 
 pair-refusal-requires : tie.Need-pair-refusal-requires Inv-loop μ-loop
-pair-refusal-requires c κs = let s = c .before .before .before .before .before .before .before .before in (s .pre .0 .0, s .pre .0 .1, s .pre .0 .2)
+pair-refusal-requires c κs = let s = c .before .before .before .before .before .before .before .before .before in (s .pre .0 .0, s .pre .0 .1, s .pre .0 .2)
 
 returns-2 : tie.Need-returns-2 Inv-loop μ-loop
 returns-2 c =
     let l = c .before .before .before .before .before .before .before .before in
-    let s = l .before .before in
+    let s = l .before .before .before in
     let a = s .args in
     let k = c .before .before .before .before in
-    for-all (a .m) (a .sv .now) (a .st .now) (a .qs .now) (a .qt .now) (a .file .now) _
-    (refused-as (a .m) (a .sv .now) (a .st .now) (a .qs .now) (a .qt .now) (a .file .now) (c .before .pair-refusal .result) (l .loop .chosen)
+    for-all (a .shifts) (a .m) (a .sv .now) (a .st .now) (a .sh .now) (a .qs .now) (a .qt .now) (a .file .now) _
+    (refused-as (a .shifts) (a .m) (a .sv .now) (a .st .now) (a .sh .now) (a .qs .now) (a .qt .now) (a .file .now) (c .before .pair-refusal .result) (l .loop .chosen)
     (l .loop .edges)
-    (invariant-refused (a .m) (a .sv .now) (a .st .now) (a .qs .now) (a .qt .now) (a .file .now) (a .n) (l .loop .k) (l .loop .from)
+    (invariant-refused (a .shifts) (a .m) (a .sv .now) (a .st .now) (a .sh .now) (a .qs .now) (a .qt .now) (a .file .now) (a .n) (l .loop .k) (l .loop .at) (l .loop .from)
     (l .loop .chosen) (l .loop .edges) (l .loop .us) (l .loop .ut) (l .loop .inv .1)
-    (c .before .before .before .before .before .before .before .loop-test .taken) (s .pre .0 .1) (s .pre .0 .2)
+    (c .before .before .before .before .before .before .before .loop-test .taken) (l .before .width .result) (l .before .width .ensures)
+    (s .pre .0 .1) (s .pre .0 .2)
     (c .before .before .before .before .before .before .if1 .left) (k .edge-of .result) (found k)
     (c .before .pair-refusal .result) (c .before .pair-refusal .ensures) (omega arith)))
 
@@ -89,7 +95,7 @@ element-copy-out-i c = omega (arith, passing c .0)
 cast-i : tie.Need-cast-i Inv-loop μ-loop
 cast-i c =
     let p = passing (c .before) in
-    let s = c .before .before .before .before .before .before .before .before .before .before .before in
+    let s = c .before .before .before .before .before .before .before .before .before .before .before .before in
     omega (arith, s .pre .0 .1 (c .before .before .before .before .before .edge-of .result) (p .0))
 
 element-copy-out-j : tie.Need-element-copy-out-j Inv-loop μ-loop
@@ -98,22 +104,22 @@ element-copy-out-j c = omega (arith, passing (c .before) .0)
 cast-j : tie.Need-cast-j Inv-loop μ-loop
 cast-j c =
     let p = passing (c .before .before) in
-    let s = c .before .before .before .before .before .before .before .before .before .before .before .before in
+    let s = c .before .before .before .before .before .before .before .before .before .before .before .before .before in
     omega (arith, s .pre .0 .2 (c .before .before .before .before .before .before .edge-of .result) (p .0))
 
 array-read-us : tie.Need-array-read-us Inv-loop μ-loop
 array-read-us c =
     let p = passing (c .before .before) in
-    let s = c .before .before .before .before .before .before .before .before .before .before .before .before in
+    let s = c .before .before .before .before .before .before .before .before .before .before .before .before .before in
     omega (arith, s .pre .0 .1 (c .before .before .before .before .before .before .edge-of .result) (p .0))
 
 add-us : tie.Need-add-us Inv-loop μ-loop
 add-us c =
     let l = c .before .before .before .before .before .before .before .before .before .before in
-    let a = l .before .before .args in
+    let a = l .before .before .before .args in
     omega (
       arith,
-      used-few (a .m) (a .sv .now) (a .st .now) (a .qs .now) (a .qt .now) (a .file .now) (a .n) (l .loop .k) (l .loop .from) (l .loop .chosen)
+      used-few (a .shifts) (a .m) (a .sv .now) (a .st .now) (a .sh .now) (a .qs .now) (a .qt .now) (a .file .now) (a .n) (l .loop .k) (l .loop .at) (l .loop .from) (l .loop .chosen)
           (l .loop .edges) (l .loop .us) (l .loop .ut) (l .loop .inv .1)
           (at (a .sv .now) (c .before .before .before .before .before .before .edge-of .result)) .0,
     )
@@ -121,22 +127,22 @@ add-us c =
 array-write-us : tie.Need-array-write-us Inv-loop μ-loop
 array-write-us c =
     let p = passing (c .before .before) in
-    let s = c .before .before .before .before .before .before .before .before .before .before .before .before in
+    let s = c .before .before .before .before .before .before .before .before .before .before .before .before .before in
     omega (arith, s .pre .0 .1 (c .before .before .before .before .before .before .edge-of .result) (p .0))
 
 array-read-ut : tie.Need-array-read-ut Inv-loop μ-loop
 array-read-ut c =
     let p = passing (c .before .before) in
-    let s = c .before .before .before .before .before .before .before .before .before .before .before .before in
+    let s = c .before .before .before .before .before .before .before .before .before .before .before .before .before in
     omega (arith, s .pre .0 .2 (c .before .before .before .before .before .before .edge-of .result) (p .0))
 
 add-ut : tie.Need-add-ut Inv-loop μ-loop
 add-ut c =
     let l = c .before .before .before .before .before .before .before .before .before .before in
-    let a = l .before .before .args in
+    let a = l .before .before .before .args in
     omega (
       arith,
-      used-few (a .m) (a .sv .now) (a .st .now) (a .qs .now) (a .qt .now) (a .file .now) (a .n) (l .loop .k) (l .loop .from) (l .loop .chosen)
+      used-few (a .shifts) (a .m) (a .sv .now) (a .st .now) (a .sh .now) (a .qs .now) (a .qt .now) (a .file .now) (a .n) (l .loop .k) (l .loop .at) (l .loop .from) (l .loop .chosen)
           (l .loop .edges) (l .loop .us) (l .loop .ut) (l .loop .inv .1)
           (at (a .st .now) (c .before .before .before .before .before .before .edge-of .result)) .1,
     )
@@ -144,7 +150,7 @@ add-ut c =
 array-write-ut : tie.Need-array-write-ut Inv-loop μ-loop
 array-write-ut c =
     let p = passing (c .before .before) in
-    let s = c .before .before .before .before .before .before .before .before .before .before .before .before in
+    let s = c .before .before .before .before .before .before .before .before .before .before .before .before .before in
     omega (arith, s .pre .0 .2 (c .before .before .before .before .before .before .edge-of .result) (p .0))
 
 array-write-chosen : tie.Need-array-write-chosen Inv-loop μ-loop
@@ -159,13 +165,14 @@ add-from c = omega (arith, passing (c .before .before) .0)
 loop-again : tie.Need-loop-again Inv-loop μ-loop
 loop-again c =
     let l = c .before .before .before .before .before .before .before .before .before .before in
-    let s = l .before .before in
+    let s = l .before .before .before in
     let a = s .args in
     let k = c .before .before .before .before .before .before in (
       omega arith,
-      invariant-on (a .m) (a .sv .now) (a .st .now) (a .qs .now) (a .qt .now) (a .file .now) (a .n) (l .loop .k) (l .loop .from) (l .loop .chosen)
+      invariant-on (a .shifts) (a .m) (a .sv .now) (a .st .now) (a .sh .now) (a .qs .now) (a .qt .now) (a .file .now) (a .n) (l .loop .k) (l .loop .at) (l .loop .from) (l .loop .chosen)
           (l .loop .edges) (l .loop .us) (l .loop .ut) (l .loop .inv .1)
-          (c .before .before .before .before .before .before .before .before .before .loop-test .taken) (s .pre .0 .1) (s .pre .0 .2)
+          (c .before .before .before .before .before .before .before .before .before .loop-test .taken) (l .before .width .result) (l .before .width .ensures)
+          (s .pre .0 .1) (s .pre .0 .2)
           (c .before .before .before .before .before .before .before .before .if1 .left) (k .edge-of .result) (found k)
           (c .before .before .before .pair-refusal .result) (c .before .before .before .pair-refusal .ensures) (omega arith) (omega arith) (s .pre .0 .0),
     )
@@ -173,23 +180,32 @@ loop-again c =
 returns-3 : tie.Need-returns-3 Inv-loop μ-loop
 returns-3 c =
     let l = c .before .before in
-    let a = l .before .before .args in
-    for-all (a .m) (a .sv .now) (a .st .now) (a .qs .now) (a .qt .now) (a .file .now) _
-    (refused-as (a .m) (a .sv .now) (a .st .now) (a .qs .now) (a .qt .now) (a .file .now) 9 (l .loop .chosen) (l .loop .edges)
-    (invariant-long (a .m) (a .sv .now) (a .st .now) (a .qs .now) (a .qt .now) (a .file .now) (a .n) (l .loop .k) (l .loop .from)
+    let a = l .before .before .before .args in
+    for-all (a .shifts) (a .m) (a .sv .now) (a .st .now) (a .sh .now) (a .qs .now) (a .qt .now) (a .file .now) _
+    (refused-as (a .shifts) (a .m) (a .sv .now) (a .st .now) (a .sh .now) (a .qs .now) (a .qt .now) (a .file .now) 9 (l .loop .chosen) (l .loop .edges)
+    (invariant-long (a .shifts) (a .m) (a .sv .now) (a .st .now) (a .sh .now) (a .qs .now) (a .qt .now) (a .file .now) (a .n) (l .loop .k) (l .loop .at) (l .loop .from)
     (l .loop .chosen) (l .loop .edges) (l .loop .us) (l .loop .ut) (l .loop .inv .1) (omega arith) (omega arith)))
 
 returns-4 : tie.Need-returns-4 Inv-loop μ-loop
 returns-4 c =
     let l = c .before .before in
-    let a = l .before .before .args in
-    for-all (a .m) (a .sv .now) (a .st .now) (a .qs .now) (a .qt .now) (a .file .now) _
-    (invariant-accepted (a .m) (a .sv .now) (a .st .now) (a .qs .now) (a .qt .now) (a .file .now) (a .n) (l .loop .k) (l .loop .from)
+    let a = l .before .before .before .args in
+    for-all (a .shifts) (a .m) (a .sv .now) (a .st .now) (a .sh .now) (a .qs .now) (a .qt .now) (a .file .now) _
+    (invariant-accepted (a .shifts) (a .m) (a .sv .now) (a .st .now) (a .sh .now) (a .qs .now) (a .qt .now) (a .file .now) (a .n) (l .loop .k) (l .loop .at) (l .loop .from)
     (l .loop .chosen) (l .loop .edges) (l .loop .us) (l .loop .ut) (l .loop .inv .1) (omega arith) (omega arith))
+
+-- the pair's bytes are there
+get-requires : tie.Need-get-requires Inv-loop μ-loop
+get-requires c κs = omega (arith, c .before .before .before .width .ensures, c .if1 .left)
+
+add-at : tie.Need-add-at Inv-loop μ-loop
+add-at c =
+    let l = c .before .before .before .before .before .before .before .before .before .before in
+    omega (arith, l .loop .inv .1 .early, l .before .width .ensures, width-most (l .before .before .before .args .shifts))
 
 pub read-pairs-spec : {M : Type 1} → statement M
 read-pairs-spec =
-    tie.close (tie.spec Inv-loop μ-loop loop-holds (λ c. omega arith) (λ c. omega arith) (λ c. omega arith) returns (λ c κs. omega arith)
-    edge-of-requires pair-refusal-requires returns-2 element-copy-out-i cast-i element-copy-out-j cast-j array-read-us add-us
-    array-write-us array-read-ut add-ut array-write-ut array-write-chosen cast-edges (λ c. search needs) (λ c. search needs) add-from
-    (λ c. search needs) (λ c. search needs) loop-again (λ c. search needs) (λ c. search needs) returns-3 returns-4)
+    tie.close (tie.spec Inv-loop μ-loop (λ c κs. search needs) loop-holds add-end returns get-requires edge-of-requires pair-refusal-requires
+    returns-2 element-copy-out-i cast-i element-copy-out-j cast-j array-read-us add-us array-write-us array-read-ut add-ut array-write-ut
+    array-write-chosen cast-edges (λ c. search needs) (λ c. search needs) add-from add-at (λ c. search needs) (λ c. search needs) loop-again
+    returns-3 returns-4)

@@ -8,16 +8,16 @@ use Rattle.plan_reader.proofs.read_plan.Tie as tie
 returns : tie.Need-returns
 returns c =
     let a = c .before .before .args in
-    for-all (a .m) (a .sv .now) (a .st .now) (a .qs .now) (a .qt .now) (a .file .now) _
-    (refused-as (a .m) (a .sv .now) (a .st .now) (a .qs .now) (a .qt .now) (a .file .now) 1 _ _
-    (empty-file (a .m) (a .sv .now) (a .st .now) (a .qs .now) (a .qt .now) (a .file .now) (omega arith)))
+    for-all (a .shifts) (a .m) (a .sv .now) (a .st .now) (a .sh .now) (a .qs .now) (a .qt .now) (a .file .now) _
+    (refused-as (a .shifts) (a .m) (a .sv .now) (a .st .now) (a .sh .now) (a .qs .now) (a .qt .now) (a .file .now) 1 _ _
+    (empty-file (a .shifts) (a .m) (a .sv .now) (a .st .now) (a .sh .now) (a .qs .now) (a .qt .now) (a .file .now) (omega arith)))
 
 returns-2 : tie.Need-returns-2
 returns-2 c =
     let a = c .before .before .before .before .args in
-    for-all (a .m) (a .sv .now) (a .st .now) (a .qs .now) (a .qt .now) (a .file .now) _
-    (refused-as (a .m) (a .sv .now) (a .st .now) (a .qs .now) (a .qt .now) (a .file .now) 2 _ _
-    (long-count (a .m) (a .sv .now) (a .st .now) (a .qs .now) (a .qt .now) (a .file .now) (omega arith) (c .if2 .taken)))
+    for-all (a .shifts) (a .m) (a .sv .now) (a .st .now) (a .sh .now) (a .qs .now) (a .qt .now) (a .file .now) _
+    (refused-as (a .shifts) (a .m) (a .sv .now) (a .st .now) (a .sh .now) (a .qs .now) (a .qt .now) (a .file .now) 2 _ _
+    (long-count (a .shifts) (a .m) (a .sv .now) (a .st .now) (a .sh .now) (a .qs .now) (a .qt .now) (a .file .now) (omega arith) (c .if2 .taken)))
 
 pub read-plan-spec : {M : Type 1} → statement M
 read-plan-spec =

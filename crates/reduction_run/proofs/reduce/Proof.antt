@@ -32,7 +32,7 @@ returns c =
     let p = c .before .before .before .before .before .pre in
     let os = c .before .before .before .before .by-rank in
     let ot = c .before .before .before .by-rank2 in
-    λ ns nt law. c .run .ensures (knownOf (a .m) ns nt (a .sv .now) (a .st .now) (a .rs .now) (a .rt .now) (a .tied .now) (a .qs .now) (a .qt .now)
+    λ ns nt sh law. c .run .ensures (knownOf (a .m) ns nt (a .sv .now) (a .st .now) (a .rs .now) (a .rt .now) sh (a .tied .now) (a .qs .now) (a .qt .now)
     (take (a .m) (os .result)) (take (a .m) (ot .result)) law (p .0) (p .1) (p .2) (os .ensures) (ot .ensures))
 
 pub reduce-spec : {M : Type 1} → statement M

@@ -2,7 +2,8 @@
 use mathlib.Core.Path.{_≡_, sym, ap, _∙_}
 use Prim.Native.Nat.{_+_, _-_, _*_, _≤_, zero-le}
 use native.Mathlib.Omega.{arith}
-use Rattle.roster_positions.specs.Tables.{listsStamped, listsEnd}
+use Rattle.model.specs.Limits.{entryWidth}
+use Rattle.roster_positions.specs.Tables.{rowWidth, listsStamped, listsEnd}
 use Rattle.roster_positions.proofs.Stamping.{end-turn, end-done, lists-turn, lists-done, left-all, short}
 use borrow.Author.Needs.{needs}
 use Rattle.roster_positions.proofs.stamp_lists.Statement.{statement}
@@ -15,8 +16,8 @@ use Rattle.roster_positions.proofs.stamp.Reads as stamp-reads
 
 abbrev Inv-loop : tie.InvT-loop
 Inv-loop file start n table₀ at₀ i₀ table at i =
-    (i ≤ n) × (at ≤ 1000 + 256 * i) × (listsEnd file n start ≡ listsEnd file (n - i) at)
-    × (listsStamped file n 0 start table₀ ≡ listsStamped file (n - i) (i * 32) at table)
+    (i ≤ n) × (at ≤ start + 511 * i) × (listsEnd file n start ≡ listsEnd file (n - i) at)
+    × (listsStamped file n 0 start table₀ ≡ listsStamped file (n - i) (i * rowWidth) at table)
 
 abbrev μ-loop : tie.MeasureT-loop
 μ-loop file start n table₀ at₀ i₀ table at i = n - i
@@ -32,7 +33,7 @@ loop-holds c =
     )
 
 stamp-requires : tie.Need-stamp-requires Inv-loop μ-loop
-stamp-requires c κs = (short (c .before .before .byte-at .result) (c .before .part .result .now) _ (c .before .part .ensures) (omega arith), omega arith)
+stamp-requires c κs = (short (entryWidth * c .before .before .byte-at .result) 510 (c .before .part .result .now) _ (c .before .part .ensures) (omega arith), omega arith)
 
 loop-again : tie.Need-loop-again Inv-loop μ-loop
 loop-again c =
@@ -58,6 +59,6 @@ returns c =
 
 pub stamp-lists-spec : {M : Type 1} → statement M
 stamp-lists-spec =
-    tie.close (tie.spec Inv-loop μ-loop loop-holds (λ c κs. search needs) (λ c. search needs) (λ c. search needs) (λ c κs. search needs)
-    (λ c. search needs) stamp-requires (λ c. search needs) (λ c. search needs) (λ c. search needs) (λ c. search needs) loop-again
-    returns)
+    tie.close (tie.spec Inv-loop μ-loop loop-holds (λ c κs. search needs) (λ c. search needs) (λ c. search needs)
+    (λ c. search needs) (λ c κs. search needs) (λ c. search needs) stamp-requires (λ c. search needs) (λ c. search needs)
+    (λ c. search needs) (λ c. search needs) (λ c. search needs) loop-again returns)

@@ -2,7 +2,8 @@
 use mathlib.Core.Path.{_≡_, sym, ap, _∙_}
 use Prim.Native.Nat.{_+_, _-_, _*_, _≤_, zero-le}
 use native.Mathlib.Omega.{arith}
-use Rattle.roster_positions.specs.Tables.{strictStamped, nextRanks}
+use Rattle.model.specs.Limits.{entryWidth}
+use Rattle.roster_positions.specs.Tables.{rowWidth, strictStamped, nextRanks}
 use Rattle.roster_positions.proofs.Stamping.{strict-turn, strict-done, next-turn, next-done, left-all, short}
 use borrow.Author.Needs.{needs}
 use Rattle.roster_positions.proofs.stamp_rankings.Statement.{statement}
@@ -15,7 +16,7 @@ use Rattle.roster_positions.proofs.stamp.Reads as stamp-reads
 
 abbrev Inv-loop : tie.InvT-loop
 Inv-loop file start n table₀ next₀ at₀ j₀ table next at j =
-    (j ≤ n) × (at ≤ 10000 + 512 * j) × (strictStamped file n 0 start table₀ ≡ strictStamped file (n - j) (j * 32) at table)
+    (j ≤ n) × (at ≤ 20000 + 1022 * j) × (strictStamped file n 0 start table₀ ≡ strictStamped file (n - j) (j * rowWidth) at table)
     × (nextRanks file n 0 start next₀ ≡ nextRanks file (n - j) j at next)
 
 abbrev μ-loop : tie.MeasureT-loop
@@ -33,7 +34,7 @@ loop-holds c =
 
 stamp-requires : tie.Need-stamp-requires Inv-loop μ-loop
 stamp-requires c κs =
-    (short (c .before .before .before .byte-at .result) (c .before .part .result .now) _ (c .before .part .ensures) (omega arith), omega arith)
+    (short (entryWidth * c .before .before .before .byte-at .result) 510 (c .before .part .result .now) _ (c .before .part .ensures) (omega arith), omega arith)
 
 loop-again : tie.Need-loop-again Inv-loop μ-loop
 loop-again c =
@@ -61,7 +62,7 @@ returns c =
 
 pub stamp-rankings-spec : {M : Type 1} → statement M
 stamp-rankings-spec =
-    tie.close (tie.spec Inv-loop μ-loop loop-holds (λ c κs. search needs) (λ c. search needs) (λ c. search needs) (λ c κs. search needs)
-    (λ c. search needs) (λ c. search needs) (λ c κs. search needs) (λ c. search needs) stamp-requires (λ c. search needs)
-    (λ c. search needs) (λ c. search needs) (λ c. search needs) (λ c. search needs) (λ c. search needs) (λ c. search needs)
-    (λ c. search needs) loop-again returns)
+    tie.close (tie.spec Inv-loop μ-loop loop-holds (λ c κs. search needs) (λ c. search needs) (λ c. search needs)
+    (λ c κs. search needs) (λ c. search needs) (λ c. search needs) (λ c. search needs) (λ c κs. search needs) (λ c. search needs)
+    stamp-requires (λ c. search needs) (λ c. search needs) (λ c. search needs) (λ c. search needs) (λ c. search needs)
+    (λ c. search needs) (λ c. search needs) (λ c. search needs) (λ c. search needs) loop-again returns)
