@@ -11,8 +11,8 @@ use lib.Dec.{ltb}
 use borrow.Author.Tests.{lt-ltb, le-ltb}
 use Rattle.model.specs.Limits.{entryLimit}
 use Rattle.model.specs.Reading.{Reading, accepted, refused, _then_, refuseIf, byte, twoBytes}
-use Rattle.model.specs.Roster.{Ranking}
-use Rattle.model.specs.RosterFile.{readCount, readWideCount, readEntries, readTied, readRanking}
+use Rattle.model.specs.Roster.{Entry, Ranking}
+use Rattle.model.specs.RosterFile.{Layout, readCount, readWideCount, readEntries, readTied, readRanking}
 
 -- the bytes from a place on, one or two of them in front
 from-one : (f : List ℕ) (at : ℕ) → at < length f → drop at f ≡ getD f at 0 ∷ drop (at + 1) f
@@ -64,16 +64,16 @@ module _ {A : Type 0} (f : List ℕ) (at : ℕ) (body : ℕ → List ℕ → Rea
   wide-goes h k = simp (from-two f at h, le-ltb entryLimit (wide f at) k)
 
 -- a stand's two lengths
-module _ (f : List ℕ) (at longest other : ℕ) where
-  abbrev pub tieBehind : ℕ → List ℕ → List ℕ → Reading (Ranking × List ℕ)
-  tieBehind b xs rest = readTied other xs b rest then (λ ys rest. accepted (record { strict = xs; tied = ys }, rest))
+module _ (L : Layout) (f : List ℕ) (at longest other : ℕ) where
+  abbrev pub tieBehind : ℕ → List Entry → List ℕ → Reading (Ranking × List ℕ)
+  tieBehind b xs rest = readTied L other xs b rest then (λ ys rest. accepted (record { strict = xs; tied = ys }, rest))
 
-  pub lengths-end : length f < at + 2 → readRanking longest other (drop at f) ≡ refused 1
-  lengths-end h = byte-cut (drop at f) (λ a b rest. refuseIf (ltb longest (a + b)) 2 (readEntries other a rest then tieBehind b)) (from-cut f at h)
+  pub lengths-end : length f < at + 2 → readRanking L longest other (drop at f) ≡ refused 1
+  lengths-end h = byte-cut (drop at f) (λ a b rest. refuseIf (ltb longest (a + b)) 2 (readEntries L other a rest then tieBehind b)) (from-cut f at h)
 
-  pub lengths-long : at + 1 < length f → longest < getD f at 0 + getD f (at + 1) 0 → readRanking longest other (drop at f) ≡ refused 2
+  pub lengths-long : at + 1 < length f → longest < getD f at 0 + getD f (at + 1) 0 → readRanking L longest other (drop at f) ≡ refused 2
   lengths-long h k = simp (from-two f at h, lt-ltb longest (getD f at 0 + getD f (at + 1) 0) k)
 
   pub lengths-goes : at + 1 < length f → getD f at 0 + getD f (at + 1) 0 ≤ longest
-      → readRanking longest other (drop at f) ≡ (readEntries other (getD f at 0) (drop (at + 2) f) then tieBehind (getD f (at + 1) 0))
+      → readRanking L longest other (drop at f) ≡ (readEntries L other (getD f at 0) (drop (at + 2) f) then tieBehind (getD f (at + 1) 0))
   lengths-goes h k = simp (from-two f at h, le-ltb longest (getD f at 0 + getD f (at + 1) 0) k)

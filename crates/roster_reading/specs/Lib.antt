@@ -1,6 +1,8 @@
 pub mod Place
 pub mod Check
+pub mod Layout
 pub mod Field
+pub mod Slot
 pub mod Row
 pub mod Lists
 pub mod Table

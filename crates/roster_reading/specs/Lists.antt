@@ -2,64 +2,68 @@
 use Prim.Native.Nat.{ℕ, _+_, _≤_, _<_}
 use native.Mathlib.Omega.{arith}
 use mathlib.Core.Path.{_≡_, sym, ap, _∙_}
-use mathlib.Core.Bool.{Bool}
+use mathlib.Core.Bool.{Bool, true}
 use mathlib.Core.List.{List, [], _∷_, _++_}
 use lib.ListN.{length, drop, getD}
 use lib.Dec.{T}
 use Rattle.lists.specs.Test.{given}
-use Rattle.model.specs.Reading.{Reading, accepted, _then_}
-use Rattle.model.specs.Roster.{Ranking, entries}
-use Rattle.model.specs.RosterFile.{entryCheck, readEntries, readTied, readList, readRanking}
-use Rattle.theory_files.specs.Reads.{isBytes, bytes}
+use Rattle.model.specs.Reading.{accepted, _then_}
+use Rattle.model.specs.Roster.{Entry, Ranking, entries}
+use Rattle.model.specs.RosterFile.{Layout, entryCheck, readEntries, readTied, readList, readRanking}
+use Rattle.theory_files.specs.Reads.{isBytes, each}
 use Rattle.roster_reading.specs.declared.Section.{Section}
 use Rattle.roster_reading.specs.declared.Section.the-variants as section
 use Rattle.roster_reading.specs.Place.{place-refused, place-read}
+use Rattle.roster_reading.specs.Layout.{layoutOf, agreesOf}
 use Rattle.roster_reading.specs.Field.{count-end, count-long, count-goes, lengths-end, lengths-long, lengths-goes, tieBehind}
-use Rattle.roster_reading.specs.Row.{Shows, Marked, marked-refused, marked-as, marked-behind, marked-map, TiedAt}
+use Rattle.roster_reading.specs.Row.{Shows, Marked, marked-refused, marked-as, marked-behind, marked-map, EntriesAt}
 
-module _ (longest other : ℕ) (f : List ℕ) (at : ℕ) where
+module _ (shifts : Bool) (longest other : ℕ) (f : List ℕ) (at : ℕ) where
+  abbrev L : Layout
+  L = layoutOf shifts
+
   -- ---- a surveyor's list
-  pub list-end : {after : List Bool} → length f ≤ at → Marked (readList longest other) Shows f at (section.Refused 1) after
-  list-end h = marked-refused (count-end f at longest (readEntries other) h)
+  pub list-end : {after : List Bool} → length f ≤ at → Marked (readList L longest other) Shows f at (section.Refused 1) after
+  list-end h = marked-refused (count-end f at longest (readEntries L other) h)
 
-  pub list-long : {after : List Bool} → at < length f → longest < getD f at 0 → Marked (readList longest other) Shows f at (section.Refused 2) after
-  list-long h k = marked-refused (count-long f at longest (readEntries other) h k)
+  pub list-long : {after : List Bool} → at < length f → longest < getD f at 0 → Marked (readList L longest other) Shows f at (section.Refused 2) after
+  list-long h k = marked-refused (count-long f at longest (readEntries L other) h k)
 
-  pub list-goes : {after : List Bool} {r : Section} → at < length f → getD f at 0 ≤ longest → Marked (readEntries other (getD f at 0)) Shows f (at + 1) r after
-      → Marked (readList longest other) Shows f at r after
-  list-goes h k m = marked-behind {other = readEntries other (getD f at 0)} {next = at + 1} (count-goes f at longest (readEntries other) h k) m
+  pub list-goes : {after : List Bool} {r : Section} → at < length f → getD f at 0 ≤ longest → Marked (readEntries L other (getD f at 0)) Shows f (at + 1) r after
+      → Marked (readList L longest other) Shows f at r after
+  list-goes h k m = marked-behind {other = readEntries L other (getD f at 0)} {next = at + 1} (count-goes f at longest (readEntries L other) h k) m
 
   -- ---- a stand's list
   abbrev ShowsR : List Bool → Ranking → Type 0
   ShowsR row R = Shows row (entries R)
 
-  pub ranking-end : {after : List Bool} → length f < at + 2 → Marked (readRanking longest other) ShowsR f at (section.Refused 1) after
-  ranking-end h = marked-refused (lengths-end f at longest other h)
+  pub ranking-end : {after : List Bool} → length f < at + 2 → Marked (readRanking L longest other) ShowsR f at (section.Refused 1) after
+  ranking-end h = marked-refused (lengths-end L f at longest other h)
 
   pub ranking-long : {after : List Bool} → at + 1 < length f → longest < getD f at 0 + getD f (at + 1) 0
-      → Marked (readRanking longest other) ShowsR f at (section.Refused 2) after
-  ranking-long h k = marked-refused (lengths-long f at longest other h k)
+      → Marked (readRanking L longest other) ShowsR f at (section.Refused 2) after
+  ranking-long h k = marked-refused (lengths-long L f at longest other h k)
 
   module _ (h : at + 1 < length f) (k : getD f at 0 + getD f (at + 1) 0 ≤ longest) {between : List Bool} {s : Section}
-      (m : Marked (readEntries other (getD f at 0)) Shows f (at + 2) s between) where
-    pub ranking-refused : {n : ℕ} → s ≡ section.Refused n → Marked (readRanking longest other) ShowsR f at s between
-    ranking-refused e = marked-as (sym e) (marked-refused (lengths-goes f at longest other h k
-        ∙ ap (λ r. r then tieBehind f at longest other (getD f (at + 1) 0))
-        (place-refused f (readEntries other (getD f at 0) (drop (at + 2) f)) (sym e ∙ m .place))))
+      (m : Marked (readEntries L other (getD f at 0)) Shows f (at + 2) s between) where
+    pub ranking-refused : {n : ℕ} → s ≡ section.Refused n → Marked (readRanking L longest other) ShowsR f at s between
+    ranking-refused e = marked-as (sym e) (marked-refused (lengths-goes L f at longest other h k
+        ∙ ap (λ r. r then tieBehind L f at longest other (getD f (at + 1) 0))
+        (place-refused f (readEntries L other (getD f at 0) (drop (at + 2) f)) (sym e ∙ m .place))))
 
     module _ (isB : T (isBytes f)) {next : ℕ} (e : s ≡ section.Read next) where
-      strict : (xs : List ℕ) × (readEntries other (getD f at 0) (drop (at + 2) f) ≡ accepted (xs, drop next f)) × (next ≤ length f)
+      strict : (xs : List Entry) × (readEntries L other (getD f at 0) (drop (at + 2) f) ≡ accepted (xs, drop next f)) × (next ≤ length f)
       strict =
-          given (place-read (bytes (entryCheck other) (λ seen x. seen ++ x ∷ []) (getD f at 0) []) f (at + 2) isB (omega arith) (sym e ∙ m .place))
+          given (place-read (each (agreesOf shifts .reads) (entryCheck other) (λ seen x. seen ++ x ∷ []) (getD f at 0) []) f (at + 2) isB (omega arith) (sym e ∙ m .place))
           (λ x. (x .value, x .is, x .within))
 
       pub tie-within : next ≤ length f
       tie-within = strict .2
 
-      pub ranking-goes : {after : List Bool} {r : Section} → TiedAt other (getD f (at + 1) 0) f next between r after
-          → Marked (readRanking longest other) ShowsR f at r after
+      pub ranking-goes : {after : List Bool} {r : Section} → EntriesAt shifts true other (getD f (at + 1) 0) f next between r after
+          → Marked (readRanking L longest other) ShowsR f at r after
       ranking-goes t = given strict (λ (xs, is, w).
-          marked-behind {other = λ bs. readTied other xs (getD f (at + 1) 0) bs then (λ ys rest. accepted (record { strict = xs; tied = ys }, rest))}
+          marked-behind {other = λ bs. readTied L other xs (getD f (at + 1) 0) bs then (λ ys rest. accepted (record { strict = xs; tied = ys }, rest))}
           {next = next}
-          (lengths-goes f at longest other h k ∙ ap (λ r. r then tieBehind f at longest other (getD f (at + 1) 0)) is)
-          (marked-map (readTied other xs (getD f (at + 1) 0)) (λ ys. record { strict = xs; tied = ys }) (t xs (m .marks xs (drop next f) is))))
+          (lengths-goes L f at longest other h k ∙ ap (λ r. r then tieBehind L f at longest other (getD f (at + 1) 0)) is)
+          (marked-map (readTied L other xs (getD f (at + 1) 0)) (λ ys. record { strict = xs; tied = ys }) (t xs (m .marks xs (drop next f) is))))

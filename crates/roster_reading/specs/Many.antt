@@ -1,6 +1,7 @@
 -- Lists in a row, each read and marked in a row of the table; and a section of them with its count.
-use Prim.Native.Nat.{ℕ, suc, _+_, _*_, _-_, _≤_, _<_}
+use Prim.Native.Nat.{ℕ, suc, _+_, _*_, _-_, _/_, _≤_, _<_}
 use native.Mathlib.Omega.{arith}
+use native.Mathlib.Nat.{mul-div-cancel-left}
 use mathlib.Core.Path.{_≡_, refl, sym, ap, _∙_, subst}
 use mathlib.Core.Logic.{_⊎_, ⊎-elim}
 use mathlib.Core.Bool.{Bool, cond, not}
@@ -12,20 +13,22 @@ use Rattle.lists.specs.Test.{given, by-eq}
 use Rattle.lists.specs.Keep.{gather}
 use Rattle.model.specs.Limits.{entryLimit}
 use Rattle.model.specs.Reading.{Reading, accepted, refused, _then_, refuseIf, readEach}
+use Rattle.model.specs.Roster.{Entry}
 use Rattle.model.specs.RosterFile.{readMany, readSection}
 use Rattle.theory_files.specs.Reads.{isBytes, Reads, each, read-value}
 use Rattle.roster_reading.specs.declared.Section.{Section}
 use Rattle.roster_reading.specs.declared.Section.the-variants as section
 use Rattle.roster_reading.specs.Place.{placed, place-refused, place-read}
 use Rattle.roster_reading.specs.Field.{wide, wide-end, wide-long, wide-goes}
+use Rattle.roster_reading.specs.Slot.{rowWidth}
 use Rattle.roster_reading.specs.Row.{Shows, Marked, marked-as, marked-refused}
-use Rattle.roster_reading.specs.Table.{rowWidth, withRow, Shown, row-more}
+use Rattle.roster_reading.specs.Table.{withRow, Shown, row-more}
 
 then-id : {A : Type 0} (r : Reading (A × List ℕ)) → r ≡ (r then (λ a rest. accepted (a, rest)))
 then-id (accepted (a, rest)) = refl
 then-id (refused n) = refl
 
-module _ {A : Type 0} (field : List ℕ → Reading (A × List ℕ)) (entries : A → List ℕ) (none : A) (f : List ℕ) (start n : ℕ) where
+module _ {A : Type 0} (field : List ℕ → Reading (A × List ℕ)) (entries : A → List Entry) (none : A) (f : List ℕ) (start n : ℕ) where
   -- after k of the lists: these are read, their rows are marked, and the others are read from the place `at` on
   pub record Turn (at k : ℕ) (table : List Bool) : Type 0 where
     pub lists : List A
@@ -90,15 +93,15 @@ module _ {A : Type 0} (field : List ℕ → Reading (A × List ℕ)) (entries : 
         joined x ls (accepted (xs, rest)) = ap (λ z. accepted (z, rest)) (sym (append-assoc ls (x ∷ []) xs))
         joined x ls (refused m) = refl
 
--- ---- a section: its count, the lists, and then the count against the sum of their lengths. The lists take their entries and as
--- many length bytes as `heads` says, so that the sum shows in the place behind them.
+-- ---- a section: its count, the lists, and then the count against the sum of their lengths. The lists take their entries, w bytes each, and
+-- as many length bytes as `heads` says, so that the sum shows in the place behind them.
 -- what the count tells: the place behind the section, or the refusal of the count
-abbrev pub Told : (f : List ℕ) (at heads : ℕ) → Section → Type 0
-Told f at heads (section.Read end) = (at + 1 < length f) × (wide f at ≤ entryLimit) × (end ≡ at + 2 + heads + wide f at)
-Told f at heads (section.Refused m) = ((m ≡ 1) × (length f < at + 2)) ⊎ ((m ≡ 2) × (at + 1 < length f) × (entryLimit < wide f at))
+abbrev pub Told : (w : ℕ) (f : List ℕ) (at heads : ℕ) → Section → Type 0
+Told w f at heads (section.Read end) = (at + 1 < length f) × (wide f at ≤ entryLimit) × (end ≡ at + 2 + heads + w * wide f at)
+Told w f at heads (section.Refused m) = ((m ≡ 1) × (length f < at + 2)) ⊎ ((m ≡ 2) × (at + 1 < length f) × (entryLimit < wide f at))
 
-pub told-room : (f : List ℕ) (at heads : ℕ) (r : Section) → Told f at heads r → {end : ℕ} → r ≡ section.Read end → at + 2 ≤ length f
-told-room f at heads r t q = let s = subst (Told f at heads) q t in omega (arith, s)
+pub told-room : (w : ℕ) (f : List ℕ) (at heads : ℕ) (r : Section) → Told w f at heads r → {end : ℕ} → r ≡ section.Read end → at + 2 ≤ length f
+told-room w f at heads r t q = given (subst (Told w f at heads) q t) (λ (h, k, e). omega arith)
 
 -- the answer of the lists, if they end at the place told
 abbrev pub endedAt : Section → ℕ → Section
@@ -127,16 +130,17 @@ module _ {A : Type 0} (field : List ℕ → Reading (A × List ℕ)) (total : Li
         marked-refused
         (wide-goes f at behind room small ∙ ap (λ r. r then summed (wide f at)) (place-refused f (readMany field n (drop (at + 2) f)) (c .place)))
 
-    module _ {write : A → List ℕ} {P : A → Type 0} (R : Reads field write P) (isB : T (isBytes f)) (heads : ℕ)
-        (sizes : (ls : List A) → length ls ≡ n → length (gather write ls) ≡ heads + total ls)
+    module _ {write : A → List ℕ} {P : A → Type 0} (R : Reads field write P) (isB : T (isBytes f)) (w heads : ℕ) (some : 0 < w)
+        (sizes : (ls : List A) → length ls ≡ n → length (gather write ls) ≡ heads + w * total ls)
         {end : ℕ} (c : Marked (readMany field n) shows f (at + 2) (section.Read end) after) where
-      found : (ls : List A) × (readMany field n (drop (at + 2) f) ≡ accepted (ls, drop end f)) × (end ≡ at + 2 + (heads + total ls)) × (end ≤ length f)
+      found : (ls : List A) × (readMany field n (drop (at + 2) f) ≡ accepted (ls, drop end f)) × (end ≡ at + 2 + (heads + w * total ls)) × (end ≤ length f)
       found = given (place-read (each R (λ s x. 0) (λ s x. s) n tt) f (at + 2) isB (omega arith) (c .place)) (λ x.
           (x .value, x .is, x .size ∙ ap (λ k. at + 2 + k) (sizes (x .value) (x .fits .0)), x .within))
 
-      section-sum : end ≡ at + 2 + heads + wide f at → Marked (readSection field total n) shows f at (section.Read end) after
+      section-sum : end ≡ at + 2 + heads + w * wide f at → Marked (readSection field total n) shows f at (section.Read end) after
       section-sum e = given found (λ (ls, d, l, b).
-          let t : wide f at ≡ total ls = omega arith in
+          let d₂ : w * wide f at ≡ w * total ls = omega arith in
+          let t : wide f at ≡ total ls = sym (mul-div-cancel-left (wide f at) some) ∙ ap (λ k. k / w) d₂ ∙ mul-div-cancel-left (total ls) some in
           let p : end ≡ length f - length (drop end f) = simp length-drop (omega arith) in
           let g : readSection field total n (drop at f) ≡ accepted (ls, drop end f) =
           wide-goes f at behind room small ∙ ap (λ r. r then summed (wide f at)) d ∙ simp (eq-eqb (wide f at) (total ls) t) in
@@ -145,28 +149,28 @@ module _ {A : Type 0} (field : List ℕ → Reading (A × List ℕ)) (total : Li
             marks = λ xs rest q. subst (shows after) (read-value (sym g ∙ q)) (c .marks ls (drop end f) d);
           })
 
-      section-uneven : (end ≡ at + 2 + heads + wide f at → ⊥) → Marked (readSection field total n) shows f at (section.Refused 7) after
+      section-uneven : (end ≡ at + 2 + heads + w * wide f at → ⊥) → Marked (readSection field total n) shows f at (section.Refused 7) after
       section-uneven e = given found (λ (ls, d, l, b).
           marked-refused
           (wide-goes f at behind room small ∙ ap (λ r. r then summed (wide f at)) d
-          ∙ simp (ne-eqb (wide f at) (total ls) (λ (q : wide f at ≡ total ls). e (omega arith)))))
+          ∙ simp (ne-eqb (wide f at) (total ls) (λ (q : wide f at ≡ total ls). e (omega (arith, ap (λ k. w * k) q))))))
 
-  module _ (heads : ℕ) (r : Section) (told : Told f at heads r) {shows : List Bool → List A → Type 0} {after : List Bool} where
+  module _ (w heads : ℕ) (r : Section) (told : Told w f at heads r) {shows : List Bool → List A → Type 0} {after : List Bool} where
     pub section-untold : {m : ℕ} → r ≡ section.Refused m → Marked (readSection field total n) shows f at r after
     section-untold {m} q = marked-as (sym q) (⊎-elim
         (λ (e, h). marked-as (ap section.Refused (sym e)) (section-cut h))
         (λ (e, h, k). marked-as (ap section.Refused (sym e)) (section-long h k))
-        (subst (Told f at heads) q told))
+        (subst (Told w f at heads) q told))
 
-    pub section-ends : {write : A → List ℕ} {P : A → Type 0} → Reads field write P → T (isBytes f)
-        → ((ls : List A) → length ls ≡ n → length (gather write ls) ≡ heads + total ls)
+    pub section-ends : {write : A → List ℕ} {P : A → Type 0} → Reads field write P → T (isBytes f) → 0 < w
+        → ((ls : List A) → length ls ≡ n → length (gather write ls) ≡ heads + w * total ls)
         → {end : ℕ} → r ≡ section.Read end → (s : Section) → Marked (readMany field n) shows f (at + 2) s after
         → Marked (readSection field total n) shows f at (endedAt s end) after
-    section-ends R isB sizes {end} q = go (subst (Told f at heads) q told)
+    section-ends R isB some sizes {end} q = go (subst (Told w f at heads) q told)
       where
-        go : Told f at heads (section.Read end) → (s : Section) → Marked (readMany field n) shows f (at + 2) s after
+        go : Told w f at heads (section.Read end) → (s : Section) → Marked (readMany field n) shows f (at + 2) s after
             → Marked (readSection field total n) shows f at (endedAt s end) after
         go (h, k, e) (section.Refused m) c = section-refused h k c
         go (h, k, e) (section.Read stop) c = by-eq stop end
-            (λ i t. rw t (section-sum h k R isB heads sizes c (i ∙ e)))
-            (λ i t. rw t (section-uneven h k R isB heads sizes c (λ z. i (z ∙ sym e))))
+            (λ i t. rw t (section-sum h k R isB w heads some sizes c (i ∙ e)))
+            (λ i t. rw t (section-uneven h k R isB w heads some sizes c (λ z. i (z ∙ sym e))))

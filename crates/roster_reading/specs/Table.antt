@@ -10,15 +10,11 @@ use mathlib.Core.List.{List, [], _∷_, _++_}
 use lib.ListN.{length, take, drop, getD, length-append, length-take, length-drop, replicate, length-replicate, getD-replicate, List·getD-append}
 use lib.ListN.{List·getD-eq-default}
 use lib.Seq.{getD-take, getD-drop, getD-append-add, length-take-le, getD-at}
-use Rattle.model.specs.Roster.{Ranking, entries, elem}
-use Rattle.roster_reading.specs.declared.Section.the-variants as section
+use Rattle.model.specs.Roster.{Entry, Ranking, entries, has}
+use Rattle.roster_reading.specs.Slot.{rowWidth, atSlot}
 use Rattle.roster_reading.specs.Row.{Shows}
 
--- a row has a mark for each number from 0 to 32
-abbrev pub rowWidth : ℕ
-rowWidth = 33
-
--- the row of a list, as the code takes it, `table[k * 33..k * 33 + 33]`, and the table with the row put back
+-- the row of a list, as the code takes it, `table[k * ROW..k * ROW + ROW]`, and the table with the row put back
 abbrev span : ℕ → ℕ
 span k = k * rowWidth + rowWidth - k * rowWidth
 
@@ -34,10 +30,10 @@ withRow table k row = take (k * rowWidth) table ++ (row ++ drop (span k) (drop (
 pub row-wide : (table : List Bool) (k : ℕ) → k * rowWidth + rowWidth ≤ length table → length (rowOf table k) ≡ rowWidth
 row-wide table k h = simp (length-take, length-drop) (omega arith)
 
-module _ {A : Type 0} (entries : A → List ℕ) (none : A) where
+module _ {A : Type 0} (entries : A → List Entry) (none : A) where
   -- the rows show the lists; behind them no mark is set
   abbrev pub Shown : List Bool → List A → Type 0
-  Shown table ls = (i k : ℕ) → k < rowWidth → getD table (i * rowWidth + k) false ≡ elem k (entries (getD ls i none))
+  Shown table ls = (i k : ℕ) → k < rowWidth → getD table (i * rowWidth + k) false ≡ has (atSlot k) (entries (getD ls i none))
 
   module _ (empty : entries none ≡ []) where
     -- no mark is set
@@ -45,12 +41,12 @@ module _ {A : Type 0} (entries : A → List ℕ) (none : A) where
     table-clear n i k b =
         by-cases (decLt (i * rowWidth + k) n) (λ h. getD-replicate n (i * rowWidth + k) false false h)
         (λ h. List·getD-eq-default (replicate n false) false (simp length-replicate (omega (arith, h))))
-        ∙ sym (ap (elem k) empty)
+        ∙ sym (ap (has (atSlot k)) empty)
 
     pub row-clear : (table : List Bool) (ls : List A) (n : ℕ) → Shown table ls → length ls ≡ n → Shows (rowOf table n) []
     row-clear table ls n h l k = rw span-is (by-cases (decLt k rowWidth)
         (λ s. getD-take rowWidth (drop (n * rowWidth) table) k false s ∙ getD-drop (n * rowWidth) table k false ∙ h n k s
-        ∙ ap (λ x. elem k (entries x)) (List·getD-eq-default ls none (omega arith)) ∙ ap (elem k) empty)
+        ∙ ap (λ x. has (atSlot k) (entries x)) (List·getD-eq-default ls none (omega arith)) ∙ ap (has (atSlot k)) empty)
         (λ s. List·getD-eq-default (take rowWidth (drop (n * rowWidth) table)) false (simp length-take (omega (arith, s)))))
 
     pub row-more : (table row : List Bool) (ls : List A) (x : A) (n : ℕ) → Shown table ls → length ls ≡ n → n * rowWidth + rowWidth ≤ length table
@@ -61,10 +57,10 @@ module _ {A : Type 0} (entries : A → List ℕ) (none : A) where
         low : length (take (n * rowWidth) table) ≡ n * rowWidth
         low = length-take-le (n * rowWidth) table (omega arith)
 
-        before : i < n → getD (withRow table n row) (i * rowWidth + k) false ≡ elem k (entries (getD (ls ++ x ∷ []) i none))
+        before : i < n → getD (withRow table n row) (i * rowWidth + k) false ≡ has (atSlot k) (entries (getD (ls ++ x ∷ []) i none))
         before p = List·getD-append (take (n * rowWidth) table) (row ++ drop (span n) (drop (n * rowWidth) table)) false (i * rowWidth + k) (omega (arith, low))
             ∙ getD-take (n * rowWidth) table (i * rowWidth + k) false (omega arith) ∙ h i k b
-            ∙ ap (λ y. elem k (entries y)) (sym (List·getD-append ls (x ∷ []) none i (omega arith)))
+            ∙ ap (λ y. has (atSlot k) (entries y)) (sym (List·getD-append ls (x ∷ []) none i (omega arith)))
 
         -- behind the rows before it
         rest : (j : ℕ) → getD (withRow table n row) (n * rowWidth + j) false ≡ getD (row ++ drop (span n) (drop (n * rowWidth) table)) j false
@@ -72,14 +68,14 @@ module _ {A : Type 0} (entries : A → List ℕ) (none : A) where
             ap (λ m. getD (withRow table n row) (m + j) false) (sym low)
             ∙ getD-append-add (take (n * rowWidth) table) (row ++ drop (span n) (drop (n * rowWidth) table)) j false
 
-        here : (i < n → ⊥) → (n < i → ⊥) → getD (withRow table n row) (i * rowWidth + k) false ≡ elem k (entries (getD (ls ++ x ∷ []) i none))
+        here : (i < n → ⊥) → (n < i → ⊥) → getD (withRow table n row) (i * rowWidth + k) false ≡ has (atSlot k) (entries (getD (ls ++ x ∷ []) i none))
         here p q =
             let e : i ≡ n = omega (arith, p, q) in
             ap (λ m. getD (withRow table n row) (m * rowWidth + k) false) e ∙ rest k
             ∙ List·getD-append row (drop (span n) (drop (n * rowWidth) table)) false k (omega arith) ∙ s k
-            ∙ ap (λ y. elem k (entries y)) (sym (ap (λ m. getD (ls ++ x ∷ []) m none) e ∙ getD-at ls x [] none n l))
+            ∙ ap (λ y. has (atSlot k) (entries y)) (sym (ap (λ m. getD (ls ++ x ∷ []) m none) e ∙ getD-at ls x [] none n l))
 
-        after : (i < n → ⊥) → n < i → getD (withRow table n row) (i * rowWidth + k) false ≡ elem k (entries (getD (ls ++ x ∷ []) i none))
+        after : (i < n → ⊥) → n < i → getD (withRow table n row) (i * rowWidth + k) false ≡ has (atSlot k) (entries (getD (ls ++ x ∷ []) i none))
         after p q =
             let e : i * rowWidth + k ≡ n * rowWidth + (length row + ((i - n - 1) * rowWidth + k)) = omega arith in
             let d : n * rowWidth + (span n + ((i - n - 1) * rowWidth + k)) ≡ i * rowWidth + k = omega arith in
@@ -88,11 +84,11 @@ module _ {A : Type 0} (entries : A → List ℕ) (none : A) where
             ∙ getD-drop (span n) (drop (n * rowWidth) table) ((i - n - 1) * rowWidth + k) false
             ∙ getD-drop (n * rowWidth) table (span n + ((i - n - 1) * rowWidth + k)) false
             ∙ ap (λ m. getD table m false) d ∙ h i k b
-            ∙ ap (λ y. elem k (entries y))
+            ∙ ap (λ y. has (atSlot k) (entries y))
             (List·getD-eq-default ls none (omega arith) ∙ sym (List·getD-eq-default (ls ++ x ∷ []) none (simp length-append (omega arith))))
 
 -- the rows of the surveyors' lists, and of the stands'
-abbrev pub ListsShown : List Bool → List (List ℕ) → Type 0
+abbrev pub ListsShown : List Bool → List (List Entry) → Type 0
 ListsShown = Shown (λ xs. xs) []
 
 abbrev pub noRanking : Ranking

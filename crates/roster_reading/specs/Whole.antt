@@ -10,13 +10,15 @@ use lib.Dec.{T, leb, leb→le}
 use Rattle.lists.specs.Test.{given, and-l}
 use Rattle.model.specs.Limits.{nodeLimit}
 use Rattle.model.specs.Reading.{Reading, accepted, _then_, refused, whole}
-use Rattle.model.specs.Roster.{Ranking, Roster, totalS, totalT, listFits, rankingFits, bothOrNeither}
-use Rattle.model.specs.RosterFile.{readNodes, readList, readRanking, readSection, oneSided, readRoster}
+use Rattle.model.specs.Roster.{Entry, Ranking, Roster, totalS, totalT, bothOrNeither}
+use Rattle.model.specs.RosterFile.{Layout, readNodes, readList, readRanking, readSection, oneSided, readRosterBy}
 use Rattle.theory_files.specs.Reads.{isBytes}
-use Rattle.theory_files.specs.Sections.{nodes, list, ranking, section as section-reads}
+use Rattle.theory_files.specs.Layouts.{Agrees}
+use Rattle.theory_files.specs.Sections.{nodes, listHeld, list, rankingHeld, ranking, section as section-reads}
 use Rattle.roster_reading.specs.declared.Section.{Section}
 use Rattle.roster_reading.specs.declared.Section.the-variants as section
 use Rattle.roster_reading.specs.Place.{placed, place-refused, place-read, read-not, refused-not-read, numberOf}
+use Rattle.roster_reading.specs.Layout.{layoutOf, agreesOf}
 use Rattle.roster_reading.specs.Row.{Marked}
 use Rattle.roster_reading.specs.Table.{ListsShown, RankingsShown}
 use Rattle.roster_reading.specs.Pairs.{bothAlike, both-alike}
@@ -47,112 +49,120 @@ abbrev pub closed : List ℕ → Reading Roster → Section
 closed f (accepted R) = section.Read (length f)
 closed f (refused n) = section.Refused n
 
--- the two sections of lists, behind the nodes of both sides
-abbrev finish : (qs qt : List ℕ) → List (List ℕ) → List Ranking → List ℕ → Reading (Roster × List ℕ)
-finish qs qt ls ts rest = accepted (record { quotasS = qs; quotasT = qt; listsS = ls; listsT = ts }, rest)
+-- ---- in a layout, with shifts or without
+module _ (shifts : Bool) where
+  abbrev L : Layout
+  L = layoutOf shifts
 
-abbrev rankings : (ns nt : ℕ) → List ℕ → Reading (List Ranking × List ℕ)
-rankings ns nt = readSection (readRanking ns ns) totalT nt
+  abbrev A : Agrees L
+  A = agreesOf shifts
 
-abbrev lists : (ns nt : ℕ) → List ℕ → Reading (List (List ℕ) × List ℕ)
-lists ns nt = readSection (readList nt nt) totalS ns
+  -- the two sections of lists, behind the nodes of both sides
+  abbrev finish : (qs qt : List ℕ) → List (List Entry) → List Ranking → List ℕ → Reading (Roster × List ℕ)
+  finish qs qt ls ts rest = accepted (record { quotasS = qs; quotasT = qt; listsS = ls; listsT = ts }, rest)
 
-abbrev pub readLists : (qs qt : List ℕ) → List ℕ → Reading (Roster × List ℕ)
-readLists qs qt rest = lists (length qs) (length qt) rest then (λ ls rest. rankings (length qs) (length qt) rest then finish qs qt ls)
+  abbrev rankings : (ns nt : ℕ) → List ℕ → Reading (List Ranking × List ℕ)
+  rankings ns nt = readSection (readRanking L (L .longest ns) ns) totalT nt
 
--- the code's answer for them: they stand behind nodes of so many
-abbrev pub ListsRead : (ns nt : ℕ) (f : List ℕ) (at : ℕ) (r : Section) → Type 0
-ListsRead ns nt f at r = (qs qt : List ℕ) → length qs ≡ ns → length qt ≡ nt → r ≡ closed f (oneSided (whole (readLists qs qt (drop at f))))
+  abbrev lists : (ns nt : ℕ) → List ℕ → Reading (List (List Entry) × List ℕ)
+  lists ns nt = readSection (readList L (L .longest nt) nt) totalS ns
 
-module _ (ns nt : ℕ) (f : List ℕ) (at : ℕ) where
-  -- with the counts as the code has them
-  counted : (qs qt : List ℕ) → length qs ≡ ns → length qt ≡ nt
-      → readLists qs qt (drop at f) ≡ (lists ns nt (drop at f) then (λ ls rest. rankings ns nt rest then finish qs qt ls))
-  counted qs qt a b = simp (a, b)
+  abbrev pub readLists : (qs qt : List ℕ) → List ℕ → Reading (Roster × List ℕ)
+  readLists qs qt rest = lists (length qs) (length qt) rest then (λ ls rest. rankings (length qs) (length qt) rest then finish qs qt ls)
 
-  pub lists-refused : {s : Section} {n : ℕ} {after : List Bool} → Marked (lists ns nt) ListsShown f at s after → s ≡ section.Refused n → ListsRead ns nt f at s
-  lists-refused m e qs qt a b = e ∙ sym (ap (λ r. closed f (oneSided (whole r))) (counted qs qt a b
-      ∙ ap (λ r. r then (λ ls rest. rankings ns nt rest then finish qs qt ls)) (place-refused f (lists ns nt (drop at f)) (sym e ∙ m .place))))
+  -- the code's answer for them: they stand behind nodes of so many
+  abbrev pub ListsRead : (ns nt : ℕ) (f : List ℕ) (at : ℕ) (r : Section) → Type 0
+  ListsRead ns nt f at r = (qs qt : List ℕ) → length qs ≡ ns → length qt ≡ nt → r ≡ closed f (oneSided (whole (readLists qs qt (drop at f))))
 
-  module _ (isB : T (isBytes f)) (h : at ≤ length f) {s : Section} {mid : ℕ} {byS : List Bool} (m : Marked (lists ns nt) ListsShown f at s byS)
-      (e : s ≡ section.Read mid) where
-    first : (ls : List (List ℕ)) × (lists ns nt (drop at f) ≡ accepted (ls, drop mid f)) × (mid ≤ length f) × ListsShown byS ls
-    first =
-        given (place-read (section-reads (listFits nt) totalS (list nt) ns) f at isB h (sym e ∙ m .place))
-        (λ x. (x .value, x .is, x .within, m .marks (x .value) (drop mid f) (x .is)))
+  module _ (ns nt : ℕ) (f : List ℕ) (at : ℕ) where
+    -- with the counts as the code has them
+    counted : (qs qt : List ℕ) → length qs ≡ ns → length qt ≡ nt
+        → readLists qs qt (drop at f) ≡ (lists ns nt (drop at f) then (λ ls rest. rankings ns nt rest then finish qs qt ls))
+    counted qs qt a b = simp (a, b)
 
-    pub mid-within : mid ≤ length f
-    mid-within = first .2
+    pub lists-refused : {s : Section} {n : ℕ} {after : List Bool} → Marked (lists ns nt) ListsShown f at s after → s ≡ section.Refused n → ListsRead ns nt f at s
+    lists-refused m e qs qt a b = e ∙ sym (ap (λ r. closed f (oneSided (whole r))) (counted qs qt a b
+        ∙ ap (λ r. r then (λ ls rest. rankings ns nt rest then finish qs qt ls)) (place-refused f (lists ns nt (drop at f)) (sym e ∙ m .place))))
 
-    pub rankings-refused : {t : Section} {n : ℕ} {after : List Bool} → Marked (rankings ns nt) RankingsShown f mid t after → t ≡ section.Refused n
-        → ListsRead ns nt f at t
-    rankings-refused k d qs qt a b = d ∙ sym (ap (λ r. closed f (oneSided (whole r))) (counted qs qt a b
-        ∙ ap (λ r. r then (λ ls rest. rankings ns nt rest then finish qs qt ls)) (first .1)
-        ∙ ap (λ r. r then finish qs qt (first .0)) (place-refused f (rankings ns nt (drop mid f)) (sym d ∙ k .place))))
+    module _ (isB : T (isBytes f)) (h : at ≤ length f) {s : Section} {mid : ℕ} {byS : List Bool} (m : Marked (lists ns nt) ListsShown f at s byS)
+        (e : s ≡ section.Read mid) where
+      first : (ls : List (List Entry)) × (lists ns nt (drop at f) ≡ accepted (ls, drop mid f)) × (mid ≤ length f) × ListsShown byS ls
+      first =
+          given (place-read (section-reads (listHeld L A (L .longest nt) nt) totalS (list L A (L .longest nt) nt) ns) f at isB h (sym e ∙ m .place))
+          (λ x. (x .value, x .is, x .within, m .marks (x .value) (drop mid f) (x .is)))
 
-    module _ {t : Section} {end : ℕ} {byT : List Bool} (k : Marked (rankings ns nt) RankingsShown f mid t byT) (d : t ≡ section.Read end) where
-      last : (ts : List Ranking) × (rankings ns nt (drop mid f) ≡ accepted (ts, drop end f)) × (end ≤ length f) × RankingsShown byT ts
-      last =
-          given (place-read (section-reads (rankingFits ns) totalT (ranking ns) nt) f mid isB mid-within (sym d ∙ k .place))
-          (λ x. (x .value, x .is, x .within, k .marks (x .value) (drop end f) (x .is)))
+      pub mid-within : mid ≤ length f
+      mid-within = first .2
 
-      abbrev here : List ℕ → List ℕ → Roster
-      here qs qt = record { quotasS = qs; quotasT = qt; listsS = first .0; listsT = last .0 }
+      pub rankings-refused : {t : Section} {n : ℕ} {after : List Bool} → Marked (rankings ns nt) RankingsShown f mid t after → t ≡ section.Refused n
+          → ListsRead ns nt f at t
+      rankings-refused k d qs qt a b = d ∙ sym (ap (λ r. closed f (oneSided (whole r))) (counted qs qt a b
+          ∙ ap (λ r. r then (λ ls rest. rankings ns nt rest then finish qs qt ls)) (first .1)
+          ∙ ap (λ r. r then finish qs qt (first .0)) (place-refused f (rankings ns nt (drop mid f)) (sym d ∙ k .place))))
 
-      read : (qs qt : List ℕ) → length qs ≡ ns → length qt ≡ nt → readLists qs qt (drop at f) ≡ accepted (here qs qt, drop end f)
-      read qs qt a b =
-          counted qs qt a b ∙ ap (λ r. r then (λ ls rest. rankings ns nt rest then finish qs qt ls)) (first .1)
-          ∙ ap (λ r. r then finish qs qt (first .0)) (last .1)
+      module _ {t : Section} {end : ℕ} {byT : List Bool} (k : Marked (rankings ns nt) RankingsShown f mid t byT) (d : t ≡ section.Read end) where
+        last : (ts : List Ranking) × (rankings ns nt (drop mid f) ≡ accepted (ts, drop end f)) × (end ≤ length f) × RankingsShown byT ts
+        last =
+            given (place-read (section-reads (rankingHeld L A (L .longest ns) ns) totalT (ranking L A (L .longest ns) ns) nt) f mid isB mid-within (sym d ∙ k .place))
+            (λ x. (x .value, x .is, x .within, k .marks (x .value) (drop end f) (x .is)))
 
-      -- "9 bytes after the end"
-      pub lists-behind : end < length f → ListsRead ns nt f at (section.Refused 9)
-      lists-behind l qs qt a b = sym (ap (λ r. closed f (oneSided (whole r))) (read qs qt a b ∙ ap ((λ bs. accepted (here qs qt, bs))) (drop-cons f end 0 l)))
+        abbrev here : List ℕ → List ℕ → Roster
+        here qs qt = record { quotasS = qs; quotasT = qt; listsS = first .0; listsT = last .0 }
 
-      -- "8 a pair listed by one side only"
-      both-is : ns ≤ nodeLimit → nt ≤ nodeLimit → (qs qt : List ℕ) → length qs ≡ ns → length qt ≡ nt
-          → bothAlike byS byT ns nt ≡ bothOrNeither (here qs qt)
-      both-is p q qs qt a b = both-alike byS byT (here qs qt) ns nt a b p q (first .3) (last .3)
+        read : (qs qt : List ℕ) → length qs ≡ ns → length qt ≡ nt → readLists qs qt (drop at f) ≡ accepted (here qs qt, drop end f)
+        read qs qt a b =
+            counted qs qt a b ∙ ap (λ r. r then (λ ls rest. rankings ns nt rest then finish qs qt ls)) (first .1)
+            ∙ ap (λ r. r then finish qs qt (first .0)) (last .1)
 
-      closes : length f ≤ end → (qs qt : List ℕ) → length qs ≡ ns → length qt ≡ nt
-          → closed f (oneSided (whole (readLists qs qt (drop at f)))) ≡ cond (bothOrNeither (here qs qt)) (section.Read (length f)) (section.Refused 8)
-      closes l qs qt a b =
-          ap (λ r. closed f (oneSided (whole r))) (read qs qt a b ∙ ap ((λ bs. accepted (here qs qt, bs))) (drop-of-length-le f l))
-          ∙ branch (bothOrNeither (here qs qt))
-        where
-          branch : (c : Bool) → closed f (cond c (accepted (here qs qt)) (refused 8)) ≡ cond c (section.Read (length f)) (section.Refused 8)
-          branch true = refl
-          branch false = refl
+        -- "9 bytes after the end"
+        pub lists-behind : end < length f → ListsRead ns nt f at (section.Refused 9)
+        lists-behind l qs qt a b = sym (ap (λ r. closed f (oneSided (whole r))) (read qs qt a b ∙ ap ((λ bs. accepted (here qs qt, bs))) (drop-cons f end 0 l)))
 
-      module _ (p : ns ≤ nodeLimit) (q : nt ≤ nodeLimit) (l : length f ≤ end) where
-        pub lists-alike : bothAlike byS byT ns nt ≡ true → ListsRead ns nt f at (section.Read end)
-        lists-alike v qs qt a b =
-            let w : end ≡ length f = omega (arith, last .2) in
-            ap section.Read w ∙ sym (closes l qs qt a b ∙ ap (λ c. cond c (section.Read (length f)) (section.Refused 8)) (sym (both-is p q qs qt a b) ∙ v))
+        -- "8 a pair listed by one side only"
+        both-is : ns ≤ nodeLimit → nt ≤ nodeLimit → (qs qt : List ℕ) → length qs ≡ ns → length qt ≡ nt
+            → bothAlike byS byT ns nt ≡ bothOrNeither (here qs qt)
+        both-is p q qs qt a b = both-alike byS byT (here qs qt) ns nt a b p q (first .3) (last .3)
 
-        pub lists-unlike : bothAlike byS byT ns nt ≡ false → ListsRead ns nt f at (section.Refused 8)
-        lists-unlike v qs qt a b = sym (closes l qs qt a b ∙ ap (λ c. cond c (section.Read (length f)) (section.Refused 8)) (sym (both-is p q qs qt a b) ∙ v))
+        closes : length f ≤ end → (qs qt : List ℕ) → length qs ≡ ns → length qt ≡ nt
+            → closed f (oneSided (whole (readLists qs qt (drop at f)))) ≡ cond (bothOrNeither (here qs qt)) (section.Read (length f)) (section.Refused 8)
+        closes l qs qt a b =
+            ap (λ r. closed f (oneSided (whole r))) (read qs qt a b ∙ ap ((λ bs. accepted (here qs qt, bs))) (drop-of-length-le f l))
+            ∙ branch (bothOrNeither (here qs qt))
+          where
+            branch : (c : Bool) → closed f (cond c (accepted (here qs qt)) (refused 8)) ≡ cond c (section.Read (length f)) (section.Refused 8)
+            branch true = refl
+            branch false = refl
 
--- ---- the nodes before them
-abbrev second : List ℕ → List ℕ → Reading (Roster × List ℕ)
-second qs rest = readNodes rest then readLists qs
+        module _ (p : ns ≤ nodeLimit) (q : nt ≤ nodeLimit) (l : length f ≤ end) where
+          pub lists-alike : bothAlike byS byT ns nt ≡ true → ListsRead ns nt f at (section.Read end)
+          lists-alike v qs qt a b =
+              let w : end ≡ length f = omega (arith, last .2) in
+              ap section.Read w ∙ sym (closes l qs qt a b ∙ ap (λ c. cond c (section.Read (length f)) (section.Refused 8)) (sym (both-is p q qs qt a b) ∙ v))
 
-pub nodes-refused : (f : List ℕ) {s : Section} {n : ℕ} → s ≡ placed f (readNodes (drop 0 f)) → s ≡ section.Refused n → s ≡ closed f (readRoster f)
-unfolding readRoster
-nodes-refused f m e = e ∙ sym (ap (λ r. closed f (oneSided (whole (r then second)))) (place-refused f (readNodes f) (sym e ∙ m)))
+          pub lists-unlike : bothAlike byS byT ns nt ≡ false → ListsRead ns nt f at (section.Refused 8)
+          lists-unlike v qs qt a b = sym (closes l qs qt a b ∙ ap (λ c. cond c (section.Read (length f)) (section.Refused 8)) (sym (both-is p q qs qt a b) ∙ v))
 
-module _ (f : List ℕ) {a : ℕ} (ns : Nodes f 0 a) where
-  pub stands-refused : {t : Section} {n : ℕ} → t ≡ placed f (readNodes (drop a f)) → t ≡ section.Refused n → t ≡ closed f (readRoster f)
-  unfolding readRoster
-  stands-refused m e =
-      e
-      ∙ sym
-      (ap (λ r. closed f (oneSided (whole (r then second)))) (ns .is)
-      ∙ ap (λ r. closed f (oneSided (whole (r then readLists (ns .quotas))))) (place-refused f (readNodes (drop a f)) (sym e ∙ m)))
+  -- ---- the nodes before them
+  abbrev second : List ℕ → List ℕ → Reading (Roster × List ℕ)
+  second qs rest = readNodes rest then readLists qs
 
-  pub roster-read : {b : ℕ} (nt : Nodes f a b) {r : Section} → ListsRead (getD f 0 0) (getD f a 0) f b r → r ≡ closed f (readRoster f)
-  unfolding readRoster
-  roster-read nt m = m (ns .quotas) (nt .quotas) (ns .count) (nt .count)
-      ∙ sym (ap (λ r. closed f (oneSided (whole (r then second)))) (ns .is) ∙ ap (λ r. closed f (oneSided (whole (r then readLists (ns .quotas))))) (nt .is))
+  pub nodes-refused : (f : List ℕ) {s : Section} {n : ℕ} → s ≡ placed f (readNodes (drop 0 f)) → s ≡ section.Refused n → s ≡ closed f (readRosterBy L f)
+  unfolding readRosterBy
+  nodes-refused f m e = e ∙ sym (ap (λ r. closed f (oneSided (whole (r then second)))) (place-refused f (readNodes f) (sym e ∙ m)))
+
+  module _ (f : List ℕ) {a : ℕ} (ns : Nodes f 0 a) where
+    pub stands-refused : {t : Section} {n : ℕ} → t ≡ placed f (readNodes (drop a f)) → t ≡ section.Refused n → t ≡ closed f (readRosterBy L f)
+    unfolding readRosterBy
+    stands-refused m e =
+        e
+        ∙ sym
+        (ap (λ r. closed f (oneSided (whole (r then second)))) (ns .is)
+        ∙ ap (λ r. closed f (oneSided (whole (r then readLists (ns .quotas))))) (place-refused f (readNodes (drop a f)) (sym e ∙ m)))
+
+    pub roster-read : {b : ℕ} (nt : Nodes f a b) {r : Section} → ListsRead (getD f 0 0) (getD f a 0) f b r → r ≡ closed f (readRosterBy L f)
+    unfolding readRosterBy
+    roster-read nt m = m (ns .quotas) (nt .quotas) (ns .count) (nt .count)
+        ∙ sym (ap (λ r. closed f (oneSided (whole (r then second)))) (ns .is) ∙ ap (λ r. closed f (oneSided (whole (r then readLists (ns .quotas))))) (nt .is))
 
 -- ---- what the file's end says of its reading
 pub closed-accepted : {A : Type 0} (f : List ℕ) (x : Reading Roster) {n : ℕ} (g : Reading Roster → A) {a : A} → ((R : Roster) → g (accepted R) ≡ a)

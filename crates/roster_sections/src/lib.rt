@@ -1,13 +1,16 @@
-// The four sections of a roster file, each after its count. This crate is a part of the roster reader (crate roster), whose public call
-// needs none of what these functions require.
+// The four sections of a roster file, each after its count. `shifts` says how an entry stands in the file. This crate is a part of the
+// roster reader (crate roster), whose public call needs none of what these functions require.
 ghost use mathlib.Core.Path.{_≡_};
 ghost use mathlib.Core.List.{[]};
 ghost use Prim.Native.Nat.{_+_, _*_, _≤_, _<_};
 ghost use lib.ListN.{length, drop};
+ghost use Rattle.model.specs.Limits.{nodeLimit};
 ghost use Rattle.model.specs.Roster.{totalS, totalT};
 ghost use Rattle.model.specs.RosterFile.{readQuotas, readNodes, readList, readRanking, readSection};
 ghost use Rattle.roster_reading.specs.Place.{placed};
 ghost use Rattle.roster_reading.specs.Field as field;
+ghost use Rattle.roster_reading.specs.Layout.{layoutOf, widthOf};
+ghost use Rattle.roster_reading.specs.Slot.{rowWidth};
 ghost use Rattle.roster_reading.specs.Row.{Marked};
 ghost use Rattle.roster_reading.specs.Many.{Told, endedAt};
 ghost use Rattle.roster_reading.specs.Table.{ListsShown, RankingsShown};
@@ -20,9 +23,10 @@ pub fn quotas_at(file: &[u8], at: usize, n: usize) -> Section
     requires { ⌜ at ≤ length (now file) ⌝ }
     ensures { λ r. ⌜ r ≡ placed (now (file .entry)) (readQuotas n (drop at (now (file .entry)))) ⌝ }
 {
-    let end = roster_fields::part_end(file.len(), at, n);
+    let there = roster_fields::whole_fields(file.len(), at, n, 1);
+    let end = at + there;
     let refusal = roster_fields::check_quotas(&file[at..end]);
-    roster_fields::part_answer(refusal, at, end, n)
+    roster_fields::part_answer(refusal, there, n, end)
 }
 
 // "a count byte 0 to 32, then one quota byte each"
@@ -55,9 +59,9 @@ pub fn wide(file: &[u8], at: usize) -> usize
 }
 
 // The place behind a section, as its count says: two bytes of the count, the lists' length bytes, and as many entries.
-pub(crate) fn told_end(file: &[u8], at: usize, heads: usize) -> Section
-    requires { ⌜ (at ≤ length (now file)) × (heads ≤ 64) ⌝ }
-    ensures { λ r. ⌜ Told (now (file .entry)) at heads r ⌝ }
+pub(crate) fn told_end(file: &[u8], at: usize, heads: usize, shifts: bool) -> Section
+    requires { ⌜ (at ≤ length (now file)) × (heads ≤ 2 * nodeLimit) ⌝ }
+    ensures { λ r. ⌜ Told (widthOf shifts) (now (file .entry)) at heads r ⌝ }
 {
     if file.len() - at < 2 {
         return Section::Refused(1);
@@ -66,7 +70,8 @@ pub(crate) fn told_end(file: &[u8], at: usize, heads: usize) -> Section
     if ENTRY_LIMIT < total {
         return Section::Refused(2);
     }
-    Section::Read(at + 2 + heads + total)
+    let width = roster_fields::entry_width(shifts);
+    Section::Read(at + 2 + heads + width * total)
 }
 
 // "7 a section count that is not the sum of its lengths": what the lists answer, if they end at the place told.
@@ -83,27 +88,41 @@ pub(crate) fn ended(s: Section, end: usize) -> Section
 }
 
 // The surveyors' lists: the count of all entries and n lists, with a length byte each beside their entries.
-pub fn lists_section(file: &[u8], at: usize, n: usize, count: u8, table: &mut [bool]) -> Section
-    requires { ⌜ (at ≤ length (now file)) × (n ≤ 32) × (n * 33 ≤ length (now table)) × (count < 33) × ListsShown (now table) [] ⌝ }
-    ensures { λ r. ⌜ Marked (readSection (readList count count) totalS n) ListsShown (now (file .entry)) at r (now (table .exit)) ⌝ }
+pub fn lists_section(
+    file: &[u8],
+    at: usize,
+    n: usize,
+    other: u8,
+    shifts: bool,
+    table: &mut [bool],
+) -> Section
+    requires { ⌜ (at ≤ length (now file)) × (n ≤ nodeLimit) × (n * rowWidth ≤ length (now table)) × (other ≤ nodeLimit) × ListsShown (now table) [] ⌝ }
+    ensures { λ r. ⌜ Marked (readSection (readList (layoutOf shifts) (layoutOf shifts .longest other) other) totalS n) ListsShown (now (file .entry)) at r (now (table .exit)) ⌝ }
 {
-    let told = told_end(file, at, n);
+    let told = told_end(file, at, n, shifts);
     let Section::Read(end) = told else {
         return told;
     };
-    let s = roster_lists::lists_at(file, at + 2, n, count, table);
+    let s = roster_lists::lists_at(file, at + 2, n, other, shifts, table);
     ended(s, end)
 }
 
 // The stands' lists, likewise, with two length bytes each.
-pub fn rankings_section(file: &[u8], at: usize, n: usize, count: u8, table: &mut [bool]) -> Section
-    requires { ⌜ (at ≤ length (now file)) × (n ≤ 32) × (n * 33 ≤ length (now table)) × (count < 33) × RankingsShown (now table) [] ⌝ }
-    ensures { λ r. ⌜ Marked (readSection (readRanking count count) totalT n) RankingsShown (now (file .entry)) at r (now (table .exit)) ⌝ }
+pub fn rankings_section(
+    file: &[u8],
+    at: usize,
+    n: usize,
+    other: u8,
+    shifts: bool,
+    table: &mut [bool],
+) -> Section
+    requires { ⌜ (at ≤ length (now file)) × (n ≤ nodeLimit) × (n * rowWidth ≤ length (now table)) × (other ≤ nodeLimit) × RankingsShown (now table) [] ⌝ }
+    ensures { λ r. ⌜ Marked (readSection (readRanking (layoutOf shifts) (layoutOf shifts .longest other) other) totalT n) RankingsShown (now (file .entry)) at r (now (table .exit)) ⌝ }
 {
-    let told = told_end(file, at, 2 * n);
+    let told = told_end(file, at, 2 * n, shifts);
     let Section::Read(end) = told else {
         return told;
     };
-    let s = roster_lists::rankings_at(file, at + 2, n, count, table);
+    let s = roster_lists::rankings_at(file, at + 2, n, other, shifts, table);
     ended(s, end)
 }

@@ -23,7 +23,7 @@ turn : (c : tie.In-loop Inv-loop μ-loop) → let l = c .before in let part = l 
     (refusalOf quotaCheck (λ so q. so + q) (l .loop .sum + getD part (l .loop .i) 0) (drop (l .loop .i + 1) part))
 turn c =
     let l = c .before in
-    l .loop .inv .2 ∙ refusal-step quotaCheck (λ so q. so + q) (l .loop .sum) (l .before .args .part .now) (l .loop .i) (c .loop-test .taken)
+    l .loop .inv .2 ∙ refusal-step quotaCheck (λ so q. so + q) 0 (l .loop .sum) (l .before .args .part .now) (l .loop .i) (c .loop-test .taken)
 
 loop-holds : tie.Need-loop-holds Inv-loop μ-loop
 loop-holds c = (zero-le, omega arith, refl)

@@ -1,5 +1,4 @@
 -- `roster_fields::part_answer` meets its contract, by its two tests. Assumes nothing.
-use borrow.Author.Needs.{needs}
 use borrow.Author.Tests.{eq-eqb, ne-eqb, lt-ltb, le-ltb}
 use Rattle.roster_fields.proofs.part_answer.Statement.{statement}
 use Rattle.roster_fields.proofs.part_answer.Tie as tie
@@ -14,4 +13,4 @@ returns-3 : tie.Need-returns-3
 returns-3 c = simp (ne-eqb _ _ (c .if1 .left))
 
 pub part-answer-spec : {M : Type 1} → statement M
-part-answer-spec = tie.close (tie.spec (λ c. search needs) returns returns-2 returns-3)
+part-answer-spec = tie.close (tie.spec returns returns-2 returns-3)
