@@ -99,7 +99,7 @@ module _ (r : Roster) where
     pub once : Nodup (map (λ s. s .edge) (stepsOf (instanceOf r)))
     pub few : length (diaryOf (instanceOf r)) ≤ instanceOf r .m
     -- the same in the diary's own words: every record names a pair of the roster, no two the same; and no rule names a pair that remains at the end
-    pub recordPairs : (x : Record) → x ∈ diaryOf (instanceOf r) → PairOf r (x .surveyor) (x .stand)
+    pub recordPairs : (x : Record) → x ∈ diaryOf (instanceOf r) → PairOf r (pairIn x)
     pub recordOnce : Nodup (map pairIn (diaryOf (instanceOf r)))
     pub allTaken : (R : Rule) → R ∈ rules (instanceOf r) (endOf (instanceOf r)) → (e : ℕ) → e < instanceOf r .m
         → T (endOf (instanceOf r) .rem e) → T (not (R .names e))
