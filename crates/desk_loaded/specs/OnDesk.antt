@@ -64,7 +64,7 @@ none : {A B : Type 0} {n : ℕ} {a : A} → refused n ≡ accepted a → B
 none e = absurd (subst (λ y. T (isRefused y)) e tt)
 
 -- ---- a plan file read against the arrays
-module _ (g : Instance) (file : List ℕ) (p : PlanRead) (A : ReadAs (shownBy g) file p) where
+module _ (g : Instance) (file : List ℕ) (p : PlanRead) (A : ReadAs true (shownBy g) file p) where
   pub answer-accepted : {n : ℕ} → p .answer ≡ plan.Accepted n → answer.Accepted ≡ fileCase (readPlan (shownBy g) file)
   answer-accepted q = sym (ap fileCase (accepted-read A q .1))
 

@@ -27,13 +27,14 @@ pub struct OnDesk {
 // a plan file against the arrays of an accepted roster
 pub(crate) fn plan_read(g: Instance, file: &[u8]) -> PlanRead
     requires { ⌜ Loaded g ⌝ }
-    ensures { λ r. ⌜ ReadAs (shownBy g) (now (file .entry)) r ⌝ }
+    ensures { λ r. ⌜ ReadAs true (shownBy g) (now (file .entry)) r ⌝ }
 {
     let sv = g.sv;
     let st = g.st;
+    let sh = g.sh;
     let qs = g.quota_s;
     let qt = g.quota_t;
-    plan_reader::read_plan(g.m, &sv, &st, &qs, &qt, file)
+    plan_reader::read_plan(g.m, &sv, &st, &sh, &qs, &qt, file, true)
 }
 
 // a plan file against the arrays of an accepted roster: accepted, or its refusal

@@ -88,11 +88,11 @@ module _ (input : List ℕ) (isB : T (isBytes input)) where
 
   -- what the finder hands over for an accepted roster, with the flat diary of its trace
   pub found-handed : RosterAccepted input → (g : arrays.Instance) → Decoded input g → (l p v : List ℕ) (o : Outcome) (l′ p′ v′ flat : List ℕ)
-      → Finds (shownBy g) l p v o l′ p′ v′ → flat ≡ flatOf (g .sv) (g .st) (o .trace) → HandedFor (readRoster input) (o .answer) flat l′ p′ v′
+      → Finds (shownBy g) l p v o l′ p′ v′ → flat ≡ flatOf (g .sv) (g .st) (g .sh) (o .trace) → HandedFor (readRoster input) (o .answer) flat l′ p′ v′
   found-handed (R, e) g D l p v o l′ p′ v′ flat F q =
       subst (λ y. HandedFor y (o .answer) flat l′ p′ v′) (sym e)
       (subst (λ G. Handed G (finderOf G (rivalOf G)) (o .answer) flat l′ p′ v′) (D .shows R e)
-      (handed (shownBy g) l p v l′ p′ v′ o flat F (q ∙ trace-flat (shownBy g) (g .sv) (g .st) refl refl (o .trace) (F .traced))))
+      (handed (shownBy g) l p v l′ p′ v′ o flat F (q ∙ trace-flat (shownBy g) (g .sv) (g .st) (g .sh) refl refl refl (o .trace) (F .traced))))
 
   pub found-readable : RosterAccepted input → (g : arrays.Instance) → Decoded input g → (l p v : List ℕ) (o : Outcome) (l′ p′ v′ : List ℕ)
       → Finds (shownBy g) l p v o l′ p′ v′ → Readable (g .sv) (g .st) (o .trace)

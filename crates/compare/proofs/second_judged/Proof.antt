@@ -9,12 +9,12 @@ use Rattle.compare.proofs.second_judged.Tie as tie
 
 read-plan-requires : tie.Need-read-plan-requires
 read-plan-requires c κs =
-    let L = c .before .before .before .before .before .before .before .before .before .pre .0 in
+    let L = c .before .before .before .before .before .before .before .before .before .before .before .pre .0 in
     (L .edges, λ e h. L .low-sv e, λ e h. L .low-st e, L .fileable .differ)
 
 voted-requires : tie.Need-voted-requires
 voted-requires c κs =
-    let k = c .before .before .before .before .before .before .before .before .before .before .before .before .before .before .before .before in
+    let k = c .before .before .before .before .before .before .before .before .before .before .before .before .before .before .before .before .before .before in
     let s = k .before in
     let r = c .before .before .before .before .before .before .before .read-plan in
     let isB : T (isBytes (s .args .second .now)) = bytes-of (s .args .second .now) (λ i. k .shared-slice-known .given i) in (
@@ -25,14 +25,14 @@ voted-requires c κs =
 
 returns : tie.Need-returns
 returns c =
-    let s = c .before .before .before .before .before .before .before .before .before .before .before .before .before .before in
+    let s = c .before .before .before .before .before .before .before .before .before .before .before .before .before .before .before .before in
     let r = c .before .before .before .before .read-plan in
     second-refused (s .args .g) (s .args .second .now) (r .result) (r .ensures) (s .args .p .now) (c .group-of .result)
     (c .before .before .a .given .1) (c .group-of .ensures)
 
 returns-2 : tie.Need-returns-2
 returns-2 c =
-    let s = c .before .before .before .before .before .before .before .before .before .before .before .before .before .before .before .before .before .before in
+    let s = c .before .before .before .before .before .before .before .before .before .before .before .before .before .before .before .before .before .before .before .before in
     let r = c .before .before .before .before .before .before .before .before .read-plan in
     second-accepted (s .args .g) (s .args .second .now) (r .result) (r .ensures) (s .args .p .now)
     (c .before .before .before .before .before .before .a2 .given .1) (c .voted .ensures)

@@ -4,12 +4,12 @@ use Rattle.desk_loaded.proofs.plan_read.Tie as tie
 
 read-plan-requires : tie.Need-read-plan-requires
 read-plan-requires c κs =
-    let L = c .before .before .before .before .before .before .before .before .before .pre in
+    let L = c .before .before .before .before .before .before .before .before .before .before .before .pre in
     (L .edges, λ e h. L .low-sv e, λ e h. L .low-st e, L .fileable .differ)
 
 returns : tie.Need-returns
 returns c =
-    let g = c .before .before .before .before .before .before .before .before .before .before .args .g in
+    let g = c .before .before .before .before .before .before .before .before .before .before .before .before .args .g in
     c .read-plan .ensures (g .ns) (g .nt) (g .«rank_s») (g .«rank_t») (g .tied)
 
 pub plan-read-spec : {M : Type 1} → statement M
