@@ -11,13 +11,6 @@ pub const QUOTA_SUM_LIMIT: u8 = 64;
 // "a two-byte count of all entries, low byte first, at most 1,024"
 pub const ENTRY_LIMIT: usize = 1024;
 
-// W-204: "A list .. has at most 32 entries"; "a shift byte, 1 to 3", after the entry's number
-pub const LIST_LIMIT: u8 = 32;
-
-pub const SHIFT_LIMIT: u8 = 3;
-
-pub const ENTRY_WIDTH: usize = 2;
-
 // a plan's "count byte 0 to 64"
 pub const PLAN_LIMIT: usize = 64;
 
