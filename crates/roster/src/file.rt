@@ -1,27 +1,30 @@
-// A roster file from its first byte to its end.
+// A roster file from its first byte to its end. `shifts` says how an entry stands in it: with its shift, or, in a file from before the shifts, as
+// a number alone.
 ghost use mathlib.Core.Path.{_≡_};
 ghost use Prim.Native.Nat.{_≤_};
 ghost use lib.ListN.{length};
-ghost use Rattle.model.specs.RosterFile.{readRoster};
+ghost use Rattle.model.specs.Limits.{nodeLimit};
+ghost use Rattle.model.specs.RosterFile.{readRosterBy};
+ghost use Rattle.roster_reading.specs.Layout.{layoutOf};
 ghost use Rattle.roster_reading.specs.Whole.{closed, ListsRead};
 use super::pairs;
+use roster_lists::TABLE;
 use roster_reading::Section;
 
-// The lists of ns surveyors and nt stands from a place on, then "9 bytes after the end", then "8 a pair listed by one side only". The
-// marks of a side's lists are 32 rows of 33.
-pub(crate) fn lists_to_end(file: &[u8], at: usize, ns: u8, nt: u8) -> Section
-    requires { ⌜ (at ≤ length (now file)) × (ns ≤ 32) × (nt ≤ 32) ⌝ }
-    ensures { λ r. ⌜ ListsRead ns nt (now (file .entry)) at r ⌝ }
+// The lists of ns surveyors and nt stands from a place on, then "9 bytes after the end", then "8 a pair listed by one side only".
+pub(crate) fn lists_to_end(file: &[u8], at: usize, ns: u8, nt: u8, shifts: bool) -> Section
+    requires { ⌜ (at ≤ length (now file)) × (ns ≤ nodeLimit) × (nt ≤ nodeLimit) ⌝ }
+    ensures { λ r. ⌜ ListsRead shifts ns nt (now (file .entry)) at r ⌝ }
 {
     let m = ns as usize;
     let n = nt as usize;
-    let mut surveyors = [false; 1056];
-    let mut stands = [false; 1056];
-    let s = roster_sections::lists_section(file, at, m, nt, &mut surveyors);
+    let mut surveyors = [false; TABLE];
+    let mut stands = [false; TABLE];
+    let s = roster_sections::lists_section(file, at, m, nt, shifts, &mut surveyors);
     let Section::Read(mid) = s else {
         return s;
     };
-    let t = roster_sections::rankings_section(file, mid, n, ns, &mut stands);
+    let t = roster_sections::rankings_section(file, mid, n, ns, shifts, &mut stands);
     let Section::Read(end) = t else {
         return t;
     };
@@ -35,8 +38,8 @@ pub(crate) fn lists_to_end(file: &[u8], at: usize, ns: u8, nt: u8) -> Section
 }
 
 // The nodes of both sides, then their lists: the end of the file, or the first refusal.
-pub(crate) fn roster_file(file: &[u8]) -> Section
-    ensures { λ r. ⌜ r ≡ closed (now (file .entry)) (readRoster (now (file .entry))) ⌝ }
+pub(crate) fn roster_file(file: &[u8], shifts: bool) -> Section
+    ensures { λ r. ⌜ r ≡ closed (now (file .entry)) (readRosterBy (layoutOf shifts) (now (file .entry))) ⌝ }
 {
     let s = roster_sections::nodes_at(file, 0);
     let Section::Read(a) = s else {
@@ -48,5 +51,5 @@ pub(crate) fn roster_file(file: &[u8]) -> Section
     };
     let ns = file[0];
     let nt = file[a];
-    lists_to_end(file, b, ns, nt)
+    lists_to_end(file, b, ns, nt, shifts)
 }

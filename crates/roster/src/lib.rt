@@ -1,20 +1,28 @@
-// The roster reader: section "Roster bytes" of document 01, and refusals 1 to 9 in its order.
+// The roster reader: section "Roster bytes" of document 01 with the shifts of W-204, and refusals 1 to 9 and 18 in their order.
 mod file;
 mod pairs;
 
 ghost use mathlib.Core.Path.{_≡_};
-ghost use Rattle.model.specs.RosterFile.{readRoster};
+ghost use Rattle.model.specs.RosterFile.{readRosterBy, readRoster};
 ghost use Rattle.answers.specs.FileCases.{fileCase};
+ghost use Rattle.roster_reading.specs.Layout.{layoutOf};
 use answers::FileAnswer;
 use roster_reading::Section;
 
-// A roster file is accepted, or refused with the number and the group of the refusal.
-pub fn read_roster(file: &[u8]) -> FileAnswer
-    ensures { λ r. ⌜ r ≡ fileCase (readRoster (now (file .entry))) ⌝ }
+// A roster file, with shifts or without, is accepted, or refused with the number and the group of the refusal.
+pub(crate) fn file_answer(file: &[u8], shifts: bool) -> FileAnswer
+    ensures { λ r. ⌜ r ≡ fileCase (readRosterBy (layoutOf shifts) (now (file .entry))) ⌝ }
 {
-    let s = file::roster_file(file);
+    let s = file::roster_file(file, shifts);
     match s {
         Section::Read(_) => FileAnswer::Accepted,
         Section::Refused(n) => FileAnswer::Refused(n, answers::group_of(n)),
     }
+}
+
+// A roster file, as it stands since W-204.
+pub fn read_roster(file: &[u8]) -> FileAnswer
+    ensures { λ r. ⌜ r ≡ fileCase (readRoster (now (file .entry))) ⌝ }
+{
+    file_answer(file, true)
 }

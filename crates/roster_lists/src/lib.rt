@@ -8,7 +8,7 @@ ghost use lib.ListN.{length};
 ghost use Rattle.model.specs.Limits.{nodeLimit, shiftLimit};
 ghost use Rattle.model.specs.Roster.{entries};
 ghost use Rattle.model.specs.RosterFile.{readList, readRanking, readMany};
-ghost use Rattle.roster_reading.specs.Layout.{layoutOf};
+ghost use Rattle.roster_reading.specs.Layout.{layoutOf, listBy, rankingBy};
 ghost use Rattle.roster_reading.specs.Slot.{rowWidth};
 ghost use Rattle.roster_reading.specs.Row.{Shows, Marked, EntriesAt};
 ghost use Rattle.roster_reading.specs.Table.{ListsShown, RankingsShown};
@@ -119,7 +119,7 @@ pub fn lists_at(
     table: &mut [bool],
 ) -> Section
     requires { ⌜ (start ≤ length (now file)) × (n * rowWidth ≤ length (now table)) × (other ≤ nodeLimit) × ListsShown (now table) [] ⌝ }
-    ensures { λ r. ⌜ Marked (readMany (readList (layoutOf shifts) (layoutOf shifts .longest other) other) n) ListsShown (now (file .entry)) start r (now (table .exit)) ⌝ }
+    ensures { λ r. ⌜ Marked (readMany (listBy shifts other) n) ListsShown (now (file .entry)) start r (now (table .exit)) ⌝ }
 {
     let longest = longest_list(other, shifts);
     let mut at = start;
@@ -147,7 +147,7 @@ pub fn rankings_at(
     table: &mut [bool],
 ) -> Section
     requires { ⌜ (start ≤ length (now file)) × (n * rowWidth ≤ length (now table)) × (other ≤ nodeLimit) × RankingsShown (now table) [] ⌝ }
-    ensures { λ r. ⌜ Marked (readMany (readRanking (layoutOf shifts) (layoutOf shifts .longest other) other) n) RankingsShown (now (file .entry)) start r (now (table .exit)) ⌝ }
+    ensures { λ r. ⌜ Marked (readMany (rankingBy shifts other) n) RankingsShown (now (file .entry)) start r (now (table .exit)) ⌝ }
 {
     let longest = longest_list(other, shifts);
     let mut at = start;

@@ -7,11 +7,14 @@ use mathlib.Core.Bool.{Bool, true, false}
 use mathlib.Core.List.{List, [], _∷_}
 use lib.ListN.{length, drop, getD}
 use lib.Seq.{getD-take}
+use lib.Dec.{T}
 use Rattle.model.specs.Limits.{entryWidth}
 use Rattle.model.specs.Reading.{Reading, accepted, refused, _then_}
-use Rattle.model.specs.Roster.{Entry}
-use Rattle.model.specs.RosterFile.{Layout, shifted, plain}
+use Rattle.model.specs.Roster.{Entry, Ranking}
+use Rattle.model.specs.RosterFile.{Layout, shifted, plain, readList, readRanking, entriesBytes, rankingBytes}
+use Rattle.theory_files.specs.Reads.{Reads}
 use Rattle.theory_files.specs.Layouts.{Agrees, in-shifted, in-plain}
+use Rattle.theory_files.specs.Sections.{listHeld, rankingHeld, list, ranking}
 use Rattle.roster_reading.specs.declared.Entry as code
 use Rattle.roster_reading.specs.Check.{Fixed, fixed-byte, fieldsOf}
 
@@ -74,3 +77,24 @@ fixed-entry false = record {
 -- the entries in a part of a file
 abbrev pub entriesIn : (shifts : Bool) → ℕ → List ℕ → List Entry
 entriesIn shifts n bs = fieldsOf (widthOf shifts) (entryFrom shifts) n bs
+
+-- ---- a surveyor's list and a stand's, where the other side has so many
+abbrev pub listBy : (shifts : Bool) (other : ℕ) → List ℕ → Reading (List Entry × List ℕ)
+listBy shifts other = readList (layoutOf shifts) (layoutOf shifts .longest other) other
+
+abbrev pub rankingBy : (shifts : Bool) (other : ℕ) → List ℕ → Reading (Ranking × List ℕ)
+rankingBy shifts other = readRanking (layoutOf shifts) (layoutOf shifts .longest other) other
+
+-- they agree with how the lists are written
+module _ (shifts : Bool) (other : ℕ) where
+  abbrev pub listFit : List Entry → Bool
+  listFit = listHeld (layoutOf shifts) (agreesOf shifts) (layoutOf shifts .longest other) other
+
+  abbrev pub rankingFit : Ranking → Bool
+  rankingFit = rankingHeld (layoutOf shifts) (agreesOf shifts) (layoutOf shifts .longest other) other
+
+  pub list-reads : Reads (listBy shifts other) (entriesBytes (layoutOf shifts)) (λ xs. T (listFit xs))
+  list-reads = list (layoutOf shifts) (agreesOf shifts) (layoutOf shifts .longest other) other
+
+  pub ranking-reads : Reads (rankingBy shifts other) (rankingBytes (layoutOf shifts)) (λ R. T (rankingFit R))
+  ranking-reads = ranking (layoutOf shifts) (agreesOf shifts) (layoutOf shifts .longest other) other

@@ -29,7 +29,8 @@ module _ (shifts : Bool) (longest other : ℕ) (f : List ℕ) (at : ℕ) where
   pub list-long : {after : List Bool} → at < length f → longest < getD f at 0 → Marked (readList L longest other) Shows f at (section.Refused 2) after
   list-long h k = marked-refused (count-long f at longest (readEntries L other) h k)
 
-  pub list-goes : {after : List Bool} {r : Section} → at < length f → getD f at 0 ≤ longest → Marked (readEntries L other (getD f at 0)) Shows f (at + 1) r after
+  pub list-goes : {after : List Bool} {r : Section} → at < length f → getD f at 0 ≤ longest
+      → Marked (readEntries L other (getD f at 0)) Shows f (at + 1) r after
       → Marked (readList L longest other) Shows f at r after
   list-goes h k m = marked-behind {other = readEntries L other (getD f at 0)} {next = at + 1} (count-goes f at longest (readEntries L other) h k) m
 
@@ -54,7 +55,8 @@ module _ (shifts : Bool) (longest other : ℕ) (f : List ℕ) (at : ℕ) where
     module _ (isB : T (isBytes f)) {next : ℕ} (e : s ≡ section.Read next) where
       strict : (xs : List Entry) × (readEntries L other (getD f at 0) (drop (at + 2) f) ≡ accepted (xs, drop next f)) × (next ≤ length f)
       strict =
-          given (place-read (each (agreesOf shifts .reads) (entryCheck other) (λ seen x. seen ++ x ∷ []) (getD f at 0) []) f (at + 2) isB (omega arith) (sym e ∙ m .place))
+          given (place-read (each (agreesOf shifts .reads) (entryCheck other) (λ seen x. seen ++ x ∷ []) (getD f at 0) []) f (at + 2) isB (omega arith)
+          (sym e ∙ m .place))
           (λ x. (x .value, x .is, x .within))
 
       pub tie-within : next ≤ length f

@@ -12,6 +12,10 @@ use Rattle.model.specs.Roster.{Entry, same}
 abbrev pub rowWidth : ℕ
 rowWidth = nodeLimit * shiftLimit
 
+-- a side's rows
+abbrev pub tableSize : ℕ
+tableSize = nodeLimit * rowWidth
+
 -- the place of an entry, and the entry of a place
 abbrev pub slotOf : Entry → ℕ
 slotOf x = shiftLimit * (x .number - 1) + (x .shift - 1)

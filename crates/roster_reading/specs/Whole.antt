@@ -11,14 +11,13 @@ use Rattle.lists.specs.Test.{given, and-l}
 use Rattle.model.specs.Limits.{nodeLimit}
 use Rattle.model.specs.Reading.{Reading, accepted, _then_, refused, whole}
 use Rattle.model.specs.Roster.{Entry, Ranking, Roster, totalS, totalT, bothOrNeither}
-use Rattle.model.specs.RosterFile.{Layout, readNodes, readList, readRanking, readSection, oneSided, readRosterBy}
+use Rattle.model.specs.RosterFile.{readNodes, readSection, oneSided, readRosterBy}
 use Rattle.theory_files.specs.Reads.{isBytes}
-use Rattle.theory_files.specs.Layouts.{Agrees}
-use Rattle.theory_files.specs.Sections.{nodes, listHeld, list, rankingHeld, ranking, section as section-reads}
+use Rattle.theory_files.specs.Sections.{nodes, section as section-reads}
 use Rattle.roster_reading.specs.declared.Section.{Section}
 use Rattle.roster_reading.specs.declared.Section.the-variants as section
 use Rattle.roster_reading.specs.Place.{placed, place-refused, place-read, read-not, refused-not-read, numberOf}
-use Rattle.roster_reading.specs.Layout.{layoutOf, agreesOf}
+use Rattle.roster_reading.specs.Layout.{layoutOf, listBy, rankingBy, listFit, rankingFit, list-reads, ranking-reads}
 use Rattle.roster_reading.specs.Row.{Marked}
 use Rattle.roster_reading.specs.Table.{ListsShown, RankingsShown}
 use Rattle.roster_reading.specs.Pairs.{bothAlike, both-alike}
@@ -51,21 +50,15 @@ closed f (refused n) = section.Refused n
 
 -- ---- in a layout, with shifts or without
 module _ (shifts : Bool) where
-  abbrev L : Layout
-  L = layoutOf shifts
-
-  abbrev A : Agrees L
-  A = agreesOf shifts
-
   -- the two sections of lists, behind the nodes of both sides
   abbrev finish : (qs qt : List ℕ) → List (List Entry) → List Ranking → List ℕ → Reading (Roster × List ℕ)
   finish qs qt ls ts rest = accepted (record { quotasS = qs; quotasT = qt; listsS = ls; listsT = ts }, rest)
 
   abbrev rankings : (ns nt : ℕ) → List ℕ → Reading (List Ranking × List ℕ)
-  rankings ns nt = readSection (readRanking L (L .longest ns) ns) totalT nt
+  rankings ns nt = readSection (rankingBy shifts ns) totalT nt
 
   abbrev lists : (ns nt : ℕ) → List ℕ → Reading (List (List Entry) × List ℕ)
-  lists ns nt = readSection (readList L (L .longest nt) nt) totalS ns
+  lists ns nt = readSection (listBy shifts nt) totalS ns
 
   abbrev pub readLists : (qs qt : List ℕ) → List ℕ → Reading (Roster × List ℕ)
   readLists qs qt rest = lists (length qs) (length qt) rest then (λ ls rest. rankings (length qs) (length qt) rest then finish qs qt ls)
@@ -80,7 +73,8 @@ module _ (shifts : Bool) where
         → readLists qs qt (drop at f) ≡ (lists ns nt (drop at f) then (λ ls rest. rankings ns nt rest then finish qs qt ls))
     counted qs qt a b = simp (a, b)
 
-    pub lists-refused : {s : Section} {n : ℕ} {after : List Bool} → Marked (lists ns nt) ListsShown f at s after → s ≡ section.Refused n → ListsRead ns nt f at s
+    pub lists-refused : {s : Section} {n : ℕ} {after : List Bool} → Marked (lists ns nt) ListsShown f at s after → s ≡ section.Refused n
+        → ListsRead ns nt f at s
     lists-refused m e qs qt a b = e ∙ sym (ap (λ r. closed f (oneSided (whole r))) (counted qs qt a b
         ∙ ap (λ r. r then (λ ls rest. rankings ns nt rest then finish qs qt ls)) (place-refused f (lists ns nt (drop at f)) (sym e ∙ m .place))))
 
@@ -88,7 +82,7 @@ module _ (shifts : Bool) where
         (e : s ≡ section.Read mid) where
       first : (ls : List (List Entry)) × (lists ns nt (drop at f) ≡ accepted (ls, drop mid f)) × (mid ≤ length f) × ListsShown byS ls
       first =
-          given (place-read (section-reads (listHeld L A (L .longest nt) nt) totalS (list L A (L .longest nt) nt) ns) f at isB h (sym e ∙ m .place))
+          given (place-read (section-reads (listFit shifts nt) totalS (list-reads shifts nt) ns) f at isB h (sym e ∙ m .place))
           (λ x. (x .value, x .is, x .within, m .marks (x .value) (drop mid f) (x .is)))
 
       pub mid-within : mid ≤ length f
@@ -103,7 +97,7 @@ module _ (shifts : Bool) where
       module _ {t : Section} {end : ℕ} {byT : List Bool} (k : Marked (rankings ns nt) RankingsShown f mid t byT) (d : t ≡ section.Read end) where
         last : (ts : List Ranking) × (rankings ns nt (drop mid f) ≡ accepted (ts, drop end f)) × (end ≤ length f) × RankingsShown byT ts
         last =
-            given (place-read (section-reads (rankingHeld L A (L .longest ns) ns) totalT (ranking L A (L .longest ns) ns) nt) f mid isB mid-within (sym d ∙ k .place))
+            given (place-read (section-reads (rankingFit shifts ns) totalT (ranking-reads shifts ns) nt) f mid isB mid-within (sym d ∙ k .place))
             (λ x. (x .value, x .is, x .within, k .marks (x .value) (drop end f) (x .is)))
 
         abbrev here : List ℕ → List ℕ → Roster
@@ -146,12 +140,13 @@ module _ (shifts : Bool) where
   abbrev second : List ℕ → List ℕ → Reading (Roster × List ℕ)
   second qs rest = readNodes rest then readLists qs
 
-  pub nodes-refused : (f : List ℕ) {s : Section} {n : ℕ} → s ≡ placed f (readNodes (drop 0 f)) → s ≡ section.Refused n → s ≡ closed f (readRosterBy L f)
+  pub nodes-refused : (f : List ℕ) {s : Section} {n : ℕ} → s ≡ placed f (readNodes (drop 0 f)) → s ≡ section.Refused n
+      → s ≡ closed f (readRosterBy (layoutOf shifts) f)
   unfolding readRosterBy
   nodes-refused f m e = e ∙ sym (ap (λ r. closed f (oneSided (whole (r then second)))) (place-refused f (readNodes f) (sym e ∙ m)))
 
   module _ (f : List ℕ) {a : ℕ} (ns : Nodes f 0 a) where
-    pub stands-refused : {t : Section} {n : ℕ} → t ≡ placed f (readNodes (drop a f)) → t ≡ section.Refused n → t ≡ closed f (readRosterBy L f)
+    pub stands-refused : {t : Section} {n : ℕ} → t ≡ placed f (readNodes (drop a f)) → t ≡ section.Refused n → t ≡ closed f (readRosterBy (layoutOf shifts) f)
     unfolding readRosterBy
     stands-refused m e =
         e
@@ -159,7 +154,7 @@ module _ (shifts : Bool) where
         (ap (λ r. closed f (oneSided (whole (r then second)))) (ns .is)
         ∙ ap (λ r. closed f (oneSided (whole (r then readLists (ns .quotas))))) (place-refused f (readNodes (drop a f)) (sym e ∙ m)))
 
-    pub roster-read : {b : ℕ} (nt : Nodes f a b) {r : Section} → ListsRead (getD f 0 0) (getD f a 0) f b r → r ≡ closed f (readRosterBy L f)
+    pub roster-read : {b : ℕ} (nt : Nodes f a b) {r : Section} → ListsRead (getD f 0 0) (getD f a 0) f b r → r ≡ closed f (readRosterBy (layoutOf shifts) f)
     unfolding readRosterBy
     roster-read nt m = m (ns .quotas) (nt .quotas) (ns .count) (nt .count)
         ∙ sym (ap (λ r. closed f (oneSided (whole (r then second)))) (ns .is) ∙ ap (λ r. closed f (oneSided (whole (r then readLists (ns .quotas))))) (nt .is))

@@ -6,10 +6,10 @@ ghost use Prim.Native.Nat.{_+_, _*_, _≤_, _<_};
 ghost use lib.ListN.{length, drop};
 ghost use Rattle.model.specs.Limits.{nodeLimit};
 ghost use Rattle.model.specs.Roster.{totalS, totalT};
-ghost use Rattle.model.specs.RosterFile.{readQuotas, readNodes, readList, readRanking, readSection};
+ghost use Rattle.model.specs.RosterFile.{readQuotas, readNodes, readSection};
 ghost use Rattle.roster_reading.specs.Place.{placed};
 ghost use Rattle.roster_reading.specs.Field as field;
-ghost use Rattle.roster_reading.specs.Layout.{layoutOf, widthOf};
+ghost use Rattle.roster_reading.specs.Layout.{widthOf, listBy, rankingBy};
 ghost use Rattle.roster_reading.specs.Slot.{rowWidth};
 ghost use Rattle.roster_reading.specs.Row.{Marked};
 ghost use Rattle.roster_reading.specs.Many.{Told, endedAt};
@@ -97,7 +97,7 @@ pub fn lists_section(
     table: &mut [bool],
 ) -> Section
     requires { ⌜ (at ≤ length (now file)) × (n ≤ nodeLimit) × (n * rowWidth ≤ length (now table)) × (other ≤ nodeLimit) × ListsShown (now table) [] ⌝ }
-    ensures { λ r. ⌜ Marked (readSection (readList (layoutOf shifts) (layoutOf shifts .longest other) other) totalS n) ListsShown (now (file .entry)) at r (now (table .exit)) ⌝ }
+    ensures { λ r. ⌜ Marked (readSection (listBy shifts other) totalS n) ListsShown (now (file .entry)) at r (now (table .exit)) ⌝ }
 {
     let told = told_end(file, at, n, shifts);
     let Section::Read(end) = told else {
@@ -117,7 +117,7 @@ pub fn rankings_section(
     table: &mut [bool],
 ) -> Section
     requires { ⌜ (at ≤ length (now file)) × (n ≤ nodeLimit) × (n * rowWidth ≤ length (now table)) × (other ≤ nodeLimit) × RankingsShown (now table) [] ⌝ }
-    ensures { λ r. ⌜ Marked (readSection (readRanking (layoutOf shifts) (layoutOf shifts .longest other) other) totalT n) RankingsShown (now (file .entry)) at r (now (table .exit)) ⌝ }
+    ensures { λ r. ⌜ Marked (readSection (rankingBy shifts other) totalT n) RankingsShown (now (file .entry)) at r (now (table .exit)) ⌝ }
 {
     let told = told_end(file, at, 2 * n, shifts);
     let Section::Read(end) = told else {

@@ -1,7 +1,7 @@
 -- `roster_lists::entries_at` meets its contract: the part that holds the whole entries is checked, and whether these are all. Assumes nothing.
 use Prim.Native.Nat.{_+_, _-_, _*_, _≤_}
 use native.Mathlib.Omega.{arith}
-use mathlib.Core.Path.{_≡_, sym, ap, _∙_, subst}
+use mathlib.Core.Path.{_≡_, sym, ap, _∙_}
 use lib.ListN.{length, length-take, length-drop}
 use borrow.Author.Needs.{needs}
 use Rattle.roster_reading.specs.Check.{wholeFields, fields-room}

@@ -8,9 +8,8 @@ use lib.Dec.{T}
 use borrow.Author.Needs.{needs}
 use Rattle.model.specs.RosterFile.{readList}
 use Rattle.theory_files.specs.Reads.{isBytes}
-use Rattle.theory_files.specs.Sections.{list}
 use Rattle.roster_reading.specs.Place.{bytes-of}
-use Rattle.roster_reading.specs.Layout.{layoutOf, agreesOf}
+use Rattle.roster_reading.specs.Layout.{layoutOf, listBy, list-reads}
 use Rattle.roster_reading.specs.Row.{marked-as, marked-by}
 use Rattle.roster_reading.specs.Table.{rowOf, row-wide, row-clear}
 use Rattle.roster_reading.specs.Many.{Turn, turn-start, turn-refused, turn-next, turn-end}
@@ -19,8 +18,7 @@ use Rattle.roster_lists.proofs.lists_at.Tie as tie
 
 abbrev Inv-loop : tie.InvT-loop
 Inv-loop file start n other shifts table₀ longest at₀ k₀ table at k =
-    (k ≤ n) × (at ≤ length file) × (length table ≡ length table₀)
-    × Turn (readList (layoutOf shifts) (layoutOf shifts .longest other) other) (λ xs. xs) [] file start n at k table
+    (k ≤ n) × (at ≤ length file) × (length table ≡ length table₀) × Turn (listBy shifts other) (λ xs. xs) [] file start n at k table
 
 abbrev μ-loop : tie.MeasureT-loop
 μ-loop file start n other shifts table₀ longest at₀ k₀ table at k = n - k
@@ -29,7 +27,7 @@ loop-holds : tie.Need-loop-holds Inv-loop μ-loop
 loop-holds c =
     let s = c .before .before .before in
     let a = s .args in
-    (zero-le, search needs, refl, turn-start (readList (layoutOf (a .shifts)) (layoutOf (a .shifts) .longest (a .other)) (a .other)) (λ xs. xs) [] (a .file .now) (a .start) (a .n) (s .pre .3))
+    (zero-le, search needs, refl, turn-start (listBy (a .shifts) (a .other)) (λ xs. xs) [] (a .file .now) (a .start) (a .n) (s .pre .3))
 
 list-at-requires : tie.Need-list-at-requires Inv-loop μ-loop
 list-at-requires c κs =
@@ -47,9 +45,10 @@ returns c =
     let l = r .before .before .before in
     let a = l .before .before .before .before .args in
     let e = c .enum-told .given .1 in
+    let limit = ap (λ m. readList (layoutOf (a .shifts)) m (a .other)) (l .before .longest-list .ensures) in
     marked-as (sym e)
-    (turn-refused (readList (layoutOf (a .shifts)) (layoutOf (a .shifts) .longest (a .other)) (a .other)) (λ xs. xs) [] (a .file .now) (a .start) (a .n) (l .loop .inv .3) (r .before .before .loop-test .taken)
-    (marked-as e (marked-by (ap (λ m. readList (layoutOf (a .shifts)) m (a .other)) (l .before .longest-list .ensures)) (r .list-at .ensures))))
+    (turn-refused (listBy (a .shifts) (a .other)) (λ xs. xs) [] (a .file .now) (a .start) (a .n) (l .loop .inv .3) (r .before .before .loop-test .taken)
+    (marked-as e (marked-by limit (r .list-at .ensures))))
 
 loop-again : tie.Need-loop-again Inv-loop μ-loop
 loop-again c =
@@ -59,18 +58,18 @@ loop-again c =
     let isB : T (isBytes (a .file .now)) = bytes-of (a .file .now) (λ i. l .before .before .before .shared-slice-known .given i) in
     let row = r .list-at .last .1 .1 .1 .1 .1 .0 in
     let back : length row ≡ length (rowOf (l .loop .table) (l .loop .k)) = c .before .before .before .before .table .given .0 in
+    let limit = ap (λ m. readList (layoutOf (a .shifts)) m (a .other)) (l .before .longest-list .ensures) in
     let (w, t) =
-    turn-next (readList (layoutOf (a .shifts)) (layoutOf (a .shifts) .longest (a .other)) (a .other)) (λ xs. xs) [] (a .file .now) (a .start) (a .n) refl
-    (list (layoutOf (a .shifts)) (agreesOf (a .shifts)) (layoutOf (a .shifts) .longest (a .other)) (a .other)) isB (l .loop .inv .3) (r .before .before .loop-test .taken) (l .loop .inv .1)
-    (omega arith) (back ∙ row-wide (l .loop .table) (l .loop .k) (omega arith))
-    (marked-as (c .before .s .given .1) (marked-by (ap (λ m. readList (layoutOf (a .shifts)) m (a .other)) (l .before .longest-list .ensures)) (r .list-at .ensures))) in
+    turn-next (listBy (a .shifts) (a .other)) (λ xs. xs) [] (a .file .now) (a .start) (a .n) refl (list-reads (a .shifts) (a .other)) isB (l .loop .inv .3)
+    (r .before .before .loop-test .taken) (l .loop .inv .1) (omega arith) (back ∙ row-wide (l .loop .table) (l .loop .k) (omega arith))
+    (marked-as (c .before .s .given .1) (marked-by limit (r .list-at .ensures))) in
     (omega arith, w, c .before .before .before .before .table .given .1 ∙ l .loop .inv .2, t)
 
 returns-2 : tie.Need-returns-2 Inv-loop μ-loop
 returns-2 c =
     let l = c .before in
     let a = l .before .before .before .before .args in
-    turn-end (readList (layoutOf (a .shifts)) (layoutOf (a .shifts) .longest (a .other)) (a .other)) (λ xs. xs) [] (a .file .now) (a .start) (a .n) (l .loop .inv .3) (c .loop-test .left) (l .loop .inv .1)
+    turn-end (listBy (a .shifts) (a .other)) (λ xs. xs) [] (a .file .now) (a .start) (a .n) (l .loop .inv .3) (c .loop-test .left) (l .loop .inv .1)
 
 pub lists-at-spec : {M : Type 1} → statement M
 lists-at-spec =

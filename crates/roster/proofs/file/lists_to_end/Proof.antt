@@ -7,86 +7,81 @@ use borrow.Author.Needs.{needs}
 use Rattle.model.specs.Roster.{entries}
 use Rattle.theory_files.specs.Reads.{isBytes}
 use Rattle.roster_reading.specs.Place.{bytes-of}
+use Rattle.roster_reading.specs.Slot.{tableSize}
 use Rattle.roster_reading.specs.Table.{noRanking, table-clear}
 use Rattle.roster_reading.specs.Whole.{lists-refused, mid-within, rankings-refused, lists-behind, lists-alike, lists-unlike}
 use Rattle.roster.proofs.file.lists_to_end.Statement.{statement}
 use Rattle.roster.proofs.file.lists_to_end.Tie as tie
 
+-- the file's elements are bytes
+isB : (p : tie.After-lists-section) → T (isBytes (p .before .before .before .args .file .now))
+isB p = bytes-of (p .before .before .before .args .file .now) (λ i. p .before .before .shared-slice-known .given i)
+
 lists-section-requires : tie.Need-lists-section-requires
-lists-section-requires c κs = (search needs, search needs, omega arith, omega arith, table-clear (λ xs. xs) [] refl 1056)
+lists-section-requires c κs = (search needs, search needs, omega arith, omega arith, table-clear (λ xs. xs) [] refl tableSize)
 
 returns : tie.Need-returns
 returns c =
-    let a = c .before .before .before .before .before .before .args in
-    lists-refused (a .ns) (a .nt) (a .file .now) (a .at) (c .before .before .before .lists-section .ensures) (c .enum-told .given .1)
+    let l = c .before .before .before in
+    let a = l .before .before .before .args in
+    lists-refused (a .shifts) (a .ns) (a .nt) (a .file .now) (a .at) (l .lists-section .ensures) (c .enum-told .given .1)
 
 rankings-section-requires : tie.Need-rankings-section-requires
 rankings-section-requires c κs =
-    let s = c .before .before .before .before .before .before .before .before in
-    let a = s .args in
-    let isB : T (isBytes (a .file .now)) =
-    bytes-of (a .file .now) (λ i. c .before .before .before .before .before .before .before .shared-slice-known .given i) in (
-      mid-within (a .ns) (a .nt) (a .file .now) (a .at) isB (s .pre .0) (c .before .before .before .before .before .lists-section .ensures)
-          (c .before .before .s .given .1),
+    let l = c .before .before .before .before .before in
+    let s = l .before .before .before in
+    let a = s .args in (
+      mid-within (a .shifts) (a .ns) (a .nt) (a .file .now) (a .at) (isB l) (s .pre .0) (l .lists-section .ensures) (c .before .before .s .given .1),
       s .pre .2,
       omega arith,
       omega arith,
-      table-clear entries noRanking refl 1056,
+      table-clear entries noRanking refl tableSize,
     )
 
 returns-2 : tie.Need-returns-2
 returns-2 c =
-    let s = c .before .before .before .before .before .before .before .before .before .before .before .before in
+    let r = c .before .before .before in
+    let d = r .before .before .before in
+    let l = d .before .before .before in
+    let s = l .before .before .before in
     let a = s .args in
-    let isB : T (isBytes (a .file .now)) =
-    bytes-of (a .file .now) (λ i. c .before .before .before .before .before .before .before .before .before .before .before .shared-slice-known .given i) in
-    rankings-refused (a .ns) (a .nt) (a .file .now) (a .at) isB (s .pre .0)
-    (c .before .before .before .before .before .before .before .before .before .lists-section .ensures)
-    (c .before .before .before .before .before .before .s .given .1) (c .before .before .before .rankings-section .ensures) (c .enum-told2 .given .1)
+    rankings-refused (a .shifts) (a .ns) (a .nt) (a .file .now) (a .at) (isB l) (s .pre .0) (l .lists-section .ensures) (d .s .given .1)
+    (r .rankings-section .ensures) (c .enum-told2 .given .1)
 
 returns-3 : tie.Need-returns-3
 returns-3 c =
-    let s = c .before .before .before .before .before .before .before .before .before .before .before .before .before .before in
+    let e = c .before .before in
+    let r = e .before .before .before in
+    let d = r .before .before .before in
+    let l = d .before .before .before in
+    let s = l .before .before .before in
     let a = s .args in
-    let isB : T (isBytes (a .file .now)) =
-    bytes-of (a .file .now)
-    (λ i. c .before .before .before .before .before .before .before .before .before .before .before .before .before .shared-slice-known .given i) in
-    lists-behind (a .ns) (a .nt) (a .file .now) (a .at) isB (s .pre .0)
-    (c .before .before .before .before .before .before .before .before .before .before .before .lists-section .ensures)
-    (c .before .before .before .before .before .before .before .before .s .given .1)
-    (c .before .before .before .before .before .rankings-section .ensures) (c .before .before .t .given .1) (c .if1 .taken)
+    lists-behind (a .shifts) (a .ns) (a .nt) (a .file .now) (a .at) (isB l) (s .pre .0) (l .lists-section .ensures) (d .s .given .1)
+    (r .rankings-section .ensures) (e .t .given .1) (c .if1 .taken)
 
 returns-4 : tie.Need-returns-4
 returns-4 c =
-    let s = c .before .before .before .before .before .before .before .before .before .before .before .before .before .before .before .before .before .before in
+    let b = c .before .before .before .before in
+    let e = b .before .before in
+    let r = e .before .before .before in
+    let d = r .before .before .before in
+    let l = d .before .before .before in
+    let s = l .before .before .before in
     let a = s .args in
-    let isB : T (isBytes (a .file .now)) =
-    bytes-of (a .file .now)
-    (λ i.
-    c .before .before .before .before .before .before .before .before .before .before .before .before .before .before .before .before .before .shared-slice-known .given
-    i) in
-    lists-alike (a .ns) (a .nt) (a .file .now) (a .at) isB (s .pre .0)
-    (c .before .before .before .before .before .before .before .before .before .before .before .before .before .before .before .lists-section .ensures)
-    (c .before .before .before .before .before .before .before .before .before .before .before .before .s .given .1)
-    (c .before .before .before .before .before .before .before .before .before .rankings-section .ensures)
-    (c .before .before .before .before .before .before .t .given .1) (s .pre .1) (s .pre .2) (c .before .before .before .before .if1 .left)
-    (sym (c .before .both-alike .ensures) ∙ c .if2 .taken)
+    lists-alike (a .shifts) (a .ns) (a .nt) (a .file .now) (a .at) (isB l) (s .pre .0) (l .lists-section .ensures) (d .s .given .1)
+    (r .rankings-section .ensures) (e .t .given .1) (s .pre .1) (s .pre .2) (b .if1 .left) (sym (c .before .both-alike .ensures) ∙ c .if2 .taken)
 
 returns-5 : tie.Need-returns-5
 returns-5 c =
-    let s = c .before .before .before .before .before .before .before .before .before .before .before .before .before .before .before .before .before .before in
+    let b = c .before .before .before .before in
+    let e = b .before .before in
+    let r = e .before .before .before in
+    let d = r .before .before .before in
+    let l = d .before .before .before in
+    let s = l .before .before .before in
     let a = s .args in
-    let isB : T (isBytes (a .file .now)) =
-    bytes-of (a .file .now)
-    (λ i.
-    c .before .before .before .before .before .before .before .before .before .before .before .before .before .before .before .before .before .shared-slice-known .given
-    i) in
-    lists-unlike (a .ns) (a .nt) (a .file .now) (a .at) isB (s .pre .0)
-    (c .before .before .before .before .before .before .before .before .before .before .before .before .before .before .before .lists-section .ensures)
-    (c .before .before .before .before .before .before .before .before .before .before .before .before .s .given .1)
-    (c .before .before .before .before .before .before .before .before .before .rankings-section .ensures)
-    (c .before .before .before .before .before .before .t .given .1) (s .pre .1) (s .pre .2) (c .before .before .before .before .if1 .left)
-    (sym (c .before .both-alike .ensures) ∙ c .if2 .left)
+    lists-unlike (a .shifts) (a .ns) (a .nt) (a .file .now) (a .at) (isB l) (s .pre .0) (l .lists-section .ensures) (d .s .given .1)
+    (r .rankings-section .ensures) (e .t .given .1) (s .pre .1) (s .pre .2) (b .if1 .left) (sym (c .before .both-alike .ensures) ∙ c .if2 .left)
 
 pub lists-to-end-spec : {M : Type 1} → statement M
 lists-to-end-spec =

@@ -1,4 +1,4 @@
--- `roster::pairs::row_alike` meets its contract: the stands that are left have the answer of all. Assumes nothing.
+-- `roster::pairs::row_alike` meets its contract: the places that are left have the answer of all. Assumes nothing.
 use Prim.Native.Nat.{_≤_}
 use native.Mathlib.Omega.{arith}
 use native.Mathlib.Nat.{le-refl}
@@ -9,10 +9,10 @@ use Rattle.roster.proofs.pairs.row_alike.Statement.{statement}
 use Rattle.roster.proofs.pairs.row_alike.Tie as tie
 
 abbrev Inv-loop : tie.InvT-loop
-Inv-loop surveyors stands i n j₀ j = (j ≤ n) × (rowAlike surveyors stands i n ≡ rowAlike surveyors stands i j)
+Inv-loop surveyors stands i places t₀ t = (t ≤ places) × (rowAlike surveyors stands i places ≡ rowAlike surveyors stands i t)
 
 abbrev μ-loop : tie.MeasureT-loop
-μ-loop surveyors stands i n j₀ j = j
+μ-loop surveyors stands i places t₀ t = t
 
 loop-holds : tie.Need-loop-holds Inv-loop μ-loop
 loop-holds c = (le-refl _, refl)
@@ -21,7 +21,7 @@ returns : tie.Need-returns Inv-loop μ-loop
 returns c =
     let l = c .before .before .before .before in
     let a = l .before .args in
-    sym (l .loop .inv .1 ∙ row-unlike (a .surveyors .now) (a .stands .now) (a .i) (l .loop .j) (c .before .before .before .loop-test .taken) (c .if1 .taken))
+    sym (l .loop .inv .1 ∙ row-unlike (a .surveyors .now) (a .stands .now) (a .i) (l .loop .t) (c .before .before .before .loop-test .taken) (c .if1 .taken))
 
 loop-again : tie.Need-loop-again Inv-loop μ-loop
 loop-again c =
@@ -29,14 +29,14 @@ loop-again c =
     let a = l .before .args in (
       omega arith,
       l .loop .inv .1
-          ∙ row-like (a .surveyors .now) (a .stands .now) (a .i) (l .loop .j) (c .before .before .before .loop-test .taken) (c .if1 .left),
+          ∙ row-like (a .surveyors .now) (a .stands .now) (a .i) (l .loop .t) (c .before .before .before .loop-test .taken) (c .if1 .left),
     )
 
 returns-2 : tie.Need-returns-2 Inv-loop μ-loop
 returns-2 c =
     let l = c .before in
     let a = l .before .args in
-    sym (l .loop .inv .1 ∙ row-end (a .surveyors .now) (a .stands .now) (a .i) (l .loop .j) (c .loop-test .left))
+    sym (l .loop .inv .1 ∙ row-end (a .surveyors .now) (a .stands .now) (a .i) (l .loop .t) (c .loop-test .left))
 
 pub row-alike-spec : {M : Type 1} → statement M
 row-alike-spec =
