@@ -11,12 +11,12 @@ use Rattle.program.proofs.worked.Statement.{statement}
 use Rattle.program.proofs.worked.Tie as tie
 
 -- the flat diary has its size
-full : (c : tie.After-flat-records) → length (c .flat-records .result) ≡ 4096
+full : (c : tie.After-flat-records) → length (c .flat-records .result) ≡ flatSize
 full c = search needs
 
 find-requires : tie.Need-find-requires
 find-requires c κs =
-    let i = c .before .before .before .before .before in
+    let i = c .before .before .before .before .before .before in
     let s = i .before .before in
     let file = s .args .roster .now in
     let isB = bytes-of file (λ k. i .before .shared-slice-known .given k) in
@@ -25,22 +25,22 @@ find-requires c κs =
 
 flat-records-requires : tie.Need-flat-records-requires
 flat-records-requires c κs =
-    let i = c .before .before .before .before .before .before .before .before .before .before .before .before in
+    let i = c .before .before .before .before .before .before .before .before .before .before .before .before .before .before in
     let s = i .before .before in
     let file = s .args .roster .now in
     let isB = bytes-of file (λ k. i .before .shared-slice-known .given k) in
     let g = i .instance-of in
-    let f = c .before .before .before .before .before .before .find in
+    let f = c .before .before .before .before .before .before .before .find in
     found-readable file isB (s .pre) (g .result) (g .ensures) _ _ _ (f .result) _ _ _ (f .ensures)
 
 answer-text-requires : tie.Need-answer-text-requires
 answer-text-requires c κs =
-    let i = c .before .before .before .before .before .before .before .before .before .before .before .before .before .before .before .before .before .before in
+    let i = c .before .before .before .before .before .before .before .before .before .before .before .before .before .before .before .before .before .before .before .before in
     let s = i .before .before in
     let file = s .args .roster .now in
     let isB = bytes-of file (λ k. i .before .shared-slice-known .given k) in
     let g = i .instance-of in
-    let f = c .before .before .before .before .before .before .before .before .before .before .before .before .find in
+    let f = c .before .before .before .before .before .before .before .before .before .before .before .before .before .find in
     let h =
     found-handed file isB (s .pre) (g .result) (g .ensures) _ _ _ (f .result) _ _ _ _ (f .ensures)
     (c .before .before .before .before .before .flat-records .ensures) in (
@@ -52,12 +52,12 @@ answer-text-requires c κs =
 returns : tie.Need-returns
 returns c =
     let i =
-    c .before .before .before .before .before .before .before .before .before .before .before .before .before .before .before .before .before .before .before in
+    c .before .before .before .before .before .before .before .before .before .before .before .before .before .before .before .before .before .before .before .before .before in
     let s = i .before .before in
     let file = s .args .roster .now in
     let isB = bytes-of file (λ k. i .before .shared-slice-known .given k) in
     let g = i .instance-of in
-    let f = c .before .before .before .before .before .before .before .before .before .before .before .before .before .find in
+    let f = c .before .before .before .before .before .before .before .before .before .before .before .before .before .before .find in
     let h =
     found-handed file isB (s .pre) (g .result) (g .ensures) _ _ _ (f .result) _ _ _ _ (f .ensures)
     (c .before .before .before .before .before .before .flat-records .ensures) in
