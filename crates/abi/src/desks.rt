@@ -78,7 +78,7 @@ pub extern "C" fn crew_load_plan(desk: Desk, file: &[u8]) -> DeskLoaded
     }
 }
 
-// writes the held roster to the front of out, which has at least 2,214 bytes, else 15
+// writes the held roster to the front of out, which has at least 4,262 bytes, else 15
 #[no_mangle]
 pub extern "C" fn crew_write_roster(desk: Desk, out: &mut [u8]) -> DeskWritten
     ensures { λ r. ⌜ Served outcomeIn desk (writeRosterTo (now (out .entry))) (r .outcome) (writeRosterTo (now (out .exit))) (r .desk) ⌝ }
@@ -93,7 +93,7 @@ pub extern "C" fn crew_write_roster(desk: Desk, out: &mut [u8]) -> DeskWritten
     }
 }
 
-// writes the held plan to the front of out, which has at least 129 bytes, else 15
+// writes the held plan to the front of out, which has at least 193 bytes, else 15
 #[no_mangle]
 pub extern "C" fn crew_write_plan(desk: Desk, out: &mut [u8]) -> DeskWritten
     ensures { λ r. ⌜ Served outcomeIn desk (writePlanTo (now (out .entry))) (r .outcome) (writePlanTo (now (out .exit))) (r .desk) ⌝ }
@@ -108,7 +108,7 @@ pub extern "C" fn crew_write_plan(desk: Desk, out: &mut [u8]) -> DeskWritten
     }
 }
 
-// the verdict on the held plan; a rival goes to the front of the buffer, which has at least 129 bytes, else 15
+// the verdict on the held plan; a rival goes to the front of the buffer, which has at least 193 bytes, else 15
 #[no_mangle]
 pub extern "C" fn crew_judge(desk: Desk, rival: &mut [u8]) -> DeskJudged
     ensures { λ r. ⌜ JudgedFor desk (now (rival .entry)) (r .judged) (now (rival .exit)) (r .desk) ⌝ }

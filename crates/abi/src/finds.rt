@@ -36,7 +36,7 @@ pub(crate) fn numbers_of(r: FindReply) -> DeskFound
     }
 }
 
-// the finder on the held roster: diary of at least 1,024 records, left of 2,048 bytes, plan and rival of 129 bytes each, else 15
+// the finder on the held roster: diary of at least 1,024 records, left of 3,072 bytes, plan and rival of 193 bytes each, else 15
 #[no_mangle]
 pub extern "C" fn crew_find(
     desk: Desk,

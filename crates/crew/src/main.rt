@@ -1,4 +1,4 @@
-// The program: reads a roster of at most 2,215 bytes from standard input and prints the finder's answer. Where a read fails it prints nothing to
+// The program: reads a roster of at most 4,263 bytes from standard input and prints the finder's answer. Where a read fails it prints nothing to
 // standard output and says so on standard error; where a write fails, or takes only a part of the text, it says that too.
 ghost use Prim.Native.Nat.{_≤_};
 ghost use lib.ListN.{length};

@@ -83,10 +83,10 @@ module _ (g : arrays.Instance) (L : Loaded g) (l p v : List ℕ) (o : traced.Out
   pub can-read : Readable (g .sv) (g .st) (o .trace)
   can-read = readable (shownBy g) (g .sv) (g .st) (L .edges) (L .low-sv) (L .low-st) (o .trace) (F .traced)
 
-  pub works : (flat : List ℕ) → flat ≡ flatOf (g .sv) (g .st) (o .trace)
+  pub works : (flat : List ℕ) → flat ≡ flatOf (g .sv) (g .st) (g .sh) (o .trace)
       → Works (shownBy g) l p v (record { answer = o .answer; flat = flat; steps = o .trace .steps }) l′ p′ v′
   works flat q = record {
-    finds = record { wrote = F .wrote; diary = q ∙ trace-flat (shownBy g) (g .sv) (g .st) refl refl (o .trace) (F .traced) };
+    finds = record { wrote = F .wrote; diary = q ∙ trace-flat (shownBy g) (g .sv) (g .st) (g .sh) refl refl refl (o .trace) (F .traced) };
     steps = F .traced .steps ∙ sym (ap stepsIn (F .wrote .answer) ∙ steps-are (length (stepsOf (shownBy g))) (finderOf (shownBy g) (rivalOf (shownBy g))));
   }
 

@@ -15,7 +15,7 @@ use limits::FLAT_SIZE;
 use limits::LEFT_SIZE;
 use limits::PLAN_SIZE;
 
-// What the finder answers, with the diary as numbers, four a record, and the number of its records: 0 of them on a refusal.
+// What the finder answers, with the diary as numbers, five a record, and the number of its records: 0 of them on a refusal.
 pub struct Outcome {
     pub answer: Found,
     pub flat: [u8; FLAT_SIZE],
@@ -41,10 +41,11 @@ pub(crate) fn worked(g: Instance, left: &mut [u8], plan: &mut [u8], rival: &mut 
 {
     let sv = g.sv;
     let st = g.st;
+    let sh = g.sh;
     let o = finder::find(g, left, plan, rival);
     let answer = o.answer;
     let trace = o.trace;
-    let flat = diary::flat_records(&sv, &st, trace);
+    let flat = diary::flat_records(&sv, &st, &sh, trace);
     Outcome {
         answer: answer,
         flat: flat,

@@ -75,7 +75,7 @@ pub struct FindReply {
     pub answer: Found,
 }
 
-// What the core of a find hands back: the reply, and the diary as numbers, four a record, with the number of its records.
+// What the core of a find hands back: the reply, and the diary as numbers, five a record, with the number of its records.
 pub struct CoreReply {
     pub reply: FindReply,
     pub flat: [u8; FLAT_SIZE],

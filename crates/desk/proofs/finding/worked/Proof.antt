@@ -6,15 +6,15 @@ use Rattle.desk.proofs.finding.worked.Tie as tie
 
 flat-records-requires : tie.Need-flat-records-requires
 flat-records-requires c κs =
-    let s = c .before .before .before .before .before .before .before .before .before .before .before .before .before .before .before .before .before .before in
-    let f = c .before .before .before .before .before .before .before .before .before .find in
+    let s = c .before .before .before .before .before .before .before .before .before .before .before .before .before .before .before .before .before .before .before .before in
+    let f = c .before .before .before .before .before .before .before .before .before .before .find in
     can-read (s .args .g) (s .pre .0) _ _ _ (f .result) _ _ _ (f .ensures)
 
 returns : tie.Need-returns
 returns c =
     let s =
-    c .before .before .before .before .before .before .before .before .before .before .before .before .before .before .before .before .before .before .before in
-    let f = c .before .before .before .before .before .before .before .before .before .before .find in
+    c .before .before .before .before .before .before .before .before .before .before .before .before .before .before .before .before .before .before .before .before .before in
+    let f = c .before .before .before .before .before .before .before .before .before .before .before .find in
     works (s .args .g) (s .pre .0) _ _ _ (f .result) _ _ _ (f .ensures) _ (c .flat-records .ensures)
 
 pub worked-spec : {M : Type 1} → statement M
