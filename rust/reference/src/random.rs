@@ -216,6 +216,20 @@ pub fn stand_list(random: &mut Random, stands: u8, percent: u8) -> Vec<u8> {
     list_file(&list)
 }
 
+/// A joiner's list, as its file, that no stand of the roster is too full for:
+/// some of the stands, each in some of the shifts.
+pub fn fitting_list(random: &mut Random, roster: &Roster, percent: u8) -> Vec<u8> {
+    let mut list = Vec::new();
+    for (number, stand) in (1..).zip(roster.nodes(Side::Stands)) {
+        let room = MAX_LIST - stand.list.length();
+        let shifts = (1..=MAX_SHIFT).filter(|_| random.chance(percent));
+        list.extend(shifts.take(room).map(|shift| Entry { number, shift }));
+    }
+    random.shuffle(&mut list);
+    list.truncate(MAX_LIST);
+    list_file(&list)
+}
+
 /// A joiner's list as its file.
 pub fn list_file(list: &[Entry]) -> Vec<u8> {
     let length = narrow(list.len());

@@ -342,13 +342,9 @@ fn the_state_comes_first() {
 fn the_longest_roster_is_joined() {
     let mut random = Random::new(21);
     let mut shape = random::longest_shape(50, 20);
-    // with 31 entries for each stand
     shape.counts[0] = 31..=31;
-    shape.shifts = 1;
     let shorter = random::roster(&mut random, &shape);
-    let shift = |stand: u8| stand % 3 + 1;
-    let list: Vec<u8> = (1..=32).flat_map(|stand| [stand, shift(stand)]).collect();
-    let list = [&[32], &list[..]].concat();
+    let list = random::fitting_list(&mut random, &shorter, 100);
     let longest = join(&shorter, 2, &list).expect("accepted");
     let bytes = write(&longest);
     assert_eq!(

@@ -9,13 +9,14 @@ use std::sync::Once;
 
 use planner::{Desk, Refusal};
 use reference::desk::Desk as Held;
+use reference::limits::{MAX_SHIFT, PAIR_FIELD};
 use reference::plan;
 use reference::random::{Random, Shape};
 use reference::roster;
 
 /// How many numbers an answer can be counted under: 0 for accepted, and every
 /// refusal's.
-pub const NUMBERS: usize = 18;
+pub const NUMBERS: usize = 19;
 
 /// The repository's folder.
 pub fn root() -> PathBuf {
@@ -102,6 +103,11 @@ pub fn front(bytes: &[u8], length: usize) -> &[u8] {
     &bytes[..length.min(bytes.len())]
 }
 
+/// The plan's file at the front of a buffer, as long as its count says.
+pub fn plan_front(buffer: &[u8]) -> &[u8] {
+    &buffer[..1 + PAIR_FIELD * usize::from(buffer[0])]
+}
+
 /// A buffer's length: below its size now and then.
 pub fn length(random: &mut Random, size: usize) -> usize {
     if random.chance(10) {
@@ -162,12 +168,15 @@ pub fn damage(random: &mut Random, file: &mut Vec<u8>) {
     }
 }
 
+/// A shape with one shift or several, and about as many pairs either way.
 pub fn shape(random: &mut Random) -> Shape {
     let nodes = [2, 4, 6][random.below(3)];
+    let shifts = random.within(&(1..=MAX_SHIFT));
     Shape {
         counts: [0..=nodes, 0..=nodes],
         quotas: [0..=8, 0..=8],
-        pairs: [40, 70, 100][random.below(3)],
+        shifts,
+        pairs: [40, 70, 100][random.below(3)] / shifts,
         ties: 50,
         opposed: 20,
     }
