@@ -313,7 +313,7 @@ fn random_plan_pairs_up_to_the_limits() {
 fn all_plans_of_small_rosters() {
     let mut random = Random::new(64);
     let mut pairs = 0;
-    for _ in 0..2_000 {
+    for _ in 0..3_000 {
         let shifts = random.within(&(1..=MAX_SHIFT));
         let shape = Shape {
             counts: [1..=3, 1..=3],

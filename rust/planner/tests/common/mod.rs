@@ -9,7 +9,7 @@ use std::sync::Once;
 
 use planner::{Desk, Refusal};
 use reference::desk::Desk as Held;
-use reference::limits::{MAX_SHIFT, PAIR_FIELD};
+use reference::limits::{ENTRY_FIELD, MAX_SHIFT, PAIR_FIELD};
 use reference::plan;
 use reference::random::{Random, Shape};
 use reference::roster;
@@ -147,13 +147,14 @@ pub fn check_written(
 }
 
 /// One damage: a byte changed, dropped, doubled, two swapped, a count off by
-/// one, the file cut or grown.
+/// one, the file cut or grown, two neighbouring entries or pairs exchanged.
 pub fn damage(random: &mut Random, file: &mut Vec<u8>) {
     if file.is_empty() {
         return file.push(random.below(256) as u8);
     }
     let at = random.below(file.len());
-    match random.below(8) {
+    let field = [ENTRY_FIELD, PAIR_FIELD][random.below(2)];
+    match random.below(10) {
         0 => file[at] = random.below(256) as u8,
         1 => file[at] = random.below(34) as u8,
         2 => file[at] = file[at].wrapping_add(1),
@@ -161,6 +162,7 @@ pub fn damage(random: &mut Random, file: &mut Vec<u8>) {
         4 => file.truncate(at),
         5 => file.push(random.below(34) as u8),
         6 => drop(file.remove(at)),
+        7 | 8 if at + 2 * field <= file.len() => file[at..at + 2 * field].rotate_left(field),
         _ => {
             let other = random.below(file.len());
             file.swap(at, other);
