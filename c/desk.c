@@ -140,6 +140,7 @@ static struct crew_desk blocking(struct crew_desk desk) {
     give_number(reply.blocker.refusal);
     give_number(reply.blocker.surveyor);
     give_number(reply.blocker.stand);
+    give_number(reply.blocker.shift);
     return reply.desk;
 }
 

@@ -1,5 +1,6 @@
-/* The crew planner's proved calls, for C. Rosters and plans are files in document 01's bytes; a slice is a pointer and a length. A
-   refusal is document 01's number, 0 for none. On a refusal no byte of any buffer changes; beyond what is written a buffer keeps its
+/* The crew planner's proved calls, for C. Rosters and plans are files in document 01's bytes, with a shift byte, 1 to 3, behind the number of
+   each list entry and behind the two numbers of each plan pair; a surveyor and a stand in two shifts are two pairs. A slice is a pointer and a
+   length. A refusal is document 01's number, 0 for none. On a refusal no byte of any buffer changes; beyond what is written a buffer keeps its
    bytes. What each call promises is its contract in crates/abi/src. Link with target/staticlib/libabi.a (rt staticlib abi).
 
    A lent slice is a pointer to as many bytes (or records) as its length says, readable, and writable where it is not const, for the time of the
@@ -15,10 +16,10 @@ extern "C" {
 #endif
 
 /* sizes that buffers need, however little is written */
-#define CREW_ROSTER_BYTES 2214
-#define CREW_PLAN_BYTES 129
+#define CREW_ROSTER_BYTES 4262
+#define CREW_PLAN_BYTES 193
 #define CREW_DIARY_RECORDS 1024
-#define CREW_LEFT_BYTES 2048
+#define CREW_LEFT_BYTES 3072
 
 /* a refusal, or 0 and the length written */
 struct crew_outcome {
@@ -39,11 +40,12 @@ struct crew_compared {
     size_t length;
 };
 
-/* a refusal, 0 for none; the numbers of a blocking pair's surveyor and stand, 0 0 if there is none */
+/* a refusal, 0 for none; the numbers of a blocking pair's surveyor and stand, and its shift, 0 0 0 if there is none */
 struct crew_blocker {
     uint8_t refusal;
     uint8_t surveyor;
     uint8_t stand;
+    uint8_t shift;
 };
 
 /* a refusal, 0 for none; the verdict, 1 strong, 2 popular, 3 beaten, 0 on a refusal; and the vote of the plan against the rival that is
@@ -89,11 +91,12 @@ struct crew_desk_blocker {
     struct crew_blocker blocker;
 };
 
-/* a step of the reduction: fate 1 fix, 2 strike; the numbers of the pair's surveyor and stand; the rule */
+/* a step of the reduction: fate 1 fix, 2 strike; the numbers of the pair's surveyor and stand, and its shift; the rule */
 struct crew_step {
     uint8_t fate;
     uint8_t surveyor;
     uint8_t stand;
+    uint8_t shift;
     uint8_t rule;
 };
 
@@ -105,7 +108,7 @@ struct crew_desk_found {
     uint8_t refusal;
     int16_t vote; /* the candidate's vote against its rival, zero or below */
     size_t steps; /* records in the diary */
-    size_t left;  /* pairs left, two bytes each */
+    size_t left;  /* pairs left, three bytes each */
 };
 
 /* the group of a refusal: 1 form, 2 content, 3 plan, 4 desk */
@@ -150,9 +153,11 @@ struct crew_desk_found crew_find(struct crew_desk desk, struct crew_step *diary,
 /* the two calls below change the held roster, and answer and write what crew_find does on the changed one, into buffers of the same sizes.
    A refused call changes nothing. 13 without a roster, then 15; 14 never */
 
-/* a surveyor joins, with the number after the highest: the quota, and one stand list as a file: a length byte, then stand numbers, best first.
-   Each listed stand has the joiner at the end of its tie. The held plan stays. After 15: 3 for a quota above 8; 17 where all 32 numbers are
-   taken, leavers' too, or the quotas would pass 64; then the list's own refusals, 1, 2, 4, 5 and 9 */
+/* a surveyor joins, with the number after the highest: the quota, and one stand list as a file: a length byte, then entries of two bytes, a stand
+   number and a shift, best first. Each listed stand has the joiner at the end of its tie, where one stand is listed in several shifts in the
+   order of the shifts. The held plan stays. After 15: 3 for a quota above 8; 17 where all 32 numbers are taken, leavers' too, or the quotas would
+   pass 64; then the list's own refusals: 1, 2 for a length above 32, at each entry 1, 4, 18 for a shift that is not 1 to 3, 5, and then 9; last 2
+   where a stand's list would have more than 32 entries */
 struct crew_desk_found crew_join(struct crew_desk desk, uint8_t quota, const uint8_t *list, size_t list_len, struct crew_step *diary,
                                  size_t diary_len, uint8_t *left, size_t left_len, uint8_t *plan, size_t plan_len, uint8_t *rival,
                                  size_t rival_len);

@@ -5,13 +5,15 @@
 use std::error::Error;
 use std::io::{self, Write};
 
-use planner::{Desk, Found, Step, DIARY_RECORDS, LEFT_BYTES, PLAN_BYTES};
+use planner::{Desk, Found, Step, DIARY_RECORDS, LEFT_BYTES, PAIR_BYTES, PLAN_BYTES};
 
 /// Tells the morning.
 pub fn tell(out: &mut impl Write) -> Result<(), Box<dyn Error>> {
-    // two surveyors rank one stand; the stand ranks 1 before 2
-    let roster = [2, 1, 1, 1, 1, 2, 0, 1, 1, 1, 1, 2, 0, 2, 0, 1, 2];
-    let (first, second) = ([1, 1, 1], [1, 2, 1]);
+    // two surveyors rank one stand, in shift 1; the stand ranks 1 before 2
+    let roster = [
+        2, 1, 1, 1, 1, 2, 0, 1, 1, 1, 1, 1, 1, 2, 0, 2, 0, 1, 1, 2, 1,
+    ];
+    let (first, second) = ([1, 1, 1, 1], [1, 2, 1, 1]);
 
     let mut desk = Desk::open();
     desk.load_roster(&roster)?;
@@ -27,7 +29,8 @@ pub fn tell(out: &mut impl Write) -> Result<(), Box<dyn Error>> {
     writeln!(out, "{found:?}")?;
     if let Found::Plan { steps } = found {
         writeln!(out, "steps: {:?}", &diary[..steps])?;
-        writeln!(out, "plan: {:?}", &plan[..1 + 2 * usize::from(plan[0])])?;
+        let length = 1 + PAIR_BYTES * usize::from(plan[0]);
+        writeln!(out, "plan: {:?}", &plan[..length])?;
     }
 
     let compared = desk.compare(&first, &second);
@@ -37,7 +40,7 @@ pub fn tell(out: &mut impl Write) -> Result<(), Box<dyn Error>> {
     desk.load_plan(&first)?;
     writeln!(out, "verdict: {:?}", desk.judge(&mut [0; PLAN_BYTES])?)?;
     writeln!(out, "blocking pair: {:?}", desk.blocking()?)?;
-    let refusal = desk.load_plan(&[1, 1, 2]).unwrap_err();
+    let refusal = desk.load_plan(&[1, 1, 2, 1]).unwrap_err();
     writeln!(out, "{}: {refusal}", refusal.number)?;
     writeln!(out, "blocking pair: {:?}", desk.blocking()?)?;
     Ok(())

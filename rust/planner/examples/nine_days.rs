@@ -1,19 +1,29 @@
 //! Nine days in the field: surveyors join and leave, some entries are mistaken,
 //! and each day the planner says what has changed. Pairs are written
-//! surveyor-stand.
+//! surveyor-stand, with the shift behind a stroke if it is not the first.
 
 use std::error::Error;
 use std::io::{self, Write};
 
-use planner::{Desk, Found, Refusal, Step, Verdict, DIARY_RECORDS, LEFT_BYTES, PLAN_BYTES};
+use planner::{
+    Desk, Found, Refusal, Step, Verdict, DIARY_RECORDS, LEFT_BYTES, PAIR_BYTES, PLAN_BYTES,
+};
 use Event::{Join, Leave};
 
-/// Three surveyors and four stands.
-const ROSTER: [u8; 44] = [
+/// Three surveyors and four stands; all entries are in shift 1.
+#[rustfmt::skip]
+const ROSTER: [u8; 64] = [
     3, 2, 1, 2, // surveyors 1 and 3 measure two stands, surveyor 2 one
     4, 1, 2, 1, 2, // stands 2 and 4 are measured twice
-    10, 0, 3, 3, 4, 2, 4, 2, 3, 4, 1, 3, 1, 4, 3, // what each surveyor ranks
-    10, 0, 2, 0, 2, 3, 0, 2, 1, 2, 3, 0, 3, 2, 1, 3, 0, 2, 1, 3, // and each stand
+    10, 0, // what each surveyor ranks
+    3, 3, 1, 4, 1, 2, 1,
+    4, 2, 1, 3, 1, 4, 1, 1, 1,
+    3, 1, 1, 4, 1, 3, 1,
+    10, 0, // and each stand
+    2, 0, 2, 1, 3, 1,
+    0, 2, 1, 1, 2, 1,
+    3, 0, 3, 1, 2, 1, 1, 1,
+    3, 0, 2, 1, 1, 1, 3, 1,
 ];
 
 /// A joiner's quota and stand list, or a leaver's number.
@@ -25,14 +35,14 @@ enum Event {
 /// What happens from the second day on.
 #[rustfmt::skip]
 const DAYS: [(&str, Event); 8] = [
-    ("a surveyor joins, for one of the stands 4, 2, 1", Join(1, &[3, 4, 2, 1])),
-    ("a surveyor would join and ranks stand 5, but there are four", Join(1, &[2, 4, 5])),
+    ("a surveyor joins, for one of the stands 4, 2, 1", Join(1, &[3, 4, 1, 2, 1, 1, 1])),
+    ("a surveyor would join and ranks stand 5, but there are four", Join(1, &[2, 4, 1, 5, 1])),
     ("surveyor 1 leaves", Leave(1)),
     ("the same is entered once more", Leave(1)),
-    ("a surveyor joins, for two of the stands 1, 2, 4, 3", Join(2, &[4, 1, 2, 4, 3])),
+    ("a surveyor joins, for two of the stands 1, 2, 4, 3", Join(2, &[4, 1, 1, 2, 1, 4, 1, 3, 1])),
     ("surveyor 9 is entered as leaving, but there are five", Leave(9)),
     ("surveyor 2 leaves", Leave(2)),
-    ("a surveyor joins, for stand 3", Join(1, &[1, 3])),
+    ("a surveyor joins, for stand 3", Join(1, &[1, 3, 1])),
 ];
 
 /// The desk and the buffers that it is lent.
@@ -78,7 +88,7 @@ impl Planner {
         match found {
             Found::Plan { .. } => format!("strongly popular is {plan}"),
             Found::Left { pairs, .. } => {
-                let left = listed(&self.left[..2 * pairs]);
+                let left = listed(&self.left[..PAIR_BYTES * pairs]);
                 format!("no plan is strongly popular: the pairs {left} are left")
             }
             Found::Rivalled { vote, .. } => {
@@ -103,22 +113,31 @@ impl Planner {
 
     /// Holds the plan that was answered.
     fn take(&mut self) -> Result<(), Refusal> {
-        let count = usize::from(self.plan[0]);
-        self.desk.load_plan(&self.plan[..1 + 2 * count])
+        self.desk.load_plan(&self.plan[..plan_length(&self.plan)])
     }
+}
+
+/// How long the plan's file at the front of a buffer is.
+fn plan_length(plan: &[u8]) -> usize {
+    1 + PAIR_BYTES * usize::from(plan[0])
 }
 
 /// The pair bytes of a plan's file.
 fn plan_pairs(plan: &[u8]) -> &[u8] {
-    &plan[1..1 + 2 * usize::from(plan[0])]
+    &plan[1..plan_length(plan)]
 }
 
 fn listed(pairs: &[u8]) -> String {
-    let pairs = pairs.chunks_exact(2);
-    let words: Vec<String> = pairs
-        .map(|pair| format!("{}-{}", pair[0], pair[1]))
-        .collect();
+    let words: Vec<String> = pairs.chunks_exact(PAIR_BYTES).map(named).collect();
     words.join(" ")
+}
+
+/// A pair in words; shift 1 is not told.
+fn named(pair: &[u8]) -> String {
+    match pair[2] {
+        1 => format!("{}-{}", pair[0], pair[1]),
+        shift => format!("{}-{}/{shift}", pair[0], pair[1]),
+    }
 }
 
 /// The two files that a desk holds.

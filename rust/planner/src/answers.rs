@@ -84,10 +84,11 @@ pub(crate) fn comparison<'a>(
     }
 }
 
-/// The numbers of a blocking pair's surveyor and stand.
-pub(crate) fn blocking(blocker: &ffi::Blocker) -> Result<Option<(u8, u8)>, Refusal> {
+/// The numbers of a blocking pair's surveyor and stand, and its shift.
+pub(crate) fn blocking(blocker: &ffi::Blocker) -> Result<Option<(u8, u8, u8)>, Refusal> {
     refusal::check(blocker.refusal)?;
-    Ok((blocker.surveyor != 0).then_some((blocker.surveyor, blocker.stand)))
+    let pair = (blocker.surveyor, blocker.stand, blocker.shift);
+    Ok((blocker.surveyor != 0).then_some(pair))
 }
 
 pub(crate) fn found(reply: &ffi::DeskFound) -> Result<Found, Refusal> {

@@ -80,9 +80,9 @@ impl Desk {
     }
 
     /// The first blocking pair of the held plan, by the numbers of its surveyor
-    /// and its stand, or that there is none: of the lowest surveyor that has
-    /// one, the pair best in this surveyor's list.
-    pub fn blocking(&self) -> Result<Option<(u8, u8)>, Refusal> {
+    /// and its stand and by its shift, or that there is none: of the lowest
+    /// surveyor that has one, the pair best in this surveyor's list.
+    pub fn blocking(&self) -> Result<Option<(u8, u8, u8)>, Refusal> {
         let reply = unsafe { ffi::crew_blocking(self.clone()) };
         debug_assert!(*self == reply.desk);
         answers::blocking(&reply.blocker)
@@ -117,8 +117,8 @@ impl Desk {
     }
 
     /// A surveyor joins the held roster, with the number after the highest:
-    /// a quota, and one stand list as a file, a length and then stand numbers,
-    /// best first. The held plan stays. Answers and writes what [`Desk::find`]
+    /// a quota, and one stand list as a file, a length and then stands with their
+    /// shifts, best first. The held plan stays. Answers and writes what [`Desk::find`]
     /// does on the changed roster. A refused call changes nothing.
     pub fn join(
         &mut self,

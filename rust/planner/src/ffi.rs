@@ -24,6 +24,7 @@ pub struct Blocker {
     pub refusal: u8,
     pub surveyor: u8,
     pub stand: u8,
+    pub shift: u8,
 }
 
 #[repr(C)]

@@ -2,11 +2,14 @@
 //! out. The exported calls and everything above them share these.
 
 /// Bytes that a buffer for a roster needs, and one for a plan.
-pub const ROSTER_BYTES: usize = 2_214;
-pub const PLAN_BYTES: usize = 129;
+pub const ROSTER_BYTES: usize = 4_262;
+pub const PLAN_BYTES: usize = 193;
 /// Records that a lent diary needs, and bytes of the buffer for the pairs left.
 pub const DIARY_RECORDS: usize = 1_024;
-pub const LEFT_BYTES: usize = 2_048;
+pub const LEFT_BYTES: usize = 3_072;
+/// Bytes of a pair, in a plan and among the pairs left: the numbers of its
+/// surveyor and its stand, and its shift.
+pub const PAIR_BYTES: usize = 3;
 
 /// A roster file and a plan file at the front of their arrays. What a desk
 /// holds is what these bytes are read to: nothing, a roster, or a roster and a
@@ -22,12 +25,13 @@ pub struct Desk {
 }
 
 /// One step of the reduction: fate 1 is fix and 2 strike, then the numbers of
-/// the pair's surveyor and stand, then the rule.
+/// the pair's surveyor and stand, its shift, and the rule.
 #[repr(C)]
 #[derive(Clone, Copy, Debug, Default, PartialEq, Eq)]
 pub struct Step {
     pub fate: u8,
     pub surveyor: u8,
     pub stand: u8,
+    pub shift: u8,
     pub rule: u8,
 }

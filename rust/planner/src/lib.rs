@@ -1,16 +1,17 @@
 //! The proved planner's calls, made safe for Rust. Rosters and plans are files
-//! in document 01's bytes; each call promises what its contract in `crates/abi`
-//! says, and nothing here adds to it but names and types.
+//! in document 01's bytes, with a shift behind each list entry's number and each
+//! plan pair's two; each call promises what its contract in `crates/abi` says,
+//! and nothing here adds to it but names and types.
 //!
 //! ```
-//! let roster = [2, 1, 1, 1, 1, 2, 0, 1, 1, 1, 1, 2, 0, 2, 0, 1, 2];
+//! let roster = [2, 1, 1, 1, 1, 2, 0, 1, 1, 1, 1, 1, 1, 2, 0, 2, 0, 1, 1, 2, 1];
 //! assert!(planner::read_roster(&roster).is_ok());
 //! let refusal = planner::read_roster(&[1, 9]).unwrap_err();
 //! assert_eq!(refusal.number, 3);
 //!
 //! let mut desk = planner::Desk::open();
 //! desk.load_roster(&roster)?;
-//! desk.load_plan(&[1, 1, 1])?;
+//! desk.load_plan(&[1, 1, 1, 1])?;
 //! assert_eq!(desk.judge(&mut [0; planner::PLAN_BYTES])?, planner::Verdict::Strong);
 //! # Ok::<(), planner::Refusal>(())
 //! ```
@@ -22,7 +23,7 @@ mod layout;
 mod refusal;
 
 pub use answers::{Comparison, Found, Verdict, Votes, Winner};
-pub use layout::{Desk, Step, DIARY_RECORDS, LEFT_BYTES, PLAN_BYTES, ROSTER_BYTES};
+pub use layout::{Desk, Step, DIARY_RECORDS, LEFT_BYTES, PAIR_BYTES, PLAN_BYTES, ROSTER_BYTES};
 pub use refusal::{Group, Refusal};
 
 /// Whether the file is a roster that is accepted.

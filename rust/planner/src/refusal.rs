@@ -60,6 +60,7 @@ impl fmt::Display for Refusal {
             15 => "a lent buffer is below its size",
             16 => "the leaver's number is 0 or above the surveyors' count",
             17 => "all 32 numbers are taken, or the surveyors' quotas would be above 64 together",
+            18 => "a list entry's shift is not 1, 2 or 3",
             _ => "refused",
         })
     }

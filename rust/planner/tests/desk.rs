@@ -184,7 +184,8 @@ fn blocking_pair(desk: &Desk, held: &Held) -> u8 {
         Err(refusal) => assert_eq!(number(&answer), refusal.number()),
         Ok((roster, plan)) => {
             let first = blocking::first_blocking_pair(roster, plan);
-            assert_eq!(answer, Ok(first.map(|pair| (pair.surveyor, pair.stand))));
+            let numbers = first.map(|pair| (pair.surveyor, pair.stand, pair.shift));
+            assert_eq!(answer, Ok(numbers));
         }
     }
     number(&answer)
@@ -252,7 +253,7 @@ fn calls_one_after_another() {
             }
         }
     }
-    met.require(&[0, 1, 2, 10, 11, 12, 13, 14, 15, 16], 100);
+    met.require(&[0, 1, 2, 10, 11, 12, 13, 14, 15, 16, 18], 100);
 }
 
 #[test]

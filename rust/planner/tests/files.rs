@@ -9,8 +9,9 @@ use std::fmt::Debug;
 use common::{check_written, damage, junk, length, number, same_refusal, shape, Met};
 use common::{desk_with, desk_with_plan};
 use planner::Desk;
+use reference::limits::MAX_SHIFT;
 use reference::plan;
-use reference::random::{self, Random, Shape};
+use reference::random::{self, Random};
 use reference::refusal::Refusal;
 use reference::roster::{self, Roster, SIDES};
 use reference::votes;
@@ -86,20 +87,15 @@ fn random_and_damaged_rosters() {
         }
         check_roster(&mut random, &mut met, &file);
     }
-    met.require(&[0, 1, 2, 3, 4, 5, 6, 7, 8, 9, 13, 15], 500);
+    met.require(&[0, 1, 2, 3, 4, 5, 6, 7, 8, 9, 13, 15, 18], 500);
 }
 
 #[test]
 fn rosters_at_the_limits() {
     let mut random = Random::new(3);
     let mut met = Met::default();
-    let full = Shape {
-        counts: [32..=32, 32..=32],
-        quotas: [1..=2, 1..=2],
-        pairs: 100,
-        ties: 50,
-        opposed: 20,
-    };
+    let mut full = random::longest_shape(50, 20);
+    full.quotas = [1..=2, 1..=2];
     for turn in 0..2_000 {
         let mut file = roster::write(&random::roster(&mut random, &full));
         assert_eq!(file.len(), planner::ROSTER_BYTES);
@@ -112,14 +108,16 @@ fn rosters_at_the_limits() {
 }
 
 /// Whether the desk knows the roster's pairs and no others: a plan of one pair
-/// is taken if the pair is there and both quotas allow it.
+/// is taken if the pair is there in that shift and both quotas allow it.
 fn check_pairs(roster: &Roster, desk: &mut Desk) {
     let [surveyors, stands] = SIDES.map(|side| roster.nodes(side).len() as u8);
     for surveyor in 1..=surveyors {
         for stand in 1..=stands {
-            let file = [1, surveyor, stand];
-            let expected = plan::read(roster, &file);
-            check_answer(&desk.load_plan(&file), &expected, &file);
+            for shift in 0..=MAX_SHIFT + 1 {
+                let file = [1, surveyor, stand, shift];
+                let expected = plan::read(roster, &file);
+                check_answer(&desk.load_plan(&file), &expected, &file);
+            }
         }
     }
 }
@@ -130,7 +128,7 @@ fn check_ranks(random: &mut Random, roster: &Roster, desk: &Desk) {
     let pairs = roster.pairs().len();
     let [first, second] = [(); 2].map(|()| {
         let pair = roster.pairs()[random.below(pairs)];
-        [1, pair.surveyor, pair.stand]
+        [1, pair.surveyor, pair.stand, pair.shift]
     });
     let (Ok(mine), Ok(theirs)) = (plan::read(roster, &first), plan::read(roster, &second)) else {
         return;
@@ -208,6 +206,9 @@ fn a_refused_roster_comes_before_its_plan() {
         assert_eq!(number(&desk.load_roster(roster)), refusal);
         assert_eq!(number(&desk.load_plan(&[])), 13);
         assert_eq!(number(&desk.write_plan(&mut out)), 13);
-        assert_eq!(number(&desk.write_plan(&mut out[..128])), 13);
+        assert_eq!(
+            number(&desk.write_plan(&mut out[..planner::PLAN_BYTES - 1])),
+            13
+        );
     }
 }

@@ -7,7 +7,7 @@ mod common;
 mod lent;
 
 use calls::{Calls, Desk};
-use common::damage;
+use common::{damage, plan_front, NUMBERS};
 use lent::{Buffers, SIZES};
 use reference::desk::{record, Found, NoneKind, Record};
 use reference::every;
@@ -16,13 +16,15 @@ use reference::plan::{self, Plan};
 use reference::plans::Verdict;
 use reference::random::{self, Random};
 use reference::reduction;
-use reference::roster::{self, Roster};
+use reference::roster::{self, Pair, Roster};
 use reference::tables::Tables;
 
 /// How often what happened.
 #[derive(Debug, Default)]
 struct Tally {
     rosters: u64,
+    /// Rosters in which a surveyor and a stand are a pair in several shifts.
+    parallel: u64,
     /// How often each rule acted, rule 1 at index 0.
     rules: [u64; 7],
     plan: u64,
@@ -32,8 +34,9 @@ struct Tally {
 }
 
 impl Tally {
-    fn count(&mut self, diary: &[Record], found: Found) {
+    fn count(&mut self, roster: &Roster, diary: &[Record], found: Found) {
         self.rosters += 1;
+        self.parallel += u64::from(roster.has_parallel_pairs());
         for record in diary {
             self.rules[usize::from(record.rule) - 1] += 1;
         }
@@ -48,7 +51,10 @@ impl Tally {
     }
 
     fn print(&self, heading: &str) {
-        println!("{heading}: {} rosters", self.rosters);
+        println!(
+            "{heading}: {} rosters, {} of them with parallel pairs",
+            self.rosters, self.parallel
+        );
         println!("  acts of rules 1 to 7: {:?}", self.rules);
         println!(
             "  plan {}, left {}, rivalled at zero {}, rivalled below zero {}",
@@ -71,20 +77,15 @@ fn loaded(bytes: &[u8]) -> Desk {
     desk
 }
 
-/// The front of a buffer that holds a plan, as long as its count says.
-fn plan_front(buffer: &[u8]) -> Vec<u8> {
-    buffer[..1 + 2 * usize::from(buffer[0])].to_vec()
-}
-
 /// The pairs as they stand in the buffer for left pairs.
 fn pair_bytes(roster: &Roster, pairs: impl IntoIterator<Item = usize>) -> Vec<u8> {
     let pairs = pairs.into_iter().map(|pair| roster.pairs()[pair]);
-    pairs.flat_map(|pair| [pair.surveyor, pair.stand]).collect()
+    pairs.flat_map(Pair::bytes).collect()
 }
 
 /// The rival in a buffer, which must be another plan within the quotas.
 fn rival_in(roster: &Roster, buffer: &[u8], candidate: &Plan) -> (Vec<u8>, Plan) {
-    let front = plan_front(buffer);
+    let front = plan_front(buffer).to_vec();
     let rival = plan::read(roster, &front)
         .unwrap_or_else(|refusal| panic!("{refusal:?}: {:?} {front:?}", roster::write(roster)));
     assert_ne!(rival, *candidate, "{:?}", roster::write(roster));
@@ -179,7 +180,7 @@ impl Checks {
                 }
             }
         }
-        self.tally.count(&steps, found);
+        self.tally.count(roster, &steps, found);
     }
 
     /// Holds one roster against the fast finder: byte for byte, but the rival
@@ -189,7 +190,8 @@ impl Checks {
         let (found, after) = self.find(&bytes);
         let instance = fast::roster::read(&bytes).expect("accepted");
         let expected = fast::finder::find(&instance);
-        let steps: Vec<Record> = expected.steps.iter().map(fast_record).collect();
+        let steps = expected.steps.iter();
+        let steps: Vec<Record> = steps.map(|step| fast_record(&instance, step)).collect();
         let number = steps.len();
         let before = &self.before;
         match expected.ending {
@@ -235,15 +237,17 @@ impl Checks {
                 );
             }
         }
-        self.tally.count(&steps, found);
+        self.tally.count(roster, &steps, found);
     }
 }
 
-fn fast_record(step: &fast::reduction::Step) -> Record {
+fn fast_record(instance: &Instance, step: &fast::reduction::Step) -> Record {
+    let (surveyor, stand, shift) = instance.numbers(step.pair);
     Record {
         fate: if step.fixed { 1 } else { 2 },
-        surveyor: step.surveyor + 1,
-        stand: step.stand + 1,
+        surveyor,
+        stand,
+        shift,
         rule: step.rule,
     }
 }
@@ -257,11 +261,12 @@ fn written(instance: &Instance, chosen: &fast::plan::Chosen) -> Vec<u8> {
 #[test]
 fn every_small_roster() {
     let mut checks = Checks::new(81);
-    for (counts, quotas, _) in every::SMALL {
-        every::for_each_roster(counts, quotas, |roster| checks.small(roster));
+    for size in &every::SMALL {
+        every::for_each_roster(size, |roster| checks.small(roster));
     }
     checks.tally.print("every small roster");
     assert!(checks.tally.rosters >= 500_000);
+    assert!(checks.tally.parallel >= 500_000);
     checks.tally.assert_at_least(2_000, 4_000);
 }
 
@@ -269,7 +274,7 @@ fn every_small_roster() {
 fn random_small_rosters() {
     let mut checks = Checks::new(82);
     for shape in random::small_shapes() {
-        for _ in 0..15_000 {
+        for _ in 0..10_000 {
             let roster = random::roster(&mut checks.random, &shape);
             checks.small(&roster);
         }
@@ -305,10 +310,10 @@ fn rosters_up_to_the_limits() {
 #[test]
 fn damaged_rosters() {
     let mut random = Random::new(84);
-    let mut met = [0usize; 16];
+    let mut met = [0usize; NUMBERS];
     let mut checks = Checks::new(85);
     for _ in 0..60_000 {
-        let shape = random::small_shapes()[random.below(7)].clone();
+        let shape = random::small_shape(&mut random);
         let mut file = roster::write(&random::roster(&mut random, &shape));
         for _ in 0..=random.below(2) {
             damage(&mut random, &mut file);
@@ -334,20 +339,24 @@ fn damaged_rosters() {
         }
     }
     println!("accepted and refusals met: {met:?}");
-    assert!(met[..10].iter().all(|&count| count > 50));
+    for number in (0..=9).chain([18]) {
+        assert!(met[number] > 50, "refusal {number} is too rare");
+    }
 }
 
 /// Whether the plans of a roster can all be tried in short time.
 fn within_tables(roster: &Roster) -> bool {
     use reference::roster::SIDES;
     let nodes = || SIDES.iter().flat_map(|&side| roster.nodes(side));
-    nodes().all(|node| node.list.length() <= 5 && node.quota <= 4) && roster.pairs().len() <= 12
+    nodes().all(|node| node.list.length() <= 6 && node.quota <= 4) && roster.pairs().len() <= 12
 }
 
 #[test]
 fn refusals_of_the_desk() {
     let mut random = Random::new(86);
-    let p3 = [2, 1, 1, 1, 1, 2, 0, 1, 1, 1, 1, 2, 0, 2, 0, 1, 2];
+    let p3 = [
+        2, 1, 1, 1, 1, 2, 0, 1, 1, 1, 1, 1, 1, 2, 0, 2, 0, 1, 1, 2, 1,
+    ];
     for place in 0..SIZES.len() {
         for missing in [1, SIZES[place]] {
             let mut sizes = SIZES;

@@ -18,8 +18,9 @@ use std::rc::Rc;
 
 use calls::{Calls, Compared};
 use common::{damage, root, shape};
+use lent::{record_bytes, record_of, RECORD_BYTES};
 use reference::compare::{File, Part};
-use reference::desk::{Found, Judged, Lent, NoneKind, Record};
+use reference::desk::{Found, Judged, Lent, NoneKind};
 use reference::random::{self, Random};
 use reference::refusal::Group;
 use reference::roster;
@@ -157,8 +158,7 @@ impl Desk {
     /// A call that answers as the finder does, with what it is lent before the
     /// finder's buffers.
     fn found(self, call: &[u8], files: &[&[u8]], lent: Lent) -> (Desk, Result<Found, u8>) {
-        let bytes = |record: &Record| [record.fate, record.surveyor, record.stand, record.rule];
-        let mut diary: Vec<u8> = lent.diary.iter().flat_map(bytes).collect();
+        let mut diary: Vec<u8> = lent.diary.iter().flat_map(record_bytes).collect();
         let [kind, number, vote, steps, left] = {
             let mut pipe = self.0.borrow_mut();
             let buffers = [&diary, &*lent.left, &*lent.plan, &*lent.rival];
@@ -170,13 +170,9 @@ impl Desk {
             pipe.fill(lent.rival);
             numbers
         };
-        for (record, bytes) in lent.diary.iter_mut().zip(diary.chunks_exact(4)) {
-            *record = Record {
-                fate: bytes[0],
-                surveyor: bytes[1],
-                stand: bytes[2],
-                rule: bytes[3],
-            };
+        let records = diary.chunks_exact(RECORD_BYTES).map(record_of);
+        for (record, read) in lent.diary.iter_mut().zip(records) {
+            *record = read;
         }
         let steps = steps as usize;
         let found = match kind {
@@ -260,13 +256,14 @@ impl Calls for Desk {
         (self, (votes, part))
     }
 
-    fn blocking(self) -> (Desk, Result<Option<(u8, u8)>, u8>) {
-        let [number, surveyor, stand] = {
+    fn blocking(self) -> (Desk, Result<Option<(u8, u8, u8)>, u8>) {
+        let [number, surveyor, stand, shift] = {
             let mut pipe = self.0.borrow_mut();
             pipe.send(b"b", &[]);
             pipe.numbers()
         };
-        let pair = (surveyor != 0).then_some((surveyor as u8, stand as u8));
+        let pair = (surveyor as u8, stand as u8, shift as u8);
+        let pair = (pair != (0, 0, 0)).then_some(pair);
         (self, refusal(number).map(|()| pair))
     }
 }

@@ -69,7 +69,7 @@ fn samples() {
         assert_eq!(printed, out, "{path:?}");
         samples += 1;
     }
-    assert!(samples >= 17);
+    assert!(samples >= 20);
 }
 
 /// The lines before the rival, and the rival's pairs.
@@ -140,7 +140,7 @@ fn random_rosters() {
     let mut random = Random::new(95);
     let mut rivalled = 0;
     for turn in 0..1_500 {
-        let mut shape = random::small_shapes()[turn % 7].clone();
+        let mut shape = random::small_shape(&mut random);
         if turn % 50 == 0 {
             shape.counts = [6..=12, 6..=12];
         }

@@ -6,7 +6,7 @@ mod calls;
 mod common;
 mod lent;
 
-use common::{damage, desk_with_plan, junk};
+use common::{damage, desk_with_plan, junk, plan_front, NUMBERS};
 use lent::only_front;
 use reference::desk::Judged;
 use reference::fast;
@@ -50,7 +50,7 @@ const KINDS: [Kind; 7] = [
 
 /// Losses and gains of one side's nodes, each counted as often as it occurs.
 fn losses_and_gains(roster: &Roster, side: Side, plan: &Plan, rival: &Plan) -> (usize, usize) {
-    let count = |plan: &Plan, number| plan.partners(roster, side, number).len();
+    let count = |plan: &Plan, number| plan.entries(roster, side, number).len();
     let numbers = (1..).zip(roster.nodes(side)).map(|(number, _)| number);
     numbers.fold((0, 0), |(losses, gains), number: u8| {
         let (own, other) = (count(plan, number), count(rival, number));
@@ -127,8 +127,7 @@ impl Tally {
             return assert_eq!(buffer, before);
         };
         assert_eq!(vote.signum(), sign, "{bytes:?} {file:?}");
-        let length = 1 + 2 * usize::from(buffer[0]);
-        let written = buffer[..length].to_vec();
+        let written = plan_front(&buffer).to_vec();
         only_front(&before, &buffer, &written);
         let rival = plan::read(roster, &written)
             .unwrap_or_else(|refusal| panic!("{refusal:?} {bytes:?} {file:?} {written:?}"));
@@ -165,27 +164,56 @@ fn all_plans_of_small_rosters() {
     let mut random = Random::new(71);
     let mut tables = Tables::default();
     let mut tally = Tally::default();
-    let shape = |counts, quotas, [pairs, ties, opposed]: [u8; 3]| Shape {
+    let mut parallel = 0;
+    let shape = |counts, quotas, shifts, [pairs, ties, opposed]: [u8; 3]| Shape {
         counts,
         quotas,
+        shifts,
         pairs,
         ties,
         opposed,
     };
     let shapes = [
-        (60_000, shape([1..=3, 1..=3], [0..=2, 0..=2], [60, 60, 50])),
-        (25_000, shape([2..=3, 2..=3], [1..=1, 1..=2], [80, 60, 80])),
-        (14_000, shape([2..=4, 2..=4], [1..=2, 1..=1], [55, 60, 80])),
-        (3_000, shape([2..=3, 2..=3], [1..=3, 1..=3], [90, 40, 50])),
+        (
+            40_000,
+            shape([1..=3, 1..=3], [0..=2, 0..=2], 1, [60, 60, 50]),
+        ),
+        (
+            15_000,
+            shape([2..=3, 2..=3], [1..=1, 1..=2], 1, [80, 60, 80]),
+        ),
+        (
+            10_000,
+            shape([2..=4, 2..=4], [1..=2, 1..=1], 1, [55, 60, 80]),
+        ),
+        (
+            2_000,
+            shape([2..=3, 2..=3], [1..=3, 1..=3], 1, [90, 40, 50]),
+        ),
+        (
+            30_000,
+            shape([1..=2, 1..=2], [0..=2, 0..=2], 3, [50, 60, 50]),
+        ),
+        (
+            10_000,
+            shape([2..=3, 2..=3], [1..=1, 1..=2], 2, [50, 60, 80]),
+        ),
+        (
+            4_000,
+            shape([2..=2, 2..=2], [1..=3, 1..=3], 3, [50, 50, 50]),
+        ),
     ];
     for (rosters, shape) in shapes {
         for _ in 0..rosters {
             let roster = random::roster(&mut random, &shape);
+            parallel += usize::from(roster.has_parallel_pairs());
             tally.check_all(&mut random, &mut tables, &roster);
         }
     }
     tally.print();
+    println!("{parallel} rosters have parallel pairs");
     assert!(tally.rosters >= 100_000);
+    assert!(parallel >= 20_000);
     assert!(tally.strong > 10_000);
     for (place, kind) in KINDS.iter().enumerate().take(KINDS.len() - 1) {
         let (zero, below) = (tally.popular[place], tally.beaten[place]);
@@ -196,35 +224,50 @@ fn all_plans_of_small_rosters() {
 #[test]
 fn the_cases_of_the_paper() {
     let mut random = Random::new(72);
-    let p4: &[u8] = &[2, 1, 1, 1, 1, 2, 0, 1, 1, 1, 1, 2, 0, 0, 2, 1, 2];
+    let p4: &[u8] = &[
+        2, 1, 1, 1, 1, 2, 0, 1, 1, 1, 1, 1, 1, 2, 0, 0, 2, 1, 1, 2, 1,
+    ];
     let p6: &[u8] = &[
-        2, 1, 1, 2, 1, 1, 4, 0, 2, 1, 2, 2, 2, 1, 4, 0, 2, 0, 2, 1, 2, 0, 1, 2,
+        2, 1, 1, 2, 1, 1, 4, 0, 2, 1, 1, 2, 1, 2, 2, 1, 1, 1, 4, 0, 2, 0, 2, 1, 1, 1, 2, 0, 1, 1,
+        2, 1,
     ];
     let p10: &[u8] = &[
-        2, 1, 1, 2, 1, 2, 4, 0, 2, 1, 2, 2, 1, 2, 4, 0, 0, 2, 1, 2, 2, 0, 1, 2,
+        2, 1, 1, 2, 1, 2, 4, 0, 2, 1, 1, 2, 1, 2, 1, 1, 2, 1, 4, 0, 0, 2, 1, 1, 2, 1, 2, 0, 1, 1,
+        2, 1,
     ];
     let mut rival = [7; MAX_PLAN_BYTES];
-    assert_eq!(verdict(p4, &[1, 1, 1], &mut rival), Ok(Judged::Popular(0)));
-    assert_eq!(rival[..4], [1, 2, 1, 7]);
-    rival[..3].fill(7);
     assert_eq!(
-        verdict(p10, &[2, 1, 2, 2, 1], &mut rival),
+        verdict(p4, &[1, 1, 1, 1], &mut rival),
+        Ok(Judged::Popular(0))
+    );
+    assert_eq!(rival[..5], [1, 2, 1, 1, 7]);
+    rival[..4].fill(7);
+    assert_eq!(
+        verdict(p10, &[2, 1, 2, 1, 2, 1, 1], &mut rival),
         Ok(Judged::Strong)
     );
     assert_eq!(rival, [7; MAX_PLAN_BYTES]);
-    for plan in [&[2, 1, 1, 2, 2], &[2, 1, 2, 2, 1]] {
+    for plan in [&[2, 1, 1, 1, 2, 2, 1], &[2, 1, 2, 1, 2, 1, 1]] {
         assert!(matches!(
             verdict(p6, plan, &mut rival),
             Ok(Judged::Popular(0))
         ));
     }
+    // one surveyor and one stand, who prefer different shifts
+    let shifts: &[u8] = &[1, 1, 1, 1, 2, 0, 2, 1, 3, 1, 1, 2, 0, 2, 0, 1, 1, 1, 3];
+    rival.fill(7);
+    assert_eq!(
+        verdict(shifts, &[1, 1, 1, 1], &mut rival),
+        Ok(Judged::Popular(0))
+    );
+    assert_eq!(rival[..5], [1, 1, 1, 3, 7]);
     let mut tables = Tables::default();
     let mut tally = Tally::default();
-    for file in [p4, p6, p10] {
+    for file in [p4, p6, p10, shifts] {
         let roster = roster::read(file).expect("accepted");
         tally.check_all(&mut random, &mut tables, &roster);
     }
-    assert_eq!((tally.rosters, tally.strong), (3, 1));
+    assert_eq!((tally.rosters, tally.strong), (4, 1));
 }
 
 /// The fast reading's plan.
@@ -286,8 +329,7 @@ fn a_beaten_plan_gives_way_to_its_rival() {
             let Ok(Judged::Beaten(_)) = verdict(&roster::write(&roster), &file, &mut rival) else {
                 break;
             };
-            let length = 1 + 2 * usize::from(rival[0]);
-            plan = plan::read(&roster, &rival[..length]).expect("a plan");
+            plan = plan::read(&roster, plan_front(&rival)).expect("a plan");
         }
         tally.rosters += 1;
     }
@@ -322,12 +364,14 @@ fn plans_with_room_up_to_the_limits() {
 #[test]
 fn refusals() {
     let mut random = Random::new(74);
-    let mut met = [0usize; 16];
+    let mut met = [0usize; NUMBERS];
     for turn in 0..40_000 {
+        let shifts = random.within(&(1..=3));
         let shape = Shape {
             counts: [1..=4, 1..=4],
             quotas: [0..=3, 0..=3],
-            pairs: 70,
+            shifts,
+            pairs: 70 / shifts,
             ties: 50,
             opposed: 30,
         };
@@ -357,7 +401,7 @@ fn refusals() {
         met[usize::from(expected)] += 1;
     }
     println!("accepted and refusals met: {met:?}");
-    for number in [0, 1, 2, 3, 4, 5, 7, 8, 9, 10, 11, 12, 15] {
+    for number in [0, 1, 2, 3, 4, 5, 7, 8, 9, 10, 11, 12, 15, 18] {
         assert!(met[number] > 20, "refusal {number} is too rare");
     }
 }

@@ -9,10 +9,10 @@ use planner::{Desk, Votes, Winner};
 use reference::blocking::{blocking_pairs, first_blocking_pair};
 use reference::compare::{self, File};
 use reference::fast;
-use reference::limits::EMPTY_RANK;
+use reference::limits::{EMPTY_RANK, MAX_SHIFT};
 use reference::plan::{self, Plan};
 use reference::random::{self, Random, Shape};
-use reference::roster::{self, List, Node, Pair, Roster, Side};
+use reference::roster::{self, Entry, List, Node, Pair, Roster, Side};
 use reference::votes::{node_vote, plan_vote, rank, rank_vote};
 
 fn held(roster: &Roster) -> Desk {
@@ -39,38 +39,75 @@ fn check_winner(votes: Votes, part: &[u8], first: &[u8], second: &[u8]) {
     assert_eq!((part.as_ptr(), part.len()), (bytes.as_ptr(), bytes.len()));
 }
 
-/// A roster with one stand, which ranks all surveyors in their order, the last
-/// `tied` of them alike. Each surveyor has quota 1 and that stand alone.
-fn one_stand(quota: u8, surveyors: u8, tied: u8) -> Roster {
-    let surveyor = Node {
-        quota: 1,
-        list: List {
-            strict: vec![1],
-            tied: Vec::new(),
-        },
-    };
-    let strict = (1..=surveyors - tied).collect();
-    let tied = (surveyors - tied + 1..=surveyors).collect();
-    let stand = Node {
-        quota,
-        list: List { strict, tied },
-    };
-    let surveyors = vec![surveyor; usize::from(surveyors)];
-    Roster::new(surveyors, vec![stand]).expect("accepted")
+/// The entry at a place of the one stand's list, from 1 on. With several shifts
+/// each surveyor stands there so many times in a row.
+fn at_place(place: u8, shifts: u8) -> Entry {
+    Entry {
+        number: (place - 1) / shifts + 1,
+        shift: (place - 1) % shifts + 1,
+    }
 }
 
-/// The plan that gives the one stand these surveyors, as its file.
-fn at_the_stand(surveyors: &[u8]) -> Vec<u8> {
-    let mut file = vec![surveyors.len() as u8];
-    file.extend(surveyors.iter().flat_map(|&surveyor| [surveyor, 1]));
+/// A roster with one stand, which ranks all entries in their order, the last
+/// `tied` of them alike. Each surveyor has that stand alone, in the order of the
+/// shifts, and room in all of them.
+fn one_stand(quota: u8, entries: u8, tied: u8, shifts: u8) -> Roster {
+    let here: Vec<Entry> = (1..=entries).map(|place| at_place(place, shifts)).collect();
+    let surveyors = here.chunk_by(|one, next| one.number == next.number);
+    let surveyors = surveyors.map(|own| {
+        let own = own.iter().map(|entry| Entry {
+            number: 1,
+            ..*entry
+        });
+        Node {
+            quota: shifts,
+            list: List {
+                strict: own.collect(),
+                tied: Vec::new(),
+            },
+        }
+    });
+    let (strict, tied) = here.split_at(usize::from(entries - tied));
+    let list = List {
+        strict: strict.to_vec(),
+        tied: tied.to_vec(),
+    };
+    let stand = Node { quota, list };
+    Roster::new(surveyors.collect(), vec![stand]).expect("accepted")
+}
+
+/// The plan that gives the one stand these entries, as its file.
+fn at_the_stand(entries: &[Entry]) -> Vec<u8> {
+    let mut file = vec![entries.len() as u8];
+    file.extend(
+        entries
+            .iter()
+            .flat_map(|entry| [entry.number, 1, entry.shift]),
+    );
     file
 }
 
-/// The stand's vote alone: each surveyor votes 1 for the plan that has it, so
-/// that the surveyors' votes can be taken off.
-fn stand_vote(roster: &Roster, mine: &[u8], theirs: &[u8]) -> i16 {
-    let vote = votes(&held(roster), &at_the_stand(mine), &at_the_stand(theirs)).first;
-    vote - (mine.len() as i16 - theirs.len() as i16)
+/// The stand's vote alone: the surveyors' votes are taken off, each by all
+/// pairings.
+fn stand_vote(roster: &Roster, mine: &[Entry], theirs: &[Entry]) -> i16 {
+    let files = [mine, theirs].map(at_the_stand);
+    let vote = votes(&held(roster), &files[0], &files[1]).first;
+    let plans = files.map(|file| plan::read(roster, &file).expect("accepted"));
+    let surveyors = (1..).zip(roster.nodes(Side::Surveyors));
+    let own = surveyors.map(|(number, node)| {
+        let [mine, theirs] =
+            [&plans[0], &plans[1]].map(|plan| plan.entries(roster, Side::Surveyors, number));
+        node_vote(node, &mine, &theirs)
+    });
+    vote - own.sum::<i16>()
+}
+
+/// Entries at these places.
+fn at_places(places: &[u8], shifts: u8) -> Vec<Entry> {
+    places
+        .iter()
+        .map(|&place| at_place(place, shifts))
+        .collect()
 }
 
 #[test]
@@ -82,56 +119,58 @@ fn stated_node_votes() {
         ("P9", 2, 3, &[2, 3], &[1, 2], -1),
         ("P9 reversed", 2, 3, &[1, 2], &[2, 3], 1),
     ];
-    for (name, quota, surveyors, mine, theirs, vote) in cases {
-        let roster = one_stand(quota, surveyors, 0);
-        assert_eq!(stand_vote(&roster, mine, theirs), vote, "{name}");
+    for (name, quota, entries, mine, theirs, vote) in cases {
+        for shifts in 1..=MAX_SHIFT {
+            let roster = one_stand(quota, entries, 0, shifts);
+            let [mine, theirs] = [mine, theirs].map(|places| at_places(places, shifts));
+            assert_eq!(stand_vote(&roster, &mine, &theirs), vote, "{name} {shifts}");
+        }
     }
 }
 
-/// Two ranks at a stand that can have one surveyor of 32: the roster, and the
-/// surveyor of each rank, none for that of an empty place. Two surveyors of one
-/// rank are tied behind all better ones; the last rank has one surveyor only.
-fn with_ranks(mine: u8, theirs: u8) -> (Roster, [Option<u8>; 2]) {
+/// Two ranks at a stand that can have one of 32 entries: the roster, and the entry
+/// of each rank, none for that of an empty place. Two entries of one rank are
+/// tied behind all better ones; the last rank has one entry only.
+fn with_ranks(mine: u8, theirs: u8, shifts: u8) -> (Roster, [Option<Entry>; 2]) {
     const LAST: u8 = EMPTY_RANK - 1;
     let (tied, second) = if mine == theirs && mine < LAST {
         (LAST - mine + 1, mine + 1)
     } else {
         (0, theirs)
     };
-    let surveyors = [mine, second].map(|number| Some(number).filter(|&number| number <= LAST));
-    (one_stand(1, LAST, tied), surveyors)
+    let entries = [mine, second].map(|place| (place <= LAST).then(|| at_place(place, shifts)));
+    (one_stand(1, LAST, tied, shifts), entries)
 }
 
 #[test]
 fn votes_of_every_two_ranks() {
     let mut different = 0;
-    for mine in 1..=EMPTY_RANK {
-        for theirs in 1..=EMPTY_RANK {
-            let (roster, surveyors) = with_ranks(mine, theirs);
-            let list = &roster.node(Side::Stands, 1).list;
-            assert_eq!(
-                surveyors.map(|surveyor| rank(list, surveyor)),
-                [mine, theirs]
-            );
-            let [first, second] = surveyors.map(Vec::from_iter);
-            let vote = stand_vote(&roster, &first, &second);
-            assert_eq!(vote, rank_vote(mine, theirs), "{mine} against {theirs}");
-            different += usize::from(first != second);
+    for shifts in [1, MAX_SHIFT] {
+        for mine in 1..=EMPTY_RANK {
+            for theirs in 1..=EMPTY_RANK {
+                let (roster, entries) = with_ranks(mine, theirs, shifts);
+                let list = &roster.node(Side::Stands, 1).list;
+                assert_eq!(entries.map(|entry| rank(list, entry)), [mine, theirs]);
+                let [first, second] = entries.map(Vec::from_iter);
+                let vote = stand_vote(&roster, &first, &second);
+                assert_eq!(vote, rank_vote(mine, theirs), "{mine} against {theirs}");
+                different += usize::from(first != second);
+            }
         }
     }
     // all but the last rank and the empty place against themselves
-    assert_eq!(different, 33 * 33 - 2);
+    assert_eq!(different, 2 * (33 * 33 - 2));
 }
 
-/// Every way to give each of some surveyors to the first plan, the second or
-/// both, with at most four for each plan: all orders of up to four pairs a
-/// side, shared ones too.
-fn for_each_shape(surveyors: u8, visit: &mut impl FnMut(&[u8], &[u8])) {
-    for code in 0..3usize.pow(u32::from(surveyors)) {
-        let label = |surveyor: u8| code / 3usize.pow(u32::from(surveyor) - 1) % 3;
+/// Every way to give each of some places to the first plan, the second or both,
+/// with at most four for each plan: all orders of up to four pairs a side,
+/// shared ones too.
+fn for_each_shape(places: u8, visit: &mut impl FnMut(&[u8], &[u8])) {
+    for code in 0..3usize.pow(u32::from(places)) {
+        let label = |place: u8| code / 3usize.pow(u32::from(place) - 1) % 3;
         let with = |lacking: usize| -> Vec<u8> {
-            let all = 1..=surveyors;
-            all.filter(|&surveyor| label(surveyor) != lacking).collect()
+            let all = 1..=places;
+            all.filter(|&place| label(place) != lacking).collect()
         };
         let (mine, theirs) = (with(1), with(2));
         if mine.len() <= 4 && theirs.len() <= 4 {
@@ -144,27 +183,33 @@ fn for_each_shape(surveyors: u8, visit: &mut impl FnMut(&[u8], &[u8])) {
 fn node_votes_of_every_small_shape() {
     let mut shapes = 0;
     let mut met = [0usize; 11];
-    for surveyors in 0..=8u8 {
-        for_each_shape(surveyors, &mut |mine, theirs| {
-            let fewest = mine.len().max(theirs.len()) as u8;
-            for quota in fewest..=5 {
-                for tied in 0..=surveyors {
-                    let roster = one_stand(quota, surveyors, tied);
-                    let vote = stand_vote(&roster, mine, theirs);
-                    let stand = roster.node(Side::Stands, 1);
-                    assert_eq!(
-                        vote,
-                        node_vote(stand, mine, theirs),
-                        "quota {quota}, {tied} tied, {mine:?} against {theirs:?}"
-                    );
-                    shapes += 1;
-                    met[(vote + 5) as usize] += 1;
+    let mut check = |roster: &Roster, mine: &[Entry], theirs: &[Entry]| {
+        let vote = stand_vote(roster, mine, theirs);
+        let stand = roster.node(Side::Stands, 1);
+        assert_eq!(
+            vote,
+            node_vote(stand, mine, theirs),
+            "{stand:?}, {mine:?} against {theirs:?}"
+        );
+        shapes += 1;
+        met[(vote + 5) as usize] += 1;
+    };
+    for shifts in [1, MAX_SHIFT] {
+        for places in 0..=8u8 {
+            for_each_shape(places, &mut |mine, theirs| {
+                let fewest = mine.len().max(theirs.len()) as u8;
+                let [mine, theirs] = [mine, theirs].map(|places| at_places(places, shifts));
+                for quota in fewest..=5 {
+                    for tied in 0..=places {
+                        let roster = one_stand(quota, places, tied, shifts);
+                        check(&roster, &mine, &theirs);
+                    }
                 }
-            }
-        });
+            });
+        }
     }
     println!("{shapes} shapes, votes from -5 to 5: {met:?}");
-    assert_eq!(shapes, 12_472);
+    assert_eq!(shapes, 2 * 12_472);
     // four pairs a side at most, so votes from -4 to 4
     assert!(met[1..10].iter().all(|&times| times > 0));
 }
@@ -179,10 +224,12 @@ fn shape(random: &mut Random, nodes: &[u8]) -> Shape {
         (most, least..=quota)
     };
     let ((surveyors, quotas_s), (stands, quotas_t)) = (side(), side());
+    let shifts = random.within(&(1..=MAX_SHIFT));
     Shape {
         counts: [surveyors / 2..=surveyors, stands / 2..=stands],
         quotas: [quotas_s, quotas_t],
-        pairs: [30, 70, 100][random.below(3)],
+        shifts,
+        pairs: [30, 70, 100][random.below(3)] / shifts,
         ties: 50,
         opposed: 20,
     }
@@ -266,11 +313,13 @@ fn random_plan_pairs_up_to_the_limits() {
 fn all_plans_of_small_rosters() {
     let mut random = Random::new(64);
     let mut pairs = 0;
-    for _ in 0..2_000 {
+    for _ in 0..3_000 {
+        let shifts = random.within(&(1..=MAX_SHIFT));
         let shape = Shape {
             counts: [1..=3, 1..=3],
             quotas: [0..=3, 0..=3],
-            pairs: 70,
+            shifts,
+            pairs: 70 / shifts,
             ties: 50,
             opposed: 20,
         };
@@ -371,7 +420,7 @@ fn check_empty(part: &[u8], first: &[u8]) {
 #[test]
 fn no_roster_and_two_refused_files() {
     // no roster, then the first file's refusal, then the second's
-    let roster = held(&one_stand(1, 2, 0));
+    let roster = held(&one_stand(1, 2, 0, 1));
     let number = |desk: &Desk, first: &[u8], second: &[u8]| {
         let comparison = desk.compare(first, second);
         check_empty(comparison.part, first);
@@ -379,10 +428,10 @@ fn no_roster_and_two_refused_files() {
     };
     assert_eq!(number(&Desk::open(), &[65], &[]), 13);
     assert_eq!(number(&roster, &[65], &[]), 2);
-    assert_eq!(number(&roster, &[1, 3, 1], &[]), 10);
-    assert_eq!(number(&roster, &[2, 1, 1, 2, 1], &[]), 12);
-    assert_eq!(number(&roster, &[1, 2, 1], &[]), 1);
-    assert_eq!(number(&roster, &[0], &[2, 2, 1, 1, 1]), 11);
+    assert_eq!(number(&roster, &[1, 3, 1, 1], &[]), 10);
+    assert_eq!(number(&roster, &[2, 1, 1, 1, 2, 1, 1], &[]), 12);
+    assert_eq!(number(&roster, &[1, 2, 1, 1], &[]), 1);
+    assert_eq!(number(&roster, &[0], &[2, 2, 1, 1, 1, 1, 1]), 11);
     assert_eq!(number(&roster, &[0], &[0, 0]), 9);
 }
 
@@ -408,7 +457,7 @@ fn blocking_pairs_of_random_plans() {
             match (ours, theirs) {
                 (Ok(shown), Ok(plan)) => {
                     let first = first_blocking_pair(&roster, &plan);
-                    let numbers = first.map(|pair| (pair.surveyor, pair.stand));
+                    let numbers = first.map(|pair| (pair.surveyor, pair.stand, pair.shift));
                     assert_eq!(shown, numbers, "{bytes:?} {file:?}");
                     assert_eq!(shown, fast_blocking_pair(&bytes, &file));
                     met[usize::from(shown.is_none())] += 1;
@@ -431,7 +480,7 @@ fn blocking_pairs_of_random_plans() {
     assert_eq!(desk_with_plan(&[1, 9], &[65]).unwrap_err().number, 3);
 }
 
-fn fast_blocking_pair(roster: &[u8], plan: &[u8]) -> Option<(u8, u8)> {
+fn fast_blocking_pair(roster: &[u8], plan: &[u8]) -> Option<(u8, u8, u8)> {
     let instance = fast::roster::read(roster).expect("accepted");
     let chosen = fast::plan::read(&instance, plan).expect("accepted");
     fast::blocking::first(&instance, &chosen)
@@ -445,7 +494,7 @@ fn other_firsts(roster: &Roster, plan: &Plan) -> [Option<Pair>; 4] {
     let pairs: Vec<Pair> = pairs.map(|pair| roster.pairs()[pair]).collect();
     let rank = |pair: &Pair, side: Side| {
         let list = &roster.node(side, pair.end(side)).list;
-        rank(list, Some(pair.end(side.other())))
+        rank(list, Some(pair.entry(side)))
     };
     [
         pairs.first().copied(),

@@ -19,7 +19,7 @@ pub fn first_blocking_pair(roster: &Roster, plan: &Plan) -> Option<Pair> {
     let pairs = blocking_pairs(roster, plan).into_iter();
     pairs.map(|pair| roster.pairs()[pair]).min_by_key(|pair| {
         let list = &roster.node(Side::Surveyors, pair.surveyor).list;
-        (pair.surveyor, rank(list, Some(pair.stand)))
+        (pair.surveyor, rank(list, Some(pair.entry(Side::Surveyors))))
     })
 }
 
@@ -29,10 +29,10 @@ fn welcomes(roster: &Roster, plan: &Plan, pair: usize, side: Side) -> bool {
     let pair = roster.pairs()[pair];
     let number = pair.end(side);
     let node = roster.node(side, number);
-    let partners = plan.partners(roster, side, number);
-    let own = rank(&node.list, Some(pair.end(side.other())));
-    partners.len() < usize::from(node.quota)
-        || partners
+    let held = plan.entries(roster, side, number);
+    let own = rank(&node.list, Some(pair.entry(side)));
+    held.len() < usize::from(node.quota)
+        || held
             .iter()
-            .any(|&partner| rank(&node.list, Some(partner)) > own)
+            .any(|&entry| rank(&node.list, Some(entry)) > own)
 }

@@ -1,15 +1,16 @@
 //! Changes in the field: a surveyor joins a roster, a surveyor leaves it, and
 //! what is then left of a plan.
 
-use crate::limits::{MAX_NODES, MAX_QUOTA, MAX_QUOTA_SUM};
+use crate::limits::{MAX_LIST, MAX_NODES, MAX_QUOTA, MAX_QUOTA_SUM};
 use crate::plan::Plan;
-use crate::reader::Reader;
+use crate::reader::{within, Reader};
 use crate::refusal::Refusal;
-use crate::roster::{self, narrow, List, Node, Roster, Side};
+use crate::roster::{self, narrow, Entry, List, Node, Roster, Side};
 
 /// The roster with one surveyor more, who takes the number after the highest.
-/// `list` is one stand list in a file's bytes: a length, then stand numbers,
-/// best first. Each listed stand enters the joiner at the end of its tie.
+/// `list` is one stand list in a file's bytes: a length, then stands with their
+/// shifts, best first. Each listed stand enters the joiner at the end of its
+/// tie, and may then have no more entries than any list.
 pub fn join(roster: &Roster, quota: u8, list: &[u8]) -> Result<Roster, Refusal> {
     if quota > MAX_QUOTA {
         return Err(Refusal::QuotaAboveLimit);
@@ -20,12 +21,27 @@ pub fn join(roster: &Roster, quota: u8, list: &[u8]) -> Result<Roster, Refusal> 
     let list = read_list(roster, list)?;
     let number = narrow(roster.nodes(Side::Surveyors).len() + 1);
     let mut stands = roster.nodes(Side::Stands).to_vec();
-    for entry in list.entries() {
-        stands[usize::from(entry) - 1].list.tied.push(number);
+    enter(&mut stands, number, &list);
+    for stand in &stands {
+        within(stand.list.length(), MAX_LIST)?;
     }
     let mut surveyors = roster.nodes(Side::Surveyors).to_vec();
     surveyors.push(Node { quota, list });
     Ok(within_the_rules(surveyors, stands))
+}
+
+/// Enters a joiner at the end of the ties of the listed stands, at each stand in
+/// the order of the shifts, whatever the joiner's own order.
+fn enter(stands: &mut [Node], joiner: u8, list: &List) {
+    let mut entries: Vec<Entry> = list.entries().collect();
+    entries.sort_unstable();
+    for Entry { number, shift } in entries {
+        let tied = &mut stands[usize::from(number) - 1].list.tied;
+        tied.push(Entry {
+            number: joiner,
+            shift,
+        });
+    }
 }
 
 /// Whether a number is free and the quotas with the joiner's stay within their
@@ -58,8 +74,8 @@ pub fn leave(roster: &Roster, number: u8) -> Result<Roster, Refusal> {
     };
     let mut stands = roster.nodes(Side::Stands).to_vec();
     for Node { list, .. } in &mut stands {
-        list.strict.retain(|&entry| entry != number);
-        list.tied.retain(|&entry| entry != number);
+        list.strict.retain(|entry| entry.number != number);
+        list.tied.retain(|entry| entry.number != number);
     }
     Ok(within_the_rules(surveyors, stands))
 }

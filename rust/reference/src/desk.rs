@@ -33,10 +33,11 @@ pub struct Record {
     pub fate: u8,
     pub surveyor: u8,
     pub stand: u8,
+    pub shift: u8,
     pub rule: u8,
 }
 
-/// The buffers that are lent to the finder. Left pairs take two bytes each,
+/// The buffers that are lent to the finder. Left pairs take three bytes each,
 /// without a count; a plan or a candidate goes to `plan`.
 pub struct Lent<'a> {
     pub diary: &'a mut [Record],
@@ -262,7 +263,7 @@ fn put_why(roster: &Roster, lent: Lent, why: &Why) -> NoneKind {
     match why {
         Why::Left(left) => {
             let pairs = left.iter().map(|&pair| roster.pairs()[pair]);
-            let bytes: Vec<u8> = pairs.flat_map(|pair| [pair.surveyor, pair.stand]).collect();
+            let bytes: Vec<u8> = pairs.flat_map(Pair::bytes).collect();
             put(lent.left, &bytes);
             NoneKind::Left(left.len())
         }
@@ -288,6 +289,7 @@ pub fn record(roster: &Roster, step: &Step) -> Record {
         },
         surveyor: pair.surveyor,
         stand: pair.stand,
+        shift: pair.shift,
         rule: step.rule,
     }
 }

@@ -1,4 +1,5 @@
-//! The limits and sizes of document 01, each under one name.
+//! The limits and sizes of document 01 and of the requests since, each under one
+//! name.
 
 /// Nodes of one side: surveyors, or stands.
 pub const MAX_NODES: usize = 32;
@@ -6,6 +7,10 @@ pub const MAX_NODES: usize = 32;
 pub const MAX_QUOTA: u8 = 8;
 /// The largest sum of the quotas of one side.
 pub const MAX_QUOTA_SUM: usize = 64;
+/// The last shift of a day; the first is 1.
+pub const MAX_SHIFT: u8 = 3;
+/// The most entries of one list, a stand's strict and tied ones together.
+pub const MAX_LIST: usize = 32;
 /// The largest count of all entries of one side's lists.
 pub const MAX_ENTRIES: usize = 1_024;
 /// The largest number of pairs in a plan; no plan can pass a side's quotas.
@@ -14,18 +19,20 @@ pub const MAX_PLAN_PAIRS: usize = 64;
 /// The rank of an empty place, one behind every rank a list can give.
 pub const EMPTY_RANK: u8 = 33;
 
-/// Bytes of a count of nodes, of a quota, of a list length and of a list entry.
+/// Bytes of a count of nodes, of a quota and of a list length.
 pub const NARROW_FIELD: usize = 1;
 /// Bytes of a section's count of entries.
 pub const WIDE_FIELD: usize = 2;
-/// Bytes of a plan's pair.
-pub const PAIR_FIELD: usize = 2;
+/// Bytes of a list entry: a number and a shift.
+pub const ENTRY_FIELD: usize = 2;
+/// Bytes of a plan's pair: a surveyor, a stand and a shift.
+pub const PAIR_FIELD: usize = 3;
 
 /// Bytes of the longest section of quotas.
 const QUOTA_SECTION_BYTES: usize = NARROW_FIELD * (1 + MAX_NODES);
 /// Bytes of the longest roster: a surveyor's list has one length, a stand's two.
 pub const MAX_ROSTER_BYTES: usize = 2 * QUOTA_SECTION_BYTES
-    + 2 * (WIDE_FIELD + NARROW_FIELD * MAX_ENTRIES)
+    + 2 * (WIDE_FIELD + ENTRY_FIELD * MAX_ENTRIES)
     + (1 + 2) * NARROW_FIELD * MAX_NODES;
 /// Bytes of the longest plan.
 pub const MAX_PLAN_BYTES: usize = NARROW_FIELD + PAIR_FIELD * MAX_PLAN_PAIRS;

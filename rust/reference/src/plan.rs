@@ -3,7 +3,7 @@
 use crate::limits::{MAX_PLAN_PAIRS, PAIR_FIELD};
 use crate::reader::Reader;
 use crate::refusal::Refusal;
-use crate::roster::{narrow, Pair, Roster, Side, SIDES};
+use crate::roster::{narrow, Entry, Pair, Roster, Side, SIDES};
 
 /// A set of pairs, by their indices in the roster. Because the roster's pairs
 /// ascend, ascending indices are ascending pairs, and the same pairs are the
@@ -28,11 +28,11 @@ impl Plan {
         self.indices.iter().map(|&index| roster.pairs()[index])
     }
 
-    /// The partners that the plan gives a node, by their numbers.
-    pub fn partners(&self, roster: &Roster, side: Side, number: u8) -> Vec<u8> {
+    /// The plan's pairs at a node, as entries of the node's list.
+    pub fn entries(&self, roster: &Roster, side: Side, number: u8) -> Vec<Entry> {
         self.pairs(roster)
             .filter(|pair| pair.end(side) == number)
-            .map(|pair| pair.end(side.other()))
+            .map(|pair| pair.entry(side))
             .collect()
     }
 
@@ -40,7 +40,7 @@ impl Plan {
     pub fn within_quotas(&self, roster: &Roster) -> bool {
         SIDES.iter().all(|&side| {
             (1..).zip(roster.nodes(side)).all(|(number, node)| {
-                self.partners(roster, side, number).len() <= usize::from(node.quota)
+                self.entries(roster, side, number).len() <= usize::from(node.quota)
             })
         })
     }
@@ -61,8 +61,12 @@ pub fn read(roster: &Roster, file: &[u8]) -> Result<Plan, Refusal> {
     let count = reader.narrow_count(MAX_PLAN_PAIRS)?;
     let mut plan = Plan::default();
     for _ in 0..count {
-        let [surveyor, stand] = reader.field::<PAIR_FIELD>()?;
-        let pair = Pair { surveyor, stand };
+        let [surveyor, stand, shift] = reader.field::<PAIR_FIELD>()?;
+        let pair = Pair {
+            surveyor,
+            stand,
+            shift,
+        };
         let index = roster.index_of(pair).ok_or(Refusal::PairNotInRoster)?;
         if plan.indices.last().is_some_and(|&last| last >= index) {
             return Err(Refusal::PairsNotAscending);
@@ -82,14 +86,12 @@ pub fn read(roster: &Roster, file: &[u8]) -> Result<Plan, Refusal> {
 /// Whether the pair's node on that side has more pairs than its stated quota.
 fn passes_quota(roster: &Roster, plan: &Plan, pair: Pair, side: Side) -> bool {
     let number = pair.end(side);
-    plan.partners(roster, side, number).len() > usize::from(roster.node(side, number).quota)
+    plan.entries(roster, side, number).len() > usize::from(roster.node(side, number).quota)
 }
 
 /// The bytes of a plan.
 pub fn write(roster: &Roster, plan: &Plan) -> Vec<u8> {
     let mut file = vec![narrow(plan.indices.len())];
-    for pair in plan.pairs(roster) {
-        file.extend([pair.surveyor, pair.stand]);
-    }
+    file.extend(plan.pairs(roster).flat_map(Pair::bytes));
     file
 }

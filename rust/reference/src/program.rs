@@ -58,7 +58,7 @@ impl Text {
             Fate::Strike => "strike",
         };
         let pair = roster.pairs()[step.pair];
-        self.line(&[&fate, &pair.surveyor, &pair.stand, &step.rule]);
+        self.line(&[&fate, &pair.surveyor, &pair.stand, &pair.shift, &step.rule]);
     }
 
     fn none(&mut self, roster: &Roster, why: &Why) {
@@ -81,7 +81,7 @@ impl Text {
         self.line(&[&heading, &indices.len()]);
         for &index in indices {
             let pair = roster.pairs()[index];
-            self.line(&[&pair.surveyor, &pair.stand]);
+            self.line(&[&pair.surveyor, &pair.stand, &pair.shift]);
         }
     }
 }

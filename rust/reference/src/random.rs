@@ -3,9 +3,9 @@
 use std::cmp::Reverse;
 use std::ops::RangeInclusive;
 
-use crate::limits::MAX_NODES;
+use crate::limits::{MAX_LIST, MAX_NODES, MAX_SHIFT};
 use crate::plan::Plan;
-use crate::roster::{narrow, List, Node, Roster, Side, SIDES};
+use crate::roster::{narrow, Entry, List, Node, Pair, Roster, Side, SIDES};
 
 /// The splitmix64 generator: the same seed gives the same numbers everywhere.
 #[derive(Clone, Debug)]
@@ -58,7 +58,9 @@ pub struct Shape {
     pub counts: [RangeInclusive<u8>; 2],
     /// The quota of each node, for each side.
     pub quotas: [RangeInclusive<u8>; 2],
-    /// How likely, in percent, a surveyor and a stand are a pair.
+    /// In how many shifts, from 1 on, a surveyor and a stand may be a pair.
+    pub shifts: u8,
+    /// How likely, in percent, they are one, for each of these shifts.
     pub pairs: u8,
     /// How likely, in percent, a stand has a tie; its length is then random.
     pub ties: u8,
@@ -67,45 +69,63 @@ pub struct Shape {
     pub opposed: u8,
 }
 
-/// Shapes of small rosters that bring every rule and every ending.
-pub fn small_shapes() -> [Shape; 7] {
-    let shape = |counts, quotas, [pairs, ties, opposed]: [u8; 3]| Shape {
+/// Shapes of small rosters that bring every rule and every ending, with one
+/// shift and with several. No list has more than six entries.
+pub fn small_shapes() -> [Shape; 13] {
+    let shape = |counts, quotas, shifts, [pairs, ties, opposed]: [u8; 3]| Shape {
         counts,
         quotas,
+        shifts,
         pairs,
         ties,
         opposed,
     };
     [
-        shape([1..=3, 1..=3], [0..=3, 0..=3], [80, 60, 50]),
-        shape([2..=4, 2..=3], [1..=2, 1..=3], [75, 70, 90]),
-        shape([2..=3, 2..=4], [1..=3, 1..=2], [75, 70, 90]),
-        shape([3..=4, 3..=4], [1..=2, 1..=2], [60, 80, 90]),
-        shape([3..=5, 2..=4], [1..=1, 1..=2], [70, 80, 90]),
-        shape([4..=5, 4..=5], [1..=1, 1..=2], [50, 90, 90]),
-        shape([4..=5, 3..=3], [1..=1, 1..=3], [90, 60, 100]),
+        shape([1..=3, 1..=3], [0..=3, 0..=3], 1, [80, 60, 50]),
+        shape([2..=4, 2..=3], [1..=2, 1..=3], 1, [75, 70, 90]),
+        shape([2..=3, 2..=4], [1..=3, 1..=2], 1, [75, 70, 90]),
+        shape([3..=4, 3..=4], [1..=2, 1..=2], 1, [60, 80, 90]),
+        shape([3..=5, 2..=4], [1..=1, 1..=2], 1, [70, 80, 90]),
+        shape([4..=5, 4..=5], [1..=1, 1..=2], 1, [50, 90, 90]),
+        shape([4..=5, 3..=3], [1..=1, 1..=3], 1, [90, 60, 100]),
+        shape([1..=2, 1..=2], [0..=3, 0..=3], 3, [60, 60, 50]),
+        shape([2..=2, 2..=2], [1..=2, 1..=3], 3, [50, 70, 90]),
+        shape([1..=3, 1..=3], [1..=2, 1..=2], 2, [50, 70, 90]),
+        shape([2..=3, 2..=3], [1..=1, 1..=2], 2, [60, 80, 90]),
+        shape([3..=3, 2..=2], [1..=2, 1..=3], 2, [60, 80, 100]),
+        shape([2..=2, 3..=3], [1..=3, 1..=2], 2, [60, 70, 90]),
     ]
 }
 
+/// Any of the small shapes.
+pub fn small_shape(random: &mut Random) -> Shape {
+    let shapes = small_shapes();
+    shapes[random.below(shapes.len())].clone()
+}
+
 /// A shape within the limits: from few nodes to all, from lists that are
-/// nearly empty to full ones, quotas as large as the number of nodes allows.
+/// nearly empty to full ones, quotas as large as the number of nodes allows,
+/// from one shift to three.
 pub fn any_shape(random: &mut Random) -> Shape {
     let mut side = || [(2, 8), (5, 8), (8, 8), (16, 4), (32, 2)][random.below(5)];
     let [surveyors, stands] = [side(), side()];
     Shape {
         counts: [0..=surveyors.0, 0..=stands.0],
         quotas: [0..=surveyors.1, 0..=stands.1],
+        shifts: random.within(&(1..=MAX_SHIFT)),
         pairs: [10, 40, 80, 100][random.below(4)],
         ties: 50,
         opposed: [0, 30, 90][random.below(3)],
     }
 }
 
-/// The shape of the longest rosters: 32 by 32 nodes of quota 2, all pairs.
+/// The shape of the longest rosters: 32 by 32 nodes of quota 2 with full lists,
+/// over three shifts.
 pub fn longest_shape(ties: u8, opposed: u8) -> Shape {
     Shape {
         counts: [32..=32, 32..=32],
         quotas: [2..=2, 2..=2],
+        shifts: MAX_SHIFT,
         pairs: 100,
         ties,
         opposed,
@@ -114,9 +134,11 @@ pub fn longest_shape(ties: u8, opposed: u8) -> Shape {
 
 /// A random roster of that shape. The caller's ranges keep to the limits.
 pub fn roster(random: &mut Random, shape: &Shape) -> Roster {
-    let [surveyors, stands] = SIDES.map(|side| random.within(&shape.counts[side as usize]));
-    let surveyors: Vec<Node> = (0..surveyors)
-        .map(|_| surveyor(random, shape, stands))
+    let counts = SIDES.map(|side| random.within(&shape.counts[side as usize]));
+    let pairs = pairs(random, shape, counts);
+    let [surveyors, stands] = counts;
+    let surveyors: Vec<Node> = (1..=surveyors)
+        .map(|number| surveyor(random, shape, &pairs, number))
         .collect();
     let stands = (1..=stands)
         .map(|number| stand(random, shape, &surveyors, number))
@@ -124,11 +146,53 @@ pub fn roster(random: &mut Random, shape: &Shape) -> Roster {
     Roster::new(surveyors, stands).expect("both sides list the same pairs")
 }
 
-/// A surveyor that ranks some of the stands.
-fn surveyor(random: &mut Random, shape: &Shape, stands: u8) -> Node {
-    let mut strict: Vec<u8> = (1..=stands)
-        .filter(|_| random.chance(shape.pairs))
-        .collect();
+/// A stand's distance from a surveyor on a ring of nodes, and a shift.
+type Round = (usize, u8);
+
+/// All rounds on a ring of that many nodes, in a random order.
+fn rounds(random: &mut Random, nodes: usize, shifts: u8) -> Vec<Round> {
+    let in_shifts = |distance| (1..=shifts).map(move |shift| (distance, shift));
+    let mut rounds: Vec<Round> = (0..nodes).flat_map(in_shifts).collect();
+    random.shuffle(&mut rounds);
+    rounds
+}
+
+/// The pairs of a roster with so many nodes. They are drawn in rounds, in each of
+/// which every node has at most one pair; so lists fill evenly up to their
+/// limit, and with all pairs of 32 by 32 nodes none keeps room.
+fn pairs(random: &mut Random, shape: &Shape, [surveyors, stands]: [u8; 2]) -> Vec<Pair> {
+    let nodes = usize::from(surveyors.max(stands));
+    let mut lengths = [[0; MAX_NODES]; 2];
+    let mut pairs = Vec::new();
+    for (distance, shift) in rounds(random, nodes, shape.shifts) {
+        for surveyor in 1..=surveyors {
+            let stand = narrow((usize::from(surveyor - 1) + distance) % nodes + 1);
+            if stand > stands || !random.chance(shape.pairs) {
+                continue;
+            }
+            let ends = [(0, surveyor), (1, stand)].map(|(side, end)| (side, usize::from(end) - 1));
+            if ends
+                .iter()
+                .all(|&(side, end)| lengths[side][end] < MAX_LIST)
+            {
+                for (side, end) in ends {
+                    lengths[side][end] += 1;
+                }
+                pairs.push(Pair {
+                    surveyor,
+                    stand,
+                    shift,
+                });
+            }
+        }
+    }
+    pairs
+}
+
+/// A surveyor that ranks its pairs.
+fn surveyor(random: &mut Random, shape: &Shape, pairs: &[Pair], number: u8) -> Node {
+    let own = pairs.iter().filter(|pair| pair.surveyor == number);
+    let mut strict: Vec<Entry> = own.map(|pair| pair.entry(Side::Surveyors)).collect();
     random.shuffle(&mut strict);
     Node {
         quota: random.within(&shape.quotas[Side::Surveyors as usize]),
@@ -139,26 +203,56 @@ fn surveyor(random: &mut Random, shape: &Shape, stands: u8) -> Node {
     }
 }
 
-/// A joiner's list of some of the stands, as its file.
+/// A joiner's list of some of the stands, each in some of the shifts, as its
+/// file.
 pub fn stand_list(random: &mut Random, stands: u8, percent: u8) -> Vec<u8> {
-    let mut list: Vec<u8> = (1..=stands).filter(|_| random.chance(percent)).collect();
+    let in_shifts = |number| (1..=MAX_SHIFT).map(move |shift| Entry { number, shift });
+    let mut list: Vec<Entry> = (1..=stands)
+        .flat_map(in_shifts)
+        .filter(|_| random.chance(percent))
+        .collect();
     random.shuffle(&mut list);
-    list.insert(0, narrow(list.len()));
-    list
+    list.truncate(MAX_LIST);
+    list_file(&list)
 }
 
-/// A stand that ranks the surveyors who rank it.
+/// A joiner's list, as its file, that no stand of the roster is too full for:
+/// some of the stands, each in some of the shifts.
+pub fn fitting_list(random: &mut Random, roster: &Roster, percent: u8) -> Vec<u8> {
+    let mut list = Vec::new();
+    for (number, stand) in (1..).zip(roster.nodes(Side::Stands)) {
+        let room = MAX_LIST - stand.list.length();
+        let shifts = (1..=MAX_SHIFT).filter(|_| random.chance(percent));
+        list.extend(shifts.take(room).map(|shift| Entry { number, shift }));
+    }
+    random.shuffle(&mut list);
+    list.truncate(MAX_LIST);
+    list_file(&list)
+}
+
+/// A joiner's list as its file.
+pub fn list_file(list: &[Entry]) -> Vec<u8> {
+    let length = narrow(list.len());
+    let entries = list.iter().flat_map(|entry| entry.bytes());
+    std::iter::once(length).chain(entries).collect()
+}
+
+/// A stand that ranks the surveyors who rank it, each in the same shifts.
 fn stand(random: &mut Random, shape: &Shape, surveyors: &[Node], number: u8) -> Node {
-    let position = |surveyor: &Node| surveyor.list.entries().position(|entry| entry == number);
-    let mut fans: Vec<(usize, u8)> = (1..)
-        .zip(surveyors)
-        .filter_map(|(surveyor, node)| Some((position(node)?, surveyor)))
-        .collect();
+    let mut fans: Vec<(usize, Entry)> = Vec::new();
+    for (surveyor, node) in (1..).zip(surveyors) {
+        let places = node.list.entries().enumerate();
+        let here = places.filter(|(_, entry)| entry.number == number);
+        fans.extend(here.map(|(place, Entry { shift, .. })| {
+            let number = surveyor;
+            (place, Entry { number, shift })
+        }));
+    }
     random.shuffle(&mut fans);
     if random.chance(shape.opposed) {
-        fans.sort_by_key(|&(position, _)| Reverse(position));
+        fans.sort_by_key(|&(place, _)| Reverse(place));
     }
-    let mut strict: Vec<u8> = fans.into_iter().map(|(_, surveyor)| surveyor).collect();
+    let mut strict: Vec<Entry> = fans.into_iter().map(|(_, entry)| entry).collect();
     let mut tied = Vec::new();
     if random.chance(shape.ties) {
         tied = strict.split_off(random.below(strict.len() + 1));
@@ -222,52 +316,65 @@ pub fn plan_of(random: &mut Random, roster: &Roster, pairs: usize) -> Plan {
 
 /// A roster of the longest kind on which all agree, with its plan of 64 pairs:
 /// surveyors and stands come in groups of two, and everyone ranks the two of
-/// the own group first, who are the plan. It is strong. With some groups
-/// `tied`, whose stands rank the own surveyors last and alike, it is less so.
+/// the own group first, each in one shift; these pairs are the plan. It is
+/// strong. With some groups `tied`, whose stands rank the own surveyors last and
+/// alike, it is less so.
 pub fn agreed(random: &mut Random, tied: usize) -> (Roster, Plan) {
-    let group = |node: usize| node / 2;
-    let first = |_, node, other| usize::from(group(node) != group(other));
-    let tied = |stand| group(stand) < tied;
-    let roster = longest(random, first, tied);
-    let plan = plan_where(&roster, |surveyor, stand| group(surveyor) == group(stand));
+    const GROUPS: usize = MAX_NODES / 2;
+    const OWN: [Round; 2] = [(0, 1), (GROUPS, 3)];
+    let first = |_, _, round| usize::from(!OWN.contains(&round));
+    let tied = |stand: usize| stand % GROUPS < tied;
+    let roster = longest(random, &OWN, first, tied);
+    let plan = plan_where(&roster, &OWN);
     (roster, plan)
 }
 
 /// A roster of the longest kind, with a strong plan of 64 pairs from which the
 /// test for rivals has the longest way to go: each surveyor has the stand of
-/// its own number and the one before it, and ranks the one before that between
+/// its own number and the one behind it, and ranks the one behind that between
 /// the two. So walks of cost 0 lead from each stand to the next.
 pub fn chained(random: &mut Random) -> (Roster, Plan) {
-    let own = |surveyor: usize, stand: usize| (surveyor + MAX_NODES - stand) % MAX_NODES;
-    let first = |side, node, other| match side {
-        Side::Surveyors => match own(node, other) {
-            0 => 0,
-            // the first two have none before that, so that no walk closes
-            2 if node >= 2 => 1,
-            1 => 2,
-            _ => 3,
-        },
-        Side::Stands => usize::from(own(other, node) > 1),
+    const PLAN: [Round; 2] = [(0, 1), (1, 2)];
+    const BETWEEN: Round = (2, 3);
+    let first = |side, node, round: Round| match (side, round) {
+        (Side::Stands, round) => usize::from(!PLAN.contains(&round)),
+        (Side::Surveyors, round) if round == PLAN[0] => 0,
+        // the last two have none behind that, so that no walk closes
+        (Side::Surveyors, round) if round == BETWEEN && node < MAX_NODES - 2 => 1,
+        (Side::Surveyors, round) if round == PLAN[1] => 2,
+        (Side::Surveyors, _) => 3,
     };
-    let roster = longest(random, first, |_| false);
-    let plan = plan_where(&roster, |surveyor, stand| own(surveyor, stand) <= 1);
+    let roster = longest(random, &[PLAN[0], PLAN[1], BETWEEN], first, |_| false);
+    let plan = plan_where(&roster, &PLAN);
     (roster, plan)
 }
 
-/// A roster of the longest kind: everyone ranks the other side's nodes by a
-/// key, and in a random order where keys are equal. The stands chosen by `tied`
-/// move the two best to a tie at the end. Nodes are counted from 0.
+/// A roster of the longest kind: its pairs are those of 32 rounds, the given ones
+/// among them. Everyone ranks the own pairs by a key, and in a random order where
+/// keys are equal. The stands chosen by `tied` move the two best to a tie at the
+/// end. Nodes are counted from 0.
 fn longest(
     random: &mut Random,
-    key: impl Fn(Side, usize, usize) -> usize,
+    given: &[Round],
+    key: impl Fn(Side, usize, Round) -> usize,
     tied: impl Fn(usize) -> bool,
 ) -> Roster {
+    let mut drawn = rounds(random, MAX_NODES, MAX_SHIFT);
+    drawn.sort_by_key(|round| !given.contains(round));
+    drawn.truncate(MAX_LIST);
     let mut node = |side, number: usize| {
-        let mut strict: Vec<u8> = (1..=narrow(MAX_NODES)).collect();
-        random.shuffle(&mut strict);
-        strict.sort_by_key(|&entry| key(side, number, usize::from(entry) - 1));
+        random.shuffle(&mut drawn);
+        drawn.sort_by_key(|&round| key(side, number, round));
+        let entry = |&(distance, shift): &Round| {
+            let other = match side {
+                Side::Surveyors => number + distance,
+                Side::Stands => number + MAX_NODES - distance,
+            };
+            let number = narrow(other % MAX_NODES + 1);
+            Entry { number, shift }
+        };
         let mut list = List {
-            strict,
+            strict: drawn.iter().map(entry).collect(),
             tied: Vec::new(),
         };
         if side == Side::Stands && tied(number) {
@@ -278,14 +385,15 @@ fn longest(
     };
     let [surveyors, stands] =
         SIDES.map(|side| (0..MAX_NODES).map(|number| node(side, number)).collect());
-    Roster::new(surveyors, stands).expect("all are pairs")
+    Roster::new(surveyors, stands).expect("both sides have the same rounds")
 }
 
-/// The plan of the pairs whose ends, counted from 0, are chosen.
-fn plan_where(roster: &Roster, chosen: impl Fn(usize, usize) -> bool) -> Plan {
-    let ends = |index: &usize| {
-        let pair = roster.pairs()[*index];
-        chosen(usize::from(pair.surveyor) - 1, usize::from(pair.stand) - 1)
+/// The plan of the pairs of some rounds.
+fn plan_where(roster: &Roster, chosen: &[Round]) -> Plan {
+    let round = |pair: Pair| {
+        let distance = usize::from(pair.stand) + MAX_NODES - usize::from(pair.surveyor);
+        (distance % MAX_NODES, pair.shift)
     };
-    (0..roster.pairs().len()).filter(ends).collect()
+    let in_round = |&index: &usize| chosen.contains(&round(roster.pairs()[index]));
+    (0..roster.pairs().len()).filter(in_round).collect()
 }

@@ -130,10 +130,7 @@ impl<'r> State<'r> {
     /// written as tied stays tied, even as the last one of its tie.
     pub fn strict_pairs(&self, side: Side, node: usize) -> Vec<usize> {
         let list = &self.roster.nodes(side)[node].list;
-        let strict = |&pair: &usize| {
-            let partner = self.roster.pairs()[pair].end(side.other());
-            list.strict.contains(&partner)
-        };
+        let strict = |&pair: &usize| list.strict.contains(&self.roster.pairs()[pair].entry(side));
         let mut pairs: Vec<usize> = self.pairs_at(side, node).filter(strict).collect();
         pairs.sort_by_key(|&pair| self.rank(side, pair));
         pairs
@@ -143,7 +140,7 @@ impl<'r> State<'r> {
     pub fn rank(&self, side: Side, pair: usize) -> u8 {
         let pair = self.roster.pairs()[pair];
         let node = self.roster.node(side, pair.end(side));
-        rank(&node.list, Some(pair.end(side.other())))
+        rank(&node.list, Some(pair.entry(side)))
     }
 }
 

@@ -24,6 +24,7 @@ pub enum Refusal {
     BufferTooSmall = 15,
     NotASurveyor = 16,
     NoPlaceForJoiner = 17,
+    ShiftOutOfRange = 18,
 }
 
 /// The four groups of refusals.
@@ -47,7 +48,7 @@ impl Refusal {
     }
 }
 
-/// The group of a number; 16, 17 and numbers not in use are content.
+/// The group of a number; 16 to 18 and numbers not in use are content.
 pub fn group_of(number: u8) -> Group {
     match number {
         1 | 2 | 9 => Group::Form,
@@ -81,6 +82,7 @@ impl fmt::Display for Refusal {
             Refusal::NoPlaceForJoiner => {
                 "all 32 numbers are taken, or the surveyors' quotas would be above 64 together"
             }
+            Refusal::ShiftOutOfRange => "a list entry's shift is not 1, 2 or 3",
         })
     }
 }

@@ -1,6 +1,8 @@
 //! Rosters: what they hold, and reading and writing their bytes.
 
-use crate::limits::{MAX_ENTRIES, MAX_NODES, MAX_QUOTA, MAX_QUOTA_SUM};
+use crate::limits::{
+    ENTRY_FIELD, MAX_ENTRIES, MAX_LIST, MAX_NODES, MAX_QUOTA, MAX_QUOTA_SUM, MAX_SHIFT, PAIR_FIELD,
+};
 use crate::reader::{within, Reader};
 use crate::refusal::Refusal;
 
@@ -24,18 +26,32 @@ impl Side {
     }
 }
 
-/// A node's list: the numbers of nodes of the other side. The strict entries
-/// come best first; the tied ones share the place behind them. A surveyor's
-/// list has no tie.
+/// An entry of a list: the number of a node of the other side, and a shift. The
+/// derived order is that of a tie: by number, then by shift.
+#[derive(Clone, Copy, Debug, PartialEq, Eq, PartialOrd, Ord, Hash)]
+pub struct Entry {
+    pub number: u8,
+    pub shift: u8,
+}
+
+impl Entry {
+    /// The entry's field in a file.
+    pub fn bytes(self) -> [u8; ENTRY_FIELD] {
+        [self.number, self.shift]
+    }
+}
+
+/// A node's list. The strict entries come best first; the tied ones share the
+/// place behind them. A surveyor's list has no tie.
 #[derive(Clone, Debug, Default, PartialEq, Eq)]
 pub struct List {
-    pub strict: Vec<u8>,
-    pub tied: Vec<u8>,
+    pub strict: Vec<Entry>,
+    pub tied: Vec<Entry>,
 }
 
 impl List {
     /// All entries in the order of the file.
-    pub fn entries(&self) -> impl Iterator<Item = u8> + '_ {
+    pub fn entries(&self) -> impl Iterator<Item = Entry> + '_ {
         self.strict.iter().chain(&self.tied).copied()
     }
 
@@ -43,8 +59,8 @@ impl List {
         self.strict.len() + self.tied.len()
     }
 
-    pub fn holds(&self, number: u8) -> bool {
-        self.entries().any(|entry| entry == number)
+    pub fn holds(&self, entry: Entry) -> bool {
+        self.entries().any(|own| own == entry)
     }
 }
 
@@ -55,12 +71,14 @@ pub struct Node {
     pub list: List,
 }
 
-/// A surveyor and a stand, by their numbers. The derived order is the order
-/// of plans: by surveyor, then by stand.
+/// A surveyor and a stand, by their numbers, in one shift; in another shift they
+/// are another pair. The derived order is the order of plans: by surveyor, then
+/// by stand, then by shift.
 #[derive(Clone, Copy, Debug, PartialEq, Eq, PartialOrd, Ord)]
 pub struct Pair {
     pub surveyor: u8,
     pub stand: u8,
+    pub shift: u8,
 }
 
 impl Pair {
@@ -70,6 +88,19 @@ impl Pair {
             Side::Surveyors => self.surveyor,
             Side::Stands => self.stand,
         }
+    }
+
+    /// The pair as it stands in the list of its node on that side.
+    pub fn entry(self, side: Side) -> Entry {
+        Entry {
+            number: self.end(side.other()),
+            shift: self.shift,
+        }
+    }
+
+    /// The pair's field in a file.
+    pub fn bytes(self) -> [u8; PAIR_FIELD] {
+        [self.surveyor, self.stand, self.shift]
     }
 }
 
@@ -85,8 +116,16 @@ impl Roster {
     /// A roster of these nodes, or the refusal of a pair that only one side
     /// lists. The other rules of document 01 are the caller's to keep.
     pub fn new(surveyors: Vec<Node>, stands: Vec<Node>) -> Result<Roster, Refusal> {
-        let pairs = pairs_of(&surveyors, |surveyor, stand| Pair { surveyor, stand });
-        let mirrored = pairs_of(&stands, |stand, surveyor| Pair { surveyor, stand });
+        let pairs = pairs_of(&surveyors, |surveyor, entry| Pair {
+            surveyor,
+            stand: entry.number,
+            shift: entry.shift,
+        });
+        let mirrored = pairs_of(&stands, |stand, entry| Pair {
+            surveyor: entry.number,
+            stand,
+            shift: entry.shift,
+        });
         if pairs != mirrored {
             return Err(Refusal::PairOnOneSideOnly);
         }
@@ -115,6 +154,13 @@ impl Roster {
         &self.pairs
     }
 
+    /// Whether some surveyor and some stand are a pair in more than one shift.
+    pub fn has_parallel_pairs(&self) -> bool {
+        let ends = |pair: &Pair| (pair.surveyor, pair.stand);
+        let mut neighbours = self.pairs.windows(2);
+        neighbours.any(|two| ends(&two[0]) == ends(&two[1]))
+    }
+
     /// The index of a pair, if the roster has it.
     pub fn index_of(&self, pair: Pair) -> Option<usize> {
         self.pairs.binary_search(&pair).ok()
@@ -122,7 +168,7 @@ impl Roster {
 }
 
 /// The pairs that the lists of one side name, ascending.
-fn pairs_of(nodes: &[Node], pair: impl Fn(u8, u8) -> Pair) -> Vec<Pair> {
+fn pairs_of(nodes: &[Node], pair: impl Fn(u8, Entry) -> Pair) -> Vec<Pair> {
     let mut pairs = Vec::new();
     for (number, node) in (1..).zip(nodes) {
         pairs.extend(node.list.entries().map(|entry| pair(number, entry)));
@@ -187,15 +233,16 @@ fn read_lists(
     Ok(lists)
 }
 
-/// One list: its lengths, then its entries. A stand's two lengths are both
-/// read before their sum is held against the limit.
+/// One list: its lengths, then its entries, whose numbers are at most `others`.
+/// A stand's two lengths are both read before their sum is held against the
+/// limit.
 pub fn read_list(reader: &mut Reader, side: Side, others: usize) -> Result<List, Refusal> {
     let strict = usize::from(reader.narrow()?);
     let tied = match side {
         Side::Surveyors => 0,
         Side::Stands => usize::from(reader.narrow()?),
     };
-    within(strict + tied, others)?;
+    within(strict + tied, MAX_LIST)?;
     let mut list = List::default();
     for _ in 0..strict {
         let entry = read_entry(reader, others, &list)?;
@@ -211,12 +258,17 @@ pub fn read_list(reader: &mut Reader, side: Side, others: usize) -> Result<List,
     Ok(list)
 }
 
-/// The next entry behind those already in the list.
-fn read_entry(reader: &mut Reader, others: usize, list: &List) -> Result<u8, Refusal> {
-    let entry = reader.narrow()?;
-    if entry == 0 || usize::from(entry) > others {
+/// The next entry behind those already in the list. Number and shift are one
+/// field.
+fn read_entry(reader: &mut Reader, others: usize, list: &List) -> Result<Entry, Refusal> {
+    let [number, shift] = reader.field::<ENTRY_FIELD>()?;
+    if number == 0 || usize::from(number) > others {
         return Err(Refusal::EntryOutOfRange);
     }
+    if shift == 0 || shift > MAX_SHIFT {
+        return Err(Refusal::ShiftOutOfRange);
+    }
+    let entry = Entry { number, shift };
     if list.holds(entry) {
         return Err(Refusal::EntryTwice);
     }
@@ -246,7 +298,7 @@ fn write_lists(file: &mut Vec<u8>, side: Side, nodes: &[Node]) {
         if side == Side::Stands {
             file.push(narrow(list.tied.len()));
         }
-        file.extend(list.entries());
+        file.extend(list.entries().flat_map(Entry::bytes));
     }
 }
 

@@ -7,7 +7,7 @@ use std::rc::Rc;
 
 use crate::plan::Plan;
 use crate::plans::{for_each_plan, judge, Verdict};
-use crate::roster::{narrow, List, Node, Roster, SIDES};
+use crate::roster::{narrow, Entry, List, Node, Roster, SIDES};
 use crate::votes::node_vote;
 
 /// The longest list that a table is made for.
@@ -27,10 +27,9 @@ impl Table {
     fn new(quota: u8, strict: usize, tied: usize) -> Table {
         let length = strict + tied;
         assert!(length <= MAX_LENGTH, "tables are for short lists");
-        let numbers = |from: usize, to: usize| (from..to).map(|entry| narrow(entry + 1)).collect();
         let list = List {
-            strict: numbers(0, strict),
-            tied: numbers(strict, length),
+            strict: (0..strict).map(entry_at).collect(),
+            tied: (strict..length).map(entry_at).collect(),
         };
         let node = Node { quota, list };
         let sets = 1 << length;
@@ -51,10 +50,18 @@ impl Table {
     }
 }
 
-/// The numbers, from 1, of the bits of a set.
-fn members(set: usize) -> Vec<u8> {
+/// The entry that stands at a position of a table's list.
+fn entry_at(position: usize) -> Entry {
+    Entry {
+        number: narrow(position + 1),
+        shift: 1,
+    }
+}
+
+/// The entries of the bits of a set.
+fn members(set: usize) -> Vec<Entry> {
     let bits = (0..MAX_LENGTH).filter(|bit| set >> bit & 1 == 1);
-    bits.map(|bit| narrow(bit + 1)).collect()
+    bits.map(entry_at).collect()
 }
 
 /// The tables made so far, by quota, strict length and tie length.
@@ -105,9 +112,8 @@ fn spots(roster: &Roster, pair: usize) -> [Spot; 2] {
     let offsets = [0, roster.nodes(SIDES[0]).len()];
     SIDES.map(|side| {
         let number = pair.end(side);
-        let partner = pair.end(side.other());
         let mut entries = roster.node(side, number).list.entries();
-        let position = entries.position(|entry| entry == partner);
+        let position = entries.position(|entry| entry == pair.entry(side));
         let node = offsets[side as usize] + usize::from(number) - 1;
         (node, 1 << position.expect("a pair stands in both lists"))
     })

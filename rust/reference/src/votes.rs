@@ -2,21 +2,22 @@
 
 use crate::limits::EMPTY_RANK;
 use crate::plan::Plan;
-use crate::roster::{narrow, List, Node, Roster, SIDES};
+use crate::roster::{narrow, Entry, List, Node, Roster, SIDES};
 
-/// What fills a place at a node: the partner's number, or nothing.
-pub type Place = Option<u8>;
+/// What fills a place at a node: an entry of its list, or nothing.
+pub type Place = Option<Entry>;
 
-/// The rank of a place: a strict entry's position from 1, the next number for
-/// every tied entry, and a rank behind all of them for an empty place.
+/// The rank of a place: a strict entry's position from 1, counted over all
+/// shifts, the next number for every tied entry, and a rank behind all of them
+/// for an empty place.
 pub fn rank(list: &List, place: Place) -> u8 {
-    let Some(partner) = place else {
+    let Some(filled) = place else {
         return EMPTY_RANK;
     };
-    match list.strict.iter().position(|&entry| entry == partner) {
+    match list.strict.iter().position(|&entry| entry == filled) {
         Some(position) => narrow(position + 1),
         None => {
-            assert!(list.tied.contains(&partner), "a partner is in the list");
+            assert!(list.tied.contains(&filled), "a place has a listed entry");
             narrow(list.strict.len() + 1)
         }
     }
@@ -31,16 +32,16 @@ pub fn rank_vote(a: u8, b: u8) -> i16 {
     }
 }
 
-/// A node's vote of the partners `mine` against the partners `theirs`: the
-/// least sum over the valid pairings.
-pub fn node_vote(node: &Node, mine: &[u8], theirs: &[u8]) -> i16 {
+/// A node's vote of the entries `mine` against the entries `theirs`: the least
+/// sum over the valid pairings.
+pub fn node_vote(node: &Node, mine: &[Entry], theirs: &[Entry]) -> i16 {
     least_sum(node, mine, theirs).expect("a valid pairing exists")
 }
 
 /// The least sum over all valid pairings of quota places against quota places,
 /// or none if no pairing is valid. The places of `mine` keep their order while
 /// those of `theirs` run through all their orders.
-pub fn least_sum(node: &Node, mine: &[u8], theirs: &[u8]) -> Option<i16> {
+pub fn least_sum(node: &Node, mine: &[Entry], theirs: &[Entry]) -> Option<i16> {
     let mine = places(node, mine);
     let mut theirs = places(node, theirs);
     let mut least = None;
@@ -53,11 +54,11 @@ pub fn least_sum(node: &Node, mine: &[u8], theirs: &[u8]) -> Option<i16> {
     least
 }
 
-/// As many places as the node's quota: one for each partner, the rest empty.
-fn places(node: &Node, partners: &[u8]) -> Vec<Place> {
+/// As many places as the node's quota: one for each entry, the rest empty.
+fn places(node: &Node, entries: &[Entry]) -> Vec<Place> {
     let quota = usize::from(node.quota);
-    assert!(partners.len() <= quota, "a plan within the quotas");
-    let mut places: Vec<Place> = partners.iter().copied().map(Some).collect();
+    assert!(entries.len() <= quota, "a plan within the quotas");
+    let mut places: Vec<Place> = entries.iter().copied().map(Some).collect();
     places.resize(quota, None);
     places
 }
@@ -97,8 +98,8 @@ pub fn plan_vote(roster: &Roster, plan: &Plan, rival: &Plan) -> i16 {
     let mut total = 0;
     for side in SIDES {
         for (number, node) in (1..).zip(roster.nodes(side)) {
-            let mine = plan.partners(roster, side, number);
-            let theirs = rival.partners(roster, side, number);
+            let mine = plan.entries(roster, side, number);
+            let theirs = rival.entries(roster, side, number);
             total += node_vote(node, &mine, &theirs);
         }
     }

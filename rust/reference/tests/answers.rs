@@ -2,7 +2,7 @@
 
 mod common;
 
-use common::{plan, roster, Bytes, Pairs, P2, P3, P4, P7};
+use common::{plan, roster, Bytes, Pairs, P2, P3, P4, P7, SHIFTS, SHIFTS_AGREED, SHIFTS_CROSSED};
 use reference::blocking::{blocking_pairs, first_blocking_pair};
 use reference::compare::{compare, Comparison, File, Part, Votes};
 use reference::program;
@@ -26,23 +26,35 @@ fn votes([first_against_second, second_against_first]: [i16; 2]) -> Result<Votes
 fn the_winner_is_a_part_of_its_own_file() {
     let none = || part(File::First, 0..0);
     let cases: [Compared; 6] = [
-        (P3, &[1, 1, 1], &[1, 2, 1], [1, -1], part(File::First, 1..3)),
         (
             P3,
-            &[1, 2, 1],
-            &[1, 1, 1],
-            [-1, 1],
-            part(File::Second, 1..3),
+            &[1, 1, 1, 1],
+            &[1, 2, 1, 1],
+            [1, -1],
+            part(File::First, 1..4),
         ),
-        (P3, &[0], &[1, 2, 1], [-2, 2], part(File::Second, 1..3)),
-        (P4, &[1, 1, 1], &[1, 2, 1], [0, 0], none()),
-        (P7, &[2, 1, 1, 3, 1], &[2, 2, 1, 4, 1], [0, -2], none()),
+        (
+            P3,
+            &[1, 2, 1, 1],
+            &[1, 1, 1, 1],
+            [-1, 1],
+            part(File::Second, 1..4),
+        ),
+        (P3, &[0], &[1, 2, 1, 1], [-2, 2], part(File::Second, 1..4)),
+        (P4, &[1, 1, 1, 1], &[1, 2, 1, 1], [0, 0], none()),
         (
             P7,
-            &[2, 1, 1, 2, 1],
-            &[1, 3, 1],
+            &[2, 1, 1, 1, 3, 1, 1],
+            &[2, 2, 1, 1, 4, 1, 1],
+            [0, -2],
+            none(),
+        ),
+        (
+            P7,
+            &[2, 1, 1, 1, 2, 1, 1],
+            &[1, 3, 1, 1],
             [3, -3],
-            part(File::First, 1..5),
+            part(File::First, 1..7),
         ),
     ];
     for (file, first, second, both, part) in cases {
@@ -60,10 +72,10 @@ fn the_winner_is_a_part_of_its_own_file() {
 fn the_first_file_is_refused_before_the_second() {
     let p3 = roster(P3);
     let cases: [(Bytes, Bytes, Refusal); 4] = [
-        (&[1, 1, 1, 0], &[], Refusal::BytesAfterEnd),
+        (&[1, 1, 1, 1, 0], &[], Refusal::BytesAfterEnd),
         (&[], &[65], Refusal::EndsInsideField),
-        (&[0], &[1, 1, 2], Refusal::PairNotInRoster),
-        (&[2, 1, 1, 2, 1], &[1, 1, 1], Refusal::QuotaPassed),
+        (&[0], &[1, 1, 2, 1], Refusal::PairNotInRoster),
+        (&[2, 1, 1, 1, 2, 1, 1], &[1, 1, 1, 1], Refusal::QuotaPassed),
     ];
     for (first, second, refusal) in cases {
         let expected = Comparison {
@@ -77,22 +89,24 @@ fn the_first_file_is_refused_before_the_second() {
 #[test]
 fn blocking_pairs_of_plans() {
     // One surveyor of quota 1 ranks stands 2 and 1.
-    const CHOICE: Bytes = &[1, 1, 2, 1, 1, 2, 0, 2, 2, 1, 2, 0, 1, 0, 1, 0, 1, 1];
+    const CHOICE: Bytes = &[
+        1, 1, 2, 1, 1, 2, 0, 2, 2, 1, 1, 1, 2, 0, 1, 0, 1, 1, 0, 1, 1, 1,
+    ];
     let cases: [(&str, Bytes, Pairs, &[usize]); 9] = [
         ("all may come", P3, &[], &[0, 1]),
-        ("the better one may come", P3, &[(2, 1)], &[0]),
-        ("the worse one may not", P3, &[(1, 1)], &[]),
-        ("a tied one may not", P4, &[(2, 1)], &[]),
+        ("the better one may come", P3, &[(2, 1, 1)], &[0]),
+        ("the worse one may not", P3, &[(1, 1, 1)], &[]),
+        ("a tied one may not", P4, &[(2, 1, 1)], &[]),
         ("quota 0 never blocks", P2, &[], &[]),
-        ("the surveyor would change", CHOICE, &[(1, 1)], &[1]),
-        ("the surveyor would not", CHOICE, &[(1, 2)], &[]),
+        ("the surveyor would change", CHOICE, &[(1, 1, 1)], &[1]),
+        ("the surveyor would not", CHOICE, &[(1, 2, 1)], &[]),
         (
             "the worst place is given up",
             P7,
-            &[(1, 1), (4, 1)],
+            &[(1, 1, 1), (4, 1, 1)],
             &[1, 2],
         ),
-        ("room for one more", P7, &[(4, 1)], &[0, 1, 2]),
+        ("room for one more", P7, &[(4, 1, 1)], &[0, 1, 2]),
     ];
     for (name, file, pairs, blocking) in cases {
         let roster = roster(file);
@@ -104,25 +118,57 @@ fn blocking_pairs_of_plans() {
 #[test]
 fn the_first_blocking_pair() {
     // One surveyor of quota 1 ranks stands 2 and 1.
-    const CHOICE: Bytes = &[1, 1, 2, 1, 1, 2, 0, 2, 2, 1, 2, 0, 1, 0, 1, 1, 0, 1];
+    const CHOICE: Bytes = &[
+        1, 1, 2, 1, 1, 2, 0, 2, 2, 1, 1, 1, 2, 0, 1, 0, 1, 1, 1, 0, 1, 1,
+    ];
     // Surveyor 1 ranks 3, 2, 1; surveyor 2, quota 2, ranks 1, 3, 2; stand 1
     // ranks 1, 2; stands 2 and 3 rank 2, 1.
     const TWO: Bytes = &[
-        2, 1, 2, 3, 1, 1, 1, 6, 0, 3, 3, 2, 1, 3, 1, 3, 2, 6, 0, 2, 0, 1, 2, 2, 0, 2, 1, 2, 0, 2, 1,
+        2, 1, 2, 3, 1, 1, 1, 6, 0, 3, 3, 1, 2, 1, 1, 1, 3, 1, 1, 3, 1, 2, 1, 6, 0, 2, 0, 1, 1, 2,
+        1, 2, 0, 2, 1, 1, 1, 2, 0, 2, 1, 1, 1,
     ];
-    let cases: [(&str, Bytes, Pairs, Option<(u8, u8)>); 6] = [
-        ("best in the list", CHOICE, &[], Some((1, 2))),
-        ("better than the held one", CHOICE, &[(1, 1)], Some((1, 2))),
-        ("none", CHOICE, &[(1, 2)], None),
-        ("the lowest surveyor's", TWO, &[], Some((1, 3))),
-        ("before a better rank", TWO, &[(2, 3)], Some((1, 2))),
-        ("the next surveyor's", TWO, &[(1, 2), (2, 3)], Some((2, 1))),
+    let cases: [(&str, Bytes, Pairs, Option<(u8, u8, u8)>); 10] = [
+        ("best in the list", CHOICE, &[], Some((1, 2, 1))),
+        (
+            "better than the held one",
+            CHOICE,
+            &[(1, 1, 1)],
+            Some((1, 2, 1)),
+        ),
+        ("none", CHOICE, &[(1, 2, 1)], None),
+        ("the lowest surveyor's", TWO, &[], Some((1, 3, 1))),
+        ("before a better rank", TWO, &[(2, 3, 1)], Some((1, 2, 1))),
+        (
+            "the next surveyor's",
+            TWO,
+            &[(1, 2, 1), (2, 3, 1)],
+            Some((2, 1, 1)),
+        ),
+        ("the shift that is liked best", SHIFTS, &[], Some((1, 1, 3))),
+        (
+            "one shift beside the other",
+            SHIFTS,
+            &[(1, 1, 3)],
+            Some((1, 1, 1)),
+        ),
+        (
+            "a better shift of the same two",
+            SHIFTS_AGREED,
+            &[(1, 1, 1)],
+            Some((1, 1, 3)),
+        ),
+        (
+            "the stand likes its shift",
+            SHIFTS_CROSSED,
+            &[(1, 1, 1)],
+            None,
+        ),
     ];
     for (name, file, pairs, expected) in cases {
         let roster = roster(file);
         let pair = first_blocking_pair(&roster, &plan(&roster, pairs));
         assert_eq!(
-            pair.map(|pair| (pair.surveyor, pair.stand)),
+            pair.map(|pair| (pair.surveyor, pair.stand, pair.shift)),
             expected,
             "{name}"
         );
@@ -135,10 +181,11 @@ fn printed(input: &[u8]) -> String {
 
 #[test]
 fn refusals_are_printed_alone() {
-    let cases: [(Bytes, &str); 4] = [
+    let cases: [(Bytes, &str); 5] = [
         (&[], "refused 1 form\n"),
         (&[33], "refused 2 form\n"),
         (&[1, 9], "refused 3 content\n"),
+        (&[1, 1, 1, 1, 1, 0, 1, 1, 4], "refused 18 content\n"),
         (&[0, 0, 0, 0, 0, 0, 0], "refused 9 form\n"),
     ];
     for (input, text) in cases {
@@ -151,10 +198,11 @@ fn a_vote_below_zero_has_a_minus_sign() {
     // Surveyor 1 of quota 2 ranks 2, 1 and surveyor 2 ranks 1, 2; stand 1 ties
     // them and stand 2 ranks 2, 1.
     let input = [
-        2, 2, 1, 2, 1, 1, 4, 0, 2, 2, 1, 2, 1, 2, 4, 0, 0, 2, 1, 2, 2, 0, 2, 1,
+        2, 2, 1, 2, 1, 1, 4, 0, 2, 2, 1, 1, 1, 2, 1, 1, 2, 1, 4, 0, 0, 2, 1, 1, 2, 1, 2, 0, 2, 1,
+        1, 1,
     ];
-    let diary = "fix 1 2 6\nstrike 2 2 2\nfix 1 1 6\nstrike 2 1 2\n";
-    let ending = "none rivalled -1\ncandidate 2\n1 1\n1 2\nrival 2\n1 1\n2 2\n";
+    let diary = "fix 1 2 1 6\nstrike 2 2 1 2\nfix 1 1 1 6\nstrike 2 1 1 2\n";
+    let ending = "none rivalled -1\ncandidate 2\n1 1 1\n1 2 1\nrival 2\n1 1 1\n2 2 1\n";
     assert_eq!(printed(&input), format!("{diary}{ending}"));
 }
 
@@ -164,7 +212,7 @@ fn a_long_input_is_read_like_its_front() {
     let mut long = vec![0; 5_000];
     long[0] = 32;
     assert_eq!(printed(&long), "refused 9 form\n");
-    assert_eq!(printed(&long[..2_215]), "refused 9 form\n");
+    assert_eq!(printed(&long[..4_263]), "refused 9 form\n");
     let end = 1 + 32 + 1 + 2 + 32 + 2;
     assert_eq!(printed(&long[..end]), "plan 0\n");
 }

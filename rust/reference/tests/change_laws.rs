@@ -9,9 +9,11 @@ use common::desk;
 use lent::{Buffers, SIZES};
 use reference::changes::{carried, join, leave};
 use reference::desk::{Desk, Found, NoneKind};
+use reference::limits::{MAX_LIST, MAX_SHIFT};
 use reference::plan::Plan;
 use reference::random::{self, stand_list, Random};
-use reference::roster::{narrow, read, write, List, Node, Pair, Roster, Side};
+use reference::refusal::Refusal;
+use reference::roster::{narrow, read, write, Entry, List, Node, Pair, Roster, Side};
 
 /// How many nodes a side has.
 fn count(roster: &Roster, side: Side) -> u8 {
@@ -30,7 +32,7 @@ fn both_stands<'a>(
 
 /// A joiner changes the lists of the listed stands, at their ends, and nothing
 /// else.
-fn check_joined(before: &Roster, after: &Roster, quota: u8, entries: &[u8]) {
+fn check_joined(before: &Roster, after: &Roster, quota: u8, entries: &[Entry]) {
     let (joiner, others) = after.nodes(Side::Surveyors).split_last().expect("a joiner");
     assert_eq!(others, before.nodes(Side::Surveyors));
     let list = List {
@@ -40,10 +42,19 @@ fn check_joined(before: &Roster, after: &Roster, quota: u8, entries: &[u8]) {
     assert_eq!(*joiner, Node { quota, list });
     for (stand, (old, new)) in (1..).zip(both_stands(before, after)) {
         let mut expected = old.clone();
-        if entries.contains(&stand) {
-            expected.list.tied.push(count(before, Side::Surveyors) + 1);
+        for shift in 1..=MAX_SHIFT {
+            let number = count(before, Side::Surveyors) + 1;
+            let listed = entries.contains(&Entry {
+                number: stand,
+                shift,
+            });
+            expected
+                .list
+                .tied
+                .extend(listed.then_some(Entry { number, shift }));
         }
         assert_eq!(*new, expected);
+        assert!(new.list.length() <= MAX_LIST);
     }
 }
 
@@ -56,8 +67,8 @@ fn check_left(before: &Roster, after: &Roster, number: u8) {
         list: List::default(),
     };
     assert_eq!(after.nodes(Side::Surveyors), surveyors);
-    let others = |entries: &[u8]| -> Vec<u8> {
-        let others = entries.iter().filter(|&&entry| entry != number);
+    let others = |entries: &[Entry]| -> Vec<Entry> {
+        let others = entries.iter().filter(|entry| entry.number != number);
         others.copied().collect()
     };
     for (old, new) in both_stands(before, after) {
@@ -76,20 +87,31 @@ fn check_carried(before: &Roster, after: &Roster, plan: &Plan, leaver: u8) {
     assert!(kept.within_quotas(after));
 }
 
+/// The entries of a joiner's list.
+fn entries_in(list: &[u8]) -> Vec<Entry> {
+    let entry = |bytes: &[u8]| Entry {
+        number: bytes[0],
+        shift: bytes[1],
+    };
+    list[1..].chunks_exact(2).map(entry).collect()
+}
+
 #[test]
 fn whom_a_change_touches() {
     let mut random = Random::new(22);
-    let (mut joined, mut left) = (0, 0);
+    let (mut joined, mut too_many, mut left) = (0, 0, 0);
     for _ in 0..4_000 {
         let shape = random::any_shape(&mut random);
         let before = random::roster(&mut random, &shape);
         let plan = random::plan(&mut random, &before, 60);
         let quota = random.within(&(0..=8));
-        let list = stand_list(&mut random, count(&before, Side::Stands), 60);
-        if let Ok(after) = join(&before, quota, &list) {
+        let list = stand_list(&mut random, count(&before, Side::Stands), 30);
+        let after = join(&before, quota, &list);
+        too_many += usize::from(after == Err(Refusal::CountAboveLimit));
+        if let Ok(after) = after {
             joined += 1;
             assert_eq!(read(&write(&after)).as_ref(), Ok(&after));
-            check_joined(&before, &after, quota, &list[1..]);
+            check_joined(&before, &after, quota, &entries_in(&list));
             check_carried(&before, &after, &plan, 0);
         }
         let number = random.within(&(0..=33));
@@ -101,8 +123,8 @@ fn whom_a_change_touches() {
             assert_eq!(leave(&after, number).as_ref(), Ok(&after));
         }
     }
-    println!("joined {joined}, left {left}");
-    assert!(joined > 500 && left > 500);
+    println!("joined {joined}, a stand's list too long {too_many}, left {left}");
+    assert!(joined > 500 && too_many > 100 && left > 500);
 }
 
 /// The changed roster held, and the finder's answer on it with every byte.
@@ -117,14 +139,14 @@ fn check_afresh(changed: Roster, held: Desk, answer: Found, written: &Buffers) {
 fn answers_are_the_finders() {
     let mut random = Random::new(23);
     let (mut plan, mut left, mut rivalled) = (0, 0, 0);
-    for turn in 0..4_000 {
-        let shape = random::small_shapes()[turn % 7].clone();
+    for _ in 0..4_000 {
+        let shape = random::small_shape(&mut random);
         let before = random::roster(&mut random, &shape);
         let held = desk(&write(&before));
         let mut buffers = Buffers::new(SIZES);
         let (changed, (held, answer)) = if random.chance(50) {
             let quota = random.within(&(0..=3));
-            let list = stand_list(&mut random, count(&before, Side::Stands), 60);
+            let list = stand_list(&mut random, count(&before, Side::Stands), 30);
             let changed = join(&before, quota, &list);
             (changed, held.join(quota, &list, buffers.lend()))
         } else {

@@ -4,14 +4,14 @@
 mod common;
 mod lent;
 
-use common::{desk, desk_with_plan, roster, without_pairs, Bytes, P1, P3, P4, P5, P6};
+use common::{desk, desk_with_plan, roster, without_pairs, Bytes, P1, P3, P4, P5, P6, SHIFTS};
 use lent::{Buffers, SIZES};
 use reference::changes::{join, leave};
 use reference::desk::{Desk, Found};
 use reference::limits::MAX_ROSTER_BYTES;
 use reference::random::{self, Random};
 use reference::refusal::Refusal;
-use reference::roster::{read, write, Roster};
+use reference::roster::{narrow, read, write, Entry, List, Node, Roster};
 use Change::{Join, Leave};
 
 /// A joiner's quota and list, or a leaver's number.
@@ -68,20 +68,27 @@ type Case = (Bytes, Change<'static>, Bytes);
 
 #[rustfmt::skip]
 const CHANGED: &[Case] = &[
-    (P3, Join(1, &[1, 1]), &[3, 1, 1, 1, 1, 1, 3, 0, 1, 1, 1, 1, 1, 1, 3, 0, 2, 1, 1, 2, 3]),
-    (P3, Join(0, &[1, 1]), &[3, 1, 1, 0, 1, 1, 3, 0, 1, 1, 1, 1, 1, 1, 3, 0, 2, 1, 1, 2, 3]),
-    (P3, Join(0, &[0]), &[3, 1, 1, 0, 1, 1, 2, 0, 1, 1, 1, 1, 0, 2, 0, 2, 0, 1, 2]),
-    (P3, Leave(1), &[2, 0, 1, 1, 1, 1, 0, 0, 1, 1, 1, 0, 1, 0, 2]),
-    (P3, Leave(2), &[2, 1, 0, 1, 1, 1, 0, 1, 1, 0, 1, 0, 1, 0, 1]),
+    (P3, Join(1, &[1, 1, 1]), &[3, 1, 1, 1, 1, 1, 3, 0, 1, 1, 1, 1, 1, 1, 1, 1, 1, 3, 0, 2, 1, 1, 1, 2, 1, 3, 1]),
+    (P3, Join(0, &[1, 1, 1]), &[3, 1, 1, 0, 1, 1, 3, 0, 1, 1, 1, 1, 1, 1, 1, 1, 1, 3, 0, 2, 1, 1, 1, 2, 1, 3, 1]),
+    (P3, Join(0, &[0]), &[3, 1, 1, 0, 1, 1, 2, 0, 1, 1, 1, 1, 1, 1, 0, 2, 0, 2, 0, 1, 1, 2, 1]),
+    (P3, Leave(1), &[2, 0, 1, 1, 1, 1, 0, 0, 1, 1, 1, 1, 0, 1, 0, 2, 1]),
+    (P3, Leave(2), &[2, 1, 0, 1, 1, 1, 0, 1, 1, 1, 0, 1, 0, 1, 0, 1, 1]),
     // a tie grows at its end, and a tie of one stays a tie
-    (P4, Join(2, &[1, 1]), &[3, 1, 1, 2, 1, 1, 3, 0, 1, 1, 1, 1, 1, 1, 3, 0, 0, 3, 1, 2, 3]),
-    (P4, Leave(2), &[2, 1, 0, 1, 1, 1, 0, 1, 1, 0, 1, 0, 0, 1, 1]),
+    (P4, Join(2, &[1, 1, 1]), &[3, 1, 1, 2, 1, 1, 3, 0, 1, 1, 1, 1, 1, 1, 1, 1, 1, 3, 0, 0, 3, 1, 1, 2, 1, 3, 1]),
+    (P4, Leave(2), &[2, 1, 0, 1, 1, 1, 0, 1, 1, 1, 0, 1, 0, 0, 1, 1, 1]),
     // every listed stand gets an entry, the others none
-    (P6, Join(1, &[2, 2, 1]), &[
-        3, 1, 1, 1, 2, 1, 1, 6, 0, 2, 1, 2, 2, 2, 1, 2, 2, 1, 6, 0, 2, 1, 2, 1, 3, 2, 1, 1, 2, 3]),
-    (P6, Join(1, &[1, 2]), &[
-        3, 1, 1, 1, 2, 1, 1, 5, 0, 2, 1, 2, 2, 2, 1, 1, 2, 5, 0, 2, 0, 2, 1, 2, 1, 1, 2, 3]),
-    (P6, Leave(1), &[2, 0, 1, 2, 1, 1, 2, 0, 0, 2, 2, 1, 2, 0, 1, 0, 2, 1, 0, 2]),
+    (P6, Join(1, &[2, 2, 1, 1, 1]), &[3, 1, 1, 1, 2, 1, 1, 6, 0, 2, 1, 1, 2, 1, 2, 2, 1, 1, 1, 2, 2, 1, 1, 1, 6, 0, 2, 1, 2, 1, 1, 1, 3, 1, 2, 1, 1, 1, 2, 1, 3, 1]),
+    (P6, Join(1, &[1, 2, 1]), &[3, 1, 1, 1, 2, 1, 1, 5, 0, 2, 1, 1, 2, 1, 2, 2, 1, 1, 1, 1, 2, 1, 5, 0, 2, 0, 2, 1, 1, 1, 2, 1, 1, 1, 2, 1, 3, 1]),
+    (P6, Leave(1), &[2, 0, 1, 2, 1, 1, 2, 0, 0, 2, 2, 1, 1, 1, 2, 0, 1, 0, 2, 1, 1, 0, 2, 1]),
+    // the joiner's shifts ascend at a stand, whatever the joiner's order
+    (P3, Join(1, &[2, 1, 3, 1, 1]), &[
+        3, 1, 1, 1, 1, 1, 4, 0, 1, 1, 1, 1, 1, 1, 2, 1, 3, 1, 1, 4, 0, 2, 2, 1, 1, 2, 1, 3, 1, 3, 3]),
+    (P4, Join(1, &[3, 1, 2, 1, 3, 1, 1]), &[
+        3, 1, 1, 1, 1, 1, 5, 0, 1, 1, 1, 1, 1, 1, 3, 1, 2, 1, 3, 1, 1, 5, 0, 0, 5, 1, 1, 2, 1, 3, 1, 3, 2, 3, 3]),
+    (SHIFTS, Join(1, &[1, 1, 2]), &[
+        2, 2, 1, 1, 2, 3, 0, 2, 1, 3, 1, 1, 1, 1, 2, 3, 0, 1, 2, 1, 1, 1, 3, 2, 2]),
+    // a leaver goes in all shifts
+    (SHIFTS, Leave(1), &[1, 0, 1, 2, 0, 0, 0, 0, 0, 0, 0]),
     // no stands, and the first surveyor of all
     (P1, Join(8, &[0]), &[1, 8, 0, 0, 0, 0, 0, 0]),
 ];
@@ -96,12 +103,12 @@ fn rosters_after_a_change() {
 
 #[test]
 fn leaving_twice() {
-    for file in [P3, P4, P5, P6] {
+    for file in [P3, P4, P5, P6, SHIFTS] {
         let once = bytes_after(file, Leave(1)).expect("accepted");
         assert_eq!(bytes_after(&once, Leave(1)), Ok(once.clone()));
         // the call still answers and writes
         let [mut first, mut second] = [(); 2].map(|()| Buffers::new(SIZES));
-        let (held, answer) = made(desk_with_plan(file, &[1, 1, 1]), Leave(1), &mut first);
+        let (held, answer) = made(desk_with_plan(file, &[1, 1, 1, 1]), Leave(1), &mut first);
         let (again, twice) = made(held.clone(), Leave(1), &mut second);
         assert_eq!((again, twice, second), (held, answer, first));
     }
@@ -109,19 +116,23 @@ fn leaving_twice() {
 
 #[test]
 fn numbers_are_not_given_twice() {
-    let held = after(after(desk(P3), Leave(2)), Join(1, &[1, 1]));
-    let bytes = [3, 1, 0, 1, 1, 1, 2, 0, 1, 1, 0, 1, 1, 2, 0, 1, 1, 1, 3];
+    let held = after(after(desk(P3), Leave(2)), Join(1, &[1, 1, 1]));
+    let bytes = [
+        3, 1, 0, 1, 1, 1, 2, 0, 1, 1, 1, 0, 1, 1, 1, 2, 0, 1, 1, 1, 1, 3, 1,
+    ];
     assert_eq!(held, desk(&bytes));
     // the last one too
     let held = after(after(held, Leave(3)), Join(2, &[0]));
-    let bytes = [4, 1, 0, 0, 2, 1, 1, 1, 0, 1, 1, 0, 0, 0, 1, 0, 1, 0, 1];
+    let bytes = [
+        4, 1, 0, 0, 2, 1, 1, 1, 0, 1, 1, 1, 0, 0, 0, 1, 0, 1, 0, 1, 1,
+    ];
     assert_eq!(held, desk(&bytes));
 }
 
 #[test]
 fn all_leave() {
     let held = after(
-        after(desk_with_plan(P5, &[2, 1, 1, 2, 1]), Leave(2)),
+        after(desk_with_plan(P5, &[2, 1, 1, 1, 2, 1, 1]), Leave(2)),
         Leave(1),
     );
     let bytes = [2, 0, 0, 1, 2, 0, 0, 0, 0, 0, 0, 0, 0];
@@ -130,12 +141,12 @@ fn all_leave() {
 
 #[test]
 fn the_held_plan() {
-    let both: Bytes = &[2, 1, 1, 2, 1];
+    let both: Bytes = &[2, 1, 1, 1, 2, 1, 1];
     let cases: [(Change, Bytes); 5] = [
-        (Leave(1), &[1, 2, 1]),
-        (Leave(2), &[1, 1, 1]),
-        (Join(1, &[1, 1]), both),
-        (Join(0, &[1, 1]), both),
+        (Leave(1), &[1, 2, 1, 1]),
+        (Leave(2), &[1, 1, 1, 1]),
+        (Join(1, &[1, 1, 1]), both),
+        (Join(0, &[1, 1, 1]), both),
         (Join(8, &[0]), both),
     ];
     for (change, plan) in cases {
@@ -144,8 +155,17 @@ fn the_held_plan() {
         assert_eq!(held, desk_with_plan(&bytes, plan), "{change:?}");
         assert_eq!(after(desk(P5), change), desk(&bytes), "{change:?}");
     }
+    // pairs in several shifts go and stay together
+    let two: Bytes = &[2, 1, 1, 1, 1, 1, 3];
+    let joined = Join(0, &[1, 1, 2]);
+    let bytes = bytes_after(SHIFTS, joined).expect("accepted");
+    let held = after(desk_with_plan(SHIFTS, two), joined);
+    assert_eq!(held, desk_with_plan(&bytes, two));
+    let bytes = bytes_after(SHIFTS, Leave(1)).expect("accepted");
+    let held = after(desk_with_plan(SHIFTS, two), Leave(1));
+    assert_eq!(held, desk_with_plan(&bytes, &[0]));
     // an empty plan stays held
-    let held = after(desk_with_plan(P3, &[1, 1, 1]), Leave(1));
+    let held = after(desk_with_plan(P3, &[1, 1, 1, 1]), Leave(1));
     let bytes = bytes_after(P3, Leave(1)).expect("accepted");
     assert_eq!(held, desk_with_plan(&bytes, &[0]));
 }
@@ -153,22 +173,34 @@ fn the_held_plan() {
 #[rustfmt::skip]
 const REFUSED: &[(Bytes, Change, u8)] = &[
     (P3, Join(9, &[]), 3),
-    (P3, Join(255, &[1, 1]), 3),
+    (P3, Join(255, &[1, 1, 1]), 3),
     (P3, Join(1, &[]), 1),
     (P3, Join(1, &[1]), 1),
-    (P3, Join(1, &[2, 1]), 2),
-    (P3, Join(1, &[2]), 2),
-    (P3, Join(1, &[255, 0]), 2),
-    (P1, Join(1, &[1, 1]), 2),
-    (P3, Join(1, &[1, 0]), 4),
-    (P3, Join(1, &[1, 2]), 4),
-    (P6, Join(1, &[2, 3]), 4),
-    (P6, Join(1, &[2, 0, 0]), 4),
-    (P6, Join(1, &[2, 1, 1]), 5),
-    (P6, Join(1, &[2, 2, 2, 0]), 5),
-    (P6, Join(1, &[2, 1]), 1),
-    (P6, Join(1, &[2, 1, 3, 9]), 4),
-    (P3, Join(1, &[1, 1, 7]), 9),
+    (P3, Join(1, &[1, 1]), 1),
+    (P3, Join(1, &[1, 9]), 1),
+    (P3, Join(1, &[2, 1, 1]), 1),
+    (P3, Join(1, &[32]), 1),
+    (P3, Join(1, &[33, 1, 1]), 2),
+    (P3, Join(1, &[33]), 2),
+    (P3, Join(1, &[255, 0, 1]), 2),
+    (P1, Join(1, &[1, 1, 1]), 4),
+    (P1, Join(1, &[33, 1, 1]), 2),
+    (P3, Join(1, &[1, 0, 1]), 4),
+    (P3, Join(1, &[1, 2, 1]), 4),
+    (P6, Join(1, &[2, 3, 1]), 4),
+    (P6, Join(1, &[2, 0, 1, 0, 1]), 4),
+    (P3, Join(1, &[1, 2, 4]), 4),
+    (P3, Join(1, &[1, 1, 0]), 18),
+    (P3, Join(1, &[1, 1, 4]), 18),
+    (P3, Join(1, &[2, 1, 1, 1, 255]), 18),
+    (P3, Join(1, &[2, 1, 4, 1, 1, 7]), 18),
+    (P6, Join(1, &[2, 1, 1, 1, 1]), 5),
+    (P3, Join(1, &[3, 1, 3, 1, 1, 1, 3]), 5),
+    (P3, Join(1, &[2, 1, 3, 1, 1, 7]), 9),
+    (P6, Join(1, &[2, 2, 1, 2, 1, 0]), 5),
+    (P6, Join(1, &[2, 1, 1]), 1),
+    (P6, Join(1, &[2, 1, 1, 3, 1, 9]), 4),
+    (P3, Join(1, &[1, 1, 1, 7]), 9),
     (P1, Join(1, &[0, 0]), 9),
     (P3, Leave(0), 16),
     (P3, Leave(3), 16),
@@ -189,6 +221,64 @@ fn every_refusal() {
     }
 }
 
+/// The last of all checks: what a stand's list would have then.
+#[test]
+fn a_stand_with_a_full_list() {
+    let cases: [(usize, &[u8], u8); 12] = [
+        (31, &[1, 1, 2], 0),
+        (31, &[2, 1, 2, 1, 1], 2),
+        (30, &[2, 1, 3, 1, 1], 0),
+        (30, &[3, 1, 3, 1, 1, 1, 2], 2),
+        (32, &[1, 1, 1], 2),
+        (32, &[0], 0),
+        (32, &[1, 2, 1], 0),
+        (32, &[2, 2, 1, 1, 1], 2),
+        // what is wrong with the list itself comes first
+        (32, &[2, 1, 1], 1),
+        (32, &[2, 1, 1, 1, 4], 18),
+        (32, &[2, 1, 1, 1, 1], 5),
+        (32, &[1, 1, 1, 0], 9),
+    ];
+    for (entries, list, number) in cases {
+        let held = desk(&crowded(entries));
+        assert_eq!(refused(&held, Join(1, list)), number, "{entries} {list:?}");
+    }
+    // a leaver makes room, in all the leaver's shifts
+    let held = desk(&crowded(32));
+    assert_eq!(refused(&held, Join(1, &[3, 1, 1, 1, 2, 1, 3])), 2);
+    let held = after(held, Leave(4));
+    let held = after(held, Join(1, &[3, 1, 1, 1, 2, 1, 3]));
+    assert_eq!(refused(&held, Join(1, &[1, 1, 1])), 2);
+}
+
+/// A roster with two stands, the first with so many entries: three of each
+/// surveyor, the last of whom may have fewer.
+fn crowded(entries: usize) -> Vec<u8> {
+    let all: Vec<Entry> = (0..entries)
+        .map(|place| Entry {
+            number: narrow(place / 3 + 1),
+            shift: narrow(place % 3 + 1),
+        })
+        .collect();
+    let node = |strict: Vec<Entry>| Node {
+        quota: 1,
+        list: List {
+            strict,
+            tied: Vec::new(),
+        },
+    };
+    let surveyors = all.chunks(3).map(|own| {
+        let at_stand = |entry: &Entry| Entry {
+            number: 1,
+            shift: entry.shift,
+        };
+        node(own.iter().map(at_stand).collect())
+    });
+    let surveyors = surveyors.collect();
+    let stands = vec![node(all.clone()), node(Vec::new())];
+    write(&Roster::new(surveyors, stands).expect("accepted"))
+}
+
 /// A desk with surveyors of these quotas, one stand and no pairs.
 fn crowd(quotas: &[u8]) -> Desk {
     desk(&without_pairs(quotas, &[1]))
@@ -197,15 +287,15 @@ fn crowd(quotas: &[u8]) -> Desk {
 #[test]
 fn numbers_that_are_taken() {
     let one_free = crowd(&[1; 31]);
-    assert_eq!(refused(&one_free, Join(1, &[1, 1])), 0);
-    let full = after(one_free, Join(1, &[1, 1]));
-    for list in [&[1, 1][..], &[0], &[], &[9]] {
+    assert_eq!(refused(&one_free, Join(1, &[1, 1, 1])), 0);
+    let full = after(one_free, Join(1, &[1, 1, 1]));
+    for list in [&[1, 1, 1][..], &[0], &[], &[9]] {
         assert_eq!(refused(&full, Join(0, list)), 17, "{list:?}");
         assert_eq!(refused(&full, Join(9, list)), 3, "{list:?}");
     }
     // leavers' numbers stay taken
     let fewer = after(after(full, Leave(32)), Leave(1));
-    assert_eq!(refused(&fewer, Join(1, &[1, 1])), 17);
+    assert_eq!(refused(&fewer, Join(1, &[1, 1, 1])), 17);
     let gone = (1..=32).fold(fewer, |desk, number| after(desk, Leave(number)));
     assert_eq!(refused(&gone, Join(0, &[0])), 17);
 }
@@ -218,13 +308,13 @@ fn sums_of_quotas() {
     assert_eq!(refused(&eights, Join(0, &[0])), 0);
     assert_eq!(refused(&eights, Join(0, &[])), 1);
     let some = crowd(&[8, 8, 8, 8, 8, 8, 8, 3]);
-    assert_eq!(refused(&some, Join(5, &[1, 1])), 0);
-    assert_eq!(refused(&some, Join(6, &[1, 1])), 17);
+    assert_eq!(refused(&some, Join(5, &[1, 1, 1])), 0);
+    assert_eq!(refused(&some, Join(6, &[1, 1, 1])), 17);
     // a leaver's quota is free again, the number is not
     let fewer = after(eights, Leave(3));
-    assert_eq!(refused(&fewer, Join(8, &[1, 1])), 0);
-    let full = after(fewer, Join(8, &[1, 1]));
-    assert_eq!(refused(&full, Join(1, &[1, 1])), 17);
+    assert_eq!(refused(&fewer, Join(8, &[1, 1, 1])), 0);
+    let full = after(fewer, Join(8, &[1, 1, 1]));
+    assert_eq!(refused(&full, Join(1, &[1, 1, 1])), 17);
     // the stands' quotas are not counted
     let stands = desk(&without_pairs(&[], &[8; 8]));
     assert_eq!(refused(&stands, Join(8, &[0])), 0);
@@ -232,7 +322,7 @@ fn sums_of_quotas() {
 
 #[test]
 fn the_state_comes_first() {
-    let changes = [Join(9, &[]), Join(1, &[1, 1]), Leave(0), Leave(1)];
+    let changes = [Join(9, &[]), Join(1, &[1, 1, 1]), Leave(0), Leave(1)];
     for change in changes {
         let (_, answer) = made(Desk::default(), change, &mut Buffers::new([0; 4]));
         assert_eq!(answer, Err(Refusal::NoRosterLoaded), "{change:?}");
@@ -254,7 +344,7 @@ fn the_longest_roster_is_joined() {
     let mut shape = random::longest_shape(50, 20);
     shape.counts[0] = 31..=31;
     let shorter = random::roster(&mut random, &shape);
-    let list: Vec<u8> = std::iter::once(32).chain(1..=32).collect();
+    let list = random::fitting_list(&mut random, &shorter, 100);
     let longest = join(&shorter, 2, &list).expect("accepted");
     let bytes = write(&longest);
     assert_eq!(

@@ -13,6 +13,8 @@ use reference::tables::{Contest, Tables};
 #[derive(Debug, Default)]
 struct Tally {
     rosters: u64,
+    /// Rosters in which a surveyor and a stand are a pair in several shifts.
+    parallel: u64,
     /// How often each rule acted, rule 1 at index 0.
     acts: [u64; 7],
     /// How often a strong plan was found with at least one act of each rule.
@@ -28,6 +30,7 @@ impl Tally {
     fn check(&mut self, tables: &mut Tables, roster: &Roster) {
         let outcome = reduce(roster);
         self.rosters += 1;
+        self.parallel += u64::from(roster.has_parallel_pairs());
         for step in &outcome.diary {
             self.acts[usize::from(step.rule) - 1] += 1;
         }
@@ -77,7 +80,10 @@ impl Tally {
     }
 
     fn print(&self, heading: &str) {
-        println!("{heading}: {} rosters", self.rosters);
+        println!(
+            "{heading}: {} rosters, {} of them with parallel pairs",
+            self.rosters, self.parallel
+        );
         println!("  acts of rules 1 to 7: {:?}", self.acts);
         println!("  strong plans after such acts: {:?}", self.strong_after);
         println!(
@@ -133,7 +139,7 @@ fn random_rosters() {
     let mut tables = Tables::default();
     for (seed, shape) in (1..).zip(random::small_shapes()) {
         let mut random = Random::new(seed);
-        for _ in 0..60_000 {
+        for _ in 0..32_000 {
             all.check(&mut tables, &random::roster(&mut random, &shape));
         }
     }
@@ -142,15 +148,42 @@ fn random_rosters() {
     all.assert_at_least(5_000, 500, 5_000);
 }
 
+/// Rosters in which some surveyor and some stand are a pair in several shifts,
+/// and no others: every rule acts and every ending comes on these alone.
+#[test]
+fn random_rosters_with_parallel_pairs() {
+    let mut all = Tally::default();
+    let mut tables = Tables::default();
+    let shapes = random::small_shapes();
+    let several_shifts = shapes.iter().filter(|shape| shape.shifts > 1);
+    for (seed, shape) in (31..).zip(several_shifts) {
+        let mut random = Random::new(seed);
+        let mut checked = 0;
+        while checked < 90_000 {
+            let roster = random::roster(&mut random, shape);
+            if roster.has_parallel_pairs() {
+                all.check(&mut tables, &roster);
+                checked += 1;
+            }
+        }
+    }
+    all.print("random rosters with parallel pairs");
+    assert_eq!(all.parallel, all.rosters);
+    assert!(all.parallel >= 500_000);
+    all.assert_at_least(5_000, 500, 5_000);
+}
+
 #[test]
 fn every_small_roster() {
     let mut all = Tally::default();
     let mut tables = Tables::default();
-    for (counts, quotas, rosters) in every::SMALL {
+    for size in &every::SMALL {
         let before = all.rosters;
-        every::for_each_roster(counts, quotas, |roster| all.check(&mut tables, roster));
-        assert_eq!(all.rosters - before, rosters, "{counts:?}");
+        every::for_each_roster(size, |roster| all.check(&mut tables, roster));
+        let number = all.rosters - before;
+        assert_eq!(number, size.rosters, "{:?} {}", size.counts, size.shifts);
     }
     all.print("every small roster");
+    assert!(all.parallel >= 500_000, "{all:?}");
     all.assert_at_least(2_000, 500, 4_000);
 }

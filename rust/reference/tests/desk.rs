@@ -5,7 +5,7 @@
 mod common;
 mod lent;
 
-use common::{desk, desk_with_plan, P10, P3, P4, P6};
+use common::{desk, desk_with_plan, P10, P3, P4, P6, SHIFTS, SHIFTS_CROSSED};
 use lent::{record, Buffers, JUNK, SIZES};
 use reference::compare::File;
 use reference::desk::{Desk, Found, Judged, NoneKind};
@@ -41,7 +41,7 @@ fn no_plan_is_14_before_15() {
 #[test]
 fn buffers_below_their_size_are_15() {
     let refused = Some(Refusal::BufferTooSmall);
-    let held = desk_with_plan(P4, &[1, 1, 1]);
+    let held = desk_with_plan(P4, &[1, 1, 1, 1]);
     let mut short = [JUNK; MAX_ROSTER_BYTES - 1];
     assert_eq!(held.clone().write_roster(&mut short).1.err(), refused);
     let short_plan = &mut short[..MAX_PLAN_BYTES - 1];
@@ -59,23 +59,23 @@ fn buffers_below_their_size_are_15() {
 
 #[test]
 fn loading_a_roster_drops_the_plan() {
-    let held = desk_with_plan(P3, &[1, 1, 1]);
+    let held = desk_with_plan(P3, &[1, 1, 1, 1]);
     let (held, answer) = held.load_roster(&[1, 9]);
     assert_eq!(answer, Err(Refusal::QuotaAboveLimit));
-    assert_eq!(held, desk_with_plan(P3, &[1, 1, 1]));
+    assert_eq!(held, desk_with_plan(P3, &[1, 1, 1, 1]));
     let (held, answer) = held.load_roster(P3);
     assert_eq!((held, answer), (desk(P3), Ok(())));
 }
 
 #[test]
 fn a_plan_is_judged_against_the_held_roster() {
-    let (held, answer) = desk(P4).load_plan(&[1, 2, 1]);
+    let (held, answer) = desk(P4).load_plan(&[1, 2, 1, 1]);
     assert_eq!(answer, Ok(()));
-    let (held, answer) = held.load_plan(&[1, 1, 2]);
+    let (held, answer) = held.load_plan(&[1, 1, 2, 1]);
     assert_eq!(answer, Err(Refusal::PairNotInRoster));
     let mut out = [JUNK; MAX_PLAN_BYTES];
     let (held, answer) = held.write_plan(&mut out);
-    assert_eq!((answer, &out[..4]), (Ok(3), &[1, 2, 1, JUNK][..]));
+    assert_eq!((answer, &out[..5]), (Ok(4), &[1, 2, 1, 1, JUNK][..]));
     let mut out = [JUNK; MAX_ROSTER_BYTES];
     let (_, answer) = held.write_roster(&mut out);
     assert_eq!(answer, Ok(P4.len()));
@@ -89,9 +89,9 @@ fn the_finder_writes_each_ending() {
     let (held, found) = desk(P3).find(buffers.lend());
     assert_eq!((held, found), (desk(P3), Ok(Found::Plan { steps: 2 })));
     buffers.hold(
-        &[record(1, 1, 1, 1), record(2, 2, 1, 2)],
+        &[record(1, 1, 1, 1, 1), record(2, 2, 1, 1, 2)],
         &[],
-        &[1, 1, 1],
+        &[1, 1, 1, 1],
         &[],
     );
 
@@ -99,26 +99,27 @@ fn the_finder_writes_each_ending() {
     let (_, found) = desk(P6).find(buffers.lend());
     let kind = NoneKind::Left(4);
     assert_eq!(found, Ok(Found::None { steps: 0, kind }));
-    buffers.hold(&[], &[1, 1, 1, 2, 2, 1, 2, 2], &[], &[]);
+    let left = [1, 1, 1, 1, 2, 1, 2, 1, 1, 2, 2, 1];
+    buffers.hold(&[], &left, &[], &[]);
 
     let mut buffers = Buffers::new(SIZES.map(|size| size + 3));
     let (_, found) = desk(P4).find(buffers.lend());
     let kind = NoneKind::Rivalled(0);
     assert_eq!(found, Ok(Found::None { steps: 2, kind }));
-    let steps = [record(1, 1, 1, 6), record(2, 2, 1, 2)];
-    buffers.hold(&steps, &[], &[1, 1, 1], &[1, 2, 1]);
+    let steps = [record(1, 1, 1, 1, 6), record(2, 2, 1, 1, 2)];
+    buffers.hold(&steps, &[], &[1, 1, 1, 1], &[1, 2, 1, 1]);
 }
 
 #[test]
 fn verdicts_and_rivals() {
     let mut rival = [JUNK; MAX_PLAN_BYTES];
-    let (_, judged) = desk_with_plan(P10, &[2, 1, 2, 2, 1]).judge(&mut rival);
+    let (_, judged) = desk_with_plan(P10, &[2, 1, 2, 1, 2, 1, 1]).judge(&mut rival);
     assert_eq!(judged, Ok(Judged::Strong));
     assert!(rival.iter().all(|&byte| byte == JUNK));
-    let (_, judged) = desk_with_plan(P4, &[1, 1, 1]).judge(&mut rival);
+    let (_, judged) = desk_with_plan(P4, &[1, 1, 1, 1]).judge(&mut rival);
     assert_eq!(
-        (judged, &rival[..4]),
-        (Ok(Judged::Popular(0)), &[1, 2, 1, JUNK][..])
+        (judged, &rival[..5]),
+        (Ok(Judged::Popular(0)), &[1, 2, 1, 1, JUNK][..])
     );
     let (_, judged) = desk_with_plan(P3, &[0]).judge(&mut rival);
     assert_eq!((judged, rival[0]), (Ok(Judged::Beaten(-2)), 1));
@@ -126,7 +127,7 @@ fn verdicts_and_rivals() {
 
 #[test]
 fn comparison_and_blocking() {
-    let (held, compared) = desk(P3).compare(&[1, 2, 1], &[1, 1, 1]);
+    let (held, compared) = desk(P3).compare(&[1, 2, 1, 1], &[1, 1, 1, 1]);
     let votes = compared.outcome.expect("accepted");
     assert_eq!(
         (votes.first_against_second, votes.second_against_first),
@@ -134,17 +135,50 @@ fn comparison_and_blocking() {
     );
     assert_eq!(
         (compared.part.file, compared.part.range),
-        (File::Second, 1..3)
+        (File::Second, 1..4)
     );
     assert_eq!(held, desk(P3));
-    let (_, blocking) = desk_with_plan(P3, &[1, 2, 1]).blocking();
+    let (_, blocking) = desk_with_plan(P3, &[1, 2, 1, 1]).blocking();
     assert_eq!(
         blocking,
         Ok(Some(Pair {
             surveyor: 1,
-            stand: 1
+            stand: 1,
+            shift: 1
         }))
     );
-    let (_, blocking) = desk_with_plan(P3, &[1, 1, 1]).blocking();
+    let (_, blocking) = desk_with_plan(P3, &[1, 1, 1, 1]).blocking();
     assert_eq!(blocking, Ok(None));
+}
+
+#[test]
+fn shifts_are_written() {
+    let mut buffers = Buffers::new(SIZES);
+    let (_, found) = desk(SHIFTS).find(buffers.lend());
+    assert_eq!(found, Ok(Found::Plan { steps: 2 }));
+    let steps = [record(1, 1, 1, 1, 1), record(1, 1, 1, 3, 3)];
+    buffers.hold(&steps, &[], &[2, 1, 1, 1, 1, 1, 3], &[]);
+
+    let mut buffers = Buffers::new(SIZES);
+    let (_, found) = desk(SHIFTS_CROSSED).find(buffers.lend());
+    let kind = NoneKind::Left(2);
+    assert_eq!(found, Ok(Found::None { steps: 0, kind }));
+    buffers.hold(&[], &[1, 1, 1, 1, 1, 3], &[], &[]);
+
+    let mut rival = [JUNK; MAX_PLAN_BYTES];
+    let held = desk_with_plan(SHIFTS_CROSSED, &[1, 1, 1, 1]);
+    let (held, judged) = held.judge(&mut rival);
+    assert_eq!(
+        (judged, &rival[..5]),
+        (Ok(Judged::Popular(0)), &[1, 1, 1, 3, JUNK][..])
+    );
+    let (_, blocking) = held.blocking();
+    assert_eq!(blocking, Ok(None));
+    let (_, blocking) = desk_with_plan(SHIFTS, &[1, 1, 1, 1]).blocking();
+    let other = Pair {
+        surveyor: 1,
+        stand: 1,
+        shift: 3,
+    };
+    assert_eq!(blocking, Ok(Some(other)));
 }

@@ -1,24 +1,34 @@
-//! The fast reading against the plain one: files byte for byte, votes against
-//! trying all pairings.
+//! The fast reading against the plain one, on rosters with one shift and with
+//! several: files byte for byte, votes against trying all pairings.
 
 mod common;
 
+use reference::blocking;
 use reference::fast;
+use reference::limits::MAX_PLAN_BYTES;
 use reference::plan::{self, Plan};
 use reference::plans;
 use reference::random::{self, Random, Shape};
 use reference::reduction;
-use reference::roster::{self, Roster};
+use reference::roster::{self, Pair, Roster, SIDES};
 use reference::votes;
 
-fn shape(nodes: u8, quota: u8) -> Shape {
+/// A shape with one shift or several, and about as many pairs either way.
+fn shape(random: &mut Random, nodes: u8, quota: u8) -> Shape {
+    let shifts = random.within(&(1..=3));
     Shape {
         counts: [1..=nodes, 1..=nodes],
         quotas: [0..=quota, 0..=quota],
-        pairs: 70,
+        shifts,
+        pairs: 70 / shifts,
         ties: 50,
         opposed: 30,
     }
+}
+
+fn some_roster(random: &mut Random, nodes: u8, quota: u8) -> Roster {
+    let shape = shape(random, nodes, quota);
+    random::roster(random, &shape)
 }
 
 /// The fast reading's refusal of a roster, 0 if it is accepted.
@@ -44,9 +54,9 @@ fn damage(random: &mut Random, file: &mut Vec<u8>) {
 #[test]
 fn rosters_are_read_alike() {
     let mut random = Random::new(41);
-    let mut met = [0usize; 13];
+    let mut met = [0usize; 19];
     for _ in 0..200_000 {
-        let mut file = roster::write(&random::roster(&mut random, &shape(5, 8)));
+        let mut file = roster::write(&some_roster(&mut random, 5, 8));
         if random.chance(85) {
             damage(&mut random, &mut file);
         }
@@ -55,33 +65,32 @@ fn rosters_are_read_alike() {
         met[usize::from(plain)] += 1;
     }
     println!("accepted and refusals met: {met:?}");
-    assert!(met[..10].iter().all(|&count| count > 100));
+    for number in (0..=9).chain([18]) {
+        assert!(met[number] > 100, "{number}");
+    }
+}
+
+fn numbers(pair: Pair) -> (u8, u8, u8) {
+    (pair.surveyor, pair.stand, pair.shift)
 }
 
 #[test]
 fn instances_show_the_pairs() {
     let mut random = Random::new(42);
     for _ in 0..20_000 {
-        let roster = random::roster(&mut random, &shape(6, 3));
+        let roster = some_roster(&mut random, 6, 3);
         let instance = fast::roster::read(&roster::write(&roster)).expect("accepted");
         assert_eq!(instance.pairs, roster.pairs().len());
         for (place, pair) in roster.pairs().iter().enumerate() {
-            let ends = (instance.surveyor[place] + 1, instance.stand[place] + 1);
-            assert_eq!(ends, (pair.surveyor, pair.stand));
-            let stand = roster.node(roster::Side::Stands, pair.stand);
-            let surveyor = roster.node(roster::Side::Surveyors, pair.surveyor);
+            assert_eq!(instance.numbers(place as u16), numbers(*pair));
+            let [surveyor, stand] = SIDES.map(|side| &roster.node(side, pair.end(side)).list);
+            let [at_surveyor, at_stand] = SIDES.map(|side| pair.entry(side));
             assert_eq!(
                 instance.rank_s[place],
-                votes::rank(&surveyor.list, Some(pair.stand))
+                votes::rank(surveyor, Some(at_surveyor))
             );
-            assert_eq!(
-                instance.rank_t[place],
-                votes::rank(&stand.list, Some(pair.surveyor))
-            );
-            assert_eq!(
-                instance.tied[place],
-                stand.list.tied.contains(&pair.surveyor)
-            );
+            assert_eq!(instance.rank_t[place], votes::rank(stand, Some(at_stand)));
+            assert_eq!(instance.tied[place], stand.tied.contains(&at_stand));
         }
     }
 }
@@ -91,7 +100,7 @@ fn plans_are_read_and_written_alike() {
     let mut random = Random::new(43);
     let mut met = [0usize; 13];
     for _ in 0..200_000 {
-        let roster = random::roster(&mut random, &shape(5, 2));
+        let roster = some_roster(&mut random, 5, 2);
         let instance = fast::roster::read(&roster::write(&roster)).expect("accepted");
         let mut file = plan::write(&roster, &random::plan(&mut random, &roster, 80));
         if random.chance(85) {
@@ -104,7 +113,7 @@ fn plans_are_read_and_written_alike() {
             (Ok(plan), Ok(chosen)) => {
                 let pairs = chosen.as_slice().iter().map(|&pair| usize::from(pair));
                 assert_eq!(pairs.collect::<Plan>(), plan);
-                let mut out = [77; 129];
+                let mut out = [77; MAX_PLAN_BYTES];
                 let length = fast::plan::write(&instance, &chosen, &mut out);
                 assert_eq!(out[..length], file);
                 met[0] += 1;
@@ -130,7 +139,7 @@ fn votes_are_those_of_all_pairings() {
     let mut random = Random::new(44);
     let mut less = 0;
     for _ in 0..60_000 {
-        let roster = random::roster(&mut random, &shape(6, 5));
+        let roster = some_roster(&mut random, 6, 5);
         let instance = fast::roster::read(&roster::write(&roster)).expect("accepted");
         let [mine, theirs] = [(); 2].map(|()| random::plan(&mut random, &roster, 90));
         let [fast_mine, fast_theirs] = [&mine, &theirs].map(|plan| chosen(&roster, plan));
@@ -145,14 +154,33 @@ fn votes_are_those_of_all_pairings() {
 }
 
 #[test]
+fn blocking_pairs_are_the_first() {
+    let mut random = Random::new(48);
+    let mut met = [0usize; 2];
+    for _ in 0..60_000 {
+        let roster = some_roster(&mut random, 5, 3);
+        let instance = fast::roster::read(&roster::write(&roster)).expect("accepted");
+        let plan = random::plan(&mut random, &roster, 85);
+        let fast = fast::blocking::first(&instance, &chosen(&roster, &plan));
+        let plain = blocking::first_blocking_pair(&roster, &plan);
+        assert_eq!(fast, plain.map(numbers), "{:?}", roster::write(&roster));
+        met[usize::from(fast.is_some())] += 1;
+    }
+    println!("no pair blocks, one does: {met:?}");
+    assert!(met.iter().all(|&count| count > 1_000));
+}
+
+#[test]
 fn steps_are_those_of_the_rules() {
     let mut random = Random::new(45);
     let mut rules = [0usize; 8];
     for turn in 0..60_000 {
+        let shifts = random.within(&(1..=3));
         let shape = Shape {
             counts: [3..=6, 2..=if turn % 3 == 0 { 7 } else { 4 }],
             quotas: [1..=2, 1..=3],
-            pairs: 90,
+            shifts,
+            pairs: 90 / shifts,
             ties: 70,
             opposed: 95,
         };
@@ -162,11 +190,8 @@ fn steps_are_those_of_the_rules() {
         let fast = fast::reduction::reduce(&instance);
         assert_eq!(fast.steps.len(), plain.diary.len());
         for (step, record) in fast.steps.iter().zip(&plain.diary) {
-            let pair = roster.pairs()[record.pair];
-            assert_eq!(
-                (step.surveyor + 1, step.stand + 1),
-                (pair.surveyor, pair.stand)
-            );
+            assert_eq!(usize::from(step.pair), record.pair);
+            assert_eq!(step.fixed, record.fate == reduction::Fate::Fix);
             assert_eq!(step.rule, record.rule);
             rules[usize::from(step.rule)] += 1;
         }
@@ -201,8 +226,8 @@ fn verdicts_are_those_of_all_votes() {
     let mut met = [0usize; 3];
     for turn in 0..30_000 {
         let quota = if turn % 2 == 0 { 1 } else { 3 };
-        let mut shape = shape(if turn % 2 == 0 { 5 } else { 4 }, quota);
-        shape.pairs = 55;
+        let mut shape = shape(&mut random, if turn % 2 == 0 { 5 } else { 4 }, quota);
+        shape.pairs = 55 / shape.shifts;
         let roster = random::roster(&mut random, &shape);
         if roster.pairs().len() > 10 {
             continue;
@@ -234,12 +259,14 @@ fn verdicts_on_long_walks() {
     let mut random = Random::new(47);
     let mut met = [0usize; 3];
     for _ in 0..20_000 {
+        let shifts = random.within(&(1..=3));
         let roster = random::roster(
             &mut random,
             &Shape {
                 counts: [6..=12, 6..=12],
                 quotas: [1..=3, 1..=3],
-                pairs: 60,
+                shifts,
+                pairs: 60 / shifts,
                 ties: 60,
                 opposed: 60,
             },

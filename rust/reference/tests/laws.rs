@@ -9,22 +9,25 @@ use reference::blocking::blocking_pairs;
 use reference::plan::Plan;
 use reference::plans::{all_plans, strongly_popular, verdict, Verdict};
 use reference::random::{self, Random, Shape};
-use reference::roster::{write, Roster, SIDES};
+use reference::roster::{write, Entry, Roster, SIDES};
 use reference::tables::Tables;
 use reference::votes::{least_sum, plan_vote};
 
-/// Calls `check` with random small rosters that have a few dozen plans.
+/// Calls `check` with random small rosters that have a few dozen plans: one half
+/// with one shift, the other with three.
 fn on_random_rosters(seed: u64, count: usize, mut check: impl FnMut(&Roster)) {
-    let shape = Shape {
-        counts: [1..=3, 1..=3],
+    let shape = |nodes, shifts, pairs| Shape {
+        counts: [1..=nodes, 1..=nodes],
         quotas: [0..=3, 0..=3],
-        pairs: 70,
+        shifts,
+        pairs,
         ties: 60,
         opposed: 50,
     };
+    let shapes = [shape(3, 1, 70), shape(2, 3, 50)];
     let mut random = Random::new(seed);
-    for _ in 0..count {
-        check(&random::roster(&mut random, &shape));
+    for turn in 0..count {
+        check(&random::roster(&mut random, &shapes[turn % 2]));
     }
 }
 
@@ -35,8 +38,8 @@ fn a_valid_pairing_exists_and_a_node_votes_within_its_quota() {
         let plans = all_plans(roster);
         for side in SIDES {
             for (number, node) in (1..).zip(roster.nodes(side)) {
-                let partners = |plan: &Plan| plan.partners(roster, side, number);
-                let shares: HashSet<Vec<u8>> = plans.iter().map(partners).collect();
+                let share = |plan: &Plan| plan.entries(roster, side, number);
+                let shares: HashSet<Vec<Entry>> = plans.iter().map(share).collect();
                 for mine in &shares {
                     for theirs in &shares {
                         let vote = least_sum(node, mine, theirs).expect("a valid pairing");
@@ -131,7 +134,9 @@ fn a_strong_plan_is_alone_and_has_no_blocking_pair() {
 #[test]
 fn the_only_plan_is_strong() {
     // Every surveyor has quota 0, so the empty plan is the only one.
-    let roster = roster(&[2, 0, 0, 1, 8, 2, 0, 1, 1, 1, 1, 2, 0, 0, 2, 1, 2]);
+    let roster = roster(&[
+        2, 0, 0, 1, 8, 2, 0, 1, 1, 1, 1, 1, 1, 2, 0, 0, 2, 1, 1, 2, 1,
+    ]);
     assert_eq!(all_plans(&roster), [Plan::default()]);
     assert_eq!(strongly_popular(&roster), [Plan::default()]);
 }

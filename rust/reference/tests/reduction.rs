@@ -7,8 +7,8 @@ use common::{roster, Bytes, Pairs};
 use reference::reduction::{reduce, Fate, State, Step};
 use reference::roster::Side;
 
-/// A record of the diary: fate, surveyor, stand, rule.
-type Record = (Fate, u8, u8, u8);
+/// A record of the diary: fate, surveyor, stand, shift, rule.
+type Record = (Fate, u8, u8, u8, u8);
 
 /// A roster, its diary and the pairs left.
 struct Case {
@@ -19,7 +19,7 @@ struct Case {
 }
 
 /// The four pairs of two surveyors and two stands.
-const ALL_FOUR: Pairs = &[(1, 1), (1, 2), (2, 1), (2, 2)];
+const ALL_FOUR: Pairs = &[(1, 1, 1), (1, 2, 1), (2, 1, 1), (2, 2, 1)];
 
 const CASES: [Case; 6] = [
     // Stand 2 would rather have 1 and stand 1 rather 2, as in P6; surveyor 1
@@ -27,9 +27,10 @@ const CASES: [Case; 6] = [
     Case {
         name: "rule 2 at a surveyor",
         file: &[
-            2, 1, 1, 3, 1, 1, 1, 5, 0, 3, 1, 2, 3, 2, 2, 1, 5, 0, 2, 0, 2, 1, 2, 0, 1, 2, 1, 0, 1,
+            2, 1, 1, 3, 1, 1, 1, 5, 0, 3, 1, 1, 2, 1, 3, 1, 2, 2, 1, 1, 1, 5, 0, 2, 0, 2, 1, 1, 1,
+            2, 0, 1, 1, 2, 1, 1, 0, 1, 1,
         ],
-        diary: &[(Fate::Strike, 1, 3, 2)],
+        diary: &[(Fate::Strike, 1, 3, 1, 2)],
         left: ALL_FOUR,
     },
     // P6 with a surveyor 3 whom stand 1 likes least. Surveyor 1's arrow
@@ -37,23 +38,25 @@ const CASES: [Case; 6] = [
     Case {
         name: "rule 2 at a stand",
         file: &[
-            3, 1, 1, 1, 2, 1, 1, 5, 0, 2, 1, 2, 2, 2, 1, 1, 1, 5, 0, 3, 0, 2, 1, 3, 2, 0, 1, 2,
+            3, 1, 1, 1, 2, 1, 1, 5, 0, 2, 1, 1, 2, 1, 2, 2, 1, 1, 1, 1, 1, 1, 5, 0, 3, 0, 2, 1, 1,
+            1, 3, 1, 2, 0, 1, 1, 2, 1,
         ],
-        diary: &[(Fate::Strike, 3, 1, 2)],
+        diary: &[(Fate::Strike, 3, 1, 1, 2)],
         left: ALL_FOUR,
     },
     // The same with surveyors 1 and 3 tied: neither is strictly better.
     Case {
         name: "rule 2 does not strike a tied pair",
         file: &[
-            3, 1, 1, 1, 2, 1, 1, 5, 0, 2, 1, 2, 2, 2, 1, 1, 1, 5, 0, 1, 2, 2, 1, 3, 2, 0, 1, 2,
+            3, 1, 1, 1, 2, 1, 1, 5, 0, 2, 1, 1, 2, 1, 2, 2, 1, 1, 1, 1, 1, 1, 5, 0, 1, 2, 2, 1, 1,
+            1, 3, 1, 2, 0, 1, 1, 2, 1,
         ],
         diary: &[
-            (Fate::Fix, 3, 1, 6),
-            (Fate::Strike, 1, 1, 2),
-            (Fate::Fix, 1, 2, 1),
-            (Fate::Strike, 2, 1, 2),
-            (Fate::Strike, 2, 2, 2),
+            (Fate::Fix, 3, 1, 1, 6),
+            (Fate::Strike, 1, 1, 1, 2),
+            (Fate::Fix, 1, 2, 1, 1),
+            (Fate::Strike, 2, 1, 1, 2),
+            (Fate::Strike, 2, 2, 1, 2),
         ],
         left: &[],
     },
@@ -63,13 +66,14 @@ const CASES: [Case; 6] = [
     Case {
         name: "rule 4 with a loose stand",
         file: &[
-            2, 1, 1, 3, 2, 1, 1, 4, 0, 1, 3, 3, 3, 2, 1, 4, 0, 1, 0, 2, 0, 1, 2, 0, 2, 1, 2,
+            2, 1, 1, 3, 2, 1, 1, 4, 0, 1, 3, 1, 3, 3, 1, 2, 1, 1, 1, 4, 0, 1, 0, 2, 1, 0, 1, 2, 1,
+            0, 2, 1, 1, 2, 1,
         ],
         diary: &[
-            (Fate::Strike, 2, 1, 4),
-            (Fate::Fix, 1, 3, 6),
-            (Fate::Strike, 2, 3, 2),
-            (Fate::Fix, 2, 2, 3),
+            (Fate::Strike, 2, 1, 1, 4),
+            (Fate::Fix, 1, 3, 1, 6),
+            (Fate::Strike, 2, 3, 1, 2),
+            (Fate::Fix, 2, 2, 1, 3),
         ],
         left: &[],
     },
@@ -78,13 +82,14 @@ const CASES: [Case; 6] = [
     Case {
         name: "rule 5",
         file: &[
-            2, 1, 1, 2, 1, 1, 4, 0, 2, 2, 1, 2, 2, 1, 4, 0, 2, 0, 1, 2, 0, 2, 1, 2,
+            2, 1, 1, 2, 1, 1, 4, 0, 2, 2, 1, 1, 1, 2, 2, 1, 1, 1, 4, 0, 2, 0, 1, 1, 2, 1, 0, 2, 1,
+            1, 2, 1,
         ],
         diary: &[
-            (Fate::Strike, 2, 1, 5),
-            (Fate::Fix, 2, 2, 6),
-            (Fate::Strike, 1, 2, 2),
-            (Fate::Fix, 1, 1, 1),
+            (Fate::Strike, 2, 1, 1, 5),
+            (Fate::Fix, 2, 2, 1, 6),
+            (Fate::Strike, 1, 2, 1, 2),
+            (Fate::Fix, 1, 1, 1, 1),
         ],
         left: &[],
     },
@@ -93,10 +98,10 @@ const CASES: [Case; 6] = [
     Case {
         name: "rule 7, then pairs are left",
         file: &[
-            3, 1, 1, 1, 2, 1, 2, 6, 0, 2, 1, 2, 2, 2, 1, 2, 1, 2, 6, 0, 1, 2, 2, 1, 3, 2, 1, 3, 1,
-            2,
+            3, 1, 1, 1, 2, 1, 2, 6, 0, 2, 1, 1, 2, 1, 2, 2, 1, 1, 1, 2, 1, 1, 2, 1, 6, 0, 1, 2, 2,
+            1, 1, 1, 3, 1, 2, 1, 3, 1, 1, 1, 2, 1,
         ],
-        diary: &[(Fate::Fix, 3, 2, 7), (Fate::Strike, 3, 1, 2)],
+        diary: &[(Fate::Fix, 3, 2, 1, 7), (Fate::Strike, 3, 1, 1, 2)],
         left: ALL_FOUR,
     },
 ];
@@ -108,15 +113,15 @@ fn diaries_worked_out_by_hand() {
         let outcome = reduce(&roster);
         let ends = |pair: usize| {
             let pair = roster.pairs()[pair];
-            (pair.surveyor, pair.stand)
+            (pair.surveyor, pair.stand, pair.shift)
         };
-        let diary: Vec<Record> = outcome
-            .diary
-            .iter()
-            .map(|step| (step.fate, ends(step.pair).0, ends(step.pair).1, step.rule))
-            .collect();
+        let record = |step: &Step| {
+            let (surveyor, stand, shift) = ends(step.pair);
+            (step.fate, surveyor, stand, shift, step.rule)
+        };
+        let diary: Vec<Record> = outcome.diary.iter().map(record).collect();
         assert_eq!(diary, case.diary, "{}", case.name);
-        let left: Vec<(u8, u8)> = outcome.left.iter().map(|&pair| ends(pair)).collect();
+        let left: Vec<(u8, u8, u8)> = outcome.left.iter().map(|&pair| ends(pair)).collect();
         assert_eq!(left, case.left, "{}", case.name);
     }
 }
@@ -128,7 +133,9 @@ fn diaries_worked_out_by_hand() {
 fn quotas_are_cut_before_each_step() {
     // Surveyors 1 and 2 of quota 3 and 1 have stand 1 of quota 8, which ties
     // them.
-    let roster = roster(&[2, 3, 1, 1, 8, 2, 0, 1, 1, 1, 1, 2, 0, 0, 2, 1, 2]);
+    let roster = roster(&[
+        2, 3, 1, 1, 8, 2, 0, 1, 1, 1, 1, 1, 1, 2, 0, 0, 2, 1, 1, 2, 1,
+    ]);
     let mut state = State::new(&roster);
     let quotas = |state: &mut State| {
         let state = state.picture().state;

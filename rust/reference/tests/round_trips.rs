@@ -6,18 +6,20 @@ use reference::refusal::Refusal;
 use reference::roster::{read, write, Roster};
 
 /// Shapes from small to as wide as the limits allow.
-fn shapes() -> [Shape; 3] {
-    let shape = |counts, quotas, pairs| Shape {
+fn shapes() -> [Shape; 4] {
+    let shape = |counts, quotas, shifts, pairs| Shape {
         counts,
         quotas,
+        shifts,
         pairs,
         ties: 70,
         opposed: 20,
     };
     [
-        shape([0..=3, 0..=3], [0..=8, 0..=8], 70),
-        shape([4..=8, 4..=8], [0..=8, 0..=8], 50),
-        shape([20..=32, 20..=32], [0..=2, 0..=2], 80),
+        shape([0..=3, 0..=3], [0..=8, 0..=8], 3, 40),
+        shape([4..=8, 4..=8], [0..=8, 0..=8], 3, 40),
+        shape([20..=32, 20..=32], [0..=2, 0..=2], 1, 80),
+        shape([20..=32, 20..=32], [0..=2, 0..=2], 3, 40),
     ]
 }
 
@@ -41,7 +43,7 @@ fn plans_are_written_back() {
             let roster = random::roster(&mut random, &shape);
             let plan = random::plan(&mut random, &roster, 80);
             let file = plan::write(&roster, &plan);
-            assert_eq!(file.len(), 1 + 2 * plan.indices().len());
+            assert_eq!(file.len(), 1 + 3 * plan.indices().len());
             assert_eq!(plan::read(&roster, &file), Ok(plan), "{file:?}");
         }
     }
@@ -51,10 +53,12 @@ fn plans_are_written_back() {
 fn damage(random: &mut Random, file: &mut Vec<u8>) {
     let at = random.below(file.len());
     let byte = random.within(&(0..=9));
+    let limit = random.within(&(31..=34));
     match random.below(8) {
         0 => file.truncate(file.len() - 1),
         1 => file.push(byte),
         2..=4 if at > 0 => file.swap(at - 1, at),
+        5 => file[at] = limit,
         _ => file[at] = byte,
     }
 }
@@ -65,9 +69,9 @@ fn damaged(
     seed: u64,
     file: impl Fn(&mut Random, &Roster) -> Vec<u8>,
     rewritten: impl Fn(&Roster, &[u8]) -> Result<Vec<u8>, Refusal>,
-) -> [usize; 13] {
+) -> [usize; 19] {
     let mut random = Random::new(seed);
-    let mut seen = [0; 13];
+    let mut seen = [0; 19];
     for _ in 0..100_000 {
         let roster = random::roster(&mut random, &shapes()[0]);
         let mut file = file(&mut random, &roster);
@@ -91,7 +95,9 @@ fn damaged_rosters_are_refused_or_written_back() {
         |_, file| read(file).map(|roster| write(&roster)),
     );
     println!("damaged rosters: {seen:?}");
-    assert!(seen[..=9].iter().all(|&count| count > 100), "{seen:?}");
+    for number in (0..=9).chain([18]) {
+        assert!(seen[number] > 100, "{number}: {seen:?}");
+    }
 }
 
 #[test]

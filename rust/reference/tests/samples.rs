@@ -48,6 +48,7 @@ fn every_ending_occurs() {
         "none rivalled -",
         "refused 1 form",
         "refused 3 content",
+        "refused 18 content",
     ];
     for ending in endings {
         let ends = |out: &[u8]| {

@@ -8,7 +8,9 @@
 //! stand 1 quota 1: 1 2
 //! ```
 //!
-//! The surveyors that a stand ranks alike come last, in brackets. The lines
+//! An entry is a number and a shift: `1/3` is number 1 in shift 3, and `1` alone
+//! is number 1 in shift 1. The surveyors that a stand ranks alike come last, in
+//! brackets. The lines
 //! of each side are numbered from 1 in order; the two sides may be mixed. A
 //! quota that is not written is 1. What follows a `#` is a comment.
 
@@ -16,5 +18,6 @@ mod line;
 mod problem;
 mod text;
 
+pub use line::Listed;
 pub use problem::{Problem, What};
 pub use text::{parse, print};

@@ -1,9 +1,17 @@
 //! One line of a text roster: a node with its quota and its list.
 
-use reference::limits::MAX_QUOTA;
+use reference::limits::{MAX_QUOTA, MAX_SHIFT};
 use reference::roster::Side;
 
 use crate::problem::What;
+
+/// An entry of a list as it is written: a number of the other side, which may
+/// not be there, and one of the shifts.
+#[derive(Clone, Copy, Debug, PartialEq, Eq)]
+pub struct Listed {
+    pub number: usize,
+    pub shift: u8,
+}
 
 /// A node as its line states it; whether the entries are there is not known
 /// yet.
@@ -12,12 +20,14 @@ pub struct Line {
     pub side: Side,
     pub number: usize,
     pub quota: u8,
-    pub strict: Vec<usize>,
-    pub tied: Vec<usize>,
+    pub strict: Vec<Listed>,
+    pub tied: Vec<Listed>,
 }
 
-/// The quota of a node whose line states none.
+/// The quota of a node whose line states none, and the shift of an entry that
+/// states none.
 const PLAIN_QUOTA: u8 = 1;
+pub const PLAIN_SHIFT: u8 = 1;
 
 /// The words of a line; colons and brackets are words of their own. A line
 /// that is empty or only a comment has none.
@@ -64,7 +74,7 @@ pub fn read(words: &[String]) -> Result<Line, What> {
 }
 
 /// The tie at the end of a list, if there is one.
-fn tie<'a>(side: Side, mut words: impl Iterator<Item = &'a str>) -> Result<Vec<usize>, What> {
+fn tie<'a>(side: Side, mut words: impl Iterator<Item = &'a str>) -> Result<Vec<Listed>, What> {
     let mut tied = Vec::new();
     if words.next().is_none() {
         return Ok(tied);
@@ -96,8 +106,24 @@ fn quota(word: Option<&str>) -> Result<u8, What> {
     }
 }
 
-fn entry(word: &str) -> Result<usize, What> {
-    number(Some(word), "in the list")
+/// An entry: a number, and behind a stroke the shift.
+fn entry(word: &str) -> Result<Listed, What> {
+    let (front, behind) = match word.split_once('/') {
+        Some((front, behind)) => (front, Some(behind)),
+        None => (word, None),
+    };
+    Ok(Listed {
+        number: number(Some(front), "in the list")?,
+        shift: behind.map_or(Ok(PLAIN_SHIFT), shift)?,
+    })
+}
+
+fn shift(word: &str) -> Result<u8, What> {
+    let shift = number(Some(word), "behind the stroke, for the shift")?;
+    match u8::try_from(shift) {
+        Ok(fits) if (1..=MAX_SHIFT).contains(&fits) => Ok(fits),
+        _ => Err(What::ShiftOutOfRange(shift)),
+    }
 }
 
 /// A number in digits. More digits than a roster can need are no number.

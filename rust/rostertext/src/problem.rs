@@ -2,8 +2,10 @@
 
 use std::fmt;
 
-use reference::limits::{MAX_NODES, MAX_QUOTA, MAX_QUOTA_SUM};
+use reference::limits::{MAX_LIST, MAX_NODES, MAX_QUOTA, MAX_QUOTA_SUM, MAX_SHIFT};
 use reference::roster::Side;
+
+use crate::line::{Listed, PLAIN_SHIFT};
 
 /// What is wrong, and the line that shows it, counted from 1.
 #[derive(Clone, Debug, PartialEq, Eq)]
@@ -38,6 +40,9 @@ pub enum What {
     TieNotClosed,
     TieEmpty,
     EntryBehindTie(String),
+    ShiftOutOfRange(usize),
+    /// The list has so many entries.
+    ListTooLong(usize),
     EntryOutOfRange {
         side: Side,
         entry: usize,
@@ -45,12 +50,12 @@ pub enum What {
     },
     EntryTwice {
         side: Side,
-        entry: usize,
+        entry: Listed,
     },
     OneSideOnly {
         side: Side,
         number: usize,
-        entry: usize,
+        entry: Listed,
     },
 }
 
@@ -59,6 +64,15 @@ pub(crate) fn word(side: Side) -> &'static str {
     match side {
         Side::Surveyors => "surveyor",
         Side::Stands => "stand",
+    }
+}
+
+/// The words for a shift behind a node; the plain one is not told.
+fn in_shift(shift: u8) -> String {
+    if shift == PLAIN_SHIFT {
+        String::new()
+    } else {
+        format!(" in shift {shift}")
     }
 }
 
@@ -127,6 +141,18 @@ impl fmt::Display for What {
                     "'{found}' stands behind the tie, which comes last"
                 )
             }
+            What::ShiftOutOfRange(shift) => {
+                write!(
+                    formatter,
+                    "shift {shift} is listed, but the shifts are numbered from 1 to {MAX_SHIFT}"
+                )
+            }
+            What::ListTooLong(length) => {
+                write!(
+                    formatter,
+                    "the list has {length} entries, more than {MAX_LIST}"
+                )
+            }
             What::EntryOutOfRange { side, entry, count } => {
                 let other = word(side.other());
                 write!(
@@ -135,10 +161,11 @@ impl fmt::Display for What {
                 )
             }
             What::EntryTwice { side, entry } => {
+                let (other, Listed { number, shift }) = (word(side.other()), *entry);
+                let shift = in_shift(shift);
                 write!(
                     formatter,
-                    "{} {entry} stands twice in the list",
-                    word(side.other())
+                    "{other} {number}{shift} stands twice in the list"
                 )
             }
             What::OneSideOnly {
@@ -147,7 +174,11 @@ impl fmt::Display for What {
                 entry,
             } => {
                 let (own, other) = (word(*side), word(side.other()));
-                write!(formatter, "{own} {number} lists {other} {entry}, but {other} {entry} does not list {own} {number}")
+                let (entry, shift) = (entry.number, in_shift(entry.shift));
+                write!(
+                    formatter,
+                    "{own} {number} lists {other} {entry}{shift}, but {other} {entry} does not list {own} {number}{shift}"
+                )
             }
         }
     }

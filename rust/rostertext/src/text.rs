@@ -2,10 +2,10 @@
 
 use std::fmt::Write;
 
-use reference::limits::{MAX_NODES, MAX_QUOTA_SUM};
-use reference::roster::{narrow, List, Node, Roster, Side, SIDES};
+use reference::limits::{MAX_LIST, MAX_NODES, MAX_QUOTA_SUM};
+use reference::roster::{narrow, Entry, List, Node, Roster, Side, SIDES};
 
-use crate::line::{self, Line};
+use crate::line::{self, Line, Listed, PLAIN_SHIFT};
 use crate::problem::{word, Problem, What};
 
 /// A line, with the place where it stands in the text.
@@ -22,7 +22,7 @@ impl Placed {
         }
     }
 
-    fn entries(&self) -> impl Iterator<Item = usize> + '_ {
+    fn entries(&self) -> impl Iterator<Item = Listed> + '_ {
         self.line.strict.iter().chain(&self.line.tied).copied()
     }
 }
@@ -75,27 +75,35 @@ fn split(text: &str) -> Result<[Vec<Placed>; 2], Problem> {
     Ok(sides)
 }
 
-/// Whether all entries are numbers of the other side, none of them twice.
+/// Whether the entries are not too many, all of them numbers of the other side,
+/// and none twice in one shift.
 fn check_list(placed: &Placed, count: usize) -> Result<(), Problem> {
     let side = placed.line.side;
-    let mut seen = vec![false; count];
-    for entry in placed.entries() {
-        let Some(seen) = entry.checked_sub(1).and_then(|index| seen.get_mut(index)) else {
+    let length = placed.entries().count();
+    if length > MAX_LIST {
+        return Err(placed.problem(What::ListTooLong(length)));
+    }
+    let mut seen = Vec::new();
+    for listed in placed.entries() {
+        let entry = listed.number;
+        if entry == 0 || entry > count {
             return Err(placed.problem(What::EntryOutOfRange { side, entry, count }));
-        };
-        if *seen {
+        }
+        if seen.contains(&listed) {
+            let entry = listed;
             return Err(placed.problem(What::EntryTwice { side, entry }));
         }
-        *seen = true;
+        seen.push(listed);
     }
     Ok(())
 }
 
-/// Whether all that the node lists also list the node.
+/// Whether all that the node lists also list the node, in the same shifts.
 fn check_answered(placed: &Placed, others: &[Placed]) -> Result<(), Problem> {
     let Line { side, number, .. } = placed.line;
     for entry in placed.entries() {
-        if !others[entry - 1].entries().any(|back| back == number) {
+        let own = Listed { number, ..entry };
+        if !others[entry.number - 1].entries().any(|back| back == own) {
             return Err(placed.problem(What::OneSideOnly {
                 side,
                 number,
@@ -109,9 +117,13 @@ fn check_answered(placed: &Placed, others: &[Placed]) -> Result<(), Problem> {
 /// A node of a roster. The order inside a tie says nothing in a text; in a
 /// roster a tie ascends.
 fn node(placed: Placed) -> Node {
-    let numbers = |entries: Vec<usize>| entries.into_iter().map(narrow).collect::<Vec<u8>>();
-    let strict = numbers(placed.line.strict);
-    let mut tied = numbers(placed.line.tied);
+    let entry = |listed: Listed| Entry {
+        number: narrow(listed.number),
+        shift: listed.shift,
+    };
+    let entries = |listed: Vec<Listed>| listed.into_iter().map(entry).collect::<Vec<Entry>>();
+    let strict = entries(placed.line.strict);
+    let mut tied = entries(placed.line.tied);
     tied.sort_unstable();
     Node {
         quota: placed.line.quota,
@@ -132,13 +144,22 @@ pub fn print(roster: &Roster) -> String {
 
 fn print_node(text: &mut String, side: Side, number: usize, node: &Node) -> std::fmt::Result {
     write!(text, "{} {number} quota {}:", word(side), node.quota)?;
-    for entry in &node.list.strict {
-        write!(text, " {entry}")?;
+    for &entry in &node.list.strict {
+        write!(text, " {}", written(entry))?;
     }
-    for (index, entry) in node.list.tied.iter().enumerate() {
+    for (index, &entry) in node.list.tied.iter().enumerate() {
         let before = if index == 0 { " [" } else { " " };
-        write!(text, "{before}{entry}")?;
+        write!(text, "{before}{}", written(entry))?;
     }
     let end = if node.list.tied.is_empty() { "" } else { "]" };
     writeln!(text, "{end}")
+}
+
+/// An entry as a person writes it: the plain shift is left out.
+fn written(Entry { number, shift }: Entry) -> String {
+    if shift == PLAIN_SHIFT {
+        number.to_string()
+    } else {
+        format!("{number}/{shift}")
+    }
 }

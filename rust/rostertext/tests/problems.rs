@@ -6,7 +6,7 @@ use std::process::{Command, Stdio};
 use rostertext::parse;
 
 /// A text and the problem that it meets.
-const CASES: [(&str, &str); 28] = [
+const CASES: [(&str, &str); 40] = [
     (
         "surveyors 1: 1",
         "line 1: a line starts with 'surveyor' or 'stand', not with 'surveyors'",
@@ -89,6 +89,51 @@ const CASES: [(&str, &str); 28] = [
         "line 2: surveyor 1 stands twice in the list",
     ),
     (
+        "surveyor 1: 1 1/1\nstand 1: 1",
+        "line 1: stand 1 stands twice in the list",
+    ),
+    (
+        "surveyor 1: 1/2 1 1/2\nstand 1: 1",
+        "line 1: stand 1 in shift 2 stands twice in the list",
+    ),
+    (
+        "surveyor 1: 1/3\nstand 1: 1/3 [1/3]",
+        "line 2: surveyor 1 in shift 3 stands twice in the list",
+    ),
+    (
+        "surveyor 1: 1/0",
+        "line 1: shift 0 is listed, but the shifts are numbered from 1 to 3",
+    ),
+    (
+        "surveyor 1: 1/4",
+        "line 1: shift 4 is listed, but the shifts are numbered from 1 to 3",
+    ),
+    (
+        "stand 1: [1/300]",
+        "line 1: shift 300 is listed, but the shifts are numbered from 1 to 3",
+    ),
+    (
+        "surveyor 1: 1/",
+        "line 1: a number is missing behind the stroke, for the shift",
+    ),
+    (
+        "surveyor 1: 1/x",
+        "line 1: 'x' is no number, behind the stroke, for the shift",
+    ),
+    (
+        "surveyor 1: 1/2/3",
+        "line 1: '2/3' is no number, behind the stroke, for the shift",
+    ),
+    ("surveyor 1: /2", "line 1: a number is missing in the list"),
+    (
+        "surveyor 1: 1/3\nstand 1: 1",
+        "line 1: surveyor 1 lists stand 1 in shift 3, but stand 1 does not list surveyor 1 in shift 3",
+    ),
+    (
+        "surveyor 1: 1/3\nstand 1: 1/3 [1]",
+        "line 2: stand 1 lists surveyor 1, but surveyor 1 does not list stand 1",
+    ),
+    (
         "surveyor 1: 1\nsurveyor 2: 1\nstand 1: 1",
         "line 2: surveyor 2 lists stand 1, but stand 1 does not list surveyor 2",
     ),
@@ -157,18 +202,55 @@ fn run(arguments: &[&str], input: &[u8]) -> (bool, Vec<u8>, String) {
 #[test]
 fn the_command_packs_and_unpacks() {
     let text = "surveyor 1 quota 1: 1\nsurveyor 2 quota 1: 1\nstand 1 quota 1: 1 2\n";
-    let bytes = [2, 1, 1, 1, 1, 2, 0, 1, 1, 1, 1, 2, 0, 2, 0, 1, 2];
+    let bytes = [
+        2, 1, 1, 1, 1, 2, 0, 1, 1, 1, 1, 1, 1, 2, 0, 2, 0, 1, 1, 2, 1,
+    ];
+    packs_and_unpacks(text, &bytes);
+    let text = "surveyor 1 quota 2: 1/3 1\nstand 1 quota 2: 1 [1/3]\n";
+    let bytes = [1, 2, 1, 2, 2, 0, 2, 1, 3, 1, 1, 2, 0, 1, 1, 1, 1, 1, 3];
+    packs_and_unpacks(text, &bytes);
+}
+
+fn packs_and_unpacks(text: &str, bytes: &[u8]) {
+    let packed = run(&["pack"], text.as_bytes());
+    assert_eq!(packed, (true, bytes.to_vec(), String::new()));
+    assert_eq!(run(&["unpack"], bytes), (true, text.into(), String::new()));
+}
+
+#[test]
+fn shift_1_may_be_written() {
+    let roster = |text| parse(text).expect("accepted");
+    let plain = roster("surveyor 1: 1 1/3\nstand 1: 1/3 [1]");
+    let written = roster("surveyor 1: 1/1 1/3\nstand 1: 1/3 [1/1]");
+    assert_eq!(plain, written);
+}
+
+#[test]
+fn lists_of_32_entries() {
+    // eleven stands in three shifts, but the last in fewer
+    let text = |entries: usize| {
+        let entry = |place: usize| format!(" {}/{}", place / 3 + 1, place % 3 + 1);
+        let list: String = (0..entries).map(entry).collect();
+        let stand = |number: usize| {
+            let own = (0..entries).filter(|place| place / 3 + 1 == number);
+            let list: String = own.map(|place| format!(" 1/{}", place % 3 + 1)).collect();
+            format!("stand {number}:{list}\n")
+        };
+        let stands: String = (1..=11).map(stand).collect();
+        format!("surveyor 1:{list}\n{stands}")
+    };
+    assert!(parse(&text(32)).is_ok());
+    let problem = parse(&text(33)).expect_err("too long");
     assert_eq!(
-        run(&["pack"], text.as_bytes()),
-        (true, bytes.to_vec(), String::new())
+        problem.to_string(),
+        "line 1: the list has 33 entries, more than 32"
     );
-    assert_eq!(run(&["unpack"], &bytes), (true, text.into(), String::new()));
 }
 
 #[test]
 fn the_command_tells_what_is_wrong() {
     let usage = "usage: rostertext pack < text > bytes, rostertext unpack < bytes > text\n";
-    let cases: [(&[&str], &[u8], &str); 6] = [
+    let cases: [(&[&str], &[u8], &str); 7] = [
         (&[], b"", usage),
         (&["fold"], b"", usage),
         (&["pack", "unpack"], b"", usage),
@@ -178,6 +260,11 @@ fn the_command_tells_what_is_wrong() {
             &["unpack"],
             &[1, 9],
             "the input is no roster: refused 3 content, a quota is above 8, or the quotas of one side are above 64 together\n",
+        ),
+        (
+            &["unpack"],
+            &[1, 1, 1, 1, 1, 0, 1, 1, 4],
+            "the input is no roster: refused 18 content, a list entry's shift is not 1, 2 or 3\n",
         ),
     ];
     for (arguments, input, words) in cases {

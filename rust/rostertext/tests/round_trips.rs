@@ -23,7 +23,7 @@ fn bytes_to_text_and_back() {
         longest = longest.max(bytes.len());
     }
     println!("the longest roster had {longest} bytes");
-    assert!(longest > 1_500);
+    assert!(longest > 3_000);
 }
 
 #[test]
@@ -32,14 +32,14 @@ fn the_longest_rosters() {
     for ties in [0, 50, 100] {
         let roster = random::roster(&mut random, &random::longest_shape(ties, 50));
         let bytes = roster::write(&roster);
-        assert_eq!(bytes.len(), 2_214);
+        assert_eq!(bytes.len(), 4_262);
         let parsed = parse(&print(&roster)).expect("what is printed can be read");
         assert_eq!(roster::write(&parsed), bytes);
     }
 }
 
 /// The text of a roster in another layout: the two sides mixed, comments,
-/// empty lines, spaces, quotas of 1 left out, ties in any order.
+/// empty lines, spaces, quotas of 1 left out, shift 1 told, ties in any order.
 fn by_hand(random: &mut Random, roster: &Roster) -> String {
     let printed = print(roster);
     let (mut surveyors, mut stands): (Vec<&str>, Vec<&str>) = printed
@@ -59,6 +59,9 @@ fn by_hand(random: &mut Random, roster: &Roster) -> String {
         if random.chance(50) {
             line = line.replace(" quota 1:", ":");
         }
+        if random.chance(30) {
+            line = tell_shifts(&line);
+        }
         line = shuffle_tie(random, &line);
         if random.chance(30) {
             line = line
@@ -76,6 +79,19 @@ fn by_hand(random: &mut Random, roster: &Roster) -> String {
         text.push_str(if random.chance(20) { "\r\n" } else { "\n" });
     }
     text
+}
+
+/// The line with shift 1 told at each entry that tells none.
+fn tell_shifts(line: &str) -> String {
+    let (front, list) = line.split_once(':').expect("a list");
+    let told = |word: &str| {
+        let entry = word.trim_end_matches(']');
+        let bracket = &word[entry.len()..];
+        let shift = if entry.contains('/') { "" } else { "/1" };
+        format!(" {entry}{shift}{bracket}")
+    };
+    let list: String = list.split_whitespace().map(told).collect();
+    format!("{front}:{list}")
 }
 
 fn shuffle_tie(random: &mut Random, line: &str) -> String {

@@ -23,5 +23,5 @@ fn texts_and_bytes_agree() {
         assert_eq!(parse(&print(&read)).as_ref(), Ok(&read), "{path:?}");
         texts += 1;
     }
-    assert!(texts >= 13, "{texts} texts");
+    assert!(texts >= 15, "{texts} texts");
 }

@@ -50,6 +50,7 @@ fn with_steps(
         fate: record.fate,
         surveyor: record.surveyor,
         stand: record.stand,
+        shift: record.shift,
         rule: record.rule,
     };
     let mut diary: Vec<Step> = lent.diary.iter().map(step).collect();
@@ -59,6 +60,7 @@ fn with_steps(
             fate: step.fate,
             surveyor: step.surveyor,
             stand: step.stand,
+            shift: step.shift,
             rule: step.rule,
         };
     }
@@ -92,7 +94,7 @@ pub trait Calls: Sized {
     fn leave(self, number: u8, lent: Lent) -> (Self, Result<Found, u8>);
     fn judge(self, rival: &mut [u8]) -> (Self, Result<Judged, u8>);
     fn compare(self, first: &[u8], second: &[u8]) -> (Self, Compared);
-    fn blocking(self) -> (Self, Result<Option<(u8, u8)>, u8>);
+    fn blocking(self) -> (Self, Result<Option<(u8, u8, u8)>, u8>);
 }
 
 impl Desk {
@@ -155,7 +157,7 @@ impl Calls for Desk {
         (self, (outcome.map_err(number), part))
     }
 
-    fn blocking(self) -> (Desk, Result<Option<(u8, u8)>, u8>) {
+    fn blocking(self) -> (Desk, Result<Option<(u8, u8, u8)>, u8>) {
         let answer = self.0.blocking().map_err(number);
         (self, answer)
     }

@@ -42,7 +42,7 @@ impl Change {
             1 => random.within(&(3..=8)),
             _ => random.within(&(0..=2)),
         };
-        let mut list = stand_list(random, count(held, Side::Stands), 70);
+        let mut list = stand_list(random, count(held, Side::Stands), 30);
         if random.chance(25) {
             damage(random, &mut list);
         }

@@ -9,13 +9,14 @@ use std::sync::Once;
 
 use planner::{Desk, Refusal};
 use reference::desk::Desk as Held;
+use reference::limits::{ENTRY_FIELD, MAX_SHIFT, PAIR_FIELD};
 use reference::plan;
 use reference::random::{Random, Shape};
 use reference::roster;
 
 /// How many numbers an answer can be counted under: 0 for accepted, and every
 /// refusal's.
-pub const NUMBERS: usize = 18;
+pub const NUMBERS: usize = 19;
 
 /// The repository's folder.
 pub fn root() -> PathBuf {
@@ -102,6 +103,11 @@ pub fn front(bytes: &[u8], length: usize) -> &[u8] {
     &bytes[..length.min(bytes.len())]
 }
 
+/// The plan's file at the front of a buffer, as long as its count says.
+pub fn plan_front(buffer: &[u8]) -> &[u8] {
+    &buffer[..1 + PAIR_FIELD * usize::from(buffer[0])]
+}
+
 /// A buffer's length: below its size now and then.
 pub fn length(random: &mut Random, size: usize) -> usize {
     if random.chance(10) {
@@ -141,13 +147,14 @@ pub fn check_written(
 }
 
 /// One damage: a byte changed, dropped, doubled, two swapped, a count off by
-/// one, the file cut or grown.
+/// one, the file cut or grown, two neighbouring entries or pairs exchanged.
 pub fn damage(random: &mut Random, file: &mut Vec<u8>) {
     if file.is_empty() {
         return file.push(random.below(256) as u8);
     }
     let at = random.below(file.len());
-    match random.below(8) {
+    let field = [ENTRY_FIELD, PAIR_FIELD][random.below(2)];
+    match random.below(10) {
         0 => file[at] = random.below(256) as u8,
         1 => file[at] = random.below(34) as u8,
         2 => file[at] = file[at].wrapping_add(1),
@@ -155,6 +162,7 @@ pub fn damage(random: &mut Random, file: &mut Vec<u8>) {
         4 => file.truncate(at),
         5 => file.push(random.below(34) as u8),
         6 => drop(file.remove(at)),
+        7 | 8 if at + 2 * field <= file.len() => file[at..at + 2 * field].rotate_left(field),
         _ => {
             let other = random.below(file.len());
             file.swap(at, other);
@@ -162,12 +170,15 @@ pub fn damage(random: &mut Random, file: &mut Vec<u8>) {
     }
 }
 
+/// A shape with one shift or several, and about as many pairs either way.
 pub fn shape(random: &mut Random) -> Shape {
     let nodes = [2, 4, 6][random.below(3)];
+    let shifts = random.within(&(1..=MAX_SHIFT));
     Shape {
         counts: [0..=nodes, 0..=nodes],
         quotas: [0..=8, 0..=8],
-        pairs: [40, 70, 100][random.below(3)],
+        shifts,
+        pairs: [40, 70, 100][random.below(3)] / shifts,
         ties: 50,
         opposed: 20,
     }

@@ -7,6 +7,7 @@ use reference::plan::{self, Plan};
 use reference::roster::{self, Roster, SIDES};
 use reference::votes::plan_vote;
 
+use crate::common::plan_front;
 use crate::lent::{only_front, Buffers};
 
 /// Holds an answer on this roster and what it wrote against the reference's,
@@ -46,8 +47,7 @@ fn without_vote(found: Found) -> Found {
 
 /// The plan at the front of a buffer.
 fn read_front(roster: &Roster, buffer: &[u8]) -> Plan {
-    let front = &buffer[..1 + 2 * usize::from(buffer[0])];
-    plan::read(roster, front).expect("a plan within the quotas")
+    plan::read(roster, plan_front(buffer)).expect("a plan within the quotas")
 }
 
 /// Whether a rival was written, another plan with this vote, and nothing else.

@@ -16,6 +16,30 @@ pub fn only_front(before: &[u8], after: &[u8], front: &[u8]) {
     assert_eq!(after[front.len()..], before[front.len()..]);
 }
 
+/// Bytes of a diary's record.
+pub const RECORD_BYTES: usize = 5;
+
+/// The record of these bytes, and the bytes of a record.
+pub fn record_of(bytes: &[u8]) -> Record {
+    Record {
+        fate: bytes[0],
+        surveyor: bytes[1],
+        stand: bytes[2],
+        shift: bytes[3],
+        rule: bytes[4],
+    }
+}
+
+pub fn record_bytes(record: &Record) -> [u8; RECORD_BYTES] {
+    [
+        record.fate,
+        record.surveyor,
+        record.stand,
+        record.shift,
+        record.rule,
+    ]
+}
+
 /// The buffers that the finder is lent.
 #[derive(Clone, Debug, PartialEq, Eq)]
 pub struct Buffers {
@@ -31,17 +55,9 @@ pub const SIZES: [usize; 4] = [DIARY_RECORDS, LEFT_BYTES, MAX_PLAN_BYTES, MAX_PL
 impl Buffers {
     /// Buffers of these sizes, full of junk.
     pub fn new(random: &mut Random, [diary, left, plan, rival]: [usize; 4]) -> Buffers {
-        let records = junk(random, 4 * diary);
+        let records = junk(random, RECORD_BYTES * diary);
         Buffers {
-            diary: records
-                .chunks_exact(4)
-                .map(|bytes| Record {
-                    fate: bytes[0],
-                    surveyor: bytes[1],
-                    stand: bytes[2],
-                    rule: bytes[3],
-                })
-                .collect(),
+            diary: records.chunks_exact(RECORD_BYTES).map(record_of).collect(),
             left: junk(random, left),
             plan: junk(random, plan),
             rival: junk(random, rival),

@@ -61,10 +61,12 @@ impl Pool {
             plans: Vec::new(),
         };
         for _ in 0..2 {
+            let shifts = random.within(&(1..=3));
             let mut shape = Shape {
                 counts: [1..=3, 1..=3],
                 quotas: [0..=2, 0..=2],
-                pairs: 75,
+                shifts,
+                pairs: [75, 50, 35][usize::from(shifts) - 1],
                 ties: 50,
                 opposed: 60,
             };
@@ -195,7 +197,10 @@ impl<D: Calls> Desks<D> {
         let (theirs, expected) = self.theirs.blocking();
         tally.refusals(7, &answer, &expected);
         if let (Ok(shown), Ok(first)) = (answer, expected) {
-            assert_eq!(shown, first.map(|pair| (pair.surveyor, pair.stand)));
+            assert_eq!(
+                shown,
+                first.map(|pair| (pair.surveyor, pair.stand, pair.shift))
+            );
         }
         Desks { ours, theirs }
     }
@@ -279,7 +284,7 @@ pub fn run<D: Calls>(mut open: impl FnMut() -> D, seed: u64, sequences: usize, l
     }
     let plan_refusals = [0, 1, 2, 9, 10, 11, 12, 13];
     let expected: [&[usize]; CALLS.len()] = [
-        &[0, 1, 2, 3, 4, 5, 6, 7, 8, 9],
+        &[0, 1, 2, 3, 4, 5, 6, 7, 8, 9, 18],
         &plan_refusals,
         &[0, 13, 15],
         &[0, 13, 14, 15],
@@ -287,7 +292,7 @@ pub fn run<D: Calls>(mut open: impl FnMut() -> D, seed: u64, sequences: usize, l
         &[0, 13, 14, 15],
         &plan_refusals,
         &[0, 13, 14],
-        &[0, 1, 2, 3, 4, 5, 9, 13, 15, 17],
+        &[0, 1, 2, 3, 4, 5, 9, 13, 15, 17, 18],
         &[0, 13, 15, 16],
     ];
     for (call, numbers) in expected.iter().enumerate() {

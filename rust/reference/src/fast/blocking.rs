@@ -2,7 +2,7 @@
 
 use super::plan::Chosen;
 use super::roster::Instance;
-use crate::limits::MAX_NODES;
+use crate::limits::{MAX_ENTRIES, MAX_NODES};
 
 /// The rank from which on a node gives up no place, for each node of a side:
 /// that of its worst pair, or behind all ranks where a place is free.
@@ -28,9 +28,10 @@ fn limits(
     worst
 }
 
-/// The pair that is shown, by the numbers of its surveyor and its stand. Pairs
-/// ascend by surveyor, so the search ends with the first surveyor that has one.
-pub fn first(instance: &Instance, chosen: &Chosen) -> Option<(u8, u8)> {
+/// The pair that is shown, by the numbers of its surveyor and its stand, and its
+/// shift. Pairs ascend by surveyor, so the search ends with the first surveyor
+/// that has one.
+pub fn first(instance: &Instance, chosen: &Chosen) -> Option<(u8, u8, u8)> {
     let pairs = instance.pairs;
     let at_s = limits(
         instance.surveyors,
@@ -46,10 +47,9 @@ pub fn first(instance: &Instance, chosen: &Chosen) -> Option<(u8, u8)> {
         &instance.rank_t[..pairs],
         chosen,
     );
-    let mut held = [0u32; MAX_NODES];
+    let mut held = [false; MAX_ENTRIES];
     for &pair in chosen.as_slice() {
-        let pair = usize::from(pair);
-        held[usize::from(instance.surveyor[pair])] |= 1 << instance.stand[pair];
+        held[usize::from(pair)] = true;
     }
     let mut first = None;
     for surveyor in 0..instance.surveyors {
@@ -57,16 +57,15 @@ pub fn first(instance: &Instance, chosen: &Chosen) -> Option<(u8, u8)> {
         let count = instance.listed[surveyor].count_ones() as usize;
         let mut best = at_s[surveyor];
         for pair in start..start + count {
-            let stand = instance.stand[pair];
-            let welcome = instance.rank_t[pair] < at_t[usize::from(stand)];
-            let free = held[surveyor] >> stand & 1 == 0;
-            if instance.rank_s[pair] < best && welcome && free {
+            let stand = usize::from(instance.stand[pair]);
+            let welcome = instance.rank_t[pair] < at_t[stand];
+            if instance.rank_s[pair] < best && welcome && !held[pair] {
                 best = instance.rank_s[pair];
-                first = Some((surveyor as u8 + 1, stand + 1));
+                first = Some(pair as u16);
             }
         }
         if first.is_some() {
-            return first;
+            return first.map(|pair| instance.numbers(pair));
         }
     }
     None

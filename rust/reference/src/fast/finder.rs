@@ -46,10 +46,11 @@ fn judged(instance: &Instance, fixed: &[u16]) -> Ending {
     }
 }
 
-/// The pairs of a set given as bits of stands for each surveyor, ascending.
+/// The pairs of a set given as bits of each surveyor's pairs, ascending.
 fn places(instance: &Instance, set: &[u32; MAX_NODES]) -> Vec<u16> {
-    let holds =
-        |&pair: &usize| set[usize::from(instance.surveyor[pair])] >> instance.stand[pair] & 1 == 1;
-    let pairs = (0..instance.pairs).filter(holds);
-    pairs.map(|pair| pair as u16).collect()
+    let holds = |&pair: &u16| {
+        let surveyor = usize::from(instance.surveyor[usize::from(pair)]);
+        set[surveyor] >> (pair - instance.first[surveyor]) & 1 == 1
+    };
+    (0..instance.pairs as u16).filter(holds).collect()
 }

@@ -1,7 +1,7 @@
 //! Plan files for speed.
 
-use super::roster::Instance;
-use crate::limits::{MAX_NODES, MAX_PLAN_PAIRS};
+use super::roster::{slot, Instance};
+use crate::limits::{MAX_NODES, MAX_PLAN_PAIRS, MAX_SHIFT, PAIR_FIELD};
 
 /// The pairs of a plan, ascending, as places in the instance.
 #[derive(Clone, Copy, Debug)]
@@ -30,8 +30,8 @@ pub fn read(instance: &Instance, file: &[u8]) -> Result<Chosen, u8> {
     let mut at_stand = [0u8; MAX_NODES];
     let mut next = 0;
     for (place, slot) in chosen.pairs[..count].iter_mut().enumerate() {
-        let bytes = file.get(1 + 2 * place..3 + 2 * place).ok_or(1)?;
-        let pair = find(instance, bytes[0], bytes[1]).ok_or(10)?;
+        let rest = file.get(1 + PAIR_FIELD * place..).ok_or(1)?;
+        let pair = find(instance, rest.first_chunk().ok_or(1)?).ok_or(10)?;
         if pair < next {
             return Err(11);
         }
@@ -47,33 +47,42 @@ pub fn read(instance: &Instance, file: &[u8]) -> Result<Chosen, u8> {
         *slot = pair;
         next = pair + 1;
     }
-    if file.len() > 1 + 2 * count {
+    if file.len() > 1 + PAIR_FIELD * count {
         return Err(9);
     }
     Ok(chosen)
 }
 
-/// The place of a pair, by the numbers of its two ends.
-fn find(instance: &Instance, surveyor: u8, stand: u8) -> Option<u16> {
-    let surveyor = usize::from(surveyor).checked_sub(1)?;
-    let stand = u32::from(stand).checked_sub(1)?;
-    if surveyor >= instance.surveyors || stand >= 32 {
+/// The place of a pair, by the numbers of its two ends and its shift.
+fn find(instance: &Instance, numbers: &[u8; PAIR_FIELD]) -> Option<u16> {
+    let &[surveyor, stand, shift] = numbers;
+    if surveyor == 0 || usize::from(surveyor) > instance.surveyors {
         return None;
     }
+    if stand == 0 || usize::from(stand) > instance.stands || shift == 0 || shift > MAX_SHIFT {
+        return None;
+    }
+    let surveyor = usize::from(surveyor) - 1;
+    let slot = slot(usize::from(stand) - 1, usize::from(shift) - 1);
     let listed = instance.listed[surveyor];
-    if listed >> stand & 1 == 0 {
+    if listed >> slot & 1 == 0 {
         return None;
     }
-    let before = listed & ((1 << stand) - 1);
+    let before = listed & ((1 << slot) - 1);
     Some(instance.first[surveyor] + before.count_ones() as u16)
 }
 
 /// Writes a plan's bytes at the front of `out` and gives their number.
 pub fn write(instance: &Instance, chosen: &Chosen, out: &mut [u8]) -> usize {
     out[0] = chosen.count as u8;
-    for (place, &pair) in chosen.as_slice().iter().enumerate() {
-        out[1 + 2 * place] = instance.surveyor[usize::from(pair)] + 1;
-        out[2 + 2 * place] = instance.stand[usize::from(pair)] + 1;
+    1 + write_pairs(instance, chosen.as_slice(), &mut out[1..])
+}
+
+/// Writes the bytes of some pairs at the front of `out` and gives their number.
+pub fn write_pairs(instance: &Instance, pairs: &[u16], out: &mut [u8]) -> usize {
+    for (bytes, &pair) in out.chunks_exact_mut(PAIR_FIELD).zip(pairs) {
+        let (surveyor, stand, shift) = instance.numbers(pair);
+        bytes.copy_from_slice(&[surveyor, stand, shift]);
     }
-    1 + 2 * chosen.count
+    PAIR_FIELD * pairs.len()
 }

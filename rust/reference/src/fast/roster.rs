@@ -1,6 +1,22 @@
-//! Rosters for speed: one pass over the bytes, a bit mask for each list.
+//! Rosters for speed: one pass over the bytes, for each list a bit mask of the
+//! other side's nodes in each shift.
 
-use crate::limits::{MAX_ENTRIES, MAX_NODES, MAX_QUOTA, MAX_QUOTA_SUM};
+use crate::limits::{
+    ENTRY_FIELD, MAX_ENTRIES, MAX_LIST, MAX_NODES, MAX_QUOTA, MAX_QUOTA_SUM, MAX_SHIFT,
+};
+
+/// The shifts of a day, and all entries that a list can have.
+const SHIFTS: usize = MAX_SHIFT as usize;
+const SLOTS: usize = MAX_NODES * SHIFTS;
+
+/// A set of slots, one bit each.
+type Slots = u128;
+
+/// The slot of a node in a shift, both counted from 0. Slots ascend by node,
+/// then by shift.
+pub fn slot(node: usize, shift: usize) -> usize {
+    SHIFTS * node + shift
+}
 
 /// A roster as arrays: its pairs ascending, and the stated quotas. Nodes are
 /// counted from 0.
@@ -11,24 +27,37 @@ pub struct Instance {
     pub stands: usize,
     pub surveyor: [u8; MAX_ENTRIES],
     pub stand: [u8; MAX_ENTRIES],
+    /// The shift, from 1.
+    pub shift: [u8; MAX_ENTRIES],
     /// Ranks from 1 at the surveyor and at the stand.
     pub rank_s: [u8; MAX_ENTRIES],
     pub rank_t: [u8; MAX_ENTRIES],
     pub tied: [bool; MAX_ENTRIES],
     pub quota_s: [u8; MAX_NODES],
     pub quota_t: [u8; MAX_NODES],
-    /// The stands that each surveyor lists, as bits, and the surveyor's first
-    /// pair.
-    pub listed: [u32; MAX_NODES],
+    /// The slots that each surveyor lists, and the surveyor's first pair.
+    pub listed: [Slots; MAX_NODES],
     pub first: [u16; MAX_NODES],
 }
 
-/// The lists of one side: for each node the entries as bits, and each entry's
-/// rank.
+impl Instance {
+    /// The numbers of a pair's surveyor and stand, from 1, and its shift.
+    pub fn numbers(&self, pair: u16) -> (u8, u8, u8) {
+        let pair = usize::from(pair);
+        (
+            self.surveyor[pair] + 1,
+            self.stand[pair] + 1,
+            self.shift[pair],
+        )
+    }
+}
+
+/// The lists of one side: for each node the slots of its entries, and each
+/// entry's rank.
 struct Lists {
-    listed: [u32; MAX_NODES],
-    rank: [[u8; MAX_NODES]; MAX_NODES],
-    tied: [u32; MAX_NODES],
+    listed: [Slots; MAX_NODES],
+    rank: [[u8; SLOTS]; MAX_NODES],
+    tied: [Slots; MAX_NODES],
 }
 
 struct Cursor<'a> {
@@ -44,10 +73,16 @@ impl Cursor<'_> {
         Ok(byte)
     }
 
-    fn wide(&mut self) -> Result<usize, u8> {
-        let bytes = self.file.get(self.at..self.at + 2).ok_or(1)?;
+    #[inline]
+    fn two(&mut self) -> Result<[u8; 2], u8> {
+        let bytes = self.file[self.at..].first_chunk().ok_or(1)?;
         self.at += 2;
-        Ok(usize::from(bytes[0]) + 256 * usize::from(bytes[1]))
+        Ok(*bytes)
+    }
+
+    fn wide(&mut self) -> Result<usize, u8> {
+        let [low, high] = self.two()?;
+        Ok(usize::from(low) + 256 * usize::from(high))
     }
 }
 
@@ -97,6 +132,7 @@ pub fn read(file: &[u8]) -> Result<Instance, u8> {
         stands: sections.stands,
         surveyor: [0; MAX_ENTRIES],
         stand: [0; MAX_ENTRIES],
+        shift: [0; MAX_ENTRIES],
         rank_s: [0; MAX_ENTRIES],
         rank_t: [0; MAX_ENTRIES],
         tied: [false; MAX_ENTRIES],
@@ -133,14 +169,14 @@ fn lists(cursor: &mut Cursor, nodes: usize, others: usize, ties: bool) -> Result
     }
     let mut lists = Lists {
         listed: [0; MAX_NODES],
-        rank: [[0; MAX_NODES]; MAX_NODES],
+        rank: [[0; SLOTS]; MAX_NODES],
         tied: [0; MAX_NODES],
     };
     let mut total = 0;
     for node in 0..nodes {
         let strict = usize::from(cursor.byte()?);
         let tied = if ties { usize::from(cursor.byte()?) } else { 0 };
-        if strict + tied > others {
+        if strict + tied > MAX_LIST {
             return Err(2);
         }
         total += strict + tied;
@@ -161,38 +197,44 @@ fn list(
     strict: usize,
     tied: usize,
 ) -> Result<(), u8> {
-    let mut seen = 0u32;
-    let mut last = 0;
+    let mut seen = 0;
+    // what the next tied slot must reach
+    let mut least = 0;
     for place in 0..strict + tied {
-        let entry = cursor.byte()?;
-        if entry == 0 || usize::from(entry) > others {
+        let [number, shift]: [u8; ENTRY_FIELD] = cursor.two()?;
+        if number == 0 || usize::from(number) > others {
             return Err(4);
         }
-        let bit = 1 << (entry - 1);
+        if shift == 0 || shift > MAX_SHIFT {
+            return Err(18);
+        }
+        let slot = slot(usize::from(number) - 1, usize::from(shift) - 1);
+        let bit = 1 << slot;
         if seen & bit != 0 {
             return Err(5);
         }
         if place >= strict {
-            if entry <= last {
+            if slot < least {
                 return Err(6);
             }
-            last = entry;
+            least = slot + 1;
             lists.tied[node] |= bit;
         }
         seen |= bit;
-        lists.rank[node][usize::from(entry) - 1] = place.min(strict) as u8 + 1;
+        lists.rank[node][slot] = place.min(strict) as u8 + 1;
     }
     lists.listed[node] = seen;
     Ok(())
 }
 
 /// Whether the two sides list the same pairs.
-fn mirrored(by_surveyor: &[u32; MAX_NODES], by_stand: &[u32; MAX_NODES]) -> bool {
-    let mut turned = [0u32; MAX_NODES];
+fn mirrored(by_surveyor: &[Slots; MAX_NODES], by_stand: &[Slots; MAX_NODES]) -> bool {
+    let mut turned = [0; MAX_NODES];
     for (stand, &listed) in by_stand.iter().enumerate() {
         let mut rest = listed;
         while rest != 0 {
-            turned[rest.trailing_zeros() as usize] |= 1 << stand;
+            let back = rest.trailing_zeros() as usize;
+            turned[back / SHIFTS] |= 1 << slot(stand, back % SHIFTS);
             rest &= rest - 1;
         }
     }
@@ -205,12 +247,15 @@ fn fill(instance: &mut Instance, by_surveyor: &Lists, by_stand: &Lists) {
         instance.first[surveyor] = pair as u16;
         let mut rest = by_surveyor.listed[surveyor];
         while rest != 0 {
-            let stand = rest.trailing_zeros() as usize;
+            let there = rest.trailing_zeros() as usize;
+            let (stand, shift) = (there / SHIFTS, there % SHIFTS);
+            let back = slot(surveyor, shift);
             instance.surveyor[pair] = surveyor as u8;
             instance.stand[pair] = stand as u8;
-            instance.rank_s[pair] = by_surveyor.rank[surveyor][stand];
-            instance.rank_t[pair] = by_stand.rank[stand][surveyor];
-            instance.tied[pair] = by_stand.tied[stand] >> surveyor & 1 == 1;
+            instance.shift[pair] = shift as u8 + 1;
+            instance.rank_s[pair] = by_surveyor.rank[surveyor][there];
+            instance.rank_t[pair] = by_stand.rank[stand][back];
+            instance.tied[pair] = by_stand.tied[stand] >> back & 1 == 1;
             pair += 1;
             rest &= rest - 1;
         }

@@ -11,6 +11,7 @@ const NO_RECORD: Record = Record {
     fate: JUNK,
     surveyor: JUNK,
     stand: JUNK,
+    shift: JUNK,
     rule: JUNK,
 };
 
@@ -60,11 +61,12 @@ impl Buffers {
     }
 }
 
-pub fn record(fate: u8, surveyor: u8, stand: u8, rule: u8) -> Record {
+pub fn record(fate: u8, surveyor: u8, stand: u8, shift: u8, rule: u8) -> Record {
     Record {
         fate,
         surveyor,
         stand,
+        shift,
         rule,
     }
 }

@@ -32,7 +32,7 @@ fn cases() -> Vec<Case> {
         let mut file = plan::write(&agreed, &best);
         // the last surveyor's two pairs go
         file[0] -= 2;
-        file.truncate(file.len() - 4);
+        file.truncate(file.len() - 2 * planner::PAIR_BYTES);
         file
     };
     vec![
@@ -44,7 +44,7 @@ fn cases() -> Vec<Case> {
 }
 
 /// The fast reading's answer, from bytes.
-fn first(roster: &[u8], plan: &[u8]) -> Option<(u8, u8)> {
+fn first(roster: &[u8], plan: &[u8]) -> Option<(u8, u8, u8)> {
     let instance = fast::roster::read(roster).expect("accepted");
     let chosen = fast::plan::read(&instance, plan).expect("accepted");
     fast::blocking::first(&instance, &chosen)

@@ -1,13 +1,13 @@
 //! Joining and leaving on rosters of the longest kind, each against a find on the
-//! changed roster, which both calls answer for: 31 surveyors and a joiner who
-//! ranks all stands, and one of 32 who leaves. Aim: at most 1.2 times a find on
+//! changed roster, which both calls answer for: 31 surveyors and a joiner with a
+//! full list, and one of 32 who leaves. Aim: at most 1.2 times a find on
 //! the changed roster.
 
 use std::hint::black_box;
 
 use planner::Desk;
-use reference::random::Random;
-use reference::roster::{self, List, Node, Roster, Side};
+use reference::random::{list_file, Random};
+use reference::roster::{self, Node, Roster, Side};
 
 use crate::lent::{loaded, Buffers};
 use crate::longest::longest;
@@ -29,16 +29,12 @@ fn without_last(roster: &Roster) -> (Vec<u8>, u8, Vec<u8>) {
         .expect("32 surveyors");
     let mut stands = roster.nodes(Side::Stands).to_vec();
     for Node { list, .. } in &mut stands {
-        list.strict.retain(|&entry| entry != LAST);
-        list.tied.retain(|&entry| entry != LAST);
+        list.strict.retain(|entry| entry.number != LAST);
+        list.tied.retain(|entry| entry.number != LAST);
     }
     let shorter = Roster::new(others.to_vec(), stands).expect("both sides list the same pairs");
-    (roster::write(&shorter), last.quota, list_file(&last.list))
-}
-
-fn list_file(list: &List) -> Vec<u8> {
-    let length = roster::narrow(list.length());
-    std::iter::once(length).chain(list.entries()).collect()
+    let list = list_file(&last.list.strict);
+    (roster::write(&shorter), last.quota, list)
 }
 
 /// A joiner's quota and list, or a leaver's number.

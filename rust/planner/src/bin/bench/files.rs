@@ -5,42 +5,23 @@ use std::hint::black_box;
 use planner::Desk;
 use reference::fast;
 use reference::plan;
-use reference::random::{self, Random, Shape};
+use reference::random::{self, Random};
 use reference::roster;
 
 use crate::{heading, report, time};
 
-/// The longest roster: 32 by 32 nodes, all pairs, quotas that sum to 64.
-fn longest(random: &mut Random) -> roster::Roster {
-    random::roster(
-        random,
-        &Shape {
-            counts: [32..=32, 32..=32],
-            quotas: [2..=2, 2..=2],
-            pairs: 100,
-            ties: 50,
-            opposed: 20,
-        },
-    )
-}
-
 pub fn run() {
     let mut random = Random::new(7);
-    let longest = longest(&mut random);
+    let longest = random::roster(&mut random, &random::longest_shape(50, 20));
     let file = roster::write(&longest);
     assert_eq!(file.len(), planner::ROSTER_BYTES);
-    let chosen = loop {
-        let chosen = random::plan(&mut random, &longest, 100);
-        if chosen.indices().len() == 64 {
-            break plan::write(&longest, &chosen);
-        }
-    };
+    let chosen = plan::write(&longest, &random::plan_of(&mut random, &longest, 64));
     let instance = fast::roster::read(&file).expect("accepted");
     let mut out = vec![0; planner::ROSTER_BYTES];
 
     heading();
     report(
-        "read the longest roster (2,214 bytes)",
+        "read the longest roster (4,262 bytes)",
         time(200, || {
             black_box(planner::read_roster(black_box(&file))).expect("accepted");
         }),

@@ -19,10 +19,12 @@ fn find(bytes: &[u8], out: &mut Buffers) {
     let instance = fast::roster::read(bytes).expect("accepted");
     let answer = fast::finder::find(&instance);
     for (place, step) in out.diary.iter_mut().zip(&answer.steps) {
+        let (surveyor, stand, shift) = instance.numbers(step.pair);
         *place = Step {
             fate: 2 - u8::from(step.fixed),
-            surveyor: step.surveyor + 1,
-            stand: step.stand + 1,
+            surveyor,
+            stand,
+            shift,
             rule: step.rule,
         };
     }
@@ -31,10 +33,7 @@ fn find(bytes: &[u8], out: &mut Buffers) {
             fast::plan::write(&instance, &plan, &mut out.plan);
         }
         Ending::Left(left) => {
-            for (bytes, &pair) in out.left.chunks_exact_mut(2).zip(&left) {
-                bytes[0] = instance.surveyor[usize::from(pair)] + 1;
-                bytes[1] = instance.stand[usize::from(pair)] + 1;
-            }
+            fast::plan::write_pairs(&instance, &left, &mut out.left);
         }
         Ending::Rivalled { candidate, rival } => {
             fast::plan::write(&instance, &candidate, &mut out.plan);

@@ -8,20 +8,15 @@ use std::hint::black_box;
 use planner::Desk;
 use reference::fast;
 use reference::plan;
-use reference::random::{self, Random, Shape};
+use reference::random::{self, Random};
 use reference::roster::{self, Roster, Side};
 
 use crate::{heading, report, time};
 
-/// Eight nodes of quota 8 on one side, 32 of quota 2 on the other, all pairs.
+/// Eight nodes of quota 8 on one side, 32 of quota 2 on the other, over three
+/// shifts; the eight have full lists.
 fn wide(random: &mut Random, full: Side) -> Roster {
-    let mut shape = Shape {
-        counts: [32..=32, 32..=32],
-        quotas: [2..=2, 2..=2],
-        pairs: 100,
-        ties: 50,
-        opposed: 20,
-    };
+    let mut shape = random::longest_shape(50, 20);
     shape.counts[full as usize] = 8..=8;
     shape.quotas[full as usize] = 8..=8;
     random::roster(random, &shape)
@@ -29,12 +24,7 @@ fn wide(random: &mut Random, full: Side) -> Roster {
 
 /// A plan of 64 pairs, as its file.
 fn largest(random: &mut Random, roster: &Roster) -> Vec<u8> {
-    loop {
-        let plan = random::plan(random, roster, 100);
-        if plan.indices().len() == 64 {
-            return plan::write(roster, &plan);
-        }
-    }
+    plan::write(roster, &random::plan_of(random, roster, 64))
 }
 
 /// What a comparison's call takes.
