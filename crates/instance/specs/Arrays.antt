@@ -106,7 +106,8 @@ module _ (f : List ℕ) (r : Roster) (ok : T (fits r)) (O : Offsets shifted f r)
       ap (λ t. at t (i * rowWidth + c)) (from-bytes .0)
       ∙ ap (at (allStamped 0 (r .listsS) (replicate tableSize 0))) (none i c)
       ∙ all-at (r .listsS) 0 (replicate tableSize 0) (omega (arith, lists-count r ok, ns-small r ok, length-replicate {A = ℕ} tableSize 0))
-      (All-getD (Within 32) [] (r .listsS) (λ i l. list-within r ok 32 i (nt-small r ok) (omega (arith, lists-count r ok)))) (λ c k. all-blank 0 tableSize c) i c h
+      (All-getD (Within 32) [] (r .listsS) (λ i l. list-within r ok 32 i (nt-small r ok) (omega (arith, lists-count r ok))))
+      (λ c k. all-blank 0 tableSize c) i c h
     where
       none : (i c : ℕ) → i * rowWidth + c ≡ 0 + i * rowWidth + c
       none i c = omega arith
@@ -136,7 +137,8 @@ module _ (f : List ℕ) (r : Roster) (ok : T (fits r)) (O : Offsets shifted f r)
   next-is j h =
       ap (λ t. at t j) (from-bytes .2)
       ∙ ap (at (nextAll 0 (r .listsT) (replicate 32 0))) (none j)
-      ∙ next-at (r .listsT) 0 (replicate 32 0) (omega (arith, rankings-count r ok, nt-small r ok, length-replicate {A = ℕ} 32 0)) j (omega (arith, rankings-count r ok))
+      ∙ next-at (r .listsT) 0 (replicate 32 0) (omega (arith, rankings-count r ok, nt-small r ok, length-replicate {A = ℕ} 32 0)) j
+      (omega (arith, rankings-count r ok))
       ∙ small (length (listT r j .strict)) (omega (arith, strict-length r ok j h))
     where
       none : (j : ℕ) → j ≡ 0 + j
