@@ -2,6 +2,7 @@
 -- cells are the edges in order.
 use Prim.Native.Nat.{ℕ, suc, _+_, _*_, _/_, _%_, _≤_, _<_, min}
 use native.Mathlib.Omega.{arith}
+use native.Mathlib.Numerals.{add-one}
 use native.Mathlib.Decide.{decLt}
 use mathlib.Core.Path.{_≡_, refl, sym, ap, ap₂, _∙_, subst}
 use mathlib.Core.Logic.{by-cases, ⊎-elim}
@@ -105,7 +106,8 @@ module _ (f : List ℕ) (r : Roster) (ok : T (fits r)) (O : Offsets shifted f r)
       ap (λ t. at t (i * rowWidth + c)) (from-bytes .0)
       ∙ ap (at (allStamped 0 (r .listsS) (replicate tableSize 0))) (none i c)
       ∙ all-at (r .listsS) 0 (replicate tableSize 0) (omega (arith, lists-count r ok, ns-small r ok, length-replicate {A = ℕ} tableSize 0))
-      (All-getD (Within 32) [] (r .listsS) (λ i l. list-within r ok 32 i (nt-small r ok) (omega (arith, lists-count r ok)))) (λ c k. all-blank 0 tableSize c) i c h
+      (All-getD (Within 32) [] (r .listsS) (λ i l. list-within r ok 32 i (nt-small r ok) (omega (arith, lists-count r ok))))
+      (λ c k. all-blank 0 tableSize c) i c h
     where
       none : (i c : ℕ) → i * rowWidth + c ≡ 0 + i * rowWidth + c
       none i c = omega arith
@@ -135,7 +137,8 @@ module _ (f : List ℕ) (r : Roster) (ok : T (fits r)) (O : Offsets shifted f r)
   next-is j h =
       ap (λ t. at t j) (from-bytes .2)
       ∙ ap (at (nextAll 0 (r .listsT) (replicate 32 0))) (none j)
-      ∙ next-at (r .listsT) 0 (replicate 32 0) (omega (arith, rankings-count r ok, nt-small r ok, length-replicate {A = ℕ} 32 0)) j (omega (arith, rankings-count r ok))
+      ∙ next-at (r .listsT) 0 (replicate 32 0) (omega (arith, rankings-count r ok, nt-small r ok, length-replicate {A = ℕ} 32 0)) j
+      (omega (arith, rankings-count r ok))
       ∙ small (length (listT r j .strict)) (omega (arith, strict-length r ok j h))
     where
       none : (j : ℕ) → j ≡ 0 + j
@@ -151,15 +154,23 @@ module _ (f : List ℕ) (r : Roster) (ok : T (fits r)) (O : Offsets shifted f r)
   abbrev cellOf : ℕ → ℕ → ℕ → ℕ
   cellOf i j k = i * rowWidth + (3 * j + k)
 
+  row-is : (i j k : ℕ) → j < 32 → k < shiftLimit → cellOf i j k / rowWidth ≡ i
+  row-is i j k h l = omega arith
+
+  stand-is : (i j k : ℕ) → j < 32 → k < shiftLimit → standOf (cellOf i j k) ≡ j
+  stand-is i j k h l = omega arith
+
+  shift-is : (i j k : ℕ) → k < shiftLimit → shiftOf (cellOf i j k) ≡ k
+  shift-is i j k l = omega arith
+
   listed-cell : (i j k : ℕ) → j < 32 → k < shiftLimit → at listedTable (cellOf i j k) ≡ positionIn (listS r i) (entry j k)
   listed-cell i j k h l = listed-at i (3 * j + k) (omega arith) ∙ ap (positionIn (listS r i)) (place j k l)
 
   strict-cell : (i j k : ℕ) → i < 32 → j < 32 → k < shiftLimit → at strictTable (across (cellOf i j k)) ≡ positionIn (listT r j .strict) (entry i k)
   strict-cell i j k h l m =
-      ap (at strictTable) (turn i j k h l m) ∙ strict-at j (3 * i + k) (omega arith) ∙ ap (positionIn (listT r j .strict)) (place i k m)
-    where
-      turn : (i j k : ℕ) → i < 32 → j < 32 → k < shiftLimit → across (cellOf i j k) ≡ j * rowWidth + (3 * i + k)
-      turn i j k h l m = omega arith
+      ap (at strictTable)
+      (ap₂ (λ a b. a * rowWidth + b) (stand-is i j k l m) (ap₂ (λ a b. 3 * a + b) (row-is i j k l m) (shift-is i j k m)))
+      ∙ strict-at j (3 * i + k) (omega arith) ∙ ap (positionIn (listT r j .strict)) (place i k m)
 
   cell-listed : (i j k : ℕ) → j < 32 → k < shiftLimit → not (eqb (at listedTable (cellOf i j k)) 0) ≡ listed r i j (suc k)
   unfolding listed
@@ -184,22 +195,14 @@ module _ (f : List ℕ) (r : Roster) (ok : T (fits r)) (O : Offsets shifted f r)
       let stamp = strict-cell i j k (omega (arith, ns-small r ok)) m l in
       let edge : IsEdge r (pairEdge r i j (suc k))
       = record { i = i; j = j; k = suc k; i-in = h; j-in = n; k-from = omega arith; k-in = l; pair = t; is = refl } in
-      edge-is (g (cellOf i j k)) (pairEdge r i j (suc k)) (high i j k m l) (low i j k m l) (last i j k l) (rankS-is i j k m l t)
-      (ap₂ (λ z n. cond (eqb z 0) n z) stamp (ap (at nextTable) (low i j k m l) ∙ next-is j n)
+      edge-is (g (cellOf i j k)) (pairEdge r i j (suc k)) (row-is i j k m l) (stand-is i j k m l)
+      (ap (λ z. z + 1) (shift-is i j k l) ∙ add-one k) (rankS-is i j k m l t)
+      (ap₂ (λ z n. cond (eqb z 0) n z) stamp (ap (at nextTable) (stand-is i j k m l) ∙ next-is j n)
       ∙ rank-is (has x S) (position x S) (suc (length S)) (position-pos x S) (λ n. sym (position-out x S n)))
       (ap (λ z. eqb z 0) stamp ∙ tied-is (has x S) (has x (listT r j .tied)) (position x S) (position-pos x S)
       (λ y. not-both (has x S) (has x (listT r j .tied)) y (tied-not-strict r ok x j n))
       (λ n. ⊎-elim (λ s. absurd (T-not (has x S) n s)) (λ d. d) (strict-or-tied r ok (pairEdge r i j (suc k)) edge)))
     where
-      high : (i j k : ℕ) → j < 32 → k < shiftLimit → cellOf i j k / rowWidth ≡ i
-      high i j k h l = omega arith
-
-      low : (i j k : ℕ) → j < 32 → k < shiftLimit → standOf (cellOf i j k) ≡ j
-      low i j k h l = omega arith
-
-      last : (i j k : ℕ) → k < shiftLimit → shiftOf (cellOf i j k) + 1 ≡ suc k
-      last i j k l = omega arith
-
       not-both : (a b : Bool) → T a → (T b → T (not a)) → T (not b)
       not-both true true y h = h tt
       not-both true false y h = tt

@@ -24,7 +24,7 @@ pub record Listed (n : ℕ) (table : List ℕ) (k : ℕ) (cell : List ℕ) : Typ
 
 -- the stand of a cell, and its shift from 0
 abbrev pub standOf : ℕ → ℕ
-standOf c = c % rowWidth / 3
+standOf c = c / 3 % 32
 
 abbrev pub shiftOf : ℕ → ℕ
 shiftOf c = c % 3

@@ -126,7 +126,7 @@ pub fn filled(
     while e < m {
         let c = cell[e] as usize;
         let i = c / ROW;
-        let j = c % ROW / 3;
+        let j = c / 3 % 32;
         let k = c % 3;
         let t = strict[j * ROW + (3 * i + k)];
         sv[e] = i as u8;

@@ -50,8 +50,8 @@ module _ (f : List ℕ) (r : Roster) (e : writeRoster r ≡ f) (n : ℕ) (c : n 
   counts-small ok m d = (omega (arith, surveyors-are, ns-small r ok), omega (arith, stands-are m d, nt-small r ok))
 
 -- ---- n surveyors' lists, up to the place behind them
-module _ (ls : List (List Entry)) (n : ℕ) (count : length ls ≡ n) (f : List ℕ) (at : ℕ) (post : List ℕ) (e : drop at f ≡ gather (entriesBytes shifted) ls ++ post)
-    (some : 0 < length post) where
+module _ (ls : List (List Entry)) (n : ℕ) (count : length ls ≡ n) (f : List ℕ) (at : ℕ) (post : List ℕ)
+    (e : drop at f ≡ gather (entriesBytes shifted) ls ++ post) (some : 0 < length post) where
   pub lists-behind : drop (listsEnd f n at) f ≡ post
   lists-behind = ap (λ k. drop (listsEnd f k at) f) (sym count) ∙ lists-are ls f at post e 0 [] .1
 

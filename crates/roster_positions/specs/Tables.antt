@@ -1,6 +1,6 @@
 -- Tables of positions: what the loops over a roster's lists write. A table has 32 rows, one for each list, of 96 numbers, three for each
 -- number that an entry may have, one a shift; the number 1 in shift 1 stands at the row's first place.
-use Prim.Native.Nat.{ℕ, zero, suc, _+_, _*_, _/_, _%_}
+use Prim.Native.Nat.{ℕ, zero, suc, _+_, _-_, _*_, _/_, _%_, min}
 use mathlib.Core.List.{List, [], _∷_}
 use lib.ListN.{take, drop, getD, set}
 use Rattle.model.specs.Limits.{entryWidth}
@@ -12,9 +12,9 @@ rowWidth = 96
 abbrev pub tableSize : ℕ
 tableSize = 3072
 
--- the place of an entry in its row, and the entry of a place
+-- the place of an entry in its row, and the entry of a place; every byte has a place, but only from 1 to 32 and from 1 to 3 each its own
 abbrev pub column : Entry → ℕ
-column x = 3 * ((x .number + 31) % 32) + (x .shift + 2) % 3
+column x = 3 * ((x .number + 31) % 32) + min (x .shift - 1) 2
 
 abbrev pub entryOf : ℕ → Entry
 entryOf c = record { number = suc (c / 3); shift = suc (c % 3) }

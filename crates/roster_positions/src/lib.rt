@@ -2,7 +2,7 @@
 // number that an entry may have, one a shift. Lists are read as parts of the file. Nothing here checks a roster: on bytes that are none, the
 // tables hold what these functions say and no more.
 ghost use mathlib.Core.Path.{_≡_};
-ghost use Prim.Native.Nat.{_+_, _*_, _≤_};
+ghost use Prim.Native.Nat.{_+_, _-_, _*_, _≤_, min};
 ghost use lib.ListN.{length, take, drop, getD};
 ghost use Rattle.model.specs.Limits.{nodeLimit};
 ghost use Rattle.roster_positions.specs.Tables.{rowWidth, tableSize, entriesIn, stamped, listsStamped, listsEnd, strictStamped, nextRanks};
@@ -37,6 +37,19 @@ pub fn part(file: &[u8], at: usize, n: usize) -> &[u8]
     &file[at..e]
 }
 
+// a shift's place among the three of a number; a byte that is no shift takes the nearest one's
+pub(crate) fn shift_place(shift: u8) -> usize
+    ensures { λ r. ⌜ r ≡ min (shift - 1) 2 ⌝ }
+{
+    if shift == 0 {
+        return 0;
+    }
+    if 3 < shift {
+        return 2;
+    }
+    (shift - 1) as usize
+}
+
 // the positions from 1 of a list's entries, each written at its number and shift in a row of the table; from the last entry to the first
 pub fn stamp(list: &[u8], row: usize, table: &mut [u8; TABLE])
     requires { ⌜ (length (now list) ≤ 510) × (row + rowWidth ≤ tableSize) ⌝ }
@@ -46,8 +59,8 @@ pub fn stamp(list: &[u8], row: usize, table: &mut [u8; TABLE])
     while 0 < k {
         let at = ENTRY_WIDTH * (k - 1);
         let x = list[at] as usize;
-        let s = list[at + 1] as usize;
-        table[row + (3 * ((x + 31) % 32) + (s + 2) % 3)] = k as u8;
+        let s = shift_place(list[at + 1]);
+        table[row + (3 * ((x + 31) % 32) + s)] = k as u8;
         k -= 1;
     }
 }

@@ -33,7 +33,8 @@ loop-holds c =
     )
 
 stamp-requires : tie.Need-stamp-requires Inv-loop μ-loop
-stamp-requires c κs = (short (entryWidth * c .before .before .byte-at .result) 510 (c .before .part .result .now) _ (c .before .part .ensures) (omega arith), omega arith)
+stamp-requires c κs =
+    (short (entryWidth * c .before .before .byte-at .result) 510 (c .before .part .result .now) _ (c .before .part .ensures) (omega arith), omega arith)
 
 loop-again : tie.Need-loop-again Inv-loop μ-loop
 loop-again c =
