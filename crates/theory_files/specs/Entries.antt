@@ -75,7 +75,8 @@ fresh→ seen (x ∷ xs) t =
 →fresh : (seen xs : List Entry) → T (apart seen xs) → T (distinct xs) → T (fresh seen xs)
 →fresh seen [] a d = tt
 →fresh seen (x ∷ xs) a d = and-i (not (has x seen)) (fresh (seen ++ x ∷ []) xs) (and-l (not (has x seen)) (apart seen xs) a)
-    (→fresh (seen ++ x ∷ []) xs (snoc-apart seen x xs (and-r (not (has x seen)) (apart seen xs) a) (and-l (not (has x xs)) (distinct xs) d)) (and-r (not (has x xs)) (distinct xs) d))
+    (→fresh (seen ++ x ∷ []) xs (snoc-apart seen x xs (and-r (not (has x seen)) (apart seen xs) a) (and-l (not (has x xs)) (distinct xs) d))
+    (and-r (not (has x xs)) (distinct xs) d))
 
 apart-none : (xs : List Entry) → T (apart [] xs)
 apart-none [] = tt
@@ -90,7 +91,8 @@ distinct-fresh xs d = →fresh [] xs (apart-none xs) d
 -- the two parts of a stand's list, read one after the other
 pub fresh-append : (seen xs ys : List Entry) → fresh seen (xs ++ ys) ≡ fresh seen xs && fresh (seen ++ xs) ys
 fresh-append seen [] ys = ap (λ z. fresh z ys) (sym (append-nil seen))
-fresh-append seen (x ∷ xs) ys = go (not (has x seen)) (fresh-append (seen ++ x ∷ []) xs ys ∙ ap (λ z. fresh (seen ++ x ∷ []) xs && fresh z ys) (append-assoc seen (x ∷ []) xs))
+fresh-append seen (x ∷ xs) ys = go (not (has x seen)) (fresh-append (seen ++ x ∷ []) xs ys
+    ∙ ap (λ z. fresh (seen ++ x ∷ []) xs && fresh z ys) (append-assoc seen (x ∷ []) xs))
   where
     go : (b : Bool) → fresh (seen ++ x ∷ []) (xs ++ ys) ≡ fresh (seen ++ x ∷ []) xs && fresh (seen ++ x ∷ xs) ys
         → b && fresh (seen ++ x ∷ []) (xs ++ ys) ≡ (b && fresh (seen ++ x ∷ []) xs) && fresh (seen ++ x ∷ xs) ys
@@ -121,7 +123,8 @@ in-range count x t =
     above (suc n) t = omega arith
 
 pub range-in : (count : ℕ) (x : Entry) → 1 ≤ x .number → x .number ≤ count → 1 ≤ x .shift → x .shift ≤ shiftLimit → T (entryFits count x)
-range-in count x a b c d = and-i (not (outside count (x .number))) (not (outside shiftLimit (x .shift))) (inside count (x .number) a b) (inside shiftLimit (x .shift) c d)
+range-in count x a b c d = and-i (not (outside count (x .number))) (not (outside shiftLimit (x .shift)))
+    (inside count (x .number) a b) (inside shiftLimit (x .shift) c d)
   where
     inside : (count n : ℕ) → 1 ≤ n → n ≤ count → T (not (outside count n))
     inside count n a b = nor-i (eqb n 0) (ltb count n) (false-T (eqb-no n 0 (λ (e : n ≡ 0). omega arith))) (le→nltb count n b)
@@ -138,14 +141,17 @@ quotas→ so [] h p = (tt, omega arith)
 quotas→ so (q ∷ qs) h p =
     given (cond-zero (ltb quotaLimit q || ltb quotaSumLimit (so + q)) 2 (p .0)) (λ (t, z).
     given (nltb→le quotaSumLimit (so + q) (nor-r (ltb quotaLimit q) (ltb quotaSumLimit (so + q)) t)) (λ s.
-    given (quotas→ (so + q) qs s (p .1)) (λ (a, k).
-    (and-i (leb q quotaLimit) (small qs) (le→leb q quotaLimit (nltb→le quotaLimit q (nor-l (ltb quotaLimit q) (ltb quotaSumLimit (so + q)) t))) a, omega arith))))
+    given (quotas→ (so + q) qs s (p .1)) (λ (a, k). (
+      and-i (leb q quotaLimit) (small qs) (le→leb q quotaLimit (nltb→le quotaLimit q (nor-l (ltb quotaLimit q) (ltb quotaSumLimit (so + q)) t))) a,
+      omega arith,
+    ))))
 
 pub →quotas : (so : ℕ) (qs : List ℕ) → T (small qs) → so + sum (λ q. q) qs ≤ quotaSumLimit → QuotasPass so qs
 →quotas so [] a k = tt
 →quotas so (q ∷ qs) a k = (
   zero-cond (ltb quotaLimit q || ltb quotaSumLimit (so + q)) 2
-      (nor-i (ltb quotaLimit q) (ltb quotaSumLimit (so + q)) (le→nltb quotaLimit q (leb→le q quotaLimit (and-l (leb q quotaLimit) (small qs) a))) (le→nltb quotaSumLimit (so + q) (omega arith))) refl,
+      (nor-i (ltb quotaLimit q) (ltb quotaSumLimit (so + q)) (le→nltb quotaLimit q (leb→le q quotaLimit (and-l (leb q quotaLimit) (small qs) a)))
+      (le→nltb quotaSumLimit (so + q) (omega arith))) refl,
   →quotas (so + q) qs (and-r (leb q quotaLimit) (small qs) a) (omega arith),
 )
 
@@ -174,7 +180,8 @@ entries→ other seen (x ∷ xs) p =
 pub →entries : (other : ℕ) (seen xs : List Entry) → T (inRange other xs) → T (fresh seen xs) → EntriesPass other seen xs
 →entries other seen [] r f = tt
 →entries other seen (x ∷ xs) r f = (
-  →refusal other x (cond (has x seen) 5 0) (and-l (entryFits other x) (inRange other xs) r) (zero-cond (has x seen) 4 (and-l (not (has x seen)) (fresh (seen ++ x ∷ []) xs) f) refl),
+  →refusal other x (cond (has x seen) 5 0) (and-l (entryFits other x) (inRange other xs) r)
+      (zero-cond (has x seen) 4 (and-l (not (has x seen)) (fresh (seen ++ x ∷ []) xs) f) refl),
   →entries other (seen ++ x ∷ []) xs (and-r (entryFits other x) (inRange other xs) r) (and-r (not (has x seen)) (fresh (seen ++ x ∷ []) xs) f),
 )
 
@@ -197,6 +204,8 @@ pub →tied : (other : ℕ) (s : Tie) (xs : List Entry) → T (inRange other xs)
 →tied other s [] r f u = tt
 →tied other s (x ∷ xs) r f u = (
   →refusal other x (cond (has x (s .seen)) 5 (cond (before (s .last) x) 0 6)) (and-l (entryFits other x) (inRange other xs) r)
-      (zero-cond (has x (s .seen)) 4 (and-l (not (has x (s .seen))) (fresh (s .seen ++ x ∷ []) xs) f) (first-cond (before (s .last) x) 5 (and-l (before (s .last) x) (ascending x xs) u))),
-  →tied other (record { seen = s .seen ++ x ∷ []; last = x }) xs (and-r (entryFits other x) (inRange other xs) r) (and-r (not (has x (s .seen))) (fresh (s .seen ++ x ∷ []) xs) f) (and-r (before (s .last) x) (ascending x xs) u),
+      (zero-cond (has x (s .seen)) 4 (and-l (not (has x (s .seen))) (fresh (s .seen ++ x ∷ []) xs) f)
+      (first-cond (before (s .last) x) 5 (and-l (before (s .last) x) (ascending x xs) u))),
+  →tied other (record { seen = s .seen ++ x ∷ []; last = x }) xs (and-r (entryFits other x) (inRange other xs) r)
+      (and-r (not (has x (s .seen))) (fresh (s .seen ++ x ∷ []) xs) f) (and-r (before (s .last) x) (ascending x xs) u),
 )

@@ -64,8 +64,11 @@ in-shiftedPair = record { holds = λ p. true; reads = reads-shiftedPair; width =
 
 pub reads-plainPair : Reads (plainPair .field) (plainPair .bytes) (λ p. T (eqb (p .shift) 1))
 reads-plainPair = record {
-  back = λ bs p rest t e. given (then-read (twoBytes bs) (λ w rest. accepted (record { surveyor = w .0; stand = w .1; shift = 1 }, rest)) e) (λ (w, mid, e₁, h₁).
-      (twoBytes-read bs e₁ ∙ ap (λ z. w .0 ∷ w .1 ∷ z) (read-rest h₁) ∙ ap (λ (q : Named). q .surveyor ∷ q .stand ∷ rest) (read-value h₁), subst (λ q. T (eqb (q .shift) 1)) (read-value h₁) tt));
+  back = λ bs p rest t e. given (then-read (twoBytes bs) (λ w rest. accepted (record { surveyor = w .0; stand = w .1; shift = 1 }, rest)) e)
+      (λ (w, mid, e₁, h₁). (
+        twoBytes-read bs e₁ ∙ ap (λ z. w .0 ∷ w .1 ∷ z) (read-rest h₁) ∙ ap (λ (q : Named). q .surveyor ∷ q .stand ∷ rest) (read-value h₁),
+        subst (λ q. T (eqb (q .shift) 1)) (read-value h₁) tt,
+      ));
   forth = λ p rest h. ap (λ k. accepted (record { surveyor = p .surveyor; stand = p .stand; shift = k }, rest)) (sym (eqb→eq (p .shift) 1 h));
 }
 

@@ -22,14 +22,16 @@ use Rattle.model.specs.RosterFile.{readCount}
 use Rattle.model.specs.Roster.{elem}
 use Rattle.model.specs.Instance.{Instance, Side, surveyors, stands}
 use Rattle.model.specs.Plans.{Plan, on, withinSide, within, plansOf}
-use Rattle.model.specs.PlanFile.{Named, nameOf, sameName, PairLayout, shiftedPair, plainPair, edgesIn, pairListBy, planBytesBy, pairList, planBytes, edgeOfPair, full, Pairs, pairCheck, withPair, readPairsBy, planOfPairs, readPlanBy, readPlan}
+use Rattle.model.specs.PlanFile.{Named, nameOf, sameName, PairLayout, shiftedPair, plainPair, edgesIn, pairListBy, planBytesBy, pairList}
+use Rattle.model.specs.PlanFile.{planBytes, edgeOfPair, full, Pairs, pairCheck, withPair, readPairsBy, planOfPairs, readPlanBy, readPlan}
 use Rattle.theory_instance.specs.Lawful.{Lawful, Matching}
 use Rattle.theory_instance.specs.Within.{within-side, within-matching, matching-within}
 use Rattle.theory_files.specs.Reads.{isBytes, Reads, Passes, each, read-value, read-rest, then-read, whole-accepted}
 use Rattle.theory_files.specs.Entries.{cond-zero, zero-cond}
 use Rattle.theory_files.specs.Layouts.{PairAgrees, in-shiftedPair, in-plainPair}
 use Rattle.theory_files.specs.Sections.{alike, counted}
-use Rattle.theory_files.specs.Chosen.{on-planOf, planOf-length, planOf-on, planOf-cong, edgesIn-cong, plan-length, plan-within, within-plan, From, Below, keep-from, keep-below, edges-of-elem, elem-edgesIn, atNode, deg-atNode}
+use Rattle.theory_files.specs.Chosen.{on-planOf, planOf-length, planOf-on, planOf-cong, edgesIn-cong, plan-length, plan-within}
+use Rattle.theory_files.specs.Chosen.{within-plan, From, Below, keep-from, keep-below, edges-of-elem, elem-edgesIn, atNode, deg-atNode}
 
 -- what the laws ask of an instance
 pub record Fileable (G : Instance) : Type 0 where
@@ -43,14 +45,19 @@ name-parts p q t =
     let a = eqb (p .surveyor) (q .surveyor) in
     let b = eqb (p .stand) (q .stand) in
     let c = eqb (p .shift) (q .shift) in
-    given (and-r a (b && c) t) (λ u. (eqb→eq (p .surveyor) (q .surveyor) (and-l a (b && c) t), eqb→eq (p .stand) (q .stand) (and-l b c u), eqb→eq (p .shift) (q .shift) (and-r b c u)))
+    given (and-r a (b && c) t) (λ u. (
+      eqb→eq (p .surveyor) (q .surveyor) (and-l a (b && c) t),
+      eqb→eq (p .stand) (q .stand) (and-l b c u),
+      eqb→eq (p .shift) (q .shift) (and-r b c u),
+    ))
 
 pub same-name : (p q : Named) → (p .surveyor ≡ q .surveyor) × (p .stand ≡ q .stand) × (p .shift ≡ q .shift) → p ≡ q
 same-name p q (a, b, c) = λ i. record { surveyor = a i; stand = b i; shift = c i }
 
 module _ (G : Instance) where
   -- the edge that is found has the pair's numbers
-  pub found-parts : (p : Named) → edgeOfPair G p < G .m → (suc (G .sv (edgeOfPair G p)) ≡ p .surveyor) × (suc (G .st (edgeOfPair G p)) ≡ p .stand) × (G .sh (edgeOfPair G p) ≡ p .shift)
+  pub found-parts : (p : Named) → edgeOfPair G p < G .m
+      → (suc (G .sv (edgeOfPair G p)) ≡ p .surveyor) × (suc (G .st (edgeOfPair G p)) ≡ p .stand) × (G .sh (edgeOfPair G p) ≡ p .shift)
   unfolding edgeOfPair
   found-parts p h = name-parts (nameOf G (edgeOfPair G p)) p (low-is (λ e. sameName (nameOf G e) p) (G .m) .2 h)
 
@@ -62,7 +69,8 @@ module _ (G : Instance) where
   found F e h =
       let l = low-is (λ d. sameName (nameOf G d) (nameOf G e)) (G .m) in
       let d = edgeOfPair G (nameOf G e) in
-      let t : T (sameName (nameOf G e) (nameOf G e)) = and-i (eqb (suc (G .sv e)) (suc (G .sv e))) (eqb (suc (G .st e)) (suc (G .st e)) && eqb (G .sh e) (G .sh e)) (eqb-refl (suc (G .sv e)))
+      let t : T (sameName (nameOf G e) (nameOf G e)) = and-i (eqb (suc (G .sv e)) (suc (G .sv e)))
+      (eqb (suc (G .st e)) (suc (G .st e)) && eqb (G .sh e) (G .sh e)) (eqb-refl (suc (G .sv e)))
       (and-i (eqb (suc (G .st e)) (suc (G .st e))) (eqb (G .sh e) (G .sh e)) (eqb-refl (suc (G .st e))) (eqb-refl (G .sh e))) in
       by-cases (decLt d (G .m))
       (λ k. given (found-parts (nameOf G e) k) (λ (s, u, v). F .differ d e k h (pred s) (pred u) v))
@@ -78,7 +86,8 @@ module _ (G : Instance) where
   edges ps = map (edgeOfPair G) ps
 
   -- ---- what the check of a pair says, and what it asks
-  passed : (s : Pairs) (p : Named) → pairCheck G s p ≡ 0 → (edgeOfPair G p < G .m) × (s .from ≤ edgeOfPair G p) × T (not (full (surveyors G) (s .seen) (edgeOfPair G p))) × T (not (full (stands G) (s .seen) (edgeOfPair G p)))
+  passed : (s : Pairs) (p : Named) → pairCheck G s p ≡ 0 → (edgeOfPair G p < G .m) × (s .from ≤ edgeOfPair G p)
+      × T (not (full (surveyors G) (s .seen) (edgeOfPair G p))) × T (not (full (stands G) (s .seen) (edgeOfPair G p)))
   passed s p e =
       let d = edgeOfPair G p in
       let a = full (surveyors G) (s .seen) d in
@@ -86,9 +95,12 @@ module _ (G : Instance) where
       given (cond-zero (leb (G .m) d) 9 e) (λ (t, e₁). given (cond-zero (ltb d (s .from)) 10 e₁) (λ (u, e₂). given (cond-zero (a || b) 11 e₂) (λ (v, z).
       (nleb→lt (G .m) d t, nltb→le d (s .from) u, nor-l a b v, nor-r a b v))))
 
-  passes : (s : Pairs) (p : Named) → edgeOfPair G p < G .m → s .from ≤ edgeOfPair G p → T (not (full (surveyors G) (s .seen) (edgeOfPair G p))) → T (not (full (stands G) (s .seen) (edgeOfPair G p))) → pairCheck G s p ≡ 0
-  passes s p h k a b = zero-cond (leb (G .m) (edgeOfPair G p)) 9 (lt→nleb (G .m) (edgeOfPair G p) h) (zero-cond (ltb (edgeOfPair G p) (s .from)) 10 (le→nltb (edgeOfPair G p) (s .from) k)
-      (zero-cond (full (surveyors G) (s .seen) (edgeOfPair G p) || full (stands G) (s .seen) (edgeOfPair G p)) 11 (nor-i (full (surveyors G) (s .seen) (edgeOfPair G p)) (full (stands G) (s .seen) (edgeOfPair G p)) a b) refl))
+  passes : (s : Pairs) (p : Named) → edgeOfPair G p < G .m → s .from ≤ edgeOfPair G p
+      → T (not (full (surveyors G) (s .seen) (edgeOfPair G p))) → T (not (full (stands G) (s .seen) (edgeOfPair G p))) → pairCheck G s p ≡ 0
+  passes s p h k a b = zero-cond (leb (G .m) (edgeOfPair G p)) 9 (lt→nleb (G .m) (edgeOfPair G p) h)
+      (zero-cond (ltb (edgeOfPair G p) (s .from)) 10 (le→nltb (edgeOfPair G p) (s .from) k)
+      (zero-cond (full (surveyors G) (s .seen) (edgeOfPair G p) || full (stands G) (s .seen) (edgeOfPair G p)) 11
+      (nor-i (full (surveyors G) (s .seen) (edgeOfPair G p)) (full (stands G) (s .seen) (edgeOfPair G p)) a b) refl))
 
   passes-from : (s : Pairs) (ps : List (Named)) → PairsPass s ps → From (s .from) (edges ps) × Below (G .m) (edges ps)
   passes-from s [] k = (tt, tt)
@@ -97,7 +109,8 @@ module _ (G : Instance) where
   -- the pairs are those of the edges
   pairs-back : (L : PairLayout) (s : Pairs) (ps : List Named) → PairsPass s ps → pairListBy L G (edges ps) ≡ gather (L .bytes) ps
   pairs-back L s [] k = refl
-  pairs-back L s (p ∷ ps) k = given (passed s p (k .0)) (λ (h, l, a, b). ap₂ (λ q zs. L .bytes q ++ zs) (found-is p h) (pairs-back L (withPair G s p) ps (k .1)))
+  pairs-back L s (p ∷ ps) k = given (passed s p (k .0)) (λ (h, l, a, b).
+      ap₂ (λ q zs. L .bytes q ++ zs) (found-is p h) (pairs-back L (withPair G s p) ps (k .1)))
 
   names-back : (s : Pairs) (ps : List Named) → PairsPass s ps → map (nameOf G) (edges ps) ≡ ps
   names-back s [] k = refl
@@ -109,18 +122,32 @@ module _ (G : Instance) where
 
   one-more : (K : Side) (seen : List ℕ) (e : ℕ) → Fits K seen → T (not (full K seen e)) → Fits K (seen ++ e ∷ [])
   one-more K seen e f n v = by-eq (K .end e) v
-      (λ q b. omega (arith, sum-append (λ d. bit (eqb (K .end d) v)) seen (e ∷ []), ap bit b, subst (λ u. atNode K u seen < K .quota u) q (nleb→lt (K .quota (K .end e)) (atNode K (K .end e) seen) n)))
+      (λ q b. omega (
+        arith,
+        sum-append (λ d. bit (eqb (K .end d) v)) seen (e ∷ []),
+        ap bit b,
+        subst (λ u. atNode K u seen < K .quota u) q (nleb→lt (K .quota (K .end e)) (atNode K (K .end e) seen) n),
+      ))
       (λ q b. omega (arith, sum-append (λ d. bit (eqb (K .end d) v)) seen (e ∷ []), ap bit b, f v))
 
-  passes-fit : (s : Pairs) (ps : List (Named)) → Fits (surveyors G) (s .seen) → Fits (stands G) (s .seen) → PairsPass s ps → Fits (surveyors G) (s .seen ++ edges ps) × Fits (stands G) (s .seen ++ edges ps)
+  passes-fit : (s : Pairs) (ps : List (Named)) → Fits (surveyors G) (s .seen) → Fits (stands G) (s .seen)
+      → PairsPass s ps → Fits (surveyors G) (s .seen ++ edges ps) × Fits (stands G) (s .seen ++ edges ps)
   passes-fit s [] f g k = (subst (Fits (surveyors G)) (sym (append-nil (s .seen))) f, subst (Fits (stands G)) (sym (append-nil (s .seen))) g)
   passes-fit s (p ∷ ps) f g k = given (passed s p (k .0)) (λ (h, l, a, b).
-      given (passes-fit (withPair G s p) ps (one-more (surveyors G) (s .seen) (edgeOfPair G p) f a) (one-more (stands G) (s .seen) (edgeOfPair G p) g b) (k .1)) (λ (x, y).
-      (subst (Fits (surveyors G)) (append-assoc (s .seen) (edgeOfPair G p ∷ []) (edges ps)) x, subst (Fits (stands G)) (append-assoc (s .seen) (edgeOfPair G p ∷ []) (edges ps)) y)))
+      given (passes-fit (withPair G s p) ps (one-more (surveyors G) (s .seen) (edgeOfPair G p) f a)
+      (one-more (stands G) (s .seen) (edgeOfPair G p) g b) (k .1)) (λ (x, y). (
+        subst (Fits (surveyors G)) (append-assoc (s .seen) (edgeOfPair G p ∷ []) (edges ps)) x,
+        subst (Fits (stands G)) (append-assoc (s .seen) (edgeOfPair G p ∷ []) (edges ps)) y,
+      )))
 
   room-for : (K : Side) (seen : List ℕ) (e : ℕ) (es : List ℕ) → Fits K (seen ++ e ∷ es) → T (not (full K seen e))
   room-for K seen e es f = lt→nleb (K .quota (K .end e)) (atNode K (K .end e) seen)
-      (omega (arith, f (K .end e), sum-append (λ d. bit (eqb (K .end d) (K .end e))) seen (e ∷ es), ap bit (T-true {b = eqb (K .end e) (K .end e)} (eqb-refl (K .end e)))))
+      (omega (
+        arith,
+        f (K .end e),
+        sum-append (λ d. bit (eqb (K .end d) (K .end e))) seen (e ∷ es),
+        ap bit (T-true {b = eqb (K .end e) (K .end e)} (eqb-refl (K .end e))),
+      ))
 
   abbrev start : Pairs
   start = record { seen = []; from = 0 }
@@ -133,7 +160,8 @@ module _ (G : Instance) where
       ∙ edges-of-elem (G .m) (edges ps) f b)
 
   -- ---- a plan within the quotas, written and read
-  written-passes : Fileable G → (s : Pairs) (es : List ℕ) → From (s .from) es → Below (G .m) es → Fits (surveyors G) (s .seen ++ es) → Fits (stands G) (s .seen ++ es) → PairsPass s (map (nameOf G) es)
+  written-passes : Fileable G → (s : Pairs) (es : List ℕ) → From (s .from) es → Below (G .m) es
+      → Fits (surveyors G) (s .seen ++ es) → Fits (stands G) (s .seen ++ es) → PairsPass s (map (nameOf G) es)
   written-passes F s [] f b x y = tt
   written-passes F s (e ∷ es) f b x y =
       let q = sym (found F e (b .0)) in (
@@ -155,7 +183,8 @@ module _ (G : Instance) where
   )
     where
       once : (e : ℕ) → e < K .m → sum (λ v. bit (eqb (K .end e) v)) (upTo (K .n)) ≡ 1
-      once e h = sum-cong (λ v. bit (eqb (K .end e) v)) (λ v. pk (eqb (K .end e) v) 1) (upTo (K .n)) (λ v m. bit-pk (eqb (K .end e) v)) ∙ sum-one (λ v. 1) (K .n) (K .end e) (inside e h)
+      once e h = sum-cong (λ v. bit (eqb (K .end e) v)) (λ v. pk (eqb (K .end e) v) 1) (upTo (K .n)) (λ v m. bit-pk (eqb (K .end e) v))
+          ∙ sum-one (λ v. 1) (K .n) (K .end e) (inside e h)
 
       each-once : (es : List ℕ) → Below (K .m) es → length es ≡ sum (λ d. sum (λ v. bit (eqb (K .end d) v)) (upTo (K .n))) es
       each-once [] b = refl
@@ -191,7 +220,8 @@ module _ (G : Instance) where
     written-pass = written-passes F start es (keep-from (on M) 0 (G .m)) below fitsS fitsT
 
     plan-back : planOfPairs G (map (nameOf G) es) ≡ M
-    plan-back = planOf-cong (G .m) (λ e. elem e (edges (map (nameOf G) es))) (on M) (λ e h. ap (elem e) (edges-back es below) ∙ elem-edgesIn (G .m) (on M) e h) ∙ planOf-on (G .m) M (plan-length G ok)
+    plan-back = planOf-cong (G .m) (λ e. elem e (edges (map (nameOf G) es))) (on M)
+        (λ e h. ap (elem e) (edges-back es below) ∙ elem-edgesIn (G .m) (on M) e h) ∙ planOf-on (G .m) M (plan-length G ok)
 
   -- ---- a plan file is its pairs
   module _ (L : PairLayout) (A : PairAgrees L) where
@@ -241,14 +271,18 @@ module _ (G : Instance) where
 
     names-all : (ds : List ℕ) → T (all? (λ e. A .holds (nameOf G e)) ds) → All (λ p. T (A .holds p)) (map (nameOf G) ds)
     names-all [] t = tt
-    names-all (d ∷ ds) t = (and-l (A .holds (nameOf G d)) (all? (λ e. A .holds (nameOf G e)) ds) t, names-all ds (and-r (A .holds (nameOf G d)) (all? (λ e. A .holds (nameOf G e)) ds) t))
+    names-all (d ∷ ds) t = (
+      and-l (A .holds (nameOf G d)) (all? (λ e. A .holds (nameOf G e)) ds) t,
+      names-all ds (and-r (A .holds (nameOf G d)) (all? (λ e. A .holds (nameOf G e)) ds) t),
+    )
 
     module _ (bs : List ℕ) (M : Plan) (isB : T (isBytes bs)) (e : readPlanBy L G bs ≡ accepted M) where
       -- accepted bytes are written back the same
       pub plan-read-write-by : planBytesBy L G M ≡ bs
       unfolding planBytesBy
       plan-read-write-by = given (plan-pairs bs M isB e) (λ X. given (edges-are M (X .ps) (X .passing) (X .plan)) (λ q.
-          ap (λ es. length es ∷ pairListBy L G es) q ∙ ap₂ (λ n zs. n ∷ zs) (length-map (X .ps) (edgeOfPair G)) (pairs-back L start (X .ps) (X .passing)) ∙ sym (X .file)))
+          ap (λ es. length es ∷ pairListBy L G es) q
+          ∙ ap₂ (λ n zs. n ∷ zs) (length-map (X .ps) (edgeOfPair G)) (pairs-back L start (X .ps) (X .passing)) ∙ sym (X .file)))
 
       -- are a plan within the quotas
       pub plan-read-within-by : M ∈ plansOf G
@@ -263,7 +297,8 @@ module _ (G : Instance) where
       -- and of pairs that the layout can hold
       pub plan-read-held : PlanHeld M
       plan-read-held = given (plan-pairs bs M isB e) (λ X. given (edges-are M (X .ps) (X .passing) (X .plan)) (λ q.
-          subst (λ ds. T (all? (λ e. A .holds (nameOf G e)) ds)) (sym q) (all-names (edges (X .ps)) (subst (All (λ p. T (A .holds p))) (sym (names-back start (X .ps) (X .passing))) (X .held)))))
+          subst (λ ds. T (all? (λ e. A .holds (nameOf G e)) ds)) (sym q)
+          (all-names (edges (X .ps)) (subst (All (λ p. T (A .holds p))) (sym (names-back start (X .ps) (X .passing))) (X .held)))))
 
       pub plan-read-matching-by : Lawful G → Matching G (on M)
       plan-read-matching-by law = within-matching G (on M) law (plan-within G plan-read-within-by)
@@ -273,7 +308,9 @@ module _ (G : Instance) where
       plan-accepted-count-by = given (plan-pairs bs M isB e) (λ X. subst (λ z. 1 ≤ length z) (sym (X .file)) (omega arith))
 
       pub plan-accepted-size-by : length bs ≤ planSizeBy
-      plan-accepted-size-by = given (plan-pairs bs M isB e) (λ X. given (mul-le-mul-left (A .width) (leb→le (length (X .ps)) planLimit (X .small))) (λ h. subst (λ z. length z ≤ planSizeBy) (sym (X .file)) (omega (arith, bytes-size (X .ps)))))
+      plan-accepted-size-by = given (plan-pairs bs M isB e) (λ X.
+          given (mul-le-mul-left (A .width) (leb→le (length (X .ps)) planLimit (X .small))) (λ h.
+          subst (λ z. length z ≤ planSizeBy) (sym (X .file)) (omega (arith, bytes-size (X .ps)))))
 
     -- a plan within the quotas, written and read
     pub bytes-are : (ds : List ℕ) → pairListBy L G ds ≡ gather (L .bytes) (map (nameOf G) ds)
@@ -286,14 +323,22 @@ module _ (G : Instance) where
       plan-write-read-by held =
           let ds = edgesIn (G .m) (on M) in
           let ps = map (nameOf G) ds in
-          let file : length ds ∷ pairListBy L G ds ≡ (length ps ∷ gather (L .bytes) ps) ++ [] = ap₂ (λ n zs. n ∷ zs) (sym (length-map ds (nameOf G))) (bytes-are ds) ∙ sym (append-nil (length ps ∷ gather (L .bytes) ps)) in
-          let small : T (leb (length ps) planLimit) = le→leb (length ps) planLimit (subst (λ n. n ≤ planLimit) (sym (length-map ds (nameOf G))) (plan-few F M ok)) in
+          let file : length ds ∷ pairListBy L G ds ≡ (length ps ∷ gather (L .bytes) ps) ++ [] =
+          ap₂ (λ n zs. n ∷ zs) (sym (length-map ds (nameOf G))) (bytes-are ds) ∙ sym (append-nil (length ps ∷ gather (L .bytes) ps)) in
+          let small : T (leb (length ps) planLimit) = le→leb (length ps) planLimit
+          (subst (λ n. n ≤ planLimit) (sym (length-map ds (nameOf G))) (plan-few F M ok)) in
           let read = ap (λ bs. readCount planLimit bs then readPairsBy L G) file ∙ pairs .forth ps [] (small, (names-all ds held, written-pass F M ok)) in
           ap (λ r. whole (r then (λ ps rest. accepted (planOfPairs G ps, rest)))) read ∙ ap accepted (plan-back F M ok)
 
       pub plan-size-by : length (planBytesBy L G M) ≤ planSizeBy
       unfolding planBytesBy
-      plan-size-by = omega (arith, mul-le-mul-left (A .width) (plan-few F M ok), ap length (bytes-are (edgesIn (G .m) (on M))), bytes-size (map (nameOf G) (edgesIn (G .m) (on M))), ap (λ n. A .width * n) (length-map (edgesIn (G .m) (on M)) (nameOf G)))
+      plan-size-by = omega (
+        arith,
+        mul-le-mul-left (A .width) (plan-few F M ok),
+        ap length (bytes-are (edgesIn (G .m) (on M))),
+        bytes-size (map (nameOf G) (edgesIn (G .m) (on M))),
+        ap (λ n. A .width * n) (length-map (edgesIn (G .m) (on M)) (nameOf G)),
+      )
 
   -- ---- plans with shifts
   -- pairs are as long as their number says

@@ -36,7 +36,8 @@ module _ (L : PairLayout) (G : Instance) where
   plan-starts n bs h = ap (λ b. whole (cond b (refused 2) (accepted (n, bs)) then readPairsBy L G then finish [])) (le-ltb planLimit n h)
 
   abbrev onward : ℕ → Pairs → Named → List ℕ → Reading (List Named × List ℕ)
-  onward n s p rest = refuseBy (pairCheck G s p) (readEach (L .field) (pairCheck G) (withPair G) n (withPair G s p) rest then (λ xs rest. accepted (p ∷ xs, rest)))
+  onward n s p rest = refuseBy (pairCheck G s p) (readEach (L .field) (pairCheck G) (withPair G) n (withPair G s p) rest then (λ xs rest.
+      accepted (p ∷ xs, rest)))
 
   -- the field is cut short
   pub left-cut : (n : ℕ) (s : Pairs) (bs : List ℕ) (ps : List Named) → L .field bs ≡ refused 1 → pairsLeft (suc n) s bs ps ≡ refused 1
@@ -47,9 +48,11 @@ module _ (L : PairLayout) (G : Instance) where
   pub left-pair : (n : ℕ) (s : Pairs) (p : Named) (bs rest : List ℕ) (ps : List Named) → L .field bs ≡ accepted (p, rest)
       → pairsLeft (suc n) s bs ps ≡ refuseBy (pairCheck G s p) (pairsLeft n (withPair G s p) rest (ps ++ p ∷ []))
   unfolding readEach
-  left-pair n s p bs rest ps e = ap (λ r. r then onward n s then finish ps) e ∙ out (pairCheck G s p) (readEach (L .field) (pairCheck G) (withPair G) n (withPair G s p) rest)
+  left-pair n s p bs rest ps e = ap (λ r. r then onward n s then finish ps) e
+      ∙ out (pairCheck G s p) (readEach (L .field) (pairCheck G) (withPair G) n (withPair G s p) rest)
     where
-      out : (c : ℕ) (r : Reading (List Named × List ℕ)) → (refuseBy c (r then (λ xs rest. accepted (p ∷ xs, rest))) then finish ps) ≡ refuseBy c (r then finish (ps ++ p ∷ []))
+      out : (c : ℕ) (r : Reading (List Named × List ℕ))
+          → (refuseBy c (r then (λ xs rest. accepted (p ∷ xs, rest))) then finish ps) ≡ refuseBy c (r then finish (ps ++ p ∷ []))
       out zero (accepted (xs, rest)) = ap (λ z. accepted (planOfPairs G z, rest)) (sym (append-snoc ps p xs))
       out zero (refused k) = refl
       out (suc c) r = refl

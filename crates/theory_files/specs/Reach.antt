@@ -16,13 +16,16 @@ use Rattle.lists.specs.Test.{given}
 use Rattle.model.specs.Limits.{nodeLimit, entryLimit, listLimit, inputSize}
 use Rattle.model.specs.Reading.{Reading, accepted, refused, _then_, refuseIf, refuseBy, byte, twoBytes, readEach, whole}
 use Rattle.model.specs.Roster.{Entry, Ranking, Roster, noEntry, totalS, totalT}
-use Rattle.model.specs.RosterFile.{Layout, shifted, plain, readCount, readWideCount, quotaCheck, readQuotas, readNodes, entryCheck, readEntries, tiedCheck, readTied, readList, readRanking, readMany, readSection, readSections, oneSided, readRosterBy, readRoster}
+use Rattle.model.specs.RosterFile.{Layout, shifted, plain, readCount, readWideCount, quotaCheck, readQuotas, readNodes, entryCheck, readEntries}
+use Rattle.model.specs.RosterFile.{tiedCheck, readTied, readList, readRanking, readMany, readSection, readSections, oneSided, readRosterBy}
+use Rattle.model.specs.RosterFile.{readRoster}
 
 -- a reading of some bytes, and of the same with more behind them: both refuse alike, or both give the same and the rest, of which no more
 -- than k bytes are gone
 data Alike {A : Type 0} (k : ℕ) (P : A → Type 0) (bs tail : List ℕ) (short long : Reading (A × List ℕ)) : Type 0 where
   stops : (n : ℕ) → short ≡ refused n → long ≡ refused n → Alike k P bs tail short long
-  goes : (a : A) (rest : List ℕ) → P a → short ≡ accepted (a, rest) → long ≡ accepted (a, rest ++ tail) → length bs ≤ length rest + k → Alike k P bs tail short long
+  goes : (a : A) (rest : List ℕ) → P a → short ≡ accepted (a, rest) → long ≡ accepted (a, rest ++ tail)
+      → length bs ≤ length rest + k → Alike k P bs tail short long
 
 abbrev Reaches : {A : Type 0} → ℕ → (A → Type 0) → (List ℕ → Reading (A × List ℕ)) → Type 0
 Reaches k P read = (bs tail : List ℕ) → k ≤ length bs → Alike k P bs tail (read bs) (read (bs ++ tail))
@@ -88,16 +91,19 @@ module _ {S A : Type 0} (field : List ℕ → Reading (A × List ℕ)) (check : 
       (reach-then k (k * n) field (λ x rest. refuseBy (check s x) (readEach field check next n (next s x) rest then (λ xs rest. accepted (x ∷ xs, rest)))) r
       (λ x u. reach-by (k * n) (check s x) (λ rest. readEach field check next n (next s x) rest then (λ xs rest. accepted (x ∷ xs, rest)))
       (reach-more (k * n + 0) (k * n) (λ rest. readEach field check next n (next s x) rest then (λ xs rest. accepted (x ∷ xs, rest))) (omega arith)
-      (reach-then (k * n) 0 (readEach field check next n (next s x)) (λ xs rest. accepted (x ∷ xs, rest)) (reach-each n (next s x)) (λ xs e. reach-read (x ∷ xs) (ap suc e))))))
+      (reach-then (k * n) 0 (readEach field check next n (next s x)) (λ xs rest. accepted (x ∷ xs, rest)) (reach-each n (next s x)) (λ xs e.
+      reach-read (x ∷ xs) (ap suc e))))))
 
 -- n fields, at most m
-reach-fields : {S A : Type 0} (field : List ℕ → Reading (A × List ℕ)) (k : ℕ) → Reaches k any field → (check : S → A → ℕ) (next : S → A → S) (m n : ℕ) (s : S) → n ≤ m
+reach-fields : {S A : Type 0} (field : List ℕ → Reading (A × List ℕ)) (k : ℕ) → Reaches k any field
+    → (check : S → A → ℕ) (next : S → A → S) (m n : ℕ) (s : S) → n ≤ m
     → Reaches (k * m) (λ xs. length xs ≤ m) (readEach field check next n s)
 reach-fields field k r check next m n s h = reach-more (k * n) (k * m) (readEach field check next n s) (mul-le-mul-left k h)
     (reach-so (k * n) (readEach field check next n s) (λ xs e. omega arith) (reach-each field check next k r n s))
 
 reach-count : (limit : ℕ) → Reaches 1 (λ n. n ≤ limit) (readCount limit)
-reach-count limit = reach-then 1 0 byte (λ n rest. refuseIf (ltb limit n) 2 (accepted (n, rest))) reach-byte (λ n u. reach-if 0 (ltb limit n) 2 (λ bs. accepted (n, bs)) (λ t. reach-read n (nltb→le limit n t)))
+reach-count limit = reach-then 1 0 byte (λ n rest. refuseIf (ltb limit n) 2 (accepted (n, rest))) reach-byte (λ n u.
+    reach-if 0 (ltb limit n) 2 (λ bs. accepted (n, bs)) (λ t. reach-read n (nltb→le limit n t)))
 
 reach-wide : Reaches 2 any readWideCount
 reach-wide = reach-then 2 0 twoBytes (λ w rest. refuseIf (ltb entryLimit (w .0 + 256 * w .1)) 2 (accepted (w .0 + 256 * w .1, rest))) reach-two
@@ -125,7 +131,8 @@ abbrev pub rosterReach : ℕ → ℕ
 rosterReach w = nodesReach + (nodesReach + (listsReach w + rankingsReach w))
 
 reach-nodes : Reaches nodesReach (λ qs. length qs ≤ nodeLimit) readNodes
-reach-nodes = reach-then 1 (1 * nodeLimit) (readCount nodeLimit) readQuotas (reach-count nodeLimit) (λ n h. reach-fields byte 1 reach-byte quotaCheck (λ so q. so + q) nodeLimit n 0 h)
+reach-nodes = reach-then 1 (1 * nodeLimit) (readCount nodeLimit) readQuotas (reach-count nodeLimit) (λ n h.
+    reach-fields byte 1 reach-byte quotaCheck (λ so q. so + q) nodeLimit n 0 h)
 
 module _ {A : Type 0} (field : List ℕ → Reading (A × List ℕ)) (total : List A → ℕ) (k n : ℕ) (r : Reaches k any field) where
   abbrev summed : ℕ → List A → List ℕ → Reading (List A × List ℕ)
@@ -139,7 +146,8 @@ module _ {A : Type 0} (field : List ℕ → Reading (A × List ℕ)) (total : Li
 module _ (L : Layout) (w : ℕ) (field : Reaches w any (L .field)) (short : (count : ℕ) → count ≤ nodeLimit → L .longest count ≤ listLimit) where
   reach-list : (longest count : ℕ) → longest ≤ listLimit → Reaches (listReach w) any (readList L longest count)
   reach-list longest count h = reach-then 1 (w * listLimit) (readCount longest) (readEntries L count) (reach-count longest)
-      (λ n l. reach-so (w * listLimit) (readEntries L count n) (λ xs e. tt) (reach-fields (L .field) w field (entryCheck count) (λ seen x. seen ++ x ∷ []) listLimit n [] (omega arith)))
+      (λ n l. reach-so (w * listLimit) (readEntries L count n) (λ xs e. tt)
+      (reach-fields (L .field) w field (entryCheck count) (λ seen x. seen ++ x ∷ []) listLimit n [] (omega arith)))
 
   module _ (longest count : ℕ) (h : longest ≤ listLimit) where
     abbrev ranking : List Entry → List Entry → List ℕ → Reading (Ranking × List ℕ)
@@ -153,9 +161,11 @@ module _ (L : Layout) (w : ℕ) (field : Reaches w any (L .field)) (short : (cou
 
     reach-ranked : (a b : ℕ) → a + b ≤ listLimit → Reaches (w * listLimit) any (ranked a b)
     reach-ranked a b l = reach-more (w * a + (w * b + 0)) (w * listLimit) (ranked a b) (omega (arith, mul-le-mul-left w l))
-        (reach-then (w * a) (w * b + 0) (readEntries L count a) (tied b) (reach-fields (L .field) w field (entryCheck count) (λ seen x. seen ++ x ∷ []) a a [] (omega arith))
+        (reach-then (w * a) (w * b + 0) (readEntries L count a) (tied b)
+        (reach-fields (L .field) w field (entryCheck count) (λ seen x. seen ++ x ∷ []) a a [] (omega arith))
         (λ xs e. reach-then (w * b) 0 (readTied L count xs b) (ranking xs)
-        (reach-fields (L .field) w field (tiedCheck count) (λ s x. record { seen = s .seen ++ x ∷ []; last = x }) b b (record { seen = xs; last = noEntry }) (omega arith))
+        (reach-fields (L .field) w field (tiedCheck count) (λ s x. record { seen = s .seen ++ x ∷ []; last = x }) b b
+        (record { seen = xs; last = noEntry }) (omega arith))
         (λ ys e. reach-read (record { strict = xs; tied = ys }) tt)))
 
     reach-ranking : Reaches (rankingReach w) any (readRanking L longest count)
@@ -170,10 +180,12 @@ module _ (L : Layout) (w : ℕ) (field : Reaches w any (L .field)) (short : (cou
       reach-then nodesReach (listsReach w + rankingsReach w) readNodes (third qs) reach-nodes (λ qt t.
       reach-then (listsReach w) (rankingsReach w) (lists qs qt) (fourth qs qt)
       (reach-more (2 + (listReach w * length qs + 0)) (listsReach w) (lists qs qt) (omega (arith, mul-le-mul-left (listReach w) s))
-      (reach-section (readList L (L .longest (length qt)) (length qt)) totalS (listReach w) (length qs) (reach-list (L .longest (length qt)) (length qt) (short (length qt) t)))) (λ ls u.
+      (reach-section (readList L (L .longest (length qt)) (length qt)) totalS (listReach w)
+      (length qs) (reach-list (L .longest (length qt)) (length qt) (short (length qt) t)))) (λ ls u.
       reach-more (rankingsReach w + 0) (rankingsReach w) (fourth qs qt ls) (omega arith) (reach-then (rankingsReach w) 0 (rankings qs qt) (last qs qt ls)
       (reach-more (2 + (rankingReach w * length qt + 0)) (rankingsReach w) (rankings qs qt) (omega (arith, mul-le-mul-left (rankingReach w) t))
-      (reach-section (readRanking L (L .longest (length qs)) (length qs)) totalT (rankingReach w) (length qt) (reach-ranking (L .longest (length qs)) (length qs) (short (length qs) s)))) (λ ts u.
+      (reach-section (readRanking L (L .longest (length qs)) (length qs)) totalT
+      (rankingReach w) (length qt) (reach-ranking (L .longest (length qs)) (length qs) (short (length qs) s)))) (λ ts u.
       reach-read (record { quotasS = qs; quotasT = qt; listsS = ls; listsT = ts }) tt)))))
     where
       lists : List ℕ → List ℕ → List ℕ → Reading (List (List Entry) × List ℕ)
@@ -213,7 +225,8 @@ module _ (L : Layout) (w : ℕ) (field : Reaches w any (L .field)) (short : (cou
 
 -- ---- files with shifts
 reach-shifted : Reaches 2 any (shifted .field)
-reach-shifted = reach-then 2 0 twoBytes (λ w rest. accepted (record { number = w .0; shift = w .1 }, rest)) reach-two (λ w u. reach-read (record { number = w .0; shift = w .1 }) tt)
+reach-shifted = reach-then 2 0 twoBytes (λ w rest. accepted (record { number = w .0; shift = w .1 }, rest)) reach-two (λ w u.
+    reach-read (record { number = w .0; shift = w .1 }) tt)
 
 -- no list has more than 32 entries
 short-shifted : (count : ℕ) → count ≤ nodeLimit → shifted .longest count ≤ listLimit

@@ -13,7 +13,8 @@ use Rattle.lists.specs.Test.{given, and-l, and-r, or-case, or-r}
 use Rattle.lists.specs.Sum.{sum, sum-places, upTo, upTo-∈, range-∈}
 use Rattle.lists.specs.Keep.{all?, all-∈, any-append, getD-∈}
 use Rattle.model.specs.Limits.{nodeLimit, listLimit, shiftLimit, quotaLimit, quotaSumLimit, planLimit, emptyRank}
-use Rattle.model.specs.Roster.{Entry, Roster, entries, surveyorCount, standCount, listS, listT, same, has, noEntry, distinct, entryFits, listed, listedBack, alike, shifts, bothOrNeither, listFits, rankingFits, fits, ascending}
+use Rattle.model.specs.Roster.{Entry, Roster, entries, surveyorCount, standCount, listS, listT, same, has, noEntry, distinct, entryFits, listed}
+use Rattle.model.specs.Roster.{listedBack, alike, shifts, bothOrNeither, listFits, rankingFits, fits, ascending}
 use Rattle.model.specs.Edges.{Edge, position, edgesOf, noEdge, edgeAt, instanceOf}
 use Rattle.theory_instance.specs.Lawful.{Lawful}
 use Rattle.theory_files.specs.Rosters.{fits-parts}
@@ -58,17 +59,20 @@ module _ (r : Roster) (ok : T (fits r)) where
   rankings-count = given (fits-parts r ok) (λ ((q, u, v, (l, a, k)), n). l)
 
   pub list-fits : (i : ℕ) → i < ns → T (listFits listLimit nt (listS r i))
-  list-fits i h = given (fits-parts r ok) (λ ((q, u, (l, a, k), v), n). all-∈ (listFits listLimit nt) (r .listsS) a (listS r i) (getD-∈ (r .listsS) i [] (omega arith)))
+  list-fits i h = given (fits-parts r ok) (λ ((q, u, (l, a, k), v), n).
+      all-∈ (listFits listLimit nt) (r .listsS) a (listS r i) (getD-∈ (r .listsS) i [] (omega arith)))
 
   ranking-fits : (j : ℕ) → j < nt → T (rankingFits listLimit ns (listT r j))
-  ranking-fits j h = given (fits-parts r ok) (λ ((q, u, v, (l, a, k)), n). all-∈ (rankingFits listLimit ns) (r .listsT) a (listT r j) (getD-∈ (r .listsT) j (record { strict = []; tied = [] }) (omega arith)))
+  ranking-fits j h = given (fits-parts r ok) (λ ((q, u, v, (l, a, k)), n).
+      all-∈ (rankingFits listLimit ns) (r .listsT) a (listT r j) (getD-∈ (r .listsT) j (record { strict = []; tied = [] }) (omega arith)))
 
   pub back : (i j k : ℕ) → i < ns → j < nt → 1 ≤ k → k ≤ shiftLimit → T (listed r i j k) → T (listedBack r i j k)
   unfolding bothOrNeither
   back i j k hi hj h₁ h₂ t = given (fits-parts r ok) (λ (p, n). same-bool (listed r i j k) (listedBack r i j k)
       (all-∈ (λ k. alike (listed r i j k) (listedBack r i j k)) shifts
       (all-∈ (λ j. all? (λ k. alike (listed r i j k) (listedBack r i j k)) shifts) (upTo nt)
-      (all-∈ (λ i. all? (λ j. all? (λ k. alike (listed r i j k) (listedBack r i j k)) shifts) (upTo nt)) (upTo ns) n i (upTo-∈ ns i hi)) j (upTo-∈ nt j hj)) k (range-∈ shiftLimit 1 k h₁ (omega arith))) t)
+      (all-∈ (λ i. all? (λ j. all? (λ k. alike (listed r i j k) (listedBack r i j k)) shifts) (upTo nt)) (upTo ns) n i (upTo-∈ ns i hi)) j
+      (upTo-∈ nt j hj)) k (range-∈ shiftLimit 1 k h₁ (omega arith))) t)
 
   pub list-length : (i : ℕ) → i < ns → length (listS r i) ≤ listLimit
   list-length i h = leb→le (length (listS r i)) listLimit (and-l (leb (length (listS r i)) listLimit) _ (list-fits i h))
@@ -83,10 +87,12 @@ module _ (r : Roster) (ok : T (fits r)) where
   entries-fit j h = and-l (listFits listLimit ns (entries (listT r j))) (ascending noEntry (D j)) (ranking-fits j h)
 
   pub strict-length : (j : ℕ) → j < nt → length (S j) + length (D j) ≤ listLimit
-  strict-length j h = subst (λ k. k ≤ listLimit) (length-append (S j) (D j)) (leb→le (length (entries (listT r j))) listLimit (and-l (leb (length (entries (listT r j))) listLimit) _ (entries-fit j h)))
+  strict-length j h = subst (λ k. k ≤ listLimit) (length-append (S j) (D j))
+      (leb→le (length (entries (listT r j))) listLimit (and-l (leb (length (entries (listT r j))) listLimit) _ (entries-fit j h)))
 
   distinct-entries : (j : ℕ) → j < nt → T (distinct (S j ++ D j))
-  distinct-entries j h = and-r (all? (entryFits ns) (S j ++ D j)) (distinct (S j ++ D j)) (and-r (leb (length (entries (listT r j))) listLimit) _ (entries-fit j h))
+  distinct-entries j h = and-r (all? (entryFits ns) (S j ++ D j)) (distinct (S j ++ D j))
+      (and-r (leb (length (entries (listT r j))) listLimit) _ (entries-fit j h))
 
   -- ---- an edge by its number
   abbrev es : List Edge
@@ -112,13 +118,16 @@ module _ (r : Roster) (ok : T (fits r)) where
   same-S x y a b s k =
       let i : a .i ≡ b .i = sym (ap (λ z. z .surveyor) (a .is)) ∙ s ∙ ap (λ z. z .surveyor) (b .is) in
       let p : position (ofS x a) (listS r (a .i)) ≡ position (ofS y b) (listS r (b .i)) = sym (ap (λ z. z .rankS) (a .is)) ∙ k ∙ ap (λ z. z .rankS) (b .is) in
-      let q : ofS x a ≡ ofS y b = position-same (ofS x a) (ofS y b) (listS r (a .i)) (a .pair) (p ∙ ap (λ z. position (ofS y b) (listS r z)) (sym i)) in
-      (ap (λ z. z .stand) (a .is) ∙ suc-inj (ap (λ z. z .number) q) ∙ sym (ap (λ z. z .stand) (b .is)), ap (λ z. z .shift) (a .is) ∙ ap (λ z. z .shift) q ∙ sym (ap (λ z. z .shift) (b .is)))
+      let q : ofS x a ≡ ofS y b = position-same (ofS x a) (ofS y b) (listS r (a .i)) (a .pair) (p ∙ ap (λ z. position (ofS y b) (listS r z)) (sym i)) in (
+        ap (λ z. z .stand) (a .is) ∙ suc-inj (ap (λ z. z .number) q) ∙ sym (ap (λ z. z .stand) (b .is)),
+        ap (λ z. z .shift) (a .is) ∙ ap (λ z. z .shift) q ∙ sym (ap (λ z. z .shift) (b .is)),
+      )
 
   -- ---- stands: strict entries by their place, tied ones behind them
   pub strict-or-tied : (x : Edge) (a : IsEdge r x) → T (has (ofT x a) (S (a .j))) ⊎ T (has (ofT x a) (D (a .j)))
   unfolding listedBack
-  strict-or-tied x a = or-case (has (ofT x a) (S (a .j))) (has (ofT x a) (D (a .j))) (subst T (any-append (same (ofT x a)) (S (a .j)) (D (a .j))) (back (a .i) (a .j) (a .k) (a .i-in) (a .j-in) (a .k-from) (a .k-in) (a .pair)))
+  strict-or-tied x a = or-case (has (ofT x a) (S (a .j))) (has (ofT x a) (D (a .j)))
+      (subst T (any-append (same (ofT x a)) (S (a .j)) (D (a .j))) (back (a .i) (a .j) (a .k) (a .i-in) (a .j-in) (a .k-from) (a .k-in) (a .pair)))
 
   pub tied-not-strict : (x : Entry) (j : ℕ) → j < nt → T (has x (D j)) → T (not (has x (S j)))
   tied-not-strict x j h t = distinct-apart x (S j) (D j) (distinct-entries j h) t
@@ -137,17 +146,21 @@ module _ (r : Roster) (ok : T (fits r)) where
   strict-in x a n = ⊎-elim (λ s. s) (λ d. absurd (T-not (has (ofT x a) (D (a .j))) (subst (λ z. T (not (z .tied))) (a .is) n) d)) (strict-or-tied x a)
 
   tied-last : (x : Edge) (a : IsEdge r x) → T (x .tied) → x .rankT ≡ suc (length (S (a .j)))
-  tied-last x a t = ap (λ z. z .rankT) (a .is) ∙ position-out (ofT x a) (S (a .j)) (tied-not-strict (ofT x a) (a .j) (a .j-in) (subst (λ z. T (z .tied)) (a .is) t))
+  tied-last x a t = ap (λ z. z .rankT) (a .is)
+      ∙ position-out (ofT x a) (S (a .j)) (tied-not-strict (ofT x a) (a .j) (a .j-in) (subst (λ z. T (z .tied)) (a .is) t))
 
   same-stand : (x y : Edge) (a : IsEdge r x) (b : IsEdge r y) → x .stand ≡ y .stand → a .j ≡ b .j
   same-stand x y a b s = sym (ap (λ z. z .stand) (a .is)) ∙ s ∙ ap (λ z. z .stand) (b .is)
 
-  same-T : (x y : Edge) (a : IsEdge r x) (b : IsEdge r y) → x .stand ≡ y .stand → x .rankT ≡ y .rankT → T (not (x .tied)) → (x .surveyor ≡ y .surveyor) × (x .shift ≡ y .shift)
+  same-T : (x y : Edge) (a : IsEdge r x) (b : IsEdge r y) → x .stand ≡ y .stand
+      → x .rankT ≡ y .rankT → T (not (x .tied)) → (x .surveyor ≡ y .surveyor) × (x .shift ≡ y .shift)
   same-T x y a b s k n =
       let j = same-stand x y a b s in
       let p : position (ofT x a) (S (a .j)) ≡ position (ofT y b) (S (b .j)) = sym (ap (λ z. z .rankT) (a .is)) ∙ k ∙ ap (λ z. z .rankT) (b .is) in
-      let q : ofT x a ≡ ofT y b = position-same (ofT x a) (ofT y b) (S (a .j)) (strict-in x a n) (p ∙ ap (λ z. position (ofT y b) (S z)) (sym j)) in
-      (ap (λ z. z .surveyor) (a .is) ∙ suc-inj (ap (λ z. z .number) q) ∙ sym (ap (λ z. z .surveyor) (b .is)), ap (λ z. z .shift) (a .is) ∙ ap (λ z. z .shift) q ∙ sym (ap (λ z. z .shift) (b .is)))
+      let q : ofT x a ≡ ofT y b = position-same (ofT x a) (ofT y b) (S (a .j)) (strict-in x a n) (p ∙ ap (λ z. position (ofT y b) (S z)) (sym j)) in (
+        ap (λ z. z .surveyor) (a .is) ∙ suc-inj (ap (λ z. z .number) q) ∙ sym (ap (λ z. z .surveyor) (b .is)),
+        ap (λ z. z .shift) (a .is) ∙ ap (λ z. z .shift) q ∙ sym (ap (λ z. z .shift) (b .is)),
+      )
 
   tie-last : (x y : Edge) (a : IsEdge r x) (b : IsEdge r y) → x .stand ≡ y .stand → T (x .tied) → y .rankT ≤ x .rankT
   tie-last x y a b s t =
@@ -160,7 +173,8 @@ module _ (r : Roster) (ok : T (fits r)) where
       omega (arith, p, ap (λ z. z .rankT) (b .is), position-in (ofT y b) (S (b .j)) (strict-in y b n))
 
   -- two edges with the same ends and the same shift are one
-  pub pairs-differ : (d e : ℕ) → d < instanceOf r .m → e < instanceOf r .m → instanceOf r .sv d ≡ instanceOf r .sv e → instanceOf r .st d ≡ instanceOf r .st e → instanceOf r .sh d ≡ instanceOf r .sh e → d ≡ e
+  pub pairs-differ : (d e : ℕ) → d < instanceOf r .m → e < instanceOf r .m → instanceOf r .sv d ≡ instanceOf r .sv e
+      → instanceOf r .st d ≡ instanceOf r .st e → instanceOf r .sh d ≡ instanceOf r .sh e → d ≡ e
   unfolding instanceOf
   pairs-differ = ends-differ es (edges-ascend r)
 
@@ -215,5 +229,6 @@ module _ (r : Roster) (ok : T (fits r)) where
     insideT = lawful .atT .inside;
     differ = pairs-differ;
     few = given (fits-parts r ok) (λ ((q, u, l, v), n). subst (λ k. k ≤ planLimit) (sym (sum-places (r .quotasS)))
-        (leb→le (sum (λ q. q) (r .quotasS)) quotaSumLimit (and-r (all? (λ q. leb q quotaLimit) (r .quotasS)) (leb (sum (λ q. q) (r .quotasS)) quotaSumLimit) (and-r (leb ns nodeLimit) _ q))));
+        (leb→le (sum (λ q. q) (r .quotasS)) quotaSumLimit
+        (and-r (all? (λ q. leb q quotaLimit) (r .quotasS)) (leb (sum (λ q. q) (r .quotasS)) quotaSumLimit) (and-r (leb ns nodeLimit) _ q))));
   }

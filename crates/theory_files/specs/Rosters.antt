@@ -12,8 +12,10 @@ use Rattle.lists.specs.Test.{given, T-true, true-T, and-l, and-r, and-i, eq→e
 use Rattle.lists.specs.Keep.{all?, gather}
 use Rattle.model.specs.Limits.{nodeLimit, entryLimit, listLimit, rosterSize}
 use Rattle.model.specs.Reading.{Reading, accepted, _then_, Reading, accepted, refused, whole}
-use Rattle.model.specs.Roster.{Entry, Ranking, Roster, entries, surveyorCount, standCount, totalS, totalT, quotasFit, listFits, rankingFits, bothOrNeither, fitsBy, fits}
-use Rattle.model.specs.RosterFile.{Layout, shifted, plain, readNodes, readList, readRanking, readSection, readSections, oneSided, readRosterBy, readRoster, wideBytes, listBytes, entriesBytes, rankingBytes, writeRosterBy, writeRoster}
+use Rattle.model.specs.Roster.{Entry, Ranking, Roster, entries, surveyorCount, standCount, totalS, totalT, quotasFit, listFits, rankingFits}
+use Rattle.model.specs.Roster.{bothOrNeither, fitsBy, fits}
+use Rattle.model.specs.RosterFile.{Layout, shifted, plain, readNodes, readList, readRanking, readSection, readSections, oneSided, readRosterBy}
+use Rattle.model.specs.RosterFile.{readRoster, wideBytes, listBytes, entriesBytes, rankingBytes, writeRosterBy, writeRoster}
 use Rattle.theory_files.specs.Reads.{isBytes, rest-bytes, read-value, read-rest, then-read, accepted-value, refused-not, whole-accepted}
 use Rattle.theory_files.specs.Layouts.{Agrees, in-shifted, in-plain}
 use Rattle.theory_files.specs.Sections.{nodes, held, listHeld, rankingHeld, list, ranking, SectionFits, section}
@@ -26,7 +28,8 @@ abbrev pub rankingsFit : (longest : ℕ → ℕ) (ns nt : ℕ) → List Ranking 
 rankingsFit longest ns nt = SectionFits (rankingFits (longest ns) ns) totalT nt
 
 abbrev pub SectionsFit : (ℕ → ℕ) → Roster → Type 0
-SectionsFit longest r = T (quotasFit (r .quotasS)) × T (quotasFit (r .quotasT)) × listsFit longest (surveyorCount r) (standCount r) (r .listsS) × rankingsFit longest (surveyorCount r) (standCount r) (r .listsT)
+SectionsFit longest r = T (quotasFit (r .quotasS)) × T (quotasFit (r .quotasT))
+    × listsFit longest (surveyorCount r) (standCount r) (r .listsS) × rankingsFit longest (surveyorCount r) (standCount r) (r .listsT)
 
 -- ---- `fitsBy`, taken apart and put together
 pub fits-parts-by : (longest : ℕ → ℕ) (r : Roster) → T (fitsBy longest r) → SectionsFit longest r × T (bothOrNeither r)
@@ -60,15 +63,22 @@ parts-fit-by longest r (a, b, (c, d, e), (f, g, h)) n =
     let c′ = eq→eqb (length (r .listsS)) (surveyorCount r) c in
     let f′ = eq→eqb (length (r .listsT)) (standCount r) f in
     and-i (quotasFit (r .quotasS) && quotasFit (r .quotasT)) _ (and-i (quotasFit (r .quotasS)) (quotasFit (r .quotasT)) a b)
-    (and-i (eqb (length (r .listsS)) (surveyorCount r) && (all? (listFits (longest (standCount r)) (standCount r)) (r .listsS) && leb (totalS (r .listsS)) entryLimit)) _
-    (and-i (eqb (length (r .listsS)) (surveyorCount r)) (all? (listFits (longest (standCount r)) (standCount r)) (r .listsS) && leb (totalS (r .listsS)) entryLimit) c′ (and-i (all? (listFits (longest (standCount r)) (standCount r)) (r .listsS)) (leb (totalS (r .listsS)) entryLimit) d e))
-    (and-i (eqb (length (r .listsT)) (standCount r) && (all? (rankingFits (longest (surveyorCount r)) (surveyorCount r)) (r .listsT) && leb (totalT (r .listsT)) entryLimit)) (bothOrNeither r)
-    (and-i (eqb (length (r .listsT)) (standCount r)) (all? (rankingFits (longest (surveyorCount r)) (surveyorCount r)) (r .listsT) && leb (totalT (r .listsT)) entryLimit) f′ (and-i (all? (rankingFits (longest (surveyorCount r)) (surveyorCount r)) (r .listsT)) (leb (totalT (r .listsT)) entryLimit) g h))
+    (and-i (eqb (length (r .listsS)) (surveyorCount r)
+    && (all? (listFits (longest (standCount r)) (standCount r)) (r .listsS) && leb (totalS (r .listsS)) entryLimit)) _
+    (and-i (eqb (length (r .listsS)) (surveyorCount r)) (all? (listFits (longest (standCount r)) (standCount r)) (r .listsS)
+    && leb (totalS (r .listsS)) entryLimit) c′
+    (and-i (all? (listFits (longest (standCount r)) (standCount r)) (r .listsS)) (leb (totalS (r .listsS)) entryLimit) d e))
+    (and-i (eqb (length (r .listsT)) (standCount r)
+    && (all? (rankingFits (longest (surveyorCount r)) (surveyorCount r)) (r .listsT) && leb (totalT (r .listsT)) entryLimit)) (bothOrNeither r)
+    (and-i (eqb (length (r .listsT)) (standCount r)) (all? (rankingFits (longest (surveyorCount r)) (surveyorCount r)) (r .listsT)
+    && leb (totalT (r .listsT)) entryLimit) f′
+    (and-i (all? (rankingFits (longest (surveyorCount r)) (surveyorCount r)) (r .listsT)) (leb (totalT (r .listsT)) entryLimit) g h))
     n))
 
 -- the bytes of the four sections, one behind the other and before the rest
 regroup : (a b c d rest : List ℕ) → a ++ (b ++ (c ++ (d ++ rest))) ≡ (a ++ (b ++ (c ++ d))) ++ rest
-regroup a b c d rest = ap (λ z. a ++ z) (ap (λ z. b ++ z) (sym (append-assoc c d rest)) ∙ sym (append-assoc b (c ++ d) rest)) ∙ sym (append-assoc a (b ++ (c ++ d)) rest)
+regroup a b c d rest = ap (λ z. a ++ z) (ap (λ z. b ++ z) (sym (append-assoc c d rest)) ∙ sym (append-assoc b (c ++ d) rest))
+    ∙ sym (append-assoc a (b ++ (c ++ d)) rest)
 
 -- accepted: the sections end with the file, and no pair is listed by one side only
 one-sided : (x : Reading Roster) {r : Roster} → oneSided x ≡ accepted r → (x ≡ accepted r) × T (bothOrNeither r)
@@ -107,7 +117,8 @@ module _ (L : Layout) (A : Agrees L) where
 
   -- within the limits, and of entries that the layout can hold
   abbrev SectionsHeld : Roster → Type 0
-  SectionsHeld r = T (quotasFit (r .quotasS)) × T (quotasFit (r .quotasT)) × SectionFits (fitS (standCount r)) totalS (surveyorCount r) (r .listsS) × SectionFits (fitT (surveyorCount r)) totalT (standCount r) (r .listsT)
+  SectionsHeld r = T (quotasFit (r .quotasS)) × T (quotasFit (r .quotasT))
+      × SectionFits (fitS (standCount r)) totalS (surveyorCount r) (r .listsS) × SectionFits (fitT (surveyorCount r)) totalT (standCount r) (r .listsT)
 
   abbrev pub Held : Roster → Type 0
   Held r = T (all? (held L A) (r .listsS)) × T (all? (λ R. held L A (entries R)) (r .listsT))
@@ -144,7 +155,8 @@ module _ (L : Layout) (A : Agrees L) where
   abbrev second : List ℕ → List ℕ → Reading (Roster × List ℕ)
   second qs rest = readNodes rest then third qs
 
-  sections-back : (bs : List ℕ) (r : Roster) (rest : List ℕ) → T (isBytes bs) → readSections L bs ≡ accepted (r, rest) → (bs ≡ writeRosterBy L r ++ rest) × SectionsHeld r
+  sections-back : (bs : List ℕ) (r : Roster) (rest : List ℕ) → T (isBytes bs) → readSections L bs ≡ accepted (r, rest)
+      → (bs ≡ writeRosterBy L r ++ rest) × SectionsHeld r
   unfolding writeRosterBy
   sections-back bs r rest t e =
       given (then-read (readNodes bs) second e) (λ (qs, m₁, e₁, h₁).
@@ -156,9 +168,13 @@ module _ (L : Layout) (A : Agrees L) where
       given (nodes .back m₁ qt m₂ t₁ e₂) (λ (w₂, p₂).
       given (rest-bytes (listBytes qt) m₂ w₂ t₁) (λ t₂.
       given (section (fitS (length qt)) totalS (list L A (L .longest (length qt)) (length qt)) (length qs) .back m₂ ls m₃ t₂ e₃) (λ (w₃, p₃).
-      given (section (fitT (length qs)) totalT (ranking L A (L .longest (length qs)) (length qs)) (length qt) .back m₃ ts m₄ (rest-bytes (wideBytes (totalS ls) ++ gather (entriesBytes L) ls) m₃ w₃ t₂) e₄) (λ (w₄, p₄). (
-        w₁ ∙ ap (λ z. listBytes qs ++ z) (w₂ ∙ ap (λ z. listBytes qt ++ z) (w₃ ∙ ap (λ z. (wideBytes (totalS ls) ++ gather (entriesBytes L) ls) ++ z) (w₄ ∙ ap (λ z. (wideBytes (totalT ts) ++ gather (rankingBytes L) ts) ++ z) (read-rest h₄))))
-            ∙ regroup (listBytes qs) (listBytes qt) (wideBytes (totalS ls) ++ gather (entriesBytes L) ls) (wideBytes (totalT ts) ++ gather (rankingBytes L) ts) rest
+      given (section (fitT (length qs)) totalT (ranking L A (L .longest (length qs)) (length qs))
+      (length qt) .back m₃ ts m₄ (rest-bytes (wideBytes (totalS ls) ++ gather (entriesBytes L) ls) m₃ w₃ t₂) e₄) (λ (w₄, p₄). (
+        w₁ ∙ ap (λ z. listBytes qs ++ z) (w₂ ∙ ap (λ z. listBytes qt ++ z)
+            (w₃ ∙ ap (λ z. (wideBytes (totalS ls) ++ gather (entriesBytes L) ls) ++ z)
+            (w₄ ∙ ap (λ z. (wideBytes (totalT ts) ++ gather (rankingBytes L) ts) ++ z) (read-rest h₄))))
+            ∙ regroup (listBytes qs) (listBytes qt) (wideBytes (totalS ls) ++ gather (entriesBytes L) ls)
+            (wideBytes (totalT ts) ++ gather (rankingBytes L) ts) rest
             ∙ ap (λ r. (listBytes (r .quotasS) ++ (listBytes (r .quotasT) ++ (partA r ++ partB r))) ++ rest) (read-value h₄),
         subst SectionsHeld (read-value h₄) (p₁, p₂, p₃, p₄),
       )))))))))))
@@ -169,8 +185,11 @@ module _ (L : Layout) (A : Agrees L) where
       ap (readSections L) (sym (regroup (listBytes (r .quotasS)) (listBytes (r .quotasT)) (partA r) (partB r) rest))
       ∙ ap (λ x. x then second) (nodes .forth (r .quotasS) (listBytes (r .quotasT) ++ (partA r ++ (partB r ++ rest))) p₁)
       ∙ ap (λ x. x then third (r .quotasS)) (nodes .forth (r .quotasT) (partA r ++ (partB r ++ rest)) p₂)
-      ∙ ap (λ x. x then fourth (r .quotasS) (r .quotasT)) (section (fitS (standCount r)) totalS (list L A (L .longest (standCount r)) (standCount r)) (surveyorCount r) .forth (r .listsS) (partB r ++ rest) p₃)
-      ∙ ap (λ x. x then finish (r .quotasS) (r .quotasT) (r .listsS)) (section (fitT (surveyorCount r)) totalT (ranking L A (L .longest (surveyorCount r)) (surveyorCount r)) (standCount r) .forth (r .listsT) rest p₄)
+      ∙ ap (λ x. x then fourth (r .quotasS) (r .quotasT))
+      (section (fitS (standCount r)) totalS (list L A (L .longest (standCount r)) (standCount r))
+      (surveyorCount r) .forth (r .listsS) (partB r ++ rest) p₃)
+      ∙ ap (λ x. x then finish (r .quotasS) (r .quotasT) (r .listsS))
+      (section (fitT (surveyorCount r)) totalT (ranking L A (L .longest (surveyorCount r)) (surveyorCount r)) (standCount r) .forth (r .listsT) rest p₄)
 
   -- ---- the whole file
   sections-of : (bs : List ℕ) (r : Roster) → readRosterBy L bs ≡ accepted r → (readSections L bs ≡ accepted (r, [])) × T (bothOrNeither r)
@@ -253,7 +272,10 @@ all-all p h [] = tt
 all-all p h (x ∷ xs) = and-i (p x) (all? p xs) (h x) (all-all p h xs)
 
 held-shifted : (r : Roster) → Held shifted in-shifted r
-held-shifted r = (all-all (held shifted in-shifted) (λ xs. all-true xs) (r .listsS), all-all (λ R. held shifted in-shifted (entries R)) (λ R. all-true (entries R)) (r .listsT))
+held-shifted r = (
+  all-all (held shifted in-shifted) (λ xs. all-true xs) (r .listsS),
+  all-all (λ R. held shifted in-shifted (entries R)) (λ R. all-true (entries R)) (r .listsT),
+)
 
 module _ (bs : List ℕ) (r : Roster) (isB : T (isBytes bs)) (e : readRoster bs ≡ accepted r) where
   pub read-write : writeRoster r ≡ bs

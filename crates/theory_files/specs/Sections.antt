@@ -14,13 +14,17 @@ use Rattle.lists.specs.Ranges.{gather-append}
 use Rattle.model.specs.Limits.{nodeLimit, quotaSumLimit, entryLimit}
 use Rattle.model.specs.Reading.{Reading, accepted, _then_, refuseIf, byte, twoBytes}
 use Rattle.model.specs.Roster.{Entry, Ranking, entries, noEntry, entryFits, distinct, ascending, quotasFit, listFits, rankingFits}
-use Rattle.model.specs.RosterFile.{Layout, readCount, readWideCount, quotaCheck, readNodes, entryCheck, readEntries, tiedCheck, readTied, readList, readRanking, readMany, readSection, wideBytes, listBytes, entriesBytes, rankingBytes}
-use Rattle.theory_files.specs.Reads.{isBytes, rest-bytes, Reads, read-value, read-rest, refuse-read, refuse-no, then-read, byte-read, twoBytes-read, Passes, each, bytes}
-use Rattle.theory_files.specs.Entries.{fresh, fresh-distinct, distinct-fresh, fresh-append, inRange, small, quotas→, →quotas, entries→, →entries, tied→, →tied}
+use Rattle.model.specs.RosterFile.{Layout, readCount, readWideCount, quotaCheck, readNodes, entryCheck, readEntries, tiedCheck, readTied}
+use Rattle.model.specs.RosterFile.{readList, readRanking, readMany, readSection, wideBytes, listBytes, entriesBytes, rankingBytes}
+use Rattle.theory_files.specs.Reads.{isBytes, rest-bytes, Reads, read-value, read-rest, refuse-read, refuse-no, then-read, byte-read}
+use Rattle.theory_files.specs.Reads.{twoBytes-read, Passes, each, bytes}
+use Rattle.theory_files.specs.Entries.{fresh, fresh-distinct, distinct-fresh, fresh-append, inRange, small, quotas→, →quotas, entries→}
+use Rattle.theory_files.specs.Entries.{→entries, tied→, →tied}
 use Rattle.theory_files.specs.Layouts.{Agrees}
 
 -- the same agreement about facts that say the same
-pub alike : {A : Type 0} {read : List ℕ → Reading (A × List ℕ)} {write : A → List ℕ} {P Q : A → Type 0} → ((a : A) → P a → Q a) → ((a : A) → Q a → P a) → Reads read write P → Reads read write Q
+pub alike : {A : Type 0} {read : List ℕ → Reading (A × List ℕ)} {write : A → List ℕ} {P Q : A → Type 0}
+    → ((a : A) → P a → Q a) → ((a : A) → Q a → P a) → Reads read write P → Reads read write Q
 alike f g R = record {
   back = λ bs a rest t e. given (R .back bs a rest t e) (λ (w, p). (w, f a p));
   forth = λ a rest q. R .forth a rest (g a q);
@@ -35,17 +39,21 @@ above-not limit n t = le→nltb limit n (leb→le n limit t)
 
 -- ---- a count byte, and as many of something behind it
 pub counted : (limit : ℕ) {A : Type 0} {body : ℕ → List ℕ → Reading (A × List ℕ)} {write : A → List ℕ} {size : A → ℕ} {P : A → Type 0}
-    → ((n : ℕ) → Reads (body n) write (λ a. (size a ≡ n) × P a)) → Reads (λ bs. readCount limit bs then body) (λ a. size a ∷ write a) (λ a. T (leb (size a) limit) × P a)
+    → ((n : ℕ) → Reads (body n) write (λ a. (size a ≡ n) × P a)) → Reads (λ bs. readCount limit bs then body) (λ a. size a ∷ write a) (λ a.
+    T (leb (size a) limit) × P a)
 counted limit {A} {body} {write} {size} {P} R = record {
   back = λ bs a rest t e.
       given (then-read (readCount limit bs) body e) (λ (n, mid, e₁, h₁).
       given (then-read (byte bs) (λ n rest. refuseIf (ltb limit n) 2 (accepted (n, rest))) e₁) (λ (k, mid′, e₂, h₂).
       given (refuse-read (ltb limit k) 2 h₂) (λ (l, h₃).
       given (byte-read bs e₂) (λ w.
-      given (R n .back mid a rest (subst (λ z. T (isBytes z)) (read-rest h₃) (rest-bytes (k ∷ []) mid′ w t)) h₁) (λ (v, (s, p)).
-      (w ∙ ap₂ (λ z zs. z ∷ zs) (read-value h₃ ∙ sym s) (read-rest h₃ ∙ v), (subst (λ z. T (leb z limit)) (read-value h₃ ∙ sym s) (not-above limit k l), p)))))));
+      given (R n .back mid a rest (subst (λ z. T (isBytes z)) (read-rest h₃) (rest-bytes (k ∷ []) mid′ w t)) h₁) (λ (v, (s, p)). (
+        w ∙ ap₂ (λ z zs. z ∷ zs) (read-value h₃ ∙ sym s) (read-rest h₃ ∙ v),
+        (subst (λ z. T (leb z limit)) (read-value h₃ ∙ sym s) (not-above limit k l), p),
+      ))))));
   forth = λ a rest (l, p).
-      ap (λ r. r then body) (refuse-no (ltb limit (size a)) 2 (accepted (size a, write a ++ rest)) (above-not limit (size a) l)) ∙ R (size a) .forth a rest (refl, p);
+      ap (λ r. r then body) (refuse-no (ltb limit (size a)) 2 (accepted (size a, write a ++ rest)) (above-not limit (size a) l))
+      ∙ R (size a) .forth a rest (refl, p);
 }
 
 -- ---- "Surveyors: a count byte 0 to 32, then one quota byte each, 0 to 8. Stands: likewise."
@@ -55,7 +63,8 @@ nodes = alike
     (and-i (small qs) (leb (sum (λ q. q) qs) quotaSumLimit) a (le→leb (sum (λ q. q) qs) quotaSumLimit (omega arith)))))
     (λ qs t. given (and-r (leb (length qs) nodeLimit) (small qs && leb (sum (λ q. q) qs) quotaSumLimit) t) (λ u. (
       and-l (leb (length qs) nodeLimit) (small qs && leb (sum (λ q. q) qs) quotaSumLimit) t,
-      →quotas 0 qs (and-l (small qs) (leb (sum (λ q. q) qs) quotaSumLimit) u) (given (leb→le (sum (λ q. q) qs) quotaSumLimit (and-r (small qs) (leb (sum (λ q. q) qs) quotaSumLimit) u)) (λ h. omega arith)),
+      →quotas 0 qs (and-l (small qs) (leb (sum (λ q. q) qs) quotaSumLimit) u)
+          (given (leb→le (sum (λ q. q) qs) quotaSumLimit (and-r (small qs) (leb (sum (λ q. q) qs) quotaSumLimit) u)) (λ h. omega arith)),
     )))
     (counted nodeLimit (λ n. bytes quotaCheck (λ so q. so + q) n 0))
 
@@ -68,11 +77,13 @@ all-every p [] t = tt
 all-every p (x ∷ xs) t = (and-l (p x) (all? p xs) t, all-every p xs (and-r (p x) (all? p xs) t))
 
 -- the two parts of a stand's list together are a list that fits, and the tie ascends
-fits-join : (longest count : ℕ) (xs ys : List Entry) → T (leb (length xs + length ys) longest) → T (inRange count xs) → T (fresh [] xs) → T (inRange count ys) → T (fresh xs ys) → T (ascending noEntry ys)
+fits-join : (longest count : ℕ) (xs ys : List Entry) → T (leb (length xs + length ys) longest)
+    → T (inRange count xs) → T (fresh [] xs) → T (inRange count ys) → T (fresh xs ys) → T (ascending noEntry ys)
     → T (rankingFits longest count (record { strict = xs; tied = ys }))
 fits-join longest count xs ys l r f r′ f′ u = and-i (listFits longest count (xs ++ ys)) (ascending noEntry ys)
     (and-i (leb (length (xs ++ ys)) longest) (inRange count (xs ++ ys) && distinct (xs ++ ys)) (subst (λ k. T (leb k longest)) (sym (length-append xs ys)) l)
-    (and-i (inRange count (xs ++ ys)) (distinct (xs ++ ys)) (subst T (sym (all-append (entryFits count) xs ys)) (and-i (inRange count xs) (inRange count ys) r r′))
+    (and-i (inRange count (xs ++ ys)) (distinct (xs ++ ys))
+    (subst T (sym (all-append (entryFits count) xs ys)) (and-i (inRange count xs) (inRange count ys) r r′))
     (fresh-distinct (xs ++ ys) (subst T (sym (fresh-append [] xs ys)) (and-i (fresh [] xs) (fresh xs ys) f f′)))))
     u
 
@@ -99,13 +110,15 @@ module _ (L : Layout) (A : Agrees L) where
   abbrev pub rankingHeld : (longest count : ℕ) → Ranking → Bool
   rankingHeld longest count R = held (entries R) && rankingFits longest count R
 
-  strict-part : (count n : ℕ) → Reads (readEntries L count n) (gather (L .bytes)) (λ xs. (length xs ≡ n) × (T (held xs) × T (inRange count xs) × T (fresh [] xs)))
+  strict-part : (count n : ℕ) → Reads (readEntries L count n) (gather (L .bytes)) (λ xs.
+      (length xs ≡ n) × (T (held xs) × T (inRange count xs) × T (fresh [] xs)))
   strict-part count n = alike
       (λ xs (l, h, p). given (entries→ count [] xs p) (λ (r, f). (l, (every-all (A .holds) xs h, r, f))))
       (λ xs (l, (h, r, f)). (l, all-every (A .holds) xs h, →entries count [] xs r f))
       (each (A .reads) (entryCheck count) (λ seen x. seen ++ x ∷ []) n [])
 
-  tied-part : (count : ℕ) (strict : List Entry) (n : ℕ) → Reads (readTied L count strict n) (gather (L .bytes)) (λ xs. (length xs ≡ n) × (T (held xs) × T (inRange count xs) × T (fresh strict xs) × T (ascending noEntry xs)))
+  tied-part : (count : ℕ) (strict : List Entry) (n : ℕ) → Reads (readTied L count strict n) (gather (L .bytes)) (λ xs.
+      (length xs ≡ n) × (T (held xs) × T (inRange count xs) × T (fresh strict xs) × T (ascending noEntry xs)))
   tied-part count strict n = alike
       (λ xs (l, h, p). given (tied→ count (record { seen = strict; last = noEntry }) xs p) (λ (r, f, u). (l, (every-all (A .holds) xs h, r, f, u))))
       (λ xs (l, (h, r, f, u)). (l, all-every (A .holds) xs h, →tied count (record { seen = strict; last = noEntry }) xs r f u))
@@ -119,7 +132,11 @@ module _ (L : Layout) (A : Agrees L) where
         (and-i (leb (length xs) longest) (inRange count xs && distinct xs) l (and-i (inRange count xs) (distinct xs) r (fresh-distinct xs f))))
         (λ xs t. given (and-r (held xs) (listFits longest count xs) t) (λ v. given (and-r (leb (length xs) longest) (inRange count xs && distinct xs) v) (λ u. (
           and-l (leb (length xs) longest) (inRange count xs && distinct xs) v,
-          (and-l (held xs) (listFits longest count xs) t, and-l (inRange count xs) (distinct xs) u, distinct-fresh xs (and-r (inRange count xs) (distinct xs) u)),
+          (
+            and-l (held xs) (listFits longest count xs) t,
+            and-l (inRange count xs) (distinct xs) u,
+            distinct-fresh xs (and-r (inRange count xs) (distinct xs) u),
+          ),
         ))))
         (counted longest (strict-part count))
 
@@ -137,7 +154,8 @@ module _ (L : Layout) (A : Agrees L) where
     parts : (xs ys : List Entry) (rest : List ℕ) → gather (L .bytes) xs ++ (gather (L .bytes) ys ++ rest) ≡ gather (L .bytes) (xs ++ ys) ++ rest
     parts xs ys rest = sym (append-assoc (gather (L .bytes) xs) (gather (L .bytes) ys) rest) ∙ ap (λ z. z ++ rest) (sym (gather-append (L .bytes) xs ys))
 
-    ranking-back : (bs : List ℕ) (R : Ranking) (rest : List ℕ) → T (isBytes bs) → readRanking L longest count bs ≡ accepted (R, rest) → (bs ≡ rankingBytes L R ++ rest) × T (rankingHeld longest count R)
+    ranking-back : (bs : List ℕ) (R : Ranking) (rest : List ℕ) → T (isBytes bs)
+        → readRanking L longest count bs ≡ accepted (R, rest) → (bs ≡ rankingBytes L R ++ rest) × T (rankingHeld longest count R)
     ranking-back bs R rest t e =
         given (then-read (byte bs) (λ a rest. byte rest then body a) e) (λ (a, m₁, e₁, h₁).
         given (then-read (byte m₁) (body a) h₁) (λ (b, m₂, e₂, h₂).
@@ -149,22 +167,29 @@ module _ (L : Layout) (A : Agrees L) where
         given (strict-part count a .back m₂ xs m₃ t₂ e₄) (λ (w₃, (l₃, (k₃, r₃, f₃))).
         given (tied-part count xs b .back m₃ ys m₄ (rest-bytes (gather (L .bytes) xs) m₃ w₃ t₂) e₅) (λ (w₄, (l₄, (k₄, r₄, f₄, u₄))). (
           w ∙ ap₂ (λ x y. x ∷ y ∷ m₂) (sym l₃) (sym l₄)
-              ∙ ap (λ z. length xs ∷ length ys ∷ z) (w₃ ∙ ap (λ z. gather (L .bytes) xs ++ z) (w₄ ∙ ap (λ z. gather (L .bytes) ys ++ z) (read-rest h₅)) ∙ parts xs ys rest)
+              ∙ ap (λ z. length xs ∷ length ys ∷ z)
+              (w₃ ∙ ap (λ z. gather (L .bytes) xs ++ z) (w₄ ∙ ap (λ z. gather (L .bytes) ys ++ z) (read-rest h₅)) ∙ parts xs ys rest)
               ∙ ap (λ Q. rankingBytes L Q ++ rest) (read-value h₅),
           subst (λ Q. T (rankingHeld longest count Q)) (read-value h₅)
-              (and-i (held (xs ++ ys)) (rankingFits longest count (record { strict = xs; tied = ys })) (subst T (sym (all-append (A .holds) xs ys)) (and-i (held xs) (held ys) k₃ k₄))
+              (and-i (held (xs ++ ys)) (rankingFits longest count (record { strict = xs; tied = ys }))
+              (subst T (sym (all-append (A .holds) xs ys)) (and-i (held xs) (held ys) k₃ k₄))
               (fits-join longest count xs ys (subst (λ k. T (leb k longest)) (ap₂ _+_ (sym l₃) (sym l₄)) (not-above longest (a + b) l)) r₃ f₃ r₄ f₄ u₄)),
         ))))))))))
 
-    ranking-forth : (R : Ranking) (rest : List ℕ) → T (rankingHeld longest count R) → readRanking L longest count (rankingBytes L R ++ rest) ≡ accepted (R, rest)
+    ranking-forth : (R : Ranking) (rest : List ℕ) → T (rankingHeld longest count R)
+        → readRanking L longest count (rankingBytes L R ++ rest) ≡ accepted (R, rest)
     ranking-forth R rest t =
         given (subst T (all-append (A .holds) (R .strict) (R .tied)) (and-l (held (entries R)) (rankingFits longest count R) t)) (λ h.
         given (fits-split longest count (R .strict) (R .tied) (and-r (held (entries R)) (rankingFits longest count R) t)) (λ (l, (r, f), (r′, f′, u)).
-        refuse-no (ltb longest (length (R .strict) + length (R .tied))) 2 (readEntries L count (length (R .strict)) (gather (L .bytes) (entries R) ++ rest) then behind (length (R .tied)))
+        refuse-no (ltb longest (length (R .strict) + length (R .tied))) 2
+        (readEntries L count (length (R .strict)) (gather (L .bytes) (entries R) ++ rest) then behind (length (R .tied)))
         (above-not longest (length (R .strict) + length (R .tied)) l)
         ∙ ap (λ z. readEntries L count (length (R .strict)) z then behind (length (R .tied))) (sym (parts (R .strict) (R .tied) rest))
-        ∙ ap (λ r. r then behind (length (R .tied))) (strict-part count (length (R .strict)) .forth (R .strict) (gather (L .bytes) (R .tied) ++ rest) (refl, (and-l (held (R .strict)) (held (R .tied)) h, r, f)))
-        ∙ ap (λ r. r then paired (R .strict)) (tied-part count (R .strict) (length (R .tied)) .forth (R .tied) rest (refl, (and-r (held (R .strict)) (held (R .tied)) h, r′, f′, u)))))
+        ∙ ap (λ r. r then behind (length (R .tied)))
+        (strict-part count (length (R .strict)) .forth (R .strict) (gather (L .bytes) (R .tied) ++ rest)
+        (refl, (and-l (held (R .strict)) (held (R .tied)) h, r, f)))
+        ∙ ap (λ r. r then paired (R .strict))
+        (tied-part count (R .strict) (length (R .tied)) .forth (R .tied) rest (refl, (and-r (held (R .strict)) (held (R .tied)) h, r′, f′, u)))))
 
     pub ranking : Reads (readRanking L longest count) (rankingBytes L) (λ R. T (rankingHeld longest count R))
     ranking = record { back = ranking-back; forth = ranking-forth }
@@ -187,7 +212,8 @@ wide-whole n = omega arith
 abbrev pub SectionFits : {A : Type 0} → (fit : A → Bool) (total : List A → ℕ) (n : ℕ) → List A → Type 0
 SectionFits fit total n xs = (length xs ≡ n) × T (all? fit xs) × T (leb (total xs) entryLimit)
 
-module _ {A : Type 0} {field : List ℕ → Reading (A × List ℕ)} {write : A → List ℕ} (fit : A → Bool) (total : List A → ℕ) (R : Reads field write (λ a. T (fit a))) (n : ℕ) where
+module _ {A : Type 0} {field : List ℕ → Reading (A × List ℕ)} {write : A → List ℕ}
+    (fit : A → Bool) (total : List A → ℕ) (R : Reads field write (λ a. T (fit a))) (n : ℕ) where
   abbrev Fits : List A → Type 0
   Fits xs = SectionFits fit total n xs
 
@@ -203,7 +229,8 @@ module _ {A : Type 0} {field : List ℕ → Reading (A × List ℕ)} {write : A 
   abbrev wide : ℕ × ℕ → ℕ
   wide w = w .0 + 256 * w .1
 
-  section-back : (bs : List ℕ) (xs : List A) (rest : List ℕ) → T (isBytes bs) → readSection field total n bs ≡ accepted (xs, rest) → (bs ≡ sectionBytes xs ++ rest) × Fits xs
+  section-back : (bs : List ℕ) (xs : List A) (rest : List ℕ) → T (isBytes bs) → readSection field total n bs ≡ accepted (xs, rest)
+      → (bs ≡ sectionBytes xs ++ rest) × Fits xs
   section-back bs xs rest t e =
       given (then-read (readWideCount bs) lists e) (λ (w, m₁, e₁, h₁).
       given (then-read (twoBytes bs) (λ w rest. refuseIf (ltb entryLimit (wide w)) 2 (accepted (wide w, rest))) e₁) (λ (v, m₂, e₂, h₂).
@@ -215,7 +242,8 @@ module _ {A : Type 0} {field : List ℕ → Reading (A × List ℕ)} {write : A 
       given (each R (λ s x. 0) (λ s x. s) n tt .back m₁ ys m₃ (subst (λ z. T (isBytes z)) (read-rest h₃) t₂) e₄) (λ (w₄, (l₄, p₄, k₄)).
       given (ltb→lt (v .0) 256 (and-l (ltb (v .0) 256) (isBytes (v .1 ∷ m₂)) (subst (λ z. T (isBytes z)) wv t))) (λ small.
       given (read-value h₃ ∙ eqb→eq w (total ys) (twice (eqb w (total ys)) s)) (λ (same : wide v ≡ total ys). (
-        wv ∙ ap₂ (λ x y. x ∷ y ∷ m₂) (sym (wide-low (v .0) (v .1) small) ∙ ap (λ k. k % 256) same) (sym (wide-high (v .0) (v .1) small) ∙ ap (λ k. k / 256) same)
+        wv ∙ ap₂ (λ x y. x ∷ y ∷ m₂) (sym (wide-low (v .0) (v .1) small) ∙ ap (λ k. k % 256) same)
+            (sym (wide-high (v .0) (v .1) small) ∙ ap (λ k. k / 256) same)
             ∙ ap (λ z. wideBytes (total ys) ++ z) (read-rest h₃ ∙ w₄ ∙ ap (λ z. gather write ys ++ z) (read-rest h₅))
             ∙ ap (λ zs. sectionBytes zs ++ rest) (read-value h₅),
         subst Fits (read-value h₅) (l₄, every-all fit ys p₄, subst (λ k. T (leb k entryLimit)) same (not-above entryLimit (wide v) l)),
@@ -228,7 +256,8 @@ module _ {A : Type 0} {field : List ℕ → Reading (A × List ℕ)} {write : A 
   section-forth : (xs : List A) (rest : List ℕ) → Fits xs → readSection field total n (sectionBytes xs ++ rest) ≡ accepted (xs, rest)
   section-forth xs rest (l, a, k) =
       ap (λ r. r then lists)
-      (ap (λ c. refuseIf (ltb entryLimit c) 2 (accepted (c, gather write xs ++ rest))) (wide-whole (total xs)) ∙ refuse-no (ltb entryLimit (total xs)) 2 (accepted (total xs, gather write xs ++ rest)) (above-not entryLimit (total xs) k))
+      (ap (λ c. refuseIf (ltb entryLimit c) 2 (accepted (c, gather write xs ++ rest))) (wide-whole (total xs))
+      ∙ refuse-no (ltb entryLimit (total xs)) 2 (accepted (total xs, gather write xs ++ rest)) (above-not entryLimit (total xs) k))
       ∙ ap (λ r. r then checked (total xs)) (each R (λ s x. 0) (λ s x. s) n tt .forth xs rest (l, all-every fit xs a, unchecked xs))
       ∙ refuse-no (not (eqb (total xs) (total xs))) 7 (accepted (xs, rest)) (same (eqb (total xs) (total xs)) (eq→eqb (total xs) (total xs) refl))
     where
