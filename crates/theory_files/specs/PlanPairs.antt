@@ -6,7 +6,7 @@ use mathlib.Core.List.{List, [], _∷_, _++_, append-nil}
 use lib.Seq.{append-snoc}
 use borrow.Author.Tests.{lt-ltb, le-ltb}
 use Rattle.model.specs.Limits.{planLimit}
-use Rattle.model.specs.Reading.{Reading, accepted, refused, _then_, refuseBy, readEach, refused, whole}
+use Rattle.model.specs.Reading.{Reading, accepted, refused, _then_, refuseBy, readEach, whole}
 use Rattle.model.specs.Instance.{Instance}
 use Rattle.model.specs.PlanFile.{Named, PairLayout, Pairs, pairCheck, withPair, readPairsBy, planOfPairs, readPlanBy}
 use Rattle.model.specs.Plans.{Plan}
