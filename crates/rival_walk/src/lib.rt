@@ -66,7 +66,8 @@ pub fn walk(
     j: usize,
     start: Swap,
 ) -> Swap
-    requires { ⌜ (m ≤ entryLimit) × (n ≤ planLimit) × Low n (now es) entryLimit × Small n (now arcs) × (l < 64) × (i < n) × (j < n) × Column (now arcs) n j l (now table) ⌝ }
+    requires { ⌜ (m ≤ entryLimit) × (n ≤ planLimit) × Low n (now es) entryLimit × Small n (now arcs) × (l < 64) × (i < n)
+        × (j < n) × Column (now arcs) n j l (now table) ⌝ }
     ensures { λ r. ⌜ Marked (start .gone)
         (zs
         (walkAt (arcEdge m (now (sv .entry)) (now (st .entry)) (now (rs .entry)) (now (rt .entry)) (now (plan .entry))) (now (es .entry))
