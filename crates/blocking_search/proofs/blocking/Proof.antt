@@ -1,6 +1,5 @@
 -- `blocking_search::blocking` meets its contract: the model's blocking pair exactly if there is one. Assumes nothing.
 use native.Mathlib.Omega.{arith}
-use borrow.Author.Needs.{needs}
 use Rattle.blocking_thresholds.specs.PlanList.{places}
 use Rattle.blocking_search.specs.Search.{answer-yes, answer-no, may-search}
 use Rattle.blocking_search.proofs.blocking.Statement.{statement}

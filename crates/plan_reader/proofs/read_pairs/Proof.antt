@@ -1,6 +1,6 @@
 -- `plan_reader::read_pairs` meets its contract: the pairs that are left have the answer of all.
 use mathlib.Core.Path.{_≡_, ap, _∙_}
-use Prim.Native.Nat.{_+_, _-_, _*_, _≤_, _<_, zero-le}
+use Prim.Native.Nat.{_-_, _≤_, _<_, zero-le}
 use native.Mathlib.Omega.{arith}
 use Rattle.arrays.specs.ArrayInstance.{at}
 use Rattle.lists.specs.Search.{low}

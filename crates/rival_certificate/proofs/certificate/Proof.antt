@@ -1,10 +1,9 @@
 -- The table is within the costs of arcs, and its next layer nowhere below it; or the answer is no.
 use native.Mathlib.Omega.{arith}
-use Prim.Native.Nat.{ℕ, _+_, _*_, _≤_, _<_, min}
+use Prim.Native.Nat.{_+_, _*_}
 use borrow.Author.Needs.{needs}
 use borrow.Author.Tests.{leb-true, not-false}
 use Rattle.lists.specs.Test.{true-T}
-use Rattle.arrays.specs.ArrayInstance.{at}
 use Rattle.rival_certificate.specs.Certified.{closed-is}
 use Rattle.rival_certificate.proofs.certificate.Statement.{statement}
 use Rattle.rival_certificate.proofs.certificate.Tie as tie

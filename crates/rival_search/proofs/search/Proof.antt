@@ -1,7 +1,6 @@
 -- The ways out of the search.
-use Prim.Native.Nat.{_≤_}
 use native.Mathlib.Omega.{arith}
-use mathlib.Core.Path.{_≡_, sym, _∙_}
+use mathlib.Core.Path.{sym, _∙_}
 use borrow.Author.Needs.{needs}
 use Rattle.rival_certificate.specs.Certified.{certified, closed-small}
 use Rattle.rival_search.specs.TwoThresholds.{out-alone, out-levels}
