@@ -48,7 +48,7 @@ use Rattle.desk.specs.declared.changing.Change.{Change}
 use Rattle.desk.specs.Held.{rosterBytes, planBytes, heldOf}
 use Rattle.desk.specs.Replies.{answered, lentThen, isAccepted, rosterFile, planFile, ChangeIn, Stored, Replied}
 use Rattle.desk.specs.State.{states, by-state, pass-answer, pass-lent, pass-desk, of-roster, roster-held, passed, passes}
-use Rattle.desk.specs.Outcomes.{short, Kept}
+use Rattle.desk_find.specs.Outcomes.{short, Kept}
 use Rattle.desk.specs.Finding.{outcomeIn, Done, Finds, within, short-is, found}
 use Rattle.desk.specs.Changing.{ToRoster, Unchanged, LessOf, StoredAs, ChangedFor, ChangeFor, FoundOn, ChangeDone, JoinDone}
 

@@ -32,9 +32,9 @@ use Rattle.finder.specs.Promise as promise
 use Rattle.finder.specs.Promise.{Promise, written-is, shown-is, promised, steps-are}
 use Rattle.finder_ending.specs.EndBuffers.{leftAfter, planAfter, answerFor}
 use Rattle.diary.specs.FlatDiary.{flatSize}
-use Rattle.desk.specs.declared.finding.Outcome.{Outcome}
-use Rattle.desk.specs.Outcomes as finds
-use Rattle.desk.specs.Outcomes.{FindsFor, short, OutcomeFor, Outcomes}
+use Rattle.desk_find.specs.declared.Outcome.{Outcome}
+use Rattle.desk_find.specs.Outcomes as finds
+use Rattle.desk_find.specs.Outcomes.{FindsFor, short, OutcomeFor, Outcomes}
 use Rattle.desk.specs.declared.Desk.{Desk}
 use Rattle.desk.specs.declared.FindReply.{FindReply}
 use Rattle.desk.specs.declared.CoreReply.{CoreReply}
@@ -50,6 +50,12 @@ outcomeIn c = record { answer = c .reply .answer; flat = c .flat; steps = c .ste
 pub record Done (d : Desk) (room : ℕ) (l p v : List ℕ) (c : CoreReply) (l′ p′ v′ : List ℕ) : Type 0 where
   pub same : c .reply .desk ≡ d
   pub outcome : Outcomes (rosterBytes d) room l p v (outcomeIn c) l′ p′ v′
+
+-- on the bytes held
+pub done-on : {d : Desk} {room : ℕ} {l p v : List ℕ} {c : CoreReply} {l′ p′ v′ : List ℕ} {roster : List ℕ} → roster ≡ rosterBytes d → c .reply .desk ≡ d
+    → Outcomes roster room l p v (outcomeIn c) l′ p′ v′ → Done d room l p v c l′ p′ v′
+done-on {d} {room} {l} {p} {v} {c} {l′} {p′} {v′} e q o =
+    record { same = q; outcome = subst (λ b. Outcomes b room l p v (outcomeIn c) l′ p′ v′) e o }
 
 -- the call's promise
 pub record Finds (d : Desk) (s : List Step) (l p v : List ℕ) (r : FindReply) (s′ : List Step) (l′ p′ v′ : List ℕ) : Type 0 where
