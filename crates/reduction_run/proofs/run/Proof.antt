@@ -116,6 +116,7 @@ returns c =
 pub run-spec : {M : Type 1} → statement M
 run-spec =
     tie.close (tie.spec Inv-loop μ-loop start-requires loop-holds step-requires stable-requires cast-edges
-    (λ c. omega (arith, room (c .before .before .before .before .before .before .before))) (λ c. omega (arith, room (c .before .before .before .before .before .before .before)))
+    (λ c. omega (arith, room (c .before .before .before .before .before .before .before)))
+    (λ c. omega (arith, room (c .before .before .before .before .before .before .before)))
     (λ c. omega (arith, room (c .before .before .before .before .before .before .before))) act-requires
     (λ c. omega (arith, room (c .before .before .before .before .before .before .before .before .before .before .before))) strikes-requires loop-less loop-again returns)

@@ -37,5 +37,6 @@ returns c = λ i j h k. c .before .loop .inv .2 i j (omega arith) k
 
 pub terminals-spec : {M : Type 1} → statement M
 terminals-spec =
-    tie.close (tie.spec Inv-loop μ-loop loop-holds terminal-row-requires (λ c κs. (omega arith, c .before .before .before .before .loop .inv .1)) (λ c. search needs) (λ c. search needs)
+    tie.close (tie.spec Inv-loop μ-loop loop-holds terminal-row-requires
+    (λ c κs. (omega arith, c .before .before .before .before .loop .inv .1)) (λ c. search needs) (λ c. search needs)
     loop-again returns)

@@ -47,16 +47,19 @@ rowed c =
     row-is (a .arcs .now) (a .terminals .now) (l .loop .d) (a .n) (a .k) (l .loop .l) (omega arith) (l .loop .inv .2) (worth l)
     (c .pair .result .row) (worth-is l) (c .pair .ensures .0)
 
-layered : (c : tie.After-next-layer Inv-loop μ-loop) → let l = c .before .before .before .before .before .before .before .before .before .before .before in let a = l .before .before .args in
+layered : (c : tie.After-next-layer Inv-loop μ-loop)
+    → let l = c .before .before .before .before .before .before .before .before .before .before .before in let a = l .before .before .args in
     Rows (c .next-layer .result) (a .n) (layerAt (a .arcs .now) (a .n) (suc (l .loop .l)))
 layered c =
     let l = c .before .before .before .before .before .before .before .before .before .before .before in
     let a = l .before .before .args in
     layer-next (a .arcs .now) (l .loop .d) (c .next-layer .result) (a .n) (l .loop .l) (l .loop .inv .2) (c .next-layer .ensures)
 
-shifted : (c : tie.After-changed Inv-loop μ-loop) → let l = c .before .before .before .before .before .before .before .before .before .before .before .before .before .before in let a = l .before .before .args in
+altered : (c : tie.After-changed Inv-loop μ-loop)
+    → let l = c .before .before .before .before .before .before .before .before .before .before .before .before .before .before in
+    let a = l .before .before .args in
     c .changed .result ≡ levelChange (a .arcs .now) (a .n) (l .loop .l)
-shifted c =
+altered c =
     let l = c .before .before .before .before .before .before .before .before .before .before .before .before .before .before in
     let a = l .before .before .args in
     let y = c .before .before .before in
@@ -122,7 +125,7 @@ returns-4 c =
     out-nothing (a .arcs .now) (a .terminals .now) (a .n) (a .k) (l .loop .l)
     (levelsAt (a .arcs .now) (a .terminals .now) (a .n) (a .k) (a .b - (l .loop .l + 1)) (l .loop .l + 1))
     (d .diagonal .result) (p .pair .result .row) (g .changed .result) (looped d) (p .before .before .if1 .left) (rowed p)
-    (g .before .before .before .before .before .before .if2 .left) (shifted g) (c .if4 .taken)
+    (g .before .before .before .before .before .before .if2 .left) (altered g) (c .if4 .taken)
     ∙ sym (levels-turn (a .arcs .now) (a .terminals .now) (a .n) (a .k) (a .b) (l .loop .l) (omega arith)) ∙ l .loop .inv .3
 
 loop-again : tie.Need-loop-again Inv-loop μ-loop
@@ -140,7 +143,7 @@ loop-again c =
       out-on (a .arcs .now) (a .terminals .now) (a .n) (a .k) (l .loop .l)
           (levelsAt (a .arcs .now) (a .terminals .now) (a .n) (a .k) (a .b - (l .loop .l + 1)) (l .loop .l + 1))
           (d .diagonal .result) (p .pair .result .row) (g .changed .result) (looped d) (p .before .before .if1 .left) (rowed p)
-          (g .before .before .before .before .before .before .if2 .left) (shifted g) (c .if4 .left)
+          (g .before .before .before .before .before .before .if2 .left) (altered g) (c .if4 .left)
           ∙ sym (levels-turn (a .arcs .now) (a .terminals .now) (a .n) (a .k) (a .b) (l .loop .l) (omega arith)) ∙ l .loop .inv .3,
     )
 
