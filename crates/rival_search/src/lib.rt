@@ -146,9 +146,8 @@ pub fn searched(
 ) -> Hunt
     requires { ⌜ (m ≤ entryLimit) × (n ≤ planLimit) × Low m (now sv) nodeLimit × Low m (now st) nodeLimit
         × Rows (now arcs) n (arcCell m (now sv) (now st) (now rs) (now rt) (now plan) (now ps) (now pt) (now rps) (now rpt)) ⌝ }
-    ensures { λ r. ⌜ Searched m (now (sv .entry)) (now (st .entry)) (now (rs .entry)) (now (rt .entry)) (now (plan .entry)) n
-        (now (ps .entry)) (now (pt .entry)) (now (rps .entry)) (now (rpt .entry)) (now (fs .entry)) (now (ft .entry)) (now (arcs .entry))
-        (r .below) (r .found) ⌝ }
+    ensures { λ r. ⌜ Searched m (now (sv .entry)) (now (st .entry)) (now (rs .entry)) (now (rt .entry)) (now (plan .entry)) n (now (ps .entry)) (now (pt .entry))
+        (now (rps .entry)) (now (rpt .entry)) (now (fs .entry)) (now (ft .entry)) (now (arcs .entry)) (r .below) (r .found) ⌝ }
 {
     let ends = terminal_table(m, sv, st, rs, rt, plan, n, ps, pt, rps, rpt, fs, ft);
     let f = rival_capacity::direct(m, sv, st, plan, fs, ft);

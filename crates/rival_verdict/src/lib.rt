@@ -66,8 +66,8 @@ pub fn judged_on(
 ) -> Judged
     requires { ⌜ (m ≤ entryLimit) × (n ≤ planLimit) × Low m (now sv) nodeLimit × Low m (now st) nodeLimit × Lists m (now plan) n (now es)
         × Views n (now es) (now sv) (now st) (now rs) (now rt) (now ps) (now pt) (now qs) (now qt) ⌝ }
-    ensures { λ r. ⌜ ShownFor m (now (sv .entry)) (now (st .entry)) (now (rs .entry)) (now (rt .entry)) (now (plan .entry)) n
-        (now (ps .entry)) (now (pt .entry)) (now (fs .entry)) (now (ft .entry)) (verdictFor (r .beaten) (r .rivalled)) (r .rival) ⌝ }
+    ensures { λ r. ⌜ ShownFor m (now (sv .entry)) (now (st .entry)) (now (rs .entry)) (now (rt .entry)) (now (plan .entry)) n (now (ps .entry)) (now (pt .entry))
+        (now (fs .entry)) (now (ft .entry)) (verdictFor (r .beaten) (r .rivalled)) (r .rival) ⌝ }
 {
     let arcs = rival_arcs::arcs(m, sv, st, rs, rt, plan, n, ps, pt, qs, qt);
     let h = rival_search::searched(m, sv, st, rs, rt, plan, n, ps, pt, qs, qt, fs, ft, &arcs);
@@ -98,8 +98,8 @@ pub fn judge(
     es: &[u16; 64],
 ) -> Judged
     requires { ⌜ (m ≤ entryLimit) × (n ≤ planLimit) × Low m (now sv) nodeLimit × Low m (now st) nodeLimit × Lists m (now plan) n (now es) ⌝ }
-    ensures { λ r. ⌜ RivalShown m (now (sv .entry)) (now (st .entry)) (now (rs .entry)) (now (rt .entry)) (now (bs .entry)) (now (bt .entry))
-        (now (plan .entry)) (verdictFor (r .beaten) (r .rivalled)) (r .rival) ⌝ }
+    ensures { λ r. ⌜ RivalShown m (now (sv .entry)) (now (st .entry)) (now (rs .entry)) (now (rt .entry)) (now (bs .entry)) (now (bt .entry)) (now (plan .entry))
+        (verdictFor (r .beaten) (r .rivalled)) (r .rival) ⌝ }
 {
     let ps = rival_tables::gathered(n, es, sv);
     let pt = rival_tables::gathered(n, es, st);

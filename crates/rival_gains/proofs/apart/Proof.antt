@@ -24,6 +24,9 @@ loop-holds c = (zero-le, length-replicate {A = ℕ} 4096 3, λ i j h. absurd (no
 apart-row-requires : tie.Need-apart-row-requires Inv-loop μ-loop
 apart-row-requires c κs = (omega arith, c .before .before .before .before .pre .1)
 
+put-row-requires : tie.Need-put-row-requires Inv-loop μ-loop
+put-row-requires c κs = (omega arith, c .before .before .before .before .before .before .loop .inv .1)
+
 loop-again : tie.Need-loop-again Inv-loop μ-loop
 loop-again c =
     let l = c .before .before .before .before .before .before .before in
@@ -41,6 +44,5 @@ returns c = λ i j h k. c .before .loop .inv .2 i j (omega arith) k
 
 pub apart-spec : {M : Type 1} → statement M
 apart-spec =
-    tie.close (tie.spec Inv-loop μ-loop loop-holds (λ c. search needs) (λ c. search needs) apart-row-requires
-    (λ c κs. (omega arith, c .before .before .before .before .before .before .loop .inv .1))
+    tie.close (tie.spec Inv-loop μ-loop loop-holds (λ c. search needs) (λ c. search needs) apart-row-requires put-row-requires
     (λ c. search needs) (λ c. search needs) loop-again returns)
