@@ -4,3 +4,4 @@ pub mod Demand3
 pub mod Desks
 pub mod RivalSaid
 pub mod DiaryPairs
+pub mod Sessions
