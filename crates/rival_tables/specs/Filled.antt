@@ -1,17 +1,18 @@
 -- Square tables of 64 columns that lie row after row in one array, filled row by row.
-use Prim.Native.Nat.{ℕ, _+_, _*_, _≤_, _<_}
+use Prim.Native.Nat.{ℕ, zero, suc, _+_, _*_, _/_, _%_, _≤_, _<_}
 use native.Mathlib.Omega.{arith}
 use native.Mathlib.Nat.{eq-or-lt-of-le}
 use mathlib.Core.Path.{_≡_, refl, sym, ap, ap₂, _∙_, subst}
 use mathlib.Core.Logic.{⊎-elim}
 use mathlib.Core.Bool.{Bool, true, false, cond}
-use mathlib.Core.List.{List}
+use mathlib.Core.List.{List, map}
 use lib.ListN.{length, getD, set}
 use lib.Seq.{getD-set-same, getD-set-other}
 use lib.Dec.{eqb, ltb}
 use borrow.Author.Tests.{lt-ltb, le-ltb, ltb-true, ltb-false}
 use mir.Val.{boolByte}
 use Rattle.lists.specs.Test.{by-bool, bit, by-eq, bit-one}
+use Rattle.lists.specs.Sum.{range}
 use Rattle.arrays.specs.ArrayInstance.{at}
 use Rattle.arrays.specs.Filled.{Made}
 
@@ -99,3 +100,22 @@ module _ (t : List ℕ) (f : ℕ → ℕ) where
 
   pub remade-end : (k : ℕ) (r : List ℕ) → 64 ≤ k → Remade t f k r → Made 0 r f 64
   remade-end k r h m j g = m j g ∙ ap (λ b. cond b (f j) (at t j)) (lt-ltb j k (omega arith))
+
+-- ---- a table of given entries: there is one for any
+at-map : (g : ℕ → ℕ) (i n k : ℕ) → k < n → at (map g (range i n)) k ≡ g (i + k)
+at-map g i zero k h = absurd (omega arith)
+at-map g i (suc n) zero h = let e : i ≡ i + 0 = omega arith in ap g e
+at-map g i (suc n) (suc k) h = let e : suc i + k ≡ i + suc k = omega arith in at-map g (suc i) n k (omega arith) ∙ ap g e
+
+unfoldable pub tableOf : (ℕ → ℕ → ℕ) → ℕ → List ℕ
+tableOf f size = map (λ k. f (k / 64) (k % 64)) (range 0 size)
+
+pub table-rows : (f : ℕ → ℕ → ℕ) (n : ℕ) → Rows (tableOf f (n * 64)) n f
+unfolding tableOf
+table-rows f n i j il jl = at-map (λ k. f (k / 64) (k % 64)) 0 (n * 64) (i * 64 + j) (omega arith) ∙ ap₂ f (row i j jl) (column i j jl)
+  where
+    row : (i j : ℕ) → j < 64 → (0 + (i * 64 + j)) / 64 ≡ i
+    row i j h = omega arith
+
+    column : (i j : ℕ) → j < 64 → (0 + (i * 64 + j)) % 64 ≡ j
+    column i j h = omega arith

@@ -12,17 +12,20 @@ use Rattle.rival_gains.proofs.apart.Statement.{statement}
 use Rattle.rival_gains.proofs.apart.Tie as tie
 
 abbrev Inv-loop : tie.InvT-loop
-Inv-loop m end other rank plan room n pe po pr o₀ i₀ o i =
+Inv-loop m end other rank plan room head next n pe po pr o₀ i₀ o i =
     (i ≤ n) × (length o ≡ 4096) × Rows o i (λ i j. gainPriceBut m end other rank plan room 3 (at pe i) (at pr i) (at po j))
 
 abbrev μ-loop : tie.MeasureT-loop
-μ-loop m end other rank plan room n pe po pr o₀ i₀ o i = n - i
+μ-loop m end other rank plan room head next n pe po pr o₀ i₀ o i = n - i
 
 loop-holds : tie.Need-loop-holds Inv-loop μ-loop
 loop-holds c = (zero-le, length-replicate {A = ℕ} 4096 3, λ i j h. absurd (not-suc-le-zero h))
 
 apart-row-requires : tie.Need-apart-row-requires Inv-loop μ-loop
-apart-row-requires c κs = (omega arith, c .before .before .before .before .pre .1)
+apart-row-requires c κs =
+    let l = c .before .before .before in
+    let s = l .before in
+    (omega arith, s .pre .1, s .pre .2, s .pre .4 (l .loop .i) (omega arith))
 
 put-row-requires : tie.Need-put-row-requires Inv-loop μ-loop
 put-row-requires c κs = (omega arith, c .before .before .before .before .before .before .loop .inv .1)

@@ -12,16 +12,19 @@ use Rattle.rival_gains.proofs.gains.Statement.{statement}
 use Rattle.rival_gains.proofs.gains.Tie as tie
 
 abbrev Inv-loop : tie.InvT-loop
-Inv-loop m end other rank plan room n pe pr o₀ i₀ o i = (i ≤ n) × (length o ≡ 64) × Made 0 o (λ i. gainPrice m end other rank plan room 6 (at pe i) (at pr i)) i
+Inv-loop m end other rank plan room head next n pe pr o₀ i₀ o i = (i ≤ n) × (length o ≡ 64) × Made 0 o (λ i. gainPrice m end other rank plan room 6 (at pe i) (at pr i)) i
 
 abbrev μ-loop : tie.MeasureT-loop
-μ-loop m end other rank plan room n pe pr o₀ i₀ o i = n - i
+μ-loop m end other rank plan room head next n pe pr o₀ i₀ o i = n - i
 
 loop-holds : tie.Need-loop-holds Inv-loop μ-loop
 loop-holds c = (zero-le, refl, λ i h. absurd (not-suc-le-zero h))
 
 gain-requires : tie.Need-gain-requires Inv-loop μ-loop
-gain-requires c κs = (omega arith, c .before .before .before .before .pre .1)
+gain-requires c κs =
+    let l = c .before .before .before in
+    let s = l .before in
+    (omega arith, s .pre .1, s .pre .2, s .pre .4 (l .loop .i) (omega arith))
 
 loop-again : tie.Need-loop-again Inv-loop μ-loop
 loop-again c =
