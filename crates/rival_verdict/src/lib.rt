@@ -101,7 +101,24 @@ fn judged_by_tables(
     );
     let found = h.found;
     let rivalled = is_something(found);
-    let s = rival_exchange::swap(m, sv, st, rs, rt, plan, n, es, fs, ft, &arcs, found);
+    let s = rival_exchange::swap(
+        m,
+        sv,
+        st,
+        rs,
+        rt,
+        plan,
+        hs,
+        ls,
+        ht,
+        lt,
+        n,
+        es,
+        fs,
+        ft,
+        &arcs,
+        found,
+    );
     let gone = s.gone;
     let come = s.come;
     let rival = exchanged(m, plan, &gone, &come);

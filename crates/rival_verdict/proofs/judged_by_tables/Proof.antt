@@ -45,7 +45,7 @@ swap-requires c κs =
       s .pre .1,
       s .pre .2,
       s .pre .3,
-      (λ i l. omega (arith, listed-low (a .m) (a .plan .now) (a .n) (a .es .now) (s .pre .4) i l, s .pre .0)),
+      listed-low (a .m) (a .plan .now) (a .n) (a .es .now) (s .pre .4),
       (λ i j il jl. omega (
         arith,
         e i j il jl,
@@ -54,6 +54,8 @@ swap-requires c κs =
       )),
       searching-bounded (a .m) (a .sv .now) (a .st .now) (a .rs .now) (a .rt .now) (a .plan .now) (a .n) (a .ps .now) (a .pt .now) (a .qs .now)
           (a .qt .now) (a .fs .now) (a .ft .now) (t .result) (h .result .below) (h .result .found) (h .ensures),
+      s .pre .8,
+      s .pre .9,
     )
 
 exchanged-requires : tie.Need-exchanged-requires
