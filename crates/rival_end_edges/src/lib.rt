@@ -62,10 +62,11 @@ pub fn round(
     let mut g = ht[t] as usize;
     while g < m {
         let v = sv[g] as usize;
-        let p = vote_ranks::rated(b, rt[g]);
-        let ok = (!plan[g] & fs[v]) & ((start < m) | !(sv[g] == s));
-        let next = offered(ok, a + p, start, g, o);
-        o = next;
+        if !plan[g] & fs[v] {
+            let p = vote_ranks::rated(b, rt[g]);
+            let next = offered((start < m) | !(sv[g] == s), a + p, start, g, o);
+            o = next;
+        }
         g = lt[g] as usize;
     }
     o

@@ -63,7 +63,7 @@ pub fn apart_row(
     o
 }
 
-// The same for all edges of the plan, a row for each.
+// The same for all edges of the plan, a row for each. Where no node has room, nothing can be gained.
 pub fn apart(
     m: usize,
     end: &[u8; 1024],
@@ -84,6 +84,10 @@ pub fn apart(
         (at (now (pe .entry)) i) (at (now (pr .entry)) i) (at (now (po .entry)) j)) ⌝ }
 {
     let mut o = [3u8; 4096];
+    let roomy = rival_capacity::first_room(room);
+    if roomy >= 32 {
+        return o;
+    }
     let mut i = 0;
     while i < n {
         let row = apart_row(
@@ -156,7 +160,11 @@ pub fn gains(
         (at (now (pe .entry)) i) (at (now (pr .entry)) i))
         n ⌝ }
 {
-    let mut o = [0u8; 64];
+    let mut o = [6u8; 64];
+    let roomy = rival_capacity::first_room(room);
+    if roomy >= 32 {
+        return o;
+    }
     let mut i = 0;
     while i < n {
         o[i] = gain(m, end, other, rank, plan, room, head, next, pe[i], pr[i]);
