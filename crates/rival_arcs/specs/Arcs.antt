@@ -2,10 +2,12 @@
 -- their places in the plan's list; of all m edges sv, st, rs, rt, and which are in the plan.
 use Prim.Native.Nat.{ℕ, _+_, _-_, _≤_, _<_}
 use native.Mathlib.Omega.{arith}
-use mathlib.Core.Path.{_≡_, refl, ap, _∙_}
-use mathlib.Core.Bool.{Bool, true, false, not, _&&_}
+use mathlib.Core.Path.{_≡_, ap, ap₂, _∙_}
+use mathlib.Core.Logic.{_≢_}
+use mathlib.Core.Bool.{Bool, true, false, not, _&&_, and-false}
 use mathlib.Core.List.{List}
 use lib.Dec.{eqb}
+use Rattle.lists.specs.Test.{eqb-yes, eqb-no}
 use Rattle.theory_votes.specs.Score.{rate}
 use Rattle.arrays.specs.ArrayInstance.{at, flag}
 use Rattle.rival_tables.specs.Cheapest.{offer, cheapest, cheapest-turn, cheapest-end}
@@ -35,32 +37,22 @@ module _ (m : ℕ) (sv st rs rt : List ℕ) (plan : List Bool) (t b s a : ℕ) w
   unfolding arcRest
   arc-end v f h = cheapest-end (joining sv st plan t s) (priceOf rs rt b a) v f m h
 
-  -- an edge in the plan, or at another stand, changes nothing; else it is an offer if its surveyor is s
-  pub arc-past : (v f : ℕ) → f < m → not (flag plan f) && eqb (at st f) t ≡ false
-      → arcRest m sv st rs rt plan t b s a v f ≡ arcRest m sv st rs rt plan t b s a v (f + 1)
+  -- an edge is an offer if it may come
+  arc-on : (v f : ℕ) (x : Bool) → f < m → joining sv st plan t s f ≡ x
+      → arcRest m sv st rs rt plan t b s a v f ≡ arcRest m sv st rs rt plan t b s a (offer x (priceOf rs rt b a f) v) (f + 1)
   unfolding arcRest
-  arc-past v f h e =
+  arc-on v f x h e =
       cheapest-turn (joining sv st plan t s) (priceOf rs rt b a) v f m h
-      ∙ ap (λ x. cheapest (joining sv st plan t s) (priceOf rs rt b a) (offer x (priceOf rs rt b a f) v) (f + 1) (m - (f + 1)))
-      (fails (not (flag plan f)) (eqb (at st f) t) (eqb (at sv f) s) e)
-    where
-      fails : (x y z : Bool) → x && y ≡ false → x && (y && z) ≡ false
-      fails true true z e = absurd (T-no e)
-        where
-          T-no : true ≡ false → ⊥
-          T-no e = let z : _≡_ {A = ℕ} 0 1 = cc in omega arith
-      fails true false z e = refl
-      fails false y z e = refl
+      ∙ ap (λ x. cheapest (joining sv st plan t s) (priceOf rs rt b a) (offer x (priceOf rs rt b a f) v) (f + 1) (m - (f + 1))) e
 
-  pub arc-turn : (v f : ℕ) → f < m → not (flag plan f) && eqb (at st f) t ≡ true
+  -- at another stand, or in the plan, it changes nothing; else it comes if its surveyor is s
+  pub arc-other : (v f : ℕ) → f < m → at st f ≢ t → arcRest m sv st rs rt plan t b s a v f ≡ arcRest m sv st rs rt plan t b s a v (f + 1)
+  arc-other v f h n =
+      arc-on v f false h (ap (λ y. not (flag plan f) && (y && eqb (at sv f) s)) (eqb-no (at st f) t n) ∙ and-false (not (flag plan f)))
+
+  pub arc-past : (v f : ℕ) → f < m → not (flag plan f) ≡ false → arcRest m sv st rs rt plan t b s a v f ≡ arcRest m sv st rs rt plan t b s a v (f + 1)
+  arc-past v f h e = arc-on v f false h (ap (λ x. x && (eqb (at st f) t && eqb (at sv f) s)) e)
+
+  pub arc-turn : (v f : ℕ) → f < m → not (flag plan f) ≡ true → at st f ≡ t
       → arcRest m sv st rs rt plan t b s a v f ≡ arcRest m sv st rs rt plan t b s a (offer (eqb (at sv f) s) (rate b (at rt f) + rate a (at rs f)) v) (f + 1)
-  unfolding arcRest
-  arc-turn v f h e =
-      cheapest-turn (joining sv st plan t s) (priceOf rs rt b a) v f m h
-      ∙ ap (λ x. cheapest (joining sv st plan t s) (priceOf rs rt b a) (offer x (priceOf rs rt b a f) v) (f + 1) (m - (f + 1)))
-      (passes (not (flag plan f)) (eqb (at st f) t) (eqb (at sv f) s) e)
-    where
-      passes : (x y z : Bool) → x && y ≡ true → x && (y && z) ≡ z
-      passes true true z e = refl
-      passes true false z e = absurd (let z : _≡_ {A = ℕ} 0 1 = cc in omega arith)
-      passes false y z e = absurd (let z : _≡_ {A = ℕ} 0 1 = cc in omega arith)
+  arc-turn v f h e q = arc-on v f (eqb (at sv f) s) h (ap₂ (λ x y. x && (y && eqb (at sv f) s)) e (eqb-yes (at st f) t q))

@@ -1,29 +1,43 @@
 // The table of the arcs between the edges of a plan: for two places in the plan's list, the least price of an edge outside the plan that lies at the
-// stand of the first and at the surveyor of the second; 133 where there is none. A row is made by one pass over the edges.
+// stand of the first and at the surveyor of the second; 133 where there is none. A row is made by the links through the edges of its stand and, for
+// each of them, through the places of its surveyor.
 ghost use mathlib.Core.Path.{_≡_};
 ghost use Prim.Native.Nat.{ℕ, _+_, _≤_, _<_};
+ghost use lib.ListN.{length};
 ghost use lib.Dec.{eqb};
-ghost use Rattle.model.specs.Limits.{entryLimit, planLimit};
+ghost use Rattle.model.specs.Limits.{entryLimit, nodeLimit, planLimit};
 ghost use Rattle.theory_votes.specs.Score.{rate};
 ghost use Rattle.arrays.specs.ArrayInstance.{at};
+ghost use Rattle.arrays.specs.Passes.{Low};
 ghost use Rattle.arrays.specs.Filled.{Made};
+ghost use Rattle.edge_links.specs.Linked.{Linked};
 ghost use Rattle.rival_tables.specs.Filled.{Rows};
 ghost use Rattle.rival_tables.specs.Cheapest.{offer};
 ghost use Rattle.rival_arcs.specs.Arcs.{arcPrice};
 
-// One more edge is offered to a row: it lies at surveyor s with rank r there, and its price at the stand is a.
-pub fn joined(row: [u8; 64], ps: &[u8; 64], rps: &[u8; 64], s: u8, r: u8, a: u8) -> [u8; 64]
-    requires { ⌜ a ≤ 2 ⌝ }
-    ensures { λ o. ⌜ Made 0 o (λ j. offer (eqb s (at (now (ps .entry)) j)) (a + rate (at (now (rps .entry)) j) r) (at row j)) 64 ⌝ }
+// One more edge is offered to a row: it lies at surveyor s with rank r there, and its price at the stand is a. `ps` is there for the promise alone, as
+// the links stand for it; so are `ps` and `st` below.
+pub fn joined(
+    row: &mut [u8; 64],
+    ps: &[u8; 64],
+    rps: &[u8; 64],
+    first: &[u16; 32],
+    after: &[u16; 64],
+    s: u8,
+    r: u8,
+    a: u8,
+)
+    requires { ⌜ (length (now row) ≡ 64) × Linked 64 (now ps) (now first) (now after) × (s < 32) × (a ≤ 2) ⌝ }
+    ensures { λ _. ⌜ (length (now (row .exit)) ≡ 64)
+        × Made 0 (now (row .exit)) (λ j. offer (eqb s (at (now (ps .entry)) j)) (a + rate (at (now (rps .entry)) j) r) (at (now (row .entry)) j)) 64 ⌝ }
 {
-    let mut o = [0u8; 64];
-    let mut j = 0;
+    let v = s as usize;
+    let mut j = first[v] as usize;
     while j < 64 {
         let p = a + vote_ranks::rated(rps[j], r);
-        o[j] = rival_tables::offered(s == ps[j], p, row[j]);
-        j += 1;
+        row[j] = rival_tables::lesser(p, row[j]);
+        j = after[j] as usize;
     }
-    o
 }
 
 // The row of an edge of the plan with stand t and rank b there.
@@ -34,26 +48,31 @@ pub fn arc_row(
     rs: &[u8; 1024],
     rt: &[u8; 1024],
     plan: &[bool; 1024],
+    head: &[u16; 32],
+    next: &[u16; 1024],
     ps: &[u8; 64],
     rps: &[u8; 64],
+    first: &[u16; 32],
+    after: &[u16; 64],
     t: u8,
     b: u8,
 ) -> [u8; 64]
-    requires { ⌜ m ≤ entryLimit ⌝ }
+    requires { ⌜ (m ≤ entryLimit) × Low m (now sv) nodeLimit × Linked m (now st) (now head) (now next) × Linked 64 (now ps) (now first) (now after)
+        × (t < 32) ⌝ }
     ensures { λ o. ⌜ Made 0 o
         (λ j. arcPrice m (now (sv .entry)) (now (st .entry)) (now (rs .entry)) (now (rt .entry)) (now (plan .entry)) t b (at (now (ps .entry)) j)
         (at (now (rps .entry)) j))
         64 ⌝ }
 {
     let mut o = [133u8; 64];
-    let mut f = 0;
+    let v = t as usize;
+    let mut f = head[v] as usize;
     while f < m {
-        if !plan[f] & (st[f] == t) {
+        if !plan[f] {
             let a = vote_ranks::rated(b, rt[f]);
-            let next = joined(o, ps, rps, sv[f], rs[f], a);
-            o = next;
+            joined(&mut o, ps, rps, first, after, sv[f], rs[f], a);
         }
-        f += 1;
+        f = next[f] as usize;
     }
     o
 }
@@ -66,21 +85,41 @@ pub fn arcs(
     rs: &[u8; 1024],
     rt: &[u8; 1024],
     plan: &[bool; 1024],
+    head: &[u16; 32],
+    next: &[u16; 1024],
     n: usize,
     ps: &[u8; 64],
     pt: &[u8; 64],
     rps: &[u8; 64],
     rpt: &[u8; 64],
 ) -> [u8; 4096]
-    requires { ⌜ (m ≤ entryLimit) × (n ≤ planLimit) ⌝ }
+    requires { ⌜ (m ≤ entryLimit) × (n ≤ planLimit) × Low m (now sv) nodeLimit × Linked m (now st) (now head) (now next)
+        × Low planLimit (now ps) nodeLimit × Low n (now pt) nodeLimit ⌝ }
     ensures { λ r. ⌜ Rows r n
         (λ i j. arcPrice m (now (sv .entry)) (now (st .entry)) (now (rs .entry)) (now (rt .entry)) (now (plan .entry)) (at (now (pt .entry)) i)
         (at (now (rpt .entry)) i) (at (now (ps .entry)) j) (at (now (rps .entry)) j)) ⌝ }
 {
+    let mut after = [0u16; 64];
+    let first = edge_links::links(64, &ps[..], &mut after[..]);
     let mut o = [133u8; 4096];
     let mut i = 0;
     while i < n {
-        let row = arc_row(m, sv, st, rs, rt, plan, ps, rps, pt[i], rpt[i]);
+        let row = arc_row(
+            m,
+            sv,
+            st,
+            rs,
+            rt,
+            plan,
+            head,
+            next,
+            ps,
+            rps,
+            &first,
+            &after,
+            pt[i],
+            rpt[i],
+        );
         rival_tables::put_row(&mut o, &row, i);
         i += 1;
     }

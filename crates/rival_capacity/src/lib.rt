@@ -1,4 +1,4 @@
-// Room at the nodes: which of them the plan leaves below their quota, and the first edge outside the plan that has room at both ends.
+// Room at the nodes: which of them the plan leaves below their quota, the first of them, and the first edge outside the plan that has room at both ends.
 ghost use mathlib.Core.Path.{_≡_};
 ghost use mathlib.Core.Bool.{not, _&&_, false};
 ghost use Prim.Native.Nat.{ℕ, _≤_, _<_};
@@ -37,6 +37,20 @@ pub fn rooms(n: usize, nodes: &[u8; 64], quota: &[u8; 32]) -> [bool; 32]
         v += 1;
     }
     o
+}
+
+// The first node with room, 32 if there is none.
+pub fn first_room(room: &[bool; 32]) -> usize
+    ensures { λ r. ⌜ r ≡ low (flag (now (room .entry))) 32 ⌝ }
+{
+    let mut v = 0;
+    while v < 32 {
+        if room[v] {
+            return v;
+        }
+        v += 1;
+    }
+    v
 }
 
 // The first edge outside the plan with room at both ends, m if there is none.

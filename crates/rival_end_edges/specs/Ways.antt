@@ -114,6 +114,10 @@ module _ (m : ℕ) (sv st rs rt : List ℕ) (x y : ℕ) where
         rest : List ℕ
         rest = keep (λ g. stops g && apart (s, gain g)) (range (g + 1) (m - (g + 1)))
 
+    -- an edge that may not be gained at the end changes nothing
+    pub round-past : (s : Way) (held : ℕ × (Way × Way)) (g : ℕ) → g < m → stops g ≡ false → roundRest s held (g + 1) ≡ roundRest s held g
+    round-past s held g h e = round-turn s held held g false (bid (s, gain g) .0) h (sym (ap (λ b. b && apart (s, gain g)) e)) refl refl
+
     -- the code's test for a start c with an edge g gained at the end
     pub apart-way : (c g : ℕ) → apart (wayOf m c, gain g) ≡ ltb c m || not (eqb (at sv g) (at sv x))
     apart-way c g = go (ltb c m)

@@ -1,4 +1,5 @@
-// The exchange that makes a rival: what the search found is read back, and the edges of the plan that go and those that come are marked.
+// The exchange that makes a rival: what the search found is read back, and the edges of the plan that go and those that come are marked. hs and ls are
+// the links through the edges of each surveyor, ht and lt those of each stand.
 ghost use mathlib.Core.Bool.{cond};
 ghost use mathlib.Core.List.{[], _∷_, _++_};
 ghost use Prim.Native.Nat.{_≤_, _<_};
@@ -6,6 +7,7 @@ ghost use lib.Dec.{ltb};
 ghost use Rattle.model.specs.Limits.{entryLimit, nodeLimit, planLimit};
 ghost use Rattle.theory_verdict.specs.Ends.{fresh};
 ghost use Rattle.arrays.specs.Passes.{Low};
+ghost use Rattle.edge_links.specs.Linked.{Linked};
 ghost use Rattle.rival_layers.specs.Layers.{Small};
 ghost use Rattle.rival_walk.specs.Edges.{arcEdge};
 ghost use Rattle.rival_walk.specs.Marks.{Marked};
@@ -38,10 +40,15 @@ pub fn ended(
     plan: &[bool; 1024],
     fs: &[bool; 32],
     ft: &[bool; 32],
+    hs: &[u16; 32],
+    ls: &[u16; 1024],
+    ht: &[u16; 32],
+    lt: &[u16; 1024],
     x: usize,
     y: usize,
 ) -> Swap
-    requires { ⌜ (m ≤ entryLimit) × Low m (now sv) nodeLimit × Low m (now st) nodeLimit × (x < entryLimit) × (y < entryLimit) ⌝ }
+    requires { ⌜ (m ≤ entryLimit) × Low m (now sv) nodeLimit × Low m (now st) nodeLimit × Linked m (now sv) (now hs) (now ls)
+        × Linked m (now st) (now ht) (now lt) × (x < m) × (y < m) ⌝ }
     ensures { λ r. ⌜ Marks (r .gone) (x ∷ [])
         × Marks (r .come)
         (fresh
@@ -51,7 +58,7 @@ pub fn ended(
         (terminalBy m (now (sv .entry)) (now (st .entry)) (now (rs .entry)) (now (rt .entry)) x y (now (plan .entry))
         (now (fs .entry)) (now (ft .entry)) .1 .1)) ⌝ }
 {
-    let t = rival_end_edges::terminal(m, sv, st, rs, rt, plan, fs, ft, x, y);
+    let t = rival_end_edges::terminal(m, sv, st, rs, rt, plan, fs, ft, hs, ls, ht, lt, x, y);
     let a = t.start;
     let b = t.stop;
     let gone = gained([false; 1024], 1024, x);
@@ -63,7 +70,7 @@ pub fn ended(
     }
 }
 
-// The walk of level l from place i to place j.
+// The walk of level l from place i to place j. It is read back by the layers below l.
 pub fn walked(
     m: usize,
     sv: &[u8; 1024],
@@ -71,6 +78,8 @@ pub fn walked(
     rs: &[u8; 1024],
     rt: &[u8; 1024],
     plan: &[bool; 1024],
+    ht: &[u16; 32],
+    lt: &[u16; 1024],
     n: usize,
     es: &[u16; 64],
     arcs: &[u8; 4096],
@@ -79,13 +88,32 @@ pub fn walked(
     j: usize,
     start: Swap,
 ) -> Swap
-    requires { ⌜ (m ≤ entryLimit) × (n ≤ planLimit) × Low n (now es) entryLimit × Small n (now arcs) × (l < 64) × (i < n) × (j < n) ⌝ }
+    requires { ⌜ (m ≤ entryLimit) × (n ≤ planLimit) × Low n (now es) m × Small n (now arcs) × (l < 64) × (i < n) × (j < n)
+        × Low m (now st) nodeLimit × Linked m (now st) (now ht) (now lt) ⌝ }
     ensures { λ r. ⌜ Walked start
         (walkAt (arcEdge m (now (sv .entry)) (now (st .entry)) (now (rs .entry)) (now (rt .entry)) (now (plan .entry))) (now (es .entry))
         (now (arcs .entry)) n j l i) r ⌝ }
 {
-    let table = rival_columns::columns(n, arcs, j, l);
-    rival_walk::walk(m, sv, st, rs, rt, plan, n, es, arcs, &table, l, i, j, start)
+    let last = if l > 0 { l - 1 } else { 0 };
+    let table = rival_columns::columns(n, arcs, j, last);
+    rival_walk::walk(
+        m,
+        sv,
+        st,
+        rs,
+        rt,
+        plan,
+        ht,
+        lt,
+        n,
+        es,
+        arcs,
+        &table,
+        l,
+        i,
+        j,
+        start,
+    )
 }
 
 // What goes and what comes, by what was found.
@@ -96,6 +124,10 @@ pub fn swap(
     rs: &[u8; 1024],
     rt: &[u8; 1024],
     plan: &[bool; 1024],
+    hs: &[u16; 32],
+    ls: &[u16; 1024],
+    ht: &[u16; 32],
+    lt: &[u16; 1024],
     n: usize,
     es: &[u16; 64],
     fs: &[bool; 32],
@@ -103,8 +135,8 @@ pub fn swap(
     arcs: &[u8; 4096],
     found: Found,
 ) -> Swap
-    requires { ⌜ (m ≤ entryLimit) × (n ≤ planLimit) × Low m (now sv) nodeLimit × Low m (now st) nodeLimit × Low n (now es) entryLimit × Small n (now arcs)
-        × Bounded m n found ⌝ }
+    requires { ⌜ (m ≤ entryLimit) × (n ≤ planLimit) × Low m (now sv) nodeLimit × Low m (now st) nodeLimit × Low n (now es) m × Small n (now arcs)
+        × Bounded m n found × Linked m (now sv) (now hs) (now ls) × Linked m (now st) (now ht) (now lt) ⌝ }
     ensures { λ r. ⌜ Marks (r .gone)
         (goneBy m (now (sv .entry)) (now (st .entry)) (now (rs .entry)) (now (rt .entry)) (now (plan .entry)) (now (fs .entry)) (now (ft .entry))
         (now (es .entry)) (now (arcs .entry)) n found)
@@ -124,14 +156,14 @@ pub fn swap(
         },
         Found::Alone(i) => {
             let x = es[i] as usize;
-            ended(m, sv, st, rs, rt, plan, fs, ft, x, x)
+            ended(m, sv, st, rs, rt, plan, fs, ft, hs, ls, ht, lt, x, x)
         }
-        Found::Closed(l, i) => walked(m, sv, st, rs, rt, plan, n, es, arcs, l, i, i, blank),
+        Found::Closed(l, i) => walked(m, sv, st, rs, rt, plan, ht, lt, n, es, arcs, l, i, i, blank),
         Found::Open(l, i, j) => {
             let x = es[i] as usize;
             let y = es[j] as usize;
-            let start = ended(m, sv, st, rs, rt, plan, fs, ft, x, y);
-            walked(m, sv, st, rs, rt, plan, n, es, arcs, l, i, j, start)
+            let start = ended(m, sv, st, rs, rt, plan, fs, ft, hs, ls, ht, lt, x, y);
+            walked(m, sv, st, rs, rt, plan, ht, lt, n, es, arcs, l, i, j, start)
         }
     }
 }

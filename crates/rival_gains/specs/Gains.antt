@@ -3,12 +3,16 @@
 use Prim.Native.Nat.{ℕ, _+_, _-_, _≤_, _<_}
 use native.Mathlib.Omega.{arith}
 use mathlib.Core.Path.{_≡_, ap, _∙_}
-use mathlib.Core.Bool.{Bool, true, false, not, _&&_}
+use mathlib.Core.Logic.{_≢_}
+use mathlib.Core.Bool.{Bool, true, false, not, _&&_, and-false}
 use mathlib.Core.List.{List}
 use lib.Dec.{eqb}
+use Rattle.lists.specs.Test.{eqb-yes, eqb-no, T-false}
+use Rattle.lists.specs.Search.{low, low-is}
 use Rattle.theory_votes.specs.Score.{rate}
 use Rattle.arrays.specs.ArrayInstance.{at, flag}
-use Rattle.rival_tables.specs.Cheapest.{offer, cheapest, cheapest-turn, cheapest-end}
+use Rattle.arrays.specs.Passes.{Low}
+use Rattle.rival_tables.specs.Cheapest.{offer, cheapest, cheapest-turn, cheapest-end, cheapest-none}
 
 -- f may be gained where an edge at node e gives way
 abbrev pub gainable : (end other : List ℕ) (plan room : List Bool) → ℕ → ℕ → Bool
@@ -17,6 +21,15 @@ gainable end other plan room e f = not (flag plan f) && (eqb (at end f) e && fla
 -- and its other node is not d
 abbrev pub gainableBut : (end other : List ℕ) (plan room : List Bool) → ℕ → ℕ → ℕ → Bool
 gainableBut end other plan room e d f = gainable end other plan room e f && not (eqb (at other f) d)
+
+-- an edge at another node may not be gained; at this one the plan and the room decide
+pub gainable-other : (end other : List ℕ) (plan room : List Bool) (e f : ℕ) → at end f ≢ e → gainable end other plan room e f ≡ false
+gainable-other end other plan room e f n =
+    ap (λ b. not (flag plan f) && (b && flag room (at other f))) (eqb-no (at end f) e n) ∙ and-false (not (flag plan f))
+
+pub gainable-here : (end other : List ℕ) (plan room : List Bool) (e f : ℕ) → at end f ≡ e
+    → gainable end other plan room e f ≡ not (flag plan f) && flag room (at other f)
+gainable-here end other plan room e f q = ap (λ b. not (flag plan f) && (b && flag room (at other f))) (eqb-yes (at end f) e q)
 
 -- the least rate against rank b of such an edge, v if there is none
 unfoldable pub gainPrice : (m : ℕ) (end other rank : List ℕ) (plan room : List Bool) → ℕ → ℕ → ℕ → ℕ
@@ -76,3 +89,24 @@ module _ (m : ℕ) (end other rank : List ℕ) (plan room : List Bool) (e b : �
         (λ x. cheapest (gainableBut end other plan room e d) (λ f. rate b (at rank f))
         (offer (x && not (eqb (at other f) d)) (rate b (at rank f)) v) (f + 1) (m - (f + 1)))
         q
+
+-- ---- no node has room: nothing can be gained
+module _ (m : ℕ) (end other rank : List ℕ) (plan room : List Bool) (lowO : Low m other 32) (full : 32 ≤ low (flag room) 32) where
+  no-room : (f : ℕ) → f < m → flag room (at other f) ≡ false
+  no-room f h = T-false (low-is (flag room) 32 .1 (at other f) (omega (arith, lowO f h)))
+
+  none : (e f : ℕ) → f < m → gainable end other plan room e f ≡ false
+  none e f h =
+      ap (λ b. not (flag plan f) && (eqb (at end f) e && b)) (no-room f h)
+      ∙ ap (λ b. not (flag plan f) && b) (and-false (eqb (at end f) e))
+      ∙ and-false (not (flag plan f))
+
+  pub gain-none : (v e b : ℕ) → gainPrice m end other rank plan room v e b ≡ v
+  unfolding gainPrice
+  gain-none v e b = cheapest-none (gainable end other plan room e) (λ f. rate b (at rank f)) v 0 m (λ f l h. none e f (omega arith))
+
+  pub but-none : (v e b d : ℕ) → gainPriceBut m end other rank plan room v e b d ≡ v
+  unfolding gainPriceBut
+  but-none v e b d =
+      cheapest-none (gainableBut end other plan room e d) (λ f. rate b (at rank f)) v 0 m
+      (λ f l h. ap (λ x. x && not (eqb (at other f) d)) (none e f (omega arith)))

@@ -1,28 +1,31 @@
 // What a walk may gain at an end: the least rate of an edge outside the plan that lies at the same node as an edge of the plan on one side and has
-// room on the other, for each edge of the plan; the same with a node of the other side shut out. The two sides are told apart by the arrays.
+// room on the other, for each edge of the plan; the same with a node of the other side shut out. The two sides are told apart by the arrays. The edges
+// of a node are found by the links; `end` is there for the promise alone.
 ghost use mathlib.Core.Path.{_≡_};
 ghost use mathlib.Core.Bool.{not};
 ghost use Prim.Native.Nat.{ℕ, _≤_, _<_};
+ghost use lib.ListN.{length};
 ghost use lib.Dec.{eqb};
 ghost use Rattle.model.specs.Limits.{entryLimit, nodeLimit, planLimit};
 ghost use Rattle.arrays.specs.ArrayInstance.{at};
 ghost use Rattle.arrays.specs.Passes.{Low};
 ghost use Rattle.arrays.specs.Filled.{Made};
+ghost use Rattle.edge_links.specs.Linked.{Linked};
 ghost use Rattle.rival_tables.specs.Filled.{Rows};
 ghost use Rattle.rival_tables.specs.Cheapest.{offer};
 ghost use Rattle.rival_gains.specs.Gains.{gainPrice, gainPriceBut};
 
 // One more edge is offered to a row, in the columns of other nodes than its own, d; its rate is p.
-pub fn parted(row: [u8; 64], po: &[u8; 64], d: u8, p: u8) -> [u8; 64]
-    ensures { λ o. ⌜ Made 0 o (λ j. offer (not (eqb d (at (now (po .entry)) j))) p (at row j)) 64 ⌝ }
+pub fn parted(row: &mut [u8; 64], po: &[u8; 64], d: u8, p: u8)
+    requires { ⌜ length (now row) ≡ 64 ⌝ }
+    ensures { λ _. ⌜ (length (now (row .exit)) ≡ 64)
+        × Made 0 (now (row .exit)) (λ j. offer (not (eqb d (at (now (po .entry)) j))) p (at (now (row .entry)) j)) 64 ⌝ }
 {
-    let mut o = [0u8; 64];
     let mut j = 0;
     while j < 64 {
-        o[j] = rival_tables::offered(!(d == po[j]), p, row[j]);
+        row[j] = rival_tables::offered(!(d == po[j]), p, row[j]);
         j += 1;
     }
-    o
 }
 
 // The least rates for an edge of the plan at node e with rank b, each column's node shut out; 3 if there is none.
@@ -33,32 +36,34 @@ pub fn apart_row(
     rank: &[u8; 1024],
     plan: &[bool; 1024],
     room: &[bool; 32],
+    head: &[u16; 32],
+    next: &[u16; 1024],
     po: &[u8; 64],
     e: u8,
     b: u8,
 ) -> [u8; 64]
-    requires { ⌜ (m ≤ entryLimit) × Low m (now other) nodeLimit ⌝ }
+    requires { ⌜ (m ≤ entryLimit) × Low m (now other) nodeLimit × Linked m (now end) (now head) (now next) × (e < 32) ⌝ }
     ensures { λ o. ⌜ Made 0 o
         (λ j. gainPriceBut m (now (end .entry)) (now (other .entry)) (now (rank .entry)) (now (plan .entry)) (now (room .entry)) 3 e b
         (at (now (po .entry)) j))
         64 ⌝ }
 {
     let mut o = [3u8; 64];
-    let mut f = 0;
+    let u = e as usize;
+    let mut f = head[u] as usize;
     while f < m {
         let d = other[f];
         let v = d as usize;
-        if !plan[f] & ((end[f] == e) & room[v]) {
+        if !plan[f] & room[v] {
             let p = vote_ranks::rated(b, rank[f]);
-            let next = parted(o, po, d, p);
-            o = next;
+            parted(&mut o, po, d, p);
         }
-        f += 1;
+        f = next[f] as usize;
     }
     o
 }
 
-// The same for all edges of the plan, a row for each.
+// The same for all edges of the plan, a row for each. Where no node has room, nothing can be gained.
 pub fn apart(
     m: usize,
     end: &[u8; 1024],
@@ -66,20 +71,38 @@ pub fn apart(
     rank: &[u8; 1024],
     plan: &[bool; 1024],
     room: &[bool; 32],
+    head: &[u16; 32],
+    next: &[u16; 1024],
     n: usize,
     pe: &[u8; 64],
     po: &[u8; 64],
     pr: &[u8; 64],
 ) -> [u8; 4096]
-    requires { ⌜ (m ≤ entryLimit) × Low m (now other) nodeLimit × (n ≤ planLimit) ⌝ }
+    requires { ⌜ (m ≤ entryLimit) × Low m (now other) nodeLimit × Linked m (now end) (now head) (now next) × (n ≤ planLimit) × Low n (now pe) nodeLimit ⌝ }
     ensures { λ r. ⌜ Rows r n
         (λ i j. gainPriceBut m (now (end .entry)) (now (other .entry)) (now (rank .entry)) (now (plan .entry)) (now (room .entry)) 3
         (at (now (pe .entry)) i) (at (now (pr .entry)) i) (at (now (po .entry)) j)) ⌝ }
 {
     let mut o = [3u8; 4096];
+    let roomy = rival_capacity::first_room(room);
+    if roomy >= 32 {
+        return o;
+    }
     let mut i = 0;
     while i < n {
-        let row = apart_row(m, end, other, rank, plan, room, po, pe[i], pr[i]);
+        let row = apart_row(
+            m,
+            end,
+            other,
+            rank,
+            plan,
+            room,
+            head,
+            next,
+            po,
+            pe[i],
+            pr[i],
+        );
         rival_tables::put_row(&mut o, &row, i);
         i += 1;
     }
@@ -94,22 +117,25 @@ pub fn gain(
     rank: &[u8; 1024],
     plan: &[bool; 1024],
     room: &[bool; 32],
+    head: &[u16; 32],
+    next: &[u16; 1024],
     e: u8,
     b: u8,
 ) -> u8
-    requires { ⌜ (m ≤ entryLimit) × Low m (now other) nodeLimit ⌝ }
+    requires { ⌜ (m ≤ entryLimit) × Low m (now other) nodeLimit × Linked m (now end) (now head) (now next) × (e < 32) ⌝ }
     ensures { λ r. ⌜ r ≡ gainPrice m (now (end .entry)) (now (other .entry)) (now (rank .entry)) (now (plan .entry)) (now (room .entry)) 6 e b ⌝ }
 {
     let mut o = 6;
-    let mut f = 0;
+    let u = e as usize;
+    let mut f = head[u] as usize;
     while f < m {
         let v = other[f] as usize;
-        let ok = !plan[f] & ((end[f] == e) & room[v]);
+        let ok = !plan[f] & room[v];
         if ok {
             let p = vote_ranks::rated(b, rank[f]);
             o = rival_tables::lesser(p, o);
         }
-        f += 1;
+        f = next[f] as usize;
     }
     o
 }
@@ -122,20 +148,26 @@ pub fn gains(
     rank: &[u8; 1024],
     plan: &[bool; 1024],
     room: &[bool; 32],
+    head: &[u16; 32],
+    next: &[u16; 1024],
     n: usize,
     pe: &[u8; 64],
     pr: &[u8; 64],
 ) -> [u8; 64]
-    requires { ⌜ (m ≤ entryLimit) × Low m (now other) nodeLimit × (n ≤ planLimit) ⌝ }
+    requires { ⌜ (m ≤ entryLimit) × Low m (now other) nodeLimit × Linked m (now end) (now head) (now next) × (n ≤ planLimit) × Low n (now pe) nodeLimit ⌝ }
     ensures { λ r. ⌜ Made 0 r
         (λ i. gainPrice m (now (end .entry)) (now (other .entry)) (now (rank .entry)) (now (plan .entry)) (now (room .entry)) 6
         (at (now (pe .entry)) i) (at (now (pr .entry)) i))
         n ⌝ }
 {
-    let mut o = [0u8; 64];
+    let mut o = [6u8; 64];
+    let roomy = rival_capacity::first_room(room);
+    if roomy >= 32 {
+        return o;
+    }
     let mut i = 0;
     while i < n {
-        o[i] = gain(m, end, other, rank, plan, room, pe[i], pr[i]);
+        o[i] = gain(m, end, other, rank, plan, room, head, next, pe[i], pr[i]);
         i += 1;
     }
     o

@@ -2,13 +2,15 @@
 -- search on them is the search of the instance that they show.
 use Prim.Native.Nat.{ℕ, _+_, _*_, _≤_, _<_, min, zero-le}
 use native.Mathlib.Omega.{arith}
+use native.Mathlib.Decide.{decLt}
 use mathlib.Core.Path.{_≡_, sym, ap, ap₂, _∙_, subst}
 use mathlib.Core.Bool.{Bool, false, not, _&&_}
 use mathlib.Core.List.{List, map, Memᴰ·map}
 use lib.Dec.{ltb, leb, eqb}
-use mathlib.Core.Logic.{⊎-elim}
+use mathlib.Core.Logic.{⊎-elim, by-cases}
 use Rattle.lists.specs.Test.{bit, bit-one}
 use Rattle.lists.specs.Sum.{_∈_, range, range-∈, ∈-range, count, sum-cong, upTo, upTo-<}
+use Rattle.lists.specs.Search.{low}
 use Rattle.lists.specs.Keep.{∈-keep}
 use Rattle.model.specs.Instance.{Instance, surveyors, stands}
 use Rattle.model.specs.PlanFile.{edgesIn}
@@ -16,12 +18,12 @@ use Rattle.theory_votes.specs.Score.{rate}
 use Rattle.theory_verdict.specs.Search.{terminal, arc, room?, search}
 use Rattle.theory_verdict.specs.Stop.{search-same}
 use Rattle.arrays.specs.ArrayInstance.{at, flag, shown}
-use Rattle.arrays.specs.Passes.{Low}
+use Rattle.arrays.specs.Passes.{Low, Shows, shows-at, shows-behind}
 use Rattle.arrays.specs.Filled.{Made}
 use Rattle.rival_tables.specs.Filled.{Grid}
 use Rattle.rival_tables.specs.Cheapest.{cheapest-cong, cheapest-≤, cheapest-reach}
 use Rattle.rival_arcs.specs.Arcs.{joining, priceOf, arcPrice}
-use Rattle.rival_gains.specs.Gains.{gainable, gainableBut, gainPrice, gainPriceBut}
+use Rattle.rival_gains.specs.Gains.{gainable, gainableBut, gainPrice, gainPriceBut, gain-none, but-none}
 use Rattle.rival_laws.specs.Walks.{hitOf, searchAt, search-is}
 use Rattle.rival_laws.specs.Prices.{arc-is, terminal-is, deg-places}
 
@@ -35,6 +37,13 @@ listed-low m plan n es l i h =
     let (r, t) = ∈-keep (flag plan) (range 0 m) k in
     let (u, w) = ∈-range m 0 r in
     omega arith
+
+-- a view of the ends is as low as the ends, at places that are not there too
+pub view-low : (m : ℕ) (plan : List Bool) (n : ℕ) (es end view : List ℕ) (k : ℕ) → Lists m plan n es → Low m end 32 → Shows 0 view n (λ i. at end (at es i))
+    → Low k view 32
+view-low m plan n es end view k l low s i h = by-cases (decLt i n)
+    (λ u. omega (arith, shows-at 0 view (λ i. at end (at es i)) n i s u, low (at es i) (listed-low m plan n es l i u)))
+    (λ u. omega (arith, shows-behind 0 view (λ i. at end (at es i)) n i s (omega arith)))
 
 -- ends and ranks of the plan's edges, by their places
 pub record Views (n : ℕ) (es sv st rs rt ps pt rps rpt : List ℕ) : Type 0 where
@@ -59,6 +68,17 @@ abbrev pub terminalCell : (m : ℕ) (sv st rs rt : List ℕ) (plan roomS roomT :
 terminalCell m sv st rs rt plan roomS roomT ps pt rps rpt i j =
     min (min (gainPriceBut m sv st rs plan roomT 3 (at ps i) (at rps i) (at pt j)) (gainPriceBut m st sv rt plan roomS 3 (at pt j) (at rpt j) (at ps i)) + 3)
     (gainPrice m sv st rs plan roomT 6 (at ps i) (at rps i) + gainPrice m st sv rt plan roomS 6 (at pt j) (at rpt j))
+
+-- where no node has room, all of the ends cost 6
+pub full-cell : (m : ℕ) (sv st rs rt : List ℕ) (plan roomS roomT : List Bool) (ps pt rps rpt : List ℕ) → Low m sv 32 → Low m st 32
+    → 32 ≤ low (flag roomS) 32 → 32 ≤ low (flag roomT) 32 → (i j : ℕ) → terminalCell m sv st rs rt plan roomS roomT ps pt rps rpt i j ≡ 6
+full-cell m sv st rs rt plan roomS roomT ps pt rps rpt lowS lowT fullS fullT i j = omega (
+  arith,
+  but-none m sv st rs plan roomT lowT fullT 3 (at ps i) (at rps i) (at pt j),
+  but-none m st sv rt plan roomS lowS fullS 3 (at pt j) (at rpt j) (at ps i),
+  gain-none m sv st rs plan roomT lowT fullT 6 (at ps i) (at rps i),
+  gain-none m st sv rt plan roomS lowS fullS 6 (at pt j) (at rpt j),
+)
 
 count-same : (p q : ℕ → Bool) (n : ℕ) → ((e : ℕ) → e < n → p e ≡ q e) → count p n ≡ count q n
 unfolding count

@@ -40,6 +40,14 @@ cheapest-cong t u p q v i (suc n) h k =
     ap₂ (λ b x. cheapest t p (offer b x v) (suc i) n) (h i (omega arith) (omega arith)) (k i (omega arith) (omega arith))
     ∙ cheapest-cong t u p q (offer (u i) (q i) v) (suc i) n (λ e l g. h e (omega arith) (omega arith)) (λ e l g. k e (omega arith) (omega arith))
 
+-- nothing passes the test
+pub cheapest-none : (t : ℕ → Bool) (p : ℕ → ℕ) (v i n : ℕ) → ((e : ℕ) → i ≤ e → e < i + n → t e ≡ false) → cheapest t p v i n ≡ v
+unfolding cheapest
+cheapest-none t p v i zero h = refl
+cheapest-none t p v i (suc n) h =
+    ap (λ b. cheapest t p (offer b (p i) v) (suc i) n) (h i (omega arith) (omega arith))
+    ∙ cheapest-none t p v (suc i) n (λ e l g. h e (omega arith) (omega arith))
+
 pub cheapest-≤ : (t : ℕ → Bool) (p : ℕ → ℕ) (v i n : ℕ) → cheapest t p v i n ≤ v
 unfolding cheapest
 cheapest-≤ t p v i zero = omega arith

@@ -1,17 +1,18 @@
 -- Square tables of 64 columns that lie row after row in one array, filled row by row.
-use Prim.Native.Nat.{ℕ, _+_, _*_, _≤_, _<_}
+use Prim.Native.Nat.{ℕ, zero, suc, _+_, _*_, _/_, _%_, _≤_, _<_}
 use native.Mathlib.Omega.{arith}
 use native.Mathlib.Nat.{eq-or-lt-of-le}
 use mathlib.Core.Path.{_≡_, refl, sym, ap, ap₂, _∙_, subst}
 use mathlib.Core.Logic.{⊎-elim}
 use mathlib.Core.Bool.{Bool, true, false, cond}
-use mathlib.Core.List.{List}
+use mathlib.Core.List.{List, map}
 use lib.ListN.{length, getD, set}
 use lib.Seq.{getD-set-same, getD-set-other}
 use lib.Dec.{eqb, ltb}
 use borrow.Author.Tests.{lt-ltb, le-ltb, ltb-true, ltb-false}
 use mir.Val.{boolByte}
 use Rattle.lists.specs.Test.{by-bool, bit, by-eq, bit-one}
+use Rattle.lists.specs.Sum.{range}
 use Rattle.arrays.specs.ArrayInstance.{at}
 use Rattle.arrays.specs.Filled.{Made}
 
@@ -34,6 +35,12 @@ Put t row i r = (a b : ℕ) → b < 64 → cell r a b ≡ cond (eqb a i) (at row
 abbrev pub Putting : List ℕ → List ℕ → ℕ → ℕ → List ℕ → Type 0
 Putting t row i k r = (a b : ℕ) → b < 64 → cell r a b ≡ cond (eqb a i) (cond (ltb b k) (at row b) (cell t a b)) (cell t a b)
 
+-- a number other than k is below k + 1 if it is below k
+other-than : (j k : ℕ) → (j ≡ k → ⊥) → ltb j k ≡ ltb j (k + 1)
+other-than j k n = by-bool (ltb j k)
+    (λ e. e ∙ sym (lt-ltb j (k + 1) (omega (arith, ltb-true j k e))))
+    (λ e. e ∙ sym (le-ltb j (k + 1) (omega (arith, ltb-false j k e))))
+
 pub put-start : (t row : List ℕ) (i : ℕ) → Putting t row i 0 t
 put-start t row i a b h = go (eqb a i)
   where
@@ -49,18 +56,13 @@ put-next t row i k r l kl h a b bl = by-eq a i
     (getD-set-same r (i * 64 + k) (at row k) 0 l ∙ ap (at row) (sym d)
     ∙ sym (ap₂ (λ x y. cond x (cond y (at row b) (cell t a b)) (cell t a b)) s (lt-ltb b (k + 1) (omega arith)))))
     (λ n u. getD-set-other r (i * 64 + k) (a * 64 + b) (at row k) 0 (λ q. n (omega arith)) ∙ h a b bl
-    ∙ ap (λ x. cond (eqb a i) (cond x (at row b) (cell t a b)) (cell t a b)) (other n)))
+    ∙ ap (λ x. cond (eqb a i) (cond x (at row b) (cell t a b)) (cell t a b)) (other-than b k n)))
     (λ n s. getD-set-other r (i * 64 + k) (a * 64 + b) (at row k) 0 (λ q. n (omega arith)) ∙ h a b bl
     ∙ ap (λ x. cond x (cond (ltb b k) (at row b) (cell t a b)) (cell t a b)) s
     ∙ sym (ap (λ x. cond x (cond (ltb b (k + 1)) (at row b) (cell t a b)) (cell t a b)) s))
   where
     same : a ≡ i → b ≡ k → i * 64 + k ≡ a * 64 + b
     same e d = omega arith
-
-    other : (b ≡ k → ⊥) → ltb b k ≡ ltb b (k + 1)
-    other n = by-bool (ltb b k)
-        (λ e. e ∙ sym (lt-ltb b (k + 1) (omega (arith, ltb-true b k e))))
-        (λ e. e ∙ sym (le-ltb b (k + 1) (omega (arith, ltb-false b k e))))
 
 pub put-end : (t row : List ℕ) (i k : ℕ) (r : List ℕ) → 64 ≤ k → Putting t row i k r → Put t row i r
 put-end t row i k r l h a b bl = h a b bl ∙ ap (λ x. cond (eqb a i) (cond x (at row b) (cell t a b)) (cell t a b)) (lt-ltb b k (omega arith))
@@ -87,12 +89,33 @@ module _ (t : List ℕ) (f : ℕ → ℕ) where
   remade-next k r v l h e m j g = by-eq j k
       (λ q s. ap (at (set r k v)) q ∙ getD-set-same r k v 0 (omega arith) ∙ e ∙ ap f (sym q)
       ∙ sym (ap (λ b. cond b (f j) (at t j)) (lt-ltb j (k + 1) (omega arith))))
-      (λ n s. getD-set-other r k j v 0 n ∙ m j g ∙ ap (λ b. cond b (f j) (at t j)) (same n))
-    where
-      same : {j : ℕ} → (j ≡ k → ⊥) → ltb j k ≡ ltb j (k + 1)
-      same {j} n = by-bool (ltb j k)
-          (λ e. e ∙ sym (lt-ltb j (k + 1) (omega (arith, ltb-true j k e))))
-          (λ e. e ∙ sym (le-ltb j (k + 1) (omega (arith, ltb-false j k e))))
+      (λ n s. getD-set-other r k j v 0 n ∙ m j g ∙ ap (λ b. cond b (f j) (at t j)) (other-than j k n))
+
+  -- an entry that f leaves as it was needs no writing
+  pub remade-stay : (k : ℕ) (r : List ℕ) → f k ≡ at t k → Remade t f k r → Remade t f (k + 1) r
+  remade-stay k r e m j g = by-eq j k
+      (λ q s. m j g ∙ ap (λ b. cond b (f j) (at t j)) (le-ltb j k (omega arith)) ∙ ap (at t) q ∙ sym e ∙ ap f (sym q)
+      ∙ sym (ap (λ b. cond b (f j) (at t j)) (lt-ltb j (k + 1) (omega arith))))
+      (λ n s. m j g ∙ ap (λ b. cond b (f j) (at t j)) (other-than j k n))
 
   pub remade-end : (k : ℕ) (r : List ℕ) → 64 ≤ k → Remade t f k r → Made 0 r f 64
   remade-end k r h m j g = m j g ∙ ap (λ b. cond b (f j) (at t j)) (lt-ltb j k (omega arith))
+
+-- ---- a table of given entries: there is one for any
+at-map : (g : ℕ → ℕ) (i n k : ℕ) → k < n → at (map g (range i n)) k ≡ g (i + k)
+at-map g i zero k h = absurd (omega arith)
+at-map g i (suc n) zero h = let e : i ≡ i + 0 = omega arith in ap g e
+at-map g i (suc n) (suc k) h = let e : suc i + k ≡ i + suc k = omega arith in at-map g (suc i) n k (omega arith) ∙ ap g e
+
+unfoldable pub tableOf : (ℕ → ℕ → ℕ) → ℕ → List ℕ
+tableOf f size = map (λ k. f (k / 64) (k % 64)) (range 0 size)
+
+pub table-rows : (f : ℕ → ℕ → ℕ) (n : ℕ) → Rows (tableOf f (n * 64)) n f
+unfolding tableOf
+table-rows f n i j il jl = at-map (λ k. f (k / 64) (k % 64)) 0 (n * 64) (i * 64 + j) (omega arith) ∙ ap₂ f (row i j jl) (column i j jl)
+  where
+    row : (i j : ℕ) → j < 64 → (0 + (i * 64 + j)) / 64 ≡ i
+    row i j h = omega arith
+
+    column : (i j : ℕ) → j < 64 → (0 + (i * 64 + j)) % 64 ≡ j
+    column i j h = omega arith

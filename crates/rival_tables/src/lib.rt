@@ -5,8 +5,7 @@ ghost use Prim.Native.Nat.{_≤_, _<_, min};
 ghost use lib.ListN.{length};
 ghost use Rattle.model.specs.Limits.{entryLimit, planLimit};
 ghost use Rattle.arrays.specs.ArrayInstance.{at};
-ghost use Rattle.arrays.specs.Passes.{Low};
-ghost use Rattle.arrays.specs.Filled.{Made};
+ghost use Rattle.arrays.specs.Passes.{Low, Shows};
 ghost use Rattle.rival_tables.specs.Filled.{Put};
 ghost use Rattle.rival_tables.specs.Cheapest.{offer};
 
@@ -25,10 +24,10 @@ pub fn offered(t: bool, p: u8, v: u8) -> u8
     if t { l } else { v }
 }
 
-// What an array has for the first n edges of a list.
+// What an array has for the first n edges of a list; 0 behind them.
 pub fn gathered(n: usize, es: &[u16; 64], xs: &[u8; 1024]) -> [u8; 64]
     requires { ⌜ (n ≤ planLimit) × Low n (now es) entryLimit ⌝ }
-    ensures { λ r. ⌜ Made 0 r (λ i. at (now (xs .entry)) (at (now (es .entry)) i)) n ⌝ }
+    ensures { λ r. ⌜ Shows 0 r n (λ i. at (now (xs .entry)) (at (now (es .entry)) i)) ⌝ }
 {
     let mut o = [0u8; 64];
     let mut i = 0;

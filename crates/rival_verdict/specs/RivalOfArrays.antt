@@ -1,18 +1,19 @@
 -- What the arrays show of a plan: its verdict and its rival are those of the search (theory_verdict, Rival), for every instance that the arrays show.
 -- And what a
 -- caller has of it who knows the plan as the model's: both are asked of the set of edges alone.
-use Prim.Native.Nat.{ℕ, _≤_}
+use Prim.Native.Nat.{ℕ, _*_, _≤_, _<_}
 use native.Mathlib.Omega.{arith}
-use mathlib.Core.Path.{_≡_, sym, ap, ap₂, _∙_, fun-ext}
-use mathlib.Core.Bool.{Bool, false, not, cond, _&&_, _||_}
+use mathlib.Core.Path.{_≡_, refl, sym, ap, ap₂, _∙_, fun-ext}
+use mathlib.Core.Bool.{Bool, true, false, not, cond, _&&_, _||_}
 use mathlib.Core.Option.{Option, orElse, Option·elim}
-use mathlib.Core.List.{List}
+use mathlib.Core.List.{List, [], _∷_}
 use lib.ListN.{length, length-map}
 use lib.Dec.{ltb}
 use Rattle.lists.specs.Sum.{_∈_, range, range-length}
+use Rattle.lists.specs.Search.{low}
 use Rattle.model.specs.Limits.{planLimit}
 use Rattle.model.specs.Instance.{Instance}
-use Rattle.model.specs.Plans.{Plan, on, plansOf, Verdict, verdictOf}
+use Rattle.model.specs.Plans.{Plan, on, plansOf, Verdict, beaten, verdictOf}
 use Rattle.model.specs.PlanFile.{edgesIn, planOf}
 use Rattle.theory_instance.specs.Lawful.{Lawful}
 use Rattle.theory_files.specs.Chosen.{planOf-cong}
@@ -20,11 +21,12 @@ use Rattle.theory_verdict.specs.Search.{Hit, rivalBy, search, judge, verdictBy,
 use Rattle.theory_verdict.specs.Rival.{lid, sizeOf, computedVerdict, rivalOf, computed-verdict}
 use Rattle.arrays.specs.ArrayInstance.{at, flag, shown}
 use Rattle.arrays.specs.Passes.{Shows, Low}
-use Rattle.rival_tables.specs.Filled.{Grid, Rows}
+use Rattle.rival_tables.specs.Filled.{Grid, Rows, tableOf, table-rows}
+use Rattle.rival_levels.specs.declared.Found.the-variants as found
 use Rattle.rival_levels.specs.declared.Found.{Found}
 use Rattle.rival_laws.specs.Walks.{hitOf, searchAt}
-use Rattle.rival_search.specs.SearchView.{Lists, Views, Roomy, freeAt, arcCell, search-shown, arc-shown, terminal-shown, room-S, room-T}
-use Rattle.rival_search.specs.TwoThresholds.{Searched, searched-hit, searching-bounded}
+use Rattle.rival_search.specs.SearchView.{Lists, Views, Roomy, freeAt, arcCell, terminalCell, search-shown, arc-shown, terminal-shown, room-S, room-T}
+use Rattle.rival_search.specs.TwoThresholds.{searched, Searched, search-direct, searched-hit, searching-bounded}
 use Rattle.rival_verdict.specs.Judged.{isSomething, verdictFor, verdict-hits}
 use Rattle.rival_exchange.specs.Swaps.{Marks, goneBy, comeBy, rivalAt, rival-at, shows-plan}
 
@@ -129,3 +131,26 @@ module _ (m : ℕ) (sv st rs rt quotaS quotaT : List ℕ) (plan : List Bool) (n 
     verdict = λ ns nt sh tied. e ∙ found-verdict ns nt sh tied;
     flags = λ ns nt sh tied. found-rival ns nt sh tied rival (λ d. s d ∙ ap₂ (λ (x y : Bool). cond (ltb d m) ((flag plan d && not x) || y) false) (g d) (c d));
   }
+
+-- ---- an edge with room at both ends beats the plan; the tables need not be there, only that there are such
+module _ (m : ℕ) (sv st rs rt quotaS quotaT : List ℕ) (plan : List Bool) (n : ℕ) (es ps pt qs qt : List ℕ) (roomS roomT : List Bool)
+    (fits : n ≤ 64) (lowS : Low m sv 32) (lowT : Low m st 32) (lists : Lists m plan n es) (views : Views n es sv st rs rt ps pt qs qt)
+    (roomyS : Roomy n ps quotaS roomS) (roomyT : Roomy n pt quotaT roomT) where
+  pub direct-shown : (f : ℕ) (gone come rival : List Bool) → f ≡ low (freeAt sv st plan roomS roomT) m → f < m → Marks gone [] → Marks come (f ∷ [])
+      → Shows false rival m (λ e. (flag plan e && not (flag gone e)) || flag come e) → RivalShown m sv st rs rt quotaS quotaT plan beaten rival
+  direct-shown f gone come rival e h = found-shown m sv st rs rt quotaS quotaT plan n es ps pt qs qt roomS roomT arcs true (found.Direct f) fits lowS lowT
+      lists views roomyS roomyT (table-rows (arcCell m sv st rs rt plan ps pt qs qt) n) (
+        terminals,
+        (λ i j il jl. table-rows (terminalCell m sv st rs rt plan roomS roomT ps pt qs qt) n i j il (omega arith)),
+        sym
+            (ap (λ (a : Found). searched a (searchAt m free arcs terminals n 1)) (search-direct m free arcs terminals n f e 0 h)),
+      ) beaten gone come rival refl
+    where
+      free : ℕ → Bool
+      free = freeAt sv st plan roomS roomT
+
+      arcs : List ℕ
+      arcs = tableOf (arcCell m sv st rs rt plan ps pt qs qt) (n * 64)
+
+      terminals : List ℕ
+      terminals = tableOf (terminalCell m sv st rs rt plan roomS roomT ps pt qs qt) (n * 64)

@@ -3,10 +3,12 @@
 ghost use mathlib.Core.Path.{_≡_};
 ghost use mathlib.Core.Bool.{false, not, _&&_, _||_};
 ghost use Prim.Native.Nat.{_≤_};
+ghost use Rattle.lists.specs.Search.{low};
 ghost use Rattle.model.specs.Limits.{entryLimit, nodeLimit, planLimit};
 ghost use Rattle.arrays.specs.ArrayInstance.{flag};
 ghost use Rattle.arrays.specs.Passes.{Shows, Low};
-ghost use Rattle.rival_search.specs.SearchView.{Lists, Views};
+ghost use Rattle.edge_links.specs.Linked.{Linked};
+ghost use Rattle.rival_search.specs.SearchView.{Lists, Views, freeAt};
 ghost use Rattle.rival_verdict.specs.RivalOfArrays.{RivalShown, ShownFor};
 ghost use Rattle.rival_verdict.specs.Judged.{verdictFor, isSomething};
 
@@ -47,7 +49,88 @@ pub struct Judged {
     pub rival: [bool; 1024],
 }
 
-// From the ends and ranks of the plan's edges and the room at the nodes.
+// Where no edge has room at both ends: by the tables. hs and ls are the links through the edges of each surveyor, ht and lt those of each stand.
+fn judged_by_tables(
+    m: usize,
+    sv: &[u8; 1024],
+    st: &[u8; 1024],
+    rs: &[u8; 1024],
+    rt: &[u8; 1024],
+    plan: &[bool; 1024],
+    hs: &[u16; 32],
+    ls: &[u16; 1024],
+    ht: &[u16; 32],
+    lt: &[u16; 1024],
+    n: usize,
+    es: &[u16; 64],
+    ps: &[u8; 64],
+    pt: &[u8; 64],
+    qs: &[u8; 64],
+    qt: &[u8; 64],
+    fs: &[bool; 32],
+    ft: &[bool; 32],
+) -> Judged
+    requires { ⌜ (m ≤ entryLimit) × (n ≤ planLimit) × Low m (now sv) nodeLimit × Low m (now st) nodeLimit × Lists m (now plan) n (now es)
+        × Views n (now es) (now sv) (now st) (now rs) (now rt) (now ps) (now pt) (now qs) (now qt)
+        × Low planLimit (now ps) nodeLimit × Low planLimit (now pt) nodeLimit
+        × Linked m (now sv) (now hs) (now ls) × Linked m (now st) (now ht) (now lt)
+        × (m ≤ low (freeAt (now sv) (now st) (now plan) (now fs) (now ft)) m) ⌝ }
+    ensures { λ r. ⌜ ShownFor m (now (sv .entry)) (now (st .entry)) (now (rs .entry)) (now (rt .entry)) (now (plan .entry)) n (now (ps .entry)) (now (pt .entry))
+        (now (fs .entry)) (now (ft .entry)) (verdictFor (r .beaten) (r .rivalled)) (r .rival) ⌝ }
+{
+    let arcs = rival_arcs::arcs(m, sv, st, rs, rt, plan, ht, lt, n, ps, pt, qs, qt);
+    let h = rival_search::searched(
+        m,
+        sv,
+        st,
+        rs,
+        rt,
+        plan,
+        hs,
+        ls,
+        ht,
+        lt,
+        n,
+        ps,
+        pt,
+        qs,
+        qt,
+        fs,
+        ft,
+        &arcs,
+    );
+    let found = h.found;
+    let rivalled = is_something(found);
+    let s = rival_exchange::swap(
+        m,
+        sv,
+        st,
+        rs,
+        rt,
+        plan,
+        hs,
+        ls,
+        ht,
+        lt,
+        n,
+        es,
+        fs,
+        ft,
+        &arcs,
+        found,
+    );
+    let gone = s.gone;
+    let come = s.come;
+    let rival = exchanged(m, plan, &gone, &come);
+    Judged {
+        beaten: h.below,
+        rivalled: rivalled,
+        rival: rival,
+    }
+}
+
+// From the ends and ranks of the plan's edges and the room at the nodes. An edge with room at both ends beats the plan, whatever the tables say, so it is
+// looked for before they are made.
 pub fn judged_on(
     m: usize,
     sv: &[u8; 1024],
@@ -65,23 +148,46 @@ pub fn judged_on(
     ft: &[bool; 32],
 ) -> Judged
     requires { ⌜ (m ≤ entryLimit) × (n ≤ planLimit) × Low m (now sv) nodeLimit × Low m (now st) nodeLimit × Lists m (now plan) n (now es)
-        × Views n (now es) (now sv) (now st) (now rs) (now rt) (now ps) (now pt) (now qs) (now qt) ⌝ }
+        × Views n (now es) (now sv) (now st) (now rs) (now rt) (now ps) (now pt) (now qs) (now qt)
+        × Low planLimit (now ps) nodeLimit × Low planLimit (now pt) nodeLimit ⌝ }
     ensures { λ r. ⌜ ShownFor m (now (sv .entry)) (now (st .entry)) (now (rs .entry)) (now (rt .entry)) (now (plan .entry)) n (now (ps .entry)) (now (pt .entry))
         (now (fs .entry)) (now (ft .entry)) (verdictFor (r .beaten) (r .rivalled)) (r .rival) ⌝ }
 {
-    let arcs = rival_arcs::arcs(m, sv, st, rs, rt, plan, n, ps, pt, qs, qt);
-    let h = rival_search::searched(m, sv, st, rs, rt, plan, n, ps, pt, qs, qt, fs, ft, &arcs);
-    let found = h.found;
-    let rivalled = is_something(found);
-    let s = rival_exchange::swap(m, sv, st, rs, rt, plan, n, es, fs, ft, &arcs, found);
-    let gone = s.gone;
-    let come = s.come;
-    let rival = exchanged(m, plan, &gone, &come);
-    Judged {
-        beaten: h.below,
-        rivalled: rivalled,
-        rival: rival,
+    let f = rival_capacity::direct(m, sv, st, plan, fs, ft);
+    if f < m {
+        let gone = [false; 1024];
+        let come = rival_exchange::gained([false; 1024], m, f);
+        let rival = exchanged(m, plan, &gone, &come);
+        return Judged {
+            beaten: true,
+            rivalled: true,
+            rival: rival,
+        };
     }
+    let mut ls = [0u16; 1024];
+    let hs = edge_links::links(m, &sv[..], &mut ls[..]);
+    let mut lt = [0u16; 1024];
+    let ht = edge_links::links(m, &st[..], &mut lt[..]);
+    judged_by_tables(
+        m,
+        sv,
+        st,
+        rs,
+        rt,
+        plan,
+        &hs,
+        &ls,
+        &ht,
+        &lt,
+        n,
+        es,
+        ps,
+        pt,
+        qs,
+        qt,
+        fs,
+        ft,
+    )
 }
 
 // From the plan's list and the quotas.

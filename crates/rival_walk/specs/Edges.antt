@@ -1,13 +1,15 @@
 -- The edge of an arc, read from arrays: the first cheapest one, as in the search (theory_verdict, Search.arc).
 use Prim.Native.Nat.{ℕ, _+_, _-_, _≤_, _<_}
 use mathlib.Core.Path.{_≡_, sym, ap, _∙_}
-use mathlib.Core.Bool.{Bool, cond, _&&_}
+use mathlib.Core.Logic.{_≢_}
+use mathlib.Core.Bool.{Bool, false, not, cond, _&&_, and-false}
 use mathlib.Core.List.{List}
-use lib.Dec.{ltb}
+use lib.Dec.{ltb, eqb}
+use Rattle.lists.specs.Test.{eqb-yes, eqb-no}
 use Rattle.lists.specs.Sum.{range}
 use Rattle.lists.specs.Keep.{keep}
 use Rattle.lists.specs.First.{best}
-use Rattle.arrays.specs.ArrayInstance.{at}
+use Rattle.arrays.specs.ArrayInstance.{at, flag}
 use Rattle.rival_tables.specs.Best.{best-turn, best-end, best-start}
 use Rattle.rival_arcs.specs.Arcs.{joining, priceOf}
 
@@ -15,6 +17,14 @@ module _ (m : ℕ) (sv st rs rt : List ℕ) (plan : List Bool) (x z : ℕ) where
   -- f may be the arc's edge; its price
   abbrev pub joins : ℕ → Bool
   joins = joining sv st plan (at st x) (at sv z)
+
+  -- no edge at another stand; at this one the plan and the surveyor decide
+  pub joins-other : (f : ℕ) → at st f ≢ at st x → joins f ≡ false
+  joins-other f n =
+      ap (λ b. not (flag plan f) && (b && eqb (at sv f) (at sv z))) (eqb-no (at st f) (at st x) n) ∙ and-false (not (flag plan f))
+
+  pub joins-here : (f : ℕ) → at st f ≡ at st x → joins f ≡ not (flag plan f) && eqb (at sv f) (at sv z)
+  joins-here f q = ap (λ b. not (flag plan f) && (b && eqb (at sv f) (at sv z))) (eqb-yes (at st f) (at st x) q)
 
   abbrev pub edgePrice : ℕ → ℕ
   edgePrice = priceOf rs rt (at rt x) (at rs z)

@@ -1,8 +1,9 @@
 // The walk that a search found, read back: the edges of the plan that go and the edges that come are marked, arc by arc.
 ghost use mathlib.Core.Path.{_≡_};
-ghost use Prim.Native.Nat.{_≤_, _<_};
-ghost use Rattle.model.specs.Limits.{entryLimit, planLimit};
+ghost use Prim.Native.Nat.{_-_, _≤_, _<_};
+ghost use Rattle.model.specs.Limits.{entryLimit, nodeLimit, planLimit};
 ghost use Rattle.arrays.specs.Passes.{Low};
+ghost use Rattle.edge_links.specs.Linked.{Linked};
 ghost use Rattle.rival_layers.specs.Layers.{Small};
 ghost use Rattle.rival_columns.specs.Leads.{Column};
 ghost use Rattle.rival_walk.specs.Edges.{arcEdge};
@@ -14,7 +15,7 @@ pub struct Swap {
     pub come: [bool; 1024],
 }
 
-// The edge of an arc from edge x of the plan to edge z: the first cheapest one.
+// The edge of an arc from edge x of the plan to edge z: the first cheapest one. ht and lt are the links through the edges of each stand.
 pub fn arc_edge(
     m: usize,
     sv: &[u8; 1024],
@@ -22,32 +23,34 @@ pub fn arc_edge(
     rs: &[u8; 1024],
     rt: &[u8; 1024],
     plan: &[bool; 1024],
+    ht: &[u16; 32],
+    lt: &[u16; 1024],
     x: usize,
     z: usize,
 ) -> usize
-    requires { ⌜ (m ≤ entryLimit) × (x < entryLimit) × (z < entryLimit) ⌝ }
+    requires { ⌜ (m ≤ entryLimit) × (x < m) × (z < m) × Low m (now st) nodeLimit × Linked m (now st) (now ht) (now lt) ⌝ }
     ensures { λ r. ⌜ (r ≡ arcEdge m (now (sv .entry)) (now (st .entry)) (now (rs .entry)) (now (rt .entry)) (now (plan .entry)) x z) × (r < 1024) ⌝ }
 {
-    let t = st[x];
+    let t = st[x] as usize;
     let b = rt[x];
     let s = sv[z];
     let a = rs[z];
     let mut v = 133;
     let mut o = 0;
-    let mut f = 0;
+    let mut f = ht[t] as usize;
     while f < m {
         let p = vote_ranks::rated(b, rt[f]);
         let q = vote_ranks::rated(a, rs[f]);
-        if (!plan[f] & ((st[f] == t) & (sv[f] == s))) & (p + q < v) {
+        if (!plan[f] & (sv[f] == s)) & (p + q < v) {
             v = p + q;
             o = f;
         }
-        f += 1;
+        f = lt[f] as usize;
     }
     o
 }
 
-// The walk of level l from place i to place j, whose column the table holds.
+// The walk of level l from place i to place j, whose column the table holds in the layers below l.
 pub fn walk(
     m: usize,
     sv: &[u8; 1024],
@@ -55,6 +58,8 @@ pub fn walk(
     rs: &[u8; 1024],
     rt: &[u8; 1024],
     plan: &[bool; 1024],
+    ht: &[u16; 32],
+    lt: &[u16; 1024],
     n: usize,
     es: &[u16; 64],
     arcs: &[u8; 4096],
@@ -64,8 +69,8 @@ pub fn walk(
     j: usize,
     start: Swap,
 ) -> Swap
-    requires { ⌜ (m ≤ entryLimit) × (n ≤ planLimit) × Low n (now es) entryLimit × Small n (now arcs) × (l < 64) × (i < n)
-        × (j < n) × Column (now arcs) n j l (now table) ⌝ }
+    requires { ⌜ (m ≤ entryLimit) × (n ≤ planLimit) × Low n (now es) m × Small n (now arcs) × (l < 64) × (i < n) × (j < n)
+        × Column (now arcs) n j (l - 1) (now table) × Low m (now st) nodeLimit × Linked m (now st) (now ht) (now lt) ⌝ }
     ensures { λ r. ⌜ Walked start
         (walkAt (arcEdge m (now (sv .entry)) (now (st .entry)) (now (rs .entry)) (now (rt .entry)) (now (plan .entry))) (now (es .entry))
         (now (arcs .entry)) n j l i) r ⌝ }
@@ -80,7 +85,7 @@ pub fn walk(
         if y < n {
             let x = es[c] as usize;
             let z = es[y] as usize;
-            let f = arc_edge(m, sv, st, rs, rt, plan, x, z);
+            let f = arc_edge(m, sv, st, rs, rt, plan, ht, lt, x, z);
             gone[z] = true;
             come[f] = true;
             c = y;
@@ -89,7 +94,7 @@ pub fn walk(
     }
     let x = es[c] as usize;
     let z = es[j] as usize;
-    let f = arc_edge(m, sv, st, rs, rt, plan, x, z);
+    let f = arc_edge(m, sv, st, rs, rt, plan, ht, lt, x, z);
     gone[z] = true;
     come[f] = true;
     Swap {

@@ -12,23 +12,35 @@ use Rattle.rival_arcs.proofs.arcs.Statement.{statement}
 use Rattle.rival_arcs.proofs.arcs.Tie as tie
 
 abbrev Inv-loop : tie.InvT-loop
-Inv-loop m sv st rs rt plan n ps pt rps rpt o₀ i₀ o i =
+Inv-loop m sv st rs rt plan head next n ps pt rps rpt after first o₀ i₀ o i =
     (i ≤ n) × (length o ≡ 4096) × Rows o i (λ i j. arcPrice m sv st rs rt plan (at pt i) (at rpt i) (at ps j) (at rps j))
 
 abbrev μ-loop : tie.MeasureT-loop
-μ-loop m sv st rs rt plan n ps pt rps rpt o₀ i₀ o i = n - i
+μ-loop m sv st rs rt plan head next n ps pt rps rpt after first o₀ i₀ o i = n - i
+
+links-requires : tie.Need-links-requires Inv-loop μ-loop
+links-requires c κs =
+    let s = c .before .before in
+    let l : length (s .args .ps .now) ≡ 64 = search needs in
+    (omega arith, omega (arith, l), omega arith, s .pre .4)
 
 loop-holds : tie.Need-loop-holds Inv-loop μ-loop
 loop-holds c = (zero-le, length-replicate {A = ℕ} 4096 133, λ i j h. absurd (not-suc-le-zero h))
 
+arc-row-requires : tie.Need-arc-row-requires Inv-loop μ-loop
+arc-row-requires c κs =
+    let l = c .before .before .before .before .before in
+    let s = l .before .before .before .before .before in
+    (s .pre .0, s .pre .2, s .pre .3, l .before .before .links .ensures .1, s .pre .5 (l .loop .i) (omega arith))
+
 put-row-requires : tie.Need-put-row-requires Inv-loop μ-loop
-put-row-requires c κs = (omega arith, c .before .before .before .before .before .before .loop .inv .1)
+put-row-requires c κs = (omega arith, c .before .before .before .before .before .before .before .before .loop .inv .1)
 
 loop-again : tie.Need-loop-again Inv-loop μ-loop
 loop-again c =
-    let l = c .before .before .before .before .before .before .before in
-    let a = l .before .args in (
-      omega arith,
+    let l = c .before .before .before .before .before .before .before .before .before in
+    let a = l .before .before .before .before .before .args in (
+      omega (arith, c .before .before .before .before .before .before .before .before .loop-test .taken),
       c .put-row .ensures .0,
       rows-next (l .loop .o) (c .before .before .before .arc-row .result) (c .put-row .last .0)
           (λ i j. arcPrice (a .m) (a .sv .now) (a .st .now) (a .rs .now) (a .rt .now) (a .plan .now) (at (a .pt .now) i) (at (a .rpt .now) i)
@@ -41,5 +53,5 @@ returns c = λ i j h k. c .before .loop .inv .2 i j (omega arith) k
 
 pub arcs-spec : {M : Type 1} → statement M
 arcs-spec =
-    tie.close (tie.spec Inv-loop μ-loop loop-holds (λ c. search needs) (λ c. search needs) (λ c κs. search needs) put-row-requires
-    (λ c. search needs) (λ c. search needs) loop-again returns)
+    tie.close (tie.spec Inv-loop μ-loop (λ c. search needs) links-requires loop-holds (λ c. search needs) (λ c. search needs) arc-row-requires
+    put-row-requires (λ c. search needs) (λ c. search needs) loop-again returns)

@@ -37,13 +37,14 @@ ended-requires : tie.Need-ended-requires
 ended-requires c κs =
     let s = c .before .before .before .before in
     let b = subst (Bounded (s .args .m) (s .args .n)) (c .before .before .found2 .given .1) (s .pre .6) in
-    (s .pre .0, s .pre .2, s .pre .3, s .pre .4 (c .before .before .found2 .given .0 .0) b, s .pre .4 (c .before .before .found2 .given .0 .0) b)
+    let x = s .pre .4 (c .before .before .found2 .given .0 .0) b in
+    (s .pre .0, s .pre .2, s .pre .3, s .pre .7, s .pre .8, x, x)
 
 walked-requires : tie.Need-walked-requires
 walked-requires c κs =
     let s = c .before .before .before in
     let b = subst (Bounded (s .args .m) (s .args .n)) (c .before .found3 .given .1) (s .pre .6) in
-    (s .pre .0, s .pre .1, s .pre .4, s .pre .5, omega (arith, b .0), b .1, b .1)
+    (s .pre .0, s .pre .1, s .pre .4, s .pre .5, omega (arith, b .0), b .1, b .1, s .pre .3, s .pre .8)
 
 mul-x-2 : tie.Need-mul-x-2
 mul-x-2 c =
@@ -88,6 +89,8 @@ ended-requires-2 c κs =
       s .pre .0,
       s .pre .2,
       s .pre .3,
+      s .pre .7,
+      s .pre .8,
       s .pre .4 (c .before .before .before .found4 .given .0 .1 .0) (b .1),
       s .pre .4 (c .before .before .before .found4 .given .0 .1 .1 .0) (b .2),
     )
@@ -96,7 +99,7 @@ walked-requires-2 : tie.Need-walked-requires-2
 walked-requires-2 c κs =
     let s = c .before .before .before .before .before .before in
     let b = subst (Bounded (s .args .m) (s .args .n)) (c .before .before .before .before .found4 .given .1) (s .pre .6) in
-    (s .pre .0, s .pre .1, s .pre .4, s .pre .5, omega (arith, b .0), b .1, b .2)
+    (s .pre .0, s .pre .1, s .pre .4, s .pre .5, omega (arith, b .0), b .1, b .2, s .pre .3, s .pre .8)
 
 returns : tie.Need-returns
 returns c =

@@ -1,32 +1,44 @@
--- The entries below i are written.
-use mathlib.Core.Path.{_≡_, refl}
+-- No node has room; or the entries below i are written.
+use mathlib.Core.Path.{_≡_, refl, sym, _∙_}
 use Prim.Native.Nat.{_-_, _≤_, zero-le}
 use native.Mathlib.Omega.{arith}
 use native.Mathlib.Nat.{not-suc-le-zero}
-use lib.ListN.{length, length-set}
+use lib.ListN.{length, length-set, getD-replicate}
 use borrow.Author.Needs.{needs}
 use Rattle.arrays.specs.ArrayInstance.{at}
 use Rattle.arrays.specs.Filled.{Made, made-set}
-use Rattle.rival_gains.specs.Gains.{gainPrice}
+use Rattle.rival_gains.specs.Gains.{gainPrice, gain-none}
 use Rattle.rival_gains.proofs.gains.Statement.{statement}
 use Rattle.rival_gains.proofs.gains.Tie as tie
 
 abbrev Inv-loop : tie.InvT-loop
-Inv-loop m end other rank plan room n pe pr o₀ i₀ o i = (i ≤ n) × (length o ≡ 64) × Made 0 o (λ i. gainPrice m end other rank plan room 6 (at pe i) (at pr i)) i
+Inv-loop m end other rank plan room head next n pe pr roomy o₀ i₀ o i = (i ≤ n) × (length o ≡ 64) × Made 0 o (λ i. gainPrice m end other rank plan room 6 (at pe i) (at pr i)) i
 
 abbrev μ-loop : tie.MeasureT-loop
-μ-loop m end other rank plan room n pe pr o₀ i₀ o i = n - i
+μ-loop m end other rank plan room head next n pe pr roomy o₀ i₀ o i = n - i
+
+returns : tie.Need-returns Inv-loop μ-loop
+returns c =
+    let s = c .before .before in
+    let a = s .args in
+    λ i h. getD-replicate 64 i 6 0 (omega (arith, s .pre .3, h))
+    ∙ sym
+    (gain-none (a .m) (a .end .now) (a .other .now) (a .rank .now) (a .plan .now) (a .room .now) (s .pre .1) (omega (arith, c .if1 .taken, c .before .first-room .ensures)) 6
+    (at (a .pe .now) i) (at (a .pr .now) i))
 
 loop-holds : tie.Need-loop-holds Inv-loop μ-loop
 loop-holds c = (zero-le, refl, λ i h. absurd (not-suc-le-zero h))
 
 gain-requires : tie.Need-gain-requires Inv-loop μ-loop
-gain-requires c κs = (omega arith, c .before .before .before .before .pre .1)
+gain-requires c κs =
+    let l = c .before .before .before in
+    let s = l .before .before .before in
+    (s .pre .0, s .pre .1, s .pre .2, s .pre .4 (l .loop .i) (c .before .before .loop-test .taken))
 
 loop-again : tie.Need-loop-again Inv-loop μ-loop
 loop-again c =
     let l = c .before .before .before .before in
-    let a = c .before .before .before .before .before .args in (
+    let a = l .before .before .before .args in (
       omega arith,
       simp length-set (l .loop .inv .1),
       made-set 0 (l .loop .o)
@@ -34,10 +46,10 @@ loop-again c =
           (l .loop .i) (c .gain .result) (omega arith) (c .gain .ensures) (l .loop .inv .2),
     )
 
-returns : tie.Need-returns Inv-loop μ-loop
-returns c = λ i h. c .before .loop .inv .2 i (omega arith)
+returns-2 : tie.Need-returns-2 Inv-loop μ-loop
+returns-2 c = λ i h. c .before .loop .inv .2 i (omega arith)
 
 pub gains-spec : {M : Type 1} → statement M
 gains-spec =
-    tie.close (tie.spec Inv-loop μ-loop loop-holds (λ c. search needs) (λ c. search needs) gain-requires (λ c. search needs)
-    (λ c. search needs) (λ c. search needs) loop-again returns)
+    tie.close (tie.spec Inv-loop μ-loop (λ c κs. search needs) returns loop-holds (λ c. search needs) (λ c. search needs) gain-requires (λ c. search needs)
+    (λ c. search needs) (λ c. search needs) loop-again returns-2)

@@ -1,41 +1,53 @@
--- The least rates at starts and ends, put together.
-use mathlib.Core.Path.{ap₂, _∙_}
-use Prim.Native.Nat.{_+_, _-_, min}
+-- No node has room; or the least rates at starts and ends, put together.
+use mathlib.Core.Path.{sym, ap₂, _∙_}
+use Prim.Native.Nat.{ℕ, _+_, _-_, _*_, min}
 use native.Mathlib.Omega.{arith}
+use lib.ListN.{getD-replicate}
+use borrow.Author.Needs.{needs}
 use Rattle.arrays.specs.ArrayInstance.{at}
-use Rattle.rival_levels.specs.declared.Found.the-variants as found
-use Rattle.rival_search.specs.SearchView.{but-small, gain-small}
+use Rattle.rival_search.specs.SearchView.{full-cell, but-small, gain-small}
 use Rattle.rival_search.proofs.terminal_table.Statement.{statement}
 use Rattle.rival_search.proofs.terminal_table.Tie as tie
 
+returns : tie.Need-returns
+returns c =
+    let s = c .before .before .before .before in
+    let a = s .args in
+    λ i j h k. getD-replicate 4096 (i * 64 + j) 6 0 (omega (arith, s .pre .1, h, k))
+    ∙ sym
+    (full-cell (a .m) (a .sv .now) (a .st .now) (a .rs .now) (a .rt .now) (a .plan .now) (a .fs .now) (a .ft .now) (a .ps .now) (a .pt .now) (a .rps .now)
+    (a .rpt .now) (s .pre .2) (s .pre .3) (omega (arith, c .before .if1 .taken, c .before .before .before .first-room .ensures))
+    (omega (arith, c .if2 .taken, c .before .before .first-room2 .ensures)) i j)
+
 apart-requires : tie.Need-apart-requires
-apart-requires c κs = (omega arith, c .pre .3, omega arith)
+apart-requires c κs = let s = c .before .before .before in (s .pre .0, s .pre .3, s .pre .4, s .pre .1, s .pre .6)
 
 apart-requires-2 : tie.Need-apart-requires-2
-apart-requires-2 c κs = (omega arith, c .before .pre .2, omega arith)
+apart-requires-2 c κs = let s = c .before .before .before .before in (s .pre .0, s .pre .2, s .pre .5, s .pre .1, s .pre .7)
 
 gains-requires : tie.Need-gains-requires
-gains-requires c κs = (omega arith, c .before .before .pre .3, omega arith)
+gains-requires c κs = let s = c .before .before .before .before .before in (s .pre .0, s .pre .3, s .pre .4, s .pre .1, s .pre .6)
 
 gains-requires-2 : tie.Need-gains-requires-2
-gains-requires-2 c κs = (omega arith, c .before .before .before .pre .2, omega arith)
+gains-requires-2 c κs = let s = c .before .before .before .before .before .before in (s .pre .0, s .pre .2, s .pre .5, s .pre .1, s .pre .7)
 
 terminals-requires : tie.Need-terminals-requires
 terminals-requires c κs =
-    let a = c .before .before .before .before .before .before .before .before .args in (
-      omega arith,
+    let s = c .before .before .before .before .before .before .before .before .before .before .before in
+    let a = s .args in (
+      s .pre .1,
       record {
         start =
             λ i j h k. omega (
               arith,
-              c .before .before .before .before .before .before .before .apart .ensures i j h (omega arith),
+              c .before .before .before .before .before .before .before .apart .ensures i j h (omega (arith, s .pre .1, k)),
               but-small (a .m) (a .sv .now) (a .st .now) (a .rs .now) (a .plan .now) (a .ft .now) (at (a .ps .now) i) (at (a .rps .now) i)
                   (at (a .pt .now) j),
             );
         stop =
             λ i j h k. omega (
               arith,
-              c .before .before .before .before .before .before .apart2 .ensures i j h (omega arith),
+              c .before .before .before .before .before .before .apart2 .ensures i j h (omega (arith, s .pre .1, k)),
               but-small (a .m) (a .st .now) (a .sv .now) (a .rt .now) (a .plan .now) (a .fs .now) (at (a .pt .now) i) (at (a .rpt .now) i)
                   (at (a .ps .now) j),
             );
@@ -50,15 +62,18 @@ terminals-requires c κs =
       },
     )
 
-returns : tie.Need-returns
-returns c =
-    let a = c .before .before .before .before .before .before .before .before .before .args in
+returns-2 : tie.Need-returns-2
+returns-2 c =
+    let s = c .before .before .before .before .before .before .before .before .before .before .before .before in
+    let a = s .args in
     λ i j h k. c .terminals .ensures i j h k
     ∙ ap₂ (λ x y. min (x + 3) y)
-    (ap₂ min (c .before .before .before .before .before .before .before .before .apart .ensures i j h (omega arith))
-    (c .before .before .before .before .before .before .before .apart2 .ensures j i k (omega arith)))
+    (ap₂ min (c .before .before .before .before .before .before .before .before .apart .ensures i j h (omega (arith, s .pre .1, k)))
+    (c .before .before .before .before .before .before .before .apart2 .ensures j i k (omega (arith, s .pre .1, h))))
     (ap₂ (λ x y. x + y) (c .before .before .before .before .before .before .gains .ensures i h)
     (c .before .before .before .before .before .gains2 .ensures j k))
 
 pub terminal-table-spec : {M : Type 1} → statement M
-terminal-table-spec = tie.close (tie.spec apart-requires apart-requires-2 gains-requires gains-requires-2 terminals-requires returns)
+terminal-table-spec =
+    tie.close (tie.spec (λ c κs. search needs) (λ c κs. search needs) returns apart-requires apart-requires-2 gains-requires gains-requires-2 terminals-requires
+    returns-2)

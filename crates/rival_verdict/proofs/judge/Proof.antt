@@ -1,6 +1,8 @@
 -- The ends and ranks of the plan's edges, and the room at the nodes.
 use native.Mathlib.Omega.{arith}
-use Rattle.rival_search.specs.SearchView.{listed-low}
+use Rattle.arrays.specs.ArrayInstance.{at}
+use Rattle.arrays.specs.Passes.{shows-at}
+use Rattle.rival_search.specs.SearchView.{listed-low, view-low}
 use Rattle.rival_verdict.proofs.judge.Statement.{statement}
 use Rattle.rival_verdict.proofs.judge.Tie as tie
 
@@ -48,18 +50,25 @@ rooms-requires-2 c κs = c .before .before .before .before .before .before .befo
 
 judged-on-requires : tie.Need-judged-on-requires
 judged-on-requires c κs =
-    let s = c .before .before .before .before .before .before .before .before .before .before .before .before .before .before in (
+    let s = c .before .before .before .before .before .before .before .before .before .before .before .before .before .before in
+    let a = s .args in
+    let ps = c .before .before .before .before .before .before .before .before .before .before .before .before .before .gathered in
+    let pt = c .before .before .before .before .before .before .before .before .before .before .before .before .gathered2 in
+    let qs = c .before .before .before .before .before .before .before .before .before .before .before .gathered3 in
+    let qt = c .before .before .before .before .before .before .before .before .before .before .gathered4 in (
       s .pre .0,
       s .pre .1,
       s .pre .2,
       s .pre .3,
       s .pre .4,
       record {
-        sv-at = c .before .before .before .before .before .before .before .before .before .before .before .before .before .gathered .ensures;
-        st-at = c .before .before .before .before .before .before .before .before .before .before .before .before .gathered2 .ensures;
-        rs-at = c .before .before .before .before .before .before .before .before .before .before .before .gathered3 .ensures;
-        rt-at = c .before .before .before .before .before .before .before .before .before .before .gathered4 .ensures;
+        sv-at = λ i. shows-at 0 (ps .result) (λ i. at (a .sv .now) (at (a .es .now) i)) (a .n) i (ps .ensures);
+        st-at = λ i. shows-at 0 (pt .result) (λ i. at (a .st .now) (at (a .es .now) i)) (a .n) i (pt .ensures);
+        rs-at = λ i. shows-at 0 (qs .result) (λ i. at (a .rs .now) (at (a .es .now) i)) (a .n) i (qs .ensures);
+        rt-at = λ i. shows-at 0 (qt .result) (λ i. at (a .rt .now) (at (a .es .now) i)) (a .n) i (qt .ensures);
       },
+      view-low (a .m) (a .plan .now) (a .n) (a .es .now) (a .sv .now) (ps .result) 64 (s .pre .4) (s .pre .2) (ps .ensures),
+      view-low (a .m) (a .plan .now) (a .n) (a .es .now) (a .st .now) (pt .result) 64 (s .pre .4) (s .pre .3) (pt .ensures),
     )
 
 returns : tie.Need-returns

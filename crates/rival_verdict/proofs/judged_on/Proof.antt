@@ -1,67 +1,65 @@
--- The search, what it found read back, and the edges exchanged.
-use Prim.Native.Nat.{ℕ, _<_}
+-- An edge with room at both ends was found; or the links are made, and the tables decide.
+use mathlib.Core.Path.{_≡_}
+use mathlib.Core.Bool.{false}
+use Prim.Native.Nat.{_≤_}
 use native.Mathlib.Omega.{arith}
-use mathlib.Core.Path.{_≡_, ap}
+use lib.ListN.{length, replicate}
 use borrow.Author.Needs.{needs}
-use Rattle.arrays.specs.ArrayInstance.{at}
-use Rattle.rival_tables.specs.Filled.{cell}
-use Rattle.rival_search.specs.SearchView.{arcCell, arc-small, listed-low}
-use Rattle.rival_search.specs.TwoThresholds.{searching-bounded}
-use Rattle.rival_verdict.specs.Judged.{isSomething, verdictFor}
-use Rattle.rival_verdict.specs.RivalOfArrays.{found-shown}
+use Rattle.rival_exchange.specs.Swaps.{blank-none, blank-one}
+use Rattle.rival_verdict.specs.RivalOfArrays.{direct-shown}
 use Rattle.rival_verdict.proofs.judged_on.Statement.{statement}
 use Rattle.rival_verdict.proofs.judged_on.Tie as tie
 
-arcs-requires : tie.Need-arcs-requires
-arcs-requires c κs = (c .pre .0, c .pre .1)
+direct-requires : tie.Need-direct-requires
+direct-requires c κs = (c .pre .0, c .pre .2, c .pre .3)
 
-searched-requires : tie.Need-searched-requires
-searched-requires c κs =
-    let s = c .before .before in
-    (s .pre .0, s .pre .1, s .pre .2, s .pre .3, c .before .arcs .ensures)
+gained-requires : tie.Need-gained-requires
+gained-requires c κs = c .before .before .pre .0
 
-swap-requires : tie.Need-swap-requires
-swap-requires c κs =
-    let s = c .before .before .before .before .before in
+exchanged-requires : tie.Need-exchanged-requires
+exchanged-requires c κs = c .before .before .before .before .before .pre .0
+
+returns : tie.Need-returns
+returns c =
+    let s = c .before .before .before .before .before .before in
     let a = s .args in
-    let t = c .before .before .before .before .arcs in
-    let h = c .before .before .searched in
-    let e : (i j : ℕ) → i < a .n → j < 64
-    → cell (t .result) i j ≡ arcCell (a .m) (a .sv .now) (a .st .now) (a .rs .now) (a .rt .now) (a .plan .now) (a .ps .now) (a .pt .now)
-    (a .qs .now) (a .qt .now) i j =
-    t .ensures in (
+    let f = c .before .before .before .before .before .direct in
+    let g = c .before .before .before .gained in
+    let h = c .before .before .before .before .if1 .taken in
+    λ quotaS quotaT roomyS roomyT. direct-shown (a .m) (a .sv .now) (a .st .now) (a .rs .now) (a .rt .now) quotaS quotaT (a .plan .now) (a .n) (a .es .now) (a .ps .now) (a .pt .now)
+    (a .qs .now) (a .qt .now) (a .fs .now) (a .ft .now) (s .pre .1) (s .pre .2) (s .pre .3) (s .pre .4) (s .pre .5) roomyS roomyT (f .result)
+    (replicate 1024 false) (g .result) (c .exchanged .result) (f .ensures) h (blank-none 1024) (blank-one 1024 (a .m) (f .result) (g .result) h (g .ensures))
+    (c .exchanged .ensures)
+
+links-requires : tie.Need-links-requires
+links-requires c κs =
+    let s = c .before .before .before .before in
+    let l : length (s .args .sv .now) ≡ 1024 = search needs in
+    (s .pre .0, omega (arith, l, s .pre .0), omega (arith, s .pre .0), s .pre .2)
+
+links-requires-2 : tie.Need-links-requires-2
+links-requires-2 c κs =
+    let s = c .before .before .before .before .before .before .before .before in
+    let l : length (s .args .st .now) ≡ 1024 = search needs in
+    (s .pre .0, omega (arith, l, s .pre .0), omega (arith, s .pre .0), s .pre .3)
+
+judged-by-tables-requires : tie.Need-judged-by-tables-requires
+judged-by-tables-requires c κs =
+    let s = c .before .before .before .before .before .before .before .before .before .before .before .before .before .before in (
       s .pre .0,
       s .pre .1,
       s .pre .2,
       s .pre .3,
-      (λ i l. omega (arith, listed-low (a .m) (a .plan .now) (a .n) (a .es .now) (s .pre .4) i l, s .pre .0)),
-      (λ i j il jl. omega (
-        arith,
-        e i j il jl,
-        arc-small (a .m) (a .sv .now) (a .st .now) (a .rs .now) (a .rt .now) (a .plan .now) (at (a .pt .now) i) (at (a .qt .now) i)
-            (at (a .ps .now) j) (at (a .qs .now) j),
-      )),
-      searching-bounded (a .m) (a .sv .now) (a .st .now) (a .rs .now) (a .rt .now) (a .plan .now) (a .n) (a .ps .now) (a .pt .now) (a .qs .now)
-          (a .qt .now) (a .fs .now) (a .ft .now) (t .result) (h .result .below) (h .result .found) (h .ensures),
+      s .pre .4,
+      s .pre .5,
+      s .pre .6,
+      s .pre .7,
+      c .before .before .before .before .before .before .before .before .before .links .ensures .1,
+      c .before .before .before .before .before .links2 .ensures .1,
+      omega (arith, c .before .before .before .before .before .before .before .before .before .before .before .before .if1 .left, c .before .before .before .before .before .before .before .before .before .before .before .before .before .direct .ensures),
     )
 
-exchanged-requires : tie.Need-exchanged-requires
-exchanged-requires c κs = c .before .before .before .before .before .before .before .before .before .before .pre .0
-
-returns : tie.Need-returns
-returns c =
-    let s = c .before .before .before .before .before .before .before .before .before .before .before in
-    let a = s .args in
-    let h = c .before .before .before .before .before .before .before .before .searched in
-    let w = c .before .before .before .before .before .swap in
-    let t = c .before .before .before .before .before .before .before .is-something in
-    λ quotaS quotaT roomyS roomyT. found-shown (a .m) (a .sv .now) (a .st .now) (a .rs .now) (a .rt .now) quotaS quotaT (a .plan .now) (a .n)
-    (a .es .now) (a .ps .now) (a .pt .now) (a .qs .now) (a .qt .now) (a .fs .now) (a .ft .now)
-    (c .before .before .before .before .before .before .before .before .before .before .arcs .result) (h .result .below) (h .result .found)
-    (s .pre .1) (s .pre .2) (s .pre .3) (s .pre .4) (s .pre .5) roomyS roomyT
-    (c .before .before .before .before .before .before .before .before .before .before .arcs .ensures) (h .ensures)
-    (verdictFor (h .result .below) (t .result)) (w .result .gone) (w .result .come) (c .exchanged .result)
-    (ap (verdictFor (h .result .below)) (t .ensures)) (w .ensures .0) (w .ensures .1) (c .exchanged .ensures)
-
 pub judged-on-spec : {M : Type 1} → statement M
-judged-on-spec = tie.close (tie.spec arcs-requires searched-requires (λ c κs. search needs) swap-requires exchanged-requires returns)
+judged-on-spec =
+    tie.close (tie.spec direct-requires gained-requires exchanged-requires returns (λ c. search needs) links-requires (λ c. search needs) links-requires-2
+    judged-by-tables-requires (λ c. c .judged-by-tables .ensures))

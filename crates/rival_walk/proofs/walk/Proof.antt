@@ -16,11 +16,11 @@ use Rattle.rival_walk.proofs.walk.Statement.{statement}
 use Rattle.rival_walk.proofs.walk.Tie as tie
 
 abbrev Inv-loop : tie.InvT-loop
-Inv-loop m sv st rs rt plan n es arcs table l i j gone₀ come₀ k₀ c₀ gone come k c =
+Inv-loop m sv st rs rt plan ht lt n es arcs table l i j gone₀ come₀ k₀ c₀ gone come k c =
     (k ≤ l) × (c < n) × (length gone ≡ 1024) × (length come ≡ 1024) × Read (arcEdge m sv st rs rt plan) es arcs n j l i gone₀ come₀ gone come k c
 
 abbrev μ-loop : tie.MeasureT-loop
-μ-loop m sv st rs rt plan n es arcs table l i j gone₀ come₀ k₀ c₀ gone come k c = k
+μ-loop m sv st rs rt plan ht lt n es arcs table l i j gone₀ come₀ k₀ c₀ gone come k c = k
 
 loop-holds : tie.Need-loop-holds Inv-loop μ-loop
 loop-holds c =
@@ -62,7 +62,8 @@ arc-edge-requires : tie.Need-arc-edge-requires Inv-loop μ-loop
 arc-edge-requires c κs =
     let s = c .before .before .before .before .before .before .before .before in
     let l = c .before .before .before .before .before in
-    (s .pre .0, s .pre .2 (l .loop .c) (l .loop .inv .1), s .pre .2 (c .before .before .before .lead .result .place) (c .before .before .if1 .taken))
+    let y = c .before .before .before .lead .result .place in
+    (s .pre .0, s .pre .2 (l .loop .c) (l .loop .inv .1), s .pre .2 y (c .before .before .if1 .taken), s .pre .8, s .pre .9)
 
 array-write-gone : tie.Need-array-write-gone Inv-loop μ-loop
 array-write-gone c =
@@ -122,7 +123,7 @@ arc-edge-requires-2 : tie.Need-arc-edge-requires-2 Inv-loop μ-loop
 arc-edge-requires-2 c κs =
     let s = c .before .before .before .before .before .before in
     let l = c .before .before .before in
-    (s .pre .0, s .pre .2 (l .loop .c) (l .loop .inv .1), s .pre .2 (s .args .j) (s .pre .6))
+    (s .pre .0, s .pre .2 (l .loop .c) (l .loop .inv .1), s .pre .2 (s .args .j) (s .pre .6), s .pre .8, s .pre .9)
 
 array-write-gone-2 : tie.Need-array-write-gone-2 Inv-loop μ-loop
 array-write-gone-2 c =
