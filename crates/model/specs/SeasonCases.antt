@@ -38,7 +38,8 @@ rosters-turned = ((refl, refl), ((refl, refl), ((refl, refl), ((refl, refl), tt)
 abbrev notOld : List (String × ℕ)
 notOld =
     -- document 01's refusals as they were before the shifts; a file with shifts is none without them
-    ("", 1) ∷ ("1 1 1 1 1 0 1", 1) ∷ ("2 1 1 1 1 2 0 1 1 1 1 1 1 2 0 2 0 1 1 2 1", 4) ∷ ("2 1 1 1 1 2 0 1 1 1 1 2 0 2 0 1 2 0", 9) ∷ ("1 1 1 1 1 0 1 1 0 0 0 0", 8)
+    ("", 1) ∷ ("1 1 1 1 1 0 1", 1) ∷ ("2 1 1 1 1 2 0 1 1 1 1 1 1 2 0 2 0 1 1 2 1", 4) ∷ ("2 1 1 1 1 2 0 1 1 1 1 2 0 2 0 1 2 0", 9)
+    ∷ ("1 1 1 1 1 0 1 1 0 0 0 0", 8)
     -- "an old roster keeps the list limit from before W-204": the other side's count, at both sides
     ∷ ("1 1 1 1 2 0 2 1 1", 2) ∷ ("0 1 1 0 0 1 0 1 0 1", 2) ∷ ("1 1 1 1 1 0 1 1 1 0 1 1", 2) ∷ []
 
@@ -72,8 +73,8 @@ pub files-said : (fileAnswer (toNew oldSample) (whole 4261) ≡ D.refused 15 des
 unfolding numbersFrom groupOf toNew toOld readRosterBy writeRosterBy readEach bothOrNeither listed listedBack fileAnswer
 files-said = (refl, refl, refl, refl, refl, refl, refl)
 
-pub files-written : (fileLent (toNew oldSample) (whole 4262) ≡ newSample ++ replicate 4241 7) × (fileLent (toOld newSample) (whole 4262) ≡ oldSample ++ replicate 4245 7)
-    × (fileLent (toNew oldSample) (whole 100) ≡ whole 100) × (fileLent (toNew newSample) (whole 4262) ≡ whole 4262)
+pub files-written : (fileLent (toNew oldSample) (whole 4262) ≡ newSample ++ replicate 4241 7)
+    × (fileLent (toOld newSample) (whole 4262) ≡ oldSample ++ replicate 4245 7) × (fileLent (toNew oldSample) (whole 100) ≡ whole 100) × (fileLent (toNew newSample) (whole 4262) ≡ whole 4262)
 unfolding numbersFrom toNew toOld readRosterBy writeRosterBy readEach bothOrNeither listed listedBack fileLent
 files-written = (refl, refl, refl, refl)
 
