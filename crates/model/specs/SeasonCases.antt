@@ -74,7 +74,8 @@ unfolding numbersFrom groupOf toNew toOld readRosterBy writeRosterBy readEach bo
 files-said = (refl, refl, refl, refl, refl, refl, refl)
 
 pub files-written : (fileLent (toNew oldSample) (whole 4262) ≡ newSample ++ replicate 4241 7)
-    × (fileLent (toOld newSample) (whole 4262) ≡ oldSample ++ replicate 4245 7) × (fileLent (toNew oldSample) (whole 100) ≡ whole 100) × (fileLent (toNew newSample) (whole 4262) ≡ whole 4262)
+    × (fileLent (toOld newSample) (whole 4262) ≡ oldSample ++ replicate 4245 7) × (fileLent (toNew oldSample) (whole 100) ≡ whole 100)
+    × (fileLent (toNew newSample) (whole 4262) ≡ whole 4262)
 unfolding numbersFrom toNew toOld readRosterBy writeRosterBy readEach bothOrNeither listed listedBack fileLent
 files-written = (refl, refl, refl, refl)
 
