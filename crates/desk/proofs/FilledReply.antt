@@ -62,7 +62,7 @@ same-list (x ∷ xs) = ap (λ (l : List ℕ). x ∷ l) (same-list xs)
 pub is-reply : (c : CoreReply) (vs : List Val) → Is C.the-row c vs → Is F.the-row (c .reply) (reply-val c ∷ [])
 is-reply c vs is = LL.owed C.the-type C′.the-laws c vs is .0
 
-is-flat : (c : CoreReply) (vs : List Val) → Is C.the-row c vs → Is (Array u8 4096) (flat-in c) (flat-val c ∷ [])
+is-flat : (c : CoreReply) (vs : List Val) → Is C.the-row c vs → Is (Array u8 5120) (flat-in c) (flat-val c ∷ [])
 is-flat c vs is = LL.owed C.the-type C′.the-laws c vs is .1 .0
 
 is-steps : (c : CoreReply) (vs : List Val) → Is C.the-row c vs → Is usize (c .steps) (vint w64 (c .steps) ∷ [])
@@ -99,7 +99,7 @@ module _ {M : Type 1} (𝓤 : URA M) (H : Heap 𝓤) (A : Atoms 𝓤) (W : Given
   asks-fill vs is h =
       qed W (‵ (flft κ q) ∷ ‵ (Diary κ S) ∷ []) ∵ says ! h $ nothing ! $ move ! (1 ∷ 0 ∷ []) $ join ! $ frame ! $
       nothing ! $ owned ! usize (Is usize) (uint-makes 𝓤 H A W w64) (c .steps) _ (is-steps c vs is) $ fjoin ! $
-      owned ! (Array u8 4096) (Is (Array u8 4096)) (array-makes 𝓤 H A W u8 (uint-makes 𝓤 H A W w8) 4096) (flat-in c) _ (is-flat c vs is) $ fjoin ! $
+      owned ! (Array u8 5120) (Is (Array u8 5120)) (array-makes 𝓤 H A W u8 (uint-makes 𝓤 H A W w8) 5120) (flat-in c) _ (is-flat c vs is) $ fjoin ! $
       move ! (1 ∷ 0 ∷ []) $ fjoin ! $ done !
 
   module _ (calls : Calls 𝓤 H) (Λ : Loops 𝓤 H) (fm : FmC 𝓤 H (W .laws) calls) (known : Triple 𝓤 (calls #diary·fill) (Fill 𝓤 H A at-mem run))

@@ -18,7 +18,7 @@ use Rattle.model.specs.RosterFile.{readRoster, writeRoster}
 use Rattle.model.specs.Edges.{instanceOf}
 use Rattle.model.specs.Instance.{Instance}
 use Rattle.model.specs.Plans.{Plan, on, plansOf}
-use Rattle.model.specs.PlanFile.{readPlan}
+use Rattle.model.specs.PlanFile.{readPlanBy, readPlan}
 use Rattle.model.specs.Changes.{joinOn, leaveOn}
 use Rattle.model.specs.Reduction.{stepsOf}
 use Rattle.model.specs.Finder as F
@@ -48,7 +48,7 @@ use Rattle.desk.specs.declared.changing.Change.{Change}
 use Rattle.desk.specs.Held.{rosterBytes, planBytes, heldOf}
 use Rattle.desk.specs.Replies.{answered, lentThen, isAccepted, rosterFile, planFile, ChangeIn, Stored, Replied}
 use Rattle.desk.specs.State.{states, by-state, pass-answer, pass-lent, pass-desk, of-roster, roster-held, passed, passes}
-use Rattle.desk.specs.Outcomes.{short, Kept}
+use Rattle.desk_find.specs.Outcomes.{short, Kept}
 use Rattle.desk.specs.Finding.{outcomeIn, Done, Finds, within, short-is, found}
 use Rattle.desk.specs.Changing.{ToRoster, Unchanged, LessOf, StoredAs, ChangedFor, ChangeFor, FoundOn, ChangeDone, JoinDone}
 
@@ -240,7 +240,7 @@ module _ (call : Lends) (change : ToRoster) (n : ℕ) (K : IsChange call change 
 
       -- what is held then, and its files
       held-then : (heldOf (k .desk) ≡ withChange (heldPlan R Y) (accepted H)) × (planBytes (k .desk) ≡ planFile (withChange (heldPlan R Y) (accepted H)))
-      unfolding readPlan
+      unfolding readPlanBy
       held-then = go Y (t .1)
         where
           go : (y : Reading Plan) → LessOf (instanceOf R) n y (planBytes (k .desk))

@@ -23,7 +23,7 @@ use Rattle.desk.specs.declared.Desk.{Desk}
 use Rattle.desk.specs.declared.CoreReply.{CoreReply}
 use Rattle.desk.specs.declared.changing.Change.{Change}
 use Rattle.desk.specs.Held.{rosterBytes, planBytes}
-use Rattle.desk.specs.Outcomes.{short, Kept}
+use Rattle.desk_find.specs.Outcomes.{short, Kept}
 use Rattle.desk.specs.Finding.{outcomeIn, Done}
 
 -- a change of the roster held

@@ -12,7 +12,7 @@ use Rattle.model.specs.Reading.{Reading, accepted}
 use Rattle.model.specs.Instance.{Instance}
 use Rattle.model.specs.Edges.{instanceOf}
 use Rattle.model.specs.Plans.{Plan}
-use Rattle.model.specs.PlanFile.{readPlan}
+use Rattle.model.specs.PlanFile.{readPlanBy, readPlan}
 use Rattle.model.specs.Compare.{Part, secondJudged, firstJudged, comparisonOf}
 use Rattle.model.specs.Desk as D
 use Rattle.model.specs.Desk.{Held, nothing, roster, planned, Answer, votes, refusedPart, compare, comparisonAnswer, answerOf, stateRefusal}
@@ -42,7 +42,7 @@ isVotes (D.popular v) = false
 isVotes (D.beaten v) = false
 isVotes (votes v w x p) = true
 isVotes (refusedPart n g p) = false
-isVotes (D.blockedBy s t) = false
+isVotes (D.blockedBy s t k) = false
 isVotes D.unblocked = false
 
 abbrev isAccepted : Reading Plan → Bool
@@ -51,7 +51,7 @@ isAccepted (reading.refused n) = false
 
 -- the empty file is refused
 filled : (G : Instance) (l : List ℕ) → T (isAccepted (readPlan G l)) → 1 ≤ length l
-unfolding readPlan
+unfolding readPlanBy
 filled G [] t = absurd t
 filled G (x ∷ l) t = omega arith
 

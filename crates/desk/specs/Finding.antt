@@ -32,9 +32,9 @@ use Rattle.finder.specs.Promise as promise
 use Rattle.finder.specs.Promise.{Promise, written-is, shown-is, promised, steps-are}
 use Rattle.finder_ending.specs.EndBuffers.{leftAfter, planAfter, answerFor}
 use Rattle.diary.specs.FlatDiary.{flatSize}
-use Rattle.desk.specs.declared.finding.Outcome.{Outcome}
-use Rattle.desk.specs.Outcomes as finds
-use Rattle.desk.specs.Outcomes.{FindsFor, short, OutcomeFor, Outcomes}
+use Rattle.desk_find.specs.declared.Outcome.{Outcome}
+use Rattle.desk_find.specs.Outcomes as finds
+use Rattle.desk_find.specs.Outcomes.{FindsFor, short, OutcomeFor, Outcomes}
 use Rattle.desk.specs.declared.Desk.{Desk}
 use Rattle.desk.specs.declared.FindReply.{FindReply}
 use Rattle.desk.specs.declared.CoreReply.{CoreReply}

@@ -7,7 +7,7 @@ use lib.ListN.{take}
 use lib.Dec.{T}
 use Rattle.model.specs.Reading.{Reading, accepted, refused}
 use Rattle.model.specs.Roster.{Roster}
-use Rattle.model.specs.RosterFile.{readRoster}
+use Rattle.model.specs.RosterFile.{readRosterBy, readRoster}
 use Rattle.model.specs.Edges.{instanceOf}
 use Rattle.model.specs.Plans.{Plan}
 use Rattle.model.specs.PlanFile.{readPlan}
@@ -29,7 +29,7 @@ heldOf d = held (readRoster (rosterBytes d)) (planBytes d)
 
 -- no bytes, nothing loaded
 pub held-empty : (d : Desk) → rosterBytes d ≡ [] → heldOf d ≡ opening
-unfolding heldOf readRoster
+unfolding heldOf readRosterBy
 held-empty d e = ap (λ bs. held (readRoster bs) (planBytes d)) e
 
 -- ---- a desk holds what a new one holds after loading its bytes; so what any desk holds is sound

@@ -6,7 +6,6 @@ pub mod Calls
 pub mod Judging
 pub mod Comparing
 pub mod Loads
-pub mod Outcomes
 pub mod Finding
 pub mod Changing
 pub mod ChangeSteps

@@ -12,7 +12,7 @@ use Rattle.model.specs.Roster.{Roster}
 use Rattle.model.specs.RosterFile.{readRoster}
 use Rattle.model.specs.Edges.{instanceOf}
 use Rattle.model.specs.Plans.{Plan}
-use Rattle.model.specs.PlanFile.{readPlan}
+use Rattle.model.specs.PlanFile.{readPlanBy, readPlan}
 use Rattle.model.specs.Desk.{Held, loadRoster, loadPlan, refusal, stateRefusal, answerOf, answerOn, loadedRoster, loadedPlan, withRoster, withPlan}
 use Rattle.model.specs.Desk.{deskOn, deskAfter}
 use Rattle.theory_files.specs.Reads.{isBytes}
@@ -58,7 +58,7 @@ module _ (d : Desk) (file : List ℕ) where
     roster-small isB = let t = case-accepted (readRoster file) e in accepted-size file (t .0) isB (t .1)
 
     pub roster-loaded : (d′ : Desk) → rosterBytes d′ ≡ file → planBytes d′ ≡ [] → Replied d (loadRoster file) (fileShown Accepted) (loadRoster file) d′
-    unfolding deskAfter stateRefusal heldOf readPlan
+    unfolding deskAfter stateRefusal heldOf readPlanBy
     roster-loaded d′ p q =
         let t = case-accepted (readRoster file) e in
         record {

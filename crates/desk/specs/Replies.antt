@@ -28,7 +28,7 @@ partIn (popular v) = winnerPart model.neither [] []
 partIn (beaten v) = winnerPart model.neither [] []
 partIn (votes v w x p) = p
 partIn (refusedPart n g p) = p
-partIn (blockedBy s t) = winnerPart model.neither [] []
+partIn (blockedBy s t k) = winnerPart model.neither [] []
 partIn unblocked = winnerPart model.neither [] []
 
 -- ---- the model's answer and bytes
@@ -51,7 +51,7 @@ isAccepted (popular v) = true
 isAccepted (beaten v) = true
 isAccepted (votes v w x p) = true
 isAccepted (refusedPart n g p) = false
-isAccepted (blockedBy s t) = true
+isAccepted (blockedBy s t k) = true
 isAccepted unblocked = true
 
 abbrev pub RosterIn : (file : List ℕ) → Bool → (before after : Desk) → Type 0

@@ -12,7 +12,6 @@ ghost use Rattle.desk.specs.Changing.{Unchanged, StoredAs, Taken, Change
 use super::CoreReply;
 use super::Desk;
 use super::FindReply;
-use super::finding;
 use super::held;
 use instance::Instance;
 use limits::DIARY_SIZE;
@@ -130,7 +129,7 @@ pub(crate) fn found_on(
     let n = c.refusal;
     let desk = c.desk;
     if 0 < n {
-        let o = finding::refused(n);
+        let o = desk_find::refused(n);
         let answer = o.answer;
         let flat = o.flat;
         let reply = FindReply {

@@ -2,7 +2,6 @@
 // a plan." What it holds is said by its bytes alone, so any field values may come in: a length above its array is cut to it, bytes that
 // are no roster are nothing loaded, and bytes that are no plan of the roster are no plan held. No call asks anything of its caller.
 mod changing;
-mod finding;
 mod held;
 mod store;
 
@@ -92,7 +91,11 @@ pub(crate) fn core(
 ) -> CoreReply
     ensures { λ r. ⌜ Done desk room (now (left .entry)) (now (plan .entry)) (now (rival .entry)) r (now (left .exit)) (now (plan .exit)) (now (rival .exit)) ⌝ }
 {
-    let o = finding::found(desk, room, left, plan, rival);
+    let roster = desk.roster;
+    let held = desk.plan;
+    let r = held::front(&roster, desk.roster_len);
+    let p = held::front(&held, desk.plan_len);
+    let o = desk_find::found(r, p, room, left, plan, rival);
     let answer = o.answer;
     let flat = o.flat;
     let reply = FindReply {

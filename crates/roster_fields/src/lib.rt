@@ -10,7 +10,7 @@ ghost use Rattle.model.specs.Roster.{before};
 ghost use Rattle.model.specs.RosterFile.{quotaCheck};
 ghost use Rattle.roster_reading.specs.Check.{refusalOf, wholeFields, partAnswer};
 ghost use Rattle.roster_reading.specs.Layout.{entryOf, widthOf, entryFrom, entriesIn};
-ghost use Rattle.roster_reading.specs.Slot.{Placed, slotOf};
+ghost use Rattle.roster_reading.specs.Slot.{HasSlot, slotOf};
 ghost use Rattle.roster_reading.specs.Row.{markCheck, EntriesChecked};
 use limits::ENTRY_WIDTH;
 use limits::QUOTA_LIMIT;
@@ -100,7 +100,7 @@ pub(crate) fn entry_at(part: &[u8], i: usize, shifts: bool) -> Entry
 
 // The place of an entry's mark in a row.
 pub fn slot(x: Entry) -> usize
-    requires { ⌜ Placed (entryOf x) ⌝ }
+    requires { ⌜ HasSlot (entryOf x) ⌝ }
     ensures { λ r. ⌜ r ≡ slotOf (entryOf x) ⌝ }
 {
     let number = x.number as usize;

@@ -12,24 +12,29 @@ use Rattle.lists.specs.Test.{given}
 use Rattle.lists.specs.Keep.{gather}
 use Rattle.lists.specs.Ranges.{gather-append}
 use Rattle.model.specs.Reading.{accepted, refused}
-use Rattle.model.specs.Roster.{Ranking, Roster, surveyorCount, standCount, fits}
-use Rattle.model.specs.RosterFile.{listBytes, rankingBytes, writeRoster, readRoster}
+use Rattle.model.specs.Roster.{Entry, Ranking, Roster, surveyorCount, standCount, fits}
+use Rattle.model.specs.RosterFile.{shifted, listBytes, entriesBytes, rankingBytes, writeRoster, readRoster}
 use Rattle.model.specs.Changes.{departed, leaveOn}
 use Rattle.theory_files.specs.Reads.{isBytes}
 use Rattle.theory_files.specs.ByLists.{fits-lists}
 use Rattle.theory_files.specs.Rosters.{read-write, read-fits}
 use Rattle.theory_files.specs.Offsets.{listsStart, rankingSection, offsets, rankings-from}
 use Rattle.theory_files.specs.Departed.{departed-counts, fits-departed}
+use Rattle.roster_positions.specs.Rows.{bytesOf, entries-are}
 use Rattle.roster_parts.specs.declared.Changed.{Changed}
 use Rattle.roster_parts.specs.Rankings.{gatherFrom, rankings-are}
 use Rattle.roster_parts.specs.Places.{nodes-part, surveyors-are, stands-are, lists-behind, lists-part}
 use Rattle.roster_parts.specs.Gives.{Gives, gives-refused, Holds, gives-held}
-use Rattle.roster_leave.specs.Left.{leftBy, nodesLeft, listsLeft, rankingsLeft, mineAt, nextAt, endAt, leftBytes}
+use Rattle.roster_leave.specs.Left.{leftBy, rankingLeft, nodesLeft, listsLeft, rankingsLeft, mineAt, nextAt, endAt, leftBytes}
 
-each-left : (s j : ℕ) (ts : List Ranking) → gatherFrom (λ j R. rankingBytes (leftBy s R)) j ts ≡ gather rankingBytes (map (leftBy s) ts)
+-- the bytes of a stand's list, without the number's entries
+one-left : (s : ℕ) (R : Ranking) → rankingLeft s (bytesOf (R .strict)) (bytesOf (R .tied)) ≡ rankingBytes shifted (leftBy s R)
+one-left s R = ap₂ (λ xs ys. rankingBytes shifted (leftBy s (record { strict = xs; tied = ys }))) (entries-are (R .strict)) (entries-are (R .tied))
+
+each-left : (s j : ℕ) (ts : List Ranking) → gatherFrom (λ j. rankingLeft s) j ts ≡ gather (rankingBytes shifted) (map (leftBy s) ts)
 unfolding gatherFrom
 each-left s j [] = refl
-each-left s j (R ∷ ts) = ap (λ z. rankingBytes (leftBy s R) ++ z) (each-left s (suc j) ts)
+each-left s j (R ∷ ts) = ap₂ (λ x y. x ++ y) (one-left s R) (each-left s (suc j) ts)
 
 one-less : (v : ℕ) → suc v - 1 ≡ v
 one-less v = omega arith
@@ -46,23 +51,23 @@ module _ (f : List ℕ) (r : Roster) (e : writeRoster r ≡ f) (ok : T (fits r))
       ∙ ap₂ (λ n z. n ∷ z) (sym (length-set (r .quotasS) v 0)) (set-append-left (r .quotasS) (listBytes (r .quotasT)) v 0 inside)
 
   -- ---- the lists before the leaver's, the leaver's, and those behind it
-  abbrev before : List (List ℕ)
+  abbrev before : List (List Entry)
   before = take v (r .listsS)
 
-  abbrev own : List ℕ
+  abbrev own : List Entry
   own = getD (r .listsS) v []
 
-  abbrev after : List (List ℕ)
+  abbrev after : List (List Entry)
   after = drop (suc v) (r .listsS)
 
   abbrev left : List ℕ
-  left = gather listBytes after ++ rankingSection r
+  left = gather (entriesBytes shifted) after ++ rankingSection shifted r
 
   inside-lists : v < length (r .listsS)
   inside-lists = given (fits-lists r ok .countS) (λ n. omega arith)
 
   some-left : 0 < length left
-  some-left = let n : 0 < length (rankingSection r) = suc-le-suc zero-le in omega (arith, length-append (gather listBytes after) (rankingSection r))
+  some-left = let n : 0 < length (rankingSection shifted r) = suc-le-suc zero-le in omega (arith, length-append (gather (entriesBytes shifted) after) (rankingSection shifted r))
 
   count-before : length before ≡ suc v - 1
   count-before = length-take-le v (r .listsS) (omega (arith, inside-lists)) ∙ sym (one-less v)
@@ -70,37 +75,37 @@ module _ (f : List ℕ) (r : Roster) (e : writeRoster r ≡ f) (ok : T (fits r))
   count-after : length after ≡ ns - suc v
   count-after = length-drop (suc v) (r .listsS) ∙ ap (λ k. k - suc v) (fits-lists r ok .countS)
 
-  from-start : drop (listsStart r) f ≡ gather listBytes before ++ (listBytes own ++ left)
-  from-start = offsets f r e .lists
-      ∙ ap (λ z. gather listBytes z ++ rankingSection r) (split-at (r .listsS) v [] inside-lists)
-      ∙ ap (λ z. z ++ rankingSection r) (gather-append listBytes before (own ∷ after))
-      ∙ append-assoc (gather listBytes before) (listBytes own ++ gather listBytes after) (rankingSection r)
-      ∙ ap (λ z. gather listBytes before ++ z) (append-assoc (listBytes own) (gather listBytes after) (rankingSection r))
+  from-start : drop (listsStart r) f ≡ gather (entriesBytes shifted) before ++ (entriesBytes shifted own ++ left)
+  from-start = offsets shifted f r e .lists
+      ∙ ap (λ z. gather (entriesBytes shifted) z ++ rankingSection shifted r) (split-at (r .listsS) v [] inside-lists)
+      ∙ ap (λ z. z ++ rankingSection shifted r) (gather-append (entriesBytes shifted) before (own ∷ after))
+      ∙ append-assoc (gather (entriesBytes shifted) before) (entriesBytes shifted own ++ gather (entriesBytes shifted) after) (rankingSection shifted r)
+      ∙ ap (λ z. gather (entriesBytes shifted) before ++ z) (append-assoc (entriesBytes shifted own) (gather (entriesBytes shifted) after) (rankingSection shifted r))
 
-  from-mine : drop (mineAt f ns nt (suc v)) f ≡ gather listBytes (own ∷ []) ++ left
-  from-mine = lists-behind before (suc v - 1) count-before f (listsStart r) (listBytes own ++ left) from-start (suc-le-suc zero-le)
-      ∙ ap (λ z. z ++ left) (sym (append-nil (listBytes own)))
+  from-mine : drop (mineAt f ns nt (suc v)) f ≡ gather (entriesBytes shifted) (own ∷ []) ++ left
+  from-mine = lists-behind before (suc v - 1) count-before f (listsStart r) (entriesBytes shifted own ++ left) from-start (suc-le-suc zero-le)
+      ∙ ap (λ z. z ++ left) (sym (append-nil (entriesBytes shifted own)))
 
   from-next : drop (nextAt f ns nt (suc v)) f ≡ left
   from-next = lists-behind (own ∷ []) 1 refl f (mineAt f ns nt (suc v)) left from-mine some-left
 
-  from-end : drop (endAt f ns nt (suc v)) f ≡ rankingSection r
-  from-end = lists-behind after (ns - suc v) count-after f (nextAt f ns nt (suc v)) (rankingSection r) from-next (suc-le-suc zero-le)
+  from-end : drop (endAt f ns nt (suc v)) f ≡ rankingSection shifted r
+  from-end = lists-behind after (ns - suc v) count-after f (nextAt f ns nt (suc v)) (rankingSection shifted r) from-next (suc-le-suc zero-le)
 
-  lists-are : listsLeft f (listsStart r) (mineAt f ns nt (suc v)) (nextAt f ns nt (suc v)) (endAt f ns nt (suc v)) ≡ gather listBytes (set (r .listsS) v [])
+  lists-are : listsLeft f (listsStart r) (mineAt f ns nt (suc v)) (nextAt f ns nt (suc v)) (endAt f ns nt (suc v)) ≡ gather (entriesBytes shifted) (set (r .listsS) v [])
   lists-are =
       ap₂ (λ x y. (x ++ 0 ∷ []) ++ y)
-      (lists-part before (suc v - 1) count-before f (listsStart r) (listBytes own ++ left) from-start (suc-le-suc zero-le))
-      (lists-part after (ns - suc v) count-after f (nextAt f ns nt (suc v)) (rankingSection r) from-next (suc-le-suc zero-le))
-      ∙ append-assoc (gather listBytes before) (0 ∷ []) (gather listBytes after)
-      ∙ sym (gather-append listBytes before ([] ∷ after))
-      ∙ ap (gather listBytes) (sym (set-split (r .listsS) v [] inside-lists))
+      (lists-part before (suc v - 1) count-before f (listsStart r) (entriesBytes shifted own ++ left) from-start (suc-le-suc zero-le))
+      (lists-part after (ns - suc v) count-after f (nextAt f ns nt (suc v)) (rankingSection shifted r) from-next (suc-le-suc zero-le))
+      ∙ append-assoc (gather (entriesBytes shifted) before) (0 ∷ []) (gather (entriesBytes shifted) after)
+      ∙ sym (gather-append (entriesBytes shifted) before ([] ∷ after))
+      ∙ ap (gather (entriesBytes shifted)) (sym (set-split (r .listsS) v [] inside-lists))
 
-  rankings-left : rankingsLeft f (endAt f ns nt (suc v) + 2) nt (suc v) ≡ gather rankingBytes (map (leftBy (suc v)) (r .listsT))
+  rankings-left : rankingsLeft f (endAt f ns nt (suc v) + 2) nt (suc v) ≡ gather (rankingBytes shifted) (map (leftBy (suc v)) (r .listsT))
   rankings-left =
       ap (λ k. rankingsLeft f (endAt f ns nt (suc v) + 2) k (suc v)) (sym (fits-lists r ok .countT))
-      ∙ rankings-are (λ j R. rankingBytes (leftBy (suc v) R)) (r .listsT) f (endAt f ns nt (suc v) + 2) []
-      (rankings-from f r (endAt f ns nt (suc v)) from-end) 1
+      ∙ rankings-are (λ j. rankingLeft (suc v)) (r .listsT) f (endAt f ns nt (suc v) + 2) []
+      (rankings-from shifted f r (endAt f ns nt (suc v)) from-end) 1
       ∙ each-left (suc v) 1 (r .listsT)
 
   left-gives : {c : Changed} → Holds (leftBytes f ns nt (suc v)) c → Gives (accepted (departed r (suc v))) c
@@ -109,7 +114,7 @@ module _ (f : List ℕ) (r : Roster) (e : writeRoster r ≡ f) (ok : T (fits r))
       (nodesLeft f (ns + nt + 2) (suc v)) (listsLeft f (listsStart r) (mineAt f ns nt (suc v)) (nextAt f ns nt (suc v)) (endAt f ns nt (suc v)))
       (rankingsLeft f (endAt f ns nt (suc v) + 2) nt (suc v))
       (nodes-are ∙ ap (λ k. listBytes (set (r .quotasS) k 0) ++ listBytes (r .quotasT)) (sym (one-less v)))
-      (lists-are ∙ ap (λ k. gather listBytes (set (r .listsS) k [])) (sym (one-less v)))
+      (lists-are ∙ ap (λ k. gather (entriesBytes shifted) (set (r .listsS) k [])) (sym (one-less v)))
       rankings-left ns nt (departed-counts r v .0) (departed-counts r v .1) h
 
 -- ---- the call on the roster that the file is

@@ -4,24 +4,28 @@ ghost use mathlib.Core.Path.{_≡_};
 ghost use Prim.Native.Nat.{_≤_, _<_};
 ghost use lib.ListN.{length};
 ghost use Rattle.model.specs.Limits.{nodeLimit};
-ghost use Rattle.model.specs.RosterFile.{rankingBytes};
 ghost use Rattle.model.specs.Changes.{without, leaveOn};
 ghost use Rattle.instance.specs.Accepted.{RosterAccepted};
+ghost use Rattle.roster_positions.specs.Tables.{entriesIn};
+ghost use Rattle.roster_positions.specs.Rows.{bytesOf};
 ghost use Rattle.roster_parts.specs.Growth.{Room, Grown};
 ghost use Rattle.roster_parts.specs.Gives.{ChangedBy, Holds};
-ghost use Rattle.roster_leave.specs.Left.{leftBy, nodesLeft, listsLeft, rankingsLeft, leftBytes};
+ghost use Rattle.roster_leave.specs.Left.{rankingLeft, nodesLeft, listsLeft, rankingsLeft, leftBytes};
+use limits::ENTRY_WIDTH;
 use limits::ROSTER_SIZE;
 use roster_parts::Changed;
 
-// how many entries of a list are others than the leaver's number
+// how many entries of a list are of others than the leaver, whatever their shifts
 pub(crate) fn others(list: &[u8], number: u8) -> usize
-    requires { ⌜ length (now list) ≤ 255 ⌝ }
-    ensures { λ r. ⌜ (r ≡ length (without number (now (list .entry)))) × (r ≤ 255) ⌝ }
+    requires { ⌜ length (now list) ≤ 510 ⌝ }
+    ensures { λ r. ⌜ (r ≡ length (without number (entriesIn (now (list .entry))))) × (r ≤ 255) ⌝ }
 {
+    let n = list.len() / ENTRY_WIDTH;
     let mut k: usize = 0;
     let mut i = 0;
-    while i < list.len() {
-        if number == list[i] {
+    while i < n {
+        let at = ENTRY_WIDTH * i;
+        if number == list[at] {
             i += 1;
             continue;
         }
@@ -34,23 +38,26 @@ pub(crate) fn others(list: &[u8], number: u8) -> usize
 // those entries
 pub(crate) fn append_others(out: &mut [u8; ROSTER_SIZE], n: usize, list: &[u8], number: u8) -> usize
     requires { ⌜ Room n (now out) ⌝ }
-    ensures { λ r. ⌜ Grown (without number (now (list .entry))) n (now (out .entry)) r (now (out .exit)) ⌝ }
+    ensures { λ r. ⌜ Grown (bytesOf (without number (entriesIn (now (list .entry))))) n (now (out .entry)) r (now (out .exit)) ⌝ }
 {
-    let mut at = n;
+    let count = list.len() / ENTRY_WIDTH;
+    let mut len = n;
     let mut i = 0;
-    while i < list.len() {
-        let x = list[i];
+    while i < count {
+        let at = ENTRY_WIDTH * i;
+        let x = list[at];
+        let shift = list[at + 1];
         if number == x {
             i += 1;
             continue;
         }
-        at = roster_parts::append_byte(&mut *out, at, x);
+        len = roster_parts::append_entry(&mut *out, len, x, shift);
         i += 1;
     }
-    at
+    len
 }
 
-// a stand's list without the number; those behind it move up
+// a stand's list without the leaver's entries; those behind them move up
 pub(crate) fn append_ranking(
     out: &mut [u8; ROSTER_SIZE],
     n: usize,
@@ -58,9 +65,8 @@ pub(crate) fn append_ranking(
     tied: &[u8],
     number: u8,
 ) -> usize
-    requires { ⌜ Room n (now out) × (length (now strict) ≤ 255) × (length (now tied) ≤ 255) ⌝ }
-    ensures { λ r. ⌜ Grown (rankingBytes (leftBy number (record { strict = now (strict .entry); tied = now (tied .entry) }))) n
-        (now (out .entry)) r (now (out .exit)) ⌝ }
+    requires { ⌜ Room n (now out) × (length (now strict) ≤ 510) × (length (now tied) ≤ 510) ⌝ }
+    ensures { λ r. ⌜ Grown (rankingLeft number (now (strict .entry)) (now (tied .entry))) n (now (out .entry)) r (now (out .exit)) ⌝ }
 {
     let a = others(strict, number);
     let b = others(tied, number);
@@ -78,7 +84,7 @@ pub(crate) fn rankings_left(
     n: usize,
     number: u8,
 ) -> usize
-    requires { ⌜ Room 0 (now out) × (start ≤ 10000) × (n ≤ nodeLimit) ⌝ }
+    requires { ⌜ Room 0 (now out) × (start ≤ 20000) × (n ≤ nodeLimit) ⌝ }
     ensures { λ r. ⌜ Grown (rankingsLeft (now (file .entry)) start n number) 0 (now (out .entry)) r (now (out .exit)) ⌝ }
 {
     let mut len = 0;
@@ -87,10 +93,10 @@ pub(crate) fn rankings_left(
     while j < n {
         let a = roster_positions::byte_at(file, at) as usize;
         let b = roster_positions::byte_at(file, at + 1) as usize;
-        let strict = roster_positions::part(file, at + 2, a);
-        let tied = roster_positions::part(file, at + 2 + a, b);
+        let strict = roster_positions::part(file, at + 2, ENTRY_WIDTH * a);
+        let tied = roster_positions::part(file, at + 2 + ENTRY_WIDTH * a, ENTRY_WIDTH * b);
         len = append_ranking(&mut *out, len, strict, tied, number);
-        at += a + b + 2;
+        at += ENTRY_WIDTH * (a + b) + 2;
         j += 1;
     }
     len

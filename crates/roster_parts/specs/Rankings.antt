@@ -3,16 +3,23 @@
 use Prim.Native.Nat.{ℕ, zero, suc, _+_, _-_, _*_, _≤_, _<_}
 use native.Mathlib.Omega.{arith}
 use native.Mathlib.Numerals.{add-one}
-use mathlib.Core.Path.{_≡_, refl, ap, ap₂, _∙_}
+use mathlib.Core.Path.{_≡_, refl, sym, ap, ap₂, _∙_}
 use mathlib.Core.List.{List, [], _∷_, _++_, append-assoc}
 use lib.ListN.{length, take, drop, getD}
 use Rattle.lists.specs.Test.{given}
 use Rattle.lists.specs.Keep.{gather}
+use Rattle.lists.specs.Ranges.{gather-append}
 use Rattle.model.specs.Limits.{entryWidth}
 use Rattle.model.specs.Roster.{Ranking}
 use Rattle.model.specs.RosterFile.{shifted, rankingBytes}
 use Rattle.roster_positions.specs.Tables.{strictAt, tiedAt, behind}
 use Rattle.roster_positions.specs.Rows.{bytesOf, ranking-is}
+
+-- a stand's list, written length by length and part by part
+pub ranking-written : (R : Ranking) (a b : ℕ) → a ≡ length (R .strict) → b ≡ length (R .tied)
+    → a ∷ b ∷ (bytesOf (R .strict) ++ bytesOf (R .tied)) ≡ rankingBytes shifted R
+ranking-written R a b d e = ap₂ (λ x y. x ∷ y ∷ (bytesOf (R .strict) ++ bytesOf (R .tied))) d e
+    ∙ ap (λ z. length (R .strict) ∷ length (R .tied) ∷ z) (sym (gather-append (shifted .bytes) (R .strict) (R .tied)))
 
 -- the bytes that w makes of n stands' lists from a place on, the first of them stand j's
 unfoldable pub rankingsFrom : (w : ℕ → (strict tied : List ℕ) → List ℕ) (f : List ℕ) (n j at : ℕ) → List ℕ

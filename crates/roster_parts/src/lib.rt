@@ -39,6 +39,15 @@ pub fn append_byte(out: &mut [u8; ROSTER_SIZE], n: usize, b: u8) -> usize
     n
 }
 
+// an entry behind the first n: "a shift byte, 1 to 3, after its number"
+pub fn append_entry(out: &mut [u8; ROSTER_SIZE], n: usize, number: u8, shift: u8) -> usize
+    requires { ⌜ Room n (now out) ⌝ }
+    ensures { λ r. ⌜ Grown (number ∷ shift ∷ []) n (now (out .entry)) r (now (out .exit)) ⌝ }
+{
+    let second = append_byte(&mut *out, n, number);
+    append_byte(&mut *out, second, shift)
+}
+
 // some bytes behind the first n
 pub fn append(out: &mut [u8; ROSTER_SIZE], n: usize, part: &[u8]) -> usize
     requires { ⌜ Room n (now out) ⌝ }

@@ -22,17 +22,17 @@ use Rattle.roster_reading.specs.declared.Section.the-variants as section
 use Rattle.roster_reading.specs.Place.{placed}
 use Rattle.roster_reading.specs.Check.{firstOf, refusalOf, refusal-step, wholeFields, partAnswer, part-is, part-read}
 use Rattle.roster_reading.specs.Layout.{layoutOf, widthOf, fixed-entry, entriesIn}
-use Rattle.roster_reading.specs.Slot.{slotOf, atSlot, Placed, at-slot, same-slot}
+use Rattle.roster_reading.specs.Slot.{slotOf, atSlot, HasSlot, at-slot, same-slot}
 
 -- the marks show a list: a place is marked where the list has its entry
 abbrev pub Shows : List Bool → List Entry → Type 0
 Shows row seen = (k : ℕ) → getD row k false ≡ has (atSlot k) seen
 
 -- so the mark of an entry in range tells whether the list has it
-pub shows-at : (row : List Bool) (seen : List Entry) (x : Entry) → Shows row seen → Placed x → getD row (slotOf x) false ≡ has x seen
+pub shows-at : (row : List Bool) (seen : List Entry) (x : Entry) → Shows row seen → HasSlot x → getD row (slotOf x) false ≡ has x seen
 shows-at row seen x h p = h (slotOf x) ∙ ap (λ y. has y seen) (at-slot x p)
 
-pub mark-more : (row : List Bool) (seen : List Entry) (x : Entry) → Shows row seen → Placed x → slotOf x < length row
+pub mark-more : (row : List Bool) (seen : List Entry) (x : Entry) → Shows row seen → HasSlot x → slotOf x < length row
     → Shows (set row (slotOf x) true) (seen ++ x ∷ [])
 mark-more row seen x h p l k = rw (any-append (same (atSlot k)) seen (x ∷ []), same-slot x p k) (by-eq k (slotOf x) here other)
   where
@@ -59,7 +59,7 @@ pub seen-more : (seen xs : List Entry) (i : ℕ) → i < length xs → (seen ++ 
 seen-more seen xs i h = append-assoc seen (take i xs) (getD xs i noEntry ∷ []) ∙ ap (λ l. seen ++ l) (rw (add-one) (sym (take-suc xs i noEntry h)))
 
 pub mark-passed : (row : List Bool) (seen xs : List Entry) (i : ℕ) (x : Entry) → x ≡ getD xs i noEntry → Shows row (seen ++ take i xs) → i < length xs
-    → Placed x → slotOf x < length row
+    → HasSlot x → slotOf x < length row
     → Shows (set row (slotOf x) true) (seen ++ take (i + 1) xs)
 mark-passed row seen xs i x e h l p room =
     subst (Shows (set row (slotOf x) true)) (ap (λ y. (seen ++ take i xs) ++ y ∷ []) e ∙ seen-more seen xs i l)
@@ -85,21 +85,22 @@ behind seen = record { seen = seen; last = noEntry }
 abbrev pub markCheck : (tied : Bool) (other : ℕ) (row : List Bool) (last x : Entry) → ℕ
 markCheck tied other row last x = entryRefusal other x (cond (getD row (slotOf x) false) 5 (cond (not tied || before last x) 0 6))
 
-placed-in : (other : ℕ) (x : Entry) → T (not (outside other (x .number))) → T (not (outside shiftLimit (x .shift))) → Placed x × (x .number ≤ other)
-placed-in other x a b =
+has-slot : (other : ℕ) (x : Entry) → T (not (outside other (x .number))) → T (not (outside shiftLimit (x .shift))) → HasSlot x × (x .number ≤ other)
+has-slot other x a b =
     given (in-range other x (and-i (not (outside other (x .number))) (not (outside shiftLimit (x .shift))) a b)) (λ (p, q, u, v). ((p, u, v), q))
 
-pub mark-placed : (tied : Bool) (other : ℕ) (row : List Bool) (last x : Entry) → 0 ≡ markCheck tied other row last x → Placed x × (x .number ≤ other)
-mark-placed tied other row last x e =
-    given (cond-zero (outside other (x .number)) 3 (sym e)) (λ (a, h).
-    given (cond-zero (outside shiftLimit (x .shift)) 17 h) (λ (b, z). placed-in other x a b))
+pub mark-in-range : (tied : Bool) (other : ℕ) (row : List Bool) (last x : Entry) (r : ℕ) → r ≡ markCheck tied other row last x → r ≡ 0
+    → HasSlot x × (x .number ≤ other)
+mark-in-range tied other row last x r e z =
+    given (cond-zero (outside other (x .number)) 3 (sym e ∙ z)) (λ (a, h).
+    given (cond-zero (outside shiftLimit (x .shift)) 17 h) (λ (b, z). has-slot other x a b))
 
 pub mark-check : (tied : Bool) (other : ℕ) (row : List Bool) (seen : List Entry) (last x : Entry) → Shows row seen
     → markCheck tied other row last x ≡ listCheck tied other (record { seen = seen; last = last }) x
 mark-check tied other row seen last x h =
     by-test (outside other (x .number)) (λ t. simp (T-true {b = outside other (x .number)} t)) (λ a.
     by-test (outside shiftLimit (x .shift)) (λ t. simp (T-true {b = outside shiftLimit (x .shift)} t)) (λ b.
-    ap (λ m. entryRefusal other x (cond m 5 (cond (not tied || before last x) 0 6))) (shows-at row seen x h (placed-in other x a b .0))))
+    ap (λ m. entryRefusal other x (cond m 5 (cond (not tied || before last x) 0 6))) (shows-at row seen x h (has-slot other x a b .0))))
 
 -- entries in a row: the number of the first refusal is the model's, 0 for none; then the marks show the entries too
 pub record Checked (refusal : ℕ) (entries : List Entry) (r : ℕ) (after : List Bool) : Type 0 where

@@ -9,10 +9,10 @@ use Rattle.lists.specs.Test.{given, bool-eq, and-l, and-r, and-i, eq→eqb}
 use Rattle.model.specs.Limits.{nodeLimit, shiftLimit}
 use Rattle.model.specs.Roster.{Entry, same}
 
+-- a list's row, and the rows of a side
 abbrev pub rowWidth : ℕ
 rowWidth = nodeLimit * shiftLimit
 
--- a side's rows
 abbrev pub tableSize : ℕ
 tableSize = nodeLimit * rowWidth
 
@@ -23,11 +23,11 @@ slotOf x = shiftLimit * (x .number - 1) + (x .shift - 1)
 abbrev pub atSlot : ℕ → Entry
 atSlot k = record { number = suc (k / shiftLimit); shift = suc (k % shiftLimit) }
 
--- an entry whose number is not 0 and whose shift is in range
-abbrev pub Placed : Entry → Type 0
-Placed x = (1 ≤ x .number) × (1 ≤ x .shift) × (x .shift ≤ shiftLimit)
+-- an entry has a place if its number is not 0 and its shift is in range
+abbrev pub HasSlot : Entry → Type 0
+HasSlot x = (1 ≤ x .number) × (1 ≤ x .shift) × (x .shift ≤ shiftLimit)
 
-module _ (x : Entry) (p : Placed x) where
+module _ (x : Entry) (p : HasSlot x) where
   -- its place is its own
   pub at-slot : atSlot (slotOf x) ≡ x
   at-slot =

@@ -11,8 +11,8 @@ use borrow.Author.Needs.{needs}
 use Rattle.model.specs.Roster.{Entry, noEntry}
 use Rattle.roster_reading.specs.Check.{firstOf, refusalOf, refusal-end, fields-length, fields-at}
 use Rattle.roster_reading.specs.Layout.{entryOf, widthOf, entryFrom, entriesIn}
-use Rattle.roster_reading.specs.Slot.{Placed, slotOf, slot-room}
-use Rattle.roster_reading.specs.Row.{Shows, listCheck, passed, mark-placed, mark-passed, seen-all, check-step, checked-no}
+use Rattle.roster_reading.specs.Slot.{HasSlot, slotOf, slot-room}
+use Rattle.roster_reading.specs.Row.{Shows, listCheck, passed, mark-in-range, mark-passed, seen-all, check-step, checked-no}
 use Rattle.roster_fields.proofs.check_entries.Statement.{statement}
 use Rattle.roster_fields.proofs.check_entries.Tie as tie
 
@@ -59,14 +59,14 @@ turn p seen h =
     (p .entry-refusal .ensures) (l .loop .inv .2 seen h .1)
 
 -- an entry that passes is in range
-placed : (p : tie.Else1 Inv-loop μ-loop) → let e = p .before .before .before in let a = e .before .before .before .before .before .args in
-    Placed (entryOf (e .entry-at .result)) × (entryOf (e .entry-at .result) .number ≤ a .other)
-placed p =
+ranged : (p : tie.Else1 Inv-loop μ-loop) → let e = p .before .before .before in let a = e .before .before .before .before .before .args in
+    HasSlot (entryOf (e .entry-at .result)) × (entryOf (e .entry-at .result) .number ≤ a .other)
+ranged p =
     let e = p .before .before .before in
     let l = e .before .before in
     let a = l .before .before .before .args in
-    let z : 0 ≡ p .before .entry-refusal .result = omega arith in
-    mark-placed (a .tied) (a .other) (l .loop .row) (entryOf (l .loop .last)) (entryOf (e .entry-at .result)) (z ∙ p .before .entry-refusal .ensures)
+    mark-in-range (a .tied) (a .other) (l .loop .row) (entryOf (l .loop .last)) (entryOf (e .entry-at .result)) (p .before .entry-refusal .result)
+    (p .before .entry-refusal .ensures) (omega arith)
 
 loop-holds : tie.Need-loop-holds Inv-loop μ-loop
 loop-holds c =
@@ -97,7 +97,7 @@ returns c =
     (c .if1 .taken) (turn p seen h)
 
 slot-requires : tie.Need-slot-requires Inv-loop μ-loop
-slot-requires c κs = placed c .0
+slot-requires c κs = ranged c .0
 
 -- the mark's place lies in the row
 room : (p : tie.After-slot Inv-loop μ-loop) → let l = p .before .before .before .before .before .before in
@@ -105,7 +105,7 @@ room : (p : tie.After-slot Inv-loop μ-loop) → let l = p .before .before .befo
 room p =
     let e = p .before .before .before .before in
     let a = e .before .before .before .before .before .args in
-    let k = placed (p .before) in
+    let k = ranged (p .before) in
     omega (arith, slot-room (entryOf (e .entry-at .result)) (k .0) (a .other) (k .1))
 
 slice-write-row : tie.Need-slice-write-row Inv-loop μ-loop
@@ -125,7 +125,7 @@ loop-again c =
         turn p seen h ∙ ap (λ m. firstOf m
             (refusal (a .tied) (a .other) (seen ++ take (l .loop .i + 1) xs) (entryOf (e .entry-at .result)) (drop (l .loop .i + 1) xs))) z,
         rw (c .slot .ensures) (mark-passed (l .loop .row) seen xs (l .loop .i) (entryOf (e .entry-at .result)) (met e) (l .loop .inv .2 seen h .1)
-            (omega (arith, sized (a .shifts) (a .n) (a .part .now))) (placed (c .before) .0) (room c)),
+            (omega (arith, sized (a .shifts) (a .n) (a .part .now))) (ranged (c .before) .0) (room c)),
       ),
     )
 

@@ -2,18 +2,17 @@
 use Prim.Native.Nat.{_+_, _-_, _≤_, zero-le}
 use native.Mathlib.Omega.{arith}
 use mathlib.Core.Path.{_≡_, ap}
-use lib.ListN.{length, drop}
+use lib.ListN.{length}
 use borrow.Author.Needs.{needs}
-use Rattle.model.specs.Changes.{without}
-use Rattle.roster_leave.specs.Others.{other-not, other-one, other-none}
+use Rattle.roster_leave.specs.Others.{othersFrom, other-not, other-one, other-none}
 use Rattle.roster_leave.proofs.others.Statement.{statement}
 use Rattle.roster_leave.proofs.others.Tie as tie
 
 abbrev Inv-loop : tie.InvT-loop
-Inv-loop list number k₀ i₀ k i = (i ≤ length list) × (k ≤ i) × (k + length (without number (drop i list)) ≡ length (without number list))
+Inv-loop list number n k₀ i₀ k i = (i ≤ n) × (k ≤ i) × (k + length (othersFrom number list i) ≡ length (othersFrom number list 0))
 
 abbrev μ-loop : tie.MeasureT-loop
-μ-loop list number k₀ i₀ k i = length list - i
+μ-loop list number n k₀ i₀ k i = n - i
 
 loop-holds : tie.Need-loop-holds Inv-loop μ-loop
 loop-holds c = (zero-le, zero-le, omega arith)
@@ -40,5 +39,5 @@ returns c =
 
 pub others-spec : {M : Type 1} → statement M
 others-spec =
-    tie.close (tie.spec Inv-loop μ-loop loop-holds (λ c. search needs) (λ c. search needs) (λ c. search needs) loop-again
-    (λ c. search needs) (λ c. search needs) (λ c. search needs) loop-again-2 returns)
+    tie.close (tie.spec Inv-loop μ-loop loop-holds (λ c. search needs) (λ c. search needs) (λ c. search needs) (λ c. search needs)
+    loop-again (λ c. search needs) (λ c. search needs) (λ c. search needs) loop-again-2 returns)

@@ -3,18 +3,18 @@ use Prim.Native.Nat.{_+_, _-_, _*_, _≤_, zero-le}
 use native.Mathlib.Omega.{arith}
 use mathlib.Core.Path.{ap}
 use borrow.Author.Needs.{needs}
-use Rattle.model.specs.RosterFile.{rankingBytes}
+use Rattle.model.specs.Limits.{entryWidth}
 use Rattle.roster_positions.proofs.Stamping.{left-all, short}
 use Rattle.roster_parts.specs.Growth.{Going, going-starts, going-on, going-past, going-ends}
 use Rattle.roster_parts.specs.Rankings.{rankingsFrom, rankings-turn, rankings-done}
-use Rattle.roster_leave.specs.Left.{leftBy, rankingsLeft}
+use Rattle.roster_leave.specs.Left.{rankingLeft, rankingsLeft}
 use Rattle.roster_leave.proofs.rankings_left.Statement.{statement}
 use Rattle.roster_leave.proofs.rankings_left.Tie as tie
 
 abbrev Inv-loop : tie.InvT-loop
 Inv-loop out₀ file start n number len₀ at₀ j₀ out len at j =
-    (j ≤ n) × (at ≤ 10000 + 512 * j)
-    × Going (rankingsLeft file start n number) (rankingsFrom (λ j R. rankingBytes (leftBy number R)) file (n - j) (j + 1) at) 0 out₀ len out
+    (j ≤ n) × (at ≤ 20000 + 1022 * j)
+    × Going (rankingsLeft file start n number) (rankingsFrom (λ j. rankingLeft number) file (n - j) (j + 1) at) 0 out₀ len out
 
 abbrev μ-loop : tie.MeasureT-loop
 μ-loop out₀ file start n number len₀ at₀ j₀ out len at j = n - j
@@ -25,7 +25,7 @@ loop-holds c =
     let a = s .args in (
       zero-le,
       omega arith,
-      going-past (ap (λ k. rankingsFrom (λ j R. rankingBytes (leftBy (a .number) R)) (a .file .now) k 1 (a .start)) (left-all (a .n)))
+      going-past (ap (λ k. rankingsFrom (λ j. rankingLeft (a .number)) (a .file .now) k 1 (a .start)) (left-all (a .n)))
           (going-starts (rankingsLeft (a .file .now) (a .start) (a .n) (a .number)) 0 (a .out .now) (s .pre .0)),
     )
 
@@ -33,8 +33,8 @@ append-ranking-requires : tie.Need-append-ranking-requires Inv-loop μ-loop
 append-ranking-requires c κs =
     let g = c .before .before .before .before .before .before .loop .inv .2 .grown in (
       (g .few, g .size),
-      short (c .before .before .before .before .byte-at .result) (c .before .before .part .result .now) _ (c .before .before .part .ensures) (omega arith),
-      short (c .before .before .before .byte-at2 .result) (c .before .part2 .result .now) _ (c .before .part2 .ensures) (omega arith),
+      short (entryWidth * c .before .before .before .before .byte-at .result) 510 (c .before .before .part .result .now) _ (c .before .before .part .ensures) (omega arith),
+      short (entryWidth * c .before .before .before .byte-at2 .result) 510 (c .before .part2 .result .now) _ (c .before .part2 .ensures) (omega arith),
     )
 
 loop-again : tie.Need-loop-again Inv-loop μ-loop
@@ -46,7 +46,7 @@ loop-again c =
       omega arith,
       omega arith,
       going-on
-          (rankings-turn (λ j R. rankingBytes (leftBy (a .number) R)) (a .file .now) (a .n) (l .loop .j) (l .loop .at)
+          (rankings-turn (λ j. rankingLeft (a .number)) (a .file .now) (a .n) (l .loop .j) (l .loop .at)
           (c .before .before .before .before .before .before .loop-test .taken)
           (p .result) (q .result) (p .ensures) (q .ensures) (c .before .before .before .part .result .now) (c .before .before .part2 .result .now)
           (c .before .before .before .part .ensures)
@@ -58,12 +58,9 @@ returns : tie.Need-returns Inv-loop μ-loop
 returns c =
     let l = c .before in
     let a = l .before .before .args in
-    going-ends (rankings-done (λ j R. rankingBytes (leftBy (a .number) R)) (a .file .now) (a .n) (l .loop .j) (l .loop .at) (c .loop-test .left))
+    going-ends (rankings-done (λ j. rankingLeft (a .number)) (a .file .now) (a .n) (l .loop .j) (l .loop .at) (c .loop-test .left))
     (l .loop .inv .2)
 
 pub rankings-left-spec : {M : Type 1} → statement M
 rankings-left-spec =
-    tie.close (tie.spec Inv-loop μ-loop loop-holds (λ c κs. search needs) (λ c. search needs) (λ c. search needs) (λ c κs. search needs)
-    (λ c. search needs) (λ c. search needs) (λ c κs. search needs) (λ c. search needs) (λ c. search needs) (λ c κs. search needs)
-    append-ranking-requires (λ c. search needs) (λ c. search needs) (λ c. search needs) (λ c. search needs) (λ c. search needs)
-    loop-again returns)
+    tie.close (tie.spec Inv-loop μ-loop loop-holds (λ c κs. search needs) (λ c. search needs) (λ c. search needs) (λ c κs. search needs) (λ c. search needs) (λ c. search needs) (λ c. search needs) (λ c κs. search needs) (λ c. search needs) (λ c. search needs) (λ c. search needs) (λ c. search needs) (λ c κs. search needs) append-ranking-requires (λ c. search needs) (λ c. search needs) (λ c. search needs) (λ c. search needs) (λ c. search needs) (λ c. search needs) loop-again returns)

@@ -1,19 +1,19 @@
--- desk::finding::found: the state's refusal, then what the finder answers.
+-- desk_find::found: the state's refusal, then what the finder answers.
 use borrow.Author.Needs.{needs}
 use Rattle.desk_loaded.specs.OnDesk.{its-roster}
-use Rattle.desk.specs.Outcomes.{out-refused, long-enough, out-found}
-use Rattle.desk.proofs.finding.found.Statement.{statement}
-use Rattle.desk.proofs.finding.found.Tie as tie
+use Rattle.desk_find.specs.Outcomes.{out-refused, long-enough, out-found}
+use Rattle.desk_find.proofs.found.Statement.{statement}
+use Rattle.desk_find.proofs.found.Tie as tie
 
 returns : tie.Need-returns
 returns c =
-    let a = c .before .before .before .before .before .before .args in
+    let a = c .before .before .before .before .before .before .before .before .args in
     let l = c .before .before .loaded in
     out-refused (a .room) (a .left .now) (a .plan .now) (a .rival .now) (l .ensures) (c .before .if1 .taken) (c .refused .result) (c .refused .ensures)
 
 worked-requires : tie.Need-worked-requires
 worked-requires c κs =
-    let a = c .before .before .before .before .before .before .before .before .args in
+    let a = c .before .before .before .before .before .before .before .before .before .before .args in
     let l = c .before .before .before .before .loaded in
     let z = c .before .before .before .if1 .left in
     let (R, e) = its-roster z (l .ensures) in
@@ -22,7 +22,7 @@ worked-requires c κs =
 
 returns-2 : tie.Need-returns-2
 returns-2 c =
-    let a = c .before .before .before .before .before .before .before .before .before .before .before .before .before .before .before .args in
+    let a = c .before .before .before .before .before .before .before .before .before .before .before .before .before .before .before .before .before .args in
     let l = c .before .before .before .before .before .before .before .before .before .before .before .loaded in
     let w = c .before .before .before .before .before .before .worked in
     out-found (a .room) (a .left .now) (a .plan .now) (a .rival .now) (l .ensures)

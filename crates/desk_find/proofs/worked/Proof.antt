@@ -1,8 +1,8 @@
--- desk::finding::worked: the finder on the roster's arrays, and its flat diary.
+-- desk_find::worked: the finder on the roster's arrays, and its flat diary.
 use borrow.Author.Needs.{needs}
-use Rattle.desk.specs.Outcomes.{can-read, works}
-use Rattle.desk.proofs.finding.worked.Statement.{statement}
-use Rattle.desk.proofs.finding.worked.Tie as tie
+use Rattle.desk_find.specs.Outcomes.{can-read, works}
+use Rattle.desk_find.proofs.worked.Statement.{statement}
+use Rattle.desk_find.proofs.worked.Tie as tie
 
 flat-records-requires : tie.Need-flat-records-requires
 flat-records-requires c κs =

@@ -34,7 +34,7 @@ use Rattle.finder.specs.Promise.{stepsIn, steps-are}
 use Rattle.desk_loaded.specs.declared.OnDesk.{OnDesk}
 use Rattle.desk_loaded.specs.Held.{held, stateNumber, unneeded}
 use Rattle.desk_loaded.specs.OnDesk.{LoadedFrom, its-roster, its-length}
-use Rattle.desk.specs.declared.finding.Outcome.{Outcome}
+use Rattle.desk_find.specs.declared.Outcome.{Outcome}
 
 -- ---- what is found, with the flat diary
 pub record FindsIn (G : Instance) (d l p v : List ℕ) (r : code.Found) (d′ l′ p′ v′ : List ℕ) : Type 0 where

@@ -1,13 +1,11 @@
-// The finder on the roster that a desk holds, with a flat diary (crate diary).
+// The finder on the bytes of a roster that a desk holds, with a flat diary (crate diary): the state's refusal first. It stands below the desk,
+// and asks nothing of its caller; a user calls the desk.
 ghost use Prim.Native.Nat.{_≤_};
 ghost use lib.ListN.{length};
 ghost use Rattle.model.specs.Limits.{planSize, leftSize};
 ghost use Rattle.instance.specs.Decoded.{shownBy};
 ghost use Rattle.instance.specs.Loaded.{Loaded};
-ghost use Rattle.desk.specs.Held.{rosterBytes};
-ghost use Rattle.desk.specs.Outcomes.{Refuses, Works, Outcomes};
-use super::Desk;
-use super::held;
+ghost use Rattle.desk_find.specs.Outcomes.{Refuses, Works, Outcomes};
 use answers::Found;
 use instance::Instance;
 use limits::DIARY_SIZE;
@@ -23,7 +21,7 @@ pub struct Outcome {
 }
 
 // A refusal: no record.
-pub(crate) fn refused(number: u8) -> Outcome
+pub fn refused(number: u8) -> Outcome
     ensures { λ r. ⌜ Refuses number r ⌝ }
 {
     Outcome {
@@ -53,19 +51,21 @@ pub(crate) fn worked(g: Instance, left: &mut [u8], plan: &mut [u8], rival: &mut 
     }
 }
 
-// The finder on the roster held, for a lent diary of so many records: 13 if there is none, then 15 if a buffer is below its size.
-pub(crate) fn found(
-    desk: Desk,
+// The finder on the roster held, for a lent diary of so many records: 13 if there is none, then 15 if a buffer is below its size. `roster`
+// and `held` are the bytes of the roster and of the plan held.
+pub fn found(
+    roster: &[u8],
+    held: &[u8],
     room: usize,
     left: &mut [u8],
     plan: &mut [u8],
     rival: &mut [u8],
 ) -> Outcome
-    ensures { λ r. ⌜ Outcomes (rosterBytes desk) room (now (left .entry)) (now (plan .entry)) (now (rival .entry)) r (now (left .exit)) (now (plan .exit))
+    ensures { λ r. ⌜ Outcomes (now (roster .entry)) room (now (left .entry)) (now (plan .entry)) (now (rival .entry)) r (now (left .exit)) (now (plan .exit))
         (now (rival .exit)) ⌝ }
 {
     let small = (left.len() < LEFT_SIZE) | ((plan.len() < PLAN_SIZE) | (rival.len() < PLAN_SIZE));
-    let l = held::loaded(desk, false, (room < DIARY_SIZE) | small);
+    let l = desk_loaded::loaded(roster, held, false, (room < DIARY_SIZE) | small);
     let n = l.refusal;
     if 0 < n {
         return refused(n);

@@ -1,10 +1,10 @@
--- desk::finding::refused: a refusal with its number and its group, and no record.
+-- desk_find::refused: a refusal with its number and its group, and no record.
 use mathlib.Core.Path.{refl, ap}
 use borrow.Author.Needs.{needs}
 use Rattle.answers.specs.GroupCases.{shows-case}
 use Rattle.answers.specs.declared.Found.the-variants as says
-use Rattle.desk.proofs.finding.refused.Statement.{statement}
-use Rattle.desk.proofs.finding.refused.Tie as tie
+use Rattle.desk_find.proofs.refused.Statement.{statement}
+use Rattle.desk_find.proofs.refused.Tie as tie
 
 returns : tie.Need-returns
 returns c = record { answer = ap (says.Refused (c .before .args .number)) (shows-case (c .group-of .result) (c .group-of .ensures)); steps = refl; flat = refl }
