@@ -130,6 +130,7 @@ module _ (shifts : Bool) (ns nt : ℕ) (f : List ℕ) where
 
   pub record RosterTurned (r : Turned) (after : List ℕ) : Type 0 where
     pub few : r .len ≤ rosterSize
+    pub size : length after ≡ rosterSize
     pub front : take (r .len) after ≡ take rosterSize turnedBytes
     pub first : r .first ≡ all? firstBlock surveyorBlocks
 

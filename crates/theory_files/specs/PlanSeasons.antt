@@ -57,6 +57,15 @@ module _ (G : Instance) where
   unfolding planToOld
   new-plan-taken g M e o = ap (oldPlan G) e ∙ ap (λ b. cond b (accepted (planBytesBy plainPair G M)) (refused 19)) (T-true {b = onlyFirstPairs G M} o)
 
+  -- a plan that is refused keeps its number
+  pub old-plan-turned-away : (f : List ℕ) (n : ℕ) → readPlanBy plainPair G f ≡ refused n → planToNew G f ≡ refused n
+  unfolding planToNew
+  old-plan-turned-away f n e = ap (newPlan G) e
+
+  pub new-plan-turned-away : (g : List ℕ) (n : ℕ) → readPlan G g ≡ refused n → planToOld G g ≡ refused n
+  unfolding planToOld
+  new-plan-turned-away g n e = ap (oldPlan G) e
+
   -- "It refuses, on the way back, a valid file with another shift (19, ..)"
   pub new-plan-refused : (g : List ℕ) (M : Plan) → readPlan G g ≡ accepted M → T (not (onlyFirstPairs G M)) → planToOld G g ≡ refused 19
   unfolding planToOld

@@ -207,6 +207,15 @@ pub new-taken : (g : List ℕ) (r : Roster) → readRoster g ≡ accepted r → 
 unfolding toOld
 new-taken g r e o = ap oldRoster e ∙ ap (λ b. cond b (accepted (writeRosterBy plain r)) (refused 19)) (T-true {b = onlyFirst r} o)
 
+-- a file that is refused keeps its number
+pub old-turned-away : (f : List ℕ) (n : ℕ) → readRosterBy plain f ≡ refused n → toNew f ≡ refused n
+unfolding toNew
+old-turned-away f n e = ap newRoster e
+
+pub new-turned-away : (g : List ℕ) (n : ℕ) → readRoster g ≡ refused n → toOld g ≡ refused n
+unfolding toOld
+new-turned-away g n e = ap oldRoster e
+
 -- "It refuses, on the way back, a valid file with another shift (19, ..)"
 pub new-refused : (g : List ℕ) (r : Roster) → readRoster g ≡ accepted r → T (not (onlyFirst r)) → toOld g ≡ refused 19
 unfolding toOld

@@ -14,7 +14,7 @@ returns c =
     let g = turned-whole (a .shifts) (a .ns) (a .nt) (a .file .now) (p .part .ensures) (l .end)
     (c .before .before .before .before .before .part2 .ensures) (s .before .before .append .ensures) (l .grown)
     (c .before .before .before .append2 .ensures) (c .append-lists2 .ensures .grown) in
-    record { few = g .few; front = g .front; first = l .first }
+    record { few = g .few; size = g .size; front = g .front; first = l .first }
 
 pub turn-spec : {M : Type 1} → statement M
 turn-spec =
