@@ -70,7 +70,8 @@ module _ (shifts : Bool) (f : List ℕ) where
         let l : length bs ≡ widthOf shifts * countAt ties f at = entries-size L (agreesOf shifts) (b .list) ∙ ap (λ k. widthOf shifts * k) (sym n) in
         let s : at + headsOf ties + widthOf shifts * countAt ties f at ≡ behindBlock shifts ties f at = omega arith in (
           ap₂ {C = Block} (λ x y. record { heads = x; list = y }) (part-is f at (headsOf ties) (b .heads) (bs ++ post) e₁ (S .lengths))
-              (ap (partEntries shifts) (part-is f (at + headsOf ties) (widthOf shifts * countAt ties f at) bs post e₂ l) ∙ part-back shifts (b .list) (S .held)),
+              (ap (partEntries shifts) (part-is f (at + headsOf ties) (widthOf shifts * countAt ties f at) bs post e₂ l)
+              ∙ part-back shifts (b .list) (S .held)),
           ap (λ k. drop k f) (sym s) ∙ rest-is f (at + headsOf ties) (widthOf shifts * countAt ties f at) bs post e₂ l,
         )
 
