@@ -51,6 +51,12 @@ pub record Done (d : Desk) (room : ℕ) (l p v : List ℕ) (c : CoreReply) (l′
   pub same : c .reply .desk ≡ d
   pub outcome : Outcomes (rosterBytes d) room l p v (outcomeIn c) l′ p′ v′
 
+-- on the bytes held
+pub done-on : {d : Desk} {room : ℕ} {l p v : List ℕ} {c : CoreReply} {l′ p′ v′ : List ℕ} {roster : List ℕ} → roster ≡ rosterBytes d → c .reply .desk ≡ d
+    → Outcomes roster room l p v (outcomeIn c) l′ p′ v′ → Done d room l p v c l′ p′ v′
+done-on {d} {room} {l} {p} {v} {c} {l′} {p′} {v′} e q o =
+    record { same = q; outcome = subst (λ b. Outcomes b room l p v (outcomeIn c) l′ p′ v′) e o }
+
 -- the call's promise
 pub record Finds (d : Desk) (s : List Step) (l p v : List ℕ) (r : FindReply) (s′ : List Step) (l′ p′ v′ : List ℕ) : Type 0 where
   pub replied : Replied d (find (recordsIn s) l p v) (foundShown (r .answer)) (find (recordsIn s′) l′ p′ v′) (r .desk)

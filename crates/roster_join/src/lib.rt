@@ -1,26 +1,29 @@
-// A surveyor joins in the field: request W-202 of document 02. The bytes of the roster with one surveyor more, made from the bytes of an
-// accepted roster, a quota and a list file; or the refusal.
+// A surveyor joins in the field: requests W-202 and W-204 of document 02. The bytes of the roster with one surveyor more, made from the bytes
+// of an accepted roster, a quota and a list file; or the refusal.
 ghost use mathlib.Core.Path.{_≡_};
-ghost use mathlib.Core.Bool.{false, cond};
-ghost use mathlib.Core.List.{[]};
-ghost use Prim.Native.Nat.{_≤_};
-ghost use lib.ListN.{length, getD};
+ghost use Prim.Native.Nat.{_+_, _≤_};
+ghost use lib.ListN.{length};
 ghost use Rattle.lists.specs.Sum.{sum};
-ghost use Rattle.model.specs.Limits.{nodeLimit};
+ghost use Rattle.model.specs.Limits.{nodeLimit, listLimit, shiftLimit};
 ghost use Rattle.model.specs.Reading.{whole};
-ghost use Rattle.model.specs.RosterFile.{readList};
+ghost use Rattle.model.specs.RosterFile.{shifted, readList};
 ghost use Rattle.model.specs.Changes.{joinOn};
 ghost use Rattle.instance.specs.Accepted.{RosterAccepted};
+ghost use Rattle.roster_positions.specs.Rows.{bytesOf};
 ghost use Rattle.roster_parts.specs.Growth.{Room, Grown};
 ghost use Rattle.roster_parts.specs.Gives.{ChangedBy, Holds};
-ghost use Rattle.roster_join.specs.Entering.{withLast, nodesWith, listsWith, rankingsWith, joinedBytes};
-ghost use Rattle.roster_join.specs.Listing.{MadeBy};
+ghost use Rattle.roster_join.specs.Entering.{marksIn, asked, shiftsAt, joinerIn, entering, nodesWith, listsWith, rankingsWith, longFrom, joinedBytes};
+ghost use Rattle.roster_join.specs.Listing.{EntersBy, MadeBy};
+use limits::ENTRY_WIDTH;
+use limits::LIST_LIMIT;
 use limits::NODE_LIMIT;
 use limits::QUOTA_LIMIT;
 use limits::QUOTA_SUM_LIMIT;
 use limits::ROSTER_SIZE;
+use limits::SHIFT_LIMIT;
 use roster_lists::ROW;
 use roster_parts::Changed;
+use roster_reading::Entry;
 use roster_reading::Section;
 
 // the sum of some quotas
@@ -37,49 +40,95 @@ pub(crate) fn quota_sum(quotas: &[u8]) -> usize
     total
 }
 
-// what comes behind a tie: the joiner, or nothing
-pub(crate) fn last_of(joiner: &[u8], enters: bool) -> &[u8]
-    ensures { λ r. ⌜ now r ≡ cond enters (now (joiner .entry)) [] ⌝ }
+// has the joiner's list this stand in this shift? The row has a mark for each entry that it has.
+pub(crate) fn asks(row: &[bool; ROW], stand: u8, shift: u8) -> bool
+    requires { ⌜ (1 ≤ stand) × (stand ≤ nodeLimit) × (1 ≤ shift) × (shift ≤ shiftLimit) ⌝ }
+    ensures { λ r. ⌜ r ≡ asked (marksIn (now (row .entry))) stand shift ⌝ }
 {
-    if enters {
-        return joiner;
-    }
-    &joiner[..0]
+    let x = Entry {
+        number: stand,
+        shift: shift,
+    };
+    let k = roster_fields::slot(x);
+    row[k]
 }
 
-// a stand's list with that at the end of its tie
+// in how many shifts it has the stand
+pub(crate) fn shift_count(row: &[bool; ROW], stand: u8) -> usize
+    requires { ⌜ (1 ≤ stand) × (stand ≤ nodeLimit) ⌝ }
+    ensures { λ r. ⌜ (r ≡ length (shiftsAt (marksIn (now (row .entry))) stand)) × (r ≤ shiftLimit) ⌝ }
+{
+    let mut n: usize = 0;
+    let mut k: u8 = 0;
+    while k < SHIFT_LIMIT {
+        k += 1;
+        if !asks(row, stand, k) {
+            continue;
+        }
+        n += 1;
+    }
+    n
+}
+
+// the joiner's entries at the stand, "in shift order", whatever their order in the joiner's list
+pub(crate) fn append_joiner(
+    out: &mut [u8; ROSTER_SIZE],
+    n: usize,
+    joiner: u8,
+    row: &[bool; ROW],
+    stand: u8,
+) -> usize
+    requires { ⌜ Room n (now out) × (1 ≤ stand) × (stand ≤ nodeLimit) ⌝ }
+    ensures { λ r. ⌜ Grown (bytesOf (joinerIn joiner (shiftsAt (marksIn (now (row .entry))) stand))) n (now (out .entry)) r (now (out .exit)) ⌝ }
+{
+    let mut len = n;
+    let mut k: u8 = 0;
+    while k < SHIFT_LIMIT {
+        let shift = k + 1;
+        k += 1;
+        if !asks(row, stand, shift) {
+            continue;
+        }
+        len = roster_parts::append_entry(&mut *out, len, joiner, shift);
+    }
+    len
+}
+
+// a stand's list with those entries at the end of its tie
 pub(crate) fn append_ranking(
     out: &mut [u8; ROSTER_SIZE],
     n: usize,
     strict: &[u8],
     tied: &[u8],
-    last: &[u8],
+    joiner: u8,
+    row: &[bool; ROW],
+    stand: u8,
 ) -> usize
-    requires { ⌜ Room n (now out) ⌝ }
-    ensures { λ r. ⌜ Grown (withLast (now (last .entry)) (record { strict = now (strict .entry); tied = now (tied .entry) })) n
+    requires { ⌜ Room n (now out) × (1 ≤ stand) × (stand ≤ nodeLimit) ⌝ }
+    ensures { λ r. ⌜ Grown (entering joiner (marksIn (now (row .entry))) stand (now (strict .entry)) (now (tied .entry))) n
         (now (out .entry)) r (now (out .exit)) ⌝ }
 {
-    let strict_len = strict.len();
-    let tie_len = tied.len() + last.len();
+    let more = shift_count(row, stand);
+    let strict_len = strict.len() / ENTRY_WIDTH;
+    let tie_len = tied.len() / ENTRY_WIDTH + more;
     let second = roster_parts::append_byte(&mut *out, n, (strict_len % 256) as u8);
     let entries = roster_parts::append_byte(&mut *out, second, (tie_len % 256) as u8);
     let tie = roster_parts::append(&mut *out, entries, strict);
     let end = roster_parts::append(&mut *out, tie, tied);
-    roster_parts::append(&mut *out, end, last)
+    append_joiner(&mut *out, end, joiner, row, stand)
 }
 
-// n stands' lists from a place of the file on; the joiner enters those that the row has a mark for
+// n stands' lists from a place of the file on; the joiner enters those that the row has marks for
 pub(crate) fn rankings_with(
     out: &mut [u8; ROSTER_SIZE],
     file: &[u8],
     start: usize,
     n: usize,
-    joiner: &[u8],
+    joiner: u8,
     row: &[bool; ROW],
 ) -> usize
-    requires { ⌜ Room 0 (now out) × (start ≤ 10000) × (n ≤ nodeLimit) ⌝ }
-    ensures { λ r. ⌜ Grown (rankingsWith (now (file .entry)) start n (now (joiner .entry)) (λ j. getD (now (row .entry)) j false)) 0
-        (now (out .entry)) r (now (out .exit)) ⌝ }
+    requires { ⌜ Room 0 (now out) × (start ≤ 20000) × (n ≤ nodeLimit) ⌝ }
+    ensures { λ r. ⌜ Grown (rankingsWith (now (file .entry)) start n joiner (marksIn (now (row .entry)))) 0 (now (out .entry)) r (now (out .exit)) ⌝ }
 {
     let mut len = 0;
     let mut at = start;
@@ -87,14 +136,33 @@ pub(crate) fn rankings_with(
     while j < n {
         let a = roster_positions::byte_at(file, at) as usize;
         let b = roster_positions::byte_at(file, at + 1) as usize;
-        let strict = roster_positions::part(file, at + 2, a);
-        let tied = roster_positions::part(file, at + 2 + a, b);
-        let last = last_of(joiner, row[j + 1]);
-        len = append_ranking(&mut *out, len, strict, tied, last);
-        at += a + b + 2;
+        let strict = roster_positions::part(file, at + 2, ENTRY_WIDTH * a);
+        let tied = roster_positions::part(file, at + 2 + ENTRY_WIDTH * a, ENTRY_WIDTH * b);
+        len = append_ranking(&mut *out, len, strict, tied, joiner, row, (j + 1) as u8);
+        at += ENTRY_WIDTH * (a + b) + 2;
         j += 1;
     }
     len
+}
+
+// would one of these lists be too long? "A list .. has at most 32 entries"
+pub(crate) fn too_long(file: &[u8], start: usize, n: usize, row: &[bool; ROW]) -> bool
+    requires { ⌜ (start ≤ 20000) × (n ≤ nodeLimit) ⌝ }
+    ensures { λ r. ⌜ r ≡ longFrom (marksIn (now (row .entry))) (now (file .entry)) n 1 start ⌝ }
+{
+    let mut at = start;
+    let mut j = 0;
+    while j < n {
+        let a = roster_positions::byte_at(file, at) as usize;
+        let b = roster_positions::byte_at(file, at + 1) as usize;
+        let more = shift_count(row, (j + 1) as u8);
+        if (LIST_LIMIT as usize) < a + b + more {
+            return true;
+        }
+        at += ENTRY_WIDTH * (a + b) + 2;
+        j += 1;
+    }
+    false
 }
 
 // both sides' counts and quotas, with one surveyor more
@@ -132,27 +200,27 @@ pub(crate) fn lists_with(
     roster_parts::append(&mut *out, a, list)
 }
 
-// the roster of ns surveyors and nt stands with one surveyor more, who takes "the number after the highest"
+// the roster of ns surveyors and nt stands with one surveyor more, who takes "the number after the highest"; the surveyors' lists end at a
+// place of the file
 pub(crate) fn joined(
     file: &[u8],
     ns: usize,
     nt: usize,
+    end: usize,
     quota: u8,
     list: &[u8],
     row: &[bool; ROW],
 ) -> Changed
-    requires { ⌜ (ns ≤ nodeLimit) × (nt ≤ nodeLimit) ⌝ }
-    ensures { λ r. ⌜ Holds (joinedBytes (now (file .entry)) ns nt quota (now (list .entry)) (λ j. getD (now (row .entry)) j false)) r ⌝ }
+    requires { ⌜ (ns ≤ nodeLimit) × (nt ≤ nodeLimit) × (ns + nt + 4 ≤ end) × (end + 2 ≤ 20000) ⌝ }
+    ensures { λ r. ⌜ Holds (joinedBytes (now (file .entry)) ns nt end quota (now (list .entry)) (marksIn (now (row .entry)))) r ⌝ }
 {
-    let start = ns + nt + 4;
-    let end = roster_parts::lists_end(file, start, ns);
-    let joiner = [(ns + 1) as u8; 1];
+    let joiner = (ns + 1) as u8;
     let mut out = [0u8; ROSTER_SIZE];
     let mut lists = [0u8; ROSTER_SIZE];
     let a = nodes_with(&mut out, file, ns, nt, quota);
-    let k = lists_with(&mut lists, file, start, end, list);
+    let k = lists_with(&mut lists, file, ns + nt + 4, end, list);
     let b = roster_parts::append_section(&mut out, a, ns + 1, &lists, k);
-    let m = rankings_with(&mut lists, file, end + 2, nt, &joiner, row);
+    let m = rankings_with(&mut lists, file, end + 2, nt, joiner, row);
     let len = roster_parts::append_section(&mut out, b, 2 * nt, &lists, m);
     Changed {
         refusal: 0,
@@ -161,21 +229,41 @@ pub(crate) fn joined(
     }
 }
 
-// "a bad list meets 1, 2, 4, 5 and 9 in document 01's order"
+// with a list that is read up to a place of its file: "9 bytes after the end"; then "A joiner's entry that takes a stand's list past 32 meets
+// 2, after all checks of the joiner's own list."
+pub(crate) fn entered(
+    file: &[u8],
+    ns: usize,
+    nt: usize,
+    quota: u8,
+    list: &[u8],
+    read: usize,
+    row: &[bool; ROW],
+) -> Changed
+    requires { ⌜ (ns ≤ nodeLimit) × (nt ≤ nodeLimit) ⌝ }
+    ensures { λ r. ⌜ EntersBy (now (file .entry)) ns nt quota (now (list .entry)) read (marksIn (now (row .entry))) r ⌝ }
+{
+    let end = roster_parts::lists_end(file, ns + nt + 4, ns);
+    let long = too_long(file, end + 2, nt, row);
+    if read < list.len() {
+        return roster_parts::refused(9);
+    }
+    if long {
+        return roster_parts::refused(2);
+    }
+    joined(file, ns, nt, end, quota, list, row)
+}
+
+// "a bad list meets 1, 2, 4, 5 and 9 in document 01's order", and 18 "straight after 4"
 pub(crate) fn listed(file: &[u8], ns: usize, nt: u8, quota: u8, list: &[u8]) -> Changed
     requires { ⌜ (ns ≤ nodeLimit) × (nt ≤ nodeLimit) ⌝ }
-    ensures { λ r. ⌜ MadeBy (now (file .entry)) ns nt quota (now (list .entry)) (whole (readList nt nt (now (list .entry)))) r ⌝ }
+    ensures { λ r. ⌜ MadeBy (now (file .entry)) ns nt quota (now (list .entry)) (whole (readList shifted listLimit nt (now (list .entry)))) r ⌝ }
 {
     let mut row = [false; ROW];
-    let s = roster_lists::list_at(list, 0, nt, nt, &mut row);
+    let s = roster_lists::list_at(list, 0, LIST_LIMIT, nt, true, &mut row);
     match s {
         Section::Refused(number) => roster_parts::refused(number),
-        Section::Read(end) => {
-            if end < list.len() {
-                return roster_parts::refused(9);
-            }
-            joined(file, ns, nt as usize, quota, list, &row)
-        }
+        Section::Read(read) => entered(file, ns, nt as usize, quota, list, read, &row),
     }
 }
 

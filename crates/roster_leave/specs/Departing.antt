@@ -67,7 +67,9 @@ module _ (f : List ℕ) (r : Roster) (e : writeRoster r ≡ f) (ok : T (fits r))
   inside-lists = given (fits-lists r ok .countS) (λ n. omega arith)
 
   some-left : 0 < length left
-  some-left = let n : 0 < length (rankingSection shifted r) = suc-le-suc zero-le in omega (arith, length-append (gather (entriesBytes shifted) after) (rankingSection shifted r))
+  some-left =
+      let n : 0 < length (rankingSection shifted r) = suc-le-suc zero-le in
+      omega (arith, length-append (gather (entriesBytes shifted) after) (rankingSection shifted r))
 
   count-before : length before ≡ suc v - 1
   count-before = length-take-le v (r .listsS) (omega (arith, inside-lists)) ∙ sym (one-less v)
@@ -80,7 +82,8 @@ module _ (f : List ℕ) (r : Roster) (e : writeRoster r ≡ f) (ok : T (fits r))
       ∙ ap (λ z. gather (entriesBytes shifted) z ++ rankingSection shifted r) (split-at (r .listsS) v [] inside-lists)
       ∙ ap (λ z. z ++ rankingSection shifted r) (gather-append (entriesBytes shifted) before (own ∷ after))
       ∙ append-assoc (gather (entriesBytes shifted) before) (entriesBytes shifted own ++ gather (entriesBytes shifted) after) (rankingSection shifted r)
-      ∙ ap (λ z. gather (entriesBytes shifted) before ++ z) (append-assoc (entriesBytes shifted own) (gather (entriesBytes shifted) after) (rankingSection shifted r))
+      ∙ ap (λ z. gather (entriesBytes shifted) before ++ z)
+      (append-assoc (entriesBytes shifted own) (gather (entriesBytes shifted) after) (rankingSection shifted r))
 
   from-mine : drop (mineAt f ns nt (suc v)) f ≡ gather (entriesBytes shifted) (own ∷ []) ++ left
   from-mine = lists-behind before (suc v - 1) count-before f (listsStart r) (entriesBytes shifted own ++ left) from-start (suc-le-suc zero-le)
@@ -92,7 +95,8 @@ module _ (f : List ℕ) (r : Roster) (e : writeRoster r ≡ f) (ok : T (fits r))
   from-end : drop (endAt f ns nt (suc v)) f ≡ rankingSection shifted r
   from-end = lists-behind after (ns - suc v) count-after f (nextAt f ns nt (suc v)) (rankingSection shifted r) from-next (suc-le-suc zero-le)
 
-  lists-are : listsLeft f (listsStart r) (mineAt f ns nt (suc v)) (nextAt f ns nt (suc v)) (endAt f ns nt (suc v)) ≡ gather (entriesBytes shifted) (set (r .listsS) v [])
+  lists-are : listsLeft f (listsStart r) (mineAt f ns nt (suc v)) (nextAt f ns nt (suc v)) (endAt f ns nt (suc v))
+      ≡ gather (entriesBytes shifted) (set (r .listsS) v [])
   lists-are =
       ap₂ (λ x y. (x ++ 0 ∷ []) ++ y)
       (lists-part before (suc v - 1) count-before f (listsStart r) (entriesBytes shifted own ++ left) from-start (suc-le-suc zero-le))

@@ -173,6 +173,7 @@ nextAll j (R ∷ ts) t = nextAll (suc j) ts (set t j ((length (R .strict) + 1) %
 -- a stand's list at its place, and what follows it
 pub record RankingIs (f : List ℕ) (at : ℕ) (R : Ranking) (more : List ℕ) : Type 0 where
   pub count : getD f at 0 ≡ length (R .strict)
+  pub tieCount : getD f (at + 1) 0 ≡ length (R .tied)
   pub strict : strictAt f at ≡ bytesOf (R .strict)
   pub tied : tiedAt f at ≡ bytesOf (R .tied)
   pub rest : drop (behind f at) f ≡ more
@@ -190,6 +191,7 @@ ranking-is f at R more e =
     given (bytes-rest f (at + 2) a (R .strict) (bytesOf (R .tied) ++ more) d₂ h) (λ d₃.
     record {
       count = h;
+      tieCount = g;
       strict = bytes-part f (at + 2) a (R .strict) (bytesOf (R .tied) ++ more) d₂ h;
       tied = bytes-part f (at + 2 + entryWidth * a) b (R .tied) more d₃ g;
       rest = ap (λ k. drop k f) (move at a b) ∙ bytes-rest f (at + 2 + entryWidth * a) b (R .tied) more d₃ g;

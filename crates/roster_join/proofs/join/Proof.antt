@@ -28,7 +28,7 @@ returns-2 c =
     (c .refused2 .ensures)
 
 quota-sum-requires : tie.Need-quota-sum-requires
-quota-sum-requires c κs = short (c .before .before .byte-at .result) (c .part .result .now) _ (c .part .ensures) (omega arith)
+quota-sum-requires c κs = short (c .before .before .byte-at .result) 255 (c .part .result .now) _ (c .part .ensures) (omega arith)
 
 listed-requires : tie.Need-listed-requires
 listed-requires c κs =

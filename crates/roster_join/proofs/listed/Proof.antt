@@ -1,11 +1,11 @@
--- `roster_join::listed` meets its contract: the list's refusal, or the roster with the joiner. Assumes nothing.
+-- `roster_join::listed` meets its contract: the list's refusal, or what is made with it. Assumes nothing.
 use native.Mathlib.Omega.{arith}
 use mathlib.Core.Bool.{false}
 use borrow.Author.Needs.{needs}
 use Rattle.theory_files.specs.Reads.{bytes-are}
 use Rattle.arrays.specs.Passes.{all-blank}
-use Rattle.roster_reading.specs.Table.{rowWidth}
-use Rattle.roster_join.specs.Listing.{list-refused, list-behind, list-whole}
+use Rattle.roster_reading.specs.Slot.{rowWidth}
+use Rattle.roster_join.specs.Listing.{list-refused, list-read}
 use Rattle.roster_join.proofs.listed.Statement.{statement}
 use Rattle.roster_join.proofs.listed.Tie as tie
 
@@ -14,28 +14,18 @@ list-at-requires c κs = (omega arith, all-blank false rowWidth)
 
 returns : tie.Need-returns
 returns c =
-    let a = c .before .before .before .before .before .before .before .before .before .before .args in
-    let isB = bytes-are (a .list .now) (λ i. omega (arith, c .before .before .before .before .before .before .before .before .shared-slice-known2 .given i)) in
-    list-behind (a .file .now) (a .ns) (a .nt) (a .quota) (a .list .now) (c .before .before .before .before .before .before .list-at .ensures)
-    (c .refused2 .result) isB (c .before .before .before .s2 .given .1)
-    (c .before .if1 .taken) (c .refused2 .ensures)
-
-returns-2 : tie.Need-returns-2
-returns-2 c =
     let a = c .before .before .before .before .before .before .before .before .before .args in
     list-refused (a .file .now) (a .ns) (a .nt) (a .quota) (a .list .now) (c .before .before .before .before .before .list-at .ensures)
     (c .refused .result) (c .before .before .s .given .1) (c .refused .ensures)
 
-returns-3 : tie.Need-returns-3
-returns-3 c =
-    let a = c .before .before .before .before .before .before .before .before .before .before .before .args in
-    let isB = bytes-are (a .list .now)
-    (λ i. omega (arith, c .before .before .before .before .before .before .before .before .before .shared-slice-known2 .given i)) in
-    list-whole (a .file .now) (a .ns) (a .nt) (a .quota) (a .list .now) (c .before .before .before .before .before .before .before .list-at .ensures)
-    (c .joined .result) isB (c .before .before .before .before .s2 .given .1)
-    (c .before .before .if1 .left) (c .joined .ensures)
+returns-2 : tie.Need-returns-2
+returns-2 c =
+    let a = c .before .before .before .before .before .before .before .before .before .before .args in
+    let isB = bytes-are (a .list .now) (λ i. omega (arith, c .before .before .before .before .before .before .before .before .shared-slice-known2 .given i)) in
+    list-read (a .file .now) (a .ns) (a .nt) (a .quota) (a .list .now) (c .before .before .before .before .before .before .list-at .ensures)
+    (c .entered .result) isB (c .before .before .before .s2 .given .1) (c .entered .ensures)
 
 pub listed-spec : {M : Type 1} → statement M
 listed-spec =
     tie.close (tie.spec (λ c. search needs) list-at-requires (λ c. search needs) (λ c κs. search needs) (λ c. search needs)
-    (λ c κs. search needs) returns (λ c κs. search needs) returns-2 returns-3)
+    (λ c κs. search needs) returns returns-2)

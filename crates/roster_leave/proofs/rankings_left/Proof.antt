@@ -31,10 +31,14 @@ loop-holds c =
 
 append-ranking-requires : tie.Need-append-ranking-requires Inv-loop μ-loop
 append-ranking-requires c κs =
-    let g = c .before .before .before .before .before .before .loop .inv .2 .grown in (
+    let g = c .before .before .before .before .before .before .loop .inv .2 .grown in
+    let p = c .before .before .before .before .byte-at in
+    let q = c .before .before .before .byte-at2 in
+    let x = c .before .before .part in
+    let y = c .before .part2 in (
       (g .few, g .size),
-      short (entryWidth * c .before .before .before .before .byte-at .result) 510 (c .before .before .part .result .now) _ (c .before .before .part .ensures) (omega arith),
-      short (entryWidth * c .before .before .before .byte-at2 .result) 510 (c .before .part2 .result .now) _ (c .before .part2 .ensures) (omega arith),
+      short (entryWidth * p .result) 510 (x .result .now) _ (x .ensures) (omega arith),
+      short (entryWidth * q .result) 510 (y .result .now) _ (y .ensures) (omega arith),
     )
 
 loop-again : tie.Need-loop-again Inv-loop μ-loop
@@ -63,4 +67,7 @@ returns c =
 
 pub rankings-left-spec : {M : Type 1} → statement M
 rankings-left-spec =
-    tie.close (tie.spec Inv-loop μ-loop loop-holds (λ c κs. search needs) (λ c. search needs) (λ c. search needs) (λ c κs. search needs) (λ c. search needs) (λ c. search needs) (λ c. search needs) (λ c κs. search needs) (λ c. search needs) (λ c. search needs) (λ c. search needs) (λ c. search needs) (λ c κs. search needs) append-ranking-requires (λ c. search needs) (λ c. search needs) (λ c. search needs) (λ c. search needs) (λ c. search needs) (λ c. search needs) loop-again returns)
+    tie.close (tie.spec Inv-loop μ-loop loop-holds (λ c κs. search needs) (λ c. search needs) (λ c. search needs) (λ c κs. search needs)
+    (λ c. search needs) (λ c. search needs) (λ c. search needs) (λ c κs. search needs) (λ c. search needs) (λ c. search needs)
+    (λ c. search needs) (λ c. search needs) (λ c κs. search needs) append-ranking-requires (λ c. search needs) (λ c. search needs)
+    (λ c. search needs) (λ c. search needs) (λ c. search needs) (λ c. search needs) loop-again returns)
