@@ -56,6 +56,9 @@ module _ {A : Type 0} (d : A) where
   pub fill-next : (k : ℕ) (o : List A) (f : ℕ → A) (i : ℕ) (v : A) → v ≡ f i → i < k → Fill k o i f → Fill k (set o i v) (i + 1) f
   fill-next k o f i v w l F = record { size = length-set o i v ∙ F .size; shows = shows-next o f i v w (subst (λ z. i < z) (sym (F .size)) l) (F .shows) }
 
+  pub fill-at : {k n : ℕ} {o : List A} {f : ℕ → A} → Fill k o n f → (e : ℕ) → e < n → getD o e d ≡ f e
+  fill-at {k} {n} {o} {f} F e h = shows-at o f n e (F .shows) h
+
 -- arrays that show an instance number by number show the instance
 pub shown-is : (m ns nt : ℕ) (sv st rankS rankT sh : List ℕ) (tied : List Bool) (quotaS quotaT : List ℕ) (G : Instance)
     → m ≡ G .m → ns ≡ G .ns → nt ≡ G .nt → ((e : ℕ) → at sv e ≡ G .sv e) → ((e : ℕ) → at st e ≡ G .st e)

@@ -40,7 +40,8 @@ shifted f i = λ j. record {
 pub steps-more : (n : ℕ) (f : List ℕ) → stepsIn (suc n) f ≡ stepsIn n f ++ (stepAt f n ∷ [])
 unfolding stepsIn
 steps-more zero f = refl
-steps-more (suc n) f = ap (λ (l : List Step). stepAt f 0 ∷ l) (steps-more n (drop recordWidth f) ∙ ap (λ (s : Step). stepsIn n (drop recordWidth f) ++ (s ∷ [])) (shifted f n))
+steps-more (suc n) f = ap (λ (l : List Step). stepAt f 0 ∷ l)
+    (steps-more n (drop recordWidth f) ∙ ap (λ (s : Step). stepsIn n (drop recordWidth f) ++ (s ∷ [])) (shifted f n))
 
 -- a flat diary that holds records gives them
 held : (rs : List Record) (tail : List ℕ) → recordsIn (stepsIn (length rs) (gather numbers rs ++ tail)) ≡ rs

@@ -18,7 +18,8 @@ pub struct Outcome {
 // The finder: the trace, and what each kind of answer writes.
 pub fn find(g: Instance, left: &mut [u8], plan: &mut [u8], rival: &mut [u8]) -> Outcome
     requires { ⌜ Loaded g × (leftSize ≤ length (now left)) × (planSize ≤ length (now plan)) × (planSize ≤ length (now rival)) ⌝ }
-    ensures { λ r. ⌜ Finds (shownBy g) (now (left .entry)) (now (plan .entry)) (now (rival .entry)) r (now (left .exit)) (now (plan .exit)) (now (rival .exit)) ⌝ }
+    ensures { λ r. ⌜ Finds (shownBy g) (now (left .entry)) (now (plan .entry)) (now (rival .entry)) r
+        (now (left .exit)) (now (plan .exit)) (now (rival .exit)) ⌝ }
 {
     let sv = g.sv;
     let st = g.st;

@@ -1,4 +1,5 @@
--- The limits and sizes of document 01, each under a name of its own, also where two are equal: they are about different things.
+-- The limits and sizes of document 01, as W-204 of document 02 has changed them, each under a name of its own, also where two are equal: they
+-- are about different things.
 use Prim.Native.Nat.{ℕ}
 
 -- "a count byte 0 to 32"

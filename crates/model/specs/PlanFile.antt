@@ -45,7 +45,10 @@ shiftedPair = record { field = threeBytes; bytes = λ p. p .surveyor ∷ p .stan
 
 -- "an old one with shift 1"
 abbrev pub plainPair : PairLayout
-plainPair = record { field = λ bs. twoBytes bs then (λ w rest. accepted (record { surveyor = w .0; stand = w .1; shift = 1 }, rest)); bytes = λ p. p .surveyor ∷ p .stand ∷ [] }
+plainPair = record {
+  field = λ bs. twoBytes bs then (λ w rest. accepted (record { surveyor = w .0; stand = w .1; shift = 1 }, rest));
+  bytes = λ p. p .surveyor ∷ p .stand ∷ [];
+}
 
 -- the edges of a plan, ascending; the plan of some edges
 abbrev pub edgesIn : ℕ → (ℕ → Bool) → List ℕ

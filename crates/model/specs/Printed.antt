@@ -48,7 +48,7 @@ fateWord (suc (suc n)) = text "strike"
 abbrev pub diaryLine : Record → List ℕ
 diaryLine x = line (fateWord (x .fate) ∷ number (x .surveyor) ∷ number (x .stand) ∷ number (x .shift) ∷ number (x .rule) ∷ [])
 
--- "Pair lines are surveyor, stand; K counts them", after a line of a word and K
+-- "Pair lines are surveyor, stand; K counts them", with the shift after the stand, after a line of a word and K
 abbrev pub pairLine : Instance → ℕ → List ℕ
 pairLine G e = line (number (suc (G .sv e)) ∷ number (suc (G .st e)) ∷ number (G .sh e) ∷ [])
 

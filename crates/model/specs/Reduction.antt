@@ -144,14 +144,15 @@ rules G Z = record { number = 1; fate = fix; names = rule1 G Z }
     ∷ record { number = 7; fate = fix; names = rule7 G Z }
     ∷ []
 
--- a step record: "fate, surveyor, stand, rule", the pair as its edge
+-- a step record: "fate, surveyor, stand, rule", with "the shift after the stand" (W-204); surveyor, stand and shift as the edge that they name
 pub record Step : Type 0 where
   pub fate : Fate
   pub edge : ℕ
   pub rule : ℕ
 
--- "The first rule that names a pair acts on one pair, the lowest by surveyor, then stand": the step of one rule, on the lowest
--- remaining edge that it names, if it names one (edges are numbered by surveyor, then stand); and of the first rule that has one
+-- "The first rule that names a pair acts on one pair, the lowest by surveyor, then stand", and W-204: "ascending means by surveyor, stand,
+-- shift, and the rules pick in that order". The step of one rule, on the lowest remaining edge that it names, if it names one (edges are
+-- numbered in that order, Edges.antt); and of the first rule that has one
 unfoldable pub stepBy : Instance → State → Rule → Option Step
 stepBy G Z R = first (λ e. Z .rem e && R .names e) (λ e. record { fate = R .fate; edge = e; rule = R .number }) (range 0 (G .m))
 

@@ -117,8 +117,10 @@ rankingFits longest count R = listFits longest count (entries R) && ascending no
 -- the limit on a list's length may look at the other side's count
 unfoldable pub fitsBy : (ℕ → ℕ) → Roster → Bool
 fitsBy longest r = (quotasFit (r .quotasS) && quotasFit (r .quotasT))
-    && ((eqb (length (r .listsS)) (surveyorCount r) && (all? (listFits (longest (standCount r)) (standCount r)) (r .listsS) && leb (totalS (r .listsS)) entryLimit))
-    && ((eqb (length (r .listsT)) (standCount r) && (all? (rankingFits (longest (surveyorCount r)) (surveyorCount r)) (r .listsT) && leb (totalT (r .listsT)) entryLimit))
+    && ((eqb (length (r .listsS)) (surveyorCount r)
+    && (all? (listFits (longest (standCount r)) (standCount r)) (r .listsS) && leb (totalS (r .listsS)) entryLimit))
+    && ((eqb (length (r .listsT)) (standCount r)
+    && (all? (rankingFits (longest (surveyorCount r)) (surveyorCount r)) (r .listsT) && leb (totalT (r .listsT)) entryLimit))
     && bothOrNeither r))
 
 abbrev pub fits : Roster → Bool

@@ -1,5 +1,5 @@
--- Roster bytes read and written: section "Roster bytes" of document 01, and refusals 1 to 9 in its order: "Files are checked left
--- to right, each field in the order 1 to 6 (..); 7 after its section, then 9, then 8."
+-- Roster bytes read and written: section "Roster bytes" of document 01 with the shifts of W-204, and refusals 1 to 9 and 18 in their order:
+-- "Files are checked left to right, each field in the order 1 to 6 (..); 7 after its section, then 9, then 8", and 18 "straight after 4".
 use Prim.Native.Nat.{ℕ, _+_, _*_, _/_, _%_}
 use mathlib.Core.Bool.{not, cond, _||_}
 use mathlib.Core.List.{List, [], _∷_, _++_}
@@ -94,7 +94,8 @@ module _ (L : Layout) where
   readEntries other n bs = readEach (L .field) (entryCheck other) (λ seen x. seen ++ x ∷ []) n [] bs
 
   abbrev pub readTied : (other : ℕ) (strict : List Entry) → ℕ → List ℕ → Reading (List Entry × List ℕ)
-  readTied other strict n bs = readEach (L .field) (tiedCheck other) (λ s x. record { seen = s .seen ++ x ∷ []; last = x }) n (record { seen = strict; last = noEntry }) bs
+  readTied other strict n bs = readEach (L .field) (tiedCheck other) (λ s x. record { seen = s .seen ++ x ∷ []; last = x }) n
+      (record { seen = strict; last = noEntry }) bs
 
   -- "a length byte and stand numbers, best first"; a list has at most `longest` entries and numbers up to `other`
   abbrev pub readList : (longest other : ℕ) → List ℕ → Reading (List Entry × List ℕ)

@@ -114,7 +114,8 @@ pub field-at : (shifts : Bool) (f : List ℕ) (i : ℕ) → i + widthOf shifts �
     → pairLayout shifts .field (drop i f) ≡ accepted (namedAt shifts f i, drop (i + widthOf shifts) f)
 field-at shifts f i h =
     let e : drop i f ≡ getD f i 0 ∷ getD f (i + 1) 0 ∷ drop (i + 2) f =
-    one i (omega (arith, width-least shifts)) ∙ ap (λ z. getD f i 0 ∷ z) (one (i + 1) (omega (arith, width-least shifts)) ∙ ap (λ k. getD f (i + 1) 0 ∷ drop k f) (two i)) in
+    one i (omega (arith, width-least shifts))
+    ∙ ap (λ z. getD f i 0 ∷ z) (one (i + 1) (omega (arith, width-least shifts)) ∙ ap (λ k. getD f (i + 1) 0 ∷ drop k f) (two i)) in
     ap (pairLayout shifts .field) e ∙ go shifts h
   where
     one : (k : ℕ) → k < length f → drop k f ≡ getD f k 0 ∷ drop (k + 1) f

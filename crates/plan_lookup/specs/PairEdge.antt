@@ -73,10 +73,12 @@ module _ (m : ℕ) (sv st sh : List ℕ) (x y z s t : ℕ) (xs : x ≡ suc s) (y
           (λ l. S .none e (omega arith) k)
 
   -- not found from `from` on, but before it
-  pub found-before : (from r d : ℕ) → from ≤ m → Scanned from m sv st sh s t z r → m ≤ r → Scanned 0 from sv st sh s t z d → d < from → d ≡ low (Names sv st sh x y z) m
+  pub found-before : (from r d : ℕ) → from ≤ m → Scanned from m sv st sh s t z r
+      → m ≤ r → Scanned 0 from sv st sh s t z d → d < from → d ≡ low (Names sv st sh x y z) m
   found-before from r d l S h D k = low-unique (Ends sv st sh s t z) m d (omega arith) (λ e j. D .none e (omega arith) j) (λ j. D .hit k) ∙ sym low-ends
 
-  pub found-not : (from r d : ℕ) → from ≤ m → Scanned from m sv st sh s t z r → m ≤ r → Scanned 0 from sv st sh s t z d → from ≤ d → m ≡ low (Names sv st sh x y z) m
+  pub found-not : (from r d : ℕ) → from ≤ m → Scanned from m sv st sh s t z r → m ≤ r
+      → Scanned 0 from sv st sh s t z d → from ≤ d → m ≡ low (Names sv st sh x y z) m
   found-not from r d l S h D k = low-unique (Ends sv st sh s t z) m m (omega arith)
       (λ e j. by-cases (decLt e from) (λ i. D .none e (omega arith) (omega arith)) (λ i. S .none e (omega arith) (omega arith)))
       (λ j. absurd (omega arith)) ∙ sym low-ends

@@ -55,7 +55,8 @@ module _ {shifts : Bool} {G : Instance} {file : List ℕ} {r : PlanRead} (A : Re
   pub accepted-read : {n : ℕ} → r .answer ≡ Accepted n → (M : Plan) × (planIn shifts G file ≡ accepted M) × (flag (r .chosen) ≡ on M)
   accepted-read {n} q = go (planIn shifts G file) refl (sym q ∙ A .answer)
     where
-      go : (x : Reading Plan) → planIn shifts G file ≡ x → Accepted n ≡ answerOf (G .m) x → (M : Plan) × (planIn shifts G file ≡ accepted M) × (flag (r .chosen) ≡ on M)
+      go : (x : Reading Plan) → planIn shifts G file ≡ x → Accepted n ≡ answerOf (G .m) x
+          → (M : Plan) × (planIn shifts G file ≡ accepted M) × (flag (r .chosen) ≡ on M)
       go (accepted M) p e = (M, p, λ k d. A .chosen M p d k)
       go (refused k) p e = absurd (subst (λ a. T (isAccepted a)) e tt)
 

@@ -141,7 +141,8 @@ module _ (shifts : Bool) (m : ℕ) (sv st sh qs qt file : List ℕ) where
   at-few K v [] = omega arith
   at-few K v (e ∷ es) = omega (arith, bit-one (eqb (K .end e) v), at-few K v es)
 
-  pub used-few : (n k at′ from : ℕ) (chosen : List Bool) (edges us ut : List ℕ) → Invariant n k at′ from chosen edges us ut → (v : ℕ) → (at us v ≤ k) × (at ut v ≤ k)
+  pub used-few : (n k at′ from : ℕ) (chosen : List Bool) (edges us ut : List ℕ)
+      → Invariant n k at′ from chosen edges us ut → (v : ℕ) → (at us v ≤ k) × (at ut v ≤ k)
   used-few n k at′ from chosen edges us ut now v =
       let l = ap length (sym (now .named)) ∙ length-map (now .ps) (edgeOfPair G) ∙ now .count in
       (omega (arith, l, now .used-s v, at-few (surveyors G) v (now .es)), omega (arith, l, now .used-t v, at-few (stands G) v (now .es)))
@@ -220,7 +221,8 @@ module _ (shifts : Bool) (m : ℕ) (sv st sh qs qt file : List ℕ) where
           (a, b, nleb→lt (at qs (at sv e)) (at us (at sv e)) x, nleb→lt (at qt (at st e)) (at ut (at st e)) y))
 
       pub invariant-on : c ≡ 0 → k < 64 → m ≤ 1024
-          → Invariant n (k + 1) (at′ + w) (e + 1) (set chosen e true) (set edges k e) (set us (at sv e) (at us (at sv e) + 1)) (set ut (at st e) (at ut (at st e) + 1))
+          → Invariant n (k + 1) (at′ + w) (e + 1) (set chosen e true) (set edges k e)
+          (set us (at sv e) (at us (at sv e) + 1)) (set ut (at st e) (at ut (at st e) + 1))
       invariant-on z k64 m1024 = given (invariant-passed z) (λ (a, b, x, y). record {
         ps = now .ps ++ p ∷ [];
         es = now .es ++ e ∷ [];

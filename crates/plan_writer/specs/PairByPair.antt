@@ -58,7 +58,8 @@ module _ (sv st sh : List ℕ) (chosen : List Bool) (from : ℕ) (d : List ℕ) 
 
         grown : front e ++ pairOf (at sv e) (at st e) (at sh e) ≡ front (e + 1)
         grown = append-assoc (take from d) (pairsOf sv st sh (es e)) (pairOf (at sv e) (at st e) (at sh e))
-            ∙ ap (λ z. take from d ++ z) (sym (gather-append (λ e. pairOf (at sv e) (at st e) (at sh e)) (es e) (e ∷ [])) ∙ ap (pairsOf sv st sh) (sym (es-one e q)))
+            ∙ ap (λ z. take from d ++ z) (sym (gather-append (λ e. pairOf (at sv e) (at st e) (at sh e)) (es e) (e ∷ []))
+            ∙ ap (pairsOf sv st sh) (sym (es-one e q)))
 
 -- pairs written from the first place on
 pub pairs-onto : (sv st sh es d : List ℕ) → (take 0 d ++ pairsOf sv st sh es) ++ drop (pairWidth * length es + 0) d ≡ onto (pairsOf sv st sh es) d
@@ -86,10 +87,16 @@ written m sv st sh chosen before h k o count so ns nt rankS rankT tied quotaS qu
     ap (λ z. set z 0 k) so ∙ whole-front before (pairsOf sv st sh fs) k (omega arith) l ∙ ap (λ z. onto z before) (sym bs)
 
 -- an edge chosen below m: there is room for its pair
-pub room-for : (sv st sh : List ℕ) (chosen : List Bool) (from : ℕ) (d : List ℕ) (m e k : ℕ) → e < m → flag chosen e ≡ true → k ≡ length (edgesIn e (flag chosen))
+pub room-for : (sv st sh : List ℕ) (chosen : List Bool) (from : ℕ) (d : List ℕ) (m e k : ℕ)
+    → e < m → flag chosen e ≡ true → k ≡ length (edgesIn e (flag chosen))
     → pairWidth * length (edgesIn m (flag chosen)) + from ≤ length d → pairWidth * k + from + pairWidth ≤ length d
 room-for sv st sh chosen from d m e k h q count few =
-    omega (arith, keep-few (flag chosen) (e + 1) m (omega arith), ap length (es-one sv st sh chosen from d e q), length-append (edgesIn e (flag chosen)) (e ∷ []))
+    omega (
+      arith,
+      keep-few (flag chosen) (e + 1) m (omega arith),
+      ap length (es-one sv st sh chosen from d e q),
+      length-append (edgesIn e (flag chosen)) (e ∷ []),
+    )
 
 pub not-yes : (b : Bool) → not b ≡ true → b ≡ false
 not-yes true q = sym q

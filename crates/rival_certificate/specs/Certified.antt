@@ -29,8 +29,10 @@ unfolding nextPrice
 closed-is arcs d e n c few f r q h = record {
   first = λ i j il jl. f (i * 64 + j) (omega arith);
   next = λ i y j il yl jl.
-      let w : n ≤ loweredAt (cell d) (cell e) n i = nltb→le (loweredAt (cell d) (cell e) n i) n (low-is (λ i. ltb (loweredAt (cell d) (cell e) n i) n) n .1 i (omega arith)) in
-      let k : keptPrice (cell d i j) ≤ cell e i j = nltb→le (cell e i j) (keptPrice (cell d i j)) (low-is (λ j. ltb (cell e i j) (keptPrice (cell d i j))) n .1 j (omega arith)) in
+      let w : n ≤ loweredAt (cell d) (cell e) n i = nltb→le (loweredAt (cell d) (cell e) n i) n
+      (low-is (λ i. ltb (loweredAt (cell d) (cell e) n i) n) n .1 i (omega arith)) in
+      let k : keptPrice (cell d i j) ≤ cell e i j = nltb→le (cell e i j) (keptPrice (cell d i j))
+      (low-is (λ j. ltb (cell e i j) (keptPrice (cell d i j))) n .1 j (omega arith)) in
       omega (
         arith,
         f (i * 64 + j) (omega arith),
@@ -86,5 +88,6 @@ module _ (arcs terminals d : List ℕ) (n k : ℕ) (few : n ≤ 64) (goal : k �
       (λ x y. cond x (found.Closed l (levelLoop arcs n k l))
       (cond y (found.Open l (levelRow arcs terminals n k l) (levelColumn arcs terminals n k l))
       (cond (ltb (levelChange arcs n l) n) (levelsAt arcs terminals n k b (suc l)) found.Nothing)))
-      (le-ltb (levelLoop arcs n k l) n (omega (arith, no-loop l (omega arith)))) (le-ltb (levelRow arcs terminals n k l) n (omega (arith, no-row l (omega arith))))
+      (le-ltb (levelLoop arcs n k l) n (omega (arith, no-loop l (omega arith))))
+      (le-ltb (levelRow arcs terminals n k l) n (omega (arith, no-row l (omega arith))))
       ∙ either (ltb (levelChange arcs n l) n) (levelsAt arcs terminals n k b (suc l)) (certified b (suc l) (omega arith))

@@ -4,13 +4,12 @@ ghost use mathlib.Core.List.{[], _∷_, _++_};
 ghost use Prim.Native.Nat.{_≤_, _<_};
 ghost use lib.Dec.{ltb};
 ghost use Rattle.model.specs.Limits.{entryLimit, nodeLimit, planLimit};
-ghost use Rattle.theory_verdict.specs.Arcs.{fs, zs};
 ghost use Rattle.theory_verdict.specs.Ends.{fresh};
 ghost use Rattle.arrays.specs.Passes.{Low};
 ghost use Rattle.rival_layers.specs.Layers.{Small};
 ghost use Rattle.rival_walk.specs.Edges.{arcEdge};
 ghost use Rattle.rival_walk.specs.Marks.{Marked};
-ghost use Rattle.rival_walk.specs.Walks.{walkAt};
+ghost use Rattle.rival_walk.specs.Walks.{walkAt, Walked};
 ghost use Rattle.rival_end_edges.specs.Ways.{terminalBy};
 ghost use Rattle.rival_search.specs.TwoThresholds.{Bounded};
 ghost use Rattle.rival_exchange.specs.Swaps.{Marks, goneBy, comeBy};
@@ -81,16 +80,9 @@ pub fn walked(
     start: Swap,
 ) -> Swap
     requires { ⌜ (m ≤ entryLimit) × (n ≤ planLimit) × Low n (now es) entryLimit × Small n (now arcs) × (l < 64) × (i < n) × (j < n) ⌝ }
-    ensures { λ r. ⌜ Marked (start .gone)
-        (zs
+    ensures { λ r. ⌜ Walked start
         (walkAt (arcEdge m (now (sv .entry)) (now (st .entry)) (now (rs .entry)) (now (rt .entry)) (now (plan .entry))) (now (es .entry))
-        (now (arcs .entry)) n j l i))
-        (r .gone)
-        × Marked (start .come)
-        (fs
-        (walkAt (arcEdge m (now (sv .entry)) (now (st .entry)) (now (rs .entry)) (now (rt .entry)) (now (plan .entry))) (now (es .entry))
-        (now (arcs .entry)) n j l i))
-        (r .come) ⌝ }
+        (now (arcs .entry)) n j l i) r ⌝ }
 {
     let table = rival_columns::columns(n, arcs, j, l);
     rival_walk::walk(m, sv, st, rs, rt, plan, n, es, arcs, &table, l, i, j, start)

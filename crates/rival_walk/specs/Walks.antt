@@ -21,7 +21,12 @@ use Rattle.rival_tables.specs.Best.{best-named, keep-all}
 use Rattle.rival_layers.specs.Layers.{keptPrice, layerAt}
 use Rattle.rival_laws.specs.Walks.{layer-is}
 use Rattle.rival_columns.specs.Leads.{bidAt, leadAt}
+use Rattle.rival_walk.specs.declared.Swap.{Swap}
 use Rattle.rival_walk.specs.Marks.{listed, Marked, note, none-left}
+
+-- marked besides what was marked at the start: of a walk's edges, those of the plan as gone, those that are to come as come
+abbrev pub Walked : Swap → Steps → Swap → Type 0
+Walked start w r = Marked (start .gone) (zs w) (r .gone) × Marked (start .come) (fs w) (r .come)
 
 module _ (by : ℕ → ℕ → ℕ) (es arcs : List ℕ) (n j : ℕ) where
   -- the place that the walk of layer k + 1 leads to from i, n if it is that of layer k

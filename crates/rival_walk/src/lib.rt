@@ -2,13 +2,11 @@
 ghost use mathlib.Core.Path.{_≡_};
 ghost use Prim.Native.Nat.{_≤_, _<_};
 ghost use Rattle.model.specs.Limits.{entryLimit, planLimit};
-ghost use Rattle.theory_verdict.specs.Arcs.{fs, zs};
 ghost use Rattle.arrays.specs.Passes.{Low};
 ghost use Rattle.rival_layers.specs.Layers.{Small};
 ghost use Rattle.rival_columns.specs.Leads.{Column};
 ghost use Rattle.rival_walk.specs.Edges.{arcEdge};
-ghost use Rattle.rival_walk.specs.Marks.{Marked};
-ghost use Rattle.rival_walk.specs.Walks.{walkAt};
+ghost use Rattle.rival_walk.specs.Walks.{walkAt, Walked};
 
 // The edges that go, and those that come.
 pub struct Swap {
@@ -66,17 +64,11 @@ pub fn walk(
     j: usize,
     start: Swap,
 ) -> Swap
-    requires { ⌜ (m ≤ entryLimit) × (n ≤ planLimit) × Low n (now es) entryLimit × Small n (now arcs) × (l < 64) × (i < n) × (j < n) × Column (now arcs) n j l (now table) ⌝ }
-    ensures { λ r. ⌜ Marked (start .gone)
-        (zs
+    requires { ⌜ (m ≤ entryLimit) × (n ≤ planLimit) × Low n (now es) entryLimit × Small n (now arcs) × (l < 64) × (i < n)
+        × (j < n) × Column (now arcs) n j l (now table) ⌝ }
+    ensures { λ r. ⌜ Walked start
         (walkAt (arcEdge m (now (sv .entry)) (now (st .entry)) (now (rs .entry)) (now (rt .entry)) (now (plan .entry))) (now (es .entry))
-        (now (arcs .entry)) n j l i))
-        (r .gone)
-        × Marked (start .come)
-        (fs
-        (walkAt (arcEdge m (now (sv .entry)) (now (st .entry)) (now (rs .entry)) (now (rt .entry)) (now (plan .entry))) (now (es .entry))
-        (now (arcs .entry)) n j l i))
-        (r .come) ⌝ }
+        (now (arcs .entry)) n j l i) r ⌝ }
 {
     let mut gone = start.gone;
     let mut come = start.come;

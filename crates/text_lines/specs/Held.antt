@@ -56,7 +56,8 @@ diary-lines rs d = texts-gather diaryLine none rs (diaryAt (written rs d)) (λ i
 
 -- the pairs of some edges
 pair-at : (G : Instance) (es rest : List ℕ) (i : ℕ) → i < length es → pairAt (pairList G es ++ rest) i ≡ pairLine G (getD es i 0)
-pair-at G es rest i h = λ j. pairText (gather-first pairWidth (pairBytes G) 0 (λ x. refl) es rest i h (omega arith) j) (held 1 (omega arith) j) (held 2 (omega arith) j) 10
+pair-at G es rest i h = λ j. pairText (gather-first pairWidth (pairBytes G) 0 (λ x. refl) es rest i h (omega arith) j)
+    (held 1 (omega arith) j) (held 2 (omega arith) j) 10
   where
     held : (j : ℕ) → j < pairWidth → getD (pairList G es ++ rest) (pairWidth * i + j) 0 ≡ getD (pairBytes G (getD es i 0)) j 0
     held j k = gather-at pairWidth (pairBytes G) 0 (λ x. refl) es rest i j h k

@@ -35,7 +35,7 @@ fn put_pair(out: &mut [u8], at: usize, surveyor: u8, stand: u8, shift: u8, end: 
     text_numbers::put_field(out, next, shift as usize, end)
 }
 
-// "Diary lines are fate, surveyor, stand, rule"
+// "Diary lines are fate, surveyor, stand, rule", and the shift after the stand (W-204)
 fn put_record(
     out: &mut [u8],
     at: usize,
@@ -46,7 +46,8 @@ fn put_record(
     rule: u8,
 ) -> usize
     requires { ⌜ at + diaryLineSize ≤ length (now out) ⌝ }
-    ensures { λ r. ⌜ Appended (now (out .entry)) at (diaryLine (record { fate = fate; surveyor = surveyor; stand = stand; shift = shift; rule = rule })) (now (out .exit)) r ⌝ }
+    ensures { λ r. ⌜ Appended (now (out .entry)) at
+        (diaryLine (record { fate = fate; surveyor = surveyor; stand = stand; shift = shift; rule = rule })) (now (out .exit)) r ⌝ }
 {
     let next = put_fate(out, at, fate);
     let next = put_pair(out, next, surveyor, stand, shift, b' ');
@@ -76,7 +77,7 @@ pub fn put_diary(out: &mut [u8], at: usize, flat: &[u8], n: usize) -> usize
     next
 }
 
-// "Pair lines are surveyor, stand": the lines of the first pairs of some pair bytes
+// "Pair lines are surveyor, stand", and the shift after the stand (W-204): the lines of the first pairs of some pair bytes
 pub fn put_pairs(out: &mut [u8], at: usize, pairs: &[u8], n: usize) -> usize
     requires { ⌜ (pairWidth * n ≤ length (now pairs)) × (at + pairLineSize * n ≤ length (now out)) ⌝ }
     ensures { λ r. ⌜ Appended (now (out .entry)) at (texts (pairAt (now (pairs .entry))) n) (now (out .exit)) r ⌝ }

@@ -97,10 +97,10 @@ module _ (r : Roster) (ok : T (fits r)) (M : Plan) where
         ∙ cells-cong (kept J) (kept r) ns (standCount r) (λ i j k l. ap (λ b. b && had i j k) (listed-before r q list ok i j k l))
         ∙ sym old-pairs)
 
-    pub carried-joined-bytes : planBytes (instanceOf J) (carried G (instanceOf J) M) ≡ planBytes G M
+    carried-joined-bytes : planBytes (instanceOf J) (carried G (instanceOf J) M) ≡ planBytes G M
     carried-joined-bytes = same-bytes (instanceOf J) G (carried G (instanceOf J) M) M carried-joined
 
-    pub carried-joined-within : M ∈ plansOf G → carried G (instanceOf J) M ∈ plansOf (instanceOf J)
+    carried-joined-within : M ∈ plansOf G → carried G (instanceOf J) M ∈ plansOf (instanceOf J)
     unfolding carried instanceOf joined
     carried-joined-within m =
         let H = instanceOf J in
@@ -147,10 +147,10 @@ module _ (r : Roster) (ok : T (fits r)) (M : Plan) where
         ∙ cells-cong (kept D) (λ i j k. listed r i j k && stays i j k) (surveyorCount r) (standCount r) (λ i j k l. kept-stays i j k)
         ∙ sym (pairs-cells r stays rest (λ e l. on-rest e l ∙ ap (λ b. b && not (eqb (G .sv e) v)) (sym (on-had e l)))))
 
-    pub carried-departed-bytes : planBytes (instanceOf D) (carried G (instanceOf D) M) ≡ planBytes G rest
+    carried-departed-bytes : planBytes (instanceOf D) (carried G (instanceOf D) M) ≡ planBytes G rest
     carried-departed-bytes = same-bytes (instanceOf D) G (carried G (instanceOf D) M) rest carried-departed
 
-    pub carried-departed-within : M ∈ plansOf G → carried G (instanceOf D) M ∈ plansOf (instanceOf D)
+    carried-departed-within : M ∈ plansOf G → carried G (instanceOf D) M ∈ plansOf (instanceOf D)
     unfolding carried instanceOf departed
     carried-departed-within m =
         let H = instanceOf D in

@@ -24,15 +24,15 @@ zero-cond true n t e = absurd t
 zero-cond false n t e = e
 
 -- a check that goes on where a test says so, and else refuses by n
-pub cond-first : (b : Bool) (n : ℕ) → cond b 0 (suc n) ≡ 0 → T b
+cond-first : (b : Bool) (n : ℕ) → cond b 0 (suc n) ≡ 0 → T b
 cond-first true n e = tt
 cond-first false n e = absurd (omega arith)
 
-pub first-cond : (b : Bool) (n : ℕ) → T b → cond b 0 (suc n) ≡ 0
+first-cond : (b : Bool) (n : ℕ) → T b → cond b 0 (suc n) ≡ 0
 first-cond true n t = refl
 first-cond false n t = absurd t
 
-pub same-sym : (x y : Entry) → same x y ≡ same y x
+same-sym : (x y : Entry) → same x y ≡ same y x
 same-sym x y = ap₂ _&&_ (eqb-sym (x .number) (y .number)) (eqb-sym (x .shift) (y .shift))
 
 -- ---- none of the entries is among those before it, as a reader meets them

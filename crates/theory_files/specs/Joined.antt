@@ -159,7 +159,7 @@ module _ (r : Roster) (q : ℕ) (list : List Entry) (ok : T (fits r)) where
       one-plus j = omega arith
 
   -- a stand's list gains the joiner's entries there
-  pub joined-length : (j : ℕ) → j < nt → length (entries (listT h j)) ≡ length (entries (listT r j)) + length (joinerAt (suc ns) list (suc j))
+  joined-length : (j : ℕ) → j < nt → length (entries (listT h j)) ≡ length (entries (listT r j)) + length (joinerAt (suc ns) list (suc j))
   joined-length j l =
       let ys = joinerAt (suc ns) list (suc j) in
       ap (λ R. length (entries R)) (ranking-at j l) ∙ ap length (entries-with ys (listT r j)) ∙ length-append (entries (listT r j)) ys

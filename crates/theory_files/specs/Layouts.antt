@@ -48,7 +48,7 @@ pub record PairAgrees (L : PairLayout) : Type 0 where
   pub width : ℕ
   pub wide : (p : Named) → length (L .bytes p) ≡ width
 
-pub threeBytes-read : (bs : List ℕ) {p : Named} {rest : List ℕ} → threeBytes bs ≡ accepted (p, rest) → bs ≡ p .surveyor ∷ p .stand ∷ p .shift ∷ rest
+threeBytes-read : (bs : List ℕ) {p : Named} {rest : List ℕ} → threeBytes bs ≡ accepted (p, rest) → bs ≡ p .surveyor ∷ p .stand ∷ p .shift ∷ rest
 threeBytes-read [] e = refused-not e
 threeBytes-read (x ∷ []) e = refused-not e
 threeBytes-read (x ∷ y ∷ []) e = refused-not e

@@ -27,7 +27,7 @@ pub →first : (a b : ℕ) (t : Bool) → First a b (T t) → T (first a b t)
 abbrev pub InOrder : Entry → Entry → Type 0
 InOrder x y = First (x .number) (y .number) (x .shift < y .shift)
 
-pub before→ : (x y : Entry) → T (before x y) → InOrder x y
+before→ : (x y : Entry) → T (before x y) → InOrder x y
 before→ x y t = ⊎-map (λ l. l) (λ (e, u). (e, ltb→lt (x .shift) (y .shift) u)) (first→ (x .number) (y .number) (ltb (x .shift) (y .shift)) t)
 
 pub →before : (x y : Entry) → InOrder x y → T (before x y)

@@ -53,7 +53,7 @@ not-both p q (inr (e, inr (b, k))) (inr (d, inr (c, l))) = omega arith
 abbrev pub Numbered : Instance → Type 0
 Numbered G = (d e : ℕ) → d < e → e < G .m → Lower (nameOf G d) (nameOf G e)
 
-pub roster-numbered : (r : Roster) → Numbered (instanceOf r)
+roster-numbered : (r : Roster) → Numbered (instanceOf r)
 unfolding instanceOf
 roster-numbered r d e l k = named (edgeAt (edgesOf r) d) (edgeAt (edgesOf r) e) (later (edgesOf r) (edges-ascend r) d e l k)
   where
@@ -170,7 +170,7 @@ module _ (G : Instance) where
             (λ t. given (ltb→lt a (suc b) t) (λ h. le→leb a b (omega arith)))
 
   -- ---- the check is the documents'
-  pub check-is : Numbered G → (qs : List Named) → Known qs → (p : Named) → pairCheck G (after qs) p ≡ refusalOf qs p
+  check-is : Numbered G → (qs : List Named) → Known qs → (p : Named) → pairCheck G (after qs) p ≡ refusalOf qs p
   check-is N qs k p = by-cases (decLt (edgeOfPair G p) (G .m))
       (λ h. ap₂ (λ a b. cond a 10 (cond b 11
       (cond (full (surveyors G) (after qs .seen) (edgeOfPair G p) || full (stands G) (after qs .seen) (edgeOfPair G p)) 12 0)))

@@ -22,13 +22,13 @@ use Rattle.model.specs.RosterFile.{readCount}
 use Rattle.model.specs.Roster.{elem}
 use Rattle.model.specs.Instance.{Instance, Side, surveyors, stands}
 use Rattle.model.specs.Plans.{Plan, on, withinSide, within, plansOf}
-use Rattle.model.specs.PlanFile.{Named, nameOf, sameName, PairLayout, shiftedPair, plainPair, edgesIn, pairListBy, planBytesBy, pairList}
+use Rattle.model.specs.PlanFile.{Named, nameOf, sameName, PairLayout, shiftedPair, edgesIn, pairListBy, planBytesBy, pairList}
 use Rattle.model.specs.PlanFile.{planBytes, edgeOfPair, full, Pairs, pairCheck, withPair, readPairsBy, planOfPairs, readPlanBy, readPlan}
 use Rattle.theory_instance.specs.Lawful.{Lawful, Matching}
 use Rattle.theory_instance.specs.Within.{within-side, within-matching, matching-within}
 use Rattle.theory_files.specs.Reads.{isBytes, Reads, Passes, each, read-value, read-rest, then-read, whole-accepted}
 use Rattle.theory_files.specs.Entries.{cond-zero, zero-cond}
-use Rattle.theory_files.specs.Layouts.{PairAgrees, in-shiftedPair, in-plainPair}
+use Rattle.theory_files.specs.Layouts.{PairAgrees, in-shiftedPair}
 use Rattle.theory_files.specs.Sections.{alike, counted}
 use Rattle.theory_files.specs.Chosen.{on-planOf, planOf-length, planOf-on, planOf-cong, edgesIn-cong, plan-length, plan-within}
 use Rattle.theory_files.specs.Chosen.{within-plan, From, Below, keep-from, keep-below, edges-of-elem, elem-edgesIn, atNode, deg-atNode}
@@ -51,7 +51,7 @@ name-parts p q t =
       eqb→eq (p .shift) (q .shift) (and-r b c u),
     ))
 
-pub same-name : (p q : Named) → (p .surveyor ≡ q .surveyor) × (p .stand ≡ q .stand) × (p .shift ≡ q .shift) → p ≡ q
+same-name : (p q : Named) → (p .surveyor ≡ q .surveyor) × (p .stand ≡ q .stand) × (p .shift ≡ q .shift) → p ≡ q
 same-name p q (a, b, c) = λ i. record { surveyor = a i; stand = b i; shift = c i }
 
 module _ (G : Instance) where
@@ -362,9 +362,6 @@ module _ (G : Instance) where
 
     pub plan-read-matching : Lawful G → Matching G (on M)
     plan-read-matching law = plan-read-matching-by shiftedPair in-shiftedPair bs M isB e law
-
-    pub plan-accepted-count : 1 ≤ length bs
-    plan-accepted-count = plan-accepted-count-by shiftedPair in-shiftedPair bs M isB e
 
     -- at most 193 bytes
     pub plan-accepted-size : length bs ≤ planSize

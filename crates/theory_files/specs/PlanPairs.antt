@@ -6,7 +6,7 @@ use mathlib.Core.List.{List, [], _∷_, _++_, append-nil}
 use lib.Seq.{append-snoc}
 use borrow.Author.Tests.{lt-ltb, le-ltb}
 use Rattle.model.specs.Limits.{planLimit}
-use Rattle.model.specs.Reading.{Reading, accepted, refused, _then_, refuseBy, readEach, refused, whole}
+use Rattle.model.specs.Reading.{Reading, accepted, refused, _then_, refuseBy, readEach, whole}
 use Rattle.model.specs.Instance.{Instance}
 use Rattle.model.specs.PlanFile.{Named, PairLayout, Pairs, pairCheck, withPair, readPairsBy, planOfPairs, readPlanBy}
 use Rattle.model.specs.Plans.{Plan}
@@ -36,8 +36,8 @@ module _ (L : PairLayout) (G : Instance) where
   plan-starts n bs h = ap (λ b. whole (cond b (refused 2) (accepted (n, bs)) then readPairsBy L G then finish [])) (le-ltb planLimit n h)
 
   abbrev onward : ℕ → Pairs → Named → List ℕ → Reading (List Named × List ℕ)
-  onward n s p rest = refuseBy (pairCheck G s p) (readEach (L .field) (pairCheck G) (withPair G) n (withPair G s p) rest then (λ xs rest.
-      accepted (p ∷ xs, rest)))
+  onward n s p rest = refuseBy (pairCheck G s p)
+      (readEach (L .field) (pairCheck G) (withPair G) n (withPair G s p) rest then (λ xs rest. accepted (p ∷ xs, rest)))
 
   -- the field is cut short
   pub left-cut : (n : ℕ) (s : Pairs) (bs : List ℕ) (ps : List Named) → L .field bs ≡ refused 1 → pairsLeft (suc n) s bs ps ≡ refused 1

@@ -16,7 +16,7 @@ use Rattle.lists.specs.Test.{given}
 use Rattle.model.specs.Limits.{nodeLimit, entryLimit, listLimit, inputSize}
 use Rattle.model.specs.Reading.{Reading, accepted, refused, _then_, refuseIf, refuseBy, byte, twoBytes, readEach, whole}
 use Rattle.model.specs.Roster.{Entry, Ranking, Roster, noEntry, totalS, totalT}
-use Rattle.model.specs.RosterFile.{Layout, shifted, plain, readCount, readWideCount, quotaCheck, readQuotas, readNodes, entryCheck, readEntries}
+use Rattle.model.specs.RosterFile.{Layout, shifted, readCount, readWideCount, quotaCheck, readQuotas, readNodes, entryCheck, readEntries}
 use Rattle.model.specs.RosterFile.{tiedCheck, readTied, readList, readRanking, readMany, readSection, readSections, oneSided, readRosterBy}
 use Rattle.model.specs.RosterFile.{readRoster}
 
@@ -127,7 +127,7 @@ abbrev rankingsReach : ℕ → ℕ
 rankingsReach w = 2 + rankingReach w * nodeLimit
 
 -- of the whole
-abbrev pub rosterReach : ℕ → ℕ
+abbrev rosterReach : ℕ → ℕ
 rosterReach w = nodesReach + (nodesReach + (listsReach w + rankingsReach w))
 
 reach-nodes : Reaches nodesReach (λ qs. length qs ≤ nodeLimit) readNodes

@@ -18,7 +18,7 @@ use Rattle.model.specs.Roster.{listedBack, alike, shifts, bothOrNeither, listFi
 use Rattle.model.specs.Edges.{Edge, position, edgesOf, noEdge, edgeAt, instanceOf}
 use Rattle.theory_instance.specs.Lawful.{Lawful}
 use Rattle.theory_files.specs.Rosters.{fits-parts}
-use Rattle.theory_files.specs.Position.{same→eq, position-pos, position-in, position-out, position-≤, position-same}
+use Rattle.theory_files.specs.Position.{same→eq, position-in, position-out, position-≤, position-same}
 use Rattle.theory_files.specs.PlanFiles.{Fileable}
 use Rattle.theory_files.specs.Ascending.{IsEdge, edge-is, edges-ascend, ends-differ}
 
@@ -66,7 +66,7 @@ module _ (r : Roster) (ok : T (fits r)) where
   ranking-fits j h = given (fits-parts r ok) (λ ((q, u, v, (l, a, k)), n).
       all-∈ (rankingFits listLimit ns) (r .listsT) a (listT r j) (getD-∈ (r .listsT) j (record { strict = []; tied = [] }) (omega arith)))
 
-  pub back : (i j k : ℕ) → i < ns → j < nt → 1 ≤ k → k ≤ shiftLimit → T (listed r i j k) → T (listedBack r i j k)
+  back : (i j k : ℕ) → i < ns → j < nt → 1 ≤ k → k ≤ shiftLimit → T (listed r i j k) → T (listedBack r i j k)
   unfolding bothOrNeither
   back i j k hi hj h₁ h₂ t = given (fits-parts r ok) (λ (p, n). same-bool (listed r i j k) (listedBack r i j k)
       (all-∈ (λ k. alike (listed r i j k) (listedBack r i j k)) shifts
@@ -74,7 +74,7 @@ module _ (r : Roster) (ok : T (fits r)) where
       (all-∈ (λ i. all? (λ j. all? (λ k. alike (listed r i j k) (listedBack r i j k)) shifts) (upTo nt)) (upTo ns) n i (upTo-∈ ns i hi)) j
       (upTo-∈ nt j hj)) k (range-∈ shiftLimit 1 k h₁ (omega arith))) t)
 
-  pub list-length : (i : ℕ) → i < ns → length (listS r i) ≤ listLimit
+  list-length : (i : ℕ) → i < ns → length (listS r i) ≤ listLimit
   list-length i h = leb→le (length (listS r i)) listLimit (and-l (leb (length (listS r i)) listLimit) _ (list-fits i h))
 
   abbrev S : ℕ → List Entry
@@ -196,14 +196,6 @@ module _ (r : Roster) (ok : T (fits r)) where
       below = λ d e h k s t n. tie-below (edgeAt es d) (edgeAt es e) (at d h) (at e k) s t n;
     };
   }
-
-  -- ranks are counted from 1
-  pub ranks-from-one : (e : ℕ) → e < instanceOf r .m → (1 ≤ instanceOf r .rankS e) × (1 ≤ instanceOf r .rankT e)
-  unfolding instanceOf
-  ranks-from-one e h = let a = at e h in (
-    subst (λ z. 1 ≤ z .rankS) (sym (a .is)) (position-pos (ofS (edgeAt es e) a) (listS r (a .i))),
-    subst (λ z. 1 ≤ z .rankT) (sym (a .is)) (position-pos (ofT (edgeAt es e) a) (S (a .j))),
-  )
 
   -- a quota is within its limit; where there is no node it is 0
   quota-small : (qs : List ℕ) → T (all? (λ q. leb q quotaLimit) qs) → (v : ℕ) → getD qs v 0 ≤ quotaLimit

@@ -11,13 +11,13 @@ use lib.Dec.{T, eqb, leb, leb→le, eqb→eq}
 use Rattle.lists.specs.Test.{given, T-true, true-T, and-l, and-r, and-i, eq→eqb}
 use Rattle.lists.specs.Keep.{all?, gather}
 use Rattle.model.specs.Limits.{nodeLimit, entryLimit, listLimit, rosterSize}
-use Rattle.model.specs.Reading.{Reading, accepted, _then_, Reading, accepted, refused, whole}
+use Rattle.model.specs.Reading.{Reading, accepted, _then_, refused, whole}
 use Rattle.model.specs.Roster.{Entry, Ranking, Roster, entries, surveyorCount, standCount, totalS, totalT, quotasFit, listFits, rankingFits}
 use Rattle.model.specs.Roster.{bothOrNeither, fitsBy, fits}
-use Rattle.model.specs.RosterFile.{Layout, shifted, plain, readNodes, readList, readRanking, readSection, readSections, oneSided, readRosterBy}
+use Rattle.model.specs.RosterFile.{Layout, shifted, readNodes, readList, readRanking, readSection, readSections, oneSided, readRosterBy}
 use Rattle.model.specs.RosterFile.{readRoster, wideBytes, listBytes, entriesBytes, rankingBytes, writeRosterBy, writeRoster}
 use Rattle.theory_files.specs.Reads.{isBytes, rest-bytes, read-value, read-rest, then-read, accepted-value, refused-not, whole-accepted}
-use Rattle.theory_files.specs.Layouts.{Agrees, in-shifted, in-plain}
+use Rattle.theory_files.specs.Layouts.{Agrees, in-shifted}
 use Rattle.theory_files.specs.Sections.{nodes, held, listHeld, rankingHeld, list, ranking, SectionFits, section}
 
 -- ---- within the limits, but for the pairs that one side alone lists
@@ -60,20 +60,17 @@ fits-parts-by longest r t =
 pub parts-fit-by : (longest : ℕ → ℕ) (r : Roster) → SectionsFit longest r → T (bothOrNeither r) → T (fitsBy longest r)
 unfolding fitsBy
 parts-fit-by longest r (a, b, (c, d, e), (f, g, h)) n =
+    let countS = eqb (length (r .listsS)) (surveyorCount r) in
+    let fitS = all? (listFits (longest (standCount r)) (standCount r)) (r .listsS) in
+    let fewS = leb (totalS (r .listsS)) entryLimit in
+    let countT = eqb (length (r .listsT)) (standCount r) in
+    let fitT = all? (rankingFits (longest (surveyorCount r)) (surveyorCount r)) (r .listsT) in
+    let fewT = leb (totalT (r .listsT)) entryLimit in
     let c′ = eq→eqb (length (r .listsS)) (surveyorCount r) c in
     let f′ = eq→eqb (length (r .listsT)) (standCount r) f in
     and-i (quotasFit (r .quotasS) && quotasFit (r .quotasT)) _ (and-i (quotasFit (r .quotasS)) (quotasFit (r .quotasT)) a b)
-    (and-i (eqb (length (r .listsS)) (surveyorCount r)
-    && (all? (listFits (longest (standCount r)) (standCount r)) (r .listsS) && leb (totalS (r .listsS)) entryLimit)) _
-    (and-i (eqb (length (r .listsS)) (surveyorCount r)) (all? (listFits (longest (standCount r)) (standCount r)) (r .listsS)
-    && leb (totalS (r .listsS)) entryLimit) c′
-    (and-i (all? (listFits (longest (standCount r)) (standCount r)) (r .listsS)) (leb (totalS (r .listsS)) entryLimit) d e))
-    (and-i (eqb (length (r .listsT)) (standCount r)
-    && (all? (rankingFits (longest (surveyorCount r)) (surveyorCount r)) (r .listsT) && leb (totalT (r .listsT)) entryLimit)) (bothOrNeither r)
-    (and-i (eqb (length (r .listsT)) (standCount r)) (all? (rankingFits (longest (surveyorCount r)) (surveyorCount r)) (r .listsT)
-    && leb (totalT (r .listsT)) entryLimit) f′
-    (and-i (all? (rankingFits (longest (surveyorCount r)) (surveyorCount r)) (r .listsT)) (leb (totalT (r .listsT)) entryLimit) g h))
-    n))
+    (and-i (countS && (fitS && fewS)) _ (and-i countS (fitS && fewS) c′ (and-i fitS fewS d e))
+    (and-i (countT && (fitT && fewT)) (bothOrNeither r) (and-i countT (fitT && fewT) f′ (and-i fitT fewT g h)) n))
 
 -- the bytes of the four sections, one behind the other and before the rest
 regroup : (a b c d rest : List ℕ) → a ++ (b ++ (c ++ (d ++ rest))) ≡ (a ++ (b ++ (c ++ d))) ++ rest

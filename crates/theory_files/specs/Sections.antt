@@ -39,8 +39,8 @@ above-not limit n t = le→nltb limit n (leb→le n limit t)
 
 -- ---- a count byte, and as many of something behind it
 pub counted : (limit : ℕ) {A : Type 0} {body : ℕ → List ℕ → Reading (A × List ℕ)} {write : A → List ℕ} {size : A → ℕ} {P : A → Type 0}
-    → ((n : ℕ) → Reads (body n) write (λ a. (size a ≡ n) × P a)) → Reads (λ bs. readCount limit bs then body) (λ a. size a ∷ write a) (λ a.
-    T (leb (size a) limit) × P a)
+    → ((n : ℕ) → Reads (body n) write (λ a. (size a ≡ n) × P a))
+    → Reads (λ bs. readCount limit bs then body) (λ a. size a ∷ write a) (λ a. T (leb (size a) limit) × P a)
 counted limit {A} {body} {write} {size} {P} R = record {
   back = λ bs a rest t e.
       given (then-read (readCount limit bs) body e) (λ (n, mid, e₁, h₁).

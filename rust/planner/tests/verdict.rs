@@ -341,7 +341,7 @@ fn a_beaten_plan_gives_way_to_its_rival() {
 fn plans_with_room_up_to_the_limits() {
     let mut random = Random::new(75);
     let mut tally = Tally::default();
-    for _ in 0..6_000 {
+    for _ in 0..15_000 {
         let shape = random::any_shape(&mut random);
         let roster = random::roster(&mut random, &shape);
         let plan = random::maximal_plan(&mut random, &roster);

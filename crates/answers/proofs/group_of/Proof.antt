@@ -65,7 +65,8 @@ returns : tie.Need-returns
 returns c = is-content (c .before .before .before .before .args .number) (omega arith) (c .if3 .taken)
 
 returns-2 : tie.Need-returns-2
-returns-2 c = is-plan (c .before .before .before .before .before .args .number) (omega (arith, c .before .before .before .before .match .rest .1)) (c .if4 .taken)
+returns-2 c = is-plan (c .before .before .before .before .before .args .number)
+    (omega (arith, c .before .before .before .before .match .rest .1)) (c .if4 .taken)
 
 returns-3 : tie.Need-returns-3
 returns-3 c = is-desk (c .before .before .before .before .before .before .args .number) (omega arith) (c .if5 .taken)

@@ -15,33 +15,15 @@ Inv-loop n es end d₀ k₀ d k = (k ≤ n) × (length d ≡ 32) × AtNodes end 
 abbrev μ-loop : tie.MeasureT-loop
 μ-loop n es end d₀ k₀ d k = n - k
 
--- the node of the edge at k
-inside : (c : tie.After-v Inv-loop μ-loop) → let l = c .before .before .before in at (l .before .args .end .now) (at (l .before .args .es .now) (l .loop .k)) < 32
-inside c = let l = c .before .before .before in l .before .pre .nodes (l .loop .k) (omega arith)
+-- the edge at k, and its node
+edge : (c : tie.In-loop Inv-loop μ-loop) → at (c .before .before .args .es .now) (c .before .loop .k) < 1024
+edge c = c .before .before .pre .edges (c .before .loop .k) (omega arith)
+
+inside : (c : tie.In-loop Inv-loop μ-loop) → let a = c .before .before .args in at (a .end .now) (at (a .es .now) (c .before .loop .k)) < 32
+inside c = c .before .before .pre .nodes (c .before .loop .k) (omega arith)
 
 loop-holds : tie.Need-loop-holds Inv-loop μ-loop
 loop-holds c = (zero-le, length-replicate {A = ℕ} 32 0, λ v. zeros 32 v)
-
-mul-e : tie.Need-mul-e Inv-loop μ-loop
-mul-e c = omega (arith, c .before .before .pre .few)
-
-element-copy-out-e : tie.Need-element-copy-out-e Inv-loop μ-loop
-element-copy-out-e c = omega (arith, c .before .before .pre .few)
-
-cast-e : tie.Need-cast-e Inv-loop μ-loop
-cast-e c = let l = c .before .before in omega (arith, l .before .pre .edges (l .loop .k) (omega arith))
-
-element-copy-out-v : tie.Need-element-copy-out-v Inv-loop μ-loop
-element-copy-out-v c = let l = c .before .before in l .before .pre .edges (l .loop .k) (omega arith)
-
-cast-v : tie.Need-cast-v Inv-loop μ-loop
-cast-v c = omega (arith, inside c)
-
-mul-d : tie.Need-mul-d Inv-loop μ-loop
-mul-d c = omega (arith, inside c)
-
-array-read-d : tie.Need-array-read-d Inv-loop μ-loop
-array-read-d c = inside c
 
 add-d : tie.Need-add-d Inv-loop μ-loop
 add-d c =
@@ -53,19 +35,13 @@ add-d c =
       l .before .pre .few,
     )
 
-array-write-d : tie.Need-array-write-d Inv-loop μ-loop
-array-write-d c = inside c
-
-add-k : tie.Need-add-k Inv-loop μ-loop
-add-k c = omega (arith, c .before .before .before .before .pre .few)
-
 loop-again : tie.Need-loop-again Inv-loop μ-loop
 loop-again c =
     let l = c .before .before .before in
     let a = l .before .args in (
       omega arith,
       simp length-set (l .loop .inv .1),
-      nodes-next (a .end .now) (a .es .now) (l .loop .d) (l .loop .k) (omega (arith, inside c)) (l .loop .inv .2),
+      nodes-next (a .end .now) (a .es .now) (l .loop .d) (l .loop .k) (omega (arith, inside (c .before .before))) (l .loop .inv .2),
     )
 
 returns : tie.Need-returns Inv-loop μ-loop
@@ -77,5 +53,7 @@ returns c =
 
 pub held-spec : {M : Type 1} → statement M
 held-spec =
-    tie.close (tie.spec Inv-loop μ-loop loop-holds mul-e element-copy-out-e cast-e element-copy-out-v cast-v mul-d array-read-d add-d array-write-d add-k
-    (λ c. omega arith) loop-again returns)
+    tie.close (tie.spec Inv-loop μ-loop loop-holds (λ c. omega (arith, c .before .before .pre .few)) (λ c. omega (arith, c .before .before .pre .few))
+    (λ c. omega (arith, edge (c .before))) (λ c. edge (c .before)) (λ c. omega (arith, inside (c .before .before)))
+    (λ c. omega (arith, inside (c .before .before))) (λ c. inside (c .before .before)) add-d (λ c. inside (c .before .before))
+    (λ c. omega (arith, c .before .before .before .before .pre .few)) (λ c. omega arith) loop-again returns)

@@ -18,45 +18,21 @@ Inv-loop n es end rank w₀ k₀ w k = (k ≤ n) × (length w ≡ 32) × WorstOf
 abbrev μ-loop : tie.MeasureT-loop
 μ-loop n es end rank w₀ k₀ w k = n - k
 
--- the node of the edge at k
-inside : (c : tie.After-v Inv-loop μ-loop) → let l = c .before .before .before in at (l .before .args .end .now) (at (l .before .args .es .now) (l .loop .k)) < 32
-inside c = let l = c .before .before .before in l .before .pre .nodes (l .loop .k) (omega arith)
+-- the edge at k, and its node
+edge : (c : tie.In-loop Inv-loop μ-loop) → at (c .before .before .args .es .now) (c .before .loop .k) < 1024
+edge c = c .before .before .pre .edges (c .before .loop .k) (omega arith)
+
+inside : (c : tie.In-loop Inv-loop μ-loop) → let a = c .before .before .args in at (a .end .now) (at (a .es .now) (c .before .loop .k)) < 32
+inside c = c .before .before .pre .nodes (c .before .loop .k) (omega arith)
 
 loop-holds : tie.Need-loop-holds Inv-loop μ-loop
 loop-holds c = (zero-le, length-replicate {A = ℕ} 32 0, λ v x. ap (ltb x) (zeros 32 v) ∙ le-ltb x 0 zero-le)
-
-mul-e : tie.Need-mul-e Inv-loop μ-loop
-mul-e c = omega (arith, c .before .before .pre .few)
-
-element-copy-out-e : tie.Need-element-copy-out-e Inv-loop μ-loop
-element-copy-out-e c = omega (arith, c .before .before .pre .few)
-
-cast-e : tie.Need-cast-e Inv-loop μ-loop
-cast-e c = let l = c .before .before in omega (arith, l .before .pre .edges (l .loop .k) (omega arith))
-
-element-copy-out-v : tie.Need-element-copy-out-v Inv-loop μ-loop
-element-copy-out-v c = let l = c .before .before in l .before .pre .edges (l .loop .k) (omega arith)
-
-cast-v : tie.Need-cast-v Inv-loop μ-loop
-cast-v c = omega (arith, inside c)
-
-array-read-raised : tie.Need-array-read-raised Inv-loop μ-loop
-array-read-raised c = inside c
-
-element-copy-out-raised : tie.Need-element-copy-out-raised Inv-loop μ-loop
-element-copy-out-raised c = let l = c .before .before .before in l .before .pre .edges (l .loop .k) (omega arith)
-
-array-write-w : tie.Need-array-write-w Inv-loop μ-loop
-array-write-w c = inside (c .before .before)
-
-add-k : tie.Need-add-k Inv-loop μ-loop
-add-k c = omega (arith, c .before .before .before .before .before .before .pre .few)
 
 loop-again : tie.Need-loop-again Inv-loop μ-loop
 loop-again c =
     let l = c .before .before .before .before .before in
     let a = l .before .args in
-    let i = inside (c .before .before) in (
+    let i = inside (c .before .before .before .before) in (
       omega arith,
       simp length-set (l .loop .inv .1),
       worst-next (a .end .now) (a .rank .now) (a .es .now) (l .loop .w) (l .loop .k) (omega (arith, i)) (l .loop .inv .2) (c .raised .ensures),
@@ -71,5 +47,7 @@ returns c =
 
 pub worst-spec : {M : Type 1} → statement M
 worst-spec =
-    tie.close (tie.spec Inv-loop μ-loop loop-holds mul-e element-copy-out-e cast-e element-copy-out-v cast-v array-read-raised element-copy-out-raised
-    (λ c κs. search needs) array-write-w add-k (λ c. omega arith) loop-again returns)
+    tie.close (tie.spec Inv-loop μ-loop loop-holds (λ c. omega (arith, c .before .before .pre .few)) (λ c. omega (arith, c .before .before .pre .few))
+    (λ c. omega (arith, edge (c .before))) (λ c. edge (c .before)) (λ c. omega (arith, inside (c .before .before)))
+    (λ c. inside (c .before .before)) (λ c. edge (c .before .before)) (λ c κs. search needs) (λ c. inside (c .before .before .before .before))
+    (λ c. omega (arith, c .before .before .before .before .before .before .pre .few)) (λ c. omega arith) loop-again returns)

@@ -1,33 +1,15 @@
 -- `compare::part_of` meets its contract: the part is tied to its file by its place. Assumes nothing.
+use Prim.Native.Nat.{_≤_}
 use native.Mathlib.Omega.{arith}
+use lib.ListN.{length}
 use Rattle.compare.specs.Parts.{counts, first-part, second-part, no-part, refused-part}
 use borrow.Author.Needs.{needs}
 use Rattle.compare.proofs.part_of.Statement.{statement}
 use Rattle.compare.proofs.part_of.Tie as tie
 
-sub-result : tie.Need-sub-result
-sub-result c =
-    let s = c .before .before .before .before .before in
-    let h = counts (s .args .first) (s .args .second) (c .before .before .before .answer .given .1) (s .pre) in
-    omega (arith, h .0)
-
-part-result-start : tie.Need-part-result-start
-part-result-start c =
-    let s = c .before .before .before .before .before in
-    let h = counts (s .args .first) (s .args .second) (c .before .before .before .answer .given .1) (s .pre) in
-    omega (arith, h .0)
-
-sub-result-2 : tie.Need-sub-result-2
-sub-result-2 c =
-    let s = c .before .before .before .before .before in
-    let h = counts (s .args .first) (s .args .second) (c .before .before .before .answer .given .1) (s .pre) in
-    omega (arith, h .1)
-
-part-result-start-2 : tie.Need-part-result-start-2
-part-result-start-2 c =
-    let s = c .before .before .before .before .before in
-    let h = counts (s .args .first) (s .args .second) (c .before .before .before .answer .given .1) (s .pre) in
-    omega (arith, h .1)
+-- both files have their count byte
+counted : (c : tie.After-answer) → let a = c .before .before .args in (1 ≤ length (a .first .now)) × (1 ≤ length (a .second .now))
+counted c = let s = c .before .before in counts (s .args .first) (s .args .second) (c .answer .given .1) (s .pre)
 
 returns : tie.Need-returns
 returns c =
@@ -51,6 +33,7 @@ returns-4 c =
 
 pub part-of-spec : {M : Type 1} → statement M
 part-of-spec =
-    tie.close (tie.spec (λ c. search needs) (λ c. search needs) sub-result part-result-start (λ c. search needs) (λ c. search needs) sub-result-2
-    part-result-start-2 (λ c. search needs) (λ c. search needs) (λ c. search needs) (λ c. search needs) (λ c. search needs) returns returns-2 returns-3
-    returns-4)
+    tie.close (tie.spec (λ c. search needs) (λ c. search needs) (λ c. omega (arith, counted (c .before .before .before)))
+    (λ c. omega (arith, counted (c .before .before .before))) (λ c. search needs) (λ c. search needs)
+    (λ c. omega (arith, counted (c .before .before .before))) (λ c. omega (arith, counted (c .before .before .before))) (λ c. search needs)
+    (λ c. search needs) (λ c. search needs) (λ c. search needs) (λ c. search needs) returns returns-2 returns-3 returns-4)

@@ -7,6 +7,10 @@ use borrow.Author.Needs.{needs}
 use Rattle.compare.proofs.second_judged.Statement.{statement}
 use Rattle.compare.proofs.second_judged.Tie as tie
 
+-- the start, from the second plan's reading
+abbrev start : tie.After-read-plan → tie.Start
+start r = r .before .before .before .before .before .before .before .before .before .before .before .before
+
 read-plan-requires : tie.Need-read-plan-requires
 read-plan-requires c κs =
     let L = c .before .before .before .before .before .before .before .before .before .before .before .pre .0 in
@@ -25,15 +29,17 @@ voted-requires c κs =
 
 returns : tie.Need-returns
 returns c =
-    let s = c .before .before .before .before .before .before .before .before .before .before .before .before .before .before .before .before in
-    let r = c .before .before .before .before .read-plan in
+    let k = c .before .before .before .before in
+    let s = start k in
+    let r = k .read-plan in
     second-refused (s .args .g) (s .args .second .now) (r .result) (r .ensures) (s .args .p .now) (c .group-of .result)
     (c .before .before .a .given .1) (c .group-of .ensures)
 
 returns-2 : tie.Need-returns-2
 returns-2 c =
-    let s = c .before .before .before .before .before .before .before .before .before .before .before .before .before .before .before .before .before .before .before .before in
-    let r = c .before .before .before .before .before .before .before .before .read-plan in
+    let k = c .before .before .before .before .before .before .before .before in
+    let s = start k in
+    let r = k .read-plan in
     second-accepted (s .args .g) (s .args .second .now) (r .result) (r .ensures) (s .args .p .now)
     (c .before .before .before .before .before .before .a2 .given .1) (c .voted .ensures)
 

@@ -1,10 +1,14 @@
 -- The records of the entries below i are written.
-use Prim.Native.Nat.{_-_}
+use Prim.Native.Nat.{_-_, _<_}
 use native.Mathlib.Omega.{arith}
 use native.Mathlib.Numerals.{add-one}
+use mathlib.Core.Path.{_≡_}
+use lib.ListN.{length}
 use borrow.Author.Needs.{needs}
+use Rattle.model.specs.Limits.{entryLimit}
+use Rattle.arrays.specs.ArrayInstance.{at}
 use Rattle.arrays.specs.Tally.{byte-one}
-use Rattle.diary.specs.FlatDiary.{fate-byte}
+use Rattle.diary.specs.FlatDiary.{flatSize, fate-byte}
 use Rattle.diary.specs.TraceRecords.{Telling, telling-first, telling-next, told}
 use Rattle.diary.proofs.flat_records.Statement.{statement}
 use Rattle.diary.proofs.flat_records.Tie as tie
@@ -18,82 +22,82 @@ abbrev μ-loop : tie.MeasureT-loop
 loop-holds : tie.Need-loop-holds Inv-loop μ-loop
 loop-holds c = telling-first _ _ _ _
 
+-- in a turn there is room for the record, and the entry's edge is one of the arrays
+room : (c : tie.In-loop Inv-loop μ-loop) → (c .before .loop .i < entryLimit) × (length (c .before .loop .flat) ≡ flatSize)
+room c = (omega (arith, c .before .before .pre .few), c .before .loop .inv .size)
+
+edge : (c : tie.In-loop Inv-loop μ-loop) → at (c .before .before .args .t4 .edges) (c .before .loop .i) < entryLimit
+edge c = c .before .before .pre .edges (c .before .loop .i) (c .loop-test .taken)
+
 mul-e : tie.Need-mul-e Inv-loop μ-loop
-mul-e c = omega (arith, c .before .before .pre .few, c .before .loop .inv .size)
+mul-e c = omega (arith, room c)
 
 element-copy-out-e : tie.Need-element-copy-out-e Inv-loop μ-loop
-element-copy-out-e c = omega (arith, c .before .before .pre .few, c .before .loop .inv .size)
+element-copy-out-e c = omega (arith, room c)
 
 element-copy-out-rule : tie.Need-element-copy-out-rule Inv-loop μ-loop
-element-copy-out-rule c = omega (arith, c .before .before .before .pre .few, c .before .before .loop .inv .size)
+element-copy-out-rule c = omega (arith, room (c .before))
 
 mul-b : tie.Need-mul-b Inv-loop μ-loop
-mul-b c = omega (arith, c .before .before .before .before .before .pre .few, c .before .before .before .before .loop .inv .size)
+mul-b c = omega (arith, room (c .before .before .before))
 
 sub-flat : tie.Need-sub-flat Inv-loop μ-loop
 sub-flat c = omega (arith, byte-one (c .fixes .result))
 
 array-write-flat : tie.Need-array-write-flat Inv-loop μ-loop
-array-write-flat c = omega (arith, c .before .before .before .before .before .pre .few, c .before .before .before .before .loop .inv .size)
+array-write-flat c = omega (arith, room (c .before .before .before))
 
 element-copy-out-flat : tie.Need-element-copy-out-flat Inv-loop μ-loop
-element-copy-out-flat c =
-    c .before .before .before .before .before .pre .edges (c .before .before .before .before .loop .i) (c .before .before .before .loop-test .taken)
+element-copy-out-flat c = edge (c .before .before .before)
 
 add-flat : tie.Need-add-flat Inv-loop μ-loop
-add-flat c =
-    let s = c .before .before .before .before .before .before in
-    omega (arith, s .pre .low-sv _ (s .pre .edges (c .before .before .before .before .before .loop .i) (c .before .before .before .before .loop-test .taken)))
+add-flat c = let t = c .before .before .before .before in omega (arith, t .before .before .pre .low-sv _ (edge t))
 
 add-flat-2 : tie.Need-add-flat-2 Inv-loop μ-loop
-add-flat-2 c = omega (arith, c .before .before .before .before .before .before .pre .few, c .before .before .before .before .before .loop .inv .size)
+add-flat-2 c = omega (arith, room (c .before .before .before .before))
 
 array-write-flat-2 : tie.Need-array-write-flat-2 Inv-loop μ-loop
-array-write-flat-2 c = omega (arith, c .before .before .before .before .before .before .pre .few, c .before .before .before .before .before .loop .inv .size)
+array-write-flat-2 c = omega (arith, room (c .before .before .before .before))
 
 element-copy-out-flat-2 : tie.Need-element-copy-out-flat-2 Inv-loop μ-loop
-element-copy-out-flat-2 c =
-    c .before .before .before .before .before .before .pre .edges (c .before .before .before .before .before .loop .i) (c .before .before .before .before .loop-test .taken)
+element-copy-out-flat-2 c = edge (c .before .before .before .before)
 
 add-flat-3 : tie.Need-add-flat-3 Inv-loop μ-loop
-add-flat-3 c =
-    let s = c .before .before .before .before .before .before .before in
-    omega (arith, s .pre .low-st _ (s .pre .edges (c .before .before .before .before .before .before .loop .i) (c .before .before .before .before .before .loop-test .taken)))
+add-flat-3 c = let t = c .before .before .before .before .before in omega (arith, t .before .before .pre .low-st _ (edge t))
 
 add-flat-4 : tie.Need-add-flat-4 Inv-loop μ-loop
-add-flat-4 c = omega (arith, c .before .before .before .before .before .before .before .pre .few, c .before .before .before .before .before .before .loop .inv .size)
+add-flat-4 c = omega (arith, room (c .before .before .before .before .before))
 
 array-write-flat-3 : tie.Need-array-write-flat-3 Inv-loop μ-loop
-array-write-flat-3 c = omega (arith, c .before .before .before .before .before .before .before .pre .few, c .before .before .before .before .before .before .loop .inv .size)
+array-write-flat-3 c = omega (arith, room (c .before .before .before .before .before))
 
 element-copy-out-flat-3 : tie.Need-element-copy-out-flat-3 Inv-loop μ-loop
-element-copy-out-flat-3 c =
-    c .before .before .before .before .before .before .before .pre .edges (c .before .before .before .before .before .before .loop .i) (c .before .before .before .before .before .loop-test .taken)
+element-copy-out-flat-3 c = edge (c .before .before .before .before .before)
 
 add-flat-5 : tie.Need-add-flat-5 Inv-loop μ-loop
-add-flat-5 c = omega (arith, c .before .before .before .before .before .before .before .before .pre .few, c .before .before .before .before .before .before .before .loop .inv .size)
+add-flat-5 c = omega (arith, room (c .before .before .before .before .before .before))
 
 array-write-flat-4 : tie.Need-array-write-flat-4 Inv-loop μ-loop
-array-write-flat-4 c = omega (arith, c .before .before .before .before .before .before .before .before .pre .few, c .before .before .before .before .before .before .before .loop .inv .size)
+array-write-flat-4 c = omega (arith, room (c .before .before .before .before .before .before))
 
 add-flat-6 : tie.Need-add-flat-6 Inv-loop μ-loop
-add-flat-6 c = omega (arith, c .before .before .before .before .before .before .before .before .pre .few, c .before .before .before .before .before .before .before .loop .inv .size)
+add-flat-6 c = omega (arith, room (c .before .before .before .before .before .before))
 
 array-write-flat-5 : tie.Need-array-write-flat-5 Inv-loop μ-loop
-array-write-flat-5 c = omega (arith, c .before .before .before .before .before .before .before .before .pre .few, c .before .before .before .before .before .before .before .loop .inv .size)
+array-write-flat-5 c = omega (arith, room (c .before .before .before .before .before .before))
 
 add-i : tie.Need-add-i Inv-loop μ-loop
-add-i c = omega (arith, c .before .before .before .before .before .before .before .before .pre .few, c .before .before .before .before .before .before .before .loop .inv .size)
+add-i c = omega (arith, room (c .before .before .before .before .before .before))
 
 loop-less : tie.Need-loop-less Inv-loop μ-loop
-loop-less c = omega (arith, c .before .before .before .before .before .before .before .before .pre .few, c .before .before .before .before .before .before .before .loop .inv .size)
+loop-less c = omega (arith, room (c .before .before .before .before .before .before))
 
 loop-again : tie.Need-loop-again Inv-loop μ-loop
 loop-again c =
-    let s = c .before .before .before .before .before .before .before .before in
-    let a = s .args in
-    let l = c .before .before .before .before .before .before .before .loop in
-    telling-next (a .sv .now) (a .st .now) (a .sh .now) (a .t4) (l .i) (l .flat) _ (l .inv) (c .before .before .before .before .before .before .loop-test .taken)
+    let t = c .before .before .before .before .before .before in
+    let a = t .before .before .args in
+    let l = t .before .loop in
+    telling-next (a .sv .now) (a .st .now) (a .sh .now) (a .t4) (l .i) (l .flat) _ (l .inv) (t .loop-test .taken)
     (simp (c .before .before .before .fixes .ensures, fate-byte, add-one))
 
 returns : tie.Need-returns Inv-loop μ-loop

@@ -20,18 +20,19 @@ write-pairs-requires c κs =
 
 returns : tie.Need-returns
 returns c =
-    let b = c .before .before .before .before .before .before .before .before .before .before .before .before .before .before in
+    let p = c .before .before .before in
+    let b = p .before .before .before .before .before .before .before .before .before .before .before in
     let a = b .args in
-    let w = c .before .before .before .write-pairs .ensures in
+    let w = p .write-pairs .ensures in
     λ M S. some-left (a .g) M (edgesIn (a .g .m) (flag (a .rem .now))) (a .steps) (a .left .now) (a .plan .now) (a .rival .now) _ _ (w .0) (w .1)
     (c .if1 .taken)
 
 returns-2 : tie.Need-returns-2
 returns-2 c =
-    let b =
-    c .before .before .before .before .before .before .before .before .before .before .before .before .before .before .before .before .before .before .before .before .before in
+    let p = c .before .before .before .before .before .before .before .before .before .before in
+    let b = p .before .before .before .before .before .before .before .before .before .before .before in
     let a = b .args in
-    let w = c .before .before .before .before .before .before .before .before .before .before .write-pairs .ensures in
+    let w = p .write-pairs .ensures in
     λ M S. none-left (a .g) M (edgesIn (a .g .m) (flag (a .rem .now))) (a .steps) (a .left .now) (a .plan .now) (a .rival .now) _ _ (w .0) (w .1)
     (c .before .before .before .before .before .before .before .if1 .left) (c .before .before .before .before .judged .ensures M S)
 

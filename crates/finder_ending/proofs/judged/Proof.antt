@@ -9,6 +9,10 @@ use Rattle.finder_ending.specs.EndReached.{answerOn, wrote-judged, few-e
 use Rattle.finder_ending.proofs.judged.Statement.{statement}
 use Rattle.finder_ending.proofs.judged.Tie as tie
 
+-- the start, from the candidate written
+abbrev start : tie.After-write-plan → tie.Start
+start p = p .before .before .before .before .before .before .before .before .before .before .before .before
+
 list-edges-requires : tie.Need-list-edges-requires
 list-edges-requires c κs =
     let b = c .before .before .before .before in
@@ -29,48 +33,44 @@ weigh-requires c κs =
 
 returns : tie.Need-returns
 returns c =
-    let b =
-    c .before .before .before .before .before .before .before .before .before .before .before .before .before .before .before .before .before .before .before .before .before in
+    let p = c .before .before .before .before .before .before .before .before .before in
+    let b = start p in
     let a = b .args in
     let w = c .before .before .before .before .weigh in
     λ M S l. wrote-judged _ M (a .steps) l (a .plan .now) (a .rival .now) _ _ (w .result) (w .ensures M S)
-    (plan-onto (a .g) (a .fixed .now) (a .plan .now) _
-    (c .before .before .before .before .before .before .before .before .before .write-plan .ensures) M (S .1))
+    (plan-onto (a .g) (a .fixed .now) (a .plan .now) _ (p .write-plan .ensures) M (S .1))
     (ap (answerOn (a .steps)) (sym (c .enum-told .given .1)))
 
 returns-2 : tie.Need-returns-2
 returns-2 c =
-    let b =
-    c .before .before .before .before .before .before .before .before .before .before .before .before .before .before .before .before .before .before .before .before .before .before in
+    let p = c .before .before .before .before .before .before .before .before .before .before in
+    let b = start p in
     let a = b .args in
     let w = c .before .before .before .before .before .weigh in
     λ M S l. wrote-judged _ M (a .steps) l (a .plan .now) (a .rival .now) _ _ (w .result) (w .ensures M S)
-    (plan-onto (a .g) (a .fixed .now) (a .plan .now) _
-    (c .before .before .before .before .before .before .before .before .before .before .write-plan .ensures) M (S .1))
+    (plan-onto (a .g) (a .fixed .now) (a .plan .now) _ (p .write-plan .ensures) M (S .1))
     (ap (λ z. says.None (a .steps) (kind.Rivalled z)) (toZ-ofZ w16 (c .before .w .given .0 .0) (sfits-of (c .known-told .given .0 .1)))
     ∙ ap (answerOn (a .steps)) (sym (c .before .w .given .1)))
 
 returns-3 : tie.Need-returns-3
 returns-3 c =
-    let b =
-    c .before .before .before .before .before .before .before .before .before .before .before .before .before .before .before .before .before .before .before .before .before .before in
+    let p = c .before .before .before .before .before .before .before .before .before .before in
+    let b = start p in
     let a = b .args in
     let w = c .before .before .before .before .before .weigh in
     λ M S l. wrote-judged _ M (a .steps) l (a .plan .now) (a .rival .now) _ _ (w .result) (w .ensures M S)
-    (plan-onto (a .g) (a .fixed .now) (a .plan .now) _
-    (c .before .before .before .before .before .before .before .before .before .before .write-plan .ensures) M (S .1))
+    (plan-onto (a .g) (a .fixed .now) (a .plan .now) _ (p .write-plan .ensures) M (S .1))
     (ap (λ z. says.None (a .steps) (kind.Rivalled z)) (toZ-ofZ w16 (c .before .w2 .given .0 .0) (sfits-of (c .known-told2 .given .0 .1)))
     ∙ ap (answerOn (a .steps)) (sym (c .before .w2 .given .1)))
 
 returns-4 : tie.Need-returns-4
 returns-4 c =
-    let b =
-    c .before .before .before .before .before .before .before .before .before .before .before .before .before .before .before .before .before .before .before .before .before .before in
+    let p = c .before .before .before .before .before .before .before .before .before .before in
+    let b = start p in
     let a = b .args in
     let w = c .before .before .before .before .before .weigh in
     λ M S l. wrote-judged _ M (a .steps) l (a .plan .now) (a .rival .now) _ _ (w .result) (w .ensures M S)
-    (plan-onto (a .g) (a .fixed .now) (a .plan .now) _
-    (c .before .before .before .before .before .before .before .before .before .before .write-plan .ensures) M (S .1))
+    (plan-onto (a .g) (a .fixed .now) (a .plan .now) _ (p .write-plan .ensures) M (S .1))
     (ap (answerOn (a .steps)) (sym (c .before .w3 .given .1)))
 
 pub judged-spec : {M : Type 1} → statement M

@@ -1,6 +1,9 @@
 -- `plan_carried::carried` meets its contract: the edges that stay are written as a plan, whose first byte tells its length. Assumes nothing.
+use Prim.Native.Nat.{_≤_}
 use native.Mathlib.Omega.{arith}
 use borrow.Author.Needs.{needs}
+use Rattle.model.specs.Limits.{planLimit}
+use Rattle.arrays.specs.ArrayInstance.{at}
 use Rattle.plan_carried.specs.Remaining.{few-stay, count-small, carried-is}
 use Rattle.plan_carried.proofs.carried.Statement.{statement}
 use Rattle.plan_carried.proofs.carried.Tie as tie
@@ -22,26 +25,12 @@ write-plan-requires c κs =
     )
 
 -- the first byte is at most 64
-cast-t21 : tie.Need-cast-t21
-cast-t21 c =
-    let s = c .before .before .before .before .before .before .before .before .before .before .before .before in
+small : (c : tie.After-write-plan) → at (c .write-plan .last .1 .1 .1 .1 .1 .0) 0 ≤ planLimit
+small c =
+    let b = c .before .before .before .before .before .before .before in
+    let s = b .before .before .before .before in
     let a = s .args in
-    let b = c .before .before .before .before .before .before .before .before .besides in
-    omega (arith, count-small (a .g) (a .plan .now) (a .number) (s .pre .1) (b .result) (b .ensures) _ (c .before .write-plan .ensures))
-
-mul-t22 : tie.Need-mul-t22
-mul-t22 c =
-    let s = c .before .before .before .before .before .before .before .before .before .before .before .before in
-    let a = s .args in
-    let b = c .before .before .before .before .before .before .before .before .besides in
-    omega (arith, count-small (a .g) (a .plan .now) (a .number) (s .pre .1) (b .result) (b .ensures) _ (c .before .write-plan .ensures))
-
-add-t23 : tie.Need-add-t23
-add-t23 c =
-    let s = c .before .before .before .before .before .before .before .before .before .before .before .before in
-    let a = s .args in
-    let b = c .before .before .before .before .before .before .before .before .besides in
-    omega (arith, count-small (a .g) (a .plan .now) (a .number) (s .pre .1) (b .result) (b .ensures) _ (c .before .write-plan .ensures))
+    count-small (a .g) (a .plan .now) (a .number) (s .pre .1) (b .besides .result) (b .besides .ensures) _ (c .write-plan .ensures)
 
 returns : tie.Need-returns
 returns c =
@@ -52,4 +41,5 @@ returns c =
 
 pub carried-spec : {M : Type 1} → statement M
 carried-spec =
-    tie.close (tie.spec besides-requires (λ c. search needs) write-plan-requires (λ c. search needs) cast-t21 mul-t22 add-t23 returns)
+    tie.close (tie.spec besides-requires (λ c. search needs) write-plan-requires (λ c. search needs) (λ c. omega (arith, small (c .before)))
+    (λ c. omega (arith, small (c .before))) (λ c. omega (arith, small (c .before))) returns)

@@ -24,7 +24,8 @@ returns-4 c =
     let s = c .before .before .before .before .before .before in
     let a = s .args in
     let k = c .before .before .before in
-    found-before (a .m) (a .sv .now) (a .st .now) (a .sh .now) (a .x) (a .y) (a .k) (a .x - 1) (a .y - 1) (omega arith) (omega arith) (a .from) (k .scan .result)
+    found-before (a .m) (a .sv .now) (a .st .now) (a .sh .now) (a .x) (a .y) (a .k)
+    (a .x - 1) (a .y - 1) (omega arith) (omega arith) (a .from) (k .scan .result)
     (c .before .scan2 .result) (s .pre .0) (k .scan .ensures) (c .before .before .if3 .left) (c .before .scan2 .ensures) (c .if4 .taken)
 
 returns-5 : tie.Need-returns-5

@@ -25,8 +25,12 @@ returns c =
 loop-again : tie.Need-loop-again Inv-loop μ-loop
 loop-again c =
     let l = c .before .before .before .before .before in
-    let a = l .before .args in
-    (omega arith, omega arith, none-next (Ends (a .sv .now) (a .st .now) (a .sh .now) (a .s) (a .t) (a .k)) (a .start) (l .loop .e) (l .loop .inv .2) (c .if1 .left))
+    let a = l .before .args in (
+      omega arith,
+      omega arith,
+      none-next (Ends (a .sv .now) (a .st .now) (a .sh .now) (a .s) (a .t) (a .k))
+          (a .start) (l .loop .e) (l .loop .inv .2) (c .if1 .left),
+    )
 
 returns-2 : tie.Need-returns-2 Inv-loop μ-loop
 returns-2 c =

@@ -1,9 +1,10 @@
 -- `plan_reader::read_pairs` meets its contract: the pairs that are left have the answer of all.
 use mathlib.Core.Path.{_≡_, ap, _∙_}
-use Prim.Native.Nat.{_+_, _-_, _*_, _≤_, _<_, zero-le}
+use Prim.Native.Nat.{_-_, _≤_, _<_, zero-le}
 use native.Mathlib.Omega.{arith}
 use Rattle.arrays.specs.ArrayInstance.{at}
 use Rattle.lists.specs.Search.{low}
+use Rattle.model.specs.Limits.{nodeLimit}
 use Rattle.model.specs.PlanFile.{edgeOfPair}
 use Rattle.pair_bytes.specs.declared.Pair.{Pair}
 use Rattle.pair_bytes.specs.PairAt.{namedAt, width-most}
@@ -28,7 +29,8 @@ found : (c : tie.After-edge-of Inv-loop μ-loop) → let l = c .before .before .
 unfolding edgeOfPair
 found c =
     let a = c .before .before .before .before .before .before .before .args in
-    c .edge-of .ensures ∙ ap (λ (p : Pair). low (Names (a .sv .now) (a .st .now) (a .sh .now) (p .surveyor) (p .stand) (p .shift)) (a .m)) (c .before .get .ensures)
+    c .edge-of .ensures ∙ ap (λ (p : Pair). low (Names (a .sv .now) (a .st .now) (a .sh .now) (p .surveyor) (p .stand) (p .shift)) (a .m))
+    (c .before .get .ensures)
 
 -- a pair that is not refused names an edge
 passing : (c : tie.Else2 Inv-loop μ-loop) → let l =
@@ -42,16 +44,43 @@ passing c =
     let s = l .before .before .before in
     let a = s .args in
     let k = c .before .before .before .before in
-    invariant-passed (a .shifts) (a .m) (a .sv .now) (a .st .now) (a .sh .now) (a .qs .now) (a .qt .now) (a .file .now) (a .n) (l .loop .k) (l .loop .at) (l .loop .from) (l .loop .chosen)
-    (l .loop .edges) (l .loop .us) (l .loop .ut) (l .loop .inv .1) (c .before .before .before .before .before .before .before .loop-test .taken) (l .before .width .result) (l .before .width .ensures)
+    invariant-passed (a .shifts) (a .m) (a .sv .now) (a .st .now) (a .sh .now) (a .qs .now)
+    (a .qt .now) (a .file .now) (a .n) (l .loop .k) (l .loop .at) (l .loop .from) (l .loop .chosen)
+    (l .loop .edges) (l .loop .us) (l .loop .ut) (l .loop .inv .1) (c .before .before .before .before .before .before .before .loop-test .taken)
+    (l .before .width .result) (l .before .width .ensures)
     (s .pre .0 .1) (s .pre .0 .2) (c .before .before .before .before .before .before .if1 .left) (k .edge-of .result) (found k)
     (c .before .pair-refusal .result) (c .before .pair-refusal .ensures) (omega arith)
+
+-- its ends are nodes, and neither has more pairs than were read
+ends : (c : tie.Else2 Inv-loop μ-loop) → let a = c .before .before .before .before .before .before .before .before .before .before .before .args in
+    let e = c .before .before .before .before .edge-of .result in
+    (at (a .sv .now) e < nodeLimit) × (at (a .st .now) e < nodeLimit)
+ends c =
+    let s = c .before .before .before .before .before .before .before .before .before .before .before in
+    let e = c .before .before .before .before .edge-of .result in
+    (s .pre .0 .1 e (passing c .0), s .pre .0 .2 e (passing c .0))
+
+used : (c : tie.Else2 Inv-loop μ-loop) → let l = c .before .before .before .before .before .before .before .before in
+    let a = l .before .before .before .args in
+    let e = c .before .before .before .before .edge-of .result in
+    (at (l .loop .us) (at (a .sv .now) e) ≤ l .loop .k) × (at (l .loop .ut) (at (a .st .now) e) ≤ l .loop .k)
+used c =
+    let l = c .before .before .before .before .before .before .before .before in
+    let a = l .before .before .before .args in
+    let e = c .before .before .before .before .edge-of .result in
+    let few =
+    used-few (a .shifts) (a .m) (a .sv .now) (a .st .now) (a .sh .now) (a .qs .now) (a .qt .now) (a .file .now) (a .n)
+    (l .loop .k) (l .loop .at) (l .loop .from) (l .loop .chosen) (l .loop .edges) (l .loop .us) (l .loop .ut) (l .loop .inv .1) in
+    (few (at (a .sv .now) e) .0, few (at (a .st .now) e) .1)
 
 loop-holds : tie.Need-loop-holds Inv-loop μ-loop
 loop-holds c =
     let s = c .before .before in
-    let a = s .args in
-    (zero-le, invariant-first (a .shifts) (a .m) (a .sv .now) (a .st .now) (a .sh .now) (a .qs .now) (a .qt .now) (a .file .now) (a .n) (s .pre .1 .1) (s .pre .1 .2) (s .pre .1 .0))
+    let a = s .args in (
+      zero-le,
+      invariant-first (a .shifts) (a .m) (a .sv .now) (a .st .now) (a .sh .now)
+          (a .qs .now) (a .qt .now) (a .file .now) (a .n) (s .pre .1 .1) (s .pre .1 .2) (s .pre .1 .0),
+    )
 
 add-end : tie.Need-add-if1 Inv-loop μ-loop
 add-end c =
@@ -64,8 +93,10 @@ returns c =
     let a = l .before .before .before .args in
     for-all (a .shifts) (a .m) (a .sv .now) (a .st .now) (a .sh .now) (a .qs .now) (a .qt .now) (a .file .now) _
     (refused-as (a .shifts) (a .m) (a .sv .now) (a .st .now) (a .sh .now) (a .qs .now) (a .qt .now) (a .file .now) 1 (l .loop .chosen) (l .loop .edges)
-    (invariant-cut (a .shifts) (a .m) (a .sv .now) (a .st .now) (a .sh .now) (a .qs .now) (a .qt .now) (a .file .now) (a .n) (l .loop .k) (l .loop .at) (l .loop .from)
-    (l .loop .chosen) (l .loop .edges) (l .loop .us) (l .loop .ut) (l .loop .inv .1) (c .before .loop-test .taken) (l .before .width .result) (l .before .width .ensures) (c .if1 .taken)))
+    (invariant-cut (a .shifts) (a .m) (a .sv .now) (a .st .now) (a .sh .now) (a .qs .now)
+    (a .qt .now) (a .file .now) (a .n) (l .loop .k) (l .loop .at) (l .loop .from)
+    (l .loop .chosen) (l .loop .edges) (l .loop .us) (l .loop .ut) (l .loop .inv .1)
+    (c .before .loop-test .taken) (l .before .width .result) (l .before .width .ensures) (c .if1 .taken)))
 
 edge-of-requires : tie.Need-edge-of-requires Inv-loop μ-loop
 edge-of-requires c κs = let l = c .before .before .before in let s = l .before .before .before in (l .loop .inv .1 .small, s .pre .0 .0, s .pre .0 .3)
@@ -80,9 +111,11 @@ returns-2 c =
     let a = s .args in
     let k = c .before .before .before .before in
     for-all (a .shifts) (a .m) (a .sv .now) (a .st .now) (a .sh .now) (a .qs .now) (a .qt .now) (a .file .now) _
-    (refused-as (a .shifts) (a .m) (a .sv .now) (a .st .now) (a .sh .now) (a .qs .now) (a .qt .now) (a .file .now) (c .before .pair-refusal .result) (l .loop .chosen)
+    (refused-as (a .shifts) (a .m) (a .sv .now) (a .st .now) (a .sh .now) (a .qs .now)
+    (a .qt .now) (a .file .now) (c .before .pair-refusal .result) (l .loop .chosen)
     (l .loop .edges)
-    (invariant-refused (a .shifts) (a .m) (a .sv .now) (a .st .now) (a .sh .now) (a .qs .now) (a .qt .now) (a .file .now) (a .n) (l .loop .k) (l .loop .at) (l .loop .from)
+    (invariant-refused (a .shifts) (a .m) (a .sv .now) (a .st .now) (a .sh .now)
+    (a .qs .now) (a .qt .now) (a .file .now) (a .n) (l .loop .k) (l .loop .at) (l .loop .from)
     (l .loop .chosen) (l .loop .edges) (l .loop .us) (l .loop .ut) (l .loop .inv .1)
     (c .before .before .before .before .before .before .before .loop-test .taken) (l .before .width .result) (l .before .width .ensures)
     (s .pre .0 .1) (s .pre .0 .2)
@@ -93,65 +126,31 @@ element-copy-out-i : tie.Need-element-copy-out-i Inv-loop μ-loop
 element-copy-out-i c = omega (arith, passing c .0)
 
 cast-i : tie.Need-cast-i Inv-loop μ-loop
-cast-i c =
-    let p = passing (c .before) in
-    let s = c .before .before .before .before .before .before .before .before .before .before .before .before in
-    omega (arith, s .pre .0 .1 (c .before .before .before .before .before .edge-of .result) (p .0))
+cast-i c = omega (arith, ends (c .before))
 
 element-copy-out-j : tie.Need-element-copy-out-j Inv-loop μ-loop
 element-copy-out-j c = omega (arith, passing (c .before) .0)
 
 cast-j : tie.Need-cast-j Inv-loop μ-loop
-cast-j c =
-    let p = passing (c .before .before) in
-    let s = c .before .before .before .before .before .before .before .before .before .before .before .before .before in
-    omega (arith, s .pre .0 .2 (c .before .before .before .before .before .before .edge-of .result) (p .0))
+cast-j c = omega (arith, ends (c .before .before))
 
 array-read-us : tie.Need-array-read-us Inv-loop μ-loop
-array-read-us c =
-    let p = passing (c .before .before) in
-    let s = c .before .before .before .before .before .before .before .before .before .before .before .before .before in
-    omega (arith, s .pre .0 .1 (c .before .before .before .before .before .before .edge-of .result) (p .0))
+array-read-us c = omega (arith, ends (c .before .before))
 
 add-us : tie.Need-add-us Inv-loop μ-loop
-add-us c =
-    let l = c .before .before .before .before .before .before .before .before .before .before in
-    let a = l .before .before .before .args in
-    omega (
-      arith,
-      used-few (a .shifts) (a .m) (a .sv .now) (a .st .now) (a .sh .now) (a .qs .now) (a .qt .now) (a .file .now) (a .n) (l .loop .k) (l .loop .at) (l .loop .from) (l .loop .chosen)
-          (l .loop .edges) (l .loop .us) (l .loop .ut) (l .loop .inv .1)
-          (at (a .sv .now) (c .before .before .before .before .before .before .edge-of .result)) .0,
-    )
+add-us c = omega (arith, used (c .before .before))
 
 array-write-us : tie.Need-array-write-us Inv-loop μ-loop
-array-write-us c =
-    let p = passing (c .before .before) in
-    let s = c .before .before .before .before .before .before .before .before .before .before .before .before .before in
-    omega (arith, s .pre .0 .1 (c .before .before .before .before .before .before .edge-of .result) (p .0))
+array-write-us c = omega (arith, ends (c .before .before))
 
 array-read-ut : tie.Need-array-read-ut Inv-loop μ-loop
-array-read-ut c =
-    let p = passing (c .before .before) in
-    let s = c .before .before .before .before .before .before .before .before .before .before .before .before .before in
-    omega (arith, s .pre .0 .2 (c .before .before .before .before .before .before .edge-of .result) (p .0))
+array-read-ut c = omega (arith, ends (c .before .before))
 
 add-ut : tie.Need-add-ut Inv-loop μ-loop
-add-ut c =
-    let l = c .before .before .before .before .before .before .before .before .before .before in
-    let a = l .before .before .before .args in
-    omega (
-      arith,
-      used-few (a .shifts) (a .m) (a .sv .now) (a .st .now) (a .sh .now) (a .qs .now) (a .qt .now) (a .file .now) (a .n) (l .loop .k) (l .loop .at) (l .loop .from) (l .loop .chosen)
-          (l .loop .edges) (l .loop .us) (l .loop .ut) (l .loop .inv .1)
-          (at (a .st .now) (c .before .before .before .before .before .before .edge-of .result)) .1,
-    )
+add-ut c = omega (arith, used (c .before .before))
 
 array-write-ut : tie.Need-array-write-ut Inv-loop μ-loop
-array-write-ut c =
-    let p = passing (c .before .before) in
-    let s = c .before .before .before .before .before .before .before .before .before .before .before .before .before in
-    omega (arith, s .pre .0 .2 (c .before .before .before .before .before .before .edge-of .result) (p .0))
+array-write-ut c = omega (arith, ends (c .before .before))
 
 array-write-chosen : tie.Need-array-write-chosen Inv-loop μ-loop
 array-write-chosen c = omega (arith, passing (c .before .before) .0)
@@ -169,7 +168,8 @@ loop-again c =
     let a = s .args in
     let k = c .before .before .before .before .before .before in (
       omega arith,
-      invariant-on (a .shifts) (a .m) (a .sv .now) (a .st .now) (a .sh .now) (a .qs .now) (a .qt .now) (a .file .now) (a .n) (l .loop .k) (l .loop .at) (l .loop .from) (l .loop .chosen)
+      invariant-on (a .shifts) (a .m) (a .sv .now) (a .st .now) (a .sh .now) (a .qs .now)
+          (a .qt .now) (a .file .now) (a .n) (l .loop .k) (l .loop .at) (l .loop .from) (l .loop .chosen)
           (l .loop .edges) (l .loop .us) (l .loop .ut) (l .loop .inv .1)
           (c .before .before .before .before .before .before .before .before .before .loop-test .taken) (l .before .width .result) (l .before .width .ensures)
           (s .pre .0 .1) (s .pre .0 .2)
@@ -183,7 +183,8 @@ returns-3 c =
     let a = l .before .before .before .args in
     for-all (a .shifts) (a .m) (a .sv .now) (a .st .now) (a .sh .now) (a .qs .now) (a .qt .now) (a .file .now) _
     (refused-as (a .shifts) (a .m) (a .sv .now) (a .st .now) (a .sh .now) (a .qs .now) (a .qt .now) (a .file .now) 9 (l .loop .chosen) (l .loop .edges)
-    (invariant-long (a .shifts) (a .m) (a .sv .now) (a .st .now) (a .sh .now) (a .qs .now) (a .qt .now) (a .file .now) (a .n) (l .loop .k) (l .loop .at) (l .loop .from)
+    (invariant-long (a .shifts) (a .m) (a .sv .now) (a .st .now) (a .sh .now) (a .qs .now)
+    (a .qt .now) (a .file .now) (a .n) (l .loop .k) (l .loop .at) (l .loop .from)
     (l .loop .chosen) (l .loop .edges) (l .loop .us) (l .loop .ut) (l .loop .inv .1) (omega arith) (omega arith)))
 
 returns-4 : tie.Need-returns-4 Inv-loop μ-loop
@@ -191,7 +192,8 @@ returns-4 c =
     let l = c .before .before in
     let a = l .before .before .before .args in
     for-all (a .shifts) (a .m) (a .sv .now) (a .st .now) (a .sh .now) (a .qs .now) (a .qt .now) (a .file .now) _
-    (invariant-accepted (a .shifts) (a .m) (a .sv .now) (a .st .now) (a .sh .now) (a .qs .now) (a .qt .now) (a .file .now) (a .n) (l .loop .k) (l .loop .at) (l .loop .from)
+    (invariant-accepted (a .shifts) (a .m) (a .sv .now) (a .st .now) (a .sh .now)
+    (a .qs .now) (a .qt .now) (a .file .now) (a .n) (l .loop .k) (l .loop .at) (l .loop .from)
     (l .loop .chosen) (l .loop .edges) (l .loop .us) (l .loop .ut) (l .loop .inv .1) (omega arith) (omega arith))
 
 -- the pair's bytes are there

@@ -27,7 +27,8 @@ room c =
     let l = c .before .before .before in
     let s = l .before .before in
     let a = s .args in
-    room-for (a .sv .now) (a .st .now) (a .sh .now) (a .chosen .now) (a .from) (a .out .now) (a .m) (l .loop .e) (l .loop .k) (c .before .before .loop-test .taken)
+    room-for (a .sv .now) (a .st .now) (a .sh .now) (a .chosen .now) (a .from) (a .out .now)
+    (a .m) (l .loop .e) (l .loop .k) (c .before .before .loop-test .taken)
     (not-no _ (c .if1 .left)) (l .loop .inv .1 .0) (s .pre .4)
 
 loop-holds : tie.Need-loop-holds Inv-loop μ-loop
@@ -76,7 +77,8 @@ loop-again-2 c =
       turn-one (a .sv .now) (a .st .now) (a .sh .now) (a .chosen .now) (a .from) (a .out .now) (l .loop .e) (l .loop .k) (l .loop .out) (l .loop .inv .1 .0)
           (l .loop .inv .1 .1) (not-no _ (c .before .before .before .before .before .before .before .if1 .left))
           (room (c .before .before .before .before .before .before .before)) w,
-      ap length w ∙ with-length (l .loop .out) (pairWidth * l .loop .k + a .from) (at (a .sv .now) (l .loop .e)) (at (a .st .now) (l .loop .e)) (at (a .sh .now) (l .loop .e))
+      ap length w ∙ with-length (l .loop .out) (pairWidth * l .loop .k + a .from)
+          (at (a .sv .now) (l .loop .e)) (at (a .st .now) (l .loop .e)) (at (a .sh .now) (l .loop .e))
           ∙ l .loop .inv .2,
     )
 

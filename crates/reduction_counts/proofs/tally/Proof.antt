@@ -22,23 +22,9 @@ loop-holds : tie.Need-loop-holds Inv-loop μ-loop
 unfolding count
 loop-holds c = (zero-le, refl, zeros 32)
 
-element-copy-out-v : tie.Need-element-copy-out-v Inv-loop μ-loop
-element-copy-out-v c = omega (arith, c .before .before .pre .1 (c .before .loop .i) (omega arith))
-
-cast-v : tie.Need-cast-v Inv-loop μ-loop
-cast-v c = omega (arith, c .before .before .before .pre .1 (c .before .before .loop .i) (omega arith))
-
-element-copy-out-t : tie.Need-element-copy-out-t Inv-loop μ-loop
-element-copy-out-t c = omega (arith, c .before .before .before .pre .1 (c .before .before .loop .i) (omega arith))
-
-cast-t : tie.Need-cast-t Inv-loop μ-loop
-cast-t c = omega (arith, c .before .before .before .before .pre .1 (c .before .before .before .loop .i) (omega arith))
-
-mul-t : tie.Need-mul-t Inv-loop μ-loop
-mul-t c = omega (arith, c .before .before .before .before .pre .1 (c .before .before .before .loop .i) (omega arith))
-
-array-read-t : tie.Need-array-read-t Inv-loop μ-loop
-array-read-t c = omega (arith, c .before .before .before .before .pre .1 (c .before .before .before .loop .i) (omega arith))
+-- the edge of a turn lies at a node
+inside : (c : tie.In-loop Inv-loop μ-loop) → at (c .before .before .args .end .now) (c .before .loop .i) < 32
+inside c = c .before .before .pre .1 (c .before .loop .i) (omega arith)
 
 add-t : tie.Need-add-t Inv-loop μ-loop
 add-t c =
@@ -46,9 +32,6 @@ add-t c =
     let a = l .before .args in
     let v = at (a .end .now) (l .loop .i) in
     omega (arith, l .loop .inv .2 v, count-≤ (λ e. flag (a .p .now) e && eqb (at (a .end .now) e) v) (l .loop .i), byte-one (flag (a .p .now) (l .loop .i)))
-
-array-write-t : tie.Need-array-write-t Inv-loop μ-loop
-array-write-t c = omega (arith, c .before .before .before .before .pre .1 (c .before .before .before .loop .i) (omega arith))
 
 loop-again : tie.Need-loop-again Inv-loop μ-loop
 loop-again c =
@@ -70,5 +53,7 @@ returns c =
 
 pub tally-spec : {M : Type 1} → statement M
 tally-spec =
-    tie.close (tie.spec Inv-loop μ-loop loop-holds element-copy-out-v cast-v element-copy-out-t cast-t mul-t array-read-t add-t
-    array-write-t (λ c. omega arith) (λ c. omega arith) loop-again returns)
+    tie.close (tie.spec Inv-loop μ-loop loop-holds (λ c. omega (arith, inside c)) (λ c. omega (arith, inside (c .before)))
+    (λ c. omega (arith, inside (c .before))) (λ c. omega (arith, inside (c .before .before)))
+    (λ c. omega (arith, inside (c .before .before))) (λ c. omega (arith, inside (c .before .before))) add-t
+    (λ c. omega (arith, inside (c .before .before))) (λ c. omega arith) (λ c. omega arith) loop-again returns)

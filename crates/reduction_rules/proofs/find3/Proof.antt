@@ -2,7 +2,7 @@
 use mathlib.Core.Path.{_≡_, refl, sym, _∙_, ap}
 use mathlib.Core.Bool.{Bool, _&&_}
 use mathlib.Core.List.{List}
-use Prim.Native.Nat.{ℕ, _+_, _-_, _≤_, zero-le}
+use Prim.Native.Nat.{ℕ, _+_, _-_, _≤_, _<_, zero-le}
 use native.Mathlib.Omega.{arith}
 use lib.Dec.{leb}
 use Rattle.arrays.specs.ArrayInstance.{at, flag}
@@ -23,30 +23,9 @@ loop-holds : tie.Need-loop-holds Inv-loop μ-loop
 unfolding low
 loop-holds c = (zero-le, refl)
 
-element-copy-out-t : tie.Need-element-copy-out-t Inv-loop μ-loop
-element-copy-out-t c = omega (arith, c .before .before .pre .1 (c .before .loop .i) (omega arith))
-
-cast-t : tie.Need-cast-t Inv-loop μ-loop
-cast-t c = omega (arith, c .before .before .before .pre .1 (c .before .before .loop .i) (omega arith))
-
-element-copy-out-if1 : tie.Need-element-copy-out-if1 Inv-loop μ-loop
-element-copy-out-if1 c = omega (arith, c .before .before .before .pre .1 (c .before .before .loop .i) (omega arith))
-
-element-copy-out-if1-2 : tie.Need-element-copy-out-if1-2 Inv-loop μ-loop
-element-copy-out-if1-2 c = omega (arith, c .before .before .before .before .pre .1 (c .before .before .before .loop .i) (omega arith))
-
-mul-if1 : tie.Need-mul-if1 Inv-loop μ-loop
-mul-if1 c = omega (arith, c .before .before .before .before .before .pre .1 (c .before .before .before .before .loop .i) (omega arith))
-
-element-copy-out-if1-3 : tie.Need-element-copy-out-if1-3 Inv-loop μ-loop
-element-copy-out-if1-3 c = omega (arith, c .before .before .before .before .before .pre .1 (c .before .before .before .before .loop .i) (omega arith))
-
-mul-if1-2 : tie.Need-mul-if1-2 Inv-loop μ-loop
-mul-if1-2 c = omega (arith, c .before .before .before .before .before .before .pre .1 (c .before .before .before .before .before .loop .i) (omega arith))
-
-element-copy-out-if1-4 : tie.Need-element-copy-out-if1-4 Inv-loop μ-loop
-element-copy-out-if1-4 c =
-    omega (arith, c .before .before .before .before .before .before .pre .1 (c .before .before .before .before .before .loop .i) (omega arith))
+-- the edge of a turn lies at a stand
+inside : (c : tie.In-loop Inv-loop μ-loop) → at (c .before .before .args .st .now) (c .before .loop .i) < 32
+inside c = c .before .before .pre .1 (c .before .loop .i) (omega arith)
 
 add-if1 : tie.Need-add-if1 Inv-loop μ-loop
 add-if1 c =
@@ -54,14 +33,6 @@ add-if1 c =
     let a = l .before .args in
     let t = at (a .st .now) (l .loop .i) in
     omega (arith, l .before .pre .2 t, l .before .pre .3 t)
-
-mul-if1-3 : tie.Need-mul-if1-3 Inv-loop μ-loop
-mul-if1-3 c =
-    omega (arith, c .before .before .before .before .before .before .before .pre .1 (c .before .before .before .before .before .before .loop .i) (omega arith))
-
-element-copy-out-if1-5 : tie.Need-element-copy-out-if1-5 Inv-loop μ-loop
-element-copy-out-if1-5 c =
-    omega (arith, c .before .before .before .before .before .before .before .pre .1 (c .before .before .before .before .before .before .loop .i) (omega arith))
 
 returns : tie.Need-returns Inv-loop μ-loop
 returns c =
@@ -88,6 +59,10 @@ returns-2 c =
 
 pub find3-spec : {M : Type 1} → statement M
 find3-spec =
-    tie.close (tie.spec Inv-loop μ-loop loop-holds element-copy-out-t cast-t element-copy-out-if1 element-copy-out-if1-2 mul-if1
-    element-copy-out-if1-3 mul-if1-2 element-copy-out-if1-4 add-if1 mul-if1-3 element-copy-out-if1-5 returns (λ c. omega arith)
-    (λ c. omega arith) loop-again returns-2)
+    tie.close (tie.spec Inv-loop μ-loop loop-holds (λ c. omega (arith, inside c)) (λ c. omega (arith, inside (c .before)))
+    (λ c. omega (arith, inside (c .before))) (λ c. omega (arith, inside (c .before .before)))
+    (λ c. omega (arith, inside (c .before .before .before))) (λ c. omega (arith, inside (c .before .before .before)))
+    (λ c. omega (arith, inside (c .before .before .before .before))) (λ c. omega (arith, inside (c .before .before .before .before)))
+    add-if1 (λ c. omega (arith, inside (c .before .before .before .before .before)))
+    (λ c. omega (arith, inside (c .before .before .before .before .before))) returns (λ c. omega arith) (λ c. omega arith) loop-again
+    returns-2)

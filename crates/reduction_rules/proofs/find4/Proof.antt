@@ -2,7 +2,7 @@
 use mathlib.Core.Path.{_≡_, refl, sym, _∙_, ap}
 use mathlib.Core.Bool.{Bool, _&&_}
 use mathlib.Core.List.{List}
-use Prim.Native.Nat.{ℕ, _+_, _-_, _≤_, zero-le}
+use Prim.Native.Nat.{ℕ, _+_, _-_, _≤_, _<_, zero-le}
 use native.Mathlib.Omega.{arith}
 use lib.Dec.{eqb, ltb}
 use Rattle.arrays.specs.ArrayInstance.{at, flag}
@@ -23,59 +23,14 @@ loop-holds : tie.Need-loop-holds Inv-loop μ-loop
 unfolding low
 loop-holds c = (zero-le, refl)
 
-element-copy-out-s : tie.Need-element-copy-out-s Inv-loop μ-loop
-element-copy-out-s c = omega (arith, c .before .before .pre .1 (c .before .loop .i) (omega arith))
-
-cast-s : tie.Need-cast-s Inv-loop μ-loop
-cast-s c = omega (arith, c .before .before .before .pre .1 (c .before .before .loop .i) (omega arith))
-
-element-copy-out-if1 : tie.Need-element-copy-out-if1 Inv-loop μ-loop
-element-copy-out-if1 c = omega (arith, c .before .before .before .pre .1 (c .before .before .loop .i) (omega arith))
-
-element-copy-out-if1-2 : tie.Need-element-copy-out-if1-2 Inv-loop μ-loop
-element-copy-out-if1-2 c = omega (arith, c .before .before .before .before .pre .1 (c .before .before .before .loop .i) (omega arith))
-
-mul-if1 : tie.Need-mul-if1 Inv-loop μ-loop
-mul-if1 c = omega (arith, c .before .before .before .before .before .pre .1 (c .before .before .before .before .loop .i) (omega arith))
-
-element-copy-out-if1-3 : tie.Need-element-copy-out-if1-3 Inv-loop μ-loop
-element-copy-out-if1-3 c = omega (arith, c .before .before .before .before .before .pre .1 (c .before .before .before .before .loop .i) (omega arith))
-
-mul-if1-2 : tie.Need-mul-if1-2 Inv-loop μ-loop
-mul-if1-2 c = omega (arith, c .before .before .before .before .before .before .pre .1 (c .before .before .before .before .before .loop .i) (omega arith))
-
-element-copy-out-if1-4 : tie.Need-element-copy-out-if1-4 Inv-loop μ-loop
-element-copy-out-if1-4 c =
-    omega (arith, c .before .before .before .before .before .before .pre .1 (c .before .before .before .before .before .loop .i) (omega arith))
-
-mul-if1-3 : tie.Need-mul-if1-3 Inv-loop μ-loop
-mul-if1-3 c =
-    omega (arith, c .before .before .before .before .before .before .before .pre .1 (c .before .before .before .before .before .before .loop .i) (omega arith))
-
-element-copy-out-if1-5 : tie.Need-element-copy-out-if1-5 Inv-loop μ-loop
-element-copy-out-if1-5 c =
-    omega (arith, c .before .before .before .before .before .before .before .pre .1 (c .before .before .before .before .before .before .loop .i) (omega arith))
+-- the edge of a turn lies at a surveyor
+inside : (c : tie.In-loop Inv-loop μ-loop) → at (c .before .before .args .sv .now) (c .before .loop .i) < 32
+inside c = c .before .before .pre .1 (c .before .loop .i) (omega arith)
 
 add-if1 : tie.Need-add-if1 Inv-loop μ-loop
 add-if1 c =
     omega
     (arith, c .before .before .before .before .before .before .before .before .pre .2 (c .before .before .before .before .before .before .before .loop .i))
-
-mul-if1-4 : tie.Need-mul-if1-4 Inv-loop μ-loop
-mul-if1-4 c =
-    omega (
-      arith,
-      c .before .before .before .before .before .before .before .before .pre .1
-          (c .before .before .before .before .before .before .before .loop .i) (omega arith),
-    )
-
-element-copy-out-if1-6 : tie.Need-element-copy-out-if1-6 Inv-loop μ-loop
-element-copy-out-if1-6 c =
-    omega (
-      arith,
-      c .before .before .before .before .before .before .before .before .pre .1
-          (c .before .before .before .before .before .before .before .loop .i) (omega arith),
-    )
 
 returns : tie.Need-returns Inv-loop μ-loop
 returns c =
@@ -101,6 +56,12 @@ returns-2 c =
 
 pub find4-spec : {M : Type 1} → statement M
 find4-spec =
-    tie.close (tie.spec Inv-loop μ-loop loop-holds element-copy-out-s cast-s element-copy-out-if1 element-copy-out-if1-2 mul-if1
-    element-copy-out-if1-3 mul-if1-2 element-copy-out-if1-4 mul-if1-3 element-copy-out-if1-5 add-if1 mul-if1-4 element-copy-out-if1-6
-    returns (λ c. omega arith) (λ c. omega arith) loop-again returns-2)
+    tie.close (tie.spec Inv-loop μ-loop loop-holds (λ c. omega (arith, inside c)) (λ c. omega (arith, inside (c .before)))
+    (λ c. omega (arith, inside (c .before))) (λ c. omega (arith, inside (c .before .before)))
+    (λ c. omega (arith, inside (c .before .before .before))) (λ c. omega (arith, inside (c .before .before .before)))
+    (λ c. omega (arith, inside (c .before .before .before .before))) (λ c. omega (arith, inside (c .before .before .before .before)))
+    (λ c. omega (arith, inside (c .before .before .before .before .before)))
+    (λ c. omega (arith, inside (c .before .before .before .before .before))) add-if1
+    (λ c. omega (arith, inside (c .before .before .before .before .before .before)))
+    (λ c. omega (arith, inside (c .before .before .before .before .before .before))) returns (λ c. omega arith) (λ c. omega arith)
+    loop-again returns-2)

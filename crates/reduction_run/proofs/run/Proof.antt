@@ -1,9 +1,10 @@
 -- A run: where it stands after each step and its repeated strikes.
 use mathlib.Core.Path.{sym, _∙_, subst}
 use mathlib.Core.Logic.{⊎-elim}
-use Prim.Native.Nat.{_-_}
+use Prim.Native.Nat.{_-_, _<_}
 use native.Mathlib.Omega.{arith}
 use borrow.Author.Needs.{needs}
+use Rattle.model.specs.Limits.{entryLimit}
 use Rattle.reduction_state.specs.declared.Trace.{Trace}
 use Rattle.reduction_state.specs.RunState.{Sized, Stands, stateAt, stands-first, stands-next, stands-end, stands-full}
 use Rattle.reduction_run.specs.Given.{settingOf}
@@ -32,62 +33,41 @@ step-requires : tie.Need-step-requires Inv-loop μ-loop
 step-requires c κs =
     c .before .before .before .before .before .before .before .before .before .before .before .pre
 
+-- the start, from the step of a turn; and a turn has room for its step
+abbrev start : tie.After-step Inv-loop μ-loop → tie.Start Inv-loop μ-loop
+start h = h .before .before .before .before .before .before .before .before .before .before .before .before
+
+room : (h : tie.After-step Inv-loop μ-loop) → h .before .before .before .before .before .before .before .before .loop .n < entryLimit
+room h = omega (arith, h .before .before .before .before .before .before .before .loop-test .taken, start h .pre .0 .edges)
+
 stable-requires : tie.Need-stable-requires Inv-loop μ-loop
 stable-requires c κs =
     let h = c .before .before .before .before .before .before in
     let e = h .step .result .edge in
     let below = c .before .before .before .before .before .if1 .left in
-    let s = h .before .before .before .before .before .before .before .before .before .before .before .before in
+    let s = start h in
     (omega (arith, below, s .pre .0 .edges), s .pre .0 .atS e below, s .pre .0 .atT e below)
 
 cast-edges : tie.Need-cast-edges Inv-loop μ-loop
 cast-edges c =
     let h = c .before .before .before .before .before .before .before in
     let below = c .before .before .before .before .before .before .if1 .left in
-    let s = h .before .before .before .before .before .before .before .before .before .before .before .before in
+    let s = start h in
     omega (arith, below, s .pre .0 .edges)
-
-mul-edges : tie.Need-mul-edges Inv-loop μ-loop
-mul-edges c =
-    let h = c .before .before .before .before .before .before .before in
-    let test = h .before .before .before .before .before .before .before .loop-test .taken in
-    let s = h .before .before .before .before .before .before .before .before .before .before .before .before in
-    omega (arith, test, s .pre .0 .edges)
-
-array-write-edges : tie.Need-array-write-edges Inv-loop μ-loop
-array-write-edges c =
-    let h = c .before .before .before .before .before .before .before in
-    let test = h .before .before .before .before .before .before .before .loop-test .taken in
-    let s = h .before .before .before .before .before .before .before .before .before .before .before .before in
-    omega (arith, test, s .pre .0 .edges)
-
-array-write-rules : tie.Need-array-write-rules Inv-loop μ-loop
-array-write-rules c =
-    let h = c .before .before .before .before .before .before .before in
-    let test = h .before .before .before .before .before .before .before .loop-test .taken in
-    let s = h .before .before .before .before .before .before .before .before .before .before .before .before in
-    omega (arith, test, s .pre .0 .edges)
 
 act-requires : tie.Need-act-requires Inv-loop μ-loop
 act-requires c κs =
     let h = c .before .before .before .before .before .before .before in
     let e = h .step .result .edge in
     let below = c .before .before .before .before .before .before .if1 .left in
-    let s = h .before .before .before .before .before .before .before .before .before .before .before .before in
+    let s = start h in
     (omega (arith, below, s .pre .0 .edges), s .pre .0 .atS e below, s .pre .0 .atT e below)
-
-add-strikes : tie.Need-add-strikes Inv-loop μ-loop
-add-strikes c =
-    let h = c .before .before .before .before .before .before .before .before .before .before .before in
-    let test = h .before .before .before .before .before .before .before .loop-test .taken in
-    let s = h .before .before .before .before .before .before .before .before .before .before .before .before in
-    omega (arith, test, s .pre .0 .edges)
 
 strikes-requires : tie.Need-strikes-requires Inv-loop μ-loop
 strikes-requires c κs =
     let h = c .before .before .before .before .before .before .before .before .before .before .before .before .before in
     let below = c .before .before .before .before .before .before .before .before .before .before .before .before .if1 .left in
-    let s = h .before .before .before .before .before .before .before .before .before .before .before .before in
+    let s = start h in
     (s .pre .0 .edges, s .pre .0 .atS, s .pre .0 .atT, below)
 
 loop-less : tie.Need-loop-less Inv-loop μ-loop
@@ -104,7 +84,7 @@ loop-again c =
     let below = c .before .before .before .before .before .before .before .before .before .before .before .before .before .before .if1 .left in
     let test = h .before .before .before .before .before .before .before .loop-test .taken in
     let l = h .before .before .before .before .before .before .before .before .loop in
-    let s = h .before .before .before .before .before .before .before .before .before .before .before .before in
+    let s = start h in
     let a = s .args in (
       c .before .strikes .ensures .0 .1,
       λ K.
@@ -135,5 +115,8 @@ returns c =
 
 pub run-spec : {M : Type 1} → statement M
 run-spec =
-    tie.close (tie.spec Inv-loop μ-loop start-requires loop-holds step-requires stable-requires cast-edges mul-edges array-write-edges
-    array-write-rules act-requires add-strikes strikes-requires loop-less loop-again returns)
+    tie.close (tie.spec Inv-loop μ-loop start-requires loop-holds step-requires stable-requires cast-edges
+    (λ c. omega (arith, room (c .before .before .before .before .before .before .before)))
+    (λ c. omega (arith, room (c .before .before .before .before .before .before .before)))
+    (λ c. omega (arith, room (c .before .before .before .before .before .before .before))) act-requires
+    (λ c. omega (arith, room (c .before .before .before .before .before .before .before .before .before .before .before))) strikes-requires loop-less loop-again returns)

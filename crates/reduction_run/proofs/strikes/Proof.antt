@@ -4,6 +4,8 @@ use native.Mathlib.Omega.{arith}
 use mathlib.Core.Bool.{Bool}
 use mathlib.Core.List.{List}
 use borrow.Author.Needs.{needs}
+use Rattle.model.specs.Limits.{entryLimit, nodeLimit}
+use Rattle.arrays.specs.ArrayInstance.{at}
 use Rattle.reduction_state.specs.RunState.{Sized, sized-next}
 use Rattle.reduction_run.specs.RepeatedStrikes.{Told, place, Repeating, repeating-first, repeating-next, repeated, further, both-below}
 use Rattle.reduction_run.proofs.strikes.Statement.{statement}
@@ -36,50 +38,21 @@ next-requires c κs = (c .before .before .pre .0, omega (arith, c .before .loop 
 returns : tie.Need-returns Inv-loop μ-loop
 returns c = let i = c .before .before .before .loop .inv in ((i .0, i .2), repeated _ _ _ (i .3))
 
-stable-requires : tie.Need-stable-requires Inv-loop μ-loop
-stable-requires c κs =
+-- an edge that is struck: it and the strikes before it are below m, and m within its limit
+struck : (c : tie.Else1 Inv-loop μ-loop) → let m = c .before .before .before .before .args .m in
+    (c .before .next .result < m) × (c .before .before .before .loop .n < m) × (m ≤ entryLimit)
+struck c =
     let s = c .before .before .before .before in
-    let j = c .before .next .result in
-    let b = both-below (s .args .m) j (c .before .before .before .loop .n) (c .if1 .left) in
-    (omega (arith, s .pre .0), s .pre .1 j (b .0), s .pre .2 j (b .0))
+    let b = both-below (s .args .m) (c .before .next .result) (c .before .before .before .loop .n) (c .if1 .left) in
+    (b .0, b .1, s .pre .0)
 
-cast-edges : tie.Need-cast-edges Inv-loop μ-loop
-cast-edges c =
-    let s = c .before .before .before .before .before in
-    let b = both-below (s .args .m) (c .before .before .next .result) (c .before .before .before .before .loop .n) (c .before .if1 .left) in
-    omega (arith, s .pre .0)
-
-mul-edges : tie.Need-mul-edges Inv-loop μ-loop
-mul-edges c =
-    let s = c .before .before .before .before .before in
-    let b = both-below (s .args .m) (c .before .before .next .result) (c .before .before .before .before .loop .n) (c .before .if1 .left) in
-    omega (arith, s .pre .0)
-
-element-write-edges : tie.Need-element-write-edges Inv-loop μ-loop
-element-write-edges c =
-    let s = c .before .before .before .before .before in
-    let b = both-below (s .args .m) (c .before .before .next .result) (c .before .before .before .before .loop .n) (c .before .if1 .left) in
-    omega (arith, s .pre .0)
-
-element-write-rules : tie.Need-element-write-rules Inv-loop μ-loop
-element-write-rules c =
-    let s = c .before .before .before .before .before in
-    let b = both-below (s .args .m) (c .before .before .next .result) (c .before .before .before .before .loop .n) (c .before .if1 .left) in
-    omega (arith, s .pre .0)
-
-act-requires : tie.Need-act-requires Inv-loop μ-loop
-act-requires c κs =
-    let s = c .before .before .before .before .before in
-    let j = c .before .before .next .result in
-    let b = both-below (s .args .m) j (c .before .before .before .before .loop .n) (c .before .if1 .left) in
-    (omega (arith, s .pre .0), s .pre .1 j (b .0), s .pre .2 j (b .0))
-
-add-n : tie.Need-add-n Inv-loop μ-loop
-add-n c =
-    let s = c .before .before .before .before .before .before in
-    let b =
-    both-below (s .args .m) (c .before .before .before .next .result) (c .before .before .before .before .before .loop .n) (c .before .before .if1 .left) in
-    omega (arith, s .pre .0)
+-- its ends are nodes
+ends : (c : tie.Else1 Inv-loop μ-loop) → let a = c .before .before .before .before .args in let j = c .before .next .result in
+    (j < entryLimit) × (at (a .sv .now) j < nodeLimit) × (at (a .st .now) j < nodeLimit)
+ends c =
+    let p = c .before .before .before .before .pre in
+    let b = struck c in
+    (omega (arith, b), p .1 _ (b .0), p .2 _ (b .0))
 
 loop-less : tie.Need-loop-less Inv-loop μ-loop
 loop-less c =
@@ -109,5 +82,6 @@ returns-2 c = let i = c .before .loop .inv in ((i .0, i .2), repeated _ _ _ (i .
 
 pub strikes-spec : {M : Type 1} → statement M
 strikes-spec =
-    tie.close (tie.spec Inv-loop μ-loop loop-holds add-next next-requires returns stable-requires cast-edges mul-edges element-write-edges
-    element-write-rules act-requires add-n loop-less loop-again returns-2)
+    tie.close (tie.spec Inv-loop μ-loop loop-holds add-next next-requires returns (λ c κs. ends c)
+    (λ c. omega (arith, struck (c .before))) (λ c. omega (arith, struck (c .before))) (λ c. omega (arith, struck (c .before)))
+    (λ c. omega (arith, struck (c .before))) (λ c κs. ends (c .before)) (λ c. omega (arith, struck (c .before .before))) loop-less loop-again returns-2)

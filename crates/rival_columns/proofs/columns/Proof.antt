@@ -49,7 +49,8 @@ loop-again c =
     let s = l .before .before .before .before .before in (
       omega arith,
       c .put-row2 .ensures .0,
-      column-next (s .args .arcs .now) (s .args .n) (s .args .j) (s .pre .0) (l .loop .o) (c .before .before .before .next-column .result) (c .put-row2 .last .0)
+      column-next (s .args .arcs .now) (s .args .n) (s .args .j) (s .pre .0) (l .loop .o)
+          (c .before .before .before .next-column .result) (c .put-row2 .last .0)
           (l .loop .k) (l .loop .inv .2) (c .before .before .before .next-column .ensures) (c .put-row2 .ensures .1),
     )
 

@@ -21,9 +21,6 @@ loop-holds c = (zero-le, length-replicate {A = ℕ} 4096 0, λ i j h. absurd (no
 terminal-row-requires : tie.Need-terminal-row-requires Inv-loop μ-loop
 terminal-row-requires c κs = (omega arith, omega arith, c .before .before .pre .1)
 
-put-row-requires : tie.Need-put-row-requires Inv-loop μ-loop
-put-row-requires c κs = (omega arith, c .before .before .before .before .loop .inv .1)
-
 loop-again : tie.Need-loop-again Inv-loop μ-loop
 loop-again c =
     let l = c .before .before .before .before .before in
@@ -40,5 +37,6 @@ returns c = λ i j h k. c .before .loop .inv .2 i j (omega arith) k
 
 pub terminals-spec : {M : Type 1} → statement M
 terminals-spec =
-    tie.close (tie.spec Inv-loop μ-loop loop-holds terminal-row-requires put-row-requires (λ c. search needs) (λ c. search needs)
+    tie.close (tie.spec Inv-loop μ-loop loop-holds terminal-row-requires
+    (λ c κs. (omega arith, c .before .before .before .before .loop .inv .1)) (λ c. search needs) (λ c. search needs)
     loop-again returns)

@@ -23,17 +23,56 @@ loop-holds c =
     let a = c .before .args in
     (zero-le, c .before .pre .3, layer-first (a .arcs .now) (a .n), levels-start (a .arcs .now) (a .terminals .now) (a .n) (a .k) (a .b))
 
+-- what each call of a turn gives is the level's: the loop it closes, the row of its pair, the next layer, and what changes in it
+looped : (c : tie.After-diagonal Inv-loop μ-loop) → let l = c .before .before .before in let a = l .before .before .args in
+    c .diagonal .result ≡ levelLoop (a .arcs .now) (a .n) (a .k) (l .loop .l)
+looped c =
+    let l = c .before .before .before in
+    let a = l .before .before .args in
+    let e : 2 * (l .loop .l + 1) + a .k ≡ 2 * suc (l .loop .l) + a .k = omega arith in
+    loop-is (a .arcs .now) (a .terminals .now) (l .loop .d) (a .n) (a .k) (l .loop .l) (omega arith) (l .loop .inv .2)
+    (2 * (l .loop .l + 1) + a .k) (c .diagonal .result) e (c .diagonal .ensures)
+
+abbrev worth : (l : tie.At-loop Inv-loop μ-loop) → ℕ
+worth l = 2 * (l .loop .l + 1) + l .before .before .args .k + 4
+
+worth-is : (l : tie.At-loop Inv-loop μ-loop) → worth l ≡ 2 * suc (l .loop .l) + 4 + l .before .before .args .k
+worth-is l = omega arith
+
+rowed : (c : tie.After-pair Inv-loop μ-loop) → let l = c .before .before .before .before .before .before in let a = l .before .before .args in
+    c .pair .result .row ≡ levelRow (a .arcs .now) (a .terminals .now) (a .n) (a .k) (l .loop .l)
+rowed c =
+    let l = c .before .before .before .before .before .before in
+    let a = l .before .before .args in
+    row-is (a .arcs .now) (a .terminals .now) (l .loop .d) (a .n) (a .k) (l .loop .l) (omega arith) (l .loop .inv .2) (worth l)
+    (c .pair .result .row) (worth-is l) (c .pair .ensures .0)
+
+layered : (c : tie.After-next-layer Inv-loop μ-loop)
+    → let l = c .before .before .before .before .before .before .before .before .before .before .before in let a = l .before .before .args in
+    Rows (c .next-layer .result) (a .n) (layerAt (a .arcs .now) (a .n) (suc (l .loop .l)))
+layered c =
+    let l = c .before .before .before .before .before .before .before .before .before .before .before in
+    let a = l .before .before .args in
+    layer-next (a .arcs .now) (l .loop .d) (c .next-layer .result) (a .n) (l .loop .l) (l .loop .inv .2) (c .next-layer .ensures)
+
+altered : (c : tie.After-changed Inv-loop μ-loop)
+    → let l = c .before .before .before .before .before .before .before .before .before .before .before .before .before .before in
+    let a = l .before .before .args in
+    c .changed .result ≡ levelChange (a .arcs .now) (a .n) (l .loop .l)
+altered c =
+    let l = c .before .before .before .before .before .before .before .before .before .before .before .before .before .before in
+    let a = l .before .before .args in
+    let y = c .before .before .before in
+    change-is (a .arcs .now) (a .terminals .now) (l .loop .d) (a .n) (a .k) (l .loop .l) (omega arith) (l .loop .inv .2)
+    (y .next-layer .result) (c .changed .result) (layered y) (c .changed .ensures)
+
 returns : tie.Need-returns Inv-loop μ-loop
 returns c =
-    let l = c .before .before .before .before in
-    let a = c .before .before .before .before .before .before .args in
-    let b : ℕ = 2 * (l .loop .l + 1) + a .k in
-    let e : b ≡ 2 * suc (l .loop .l) + a .k = omega arith in
-    let i : c .before .diagonal .result ≡ levelLoop (a .arcs .now) (a .n) (a .k) (l .loop .l) =
-    loop-is (a .arcs .now) (a .terminals .now) (l .loop .d) (a .n) (a .k) (l .loop .l) (omega arith) (l .loop .inv .2) b
-    (c .before .diagonal .result) e (c .before .diagonal .ensures) in
+    let d = c .before in
+    let l = d .before .before .before in
+    let a = l .before .before .args in
     out-closed (a .arcs .now) (a .terminals .now) (a .n) (a .k) (l .loop .l)
-    (levelsAt (a .arcs .now) (a .terminals .now) (a .n) (a .k) (a .b - (l .loop .l + 1)) (l .loop .l + 1)) (c .before .diagonal .result) i
+    (levelsAt (a .arcs .now) (a .terminals .now) (a .n) (a .k) (a .b - (l .loop .l + 1)) (l .loop .l + 1)) (d .diagonal .result) (looped d)
     (c .if1 .taken)
     ∙ sym (levels-turn (a .arcs .now) (a .terminals .now) (a .n) (a .k) (a .b) (l .loop .l) (omega arith)) ∙ l .loop .inv .3
 
@@ -42,43 +81,27 @@ pair-requires c κs = (omega arith, c .before .before .before .before .before .l
 
 returns-2 : tie.Need-returns-2 Inv-loop μ-loop
 returns-2 c =
-    let l = c .before .before .before .before .before .before .before .before in
-    let a = c .before .before .before .before .before .before .before .before .before .before .args in
-    let b : ℕ = 2 * (l .loop .l + 1) + a .k in
-    let e : b ≡ 2 * suc (l .loop .l) + a .k = omega arith in
-    let i : c .before .before .before .before .before .diagonal .result ≡ levelLoop (a .arcs .now) (a .n) (a .k) (l .loop .l) =
-    loop-is (a .arcs .now) (a .terminals .now) (l .loop .d) (a .n) (a .k) (l .loop .l) (omega arith) (l .loop .inv .2) b
-    (c .before .before .before .before .before .diagonal .result) e (c .before .before .before .before .before .diagonal .ensures) in
-    let f : b + 4 ≡ 2 * suc (l .loop .l) + 4 + a .k = omega arith in
-    let r : c .before .before .pair .result .row ≡ levelRow (a .arcs .now) (a .terminals .now) (a .n) (a .k) (l .loop .l) =
-    row-is (a .arcs .now) (a .terminals .now) (l .loop .d) (a .n) (a .k) (l .loop .l) (omega arith) (l .loop .inv .2) (b + 4)
-    (c .before .before .pair .result .row) f (c .before .before .pair .ensures .0) in
+    let p = c .before .before in
+    let d = p .before .before .before in
+    let l = d .before .before .before in
+    let a = l .before .before .args in
     out-open (a .arcs .now) (a .terminals .now) (a .n) (a .k) (l .loop .l)
     (levelsAt (a .arcs .now) (a .terminals .now) (a .n) (a .k) (a .b - (l .loop .l + 1)) (l .loop .l + 1))
-    (c .before .before .before .before .before .diagonal .result) (c .before .before .pair .result .row) (c .before .before .pair .result .column) i
-    (c .before .before .before .before .if1 .left) r (c .if2 .taken)
-    (column-is (a .arcs .now) (a .terminals .now) (l .loop .d) (a .n) (a .k) (l .loop .l) (omega arith) (l .loop .inv .2) (b + 4)
-    (c .before .before .pair .result .row) (c .before .before .pair .result .column) f (c .before .before .pair .ensures .0) (c .if2 .taken)
-    (c .before .before .pair .ensures .1 (c .if2 .taken)))
+    (d .diagonal .result) (p .pair .result .row) (p .pair .result .column) (looped d) (p .before .before .if1 .left) (rowed p) (c .if2 .taken)
+    (column-is (a .arcs .now) (a .terminals .now) (l .loop .d) (a .n) (a .k) (l .loop .l) (omega arith) (l .loop .inv .2) (worth l)
+    (p .pair .result .row) (p .pair .result .column) (worth-is l) (p .pair .ensures .0) (c .if2 .taken)
+    (p .pair .ensures .1 (c .if2 .taken)))
     ∙ sym (levels-turn (a .arcs .now) (a .terminals .now) (a .n) (a .k) (a .b) (l .loop .l) (omega arith)) ∙ l .loop .inv .3
 
 returns-3 : tie.Need-returns-3 Inv-loop μ-loop
 returns-3 c =
-    let l = c .before .before .before .before .before .before .before .before .before in
+    let p = c .before .before .before in
+    let d = p .before .before .before in
+    let l = d .before .before .before in
     let a = l .before .before .args in
-    let b : ℕ = 2 * (l .loop .l + 1) + a .k in
-    let e : b ≡ 2 * suc (l .loop .l) + a .k = omega arith in
-    let i : c .before .before .before .before .before .before .diagonal .result ≡ levelLoop (a .arcs .now) (a .n) (a .k) (l .loop .l) =
-    loop-is (a .arcs .now) (a .terminals .now) (l .loop .d) (a .n) (a .k) (l .loop .l) (omega arith) (l .loop .inv .2) b
-    (c .before .before .before .before .before .before .diagonal .result) e (c .before .before .before .before .before .before .diagonal .ensures) in
-    let f : b + 4 ≡ 2 * suc (l .loop .l) + 4 + a .k = omega arith in
-    let r : c .before .before .before .pair .result .row ≡ levelRow (a .arcs .now) (a .terminals .now) (a .n) (a .k) (l .loop .l) =
-    row-is (a .arcs .now) (a .terminals .now) (l .loop .d) (a .n) (a .k) (l .loop .l) (omega arith) (l .loop .inv .2) (b + 4)
-    (c .before .before .before .pair .result .row) f (c .before .before .before .pair .ensures .0) in
     out-last (a .arcs .now) (a .terminals .now) (a .n) (a .k) (l .loop .l)
     (levelsAt (a .arcs .now) (a .terminals .now) (a .n) (a .k) (a .b - (l .loop .l + 1)) (l .loop .l + 1))
-    (c .before .before .before .before .before .before .diagonal .result) (c .before .before .before .pair .result .row) i
-    (c .before .before .before .before .before .if1 .left) r (c .before .if2 .left)
+    (d .diagonal .result) (p .pair .result .row) (looped d) (p .before .before .if1 .left) (rowed p) (c .before .if2 .left)
     (levels-end (a .arcs .now) (a .terminals .now) (a .n) (a .k) (a .b) (l .loop .l + 1) (omega arith))
     ∙ sym (levels-turn (a .arcs .now) (a .terminals .now) (a .n) (a .k) (a .b) (l .loop .l) (omega arith)) ∙ l .loop .inv .3
 
@@ -94,68 +117,33 @@ changed-requires c κs = (omega arith, c .before .before .before .before .before
 
 returns-4 : tie.Need-returns-4 Inv-loop μ-loop
 returns-4 c =
-    let l = c .before .before .before .before .before .before .before .before .before .before .before .before .before .before .before in
-    let a = c .before .before .before .before .before .before .before .before .before .before .before .before .before .before .before .before .before .args in
-    let b : ℕ = 2 * (l .loop .l + 1) + a .k in
-    let e : b ≡ 2 * suc (l .loop .l) + a .k = omega arith in
-    let i : c .before .before .before .before .before .before .before .before .before .before .before .before .diagonal .result ≡ levelLoop (a .arcs .now)
-    (a .n) (a .k) (l .loop .l) =
-    loop-is (a .arcs .now) (a .terminals .now) (l .loop .d) (a .n) (a .k) (l .loop .l) (omega arith) (l .loop .inv .2) b
-    (c .before .before .before .before .before .before .before .before .before .before .before .before .diagonal .result) e
-    (c .before .before .before .before .before .before .before .before .before .before .before .before .diagonal .ensures) in
-    let f : b + 4 ≡ 2 * suc (l .loop .l) + 4 + a .k = omega arith in
-    let r : c .before .before .before .before .before .before .before .before .before .pair .result .row ≡ levelRow (a .arcs .now) (a .terminals .now) (a .n)
-    (a .k) (l .loop .l) =
-    row-is (a .arcs .now) (a .terminals .now) (l .loop .d) (a .n) (a .k) (l .loop .l) (omega arith) (l .loop .inv .2) (b + 4)
-    (c .before .before .before .before .before .before .before .before .before .pair .result .row) f
-    (c .before .before .before .before .before .before .before .before .before .pair .ensures .0) in
-    let s : Rows (c .before .before .before .before .next-layer .result) (a .n) (layerAt (a .arcs .now) (a .n) (suc (l .loop .l))) =
-    layer-next (a .arcs .now) (l .loop .d) (c .before .before .before .before .next-layer .result) (a .n) (l .loop .l) (l .loop .inv .2)
-    (c .before .before .before .before .next-layer .ensures) in
-    let g : c .before .changed .result ≡ levelChange (a .arcs .now) (a .n) (l .loop .l) =
-    change-is (a .arcs .now) (a .terminals .now) (l .loop .d) (a .n) (a .k) (l .loop .l) (omega arith) (l .loop .inv .2)
-    (c .before .before .before .before .next-layer .result) (c .before .changed .result) s (c .before .changed .ensures) in
+    let g = c .before in
+    let p = g .before .before .before .before .before .before .before .before in
+    let d = p .before .before .before in
+    let l = d .before .before .before in
+    let a = l .before .before .args in
     out-nothing (a .arcs .now) (a .terminals .now) (a .n) (a .k) (l .loop .l)
     (levelsAt (a .arcs .now) (a .terminals .now) (a .n) (a .k) (a .b - (l .loop .l + 1)) (l .loop .l + 1))
-    (c .before .before .before .before .before .before .before .before .before .before .before .before .diagonal .result)
-    (c .before .before .before .before .before .before .before .before .before .pair .result .row) (c .before .changed .result) i
-    (c .before .before .before .before .before .before .before .before .before .before .before .if1 .left) r
-    (c .before .before .before .before .before .before .before .if2 .left) g (c .if4 .taken)
+    (d .diagonal .result) (p .pair .result .row) (g .changed .result) (looped d) (p .before .before .if1 .left) (rowed p)
+    (g .before .before .before .before .before .before .if2 .left) (altered g) (c .if4 .taken)
     ∙ sym (levels-turn (a .arcs .now) (a .terminals .now) (a .n) (a .k) (a .b) (l .loop .l) (omega arith)) ∙ l .loop .inv .3
 
 loop-again : tie.Need-loop-again Inv-loop μ-loop
 loop-again c =
-    let l = c .before .before .before .before .before .before .before .before .before .before .before .before .before .before .before in
-    let a = c .before .before .before .before .before .before .before .before .before .before .before .before .before .before .before .before .before .args in
-    let b : ℕ = 2 * (l .loop .l + 1) + a .k in
-    let e : b ≡ 2 * suc (l .loop .l) + a .k = omega arith in
-    let i : c .before .before .before .before .before .before .before .before .before .before .before .before .diagonal .result ≡ levelLoop (a .arcs .now)
-    (a .n) (a .k) (l .loop .l) =
-    loop-is (a .arcs .now) (a .terminals .now) (l .loop .d) (a .n) (a .k) (l .loop .l) (omega arith) (l .loop .inv .2) b
-    (c .before .before .before .before .before .before .before .before .before .before .before .before .diagonal .result) e
-    (c .before .before .before .before .before .before .before .before .before .before .before .before .diagonal .ensures) in
-    let f : b + 4 ≡ 2 * suc (l .loop .l) + 4 + a .k = omega arith in
-    let r : c .before .before .before .before .before .before .before .before .before .pair .result .row ≡ levelRow (a .arcs .now) (a .terminals .now) (a .n)
-    (a .k) (l .loop .l) =
-    row-is (a .arcs .now) (a .terminals .now) (l .loop .d) (a .n) (a .k) (l .loop .l) (omega arith) (l .loop .inv .2) (b + 4)
-    (c .before .before .before .before .before .before .before .before .before .pair .result .row) f
-    (c .before .before .before .before .before .before .before .before .before .pair .ensures .0) in
-    let s : Rows (c .before .before .before .before .next-layer .result) (a .n) (layerAt (a .arcs .now) (a .n) (suc (l .loop .l))) =
-    layer-next (a .arcs .now) (l .loop .d) (c .before .before .before .before .next-layer .result) (a .n) (l .loop .l) (l .loop .inv .2)
-    (c .before .before .before .before .next-layer .ensures) in
-    let g : c .before .changed .result ≡ levelChange (a .arcs .now) (a .n) (l .loop .l) =
-    change-is (a .arcs .now) (a .terminals .now) (l .loop .d) (a .n) (a .k) (l .loop .l) (omega arith) (l .loop .inv .2)
-    (c .before .before .before .before .next-layer .result) (c .before .changed .result) s (c .before .changed .ensures) in
+    let g = c .before in
+    let y = g .before .before .before in
+    let p = g .before .before .before .before .before .before .before .before in
+    let d = p .before .before .before in
+    let l = d .before .before .before in
+    let a = l .before .before .args in
     let o : suc (l .loop .l) ≡ l .loop .l + 1 = omega arith in (
       omega arith,
-      (λ i j h k. omega (arith, c .before .before .before .before .next-layer .ensures i j h k, next-≤ (a .arcs .now) (l .loop .d) (a .n) i j)),
-      subst (λ z. Rows (c .before .before .before .before .next-layer .result) (a .n) (layerAt (a .arcs .now) (a .n) z)) o s,
+      (λ i j h k. omega (arith, y .next-layer .ensures i j h k, next-≤ (a .arcs .now) (l .loop .d) (a .n) i j)),
+      subst (λ z. Rows (y .next-layer .result) (a .n) (layerAt (a .arcs .now) (a .n) z)) o (layered y),
       out-on (a .arcs .now) (a .terminals .now) (a .n) (a .k) (l .loop .l)
           (levelsAt (a .arcs .now) (a .terminals .now) (a .n) (a .k) (a .b - (l .loop .l + 1)) (l .loop .l + 1))
-          (c .before .before .before .before .before .before .before .before .before .before .before .before .diagonal .result)
-          (c .before .before .before .before .before .before .before .before .before .pair .result .row) (c .before .changed .result) i
-          (c .before .before .before .before .before .before .before .before .before .before .before .if1 .left) r
-          (c .before .before .before .before .before .before .before .if2 .left) g (c .if4 .left)
+          (d .diagonal .result) (p .pair .result .row) (g .changed .result) (looped d) (p .before .before .if1 .left) (rowed p)
+          (g .before .before .before .before .before .before .if2 .left) (altered g) (c .if4 .left)
           ∙ sym (levels-turn (a .arcs .now) (a .terminals .now) (a .n) (a .k) (a .b) (l .loop .l) (omega arith)) ∙ l .loop .inv .3,
     )
 

@@ -1,7 +1,6 @@
 -- The ways out of the search.
-use Prim.Native.Nat.{_≤_}
 use native.Mathlib.Omega.{arith}
-use mathlib.Core.Path.{_≡_, sym, _∙_}
+use mathlib.Core.Path.{sym, _∙_}
 use borrow.Author.Needs.{needs}
 use Rattle.rival_certificate.specs.Certified.{certified, closed-small}
 use Rattle.rival_search.specs.TwoThresholds.{out-alone, out-levels}
@@ -26,7 +25,8 @@ returns-2 c =
     let i = c .before .before .before .before .diagonal in
     let (loops, wholes) = c .before .clear .ensures (c .if3 .taken) in
     sym
-    (certified (a .arcs .now) (a .ends .now) (a .costs .now) (a .n) (a .k) (s .pre .0) (s .pre .1) (s .pre .5 (c .before .before .if2 .taken)) loops wholes (a .n) 0
+    (certified (a .arcs .now) (a .ends .now) (a .costs .now) (a .n) (a .k) (s .pre .0)
+    (s .pre .1) (s .pre .5 (c .before .before .if2 .taken)) loops wholes (a .n) 0
     (omega arith))
     ∙ out-levels (a .arcs .now) (a .ends .now) (a .n) (a .k) (i .result) (i .ensures) (c .before .before .before .if1 .left)
 

@@ -36,9 +36,6 @@ list-at-requires c κs =
       row-clear (λ xs. xs) [] refl (l .loop .table) (l .loop .inv .3 .lists) (l .loop .k) (l .loop .inv .3 .shown) (l .loop .inv .3 .count),
     )
 
-same-length : tie.Need-same-length Inv-loop μ-loop
-same-length c = c .before .before .before .table .given .1 ∙ c .before .before .before .before .before .before .before .loop .inv .2
-
 returns : tie.Need-returns Inv-loop μ-loop
 returns c =
     let r = c .before .before .before .before in
@@ -74,5 +71,7 @@ returns-2 c =
 pub lists-at-spec : {M : Type 1} → statement M
 lists-at-spec =
     tie.close (tie.spec Inv-loop μ-loop (λ c κs. search needs) loop-holds (λ c. search needs) (λ c. search needs) (λ c. search needs)
-    (λ c. search needs) (λ c. search needs) list-at-requires (λ c. search needs) (λ c. search needs) same-length returns (λ c. search needs)
+    (λ c. search needs) (λ c. search needs) list-at-requires (λ c. search needs) (λ c. search needs)
+    (λ c. c .before .before .before .table .given .1 ∙ c .before .before .before .before .before .before .before .loop .inv .2)
+    returns (λ c. search needs)
     (λ c. omega arith) loop-again (λ c. search needs) returns-2)

@@ -37,9 +37,6 @@ ranking-at-requires c κs =
       row-clear entries noRanking refl (l .loop .table) (l .loop .inv .3 .lists) (l .loop .k) (l .loop .inv .3 .shown) (l .loop .inv .3 .count),
     )
 
-same-length : tie.Need-same-length Inv-loop μ-loop
-same-length c = c .before .before .before .table .given .1 ∙ c .before .before .before .before .before .before .before .loop .inv .2
-
 returns : tie.Need-returns Inv-loop μ-loop
 returns c =
     let r = c .before .before .before .before in
@@ -75,5 +72,7 @@ returns-2 c =
 pub rankings-at-spec : {M : Type 1} → statement M
 rankings-at-spec =
     tie.close (tie.spec Inv-loop μ-loop (λ c κs. search needs) loop-holds (λ c. search needs) (λ c. search needs) (λ c. search needs)
-    (λ c. search needs) (λ c. search needs) ranking-at-requires (λ c. search needs) (λ c. search needs) same-length returns (λ c. search needs)
+    (λ c. search needs) (λ c. search needs) ranking-at-requires (λ c. search needs) (λ c. search needs)
+    (λ c. c .before .before .before .table .given .1 ∙ c .before .before .before .before .before .before .before .loop .inv .2)
+    returns (λ c. search needs)
     (λ c. omega arith) loop-again (λ c. search needs) returns-2)

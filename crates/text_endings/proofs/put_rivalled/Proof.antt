@@ -46,14 +46,14 @@ put-plan-requires-2 c κs =
 returns : tie.Need-returns
 unfolding text
 returns c =
-    let s =
-    c .before .before .before .before .before .before .before .before .before .before .before .before .before .before .before .before .before .before .before .before .before .before in
+    let w = c .before .before .before .before .before .before .before .before .before .before .before .before .before .before .before .before in
+    let s = w .before .before .before .before .before .before in
     let a = s .args in
     let h : a .at ≤ length (a .out .now) = omega (arith, s .pre) in
     append-then (a .out .now) (a .at) h
     (append-then (a .out .now) (a .at) h
     (append-then (a .out .now) (a .at) h
-    (c .before .before .before .before .before .before .before .before .before .before .before .before .before .before .before .before .put-word .ensures)
+    (w .put-word .ensures)
     (append-as (ap (λ v. signed v ++ 10 ∷ []) (toZ-ofZ w16 (a .vote) (s .fits .vote)))
     (c .before .before .before .before .before .before .before .before .before .before .before .before .put-vote .ensures)))
     (c .before .before .before .before .before .before .before .put-plan .ensures))

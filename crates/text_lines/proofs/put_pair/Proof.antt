@@ -32,7 +32,8 @@ returns c =
     let h : a .at ≤ length (a .out .now) = omega (arith, s .pre) in
     append-as (pair-fields (a .surveyor) (a .stand) (a .shift) (a .end))
     (append-then (a .out .now) (a .at) h
-    (append-then (a .out .now) (a .at) h (c .before .before .before .before .before .before .before .before .before .before .put-field .ensures) (c .before .before .before .before .before .before .put-field2 .ensures))
+    (append-then (a .out .now) (a .at) h (c .before .before .before .before .before .before .before .before .before .before .put-field .ensures)
+    (c .before .before .before .before .before .before .put-field2 .ensures))
     (c .before .before .put-field3 .ensures))
 
 pub put-pair-spec : {M : Type 1} → statement M

@@ -11,7 +11,11 @@ use Rattle.text_lines.proofs.put_record.Tie as tie
 
 put-pair-requires : tie.Need-put-pair-requires
 put-pair-requires c κs =
-    omega (arith, simp length-append at (c .before .before .before .put-fate .ensures .place), fate-length (c .before .before .before .before .before .before .args .fate))
+    omega (
+      arith,
+      simp length-append at (c .before .before .before .put-fate .ensures .place),
+      fate-length (c .before .before .before .before .before .before .args .fate),
+    )
 
 put-field-requires : tie.Need-put-field-requires
 put-field-requires c κs =
@@ -31,7 +35,8 @@ returns c =
     let h : a .at ≤ length (a .out .now) = omega (arith, s .pre) in
     append-as (record-fields (record { fate = a .fate; surveyor = a .surveyor; stand = a .stand; shift = a .shift; rule = a .rule }))
     (append-then (a .out .now) (a .at) h
-    (append-then (a .out .now) (a .at) h (c .before .before .before .before .before .before .before .before .before .before .put-fate .ensures) (c .before .before .before .before .before .before .put-pair .ensures))
+    (append-then (a .out .now) (a .at) h (c .before .before .before .before .before .before .before .before .before .before .put-fate .ensures)
+    (c .before .before .before .before .before .before .put-pair .ensures))
     (c .before .before .put-field .ensures))
 
 pub put-record-spec : {M : Type 1} → statement M

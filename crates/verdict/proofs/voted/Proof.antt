@@ -13,7 +13,9 @@ write-plan-requires c κs =
     (s .pre .0 .edges, λ e h. s .pre .0 .low-sv e, λ e h. s .pre .0 .low-st e, s .pre .3, s .pre .4)
 
 vote-between-requires : tie.Need-vote-between-requires
-vote-between-requires c κs = let s = c .before .before .before .before .before .before .before .before .before .before .before in (s .pre .0, s .pre .1, s .pre .2)
+vote-between-requires c κs =
+    let s = c .before .before .before .before .before .before .before .before .before .before .before in
+    (s .pre .0, s .pre .1, s .pre .2)
 
 returns : tie.Need-returns
 returns c =

@@ -10,6 +10,10 @@ use Rattle.verdict.specs.RivalWritten.{few, plan-within, popular-as, bea
 use Rattle.verdict.proofs.weigh.Statement.{statement}
 use Rattle.verdict.proofs.weigh.Tie as tie
 
+-- the start, from the judgement
+abbrev start : tie.After-judge → tie.Start
+start k = k .before .before .before .before .before .before .before .before .before .before .before .before .before .before
+
 judge-requires : tie.Need-judge-requires
 judge-requires c κs =
     let s = c .before .before .before .before .before .before .before .before .before .before .before .before .before in
@@ -23,9 +27,10 @@ judge-requires c κs =
 
 voted-requires : tie.Need-voted-requires
 voted-requires c κs =
-    let s = c .before .before .before .before .before .before .before .before .before .before .before .before .before .before .before .before .before .before in
+    let after = c .before .before .before .before in
+    let s = start after in
     let a = s .args in
-    let j = c .before .before .before .before .judge in
+    let j = after .judge in
     let v = verdictFor (j .result .beaten) (j .result .rivalled) in
     let k =
     made.beaten-there (a .g) (s .pre .0) (a .plan .now) (s .pre .1 .0) (s .pre .1 .1) v (j .result .rival) (j .ensures)
@@ -39,10 +44,10 @@ voted-requires c κs =
 
 returns : tie.Need-returns
 returns c =
-    let s =
-    c .before .before .before .before .before .before .before .before .before .before .before .before .before .before .before .before .before .before .before .before .before in
+    let after = c .before .before .before .before .before .before .before in
+    let s = start after in
     let a = s .args in
-    let j = c .before .before .before .before .before .before .before .judge in
+    let j = after .judge in
     let v = verdictFor (j .result .beaten) (j .result .rivalled) in
     let w = c .before .before .voted in
     λ M S. beaten-as (toZ-ofZ w16 (w .result) (sfits-of (w .ok)))
@@ -51,10 +56,10 @@ returns c =
 
 voted-requires-2 : tie.Need-voted-requires-2
 voted-requires-2 c κs =
-    let s =
-    c .before .before .before .before .before .before .before .before .before .before .before .before .before .before .before .before .before .before .before in
+    let after = c .before .before .before .before .before in
+    let s = start after in
     let a = s .args in
-    let j = c .before .before .before .before .before .judge in
+    let j = after .judge in
     let v = verdictFor (j .result .beaten) (j .result .rivalled) in
     let k =
     made.popular-there (a .g) (s .pre .0) (a .plan .now) (s .pre .1 .0) (s .pre .1 .1) v (j .result .rival) (j .ensures)
@@ -68,10 +73,10 @@ voted-requires-2 c κs =
 
 returns-2 : tie.Need-returns-2
 returns-2 c =
-    let s =
-    c .before .before .before .before .before .before .before .before .before .before .before .before .before .before .before .before .before .before .before .before .before .before in
+    let after = c .before .before .before .before .before .before .before .before in
+    let s = start after in
     let a = s .args in
-    let j = c .before .before .before .before .before .before .before .before .judge in
+    let j = after .judge in
     let v = verdictFor (j .result .beaten) (j .result .rivalled) in
     let w = c .before .before .voted2 in
     λ M S. popular-as (toZ-ofZ w16 (w .result) (sfits-of (w .ok)))
@@ -80,9 +85,10 @@ returns-2 c =
 
 returns-3 : tie.Need-returns-3
 returns-3 c =
-    let s = c .before .before .before .before .before .before .before .before .before .before .before .before .before .before .before .before .before in
+    let after = c .before .before .before in
+    let s = start after in
     let a = s .args in
-    let j = c .before .before .before .judge in
+    let j = after .judge in
     let v = verdictFor (j .result .beaten) (j .result .rivalled) in
     λ M S. made.strong-weighed (a .g) (s .pre .0) (a .plan .now) M S v (j .result .rival) (j .ensures) (a .out .now)
     (ap₂ verdictFor (c .before .if1 .left) (c .if2 .left))

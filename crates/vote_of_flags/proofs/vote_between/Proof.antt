@@ -34,7 +34,8 @@ returns c =
     let b = c .before .before .before .before .before .before .before .before .before .before .before .before .before .before .before .before in
     let g = b .args .g in
     let v = c .before .plan-votes in
-    toZ-ofZ w16 (v .result .first) (sfits-of (c .struct-told .given .0 .1)) ∙ v .ensures .first (g .sh) (g .tied) (g .«quota_s») (g .«quota_t») (b .pre .1) (b .pre .2)
+    toZ-ofZ w16 (v .result .first) (sfits-of (c .struct-told .given .0 .1))
+    ∙ v .ensures .first (g .sh) (g .tied) (g .«quota_s») (g .«quota_t») (b .pre .1) (b .pre .2)
 
 pub vote-between-spec : {M : Type 1} → statement M
 vote-between-spec = tie.close (tie.spec list-edges-requires list-edges-requires-2 plan-votes-requires returns)
