@@ -1,11 +1,11 @@
 -- What a conversion of a roster file promises: the model's answer and bytes, and that the other way undoes it.
-use Prim.Native.Nat.{ℕ, suc, _+_, _≤_, _<_}
+use Prim.Native.Nat.{ℕ, _+_, _≤_, _<_}
 use native.Mathlib.Omega.{arith}
 use mathlib.Core.Path.{_≡_, refl, sym, ap, _∙_, subst}
 use mathlib.Core.Bool.{Bool, true, false, not, cond}
 use mathlib.Core.List.{List, _++_}
 use lib.ListN.{length, take, drop, getD}
-use lib.Seq.{take-all, take-append-seam, take-length}
+use lib.Seq.{take-all, take-length}
 use lib.Dec.{T}
 use borrow.Author.Tests.{lt-ltb, le-ltb}
 use Rattle.lists.specs.Test.{given, true-T, false-T}
@@ -15,7 +15,7 @@ use Rattle.model.specs.Roster.{Roster}
 use Rattle.model.specs.RosterFile.{readRosterBy, writeRosterBy}
 use Rattle.model.specs.Seasons.{onlyFirst, toNew, toOld}
 use Rattle.model.specs.Refusal.{groupOf}
-use Rattle.model.specs.Desk.{Answer, wrote, refusal, onto, short, convertedAnswer, convertedOnto}
+use Rattle.model.specs.Desk.{wrote, refusal, onto, short, convertedAnswer, convertedOnto}
 use Rattle.model.specs.Desk as model
 use Rattle.model.specs.SeasonCalls.{fileAnswer, fileLent}
 use Rattle.theory_files.specs.Seasons.{back, forth, old-first, new-size, old-size, old-taken, new-taken, new-refused, old-turned-away, new-turned-away}
@@ -25,7 +25,7 @@ use Rattle.answers.specs.declared.Written.the-variants.{Wrote, Refused}
 use Rattle.answers.specs.declared.FileAnswer.the-variants as file
 use Rattle.answers.specs.GroupCases.{groupShown}
 use Rattle.answers.specs.FileCases.{fileShown, fileCase, case-refused, refusal-shown}
-use Rattle.answers.specs.WrittenCases.{writtenShown}
+use Rattle.answers.specs.WrittenCases.{writtenShown, refused-no-bytes, converted-bytes}
 use Rattle.roster_reading.specs.Layout.{layoutOf}
 use Rattle.roster_turned.specs.declared.Turned.{Turned}
 use Rattle.roster_turned.specs.Blocks.{RosterTurned}
@@ -140,32 +140,13 @@ module _ (shifts : Bool) (f o : List ℕ) where
       })
 
 -- ---- the promise, by either way
--- one more than the bytes that an answer says were written, 0 for another answer
-abbrev bytesIn : Answer → ℕ
-bytesIn (model.refused n g) = 0
-bytesIn model.loaded = 0
-bytesIn (model.wrote n) = suc n
-bytesIn (model.plan n) = 0
-bytesIn (model.none n k) = 0
-bytesIn model.strong = 0
-bytesIn (model.popular v) = 0
-bytesIn (model.beaten v) = 0
-bytesIn (model.votes v w x p) = 0
-bytesIn (model.refusedPart n g p) = 0
-bytesIn (model.blockedBy s t k) = 0
-bytesIn model.unblocked = 0
-
 wrote-of : (x : Reading (List ℕ)) (o : List ℕ) (n : ℕ) → fileAnswer x o ≡ wrote n → (g : List ℕ) × (x ≡ accepted g) × (take n (fileLent x o) ≡ g)
 unfolding fileAnswer fileLent
-wrote-of x o n e = go (short o rosterSize) x e
+wrote-of x o n e = go (short o rosterSize) e
   where
-    go : (b : Bool) (x : Reading (List ℕ)) → cond b (refusal 15) (convertedAnswer x) ≡ wrote n
-        → (g : List ℕ) × (x ≡ accepted g) × (take n (cond b o (convertedOnto x o)) ≡ g)
-    go true x e = absurd (let z : ⊥ = omega (arith, ap bytesIn e) in z)
-    go false (accepted g) e =
-        let l : n ≡ length g = omega (arith, ap bytesIn e) in
-        (g, refl, ap (λ k. take k (onto g o)) l ∙ take-append-seam g (drop (length g) o))
-    go false (refused m) e = absurd (let z : ⊥ = omega (arith, ap bytesIn e) in z)
+    go : (b : Bool) → cond b (refusal 15) (convertedAnswer x) ≡ wrote n → (g : List ℕ) × (x ≡ accepted g) × (take n (cond b o (convertedOnto x o)) ≡ g)
+    go true e = refused-no-bytes e
+    go false e = converted-bytes x o n e
 
 -- "goes back to the identical old bytes"
 undoes : (shifts : Bool) (f g : List ℕ) → T (isBytes f) → turnBy shifts f ≡ accepted g → turnBy (not shifts) g ≡ accepted f
