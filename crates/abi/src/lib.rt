@@ -2,6 +2,7 @@
 // refusal no byte of a buffer changes; beyond what is written a buffer keeps its bytes.
 mod desks;
 mod finds;
+mod season_files;
 
 ghost use mathlib.Core.Path.{_≡_};
 ghost use Rattle.model.specs.Refusal.{groupOf};

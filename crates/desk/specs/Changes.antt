@@ -150,6 +150,8 @@ retold call (leave n s l p v) = leave n s l p v
 retold call (D.judge v) = D.judge v
 retold call (D.compare a b) = D.compare a b
 retold call D.blocking = D.blocking
+retold call (D.planToNew f b) = D.planToNew f b
+retold call (D.planToOld f b) = D.planToOld f b
 
 retold-found : (call : Lends) (H : Roster) (s : List Record) (l p v : List ℕ)
     → retold call (foundBytes chosen find H s l p v) ≡ foundBytes chosen call H s l p v

@@ -10,3 +10,4 @@ pub mod Finding
 pub mod Changing
 pub mod ChangeSteps
 pub mod Changes
+pub mod Seasons

@@ -10,6 +10,7 @@ use Rattle.model.specs.PlanFile as plans
 use Rattle.model.specs.Compare as model
 use Rattle.model.specs.Compare.{Part, winnerPart}
 use Rattle.model.specs.Desk.{Held, Call, loadRoster, loadPlan, writeRosterTo, writePlanTo, find, join, leave, judge, compare, blocking, Answer}
+use Rattle.model.specs.Desk.{planToNew, planToOld}
 use Rattle.model.specs.Desk.{onRoster, onPlan, refused, loaded, wrote, plan, none, strong, popular, beaten, votes, refusedPart, blockedBy, unblocked}
 use Rattle.model.specs.Desk.{answerOf, lentAfter, deskAfter}
 use Rattle.theory_finder.specs.Choices.{chosen}
@@ -84,6 +85,8 @@ Stored (leave n s l p v) t d d′ = ChangeIn t d d′
 Stored (judge v) t d d′ = d′ ≡ d
 Stored (compare a b) t d d′ = d′ ≡ d
 Stored blocking t d d′ = d′ ≡ d
+Stored (planToNew f b) t d d′ = d′ ≡ d
+Stored (planToOld f b) t d d′ = d′ ≡ d
 
 -- ---- a call c on desk d: answer a, the desk d′ that comes back, and the call with its buffers as they are then
 pub record Replied (d : Desk) (c : Call) (a : Answer) (c′ : Call) (d′ : Desk) : Type 0 where

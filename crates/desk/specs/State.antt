@@ -12,6 +12,7 @@ use Rattle.model.specs.Roster.{Roster}
 use Rattle.model.specs.RosterFile.{readRoster}
 use Rattle.model.specs.Plans.{Plan}
 use Rattle.model.specs.Desk.{Held, onRoster, Call, loadRoster, loadPlan, writeRosterTo, writePlanTo, find, join, leave, judge, compare, blocking, Answer}
+use Rattle.model.specs.Desk.{planToNew, planToOld}
 use Rattle.model.specs.Desk.{needsRoster, needsPlan, lentShort, noRoster, noPlan, stateRefusal, answerOn, lentOn, stateRefused, answerOf, lentAfter}
 use Rattle.model.specs.Desk.{deskOn, deskAfter}
 use Rattle.theory_finder.specs.Choices.{chosen}
@@ -35,6 +36,8 @@ same-desk d n (leave m s l p v) = refl
 same-desk d n (judge v) = refl
 same-desk d n (compare a b) = refl
 same-desk d n blocking = refl
+same-desk d n (planToNew f b) = refl
+same-desk d n (planToOld f b) = refl
 
 -- a call that needs a roster
 pub states : (h : Held) (c : Call) → T (needsRoster c) → stateNumber h (needsPlan c) (lentShort c) ≡ stateRefusal h c

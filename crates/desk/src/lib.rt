@@ -3,10 +3,11 @@
 // are no roster are nothing loaded, and bytes that are no plan of the roster are no plan held. No call asks anything of its caller.
 mod changing;
 mod held;
+mod seasons;
 mod store;
 
 ghost use mathlib.Core.Path.{_≡_};
-ghost use Rattle.model.specs.Desk.{opening, loadRoster, loadPlan, writeRosterTo, writePlanTo, join, leave, compare, blocking};
+ghost use Rattle.model.specs.Desk.{opening, loadRoster, loadPlan, writeRosterTo, writePlanTo, join, leave, compare, blocking, planToNew, planToOld};
 ghost use Rattle.answers.specs.FileCases.{fileShown};
 ghost use Rattle.answers.specs.WrittenCases.{writtenShown};
 ghost use Rattle.answers.specs.ComparisonCases.{comparisonShown};
@@ -17,6 +18,7 @@ ghost use Rattle.desk.specs.Comparing.{Compares};
 ghost use Rattle.desk.specs.Finding.{Done, Finds};
 ghost use Rattle.desk.specs.Judging.{Judges};
 ghost use Rattle.desk.specs.Replies.{Replied};
+ghost use Rattle.desk.specs.Seasons.{Turns};
 use answers::Blocked;
 use answers::Comparison;
 use answers::FileAnswer;
@@ -331,5 +333,27 @@ impl Desk {
         let c = changing::leave_core(self, number, diary.len(), left, plan, rival);
         diary::fill(diary, c.flat, c.steps);
         c.reply
+    }
+
+    // A plan of an old season as one of today, with shift 1 throughout, into a buffer of a plan's size.
+    pub fn plan_to_new(self, file: &[u8], out: &mut [u8]) -> WriteReply
+        ensures { λ r. ⌜ Turns planToNew planToOld self (now (file .entry)) (now (out .entry)) (r .answer) (now (out .exit)) (r .desk) ⌝ }
+    {
+        let a = seasons::turned(self, file, false, out);
+        WriteReply {
+            desk: self,
+            answer: a,
+        }
+    }
+
+    // A plan of today with only shift 1 as one of an old season, into a buffer of the same size.
+    pub fn plan_to_old(self, file: &[u8], out: &mut [u8]) -> WriteReply
+        ensures { λ r. ⌜ Turns planToOld planToNew self (now (file .entry)) (now (out .entry)) (r .answer) (now (out .exit)) (r .desk) ⌝ }
+    {
+        let a = seasons::turned(self, file, true, out);
+        WriteReply {
+            desk: self,
+            answer: a,
+        }
     }
 }

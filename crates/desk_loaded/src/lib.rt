@@ -24,17 +24,17 @@ pub struct OnDesk {
     pub edges: [u16; 64],
 }
 
-// a plan file against the arrays of an accepted roster
-pub(crate) fn plan_read(g: Instance, file: &[u8]) -> PlanRead
+// a plan file, with shifts or without, against the arrays of an accepted roster
+pub fn plan_read(g: Instance, file: &[u8], shifts: bool) -> PlanRead
     requires { ⌜ Loaded g ⌝ }
-    ensures { λ r. ⌜ ReadAs true (shownBy g) (now (file .entry)) r ⌝ }
+    ensures { λ r. ⌜ ReadAs shifts (shownBy g) (now (file .entry)) r ⌝ }
 {
     let sv = g.sv;
     let st = g.st;
     let sh = g.sh;
     let qs = g.quota_s;
     let qt = g.quota_t;
-    plan_reader::read_plan(g.m, &sv, &st, &sh, &qs, &qt, file, true)
+    plan_reader::read_plan(g.m, &sv, &st, &sh, &qs, &qt, file, shifts)
 }
 
 // a plan file against the arrays of an accepted roster: accepted, or its refusal
@@ -42,7 +42,7 @@ pub fn read_plan(g: Instance, file: &[u8]) -> FileAnswer
     requires { ⌜ Loaded g ⌝ }
     ensures { λ r. ⌜ r ≡ fileCase (readPlan (shownBy g) (now (file .entry))) ⌝ }
 {
-    let read = plan_read(g, file);
+    let read = plan_read(g, file, true);
     let a = read.answer;
     match a {
         PlanAnswer::Accepted(_) => FileAnswer::Accepted,
@@ -78,7 +78,7 @@ pub fn with_plan(g: Instance, plan: &[u8], short: bool) -> OnDesk
     requires { ⌜ Loaded g ⌝ }
     ensures { λ r. ⌜ OnRoster g (now (plan .entry)) true short r ⌝ }
 {
-    let read = plan_read(g, plan);
+    let read = plan_read(g, plan, true);
     let a = read.answer;
     match a {
         PlanAnswer::Refused(_) => bare(g, 14),

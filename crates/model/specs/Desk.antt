@@ -26,6 +26,7 @@ use Rattle.model.specs.Compare as C
 use Rattle.model.specs.Compare.{Comparison, Winner, Part, comparisonOf, partOf}
 use Rattle.model.specs.Blocking.{someBlocks, topBlocking}
 use Rattle.model.specs.Changes.{joinOn, leaveOn, carried}
+use Rattle.model.specs.Seasons as S
 
 -- "nothing loaded, a roster, or a roster and a plan"
 pub data Held : Type 0 where
@@ -50,6 +51,8 @@ pub data Call : Type 0 where
   judge : (rival : List ℕ) → Call
   compare : (first second : List ℕ) → Call
   blocking : Call
+  planToNew : (file buffer : List ℕ) → Call  -- W-205: a plan of an old season, and back
+  planToOld : (file buffer : List ℕ) → Call
 
 -- why there is none: so many pairs left, or the candidate's vote against its rival
 pub data NoneKind : Type 0 where
@@ -82,6 +85,8 @@ needsRoster (leave s d l p v) = true
 needsRoster (judge v) = true
 needsRoster (compare a b) = true
 needsRoster blocking = true
+needsRoster (planToNew f b) = true
+needsRoster (planToOld f b) = true
 
 abbrev pub needsPlan : Call → Bool
 needsPlan (loadRoster file) = false
@@ -94,9 +99,11 @@ needsPlan (leave s d l p v) = false
 needsPlan (judge v) = true
 needsPlan (compare a b) = false
 needsPlan blocking = true
+needsPlan (planToNew f b) = false
+needsPlan (planToOld f b) = false
 
 -- "a buffer for a plan, candidate or rival needs" 193 bytes, "for a roster" 4,262 (W-204), "the diary and the left pairs 1,024 entries
--- each, however little is written"
+-- each, however little is written"; W-205: "The buffer written to needs 4,262 or 193 bytes either way."
 abbrev pub short : List ℕ → ℕ → Bool
 short buffer size = ltb (length buffer) size
 
@@ -114,6 +121,8 @@ lentShort (leave s d l p v) = finderShort d l p v
 lentShort (judge v) = short v planSize
 lentShort (compare a b) = false
 lentShort blocking = false
+lentShort (planToNew f b) = short b planSize
+lentShort (planToOld f b) = short b planSize
 
 abbrev pub noRoster : Held → Bool
 noRoster nothing = true
@@ -182,6 +191,15 @@ abbrev pub blockingAnswer : Instance → (e : ℕ) → Bool → Answer
 blockingAnswer G e true = blockedBy (suc (G .sv e)) (suc (G .st e)) (G .sh e)
 blockingAnswer G e false = unblocked
 
+-- W-205, a file of another season: the number of its bytes is answered, and they are written to the buffer's front
+abbrev pub convertedAnswer : Reading (List ℕ) → Answer
+convertedAnswer (accepted bs) = wrote (length bs)
+convertedAnswer (reading.refused n) = refusal n
+
+abbrev pub convertedOnto : Reading (List ℕ) → List ℕ → List ℕ
+convertedOnto (accepted bs) b = onto bs b
+convertedOnto (reading.refused n) b = b
+
 -- "with no winner, and on a refusal, the part is empty, taken from the first file"
 abbrev pub stateRefused : ℕ → Call → Answer
 stateRefused n (loadRoster file) = refusal n
@@ -194,6 +212,8 @@ stateRefused n (leave s d l p v) = refusal n
 stateRefused n (judge v) = refusal n
 stateRefused n (compare a b) = refusedPart n (groupOf n) (C.winnerPart C.neither a b)
 stateRefused n blocking = refusal n
+stateRefused n (planToNew f b) = refusal n
+stateRefused n (planToOld f b) = refusal n
 
 -- ---- what is said of the roster held, of the roster and the plan held; x where they are not there, and the state refuses the call
 abbrev pub onRoster : {A : Type 0} → A → Held → (Roster → A) → A
@@ -242,6 +262,8 @@ module _ (ch : Choices) where
   answerOn h (judge v) = onPlan (refusal 14) h (λ r M. let G = instanceOf r in verdictAnswer G M (ch .rivalOf G M) (verdictOf G M))
   answerOn h (compare a b) = onRoster (refusal 13) h (λ r. let G = instanceOf r in comparisonAnswer (partOf G a b) (comparisonOf G a b))
   answerOn h blocking = onPlan (refusal 14) h (λ r M. let G = instanceOf r in blockingAnswer G (topBlocking G (on M)) (someBlocks G (on M)))
+  answerOn h (planToNew f b) = onRoster (refusal 13) h (λ r. convertedAnswer (S.planToNew (instanceOf r) f))
+  answerOn h (planToOld f b) = onRoster (refusal 13) h (λ r. convertedAnswer (S.planToOld (instanceOf r) f))
 
   abbrev pub lentOn : Held → Call → Call
   lentOn h (loadRoster file) = loadRoster file
@@ -254,6 +276,8 @@ module _ (ch : Choices) where
   lentOn h (judge v) = onPlan (judge v) h (λ r M. let G = instanceOf r in verdictWritten G (ch .rivalOf G M) (verdictOf G M) v)
   lentOn h (compare a b) = compare a b
   lentOn h blocking = blocking
+  lentOn h (planToNew f b) = onRoster (planToNew f b) h (λ r. planToNew f (convertedOnto (S.planToNew (instanceOf r) f) b))
+  lentOn h (planToOld f b) = onRoster (planToOld f b) h (λ r. planToOld f (convertedOnto (S.planToOld (instanceOf r) f) b))
 
   -- "13, 14, 15 come first"
   unfoldable pub answerOf : Held → Call → Answer
@@ -279,7 +303,7 @@ withChange nothing (accepted r′) = nothing
 withChange (roster r) (accepted r′) = roster r′
 withChange (planned r M) (accepted r′) = planned r′ (carried (instanceOf r) (instanceOf r′) M)
 
--- "Finder, verdict, comparison, blocking and writing leave the desk alike."
+-- "Finder, verdict, comparison, blocking and writing leave the desk alike", and so does a plan of another season, which goes to the buffer alone
 abbrev pub deskOn : Held → Call → Held
 deskOn h (loadRoster file) = withRoster h (readRoster file)
 deskOn h (loadPlan file) = onRoster h h (λ r. withPlan h r (readPlan (instanceOf r) file))
@@ -291,6 +315,8 @@ deskOn h (leave s d l p v) = onRoster h h (λ r. withChange h (leaveOn r s))
 deskOn h (judge v) = h
 deskOn h (compare a b) = h
 deskOn h blocking = h
+deskOn h (planToNew f b) = h
+deskOn h (planToOld f b) = h
 
 -- so does a refusal by the state
 unfoldable pub deskAfter : Held → Call → Held

@@ -11,11 +11,13 @@ pub mod RosterFile
 pub mod Edges
 pub mod PlanFile
 pub mod Changes
+pub mod Seasons
 pub mod Finder
 pub mod Compare
 pub mod Text
 pub mod Printed
 pub mod Desk
+pub mod SeasonCalls
 pub mod Decimal
 pub mod Claims
 pub mod Cases
@@ -25,4 +27,5 @@ pub mod PlanCases
 pub mod ChangeCases
 pub mod DeskCases
 pub mod DeskChangeCases
+pub mod SeasonCases
 pub mod GroupCases

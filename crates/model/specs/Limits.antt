@@ -57,3 +57,10 @@ leftSize = 3072
 -- W-204: "the program reads at most 4,263"
 abbrev pub inputSize : ℕ
 inputSize = 4263
+
+-- files without shifts: "The longest roster has 2,214 bytes", a plan of 64 pairs 129
+abbrev pub oldRosterSize : ℕ
+oldRosterSize = 2214
+
+abbrev pub oldPlanSize : ℕ
+oldPlanSize = 129

@@ -48,21 +48,43 @@ byte-behind w d i v l h =
     next : (i : ℕ) → suc i ≡ i + 1
     next i = omega arith
 
+-- two bytes, and three
+two-behind : (w d : List ℕ) (i a b : ℕ) → length w ≡ i → i + 2 ≤ length d
+    → set (set (w ++ drop i d) i a) (i + 1) b ≡ (w ++ a ∷ b ∷ []) ++ drop (i + 2) d
+two-behind w d i a b l h =
+    let m : length (w ++ a ∷ []) ≡ i + 1 = length-append w (a ∷ []) ∙ ap (λ n. n + 1) l in
+    let n : i + 1 + 1 ≡ i + 2 = omega arith in
+    ap (λ z. set z (i + 1) b) (byte-behind w d i a l (omega arith)) ∙ byte-behind (w ++ a ∷ []) d (i + 1) b m (omega arith)
+    ∙ ap (λ z. ((w ++ a ∷ []) ++ b ∷ []) ++ drop z d) n ∙ ap (λ z. z ++ drop (i + 2) d) (append-assoc w (a ∷ []) (b ∷ []))
+
+three-behind : (w d : List ℕ) (i a b k : ℕ) → length w ≡ i → i + pairWidth ≤ length d
+    → set (set (set (w ++ drop i d) i a) (i + 1) b) (i + 2) k ≡ (w ++ a ∷ b ∷ k ∷ []) ++ drop (i + pairWidth) d
+three-behind w d i a b k l h =
+    let m : length (w ++ a ∷ b ∷ []) ≡ i + 2 = length-append w (a ∷ b ∷ []) ∙ ap (λ n. n + 2) l in
+    let n : i + 2 + 1 ≡ i + pairWidth = omega arith in
+    ap (λ z. set z (i + 2) k) (two-behind w d i a b l (omega arith)) ∙ byte-behind (w ++ a ∷ b ∷ []) d (i + 2) k m (omega arith)
+    ∙ ap (λ z. ((w ++ a ∷ b ∷ []) ++ k ∷ []) ++ drop z d) n ∙ ap (λ z. z ++ drop (i + pairWidth) d) (append-assoc w (a ∷ b ∷ []) (k ∷ []))
+
 -- behind a front that is written
 pub pair-behind : (w d : List ℕ) (i s t k : ℕ) → length w ≡ i → i + pairWidth ≤ length d
     → withPair (w ++ drop i d) i s t k ≡ (w ++ pairOf s t k) ++ drop (i + pairWidth) d
-pair-behind w d i s t k l h =
-    let a : length (w ++ suc s ∷ []) ≡ i + 1 = length-append w (suc s ∷ []) ∙ ap (λ n. n + 1) l in
-    let b : length ((w ++ suc s ∷ []) ++ suc t ∷ []) ≡ i + 2 = omega (arith, a, length-append (w ++ suc s ∷ []) (suc t ∷ [])) in
-    let n : i + 1 + 1 ≡ i + 2 = omega arith in
-    let m : i + 2 + 1 ≡ i + pairWidth = omega arith in
-    ap (λ z. set (set z (i + 1) (suc t)) (i + 2) k) (byte-behind w d i (suc s) l (omega arith))
-    ∙ ap (λ z. set z (i + 2) k) (byte-behind (w ++ suc s ∷ []) d (i + 1) (suc t) a (omega arith))
-    ∙ ap (λ z. set (((w ++ suc s ∷ []) ++ suc t ∷ []) ++ drop z d) (i + 2) k) n
-    ∙ byte-behind ((w ++ suc s ∷ []) ++ suc t ∷ []) d (i + 2) k b (omega arith)
-    ∙ ap (λ z. (((w ++ suc s ∷ []) ++ suc t ∷ []) ++ k ∷ []) ++ drop z d) m
-    ∙ ap (λ z. z ++ drop (i + pairWidth) d)
-    (append-assoc (w ++ suc s ∷ []) (suc t ∷ []) (k ∷ []) ∙ append-assoc w (suc s ∷ []) (suc t ∷ k ∷ []))
+pair-behind w d i s t k l h = three-behind w d i (suc s) (suc t) k l h
+
+-- the same in either layout
+abbrev pub namedOf : Pair → Named
+namedOf p = record { surveyor = p .surveyor; stand = p .stand; shift = p .shift }
+
+abbrev pub putBy : Bool → List ℕ → ℕ → Pair → List ℕ
+putBy shifts d i p = cond shifts (set (set (set d i (p .surveyor)) (i + 1) (p .stand)) (i + 2) (p .shift)) (set (set d i (p .surveyor)) (i + 1) (p .stand))
+
+pub put-length : (shifts : Bool) (d : List ℕ) (i : ℕ) (p : Pair) → length (putBy shifts d i p) ≡ length d
+put-length true d i p = simp length-set refl
+put-length false d i p = simp length-set refl
+
+pub put-behind : (shifts : Bool) (w d : List ℕ) (i : ℕ) (p : Pair) → length w ≡ i → i + widthOf shifts ≤ length d
+    → putBy shifts (w ++ drop i d) i p ≡ (w ++ pairLayout shifts .bytes (namedOf p)) ++ drop (i + widthOf shifts) d
+put-behind true w d i p l h = three-behind w d i (p .surveyor) (p .stand) (p .shift) l h
+put-behind false w d i p l h = two-behind w d i (p .surveyor) (p .stand) l h
 
 pub width-least : (shifts : Bool) → 2 ≤ widthOf shifts
 width-least true = omega arith
@@ -77,7 +99,7 @@ width-shifts e = ap widthOf e
 
 -- ---- the model's reading of a pair in such a file: cut short, or the pair at the place
 abbrev pub namedAt : Bool → List ℕ → ℕ → Named
-namedAt shifts d i = let p = pairFrom shifts d i in record { surveyor = p .surveyor; stand = p .stand; shift = p .shift }
+namedAt shifts d i = namedOf (pairFrom shifts d i)
 
 pub field-cut : (shifts : Bool) (bs : List ℕ) → length bs < widthOf shifts → pairLayout shifts .field bs ≡ refused 1
 field-cut true [] h = refl

@@ -3,7 +3,7 @@ ghost use mathlib.Core.Path.{_≡_};
 ghost use Prim.Native.Nat.{_+_, _≤_, _<_};
 ghost use lib.ListN.{length};
 ghost use Rattle.model.specs.Limits.{nodeLimit, pairWidth};
-ghost use Rattle.pair_bytes.specs.PairAt.{withPair, pairFrom, widthOf};
+ghost use Rattle.pair_bytes.specs.PairAt.{withPair, pairFrom, putBy, widthOf};
 use limits::PAIR_WIDTH;
 
 // The numbers that a pair's bytes name, which count from 1.
@@ -51,5 +51,17 @@ pub fn get(bytes: &[u8], at: usize, shifts: bool) -> Pair
         surveyor: surveyor,
         stand: stand,
         shift: 1,
+    }
+}
+
+// A pair put at a place of such a file.
+pub fn put_by(out: &mut [u8], at: usize, p: Pair, shifts: bool)
+    requires { ⌜ at + widthOf shifts ≤ length (now out) ⌝ }
+    ensures { λ _. ⌜ now (out .exit) ≡ putBy shifts (now (out .entry)) at p ⌝ }
+{
+    out[at] = p.surveyor;
+    out[at + 1] = p.stand;
+    if shifts {
+        out[at + 2] = p.shift;
     }
 }

@@ -10,7 +10,7 @@ use answers::FileAnswer;
 use roster_reading::Section;
 
 // A roster file, with shifts or without, is accepted, or refused with the number and the group of the refusal.
-pub(crate) fn file_answer(file: &[u8], shifts: bool) -> FileAnswer
+pub fn file_answer(file: &[u8], shifts: bool) -> FileAnswer
     ensures { λ r. ⌜ r ≡ fileCase (readRosterBy (layoutOf shifts) (now (file .entry))) ⌝ }
 {
     let s = file::roster_file(file, shifts);

@@ -80,7 +80,7 @@ pub fn entry_width(shifts: bool) -> usize
 }
 
 // The entry at a place, counted in entries, of a part: "a shift byte, 1 to 3, after its number"; where the file has none, its shift is 1.
-pub(crate) fn entry_at(part: &[u8], i: usize, shifts: bool) -> Entry
+pub fn entry_at(part: &[u8], i: usize, shifts: bool) -> Entry
     requires { ⌜ widthOf shifts * i + widthOf shifts ≤ length (now part) ⌝ }
     ensures { λ r. ⌜ entryOf r ≡ entryFrom shifts (drop (widthOf shifts * i) (now (part .entry))) ⌝ }
 {

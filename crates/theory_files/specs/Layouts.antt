@@ -9,6 +9,7 @@ use Rattle.lists.specs.Test.{given}
 use Rattle.model.specs.Reading.{accepted, byte, twoBytes}
 use Rattle.model.specs.Roster.{Entry}
 use Rattle.model.specs.RosterFile.{Layout, shifted, plain}
+use Rattle.model.specs.Seasons.{isFirst}
 use Rattle.model.specs.PlanFile.{Named, PairLayout, threeBytes, shiftedPair, plainPair}
 use Rattle.theory_files.specs.Reads.{Reads, read-value, read-rest, refused-not, then-read, byte-read, twoBytes-read}
 
@@ -30,18 +31,15 @@ abbrev pub in-shifted : Agrees shifted
 in-shifted = record { holds = λ x. true; reads = reads-shifted; width = 2; wide = λ x. refl }
 
 -- ---- without: those of shift 1
-abbrev first : Entry → Bool
-first x = eqb (x .shift) 1
-
-pub reads-plain : Reads (plain .field) (plain .bytes) (λ x. T (first x))
+pub reads-plain : Reads (plain .field) (plain .bytes) (λ x. T (isFirst x))
 reads-plain = record {
   back = λ bs x rest t e. given (then-read (byte bs) (λ n rest. accepted (record { number = n; shift = 1 }, rest)) e) (λ (n, mid, e₁, h₁).
-      (byte-read bs e₁ ∙ ap (λ z. n ∷ z) (read-rest h₁) ∙ ap (λ (y : Entry). y .number ∷ rest) (read-value h₁), subst (λ y. T (first y)) (read-value h₁) tt));
+      (byte-read bs e₁ ∙ ap (λ z. n ∷ z) (read-rest h₁) ∙ ap (λ (y : Entry). y .number ∷ rest) (read-value h₁), subst (λ y. T (isFirst y)) (read-value h₁) tt));
   forth = λ x rest p. ap (λ k. accepted (record { number = x .number; shift = k }, rest)) (sym (eqb→eq (x .shift) 1 p));
 }
 
 abbrev pub in-plain : Agrees plain
-in-plain = record { holds = first; reads = reads-plain; width = 1; wide = λ x. refl }
+in-plain = record { holds = isFirst; reads = reads-plain; width = 1; wide = λ x. refl }
 
 -- ---- the same for the pairs of a plan
 pub record PairAgrees (L : PairLayout) : Type 0 where

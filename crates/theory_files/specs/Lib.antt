@@ -22,3 +22,5 @@ pub mod Joiner
 pub mod Joined
 pub mod PlanCells
 pub mod Carried
+pub mod Seasons
+pub mod PlanSeasons

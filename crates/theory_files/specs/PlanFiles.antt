@@ -253,7 +253,7 @@ module _ (G : Instance) where
           plan = sym (read-value h₁);
         })))
 
-    bytes-size : (ps : List Named) → length (gather (L .bytes) ps) ≡ A .width * length ps
+    pub bytes-size : (ps : List Named) → length (gather (L .bytes) ps) ≡ A .width * length ps
     bytes-size [] = omega arith
     bytes-size (p ∷ ps) = omega (arith, length-append (L .bytes p) (gather (L .bytes) ps), A .wide p, bytes-size ps)
 

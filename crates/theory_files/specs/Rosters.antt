@@ -216,7 +216,7 @@ module _ (L : Layout) (A : Agrees L) where
       ∙ ap (λ b. cond b (accepted r) (refused 8)) (T-true {b = bothOrNeither r} n))
 
   -- ---- sizes
-  entries-size : (xs : List Entry) → length (gather (L .bytes) xs) ≡ A .width * length xs
+  pub entries-size : (xs : List Entry) → length (gather (L .bytes) xs) ≡ A .width * length xs
   entries-size [] = omega arith
   entries-size (x ∷ xs) = omega (arith, length-append (L .bytes x) (gather (L .bytes) xs), A .wide x, entries-size xs)
 

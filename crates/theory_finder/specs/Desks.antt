@@ -14,7 +14,7 @@ use Rattle.model.specs.Edges.{instanceOf}
 use Rattle.model.specs.Plans.{Plan, on, within, plansOf}
 use Rattle.model.specs.PlanFile.{readPlan}
 use Rattle.model.specs.Desk.{Held, nothing, roster, planned, Call, loadRoster, loadPlan, writeRosterTo, writePlanTo, find, join, leave, judge, compare}
-use Rattle.model.specs.Desk.{blocking, withRoster, withPlan, withChange, stateRefusal, deskAfter}
+use Rattle.model.specs.Desk.{blocking, planToNew, planToOld, withRoster, withPlan, withChange, stateRefusal, deskAfter}
 use Rattle.model.specs.Changes.{joinOn, leaveOn, carried}
 use Rattle.theory_files.specs.Reads.{isBytes}
 use Rattle.theory_files.specs.Rosters.{read-fits}
@@ -41,6 +41,8 @@ lendsBytes (leave s d l p v) = true
 lendsBytes (judge v) = true
 lendsBytes (compare a b) = true
 lendsBytes blocking = true
+lendsBytes (planToNew f b) = isBytes f
+lendsBytes (planToOld f b) = isBytes f
 
 -- a roster that is read
 roster-sound : (h : Held) (file : List ℕ) → T (isBytes file) → T (sound h) → T (sound (withRoster h (readRoster file)))
@@ -127,3 +129,5 @@ desk-sound (planned r M) (leave n d l p v) t s =
 desk-sound h (judge v) t s = alike (ltb 0 (stateRefusal h (judge v))) h s
 desk-sound h (compare a b) t s = alike (ltb 0 (stateRefusal h (compare a b))) h s
 desk-sound h blocking t s = alike (ltb 0 (stateRefusal h blocking)) h s
+desk-sound h (planToNew f b) t s = alike (ltb 0 (stateRefusal h (planToNew f b))) h s
+desk-sound h (planToOld f b) t s = alike (ltb 0 (stateRefusal h (planToOld f b))) h s

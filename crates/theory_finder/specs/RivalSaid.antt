@@ -57,6 +57,8 @@ bufferIn (D.join q f d l p v) = v
 bufferIn (D.leave n d l p v) = v
 bufferIn (D.compare a b) = a
 bufferIn D.blocking = []
+bufferIn (D.planToNew f b) = b
+bufferIn (D.planToOld f b) = b
 
 module _ (r : Roster) (ok : T (fits r)) (M : Plan) (m : M ∈ plansOf (instanceOf r)) (v : List ℕ) where
   abbrev G : Instance
