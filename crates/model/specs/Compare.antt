@@ -1,4 +1,5 @@
--- Comparison of two plan files: section "Comparison, blocking, desk" of document 01.
+-- Comparison of two plan files: section "Comparison, blocking, desk" of document 01. What winning means, and the four answers, are W-206's of
+-- document 02, which supersede document 01's.
 use Prim.Native.Nat.{ℕ}
 use mathlib.Core.Bool.{cond}
 use mathlib.Core.List.{List, []}
@@ -11,9 +12,11 @@ use Rattle.model.specs.Instance.{Instance}
 use Rattle.model.specs.Plans.{Plan, voteOf}
 use Rattle.model.specs.PlanFile.{readPlan}
 
+-- W-206: "Comparison answers first, second, both or neither."
 pub data Winner : Type 0 where
   first : Winner
   second : Winner
+  both : Winner
   neither : Winner
 
 pub data File : Type 0 where
@@ -31,9 +34,10 @@ pub data Comparison : Type 0 where
   votes : ℤ → ℤ → Winner → Comparison
   refused : ℕ → Comparison
 
--- "The winner is the plan whose vote against the other is above zero"; not both are, as they add to at most zero
-abbrev pub winnerOf : ℤ → ℤ → Winner
-winnerOf v w = cond (ltZ (pos 0) v) first (cond (ltZ (pos 0) w) second neither)
+-- W-206: "a plan beats another when the other's vote against it is below zero. Each may then beat the other." So the first wins by w, the second's
+-- vote against it, and the second by v. Document 01 had: "The winner is the plan whose vote against the other is above zero"; superseded.
+abbrev pub winnerOf : (v w : ℤ) → Winner
+winnerOf v w = cond (ltZ w (pos 0)) (cond (ltZ v (pos 0)) both first) (cond (ltZ v (pos 0)) second neither)
 
 abbrev pub compared : Instance → Plan → Plan → Comparison
 compared G M N = votes (voteOf G M N) (voteOf G N M) (winnerOf (voteOf G M N) (voteOf G N M))
@@ -50,11 +54,13 @@ firstJudged G (reading.refused n) file = refused n
 unfoldable pub comparisonOf : Instance → (firstBytes secondBytes : List ℕ) → Comparison
 comparisonOf G a b = firstJudged G (readPlan G a) b
 
--- "the winner's pair bytes are handed back as a part of its own file"; "with no winner, and on a refusal, the part is empty, taken
--- from the first file". A file's pair bytes are all but its count byte; the empty part is the one at the file's start.
+-- W-206: "The part handed back is the winner's for first and second, and empty for both and neither." What stays of document 01: "the winner's pair
+-- bytes are handed back as a part of its own file", and the empty part, "on a refusal" too, is "taken from the first file". A file's pair bytes
+-- are all but its count byte; the empty part is the one at the file's start.
 abbrev pub winnerPart : Winner → (firstBytes secondBytes : List ℕ) → Part
 winnerPart first a b = record { file = firstFile; from = 1; bytes = drop 1 a }
 winnerPart second a b = record { file = secondFile; from = 1; bytes = drop 1 b }
+winnerPart both a b = record { file = firstFile; from = 0; bytes = [] }
 winnerPart neither a b = record { file = firstFile; from = 0; bytes = [] }
 
 abbrev pub comparisonPart : Comparison → (firstBytes secondBytes : List ℕ) → Part

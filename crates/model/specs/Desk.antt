@@ -200,7 +200,7 @@ abbrev pub convertedOnto : Reading (List ℕ) → List ℕ → List ℕ
 convertedOnto (accepted bs) b = onto bs b
 convertedOnto (reading.refused n) b = b
 
--- "with no winner, and on a refusal, the part is empty, taken from the first file"
+-- "on a refusal, the part is empty, taken from the first file"
 abbrev pub stateRefused : ℕ → Call → Answer
 stateRefused n (loadRoster file) = refusal n
 stateRefused n (loadPlan file) = refusal n

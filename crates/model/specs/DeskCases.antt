@@ -283,7 +283,7 @@ unfolding numbersFrom count low groupOf listed listedBack bothOrNeither readEach
     stateRefusal answerOf
 found-said ch = (refl, (refl, (refl, (refl, (refl, (refl, (refl, (refl, (refl, tt)))))))))
 
--- the comparison's parts: the first wins, the second, neither; the first file is judged in full before the second
+-- the comparison's parts: the first wins, the second, neither (both: CompareCases); the first file is judged in full before the second
 abbrev compared : List Said
 compared =
     record {

@@ -26,6 +26,7 @@ pub mod RosterCases
 pub mod PlanCases
 pub mod ChangeCases
 pub mod DeskCases
+pub mod CompareCases
 pub mod DeskChangeCases
 pub mod SeasonCases
 pub mod GroupCases

@@ -11,6 +11,7 @@ pub mod Attained
 pub mod Signed
 pub mod Bounds
 pub mod PlanVotes
+pub mod Winners
 pub mod Exchange
 pub mod Node
 pub mod Couples

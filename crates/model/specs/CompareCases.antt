@@ -1,0 +1,86 @@
+-- Comparisons run by the checker: W-206's four answers, each with both votes and the part that is handed back.
+use Prim.Native.Nat.{ℕ}
+use mathlib.Core.Path.{_≡_, refl}
+use mathlib.Core.List.{List, [], _∷_}
+use lib.IntN.{pos, negsuc}
+use Rattle.lists.specs.Sum.{count}
+use Rattle.lists.specs.Search.{low}
+use Rattle.model.specs.Decimal.{bytes, numbersFrom}
+use Rattle.model.specs.Refusal.{groupOf}
+use Rattle.model.specs.Reading.{Reading, accepted, refused, readEach}
+use Rattle.model.specs.Roster.{Roster, listed, listedBack, bothOrNeither}
+use Rattle.model.specs.RosterFile.{readRosterBy, readRoster}
+use Rattle.model.specs.Edges.{position, edgesOf, instanceOf}
+use Rattle.model.specs.Instance.{deg}
+use Rattle.model.specs.Vote.{nodeVote, vote}
+use Rattle.model.specs.PlanFile.{edgeOfPair, readPlanBy}
+use Rattle.model.specs.Compare.{Part, firstFile, secondFile, first, second, both, neither, comparisonOf, partOf}
+use Rattle.model.specs.Desk.{Answer, votes, refusal, comparisonAnswer}
+use Rattle.model.specs.DeskCases.{Each}
+
+-- the comparison of two plan files on a roster's file
+pub record Case : Type 0 where
+  pub roster : List ℕ
+  pub plan : List ℕ
+  pub other : List ℕ
+  pub answer : Answer
+
+abbrev comparedOn : Reading Roster → (firstBytes secondBytes : List ℕ) → Answer
+comparedOn (accepted r) a b = comparisonAnswer (partOf (instanceOf r) a b) (comparisonOf (instanceOf r) a b)
+comparedOn (refused n) a b = refusal n
+
+abbrev whole : List ℕ → Part
+whole bs = record { file = firstFile; from = 1; bytes = bs }
+
+abbrev wholeSecond : List ℕ → Part
+wholeSecond bs = record { file = secondFile; from = 1; bytes = bs }
+
+abbrev empty : Part
+empty = record { file = firstFile; from = 0; bytes = [] }
+
+-- document 01's sample, P7 and P24
+abbrev sample : List ℕ
+sample = bytes "2 1 1 1 1 2 0 1 1 1 1 1 1 2 0 2 0 1 1 2 1"
+
+abbrev P7 : List ℕ
+P7 = bytes "4 1 1 1 1 1 2 4 0 1 1 1 1 1 1 1 1 1 1 1 1 4 0 4 0 1 1 2 1 3 1 4 1"
+
+abbrev P24 : List ℕ
+P24 = bytes "1 1 1 1 2 0 2 1 3 1 1 2 0 2 0 1 1 1 3"
+
+-- P7 twice, side by side: in the plans below its second part is the other way round
+abbrev doubleP7 : List ℕ
+doubleP7 = bytes "8 1 1 1 1 1 1 1 1 2 2 2 8 0 1 1 1 1 1 1 1 1 1 1 1 1 1 2 1 1 2 1 1 2 1 1 2 1 8 0 4 0 1 1 2 1 3 1 4 1 4 0 5 1 6 1 7 1 8 1"
+
+abbrev cases : List Case
+cases =
+    record { roster = sample; plan = bytes "1 1 1 1"; other = bytes "1 2 1 1"; answer = votes (pos 1) (negsuc 0) first (whole (bytes "1 1 1")) }
+    ∷ record { roster = sample; plan = bytes "1 2 1 1"; other = bytes "1 1 1 1"; answer = votes (negsuc 0) (pos 1) second (wholeSecond (bytes "1 1 1")) }
+    -- no vote is above zero: the plan that the other does not beat wins
+    ∷ record {
+      roster = P7;
+      plan = bytes "2 1 1 1 3 1 1";
+      other = bytes "2 2 1 1 4 1 1";
+      answer = votes (pos 0) (negsuc 1) first (whole (bytes "1 1 1 3 1 1"));
+    }
+    ∷ record {
+      roster = P7;
+      plan = bytes "2 2 1 1 4 1 1";
+      other = bytes "2 1 1 1 3 1 1";
+      answer = votes (negsuc 1) (pos 0) second (wholeSecond (bytes "1 1 1 3 1 1"));
+    }
+    -- each beats the other
+    ∷ record {
+      roster = doubleP7;
+      plan = bytes "4 1 1 1 3 1 1 6 2 1 8 2 1";
+      other = bytes "4 2 1 1 4 1 1 5 2 1 7 2 1";
+      answer = votes (negsuc 1) (negsuc 1) both empty;
+    }
+    -- neither does: a plan and itself, and two plans that draw
+    ∷ record { roster = P7; plan = bytes "2 1 1 1 3 1 1"; other = bytes "2 1 1 1 3 1 1"; answer = votes (pos 0) (pos 0) neither empty }
+    ∷ record { roster = P24; plan = bytes "1 1 1 1"; other = bytes "1 1 1 3"; answer = votes (pos 0) (pos 0) neither empty } ∷ []
+
+pub compared : Each (λ (c : Case). comparedOn (readRoster (c .roster)) (c .plan) (c .other) ≡ c .answer) cases
+unfolding numbersFrom count low groupOf listed listedBack bothOrNeither readEach readRosterBy position edgesOf instanceOf deg nodeVote vote edgeOfPair
+    readPlanBy comparisonOf partOf
+compared = (refl, (refl, (refl, (refl, (refl, (refl, (refl, tt)))))))
