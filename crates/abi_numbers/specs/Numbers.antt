@@ -84,6 +84,7 @@ judgedIn unblocked = noVerdict 0
 abbrev pub winnerCode : compare.Winner → ℕ
 winnerCode compare.first = 1
 winnerCode compare.second = 2
+winnerCode compare.both = 3
 winnerCode compare.neither = 0
 
 abbrev pub fileNumber : compare.File → ℕ
@@ -175,6 +176,9 @@ module _ (a b : List ℕ) where
 
     pub second-numbers : y ≡ winner.Second → {n : ℕ} → n ≡ length b - 1 → voted 2 2 1 n v w ≡ numbersOf c
     second-numbers q k = ap (λ n. voted 2 2 1 n v w) (k ∙ sym (length-drop 1 b)) ∙ won winner.Second q
+
+    pub both-numbers : y ≡ winner.Both → voted 3 1 0 0 v w ≡ numbersOf c
+    both-numbers q = won winner.Both q
 
     pub neither-numbers : y ≡ winner.Neither → voted 0 1 0 0 v w ≡ numbersOf c
     neither-numbers q = won winner.Neither q

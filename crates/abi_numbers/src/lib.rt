@@ -35,9 +35,9 @@ pub struct Judged {
     pub vote: i16,
 }
 
-// A refusal, 0 for none; both votes, first against second and second against first; the winner, 0 neither, 1 first, 2 second; and its
-// pair bytes: the file, 1 first, 2 second, where they begin in it and how many they are. On a refusal the votes are 0; with no winner and
-// on a refusal the part is the empty one at the first file's start.
+// A refusal, 0 for none; both votes, first against second and second against first; the winner, 0 neither, 1 first, 2 second,
+// 3 both; and its pair bytes: the file, 1 first, 2 second, where they begin in it and how many they are. On a refusal the votes are 0; with
+// both, with neither and on a refusal the part is the empty one at the first file's start.
 #[repr(C)]
 pub struct Compared {
     pub refusal: u8,
@@ -168,6 +168,15 @@ pub fn comparison_numbers(c: Comparison, first: &[u8], second: &[u8]) -> Compare
                 file: 2,
                 from: 1,
                 length: behind_count(second.len()),
+            },
+            Winner::Both => Compared {
+                refusal: 0,
+                winner: 3,
+                first_vote: v,
+                second_vote: w,
+                file: 1,
+                from: 0,
+                length: 0,
             },
             Winner::Neither => Compared {
                 refusal: 0,

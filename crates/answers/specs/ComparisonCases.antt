@@ -9,16 +9,18 @@ use Rattle.model.specs.Compare.{Part, winnerPart}
 use Rattle.model.specs.Desk as model
 use Rattle.answers.specs.GroupCases.{groupShown, groupCase}
 use Rattle.answers.specs.declared.Winner.{Winner}
-use Rattle.answers.specs.declared.Winner.the-variants.{First, Second, Neither}
+use Rattle.answers.specs.declared.Winner.the-variants.{First, Second, Both, Neither}
 use Rattle.answers.specs.declared.Comparison.{Comparison}
 use Rattle.answers.specs.declared.Comparison.the-variants.{Votes, Refused}
 
 abbrev pub winnerShown : Winner → compare.Winner
 winnerShown First = compare.first
 winnerShown Second = compare.second
+winnerShown Both = compare.both
 winnerShown Neither = compare.neither
 
--- the part that an answer names; "with no winner, and on a refusal, the part is empty, taken from the first file"
+-- the part that an answer names: "the winner's for first and second, and empty for both and neither" (W-206); on a refusal it is empty too, "taken
+-- from the first file"
 abbrev pub partShown : Comparison → (firstBytes secondBytes : List ℕ) → Part
 partShown (Votes v w x) a b = winnerPart (winnerShown x) a b
 partShown (Refused n g) a b = winnerPart compare.neither a b
@@ -31,6 +33,7 @@ comparisonShown a b (Refused n g) = model.refusedPart n (groupShown g) (winnerPa
 abbrev pub winnerCase : compare.Winner → Winner
 winnerCase compare.first = First
 winnerCase compare.second = Second
+winnerCase compare.both = Both
 winnerCase compare.neither = Neither
 
 abbrev pub comparisonCase : compare.Comparison → Comparison
@@ -40,4 +43,5 @@ comparisonCase (compare.refused n) = Refused n (groupCase (groupOf n))
 pub winner-shown : (w : compare.Winner) → winnerShown (winnerCase w) ≡ w
 winner-shown compare.first = refl
 winner-shown compare.second = refl
+winner-shown compare.both = refl
 winner-shown compare.neither = refl

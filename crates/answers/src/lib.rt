@@ -60,15 +60,17 @@ pub enum Verdict {
     Refused(u8, Group),
 }
 
-// Both votes, first against second and second against first, and the winner.
+// Both votes, first against second and second against first, and who wins.
 pub enum Comparison {
     Votes(i16, i16, Winner),
     Refused(u8, Group),
 }
 
+// W-206: "Comparison answers first, second, both or neither."
 pub enum Winner {
     First,
     Second,
+    Both,
     Neither,
 }
 

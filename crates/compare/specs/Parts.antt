@@ -11,7 +11,7 @@ use Rattle.model.specs.Compare as compare
 use Rattle.model.specs.Compare.{File, firstFile, secondFile, Part, winnerPart}
 use Rattle.answers.specs.declared.Group.{Group}
 use Rattle.answers.specs.declared.Winner.{Winner}
-use Rattle.answers.specs.declared.Winner.the-variants.{First, Second, Neither}
+use Rattle.answers.specs.declared.Winner.the-variants.{First, Second, Both, Neither}
 use Rattle.answers.specs.declared.Comparison.{Comparison}
 use Rattle.answers.specs.declared.Comparison.the-variants.{Votes, Refused}
 use Rattle.answers.specs.ComparisonCases.{partShown}
@@ -64,6 +64,9 @@ module _ (f s : RefT (List ℕ)) where
 
     pub second-part : x ≡ Second → Cut ((ptr s .0, 1 + ptr s .1), take (length (now s) - 1) (drop 1 (now s))) c
     second-part q = behind s ∙ voted Second q
+
+    pub both-part : x ≡ Both → Cut (ptr f, []) c
+    both-part q = no-bytes ∙ voted Both q
 
     pub no-part : x ≡ Neither → Cut (ptr f, []) c
     no-part q = no-bytes ∙ voted Neither q

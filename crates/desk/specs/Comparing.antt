@@ -27,7 +27,8 @@ use Rattle.desk.specs.Replies.{partIn, answered, Replied}
 -- the comparison's call on desk d with two lent files: the answer, the part and the desk then
 pub record Compares (d : Desk) (first second : RefT (List ℕ)) (answer : Comparison) (handed : RefT (List ℕ)) (d′ : Desk) : Type 0 where
   pub replied : Replied d (compare (now first) (now second)) (comparisonShown (now first) (now second) answer) (compare (now first) (now second)) d′
-  -- "the winner's pair bytes are handed back as a part of its own file"; "with no winner, and on a refusal, the part is empty, taken from the first file"
+  -- "the winner's pair bytes are handed back as a part of its own file": "the winner's for first and second, and empty for both and neither" (W-206);
+  -- the empty part, on a refusal too, is "taken from the first file"
   pub part : (ptr handed, now handed) ≡ placed first second (partIn (answered (heldOf d) (compare (now first) (now second))))
 
 -- ---- where there are votes, both files have their count byte

@@ -251,7 +251,8 @@ impl Desk {
         }
     }
 
-    // Both votes, the winner and its part: "with no winner, and on a refusal, the part is empty, taken from the first file".
+    // Both votes, who wins, and the part: "the winner's for first and second, and empty for both and neither" (W-206), "on a refusal" empty too,
+    // "taken from the first file".
     pub fn compare<'a>(self, first: &'a [u8], second: &'a [u8]) -> Compared<'a>
         ensures { λ r. ⌜ Compares self (first .entry) (second .entry) (r .answer) (r .part) (r .desk) ⌝ }
     {

@@ -50,6 +50,7 @@ voteCode (negsuc n) = 1 ∷ suc n ∷ []
 abbrev winnerCode : Winner → ℕ
 winnerCode C.first = 1
 winnerCode C.second = 2
+winnerCode C.both = 3
 winnerCode C.neither = 0
 
 abbrev fileCode : File → ℕ

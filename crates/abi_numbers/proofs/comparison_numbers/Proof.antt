@@ -2,7 +2,7 @@
 use mathlib.Core.Path.{ap₂, _∙_}
 use mir.Syntax.{w16}
 use mir.ValLaws.{toZ-ofZ}
-use Rattle.abi_numbers.specs.Numbers.{voted, first-numbers, second-numbers, neither-numbers, refused-numbers}
+use Rattle.abi_numbers.specs.Numbers.{voted, first-numbers, second-numbers, both-numbers, neither-numbers, refused-numbers}
 use borrow.Author.Needs.{needs, sfits-of}
 use Rattle.abi_numbers.proofs.comparison_numbers.Statement.{statement}
 use Rattle.abi_numbers.proofs.comparison_numbers.Tie as tie
@@ -30,13 +30,21 @@ returns-3 c =
     let a = c .before .before .before .before .before .before .before .args in
     let m = c .before .before .before in
     let t = c .before .before .known-told .given in
-    ap₂ (voted 0 1 0 0) (toZ-ofZ w16 (m .c .given .0 .0) (sfits-of (t .0 .1))) (toZ-ofZ w16 (m .c .given .0 .1 .0) (sfits-of (t .1 .0 .1)))
-    ∙ neither-numbers (a .first .now) (a .second .now) (m .c .given .1) (c .enum-told3 .given .1)
+    ap₂ (voted 3 1 0 0) (toZ-ofZ w16 (m .c .given .0 .0) (sfits-of (t .0 .1))) (toZ-ofZ w16 (m .c .given .0 .1 .0) (sfits-of (t .1 .0 .1)))
+    ∙ both-numbers (a .first .now) (a .second .now) (m .c .given .1) (c .enum-told3 .given .1)
 
 returns-4 : tie.Need-returns-4
-returns-4 c = let a = c .before .before .before .before .before .args in refused-numbers (a .first .now) (a .second .now) (c .before .c2 .given .1)
+returns-4 c =
+    let a = c .before .before .before .before .before .before .before .args in
+    let m = c .before .before .before in
+    let t = c .before .before .known-told .given in
+    ap₂ (voted 0 1 0 0) (toZ-ofZ w16 (m .c .given .0 .0) (sfits-of (t .0 .1))) (toZ-ofZ w16 (m .c .given .0 .1 .0) (sfits-of (t .1 .0 .1)))
+    ∙ neither-numbers (a .first .now) (a .second .now) (m .c .given .1) (c .enum-told4 .given .1)
+
+returns-5 : tie.Need-returns-5
+returns-5 c = let a = c .before .before .before .before .before .args in refused-numbers (a .first .now) (a .second .now) (c .before .c2 .given .1)
 
 pub comparison-numbers-spec : {M : Type 1} → statement M
 comparison-numbers-spec =
     tie.close (tie.spec (λ c. search needs) (λ c. search needs) (λ c κs. search needs) (λ c. search needs) (λ c κs. search needs)
-    (λ c. search needs) (λ c. search needs) returns returns-2 returns-3 returns-4)
+    (λ c. search needs) (λ c. search needs) (λ c. search needs) returns returns-2 returns-3 returns-4 returns-5)

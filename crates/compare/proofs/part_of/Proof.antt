@@ -2,7 +2,7 @@
 use Prim.Native.Nat.{_≤_}
 use native.Mathlib.Omega.{arith}
 use lib.ListN.{length}
-use Rattle.compare.specs.Parts.{counts, first-part, second-part, no-part, refused-part}
+use Rattle.compare.specs.Parts.{counts, first-part, second-part, both-part, no-part, refused-part}
 use borrow.Author.Needs.{needs}
 use Rattle.compare.proofs.part_of.Statement.{statement}
 use Rattle.compare.proofs.part_of.Tie as tie
@@ -24,16 +24,22 @@ returns-2 c =
 returns-3 : tie.Need-returns-3
 returns-3 c =
     let a = c .before .before .before .before .before .before .args in
-    no-part (a .first) (a .second) (c .before .before .before .before .answer .given .1) (c .before .enum-told3 .given .1)
+    both-part (a .first) (a .second) (c .before .before .before .before .answer .given .1) (c .before .enum-told3 .given .1)
 
 returns-4 : tie.Need-returns-4
 returns-4 c =
+    let a = c .before .before .before .before .before .before .args in
+    no-part (a .first) (a .second) (c .before .before .before .before .answer .given .1) (c .before .enum-told4 .given .1)
+
+returns-5 : tie.Need-returns-5
+returns-5 c =
     let a = c .before .before .before .args in
-    refused-part (a .first) (a .second) (c .before .enum-told4 .given .1)
+    refused-part (a .first) (a .second) (c .before .enum-told5 .given .1)
 
 pub part-of-spec : {M : Type 1} → statement M
 part-of-spec =
     tie.close (tie.spec (λ c. search needs) (λ c. search needs) (λ c. omega (arith, counted (c .before .before .before)))
     (λ c. omega (arith, counted (c .before .before .before))) (λ c. search needs) (λ c. search needs)
     (λ c. omega (arith, counted (c .before .before .before))) (λ c. omega (arith, counted (c .before .before .before))) (λ c. search needs)
-    (λ c. search needs) (λ c. search needs) (λ c. search needs) (λ c. search needs) returns returns-2 returns-3 returns-4)
+    (λ c. search needs) (λ c. search needs) (λ c. search needs) (λ c. search needs) (λ c. search needs) (λ c. search needs) returns returns-2
+    returns-3 returns-4 returns-5)
