@@ -92,10 +92,14 @@ static struct crew_desk load_plan(struct crew_desk desk) {
     return reply.desk;
 }
 
-static struct crew_desk give_written(struct crew_desk_written reply, struct lent out) {
-    give_number(reply.outcome.refusal);
-    give_number((int64_t)reply.outcome.length);
+static void give_outcome(struct crew_outcome outcome, struct lent out) {
+    give_number(outcome.refusal);
+    give_number((int64_t)outcome.length);
     give_back(out);
+}
+
+static struct crew_desk give_written(struct crew_desk_written reply, struct lent out) {
+    give_outcome(reply.outcome, out);
     return reply.desk;
 }
 
@@ -107,6 +111,22 @@ static struct crew_desk write_roster(struct crew_desk desk) {
 static struct crew_desk write_plan(struct crew_desk desk) {
     struct lent out = take_lent();
     return give_written(crew_write_plan(desk, out.bytes, out.length), out);
+}
+
+static struct crew_desk plan_to_new(struct crew_desk desk) {
+    struct lent file = take_lent();
+    struct lent out = take_lent();
+    struct crew_desk_written reply = crew_plan_to_new(desk, file.bytes, file.length, out.bytes, out.length);
+    free(file.bytes);
+    return give_written(reply, out);
+}
+
+static struct crew_desk plan_to_old(struct crew_desk desk) {
+    struct lent file = take_lent();
+    struct lent out = take_lent();
+    struct crew_desk_written reply = crew_plan_to_old(desk, file.bytes, file.length, out.bytes, out.length);
+    free(file.bytes);
+    return give_written(reply, out);
 }
 
 static struct crew_desk judge(struct crew_desk desk) {
@@ -212,6 +232,20 @@ static void read_roster(void) {
     free(file.bytes);
 }
 
+static void roster_to_new(void) {
+    struct lent file = take_lent();
+    struct lent out = take_lent();
+    give_outcome(crew_roster_to_new(file.bytes, file.length, out.bytes, out.length), out);
+    free(file.bytes);
+}
+
+static void roster_to_old(void) {
+    struct lent file = take_lent();
+    struct lent out = take_lent();
+    give_outcome(crew_roster_to_old(file.bytes, file.length, out.bytes, out.length), out);
+    free(file.bytes);
+}
+
 static void group(void) {
     give_number(crew_group(take_byte()));
 }
@@ -225,6 +259,8 @@ int main(void) {
         case 'P': desk = load_plan(desk); break;
         case 'r': desk = write_roster(desk); break;
         case 'p': desk = write_plan(desk); break;
+        case 'N': desk = plan_to_new(desk); break;
+        case 'D': desk = plan_to_old(desk); break;
         case 'j': desk = judge(desk); break;
         case 'c': desk = compare(desk); break;
         case 'b': desk = blocking(desk); break;
@@ -232,6 +268,8 @@ int main(void) {
         case 'J': desk = join(desk); break;
         case 'L': desk = leave(desk); break;
         case 'a': read_roster(); break;
+        case 'n': roster_to_new(); break;
+        case 'd': roster_to_old(); break;
         case 'g': group(); break;
         default: return 2;
         }

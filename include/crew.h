@@ -118,6 +118,16 @@ uint8_t crew_group(uint8_t number);
 /* a roster file: its refusal, 0 if it is accepted */
 uint8_t crew_read_roster(const uint8_t *file, size_t file_len);
 
+/* the two calls below turn roster files of the seasons before the shifts, whose list entries are numbers alone, into new ones and back. They use
+   no desk. They write to the front of out, which has at least CREW_ROSTER_BYTES either way, else 15, before the file is looked at */
+
+/* an old roster file becomes a new one with shift 1 throughout. It is read as before the shifts: a list longer than the other side's count is 2,
+   and 18 and 19 never come */
+struct crew_outcome crew_roster_to_new(const uint8_t *file, size_t file_len, uint8_t *out, size_t out_len);
+
+/* a roster file with shift 1 throughout goes back to the identical old bytes. Where it has another shift: 19, after all its other refusals */
+struct crew_outcome crew_roster_to_old(const uint8_t *file, size_t file_len, uint8_t *out, size_t out_len);
+
 /* a desk with nothing loaded */
 struct crew_desk crew_open(void);
 
@@ -134,6 +144,14 @@ struct crew_desk_written crew_write_roster(struct crew_desk desk, uint8_t *out, 
 
 /* writes the held plan to the front of out, which has at least CREW_PLAN_BYTES */
 struct crew_desk_written crew_write_plan(struct crew_desk desk, uint8_t *out, size_t out_len);
+
+/* an old plan file, two numbers a pair, becomes a new one with shift 1 throughout, at the front of out, which has at least CREW_PLAN_BYTES. It
+   is judged, with shift 1, against the held roster, which may have other shifts; no plan needs to be held, and a held one stays */
+struct crew_desk_written crew_plan_to_new(struct crew_desk desk, const uint8_t *file, size_t file_len, uint8_t *out, size_t out_len);
+
+/* a plan file of the held roster with shift 1 throughout goes back to the identical old bytes, at the front of out, which has at least
+   CREW_PLAN_BYTES too. Where it has another shift: 19, after all its other refusals */
+struct crew_desk_written crew_plan_to_old(struct crew_desk desk, const uint8_t *file, size_t file_len, uint8_t *out, size_t out_len);
 
 /* the verdict on the held plan. A plan that is not strong has a rival, whose bytes go to the front of rival, which has at least
    CREW_PLAN_BYTES; for a strong plan nothing is written */

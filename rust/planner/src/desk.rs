@@ -43,14 +43,52 @@ impl Desk {
     /// refusal no byte changes.
     pub fn write_roster(&self, out: &mut [u8]) -> Result<usize, Refusal> {
         let reply = unsafe { ffi::crew_write_roster(self.clone(), out.as_mut_ptr(), out.len()) };
-        debug_assert!(*self == reply.desk);
-        answers::length(&reply.outcome)
+        self.written(&reply)
     }
 
     /// Writes the held plan to the front of `out` and gives its length. On a
     /// refusal no byte changes.
     pub fn write_plan(&self, out: &mut [u8]) -> Result<usize, Refusal> {
         let reply = unsafe { ffi::crew_write_plan(self.clone(), out.as_mut_ptr(), out.len()) };
+        self.written(&reply)
+    }
+
+    /// Turns an old plan file of the held roster into a new one, with shift 1
+    /// throughout: writes it to the front of `out`, which needs
+    /// [`crate::PLAN_BYTES`], and gives its length. No plan needs to be held, and a
+    /// held one stays. On a refusal no byte changes.
+    pub fn plan_to_new(&self, file: &[u8], out: &mut [u8]) -> Result<usize, Refusal> {
+        let reply = unsafe {
+            ffi::crew_plan_to_new(
+                self.clone(),
+                file.as_ptr(),
+                file.len(),
+                out.as_mut_ptr(),
+                out.len(),
+            )
+        };
+        self.written(&reply)
+    }
+
+    /// Turns a plan file of the held roster that has only shift 1 back to the old
+    /// bytes: writes them to the front of `out`, which needs
+    /// [`crate::PLAN_BYTES`] too, and gives their number. The roster may have other
+    /// shifts. On a refusal no byte changes.
+    pub fn plan_to_old(&self, file: &[u8], out: &mut [u8]) -> Result<usize, Refusal> {
+        let reply = unsafe {
+            ffi::crew_plan_to_old(
+                self.clone(),
+                file.as_ptr(),
+                file.len(),
+                out.as_mut_ptr(),
+                out.len(),
+            )
+        };
+        self.written(&reply)
+    }
+
+    /// The length that a call wrote, which hands the same desk back.
+    fn written(&self, reply: &ffi::DeskWritten) -> Result<usize, Refusal> {
         debug_assert!(*self == reply.desk);
         answers::length(&reply.outcome)
     }

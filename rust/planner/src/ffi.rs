@@ -77,11 +77,37 @@ pub struct DeskFound {
 extern "C" {
     pub fn crew_group(number: u8) -> u8;
     pub fn crew_read_roster(file: *const u8, file_len: usize) -> u8;
+    pub fn crew_roster_to_new(
+        file: *const u8,
+        file_len: usize,
+        out: *mut u8,
+        out_len: usize,
+    ) -> Outcome;
+    pub fn crew_roster_to_old(
+        file: *const u8,
+        file_len: usize,
+        out: *mut u8,
+        out_len: usize,
+    ) -> Outcome;
     pub fn crew_open() -> Desk;
     pub fn crew_load_roster(desk: Desk, file: *const u8, file_len: usize) -> DeskLoaded;
     pub fn crew_load_plan(desk: Desk, file: *const u8, file_len: usize) -> DeskLoaded;
     pub fn crew_write_roster(desk: Desk, out: *mut u8, out_len: usize) -> DeskWritten;
     pub fn crew_write_plan(desk: Desk, out: *mut u8, out_len: usize) -> DeskWritten;
+    pub fn crew_plan_to_new(
+        desk: Desk,
+        file: *const u8,
+        file_len: usize,
+        out: *mut u8,
+        out_len: usize,
+    ) -> DeskWritten;
+    pub fn crew_plan_to_old(
+        desk: Desk,
+        file: *const u8,
+        file_len: usize,
+        out: *mut u8,
+        out_len: usize,
+    ) -> DeskWritten;
     pub fn crew_judge(desk: Desk, rival: *mut u8, rival_len: usize) -> DeskJudged;
     pub fn crew_compare(
         desk: Desk,

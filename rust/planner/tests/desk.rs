@@ -9,7 +9,7 @@ mod found;
 mod lent;
 
 use change::Change;
-use common::{check_written, damage, held_by, junk, number, shape, Met};
+use common::{check_written, damage, held_by, junk, number, season_plan, shape, Met};
 use found::check_rival;
 use lent::{Buffers, SIZES};
 use planner::{Desk, Verdict, Winner};
@@ -92,6 +92,27 @@ fn write_plan(random: &mut Random, desk: &Desk, held: &Held) -> u8 {
         Ok((roster, plan)) => Ok(plan::write(roster, plan)),
     };
     check_written(answer, expected, &before, &out);
+    number(&answer)
+}
+
+/// A plan file of an old season or a new one, turned one way or the other.
+fn turn_plan(random: &mut Random, desk: &Desk, held: &Held) -> u8 {
+    let file = match held.roster() {
+        Ok(roster) => season_plan(random, roster),
+        Err(_) => vec![0],
+    };
+    let before = buffer(random, planner::PLAN_BYTES);
+    let [mut own, mut other] = [before.clone(), before];
+    let (answer, (after, expected)) = if random.chance(50) {
+        let answer = desk.plan_to_new(&file, &mut own);
+        (answer, held.clone().plan_to_new(&file, &mut other))
+    } else {
+        let answer = desk.plan_to_old(&file, &mut own);
+        (answer, held.clone().plan_to_old(&file, &mut other))
+    };
+    assert_eq!(number(&answer), expected.err().map_or(0, Refusal::number));
+    assert_eq!((answer.ok(), own), (expected.ok(), other));
+    assert_eq!(after, *held);
     number(&answer)
 }
 
@@ -224,7 +245,7 @@ fn calls_one_after_another() {
         let mut desk = Desk::open();
         let mut held = Held::Nothing;
         for _ in 0..random.below(20) {
-            let refusal = match random.below(10) {
+            let refusal = match random.below(11) {
                 0 => {
                     let (next, refusal) = load_roster(&mut random, &mut desk, held);
                     held = next;
@@ -240,6 +261,7 @@ fn calls_one_after_another() {
                 5 => judge(&mut random, &desk, &held),
                 6 => compare_two(&mut random, &desk, &held),
                 7 => blocking_pair(&desk, &held),
+                8 => turn_plan(&mut random, &desk, &held),
                 _ => {
                     let (next, refusal) = change(&mut random, &mut desk, &held);
                     held = next;
@@ -253,7 +275,7 @@ fn calls_one_after_another() {
             }
         }
     }
-    met.require(&[0, 1, 2, 10, 11, 12, 13, 14, 15, 16, 18], 100);
+    met.require(&[0, 1, 2, 10, 11, 12, 13, 14, 15, 16, 18, 19], 100);
 }
 
 #[test]
@@ -265,4 +287,6 @@ fn a_new_desk_has_nothing_loaded() {
     assert_eq!(number(&desk.judge(&mut out[..1])), 13);
     assert_eq!(number(&desk.blocking()), 13);
     assert_eq!(number(&desk.compare(&[0], &[0]).outcome), 13);
+    assert_eq!(number(&desk.plan_to_new(&[0], &mut out[..1])), 13);
+    assert_eq!(number(&desk.plan_to_old(&[0], &mut out[..1])), 13);
 }

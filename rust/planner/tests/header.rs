@@ -17,13 +17,15 @@ use std::process::{Child, ChildStdin, ChildStdout, Command, Stdio};
 use std::rc::Rc;
 
 use calls::{Calls, Compared};
-use common::{damage, root, shape};
+use common::{damage, junk, length, root, season_roster, shape, Met};
 use lent::{record_bytes, record_of, RECORD_BYTES};
 use reference::compare::{File, Part};
 use reference::desk::{Found, Judged, Lent, NoneKind};
+use reference::limits::MAX_ROSTER_BYTES;
 use reference::random::{self, Random};
-use reference::refusal::Group;
+use reference::refusal::{Group, Refusal};
 use reference::roster;
+use reference::seasons::{roster_to_new, roster_to_old};
 
 const C: &[&str] = &[
     "-std=c99",
@@ -116,6 +118,14 @@ impl Pipe {
         })
     }
 
+    /// A call that writes to a buffer, with the files that it is lent before it.
+    fn write(&mut self, call: &[u8], files: &[&[u8]], out: &mut [u8]) -> Result<usize, u8> {
+        self.send(call, &[files, &[&*out]].concat());
+        let [number, length] = self.numbers();
+        self.fill(out);
+        refusal(number).map(|()| length as usize)
+    }
+
     /// The program ends with its input, in good order.
     fn finish(mut self) {
         drop(self.input);
@@ -144,15 +154,9 @@ impl Desk {
         (self, refusal(number))
     }
 
-    fn write(self, call: &[u8], out: &mut [u8]) -> (Desk, Result<usize, u8>) {
-        let [number, length] = {
-            let mut pipe = self.0.borrow_mut();
-            pipe.send(call, &[out]);
-            let numbers = pipe.numbers();
-            pipe.fill(out);
-            numbers
-        };
-        (self, refusal(number).map(|()| length as usize))
+    fn write(self, call: &[u8], files: &[&[u8]], out: &mut [u8]) -> (Desk, Result<usize, u8>) {
+        let answer = self.0.borrow_mut().write(call, files, out);
+        (self, answer)
     }
 
     /// A call that answers as the finder does, with what it is lent before the
@@ -201,11 +205,19 @@ impl Calls for Desk {
     }
 
     fn write_roster(self, out: &mut [u8]) -> (Desk, Result<usize, u8>) {
-        self.write(b"r", out)
+        self.write(b"r", &[], out)
     }
 
     fn write_plan(self, out: &mut [u8]) -> (Desk, Result<usize, u8>) {
-        self.write(b"p", out)
+        self.write(b"p", &[], out)
+    }
+
+    fn plan_to_new(self, file: &[u8], out: &mut [u8]) -> (Desk, Result<usize, u8>) {
+        self.write(b"N", &[file], out)
+    }
+
+    fn plan_to_old(self, file: &[u8], out: &mut [u8]) -> (Desk, Result<usize, u8>) {
+        self.write(b"D", &[file], out)
     }
 
     fn find(self, lent: Lent) -> (Desk, Result<Found, u8>) {
@@ -268,7 +280,8 @@ impl Calls for Desk {
     }
 }
 
-/// The two calls without a desk: every refusal's group, and roster files.
+/// The calls without a desk: every refusal's group, roster files, and those of
+/// old seasons.
 fn check_files(pipe: &mut Pipe, files: usize) {
     for number in 0..=255u8 {
         pipe.send(&[b'g', number], &[]);
@@ -295,7 +308,36 @@ fn check_files(pipe: &mut Pipe, files: usize) {
             .map_or(0, |refusal| refusal.number());
         assert_eq!(number, i64::from(expected), "{file:?}");
     }
+    check_seasons(pipe, files);
 }
+
+/// Roster files of old seasons and new ones, turned both ways.
+fn check_seasons(pipe: &mut Pipe, files: usize) {
+    let mut random = Random::new(94);
+    let mut met = [Met::default(), Met::default()];
+    let mut numbers: Vec<usize> = (0..=7).chain([9, 15]).collect();
+    for _ in 0..files {
+        let file = season_roster(&mut random);
+        let before = {
+            let length = length(&mut random, MAX_ROSTER_BYTES);
+            junk(&mut random, length)
+        };
+        let calls: [(&[u8], Turn); 2] = [(b"n", roster_to_new), (b"d", roster_to_old)];
+        for (met, (call, turn)) in met.iter_mut().zip(calls) {
+            let [mut own, mut other] = [before.clone(), before.clone()];
+            let answer = pipe.write(call, &[&file], &mut own);
+            let expected = turn(&file, &mut other).map_err(Refusal::number);
+            assert_eq!((answer, own), (expected, other), "{file:?}");
+            met.count(answer.err().unwrap_or(0));
+        }
+    }
+    met[0].require(&numbers, 1);
+    numbers.extend([8, 18, 19]);
+    met[1].require(&numbers, 1);
+}
+
+/// A conversion of a roster's file by the reference.
+type Turn = fn(&[u8], &mut [u8]) -> Result<usize, Refusal>;
 
 fn check(program: &Path, sequences: usize, least: usize) {
     let pipe = Rc::new(RefCell::new(Pipe::start(program)));

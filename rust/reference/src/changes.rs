@@ -1,6 +1,7 @@
 //! Changes in the field: a surveyor joins a roster, a surveyor leaves it, and
 //! what is then left of a plan.
 
+use crate::layout::Layout;
 use crate::limits::{MAX_LIST, MAX_NODES, MAX_QUOTA, MAX_QUOTA_SUM};
 use crate::plan::Plan;
 use crate::reader::{within, Reader};
@@ -57,7 +58,7 @@ fn has_place(roster: &Roster, quota: u8) -> bool {
 fn read_list(roster: &Roster, file: &[u8]) -> Result<List, Refusal> {
     let mut reader = Reader::new(file);
     let stands = roster.nodes(Side::Stands).len();
-    let list = roster::read_list(&mut reader, Side::Surveyors, stands)?;
+    let list = roster::read_list(&mut reader, Layout::New, Side::Surveyors, stands)?;
     reader.end()?;
     Ok(list)
 }

@@ -7,12 +7,14 @@ use crate::blocking::first_blocking_pair;
 use crate::changes;
 use crate::compare::{compare, Comparison, Part};
 use crate::finder::{find_large, verdict_large, Answer, Why};
+use crate::lent::{enough, put};
 use crate::limits::{MAX_ENTRIES, MAX_PLAN_BYTES, MAX_ROSTER_BYTES, PAIR_FIELD};
 use crate::plan::{self, Plan};
 use crate::plans::Verdict;
 use crate::reduction::{Fate, Step};
 use crate::refusal::Refusal;
 use crate::roster::{self, Pair, Roster};
+use crate::seasons;
 
 /// Records that a diary needs, and bytes that a buffer for left pairs needs.
 pub const DIARY_RECORDS: usize = MAX_ENTRIES;
@@ -134,6 +136,21 @@ impl Desk {
         (self, answer)
     }
 
+    /// Writes the new file of an old plan of the held roster and tells its length.
+    /// No plan needs to be held, and none is after it that was not before.
+    pub fn plan_to_new(self, file: &[u8], out: &mut [u8]) -> (Desk, Result<usize, Refusal>) {
+        let held = self.roster();
+        let answer = held.and_then(|roster| seasons::plan_to_new(roster, file, out));
+        (self, answer)
+    }
+
+    /// Writes the old file of a new plan of the held roster and tells its length.
+    pub fn plan_to_old(self, file: &[u8], out: &mut [u8]) -> (Desk, Result<usize, Refusal>) {
+        let held = self.roster();
+        let answer = held.and_then(|roster| seasons::plan_to_old(roster, file, out));
+        (self, answer)
+    }
+
     /// Finds the strongly popular plan of the held roster.
     pub fn find(self, lent: Lent) -> (Desk, Result<Found, Refusal>) {
         let answer = self.roster().and_then(|roster| {
@@ -224,21 +241,6 @@ impl Desk {
             .map(|(roster, held)| first_blocking_pair(roster, held));
         (self, answer)
     }
-}
-
-/// Refuses a buffer below its size.
-fn enough(length: usize, size: usize) -> Result<(), Refusal> {
-    if length < size {
-        Err(Refusal::BufferTooSmall)
-    } else {
-        Ok(())
-    }
-}
-
-/// Writes to the front of a buffer and tells the length.
-fn put(out: &mut [u8], bytes: &[u8]) -> usize {
-    out[..bytes.len()].copy_from_slice(bytes);
-    bytes.len()
 }
 
 fn put_answer(roster: &Roster, lent: Lent, answer: &Answer) -> Found {

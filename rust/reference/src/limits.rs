@@ -9,6 +9,8 @@ pub const MAX_QUOTA: u8 = 8;
 pub const MAX_QUOTA_SUM: usize = 64;
 /// The last shift of a day; the first is 1.
 pub const MAX_SHIFT: u8 = 3;
+/// The shift of every entry and every pair of an old file, which states none.
+pub const OLD_SHIFT: u8 = 1;
 /// The most entries of one list, a stand's strict and tied ones together.
 pub const MAX_LIST: usize = 32;
 /// The largest count of all entries of one side's lists.
@@ -27,6 +29,9 @@ pub const WIDE_FIELD: usize = 2;
 pub const ENTRY_FIELD: usize = 2;
 /// Bytes of a plan's pair: a surveyor, a stand and a shift.
 pub const PAIR_FIELD: usize = 3;
+/// Bytes of the same two in an old file, which has no shifts.
+pub const OLD_ENTRY_FIELD: usize = 1;
+pub const OLD_PAIR_FIELD: usize = 2;
 
 /// Bytes of the longest section of quotas.
 const QUOTA_SECTION_BYTES: usize = NARROW_FIELD * (1 + MAX_NODES);

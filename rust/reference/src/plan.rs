@@ -1,6 +1,7 @@
 //! Plans: sets of a roster's pairs, and reading and writing their bytes.
 
-use crate::limits::{MAX_PLAN_PAIRS, PAIR_FIELD};
+use crate::layout::Layout;
+use crate::limits::MAX_PLAN_PAIRS;
 use crate::reader::Reader;
 use crate::refusal::Refusal;
 use crate::roster::{narrow, Entry, Pair, Roster, Side, SIDES};
@@ -55,18 +56,18 @@ impl FromIterator<usize> for Plan {
     }
 }
 
-/// Reads a plan against its roster, pair by pair.
+/// Reads a new plan against its roster.
 pub fn read(roster: &Roster, file: &[u8]) -> Result<Plan, Refusal> {
+    read_by(Layout::New, roster, file)
+}
+
+/// Reads a plan against its roster, pair by pair.
+pub fn read_by(layout: Layout, roster: &Roster, file: &[u8]) -> Result<Plan, Refusal> {
     let mut reader = Reader::new(file);
     let count = reader.narrow_count(MAX_PLAN_PAIRS)?;
     let mut plan = Plan::default();
     for _ in 0..count {
-        let [surveyor, stand, shift] = reader.field::<PAIR_FIELD>()?;
-        let pair = Pair {
-            surveyor,
-            stand,
-            shift,
-        };
+        let pair = layout.pair(&mut reader)?;
         let index = roster.index_of(pair).ok_or(Refusal::PairNotInRoster)?;
         if plan.indices.last().is_some_and(|&last| last >= index) {
             return Err(Refusal::PairsNotAscending);
@@ -89,9 +90,16 @@ fn passes_quota(roster: &Roster, plan: &Plan, pair: Pair, side: Side) -> bool {
     plan.entries(roster, side, number).len() > usize::from(roster.node(side, number).quota)
 }
 
-/// The bytes of a plan.
+/// The bytes of a plan, as a new file.
 pub fn write(roster: &Roster, plan: &Plan) -> Vec<u8> {
+    write_by(Layout::New, roster, plan)
+}
+
+/// The bytes of a plan. An old file does not tell other shifts from shift 1.
+pub fn write_by(layout: Layout, roster: &Roster, plan: &Plan) -> Vec<u8> {
     let mut file = vec![narrow(plan.indices.len())];
-    file.extend(plan.pairs(roster).flat_map(Pair::bytes));
+    for pair in plan.pairs(roster) {
+        layout.put(&mut file, pair.bytes());
+    }
     file
 }

@@ -3,7 +3,7 @@
 use std::cmp::Reverse;
 use std::ops::RangeInclusive;
 
-use crate::limits::{MAX_LIST, MAX_NODES, MAX_SHIFT};
+use crate::limits::{MAX_LIST, MAX_NODES, MAX_SHIFT, OLD_SHIFT};
 use crate::plan::Plan;
 use crate::roster::{narrow, Entry, List, Node, Pair, Roster, Side, SIDES};
 
@@ -129,6 +129,15 @@ pub fn longest_shape(ties: u8, opposed: u8) -> Shape {
         pairs: 100,
         ties,
         opposed,
+    }
+}
+
+/// The shape of the longest old rosters: the same with all pairs in one shift,
+/// and so with every surveyor at every stand.
+pub fn longest_old_shape(ties: u8, opposed: u8) -> Shape {
+    Shape {
+        shifts: OLD_SHIFT,
+        ..longest_shape(ties, opposed)
     }
 }
 

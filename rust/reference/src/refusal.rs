@@ -25,6 +25,7 @@ pub enum Refusal {
     NotASurveyor = 16,
     NoPlaceForJoiner = 17,
     ShiftOutOfRange = 18,
+    AnotherShift = 19,
 }
 
 /// The four groups of refusals.
@@ -48,7 +49,7 @@ impl Refusal {
     }
 }
 
-/// The group of a number; 16 to 18 and numbers not in use are content.
+/// The group of a number; 16 to 19 and numbers not in use are content.
 pub fn group_of(number: u8) -> Group {
     match number {
         1 | 2 | 9 => Group::Form,
@@ -83,6 +84,9 @@ impl fmt::Display for Refusal {
                 "all 32 numbers are taken, or the surveyors' quotas would be above 64 together"
             }
             Refusal::ShiftOutOfRange => "a list entry's shift is not 1, 2 or 3",
+            Refusal::AnotherShift => {
+                "the file has a shift other than 1, which an old file cannot hold"
+            }
         })
     }
 }

@@ -1,7 +1,8 @@
 //! Rosters: what they hold, and reading and writing their bytes.
 
+use crate::layout::Layout;
 use crate::limits::{
-    ENTRY_FIELD, MAX_ENTRIES, MAX_LIST, MAX_NODES, MAX_QUOTA, MAX_QUOTA_SUM, MAX_SHIFT, PAIR_FIELD,
+    ENTRY_FIELD, MAX_ENTRIES, MAX_NODES, MAX_QUOTA, MAX_QUOTA_SUM, MAX_SHIFT, PAIR_FIELD,
 };
 use crate::reader::{within, Reader};
 use crate::refusal::Refusal;
@@ -177,15 +178,20 @@ fn pairs_of(nodes: &[Node], pair: impl Fn(u8, Entry) -> Pair) -> Vec<Pair> {
     pairs
 }
 
+/// Reads a new roster.
+pub fn read(file: &[u8]) -> Result<Roster, Refusal> {
+    read_by(Layout::New, file)
+}
+
 /// Reads a roster, field by field from left to right; the first field that
 /// breaks a rule decides the refusal.
-pub fn read(file: &[u8]) -> Result<Roster, Refusal> {
+pub fn read_by(layout: Layout, file: &[u8]) -> Result<Roster, Refusal> {
     let mut reader = Reader::new(file);
     let surveyor_quotas = read_quotas(&mut reader)?;
     let stand_quotas = read_quotas(&mut reader)?;
     let (surveyors, stands) = (surveyor_quotas.len(), stand_quotas.len());
-    let surveyor_lists = read_lists(&mut reader, Side::Surveyors, surveyors, stands)?;
-    let stand_lists = read_lists(&mut reader, Side::Stands, stands, surveyors)?;
+    let surveyor_lists = read_lists(&mut reader, layout, Side::Surveyors, surveyors, stands)?;
+    let stand_lists = read_lists(&mut reader, layout, Side::Stands, stands, surveyors)?;
     reader.end()?;
     Roster::new(
         join(surveyor_quotas, surveyor_lists),
@@ -218,6 +224,7 @@ fn read_quotas(reader: &mut Reader) -> Result<Vec<u8>, Refusal> {
 /// length bytes alone say how far reading goes.
 fn read_lists(
     reader: &mut Reader,
+    layout: Layout,
     side: Side,
     nodes: usize,
     others: usize,
@@ -225,7 +232,7 @@ fn read_lists(
     let stated = reader.wide_count(MAX_ENTRIES)?;
     let mut lists = Vec::with_capacity(nodes);
     for _ in 0..nodes {
-        lists.push(read_list(reader, side, others)?);
+        lists.push(read_list(reader, layout, side, others)?);
     }
     if lists.iter().map(List::length).sum::<usize>() != stated {
         return Err(Refusal::SectionCountWrong);
@@ -236,20 +243,25 @@ fn read_lists(
 /// One list: its lengths, then its entries, whose numbers are at most `others`.
 /// A stand's two lengths are both read before their sum is held against the
 /// limit.
-pub fn read_list(reader: &mut Reader, side: Side, others: usize) -> Result<List, Refusal> {
+pub fn read_list(
+    reader: &mut Reader,
+    layout: Layout,
+    side: Side,
+    others: usize,
+) -> Result<List, Refusal> {
     let strict = usize::from(reader.narrow()?);
     let tied = match side {
         Side::Surveyors => 0,
         Side::Stands => usize::from(reader.narrow()?),
     };
-    within(strict + tied, MAX_LIST)?;
+    within(strict + tied, layout.longest_list(others))?;
     let mut list = List::default();
     for _ in 0..strict {
-        let entry = read_entry(reader, others, &list)?;
+        let entry = read_entry(reader, layout, others, &list)?;
         list.strict.push(entry);
     }
     for _ in 0..tied {
-        let entry = read_entry(reader, others, &list)?;
+        let entry = read_entry(reader, layout, others, &list)?;
         if list.tied.last().is_some_and(|&last| last >= entry) {
             return Err(Refusal::TieNotAscending);
         }
@@ -260,23 +272,32 @@ pub fn read_list(reader: &mut Reader, side: Side, others: usize) -> Result<List,
 
 /// The next entry behind those already in the list. Number and shift are one
 /// field.
-fn read_entry(reader: &mut Reader, others: usize, list: &List) -> Result<Entry, Refusal> {
-    let [number, shift] = reader.field::<ENTRY_FIELD>()?;
-    if number == 0 || usize::from(number) > others {
+fn read_entry(
+    reader: &mut Reader,
+    layout: Layout,
+    others: usize,
+    list: &List,
+) -> Result<Entry, Refusal> {
+    let entry = layout.entry(reader)?;
+    if entry.number == 0 || usize::from(entry.number) > others {
         return Err(Refusal::EntryOutOfRange);
     }
-    if shift == 0 || shift > MAX_SHIFT {
+    if entry.shift == 0 || entry.shift > MAX_SHIFT {
         return Err(Refusal::ShiftOutOfRange);
     }
-    let entry = Entry { number, shift };
     if list.holds(entry) {
         return Err(Refusal::EntryTwice);
     }
     Ok(entry)
 }
 
-/// The bytes of a roster.
+/// The bytes of a roster, as a new file.
 pub fn write(roster: &Roster) -> Vec<u8> {
+    write_by(Layout::New, roster)
+}
+
+/// The bytes of a roster. An old file does not tell other shifts from shift 1.
+pub fn write_by(layout: Layout, roster: &Roster) -> Vec<u8> {
     let mut file = Vec::new();
     for side in SIDES {
         let nodes = roster.nodes(side);
@@ -284,12 +305,12 @@ pub fn write(roster: &Roster) -> Vec<u8> {
         file.extend(nodes.iter().map(|node| node.quota));
     }
     for side in SIDES {
-        write_lists(&mut file, side, roster.nodes(side));
+        write_lists(&mut file, layout, side, roster.nodes(side));
     }
     file
 }
 
-fn write_lists(file: &mut Vec<u8>, side: Side, nodes: &[Node]) {
+fn write_lists(file: &mut Vec<u8>, layout: Layout, side: Side, nodes: &[Node]) {
     let entries: usize = nodes.iter().map(|node| node.list.length()).sum();
     let count = u16::try_from(entries).expect("a section count fits into two bytes");
     file.extend(count.to_le_bytes());
@@ -298,7 +319,9 @@ fn write_lists(file: &mut Vec<u8>, side: Side, nodes: &[Node]) {
         if side == Side::Stands {
             file.push(narrow(list.tied.len()));
         }
-        file.extend(list.entries().flat_map(Entry::bytes));
+        for entry in list.entries() {
+            layout.put(file, entry.bytes());
+        }
     }
 }
 

@@ -3,14 +3,18 @@
 
 mod common;
 
+use common::NUMBERS;
 use reference::blocking;
 use reference::fast;
-use reference::limits::MAX_PLAN_BYTES;
+use reference::layout::Layout;
+use reference::limits::{MAX_PLAN_BYTES, MAX_ROSTER_BYTES};
 use reference::plan::{self, Plan};
 use reference::plans;
 use reference::random::{self, Random, Shape};
 use reference::reduction;
+use reference::refusal::Refusal;
 use reference::roster::{self, Pair, Roster, SIDES};
+use reference::seasons;
 use reference::votes;
 
 /// A shape with one shift or several, and about as many pairs either way.
@@ -54,7 +58,7 @@ fn damage(random: &mut Random, file: &mut Vec<u8>) {
 #[test]
 fn rosters_are_read_alike() {
     let mut random = Random::new(41);
-    let mut met = [0usize; 19];
+    let mut met = [0usize; NUMBERS];
     for _ in 0..200_000 {
         let mut file = roster::write(&some_roster(&mut random, 5, 8));
         if random.chance(85) {
@@ -127,6 +131,92 @@ fn plans_are_read_and_written_alike() {
     }
     println!("accepted and refusals met: {met:?}");
     assert!([0, 1, 2, 9, 10, 11, 12].iter().all(|&n| met[n] > 100));
+}
+
+/// Holds a fast conversion of an old season's file against the plain one, both
+/// lent such a buffer, which is now and then too small; and counts its number.
+fn turned_alike(
+    random: &mut Random,
+    met: &mut [usize; NUMBERS],
+    needed: usize,
+    plain: impl FnOnce(&mut [u8]) -> Result<usize, Refusal>,
+    fast: impl FnOnce(&mut [u8]) -> Result<usize, u8>,
+) {
+    let size = needed - usize::from(random.chance(5));
+    let mut buffers = [vec![77; size], vec![77; size]];
+    let [first, second] = &mut buffers;
+    let answer = plain(first).map_err(Refusal::number);
+    assert_eq!(fast(second), answer);
+    assert_eq!(buffers[0], buffers[1]);
+    met[usize::from(answer.err().unwrap_or(0))] += 1;
+}
+
+fn any_layout(random: &mut Random) -> Layout {
+    [Layout::Old, Layout::New][random.below(2)]
+}
+
+#[test]
+fn old_rosters_are_turned_alike() {
+    let mut random = Random::new(49);
+    let mut met = [[0usize; NUMBERS]; 2];
+    for _ in 0..100_000 {
+        let roster = some_roster(&mut random, 4, 3);
+        let mut file = roster::write_by(any_layout(&mut random), &roster);
+        if random.chance(50) {
+            damage(&mut random, &mut file);
+        }
+        turned_alike(
+            &mut random,
+            &mut met[0],
+            MAX_ROSTER_BYTES,
+            |out| seasons::roster_to_new(&file, out),
+            |out| fast::seasons::roster_to_new(&file, out),
+        );
+        turned_alike(
+            &mut random,
+            &mut met[1],
+            MAX_ROSTER_BYTES,
+            |out| seasons::roster_to_old(&file, out),
+            |out| fast::seasons::roster_to_old(&file, out),
+        );
+    }
+    println!("to new, to old: {met:?}");
+    let numbers: Vec<usize> = (0..=9).chain([15]).collect();
+    assert!(numbers.iter().all(|&n| met[0][n] > 50 && met[1][n] > 50));
+    assert!(met[1][18] > 50 && met[1][19] > 50);
+}
+
+#[test]
+fn old_plans_are_turned_alike() {
+    let mut random = Random::new(50);
+    let mut met = [[0usize; NUMBERS]; 2];
+    for _ in 0..100_000 {
+        let roster = some_roster(&mut random, 4, 3);
+        let instance = fast::roster::read(&roster::write(&roster)).expect("accepted");
+        let plan = random::plan(&mut random, &roster, 80);
+        let mut file = plan::write_by(any_layout(&mut random), &roster, &plan);
+        if random.chance(50) {
+            damage(&mut random, &mut file);
+        }
+        turned_alike(
+            &mut random,
+            &mut met[0],
+            MAX_PLAN_BYTES,
+            |out| seasons::plan_to_new(&roster, &file, out),
+            |out| fast::seasons::plan_to_new(&instance, &file, out),
+        );
+        turned_alike(
+            &mut random,
+            &mut met[1],
+            MAX_PLAN_BYTES,
+            |out| seasons::plan_to_old(&roster, &file, out),
+            |out| fast::seasons::plan_to_old(&instance, &file, out),
+        );
+    }
+    println!("to new, to old: {met:?}");
+    let numbers = [0, 1, 2, 9, 10, 11, 12, 15];
+    assert!(numbers.iter().all(|&n| met[0][n] > 50 && met[1][n] > 50));
+    assert!(met[1][19] > 50);
 }
 
 fn chosen(roster: &Roster, plan: &Plan) -> fast::plan::Chosen {

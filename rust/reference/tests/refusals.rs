@@ -2,7 +2,7 @@
 
 mod common;
 
-use common::{roster, Bytes, P10, P3, P4, P6, SHIFTS};
+use common::{roster, Bytes, NUMBERS, P10, P3, P4, P6, SHIFTS};
 use reference::changes::join;
 use reference::plan;
 use reference::refusal::{Group, Refusal};
@@ -168,8 +168,8 @@ const PLANS: &[Case] = &[
 ];
 
 /// Checks a table, and returns how many cases each number has.
-fn check(cases: &[Case], refusal: impl Fn(&[u8]) -> Option<Refusal>) -> [usize; 19] {
-    let mut seen = [0; 19];
+fn check(cases: &[Case], refusal: impl Fn(&[u8]) -> Option<Refusal>) -> [usize; NUMBERS] {
+    let mut seen = [0; NUMBERS];
     for &(name, file, number) in cases {
         let refusal = refusal(file).map(|refusal| (refusal.number(), refusal.group()));
         assert_eq!(refusal, Some((number, group(number))), "{name}");
@@ -183,7 +183,7 @@ fn group(number: u8) -> Group {
     use Group::{Content, Desk, Form, Plan};
     [
         Form, Form, Content, Content, Content, Content, Content, Content, Form, Plan, Plan, Plan,
-        Desk, Desk, Desk, Content, Content, Content,
+        Desk, Desk, Desk, Content, Content, Content, Content,
     ][usize::from(number) - 1]
 }
 

@@ -1,5 +1,8 @@
 //! Rosters and plans are written back to the same bytes.
 
+mod common;
+
+use common::{damage, NUMBERS};
 use reference::plan;
 use reference::random::{self, Random, Shape};
 use reference::refusal::Refusal;
@@ -49,29 +52,15 @@ fn plans_are_written_back() {
     }
 }
 
-/// Drops the last byte, adds one, swaps two neighbours or changes one.
-fn damage(random: &mut Random, file: &mut Vec<u8>) {
-    let at = random.below(file.len());
-    let byte = random.within(&(0..=9));
-    let limit = random.within(&(31..=34));
-    match random.below(8) {
-        0 => file.truncate(file.len() - 1),
-        1 => file.push(byte),
-        2..=4 if at > 0 => file.swap(at - 1, at),
-        5 => file[at] = limit,
-        _ => file[at] = byte,
-    }
-}
-
 /// Reads damaged files; those accepted must be written back. Returns how often
 /// each number was met, with acceptance at 0.
 fn damaged(
     seed: u64,
     file: impl Fn(&mut Random, &Roster) -> Vec<u8>,
     rewritten: impl Fn(&Roster, &[u8]) -> Result<Vec<u8>, Refusal>,
-) -> [usize; 19] {
+) -> [usize; NUMBERS] {
     let mut random = Random::new(seed);
-    let mut seen = [0; 19];
+    let mut seen = [0; NUMBERS];
     for _ in 0..100_000 {
         let roster = random::roster(&mut random, &shapes()[0]);
         let mut file = file(&mut random, &roster);

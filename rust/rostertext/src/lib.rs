@@ -13,6 +13,10 @@
 //! brackets. The lines
 //! of each side are numbered from 1 in order; the two sides may be mixed. A
 //! quota that is not written is 1. What follows a `#` is a comment.
+//!
+//! Files from the seasons before the shifts are turned by `seasons`, a command of
+//! the crate `planner`: it makes the proved calls for that, and this crate is to
+//! be had without the proved library.
 
 mod line;
 mod problem;

@@ -89,6 +89,8 @@ pub trait Calls: Sized {
     fn load_plan(self, file: &[u8]) -> (Self, Result<(), u8>);
     fn write_roster(self, out: &mut [u8]) -> (Self, Result<usize, u8>);
     fn write_plan(self, out: &mut [u8]) -> (Self, Result<usize, u8>);
+    fn plan_to_new(self, file: &[u8], out: &mut [u8]) -> (Self, Result<usize, u8>);
+    fn plan_to_old(self, file: &[u8], out: &mut [u8]) -> (Self, Result<usize, u8>);
     fn find(self, lent: Lent) -> (Self, Result<Found, u8>);
     fn join(self, quota: u8, list: &[u8], lent: Lent) -> (Self, Result<Found, u8>);
     fn leave(self, number: u8, lent: Lent) -> (Self, Result<Found, u8>);
@@ -121,6 +123,16 @@ impl Calls for Desk {
 
     fn write_plan(self, out: &mut [u8]) -> (Desk, Result<usize, u8>) {
         let answer = self.0.write_plan(out).map_err(number);
+        (self, answer)
+    }
+
+    fn plan_to_new(self, file: &[u8], out: &mut [u8]) -> (Desk, Result<usize, u8>) {
+        let answer = self.0.plan_to_new(file, out).map_err(number);
+        (self, answer)
+    }
+
+    fn plan_to_old(self, file: &[u8], out: &mut [u8]) -> (Desk, Result<usize, u8>) {
+        let answer = self.0.plan_to_old(file, out).map_err(number);
         (self, answer)
     }
 

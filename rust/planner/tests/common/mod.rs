@@ -9,14 +9,15 @@ use std::sync::Once;
 
 use planner::{Desk, Refusal};
 use reference::desk::Desk as Held;
+use reference::layout::Layout;
 use reference::limits::{ENTRY_FIELD, MAX_SHIFT, PAIR_FIELD};
 use reference::plan;
-use reference::random::{Random, Shape};
-use reference::roster;
+use reference::random::{self, Random, Shape};
+use reference::roster::{self, Roster};
 
 /// How many numbers an answer can be counted under: 0 for accepted, and every
 /// refusal's.
-pub const NUMBERS: usize = 19;
+pub const NUMBERS: usize = 20;
 
 /// The repository's folder.
 pub fn root() -> PathBuf {
@@ -182,4 +183,30 @@ pub fn shape(random: &mut Random) -> Shape {
         ties: 50,
         opposed: 20,
     }
+}
+
+fn any_layout(random: &mut Random) -> Layout {
+    [Layout::Old, Layout::New][random.below(2)]
+}
+
+/// A roster's file of an old season or a new one, damaged now and then. Where it
+/// has several shifts the old file has lost them, which damages it too.
+pub fn season_roster(random: &mut Random) -> Vec<u8> {
+    let shape = shape(random);
+    let roster = random::roster(random, &shape);
+    let mut file = roster::write_by(any_layout(random), &roster);
+    for _ in 0..random.below(3) {
+        damage(random, &mut file);
+    }
+    file
+}
+
+/// A plan's file of an old season or a new one, damaged now and then.
+pub fn season_plan(random: &mut Random, roster: &Roster) -> Vec<u8> {
+    let plan = random::plan(random, roster, 80);
+    let mut file = plan::write_by(any_layout(random), roster, &plan);
+    for _ in 0..random.below(3) {
+        damage(random, &mut file);
+    }
+    file
 }

@@ -8,6 +8,7 @@ use crate::common::{damage, junk, NUMBERS};
 use crate::found::{check_rival, same_found};
 use crate::lent::{Buffers, SIZES};
 use reference::desk::{Desk as Held, Judged};
+use reference::layout::Layout;
 use reference::limits::{MAX_PLAN_BYTES, MAX_ROSTER_BYTES};
 use reference::plan;
 use reference::random::{self, Random, Shape};
@@ -15,7 +16,7 @@ use reference::refusal::Refusal;
 use reference::roster;
 
 /// The calls, as rows of the tally.
-const CALLS: [&str; 10] = [
+const CALLS: [&str; 12] = [
     "load roster",
     "load plan",
     "write roster",
@@ -26,6 +27,8 @@ const CALLS: [&str; 10] = [
     "blocking",
     "join",
     "leave",
+    "plan to new",
+    "plan to old",
 ];
 
 /// How often each call answered and was refused by each number, 0 for none.
@@ -44,12 +47,30 @@ impl Tally {
     fn count(&mut self, call: usize, number: u8) {
         self.0[call][usize::from(number)] += 1;
     }
+
+    /// Whether the two sides wrote the same, each to its own buffer; counts it.
+    fn written(
+        &mut self,
+        call: usize,
+        (answer, own): (Result<usize, u8>, Vec<u8>),
+        (expected, other): (Result<usize, Refusal>, Vec<u8>),
+    ) {
+        self.refusals(call, &answer, &expected);
+        assert_eq!(
+            (answer.ok(), own),
+            (expected.ok(), other),
+            "{}",
+            CALLS[call]
+        );
+    }
 }
 
 /// What a sequence draws its files from.
 struct Pool {
     rosters: Vec<Vec<u8>>,
     plans: Vec<Vec<u8>>,
+    /// The plans as old files, each pair without its shift.
+    old_plans: Vec<Vec<u8>>,
 }
 
 impl Pool {
@@ -59,6 +80,7 @@ impl Pool {
         let mut pool = Pool {
             rosters: Vec::new(),
             plans: Vec::new(),
+            old_plans: Vec::new(),
         };
         for _ in 0..2 {
             let shifts = random.within(&(1..=3));
@@ -78,15 +100,19 @@ impl Pool {
             for percent in [60, 90, 100] {
                 let plan = random::plan(random, &roster, percent);
                 pool.plans.push(plan::write(&roster, &plan));
+                pool.old_plans
+                    .push(plan::write_by(Layout::Old, &roster, &plan));
             }
             pool.rosters.push(roster::write(&roster));
         }
         let mut damaged = pool.rosters[0].clone();
         damage(random, &mut damaged);
         pool.rosters.push(damaged);
-        let mut damaged = pool.plans[random.below(6)].clone();
-        damage(random, &mut damaged);
-        pool.plans.push(damaged);
+        for plans in [&mut pool.plans, &mut pool.old_plans] {
+            let mut damaged = plans[random.below(6)].clone();
+            damage(random, &mut damaged);
+            plans.push(damaged);
+        }
         pool
     }
 
@@ -96,6 +122,10 @@ impl Pool {
 
     fn plan(&self, random: &mut Random) -> &[u8] {
         &self.plans[random.below(self.plans.len())]
+    }
+
+    fn old_plan(&self, random: &mut Random) -> &[u8] {
+        &self.old_plans[random.below(self.old_plans.len())]
     }
 }
 
@@ -134,8 +164,7 @@ impl<D: Calls> Desks<D> {
         let [mut own, mut other] = [before.to_vec(), before.to_vec()];
         let (ours, answer) = self.ours.write_roster(&mut own);
         let (theirs, expected) = self.theirs.write_roster(&mut other);
-        tally.refusals(2, &answer, &expected);
-        assert_eq!((answer.ok(), own), (expected.ok(), other));
+        tally.written(2, (answer, own), (expected, other));
         Desks { ours, theirs }
     }
 
@@ -143,8 +172,23 @@ impl<D: Calls> Desks<D> {
         let [mut own, mut other] = [before.to_vec(), before.to_vec()];
         let (ours, answer) = self.ours.write_plan(&mut own);
         let (theirs, expected) = self.theirs.write_plan(&mut other);
-        tally.refusals(3, &answer, &expected);
-        assert_eq!((answer.ok(), own), (expected.ok(), other));
+        tally.written(3, (answer, own), (expected, other));
+        Desks { ours, theirs }
+    }
+
+    fn plan_to_new(self, tally: &mut Tally, file: &[u8], before: &[u8]) -> Desks<D> {
+        let [mut own, mut other] = [before.to_vec(), before.to_vec()];
+        let (ours, answer) = self.ours.plan_to_new(file, &mut own);
+        let (theirs, expected) = self.theirs.plan_to_new(file, &mut other);
+        tally.written(10, (answer, own), (expected, other));
+        Desks { ours, theirs }
+    }
+
+    fn plan_to_old(self, tally: &mut Tally, file: &[u8], before: &[u8]) -> Desks<D> {
+        let [mut own, mut other] = [before.to_vec(), before.to_vec()];
+        let (ours, answer) = self.ours.plan_to_old(file, &mut own);
+        let (theirs, expected) = self.theirs.plan_to_old(file, &mut other);
+        tally.written(11, (answer, own), (expected, other));
         Desks { ours, theirs }
     }
 
@@ -221,7 +265,7 @@ impl<D: Calls> Desks<D> {
 
     /// A random call.
     fn call(self, random: &mut Random, tally: &mut Tally, pool: &Pool) -> Desks<D> {
-        match random.below(16) {
+        match random.below(20) {
             0 | 1 => self.load_roster(tally, pool.roster(random)),
             2..=4 => self.load_plan(tally, pool.plan(random)),
             5 => {
@@ -239,6 +283,14 @@ impl<D: Calls> Desks<D> {
             }
             9 | 10 => self.compare(tally, pool.plan(random), pool.plan(random)),
             11 => self.blocking(tally),
+            12 | 13 => {
+                let size = size(random, MAX_PLAN_BYTES);
+                self.plan_to_new(tally, pool.old_plan(random), &junk(random, size))
+            }
+            14 | 15 => {
+                let size = size(random, MAX_PLAN_BYTES);
+                self.plan_to_old(tally, pool.plan(random), &junk(random, size))
+            }
             _ => {
                 let change = Change::random(random, &self.theirs);
                 self.change(tally, &change, &buffers(random))
@@ -283,6 +335,7 @@ pub fn run<D: Calls>(mut open: impl FnMut() -> D, seed: u64, sequences: usize, l
         println!("{call}: answered and refused {counts:?}");
     }
     let plan_refusals = [0, 1, 2, 9, 10, 11, 12, 13];
+    let turned = [&plan_refusals[..], &[15]].concat();
     let expected: [&[usize]; CALLS.len()] = [
         &[0, 1, 2, 3, 4, 5, 6, 7, 8, 9, 18],
         &plan_refusals,
@@ -294,6 +347,8 @@ pub fn run<D: Calls>(mut open: impl FnMut() -> D, seed: u64, sequences: usize, l
         &[0, 13, 14],
         &[0, 1, 2, 3, 4, 5, 9, 13, 15, 17, 18],
         &[0, 13, 15, 16],
+        &turned,
+        &[&turned[..], &[19]].concat(),
     ];
     for (call, numbers) in expected.iter().enumerate() {
         for &number in *numbers {

@@ -10,6 +10,7 @@ pub mod finder;
 pub mod plan;
 pub mod reduction;
 pub mod roster;
+pub mod seasons;
 pub mod verdict;
 pub mod vote;
 mod walk;

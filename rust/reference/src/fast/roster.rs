@@ -2,7 +2,7 @@
 //! other side's nodes in each shift.
 
 use crate::limits::{
-    ENTRY_FIELD, MAX_ENTRIES, MAX_LIST, MAX_NODES, MAX_QUOTA, MAX_QUOTA_SUM, MAX_SHIFT,
+    MAX_ENTRIES, MAX_LIST, MAX_NODES, MAX_QUOTA, MAX_QUOTA_SUM, MAX_SHIFT, OLD_SHIFT,
 };
 
 /// The shifts of a day, and all entries that a list can have.
@@ -96,12 +96,13 @@ struct Sections {
     by_stand: Lists,
 }
 
-fn sections(file: &[u8]) -> Result<Sections, u8> {
+/// The sections of a new file, or of an old one, which has no shifts.
+fn sections<const SHIFTED: bool>(file: &[u8]) -> Result<Sections, u8> {
     let mut cursor = Cursor { file, at: 0 };
     let (surveyors, quota_s) = quotas(&mut cursor)?;
     let (stands, quota_t) = quotas(&mut cursor)?;
-    let by_surveyor = lists(&mut cursor, surveyors, stands, false)?;
-    let by_stand = lists(&mut cursor, stands, surveyors, true)?;
+    let by_surveyor = lists::<SHIFTED>(&mut cursor, surveyors, stands, false)?;
+    let by_stand = lists::<SHIFTED>(&mut cursor, stands, surveyors, true)?;
     if cursor.at < file.len() {
         return Err(9);
     }
@@ -120,12 +121,25 @@ fn sections(file: &[u8]) -> Result<Sections, u8> {
 
 /// The refusal of a file, 0 if it is accepted: the checks alone.
 pub fn check(file: &[u8]) -> u8 {
-    sections(file).err().unwrap_or(0)
+    sections::<true>(file).err().unwrap_or(0)
+}
+
+/// The refusal of an old file, 0 if it is accepted.
+pub fn check_old(file: &[u8]) -> u8 {
+    sections::<false>(file).err().unwrap_or(0)
+}
+
+/// Whether a new file has only the shift of old ones, or its refusal.
+pub fn only_old_shift(file: &[u8]) -> Result<bool, u8> {
+    let old = (0..MAX_NODES).map(|node| 1 << slot(node, usize::from(OLD_SHIFT) - 1));
+    let old: Slots = old.sum();
+    let lists = sections::<true>(file)?.by_surveyor.listed;
+    Ok(lists.iter().all(|listed| listed & !old == 0))
 }
 
 /// Reads a roster, or gives the number of its refusal.
 pub fn read(file: &[u8]) -> Result<Instance, u8> {
-    let sections = sections(file)?;
+    let sections = sections::<true>(file)?;
     let mut instance = Instance {
         pairs: 0,
         surveyors: sections.surveyors,
@@ -162,7 +176,12 @@ fn quotas(cursor: &mut Cursor) -> Result<(usize, [u8; MAX_NODES]), u8> {
     Ok((count, quotas))
 }
 
-fn lists(cursor: &mut Cursor, nodes: usize, others: usize, ties: bool) -> Result<Lists, u8> {
+fn lists<const SHIFTED: bool>(
+    cursor: &mut Cursor,
+    nodes: usize,
+    others: usize,
+    ties: bool,
+) -> Result<Lists, u8> {
     let stated = cursor.wide()?;
     if stated > MAX_ENTRIES {
         return Err(2);
@@ -176,11 +195,11 @@ fn lists(cursor: &mut Cursor, nodes: usize, others: usize, ties: bool) -> Result
     for node in 0..nodes {
         let strict = usize::from(cursor.byte()?);
         let tied = if ties { usize::from(cursor.byte()?) } else { 0 };
-        if strict + tied > MAX_LIST {
+        if strict + tied > if SHIFTED { MAX_LIST } else { others } {
             return Err(2);
         }
         total += strict + tied;
-        list(cursor, &mut lists, node, others, strict, tied)?;
+        list::<SHIFTED>(cursor, &mut lists, node, others, strict, tied)?;
     }
     if total == stated {
         Ok(lists)
@@ -189,7 +208,7 @@ fn lists(cursor: &mut Cursor, nodes: usize, others: usize, ties: bool) -> Result
     }
 }
 
-fn list(
+fn list<const SHIFTED: bool>(
     cursor: &mut Cursor,
     lists: &mut Lists,
     node: usize,
@@ -201,7 +220,11 @@ fn list(
     // what the next tied slot must reach
     let mut least = 0;
     for place in 0..strict + tied {
-        let [number, shift]: [u8; ENTRY_FIELD] = cursor.two()?;
+        let [number, shift] = if SHIFTED {
+            cursor.two()?
+        } else {
+            [cursor.byte()?, OLD_SHIFT]
+        };
         if number == 0 || usize::from(number) > others {
             return Err(4);
         }

@@ -6,12 +6,17 @@
 
 use reference::desk::Desk;
 use reference::plan::Plan;
+use reference::random::Random;
 use reference::roster::{read, Entry, Pair, Roster};
 
 /// Bytes of a file, and pairs (surveyor, stand, shift) of a plan, in tables of
 /// cases.
 pub type Bytes = &'static [u8];
 pub type Pairs = &'static [(u8, u8, u8)];
+
+/// How many numbers an answer can be counted under: 0 for accepted, and every
+/// refusal's.
+pub const NUMBERS: usize = 20;
 
 /// P1: no surveyors, no stands.
 pub const P1: Bytes = &[0, 0, 0, 0, 0, 0];
@@ -115,4 +120,18 @@ pub fn desk_with_plan(roster: &[u8], plan: &[u8]) -> Desk {
     let (desk, answer) = desk(roster).load_plan(plan);
     answer.expect("accepted");
     desk
+}
+
+/// Drops the last byte, adds one, swaps two neighbours or changes one.
+pub fn damage(random: &mut Random, file: &mut Vec<u8>) {
+    let at = random.below(file.len());
+    let byte = random.within(&(0..=9));
+    let limit = random.within(&(31..=34));
+    match random.below(8) {
+        0 => file.truncate(file.len() - 1),
+        1 => file.push(byte),
+        2..=4 if at > 0 => file.swap(at - 1, at),
+        5 => file[at] = limit,
+        _ => file[at] = byte,
+    }
 }

@@ -11,6 +11,7 @@ mod files;
 mod finder;
 mod lent;
 mod longest;
+mod seasons;
 mod stack;
 mod verdict;
 mod votes;
@@ -44,6 +45,8 @@ fn report(what: &str, ours: f64, theirs: f64) {
 
 fn main() {
     files::run();
+    println!();
+    seasons::run();
     println!();
     votes::run();
     println!();
