@@ -27,10 +27,10 @@ struct crew_outcome {
     size_t length;
 };
 
-/* a refusal, 0 for none; the winner, 0 neither, 1 first, 2 second, 3 both: a plan beats the other if the other's vote against it is below zero;
-   both votes, first against second and second against first; and the winner's pair bytes: the file, 1 first, 2 second, where they begin in it
-   and how many they are. On a refusal the votes are 0; with both, with neither and on a refusal the part is the empty one at the first file's
-   start */
+/* a refusal, 0 for none; the winner, 0 neither, 1 first, 2 second, 3 both; both votes, first against second and second against first; and the
+   winner's pair bytes: the file, 1 first, 2 second, where they begin in it and how many they are. A plan wins when the other's vote against it is
+   below zero, so both may, and neither does exactly if both votes are zero. For both, for neither and on a refusal the part is the empty one at
+   the first file's start; on a refusal winner and votes are 0 */
 struct crew_compared {
     uint8_t refusal;
     uint8_t winner;

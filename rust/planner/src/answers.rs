@@ -13,15 +13,18 @@ pub enum Verdict {
     Beaten(i16),
 }
 
-/// The plan whose vote against the other is above zero.
+/// Which of two plans beats the other: a plan does when the other's vote against
+/// it is below zero, so that each may beat the other.
 #[derive(Clone, Copy, Debug, PartialEq, Eq)]
 pub enum Winner {
     First,
     Second,
+    Both,
+    /// Exactly if both votes are zero.
     Neither,
 }
 
-/// Both votes, first against second and second against first, and the winner.
+/// Both votes, first against second and second against first, and who wins.
 #[derive(Clone, Copy, Debug, PartialEq, Eq)]
 pub struct Votes {
     pub first: i16,
@@ -29,8 +32,8 @@ pub struct Votes {
     pub winner: Winner,
 }
 
-/// The votes or a refusal, and in both cases a part of one of the two files:
-/// the winner's pair bytes, or the empty part at the first file's start.
+/// The votes or a refusal, and in both cases a part of one of the two files: the
+/// pair bytes of the only winner, or the empty part at the first file's start.
 #[derive(Clone, Copy, Debug, PartialEq, Eq)]
 pub struct Comparison<'a> {
     pub outcome: Result<Votes, Refusal>,
@@ -77,6 +80,7 @@ pub(crate) fn comparison<'a>(
             winner: match compared.winner {
                 1 => Winner::First,
                 2 => Winner::Second,
+                3 => Winner::Both,
                 _ => Winner::Neither,
             },
         }),

@@ -8,11 +8,12 @@ mod common;
 mod found;
 mod lent;
 
+use calls::winner;
 use change::Change;
 use common::{check_written, damage, held_by, junk, number, season_plan, shape, Met};
 use found::check_rival;
 use lent::{Buffers, SIZES};
-use planner::{Desk, Verdict, Winner};
+use planner::{Desk, Verdict};
 use reference::desk::Desk as Held;
 use reference::plan::{self, Plan};
 use reference::random::{self, Random};
@@ -185,8 +186,7 @@ fn compare_two(random: &mut Random, desk: &Desk, held: &Held) -> u8 {
             let ours = answer.outcome.expect("both accepted");
             assert_eq!(ours.first, votes.first_against_second);
             assert_eq!(ours.second, votes.second_against_first);
-            assert_eq!(ours.winner == Winner::First, ours.first > 0);
-            assert_eq!(ours.winner == Winner::Second, ours.second > 0);
+            assert_eq!(winner(ours.winner), votes.winner());
         }
         Err(refusal) => assert_eq!(number(&answer.outcome), refusal.number()),
     }

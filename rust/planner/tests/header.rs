@@ -19,7 +19,7 @@ use std::rc::Rc;
 use calls::{Calls, Compared};
 use common::{damage, junk, length, root, season_roster, shape, Met};
 use lent::{record_bytes, record_of, RECORD_BYTES};
-use reference::compare::{File, Part};
+use reference::compare::{File, Part, Winner};
 use reference::desk::{Found, Judged, Lent, NoneKind};
 use reference::limits::MAX_ROSTER_BYTES;
 use reference::random::{self, Random};
@@ -254,17 +254,22 @@ impl Calls for Desk {
             pipe.send(b"c", &[first, second]);
             pipe.numbers()
         };
-        let expected = match (one > 0, other > 0) {
-            (true, _) => 1,
-            (_, true) => 2,
-            _ => 0,
+        let winner = match winner {
+            0 => Winner::Neither,
+            1 => Winner::First,
+            2 => Winner::Second,
+            3 => Winner::Both,
+            _ => panic!("winner {winner}"),
         };
-        assert_eq!(winner, expected);
         let part = Part {
             file: if file == 2 { File::Second } else { File::First },
             range: from as usize..(from + length) as usize,
         };
-        let votes = refusal(number).map(|()| (one as i16, other as i16));
+        let votes = (one as i16, other as i16, winner);
+        if number != 0 {
+            assert_eq!(votes, (0, 0, Winner::Neither));
+        }
+        let votes = refusal(number).map(|()| votes);
         (self, (votes, part))
     }
 

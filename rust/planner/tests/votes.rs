@@ -1,10 +1,11 @@
 //! The proved comparison and blocking pair against the reference: votes of
 //! every two ranks, node votes of every small shape, random plan pairs on
-//! rosters up to the limits, the winner's part, and the order of refusals.
+//! rosters up to the limits, who wins and the winner's part, and the order of
+//! refusals.
 
 mod common;
 
-use common::{desk_with, desk_with_plan, same_refusal};
+use common::{desk_with, desk_with_plan, same_refusal, BEAT_EACH_OTHER, P7_TWICE};
 use planner::{Desk, Votes, Winner};
 use reference::blocking::{blocking_pairs, first_blocking_pair};
 use reference::compare::{self, File};
@@ -26,17 +27,39 @@ fn votes(desk: &Desk, first: &[u8], second: &[u8]) -> Votes {
     votes
 }
 
-/// The winner is the plan whose vote is above zero, and the part is its pair
-/// bytes in its own file; without one, nothing at the first file's start.
+/// A plan wins if the other's vote against it is below zero, and the part is the
+/// only winner's pair bytes in its own file; where both win, or neither, nothing
+/// at the first file's start.
 fn check_winner(votes: Votes, part: &[u8], first: &[u8], second: &[u8]) {
-    let (winner, bytes) = match (votes.first > 0, votes.second > 0) {
+    let (winner, bytes) = match (votes.second < 0, votes.first < 0) {
         (true, false) => (Winner::First, &first[1..]),
         (false, true) => (Winner::Second, &second[1..]),
+        (true, true) => (Winner::Both, &first[..0]),
         (false, false) => (Winner::Neither, &first[..0]),
-        (true, true) => panic!("both plans win"),
     };
     assert_eq!(votes.winner, winner);
     assert_eq!((part.as_ptr(), part.len()), (bytes.as_ptr(), bytes.len()));
+}
+
+/// How often each answer came: first, second, both, neither; and how often the
+/// winner is not the plan whose own vote is above zero, as it was before W-206.
+#[derive(Debug, Default)]
+struct Winners {
+    met: [usize; 4],
+    changed: usize,
+}
+
+impl Winners {
+    fn count(&mut self, votes: Votes) {
+        let (winner, above) = match votes.winner {
+            Winner::First => (0, votes.first > 0),
+            Winner::Second => (1, votes.second > 0),
+            Winner::Both => (2, false),
+            Winner::Neither => (3, true),
+        };
+        self.met[winner] += 1;
+        self.changed += usize::from(!above);
+    }
 }
 
 /// The entry at a place of the one stand's list, from 1 on. With several shifts
@@ -260,6 +283,7 @@ fn some_plan(random: &mut Random, roster: &Roster) -> Vec<u8> {
 fn compare_random_plans(seed: u64, nodes: &[u8], plans: usize, pairs: usize) {
     let mut random = Random::new(seed);
     let (mut done, mut less, mut largest) = (0, 0, 0);
+    let mut winners = Winners::default();
     while done < pairs {
         let shape = shape(&mut random, nodes);
         let roster = random::roster(&mut random, &shape);
@@ -284,14 +308,17 @@ fn compare_random_plans(seed: u64, nodes: &[u8], plans: usize, pairs: usize) {
                 );
                 assert!(votes.first + votes.second <= 0);
                 less += usize::from(votes.first + votes.second < 0);
+                winners.count(votes);
                 largest = largest.max(files[first].len());
                 done += 1;
             }
         }
     }
-    println!("{done} plan pairs; both votes added to less than zero {less} times; largest plan file {largest} bytes");
+    println!("{done} plan pairs; both votes added to less than zero {less} times; largest plan file {largest} bytes; {winners:?}");
     assert!(less > done / 20, "{less}");
     assert!(largest > 60, "{largest}");
+    assert!(winners.met.iter().all(|&times| times > 500), "{winners:?}");
+    assert!(winners.changed > winners.met[2], "{winners:?}");
 }
 
 #[test]
@@ -313,6 +340,7 @@ fn random_plan_pairs_up_to_the_limits() {
 fn all_plans_of_small_rosters() {
     let mut random = Random::new(64);
     let mut pairs = 0;
+    let mut winners = Winners::default();
     for _ in 0..3_000 {
         let shifts = random.within(&(1..=MAX_SHIFT));
         let shape = Shape {
@@ -332,13 +360,40 @@ fn all_plans_of_small_rosters() {
         for mine in &plans {
             for theirs in &plans {
                 let [a, b] = [mine, theirs].map(|plan| plan::write(&roster, plan));
-                assert_eq!(votes(&desk, &a, &b).first, plan_vote(&roster, mine, theirs));
+                let votes = votes(&desk, &a, &b);
+                assert_eq!(votes.first, plan_vote(&roster, mine, theirs));
+                assert_eq!(votes.second, plan_vote(&roster, theirs, mine));
+                assert!(mine != theirs || votes.winner == Winner::Neither);
+                winners.count(votes);
                 pairs += 1;
             }
         }
     }
-    println!("{pairs} plan pairs against all pairings");
+    println!("{pairs} plan pairs against all pairings; {winners:?}");
     assert!(pairs > 40_000);
+    assert!(winners.met.iter().all(|&times| times > 10), "{winners:?}");
+}
+
+#[test]
+fn all_four_answers() {
+    // a plan that votes 0 at its stand is beaten by nobody there, but beats
+    let better: &[u8] = &[2, 1, 1, 1, 3, 1, 1];
+    let worse: &[u8] = &[2, 2, 1, 1, 4, 1, 1];
+    let [here, there] = BEAT_EACH_OTHER;
+    let cases = [
+        (better, worse, [0, -2], Winner::First),
+        (worse, better, [-2, 0], Winner::Second),
+        (here, there, [-2, -2], Winner::Both),
+        (there, here, [-2, -2], Winner::Both),
+        (here, here, [0, 0], Winner::Neither),
+    ];
+    let desk = desk_with(P7_TWICE).expect("accepted");
+    for (first, second, expected, winner) in cases {
+        // the part is looked at there
+        let votes = votes(&desk, first, second);
+        assert_eq!([votes.first, votes.second], expected);
+        assert_eq!(votes.winner, winner);
+    }
 }
 
 /// One damage: a byte changed, dropped or added, or the file cut.

@@ -48,6 +48,30 @@ pub struct Votes {
     pub second_against_first: i16,
 }
 
+/// Which of two plans beats the other.
+#[derive(Clone, Copy, Debug, PartialEq, Eq)]
+pub enum Winner {
+    First,
+    Second,
+    Both,
+    Neither,
+}
+
+impl Votes {
+    /// A plan beats another when the other's vote against it is below zero, so
+    /// that each may beat the other.
+    pub fn winner(self) -> Winner {
+        let first_beats = self.second_against_first < 0;
+        let second_beats = self.first_against_second < 0;
+        match (first_beats, second_beats) {
+            (true, false) => Winner::First,
+            (false, true) => Winner::Second,
+            (true, true) => Winner::Both,
+            (false, false) => Winner::Neither,
+        }
+    }
+}
+
 /// The votes or the refusal, and in both cases a part.
 #[derive(Clone, Debug, PartialEq, Eq)]
 pub struct Comparison {
@@ -55,14 +79,13 @@ pub struct Comparison {
     pub part: Part,
 }
 
-/// Compares two plan files. The winner is the plan whose vote against the
-/// other is above zero; without one the part is empty.
+/// Compares two plan files. Where both plans win, or neither, the part is empty.
 pub fn compare(roster: &Roster, first: &[u8], second: &[u8]) -> Comparison {
     let outcome = votes(roster, first, second);
-    let part = match outcome {
-        Ok(votes) if votes.first_against_second > 0 => Part::pairs(File::First, first),
-        Ok(votes) if votes.second_against_first > 0 => Part::pairs(File::Second, second),
-        _ => Part::empty(),
+    let part = match outcome.map(Votes::winner) {
+        Ok(Winner::First) => Part::pairs(File::First, first),
+        Ok(Winner::Second) => Part::pairs(File::Second, second),
+        Ok(Winner::Both | Winner::Neither) | Err(_) => Part::empty(),
     };
     Comparison { outcome, part }
 }

@@ -2,9 +2,11 @@
 
 mod common;
 
-use common::{plan, roster, Bytes, Pairs, P2, P3, P4, P7, SHIFTS, SHIFTS_AGREED, SHIFTS_CROSSED};
+use common::{
+    plan, roster, Bytes, Pairs, P2, P3, P4, P7, P7_TWICE, SHIFTS, SHIFTS_AGREED, SHIFTS_CROSSED,
+};
 use reference::blocking::{blocking_pairs, first_blocking_pair};
-use reference::compare::{compare, Comparison, File, Part, Votes};
+use reference::compare::{compare, Comparison, File, Part, Votes, Winner};
 use reference::program;
 use reference::refusal::Refusal;
 
@@ -12,25 +14,40 @@ fn part(file: File, range: std::ops::Range<usize>) -> Part {
     Part { file, range }
 }
 
-/// A roster, the first and the second file, both votes, and the part.
-type Compared = (Bytes, Bytes, Bytes, [i16; 2], Part);
+/// A roster, the first and the second file, both votes, who wins and the part.
+type Compared = (Bytes, Bytes, Bytes, [i16; 2], Winner, Part);
 
-fn votes([first_against_second, second_against_first]: [i16; 2]) -> Result<Votes, Refusal> {
-    Ok(Votes {
+fn votes([first_against_second, second_against_first]: [i16; 2]) -> Votes {
+    Votes {
         first_against_second,
         second_against_first,
-    })
+    }
+}
+
+/// Holds comparisons against the stated answers.
+fn check_compared<const N: usize>(cases: [Compared; N]) {
+    for (file, first, second, both, winner, part) in cases {
+        let votes = votes(both);
+        let comparison = compare(&roster(file), first, second);
+        let outcome = Ok(votes);
+        assert_eq!(
+            comparison,
+            Comparison { outcome, part },
+            "{first:?} {second:?}"
+        );
+        assert_eq!(votes.winner(), winner, "{first:?} {second:?}");
+    }
 }
 
 #[test]
 fn the_winner_is_a_part_of_its_own_file() {
-    let none = || part(File::First, 0..0);
-    let cases: [Compared; 6] = [
+    check_compared([
         (
             P3,
             &[1, 1, 1, 1],
             &[1, 2, 1, 1],
             [1, -1],
+            Winner::First,
             part(File::First, 1..4),
         ),
         (
@@ -38,34 +55,83 @@ fn the_winner_is_a_part_of_its_own_file() {
             &[1, 2, 1, 1],
             &[1, 1, 1, 1],
             [-1, 1],
+            Winner::Second,
             part(File::Second, 1..4),
         ),
-        (P3, &[0], &[1, 2, 1, 1], [-2, 2], part(File::Second, 1..4)),
-        (P4, &[1, 1, 1, 1], &[1, 2, 1, 1], [0, 0], none()),
         (
-            P7,
-            &[2, 1, 1, 1, 3, 1, 1],
-            &[2, 2, 1, 1, 4, 1, 1],
-            [0, -2],
-            none(),
+            P3,
+            &[0],
+            &[1, 2, 1, 1],
+            [-2, 2],
+            Winner::Second,
+            part(File::Second, 1..4),
+        ),
+        (
+            P3,
+            &[1, 2, 1, 1],
+            &[0],
+            [2, -2],
+            Winner::First,
+            part(File::First, 1..4),
         ),
         (
             P7,
             &[2, 1, 1, 1, 2, 1, 1],
             &[1, 3, 1, 1],
             [3, -3],
+            Winner::First,
             part(File::First, 1..7),
         ),
+    ]);
+}
+
+#[test]
+fn a_plan_wins_by_the_vote_against_it() {
+    // its own vote is zero
+    let plans: [Bytes; 2] = [&[2, 1, 1, 1, 3, 1, 1], &[2, 2, 1, 1, 4, 1, 1]];
+    check_compared([
+        (
+            P7,
+            plans[0],
+            plans[1],
+            [0, -2],
+            Winner::First,
+            part(File::First, 1..7),
+        ),
+        (
+            P7,
+            plans[1],
+            plans[0],
+            [-2, 0],
+            Winner::Second,
+            part(File::Second, 1..7),
+        ),
+    ]);
+}
+
+#[test]
+fn both_and_neither_have_no_part() {
+    let none = || part(File::First, 0..0);
+    let plans: [Bytes; 2] = [
+        &[4, 1, 1, 1, 3, 1, 1, 6, 2, 1, 8, 2, 1],
+        &[4, 2, 1, 1, 4, 1, 1, 5, 2, 1, 7, 2, 1],
     ];
-    for (file, first, second, both, part) in cases {
-        let outcome = votes(both);
-        let comparison = compare(&roster(file), first, second);
-        assert_eq!(
-            comparison,
-            Comparison { outcome, part },
-            "{first:?} {second:?}"
-        );
-    }
+    let tied: Bytes = &[1, 1, 1, 1];
+    check_compared([
+        (P7_TWICE, plans[0], plans[1], [-2, -2], Winner::Both, none()),
+        (P7_TWICE, plans[1], plans[0], [-2, -2], Winner::Both, none()),
+        (P4, tied, &[1, 2, 1, 1], [0, 0], Winner::Neither, none()),
+        (P4, tied, tied, [0, 0], Winner::Neither, none()),
+        (
+            P7_TWICE,
+            plans[0],
+            plans[0],
+            [0, 0],
+            Winner::Neither,
+            none(),
+        ),
+        (P4, &[0], &[0], [0, 0], Winner::Neither, none()),
+    ]);
 }
 
 #[test]

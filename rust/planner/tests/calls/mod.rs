@@ -6,13 +6,13 @@
 #![allow(dead_code)]
 
 use planner::{Refusal, Step, Verdict};
-use reference::compare::{File, Part};
+use reference::compare::{File, Part, Winner};
 use reference::desk::{Found, Judged, Lent, NoneKind, Record};
 
 pub struct Desk(pub planner::Desk);
 
-/// Both votes, and the part that is handed back.
-pub type Compared = (Result<(i16, i16), u8>, Part);
+/// Both votes and who wins, and the part that is handed back.
+pub type Compared = (Result<(i16, i16, Winner), u8>, Part);
 
 fn number(refusal: Refusal) -> u8 {
     refusal.number
@@ -24,6 +24,16 @@ pub fn judged(verdict: Verdict) -> Judged {
         Verdict::Strong => Judged::Strong,
         Verdict::Popular(vote) => Judged::Popular(vote),
         Verdict::Beaten(vote) => Judged::Beaten(vote),
+    }
+}
+
+/// The winner as the reference tells it.
+pub fn winner(answer: planner::Winner) -> Winner {
+    match answer {
+        planner::Winner::First => Winner::First,
+        planner::Winner::Second => Winner::Second,
+        planner::Winner::Both => Winner::Both,
+        planner::Winner::Neither => Winner::Neither,
     }
 }
 
@@ -164,7 +174,9 @@ impl Calls for Desk {
 
     fn compare(self, first: &[u8], second: &[u8]) -> (Desk, Compared) {
         let answer = self.0.compare(first, second);
-        let outcome = answer.outcome.map(|votes| (votes.first, votes.second));
+        let outcome = answer
+            .outcome
+            .map(|votes| (votes.first, votes.second, winner(votes.winner)));
         let part = place(answer.part, first, second);
         (self, (outcome.map_err(number), part))
     }

@@ -19,6 +19,18 @@ use reference::roster::{self, Roster};
 /// refusal's.
 pub const NUMBERS: usize = 20;
 
+/// P7 twice side by side: two stands of quota 2 rank four surveyors each.
+pub const P7_TWICE: &[u8] = &[
+    8, 1, 1, 1, 1, 1, 1, 1, 1, 2, 2, 2, 8, 0, 1, 1, 1, 1, 1, 1, 1, 1, 1, 1, 1, 1, 1, 2, 1, 1, 2, 1,
+    1, 2, 1, 1, 2, 1, 8, 0, 4, 0, 1, 1, 2, 1, 3, 1, 4, 1, 4, 0, 5, 1, 6, 1, 7, 1, 8, 1,
+];
+
+/// Two plans of it, of which each beats the other.
+pub const BEAT_EACH_OTHER: [&[u8]; 2] = [
+    &[4, 1, 1, 1, 3, 1, 1, 6, 2, 1, 8, 2, 1],
+    &[4, 2, 1, 1, 4, 1, 1, 5, 2, 1, 7, 2, 1],
+];
+
 /// The repository's folder.
 pub fn root() -> PathBuf {
     Path::new(env!("CARGO_MANIFEST_DIR")).join("../..")

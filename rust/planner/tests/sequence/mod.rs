@@ -4,7 +4,7 @@
 
 use crate::calls::Calls;
 use crate::change::Change;
-use crate::common::{damage, junk, NUMBERS};
+use crate::common::{damage, junk, BEAT_EACH_OTHER, NUMBERS, P7_TWICE};
 use crate::found::{check_rival, same_found};
 use crate::lent::{Buffers, SIZES};
 use reference::desk::{Desk as Held, Judged};
@@ -31,9 +31,13 @@ const CALLS: [&str; 12] = [
     "plan to old",
 ];
 
-/// How often each call answered and was refused by each number, 0 for none.
+/// How often each call answered and was refused by each number, 0 for none; and
+/// how often a comparison answered first, second, both, neither.
 #[derive(Default)]
-struct Tally([[usize; NUMBERS]; CALLS.len()]);
+struct Tally {
+    calls: [[usize; NUMBERS]; CALLS.len()],
+    winners: [usize; 4],
+}
 
 impl Tally {
     /// Whether the two answers are the same refusal, or both none; counts it.
@@ -45,7 +49,7 @@ impl Tally {
     }
 
     fn count(&mut self, call: usize, number: u8) {
-        self.0[call][usize::from(number)] += 1;
+        self.calls[call][usize::from(number)] += 1;
     }
 
     /// Whether the two sides wrote the same, each to its own buffer; counts it.
@@ -75,7 +79,8 @@ struct Pool {
 
 impl Pool {
     /// Two rosters and a damaged one; plans of each, one of them damaged. Few
-    /// rosters have no room for another surveyor, or just for one.
+    /// rosters have no room for another surveyor, or just for one; some have two
+    /// plans that beat each other.
     fn new(random: &mut Random) -> Pool {
         let mut pool = Pool {
             rosters: Vec::new(),
@@ -104,6 +109,13 @@ impl Pool {
                     .push(plan::write_by(Layout::Old, &roster, &plan));
             }
             pool.rosters.push(roster::write(&roster));
+        }
+        if random.chance(10) {
+            // rare among random plans
+            pool.rosters[0] = P7_TWICE.to_vec();
+            for (place, plan) in pool.plans.iter_mut().zip(BEAT_EACH_OTHER) {
+                *place = plan.to_vec();
+            }
         }
         let mut damaged = pool.rosters[0].clone();
         damage(random, &mut damaged);
@@ -230,8 +242,11 @@ impl<D: Calls> Desks<D> {
         let (ours, (answer, part)) = self.ours.compare(first, second);
         let (theirs, expected) = self.theirs.compare(first, second);
         tally.refusals(6, &answer, &expected.outcome);
-        let votes = expected.outcome.ok();
-        let votes = votes.map(|votes| (votes.first_against_second, votes.second_against_first));
+        let votes = expected.outcome.ok().map(|votes| {
+            let (first, second) = (votes.first_against_second, votes.second_against_first);
+            tally.winners[votes.winner() as usize] += 1;
+            (first, second, votes.winner())
+        });
         assert_eq!((answer.ok(), part), (votes, expected.part));
         Desks { ours, theirs }
     }
@@ -331,9 +346,10 @@ pub fn run<D: Calls>(mut open: impl FnMut() -> D, seed: u64, sequences: usize, l
         desks = desks.write_roster(&mut tally, &full[0]);
         desks.write_plan(&mut tally, &full[1]);
     }
-    for (call, counts) in CALLS.iter().zip(&tally.0) {
+    for (call, counts) in CALLS.iter().zip(&tally.calls) {
         println!("{call}: answered and refused {counts:?}");
     }
+    println!("first, second, both, neither: {:?}", tally.winners);
     let plan_refusals = [0, 1, 2, 9, 10, 11, 12, 13];
     let turned = [&plan_refusals[..], &[15]].concat();
     let expected: [&[usize]; CALLS.len()] = [
@@ -352,7 +368,7 @@ pub fn run<D: Calls>(mut open: impl FnMut() -> D, seed: u64, sequences: usize, l
     ];
     for (call, numbers) in expected.iter().enumerate() {
         for &number in *numbers {
-            let count = tally.0[call][number];
+            let count = tally.calls[call][number];
             assert!(
                 count >= least,
                 "{}: {number} came {count} times",
@@ -360,4 +376,5 @@ pub fn run<D: Calls>(mut open: impl FnMut() -> D, seed: u64, sequences: usize, l
             );
         }
     }
+    assert!(tally.winners.iter().all(|&count| count >= least));
 }

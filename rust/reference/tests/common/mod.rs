@@ -43,6 +43,11 @@ pub const P7: Bytes = &[
     4, 1, 1, 1, 1, 1, 2, 4, 0, 1, 1, 1, 1, 1, 1, 1, 1, 1, 1, 1, 1, 4, 0, 4, 0, 1, 1, 2, 1, 3, 1, 4,
     1,
 ];
+/// P7 twice side by side: two stands of quota 2 rank four surveyors each.
+pub const P7_TWICE: Bytes = &[
+    8, 1, 1, 1, 1, 1, 1, 1, 1, 2, 2, 2, 8, 0, 1, 1, 1, 1, 1, 1, 1, 1, 1, 1, 1, 1, 1, 2, 1, 1, 2, 1,
+    1, 2, 1, 1, 2, 1, 8, 0, 4, 0, 1, 1, 2, 1, 3, 1, 4, 1, 4, 0, 5, 1, 6, 1, 7, 1, 8, 1,
+];
 /// P8: a stand of quota 3 ranks three surveyors.
 pub const P8: Bytes = &[
     3, 1, 1, 1, 1, 3, 3, 0, 1, 1, 1, 1, 1, 1, 1, 1, 1, 3, 0, 3, 0, 1, 1, 2, 1, 3, 1,
