@@ -120,7 +120,8 @@ turns shifts d f o isB {l} F z {r} {o′} X =
   where
     -- a file of which the other call writes f
     Undone : List ℕ → List ℕ → Type 0
-    Undone b w = (answered (heldOf d) (callBy (not shifts) w b) ≡ wrote (length f)) × (lentThen (heldOf d) (callBy (not shifts) w b) ≡ callBy (not shifts) w (onto f b))
+    Undone b w = (answered (heldOf d) (callBy (not shifts) w b) ≡ wrote (length f))
+        × (lentThen (heldOf d) (callBy (not shifts) w b) ≡ callBy (not shifts) w (onto f b))
 
     reply : (R : Roster) (a : readRoster (rosterBytes d) ≡ accepted R) (b : Bool) → TurnedFor b (instanceOf R) f o r o′
         → Replied d (callBy b f o) (writtenShown r) (callBy b f o′) d

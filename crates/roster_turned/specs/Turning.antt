@@ -1,7 +1,6 @@
 -- An accepted roster's file, turned: what is written is the same roster in the other layout, and whether all its shifts are 1 is told.
 use Prim.Native.Nat.{ℕ, zero, suc, _+_, _*_, _/_, _≤_}
 use native.Mathlib.Omega.{arith}
-use native.Mathlib.Nat.{add-zero}
 use mathlib.Core.Path.{_≡_, refl, sym, ap, ap₂, _∙_}
 use mathlib.Core.Bool.{Bool, true, false, not, _&&_}
 use mathlib.Core.List.{List, [], _∷_, _++_, map, append-assoc, append-nil}
@@ -17,7 +16,7 @@ use Rattle.model.specs.RosterFile.{Layout, listBytes, wideBytes, entriesBytes, 
 use Rattle.model.specs.Seasons.{isFirst, onlyFirst}
 use Rattle.theory_files.specs.Layouts.{Agrees}
 use Rattle.theory_files.specs.Rosters.{Held, read-held, read-write-by, read-fits-by, fits-parts-by, entries-size}
-use Rattle.theory_files.specs.Offsets.{part-is, rest-is, byte-is, listsStart, rankingSection, offsets, rankings-from}
+use Rattle.theory_files.specs.Offsets.{head-is, tail-is, part-is, rest-is, listsStart, rankingSection, offsets, rankings-from}
 use Rattle.roster_reading.specs.Check.{fieldsOf}
 use Rattle.roster_reading.specs.Layout.{layoutOf, agreesOf, widthOf, entriesIn}
 use Rattle.roster_turned.specs.Blocks.{Block, blockBytes, firstBlock, headsOf, countAt, partEntries, blockAt, behindBlock, blocksFrom, blocksEnd}
@@ -55,9 +54,12 @@ module _ (shifts : Bool) (f : List ℕ) where
 
   -- the count is in the length bytes
   count-is : (ties : Bool) (at : ℕ) (heads rest : List ℕ) → drop at f ≡ heads ++ rest → length heads ≡ headsOf ties → countAt ties f at ≡ countAt ties heads 0
-  count-is true at heads rest e l = ap₂ (λ x y. x + y)
-      (ap (λ k. getD f k 0) (sym (add-zero at)) ∙ byte-is f at 2 heads rest e l 0 (omega arith)) (byte-is f at 2 heads rest e l 1 (omega arith))
-  count-is false at heads rest e l = ap (λ k. getD f k 0) (sym (add-zero at)) ∙ byte-is f at 1 heads rest e l 0 (omega arith)
+  count-is true at [] rest e l = absurd (let z : ⊥ = omega arith in z)
+  count-is true at (x ∷ []) rest e l = absurd (let z : ⊥ = omega arith in z)
+  count-is true at (x ∷ y ∷ hs) rest e l =
+      ap₂ (λ a b. a + b) (head-is f at x (y ∷ hs ++ rest) e) (head-is f (at + 1) y (hs ++ rest) (tail-is f at x (y ∷ hs ++ rest) e))
+  count-is false at [] rest e l = absurd (let z : ⊥ = omega arith in z)
+  count-is false at (x ∷ hs) rest e l = head-is f at x (hs ++ rest) e
 
   module _ (ties : Bool) where
     block-is : (b : Block) → Shaped shifts ties b → (at : ℕ) (post : List ℕ) → drop at f ≡ blockBytes L b ++ post

@@ -22,8 +22,10 @@ turn-requires c κs =
     let r = c .before in
     let l = r .before .before in
     let a = l .before .before .before .args in
-    let g = arrays-are (a .desk) (l .loaded .ensures) (r .before .if1 .left) in
-    ((shownBy (l .loaded .result .g), (g .fileable, r .plan-read .ensures .answer)), long-enough (a .out .now) planSize (l .loaded .ensures) (r .before .if1 .left))
+    let g = arrays-are (a .desk) (l .loaded .ensures) (r .before .if1 .left) in (
+      (shownBy (l .loaded .result .g), (g .fileable, r .plan-read .ensures .answer)),
+      long-enough (a .out .now) planSize (l .loaded .ensures) (r .before .if1 .left),
+    )
 
 returns-2 : tie.Need-returns-2
 returns-2 c =
