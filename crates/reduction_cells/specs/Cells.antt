@@ -1,0 +1,82 @@
+-- The strict edges of a side by node and rank: one array, a cell for each node and rank, with the edge there, m if there is none.
+use Prim.Native.Nat.{ℕ, zero, suc, _+_, _*_, _-_, _≤_, _<_}
+use native.Mathlib.Omega.{arith}
+use native.Mathlib.Numerals.{add-one}
+use mathlib.Core.Path.{_≡_, refl, sym, ap, _∙_, subst}
+use mathlib.Core.Bool.{Bool, true, false, not, cond, _&&_}
+use mathlib.Core.List.{List}
+use lib.Dec.{T, eqb, ltb, leb, eqb→eq}
+use Rattle.lists.specs.Test.{and-l, and-r, bit, bit-one}
+use Rattle.lists.specs.Search.{low, low-is}
+use Rattle.model.specs.Limits.{entryLimit, nodeLimit, emptyRank}
+use Rattle.arrays.specs.ArrayInstance.{at, flag}
+use Rattle.reduction_links.specs.Firsts.{from, Firsts}
+
+-- how many cells there are
+abbrev pub cellCount : ℕ
+cellCount = 1056
+
+-- where a node's edge of a rank stands
+abbrev pub place : (end rank : List ℕ) → ℕ → ℕ
+place end rank e = at end e * emptyRank + at rank e
+
+pub record Celled (m : ℕ) (end rank : List ℕ) (tied : List Bool) (cell : List ℕ) : Type 0 where
+  pub edges : m ≤ entryLimit
+  pub firsts : Firsts m (place end rank) (λ e. not (flag tied e)) cellCount 0 cell
+
+-- the edge of rank r at v
+abbrev pub inCell : (cell : List ℕ) (v r : ℕ) → ℕ
+inCell cell v r = at cell (v * emptyRank + r)
+
+-- an edge, and in p
+abbrev pub edgeIn : (m : ℕ) (p : ℕ → Bool) → ℕ → Bool
+edgeIn m p e = ltb e m && p e
+
+-- how many of the cells of v below rank r hold an edge of p
+unfoldable pub passed : (m : ℕ) (cell : List ℕ) (p : ℕ → Bool) (v : ℕ) → ℕ → ℕ
+passed m cell p v zero = 0
+passed m cell p v (suc r) = passed m cell p v r + bit (edgeIn m p (inCell cell v r))
+
+pub passed-next : (m : ℕ) (cell : List ℕ) (p : ℕ → Bool) (v r : ℕ) → passed m cell p v (r + 1) ≡ passed m cell p v r + bit (edgeIn m p (inCell cell v r))
+unfolding passed
+passed-next m cell p v r = rw add-one
+
+pub passed-few : (m : ℕ) (cell : List ℕ) (p : ℕ → Bool) (v r : ℕ) → passed m cell p v r ≤ r
+unfolding passed
+passed-few m cell p v zero = omega arith
+passed-few m cell p v (suc r) = omega (arith, passed-few m cell p v r, bit-one (edgeIn m p (inCell cell v r)))
+
+-- the first rank that q edges of p are better than, 33 if there is none
+abbrev pub barOf : (m : ℕ) (cell : List ℕ) (p : ℕ → Bool) (v q : ℕ) → ℕ
+barOf m cell p v q = low (λ r. leb q (passed m cell p v r)) emptyRank
+
+-- the best edge of p at v, and the worst; m if there is none
+abbrev pub bestOf : (m : ℕ) (cell : List ℕ) (p : ℕ → Bool) (v : ℕ) → ℕ
+bestOf m cell p v = let r = low (λ r. edgeIn m p (inCell cell v r)) emptyRank in cond (ltb r emptyRank) (inCell cell v r) m
+
+abbrev pub worstOf : (m : ℕ) (cell : List ℕ) (p : ℕ → Bool) (v : ℕ) → ℕ
+worstOf m cell p v = let k = low (λ k. edgeIn m p (inCell cell v (32 - k))) emptyRank in cond (ltb k emptyRank) (inCell cell v (32 - k)) m
+
+pub bit-is : (b : Bool) → bit b ≡ 1 → b ≡ true
+bit-is true h = refl
+bit-is false h = absurd (omega arith)
+
+module _ (m : ℕ) (end rank : List ℕ) (tied : List Bool) (cell : List ℕ) (C : Celled m end rank tied cell) where
+  pub cell-inside : (v r : ℕ) → v < nodeLimit → r < emptyRank → inCell cell v r ≤ m
+  cell-inside v r w h = omega (
+    arith,
+    C .firsts (v * emptyRank + r) (omega arith),
+    low-is (from m (place end rank) (λ e. not (flag tied e)) 0 (v * emptyRank + r)) m .0,
+  )
+
+  -- what a cell holds stands in its place, and is strict
+  pub cell-holds : (v r : ℕ) → v < nodeLimit → r < emptyRank → inCell cell v r < m
+      → (place end rank (inCell cell v r) ≡ v * emptyRank + r) × T (not (flag tied (inCell cell v r)))
+  cell-holds v r w h l =
+      let k = v * emptyRank + r in
+      let q = C .firsts k (omega arith) in
+      let F = from m (place end rank) (λ e. not (flag tied e)) 0 k in
+      let t : T (F (inCell cell v r)) = subst (λ z. T (F z)) (sym q) (low-is F m .2 (omega arith)) in
+      let e = inCell cell v r in
+      let s = and-r (leb 0 e) (not (flag tied e) && eqb (place end rank e) k) t in
+      (eqb→eq (place end rank e) k (and-r (not (flag tied e)) (eqb (place end rank e) k) s), and-l (not (flag tied e)) (eqb (place end rank e) k) s)
