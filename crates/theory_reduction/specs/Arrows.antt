@@ -27,16 +27,16 @@ better-not K p e d n = by-test (p d) (λ t. inl (nltb→le (K .rank d) (K .rank 
 
 module _ (K : Side) (rem : ℕ → Bool) where
   -- a strict remaining edge that is better than rank r
-  abbrev Ahead : ℕ → ℕ → Bool
+  abbrev pub Ahead : ℕ → ℕ → Bool
   Ahead r d = strictLeft K rem d && ltb (K .rank d) r
 
-  ahead-is : (r d : ℕ) → T (Ahead r d) → T (rem d) × T (not (K .tie d)) × (K .rank d < r)
+  pub ahead-is : (r d : ℕ) → T (Ahead r d) → T (rem d) × T (not (K .tie d)) × (K .rank d < r)
   ahead-is r d t = (search parts, search parts, ltb→lt (K .rank d) r (search parts))
 
-  is-ahead : (r d : ℕ) → T (rem d) → T (not (K .tie d)) → K .rank d < r → T (Ahead r d)
+  pub is-ahead : (r d : ℕ) → T (rem d) → T (not (K .tie d)) → K .rank d < r → T (Ahead r d)
   is-ahead r d a b h = and-i (strictLeft K rem d) (ltb (K .rank d) r) (and-i (rem d) (not (K .tie d)) a b) (lt→ltb (K .rank d) r h)
 
-  ahead-mono : (v r s : ℕ) → r ≤ s → ahead K rem v r ≤ ahead K rem v s
+  pub ahead-mono : (v r s : ℕ) → r ≤ s → ahead K rem v r ≤ ahead K rem v s
   unfolding ahead
   ahead-mono v r s h = deg-sub K (Ahead r) (Ahead s) v (λ d l i t. given (ahead-is r d t) (λ (a, b, c). is-ahead s d a b (omega arith)))
 

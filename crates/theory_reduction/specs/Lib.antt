@@ -12,4 +12,5 @@ pub mod End
 pub mod Run
 pub mod StableStrike
 pub mod RuleNumbers
+pub mod ByNode
 pub mod FirstRule
