@@ -5,8 +5,8 @@ use native.Mathlib.Numerals.{add-one}
 use mathlib.Core.Path.{_≡_, refl, sym, ap, _∙_, subst}
 use mathlib.Core.Bool.{Bool, true, false, not, cond, _&&_}
 use mathlib.Core.List.{List}
-use lib.Dec.{T, eqb, ltb, leb, eqb→eq}
-use Rattle.lists.specs.Test.{and-l, and-r, bit, bit-one}
+use lib.Dec.{T, eqb, ltb, leb, eqb→eq, ltb→lt}
+use Rattle.lists.specs.Test.{and-l, and-r, bit, bit-one, if-ind}
 use Rattle.lists.specs.Search.{low, low-is}
 use Rattle.model.specs.Limits.{entryLimit, nodeLimit, emptyRank}
 use Rattle.arrays.specs.ArrayInstance.{at, flag}
@@ -80,3 +80,11 @@ module _ (m : ℕ) (end rank : List ℕ) (tied : List Bool) (cell : List ℕ) (C
       let e = inCell cell v r in
       let s = and-r (leb 0 e) (not (flag tied e) && eqb (place end rank e) k) t in
       (eqb→eq (place end rank e) k (and-r (not (flag tied e)) (eqb (place end rank e) k) s), and-l (not (flag tied e)) (eqb (place end rank e) k) s)
+
+  pub best-inside : (p : ℕ → Bool) (v : ℕ) → v < nodeLimit → bestOf m cell p v ≤ m
+  best-inside p v w = let r = low (λ r. edgeIn m p (inCell cell v r)) emptyRank in
+      if-ind (λ z. z ≤ m) (ltb r emptyRank) (λ t. cell-inside v r w (ltb→lt r emptyRank t)) (λ t. omega arith)
+
+  pub worst-inside : (p : ℕ → Bool) (v : ℕ) → v < nodeLimit → worstOf m cell p v ≤ m
+  worst-inside p v w = let k = low (λ k. edgeIn m p (inCell cell v (32 - k))) emptyRank in
+      if-ind (λ z. z ≤ m) (ltb k emptyRank) (λ t. cell-inside v (32 - k) w (omega arith)) (λ t. omega arith)

@@ -1,0 +1,4 @@
+pub mod Known
+pub mod Renewed
+pub mod Numbers
+pub mod NodeLaws

@@ -1,0 +1,315 @@
+// By node, the lowest edge that each rule names there, m if it names none: rules 1, 4, 5, 6 and one half of rule 2 by surveyor, rules 3, 7 and the
+// other half by stand; and which stands are loose. Each is read from the node's own edges; after a step only the nodes that saw a change are read
+// anew.
+ghost use mathlib.Core.Path.{_≡_};
+ghost use mathlib.Core.Bool.{_&&_, _||_, cond};
+ghost use Prim.Native.Nat.{_≤_, _<_};
+ghost use lib.Dec.{leb, ltb};
+ghost use Rattle.lists.specs.Search.{low};
+ghost use Rattle.model.specs.Limits.{nodeLimit, emptyRank};
+ghost use Rattle.arrays.specs.ArrayInstance.{at, flag};
+ghost use Rattle.arrays.specs.Passes.{Low};
+ghost use Rattle.reduction_links.specs.Walks.{Linked, atNode};
+ghost use Rattle.reduction_cells.specs.Cells.{Celled, barOf, bestOf, worstOf};
+ghost use Rattle.reduction_cells.specs.Painted.{differ};
+ghost use Rattle.reduction_nodes.specs.Numbers.{surveyorOf, standOf, Surveyed, Stood};
+use limits::EMPTY_RANK;
+use limits::ENTRY_LIMIT;
+use reduction_cells::CELLS;
+
+// Of one node, by rule.
+pub struct Surveyor {
+    pub rule1: u16,
+    pub rule2: u16,
+    pub rule4: u16,
+    pub rule5: u16,
+    pub rule6: u16,
+}
+
+pub struct Stand {
+    pub rule2: u16,
+    pub rule3: u16,
+    pub rule7: u16,
+    pub loose: bool,
+}
+
+// Of all nodes of a side, by rule.
+pub struct Surveyors {
+    pub rule1: [u16; 32],
+    pub rule2: [u16; 32],
+    pub rule4: [u16; 32],
+    pub rule5: [u16; 32],
+    pub rule6: [u16; 32],
+}
+
+pub struct Stands {
+    pub rule2: [u16; 32],
+    pub rule3: [u16; 32],
+    pub rule7: [u16; 32],
+    pub loose: [bool; 32],
+}
+
+// Rule 2 at one end: at least as many better arrows come in as the quota.
+pub fn second(
+    m: usize,
+    end: &[u8; ENTRY_LIMIT],
+    rank: &[u8; ENTRY_LIMIT],
+    tied: &[bool; ENTRY_LIMIT],
+    next: &[u16; ENTRY_LIMIT],
+    first: &[u16; 32],
+    cell: &[u16; CELLS],
+    v: usize,
+    rem: &[bool; ENTRY_LIMIT],
+    f: &[bool; ENTRY_LIMIT],
+    q: u16,
+) -> u16
+    requires { ⌜ (v < nodeLimit) × Linked m (now end) (now next) (now first) × Celled m (now end) (now rank) (now tied) (now cell)
+        × Low m (now rank) emptyRank ⌝ }
+    ensures { λ r. ⌜ r ≡ low (atNode (now (end .entry)) v
+        (λ d. flag (now (rem .entry)) d && leb (barOf m (now (cell .entry)) (flag (now (f .entry))) v q) (at (now (rank .entry)) d))) m ⌝ }
+{
+    let bar = reduction_cells::bar(m, end, rank, tied, cell, v, f, q);
+    if bar >= 33 {
+        return m as u16;
+    }
+    reduction_links::behind(m, end, next, first, v, rem, rank, bar) as u16
+}
+
+// Rule 3: the first arrow in, where there are no more arrows than the quota, n in all.
+pub fn third(
+    m: usize,
+    end: &[u8; ENTRY_LIMIT],
+    next: &[u16; ENTRY_LIMIT],
+    first: &[u16; 32],
+    v: usize,
+    rem: &[bool; ENTRY_LIMIT],
+    f: &[bool; ENTRY_LIMIT],
+    n: u16,
+    q: u16,
+) -> u16
+    requires { ⌜ (v < nodeLimit) × Linked m (now end) (now next) (now first) ⌝ }
+    ensures { λ r. ⌜ r ≡ cond (leb n q) (low (atNode (now (end .entry)) v (λ d. flag (now (rem .entry)) d && flag (now (f .entry)) d)) m) m ⌝ }
+{
+    if n <= q {
+        return reduction_links::both(m, end, next, first, v, rem, f) as u16;
+    }
+    m as u16
+}
+
+// Rule 4: the worst of N(s), where it is larger than the quota.
+pub fn fourth(
+    m: usize,
+    end: &[u8; ENTRY_LIMIT],
+    rank: &[u8; ENTRY_LIMIT],
+    tied: &[bool; ENTRY_LIMIT],
+    cell: &[u16; CELLS],
+    v: usize,
+    other: &[u8; ENTRY_LIMIT],
+    rem: &[bool; ENTRY_LIMIT],
+    lo: &[bool; 32],
+    f: &[bool; ENTRY_LIMIT],
+    n: u16,
+    q: u16,
+) -> u16
+    requires { ⌜ (v < nodeLimit) × Celled m (now end) (now rank) (now tied) (now cell) × Low m (now other) nodeLimit ⌝ }
+    ensures { λ r. ⌜ r ≡ cond (ltb q n) (worstOf m (now (cell .entry))
+        (λ d. flag (now (rem .entry)) d && (flag (now (lo .entry)) (at (now (other .entry)) d) || flag (now (f .entry)) d)) v) m ⌝ }
+{
+    if q < n {
+        return reduction_cells::worst(m, end, rank, tied, cell, v, other, rem, lo, f) as u16;
+    }
+    m as u16
+}
+
+// Rules 6 and 7: the best remaining strict edge, where the node has n, fewer than its quota.
+pub fn short(
+    m: usize,
+    end: &[u8; ENTRY_LIMIT],
+    rank: &[u8; ENTRY_LIMIT],
+    tied: &[bool; ENTRY_LIMIT],
+    cell: &[u16; CELLS],
+    v: usize,
+    rem: &[bool; ENTRY_LIMIT],
+    n: u16,
+    q: u16,
+) -> u16
+    requires { ⌜ (v < nodeLimit) × Celled m (now end) (now rank) (now tied) (now cell) ⌝ }
+    ensures { λ r. ⌜ r ≡ cond (ltb n q) (bestOf m (now (cell .entry)) (flag (now (rem .entry))) v) m ⌝ }
+{
+    if n < q {
+        return reduction_cells::best(m, end, rank, tied, cell, v, rem) as u16;
+    }
+    m as u16
+}
+
+pub fn surveyor_now(
+    m: usize,
+    sv: &[u8; ENTRY_LIMIT],
+    st: &[u8; ENTRY_LIMIT],
+    rank: &[u8; ENTRY_LIMIT],
+    tied: &[bool; ENTRY_LIMIT],
+    next: &[u16; ENTRY_LIMIT],
+    first: &[u16; 32],
+    cell: &[u16; CELLS],
+    rem: &[bool; ENTRY_LIMIT],
+    fs: &[bool; ENTRY_LIMIT],
+    ft: &[bool; ENTRY_LIMIT],
+    lo: &[bool; 32],
+    q: u16,
+    v: usize,
+) -> Surveyor
+    requires { ⌜ (v < nodeLimit) × Linked m (now sv) (now next) (now first) × Celled m (now sv) (now rank) (now tied) (now cell)
+        × Low m (now rank) emptyRank × Low m (now st) nodeLimit ⌝ }
+    ensures { λ r. ⌜ r ≡ surveyorOf m (now (sv .entry)) (now (st .entry)) (now (rank .entry)) (now (cell .entry)) (now (rem .entry)) (now (fs .entry))
+        (now (ft .entry)) (now (lo .entry)) q v ⌝ }
+{
+    let n = reduction_links::size(m, sv, next, first, v, st, rem, lo, ft);
+    let rule1 = reduction_links::both(m, sv, next, first, v, fs, ft) as u16;
+    let rule2 = second(m, sv, rank, tied, next, first, cell, v, rem, ft, q);
+    let rule4 = fourth(m, sv, rank, tied, cell, v, st, rem, lo, ft, n, q);
+    let rule5 = reduction_links::idle(m, sv, next, first, v, st, rem, lo, fs, ft) as u16;
+    let rule6 = short(m, sv, rank, tied, cell, v, rem, n, q);
+    Surveyor {
+        rule1: rule1,
+        rule2: rule2,
+        rule4: rule4,
+        rule5: rule5,
+        rule6: rule6,
+    }
+}
+
+pub fn stand_now(
+    m: usize,
+    st: &[u8; ENTRY_LIMIT],
+    rank: &[u8; ENTRY_LIMIT],
+    tied: &[bool; ENTRY_LIMIT],
+    next: &[u16; ENTRY_LIMIT],
+    first: &[u16; 32],
+    cell: &[u16; CELLS],
+    rem: &[bool; ENTRY_LIMIT],
+    fs: &[bool; ENTRY_LIMIT],
+    ft: &[bool; ENTRY_LIMIT],
+    q: u16,
+    v: usize,
+) -> Stand
+    requires { ⌜ (v < nodeLimit) × Linked m (now st) (now next) (now first) × Celled m (now st) (now rank) (now tied) (now cell)
+        × Low m (now rank) emptyRank ⌝ }
+    ensures { λ r. ⌜ r ≡ standOf m (now (st .entry)) (now (rank .entry)) (now (cell .entry)) (now (rem .entry)) (now (fs .entry)) (now (ft .entry)) q v ⌝ }
+{
+    let got = reduction_links::count(m, st, next, first, v, fs);
+    let sent = reduction_links::count(m, st, next, first, v, ft);
+    let rule2 = second(m, st, rank, tied, next, first, cell, v, rem, fs, q);
+    let rule3 = third(m, st, next, first, v, rem, fs, got + sent, q);
+    let rule7 = short(m, st, rank, tied, cell, v, rem, got, q);
+    Stand {
+        rule2: rule2,
+        rule3: rule3,
+        rule7: rule7,
+        loose: (sent < q) & (got == 0),
+    }
+}
+
+// The surveyors in `saw` anew.
+pub fn surveyors_renewed(
+    m: usize,
+    sv: &[u8; ENTRY_LIMIT],
+    st: &[u8; ENTRY_LIMIT],
+    rank: &[u8; ENTRY_LIMIT],
+    tied: &[bool; ENTRY_LIMIT],
+    next: &[u16; ENTRY_LIMIT],
+    first: &[u16; 32],
+    cell: &[u16; CELLS],
+    rem: &[bool; ENTRY_LIMIT],
+    fs: &[bool; ENTRY_LIMIT],
+    ft: &[bool; ENTRY_LIMIT],
+    lo: &[bool; 32],
+    q: &[u16; 32],
+    saw: &[bool; 32],
+    x: Surveyors,
+) -> Surveyors
+    requires { ⌜ Linked m (now sv) (now next) (now first) × Celled m (now sv) (now rank) (now tied) (now cell) × Low m (now rank) emptyRank
+        × Low m (now st) nodeLimit ⌝ }
+    ensures { λ r. ⌜ Surveyed (λ v. surveyorOf m (now (sv .entry)) (now (st .entry)) (now (rank .entry)) (now (cell .entry)) (now (rem .entry))
+        (now (fs .entry)) (now (ft .entry)) (now (lo .entry)) (at (now (q .entry)) v) v) (now (saw .entry)) x nodeLimit r ⌝ }
+{
+    let mut y = x;
+    let mut i: usize = 0;
+    while i < 32 {
+        let v = i;
+        i += 1;
+        if saw[v] {
+            let s = surveyor_now(
+                m,
+                sv,
+                st,
+                rank,
+                tied,
+                next,
+                first,
+                cell,
+                rem,
+                fs,
+                ft,
+                lo,
+                q[v],
+                v,
+            );
+            y.rule1[v] = s.rule1;
+            y.rule2[v] = s.rule2;
+            y.rule4[v] = s.rule4;
+            y.rule5[v] = s.rule5;
+            y.rule6[v] = s.rule6;
+        }
+    }
+    y
+}
+
+// The stands in `saw` anew.
+pub fn stands_renewed(
+    m: usize,
+    st: &[u8; ENTRY_LIMIT],
+    rank: &[u8; ENTRY_LIMIT],
+    tied: &[bool; ENTRY_LIMIT],
+    next: &[u16; ENTRY_LIMIT],
+    first: &[u16; 32],
+    cell: &[u16; CELLS],
+    rem: &[bool; ENTRY_LIMIT],
+    fs: &[bool; ENTRY_LIMIT],
+    ft: &[bool; ENTRY_LIMIT],
+    q: &[u16; 32],
+    saw: &[bool; 32],
+    x: Stands,
+) -> Stands
+    requires { ⌜ Linked m (now st) (now next) (now first) × Celled m (now st) (now rank) (now tied) (now cell) × Low m (now rank) emptyRank ⌝ }
+    ensures { λ r. ⌜ Stood (λ v. standOf m (now (st .entry)) (now (rank .entry)) (now (cell .entry)) (now (rem .entry)) (now (fs .entry)) (now (ft .entry))
+        (at (now (q .entry)) v) v) (now (saw .entry)) x nodeLimit r ⌝ }
+{
+    let mut y = x;
+    let mut i: usize = 0;
+    while i < 32 {
+        let v = i;
+        i += 1;
+        if saw[v] {
+            let s = stand_now(m, st, rank, tied, next, first, cell, rem, fs, ft, q[v], v);
+            y.rule2[v] = s.rule2;
+            y.rule3[v] = s.rule3;
+            y.rule7[v] = s.rule7;
+            y.loose[v] = s.loose;
+        }
+    }
+    y
+}
+
+// The first node at which two arrays differ, 32 if there is none.
+pub fn unlike(a: &[bool; 32], b: &[bool; 32]) -> usize
+    ensures { λ r. ⌜ r ≡ low (λ v. differ (flag (now (a .entry)) v) (flag (now (b .entry)) v)) nodeLimit ⌝ }
+{
+    let mut i: usize = 0;
+    while i < 32 {
+        if a[i] != b[i] {
+            return i;
+        }
+        i += 1;
+    }
+    i
+}
