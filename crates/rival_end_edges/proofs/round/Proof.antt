@@ -61,13 +61,16 @@ loop-holds c =
     let w = wayOf (a .m) (a .start) in
     let o = told (a .m) (c .before .offered .result) in
     let whole = roundRest (a .m) (a .sv .now) (a .st .now) (a .rs .now) (a .rt .now) (a .x) (a .y) (a .plan .now) (a .fs .now) w o 0 in
-    (F .inside, F .here, past-others (a .m) (a .st .now) 0 t (at (a .ht .now) t) (Held (a .m) (a .sv .now) (a .st .now) (a .rs .now) (a .rt .now) (a .x) (a .y) (a .plan .now) (a .fs .now) w o whole) (omega arith) F (others (a .m) (a .sv .now) (a .st .now) (a .rs .now) (a .rt .now) (a .x) (a .y) (a .plan .now) (a .fs .now) w o whole) refl)
+    (F .inside, F .here, past-others (a .m) (a .st .now) 0 t (at (a .ht .now) t)
+    (Held (a .m) (a .sv .now) (a .st .now) (a .rs .now) (a .rt .now) (a .x) (a .y) (a .plan .now) (a .fs .now) w o whole) (omega arith) F
+    (others (a .m) (a .sv .now) (a .st .now) (a .rs .now) (a .rt .now) (a .x) (a .y) (a .plan .now) (a .fs .now) w o whole) refl)
 
 cast-v : tie.Need-cast-v Inv-loop μ-loop
 cast-v c = let l = c .before .before in omega (arith, l .before .before .before .before .before .before .pre .1 (l .loop .g) (omega arith))
 
 element-copy-out-if1-2 : tie.Need-element-copy-out-if1-2 Inv-loop μ-loop
-element-copy-out-if1-2 c = let l = c .before .before .before in omega (arith, l .before .before .before .before .before .before .pre .1 (l .loop .g) (omega arith))
+element-copy-out-if1-2 c =
+    let l = c .before .before .before in omega (arith, l .before .before .before .before .before .before .pre .1 (l .loop .g) (omega arith))
 
 cast-g-2 : tie.Need-cast-g-2 Inv-loop μ-loop
 cast-g-2 c =
@@ -103,18 +106,25 @@ loop-again c =
     let w = wayOf (a .m) (a .start) in
     let o : Ends = c .before .if1 .o in
     let held = told (a .m) (l .loop .o) in
-    let whole = roundRest (a .m) (a .sv .now) (a .st .now) (a .rs .now) (a .rt .now) (a .x) (a .y) (a .plan .now) (a .fs .now) w (told (a .m) (c .before .before .before .before .before .before .before .before .offered .result)) 0 in
+    let whole = roundRest (a .m) (a .sv .now) (a .st .now) (a .rs .now) (a .rt .now) (a .x) (a .y) (a .plan .now) (a .fs .now) w
+    (told (a .m) (c .before .before .before .before .before .before .before .before .offered .result)) 0 in
     let is = gainable-here (a .st .now) (a .sv .now) (a .plan .now) (a .fs .now) t g here in (
       F .inside,
       F .here,
-      past-others (a .m) (a .st .now) (g + 1) t (at (a .lt .now) g) (Held (a .m) (a .sv .now) (a .st .now) (a .rs .now) (a .rt .now) (a .x) (a .y) (a .plan .now) (a .fs .now) w (told (a .m) o) whole) (omega (arith, h)) F
+      past-others (a .m) (a .st .now) (g + 1) t (at (a .lt .now) g)
+      (Held (a .m) (a .sv .now) (a .st .now) (a .rs .now) (a .rt .now) (a .x) (a .y) (a .plan .now) (a .fs .now) w (told (a .m) o) whole) (omega (arith, h)) F
           (others (a .m) (a .sv .now) (a .st .now) (a .rs .now) (a .rt .now) (a .x) (a .y) (a .plan .now) (a .fs .now) w (told (a .m) o) whole)
           (⊎-elim
-          (λ u. round-turn (a .m) (a .sv .now) (a .st .now) (a .rs .now) (a .rt .now) (a .x) (a .y) (a .plan .now) (a .fs .now) w held (told (a .m) o) g (ltb (a .start) (a .m) || not (eqb (at (a .sv .now) g) (at (a .sv .now) (a .x))))
-          (a .a + u .2 .result) h (sym (ap₂ _&&_ (is ∙ u .0 .taken) (apart-way (a .m) (a .sv .now) (a .st .now) (a .rs .now) (a .rt .now) (a .x) (a .y) (a .plan .now) (a .fs .now) (a .start) g)))
+          (λ u. round-turn (a .m) (a .sv .now) (a .st .now) (a .rs .now) (a .rt .now) (a .x) (a .y) (a .plan .now) (a .fs .now) w held (told (a .m) o) g
+          (ltb (a .start) (a .m) || not (eqb (at (a .sv .now) g) (at (a .sv .now) (a .x))))
+          (a .a + u .2 .result) h (sym
+          (ap₂ _&&_ (is ∙ u .0 .taken)
+          (apart-way (a .m) (a .sv .now) (a .st .now) (a .rs .now) (a .rt .now) (a .x) (a .y) (a .plan .now) (a .fs .now) (a .start) g)))
           (ap₂ (λ p q. p + q) (s .pre .7) (u .2 .ensures .0))
           (ap (told (a .m)) (u .5) ∙ u .4 .ensures (a .m)) ∙ l .loop .inv .2)
-          (λ u. ap (λ o. roundRest (a .m) (a .sv .now) (a .st .now) (a .rs .now) (a .rt .now) (a .x) (a .y) (a .plan .now) (a .fs .now) w (told (a .m) o) (g + 1)) (u .1) ∙ round-past (a .m) (a .sv .now) (a .st .now) (a .rs .now) (a .rt .now) (a .x) (a .y) (a .plan .now) (a .fs .now) w held g h (is ∙ u .0 .left) ∙ l .loop .inv .2)
+          (λ u. ap (λ o. roundRest (a .m) (a .sv .now) (a .st .now) (a .rs .now) (a .rt .now) (a .x) (a .y) (a .plan .now) (a .fs .now) w (told (a .m) o)
+          (g + 1)) (u .1) ∙ round-past (a .m) (a .sv .now) (a .st .now) (a .rs .now) (a .rt .now) (a .x) (a .y) (a .plan .now) (a .fs .now) w held g h
+          (is ∙ u .0 .left) ∙ l .loop .inv .2)
           (c .before .if1 .came)),
     )
 
@@ -124,9 +134,11 @@ returns c =
     let s = l .before .before .before .before .before .before in
     let a = s .args in
     let o = c .before .before .before .offered in
-    sym (round-end (a .m) (a .sv .now) (a .st .now) (a .rs .now) (a .rt .now) (a .x) (a .y) (a .plan .now) (a .fs .now) (wayOf (a .m) (a .start)) (told (a .m) (l .loop .o)) (l .loop .g) (omega arith))
+    sym (round-end (a .m) (a .sv .now) (a .st .now) (a .rs .now) (a .rt .now) (a .x) (a .y) (a .plan .now) (a .fs .now) (wayOf (a .m) (a .start))
+    (told (a .m) (l .loop .o)) (l .loop .g) (omega arith))
     ∙ l .loop .inv .2
-    ∙ round-begin (a .m) (a .sv .now) (a .st .now) (a .rs .now) (a .rt .now) (a .x) (a .y) (a .plan .now) (a .fs .now) (wayOf (a .m) (a .start)) (told (a .m) (a .held)) (told (a .m) (o .result)) (a .free) (a .a) (s .pre .8) (s .pre .7)
+    ∙ round-begin (a .m) (a .sv .now) (a .st .now) (a .rs .now) (a .rt .now) (a .x) (a .y) (a .plan .now) (a .fs .now) (wayOf (a .m) (a .start))
+    (told (a .m) (a .held)) (told (a .m) (o .result)) (a .free) (a .a) (s .pre .8) (s .pre .7)
     (o .ensures (a .m))
 
 pub round-spec : {M : Type 1} → statement M

@@ -75,9 +75,13 @@ loop-holds c =
     let o = told (a .m) (c .before .round .result) in (
       F .inside,
       F .here,
-      past-others (a .m) (a .sv .now) 0 v (at (a .hs .now) v) (Held (a .m) (a .sv .now) (a .st .now) (a .rs .now) (a .rt .now) (a .x) (a .y) (a .plan .now) (a .fs .now) (a .ft .now) o) (omega arith) F (others (a .m) (a .sv .now) (a .st .now) (a .rs .now) (a .rt .now) (a .x) (a .y) (a .plan .now) (a .fs .now) (a .ft .now) o)
+      past-others (a .m) (a .sv .now) 0 v (at (a .hs .now) v)
+      (Held (a .m) (a .sv .now) (a .st .now) (a .rs .now) (a .rt .now) (a .x) (a .y) (a .plan .now) (a .fs .now) (a .ft .now) o) (omega arith) F
+      (others (a .m) (a .sv .now) (a .st .now) (a .rs .now) (a .rt .now) (a .x) (a .y) (a .plan .now) (a .fs .now) (a .ft .now) o)
           (ap (λ o. terminalRest (a .m) (a .sv .now) (a .st .now) (a .rs .now) (a .rt .now) (a .x) (a .y) (a .plan .now) (a .fs .now) (a .ft .now) o 0)
-          (c .before .round .ensures ∙ ap₂ (λ u w. round (a .m) (a .sv .now) (a .st .now) (a .rs .now) (a .rt .now) (a .x) (a .y) (a .plan .now) (a .fs .now) u (6, (w, w))) (way-lose (a .m)) (way-lose (a .m)))
+          (c .before .round .ensures ∙ ap₂
+          (λ u w. round (a .m) (a .sv .now) (a .st .now) (a .rs .now) (a .rt .now) (a .x) (a .y) (a .plan .now) (a .fs .now) u (6, (w, w))) (way-lose (a .m))
+          (way-lose (a .m)))
           ∙ terminal-start (a .m) (a .sv .now) (a .st .now) (a .rs .now) (a .rt .now) (a .x) (a .y) (a .plan .now) (a .fs .now) (a .ft .now)),
     )
 
@@ -85,7 +89,8 @@ cast-v : tie.Need-cast-v Inv-loop μ-loop
 cast-v c = let l = c .before .before in omega (arith, l .before .before .before .before .before .before .pre .2 (l .loop .f) (omega arith))
 
 element-copy-out-if1-2 : tie.Need-element-copy-out-if1-2 Inv-loop μ-loop
-element-copy-out-if1-2 c = let l = c .before .before .before in omega (arith, l .before .before .before .before .before .before .pre .2 (l .loop .f) (omega arith))
+element-copy-out-if1-2 c =
+    let l = c .before .before .before in omega (arith, l .before .before .before .before .before .before .pre .2 (l .loop .f) (omega arith))
 
 round-requires-2 : tie.Need-round-requires-2 Inv-loop μ-loop
 round-requires-2 c κs =
@@ -141,14 +146,23 @@ loop-again c =
     let is = gainable-here (a .sv .now) (a .st .now) (a .plan .now) (a .ft .now) v f here in (
       F .inside,
       F .here,
-      past-others (a .m) (a .sv .now) (f + 1) v (at (a .ls .now) f) (Held (a .m) (a .sv .now) (a .st .now) (a .rs .now) (a .rt .now) (a .x) (a .y) (a .plan .now) (a .fs .now) (a .ft .now) (told (a .m) o)) (omega (arith, h)) F (others (a .m) (a .sv .now) (a .st .now) (a .rs .now) (a .rt .now) (a .x) (a .y) (a .plan .now) (a .fs .now) (a .ft .now) (told (a .m) o))
+      past-others (a .m) (a .sv .now) (f + 1) v (at (a .ls .now) f)
+      (Held (a .m) (a .sv .now) (a .st .now) (a .rs .now) (a .rt .now) (a .x) (a .y) (a .plan .now) (a .fs .now) (a .ft .now) (told (a .m) o))
+      (omega (arith, h)) F (others (a .m) (a .sv .now) (a .st .now) (a .rs .now) (a .rt .now) (a .x) (a .y) (a .plan .now) (a .fs .now) (a .ft .now)
+      (told (a .m) o))
           (⊎-elim
-          (λ w. ap (λ o. terminalRest (a .m) (a .sv .now) (a .st .now) (a .rs .now) (a .rt .now) (a .x) (a .y) (a .plan .now) (a .fs .now) (a .ft .now) (told (a .m) o) (f + 1)) (w .5)
-          ∙ ap (λ o. terminalRest (a .m) (a .sv .now) (a .st .now) (a .rs .now) (a .rt .now) (a .x) (a .y) (a .plan .now) (a .fs .now) (a .ft .now) o (f + 1)) (w .4 .ensures ∙ ap (λ u. round (a .m) (a .sv .now) (a .st .now) (a .rs .now) (a .rt .now) (a .x) (a .y) (a .plan .now) (a .fs .now) u held) (way-gain (a .m) f h))
-          ∙ sym (terminal-turn (a .m) (a .sv .now) (a .st .now) (a .rs .now) (a .rt .now) (a .x) (a .y) (a .plan .now) (a .fs .now) (a .ft .now) held f h (is ∙ w .0 .taken))
+          (λ w. ap (λ o. terminalRest (a .m) (a .sv .now) (a .st .now) (a .rs .now) (a .rt .now) (a .x) (a .y) (a .plan .now) (a .fs .now) (a .ft .now)
+          (told (a .m) o) (f + 1)) (w .5)
+          ∙ ap (λ o. terminalRest (a .m) (a .sv .now) (a .st .now) (a .rs .now) (a .rt .now) (a .x) (a .y) (a .plan .now) (a .fs .now) (a .ft .now) o
+          (f + 1)) (w .4 .ensures ∙ ap
+          (λ u. round (a .m) (a .sv .now) (a .st .now) (a .rs .now) (a .rt .now) (a .x) (a .y) (a .plan .now) (a .fs .now) u held) (way-gain (a .m) f h))
+          ∙ sym (terminal-turn (a .m) (a .sv .now) (a .st .now) (a .rs .now) (a .rt .now) (a .x) (a .y) (a .plan .now) (a .fs .now) (a .ft .now) held f h
+          (is ∙ w .0 .taken))
           ∙ l .loop .inv .2)
-          (λ w. ap (λ o. terminalRest (a .m) (a .sv .now) (a .st .now) (a .rs .now) (a .rt .now) (a .x) (a .y) (a .plan .now) (a .fs .now) (a .ft .now) (told (a .m) o) (f + 1)) (w .1)
-          ∙ sym (terminal-past (a .m) (a .sv .now) (a .st .now) (a .rs .now) (a .rt .now) (a .x) (a .y) (a .plan .now) (a .fs .now) (a .ft .now) held f h (is ∙ w .0 .left))
+          (λ w. ap (λ o. terminalRest (a .m) (a .sv .now) (a .st .now) (a .rs .now) (a .rt .now) (a .x) (a .y) (a .plan .now) (a .fs .now) (a .ft .now)
+          (told (a .m) o) (f + 1)) (w .1)
+          ∙ sym (terminal-past (a .m) (a .sv .now) (a .st .now) (a .rs .now) (a .rt .now) (a .x) (a .y) (a .plan .now) (a .fs .now) (a .ft .now) held f h
+          (is ∙ w .0 .left))
           ∙ l .loop .inv .2)
           (c .before .if1 .came)),
     )
@@ -157,7 +171,8 @@ returns : tie.Need-returns Inv-loop μ-loop
 returns c =
     let l = c .before in
     let a = l .before .before .before .before .before .before .args in
-    sym (terminal-end (a .m) (a .sv .now) (a .st .now) (a .rs .now) (a .rt .now) (a .x) (a .y) (a .plan .now) (a .fs .now) (a .ft .now) (told (a .m) (l .loop .o)) (l .loop .f) (omega arith)) ∙ l .loop .inv .2
+    sym (terminal-end (a .m) (a .sv .now) (a .st .now) (a .rs .now) (a .rt .now) (a .x) (a .y) (a .plan .now) (a .fs .now) (a .ft .now)
+    (told (a .m) (l .loop .o)) (l .loop .f) (omega arith)) ∙ l .loop .inv .2
 
 pub terminal-spec : {M : Type 1} → statement M
 terminal-spec =

@@ -24,7 +24,8 @@ returns c =
     let a = s .args in
     λ i j h k. getD-replicate 4096 (i * 64 + j) 3 0 (omega (arith, s .pre .3, h, k))
     ∙ sym
-    (but-none (a .m) (a .end .now) (a .other .now) (a .rank .now) (a .plan .now) (a .room .now) (s .pre .1) (omega (arith, c .if1 .taken, c .before .first-room .ensures)) 3
+    (but-none (a .m) (a .end .now) (a .other .now) (a .rank .now) (a .plan .now) (a .room .now) (s .pre .1)
+    (omega (arith, c .if1 .taken, c .before .first-room .ensures)) 3
     (at (a .pe .now) i) (at (a .pr .now) i) (at (a .po .now) j))
 
 loop-holds : tie.Need-loop-holds Inv-loop μ-loop

@@ -47,9 +47,11 @@ loop-holds c =
       F .inside,
       F .here,
       length-replicate {A = ℕ} 64 3,
-      past-others (a .m) (a .end .now) 0 (a .e) (at (a .head .now) (a .e)) (Held (a .m) (a .end .now) (a .other .now) (a .rank .now) (a .plan .now) (a .room .now) (a .po .now) (a .e) (a .b) row) (omega arith) F
+      past-others (a .m) (a .end .now) 0 (a .e) (at (a .head .now) (a .e))
+      (Held (a .m) (a .end .now) (a .other .now) (a .rank .now) (a .plan .now) (a .room .now) (a .po .now) (a .e) (a .b) row) (omega arith) F
           (others (a .m) (a .end .now) (a .other .now) (a .rank .now) (a .plan .now) (a .room .now) (a .po .now) (a .e) (a .b) row)
-          (λ j h. ap (λ v. gainRestBut (a .m) (a .end .now) (a .other .now) (a .rank .now) (a .plan .now) (a .room .now) (a .e) (a .b) (at (a .po .now) j) v 0) (getD-replicate 64 j 3 0 h)
+          (λ j h. ap (λ v. gainRestBut (a .m) (a .end .now) (a .other .now) (a .rank .now) (a .plan .now) (a .room .now) (a .e) (a .b)
+          (at (a .po .now) j) v 0) (getD-replicate 64 j 3 0 h)
           ∙ but-start (a .m) (a .end .now) (a .other .now) (a .rank .now) (a .plan .now) (a .room .now) (a .e) (a .b) (at (a .po .now) j) 3),
     )
 
@@ -90,21 +92,27 @@ loop-again c =
     let k : f < a .m = c .before .before .before .before .before .loop-test .taken in
     let here : at (a .end .now) f ≡ a .e = l .loop .inv .1 (omega arith) in
     let F = first-next (a .m) (a .end .now) (a .head .now) (a .next .now) (s .pre .2) (a .e) f (omega arith) here in
-    let g : Held (a .m) (a .end .now) (a .other .now) (a .rank .now) (a .plan .now) (a .room .now) (a .po .now) (a .e) (a .b) (l .loop .o) f = l .loop .inv .3 in
+    let g : Held (a .m) (a .end .now) (a .other .now) (a .rank .now) (a .plan .now) (a .room .now) (a .po .now) (a .e) (a .b)
+    (l .loop .o) f = l .loop .inv .3 in
     let o : List ℕ = c .before .if1 .o in
     let is = gainable-here (a .end .now) (a .other .now) (a .plan .now) (a .room .now) (a .e) f here in (
       F .inside,
       F .here,
       ⊎-elim (λ w. ap length (w .5) ∙ w .4 .ensures .0) (λ w. ap length (w .1) ∙ l .loop .inv .2) (c .before .if1 .came),
-      past-others (a .m) (a .end .now) (f + 1) (a .e) (at (a .next .now) f) (Held (a .m) (a .end .now) (a .other .now) (a .rank .now) (a .plan .now) (a .room .now) (a .po .now) (a .e) (a .b) o) (omega arith) F
+      past-others (a .m) (a .end .now) (f + 1) (a .e) (at (a .next .now) f)
+      (Held (a .m) (a .end .now) (a .other .now) (a .rank .now) (a .plan .now) (a .room .now) (a .po .now) (a .e) (a .b) o) (omega arith) F
           (others (a .m) (a .end .now) (a .other .now) (a .rank .now) (a .plan .now) (a .room .now) (a .po .now) (a .e) (a .b) o)
           (λ j h. ⊎-elim
-          (λ w. ap (λ v. gainRestBut (a .m) (a .end .now) (a .other .now) (a .rank .now) (a .plan .now) (a .room .now) (a .e) (a .b) (at (a .po .now) j) v (f + 1))
+          (λ w. ap (λ v. gainRestBut (a .m) (a .end .now) (a .other .now) (a .rank .now) (a .plan .now) (a .room .now) (a .e) (a .b) (at (a .po .now) j) v
+          (f + 1))
           (ap (λ z. at z j) (w .5) ∙ w .4 .ensures .1 j h
           ∙ ap (λ p. offer (not (eqb (at (a .other .now) f) (at (a .po .now) j))) p (at (l .loop .o) j)) (w .2 .ensures .0))
-          ∙ sym (but-turn (a .m) (a .end .now) (a .other .now) (a .rank .now) (a .plan .now) (a .room .now) (a .e) (a .b) (at (a .po .now) j) (at (l .loop .o) j) f k (is ∙ w .0 .taken)) ∙ g j h)
-          (λ w. ap (λ z. gainRestBut (a .m) (a .end .now) (a .other .now) (a .rank .now) (a .plan .now) (a .room .now) (a .e) (a .b) (at (a .po .now) j) (at z j) (f + 1)) (w .1)
-          ∙ sym (but-past (a .m) (a .end .now) (a .other .now) (a .rank .now) (a .plan .now) (a .room .now) (a .e) (a .b) (at (a .po .now) j) (at (l .loop .o) j) f k (is ∙ w .0 .left)) ∙ g j h)
+          ∙ sym (but-turn (a .m) (a .end .now) (a .other .now) (a .rank .now) (a .plan .now) (a .room .now) (a .e) (a .b) (at (a .po .now) j)
+          (at (l .loop .o) j) f k (is ∙ w .0 .taken)) ∙ g j h)
+          (λ w. ap (λ z. gainRestBut (a .m) (a .end .now) (a .other .now) (a .rank .now) (a .plan .now) (a .room .now) (a .e) (a .b) (at (a .po .now) j)
+          (at z j) (f + 1)) (w .1)
+          ∙ sym (but-past (a .m) (a .end .now) (a .other .now) (a .rank .now) (a .plan .now) (a .room .now) (a .e) (a .b) (at (a .po .now) j)
+          (at (l .loop .o) j) f k (is ∙ w .0 .left)) ∙ g j h)
           (c .before .if1 .came)),
     )
 
@@ -112,7 +120,8 @@ returns : tie.Need-returns Inv-loop μ-loop
 returns c =
     let l = c .before in
     let a = l .before .before .args in
-    λ j h. sym (but-end (a .m) (a .end .now) (a .other .now) (a .rank .now) (a .plan .now) (a .room .now) (a .e) (a .b) (at (a .po .now) j) (at (l .loop .o) j) (l .loop .f) (omega arith)) ∙ l .loop .inv .3 j h
+    λ j h. sym (but-end (a .m) (a .end .now) (a .other .now) (a .rank .now) (a .plan .now) (a .room .now) (a .e) (a .b) (at (a .po .now) j)
+    (at (l .loop .o) j) (l .loop .f) (omega arith)) ∙ l .loop .inv .3 j h
 
 pub apart-row-spec : {M : Type 1} → statement M
 apart-row-spec =

@@ -47,8 +47,10 @@ loop-holds c =
     let F = first-head (a .m) (a .end .now) (a .head .now) (a .next .now) (s .pre .2) (a .e) (s .pre .3) in (
       F .inside,
       F .here,
-      past-others (a .m) (a .end .now) 0 (a .e) (at (a .head .now) (a .e)) (Held (a .m) (a .end .now) (a .other .now) (a .rank .now) (a .plan .now) (a .room .now) (a .e) (a .b) 6) (omega arith) F
-          (others (a .m) (a .end .now) (a .other .now) (a .rank .now) (a .plan .now) (a .room .now) (a .e) (a .b) 6) (gain-start (a .m) (a .end .now) (a .other .now) (a .rank .now) (a .plan .now) (a .room .now) (a .e) (a .b) 6),
+      past-others (a .m) (a .end .now) 0 (a .e) (at (a .head .now) (a .e))
+      (Held (a .m) (a .end .now) (a .other .now) (a .rank .now) (a .plan .now) (a .room .now) (a .e) (a .b) 6) (omega arith) F
+          (others (a .m) (a .end .now) (a .other .now) (a .rank .now) (a .plan .now) (a .room .now) (a .e) (a .b) 6)
+          (gain-start (a .m) (a .end .now) (a .other .now) (a .rank .now) (a .plan .now) (a .room .now) (a .e) (a .b) 6),
     )
 
 cast-v : tie.Need-cast-v Inv-loop μ-loop
@@ -88,13 +90,17 @@ loop-again c =
     let is = gainable-here (a .end .now) (a .other .now) (a .plan .now) (a .room .now) (a .e) f here in (
       F .inside,
       F .here,
-      past-others (a .m) (a .end .now) (f + 1) (a .e) (at (a .next .now) f) (Held (a .m) (a .end .now) (a .other .now) (a .rank .now) (a .plan .now) (a .room .now) (a .e) (a .b) o) (omega arith) F
+      past-others (a .m) (a .end .now) (f + 1) (a .e) (at (a .next .now) f)
+      (Held (a .m) (a .end .now) (a .other .now) (a .rank .now) (a .plan .now) (a .room .now) (a .e) (a .b) o) (omega arith) F
           (others (a .m) (a .end .now) (a .other .now) (a .rank .now) (a .plan .now) (a .room .now) (a .e) (a .b) o)
           (⊎-elim
-          (λ w. ap (λ v. gainRest (a .m) (a .end .now) (a .other .now) (a .rank .now) (a .plan .now) (a .room .now) (a .e) (a .b) v (f + 1)) (w .4 ∙ w .3 .ensures ∙ ap (λ p. min p (l .loop .o)) (w .2 .ensures .0))
-          ∙ on (a .m) (a .end .now) (a .other .now) (a .rank .now) (a .plan .now) (a .room .now) (a .e) (a .b) (l .loop .o) f true (omega arith) (is ∙ w .0 .taken) (l .loop .inv .2))
+          (λ w. ap (λ v. gainRest (a .m) (a .end .now) (a .other .now) (a .rank .now) (a .plan .now) (a .room .now) (a .e) (a .b) v (f + 1))
+          (w .4 ∙ w .3 .ensures ∙ ap (λ p. min p (l .loop .o)) (w .2 .ensures .0))
+          ∙ on (a .m) (a .end .now) (a .other .now) (a .rank .now) (a .plan .now) (a .room .now) (a .e) (a .b) (l .loop .o) f true (omega arith)
+          (is ∙ w .0 .taken) (l .loop .inv .2))
           (λ w. ap (λ v. gainRest (a .m) (a .end .now) (a .other .now) (a .rank .now) (a .plan .now) (a .room .now) (a .e) (a .b) v (f + 1)) (w .1)
-          ∙ on (a .m) (a .end .now) (a .other .now) (a .rank .now) (a .plan .now) (a .room .now) (a .e) (a .b) (l .loop .o) f false (omega arith) (is ∙ w .0 .left) (l .loop .inv .2))
+          ∙ on (a .m) (a .end .now) (a .other .now) (a .rank .now) (a .plan .now) (a .room .now) (a .e) (a .b) (l .loop .o) f false (omega arith)
+          (is ∙ w .0 .left) (l .loop .inv .2))
           (c .before .if1 .came)),
     )
 
@@ -102,7 +108,8 @@ returns : tie.Need-returns Inv-loop μ-loop
 returns c =
     let l = c .before in
     let a = l .before .before .args in
-    sym (gain-end (a .m) (a .end .now) (a .other .now) (a .rank .now) (a .plan .now) (a .room .now) (a .e) (a .b) (l .loop .o) (l .loop .f) (omega arith)) ∙ l .loop .inv .2
+    sym (gain-end (a .m) (a .end .now) (a .other .now) (a .rank .now) (a .plan .now) (a .room .now) (a .e) (a .b) (l .loop .o) (l .loop .f) (omega arith))
+    ∙ l .loop .inv .2
 
 pub gain-spec : {M : Type 1} → statement M
 gain-spec =

@@ -12,7 +12,8 @@ use Rattle.rival_gains.proofs.gains.Statement.{statement}
 use Rattle.rival_gains.proofs.gains.Tie as tie
 
 abbrev Inv-loop : tie.InvT-loop
-Inv-loop m end other rank plan room head next n pe pr roomy o₀ i₀ o i = (i ≤ n) × (length o ≡ 64) × Made 0 o (λ i. gainPrice m end other rank plan room 6 (at pe i) (at pr i)) i
+Inv-loop m end other rank plan room head next n pe pr roomy o₀ i₀ o i =
+    (i ≤ n) × (length o ≡ 64) × Made 0 o (λ i. gainPrice m end other rank plan room 6 (at pe i) (at pr i)) i
 
 abbrev μ-loop : tie.MeasureT-loop
 μ-loop m end other rank plan room head next n pe pr roomy o₀ i₀ o i = n - i
@@ -23,7 +24,8 @@ returns c =
     let a = s .args in
     λ i h. getD-replicate 64 i 6 0 (omega (arith, s .pre .3, h))
     ∙ sym
-    (gain-none (a .m) (a .end .now) (a .other .now) (a .rank .now) (a .plan .now) (a .room .now) (s .pre .1) (omega (arith, c .if1 .taken, c .before .first-room .ensures)) 6
+    (gain-none (a .m) (a .end .now) (a .other .now) (a .rank .now) (a .plan .now) (a .room .now) (s .pre .1)
+    (omega (arith, c .if1 .taken, c .before .first-room .ensures)) 6
     (at (a .pe .now) i) (at (a .pr .now) i))
 
 loop-holds : tie.Need-loop-holds Inv-loop μ-loop

@@ -26,7 +26,8 @@ returns c =
     let f = c .before .before .before .before .before .direct in
     let g = c .before .before .before .gained in
     let h = c .before .before .before .before .if1 .taken in
-    λ quotaS quotaT roomyS roomyT. direct-shown (a .m) (a .sv .now) (a .st .now) (a .rs .now) (a .rt .now) quotaS quotaT (a .plan .now) (a .n) (a .es .now) (a .ps .now) (a .pt .now)
+    λ quotaS quotaT roomyS roomyT. direct-shown (a .m) (a .sv .now) (a .st .now) (a .rs .now) (a .rt .now) quotaS quotaT (a .plan .now) (a .n) (a .es .now)
+    (a .ps .now) (a .pt .now)
     (a .qs .now) (a .qt .now) (a .fs .now) (a .ft .now) (s .pre .1) (s .pre .2) (s .pre .3) (s .pre .4) (s .pre .5) roomyS roomyT (f .result)
     (replicate 1024 false) (g .result) (c .exchanged .result) (f .ensures) h (blank-none 1024) (blank-one 1024 (a .m) (f .result) (g .result) h (g .ensures))
     (c .exchanged .ensures)
@@ -45,7 +46,9 @@ links-requires-2 c κs =
 
 judged-by-tables-requires : tie.Need-judged-by-tables-requires
 judged-by-tables-requires c κs =
-    let s = c .before .before .before .before .before .before .before .before .before .before .before .before .before .before in (
+    let s = c .before .before .before .before .before .before .before .before .before .before .before .before .before .before in
+    let i = c .before .before .before .before .before .before .before .before .before .before .before .before .if1 in
+    let f = c .before .before .before .before .before .before .before .before .before .before .before .before .before .direct in (
       s .pre .0,
       s .pre .1,
       s .pre .2,
@@ -56,7 +59,7 @@ judged-by-tables-requires c κs =
       s .pre .7,
       c .before .before .before .before .before .before .before .before .before .links .ensures .1,
       c .before .before .before .before .before .links2 .ensures .1,
-      omega (arith, c .before .before .before .before .before .before .before .before .before .before .before .before .if1 .left, c .before .before .before .before .before .before .before .before .before .before .before .before .before .direct .ensures),
+      omega (arith, i .left, f .ensures),
     )
 
 pub judged-on-spec : {M : Type 1} → statement M

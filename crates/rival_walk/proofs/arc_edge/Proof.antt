@@ -60,7 +60,10 @@ loop-holds c =
       F .inside,
       F .here,
       omega arith,
-      past-others (a .m) (a .st .now) 0 t (at (a .ht .now) t) (Held (a .m) (a .sv .now) (a .st .now) (a .rs .now) (a .rt .now) (a .plan .now) (a .x) (a .z) 133 0) (omega arith) F (others (a .m) (a .sv .now) (a .st .now) (a .rs .now) (a .rt .now) (a .plan .now) (a .x) (a .z) 133 0) (edge-start (a .m) (a .sv .now) (a .st .now) (a .rs .now) (a .rt .now) (a .plan .now) (a .x) (a .z)),
+      past-others (a .m) (a .st .now) 0 t (at (a .ht .now) t)
+          (Held (a .m) (a .sv .now) (a .st .now) (a .rs .now) (a .rt .now) (a .plan .now) (a .x) (a .z) 133 0) (omega arith) F
+          (others (a .m) (a .sv .now) (a .st .now) (a .rs .now) (a .rt .now) (a .plan .now) (a .x) (a .z) 133 0)
+          (edge-start (a .m) (a .sv .now) (a .st .now) (a .rs .now) (a .rt .now) (a .plan .now) (a .x) (a .z)),
     )
 
 cast-f-2 : tie.Need-cast-f-2 Inv-loop μ-loop
@@ -94,20 +97,25 @@ loop-again c =
     let here : at (a .st .now) f ≡ at (a .st .now) (a .x) = l .loop .inv .1 k in
     let F = first-next (a .m) (a .st .now) (a .ht .now) (a .lt .now) (s .pre .4) (at (a .st .now) (a .x)) f k here in
     let p = c .before .before .before .before .before .before .rated .result + c .before .before .before .before .rated2 .result in
-    let e : p ≡ edgePrice (a .m) (a .sv .now) (a .st .now) (a .rs .now) (a .rt .now) (a .plan .now) (a .x) (a .z) f = ap₂ (λ u w. u + w) (c .before .before .before .before .before .before .rated .ensures .0) (c .before .before .before .before .rated2 .ensures .0) in
+    let e : p ≡ edgePrice (a .m) (a .sv .now) (a .st .now) (a .rs .now) (a .rt .now) (a .plan .now) (a .x) (a .z) f = ap₂ (λ u w. u + w)
+    (c .before .before .before .before .before .before .rated .ensures .0) (c .before .before .before .before .rated2 .ensures .0) in
     let v : ℕ = c .before .if1 .v in
     let o : ℕ = c .before .if1 .o in
     let is = ap (λ b. b && ltb p (l .loop .v)) (joins-here (a .m) (a .sv .now) (a .st .now) (a .rs .now) (a .rt .now) (a .plan .now) (a .x) (a .z) f here) in (
       F .inside,
       F .here,
       ⊎-elim (λ w. omega (arith, w .2, k, s .pre .0)) (λ w. omega (arith, w .2, l .loop .inv .2)) (c .before .if1 .came),
-      past-others (a .m) (a .st .now) (f + 1) (at (a .st .now) (a .x)) (at (a .lt .now) f) (Held (a .m) (a .sv .now) (a .st .now) (a .rs .now) (a .rt .now) (a .plan .now) (a .x) (a .z) v o) (omega (arith, k)) F (others (a .m) (a .sv .now) (a .st .now) (a .rs .now) (a .rt .now) (a .plan .now) (a .x) (a .z) v o)
+      past-others (a .m) (a .st .now) (f + 1) (at (a .st .now) (a .x)) (at (a .lt .now) f)
+      (Held (a .m) (a .sv .now) (a .st .now) (a .rs .now) (a .rt .now) (a .plan .now) (a .x) (a .z) v o) (omega (arith, k)) F
+      (others (a .m) (a .sv .now) (a .st .now) (a .rs .now) (a .rt .now) (a .plan .now) (a .x) (a .z) v o)
           (⊎-elim
           (λ w. ap₂ (λ v o. edgeRest (a .m) (a .sv .now) (a .st .now) (a .rs .now) (a .rt .now) (a .plan .now) (a .x) (a .z) (v, o) (f + 1) .1) (w .1) (w .2)
-          ∙ ap (λ r. r .1) (sym (edge-turn (a .m) (a .sv .now) (a .st .now) (a .rs .now) (a .rt .now) (a .plan .now) (a .x) (a .z) true (l .loop .v) (l .loop .o) f p k e (is ∙ w .0 .taken)))
+          ∙ ap (λ r. r .1) (sym (edge-turn (a .m) (a .sv .now) (a .st .now) (a .rs .now) (a .rt .now) (a .plan .now) (a .x) (a .z) true (l .loop .v)
+          (l .loop .o) f p k e (is ∙ w .0 .taken)))
           ∙ l .loop .inv .3)
           (λ w. ap₂ (λ v o. edgeRest (a .m) (a .sv .now) (a .st .now) (a .rs .now) (a .rt .now) (a .plan .now) (a .x) (a .z) (v, o) (f + 1) .1) (w .1) (w .2)
-          ∙ ap (λ r. r .1) (sym (edge-turn (a .m) (a .sv .now) (a .st .now) (a .rs .now) (a .rt .now) (a .plan .now) (a .x) (a .z) false (l .loop .v) (l .loop .o) f p k e (is ∙ w .0 .left)))
+          ∙ ap (λ r. r .1) (sym (edge-turn (a .m) (a .sv .now) (a .st .now) (a .rs .now) (a .rt .now) (a .plan .now) (a .x) (a .z) false (l .loop .v)
+          (l .loop .o) f p k e (is ∙ w .0 .left)))
           ∙ l .loop .inv .3)
           (c .before .if1 .came)),
     )
@@ -116,7 +124,8 @@ returns : tie.Need-returns Inv-loop μ-loop
 returns c =
     let l = c .before in
     let a = l .before .before .before .before .before .before .args in
-    (ap (λ r. r .1) (sym (edge-end (a .m) (a .sv .now) (a .st .now) (a .rs .now) (a .rt .now) (a .plan .now) (a .x) (a .z) (l .loop .v, l .loop .o) (l .loop .f) (omega arith))) ∙ l .loop .inv .3, l .loop .inv .2)
+    (ap (λ r. r .1) (sym (edge-end (a .m) (a .sv .now) (a .st .now) (a .rs .now) (a .rt .now) (a .plan .now) (a .x) (a .z) (l .loop .v, l .loop .o)
+    (l .loop .f) (omega arith))) ∙ l .loop .inv .3, l .loop .inv .2)
 
 pub arc-edge-spec : {M : Type 1} → statement M
 arc-edge-spec =
