@@ -60,10 +60,13 @@ loop-holds c =
     let F = first-head (a .m) (a .st .now) (a .ht .now) (a .lt .now) (s .pre .3) t (s .pre .2 (a .y) (s .pre .5)) in
     let w = wayOf (a .m) (a .start) in
     let o = told (a .m) (c .before .offered .result) in
-    let whole = roundRest (a .m) (a .sv .now) (a .st .now) (a .rs .now) (a .rt .now) (a .x) (a .y) (a .plan .now) (a .fs .now) w o 0 in
-    (F .inside, F .here, past-others (a .m) (a .st .now) 0 t (at (a .ht .now) t)
-    (Held (a .m) (a .sv .now) (a .st .now) (a .rs .now) (a .rt .now) (a .x) (a .y) (a .plan .now) (a .fs .now) w o whole) (omega arith) F
-    (others (a .m) (a .sv .now) (a .st .now) (a .rs .now) (a .rt .now) (a .x) (a .y) (a .plan .now) (a .fs .now) w o whole) refl)
+    let whole = roundRest (a .m) (a .sv .now) (a .st .now) (a .rs .now) (a .rt .now) (a .x) (a .y) (a .plan .now) (a .fs .now) w o 0 in (
+      F .inside,
+      F .here,
+      past-others (a .m) (a .st .now) 0 t (at (a .ht .now) t)
+          (Held (a .m) (a .sv .now) (a .st .now) (a .rs .now) (a .rt .now) (a .x) (a .y) (a .plan .now) (a .fs .now) w o whole) (omega arith) F
+          (others (a .m) (a .sv .now) (a .st .now) (a .rs .now) (a .rt .now) (a .x) (a .y) (a .plan .now) (a .fs .now) w o whole) refl,
+    )
 
 cast-v : tie.Need-cast-v Inv-loop μ-loop
 cast-v c = let l = c .before .before in omega (arith, l .before .before .before .before .before .before .pre .1 (l .loop .g) (omega arith))
@@ -112,7 +115,7 @@ loop-again c =
       F .inside,
       F .here,
       past-others (a .m) (a .st .now) (g + 1) t (at (a .lt .now) g)
-      (Held (a .m) (a .sv .now) (a .st .now) (a .rs .now) (a .rt .now) (a .x) (a .y) (a .plan .now) (a .fs .now) w (told (a .m) o) whole) (omega (arith, h)) F
+          (Held (a .m) (a .sv .now) (a .st .now) (a .rs .now) (a .rt .now) (a .x) (a .y) (a .plan .now) (a .fs .now) w (told (a .m) o) whole) (omega (arith, h)) F
           (others (a .m) (a .sv .now) (a .st .now) (a .rs .now) (a .rt .now) (a .x) (a .y) (a .plan .now) (a .fs .now) w (told (a .m) o) whole)
           (⊎-elim
           (λ u. round-turn (a .m) (a .sv .now) (a .st .now) (a .rs .now) (a .rt .now) (a .x) (a .y) (a .plan .now) (a .fs .now) w held (told (a .m) o) g

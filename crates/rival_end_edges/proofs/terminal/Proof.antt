@@ -76,8 +76,8 @@ loop-holds c =
       F .inside,
       F .here,
       past-others (a .m) (a .sv .now) 0 v (at (a .hs .now) v)
-      (Held (a .m) (a .sv .now) (a .st .now) (a .rs .now) (a .rt .now) (a .x) (a .y) (a .plan .now) (a .fs .now) (a .ft .now) o) (omega arith) F
-      (others (a .m) (a .sv .now) (a .st .now) (a .rs .now) (a .rt .now) (a .x) (a .y) (a .plan .now) (a .fs .now) (a .ft .now) o)
+          (Held (a .m) (a .sv .now) (a .st .now) (a .rs .now) (a .rt .now) (a .x) (a .y) (a .plan .now) (a .fs .now) (a .ft .now) o) (omega arith) F
+          (others (a .m) (a .sv .now) (a .st .now) (a .rs .now) (a .rt .now) (a .x) (a .y) (a .plan .now) (a .fs .now) (a .ft .now) o)
           (ap (λ o. terminalRest (a .m) (a .sv .now) (a .st .now) (a .rs .now) (a .rt .now) (a .x) (a .y) (a .plan .now) (a .fs .now) (a .ft .now) o 0)
           (c .before .round .ensures ∙ ap₂
           (λ u w. round (a .m) (a .sv .now) (a .st .now) (a .rs .now) (a .rt .now) (a .x) (a .y) (a .plan .now) (a .fs .now) u (6, (w, w))) (way-lose (a .m))
@@ -147,9 +147,9 @@ loop-again c =
       F .inside,
       F .here,
       past-others (a .m) (a .sv .now) (f + 1) v (at (a .ls .now) f)
-      (Held (a .m) (a .sv .now) (a .st .now) (a .rs .now) (a .rt .now) (a .x) (a .y) (a .plan .now) (a .fs .now) (a .ft .now) (told (a .m) o))
-      (omega (arith, h)) F (others (a .m) (a .sv .now) (a .st .now) (a .rs .now) (a .rt .now) (a .x) (a .y) (a .plan .now) (a .fs .now) (a .ft .now)
-      (told (a .m) o))
+          (Held (a .m) (a .sv .now) (a .st .now) (a .rs .now) (a .rt .now) (a .x) (a .y) (a .plan .now) (a .fs .now) (a .ft .now) (told (a .m) o))
+          (omega (arith, h)) F (others (a .m) (a .sv .now) (a .st .now) (a .rs .now) (a .rt .now) (a .x) (a .y) (a .plan .now) (a .fs .now) (a .ft .now)
+          (told (a .m) o))
           (⊎-elim
           (λ w. ap (λ o. terminalRest (a .m) (a .sv .now) (a .st .now) (a .rs .now) (a .rt .now) (a .x) (a .y) (a .plan .now) (a .fs .now) (a .ft .now)
           (told (a .m) o) (f + 1)) (w .5)

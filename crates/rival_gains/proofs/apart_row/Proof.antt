@@ -48,7 +48,7 @@ loop-holds c =
       F .here,
       length-replicate {A = ℕ} 64 3,
       past-others (a .m) (a .end .now) 0 (a .e) (at (a .head .now) (a .e))
-      (Held (a .m) (a .end .now) (a .other .now) (a .rank .now) (a .plan .now) (a .room .now) (a .po .now) (a .e) (a .b) row) (omega arith) F
+          (Held (a .m) (a .end .now) (a .other .now) (a .rank .now) (a .plan .now) (a .room .now) (a .po .now) (a .e) (a .b) row) (omega arith) F
           (others (a .m) (a .end .now) (a .other .now) (a .rank .now) (a .plan .now) (a .room .now) (a .po .now) (a .e) (a .b) row)
           (λ j h. ap (λ v. gainRestBut (a .m) (a .end .now) (a .other .now) (a .rank .now) (a .plan .now) (a .room .now) (a .e) (a .b)
           (at (a .po .now) j) v 0) (getD-replicate 64 j 3 0 h)
@@ -100,7 +100,7 @@ loop-again c =
       F .here,
       ⊎-elim (λ w. ap length (w .5) ∙ w .4 .ensures .0) (λ w. ap length (w .1) ∙ l .loop .inv .2) (c .before .if1 .came),
       past-others (a .m) (a .end .now) (f + 1) (a .e) (at (a .next .now) f)
-      (Held (a .m) (a .end .now) (a .other .now) (a .rank .now) (a .plan .now) (a .room .now) (a .po .now) (a .e) (a .b) o) (omega arith) F
+          (Held (a .m) (a .end .now) (a .other .now) (a .rank .now) (a .plan .now) (a .room .now) (a .po .now) (a .e) (a .b) o) (omega arith) F
           (others (a .m) (a .end .now) (a .other .now) (a .rank .now) (a .plan .now) (a .room .now) (a .po .now) (a .e) (a .b) o)
           (λ j h. ⊎-elim
           (λ w. ap (λ v. gainRestBut (a .m) (a .end .now) (a .other .now) (a .rank .now) (a .plan .now) (a .room .now) (a .e) (a .b) (at (a .po .now) j) v

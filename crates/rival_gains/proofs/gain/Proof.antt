@@ -48,7 +48,7 @@ loop-holds c =
       F .inside,
       F .here,
       past-others (a .m) (a .end .now) 0 (a .e) (at (a .head .now) (a .e))
-      (Held (a .m) (a .end .now) (a .other .now) (a .rank .now) (a .plan .now) (a .room .now) (a .e) (a .b) 6) (omega arith) F
+          (Held (a .m) (a .end .now) (a .other .now) (a .rank .now) (a .plan .now) (a .room .now) (a .e) (a .b) 6) (omega arith) F
           (others (a .m) (a .end .now) (a .other .now) (a .rank .now) (a .plan .now) (a .room .now) (a .e) (a .b) 6)
           (gain-start (a .m) (a .end .now) (a .other .now) (a .rank .now) (a .plan .now) (a .room .now) (a .e) (a .b) 6),
     )
@@ -91,7 +91,7 @@ loop-again c =
       F .inside,
       F .here,
       past-others (a .m) (a .end .now) (f + 1) (a .e) (at (a .next .now) f)
-      (Held (a .m) (a .end .now) (a .other .now) (a .rank .now) (a .plan .now) (a .room .now) (a .e) (a .b) o) (omega arith) F
+          (Held (a .m) (a .end .now) (a .other .now) (a .rank .now) (a .plan .now) (a .room .now) (a .e) (a .b) o) (omega arith) F
           (others (a .m) (a .end .now) (a .other .now) (a .rank .now) (a .plan .now) (a .room .now) (a .e) (a .b) o)
           (⊎-elim
           (λ w. ap (λ v. gainRest (a .m) (a .end .now) (a .other .now) (a .rank .now) (a .plan .now) (a .room .now) (a .e) (a .b) v (f + 1))

@@ -106,8 +106,8 @@ loop-again c =
       F .here,
       ⊎-elim (λ w. omega (arith, w .2, k, s .pre .0)) (λ w. omega (arith, w .2, l .loop .inv .2)) (c .before .if1 .came),
       past-others (a .m) (a .st .now) (f + 1) (at (a .st .now) (a .x)) (at (a .lt .now) f)
-      (Held (a .m) (a .sv .now) (a .st .now) (a .rs .now) (a .rt .now) (a .plan .now) (a .x) (a .z) v o) (omega (arith, k)) F
-      (others (a .m) (a .sv .now) (a .st .now) (a .rs .now) (a .rt .now) (a .plan .now) (a .x) (a .z) v o)
+          (Held (a .m) (a .sv .now) (a .st .now) (a .rs .now) (a .rt .now) (a .plan .now) (a .x) (a .z) v o) (omega (arith, k)) F
+          (others (a .m) (a .sv .now) (a .st .now) (a .rs .now) (a .rt .now) (a .plan .now) (a .x) (a .z) v o)
           (⊎-elim
           (λ w. ap₂ (λ v o. edgeRest (a .m) (a .sv .now) (a .st .now) (a .rs .now) (a .rt .now) (a .plan .now) (a .x) (a .z) (v, o) (f + 1) .1) (w .1) (w .2)
           ∙ ap (λ r. r .1) (sym (edge-turn (a .m) (a .sv .now) (a .st .now) (a .rs .now) (a .rt .now) (a .plan .now) (a .x) (a .z) true (l .loop .v)
@@ -123,9 +123,11 @@ loop-again c =
 returns : tie.Need-returns Inv-loop μ-loop
 returns c =
     let l = c .before in
-    let a = l .before .before .before .before .before .before .args in
-    (ap (λ r. r .1) (sym (edge-end (a .m) (a .sv .now) (a .st .now) (a .rs .now) (a .rt .now) (a .plan .now) (a .x) (a .z) (l .loop .v, l .loop .o)
-    (l .loop .f) (omega arith))) ∙ l .loop .inv .3, l .loop .inv .2)
+    let a = l .before .before .before .before .before .before .args in (
+      ap (λ r. r .1) (sym (edge-end (a .m) (a .sv .now) (a .st .now) (a .rs .now) (a .rt .now) (a .plan .now) (a .x) (a .z) (l .loop .v, l .loop .o)
+          (l .loop .f) (omega arith))) ∙ l .loop .inv .3,
+      l .loop .inv .2,
+    )
 
 pub arc-edge-spec : {M : Type 1} → statement M
 arc-edge-spec =
