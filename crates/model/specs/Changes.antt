@@ -4,14 +4,14 @@ use Prim.Native.Nat.{ℕ, suc, _+_, _-_}
 use mathlib.Core.Bool.{Bool, not, cond, _&&_, _||_}
 use mathlib.Core.List.{List, [], _∷_, _++_, map}
 use lib.Dec.{eqb, leb, ltb}
-use lib.ListN.{length, set}
+use lib.ListN.{length, set, getD}
 use Rattle.lists.specs.Sum.{sum}
 use Rattle.lists.specs.Keep.{keep, any?, gather}
 use Rattle.model.specs.Limits.{nodeLimit, quotaLimit, quotaSumLimit, listLimit}
 use Rattle.model.specs.Instance.{Instance}
 use Rattle.model.specs.Plans.{Plan, on}
 use Rattle.model.specs.Reading.{Reading, accepted, refused, whole}
-use Rattle.model.specs.Roster.{Entry, Ranking, Roster, surveyorCount, standCount, entries, has, shifts, outside}
+use Rattle.model.specs.Roster.{Entry, Ranking, Roster, surveyorCount, standCount, listS, entries, has, shifts, outside}
 use Rattle.model.specs.RosterFile.{shifted, readList}
 use Rattle.model.specs.PlanFile.{planOf, nameOf, edgeOfPair}
 
@@ -68,6 +68,10 @@ departed r s = record {
 -- 16: "a leaver's number outside the surveyors"
 unfoldable pub leaveOn : Roster → (number : ℕ) → Reading Roster
 leaveOn r s = cond (outside (surveyorCount r) s) (refused 16) (accepted (departed r s))
+
+-- one who has left already: "leaving twice changes nothing more"
+abbrev pub gone : Roster → (number : ℕ) → Bool
+gone r s = eqb (getD (r .quotasS) (s - 1) 0) 0 && eqb (length (listS r (s - 1))) 0
 
 -- ---- the held plan
 -- "The held plan loses the leaver's pairs": the pairs of a plan of G that H still has

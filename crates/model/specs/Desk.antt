@@ -25,14 +25,15 @@ use Rattle.model.specs.Finder.{Record, diaryOf, Rival, Found, finderOf}
 use Rattle.model.specs.Compare as C
 use Rattle.model.specs.Compare.{Comparison, Winner, Part, comparisonOf, partOf}
 use Rattle.model.specs.Blocking.{someBlocks, topBlocking}
-use Rattle.model.specs.Changes.{joinOn, leaveOn, carried}
+use Rattle.model.specs.Changes.{joinOn, leaveOn, gone, carried}
 use Rattle.model.specs.Seasons as S
 
--- "nothing loaded, a roster, or a roster and a plan"
+-- "nothing loaded, a roster, or a roster and a plan"; W-207: "A proposal stores the new plan beside the held one"
 pub data Held : Type 0 where
   nothing : Held
   roster : Roster → Held
   planned : Roster → Plan → Held
+  proposed : Roster → (plan proposal : Plan) → Held
 
 -- a desk that is new
 abbrev pub opening : Held
@@ -53,6 +54,8 @@ pub data Call : Type 0 where
   blocking : Call
   planToNew : (file buffer : List ℕ) → Call  -- W-205: a plan of an old season, and back
   planToOld : (file buffer : List ℕ) → Call
+  propose : (file : List ℕ) → Call  -- W-207
+  commit : Call
 
 -- why there is none: so many pairs left, or the candidate's vote against its rival
 pub data NoneKind : Type 0 where
@@ -72,8 +75,10 @@ pub data Answer : Type 0 where
   refusedPart : ℕ → Group → Part → Answer
   blockedBy : (surveyor stand shift : ℕ) → Answer  -- yes, with the pair
   unblocked : Answer
+  bothVotes : (proposal held : ℤ) → Answer  -- W-207, "and returns both votes": the proposal's against the held plan, and the reverse
+  committed : Answer
 
--- "13, 14, 15 come first, in that order": what a call needs
+-- "13, 14, 15 come first, in that order", and 20 after 14 (W-207): what a call needs
 abbrev pub needsRoster : Call → Bool
 needsRoster (loadRoster file) = false
 needsRoster (loadPlan file) = true
@@ -87,6 +92,8 @@ needsRoster (compare a b) = true
 needsRoster blocking = true
 needsRoster (planToNew f b) = true
 needsRoster (planToOld f b) = true
+needsRoster (propose f) = true
+needsRoster commit = true
 
 abbrev pub needsPlan : Call → Bool
 needsPlan (loadRoster file) = false
@@ -101,6 +108,24 @@ needsPlan (compare a b) = false
 needsPlan blocking = true
 needsPlan (planToNew f b) = false
 needsPlan (planToOld f b) = false
+needsPlan (propose f) = true
+needsPlan commit = true
+
+abbrev pub needsProposal : Call → Bool
+needsProposal (loadRoster file) = false
+needsProposal (loadPlan file) = false
+needsProposal (writeRosterTo buffer) = false
+needsProposal (writePlanTo buffer) = false
+needsProposal (find d l p v) = false
+needsProposal (join q f d l p v) = false
+needsProposal (leave s d l p v) = false
+needsProposal (judge v) = false
+needsProposal (compare a b) = false
+needsProposal blocking = false
+needsProposal (planToNew f b) = false
+needsProposal (planToOld f b) = false
+needsProposal (propose f) = false
+needsProposal commit = true
 
 -- "a buffer for a plan, candidate or rival needs" 193 bytes, "for a roster" 4,262 (W-204), "the diary and the left pairs 1,024 entries
 -- each, however little is written"; W-205: "The buffer written to needs 4,262 or 193 bytes either way."
@@ -123,20 +148,31 @@ lentShort (compare a b) = false
 lentShort blocking = false
 lentShort (planToNew f b) = short b planSize
 lentShort (planToOld f b) = short b planSize
+lentShort (propose f) = false
+lentShort commit = false
 
 abbrev pub noRoster : Held → Bool
 noRoster nothing = true
 noRoster (roster r) = false
 noRoster (planned r M) = false
+noRoster (proposed r M N) = false
 
 abbrev pub noPlan : Held → Bool
 noPlan nothing = true
 noPlan (roster r) = true
 noPlan (planned r M) = false
+noPlan (proposed r M N) = false
 
--- 13, 14 or 15; 0 where the call meets none of them
+abbrev pub noProposal : Held → Bool
+noProposal nothing = true
+noProposal (roster r) = true
+noProposal (planned r M) = true
+noProposal (proposed r M N) = false
+
+-- 13, 14, 20 or 15; 0 where the call meets none of them. No call can meet both 20 and 15.
 unfoldable pub stateRefusal : Held → Call → ℕ
-stateRefusal h c = cond (needsRoster c && noRoster h) 13 (cond (needsPlan c && noPlan h) 14 (cond (lentShort c) 15 0))
+stateRefusal h c = cond (needsRoster c && noRoster h) 13
+    (cond (needsPlan c && noPlan h) 14 (cond (needsProposal c && noProposal h) 20 (cond (lentShort c) 15 0)))
 
 -- what is written at a buffer's front; "Beyond what is written, buffers keep their bytes."
 abbrev pub onto : {A : Type 0} → List A → List A → List A
@@ -200,6 +236,11 @@ abbrev pub convertedOnto : Reading (List ℕ) → List ℕ → List ℕ
 convertedOnto (accepted bs) b = onto bs b
 convertedOnto (reading.refused n) b = b
 
+-- W-207: both votes, the proposal's against the held plan first
+abbrev pub proposalAnswer : Instance → Plan → Reading Plan → Answer
+proposalAnswer G M (accepted N) = bothVotes (voteOf G N M) (voteOf G M N)
+proposalAnswer G M (reading.refused n) = refusal n
+
 -- "on a refusal, the part is empty, taken from the first file"
 abbrev pub stateRefused : ℕ → Call → Answer
 stateRefused n (loadRoster file) = refusal n
@@ -214,17 +255,21 @@ stateRefused n (compare a b) = refusedPart n (groupOf n) (C.winnerPart C.neither
 stateRefused n blocking = refusal n
 stateRefused n (planToNew f b) = refusal n
 stateRefused n (planToOld f b) = refusal n
+stateRefused n (propose f) = refusal n
+stateRefused n commit = refusal n
 
 -- ---- what is said of the roster held, of the roster and the plan held; x where they are not there, and the state refuses the call
 abbrev pub onRoster : {A : Type 0} → A → Held → (Roster → A) → A
 onRoster x nothing f = x
 onRoster x (roster r) f = f r
 onRoster x (planned r M) f = f r
+onRoster x (proposed r M N) f = f r
 
 abbrev pub onPlan : {A : Type 0} → A → Held → (Roster → Plan → A) → A
 onPlan x nothing f = x
 onPlan x (roster r) f = x
 onPlan x (planned r M) f = f r M
+onPlan x (proposed r M N) f = f r M
 
 -- ---- the answer, and the bytes lent
 -- "Only which rival and which blocking pair is open; what holds of them is said above." W-201 has closed the second.
@@ -264,6 +309,8 @@ module _ (ch : Choices) where
   answerOn h blocking = onPlan (refusal 14) h (λ r M. let G = instanceOf r in blockingAnswer G (topBlocking G (on M)) (someBlocks G (on M)))
   answerOn h (planToNew f b) = onRoster (refusal 13) h (λ r. convertedAnswer (S.planToNew (instanceOf r) f))
   answerOn h (planToOld f b) = onRoster (refusal 13) h (λ r. convertedAnswer (S.planToOld (instanceOf r) f))
+  answerOn h (propose f) = onPlan (refusal 14) h (λ r M. let G = instanceOf r in proposalAnswer G M (readPlan G f))
+  answerOn h commit = committed
 
   abbrev pub lentOn : Held → Call → Call
   lentOn h (loadRoster file) = loadRoster file
@@ -278,8 +325,10 @@ module _ (ch : Choices) where
   lentOn h blocking = blocking
   lentOn h (planToNew f b) = onRoster (planToNew f b) h (λ r. planToNew f (convertedOnto (S.planToNew (instanceOf r) f) b))
   lentOn h (planToOld f b) = onRoster (planToOld f b) h (λ r. planToOld f (convertedOnto (S.planToOld (instanceOf r) f) b))
+  lentOn h (propose f) = propose f
+  lentOn h commit = commit
 
-  -- "13, 14, 15 come first"
+  -- "13, 14, 15 come first", 20 among them
   unfoldable pub answerOf : Held → Call → Answer
   answerOf h c = cond (ltb 0 (stateRefusal h c)) (stateRefused (stateRefusal h c) c) (answerOn h c)
 
@@ -287,7 +336,8 @@ module _ (ch : Choices) where
   lentAfter h c = cond (ltb 0 (stateRefusal h c)) c (lentOn h c)
 
 -- ---- what the desk holds afterwards
--- "Loading a roster drops the plan"; "a refusal changes no byte of any buffer nor the desk" (demand 1)
+-- "Loading a roster drops the plan"; "a refusal changes no byte of any buffer nor the desk" (demand 1). W-207: "Loading a roster or a plan (..)
+-- closes it"
 abbrev pub withRoster : Held → Reading Roster → Held
 withRoster h (accepted r) = roster r
 withRoster h (reading.refused n) = h
@@ -296,12 +346,27 @@ abbrev pub withPlan : Held → Roster → Reading Plan → Held
 withPlan h r (accepted M) = planned r M
 withPlan h r (reading.refused n) = h
 
--- W-202: the changed roster, and the held plan less the pairs that it no longer has
-abbrev pub withChange : Held → Reading Roster → Held
-withChange h (reading.refused n) = h
-withChange nothing (accepted r′) = nothing
-withChange (roster r) (accepted r′) = roster r′
-withChange (planned r M) (accepted r′) = planned r′ (carried (instanceOf r) (instanceOf r′) M)
+-- "A later proposal replaces the open one"; the held plan stays
+abbrev pub withProposal : Held → Roster → Plan → Reading Plan → Held
+withProposal h r M (accepted N) = proposed r M N
+withProposal h r M (reading.refused n) = h
+
+-- W-202: the changed roster, and the held plan less the pairs that it no longer has. W-207: "joining, or a leaving that changes the roster
+-- closes it"; a leaving that changes nothing leaves it open.
+abbrev pub withChange : (closes : Bool) → Held → Reading Roster → Held
+withChange closes h (reading.refused n) = h
+withChange closes nothing (accepted r′) = nothing
+withChange closes (roster r) (accepted r′) = roster r′
+withChange closes (planned r M) (accepted r′) = planned r′ (carried (instanceOf r) (instanceOf r′) M)
+withChange true (proposed r M N) (accepted r′) = planned r′ (carried (instanceOf r) (instanceOf r′) M)
+withChange false (proposed r M N) (accepted r′) = proposed r′ (carried (instanceOf r) (instanceOf r′) M) N
+
+-- "a commit makes it the held plan and closes it"
+abbrev pub withCommit : Held → Held
+withCommit nothing = nothing
+withCommit (roster r) = roster r
+withCommit (planned r M) = planned r M
+withCommit (proposed r M N) = planned r N
 
 -- "Finder, verdict, comparison, blocking and writing leave the desk alike", and so does a plan of another season, which goes to the buffer alone
 abbrev pub deskOn : Held → Call → Held
@@ -310,13 +375,15 @@ deskOn h (loadPlan file) = onRoster h h (λ r. withPlan h r (readPlan (instanceO
 deskOn h (writeRosterTo buffer) = h
 deskOn h (writePlanTo buffer) = h
 deskOn h (find d l p v) = h
-deskOn h (join q f d l p v) = onRoster h h (λ r. withChange h (joinOn r q f))
-deskOn h (leave s d l p v) = onRoster h h (λ r. withChange h (leaveOn r s))
+deskOn h (join q f d l p v) = onRoster h h (λ r. withChange true h (joinOn r q f))
+deskOn h (leave s d l p v) = onRoster h h (λ r. withChange (not (gone r s)) h (leaveOn r s))
 deskOn h (judge v) = h
 deskOn h (compare a b) = h
 deskOn h blocking = h
 deskOn h (planToNew f b) = h
 deskOn h (planToOld f b) = h
+deskOn h (propose f) = onPlan h h (λ r M. withProposal h r M (readPlan (instanceOf r) f))
+deskOn h commit = withCommit h
 
 -- so does a refusal by the state
 unfoldable pub deskAfter : Held → Call → Held

@@ -17,6 +17,7 @@ pub mod Compare
 pub mod Text
 pub mod Printed
 pub mod Desk
+pub mod History
 pub mod SeasonCalls
 pub mod Decimal
 pub mod Claims
