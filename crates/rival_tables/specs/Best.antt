@@ -34,10 +34,6 @@ module _ {B : Type 0} (bid : ℕ → ℕ × B) (t : ℕ → Bool) where
   pub best-start : (held : ℕ × B) (m : ℕ) → best bid held (keep t (range 0 (m - 0))) ≡ best bid held (keep t (range 0 m))
   best-start held m = let e : m - 0 ≡ m = omega arith in ap (λ k. best bid held (keep t (range 0 k))) e
 
-pub keep-all : {A : Type 0} (xs : List A) → keep (λ x. true) xs ≡ xs
-keep-all [] = refl
-keep-all (x ∷ xs) = ap (λ ys. x ∷ ys) (keep-all xs)
-
 -- ---- in parts
 module _ {A B : Type 0} (bid : A → ℕ × B) where
   pub best-append : (held : ℕ × B) (xs ys : List A) → best bid held (xs ++ ys) ≡ best bid (best bid held xs) ys

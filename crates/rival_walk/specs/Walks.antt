@@ -10,6 +10,7 @@ use lib.Dec.{ltb}
 use borrow.Author.Tests.{lt-ltb, le-ltb, ltb-true}
 use Rattle.lists.specs.Test.{by-bool}
 use Rattle.lists.specs.Sum.{_∈_, range, ∈-range}
+use Rattle.lists.specs.Keep.{keep-all}
 use Rattle.lists.specs.First.{best}
 use Rattle.model.specs.Instance.{Instance}
 use Rattle.theory_instance.specs.Walk.{Steps}
@@ -17,7 +18,7 @@ use Rattle.theory_verdict.specs.Search.{Lead, stay, via, onLead, kept, olds, te
 use Rattle.theory_verdict.specs.Arcs.{fs, zs}
 use Rattle.arrays.specs.ArrayInstance.{at, flag}
 use Rattle.rival_tables.specs.Filled.{cell, Grid}
-use Rattle.rival_tables.specs.Best.{best-named, keep-all}
+use Rattle.rival_tables.specs.Best.{best-named}
 use Rattle.rival_layers.specs.Layers.{keptPrice, layerAt}
 use Rattle.rival_laws.specs.Walks.{layer-is}
 use Rattle.rival_columns.specs.Leads.{bidAt, leadAt}
@@ -112,7 +113,7 @@ module _ (G : Instance) (M : ℕ → Bool) (es : List ℕ) (n : ℕ) (lists : ol
       (ap keptPrice (layer-is G M es n lists arcs terminals arcsShow terminalsShow k i j il jl))
       (sym (ap (λ (b : Bool). cond b (via (at es n)) stay) (le-ltb n n (omega arith))))
       ∙ ap (λ c. c .1) (best-named bid (bidAt arcs column i) (at es) named (keptPrice (column i), n) (range 0 n) same)
-      ∙ ap (λ xs. named (best (bidAt arcs column i) (keptPrice (column i), n) xs .1)) (sym (keep-all (range 0 n)))
+      ∙ ap (λ xs. named (best (bidAt arcs column i) (keptPrice (column i), n) xs .1)) (sym (keep-all (λ x. true) (range 0 n) (λ x m. tt)))
     where
       column : ℕ → ℕ
       column y = layerAt arcs n k y j

@@ -85,7 +85,7 @@ module _ (p : Entry → Bool) where
 abbrev other : ℕ → Entry → Bool
 other s x = not (eqb s (x .number))
 
-abbrev others : ℕ → Ranking → Ranking
+abbrev pub others : ℕ → Ranking → Ranking
 others s R = record { strict = without s (R .strict); tied = without s (R .tied) }
 
 entries-others : (s : ℕ) (R : Ranking) → entries (others s R) ≡ without s (entries R)
@@ -135,7 +135,7 @@ quotas-set qs i t =
     (and-i (small qs′) (leb (sum (λ x. x) qs′) quotaSumLimit) (set-all (λ q. leb q quotaLimit) qs i 0 tt (and-l (small qs) _ u))
     (le→leb (sum (λ x. x) qs′) quotaSumLimit (omega (arith, s, set-sum qs i))))
 
-one-less : (v : ℕ) → suc v - 1 ≡ v
+pub one-less : (v : ℕ) → suc v - 1 ≡ v
 one-less v = omega arith
 
 -- ---- the whole roster

@@ -22,5 +22,6 @@ pub mod Joiner
 pub mod Joined
 pub mod PlanCells
 pub mod Carried
+pub mod Gone
 pub mod Seasons
 pub mod PlanSeasons
