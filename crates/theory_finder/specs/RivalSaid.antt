@@ -44,6 +44,8 @@ RivalSaid G M (D.votes v w x p) b a = Unit {0}
 RivalSaid G M (D.refusedPart n g p) b a = Unit {0}
 RivalSaid G M (D.blockedBy s t k) b a = Unit {0}
 RivalSaid G M D.unblocked b a = Unit {0}
+RivalSaid G M (D.bothVotes v w) b a = Unit {0}
+RivalSaid G M D.committed b a = Unit {0}
 
 -- the buffer of a call for a verdict
 abbrev bufferIn : Call → List ℕ
@@ -59,6 +61,8 @@ bufferIn (D.compare a b) = a
 bufferIn D.blocking = []
 bufferIn (D.planToNew f b) = b
 bufferIn (D.planToOld f b) = b
+bufferIn (D.propose f) = f
+bufferIn D.commit = []
 
 module _ (r : Roster) (ok : T (fits r)) (M : Plan) (m : M ∈ plansOf (instanceOf r)) (v : List ℕ) where
   abbrev G : Instance

@@ -77,6 +77,8 @@ code (D.votes v w x p) = 9 ∷ voteCode v ++ (voteCode w ++ winnerCode x ∷ par
 code (D.refusedPart n g p) = 10 ∷ n ∷ groupCode g ∷ partCode p
 code (D.blockedBy s t k) = 11 ∷ s ∷ t ∷ k ∷ []
 code D.unblocked = 12 ∷ []
+code (D.bothVotes v w) = 13 ∷ voteCode v ++ voteCode w
+code D.committed = 14 ∷ []
 
 -- ---- a session: each call with its answer, from what is held on
 abbrev Session : Type 0
