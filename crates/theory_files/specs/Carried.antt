@@ -20,13 +20,14 @@ use Rattle.model.specs.Edges.{instanceOf}
 use Rattle.model.specs.Plans.{Plan, on, plansOf}
 use Rattle.model.specs.PlanFile.{planOf, planBytes, edgeOfPair, readPlan}
 use Rattle.model.specs.Changes.{joined, departed, carried, joinOn, leaveOn}
+use Rattle.model.specs.History.{planPairs}
 use Rattle.theory_instance.specs.Degree.{deg-sub, deg-zero}
 use Rattle.theory_instance.specs.Within.{within-matching, matching-within}
 use Rattle.theory_files.specs.Reads.{isBytes}
 use Rattle.theory_files.specs.Chosen.{on-planOf, planOf-length, planOf-on, planOf-cong, plan-length, plan-within, within-plan}
 use Rattle.theory_files.specs.PlanFiles.{found-parts, found, plan-write-read, plan-size}
 use Rattle.theory_files.specs.RosterInstance.{lawful, fileable}
-use Rattle.theory_files.specs.PlanCells.{pairsIn, same-bytes, same-degrees, Test, cells, cells-cong, cells-more, pairs-cells}
+use Rattle.theory_files.specs.PlanCells.{same-bytes, same-degrees, Test, cells, cells-cong, cells-more, pairs-cells}
 use Rattle.theory_files.specs.Joined.{joined-counts, listed-before, fits-joined, join-parts}
 use Rattle.theory_files.specs.Departed.{departed-counts, departed-quota, listed-others, listed-leaver, fits-departed, leave-parts}
 
@@ -70,10 +71,10 @@ module _ (r : Roster) (ok : T (fits r)) (M : Plan) where
   abbrev kept : Roster → Test
   kept h i j k = listed h i j k && had i j k
 
-  old-pairs : pairsIn G M ≡ cells (kept r) (surveyorCount r) (standCount r)
+  old-pairs : planPairs G M ≡ cells (kept r) (surveyorCount r) (standCount r)
   old-pairs = pairs-cells r had M (λ e l. sym (on-had e l))
 
-  new-pairs : (h : Roster) → pairsIn (instanceOf h) (carried G (instanceOf h) M) ≡ cells (kept h) (surveyorCount h) (standCount h)
+  new-pairs : (h : Roster) → planPairs (instanceOf h) (carried G (instanceOf h) M) ≡ cells (kept h) (surveyorCount h) (standCount h)
   unfolding carried
   new-pairs h = pairs-cells h had (carried G (instanceOf h) M) (λ e l. on-planOf (instanceOf h .m) (hadAt (instanceOf h)) e l)
 
@@ -88,7 +89,7 @@ module _ (r : Roster) (ok : T (fits r)) (M : Plan) where
     abbrev J : Roster
     J = joined r q list
 
-    carried-joined : pairsIn (instanceOf J) (carried G (instanceOf J) M) ≡ pairsIn G M
+    carried-joined : planPairs (instanceOf J) (carried G (instanceOf J) M) ≡ planPairs G M
     carried-joined =
         let ns = surveyorCount r in
         given (joined-counts r q list ok) (λ (cs, ct).
@@ -140,7 +141,7 @@ module _ (r : Roster) (ok : T (fits r)) (M : Plan) where
         (λ n t. ap (λ b. b && had i j k) (listed-others r v i j k n)
         ∙ sym (ap (λ b. listed r i j k && (had i j k && not b)) t ∙ ap (λ b. listed r i j k && b) (and-true (had i j k))))
 
-    carried-departed : pairsIn (instanceOf D) (carried G (instanceOf D) M) ≡ pairsIn G rest
+    carried-departed : planPairs (instanceOf D) (carried G (instanceOf D) M) ≡ planPairs G rest
     carried-departed =
         given (departed-counts r v) (λ (cs, ct).
         new-pairs D ∙ ap₂ (cells (kept D)) cs ct

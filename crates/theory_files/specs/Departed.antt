@@ -11,7 +11,7 @@ use lib.Seq.{getD-set-same, getD-set-other, set-set}
 use lib.Dec.{T, eqb, leb, ltb, leb→le, le→leb, nltb→le}
 use Rattle.lists.specs.Test.{given, and-l, and-r, and-i, nor-l, nor-r, eqb-no, T-false, by-eq}
 use Rattle.lists.specs.Sum.{_∈_, sum}
-use Rattle.lists.specs.Keep.{all?, keep, ∈-keep, all-∈, ∈-all}
+use Rattle.lists.specs.Keep.{all?, keep, keep-cong, keep-keep, ∈-keep, all-∈, ∈-all}
 use Rattle.lists.specs.Ranges.{keep-append}
 use Rattle.model.specs.Limits.{nodeLimit, quotaLimit, quotaSumLimit, listLimit}
 use Rattle.model.specs.Reading.{accepted, refused}
@@ -33,12 +33,11 @@ keep-short p (x ∷ xs) = go (p x) (keep-short p xs)
     go false h = omega arith
 
 keep-twice : {A : Type 0} (p : A → Bool) (xs : List A) → keep p (keep p xs) ≡ keep p xs
-keep-twice p [] = refl
-keep-twice p (x ∷ xs) = go (p x) refl (keep-twice p xs)
+keep-twice p xs = keep-keep p p xs ∙ keep-cong (λ x. p x && p x) p xs (λ x m. both (p x))
   where
-    go : (b : Bool) → p x ≡ b → keep p (keep p xs) ≡ keep p xs → keep p (cond b (x ∷ keep p xs) (keep p xs)) ≡ cond b (x ∷ keep p xs) (keep p xs)
-    go true q e = ap (λ b. cond b (x ∷ keep p (keep p xs)) (keep p (keep p xs))) q ∙ ap (λ z. x ∷ z) e
-    go false q e = e
+    both : (b : Bool) → b && b ≡ b
+    both true = refl
+    both false = refl
 
 -- what is behind an entry is behind every one before that
 ascending-lower : (a b : Entry) (xs : List Entry) → T (before a b) → T (ascending b xs) → T (ascending a xs)

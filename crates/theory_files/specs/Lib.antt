@@ -23,5 +23,6 @@ pub mod Joined
 pub mod PlanCells
 pub mod Carried
 pub mod Gone
+pub mod HeldPairs
 pub mod Seasons
 pub mod PlanSeasons

@@ -16,20 +16,17 @@ use Rattle.model.specs.Roster.{Roster, surveyorCount, standCount, listed, shift
 use Rattle.model.specs.Edges.{Edge, pairEdge, edgesOf, noEdge, edgeAt, instanceOf}
 use Rattle.model.specs.Plans.{Plan, on}
 use Rattle.model.specs.PlanFile.{Named, nameOf, shiftedPair, edgesIn, planBytesBy, planBytes}
+use Rattle.model.specs.History.{planPairs}
 use Rattle.theory_files.specs.Layouts.{in-shiftedPair}
 use Rattle.theory_files.specs.Chosen.{deg-atNode}
 use Rattle.theory_files.specs.PlanFiles.{bytes-are}
 
--- the pairs of a plan
-abbrev pub pairsIn : Instance → Plan → List Named
-pairsIn G M = map (nameOf G) (edgesIn (G .m) (on M))
-
 -- ---- plans of two instances with the same pairs
-plan-bytes : (G : Instance) (M : Plan) → planBytes G M ≡ length (pairsIn G M) ∷ gather (shiftedPair .bytes) (pairsIn G M)
+plan-bytes : (G : Instance) (M : Plan) → planBytes G M ≡ length (planPairs G M) ∷ gather (shiftedPair .bytes) (planPairs G M)
 unfolding planBytesBy
 plan-bytes G M = let es = edgesIn (G .m) (on M) in ap₂ (λ n zs. n ∷ zs) (sym (length-map es (nameOf G))) (bytes-are G shiftedPair in-shiftedPair es)
 
-pub same-bytes : (G H : Instance) (M N : Plan) → pairsIn G M ≡ pairsIn H N → planBytes G M ≡ planBytes H N
+pub same-bytes : (G H : Instance) (M N : Plan) → planPairs G M ≡ planPairs H N → planBytes G M ≡ planBytes H N
 same-bytes G H M N e = plan-bytes G M ∙ ap (λ ps. length ps ∷ gather (shiftedPair .bytes) ps) e ∙ sym (plan-bytes H N)
 
 -- at a node are as many pairs as have its number in this place
@@ -42,7 +39,7 @@ degree G M v K number is =
     (λ d m. ap bit (sym (eqb·suc-suc (K .end d) v) ∙ ap (λ n. eqb n (suc v)) (is d)))
     ∙ sym (sum-map (λ p. bit (eqb (number p) (suc v))) (nameOf G) es)
 
-pub same-degrees : (G H : Instance) (M N : Plan) → pairsIn G M ≡ pairsIn H N → (v : ℕ)
+pub same-degrees : (G H : Instance) (M N : Plan) → planPairs G M ≡ planPairs H N → (v : ℕ)
     → (deg (surveyors G) (on M) v ≡ deg (surveyors H) (on N) v) × (deg (stands G) (on M) v ≡ deg (stands H) (on N) v)
 same-degrees G H M N e v = (
   degree G M v (surveyors G) (λ p. p .surveyor) (λ d. refl) ∙ ap (sum (λ p. bit (eqb (p .surveyor) (suc v)))) e
@@ -152,7 +149,7 @@ module _ (r : Roster) (p : Test) where
       ∙ gather-cong (λ a. map name (keep chosen (f a))) g xs (λ a m. h a)
 
   pub pairs-cells : (M : Plan) → ((e : ℕ) → e < instanceOf r .m → on M e ≡ p (instanceOf r .sv e) (instanceOf r .st e) (instanceOf r .sh e))
-      → pairsIn (instanceOf r) M ≡ cells both (surveyorCount r) (standCount r)
+      → planPairs (instanceOf r) M ≡ cells both (surveyorCount r) (standCount r)
   unfolding instanceOf edgesOf
   pairs-cells M h =
       let es = edgesOf r in

@@ -1,7 +1,7 @@
 -- A desk that calls have made from a new one holds a roster within the limits, and a plan and a proposal within its quotas.
 use Prim.Native.Nat.{ℕ}
 use mathlib.Core.Path.{_≡_, refl, sym, subst}
-use mathlib.Core.Bool.{Bool, true, false, not, _&&_}
+use mathlib.Core.Bool.{Bool, true, false, not, _&&_, Bool·not-not}
 use mathlib.Core.List.{List}
 use lib.ListN.{length}
 use lib.Dec.{T, eqb, eqb→eq, ltb}
@@ -170,12 +170,8 @@ leave-changed : (s : ℕ) (r : Roster) → T (fits r) → Changed r (not (gone r
 leave-changed s r f = record {
   fitting = λ h e. leave-storable r s h e f .0;
   carries = λ h e M m. leave-plan r f M m h s e .1 .0;
-  keeps = λ h e n. gone-roster r h s f (twice (gone r s) n) e;
+  keeps = λ h e n. gone-roster r h s f (subst T (Bool·not-not (gone r s)) n) e;
 }
-  where
-    twice : (b : Bool) → T (not (not b)) → T b
-    twice true n = tt
-    twice false n = absurd n
 
 commit-sound : (h : Held) → T (sound h) → T (sound (withCommit h))
 commit-sound nothing s = s
