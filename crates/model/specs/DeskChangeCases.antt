@@ -24,10 +24,10 @@ use Rattle.model.specs.Desk as D
 use Rattle.model.specs.Desk.{Choices, nothing, roster, planned, Call, stateRefusal, answerOf, deskAfter, refused}
 use Rattle.model.specs.DeskCases.{whole, diary, early, entry, sample, twice, one, two, Each, Change, Said, Answered}
 
-abbrev join : ℕ → List ℕ → Call
+abbrev pub join : ℕ → List ℕ → Call
 join q file = D.join q file (diary 1024) (whole 3072) (whole 193) (whole 193)
 
-abbrev leave : ℕ → Call
+abbrev pub leave : ℕ → Call
 leave s = D.leave s (diary 1024) (whole 3072) (whole 193) (whole 193)
 
 -- a third surveyor, in the stand's tie; without the first surveyor's pair

@@ -29,5 +29,6 @@ pub mod ChangeCases
 pub mod DeskCases
 pub mod CompareCases
 pub mod DeskChangeCases
+pub mod ProposalCases
 pub mod SeasonCases
 pub mod GroupCases

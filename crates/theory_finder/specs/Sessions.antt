@@ -1,9 +1,9 @@
 -- Sessions at the desk, run by the checker: calls one after another from a desk that holds nothing, each with the answer that it must give. A session is
 -- one Boolean test, and all of them are one theorem, for the rival that the calls name (`Choices.chosen`). What single calls answer whichever rival is
 -- chosen, and what is held and written, is in model/DeskCases.
-use Prim.Native.Nat.{ℕ, zero, suc}
+use Prim.Native.Nat.{ℕ, suc}
 use mathlib.Core.Path.{_≡_, refl}
-use mathlib.Core.Bool.{Bool, true, false, _&&_}
+use mathlib.Core.Bool.{Bool, true, _&&_}
 use mathlib.Core.Option.{Option·elim, orElse}
 use mathlib.Core.List.{List, [], _∷_, _++_}
 use lib.ListN.{length, replicate}
@@ -113,12 +113,15 @@ nothingOf f = record { file = f; from = 0; bytes = [] }
 abbrev pairsOf : File → List ℕ → Part
 pairsOf f bs = record { file = f; from = 1; bytes = bs }
 
--- document 01's sample, its two plans of one pair; P4; five surveyors with a stand each
+-- document 01's sample, its two plans of one pair; P4; P5, the same with stand quota 2; five surveyors with a stand each
 abbrev sample : List ℕ
 sample = bytes "2 1 1 1 1 2 0 1 1 1 1 1 1 2 0 2 0 1 1 2 1"
 
 abbrev tied : List ℕ
 tied = bytes "2 1 1 1 1 2 0 1 1 1 1 1 1 2 0 0 2 1 1 2 1"
+
+abbrev shared : List ℕ
+shared = bytes "2 1 1 1 2 2 0 1 1 1 1 1 1 2 0 0 2 1 1 2 1"
 
 abbrev five : List ℕ
 five = bytes "5 1 1 1 1 1 5 1 1 1 1 1 5 0 1 1 1 1 2 1 1 3 1 1 4 1 1 5 1 5 0 1 0 1 1 1 0 2 1 1 0 3 1 1 0 4 1 1 0 5 1"
@@ -164,12 +167,22 @@ digits =
 -- in the field: the plan loses the leaver's pairs, a second leaving changes nothing, refused changes leave the desk
 abbrev field : Session
 field =
-    (D.loadRoster sample, D.loaded) ∷ (D.loadPlan (bytes "1 1 1 1"), D.loaded) ∷ (join 9 [], D.refused 3 content) ∷ (join 1 (bytes "1 1 4"), D.refused 18 content)
-    ∷ (leave 3, D.refused 16 content) ∷ (judge, D.strong) ∷ (leave 1, D.plan 1) ∷ (judge, D.beaten (negsuc 1)) ∷ (leave 1, D.plan 1)
-    ∷ (D.writePlanTo (room planSize), D.wrote 1) ∷ (join 1 (bytes "1 1 3"), D.plan 2) ∷ (D.loadPlan (bytes "1 3 1 3"), D.loaded)
+    (D.loadRoster sample, D.loaded) ∷ (D.loadPlan (bytes "1 1 1 1"), D.loaded) ∷ (join 9 [], D.refused 3 content)
+    ∷ (join 1 (bytes "1 1 4"), D.refused 18 content) ∷ (leave 3, D.refused 16 content) ∷ (judge, D.strong) ∷ (leave 1, D.plan 1)
+    ∷ (judge, D.beaten (negsuc 1)) ∷ (leave 1, D.plan 1) ∷ (D.writePlanTo (room planSize), D.wrote 1) ∷ (join 1 (bytes "1 1 3"), D.plan 2) ∷ (D.loadPlan (bytes "1 3 1 3"), D.loaded)
     ∷ (D.blocking, D.blockedBy 2 1 1) ∷ []
 
-pub sessions : all? (holds opening) (states ∷ morning ∷ digits ∷ field ∷ []) ≡ true
+-- a plan proposed and committed: refused calls and a second leaving leave the proposal open, and what is written is the plan that is held
+abbrev proposals : Session
+proposals =
+    (D.commit, D.refused 13 desk) ∷ (D.propose [], D.refused 13 desk) ∷ (D.loadRoster shared, D.loaded) ∷ (D.commit, D.refused 14 desk)
+    ∷ (D.propose (bytes "1 1 1 1"), D.refused 14 desk) ∷ (D.loadPlan (bytes "1 1 1 1"), D.loaded) ∷ (D.commit, D.refused 20 desk)
+    ∷ (D.propose (bytes "2 1 1 1 2 1 1"), D.bothVotes (pos 2) (negsuc 1)) ∷ (D.propose (bytes "9"), D.refused 1 form)
+    ∷ (D.writePlanTo (room planSize), D.wrote 4) ∷ (D.commit, D.committed) ∷ (D.writePlanTo (room planSize), D.wrote 7) ∷ (D.commit, D.refused 20 desk)
+    ∷ (leave 2, D.plan 1) ∷ (D.propose (bytes "0"), D.bothVotes (negsuc 1) (pos 2)) ∷ (leave 2, D.plan 1) ∷ (join 9 [], D.refused 3 content)
+    ∷ (D.writePlanTo (room planSize), D.wrote 4) ∷ (D.commit, D.committed) ∷ (D.writePlanTo (room planSize), D.wrote 1) ∷ []
+
+pub sessions : all? (holds opening) (states ∷ morning ∷ digits ∷ field ∷ proposals ∷ []) ≡ true
 unfolding numbersFrom count low groupOf listed listedBack bothOrNeither readEach readRosterBy writeRosterBy position edgesOf instanceOf deg nodeVote
     vote choices within plansOf samePlan beatenBy drawnWith verdictOf R.cut R.ahead R.arrow R.loose R.reserved R.betterS R.betterT R.worseReserved
     R.rule1 R.rule2 R.rule3 R.rule4 R.rule5 R.rule6 R.rule7 first Option·elim orElse R.rules R.stepBy R.firstStep R.act R.begin R.stepsFrom R.stateAfter
