@@ -169,8 +169,8 @@ abbrev field : Session
 field =
     (D.loadRoster sample, D.loaded) ∷ (D.loadPlan (bytes "1 1 1 1"), D.loaded) ∷ (join 9 [], D.refused 3 content)
     ∷ (join 1 (bytes "1 1 4"), D.refused 18 content) ∷ (leave 3, D.refused 16 content) ∷ (judge, D.strong) ∷ (leave 1, D.plan 1)
-    ∷ (judge, D.beaten (negsuc 1)) ∷ (leave 1, D.plan 1) ∷ (D.writePlanTo (room planSize), D.wrote 1) ∷ (join 1 (bytes "1 1 3"), D.plan 2) ∷ (D.loadPlan (bytes "1 3 1 3"), D.loaded)
-    ∷ (D.blocking, D.blockedBy 2 1 1) ∷ []
+    ∷ (judge, D.beaten (negsuc 1)) ∷ (leave 1, D.plan 1) ∷ (D.writePlanTo (room planSize), D.wrote 1) ∷ (join 1 (bytes "1 1 3"), D.plan 2)
+    ∷ (D.loadPlan (bytes "1 3 1 3"), D.loaded) ∷ (D.blocking, D.blockedBy 2 1 1) ∷ []
 
 -- a plan proposed and committed: refused calls and a second leaving leave the proposal open, and what is written is the plan that is held
 abbrev proposals : Session
