@@ -4,7 +4,7 @@
 use std::ops::Range;
 
 use crate::limits::NARROW_FIELD;
-use crate::plan;
+use crate::plan::{self, Plan};
 use crate::refusal::Refusal;
 use crate::roster::Roster;
 use crate::votes::plan_vote;
@@ -58,6 +58,14 @@ pub enum Winner {
 }
 
 impl Votes {
+    /// The votes of two plans of a roster.
+    pub fn of(roster: &Roster, first: &Plan, second: &Plan) -> Votes {
+        Votes {
+            first_against_second: plan_vote(roster, first, second),
+            second_against_first: plan_vote(roster, second, first),
+        }
+    }
+
     /// A plan beats another when the other's vote against it is below zero, so
     /// that each may beat the other.
     pub fn winner(self) -> Winner {
@@ -94,8 +102,5 @@ pub fn compare(roster: &Roster, first: &[u8], second: &[u8]) -> Comparison {
 fn votes(roster: &Roster, first: &[u8], second: &[u8]) -> Result<Votes, Refusal> {
     let first = plan::read(roster, first)?;
     let second = plan::read(roster, second)?;
-    Ok(Votes {
-        first_against_second: plan_vote(roster, &first, &second),
-        second_against_first: plan_vote(roster, &second, &first),
-    })
+    Ok(Votes::of(roster, &first, &second))
 }

@@ -1,11 +1,11 @@
-//! The desk: nothing loaded, a roster, or a roster and a plan. Every call takes
-//! the desk by value and hands it back with its answer. The verdict is the fast
-//! reading's, so that every roster is answered at once; the tests hold it
-//! against the votes of all plans.
+//! The desk: nothing loaded, a roster, or a roster and a plan, with a proposal
+//! beside it or without. Every call takes the desk by value and hands it back
+//! with its answer. The verdict is the fast reading's, so that every roster is
+//! answered at once; the tests hold it against the votes of all plans.
 
 use crate::blocking::first_blocking_pair;
 use crate::changes;
-use crate::compare::{compare, Comparison, Part};
+use crate::compare::{compare, Comparison, Part, Votes};
 use crate::finder::{find_large, verdict_large, Answer, Why};
 use crate::lent::{enough, put};
 use crate::limits::{MAX_ENTRIES, MAX_PLAN_BYTES, MAX_ROSTER_BYTES, PAIR_FIELD};
@@ -27,6 +27,11 @@ pub enum Desk {
     Nothing,
     Roster(Roster),
     RosterAndPlan(Roster, Plan),
+    WithProposal {
+        roster: Roster,
+        held: Plan,
+        proposal: Plan,
+    },
 }
 
 /// A record of the diary. Fate 1 is fix, 2 is strike.
@@ -85,7 +90,9 @@ impl Desk {
     pub fn roster(&self) -> Result<&Roster, Refusal> {
         match self {
             Desk::Nothing => Err(Refusal::NoRosterLoaded),
-            Desk::Roster(roster) | Desk::RosterAndPlan(roster, _) => Ok(roster),
+            Desk::Roster(roster)
+            | Desk::RosterAndPlan(roster, _)
+            | Desk::WithProposal { roster, .. } => Ok(roster),
         }
     }
 
@@ -94,12 +101,23 @@ impl Desk {
         match self {
             Desk::Nothing => Err(Refusal::NoRosterLoaded),
             Desk::Roster(_) => Err(Refusal::NoPlanHeld),
-            Desk::RosterAndPlan(roster, plan) => Ok((roster, plan)),
+            Desk::RosterAndPlan(roster, held) | Desk::WithProposal { roster, held, .. } => {
+                Ok((roster, held))
+            }
         }
     }
 
-    /// Loads a roster, which drops the plan. A refused one leaves the desk
-    /// alike.
+    /// The open proposal.
+    pub fn proposal(&self) -> Result<&Plan, Refusal> {
+        self.roster_and_plan()?;
+        match self {
+            Desk::WithProposal { proposal, .. } => Ok(proposal),
+            _ => Err(Refusal::NoProposalOpen),
+        }
+    }
+
+    /// Loads a roster, which drops the plan and closes a proposal. A refused one
+    /// leaves the desk alike.
     pub fn load_roster(self, file: &[u8]) -> (Desk, Result<(), Refusal>) {
         match roster::read(file) {
             Ok(roster) => (Desk::Roster(roster), Ok(())),
@@ -107,14 +125,55 @@ impl Desk {
         }
     }
 
-    /// Loads a plan of the held roster in the place of a held one.
+    /// Loads a plan of the held roster in the place of a held one, and closes a
+    /// proposal.
     pub fn load_plan(self, file: &[u8]) -> (Desk, Result<(), Refusal>) {
         let read = self.roster().and_then(|roster| plan::read(roster, file));
         match (read, self) {
-            (Ok(plan), Desk::Roster(roster) | Desk::RosterAndPlan(roster, _)) => {
-                (Desk::RosterAndPlan(roster, plan), Ok(()))
-            }
+            (
+                Ok(plan),
+                Desk::Roster(roster)
+                | Desk::RosterAndPlan(roster, _)
+                | Desk::WithProposal { roster, .. },
+            ) => (Desk::RosterAndPlan(roster, plan), Ok(())),
             (read, desk) => (desk, read.map(|_| ())),
+        }
+    }
+
+    /// Proposes a plan of the held roster beside the held plan, in the place of
+    /// an open proposal. Answers the votes of the two, the proposal first.
+    pub fn propose(self, file: &[u8]) -> (Desk, Result<Votes, Refusal>) {
+        let read = self.roster_and_plan().and_then(|(roster, held)| {
+            let proposal = plan::read(roster, file)?;
+            let votes = Votes::of(roster, &proposal, held);
+            Ok((proposal, votes))
+        });
+        match (read, self) {
+            (
+                Ok((proposal, votes)),
+                Desk::RosterAndPlan(roster, held) | Desk::WithProposal { roster, held, .. },
+            ) => {
+                let desk = Desk::WithProposal {
+                    roster,
+                    held,
+                    proposal,
+                };
+                (desk, Ok(votes))
+            }
+            (read, desk) => (desk, read.map(|(_, votes)| votes)),
+        }
+    }
+
+    /// Makes the open proposal the held plan, which closes it.
+    pub fn commit(self) -> (Desk, Result<(), Refusal>) {
+        match self {
+            Desk::WithProposal {
+                roster, proposal, ..
+            } => (Desk::RosterAndPlan(roster, proposal), Ok(())),
+            desk => {
+                let refused = desk.proposal().map(|_| ());
+                (desk, refused)
+            }
         }
     }
 
@@ -192,10 +251,17 @@ impl Desk {
     }
 
     /// The desk with the changed roster in the place of the held one, and what
-    /// is then left of the held plan.
+    /// is then left of the held plan. A proposal is closed, unless nothing has
+    /// changed: a surveyor who had left has left again.
     pub fn with_roster(self, after: Roster) -> Desk {
         match self {
-            Desk::RosterAndPlan(before, held) => {
+            Desk::WithProposal { ref roster, .. } if *roster == after => self,
+            Desk::RosterAndPlan(before, held)
+            | Desk::WithProposal {
+                roster: before,
+                held,
+                ..
+            } => {
                 let held = changes::carried(&before, &after, &held);
                 Desk::RosterAndPlan(after, held)
             }

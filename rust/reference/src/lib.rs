@@ -13,6 +13,7 @@ pub mod desk;
 pub mod every;
 pub mod fast;
 pub mod finder;
+pub mod history;
 pub mod layout;
 mod lent;
 pub mod limits;

@@ -26,6 +26,7 @@ pub enum Refusal {
     NoPlaceForJoiner = 17,
     ShiftOutOfRange = 18,
     AnotherShift = 19,
+    NoProposalOpen = 20,
 }
 
 /// The four groups of refusals.
@@ -49,12 +50,12 @@ impl Refusal {
     }
 }
 
-/// The group of a number; 16 to 19 and numbers not in use are content.
+/// The group of a number; numbers not in use are content.
 pub fn group_of(number: u8) -> Group {
     match number {
         1 | 2 | 9 => Group::Form,
         10..=12 => Group::Plan,
-        13..=15 => Group::Desk,
+        13..=15 | 20 => Group::Desk,
         _ => Group::Content,
     }
 }
@@ -87,6 +88,7 @@ impl fmt::Display for Refusal {
             Refusal::AnotherShift => {
                 "the file has a shift other than 1, which an old file cannot hold"
             }
+            Refusal::NoProposalOpen => "no proposal is open",
         })
     }
 }

@@ -16,7 +16,7 @@ pub type Pairs = &'static [(u8, u8, u8)];
 
 /// How many numbers an answer can be counted under: 0 for accepted, and every
 /// refusal's.
-pub const NUMBERS: usize = 20;
+pub const NUMBERS: usize = 21;
 
 /// P1: no surveyors, no stands.
 pub const P1: Bytes = &[0, 0, 0, 0, 0, 0];
