@@ -18,10 +18,11 @@ pub enum Event {
     Leave(u8),
 }
 
-/// The pairs of a plan file.
+/// The pairs of a plan file: what is behind its count, in threes.
 pub fn pairs(file: &[u8]) -> Vec<Numbers> {
-    let pairs = file[NARROW_FIELD..].chunks_exact(PAIR_FIELD);
+    let pairs = file.get(NARROW_FIELD..).unwrap_or_default();
     pairs
+        .chunks_exact(PAIR_FIELD)
         .map(|pair| pair.try_into().expect("three numbers"))
         .collect()
 }

@@ -1,6 +1,6 @@
 //! Random sequences of calls on the desk: after each call the held plan is what
-//! the calls and their answers tell, and a proposal is open as the calls before
-//! it say.
+//! the calls and their answers tell, and a proposal is open if the request says
+//! so.
 
 mod common;
 mod lent;
@@ -19,6 +19,8 @@ use reference::roster::{self, narrow, Roster, Side};
 
 const SEQUENCES: usize = 40_000;
 const CALLS: usize = 30;
+/// After so many calls, which most often find nothing loaded, a roster is.
+const UNLOADED: usize = 2;
 
 /// What a call did to a proposal: none was open before or after, one was opened,
 /// replaced, left open, closed.
@@ -200,12 +202,12 @@ fn call(random: &mut Random, tally: &mut Tally, session: &mut Session, rosters: 
         }
         1..=4 => {
             let file = plan_file(random, &session.desk);
-            let event = Some(Event::LoadPlan(pairs_in(&file)));
+            let event = Some(Event::LoadPlan(pairs(&file)));
             session.call(tally, "load plan", |desk| desk.load_plan(&file), event);
         }
         5..=11 => {
             let file = plan_file(random, &session.desk);
-            let event = Some(Event::Propose(pairs_in(&file)));
+            let event = Some(Event::Propose(pairs(&file)));
             session.call(tally, "propose", |desk| propose(desk, &file), event);
         }
         12..=16 => session.call(tally, "commit", Desk::commit, Some(Event::Commit)),
@@ -292,16 +294,7 @@ fn propose(desk: Desk, file: &[u8]) -> (Desk, Result<(), Refusal>) {
     done((desk, votes))
 }
 
-/// The pairs of a file, which may have none.
-fn pairs_in(file: &[u8]) -> Vec<[u8; 3]> {
-    if file.is_empty() {
-        Vec::new()
-    } else {
-        pairs(file)
-    }
-}
-
-/// Two rosters and a damaged one. Few have quotas of 0.
+/// Two rosters of one shape and a damaged one.
 fn rosters(random: &mut Random) -> Vec<Vec<u8>> {
     let shape = small_shape(random);
     let rosters: [Roster; 2] = [(); 2].map(|()| random::roster(random, &shape));
@@ -361,8 +354,7 @@ fn the_held_plan_is_what_is_told() {
             left_again: false,
         };
         for place in 0..CALLS {
-            if place == 2 {
-                // few calls more with nothing loaded
+            if place == UNLOADED {
                 let event = Some(Event::LoadRoster);
                 let load = |desk: Desk| desk.load_roster(&rosters[0]);
                 session.call(&mut tally, "load roster", load, event);

@@ -204,9 +204,10 @@ fn written(desk: Desk) -> Vec<u8> {
     out[..length.expect("held")].to_vec()
 }
 
-/// What events tell, in their order.
+/// What a roster and then these events tell.
 fn told(events: &[Event]) -> Option<Vec<Numbers>> {
     let mut history = History::default();
+    history.tell::<(), ()>(&Ok(()), || Event::LoadRoster);
     for event in events {
         history.tell::<(), ()>(&Ok(()), || event.clone());
     }
@@ -215,52 +216,25 @@ fn told(events: &[Event]) -> Option<Vec<Numbers>> {
 
 #[test]
 fn what_a_history_tells() {
-    let [none, one, two] = [NONE, ONE, TWO].map(pairs);
-    let roster = Event::LoadRoster;
-    let load = || Event::LoadPlan(two.clone());
-    let propose = || Event::Propose(two.clone());
-    let leave = Event::Leave;
-    let cases: [(&[Event], Option<&[Numbers]>); 12] = [
-        (&[], None),
-        (&[roster.clone()], None),
-        (&[roster.clone(), load()], Some(&two)),
-        (&[roster.clone(), load(), roster.clone()], None),
-        (&[roster.clone(), load(), leave(2)], Some(&one)),
-        (&[roster.clone(), load(), leave(2), leave(1)], Some(&none)),
-        (&[roster.clone(), leave(2), load()], Some(&two)),
-        (&[roster.clone(), leave(1)], None),
-        (
-            &[roster.clone(), Event::LoadPlan(none.clone()), propose()],
-            Some(&none),
-        ),
-        (
-            &[
-                roster.clone(),
-                load(),
-                Event::Propose(none.clone()),
-                propose(),
-                Event::Commit,
-            ],
-            Some(&two),
-        ),
-        (
-            &[roster.clone(), load(), propose(), Event::Commit, leave(2)],
-            Some(&one),
-        ),
-        (
-            &[
-                roster,
-                load(),
-                propose(),
-                Event::Commit,
-                Event::LoadPlan(none.clone()),
-            ],
-            Some(&none),
-        ),
-    ];
-    for (events, plan) in cases {
-        assert_eq!(told(events).as_deref(), plan, "{events:?}");
-    }
+    let [none, one, two] = [NONE, ONE, TWO].map(|file| Some(pairs(file)));
+    let load = |file| Event::LoadPlan(pairs(file));
+    let propose = |file| Event::Propose(pairs(file));
+    let (commit, leave) = (|| Event::Commit, Event::Leave);
+    assert_eq!(History::default().plan(), None);
+    assert_eq!(told(&[]), None);
+    assert_eq!(told(&[load(TWO)]), two);
+    assert_eq!(told(&[load(TWO), Event::LoadRoster]), None);
+    assert_eq!(told(&[load(TWO), leave(2)]), one);
+    assert_eq!(told(&[load(TWO), leave(2), leave(1)]), none);
+    assert_eq!(told(&[leave(2), load(TWO)]), two);
+    assert_eq!(told(&[leave(1)]), None);
+    assert_eq!(told(&[load(ONE), propose(TWO)]), one);
+    assert_eq!(told(&[load(ONE), propose(TWO), leave(1)]), none);
+    assert_eq!(told(&[load(ONE), propose(TWO), commit()]), two);
+    assert_eq!(told(&[load(ONE), propose(TWO), commit(), leave(2)]), one);
+    assert_eq!(told(&[load(ONE), propose(TWO), commit(), load(NONE)]), none);
+    let twice = [load(TWO), propose(NONE), propose(ONE), commit()];
+    assert_eq!(told(&twice), one);
 }
 
 #[test]
