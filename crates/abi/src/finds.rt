@@ -45,7 +45,7 @@ pub extern "C" fn crew_find(
     plan: &mut [u8],
     rival: &mut [u8],
 ) -> DeskFound
-    ensures { λ r. ⌜ Numbered (λ x. Finds desk (now (diary .entry)) (now (left .entry)) (now (plan .entry)) (now (rival .entry)) x (now (diary .exit))
+    ensures { λ r. ⌜ Numbered (λ x. Finds (desk .files) (now (diary .entry)) (now (left .entry)) (now (plan .entry)) (now (rival .entry)) x (now (diary .exit))
         (now (left .exit)) (now (plan .exit)) (now (rival .exit))) r ⌝ }
 {
     let r = desk.find(diary, left, plan, rival);
@@ -63,7 +63,7 @@ pub extern "C" fn crew_join(
     plan: &mut [u8],
     rival: &mut [u8],
 ) -> DeskFound
-    ensures { λ r. ⌜ Numbered (λ x. Changes desk (join quota (now (list .entry))) (now (diary .entry)) (now (left .entry)) (now (plan .entry))
+    ensures { λ r. ⌜ Numbered (λ x. Changes (desk .files) (join quota (now (list .entry))) (now (diary .entry)) (now (left .entry)) (now (plan .entry))
         (now (rival .entry)) x (now (diary .exit)) (now (left .exit)) (now (plan .exit)) (now (rival .exit))) r ⌝ }
 {
     let r = desk.join(quota, list, diary, left, plan, rival);
@@ -80,7 +80,7 @@ pub extern "C" fn crew_leave(
     plan: &mut [u8],
     rival: &mut [u8],
 ) -> DeskFound
-    ensures { λ r. ⌜ Numbered (λ x. Changes desk (leave number) (now (diary .entry)) (now (left .entry)) (now (plan .entry)) (now (rival .entry)) x
+    ensures { λ r. ⌜ Numbered (λ x. Changes (desk .files) (leave number) (now (diary .entry)) (now (left .entry)) (now (plan .entry)) (now (rival .entry)) x
         (now (diary .exit)) (now (left .exit)) (now (plan .exit)) (now (rival .exit))) r ⌝ }
 {
     let r = desk.leave(number, diary, left, plan, rival);

@@ -41,34 +41,35 @@ use Rattle.answers.specs.FinderCases.{foundShown}
 use Rattle.answers.specs.GroupCases.{shown-case}
 use Rattle.finder.specs.Promise.{Promise, written-is}
 use Rattle.desk_loaded.specs.Held.{heldPlan, held, stateNumber, unneeded}
-use Rattle.desk.specs.declared.Desk.{Desk}
+use Rattle.desk_files.specs.declared.Files.{Files}
 use Rattle.desk.specs.declared.FindReply.{FindReply}
 use Rattle.desk.specs.declared.CoreReply.{CoreReply}
-use Rattle.desk.specs.declared.changing.Change.{Change}
-use Rattle.desk.specs.Held.{rosterBytes, planBytes, heldOf}
-use Rattle.desk.specs.Replies.{answered, lentThen, isAccepted, rosterFile, planFile, ChangeIn, Stored, Replied}
-use Rattle.desk.specs.State.{states, by-state, pass-answer, pass-lent, pass-desk, of-roster, roster-held, passed, passes}
+use Rattle.desk_changes.specs.declared.Change.{Change}
+use Rattle.desk_files.specs.Held.{rosterBytes, planBytes, heldOf}
+use Rattle.desk_files.specs.Replies.{answered, lentThen, isAccepted, rosterFile, planFile, ChangeIn, Stored, Replied}
+use Rattle.desk_files.specs.State.{states, by-state, pass-answer, pass-lent, pass-desk, of-roster, roster-held, passed, passes}
 use Rattle.desk_find.specs.Outcomes.{short, Kept}
 use Rattle.desk.specs.Finding.{outcomeIn, Done, Finds, within, short-is, found}
-use Rattle.desk.specs.Changing.{ToRoster, Unchanged, LessOf, StoredAs, ChangedFor, ChangeFor, FoundOn, ChangeDone, JoinDone}
+use Rattle.desk_changes.specs.Changing.{ToRoster, Unchanged, LessOf, StoredAs, ChangedFor, ChangeFor}
+use Rattle.desk.specs.AfterChange.{FoundOn, ChangeDone, JoinDone}
 
 -- `call` is join with its quota and its list, or leave with its number
-pub record Changes (d : Desk) (call : Lends) (s : List Step) (l p v : List ℕ) (r : FindReply) (s′ : List Step) (l′ p′ v′ : List ℕ) : Type 0 where
-  pub replied : Replied d (call (recordsIn s) l p v) (foundShown (r .answer)) (call (recordsIn s′) l′ p′ v′) (r .desk)
+pub record Changes (d : Files) (call : Lends) (s : List Step) (l p v : List ℕ) (r : FindReply) (s′ : List Step) (l′ p′ v′ : List ℕ) : Type 0 where
+  pub replied : Replied d (call (recordsIn s) l p v) (foundShown (r .answer)) (call (recordsIn s′) l′ p′ v′) (r .desk .files)
   -- a find on the desk that comes back, with the buffers as they came, answers and writes the same
   pub afresh : T (isAccepted (foundShown (r .answer)))
-      → (foundShown (r .answer) ≡ answered (heldOf (r .desk)) (find (recordsIn s) l p v))
-      × (find (recordsIn s′) l′ p′ v′ ≡ lentThen (heldOf (r .desk)) (find (recordsIn s) l p v))
+      → (foundShown (r .answer) ≡ answered (heldOf (r .desk .files)) (find (recordsIn s) l p v))
+      × (find (recordsIn s′) l′ p′ v′ ≡ lentThen (heldOf (r .desk .files)) (find (recordsIn s) l p v))
   -- demand 3, whole, for the roster then held
-  pub demand3 : T (isAccepted (foundShown (r .answer))) → (R : Roster) → readRoster (rosterBytes (r .desk)) ≡ accepted R
+  pub demand3 : T (isAccepted (foundShown (r .answer))) → (R : Roster) → readRoster (rosterBytes (r .desk .files)) ≡ accepted R
       → Promise R (r .answer) (recordsIn s) l p v (recordsIn s′) l′ p′ v′
 
 -- the records fit the lent diary
-pub within-change : (d : Desk) (change : ToRoster) (n room : ℕ) (l p v : List ℕ) (c : CoreReply) (l′ p′ v′ : List ℕ)
+pub within-change : (d : Files) (change : ToRoster) (n room : ℕ) (l p v : List ℕ) (c : CoreReply) (l′ p′ v′ : List ℕ)
     → ChangeDone d change n room l p v c l′ p′ v′ → (c .steps ≤ 1024) × (c .steps ≤ room)
 within-change d change n room l p v c l′ p′ v′ D = by-cases (decLt 0 (D .made .refusal))
     (λ h. let q = D .found .refuses h .1 .refuses .steps in (omega arith, omega arith))
-    (λ z. within (D .made .desk) room l p v c l′ p′ v′ (D .found .finds (omega arith)))
+    (λ z. within (D .made .files) room l p v c l′ p′ v′ (D .found .finds (omega arith)))
 
 -- ---- what makes a call a change: the model's clauses for it, and the laws of the changed roster and the plan carried over
 pub record IsChange (call : Lends) (change : ToRoster) (n : ℕ) : Type 0 where
@@ -81,7 +82,7 @@ pub record IsChange (call : Lends) (change : ToRoster) (n : ℕ) : Type 0 where
   pub lends : (h : Held) (s : List Record) (l p v : List ℕ)
       → lentOn chosen h (call s l p v) ≡ onRoster (call s l p v) h (λ r. changedBytes chosen call (change r) s l p v)
   pub holds : (h : Held) (s : List Record) (l p v : List ℕ) → deskOn h (call s l p v) ≡ onRoster h h (λ r. withChange h (change r))
-  pub stores : (s : List Record) (l p v : List ℕ) (b : Bool) (d d′ : Desk) → ChangeIn b d d′ → Stored (call s l p v) b d d′
+  pub stores : (s : List Record) (l p v : List ℕ) (b : Bool) (d d′ : Files) → ChangeIn b d d′ → Stored (call s l p v) b d d′
   pub fitting : (r h : Roster) → T (fits r) → change r ≡ accepted h → Storable h
   pub carries : (r h : Roster) → T (fits r) → (M : Plan) → M ∈ plansOf (instanceOf r) → change r ≡ accepted h → Carries r h M (besides (instanceOf r) M n)
 
@@ -123,7 +124,7 @@ leave-is n = record {
 }
 
 -- ---- a find on a desk that holds a roster, with buffers of their sizes
-module _ (d : Desk) (H : Roster) (read : readRoster (rosterBytes d) ≡ accepted H) (s : List Record) (l p v : List ℕ) (b : finderShort s l p v ≡ false) where
+module _ (d : Files) (H : Roster) (read : readRoster (rosterBytes d) ≡ accepted H) (s : List Record) (l p v : List ℕ) (b : finderShort s l p v ≡ false) where
   abbrev y : Reading Plan
   y = readPlan (instanceOf H) (planBytes d)
 
@@ -166,7 +167,7 @@ found-accepted n (F.left es) = refl
 found-accepted n (F.rivalled M N w) = refl
 
 -- ---- the promise
-module _ (call : Lends) (change : ToRoster) (n : ℕ) (K : IsChange call change n) (d : Desk) (s : List Step) (l p v : List ℕ) (c : CoreReply)
+module _ (call : Lends) (change : ToRoster) (n : ℕ) (K : IsChange call change n) (d : Files) (s : List Step) (l p v : List ℕ) (c : CoreReply)
     (s′ : List Step) (l′ p′ v′ : List ℕ) (w : s′ ≡ onto (stepsIn (c .steps) (c .flat)) s) where
   abbrev C : Call
   C = call (recordsIn s) l p v
@@ -236,53 +237,53 @@ module _ (call : Lends) (change : ToRoster) (n : ℕ) (K : IsChange call change 
 
     -- the changed roster H
     module _ (f : T (fits R)) (H : Roster) (e : change R ≡ accepted H) (k : Change) (z : k .refusal ≡ 0)
-        (t : StoredAs (instanceOf R) (planBytes d) n (writeRoster H) (k .desk)) (F : FoundOn k (length s) l p v c l′ p′ v′) where
-      read : readRoster (rosterBytes (k .desk)) ≡ accepted H
+        (t : StoredAs (instanceOf R) (planBytes d) n (writeRoster H) (k .files)) (F : FoundOn k (length s) l p v c l′ p′ v′) where
+      read : readRoster (rosterBytes (k .files)) ≡ accepted H
       read = ap readRoster (t .0) ∙ K .fitting R H f e .1
 
       -- what is held then, and its files
-      held-then : (heldOf (k .desk) ≡ withChange (heldPlan R Y) (accepted H)) × (planBytes (k .desk) ≡ planFile (withChange (heldPlan R Y) (accepted H)))
+      held-then : (heldOf (k .files) ≡ withChange (heldPlan R Y) (accepted H)) × (planBytes (k .files) ≡ planFile (withChange (heldPlan R Y) (accepted H)))
       unfolding readPlanBy
       held-then = go Y (t .1)
         where
-          go : (y : Reading Plan) → LessOf (instanceOf R) n y (planBytes (k .desk))
-              → (heldOf (k .desk) ≡ withChange (heldPlan R y) (accepted H)) × (planBytes (k .desk) ≡ planFile (withChange (heldPlan R y) (accepted H)))
+          go : (y : Reading Plan) → LessOf (instanceOf R) n y (planBytes (k .files))
+              → (heldOf (k .files) ≡ withChange (heldPlan R y) (accepted H)) × (planBytes (k .files) ≡ planFile (withChange (heldPlan R y) (accepted H)))
           go (accepted M) (m, q) =
               let W = K .carries R H f M m e in
               let bytes = q ∙ sym (W .0) in
-              (roster-held (k .desk) H read ∙ ap (λ bs. heldPlan H (readPlan (instanceOf H) bs)) bytes ∙ ap (heldPlan H) (W .1 .1), bytes)
-          go (refused m) q = (roster-held (k .desk) H read ∙ ap (λ bs. heldPlan H (readPlan (instanceOf H) bs)) q, q)
+              (roster-held (k .files) H read ∙ ap (λ bs. heldPlan H (readPlan (instanceOf H) bs)) bytes ∙ ap (heldPlan H) (W .1 .1), bytes)
+          go (refused m) q = (roster-held (k .files) H read ∙ ap (λ bs. heldPlan H (readPlan (instanceOf H) bs)) q, q)
 
-      files : ChangeIn true d (k .desk)
+      files : ChangeIn true d (k .files)
       files = (
-        t .0 ∙ of-roster [] writeRoster H (readPlan (instanceOf H) (planBytes (k .desk))) ∙ ap rosterFile (sym (roster-held (k .desk) H read)),
+        t .0 ∙ of-roster [] writeRoster H (readPlan (instanceOf H) (planBytes (k .files))) ∙ ap rosterFile (sym (roster-held (k .files) H read)),
         held-then .1 ∙ ap planFile (sym (held-then .0)),
       )
 
-      done : Done (k .desk) (length s) l p v c l′ p′ v′
+      done : Done (k .files) (length s) l p v c l′ p′ v′
       done = F .finds (omega arith)
 
-      finds : Finds (k .desk) s l p v r s′ l′ p′ v′
-      finds = found (k .desk) s l p v c s′ l′ p′ v′ done w
+      finds : Finds (k .files) s l p v r s′ l′ p′ v′
+      finds = found (k .files) s l p v c s′ l′ p′ v′ done w
 
       long : finderShort (recordsIn s) l p v ≡ false
       long = sym (short-is s l p v) ∙ b
 
       answer-is : foundShown (r .answer) ≡ foundOn chosen H
-      answer-is = finds .replied .answer ∙ find-answer (k .desk) H read (recordsIn s) l p v long
+      answer-is = finds .replied .answer ∙ find-answer (k .files) H read (recordsIn s) l p v long
 
       lent-is : C′ ≡ foundBytes chosen call H (recordsIn s) l p v
-      lent-is = ap (retold call) (finds .replied .lent ∙ find-lent (k .desk) H read (recordsIn s) l p v long) ∙ retold-found call H (recordsIn s) l p v
+      lent-is = ap (retold call) (finds .replied .lent ∙ find-lent (k .files) H read (recordsIn s) l p v long) ∙ retold-found call H (recordsIn s) l p v
 
       taken : isAccepted (foundShown (r .answer)) ≡ true
       taken = ap isAccepted answer-is ∙ found-accepted (length (stepsOf (instanceOf H))) (finderOf (instanceOf H) (rivalOf (instanceOf H)))
 
-      reply : Replied d C (foundShown (r .answer)) C′ (k .desk)
+      reply : Replied d C (foundShown (r .answer)) C′ (k .files)
       reply = record {
         answer = answer-is ∙ answer-on (accepted H) e ∙ ap (λ h. answerOn chosen h C) (sym (roster-held d R a)) ∙ pass-answer (heldOf d) C lets-pass;
         lent = lent-is ∙ lent-on (accepted H) e ∙ ap (λ h. lentOn chosen h C) (sym (roster-held d R a)) ∙ pass-lent (heldOf d) C lets-pass;
         desk = held-then .0 ∙ desk-on (accepted H) e ∙ ap (λ h. deskOn h C) (sym (roster-held d R a)) ∙ pass-desk (heldOf d) C lets-pass;
-        stored = K .stores (recordsIn s) l p v (isAccepted (foundShown (r .answer))) d (k .desk) (subst (λ b. ChangeIn b d (k .desk)) (sym taken) files);
+        stored = K .stores (recordsIn s) l p v (isAccepted (foundShown (r .answer))) d (k .files) (subst (λ b. ChangeIn b d (k .files)) (sym taken) files);
       }
 
       change-taken : Promised
@@ -308,12 +309,12 @@ module _ (call : Lends) (change : ToRoster) (n : ℕ) (K : IsChange call change 
           (state-refused 15 (omega arith) (unneeded R (readPlan (instanceOf R) (planBytes d)) true ∙ state-is (accepted R) true a q))
       go (accepted R) a false q (f, u) = by-change R a q f (change R) refl u
 
-pub joins : (d : Desk) (q : ℕ) (file : List ℕ) (s : List Step) (l p v : List ℕ) (c : CoreReply) (s′ : List Step) (l′ p′ v′ : List ℕ)
+pub joins : (d : Files) (q : ℕ) (file : List ℕ) (s : List Step) (l p v : List ℕ) (c : CoreReply) (s′ : List Step) (l′ p′ v′ : List ℕ)
     → JoinDone d q file (length s) l p v c l′ p′ v′ → s′ ≡ onto (stepsIn (c .steps) (c .flat)) s
     → Changes d (join q file) s l p v (c .reply) s′ l′ p′ v′
 joins d q file s l p v c s′ l′ p′ v′ (isB, D) w = promised (join q file) (λ R. joinOn R q file) 0 (join-is q file isB) d s l p v c s′ l′ p′ v′ w D
 
-pub leaves : (d : Desk) (n : ℕ) (s : List Step) (l p v : List ℕ) (c : CoreReply) (s′ : List Step) (l′ p′ v′ : List ℕ)
+pub leaves : (d : Files) (n : ℕ) (s : List Step) (l p v : List ℕ) (c : CoreReply) (s′ : List Step) (l′ p′ v′ : List ℕ)
     → ChangeDone d (λ R. leaveOn R n) n (length s) l p v c l′ p′ v′ → s′ ≡ onto (stepsIn (c .steps) (c .flat)) s
     → Changes d (leave n) s l p v (c .reply) s′ l′ p′ v′
 leaves d n s l p v c s′ l′ p′ v′ D w = promised (leave n) (λ R. leaveOn R n) n (leave-is n) d s l p v c s′ l′ p′ v′ w D

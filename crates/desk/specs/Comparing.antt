@@ -20,12 +20,12 @@ use Rattle.answers.specs.declared.Comparison.{Comparison}
 use Rattle.answers.specs.declared.Comparison.the-variants.{Votes, Refused}
 use Rattle.answers.specs.ComparisonCases.{partShown, comparisonShown}
 use Rattle.compare.specs.Parts.{placed, Counted}
-use Rattle.desk.specs.declared.Desk.{Desk}
-use Rattle.desk.specs.Held.{heldOf}
-use Rattle.desk.specs.Replies.{partIn, answered, Replied}
+use Rattle.desk_files.specs.declared.Files.{Files}
+use Rattle.desk_files.specs.Held.{heldOf}
+use Rattle.desk_files.specs.Replies.{partIn, answered, Replied}
 
 -- the comparison's call on desk d with two lent files: the answer, the part and the desk then
-pub record Compares (d : Desk) (first second : RefT (List ℕ)) (answer : Comparison) (handed : RefT (List ℕ)) (d′ : Desk) : Type 0 where
+pub record Compares (d : Files) (first second : RefT (List ℕ)) (answer : Comparison) (handed : RefT (List ℕ)) (d′ : Files) : Type 0 where
   pub replied : Replied d (compare (now first) (now second)) (comparisonShown (now first) (now second) answer) (compare (now first) (now second)) d′
   -- "the winner's pair bytes are handed back as a part of its own file": "the winner's for first and second, and empty for both and neither" (W-206);
   -- the empty part, on a refusal too, is "taken from the first file"
@@ -80,7 +80,7 @@ in-answer : (a b : List ℕ) (c : Comparison) → partShown c a b ≡ partIn (co
 in-answer a b (Votes v w x) = refl
 in-answer a b (Refused n k) = refl
 
-pub compares : (d : Desk) (first second : RefT (List ℕ)) (answer : Comparison) (handed : RefT (List ℕ)) (d′ : Desk)
+pub compares : (d : Files) (first second : RefT (List ℕ)) (answer : Comparison) (handed : RefT (List ℕ)) (d′ : Files)
     → Replied d (compare (now first) (now second)) (comparisonShown (now first) (now second) answer) (compare (now first) (now second)) d′
     → (ptr handed, now handed) ≡ placed first second (partShown answer (now first) (now second)) → Compares d first second answer handed d′
 compares d first second answer handed d′ R e = record {

@@ -35,31 +35,31 @@ use Rattle.diary.specs.FlatDiary.{flatSize}
 use Rattle.desk_find.specs.declared.Outcome.{Outcome}
 use Rattle.desk_find.specs.Outcomes as finds
 use Rattle.desk_find.specs.Outcomes.{FindsFor, short, OutcomeFor, Outcomes}
-use Rattle.desk.specs.declared.Desk.{Desk}
+use Rattle.desk_files.specs.declared.Files.{Files}
 use Rattle.desk.specs.declared.FindReply.{FindReply}
 use Rattle.desk.specs.declared.CoreReply.{CoreReply}
 use Rattle.desk_loaded.specs.Held.{heldPlan, held, stateNumber}
-use Rattle.desk.specs.Held.{rosterBytes, planBytes, heldOf}
-use Rattle.desk.specs.Replies.{Replied}
-use Rattle.desk.specs.State.{states, by-state, pass-answer, pass-lent, desk-alike}
+use Rattle.desk_files.specs.Held.{rosterBytes, planBytes, heldOf}
+use Rattle.desk_files.specs.Replies.{Replied}
+use Rattle.desk_files.specs.State.{states, by-state, pass-answer, pass-lent, desk-alike}
 
 -- what the core hands back, as the finder's outcome
 abbrev pub outcomeIn : CoreReply → Outcome
 outcomeIn c = record { answer = c .reply .answer; flat = c .flat; steps = c .steps }
 
-pub record Done (d : Desk) (room : ℕ) (l p v : List ℕ) (c : CoreReply) (l′ p′ v′ : List ℕ) : Type 0 where
-  pub same : c .reply .desk ≡ d
+pub record Done (d : Files) (room : ℕ) (l p v : List ℕ) (c : CoreReply) (l′ p′ v′ : List ℕ) : Type 0 where
+  pub same : c .reply .desk .files ≡ d
   pub outcome : Outcomes (rosterBytes d) room l p v (outcomeIn c) l′ p′ v′
 
 -- on the bytes held
-pub done-on : {d : Desk} {room : ℕ} {l p v : List ℕ} {c : CoreReply} {l′ p′ v′ : List ℕ} {roster : List ℕ} → roster ≡ rosterBytes d → c .reply .desk ≡ d
+pub done-on : {d : Files} {room : ℕ} {l p v : List ℕ} {c : CoreReply} {l′ p′ v′ : List ℕ} {roster : List ℕ} → roster ≡ rosterBytes d → c .reply .desk .files ≡ d
     → Outcomes roster room l p v (outcomeIn c) l′ p′ v′ → Done d room l p v c l′ p′ v′
 done-on {d} {room} {l} {p} {v} {c} {l′} {p′} {v′} e q o =
     record { same = q; outcome = subst (λ b. Outcomes b room l p v (outcomeIn c) l′ p′ v′) e o }
 
 -- the call's promise
-pub record Finds (d : Desk) (s : List Step) (l p v : List ℕ) (r : FindReply) (s′ : List Step) (l′ p′ v′ : List ℕ) : Type 0 where
-  pub replied : Replied d (find (recordsIn s) l p v) (foundShown (r .answer)) (find (recordsIn s′) l′ p′ v′) (r .desk)
+pub record Finds (d : Files) (s : List Step) (l p v : List ℕ) (r : FindReply) (s′ : List Step) (l′ p′ v′ : List ℕ) : Type 0 where
+  pub replied : Replied d (find (recordsIn s) l p v) (foundShown (r .answer)) (find (recordsIn s′) l′ p′ v′) (r .desk .files)
   -- demand 3, whole, for the roster held and buffers of their sizes
   pub demand3 : (R : Roster) → readRoster (rosterBytes d) ≡ accepted R → T (not (lentShort (find (recordsIn s) l p v)))
       → Promise R (r .answer) (recordsIn s) l p v (recordsIn s′) l′ p′ v′
@@ -80,7 +80,7 @@ fit room l p v o l′ p′ v′ (accepted R) false q (f, e) =
     first true b e = subst T e tt
     first false b e = tt
 
-pub within : (d : Desk) (room : ℕ) (l p v : List ℕ) (c : CoreReply) (l′ p′ v′ : List ℕ) → Done d room l p v c l′ p′ v′ → (c .steps ≤ 1024) × (c .steps ≤ room)
+pub within : (d : Files) (room : ℕ) (l p v : List ℕ) (c : CoreReply) (l′ p′ v′ : List ℕ) → Done d room l p v c l′ p′ v′ → (c .steps ≤ 1024) × (c .steps ≤ room)
 within d room l p v c l′ p′ v′ D = fit room l p v (outcomeIn c) l′ p′ v′ (readRoster (rosterBytes d)) (short room l p v) refl (D .outcome)
 
 -- ---- the reply
@@ -123,7 +123,7 @@ module _ (s : List Step) (l p v : List ℕ) where
       go (accepted M) = refl
       go (reading.refused n) = refl
 
-  module _ (d : Desk) (r : FindReply) (same : r .desk ≡ d) (flat : List ℕ) (s′ : List Step) (l′ p′ v′ : List ℕ) where
+  module _ (d : Files) (r : FindReply) (same : r .desk .files ≡ d) (flat : List ℕ) (s′ : List Step) (l′ p′ v′ : List ℕ) where
     state-here : (x : Reading Roster) → readRoster (rosterBytes d) ≡ x → (b : Bool) → short (length s) l p v ≡ b
         → stateAt x b ≡ stateNumber (heldOf d) false (lentShort call)
     unfolding heldOf
@@ -133,7 +133,7 @@ module _ (s : List Step) (l p v : List ℕ) where
     -- a refusal by 13 or 15
     refused-reply : (n : ℕ) → 0 < n → n ≡ stateNumber (heldOf d) false (lentShort call) → (o : Outcome) → o .answer ≡ r .answer
         → finds.Kept n l p v o l′ p′ v′ → s′ ≡ s
-        → Replied d call (foundShown (r .answer)) (find (recordsIn s′) l′ p′ v′) (r .desk)
+        → Replied d call (foundShown (r .answer)) (find (recordsIn s′) l′ p′ v′) (r .desk .files)
     refused-reply n h e o a k q =
         subst (λ z. Replied d call (foundShown (r .answer)) (find (recordsIn s′) l′ p′ v′) z) (sym same)
         (subst (λ c. Replied d call (foundShown (r .answer)) c d) (λ i. find (recordsIn (sym q i)) (sym (k .left) i) (sym (k .plan) i) (sym (k .rival) i))
@@ -157,7 +157,7 @@ module _ (s : List Step) (l p v : List ℕ) where
           (λ i. find (q i) (f .finds .wrote .left i) (f .finds .wrote .plan i) (f .finds .wrote .rival i))
           ∙ sym (written-is find (instanceOf R) x (recordsIn s) l p v)
 
-      found-reply : 0 ≡ stateRefusal (heldOf d) call → Replied d call (foundShown (r .answer)) (find (recordsIn s′) l′ p′ v′) (r .desk)
+      found-reply : 0 ≡ stateRefusal (heldOf d) call → Replied d call (foundShown (r .answer)) (find (recordsIn s′) l′ p′ v′) (r .desk .files)
       found-reply z = record {
         answer = answer-here ∙ sym (ap (λ h. answerOn chosen h call) held-here ∙ answer-on R (planBytes d)) ∙ pass-answer (heldOf d) call z;
         lent = lent-here ∙ sym (ap (λ h. lentOn chosen h call) held-here ∙ lent-on R (planBytes d)) ∙ pass-lent (heldOf d) call z;
@@ -193,7 +193,7 @@ module _ (s : List Step) (l p v : List ℕ) where
 
     -- by the roster's reading and the buffers' sizes
     abbrev Both : Type 0
-    Both = Replied d call (foundShown (r .answer)) (find (recordsIn s′) l′ p′ v′) (r .desk)
+    Both = Replied d call (foundShown (r .answer)) (find (recordsIn s′) l′ p′ v′) (r .desk .files)
         × ((R : Roster) → readRoster (rosterBytes d) ≡ accepted R → T (not (lentShort call))
         → Promise R (r .answer) (recordsIn s) l p v (recordsIn s′) l′ p′ v′)
 
@@ -229,7 +229,7 @@ module _ (s : List Step) (l p v : List ℕ) where
         one : {Q R : Roster} → accepted Q ≡ accepted R → Q ≡ R
         one {Q} z = ap (rosterOf Q) z
 
-pub found : (d : Desk) (s : List Step) (l p v : List ℕ) (c : CoreReply) (s′ : List Step) (l′ p′ v′ : List ℕ) → Done d (length s) l p v c l′ p′ v′
+pub found : (d : Files) (s : List Step) (l p v : List ℕ) (c : CoreReply) (s′ : List Step) (l′ p′ v′ : List ℕ) → Done d (length s) l p v c l′ p′ v′
     → s′ ≡ onto (stepsIn (c .steps) (c .flat)) s
     → Finds d s l p v (c .reply) s′ l′ p′ v′
 found d s l p v c s′ l′ p′ v′ D w =
