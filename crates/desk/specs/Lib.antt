@@ -1,4 +1,1 @@
-pub mod Comparing
-pub mod Finding
-pub mod AfterChange
-pub mod Changes
+pub mod Replies

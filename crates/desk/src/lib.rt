@@ -9,10 +9,11 @@ ghost use Rattle.answers.specs.WrittenCases.{writtenShown};
 ghost use Rattle.answers.specs.ComparisonCases.{comparisonShown};
 ghost use Rattle.answers.specs.BlockedCases.{blockedShown};
 ghost use Rattle.desk_files.specs.Held.{heldOf};
-ghost use Rattle.desk.specs.AfterChange.{FoundOn, ChangeDone, JoinDone};
-ghost use Rattle.desk.specs.Changes.{Changes};
-ghost use Rattle.desk.specs.Comparing.{Compares};
-ghost use Rattle.desk.specs.Finding.{Done, Finds};
+ghost use Rattle.desk_changes.specs.AfterChange.{ChangeDone, JoinDone};
+ghost use Rattle.desk_changes.specs.Changes.{Changes};
+ghost use Rattle.desk_find.specs.Finding.{Done, Finds};
+ghost use Rattle.desk_looks.specs.Comparing.{Compares};
+ghost use Rattle.desk.specs.Replies.{searchedIn};
 ghost use Rattle.desk_looks.specs.Judging.{Judges};
 ghost use Rattle.desk_files.specs.Replies.{Replied};
 ghost use Rattle.desk_looks.specs.Seasons.{Turns};
@@ -22,13 +23,10 @@ use answers::FileAnswer;
 use answers::Found;
 use answers::Verdict;
 use answers::Written;
-use desk_changes::Change;
 use desk_files::Files;
+use desk_find::Searched;
 use diary::Step;
-use limits::DIARY_SIZE;
 use limits::FLAT_SIZE;
-use limits::LEFT_SIZE;
-use limits::PLAN_SIZE;
 
 // the files that it holds, as bytes
 #[repr(C)]
@@ -80,26 +78,16 @@ pub struct CoreReply {
     pub steps: usize,
 }
 
-// All of a find but the lent diary, of which it is told the length.
-pub(crate) fn core(
-    desk: Desk,
-    room: usize,
-    left: &mut [u8],
-    plan: &mut [u8],
-    rival: &mut [u8],
-) -> CoreReply
-    ensures { λ r. ⌜ Done (desk .files) room (now (left .entry)) (now (plan .entry)) (now (rival .entry)) r (now (left .exit)) (now (plan .exit)) (now (rival .exit)) ⌝ }
+// A search's outcome as a reply of the desk.
+pub(crate) fn replied(s: Searched) -> CoreReply
+    ensures { λ r. ⌜ searchedIn r ≡ s ⌝ }
 {
-    let files = desk.files;
-    let roster = files.roster;
-    let held = files.plan;
-    let r = desk_files::front(&roster, files.roster_len);
-    let p = desk_files::front(&held, files.plan_len);
-    let o = desk_find::found(r, p, room, left, plan, rival);
+    let files = s.files;
+    let o = s.outcome;
     let answer = o.answer;
     let flat = o.flat;
     let reply = FindReply {
-        desk: desk,
+        desk: Desk { files: files },
         answer: answer,
     };
     CoreReply {
@@ -109,37 +97,22 @@ pub(crate) fn core(
     }
 }
 
-// the finder on the desk behind a change, or the change's refusal
-pub(crate) fn found_on(
-    c: Change,
+// All of a find but the lent diary, of which it is told the length.
+pub(crate) fn core(
+    desk: Desk,
     room: usize,
     left: &mut [u8],
     plan: &mut [u8],
     rival: &mut [u8],
 ) -> CoreReply
-    ensures { λ r. ⌜ FoundOn c room (now (left .entry)) (now (plan .entry)) (now (rival .entry)) r (now (left .exit)) (now (plan .exit)) (now (rival .exit)) ⌝ }
+    ensures { λ r. ⌜ Done (desk .files) room (now (left .entry)) (now (plan .entry)) (now (rival .entry)) (searchedIn r) (now (left .exit))
+        (now (plan .exit)) (now (rival .exit)) ⌝ }
 {
-    let n = c.refusal;
-    let files = c.files;
-    let desk = Desk { files: files };
-    if 0 < n {
-        let o = desk_find::refused(n);
-        let answer = o.answer;
-        let flat = o.flat;
-        let reply = FindReply {
-            desk: desk,
-            answer: answer,
-        };
-        return CoreReply {
-            reply: reply,
-            flat: flat,
-            steps: o.steps,
-        };
-    }
-    core(desk, room, left, plan, rival)
+    let s = desk_find::search(desk.files, room, left, plan, rival);
+    replied(s)
 }
 
-// All of a join but the lent diary, of which it is told the length.
+// All of a join but the lent diary.
 pub(crate) fn join_core(
     desk: Desk,
     quota: u8,
@@ -149,16 +122,14 @@ pub(crate) fn join_core(
     plan: &mut [u8],
     rival: &mut [u8],
 ) -> CoreReply
-    ensures { λ r. ⌜ JoinDone (desk .files) quota (now (list .entry)) room (now (left .entry)) (now (plan .entry)) (now (rival .entry)) r (now (left .exit))
-        (now (plan .exit)) (now (rival .exit)) ⌝ }
+    ensures { λ r. ⌜ JoinDone (desk .files) quota (now (list .entry)) room (now (left .entry)) (now (plan .entry)) (now (rival .entry)) (searchedIn r)
+        (now (left .exit)) (now (plan .exit)) (now (rival .exit)) ⌝ }
 {
-    let small = (left.len() < LEFT_SIZE) | ((plan.len() < PLAN_SIZE) | (rival.len() < PLAN_SIZE));
-    let files = desk.files;
-    let c = desk_changes::joined(files, (room < DIARY_SIZE) | small, quota, list);
-    found_on(c, room, left, plan, rival)
+    let s = desk_changes::join(desk.files, quota, list, room, left, plan, rival);
+    replied(s)
 }
 
-// All of a leave but the lent diary, of which it is told the length.
+// All of a leave but the lent diary.
 pub(crate) fn leave_core(
     desk: Desk,
     number: u8,
@@ -167,13 +138,11 @@ pub(crate) fn leave_core(
     plan: &mut [u8],
     rival: &mut [u8],
 ) -> CoreReply
-    ensures { λ r. ⌜ ChangeDone (desk .files) (λ R. leaveOn R number) number room (now (left .entry)) (now (plan .entry)) (now (rival .entry)) r (now (left .exit))
-        (now (plan .exit)) (now (rival .exit)) ⌝ }
+    ensures { λ r. ⌜ ChangeDone (desk .files) (λ R. leaveOn R number) number room (now (left .entry)) (now (plan .entry)) (now (rival .entry)) (searchedIn r)
+        (now (left .exit)) (now (plan .exit)) (now (rival .exit)) ⌝ }
 {
-    let small = (left.len() < LEFT_SIZE) | ((plan.len() < PLAN_SIZE) | (rival.len() < PLAN_SIZE));
-    let files = desk.files;
-    let c = desk_changes::departed(files, (room < DIARY_SIZE) | small, number);
-    found_on(c, room, left, plan, rival)
+    let s = desk_changes::leave(desk.files, number, room, left, plan, rival);
+    replied(s)
 }
 
 impl Desk {
@@ -286,8 +255,8 @@ impl Desk {
         plan: &mut [u8],
         rival: &mut [u8],
     ) -> FindReply
-        ensures { λ r. ⌜ Finds (self .files) (now (diary .entry)) (now (left .entry)) (now (plan .entry)) (now (rival .entry)) r (now (diary .exit)) (now (left .exit))
-            (now (plan .exit)) (now (rival .exit)) ⌝ }
+        ensures { λ r. ⌜ Finds (self .files) (now (diary .entry)) (now (left .entry)) (now (plan .entry)) (now (rival .entry)) (r .answer) (now (diary .exit)) (now (left .exit))
+            (now (plan .exit)) (now (rival .exit)) (r .desk .files) ⌝ }
     {
         let c = core(self, diary.len(), left, plan, rival);
         diary::fill(diary, c.flat, c.steps);
@@ -304,8 +273,8 @@ impl Desk {
         plan: &mut [u8],
         rival: &mut [u8],
     ) -> FindReply
-        ensures { λ r. ⌜ Changes (self .files) (join quota (now (list .entry))) (now (diary .entry)) (now (left .entry)) (now (plan .entry)) (now (rival .entry)) r
-            (now (diary .exit)) (now (left .exit)) (now (plan .exit)) (now (rival .exit)) ⌝ }
+        ensures { λ r. ⌜ Changes (self .files) (join quota (now (list .entry))) (now (diary .entry)) (now (left .entry)) (now (plan .entry)) (now (rival .entry))
+            (r .answer) (now (diary .exit)) (now (left .exit)) (now (plan .exit)) (now (rival .exit)) (r .desk .files) ⌝ }
     {
         let c = join_core(self, quota, list, diary.len(), left, plan, rival);
         diary::fill(diary, c.flat, c.steps);
@@ -321,8 +290,8 @@ impl Desk {
         plan: &mut [u8],
         rival: &mut [u8],
     ) -> FindReply
-        ensures { λ r. ⌜ Changes (self .files) (leave number) (now (diary .entry)) (now (left .entry)) (now (plan .entry)) (now (rival .entry)) r (now (diary .exit))
-            (now (left .exit)) (now (plan .exit)) (now (rival .exit)) ⌝ }
+        ensures { λ r. ⌜ Changes (self .files) (leave number) (now (diary .entry)) (now (left .entry)) (now (plan .entry)) (now (rival .entry)) (r .answer)
+            (now (diary .exit)) (now (left .exit)) (now (plan .exit)) (now (rival .exit)) (r .desk .files) ⌝ }
     {
         let c = leave_core(self, number, diary.len(), left, plan, rival);
         diary::fill(diary, c.flat, c.steps);

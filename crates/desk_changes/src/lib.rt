@@ -1,13 +1,18 @@
 // Surveyors who join and leave in the field (request W-202): the desk's files with the changed roster and the held plan less the leaver's pairs, or
-// the refusal.
+// the refusal; and behind it the finder on the changed files.
 ghost use lib.ListN.{take};
 ghost use Rattle.model.specs.Changes.{joinOn, leaveOn};
 ghost use Rattle.instance.specs.Decoded.{shownBy};
 ghost use Rattle.instance.specs.Loaded.{Loaded};
 ghost use Rattle.desk_files.specs.Held.{planBytes};
 ghost use Rattle.desk_changes.specs.Changing.{Unchanged, StoredAs, Taken, ChangedTo};
+ghost use Rattle.desk_changes.specs.AfterChange.{FoundOn, ChangeDone, JoinDone};
 use desk_files::Files;
+use desk_find::Searched;
 use instance::Instance;
+use limits::DIARY_SIZE;
+use limits::LEFT_SIZE;
+use limits::PLAN_SIZE;
 use limits::ROSTER_SIZE;
 use roster_parts::Changed;
 
@@ -78,7 +83,7 @@ pub(crate) fn taken(files: Files, g: Instance, c: Changed, number: u8) -> Change
 }
 
 // a surveyor joins; `short`: a buffer lent to the call is below its size
-pub fn joined(files: Files, short: bool, quota: u8, list: &[u8]) -> Change
+pub(crate) fn joined(files: Files, short: bool, quota: u8, list: &[u8]) -> Change
     ensures { λ r. ⌜ ChangedTo files short (λ R. joinOn R quota (now (list .entry))) 0 r ⌝ }
 {
     let l = desk_files::loaded(files, false, short);
@@ -93,7 +98,7 @@ pub fn joined(files: Files, short: bool, quota: u8, list: &[u8]) -> Change
 }
 
 // a surveyor leaves; `short`: a buffer lent to the call is below its size
-pub fn departed(files: Files, short: bool, number: u8) -> Change
+pub(crate) fn departed(files: Files, short: bool, number: u8) -> Change
     ensures { λ r. ⌜ ChangedTo files short (λ R. leaveOn R number) number r ⌝ }
 {
     let l = desk_files::loaded(files, false, short);
@@ -105,4 +110,61 @@ pub fn departed(files: Files, short: bool, number: u8) -> Change
     let file = desk_files::front(&array, files.roster_len);
     let c = roster_leave::leave(file, number);
     taken(files, l.g, c, number)
+}
+
+// the finder behind a change, or the change's refusal
+pub(crate) fn found_on(
+    c: Change,
+    room: usize,
+    left: &mut [u8],
+    plan: &mut [u8],
+    rival: &mut [u8],
+) -> Searched
+    ensures { λ r. ⌜ FoundOn c room (now (left .entry)) (now (plan .entry)) (now (rival .entry)) r (now (left .exit)) (now (plan .exit)) (now (rival .exit)) ⌝ }
+{
+    let n = c.refusal;
+    let files = c.files;
+    if 0 < n {
+        let o = desk_find::refused(n);
+        return Searched {
+            files: files,
+            outcome: o,
+        };
+    }
+    desk_find::search(files, room, left, plan, rival)
+}
+
+// All of a join but the lent diary, of which it is told the length.
+pub fn join(
+    files: Files,
+    quota: u8,
+    list: &[u8],
+    room: usize,
+    left: &mut [u8],
+    plan: &mut [u8],
+    rival: &mut [u8],
+) -> Searched
+    ensures { λ r. ⌜ JoinDone files quota (now (list .entry)) room (now (left .entry)) (now (plan .entry)) (now (rival .entry)) r (now (left .exit))
+        (now (plan .exit)) (now (rival .exit)) ⌝ }
+{
+    let small = (left.len() < LEFT_SIZE) | ((plan.len() < PLAN_SIZE) | (rival.len() < PLAN_SIZE));
+    let c = joined(files, (room < DIARY_SIZE) | small, quota, list);
+    found_on(c, room, left, plan, rival)
+}
+
+// All of a leave but the lent diary, of which it is told the length.
+pub fn leave(
+    files: Files,
+    number: u8,
+    room: usize,
+    left: &mut [u8],
+    plan: &mut [u8],
+    rival: &mut [u8],
+) -> Searched
+    ensures { λ r. ⌜ ChangeDone files (λ R. leaveOn R number) number room (now (left .entry)) (now (plan .entry)) (now (rival .entry)) r (now (left .exit))
+        (now (plan .exit)) (now (rival .exit)) ⌝ }
+{
+    let small = (left.len() < LEFT_SIZE) | ((plan.len() < PLAN_SIZE) | (rival.len() < PLAN_SIZE));
+    let c = departed(files, (room < DIARY_SIZE) | small, number);
+    found_on(c, room, left, plan, rival)
 }

@@ -67,15 +67,12 @@ pub fn with_roster(files: Files, file: &[u8]) -> Files
     requires { ⌜ length (now file) ≤ rosterSize ⌝ }
     ensures { λ r. ⌜ (rosterBytes r ≡ now (file .entry)) × (planBytes r ≡ []) ⌝ }
 {
+    let mut next = files;
     let mut roster = files.roster;
-    let n = bytes::copy(file, &mut roster);
-    let plan = files.plan;
-    Files {
-        roster_len: n,
-        roster: roster,
-        plan_len: 0,
-        plan: plan,
-    }
+    next.roster_len = bytes::copy(file, &mut roster);
+    next.roster = roster;
+    next.plan_len = 0;
+    next
 }
 
 // The plan in the place of the one held.
@@ -83,13 +80,9 @@ pub fn with_plan(files: Files, file: &[u8]) -> Files
     requires { ⌜ length (now file) ≤ planSize ⌝ }
     ensures { λ r. ⌜ (r .«roster_len» ≡ files .«roster_len») × (r .roster ≡ files .roster) × (planBytes r ≡ now (file .entry)) ⌝ }
 {
+    let mut next = files;
     let mut plan = files.plan;
-    let n = bytes::copy(file, &mut plan);
-    let roster = files.roster;
-    Files {
-        roster_len: files.roster_len,
-        roster: roster,
-        plan_len: n,
-        plan: plan,
-    }
+    next.plan_len = bytes::copy(file, &mut plan);
+    next.plan = plan;
+    next
 }

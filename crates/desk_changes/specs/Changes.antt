@@ -37,36 +37,36 @@ use Rattle.theory_files.specs.Carried.{Carries, besides, join-plan, leave-plan}
 use Rattle.diary.specs.declared.Step.{Step}
 use Rattle.diary.specs.LentSteps.{recordsIn, stepsIn}
 use Rattle.diary.specs.FilledDiary.{filled-none}
+use Rattle.answers.specs.declared.Found.{Found}
 use Rattle.answers.specs.FinderCases.{foundShown}
 use Rattle.answers.specs.GroupCases.{shown-case}
 use Rattle.finder.specs.Promise.{Promise, written-is}
 use Rattle.desk_loaded.specs.Held.{heldPlan, held, stateNumber, unneeded}
 use Rattle.desk_files.specs.declared.Files.{Files}
-use Rattle.desk.specs.declared.FindReply.{FindReply}
-use Rattle.desk.specs.declared.CoreReply.{CoreReply}
+use Rattle.desk_find.specs.declared.Searched.{Searched}
 use Rattle.desk_changes.specs.declared.Change.{Change}
 use Rattle.desk_files.specs.Held.{rosterBytes, planBytes, heldOf}
 use Rattle.desk_files.specs.Replies.{answered, lentThen, isAccepted, rosterFile, planFile, ChangeIn, Stored, Replied}
 use Rattle.desk_files.specs.State.{states, by-state, pass-answer, pass-lent, pass-desk, of-roster, roster-held, passed, passes}
 use Rattle.desk_find.specs.Outcomes.{short, Kept}
-use Rattle.desk.specs.Finding.{outcomeIn, Done, Finds, within, short-is, found}
+use Rattle.desk_find.specs.Finding.{Done, Finds, within, short-is, found}
 use Rattle.desk_changes.specs.Changing.{ToRoster, Unchanged, LessOf, StoredAs, ChangedFor, ChangeFor}
-use Rattle.desk.specs.AfterChange.{FoundOn, ChangeDone, JoinDone}
+use Rattle.desk_changes.specs.AfterChange.{FoundOn, ChangeDone, JoinDone}
 
 -- `call` is join with its quota and its list, or leave with its number
-pub record Changes (d : Files) (call : Lends) (s : List Step) (l p v : List ℕ) (r : FindReply) (s′ : List Step) (l′ p′ v′ : List ℕ) : Type 0 where
-  pub replied : Replied d (call (recordsIn s) l p v) (foundShown (r .answer)) (call (recordsIn s′) l′ p′ v′) (r .desk .files)
+pub record Changes (d : Files) (call : Lends) (s : List Step) (l p v : List ℕ) (answer : Found) (s′ : List Step) (l′ p′ v′ : List ℕ) (d′ : Files) : Type 0 where
+  pub replied : Replied d (call (recordsIn s) l p v) (foundShown answer) (call (recordsIn s′) l′ p′ v′) d′
   -- a find on the desk that comes back, with the buffers as they came, answers and writes the same
-  pub afresh : T (isAccepted (foundShown (r .answer)))
-      → (foundShown (r .answer) ≡ answered (heldOf (r .desk .files)) (find (recordsIn s) l p v))
-      × (find (recordsIn s′) l′ p′ v′ ≡ lentThen (heldOf (r .desk .files)) (find (recordsIn s) l p v))
+  pub afresh : T (isAccepted (foundShown answer))
+      → (foundShown answer ≡ answered (heldOf d′) (find (recordsIn s) l p v))
+      × (find (recordsIn s′) l′ p′ v′ ≡ lentThen (heldOf d′) (find (recordsIn s) l p v))
   -- demand 3, whole, for the roster then held
-  pub demand3 : T (isAccepted (foundShown (r .answer))) → (R : Roster) → readRoster (rosterBytes (r .desk .files)) ≡ accepted R
-      → Promise R (r .answer) (recordsIn s) l p v (recordsIn s′) l′ p′ v′
+  pub demand3 : T (isAccepted (foundShown answer)) → (R : Roster) → readRoster (rosterBytes d′) ≡ accepted R
+      → Promise R answer (recordsIn s) l p v (recordsIn s′) l′ p′ v′
 
 -- the records fit the lent diary
-pub within-change : (d : Files) (change : ToRoster) (n room : ℕ) (l p v : List ℕ) (c : CoreReply) (l′ p′ v′ : List ℕ)
-    → ChangeDone d change n room l p v c l′ p′ v′ → (c .steps ≤ 1024) × (c .steps ≤ room)
+pub within-change : (d : Files) (change : ToRoster) (n room : ℕ) (l p v : List ℕ) (c : Searched) (l′ p′ v′ : List ℕ)
+    → ChangeDone d change n room l p v c l′ p′ v′ → (c .outcome .steps ≤ 1024) × (c .outcome .steps ≤ room)
 within-change d change n room l p v c l′ p′ v′ D = by-cases (decLt 0 (D .made .refusal))
     (λ h. let q = D .found .refuses h .1 .refuses .steps in (omega arith, omega arith))
     (λ z. within (D .made .files) room l p v c l′ p′ v′ (D .found .finds (omega arith)))
@@ -167,19 +167,19 @@ found-accepted n (F.left es) = refl
 found-accepted n (F.rivalled M N w) = refl
 
 -- ---- the promise
-module _ (call : Lends) (change : ToRoster) (n : ℕ) (K : IsChange call change n) (d : Files) (s : List Step) (l p v : List ℕ) (c : CoreReply)
-    (s′ : List Step) (l′ p′ v′ : List ℕ) (w : s′ ≡ onto (stepsIn (c .steps) (c .flat)) s) where
+module _ (call : Lends) (change : ToRoster) (n : ℕ) (K : IsChange call change n) (d : Files) (s : List Step) (l p v : List ℕ) (c : Searched)
+    (s′ : List Step) (l′ p′ v′ : List ℕ) (w : s′ ≡ onto (stepsIn (c .outcome .steps) (c .outcome .flat)) s) where
   abbrev C : Call
   C = call (recordsIn s) l p v
 
   abbrev C′ : Call
   C′ = call (recordsIn s′) l′ p′ v′
 
-  abbrev r : FindReply
-  r = c .reply
+  abbrev ans : Found
+  ans = c .outcome .answer
 
   abbrev Promised : Type 0
-  Promised = Changes d call s l p v r s′ l′ p′ v′
+  Promised = Changes d call s l p v ans s′ l′ p′ v′ (c .files)
 
   -- the state's refusal, by the roster's reading and the buffers' sizes
   state-is : (x : Reading Roster) (b : Bool) → readRoster (rosterBytes d) ≡ x → short (length s) l p v ≡ b
@@ -196,13 +196,13 @@ module _ (call : Lends) (change : ToRoster) (n : ℕ) (K : IsChange call change 
   refused-by : (m : ℕ) (k : Change) → Unchanged m d k → 0 < m → FoundOn k (length s) l p v c l′ p′ v′ → Replied d C (refusal m) C d → Promised
   refused-by m k (e, q) h F R =
       let (same, kept₀) = F .refuses (subst (λ m. 0 < m) (sym e) h) in
-      let kept = subst (λ m. Kept m l p v (outcomeIn c) l′ p′ v′) e kept₀ in
-      let none = filled-none (c .steps) (c .flat) s s′ (kept .refuses .steps) w in
-      let answer : refusal m ≡ foundShown (r .answer) = sym (ap foundShown (kept .refuses .answer) ∙ ap (D.refused m) (shown-case (groupOf m))) in
+      let kept = subst (λ m. Kept m l p v (c .outcome) l′ p′ v′) e kept₀ in
+      let none = filled-none (c .outcome .steps) (c .outcome .flat) s s′ (kept .refuses .steps) w in
+      let answer : refusal m ≡ foundShown ans = sym (ap foundShown (kept .refuses .answer) ∙ ap (D.refused m) (shown-case (groupOf m))) in
       let lent : C ≡ C′ = λ i. call (recordsIn (sym none i)) (sym (kept .left) i) (sym (kept .plan) i) (sym (kept .rival) i) in
       record {
-        replied = subst (λ z. Replied d C (foundShown (r .answer)) C′ z) (sym (same ∙ q))
-            (subst (λ z. Replied d C (foundShown (r .answer)) z d) lent (subst (λ a. Replied d C a C d) answer R));
+        replied = subst (λ z. Replied d C (foundShown ans) C′ z) (sym (same ∙ q))
+            (subst (λ z. Replied d C (foundShown ans) z d) lent (subst (λ a. Replied d C a C d) answer R));
         afresh = λ t. absurd (subst (λ a. T (isAccepted a)) (sym answer) t);
         demand3 = λ t. absurd (subst (λ a. T (isAccepted a)) (sym answer) t);
       }
@@ -263,33 +263,33 @@ module _ (call : Lends) (change : ToRoster) (n : ℕ) (K : IsChange call change 
       done : Done (k .files) (length s) l p v c l′ p′ v′
       done = F .finds (omega arith)
 
-      finds : Finds (k .files) s l p v r s′ l′ p′ v′
+      finds : Finds (k .files) s l p v ans s′ l′ p′ v′ (c .files)
       finds = found (k .files) s l p v c s′ l′ p′ v′ done w
 
       long : finderShort (recordsIn s) l p v ≡ false
       long = sym (short-is s l p v) ∙ b
 
-      answer-is : foundShown (r .answer) ≡ foundOn chosen H
+      answer-is : foundShown ans ≡ foundOn chosen H
       answer-is = finds .replied .answer ∙ find-answer (k .files) H read (recordsIn s) l p v long
 
       lent-is : C′ ≡ foundBytes chosen call H (recordsIn s) l p v
       lent-is = ap (retold call) (finds .replied .lent ∙ find-lent (k .files) H read (recordsIn s) l p v long) ∙ retold-found call H (recordsIn s) l p v
 
-      taken : isAccepted (foundShown (r .answer)) ≡ true
+      taken : isAccepted (foundShown ans) ≡ true
       taken = ap isAccepted answer-is ∙ found-accepted (length (stepsOf (instanceOf H))) (finderOf (instanceOf H) (rivalOf (instanceOf H)))
 
-      reply : Replied d C (foundShown (r .answer)) C′ (k .files)
+      reply : Replied d C (foundShown ans) C′ (k .files)
       reply = record {
         answer = answer-is ∙ answer-on (accepted H) e ∙ ap (λ h. answerOn chosen h C) (sym (roster-held d R a)) ∙ pass-answer (heldOf d) C lets-pass;
         lent = lent-is ∙ lent-on (accepted H) e ∙ ap (λ h. lentOn chosen h C) (sym (roster-held d R a)) ∙ pass-lent (heldOf d) C lets-pass;
         desk = held-then .0 ∙ desk-on (accepted H) e ∙ ap (λ h. deskOn h C) (sym (roster-held d R a)) ∙ pass-desk (heldOf d) C lets-pass;
-        stored = K .stores (recordsIn s) l p v (isAccepted (foundShown (r .answer))) d (k .files) (subst (λ b. ChangeIn b d (k .files)) (sym taken) files);
+        stored = K .stores (recordsIn s) l p v (isAccepted (foundShown ans)) d (k .files) (subst (λ b. ChangeIn b d (k .files)) (sym taken) files);
       }
 
       change-taken : Promised
       change-taken = record {
-        replied = subst (λ z. Replied d C (foundShown (r .answer)) C′ z) (sym (done .same)) reply;
-        afresh = λ y. subst (λ z. (foundShown (r .answer) ≡ answered (heldOf z) (find (recordsIn s) l p v))
+        replied = subst (λ z. Replied d C (foundShown ans) C′ z) (sym (done .same)) reply;
+        afresh = λ y. subst (λ z. (foundShown ans ≡ answered (heldOf z) (find (recordsIn s) l p v))
             × (find (recordsIn s′) l′ p′ v′ ≡ lentThen (heldOf z) (find (recordsIn s) l p v))) (sym (done .same))
             (finds .replied .answer, finds .replied .lent);
         demand3 = λ y Q q. finds .demand3 Q (ap (λ z. readRoster (rosterBytes z)) (sym (done .same)) ∙ q) (false-T long);
@@ -309,12 +309,12 @@ module _ (call : Lends) (change : ToRoster) (n : ℕ) (K : IsChange call change 
           (state-refused 15 (omega arith) (unneeded R (readPlan (instanceOf R) (planBytes d)) true ∙ state-is (accepted R) true a q))
       go (accepted R) a false q (f, u) = by-change R a q f (change R) refl u
 
-pub joins : (d : Files) (q : ℕ) (file : List ℕ) (s : List Step) (l p v : List ℕ) (c : CoreReply) (s′ : List Step) (l′ p′ v′ : List ℕ)
-    → JoinDone d q file (length s) l p v c l′ p′ v′ → s′ ≡ onto (stepsIn (c .steps) (c .flat)) s
-    → Changes d (join q file) s l p v (c .reply) s′ l′ p′ v′
+pub joins : (d : Files) (q : ℕ) (file : List ℕ) (s : List Step) (l p v : List ℕ) (c : Searched) (s′ : List Step) (l′ p′ v′ : List ℕ)
+    → JoinDone d q file (length s) l p v c l′ p′ v′ → s′ ≡ onto (stepsIn (c .outcome .steps) (c .outcome .flat)) s
+    → Changes d (join q file) s l p v (c .outcome .answer) s′ l′ p′ v′ (c .files)
 joins d q file s l p v c s′ l′ p′ v′ (isB, D) w = promised (join q file) (λ R. joinOn R q file) 0 (join-is q file isB) d s l p v c s′ l′ p′ v′ w D
 
-pub leaves : (d : Files) (n : ℕ) (s : List Step) (l p v : List ℕ) (c : CoreReply) (s′ : List Step) (l′ p′ v′ : List ℕ)
-    → ChangeDone d (λ R. leaveOn R n) n (length s) l p v c l′ p′ v′ → s′ ≡ onto (stepsIn (c .steps) (c .flat)) s
-    → Changes d (leave n) s l p v (c .reply) s′ l′ p′ v′
+pub leaves : (d : Files) (n : ℕ) (s : List Step) (l p v : List ℕ) (c : Searched) (s′ : List Step) (l′ p′ v′ : List ℕ)
+    → ChangeDone d (λ R. leaveOn R n) n (length s) l p v c l′ p′ v′ → s′ ≡ onto (stepsIn (c .outcome .steps) (c .outcome .flat)) s
+    → Changes d (leave n) s l p v (c .outcome .answer) s′ l′ p′ v′ (c .files)
 leaves d n s l p v c s′ l′ p′ v′ D w = promised (leave n) (λ R. leaveOn R n) n (leave-is n) d s l p v c s′ l′ p′ v′ w D

@@ -26,43 +26,39 @@ use Rattle.theory_reduction.specs.Course.{steps-few}
 use Rattle.diary.specs.declared.Step.{Step}
 use Rattle.diary.specs.LentSteps.{recordIn, recordsIn, stepsIn}
 use Rattle.diary.specs.FilledDiary.{filled-diary, filled-none}
+use Rattle.answers.specs.declared.Found.{Found}
 use Rattle.answers.specs.FinderCases.{foundShown}
 use Rattle.answers.specs.GroupCases.{shown-case}
 use Rattle.finder.specs.Promise as promise
 use Rattle.finder.specs.Promise.{Promise, written-is, shown-is, promised, steps-are}
 use Rattle.finder_ending.specs.EndBuffers.{leftAfter, planAfter, answerFor}
 use Rattle.diary.specs.FlatDiary.{flatSize}
 use Rattle.desk_find.specs.declared.Outcome.{Outcome}
 use Rattle.desk_find.specs.Outcomes as finds
 use Rattle.desk_find.specs.Outcomes.{FindsFor, short, OutcomeFor, Outcomes}
 use Rattle.desk_files.specs.declared.Files.{Files}
-use Rattle.desk.specs.declared.FindReply.{FindReply}
-use Rattle.desk.specs.declared.CoreReply.{CoreReply}
+use Rattle.desk_find.specs.declared.Searched.{Searched}
 use Rattle.desk_loaded.specs.Held.{heldPlan, held, stateNumber}
 use Rattle.desk_files.specs.Held.{rosterBytes, planBytes, heldOf}
 use Rattle.desk_files.specs.Replies.{Replied}
 use Rattle.desk_files.specs.State.{states, by-state, pass-answer, pass-lent, desk-alike}
 
--- what the core hands back, as the finder's outcome
-abbrev pub outcomeIn : CoreReply → Outcome
-outcomeIn c = record { answer = c .reply .answer; flat = c .flat; steps = c .steps }
-
-pub record Done (d : Files) (room : ℕ) (l p v : List ℕ) (c : CoreReply) (l′ p′ v′ : List ℕ) : Type 0 where
-  pub same : c .reply .desk .files ≡ d
-  pub outcome : Outcomes (rosterBytes d) room l p v (outcomeIn c) l′ p′ v′
+pub record Done (d : Files) (room : ℕ) (l p v : List ℕ) (c : Searched) (l′ p′ v′ : List ℕ) : Type 0 where
+  pub same : c .files ≡ d
+  pub outcome : Outcomes (rosterBytes d) room l p v (c .outcome) l′ p′ v′
 
 -- on the bytes held
-pub done-on : {d : Files} {room : ℕ} {l p v : List ℕ} {c : CoreReply} {l′ p′ v′ : List ℕ} {roster : List ℕ} → roster ≡ rosterBytes d → c .reply .desk .files ≡ d
-    → Outcomes roster room l p v (outcomeIn c) l′ p′ v′ → Done d room l p v c l′ p′ v′
+pub done-on : {d : Files} {room : ℕ} {l p v : List ℕ} {c : Searched} {l′ p′ v′ : List ℕ} {roster : List ℕ} → roster ≡ rosterBytes d → c .files ≡ d
+    → Outcomes roster room l p v (c .outcome) l′ p′ v′ → Done d room l p v c l′ p′ v′
 done-on {d} {room} {l} {p} {v} {c} {l′} {p′} {v′} e q o =
-    record { same = q; outcome = subst (λ b. Outcomes b room l p v (outcomeIn c) l′ p′ v′) e o }
+    record { same = q; outcome = subst (λ b. Outcomes b room l p v (c .outcome) l′ p′ v′) e o }
 
 -- the call's promise
-pub record Finds (d : Files) (s : List Step) (l p v : List ℕ) (r : FindReply) (s′ : List Step) (l′ p′ v′ : List ℕ) : Type 0 where
-  pub replied : Replied d (find (recordsIn s) l p v) (foundShown (r .answer)) (find (recordsIn s′) l′ p′ v′) (r .desk .files)
+pub record Finds (d : Files) (s : List Step) (l p v : List ℕ) (answer : Found) (s′ : List Step) (l′ p′ v′ : List ℕ) (d′ : Files) : Type 0 where
+  pub replied : Replied d (find (recordsIn s) l p v) (foundShown answer) (find (recordsIn s′) l′ p′ v′) d′
   -- demand 3, whole, for the roster held and buffers of their sizes
   pub demand3 : (R : Roster) → readRoster (rosterBytes d) ≡ accepted R → T (not (lentShort (find (recordsIn s) l p v)))
-      → Promise R (r .answer) (recordsIn s) l p v (recordsIn s′) l′ p′ v′
+      → Promise R answer (recordsIn s) l p v (recordsIn s′) l′ p′ v′
 
 -- ---- the records fit
 fit : (room : ℕ) (l p v : List ℕ) (o : Outcome) (l′ p′ v′ : List ℕ) (x : Reading Roster) (b : Bool) → short room l p v ≡ b
@@ -80,8 +76,8 @@ fit room l p v o l′ p′ v′ (accepted R) false q (f, e) =
     first true b e = subst T e tt
     first false b e = tt
 
-pub within : (d : Files) (room : ℕ) (l p v : List ℕ) (c : CoreReply) (l′ p′ v′ : List ℕ) → Done d room l p v c l′ p′ v′ → (c .steps ≤ 1024) × (c .steps ≤ room)
-within d room l p v c l′ p′ v′ D = fit room l p v (outcomeIn c) l′ p′ v′ (readRoster (rosterBytes d)) (short room l p v) refl (D .outcome)
+pub within : (d : Files) (room : ℕ) (l p v : List ℕ) (c : Searched) (l′ p′ v′ : List ℕ) → Done d room l p v c l′ p′ v′ → (c .outcome .steps ≤ 1024) × (c .outcome .steps ≤ room)
+within d room l p v c l′ p′ v′ D = fit room l p v (c .outcome) l′ p′ v′ (readRoster (rosterBytes d)) (short room l p v) refl (D .outcome)
 
 -- ---- the reply
 module _ (s : List Step) (l p v : List ℕ) where
@@ -123,7 +119,7 @@ module _ (s : List Step) (l p v : List ℕ) where
       go (accepted M) = refl
       go (reading.refused n) = refl
 
-  module _ (d : Files) (r : FindReply) (same : r .desk .files ≡ d) (flat : List ℕ) (s′ : List Step) (l′ p′ v′ : List ℕ) where
+  module _ (d : Files) (ans : Found) (d′ : Files) (same : d′ ≡ d) (flat : List ℕ) (s′ : List Step) (l′ p′ v′ : List ℕ) where
     state-here : (x : Reading Roster) → readRoster (rosterBytes d) ≡ x → (b : Bool) → short (length s) l p v ≡ b
         → stateAt x b ≡ stateNumber (heldOf d) false (lentShort call)
     unfolding heldOf
@@ -131,16 +127,16 @@ module _ (s : List Step) (l p v : List ℕ) where
         ap (stateAt x) (sym q ∙ short-is) ∙ state-at x (planBytes d) ∙ ap (λ y. stateNumber (held y (planBytes d)) false (lentShort call)) (sym e)
 
     -- a refusal by 13 or 15
-    refused-reply : (n : ℕ) → 0 < n → n ≡ stateNumber (heldOf d) false (lentShort call) → (o : Outcome) → o .answer ≡ r .answer
+    refused-reply : (n : ℕ) → 0 < n → n ≡ stateNumber (heldOf d) false (lentShort call) → (o : Outcome) → o .answer ≡ ans
         → finds.Kept n l p v o l′ p′ v′ → s′ ≡ s
-        → Replied d call (foundShown (r .answer)) (find (recordsIn s′) l′ p′ v′) (r .desk .files)
+        → Replied d call (foundShown ans) (find (recordsIn s′) l′ p′ v′) d′
     refused-reply n h e o a k q =
-        subst (λ z. Replied d call (foundShown (r .answer)) (find (recordsIn s′) l′ p′ v′) z) (sym same)
-        (subst (λ c. Replied d call (foundShown (r .answer)) c d) (λ i. find (recordsIn (sym q i)) (sym (k .left) i) (sym (k .plan) i) (sym (k .rival) i))
+        subst (λ z. Replied d call (foundShown ans) (find (recordsIn s′) l′ p′ v′) z) (sym same)
+        (subst (λ c. Replied d call (foundShown ans) c d) (λ i. find (recordsIn (sym q i)) (sym (k .left) i) (sym (k .plan) i) (sym (k .rival) i))
         (by-state d call tt e h (ap foundShown (sym a ∙ k .refuses .answer) ∙ ap (refused n) (shown-case (groupOf n)))))
 
     -- what was found
-    module _ (R : Roster) (e : readRoster (rosterBytes d) ≡ accepted R) (f : FindsFor R (replicate flatSize 0) l p v (r .answer) flat l′ p′ v′)
+    module _ (R : Roster) (e : readRoster (rosterBytes d) ≡ accepted R) (f : FindsFor R (replicate flatSize 0) l p v ans flat l′ p′ v′)
         (q : recordsIn s′ ≡ onto (diaryOf (instanceOf R)) (recordsIn s)) where
       abbrev x : F.Found
       x = finderOf (instanceOf R) (rivalOf (instanceOf R))
@@ -149,7 +145,7 @@ module _ (s : List Step) (l p v : List ℕ) where
       unfolding heldOf
       held-here = ap (λ y. held y (planBytes d)) e
 
-      answer-here : foundShown (r .answer) ≡ foundAnswer (length (stepsOf (instanceOf R))) x
+      answer-here : foundShown ans ≡ foundAnswer (length (stepsOf (instanceOf R))) x
       answer-here = ap foundShown (f .finds .wrote .answer) ∙ shown-is (length (stepsOf (instanceOf R))) x
 
       lent-here : find (recordsIn s′) l′ p′ v′ ≡ foundWritten find (instanceOf R) x (recordsIn s) l p v
@@ -157,7 +153,7 @@ module _ (s : List Step) (l p v : List ℕ) where
           (λ i. find (q i) (f .finds .wrote .left i) (f .finds .wrote .plan i) (f .finds .wrote .rival i))
           ∙ sym (written-is find (instanceOf R) x (recordsIn s) l p v)
 
-      found-reply : 0 ≡ stateRefusal (heldOf d) call → Replied d call (foundShown (r .answer)) (find (recordsIn s′) l′ p′ v′) (r .desk .files)
+      found-reply : 0 ≡ stateRefusal (heldOf d) call → Replied d call (foundShown ans) (find (recordsIn s′) l′ p′ v′) d′
       found-reply z = record {
         answer = answer-here ∙ sym (ap (λ h. answerOn chosen h call) held-here ∙ answer-on R (planBytes d)) ∙ pass-answer (heldOf d) call z;
         lent = lent-here ∙ sym (ap (λ h. lentOn chosen h call) held-here ∙ lent-on R (planBytes d)) ∙ pass-lent (heldOf d) call z;
@@ -165,7 +161,7 @@ module _ (s : List Step) (l p v : List ℕ) where
         stored = same;
       }
 
-      promised-here : Promise R (r .answer) (recordsIn s) l p v (recordsIn s′) l′ p′ v′
+      promised-here : Promise R ans (recordsIn s) l p v (recordsIn s′) l′ p′ v′
       promised-here =
           subst (λ a. Promise R a (recordsIn s) l p v (recordsIn s′) l′ p′ v′) (sym (f .finds .wrote .answer))
           (subst (λ z. Promise R (answerFor (length (stepsOf (instanceOf R))) x) (recordsIn s) l p v z l′ p′ v′) (sym q)
@@ -183,7 +179,7 @@ module _ (s : List Step) (l p v : List ℕ) where
           (promised R (f .fitting) (recordsIn s) l p v)))))
 
     -- the filled diary is the model's
-    diary-here : (R : Roster) (steps : ℕ) → FindsFor R (replicate flatSize 0) l p v (r .answer) flat l′ p′ v′ → steps ≡ promise.stepsIn (r .answer)
+    diary-here : (R : Roster) (steps : ℕ) → FindsFor R (replicate flatSize 0) l p v ans flat l′ p′ v′ → steps ≡ promise.stepsIn ans
         → s′ ≡ onto (stepsIn steps flat) s → recordsIn s′ ≡ onto (diaryOf (instanceOf R)) (recordsIn s)
     unfolding diaryOf
     diary-here R steps f n w = filled-diary (diaryOf (instanceOf R)) steps flat (replicate flatSize 0) s s′ (f .finds .diary)
@@ -193,14 +189,14 @@ module _ (s : List Step) (l p v : List ℕ) where
 
     -- by the roster's reading and the buffers' sizes
     abbrev Both : Type 0
-    Both = Replied d call (foundShown (r .answer)) (find (recordsIn s′) l′ p′ v′) (r .desk .files)
+    Both = Replied d call (foundShown ans) (find (recordsIn s′) l′ p′ v′) d′
         × ((R : Roster) → readRoster (rosterBytes d) ≡ accepted R → T (not (lentShort call))
-        → Promise R (r .answer) (recordsIn s) l p v (recordsIn s′) l′ p′ v′)
+        → Promise R ans (recordsIn s) l p v (recordsIn s′) l′ p′ v′)
 
     by-outcome : (x : Reading Roster) → readRoster (rosterBytes d) ≡ x → (b : Bool) → short (length s) l p v ≡ b → (steps : ℕ)
-        → OutcomeFor x b l p v (record { answer = r .answer; flat = flat; steps = steps }) l′ p′ v′ → s′ ≡ onto (stepsIn steps flat) s → Both
+        → OutcomeFor x b l p v (record { answer = ans; flat = flat; steps = steps }) l′ p′ v′ → s′ ≡ onto (stepsIn steps flat) s → Both
     by-outcome (reading.refused n) e b q steps k w = (
-      refused-reply 13 (omega arith) (state-here (reading.refused n) e b q) (record { answer = r .answer; flat = flat; steps = steps }) refl k
+      refused-reply 13 (omega arith) (state-here (reading.refused n) e b q) (record { answer = ans; flat = flat; steps = steps }) refl k
           (filled-none steps flat s s′ (k .refuses .steps) w),
       λ R a t. absurd (no-roster (sym e ∙ a)),
     )
@@ -212,13 +208,13 @@ module _ (s : List Step) (l p v : List ℕ) where
         no-roster : {n : ℕ} {R : Roster} → reading.refused n ≡ accepted R → ⊥
         no-roster z = subst (λ y. T (isTurned y)) z tt
     by-outcome (accepted R) e true q steps k w = (
-      refused-reply 15 (omega arith) (state-here (accepted R) e true q) (record { answer = r .answer; flat = flat; steps = steps }) refl k
+      refused-reply 15 (omega arith) (state-here (accepted R) e true q) (record { answer = ans; flat = flat; steps = steps }) refl k
           (filled-none steps flat s s′ (k .refuses .steps) w),
       λ R a t. absurd (subst (λ b. T (not b)) (sym short-is ∙ q) t),
     )
     by-outcome (accepted R) e false q steps (f, n) w = (
       found-reply R e f (diary-here R steps f n w) (state-here (accepted R) e false q ∙ states (heldOf d) call tt),
-      λ R′ a t. subst (λ Q. Promise Q (r .answer) (recordsIn s) l p v (recordsIn s′) l′ p′ v′) (one (sym e ∙ a))
+      λ R′ a t. subst (λ Q. Promise Q ans (recordsIn s) l p v (recordsIn s′) l′ p′ v′) (one (sym e ∙ a))
           (promised-here R e f (diary-here R steps f n w)),
     )
       where
@@ -229,11 +225,11 @@ module _ (s : List Step) (l p v : List ℕ) where
         one : {Q R : Roster} → accepted Q ≡ accepted R → Q ≡ R
         one {Q} z = ap (rosterOf Q) z
 
-pub found : (d : Files) (s : List Step) (l p v : List ℕ) (c : CoreReply) (s′ : List Step) (l′ p′ v′ : List ℕ) → Done d (length s) l p v c l′ p′ v′
-    → s′ ≡ onto (stepsIn (c .steps) (c .flat)) s
-    → Finds d s l p v (c .reply) s′ l′ p′ v′
+pub found : (d : Files) (s : List Step) (l p v : List ℕ) (c : Searched) (s′ : List Step) (l′ p′ v′ : List ℕ) → Done d (length s) l p v c l′ p′ v′
+    → s′ ≡ onto (stepsIn (c .outcome .steps) (c .outcome .flat)) s
+    → Finds d s l p v (c .outcome .answer) s′ l′ p′ v′ (c .files)
 found d s l p v c s′ l′ p′ v′ D w =
     let (a, b) =
-    by-outcome s l p v d (c .reply) (D .same) (c .flat) s′ l′ p′ v′ (readRoster (rosterBytes d)) refl (short (length s) l p v) refl (c .steps)
+    by-outcome s l p v d (c .outcome .answer) (c .files) (D .same) (c .outcome .flat) s′ l′ p′ v′ (readRoster (rosterBytes d)) refl (short (length s) l p v) refl (c .outcome .steps)
     (D .outcome) w in
     record { replied = a; demand3 = b }
