@@ -11,26 +11,26 @@ use Rattle.answers.specs.declared.Verdict.{Verdict}
 use Rattle.answers.specs.VerdictCases.{verdictShown}
 use Rattle.abi_numbers.specs.declared.Judged.{Judged}
 use Rattle.abi_numbers.specs.Numbers.{judgedIn}
-use Rattle.desk.specs.declared.Desk.{Desk}
-use Rattle.desk.specs.Held.{heldOf}
-use Rattle.desk.specs.Judging.{Judges}
-use Rattle.desk.specs.Replies.{answered, Replied}
+use Rattle.desk_files.specs.declared.Files.{Files}
+use Rattle.desk_files.specs.Held.{heldOf}
+use Rattle.desk_files.specs.Replies.{answered, Replied}
+use Rattle.desk_looks.specs.Judging.{Judges}
 
 -- a call on a desk: its numbers, and all that the desk promises
-pub record Served {A : Type 0} (numbersIn : Answer → A) (d : Desk) (c : Call) (n : A) (c′ : Call) (d′ : Desk) : Type 0 where
+pub record Served {A : Type 0} (numbersIn : Answer → A) (d : Files) (c : Call) (n : A) (c′ : Call) (d′ : Files) : Type 0 where
   pub numbers : n ≡ numbersIn (answered (heldOf d) c)
   pub reply : Replied d c (answered (heldOf d) c) c′ d′
 
-pub served : {A : Type 0} (numbersIn : Answer → A) {d : Desk} {c : Call} {a : Answer} {n : A} {c′ : Call} {d′ : Desk} → Replied d c a c′ d′
+pub served : {A : Type 0} (numbersIn : Answer → A) {d : Files} {c : Call} {a : Answer} {n : A} {c′ : Call} {d′ : Files} → Replied d c a c′ d′
     → n ≡ numbersIn a → Served numbersIn d c n c′ d′
 served numbersIn {d} {c} {a} {n} {c′} {d′} R e = record { numbers = e ∙ ap numbersIn (R .answer); reply = subst (λ z. Replied d c z c′ d′) (R .answer) R }
 
 -- the verdict's call: the same, and what holds of the rival that it writes
-pub record JudgedFor (d : Desk) (v : List ℕ) (n : Judged) (v′ : List ℕ) (d′ : Desk) : Type 0 where
+pub record JudgedFor (d : Files) (v : List ℕ) (n : Judged) (v′ : List ℕ) (d′ : Files) : Type 0 where
   pub served : Served judgedIn d (judge v) n (judge v′) d′
   pub rival : (R : Roster) (M : Plan) → heldOf d ≡ planned R M → RivalSaid (instanceOf R) M (answered (heldOf d) (judge v)) v v′
 
-pub judged : {d : Desk} {v : List ℕ} {a : Verdict} {n : Judged} {v′ : List ℕ} {d′ : Desk} → Judges d v a v′ d′ → n ≡ judgedIn (verdictShown a)
+pub judged : {d : Files} {v : List ℕ} {a : Verdict} {n : Judged} {v′ : List ℕ} {d′ : Files} → Judges d v a v′ d′ → n ≡ judgedIn (verdictShown a)
     → JudgedFor d v n v′ d′
 judged {d} {v} {a} {n} {v′} {d′} J e = record {
   served = served judgedIn (J .replied) e;

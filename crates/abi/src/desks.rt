@@ -2,7 +2,7 @@
 // fields. A refused load, and every call but a load, hands it back as it came.
 ghost use mathlib.Core.Path.{_≡_};
 ghost use Rattle.model.specs.Desk.{opening, loadRoster, loadPlan, writeRosterTo, writePlanTo, compare, blocking};
-ghost use Rattle.desk.specs.Held.{heldOf};
+ghost use Rattle.desk_files.specs.Held.{heldOf};
 ghost use Rattle.abi_numbers.specs.Numbers.{refusalIn, outcomeIn, comparedIn, blockerIn};
 ghost use Rattle.abi.specs.Desks.{Served, JudgedFor};
 use abi_numbers::Blocker;
@@ -45,7 +45,7 @@ pub struct DeskBlocker {
 // a desk with nothing loaded
 #[no_mangle]
 pub extern "C" fn crew_open() -> Desk
-    ensures { λ r. ⌜ heldOf r ≡ opening ⌝ }
+    ensures { λ r. ⌜ heldOf (r .files) ≡ opening ⌝ }
 {
     Desk::open()
 }
@@ -53,7 +53,7 @@ pub extern "C" fn crew_open() -> Desk
 // takes a roster file in, and drops the plan
 #[no_mangle]
 pub extern "C" fn crew_load_roster(desk: Desk, file: &[u8]) -> DeskLoaded
-    ensures { λ r. ⌜ Served refusalIn desk (loadRoster (now (file .entry))) (r .refusal) (loadRoster (now (file .entry))) (r .desk) ⌝ }
+    ensures { λ r. ⌜ Served refusalIn (desk .files) (loadRoster (now (file .entry))) (r .refusal) (loadRoster (now (file .entry))) (r .desk .files) ⌝ }
 {
     let r = desk.load_roster(file);
     let d = r.desk;
@@ -67,7 +67,7 @@ pub extern "C" fn crew_load_roster(desk: Desk, file: &[u8]) -> DeskLoaded
 // takes a plan file in, judged against the held roster
 #[no_mangle]
 pub extern "C" fn crew_load_plan(desk: Desk, file: &[u8]) -> DeskLoaded
-    ensures { λ r. ⌜ Served refusalIn desk (loadPlan (now (file .entry))) (r .refusal) (loadPlan (now (file .entry))) (r .desk) ⌝ }
+    ensures { λ r. ⌜ Served refusalIn (desk .files) (loadPlan (now (file .entry))) (r .refusal) (loadPlan (now (file .entry))) (r .desk .files) ⌝ }
 {
     let r = desk.load_plan(file);
     let d = r.desk;
@@ -81,7 +81,7 @@ pub extern "C" fn crew_load_plan(desk: Desk, file: &[u8]) -> DeskLoaded
 // writes the held roster to the front of out, which has at least 4,262 bytes, else 15
 #[no_mangle]
 pub extern "C" fn crew_write_roster(desk: Desk, out: &mut [u8]) -> DeskWritten
-    ensures { λ r. ⌜ Served outcomeIn desk (writeRosterTo (now (out .entry))) (r .outcome) (writeRosterTo (now (out .exit))) (r .desk) ⌝ }
+    ensures { λ r. ⌜ Served outcomeIn (desk .files) (writeRosterTo (now (out .entry))) (r .outcome) (writeRosterTo (now (out .exit))) (r .desk .files) ⌝ }
 {
     let r = desk.write_roster(out);
     let d = r.desk;
@@ -96,7 +96,7 @@ pub extern "C" fn crew_write_roster(desk: Desk, out: &mut [u8]) -> DeskWritten
 // writes the held plan to the front of out, which has at least 193 bytes, else 15
 #[no_mangle]
 pub extern "C" fn crew_write_plan(desk: Desk, out: &mut [u8]) -> DeskWritten
-    ensures { λ r. ⌜ Served outcomeIn desk (writePlanTo (now (out .entry))) (r .outcome) (writePlanTo (now (out .exit))) (r .desk) ⌝ }
+    ensures { λ r. ⌜ Served outcomeIn (desk .files) (writePlanTo (now (out .entry))) (r .outcome) (writePlanTo (now (out .exit))) (r .desk .files) ⌝ }
 {
     let r = desk.write_plan(out);
     let d = r.desk;
@@ -111,7 +111,7 @@ pub extern "C" fn crew_write_plan(desk: Desk, out: &mut [u8]) -> DeskWritten
 // the verdict on the held plan; a rival goes to the front of the buffer, which has at least 193 bytes, else 15
 #[no_mangle]
 pub extern "C" fn crew_judge(desk: Desk, rival: &mut [u8]) -> DeskJudged
-    ensures { λ r. ⌜ JudgedFor desk (now (rival .entry)) (r .judged) (now (rival .exit)) (r .desk) ⌝ }
+    ensures { λ r. ⌜ JudgedFor (desk .files) (now (rival .entry)) (r .judged) (now (rival .exit)) (r .desk .files) ⌝ }
 {
     let r = desk.judge(rival);
     let d = r.desk;
@@ -123,8 +123,8 @@ pub extern "C" fn crew_judge(desk: Desk, rival: &mut [u8]) -> DeskJudged
 // two plan files against the held roster
 #[no_mangle]
 pub extern "C" fn crew_compare(desk: Desk, first: &[u8], second: &[u8]) -> DeskCompared
-    ensures { λ r. ⌜ Served comparedIn desk (compare (now (first .entry)) (now (second .entry))) (r .compared)
-        (compare (now (first .entry)) (now (second .entry))) (r .desk) ⌝ }
+    ensures { λ r. ⌜ Served comparedIn (desk .files) (compare (now (first .entry)) (now (second .entry))) (r .compared)
+        (compare (now (first .entry)) (now (second .entry))) (r .desk .files) ⌝ }
 {
     let r = desk.compare_votes(first, second);
     let d = r.desk;
@@ -139,7 +139,7 @@ pub extern "C" fn crew_compare(desk: Desk, first: &[u8], second: &[u8]) -> DeskC
 // the first blocking pair of the held plan
 #[no_mangle]
 pub extern "C" fn crew_blocking(desk: Desk) -> DeskBlocker
-    ensures { λ r. ⌜ Served blockerIn desk blocking (r .blocker) blocking (r .desk) ⌝ }
+    ensures { λ r. ⌜ Served blockerIn (desk .files) blocking (r .blocker) blocking (r .desk .files) ⌝ }
 {
     let r = desk.blocking();
     let d = r.desk;

@@ -2,8 +2,8 @@
 // records.
 ghost use mathlib.Core.Path.{_≡_};
 ghost use Rattle.model.specs.Desk.{join, leave};
-ghost use Rattle.desk.specs.Finding.{Finds};
-ghost use Rattle.desk.specs.Changes.{Changes};
+ghost use Rattle.desk_find.specs.Finding.{Finds};
+ghost use Rattle.desk_changes.specs.Changes.{Changes};
 ghost use Rattle.abi.specs.Finds.{numbersOf, Numbered};
 use desk::Desk;
 use desk::FindReply;
@@ -45,8 +45,8 @@ pub extern "C" fn crew_find(
     plan: &mut [u8],
     rival: &mut [u8],
 ) -> DeskFound
-    ensures { λ r. ⌜ Numbered (λ x. Finds desk (now (diary .entry)) (now (left .entry)) (now (plan .entry)) (now (rival .entry)) x (now (diary .exit))
-        (now (left .exit)) (now (plan .exit)) (now (rival .exit))) r ⌝ }
+    ensures { λ r. ⌜ Numbered (λ x. Finds (desk .files) (now (diary .entry)) (now (left .entry)) (now (plan .entry)) (now (rival .entry)) (x .answer)
+        (now (diary .exit)) (now (left .exit)) (now (plan .exit)) (now (rival .exit)) (x .desk .files)) r ⌝ }
 {
     let r = desk.find(diary, left, plan, rival);
     numbers_of(r)
@@ -63,8 +63,8 @@ pub extern "C" fn crew_join(
     plan: &mut [u8],
     rival: &mut [u8],
 ) -> DeskFound
-    ensures { λ r. ⌜ Numbered (λ x. Changes desk (join quota (now (list .entry))) (now (diary .entry)) (now (left .entry)) (now (plan .entry))
-        (now (rival .entry)) x (now (diary .exit)) (now (left .exit)) (now (plan .exit)) (now (rival .exit))) r ⌝ }
+    ensures { λ r. ⌜ Numbered (λ x. Changes (desk .files) (join quota (now (list .entry))) (now (diary .entry)) (now (left .entry)) (now (plan .entry))
+        (now (rival .entry)) (x .answer) (now (diary .exit)) (now (left .exit)) (now (plan .exit)) (now (rival .exit)) (x .desk .files)) r ⌝ }
 {
     let r = desk.join(quota, list, diary, left, plan, rival);
     numbers_of(r)
@@ -80,8 +80,8 @@ pub extern "C" fn crew_leave(
     plan: &mut [u8],
     rival: &mut [u8],
 ) -> DeskFound
-    ensures { λ r. ⌜ Numbered (λ x. Changes desk (leave number) (now (diary .entry)) (now (left .entry)) (now (plan .entry)) (now (rival .entry)) x
-        (now (diary .exit)) (now (left .exit)) (now (plan .exit)) (now (rival .exit))) r ⌝ }
+    ensures { λ r. ⌜ Numbered (λ x. Changes (desk .files) (leave number) (now (diary .entry)) (now (left .entry)) (now (plan .entry)) (now (rival .entry))
+        (x .answer) (now (diary .exit)) (now (left .exit)) (now (plan .exit)) (now (rival .exit)) (x .desk .files)) r ⌝ }
 {
     let r = desk.leave(number, diary, left, plan, rival);
     numbers_of(r)

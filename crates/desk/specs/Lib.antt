@@ -1,13 +1,1 @@
-pub mod Held
-pub mod Front
 pub mod Replies
-pub mod State
-pub mod Calls
-pub mod Judging
-pub mod Comparing
-pub mod Loads
-pub mod Finding
-pub mod Changing
-pub mod ChangeSteps
-pub mod Changes
-pub mod Seasons

@@ -1,42 +1,37 @@
 // The desk, document 01's session state: "The desk goes into each call by value and comes back: nothing loaded, a roster, or a roster and
 // a plan." What it holds is said by its bytes alone, so any field values may come in: a length above its array is cut to it, bytes that
 // are no roster are nothing loaded, and bytes that are no plan of the roster are no plan held. No call asks anything of its caller.
-mod changing;
-mod held;
-mod seasons;
-mod store;
-
 ghost use mathlib.Core.Path.{_≡_};
+ghost use Rattle.model.specs.Changes.{leaveOn};
 ghost use Rattle.model.specs.Desk.{opening, loadRoster, loadPlan, writeRosterTo, writePlanTo, join, leave, compare, blocking, planToNew, planToOld};
 ghost use Rattle.answers.specs.FileCases.{fileShown};
 ghost use Rattle.answers.specs.WrittenCases.{writtenShown};
 ghost use Rattle.answers.specs.ComparisonCases.{comparisonShown};
 ghost use Rattle.answers.specs.BlockedCases.{blockedShown};
-ghost use Rattle.desk.specs.Held.{heldOf};
-ghost use Rattle.desk.specs.Changes.{Changes};
-ghost use Rattle.desk.specs.Comparing.{Compares};
-ghost use Rattle.desk.specs.Finding.{Done, Finds};
-ghost use Rattle.desk.specs.Judging.{Judges};
-ghost use Rattle.desk.specs.Replies.{Replied};
-ghost use Rattle.desk.specs.Seasons.{Turns};
+ghost use Rattle.desk_files.specs.Held.{heldOf};
+ghost use Rattle.desk_changes.specs.AfterChange.{ChangeDone, JoinDone};
+ghost use Rattle.desk_changes.specs.Changes.{Changes};
+ghost use Rattle.desk_find.specs.Finding.{Done, Finds};
+ghost use Rattle.desk_looks.specs.Comparing.{Compares};
+ghost use Rattle.desk.specs.Replies.{searchedIn};
+ghost use Rattle.desk_looks.specs.Judging.{Judges};
+ghost use Rattle.desk_files.specs.Replies.{Replied};
+ghost use Rattle.desk_looks.specs.Seasons.{Turns};
 use answers::Blocked;
 use answers::Comparison;
 use answers::FileAnswer;
 use answers::Found;
 use answers::Verdict;
 use answers::Written;
+use desk_files::Files;
+use desk_find::Searched;
 use diary::Step;
 use limits::FLAT_SIZE;
-use limits::PLAN_SIZE;
-use limits::ROSTER_SIZE;
 
-// the bytes of a roster file and of a plan file, at the front of their arrays
+// the files that it holds, as bytes
 #[repr(C)]
 pub struct Desk {
-    pub roster_len: usize,
-    pub roster: [u8; ROSTER_SIZE],
-    pub plan_len: usize,
-    pub plan: [u8; PLAN_SIZE],
+    pub files: Files,
 }
 
 pub struct LoadReply {
@@ -83,25 +78,16 @@ pub struct CoreReply {
     pub steps: usize,
 }
 
-// All of a find but the lent diary, of which it is told the length.
-pub(crate) fn core(
-    desk: Desk,
-    room: usize,
-    left: &mut [u8],
-    plan: &mut [u8],
-    rival: &mut [u8],
-) -> CoreReply
-    ensures { λ r. ⌜ Done desk room (now (left .entry)) (now (plan .entry)) (now (rival .entry)) r (now (left .exit)) (now (plan .exit)) (now (rival .exit)) ⌝ }
+// A search's outcome as a reply of the desk.
+pub(crate) fn replied(s: Searched) -> CoreReply
+    ensures { λ r. ⌜ searchedIn r ≡ s ⌝ }
 {
-    let roster = desk.roster;
-    let held = desk.plan;
-    let r = held::front(&roster, desk.roster_len);
-    let p = held::front(&held, desk.plan_len);
-    let o = desk_find::found(r, p, room, left, plan, rival);
+    let files = s.files;
+    let o = s.outcome;
     let answer = o.answer;
     let flat = o.flat;
     let reply = FindReply {
-        desk: desk,
+        desk: Desk { files: files },
         answer: answer,
     };
     CoreReply {
@@ -111,150 +97,136 @@ pub(crate) fn core(
     }
 }
 
+// All of a find but the lent diary, of which it is told the length.
+pub(crate) fn core(
+    desk: Desk,
+    room: usize,
+    left: &mut [u8],
+    plan: &mut [u8],
+    rival: &mut [u8],
+) -> CoreReply
+    ensures { λ r. ⌜ Done (desk .files) room (now (left .entry)) (now (plan .entry)) (now (rival .entry)) (searchedIn r) (now (left .exit))
+        (now (plan .exit)) (now (rival .exit)) ⌝ }
+{
+    let s = desk_find::search(desk.files, room, left, plan, rival);
+    replied(s)
+}
+
+// All of a join but the lent diary.
+pub(crate) fn join_core(
+    desk: Desk,
+    quota: u8,
+    list: &[u8],
+    room: usize,
+    left: &mut [u8],
+    plan: &mut [u8],
+    rival: &mut [u8],
+) -> CoreReply
+    ensures { λ r. ⌜ JoinDone (desk .files) quota (now (list .entry)) room (now (left .entry)) (now (plan .entry)) (now (rival .entry)) (searchedIn r)
+        (now (left .exit)) (now (plan .exit)) (now (rival .exit)) ⌝ }
+{
+    let s = desk_changes::join(desk.files, quota, list, room, left, plan, rival);
+    replied(s)
+}
+
+// All of a leave but the lent diary.
+pub(crate) fn leave_core(
+    desk: Desk,
+    number: u8,
+    room: usize,
+    left: &mut [u8],
+    plan: &mut [u8],
+    rival: &mut [u8],
+) -> CoreReply
+    ensures { λ r. ⌜ ChangeDone (desk .files) (λ R. leaveOn R number) number room (now (left .entry)) (now (plan .entry)) (now (rival .entry)) (searchedIn r)
+        (now (left .exit)) (now (plan .exit)) (now (rival .exit)) ⌝ }
+{
+    let s = desk_changes::leave(desk.files, number, room, left, plan, rival);
+    replied(s)
+}
+
 impl Desk {
     // a desk with nothing loaded
     pub fn open() -> Desk
-        ensures { λ r. ⌜ heldOf r ≡ opening ⌝ }
+        ensures { λ r. ⌜ heldOf (r .files) ≡ opening ⌝ }
     {
-        Desk {
-            roster_len: 0,
-            roster: [0; ROSTER_SIZE],
-            plan_len: 0,
-            plan: [0; PLAN_SIZE],
-        }
+        let files = desk_files::none();
+        Desk { files: files }
     }
 
     // "Loading a roster drops the plan and is the only call that needs none loaded"; a refused file leaves roster and plan.
     pub fn load_roster(self, file: &[u8]) -> LoadReply
-        ensures { λ r. ⌜ Replied self (loadRoster (now (file .entry))) (fileShown (r .answer)) (loadRoster (now (file .entry))) (r .desk) ⌝ }
+        ensures { λ r. ⌜ Replied (self .files) (loadRoster (now (file .entry))) (fileShown (r .answer)) (loadRoster (now (file .entry))) (r .desk .files) ⌝ }
     {
-        let a = roster::read_roster(file);
-        match a {
-            FileAnswer::Refused(number, group) => LoadReply {
-                desk: self,
-                answer: FileAnswer::Refused(number, group),
-            },
-            FileAnswer::Accepted => {
-                let d = store::with_roster(self, file);
-                LoadReply {
-                    desk: d,
-                    answer: FileAnswer::Accepted,
-                }
-            }
+        let r = desk_loads::load_roster(self.files, file);
+        let files = r.files;
+        let answer = r.answer;
+        LoadReply {
+            desk: Desk { files: files },
+            answer: answer,
         }
     }
 
     // "plan files are judged against the held roster"; an accepted one takes the place of the plan held.
     pub fn load_plan(self, file: &[u8]) -> LoadReply
-        ensures { λ r. ⌜ Replied self (loadPlan (now (file .entry))) (fileShown (r .answer)) (loadPlan (now (file .entry))) (r .desk) ⌝ }
+        ensures { λ r. ⌜ Replied (self .files) (loadPlan (now (file .entry))) (fileShown (r .answer)) (loadPlan (now (file .entry))) (r .desk .files) ⌝ }
     {
-        let l = held::loaded(self, false, false);
-        let n = l.refusal;
-        if 0 < n {
-            return LoadReply {
-                desk: self,
-                answer: FileAnswer::Refused(n, answers::group_of(n)),
-            };
-        }
-        let a = desk_loaded::read_plan(l.g, file);
-        match a {
-            FileAnswer::Refused(number, group) => LoadReply {
-                desk: self,
-                answer: FileAnswer::Refused(number, group),
-            },
-            FileAnswer::Accepted => {
-                let p = store::with_plan(self, file);
-                LoadReply {
-                    desk: p,
-                    answer: FileAnswer::Accepted,
-                }
-            }
+        let r = desk_loads::load_plan(self.files, file);
+        let files = r.files;
+        let answer = r.answer;
+        LoadReply {
+            desk: Desk { files: files },
+            answer: answer,
         }
     }
 
     pub fn write_roster(self, out: &mut [u8]) -> WriteReply
-        ensures { λ r. ⌜ Replied self (writeRosterTo (now (out .entry))) (writtenShown (r .answer)) (writeRosterTo (now (out .exit))) (r .desk) ⌝ }
+        ensures { λ r. ⌜ Replied (self .files) (writeRosterTo (now (out .entry))) (writtenShown (r .answer)) (writeRosterTo (now (out .exit))) (r .desk .files) ⌝ }
     {
-        let l = held::loaded(self, false, out.len() < ROSTER_SIZE);
-        let n = l.refusal;
-        if 0 < n {
-            return WriteReply {
-                desk: self,
-                answer: Written::Refused(n, answers::group_of(n)),
-            };
-        }
-        let roster = self.roster;
-        let k = held::copied(&roster, self.roster_len, out);
+        let a = desk_looks::write_roster(self.files, out);
         WriteReply {
             desk: self,
-            answer: Written::Wrote(k),
+            answer: a,
         }
     }
 
     pub fn write_plan(self, out: &mut [u8]) -> WriteReply
-        ensures { λ r. ⌜ Replied self (writePlanTo (now (out .entry))) (writtenShown (r .answer)) (writePlanTo (now (out .exit))) (r .desk) ⌝ }
+        ensures { λ r. ⌜ Replied (self .files) (writePlanTo (now (out .entry))) (writtenShown (r .answer)) (writePlanTo (now (out .exit))) (r .desk .files) ⌝ }
     {
-        let l = held::loaded(self, true, out.len() < PLAN_SIZE);
-        let n = l.refusal;
-        if 0 < n {
-            return WriteReply {
-                desk: self,
-                answer: Written::Refused(n, answers::group_of(n)),
-            };
-        }
-        let plan = self.plan;
-        let k = held::copied(&plan, self.plan_len, out);
+        let a = desk_looks::write_plan(self.files, out);
         WriteReply {
             desk: self,
-            answer: Written::Wrote(k),
+            answer: a,
         }
     }
 
     // The verdict on the held plan; the rival of a plan that is not strong goes to the front of the buffer, and what holds of it is promised.
     pub fn judge(self, rival: &mut [u8]) -> JudgeReply
-        ensures { λ r. ⌜ Judges self (now (rival .entry)) (r .answer) (now (rival .exit)) (r .desk) ⌝ }
+        ensures { λ r. ⌜ Judges (self .files) (now (rival .entry)) (r .answer) (now (rival .exit)) (r .desk .files) ⌝ }
     {
-        let l = held::loaded(self, true, rival.len() < PLAN_SIZE);
-        let n = l.refusal;
-        if 0 < n {
-            return JudgeReply {
-                desk: self,
-                answer: Verdict::Refused(n, answers::group_of(n)),
-            };
-        }
-        let plan = l.plan;
-        let edges = l.edges;
-        let v = verdict::weigh(l.g, &plan, l.n, &edges, rival);
+        let a = desk_looks::judge(self.files, rival);
         JudgeReply {
             desk: self,
-            answer: v,
+            answer: a,
         }
     }
 
     // Both votes and the winner, without the part: for the C interface, which hands out no reference.
     pub fn compare_votes(self, first: &[u8], second: &[u8]) -> CompareReply
-        ensures { λ r. ⌜ Replied self (compare (now (first .entry)) (now (second .entry)))
-            (comparisonShown (now (first .entry)) (now (second .entry)) (r .answer)) (compare (now (first .entry)) (now (second .entry))) (r .desk) ⌝ }
+        ensures { λ r. ⌜ Replied (self .files) (compare (now (first .entry)) (now (second .entry)))
+            (comparisonShown (now (first .entry)) (now (second .entry)) (r .answer)) (compare (now (first .entry)) (now (second .entry))) (r .desk .files) ⌝ }
     {
-        let l = held::loaded(self, false, false);
-        let n = l.refusal;
-        if 0 < n {
-            return CompareReply {
-                desk: self,
-                answer: Comparison::Refused(n, answers::group_of(n)),
-            };
-        }
-        let c = compare::compare(l.g, first, second);
+        let a = desk_looks::compare_votes(self.files, first, second);
         CompareReply {
             desk: self,
-            answer: c,
+            answer: a,
         }
     }
 
     // Both votes, who wins, and the part: "the winner's for first and second, and empty for both and neither" (W-206), "on a refusal" empty too,
     // "taken from the first file".
     pub fn compare<'a>(self, first: &'a [u8], second: &'a [u8]) -> Compared<'a>
-        ensures { λ r. ⌜ Compares self (first .entry) (second .entry) (r .answer) (r .part) (r .desk) ⌝ }
+        ensures { λ r. ⌜ Compares (self .files) (first .entry) (second .entry) (r .answer) (r .part) (r .desk .files) ⌝ }
     {
         let c = self.compare_votes(first, second);
         let p = compare::part_of(c.answer, first, second);
@@ -266,22 +238,12 @@ impl Desk {
     }
 
     pub fn blocking(self) -> BlockingReply
-        ensures { λ r. ⌜ Replied self blocking (blockedShown (r .answer)) blocking (r .desk) ⌝ }
+        ensures { λ r. ⌜ Replied (self .files) blocking (blockedShown (r .answer)) blocking (r .desk .files) ⌝ }
     {
-        let l = held::loaded(self, true, false);
-        let n = l.refusal;
-        if 0 < n {
-            return BlockingReply {
-                desk: self,
-                answer: Blocked::Refused(n, answers::group_of(n)),
-            };
-        }
-        let plan = l.plan;
-        let edges = l.edges;
-        let b = blocking_search::blocking(l.g, &plan, l.n, &edges);
+        let a = desk_looks::blocking(self.files);
         BlockingReply {
             desk: self,
-            answer: b,
+            answer: a,
         }
     }
 
@@ -293,8 +255,8 @@ impl Desk {
         plan: &mut [u8],
         rival: &mut [u8],
     ) -> FindReply
-        ensures { λ r. ⌜ Finds self (now (diary .entry)) (now (left .entry)) (now (plan .entry)) (now (rival .entry)) r (now (diary .exit)) (now (left .exit))
-            (now (plan .exit)) (now (rival .exit)) ⌝ }
+        ensures { λ r. ⌜ Finds (self .files) (now (diary .entry)) (now (left .entry)) (now (plan .entry)) (now (rival .entry)) (r .answer) (now (diary .exit)) (now (left .exit))
+            (now (plan .exit)) (now (rival .exit)) (r .desk .files) ⌝ }
     {
         let c = core(self, diary.len(), left, plan, rival);
         diary::fill(diary, c.flat, c.steps);
@@ -311,10 +273,10 @@ impl Desk {
         plan: &mut [u8],
         rival: &mut [u8],
     ) -> FindReply
-        ensures { λ r. ⌜ Changes self (join quota (now (list .entry))) (now (diary .entry)) (now (left .entry)) (now (plan .entry)) (now (rival .entry)) r
-            (now (diary .exit)) (now (left .exit)) (now (plan .exit)) (now (rival .exit)) ⌝ }
+        ensures { λ r. ⌜ Changes (self .files) (join quota (now (list .entry))) (now (diary .entry)) (now (left .entry)) (now (plan .entry)) (now (rival .entry))
+            (r .answer) (now (diary .exit)) (now (left .exit)) (now (plan .exit)) (now (rival .exit)) (r .desk .files) ⌝ }
     {
-        let c = changing::join_core(self, quota, list, diary.len(), left, plan, rival);
+        let c = join_core(self, quota, list, diary.len(), left, plan, rival);
         diary::fill(diary, c.flat, c.steps);
         c.reply
     }
@@ -328,19 +290,19 @@ impl Desk {
         plan: &mut [u8],
         rival: &mut [u8],
     ) -> FindReply
-        ensures { λ r. ⌜ Changes self (leave number) (now (diary .entry)) (now (left .entry)) (now (plan .entry)) (now (rival .entry)) r (now (diary .exit))
-            (now (left .exit)) (now (plan .exit)) (now (rival .exit)) ⌝ }
+        ensures { λ r. ⌜ Changes (self .files) (leave number) (now (diary .entry)) (now (left .entry)) (now (plan .entry)) (now (rival .entry)) (r .answer)
+            (now (diary .exit)) (now (left .exit)) (now (plan .exit)) (now (rival .exit)) (r .desk .files) ⌝ }
     {
-        let c = changing::leave_core(self, number, diary.len(), left, plan, rival);
+        let c = leave_core(self, number, diary.len(), left, plan, rival);
         diary::fill(diary, c.flat, c.steps);
         c.reply
     }
 
     // A plan of an old season as one of today, with shift 1 throughout, into a buffer of a plan's size.
     pub fn plan_to_new(self, file: &[u8], out: &mut [u8]) -> WriteReply
-        ensures { λ r. ⌜ Turns planToNew planToOld self (now (file .entry)) (now (out .entry)) (r .answer) (now (out .exit)) (r .desk) ⌝ }
+        ensures { λ r. ⌜ Turns planToNew planToOld (self .files) (now (file .entry)) (now (out .entry)) (r .answer) (now (out .exit)) (r .desk .files) ⌝ }
     {
-        let a = seasons::turned(self, file, false, out);
+        let a = desk_looks::turned(self.files, file, false, out);
         WriteReply {
             desk: self,
             answer: a,
@@ -349,9 +311,9 @@ impl Desk {
 
     // A plan of today with only shift 1 as one of an old season, into a buffer of the same size.
     pub fn plan_to_old(self, file: &[u8], out: &mut [u8]) -> WriteReply
-        ensures { λ r. ⌜ Turns planToOld planToNew self (now (file .entry)) (now (out .entry)) (r .answer) (now (out .exit)) (r .desk) ⌝ }
+        ensures { λ r. ⌜ Turns planToOld planToNew (self .files) (now (file .entry)) (now (out .entry)) (r .answer) (now (out .exit)) (r .desk .files) ⌝ }
     {
-        let a = seasons::turned(self, file, true, out);
+        let a = desk_looks::turned(self.files, file, true, out);
         WriteReply {
             desk: self,
             answer: a,

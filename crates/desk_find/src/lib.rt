@@ -1,4 +1,4 @@
-// The finder on the bytes of a roster that a desk holds, with a flat diary (crate diary): the state's refusal first. It stands below the desk,
+// The finder on the roster that a desk holds, with a flat diary (crate diary): the state's refusal first. It stands below the desk,
 // and asks nothing of its caller; a user calls the desk.
 ghost use Prim.Native.Nat.{_≤_};
 ghost use lib.ListN.{length};
@@ -6,7 +6,9 @@ ghost use Rattle.model.specs.Limits.{planSize, leftSize};
 ghost use Rattle.instance.specs.Decoded.{shownBy};
 ghost use Rattle.instance.specs.Loaded.{Loaded};
 ghost use Rattle.desk_find.specs.Outcomes.{Refuses, Works, Outcomes};
+ghost use Rattle.desk_find.specs.Finding.{Done};
 use answers::Found;
+use desk_files::Files;
 use instance::Instance;
 use limits::DIARY_SIZE;
 use limits::FLAT_SIZE;
@@ -18,6 +20,12 @@ pub struct Outcome {
     pub answer: Found,
     pub flat: [u8; FLAT_SIZE],
     pub steps: usize,
+}
+
+// The same, with the files that the desk holds then.
+pub struct Searched {
+    pub files: Files,
+    pub outcome: Outcome,
 }
 
 // A refusal: no record.
@@ -53,7 +61,7 @@ pub(crate) fn worked(g: Instance, left: &mut [u8], plan: &mut [u8], rival: &mut 
 
 // The finder on the roster held, for a lent diary of so many records: 13 if there is none, then 15 if a buffer is below its size. `roster`
 // and `held` are the bytes of the roster and of the plan held.
-pub fn found(
+pub(crate) fn found(
     roster: &[u8],
     held: &[u8],
     room: usize,
@@ -71,4 +79,25 @@ pub fn found(
         return refused(n);
     }
     worked(l.g, left, plan, rival)
+}
+
+// The finder on the files of a desk, which stay.
+pub fn search(
+    files: Files,
+    room: usize,
+    left: &mut [u8],
+    plan: &mut [u8],
+    rival: &mut [u8],
+) -> Searched
+    ensures { λ r. ⌜ Done files room (now (left .entry)) (now (plan .entry)) (now (rival .entry)) r (now (left .exit)) (now (plan .exit)) (now (rival .exit)) ⌝ }
+{
+    let roster = files.roster;
+    let held = files.plan;
+    let r = desk_files::front(&roster, files.roster_len);
+    let p = desk_files::front(&held, files.plan_len);
+    let o = found(r, p, room, left, plan, rival);
+    Searched {
+        files: files,
+        outcome: o,
+    }
 }

@@ -1,17 +1,13 @@
--- `desk::core` meets its contract: the finder on the bytes held. Assumes nothing.
-use mathlib.Core.Path.{refl}
+-- `desk::core` meets its contract: what the search says, of the reply made from it. Assumes nothing.
+use Rattle.desk.specs.Replies.{done-replied}
 use borrow.Author.Needs.{needs}
-use Rattle.desk.specs.Finding.{done-on}
 use Rattle.desk.proofs.core.Statement.{statement}
 use Rattle.desk.proofs.core.Tie as tie
 
 returns : tie.Need-returns
 returns c =
-    let f = c .before .before .before .before .before .before .before in
-    let r = f .before .before .before .before .before .before in
-    done-on (r .front .ensures) refl (f .found .ensures)
+    let s = c .before .before .before .before .before .before .before in
+    done-replied (c .replied .result) (c .replied .ensures) (s .search .ensures)
 
 pub core-spec : {M : Type 1} → statement M
-core-spec =
-    tie.close (tie.spec (λ c. search needs) (λ c κs. search needs) (λ c. search needs) (λ c κs. search needs) (λ c κs. search needs)
-    (λ c. search needs) (λ c. search needs) (λ c. search needs) returns)
+core-spec = tie.close (tie.spec (λ c κs. search needs) (λ c κs. search needs) (λ c. search needs) (λ c. search needs) (λ c. search needs) returns)

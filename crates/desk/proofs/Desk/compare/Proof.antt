@@ -47,9 +47,9 @@ use Rattle.compare.specs.Parts.{placed}
 use Rattle.desk.specs.declared.Desk.{Desk}
 use Rattle.desk.specs.declared.CompareReply.{CompareReply}
 use Rattle.desk.specs.declared.Compared.{Compared}
-use Rattle.desk.specs.Held.{heldOf}
-use Rattle.desk.specs.Comparing.{counted, compares}
-use Rattle.desk.specs.Replies.{Replied}
+use Rattle.desk_files.specs.Held.{heldOf}
+use Rattle.desk_looks.specs.Comparing.{counted, compares}
+use Rattle.desk_files.specs.Replies.{Replied}
 use Rattle.desk.proofs.Desk as D
 use Rattle.desk.proofs.Desk.Laws as D′
 use Rattle.desk.proofs.CompareReply as C
@@ -148,7 +148,7 @@ module _ {M : Type 1} (𝓤 : URA M) (H : Heap 𝓤) (A : Atoms 𝓤) (W : Given
   to-part c = (((κ, tt), (q, tt), tt, (c .answer, (F, (G, tt))), (EL.vals E.the-type E′.the-laws (c .answer), (bv F ∷ [], (bv G ∷ [], tt)))), tt)
 
   abbrev Said : CompareReply → Type 0
-  Said c = Replied d (compare (F .now) (G .now)) (comparisonShown (F .now) (G .now) (c .answer)) (compare (F .now) (G .now)) (c .desk)
+  Said c = Replied (d .files) (compare (F .now) (G .now)) (comparisonShown (F .now) (G .now) (c .answer)) (compare (F .now) (G .now)) (c .desk .files)
 
   abbrev Part : CompareReply → RefT (List ℕ) → Type 0
   Part c p = (ptr p, now p) ≡ placed F G (partShown (c .answer) (F .now) (G .now))
@@ -162,7 +162,7 @@ module _ {M : Type 1} (𝓤 : URA M) (H : Heap 𝓤) (A : Atoms 𝓤) (W : Given
 
   asks-part : (c : CompareReply) (vs : List Val) → Is C.the-row c vs → Said c → ent 𝓤 (⋆ 𝓤 H A (Token ∷ ‵ Files ∷ [])) (Parts 𝓤 H A at-mem run .pre (to-part c))
   asks-part c vs is e =
-      qed W (Token ∷ ‵ Files ∷ []) ∵ says ! (counted (heldOf d) (F .now) (G .now) (c .answer) (e .answer)) $
+      qed W (Token ∷ ‵ Files ∷ []) ∵ says ! (counted (heldOf (d .files)) (F .now) (G .now) (c .answer) (e .answer)) $
       frame ! $ owned ! E.the-row (Is E.the-row) (EL.makes E.the-type E′.the-plain 𝓤 H A) (c .answer) _ (is-answer c vs is) $ fjoin ! $ done !
 
   asked-votes : ent 𝓤 (⋆ 𝓤 H A (Halves ∷ ‵ Owns ∷ [])) (Votes 𝓤 H A at-mem run .pre to-votes)
@@ -187,7 +187,7 @@ module _ {M : Type 1} (𝓤 : URA M) (H : Heap 𝓤) (A : Atoms 𝓤) (W : Given
   exits c p vs is e e′ =
       qed W (‵ (Own p) ∷ Token ∷ []) ∵
       suffices ! _ (ends-at 𝓤 H A compare′.ended stayed (compare′.clauses 𝓤 H A at-mem run) W bound (mv c p) (made c p)
-      (tt, (tt, (tt, tt))) (tt, (tt, (tt, tt)))) $ says ! (compares d F G (c .answer) p (c .desk) e e′) $
+      (tt, (tt, (tt, tt))) (tt, (tt, (tt, tt)))) $ says ! (compares (d .files) F G (c .answer) p (c .desk .files) e e′) $
       move ! (1 ∷ []) $ frame ! $ nothing ! $ nothing ! $ fjoin ! $ nothing ! $ fjoin ! $ nothing ! $ fjoin ! $ frame ! $
       -- [the part]: what the fields own together is what the reply owns
       nothing ! $ move ! (1 ∷ 0 ∷ []) $ fjoin ! $

@@ -53,7 +53,8 @@ use Rattle.diary.proofs.fill.Symbol.{name as #diary·fill}
 use Rattle.diary.proofs.fill.Met as fill-thm
 use Rattle.desk.specs.declared.Desk.{Desk}
 use Rattle.desk.specs.declared.CoreReply.{CoreReply}
-use Rattle.desk.specs.Finding.{Done, Finds, within, found}
+use Rattle.desk_find.specs.Finding.{Done, Finds, within, found}
+use Rattle.desk.specs.Replies.{searchedIn}
 use Rattle.desk.proofs.Desk as D
 use Rattle.desk.proofs.Desk.Laws as D′
 use Rattle.desk.proofs.FindReply as F
@@ -118,7 +119,7 @@ module _ {M : Type 1} (𝓤 : URA M) (H : Heap 𝓤) (A : Atoms 𝓤) (W : Given
   Token = ‵ (flft κ₀ q₀) ⊛ ‵ ftrue
 
   exits : (c : CoreReply) (s : List Step) (l p r : List ℕ) → Is F.the-row (c .reply) (reply-val c ∷ [])
-      → Finds d (S .now) (L .now) (P .now) (R .now) (c .reply) s l p r
+      → Finds (d .files) (S .now) (L .now) (P .now) (R .now) (c .reply .answer) s l p r (c .reply .desk .files)
       → length s ≡ length (S .now) → length l ≡ length (L .now) → length p ≡ length (P .now) → length r ≡ length (R .now)
       → ent 𝓤
       (⋆ 𝓤 H A
@@ -155,7 +156,7 @@ module _ {M : Type 1} (𝓤 : URA M) (H : Heap 𝓤) (A : Atoms 𝓤) (W : Given
 
   -- what the core says of what it hands back and of the buffers' last lists
   abbrev Said : CoreReply → (l p r : List ℕ) → Type 0
-  Said c l p r = Done d (length (S .now)) (L .now) (P .now) (R .now) c l p r
+  Said c l p r = Done (d .files) (length (S .now)) (L .now) (P .now) (R .now) (searchedIn c) l p r
 
   module _ (calls : Calls 𝓤 H) (Λ : Loops 𝓤 H) (fm : FmC 𝓤 H (W .laws) calls) (known-core : Triple 𝓤 (calls #core) (Core 𝓤 H A at-mem run))
       (known-fill : Triple 𝓤 (calls #diary·fill) (Fill 𝓤 H A at-mem run)) where
@@ -188,13 +189,13 @@ module _ {M : Type 1} (𝓤 : URA M) (H : Heap 𝓤) (A : Atoms 𝓤) (W : Given
         move ! (4 ∷ []) $ lands-core ! 26 c refl refl refl (λ is.
         -- [the last list of left, plan, rival; the tokens; the diary's token; the diary's; _16; …]
         lends ! 34 8 6 (gs .0) refl refl refl refl refl refl refl refl $ move ! (4 ∷ 5 ∷ []) $
-        fills 𝓤 H A W at-mem run κ₀ q₀ S c calls Λ fm known-fill (w ∷ []) is (within d (length (S .now)) (L .now) (P .now) (R .now) c l p r e)
+        fills 𝓤 H A W at-mem run κ₀ q₀ S c calls Λ fm known-fill (w ∷ []) is (within (d .files) (length (S .now)) (L .now) (P .now) (R .now) (searchedIn c) l p r e)
         ! 24 4 8 36 refl refl refl refl refl refl refl (λ v. refl) (λ v. refl) (λ v. refl) (λ v s e′ hs.
         -- [the diary's token; its last list; left's, plan's, rival's; the tokens; _16; …]
         dies ! 38 refl refl $ dies ! 36 refl refl $ dies ! 34 refl refl $ dies ! 32 refl refl $ dies ! 30 refl refl $ dies ! 28 refl refl $
         dies ! 26 refl refl $ dies ! 24 refl refl $ dies ! 22 refl refl $ dies ! 20 refl refl $ dies ! 18 refl refl $ dies ! 16 refl refl $
         dies ! 14 refl refl $ dies ! 12 refl refl $ dies ! 10 refl refl $ dies ! 8 refl refl $ dies ! 6 refl refl $ free0 ! $
-        by ! (exits c s l p r (is-reply c (w ∷ []) is) (found d (S .now) (L .now) (P .now) (R .now) c s l p r e e′) hs hl hp hr)))))))
+        by ! (exits c s l p r (is-reply c (w ∷ []) is) (found (d .files) (S .now) (L .now) (P .now) (R .now) (searchedIn c) s l p r e e′) hs hl hp hr)))))))
 
 module _ {M : Type 1} (𝓤 : URA M) (H : Heap 𝓤) (A : Atoms 𝓤) (W : Given 𝓤 H A) (at-mem : Memory → SProp 𝓤) (run : Routine → Fun 𝓤) (𝓣 : Tables 𝓤 H)
     (known-core : Triple 𝓤 (𝓣 .C #core) (Core 𝓤 H A at-mem run)) (known-fill : Triple 𝓤 (𝓣 .C #diary·fill) (Fill 𝓤 H A at-mem run)) where

@@ -1,0 +1,22 @@
+-- `desk_changes::found_on` meets its contract. Assumes nothing.
+use native.Mathlib.Omega.{arith}
+use mathlib.Core.Path.{refl}
+use borrow.Author.Needs.{needs}
+use Rattle.desk_changes.proofs.found_on.Statement.{statement}
+use Rattle.desk_changes.proofs.found_on.Tie as tie
+
+returns : tie.Need-returns
+returns c = record {
+  refuses = λ h. (refl, record { refuses = c .refused .ensures; left = refl; plan = refl; rival = refl });
+  finds = λ z. absurd (let h = c .before .if1 .taken in let z : ⊥ = omega arith in z);
+}
+
+returns-2 : tie.Need-returns-2
+returns-2 c = record {
+  refuses = λ h. absurd (let z = c .before .before .before .before .before .before .before .before .before .before .if1 .left in let z : ⊥ = omega arith in z);
+  finds = λ z. c .before .before .before .before .before .before .search .ensures;
+}
+
+pub found-on-spec : {M : Type 1} → statement M
+found-on-spec =
+    tie.close (tie.spec (λ c κs. search needs) returns (λ c κs. search needs) (λ c. search needs) (λ c. search needs) (λ c. search needs) returns-2)

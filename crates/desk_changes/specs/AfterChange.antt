@@ -1,0 +1,26 @@
+-- What is answered and written behind a change: the finder on the changed desk, or the change's refusal.
+use Prim.Native.Nat.{ℕ, _≤_, _<_}
+use mathlib.Core.Path.{_≡_}
+use mathlib.Core.List.{List}
+use lib.Dec.{T}
+use Rattle.model.specs.Changes.{joinOn}
+use Rattle.theory_files.specs.Reads.{isBytes}
+use Rattle.desk_files.specs.declared.Files.{Files}
+use Rattle.desk_find.specs.Outcomes.{short, Kept}
+use Rattle.desk_changes.specs.declared.Change.{Change}
+use Rattle.desk_changes.specs.Changing.{ToRoster, ChangedTo}
+use Rattle.desk_find.specs.declared.Searched.{Searched}
+use Rattle.desk_find.specs.Finding.{Done}
+
+pub record FoundOn (c : Change) (room : ℕ) (l p v : List ℕ) (r : Searched) (l′ p′ v′ : List ℕ) : Type 0 where
+  pub refuses : 0 < c .refusal → (r .files ≡ c .files) × Kept (c .refusal) l p v (r .outcome) l′ p′ v′
+  pub finds : c .refusal ≤ 0 → Done (c .files) room l p v r l′ p′ v′
+
+pub record ChangeDone (d : Files) (change : ToRoster) (s room : ℕ) (l p v : List ℕ) (r : Searched) (l′ p′ v′ : List ℕ) : Type 0 where
+  pub made : Change
+  pub changed : ChangedTo d (short room l p v) change s made
+  pub found : FoundOn made room l p v r l′ p′ v′
+
+-- a joiner's list is bytes
+abbrev pub JoinDone : Files → (q : ℕ) (file : List ℕ) (room : ℕ) (l p v : List ℕ) → Searched → (l′ p′ v′ : List ℕ) → Type 0
+JoinDone d q file room l p v r l′ p′ v′ = T (isBytes file) × ChangeDone d (λ R. joinOn R q file) 0 room l p v r l′ p′ v′

@@ -1,0 +1,4 @@
+pub mod Changing
+pub mod ChangeSteps
+pub mod AfterChange
+pub mod Changes

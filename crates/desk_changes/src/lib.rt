@@ -1,0 +1,170 @@
+// Surveyors who join and leave in the field (request W-202): the desk's files with the changed roster and the held plan less the leaver's pairs, or
+// the refusal; and behind it the finder on the changed files.
+ghost use lib.ListN.{take};
+ghost use Rattle.model.specs.Changes.{joinOn, leaveOn};
+ghost use Rattle.instance.specs.Decoded.{shownBy};
+ghost use Rattle.instance.specs.Loaded.{Loaded};
+ghost use Rattle.desk_files.specs.Held.{planBytes};
+ghost use Rattle.desk_changes.specs.Changing.{Unchanged, StoredAs, Taken, ChangedTo};
+ghost use Rattle.desk_changes.specs.AfterChange.{FoundOn, ChangeDone, JoinDone};
+use desk_files::Files;
+use desk_find::Searched;
+use instance::Instance;
+use limits::DIARY_SIZE;
+use limits::LEFT_SIZE;
+use limits::PLAN_SIZE;
+use limits::ROSTER_SIZE;
+use roster_parts::Changed;
+
+// A refusal, 0 for none, and the files afterwards: on a refusal as they came.
+pub struct Change {
+    pub refusal: u8,
+    pub files: Files,
+}
+
+pub(crate) fn unchanged(files: Files, number: u8) -> Change
+    ensures { λ r. ⌜ Unchanged number files r ⌝ }
+{
+    Change {
+        refusal: number,
+        files: files,
+    }
+}
+
+// The changed roster in the place of the one held, and the plan held, where there is one, without the pairs of a leaver's number: "nothing
+// stale" stays in the plan's array.
+pub(crate) fn stored(
+    files: Files,
+    g: Instance,
+    roster: [u8; ROSTER_SIZE],
+    n: usize,
+    number: u8,
+) -> Files
+    requires { ⌜ Loaded g ⌝ }
+    ensures { λ r. ⌜ StoredAs (shownBy g) (planBytes files) number (take n roster) r ⌝ }
+{
+    let array = files.plan;
+    let file = desk_files::front(&array, files.plan_len);
+    let l = desk_loaded::with_plan(g, file, false);
+    if 0 < l.refusal {
+        return Files {
+            roster_len: n,
+            roster: roster,
+            plan_len: 0,
+            plan: array,
+        };
+    }
+    let plan = l.plan;
+    let c = plan_carried::carried(g, &plan, number);
+    let bytes = c.bytes;
+    Files {
+        roster_len: n,
+        roster: roster,
+        plan_len: c.len,
+        plan: bytes,
+    }
+}
+
+// the answer of a change of the roster held
+pub(crate) fn taken(files: Files, g: Instance, c: Changed, number: u8) -> Change
+    requires { ⌜ Loaded g ⌝ }
+    ensures { λ r. ⌜ Taken (shownBy g) files number c r ⌝ }
+{
+    let n = c.refusal;
+    if 0 < n {
+        return unchanged(files, n);
+    }
+    let roster = c.roster;
+    let d = stored(files, g, roster, c.len, number);
+    Change {
+        refusal: 0,
+        files: d,
+    }
+}
+
+// a surveyor joins; `short`: a buffer lent to the call is below its size
+pub(crate) fn joined(files: Files, short: bool, quota: u8, list: &[u8]) -> Change
+    ensures { λ r. ⌜ ChangedTo files short (λ R. joinOn R quota (now (list .entry))) 0 r ⌝ }
+{
+    let l = desk_files::loaded(files, false, short);
+    let n = l.refusal;
+    if 0 < n {
+        return unchanged(files, n);
+    }
+    let array = files.roster;
+    let file = desk_files::front(&array, files.roster_len);
+    let c = roster_join::join(file, quota, list);
+    taken(files, l.g, c, 0)
+}
+
+// a surveyor leaves; `short`: a buffer lent to the call is below its size
+pub(crate) fn departed(files: Files, short: bool, number: u8) -> Change
+    ensures { λ r. ⌜ ChangedTo files short (λ R. leaveOn R number) number r ⌝ }
+{
+    let l = desk_files::loaded(files, false, short);
+    let n = l.refusal;
+    if 0 < n {
+        return unchanged(files, n);
+    }
+    let array = files.roster;
+    let file = desk_files::front(&array, files.roster_len);
+    let c = roster_leave::leave(file, number);
+    taken(files, l.g, c, number)
+}
+
+// the finder behind a change, or the change's refusal
+pub(crate) fn found_on(
+    c: Change,
+    room: usize,
+    left: &mut [u8],
+    plan: &mut [u8],
+    rival: &mut [u8],
+) -> Searched
+    ensures { λ r. ⌜ FoundOn c room (now (left .entry)) (now (plan .entry)) (now (rival .entry)) r (now (left .exit)) (now (plan .exit)) (now (rival .exit)) ⌝ }
+{
+    let n = c.refusal;
+    let files = c.files;
+    if 0 < n {
+        let o = desk_find::refused(n);
+        return Searched {
+            files: files,
+            outcome: o,
+        };
+    }
+    desk_find::search(files, room, left, plan, rival)
+}
+
+// All of a join but the lent diary, of which it is told the length.
+pub fn join(
+    files: Files,
+    quota: u8,
+    list: &[u8],
+    room: usize,
+    left: &mut [u8],
+    plan: &mut [u8],
+    rival: &mut [u8],
+) -> Searched
+    ensures { λ r. ⌜ JoinDone files quota (now (list .entry)) room (now (left .entry)) (now (plan .entry)) (now (rival .entry)) r (now (left .exit))
+        (now (plan .exit)) (now (rival .exit)) ⌝ }
+{
+    let small = (left.len() < LEFT_SIZE) | ((plan.len() < PLAN_SIZE) | (rival.len() < PLAN_SIZE));
+    let c = joined(files, (room < DIARY_SIZE) | small, quota, list);
+    found_on(c, room, left, plan, rival)
+}
+
+// All of a leave but the lent diary, of which it is told the length.
+pub fn leave(
+    files: Files,
+    number: u8,
+    room: usize,
+    left: &mut [u8],
+    plan: &mut [u8],
+    rival: &mut [u8],
+) -> Searched
+    ensures { λ r. ⌜ ChangeDone files (λ R. leaveOn R number) number room (now (left .entry)) (now (plan .entry)) (now (rival .entry)) r (now (left .exit))
+        (now (plan .exit)) (now (rival .exit)) ⌝ }
+{
+    let small = (left.len() < LEFT_SIZE) | ((plan.len() < PLAN_SIZE) | (rival.len() < PLAN_SIZE));
+    let c = departed(files, (room < DIARY_SIZE) | small, number);
+    found_on(c, room, left, plan, rival)
+}

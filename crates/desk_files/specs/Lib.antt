@@ -1,0 +1,4 @@
+pub mod Held
+pub mod Front
+pub mod Replies
+pub mod State

@@ -1,0 +1,135 @@
+-- The state's refusal of a call, "13, 14, 15 come first"; and a call that it lets pass, by what is held.
+use Prim.Native.Nat.{ℕ, _≤_, _<_}
+use native.Mathlib.Omega.{arith}
+use mathlib.Core.Path.{_≡_, refl, sym, ap, _∙_, subst}
+use mathlib.Core.Bool.{Bool, true, false, cond, _&&_}
+use mathlib.Core.List.{List}
+use lib.ListN.{length}
+use lib.Dec.{T, ltb, nltb→le}
+use borrow.Author.Tests.{lt-ltb}
+use Rattle.lists.specs.Test.{given, T-true, false-T}
+use Rattle.model.specs.Reading.{Reading, accepted, refused}
+use Rattle.model.specs.Roster.{Roster}
+use Rattle.model.specs.RosterFile.{readRoster}
+use Rattle.model.specs.Plans.{Plan}
+use Rattle.model.specs.Desk.{Held, onRoster, Call, loadRoster, loadPlan, writeRosterTo, writePlanTo, find, join, leave, judge, compare, blocking, Answer}
+use Rattle.model.specs.Desk.{planToNew, planToOld}
+use Rattle.model.specs.Desk.{needsRoster, needsPlan, lentShort, noRoster, noPlan, stateRefusal, answerOn, lentOn, stateRefused, answerOf, lentAfter}
+use Rattle.model.specs.Desk.{deskOn, deskAfter}
+use Rattle.theory_finder.specs.Choices.{chosen}
+use Rattle.desk_files.specs.declared.Files.{Files}
+use Rattle.instance.specs.Loaded.{Loaded}
+use Rattle.desk_loaded.specs.declared.OnDesk.{OnDesk}
+use Rattle.desk_loaded.specs.Held.{heldPlan, held, stateNumber}
+use Rattle.desk_loaded.specs.OnDesk.{LoadedFrom, its-roster, its-length}
+use Rattle.desk_files.specs.Held.{rosterBytes, planBytes, heldOf}
+use Rattle.desk_files.specs.Replies.{answered, lentThen, isAccepted, Stored, Replied}
+
+-- ---- a refusal by the state
+by-number : {A : Type 0} (f : ℕ → A) (x : A) {n s : ℕ} → n ≡ s → 0 < n → f n ≡ cond (ltb 0 s) (f s) x
+by-number f x {n} {s} e h = sym (ap (λ b. cond b (f n) x) (lt-ltb 0 n h)) ∙ ap (λ k. cond (ltb 0 k) (f k) x) e
+
+same-desk : (d : Files) (n : ℕ) (c : Call) → Stored c (isAccepted (stateRefused n c)) d d
+same-desk d n (loadRoster file) = refl
+same-desk d n (loadPlan file) = refl
+same-desk d n (writeRosterTo buffer) = refl
+same-desk d n (writePlanTo buffer) = refl
+same-desk d n (find s l p v) = refl
+same-desk d n (join q f s l p v) = refl
+same-desk d n (leave m s l p v) = refl
+same-desk d n (judge v) = refl
+same-desk d n (compare a b) = refl
+same-desk d n blocking = refl
+same-desk d n (planToNew f b) = refl
+same-desk d n (planToOld f b) = refl
+
+-- a call that needs a roster
+pub states : (h : Held) (c : Call) → T (needsRoster c) → stateNumber h (needsPlan c) (lentShort c) ≡ stateRefusal h c
+unfolding stateRefusal
+states h c t =
+    ap (λ b. cond (b && noRoster h) 13 (cond (needsPlan c && noPlan h) 14 (cond (lentShort c) 15 0))) {y = needsRoster c} (sym (T-true {b = needsRoster c} t))
+
+pub by-state : (d : Files) (c : Call) → T (needsRoster c) → {n : ℕ} {a : Answer} → n ≡ stateNumber (heldOf d) (needsPlan c) (lentShort c) → 0 < n
+    → a ≡ stateRefused n c → Replied d c a c d
+unfolding answerOf lentAfter deskAfter
+by-state d c t {n} {a} i h q = record {
+  answer = q ∙ by-number (λ k. stateRefused k c) (answerOn chosen (heldOf d) c) e h;
+  lent = by-number (λ k. c) (lentOn chosen (heldOf d) c) e h;
+  desk = by-number (λ k. heldOf d) (deskOn (heldOf d) c) e h;
+  stored = subst (λ z. Stored c (isAccepted z) d d) (sym q) (same-desk d n c);
+}
+  where
+    e : n ≡ stateRefusal (heldOf d) c
+    e = i ∙ states (heldOf d) c t
+
+-- ---- a call that the state lets pass
+module _ (h : Held) (c : Call) (s : 0 ≡ stateRefusal h c) where
+  pub pass-answer : answerOn chosen h c ≡ answered h c
+  unfolding answerOf
+  pass-answer = ap (λ k. cond (ltb 0 k) (stateRefused k c) (answerOn chosen h c)) s
+
+  pub pass-lent : lentOn chosen h c ≡ lentThen h c
+  unfolding lentAfter
+  pass-lent = ap (λ k. cond (ltb 0 k) c (lentOn chosen h c)) s
+
+  pub pass-desk : deskOn h c ≡ deskAfter h c
+  unfolding deskAfter
+  pass-desk = ap (λ k. cond (ltb 0 k) h (deskOn h c)) s
+
+-- refused or not, the same
+either : {A : Type 0} (b : Bool) {x y : A} → x ≡ y → x ≡ cond b x y
+either true e = refl
+either false e = e
+
+-- a call that is lent no buffer to write to
+pub lent-alike : (h : Held) (c : Call) → c ≡ lentOn chosen h c → c ≡ lentThen h c
+unfolding lentAfter
+lent-alike h c e = either (ltb 0 (stateRefusal h c)) e
+
+-- a call that leaves the desk alike
+pub desk-alike : (h : Held) (c : Call) → h ≡ deskOn h c → h ≡ deskAfter h c
+unfolding deskAfter
+desk-alike h c e = either (ltb 0 (stateRefusal h c)) e
+
+-- the number that lets a call pass
+pub no-number : {n m : ℕ} → n ≤ 0 → n ≡ m → 0 ≡ m
+no-number h e = omega arith
+
+-- ---- what is held of a roster, and what is said of it
+pub of-roster : {A : Type 0} (x : A) (f : Roster → A) (R : Roster) (y : Reading Plan) → f R ≡ onRoster x (heldPlan R y) f
+of-roster x f R (accepted M) = refl
+of-roster x f R (refused n) = refl
+
+pub roster-held : (d : Files) (R : Roster) → readRoster (rosterBytes d) ≡ accepted R → heldOf d ≡ held (accepted R) (planBytes d)
+unfolding heldOf
+roster-held d R a = ap (λ x. held x (planBytes d)) a
+
+-- a call that leaves the desk as it came: its answer and the bytes lent, by what is held
+module _ (d : Files) (c : Call) (t : T (needsRoster c)) {n : ℕ} (i : n ≡ stateNumber (heldOf d) (needsPlan c) (lentShort c)) (z : n ≤ 0) where
+  pub passed : 0 ≡ stateRefusal (heldOf d) c
+  passed = no-number z i ∙ states (heldOf d) c t
+
+  pub passes : {a : Answer} {c′ : Call} (h : Held) → heldOf d ≡ h → a ≡ answerOn chosen h c → c′ ≡ lentOn chosen h c → h ≡ deskOn h c
+      → Stored c (isAccepted a) d d → Replied d c a c′ d
+  passes h e p q k s = record {
+    answer = p ∙ ap (λ h. answerOn chosen h c) (sym e) ∙ pass-answer (heldOf d) c passed;
+    lent = q ∙ ap (λ h. lentOn chosen h c) (sym e) ∙ pass-lent (heldOf d) c passed;
+    desk = desk-alike (heldOf d) c (e ∙ k ∙ ap (λ h. deskOn h c) (sym e));
+    stored = s;
+  }
+
+-- ---- what the call knows of what it works on
+-- the state's refusal
+pub state-is : (d : Files) {needs short : Bool} {l : OnDesk} → LoadedFrom (rosterBytes d) (planBytes d) needs short l
+    → l .refusal ≡ stateNumber (heldOf d) needs short
+unfolding heldOf
+state-is d F = F .refusal
+
+pub arrays-are : (d : Files) {needs short : Bool} {l : OnDesk} → LoadedFrom (rosterBytes d) (planBytes d) needs short l → l .refusal ≤ 0 → Loaded (l .g)
+arrays-are d F z = given (its-roster z F) (λ (R, a). F .instance R a .0)
+
+-- the buffer lent to it has its size
+pub long-enough : (out : List ℕ) (size : ℕ) {roster plan : List ℕ} {needs : Bool} {l : OnDesk}
+    → LoadedFrom roster plan needs (ltb (length out) size) l → l .refusal ≤ 0
+    → size ≤ length out
+long-enough out size F z = nltb→le (length out) size (false-T (its-length z F))

@@ -1,0 +1,88 @@
+// The files of a desk, as bytes at the front of their arrays. What they hold is said by the bytes alone, so any field values may come in: a length above
+// its array is cut to it, bytes that are no roster are nothing loaded, and bytes that are no plan of the roster are no plan held.
+ghost use mathlib.Core.Path.{_≡_};
+ghost use mathlib.Core.List.{[]};
+ghost use Prim.Native.Nat.{_≤_};
+ghost use lib.ListN.{length, take};
+ghost use Rattle.model.specs.Limits.{planSize, rosterSize};
+ghost use Rattle.model.specs.Desk.{opening, onto};
+ghost use Rattle.desk_loaded.specs.OnDesk.{LoadedFrom};
+ghost use Rattle.desk_files.specs.Held.{rosterBytes, planBytes, heldOf};
+use desk_loaded::OnDesk;
+use limits::PLAN_SIZE;
+use limits::ROSTER_SIZE;
+
+#[repr(C)]
+pub struct Files {
+    pub roster_len: usize,
+    pub roster: [u8; ROSTER_SIZE],
+    pub plan_len: usize,
+    pub plan: [u8; PLAN_SIZE],
+}
+
+// nothing loaded
+pub fn none() -> Files
+    ensures { λ r. ⌜ heldOf r ≡ opening ⌝ }
+{
+    Files {
+        roster_len: 0,
+        roster: [0; ROSTER_SIZE],
+        plan_len: 0,
+        plan: [0; PLAN_SIZE],
+    }
+}
+
+// the front of an array, as long as its length says, or the whole of it
+pub fn front<'a>(array: &'a [u8], len: usize) -> &'a [u8]
+    ensures { λ r. ⌜ now r ≡ take len (now (array .entry)) ⌝ }
+{
+    if len < array.len() {
+        return &array[..len];
+    }
+    array
+}
+
+// the front of an array written to the front of a buffer; gives its length
+pub fn copied(array: &[u8], len: usize, out: &mut [u8]) -> usize
+    requires { ⌜ length (now array) ≤ length (now out) ⌝ }
+    ensures { λ r. ⌜ (r ≡ length (take len (now (array .entry)))) × (now (out .exit) ≡ onto (take len (now (array .entry))) (now (out .entry))) ⌝ }
+{
+    let held = front(array, len);
+    bytes::copy(held, out)
+}
+
+// what a call has to work on; `needs`: it needs a plan; `short`: a buffer lent to it is below its size
+pub fn loaded(files: Files, needs: bool, short: bool) -> OnDesk
+    ensures { λ r. ⌜ LoadedFrom (rosterBytes files) (planBytes files) needs short r ⌝ }
+{
+    let roster = files.roster;
+    let plan = files.plan;
+    let r = front(&roster, files.roster_len);
+    let p = front(&plan, files.plan_len);
+    desk_loaded::loaded(r, p, needs, short)
+}
+
+// The roster in the place of the one held, and no plan.
+pub fn with_roster(files: Files, file: &[u8]) -> Files
+    requires { ⌜ length (now file) ≤ rosterSize ⌝ }
+    ensures { λ r. ⌜ (rosterBytes r ≡ now (file .entry)) × (planBytes r ≡ []) ⌝ }
+{
+    let mut next = files;
+    let mut roster = files.roster;
+    next.roster_len = bytes::copy(file, &mut roster);
+    next.roster = roster;
+    next.plan_len = 0;
+    next
+}
+
+// The plan in the place of the one held.
+pub fn with_plan(files: Files, file: &[u8]) -> Files
+    requires { ⌜ length (now file) ≤ planSize ⌝ }
+    ensures { λ r. ⌜ (r .«roster_len» ≡ files .«roster_len») × (r .roster ≡ files .roster) × (planBytes r ≡ now (file .entry)) ⌝ }
+{
+    let mut next = files;
+    let mut plan = files.plan;
+    next.plan_len = bytes::copy(file, &mut plan);
+    next.plan = plan;
+    next
+}

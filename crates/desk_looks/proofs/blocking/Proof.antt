@@ -1,0 +1,32 @@
+-- `desk_looks::blocking` meets its contract. Assumes nothing.
+use mathlib.Core.Path.{refl}
+use mathlib.Core.Path.{ap}
+use Rattle.model.specs.Desk.{blocking, refused}
+use Rattle.desk_files.specs.State.{by-state}
+use Rattle.finder_ending.specs.EndReached.{few-edges}
+use Rattle.desk_files.specs.State.{state-is, arrays-are}
+use Rattle.desk_looks.specs.Calls.{plan-shown, plan-listed, blocking-reply}
+use borrow.Author.Needs.{needs}
+use Rattle.desk_looks.proofs.blocking.Statement.{statement}
+use Rattle.desk_looks.proofs.blocking.Tie as tie
+
+returns : tie.Need-returns
+returns c =
+    let d = c .before .before .before .args in
+    let l = c .before .before .loaded in
+    by-state (d .files) blocking tt (state-is (d .files) (l .ensures)) (c .before .if1 .taken) (ap (refused (l .result .refusal)) (c .group-of .ensures))
+
+blocking-requires : tie.Need-blocking-requires
+blocking-requires c κs =
+    let d = c .before .before .before .before .before .before .args .files in
+    let k = c .before .before .before .before .before .loaded in
+    let z = c .before .before .before .before .if1 .left in
+    let L = arrays-are d (k .ensures) z in
+    (L, few-edges (k .result .g) L (k .result .plan) (plan-shown d (k .ensures) z), plan-listed d (k .ensures) z)
+
+returns-2 : tie.Need-returns-2
+returns-2 c =
+    blocking-reply (c .before .before .before .before .before .before .before .args .files) (c .before .before .before .before .before .before .loaded .ensures) (c .before .before .before .before .before .if1 .left) refl (c .blocking .ensures)
+
+pub blocking-spec : {M : Type 1} → statement M
+blocking-spec = tie.close (tie.spec (λ c κs. search needs) (λ c κs. search needs) returns blocking-requires returns-2)

@@ -1,0 +1,113 @@
+-- The calls that the state lets pass: from what each call on the arrays promises to the desk's reply.
+use Prim.Native.Nat.{ℕ, _≤_}
+use mathlib.Core.Path.{_≡_, refl, sym, ap, _∙_, fun-ext}
+use mathlib.Core.Bool.{Bool, true, false}
+use mathlib.Core.List.{List, map}
+use lib.ListN.{length}
+use lib.Dec.{ltb, nltb→le}
+use Rattle.lists.specs.Test.{given, false-T}
+use Rattle.lists.specs.Sum.{range}
+use Rattle.model.specs.Limits.{planSize, rosterSize}
+use Rattle.model.specs.Refusal.{groupOf}
+use Rattle.model.specs.Roster.{Roster}
+use Rattle.model.specs.RosterFile.{writeRoster}
+use Rattle.model.specs.Instance.{Instance}
+use Rattle.model.specs.Edges.{instanceOf}
+use Rattle.model.specs.Plans.{Plan, on, verdictOf}
+use Rattle.model.specs.PlanFile as plans
+use Rattle.model.specs.PlanFile.{edgesIn, readPlan}
+use Rattle.model.specs.Blocking.{someBlocks, topBlocking}
+use Rattle.model.specs.Compare as outcome
+use Rattle.model.specs.Compare.{winnerPart, partOf, comparisonOf}
+use Rattle.model.specs.Desk.{planned, writeRosterTo, writePlanTo, judge, compare, blocking, refusal, wrote, votes, refusedPart, onto, verdictAnswer}
+use Rattle.model.specs.Desk.{verdictWritten, comparisonAnswer, blockingAnswer}
+use Rattle.theory_verdict.specs.Rival.{rivalOf}
+use Rattle.arrays.specs.ArrayInstance.{at, flag}
+use Rattle.answers.specs.declared.Verdict.{Verdict}
+use Rattle.answers.specs.declared.Comparison.{Comparison}
+use Rattle.answers.specs.declared.Blocked.{Blocked}
+use Rattle.answers.specs.GroupCases.{shown-case}
+use Rattle.answers.specs.VerdictCases.{verdictShown}
+use Rattle.answers.specs.ComparisonCases.{comparisonShown, comparisonCase, winner-shown}
+use Rattle.answers.specs.BlockedCases.{blockedShown}
+use Rattle.instance.specs.Decoded.{shownBy}
+use Rattle.instance.specs.Loaded.{Loaded}
+use Rattle.verdict.specs.Weighing.{Shows, WeighedFor, desk-answer, desk-written}
+use Rattle.blocking_search.specs.Blocking.{blockedBy, blocked-shown, same-plan}
+use Rattle.desk_loaded.specs.declared.OnDesk.{OnDesk}
+use Rattle.desk_loaded.specs.Held.{heldPlan, stateNumber}
+use Rattle.desk_loaded.specs.OnDesk.{PlanIn, LoadedFrom, its-roster, its-plan, its-length}
+use Rattle.desk_files.specs.declared.Files.{Files}
+use Rattle.desk_files.specs.Held.{rosterBytes, planBytes, heldOf}
+use Rattle.desk_files.specs.Replies.{Replied}
+use Rattle.desk_files.specs.State.{state-is, of-roster, roster-held, passes}
+
+-- ---- with the roster held
+module _ (d : Files) {short : Bool} {l : OnDesk} (F : LoadedFrom (rosterBytes d) (planBytes d) false short l) (z : l .refusal ≤ 0) where
+  pub write-roster-reply : (out : List ℕ) {k : ℕ} {after : List ℕ} → short ≡ ltb (length out) rosterSize → k ≡ length (rosterBytes d)
+      → after ≡ onto (rosterBytes d) out
+      → Replied d (writeRosterTo out) (wrote k) (writeRosterTo after) d
+  write-roster-reply out s p q = given (its-roster z F) (λ (R, a).
+      let y = readPlan (instanceOf R) (planBytes d) in
+      let w : writeRoster R ≡ rosterBytes d = F .instance R a .2 in
+      passes d (writeRosterTo out) tt (state-is d F ∙ ap (stateNumber (heldOf d) false) s) z (heldPlan R y) (roster-held d R a)
+      (ap wrote (p ∙ ap length (sym w)) ∙ of-roster (refusal 13) (λ r. wrote (length (writeRoster r))) R y)
+      (ap writeRosterTo (q ∙ ap (λ bs. onto bs out) (sym w)) ∙ of-roster (writeRosterTo out) (λ r. writeRosterTo (onto (writeRoster r) out)) R y)
+      refl refl)
+
+-- the model's answer to a comparison, for each case of the code's
+compared-shown : (G : Instance) (a b : List ℕ)
+    → comparisonShown a b (comparisonCase (comparisonOf G a b)) ≡ comparisonAnswer (partOf G a b) (comparisonOf G a b)
+unfolding partOf
+compared-shown G a b = go (comparisonOf G a b)
+  where
+    go : (c : outcome.Comparison) → comparisonShown a b (comparisonCase c) ≡ comparisonAnswer (outcome.comparisonPart c a b) c
+    go (outcome.votes v w x) = ap (λ y. votes v w y (winnerPart y a b)) (winner-shown x)
+    go (outcome.refused n) = ap (λ g. refusedPart n g (winnerPart outcome.neither a b)) (shown-case (groupOf n))
+
+module _ (d : Files) {l : OnDesk} (F : LoadedFrom (rosterBytes d) (planBytes d) false false l) (a b : List ℕ) where
+  pub compare-reply : l .refusal ≤ 0 → {c : Comparison} → c ≡ comparisonCase (comparisonOf (shownBy (l .g)) a b)
+      → Replied d (compare a b) (comparisonShown a b c) (compare a b) d
+  compare-reply z e = given (its-roster z F) (λ (R, r).
+      let y = readPlan (instanceOf R) (planBytes d) in
+      passes d (compare a b) tt (state-is d F) z (heldPlan R y) (roster-held d R r)
+      (ap (comparisonShown a b) e ∙ compared-shown (shownBy (l .g)) a b ∙ ap (λ G. comparisonAnswer (partOf G a b) (comparisonOf G a b)) (F .instance R r .1)
+      ∙ of-roster (refusal 13) (λ r. comparisonAnswer (partOf (instanceOf r) a b) (comparisonOf (instanceOf r) a b)) R y)
+      refl refl refl)
+
+-- ---- with the plan held
+module _ (d : Files) {short : Bool} {l : OnDesk} (F : LoadedFrom (rosterBytes d) (planBytes d) true short l) (z : l .refusal ≤ 0) where
+  its-plan-held : (R : Roster) × (M : Plan) × (heldOf d ≡ planned R M) × (shownBy (l .g) ≡ instanceOf R) × PlanIn l M
+      × (plans.planBytes (instanceOf R) M ≡ planBytes d)
+  its-plan-held = given (its-plan z F) (λ (R, M, a, b).
+      (R, M, roster-held d R a ∙ ap (heldPlan R) b, F .instance R a .1, F .planned R a tt M b .0, F .planned R a tt M b .1))
+
+  pub plan-shown : (M : Plan) × Shows (shownBy (l .g)) (l .plan) M
+  plan-shown = given its-plan-held (λ (R, M, e, s, P, w). (M, (P .within, P .flags)))
+
+  pub plan-listed : edgesIn (l .g .m) (flag (l .plan)) ≡ map (at (l .edges)) (range 0 (l .n))
+  plan-listed = given its-plan-held (λ (R, M, e, s, P, w). P .listed)
+
+  pub write-plan-reply : (out : List ℕ) {k : ℕ} {after : List ℕ} → short ≡ ltb (length out) planSize → k ≡ length (planBytes d) → after ≡ onto (planBytes d) out
+      → Replied d (writePlanTo out) (wrote k) (writePlanTo after) d
+  write-plan-reply out s p q = given its-plan-held (λ (R, M, e, g, P, w).
+      passes d (writePlanTo out) tt (state-is d F ∙ ap (stateNumber (heldOf d) true) s) z (planned R M) e
+      (ap wrote (p ∙ ap length (sym w))) (ap writePlanTo (q ∙ ap (λ bs. onto bs out) (sym w))) refl refl)
+
+  pub judge-reply : (out : List ℕ) {v : Verdict} {after : List ℕ} → short ≡ ltb (length out) planSize → WeighedFor (shownBy (l .g)) (l .plan) out v after
+      → Replied d (judge out) (verdictShown v) (judge after) d
+  judge-reply out s W = given its-plan-held (λ (R, M, e, g, P, w).
+      let G = shownBy (l .g) in
+      let J = W M (P .within, P .flags) in
+      passes d (judge out) tt (state-is d F ∙ ap (stateNumber (heldOf d) true) s) z (planned R M) e
+      (ap verdictShown (J .reply) ∙ desk-answer G M (verdictOf G M) ∙ ap (λ G. verdictAnswer G M (rivalOf G M) (verdictOf G M)) g)
+      (ap judge (J .buffer) ∙ desk-written G M (verdictOf G M) out ∙ ap (λ G. verdictWritten G (rivalOf G M) (verdictOf G M) out) g)
+      refl refl)
+
+  pub blocking-reply : {b : Blocked} → short ≡ false → b ≡ blockedBy (shownBy (l .g)) (l .plan) → Replied d blocking (blockedShown b) blocking d
+  blocking-reply s q = given its-plan-held (λ (R, M, e, g, P, w).
+      let G = shownBy (l .g) in
+      passes d blocking tt (state-is d F ∙ ap (stateNumber (heldOf d) true) s) z (planned R M) e
+      (ap blockedShown (q ∙ same-plan G (l .plan) M (fun-ext (P .flags))) ∙ blocked-shown G (topBlocking G (on M)) (someBlocks G (on M))
+      ∙ ap (λ G. blockingAnswer G (topBlocking G (on M)) (someBlocks G (on M))) g)
+      refl refl refl)

@@ -1,0 +1,89 @@
+-- What the comparison's call promises: the model's reply, and the part in that same answer, tied to its file by its place in memory and its bytes.
+use Prim.Native.Nat.{ℕ, _≤_}
+use native.Mathlib.Omega.{arith}
+use mathlib.Core.Path.{_≡_, refl, ap, _∙_, subst}
+use mathlib.Core.Bool.{Bool, true, false}
+use mathlib.Core.List.{List, [], _∷_}
+use lib.ListN.{length}
+use lib.Dec.{T}
+use denote.Ref.{RefT, ptr, now}
+use Rattle.model.specs.Reading as reading
+use Rattle.model.specs.Reading.{Reading, accepted}
+use Rattle.model.specs.Instance.{Instance}
+use Rattle.model.specs.Edges.{instanceOf}
+use Rattle.model.specs.Plans.{Plan}
+use Rattle.model.specs.PlanFile.{readPlanBy, readPlan}
+use Rattle.model.specs.Compare.{Part, secondJudged, firstJudged, comparisonOf}
+use Rattle.model.specs.Desk as D
+use Rattle.model.specs.Desk.{Held, nothing, roster, planned, Answer, votes, refusedPart, compare, comparisonAnswer, answerOf, stateRefusal}
+use Rattle.answers.specs.declared.Comparison.{Comparison}
+use Rattle.answers.specs.declared.Comparison.the-variants.{Votes, Refused}
+use Rattle.answers.specs.ComparisonCases.{partShown, comparisonShown}
+use Rattle.compare.specs.Parts.{placed, Counted}
+use Rattle.desk_files.specs.declared.Files.{Files}
+use Rattle.desk_files.specs.Held.{heldOf}
+use Rattle.desk_files.specs.Replies.{partIn, answered, Replied}
+
+-- the comparison's call on desk d with two lent files: the answer, the part and the desk then
+pub record Compares (d : Files) (first second : RefT (List ℕ)) (answer : Comparison) (handed : RefT (List ℕ)) (d′ : Files) : Type 0 where
+  pub replied : Replied d (compare (now first) (now second)) (comparisonShown (now first) (now second) answer) (compare (now first) (now second)) d′
+  -- "the winner's pair bytes are handed back as a part of its own file": "the winner's for first and second, and empty for both and neither" (W-206);
+  -- the empty part, on a refusal too, is "taken from the first file"
+  pub part : (ptr handed, now handed) ≡ placed first second (partIn (answered (heldOf d) (compare (now first) (now second))))
+
+-- ---- where there are votes, both files have their count byte
+abbrev isVotes : Answer → Bool
+isVotes (D.refused n g) = false
+isVotes D.loaded = false
+isVotes (D.wrote n) = false
+isVotes (D.plan n) = false
+isVotes (D.none n k) = false
+isVotes D.strong = false
+isVotes (D.popular v) = false
+isVotes (D.beaten v) = false
+isVotes (votes v w x p) = true
+isVotes (refusedPart n g p) = false
+isVotes (D.blockedBy s t k) = false
+isVotes D.unblocked = false
+
+abbrev isAccepted : Reading Plan → Bool
+isAccepted (accepted M) = true
+isAccepted (reading.refused n) = false
+
+-- the empty file is refused
+filled : (G : Instance) (l : List ℕ) → T (isAccepted (readPlan G l)) → 1 ≤ length l
+unfolding readPlanBy
+filled G [] t = absurd t
+filled G (x ∷ l) t = omega arith
+
+both-filled : (G : Instance) (a b : List ℕ) (p : Part) → T (isVotes (comparisonAnswer p (comparisonOf G a b))) → (1 ≤ length a) × (1 ≤ length b)
+unfolding comparisonOf
+both-filled G a b p t = by-first (readPlan G a) (λ h. filled G a h) t
+  where
+    by-second : (M : Plan) (y : Reading Plan) → (T (isAccepted y) → 1 ≤ length b) → T (isVotes (comparisonAnswer p (secondJudged G M y))) → 1 ≤ length b
+    by-second M (accepted N) h t = h tt
+    by-second M (reading.refused n) h t = absurd t
+
+    by-first : (y : Reading Plan) → (T (isAccepted y) → 1 ≤ length a) → T (isVotes (comparisonAnswer p (firstJudged G y b))) → (1 ≤ length a) × (1 ≤ length b)
+    by-first (accepted M) h t = (h tt, by-second M (readPlan G b) (λ g. filled G b g) t)
+    by-first (reading.refused n) h t = absurd t
+
+pub counted : (h : Held) (a b : List ℕ) (c : Comparison) → comparisonShown a b c ≡ answered h (compare a b) → Counted c a b
+unfolding answerOf stateRefusal
+counted h a b (Refused n k) e = tt
+counted nothing a b (Votes v w x) e = absurd (subst (λ z. T (isVotes z)) e tt)
+counted (roster r) a b (Votes v w x) e = both-filled (instanceOf r) a b _ (subst (λ z. T (isVotes z)) e tt)
+counted (planned r M) a b (Votes v w x) e = both-filled (instanceOf r) a b _ (subst (λ z. T (isVotes z)) e tt)
+
+-- ---- the part that the answer names is the one in the model's answer
+in-answer : (a b : List ℕ) (c : Comparison) → partShown c a b ≡ partIn (comparisonShown a b c)
+in-answer a b (Votes v w x) = refl
+in-answer a b (Refused n k) = refl
+
+pub compares : (d : Files) (first second : RefT (List ℕ)) (answer : Comparison) (handed : RefT (List ℕ)) (d′ : Files)
+    → Replied d (compare (now first) (now second)) (comparisonShown (now first) (now second) answer) (compare (now first) (now second)) d′
+    → (ptr handed, now handed) ≡ placed first second (partShown answer (now first) (now second)) → Compares d first second answer handed d′
+compares d first second answer handed d′ R e = record {
+  replied = R;
+  part = e ∙ ap (placed first second) (in-answer (now first) (now second) answer ∙ ap partIn (R .answer));
+}
