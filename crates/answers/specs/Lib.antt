@@ -4,4 +4,5 @@ pub mod WrittenCases
 pub mod FinderCases
 pub mod VerdictCases
 pub mod ComparisonCases
+pub mod ProposalCases
 pub mod BlockedCases

@@ -13,8 +13,8 @@ pub enum Group {
     Desk,
 }
 
-// The group of a refusal: "form for 1, 2 and 9; content for 3 to 8; plan for 10 to 12; desk for 13 to 15". A number that document 01
-// does not use has no group of its own: content.
+// The group of a refusal: "form for 1, 2 and 9; content for 3 to 8; plan for 10 to 12; desk for 13 to 15"; W-207: 20 is desk. A number
+// that no document uses has no group of its own: content.
 pub fn group_of(number: u8) -> Group
     ensures { λ r. ⌜ groupShown r ≡ groupOf number ⌝ }
 {
@@ -22,7 +22,7 @@ pub fn group_of(number: u8) -> Group
         1 | 2 | 9 => Group::Form,
         3..=8 => Group::Content,
         10..=12 => Group::Plan,
-        13..=15 => Group::Desk,
+        13..=15 | 20 => Group::Desk,
         _ => Group::Content,
     }
 }
@@ -72,6 +72,18 @@ pub enum Winner {
     Second,
     Both,
     Neither,
+}
+
+// W-207: both votes of a proposal that is taken, its own against the held plan first.
+pub enum Proposal {
+    Votes(i16, i16),
+    Refused(u8, Group),
+}
+
+// W-207: the proposal is the held plan now.
+pub enum Commit {
+    Committed,
+    Refused(u8, Group),
 }
 
 // A blocking pair, by the numbers of its surveyor, its stand and its shift; or that there is none.

@@ -1,10 +1,12 @@
 // The desk, document 01's session state: "The desk goes into each call by value and comes back: nothing loaded, a roster, or a roster and
-// a plan." What it holds is said by its bytes alone, so any field values may come in: a length above its array is cut to it, bytes that
+// a plan." W-207: a proposal may stand beside a plan. What it holds is said by its bytes alone, so any field values may come in: a length above its array is cut to it, bytes that
 // are no roster are nothing loaded, and bytes that are no plan of the roster are no plan held. No call asks anything of its caller.
 ghost use mathlib.Core.Path.{_≡_};
 ghost use Rattle.model.specs.Changes.{leaveOn};
 ghost use Rattle.model.specs.Desk.{opening, loadRoster, loadPlan, writeRosterTo, writePlanTo, join, leave, compare, blocking, planToNew, planToOld};
+ghost use Rattle.model.specs.Desk.{propose, commit};
 ghost use Rattle.answers.specs.FileCases.{fileShown};
+ghost use Rattle.answers.specs.ProposalCases.{proposalShown, commitShown};
 ghost use Rattle.answers.specs.WrittenCases.{writtenShown};
 ghost use Rattle.answers.specs.ComparisonCases.{comparisonShown};
 ghost use Rattle.answers.specs.BlockedCases.{blockedShown};
@@ -18,9 +20,11 @@ ghost use Rattle.desk_looks.specs.Judging.{Judges};
 ghost use Rattle.desk_files.specs.Replies.{Replied};
 ghost use Rattle.desk_looks.specs.Seasons.{Turns};
 use answers::Blocked;
+use answers::Commit;
 use answers::Comparison;
 use answers::FileAnswer;
 use answers::Found;
+use answers::Proposal;
 use answers::Verdict;
 use answers::Written;
 use desk_files::Files;
@@ -37,6 +41,16 @@ pub struct Desk {
 pub struct LoadReply {
     pub desk: Desk,
     pub answer: FileAnswer,
+}
+
+pub struct ProposeReply {
+    pub desk: Desk,
+    pub answer: Proposal,
+}
+
+pub struct CommitReply {
+    pub desk: Desk,
+    pub answer: Commit,
 }
 
 pub struct WriteReply {
@@ -175,6 +189,33 @@ impl Desk {
         let files = r.files;
         let answer = r.answer;
         LoadReply {
+            desk: Desk { files: files },
+            answer: answer,
+        }
+    }
+
+    // "A proposal stores the new plan beside the held one and returns both votes": its own against the held plan first. A later one takes the place of the
+    // one before; a refused file leaves an open one.
+    pub fn propose(self, file: &[u8]) -> ProposeReply
+        ensures { λ r. ⌜ Replied (self .files) (propose (now (file .entry))) (proposalShown (r .answer)) (propose (now (file .entry))) (r .desk .files) ⌝ }
+    {
+        let r = desk_loads::propose(self.files, file);
+        let files = r.files;
+        let answer = r.answer;
+        ProposeReply {
+            desk: Desk { files: files },
+            answer: answer,
+        }
+    }
+
+    // "a commit makes it the held plan and closes it"; 20 with no open proposal.
+    pub fn commit(self) -> CommitReply
+        ensures { λ r. ⌜ Replied (self .files) commit (commitShown (r .answer)) commit (r .desk .files) ⌝ }
+    {
+        let r = desk_loads::commit(self.files);
+        let files = r.files;
+        let answer = r.answer;
+        CommitReply {
             desk: Desk { files: files },
             answer: answer,
         }

@@ -5,6 +5,7 @@ use mathlib.Core.Path.{_≡_, refl, sym, ap, _∙_, subst}
 use mathlib.Core.Bool.{Bool, true, false, cond}
 use mathlib.Core.List.{List, []}
 use lib.ListN.{take}
+use lib.Dec.{T}
 use Rattle.lists.specs.Test.{given}
 use Rattle.lists.specs.Sum.{_∈_}
 use Rattle.model.specs.Reading.{Reading, accepted, refused}
@@ -28,8 +29,8 @@ use Rattle.desk_loaded.specs.Held.{heldPlan, held, stateNumber, unneeded}
 use Rattle.desk_loaded.specs.OnDesk.{PlanIn, OnRoster, LoadedFrom, its-roster, its-length}
 use Rattle.desk_files.specs.declared.Files.{Files}
 use Rattle.desk_changes.specs.declared.Change.{Change}
-use Rattle.desk_files.specs.Held.{rosterBytes, planBytes}
-use Rattle.desk_changes.specs.Changing.{ToRoster, Unchanged, LessOf, StoredAs, Taken, ChangedFor, ChangeFor, ChangedTo}
+use Rattle.desk_files.specs.Held.{rosterBytes, planBytes, proposalBytes}
+use Rattle.desk_changes.specs.Changing.{ToRoster, Unchanged, LessOf, StoredAs, Open, ClosedFor, Taken, ChangedFor, ChangeFor, ChangedTo}
 
 -- ---- the plan held, or none
 -- that there is a plan does not depend on the roster it is held with
@@ -66,13 +67,28 @@ module _ (g : arrays.Instance) (file : List ℕ) {l : OnDesk} (F : OnRoster g fi
     plan-less s c C = given plan-here (λ (M, a, m, f).
         subst (λ y. LessOf (shownBy g) s y (take (c .len) (c .bytes))) (sym a) (m, C M (λ e h. f e) .1))
 
+-- ---- the proposal: x and y are the bytes of the roster held and of the changed one, b whether they are the same
+module _ {old new f x y : List ℕ} {b : Bool} (p : x ≡ old) (q : y ≡ new) (s : (b ≡ true → x ≡ y) × (x ≡ y → b ≡ true)) where
+  pub open-still : b ≡ true → Open old new f f
+  open-still t = (λ e. refl, λ n. absurd (n (sym p ∙ s .0 t ∙ q)))
+
+  pub open-no-more : b ≡ false → Open old new f []
+  open-no-more t = (λ e. absurd (subst T (sym (s .1 (p ∙ e ∙ sym q)) ∙ t) tt), λ n. refl)
+
 -- ---- the answer of the change's bytes
 module _ (G : Instance) (d : Files) (s : ℕ) (c : Changed) (r : Change) where
   pub taken-refused : 0 < c .refusal → Unchanged (c .refusal) d r → Taken G d s c r
   taken-refused h u = record { refuses = λ k. u; takes = λ z. absurd (let z : ⊥ = omega arith in z) }
 
-  pub taken-stored : c .refusal ≤ 0 → r .refusal ≡ 0 → StoredAs G (planBytes d) s (take (c .len) (c .roster)) (r .files) → Taken G d s c r
-  taken-stored z q t = record { refuses = λ h. absurd (let z : ⊥ = omega arith in z); takes = λ k. (q, t) }
+  pub taken-stored : c .refusal ≤ 0 → r .refusal ≡ 0 → (k : Files) → StoredAs G d s (take (c .len) (c .roster)) k → ClosedFor d k (r .files) → Taken G d s c r
+  taken-stored z q k (b, p, f) (b′, p′, o) = record {
+    refuses = λ h. absurd (let z : ⊥ = omega arith in z);
+    takes = λ z. (q, record {
+      bytes = b′ ∙ b;
+      plan = subst (LessOf G s (readPlan G (planBytes d))) (sym p′) p;
+      proposal = (λ e. o .0 (e ∙ sym b) ∙ f, λ n. o .1 (λ e. n (e ∙ b)));
+    });
+  }
 
 -- ---- the change
 module _ (d : Files) (b : Bool) (change : ToRoster) (s : ℕ) {l : OnDesk} (F : LoadedFrom (rosterBytes d) (planBytes d) false b l) where
@@ -93,10 +109,14 @@ module _ (d : Files) (b : Bool) (change : ToRoster) (s : ℕ) {l : OnDesk} (F : 
     change-taken {c} C {r} t = given (its-roster z F) (λ (R, a).
         subst (λ x. ChangeFor x b change s d r) (sym a)
         (subst (λ b. ChangeFor (accepted R) b change s d r) (sym (its-length z F))
-        (F .fitting R a, go R (change R) (C R a) (subst (λ G. Taken G d s c r) (F .instance R a .1) t))))
+        (F .fitting R a, F .instance R a .2, go R (change R) (C R a) (subst (λ G. Taken G d s c r) (F .instance R a .1) t))))
       where
         go : (R : Roster) (x : Reading Roster) → Gives x c → Taken (instanceOf R) d s c r → ChangedFor R x s d r
         go R (refused n) (e, h) k = (h, subst (λ n. Unchanged n d r) e (k .refuses (subst (λ n. 0 < n) (sym e) h)))
         go R (accepted H) (e, m, w) k =
-            let (q, (a, p)) = k .takes (omega arith) in
-            (q, (a ∙ w, p))
+            let (q, M) = k .takes (omega arith) in
+            (q, record {
+              bytes = M .bytes ∙ w;
+              plan = M .plan;
+              proposal = subst (λ f. Open (rosterBytes d) f (proposalBytes d) (proposalBytes (r .files))) w (M .proposal);
+            })

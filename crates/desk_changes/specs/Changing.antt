@@ -19,7 +19,7 @@ use Rattle.theory_files.specs.Carried.{besides}
 use Rattle.roster_parts.specs.declared.Changed.{Changed}
 use Rattle.desk_files.specs.declared.Files.{Files}
 use Rattle.desk_changes.specs.declared.Change.{Change}
-use Rattle.desk_files.specs.Held.{rosterBytes, planBytes}
+use Rattle.desk_files.specs.Held.{rosterBytes, planBytes, proposalBytes}
 
 -- a change of the roster held
 abbrev pub ToRoster : Type 0
@@ -35,23 +35,36 @@ abbrev pub LessOf : Instance → (number : ℕ) → Reading Plan → List ℕ �
 LessOf G s (accepted M) bytes = (M ∈ plansOf G) × (bytes ≡ plans.planBytes G (besides G M s))
 LessOf G s (refused n) bytes = bytes ≡ []
 
-abbrev pub StoredAs : Instance → (plan : List ℕ) → (number : ℕ) → (roster : List ℕ) → Files → Type 0
-StoredAs G plan s roster d′ = (rosterBytes d′ ≡ roster) × LessOf G s (readPlan G plan) (planBytes d′)
+-- a roster and the plan with it, and the proposal's bytes as they were
+abbrev pub StoredAs : Instance → (before : Files) → (number : ℕ) → (roster : List ℕ) → (after : Files) → Type 0
+StoredAs G d s roster d′ = (rosterBytes d′ ≡ roster) × LessOf G s (readPlan G (planBytes d)) (planBytes d′) × (proposalBytes d′ ≡ proposalBytes d)
+
+-- W-207: the proposal's bytes stay where the roster's are what they were, else they are gone
+abbrev pub Open : (old new proposal : List ℕ) → (after : List ℕ) → Type 0
+Open old new f f′ = (old ≡ new → f′ ≡ f) × ((old ≡ new → ⊥) → f′ ≡ [])
+
+abbrev pub ClosedFor : (before stored after : Files) → Type 0
+ClosedFor d k d′ = (rosterBytes d′ ≡ rosterBytes k) × (planBytes d′ ≡ planBytes k) × Open (rosterBytes d) (rosterBytes k) (proposalBytes k) (proposalBytes d′)
+
+pub record Made (G : Instance) (d : Files) (s : ℕ) (roster : List ℕ) (d′ : Files) : Type 0 where
+  pub bytes : rosterBytes d′ ≡ roster
+  pub plan : LessOf G s (readPlan G (planBytes d)) (planBytes d′)
+  pub proposal : Open (rosterBytes d) roster (proposalBytes d) (proposalBytes d′)
 
 -- by the answer of the change's bytes
 pub record Taken (G : Instance) (d : Files) (s : ℕ) (c : Changed) (r : Change) : Type 0 where
   pub refuses : 0 < c .refusal → Unchanged (c .refusal) d r
-  pub takes : c .refusal ≤ 0 → (r .refusal ≡ 0) × StoredAs G (planBytes d) s (take (c .len) (c .roster)) (r .files)
+  pub takes : c .refusal ≤ 0 → (r .refusal ≡ 0) × Made G d s (take (c .len) (c .roster)) (r .files)
 
 -- by the model's reading of the change, of the roster held and the buffers' sizes
 abbrev pub ChangedFor : Roster → Reading Roster → (number : ℕ) → Files → Change → Type 0
 ChangedFor R (refused n) s d r = (0 < n) × Unchanged n d r
-ChangedFor R (accepted H) s d r = (r .refusal ≡ 0) × StoredAs (instanceOf R) (planBytes d) s (writeRoster H) (r .files)
+ChangedFor R (accepted H) s d r = (r .refusal ≡ 0) × Made (instanceOf R) d s (writeRoster H) (r .files)
 
 abbrev pub ChangeFor : Reading Roster → (isShort : Bool) → ToRoster → (number : ℕ) → Files → Change → Type 0
 ChangeFor (refused n) b change s d r = Unchanged 13 d r
 ChangeFor (accepted R) true change s d r = Unchanged 15 d r
-ChangeFor (accepted R) false change s d r = T (fits R) × ChangedFor R (change R) s d r
+ChangeFor (accepted R) false change s d r = T (fits R) × (writeRoster R ≡ rosterBytes d) × ChangedFor R (change R) s d r
 
 abbrev pub ChangedTo : Files → (isShort : Bool) → ToRoster → (number : ℕ) → Change → Type 0
 ChangedTo d b change s r = ChangeFor (readRoster (rosterBytes d)) b change s d r

@@ -4,8 +4,7 @@ ghost use lib.ListN.{take};
 ghost use Rattle.model.specs.Changes.{joinOn, leaveOn};
 ghost use Rattle.instance.specs.Decoded.{shownBy};
 ghost use Rattle.instance.specs.Loaded.{Loaded};
-ghost use Rattle.desk_files.specs.Held.{planBytes};
-ghost use Rattle.desk_changes.specs.Changing.{Unchanged, StoredAs, Taken, ChangedTo};
+ghost use Rattle.desk_changes.specs.Changing.{Unchanged, StoredAs, ClosedFor, Taken, ChangedTo};
 ghost use Rattle.desk_changes.specs.AfterChange.{FoundOn, ChangeDone, JoinDone};
 use desk_files::Files;
 use desk_find::Searched;
@@ -32,7 +31,7 @@ pub(crate) fn unchanged(files: Files, number: u8) -> Change
 }
 
 // The changed roster in the place of the one held, and the plan held, where there is one, without the pairs of a leaver's number: "nothing
-// stale" stays in the plan's array.
+// stale" stays in the plan's array. The proposal's bytes as they are.
 pub(crate) fn stored(
     files: Files,
     g: Instance,
@@ -41,28 +40,40 @@ pub(crate) fn stored(
     number: u8,
 ) -> Files
     requires { ⌜ Loaded g ⌝ }
-    ensures { λ r. ⌜ StoredAs (shownBy g) (planBytes files) number (take n roster) r ⌝ }
+    ensures { λ r. ⌜ StoredAs (shownBy g) files number (take n roster) r ⌝ }
 {
     let array = files.plan;
     let file = desk_files::front(&array, files.plan_len);
     let l = desk_loaded::with_plan(g, file, false);
+    let mut next = files;
+    next.roster_len = n;
+    next.roster = roster;
     if 0 < l.refusal {
-        return Files {
-            roster_len: n,
-            roster: roster,
-            plan_len: 0,
-            plan: array,
-        };
+        next.plan_len = 0;
+        return next;
     }
     let plan = l.plan;
     let c = plan_carried::carried(g, &plan, number);
     let bytes = c.bytes;
-    Files {
-        roster_len: n,
-        roster: roster,
-        plan_len: c.len,
-        plan: bytes,
+    next.plan_len = c.len;
+    next.plan = bytes;
+    next
+}
+
+// W-207: "joining, or a leaving that changes the roster closes it". The proposal stays open where the roster's bytes are those that they were.
+pub(crate) fn closed(files: Files, next: Files) -> Files
+    ensures { λ r. ⌜ ClosedFor files next r ⌝ }
+{
+    let old = files.roster;
+    let new = next.roster;
+    let a = desk_files::front(&old, files.roster_len);
+    let b = desk_files::front(&new, next.roster_len);
+    let mut r = next;
+    if check::same(a, b) {
+        return r;
     }
+    r.proposal_len = 0;
+    r
 }
 
 // the answer of a change of the roster held
@@ -75,7 +86,8 @@ pub(crate) fn taken(files: Files, g: Instance, c: Changed, number: u8) -> Change
         return unchanged(files, n);
     }
     let roster = c.roster;
-    let d = stored(files, g, roster, c.len, number);
+    let next = stored(files, g, roster, c.len, number);
+    let d = closed(files, next);
     Change {
         refusal: 0,
         files: d,

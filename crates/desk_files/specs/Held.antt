@@ -1,7 +1,8 @@
--- What a desk holds, "nothing loaded, a roster, or a roster and a plan": defined by reading its bytes. The empty file is refused by both
--- readers, so a length of 0 is nothing loaded, or no plan.
+-- What a desk holds, "nothing loaded, a roster, or a roster and a plan", and a proposal beside a plan (W-207): defined by reading its bytes. The empty
+-- file is refused by both readers, so a length of 0 is nothing loaded, no plan, or no proposal.
 use Prim.Native.Nat.{ℕ}
-use mathlib.Core.Path.{_≡_, refl, sym, ap, subst}
+use mathlib.Core.Path.{_≡_, refl, sym, ap, ap₂, subst}
+use mathlib.Core.Bool.{Bool, false, cond, _&&_}
 use mathlib.Core.List.{List, []}
 use lib.ListN.{take}
 use lib.Dec.{T}
@@ -11,10 +12,11 @@ use Rattle.model.specs.RosterFile.{readRosterBy, readRoster}
 use Rattle.model.specs.Edges.{instanceOf}
 use Rattle.model.specs.Plans.{Plan}
 use Rattle.model.specs.PlanFile.{readPlan}
-use Rattle.model.specs.Desk.{Held, nothing, roster, planned, opening, loadRoster, loadPlan, noRoster, noPlan, withRoster, withPlan, stateRefusal, deskAfter}
+use Rattle.model.specs.Desk.{Held, nothing, roster, planned, proposed, opening, loadRoster, loadPlan, propose, noRoster, noPlan, onRoster, onPlan}
+use Rattle.model.specs.Desk.{withRoster, withPlan, withProposal, stateRefusal, deskAfter}
 use Rattle.theory_files.specs.Reads.{isBytes}
 use Rattle.theory_finder.specs.Desks.{sound, desk-sound}
-use Rattle.desk_loaded.specs.Held.{heldPlan, held}
+use Rattle.desk_loaded.specs.Held.{heldPlan, held, stateNumber}
 use Rattle.desk_files.specs.declared.Files.{Files}
 
 -- a length above the array's is the whole array
@@ -24,28 +26,86 @@ rosterBytes d = take (d .«roster_len») (d .roster)
 abbrev pub planBytes : Files → List ℕ
 planBytes d = take (d .«plan_len») (d .plan)
 
+abbrev pub proposalBytes : Files → List ℕ
+proposalBytes d = take (d .«proposal_len») (d .proposal)
+
+-- a proposal counts only with a roster and a plan held
+abbrev pub heldProposal : Roster → Plan → Reading Plan → Held
+heldProposal r M (accepted N) = proposed r M N
+heldProposal r M (refused n) = planned r M
+
+-- the proposal's bytes beside what a roster and a plan are read to
+abbrev pub beside : (proposal : List ℕ) → Held → Held
+beside f nothing = nothing
+beside f (roster r) = roster r
+beside f (planned r M) = heldProposal r M (readPlan (instanceOf r) f)
+beside f (proposed r M N) = proposed r M N
+
 unfoldable pub heldOf : Files → Held
-heldOf d = held (readRoster (rosterBytes d)) (planBytes d)
+heldOf d = beside (proposalBytes d) (held (readRoster (rosterBytes d)) (planBytes d))
 
 -- no bytes, nothing loaded
 pub held-empty : (d : Files) → rosterBytes d ≡ [] → heldOf d ≡ opening
 unfolding heldOf readRosterBy
-held-empty d e = ap (λ bs. held (readRoster bs) (planBytes d)) e
+held-empty d e = ap (λ bs. beside (proposalBytes d) (held (readRoster bs) (planBytes d))) e
 
--- ---- a desk holds what a new one holds after loading its bytes; so what any desk holds is sound
-pub held-loads : (file plan : List ℕ) → held (readRoster file) plan ≡ deskAfter (deskAfter opening (loadRoster file)) (loadPlan plan)
-unfolding deskAfter stateRefusal
-held-loads file plan = by-roster (readRoster file)
+-- ---- the proposal is no matter to a roster and a plan held
+pub beside-roster : (f : List ℕ) (h : Held) → noRoster (beside f h) ≡ noRoster h
+beside-roster f nothing = refl
+beside-roster f (roster r) = refl
+beside-roster f (planned r M) = go (readPlan (instanceOf r) f)
   where
-    by-plan : (r : Roster) (y : Reading Plan) → heldPlan r y ≡ withPlan (roster r) r y
-    by-plan r (accepted M) = refl
+    go : (x : Reading Plan) → noRoster (heldProposal r M x) ≡ false
+    go (accepted N) = refl
+    go (refused n) = refl
+beside-roster f (proposed r M N) = refl
+
+pub beside-plan : (f : List ℕ) (h : Held) → noPlan (beside f h) ≡ noPlan h
+beside-plan f nothing = refl
+beside-plan f (roster r) = refl
+beside-plan f (planned r M) = go (readPlan (instanceOf r) f)
+  where
+    go : (x : Reading Plan) → noPlan (heldProposal r M x) ≡ false
+    go (accepted N) = refl
+    go (refused n) = refl
+beside-plan f (proposed r M N) = refl
+
+pub beside-number : (f : List ℕ) (h : Held) (needs short : Bool) → stateNumber h needs short ≡ stateNumber (beside f h) needs short
+beside-number f h needs short = sym (ap₂ (λ a b. cond a 13 (cond (needs && b) 14 (cond short 15 0))) (beside-roster f h) (beside-plan f h))
+
+-- what is said of the roster held, of the plan held
+pub of-roster : {A : Type 0} (x : A) (g : Roster → A) (R : Roster) (y : Reading Plan) (f : List ℕ) → g R ≡ onRoster x (beside f (heldPlan R y)) g
+of-roster x g R (refused n) f = refl
+of-roster x g R (accepted M) f = go (readPlan (instanceOf R) f)
+  where
+    go : (z : Reading Plan) → g R ≡ onRoster x (heldProposal R M z) g
+    go (accepted N) = refl
+    go (refused n) = refl
+
+pub of-plan : {A : Type 0} (x : A) (g : Roster → Plan → A) (R : Roster) (M : Plan) (z : Reading Plan) → g R M ≡ onPlan x (heldProposal R M z) g
+of-plan x g R M (accepted N) = refl
+of-plan x g R M (refused n) = refl
+
+-- ---- a desk holds what a new one holds after loading its bytes, and proposing; so what any desk holds is sound
+pub held-loads : (file plan proposal : List ℕ)
+    → beside proposal (held (readRoster file) plan) ≡ deskAfter (deskAfter (deskAfter opening (loadRoster file)) (loadPlan plan)) (propose proposal)
+unfolding deskAfter stateRefusal
+held-loads file plan proposal = by-roster (readRoster file)
+  where
+    by-proposal : (r : Roster) (M : Plan) (z : Reading Plan) → heldProposal r M z ≡ withProposal (planned r M) r M z
+    by-proposal r M (accepted N) = refl
+    by-proposal r M (refused n) = refl
+
+    by-plan : (r : Roster) (y : Reading Plan) → beside proposal (heldPlan r y) ≡ deskAfter (withPlan (roster r) r y) (propose proposal)
+    by-plan r (accepted M) = by-proposal r M (readPlan (instanceOf r) proposal)
     by-plan r (refused n) = refl
 
-    by-roster : (x : Reading Roster) → held x plan ≡ deskAfter (withRoster nothing x) (loadPlan plan)
+    by-roster : (x : Reading Roster) → beside proposal (held x plan) ≡ deskAfter (deskAfter (withRoster nothing x) (loadPlan plan)) (propose proposal)
     by-roster (accepted r) = by-plan r (readPlan (instanceOf r) plan)
     by-roster (refused n) = refl
 
-pub held-sound : (d : Files) → T (isBytes (rosterBytes d)) → T (isBytes (planBytes d)) → T (sound (heldOf d))
+pub held-sound : (d : Files) → T (isBytes (rosterBytes d)) → T (isBytes (planBytes d)) → T (isBytes (proposalBytes d)) → T (sound (heldOf d))
 unfolding heldOf sound
-held-sound d s t = subst (λ h. T (sound h)) (sym (held-loads (rosterBytes d) (planBytes d)))
-    (desk-sound (deskAfter opening (loadRoster (rosterBytes d))) (loadPlan (planBytes d)) t (desk-sound opening (loadRoster (rosterBytes d)) s tt))
+held-sound d s t u = subst (λ h. T (sound h)) (sym (held-loads (rosterBytes d) (planBytes d) (proposalBytes d)))
+    (desk-sound (deskAfter (deskAfter opening (loadRoster (rosterBytes d))) (loadPlan (planBytes d))) (propose (proposalBytes d)) u
+    (desk-sound (deskAfter opening (loadRoster (rosterBytes d))) (loadPlan (planBytes d)) t (desk-sound opening (loadRoster (rosterBytes d)) s tt)))

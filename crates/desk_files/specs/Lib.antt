@@ -2,3 +2,4 @@ pub mod Held
 pub mod Front
 pub mod Replies
 pub mod State
+pub mod History

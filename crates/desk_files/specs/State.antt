@@ -1,28 +1,32 @@
--- The state's refusal of a call, "13, 14, 15 come first"; and a call that it lets pass, by what is held.
+-- The state's refusal of a call, "13, 14, 15 come first", 20 for a commit alone; and a call that it lets pass, by what is held.
 use Prim.Native.Nat.{ℕ, _≤_, _<_}
 use native.Mathlib.Omega.{arith}
 use mathlib.Core.Path.{_≡_, refl, sym, ap, _∙_, subst}
-use mathlib.Core.Bool.{Bool, true, false, cond, _&&_}
+use mathlib.Core.Bool.{Bool, true, false, not, cond, _&&_}
 use mathlib.Core.List.{List}
 use lib.ListN.{length}
 use lib.Dec.{T, ltb, nltb→le}
 use borrow.Author.Tests.{lt-ltb}
-use Rattle.lists.specs.Test.{given, T-true, false-T}
+use Rattle.lists.specs.Test.{given, false-T}
 use Rattle.model.specs.Reading.{Reading, accepted, refused}
 use Rattle.model.specs.Roster.{Roster}
 use Rattle.model.specs.RosterFile.{readRoster}
+use Rattle.model.specs.Edges.{instanceOf}
 use Rattle.model.specs.Plans.{Plan}
-use Rattle.model.specs.Desk.{Held, onRoster, Call, loadRoster, loadPlan, writeRosterTo, writePlanTo, find, join, leave, judge, compare, blocking, Answer}
-use Rattle.model.specs.Desk.{planToNew, planToOld}
+use Rattle.model.specs.PlanFile as plans
+use Rattle.model.specs.PlanFile.{readPlan}
+use Rattle.model.specs.Desk.{Held, Call, loadRoster, loadPlan, writeRosterTo, writePlanTo, find, join, leave, judge, compare, blocking, Answer}
+use Rattle.model.specs.Desk.{planToNew, planToOld, propose, commit, needsProposal, noProposal}
 use Rattle.model.specs.Desk.{needsRoster, needsPlan, lentShort, noRoster, noPlan, stateRefusal, answerOn, lentOn, stateRefused, answerOf, lentAfter}
 use Rattle.model.specs.Desk.{deskOn, deskAfter}
 use Rattle.theory_finder.specs.Choices.{chosen}
 use Rattle.desk_files.specs.declared.Files.{Files}
+use Rattle.instance.specs.Decoded.{shownBy}
 use Rattle.instance.specs.Loaded.{Loaded}
 use Rattle.desk_loaded.specs.declared.OnDesk.{OnDesk}
 use Rattle.desk_loaded.specs.Held.{heldPlan, held, stateNumber}
-use Rattle.desk_loaded.specs.OnDesk.{LoadedFrom, its-roster, its-length}
-use Rattle.desk_files.specs.Held.{rosterBytes, planBytes, heldOf}
+use Rattle.desk_loaded.specs.OnDesk.{PlanIn, LoadedFrom, its-roster, its-plan, its-length}
+use Rattle.desk_files.specs.Held.{rosterBytes, planBytes, proposalBytes, heldProposal, beside, heldOf, beside-number}
 use Rattle.desk_files.specs.Replies.{answered, lentThen, isAccepted, Stored, Replied}
 
 -- ---- a refusal by the state
@@ -42,25 +46,33 @@ same-desk d n (compare a b) = refl
 same-desk d n blocking = refl
 same-desk d n (planToNew f b) = refl
 same-desk d n (planToOld f b) = refl
+same-desk d n (propose f) = refl
+same-desk d n commit = refl
 
--- a call that needs a roster
-pub states : (h : Held) (c : Call) → T (needsRoster c) → stateNumber h (needsPlan c) (lentShort c) ≡ stateRefusal h c
+-- a call that needs a roster, and no proposal
+pub states : (h : Held) (c : Call) → T (needsRoster c) → T (not (needsProposal c)) → stateNumber h (needsPlan c) (lentShort c) ≡ stateRefusal h c
 unfolding stateRefusal
-states h c t =
-    ap (λ b. cond (b && noRoster h) 13 (cond (needsPlan c && noPlan h) 14 (cond (lentShort c) 15 0))) {y = needsRoster c} (sym (T-true {b = needsRoster c} t))
+states h c t u = go (needsRoster c) (needsProposal c) t u
+  where
+    go : (a b : Bool) → T a → T (not b)
+        → stateNumber h (needsPlan c) (lentShort c)
+        ≡ cond (a && noRoster h) 13 (cond (needsPlan c && noPlan h) 14 (cond (b && noProposal h) 20 (cond (lentShort c) 15 0)))
+    go true false t u = refl
+    go true true t u = absurd u
+    go false b t u = absurd t
 
-pub by-state : (d : Files) (c : Call) → T (needsRoster c) → {n : ℕ} {a : Answer} → n ≡ stateNumber (heldOf d) (needsPlan c) (lentShort c) → 0 < n
-    → a ≡ stateRefused n c → Replied d c a c d
+pub refuses-by : (d : Files) (c : Call) {n : ℕ} {a : Answer} → n ≡ stateRefusal (heldOf d) c → 0 < n → a ≡ stateRefused n c → Replied d c a c d
 unfolding answerOf lentAfter deskAfter
-by-state d c t {n} {a} i h q = record {
+refuses-by d c {n} {a} e h q = record {
   answer = q ∙ by-number (λ k. stateRefused k c) (answerOn chosen (heldOf d) c) e h;
   lent = by-number (λ k. c) (lentOn chosen (heldOf d) c) e h;
   desk = by-number (λ k. heldOf d) (deskOn (heldOf d) c) e h;
   stored = subst (λ z. Stored c (isAccepted z) d d) (sym q) (same-desk d n c);
 }
-  where
-    e : n ≡ stateRefusal (heldOf d) c
-    e = i ∙ states (heldOf d) c t
+
+pub by-state : (d : Files) (c : Call) → T (needsRoster c) → T (not (needsProposal c)) → {n : ℕ} {a : Answer}
+    → n ≡ stateNumber (heldOf d) (needsPlan c) (lentShort c) → 0 < n → a ≡ stateRefused n c → Replied d c a c d
+by-state d c t u i h q = refuses-by d c (i ∙ states (heldOf d) c t u) h q
 
 -- ---- a call that the state lets pass
 module _ (h : Held) (c : Call) (s : 0 ≡ stateRefusal h c) where
@@ -95,19 +107,15 @@ desk-alike h c e = either (ltb 0 (stateRefusal h c)) e
 pub no-number : {n m : ℕ} → n ≤ 0 → n ≡ m → 0 ≡ m
 no-number h e = omega arith
 
--- ---- what is held of a roster, and what is said of it
-pub of-roster : {A : Type 0} (x : A) (f : Roster → A) (R : Roster) (y : Reading Plan) → f R ≡ onRoster x (heldPlan R y) f
-of-roster x f R (accepted M) = refl
-of-roster x f R (refused n) = refl
-
-pub roster-held : (d : Files) (R : Roster) → readRoster (rosterBytes d) ≡ accepted R → heldOf d ≡ held (accepted R) (planBytes d)
+-- ---- what is held of a roster
+pub roster-held : (d : Files) (R : Roster) → readRoster (rosterBytes d) ≡ accepted R → heldOf d ≡ beside (proposalBytes d) (held (accepted R) (planBytes d))
 unfolding heldOf
-roster-held d R a = ap (λ x. held x (planBytes d)) a
+roster-held d R a = ap (λ x. beside (proposalBytes d) (held x (planBytes d))) a
 
 -- a call that leaves the desk as it came: its answer and the bytes lent, by what is held
-module _ (d : Files) (c : Call) (t : T (needsRoster c)) {n : ℕ} (i : n ≡ stateNumber (heldOf d) (needsPlan c) (lentShort c)) (z : n ≤ 0) where
+module _ (d : Files) (c : Call) (t : T (needsRoster c)) (u : T (not (needsProposal c))) {n : ℕ} (i : n ≡ stateNumber (heldOf d) (needsPlan c) (lentShort c)) (z : n ≤ 0) where
   pub passed : 0 ≡ stateRefusal (heldOf d) c
-  passed = no-number z i ∙ states (heldOf d) c t
+  passed = no-number z i ∙ states (heldOf d) c t u
 
   pub passes : {a : Answer} {c′ : Call} (h : Held) → heldOf d ≡ h → a ≡ answerOn chosen h c → c′ ≡ lentOn chosen h c → h ≡ deskOn h c
       → Stored c (isAccepted a) d d → Replied d c a c′ d
@@ -123,7 +131,7 @@ module _ (d : Files) (c : Call) (t : T (needsRoster c)) {n : ℕ} (i : n ≡ sta
 pub state-is : (d : Files) {needs short : Bool} {l : OnDesk} → LoadedFrom (rosterBytes d) (planBytes d) needs short l
     → l .refusal ≡ stateNumber (heldOf d) needs short
 unfolding heldOf
-state-is d F = F .refusal
+state-is d {needs} {short} F = F .refusal ∙ beside-number (proposalBytes d) (held (readRoster (rosterBytes d)) (planBytes d)) needs short
 
 pub arrays-are : (d : Files) {needs short : Bool} {l : OnDesk} → LoadedFrom (rosterBytes d) (planBytes d) needs short l → l .refusal ≤ 0 → Loaded (l .g)
 arrays-are d F z = given (its-roster z F) (λ (R, a). F .instance R a .0)
@@ -133,3 +141,19 @@ pub long-enough : (out : List ℕ) (size : ℕ) {roster plan : List ℕ} {needs 
     → LoadedFrom roster plan needs (ltb (length out) size) l → l .refusal ≤ 0
     → size ≤ length out
 long-enough out size F z = nltb→le (length out) size (false-T (its-length z F))
+
+-- ---- the plan held, and the proposal beside it, if there is one
+abbrev pub other : Files → Roster → Reading Plan
+other d R = readPlan (instanceOf R) (proposalBytes d)
+
+pub its-plan-held : (d : Files) {short : Bool} {l : OnDesk} → LoadedFrom (rosterBytes d) (planBytes d) true short l → l .refusal ≤ 0
+    → (R : Roster) × (M : Plan) × (heldOf d ≡ heldProposal R M (other d R)) × (shownBy (l .g) ≡ instanceOf R) × PlanIn l M
+    × (plans.planBytes (instanceOf R) M ≡ planBytes d)
+its-plan-held d F z = given (its-plan z F) (λ (R, M, a, b). (
+  R,
+  M,
+  roster-held d R a ∙ ap (λ y. beside (proposalBytes d) (heldPlan R y)) b,
+  F .instance R a .1,
+  F .planned R a tt M b .0,
+  F .planned R a tt M b .1,
+))

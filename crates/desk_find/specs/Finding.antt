@@ -14,12 +14,13 @@ use Rattle.model.specs.Reading.{Reading, accepted}
 use Rattle.model.specs.Roster.{Roster}
 use Rattle.model.specs.RosterFile.{readRoster}
 use Rattle.model.specs.Edges.{instanceOf}
+use Rattle.model.specs.Instance.{Instance}
 use Rattle.model.specs.Plans.{Plan}
 use Rattle.model.specs.PlanFile.{readPlan}
 use Rattle.model.specs.Reduction.{stepsOf}
 use Rattle.model.specs.Finder as F
 use Rattle.model.specs.Finder.{recordOf, diaryOf, finderOf}
-use Rattle.model.specs.Desk.{Call, find, refused, lentShort, stateRefusal, answerOn, lentOn, foundAnswer, foundWritten, onto}
+use Rattle.model.specs.Desk.{Call, find, refused, refusal, foundOn, foundBytes, lentShort, stateRefusal, answerOn, lentOn, foundAnswer, foundWritten, onto}
 use Rattle.theory_verdict.specs.Rival.{rivalOf}
 use Rattle.theory_finder.specs.Choices.{chosen}
 use Rattle.theory_reduction.specs.Course.{steps-few}
@@ -39,9 +40,9 @@ use Rattle.desk_find.specs.Outcomes.{FindsFor, short, OutcomeFor, Outcom
 use Rattle.desk_files.specs.declared.Files.{Files}
 use Rattle.desk_find.specs.declared.Searched.{Searched}
 use Rattle.desk_loaded.specs.Held.{heldPlan, held, stateNumber}
-use Rattle.desk_files.specs.Held.{rosterBytes, planBytes, heldOf}
+use Rattle.desk_files.specs.Held.{rosterBytes, planBytes, proposalBytes, beside, heldOf, beside-number, of-roster}
 use Rattle.desk_files.specs.Replies.{Replied}
-use Rattle.desk_files.specs.State.{states, by-state, pass-answer, pass-lent, desk-alike}
+use Rattle.desk_files.specs.State.{states, by-state, pass-answer, pass-lent, desk-alike, roster-held}
 
 pub record Done (d : Files) (room : ℕ) (l p v : List ℕ) (c : Searched) (l′ p′ v′ : List ℕ) : Type 0 where
   pub same : c .files ≡ d
@@ -101,23 +102,15 @@ module _ (s : List Step) (l p v : List ℕ) where
       go (reading.refused n) = refl
 
   -- what is asked of the roster held
-  answer-on : (R : Roster) (plan : List ℕ)
-      → answerOn chosen (held (accepted R) plan) call ≡ foundAnswer (length (stepsOf (instanceOf R))) (finderOf (instanceOf R) (rivalOf (instanceOf R)))
-  answer-on R plan = go (readPlan (instanceOf R) plan)
-    where
-      go : (y : Reading Plan)
-          → answerOn chosen (heldPlan R y) call ≡ foundAnswer (length (stepsOf (instanceOf R))) (finderOf (instanceOf R) (rivalOf (instanceOf R)))
-      go (accepted M) = refl
-      go (reading.refused n) = refl
+  module _ (R : Roster) (plan proposal : List ℕ) where
+    abbrev G : Instance
+    G = instanceOf R
 
-  lent-on : (R : Roster) (plan : List ℕ)
-      → lentOn chosen (held (accepted R) plan) call ≡ foundWritten find (instanceOf R) (finderOf (instanceOf R) (rivalOf (instanceOf R))) (recordsIn s) l p v
-  lent-on R plan = go (readPlan (instanceOf R) plan)
-    where
-      go : (y : Reading Plan)
-          → lentOn chosen (heldPlan R y) call ≡ foundWritten find (instanceOf R) (finderOf (instanceOf R) (rivalOf (instanceOf R))) (recordsIn s) l p v
-      go (accepted M) = refl
-      go (reading.refused n) = refl
+    answer-on : answerOn chosen (beside proposal (held (accepted R) plan)) call ≡ foundAnswer (length (stepsOf G)) (finderOf G (rivalOf G))
+    answer-on = sym (of-roster (refusal 13) (foundOn chosen) R (readPlan G plan) proposal)
+
+    lent-on : lentOn chosen (beside proposal (held (accepted R) plan)) call ≡ foundWritten find G (finderOf G (rivalOf G)) (recordsIn s) l p v
+    lent-on = sym (of-roster call (λ r. foundBytes chosen find r (recordsIn s) l p v) R (readPlan G plan) proposal)
 
   module _ (d : Files) (ans : Found) (d′ : Files) (same : d′ ≡ d) (flat : List ℕ) (s′ : List Step) (l′ p′ v′ : List ℕ) where
     state-here : (x : Reading Roster) → readRoster (rosterBytes d) ≡ x → (b : Bool) → short (length s) l p v ≡ b
@@ -125,6 +118,7 @@ module _ (s : List Step) (l p v : List ℕ) where
     unfolding heldOf
     state-here x e b q =
         ap (stateAt x) (sym q ∙ short-is) ∙ state-at x (planBytes d) ∙ ap (λ y. stateNumber (held y (planBytes d)) false (lentShort call)) (sym e)
+        ∙ beside-number (proposalBytes d) (held (readRoster (rosterBytes d)) (planBytes d)) false (lentShort call)
 
     -- a refusal by 13 or 15
     refused-reply : (n : ℕ) → 0 < n → n ≡ stateNumber (heldOf d) false (lentShort call) → (o : Outcome) → o .answer ≡ ans
@@ -133,17 +127,13 @@ module _ (s : List Step) (l p v : List ℕ) where
     refused-reply n h e o a k q =
         subst (λ z. Replied d call (foundShown ans) (find (recordsIn s′) l′ p′ v′) z) (sym same)
         (subst (λ c. Replied d call (foundShown ans) c d) (λ i. find (recordsIn (sym q i)) (sym (k .left) i) (sym (k .plan) i) (sym (k .rival) i))
-        (by-state d call tt e h (ap foundShown (sym a ∙ k .refuses .answer) ∙ ap (refused n) (shown-case (groupOf n)))))
+        (by-state d call tt tt e h (ap foundShown (sym a ∙ k .refuses .answer) ∙ ap (refused n) (shown-case (groupOf n)))))
 
     -- what was found
     module _ (R : Roster) (e : readRoster (rosterBytes d) ≡ accepted R) (f : FindsFor R (replicate flatSize 0) l p v ans flat l′ p′ v′)
         (q : recordsIn s′ ≡ onto (diaryOf (instanceOf R)) (recordsIn s)) where
       abbrev x : F.Found
       x = finderOf (instanceOf R) (rivalOf (instanceOf R))
-
-      held-here : heldOf d ≡ held (accepted R) (planBytes d)
-      unfolding heldOf
-      held-here = ap (λ y. held y (planBytes d)) e
 
       answer-here : foundShown ans ≡ foundAnswer (length (stepsOf (instanceOf R))) x
       answer-here = ap foundShown (f .finds .wrote .answer) ∙ shown-is (length (stepsOf (instanceOf R))) x
@@ -155,8 +145,8 @@ module _ (s : List Step) (l p v : List ℕ) where
 
       found-reply : 0 ≡ stateRefusal (heldOf d) call → Replied d call (foundShown ans) (find (recordsIn s′) l′ p′ v′) d′
       found-reply z = record {
-        answer = answer-here ∙ sym (ap (λ h. answerOn chosen h call) held-here ∙ answer-on R (planBytes d)) ∙ pass-answer (heldOf d) call z;
-        lent = lent-here ∙ sym (ap (λ h. lentOn chosen h call) held-here ∙ lent-on R (planBytes d)) ∙ pass-lent (heldOf d) call z;
+        answer = answer-here ∙ sym (ap (λ h. answerOn chosen h call) (roster-held d R e) ∙ answer-on R (planBytes d) (proposalBytes d)) ∙ pass-answer (heldOf d) call z;
+        lent = lent-here ∙ sym (ap (λ h. lentOn chosen h call) (roster-held d R e) ∙ lent-on R (planBytes d) (proposalBytes d)) ∙ pass-lent (heldOf d) call z;
         desk = ap heldOf same ∙ desk-alike (heldOf d) call refl;
         stored = same;
       }
@@ -213,7 +203,7 @@ module _ (s : List Step) (l p v : List ℕ) where
       λ R a t. absurd (subst (λ b. T (not b)) (sym short-is ∙ q) t),
     )
     by-outcome (accepted R) e false q steps (f, n) w = (
-      found-reply R e f (diary-here R steps f n w) (state-here (accepted R) e false q ∙ states (heldOf d) call tt),
+      found-reply R e f (diary-here R steps f n w) (state-here (accepted R) e false q ∙ states (heldOf d) call tt tt),
       λ R′ a t. subst (λ Q. Promise Q ans (recordsIn s) l p v (recordsIn s′) l′ p′ v′) (one (sym e ∙ a))
           (promised-here R e f (diary-here R steps f n w)),
     )

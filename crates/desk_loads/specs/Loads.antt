@@ -1,7 +1,7 @@
 -- Loading: what a load answers, and what the desk holds behind it.
 use Prim.Native.Nat.{ℕ, _≤_}
 use mathlib.Core.Path.{_≡_, refl, sym, ap, ap₂, _∙_, subst}
-use mathlib.Core.Bool.{false}
+use mathlib.Core.Bool.{true, false}
 use mathlib.Core.List.{List, []}
 use lib.ListN.{length, take}
 use lib.Dec.{T}
@@ -28,10 +28,9 @@ use Rattle.desk_loaded.specs.declared.OnDesk.{OnDesk}
 use Rattle.desk_loaded.specs.Held.{heldPlan, held}
 use Rattle.desk_loaded.specs.OnDesk.{LoadedFrom, its-roster}
 use Rattle.desk_files.specs.declared.Files.{Files}
-use Rattle.desk_files.specs.Held.{rosterBytes, planBytes, heldOf}
-use Rattle.desk_files.specs.Replies.{answered, Replied}
-use Rattle.desk_files.specs.State.{pass-answer, pass-desk, lent-alike, of-roster, roster-held, passed, passes}
-use Rattle.desk_files.specs.State.{state-is}
+use Rattle.desk_files.specs.Held.{rosterBytes, planBytes, proposalBytes, beside, heldOf, of-roster}
+use Rattle.desk_files.specs.Replies.{answered, RosterIn, PlanIn, Replied}
+use Rattle.desk_files.specs.State.{pass-answer, pass-desk, lent-alike, roster-held, passed, passes, state-is}
 
 -- ---- a roster: 13, 14 and 15 never come before it
 roster-shown : (x : Reading Roster) → fileShown (fileCase x) ≡ loadedRoster x
@@ -57,15 +56,16 @@ module _ (d : Files) (file : List ℕ) where
     pub roster-small : T (isBytes file) → length file ≤ rosterSize
     roster-small isB = let t = case-accepted (readRoster file) e in accepted-size file (t .0) isB (t .1)
 
-    pub roster-loaded : (d′ : Files) → rosterBytes d′ ≡ file → planBytes d′ ≡ [] → Replied d (loadRoster file) (fileShown Accepted) (loadRoster file) d′
+    pub roster-loaded : (d′ : Files) → RosterIn file true d d′ → Replied d (loadRoster file) (fileShown Accepted) (loadRoster file) d′
     unfolding deskAfter stateRefusal heldOf readPlanBy
-    roster-loaded d′ p q =
+    roster-loaded d′ (p, q, u) =
         let t = case-accepted (readRoster file) e in
         record {
           answer = roster-answer (heldOf d) file e;
           lent = lent-alike (heldOf d) (loadRoster file) refl;
-          desk = ap₂ (λ f b. held (readRoster f) b) p q ∙ ap (λ x. held x []) (t .1) ∙ sym (ap (withRoster (heldOf d)) (t .1));
-          stored = (p, q);
+          desk = ap (λ g. beside g (held (readRoster (rosterBytes d′)) (planBytes d′))) u ∙ ap₂ (λ f b. beside [] (held (readRoster f) b)) p q
+              ∙ ap (λ x. beside [] (held x [])) (t .1) ∙ sym (ap (withRoster (heldOf d)) (t .1));
+          stored = (p, q, u);
         }
 
 -- ---- a plan, against the roster held
@@ -79,36 +79,40 @@ module _ (d : Files) (file : List ℕ) {l : OnDesk} (F : LoadedFrom (rosterBytes
       → a ≡ fileCase (readPlan (instanceOf R) file)
   against {a} e R r = subst (λ G. a ≡ fileCase (readPlan G file)) (F .instance R r .1) e
 
-  answers : {a : FileAnswer} (R : Roster) (y : Reading Plan) → a ≡ fileCase (readPlan (instanceOf R) file)
-      → fileShown a ≡ answerOn chosen (heldPlan R y) (loadPlan file)
-  answers R y e = ap fileShown e ∙ plan-shown (readPlan (instanceOf R) file) ∙ of-roster (refusal 13) (λ r. loadedPlan (readPlan (instanceOf r) file)) R y
+  -- what is held, by the plan's reading
+  abbrev now : Roster → Reading Plan → Held
+  now R y = beside (proposalBytes d) (heldPlan R y)
 
-  holds : (R : Roster) (y : Reading Plan) → withPlan (heldPlan R y) R (readPlan (instanceOf R) file) ≡ deskOn (heldPlan R y) (loadPlan file)
-  holds R y = of-roster (heldPlan R y) (λ r. withPlan (heldPlan R y) r (readPlan (instanceOf r) file)) R y
+  answers : {a : FileAnswer} (R : Roster) (y : Reading Plan) → a ≡ fileCase (readPlan (instanceOf R) file)
+      → fileShown a ≡ answerOn chosen (now R y) (loadPlan file)
+  answers R y e = ap fileShown e ∙ plan-shown (readPlan (instanceOf R) file) ∙ of-roster (refusal 13) (λ r. loadedPlan (readPlan (instanceOf r) file)) R y (proposalBytes d)
+
+  holds : (R : Roster) (y : Reading Plan) → withPlan (now R y) R (readPlan (instanceOf R) file) ≡ deskOn (now R y) (loadPlan file)
+  holds R y = of-roster (now R y) (λ r. withPlan (now R y) r (readPlan (instanceOf r) file)) R y (proposalBytes d)
 
   pub plan-refused : {n : ℕ} {g : Group} → Refused n g ≡ fileCase (readPlan (shownBy (l .g)) file)
       → Replied d (loadPlan file) (fileShown (Refused n g)) (loadPlan file) d
   plan-refused e = given (its-roster z F) (λ (R, r).
       let y = readPlan (instanceOf R) (planBytes d) in
-      passes d (loadPlan file) tt (state-is d F) z (heldPlan R y) (roster-held d R r) (answers R y (against e R r)) refl
-      (sym (ap (withPlan (heldPlan R y) R) (case-refused (readPlan (instanceOf R) file) (against e R r))) ∙ holds R y) refl)
+      passes d (loadPlan file) tt tt (state-is d F) z (now R y) (roster-held d R r) (answers R y (against e R r)) refl
+      (sym (ap (withPlan (now R y) R) (case-refused (readPlan (instanceOf R) file) (against e R r))) ∙ holds R y) refl)
 
   module _ (e : Accepted ≡ fileCase (readPlan (shownBy (l .g)) file)) where
     pub plan-small : T (isBytes file) → length file ≤ planSize
     plan-small isB = let t = case-accepted (readPlan (shownBy (l .g)) file) e in plan-accepted-size (shownBy (l .g)) file (t .0) isB (t .1)
 
-    pub plan-loaded : (d′ : Files) → (d′ .«roster_len» ≡ d .«roster_len») × (d′ .roster ≡ d .roster) × (planBytes d′ ≡ file)
-        → Replied d (loadPlan file) (fileShown Accepted) (loadPlan file) d′
-    plan-loaded d′ (m, b, p) = given (its-roster z F) (λ (R, r).
+    pub plan-loaded : (d′ : Files) → PlanIn file true d d′ → Replied d (loadPlan file) (fileShown Accepted) (loadPlan file) d′
+    unfolding readPlanBy
+    plan-loaded d′ ((m, b), p, u) = given (its-roster z F) (λ (R, r).
         let y = readPlan (instanceOf R) (planBytes d) in
-        let s = passed d (loadPlan file) tt (state-is d F) z in
+        let s = passed d (loadPlan file) tt tt (state-is d F) z in
         let t = case-accepted (readPlan (instanceOf R) file) (against e R r) in
         record {
           answer =
               answers R y (against e R r) ∙ ap (λ h. answerOn chosen h (loadPlan file)) (sym (roster-held d R r)) ∙ pass-answer (heldOf d) (loadPlan file) s;
           lent = lent-alike (heldOf d) (loadPlan file) refl;
-          desk = roster-held d′ R (ap readRoster (ap₂ take m b) ∙ r) ∙ ap (λ q. heldPlan R (readPlan (instanceOf R) q)) p ∙ ap (heldPlan R) (t .1)
-              ∙ sym (ap (withPlan (heldPlan R y) R) (t .1)) ∙ holds R y ∙ ap (λ h. deskOn h (loadPlan file)) (sym (roster-held d R r))
+          desk = roster-held d′ R (ap readRoster (ap₂ take m b) ∙ r) ∙ ap₂ (λ f q. beside f (heldPlan R (readPlan (instanceOf R) q))) u p
+              ∙ ap (λ y. beside [] (heldPlan R y)) (t .1) ∙ sym (ap (withPlan (now R y) R) (t .1)) ∙ holds R y ∙ ap (λ h. deskOn h (loadPlan file)) (sym (roster-held d R r))
               ∙ pass-desk (heldOf d) (loadPlan file) s;
-          stored = (m, b, p);
+          stored = ((m, b), p, u);
         })

@@ -8,6 +8,7 @@ use lib.Dec.{ltb, nltb→le}
 use Rattle.lists.specs.Test.{given, false-T}
 use Rattle.lists.specs.Sum.{range}
 use Rattle.model.specs.Limits.{planSize, rosterSize}
+use Rattle.model.specs.Reading.{Reading}
 use Rattle.model.specs.Refusal.{groupOf}
 use Rattle.model.specs.Roster.{Roster}
 use Rattle.model.specs.RosterFile.{writeRoster}
@@ -19,7 +20,7 @@ use Rattle.model.specs.PlanFile.{edgesIn, readPlan}
 use Rattle.model.specs.Blocking.{someBlocks, topBlocking}
 use Rattle.model.specs.Compare as outcome
 use Rattle.model.specs.Compare.{winnerPart, partOf, comparisonOf}
-use Rattle.model.specs.Desk.{planned, writeRosterTo, writePlanTo, judge, compare, blocking, refusal, wrote, votes, refusedPart, onto, verdictAnswer}
+use Rattle.model.specs.Desk.{writeRosterTo, writePlanTo, judge, compare, blocking, refusal, wrote, votes, refusedPart, onto, verdictAnswer}
 use Rattle.model.specs.Desk.{verdictWritten, comparisonAnswer, blockingAnswer}
 use Rattle.theory_verdict.specs.Rival.{rivalOf}
 use Rattle.arrays.specs.ArrayInstance.{at, flag}
@@ -38,9 +39,9 @@ use Rattle.desk_loaded.specs.declared.OnDesk.{OnDesk}
 use Rattle.desk_loaded.specs.Held.{heldPlan, stateNumber}
 use Rattle.desk_loaded.specs.OnDesk.{PlanIn, LoadedFrom, its-roster, its-plan, its-length}
 use Rattle.desk_files.specs.declared.Files.{Files}
-use Rattle.desk_files.specs.Held.{rosterBytes, planBytes, heldOf}
+use Rattle.desk_files.specs.Held.{rosterBytes, planBytes, proposalBytes, heldProposal, beside, heldOf, of-roster, of-plan}
 use Rattle.desk_files.specs.Replies.{Replied}
-use Rattle.desk_files.specs.State.{state-is, of-roster, roster-held, passes}
+use Rattle.desk_files.specs.State.{state-is, roster-held, passes, other, its-plan-held}
 
 -- ---- with the roster held
 module _ (d : Files) {short : Bool} {l : OnDesk} (F : LoadedFrom (rosterBytes d) (planBytes d) false short l) (z : l .refusal ≤ 0) where
@@ -50,9 +51,10 @@ module _ (d : Files) {short : Bool} {l : OnDesk} (F : LoadedFrom (rosterBytes d)
   write-roster-reply out s p q = given (its-roster z F) (λ (R, a).
       let y = readPlan (instanceOf R) (planBytes d) in
       let w : writeRoster R ≡ rosterBytes d = F .instance R a .2 in
-      passes d (writeRosterTo out) tt (state-is d F ∙ ap (stateNumber (heldOf d) false) s) z (heldPlan R y) (roster-held d R a)
-      (ap wrote (p ∙ ap length (sym w)) ∙ of-roster (refusal 13) (λ r. wrote (length (writeRoster r))) R y)
-      (ap writeRosterTo (q ∙ ap (λ bs. onto bs out) (sym w)) ∙ of-roster (writeRosterTo out) (λ r. writeRosterTo (onto (writeRoster r) out)) R y)
+      let f = proposalBytes d in
+      passes d (writeRosterTo out) tt tt (state-is d F ∙ ap (stateNumber (heldOf d) false) s) z (beside f (heldPlan R y)) (roster-held d R a)
+      (ap wrote (p ∙ ap length (sym w)) ∙ of-roster (refusal 13) (λ r. wrote (length (writeRoster r))) R y f)
+      (ap writeRosterTo (q ∙ ap (λ bs. onto bs out) (sym w)) ∙ of-roster (writeRosterTo out) (λ r. writeRosterTo (onto (writeRoster r) out)) R y f)
       refl refl)
 
 -- the model's answer to a comparison, for each case of the code's
@@ -70,44 +72,46 @@ module _ (d : Files) {l : OnDesk} (F : LoadedFrom (rosterBytes d) (planBytes d) 
       → Replied d (compare a b) (comparisonShown a b c) (compare a b) d
   compare-reply z e = given (its-roster z F) (λ (R, r).
       let y = readPlan (instanceOf R) (planBytes d) in
-      passes d (compare a b) tt (state-is d F) z (heldPlan R y) (roster-held d R r)
+      let f = proposalBytes d in
+      passes d (compare a b) tt tt (state-is d F) z (beside f (heldPlan R y)) (roster-held d R r)
       (ap (comparisonShown a b) e ∙ compared-shown (shownBy (l .g)) a b ∙ ap (λ G. comparisonAnswer (partOf G a b) (comparisonOf G a b)) (F .instance R r .1)
-      ∙ of-roster (refusal 13) (λ r. comparisonAnswer (partOf (instanceOf r) a b) (comparisonOf (instanceOf r) a b)) R y)
+      ∙ of-roster (refusal 13) (λ r. comparisonAnswer (partOf (instanceOf r) a b) (comparisonOf (instanceOf r) a b)) R y f)
       refl refl refl)
 
 -- ---- with the plan held
 module _ (d : Files) {short : Bool} {l : OnDesk} (F : LoadedFrom (rosterBytes d) (planBytes d) true short l) (z : l .refusal ≤ 0) where
-  its-plan-held : (R : Roster) × (M : Plan) × (heldOf d ≡ planned R M) × (shownBy (l .g) ≡ instanceOf R) × PlanIn l M
-      × (plans.planBytes (instanceOf R) M ≡ planBytes d)
-  its-plan-held = given (its-plan z F) (λ (R, M, a, b).
-      (R, M, roster-held d R a ∙ ap (heldPlan R) b, F .instance R a .1, F .planned R a tt M b .0, F .planned R a tt M b .1))
-
   pub plan-shown : (M : Plan) × Shows (shownBy (l .g)) (l .plan) M
-  plan-shown = given its-plan-held (λ (R, M, e, s, P, w). (M, (P .within, P .flags)))
+  plan-shown = given (its-plan-held d F z) (λ (R, M, e, s, P, w). (M, (P .within, P .flags)))
 
   pub plan-listed : edgesIn (l .g .m) (flag (l .plan)) ≡ map (at (l .edges)) (range 0 (l .n))
-  plan-listed = given its-plan-held (λ (R, M, e, s, P, w). P .listed)
+  plan-listed = given (its-plan-held d F z) (λ (R, M, e, s, P, w). P .listed)
 
   pub write-plan-reply : (out : List ℕ) {k : ℕ} {after : List ℕ} → short ≡ ltb (length out) planSize → k ≡ length (planBytes d) → after ≡ onto (planBytes d) out
       → Replied d (writePlanTo out) (wrote k) (writePlanTo after) d
-  write-plan-reply out s p q = given its-plan-held (λ (R, M, e, g, P, w).
-      passes d (writePlanTo out) tt (state-is d F ∙ ap (stateNumber (heldOf d) true) s) z (planned R M) e
-      (ap wrote (p ∙ ap length (sym w))) (ap writePlanTo (q ∙ ap (λ bs. onto bs out) (sym w))) refl refl)
+  write-plan-reply out s p q = given (its-plan-held d F z) (λ (R, M, e, g, P, w).
+      passes d (writePlanTo out) tt tt (state-is d F ∙ ap (stateNumber (heldOf d) true) s) z (heldProposal R M (other d R)) e
+      (ap wrote (p ∙ ap length (sym w)) ∙ of-plan (refusal 14) (λ r M. wrote (length (plans.planBytes (instanceOf r) M))) R M (other d R))
+      (ap writePlanTo (q ∙ ap (λ bs. onto bs out) (sym w))
+      ∙ of-plan (writePlanTo out) (λ r M. writePlanTo (onto (plans.planBytes (instanceOf r) M) out)) R M (other d R))
+      refl refl)
 
   pub judge-reply : (out : List ℕ) {v : Verdict} {after : List ℕ} → short ≡ ltb (length out) planSize → WeighedFor (shownBy (l .g)) (l .plan) out v after
       → Replied d (judge out) (verdictShown v) (judge after) d
-  judge-reply out s W = given its-plan-held (λ (R, M, e, g, P, w).
+  judge-reply out s W = given (its-plan-held d F z) (λ (R, M, e, g, P, w).
       let G = shownBy (l .g) in
       let J = W M (P .within, P .flags) in
-      passes d (judge out) tt (state-is d F ∙ ap (stateNumber (heldOf d) true) s) z (planned R M) e
-      (ap verdictShown (J .reply) ∙ desk-answer G M (verdictOf G M) ∙ ap (λ G. verdictAnswer G M (rivalOf G M) (verdictOf G M)) g)
-      (ap judge (J .buffer) ∙ desk-written G M (verdictOf G M) out ∙ ap (λ G. verdictWritten G (rivalOf G M) (verdictOf G M) out) g)
+      passes d (judge out) tt tt (state-is d F ∙ ap (stateNumber (heldOf d) true) s) z (heldProposal R M (other d R)) e
+      (ap verdictShown (J .reply) ∙ desk-answer G M (verdictOf G M) ∙ ap (λ G. verdictAnswer G M (rivalOf G M) (verdictOf G M)) g
+      ∙ of-plan (refusal 14) (λ r M. verdictAnswer (instanceOf r) M (rivalOf (instanceOf r) M) (verdictOf (instanceOf r) M)) R M (other d R))
+      (ap judge (J .buffer) ∙ desk-written G M (verdictOf G M) out ∙ ap (λ G. verdictWritten G (rivalOf G M) (verdictOf G M) out) g
+      ∙ of-plan (judge out) (λ r M. verdictWritten (instanceOf r) (rivalOf (instanceOf r) M) (verdictOf (instanceOf r) M) out) R M (other d R))
       refl refl)
 
   pub blocking-reply : {b : Blocked} → short ≡ false → b ≡ blockedBy (shownBy (l .g)) (l .plan) → Replied d blocking (blockedShown b) blocking d
-  blocking-reply s q = given its-plan-held (λ (R, M, e, g, P, w).
+  blocking-reply s q = given (its-plan-held d F z) (λ (R, M, e, g, P, w).
       let G = shownBy (l .g) in
-      passes d blocking tt (state-is d F ∙ ap (stateNumber (heldOf d) true) s) z (planned R M) e
+      passes d blocking tt tt (state-is d F ∙ ap (stateNumber (heldOf d) true) s) z (heldProposal R M (other d R)) e
       (ap blockedShown (q ∙ same-plan G (l .plan) M (fun-ext (P .flags))) ∙ blocked-shown G (topBlocking G (on M)) (someBlocks G (on M))
-      ∙ ap (λ G. blockingAnswer G (topBlocking G (on M)) (someBlocks G (on M))) g)
+      ∙ ap (λ G. blockingAnswer G (topBlocking G (on M)) (someBlocks G (on M))) g
+      ∙ of-plan (refusal 14) (λ r M. let G = instanceOf r in blockingAnswer G (topBlocking G (on M)) (someBlocks G (on M))) R M (other d R))
       refl refl refl)

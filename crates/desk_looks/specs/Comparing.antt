@@ -45,6 +45,8 @@ isVotes (votes v w x p) = true
 isVotes (refusedPart n g p) = false
 isVotes (D.blockedBy s t k) = false
 isVotes D.unblocked = false
+isVotes (D.bothVotes v w) = false
+isVotes D.committed = false
 
 abbrev isAccepted : Reading Plan → Bool
 isAccepted (accepted M) = true
@@ -74,6 +76,7 @@ counted h a b (Refused n k) e = tt
 counted nothing a b (Votes v w x) e = absurd (subst (λ z. T (isVotes z)) e tt)
 counted (roster r) a b (Votes v w x) e = both-filled (instanceOf r) a b _ (subst (λ z. T (isVotes z)) e tt)
 counted (planned r M) a b (Votes v w x) e = both-filled (instanceOf r) a b _ (subst (λ z. T (isVotes z)) e tt)
+counted (D.proposed r M N) a b (Votes v w x) e = both-filled (instanceOf r) a b _ (subst (λ z. T (isVotes z)) e tt)
 
 -- ---- the part that the answer names is the one in the model's answer
 in-answer : (a b : List ℕ) (c : Comparison) → partShown c a b ≡ partIn (comparisonShown a b c)

@@ -17,7 +17,7 @@ use Rattle.model.specs.Edges.{instanceOf}
 use Rattle.model.specs.Plans.{Plan}
 use Rattle.model.specs.PlanFile.{readPlan}
 use Rattle.model.specs.Seasons as S
-use Rattle.model.specs.Desk.{Call, planToNew, planToOld, refused, wrote, refusal, onto, convertedAnswer, convertedOnto, stateRefusal, answerOn, lentOn}
+use Rattle.model.specs.Desk.{Held, Call, planToNew, planToOld, refused, wrote, refusal, onto, convertedAnswer, convertedOnto, stateRefusal, answerOn, lentOn}
 use Rattle.theory_files.specs.PlanFiles.{Fileable}
 use Rattle.theory_files.specs.RosterInstance.{fileable}
 use Rattle.theory_files.specs.PlanSeasons.{plan-back, plan-forth}
@@ -30,13 +30,12 @@ use Rattle.answers.specs.WrittenCases.{writtenShown, refused-no-bytes, converte
 use Rattle.instance.specs.Decoded.{shownBy}
 use Rattle.plan_turned.specs.Turning.{planBy, TurnedFor}
 use Rattle.desk_loaded.specs.declared.OnDesk.{OnDesk}
-use Rattle.desk_loaded.specs.Held.{heldPlan}
+use Rattle.desk_loaded.specs.Held.{heldPlan, unneeded}
 use Rattle.desk_loaded.specs.OnDesk.{LoadedFrom, its-roster}
 use Rattle.desk_files.specs.declared.Files.{Files}
-use Rattle.desk_files.specs.Held.{rosterBytes, planBytes, heldOf}
+use Rattle.desk_files.specs.Held.{rosterBytes, planBytes, proposalBytes, beside, heldOf, beside-number, of-roster}
 use Rattle.desk_files.specs.Replies.{answered, lentThen, Replied}
-use Rattle.desk_files.specs.State.{by-state, pass-answer, pass-lent, of-roster, roster-held, passes}
-use Rattle.desk_files.specs.State.{state-is}
+use Rattle.desk_files.specs.State.{states, by-state, pass-answer, pass-lent, roster-held, passes, state-is}
 
 -- `call` is the way that is gone, `undo` the other one
 pub record Turns (call undo : (file buffer : List ℕ) → Call) (d : Files) (f o : List ℕ) (r : Written) (o′ : List ℕ) (d′ : Files) : Type 0 where
@@ -59,36 +58,40 @@ pub turns-not : (shifts : Bool) (d : Files) (f o : List ℕ) {l : OnDesk} → Lo
 turns-not shifts d f o {l} F h g q = record { replied = reply shifts; undone = λ n e. refused-no-bytes (sym (ap (refused (l .refusal)) q) ∙ e) }
   where
     reply : (b : Bool) → Replied d (callBy b f o) (refused (l .refusal) (groupShown g)) (callBy b f o) d
-    reply true = by-state d (planToOld f o) tt (state-is d F) h (ap (refused (l .refusal)) q)
-    reply false = by-state d (planToNew f o) tt (state-is d F) h (ap (refused (l .refusal)) q)
+    reply true = by-state d (planToOld f o) tt tt (state-is d F) h (ap (refused (l .refusal)) q)
+    reply false = by-state d (planToNew f o) tt tt (state-is d F) h (ap (refused (l .refusal)) q)
 
 -- ---- with the roster held
 module _ (d : Files) (R : Roster) (a : readRoster (rosterBytes d) ≡ accepted R) where
   abbrev y : Reading Plan
   y = readPlan (instanceOf R) (planBytes d)
 
-  -- what is said of a file
-  said : (b : Bool) (f o : List ℕ) → convertedAnswer (planBy b (instanceOf R) f) ≡ answerOn chosen (heldPlan R y) (callBy b f o)
-  said true f o = of-roster (refusal 13) (λ r. convertedAnswer (S.planToOld (instanceOf r) f)) R y
-  said false f o = of-roster (refusal 13) (λ r. convertedAnswer (S.planToNew (instanceOf r) f)) R y
+  -- what is held
+  abbrev H : Held
+  H = beside (proposalBytes d) (heldPlan R y)
 
-  lent : (b : Bool) (f o : List ℕ) → callBy b f (convertedOnto (planBy b (instanceOf R) f) o) ≡ lentOn chosen (heldPlan R y) (callBy b f o)
-  lent true f o = of-roster (planToOld f o) (λ r. planToOld f (convertedOnto (S.planToOld (instanceOf r) f) o)) R y
-  lent false f o = of-roster (planToNew f o) (λ r. planToNew f (convertedOnto (S.planToNew (instanceOf r) f) o)) R y
+  -- what is said of a file
+  said : (b : Bool) (f o : List ℕ) → convertedAnswer (planBy b (instanceOf R) f) ≡ answerOn chosen H (callBy b f o)
+  said true f o = of-roster (refusal 13) (λ r. convertedAnswer (S.planToOld (instanceOf r) f)) R y (proposalBytes d)
+  said false f o = of-roster (refusal 13) (λ r. convertedAnswer (S.planToNew (instanceOf r) f)) R y (proposalBytes d)
+
+  lent : (b : Bool) (f o : List ℕ) → callBy b f (convertedOnto (planBy b (instanceOf R) f) o) ≡ lentOn chosen H (callBy b f o)
+  lent true f o = of-roster (planToOld f o) (λ r. planToOld f (convertedOnto (S.planToOld (instanceOf r) f) o)) R y (proposalBytes d)
+  lent false f o = of-roster (planToNew f o) (λ r. planToNew f (convertedOnto (S.planToNew (instanceOf r) f) o)) R y (proposalBytes d)
 
   -- the state lets a call with a buffer of a plan's size pass
   passed-by : (b : Bool) (f o : List ℕ) → planSize ≤ length o → 0 ≡ stateRefusal (heldOf d) (callBy b f o)
   unfolding stateRefusal
-  passed-by b f o h = go b y ∙ ap (λ x. stateRefusal x (callBy b f o)) (sym (roster-held d R a))
+  passed-by b f o h = go b ∙ ap (λ x. stateRefusal x (callBy b f o)) (sym (roster-held d R a))
     where
       e : _≡_ {A = ℕ} 0 (cond (ltb (length o) planSize) 15 0)
       e = sym (ap (λ t. cond t 15 0) (le-ltb (length o) planSize h))
 
-      go : (b : Bool) (z : Reading Plan) → 0 ≡ stateRefusal (heldPlan R z) (callBy b f o)
-      go true (accepted M) = e
-      go true (reading.refused n) = e
-      go false (accepted M) = e
-      go false (reading.refused n) = e
+      go : (b : Bool) → 0 ≡ stateRefusal H (callBy b f o)
+      go true = e ∙ unneeded R y (ltb (length o) planSize) ∙ beside-number (proposalBytes d) (heldPlan R y) false (ltb (length o) planSize)
+          ∙ states H (planToOld f o) tt tt
+      go false = e ∙ unneeded R y (ltb (length o) planSize) ∙ beside-number (proposalBytes d) (heldPlan R y) false (ltb (length o) planSize)
+          ∙ states H (planToNew f o) tt tt
 
   -- a file that is turned into another
   turned-into : (b : Bool) (f g o : List ℕ) → planSize ≤ length o → planBy b (instanceOf R) f ≡ accepted g
@@ -125,7 +128,7 @@ turns shifts d f o isB {l} F z {r} {o′} X =
 
     reply : (R : Roster) (a : readRoster (rosterBytes d) ≡ accepted R) (b : Bool) → TurnedFor b (instanceOf R) f o r o′
         → Replied d (callBy b f o) (writtenShown r) (callBy b f o′) d
-    reply R a true Y = passes d (planToOld f o) tt (state-is d F) z (heldPlan R (readPlan (instanceOf R) (planBytes d))) (roster-held d R a)
+    reply R a true Y = passes d (planToOld f o) tt tt (state-is d F) z (H d R a) (roster-held d R a)
         (Y .answer ∙ said d R a true f o) (ap (planToOld f) (Y .lent) ∙ lent d R a true f o) refl refl
-    reply R a false Y = passes d (planToNew f o) tt (state-is d F) z (heldPlan R (readPlan (instanceOf R) (planBytes d))) (roster-held d R a)
+    reply R a false Y = passes d (planToNew f o) tt tt (state-is d F) z (H d R a) (roster-held d R a)
         (Y .answer ∙ said d R a false f o) (ap (planToNew f) (Y .lent) ∙ lent d R a false f o) refl refl

@@ -4,6 +4,8 @@
 use Prim.Native.Nat.{ℕ, suc}
 use mathlib.Core.Bool.{Bool, true, false, not, cond, _&&_, _||_}
 use mathlib.Core.List.{List, _++_}
+use mathlib.Core.Option as O
+use mathlib.Core.Option.{Option, some}
 use lib.ListN.{length, drop}
 use lib.Dec.{T, ltb}
 use lib.IntN.{ℤ}
@@ -270,6 +272,10 @@ onPlan x nothing f = x
 onPlan x (roster r) f = x
 onPlan x (planned r M) f = f r M
 onPlan x (proposed r M N) f = f r M
+
+-- the plan held, with its roster; a proposal beside it is none
+abbrev pub planHeld : Held → Option (Roster × Plan)
+planHeld h = onPlan O.none h (λ r M. some (r, M))
 
 -- ---- the answer, and the bytes lent
 -- "Only which rival and which blocking pair is open; what holds of them is said above." W-201 has closed the second.

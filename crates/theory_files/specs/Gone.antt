@@ -6,7 +6,7 @@ use mathlib.Core.Path.{_≡_, refl, sym, ap, ap₂, _∙_, subst}
 use mathlib.Core.Bool.{not}
 use mathlib.Core.List.{List, [], _∷_, map, Memᴰ·append-left, Memᴰ·append-right}
 use lib.ListN.{length, getD, set, length-map, List·getD-map}
-use lib.Seq.{ext-getD, set-getD}
+use lib.Seq.{ext-getD, getD-set-same, set-getD}
 use lib.Dec.{T, eqb, eqb→eq, eqb-refl, T-not}
 use Rattle.lists.specs.Test.{given, and-l, and-r, and-i, eq→eqb, by-eq, false-T}
 use Rattle.lists.specs.Sum.{_∈_, range-∈}
@@ -87,3 +87,17 @@ module _ (r h : Roster) (s : ℕ) (ok : T (fits r)) (left : T (gone r s)) (e : l
 
   pub gone-plan : (M : Plan) → M ∈ plansOf (instanceOf r) → carried (instanceOf r) (instanceOf h) M ≡ M
   gone-plan M m = ap (λ k. carried (instanceOf r) (instanceOf k) M) gone-roster ∙ carried-same r ok M m
+
+-- ---- and only one who has left leaves the roster as it is
+pub gone-unchanged : (r h : Roster) (s : ℕ) → T (fits r) → leaveOn r s ≡ accepted h → h ≡ r → T (gone r s)
+unfolding departed
+gone-unchanged r h s ok e q = given (leave-parts r s h e) (λ L.
+    let v = L .place in
+    let w : s - 1 ≡ v = let n = L .number in omega arith in
+    let is : r ≡ departed r (suc v) = sym q ∙ L .is in
+    and-i (eqb (getD (r .quotasS) (s - 1) 0) 0) (eqb (length (listS r (s - 1))) 0)
+    (eq→eqb (getD (r .quotasS) (s - 1) 0) 0 (ap (λ k. getD (r .quotasS) k 0) w ∙ ap (λ z. getD (z .quotasS) v 0) is
+    ∙ ap (λ k. getD (set (r .quotasS) k 0) v 0) (one-less v) ∙ getD-set-same (r .quotasS) v 0 0 (L .inside)))
+    (eq→eqb (length (listS r (s - 1))) 0 (ap (λ k. length (listS r k)) w ∙ ap (λ z. length (listS z v)) is
+    ∙ ap (λ k. length (getD (set (r .listsS) k []) v [])) (one-less v)
+    ∙ ap length (getD-set-same (r .listsS) v [] [] (let n = L .inside in given (fits-lists r ok .countS) (λ e. omega arith))))))

@@ -269,6 +269,13 @@ module _ (r : Roster) (q : ℕ) (file : List ℕ) (h : Roster) (isB : T (isBytes
   join-storable ok = given join-parts (λ J. subst Storable (sym (J .is))
       (storable (joined r q (J .list)) (fits-joined r q (J .list) ok (J .quota) (J .room) (J .places) (J .fit) (J .short))))
 
+  -- a joiner makes another roster
+  pub join-differs : T (fits r) → h ≡ r → ⊥
+  join-differs ok i = given join-parts (λ J.
+      let n : surveyorCount (joined r q (J .list)) ≡ suc (surveyorCount r) = joined-counts r q (J .list) ok .0 in
+      let m : surveyorCount r ≡ surveyorCount (joined r q (J .list)) = ap surveyorCount (sym i ∙ J .is) in
+      omega arith)
+
   -- no stand's list has passed its limit
   pub no-list-too-long : (j : ℕ) → length (entries (listT h j)) ≤ listLimit
   no-list-too-long j = given join-parts (λ J. subst (λ h. length (entries (listT h j)) ≤ listLimit) (sym (J .is))

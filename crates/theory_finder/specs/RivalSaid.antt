@@ -1,9 +1,10 @@
 -- What holds of the rival that a call names, in the words of its answer: "Beaten and popular write a rival, such an N, and the vote of M against
 -- it". A field of the promise of every call that judges a plan.
 use Prim.Native.Nat.{ℕ}
-use mathlib.Core.Path.{_≡_, refl, sym, ap, subst}
+use mathlib.Core.Path.{_≡_, refl, sym, ap, _∙_, subst}
 use mathlib.Core.Bool.{Bool, true, false, not, cond}
 use mathlib.Core.List.{List, []}
+use mathlib.Core.Option.{some, Option·some-injective, Option·none-ne-some}
 use lib.IntN.{ℤ, pos}
 use lib.Signed.{_<ℤ_}
 use lib.Dec.{T, ltb}
@@ -16,7 +17,7 @@ use Rattle.model.specs.Plans as P
 use Rattle.model.specs.Plans.{Plan, plansOf, samePlan, isStrong, voteOf, verdictOf}
 use Rattle.model.specs.PlanFile.{planBytes}
 use Rattle.model.specs.Desk as D
-use Rattle.model.specs.Desk.{Answer, Call, judge, planned, short, onto, refused, strong, popular, beaten, stateRefusal, answerOf, lentAfter}
+use Rattle.model.specs.Desk.{Held, planHeld, Answer, Call, judge, planned, short, onto, refused, strong, popular, beaten, stateRefusal, answerOf, lentAfter}
 use Rattle.model.specs.Desk.{verdictAnswer, verdictWritten}
 use Rattle.theory_verdict.specs.Rival.{rivalOf}
 use Rattle.theory_finder.specs.Demand3.{rival-holds}
@@ -89,9 +90,25 @@ module _ (r : Roster) (ok : T (fits r)) (M : Plan) (m : M ∈ plansOf (instanceO
       go true = refl
       go false = by-verdict (verdictOf G M) refl
 
-  -- of any answer and any buffer that are the model's
-  pub rival-said : (a : Answer) (v′ : List ℕ) → a ≡ answerOf chosen (planned r M) (judge v) → judge v′ ≡ lentAfter chosen (planned r M) (judge v)
-      → RivalSaid G M a v v′
-  rival-said a v′ e q =
-      subst (λ x. RivalSaid G M x v v′) (sym e)
-      (subst (λ x. RivalSaid G M (answerOf chosen (planned r M) (judge v)) v x) (sym (ap bufferIn q)) by-size)
+  -- on any desk that holds the plan, a proposal beside it or not: of any answer and any buffer that are the model's
+  abbrev Same : Held → Type 0
+  Same h = (answerOf chosen h (judge v) ≡ answerOf chosen (planned r M) (judge v)) × (lentAfter chosen h (judge v) ≡ lentAfter chosen (planned r M) (judge v))
+
+  like : (q : Roster) (N : Plan) → planHeld (planned q N) ≡ some (r, M) → Same (planned q N)
+  like q N e =
+      let i = Option·some-injective (q, N) (r, M) e in
+      (ap (λ x. answerOf chosen (planned (x .0) (x .1)) (judge v)) i, ap (λ x. lentAfter chosen (planned (x .0) (x .1)) (judge v)) i)
+
+  same : (h : Held) → planHeld h ≡ some (r, M) → Same h
+  unfolding answerOf lentAfter stateRefusal
+  same D.nothing e = absurd (Option·none-ne-some (r, M) e)
+  same (D.roster q) e = absurd (Option·none-ne-some (r, M) e)
+  same (planned q N) e = like q N e
+  same (D.proposed q N L) e = like q N e
+
+  pub rival-said : (h : Held) → planHeld h ≡ some (r, M) → (a : Answer) (v′ : List ℕ) → a ≡ answerOf chosen h (judge v)
+      → judge v′ ≡ lentAfter chosen h (judge v) → RivalSaid G M a v v′
+  rival-said h p a v′ e q =
+      let t = same h p in
+      subst (λ x. RivalSaid G M x v v′) (sym (e ∙ t .0))
+      (subst (λ x. RivalSaid G M (answerOf chosen (planned r M) (judge v)) v x) (sym (ap bufferIn (q ∙ t .1))) by-size)

@@ -42,16 +42,19 @@ is-desk n lo hi =
 
 is-none : (n : ℕ) → n < 1 → content ≡ groupOf n
 unfolding groupOf
-is-none n hi = simp (below n 1 hi, below n 2 (omega arith), below n 9 (omega arith), lt-leb 10 n (omega arith), lt-leb 13 n (omega arith))
+is-none n hi =
+    simp (below n 1 hi, below n 2 (omega arith), below n 9 (omega arith), below n 20 (omega arith), lt-leb 10 n (omega arith), lt-leb 13 n (omega arith))
 
 is-content : (n : ℕ) → 3 ≤ n → n < 9 → content ≡ groupOf n
 unfolding groupOf
-is-content n lo hi = simp (above n 1 (omega arith), above n 2 (omega arith), below n 9 hi, lt-leb 10 n (omega arith), lt-leb 13 n (omega arith))
+is-content n lo hi =
+    simp (above n 1 (omega arith), above n 2 (omega arith), below n 9 hi, below n 20 (omega arith), lt-leb 10 n (omega arith), lt-leb 13 n (omega arith))
 
-is-later : (n : ℕ) → 16 ≤ n → content ≡ groupOf n
+is-later : (n : ℕ) → 16 ≤ n → (n ≡ 20 → ⊥) → content ≡ groupOf n
 unfolding groupOf
-is-later n lo =
+is-later n lo other =
     simp (
+      ne-eqb n 20 other,
       above n 1 (omega arith),
       above n 2 (omega arith),
       above n 9 (omega arith),
@@ -66,23 +69,28 @@ returns c = is-content (c .before .before .before .before .args .number) (omega 
 
 returns-2 : tie.Need-returns-2
 returns-2 c = is-plan (c .before .before .before .before .before .args .number)
-    (omega (arith, c .before .before .before .before .match .rest .1)) (c .if4 .taken)
+    (omega (arith, c .before .before .before .before .match .rest .0)) (c .if4 .taken)
 
 returns-3 : tie.Need-returns-3
-returns-3 c = is-desk (c .before .before .before .before .before .before .args .number) (omega arith) (c .if5 .taken)
+returns-3 c = is-none (c .before .before .args .number) (c .if1 .taken)
 
 returns-4 : tie.Need-returns-4
-returns-4 c = is-none (c .before .before .args .number) (c .if1 .taken)
+returns-4 c =
+    is-later (c .before .before .before .before .before .before .args .number) (c .if5 .left) (c .before .before .before .before .before .match .rest .1)
 
 returns-5 : tie.Need-returns-5
-returns-5 c = is-later (c .before .before .before .before .before .before .args .number) (c .if5 .left)
+unfolding groupOf
+returns-5 c = sym (ap groupOf (c .match .keys2))
 
 returns-6 : tie.Need-returns-6
-unfolding groupOf
-returns-6 c = sym (ap groupOf (c .match .keys1))
+returns-6 c = is-desk (c .before .before .before .before .before .before .args .number) (omega arith) (c .if5 .taken)
 
 returns-7 : tie.Need-returns-7
-returns-7 c = is-form (c .before .before .before .args .number) (omega arith) (c .if2 .taken)
+unfolding groupOf
+returns-7 c = sym (ap groupOf (c .match .keys1))
+
+returns-8 : tie.Need-returns-8
+returns-8 c = is-form (c .before .before .before .args .number) (omega arith) (c .if2 .taken)
 
 pub group-of-spec : {M : Type 1} → statement M
-group-of-spec = tie.close (tie.spec returns returns-2 returns-3 returns-4 returns-5 returns-6 returns-7)
+group-of-spec = tie.close (tie.spec returns returns-2 returns-3 returns-4 returns-5 returns-6 returns-7 returns-8)

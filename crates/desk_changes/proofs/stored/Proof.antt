@@ -18,6 +18,7 @@ returns c =
       refl,
       subst (λ file. LessOf G (a .number) (readPlan G file) []) (f .ensures)
           (no-plan (a .g) (f .result .now) (c .before .before .with-plan .ensures) (a .number) (c .if1 .taken)),
+      refl,
     )
 
 carried-requires : tie.Need-carried-requires
@@ -39,6 +40,7 @@ returns-2 c =
       refl,
       subst (λ file. LessOf G (a .number) (readPlan G file) (take (k .result .len) (k .result .bytes))) (f .ensures)
           (plan-less (a .g) (f .result .now) (l .ensures) (s .pre) z (a .number) (k .result) (k .ensures)),
+      refl,
     )
 
 pub stored-spec : {M : Type 1} → statement M

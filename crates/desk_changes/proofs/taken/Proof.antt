@@ -13,9 +13,9 @@ returns c =
 
 returns-2 : tie.Need-returns-2
 returns-2 c =
-    let a = c .before .before .before .args in
-    taken-stored (shownBy (a .g)) (a .files) (a .number) (a .c) (record { refusal = 0; files = c .stored .result }) (c .before .before .if1 .left) refl
-    (c .stored .ensures)
+    let a = c .before .before .before .before .args in
+    taken-stored (shownBy (a .g)) (a .files) (a .number) (a .c) (record { refusal = 0; files = c .closed .result }) (c .before .before .before .if1 .left) refl
+    (c .before .stored .result) (c .before .stored .ensures) (c .closed .ensures)
 
 pub taken-spec : {M : Type 1} → statement M
-taken-spec = tie.close (tie.spec (λ c κs. search needs) returns (λ c κs. search needs) returns-2)
+taken-spec = tie.close (tie.spec (λ c κs. search needs) returns (λ c κs. search needs) (λ c κs. search needs) returns-2)

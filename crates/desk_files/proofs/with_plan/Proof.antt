@@ -19,7 +19,7 @@ copy-requires c κs =
 returns : tie.Need-returns
 returns c =
     let a = c .before .before .before .before .before .args in
-    (refl, refl, front-copied (a .file .now) (a .files .plan) (c .before .copy .ensures .0) (c .before .copy .ensures .1))
+    ((refl, refl), front-copied (a .file .now) (a .files .plan) (c .before .copy .ensures .0) (c .before .copy .ensures .1), refl)
 
 pub with-plan-spec : {M : Type 1} → statement M
 with-plan-spec = tie.close (tie.spec (λ c. search needs) copy-requires returns)

@@ -19,7 +19,7 @@ copy-requires c κs =
 returns : tie.Need-returns
 returns c =
     let a = c .before .before .before .before .before .args in
-    (front-copied (a .file .now) (a .files .roster) (c .before .copy .ensures .0) (c .before .copy .ensures .1), refl)
+    (front-copied (a .file .now) (a .files .roster) (c .before .copy .ensures .0) (c .before .copy .ensures .1), refl, refl)
 
 pub with-roster-spec : {M : Type 1} → statement M
 with-roster-spec = tie.close (tie.spec (λ c. search needs) copy-requires returns)

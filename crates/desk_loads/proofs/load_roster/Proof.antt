@@ -24,7 +24,7 @@ returns-2 : tie.Need-returns-2
 returns-2 c =
     let a = c .before .before .before .before .before .args in
     roster-loaded (a .files) (a .file .now) (sym (c .before .enum-told .given .1) ∙ c .before .before .before .read-roster .ensures)
-    (c .with-roster .result) (c .with-roster .ensures .0) (c .with-roster .ensures .1)
+    (c .with-roster .result) (c .with-roster .ensures)
 
 pub load-roster-spec : {M : Type 1} → statement M
 load-roster-spec = tie.close (tie.spec (λ c κs. search needs) (λ c. search needs) (λ c. search needs) with-roster-requires returns returns-2)

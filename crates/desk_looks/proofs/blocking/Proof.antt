@@ -14,7 +14,7 @@ returns : tie.Need-returns
 returns c =
     let d = c .before .before .before .args in
     let l = c .before .before .loaded in
-    by-state (d .files) blocking tt (state-is (d .files) (l .ensures)) (c .before .if1 .taken) (ap (refused (l .result .refusal)) (c .group-of .ensures))
+    by-state (d .files) blocking tt tt (state-is (d .files) (l .ensures)) (c .before .if1 .taken) (ap (refused (l .result .refusal)) (c .group-of .ensures))
 
 blocking-requires : tie.Need-blocking-requires
 blocking-requires c κs =

@@ -14,7 +14,7 @@ returns : tie.Need-returns
 returns c =
     let d = c .before .before .before .before .before .args in
     let l = c .before .before .loaded in
-    by-state (d .files) (compare (d .first .now) (d .second .now)) tt (state-is (d .files) (l .ensures)) (c .before .if1 .taken)
+    by-state (d .files) (compare (d .first .now) (d .second .now)) tt tt (state-is (d .files) (l .ensures)) (c .before .if1 .taken)
     (ap (λ (k : Group). refusedPart (l .result .refusal) k (winnerPart neither (d .first .now) (d .second .now))) (c .group-of .ensures))
 
 compare-requires : tie.Need-compare-requires

@@ -15,7 +15,7 @@ returns c =
     let d = c .before .before .before .before .args in
     let l = c .before .before .loaded in
     judges (d .files) (l .ensures) (d .rival .now)
-    (by-state (d .files) (judge (d .rival .now)) tt (state-is (d .files) (l .ensures)) (c .before .if1 .taken)
+    (by-state (d .files) (judge (d .rival .now)) tt tt (state-is (d .files) (l .ensures)) (c .before .if1 .taken)
     (ap (refused (l .result .refusal)) (c .group-of .ensures)))
 
 weigh-requires : tie.Need-weigh-requires

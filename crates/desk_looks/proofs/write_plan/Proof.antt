@@ -16,7 +16,7 @@ returns : tie.Need-returns
 returns c =
     let d = c .before .before .before .before .args in
     let l = c .before .before .loaded in
-    by-state (d .files) (writePlanTo (d .out .now)) tt (state-is (d .files) (l .ensures)) (c .before .if1 .taken)
+    by-state (d .files) (writePlanTo (d .out .now)) tt tt (state-is (d .files) (l .ensures)) (c .before .if1 .taken)
     (ap (refused (l .result .refusal)) (c .group-of .ensures))
 
 copied-requires : tie.Need-copied-requires

@@ -1,0 +1,18 @@
+-- What each case of the code's answer says, in document 02's words: a proposal (W-207), and the commit of one.
+use Prim.Native.Nat.{ℕ}
+use mathlib.Core.Path.{_≡_, refl, ap}
+use Rattle.model.specs.Refusal.{groupOf}
+use Rattle.model.specs.Desk as model
+use Rattle.answers.specs.GroupCases.{groupShown}
+use Rattle.answers.specs.declared.Proposal as proposal
+use Rattle.answers.specs.declared.Proposal.the-variants as proposals
+use Rattle.answers.specs.declared.Commit as commit
+use Rattle.answers.specs.declared.Commit.the-variants as commits
+
+abbrev pub proposalShown : proposal.Proposal → model.Answer
+proposalShown (proposals.Votes v w) = model.bothVotes v w
+proposalShown (proposals.Refused n g) = model.refused n (groupShown g)
+
+abbrev pub commitShown : commit.Commit → model.Answer
+commitShown commits.Committed = model.committed
+commitShown (commits.Refused n g) = model.refused n (groupShown g)

@@ -1,0 +1,29 @@
+-- W-207, of the desks that the calls return: "Over every list of desk calls that starts with nothing loaded, each taking the desk that the one before
+-- returned, the held plan is the last one loaded or committed since the last roster, less the pairs of those who left after it; refused calls count
+-- for nothing." A session is told by its calls and their answers, the last one first (model/History); every call of the desk promises `Replied`.
+use mathlib.Core.Path.{_≡_, sym, ap, subst}
+use mathlib.Core.List.{List, [], _∷_}
+use lib.Dec.{T}
+use Rattle.model.specs.Desk.{Call, Answer, opening, answerOf, deskAfter}
+use Rattle.model.specs.History.{eventOf, eventsOf, lastPlan, heldPairs}
+use Rattle.theory_finder.specs.Choices.{chosen}
+use Rattle.theory_finder.specs.Desks.{lendsBytes}
+use Rattle.theory_finder.specs.HistoryPlan.{Told, told-start, told-step, told-plan}
+use Rattle.desk_files.specs.declared.Files.{Files}
+use Rattle.desk_files.specs.Held.{heldOf}
+use Rattle.desk_files.specs.Replies.{Replied}
+
+-- a desk that holds nothing, and every desk that a call on one of these has returned; the files lent are bytes
+pub data Session : List (Call × Answer) → Files → Type 0 where
+  starts : (d : Files) → heldOf d ≡ opening → Session [] d
+  calls : {cs : List (Call × Answer)} {d : Files} → Session cs d → {c : Call} {a : Answer} {c′ : Call} {d′ : Files} → T (lendsBytes c) → Replied d c a c′ d′
+      → Session ((c, a) ∷ cs) d′
+
+told : {cs : List (Call × Answer)} {d : Files} → Session cs d → Told (heldOf d) (eventsOf cs)
+told (starts d e) = subst (λ h. Told h []) (sym e) told-start
+told (calls {cs} {d} S {c} {a} {c′} {d′} t R) =
+    subst (λ h. Told h (eventsOf ((c, a) ∷ cs))) (sym (R .desk))
+    (subst (λ x. Told (deskAfter (heldOf d) c) (eventOf c x ∷ eventsOf cs)) (sym (R .answer)) (told-step chosen (eventsOf cs) (heldOf d) c t (told S)))
+
+pub last-plan : {cs : List (Call × Answer)} {d : Files} → Session cs d → heldPairs (heldOf d) ≡ lastPlan [] (eventsOf cs)
+last-plan S = told-plan (told S)

@@ -1,0 +1,41 @@
+-- `desk_loads::commit` meets its contract. Assumes nothing.
+use mathlib.Core.Path.{sym, ap, _∙_}
+use Rattle.model.specs.PlanFile.{readPlan}
+use Rattle.answers.specs.FileCases.{fileCase}
+use Rattle.instance.specs.Decoded.{shownBy}
+use Rattle.desk_files.specs.State.{arrays-are}
+use Rattle.desk_loads.specs.Proposals.{commit-refused, none-open, commit-taken}
+use borrow.Author.Needs.{needs}
+use Rattle.desk_loads.proofs.commit.Statement.{statement}
+use Rattle.desk_loads.proofs.commit.Tie as tie
+
+returns : tie.Need-returns
+returns c =
+    let l = c .before .before .loaded in
+    commit-refused (c .before .before .before .args .files) (l .ensures) (c .before .if1 .taken) (c .group-of .result) (c .group-of .ensures)
+
+read-plan-requires : tie.Need-read-plan-requires
+read-plan-requires c κs = arrays-are (c .before .before .before .before .before .args .files) (c .before .before .before .before .loaded .ensures) (c .before .before .before .if1 .left)
+
+returns-2 : tie.Need-returns-2
+returns-2 c =
+    let f = c .before .before .before .before in
+    let l = f .before .before .before .before .loaded in
+    none-open (f .before .before .before .before .before .args .files) (l .ensures) (f .before .before .before .if1 .left)
+    (sym (c .before .enum-told .given .1) ∙ c .before .before .before .read-plan .ensures
+    ∙ ap (λ b. fileCase (readPlan (shownBy (l .result .g)) b)) (f .front .ensures))
+    (c .group-of2 .result) (c .group-of2 .ensures)
+
+returns-3 : tie.Need-returns-3
+returns-3 c =
+    let f = c .before .before .before .before in
+    let l = f .before .before .before .before .loaded in
+    commit-taken (f .before .before .before .before .before .args .files) (l .ensures) (f .before .before .before .if1 .left)
+    (sym (c .before .enum-told2 .given .1) ∙ c .before .before .before .read-plan .ensures
+    ∙ ap (λ b. fileCase (readPlan (shownBy (l .result .g)) b)) (f .front .ensures))
+    (c .with-commit .result) (c .with-commit .ensures)
+
+pub commit-spec : {M : Type 1} → statement M
+commit-spec =
+    tie.close (tie.spec (λ c κs. search needs) (λ c κs. search needs) returns (λ c. search needs) (λ c κs. search needs) read-plan-requires
+    (λ c. search needs) (λ c κs. search needs) (λ c. search needs) (λ c κs. search needs) returns-2 returns-3)
