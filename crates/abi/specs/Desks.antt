@@ -2,10 +2,11 @@
 use Prim.Native.Nat.{ℕ}
 use mathlib.Core.Path.{_≡_, ap, _∙_, subst}
 use mathlib.Core.List.{List}
+use mathlib.Core.Option.{some}
 use Rattle.model.specs.Roster.{Roster}
 use Rattle.model.specs.Edges.{instanceOf}
 use Rattle.model.specs.Plans.{Plan}
-use Rattle.model.specs.Desk.{planned, Call, judge, Answer}
+use Rattle.model.specs.Desk.{planHeld, Call, judge, Answer}
 use Rattle.theory_finder.specs.RivalSaid.{RivalSaid}
 use Rattle.answers.specs.declared.Verdict.{Verdict}
 use Rattle.answers.specs.VerdictCases.{verdictShown}
@@ -28,7 +29,7 @@ served numbersIn {d} {c} {a} {n} {c′} {d′} R e = record { numbers = e ∙ ap
 -- the verdict's call: the same, and what holds of the rival that it writes
 pub record JudgedFor (d : Files) (v : List ℕ) (n : Judged) (v′ : List ℕ) (d′ : Files) : Type 0 where
   pub served : Served judgedIn d (judge v) n (judge v′) d′
-  pub rival : (R : Roster) (M : Plan) → heldOf d ≡ planned R M → RivalSaid (instanceOf R) M (answered (heldOf d) (judge v)) v v′
+  pub rival : (R : Roster) (M : Plan) → planHeld (heldOf d) ≡ some (R, M) → RivalSaid (instanceOf R) M (answered (heldOf d) (judge v)) v v′
 
 pub judged : {d : Files} {v : List ℕ} {a : Verdict} {n : Judged} {v′ : List ℕ} {d′ : Files} → Judges d v a v′ d′ → n ≡ judgedIn (verdictShown a)
     → JudgedFor d v n v′ d′

@@ -1,14 +1,17 @@
 // The desk for C: it goes into each call by value and comes back in the reply, beside the answer's numbers. Any bytes may stand in its
-// fields. A refused load, and every call but a load, hands it back as it came.
+// fields. A refused call hands it back as it came, and so does every call
+// that takes nothing in.
 ghost use mathlib.Core.Path.{_≡_};
 ghost use Rattle.model.specs.Desk.{opening, loadRoster, loadPlan, writeRosterTo, writePlanTo, compare, blocking};
+ghost use Rattle.model.specs.Desk.{propose, commit};
 ghost use Rattle.desk_files.specs.Held.{heldOf};
-ghost use Rattle.abi_numbers.specs.Numbers.{refusalIn, outcomeIn, comparedIn, blockerIn};
+ghost use Rattle.abi_numbers.specs.Numbers.{refusalIn, outcomeIn, proposedIn, comparedIn, blockerIn};
 ghost use Rattle.abi.specs.Desks.{Served, JudgedFor};
 use abi_numbers::Blocker;
 use abi_numbers::Compared;
 use abi_numbers::Judged;
 use abi_numbers::Outcome;
+use abi_numbers::Proposed;
 use desk::Desk;
 
 // a refusal, 0 for none
@@ -16,6 +19,12 @@ use desk::Desk;
 pub struct DeskLoaded {
     pub desk: Desk,
     pub refusal: u8,
+}
+
+#[repr(C)]
+pub struct DeskProposed {
+    pub desk: Desk,
+    pub proposed: Proposed,
 }
 
 #[repr(C)]
@@ -75,6 +84,35 @@ pub extern "C" fn crew_load_plan(desk: Desk, file: &[u8]) -> DeskLoaded
     DeskLoaded {
         desk: d,
         refusal: abi_numbers::file_number(a),
+    }
+}
+
+// puts a plan file beside the held plan, judged against the held roster; both votes
+#[no_mangle]
+pub extern "C" fn crew_propose(desk: Desk, file: &[u8]) -> DeskProposed
+    ensures { λ r. ⌜ Served proposedIn (desk .files) (propose (now (file .entry))) (r .proposed) (propose (now (file .entry))) (r .desk .files) ⌝ }
+{
+    let r = desk.propose(file);
+    let d = r.desk;
+    let a = r.answer;
+    let n = abi_numbers::proposal_numbers(a);
+    DeskProposed {
+        desk: d,
+        proposed: n,
+    }
+}
+
+// makes the open proposal the held plan
+#[no_mangle]
+pub extern "C" fn crew_commit(desk: Desk) -> DeskLoaded
+    ensures { λ r. ⌜ Served refusalIn (desk .files) commit (r .refusal) commit (r .desk .files) ⌝ }
+{
+    let r = desk.commit();
+    let d = r.desk;
+    let a = r.answer;
+    DeskLoaded {
+        desk: d,
+        refusal: abi_numbers::commit_number(a),
     }
 }
 

@@ -9,7 +9,7 @@ use Rattle.model.specs.Reading.{Reading, accepted}
 use Rattle.model.specs.Refusal as model
 use Rattle.model.specs.Compare as compare
 use Rattle.model.specs.Desk.{NoneKind, left, rivalled, Answer, refused, loaded, wrote, plan, none, strong, popular, beaten, votes, refusedPart}
-use Rattle.model.specs.Desk.{blockedBy, unblocked}
+use Rattle.model.specs.Desk.{blockedBy, unblocked, bothVotes, committed}
 use Rattle.answers.specs.declared.Group.{Group}
 use Rattle.answers.specs.declared.Winner.{Winner}
 use Rattle.answers.specs.declared.Winner.the-variants as winner
@@ -21,6 +21,7 @@ use Rattle.abi_numbers.specs.declared.Outcome.{Outcome}
 use Rattle.abi_numbers.specs.declared.Judged.{Judged}
 use Rattle.abi_numbers.specs.declared.Compared.{Compared}
 use Rattle.abi_numbers.specs.declared.Blocker.{Blocker}
+use Rattle.abi_numbers.specs.declared.Proposed.{Proposed}
 use Rattle.abi_numbers.specs.declared.FoundNumbers.{FoundNumbers}
 
 -- the groups as numbers
@@ -43,6 +44,8 @@ refusalIn (votes v w x p) = 0
 refusalIn (refusedPart n g p) = n
 refusalIn (blockedBy s t k) = 0
 refusalIn unblocked = 0
+refusalIn (bothVotes v w) = 0
+refusalIn committed = 0
 
 -- a refusal, or 0 and the length written
 abbrev pub lengthIn : Answer → ℕ
@@ -58,6 +61,8 @@ lengthIn (votes v w x p) = 0
 lengthIn (refusedPart n g p) = 0
 lengthIn (blockedBy s t k) = 0
 lengthIn unblocked = 0
+lengthIn (bothVotes v w) = 0
+lengthIn committed = 0
 
 abbrev pub outcomeIn : Answer → Outcome
 outcomeIn a = record { refusal = refusalIn a; length = lengthIn a }
@@ -79,6 +84,8 @@ judgedIn (votes v w x p) = noVerdict 0
 judgedIn (refusedPart n g p) = noVerdict n
 judgedIn (blockedBy s t k) = noVerdict 0
 judgedIn unblocked = noVerdict 0
+judgedIn (bothVotes v w) = noVerdict 0
+judgedIn committed = noVerdict 0
 
 -- both votes, the winner and the part, as numbers
 abbrev pub winnerCode : compare.Winner → ℕ
@@ -109,6 +116,8 @@ comparedIn (refusedPart n g p) =
     record { refusal = n; winner = 0; «first_vote» = pos 0; «second_vote» = pos 0; file = fileNumber (p .file); from = p .from; length = length (p .bytes) }
 comparedIn (blockedBy s t k) = noVotes
 comparedIn unblocked = noVotes
+comparedIn (bothVotes v w) = noVotes
+comparedIn committed = noVotes
 
 -- the numbers of a blocking pair: surveyor, stand, shift
 abbrev pub pairIn : Answer → ℕ × ℕ × ℕ
@@ -124,9 +133,31 @@ pairIn (votes v w x p) = (0, 0, 0)
 pairIn (refusedPart n g p) = (0, 0, 0)
 pairIn (blockedBy s t k) = (s, t, k)
 pairIn unblocked = (0, 0, 0)
+pairIn (bothVotes v w) = (0, 0, 0)
+pairIn committed = (0, 0, 0)
 
 abbrev pub blockerIn : Answer → Blocker
 blockerIn a = record { refusal = refusalIn a; surveyor = pairIn a .0; stand = pairIn a .1; shift = pairIn a .2 }
+
+-- W-207: both votes of a proposal, its own first
+abbrev noProposal : Proposed
+noProposal = record { refusal = 0; «proposal_vote» = pos 0; «held_vote» = pos 0 }
+
+abbrev pub proposedIn : Answer → Proposed
+proposedIn (refused n g) = record { refusal = n; «proposal_vote» = pos 0; «held_vote» = pos 0 }
+proposedIn loaded = noProposal
+proposedIn (wrote n) = noProposal
+proposedIn (plan n) = noProposal
+proposedIn (none n k) = noProposal
+proposedIn strong = noProposal
+proposedIn (popular v) = noProposal
+proposedIn (beaten v) = noProposal
+proposedIn (votes v w x p) = noProposal
+proposedIn (refusedPart n g p) = noProposal
+proposedIn (blockedBy s t k) = noProposal
+proposedIn unblocked = noProposal
+proposedIn (bothVotes v w) = record { refusal = 0; «proposal_vote» = v; «held_vote» = w }
+proposedIn committed = noProposal
 
 -- what the finder found
 abbrev pub nothingFound : FoundNumbers
@@ -149,6 +180,8 @@ foundIn (votes v w x p) = nothingFound
 foundIn (refusedPart n g p) = nothingFound
 foundIn (blockedBy s t k) = nothingFound
 foundIn unblocked = nothingFound
+foundIn (bothVotes v w) = nothingFound
+foundIn committed = nothingFound
 
 -- ---- the refusal of a reading, 0 for none
 abbrev pub refusalOf : {A : Type 0} → Reading A → ℕ

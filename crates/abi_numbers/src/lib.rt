@@ -3,18 +3,21 @@ ghost use mathlib.Core.Path.{_≡_};
 ghost use Prim.Native.Nat.{_-_};
 ghost use Rattle.answers.specs.GroupCases.{groupShown};
 ghost use Rattle.answers.specs.FileCases.{fileShown};
+ghost use Rattle.answers.specs.ProposalCases.{proposalShown, commitShown};
 ghost use Rattle.answers.specs.WrittenCases.{writtenShown};
 ghost use Rattle.answers.specs.FinderCases.{foundShown};
 ghost use Rattle.answers.specs.VerdictCases.{verdictShown};
 ghost use Rattle.answers.specs.ComparisonCases.{comparisonShown};
 ghost use Rattle.answers.specs.BlockedCases.{blockedShown};
-ghost use Rattle.abi_numbers.specs.Numbers.{groupNumber, refusalIn, outcomeIn, judgedIn, comparedIn, blockerIn, foundIn};
+ghost use Rattle.abi_numbers.specs.Numbers.{groupNumber, refusalIn, outcomeIn, judgedIn, comparedIn, blockerIn, proposedIn, foundIn};
 use answers::Blocked;
+use answers::Commit;
 use answers::Comparison;
 use answers::FileAnswer;
 use answers::Found;
 use answers::Group;
 use answers::NoneKind;
+use answers::Proposal;
 use answers::Verdict;
 use answers::Winner;
 use answers::Written;
@@ -58,6 +61,14 @@ pub struct Blocker {
     pub shift: u8,
 }
 
+// A refusal, 0 for none; both votes, the proposal's against the held plan and the held plan's against the proposal, 0 on a refusal.
+#[repr(C)]
+pub struct Proposed {
+    pub refusal: u8,
+    pub proposal_vote: i16,
+    pub held_vote: i16,
+}
+
 // kind: 1 a plan, 2 none with pairs left, 3 none with a rival, 4 a refusal; then the refusal's number, the candidate's vote against its
 // rival, the number of steps and the number of pairs left, each 0 where the answer has none
 #[repr(C)]
@@ -88,6 +99,34 @@ pub fn file_number(a: FileAnswer) -> u8
     match a {
         FileAnswer::Accepted => 0,
         FileAnswer::Refused(number, _) => number,
+    }
+}
+
+// a proposal: its refusal, or both votes
+pub fn proposal_numbers(p: Proposal) -> Proposed
+    ensures { λ r. ⌜ r ≡ proposedIn (proposalShown p) ⌝ }
+{
+    match p {
+        Proposal::Votes(v, w) => Proposed {
+            refusal: 0,
+            proposal_vote: v,
+            held_vote: w,
+        },
+        Proposal::Refused(number, _) => Proposed {
+            refusal: number,
+            proposal_vote: 0,
+            held_vote: 0,
+        },
+    }
+}
+
+// a commit: its refusal
+pub fn commit_number(c: Commit) -> u8
+    ensures { λ r. ⌜ r ≡ refusalIn (commitShown c) ⌝ }
+{
+    match c {
+        Commit::Committed => 0,
+        Commit::Refused(number, _) => number,
     }
 }
 

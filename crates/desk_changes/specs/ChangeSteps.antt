@@ -83,11 +83,14 @@ module _ (G : Instance) (d : Files) (s : ℕ) (c : Changed) (r : Change) where
   pub taken-stored : c .refusal ≤ 0 → r .refusal ≡ 0 → (k : Files) → StoredAs G d s (take (c .len) (c .roster)) k → ClosedFor d k (r .files) → Taken G d s c r
   taken-stored z q k (b, p, f) (b′, p′, o) = record {
     refuses = λ h. absurd (let z : ⊥ = omega arith in z);
-    takes = λ z. (q, record {
-      bytes = b′ ∙ b;
-      plan = subst (LessOf G s (readPlan G (planBytes d))) (sym p′) p;
-      proposal = (λ e. o .0 (e ∙ sym b) ∙ f, λ n. o .1 (λ e. n (e ∙ b)));
-    });
+    takes = λ z. (
+      q,
+      record {
+        bytes = b′ ∙ b;
+        plan = subst (LessOf G s (readPlan G (planBytes d))) (sym p′) p;
+        proposal = (λ e. o .0 (e ∙ sym b) ∙ f, λ n. o .1 (λ e. n (e ∙ b)));
+      },
+    );
   }
 
 -- ---- the change
@@ -114,9 +117,11 @@ module _ (d : Files) (b : Bool) (change : ToRoster) (s : ℕ) {l : OnDesk} (F : 
         go : (R : Roster) (x : Reading Roster) → Gives x c → Taken (instanceOf R) d s c r → ChangedFor R x s d r
         go R (refused n) (e, h) k = (h, subst (λ n. Unchanged n d r) e (k .refuses (subst (λ n. 0 < n) (sym e) h)))
         go R (accepted H) (e, m, w) k =
-            let (q, M) = k .takes (omega arith) in
-            (q, record {
-              bytes = M .bytes ∙ w;
-              plan = M .plan;
-              proposal = subst (λ f. Open (rosterBytes d) f (proposalBytes d) (proposalBytes (r .files))) w (M .proposal);
-            })
+            let (q, M) = k .takes (omega arith) in (
+              q,
+              record {
+                bytes = M .bytes ∙ w;
+                plan = M .plan;
+                proposal = subst (λ f. Open (rosterBytes d) f (proposalBytes d) (proposalBytes (r .files))) w (M .proposal);
+              },
+            )

@@ -308,9 +308,11 @@ module _ (call : Lends) (change : ToRoster) (n : ℕ) (K : IsChange call change 
               let bytes : planBytes (k .files) ≡ plans.planBytes (instanceOf H) M′ = q ∙ sym (W .0) in
               let here : heldOf (k .files) ≡ beside (proposalBytes (k .files)) (planned H M′) =
               roster-held (k .files) H read ∙ ap (λ bs. beside (proposalBytes (k .files)) (heldPlan H (readPlan (instanceOf H) bs))) bytes
-              ∙ ap (λ y. beside (proposalBytes (k .files)) (heldPlan H y)) (W .1 .1) in
-              (here ∙ beside-then M M′ refl, bytes ∙ of-plan [] (λ r M. plans.planBytes (instanceOf r) M) H M′ (readPlan (instanceOf H) (proposalBytes (k .files)))
-              ∙ ap planFile (sym here))
+              ∙ ap (λ y. beside (proposalBytes (k .files)) (heldPlan H y)) (W .1 .1) in (
+                here ∙ beside-then M M′ refl,
+                bytes ∙ of-plan [] (λ r M. plans.planBytes (instanceOf r) M) H M′ (readPlan (instanceOf H) (proposalBytes (k .files)))
+                    ∙ ap planFile (sym here),
+              )
           go (refused m) q =
               let here : heldOf (k .files) ≡ roster H =
               roster-held (k .files) H read ∙ ap (λ bs. beside (proposalBytes (k .files)) (heldPlan H (readPlan (instanceOf H) bs))) q in

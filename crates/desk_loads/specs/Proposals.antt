@@ -83,8 +83,7 @@ its-refusal : (G : Instance) (M : Plan) (y : Reading Plan) {n : ℕ} {g : Group}
     → (y ≡ reading.refused n) × (refused n (groupShown g) ≡ refusal n)
 its-refusal G M (accepted N) e = absurd (subst (λ c. T (isVotes c)) (sym e) tt)
 its-refusal G M (reading.refused m) {n} {g} e =
-    let i : m ≡ n = ap numberIn (sym e) in
-    (
+    let i : m ≡ n = ap numberIn (sym e) in (
       ap reading.refused i,
       ap (λ k. refused n (groupShown k)) (ap (groupIn g) e) ∙ ap (refused n) (shown-case (groupOf m)) ∙ ap (λ k. refused n (groupOf k)) i,
     )
