@@ -108,8 +108,8 @@ pub struct Committed {
 pub fn commit(files: Files) -> Committed
     ensures { λ r. ⌜ Replied files commit (commitShown (r .answer)) commit (r .files) ⌝ }
 {
-    let l = desk_files::loaded(files, true, false);
-    let n = l.refusal;
+    let here = desk_files::loaded(files, true, false);
+    let n = here.refusal;
     if 0 < n {
         return Committed {
             files: files,
@@ -118,7 +118,7 @@ pub fn commit(files: Files) -> Committed
     }
     let array = files.proposal;
     let file = desk_files::front(&array, files.proposal_len);
-    let a = desk_loaded::read_plan(l.g, file);
+    let a = desk_loaded::read_plan(here.g, file);
     match a {
         FileAnswer::Refused(_, _) => Committed {
             files: files,
