@@ -54,9 +54,9 @@ pub fn load_plan(files: Files, file: &[u8]) -> Load
             answer: FileAnswer::Refused(number, group),
         },
         FileAnswer::Accepted => {
-            let p = desk_files::with_plan(files, file);
+            let next = desk_files::with_plan(files, file);
             Load {
-                files: p,
+                files: next,
                 answer: FileAnswer::Accepted,
             }
         }
@@ -90,9 +90,9 @@ pub fn propose(files: Files, file: &[u8]) -> Proposed
             answer: Proposal::Refused(number, group),
         },
         Comparison::Votes(v, w, _) => {
-            let p = desk_files::with_proposal(files, file);
+            let beside = desk_files::with_proposal(files, file);
             Proposed {
-                files: p,
+                files: beside,
                 answer: Proposal::Votes(v, w),
             }
         }
@@ -125,9 +125,9 @@ pub fn commit(files: Files) -> Committed
             answer: Commit::Refused(20, answers::group_of(20)),
         },
         FileAnswer::Accepted => {
-            let p = desk_files::with_commit(files);
+            let done = desk_files::with_commit(files);
             Committed {
-                files: p,
+                files: done,
                 answer: Commit::Committed,
             }
         }
