@@ -1,5 +1,5 @@
 -- What the walks of find, join and leave have in common behind their cores: what a core hands back is a reply, the diary as flat numbers, and the number
--- of its records; `diary::fill` writes the records into the lent diary, which is handed on for good, and the reply is returned. Assumes nothing.
+-- of its records; `diary_records::fill` writes the records into the lent diary, which is handed on for good, and the reply is returned. Assumes nothing.
 use mathlib.Core.Path.{_≡_, refl, sym, ap, subst, _∙_}
 use Prim.Native.Nat.{ℕ, suc, _≤_}
 use mathlib.Core.List.{[], _∷_, List, map}
@@ -36,8 +36,8 @@ use Rattle.model.specs.Desk.{onto}
 use Rattle.diary.specs.declared.Step.{Step}
 use Rattle.diary.specs.LentSteps.{stepsIn}
 use Rattle.diary.proofs.Step as T
-use Rattle.diary.proofs.fill as fill
-use Rattle.diary.proofs.fill.Symbol.{name as #diary·fill}
+use Rattle.diary_records.proofs.fill as fill
+use Rattle.diary_records.proofs.fill.Symbol.{name as #diary·fill}
 use Rattle.desk.specs.declared.CoreReply.{CoreReply}
 use Rattle.desk.proofs.CoreReply as C
 use Rattle.desk.proofs.CoreReply.Laws as C′

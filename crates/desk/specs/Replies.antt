@@ -6,7 +6,7 @@ use mathlib.Core.List.{List}
 use Rattle.desk_files.specs.declared.Files.{Files}
 use Rattle.desk_find.specs.declared.Searched.{Searched}
 use Rattle.desk_find.specs.Finding.{Done}
-use Rattle.desk_changes.specs.Changing.{ToRoster}
+use Rattle.desk_changed_files.specs.Changing.{ToRoster}
 use Rattle.desk_changes.specs.AfterChange.{ChangeDone}
 use Rattle.desk.specs.declared.CoreReply.{CoreReply}
 

@@ -300,7 +300,7 @@ impl Desk {
             (now (plan .exit)) (now (rival .exit)) (r .desk .files) ⌝ }
     {
         let c = core(self, diary.len(), left, plan, rival);
-        diary::fill(diary, c.flat, c.steps);
+        diary_records::fill(diary, c.flat, c.steps);
         c.reply
     }
 
@@ -318,7 +318,7 @@ impl Desk {
             (r .answer) (now (diary .exit)) (now (left .exit)) (now (plan .exit)) (now (rival .exit)) (r .desk .files) ⌝ }
     {
         let c = join_core(self, quota, list, diary.len(), left, plan, rival);
-        diary::fill(diary, c.flat, c.steps);
+        diary_records::fill(diary, c.flat, c.steps);
         c.reply
     }
 
@@ -335,7 +335,7 @@ impl Desk {
             (now (diary .exit)) (now (left .exit)) (now (plan .exit)) (now (rival .exit)) (r .desk .files) ⌝ }
     {
         let c = leave_core(self, number, diary.len(), left, plan, rival);
-        diary::fill(diary, c.flat, c.steps);
+        diary_records::fill(diary, c.flat, c.steps);
         c.reply
     }
 

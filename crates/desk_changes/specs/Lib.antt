@@ -1,4 +1,2 @@
-pub mod Changing
-pub mod ChangeSteps
 pub mod AfterChange
 pub mod Changes

@@ -26,7 +26,7 @@ use Rattle.theory_finder.specs.Choices.{chosen}
 use Rattle.theory_reduction.specs.Course.{steps-few}
 use Rattle.diary.specs.declared.Step.{Step}
 use Rattle.diary.specs.LentSteps.{recordIn, recordsIn, stepsIn}
-use Rattle.diary.specs.FilledDiary.{filled-diary, filled-none}
+use Rattle.diary_records.specs.FilledDiary.{filled-diary, filled-none}
 use Rattle.answers.specs.declared.Found.{Found}
 use Rattle.answers.specs.FinderCases.{foundShown}
 use Rattle.answers.specs.GroupCases.{shown-case}

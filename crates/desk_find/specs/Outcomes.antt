@@ -26,10 +26,10 @@ use Rattle.answers.specs.GroupCases.{groupCase}
 use Rattle.answers.specs.declared.Found as code
 use Rattle.answers.specs.declared.Found.the-variants as says
 use Rattle.diary.specs.FlatDiary.{flatSize, written}
-use Rattle.diary.specs.TraceRecords.{flatOf, Readable, trace-flat, readable}
+use Rattle.diary_records.specs.TraceRecords.{flatOf, Readable, trace-flat, readable}
 use Rattle.finder_ending.specs.EndBuffers.{Wrote}
-use Rattle.finder.specs.declared.Outcome as traced
-use Rattle.finder.specs.Finding.{Finds}
+use Rattle.finder_run.specs.declared.Outcome as traced
+use Rattle.finder_run.specs.Finding.{Finds}
 use Rattle.finder.specs.Promise.{stepsIn, steps-are}
 use Rattle.desk_loaded.specs.declared.OnDesk.{OnDesk}
 use Rattle.desk_loaded.specs.Held.{held, stateNumber, unneeded}

@@ -48,10 +48,10 @@ pub(crate) fn worked(g: Instance, left: &mut [u8], plan: &mut [u8], rival: &mut 
     let sv = g.sv;
     let st = g.st;
     let sh = g.sh;
-    let o = finder::find(g, left, plan, rival);
+    let o = finder_run::find(g, left, plan, rival);
     let answer = o.answer;
     let trace = o.trace;
-    let flat = diary::flat_records(&sv, &st, &sh, trace);
+    let flat = diary_records::flat_records(&sv, &st, &sh, trace);
     Outcome {
         answer: answer,
         flat: flat,

@@ -1,4 +1,2 @@
 pub mod FlatDiary
 pub mod LentSteps
-pub mod TraceRecords
-pub mod FilledDiary

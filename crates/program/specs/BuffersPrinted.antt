@@ -33,10 +33,10 @@ use Rattle.answers.specs.FinderCases.{foundShown}
 use Rattle.instance.specs.declared.Instance as arrays
 use Rattle.instance.specs.Decoded.{shownBy, Decoded}
 use Rattle.diary.specs.FlatDiary.{flatSize, written}
-use Rattle.diary.specs.TraceRecords.{flatOf, Readable, trace-flat, readable}
+use Rattle.diary_records.specs.TraceRecords.{flatOf, Readable, trace-flat, readable}
 use Rattle.finder_ending.specs.EndBuffers.{leftAfter, planAfter, rivalAfter}
-use Rattle.finder.specs.declared.Outcome.{Outcome}
-use Rattle.finder.specs.Finding.{Finds}
+use Rattle.finder_run.specs.declared.Outcome.{Outcome}
+use Rattle.finder_run.specs.Finding.{Finds}
 use Rattle.finder.specs.Promise.{shown-is}
 use Rattle.text_answer.specs.Printable.{Printable, textSize}
 use Rattle.text_answer.specs.Handed.{Pairs, Handed, HandedFor}

@@ -22,10 +22,10 @@ pub(crate) fn worked(roster: &[u8], out: &mut [u8; TEXT_SIZE]) -> usize
     let mut left = [0u8; LEFT_SIZE];
     let mut plan = [0u8; PLAN_SIZE];
     let mut rival = [0u8; PLAN_SIZE];
-    let o = finder::find(g, &mut left, &mut plan, &mut rival);
+    let o = finder_run::find(g, &mut left, &mut plan, &mut rival);
     let answer = o.answer;
     let trace = o.trace;
-    let flat = diary::flat_records(&sv, &st, &sh, trace);
+    let flat = diary_records::flat_records(&sv, &st, &sh, trace);
     text_answer::answer_text(answer, &flat, &left, &plan, &rival, out)
 }
 

@@ -1,5 +1,5 @@
 -- `Desk::find` meets its contract: a walk of its MIR, by hand, over two calls: the covered core, which is told the length of the lent diary, and
--- `diary::fill`. All four lent slices are handed on for good, and the desk goes into the core by value. Assumes nothing.
+-- `diary_records::fill`. All four lent slices are handed on for good, and the desk goes into the core by value. Assumes nothing.
 --
 -- What the walks of find, join and leave share is in `FilledReply`, the steps in `WalkSteps`. Another core in this one's place:
 -- * Contracts. `Done` is the core's and `Finds` the call's. The walk opens neither: it takes of them the two laws `within` (the records fit the lent
@@ -48,9 +48,9 @@ use denote.Triple.Table.{entered, cited}
 use denote.Triple.Walked.{says, Stays, stay-dropped, walkOf, Walks, ends-at, walked, goes-dropped, walk-meets}
 use Rattle.diary.specs.declared.Step.{Step}
 use Rattle.diary.proofs.Step as T
-use Rattle.diary.proofs.fill.Symbol as fill-def
-use Rattle.diary.proofs.fill.Symbol.{name as #diary·fill}
-use Rattle.diary.proofs.fill.Met as fill-thm
+use Rattle.diary_records.proofs.fill.Symbol as fill-def
+use Rattle.diary_records.proofs.fill.Symbol.{name as #diary·fill}
+use Rattle.diary_records.proofs.fill.Met as fill-thm
 use Rattle.desk.specs.declared.Desk.{Desk}
 use Rattle.desk.specs.declared.CoreReply.{CoreReply}
 use Rattle.desk_find.specs.Finding.{Done, Finds, within, found}
@@ -224,4 +224,4 @@ find-spec 𝓤 H 𝓜 𝓖 𝓡 =
     (tables 𝓤 H 𝓜 𝓡 code.env .C) (tables 𝓤 H 𝓜 𝓡 code.env .Λ) #find code.function (code.unfolded 𝓤 H 𝓜 𝓡)
     (find-meets 𝓤 H (𝓖 .A) (givenOf 𝓤 H 𝓜 𝓖) (𝓜 .mem) (𝓡 .run) (tablesOf 𝓤 H 𝓜 (tables 𝓤 H 𝓜 𝓡 code.env))
     (cited 𝓤 H (Core 𝓤 H (𝓖 .A) (𝓜 .mem) (𝓡 .run)) 𝓜 𝓡 code.env #core core-def.routine code.calls-desk·core (core-thm.met 𝓤 H 𝓜 𝓖 𝓡))
-    (cited 𝓤 H (Fill 𝓤 H (𝓖 .A) (𝓜 .mem) (𝓡 .run)) 𝓜 𝓡 code.env #diary·fill fill-def.routine code.calls-diary·fill (fill-thm.met 𝓤 H 𝓜 𝓖 𝓡)))
+    (cited 𝓤 H (Fill 𝓤 H (𝓖 .A) (𝓜 .mem) (𝓡 .run)) 𝓜 𝓡 code.env #diary·fill fill-def.routine code.calls-diary-records·fill (fill-thm.met 𝓤 H 𝓜 𝓖 𝓡)))

@@ -37,9 +37,9 @@ use Rattle.model.specs.Changes.{joinOn}
 use Rattle.model.specs.Desk as model
 use Rattle.diary.specs.declared.Step.{Step}
 use Rattle.diary.proofs.Step as T
-use Rattle.diary.proofs.fill.Symbol as fill-def
-use Rattle.diary.proofs.fill.Symbol.{name as #diary·fill}
-use Rattle.diary.proofs.fill.Met as fill-thm
+use Rattle.diary_records.proofs.fill.Symbol as fill-def
+use Rattle.diary_records.proofs.fill.Symbol.{name as #diary·fill}
+use Rattle.diary_records.proofs.fill.Met as fill-thm
 use Rattle.desk.specs.declared.Desk.{Desk}
 use Rattle.desk.specs.declared.CoreReply.{CoreReply}
 use Rattle.desk_changes.specs.AfterChange.{JoinDone}
@@ -242,4 +242,4 @@ join-spec 𝓤 H 𝓜 𝓖 𝓡 =
     (tables 𝓤 H 𝓜 𝓡 code.env .C) (tables 𝓤 H 𝓜 𝓡 code.env .Λ) #join code.function (code.unfolded 𝓤 H 𝓜 𝓡)
     (join-meets 𝓤 H (𝓖 .A) (givenOf 𝓤 H 𝓜 𝓖) (𝓜 .mem) (𝓡 .run) (tablesOf 𝓤 H 𝓜 (tables 𝓤 H 𝓜 𝓡 code.env))
     (cited 𝓤 H (Core 𝓤 H (𝓖 .A) (𝓜 .mem) (𝓡 .run)) 𝓜 𝓡 code.env #core core-def.routine code.calls-desk·join-core (core-thm.met 𝓤 H 𝓜 𝓖 𝓡))
-    (cited 𝓤 H (Fill 𝓤 H (𝓖 .A) (𝓜 .mem) (𝓡 .run)) 𝓜 𝓡 code.env #diary·fill fill-def.routine code.calls-diary·fill (fill-thm.met 𝓤 H 𝓜 𝓖 𝓡)))
+    (cited 𝓤 H (Fill 𝓤 H (𝓖 .A) (𝓜 .mem) (𝓡 .run)) 𝓜 𝓡 code.env #diary·fill fill-def.routine code.calls-diary-records·fill (fill-thm.met 𝓤 H 𝓜 𝓖 𝓡)))

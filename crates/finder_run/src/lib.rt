@@ -1,0 +1,40 @@
+// The finder on the arrays of an accepted roster: the reduction with its trace, then the pairs left, or the candidate with its verdict.
+ghost use Prim.Native.Nat.{_≤_};
+ghost use lib.ListN.{length};
+ghost use Rattle.model.specs.Limits.{planSize, leftSize};
+ghost use Rattle.instance.specs.Loaded.{Loaded};
+ghost use Rattle.instance.specs.Decoded.{shownBy};
+ghost use Rattle.finder_run.specs.Finding.{Finds};
+use answers::Found;
+use instance::Instance;
+use reduction_state::Trace;
+
+// What the finder answers, and the trace of its steps.
+pub struct Outcome {
+    pub answer: Found,
+    pub trace: Trace,
+}
+
+// The finder: the trace, and what each kind of answer writes.
+pub fn find(g: Instance, left: &mut [u8], plan: &mut [u8], rival: &mut [u8]) -> Outcome
+    requires { ⌜ Loaded g × (leftSize ≤ length (now left)) × (planSize ≤ length (now plan)) × (planSize ≤ length (now rival)) ⌝ }
+    ensures { λ r. ⌜ Finds (shownBy g) (now (left .entry)) (now (plan .entry)) (now (rival .entry)) r
+        (now (left .exit)) (now (plan .exit)) (now (rival .exit)) ⌝ }
+{
+    let sv = g.sv;
+    let st = g.st;
+    let rs = g.rank_s;
+    let rt = g.rank_t;
+    let tied = g.tied;
+    let qs = g.quota_s;
+    let qt = g.quota_t;
+    let reduced = reduction_run::reduce(g.m, &sv, &st, &rs, &rt, &tied, &qs, &qt);
+    let rem = reduced.rem;
+    let fixed = reduced.fixed;
+    let trace = reduced.trace;
+    let answer = finder_ending::ended(g, &rem, &fixed, trace.steps, left, plan, rival);
+    Outcome {
+        answer: answer,
+        trace: trace,
+    }
+}
