@@ -20,6 +20,7 @@ pub mod Desk
 pub mod History
 pub mod SeasonCalls
 pub mod Decimal
+pub mod LimitCases
 pub mod Claims
 pub mod Cases
 pub mod MoreCases
