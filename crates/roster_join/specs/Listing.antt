@@ -25,7 +25,7 @@ use Rattle.roster_reading.specs.Slot.{atSlot}
 use Rattle.roster_reading.specs.Row.{Marked, Shows}
 use Rattle.roster_parts.specs.declared.Changed.{Changed}
 use Rattle.roster_parts.specs.Gives.{Holds}
-use Rattle.roster_join.specs.Entering.{marksIn, endAt, longFrom, joinedBytes}
+use Rattle.roster_joiner.specs.Entering.{marksIn, endAt, longFrom, joinedBytes}
 
 -- bytes are left behind the list, or some stand's list would be too long, or the joiner enters the roster
 abbrev pub EntersIf : (behind long : Bool) (bytes : List ℕ) → Changed → Type 0

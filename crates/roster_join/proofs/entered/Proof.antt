@@ -6,7 +6,7 @@ use lib.Dec.{ltb}
 use borrow.Author.Needs.{needs}
 use borrow.Author.Tests.{lt-ltb, le-ltb}
 use Rattle.roster_parts.specs.declared.Changed.{Changed}
-use Rattle.roster_join.specs.Entering.{marksIn, joinedBytes}
+use Rattle.roster_joiner.specs.Entering.{marksIn, joinedBytes}
 use Rattle.roster_join.specs.Listing.{EntersIf, EntersBy, enters}
 use Rattle.roster_join.proofs.entered.Statement.{statement}
 use Rattle.roster_join.proofs.entered.Tie as tie

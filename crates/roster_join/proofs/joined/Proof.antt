@@ -2,7 +2,7 @@
 use Prim.Native.Nat.{_+_}
 use borrow.Author.Needs.{needs}
 use Rattle.roster_parts.specs.Gives.{held}
-use Rattle.roster_join.specs.Entering.{nodesWith}
+use Rattle.roster_joiner.specs.Entering.{nodesWith}
 use Rattle.roster_join.proofs.joined.Statement.{statement}
 use Rattle.roster_join.proofs.joined.Tie as tie
 

@@ -1,4 +1,4 @@
--- `roster_join::append_joiner` meets its contract: the entries in the shifts behind the first k are left. Assumes nothing.
+-- `roster_joiner::append_joiner` meets its contract: the entries in the shifts behind the first k are left. Assumes nothing.
 use Prim.Native.Nat.{_-_, _≤_, zero-le}
 use native.Mathlib.Omega.{arith}
 use mathlib.Core.Path.{sym, ap, _∙_}
@@ -7,9 +7,9 @@ use borrow.Author.Tests.{not-true, not-false}
 use Rattle.model.specs.Limits.{shiftLimit}
 use Rattle.roster_positions.specs.Rows.{bytesOf}
 use Rattle.roster_parts.specs.Growth.{Going, going-starts, going-on, going-past, going-ends}
-use Rattle.roster_join.specs.Entering.{marksIn, shiftsFrom, shiftsAt, joinerIn, shift-one, shift-not, shift-none}
-use Rattle.roster_join.proofs.append_joiner.Statement.{statement}
-use Rattle.roster_join.proofs.append_joiner.Tie as tie
+use Rattle.roster_joiner.specs.Entering.{marksIn, shiftsFrom, shiftsAt, joinerIn, shift-one, shift-not, shift-none}
+use Rattle.roster_joiner.proofs.append_joiner.Statement.{statement}
+use Rattle.roster_joiner.proofs.append_joiner.Tie as tie
 
 abbrev Inv-loop : tie.InvT-loop
 Inv-loop out₀ n joiner row stand len₀ k₀ out len k =

@@ -1,9 +1,9 @@
--- `roster_join::append_ranking` meets its contract: both lengths, both parts, and what comes behind them. Assumes nothing.
+-- `roster_joiner::append_ranking` meets its contract: both lengths, both parts, and what comes behind them. Assumes nothing.
 use borrow.Author.Needs.{needs}
 use Rattle.roster_parts.specs.Growth.{grown-then, grown-as}
-use Rattle.roster_join.specs.Entering.{marksIn, entering-written}
-use Rattle.roster_join.proofs.append_ranking.Statement.{statement}
-use Rattle.roster_join.proofs.append_ranking.Tie as tie
+use Rattle.roster_joiner.specs.Entering.{marksIn, entering-written}
+use Rattle.roster_joiner.proofs.append_ranking.Statement.{statement}
+use Rattle.roster_joiner.proofs.append_ranking.Tie as tie
 
 returns : tie.Need-returns
 returns c =

@@ -1,10 +1,10 @@
--- `roster_join::asks` meets its contract: the mark stands at the entry's place in the row. Assumes nothing.
+-- `roster_joiner::asks` meets its contract: the mark stands at the entry's place in the row. Assumes nothing.
 use mathlib.Core.Path.{ap}
 use mathlib.Core.Bool.{false}
 use lib.ListN.{getD}
 use borrow.Author.Needs.{needs}
-use Rattle.roster_join.proofs.asks.Statement.{statement}
-use Rattle.roster_join.proofs.asks.Tie as tie
+use Rattle.roster_joiner.proofs.asks.Statement.{statement}
+use Rattle.roster_joiner.proofs.asks.Tie as tie
 
 returns : tie.Need-returns
 returns c = ap (λ k. getD (c .before .before .args .row .now) k false) (c .before .slot .ensures)

@@ -1,4 +1,4 @@
--- `roster_join::shift_count` meets its contract: the shifts counted and those to come are all. Assumes nothing.
+-- `roster_joiner::shift_count` meets its contract: the shifts counted and those to come are all. Assumes nothing.
 use Prim.Native.Nat.{_+_, _-_, _≤_, zero-le}
 use native.Mathlib.Omega.{arith}
 use mathlib.Core.Path.{_≡_, sym, ap, _∙_}
@@ -6,9 +6,9 @@ use lib.ListN.{length}
 use borrow.Author.Needs.{needs}
 use borrow.Author.Tests.{not-true, not-false}
 use Rattle.model.specs.Limits.{shiftLimit}
-use Rattle.roster_join.specs.Entering.{marksIn, shiftsFrom, shiftsAt, shift-one, shift-not, shift-none}
-use Rattle.roster_join.proofs.shift_count.Statement.{statement}
-use Rattle.roster_join.proofs.shift_count.Tie as tie
+use Rattle.roster_joiner.specs.Entering.{marksIn, shiftsFrom, shiftsAt, shift-one, shift-not, shift-none}
+use Rattle.roster_joiner.proofs.shift_count.Statement.{statement}
+use Rattle.roster_joiner.proofs.shift_count.Tie as tie
 
 abbrev Inv-loop : tie.InvT-loop
 Inv-loop row stand n₀ k₀ n k =
