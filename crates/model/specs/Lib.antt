@@ -21,6 +21,7 @@ pub mod History
 pub mod SeasonCalls
 pub mod Decimal
 pub mod LimitCases
+pub mod FitCases
 pub mod Claims
 pub mod Cases
 pub mod MoreCases
