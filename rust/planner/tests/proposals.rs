@@ -268,11 +268,14 @@ fn refused_calls_leave_it_open() {
     assert_eq!(committed(&desk), Ok(None));
 }
 
+/// A call that is lent a buffer, with its answer in words.
+type Look = dyn Fn(calls::Desk, &mut [u8]) -> (calls::Desk, String);
+
 /// What the calls that only look answer and write.
 fn looks(desk: &Desk) -> Vec<(String, Vec<u8>)> {
     let before = junk(&mut Random::new(3), planner::ROSTER_BYTES);
     let mut seen = Vec::new();
-    let mut look = |call: &dyn Fn(calls::Desk, &mut [u8]) -> (calls::Desk, String)| {
+    let mut look = |call: &Look| {
         let mut out = before.clone();
         let (calls::Desk(after), answer) = call(calls::Desk(desk.clone()), &mut out);
         assert!(after == *desk, "{answer}");
