@@ -247,7 +247,7 @@ fn calls_one_after_another() {
     for _ in 0..60_000 {
         let mut desk = Desk::open();
         let mut held = Held::Nothing;
-        for _ in 0..random.below(25) {
+        for _ in 0..random.below(26) {
             let refusal = match random.below(14) {
                 0 => write_roster(&mut random, &desk, &held),
                 1 => write_plan(&mut random, &desk, &held),

@@ -484,7 +484,7 @@ pub fn run<D: Calls>(mut open: impl FnMut() -> D, seed: u64, sequences: usize, l
                 desks = desks.load_plan(&mut tally, pool.first_plan(&mut random));
             }
         }
-        for _ in 0..5 + random.below(12) {
+        for _ in 0..5 + random.below(13) {
             desks = desks.step(&mut random, &mut tally, &pool);
         }
         // what is held at the end
