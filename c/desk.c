@@ -92,6 +92,22 @@ static struct crew_desk load_plan(struct crew_desk desk) {
     return reply.desk;
 }
 
+static struct crew_desk propose(struct crew_desk desk) {
+    struct lent file = take_lent();
+    struct crew_desk_proposed reply = crew_propose(desk, file.bytes, file.length);
+    give_number(reply.proposed.refusal);
+    give_number(reply.proposed.proposal_vote);
+    give_number(reply.proposed.held_vote);
+    free(file.bytes);
+    return reply.desk;
+}
+
+static struct crew_desk commit(struct crew_desk desk) {
+    struct crew_desk_loaded reply = crew_commit(desk);
+    give_number(reply.refusal);
+    return reply.desk;
+}
+
 static void give_outcome(struct crew_outcome outcome, struct lent out) {
     give_number(outcome.refusal);
     give_number((int64_t)outcome.length);
@@ -250,6 +266,30 @@ static void group(void) {
     give_number(crew_group(take_byte()));
 }
 
+/* the front of an array of the desk, behind its length */
+static void give_file(const uint8_t *array, size_t size, size_t length) {
+    size_t front = length < size ? length : size;
+    give_number((int64_t)front);
+    give(array, front);
+}
+
+static void files(const struct crew_desk *desk) {
+    give_file(desk->roster, sizeof desk->roster, desk->roster_len);
+    give_file(desk->plan, sizeof desk->plan, desk->plan_len);
+    give_file(desk->proposal, sizeof desk->proposal, desk->proposal_len);
+}
+
+/* the size of a desk, and where its fields begin */
+static void layout(void) {
+    give_number((int64_t)sizeof(struct crew_desk));
+    give_number((int64_t)offsetof(struct crew_desk, roster_len));
+    give_number((int64_t)offsetof(struct crew_desk, roster));
+    give_number((int64_t)offsetof(struct crew_desk, plan_len));
+    give_number((int64_t)offsetof(struct crew_desk, plan));
+    give_number((int64_t)offsetof(struct crew_desk, proposal_len));
+    give_number((int64_t)offsetof(struct crew_desk, proposal));
+}
+
 int main(void) {
     struct crew_desk desk = crew_open();
     for (;;) {
@@ -257,6 +297,8 @@ int main(void) {
         case 'O': desk = crew_open(); break;
         case 'R': desk = load_roster(desk); break;
         case 'P': desk = load_plan(desk); break;
+        case 'V': desk = propose(desk); break;
+        case 'C': desk = commit(desk); break;
         case 'r': desk = write_roster(desk); break;
         case 'p': desk = write_plan(desk); break;
         case 'N': desk = plan_to_new(desk); break;
@@ -271,6 +313,8 @@ int main(void) {
         case 'n': roster_to_new(); break;
         case 'd': roster_to_old(); break;
         case 'g': group(); break;
+        case 'F': files(&desk); break;
+        case 'S': layout(); break;
         default: return 2;
         }
         fflush(stdout);

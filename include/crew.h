@@ -57,19 +57,34 @@ struct crew_judged {
     int16_t vote;
 };
 
-/* The desk, document 01's session state: a roster file and a plan file at the front of their arrays. It goes into each call by value and
-   comes back in the reply. What it holds is what its bytes are read to, so every value of its fields is a desk: a length above its array
-   is the whole array, and bytes that are refused are not held. */
+/* a refusal, 0 for none; and both votes, the proposal's against the held plan and the held plan's against the proposal, 0 0 on a refusal */
+struct crew_proposed {
+    uint8_t refusal;
+    int16_t proposal_vote;
+    int16_t held_vote;
+};
+
+/* The desk, document 01's session state: a roster file, a plan file and a proposed plan's file at the front of their arrays. It goes into each
+   call by value and comes back in the reply. What it holds is what its bytes are read to, so every value of its fields is a desk: a length above
+   its array is the whole array, and bytes that are refused are not held. A plan is held beside a roster alone, and a proposal is open beside a
+   held plan alone. */
 struct crew_desk {
     size_t roster_len;
     uint8_t roster[CREW_ROSTER_BYTES];
     size_t plan_len;
     uint8_t plan[CREW_PLAN_BYTES];
+    size_t proposal_len;
+    uint8_t proposal[CREW_PLAN_BYTES];
 };
 
 struct crew_desk_loaded {
     struct crew_desk desk;
     uint8_t refusal;
+};
+
+struct crew_desk_proposed {
+    struct crew_desk desk;
+    struct crew_proposed proposed;
 };
 
 struct crew_desk_written {
@@ -131,11 +146,21 @@ struct crew_outcome crew_roster_to_old(const uint8_t *file, size_t file_len, uin
 /* a desk with nothing loaded */
 struct crew_desk crew_open(void);
 
-/* takes a roster file in and drops the plan; a refused file changes nothing */
+/* takes a roster file in, drops the plan and closes a proposal; a refused file changes nothing */
 struct crew_desk_loaded crew_load_roster(struct crew_desk desk, const uint8_t *file, size_t file_len);
 
-/* takes a plan of the held roster in, in the place of the one held; a refused file changes nothing; 13 without a roster */
+/* takes a plan of the held roster in, in the place of the one held, and closes a proposal; a refused file changes nothing; 13 without a roster */
 struct crew_desk_loaded crew_load_plan(struct crew_desk desk, const uint8_t *file, size_t file_len);
+
+/* proposes a plan of the held roster beside the held plan, in the place of an open proposal, and answers both votes. The held plan stays held, and
+   is what the calls below look at. A refused file changes nothing: an open proposal stays open. 13 without a roster, then 14 without a plan, then
+   the plan's own refusals: 1, 2, at each pair 1, 10, 11, 12, and then 9.
+   A proposal is closed by crew_commit, by a roster or a plan that is loaded, by a surveyor who joins, and by one who leaves, unless that one had
+   neither quota nor pairs and so nothing changes. Refused calls and all others leave it open */
+struct crew_desk_proposed crew_propose(struct crew_desk desk, const uint8_t *file, size_t file_len);
+
+/* makes the open proposal the held plan, which closes it. 13 without a roster, then 14 without a plan, then 20 where no proposal is open */
+struct crew_desk_loaded crew_commit(struct crew_desk desk);
 
 /* the calls from here to crew_find leave the desk as it is. 13 without a roster, then 14 without a plan where one is needed, then 15 */
 
@@ -170,7 +195,7 @@ struct crew_desk_found crew_find(struct crew_desk desk, struct crew_step *diary,
                                  uint8_t *plan, size_t plan_len, uint8_t *rival, size_t rival_len);
 
 /* the two calls below change the held roster, and answer and write what crew_find does on the changed one, into buffers of the same sizes.
-   A refused call changes nothing. 13 without a roster, then 15; 14 never */
+   Changing it closes a proposal. A refused call changes nothing. 13 without a roster, then 15; 14 never */
 
 /* a surveyor joins, with the number after the highest: the quota, and one stand list as a file: a length byte, then entries of two bytes, a stand
    number and a shift, best first. Each listed stand has the joiner at the end of its tie, where one stand is listed in several shifts in the
@@ -182,7 +207,7 @@ struct crew_desk_found crew_join(struct crew_desk desk, uint8_t quota, const uin
                                  size_t rival_len);
 
 /* a surveyor leaves and keeps the number, with quota 0 and no pairs; the held plan loses the leaver's pairs. Leaving twice changes nothing
-   more. After 15: 16 for a number that is 0 or above the surveyors' count */
+   more, and leaves a proposal open. After 15: 16 for a number that is 0 or above the surveyors' count */
 struct crew_desk_found crew_leave(struct crew_desk desk, uint8_t number, struct crew_step *diary, size_t diary_len, uint8_t *left,
                                   size_t left_len, uint8_t *plan, size_t plan_len, uint8_t *rival, size_t rival_len);
 

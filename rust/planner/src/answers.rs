@@ -40,6 +40,15 @@ pub struct Comparison<'a> {
     pub part: &'a [u8],
 }
 
+/// The votes of a proposal and the held plan.
+#[derive(Clone, Copy, Debug, PartialEq, Eq)]
+pub struct ProposalVotes {
+    /// The proposal's vote against the held plan.
+    pub proposal: i16,
+    /// The held plan's vote against the proposal.
+    pub held: i16,
+}
+
 /// What the finder answers, and a change of the roster with it, with the number
 /// of steps that are in the diary.
 #[derive(Clone, Copy, Debug, PartialEq, Eq)]
@@ -86,6 +95,13 @@ pub(crate) fn comparison<'a>(
         }),
         part: &file[compared.from..compared.from + compared.length],
     }
+}
+
+pub(crate) fn proposal_votes(proposed: &ffi::Proposed) -> Result<ProposalVotes, Refusal> {
+    refusal::check(proposed.refusal).map(|()| ProposalVotes {
+        proposal: proposed.proposal_vote,
+        held: proposed.held_vote,
+    })
 }
 
 /// The numbers of a blocking pair's surveyor and stand, and its shift.

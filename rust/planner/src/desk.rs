@@ -1,9 +1,9 @@
 //! The calls of a desk: a roster and a plan of it, held from one call to the
-//! next. A desk goes into each exported call by value and comes back; the calls
-//! that only look at it hand the same desk back, which is asserted in builds
-//! with debug assertions.
+//! next, and a proposal beside the plan. A desk goes into each exported call by
+//! value and comes back; the calls that only look at it hand the same desk back,
+//! which is asserted in builds with debug assertions.
 
-use crate::answers::{self, Comparison, Found, Verdict};
+use crate::answers::{self, Comparison, Found, ProposalVotes, Verdict};
 use crate::ffi;
 use crate::layout::{Desk, Step};
 use crate::refusal::{self, Refusal};
@@ -20,20 +20,42 @@ impl Desk {
         unsafe { ffi::crew_open() }
     }
 
-    /// Takes a roster in and drops the plan. A refused file changes nothing.
+    /// Takes a roster in, drops the plan and closes a proposal. A refused file
+    /// changes nothing.
     pub fn load_roster(&mut self, file: &[u8]) -> Result<(), Refusal> {
         let reply = unsafe { ffi::crew_load_roster(self.clone(), file.as_ptr(), file.len()) };
         self.take_loaded(reply)
     }
 
-    /// Takes a plan of the held roster in, in the place of the one held. A
-    /// refused file changes nothing.
+    /// Takes a plan of the held roster in, in the place of the one held, and
+    /// closes a proposal. A refused file changes nothing.
     pub fn load_plan(&mut self, file: &[u8]) -> Result<(), Refusal> {
         let reply = unsafe { ffi::crew_load_plan(self.clone(), file.as_ptr(), file.len()) };
         self.take_loaded(reply)
     }
 
-    /// The desk that a load hands back, in the place of this one.
+    /// Proposes a plan of the held roster beside the held plan, in the place of an
+    /// open proposal, and answers both votes. The held plan stays held until
+    /// [`Desk::commit`]. A refused file changes nothing: an open proposal stays
+    /// open.
+    ///
+    /// A proposal is closed by a commit, by a roster or a plan that is loaded, by a
+    /// surveyor who joins, and by one who leaves, unless that changes nothing.
+    /// Refused calls and all others leave it open.
+    pub fn propose(&mut self, file: &[u8]) -> Result<ProposalVotes, Refusal> {
+        let reply = unsafe { ffi::crew_propose(self.clone(), file.as_ptr(), file.len()) };
+        *self = reply.desk;
+        answers::proposal_votes(&reply.proposed)
+    }
+
+    /// Makes the open proposal the held plan, which closes it. Where none is open
+    /// the call is refused, and nothing changes.
+    pub fn commit(&mut self) -> Result<(), Refusal> {
+        let reply = unsafe { ffi::crew_commit(self.clone()) };
+        self.take_loaded(reply)
+    }
+
+    /// The desk that a load or a commit hands back, in the place of this one.
     fn take_loaded(&mut self, reply: ffi::DeskLoaded) -> Result<(), Refusal> {
         *self = reply.desk;
         refusal::check(reply.refusal)
@@ -156,8 +178,9 @@ impl Desk {
 
     /// A surveyor joins the held roster, with the number after the highest:
     /// a quota, and one stand list as a file, a length and then stands with their
-    /// shifts, best first. The held plan stays. Answers and writes what [`Desk::find`]
-    /// does on the changed roster. A refused call changes nothing.
+    /// shifts, best first. The held plan stays, and a proposal is closed. Answers and
+    /// writes what [`Desk::find`] does on the changed roster. A refused call changes
+    /// nothing.
     pub fn join(
         &mut self,
         quota: u8,
@@ -187,9 +210,9 @@ impl Desk {
     }
 
     /// A surveyor leaves the held roster and keeps the number, with quota 0 and
-    /// no pairs. The held plan loses the leaver's pairs. Answers and writes what
-    /// [`Desk::find`] does on the changed roster. A refused call changes
-    /// nothing.
+    /// no pairs. The held plan loses the leaver's pairs, and a proposal is closed.
+    /// One who had left, and leaves again, changes nothing. Answers and writes what
+    /// [`Desk::find`] does on the changed roster. A refused call changes nothing.
     pub fn leave(
         &mut self,
         number: u8,

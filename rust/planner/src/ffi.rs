@@ -35,9 +35,22 @@ pub struct Judged {
 }
 
 #[repr(C)]
+pub struct Proposed {
+    pub refusal: u8,
+    pub proposal_vote: i16,
+    pub held_vote: i16,
+}
+
+#[repr(C)]
 pub struct DeskLoaded {
     pub desk: Desk,
     pub refusal: u8,
+}
+
+#[repr(C)]
+pub struct DeskProposed {
+    pub desk: Desk,
+    pub proposed: Proposed,
 }
 
 #[repr(C)]
@@ -92,6 +105,8 @@ extern "C" {
     pub fn crew_open() -> Desk;
     pub fn crew_load_roster(desk: Desk, file: *const u8, file_len: usize) -> DeskLoaded;
     pub fn crew_load_plan(desk: Desk, file: *const u8, file_len: usize) -> DeskLoaded;
+    pub fn crew_propose(desk: Desk, file: *const u8, file_len: usize) -> DeskProposed;
+    pub fn crew_commit(desk: Desk) -> DeskLoaded;
     pub fn crew_write_roster(desk: Desk, out: *mut u8, out_len: usize) -> DeskWritten;
     pub fn crew_write_plan(desk: Desk, out: *mut u8, out_len: usize) -> DeskWritten;
     pub fn crew_plan_to_new(

@@ -11,10 +11,11 @@ pub const LEFT_BYTES: usize = 3_072;
 /// surveyor and its stand, and its shift.
 pub const PAIR_BYTES: usize = 3;
 
-/// A roster file and a plan file at the front of their arrays. What a desk
-/// holds is what these bytes are read to: nothing, a roster, or a roster and a
-/// plan. Every value of the fields is a desk; a length above its array is the
-/// whole array, and bytes that are refused are not held.
+/// A roster file, a plan file and a proposed plan's file at the front of their
+/// arrays. What a desk holds is what these bytes are read to: nothing, a roster,
+/// or a roster and a plan, with a proposal beside it or without. Every value of
+/// the fields is a desk; a length above its array is the whole array, and bytes
+/// that are refused are not held.
 #[repr(C)]
 #[derive(Clone, Debug, PartialEq, Eq)]
 pub struct Desk {
@@ -22,6 +23,8 @@ pub struct Desk {
     pub roster: [u8; ROSTER_BYTES],
     pub plan_len: usize,
     pub plan: [u8; PLAN_BYTES],
+    pub proposal_len: usize,
+    pub proposal: [u8; PLAN_BYTES],
 }
 
 /// One step of the reduction: fate 1 is fix and 2 strike, then the numbers of

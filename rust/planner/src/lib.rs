@@ -14,6 +14,11 @@
 //! desk.load_roster(&roster)?;
 //! desk.load_plan(&[1, 1, 1, 1])?;
 //! assert_eq!(desk.judge(&mut [0; planner::PLAN_BYTES])?, planner::Verdict::Strong);
+//!
+//! let votes = desk.propose(&[1, 2, 1, 1])?;
+//! assert_eq!((votes.proposal, votes.held), (-1, 1));
+//! desk.commit()?;
+//! assert_eq!(desk.commit().unwrap_err().to_string(), "no proposal is open");
 //! # Ok::<(), planner::Refusal>(())
 //! ```
 
@@ -24,7 +29,7 @@ mod layout;
 mod refusal;
 mod seasons;
 
-pub use answers::{Comparison, Found, Verdict, Votes, Winner};
+pub use answers::{Comparison, Found, ProposalVotes, Verdict, Votes, Winner};
 pub use layout::{Desk, Step, DIARY_RECORDS, LEFT_BYTES, PAIR_BYTES, PLAN_BYTES, ROSTER_BYTES};
 pub use refusal::{Group, Refusal};
 pub use seasons::{roster_to_new, roster_to_old};

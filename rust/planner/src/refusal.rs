@@ -62,6 +62,7 @@ impl fmt::Display for Refusal {
             17 => "all 32 numbers are taken, or the surveyors' quotas would be above 64 together",
             18 => "a list entry's shift is not 1, 2 or 3",
             19 => "the file has a shift other than 1, which an old file cannot hold",
+            20 => "no proposal is open",
             _ => "refused",
         })
     }

@@ -1,10 +1,12 @@
 //! The static library and the program as built: neither has a table of votes,
 //! be it as constants or as code that writes one. A compiler may turn a table
-//! of constants into stores to the stack, so both are looked at.
+//! of constants into stores to the stack, so both are looked at. And the calls that
+//! the library exports are those that the header declares.
 
 mod common;
 
-use std::path::Path;
+use std::collections::BTreeSet;
+use std::path::{Path, PathBuf};
 use std::process::Command;
 
 use common::{program, root};
@@ -12,6 +14,10 @@ use reference::limits::EMPTY_RANK;
 
 /// The bytes of a table with a vote for each two ranks.
 const TABLE: usize = EMPTY_RANK as usize * EMPTY_RANK as usize;
+
+fn library() -> PathBuf {
+    root().join("target/staticlib/libabi.a")
+}
 
 fn output(tool: &str, words: &[&str], file: &Path) -> String {
     let output = Command::new(tool).args(words).arg(file).output();
@@ -86,10 +92,37 @@ fn has_no_table(file: &Path) {
 
 #[test]
 fn no_table_of_votes_in_the_static_library() {
-    has_no_table(&root().join("target/staticlib/libabi.a"));
+    has_no_table(&library());
 }
 
 #[test]
 fn no_table_of_votes_in_the_program() {
     has_no_table(&program());
+}
+
+/// How the name of each exported call begins.
+const PREFIX: &str = "crew_";
+
+/// The calls that a text declares or makes: the names before a parenthesis.
+fn calls(text: &str) -> BTreeSet<&str> {
+    let names = text.match_indices(PREFIX).filter_map(|(start, _)| {
+        let (name, _) = text[start..].split_once('(')?;
+        let plain = |letter: char| letter.is_ascii_lowercase() || letter == '_';
+        name.chars().all(plain).then_some(name)
+    });
+    names.collect()
+}
+
+#[test]
+fn every_exported_call_is_declared_and_made() {
+    let symbols = output("nm", &["--defined-only", "--extern-only"], &library());
+    let names = symbols
+        .lines()
+        .filter_map(|line| line.split(' ').next_back());
+    let exported: BTreeSet<&str> = names.filter(|name| name.starts_with(PREFIX)).collect();
+    assert!(!exported.is_empty());
+    for file in ["include/crew.h", "c/desk.c", "rust/planner/src/ffi.rs"] {
+        let text = std::fs::read_to_string(root().join(file)).expect("a text");
+        assert_eq!(calls(&text), exported, "{file}");
+    }
 }

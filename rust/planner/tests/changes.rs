@@ -10,21 +10,13 @@ mod found;
 mod lent;
 
 use change::Change::{self, Join, Leave};
-use common::{desk_with, desk_with_plan, front, number, Met};
+use common::{desk_with, desk_with_plan, front, number, plan_of, Met, RANKED, TIED};
 use lent::{Buffers, SIZES};
 use planner::{Desk, Group};
 use reference::desk::{Desk as Held, Found, NoneKind};
 use reference::random::{self, fitting_list, Random};
 use reference::roster::{self, narrow, Roster, Side};
 
-/// Two surveyors rank one stand, which ranks 1 before 2; and the stand with
-/// quota 2, which ties them.
-const RANKED: [u8; 21] = [
-    2, 1, 1, 1, 1, 2, 0, 1, 1, 1, 1, 1, 1, 2, 0, 2, 0, 1, 1, 2, 1,
-];
-const TIED: [u8; 21] = [
-    2, 1, 1, 1, 2, 2, 0, 1, 1, 1, 1, 1, 1, 2, 0, 0, 2, 1, 1, 2, 1,
-];
 /// No surveyors, no stands.
 const EMPTY: [u8; 6] = [0; 6];
 
@@ -55,15 +47,6 @@ fn after(mut desk: Desk, changes: impl IntoIterator<Item = Change>) -> Desk {
 
 fn roster_of(desk: &Desk) -> &[u8] {
     front(&desk.roster, desk.roster_len)
-}
-
-/// The plan that a desk holds, through the call that writes it.
-fn plan_of(desk: &Desk) -> Result<Vec<u8>, u8> {
-    let mut out = [0; planner::PLAN_BYTES];
-    let length = desk
-        .write_plan(&mut out)
-        .map_err(|refusal| refusal.number)?;
-    Ok(out[..length].to_vec())
 }
 
 fn ranked() -> Desk {

@@ -1,12 +1,13 @@
 //! Calls on a desk, one after another, against the reference: every answer,
-//! every byte lent, and the desk itself, which only an accepted load or change
-//! changes. Now and then the desk's own bytes are damaged.
+//! every byte lent, and the desk itself, which only an accepted load, proposal,
+//! commit or change changes. Now and then the desk's own bytes are damaged.
 
 mod calls;
 mod change;
 mod common;
 mod found;
 mod lent;
+mod taken;
 
 use calls::winner;
 use change::Change;
@@ -15,11 +16,13 @@ use found::check_rival;
 use lent::{Buffers, SIZES};
 use planner::{Desk, Verdict};
 use reference::desk::Desk as Held;
+use reference::limits::PAIR_FIELD;
 use reference::plan::{self, Plan};
 use reference::random::{self, Random};
 use reference::refusal::Refusal;
 use reference::roster::{self, Roster};
 use reference::{blocking, compare, fast};
+use taken::Call;
 
 /// A plan file: of the held roster if there is one, damaged now and then.
 fn plan_file(random: &mut Random, held: &Held) -> Vec<u8> {
@@ -43,31 +46,38 @@ fn buffer(random: &mut Random, size: usize) -> Vec<u8> {
     junk(random, length)
 }
 
-fn load_roster(random: &mut Random, desk: &mut Desk, held: Held) -> (Held, u8) {
+/// A roster file, damaged now and then.
+fn roster_file(random: &mut Random) -> Vec<u8> {
     let mut shape = shape(random);
     shape.quotas = [0..=3, 0..=3];
     let mut file = roster::write(&random::roster(random, &shape));
     if random.chance(30) {
         damage(random, &mut file);
     }
-    let before = desk.clone();
-    let answer = desk.load_roster(&file);
-    let (held, expected) = held.load_roster(&file);
-    let expected = expected.err().map_or(0, Refusal::number);
-    assert_eq!(number(&answer), expected);
-    assert!(expected == 0 || *desk == before);
-    (held, expected)
+    file
 }
 
-fn load_plan(random: &mut Random, desk: &mut Desk, held: Held) -> (Held, u8) {
-    let file = plan_file(random, &held);
-    let before = desk.clone();
-    let answer = desk.load_plan(&file);
-    let (held, expected) = held.load_plan(&file);
-    let expected = expected.err().map_or(0, Refusal::number);
-    assert_eq!(number(&answer), expected);
-    assert!(expected == 0 || *desk == before);
-    (held, expected)
+/// A call that can take something in.
+fn take(random: &mut Random, desk: &mut Desk, held: &Held) -> u8 {
+    let call = match random.below(8) {
+        0 => Call::LoadRoster(roster_file(random)),
+        1 | 2 => Call::LoadPlan(plan_file(random, held)),
+        3 | 4 => Call::Propose(plan_file(random, held)),
+        5 => Call::Commit,
+        _ => Call::Change(Change::random(random, held)),
+    };
+    let answer = call.check(desk, || buffers(random));
+    answer.err().unwrap_or(0)
+}
+
+/// Buffers for a change, one of them below its size now and then.
+fn buffers(random: &mut Random) -> Buffers {
+    let mut sizes = SIZES;
+    if random.chance(15) {
+        let place = random.below(SIZES.len());
+        sizes[place] = random.below(SIZES[place]);
+    }
+    Buffers::new(random, sizes)
 }
 
 fn write_roster(random: &mut Random, desk: &Desk, held: &Held) -> u8 {
@@ -212,28 +222,21 @@ fn blocking_pair(desk: &Desk, held: &Held) -> u8 {
     number(&answer)
 }
 
-/// A surveyor joins or leaves; the desk then holds what the change left.
-fn change(random: &mut Random, desk: &mut Desk, held: &Held) -> (Held, u8) {
-    let mut sizes = SIZES;
-    if random.chance(15) {
-        let place = random.below(SIZES.len());
-        sizes[place] = random.below(SIZES[place]);
-    }
-    let change = Change::random(random, held);
-    let answer = change.check_desk(desk, &Buffers::new(random, sizes));
-    (held_by(desk), answer.err().unwrap_or(0))
-}
-
 /// Any bytes may stand in a desk.
 fn damage_desk(random: &mut Random, desk: &mut Desk) {
     let at = random.below(40);
-    match random.below(6) {
+    match random.below(10) {
         0 => desk.roster[at] = random.below(256) as u8,
         1 => desk.roster_len = random.below(60),
         2 => desk.roster_len = usize::MAX - random.below(3),
         3 => desk.plan[at] = random.below(256) as u8,
         4 => desk.plan_len = random.below(60),
-        _ => desk.plan_len = usize::MAX - random.below(3),
+        5 => desk.plan_len = usize::MAX - random.below(3),
+        6 => desk.proposal[at] = random.below(256) as u8,
+        7 => desk.proposal_len = random.below(60),
+        8 => desk.proposal_len = usize::MAX - random.below(3),
+        // what is left of the last proposal
+        _ => desk.proposal_len = 1 + PAIR_FIELD * usize::from(desk.proposal[0]),
     }
 }
 
@@ -244,43 +247,29 @@ fn calls_one_after_another() {
     for _ in 0..60_000 {
         let mut desk = Desk::open();
         let mut held = Held::Nothing;
-        for _ in 0..random.below(20) {
-            let refusal = match random.below(11) {
-                0 => {
-                    let (next, refusal) = load_roster(&mut random, &mut desk, held);
-                    held = next;
-                    refusal
-                }
-                1 | 2 => {
-                    let (next, refusal) = load_plan(&mut random, &mut desk, held);
-                    held = next;
-                    refusal
-                }
-                3 => write_roster(&mut random, &desk, &held),
-                4 => write_plan(&mut random, &desk, &held),
-                5 => judge(&mut random, &desk, &held),
-                6 => compare_two(&mut random, &desk, &held),
-                7 => blocking_pair(&desk, &held),
-                8 => turn_plan(&mut random, &desk, &held),
-                _ => {
-                    let (next, refusal) = change(&mut random, &mut desk, &held);
-                    held = next;
-                    refusal
-                }
+        for _ in 0..random.below(26) {
+            let refusal = match random.below(14) {
+                0 => write_roster(&mut random, &desk, &held),
+                1 => write_plan(&mut random, &desk, &held),
+                2 => judge(&mut random, &desk, &held),
+                3 => compare_two(&mut random, &desk, &held),
+                4 => blocking_pair(&desk, &held),
+                5 => turn_plan(&mut random, &desk, &held),
+                _ => take(&mut random, &mut desk, &held),
             };
             met.count(refusal);
             if random.chance(4) {
                 damage_desk(&mut random, &mut desk);
-                held = held_by(&desk);
             }
+            held = held_by(&desk);
         }
     }
-    met.require(&[0, 1, 2, 10, 11, 12, 13, 14, 15, 16, 18, 19], 100);
+    met.require(&[0, 1, 2, 10, 11, 12, 13, 14, 15, 16, 18, 19, 20], 100);
 }
 
 #[test]
 fn a_new_desk_has_nothing_loaded() {
-    let desk = Desk::open();
+    let mut desk = Desk::open();
     let mut out = [0; planner::ROSTER_BYTES];
     assert_eq!(number(&desk.write_roster(&mut out)), 13);
     assert_eq!(number(&desk.write_plan(&mut out[..1])), 13);
@@ -289,4 +278,6 @@ fn a_new_desk_has_nothing_loaded() {
     assert_eq!(number(&desk.compare(&[0], &[0]).outcome), 13);
     assert_eq!(number(&desk.plan_to_new(&[0], &mut out[..1])), 13);
     assert_eq!(number(&desk.plan_to_old(&[0], &mut out[..1])), 13);
+    assert_eq!(number(&desk.propose(&[0])), 13);
+    assert_eq!(number(&desk.commit()), 13);
 }

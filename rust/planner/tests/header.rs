@@ -12,6 +12,7 @@ mod sequence;
 
 use std::cell::RefCell;
 use std::io::{BufReader, Read, Write};
+use std::mem::offset_of;
 use std::path::{Path, PathBuf};
 use std::process::{Child, ChildStdin, ChildStdout, Command, Stdio};
 use std::rc::Rc;
@@ -145,12 +146,16 @@ fn refusal(number: i64) -> Result<(), u8> {
 }
 
 impl Desk {
-    fn load(self, call: &[u8], file: &[u8]) -> (Desk, Result<(), u8>) {
-        let [number] = {
-            let mut pipe = self.0.borrow_mut();
-            pipe.send(call, &[file]);
-            pipe.numbers()
-        };
+    /// A call that answers by numbers alone, with the files that it is lent.
+    fn numbers<const N: usize>(&self, call: &[u8], files: &[&[u8]]) -> [i64; N] {
+        let mut pipe = self.0.borrow_mut();
+        pipe.send(call, files);
+        pipe.numbers()
+    }
+
+    /// A call that is done or refused.
+    fn done(self, call: &[u8], files: &[&[u8]]) -> (Desk, Result<(), u8>) {
+        let [number] = self.numbers(call, files);
         (self, refusal(number))
     }
 
@@ -197,11 +202,24 @@ impl Desk {
 
 impl Calls for Desk {
     fn load_roster(self, file: &[u8]) -> (Desk, Result<(), u8>) {
-        self.load(b"R", file)
+        self.done(b"R", &[file])
     }
 
     fn load_plan(self, file: &[u8]) -> (Desk, Result<(), u8>) {
-        self.load(b"P", file)
+        self.done(b"P", &[file])
+    }
+
+    fn propose(self, file: &[u8]) -> (Desk, Result<(i16, i16), u8>) {
+        let [number, proposal, held] = self.numbers(b"V", &[file]);
+        if number != 0 {
+            assert_eq!((proposal, held), (0, 0));
+        }
+        let votes = refusal(number).map(|()| (proposal as i16, held as i16));
+        (self, votes)
+    }
+
+    fn commit(self) -> (Desk, Result<(), u8>) {
+        self.done(b"C", &[])
     }
 
     fn write_roster(self, out: &mut [u8]) -> (Desk, Result<usize, u8>) {
@@ -249,11 +267,7 @@ impl Calls for Desk {
     }
 
     fn compare(self, first: &[u8], second: &[u8]) -> (Desk, Compared) {
-        let [number, winner, one, other, file, from, length] = {
-            let mut pipe = self.0.borrow_mut();
-            pipe.send(b"c", &[first, second]);
-            pipe.numbers()
-        };
+        let [number, winner, one, other, file, from, length] = self.numbers(b"c", &[first, second]);
         let winner = match winner {
             0 => Winner::Neither,
             1 => Winner::First,
@@ -274,15 +288,38 @@ impl Calls for Desk {
     }
 
     fn blocking(self) -> (Desk, Result<Option<(u8, u8, u8)>, u8>) {
-        let [number, surveyor, stand, shift] = {
-            let mut pipe = self.0.borrow_mut();
-            pipe.send(b"b", &[]);
-            pipe.numbers()
-        };
+        let [number, surveyor, stand, shift] = self.numbers(b"b", &[]);
         let pair = (surveyor as u8, stand as u8, shift as u8);
         let pair = (pair != (0, 0, 0)).then_some(pair);
         (self, refusal(number).map(|()| pair))
     }
+
+    fn files(&self) -> [Vec<u8>; 3] {
+        let mut pipe = self.0.borrow_mut();
+        pipe.send(b"F", &[]);
+        [(); 3].map(|()| {
+            let [length] = pipe.numbers();
+            let mut file = vec![0; length as usize];
+            pipe.fill(&mut file);
+            file
+        })
+    }
+}
+
+/// A desk of the header is laid out as one of the wrapper.
+fn check_layout(pipe: &mut Pipe) {
+    pipe.send(b"S", &[]);
+    let expected = [
+        size_of::<planner::Desk>(),
+        offset_of!(planner::Desk, roster_len),
+        offset_of!(planner::Desk, roster),
+        offset_of!(planner::Desk, plan_len),
+        offset_of!(planner::Desk, plan),
+        offset_of!(planner::Desk, proposal_len),
+        offset_of!(planner::Desk, proposal),
+    ];
+    println!("size of a desk, and where its fields begin: {expected:?}");
+    assert_eq!(pipe.numbers(), expected.map(|number| number as i64));
 }
 
 /// The calls without a desk: every refusal's group, roster files, and those of
@@ -346,6 +383,7 @@ type Turn = fn(&[u8], &mut [u8]) -> Result<usize, Refusal>;
 
 fn check(program: &Path, sequences: usize, least: usize) {
     let pipe = Rc::new(RefCell::new(Pipe::start(program)));
+    check_layout(&mut pipe.borrow_mut());
     check_files(&mut pipe.borrow_mut(), sequences);
     let open = || {
         pipe.borrow_mut().send(b"O", &[]);

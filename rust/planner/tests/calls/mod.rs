@@ -9,6 +9,8 @@ use planner::{Refusal, Step, Verdict};
 use reference::compare::{File, Part, Winner};
 use reference::desk::{Found, Judged, Lent, NoneKind, Record};
 
+use crate::common::files;
+
 pub struct Desk(pub planner::Desk);
 
 /// Both votes and who wins, and the part that is handed back.
@@ -97,6 +99,8 @@ fn place(part: &[u8], first: &[u8], second: &[u8]) -> Part {
 pub trait Calls: Sized {
     fn load_roster(self, file: &[u8]) -> (Self, Result<(), u8>);
     fn load_plan(self, file: &[u8]) -> (Self, Result<(), u8>);
+    fn propose(self, file: &[u8]) -> (Self, Result<(i16, i16), u8>);
+    fn commit(self) -> (Self, Result<(), u8>);
     fn write_roster(self, out: &mut [u8]) -> (Self, Result<usize, u8>);
     fn write_plan(self, out: &mut [u8]) -> (Self, Result<usize, u8>);
     fn plan_to_new(self, file: &[u8], out: &mut [u8]) -> (Self, Result<usize, u8>);
@@ -107,6 +111,9 @@ pub trait Calls: Sized {
     fn judge(self, rival: &mut [u8]) -> (Self, Result<Judged, u8>);
     fn compare(self, first: &[u8], second: &[u8]) -> (Self, Compared);
     fn blocking(self) -> (Self, Result<Option<(u8, u8, u8)>, u8>);
+
+    /// The desk's own files, at the front of their arrays: roster, plan, proposal.
+    fn files(&self) -> [Vec<u8>; 3];
 }
 
 impl Desk {
@@ -123,6 +130,17 @@ impl Calls for Desk {
 
     fn load_plan(mut self, file: &[u8]) -> (Desk, Result<(), u8>) {
         let answer = self.0.load_plan(file).map_err(number);
+        (self, answer)
+    }
+
+    fn propose(mut self, file: &[u8]) -> (Desk, Result<(i16, i16), u8>) {
+        let answer = self.0.propose(file);
+        let votes = answer.map(|votes| (votes.proposal, votes.held));
+        (self, votes.map_err(number))
+    }
+
+    fn commit(mut self) -> (Desk, Result<(), u8>) {
+        let answer = self.0.commit().map_err(number);
         (self, answer)
     }
 
@@ -184,5 +202,9 @@ impl Calls for Desk {
     fn blocking(self) -> (Desk, Result<Option<(u8, u8, u8)>, u8>) {
         let answer = self.0.blocking().map_err(number);
         (self, answer)
+    }
+
+    fn files(&self) -> [Vec<u8>; 3] {
+        files(&self.0).map(<[u8]>::to_vec)
     }
 }

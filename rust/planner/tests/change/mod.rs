@@ -7,13 +7,12 @@
 
 use reference::changes;
 use reference::desk::{Desk as Held, Found, Lent};
-use reference::plan;
 use reference::random::{stand_list, Random};
 use reference::refusal::Refusal;
 use reference::roster::{self, narrow, Roster, Side};
 
 use crate::calls::{self, Calls};
-use crate::common::{damage, desk_with, front, held_by};
+use crate::common::{damage, desk_with, files, files_of, held_by};
 use crate::found::same_found;
 use crate::lent::Buffers;
 
@@ -96,7 +95,7 @@ impl Change {
         let changed = self.check(calls::Desk(desk.clone()), held, before);
         let calls::Desk(after) = changed.ours;
         match changed.answer {
-            Ok(_) => check_stored(&after, &changed.theirs),
+            Ok(_) => self.check_stored(desk, &after, &changed.theirs),
             Err(_) => assert!(after == *desk, "{self:?}"),
         }
         *desk = after;
@@ -112,7 +111,7 @@ impl Change {
         let file = roster::write(&roster);
         let [mut own, mut fresh] = [before.clone(), before.clone()];
         let (calls::Desk(after), answer) = self.on(calls::Desk(desk.clone()), own.lend());
-        check_stored(&after, &held.with_roster(roster));
+        self.check_stored(desk, &after, &held.with_roster(roster));
         let loaded = desk_with(&file).expect("accepted");
         let (_, found) = calls::Desk(loaded).find(fresh.lend());
         assert_eq!((answer, own), (found, fresh), "{self:?}");
@@ -128,6 +127,31 @@ impl Change {
         };
         changed.expect("accepted")
     }
+
+    /// Whether the files in a desk are those of what is held. Where no plan is held
+    /// there is not a byte of one, so that none comes to be one by a later change;
+    /// of a proposal there is none either, or its bytes are as they were.
+    fn check_stored(&self, before: &planner::Desk, after: &planner::Desk, held: &Held) {
+        assert_eq!(held_by(after), *held, "{self:?}");
+        let [roster, plan, _] = files_of(held);
+        let [.., proposal] = files(before);
+        let before = held_by(before);
+        let closes = self.closes(before.roster().expect("a roster"));
+        let proposal = if closes { &[] } else { proposal };
+        assert_eq!(files(after), [&roster, &plan, proposal], "{self:?}");
+    }
+
+    /// Whether a change that is taken closes a proposal: a join does, and a leave of
+    /// somebody who has a quota or a pair.
+    fn closes(&self, roster: &Roster) -> bool {
+        match self {
+            Change::Join(..) => true,
+            Change::Leave(number) => {
+                let leaver = &roster.nodes(Side::Surveyors)[usize::from(*number) - 1];
+                leaver.quota > 0 || leaver.list.length() > 0
+            }
+        }
+    }
 }
 
 /// How many nodes of a side are held.
@@ -141,16 +165,4 @@ pub struct Changed<D> {
     pub ours: D,
     pub theirs: Held,
     pub answer: Result<Found, u8>,
-}
-
-/// Whether the files in a desk are those of what is held. Where no plan is held
-/// there is not a byte of one, so that none comes to be one by a later change.
-fn check_stored(desk: &planner::Desk, held: &Held) {
-    let roster = held.roster().expect("a roster");
-    assert_eq!(front(&desk.roster, desk.roster_len), roster::write(roster));
-    let plan = match held.roster_and_plan() {
-        Ok((roster, plan)) => plan::write(roster, plan),
-        Err(_) => Vec::new(),
-    };
-    assert_eq!(front(&desk.plan, desk.plan_len), plan);
 }

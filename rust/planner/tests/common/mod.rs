@@ -11,13 +11,22 @@ use planner::{Desk, Refusal};
 use reference::desk::Desk as Held;
 use reference::layout::Layout;
 use reference::limits::{ENTRY_FIELD, MAX_SHIFT, PAIR_FIELD};
-use reference::plan;
+use reference::plan::{self, Plan};
 use reference::random::{self, Random, Shape};
 use reference::roster::{self, Roster};
 
 /// How many numbers an answer can be counted under: 0 for accepted, and every
 /// refusal's.
-pub const NUMBERS: usize = 20;
+pub const NUMBERS: usize = 21;
+
+/// Two surveyors rank one stand, which ranks 1 before 2; and the stand with
+/// quota 2, which ties them.
+pub const RANKED: [u8; 21] = [
+    2, 1, 1, 1, 1, 2, 0, 1, 1, 1, 1, 1, 1, 2, 0, 2, 0, 1, 1, 2, 1,
+];
+pub const TIED: [u8; 21] = [
+    2, 1, 1, 1, 2, 2, 0, 1, 1, 1, 1, 1, 1, 2, 0, 0, 2, 1, 1, 2, 1,
+];
 
 /// P7 twice side by side: two stands of quota 2 rank four surveyors each.
 pub const P7_TWICE: &[u8] = &[
@@ -71,11 +80,12 @@ pub fn number<T>(answer: &Result<T, Refusal>) -> u8 {
     answer.as_ref().err().map_or(0, |refusal| refusal.number)
 }
 
-/// Whether two refusals have the same number and the same group.
+/// Whether two refusals have the same number, the same group and the same words.
 pub fn same_refusal(ours: Refusal, theirs: reference::refusal::Refusal) {
     use planner::Group as Ours;
     use reference::refusal::Group as Theirs;
     assert_eq!(ours.number, theirs.number());
+    assert_eq!(ours.to_string(), theirs.to_string());
     assert!(matches!(
         (ours.group, theirs.group()),
         (Ours::Form, Theirs::Form)
@@ -99,16 +109,58 @@ pub fn desk_with_plan(roster: &[u8], plan: &[u8]) -> Result<Desk, Refusal> {
     Ok(desk)
 }
 
-/// What the bytes of a desk are read to. A length above its array is the whole
-/// array.
+/// What the bytes of a desk are read to.
 pub fn held_by(desk: &Desk) -> Held {
-    let Ok(roster) = roster::read(front(&desk.roster, desk.roster_len)) else {
+    let [roster, plan, proposal] = files(desk);
+    let Ok(roster) = roster::read(roster) else {
         return Held::Nothing;
     };
-    match plan::read(&roster, front(&desk.plan, desk.plan_len)) {
-        Ok(plan) => Held::RosterAndPlan(roster, plan),
-        Err(_) => Held::Roster(roster),
+    let Ok(held) = plan::read(&roster, plan) else {
+        return Held::Roster(roster);
+    };
+    match plan::read(&roster, proposal) {
+        Ok(proposal) => Held::WithProposal {
+            roster,
+            held,
+            proposal,
+        },
+        Err(_) => Held::RosterAndPlan(roster, held),
     }
+}
+
+/// The files of what is held, as a desk has them: roster, plan, proposal; no bytes
+/// where there is none.
+pub fn files_of(held: &Held) -> [Vec<u8>; 3] {
+    let Ok(roster) = held.roster() else {
+        return Default::default();
+    };
+    let plan = held.roster_and_plan().ok().map(|(_, plan)| plan);
+    let file = |plan: &Plan| plan::write(roster, plan);
+    let [plan, proposal] = [plan, held.proposal().ok()].map(|plan| plan.map(file));
+    [
+        roster::write(roster),
+        plan.unwrap_or_default(),
+        proposal.unwrap_or_default(),
+    ]
+}
+
+/// A desk's own files: roster, plan, proposal. A length above its array is the
+/// whole array.
+pub fn files(desk: &Desk) -> [&[u8]; 3] {
+    [
+        front(&desk.roster, desk.roster_len),
+        front(&desk.plan, desk.plan_len),
+        front(&desk.proposal, desk.proposal_len),
+    ]
+}
+
+/// The plan that a desk holds, through the call that writes it.
+pub fn plan_of(desk: &Desk) -> Result<Vec<u8>, u8> {
+    let mut out = [0; planner::PLAN_BYTES];
+    let length = desk
+        .write_plan(&mut out)
+        .map_err(|refusal| refusal.number)?;
+    Ok(out[..length].to_vec())
 }
 
 /// The file at the front of an array.

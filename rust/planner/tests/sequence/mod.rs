@@ -1,22 +1,27 @@
 //! Random sequences of desk calls, on a desk under test and on the reference
-//! desk: the same answers, the same bytes in every lent buffer, the same held
-//! after each call. Of a rival only what document 01 settles is asked.
+//! desk: the same answers, the same bytes in every lent buffer, and after each
+//! call the same held, to the byte of the desk's own files. The held plan is also
+//! what the calls and their answers tell by themselves, with no desk at all. Of a
+//! rival only what document 01 settles is asked.
 
 use crate::calls::Calls;
 use crate::change::Change;
-use crate::common::{damage, junk, BEAT_EACH_OTHER, NUMBERS, P7_TWICE};
+use crate::common::{damage, files_of, junk, BEAT_EACH_OTHER, NUMBERS, P7_TWICE};
 use crate::found::{check_rival, same_found};
 use crate::lent::{Buffers, SIZES};
 use reference::desk::{Desk as Held, Judged};
+use reference::history::{pairs, Event, History};
 use reference::layout::Layout;
-use reference::limits::{MAX_PLAN_BYTES, MAX_ROSTER_BYTES};
+use reference::limits::{
+    MAX_PLAN_BYTES, MAX_ROSTER_BYTES, NARROW_FIELD, OLD_PAIR_FIELD, PAIR_FIELD,
+};
 use reference::plan;
 use reference::random::{self, Random, Shape};
 use reference::refusal::Refusal;
 use reference::roster;
 
 /// The calls, as rows of the tally.
-const CALLS: [&str; 12] = [
+const CALLS: [&str; 14] = [
     "load roster",
     "load plan",
     "write roster",
@@ -29,14 +34,20 @@ const CALLS: [&str; 12] = [
     "leave",
     "plan to new",
     "plan to old",
+    "propose",
+    "commit",
 ];
 
-/// How often each call answered and was refused by each number, 0 for none; and
-/// how often a comparison answered first, second, both, neither.
+/// How often each call answered and was refused by each number, 0 for none; how
+/// often a comparison answered first, second, both, neither; and how often each
+/// call found a proposal open and was refused, left it open, closed it.
 #[derive(Default)]
 struct Tally {
     calls: [[usize; NUMBERS]; CALLS.len()],
     winners: [usize; 4],
+    open: [[usize; 3]; CALLS.len()],
+    /// The last call and its refusal's number.
+    last: (usize, u8),
 }
 
 impl Tally {
@@ -50,6 +61,16 @@ impl Tally {
 
     fn count(&mut self, call: usize, number: u8) {
         self.calls[call][usize::from(number)] += 1;
+        self.last = (call, number);
+    }
+
+    /// Counts what the last call did, which found a proposal open.
+    fn count_open(&mut self, stays: bool) {
+        let fate = match self.last {
+            (call, 0) => &mut self.open[call][if stays { 1 } else { 2 }],
+            (call, _) => &mut self.open[call][0],
+        };
+        *fate += 1;
     }
 
     /// Whether the two sides wrote the same, each to its own buffer; counts it.
@@ -120,9 +141,16 @@ impl Pool {
         let mut damaged = pool.rosters[0].clone();
         damage(random, &mut damaged);
         pool.rosters.push(damaged);
-        for plans in [&mut pool.plans, &mut pool.old_plans] {
+        for (plans, pair) in [
+            (&mut pool.plans, PAIR_FIELD),
+            (&mut pool.old_plans, OLD_PAIR_FIELD),
+        ] {
             let mut damaged = plans[random.below(6)].clone();
-            damage(random, &mut damaged);
+            match damaged.get_mut(NARROW_FIELD..NARROW_FIELD + 2 * pair) {
+                // rare among damages
+                Some(two) if random.chance(20) => two.rotate_left(pair),
+                _ => damage(random, &mut damaged),
+            }
             plans.push(damaged);
         }
         pool
@@ -134,6 +162,11 @@ impl Pool {
 
     fn plan(&self, random: &mut Random) -> &[u8] {
         &self.plans[random.below(self.plans.len())]
+    }
+
+    /// A plan of the first roster.
+    fn first_plan(&self, random: &mut Random) -> &[u8] {
+        &self.plans[random.below(3)]
     }
 
     fn old_plan(&self, random: &mut Random) -> &[u8] {
@@ -151,25 +184,64 @@ fn size(random: &mut Random, needed: usize) -> usize {
     }
 }
 
-/// The two desks side by side.
+/// The two desks side by side, and what the calls on ours and its answers tell.
 struct Desks<D> {
     ours: D,
     theirs: Held,
+    history: History,
 }
 
 impl<D: Calls> Desks<D> {
-    fn load_roster(self, tally: &mut Tally, file: &[u8]) -> Desks<D> {
+    fn load_roster(mut self, tally: &mut Tally, file: &[u8]) -> Desks<D> {
         let (ours, answer) = self.ours.load_roster(file);
         let (theirs, expected) = self.theirs.load_roster(file);
         tally.refusals(0, &answer, &expected);
-        Desks { ours, theirs }
+        self.history.tell(&answer, || Event::LoadRoster);
+        Desks {
+            ours,
+            theirs,
+            ..self
+        }
     }
 
-    fn load_plan(self, tally: &mut Tally, file: &[u8]) -> Desks<D> {
+    fn load_plan(mut self, tally: &mut Tally, file: &[u8]) -> Desks<D> {
         let (ours, answer) = self.ours.load_plan(file);
         let (theirs, expected) = self.theirs.load_plan(file);
         tally.refusals(1, &answer, &expected);
-        Desks { ours, theirs }
+        self.history.tell(&answer, || Event::LoadPlan(pairs(file)));
+        Desks {
+            ours,
+            theirs,
+            ..self
+        }
+    }
+
+    fn propose(mut self, tally: &mut Tally, file: &[u8]) -> Desks<D> {
+        let (ours, answer) = self.ours.propose(file);
+        let (theirs, expected) = self.theirs.propose(file);
+        tally.refusals(12, &answer, &expected);
+        let votes = expected
+            .ok()
+            .map(|votes| (votes.first_against_second, votes.second_against_first));
+        assert_eq!(answer.ok(), votes);
+        self.history.tell(&answer, || Event::Propose(pairs(file)));
+        Desks {
+            ours,
+            theirs,
+            ..self
+        }
+    }
+
+    fn commit(mut self, tally: &mut Tally) -> Desks<D> {
+        let (ours, answer) = self.ours.commit();
+        let (theirs, expected) = self.theirs.commit();
+        tally.refusals(13, &answer, &expected);
+        self.history.tell(&answer, || Event::Commit);
+        Desks {
+            ours,
+            theirs,
+            ..self
+        }
     }
 
     fn write_roster(self, tally: &mut Tally, before: &[u8]) -> Desks<D> {
@@ -177,15 +249,28 @@ impl<D: Calls> Desks<D> {
         let (ours, answer) = self.ours.write_roster(&mut own);
         let (theirs, expected) = self.theirs.write_roster(&mut other);
         tally.written(2, (answer, own), (expected, other));
-        Desks { ours, theirs }
+        Desks {
+            ours,
+            theirs,
+            ..self
+        }
     }
 
     fn write_plan(self, tally: &mut Tally, before: &[u8]) -> Desks<D> {
         let [mut own, mut other] = [before.to_vec(), before.to_vec()];
         let (ours, answer) = self.ours.write_plan(&mut own);
         let (theirs, expected) = self.theirs.write_plan(&mut other);
+        match answer {
+            Ok(length) => assert_eq!(self.history.plan(), Some(pairs(&own[..length]))),
+            Err(15) => {}
+            Err(_) => assert_eq!(self.history.plan(), None),
+        }
         tally.written(3, (answer, own), (expected, other));
-        Desks { ours, theirs }
+        Desks {
+            ours,
+            theirs,
+            ..self
+        }
     }
 
     fn plan_to_new(self, tally: &mut Tally, file: &[u8], before: &[u8]) -> Desks<D> {
@@ -193,7 +278,11 @@ impl<D: Calls> Desks<D> {
         let (ours, answer) = self.ours.plan_to_new(file, &mut own);
         let (theirs, expected) = self.theirs.plan_to_new(file, &mut other);
         tally.written(10, (answer, own), (expected, other));
-        Desks { ours, theirs }
+        Desks {
+            ours,
+            theirs,
+            ..self
+        }
     }
 
     fn plan_to_old(self, tally: &mut Tally, file: &[u8], before: &[u8]) -> Desks<D> {
@@ -201,7 +290,11 @@ impl<D: Calls> Desks<D> {
         let (ours, answer) = self.ours.plan_to_old(file, &mut own);
         let (theirs, expected) = self.theirs.plan_to_old(file, &mut other);
         tally.written(11, (answer, own), (expected, other));
-        Desks { ours, theirs }
+        Desks {
+            ours,
+            theirs,
+            ..self
+        }
     }
 
     fn find(self, tally: &mut Tally, before: &Buffers) -> Desks<D> {
@@ -216,7 +309,11 @@ impl<D: Calls> Desks<D> {
             }
             _ => assert_eq!(own, *before),
         }
-        Desks { ours, theirs }
+        Desks {
+            ours,
+            theirs,
+            ..self
+        }
     }
 
     fn judge(self, tally: &mut Tally, before: &[u8]) -> Desks<D> {
@@ -229,13 +326,21 @@ impl<D: Calls> Desks<D> {
             (Ok(Judged::Beaten(vote)), Ok(Judged::Beaten(_))) => vote,
             (Ok(Judged::Strong), Ok(Judged::Strong)) | (Err(_), _) => {
                 assert_eq!(own, before);
-                return Desks { ours, theirs };
+                return Desks {
+                    ours,
+                    theirs,
+                    ..self
+                };
             }
             _ => panic!("{answer:?}, but {expected:?}"),
         };
         let (roster, plan) = theirs.roster_and_plan().expect("roster and plan");
         check_rival(roster, plan, before, &own, vote);
-        Desks { ours, theirs }
+        Desks {
+            ours,
+            theirs,
+            ..self
+        }
     }
 
     fn compare(self, tally: &mut Tally, first: &[u8], second: &[u8]) -> Desks<D> {
@@ -248,7 +353,11 @@ impl<D: Calls> Desks<D> {
             (first, second, votes.winner())
         });
         assert_eq!((answer.ok(), part), (votes, expected.part));
-        Desks { ours, theirs }
+        Desks {
+            ours,
+            theirs,
+            ..self
+        }
     }
 
     fn blocking(self, tally: &mut Tally) -> Desks<D> {
@@ -261,26 +370,56 @@ impl<D: Calls> Desks<D> {
                 first.map(|pair| (pair.surveyor, pair.stand, pair.shift))
             );
         }
-        Desks { ours, theirs }
+        Desks {
+            ours,
+            theirs,
+            ..self
+        }
     }
 
     /// A surveyor joins or leaves.
-    fn change(self, tally: &mut Tally, change: &Change, before: &Buffers) -> Desks<D> {
+    fn change(mut self, tally: &mut Tally, change: &Change, before: &Buffers) -> Desks<D> {
         let changed = change.check(self.ours, self.theirs, before);
         let call = match change {
             Change::Join(..) => 8,
-            Change::Leave(_) => 9,
+            Change::Leave(number) => {
+                let event = || Event::Leave(*number);
+                self.history.tell(&changed.answer, event);
+                9
+            }
         };
         tally.count(call, changed.answer.err().unwrap_or(0));
         Desks {
             ours: changed.ours,
             theirs: changed.theirs,
+            ..self
         }
+    }
+
+    /// Whether the files in the desk under test are those of what is held, and its
+    /// plan is the one that is told.
+    fn check(&self) {
+        let files = self.ours.files();
+        assert_eq!(files, files_of(&self.theirs));
+        let [_, plan, _] = &files;
+        let held = (!plan.is_empty()).then(|| pairs(plan));
+        assert_eq!(self.history.plan(), held);
+    }
+
+    /// A random call, and what it leaves.
+    fn step(self, random: &mut Random, tally: &mut Tally, pool: &Pool) -> Desks<D> {
+        let open = self.theirs.proposal().is_ok();
+        let after = self.call(random, tally, pool);
+        after.check();
+        if open {
+            tally.count_open(after.theirs.proposal().is_ok());
+        }
+        after
     }
 
     /// A random call.
     fn call(self, random: &mut Random, tally: &mut Tally, pool: &Pool) -> Desks<D> {
-        match random.below(20) {
+        match random.below(25) {
             0 | 1 => self.load_roster(tally, pool.roster(random)),
             2..=4 => self.load_plan(tally, pool.plan(random)),
             5 => {
@@ -306,6 +445,8 @@ impl<D: Calls> Desks<D> {
                 let size = size(random, MAX_PLAN_BYTES);
                 self.plan_to_old(tally, pool.plan(random), &junk(random, size))
             }
+            16..=18 => self.propose(tally, pool.plan(random)),
+            19 | 20 => self.commit(tally),
             _ => {
                 let change = Change::random(random, &self.theirs);
                 self.change(tally, &change, &buffers(random))
@@ -335,12 +476,16 @@ pub fn run<D: Calls>(mut open: impl FnMut() -> D, seed: u64, sequences: usize, l
         let mut desks = Desks {
             ours: open(),
             theirs: Held::default(),
+            history: History::default(),
         };
         if random.chance(80) {
             desks = desks.load_roster(&mut tally, &pool.rosters[0]);
+            if random.chance(50) {
+                desks = desks.load_plan(&mut tally, pool.first_plan(&mut random));
+            }
         }
-        for _ in 0..4 + random.below(10) {
-            desks = desks.call(&mut random, &mut tally, &pool);
+        for _ in 0..5 + random.below(13) {
+            desks = desks.step(&mut random, &mut tally, &pool);
         }
         // what is held at the end
         desks = desks.write_roster(&mut tally, &full[0]);
@@ -350,6 +495,9 @@ pub fn run<D: Calls>(mut open: impl FnMut() -> D, seed: u64, sequences: usize, l
         println!("{call}: answered and refused {counts:?}");
     }
     println!("first, second, both, neither: {:?}", tally.winners);
+    for (call, fates) in CALLS.iter().zip(&tally.open) {
+        println!("{call}, a proposal open: refused, left open, closed {fates:?}");
+    }
     let plan_refusals = [0, 1, 2, 9, 10, 11, 12, 13];
     let turned = [&plan_refusals[..], &[15]].concat();
     let expected: [&[usize]; CALLS.len()] = [
@@ -365,6 +513,8 @@ pub fn run<D: Calls>(mut open: impl FnMut() -> D, seed: u64, sequences: usize, l
         &[0, 13, 15, 16],
         &turned,
         &[&turned[..], &[19]].concat(),
+        &[&plan_refusals[..], &[14]].concat(),
+        &[0, 13, 14, 20],
     ];
     for (call, numbers) in expected.iter().enumerate() {
         for &number in *numbers {
@@ -377,4 +527,23 @@ pub fn run<D: Calls>(mut open: impl FnMut() -> D, seed: u64, sequences: usize, l
         }
     }
     assert!(tally.winners.iter().all(|&count| count >= least));
+    check_open(&tally, least);
+}
+
+/// Every call that can be refused, or leave a proposal open, or close it, does so
+/// often enough, and no other does so at all.
+fn check_open(tally: &Tally, least: usize) {
+    for (call, counts) in CALLS.iter().zip(&tally.open) {
+        let expected = match *call {
+            "load roster" | "load plan" | "join" => [true, false, true],
+            "leave" => [true, true, true],
+            "blocking" => [false, true, false],
+            "commit" => [false, false, true],
+            _ => [true, true, false],
+        };
+        for (&count, expected) in counts.iter().zip(expected) {
+            assert_eq!(count >= least, expected, "{call}: {counts:?}");
+            assert!(expected || count == 0, "{call}: {counts:?}");
+        }
+    }
 }
