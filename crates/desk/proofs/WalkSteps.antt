@@ -1,5 +1,5 @@
 -- Steps of a walk by hand, beside the kit's (`types.Run`): a function's locals, a call that comes back, a slice that is lent on, a callee's words on what
--- three buffers hold last, a local that dies at the return; and what a walk owes for four lent slices. A number that a step is told is, as in the kit, a
+-- three or four buffers hold last, a local that dies at the return; and what a walk owes for four lent slices. A number that a step is told is, as in the kit, a
 -- place in the context; the equations say what stands there and in which local, and `refl` shows each. Assumes nothing.
 use mathlib.Core.Path.{_≡_, refl, sym, subst}
 use Prim.Native.Nat.{ℕ, _<_, _^_}
@@ -141,6 +141,13 @@ module _ {M : Type 1} {𝓤 : URA M} {H : Heap 𝓤} {A : Atoms 𝓤} {K : Type 
         (assoc′ 𝓤 (H .room τ b 0) (H .dies τ b) (⋆ 𝓤 H A (del 𝓤 H A n (del 𝓤 H A n Γ))))
         (monoR 𝓤 (sep 𝓤 (H .room τ b 0) (H .dies τ b)) (s .prf))));
   })
+
+module _ {M : Type 1} {𝓤 : URA M} {H : Heap 𝓤} {A : Atoms 𝓤} {K : Type 0} {W : Given 𝓤 H A} {Γ : List (Item 𝓤)} where
+  -- The same of four buffers.
+  pub last-four : K → {G : Goal 𝓤 H} {F₀ F₁ F₂ F₃ : Fml} {a b c d e f g h : ℕ}
+      → (a ≡ b → c ≡ d → e ≡ f → g ≡ h → Seq K W (‵ F₀ ∷ ‵ F₁ ∷ ‵ F₂ ∷ ‵ F₃ ∷ Γ) G)
+      → Seq K W (‵ (fsep (fsep F₀ (feq ℕ a b)) (fsep (fsep F₁ (feq ℕ c d)) (fsep (fsep F₂ (feq ℕ e f)) (fsep (fsep F₃ (feq ℕ g h)) ftrue)))) ∷ Γ) G
+  last-four t k = fsplit t $ fsplit t $ move t (1 ∷ []) $ feqL t (λ w. move t (1 ∷ []) $ last-lists t (λ x y z. move t (3 ∷ []) $ k w x y z))
 
 -- ---- the last four parameters of a call are lent slices, at the lifetimes h, i, j, k of n, and are given up for good
 module _ (n : ℕ) (R : RattleType) (h i j k : ℕ) (oh : AllWithin n (h ∷ [])) (oi : AllWithin n (i ∷ [])) (oj : AllWithin n (j ∷ []))
