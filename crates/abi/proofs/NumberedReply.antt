@@ -10,10 +10,12 @@ use mir.Val.{Val}
 use base.Logic.{SProp, ent}
 use base.Fml.{fat, froom}
 use prog.Memory.{Memory}
-use prog.Routine.{Routine}
+use prog.Model.{Model}
+use prog.Routine.{Routine, Env as Meanings}
 use prog.Wp.{Heap, Env, Calls, Loops, spotOf}
 use ghost.Atoms.{Atoms, sem}
 use contract.Monad.{Fun}
+use contract.Running.{GhostRules, Running, tables}
 use sound.WpLaws.{FmC}
 use types.Kit.{Given, Item, ‵, raw, nth, put, prop, frees, atRet, lands, Seq, _$_, _∵_, !, qed, move, drop, use1, join, fjoin, frame, done}
 use types.Run.{look, init, stop, load, and-then, no-more, land}
@@ -22,6 +24,7 @@ use denote.Steps.{nothing, peeks, heard}
 use denote.Struct.Laws as LL
 use denote.Triple.Spec.{tripleOf}
 use denote.Triple.Statement.{Contract, Triple}
+use denote.Triple.Table.{cited}
 use Rattle.desk.specs.declared.FindReply.{FindReply}
 use Rattle.desk.proofs.FindReply as F
 use Rattle.desk.proofs.FindReply.Laws as F′
@@ -31,11 +34,18 @@ use Rattle.abi.specs.Finds.{numbersOf}
 use Rattle.abi.proofs.finds.DeskFound as N
 use Rattle.abi.proofs.finds.DeskFound.Laws as N′
 use Rattle.abi.proofs.finds.numbers_of as numbers-of
+use Rattle.abi.proofs.finds.numbers_of.Symbol as numbers-def
 use Rattle.abi.proofs.finds.numbers_of.Symbol.{name as #numbers-of}
+use Rattle.abi.proofs.finds.numbers_of.Met as numbers-thm
 
 module _ {M : Type 1} (𝓤 : URA M) (H : Heap 𝓤) (A : Atoms 𝓤) (at-mem : Memory → SProp 𝓤) (run : Routine → Fun 𝓤) where
   abbrev pub NumbersOf : Contract 𝓤
   NumbersOf = tripleOf 𝓤 H A numbers-of.signature (numbers-of.spec 𝓤 H A at-mem run)
+
+pub numbers-met : {M : Type 1} (𝓤 : URA M) (H : Heap 𝓤) (𝓜 : Model 𝓤 H) (𝓖 : GhostRules 𝓤 H) (𝓡 : Running 𝓤 H 𝓜) (γ : Meanings)
+    → γ #numbers-of ≡ numbers-def.routine → Triple 𝓤 (tables 𝓤 H 𝓜 𝓡 γ .C #numbers-of) (NumbersOf 𝓤 H (𝓖 .A) (𝓜 .mem) (𝓡 .run))
+numbers-met 𝓤 H 𝓜 𝓖 𝓡 γ means =
+    cited 𝓤 H (NumbersOf 𝓤 H (𝓖 .A) (𝓜 .mem) (𝓡 .run)) 𝓜 𝓡 γ #numbers-of numbers-def.routine means (numbers-thm.met 𝓤 H 𝓜 𝓖 𝓡)
 
 module _ {M : Type 1} (𝓤 : URA M) (H : Heap 𝓤) (A : Atoms 𝓤) (W : Given 𝓤 H A) (at-mem : Memory → SProp 𝓤) (run : Routine → Fun 𝓤) (r : FindReply)
     (w : Val) where

@@ -12,10 +12,12 @@ use mir.Val.{hasTy, WT, Val, vint}
 use base.Logic.{SProp, ent, id⊢}
 use base.Fml.{Lft, Share, Fml, ftrue, fsep, fat, froom, flft}
 use prog.Memory.{Memory}
-use prog.Routine.{Routine}
+use prog.Model.{Model}
+use prog.Routine.{Routine, Env as Meanings}
 use prog.Wp.{Heap, Env, Calls, Loops, spotOf}
 use ghost.Atoms.{Atoms}
 use contract.Monad.{Fun}
+use contract.Running.{GhostRules, Running, tables}
 use sound.WpLaws.{FmC}
 use types.Kit.{Given, Item, ‵, raw, _⊛_, ⋆, nth, put, prop, runs, frees, atRet, Seq, _$_, _∵_, !, qed, move, drop, use1, use2, feqL, join, fsplit, fjoin}
 use types.Kit.{Post, lands, rewrite, frame, done}
@@ -31,14 +33,20 @@ use denote.Steps.{nothing, owned, only, peeks, heard}
 use denote.Struct.Laws as LL
 use denote.Triple.Spec.{tripleOf}
 use denote.Triple.Statement.{Contract, Triple}
+use denote.Triple.Table.{cited}
 use denote.Triple.Walked.{says}
 use Rattle.model.specs.Desk.{onto}
 use Rattle.diary.specs.declared.Step.{Step}
 use Rattle.diary.specs.LentSteps.{stepsIn}
 use Rattle.diary.proofs.Step as T
 use Rattle.diary.proofs.fill as fill
+use Rattle.diary.proofs.fill.Symbol as fill-def
 use Rattle.diary.proofs.fill.Symbol.{name as #diary·fill}
+use Rattle.diary.proofs.fill.Met as fill-thm
+use Rattle.desk.specs.declared.Desk.{Desk}
 use Rattle.desk.specs.declared.CoreReply.{CoreReply}
+use Rattle.desk.proofs.Desk as D
+use Rattle.desk.proofs.Desk.Laws as D′
 use Rattle.desk.proofs.CoreReply as C
 use Rattle.desk.proofs.CoreReply.Laws as C′
 use Rattle.desk.proofs.FindReply as F
@@ -81,6 +89,13 @@ module _ {M : Type 1} {𝓤 : URA M} {H : Heap 𝓤} {A : Atoms 𝓤} {K : Type 
       land t (within t in-i (stop t)) (init t n at-n (LL.lawful C.the-type C′.the-laws 𝓤 H A W .typed c _ is .0)) $
       rewrite t n (λ (u : Val). ‵ (fat fullShare C′.mir b 0 u)) (ap only (LL.tells C.the-type C′.the-laws c (v ∷ []) is)) then-n $ k is)
 
+-- ---- the desk: its machine value, and what it owns
+abbrev pub desk-val : Desk → Val
+desk-val d = LL.val D.the-type D′.the-laws d
+
+abbrev pub InDesk : Desk → Fml
+InDesk d = D.the-row .own d (desk-val d ∷ [])
+
 -- ---- the diary and the three buffers: what each owns (whatever its lifetime is called), and what all hold last
 abbrev pub Diary : Lft → RefT (List Step) → Fml
 Diary κ S = MutSlice (named 0) κ T.the-row .own S (lent S ∷ [])
@@ -102,6 +117,11 @@ module _ {M : Type 1} {𝓤 : URA M} where
 module _ {M : Type 1} (𝓤 : URA M) (H : Heap 𝓤) (A : Atoms 𝓤) (at-mem : Memory → SProp 𝓤) (run : Routine → Fun 𝓤) where
   abbrev pub Fill : Contract 𝓤
   Fill = tripleOf 𝓤 H A fill.signature (fill.spec 𝓤 H A at-mem run)
+
+pub fill-met : {M : Type 1} (𝓤 : URA M) (H : Heap 𝓤) (𝓜 : Model 𝓤 H) (𝓖 : GhostRules 𝓤 H) (𝓡 : Running 𝓤 H 𝓜) (γ : Meanings)
+    → γ #diary·fill ≡ fill-def.routine → Triple 𝓤 (tables 𝓤 H 𝓜 𝓡 γ .C #diary·fill) (Fill 𝓤 H (𝓖 .A) (𝓜 .mem) (𝓡 .run))
+fill-met 𝓤 H 𝓜 𝓖 𝓡 γ means =
+    cited 𝓤 H (Fill 𝓤 H (𝓖 .A) (𝓜 .mem) (𝓡 .run)) 𝓜 𝓡 γ #diary·fill fill-def.routine means (fill-thm.met 𝓤 H 𝓜 𝓖 𝓡)
 
 module _ {M : Type 1} (𝓤 : URA M) (H : Heap 𝓤) (A : Atoms 𝓤) (W : Given 𝓤 H A) (at-mem : Memory → SProp 𝓤) (run : Routine → Fun 𝓤) (κ : Lft) (q : Share)
     (S : RefT (List Step)) (c : CoreReply) where
