@@ -23,17 +23,20 @@ use types.Kit.{Given, Item, ‵, raw, _⊛_, ⋆, nth, put, prop, runs, frees, a
 use types.Kit.{Post, lands, rewrite, frame, done}
 use types.Part.{whole, sub}
 use types.Run.{look, init, stop, fld, load, of-opd, and-then, no-more, assigns, land}
+use denote.Exit.{yes}
 use denote.Laws.{Is, shows}
-use denote.Plain.{uint-vals, uint-makes}
+use denote.Plain.{uint-vals, uint-makes, uint-tells}
 use denote.Array.{Array, array-vals, array-makes}
 use denote.Builtin.{u8, usize}
 use denote.Ref.{RefT, now}
-use denote.Slice.{MutSlice, finally}
+use denote.Slice.{MutSlice, slice-vals, shr-slice-tells, finally}
+use denote.Signature.{Slot, AllWithin, nameOf, meetAt, plain, shrSliceOf}
 use denote.Steps.{nothing, owned, only, peeks, heard}
 use denote.Struct.Laws as LL
 use denote.Triple.Spec.{tripleOf}
 use denote.Triple.Statement.{Contract, Triple}
 use denote.Triple.Table.{cited}
+use denote.Triple.End.{Kepts}
 use denote.Triple.Walked.{says}
 use Rattle.model.specs.Desk.{onto}
 use Rattle.diary.specs.declared.Step.{Step}
@@ -51,7 +54,7 @@ use Rattle.desk.proofs.CoreReply as C
 use Rattle.desk.proofs.CoreReply.Laws as C′
 use Rattle.desk.proofs.FindReply as F
 use Rattle.desk.proofs.FindReply.Laws as F′
-use Rattle.desk.proofs.WalkSteps.{lent, calls-back, within, look-part, returns-at}
+use Rattle.desk.proofs.WalkSteps.{lent, calls-back, within, look-part, returns-at, Owed, before}
 
 -- ---- plain facts: what the core hands back is a row of three (the flat diary as the row has it is the same list)
 abbrev pub reply-val : CoreReply → Val
@@ -95,6 +98,18 @@ desk-val d = LL.val D.the-type D′.the-laws d
 
 abbrev pub InDesk : Desk → Fml
 InDesk d = D.the-row .own d (desk-val d ∷ [])
+
+-- ---- the parameters before the four lent slices: the desk, a number, a shared slice of bytes at the lifetime h
+module _ {n : ℕ} {ss : List (Slot n)} {ks : Kepts ss} where
+  abbrev pub desk-before : Owed ss ks → Owed (plain (λ _. D.the-row) ∷ ss) (yes, ks)
+  desk-before = before (plain (λ _. D.the-row)) (λ κs x f. refl) (λ κs. LL.vals D.the-type D′.the-laws) (λ κs. LL.tells D.the-type D′.the-laws)
+
+  abbrev pub number-before : Owed ss ks → Owed (plain (λ _. u8) ∷ ss) (yes, ks)
+  number-before = before (plain (λ _. u8)) (λ κs x f. refl) (λ κs. uint-vals w8) (λ κs. uint-tells w8)
+
+  abbrev pub list-before : (h : ℕ) (oh : AllWithin n (h ∷ [])) → Owed ss ks → Owed (shrSliceOf (h ∷ []) oh (plain (λ _. u8)) ∷ ss) (yes, ks)
+  list-before h oh = before (shrSliceOf (h ∷ []) oh (plain (λ _. u8))) (λ κs x f. refl) (λ κs. slice-vals)
+      (λ κs. shr-slice-tells (nameOf (h ∷ [])) (meetAt n (h ∷ []) oh κs) u8)
 
 -- ---- the diary and the three buffers: what each owns (whatever its lifetime is called), and what all hold last
 abbrev pub Diary : Lft → RefT (List Step) → Fml

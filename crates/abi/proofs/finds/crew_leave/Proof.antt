@@ -17,20 +17,18 @@ use contract.Running.{givenOf, tables, tablesOf}
 use sound.WpLaws.{FmC, fmOf}
 use types.Kit.{Given, Item, ‵, raw, _⊛_, ⋆, _$_, _∵_, !, qed, by, move, drop, use2, join, fsplit, fjoin, suffices, frame, done}
 use types.Run.{look, init, stop, from, load, and-then, no-more, enter, params1, pass1, pass0, free0}
-use denote.Exit.{yes}
 use denote.Laws.{Is}
-use denote.Plain.{uint-vals, uint-tells, uint-lawful}
+use denote.Plain.{uint-vals, uint-lawful}
 use denote.Builtin.{u8}
 use denote.Ref.{RefT, now}
-use denote.Slice.{Room, slice-vals}
-use denote.Signature.{plain}
+use denote.Slice.{Room}
 use denote.Steps.{nothing, heard}
 use denote.Struct.Laws as LL
 use denote.Triple.Entry.{onEntry}
 use denote.Triple.Spec.{Meets, tripleOf}
 use denote.Triple.Statement.{Contract, Triple}
 use denote.Triple.Table.{entered, cited}
-use denote.Triple.Walked.{says, Stays, stay-dropped, walkOf, ends-at, goes-dropped}
+use denote.Triple.Walked.{says, walkOf, ends-at}
 use Rattle.model.specs.Desk as model
 use Rattle.diary.specs.declared.Step.{Step}
 use Rattle.diary.proofs.Step as T
@@ -39,8 +37,8 @@ use Rattle.desk.specs.declared.FindReply.{FindReply}
 use Rattle.desk_changes.specs.Changes.{Changes}
 use Rattle.desk.proofs.Desk as D
 use Rattle.desk.proofs.Desk.Laws as D′
-use Rattle.desk.proofs.WalkSteps.{lent, alloc-all, calls-back, lends, last-four, joins-lists, dies, gave-four, tell-four, goes-four, meets-by}
-use Rattle.desk.proofs.FilledReply.{desk-val, InDesk, Diary, Buffers, BufferTokens, Last}
+use Rattle.desk.proofs.WalkSteps.{lent, alloc-all, calls-back, lends, last-four, joins-lists, dies, Owed, four, meets-by}
+use Rattle.desk.proofs.FilledReply.{desk-before, number-before, desk-val, InDesk, Diary, Buffers, BufferTokens, Last}
 use Rattle.desk.proofs.Desk.leave as leave′
 use Rattle.desk.proofs.Desk.leave.Symbol as leave-def
 use Rattle.desk.proofs.Desk.leave.Symbol.{name as #leave}
@@ -56,8 +54,8 @@ use Rattle.abi.proofs.finds.crew_leave.Statement as stated
 use Rattle.abi.proofs.finds.crew_leave.Code as code
 
 -- of the desk and the number nothing is wanted at exit; the slices are given up for good
-abbrev stayed : Stays (crew.ended .signature .params) (crew.ended .kept)
-stayed = (stay-dropped (plain (λ _. D.the-row)) yes, (stay-dropped (plain (λ _. u8)) yes, gave-four 4 T.the-row 0 1 2 3 tt tt tt tt))
+abbrev params : Owed (crew.ended .signature .params) (crew.ended .kept)
+params = desk-before (number-before (four 4 T.the-row 0 1 2 3 tt tt tt tt))
 
 module _ {M : Type 1} (𝓤 : URA M) (H : Heap 𝓤) (A : Atoms 𝓤) (at-mem : Memory → SProp 𝓤) (run : Routine → Fun 𝓤) where
   -- the contract of the desk's call
@@ -86,7 +84,7 @@ module _ {M : Type 1} (𝓤 : URA M) (H : Heap 𝓤) (A : Atoms 𝓤) (W : Given
   )
 
   abbrev Post : Val → SProp 𝓤
-  Post = walkOf 𝓤 H A crew.ended stayed (crew.clauses 𝓤 H A at-mem run) .post bound
+  Post = walkOf 𝓤 H A crew.ended (params .stays) (crew.clauses 𝓤 H A at-mem run) .post bound
 
   -- what is owned at entry, and the tokens: all of it goes on
   abbrev Owned : Fml
@@ -104,7 +102,7 @@ module _ {M : Type 1} (𝓤 : URA M) (H : Heap 𝓤) (A : Atoms 𝓤) (W : Given
       → ent 𝓤 (⋆ 𝓤 H A (‵ (N.the-row .own n (u ∷ [])) ∷ Last S L P R s l p r (Tokens ∷ []))) (Post u)
   exits n u s l p r e hs hl hp hr =
       qed W (‵ (N.the-row .own n (u ∷ [])) ∷ Last S L P R s l p r (Tokens ∷ [])) ∵
-      suffices ! _ (ends-at 𝓤 H A crew.ended stayed (crew.clauses 𝓤 H A at-mem run) W bound u n (tt, (tt, (s, (l, (p, (r, tt))))))
+      suffices ! _ (ends-at 𝓤 H A crew.ended (params .stays) (crew.clauses 𝓤 H A at-mem run) W bound u n (tt, (tt, (s, (l, (p, (r, tt))))))
       (tt, (tt, (hs, (hl, (hp, (hr, tt))))))) $
       -- [the numbers'; the diary's last list; left's; plan's; rival's; the tokens]
       says ! e $ move ! (5 ∷ []) $ frame ! $ move ! (1 ∷ 2 ∷ 3 ∷ 4 ∷ []) $ joins-lists ! $
@@ -149,12 +147,7 @@ module _ {M : Type 1} (𝓤 : URA M) (H : Heap 𝓤) (A : Atoms 𝓤) (W : Given
     (known-leave : Triple 𝓤 (𝓣 .C #leave) (Leave 𝓤 H A at-mem run)) (known-numbers : Triple 𝓤 (𝓣 .C #numbers-of) (NumbersOf 𝓤 H A at-mem run)) where
   crew-meets : Meets 𝓤 H A crew.signature (WpFn 𝓤 H (𝓣 .C) (𝓣 .Λ) code.function) (crew.spec 𝓤 H A at-mem run)
   crew-meets =
-      meets-by 𝓤 H A W crew.ended stayed (crew.clauses 𝓤 H A at-mem run) 𝓣 code.function (
-        goes-dropped 𝓤 H A W 4 (plain (λ _. D.the-row)) yes (λ κs x f. refl),
-        (goes-dropped 𝓤 H A W 4 (plain (λ _. u8)) yes (λ κs x f. refl), goes-four 4 T.the-row 0 1 2 3 tt tt tt tt 𝓤 H A W),
-      )
-      (λ κs. (LL.vals D.the-type D′.the-laws, (uint-vals w8, (slice-vals, (slice-vals, (slice-vals, (slice-vals, tt)))))))
-      (λ κs. (LL.tells D.the-type D′.the-laws, (uint-tells w8, tell-four 4 T.the-row 0 1 2 3 tt tt tt tt κs)))
+      meets-by 𝓤 H A W crew.ended params (crew.clauses 𝓤 H A at-mem run) 𝓣 code.function
       (λ κs qs bounds a g are. walk 𝓤 H A W at-mem run (κs .0) (κs .1 .0) (κs .1 .1 .0) (κs .1 .1 .1 .0)
       (qs .0) (qs .1 .0) (qs .1 .1 .0) (qs .1 .1 .1 .0)
       (a .0) (a .1 .0) (a .1 .1 .0) (a .1 .1 .1 .0) (a .1 .1 .1 .1 .0) (a .1 .1 .1 .1 .1 .0)

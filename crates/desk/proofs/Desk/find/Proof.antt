@@ -9,7 +9,7 @@
 --   `proofs.find`, not `proofs.Desk.find`.
 -- * Positions. With the 17 locals 0 to 16, local i stands at k + 2 · (16 - i), and behind it that it dies, where k items stand in front: k is 0 up to the
 --   core's call, 3 at it, 6 where its result lands, 4 at `fill`'s call, 6 from there on. The comment before each block names these items.
--- * One more lent slice: a lifetime and a share in `bound`, `to-core`, `Tokens`; a `gave-slice` in `stayed`, with its `goes-gave-slice`; a part of
+-- * One more lent slice: a lifetime and a share in `bound`, `to-core`, `Tokens`; a slice more in `params`; a part of
 --   `Buffers`; a `lends` for its pointer and its pair (two locals); an item and a length in `exits`.
 -- * One more number for the core (as in leave): an `owned ! u8` in `asks-core`, and its place in `to-core` and among the call's operands. A shared slice
 --   (as in join) goes the way of the buffers, and nothing of it is kept for the exit.
@@ -32,20 +32,18 @@ use sound.WpLaws.{FmC, fmOf}
 use types.Kit.{Given, Item, ‵, raw, _⊛_, ⋆, _$_, _∵_, !, qed, by, move, drop, use3, split, join, fsplit, fjoin, suffices, frame, done}
 use types.Part.{whole, sub, look-in}
 use types.Run.{look, init, stop, fld, from, load, of-opd, and-then, no-more, assigns, enter, params1, pass1, pass0, free0}
-use denote.Exit.{yes}
 use denote.Laws.{Is}
 use denote.Plain.{uint-makes}
 use denote.Builtin.{u8, usize}
 use denote.Ref.{RefT, now}
-use denote.Slice.{Room, slice-vals}
-use denote.Signature.{plain}
+use denote.Slice.{Room}
 use denote.Steps.{owned, heard}
 use denote.Struct.Laws as LL
 use denote.Triple.Entry.{onEntry}
 use denote.Triple.Spec.{Meets, tripleOf}
 use denote.Triple.Statement.{Contract, Triple}
 use denote.Triple.Table.{entered, cited}
-use denote.Triple.Walked.{says, Stays, stay-dropped, walkOf, ends-at, goes-dropped}
+use denote.Triple.Walked.{says, walkOf, ends-at}
 use Rattle.diary.specs.declared.Step.{Step}
 use Rattle.diary.proofs.Step as T
 use Rattle.diary.proofs.fill.Symbol.{name as #diary·fill}
@@ -57,8 +55,9 @@ use Rattle.desk.proofs.Desk as D
 use Rattle.desk.proofs.Desk.Laws as D′
 use Rattle.desk.proofs.FindReply as F
 use Rattle.desk.proofs.FindReply.Laws as F′
-use Rattle.desk.proofs.WalkSteps.{lent, alloc-all, calls-back, lends, last-lists, joins-lists, dies, gave-four, tell-four, goes-four, meets-by}
-use Rattle.desk.proofs.FilledReply.{desk-val, reply-val, is-reply, InDesk, Diary, Buffers, BufferTokens, Last, Fill, fill-met, lands-core, fills}
+use Rattle.desk.proofs.WalkSteps.{lent, alloc-all, calls-back, lends, last-lists, joins-lists, dies, Owed, four, meets-by}
+use Rattle.desk.proofs.FilledReply.{desk-before, desk-val, reply-val, is-reply}
+use Rattle.desk.proofs.FilledReply.{InDesk, Diary, Buffers, BufferTokens, Last, Fill, fill-met, lands-core, fills}
 use Rattle.desk.proofs.core as core
 use Rattle.desk.proofs.core.Symbol as core-def
 use Rattle.desk.proofs.core.Symbol.{name as #core}
@@ -69,8 +68,8 @@ use Rattle.desk.proofs.Desk.find.Statement as stated
 use Rattle.desk.proofs.Desk.find.Code as code
 
 -- of the desk nothing is wanted at exit; the slices are given up for good
-abbrev stayed : Stays (find′.ended .signature .params) (find′.ended .kept)
-stayed = (stay-dropped (plain (λ _. D.the-row)) yes, gave-four 4 T.the-row 0 1 2 3 tt tt tt tt)
+abbrev params : Owed (find′.ended .signature .params) (find′.ended .kept)
+params = desk-before (four 4 T.the-row 0 1 2 3 tt tt tt tt)
 
 module _ {M : Type 1} (𝓤 : URA M) (H : Heap 𝓤) (A : Atoms 𝓤) (at-mem : Memory → SProp 𝓤) (run : Routine → Fun 𝓤) where
   -- the core's contract
@@ -81,7 +80,7 @@ module _ {M : Type 1} (𝓤 : URA M) (H : Heap 𝓤) (A : Atoms 𝓤) (W : Given
     (κ₀ κ₁ κ₂ κ₃ : Lft) (q₀ q₁ q₂ q₃ : Share) (d : Desk) (S : RefT (List Step)) (L P R : RefT (List ℕ))
     (is-desk : Is D.the-row d (LL.vals D.the-type D′.the-laws d)) (gs : Room T.the-row (length (S .now))) (gl : Room u8 (length (L .now)))
     (gp : Room u8 (length (P .now))) (gr : Room u8 (length (R .now))) where
-  abbrev bound : walkOf 𝓤 H A find′.ended stayed (find′.clauses 𝓤 H A at-mem run) .Ghost
+  abbrev bound : walkOf 𝓤 H A find′.ended (params .stays) (find′.clauses 𝓤 H A at-mem run) .Ghost
   bound = (
     (
       (κ₀, (κ₁, (κ₂, (κ₃, tt)))),
@@ -94,7 +93,7 @@ module _ {M : Type 1} (𝓤 : URA M) (H : Heap 𝓤) (A : Atoms 𝓤) (W : Given
   )
 
   abbrev Post : Val → SProp 𝓤
-  Post = walkOf 𝓤 H A find′.ended stayed (find′.clauses 𝓤 H A at-mem run) .post bound
+  Post = walkOf 𝓤 H A find′.ended (params .stays) (find′.clauses 𝓤 H A at-mem run) .post bound
 
   -- the tokens: the buffers' go to the core, the diary's to `fill`
   abbrev Tokens : Item 𝓤
@@ -109,7 +108,7 @@ module _ {M : Type 1} (𝓤 : URA M) (H : Heap 𝓤) (A : Atoms 𝓤) (W : Given
       → ent 𝓤 (⋆ 𝓤 H A (Token ∷ Last S L P R s l p r (Tokens ∷ []))) (Post (reply-val c))
   exits c s l p r is e hs hl hp hr =
       qed W (Token ∷ Last S L P R s l p r (Tokens ∷ [])) ∵ suffices ! _
-      (ends-at 𝓤 H A find′.ended stayed (find′.clauses 𝓤 H A at-mem run) W bound (reply-val c) (c .reply) (tt, (s, (l, (p, (r, tt)))))
+      (ends-at 𝓤 H A find′.ended (params .stays) (find′.clauses 𝓤 H A at-mem run) W bound (reply-val c) (c .reply) (tt, (s, (l, (p, (r, tt)))))
       (tt, (hs, (hl, (hp, (hr, tt))))))
       $ says ! e $
       split ! $ move ! (0 ∷ 6 ∷ []) $ join ! $ frame ! $
@@ -183,12 +182,7 @@ module _ {M : Type 1} (𝓤 : URA M) (H : Heap 𝓤) (A : Atoms 𝓤) (W : Given
     (known-core : Triple 𝓤 (𝓣 .C #core) (Core 𝓤 H A at-mem run)) (known-fill : Triple 𝓤 (𝓣 .C #diary·fill) (Fill 𝓤 H A at-mem run)) where
   find-meets : Meets 𝓤 H A find′.signature (WpFn 𝓤 H (𝓣 .C) (𝓣 .Λ) code.function) (find′.spec 𝓤 H A at-mem run)
   find-meets =
-      meets-by 𝓤 H A W find′.ended stayed (find′.clauses 𝓤 H A at-mem run) 𝓣 code.function (
-        goes-dropped 𝓤 H A W 4 (plain (λ _. D.the-row)) yes (λ κs x f. refl),
-        goes-four 4 T.the-row 0 1 2 3 tt tt tt tt 𝓤 H A W,
-      )
-      (λ κs. (LL.vals D.the-type D′.the-laws, (slice-vals, (slice-vals, (slice-vals, (slice-vals, tt))))))
-      (λ κs. (LL.tells D.the-type D′.the-laws, tell-four 4 T.the-row 0 1 2 3 tt tt tt tt κs))
+      meets-by 𝓤 H A W find′.ended params (find′.clauses 𝓤 H A at-mem run) 𝓣 code.function
       (λ κs qs bounds a g are. walk 𝓤 H A W at-mem run (κs .0) (κs .1 .0) (κs .1 .1 .0) (κs .1 .1 .1 .0) (qs .0) (qs .1 .0) (qs .1 .1 .0) (qs .1 .1 .1 .0)
       (a .0) (a .1 .0) (a .1 .1 .0) (a .1 .1 .1 .0) (a .1 .1 .1 .1 .0)
       (are .0) (are .1 .0 .0 .1) (are .1 .1 .0 .0 .1) (are .1 .1 .1 .0 .0 .1) (are .1 .1 .1 .1 .0 .0 .1) (𝓣 .C) (𝓣 .Λ) (fmOf 𝓤 H (W .laws) 𝓣)

@@ -19,20 +19,18 @@ use sound.WpLaws.{FmC, fmOf}
 use types.Kit.{Given, Item, ‵, raw, _⊛_, ⋆, _$_, _∵_, !, qed, by, move, drop, use3, split, join, fsplit, fjoin, suffices, frame, done}
 use types.Part.{whole, sub, look-in}
 use types.Run.{look, init, stop, fld, from, load, of-opd, and-then, no-more, assigns, enter, params1, pass1, pass0, free0}
-use denote.Exit.{yes}
 use denote.Laws.{Is}
-use denote.Plain.{uint-vals, uint-makes, uint-tells, uint-lawful}
+use denote.Plain.{uint-vals, uint-makes, uint-lawful}
 use denote.Builtin.{u8, usize}
 use denote.Ref.{RefT, now}
-use denote.Slice.{ShrSlice, Room, slice-vals, shr-slice-tells, shr-slice-lawful}
-use denote.Signature.{Slot, plain, shrSliceOf}
+use denote.Slice.{ShrSlice, Room, shr-slice-lawful}
 use denote.Steps.{nothing, owned, heard}
 use denote.Struct.Laws as LL
 use denote.Triple.Entry.{onEntry}
 use denote.Triple.Spec.{Meets, tripleOf}
 use denote.Triple.Statement.{Contract, Triple}
 use denote.Triple.Table.{entered, cited}
-use denote.Triple.Walked.{says, Stays, stay-dropped, walkOf, ends-at, goes-dropped}
+use denote.Triple.Walked.{says, walkOf, ends-at}
 use Rattle.model.specs.Changes.{joinOn}
 use Rattle.model.specs.Desk as model
 use Rattle.diary.specs.declared.Step.{Step}
@@ -47,8 +45,9 @@ use Rattle.desk.proofs.Desk as D
 use Rattle.desk.proofs.Desk.Laws as D′
 use Rattle.desk.proofs.FindReply as F
 use Rattle.desk.proofs.FindReply.Laws as F′
-use Rattle.desk.proofs.WalkSteps.{lent, alloc-all, calls-back, lends, last-lists, joins-lists, dies, gave-four, tell-four, goes-four, meets-by}
-use Rattle.desk.proofs.FilledReply.{desk-val, reply-val, is-reply, InDesk, Diary, Buffers, BufferTokens, Last, Fill, fill-met, lands-core, fills}
+use Rattle.desk.proofs.WalkSteps.{lent, alloc-all, calls-back, lends, last-lists, joins-lists, dies, Owed, four, meets-by}
+use Rattle.desk.proofs.FilledReply.{desk-before, number-before, list-before, desk-val, reply-val, is-reply}
+use Rattle.desk.proofs.FilledReply.{InDesk, Diary, Buffers, BufferTokens, Last, Fill, fill-met, lands-core, fills}
 use Rattle.desk.proofs.join_core as core
 use Rattle.desk.proofs.join_core.Symbol as core-def
 use Rattle.desk.proofs.join_core.Symbol.{name as #core}
@@ -58,13 +57,9 @@ use Rattle.desk.proofs.Desk.join as join′
 use Rattle.desk.proofs.Desk.join.Statement as stated
 use Rattle.desk.proofs.Desk.join.Code as code
 
--- the joiner's list, as the signature has it
-abbrev Lent : Slot 5
-Lent = shrSliceOf (0 ∷ []) tt (plain (λ _. u8))
-
 -- of the desk, the quota and the list nothing is wanted at exit; the slices are given up for good
-abbrev stayed : Stays (join′.ended .signature .params) (join′.ended .kept)
-stayed = (stay-dropped (plain (λ _. D.the-row)) yes, (stay-dropped (plain (λ _. u8)) yes, (stay-dropped Lent yes, gave-four 5 T.the-row 1 2 3 4 tt tt tt tt)))
+abbrev params : Owed (join′.ended .signature .params) (join′.ended .kept)
+params = desk-before (number-before (list-before 0 tt (four 5 T.the-row 1 2 3 4 tt tt tt tt)))
 
 module _ {M : Type 1} (𝓤 : URA M) (H : Heap 𝓤) (A : Atoms 𝓤) (at-mem : Memory → SProp 𝓤) (run : Routine → Fun 𝓤) where
   -- the core's contract
@@ -79,7 +74,7 @@ module _ {M : Type 1} (𝓤 : URA M) (H : Heap 𝓤) (A : Atoms 𝓤) (W : Given
   abbrev kv : Val
   kv = vint w8 k
 
-  abbrev bound : walkOf 𝓤 H A join′.ended stayed (join′.clauses 𝓤 H A at-mem run) .Ghost
+  abbrev bound : walkOf 𝓤 H A join′.ended (params .stays) (join′.clauses 𝓤 H A at-mem run) .Ghost
   bound = (
     (
       (κ, (κ₀, (κ₁, (κ₂, (κ₃, tt))))),
@@ -92,7 +87,7 @@ module _ {M : Type 1} (𝓤 : URA M) (H : Heap 𝓤) (A : Atoms 𝓤) (W : Given
   )
 
   abbrev Post : Val → SProp 𝓤
-  Post = walkOf 𝓤 H A join′.ended stayed (join′.clauses 𝓤 H A at-mem run) .post bound
+  Post = walkOf 𝓤 H A join′.ended (params .stays) (join′.clauses 𝓤 H A at-mem run) .post bound
 
   -- what the list owns
   abbrev Listed : Fml
@@ -114,7 +109,7 @@ module _ {M : Type 1} (𝓤 : URA M) (H : Heap 𝓤) (A : Atoms 𝓤) (W : Given
       → ent 𝓤 (⋆ 𝓤 H A (Token ∷ Last S L P R s l p r (Tokens ∷ []))) (Post (reply-val c))
   exits c s l p r is e hs hl hp hr =
       qed W (Token ∷ Last S L P R s l p r (Tokens ∷ [])) ∵ suffices ! _
-      (ends-at 𝓤 H A join′.ended stayed (join′.clauses 𝓤 H A at-mem run) W bound (reply-val c) (c .reply) (tt, (tt, (tt, (s, (l, (p, (r, tt)))))))
+      (ends-at 𝓤 H A join′.ended (params .stays) (join′.clauses 𝓤 H A at-mem run) W bound (reply-val c) (c .reply) (tt, (tt, (tt, (s, (l, (p, (r, tt)))))))
       (tt, (tt, (tt, (hs, (hl, (hp, (hr, tt))))))))
       $ says ! e $
       split ! $ move ! (6 ∷ []) $ split ! $ move ! (2 ∷ 1 ∷ []) $ join ! $ move ! (1 ∷ 0 ∷ []) $ join ! $ frame ! $
@@ -202,15 +197,7 @@ module _ {M : Type 1} (𝓤 : URA M) (H : Heap 𝓤) (A : Atoms 𝓤) (W : Given
     (known-core : Triple 𝓤 (𝓣 .C #core) (Core 𝓤 H A at-mem run)) (known-fill : Triple 𝓤 (𝓣 .C #diary·fill) (Fill 𝓤 H A at-mem run)) where
   join-meets : Meets 𝓤 H A join′.signature (WpFn 𝓤 H (𝓣 .C) (𝓣 .Λ) code.function) (join′.spec 𝓤 H A at-mem run)
   join-meets =
-      meets-by 𝓤 H A W join′.ended stayed (join′.clauses 𝓤 H A at-mem run) 𝓣 code.function (
-        goes-dropped 𝓤 H A W 5 (plain (λ _. D.the-row)) yes (λ κs x f. refl),
-        (
-          goes-dropped 𝓤 H A W 5 (plain (λ _. u8)) yes (λ κs x f. refl),
-          (goes-dropped 𝓤 H A W 5 Lent yes (λ κs x f. refl), goes-four 5 T.the-row 1 2 3 4 tt tt tt tt 𝓤 H A W),
-        ),
-      )
-      (λ κs. (LL.vals D.the-type D′.the-laws, (uint-vals w8, (slice-vals, (slice-vals, (slice-vals, (slice-vals, (slice-vals, tt))))))))
-      (λ κs. (LL.tells D.the-type D′.the-laws, (uint-tells w8, (shr-slice-tells (named 0) (κs .0) u8, tell-four 5 T.the-row 1 2 3 4 tt tt tt tt κs))))
+      meets-by 𝓤 H A W join′.ended params (join′.clauses 𝓤 H A at-mem run) 𝓣 code.function
       (λ κs qs bounds a g are. walk 𝓤 H A W at-mem run (κs .0) (κs .1 .0) (κs .1 .1 .0) (κs .1 .1 .1 .0) (κs .1 .1 .1 .1 .0)
       (qs .0) (qs .1 .0) (qs .1 .1 .0) (qs .1 .1 .1 .0) (qs .1 .1 .1 .1 .0)
       (a .0) (a .1 .0) (a .1 .1 .0) (a .1 .1 .1 .0) (a .1 .1 .1 .1 .0) (a .1 .1 .1 .1 .1 .0) (a .1 .1 .1 .1 .1 .1 .0)

@@ -18,20 +18,18 @@ use sound.WpLaws.{FmC, fmOf}
 use types.Kit.{Given, Item, ‵, raw, _⊛_, ⋆, _$_, _∵_, !, qed, by, move, drop, use3, split, join, fsplit, fjoin, suffices, frame, done}
 use types.Part.{whole, sub, look-in}
 use types.Run.{look, init, stop, fld, from, load, of-opd, and-then, no-more, assigns, enter, params1, pass1, pass0, free0}
-use denote.Exit.{yes}
 use denote.Laws.{Is}
-use denote.Plain.{uint-vals, uint-makes, uint-tells, uint-lawful}
+use denote.Plain.{uint-vals, uint-makes, uint-lawful}
 use denote.Builtin.{u8, usize}
 use denote.Ref.{RefT, now}
-use denote.Slice.{Room, slice-vals}
-use denote.Signature.{plain}
+use denote.Slice.{Room}
 use denote.Steps.{nothing, owned, heard}
 use denote.Struct.Laws as LL
 use denote.Triple.Entry.{onEntry}
 use denote.Triple.Spec.{Meets, tripleOf}
 use denote.Triple.Statement.{Contract, Triple}
 use denote.Triple.Table.{entered, cited}
-use denote.Triple.Walked.{says, Stays, stay-dropped, walkOf, ends-at, goes-dropped}
+use denote.Triple.Walked.{says, walkOf, ends-at}
 use Rattle.model.specs.Changes.{leaveOn}
 use Rattle.model.specs.Desk as model
 use Rattle.diary.specs.declared.Step.{Step}
@@ -46,8 +44,9 @@ use Rattle.desk.proofs.Desk as D
 use Rattle.desk.proofs.Desk.Laws as D′
 use Rattle.desk.proofs.FindReply as F
 use Rattle.desk.proofs.FindReply.Laws as F′
-use Rattle.desk.proofs.WalkSteps.{lent, alloc-all, calls-back, lends, last-lists, joins-lists, dies, gave-four, tell-four, goes-four, meets-by}
-use Rattle.desk.proofs.FilledReply.{desk-val, reply-val, is-reply, InDesk, Diary, Buffers, BufferTokens, Last, Fill, fill-met, lands-core, fills}
+use Rattle.desk.proofs.WalkSteps.{lent, alloc-all, calls-back, lends, last-lists, joins-lists, dies, Owed, four, meets-by}
+use Rattle.desk.proofs.FilledReply.{desk-before, number-before, desk-val, reply-val, is-reply}
+use Rattle.desk.proofs.FilledReply.{InDesk, Diary, Buffers, BufferTokens, Last, Fill, fill-met, lands-core, fills}
 use Rattle.desk.proofs.leave_core as core
 use Rattle.desk.proofs.leave_core.Symbol as core-def
 use Rattle.desk.proofs.leave_core.Symbol.{name as #core}
@@ -58,8 +57,8 @@ use Rattle.desk.proofs.Desk.leave.Statement as stated
 use Rattle.desk.proofs.Desk.leave.Code as code
 
 -- of the desk and the number nothing is wanted at exit; the slices are given up for good
-abbrev stayed : Stays (leave′.ended .signature .params) (leave′.ended .kept)
-stayed = (stay-dropped (plain (λ _. D.the-row)) yes, (stay-dropped (plain (λ _. u8)) yes, gave-four 4 T.the-row 0 1 2 3 tt tt tt tt))
+abbrev params : Owed (leave′.ended .signature .params) (leave′.ended .kept)
+params = desk-before (number-before (four 4 T.the-row 0 1 2 3 tt tt tt tt))
 
 module _ {M : Type 1} (𝓤 : URA M) (H : Heap 𝓤) (A : Atoms 𝓤) (at-mem : Memory → SProp 𝓤) (run : Routine → Fun 𝓤) where
   -- the core's contract
@@ -74,7 +73,7 @@ module _ {M : Type 1} (𝓤 : URA M) (H : Heap 𝓤) (A : Atoms 𝓤) (W : Given
   abbrev kv : Val
   kv = vint w8 k
 
-  abbrev bound : walkOf 𝓤 H A leave′.ended stayed (leave′.clauses 𝓤 H A at-mem run) .Ghost
+  abbrev bound : walkOf 𝓤 H A leave′.ended (params .stays) (leave′.clauses 𝓤 H A at-mem run) .Ghost
   bound = (
     (
       (κ₀, (κ₁, (κ₂, (κ₃, tt)))),
@@ -87,7 +86,7 @@ module _ {M : Type 1} (𝓤 : URA M) (H : Heap 𝓤) (A : Atoms 𝓤) (W : Given
   )
 
   abbrev Post : Val → SProp 𝓤
-  Post = walkOf 𝓤 H A leave′.ended stayed (leave′.clauses 𝓤 H A at-mem run) .post bound
+  Post = walkOf 𝓤 H A leave′.ended (params .stays) (leave′.clauses 𝓤 H A at-mem run) .post bound
 
   -- the tokens: the buffers' go to the core, the diary's to `fill`
   abbrev Tokens : Item 𝓤
@@ -102,7 +101,7 @@ module _ {M : Type 1} (𝓤 : URA M) (H : Heap 𝓤) (A : Atoms 𝓤) (W : Given
       → ent 𝓤 (⋆ 𝓤 H A (Token ∷ Last S L P R s l p r (Tokens ∷ []))) (Post (reply-val c))
   exits c s l p r is e hs hl hp hr =
       qed W (Token ∷ Last S L P R s l p r (Tokens ∷ [])) ∵ suffices ! _
-      (ends-at 𝓤 H A leave′.ended stayed (leave′.clauses 𝓤 H A at-mem run) W bound (reply-val c) (c .reply) (tt, (tt, (s, (l, (p, (r, tt))))))
+      (ends-at 𝓤 H A leave′.ended (params .stays) (leave′.clauses 𝓤 H A at-mem run) W bound (reply-val c) (c .reply) (tt, (tt, (s, (l, (p, (r, tt))))))
       (tt, (tt, (hs, (hl, (hp, (hr, tt)))))))
       $ says ! e $
       split ! $ move ! (0 ∷ 6 ∷ []) $ join ! $ frame ! $
@@ -180,12 +179,7 @@ module _ {M : Type 1} (𝓤 : URA M) (H : Heap 𝓤) (A : Atoms 𝓤) (W : Given
     (known-core : Triple 𝓤 (𝓣 .C #core) (Core 𝓤 H A at-mem run)) (known-fill : Triple 𝓤 (𝓣 .C #diary·fill) (Fill 𝓤 H A at-mem run)) where
   leave-meets : Meets 𝓤 H A leave′.signature (WpFn 𝓤 H (𝓣 .C) (𝓣 .Λ) code.function) (leave′.spec 𝓤 H A at-mem run)
   leave-meets =
-      meets-by 𝓤 H A W leave′.ended stayed (leave′.clauses 𝓤 H A at-mem run) 𝓣 code.function (
-        goes-dropped 𝓤 H A W 4 (plain (λ _. D.the-row)) yes (λ κs x f. refl),
-        (goes-dropped 𝓤 H A W 4 (plain (λ _. u8)) yes (λ κs x f. refl), goes-four 4 T.the-row 0 1 2 3 tt tt tt tt 𝓤 H A W),
-      )
-      (λ κs. (LL.vals D.the-type D′.the-laws, (uint-vals w8, (slice-vals, (slice-vals, (slice-vals, (slice-vals, tt)))))))
-      (λ κs. (LL.tells D.the-type D′.the-laws, (uint-tells w8, tell-four 4 T.the-row 0 1 2 3 tt tt tt tt κs)))
+      meets-by 𝓤 H A W leave′.ended params (leave′.clauses 𝓤 H A at-mem run) 𝓣 code.function
       (λ κs qs bounds a g are. walk 𝓤 H A W at-mem run (κs .0) (κs .1 .0) (κs .1 .1 .0) (κs .1 .1 .1 .0)
       (qs .0) (qs .1 .0) (qs .1 .1 .0) (qs .1 .1 .1 .0)
       (a .0) (a .1 .0) (a .1 .1 .0) (a .1 .1 .1 .0) (a .1 .1 .1 .1 .0) (a .1 .1 .1 .1 .1 .0)
