@@ -1,5 +1,6 @@
--- What the walks of find, join and leave have in common behind their cores: what a core hands back is a reply, the diary as flat numbers, and the number
--- of its records; `diary::fill` writes the records into the lent diary, which is handed on for good, and the reply is returned. Assumes nothing.
+-- What the walks of find, join and leave have in common: the parameters before the lent slices, and what the desk, the diary and the buffers own; and what
+-- comes behind their cores: what a core hands back is a reply, the diary as flat numbers, and the number of its records; `diary::fill` writes the records
+-- into the lent diary, which is handed on for good, and the reply is returned. Assumes nothing.
 use mathlib.Core.Path.{_≡_, refl, sym, ap, subst, _∙_}
 use Prim.Native.Nat.{ℕ, suc, _≤_}
 use mathlib.Core.List.{[], _∷_, List, map}

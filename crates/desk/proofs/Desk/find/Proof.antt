@@ -9,10 +9,10 @@
 --   `proofs.find`, not `proofs.Desk.find`.
 -- * Positions. With the 17 locals 0 to 16, local i stands at k + 2 · (16 - i), and behind it that it dies, where k items stand in front: k is 0 up to the
 --   core's call, 3 at it, 6 where its result lands, 4 at `fill`'s call, 6 from there on. The comment before each block names these items.
--- * One more lent slice: a lifetime and a share in `bound`, `to-core`, `Tokens`; a slice more in `params`; a part of
---   `Buffers`; a `lends` for its pointer and its pair (two locals); an item and a length in `exits`.
--- * One more number for the core (as in leave): an `owned ! u8` in `asks-core`, and its place in `to-core` and among the call's operands. A shared slice
---   (as in join) goes the way of the buffers, and nothing of it is kept for the exit.
+-- * One more lent slice: a lifetime and a share in `bound`, `to-core`, `BufferTokens`; a part of `four`, `Buffers` and `Last`; a `lends` for its pointer
+--   and its pair (two locals); a length in `exits`.
+-- * One more number for the core (as in leave): `number-before` in `params`, an `owned ! u8` in `asks-core`, and its place in `to-core` and among the
+--   call's operands. A shared slice (as in join, `list-before`) goes the way of the buffers, and nothing of it is kept for the exit.
 use mathlib.Core.Path.{_≡_, refl}
 use Prim.Native.Nat.{ℕ}
 use mathlib.Core.List.{[], _∷_, List}
