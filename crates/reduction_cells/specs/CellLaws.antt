@@ -17,12 +17,12 @@ use Rattle.model.specs.Instance.{Side, deg}
 use Rattle.model.specs.Reduction.{strictLeft, ahead, arrow}
 use Rattle.theory_instance.specs.Lawful.{Ranked}
 use Rattle.theory_instance.specs.Degree.{deg-cong, deg-without, deg-pos, deg-zero, deg-none}
-use Rattle.theory_reduction.specs.Arrows.{Ahead, ahead-mono, ahead-is, is-ahead}
+use Rattle.theory_reduction.specs.Arrows.{Ahead, ahead-mono, ahead-is, is-ahead, arrow-strict}
 use Rattle.arrays.specs.ArrayInstance.{at, flag}
 use Rattle.arrays.specs.Passes.{Low}
-use Rattle.reduction_links.specs.Firsts.{from}
-use Rattle.reduction_cells.specs.Painted.{Painted}
-use Rattle.reduction_cells.specs.Cells.{Celled, place, inCell, edgeIn, passed, barOf, bestOf, worstOf, cell-holds}
+use Rattle.edge_links.specs.Firsts.{from}
+use Rattle.reduction_cells.specs.Painted.{Painted, AllPainted}
+use Rattle.reduction_cells.specs.Cells.{Celled, place, inCell, edgeIn, passed, barOf, bestOf, worstOf, same-place, cell-holds}
 
 -- each strict edge stands in the cell of its node and rank, and a cell that holds an edge holds that one
 pub record Cells (K : Side) (cell : List ℕ) : Type 0 where
@@ -35,9 +35,6 @@ pub record Cells (K : Side) (cell : List ℕ) : Type 0 where
 -- a side as its arrays show it
 abbrev pub sideOf : (m n : ℕ) (end rank : List ℕ) (tie : ℕ → Bool) (quota : ℕ → ℕ) → Side
 sideOf m n end rank tie quota = record { m = m; n = n; end = at end; rank = at rank; tie = tie; quota = quota }
-
-same-place : (a b r s : ℕ) → r < emptyRank → s < emptyRank → a * emptyRank + r ≡ b * emptyRank + s → (a ≡ b) × (r ≡ s)
-same-place a b r s h k e = (omega arith, omega arith)
 
 pub celled-is : (m n : ℕ) (end rank : List ℕ) (tied : List Bool) (tie : ℕ → Bool) (quota : ℕ → ℕ) (cell : List ℕ) → ((e : ℕ) → tie e ≡ flag tied e)
     → Low m end nodeLimit → Celled m end rank tied cell → Ranked (sideOf m n end rank tie quota) → Cells (sideOf m n end rank tie quota) cell
@@ -232,22 +229,43 @@ module _ (K : Side) (law : Ranked K) (cell : List ℕ) (C : Cells K cell) (p : �
           (subst (λ z. T (edgeIn (K .m) p z)) (sym (ap c e ∙ is-cell d dl i (all d))) (and-i (ltb d (K .m)) (p d) (lt→ltb d (K .m) dl) pd))
 
 -- ---- the painted flags
-module _ (K : Side) (law : Ranked K) (cell : List ℕ) (C : Cells K cell) (other : List ℕ) (rem : List Bool) (v q : ℕ) (w : v < nodeLimit) (f₀ w₀ f u : List Bool)
-    (P : Painted (K .m) other cell rem v q emptyRank f₀ w₀ f u) where
-  -- the strict edges of v have their arrows
-  pub painted-new : (Q : ℕ → ℕ) → Q v ≡ q → (e : ℕ) → e < K .m → K .end e ≡ v → T (not (K .tie e)) → flag f e ≡ arrow K (flag rem) Q e
+module _ (K : Side) (law : Ranked K) (cell : List ℕ) (C : Cells K cell) (rem f : List Bool) where
+  -- the strict edges of a node, painted with its quota, have their arrows
+  arrow-new : (v q : ℕ) → v < nodeLimit
+      → ((r : ℕ) → r < emptyRank → inCell cell v r < K .m
+      → flag f (inCell cell v r) ≡ flag rem (inCell cell v r) && ltb (passed (K .m) cell (flag rem) v r) q)
+      → (Q : ℕ → ℕ) → Q v ≡ q → (e : ℕ) → e < K .m → K .end e ≡ v → T (not (K .tie e)) → flag f e ≡ arrow K (flag rem) Q e
   unfolding arrow
-  painted-new Q qi e l i s =
+  arrow-new v q w new Q qi e l i s =
       let r = K .rank e in
       let h : inCell cell v r ≡ e = subst (λ z. inCell cell z r ≡ e) i (C .here e l s) in
       let n : flag f e ≡ flag rem e && ltb (passed (K .m) cell (flag rem) v r) q =
-      subst (λ z. flag f z ≡ flag rem z && ltb (passed (K .m) cell (flag rem) v r) q) h (P .new r (law .placed e l) (omega arith)) in
+      subst (λ z. flag f z ≡ flag rem z && ltb (passed (K .m) cell (flag rem) v r) q) h (new r (law .placed e l) (omega arith)) in
       n ∙ ap₂ _&&_ (sym (ap (λ b. flag rem e && not b) (T-false {b = K .tie e} s) ∙ and-true (flag rem e)))
-      (ap₂ ltb (passed-is K law cell C (flag rem) v w r (let g = law .placed e l in omega arith) ∙ ap (λ z. ahead K (flag rem) z r) (sym i)) (sym (ap Q i ∙ qi)))
+      (ap₂ ltb (passed-is K law cell C (flag rem) v w r (let g = law .placed e l in omega arith) ∙ ap (λ z. ahead K (flag rem) z r) (sym i))
+      (sym (ap Q i ∙ qi)))
 
-  -- all other edges are as before
-  pub painted-other : (e : ℕ) → e < K .m → K .end e ≢ v → flag f e ≡ flag f₀ e
-  painted-other e l n = P .old e (λ i h (z : inCell cell v i ≡ e). n (ap (K .end) (sym z) ∙ C .node v i w h (omega arith)))
+  -- a tied edge has none
+  pub arrow-tied : (Q : ℕ → ℕ) (e : ℕ) → T (K .tie e) → arrow K (flag rem) Q e ≡ false
+  arrow-tied Q e t = by-test (arrow K (flag rem) Q e) (λ a. absurd (T-not (K .tie e) (arrow-strict K (flag rem) Q e a) t)) T-false
 
-  pub painted-tied : (e : ℕ) → e < K .m → T (K .tie e) → flag f e ≡ flag f₀ e
-  painted-tied e l t = P .old e (λ i h (z : inCell cell v i ≡ e). T-not (K .tie (inCell cell v i)) (C .strict v i w h (omega arith)) (subst (λ y. T (K .tie y)) (sym z) t))
+  -- all nodes painted
+  pub all-arrows : (q : List ℕ) → AllPainted (K .m) cell rem q nodeLimit f → (Q : ℕ → ℕ) → ((v : ℕ) → v < nodeLimit → at q v ≡ Q v)
+      → (e : ℕ) → e < K .m → flag f e ≡ arrow K (flag rem) Q e
+  all-arrows q P Q h e l = let w = C .nodes e l in by-test (K .tie e)
+      (λ t. P .old e (λ v i k r (z : inCell cell v i ≡ e). T-not (K .tie (inCell cell v i)) (C .strict v i k r (omega arith))
+      (subst (λ y. T (K .tie y)) (sym z) t)) ∙ sym (arrow-tied Q e t))
+      (λ s. arrow-new (K .end e) (at q (K .end e)) w (λ r. P .new (K .end e) r w) Q (sym (h (K .end e) w)) e l refl s)
+
+  -- one node painted anew: its own edges have their arrows, if its tied edges have none
+  module _ (other : List ℕ) (v q : ℕ) (w : v < nodeLimit) (f₀ w₀ u : List Bool) (P : Painted (K .m) other cell rem v q emptyRank f₀ w₀ f u) where
+    pub painted-new : (Q : ℕ → ℕ) → Q v ≡ q → (e : ℕ) → e < K .m → K .end e ≡ v → (T (K .tie e) → flag f₀ e ≡ false)
+        → flag f e ≡ arrow K (flag rem) Q e
+    painted-new Q qi e l i h = by-test (K .tie e)
+        (λ t. P .old e (λ i k (z : inCell cell v i ≡ e). T-not (K .tie (inCell cell v i)) (C .strict v i w k (omega arith))
+        (subst (λ y. T (K .tie y)) (sym z) t)) ∙ h t ∙ sym (arrow-tied Q e t))
+        (arrow-new v q w (P .new) Q qi e l i)
+
+    -- all other edges are as before
+    pub painted-other : (e : ℕ) → e < K .m → K .end e ≢ v → flag f e ≡ flag f₀ e
+    painted-other e l n = P .old e (λ i h (z : inCell cell v i ≡ e). n (ap (K .end) (sym z) ∙ C .node v i w h (omega arith)))

@@ -1,16 +1,23 @@
-// The whole reduction: all steps, each entered in the trace, and what remains and what is fixed at the end. After a stable strike (crate
-// reduction_state) the rule goes on with the next edge that it named, and nothing is computed anew.
+// The whole reduction: all steps, each entered in the trace, and what remains and what is fixed at the end. Beside the state and its arrows a run
+// carries the numbers of the nodes, which say what the rules name; a step renews them where it changed something (crate reduction_turn).
+ghost use mathlib.Core.Path.{_≡_};
 ghost use Prim.Native.Nat.{_≤_, _<_};
+ghost use lib.ListN.{length};
 ghost use Rattle.model.specs.Limits.{nodeLimit, entryLimit, emptyRank};
 ghost use Rattle.arrays.specs.Passes.{Low};
-ghost use Rattle.reduction_counts.specs.Mark.{Order};
-ghost use Rattle.reduction_step.specs.View.{Known, instanceOf, Ends};
+ghost use Rattle.reduction_nodes.specs.Known.{Known, instanceOf};
+ghost use Rattle.reduction_nodes.specs.Kept.{Tables, edges, links, looks};
 ghost use Rattle.reduction_state.specs.Outcome.{Reduced, ReducedFrom};
-ghost use Rattle.reduction_state.specs.RunState.{Sized};
-ghost use Rattle.reduction_run.specs.RepeatedStrikes.{Repeated};
+ghost use Rattle.reduction_state.specs.RunState.{Sized, whole};
+ghost use Rattle.reduction_run.specs.Running.{Numbered, AllOld, MovedOn, Begun};
 use limits::ENTRY_LIMIT;
-use reduction_state::State;
+use reduction_cells::CELLS;
+use reduction_nodes::Later;
+use reduction_nodes::Stands;
+use reduction_nodes::Surveyors;
+use reduction_state::Counts;
 use reduction_state::Trace;
+use reduction_turn::Numbers;
 
 // What a run leaves: what remains, what is fixed, and its trace.
 pub struct Reduction {
@@ -19,116 +26,368 @@ pub struct Reduction {
     pub trace: Trace,
 }
 
-// A state and the number of steps to it.
-pub struct Struck {
-    pub state: State,
-    pub steps: usize,
+// What a run carries by node.
+pub struct Moving {
+    pub counts: Counts,
+    pub numbers: Numbers,
+    pub surveyors: Surveyors,
+    pub stands: Stands,
 }
 
-// Further strikes of a rule behind its edge, of the edges in hit, as long as they are stable.
-pub(crate) fn strikes(
+// A rule and its edge, m if no rule acts, and what is carried on.
+pub struct Moved {
+    pub rule: u8,
+    pub edge: usize,
+    pub moving: Moving,
+}
+
+// The beginning: what remains, nothing fixed, and the arrows.
+pub struct Start {
+    pub rem: [bool; ENTRY_LIMIT],
+    pub fixed: [bool; ENTRY_LIMIT],
+    pub fs: [bool; ENTRY_LIMIT],
+    pub ft: [bool; ENTRY_LIMIT],
+    pub moving: Moving,
+}
+
+// The numbers of all nodes; those of the later rules are all old.
+pub(crate) fn numbered(
     m: usize,
     sv: &[u8; ENTRY_LIMIT],
     st: &[u8; ENTRY_LIMIT],
-    hit: &[bool; ENTRY_LIMIT],
+    rs: &[u8; ENTRY_LIMIT],
+    rt: &[u8; ENTRY_LIMIT],
+    strict: &[bool; ENTRY_LIMIT],
+    tied: &[bool; ENTRY_LIMIT],
+    ns: &[u16; ENTRY_LIMIT],
+    hs: &[u16; 32],
+    nt: &[u16; ENTRY_LIMIT],
+    ht: &[u16; 32],
+    cs: &[u16; CELLS],
+    ct: &[u16; CELLS],
+    rem: &[bool; ENTRY_LIMIT],
     fs: &[bool; ENTRY_LIMIT],
     ft: &[bool; ENTRY_LIMIT],
-    rule: u8,
-    edge: usize,
-    stable: bool,
-    x: State,
-    steps: usize,
-    edges: &mut [u16; ENTRY_LIMIT],
-    rules: &mut [u8; ENTRY_LIMIT],
-) -> Struck
-    requires { ⌜ (m ≤ entryLimit) × Low m (now sv) nodeLimit × Low m (now st) nodeLimit × (edge < m) ⌝ }
-    ensures { λ r. ⌜ (steps ≤ r .steps) × Sized (r .state) ⌝ }
-    ensures { λ r. ⌜ Repeated
-        (record { m = m; sv = now (sv .entry); st = now (st .entry); hit = now (hit .entry); fs = now (fs .entry); ft = now (ft .entry); rule = rule })
-        (record { edge = edge; stable = stable; state = x; trace = record { edges = now (edges .entry); rules = now (rules .entry); steps = steps } })
-        (r .state)
-        (record { edges = now (edges .exit); rules = now (rules .exit); steps = r .steps }) ⌝ }
+    qs: &[u16; 32],
+    qt: &[u16; 32],
+) -> Numbers
+    requires { ⌜ Tables (edges m (now sv) (now st) (now rs) (now rt) (now tied)) (now strict)
+        (links (now ns) (now hs) (now nt) (now ht) (now cs) (now ct)) ⌝ }
+    ensures { λ r. ⌜ AllOld (edges m (now (sv .entry)) (now (st .entry)) (now (rs .entry)) (now (rt .entry)) (now (tied .entry)))
+        (links (now (ns .entry)) (now (hs .entry)) (now (nt .entry)) (now (ht .entry)) (now (cs .entry)) (now (ct .entry)))
+        (looks (now (rem .entry)) (now (fs .entry)) (now (ft .entry)) (now (qs .entry)) (now (qt .entry))) r ⌝ }
 {
-    let mut y = x;
-    let mut n = steps;
-    let mut e = edge;
-    let mut go = stable;
-    while go {
-        let j = reduction_rules::next(m, hit, e + 1);
-        if (m <= j) | (m <= n) {
-            return Struck { state: y, steps: n };
-        }
-        go = reduction_state::stable(rule, sv, st, fs, ft, y, j);
-        edges[n] = j as u16;
-        rules[n] = rule;
-        let z = reduction_state::act(sv, st, y, rule, j);
-        y = z;
-        n += 1;
-        e = j;
+    let all = [true; 32];
+    let none = [0u16; 32];
+    let a = reduction_nodes::first_renewed(m, sv, ns, hs, fs, ft, &all, none);
+    let b = reduction_nodes::second_renewed(m, sv, rs, strict, ns, hs, cs, rem, ft, qs, &all, none);
+    let c = reduction_nodes::second_renewed(m, st, rt, tied, nt, ht, ct, rem, fs, qt, &all, none);
+    Numbers {
+        one: a,
+        twos: b,
+        twot: c,
+        olds: all,
+        oldt: all,
     }
-    Struck { state: y, steps: n }
 }
 
-// All steps, with the edges in the order of their ranks on both sides.
+pub(crate) fn begun(
+    m: usize,
+    sv: &[u8; ENTRY_LIMIT],
+    st: &[u8; ENTRY_LIMIT],
+    rs: &[u8; ENTRY_LIMIT],
+    rt: &[u8; ENTRY_LIMIT],
+    strict: &[bool; ENTRY_LIMIT],
+    tied: &[bool; ENTRY_LIMIT],
+    ns: &[u16; ENTRY_LIMIT],
+    hs: &[u16; 32],
+    nt: &[u16; ENTRY_LIMIT],
+    ht: &[u16; 32],
+    cs: &[u16; CELLS],
+    ct: &[u16; CELLS],
+    qs: &[u8; 32],
+    qt: &[u8; 32],
+) -> Start
+    requires { ⌜ Tables (edges m (now sv) (now st) (now rs) (now rt) (now tied)) (now strict)
+        (links (now ns) (now hs) (now nt) (now ht) (now cs) (now ct)) ⌝ }
+    ensures { λ r. ⌜ Begun (edges m (now (sv .entry)) (now (st .entry)) (now (rs .entry)) (now (rt .entry)) (now (tied .entry)))
+        (links (now (ns .entry)) (now (hs .entry)) (now (nt .entry)) (now (ht .entry)) (now (cs .entry)) (now (ct .entry)))
+        (now (qs .entry)) (now (qt .entry)) r ⌝ }
+{
+    let a = reduction_state::start(m, sv, st, qs, qt);
+    let rem = a.rem;
+    let fixed = a.fixed;
+    let cuts = a.qs;
+    let cutt = a.qt;
+    let ds = a.ds;
+    let dt = a.dt;
+    let fs = reduction_cells::painted(m, sv, rs, strict, cs, &cuts, st, &rem);
+    let ft = reduction_cells::painted(m, st, rt, tied, ct, &cutt, sv, &rem);
+    let numbers = numbered(
+        m,
+        sv,
+        st,
+        rs,
+        rt,
+        strict,
+        tied,
+        ns,
+        hs,
+        nt,
+        ht,
+        cs,
+        ct,
+        &rem,
+        &fs,
+        &ft,
+        &cuts,
+        &cutt,
+    );
+    Start {
+        rem: rem,
+        fixed: fixed,
+        fs: fs,
+        ft: ft,
+        moving: Moving {
+            counts: Counts {
+                qs: cuts,
+                qt: cutt,
+                ds: ds,
+                dt: dt,
+            },
+            numbers: numbers,
+            surveyors: Surveyors {
+                rule4: [0u16; 32],
+                rule5: [0u16; 32],
+                rule6: [0u16; 32],
+            },
+            stands: Stands {
+                rule3: [0u16; 32],
+                rule7: [0u16; 32],
+                loose: [false; 32],
+            },
+        },
+    }
+}
+
+// One step, if a rule acts, and the turn after it.
+pub(crate) fn advanced(
+    m: usize,
+    sv: &[u8; ENTRY_LIMIT],
+    st: &[u8; ENTRY_LIMIT],
+    rs: &[u8; ENTRY_LIMIT],
+    rt: &[u8; ENTRY_LIMIT],
+    strict: &[bool; ENTRY_LIMIT],
+    tied: &[bool; ENTRY_LIMIT],
+    ns: &[u16; ENTRY_LIMIT],
+    hs: &[u16; 32],
+    nt: &[u16; ENTRY_LIMIT],
+    ht: &[u16; 32],
+    cs: &[u16; CELLS],
+    ct: &[u16; CELLS],
+    rem: &mut [bool; ENTRY_LIMIT],
+    fixed: &mut [bool; ENTRY_LIMIT],
+    fs: &mut [bool; ENTRY_LIMIT],
+    ft: &mut [bool; ENTRY_LIMIT],
+    x: Moving,
+) -> Moved
+    requires { ⌜ Tables (edges m (now sv) (now st) (now rs) (now rt) (now tied)) (now strict)
+        (links (now ns) (now hs) (now nt) (now ht) (now cs) (now ct)) ⌝ }
+    requires { ⌜ Numbered (edges m (now sv) (now st) (now rs) (now rt) (now tied)) (links (now ns) (now hs) (now nt) (now ht) (now cs) (now ct))
+        (looks (now rem) (now fs) (now ft) (x .counts .qs) (x .counts .qt)) x ⌝ }
+    requires { ⌜ Sized (whole (now rem) (now fixed) (x .counts)) × (length (now fs) ≡ entryLimit) × (length (now ft) ≡ entryLimit) ⌝ }
+    ensures { λ r. ⌜ Numbered (edges m (now (sv .entry)) (now (st .entry)) (now (rs .entry)) (now (rt .entry)) (now (tied .entry)))
+        (links (now (ns .entry)) (now (hs .entry)) (now (nt .entry)) (now (ht .entry)) (now (cs .entry)) (now (ct .entry)))
+        (looks (now (rem .exit)) (now (fs .exit)) (now (ft .exit)) (r .moving .counts .qs) (r .moving .counts .qt)) (r .moving) ⌝ }
+    ensures { λ r. ⌜ Sized (whole (now (rem .exit)) (now (fixed .exit)) (r .moving .counts)) × (length (now (fs .exit)) ≡ entryLimit)
+        × (length (now (ft .exit)) ≡ entryLimit) ⌝ }
+    ensures { λ r. ⌜ MovedOn (edges m (now (sv .entry)) (now (st .entry)) (now (rs .entry)) (now (rt .entry)) (now (tied .entry)))
+        (whole (now (rem .entry)) (now (fixed .entry)) (x .counts)) (now (fs .entry)) (now (ft .entry)) (r .rule) (r .edge)
+        (whole (now (rem .exit)) (now (fixed .exit)) (r .moving .counts)) (now (fs .exit)) (now (ft .exit)) ⌝ }
+{
+    let counts = x.counts;
+    let numbers = x.numbers;
+    let qs = counts.qs;
+    let qt = counts.qt;
+    let one = numbers.one;
+    let twos = numbers.twos;
+    let twot = numbers.twot;
+    let olds = numbers.olds;
+    let oldt = numbers.oldt;
+    let surveyors = x.surveyors;
+    let stands = x.stands;
+    let later = Later {
+        surveyors: surveyors,
+        stands: stands,
+        olds: olds,
+        oldt: oldt,
+    };
+    let a = reduction_step::step(
+        m,
+        sv,
+        st,
+        rs,
+        rt,
+        strict,
+        tied,
+        ns,
+        hs,
+        nt,
+        ht,
+        cs,
+        ct,
+        rem,
+        fs,
+        ft,
+        &qs,
+        &qt,
+        &one,
+        &twos,
+        &twot,
+        later,
+    );
+    let rule = a.rule;
+    let e = a.edge;
+    let l = a.later;
+    let us = l.olds;
+    let ut = l.oldt;
+    let sy = l.surveyors;
+    let ty = l.stands;
+    let known = Numbers {
+        one: one,
+        twos: twos,
+        twot: twot,
+        olds: us,
+        oldt: ut,
+    };
+    if m <= e {
+        return Moved {
+            rule: rule,
+            edge: e,
+            moving: Moving {
+                counts: counts,
+                numbers: known,
+                surveyors: sy,
+                stands: ty,
+            },
+        };
+    }
+    let b = reduction_turn::turn(
+        m,
+        sv,
+        st,
+        rs,
+        rt,
+        strict,
+        tied,
+        ns,
+        hs,
+        nt,
+        ht,
+        cs,
+        ct,
+        rule,
+        e,
+        rem,
+        fixed,
+        fs,
+        ft,
+        counts,
+        known,
+    );
+    let next = b.counts;
+    let after = b.numbers;
+    Moved {
+        rule: rule,
+        edge: e,
+        moving: Moving {
+            counts: next,
+            numbers: after,
+            surveyors: sy,
+            stands: ty,
+        },
+    }
+}
+
+// All steps, with the tables of the edges.
 pub(crate) fn run(
     m: usize,
     sv: &[u8; ENTRY_LIMIT],
     st: &[u8; ENTRY_LIMIT],
+    rs: &[u8; ENTRY_LIMIT],
+    rt: &[u8; ENTRY_LIMIT],
+    strict: &[bool; ENTRY_LIMIT],
     tied: &[bool; ENTRY_LIMIT],
+    ns: &[u16; ENTRY_LIMIT],
+    hs: &[u16; 32],
+    nt: &[u16; ENTRY_LIMIT],
+    ht: &[u16; 32],
+    cs: &[u16; CELLS],
+    ct: &[u16; CELLS],
     qs: &[u8; 32],
     qt: &[u8; 32],
-    os: &[u16],
-    ot: &[u16],
 ) -> Reduction
-    requires { ⌜ Ends m (now sv) (now st) ⌝ }
-    requires { ⌜ Order (now sv) (now os) ⌝ }
-    requires { ⌜ Order (now st) (now ot) ⌝ }
-    ensures { λ r. ⌜ ((K : Known m (now (sv .entry)) (now (st .entry)) (now (tied .entry)) (now (qs .entry)) (now (qt .entry)) (now (os .entry))
-        (now (ot .entry)))
-        → Reduced (instanceOf K) (r .rem) (r .fixed) (r .trace)) ⌝ }
+    requires { ⌜ Tables (edges m (now sv) (now st) (now rs) (now rt) (now tied)) (now strict)
+        (links (now ns) (now hs) (now nt) (now ht) (now cs) (now ct)) ⌝ }
+    ensures { λ r. ⌜ ((K : Known (edges m (now (sv .entry)) (now (st .entry)) (now (rs .entry)) (now (rt .entry)) (now (tied .entry)))
+        (now (qs .entry)) (now (qt .entry))) → Reduced (instanceOf K) (r .rem) (r .fixed) (r .trace)) ⌝ }
 {
     let mut edges = [0u16; ENTRY_LIMIT];
     let mut rules = [0u8; ENTRY_LIMIT];
-    let mut x = reduction_state::start(m, sv, st, qs, qt);
+    let b = begun(
+        m,
+        sv,
+        st,
+        rs,
+        rt,
+        strict,
+        tied,
+        ns,
+        hs,
+        nt,
+        ht,
+        cs,
+        ct,
+        qs,
+        qt,
+    );
+    let mut rem = b.rem;
+    let mut fixed = b.fixed;
+    let mut fs = b.fs;
+    let mut ft = b.ft;
+    let mut x = b.moving;
     let mut n = 0;
     while n < m {
-        let rem = x.rem;
-        let cut_s = x.qs;
-        let cut_t = x.qt;
-        let a = reduction_step::step(m, sv, st, tied, os, ot, &rem, &cut_s, &cut_t);
-        let rule = a.rule;
+        let a = advanced(
+            m,
+            sv,
+            st,
+            rs,
+            rt,
+            strict,
+            tied,
+            ns,
+            hs,
+            nt,
+            ht,
+            cs,
+            ct,
+            &mut rem,
+            &mut fixed,
+            &mut fs,
+            &mut ft,
+            x,
+        );
         let e = a.edge;
         if m <= e {
             break;
         }
-        let hit = a.hit;
-        let fs = a.fs;
-        let ft = a.ft;
-        let stable = reduction_state::stable(rule, sv, st, &fs, &ft, x, e);
         edges[n] = e as u16;
-        rules[n] = rule;
-        let y = reduction_state::act(sv, st, x, rule, e);
-        let z = strikes(
-            m,
-            sv,
-            st,
-            &hit,
-            &fs,
-            &ft,
-            rule,
-            e,
-            stable,
-            y,
-            n + 1,
-            &mut edges,
-            &mut rules,
-        );
-        let w = z.state;
-        x = w;
-        n = z.steps;
+        rules[n] = a.rule;
+        let y = a.moving;
+        x = y;
+        n += 1;
     }
-    let rem = x.rem;
-    let fixed = x.fixed;
     Reduction {
         rem: rem,
         fixed: fixed,
@@ -155,7 +414,28 @@ pub fn reduce(
     ensures { λ r. ⌜ ReducedFrom m (now (sv .entry)) (now (st .entry)) (now (rs .entry)) (now (rt .entry)) (now (tied .entry)) (now (qs .entry))
         (now (qt .entry)) (r .rem) (r .fixed) (r .trace) ⌝ }
 {
-    let os = reduction_order::by_rank(m, rs);
-    let ot = reduction_order::by_rank(m, rt);
-    run(m, sv, st, tied, qs, qt, &os[..m], &ot[..m])
+    let strict = [false; ENTRY_LIMIT];
+    let mut ns = [0u16; ENTRY_LIMIT];
+    let hs = edge_links::links(m, &sv[..], &mut ns[..]);
+    let mut nt = [0u16; ENTRY_LIMIT];
+    let ht = edge_links::links(m, &st[..], &mut nt[..]);
+    let cs = reduction_cells::cells(m, sv, rs, &strict);
+    let ct = reduction_cells::cells(m, st, rt, tied);
+    run(
+        m,
+        sv,
+        st,
+        rs,
+        rt,
+        &strict,
+        tied,
+        &ns,
+        &hs,
+        &nt,
+        &ht,
+        &cs,
+        &ct,
+        qs,
+        qt,
+    )
 }

@@ -71,20 +71,6 @@ module _ (G : Instance) (Z : State) where
         earlier = earlier-quiet;
       }
 
-  -- a rule that is the first to name an edge, and the lowest edge that it names
-  pub chosen-is : (r e : ℕ) → r < 8 → ((k : ℕ) → k < r → Quiet G Z (names G Z k)) → e < G .m → Z .rem e && names G Z r e ≡ true
-      → ((d : ℕ) → d < e → Z .rem d && names G Z r d ≡ false) → (ruleOf G Z ≡ r) × (edgeOf G Z ≡ e)
-  unfolding ruleOf edgeOf lowest
-  chosen-is r e rl Q l t n =
-      let at : lowest G Z r ≡ e = low-hit (λ d. Z .rem d && names G Z r d) e (G .m) (low-none (λ d. Z .rem d && names G Z r d) e n) t l in
-      let is : ruleOf G Z ≡ r = low-hit (λ k. ltb (lowest G Z k) (G .m)) r 8 (low-none (λ k. ltb (lowest G Z k) (G .m)) r silent)
-      (lt-ltb (lowest G Z r) (G .m) (omega arith)) rl in
-      (is, ap (lowest G Z) is ∙ at)
-    where
-      silent : (k : ℕ) → k < r → ltb (lowest G Z k) (G .m) ≡ false
-      silent k h = le-ltb (lowest G Z k) (G .m)
-          (let i = low-none (λ d. Z .rem d && names G Z k d) (G .m) (λ d dl. quiet-false (Z .rem d) (names G Z k d) (Q k h d dl)) in omega arith)
-
   -- its edge is the lowest
   pub below-edge : (d : ℕ) → d < edgeOf G Z → T (not (Z .rem d && names G Z (ruleOf G Z) d))
   unfolding edgeOf lowest

@@ -16,7 +16,7 @@ abbrev μ-loop : tie.MeasureT-loop
 μ-loop m end next₀ head₀ i₀ next head i = i
 
 loop-holds : tie.Need-loop-holds Inv-loop μ-loop
-loop-holds c = let a = c .args in (omega arith, refl, length-replicate {A = ℕ} 32 (a .m), linked-none (a .m) (a .end .now) (a .next .now))
+loop-holds c = let a = c .args in (omega arith, refl, length-replicate {A = ℕ} 32 (a .m), linked-none (a .m) (a .end .now) (c .pre .0) (a .next .now))
 
 cast-v : tie.Need-cast-v Inv-loop μ-loop
 cast-v c = let l = c .before .before in omega (arith, l .before .pre .3 (l .loop .i - 1) (omega arith))

@@ -4,10 +4,10 @@ use mathlib.Core.Bool.{not}
 use Prim.Native.Nat.{ℕ, _+_, _-_, _≤_, _<_}
 use native.Mathlib.Omega.{arith}
 use borrow.Author.Needs.{needs}
-use lib.ListN.{length, length-set, length-replicate}
+use lib.ListN.{length, length-set, length-replicate, getD-replicate}
 use Rattle.model.specs.Limits.{nodeLimit, emptyRank}
 use Rattle.arrays.specs.ArrayInstance.{at, flag}
-use Rattle.reduction_links.specs.Firsts.{Firsts, first-none, firsts-stored, firsts-passed, all-same}
+use Rattle.edge_links.specs.Firsts.{Firsts, first-none, firsts-stored, firsts-passed}
 use Rattle.reduction_cells.specs.Cells.{cellCount, place}
 use Rattle.reduction_cells.proofs.cells.Statement.{statement}
 use Rattle.reduction_cells.proofs.cells.Tie as tie
@@ -23,7 +23,7 @@ loop-holds c =
     let a = c .args in (
       omega arith,
       length-replicate {A = ℕ} cellCount (a .m),
-      λ v h. all-same cellCount (a .m) v h ∙ sym (first-none (a .m) (place (a .end .now) (a .rank .now)) (λ e. not (flag (a .tied .now) e)) v),
+      λ v h. getD-replicate cellCount v (a .m) 0 h ∙ sym (first-none (a .m) (place (a .end .now) (a .rank .now)) (λ e. not (flag (a .tied .now) e)) v),
     )
 
 cast-v : tie.Need-cast-v Inv-loop μ-loop

@@ -4,19 +4,12 @@ use Rattle.reduction_state.proofs.act.Statement.{statement}
 use Rattle.reduction_state.proofs.act.Tie as tie
 
 returns : tie.Need-returns
-returns c =
-    simp (
-      c .before .before .before .before .before .before .before .before .before .before .before .fixes .ensures,
-      c .before .before .before .before .before .before .before .fewer .ensures,
-      c .before .before .before .before .before .lowered .ensures,
-      c .before .before .fewer2 .ensures,
-      c .lowered2 .ensures,
-    )
+returns c = simp (c .before .before .before .before .before .before .before .before .before .before .before .fixes .ensures, c .before .before .before .before .before .before .before .fewer .ensures, c .before .before .before .before .before .lowered .ensures, c .before .before .fewer2 .ensures, c .lowered2 .ensures)
 
 pub act-spec : {M : Type 1} → statement M
 act-spec =
-    tie.close (tie.spec (λ c κs. search needs) (λ c. search needs) (λ c. search needs) (λ c. search needs) (λ c. search needs)
-    (λ c. search needs) (λ c. search needs) (λ c. search needs) (λ c κs. search needs) (λ c. search needs) (λ c. search needs)
+    tie.close (tie.spec (λ c κs. search needs) (λ c. search needs) (λ c. search needs) (λ c. search needs) (λ c. search needs) (λ c. search needs)
     (λ c. search needs) (λ c. search needs) (λ c κs. search needs) (λ c. search needs) (λ c. search needs) (λ c. search needs)
-    (λ c. search needs) (λ c. search needs) (λ c. search needs) (λ c κs. search needs) (λ c. search needs) (λ c. search needs)
-    (λ c. search needs) (λ c. search needs) (λ c κs. search needs) (λ c. search needs) (λ c. search needs) returns)
+    (λ c. search needs) (λ c κs. search needs) (λ c. search needs) (λ c. search needs) (λ c. search needs) (λ c. search needs)
+    (λ c. search needs) (λ c. search needs) (λ c κs. search needs) (λ c. search needs) (λ c. search needs) (λ c. search needs)
+    (λ c. search needs) (λ c κs. search needs) (λ c. search needs) (λ c. search needs) returns)
