@@ -1,6 +1,6 @@
 -- The first numbers by key: a pass downwards that stores each number under its key leaves, under each key, the lowest one there; m where there
 -- is none. Links (by node) and cells (by node and rank) are made so.
-use Prim.Native.Nat.{ℕ, zero, suc, _+_, _≤_, _<_}
+use Prim.Native.Nat.{ℕ, _+_, _≤_, _<_}
 use native.Mathlib.Omega.{arith}
 use native.Mathlib.Decide.{decLt}
 use mathlib.Core.Path.{_≡_, refl, sym, ap, ap₂, _∙_}
@@ -9,8 +9,8 @@ use mathlib.Core.Bool.{Bool, true, false, _&&_, and-false}
 use mathlib.Core.List.{List}
 use lib.ListN.{length, set}
 use lib.Seq.{getD-set-same, getD-set-other}
-use lib.Dec.{eqb, ltb, leb}
-use borrow.Author.Tests.{le-leb, lt-leb, lt-ltb, le-ltb}
+use lib.Dec.{eqb, leb}
+use borrow.Author.Tests.{le-leb, lt-leb}
 use Rattle.lists.specs.Test.{by-eq, eqb-yes, eqb-no}
 use Rattle.lists.specs.Search.{low, low-hit, low-cong, low-none}
 use Rattle.arrays.specs.ArrayInstance.{at}

@@ -1,22 +1,22 @@
 -- What the cells of a side say where its ranks are lawful: how many edges of a set are ahead of a rank, which edge of a set is a node's best or
 -- worst, and that the painted flags are the arrows.
-use Prim.Native.Nat.{ℕ, zero, suc, _+_, _*_, _-_, _≤_, _<_}
+use Prim.Native.Nat.{ℕ, zero, suc, _+_, _-_, _≤_, _<_}
 use native.Mathlib.Omega.{arith}
 use native.Mathlib.Nat.{eq-or-lt-of-le}
 use native.Mathlib.Decide.{decLt, decLe}
 use mathlib.Core.Path.{_≡_, refl, sym, ap, ap₂, _∙_, subst}
 use mathlib.Core.Logic.{by-cases, ⊎-elim, _≢_}
-use mathlib.Core.Bool.{Bool, true, false, not, cond, _&&_, and-true, and-false}
+use mathlib.Core.Bool.{Bool, false, not, cond, _&&_, and-true}
 use mathlib.Core.List.{List}
 use lib.Dec.{T, eqb, ltb, leb, ltb→lt, lt→ltb, leb→le, le→leb, eqb→eq, T-not, not-T}
-use borrow.Author.Tests.{lt-ltb, le-ltb, le-leb}
-use Rattle.lists.specs.Test.{by-test, by-eq, bool-eq, given, and-l, and-r, and-i, eq→eqb, eqb-yes, eqb-no, bit, bit-yes, bit-no, T-true, T-false, true-T, parts}
+use borrow.Author.Tests.{lt-ltb, le-ltb}
+use Rattle.lists.specs.Test.{by-test, bool-eq, given, and-l, and-r, and-i, eq→eqb, eqb-yes, bit, bit-yes, bit-no, T-true, T-false, parts}
 use Rattle.lists.specs.Search.{low, low-is, low-hit, low-none}
 use Rattle.model.specs.Limits.{nodeLimit, emptyRank}
 use Rattle.model.specs.Instance.{Side, deg}
 use Rattle.model.specs.Reduction.{strictLeft, ahead, arrow}
 use Rattle.theory_instance.specs.Lawful.{Ranked}
-use Rattle.theory_instance.specs.Degree.{deg-cong, deg-without, deg-pos, deg-zero, deg-none}
+use Rattle.theory_instance.specs.Degree.{deg-cong, deg-without, deg-zero, deg-none}
 use Rattle.theory_reduction.specs.Arrows.{Ahead, ahead-mono, ahead-is, is-ahead, arrow-strict}
 use Rattle.arrays.specs.ArrayInstance.{at, flag}
 use Rattle.arrays.specs.Passes.{Low}
@@ -61,7 +61,8 @@ celled-is m n end rank tied tie quota cell ties fit C law = record {
 
 -- a test that one number alone passes
 pub low-only : (q : ℕ → Bool) (m x : ℕ) → x < m → T (q x) → ((e : ℕ) → e < m → T (q e) → e ≡ x) → low q m ≡ x
-low-only q m x l t h = low-hit q x m (low-none q x (λ e k. by-test (q e) (λ s. let i : e ≡ x = h e (omega arith) s in absurd (omega arith)) T-false)) (T-true t) l
+low-only q m x l t h = low-hit q x m (low-none q x (λ e k. by-test (q e) (λ s. let i : e ≡ x = h e (omega arith) s in absurd (omega arith)) T-false))
+    (T-true t) l
 
 module _ (K : Side) (law : Ranked K) (cell : List ℕ) (C : Cells K cell) (p : ℕ → Bool) (v : ℕ) (w : v < nodeLimit) where
   abbrev c : ℕ → ℕ
@@ -214,8 +215,10 @@ module _ (K : Side) (law : Ranked K) (cell : List ℕ) (C : Cells K cell) (p : �
       behind b d dl (i ∙ nd) (and-l (p d) (ltb (K .rank x) (K .rank d)) u) (omega (arith, law .placed d dl)))))))
       (λ e el u. given (last-at e u) (λ (i, pe, ze). ⊎-elim
       (λ q. sym (is-cell e el i (all e)) ∙ ap c q)
-      (λ lt. absurd (T-not (later e x) (deg-none K (later e) v ze x l nd) (and-i (p x) (ltb (K .rank e) (K .rank x)) px (lt→ltb (K .rank e) (K .rank x) (omega arith)))))
-      (let g : K .rank e ≤ 32 - k = by-cases (decLe (K .rank e) (32 - k)) (λ q. q) (λ q. absurd (behind b e el i pe (omega (arith, law .placed e el)))) in eq-or-lt-of-le g)))))
+      (λ lt. absurd (T-not (later e x) (deg-none K (later e) v ze x l nd)
+      (and-i (p x) (ltb (K .rank e) (K .rank x)) px (lt→ltb (K .rank e) (K .rank x) (omega arith)))))
+      (let g : K .rank e ≤ 32 - k = by-cases (decLe (K .rank e) (32 - k)) (λ q. q) (λ q. absurd (behind b e el i pe (omega (arith, law .placed e el)))) in
+      eq-or-lt-of-le g)))))
       (λ h. ap (λ y. cond y (c (32 - low from? emptyRank)) (K .m)) (le-ltb (low from? emptyRank) emptyRank (omega arith))
       ∙ sym (low-none last (K .m) (λ e el. by-test (last e)
       (λ u. given (last-at e u) (λ (i, pe, ze). absurd (behind b e el i pe (omega (arith, law .placed e el)))))

@@ -8,7 +8,7 @@ ghost use Rattle.lists.specs.Test.{bit};
 ghost use Rattle.model.specs.Limits.{entryLimit, nodeLimit, emptyRank};
 ghost use Rattle.arrays.specs.ArrayInstance.{at, flag};
 ghost use Rattle.arrays.specs.Passes.{Low};
-ghost use Rattle.reduction_cells.specs.Cells.{Celled, edgeIn, passed, barOf, bestOf, worstOf};
+ghost use Rattle.reduction_cells.specs.Cells.{Celled, edgeIn, barOf, bestOf, worstOf};
 ghost use Rattle.reduction_cells.specs.Painted.{Painted, AllPainted};
 use limits::EMPTY_RANK;
 use limits::ENTRY_LIMIT;

@@ -59,25 +59,33 @@ pub fn both(
     e
 }
 
-// How many edges of a node are in p.
-pub fn count(
+// How many edges of a node are in p, and how many in q.
+pub struct TwoTallies {
+    pub p: u16,
+    pub q: u16,
+}
+
+pub fn tallies(
     m: usize,
     end: &[u8; ENTRY_LIMIT],
     next: &[u16; ENTRY_LIMIT],
     first: &[u16; 32],
     v: usize,
     p: &[bool; ENTRY_LIMIT],
-) -> u16
+    q: &[bool; ENTRY_LIMIT],
+) -> TwoTallies
     requires { ⌜ (v < nodeLimit) × Linked m (now end) (now first) (now next) ⌝ }
-    ensures { λ r. ⌜ r ≡ tallied (now (end .entry)) v (flag (now (p .entry))) m ⌝ }
+    ensures { λ r. ⌜ (r .p ≡ tallied (now (end .entry)) v (flag (now (p .entry))) m) × (r .q ≡ tallied (now (end .entry)) v (flag (now (q .entry))) m) ⌝ }
 {
     let mut c: u16 = 0;
+    let mut d: u16 = 0;
     let mut e = first[v] as usize;
     while e < m {
         c += p[e] as u16;
+        d += q[e] as u16;
         e = next[e] as usize;
     }
-    c
+    TwoTallies { p: c, q: d }
 }
 
 // How many edges of a node are in N(s): they remain, and their other end is loose or sends an arrow.

@@ -3,7 +3,7 @@
 use Prim.Native.Nat.{ℕ, _<_}
 use native.Mathlib.Omega.{arith}
 use mathlib.Core.Path.{_≡_, refl, sym, ap, _∙_, subst}
-use mathlib.Core.Bool.{Bool, true, false, not, cond, _&&_, Bool·beq}
+use mathlib.Core.Bool.{Bool, true, false, not, cond, _&&_}
 use mathlib.Core.List.{List}
 use lib.ListN.{getD, replicate, getD-replicate}
 use lib.Dec.{T, ltb, nltb→le}
@@ -26,7 +26,7 @@ use Rattle.reduction_nodes.specs.declared.Later.{Later}
 use Rattle.reduction_nodes.specs.Known.{Edges, Known, instanceOf}
 use Rattle.reduction_nodes.specs.Renewed.{Renewed}
 use Rattle.reduction_nodes.specs.Numbers.{firstOf, secondsOf, surveyorsOf, standsOf, Surveyed, Stood}
-use Rattle.reduction_nodes.specs.Local.{Same, surveyor-local}
+use Rattle.reduction_nodes.specs.Local.{surveyor-local}
 
 -- ---- the tables of the edges, made once: links and cells of both sides; `strict` says that surveyors tie nothing
 pub record Links : Type 0 where

@@ -3,13 +3,11 @@
 use Prim.Native.Nat.{ℕ, _+_, _<_}
 use native.Mathlib.Omega.{arith}
 use native.Mathlib.Decide.{decLt}
-use mathlib.Core.Path.{_≡_, refl, sym, ap, ap₂, _∙_}
+use mathlib.Core.Path.{_≡_, sym, ap, ap₂, _∙_}
 use mathlib.Core.Logic.{by-cases, _≢_}
-use mathlib.Core.Bool.{Bool, true, false, not, cond, _&&_, _||_, and-false}
+use mathlib.Core.Bool.{Bool, false, not, cond, _&&_, _||_, and-false}
 use mathlib.Core.List.{List}
-use lib.ListN.{set}
-use lib.Seq.{getD-set-other}
-use lib.Dec.{T, leb, ltb, eqb}
+use lib.Dec.{leb, ltb, eqb}
 use Rattle.lists.specs.Test.{by-eq, T-true, T-false, given}
 use Rattle.lists.specs.Search.{low, low-is, low-hit, low-none}
 use Rattle.model.specs.Limits.{nodeLimit, emptyRank}
@@ -19,11 +17,9 @@ use Rattle.theory_reduction.specs.ByNode.{lowestAt-cong}
 use Rattle.arrays.specs.ArrayInstance.{at, flag}
 use Rattle.arrays.specs.Passes.{Low}
 use Rattle.reduction_links.specs.Walks.{atNode, tallied}
-use Rattle.reduction_cells.specs.Cells.{Celled, barOf, bestOf, worstOf}
+use Rattle.reduction_cells.specs.Cells.{Celled, barOf}
 use Rattle.reduction_cells.specs.CellLaws.{sideOf}
 use Rattle.reduction_cells.specs.Local.{Agree, bar-local, best-local, worst-local}
-use Rattle.reduction_nodes.specs.declared.Surveyor.{Surveyor}
-use Rattle.reduction_nodes.specs.declared.Stand.{Stand}
 use Rattle.reduction_nodes.specs.Numbers.{inN, firstOf, secondOf, surveyorOf, standOf}
 
 tallied-local : (m : ℕ) (end : List ℕ) (v : ℕ) (p q : ℕ → Bool) → Agree m end v p q → tallied end v p m ≡ tallied end v q m

@@ -1,17 +1,15 @@
 -- The numbers of the nodes are the model's: what the code reads from a node's edges is the lowest edge that each rule names there.
-use Prim.Native.Nat.{ℕ, _+_, _≤_, _<_}
+use Prim.Native.Nat.{ℕ, _+_, _<_}
 use native.Mathlib.Omega.{arith}
 use mathlib.Core.Path.{_≡_, refl, sym, ap, ap₂, _∙_, subst}
 use mathlib.Core.Bool.{Bool, true, false, not, cond, _&&_, _||_, and-true, and-false}
 use mathlib.Core.List.{List}
-use lib.ListN.{getD}
 use lib.Dec.{T, eqb, leb, ltb, ltb→lt, not-T}
-use borrow.Author.Tests.{lt-ltb}
-use Rattle.lists.specs.Test.{by-bool, bool-eq, and-l, and-r, and-i, T-false, true-T}
-use Rattle.lists.specs.Search.{low, low-none}
+use Rattle.lists.specs.Search.{low-none}
 use Rattle.model.specs.Limits.{nodeLimit}
 use Rattle.model.specs.Instance.{Instance, Side, surveyors, stands, deg}
-use Rattle.model.specs.Reduction.{State, strictLeft, ahead, arrow, cutS, cutT, arrowS, arrowT, degS, degT, aheadS, aheadT, loose, reserved, betterS, betterT, worseReserved}
+use Rattle.model.specs.Reduction.{State, strictLeft, ahead, cutS, cutT, arrowS, arrowT, degS, degT, aheadS}
+use Rattle.model.specs.Reduction.{aheadT, loose, reserved, betterS, betterT, worseReserved}
 use Rattle.model.specs.Reduction.{rule1, rule3, rule4, rule5, rule6, rule7}
 use Rattle.theory_instance.specs.Lawful.{Ranked}
 use Rattle.theory_instance.specs.Degree.{deg-cong}
@@ -127,7 +125,8 @@ second-is K law cell C rem f a h q k v w i = lowestAt-cong (K .m) (K .end)
     ∙ ap₂ leb (i ∙ ap q (sym j)) (ap (λ u. ahead K f u (K .rank e)) (sym j) ∙ come-in K law f a h e l)))
 
 module _ {A : Edges} {quotaS quotaT : List ℕ} (K : Known A quotaS quotaT) (rem fixed : List Bool) (kS kT : ℕ → ℕ) (fs ft : List Bool) (qs qt : List ℕ)
-    (S : Seen (instanceOf K) (stateOf rem fixed kS kT) fs ft qs qt) (cs ct : List ℕ) (CS : Cells (surveyors (instanceOf K)) cs) (CT : Cells (stands (instanceOf K)) ct) where
+    (S : Seen (instanceOf K) (stateOf rem fixed kS kT) fs ft qs qt) (cs ct : List ℕ) (CS : Cells (surveyors (instanceOf K)) cs)
+    (CT : Cells (stands (instanceOf K)) ct) where
   abbrev G : Instance
   G = instanceOf K
 
@@ -157,7 +156,8 @@ module _ {A : Edges} {quotaS quotaT : List ℕ} (K : Known A quotaS quotaT) (rem
       (leb (tallied (A .st) v (flag fs) m + tallied (A .st) v (flag ft) m) (at qt v))
       (λ e l i. assoc (flag rem e) (arrowS G Z e) (leb (degT G Z (arrowS G Z) (G .st e) + degT G Z (arrowT G Z) (G .st e)) (cutT G Z (G .st e)))
       ∙ ap₂ (λ (x y : Bool). (flag rem e && x) && y) (sym (S .fromS e l))
-      (subst (λ u. leb (degT G Z (arrowS G Z) u + degT G Z (arrowT G Z) u) (cutT G Z u) ≡ leb (tallied (A .st) v (flag fs) m + tallied (A .st) v (flag ft) m) (at qt v))
+      (subst (λ u. leb (degT G Z (arrowS G Z) u + degT G Z (arrowT G Z) u) (cutT G Z u) ≡ leb (tallied (A .st) v (flag fs) m + tallied (A .st) v (flag ft) m)
+      (at qt v))
       (sym i) (sym (ap₂ leb (ap₂ _+_ (got-is v) (sent-is v)) (S .quotaT v w)))))
 
   pub stand7 : (v : ℕ) → v < nodeLimit → cond (ltb (tallied (A .st) v (flag fs) m) (at qt v)) (bestOf m ct (flag rem) v) m ≡ namedAt G Z (G .st) rule7 v

@@ -100,9 +100,12 @@ module _ (new : ℕ → Surveyor) (saw : List Bool) (x : Surveyors) where
       rule6 = simp length-set (z .rule6);
     },
     record {
-      rule4 = renewed-set 0 saw (λ v. new v .rule4) (x .rule4) i (y .rule4) (s .rule4) (omega (arith, z .rule4)) t (ap (λ (k : Surveyor). k .rule4) e) (R .rule4);
-      rule5 = renewed-set 0 saw (λ v. new v .rule5) (x .rule5) i (y .rule5) (s .rule5) (omega (arith, z .rule5)) t (ap (λ (k : Surveyor). k .rule5) e) (R .rule5);
-      rule6 = renewed-set 0 saw (λ v. new v .rule6) (x .rule6) i (y .rule6) (s .rule6) (omega (arith, z .rule6)) t (ap (λ (k : Surveyor). k .rule6) e) (R .rule6);
+      rule4 = renewed-set 0 saw (λ v. new v .rule4) (x .rule4) i (y .rule4) (s .rule4) (omega (arith, z .rule4)) t (ap (λ (k : Surveyor). k .rule4) e)
+          (R .rule4);
+      rule5 = renewed-set 0 saw (λ v. new v .rule5) (x .rule5) i (y .rule5) (s .rule5) (omega (arith, z .rule5)) t (ap (λ (k : Surveyor). k .rule5) e)
+          (R .rule5);
+      rule6 = renewed-set 0 saw (λ v. new v .rule6) (x .rule6) i (y .rule6) (s .rule6) (omega (arith, z .rule6)) t (ap (λ (k : Surveyor). k .rule6) e)
+          (R .rule6);
     },
   )
 
@@ -139,7 +142,8 @@ module _ (new : ℕ → Stand) (saw : List Bool) (x : Stands) where
     record {
       rule3 = renewed-set 0 saw (λ v. new v .rule3) (x .rule3) i (y .rule3) (s .rule3) (omega (arith, z .rule3)) t (ap (λ (k : Stand). k .rule3) e) (R .rule3);
       rule7 = renewed-set 0 saw (λ v. new v .rule7) (x .rule7) i (y .rule7) (s .rule7) (omega (arith, z .rule7)) t (ap (λ (k : Stand). k .rule7) e) (R .rule7);
-      loose = renewed-set false saw (λ v. new v .loose) (x .loose) i (y .loose) (s .loose) (omega (arith, z .loose)) t (ap (λ (k : Stand). k .loose) e) (R .loose);
+      loose = renewed-set false saw (λ v. new v .loose) (x .loose) i (y .loose) (s .loose) (omega (arith, z .loose)) t (ap (λ (k : Stand). k .loose) e)
+          (R .loose);
     },
   )
 

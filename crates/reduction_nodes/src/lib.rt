@@ -3,7 +3,7 @@
 // anew. Rules 1 and 2 are asked at every step, the later ones only where both are silent, so each group has its own functions.
 ghost use mathlib.Core.Path.{_≡_};
 ghost use mathlib.Core.Bool.{_&&_, _||_, cond};
-ghost use Prim.Native.Nat.{_≤_, _<_};
+ghost use Prim.Native.Nat.{_<_};
 ghost use lib.Dec.{leb, ltb};
 ghost use Rattle.lists.specs.Search.{low};
 ghost use Rattle.model.specs.Limits.{nodeLimit, emptyRank};
@@ -195,8 +195,9 @@ pub fn stand_now(
     requires { ⌜ (v < nodeLimit) × Linked m (now st) (now first) (now next) × Celled m (now st) (now rank) (now tied) (now cell) ⌝ }
     ensures { λ r. ⌜ r ≡ standOf m (now (st .entry)) (now (cell .entry)) (now (rem .entry)) (now (fs .entry)) (now (ft .entry)) q v ⌝ }
 {
-    let got = reduction_links::count(m, st, next, first, v, fs);
-    let sent = reduction_links::count(m, st, next, first, v, ft);
+    let n = reduction_links::tallies(m, st, next, first, v, fs, ft);
+    let got = n.p;
+    let sent = n.q;
     let rule3 = third(m, st, next, first, v, rem, fs, got + sent, q);
     let rule7 = short(m, st, rank, tied, cell, v, rem, got, q);
     Stand {

@@ -1,13 +1,13 @@
 -- Where a run is: the numbers that it carries are those of its arrays, and the arrays show the model's state and its arrows. So it is at the beginning,
 -- and after each step.
 use Prim.Native.Nat.{ℕ, _≤_, _<_}
-use mathlib.Core.Path.{_≡_, refl, sym, ap, _∙_, subst}
+use mathlib.Core.Path.{_≡_, sym, _∙_, subst}
 use mathlib.Core.Bool.{Bool, true, false}
 use mathlib.Core.List.{List}
 use lib.ListN.{length, replicate, getD-replicate}
 use lib.Dec.{T}
 use Rattle.model.specs.Limits.{nodeLimit, entryLimit}
-use Rattle.model.specs.Instance.{Instance, surveyors, stands}
+use Rattle.model.specs.Instance.{surveyors, stands}
 use Rattle.model.specs.Reduction.{cutS, cutT}
 use Rattle.arrays.specs.ArrayInstance.{at, flag}
 use Rattle.reduction_cells.specs.Painted.{AllPainted}

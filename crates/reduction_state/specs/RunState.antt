@@ -2,10 +2,10 @@
 use Prim.Native.Nat.{ℕ, suc, _+_, _-_, _≤_, _<_, min}
 use native.Mathlib.Omega.{arith}
 use mathlib.Core.Path.{_≡_, sym, ap, ap₂, _∙_, subst, fun-ext}
-use mathlib.Core.Bool.{Bool, false, not, _&&_, _||_}
+use mathlib.Core.Bool.{Bool, false, _||_}
 use mathlib.Core.List.{List}
 use lib.ListN.{length, set, length-set}
-use lib.Dec.{T, eqb, ltb}
+use lib.Dec.{T, ltb}
 use mir.Val.{boolByte}
 use Rattle.model.specs.Limits.{nodeLimit, entryLimit}
 use Rattle.model.specs.Instance.{Instance, deg}

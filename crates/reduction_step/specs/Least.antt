@@ -3,8 +3,8 @@ use Prim.Native.Nat.{ℕ, _+_, _≤_, _<_, min}
 use native.Mathlib.Omega.{arith}
 use native.Mathlib.Nat.{eq-or-lt-of-le}
 use native.Mathlib.Decide.{decLt, decLe}
-use mathlib.Core.Path.{_≡_, refl, sym, ap, _∙_, subst}
-use mathlib.Core.Logic.{by-cases, ⊎-elim, inl, inr}
+use mathlib.Core.Path.{_≡_, refl, sym, _∙_, subst}
+use mathlib.Core.Logic.{by-cases, ⊎-elim}
 use mathlib.Core.Bool.{Bool, not, _&&_, _||_}
 use mathlib.Core.List.{List}
 use lib.Dec.{T, eqb, T-not}
@@ -35,7 +35,8 @@ least-next xs n l r L i = by-cases (decLe l (at xs n))
     (λ h. record { below = below; node = n; inside = omega arith; is = omega arith })
   where
     below : (v : ℕ) → v < n + 1 → r ≤ at xs v
-    below v k = ⊎-elim (λ e. subst (λ u. r ≤ at xs u) (sym e) (omega arith)) (λ b. omega (arith, L .below v b)) (let g : v ≤ n = omega arith in eq-or-lt-of-le g)
+    below v k = ⊎-elim (λ e. subst (λ u. r ≤ at xs u) (sym e) (omega arith)) (λ b. omega (arith, L .below v b))
+        (let g : v ≤ n = omega arith in eq-or-lt-of-le g)
 
 -- the lowest of all is not above one that passes
 low-le : (p : ℕ → Bool) (m e : ℕ) → T (p e) → low p m ≤ e

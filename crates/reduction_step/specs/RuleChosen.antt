@@ -12,7 +12,6 @@ use Rattle.model.specs.Instance.{Instance}
 use Rattle.model.specs.Reduction.{State, rule1, rule2, rule3, rule4, rule5, rule6, rule7}
 use Rattle.theory_reduction.specs.RuleNumbers.{names, lowest, ruleOf, edgeOf}
 use Rattle.theory_reduction.specs.ByNode.{rule2S, rule2T, rule2-ends}
-use Rattle.arrays.specs.ArrayInstance.{at, flag}
 use Rattle.reduction_nodes.specs.declared.Surveyor.{Surveyor}
 use Rattle.reduction_nodes.specs.declared.Stand.{Stand}
 use Rattle.reduction_nodes.specs.declared.Later.{Later}

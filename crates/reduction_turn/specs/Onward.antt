@@ -114,7 +114,8 @@ calm-on A strict L D Y e l k twos twot ns nt hs ht rem₀ qs₀ qt₀ g QS QT = 
   leads = λ H. record {
     first = H .first;
     atS = seconds-calm (A .m) (A .sv) (A .rs) strict (L .cellS) (D .celledS) (D .placedS) rem₀ (Y .rem) (Y .ft) qs₀ (Y .qs) e (k .twos) twos g QS hs (H .atS);
-    atT = seconds-calm (A .m) (A .st) (A .rt) (A .tied) (L .cellT) (D .celledT) (D .placedT) rem₀ (Y .rem) (Y .fs) qt₀ (Y .qt) e (k .twot) twot g QT ht (H .atT);
+    atT = seconds-calm (A .m) (A .st) (A .rt) (A .tied) (L .cellT) (D .celledT) (D .placedT) rem₀ (Y .rem) (Y .fs) qt₀ (Y .qt) e (k .twot) twot g QT ht
+        (H .atT);
   };
   lates = lates-on A strict L D (looks rem₀ (Y .fs) (Y .ft) qs₀ qt₀) Y k (calmed A e k twos twot)
       (λ v w t. given (marked-other (k .olds) (at (A .sv) e) v ns (D .fitS e l) t) (λ (n, o). (o, same (A .sv) v n, QS v)))
@@ -149,7 +150,8 @@ painted-apart : (m : ℕ) (end rank : List ℕ) (tied : List Bool) (cell : List 
 painted-apart m end rank tied cell C placed other rem v q vl f₀ w₀ f w P u n d l j = P .old d (λ i h (z : inCell cell v i ≡ d).
     let k : inCell cell v i < m = omega arith in
     n (sym j ∙ ap (at end) (sym z)
-    ∙ same-place (at end (inCell cell v i)) v (at rank (inCell cell v i)) i (placed (inCell cell v i) k) h (cell-holds m end rank tied cell C v i vl h k .0) .0))
+    ∙ same-place (at end (inCell cell v i)) v (at rank (inCell cell v i)) i (placed (inCell cell v i) k) h (cell-holds m end rank tied cell C v i vl h k .0)
+    .0))
 
 pub record AnewOn (A : Edges) (L : Links) (rem : List Bool) (qs qt : List ℕ) (fs ft fs′ ft′ : List Bool) (e : ℕ) (k k′ : Numbers) : Type 0 where
   pub saws : List Bool

@@ -1,13 +1,12 @@
 -- What a turn does to the state: where the arrays showed the model's state and its arrows, they show the next state and its arrows.
 use Prim.Native.Nat.{ℕ, _<_}
-use mathlib.Core.Path.{_≡_, refl, sym, ap, _∙_, subst}
+use mathlib.Core.Path.{_≡_, sym, ap, _∙_}
 use mathlib.Core.Logic.{_≢_}
 use mathlib.Core.Bool.{Bool, false, not, _&&_}
 use mathlib.Core.List.{List}
-use lib.ListN.{set}
 use lib.Seq.{getD-set-other}
-use lib.Dec.{T, eqb}
-use Rattle.lists.specs.Test.{by-eq, false-T, given}
+use lib.Dec.{eqb}
+use Rattle.lists.specs.Test.{by-eq, false-T}
 use Rattle.model.specs.Limits.{nodeLimit, emptyRank}
 use Rattle.model.specs.Instance.{Instance, Side, surveyors, stands}
 use Rattle.model.specs.Reduction.{arrow, cutS, cutT, arrowS, arrowT}
@@ -39,7 +38,8 @@ seen S = record { fromS = S .fromS; fromT = S .fromT; quotaS = S .stood .holds .
 -- one step on, in every lawful instance that the arrays show
 abbrev pub ShownOn : (A : Edges) (x : arrays.State) (fs ft : List Bool) (r e : ℕ) (y : arrays.State) (fs′ ft′ : List Bool) → Type 0
 ShownOn A x fs ft r e y fs′ ft′ = (quotaS quotaT : List ℕ) (K : Known A quotaS quotaT) (t : Trace) (S : Shown (instanceOf K) x fs ft t)
-    → ruleOf (instanceOf K) (stateAt (S .stood)) ≡ r → edgeOf (instanceOf K) (stateAt (S .stood)) ≡ e → t .steps < A .m → Shown (instanceOf K) y fs′ ft′ (entered t e r)
+    → ruleOf (instanceOf K) (stateAt (S .stood)) ≡ r → edgeOf (instanceOf K) (stateAt (S .stood)) ≡ e → t .steps < A .m → Shown (instanceOf K) y fs′ ft′
+    (entered t e r)
 
 -- ---- what is not at the ends of the edge stays
 module _ (sv st : List ℕ) (x : arrays.State) (r e : ℕ) (y : arrays.State) (i : y ≡ acted sv st x r e) where

@@ -8,7 +8,7 @@ use lib.Dec.{T, leb, ltb, eqb, eqb→eq, eqb-refl, ltb→lt, lt→ltb, nltb→le
 use borrow.Author.Tests.{le-ltb}
 use Rattle.lists.specs.Test.{by-test, by-eq, given, and-l, and-r, and-i, nand-r, T-false, parts}
 use Rattle.lists.specs.Search.{low, low-cong}
-use Rattle.model.specs.Instance.{Instance, Side, deg}
+use Rattle.model.specs.Instance.{Instance, Side}
 use Rattle.model.specs.Reduction.{State, strictLeft, ahead, arrow, cutS, cutT, degS, degT, betterS, betterT, rule2}
 use Rattle.theory_instance.specs.Degree.{deg-cong, deg-sub}
 

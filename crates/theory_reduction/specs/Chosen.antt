@@ -3,13 +3,12 @@
 use Prim.Native.Nat.{ℕ, zero, suc, _≤_, _<_}
 use native.Mathlib.Omega.{arith}
 use native.Mathlib.Decide.{decLt}
-use mathlib.Core.Path.{_≡_, refl, ap, _∙_}
+use mathlib.Core.Path.{_≡_, refl}
 use mathlib.Core.Logic.{by-cases}
 use mathlib.Core.Bool.{Bool, true, false, not, _&&_}
 use lib.Dec.{T, ltb, ltb→lt, nltb→le, not-T}
-use borrow.Author.Tests.{lt-ltb, le-ltb}
 use Rattle.lists.specs.Test.{given, and-l, and-r, nand-r, T-false}
-use Rattle.lists.specs.Search.{low-is, low-hit, low-none}
+use Rattle.lists.specs.Search.{low-is}
 use Rattle.model.specs.Instance.{Instance, surveyors, stands}
 use Rattle.model.specs.Reduction.{State, cutS, cutT, arrowS, rule1, rule2, rule3, rule4, rule5, rule6, rule7, fixes}
 use Rattle.theory_reduction.specs.RuleNumbers.{names, lowest, ruleOf, edgeOf, fateOf}

@@ -1,10 +1,9 @@
 -- The edges from i on are linked.
 use mathlib.Core.Path.{_≡_, refl, subst}
-use Prim.Native.Nat.{ℕ, _+_, _-_, _≤_, _<_}
+use Prim.Native.Nat.{ℕ, _+_, _-_, _≤_}
 use native.Mathlib.Omega.{arith}
 use borrow.Author.Needs.{needs}
 use lib.ListN.{length, length-set, length-replicate}
-use Rattle.arrays.specs.ArrayInstance.{at}
 use Rattle.edge_links.specs.Linked.{LinkedFrom, linked-none, linked-on}
 use Rattle.edge_links.proofs.links.Statement.{statement}
 use Rattle.edge_links.proofs.links.Tie as tie

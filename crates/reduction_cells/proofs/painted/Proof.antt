@@ -1,7 +1,7 @@
 -- The nodes passed are painted.
 use mathlib.Core.Path.{_≡_, subst, _∙_}
 use mathlib.Core.Bool.{false}
-use Prim.Native.Nat.{ℕ, _+_, _-_, _≤_, zero-le}
+use Prim.Native.Nat.{_-_, _≤_, zero-le}
 use native.Mathlib.Omega.{arith}
 use borrow.Author.Needs.{needs}
 use lib.ListN.{length, length-replicate}
@@ -54,4 +54,5 @@ returns c =
     subst (λ k. AllPainted (a .m) (a .cell .now) (a .rem .now) (a .q .now) k (l .f)) e (l .inv .3)
 
 pub painted-spec : {M : Type 1} → statement M
-painted-spec = tie.close (tie.spec Inv-loop μ-loop loop-holds (λ c. search needs) (λ c. search needs) paint-requires (λ c. search needs) (λ c. search needs) loop-again returns)
+painted-spec = tie.close (tie.spec Inv-loop μ-loop loop-holds (λ c. search needs) (λ c. search needs) paint-requires (λ c. search needs) (λ c. search needs)
+    loop-again returns)

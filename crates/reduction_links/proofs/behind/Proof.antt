@@ -28,7 +28,8 @@ returns : tie.Need-returns Inv-loop μ-loop
 returns c =
     let a = c .before .before .before .before .before .before .args in
     let l = c .before .before .before .before .loop in
-    walk-hit (c .before .before .before .before .before .before .pre .1) (a .v) (test (a .p .now) (a .rank .now) (a .bar)) (l .e) (c .before .before .before .loop-test .taken) (l .inv) (c .if1 .taken)
+    walk-hit (c .before .before .before .before .before .before .pre .1) (a .v) (test (a .p .now) (a .rank .now) (a .bar)) (l .e)
+    (c .before .before .before .loop-test .taken) (l .inv) (c .if1 .taken)
 
 cast-e : tie.Need-cast-e Inv-loop μ-loop
 cast-e c =
@@ -37,20 +38,29 @@ cast-e c =
 
 cast-e-2 : tie.Need-cast-e-2 Inv-loop μ-loop
 cast-e-2 c =
-    let p = c .before .before .before .before .before .before .before .pre in
-    omega (arith, p .1 .edges, next-inside (p .1) (c .before .before .before .before .before .before .before .args .v) (c .before .before .before .before .before .loop .e) (c .before .before .before .before .loop-test .taken))
+    let b6 = c .before .before .before .before .before .before in
+    let p = b6 .before .pre in
+    omega (
+      arith,
+      p .1 .edges,
+      next-inside (p .1) (b6 .before .args .v) (c .before .before .before .before .before .loop .e)
+          (c .before .before .before .before .loop-test .taken),
+    )
 
 loop-less : tie.Need-loop-less Inv-loop μ-loop
 loop-less c =
+    let b6 = c .before .before .before .before .before .before in
     let l = c .before .before .before .before .before .loop in
     let t = c .before .before .before .before .loop-test .taken in
-    omega (arith, next-later (c .before .before .before .before .before .before .before .pre .1) (c .before .before .before .before .before .before .before .args .v) (l .e) t (l .inv .here t))
+    omega (arith, next-later (b6 .before .pre .1) (b6 .before .args .v) (l .e) t (l .inv .here t))
 
 loop-again : tie.Need-loop-again Inv-loop μ-loop
 loop-again c =
-    let a = c .before .before .before .before .before .before .before .args in
+    let b6 = c .before .before .before .before .before .before in
+    let a = b6 .before .args in
     let l = c .before .before .before .before .before .loop in
-    walk-on (c .before .before .before .before .before .before .before .pre .1) (a .v) (test (a .p .now) (a .rank .now) (a .bar)) (l .e) (c .before .before .before .before .loop-test .taken) (l .inv) (c .before .if1 .left)
+    walk-on (b6 .before .pre .1) (a .v) (test (a .p .now) (a .rank .now) (a .bar)) (l .e) (c .before .before .before .before .loop-test .taken) (l .inv)
+    (c .before .if1 .left)
 
 returns-2 : tie.Need-returns-2 Inv-loop μ-loop
 returns-2 c =

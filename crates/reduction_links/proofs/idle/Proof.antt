@@ -25,9 +25,11 @@ loop-holds c =
 
 returns : tie.Need-returns Inv-loop μ-loop
 returns c =
-    let a = c .before .before .before .before .before .before .before .before .before .args in
-    let l = c .before .before .before .before .before .before .before .loop in
-    walk-hit (c .before .before .before .before .before .before .before .before .before .pre .1) (a .v) (test (a .other .now) (a .rem .now) (a .lo .now) (a .fs .now) (a .ft .now)) (l .e) (c .before .before .before .before .before .before .loop-test .taken) (l .inv) (c .if1 .taken)
+    let b6 = c .before .before .before .before .before .before in
+    let a = b6 .before .before .before .args in
+    let l = b6 .before .loop in
+    walk-hit (b6 .before .before .before .pre .1) (a .v) (test (a .other .now) (a .rem .now) (a .lo .now) (a .fs .now) (a .ft .now)) (l .e)
+    (b6 .loop-test .taken) (l .inv) (c .if1 .taken)
 
 cast-e : tie.Need-cast-e Inv-loop μ-loop
 cast-e c =
@@ -36,31 +38,37 @@ cast-e c =
 
 cast-e-2 : tie.Need-cast-e-2 Inv-loop μ-loop
 cast-e-2 c =
-    let p = c .before .before .before .before .before .before .before .before .before .before .pre in
-    omega (arith, p .1 .edges, next-inside (p .1) (c .before .before .before .before .before .before .before .before .before .before .args .v) (c .before .before .before .before .before .before .before .before .loop .e) (c .before .before .before .before .before .before .before .loop-test .taken))
+    let b6 = c .before .before .before .before .before .before in
+    let p = b6 .before .before .before .before .pre in
+    omega (arith, p .1 .edges, next-inside (p .1) (b6 .before .before .before .before .args .v) (b6 .before .before .loop .e) (b6 .before .loop-test .taken))
 
 loop-less : tie.Need-loop-less Inv-loop μ-loop
 loop-less c =
-    let l = c .before .before .before .before .before .before .before .before .loop in
-    let t = c .before .before .before .before .before .before .before .loop-test .taken in
-    omega (arith, next-later (c .before .before .before .before .before .before .before .before .before .before .pre .1) (c .before .before .before .before .before .before .before .before .before .before .args .v) (l .e) t (l .inv .here t))
+    let b6 = c .before .before .before .before .before .before in
+    let l = b6 .before .before .loop in
+    let t = b6 .before .loop-test .taken in
+    omega (arith, next-later (b6 .before .before .before .before .pre .1) (b6 .before .before .before .before .args .v) (l .e) t (l .inv .here t))
 
 loop-again : tie.Need-loop-again Inv-loop μ-loop
 loop-again c =
-    let a = c .before .before .before .before .before .before .before .before .before .before .args in
-    let l = c .before .before .before .before .before .before .before .before .loop in
-    walk-on (c .before .before .before .before .before .before .before .before .before .before .pre .1) (a .v) (test (a .other .now) (a .rem .now) (a .lo .now) (a .fs .now) (a .ft .now)) (l .e) (c .before .before .before .before .before .before .before .loop-test .taken) (l .inv) (c .before .if1 .left)
+    let b6 = c .before .before .before .before .before .before in
+    let a = b6 .before .before .before .before .args in
+    let l = b6 .before .before .loop in
+    walk-on (b6 .before .before .before .before .pre .1) (a .v) (test (a .other .now) (a .rem .now) (a .lo .now) (a .fs .now) (a .ft .now)) (l .e)
+    (b6 .before .loop-test .taken) (l .inv) (c .before .if1 .left)
 
 returns-2 : tie.Need-returns-2 Inv-loop μ-loop
 returns-2 c =
     let a = c .before .before .before .args in
     let l = c .before .loop in
-    walk-ends (c .before .before .before .pre .1) (a .v) (test (a .other .now) (a .rem .now) (a .lo .now) (a .fs .now) (a .ft .now)) (l .e) (c .loop-test .left) (l .inv)
+    walk-ends (c .before .before .before .pre .1) (a .v) (test (a .other .now) (a .rem .now) (a .lo .now) (a .fs .now) (a .ft .now)) (l .e)
+    (c .loop-test .left) (l .inv)
 
 pub idle-spec : {M : Type 1} → statement M
 idle-spec =
     tie.close (tie.spec Inv-loop μ-loop (λ c. search needs) (λ c. search needs) cast-e loop-holds (λ c. search needs)
     (λ c. omega (arith, c .before .before .before .before .pre .2 (c .before .before .loop .e) (c .before .loop-test .taken))) (λ c. search needs)
-    (λ c. omega (arith, c .before .before .before .before .before .pre .2 (c .before .before .before .loop .e) (c .before .before .loop-test .taken))) (λ c. search needs)
+    (λ c. omega (arith, c .before .before .before .before .before .pre .2 (c .before .before .before .loop .e) (c .before .before .loop-test .taken)))
+    (λ c. search needs)
     (λ c. search needs) returns (λ c. search needs)
     (λ c. search needs) cast-e-2 loop-less loop-again returns-2)

@@ -19,8 +19,12 @@ abbrev μ-loop : tie.MeasureT-loop
 
 loop-holds : tie.Need-loop-holds Inv-loop μ-loop
 loop-holds c =
-    let a = c .args in
-    (zero-le, search needs, renewed-none 0 (a .saw .now) (secondsOf (a .m) (a .end .now) (a .rank .now) (a .cell .now) (a .rem .now) (a .f .now) (a .q .now)) (a .x))
+    let a = c .args in (
+      zero-le,
+      search needs,
+      renewed-none 0 (a .saw .now) (secondsOf (a .m) (a .end .now) (a .rank .now) (a .cell .now) (a .rem .now) (a .f .now) (a .q .now))
+          (a .x),
+    )
 
 second-requires : tie.Need-second-requires Inv-loop μ-loop
 second-requires c κs =

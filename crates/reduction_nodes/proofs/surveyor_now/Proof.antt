@@ -1,9 +1,7 @@
 -- The numbers of a surveyor, rule by rule.
-use mathlib.Core.Path.{_≡_, ap, ap₂, _∙_}
 use mathlib.Core.Bool.{_&&_, not}
 use native.Mathlib.Omega.{arith}
-use borrow.Author.Needs.{needs}
-use Rattle.lists.specs.Search.{low, low-is}
+use Rattle.lists.specs.Search.{low-is}
 use Rattle.arrays.specs.ArrayInstance.{at, flag}
 use Rattle.reduction_links.specs.Walks.{atNode}
 use Rattle.reduction_nodes.proofs.surveyor_now.Statement.{statement}

@@ -12,10 +12,14 @@ start-requires : tie.Need-start-requires
 start-requires c κs = let D = c .pre in (D .linkedS .edges, D .fitS, D .fitT)
 
 painted-requires : tie.Need-painted-requires
-painted-requires c κs = let D = c .before .before .before .before .before .before .before .before .before .pre in (D .celledS, D .fitT, D .placedS)
+painted-requires c κs =
+    let b6 = c .before .before .before .before .before .before in
+    let D = b6 .before .before .before .pre in (D .celledS, D .fitT, D .placedS)
 
 painted-requires-2 : tie.Need-painted-requires-2
-painted-requires-2 c κs = let D = c .before .before .before .before .before .before .before .before .before .before .before .before .pre in (D .celledT, D .fitS, D .placedT)
+painted-requires-2 c κs =
+    let b12 = c .before .before .before .before .before .before .before .before .before .before .before .before in
+    let D = b12 .pre in (D .celledT, D .fitS, D .placedT)
 
 -- the arrays have their sizes
 sized : (c : tie.After-start) → Sized (c .start .result)
@@ -29,15 +33,18 @@ sizeT c = search needs
 
 returns : tie.Need-returns
 returns c =
-    let p = c .before .before .before .before .before .before .before .before .before .before .before .before .before .before .before .before .before .before .before .pre in
-    let x = c .before .before .before .before .before .before .before .before .before .before .before .before .before .before .before .before .before .before .start .result in
+    let b6 = c .before .before .before .before .before .before in
+    let b18 = b6 .before .before .before .before .before .before .before .before .before .before .before .before in
+    let p = b18 .before .pre in
+    let x = b18 .start .result in
     let N = c .numbered .ensures in record {
       numbered = record { leads = N .leads; lates = N .lates _ _ };
-      shown = λ K. shown-first p K x (c .before .before .before .before .before .before .before .before .before .before .before .before .before .before .before .before .before .before .start .ensures) (c .before .before .before .before .before .before .before .before .before .painted .result) (c .before .before .before .before .before .before .painted2 .result) (c .before .before .before .before .before .before .before .before .before .painted .ensures)
-          (c .before .before .before .before .before .before .painted2 .ensures);
-      sized = sized (c .before .before .before .before .before .before .before .before .before .before .before .before .before .before .before .before .before .before);
-      sizeS = sizeS (c .before .before .before .before .before .before .before .before .before);
-      sizeT = sizeT (c .before .before .before .before .before .before);
+      shown = λ K. shown-first p K x (b18 .start .ensures) (b6 .before .before .before .painted .result) (b6 .painted2 .result)
+          (b6 .before .before .before .painted .ensures)
+          (b6 .painted2 .ensures);
+      sized = sized (b18);
+      sizeS = sizeS (b6 .before .before .before);
+      sizeT = sizeT (b6);
     }
 
 pub begun-spec : {M : Type 1} → statement M

@@ -25,7 +25,8 @@ returns c =
     let all : List Bool = replicate nodeLimit true in
     let none : List ℕ = replicate nodeLimit 0 in record {
       leads = record {
-        first = renewed-all all (firstNow A L X) none (c .before .before .before .before .first-renewed .result) (c .before .before .before .before .first-renewed .ensures)
+        first = renewed-all all (firstNow A L X) none (c .before .before .before .before .first-renewed .result)
+            (c .before .before .before .before .first-renewed .ensures)
             (λ v w t. absurd (all-marked v w t));
         atS = renewed-all all (secondS A L X) none (c .before .before .second-renewed .result) (c .before .before .second-renewed .ensures)
             (λ v w t. absurd (all-marked v w t));

@@ -7,28 +7,37 @@ use Rattle.reduction_run.proofs.reduce.Statement.{statement}
 use Rattle.reduction_run.proofs.reduce.Tie as tie
 
 cells-requires : tie.Need-cells-requires
-cells-requires c κs = let p = c .before .before .before .before .before .before .before .before .before .pre in (p .0, p .1, p .3)
+cells-requires c κs =
+    let b6 = c .before .before .before .before .before .before in
+    let p = b6 .before .before .before .pre in (p .0, p .1, p .3)
 
 cells-requires-2 : tie.Need-cells-requires-2
-cells-requires-2 c κs = let p = c .before .before .before .before .before .before .before .before .before .before .pre in (p .0, p .2, p .4)
+cells-requires-2 c κs =
+    let b6 = c .before .before .before .before .before .before in
+    let p = b6 .before .before .before .before .pre in (p .0, p .2, p .4)
 
 run-requires : tie.Need-run-requires
 run-requires c κs =
-    let p = c .before .before .before .before .before .before .before .before .before .before .before .before .before .before .before .before .before .before .pre in record {
+    let b6 = c .before .before .before .before .before .before in
+    let b12 = b6 .before .before .before .before .before .before in
+    let b18 = b12 .before .before .before .before .before .before in
+    let p = b18 .pre in record {
       fitS = p .1;
       fitT = p .2;
       placedS = p .3;
       placedT = p .4;
       none = all-blank false entryLimit;
-      linkedS = c .before .before .before .before .before .before .before .before .before .before .before .before .before .before .before .links .ensures .1;
-      linkedT = c .before .before .before .before .before .before .before .before .before .before .before .links2 .ensures .1;
-      celledS = c .before .before .before .before .before .before .before .before .cells .ensures;
-      celledT = c .before .before .before .before .before .before .before .cells2 .ensures;
+      linkedS = b12 .before .before .before .links .ensures .1;
+      linkedT = b6 .before .before .before .before .before .links2 .ensures .1;
+      celledS = b6 .before .before .cells .ensures;
+      celledT = b6 .before .cells2 .ensures;
     }
 
 returns : tie.Need-returns
 returns c =
-    let p = c .before .before .before .before .before .before .before .before .before .before .before .before .before .before .before .before .before .before .before .pre in
+    let b18 = c .before .before .before .before .before .before .before .before .before .before .before .before .before .before .before .before .before
+    .before in
+    let p = b18 .before .pre in
     λ ns nt sh law. c .run .ensures (record { ns = ns; nt = nt; sh = sh; law = law; size = p .0; fitS = p .1; fitT = p .2 })
 
 pub reduce-spec : {M : Type 1} → statement M

@@ -2,7 +2,6 @@
 use mathlib.Core.Path.{_≡_}
 use Prim.Native.Nat.{_-_}
 use native.Mathlib.Omega.{arith}
-use borrow.Author.Needs.{needs}
 use lib.ListN.{length}
 use Rattle.model.specs.Limits.{entryLimit}
 use Rattle.reduction_nodes.specs.Known.{Known, instanceOf}
@@ -28,15 +27,19 @@ loop-holds : tie.Need-loop-holds Inv-loop μ-loop
 loop-holds c = let B = c .before .before .before .before .before .begun .ensures in (B .numbered, (B .sized, B .sizeS, B .sizeT), B .shown)
 
 advanced-requires : tie.Need-advanced-requires Inv-loop μ-loop
-advanced-requires c κs = let i = c .before .before .before .before .before .loop .inv in (c .before .before .before .before .before .before .before .before .before .before .before .before .pre, (i .0, i .1))
+advanced-requires c κs =
+    let b12 = c .before .before .before .before .before .before .before .before .before .before .before .before in
+    let i = c .before .before .before .before .before .loop .inv in (b12 .pre, (i .0, i .1))
 
 loop-again : tie.Need-loop-again Inv-loop μ-loop
 loop-again c =
-    let a = c .before .before .before .before .before .before .before .before .before .before .before .before .before .before .before .args in
-    let l = c .before .before .before .before .before .before .before .before .loop in
+    let b6 = c .before .before .before .before .before .before in
+    let b12 = b6 .before .before .before .before .before .before in
+    let a = b12 .before .before .before .args in
+    let l = b6 .before .before .loop in
     let u = c .before .before .advanced .ensures in
     let t : Trace = record { edges = l .edges; rules = l .rules; steps = l .n } in
-    (u .0, u .1 .0, λ K. u .1 .1 (a .qs .now) (a .qt .now) K t (l .inv .2 K) (c .before .before .before .before .before .before .before .loop-test .taken) .0 (c .before .if1 .left))
+    (u .0, u .1 .0, λ K. u .1 .1 (a .qs .now) (a .qt .now) K t (l .inv .2 K) (b6 .before .loop-test .taken) .0 (c .before .if1 .left))
 
 returns : tie.Need-returns Inv-loop μ-loop
 returns c =
@@ -46,17 +49,44 @@ returns c =
 
 returns-2 : tie.Need-returns-2 Inv-loop μ-loop
 returns-2 c =
-    let a = c .before .before .before .before .before .before .before .before .before .before .before .before .before .before .args in
-    let l = c .before .before .before .before .before .before .before .loop in
+    let b6 = c .before .before .before .before .before .before in
+    let b12 = b6 .before .before .before .before .before .before in
+    let a = b12 .before .before .args in
+    let l = b6 .before .loop in
     let t : Trace = record { edges = l .edges; rules = l .rules; steps = l .n } in
-    λ K. c .before .advanced .ensures .1 .1 (a .qs .now) (a .qt .now) K t (l .inv .2 K) (c .before .before .before .before .before .before .loop-test .taken) .1 (c .if1 .taken)
+    λ K. c .before .advanced .ensures .1 .1 (a .qs .now) (a .qt .now) K t (l .inv .2 K) (b6 .loop-test .taken) .1 (c .if1 .taken)
 
 pub run-spec : {M : Type 1} → statement M
 run-spec =
     tie.close (tie.spec Inv-loop μ-loop (λ c κs. c .pre) loop-holds advanced-requires
-    (λ c. omega (arith, c .if1 .left, c .before .before .before .before .before .before .before .before .before .before .before .before .before .before .pre .linkedS .edges))
-    (λ c. omega (arith, c .before .before .before .before .before .before .loop-test .taken, c .before .before .before .before .before .before .before .before .before .before .before .before .before .before .pre .linkedS .edges))
-    (λ c. omega (arith, c .before .before .before .before .before .before .loop-test .taken, c .before .before .before .before .before .before .before .before .before .before .before .before .before .before .pre .linkedS .edges))
-    (λ c. omega (arith, c .before .before .before .before .before .before .loop-test .taken, c .before .before .before .before .before .before .before .before .before .before .before .before .before .before .pre .linkedS .edges))
-    (λ c. omega (arith, c .before .before .before .before .before .before .before .loop-test .taken, c .before .before .before .before .before .before .before .before .before .before .before .before .before .before .before .pre .linkedS .edges))
+    (λ c. omega (
+      arith,
+      c .if1 .left,
+      c .before .before .before .before .before .before .before .before .before .before .before .before .before .before .pre
+          .linkedS .edges,
+    ))
+    (λ c. omega (
+      arith,
+      c .before .before .before .before .before .before .loop-test .taken,
+      c .before .before .before .before .before .before .before .before
+          .before .before .before .before .before .before .pre .linkedS .edges,
+    ))
+    (λ c. omega (
+      arith,
+      c .before .before .before .before .before .before .loop-test .taken,
+      c .before .before .before .before .before .before .before .before
+          .before .before .before .before .before .before .pre .linkedS .edges,
+    ))
+    (λ c. omega (
+      arith,
+      c .before .before .before .before .before .before .loop-test .taken,
+      c .before .before .before .before .before .before .before .before
+          .before .before .before .before .before .before .pre .linkedS .edges,
+    ))
+    (λ c. omega (
+      arith,
+      c .before .before .before .before .before .before .before .loop-test .taken,
+      c .before .before .before .before .before .before .before
+          .before .before .before .before .before .before .before .before .pre .linkedS .edges,
+    ))
     (λ c. omega (arith, c .before .before .before .before .before .before .before .loop-test .taken)) loop-again returns returns-2)

@@ -4,7 +4,15 @@ use Rattle.reduction_state.proofs.act.Statement.{statement}
 use Rattle.reduction_state.proofs.act.Tie as tie
 
 returns : tie.Need-returns
-returns c = simp (c .before .before .before .before .before .before .before .before .before .before .before .fixes .ensures, c .before .before .before .before .before .before .before .fewer .ensures, c .before .before .before .before .before .lowered .ensures, c .before .before .fewer2 .ensures, c .lowered2 .ensures)
+returns c =
+    let b6 = c .before .before .before .before .before .before in
+    simp (
+      b6 .before .before .before .before .before .fixes .ensures,
+      b6 .before .fewer .ensures,
+      c .before .before .before .before .before .lowered .ensures,
+      c .before .before .fewer2 .ensures,
+      c .lowered2 .ensures,
+    )
 
 pub act-spec : {M : Type 1} → statement M
 act-spec =

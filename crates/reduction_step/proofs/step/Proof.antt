@@ -32,10 +32,12 @@ returns-2 c =
           let G = instanceOf K in
           let Z = stateOf (a .rem .now) fixed kS kT in
           let s2 = passes G Z 1 (c .before .before .before .before .before .least .result) (silent-1 G Z)
-          (first-says (p .0) X K fixed kS kT S (a .one .now) (a .twos .now) (a .twot .now) (p .1 .0) (c .before .before .before .before .before .least .result) (c .before .before .before .before .before .least .ensures))
+          (first-says (p .0) X K fixed kS kT S (a .one .now) (a .twos .now) (a .twot .now) (p .1 .0)
+          (c .before .before .before .before .before .least .result) (c .before .before .before .before .before .least .ensures))
           (omega (arith, c .before .before .before .before .if1 .left)) in
           says G Z 2 (c .before .lesser .result) s2 (omega arith)
-          (second-says (p .0) X K fixed kS kT S (a .one .now) (a .twos .now) (a .twot .now) (p .1 .0) (c .before .before .before .least2 .result) (c .before .before .least3 .result)
+          (second-says (p .0) X K fixed kS kT S (a .one .now) (a .twos .now) (a .twot .now) (p .1 .0) (c .before .before .before .least2 .result)
+          (c .before .before .least3 .result)
           (c .before .lesser .result) (c .before .before .before .least2 .ensures) (c .before .before .least3 .ensures) (c .before .lesser .ensures))
           (omega (arith, c .if2 .taken)),
     )
@@ -45,20 +47,23 @@ renewed-requires c κs = (c .before .before .before .before .before .before .pre
 
 returns-3 : tie.Need-returns-3
 returns-3 c =
-    let a = c .before .before .before .before .before .before .before .before .args in
-    let p = c .before .before .before .before .before .before .before .before .pre in
+    let b6 = c .before .before .before .before .before .before in
+    let a = b6 .before .before .args in
+    let p = b6 .before .before .pre in
     let X = looks (a .rem .now) (a .fs .now) (a .ft .now) (a .qs .now) (a .qt .now) in
     let F = c .before .renewed .ensures in (
       F .lates,
       λ quotaS quotaT K fixed kS kT S.
           let G = instanceOf K in
           let Z = stateOf (a .rem .now) fixed kS kT in
-          let s2 = passes G Z 1 (c .before .before .before .before .before .before .before .least .result) (silent-1 G Z)
-          (first-says (p .0) X K fixed kS kT S (a .one .now) (a .twos .now) (a .twot .now) (p .1 .0) (c .before .before .before .before .before .before .before .least .result) (c .before .before .before .before .before .before .before .least .ensures))
-          (omega (arith, c .before .before .before .before .before .before .if1 .left)) in
+          let s2 = passes G Z 1 (b6 .before .least .result) (silent-1 G Z)
+          (first-says (p .0) X K fixed kS kT S (a .one .now) (a .twos .now) (a .twot .now) (p .1 .0) (b6 .before .least .result) (b6 .before .least .ensures))
+          (omega (arith, b6 .if1 .left)) in
           let s3 = passes G Z 2 (c .before .before .before .lesser .result) s2
-          (second-says (p .0) X K fixed kS kT S (a .one .now) (a .twos .now) (a .twot .now) (p .1 .0) (c .before .before .before .before .before .least2 .result) (c .before .before .before .before .least3 .result)
-          (c .before .before .before .lesser .result) (c .before .before .before .before .before .least2 .ensures) (c .before .before .before .before .least3 .ensures) (c .before .before .before .lesser .ensures))
+          (second-says (p .0) X K fixed kS kT S (a .one .now) (a .twos .now) (a .twot .now) (p .1 .0)
+          (c .before .before .before .before .before .least2 .result) (c .before .before .before .before .least3 .result)
+          (c .before .before .before .lesser .result) (c .before .before .before .before .before .least2 .ensures)
+          (c .before .before .before .before .least3 .ensures) (c .before .before .before .lesser .ensures))
           (omega (arith, c .before .before .if2 .left)) in
           c .late .ensures G Z refl (later-named (p .0) X K fixed kS kT S (c .before .renewed .result) F) s3,
     )

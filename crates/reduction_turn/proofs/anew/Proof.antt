@@ -15,28 +15,38 @@ repainted-requires c κs =
     ((D .fitS e (p .0 .0), D .fitT e (p .0 .0), D .fitS, D .fitT), ((D .celledS, D .celledT), p .1))
 
 second-renewed-requires : tie.Need-second-renewed-requires
-second-renewed-requires c κs = let D = c .before .before .before .before .before .before .before .before .before .before .before .before .before .before .before .before .before .before .pre .0 .1 in (D .linkedS, D .celledS, D .placedS)
+second-renewed-requires c κs =
+    let b18 = c .before .before .before .before .before .before .before .before .before .before .before .before .before .before .before .before .before
+    .before in
+    let D = b18 .pre .0 .1 in (D .linkedS, D .celledS, D .placedS)
 
 second-renewed-requires-2 : tie.Need-second-renewed-requires-2
-second-renewed-requires-2 c κs = let D = c .before .before .before .before .before .before .before .before .before .before .before .before .before .before .before .before .before .before .before .before .before .pre .0 .1 in (D .linkedT, D .celledT, D .placedT)
+second-renewed-requires-2 c κs =
+    let b18 = c .before .before .before .before .before .before .before .before .before .before .before .before .before .before .before .before .before
+    .before in
+    let D = b18 .before .before .before .pre .0 .1 in (D .linkedT, D .celledT, D .placedT)
 
 returns : tie.Need-returns
 returns c =
-    let a = c .before .before .before .before .before .before .before .before .before .before .before .before .before .before .before .before .before .before .before .before .before .before .before .before .before .before .args in
-    let p = c .before .before .before .before .before .before .before .before .before .before .before .before .before .before .before .before .before .before .before .before .before .before .before .before .before .before .pre in
+    let b6 = c .before .before .before .before .before .before in
+    let b18 = b6 .before .before .before .before .before .before .before .before .before .before .before .before in
+    let b24 = b18 .before .before .before .before .before .before in
+    let a = b24 .before .before .args in
+    let p = b24 .before .before .pre in
     let A = edges (a .m) (a .sv .now) (a .st .now) (a .rs .now) (a .rt .now) (a .tied .now) in
     let L = links (a .ns .now) (a .hs .now) (a .nt .now) (a .ht .now) (a .cs .now) (a .ct .now) in
-    let w = c .before .before .before .before .before .before .before .before .before .before .before .before .before .before .before .before .before .before .before .before .before .repainted .result in
+    let w = b18 .before .before .before .repainted .result in
     let new : Numbers = record {
-      one = c .before .before .before .before .before .before .before .before .before .before .first-renewed .result;
-      twos = c .before .before .before .before .before .before .before .second-renewed .result;
+      one = b6 .before .before .before .before .first-renewed .result;
+      twos = b6 .before .second-renewed .result;
       twot = c .before .before .before .before .second-renewed2 .result;
       olds = c .before .before .either .result;
       oldt = c .either2 .result;
     } in
     anew-on A (a .strict .now) L (p .0 .1) (a .rem .now) (a .qs .now) (a .qt .now) (a .fs .now) (a .ft .now) _ _ (a .e) (p .0 .0) (w .s) (w .t)
-    (c .before .before .before .before .before .before .before .before .before .before .before .before .before .before .before .before .before .before .before .before .before .repainted .ensures) (a .x) new (c .before .before .before .before .before .before .before .before .before .before .first-renewed .ensures)
-    (c .before .before .before .before .before .before .before .second-renewed .ensures) (c .before .before .before .before .second-renewed2 .ensures) (c .before .before .either .ensures) (c .either2 .ensures)
+    (b18 .before .before .before .repainted .ensures) (a .x) new (b6 .before .before .before .before .first-renewed .ensures)
+    (b6 .before .second-renewed .ensures) (c .before .before .before .before .second-renewed2 .ensures) (c .before .before .either .ensures)
+    (c .either2 .ensures)
 
 pub anew-spec : {M : Type 1} → statement M
 anew-spec =

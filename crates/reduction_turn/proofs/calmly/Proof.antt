@@ -41,5 +41,13 @@ calmly-spec =
     (λ c. omega (arith, c .before .pre .1 .fitS (c .before .args .e) (c .before .pre .0)))
     (λ c. omega (arith, c .before .pre .0, c .before .pre .1 .linkedS .edges))
     (λ c. omega (arith, c .before .before .pre .1 .fitT (c .before .before .args .e) (c .before .before .pre .0))) passed-over-requires passed-over-requires-2
-    (λ c. omega (arith, c .before .before .before .before .before .before .pre .1 .fitS (c .before .before .before .before .before .before .args .e) (c .before .before .before .before .before .before .pre .0)))
-    (λ c. omega (arith, c .before .before .before .before .before .before .pre .1 .fitT (c .before .before .before .before .before .before .args .e) (c .before .before .before .before .before .before .pre .0))) returns)
+    (λ c. omega (
+      arith,
+      c .before .before .before .before .before .before .pre .1 .fitS (c .before .before .before .before .before .before .args .e)
+          (c .before .before .before .before .before .before .pre .0),
+    ))
+    (λ c. omega (
+      arith,
+      c .before .before .before .before .before .before .pre .1 .fitT (c .before .before .before .before .before .before .args .e)
+          (c .before .before .before .before .before .before .pre .0),
+    )) returns)

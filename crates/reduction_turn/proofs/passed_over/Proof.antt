@@ -24,7 +24,8 @@ returns c =
     let y = c .second .result in
     let n : length (a .x) ≡ nodeLimit = search needs in
     λ u. by-eq u (a .v)
-    (λ i t. ap (at (set (a .x) (a .v) y)) i ∙ getD-set-same (a .x) (a .v) y 0 (omega (arith, n, c .before .before .before .pre .0)) ∙ c .second .ensures ∙ ap new (sym i)
+    (λ i t. ap (at (set (a .x) (a .v) y)) i ∙ getD-set-same (a .x) (a .v) y 0 (omega (arith, n, c .before .before .before .pre .0)) ∙ c .second .ensures ∙ ap
+    new (sym i)
     ∙ sym (ap (λ b. cond b (new u) (at (a .x) u)) (ap₂ _&&_ t (eqb-yes (at (a .x) (a .v)) (a .e) (c .before .before .if1 .taken)))))
     (λ n t. getD-set-other (a .x) (a .v) u y 0 n ∙ sym (ap (λ b. cond (b && eqb (at (a .x) (a .v)) (a .e)) (new u) (at (a .x) u)) t))
 

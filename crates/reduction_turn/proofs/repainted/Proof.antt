@@ -1,9 +1,9 @@
 -- Both sides painted.
-use mathlib.Core.Path.{_≡_, _∙_}
+use mathlib.Core.Path.{_∙_}
 use mathlib.Core.Bool.{false, true}
 use native.Mathlib.Omega.{arith}
 use borrow.Author.Needs.{needs}
-use lib.ListN.{length, set, replicate, length-set, length-replicate}
+use lib.ListN.{set, replicate, length-set, length-replicate}
 use lib.Seq.{getD-set-same}
 use Rattle.model.specs.Limits.{nodeLimit}
 use Rattle.reduction_turn.specs.Onward.{still-marked}
@@ -18,14 +18,16 @@ paint-requires c κs =
 
 paint-requires-2 : tie.Need-paint-requires-2
 paint-requires-2 c κs =
-    let p = c .before .before .before .before .before .before .before .pre in
-    let a = c .before .before .before .before .before .before .before .args in
+    let b6 = c .before .before .before .before .before .before in
+    let p = b6 .before .pre in
+    let a = b6 .before .args in
     ((p .0 .1, p .1 .0 .1, p .0 .2), (p .1 .1 .1, length-set (replicate nodeLimit false) (a .s) true ∙ length-replicate nodeLimit false))
 
 returns : tie.Need-returns
 returns c =
-    let a = c .before .before .before .before .before .before .before .before .args in
-    let p = c .before .before .before .before .before .before .before .before .pre in record {
+    let b6 = c .before .before .before .before .before .before in
+    let a = b6 .before .before .args in
+    let p = b6 .before .before .pre in record {
       fromS = set (replicate nodeLimit false) (a .s) true;
       fromT = set (replicate nodeLimit false) (a .t) true;
       atS = c .before .before .before .before .paint .ensures;

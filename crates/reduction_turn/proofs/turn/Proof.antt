@@ -1,9 +1,9 @@
 -- A calm turn, or any other.
-use mathlib.Core.Path.{_≡_, _∙_}
+use mathlib.Core.Path.{_∙_}
 use native.Mathlib.Omega.{arith}
 use borrow.Author.Needs.{needs}
 use lib.Dec.{T, eqb, eqb→eq}
-use mathlib.Core.Bool.{not, _&&_}
+use mathlib.Core.Bool.{not}
 use Rattle.lists.specs.Test.{given, true-T, T-false, parts}
 use Rattle.arrays.specs.ArrayInstance.{at, flag}
 use Rattle.reduction_nodes.specs.Kept.{edges, links}
@@ -20,20 +20,22 @@ act-requires c κs =
 
 returns : tie.Need-returns
 returns c =
-    let a = c .before .before .before .before .before .before .before .before .before .before .before .before .before .before .before .before .before .before .args in
-    let p = c .before .before .before .before .before .before .before .before .before .before .before .before .before .before .before .before .before .before .pre in
+    let b6 = c .before .before .before .before .before .before in
+    let b18 = b6 .before .before .before .before .before .before .before .before .before .before .before .before in
+    let a = b18 .args in
+    let p = b18 .pre in
     let A = edges (a .m) (a .sv .now) (a .st .now) (a .rs .now) (a .rt .now) (a .tied .now) in
     let L = links (a .ns .now) (a .hs .now) (a .nt .now) (a .ht .now) (a .cs .now) (a .ct .now) in
     let D = p .0 .1 in
     let x = whole (a .rem .now) (a .fixed .now) (a .x) in
-    let i = c .before .before .before .before .before .before .before .before .before .before .before .act .ensures in
-    given (true-T (c .before .before .before .before .before .before .if1 .taken)) (λ t.
+    let i = b6 .before .before .before .before .before .act .ensures in
+    given (true-T (b6 .if1 .taken)) (λ t.
     let ns : T (not (flag (a .fs .now) (a .e))) = search parts in
     let nt : T (not (flag (a .ft .now) (a .e))) = search parts in
     let s = at (a .sv .now) (a .e) in
     let u = at (a .st .now) (a .e) in
-    let ks : T (eqb (at (a .x .qs) s) (at (c .before .before .before .before .before .before .before .before .before .before .before .act .result .qs) s)) = search parts in
-    let kt : T (eqb (at (a .x .qt) u) (at (c .before .before .before .before .before .before .before .before .before .before .before .act .result .qt) u)) = search parts in
+    let ks : T (eqb (at (a .x .qs) s) (at (b6 .before .before .before .before .before .act .result .qs) s)) = search parts in
+    let kt : T (eqb (at (a .x .qt) u) (at (b6 .before .before .before .before .before .act .result .qt) u)) = search parts in
     let QS = same-qs (a .sv .now) (a .st .now) x (a .rule) (a .e) _ i (eqb→eq _ _ ks) in
     let QT = same-qt (a .sv .now) (a .st .now) x (a .rule) (a .e) _ i (eqb→eq _ _ kt) in (
       (sized-next (a .sv .now) (a .st .now) x _ (a .rule) (a .e) (p .1 .0) i, p .1 .1, p .1 .2),
@@ -45,17 +47,27 @@ returns c =
     ))
 
 anew-requires : tie.Need-anew-requires
-anew-requires c κs = (c .before .before .before .before .before .before .before .before .before .before .before .before .before .before .before .before .before .pre .0, (c .before .before .before .before .before .before .before .before .before .before .before .before .before .before .before .before .before .pre .1 .1, c .before .before .before .before .before .before .before .before .before .before .before .before .before .before .before .before .before .pre .1 .2))
+anew-requires c κs =
+    let b12 = c .before .before .before .before .before .before .before .before .before .before .before .before in (
+      b12 .before .before .before .before .before .pre .0,
+      (
+        b12 .before .before .before .before .before .pre .1 .1,
+        b12 .before .before .before .before .before
+            .pre .1 .2,
+      ),
+    )
 
 returns-2 : tie.Need-returns-2
 returns-2 c =
-    let a = c .before .before .before .before .before .before .before .before .before .before .before .before .before .before .before .before .before .before .args in
-    let p = c .before .before .before .before .before .before .before .before .before .before .before .before .before .before .before .before .before .before .pre in
+    let b6 = c .before .before .before .before .before .before in
+    let b18 = b6 .before .before .before .before .before .before .before .before .before .before .before .before in
+    let a = b18 .args in
+    let p = b18 .pre in
     let A = edges (a .m) (a .sv .now) (a .st .now) (a .rs .now) (a .rt .now) (a .tied .now) in
     let L = links (a .ns .now) (a .hs .now) (a .nt .now) (a .ht .now) (a .cs .now) (a .ct .now) in
     let D = p .0 .1 in
     let x = whole (a .rem .now) (a .fixed .now) (a .x) in
-    let i = c .before .before .before .before .before .before .before .before .before .before .before .act .ensures in
+    let i = b6 .before .before .before .before .before .act .ensures in
     let N = c .anew .ensures in (
       (
         sized-next (a .sv .now) (a .st .now) x _ (a .rule) (a .e) (p .1 .0) i,
@@ -73,13 +85,54 @@ returns-2 c =
 pub turn-spec : {M : Type 1} → statement M
 turn-spec =
     tie.close (tie.spec (λ c. search needs) (λ c. omega (arith, c .before .pre .0 .1 .fitS (c .before .args .e) (c .before .pre .0 .0))) (λ c. search needs)
-    (λ c. omega (arith, c .before .before .pre .0 .1 .fitT (c .before .before .args .e) (c .before .before .pre .0 .0))) act-requires (λ c. search needs) (λ c. search needs)
-    (λ c. omega (arith, c .before .before .before .before .before .before .before .before .before .before .before .pre .0 .1 .fitS (c .before .before .before .before .before .before .before .before .before .before .before .args .e) (c .before .before .before .before .before .before .before .before .before .before .before .pre .0 .0)))
-    (λ c. omega (arith, c .before .before .before .before .before .before .before .before .before .before .before .pre .0 .1 .fitS (c .before .before .before .before .before .before .before .before .before .before .before .args .e) (c .before .before .before .before .before .before .before .before .before .before .before .pre .0 .0)))
-    (λ c. omega (arith, c .before .before .before .before .before .before .before .before .before .before .before .pre .0 .1 .fitS (c .before .before .before .before .before .before .before .before .before .before .before .args .e) (c .before .before .before .before .before .before .before .before .before .before .before .pre .0 .0)))
-    (λ c. omega (arith, c .before .before .before .before .before .before .before .before .before .before .before .pre .0 .1 .fitS (c .before .before .before .before .before .before .before .before .before .before .before .args .e) (c .before .before .before .before .before .before .before .before .before .before .before .pre .0 .0)))
-    (λ c. omega (arith, c .before .before .before .before .before .before .before .before .before .before .before .pre .0 .1 .fitT (c .before .before .before .before .before .before .before .before .before .before .before .args .e) (c .before .before .before .before .before .before .before .before .before .before .before .pre .0 .0)))
-    (λ c. omega (arith, c .before .before .before .before .before .before .before .before .before .before .before .pre .0 .1 .fitT (c .before .before .before .before .before .before .before .before .before .before .before .args .e) (c .before .before .before .before .before .before .before .before .before .before .before .pre .0 .0)))
-    (λ c. omega (arith, c .before .before .before .before .before .before .before .before .before .before .before .pre .0 .1 .fitT (c .before .before .before .before .before .before .before .before .before .before .before .args .e) (c .before .before .before .before .before .before .before .before .before .before .before .pre .0 .0)))
-    (λ c. omega (arith, c .before .before .before .before .before .before .before .before .before .before .before .pre .0 .1 .fitT (c .before .before .before .before .before .before .before .before .before .before .before .args .e) (c .before .before .before .before .before .before .before .before .before .before .before .pre .0 .0)))
+    (λ c. omega (arith, c .before .before .pre .0 .1 .fitT (c .before .before .args .e) (c .before .before .pre .0 .0))) act-requires (λ c. search needs)
+    (λ c. search needs)
+    (λ c. omega (
+      arith,
+      c .before .before .before .before .before .before .before .before .before .before .before .pre .0 .1 .fitS
+          (c .before .before .before .before .before .before .before .before .before .before .before .args .e)
+          (c .before .before .before .before .before .before .before .before .before .before .before .pre .0 .0),
+    ))
+    (λ c. omega (
+      arith,
+      c .before .before .before .before .before .before .before .before .before .before .before .pre .0 .1 .fitS
+          (c .before .before .before .before .before .before .before .before .before .before .before .args .e)
+          (c .before .before .before .before .before .before .before .before .before .before .before .pre .0 .0),
+    ))
+    (λ c. omega (
+      arith,
+      c .before .before .before .before .before .before .before .before .before .before .before .pre .0 .1 .fitS
+          (c .before .before .before .before .before .before .before .before .before .before .before .args .e)
+          (c .before .before .before .before .before .before .before .before .before .before .before .pre .0 .0),
+    ))
+    (λ c. omega (
+      arith,
+      c .before .before .before .before .before .before .before .before .before .before .before .pre .0 .1 .fitS
+          (c .before .before .before .before .before .before .before .before .before .before .before .args .e)
+          (c .before .before .before .before .before .before .before .before .before .before .before .pre .0 .0),
+    ))
+    (λ c. omega (
+      arith,
+      c .before .before .before .before .before .before .before .before .before .before .before .pre .0 .1 .fitT
+          (c .before .before .before .before .before .before .before .before .before .before .before .args .e)
+          (c .before .before .before .before .before .before .before .before .before .before .before .pre .0 .0),
+    ))
+    (λ c. omega (
+      arith,
+      c .before .before .before .before .before .before .before .before .before .before .before .pre .0 .1 .fitT
+          (c .before .before .before .before .before .before .before .before .before .before .before .args .e)
+          (c .before .before .before .before .before .before .before .before .before .before .before .pre .0 .0),
+    ))
+    (λ c. omega (
+      arith,
+      c .before .before .before .before .before .before .before .before .before .before .before .pre .0 .1 .fitT
+          (c .before .before .before .before .before .before .before .before .before .before .before .args .e)
+          (c .before .before .before .before .before .before .before .before .before .before .before .pre .0 .0),
+    ))
+    (λ c. omega (
+      arith,
+      c .before .before .before .before .before .before .before .before .before .before .before .pre .0 .1 .fitT
+          (c .before .before .before .before .before .before .before .before .before .before .before .args .e)
+          (c .before .before .before .before .before .before .before .before .before .before .before .pre .0 .0),
+    ))
     (λ c κs. search needs) returns anew-requires returns-2)
