@@ -5,7 +5,7 @@ use native.Mathlib.Omega.{arith}
 use mathlib.Core.Path.{_≡_, refl, sym, ap, _∙_, subst}
 use mathlib.Core.Bool.{Bool, true, false, not, cond, _&&_}
 use mathlib.Core.List.{List}
-use lib.ListN.{getD, replicate, getD-replicate}
+use lib.ListN.{length, getD, replicate, getD-replicate}
 use lib.Dec.{T, ltb, nltb→le}
 use borrow.Author.Tests.{lt-ltb}
 use Rattle.lists.specs.Test.{by-bool, T-false, false-T, given}
@@ -20,12 +20,10 @@ use Rattle.reduction_cells.specs.CellLaws.{Cells, celled-is}
 use Rattle.reduction_cells.specs.Painted.{differ}
 use Rattle.reduction_nodes.specs.declared.Surveyor.{Surveyor}
 use Rattle.reduction_nodes.specs.declared.Stand.{Stand}
-use Rattle.reduction_nodes.specs.declared.Surveyors.{Surveyors}
-use Rattle.reduction_nodes.specs.declared.Stands.{Stands}
-use Rattle.reduction_nodes.specs.declared.Later.{Later}
 use Rattle.reduction_nodes.specs.Known.{Edges, Known, instanceOf}
 use Rattle.reduction_nodes.specs.Renewed.{Renewed}
-use Rattle.reduction_nodes.specs.Numbers.{firstOf, secondsOf, surveyorsOf, standsOf, Surveyed, Stood}
+use Rattle.reduction_nodes.specs.Numbers.{firstOf, secondsOf, surveyorsOf, standsOf, Surveyors, Stands}
+use Rattle.reduction_nodes.specs.Numbers.{surveyorNumbers, standNumbers, Surveyed, Stood, SizedS, SizedT}
 use Rattle.reduction_nodes.specs.Local.{surveyor-local}
 
 -- ---- the tables of the edges, made once: links and cells of both sides; `strict` says that surveyors tie nothing
@@ -76,6 +74,27 @@ links ns hs nt ht cs ct = record { nextS = ns; firstS = hs; nextT = nt; firstT =
 
 abbrev pub looks : (rem fs ft : List Bool) (qs qt : List ℕ) → Looks
 looks rem fs ft qs qt = record { rem = rem; fs = fs; ft = ft; qs = qs; qt = qt }
+
+-- the later numbers, and at which nodes they are old
+pub record Later : Type 0 where
+  pub surveyors : Surveyors
+  pub stands : Stands
+  pub olds : List Bool
+  pub oldt : List Bool
+
+abbrev pub later : (rule3 rule4 rule5 rule6 rule7 : List ℕ) (loose olds oldt : List Bool) → Later
+later rule3 rule4 rule5 rule6 rule7 loose olds oldt = record {
+  surveyors = surveyorNumbers rule4 rule5 rule6;
+  stands = standNumbers rule3 rule7 loose;
+  olds = olds;
+  oldt = oldt;
+}
+
+pub record SizedL (x : Later) : Type 0 where
+  pub surveyors : SizedS (x .surveyors)
+  pub stands : SizedT (x .stands)
+  pub olds : length (x .olds) ≡ nodeLimit
+  pub oldt : length (x .oldt) ≡ nodeLimit
 
 -- the numbers of one node, of all nodes of a side
 abbrev pub surveyorAt : Surveyors → ℕ → Surveyor
@@ -191,9 +210,9 @@ module _ (A : Edges) (strict : List Bool) (L : Links) (D : Tables A strict L) (X
             (T-false (low-is unlike nodeLimit .1 u (omega (arith, nltb→le (low unlike nodeLimit) nodeLimit (false-T e)))))),
       )
 
-  pub later-fresh : (z : Surveyors) → Surveyed (surveyorNow A L X (y .loose)) touched (x .surveyors) nodeLimit z
+  fresh-then : (z : Surveyors) → Surveyed (surveyorNow A L X (y .loose)) touched (x .surveyors) nodeLimit z
       → Fresh A L X (record { surveyors = z; stands = y; olds = replicate nodeLimit false; oldt = replicate nodeLimit false })
-  later-fresh z R = record {
+  fresh-then z R = record {
     lates = record {
       stand = λ v w t. stands-fresh v w;
       surveyor = λ v w t. by-bool (flag touched v)
@@ -207,3 +226,7 @@ module _ (A : Edges) (strict : List Bool) (L : Links) (D : Tables A strict L) (X
     noneS = λ v w. getD-replicate nodeLimit v false false w;
     noneT = λ v w. getD-replicate nodeLimit v false false w;
   }
+
+  pub later-fresh : (saw : List Bool) → saw ≡ touched → (z : Surveyors) → Surveyed (surveyorNow A L X (y .loose)) saw (x .surveyors) nodeLimit z
+      → Fresh A L X (record { surveyors = z; stands = y; olds = replicate nodeLimit false; oldt = replicate nodeLimit false })
+  later-fresh saw q z R = fresh-then z (subst (λ s. Surveyed (surveyorNow A L X (y .loose)) s (x .surveyors) nodeLimit z) q R)

@@ -13,8 +13,6 @@ use Rattle.reduction_links.specs.Walks.{atNode, tallied}
 use Rattle.reduction_cells.specs.Cells.{barOf, bestOf, worstOf}
 use Rattle.reduction_nodes.specs.declared.Surveyor.{Surveyor}
 use Rattle.reduction_nodes.specs.declared.Stand.{Stand}
-use Rattle.reduction_nodes.specs.declared.Surveyors.{Surveyors}
-use Rattle.reduction_nodes.specs.declared.Stands.{Stands}
 use Rattle.reduction_nodes.specs.Renewed.{Renewed, renewed-none, renewed-set, renewed-skip}
 
 -- an edge of N(s)
@@ -52,6 +50,23 @@ surveyorsOf m sv st cell rem fs ft lo q v = surveyorOf m sv st cell rem fs ft lo
 
 abbrev pub standsOf : (m : ℕ) (st cell : List ℕ) (rem fs ft : List Bool) (q : List ℕ) → ℕ → Stand
 standsOf m st cell rem fs ft q v = standOf m st cell rem fs ft (at q v) v
+
+-- the later numbers of all nodes of a side
+pub record Surveyors : Type 0 where
+  pub rule4 : List ℕ
+  pub rule5 : List ℕ
+  pub rule6 : List ℕ
+
+pub record Stands : Type 0 where
+  pub rule3 : List ℕ
+  pub rule7 : List ℕ
+  pub loose : List Bool
+
+abbrev pub surveyorNumbers : (rule4 rule5 rule6 : List ℕ) → Surveyors
+surveyorNumbers rule4 rule5 rule6 = record { rule4 = rule4; rule5 = rule5; rule6 = rule6 }
+
+abbrev pub standNumbers : (rule3 rule7 : List ℕ) (loose : List Bool) → Stands
+standNumbers rule3 rule7 loose = record { rule3 = rule3; rule7 = rule7; loose = loose }
 
 -- of the nodes below n, those in `saw` are made anew
 pub record Surveyed (new : ℕ → Surveyor) (saw : List Bool) (x : Surveyors) (n : ℕ) (y : Surveyors) : Type 0 where

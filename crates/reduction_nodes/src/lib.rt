@@ -4,6 +4,7 @@
 ghost use mathlib.Core.Path.{_≡_};
 ghost use mathlib.Core.Bool.{_&&_, _||_, cond};
 ghost use Prim.Native.Nat.{_<_};
+ghost use lib.ListN.{length};
 ghost use lib.Dec.{leb, ltb};
 ghost use Rattle.lists.specs.Search.{low};
 ghost use Rattle.model.specs.Limits.{nodeLimit, emptyRank};
@@ -14,7 +15,8 @@ ghost use Rattle.reduction_links.specs.Walks.{atNode};
 ghost use Rattle.reduction_cells.specs.Cells.{Celled, barOf, bestOf, worstOf};
 ghost use Rattle.reduction_cells.specs.Painted.{differ};
 ghost use Rattle.reduction_nodes.specs.Renewed.{Renewed};
-ghost use Rattle.reduction_nodes.specs.Numbers.{firstOf, secondsOf, surveyorOf, standOf, surveyorsOf, standsOf, Surveyed, Stood};
+ghost use Rattle.reduction_nodes.specs.Numbers.{firstOf, secondsOf, surveyorOf, standOf, surveyorsOf, standsOf};
+ghost use Rattle.reduction_nodes.specs.Numbers.{Surveyed, Stood, SizedS, SizedT, surveyorNumbers, standNumbers};
 use limits::EMPTY_RANK;
 use limits::ENTRY_LIMIT;
 use reduction_cells::CELLS;
@@ -30,27 +32,6 @@ pub struct Stand {
     pub rule3: u16,
     pub rule7: u16,
     pub loose: bool,
-}
-
-// Of all nodes of a side, by rule.
-pub struct Surveyors {
-    pub rule4: [u16; 32],
-    pub rule5: [u16; 32],
-    pub rule6: [u16; 32],
-}
-
-pub struct Stands {
-    pub rule3: [u16; 32],
-    pub rule7: [u16; 32],
-    pub loose: [bool; 32],
-}
-
-// What the later rules name, and at which nodes that is old: these are read anew when a later rule is asked.
-pub struct Later {
-    pub surveyors: Surveyors,
-    pub stands: Stands,
-    pub olds: [bool; 32],
-    pub oldt: [bool; 32],
 }
 
 // Rule 2 at one end: at least as many better arrows come in as the quota.
@@ -216,21 +197,20 @@ pub fn first_renewed(
     fs: &[bool; ENTRY_LIMIT],
     ft: &[bool; ENTRY_LIMIT],
     saw: &[bool; 32],
-    x: [u16; 32],
-) -> [u16; 32]
-    requires { ⌜ Linked m (now sv) (now first) (now next) ⌝ }
-    ensures { λ r. ⌜ Renewed 0 (now (saw .entry)) (firstOf m (now (sv .entry)) (now (fs .entry)) (now (ft .entry))) x nodeLimit r ⌝ }
+    x: &mut [u16; 32],
+)
+    requires { ⌜ Linked m (now sv) (now first) (now next) × (length (now x) ≡ nodeLimit) ⌝ }
+    ensures { λ r. ⌜ (length (now (x .exit)) ≡ nodeLimit) × Renewed 0 (now (saw .entry))
+        (firstOf m (now (sv .entry)) (now (fs .entry)) (now (ft .entry))) (now (x .entry)) nodeLimit (now (x .exit)) ⌝ }
 {
-    let mut y = x;
     let mut i: usize = 0;
     while i < 32 {
         let v = i;
         i += 1;
         if saw[v] {
-            y[v] = reduction_links::both(m, sv, next, first, v, fs, ft) as u16;
+            x[v] = reduction_links::both(m, sv, next, first, v, fs, ft) as u16;
         }
     }
-    y
 }
 
 // Rule 2 at the nodes of one side in `saw`, anew.
@@ -246,22 +226,21 @@ pub fn second_renewed(
     f: &[bool; ENTRY_LIMIT],
     q: &[u16; 32],
     saw: &[bool; 32],
-    x: [u16; 32],
-) -> [u16; 32]
-    requires { ⌜ Linked m (now end) (now first) (now next) × Celled m (now end) (now rank) (now tied) (now cell) × Low m (now rank) emptyRank ⌝ }
-    ensures { λ r. ⌜ Renewed 0 (now (saw .entry)) (secondsOf m (now (end .entry)) (now (rank .entry)) (now (cell .entry)) (now (rem .entry))
-        (now (f .entry)) (now (q .entry))) x nodeLimit r ⌝ }
+    x: &mut [u16; 32],
+)
+    requires { ⌜ Linked m (now end) (now first) (now next) × Celled m (now end) (now rank) (now tied) (now cell) × Low m (now rank) emptyRank
+        × (length (now x) ≡ nodeLimit) ⌝ }
+    ensures { λ r. ⌜ (length (now (x .exit)) ≡ nodeLimit) × Renewed 0 (now (saw .entry))
+        (secondsOf m (now (end .entry)) (now (rank .entry)) (now (cell .entry)) (now (rem .entry)) (now (f .entry)) (now (q .entry))) (now (x .entry)) nodeLimit (now (x .exit)) ⌝ }
 {
-    let mut y = x;
     let mut i: usize = 0;
     while i < 32 {
         let v = i;
         i += 1;
         if saw[v] {
-            y[v] = second(m, end, rank, tied, next, first, cell, v, rem, f, q[v]);
+            x[v] = second(m, end, rank, tied, next, first, cell, v, rem, f, q[v]);
         }
     }
-    y
 }
 
 // Rules 4, 5 and 6 at the surveyors in `saw`, anew.
@@ -280,13 +259,18 @@ pub fn surveyors_renewed(
     lo: &[bool; 32],
     q: &[u16; 32],
     saw: &[bool; 32],
-    x: Surveyors,
-) -> Surveyors
+    rule4: &mut [u16; 32],
+    rule5: &mut [u16; 32],
+    rule6: &mut [u16; 32],
+)
     requires { ⌜ Linked m (now sv) (now first) (now next) × Celled m (now sv) (now rank) (now tied) (now cell) × Low m (now st) nodeLimit ⌝ }
+    requires { ⌜ SizedS (surveyorNumbers (now rule4) (now rule5) (now rule6)) ⌝ }
+    ensures { λ r. ⌜ SizedS (surveyorNumbers (now (rule4 .exit)) (now (rule5 .exit)) (now (rule6 .exit))) ⌝ }
     ensures { λ r. ⌜ Surveyed (surveyorsOf m (now (sv .entry)) (now (st .entry)) (now (cell .entry)) (now (rem .entry))
-        (now (fs .entry)) (now (ft .entry)) (now (lo .entry)) (now (q .entry))) (now (saw .entry)) x nodeLimit r ⌝ }
+        (now (fs .entry)) (now (ft .entry)) (now (lo .entry)) (now (q .entry))) (now (saw .entry))
+        (surveyorNumbers (now (rule4 .entry)) (now (rule5 .entry)) (now (rule6 .entry))) nodeLimit
+        (surveyorNumbers (now (rule4 .exit)) (now (rule5 .exit)) (now (rule6 .exit))) ⌝ }
 {
-    let mut y = x;
     let mut i: usize = 0;
     while i < 32 {
         let v = i;
@@ -308,12 +292,11 @@ pub fn surveyors_renewed(
                 q[v],
                 v,
             );
-            y.rule4[v] = s.rule4;
-            y.rule5[v] = s.rule5;
-            y.rule6[v] = s.rule6;
+            rule4[v] = s.rule4;
+            rule5[v] = s.rule5;
+            rule6[v] = s.rule6;
         }
     }
-    y
 }
 
 // Rules 3 and 7 at the stands in `saw`, anew, and whether they are loose.
@@ -330,25 +313,28 @@ pub fn stands_renewed(
     ft: &[bool; ENTRY_LIMIT],
     q: &[u16; 32],
     saw: &[bool; 32],
-    x: Stands,
-) -> Stands
+    rule3: &mut [u16; 32],
+    rule7: &mut [u16; 32],
+    loose: &mut [bool; 32],
+)
     requires { ⌜ Linked m (now st) (now first) (now next) × Celled m (now st) (now rank) (now tied) (now cell) ⌝ }
+    requires { ⌜ SizedT (standNumbers (now rule3) (now rule7) (now loose)) ⌝ }
+    ensures { λ r. ⌜ SizedT (standNumbers (now (rule3 .exit)) (now (rule7 .exit)) (now (loose .exit))) ⌝ }
     ensures { λ r. ⌜ Stood (standsOf m (now (st .entry)) (now (cell .entry)) (now (rem .entry)) (now (fs .entry)) (now (ft .entry))
-        (now (q .entry))) (now (saw .entry)) x nodeLimit r ⌝ }
+        (now (q .entry))) (now (saw .entry)) (standNumbers (now (rule3 .entry)) (now (rule7 .entry)) (now (loose .entry))) nodeLimit
+        (standNumbers (now (rule3 .exit)) (now (rule7 .exit)) (now (loose .exit))) ⌝ }
 {
-    let mut y = x;
     let mut i: usize = 0;
     while i < 32 {
         let v = i;
         i += 1;
         if saw[v] {
             let s = stand_now(m, st, rank, tied, next, first, cell, rem, fs, ft, q[v], v);
-            y.rule3[v] = s.rule3;
-            y.rule7[v] = s.rule7;
-            y.loose[v] = s.loose;
+            rule3[v] = s.rule3;
+            rule7[v] = s.rule7;
+            loose[v] = s.loose;
         }
     }
-    y
 }
 
 // The first node at which two arrays differ, 32 if there is none.

@@ -1,23 +1,18 @@
 // The whole reduction: all steps, each entered in the trace, and what remains and what is fixed at the end. Beside the state and its arrows a run
-// carries the numbers of the nodes, which say what the rules name; a step renews them where it changed something (crate reduction_turn).
+// carries the numbers of the nodes, which say what the rules name; a step renews them where it changed something (crate reduction_turn). All of
+// that stays in place, lent to each step and turn.
 ghost use mathlib.Core.Path.{_≡_};
 ghost use Prim.Native.Nat.{_≤_, _<_};
 ghost use lib.ListN.{length};
 ghost use Rattle.model.specs.Limits.{nodeLimit, entryLimit, emptyRank};
 ghost use Rattle.arrays.specs.Passes.{Low};
 ghost use Rattle.reduction_nodes.specs.Known.{Known, instanceOf};
-ghost use Rattle.reduction_nodes.specs.Kept.{Tables, edges, links, looks};
+ghost use Rattle.reduction_nodes.specs.Kept.{Tables, Leads, edges, links, looks};
 ghost use Rattle.reduction_state.specs.Outcome.{Reduced, ReducedFrom};
-ghost use Rattle.reduction_state.specs.RunState.{Sized, whole};
-ghost use Rattle.reduction_run.specs.Running.{Numbered, AllOld, MovedOn, Begun};
+ghost use Rattle.reduction_run.specs.Running.{Begun};
 use limits::ENTRY_LIMIT;
 use reduction_cells::CELLS;
-use reduction_nodes::Later;
-use reduction_nodes::Stands;
-use reduction_nodes::Surveyors;
-use reduction_state::Counts;
 use reduction_state::Trace;
-use reduction_turn::Numbers;
 
 // What a run leaves: what remains, what is fixed, and its trace.
 pub struct Reduction {
@@ -26,69 +21,16 @@ pub struct Reduction {
     pub trace: Trace,
 }
 
-// What a run carries by node.
-pub struct Moving {
-    pub counts: Counts,
-    pub numbers: Numbers,
-    pub surveyors: Surveyors,
-    pub stands: Stands,
-}
-
-// A rule and its edge, m if no rule acts, and what is carried on.
-pub struct Moved {
-    pub rule: u8,
-    pub edge: usize,
-    pub moving: Moving,
-}
-
-// The beginning: what remains, nothing fixed, and the arrows.
+// The beginning: the state, and its arrows.
 pub struct Start {
     pub rem: [bool; ENTRY_LIMIT],
     pub fixed: [bool; ENTRY_LIMIT],
+    pub qs: [u16; 32],
+    pub qt: [u16; 32],
+    pub ds: [u16; 32],
+    pub dt: [u16; 32],
     pub fs: [bool; ENTRY_LIMIT],
     pub ft: [bool; ENTRY_LIMIT],
-    pub moving: Moving,
-}
-
-// The numbers of all nodes; those of the later rules are all old.
-pub(crate) fn numbered(
-    m: usize,
-    sv: &[u8; ENTRY_LIMIT],
-    st: &[u8; ENTRY_LIMIT],
-    rs: &[u8; ENTRY_LIMIT],
-    rt: &[u8; ENTRY_LIMIT],
-    strict: &[bool; ENTRY_LIMIT],
-    tied: &[bool; ENTRY_LIMIT],
-    ns: &[u16; ENTRY_LIMIT],
-    hs: &[u16; 32],
-    nt: &[u16; ENTRY_LIMIT],
-    ht: &[u16; 32],
-    cs: &[u16; CELLS],
-    ct: &[u16; CELLS],
-    rem: &[bool; ENTRY_LIMIT],
-    fs: &[bool; ENTRY_LIMIT],
-    ft: &[bool; ENTRY_LIMIT],
-    qs: &[u16; 32],
-    qt: &[u16; 32],
-) -> Numbers
-    requires { ⌜ Tables (edges m (now sv) (now st) (now rs) (now rt) (now tied)) (now strict)
-        (links (now ns) (now hs) (now nt) (now ht) (now cs) (now ct)) ⌝ }
-    ensures { λ r. ⌜ AllOld (edges m (now (sv .entry)) (now (st .entry)) (now (rs .entry)) (now (rt .entry)) (now (tied .entry)))
-        (links (now (ns .entry)) (now (hs .entry)) (now (nt .entry)) (now (ht .entry)) (now (cs .entry)) (now (ct .entry)))
-        (looks (now (rem .entry)) (now (fs .entry)) (now (ft .entry)) (now (qs .entry)) (now (qt .entry))) r ⌝ }
-{
-    let all = [true; 32];
-    let none = [0u16; 32];
-    let a = reduction_nodes::first_renewed(m, sv, ns, hs, fs, ft, &all, none);
-    let b = reduction_nodes::second_renewed(m, sv, rs, strict, ns, hs, cs, rem, ft, qs, &all, none);
-    let c = reduction_nodes::second_renewed(m, st, rt, tied, nt, ht, ct, rem, fs, qt, &all, none);
-    Numbers {
-        one: a,
-        twos: b,
-        twot: c,
-        olds: all,
-        oldt: all,
-    }
 }
 
 pub(crate) fn begun(
@@ -111,7 +53,6 @@ pub(crate) fn begun(
     requires { ⌜ Tables (edges m (now sv) (now st) (now rs) (now rt) (now tied)) (now strict)
         (links (now ns) (now hs) (now nt) (now ht) (now cs) (now ct)) ⌝ }
     ensures { λ r. ⌜ Begun (edges m (now (sv .entry)) (now (st .entry)) (now (rs .entry)) (now (rt .entry)) (now (tied .entry)))
-        (links (now (ns .entry)) (now (hs .entry)) (now (nt .entry)) (now (ht .entry)) (now (cs .entry)) (now (ct .entry)))
         (now (qs .entry)) (now (qt .entry)) r ⌝ }
 {
     let a = reduction_state::start(m, sv, st, qs, qt);
@@ -123,55 +64,20 @@ pub(crate) fn begun(
     let dt = a.dt;
     let fs = reduction_cells::painted(m, sv, rs, strict, cs, &cuts, st, &rem);
     let ft = reduction_cells::painted(m, st, rt, tied, ct, &cutt, sv, &rem);
-    let numbers = numbered(
-        m,
-        sv,
-        st,
-        rs,
-        rt,
-        strict,
-        tied,
-        ns,
-        hs,
-        nt,
-        ht,
-        cs,
-        ct,
-        &rem,
-        &fs,
-        &ft,
-        &cuts,
-        &cutt,
-    );
     Start {
         rem: rem,
         fixed: fixed,
+        qs: cuts,
+        qt: cutt,
+        ds: ds,
+        dt: dt,
         fs: fs,
         ft: ft,
-        moving: Moving {
-            counts: Counts {
-                qs: cuts,
-                qt: cutt,
-                ds: ds,
-                dt: dt,
-            },
-            numbers: numbers,
-            surveyors: Surveyors {
-                rule4: [0u16; 32],
-                rule5: [0u16; 32],
-                rule6: [0u16; 32],
-            },
-            stands: Stands {
-                rule3: [0u16; 32],
-                rule7: [0u16; 32],
-                loose: [false; 32],
-            },
-        },
     }
 }
 
-// One step, if a rule acts, and the turn after it.
-pub(crate) fn advanced(
+// The numbers of rules 1 and 2 at all nodes.
+pub(crate) fn numbered(
     m: usize,
     sv: &[u8; ENTRY_LIMIT],
     st: &[u8; ENTRY_LIMIT],
@@ -185,131 +91,31 @@ pub(crate) fn advanced(
     ht: &[u16; 32],
     cs: &[u16; CELLS],
     ct: &[u16; CELLS],
-    rem: &mut [bool; ENTRY_LIMIT],
-    fixed: &mut [bool; ENTRY_LIMIT],
-    fs: &mut [bool; ENTRY_LIMIT],
-    ft: &mut [bool; ENTRY_LIMIT],
-    x: Moving,
-) -> Moved
+    rem: &[bool; ENTRY_LIMIT],
+    fs: &[bool; ENTRY_LIMIT],
+    ft: &[bool; ENTRY_LIMIT],
+    qs: &[u16; 32],
+    qt: &[u16; 32],
+    one: &mut [u16; 32],
+    twos: &mut [u16; 32],
+    twot: &mut [u16; 32],
+)
     requires { ⌜ Tables (edges m (now sv) (now st) (now rs) (now rt) (now tied)) (now strict)
         (links (now ns) (now hs) (now nt) (now ht) (now cs) (now ct)) ⌝ }
-    requires { ⌜ Numbered (edges m (now sv) (now st) (now rs) (now rt) (now tied)) (links (now ns) (now hs) (now nt) (now ht) (now cs) (now ct))
-        (looks (now rem) (now fs) (now ft) (x .counts .qs) (x .counts .qt)) x ⌝ }
-    requires { ⌜ Sized (whole (now rem) (now fixed) (x .counts)) × (length (now fs) ≡ entryLimit) × (length (now ft) ≡ entryLimit) ⌝ }
-    ensures { λ r. ⌜ Numbered (edges m (now (sv .entry)) (now (st .entry)) (now (rs .entry)) (now (rt .entry)) (now (tied .entry)))
+    requires { ⌜ (length (now one) ≡ nodeLimit) × (length (now twos) ≡ nodeLimit) × (length (now twot) ≡ nodeLimit) ⌝ }
+    ensures { λ r. ⌜ (length (now (one .exit)) ≡ nodeLimit) × (length (now (twos .exit)) ≡ nodeLimit) × (length (now (twot .exit)) ≡ nodeLimit) ⌝ }
+    ensures { λ r. ⌜ Leads (edges m (now (sv .entry)) (now (st .entry)) (now (rs .entry)) (now (rt .entry)) (now (tied .entry)))
         (links (now (ns .entry)) (now (hs .entry)) (now (nt .entry)) (now (ht .entry)) (now (cs .entry)) (now (ct .entry)))
-        (looks (now (rem .exit)) (now (fs .exit)) (now (ft .exit)) (r .moving .counts .qs) (r .moving .counts .qt)) (r .moving) ⌝ }
-    ensures { λ r. ⌜ Sized (whole (now (rem .exit)) (now (fixed .exit)) (r .moving .counts)) × (length (now (fs .exit)) ≡ entryLimit)
-        × (length (now (ft .exit)) ≡ entryLimit) ⌝ }
-    ensures { λ r. ⌜ MovedOn (edges m (now (sv .entry)) (now (st .entry)) (now (rs .entry)) (now (rt .entry)) (now (tied .entry)))
-        (whole (now (rem .entry)) (now (fixed .entry)) (x .counts)) (now (fs .entry)) (now (ft .entry)) (r .rule) (r .edge)
-        (whole (now (rem .exit)) (now (fixed .exit)) (r .moving .counts)) (now (fs .exit)) (now (ft .exit)) ⌝ }
+        (looks (now (rem .entry)) (now (fs .entry)) (now (ft .entry)) (now (qs .entry)) (now (qt .entry)))
+        (now (one .exit)) (now (twos .exit)) (now (twot .exit)) ⌝ }
 {
-    let counts = x.counts;
-    let numbers = x.numbers;
-    let qs = counts.qs;
-    let qt = counts.qt;
-    let one = numbers.one;
-    let twos = numbers.twos;
-    let twot = numbers.twot;
-    let olds = numbers.olds;
-    let oldt = numbers.oldt;
-    let surveyors = x.surveyors;
-    let stands = x.stands;
-    let later = Later {
-        surveyors: surveyors,
-        stands: stands,
-        olds: olds,
-        oldt: oldt,
-    };
-    let a = reduction_step::step(
-        m,
-        sv,
-        st,
-        rs,
-        rt,
-        strict,
-        tied,
-        ns,
-        hs,
-        nt,
-        ht,
-        cs,
-        ct,
-        rem,
-        fs,
-        ft,
-        &qs,
-        &qt,
-        &one,
-        &twos,
-        &twot,
-        later,
-    );
-    let rule = a.rule;
-    let e = a.edge;
-    let l = a.later;
-    let us = l.olds;
-    let ut = l.oldt;
-    let sy = l.surveyors;
-    let ty = l.stands;
-    let known = Numbers {
-        one: one,
-        twos: twos,
-        twot: twot,
-        olds: us,
-        oldt: ut,
-    };
-    if m <= e {
-        return Moved {
-            rule: rule,
-            edge: e,
-            moving: Moving {
-                counts: counts,
-                numbers: known,
-                surveyors: sy,
-                stands: ty,
-            },
-        };
-    }
-    let b = reduction_turn::turn(
-        m,
-        sv,
-        st,
-        rs,
-        rt,
-        strict,
-        tied,
-        ns,
-        hs,
-        nt,
-        ht,
-        cs,
-        ct,
-        rule,
-        e,
-        rem,
-        fixed,
-        fs,
-        ft,
-        counts,
-        known,
-    );
-    let next = b.counts;
-    let after = b.numbers;
-    Moved {
-        rule: rule,
-        edge: e,
-        moving: Moving {
-            counts: next,
-            numbers: after,
-            surveyors: sy,
-            stands: ty,
-        },
-    }
+    let all = [true; 32];
+    reduction_nodes::first_renewed(m, sv, ns, hs, fs, ft, &all, one);
+    reduction_nodes::second_renewed(m, sv, rs, strict, ns, hs, cs, rem, ft, qs, &all, twos);
+    reduction_nodes::second_renewed(m, st, rt, tied, nt, ht, ct, rem, fs, qt, &all, twot);
 }
 
-// All steps, with the tables of the edges.
+// All steps, with the tables of the edges. At the beginning what the later rules name is old at every node.
 pub(crate) fn run(
     m: usize,
     sv: &[u8; ENTRY_LIMIT],
@@ -353,12 +159,49 @@ pub(crate) fn run(
     );
     let mut rem = b.rem;
     let mut fixed = b.fixed;
+    let mut cuts = b.qs;
+    let mut cutt = b.qt;
+    let mut ds = b.ds;
+    let mut dt = b.dt;
     let mut fs = b.fs;
     let mut ft = b.ft;
-    let mut x = b.moving;
+    let mut one = [0u16; 32];
+    let mut twos = [0u16; 32];
+    let mut twot = [0u16; 32];
+    numbered(
+        m,
+        sv,
+        st,
+        rs,
+        rt,
+        strict,
+        tied,
+        ns,
+        hs,
+        nt,
+        ht,
+        cs,
+        ct,
+        &rem,
+        &fs,
+        &ft,
+        &cuts,
+        &cutt,
+        &mut one,
+        &mut twos,
+        &mut twot,
+    );
+    let mut rule3 = [0u16; 32];
+    let mut rule4 = [0u16; 32];
+    let mut rule5 = [0u16; 32];
+    let mut rule6 = [0u16; 32];
+    let mut rule7 = [0u16; 32];
+    let mut loose = [false; 32];
+    let mut olds = [true; 32];
+    let mut oldt = [true; 32];
     let mut n = 0;
     while n < m {
-        let a = advanced(
+        let a = reduction_step::step(
             m,
             sv,
             st,
@@ -372,20 +215,60 @@ pub(crate) fn run(
             ht,
             cs,
             ct,
-            &mut rem,
-            &mut fixed,
-            &mut fs,
-            &mut ft,
-            x,
+            &rem,
+            &fs,
+            &ft,
+            &cuts,
+            &cutt,
+            &one,
+            &twos,
+            &twot,
+            &mut rule3,
+            &mut rule4,
+            &mut rule5,
+            &mut rule6,
+            &mut rule7,
+            &mut loose,
+            &mut olds,
+            &mut oldt,
         );
+        let rule = a.rule;
         let e = a.edge;
         if m <= e {
             break;
         }
         edges[n] = e as u16;
-        rules[n] = a.rule;
-        let y = a.moving;
-        x = y;
+        rules[n] = rule;
+        reduction_turn::turn(
+            m,
+            sv,
+            st,
+            rs,
+            rt,
+            strict,
+            tied,
+            ns,
+            hs,
+            nt,
+            ht,
+            cs,
+            ct,
+            rule,
+            e,
+            &mut rem,
+            &mut fixed,
+            &mut fs,
+            &mut ft,
+            &mut cuts,
+            &mut cutt,
+            &mut ds,
+            &mut dt,
+            &mut one,
+            &mut twos,
+            &mut twot,
+            &mut olds,
+            &mut oldt,
+        );
         n += 1;
     }
     Reduction {

@@ -16,7 +16,6 @@ use Rattle.arrays.specs.ArrayInstance.{at, flag}
 use Rattle.arrays.specs.Tally.{Tally}
 use Rattle.reduction_nodes.specs.Known.{Edges, Known, stateOf, instanceOf}
 use Rattle.reduction_state.specs.declared.State as arrays
-use Rattle.reduction_state.specs.declared.Counts.{Counts}
 use Rattle.reduction_state.specs.declared.Trace.{Trace}
 use Rattle.reduction_state.specs.Trace.{blank, entered}
 use Rattle.reduction_state.specs.Outcome.{onward, onward-next, onward-none, onward-stop, Reduced, reduced}
@@ -34,9 +33,9 @@ acted sv st x rule e = record {
   dt = set (x .dt) (at st e) (at (x .dt) (at st e) - 1);
 }
 
--- the arrays of edges with what is counted by node
-abbrev pub whole : (rem fixed : List Bool) (x : Counts) → arrays.State
-whole rem fixed x = record { rem = rem; fixed = fixed; qs = x .qs; qt = x .qt; ds = x .ds; dt = x .dt }
+-- the arrays together
+abbrev pub whole : (rem fixed : List Bool) (qs qt ds dt : List ℕ) → arrays.State
+whole rem fixed qs qt ds dt = record { rem = rem; fixed = fixed; qs = qs; qt = qt; ds = ds; dt = dt }
 
 pub record Started (m : ℕ) (sv st quotaS quotaT : List ℕ) (x : arrays.State) : Type 0 where
   pub all : (e : ℕ) → flag (x .rem) e ≡ ltb e m

@@ -1,6 +1,5 @@
 // The state of a run of the reduction: what remains, what is fixed, and by node the cut quotas and the numbers of remaining edges, which a step
-// renews at the two ends of its edge; and the trace of a run, an edge and a rule for each step. The arrays of edges are lent to a step, and what it
-// counts by node goes in and out by value.
+// renews at the two ends of its edge; and the trace of a run, an edge and a rule for each step. The arrays are lent to a step.
 ghost use mathlib.Core.Path.{_≡_};
 ghost use Prim.Native.Nat.{ℕ, _-_, _≤_, _<_, min};
 ghost use lib.Dec.{ltb};
@@ -19,14 +18,6 @@ use limits::ENTRY_LIMIT;
 pub struct State {
     pub rem: [bool; ENTRY_LIMIT],
     pub fixed: [bool; ENTRY_LIMIT],
-    pub qs: [u16; 32],
-    pub qt: [u16; 32],
-    pub ds: [u16; 32],
-    pub dt: [u16; 32],
-}
-
-// What a step counts by node.
-pub struct Counts {
     pub qs: [u16; 32],
     pub qt: [u16; 32],
     pub ds: [u16; 32],
@@ -98,27 +89,29 @@ pub fn act(
     st: &[u8; ENTRY_LIMIT],
     rem: &mut [bool; ENTRY_LIMIT],
     fixed: &mut [bool; ENTRY_LIMIT],
-    x: Counts,
+    qs: &mut [u16; 32],
+    qt: &mut [u16; 32],
+    ds: &mut [u16; 32],
+    dt: &mut [u16; 32],
     rule: u8,
     e: usize,
-) -> Counts
+)
     requires { ⌜ (e < entryLimit) × (at (now sv) e < nodeLimit) × (at (now st) e < nodeLimit) ⌝ }
-    ensures { λ r. ⌜ whole (now (rem .exit)) (now (fixed .exit)) r
-        ≡ acted (now (sv .entry)) (now (st .entry)) (whole (now (rem .entry)) (now (fixed .entry)) x) rule e ⌝ }
+    ensures { λ r. ⌜ whole (now (rem .exit)) (now (fixed .exit)) (now (qs .exit)) (now (qt .exit)) (now (ds .exit)) (now (dt .exit))
+        ≡ acted (now (sv .entry)) (now (st .entry))
+        (whole (now (rem .entry)) (now (fixed .entry)) (now (qs .entry)) (now (qt .entry)) (now (ds .entry)) (now (dt .entry))) rule e ⌝ }
 {
     let fix = fixes(rule);
     rem[e] = false;
     fixed[e] = fixed[e] | fix;
-    let mut y = x;
     let s = sv[e] as usize;
-    let left = fewer(y.ds[s]);
-    y.ds[s] = left;
-    y.qs[s] = lowered(y.qs[s], fix, left);
+    let left = fewer(ds[s]);
+    ds[s] = left;
+    qs[s] = lowered(qs[s], fix, left);
     let t = st[e] as usize;
-    let more = fewer(y.dt[t]);
-    y.dt[t] = more;
-    y.qt[t] = lowered(y.qt[t], fix, more);
-    y
+    let more = fewer(dt[t]);
+    dt[t] = more;
+    qt[t] = lowered(qt[t], fix, more);
 }
 
 // How many edges of the set p lie at each node.

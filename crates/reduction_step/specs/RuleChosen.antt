@@ -14,9 +14,8 @@ use Rattle.theory_reduction.specs.RuleNumbers.{names, lowest, ruleOf, edgeOf}
 use Rattle.theory_reduction.specs.ByNode.{rule2S, rule2T, rule2-ends}
 use Rattle.reduction_nodes.specs.declared.Surveyor.{Surveyor}
 use Rattle.reduction_nodes.specs.declared.Stand.{Stand}
-use Rattle.reduction_nodes.specs.declared.Later.{Later}
 use Rattle.reduction_nodes.specs.Known.{Edges, Known, instanceOf, stateOf}
-use Rattle.reduction_nodes.specs.Kept.{Links, Tables, Looks, Leads, Fresh, cellsS, cellsT}
+use Rattle.reduction_nodes.specs.Kept.{Links, Tables, Looks, Later, Leads, Fresh, cellsS, cellsT}
 use Rattle.reduction_nodes.specs.NodeLaws.{Seen, Named, Loose, stand2, stand3, stand7, stand-loose, surveyor1, surveyor2, surveyor4, surveyor5, surveyor6}
 use Rattle.reduction_step.specs.Least.{Least, least-lowest, low-either}
 
@@ -59,33 +58,33 @@ module _ (G : Instance) (Z : State) where
     pub atS : (e : ℕ) → e < G .m → G .sv e < nodeLimit
     pub atT : (e : ℕ) → e < G .m → G .st e < nodeLimit
 
-  pub record Later37Named (x : Later) : Type 0 where
+  pub record Later37Named (rule3′ rule4′ rule5′ rule6′ rule7′ : List ℕ) : Type 0 where
     pub fits : Fits
-    pub rule3 : Named G Z (x .stands .rule3) (G .st) rule3
-    pub rule4 : Named G Z (x .surveyors .rule4) (G .sv) rule4
-    pub rule5 : Named G Z (x .surveyors .rule5) (G .sv) rule5
-    pub rule6 : Named G Z (x .surveyors .rule6) (G .sv) rule6
-    pub rule7 : Named G Z (x .stands .rule7) (G .st) rule7
+    pub rule3 : Named G Z rule3′ (G .st) rule3
+    pub rule4 : Named G Z rule4′ (G .sv) rule4
+    pub rule5 : Named G Z rule5′ (G .sv) rule5
+    pub rule6 : Named G Z rule6′ (G .sv) rule6
+    pub rule7 : Named G Z rule7′ (G .st) rule7
 
-  pub lowest3 : (x : Later) → Later37Named x → (r : ℕ) → Least (x .stands .rule3) nodeLimit r → r ≡ lowest G Z 3
+  pub lowest3 : Fits → (xs : List ℕ) → Named G Z xs (G .st) rule3 → (r : ℕ) → Least xs nodeLimit r → r ≡ lowest G Z 3
   unfolding lowest names
-  lowest3 x N r L = least-lowest (G .m) (G .st) (λ e. Z .rem e && rule3 G Z e) (N .fits .atT) (x .stands .rule3) r (N .rule3) L
+  lowest3 F xs N r L = least-lowest (G .m) (G .st) (λ e. Z .rem e && rule3 G Z e) (F .atT) xs r N L
 
-  pub lowest4 : (x : Later) → Later37Named x → (r : ℕ) → Least (x .surveyors .rule4) nodeLimit r → r ≡ lowest G Z 4
+  pub lowest4 : Fits → (xs : List ℕ) → Named G Z xs (G .sv) rule4 → (r : ℕ) → Least xs nodeLimit r → r ≡ lowest G Z 4
   unfolding lowest names
-  lowest4 x N r L = least-lowest (G .m) (G .sv) (λ e. Z .rem e && rule4 G Z e) (N .fits .atS) (x .surveyors .rule4) r (N .rule4) L
+  lowest4 F xs N r L = least-lowest (G .m) (G .sv) (λ e. Z .rem e && rule4 G Z e) (F .atS) xs r N L
 
-  pub lowest5 : (x : Later) → Later37Named x → (r : ℕ) → Least (x .surveyors .rule5) nodeLimit r → r ≡ lowest G Z 5
+  pub lowest5 : Fits → (xs : List ℕ) → Named G Z xs (G .sv) rule5 → (r : ℕ) → Least xs nodeLimit r → r ≡ lowest G Z 5
   unfolding lowest names
-  lowest5 x N r L = least-lowest (G .m) (G .sv) (λ e. Z .rem e && rule5 G Z e) (N .fits .atS) (x .surveyors .rule5) r (N .rule5) L
+  lowest5 F xs N r L = least-lowest (G .m) (G .sv) (λ e. Z .rem e && rule5 G Z e) (F .atS) xs r N L
 
-  pub lowest6 : (x : Later) → Later37Named x → (r : ℕ) → Least (x .surveyors .rule6) nodeLimit r → r ≡ lowest G Z 6
+  pub lowest6 : Fits → (xs : List ℕ) → Named G Z xs (G .sv) rule6 → (r : ℕ) → Least xs nodeLimit r → r ≡ lowest G Z 6
   unfolding lowest names
-  lowest6 x N r L = least-lowest (G .m) (G .sv) (λ e. Z .rem e && rule6 G Z e) (N .fits .atS) (x .surveyors .rule6) r (N .rule6) L
+  lowest6 F xs N r L = least-lowest (G .m) (G .sv) (λ e. Z .rem e && rule6 G Z e) (F .atS) xs r N L
 
-  pub lowest7 : (x : Later) → Later37Named x → (r : ℕ) → Least (x .stands .rule7) nodeLimit r → r ≡ lowest G Z 7
+  pub lowest7 : Fits → (xs : List ℕ) → Named G Z xs (G .st) rule7 → (r : ℕ) → Least xs nodeLimit r → r ≡ lowest G Z 7
   unfolding lowest names
-  lowest7 x N r L = least-lowest (G .m) (G .st) (λ e. Z .rem e && rule7 G Z e) (N .fits .atT) (x .stands .rule7) r (N .rule7) L
+  lowest7 F xs N r L = least-lowest (G .m) (G .st) (λ e. Z .rem e && rule7 G Z e) (F .atT) xs r N L
 
   split : (r a b c : Bool) → c ≡ a || b → r && c ≡ (r && a) || (r && b)
   split true a b c h = h
@@ -107,8 +106,9 @@ module _ (G : Instance) (Z : State) where
 
 -- ---- what the functions of a step promise
 -- of rules 3 to 7, of every instance and state whose numbers these are
-abbrev pub Later37 : (m : ℕ) → Later → (r e : ℕ) → Type 0
-Later37 m x r e = (G : Instance) (Z : State) → m ≡ G .m → Later37Named G Z x → Silent G Z 3 → Says G Z r e
+abbrev pub Later37 : (m : ℕ) (rule3 rule4 rule5 rule6 rule7 : List ℕ) (r e : ℕ) → Type 0
+Later37 m rule3 rule4 rule5 rule6 rule7 r e = (G : Instance) (Z : State) → m ≡ G .m → Later37Named G Z rule3 rule4 rule5 rule6 rule7 → Silent G Z 3
+    → Says G Z r e
 
 -- of all rules, of every lawful instance and state that the arrays show
 abbrev pub Steps : (A : Edges) (X : Looks) (r e : ℕ) → Type 0
@@ -137,7 +137,8 @@ module _ {A : Edges} {strict : List Bool} {L : Links} (D : Tables A strict L) (X
       (λ v w. H .atS v w ∙ surveyor2 K (X .rem) fixed kS kT (X .fs) (X .ft) (X .qs) (X .qt) S (L .cellS) (L .cellT) (cellsS D K) (cellsT D K) v w)
       (λ v w. H .atT v w ∙ stand2 K (X .rem) fixed kS kT (X .fs) (X .ft) (X .qs) (X .qt) S (L .cellS) (L .cellT) (cellsS D K) (cellsT D K) v w)
 
-  pub later-named : (x : Later) → Fresh A L X x → Later37Named G Z x
+  pub later-named : (x : Later) → Fresh A L X x
+      → Later37Named G Z (x .stands .rule3) (x .surveyors .rule4) (x .surveyors .rule5) (x .surveyors .rule6) (x .stands .rule7)
   later-named x F =
       let lo : Loose G Z (x .stands .loose)
       = (λ v w. ap (λ (s : Stand). s .loose) (F .lates .stand v w (F .noneT v w))

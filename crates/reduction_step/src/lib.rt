@@ -5,24 +5,16 @@ ghost use mathlib.Core.Bool.{cond, true};
 ghost use Prim.Native.Nat.{min};
 ghost use lib.ListN.{replicate};
 ghost use Rattle.model.specs.Limits.{nodeLimit};
-ghost use Rattle.reduction_nodes.specs.Kept.{Tables, Leads, Lates, Fresh, edges, links, looks};
+ghost use Rattle.reduction_nodes.specs.Kept.{Tables, Leads, Lates, Fresh, SizedL, edges, links, looks, later};
 ghost use Rattle.reduction_step.specs.Least.{Least};
 ghost use Rattle.reduction_step.specs.RuleChosen.{Later37, Steps};
 use limits::ENTRY_LIMIT;
 use reduction_cells::CELLS;
-use reduction_nodes::Later;
 
 // A rule and an edge, 8 and m if no rule names one.
 pub struct Named {
     pub rule: u8,
     pub edge: usize,
-}
-
-// The same, with the later numbers as they are then.
-pub struct Stepped {
-    pub rule: u8,
-    pub edge: usize,
-    pub later: Later,
 }
 
 pub fn lesser(a: u16, b: u16) -> u16
@@ -77,27 +69,52 @@ pub fn renewed(
     ft: &[bool; ENTRY_LIMIT],
     qs: &[u16; 32],
     qt: &[u16; 32],
-    x: Later,
-) -> Later
+    rule3: &mut [u16; 32],
+    rule4: &mut [u16; 32],
+    rule5: &mut [u16; 32],
+    rule6: &mut [u16; 32],
+    rule7: &mut [u16; 32],
+    loose: &mut [bool; 32],
+    olds: &mut [bool; 32],
+    oldt: &mut [bool; 32],
+)
     requires { ⌜ Tables (edges m (now sv) (now st) (now rs) (now rt) (now tied)) (now strict)
         (links (now ns) (now hs) (now nt) (now ht) (now cs) (now ct)) ⌝ }
     requires { ⌜ Lates (edges m (now sv) (now st) (now rs) (now rt) (now tied))
         (links (now ns) (now hs) (now nt) (now ht) (now cs) (now ct))
-        (looks (now rem) (now fs) (now ft) (now qs) (now qt)) x ⌝ }
+        (looks (now rem) (now fs) (now ft) (now qs) (now qt))
+        (later (now rule3) (now rule4) (now rule5) (now rule6) (now rule7) (now loose) (now olds) (now oldt)) ⌝ }
+    requires { ⌜ SizedL (later (now rule3) (now rule4) (now rule5) (now rule6) (now rule7) (now loose) (now olds) (now oldt)) ⌝ }
+    ensures { λ r. ⌜ SizedL (later (now (rule3 .exit)) (now (rule4 .exit)) (now (rule5 .exit)) (now (rule6 .exit)) (now (rule7 .exit))
+        (now (loose .exit)) (now (olds .exit)) (now (oldt .exit))) ⌝ }
     ensures { λ r. ⌜ Fresh (edges m (now (sv .entry)) (now (st .entry)) (now (rs .entry)) (now (rt .entry)) (now (tied .entry)))
         (links (now (ns .entry)) (now (hs .entry)) (now (nt .entry)) (now (ht .entry)) (now (cs .entry)) (now (ct .entry)))
-        (looks (now (rem .entry)) (now (fs .entry)) (now (ft .entry)) (now (qs .entry)) (now (qt .entry))) r ⌝ }
+        (looks (now (rem .entry)) (now (fs .entry)) (now (ft .entry)) (now (qs .entry)) (now (qt .entry)))
+        (later (now (rule3 .exit)) (now (rule4 .exit)) (now (rule5 .exit)) (now (rule6 .exit)) (now (rule7 .exit)) (now (loose .exit)) (now (olds .exit))
+        (now (oldt .exit))) ⌝ }
 {
-    let oldt = x.oldt;
-    let y = x.stands;
-    let before = y.loose;
-    let t = reduction_nodes::stands_renewed(m, st, rt, tied, nt, ht, ct, rem, fs, ft, qt, &oldt, y);
-    let lo = t.loose;
-    let at = reduction_nodes::unlike(&before, &lo);
-    let known = x.olds;
-    let olds = touched(at < 32, known);
-    let z = x.surveyors;
-    let s = reduction_nodes::surveyors_renewed(
+    let before = *loose;
+    reduction_nodes::stands_renewed(
+        m,
+        st,
+        rt,
+        tied,
+        nt,
+        ht,
+        ct,
+        rem,
+        fs,
+        ft,
+        qt,
+        oldt,
+        rule3,
+        rule7,
+        loose,
+    );
+    let at = reduction_nodes::unlike(&before, loose);
+    let known = *olds;
+    let saw = touched(at < 32, known);
+    reduction_nodes::surveyors_renewed(
         m,
         sv,
         st,
@@ -109,47 +126,46 @@ pub fn renewed(
         rem,
         fs,
         ft,
-        &lo,
+        loose,
         qs,
-        &olds,
-        z,
+        &saw,
+        rule4,
+        rule5,
+        rule6,
     );
-    Later {
-        surveyors: s,
-        stands: t,
-        olds: [false; 32],
-        oldt: [false; 32],
-    }
+    *olds = [false; 32];
+    *oldt = [false; 32];
 }
 
 // Rules 3 to 7, where the rules before are silent.
-pub fn late(m: usize, x: Later) -> Named
-    ensures { λ r. ⌜ Later37 m x (r .rule) (r .edge) ⌝ }
+pub fn late(
+    m: usize,
+    rule3: &[u16; 32],
+    rule4: &[u16; 32],
+    rule5: &[u16; 32],
+    rule6: &[u16; 32],
+    rule7: &[u16; 32],
+) -> Named
+    ensures { λ r. ⌜ Later37 m (now (rule3 .entry)) (now (rule4 .entry)) (now (rule5 .entry)) (now (rule6 .entry)) (now (rule7 .entry))
+        (r .rule) (r .edge) ⌝ }
 {
-    let t = x.stands;
-    let s = x.surveyors;
-    let rule3 = t.rule3;
-    let e3 = least(&rule3) as usize;
+    let e3 = least(rule3) as usize;
     if e3 < m {
         return Named { rule: 3, edge: e3 };
     }
-    let rule4 = s.rule4;
-    let e4 = least(&rule4) as usize;
+    let e4 = least(rule4) as usize;
     if e4 < m {
         return Named { rule: 4, edge: e4 };
     }
-    let rule5 = s.rule5;
-    let e5 = least(&rule5) as usize;
+    let e5 = least(rule5) as usize;
     if e5 < m {
         return Named { rule: 5, edge: e5 };
     }
-    let rule6 = s.rule6;
-    let e6 = least(&rule6) as usize;
+    let e6 = least(rule6) as usize;
     if e6 < m {
         return Named { rule: 6, edge: e6 };
     }
-    let rule7 = t.rule7;
-    let e7 = least(&rule7) as usize;
+    let e7 = least(rule7) as usize;
     if e7 < m {
         return Named { rule: 7, edge: e7 };
     }
@@ -180,8 +196,15 @@ pub fn step(
     one: &[u16; 32],
     twos: &[u16; 32],
     twot: &[u16; 32],
-    x: Later,
-) -> Stepped
+    rule3: &mut [u16; 32],
+    rule4: &mut [u16; 32],
+    rule5: &mut [u16; 32],
+    rule6: &mut [u16; 32],
+    rule7: &mut [u16; 32],
+    loose: &mut [bool; 32],
+    olds: &mut [bool; 32],
+    oldt: &mut [bool; 32],
+) -> Named
     requires { ⌜ Tables (edges m (now sv) (now st) (now rs) (now rt) (now tied)) (now strict)
         (links (now ns) (now hs) (now nt) (now ht) (now cs) (now ct)) ⌝ }
     requires { ⌜ Leads (edges m (now sv) (now st) (now rs) (now rt) (now tied))
@@ -189,30 +212,28 @@ pub fn step(
         (looks (now rem) (now fs) (now ft) (now qs) (now qt)) (now one) (now twos) (now twot) ⌝ }
     requires { ⌜ Lates (edges m (now sv) (now st) (now rs) (now rt) (now tied))
         (links (now ns) (now hs) (now nt) (now ht) (now cs) (now ct))
-        (looks (now rem) (now fs) (now ft) (now qs) (now qt)) x ⌝ }
+        (looks (now rem) (now fs) (now ft) (now qs) (now qt))
+        (later (now rule3) (now rule4) (now rule5) (now rule6) (now rule7) (now loose) (now olds) (now oldt)) ⌝ }
+    requires { ⌜ SizedL (later (now rule3) (now rule4) (now rule5) (now rule6) (now rule7) (now loose) (now olds) (now oldt)) ⌝ }
+    ensures { λ r. ⌜ SizedL (later (now (rule3 .exit)) (now (rule4 .exit)) (now (rule5 .exit)) (now (rule6 .exit)) (now (rule7 .exit))
+        (now (loose .exit)) (now (olds .exit)) (now (oldt .exit))) ⌝ }
     ensures { λ r. ⌜ Lates (edges m (now (sv .entry)) (now (st .entry)) (now (rs .entry)) (now (rt .entry)) (now (tied .entry)))
         (links (now (ns .entry)) (now (hs .entry)) (now (nt .entry)) (now (ht .entry)) (now (cs .entry)) (now (ct .entry)))
-        (looks (now (rem .entry)) (now (fs .entry)) (now (ft .entry)) (now (qs .entry)) (now (qt .entry))) (r .later) ⌝ }
+        (looks (now (rem .entry)) (now (fs .entry)) (now (ft .entry)) (now (qs .entry)) (now (qt .entry)))
+        (later (now (rule3 .exit)) (now (rule4 .exit)) (now (rule5 .exit)) (now (rule6 .exit)) (now (rule7 .exit)) (now (loose .exit)) (now (olds .exit))
+        (now (oldt .exit))) ⌝ }
     ensures { λ r. ⌜ Steps (edges m (now (sv .entry)) (now (st .entry)) (now (rs .entry)) (now (rt .entry)) (now (tied .entry)))
         (looks (now (rem .entry)) (now (fs .entry)) (now (ft .entry)) (now (qs .entry)) (now (qt .entry))) (r .rule) (r .edge) ⌝ }
 {
     let e1 = least(one) as usize;
     if e1 < m {
-        return Stepped {
-            rule: 1,
-            edge: e1,
-            later: x,
-        };
+        return Named { rule: 1, edge: e1 };
     }
     let e2 = lesser(least(twos), least(twot)) as usize;
     if e2 < m {
-        return Stepped {
-            rule: 2,
-            edge: e2,
-            later: x,
-        };
+        return Named { rule: 2, edge: e2 };
     }
-    let y = renewed(
+    renewed(
         m,
         sv,
         st,
@@ -231,12 +252,14 @@ pub fn step(
         ft,
         qs,
         qt,
-        x,
+        rule3,
+        rule4,
+        rule5,
+        rule6,
+        rule7,
+        loose,
+        olds,
+        oldt,
     );
-    let a = late(m, y);
-    Stepped {
-        rule: a.rule,
-        edge: a.edge,
-        later: y,
-    }
+    late(m, rule3, rule4, rule5, rule6, rule7)
 }

@@ -1,31 +1,27 @@
 -- What a turn does to the numbers of the nodes: where they were those of the arrays before it, they are those of the arrays after it. All of it speaks
 -- of the arrays alone.
-use Prim.Native.Nat.{ℕ, _<_}
+use Prim.Native.Nat.{ℕ, _+_, _<_}
 use native.Mathlib.Omega.{arith}
 use mathlib.Core.Path.{_≡_, refl, sym, ap, ap₂, _∙_, subst}
 use mathlib.Core.Logic.{_≢_}
-use mathlib.Core.Bool.{Bool, true, false, not, cond, _&&_, _||_, and-true, and-false}
+use mathlib.Core.Bool.{Bool, true, false, not, cond, _&&_, _||_, and-true, and-false, or-false}
 use mathlib.Core.List.{List}
 use lib.ListN.{length, set}
 use lib.Seq.{getD-set-same, getD-set-other}
-use lib.Dec.{T, eqb}
+use lib.Dec.{T, eqb, ltb}
+use borrow.Author.Tests.{lt-ltb, le-ltb}
 use Rattle.lists.specs.Test.{by-eq, given, eqb-yes, eqb-no, nor-l, nor-r, T-false, false-T}
 use Rattle.model.specs.Limits.{nodeLimit, emptyRank}
 use Rattle.arrays.specs.ArrayInstance.{at, flag}
 use Rattle.arrays.specs.Passes.{Low}
-use Rattle.arrays.specs.Filled.{Made}
 use Rattle.reduction_cells.specs.Cells.{Celled, inCell, same-place, cell-holds}
 use Rattle.reduction_cells.specs.Painted.{Painted}
 use Rattle.reduction_cells.specs.Local.{Agree}
-use Rattle.reduction_nodes.specs.declared.Surveyors.{Surveyors}
-use Rattle.reduction_nodes.specs.declared.Stands.{Stands}
-use Rattle.reduction_nodes.specs.declared.Later.{Later}
 use Rattle.reduction_nodes.specs.Known.{Edges}
-use Rattle.reduction_nodes.specs.Renewed.{Renewed}
-use Rattle.reduction_nodes.specs.Numbers.{secondOf, secondsOf}
+use Rattle.reduction_nodes.specs.Renewed.{Renewed, other}
+use Rattle.reduction_nodes.specs.Numbers.{secondOf, secondsOf, Surveyors, Stands}
 use Rattle.reduction_nodes.specs.Local.{Same, first-local, second-local, stand-local, surveyor-local, second-struck}
-use Rattle.reduction_nodes.specs.Kept.{Links, Tables, Looks, looks, Leads, Lates, firstNow, secondS, secondT, renewed-all}
-use Rattle.reduction_turn.specs.declared.Numbers.{Numbers}
+use Rattle.reduction_nodes.specs.Kept.{Links, Tables, Looks, looks, Later, Leads, Lates, firstNow, secondS, secondT, renewed-all}
 
 -- ---- e is taken out of what remained
 abbrev pub Gone : (rem₀ rem : List Bool) (e : ℕ) → Type 0
@@ -41,7 +37,24 @@ gone-self rem₀ rem e g = g e ∙ ap (λ b. flag rem₀ e && not b) (eqb-yes e 
 gone-apart : (m : ℕ) (end : List ℕ) (rem₀ rem : List Bool) (e : ℕ) → Gone rem₀ rem e → (v : ℕ) → v ≢ at end e → Agree m end v (flag rem) (flag rem₀)
 gone-apart m end rem₀ rem e g v n d l j = gone-other rem₀ rem e g d (λ (z : d ≡ e). n (sym j ∙ ap (at end) z))
 
--- ---- numbers that go on
+-- ---- numbers that go on: those of rules 1 and 2, and at which nodes those of the later rules are old
+pub record Numbers : Type 0 where
+  pub one : List ℕ
+  pub twos : List ℕ
+  pub twot : List ℕ
+  pub olds : List Bool
+  pub oldt : List Bool
+
+abbrev pub numbers : (one twos twot : List ℕ) (olds oldt : List Bool) → Numbers
+numbers one twos twot olds oldt = record { one = one; twos = twos; twot = twot; olds = olds; oldt = oldt }
+
+pub record SizedN (k : Numbers) : Type 0 where
+  pub one : length (k .one) ≡ nodeLimit
+  pub twos : length (k .twos) ≡ nodeLimit
+  pub twot : length (k .twot) ≡ nodeLimit
+  pub olds : length (k .olds) ≡ nodeLimit
+  pub oldt : length (k .oldt) ≡ nodeLimit
+
 abbrev pub later : Surveyors → Stands → Numbers → Later
 later x y k = record { surveyors = x; stands = y; olds = k .olds; oldt = k .oldt }
 
@@ -125,6 +138,21 @@ calm-on A strict L D Y e l k twos twot ns nt hs ht rem₀ qs₀ qt₀ g QS QT = 
     same : (end : List ℕ) (v : ℕ) → v ≢ at end e → Same (A .m) end v rem₀ (Y .fs) (Y .ft) (Y .rem) (Y .fs) (Y .ft)
     same end v n = record { left = gone-apart (A .m) end rem₀ (Y .rem) e g v n; fromS = λ d l j. refl; fromT = λ d l j. refl }
 
+-- ---- of the nodes below n those that saw a change are marked
+abbrev pub Marked : (saw old : List Bool) (n : ℕ) (old′ : List Bool) → Type 0
+Marked saw old n old′ = (v : ℕ) → flag old′ v ≡ flag old v || (ltb v n && flag saw v)
+
+pub marked-none : (saw old : List Bool) → Marked saw old 0 old
+marked-none saw old v = sym (ap (λ b. flag old v || (b && flag saw v)) (le-ltb v 0 (omega arith)) ∙ or-false (flag old v))
+
+pub marked-next : (saw old old′ : List Bool) (i : ℕ) → i < length old′ → Marked saw old i old′
+    → Marked saw old (i + 1) (set old′ i (flag old′ i || flag saw i))
+marked-next saw old old′ i l M v = by-eq v i
+    (λ q t. ap (flag (set old′ i (flag old′ i || flag saw i))) q ∙ getD-set-same old′ i (flag old′ i || flag saw i) false l
+    ∙ ap (λ b. b || flag saw i) (M i ∙ ap (λ b. flag old i || (b && flag saw i)) (le-ltb i i (omega arith)) ∙ or-false (flag old i))
+    ∙ sym (ap₂ _||_ (ap (flag old) q) (ap₂ _&&_ (lt-ltb v (i + 1) (omega arith)) (ap (flag saw) q))))
+    (λ n t. getD-set-other old′ i v (flag old′ i || flag saw i) false n ∙ M v ∙ ap (λ b. flag old v || (b && flag saw v)) (other i v n))
+
 -- ---- the arrows of s and t painted anew; both saw a change
 pub record Repainted (m : ℕ) (sv st cs ct qs qt : List ℕ) (rem : List Bool) (s t : ℕ) (fs ft fs′ ft′ saws sawt : List Bool) : Type 0 where
   pub fromS : List Bool
@@ -191,10 +219,12 @@ module _ (A : Edges) (strict : List Bool) (L : Links) (D : Tables A strict L) (r
   neither : (a b c : Bool) → c ≡ a || b → c ≡ false → (a ≡ false) × (b ≡ false)
   neither a b c i h = let t = false-T (sym i ∙ h) in (T-false (nor-l a b t), T-false (nor-r a b t))
 
+  below : (v : ℕ) → v < nodeLimit → (a b : Bool) → a || (ltb v nodeLimit && b) ≡ a || b
+  below v w a b = ap (λ x. a || (x && b)) (lt-ltb v nodeLimit w)
+
   pub anew-on : (k k′ : Numbers) → Renewed 0 saws (firstNow A L Y) (k .one) nodeLimit (k′ .one)
       → Renewed 0 saws (secondS A L Y) (k .twos) nodeLimit (k′ .twos) → Renewed 0 sawt (secondT A L Y) (k .twot) nodeLimit (k′ .twot)
-      → Made false (k′ .olds) (λ v. flag (k .olds) v || flag saws v) nodeLimit
-      → Made false (k′ .oldt) (λ v. flag (k .oldt) v || flag sawt v) nodeLimit → AnewOn A L rem qs qt fs ft fs′ ft′ e k k′
+      → Marked saws (k .olds) nodeLimit (k′ .olds) → Marked sawt (k .oldt) nodeLimit (k′ .oldt) → AnewOn A L rem qs qt fs ft fs′ ft′ e k k′
   anew-on k k′ N NS NT MS MT = record {
     saws = saws;
     sawt = sawt;
@@ -211,9 +241,9 @@ module _ (A : Edges) (strict : List Bool) (L : Links) (D : Tables A strict L) (r
             (sameT rem₀ g v t .left) (sameT rem₀ g v t .fromS) (QT v (away sawt (at (A .st) e) v (R .ownT) t))));
       };
       lates = lates-on A strict L D (looks rem₀ fs ft qs₀ qt₀) Y k k′
-          (λ v w t. given (neither (flag (k .olds) v) (flag saws v) (flag (k′ .olds) v) (MS v w) t)
+          (λ v w t. given (neither (flag (k .olds) v) (flag saws v) (flag (k′ .olds) v) (MS v ∙ below v w (flag (k .olds) v) (flag saws v)) t)
           (λ (a, b). (a, sameS rem₀ g v b, QS v (away saws (at (A .sv) e) v (R .ownS) b))))
-          (λ v w t. given (neither (flag (k .oldt) v) (flag sawt v) (flag (k′ .oldt) v) (MT v w) t)
+          (λ v w t. given (neither (flag (k .oldt) v) (flag sawt v) (flag (k′ .oldt) v) (MT v ∙ below v w (flag (k .oldt) v) (flag sawt v)) t)
           (λ (a, b). (a, sameT rem₀ g v b, QT v (away sawt (at (A .st) e) v (R .ownT) b))));
     };
   }

@@ -2,38 +2,22 @@
 // leaves all arrows as they are; then only rule 2's number can change, at a node where it was e. Else the arrows of both ends are painted anew, and
 // the nodes that saw a change are read anew. What the later rules name is marked old at every node that saw one.
 ghost use mathlib.Core.Path.{_≡_};
-ghost use mathlib.Core.Bool.{_&&_, _||_, cond, false};
+ghost use mathlib.Core.Bool.{_&&_, cond};
 ghost use Prim.Native.Nat.{ℕ, _<_};
 ghost use lib.ListN.{length};
 ghost use lib.Dec.{eqb};
 ghost use Rattle.model.specs.Limits.{nodeLimit, entryLimit, emptyRank};
-ghost use Rattle.arrays.specs.ArrayInstance.{at, flag};
+ghost use Rattle.arrays.specs.ArrayInstance.{at};
 ghost use Rattle.arrays.specs.Passes.{Low};
-ghost use Rattle.arrays.specs.Filled.{Made};
 ghost use Rattle.edge_links.specs.Linked.{Linked};
 ghost use Rattle.reduction_cells.specs.Cells.{Celled};
 ghost use Rattle.reduction_nodes.specs.Numbers.{secondsOf};
 ghost use Rattle.reduction_nodes.specs.Kept.{Tables, edges, links, looks};
 ghost use Rattle.reduction_state.specs.RunState.{whole, Sized};
-ghost use Rattle.reduction_turn.specs.Onward.{Repainted, CalmOn, AnewOn, Onward};
+ghost use Rattle.reduction_turn.specs.Onward.{Marked, Repainted, CalmOn, AnewOn, Onward, SizedN, numbers};
 ghost use Rattle.reduction_turn.specs.Shown.{ShownOn};
 use limits::ENTRY_LIMIT;
 use reduction_cells::CELLS;
-use reduction_state::Counts;
-
-// By node: the numbers of rules 1 and 2, and where those of the later rules are old.
-pub struct Numbers {
-    pub one: [u16; 32],
-    pub twos: [u16; 32],
-    pub twot: [u16; 32],
-    pub olds: [bool; 32],
-    pub oldt: [bool; 32],
-}
-
-pub struct Turned {
-    pub counts: Counts,
-    pub numbers: Numbers,
-}
 
 // The surveyors and the stands that saw a change.
 pub struct Saw {
@@ -55,31 +39,29 @@ pub fn passed_over(
     q: &[u16; 32],
     v: usize,
     e: usize,
-    x: [u16; 32],
-) -> [u16; 32]
-    requires { ⌜ (v < nodeLimit) × Linked m (now end) (now first) (now next) × Celled m (now end) (now rank) (now tied) (now cell)
-        × Low m (now rank) emptyRank ⌝ }
-    ensures { λ r. ⌜ ((u : ℕ) → at r u ≡ cond (eqb u v && eqb (at x v) e) (secondsOf m (now (end .entry)) (now (rank .entry)) (now (cell .entry))
-        (now (rem .entry)) (now (f .entry)) (now (q .entry)) u) (at x u)) ⌝ }
+    x: &mut [u16; 32],
+)
+    requires { ⌜ (v < nodeLimit) × (e < m) × Linked m (now end) (now first) (now next) × Celled m (now end) (now rank) (now tied) (now cell)
+        × Low m (now rank) emptyRank × (length (now x) ≡ nodeLimit) ⌝ }
+    ensures { λ r. ⌜ (length (now (x .exit)) ≡ nodeLimit) × ((u : ℕ) → at (now (x .exit)) u
+        ≡ cond (eqb u v && eqb (at (now (x .entry)) v) e) (secondsOf m (now (end .entry)) (now (rank .entry)) (now (cell .entry))
+        (now (rem .entry)) (now (f .entry)) (now (q .entry)) u) (at (now (x .entry)) u)) ⌝ }
 {
-    let mut y = x;
-    if y[v] as usize == e {
-        y[v] = reduction_nodes::second(m, end, rank, tied, next, first, cell, v, rem, f, q[v]);
+    if x[v] == e as u16 {
+        x[v] = reduction_nodes::second(m, end, rank, tied, next, first, cell, v, rem, f, q[v]);
     }
-    y
 }
 
-// The nodes that were marked or saw a change.
-pub fn either(old: [bool; 32], saw: &[bool; 32]) -> [bool; 32]
-    ensures { λ r. ⌜ Made false r (λ v. flag old v || flag (now (saw .entry)) v) nodeLimit ⌝ }
+// The nodes that saw a change are marked old.
+pub fn marked(saw: &[bool; 32], old: &mut [bool; 32])
+    requires { ⌜ length (now old) ≡ nodeLimit ⌝ }
+    ensures { λ r. ⌜ (length (now (old .exit)) ≡ nodeLimit) × Marked (now (saw .entry)) (now (old .entry)) nodeLimit (now (old .exit)) ⌝ }
 {
-    let mut o = [false; 32];
     let mut i: usize = 0;
     while i < 32 {
-        o[i] = old[i] | saw[i];
+        old[i] = old[i] | saw[i];
         i += 1;
     }
-    o
 }
 
 // The arrows of s and t painted anew. Both saw a change, and so did the other end of each arrow that turned.
@@ -137,26 +119,28 @@ pub fn calmly(
     qs: &[u16; 32],
     qt: &[u16; 32],
     e: usize,
-    x: Numbers,
-) -> Numbers
+    one: &[u16; 32],
+    twos: &mut [u16; 32],
+    twot: &mut [u16; 32],
+    olds: &mut [bool; 32],
+    oldt: &mut [bool; 32],
+)
     requires { ⌜ (e < m) × Tables (edges m (now sv) (now st) (now rs) (now rt) (now tied)) (now strict)
         (links (now ns) (now hs) (now nt) (now ht) (now cs) (now ct)) ⌝ }
+    requires { ⌜ SizedN (numbers (now one) (now twos) (now twot) (now olds) (now oldt)) ⌝ }
+    ensures { λ r. ⌜ SizedN (numbers (now (one .entry)) (now (twos .exit)) (now (twot .exit)) (now (olds .exit)) (now (oldt .exit))) ⌝ }
     ensures { λ r. ⌜ CalmOn (edges m (now (sv .entry)) (now (st .entry)) (now (rs .entry)) (now (rt .entry)) (now (tied .entry)))
         (links (now (ns .entry)) (now (hs .entry)) (now (nt .entry)) (now (ht .entry)) (now (cs .entry)) (now (ct .entry)))
-        (looks (now (rem .entry)) (now (fs .entry)) (now (ft .entry)) (now (qs .entry)) (now (qt .entry))) e x r ⌝ }
+        (looks (now (rem .entry)) (now (fs .entry)) (now (ft .entry)) (now (qs .entry)) (now (qt .entry))) e
+        (numbers (now (one .entry)) (now (twos .entry)) (now (twot .entry)) (now (olds .entry)) (now (oldt .entry)))
+        (numbers (now (one .entry)) (now (twos .exit)) (now (twot .exit)) (now (olds .exit)) (now (oldt .exit))) ⌝ }
 {
     let s = sv[e] as usize;
     let t = st[e] as usize;
-    let twos = x.twos;
-    let twot = x.twot;
-    let a = passed_over(m, sv, rs, strict, ns, hs, cs, rem, ft, qs, s, e, twos);
-    let b = passed_over(m, st, rt, tied, nt, ht, ct, rem, fs, qt, t, e, twot);
-    let mut y = x;
-    y.twos = a;
-    y.twot = b;
-    y.olds[s] = true;
-    y.oldt[t] = true;
-    y
+    passed_over(m, sv, rs, strict, ns, hs, cs, rem, ft, qs, s, e, twos);
+    passed_over(m, st, rt, tied, nt, ht, ct, rem, fs, qt, t, e, twot);
+    olds[s] = true;
+    oldt[t] = true;
 }
 
 // The arrows and the numbers after any step.
@@ -180,14 +164,21 @@ pub fn anew(
     qs: &[u16; 32],
     qt: &[u16; 32],
     e: usize,
-    x: Numbers,
-) -> Numbers
+    one: &mut [u16; 32],
+    twos: &mut [u16; 32],
+    twot: &mut [u16; 32],
+    olds: &mut [bool; 32],
+    oldt: &mut [bool; 32],
+)
     requires { ⌜ (e < m) × Tables (edges m (now sv) (now st) (now rs) (now rt) (now tied)) (now strict)
         (links (now ns) (now hs) (now nt) (now ht) (now cs) (now ct)) ⌝ }
-    requires { ⌜ (length (now fs) ≡ entryLimit) × (length (now ft) ≡ entryLimit) ⌝ }
+    requires { ⌜ SizedN (numbers (now one) (now twos) (now twot) (now olds) (now oldt)) × (length (now fs) ≡ entryLimit) × (length (now ft) ≡ entryLimit) ⌝ }
+    ensures { λ r. ⌜ SizedN (numbers (now (one .exit)) (now (twos .exit)) (now (twot .exit)) (now (olds .exit)) (now (oldt .exit))) ⌝ }
     ensures { λ r. ⌜ AnewOn (edges m (now (sv .entry)) (now (st .entry)) (now (rs .entry)) (now (rt .entry)) (now (tied .entry)))
         (links (now (ns .entry)) (now (hs .entry)) (now (nt .entry)) (now (ht .entry)) (now (cs .entry)) (now (ct .entry)))
-        (now (rem .entry)) (now (qs .entry)) (now (qt .entry)) (now (fs .entry)) (now (ft .entry)) (now (fs .exit)) (now (ft .exit)) e x r ⌝ }
+        (now (rem .entry)) (now (qs .entry)) (now (qt .entry)) (now (fs .entry)) (now (ft .entry)) (now (fs .exit)) (now (ft .exit)) e
+        (numbers (now (one .entry)) (now (twos .entry)) (now (twot .entry)) (now (olds .entry)) (now (oldt .entry)))
+        (numbers (now (one .exit)) (now (twos .exit)) (now (twot .exit)) (now (olds .exit)) (now (oldt .exit))) ⌝ }
 {
     let s = sv[e] as usize;
     let t = st[e] as usize;
@@ -211,36 +202,11 @@ pub fn anew(
     );
     let saws = w.s;
     let sawt = w.t;
-    let one = x.one;
-    let twos = x.twos;
-    let twot = x.twot;
-    let olds = x.olds;
-    let oldt = x.oldt;
-    let a = reduction_nodes::first_renewed(m, sv, ns, hs, fs, ft, &saws, one);
-    let b = reduction_nodes::second_renewed(
-        m,
-        sv,
-        rs,
-        strict,
-        ns,
-        hs,
-        cs,
-        rem,
-        ft,
-        qs,
-        &saws,
-        twos,
-    );
-    let c = reduction_nodes::second_renewed(m, st, rt, tied, nt, ht, ct, rem, fs, qt, &sawt, twot);
-    let us = either(olds, &saws);
-    let ut = either(oldt, &sawt);
-    Numbers {
-        one: a,
-        twos: b,
-        twot: c,
-        olds: us,
-        oldt: ut,
-    }
+    reduction_nodes::first_renewed(m, sv, ns, hs, fs, ft, &saws, one);
+    reduction_nodes::second_renewed(m, sv, rs, strict, ns, hs, cs, rem, ft, qs, &saws, twos);
+    reduction_nodes::second_renewed(m, st, rt, tied, nt, ht, ct, rem, fs, qt, &sawt, twot);
+    marked(&saws, olds);
+    marked(&sawt, oldt);
 }
 
 // The turn: a step of a rule at e.
@@ -264,31 +230,42 @@ pub fn turn(
     fixed: &mut [bool; ENTRY_LIMIT],
     fs: &mut [bool; ENTRY_LIMIT],
     ft: &mut [bool; ENTRY_LIMIT],
-    x: Counts,
-    k: Numbers,
-) -> Turned
+    qs: &mut [u16; 32],
+    qt: &mut [u16; 32],
+    ds: &mut [u16; 32],
+    dt: &mut [u16; 32],
+    one: &mut [u16; 32],
+    twos: &mut [u16; 32],
+    twot: &mut [u16; 32],
+    olds: &mut [bool; 32],
+    oldt: &mut [bool; 32],
+)
     requires { ⌜ (e < m) × Tables (edges m (now sv) (now st) (now rs) (now rt) (now tied)) (now strict)
         (links (now ns) (now hs) (now nt) (now ht) (now cs) (now ct)) ⌝ }
-    requires { ⌜ Sized (whole (now rem) (now fixed) x) × (length (now fs) ≡ entryLimit) × (length (now ft) ≡ entryLimit) ⌝ }
-    ensures { λ r. ⌜ Sized (whole (now (rem .exit)) (now (fixed .exit)) (r .counts)) × (length (now (fs .exit)) ≡ entryLimit)
-        × (length (now (ft .exit)) ≡ entryLimit) ⌝ }
+    requires { ⌜ Sized (whole (now rem) (now fixed) (now qs) (now qt) (now ds) (now dt))
+        × SizedN (numbers (now one) (now twos) (now twot) (now olds) (now oldt)) × (length (now fs) ≡ entryLimit) × (length (now ft) ≡ entryLimit) ⌝ }
+    ensures { λ r. ⌜ Sized (whole (now (rem .exit)) (now (fixed .exit)) (now (qs .exit)) (now (qt .exit)) (now (ds .exit)) (now (dt .exit)))
+        × SizedN (numbers (now (one .exit)) (now (twos .exit)) (now (twot .exit)) (now (olds .exit)) (now (oldt .exit)))
+        × (length (now (fs .exit)) ≡ entryLimit) × (length (now (ft .exit)) ≡ entryLimit) ⌝ }
     ensures { λ r. ⌜ Onward (edges m (now (sv .entry)) (now (st .entry)) (now (rs .entry)) (now (rt .entry)) (now (tied .entry)))
         (links (now (ns .entry)) (now (hs .entry)) (now (nt .entry)) (now (ht .entry)) (now (cs .entry)) (now (ct .entry)))
-        (looks (now (rem .entry)) (now (fs .entry)) (now (ft .entry)) (x .qs) (x .qt)) k
-        (looks (now (rem .exit)) (now (fs .exit)) (now (ft .exit)) (r .counts .qs) (r .counts .qt)) (r .numbers) ⌝ }
+        (looks (now (rem .entry)) (now (fs .entry)) (now (ft .entry)) (now (qs .entry)) (now (qt .entry)))
+        (numbers (now (one .entry)) (now (twos .entry)) (now (twot .entry)) (now (olds .entry)) (now (oldt .entry)))
+        (looks (now (rem .exit)) (now (fs .exit)) (now (ft .exit)) (now (qs .exit)) (now (qt .exit)))
+        (numbers (now (one .exit)) (now (twos .exit)) (now (twot .exit)) (now (olds .exit)) (now (oldt .exit))) ⌝ }
     ensures { λ r. ⌜ ShownOn (edges m (now (sv .entry)) (now (st .entry)) (now (rs .entry)) (now (rt .entry)) (now (tied .entry)))
-        (whole (now (rem .entry)) (now (fixed .entry)) x) (now (fs .entry)) (now (ft .entry)) rule e
-        (whole (now (rem .exit)) (now (fixed .exit)) (r .counts)) (now (fs .exit)) (now (ft .exit)) ⌝ }
+        (whole (now (rem .entry)) (now (fixed .entry)) (now (qs .entry)) (now (qt .entry)) (now (ds .entry)) (now (dt .entry)))
+        (now (fs .entry)) (now (ft .entry)) rule e
+        (whole (now (rem .exit)) (now (fixed .exit)) (now (qs .exit)) (now (qt .exit)) (now (ds .exit)) (now (dt .exit)))
+        (now (fs .exit)) (now (ft .exit)) ⌝ }
 {
     let s = sv[e] as usize;
     let t = st[e] as usize;
-    let qs0 = x.qs;
-    let qt0 = x.qt;
-    let y = reduction_state::act(sv, st, rem, fixed, x, rule, e);
-    let qs = y.qs;
-    let qt = y.qt;
-    if (!fs[e] & !ft[e]) & ((qs0[s] == qs[s]) & (qt0[t] == qt[t])) {
-        let calm = calmly(
+    let quotas = qs[s];
+    let quotat = qt[t];
+    reduction_state::act(sv, st, rem, fixed, qs, qt, ds, dt, rule, e);
+    if (!fs[e] & !ft[e]) & ((quotas == qs[s]) & (quotat == qt[t])) {
+        calmly(
             m,
             sv,
             st,
@@ -305,17 +282,18 @@ pub fn turn(
             rem,
             fs,
             ft,
-            &qs,
-            &qt,
+            qs,
+            qt,
             e,
-            k,
+            one,
+            twos,
+            twot,
+            olds,
+            oldt,
         );
-        return Turned {
-            counts: y,
-            numbers: calm,
-        };
+        return;
     }
-    let other = anew(
+    anew(
         m,
         sv,
         st,
@@ -332,13 +310,13 @@ pub fn turn(
         rem,
         fs,
         ft,
-        &qs,
-        &qt,
+        qs,
+        qt,
         e,
-        k,
+        one,
+        twos,
+        twot,
+        olds,
+        oldt,
     );
-    Turned {
-        counts: y,
-        numbers: other,
-    }
 }

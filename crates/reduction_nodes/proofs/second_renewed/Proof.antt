@@ -11,19 +11,19 @@ use Rattle.reduction_nodes.proofs.second_renewed.Statement.{statement}
 use Rattle.reduction_nodes.proofs.second_renewed.Tie as tie
 
 abbrev Inv-loop : tie.InvT-loop
-Inv-loop m end rank tied next first cell rem f q saw y₀ i₀ y i = (i ≤ nodeLimit) × (length y ≡ nodeLimit)
-    × Renewed 0 saw (secondsOf m end rank cell rem f q) y₀ i y
+Inv-loop m end rank tied next first cell rem f q saw x₀ i₀ x i = (i ≤ nodeLimit) × (length x ≡ nodeLimit) × Renewed 0 saw (secondsOf m end rank cell rem f q)
+    x₀ i x
 
 abbrev μ-loop : tie.MeasureT-loop
-μ-loop m end rank tied next first cell rem f q saw y₀ i₀ y i = nodeLimit - i
+μ-loop m end rank tied next first cell rem f q saw x₀ i₀ x i = nodeLimit - i
 
 loop-holds : tie.Need-loop-holds Inv-loop μ-loop
 loop-holds c =
     let a = c .args in (
       zero-le,
-      search needs,
+      c .pre .3,
       renewed-none 0 (a .saw .now) (secondsOf (a .m) (a .end .now) (a .rank .now) (a .cell .now) (a .rem .now) (a .f .now) (a .q .now))
-          (a .x),
+          (a .x .now),
     )
 
 second-requires : tie.Need-second-requires Inv-loop μ-loop
@@ -34,11 +34,12 @@ second-requires c κs =
 loop-again : tie.Need-loop-again Inv-loop μ-loop
 loop-again c =
     let a = c .before .before .before .before .before .before .args in
-    let l = c .before .before .before .before .before .loop in (
+    let l = c .before .before .before .before .before .loop in
+    let y = c .second in (
       omega arith,
-      length-set (l .y) (l .i) (c .second .result) ∙ l .inv .1,
-      renewed-set 0 (a .saw .now) (secondsOf (a .m) (a .end .now) (a .rank .now) (a .cell .now) (a .rem .now) (a .f .now) (a .q .now)) (a .x) (l .i) (l .y)
-          (c .second .result) (omega (arith, l .inv .1)) (c .before .before .if1 .taken) (c .second .ensures) (l .inv .2),
+      length-set (l .x) (l .i) (y .result) ∙ l .inv .1,
+      renewed-set 0 (a .saw .now) (secondsOf (a .m) (a .end .now) (a .rank .now) (a .cell .now) (a .rem .now) (a .f .now) (a .q .now)) (a .x .now) (l .i) (l .x)
+          (y .result) (omega (arith, l .inv .1)) (c .before .before .if1 .taken) (y .ensures) (l .inv .2),
     )
 
 loop-again-2 : tie.Need-loop-again-2 Inv-loop μ-loop
@@ -47,7 +48,8 @@ loop-again-2 c =
     let l = c .before .before .before .loop in (
       omega arith,
       l .inv .1,
-      renewed-skip 0 (a .saw .now) (secondsOf (a .m) (a .end .now) (a .rank .now) (a .cell .now) (a .rem .now) (a .f .now) (a .q .now)) (a .x) (l .i) (l .y)
+      renewed-skip 0 (a .saw .now) (secondsOf (a .m) (a .end .now) (a .rank .now) (a .cell .now) (a .rem .now) (a .f .now) (a .q .now)) (a .x .now) (l .i)
+          (l .x)
           (c .if1 .left) (l .inv .2),
     )
 
@@ -55,9 +57,12 @@ returns : tie.Need-returns Inv-loop μ-loop
 returns c =
     let a = c .before .before .args in
     let l = c .before .loop in
-    let e : l .i ≡ nodeLimit = omega arith in
-    subst (λ k. Renewed 0 (a .saw .now) (secondsOf (a .m) (a .end .now) (a .rank .now) (a .cell .now) (a .rem .now) (a .f .now) (a .q .now)) (a .x) k (l .y)) e
-    (l .inv .2)
+    let e : l .i ≡ nodeLimit = omega arith in (
+      l .inv .1,
+      subst (λ k. Renewed 0 (a .saw .now) (secondsOf (a .m) (a .end .now) (a .rank .now) (a .cell .now) (a .rem .now) (a .f .now) (a .q .now))
+          (a .x .now) k (l .x)) e
+          (l .inv .2),
+    )
 
 pub second-renewed-spec : {M : Type 1} → statement M
 second-renewed-spec =

@@ -1,4 +1,4 @@
--- The state at the beginning, its arrows, and the numbers of all nodes.
+-- The state at the beginning, and its arrows.
 use mathlib.Core.Path.{_≡_}
 use borrow.Author.Needs.{needs}
 use lib.ListN.{length}
@@ -33,19 +33,16 @@ sizeT c = search needs
 
 returns : tie.Need-returns
 returns c =
-    let b6 = c .before .before .before .before .before .before in
-    let b18 = b6 .before .before .before .before .before .before .before .before .before .before .before .before in
-    let p = b18 .before .pre in
-    let x = b18 .start .result in
-    let N = c .numbered .ensures in record {
-      numbered = record { leads = N .leads; lates = N .lates _ _ };
-      shown = λ K. shown-first p K x (b18 .start .ensures) (b6 .before .before .before .painted .result) (b6 .painted2 .result)
-          (b6 .before .before .before .painted .ensures)
-          (b6 .painted2 .ensures);
-      sized = sized (b18);
-      sizeS = sizeS (b6 .before .before .before);
-      sizeT = sizeT (b6);
+    let b12 = c .before .before .before .before .before .before .before .before .before .before .before .before in
+    let p = b12 .before .pre in
+    let x = b12 .start .result in record {
+      shown = λ K. shown-first p K x (b12 .start .ensures) (c .before .before .before .painted .result) (c .painted2 .result)
+          (c .before .before .before .painted .ensures)
+          (c .painted2 .ensures);
+      sized = sized (b12);
+      sizeS = sizeS (c .before .before .before);
+      sizeT = sizeT (c);
     }
 
 pub begun-spec : {M : Type 1} → statement M
-begun-spec = tie.close (tie.spec start-requires painted-requires painted-requires-2 (λ c κs. search needs) returns)
+begun-spec = tie.close (tie.spec start-requires painted-requires painted-requires-2 returns)

@@ -35,7 +35,9 @@ run-requires c κs =
 
 returns : tie.Need-returns
 returns c =
-    let b18 = c .before .before .before .before .before .before .before .before .before .before .before .before .before .before .before .before .before
+    let b12 = c .before .before .before .before .before .before .before .before .before .before .before .before in
+    let b12 = b12 in
+    let b18 = b12 .before .before .before .before .before
     .before in
     let p = b18 .before .pre in
     λ ns nt sh law. c .run .ensures (record { ns = ns; nt = nt; sh = sh; law = law; size = p .0; fitS = p .1; fitT = p .2 })
