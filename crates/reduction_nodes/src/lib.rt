@@ -231,7 +231,8 @@ pub fn second_renewed(
     requires { ⌜ Linked m (now end) (now first) (now next) × Celled m (now end) (now rank) (now tied) (now cell) × Low m (now rank) emptyRank
         × (length (now x) ≡ nodeLimit) ⌝ }
     ensures { λ r. ⌜ (length (now (x .exit)) ≡ nodeLimit) × Renewed 0 (now (saw .entry))
-        (secondsOf m (now (end .entry)) (now (rank .entry)) (now (cell .entry)) (now (rem .entry)) (now (f .entry)) (now (q .entry))) (now (x .entry)) nodeLimit (now (x .exit)) ⌝ }
+        (secondsOf m (now (end .entry)) (now (rank .entry)) (now (cell .entry)) (now (rem .entry)) (now (f .entry)) (now (q .entry)))
+        (now (x .entry)) nodeLimit (now (x .exit)) ⌝ }
 {
     let mut i: usize = 0;
     while i < 32 {

@@ -171,12 +171,16 @@ add-n c =
     .before in
     omega (arith, b30 .before .before .loop-test .taken, b48 .before .before .before .before .pre .linkedS .edges)
 
+loop-less : tie.Need-loop-less Inv-loop μ-loop
+loop-less c =
+    let b6 = c .before .before .before .before .before .before in
+    let b12 = b6 .before .before .before .before .before .before in
+    let b18 = b12 .before .before .before .before .before .before in
+    let b24 = b18 .before .before .before .before .before .before in
+    let b30 = b24 .before .before .before .before .before .before in
+    omega (arith, b30 .before .before .loop-test .taken)
+
 pub run-spec : {M : Type 1} → statement M
 run-spec =
     tie.close (tie.spec Inv-loop μ-loop (λ c κs. c .pre) numbered-requires loop-holds step-requires cast-edges mul-edges array-write-edges
-    array-write-rules turn-requires add-n (λ c. omega (
-      arith,
-      c .before .before .before .before .before .before .before .before .before .before .before
-          .before .before .before .before .before .before .before .before .before .before .before .before .before .before .before .before .before .before .before
-          .before .before .loop-test .taken,
-    )) loop-again returns returns-2)
+    array-write-rules turn-requires add-n loop-less loop-again returns returns-2)
