@@ -17,7 +17,7 @@ use Rattle.model.specs.Instance.{deg}
 use Rattle.model.specs.PlanFile.{edgesIn}
 use Rattle.theory_files.specs.Chosen.{deg-atNode}
 use Rattle.arrays.specs.ArrayInstance.{at, flag}
-use Rattle.reduction_counts.specs.Filled.{Tally}
+use Rattle.arrays.specs.Tally.{Tally}
 use Rattle.blocking_thresholds.specs.Threshold.{Edges, worse, Worst, Thresholds, sideOf}
 
 -- the first k entries of the list; the plan p is its first n

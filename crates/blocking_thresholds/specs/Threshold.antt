@@ -1,4 +1,4 @@
--- What the passes over one side's arrays compute: worst ranks and thresholds, beside the degrees (reduction_counts, Filled). When a node yields to an
+-- What the passes over one side's arrays compute: worst ranks and thresholds, beside the degrees (arrays, Tally). When a node yields to an
 -- edge is the model's (Blocking).
 use Prim.Native.Nat.{ℕ, _≤_, _<_}
 use mathlib.Core.Path.{_≡_, ap, _∙_}
@@ -13,7 +13,7 @@ use Rattle.model.specs.Limits.{emptyRank, nodeLimit, entryLimit}
 use Rattle.model.specs.Instance.{Side, deg}
 use Rattle.model.specs.Blocking.{yields}
 use Rattle.arrays.specs.ArrayInstance.{at, flag}
-use Rattle.reduction_counts.specs.Filled.{Tally}
+use Rattle.arrays.specs.Tally.{Tally}
 
 -- the edges and their nodes on one side
 pub record Edges (m : ℕ) (end : List ℕ) : Type 0 where

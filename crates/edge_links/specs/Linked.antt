@@ -3,17 +3,18 @@
 use Prim.Native.Nat.{ℕ, zero, suc, _+_, _-_, _≤_, _<_, zero-le}
 use native.Mathlib.Omega.{arith}
 use native.Mathlib.Decide.{decLt}
-use mathlib.Core.Path.{_≡_, refl, sym, ap, ap₂, _∙_, subst}
+use mathlib.Core.Path.{_≡_, refl, sym, ap, _∙_, subst}
 use mathlib.Core.Logic.{by-cases, _≢_}
-use mathlib.Core.Bool.{Bool, _&&_}
+use mathlib.Core.Bool.{Bool, true, _&&_}
 use mathlib.Core.List.{List}
 use lib.ListN.{length, set, replicate, getD-replicate}
 use lib.Seq.{getD-set-same, getD-set-other}
 use lib.Dec.{eqb, leb, eqb→eq, leb→le, le→leb, T-not}
-use borrow.Author.Tests.{le-leb, lt-leb}
-use Rattle.lists.specs.Test.{by-eq, eqb-yes, eqb-no, and-l, and-r, nand-r, true-T}
-use Rattle.lists.specs.Search.{low, low-is, low-hit, low-cong, low-none}
+use Rattle.lists.specs.Test.{by-eq, eqb-yes, and-l, and-r, nand-r, true-T}
+use Rattle.lists.specs.Search.{low, low-is}
+use Rattle.model.specs.Limits.{entryLimit, nodeLimit}
 use Rattle.arrays.specs.ArrayInstance.{at}
+use Rattle.edge_links.specs.Firsts.{first-none, firsts-stored}
 
 -- d is an edge of v, and not before i
 abbrev pub fromAt : (end : List ℕ) (i v : ℕ) → ℕ → Bool
@@ -25,49 +26,35 @@ firstFrom m end i v = low (fromAt end i v) m
 
 -- the links of the edges from i on; of all edges
 pub record LinkedFrom (m : ℕ) (end : List ℕ) (i : ℕ) (head next : List ℕ) : Type 0 where
-  pub heads : (v : ℕ) → v < 32 → at head v ≡ firstFrom m end i v
+  pub edges : m ≤ entryLimit
+  pub heads : (v : ℕ) → v < nodeLimit → at head v ≡ firstFrom m end i v
   pub nexts : (e : ℕ) → i ≤ e → e < m → at next e ≡ firstFrom m end (e + 1) (at end e)
 
 abbrev pub Linked : (m : ℕ) (end head next : List ℕ) → Type 0
 Linked m end head next = LinkedFrom m end 0 head next
 
--- ---- they are made from the last edge to the first
+-- ---- they are made from the last edge to the first: the first edges by node, each edge of a node stored under it
 module _ (m : ℕ) (end : List ℕ) where
+  abbrev every : ℕ → Bool
+  every d = true
+
   -- nothing is behind the last edge
-  pub linked-none : (next : List ℕ) → LinkedFrom m end m (replicate 32 m) next
-  linked-none next = record {
-    heads =
-        λ v h. getD-replicate 32 v m 0 h
-        ∙ sym (low-none (fromAt end m v) m (λ e l. ap (λ b. b && eqb (at end e) v) (lt-leb m e l)));
+  pub linked-none : m ≤ entryLimit → (next : List ℕ) → LinkedFrom m end m (replicate nodeLimit m) next
+  linked-none h next = record {
+    edges = h;
+    heads = λ v w. getD-replicate nodeLimit v m 0 w ∙ sym (first-none m (at end) every v);
     nexts = λ e h k. absurd (omega arith);
   }
 
-  -- edge i stands first at its own node, and leaves the other nodes alone
-  head-here : (i : ℕ) → i < m → firstFrom m end i (at end i) ≡ i
-  head-here i l = low-hit (fromAt end i (at end i)) i m
-      (low-none (fromAt end i (at end i)) i (λ e h. ap (λ b. b && eqb (at end e) (at end i)) (lt-leb i e h)))
-      (ap₂ _&&_ (le-leb i i (omega arith)) (eqb-yes (at end i) (at end i) refl)) l
-
-  head-other : (i v : ℕ) → at end i ≢ v → firstFrom m end i v ≡ firstFrom m end (i + 1) v
-  head-other i v n = low-cong (fromAt end i v) (fromAt end (i + 1) v) m (λ d l. by-eq d i
-      (λ e t. ap₂ _&&_ (le-leb i d (omega arith)) (ap (λ z. eqb (at end z) v) e ∙ eqb-no (at end i) v n)
-      ∙ sym (ap (λ b. b && eqb (at end d) v) (lt-leb (i + 1) d (omega arith))))
-      (λ ne t. ap (λ b. b && eqb (at end d) v) (by-cases (decLt d i)
-      (λ h. lt-leb i d h ∙ sym (lt-leb (i + 1) d (omega arith)))
-      (λ h. le-leb i d (omega arith) ∙ sym (le-leb (i + 1) d (omega arith))))))
-
-  pub linked-on : (i : ℕ) (head next : List ℕ) → i < m → at end i < 32 → length head ≡ 32 → m ≤ length next → LinkedFrom m end (i + 1) head next
-      → LinkedFrom m end i (set head (at end i) i) (set next i (at head (at end i)))
-  linked-on i head next l low32 lh ln L = record {
-    heads =
-        λ v h. by-eq v (at end i)
-        (λ e t. ap (at (set head (at end i) i)) e ∙ getD-set-same head (at end i) i 0 (omega arith)
-        ∙ sym (ap (firstFrom m end i) e ∙ head-here i l))
-        (λ n t. getD-set-other head (at end i) v i 0 n ∙ L .heads v h ∙ sym (head-other i v (λ (q : at end i ≡ v). n (sym q))));
+  pub linked-on : (i : ℕ) (head next : List ℕ) → i < m → at end i < nodeLimit → length head ≡ nodeLimit → m ≤ length next
+      → LinkedFrom m end (i + 1) head next → LinkedFrom m end i (set head (at end i) i) (set next i (at head (at end i)))
+  linked-on i head next l w lh ln L = record {
+    edges = L .edges;
+    heads = firsts-stored m (at end) every nodeLimit i head l w lh refl (L .heads);
     nexts =
         λ e h k. by-eq e i
         (λ q t. ap (at (set next i (at head (at end i)))) q ∙ getD-set-same next i (at head (at end i)) 0 (omega arith)
-        ∙ L .heads (at end i) low32 ∙ ap (λ z. firstFrom m end (z + 1) (at end z)) (sym q))
+        ∙ L .heads (at end i) w ∙ ap (λ z. firstFrom m end (z + 1) (at end z)) (sym q))
         (λ n t. getD-set-other next i e (at head (at end i)) 0 n ∙ L .nexts e (omega arith) k);
   }
 
@@ -91,7 +78,7 @@ first-is m end i v =
 
 -- by the links: the first edge of a node, and the one after an edge of it
 module _ (m : ℕ) (end head next : List ℕ) (L : Linked m end head next) (v : ℕ) where
-  pub first-head : v < 32 → First m end 0 v (at head v)
+  pub first-head : v < nodeLimit → First m end 0 v (at head v)
   first-head h = subst (First m end 0 v) (sym (L .heads v h)) (first-is m end 0 v)
 
   pub first-next : (e : ℕ) → e < m → at end e ≡ v → First m end (e + 1) v (at next e)

@@ -1,28 +1,28 @@
 -- What the cells of a side say where its ranks are lawful: how many edges of a set are ahead of a rank, which edge of a set is a node's best or
 -- worst, and that the painted flags are the arrows.
-use Prim.Native.Nat.{ℕ, zero, suc, _+_, _*_, _-_, _≤_, _<_}
+use Prim.Native.Nat.{ℕ, zero, suc, _+_, _-_, _≤_, _<_}
 use native.Mathlib.Omega.{arith}
 use native.Mathlib.Nat.{eq-or-lt-of-le}
 use native.Mathlib.Decide.{decLt, decLe}
 use mathlib.Core.Path.{_≡_, refl, sym, ap, ap₂, _∙_, subst}
 use mathlib.Core.Logic.{by-cases, ⊎-elim, _≢_}
-use mathlib.Core.Bool.{Bool, true, false, not, cond, _&&_, and-true, and-false}
+use mathlib.Core.Bool.{Bool, false, not, cond, _&&_, and-true}
 use mathlib.Core.List.{List}
 use lib.Dec.{T, eqb, ltb, leb, ltb→lt, lt→ltb, leb→le, le→leb, eqb→eq, T-not, not-T}
-use borrow.Author.Tests.{lt-ltb, le-ltb, le-leb}
-use Rattle.lists.specs.Test.{by-test, by-eq, bool-eq, given, and-l, and-r, and-i, eq→eqb, eqb-yes, eqb-no, bit, bit-yes, bit-no, T-true, T-false, true-T, parts}
+use borrow.Author.Tests.{lt-ltb, le-ltb}
+use Rattle.lists.specs.Test.{by-test, bool-eq, given, and-l, and-r, and-i, eq→eqb, eqb-yes, bit, bit-yes, bit-no, T-true, T-false, parts}
 use Rattle.lists.specs.Search.{low, low-is, low-hit, low-none}
 use Rattle.model.specs.Limits.{nodeLimit, emptyRank}
 use Rattle.model.specs.Instance.{Side, deg}
 use Rattle.model.specs.Reduction.{strictLeft, ahead, arrow}
 use Rattle.theory_instance.specs.Lawful.{Ranked}
-use Rattle.theory_instance.specs.Degree.{deg-cong, deg-without, deg-pos, deg-zero, deg-none}
-use Rattle.theory_reduction.specs.Arrows.{Ahead, ahead-mono, ahead-is, is-ahead}
+use Rattle.theory_instance.specs.Degree.{deg-cong, deg-without, deg-zero, deg-none}
+use Rattle.theory_reduction.specs.Arrows.{Ahead, ahead-mono, ahead-is, is-ahead, arrow-strict}
 use Rattle.arrays.specs.ArrayInstance.{at, flag}
 use Rattle.arrays.specs.Passes.{Low}
-use Rattle.reduction_links.specs.Firsts.{from}
-use Rattle.reduction_cells.specs.Painted.{Painted}
-use Rattle.reduction_cells.specs.Cells.{Celled, place, inCell, edgeIn, passed, barOf, bestOf, worstOf, cell-holds}
+use Rattle.edge_links.specs.Firsts.{from}
+use Rattle.reduction_cells.specs.Painted.{Painted, AllPainted}
+use Rattle.reduction_cells.specs.Cells.{Celled, place, inCell, edgeIn, passed, barOf, bestOf, worstOf, same-place, cell-holds}
 
 -- each strict edge stands in the cell of its node and rank, and a cell that holds an edge holds that one
 pub record Cells (K : Side) (cell : List ℕ) : Type 0 where
@@ -35,9 +35,6 @@ pub record Cells (K : Side) (cell : List ℕ) : Type 0 where
 -- a side as its arrays show it
 abbrev pub sideOf : (m n : ℕ) (end rank : List ℕ) (tie : ℕ → Bool) (quota : ℕ → ℕ) → Side
 sideOf m n end rank tie quota = record { m = m; n = n; end = at end; rank = at rank; tie = tie; quota = quota }
-
-same-place : (a b r s : ℕ) → r < emptyRank → s < emptyRank → a * emptyRank + r ≡ b * emptyRank + s → (a ≡ b) × (r ≡ s)
-same-place a b r s h k e = (omega arith, omega arith)
 
 pub celled-is : (m n : ℕ) (end rank : List ℕ) (tied : List Bool) (tie : ℕ → Bool) (quota : ℕ → ℕ) (cell : List ℕ) → ((e : ℕ) → tie e ≡ flag tied e)
     → Low m end nodeLimit → Celled m end rank tied cell → Ranked (sideOf m n end rank tie quota) → Cells (sideOf m n end rank tie quota) cell
@@ -64,7 +61,8 @@ celled-is m n end rank tied tie quota cell ties fit C law = record {
 
 -- a test that one number alone passes
 pub low-only : (q : ℕ → Bool) (m x : ℕ) → x < m → T (q x) → ((e : ℕ) → e < m → T (q e) → e ≡ x) → low q m ≡ x
-low-only q m x l t h = low-hit q x m (low-none q x (λ e k. by-test (q e) (λ s. let i : e ≡ x = h e (omega arith) s in absurd (omega arith)) T-false)) (T-true t) l
+low-only q m x l t h = low-hit q x m (low-none q x (λ e k. by-test (q e) (λ s. let i : e ≡ x = h e (omega arith) s in absurd (omega arith)) T-false))
+    (T-true t) l
 
 module _ (K : Side) (law : Ranked K) (cell : List ℕ) (C : Cells K cell) (p : ℕ → Bool) (v : ℕ) (w : v < nodeLimit) where
   abbrev c : ℕ → ℕ
@@ -217,8 +215,10 @@ module _ (K : Side) (law : Ranked K) (cell : List ℕ) (C : Cells K cell) (p : �
       behind b d dl (i ∙ nd) (and-l (p d) (ltb (K .rank x) (K .rank d)) u) (omega (arith, law .placed d dl)))))))
       (λ e el u. given (last-at e u) (λ (i, pe, ze). ⊎-elim
       (λ q. sym (is-cell e el i (all e)) ∙ ap c q)
-      (λ lt. absurd (T-not (later e x) (deg-none K (later e) v ze x l nd) (and-i (p x) (ltb (K .rank e) (K .rank x)) px (lt→ltb (K .rank e) (K .rank x) (omega arith)))))
-      (let g : K .rank e ≤ 32 - k = by-cases (decLe (K .rank e) (32 - k)) (λ q. q) (λ q. absurd (behind b e el i pe (omega (arith, law .placed e el)))) in eq-or-lt-of-le g)))))
+      (λ lt. absurd (T-not (later e x) (deg-none K (later e) v ze x l nd)
+      (and-i (p x) (ltb (K .rank e) (K .rank x)) px (lt→ltb (K .rank e) (K .rank x) (omega arith)))))
+      (let g : K .rank e ≤ 32 - k = by-cases (decLe (K .rank e) (32 - k)) (λ q. q) (λ q. absurd (behind b e el i pe (omega (arith, law .placed e el)))) in
+      eq-or-lt-of-le g)))))
       (λ h. ap (λ y. cond y (c (32 - low from? emptyRank)) (K .m)) (le-ltb (low from? emptyRank) emptyRank (omega arith))
       ∙ sym (low-none last (K .m) (λ e el. by-test (last e)
       (λ u. given (last-at e u) (λ (i, pe, ze). absurd (behind b e el i pe (omega (arith, law .placed e el)))))
@@ -232,22 +232,43 @@ module _ (K : Side) (law : Ranked K) (cell : List ℕ) (C : Cells K cell) (p : �
           (subst (λ z. T (edgeIn (K .m) p z)) (sym (ap c e ∙ is-cell d dl i (all d))) (and-i (ltb d (K .m)) (p d) (lt→ltb d (K .m) dl) pd))
 
 -- ---- the painted flags
-module _ (K : Side) (law : Ranked K) (cell : List ℕ) (C : Cells K cell) (other : List ℕ) (rem : List Bool) (v q : ℕ) (w : v < nodeLimit) (f₀ w₀ f u : List Bool)
-    (P : Painted (K .m) other cell rem v q emptyRank f₀ w₀ f u) where
-  -- the strict edges of v have their arrows
-  pub painted-new : (Q : ℕ → ℕ) → Q v ≡ q → (e : ℕ) → e < K .m → K .end e ≡ v → T (not (K .tie e)) → flag f e ≡ arrow K (flag rem) Q e
+module _ (K : Side) (law : Ranked K) (cell : List ℕ) (C : Cells K cell) (rem f : List Bool) where
+  -- the strict edges of a node, painted with its quota, have their arrows
+  arrow-new : (v q : ℕ) → v < nodeLimit
+      → ((r : ℕ) → r < emptyRank → inCell cell v r < K .m
+      → flag f (inCell cell v r) ≡ flag rem (inCell cell v r) && ltb (passed (K .m) cell (flag rem) v r) q)
+      → (Q : ℕ → ℕ) → Q v ≡ q → (e : ℕ) → e < K .m → K .end e ≡ v → T (not (K .tie e)) → flag f e ≡ arrow K (flag rem) Q e
   unfolding arrow
-  painted-new Q qi e l i s =
+  arrow-new v q w new Q qi e l i s =
       let r = K .rank e in
       let h : inCell cell v r ≡ e = subst (λ z. inCell cell z r ≡ e) i (C .here e l s) in
       let n : flag f e ≡ flag rem e && ltb (passed (K .m) cell (flag rem) v r) q =
-      subst (λ z. flag f z ≡ flag rem z && ltb (passed (K .m) cell (flag rem) v r) q) h (P .new r (law .placed e l) (omega arith)) in
+      subst (λ z. flag f z ≡ flag rem z && ltb (passed (K .m) cell (flag rem) v r) q) h (new r (law .placed e l) (omega arith)) in
       n ∙ ap₂ _&&_ (sym (ap (λ b. flag rem e && not b) (T-false {b = K .tie e} s) ∙ and-true (flag rem e)))
-      (ap₂ ltb (passed-is K law cell C (flag rem) v w r (let g = law .placed e l in omega arith) ∙ ap (λ z. ahead K (flag rem) z r) (sym i)) (sym (ap Q i ∙ qi)))
+      (ap₂ ltb (passed-is K law cell C (flag rem) v w r (let g = law .placed e l in omega arith) ∙ ap (λ z. ahead K (flag rem) z r) (sym i))
+      (sym (ap Q i ∙ qi)))
 
-  -- all other edges are as before
-  pub painted-other : (e : ℕ) → e < K .m → K .end e ≢ v → flag f e ≡ flag f₀ e
-  painted-other e l n = P .old e (λ i h (z : inCell cell v i ≡ e). n (ap (K .end) (sym z) ∙ C .node v i w h (omega arith)))
+  -- a tied edge has none
+  pub arrow-tied : (Q : ℕ → ℕ) (e : ℕ) → T (K .tie e) → arrow K (flag rem) Q e ≡ false
+  arrow-tied Q e t = by-test (arrow K (flag rem) Q e) (λ a. absurd (T-not (K .tie e) (arrow-strict K (flag rem) Q e a) t)) T-false
 
-  pub painted-tied : (e : ℕ) → e < K .m → T (K .tie e) → flag f e ≡ flag f₀ e
-  painted-tied e l t = P .old e (λ i h (z : inCell cell v i ≡ e). T-not (K .tie (inCell cell v i)) (C .strict v i w h (omega arith)) (subst (λ y. T (K .tie y)) (sym z) t))
+  -- all nodes painted
+  pub all-arrows : (q : List ℕ) → AllPainted (K .m) cell rem q nodeLimit f → (Q : ℕ → ℕ) → ((v : ℕ) → v < nodeLimit → at q v ≡ Q v)
+      → (e : ℕ) → e < K .m → flag f e ≡ arrow K (flag rem) Q e
+  all-arrows q P Q h e l = let w = C .nodes e l in by-test (K .tie e)
+      (λ t. P .old e (λ v i k r (z : inCell cell v i ≡ e). T-not (K .tie (inCell cell v i)) (C .strict v i k r (omega arith))
+      (subst (λ y. T (K .tie y)) (sym z) t)) ∙ sym (arrow-tied Q e t))
+      (λ s. arrow-new (K .end e) (at q (K .end e)) w (λ r. P .new (K .end e) r w) Q (sym (h (K .end e) w)) e l refl s)
+
+  -- one node painted anew: its own edges have their arrows, if its tied edges have none
+  module _ (other : List ℕ) (v q : ℕ) (w : v < nodeLimit) (f₀ w₀ u : List Bool) (P : Painted (K .m) other cell rem v q emptyRank f₀ w₀ f u) where
+    pub painted-new : (Q : ℕ → ℕ) → Q v ≡ q → (e : ℕ) → e < K .m → K .end e ≡ v → (T (K .tie e) → flag f₀ e ≡ false)
+        → flag f e ≡ arrow K (flag rem) Q e
+    painted-new Q qi e l i h = by-test (K .tie e)
+        (λ t. P .old e (λ i k (z : inCell cell v i ≡ e). T-not (K .tie (inCell cell v i)) (C .strict v i w k (omega arith))
+        (subst (λ y. T (K .tie y)) (sym z) t)) ∙ h t ∙ sym (arrow-tied Q e t))
+        (arrow-new v q w (P .new) Q qi e l i)
+
+    -- all other edges are as before
+    pub painted-other : (e : ℕ) → e < K .m → K .end e ≢ v → flag f e ≡ flag f₀ e
+    painted-other e l n = P .old e (λ i h (z : inCell cell v i ≡ e). n (ap (K .end) (sym z) ∙ C .node v i w h (omega arith)))

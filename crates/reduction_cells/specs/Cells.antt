@@ -2,7 +2,7 @@
 use Prim.Native.Nat.{ℕ, zero, suc, _+_, _*_, _-_, _≤_, _<_}
 use native.Mathlib.Omega.{arith}
 use native.Mathlib.Numerals.{add-one}
-use mathlib.Core.Path.{_≡_, refl, sym, ap, _∙_, subst}
+use mathlib.Core.Path.{_≡_, refl, sym, subst}
 use mathlib.Core.Bool.{Bool, true, false, not, cond, _&&_}
 use mathlib.Core.List.{List}
 use lib.Dec.{T, eqb, ltb, leb, eqb→eq, ltb→lt}
@@ -10,7 +10,7 @@ use Rattle.lists.specs.Test.{and-l, and-r, bit, bit-one, if-ind}
 use Rattle.lists.specs.Search.{low, low-is}
 use Rattle.model.specs.Limits.{entryLimit, nodeLimit, emptyRank}
 use Rattle.arrays.specs.ArrayInstance.{at, flag}
-use Rattle.reduction_links.specs.Firsts.{from, Firsts}
+use Rattle.edge_links.specs.Firsts.{from, Firsts}
 
 -- how many cells there are
 abbrev pub cellCount : ℕ
@@ -23,6 +23,9 @@ place end rank e = at end e * emptyRank + at rank e
 pub record Celled (m : ℕ) (end rank : List ℕ) (tied : List Bool) (cell : List ℕ) : Type 0 where
   pub edges : m ≤ entryLimit
   pub firsts : Firsts m (place end rank) (λ e. not (flag tied e)) cellCount 0 cell
+
+pub same-place : (a b r s : ℕ) → r < emptyRank → s < emptyRank → a * emptyRank + r ≡ b * emptyRank + s → (a ≡ b) × (r ≡ s)
+same-place a b r s h k e = (omega arith, omega arith)
 
 -- the edge of rank r at v
 abbrev pub inCell : (cell : List ℕ) (v r : ℕ) → ℕ

@@ -1,3 +1,4 @@
 pub mod Cells
 pub mod Painted
 pub mod CellLaws
+pub mod Local

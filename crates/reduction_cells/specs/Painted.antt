@@ -1,5 +1,5 @@
 -- The arrows of a node painted anew from its cells: which edges have one, and which nodes at their other ends saw one turn.
-use Prim.Native.Nat.{ℕ, _+_, _*_, _≤_, _<_}
+use Prim.Native.Nat.{ℕ, _+_, _≤_, _<_}
 use native.Mathlib.Omega.{arith}
 use native.Mathlib.Nat.{eq-or-lt-of-le}
 use mathlib.Core.Path.{_≡_, refl, sym, ap, _∙_, subst}
@@ -12,7 +12,8 @@ use lib.Dec.{T, ltb}
 use Rattle.lists.specs.Test.{by-eq}
 use Rattle.model.specs.Limits.{nodeLimit, emptyRank}
 use Rattle.arrays.specs.ArrayInstance.{at, flag}
-use Rattle.reduction_cells.specs.Cells.{Celled, place, inCell, passed, cell-holds}
+use Rattle.arrays.specs.Passes.{Low}
+use Rattle.reduction_cells.specs.Cells.{Celled, place, inCell, passed, same-place, cell-holds}
 
 -- two flags differ
 abbrev pub differ : Bool → Bool → Bool
@@ -109,3 +110,33 @@ module _ (m : ℕ) (end rank : List ℕ) (tied : List Bool) (other cell : List �
         cell-holds m end rank tied cell C v r wl rl l .0,
         ap (place end rank) z,
       )
+
+-- ---- all nodes below n are painted, each with its quota; nothing else has an arrow
+pub record AllPainted (m : ℕ) (cell : List ℕ) (rem : List Bool) (q : List ℕ) (n : ℕ) (f : List Bool) : Type 0 where
+  pub new : (v i : ℕ) → v < n → i < emptyRank → inCell cell v i < m
+      → flag f (inCell cell v i) ≡ flag rem (inCell cell v i) && ltb (passed m cell (flag rem) v i) (at q v)
+  pub old : (e : ℕ) → ((v i : ℕ) → v < n → i < emptyRank → inCell cell v i ≢ e) → flag f e ≡ false
+
+pub all-none : (m : ℕ) (cell : List ℕ) (rem : List Bool) (q : List ℕ) (f : List Bool) → ((e : ℕ) → flag f e ≡ false) → AllPainted m cell rem q 0 f
+all-none m cell rem q f h = record { new = λ v i k. absurd (omega arith); old = λ e n. h e }
+
+-- one node more
+pub all-next : (m : ℕ) (end rank : List ℕ) (tied : List Bool) (cell : List ℕ) → Celled m end rank tied cell → Low m rank emptyRank → (other : List ℕ)
+    (rem : List Bool) (q : List ℕ) (n : ℕ) → n < nodeLimit → (f₀ w₀ f w : List Bool) → AllPainted m cell rem q n f₀
+    → Painted m other cell rem n (at q n) emptyRank f₀ w₀ f w → AllPainted m cell rem q (n + 1) f
+all-next m end rank tied cell C placed other rem q n nl f₀ w₀ f w A P = record {
+  new = λ v i k h l. ⊎-elim
+      (λ e. subst
+      (λ u. inCell cell u i < m → flag f (inCell cell u i) ≡ flag rem (inCell cell u i) && ltb (passed m cell (flag rem) u i) (at q u)) (sym e)
+      (P .new i h) l)
+      (λ b. P .old (inCell cell v i) (apart v i b h l) ∙ A .new v i b h l)
+      (let g : v ≤ n = omega arith in eq-or-lt-of-le g);
+  old = λ e h. P .old e (λ i k. h n i (omega arith) k) ∙ A .old e (λ v i k. h v i (omega arith));
+}
+  where
+    -- an edge stands in the cells of one node
+    apart : (v i : ℕ) → v < n → i < emptyRank → inCell cell v i < m → (j : ℕ) → j < emptyRank → inCell cell n j ≡ inCell cell v i → ⊥
+    apart v i b h l j k z =
+        let a = cell-holds m end rank tied cell C v i (omega arith) h l .0 in
+        let c = cell-holds m end rank tied cell C n j nl k (omega arith) .0 in
+        omega (arith, same-place v n i j h k (sym a ∙ sym (ap (place end rank) z) ∙ c) .0)

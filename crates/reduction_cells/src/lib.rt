@@ -8,8 +8,8 @@ ghost use Rattle.lists.specs.Test.{bit};
 ghost use Rattle.model.specs.Limits.{entryLimit, nodeLimit, emptyRank};
 ghost use Rattle.arrays.specs.ArrayInstance.{at, flag};
 ghost use Rattle.arrays.specs.Passes.{Low};
-ghost use Rattle.reduction_cells.specs.Cells.{Celled, edgeIn, passed, barOf, bestOf, worstOf};
-ghost use Rattle.reduction_cells.specs.Painted.{Painted};
+ghost use Rattle.reduction_cells.specs.Cells.{Celled, edgeIn, barOf, bestOf, worstOf};
+ghost use Rattle.reduction_cells.specs.Painted.{Painted, AllPainted};
 use limits::EMPTY_RANK;
 use limits::ENTRY_LIMIT;
 
@@ -184,4 +184,40 @@ pub fn paint(
             c += rem[e] as u16;
         }
     }
+}
+
+// The arrows of all nodes of one side.
+pub fn painted(
+    m: usize,
+    end: &[u8; ENTRY_LIMIT],
+    rank: &[u8; ENTRY_LIMIT],
+    tied: &[bool; ENTRY_LIMIT],
+    cell: &[u16; CELLS],
+    q: &[u16; 32],
+    other: &[u8; ENTRY_LIMIT],
+    rem: &[bool; ENTRY_LIMIT],
+) -> [bool; ENTRY_LIMIT]
+    requires { ⌜ Celled m (now end) (now rank) (now tied) (now cell) × Low m (now other) nodeLimit × Low m (now rank) emptyRank ⌝ }
+    ensures { λ r. ⌜ AllPainted m (now (cell .entry)) (now (rem .entry)) (now (q .entry)) nodeLimit r ⌝ }
+{
+    let mut f = [false; ENTRY_LIMIT];
+    let mut saw = [false; 32];
+    let mut v: usize = 0;
+    while v < 32 {
+        paint(
+            m,
+            end,
+            rank,
+            tied,
+            cell,
+            v,
+            q[v],
+            other,
+            rem,
+            &mut f,
+            &mut saw,
+        );
+        v += 1;
+    }
+    f
 }

@@ -1,40 +1,16 @@
-// Links through the edges of each node: the first edge of a node, and from each edge the next one there, ascending; and walks along them.
-// A walk goes over the edges of one node only. `end` stands among the parameters of a walk for its promise alone.
+// Walks along the links of a node's edges (crate edge_links), ascending: to the lowest edge that passes a test, or counting those that do. A walk goes
+// over the edges of one node only. `end` stands among the parameters of a walk for its promise alone.
 ghost use mathlib.Core.Path.{_≡_};
 ghost use mathlib.Core.Bool.{_&&_, _||_, not};
-ghost use Prim.Native.Nat.{_≤_, _<_};
+ghost use Prim.Native.Nat.{_<_};
 ghost use lib.Dec.{leb};
 ghost use Rattle.lists.specs.Search.{low};
-ghost use Rattle.model.specs.Limits.{nodeLimit, entryLimit};
+ghost use Rattle.model.specs.Limits.{nodeLimit};
 ghost use Rattle.arrays.specs.ArrayInstance.{at, flag};
 ghost use Rattle.arrays.specs.Passes.{Low};
-ghost use Rattle.reduction_links.specs.Walks.{Linked, atNode, tallied};
+ghost use Rattle.edge_links.specs.Linked.{Linked};
+ghost use Rattle.reduction_links.specs.Walks.{atNode, tallied};
 use limits::ENTRY_LIMIT;
-
-// The next edge behind each edge, and the first of each node; m where there is none.
-pub struct Chain {
-    pub next: [u16; ENTRY_LIMIT],
-    pub first: [u16; 32],
-}
-
-pub fn links(m: usize, end: &[u8; ENTRY_LIMIT]) -> Chain
-    requires { ⌜ (m ≤ entryLimit) × Low m (now end) nodeLimit ⌝ }
-    ensures { λ r. ⌜ Linked m (now (end .entry)) (r .next) (r .first) ⌝ }
-{
-    let mut next = [0u16; ENTRY_LIMIT];
-    let mut first = [m as u16; 32];
-    let mut i = m;
-    while i > 0 {
-        i -= 1;
-        let v = end[i] as usize;
-        next[i] = first[v];
-        first[v] = i as u16;
-    }
-    Chain {
-        next: next,
-        first: first,
-    }
-}
 
 // The lowest edge of a node in p whose rank is at least the bar, m if there is none.
 pub fn behind(
@@ -47,7 +23,7 @@ pub fn behind(
     rank: &[u8; ENTRY_LIMIT],
     bar: u8,
 ) -> usize
-    requires { ⌜ (v < nodeLimit) × Linked m (now end) (now next) (now first) ⌝ }
+    requires { ⌜ (v < nodeLimit) × Linked m (now end) (now first) (now next) ⌝ }
     ensures { λ r. ⌜ r ≡ low (atNode (now (end .entry)) v (λ d. flag (now (p .entry)) d && leb bar (at (now (rank .entry)) d))) m ⌝ }
 {
     let mut e = first[v] as usize;
@@ -70,7 +46,7 @@ pub fn both(
     p: &[bool; ENTRY_LIMIT],
     q: &[bool; ENTRY_LIMIT],
 ) -> usize
-    requires { ⌜ (v < nodeLimit) × Linked m (now end) (now next) (now first) ⌝ }
+    requires { ⌜ (v < nodeLimit) × Linked m (now end) (now first) (now next) ⌝ }
     ensures { λ r. ⌜ r ≡ low (atNode (now (end .entry)) v (λ d. flag (now (p .entry)) d && flag (now (q .entry)) d)) m ⌝ }
 {
     let mut e = first[v] as usize;
@@ -83,25 +59,33 @@ pub fn both(
     e
 }
 
-// How many edges of a node are in p.
-pub fn count(
+// How many edges of a node are in p, and how many in q.
+pub struct TwoTallies {
+    pub p: u16,
+    pub q: u16,
+}
+
+pub fn tallies(
     m: usize,
     end: &[u8; ENTRY_LIMIT],
     next: &[u16; ENTRY_LIMIT],
     first: &[u16; 32],
     v: usize,
     p: &[bool; ENTRY_LIMIT],
-) -> u16
-    requires { ⌜ (v < nodeLimit) × Linked m (now end) (now next) (now first) ⌝ }
-    ensures { λ r. ⌜ r ≡ tallied (now (end .entry)) v (flag (now (p .entry))) m ⌝ }
+    q: &[bool; ENTRY_LIMIT],
+) -> TwoTallies
+    requires { ⌜ (v < nodeLimit) × Linked m (now end) (now first) (now next) ⌝ }
+    ensures { λ r. ⌜ (r .p ≡ tallied (now (end .entry)) v (flag (now (p .entry))) m) × (r .q ≡ tallied (now (end .entry)) v (flag (now (q .entry))) m) ⌝ }
 {
     let mut c: u16 = 0;
+    let mut d: u16 = 0;
     let mut e = first[v] as usize;
     while e < m {
         c += p[e] as u16;
+        d += q[e] as u16;
         e = next[e] as usize;
     }
-    c
+    TwoTallies { p: c, q: d }
 }
 
 // How many edges of a node are in N(s): they remain, and their other end is loose or sends an arrow.
@@ -116,7 +100,7 @@ pub fn size(
     lo: &[bool; 32],
     f: &[bool; ENTRY_LIMIT],
 ) -> u16
-    requires { ⌜ (v < nodeLimit) × Linked m (now end) (now next) (now first) × Low m (now other) nodeLimit ⌝ }
+    requires { ⌜ (v < nodeLimit) × Linked m (now end) (now first) (now next) × Low m (now other) nodeLimit ⌝ }
     ensures { λ r. ⌜ r ≡ tallied (now (end .entry)) v
         (λ d. flag (now (rem .entry)) d && (flag (now (lo .entry)) (at (now (other .entry)) d) || flag (now (f .entry)) d)) m ⌝ }
 {
@@ -143,7 +127,7 @@ pub fn idle(
     fs: &[bool; ENTRY_LIMIT],
     ft: &[bool; ENTRY_LIMIT],
 ) -> usize
-    requires { ⌜ (v < nodeLimit) × Linked m (now end) (now next) (now first) × Low m (now other) nodeLimit ⌝ }
+    requires { ⌜ (v < nodeLimit) × Linked m (now end) (now first) (now next) × Low m (now other) nodeLimit ⌝ }
     ensures { λ r. ⌜ r ≡ low (atNode (now (end .entry)) v
         (λ d. flag (now (rem .entry)) d
         && (not (flag (now (lo .entry)) (at (now (other .entry)) d)) && (not (flag (now (fs .entry)) d) && not (flag (now (ft .entry)) d))))) m ⌝ }

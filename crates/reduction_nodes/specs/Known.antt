@@ -1,8 +1,8 @@
 -- What the arrays of a run are to the model: the lawful instance and the state that they show.
 use Prim.Native.Nat.{ℕ, _≤_}
-use mathlib.Core.Bool.{Bool, false}
+use mathlib.Core.Bool.{Bool}
 use mathlib.Core.List.{List}
-use Rattle.model.specs.Limits.{entryLimit, nodeLimit, emptyRank}
+use Rattle.model.specs.Limits.{entryLimit, nodeLimit}
 use Rattle.model.specs.Instance.{Instance}
 use Rattle.model.specs.Reduction.{State}
 use Rattle.theory_instance.specs.Lawful.{Lawful}

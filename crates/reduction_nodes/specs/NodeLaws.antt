@@ -1,33 +1,26 @@
--- The numbers of the nodes are the model's: what the code reads from a node's edges is the lowest edge that each rule names there, and what is not
--- read anew stays where a node saw no change.
-use Prim.Native.Nat.{ℕ, _+_, _≤_, _<_}
+-- The numbers of the nodes are the model's: what the code reads from a node's edges is the lowest edge that each rule names there.
+use Prim.Native.Nat.{ℕ, _+_, _<_}
 use native.Mathlib.Omega.{arith}
 use mathlib.Core.Path.{_≡_, refl, sym, ap, ap₂, _∙_, subst}
 use mathlib.Core.Bool.{Bool, true, false, not, cond, _&&_, _||_, and-true, and-false}
 use mathlib.Core.List.{List}
-use lib.ListN.{getD}
 use lib.Dec.{T, eqb, leb, ltb, ltb→lt, not-T}
-use borrow.Author.Tests.{lt-ltb}
-use Rattle.lists.specs.Test.{by-bool, bool-eq, and-l, and-r, and-i, T-false, true-T}
-use Rattle.lists.specs.Search.{low, low-none}
+use Rattle.lists.specs.Search.{low-none}
 use Rattle.model.specs.Limits.{nodeLimit}
 use Rattle.model.specs.Instance.{Instance, Side, surveyors, stands, deg}
-use Rattle.model.specs.Reduction.{State, strictLeft, ahead, arrow, cutS, cutT, arrowS, arrowT, degS, degT, aheadS, aheadT, loose, reserved, betterS, betterT, worseReserved}
+use Rattle.model.specs.Reduction.{State, strictLeft, ahead, cutS, cutT, arrowS, arrowT, degS, degT, aheadS}
+use Rattle.model.specs.Reduction.{aheadT, loose, reserved, betterS, betterT, worseReserved}
 use Rattle.model.specs.Reduction.{rule1, rule3, rule4, rule5, rule6, rule7}
 use Rattle.theory_instance.specs.Lawful.{Ranked}
 use Rattle.theory_instance.specs.Degree.{deg-cong}
 use Rattle.theory_reduction.specs.Facts.{arrowS-rem, reserved-rem}
-use Rattle.theory_reduction.specs.ByNode.{lowestAt, lowestAt-cong, rule2S, rule2T, Alike, rule1-kept, rule2S-kept, rule2T-kept, rule3-kept, rule4-kept, rule5-kept}
-use Rattle.theory_reduction.specs.ByNode.{rule6-kept, rule7-kept, loose-kept}
+use Rattle.theory_reduction.specs.ByNode.{lowestAt, lowestAt-cong, rule2S, rule2T}
 use Rattle.arrays.specs.ArrayInstance.{at, flag}
 use Rattle.reduction_links.specs.Walks.{tallied}
 use Rattle.reduction_cells.specs.Cells.{barOf, bestOf, worstOf}
 use Rattle.reduction_cells.specs.CellLaws.{Cells, bar-is, best-is, worst-is}
-use Rattle.reduction_nodes.specs.declared.Surveyors.{Surveyors}
-use Rattle.reduction_nodes.specs.declared.Stands.{Stands}
 use Rattle.reduction_nodes.specs.Known.{Edges, Known, instanceOf, stateOf}
-use Rattle.reduction_nodes.specs.Renewed.{Renewed}
-use Rattle.reduction_nodes.specs.Numbers.{inN, secondOf, surveyorOf, standOf, Surveyed, Stood}
+use Rattle.reduction_nodes.specs.Numbers.{inN, secondOf}
 
 -- ---- what the arrays of a state are: arrows and cut quotas; of its nodes: the lowest edges by rule
 module _ (G : Instance) (Z : State) where
@@ -44,21 +37,8 @@ module _ (G : Instance) (Z : State) where
   abbrev pub Named : (xs : List ℕ) (end : ℕ → ℕ) (rule : Instance → State → ℕ → Bool) → Type 0
   Named xs end rule = (v : ℕ) → v < nodeLimit → at xs v ≡ namedAt end rule v
 
-  pub record KeptS (x : Surveyors) : Type 0 where
-    pub rule1 : Named (x .rule1) (G .sv) rule1
-    pub rule2 : Named (x .rule2) (G .sv) rule2S
-    pub rule4 : Named (x .rule4) (G .sv) rule4
-    pub rule5 : Named (x .rule5) (G .sv) rule5
-    pub rule6 : Named (x .rule6) (G .sv) rule6
-
   abbrev pub Loose : List Bool → Type 0
   Loose lo = (v : ℕ) → v < nodeLimit → flag lo v ≡ loose G Z v
-
-  pub record KeptT (x : Stands) : Type 0 where
-    pub rule2 : Named (x .rule2) (G .st) rule2T
-    pub rule3 : Named (x .rule3) (G .st) rule3
-    pub rule7 : Named (x .rule7) (G .st) rule7
-    pub loose : Loose (x .loose)
 
 -- ---- tests
 -- a number that is sought only under a condition of the node
@@ -145,7 +125,8 @@ second-is K law cell C rem f a h q k v w i = lowestAt-cong (K .m) (K .end)
     ∙ ap₂ leb (i ∙ ap q (sym j)) (ap (λ u. ahead K f u (K .rank e)) (sym j) ∙ come-in K law f a h e l)))
 
 module _ {A : Edges} {quotaS quotaT : List ℕ} (K : Known A quotaS quotaT) (rem fixed : List Bool) (kS kT : ℕ → ℕ) (fs ft : List Bool) (qs qt : List ℕ)
-    (S : Seen (instanceOf K) (stateOf rem fixed kS kT) fs ft qs qt) (cs ct : List ℕ) (CS : Cells (surveyors (instanceOf K)) cs) (CT : Cells (stands (instanceOf K)) ct) where
+    (S : Seen (instanceOf K) (stateOf rem fixed kS kT) fs ft qs qt) (cs ct : List ℕ) (CS : Cells (surveyors (instanceOf K)) cs)
+    (CT : Cells (stands (instanceOf K)) ct) where
   abbrev G : Instance
   G = instanceOf K
 
@@ -175,7 +156,8 @@ module _ {A : Edges} {quotaS quotaT : List ℕ} (K : Known A quotaS quotaT) (rem
       (leb (tallied (A .st) v (flag fs) m + tallied (A .st) v (flag ft) m) (at qt v))
       (λ e l i. assoc (flag rem e) (arrowS G Z e) (leb (degT G Z (arrowS G Z) (G .st e) + degT G Z (arrowT G Z) (G .st e)) (cutT G Z (G .st e)))
       ∙ ap₂ (λ (x y : Bool). (flag rem e && x) && y) (sym (S .fromS e l))
-      (subst (λ u. leb (degT G Z (arrowS G Z) u + degT G Z (arrowT G Z) u) (cutT G Z u) ≡ leb (tallied (A .st) v (flag fs) m + tallied (A .st) v (flag ft) m) (at qt v))
+      (subst (λ u. leb (degT G Z (arrowS G Z) u + degT G Z (arrowT G Z) u) (cutT G Z u) ≡ leb (tallied (A .st) v (flag fs) m + tallied (A .st) v (flag ft) m)
+      (at qt v))
       (sym i) (sym (ap₂ leb (ap₂ _+_ (got-is v) (sent-is v)) (S .quotaT v w)))))
 
   pub stand7 : (v : ℕ) → v < nodeLimit → cond (ltb (tallied (A .st) v (flag fs) m) (at qt v)) (bestOf m ct (flag rem) v) m ≡ namedAt G Z (G .st) rule7 v
@@ -193,6 +175,16 @@ module _ {A : Edges} {quotaS quotaT : List ℕ} (K : Known A quotaS quotaT) (rem
   stand-loose v w = ap₂ _&&_ (ap₂ ltb (sent-is v) (S .quotaT v w)) (ap (λ n. eqb n 0) (got-is v))
 
   -- ---- surveyors
+  pub surveyor1 : (v : ℕ) → v < nodeLimit → lowestAt m (at (A .sv)) (λ d. flag fs d && flag ft d) v ≡ namedAt G Z (G .sv) rule1 v
+  unfolding rule1
+  surveyor1 v w = lowestAt-cong m (G .sv) (λ d. flag fs d && flag ft d) (λ e. flag rem e && rule1 G Z e) v
+      (λ e l i. ap₂ _&&_ (S .fromS e l) (S .fromT e l) ∙ both-left (flag rem e) (arrowS G Z e) (arrowT G Z e) (arrowS-rem G Z e))
+
+  pub surveyor2 : (v : ℕ) → v < nodeLimit → secondOf m (A .sv) (A .rs) cs rem ft (at qs v) v ≡ namedAt G Z (G .sv) rule2S v
+  unfolding betterS
+  surveyor2 v w = second-is (surveyors G) (K .law .atS) cs CS (flag rem) (flag ft) (arrowT G Z) (S .fromT) (cutS G Z) (at qs v) v w (S .quotaS v w)
+
+  -- with the loose stands
   module _ (lo : List Bool) (L : Loose G Z lo) where
     in-N : (e : ℕ) → e < m → inN (A .st) rem ft lo e ≡ reserved G Z e
     unfolding reserved
@@ -202,15 +194,6 @@ module _ {A : Edges} {quotaS quotaT : List ℕ} (K : Known A quotaS quotaT) (rem
     size-is : (v : ℕ) → tallied (A .sv) v (inN (A .st) rem ft lo) m ≡ degS G Z (reserved G Z) v
     unfolding deg
     size-is v = deg-cong (surveyors G) (inN (A .st) rem ft lo) (reserved G Z) v (λ e l i. in-N e l)
-
-    pub surveyor1 : (v : ℕ) → v < nodeLimit → lowestAt m (at (A .sv)) (λ d. flag fs d && flag ft d) v ≡ namedAt G Z (G .sv) rule1 v
-    unfolding rule1
-    surveyor1 v w = lowestAt-cong m (G .sv) (λ d. flag fs d && flag ft d) (λ e. flag rem e && rule1 G Z e) v
-        (λ e l i. ap₂ _&&_ (S .fromS e l) (S .fromT e l) ∙ both-left (flag rem e) (arrowS G Z e) (arrowT G Z e) (arrowS-rem G Z e))
-
-    pub surveyor2 : (v : ℕ) → v < nodeLimit → secondOf m (A .sv) (A .rs) cs rem ft (at qs v) v ≡ namedAt G Z (G .sv) rule2S v
-    unfolding betterS
-    surveyor2 v w = second-is (surveyors G) (K .law .atS) cs CS (flag rem) (flag ft) (arrowT G Z) (S .fromT) (cutS G Z) (at qs v) v w (S .quotaS v w)
 
     pub surveyor4 : (v : ℕ) → v < nodeLimit
         → cond (ltb (at qs v) (tallied (A .sv) v (inN (A .st) rem ft lo) m)) (worstOf m cs (inN (A .st) rem ft lo) v) m ≡ namedAt G Z (G .sv) rule4 v
@@ -250,56 +233,3 @@ module _ {A : Edges} {quotaS quotaT : List ℕ} (K : Known A quotaS quotaT) (rem
         ∙ ap (λ y. (strictLeft (surveyors G) (flag rem) e && eqb (aheadS G Z e) 0) && y)
         (subst (λ u. ltb (degS G Z (reserved G Z) u) (cutS G Z u) ≡ ltb (tallied (A .sv) v (inN (A .st) rem ft lo) m) (at qs v)) (sym i)
         (sym (ap₂ ltb (size-is v) (S .quotaS v w)))))
-
--- ---- all nodes after some are renewed
--- a renewed array has the new value at each node, if the others' values stay
-renewed-all : {A : Type 0} (d : A) (saw : List Bool) (new : ℕ → A) (old xs : List A) (f : ℕ → A) → Renewed d saw new old nodeLimit xs
-    → ((v : ℕ) → v < nodeLimit → flag saw v ≡ true → new v ≡ f v) → ((v : ℕ) → v < nodeLimit → flag saw v ≡ false → getD old v d ≡ f v)
-    → (v : ℕ) → v < nodeLimit → getD xs v d ≡ f v
-renewed-all d saw new old xs f R h k v w = R v ∙ ap (λ b. cond (b && flag saw v) (new v) (getD old v d)) (lt-ltb v nodeLimit w)
-    ∙ by-bool (flag saw v) (λ t. ap (λ b. cond b (new v) (getD old v d)) t ∙ h v w t) (λ t. ap (λ b. cond b (new v) (getD old v d)) t ∙ k v w t)
-
-module _ {A : Edges} {quotaS quotaT : List ℕ} (K : Known A quotaS quotaT) (X : State) (rem fixed : List Bool) (kS kT : ℕ → ℕ) (fs ft : List Bool) (qs qt : List ℕ)
-    (S : Seen (instanceOf K) (stateOf rem fixed kS kT) fs ft qs qt) (cs ct : List ℕ) (CS : Cells (surveyors (instanceOf K)) cs) (CT : Cells (stands (instanceOf K)) ct)
-    (saw : List Bool) where
-  abbrev G′ : Instance
-  G′ = instanceOf K
-
-  abbrev Y : State
-  Y = stateOf rem fixed kS kT
-
-  -- a node that saw nothing is as it was in the state X
-  abbrev pub StillT : ℕ → Type 0
-  StillT v = Alike G′ X Y (G′ .st) v × (cutT G′ Y v ≡ cutT G′ X v)
-
-  abbrev pub StillS : ℕ → Type 0
-  StillS v = Alike G′ X Y (G′ .sv) v × (cutS G′ Y v ≡ cutS G′ X v) × ((e : ℕ) → e < A .m → G′ .sv e ≡ v → loose G′ Y (G′ .st e) ≡ loose G′ X (G′ .st e))
-
-  -- of a node that is renewed anything may have changed
-  pub stands-kept : (x y : Stands) → KeptT G′ X x → ((v : ℕ) → v < nodeLimit → flag saw v ≡ false → StillT v)
-      → Stood (λ v. standOf (A .m) (A .st) (A .rt) ct rem fs ft (at qt v) v) saw x nodeLimit y → KeptT G′ Y y
-  stands-kept x y k still R = record {
-    rule2 = renewed-all 0 saw _ (x .rule2) (y .rule2) (namedAt G′ Y (G′ .st) rule2T) (R .rule2) (λ v w t. stand2 K rem fixed kS kT fs ft qs qt S cs ct CS CT v w)
-        (λ v w t. k .rule2 v w ∙ sym (rule2T-kept G′ X Y v (still v w t .0) (still v w t .1)));
-    rule3 = renewed-all 0 saw _ (x .rule3) (y .rule3) (namedAt G′ Y (G′ .st) rule3) (R .rule3) (λ v w t. stand3 K rem fixed kS kT fs ft qs qt S cs ct CS CT v w)
-        (λ v w t. k .rule3 v w ∙ sym (rule3-kept G′ X Y v (still v w t .0) (still v w t .1)));
-    rule7 = renewed-all 0 saw _ (x .rule7) (y .rule7) (namedAt G′ Y (G′ .st) rule7) (R .rule7) (λ v w t. stand7 K rem fixed kS kT fs ft qs qt S cs ct CS CT v w)
-        (λ v w t. k .rule7 v w ∙ sym (rule7-kept G′ X Y v (still v w t .0) (still v w t .1)));
-    loose = renewed-all false saw _ (x .loose) (y .loose) (loose G′ Y) (R .loose) (λ v w t. stand-loose K rem fixed kS kT fs ft qs qt S cs ct CS CT v w)
-        (λ v w t. k .loose v w ∙ sym (loose-kept G′ X Y v (still v w t .0) (still v w t .1)));
-  }
-
-  pub surveyors-kept : (lo : List Bool) → Loose G′ Y lo → (x y : Surveyors) → KeptS G′ X x → ((v : ℕ) → v < nodeLimit → flag saw v ≡ false → StillS v)
-      → Surveyed (λ v. surveyorOf (A .m) (A .sv) (A .st) (A .rs) cs rem fs ft lo (at qs v) v) saw x nodeLimit y → KeptS G′ Y y
-  surveyors-kept lo L x y k still R = record {
-    rule1 = renewed-all 0 saw _ (x .rule1) (y .rule1) (namedAt G′ Y (G′ .sv) rule1) (R .rule1) (λ v w t. surveyor1 K rem fixed kS kT fs ft qs qt S cs ct CS CT lo L v w)
-        (λ v w t. k .rule1 v w ∙ sym (rule1-kept G′ X Y v (still v w t .0) (still v w t .1) (still v w t .2)));
-    rule2 = renewed-all 0 saw _ (x .rule2) (y .rule2) (namedAt G′ Y (G′ .sv) rule2S) (R .rule2) (λ v w t. surveyor2 K rem fixed kS kT fs ft qs qt S cs ct CS CT lo L v w)
-        (λ v w t. k .rule2 v w ∙ sym (rule2S-kept G′ X Y v (still v w t .0) (still v w t .1) (still v w t .2)));
-    rule4 = renewed-all 0 saw _ (x .rule4) (y .rule4) (namedAt G′ Y (G′ .sv) rule4) (R .rule4) (λ v w t. surveyor4 K rem fixed kS kT fs ft qs qt S cs ct CS CT lo L v w)
-        (λ v w t. k .rule4 v w ∙ sym (rule4-kept G′ X Y v (still v w t .0) (still v w t .1) (still v w t .2)));
-    rule5 = renewed-all 0 saw _ (x .rule5) (y .rule5) (namedAt G′ Y (G′ .sv) rule5) (R .rule5) (λ v w t. surveyor5 K rem fixed kS kT fs ft qs qt S cs ct CS CT lo L v w)
-        (λ v w t. k .rule5 v w ∙ sym (rule5-kept G′ X Y v (still v w t .0) (still v w t .1) (still v w t .2)));
-    rule6 = renewed-all 0 saw _ (x .rule6) (y .rule6) (namedAt G′ Y (G′ .sv) rule6) (R .rule6) (λ v w t. surveyor6 K rem fixed kS kT fs ft qs qt S cs ct CS CT lo L v w)
-        (λ v w t. k .rule6 v w ∙ sym (rule6-kept G′ X Y v (still v w t .0) (still v w t .1) (still v w t .2)));
-  }

@@ -2,7 +2,7 @@
 use Prim.Native.Nat.{ℕ, _+_, _<_}
 use native.Mathlib.Omega.{arith}
 use native.Mathlib.Decide.{decLt}
-use mathlib.Core.Path.{_≡_, refl, sym, ap, ap₂, _∙_}
+use mathlib.Core.Path.{_≡_, sym, ap, ap₂, _∙_}
 use mathlib.Core.Logic.{by-cases, _≢_}
 use mathlib.Core.Bool.{Bool, true, false, cond, _&&_, and-false}
 use mathlib.Core.List.{List}
@@ -12,6 +12,12 @@ use lib.Dec.{ltb}
 use borrow.Author.Tests.{lt-ltb, le-ltb}
 use Rattle.lists.specs.Test.{by-eq}
 use Rattle.arrays.specs.ArrayInstance.{flag}
+
+-- one number more
+pub other : (i v : ℕ) → v ≢ i → ltb v i ≡ ltb v (i + 1)
+other i v n = by-cases (decLt v i)
+    (λ h. lt-ltb v i h ∙ sym (lt-ltb v (i + 1) (omega arith)))
+    (λ h. le-ltb v i (omega arith) ∙ sym (le-ltb v (i + 1) (by-cases (decLt i v) (λ k. omega arith) (λ k. absurd (n (omega arith))))))
 
 module _ {A : Type 0} (d : A) (saw : List Bool) (new : ℕ → A) (old : List A) where
   -- those below n are renewed
@@ -23,11 +29,6 @@ module _ {A : Type 0} (d : A) (saw : List Bool) (new : ℕ → A) (old : List A)
 
   pub renewed-none : Renewed 0 old
   renewed-none v = sym (ap (λ b. entry v (b && flag saw v)) (le-ltb v 0 (omega arith)))
-
-  other : (i v : ℕ) → v ≢ i → ltb v i ≡ ltb v (i + 1)
-  other i v n = by-cases (decLt v i)
-      (λ h. lt-ltb v i h ∙ sym (lt-ltb v (i + 1) (omega arith)))
-      (λ h. le-ltb v i (omega arith) ∙ sym (le-ltb v (i + 1) (by-cases (decLt i v) (λ k. omega arith) (λ k. absurd (n (omega arith))))))
 
   pub renewed-set : (i : ℕ) (xs : List A) (x : A) → i < length xs → flag saw i ≡ true → x ≡ new i → Renewed i xs → Renewed (i + 1) (set xs i x)
   renewed-set i xs x l s e R v = by-eq v i

@@ -1,52 +1,37 @@
 // By node, the lowest edge that each rule names there, m if it names none: rules 1, 4, 5, 6 and one half of rule 2 by surveyor, rules 3, 7 and the
 // other half by stand; and which stands are loose. Each is read from the node's own edges; after a step only the nodes that saw a change are read
-// anew.
+// anew. Rules 1 and 2 are asked at every step, the later ones only where both are silent, so each group has its own functions.
 ghost use mathlib.Core.Path.{_≡_};
 ghost use mathlib.Core.Bool.{_&&_, _||_, cond};
-ghost use Prim.Native.Nat.{_≤_, _<_};
+ghost use Prim.Native.Nat.{_<_};
+ghost use lib.ListN.{length};
 ghost use lib.Dec.{leb, ltb};
 ghost use Rattle.lists.specs.Search.{low};
 ghost use Rattle.model.specs.Limits.{nodeLimit, emptyRank};
 ghost use Rattle.arrays.specs.ArrayInstance.{at, flag};
 ghost use Rattle.arrays.specs.Passes.{Low};
-ghost use Rattle.reduction_links.specs.Walks.{Linked, atNode};
+ghost use Rattle.edge_links.specs.Linked.{Linked};
+ghost use Rattle.reduction_links.specs.Walks.{atNode};
 ghost use Rattle.reduction_cells.specs.Cells.{Celled, barOf, bestOf, worstOf};
 ghost use Rattle.reduction_cells.specs.Painted.{differ};
-ghost use Rattle.reduction_nodes.specs.Numbers.{surveyorOf, standOf, Surveyed, Stood};
+ghost use Rattle.reduction_nodes.specs.Renewed.{Renewed};
+ghost use Rattle.reduction_nodes.specs.Numbers.{firstOf, secondsOf, surveyorOf, standOf, surveyorsOf, standsOf};
+ghost use Rattle.reduction_nodes.specs.Numbers.{Surveyed, Stood, SizedS, SizedT, surveyorNumbers, standNumbers};
 use limits::EMPTY_RANK;
 use limits::ENTRY_LIMIT;
 use reduction_cells::CELLS;
 
 // Of one node, by rule.
 pub struct Surveyor {
-    pub rule1: u16,
-    pub rule2: u16,
     pub rule4: u16,
     pub rule5: u16,
     pub rule6: u16,
 }
 
 pub struct Stand {
-    pub rule2: u16,
     pub rule3: u16,
     pub rule7: u16,
     pub loose: bool,
-}
-
-// Of all nodes of a side, by rule.
-pub struct Surveyors {
-    pub rule1: [u16; 32],
-    pub rule2: [u16; 32],
-    pub rule4: [u16; 32],
-    pub rule5: [u16; 32],
-    pub rule6: [u16; 32],
-}
-
-pub struct Stands {
-    pub rule2: [u16; 32],
-    pub rule3: [u16; 32],
-    pub rule7: [u16; 32],
-    pub loose: [bool; 32],
 }
 
 // Rule 2 at one end: at least as many better arrows come in as the quota.
@@ -63,7 +48,7 @@ pub fn second(
     f: &[bool; ENTRY_LIMIT],
     q: u16,
 ) -> u16
-    requires { ⌜ (v < nodeLimit) × Linked m (now end) (now next) (now first) × Celled m (now end) (now rank) (now tied) (now cell)
+    requires { ⌜ (v < nodeLimit) × Linked m (now end) (now first) (now next) × Celled m (now end) (now rank) (now tied) (now cell)
         × Low m (now rank) emptyRank ⌝ }
     ensures { λ r. ⌜ r ≡ low (atNode (now (end .entry)) v
         (λ d. flag (now (rem .entry)) d && leb (barOf m (now (cell .entry)) (flag (now (f .entry))) v q) (at (now (rank .entry)) d))) m ⌝ }
@@ -87,7 +72,7 @@ pub fn third(
     n: u16,
     q: u16,
 ) -> u16
-    requires { ⌜ (v < nodeLimit) × Linked m (now end) (now next) (now first) ⌝ }
+    requires { ⌜ (v < nodeLimit) × Linked m (now end) (now first) (now next) ⌝ }
     ensures { λ r. ⌜ r ≡ cond (leb n q) (low (atNode (now (end .entry)) v (λ d. flag (now (rem .entry)) d && flag (now (f .entry)) d)) m) m ⌝ }
 {
     if n <= q {
@@ -158,20 +143,16 @@ pub fn surveyor_now(
     q: u16,
     v: usize,
 ) -> Surveyor
-    requires { ⌜ (v < nodeLimit) × Linked m (now sv) (now next) (now first) × Celled m (now sv) (now rank) (now tied) (now cell)
-        × Low m (now rank) emptyRank × Low m (now st) nodeLimit ⌝ }
-    ensures { λ r. ⌜ r ≡ surveyorOf m (now (sv .entry)) (now (st .entry)) (now (rank .entry)) (now (cell .entry)) (now (rem .entry)) (now (fs .entry))
+    requires { ⌜ (v < nodeLimit) × Linked m (now sv) (now first) (now next) × Celled m (now sv) (now rank) (now tied) (now cell)
+        × Low m (now st) nodeLimit ⌝ }
+    ensures { λ r. ⌜ r ≡ surveyorOf m (now (sv .entry)) (now (st .entry)) (now (cell .entry)) (now (rem .entry)) (now (fs .entry))
         (now (ft .entry)) (now (lo .entry)) q v ⌝ }
 {
     let n = reduction_links::size(m, sv, next, first, v, st, rem, lo, ft);
-    let rule1 = reduction_links::both(m, sv, next, first, v, fs, ft) as u16;
-    let rule2 = second(m, sv, rank, tied, next, first, cell, v, rem, ft, q);
     let rule4 = fourth(m, sv, rank, tied, cell, v, st, rem, lo, ft, n, q);
     let rule5 = reduction_links::idle(m, sv, next, first, v, st, rem, lo, fs, ft) as u16;
     let rule6 = short(m, sv, rank, tied, cell, v, rem, n, q);
     Surveyor {
-        rule1: rule1,
-        rule2: rule2,
         rule4: rule4,
         rule5: rule5,
         rule6: rule6,
@@ -192,24 +173,78 @@ pub fn stand_now(
     q: u16,
     v: usize,
 ) -> Stand
-    requires { ⌜ (v < nodeLimit) × Linked m (now st) (now next) (now first) × Celled m (now st) (now rank) (now tied) (now cell)
-        × Low m (now rank) emptyRank ⌝ }
-    ensures { λ r. ⌜ r ≡ standOf m (now (st .entry)) (now (rank .entry)) (now (cell .entry)) (now (rem .entry)) (now (fs .entry)) (now (ft .entry)) q v ⌝ }
+    requires { ⌜ (v < nodeLimit) × Linked m (now st) (now first) (now next) × Celled m (now st) (now rank) (now tied) (now cell) ⌝ }
+    ensures { λ r. ⌜ r ≡ standOf m (now (st .entry)) (now (cell .entry)) (now (rem .entry)) (now (fs .entry)) (now (ft .entry)) q v ⌝ }
 {
-    let got = reduction_links::count(m, st, next, first, v, fs);
-    let sent = reduction_links::count(m, st, next, first, v, ft);
-    let rule2 = second(m, st, rank, tied, next, first, cell, v, rem, fs, q);
+    let n = reduction_links::tallies(m, st, next, first, v, fs, ft);
+    let got = n.p;
+    let sent = n.q;
     let rule3 = third(m, st, next, first, v, rem, fs, got + sent, q);
     let rule7 = short(m, st, rank, tied, cell, v, rem, got, q);
     Stand {
-        rule2: rule2,
         rule3: rule3,
         rule7: rule7,
         loose: (sent < q) & (got == 0),
     }
 }
 
-// The surveyors in `saw` anew.
+// Rule 1 at the surveyors in `saw`, anew.
+pub fn first_renewed(
+    m: usize,
+    sv: &[u8; ENTRY_LIMIT],
+    next: &[u16; ENTRY_LIMIT],
+    first: &[u16; 32],
+    fs: &[bool; ENTRY_LIMIT],
+    ft: &[bool; ENTRY_LIMIT],
+    saw: &[bool; 32],
+    x: &mut [u16; 32],
+)
+    requires { ⌜ Linked m (now sv) (now first) (now next) × (length (now x) ≡ nodeLimit) ⌝ }
+    ensures { λ r. ⌜ (length (now (x .exit)) ≡ nodeLimit) × Renewed 0 (now (saw .entry))
+        (firstOf m (now (sv .entry)) (now (fs .entry)) (now (ft .entry))) (now (x .entry)) nodeLimit (now (x .exit)) ⌝ }
+{
+    let mut i: usize = 0;
+    while i < 32 {
+        let v = i;
+        i += 1;
+        if saw[v] {
+            x[v] = reduction_links::both(m, sv, next, first, v, fs, ft) as u16;
+        }
+    }
+}
+
+// Rule 2 at the nodes of one side in `saw`, anew.
+pub fn second_renewed(
+    m: usize,
+    end: &[u8; ENTRY_LIMIT],
+    rank: &[u8; ENTRY_LIMIT],
+    tied: &[bool; ENTRY_LIMIT],
+    next: &[u16; ENTRY_LIMIT],
+    first: &[u16; 32],
+    cell: &[u16; CELLS],
+    rem: &[bool; ENTRY_LIMIT],
+    f: &[bool; ENTRY_LIMIT],
+    q: &[u16; 32],
+    saw: &[bool; 32],
+    x: &mut [u16; 32],
+)
+    requires { ⌜ Linked m (now end) (now first) (now next) × Celled m (now end) (now rank) (now tied) (now cell) × Low m (now rank) emptyRank
+        × (length (now x) ≡ nodeLimit) ⌝ }
+    ensures { λ r. ⌜ (length (now (x .exit)) ≡ nodeLimit) × Renewed 0 (now (saw .entry))
+        (secondsOf m (now (end .entry)) (now (rank .entry)) (now (cell .entry)) (now (rem .entry)) (now (f .entry)) (now (q .entry)))
+        (now (x .entry)) nodeLimit (now (x .exit)) ⌝ }
+{
+    let mut i: usize = 0;
+    while i < 32 {
+        let v = i;
+        i += 1;
+        if saw[v] {
+            x[v] = second(m, end, rank, tied, next, first, cell, v, rem, f, q[v]);
+        }
+    }
+}
+
+// Rules 4, 5 and 6 at the surveyors in `saw`, anew.
 pub fn surveyors_renewed(
     m: usize,
     sv: &[u8; ENTRY_LIMIT],
@@ -225,14 +260,18 @@ pub fn surveyors_renewed(
     lo: &[bool; 32],
     q: &[u16; 32],
     saw: &[bool; 32],
-    x: Surveyors,
-) -> Surveyors
-    requires { ⌜ Linked m (now sv) (now next) (now first) × Celled m (now sv) (now rank) (now tied) (now cell) × Low m (now rank) emptyRank
-        × Low m (now st) nodeLimit ⌝ }
-    ensures { λ r. ⌜ Surveyed (λ v. surveyorOf m (now (sv .entry)) (now (st .entry)) (now (rank .entry)) (now (cell .entry)) (now (rem .entry))
-        (now (fs .entry)) (now (ft .entry)) (now (lo .entry)) (at (now (q .entry)) v) v) (now (saw .entry)) x nodeLimit r ⌝ }
+    rule4: &mut [u16; 32],
+    rule5: &mut [u16; 32],
+    rule6: &mut [u16; 32],
+)
+    requires { ⌜ Linked m (now sv) (now first) (now next) × Celled m (now sv) (now rank) (now tied) (now cell) × Low m (now st) nodeLimit ⌝ }
+    requires { ⌜ SizedS (surveyorNumbers (now rule4) (now rule5) (now rule6)) ⌝ }
+    ensures { λ r. ⌜ SizedS (surveyorNumbers (now (rule4 .exit)) (now (rule5 .exit)) (now (rule6 .exit))) ⌝ }
+    ensures { λ r. ⌜ Surveyed (surveyorsOf m (now (sv .entry)) (now (st .entry)) (now (cell .entry)) (now (rem .entry))
+        (now (fs .entry)) (now (ft .entry)) (now (lo .entry)) (now (q .entry))) (now (saw .entry))
+        (surveyorNumbers (now (rule4 .entry)) (now (rule5 .entry)) (now (rule6 .entry))) nodeLimit
+        (surveyorNumbers (now (rule4 .exit)) (now (rule5 .exit)) (now (rule6 .exit))) ⌝ }
 {
-    let mut y = x;
     let mut i: usize = 0;
     while i < 32 {
         let v = i;
@@ -254,17 +293,14 @@ pub fn surveyors_renewed(
                 q[v],
                 v,
             );
-            y.rule1[v] = s.rule1;
-            y.rule2[v] = s.rule2;
-            y.rule4[v] = s.rule4;
-            y.rule5[v] = s.rule5;
-            y.rule6[v] = s.rule6;
+            rule4[v] = s.rule4;
+            rule5[v] = s.rule5;
+            rule6[v] = s.rule6;
         }
     }
-    y
 }
 
-// The stands in `saw` anew.
+// Rules 3 and 7 at the stands in `saw`, anew, and whether they are loose.
 pub fn stands_renewed(
     m: usize,
     st: &[u8; ENTRY_LIMIT],
@@ -278,26 +314,28 @@ pub fn stands_renewed(
     ft: &[bool; ENTRY_LIMIT],
     q: &[u16; 32],
     saw: &[bool; 32],
-    x: Stands,
-) -> Stands
-    requires { ⌜ Linked m (now st) (now next) (now first) × Celled m (now st) (now rank) (now tied) (now cell) × Low m (now rank) emptyRank ⌝ }
-    ensures { λ r. ⌜ Stood (λ v. standOf m (now (st .entry)) (now (rank .entry)) (now (cell .entry)) (now (rem .entry)) (now (fs .entry)) (now (ft .entry))
-        (at (now (q .entry)) v) v) (now (saw .entry)) x nodeLimit r ⌝ }
+    rule3: &mut [u16; 32],
+    rule7: &mut [u16; 32],
+    loose: &mut [bool; 32],
+)
+    requires { ⌜ Linked m (now st) (now first) (now next) × Celled m (now st) (now rank) (now tied) (now cell) ⌝ }
+    requires { ⌜ SizedT (standNumbers (now rule3) (now rule7) (now loose)) ⌝ }
+    ensures { λ r. ⌜ SizedT (standNumbers (now (rule3 .exit)) (now (rule7 .exit)) (now (loose .exit))) ⌝ }
+    ensures { λ r. ⌜ Stood (standsOf m (now (st .entry)) (now (cell .entry)) (now (rem .entry)) (now (fs .entry)) (now (ft .entry))
+        (now (q .entry))) (now (saw .entry)) (standNumbers (now (rule3 .entry)) (now (rule7 .entry)) (now (loose .entry))) nodeLimit
+        (standNumbers (now (rule3 .exit)) (now (rule7 .exit)) (now (loose .exit))) ⌝ }
 {
-    let mut y = x;
     let mut i: usize = 0;
     while i < 32 {
         let v = i;
         i += 1;
         if saw[v] {
             let s = stand_now(m, st, rank, tied, next, first, cell, rem, fs, ft, q[v], v);
-            y.rule2[v] = s.rule2;
-            y.rule3[v] = s.rule3;
-            y.rule7[v] = s.rule7;
-            y.loose[v] = s.loose;
+            rule3[v] = s.rule3;
+            rule7[v] = s.rule7;
+            loose[v] = s.loose;
         }
     }
-    y
 }
 
 // The first node at which two arrays differ, 32 if there is none.

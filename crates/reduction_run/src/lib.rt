@@ -1,15 +1,17 @@
-// The whole reduction: all steps, each entered in the trace, and what remains and what is fixed at the end. After a stable strike (crate
-// reduction_state) the rule goes on with the next edge that it named, and nothing is computed anew.
+// The whole reduction: all steps, each entered in the trace, and what remains and what is fixed at the end. Beside the state and its arrows a run
+// carries the numbers of the nodes, which say what the rules name; a step renews them where it changed something (crate reduction_turn). All of
+// that stays in place, lent to each step and turn.
+ghost use mathlib.Core.Path.{_≡_};
 ghost use Prim.Native.Nat.{_≤_, _<_};
+ghost use lib.ListN.{length};
 ghost use Rattle.model.specs.Limits.{nodeLimit, entryLimit, emptyRank};
 ghost use Rattle.arrays.specs.Passes.{Low};
-ghost use Rattle.reduction_counts.specs.Mark.{Order};
-ghost use Rattle.reduction_step.specs.View.{Known, instanceOf, Ends};
+ghost use Rattle.reduction_nodes.specs.Known.{Known, instanceOf};
+ghost use Rattle.reduction_nodes.specs.Kept.{Tables, Leads, edges, links, looks};
 ghost use Rattle.reduction_state.specs.Outcome.{Reduced, ReducedFrom};
-ghost use Rattle.reduction_state.specs.RunState.{Sized};
-ghost use Rattle.reduction_run.specs.RepeatedStrikes.{Repeated};
+ghost use Rattle.reduction_run.specs.Running.{Begun};
 use limits::ENTRY_LIMIT;
-use reduction_state::State;
+use reduction_cells::CELLS;
 use reduction_state::Trace;
 
 // What a run leaves: what remains, what is fixed, and its trace.
@@ -19,116 +21,256 @@ pub struct Reduction {
     pub trace: Trace,
 }
 
-// A state and the number of steps to it.
-pub struct Struck {
-    pub state: State,
-    pub steps: usize,
+// The beginning: the state, and its arrows.
+pub struct Start {
+    pub rem: [bool; ENTRY_LIMIT],
+    pub fixed: [bool; ENTRY_LIMIT],
+    pub qs: [u16; 32],
+    pub qt: [u16; 32],
+    pub ds: [u16; 32],
+    pub dt: [u16; 32],
+    pub fs: [bool; ENTRY_LIMIT],
+    pub ft: [bool; ENTRY_LIMIT],
 }
 
-// Further strikes of a rule behind its edge, of the edges in hit, as long as they are stable.
-pub(crate) fn strikes(
+pub(crate) fn begun(
     m: usize,
     sv: &[u8; ENTRY_LIMIT],
     st: &[u8; ENTRY_LIMIT],
-    hit: &[bool; ENTRY_LIMIT],
-    fs: &[bool; ENTRY_LIMIT],
-    ft: &[bool; ENTRY_LIMIT],
-    rule: u8,
-    edge: usize,
-    stable: bool,
-    x: State,
-    steps: usize,
-    edges: &mut [u16; ENTRY_LIMIT],
-    rules: &mut [u8; ENTRY_LIMIT],
-) -> Struck
-    requires { ⌜ (m ≤ entryLimit) × Low m (now sv) nodeLimit × Low m (now st) nodeLimit × (edge < m) ⌝ }
-    ensures { λ r. ⌜ (steps ≤ r .steps) × Sized (r .state) ⌝ }
-    ensures { λ r. ⌜ Repeated
-        (record { m = m; sv = now (sv .entry); st = now (st .entry); hit = now (hit .entry); fs = now (fs .entry); ft = now (ft .entry); rule = rule })
-        (record { edge = edge; stable = stable; state = x; trace = record { edges = now (edges .entry); rules = now (rules .entry); steps = steps } })
-        (r .state)
-        (record { edges = now (edges .exit); rules = now (rules .exit); steps = r .steps }) ⌝ }
+    rs: &[u8; ENTRY_LIMIT],
+    rt: &[u8; ENTRY_LIMIT],
+    strict: &[bool; ENTRY_LIMIT],
+    tied: &[bool; ENTRY_LIMIT],
+    ns: &[u16; ENTRY_LIMIT],
+    hs: &[u16; 32],
+    nt: &[u16; ENTRY_LIMIT],
+    ht: &[u16; 32],
+    cs: &[u16; CELLS],
+    ct: &[u16; CELLS],
+    qs: &[u8; 32],
+    qt: &[u8; 32],
+) -> Start
+    requires { ⌜ Tables (edges m (now sv) (now st) (now rs) (now rt) (now tied)) (now strict)
+        (links (now ns) (now hs) (now nt) (now ht) (now cs) (now ct)) ⌝ }
+    ensures { λ r. ⌜ Begun (edges m (now (sv .entry)) (now (st .entry)) (now (rs .entry)) (now (rt .entry)) (now (tied .entry)))
+        (now (qs .entry)) (now (qt .entry)) r ⌝ }
 {
-    let mut y = x;
-    let mut n = steps;
-    let mut e = edge;
-    let mut go = stable;
-    while go {
-        let j = reduction_rules::next(m, hit, e + 1);
-        if (m <= j) | (m <= n) {
-            return Struck { state: y, steps: n };
-        }
-        go = reduction_state::stable(rule, sv, st, fs, ft, y, j);
-        edges[n] = j as u16;
-        rules[n] = rule;
-        let z = reduction_state::act(sv, st, y, rule, j);
-        y = z;
-        n += 1;
-        e = j;
+    let a = reduction_state::start(m, sv, st, qs, qt);
+    let rem = a.rem;
+    let fixed = a.fixed;
+    let cuts = a.qs;
+    let cutt = a.qt;
+    let ds = a.ds;
+    let dt = a.dt;
+    let fs = reduction_cells::painted(m, sv, rs, strict, cs, &cuts, st, &rem);
+    let ft = reduction_cells::painted(m, st, rt, tied, ct, &cutt, sv, &rem);
+    Start {
+        rem: rem,
+        fixed: fixed,
+        qs: cuts,
+        qt: cutt,
+        ds: ds,
+        dt: dt,
+        fs: fs,
+        ft: ft,
     }
-    Struck { state: y, steps: n }
 }
 
-// All steps, with the edges in the order of their ranks on both sides.
+// The numbers of rules 1 and 2 at all nodes.
+pub(crate) fn numbered(
+    m: usize,
+    sv: &[u8; ENTRY_LIMIT],
+    st: &[u8; ENTRY_LIMIT],
+    rs: &[u8; ENTRY_LIMIT],
+    rt: &[u8; ENTRY_LIMIT],
+    strict: &[bool; ENTRY_LIMIT],
+    tied: &[bool; ENTRY_LIMIT],
+    ns: &[u16; ENTRY_LIMIT],
+    hs: &[u16; 32],
+    nt: &[u16; ENTRY_LIMIT],
+    ht: &[u16; 32],
+    cs: &[u16; CELLS],
+    ct: &[u16; CELLS],
+    rem: &[bool; ENTRY_LIMIT],
+    fs: &[bool; ENTRY_LIMIT],
+    ft: &[bool; ENTRY_LIMIT],
+    qs: &[u16; 32],
+    qt: &[u16; 32],
+    one: &mut [u16; 32],
+    twos: &mut [u16; 32],
+    twot: &mut [u16; 32],
+)
+    requires { ⌜ Tables (edges m (now sv) (now st) (now rs) (now rt) (now tied)) (now strict)
+        (links (now ns) (now hs) (now nt) (now ht) (now cs) (now ct)) ⌝ }
+    requires { ⌜ (length (now one) ≡ nodeLimit) × (length (now twos) ≡ nodeLimit) × (length (now twot) ≡ nodeLimit) ⌝ }
+    ensures { λ r. ⌜ (length (now (one .exit)) ≡ nodeLimit) × (length (now (twos .exit)) ≡ nodeLimit) × (length (now (twot .exit)) ≡ nodeLimit) ⌝ }
+    ensures { λ r. ⌜ Leads (edges m (now (sv .entry)) (now (st .entry)) (now (rs .entry)) (now (rt .entry)) (now (tied .entry)))
+        (links (now (ns .entry)) (now (hs .entry)) (now (nt .entry)) (now (ht .entry)) (now (cs .entry)) (now (ct .entry)))
+        (looks (now (rem .entry)) (now (fs .entry)) (now (ft .entry)) (now (qs .entry)) (now (qt .entry)))
+        (now (one .exit)) (now (twos .exit)) (now (twot .exit)) ⌝ }
+{
+    let all = [true; 32];
+    reduction_nodes::first_renewed(m, sv, ns, hs, fs, ft, &all, one);
+    reduction_nodes::second_renewed(m, sv, rs, strict, ns, hs, cs, rem, ft, qs, &all, twos);
+    reduction_nodes::second_renewed(m, st, rt, tied, nt, ht, ct, rem, fs, qt, &all, twot);
+}
+
+// All steps, with the tables of the edges. At the beginning what the later rules name is old at every node.
 pub(crate) fn run(
     m: usize,
     sv: &[u8; ENTRY_LIMIT],
     st: &[u8; ENTRY_LIMIT],
+    rs: &[u8; ENTRY_LIMIT],
+    rt: &[u8; ENTRY_LIMIT],
+    strict: &[bool; ENTRY_LIMIT],
     tied: &[bool; ENTRY_LIMIT],
+    ns: &[u16; ENTRY_LIMIT],
+    hs: &[u16; 32],
+    nt: &[u16; ENTRY_LIMIT],
+    ht: &[u16; 32],
+    cs: &[u16; CELLS],
+    ct: &[u16; CELLS],
     qs: &[u8; 32],
     qt: &[u8; 32],
-    os: &[u16],
-    ot: &[u16],
 ) -> Reduction
-    requires { ⌜ Ends m (now sv) (now st) ⌝ }
-    requires { ⌜ Order (now sv) (now os) ⌝ }
-    requires { ⌜ Order (now st) (now ot) ⌝ }
-    ensures { λ r. ⌜ ((K : Known m (now (sv .entry)) (now (st .entry)) (now (tied .entry)) (now (qs .entry)) (now (qt .entry)) (now (os .entry))
-        (now (ot .entry)))
-        → Reduced (instanceOf K) (r .rem) (r .fixed) (r .trace)) ⌝ }
+    requires { ⌜ Tables (edges m (now sv) (now st) (now rs) (now rt) (now tied)) (now strict)
+        (links (now ns) (now hs) (now nt) (now ht) (now cs) (now ct)) ⌝ }
+    ensures { λ r. ⌜ ((K : Known (edges m (now (sv .entry)) (now (st .entry)) (now (rs .entry)) (now (rt .entry)) (now (tied .entry)))
+        (now (qs .entry)) (now (qt .entry))) → Reduced (instanceOf K) (r .rem) (r .fixed) (r .trace)) ⌝ }
 {
     let mut edges = [0u16; ENTRY_LIMIT];
     let mut rules = [0u8; ENTRY_LIMIT];
-    let mut x = reduction_state::start(m, sv, st, qs, qt);
+    let b = begun(
+        m,
+        sv,
+        st,
+        rs,
+        rt,
+        strict,
+        tied,
+        ns,
+        hs,
+        nt,
+        ht,
+        cs,
+        ct,
+        qs,
+        qt,
+    );
+    let mut rem = b.rem;
+    let mut fixed = b.fixed;
+    let mut cuts = b.qs;
+    let mut cutt = b.qt;
+    let mut ds = b.ds;
+    let mut dt = b.dt;
+    let mut fs = b.fs;
+    let mut ft = b.ft;
+    let mut one = [0u16; 32];
+    let mut twos = [0u16; 32];
+    let mut twot = [0u16; 32];
+    numbered(
+        m,
+        sv,
+        st,
+        rs,
+        rt,
+        strict,
+        tied,
+        ns,
+        hs,
+        nt,
+        ht,
+        cs,
+        ct,
+        &rem,
+        &fs,
+        &ft,
+        &cuts,
+        &cutt,
+        &mut one,
+        &mut twos,
+        &mut twot,
+    );
+    let mut rule3 = [0u16; 32];
+    let mut rule4 = [0u16; 32];
+    let mut rule5 = [0u16; 32];
+    let mut rule6 = [0u16; 32];
+    let mut rule7 = [0u16; 32];
+    let mut loose = [false; 32];
+    let mut olds = [true; 32];
+    let mut oldt = [true; 32];
     let mut n = 0;
     while n < m {
-        let rem = x.rem;
-        let cut_s = x.qs;
-        let cut_t = x.qt;
-        let a = reduction_step::step(m, sv, st, tied, os, ot, &rem, &cut_s, &cut_t);
+        let a = reduction_step::step(
+            m,
+            sv,
+            st,
+            rs,
+            rt,
+            strict,
+            tied,
+            ns,
+            hs,
+            nt,
+            ht,
+            cs,
+            ct,
+            &rem,
+            &fs,
+            &ft,
+            &cuts,
+            &cutt,
+            &one,
+            &twos,
+            &twot,
+            &mut rule3,
+            &mut rule4,
+            &mut rule5,
+            &mut rule6,
+            &mut rule7,
+            &mut loose,
+            &mut olds,
+            &mut oldt,
+        );
         let rule = a.rule;
         let e = a.edge;
         if m <= e {
             break;
         }
-        let hit = a.hit;
-        let fs = a.fs;
-        let ft = a.ft;
-        let stable = reduction_state::stable(rule, sv, st, &fs, &ft, x, e);
         edges[n] = e as u16;
         rules[n] = rule;
-        let y = reduction_state::act(sv, st, x, rule, e);
-        let z = strikes(
+        reduction_turn::turn(
             m,
             sv,
             st,
-            &hit,
-            &fs,
-            &ft,
+            rs,
+            rt,
+            strict,
+            tied,
+            ns,
+            hs,
+            nt,
+            ht,
+            cs,
+            ct,
             rule,
             e,
-            stable,
-            y,
-            n + 1,
-            &mut edges,
-            &mut rules,
+            &mut rem,
+            &mut fixed,
+            &mut fs,
+            &mut ft,
+            &mut cuts,
+            &mut cutt,
+            &mut ds,
+            &mut dt,
+            &mut one,
+            &mut twos,
+            &mut twot,
+            &mut olds,
+            &mut oldt,
         );
-        let w = z.state;
-        x = w;
-        n = z.steps;
+        n += 1;
     }
-    let rem = x.rem;
-    let fixed = x.fixed;
     Reduction {
         rem: rem,
         fixed: fixed,
@@ -155,7 +297,28 @@ pub fn reduce(
     ensures { λ r. ⌜ ReducedFrom m (now (sv .entry)) (now (st .entry)) (now (rs .entry)) (now (rt .entry)) (now (tied .entry)) (now (qs .entry))
         (now (qt .entry)) (r .rem) (r .fixed) (r .trace) ⌝ }
 {
-    let os = reduction_order::by_rank(m, rs);
-    let ot = reduction_order::by_rank(m, rt);
-    run(m, sv, st, tied, qs, qt, &os[..m], &ot[..m])
+    let strict = [false; ENTRY_LIMIT];
+    let mut ns = [0u16; ENTRY_LIMIT];
+    let hs = edge_links::links(m, &sv[..], &mut ns[..]);
+    let mut nt = [0u16; ENTRY_LIMIT];
+    let ht = edge_links::links(m, &st[..], &mut nt[..]);
+    let cs = reduction_cells::cells(m, sv, rs, &strict);
+    let ct = reduction_cells::cells(m, st, rt, tied);
+    run(
+        m,
+        sv,
+        st,
+        rs,
+        rt,
+        &strict,
+        tied,
+        &ns,
+        &hs,
+        &nt,
+        &ht,
+        &cs,
+        &ct,
+        qs,
+        qt,
+    )
 }

@@ -17,11 +17,11 @@ use Rattle.model.specs.Reduction.{State, cut, Fate, fixes, act}
 use Rattle.theory_instance.specs.Degree.{deg-without}
 use Rattle.arrays.specs.ArrayInstance.{at, flag}
 use Rattle.arrays.specs.Tally.{byte-bit}
-use Rattle.reduction_step.specs.View.{stateOf}
+use Rattle.reduction_nodes.specs.Known.{stateOf}
 
 -- ---- flags
 -- an edge is taken out of what remains
-struck : (rem : List Bool) (e d : ℕ) → flag (set rem e false) d ≡ flag rem d && not (eqb d e)
+pub struck : (rem : List Bool) (e d : ℕ) → flag (set rem e false) d ≡ flag rem d && not (eqb d e)
 struck rem e d = by-eq d e
     (λ i t. subst (λ z. flag (set rem e false) z ≡ false) (sym i) gone ∙ sym (ap (λ x. flag rem d && not x) t ∙ and-false (flag rem d)))
     (λ n t. getD-set-other rem e d false false n ∙ sym (ap (λ x. flag rem d && not x) t ∙ and-true (flag rem d)))

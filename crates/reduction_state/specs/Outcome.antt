@@ -11,7 +11,7 @@ use Rattle.theory_reduction.specs.RuleNumbers.{ruleOf, edgeOf, next}
 use Rattle.theory_instance.specs.Lawful.{Lawful}
 use Rattle.theory_reduction.specs.Course.{after-more, steps-more, after-none, steps-none, steps-few}
 use Rattle.arrays.specs.ArrayInstance.{flag, shown}
-use Rattle.reduction_step.specs.View.{stateOf}
+use Rattle.reduction_nodes.specs.Known.{stateOf}
 use Rattle.reduction_state.specs.declared.Trace.{Trace}
 use Rattle.reduction_state.specs.Trace.{blank, entered, laid, Traced, laid-traced}
 

@@ -2,10 +2,10 @@
 use Prim.Native.Nat.{ℕ, suc, _+_, _-_, _≤_, _<_, min}
 use native.Mathlib.Omega.{arith}
 use mathlib.Core.Path.{_≡_, sym, ap, ap₂, _∙_, subst, fun-ext}
-use mathlib.Core.Bool.{Bool, false, not, _&&_, _||_}
+use mathlib.Core.Bool.{Bool, false, _||_}
 use mathlib.Core.List.{List}
 use lib.ListN.{length, set, length-set}
-use lib.Dec.{T, eqb, ltb}
+use lib.Dec.{T, ltb}
 use mir.Val.{boolByte}
 use Rattle.model.specs.Limits.{nodeLimit, entryLimit}
 use Rattle.model.specs.Instance.{Instance, deg}
@@ -13,8 +13,8 @@ use Rattle.model.specs.Reduction.{State, cut, fixes, act, begin}
 use Rattle.theory_reduction.specs.RuleNumbers.{fateOf, next, ruleOf, edgeOf}
 use Rattle.theory_reduction.specs.Chosen.{acts, edge-acts, edge-none}
 use Rattle.arrays.specs.ArrayInstance.{at, flag}
-use Rattle.reduction_counts.specs.Filled.{Tally}
-use Rattle.reduction_step.specs.View.{Known, stateOf, instanceOf}
+use Rattle.arrays.specs.Tally.{Tally}
+use Rattle.reduction_nodes.specs.Known.{Edges, Known, stateOf, instanceOf}
 use Rattle.reduction_state.specs.declared.State as arrays
 use Rattle.reduction_state.specs.declared.Trace.{Trace}
 use Rattle.reduction_state.specs.Trace.{blank, entered}
@@ -33,10 +33,9 @@ acted sv st x rule e = record {
   dt = set (x .dt) (at st e) (at (x .dt) (at st e) - 1);
 }
 
--- the test of a stable strike
-abbrev pub stableStrike : (sv st : List ℕ) (fs ft : List Bool) (r : ℕ) (x : arrays.State) (e : ℕ) → Bool
-stableStrike sv st fs ft r x e = (eqb r 2 || eqb r 5) && ((not (flag fs e) && not (flag ft e))
-    && (ltb (at (x .qs) (at sv e)) (at (x .ds) (at sv e)) && ltb (at (x .qt) (at st e)) (at (x .dt) (at st e))))
+-- the arrays together
+abbrev pub whole : (rem fixed : List Bool) (qs qt ds dt : List ℕ) → arrays.State
+whole rem fixed qs qt ds dt = record { rem = rem; fixed = fixed; qs = qs; qt = qt; ds = ds; dt = dt }
 
 pub record Started (m : ℕ) (sv st quotaS quotaT : List ℕ) (x : arrays.State) : Type 0 where
   pub all : (e : ℕ) → flag (x .rem) e ≡ ltb e m
@@ -80,7 +79,16 @@ pub record Stands (G : Instance) (x : arrays.State) (t : Trace) : Type 0 where
 abbrev pub stateAt : {G : Instance} {x : arrays.State} {t : Trace} → Stands G x t → State
 stateAt {x} S = shows x (S .kS) (S .kT)
 
-module _ {m : ℕ} {sv st : List ℕ} {tied : List Bool} {quotaS quotaT os ot : List ℕ} (K : Known m sv st tied quotaS quotaT os ot) where
+module _ {A : Edges} {quotaS quotaT : List ℕ} (K : Known A quotaS quotaT) where
+  abbrev m : ℕ
+  m = A .m
+
+  abbrev sv : List ℕ
+  sv = A .sv
+
+  abbrev st : List ℕ
+  st = A .st
+
   abbrev G : Instance
   G = instanceOf K
 

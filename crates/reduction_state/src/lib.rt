@@ -1,5 +1,5 @@
 // The state of a run of the reduction: what remains, what is fixed, and by node the cut quotas and the numbers of remaining edges, which a step
-// renews at the two ends of its edge; and the trace of a run, an edge and a rule for each step.
+// renews at the two ends of its edge; and the trace of a run, an edge and a rule for each step. The arrays are lent to a step.
 ghost use mathlib.Core.Path.{_≡_};
 ghost use Prim.Native.Nat.{ℕ, _-_, _≤_, _<_, min};
 ghost use lib.Dec.{ltb};
@@ -8,8 +8,10 @@ ghost use Rattle.model.specs.Reduction as reduction;
 ghost use Rattle.theory_reduction.specs.RuleNumbers as numbers;
 ghost use Rattle.arrays.specs.ArrayInstance.{at, flag};
 ghost use Rattle.arrays.specs.Passes.{Low};
+ghost use Rattle.arrays.specs.Tally.{Tally};
+ghost use Rattle.arrays.specs.Filled.{Made};
 ghost use Rattle.model.specs.Limits.{nodeLimit, entryLimit};
-ghost use Rattle.reduction_state.specs.RunState.{acted, Started, stableStrike};
+ghost use Rattle.reduction_state.specs.RunState.{acted, whole, Started};
 use limits::ENTRY_LIMIT;
 
 // The arrays of a state: remaining and fixed edges; by node, the cut quotas and the numbers of remaining edges.
@@ -82,23 +84,73 @@ pub fn lowered(q: u16, fix: bool, d: u16) -> u16
 }
 
 // The state after a step.
-pub fn act(sv: &[u8; ENTRY_LIMIT], st: &[u8; ENTRY_LIMIT], x: State, rule: u8, e: usize) -> State
+pub fn act(
+    sv: &[u8; ENTRY_LIMIT],
+    st: &[u8; ENTRY_LIMIT],
+    rem: &mut [bool; ENTRY_LIMIT],
+    fixed: &mut [bool; ENTRY_LIMIT],
+    qs: &mut [u16; 32],
+    qt: &mut [u16; 32],
+    ds: &mut [u16; 32],
+    dt: &mut [u16; 32],
+    rule: u8,
+    e: usize,
+)
     requires { ⌜ (e < entryLimit) × (at (now sv) e < nodeLimit) × (at (now st) e < nodeLimit) ⌝ }
-    ensures { λ r. ⌜ r ≡ acted (now (sv .entry)) (now (st .entry)) x rule e ⌝ }
+    ensures { λ r. ⌜ whole (now (rem .exit)) (now (fixed .exit)) (now (qs .exit)) (now (qt .exit)) (now (ds .exit)) (now (dt .exit))
+        ≡ acted (now (sv .entry)) (now (st .entry))
+        (whole (now (rem .entry)) (now (fixed .entry)) (now (qs .entry)) (now (qt .entry)) (now (ds .entry)) (now (dt .entry))) rule e ⌝ }
 {
     let fix = fixes(rule);
-    let mut y = x;
-    y.rem[e] = false;
-    y.fixed[e] = y.fixed[e] | fix;
+    rem[e] = false;
+    fixed[e] = fixed[e] | fix;
     let s = sv[e] as usize;
-    let left = fewer(y.ds[s]);
-    y.ds[s] = left;
-    y.qs[s] = lowered(y.qs[s], fix, left);
+    let left = fewer(ds[s]);
+    ds[s] = left;
+    qs[s] = lowered(qs[s], fix, left);
     let t = st[e] as usize;
-    let more = fewer(y.dt[t]);
-    y.dt[t] = more;
-    y.qt[t] = lowered(y.qt[t], fix, more);
-    y
+    let more = fewer(dt[t]);
+    dt[t] = more;
+    qt[t] = lowered(qt[t], fix, more);
+}
+
+// How many edges of the set p lie at each node.
+pub(crate) fn tally(m: usize, end: &[u8; ENTRY_LIMIT], p: &[bool; ENTRY_LIMIT]) -> [u16; 32]
+    requires { ⌜ (m ≤ entryLimit) × Low m (now end) nodeLimit ⌝ }
+    ensures { λ r. ⌜ Tally r m (now (end .entry)) (now (p .entry)) ⌝ }
+{
+    let mut t = [0u16; 32];
+    let mut i = 0;
+    while i < m {
+        let v = end[i] as usize;
+        t[v] += p[i] as u16;
+        i += 1;
+    }
+    t
+}
+
+// A quota, cut to the number of remaining edges.
+pub(crate) fn cut(quota: u8, d: u16) -> u16
+    ensures { λ r. ⌜ r ≡ min quota d ⌝ }
+{
+    let q = quota as u16;
+    if q < d {
+        return q;
+    }
+    d
+}
+
+// The quotas of one side, cut to the numbers of remaining edges.
+pub(crate) fn cuts(quota: &[u8; 32], d: &[u16; 32]) -> [u16; 32]
+    ensures { λ r. ⌜ Made 0 r (λ v. min (at (now (quota .entry)) v) (at (now (d .entry)) v)) 32 ⌝ }
+{
+    let mut o = [0u16; 32];
+    let mut i = 0;
+    while i < 32 {
+        o[i] = cut(quota[i], d[i]);
+        i += 1;
+    }
+    o
 }
 
 // The state at the beginning.
@@ -113,10 +165,10 @@ pub fn start(
     ensures { λ r. ⌜ Started m (now (sv .entry)) (now (st .entry)) (now (qs .entry)) (now (qt .entry)) r ⌝ }
 {
     let rem = all(m);
-    let ds = reduction_counts::tally(m, sv, &rem);
-    let dt = reduction_counts::tally(m, st, &rem);
-    let cut_s = reduction_counts::cuts(qs, &ds);
-    let cut_t = reduction_counts::cuts(qt, &dt);
+    let ds = tally(m, sv, &rem);
+    let dt = tally(m, st, &rem);
+    let cut_s = cuts(qs, &ds);
+    let cut_t = cuts(qt, &dt);
     State {
         rem: rem,
         fixed: [false; ENTRY_LIMIT],
@@ -125,23 +177,4 @@ pub fn start(
         ds: ds,
         dt: dt,
     }
-}
-
-// Whether a strike at e leaves all arrows and cut quotas as they are, by a rule that may strike more edges: e carries no arrow, and its ends have
-// more remaining edges than their quotas.
-pub fn stable(
-    rule: u8,
-    sv: &[u8; ENTRY_LIMIT],
-    st: &[u8; ENTRY_LIMIT],
-    fs: &[bool; ENTRY_LIMIT],
-    ft: &[bool; ENTRY_LIMIT],
-    x: State,
-    e: usize,
-) -> bool
-    requires { ⌜ (e < entryLimit) × (at (now sv) e < nodeLimit) × (at (now st) e < nodeLimit) ⌝ }
-    ensures { λ r. ⌜ r ≡ stableStrike (now (sv .entry)) (now (st .entry)) (now (fs .entry)) (now (ft .entry)) rule x e ⌝ }
-{
-    let s = sv[e] as usize;
-    let t = st[e] as usize;
-    ((rule == 2) | (rule == 5)) & ((!fs[e] & !ft[e]) & ((x.qs[s] < x.ds[s]) & (x.qt[t] < x.dt[t])))
 }

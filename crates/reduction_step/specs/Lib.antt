@@ -1,3 +1,2 @@
-pub mod View
-pub mod Tests
+pub mod Least
 pub mod RuleChosen

@@ -1,117 +1,158 @@
--- Which rule acts, and what the functions of a step promise. The code asks the rules one after the other: as long as none has named an edge, it is
--- silent up to here.
-use Prim.Native.Nat.{ℕ, zero-le, _+_, _≤_, _<_}
+-- Which rule acts, and what a step promises. The code asks the rules one after the other: as long as none has named an edge, it is silent up to here.
+use Prim.Native.Nat.{ℕ, _+_, _≤_, _<_, min}
 use native.Mathlib.Omega.{arith}
-use mathlib.Core.Path.{_≡_, refl, sym, ap, _∙_}
-use mathlib.Core.Logic.{_⊎_, ⊎-elim}
-use mathlib.Core.Bool.{Bool, false, not, _&&_, _||_, and-false}
+use mathlib.Core.Path.{_≡_, refl, sym, ap, ap₂, _∙_}
+use mathlib.Core.Bool.{Bool, true, false, _&&_, _||_, and-false}
 use mathlib.Core.List.{List}
-use lib.Dec.{T, eqb, leb, ltb, T-not}
-use borrow.Author.Tests.{le-leb, lt-ltb, le-ltb}
-use Rattle.lists.specs.Test.{eq→eqb, or-l, or-r}
+use lib.Dec.{ltb}
+use borrow.Author.Tests.{lt-ltb, le-ltb}
 use Rattle.lists.specs.Search.{low, low-cong, low-miss, low-hit, low-none}
+use Rattle.model.specs.Limits.{nodeLimit}
+use Rattle.model.specs.Instance.{Instance}
+use Rattle.model.specs.Reduction.{State, rule1, rule2, rule3, rule4, rule5, rule6, rule7}
 use Rattle.theory_reduction.specs.RuleNumbers.{names, lowest, ruleOf, edgeOf}
-use Rattle.arrays.specs.ArrayInstance.{flag}
-use Rattle.reduction_step.specs.declared.View.{View}
-use Rattle.reduction_step.specs.declared.Named.{Named}
-use Rattle.reduction_step.specs.declared.Stepped.{Stepped}
-use Rattle.reduction_step.specs.View.{Edges, Remaining, Setting, G, Z, Arrows, Aheads}
-use Rattle.reduction_step.specs.Tests.{Names, Got, Loose, Sizes}
+use Rattle.theory_reduction.specs.ByNode.{rule2S, rule2T, rule2-ends}
+use Rattle.reduction_nodes.specs.declared.Surveyor.{Surveyor}
+use Rattle.reduction_nodes.specs.declared.Stand.{Stand}
+use Rattle.reduction_nodes.specs.Known.{Edges, Known, instanceOf, stateOf}
+use Rattle.reduction_nodes.specs.Kept.{Links, Tables, Looks, Later, Leads, Fresh, cellsS, cellsT}
+use Rattle.reduction_nodes.specs.NodeLaws.{Seen, Named, Loose, stand2, stand3, stand7, stand-loose, surveyor1, surveyor2, surveyor4, surveyor5, surveyor6}
+use Rattle.reduction_step.specs.Least.{Least, least-lowest, low-either}
 
--- rules 2 and 5 may strike more edges after the one that they name first
-abbrev strikesMore : ℕ → Bool
-strikesMore r = eqb r 2 || eqb r 5
-
-module _ {A : Edges} {Y : Remaining} {os ot : List ℕ} (X : Setting A Y os ot) where
-  -- the rule and its edge; for a rule that may strike more edges after this one, all edges that it names
-  pub record Says (r e : ℕ) (hit : List Bool) : Type 0 where
-    pub rule-is : ruleOf (G X) (Z X) ≡ r
-    pub edge-is : edgeOf (G X) (Z X) ≡ e
-    pub hits : (r ≡ 2) ⊎ (r ≡ 5) → Names X r (flag hit)
+module _ (G : Instance) (Z : State) where
+  -- the rule and its edge are the model's
+  pub record Says (r e : ℕ) : Type 0 where
+    pub rule-is : ruleOf G Z ≡ r
+    pub edge-is : edgeOf G Z ≡ e
 
   abbrev acts : ℕ → Bool
-  acts r = ltb (lowest (G X) (Z X) r) (A .m)
+  acts r = ltb (lowest G Z r) (G .m)
 
   -- no rule below k names an edge
   abbrev pub Silent : ℕ → Type 0
   Silent k = low acts k ≡ k
 
-  none : (k : ℕ) → ((e : ℕ) → names (G X) (Z X) k e ≡ false) → lowest (G X) (Z X) k ≡ A .m
+  none : (k : ℕ) → ((e : ℕ) → names G Z k e ≡ false) → lowest G Z k ≡ G .m
   unfolding lowest
-  none k h = low-none (λ e. flag (Y .rem) e && names (G X) (Z X) k e) (A .m) (λ e l. ap (λ x. flag (Y .rem) e && x) (h e) ∙ and-false (flag (Y .rem) e))
+  none k h = low-none (λ e. Z .rem e && names G Z k e) (G .m) (λ e l. ap (λ x. Z .rem e && x) (h e) ∙ and-false (Z .rem e))
 
   pub silent-1 : Silent 1
   unfolding low names
-  silent-1 = simp (none 0 (λ e. refl), le-ltb (A .m) (A .m) (omega arith))
+  silent-1 = simp (none 0 (λ e. refl), le-ltb (G .m) (G .m) (omega arith))
 
-  lowest-is : (k x : ℕ) (p : ℕ → Bool) → Names X k p → x ≡ low p (A .m) → x ≡ lowest (G X) (Z X) k
-  unfolding lowest
-  lowest-is k x p N h = h ∙ low-cong p (λ e. flag (Y .rem) e && names (G X) (Z X) k e) (A .m) N
+  pub passes : (k x : ℕ) → Silent k → x ≡ lowest G Z k → G .m ≤ x → Silent (k + 1)
+  passes k x s h l = low-miss acts k s (le-ltb (lowest G Z k) (G .m) (omega arith))
 
-  -- the lowest edge from 0 on
-  from-zero : (x : ℕ) (p : List Bool) → x ≡ low (λ e. leb 0 e && flag p e) (A .m) → x ≡ low (flag p) (A .m)
-  from-zero x p h = h ∙ low-cong (λ e. leb 0 e && flag p e) (flag p) (A .m) (λ e l. ap (λ b. b && flag p e) (le-leb 0 e zero-le))
-
-  single : (k : ℕ) → T (not (strikesMore k)) → (k ≡ 2) ⊎ (k ≡ 5) → ⊥
-  single k t = ⊎-elim
-      (λ q. T-not (strikesMore k) t (or-l (eqb k 2) (eqb k 5) (eq→eqb k 2 q)))
-      (λ q. T-not (strikesMore k) t (or-r (eqb k 2) (eqb k 5) (eq→eqb k 5 q)))
-
-  says : (k x : ℕ) (hit : List Bool) → Silent k → k < 8 → x ≡ lowest (G X) (Z X) k → x < A .m → ((k ≡ 2) ⊎ (k ≡ 5) → Names X k (flag hit)) → Says k x hit
+  pub says : (k x : ℕ) → Silent k → k < 8 → x ≡ lowest G Z k → x < G .m → Says k x
   unfolding ruleOf edgeOf
-  says k x hit s kl h l N =
-      let r : ruleOf (G X) (Z X) ≡ k = low-hit acts k 8 s (lt-ltb (lowest (G X) (Z X) k) (A .m) (omega arith)) kl in
-      record { rule-is = r; edge-is = ap (lowest (G X) (Z X)) r ∙ sym h; hits = N }
+  says k x s kl h l =
+      let r : ruleOf G Z ≡ k = low-hit acts k 8 s (lt-ltb (lowest G Z k) (G .m) (omega arith)) kl in
+      record { rule-is = r; edge-is = ap (lowest G Z) r ∙ sym h }
 
-  -- ---- a rule is asked by the edges p that it names: none, or the lowest
-  pub passes : (k x : ℕ) (p : ℕ → Bool) → Silent k → Names X k p → x ≡ low p (A .m) → A .m ≤ x → Silent (k + 1)
-  passes k x p s N h l = low-miss acts k s (le-ltb (lowest (G X) (Z X) k) (A .m) (omega (arith, lowest-is k x p N h)))
-
-  pub names-one : (k x : ℕ) (p : ℕ → Bool) (hit : List Bool) → T (not (strikesMore k)) → Silent k → k < 8 → Names X k p → x ≡ low p (A .m) → x < A .m
-      → Says k x hit
-  names-one k x p hit t s kl N h l = says k x hit s kl (lowest-is k x p N h) l (λ q. absurd (single k t q))
-
-  -- ---- a rule that may strike more is asked by all that it names
-  pub passes-all : (k x : ℕ) (hit : List Bool) → Silent k → Names X k (flag hit) → x ≡ low (λ e. leb 0 e && flag hit e) (A .m) → A .m ≤ x → Silent (k + 1)
-  passes-all k x hit s N h = passes k x (flag hit) s N (from-zero x hit h)
-
-  pub names-all : (k x : ℕ) (hit : List Bool) → Silent k → k < 8 → Names X k (flag hit) → x ≡ low (λ e. leb 0 e && flag hit e) (A .m) → x < A .m
-      → Says k x hit
-  names-all k x hit s kl N h l = says k x hit s kl (lowest-is k x (flag hit) N (from-zero x hit h)) l (λ q. N)
-
-  pub says-none : (hit : List Bool) → Silent 8 → Says 8 (A .m) hit
+  pub says-none : Silent 8 → Says 8 (G .m)
   unfolding ruleOf edgeOf names
-  says-none hit s = record { rule-is = s; edge-is = ap (lowest (G X) (Z X)) s ∙ none 8 (λ e. refl); hits = λ q. absurd (single 8 tt q) }
+  says-none s = record { rule-is = s; edge-is = ap (lowest G Z) s ∙ none 8 (λ e. refl) }
 
-  -- ---- the arrays that a step makes are the model's
-  pub record Seen (W : View) : Type 0 where
-    pub aheads : Aheads X (W .hs) (W .ht)
-    pub arrows : Arrows X (W .fs) (W .ft)
+  -- ---- the numbers of the nodes are the model's
+  pub record Fits : Type 0 where
+    pub atS : (e : ℕ) → e < G .m → G .sv e < nodeLimit
+    pub atT : (e : ℕ) → e < G .m → G .st e < nodeLimit
 
--- by node: the loose stands, the sizes of N(s), the arrows that a stand gets
-pub record Nodes : Type 0 where
-  pub lo : List Bool
-  pub sizes : List ℕ
-  pub got : List ℕ
+  pub record Later37Named (rule3′ rule4′ rule5′ rule6′ rule7′ : List ℕ) : Type 0 where
+    pub fits : Fits
+    pub rule3 : Named G Z rule3′ (G .st) rule3
+    pub rule4 : Named G Z rule4′ (G .sv) rule4
+    pub rule5 : Named G Z rule5′ (G .sv) rule5
+    pub rule6 : Named G Z rule6′ (G .sv) rule6
+    pub rule7 : Named G Z rule7′ (G .st) rule7
 
-pub record Counted {A : Edges} {Y : Remaining} {os ot : List ℕ} (X : Setting A Y os ot) (N : Nodes) : Type 0 where
-  pub lo : Loose X (N .lo)
-  pub sizes : Sizes X (N .sizes)
-  pub got : Got X (N .got)
+  pub lowest3 : Fits → (xs : List ℕ) → Named G Z xs (G .st) rule3 → (r : ℕ) → Least xs nodeLimit r → r ≡ lowest G Z 3
+  unfolding lowest names
+  lowest3 F xs N r L = least-lowest (G .m) (G .st) (λ e. Z .rem e && rule3 G Z e) (F .atT) xs r N L
 
--- ---- what the functions of a step promise, of every lawful instance and every state that the arrays show, with edges ordered by rank
-module _ (A : Edges) (Y : Remaining) where
-  abbrev pub Viewed : (os ot : List ℕ) → View → Type 0
-  Viewed os ot W = (X : Setting A Y os ot) → Seen X W
+  pub lowest4 : Fits → (xs : List ℕ) → Named G Z xs (G .sv) rule4 → (r : ℕ) → Least xs nodeLimit r → r ≡ lowest G Z 4
+  unfolding lowest names
+  lowest4 F xs N r L = least-lowest (G .m) (G .sv) (λ e. Z .rem e && rule4 G Z e) (F .atS) xs r N L
 
-  abbrev pub Named2 : (os ot : List ℕ) (fs ft : List Bool) → List Bool → Type 0
-  Named2 os ot fs ft hit = (X : Setting A Y os ot) → Arrows X fs ft → Names X 2 (flag hit)
+  pub lowest5 : Fits → (xs : List ℕ) → Named G Z xs (G .sv) rule5 → (r : ℕ) → Least xs nodeLimit r → r ≡ lowest G Z 5
+  unfolding lowest names
+  lowest5 F xs N r L = least-lowest (G .m) (G .sv) (λ e. Z .rem e && rule5 G Z e) (F .atS) xs r N L
 
-  abbrev pub Last : View → Nodes → Named → Type 0
-  Last W N r = (os ot : List ℕ) (X : Setting A Y os ot) → Seen X W → Counted X N → Silent X 5 → Says X (r .rule) (r .edge) (r .hit)
+  pub lowest6 : Fits → (xs : List ℕ) → Named G Z xs (G .sv) rule6 → (r : ℕ) → Least xs nodeLimit r → r ≡ lowest G Z 6
+  unfolding lowest names
+  lowest6 F xs N r L = least-lowest (G .m) (G .sv) (λ e. Z .rem e && rule6 G Z e) (F .atS) xs r N L
 
-  abbrev pub Late : (os : List ℕ) → View → Named → Type 0
-  Late os W r = (ot : List ℕ) (X : Setting A Y os ot) → Seen X W → Silent X 3 → Says X (r .rule) (r .edge) (r .hit)
+  pub lowest7 : Fits → (xs : List ℕ) → Named G Z xs (G .st) rule7 → (r : ℕ) → Least xs nodeLimit r → r ≡ lowest G Z 7
+  unfolding lowest names
+  lowest7 F xs N r L = least-lowest (G .m) (G .st) (λ e. Z .rem e && rule7 G Z e) (F .atT) xs r N L
 
-  abbrev pub Steps : (os ot : List ℕ) → Stepped → Type 0
-  Steps os ot r = (X : Setting A Y os ot) → Says X (r .rule) (r .edge) (r .hit) × Arrows X (r .fs) (r .ft)
+  split : (r a b c : Bool) → c ≡ a || b → r && c ≡ (r && a) || (r && b)
+  split true a b c h = h
+  split false a b c h = refl
+
+  lowest2 : Fits → (twos twot : List ℕ) → Named G Z twos (G .sv) rule2S → Named G Z twot (G .st) rule2T → (a b r : ℕ) → Least twos nodeLimit a
+      → Least twot nodeLimit b → r ≡ min a b → r ≡ lowest G Z 2
+  unfolding lowest names
+  lowest2 F twos twot NS NT a b r LS LT q =
+      q ∙ ap₂ min (least-lowest (G .m) (G .sv) (λ e. Z .rem e && rule2S G Z e) (F .atS) twos a NS LS)
+      (least-lowest (G .m) (G .st) (λ e. Z .rem e && rule2T G Z e) (F .atT) twot b NT LT)
+      ∙ sym (low-either (λ e. Z .rem e && rule2S G Z e) (λ e. Z .rem e && rule2T G Z e) (G .m))
+      ∙ sym (low-cong (λ e. Z .rem e && rule2 G Z e) (λ e. (Z .rem e && rule2S G Z e) || (Z .rem e && rule2T G Z e)) (G .m)
+      (λ e l. split (Z .rem e) (rule2S G Z e) (rule2T G Z e) (rule2 G Z e) (rule2-ends G Z e)))
+
+  lowest1 : Fits → (one : List ℕ) → Named G Z one (G .sv) rule1 → (r : ℕ) → Least one nodeLimit r → r ≡ lowest G Z 1
+  unfolding lowest names
+  lowest1 F one N r L = least-lowest (G .m) (G .sv) (λ e. Z .rem e && rule1 G Z e) (F .atS) one r N L
+
+-- ---- what the functions of a step promise
+-- of rules 3 to 7, of every instance and state whose numbers these are
+abbrev pub Later37 : (m : ℕ) (rule3 rule4 rule5 rule6 rule7 : List ℕ) (r e : ℕ) → Type 0
+Later37 m rule3 rule4 rule5 rule6 rule7 r e = (G : Instance) (Z : State) → m ≡ G .m → Later37Named G Z rule3 rule4 rule5 rule6 rule7 → Silent G Z 3
+    → Says G Z r e
+
+-- of all rules, of every lawful instance and state that the arrays show
+abbrev pub Steps : (A : Edges) (X : Looks) (r e : ℕ) → Type 0
+Steps A X r e = (quotaS quotaT : List ℕ) (K : Known A quotaS quotaT) (fixed : List Bool) (kS kT : ℕ → ℕ)
+    → Seen (instanceOf K) (stateOf (X .rem) fixed kS kT) (X .fs) (X .ft) (X .qs) (X .qt) → Says (instanceOf K) (stateOf (X .rem) fixed kS kT) r e
+
+module _ {A : Edges} {strict : List Bool} {L : Links} (D : Tables A strict L) (X : Looks) {quotaS quotaT : List ℕ} (K : Known A quotaS quotaT)
+    (fixed : List Bool) (kS kT : ℕ → ℕ)
+    (S : Seen (instanceOf K) (stateOf (X .rem) fixed kS kT) (X .fs) (X .ft) (X .qs) (X .qt)) where
+  abbrev G : Instance
+  G = instanceOf K
+
+  abbrev Z : State
+  Z = stateOf (X .rem) fixed kS kT
+
+  fits : Fits G Z
+  fits = record { atS = D .fitS; atT = D .fitT }
+
+  pub first-says : (one twoS twoT : List ℕ) → Leads A L X one twoS twoT → (r : ℕ) → Least one nodeLimit r → r ≡ lowest G Z 1
+  first-says one twoS twoT H r M = lowest1 G Z fits one
+      (λ v w. H .first v w ∙ surveyor1 K (X .rem) fixed kS kT (X .fs) (X .ft) (X .qs) (X .qt) S (L .cellS) (L .cellT) (cellsS D K) (cellsT D K) v w) r M
+
+  pub second-says : (one twoS twoT : List ℕ) → Leads A L X one twoS twoT → (a b r : ℕ) → Least twoS nodeLimit a → Least twoT nodeLimit b → r ≡ min a b
+      → r ≡ lowest G Z 2
+  second-says one twoS twoT H = lowest2 G Z fits twoS twoT
+      (λ v w. H .atS v w ∙ surveyor2 K (X .rem) fixed kS kT (X .fs) (X .ft) (X .qs) (X .qt) S (L .cellS) (L .cellT) (cellsS D K) (cellsT D K) v w)
+      (λ v w. H .atT v w ∙ stand2 K (X .rem) fixed kS kT (X .fs) (X .ft) (X .qs) (X .qt) S (L .cellS) (L .cellT) (cellsS D K) (cellsT D K) v w)
+
+  pub later-named : (x : Later) → Fresh A L X x
+      → Later37Named G Z (x .stands .rule3) (x .surveyors .rule4) (x .surveyors .rule5) (x .surveyors .rule6) (x .stands .rule7)
+  later-named x F =
+      let lo : Loose G Z (x .stands .loose)
+      = (λ v w. ap (λ (s : Stand). s .loose) (F .lates .stand v w (F .noneT v w))
+      ∙ stand-loose K (X .rem) fixed kS kT (X .fs) (X .ft) (X .qs) (X .qt) S (L .cellS) (L .cellT) (cellsS D K) (cellsT D K) v w) in
+      record {
+        fits = fits;
+        rule3 = λ v w. ap (λ (s : Stand). s .rule3) (F .lates .stand v w (F .noneT v w))
+            ∙ stand3 K (X .rem) fixed kS kT (X .fs) (X .ft) (X .qs) (X .qt) S (L .cellS) (L .cellT) (cellsS D K) (cellsT D K) v w;
+        rule4 = λ v w. ap (λ (s : Surveyor). s .rule4) (F .lates .surveyor v w (F .noneS v w))
+            ∙ surveyor4 K (X .rem) fixed kS kT (X .fs) (X .ft) (X .qs) (X .qt) S (L .cellS) (L .cellT) (cellsS D K) (cellsT D K) (x .stands .loose) lo v w;
+        rule5 = λ v w. ap (λ (s : Surveyor). s .rule5) (F .lates .surveyor v w (F .noneS v w))
+            ∙ surveyor5 K (X .rem) fixed kS kT (X .fs) (X .ft) (X .qs) (X .qt) S (L .cellS) (L .cellT) (cellsS D K) (cellsT D K) (x .stands .loose) lo v w;
+        rule6 = λ v w. ap (λ (s : Surveyor). s .rule6) (F .lates .surveyor v w (F .noneS v w))
+            ∙ surveyor6 K (X .rem) fixed kS kT (X .fs) (X .ft) (X .qs) (X .qt) S (L .cellS) (L .cellT) (cellsS D K) (cellsT D K) (x .stands .loose) lo v w;
+        rule7 = λ v w. ap (λ (s : Stand). s .rule7) (F .lates .stand v w (F .noneT v w))
+            ∙ stand7 K (X .rem) fixed kS kT (X .fs) (X .ft) (X .qs) (X .qt) S (L .cellS) (L .cellT) (cellsS D K) (cellsT D K) v w;
+      }

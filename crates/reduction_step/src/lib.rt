@@ -1,266 +1,265 @@
-// One step of the reduction: which rule acts, and on which edge. The quotas come in as they are after the cut; the orders os and ot have the
-// edges by their ranks at surveyors and at stands.
-ghost use Rattle.reduction_counts.specs.Mark.{Order};
-ghost use Rattle.reduction_step.specs.View.{Ends};
-ghost use Rattle.reduction_step.specs.RuleChosen.{Viewed, Named2, Last, Late, Steps};
+// One step of the reduction: the first rule that names an edge, and the lowest edge that it names, from the numbers of the nodes. Those of the later
+// rules are made anew, where they are old, only if rules 1 and 2 are silent.
+ghost use mathlib.Core.Path.{_≡_};
+ghost use mathlib.Core.Bool.{cond, true};
+ghost use Prim.Native.Nat.{min};
+ghost use lib.ListN.{replicate};
+ghost use Rattle.model.specs.Limits.{nodeLimit};
+ghost use Rattle.reduction_nodes.specs.Kept.{Tables, Leads, Lates, Fresh, SizedL, edges, links, looks, later};
+ghost use Rattle.reduction_step.specs.Least.{Least};
+ghost use Rattle.reduction_step.specs.RuleChosen.{Later37, Steps};
+use limits::ENTRY_LIMIT;
+use reduction_cells::CELLS;
 
-// How many strict remaining edges are ahead of each edge, and the arrows.
-pub struct View {
-    pub hs: [u16; 1024],
-    pub ht: [u16; 1024],
-    pub fs: [bool; 1024],
-    pub ft: [bool; 1024],
-}
-
-// A rule and an edge, 8 and m if no rule acts; for rules 2 and 5 all edges that the rule names.
+// A rule and an edge, 8 and m if no rule names one.
 pub struct Named {
     pub rule: u8,
     pub edge: usize,
-    pub hit: [bool; 1024],
 }
 
-// The same with the arrows.
-pub struct Stepped {
-    pub rule: u8,
-    pub edge: usize,
-    pub hit: [bool; 1024],
-    pub fs: [bool; 1024],
-    pub ft: [bool; 1024],
+pub fn lesser(a: u16, b: u16) -> u16
+    ensures { λ r. ⌜ r ≡ min a b ⌝ }
+{
+    if b < a {
+        return b;
+    }
+    a
 }
 
-pub fn look(
+// The least number of a side.
+pub fn least(xs: &[u16; 32]) -> u16
+    ensures { λ r. ⌜ Least (now (xs .entry)) nodeLimit r ⌝ }
+{
+    let mut l = xs[0];
+    let mut i: usize = 1;
+    while i < 32 {
+        l = lesser(l, xs[i]);
+        i += 1;
+    }
+    l
+}
+
+// Which surveyors are read anew: all of them, where some stand's looseness turned.
+pub fn touched(turned: bool, old: [bool; 32]) -> [bool; 32]
+    ensures { λ r. ⌜ r ≡ cond turned (replicate nodeLimit true) old ⌝ }
+{
+    if turned {
+        return [true; 32];
+    }
+    old
+}
+
+// The later numbers, those that are old made anew.
+pub fn renewed(
     m: usize,
-    sv: &[u8; 1024],
-    st: &[u8; 1024],
-    tied: &[bool; 1024],
-    os: &[u16],
-    ot: &[u16],
-    rem: &[bool; 1024],
+    sv: &[u8; ENTRY_LIMIT],
+    st: &[u8; ENTRY_LIMIT],
+    rs: &[u8; ENTRY_LIMIT],
+    rt: &[u8; ENTRY_LIMIT],
+    strict: &[bool; ENTRY_LIMIT],
+    tied: &[bool; ENTRY_LIMIT],
+    ns: &[u16; ENTRY_LIMIT],
+    hs: &[u16; 32],
+    nt: &[u16; ENTRY_LIMIT],
+    ht: &[u16; 32],
+    cs: &[u16; CELLS],
+    ct: &[u16; CELLS],
+    rem: &[bool; ENTRY_LIMIT],
+    fs: &[bool; ENTRY_LIMIT],
+    ft: &[bool; ENTRY_LIMIT],
     qs: &[u16; 32],
     qt: &[u16; 32],
-) -> View
-    requires { ⌜ Ends m (now sv) (now st) ⌝ }
-    requires { ⌜ Order (now sv) (now os) ⌝ }
-    requires { ⌜ Order (now st) (now ot) ⌝ }
-    ensures { λ r. ⌜ Viewed
-        (record { m = m; sv = now (sv .entry); st = now (st .entry); tied = now (tied .entry) })
-        (record { rem = now (rem .entry); qs = now (qs .entry); qt = now (qt .entry) })
-        (now (os .entry)) (now (ot .entry)) r ⌝ }
+    rule3: &mut [u16; 32],
+    rule4: &mut [u16; 32],
+    rule5: &mut [u16; 32],
+    rule6: &mut [u16; 32],
+    rule7: &mut [u16; 32],
+    loose: &mut [bool; 32],
+    olds: &mut [bool; 32],
+    oldt: &mut [bool; 32],
+)
+    requires { ⌜ Tables (edges m (now sv) (now st) (now rs) (now rt) (now tied)) (now strict)
+        (links (now ns) (now hs) (now nt) (now ht) (now cs) (now ct)) ⌝ }
+    requires { ⌜ Lates (edges m (now sv) (now st) (now rs) (now rt) (now tied))
+        (links (now ns) (now hs) (now nt) (now ht) (now cs) (now ct))
+        (looks (now rem) (now fs) (now ft) (now qs) (now qt))
+        (later (now rule3) (now rule4) (now rule5) (now rule6) (now rule7) (now loose) (now olds) (now oldt)) ⌝ }
+    requires { ⌜ SizedL (later (now rule3) (now rule4) (now rule5) (now rule6) (now rule7) (now loose) (now olds) (now oldt)) ⌝ }
+    ensures { λ r. ⌜ SizedL (later (now (rule3 .exit)) (now (rule4 .exit)) (now (rule5 .exit)) (now (rule6 .exit)) (now (rule7 .exit))
+        (now (loose .exit)) (now (olds .exit)) (now (oldt .exit))) ⌝ }
+    ensures { λ r. ⌜ Fresh (edges m (now (sv .entry)) (now (st .entry)) (now (rs .entry)) (now (rt .entry)) (now (tied .entry)))
+        (links (now (ns .entry)) (now (hs .entry)) (now (nt .entry)) (now (ht .entry)) (now (cs .entry)) (now (ct .entry)))
+        (looks (now (rem .entry)) (now (fs .entry)) (now (ft .entry)) (now (qs .entry)) (now (qt .entry)))
+        (later (now (rule3 .exit)) (now (rule4 .exit)) (now (rule5 .exit)) (now (rule6 .exit)) (now (rule7 .exit)) (now (loose .exit)) (now (olds .exit))
+        (now (oldt .exit))) ⌝ }
 {
-    let hs = reduction_counts::mark(os, sv, rem);
-    let sr = reduction_counts::strict(m, rem, tied);
-    let ht = reduction_counts::mark(ot, st, &sr);
-    let fs = reduction_counts::arrows(m, sv, rem, &hs, qs);
-    let ft = reduction_counts::arrows(m, st, &sr, &ht, qt);
-    View {
-        hs: hs,
-        ht: ht,
-        fs: fs,
-        ft: ft,
-    }
-}
-
-// The edges that rule 2 names.
-pub fn second(
-    m: usize,
-    sv: &[u8; 1024],
-    st: &[u8; 1024],
-    tied: &[bool; 1024],
-    os: &[u16],
-    ot: &[u16],
-    rem: &[bool; 1024],
-    qs: &[u16; 32],
-    qt: &[u16; 32],
-    fs: &[bool; 1024],
-    ft: &[bool; 1024],
-) -> [bool; 1024]
-    requires { ⌜ Ends m (now sv) (now st) ⌝ }
-    requires { ⌜ Order (now sv) (now os) ⌝ }
-    requires { ⌜ Order (now st) (now ot) ⌝ }
-    ensures { λ r. ⌜ Named2
-        (record { m = m; sv = now (sv .entry); st = now (st .entry); tied = now (tied .entry) })
-        (record { rem = now (rem .entry); qs = now (qs .entry); qt = now (qt .entry) })
-        (now (os .entry)) (now (ot .entry)) (now (fs .entry)) (now (ft .entry)) r ⌝ }
-{
-    let gs = reduction_counts::mark(os, sv, ft);
-    let fr = reduction_counts::strict(m, fs, tied);
-    let gt = reduction_counts::mark(ot, st, &fr);
-    reduction_rules::named2(m, rem, sv, st, qs, qt, &gs, &gt)
-}
-
-// Rules 5 to 7, where the rules before are silent.
-pub fn last(
-    m: usize,
-    sv: &[u8; 1024],
-    st: &[u8; 1024],
-    tied: &[bool; 1024],
-    rem: &[bool; 1024],
-    qs: &[u16; 32],
-    qt: &[u16; 32],
-    hs: &[u16; 1024],
-    ht: &[u16; 1024],
-    fs: &[bool; 1024],
-    ft: &[bool; 1024],
-    lo: &[bool; 32],
-    sizes: &[u16; 32],
-    got: &[u16; 32],
-) -> Named
-    requires { ⌜ Ends m (now sv) (now st) ⌝ }
-    ensures { λ r. ⌜ Last
-        (record { m = m; sv = now (sv .entry); st = now (st .entry); tied = now (tied .entry) })
-        (record { rem = now (rem .entry); qs = now (qs .entry); qt = now (qt .entry) })
-        (record { hs = now (hs .entry); ht = now (ht .entry); fs = now (fs .entry); ft = now (ft .entry) })
-        (record { lo = now (lo .entry); sizes = now (sizes .entry); got = now (got .entry) }) r ⌝ }
-{
-    let hit = reduction_rules::named5(m, rem, st, lo, fs, ft);
-    let e5 = reduction_rules::next(m, &hit, 0);
-    if e5 < m {
-        return Named {
-            rule: 5,
-            edge: e5,
-            hit: hit,
-        };
-    }
-    let e6 = reduction_rules::find_short(m, rem, sv, sizes, qs, hs);
-    if e6 < m {
-        return Named {
-            rule: 6,
-            edge: e6,
-            hit: hit,
-        };
-    }
-    let sr = reduction_counts::strict(m, rem, tied);
-    let e7 = reduction_rules::find_short(m, &sr, st, got, qt, ht);
-    if e7 < m {
-        return Named {
-            rule: 7,
-            edge: e7,
-            hit: hit,
-        };
-    }
-    Named {
-        rule: 8,
-        edge: m,
-        hit: hit,
-    }
+    let before = *loose;
+    reduction_nodes::stands_renewed(
+        m,
+        st,
+        rt,
+        tied,
+        nt,
+        ht,
+        ct,
+        rem,
+        fs,
+        ft,
+        qt,
+        oldt,
+        rule3,
+        rule7,
+        loose,
+    );
+    let at = reduction_nodes::unlike(&before, loose);
+    let known = *olds;
+    let saw = touched(at < 32, known);
+    reduction_nodes::surveyors_renewed(
+        m,
+        sv,
+        st,
+        rs,
+        strict,
+        ns,
+        hs,
+        cs,
+        rem,
+        fs,
+        ft,
+        loose,
+        qs,
+        &saw,
+        rule4,
+        rule5,
+        rule6,
+    );
+    *olds = [false; 32];
+    *oldt = [false; 32];
 }
 
 // Rules 3 to 7, where the rules before are silent.
 pub fn late(
     m: usize,
-    sv: &[u8; 1024],
-    st: &[u8; 1024],
-    tied: &[bool; 1024],
-    os: &[u16],
-    rem: &[bool; 1024],
+    rule3: &[u16; 32],
+    rule4: &[u16; 32],
+    rule5: &[u16; 32],
+    rule6: &[u16; 32],
+    rule7: &[u16; 32],
+) -> Named
+    ensures { λ r. ⌜ Later37 m (now (rule3 .entry)) (now (rule4 .entry)) (now (rule5 .entry)) (now (rule6 .entry)) (now (rule7 .entry))
+        (r .rule) (r .edge) ⌝ }
+{
+    let e3 = least(rule3) as usize;
+    if e3 < m {
+        return Named { rule: 3, edge: e3 };
+    }
+    let e4 = least(rule4) as usize;
+    if e4 < m {
+        return Named { rule: 4, edge: e4 };
+    }
+    let e5 = least(rule5) as usize;
+    if e5 < m {
+        return Named { rule: 5, edge: e5 };
+    }
+    let e6 = least(rule6) as usize;
+    if e6 < m {
+        return Named { rule: 6, edge: e6 };
+    }
+    let e7 = least(rule7) as usize;
+    if e7 < m {
+        return Named { rule: 7, edge: e7 };
+    }
+    Named { rule: 8, edge: m }
+}
+
+// The first rule that names an edge, and the lowest edge that it names; 8 and m if none does. `one`, `twos` and `twot` are the numbers of rules 1
+// and 2.
+pub fn step(
+    m: usize,
+    sv: &[u8; ENTRY_LIMIT],
+    st: &[u8; ENTRY_LIMIT],
+    rs: &[u8; ENTRY_LIMIT],
+    rt: &[u8; ENTRY_LIMIT],
+    strict: &[bool; ENTRY_LIMIT],
+    tied: &[bool; ENTRY_LIMIT],
+    ns: &[u16; ENTRY_LIMIT],
+    hs: &[u16; 32],
+    nt: &[u16; ENTRY_LIMIT],
+    ht: &[u16; 32],
+    cs: &[u16; CELLS],
+    ct: &[u16; CELLS],
+    rem: &[bool; ENTRY_LIMIT],
+    fs: &[bool; ENTRY_LIMIT],
+    ft: &[bool; ENTRY_LIMIT],
     qs: &[u16; 32],
     qt: &[u16; 32],
-    hs: &[u16; 1024],
-    ht: &[u16; 1024],
-    fs: &[bool; 1024],
-    ft: &[bool; 1024],
+    one: &[u16; 32],
+    twos: &[u16; 32],
+    twot: &[u16; 32],
+    rule3: &mut [u16; 32],
+    rule4: &mut [u16; 32],
+    rule5: &mut [u16; 32],
+    rule6: &mut [u16; 32],
+    rule7: &mut [u16; 32],
+    loose: &mut [bool; 32],
+    olds: &mut [bool; 32],
+    oldt: &mut [bool; 32],
 ) -> Named
-    requires { ⌜ Ends m (now sv) (now st) ⌝ }
-    requires { ⌜ Order (now sv) (now os) ⌝ }
-    ensures { λ r. ⌜ Late
-        (record { m = m; sv = now (sv .entry); st = now (st .entry); tied = now (tied .entry) })
-        (record { rem = now (rem .entry); qs = now (qs .entry); qt = now (qt .entry) })
-        (now (os .entry))
-        (record { hs = now (hs .entry); ht = now (ht .entry); fs = now (fs .entry); ft = now (ft .entry) }) r ⌝ }
+    requires { ⌜ Tables (edges m (now sv) (now st) (now rs) (now rt) (now tied)) (now strict)
+        (links (now ns) (now hs) (now nt) (now ht) (now cs) (now ct)) ⌝ }
+    requires { ⌜ Leads (edges m (now sv) (now st) (now rs) (now rt) (now tied))
+        (links (now ns) (now hs) (now nt) (now ht) (now cs) (now ct))
+        (looks (now rem) (now fs) (now ft) (now qs) (now qt)) (now one) (now twos) (now twot) ⌝ }
+    requires { ⌜ Lates (edges m (now sv) (now st) (now rs) (now rt) (now tied))
+        (links (now ns) (now hs) (now nt) (now ht) (now cs) (now ct))
+        (looks (now rem) (now fs) (now ft) (now qs) (now qt))
+        (later (now rule3) (now rule4) (now rule5) (now rule6) (now rule7) (now loose) (now olds) (now oldt)) ⌝ }
+    requires { ⌜ SizedL (later (now rule3) (now rule4) (now rule5) (now rule6) (now rule7) (now loose) (now olds) (now oldt)) ⌝ }
+    ensures { λ r. ⌜ SizedL (later (now (rule3 .exit)) (now (rule4 .exit)) (now (rule5 .exit)) (now (rule6 .exit)) (now (rule7 .exit))
+        (now (loose .exit)) (now (olds .exit)) (now (oldt .exit))) ⌝ }
+    ensures { λ r. ⌜ Lates (edges m (now (sv .entry)) (now (st .entry)) (now (rs .entry)) (now (rt .entry)) (now (tied .entry)))
+        (links (now (ns .entry)) (now (hs .entry)) (now (nt .entry)) (now (ht .entry)) (now (cs .entry)) (now (ct .entry)))
+        (looks (now (rem .entry)) (now (fs .entry)) (now (ft .entry)) (now (qs .entry)) (now (qt .entry)))
+        (later (now (rule3 .exit)) (now (rule4 .exit)) (now (rule5 .exit)) (now (rule6 .exit)) (now (rule7 .exit)) (now (loose .exit)) (now (olds .exit))
+        (now (oldt .exit))) ⌝ }
+    ensures { λ r. ⌜ Steps (edges m (now (sv .entry)) (now (st .entry)) (now (rs .entry)) (now (rt .entry)) (now (tied .entry)))
+        (looks (now (rem .entry)) (now (fs .entry)) (now (ft .entry)) (now (qs .entry)) (now (qt .entry))) (r .rule) (r .edge) ⌝ }
 {
-    let got = reduction_counts::tally(m, st, fs);
-    let sent = reduction_counts::tally(m, st, ft);
-    let e3 = reduction_rules::find3(m, rem, st, fs, &got, &sent, qt);
-    if e3 < m {
-        return Named {
-            rule: 3,
-            edge: e3,
-            hit: [false; 1024],
-        };
+    let e1 = least(one) as usize;
+    if e1 < m {
+        return Named { rule: 1, edge: e1 };
     }
-    let lo = reduction_counts::loose(&sent, &got, qt);
-    let res = reduction_counts::reserved(m, st, rem, &lo, ft);
-    let sizes = reduction_counts::tally(m, sv, &res);
-    let nb = reduction_counts::mark(os, sv, &res);
-    let e4 = reduction_rules::find4(m, rem, sv, &res, &sizes, qs, &nb);
-    if e4 < m {
-        return Named {
-            rule: 4,
-            edge: e4,
-            hit: res,
-        };
+    let e2 = lesser(least(twos), least(twot)) as usize;
+    if e2 < m {
+        return Named { rule: 2, edge: e2 };
     }
-    last(
+    renewed(
         m,
         sv,
         st,
+        rs,
+        rt,
+        strict,
         tied,
-        rem,
-        qs,
-        qt,
+        ns,
         hs,
+        nt,
         ht,
+        cs,
+        ct,
+        rem,
         fs,
         ft,
-        &lo,
-        &sizes,
-        &got,
-    )
-}
-
-// The first rule that names an edge, and the lowest edge that it names; 8 and m if none does.
-pub fn step(
-    m: usize,
-    sv: &[u8; 1024],
-    st: &[u8; 1024],
-    tied: &[bool; 1024],
-    os: &[u16],
-    ot: &[u16],
-    rem: &[bool; 1024],
-    qs: &[u16; 32],
-    qt: &[u16; 32],
-) -> Stepped
-    requires { ⌜ Ends m (now sv) (now st) ⌝ }
-    requires { ⌜ Order (now sv) (now os) ⌝ }
-    requires { ⌜ Order (now st) (now ot) ⌝ }
-    ensures { λ r. ⌜ Steps
-        (record { m = m; sv = now (sv .entry); st = now (st .entry); tied = now (tied .entry) })
-        (record { rem = now (rem .entry); qs = now (qs .entry); qt = now (qt .entry) })
-        (now (os .entry)) (now (ot .entry)) r ⌝ }
-{
-    let a = look(m, sv, st, tied, os, ot, rem, qs, qt);
-    let fs = a.fs;
-    let ft = a.ft;
-    let e1 = reduction_rules::find1(m, rem, &fs, &ft);
-    if e1 < m {
-        return Stepped {
-            rule: 1,
-            edge: e1,
-            hit: [false; 1024],
-            fs: fs,
-            ft: ft,
-        };
-    }
-    let hit = second(m, sv, st, tied, os, ot, rem, qs, qt, &fs, &ft);
-    let e2 = reduction_rules::next(m, &hit, 0);
-    if e2 < m {
-        return Stepped {
-            rule: 2,
-            edge: e2,
-            hit: hit,
-            fs: fs,
-            ft: ft,
-        };
-    }
-    let hs = a.hs;
-    let ht = a.ht;
-    let b = late(m, sv, st, tied, os, rem, qs, qt, &hs, &ht, &fs, &ft);
-    let named = b.hit;
-    Stepped {
-        rule: b.rule,
-        edge: b.edge,
-        hit: named,
-        fs: fs,
-        ft: ft,
-    }
+        qs,
+        qt,
+        rule3,
+        rule4,
+        rule5,
+        rule6,
+        rule7,
+        loose,
+        olds,
+        oldt,
+    );
+    late(m, rule3, rule4, rule5, rule6, rule7)
 }

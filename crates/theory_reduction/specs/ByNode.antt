@@ -1,15 +1,16 @@
--- The rules node by node: the lowest edge that a rule names at a node depends on that node alone, on what remains there, its arrows in and out,
--- its cut quota, and for surveyors on which stands are loose. So a step leaves it as it is where it changes none of these. Rule 2 asks at
--- either end; each of the others at one.
-use Prim.Native.Nat.{ℕ, _+_, _<_, min}
+-- The rules and the arrows node by node: the lowest edge that passes a test at a node, rule 2 at either end, and that the arrows of a node depend on
+-- what remains there and on its cut quota alone, and stay where an edge goes that carries none of them. No plan comes in.
+use Prim.Native.Nat.{ℕ, _≤_, _<_}
+use native.Mathlib.Omega.{arith}
 use mathlib.Core.Path.{_≡_, refl, sym, ap, ap₂, _∙_, subst}
-use mathlib.Core.Bool.{Bool, true, false, not, _&&_, _||_}
-use lib.Dec.{T, leb, ltb, eqb, eqb→eq}
+use mathlib.Core.Bool.{Bool, true, false, not, _&&_, _||_, and-true, and-false}
+use lib.Dec.{T, leb, ltb, eqb, eqb→eq, eqb-refl, ltb→lt, lt→ltb, nltb→le}
+use borrow.Author.Tests.{le-ltb}
+use Rattle.lists.specs.Test.{by-test, by-eq, given, and-l, and-r, and-i, nand-r, T-false, parts}
 use Rattle.lists.specs.Search.{low, low-cong}
-use Rattle.model.specs.Instance.{Instance, Side, surveyors, stands, deg}
-use Rattle.model.specs.Reduction.{State, strictLeft, ahead, arrow, cutS, cutT, arrowS, arrowT, degS, degT, aheadS, aheadT, loose, reserved}
-use Rattle.model.specs.Reduction.{betterS, betterT, worseReserved, rule1, rule2, rule3, rule4, rule5, rule6, rule7}
-use Rattle.theory_instance.specs.Degree.{deg-cong}
+use Rattle.model.specs.Instance.{Instance, Side}
+use Rattle.model.specs.Reduction.{State, strictLeft, ahead, arrow, cutS, cutT, degS, degT, betterS, betterT, rule2}
+use Rattle.theory_instance.specs.Degree.{deg-cong, deg-sub}
 
 -- the lowest number that passes a test at v, m if none does
 abbrev pub lowestAt : (m : ℕ) (end : ℕ → ℕ) (test : ℕ → Bool) → ℕ → ℕ
@@ -43,94 +44,66 @@ arrow-local K rem rem′ q q′ e l h i = ap₂ (λ (x : Bool) (y : ℕ). (x && 
     (λ d dl j. ap (λ x. (x && not (K .tie d)) && ltb (K .rank d) (K .rank e)) (h d dl j)))
     ∙ ap (λ y. strictLeft K rem e && ltb (ahead K rem (K .end e) (K .rank e)) y) i
 
--- ---- two states that are alike at a node
-module _ (G : Instance) (Z Y : State) where
-  pub record Alike (end : ℕ → ℕ) (v : ℕ) : Type 0 where
-    pub left : (e : ℕ) → e < G .m → end e ≡ v → Y .rem e ≡ Z .rem e
-    pub fromS : (e : ℕ) → e < G .m → end e ≡ v → arrowS G Y e ≡ arrowS G Z e
-    pub fromT : (e : ℕ) → e < G .m → end e ≡ v → arrowT G Y e ≡ arrowT G Z e
+-- ---- one side: e is taken out of what remains
+module _ (K : Side) (rem : ℕ → Bool) (e : ℕ) where
+  abbrev rem′ : ℕ → Bool
+  rem′ x = rem x && not (eqb x e)
 
-  -- the test of an edge where it remains
-  abbrev named : (State → ℕ → Bool) → State → ℕ → Bool
-  named rule X e = X .rem e && rule X e
+  other : (x : ℕ) → eqb x e ≡ false → rem′ x ≡ rem x
+  other x t = ap (λ b. rem x && not b) t ∙ and-true (rem x)
 
-  abbrev Kept : (end : ℕ → ℕ) (rule : State → ℕ → Bool) → ℕ → Type 0
-  Kept end rule v = lowestAt (G .m) end (named rule Y) v ≡ lowestAt (G .m) end (named rule Z) v
+  gone : (x : ℕ) → eqb x e ≡ true → rem′ x ≡ false
+  gone x t = ap (λ b. rem x && not b) t ∙ and-false (rem x)
 
-  kept : (end : ℕ → ℕ) (v : ℕ) → Alike end v → (rule : State → ℕ → Bool) → ((e : ℕ) → e < G .m → end e ≡ v → rule Y e ≡ rule Z e) → Kept end rule v
-  kept end v A rule h = lowestAt-cong (G .m) end (named rule Y) (named rule Z) v (λ e l i. ap₂ _&&_ (A .left e l i) (h e l i))
+  -- at a node where e is not among those ahead, they stay
+  ahead-kept : (v r : ℕ) → (K .end e ≡ v → (strictLeft K rem e && ltb (K .rank e) r) ≡ false) → ahead K rem′ v r ≡ ahead K rem v r
+  unfolding ahead
+  ahead-kept v r h = deg-cong K (λ d. strictLeft K rem′ d && ltb (K .rank d) r) (λ d. strictLeft K rem d && ltb (K .rank d) r) v (λ d l i. by-eq d e
+      (λ q t. ap (λ b. (b && not (K .tie d)) && ltb (K .rank d) r) (gone d t)
+      ∙ sym (subst (λ x. (strictLeft K rem x && ltb (K .rank x) r) ≡ false) (sym q) (h (ap (K .end) (sym q) ∙ i))))
+      (λ n t. ap (λ b. (b && not (K .tie d)) && ltb (K .rank d) r) (other d t)))
 
-  module _ (v : ℕ) (A : Alike (G .st) v) (q : cutT G Y v ≡ cutT G Z v) where
-    into : degT G Y (arrowS G Y) v ≡ degT G Z (arrowS G Z) v
-    into = deg-cong (stands G) (arrowS G Y) (arrowS G Z) v (A .fromS)
+  -- those ahead of e are ahead of what is worse, before and after
+  ahead-more : (v r : ℕ) → K .end e ≡ v → K .rank e < r → (ahead K rem v (K .rank e) ≤ ahead K rem′ v r) × (ahead K rem v (K .rank e) ≤ ahead K rem v r)
+  unfolding ahead
+  ahead-more v r i h = (
+    deg-sub K (λ d. strictLeft K rem d && ltb (K .rank d) (K .rank e)) (λ d. strictLeft K rem′ d && ltb (K .rank d) r) v (λ d l j t. by-eq d e
+        (λ q s. let k = ltb→lt (K .rank d) (K .rank e) (search parts) in absurd (omega (arith, ap (K .rank) q)))
+        (λ n s. let k = ltb→lt (K .rank d) (K .rank e) (search parts) in
+        and-i (strictLeft K rem′ d) (ltb (K .rank d) r) (subst (λ b. T (b && not (K .tie d))) (sym (other d s)) (search parts))
+        (lt→ltb (K .rank d) r (omega arith)))),
+    deg-sub K (λ d. strictLeft K rem d && ltb (K .rank d) (K .rank e)) (λ d. strictLeft K rem d && ltb (K .rank d) r) v (λ d l j t.
+        let k = ltb→lt (K .rank d) (K .rank e) (search parts) in
+        and-i (strictLeft K rem d) (ltb (K .rank d) r) (search parts) (lt→ltb (K .rank d) r (omega arith))),
+  )
 
-    out : degT G Y (arrowT G Y) v ≡ degT G Z (arrowT G Z) v
-    out = deg-cong (stands G) (arrowT G Y) (arrowT G Z) v (A .fromT)
+  module _ (q : ℕ → ℕ) (n : T (not (arrow K rem q e))) where
+    -- e sends no arrow: as many are ahead of it as the quota
+    full : T (strictLeft K rem e) → q (K .end e) ≤ ahead K rem (K .end e) (K .rank e)
+    unfolding arrow
+    full s = nltb→le (ahead K rem (K .end e) (K .rank e)) (q (K .end e))
+        (nand-r (strictLeft K rem e) (ltb (ahead K rem (K .end e) (K .rank e)) (q (K .end e))) n s)
 
-    pub loose-kept : loose G Y v ≡ loose G Z v
-    unfolding loose
-    loose-kept = ap₂ _&&_ (ap₂ ltb out q) (ap (λ n. eqb n 0) into)
-
-    -- from the node to its edge
-    at-edge : (f g : ℕ → ℕ) → f v ≡ g v → (e : ℕ) → G .st e ≡ v → f (G .st e) ≡ g (G .st e)
-    at-edge f g h e i = subst (λ u. f u ≡ g u) (sym i) h
-
-    pub rule2T-kept : Kept (G .st) (rule2T G) v
-    unfolding betterT
-    rule2T-kept = kept (G .st) v A (rule2T G) (λ e l i. ap₂ leb (at-edge (cutT G Y) (cutT G Z) q e i)
-        (deg-cong (stands G) (λ d. arrowS G Y d && ltb (G .rankT d) (G .rankT e)) (λ d. arrowS G Z d && ltb (G .rankT d) (G .rankT e)) (G .st e)
-        (λ d dl j. ap (λ x. x && ltb (G .rankT d) (G .rankT e)) (A .fromS d dl (j ∙ i)))))
-
-    pub rule3-kept : Kept (G .st) (rule3 G) v
-    unfolding rule3
-    rule3-kept = kept (G .st) v A (rule3 G) (λ e l i. ap₂ _&&_ (A .fromS e l i)
-        (ap₂ leb (ap₂ _+_ (at-edge (degT G Y (arrowS G Y)) (degT G Z (arrowS G Z)) into e i) (at-edge (degT G Y (arrowT G Y)) (degT G Z (arrowT G Z)) out e i))
-        (at-edge (cutT G Y) (cutT G Z) q e i)))
-
-    pub rule7-kept : Kept (G .st) (rule7 G) v
-    unfolding rule7 ahead
-    rule7-kept = kept (G .st) v A (rule7 G) (λ e l i. ap₂ _&&_
-        (ap₂ ltb (at-edge (degT G Y (arrowS G Y)) (degT G Z (arrowS G Z)) into e i) (at-edge (cutT G Y) (cutT G Z) q e i))
-        (ap (λ n. not (G .tied e) && eqb n 0) (deg-cong (stands G) (λ d. strictLeft (stands G) (Y .rem) d && ltb (G .rankT d) (G .rankT e))
-        (λ d. strictLeft (stands G) (Z .rem) d && ltb (G .rankT d) (G .rankT e)) (G .st e)
-        (λ d dl j. ap (λ x. (x && not (G .tied d)) && ltb (G .rankT d) (G .rankT e)) (A .left d dl (j ∙ i))))))
-
-  module _ (v : ℕ) (A : Alike (G .sv) v) (q : cutS G Y v ≡ cutS G Z v) (lo : (e : ℕ) → e < G .m → G .sv e ≡ v → loose G Y (G .st e) ≡ loose G Z (G .st e)) where
-    edge-at : (f g : ℕ → ℕ) → f v ≡ g v → (e : ℕ) → G .sv e ≡ v → f (G .sv e) ≡ g (G .sv e)
-    edge-at f g h e i = subst (λ u. f u ≡ g u) (sym i) h
-
-    reserved-kept : (e : ℕ) → e < G .m → G .sv e ≡ v → reserved G Y e ≡ reserved G Z e
-    unfolding reserved
-    reserved-kept e l i = ap₂ _&&_ (A .left e l i) (ap₂ (λ (x y : Bool). (not x && y) || x) (lo e l i) (A .fromT e l i))
-
-    size-kept : degS G Y (reserved G Y) v ≡ degS G Z (reserved G Z) v
-    size-kept = deg-cong (surveyors G) (reserved G Y) (reserved G Z) v reserved-kept
-
-    pub rule1-kept : Kept (G .sv) (rule1 G) v
-    unfolding rule1
-    rule1-kept = kept (G .sv) v A (rule1 G) (λ e l i. ap₂ _&&_ (A .fromS e l i) (A .fromT e l i))
-
-    pub rule2S-kept : Kept (G .sv) (rule2S G) v
-    unfolding betterS
-    rule2S-kept = kept (G .sv) v A (rule2S G) (λ e l i. ap₂ leb (edge-at (cutS G Y) (cutS G Z) q e i)
-        (deg-cong (surveyors G) (λ d. arrowT G Y d && ltb (G .rankS d) (G .rankS e)) (λ d. arrowT G Z d && ltb (G .rankS d) (G .rankS e)) (G .sv e)
-        (λ d dl j. ap (λ x. x && ltb (G .rankS d) (G .rankS e)) (A .fromT d dl (j ∙ i)))))
-
-    pub rule4-kept : Kept (G .sv) (rule4 G) v
-    unfolding rule4 worseReserved
-    rule4-kept = kept (G .sv) v A (rule4 G) (λ e l i. ap₂ _&&_ (reserved-kept e l i) (ap₂ _&&_
-        (ap₂ ltb (edge-at (cutS G Y) (cutS G Z) q e i) (edge-at (degS G Y (reserved G Y)) (degS G Z (reserved G Z)) size-kept e i))
-        (ap (λ n. eqb n 0) (deg-cong (surveyors G) (λ d. reserved G Y d && ltb (G .rankS e) (G .rankS d)) (λ d. reserved G Z d && ltb (G .rankS e) (G .rankS d)) (G .sv e)
-        (λ d dl j. ap (λ x. x && ltb (G .rankS e) (G .rankS d)) (reserved-kept d dl (j ∙ i)))))))
-
-    pub rule5-kept : Kept (G .sv) (rule5 G) v
-    unfolding rule5
-    rule5-kept = kept (G .sv) v A (rule5 G) (λ e l i. ap₂ _&&_ (ap not (lo e l i)) (ap₂ (λ (x y : Bool). not x && not y) (A .fromS e l i) (A .fromT e l i)))
-
-    pub rule6-kept : Kept (G .sv) (rule6 G) v
-    unfolding rule6 ahead
-    rule6-kept = kept (G .sv) v A (rule6 G) (λ e l i. ap₂ _&&_
-        (ap₂ ltb (edge-at (degS G Y (reserved G Y)) (degS G Z (reserved G Z)) size-kept e i) (edge-at (cutS G Y) (cutS G Z) q e i))
-        (ap (λ n. eqb n 0) (deg-cong (surveyors G) (λ d. strictLeft (surveyors G) (Y .rem) d && ltb (G .rankS d) (G .rankS e))
-        (λ d. strictLeft (surveyors G) (Z .rem) d && ltb (G .rankS d) (G .rankS e)) (G .sv e)
-        (λ d dl j. ap (λ x. (x && true) && ltb (G .rankS d) (G .rankS e)) (A .left d dl (j ∙ i))))))
+    pub arrow-kept : (d : ℕ) → arrow K rem′ q d ≡ arrow K rem q d
+    unfolding arrow
+    arrow-kept d = by-eq d e
+        (λ i t. ap (λ b. (b && not (K .tie d)) && ltb (ahead K rem′ (K .end d) (K .rank d)) (q (K .end d))) (gone d t)
+        ∙ sym (subst (λ x. arrow K rem q x ≡ false) (sym i) (T-false n)))
+        (λ ne t. ap (λ b. (b && not (K .tie d)) && ltb (ahead K rem′ (K .end d) (K .rank d)) (q (K .end d))) (other d t)
+        ∙ ap (λ b. strictLeft K rem d && b) (test d))
+      where
+        test : (d : ℕ) → ltb (ahead K rem′ (K .end d) (K .rank d)) (q (K .end d)) ≡ ltb (ahead K rem (K .end d) (K .rank d)) (q (K .end d))
+        test d = by-test (eqb (K .end e) (K .end d) && (strictLeft K rem e && ltb (K .rank e) (K .rank d)))
+            (λ s.
+            let i = eqb→eq (K .end e) (K .end d) (and-l (eqb (K .end e) (K .end d)) (strictLeft K rem e && ltb (K .rank e) (K .rank d)) s) in
+            let u = and-r (eqb (K .end e) (K .end d)) (strictLeft K rem e && ltb (K .rank e) (K .rank d)) s in
+            let w = ltb→lt (K .rank e) (K .rank d) (and-r (strictLeft K rem e) (ltb (K .rank e) (K .rank d)) u) in
+            let f : q (K .end d) ≤ ahead K rem (K .end d) (K .rank e) =
+            subst (λ x. q x ≤ ahead K rem x (K .rank e)) i (full (and-l (strictLeft K rem e) (ltb (K .rank e) (K .rank d)) u)) in
+            given (ahead-more (K .end d) (K .rank d) i w) (λ (a, b).
+            le-ltb (ahead K rem′ (K .end d) (K .rank d)) (q (K .end d)) (omega arith)
+            ∙ sym (le-ltb (ahead K rem (K .end d) (K .rank d)) (q (K .end d)) (omega arith))))
+            (λ s. ap (λ x. ltb x (q (K .end d)))
+            (ahead-kept (K .end d) (K .rank d)
+            (λ i. T-false (nand-r (eqb (K .end e) (K .end d)) (strictLeft K rem e && ltb (K .rank e) (K .rank d)) s
+            (subst (λ x. T (eqb (K .end e) x)) i (eqb-refl (K .end e)))))))

@@ -3,13 +3,12 @@
 use Prim.Native.Nat.{ℕ, zero, suc, _≤_, _<_}
 use native.Mathlib.Omega.{arith}
 use native.Mathlib.Decide.{decLt}
-use mathlib.Core.Path.{_≡_, refl, ap, _∙_}
+use mathlib.Core.Path.{_≡_, refl}
 use mathlib.Core.Logic.{by-cases}
 use mathlib.Core.Bool.{Bool, true, false, not, _&&_}
 use lib.Dec.{T, ltb, ltb→lt, nltb→le, not-T}
-use borrow.Author.Tests.{lt-ltb, le-ltb}
 use Rattle.lists.specs.Test.{given, and-l, and-r, nand-r, T-false}
-use Rattle.lists.specs.Search.{low-is, low-hit, low-none}
+use Rattle.lists.specs.Search.{low-is}
 use Rattle.model.specs.Instance.{Instance, surveyors, stands}
 use Rattle.model.specs.Reduction.{State, cutS, cutT, arrowS, rule1, rule2, rule3, rule4, rule5, rule6, rule7, fixes}
 use Rattle.theory_reduction.specs.RuleNumbers.{names, lowest, ruleOf, edgeOf, fateOf}
@@ -70,20 +69,6 @@ module _ (G : Instance) (Z : State) where
         named = n;
         earlier = earlier-quiet;
       }
-
-  -- a rule that is the first to name an edge, and the lowest edge that it names
-  pub chosen-is : (r e : ℕ) → r < 8 → ((k : ℕ) → k < r → Quiet G Z (names G Z k)) → e < G .m → Z .rem e && names G Z r e ≡ true
-      → ((d : ℕ) → d < e → Z .rem d && names G Z r d ≡ false) → (ruleOf G Z ≡ r) × (edgeOf G Z ≡ e)
-  unfolding ruleOf edgeOf lowest
-  chosen-is r e rl Q l t n =
-      let at : lowest G Z r ≡ e = low-hit (λ d. Z .rem d && names G Z r d) e (G .m) (low-none (λ d. Z .rem d && names G Z r d) e n) t l in
-      let is : ruleOf G Z ≡ r = low-hit (λ k. ltb (lowest G Z k) (G .m)) r 8 (low-none (λ k. ltb (lowest G Z k) (G .m)) r silent)
-      (lt-ltb (lowest G Z r) (G .m) (omega arith)) rl in
-      (is, ap (lowest G Z) is ∙ at)
-    where
-      silent : (k : ℕ) → k < r → ltb (lowest G Z k) (G .m) ≡ false
-      silent k h = le-ltb (lowest G Z k) (G .m)
-          (let i = low-none (λ d. Z .rem d && names G Z k d) (G .m) (λ d dl. quiet-false (Z .rem d) (names G Z k d) (Q k h d dl)) in omega arith)
 
   -- its edge is the lowest
   pub below-edge : (d : ℕ) → d < edgeOf G Z → T (not (Z .rem d && names G Z (ruleOf G Z) d))

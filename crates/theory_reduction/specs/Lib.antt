@@ -10,7 +10,6 @@ pub mod Chains
 pub mod Steps
 pub mod End
 pub mod Run
-pub mod StableStrike
 pub mod RuleNumbers
 pub mod ByNode
 pub mod FirstRule

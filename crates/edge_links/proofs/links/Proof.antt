@@ -1,10 +1,9 @@
 -- The edges from i on are linked.
 use mathlib.Core.Path.{_≡_, refl, subst}
-use Prim.Native.Nat.{ℕ, _+_, _-_, _≤_, _<_}
+use Prim.Native.Nat.{ℕ, _+_, _-_, _≤_}
 use native.Mathlib.Omega.{arith}
 use borrow.Author.Needs.{needs}
 use lib.ListN.{length, length-set, length-replicate}
-use Rattle.arrays.specs.ArrayInstance.{at}
 use Rattle.edge_links.specs.Linked.{LinkedFrom, linked-none, linked-on}
 use Rattle.edge_links.proofs.links.Statement.{statement}
 use Rattle.edge_links.proofs.links.Tie as tie
@@ -16,7 +15,7 @@ abbrev μ-loop : tie.MeasureT-loop
 μ-loop m end next₀ head₀ i₀ next head i = i
 
 loop-holds : tie.Need-loop-holds Inv-loop μ-loop
-loop-holds c = let a = c .args in (omega arith, refl, length-replicate {A = ℕ} 32 (a .m), linked-none (a .m) (a .end .now) (a .next .now))
+loop-holds c = let a = c .args in (omega arith, refl, length-replicate {A = ℕ} 32 (a .m), linked-none (a .m) (a .end .now) (c .pre .0) (a .next .now))
 
 cast-v : tie.Need-cast-v Inv-loop μ-loop
 cast-v c = let l = c .before .before in omega (arith, l .before .pre .3 (l .loop .i - 1) (omega arith))

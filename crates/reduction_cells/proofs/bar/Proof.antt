@@ -1,14 +1,14 @@
 -- Of the ranks passed, how many hold an edge of p; none of them has q before it.
 use mathlib.Core.Path.{_≡_, refl, sym, ap, _∙_}
-use Prim.Native.Nat.{ℕ, _+_, _*_, _-_, _≤_, zero-le}
+use Prim.Native.Nat.{_-_, _≤_, zero-le}
 use native.Mathlib.Omega.{arith}
 use borrow.Author.Needs.{needs}
 use borrow.Author.Tests.{le-leb, lt-leb}
 use lib.Dec.{leb}
-use Rattle.lists.specs.Test.{bit, bit-one}
+use Rattle.lists.specs.Test.{bit-one}
 use Rattle.lists.specs.Search.{low, low-hit, low-miss}
 use Rattle.model.specs.Limits.{emptyRank}
-use Rattle.arrays.specs.ArrayInstance.{at, flag}
+use Rattle.arrays.specs.ArrayInstance.{flag}
 use Rattle.reduction_cells.specs.Cells.{edgeIn, inCell, passed, passed-next, passed-few, cell-inside}
 use Rattle.reduction_cells.proofs.bar.Statement.{statement}
 use Rattle.reduction_cells.proofs.bar.Tie as tie
@@ -35,7 +35,12 @@ cast-e : tie.Need-cast-e Inv-loop μ-loop
 cast-e c =
     let a = c .before .before .before .before .args in
     let l = c .before .before .before .loop in
-    omega (arith, c .before .before .before .before .pre .1 .edges, cell-inside (a .m) (a .end .now) (a .rank .now) (a .tied .now) (a .cell .now) (c .before .before .before .before .pre .1) (a .v) (l .r) (c .before .before .before .before .pre .0) (omega arith))
+    omega (
+      arith,
+      c .before .before .before .before .pre .1 .edges,
+      cell-inside (a .m) (a .end .now) (a .rank .now) (a .tied .now) (a .cell .now)
+          (c .before .before .before .before .pre .1) (a .v) (l .r) (c .before .before .before .before .pre .0) (omega arith),
+    )
 
 held-requires : tie.Need-held-requires Inv-loop μ-loop
 held-requires c κs =
@@ -45,7 +50,14 @@ add-c : tie.Need-add-c Inv-loop μ-loop
 add-c c =
     let a = c .before .before .before .before .before .args in
     let l = c .before .before .before .before .loop in
-    omega (arith, l .inv .1, passed-few (a .m) (a .cell .now) (flag (a .p .now)) (a .v) (l .r), c .held .ensures, bit-one (edgeIn (a .m) (flag (a .p .now)) (inCell (a .cell .now) (a .v) (l .r))))
+    omega (
+      arith,
+      l .inv .1,
+      passed-few (a .m) (a .cell .now) (flag (a .p .now)) (a .v) (l .r),
+      c .held .ensures,
+      bit-one
+          (edgeIn (a .m) (flag (a .p .now)) (inCell (a .cell .now) (a .v) (l .r))),
+    )
 
 loop-again : tie.Need-loop-again Inv-loop μ-loop
 loop-again c =
@@ -65,4 +77,5 @@ returns-2 c =
     sym (l .inv .2) ∙ ap (low (λ r. leb (a .q) (passed (a .m) (a .cell .now) (flag (a .p .now)) (a .v) r))) e
 
 pub bar-spec : {M : Type 1} → statement M
-bar-spec = tie.close (tie.spec Inv-loop μ-loop (λ c. search needs) loop-holds (λ c. search needs) returns (λ c. search needs) (λ c. search needs) (λ c. search needs) cast-e held-requires add-c (λ c. search needs) (λ c. search needs) loop-again (λ c. search needs) returns-2)
+bar-spec = tie.close (tie.spec Inv-loop μ-loop (λ c. search needs) loop-holds (λ c. search needs) returns (λ c. search needs) (λ c. search needs)
+    (λ c. search needs) cast-e held-requires add-c (λ c. search needs) (λ c. search needs) loop-again (λ c. search needs) returns-2)

@@ -21,12 +21,14 @@ element-copy-out-result-2 c =
 returns : tie.Need-returns
 returns c =
     let a = c .before .before .before .before .before .args in
-    sym (ap (λ x. x && (flag (a .rem .now) (a .e) && (flag (a .lo .now) (at (a .other .now) (a .e)) || flag (a .f .now) (a .e)))) (lt-ltb (a .e) (a .m) (omega arith)))
+    sym (ap (λ x. x && (flag (a .rem .now) (a .e) && (flag (a .lo .now) (at (a .other .now) (a .e)) || flag (a .f .now) (a .e))))
+    (lt-ltb (a .e) (a .m) (omega arith)))
 
 returns-2 : tie.Need-returns-2
 returns-2 c =
     let a = c .before .args in
-    sym (ap (λ x. x && (flag (a .rem .now) (a .e) && (flag (a .lo .now) (at (a .other .now) (a .e)) || flag (a .f .now) (a .e)))) (le-ltb (a .e) (a .m) (omega arith)))
+    sym (ap (λ x. x && (flag (a .rem .now) (a .e) && (flag (a .lo .now) (at (a .other .now) (a .e)) || flag (a .f .now) (a .e))))
+    (le-ltb (a .e) (a .m) (omega arith)))
 
 pub reserved-spec : {M : Type 1} → statement M
 reserved-spec = tie.close (tie.spec (λ c. search needs) cast-w (λ c. search needs) element-copy-out-result-2 (λ c. search needs) returns returns-2)

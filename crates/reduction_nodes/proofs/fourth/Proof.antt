@@ -1,10 +1,8 @@
 -- Only where N(s) is larger than the quota.
-use mathlib.Core.Path.{_≡_, sym, ap, _∙_}
-use mathlib.Core.Bool.{_&&_, _||_, cond}
+use mathlib.Core.Path.{sym, ap, _∙_}
+use mathlib.Core.Bool.{cond}
 use native.Mathlib.Omega.{arith}
-use borrow.Author.Needs.{needs}
 use borrow.Author.Tests.{lt-ltb, le-ltb}
-use Rattle.arrays.specs.ArrayInstance.{at, flag}
 use Rattle.reduction_cells.specs.Cells.{worstOf, worst-inside}
 use Rattle.reduction_nodes.specs.Numbers.{inN}
 use Rattle.reduction_nodes.proofs.fourth.Statement.{statement}
@@ -17,12 +15,19 @@ worst-requires c κs =
 cast-result : tie.Need-cast-result
 cast-result c =
     let a = c .before .before .args in
-    omega (arith, c .before .before .pre .1 .edges, c .worst .ensures, worst-inside (a .m) (a .end .now) (a .rank .now) (a .tied .now) (a .cell .now) (c .before .before .pre .1) (inN (a .other .now) (a .rem .now) (a .f .now) (a .lo .now)) (a .v) (c .before .before .pre .0))
+    omega (
+      arith,
+      c .before .before .pre .1 .edges,
+      c .worst .ensures,
+      worst-inside (a .m) (a .end .now) (a .rank .now) (a .tied .now) (a .cell .now)
+          (c .before .before .pre .1) (inN (a .other .now) (a .rem .now) (a .f .now) (a .lo .now)) (a .v) (c .before .before .pre .0),
+    )
 
 returns : tie.Need-returns
 returns c =
     let a = c .before .before .args in
-    c .worst .ensures ∙ sym (ap (λ b. cond b (worstOf (a .m) (a .cell .now) (inN (a .other .now) (a .rem .now) (a .f .now) (a .lo .now)) (a .v)) (a .m)) (lt-ltb (a .q) (a .n) (c .before .if1 .taken)))
+    c .worst .ensures ∙ sym (ap (λ b. cond b (worstOf (a .m) (a .cell .now) (inN (a .other .now) (a .rem .now) (a .f .now) (a .lo .now)) (a .v)) (a .m))
+    (lt-ltb (a .q) (a .n) (c .before .if1 .taken)))
 
 cast-result-2 : tie.Need-cast-result-2
 cast-result-2 c =
@@ -31,7 +36,8 @@ cast-result-2 c =
 returns-2 : tie.Need-returns-2
 returns-2 c =
     let a = c .before .args in
-    sym (ap (λ b. cond b (worstOf (a .m) (a .cell .now) (inN (a .other .now) (a .rem .now) (a .f .now) (a .lo .now)) (a .v)) (a .m)) (le-ltb (a .q) (a .n) (c .if1 .left)))
+    sym (ap (λ b. cond b (worstOf (a .m) (a .cell .now) (inN (a .other .now) (a .rem .now) (a .f .now) (a .lo .now)) (a .v)) (a .m))
+    (le-ltb (a .q) (a .n) (c .if1 .left)))
 
 pub fourth-spec : {M : Type 1} → statement M
 fourth-spec = tie.close (tie.spec worst-requires cast-result returns cast-result-2 returns-2)

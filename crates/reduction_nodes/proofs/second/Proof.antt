@@ -1,8 +1,7 @@
 -- Behind the bar; no rank is as high as 33.
-use mathlib.Core.Path.{_≡_, sym, ap, _∙_}
+use mathlib.Core.Path.{sym, ap, _∙_}
 use mathlib.Core.Bool.{_&&_, and-false}
 use native.Mathlib.Omega.{arith}
-use borrow.Author.Needs.{needs}
 use borrow.Author.Tests.{lt-leb}
 use lib.Dec.{eqb, leb}
 use Rattle.lists.specs.Search.{low, low-is, low-none}
@@ -25,7 +24,8 @@ returns c =
     let a = c .before .before .args in
     let B = barOf (a .m) (a .cell .now) (flag (a .f .now)) (a .v) (a .q) in
     sym (low-none (atNode (a .end .now) (a .v) (λ d. flag (a .rem .now) d && leb B (at (a .rank .now) d))) (a .m)
-    (λ e l. ap (λ b. eqb (at (a .end .now) e) (a .v) && (flag (a .rem .now) e && b)) (lt-leb B (at (a .rank .now) e) (omega (arith, c .before .before .pre .3 e l, c .before .bar .ensures, c .if1 .taken)))
+    (λ e l. ap (λ b. eqb (at (a .end .now) e) (a .v) && (flag (a .rem .now) e && b))
+    (lt-leb B (at (a .rank .now) e) (omega (arith, c .before .before .pre .3 e l, c .before .bar .ensures, c .if1 .taken)))
     ∙ ap (λ b. eqb (at (a .end .now) e) (a .v) && b) (and-false (flag (a .rem .now) e)) ∙ and-false (eqb (at (a .end .now) e) (a .v))))
 
 behind-requires : tie.Need-behind-requires
@@ -35,12 +35,19 @@ behind-requires c κs =
 cast-result-2 : tie.Need-cast-result-2
 cast-result-2 c =
     let a = c .before .before .before .args in
-    omega (arith, c .before .before .before .pre .1 .edges, c .behind .ensures, low-is (atNode (a .end .now) (a .v) (λ d. flag (a .rem .now) d && leb (c .before .before .bar .result) (at (a .rank .now) d))) (a .m) .0)
+    omega (
+      arith,
+      c .before .before .before .pre .1 .edges,
+      c .behind .ensures,
+      low-is
+          (atNode (a .end .now) (a .v) (λ d. flag (a .rem .now) d && leb (c .before .before .bar .result) (at (a .rank .now) d))) (a .m) .0,
+    )
 
 returns-2 : tie.Need-returns-2
 returns-2 c =
     let a = c .before .before .before .args in
-    c .behind .ensures ∙ ap (λ B. low (atNode (a .end .now) (a .v) (λ d. flag (a .rem .now) d && leb B (at (a .rank .now) d))) (a .m)) (c .before .before .bar .ensures)
+    c .behind .ensures ∙ ap (λ B. low (atNode (a .end .now) (a .v) (λ d. flag (a .rem .now) d && leb B (at (a .rank .now) d))) (a .m))
+    (c .before .before .bar .ensures)
 
 pub second-spec : {M : Type 1} → statement M
 second-spec = tie.close (tie.spec bar-requires cast-result returns behind-requires cast-result-2 returns-2)

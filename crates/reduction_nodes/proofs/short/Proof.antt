@@ -1,8 +1,7 @@
 -- Only where the node has fewer than its quota.
-use mathlib.Core.Path.{_≡_, sym, ap, _∙_}
+use mathlib.Core.Path.{sym, ap, _∙_}
 use mathlib.Core.Bool.{cond}
 use native.Mathlib.Omega.{arith}
-use borrow.Author.Needs.{needs}
 use borrow.Author.Tests.{lt-ltb, le-ltb}
 use Rattle.arrays.specs.ArrayInstance.{flag}
 use Rattle.reduction_cells.specs.Cells.{bestOf, best-inside}
@@ -16,7 +15,13 @@ best-requires c κs =
 cast-result : tie.Need-cast-result
 cast-result c =
     let a = c .before .before .args in
-    omega (arith, c .before .before .pre .1 .edges, c .best .ensures, best-inside (a .m) (a .end .now) (a .rank .now) (a .tied .now) (a .cell .now) (c .before .before .pre .1) (flag (a .rem .now)) (a .v) (c .before .before .pre .0))
+    omega (
+      arith,
+      c .before .before .pre .1 .edges,
+      c .best .ensures,
+      best-inside (a .m) (a .end .now) (a .rank .now) (a .tied .now) (a .cell .now)
+          (c .before .before .pre .1) (flag (a .rem .now)) (a .v) (c .before .before .pre .0),
+    )
 
 returns : tie.Need-returns
 returns c =

@@ -1,9 +1,7 @@
 -- The numbers of a surveyor, rule by rule.
-use mathlib.Core.Path.{_≡_, ap, ap₂, _∙_}
 use mathlib.Core.Bool.{_&&_, not}
 use native.Mathlib.Omega.{arith}
-use borrow.Author.Needs.{needs}
-use Rattle.lists.specs.Search.{low, low-is}
+use Rattle.lists.specs.Search.{low-is}
 use Rattle.arrays.specs.ArrayInstance.{at, flag}
 use Rattle.reduction_links.specs.Walks.{atNode}
 use Rattle.reduction_nodes.proofs.surveyor_now.Statement.{statement}
@@ -11,41 +9,30 @@ use Rattle.reduction_nodes.proofs.surveyor_now.Tie as tie
 
 size-requires : tie.Need-size-requires
 size-requires c κs =
-    (c .pre .0, c .pre .1, c .pre .4)
-
-both-requires : tie.Need-both-requires
-both-requires c κs =
-    (c .before .pre .0, c .before .pre .1)
-
-cast-rule1 : tie.Need-cast-rule1
-cast-rule1 c =
-    let a = c .before .before .args in
-    omega (arith, c .before .before .pre .1 .edges, c .both .ensures, low-is (atNode (a .sv .now) (a .v) (λ d. flag (a .fs .now) d && flag (a .ft .now) d)) (a .m) .0)
-
-second-requires : tie.Need-second-requires
-second-requires c κs =
-    (c .before .before .pre .0, c .before .before .pre .1, c .before .before .pre .2, c .before .before .pre .3)
+    (c .pre .0, c .pre .1, c .pre .3)
 
 fourth-requires : tie.Need-fourth-requires
 fourth-requires c κs =
-    (c .before .before .before .pre .0, c .before .before .before .pre .2, c .before .before .before .pre .4)
+    (c .before .pre .0, c .before .pre .2, c .before .pre .3)
 
 idle-requires : tie.Need-idle-requires
 idle-requires c κs =
-    (c .before .before .before .before .pre .0, c .before .before .before .before .pre .1, c .before .before .before .before .pre .4)
+    (c .before .before .pre .0, c .before .before .pre .1, c .before .before .pre .3)
 
 cast-rule5 : tie.Need-cast-rule5
 cast-rule5 c =
-    let a = c .before .before .before .before .before .args in
-    omega (arith, c .before .before .before .before .before .pre .1 .edges, c .idle .ensures, low-is (atNode (a .sv .now) (a .v) (λ d. flag (a .rem .now) d && (not (flag (a .lo .now) (at (a .st .now) d)) && (not (flag (a .fs .now) d) && not (flag (a .ft .now) d))))) (a .m) .0)
+    let a = c .before .before .before .args in
+    let idle = atNode (a .sv .now) (a .v)
+    (λ d. flag (a .rem .now) d && (not (flag (a .lo .now) (at (a .st .now) d)) && (not (flag (a .fs .now) d) && not (flag (a .ft .now) d)))) in
+    omega (arith, c .before .before .before .pre .1 .edges, c .idle .ensures, low-is idle (a .m) .0)
 
 short-requires : tie.Need-short-requires
 short-requires c κs =
-    (c .before .before .before .before .before .pre .0, c .before .before .before .before .before .pre .2)
+    (c .before .before .before .pre .0, c .before .before .before .pre .2)
 
 returns : tie.Need-returns
 returns c =
-    simp (c .before .before .before .before .both .ensures, c .before .before .before .second .ensures, c .before .before .fourth .ensures, c .before .idle .ensures, c .short .ensures, c .before .before .before .before .before .size .ensures)
+    simp (c .before .before .fourth .ensures, c .before .idle .ensures, c .short .ensures, c .before .before .before .size .ensures)
 
 pub surveyor-now-spec : {M : Type 1} → statement M
-surveyor-now-spec = tie.close (tie.spec size-requires both-requires cast-rule1 second-requires fourth-requires idle-requires cast-rule5 short-requires returns)
+surveyor-now-spec = tie.close (tie.spec size-requires fourth-requires idle-requires cast-rule5 short-requires returns)

@@ -1,8 +1,7 @@
 -- Only where there are no more arrows than the quota.
-use mathlib.Core.Path.{_≡_, sym, ap, _∙_}
+use mathlib.Core.Path.{sym, ap, _∙_}
 use mathlib.Core.Bool.{_&&_, cond}
 use native.Mathlib.Omega.{arith}
-use borrow.Author.Needs.{needs}
 use borrow.Author.Tests.{le-leb, lt-leb}
 use Rattle.lists.specs.Search.{low, low-is}
 use Rattle.arrays.specs.ArrayInstance.{flag}
@@ -17,12 +16,19 @@ both-requires c κs =
 cast-result : tie.Need-cast-result
 cast-result c =
     let a = c .before .before .args in
-    omega (arith, c .before .before .pre .1 .edges, c .both .ensures, low-is (atNode (a .end .now) (a .v) (λ d. flag (a .rem .now) d && flag (a .f .now) d)) (a .m) .0)
+    omega (
+      arith,
+      c .before .before .pre .1 .edges,
+      c .both .ensures,
+      low-is (atNode (a .end .now) (a .v) (λ d. flag (a .rem .now) d && flag (a .f .now) d))
+          (a .m) .0,
+    )
 
 returns : tie.Need-returns
 returns c =
     let a = c .before .before .args in
-    c .both .ensures ∙ sym (ap (λ b. cond b (low (atNode (a .end .now) (a .v) (λ d. flag (a .rem .now) d && flag (a .f .now) d)) (a .m)) (a .m)) (le-leb (a .n) (a .q) (c .before .if1 .taken)))
+    c .both .ensures ∙ sym (ap (λ b. cond b (low (atNode (a .end .now) (a .v) (λ d. flag (a .rem .now) d && flag (a .f .now) d)) (a .m)) (a .m))
+    (le-leb (a .n) (a .q) (c .before .if1 .taken)))
 
 cast-result-2 : tie.Need-cast-result-2
 cast-result-2 c =
@@ -31,7 +37,8 @@ cast-result-2 c =
 returns-2 : tie.Need-returns-2
 returns-2 c =
     let a = c .before .args in
-    sym (ap (λ b. cond b (low (atNode (a .end .now) (a .v) (λ d. flag (a .rem .now) d && flag (a .f .now) d)) (a .m)) (a .m)) (lt-leb (a .n) (a .q) (c .if1 .left)))
+    sym (ap (λ b. cond b (low (atNode (a .end .now) (a .v) (λ d. flag (a .rem .now) d && flag (a .f .now) d)) (a .m)) (a .m))
+    (lt-leb (a .n) (a .q) (c .if1 .left)))
 
 pub third-spec : {M : Type 1} → statement M
 third-spec = tie.close (tie.spec both-requires cast-result returns cast-result-2 returns-2)

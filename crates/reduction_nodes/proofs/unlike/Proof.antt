@@ -25,7 +25,8 @@ returns : tie.Need-returns Inv-loop μ-loop
 returns c =
     let a = c .before .before .before .before .before .args in
     let l = c .before .before .before .before .loop in
-    sym (low-hit (λ v. differ (flag (a .a .now) v) (flag (a .b .now) v)) (l .i) nodeLimit (l .inv .1) (c .if1 .taken) (c .before .before .before .loop-test .taken))
+    sym (low-hit (λ v. differ (flag (a .a .now) v) (flag (a .b .now) v)) (l .i) nodeLimit (l .inv .1) (c .if1 .taken)
+    (c .before .before .before .loop-test .taken))
 
 loop-again : tie.Need-loop-again Inv-loop μ-loop
 loop-again c =
@@ -41,4 +42,5 @@ returns-2 c =
     sym (l .inv .1) ∙ ap (low (λ v. differ (flag (a .a .now) v) (flag (a .b .now) v))) e
 
 pub unlike-spec : {M : Type 1} → statement M
-unlike-spec = tie.close (tie.spec Inv-loop μ-loop loop-holds (λ c. search needs) (λ c. search needs) returns (λ c. search needs) (λ c. search needs) loop-again returns-2)
+unlike-spec = tie.close (tie.spec Inv-loop μ-loop loop-holds (λ c. search needs) (λ c. search needs) returns (λ c. search needs) (λ c. search needs)
+    loop-again returns-2)

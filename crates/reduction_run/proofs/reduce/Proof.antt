@@ -1,41 +1,48 @@
--- The orders, then the run.
-use mathlib.Core.Path.{_≡_}
-use native.Mathlib.Omega.{arith}
-use lib.ListN.{length, take, length-take}
+-- The tables of the edges, then the run.
+use mathlib.Core.Bool.{false}
 use borrow.Author.Needs.{needs}
-use Rattle.reduction_run.specs.Given.{order-fits, knownOf}
+use Rattle.model.specs.Limits.{entryLimit}
+use Rattle.arrays.specs.Passes.{all-blank}
 use Rattle.reduction_run.proofs.reduce.Statement.{statement}
 use Rattle.reduction_run.proofs.reduce.Tie as tie
 
-slice-aggregate-run : tie.Need-slice-aggregate-run
-slice-aggregate-run c = let h : length (c .before .before .by-rank .result) ≡ 1025 = search needs in simp length-take (omega arith)
+cells-requires : tie.Need-cells-requires
+cells-requires c κs =
+    let b6 = c .before .before .before .before .before .before in
+    let p = b6 .before .before .before .pre in (p .0, p .1, p .3)
 
-slice-aggregate-run-2 : tie.Need-slice-aggregate-run-2
-slice-aggregate-run-2 c = let h : length (c .before .before .by-rank2 .result) ≡ 1025 = search needs in simp length-take (omega arith)
+cells-requires-2 : tie.Need-cells-requires-2
+cells-requires-2 c κs =
+    let b6 = c .before .before .before .before .before .before in
+    let p = b6 .before .before .before .before .pre in (p .0, p .2, p .4)
 
 run-requires : tie.Need-run-requires
 run-requires c κs =
-    let a = c .before .before .before .before .args in
-    let p = c .before .before .before .before .pre in
-    let os = c .before .before .before .by-rank in
-    let ot = c .before .before .by-rank2 in (
-      record { edges = p .0; atS = p .1; atT = p .2 },
-      (
-        order-fits (a .m) (a .sv .now) (a .rs .now) (take (a .m) (os .result)) (p .0) (p .1) (p .3) (os .ensures),
-        order-fits (a .m) (a .st .now) (a .rt .now) (take (a .m) (ot .result)) (p .0) (p .2) (p .4) (ot .ensures),
-      ),
-    )
+    let b6 = c .before .before .before .before .before .before in
+    let b12 = b6 .before .before .before .before .before .before in
+    let b18 = b12 .before .before .before .before .before .before in
+    let p = b18 .pre in record {
+      fitS = p .1;
+      fitT = p .2;
+      placedS = p .3;
+      placedT = p .4;
+      none = all-blank false entryLimit;
+      linkedS = b12 .before .before .before .links .ensures .1;
+      linkedT = b6 .before .before .before .before .before .links2 .ensures .1;
+      celledS = b6 .before .before .cells .ensures;
+      celledT = b6 .before .cells2 .ensures;
+    }
 
 returns : tie.Need-returns
 returns c =
-    let a = c .before .before .before .before .before .args in
-    let p = c .before .before .before .before .before .pre in
-    let os = c .before .before .before .before .by-rank in
-    let ot = c .before .before .before .by-rank2 in
-    λ ns nt sh law. c .run .ensures (knownOf (a .m) ns nt (a .sv .now) (a .st .now) (a .rs .now) (a .rt .now) sh (a .tied .now) (a .qs .now) (a .qt .now)
-    (take (a .m) (os .result)) (take (a .m) (ot .result)) law (p .0) (p .1) (p .2) (os .ensures) (ot .ensures))
+    let b12 = c .before .before .before .before .before .before .before .before .before .before .before .before in
+    let b12 = b12 in
+    let b18 = b12 .before .before .before .before .before
+    .before in
+    let p = b18 .before .pre in
+    λ ns nt sh law. c .run .ensures (record { ns = ns; nt = nt; sh = sh; law = law; size = p .0; fitS = p .1; fitT = p .2 })
 
 pub reduce-spec : {M : Type 1} → statement M
 reduce-spec =
-    tie.close (tie.spec (λ c κs. search needs) (λ c κs. search needs) (λ c. search needs) slice-aggregate-run (λ c. search needs)
-    slice-aggregate-run-2 run-requires returns)
+    tie.close (tie.spec (λ c. search needs) (λ c κs. search needs) (λ c. search needs) (λ c κs. search needs) cells-requires cells-requires-2 run-requires
+    returns)

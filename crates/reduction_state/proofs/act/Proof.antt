@@ -5,9 +5,10 @@ use Rattle.reduction_state.proofs.act.Tie as tie
 
 returns : tie.Need-returns
 returns c =
+    let b6 = c .before .before .before .before .before .before in
     simp (
-      c .before .before .before .before .before .before .before .before .before .before .before .fixes .ensures,
-      c .before .before .before .before .before .before .before .fewer .ensures,
+      b6 .before .before .before .before .before .fixes .ensures,
+      b6 .before .fewer .ensures,
       c .before .before .before .before .before .lowered .ensures,
       c .before .before .fewer2 .ensures,
       c .lowered2 .ensures,
@@ -15,8 +16,8 @@ returns c =
 
 pub act-spec : {M : Type 1} → statement M
 act-spec =
-    tie.close (tie.spec (λ c κs. search needs) (λ c. search needs) (λ c. search needs) (λ c. search needs) (λ c. search needs)
-    (λ c. search needs) (λ c. search needs) (λ c. search needs) (λ c κs. search needs) (λ c. search needs) (λ c. search needs)
+    tie.close (tie.spec (λ c κs. search needs) (λ c. search needs) (λ c. search needs) (λ c. search needs) (λ c. search needs) (λ c. search needs)
     (λ c. search needs) (λ c. search needs) (λ c κs. search needs) (λ c. search needs) (λ c. search needs) (λ c. search needs)
-    (λ c. search needs) (λ c. search needs) (λ c. search needs) (λ c κs. search needs) (λ c. search needs) (λ c. search needs)
-    (λ c. search needs) (λ c. search needs) (λ c κs. search needs) (λ c. search needs) (λ c. search needs) returns)
+    (λ c. search needs) (λ c κs. search needs) (λ c. search needs) (λ c. search needs) (λ c. search needs) (λ c. search needs)
+    (λ c. search needs) (λ c. search needs) (λ c κs. search needs) (λ c. search needs) (λ c. search needs) (λ c. search needs)
+    (λ c. search needs) (λ c κs. search needs) (λ c. search needs) (λ c. search needs) returns)

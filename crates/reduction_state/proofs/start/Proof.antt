@@ -6,10 +6,11 @@ use Rattle.reduction_state.proofs.start.Tie as tie
 
 returns : tie.Need-returns
 returns c =
+    let b6 = c .before .before .before .before .before .before in
     record {
-      all = c .before .before .before .before .before .before .before .before .all .ensures;
+      all = b6 .before .before .all .ensures;
       none = no-flags 1024;
-      degS = c .before .before .before .before .before .before .tally .ensures;
+      degS = b6 .tally .ensures;
       degT = c .before .before .before .before .tally2 .ensures;
       cutS = c .before .before .cuts .ensures;
       cutT = c .cuts2 .ensures;

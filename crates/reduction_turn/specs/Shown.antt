@@ -1,0 +1,132 @@
+-- What a turn does to the state: where the arrays showed the model's state and its arrows, they show the next state and its arrows.
+use Prim.Native.Nat.{ℕ, _<_}
+use mathlib.Core.Path.{_≡_, sym, ap, _∙_}
+use mathlib.Core.Logic.{_≢_}
+use mathlib.Core.Bool.{Bool, false, not, _&&_}
+use mathlib.Core.List.{List}
+use lib.Seq.{getD-set-other}
+use lib.Dec.{eqb}
+use Rattle.lists.specs.Test.{by-eq, false-T}
+use Rattle.model.specs.Limits.{nodeLimit, emptyRank}
+use Rattle.model.specs.Instance.{Instance, Side, surveyors, stands}
+use Rattle.model.specs.Reduction.{arrow, cutS, cutT, arrowS, arrowT}
+use Rattle.theory_instance.specs.Lawful.{Ranked}
+use Rattle.theory_reduction.specs.RuleNumbers.{ruleOf, edgeOf}
+use Rattle.theory_reduction.specs.ByNode.{arrow-local, arrow-kept}
+use Rattle.arrays.specs.ArrayInstance.{at, flag}
+use Rattle.reduction_cells.specs.Painted.{Painted}
+use Rattle.reduction_cells.specs.CellLaws.{Cells, arrow-tied, painted-new, painted-other}
+use Rattle.reduction_nodes.specs.Known.{Edges, Known, instanceOf}
+use Rattle.reduction_nodes.specs.Kept.{Links, Tables, cellsS, cellsT}
+use Rattle.reduction_nodes.specs.NodeLaws.{Seen}
+use Rattle.reduction_state.specs.declared.State as arrays
+use Rattle.reduction_state.specs.declared.Trace.{Trace}
+use Rattle.reduction_state.specs.Trace.{entered}
+use Rattle.reduction_state.specs.AfterStep.{struck}
+use Rattle.reduction_state.specs.RunState.{acted, Sized, Stands, stateAt, stands-next}
+use Rattle.reduction_turn.specs.Onward.{Gone, gone-other, Repainted}
+
+-- where a run stands, and the arrows there
+pub record Shown (G : Instance) (x : arrays.State) (fs ft : List Bool) (t : Trace) : Type 0 where
+  pub stood : Stands G x t
+  pub fromS : (d : ℕ) → d < G .m → flag fs d ≡ arrowS G (stateAt stood) d
+  pub fromT : (d : ℕ) → d < G .m → flag ft d ≡ arrowT G (stateAt stood) d
+
+pub seen : {G : Instance} {x : arrays.State} {fs ft : List Bool} {t : Trace} (S : Shown G x fs ft t) → Seen G (stateAt (S .stood)) fs ft (x .qs) (x .qt)
+seen S = record { fromS = S .fromS; fromT = S .fromT; quotaS = S .stood .holds .atS .cut-is; quotaT = S .stood .holds .atT .cut-is }
+
+-- one step on, in every lawful instance that the arrays show
+abbrev pub ShownOn : (A : Edges) (x : arrays.State) (fs ft : List Bool) (r e : ℕ) (y : arrays.State) (fs′ ft′ : List Bool) → Type 0
+ShownOn A x fs ft r e y fs′ ft′ = (quotaS quotaT : List ℕ) (K : Known A quotaS quotaT) (t : Trace) (S : Shown (instanceOf K) x fs ft t)
+    → ruleOf (instanceOf K) (stateAt (S .stood)) ≡ r → edgeOf (instanceOf K) (stateAt (S .stood)) ≡ e → t .steps < A .m → Shown (instanceOf K) y fs′ ft′
+    (entered t e r)
+
+-- ---- what is not at the ends of the edge stays
+module _ (sv st : List ℕ) (x : arrays.State) (r e : ℕ) (y : arrays.State) (i : y ≡ acted sv st x r e) where
+  pub acted-gone : Gone (x .rem) (y .rem) e
+  acted-gone d = ap (λ (z : arrays.State). flag (z .rem) d) i ∙ struck (x .rem) e d
+
+  pub acted-qs : (v : ℕ) → v ≢ at sv e → at (y .qs) v ≡ at (x .qs) v
+  acted-qs v n = ap (λ (z : arrays.State). at (z .qs) v) i ∙ getD-set-other (x .qs) (at sv e) v _ 0 n
+
+  pub acted-qt : (v : ℕ) → v ≢ at st e → at (y .qt) v ≡ at (x .qt) v
+  acted-qt v n = ap (λ (z : arrays.State). at (z .qt) v) i ∙ getD-set-other (x .qt) (at st e) v _ 0 n
+
+  -- where a quota did not fall, all of its side stay
+  pub same-qs : at (x .qs) (at sv e) ≡ at (y .qs) (at sv e) → (v : ℕ) → at (y .qs) v ≡ at (x .qs) v
+  same-qs h v = by-eq v (at sv e) (λ q t. ap (at (y .qs)) q ∙ sym h ∙ ap (at (x .qs)) (sym q)) (λ n t. acted-qs v n)
+
+  pub same-qt : at (x .qt) (at st e) ≡ at (y .qt) (at st e) → (v : ℕ) → at (y .qt) v ≡ at (x .qt) v
+  same-qt h v = by-eq v (at st e) (λ q t. ap (at (y .qt)) q ∙ sym h ∙ ap (at (x .qt)) (sym q)) (λ n t. acted-qt v n)
+
+-- ---- the arrows of one side
+module _ (K : Side) (law : Ranked K) (cell : List ℕ) (C : Cells K cell) (rem₀ rem : List Bool) (e : ℕ) (g : Gone rem₀ rem e) (k₀ k : ℕ → ℕ) (f₀ : List Bool)
+    (F : (d : ℕ) → d < K .m → flag f₀ d ≡ arrow K (flag rem₀) k₀ d) where
+  -- painted at the node of e
+  painted-on : K .end e < nodeLimit → (other : List ℕ) (q : ℕ) (w₀ f w : List Bool) → Painted (K .m) other cell rem (K .end e) q emptyRank f₀ w₀ f w
+      → k (K .end e) ≡ q → ((v : ℕ) → v < nodeLimit → v ≢ K .end e → k v ≡ k₀ v) → (d : ℕ) → d < K .m → flag f d ≡ arrow K (flag rem) k d
+  painted-on wl other q w₀ f w P i h d l = by-eq (K .end d) (K .end e)
+      (λ j t. painted-new K law cell C rem f other (K .end e) q wl f₀ w₀ w P k i d l j (λ s. F d l ∙ arrow-tied K law cell C rem₀ f k₀ d s))
+      (λ n t. painted-other K law cell C rem f other (K .end e) q wl f₀ w₀ w P d l n ∙ F d l
+      ∙ sym (arrow-local K (flag rem₀) (flag rem) k₀ k d l (λ c cl j. gone-other rem₀ rem e g c (λ (z : c ≡ e). n (sym j ∙ ap (K .end) z)))
+      (h (K .end d) (C .nodes d l) n)))
+
+  -- e had none, and the quotas stay
+  calm-arrows : e < K .m → flag f₀ e ≡ false → ((v : ℕ) → v < nodeLimit → k v ≡ k₀ v) → (d : ℕ) → d < K .m → flag f₀ d ≡ arrow K (flag rem) k d
+  calm-arrows el n h d l = F d l ∙ sym (arrow-kept K (flag rem₀) e k₀ (false-T (sym (F e el) ∙ n)) d)
+      ∙ sym (arrow-local K (λ c. flag rem₀ c && not (eqb c e)) (flag rem) k₀ k d l (λ c cl j. g c) (h (K .end d) (C .nodes d l)))
+
+-- ---- both sides
+module _ (A : Edges) (strict : List Bool) (L : Links) (D : Tables A strict L) (x : arrays.State) (fs ft : List Bool) (r e : ℕ) (el : e < A .m) (z : Sized x)
+    (y : arrays.State) (i : y ≡ acted (A .sv) (A .st) x r e) where
+  module _ {quotaS quotaT : List ℕ} (K : Known A quotaS quotaT) (t : Trace) (S : Shown (instanceOf K) x fs ft t)
+      (ri : ruleOf (instanceOf K) (stateAt (S .stood)) ≡ r) (ei : edgeOf (instanceOf K) (stateAt (S .stood)) ≡ e) (nl : t .steps < A .m) where
+    abbrev G : Instance
+    G = instanceOf K
+
+    next : Stands G y (entered t e r)
+    next = stands-next K x t (S .stood) r e ri ei el nl z y i .0
+
+    -- the cut quotas, where the arrays of quotas stay
+    cutS-on : (v : ℕ) → v < nodeLimit → at (y .qs) v ≡ at (x .qs) v → cutS G (stateAt next) v ≡ cutS G (stateAt (S .stood)) v
+    cutS-on v w q = sym (next .holds .atS .cut-is v w) ∙ q ∙ S .stood .holds .atS .cut-is v w
+
+    cutT-on : (v : ℕ) → v < nodeLimit → at (y .qt) v ≡ at (x .qt) v → cutT G (stateAt next) v ≡ cutT G (stateAt (S .stood)) v
+    cutT-on v w q = sym (next .holds .atT .cut-is v w) ∙ q ∙ S .stood .holds .atT .cut-is v w
+
+    gone : Gone (x .rem) (y .rem) e
+    gone = acted-gone (A .sv) (A .st) x r e y i
+
+    calm : flag fs e ≡ false → flag ft e ≡ false → ((v : ℕ) → at (y .qs) v ≡ at (x .qs) v) → ((v : ℕ) → at (y .qt) v ≡ at (x .qt) v)
+        → Shown G y fs ft (entered t e r)
+    calm ns nt QS QT = record {
+      stood = next;
+      fromS = calm-arrows (surveyors G) (K .law .atS) (L .cellS) (cellsS D K) (x .rem) (y .rem) e gone (cutS G (stateAt (S .stood))) (cutS G (stateAt next)) fs
+          (S .fromS) el ns (λ v w. cutS-on v w (QS v));
+      fromT = calm-arrows (stands G) (K .law .atT) (L .cellT) (cellsT D K) (x .rem) (y .rem) e gone (cutT G (stateAt (S .stood))) (cutT G (stateAt next)) ft
+          (S .fromT) el nt (λ v w. cutT-on v w (QT v));
+    }
+
+    painted : (fs′ ft′ saws sawt : List Bool)
+        → Repainted (A .m) (A .sv) (A .st) (L .cellS) (L .cellT) (y .qs) (y .qt) (y .rem) (at (A .sv) e) (at (A .st) e) fs ft fs′ ft′ saws sawt
+        → Shown G y fs′ ft′ (entered t e r)
+    painted fs′ ft′ saws sawt R = record {
+      stood = next;
+      fromS = painted-on (surveyors G) (K .law .atS) (L .cellS) (cellsS D K) (x .rem) (y .rem) e gone (cutS G (stateAt (S .stood))) (cutS G (stateAt next)) fs
+          (S .fromS) (D .fitS e el) (A .st) (at (y .qs) (at (A .sv) e)) (R .fromT) fs′ sawt (R .atS)
+          (sym (next .holds .atS .cut-is (at (A .sv) e) (D .fitS e el)))
+          (λ v w n. cutS-on v w (acted-qs (A .sv) (A .st) x r e y i v n));
+      fromT = painted-on (stands G) (K .law .atT) (L .cellT) (cellsT D K) (x .rem) (y .rem) e gone (cutT G (stateAt (S .stood))) (cutT G (stateAt next)) ft
+          (S .fromT) (D .fitT e el) (A .sv) (at (y .qt) (at (A .st) e)) (R .fromS) ft′ saws (R .atT)
+          (sym (next .holds .atT .cut-is (at (A .st) e) (D .fitT e el)))
+          (λ v w n. cutT-on v w (acted-qt (A .sv) (A .st) x r e y i v n));
+    }
+
+  pub shown-calm : flag fs e ≡ false → flag ft e ≡ false → ((v : ℕ) → at (y .qs) v ≡ at (x .qs) v) → ((v : ℕ) → at (y .qt) v ≡ at (x .qt) v)
+      → ShownOn A x fs ft r e y fs ft
+  shown-calm ns nt QS QT quotaS quotaT K t S ri ei nl = calm K t S ri ei nl ns nt QS QT
+
+  pub shown-painted : (fs′ ft′ saws sawt : List Bool)
+      → Repainted (A .m) (A .sv) (A .st) (L .cellS) (L .cellT) (y .qs) (y .qt) (y .rem) (at (A .sv) e) (at (A .st) e) fs ft fs′ ft′ saws sawt
+      → ShownOn A x fs ft r e y fs′ ft′
+  shown-painted fs′ ft′ saws sawt R quotaS quotaT K t S ri ei nl = painted K t S ri ei nl fs′ ft′ saws sawt R
