@@ -64,7 +64,6 @@ returns-2 c =
     let p = b24 .before .before .before .pre in
     let A = edges (a .m) (a .sv .now) (a .st .now) (a .rs .now) (a .rt .now) (a .tied .now) in
     let L = links (a .ns .now) (a .hs .now) (a .nt .now) (a .ht .now) (a .cs .now) (a .ct .now) in
-    let D = p .0 .1 in
     let x = whole (a .rem .now) (a .fixed .now) (a .qs .now) (a .qt .now) (a .ds .now) (a .dt .now) in
     let i = b12 .before .before .before .before .act .ensures in
     let E = c .anew .ensures in
@@ -78,7 +77,7 @@ returns-2 c =
       (
         N .onward (a .rem .now) (a .qs .now) (a .qt .now) (acted-gone (a .sv .now) (a .st .now) x (a .rule) (a .e) _ i)
             (acted-qs (a .sv .now) (a .st .now) x (a .rule) (a .e) _ i) (acted-qt (a .sv .now) (a .st .now) x (a .rule) (a .e) _ i),
-        shown-painted A (a .strict .now) L D x (a .fs .now) (a .ft .now) (a .rule) (a .e) (p .0 .0) (p .1 .0) _ i _ _ (N .saws) (N .sawt) (N .painted),
+        shown-painted A (a .strict .now) L (p .0 .1) x (a .fs .now) (a .ft .now) (a .rule) (a .e) (p .0 .0) (p .1 .0) _ i _ _ (N .saws) (N .sawt) (N .painted),
       ),
     )
 
