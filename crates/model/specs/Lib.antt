@@ -31,6 +31,7 @@ pub mod ChangeCases
 pub mod DeskCases
 pub mod CompareCases
 pub mod DeskChangeCases
+pub mod LentCases
 pub mod ProposalCases
 pub mod SeasonCases
 pub mod GroupCases
