@@ -304,7 +304,7 @@ impl Desk {
         c.reply
     }
 
-    // A surveyor joins, with a quota and a list file: a length byte, then stand numbers, best first.
+    // A surveyor joins, with a quota and a list file: a length byte, then entries of a stand number and a shift, best first.
     pub fn join(
         self,
         quota: u8,

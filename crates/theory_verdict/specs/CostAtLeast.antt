@@ -1,5 +1,5 @@
 -- Nothing of less than n arcs costs less than k: what the search finds out level by level (Levels), and what the votes then follow
--- from (Cutting). What a walk, an alternating path and its cost are, walks says (Whole, LemmaW).
+-- from (Cutting). What a walk, an alternating path and its cost are is in AlternatingPath and LemmaW.
 use Prim.Native.Nat.{ℕ}
 use mathlib.Core.Bool.{Bool}
 use Rattle.model.specs.Instance.{Instance}
