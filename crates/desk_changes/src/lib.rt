@@ -4,9 +4,6 @@ ghost use Rattle.desk_changes.specs.AfterChange.{FoundOn, ChangeDone, Jo
 use desk_changed_files::Change;
 use desk_files::Files;
 use desk_find::Searched;
-use limits::DIARY_SIZE;
-use limits::LEFT_SIZE;
-use limits::PLAN_SIZE;
 
 // the finder behind a change, or the change's refusal
 pub(crate) fn found_on(
@@ -43,8 +40,8 @@ pub fn join(
     ensures { λ r. ⌜ JoinDone files quota (now (list .entry)) room (now (left .entry)) (now (plan .entry)) (now (rival .entry)) r (now (left .exit))
         (now (plan .exit)) (now (rival .exit)) ⌝ }
 {
-    let small = (left.len() < LEFT_SIZE) | ((plan.len() < PLAN_SIZE) | (rival.len() < PLAN_SIZE));
-    let c = desk_changed_files::joined(files, (room < DIARY_SIZE) | small, quota, list);
+    let short = desk_buffers::finder_short(room, left.len(), plan.len(), rival.len());
+    let c = desk_changed_files::joined(files, short, quota, list);
     found_on(c, room, left, plan, rival)
 }
 
@@ -60,7 +57,7 @@ pub fn leave(
     ensures { λ r. ⌜ ChangeDone files (λ R. leaveOn R number) number room (now (left .entry)) (now (plan .entry)) (now (rival .entry)) r (now (left .exit))
         (now (plan .exit)) (now (rival .exit)) ⌝ }
 {
-    let small = (left.len() < LEFT_SIZE) | ((plan.len() < PLAN_SIZE) | (rival.len() < PLAN_SIZE));
-    let c = desk_changed_files::departed(files, (room < DIARY_SIZE) | small, number);
+    let short = desk_buffers::finder_short(room, left.len(), plan.len(), rival.len());
+    let c = desk_changed_files::departed(files, short, number);
     found_on(c, room, left, plan, rival)
 }

@@ -102,7 +102,11 @@ sizes room l p v e =
     none true b e = absurd (subst T e tt)
     none false b e = (refl, e)
 
-module _ {roster file : List ℕ} (room : ℕ) (l p v : List ℕ) {k : OnDesk} (F : LoadedFrom roster file false (short room l p v) k) where
+module _ {roster file : List ℕ} (room : ℕ) (l p v : List ℕ) {b : Bool} {k : OnDesk} (is : b ≡ short room l p v) (loaded : LoadedFrom roster file false b k)
+    where
+  F : LoadedFrom roster file false (short room l p v) k
+  F = subst (λ b. LoadedFrom roster file false b k) is loaded
+
   -- the state's refusal
   pub out-refused : 0 < k .refusal → (o : Outcome) → Refuses (k .refusal) o → Outcomes roster room l p v o l p v
   out-refused h o r = go (readRoster roster) (short room l p v) (F .refusal)

@@ -10,10 +10,7 @@ ghost use Rattle.desk_find.specs.Finding.{Done};
 use answers::Found;
 use desk_files::Files;
 use instance::Instance;
-use limits::DIARY_SIZE;
 use limits::FLAT_SIZE;
-use limits::LEFT_SIZE;
-use limits::PLAN_SIZE;
 
 // What the finder answers, with the diary as numbers, five a record, and the number of its records: 0 of them on a refusal.
 pub struct Outcome {
@@ -72,8 +69,8 @@ pub(crate) fn found(
     ensures { λ r. ⌜ Outcomes (now (roster .entry)) room (now (left .entry)) (now (plan .entry)) (now (rival .entry)) r (now (left .exit)) (now (plan .exit))
         (now (rival .exit)) ⌝ }
 {
-    let small = (left.len() < LEFT_SIZE) | ((plan.len() < PLAN_SIZE) | (rival.len() < PLAN_SIZE));
-    let l = desk_loaded::loaded(roster, held, false, (room < DIARY_SIZE) | small);
+    let short = desk_buffers::finder_short(room, left.len(), plan.len(), rival.len());
+    let l = desk_loaded::loaded(roster, held, false, short);
     let n = l.refusal;
     if 0 < n {
         return refused(n);

@@ -7,28 +7,32 @@ use Rattle.desk_find.proofs.found.Tie as tie
 
 returns : tie.Need-returns
 returns c =
-    let a = c .before .before .before .before .before .before .before .before .args in
-    let l = c .before .before .loaded in
-    out-refused (a .room) (a .left .now) (a .plan .now) (a .rival .now) (l .ensures) (c .before .if1 .taken) (c .refused .result) (c .refused .ensures)
+    let s = c .before .before .before in
+    let a = s .before .before .before .before .before .before .args in
+    out-refused (a .room) (a .left .now) (a .plan .now) (a .rival .now) (s .finder-short .ensures) (c .before .before .loaded .ensures)
+    (c .before .if1 .taken) (c .refused .result) (c .refused .ensures)
 
 worked-requires : tie.Need-worked-requires
 worked-requires c κs =
-    let a = c .before .before .before .before .before .before .before .before .before .before .args in
-    let l = c .before .before .before .before .loaded in
+    let s = c .before .before .before .before .before in
+    let a = s .before .before .before .before .before .before .args in
+    let l = c .before .before .before .before .loaded .ensures in
     let z = c .before .before .before .if1 .left in
-    let (R, e) = its-roster z (l .ensures) in
-    let s = long-enough (a .room) (a .left .now) (a .plan .now) (a .rival .now) (l .ensures) z in
-    (l .ensures .instance R e .0, s .0, s .1, s .2)
+    let (R, e) = its-roster z l in
+    let long = long-enough (a .room) (a .left .now) (a .plan .now) (a .rival .now) (s .finder-short .ensures) l z in
+    (l .instance R e .0, long .0, long .1, long .2)
 
 returns-2 : tie.Need-returns-2
 returns-2 c =
-    let a = c .before .before .before .before .before .before .before .before .before .before .before .before .before .before .before .before .before .args in
-    let l = c .before .before .before .before .before .before .before .before .before .before .before .loaded in
-    let w = c .before .before .before .before .before .before .worked in
-    out-found (a .room) (a .left .now) (a .plan .now) (a .rival .now) (l .ensures)
-    (c .before .before .before .before .before .before .before .before .before .before .if1 .left) (w .result) _ _ _ (w .ensures)
+    let w = c .before .before .before .before .before .before in
+    let i = w .before .before .before .before in
+    let s = i .before .before in
+    let a = s .before .before .before .before .before .before .args in
+    out-found (a .room) (a .left .now) (a .plan .now) (a .rival .now) (s .finder-short .ensures) (i .before .loaded .ensures) (i .if1 .left)
+    (w .worked .result) _ _ _ (w .worked .ensures)
 
 pub found-spec : {M : Type 1} → statement M
 found-spec =
     tie.close
-    (tie.spec (λ c κs. search needs) (λ c κs. search needs) returns worked-requires (λ c. search needs) (λ c. search needs) (λ c. search needs) returns-2)
+    (tie.spec (λ c κs. search needs) (λ c κs. search needs) (λ c κs. search needs) returns worked-requires (λ c. search needs) (λ c. search needs)
+    (λ c. search needs) returns-2)
