@@ -6,7 +6,7 @@ use mathlib.Core.Option.{some}
 use Rattle.model.specs.Roster.{Roster}
 use Rattle.model.specs.Edges.{instanceOf}
 use Rattle.model.specs.Plans.{Plan}
-use Rattle.model.specs.Desk.{planHeld, Call, judge, Answer}
+use Rattle.model_desk.specs.Desk.{planHeld, Call, judge, Answer}
 use Rattle.theory_finder.specs.RivalSaid.{RivalSaid}
 use Rattle.answers.specs.declared.Verdict.{Verdict}
 use Rattle.answers.specs.VerdictCases.{verdictShown}

@@ -2,8 +2,8 @@
 // fields. A refused call hands it back as it came, and so does every call
 // that takes nothing in.
 ghost use mathlib.Core.Path.{_≡_};
-ghost use Rattle.model.specs.Desk.{opening, loadRoster, loadPlan, writeRosterTo, writePlanTo, compare, blocking};
-ghost use Rattle.model.specs.Desk.{propose, commit};
+ghost use Rattle.model_desk.specs.Desk.{opening, loadRoster, loadPlan, writeRosterTo, writePlanTo, compare, blocking};
+ghost use Rattle.model_desk.specs.Desk.{propose, commit};
 ghost use Rattle.desk_files.specs.Held.{heldOf};
 ghost use Rattle.abi_numbers.specs.Numbers.{refusalIn, outcomeIn, proposedIn, comparedIn, blockerIn};
 ghost use Rattle.abi.specs.Desks.{Served, JudgedFor};

@@ -1,7 +1,7 @@
 // The finder for C, and joining and leaving, which are lent its buffers: the desk goes in by value and comes back; the diary is a lent list of step
 // records.
 ghost use mathlib.Core.Path.{_≡_};
-ghost use Rattle.model.specs.Desk.{join, leave};
+ghost use Rattle.model_desk.specs.Desk.{join, leave};
 ghost use Rattle.desk_find.specs.Finding.{Finds};
 ghost use Rattle.desk_changes.specs.Changes.{Changes};
 ghost use Rattle.abi.specs.Finds.{numbersOf, Numbered};

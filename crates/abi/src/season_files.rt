@@ -1,7 +1,7 @@
 // Old season files for C (request W-205): a roster as a file, without a desk, and a plan against the roster that a desk holds; each into a lent
 // buffer, in the layout of today or of an old season. The numbers are a refusal, or 0 and the length written.
-ghost use Rattle.model.specs.Seasons.{toNew, toOld};
-ghost use Rattle.model.specs.Desk.{planToNew, planToOld};
+ghost use Rattle.model_desk.specs.Seasons.{toNew, toOld};
+ghost use Rattle.model_desk.specs.Desk.{planToNew, planToOld};
 ghost use Rattle.seasons.specs.Converting.{Converts};
 ghost use Rattle.desk_looks.specs.Seasons.{Turns};
 ghost use Rattle.abi.specs.Seasons.{Told};

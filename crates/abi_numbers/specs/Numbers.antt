@@ -7,9 +7,9 @@ use lib.IntN.{ℤ, pos}
 use Rattle.model.specs.Reading as reading
 use Rattle.model.specs.Reading.{Reading, accepted}
 use Rattle.model.specs.Refusal as model
-use Rattle.model.specs.Compare as compare
-use Rattle.model.specs.Desk.{NoneKind, left, rivalled, Answer, refused, loaded, wrote, plan, none, strong, popular, beaten, votes, refusedPart}
-use Rattle.model.specs.Desk.{blockedBy, unblocked, bothVotes, committed}
+use Rattle.model_desk.specs.Compare as compare
+use Rattle.model_desk.specs.Desk.{NoneKind, left, rivalled, Answer, refused, loaded, wrote, plan, none, strong, popular, beaten, votes, refusedPart}
+use Rattle.model_desk.specs.Desk.{blockedBy, unblocked, bothVotes, committed}
 use Rattle.answers.specs.declared.Group.{Group}
 use Rattle.answers.specs.declared.Winner.{Winner}
 use Rattle.answers.specs.declared.Winner.the-variants as winner

@@ -1,5 +1,5 @@
 -- What each case of the code's answer says, in document 01's words: "yes with some such pair, or no".
-use Rattle.model.specs.Desk as model
+use Rattle.model_desk.specs.Desk as model
 use Rattle.answers.specs.GroupCases.{groupShown}
 use Rattle.answers.specs.declared.Blocked.{Blocked}
 use Rattle.answers.specs.declared.Blocked.the-variants.{Pair, Unblocked, Refused}

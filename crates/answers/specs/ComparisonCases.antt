@@ -4,9 +4,9 @@ use Prim.Native.Nat.{ℕ}
 use mathlib.Core.Path.{_≡_, refl}
 use mathlib.Core.List.{List}
 use Rattle.model.specs.Refusal.{groupOf}
-use Rattle.model.specs.Compare as compare
-use Rattle.model.specs.Compare.{Part, winnerPart}
-use Rattle.model.specs.Desk as model
+use Rattle.model_desk.specs.Compare as compare
+use Rattle.model_desk.specs.Compare.{Part, winnerPart}
+use Rattle.model_desk.specs.Desk as model
 use Rattle.answers.specs.GroupCases.{groupShown, groupCase}
 use Rattle.answers.specs.declared.Winner.{Winner}
 use Rattle.answers.specs.declared.Winner.the-variants.{First, Second, Both, Neither}

@@ -1,6 +1,6 @@
 -- What each case of the code's answer says, in document 01's words: the finder's answer as the model's desk gives it.
 use mathlib.Core.Path.{_≡_, refl, sym, ap, _∙_}
-use Rattle.model.specs.Desk as model
+use Rattle.model_desk.specs.Desk as model
 use Rattle.answers.specs.GroupCases.{groupShown, groupCase, case-shown}
 use Rattle.answers.specs.declared.Found.{Found}
 use Rattle.answers.specs.declared.Found.the-variants as found

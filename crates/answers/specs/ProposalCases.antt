@@ -2,7 +2,7 @@
 use Prim.Native.Nat.{ℕ}
 use mathlib.Core.Path.{_≡_, refl, ap}
 use Rattle.model.specs.Refusal.{groupOf}
-use Rattle.model.specs.Desk as model
+use Rattle.model_desk.specs.Desk as model
 use Rattle.answers.specs.GroupCases.{groupShown}
 use Rattle.answers.specs.declared.Proposal as proposal
 use Rattle.answers.specs.declared.Proposal.the-variants as proposals

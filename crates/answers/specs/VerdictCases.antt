@@ -1,5 +1,5 @@
 -- What each case of the code's answer says, in document 01's words: the verdict on a plan, with the vote against the rival.
-use Rattle.model.specs.Desk as model
+use Rattle.model_desk.specs.Desk as model
 use Rattle.answers.specs.GroupCases.{groupShown}
 use Rattle.answers.specs.declared.Verdict.{Verdict}
 use Rattle.answers.specs.declared.Verdict.the-variants.{Strong, Popular, Beaten, Refused}

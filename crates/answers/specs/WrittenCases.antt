@@ -7,7 +7,7 @@ use mathlib.Core.List.{List}
 use lib.ListN.{length, take, drop}
 use lib.Seq.{take-append-seam}
 use Rattle.model.specs.Reading.{Reading, accepted, refused}
-use Rattle.model.specs.Desk as model
+use Rattle.model_desk.specs.Desk as model
 use Rattle.answers.specs.GroupCases.{groupShown}
 use Rattle.answers.specs.declared.Written.{Written}
 use Rattle.answers.specs.declared.Written.the-variants.{Wrote, Refused}

@@ -8,7 +8,7 @@ use Rattle.model.specs.Limits.{emptyRank}
 use Rattle.model.specs.Instance.{Instance}
 use Rattle.model.specs.Plans.{Plan, on}
 use Rattle.model.specs.Blocking.{someBlocks, topBlocking}
-use Rattle.model.specs.Desk.{blockingAnswer}
+use Rattle.model_desk.specs.Desk.{blockingAnswer}
 use Rattle.arrays.specs.ArrayInstance.{at, flag}
 use Rattle.answers.specs.declared.Blocked.{Blocked}
 use Rattle.answers.specs.declared.Blocked.the-variants.{Pair, Unblocked}

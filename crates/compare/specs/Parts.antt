@@ -7,8 +7,8 @@ use lib.ListN.{length, take, drop, length-drop}
 use lib.Seq.{take-length}
 use lib.IntN.{ℤ}
 use denote.Ref.{RefT, ptr, now}
-use Rattle.model.specs.Compare as compare
-use Rattle.model.specs.Compare.{File, firstFile, secondFile, Part, winnerPart}
+use Rattle.model_desk.specs.Compare as compare
+use Rattle.model_desk.specs.Compare.{File, firstFile, secondFile, Part, winnerPart}
 use Rattle.answers.specs.declared.Group.{Group}
 use Rattle.answers.specs.declared.Winner.{Winner}
 use Rattle.answers.specs.declared.Winner.the-variants.{First, Second, Both, Neither}

@@ -15,7 +15,7 @@ use Rattle.model.specs.Instance as model
 use Rattle.model.specs.Plans.{Plan, on, voteOf}
 use Rattle.model.specs.PlanFile.{edgesIn, readPlan}
 use Rattle.model.specs.Vote.{vote}
-use Rattle.model.specs.Compare.{votes, winnerOf, compared, secondJudged, firstJudged, comparisonOf}
+use Rattle.model_desk.specs.Compare.{votes, winnerOf, compared, secondJudged, firstJudged, comparisonOf}
 use Rattle.theory_files.specs.Reads.{isBytes}
 use Rattle.theory_instance.specs.Lawful.{Matching}
 use Rattle.theory_files.specs.PlanFiles.{plan-read-within, plan-read-matching, plan-few}

@@ -3,7 +3,7 @@
 ghost use mathlib.Core.Path.{_≡_};
 ghost use denote.Ref.{ptr};
 ghost use Rattle.model.specs.PlanFile.{readPlan};
-ghost use Rattle.model.specs.Compare.{winnerOf, compared, secondJudged, comparisonOf};
+ghost use Rattle.model_desk.specs.Compare.{winnerOf, compared, secondJudged, comparisonOf};
 ghost use Rattle.answers.specs.ComparisonCases.{winnerCase, partShown, comparisonCase};
 ghost use Rattle.instance.specs.Decoded.{shownBy};
 ghost use Rattle.instance.specs.Loaded.{Loaded};

@@ -39,7 +39,7 @@ use denote.Triple.Statement.{Contract, Triple}
 use denote.Triple.Table.{cited}
 use denote.Triple.End.{Kepts}
 use denote.Triple.Walked.{says}
-use Rattle.model.specs.Desk.{onto}
+use Rattle.model_desk.specs.Desk.{onto}
 use Rattle.diary.specs.declared.Step.{Step}
 use Rattle.diary.specs.LentSteps.{stepsIn}
 use Rattle.diary.proofs.Step as T

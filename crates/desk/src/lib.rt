@@ -2,9 +2,9 @@
 // a plan." W-207: a proposal may stand beside a plan. What it holds is said by its bytes alone, so any field values may come in: a length above its array is cut to it, bytes that
 // are no roster are nothing loaded, and bytes that are no plan of the roster are no plan held. No call asks anything of its caller.
 ghost use mathlib.Core.Path.{_≡_};
-ghost use Rattle.model.specs.Changes.{leaveOn};
-ghost use Rattle.model.specs.Desk.{opening, loadRoster, loadPlan, writeRosterTo, writePlanTo, join, leave, compare, blocking, planToNew, planToOld};
-ghost use Rattle.model.specs.Desk.{propose, commit};
+ghost use Rattle.model_changes.specs.Changes.{leaveOn};
+ghost use Rattle.model_desk.specs.Desk.{opening, loadRoster, loadPlan, writeRosterTo, writePlanTo, join, leave, compare, blocking, planToNew, planToOld};
+ghost use Rattle.model_desk.specs.Desk.{propose, commit};
 ghost use Rattle.answers.specs.FileCases.{fileShown};
 ghost use Rattle.answers.specs.ProposalCases.{proposalShown, commitShown};
 ghost use Rattle.answers.specs.WrittenCases.{writtenShown};

@@ -1,7 +1,7 @@
 // Surveyors who join and leave in the field (request W-202): the desk's files with the changed roster, the held plan less the leaver's pairs, and the
 // proposal open or closed (W-207); or the refusal.
 ghost use lib.ListN.{take};
-ghost use Rattle.model.specs.Changes.{joinOn, leaveOn};
+ghost use Rattle.model_changes.specs.Changes.{joinOn, leaveOn};
 ghost use Rattle.instance.specs.Decoded.{shownBy};
 ghost use Rattle.instance.specs.Loaded.{Loaded};
 ghost use Rattle.desk_changed_files.specs.Changing.{Unchanged, StoredAs, ClosedFor, Taken, ChangedTo};

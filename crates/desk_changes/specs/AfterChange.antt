@@ -4,7 +4,7 @@ use mathlib.Core.Path.{_≡_, subst}
 use mathlib.Core.Bool.{Bool}
 use mathlib.Core.List.{List}
 use lib.Dec.{T}
-use Rattle.model.specs.Changes.{joinOn}
+use Rattle.model_changes.specs.Changes.{joinOn}
 use Rattle.theory_files.specs.Reads.{isBytes}
 use Rattle.desk_files.specs.declared.Files.{Files}
 use Rattle.desk_find.specs.Outcomes.{short, Kept}

@@ -20,14 +20,14 @@ use Rattle.model.specs.Instance.{Instance}
 use Rattle.model.specs.Plans.{Plan, on, plansOf}
 use Rattle.model.specs.PlanFile as plans
 use Rattle.model.specs.PlanFile.{readPlanBy, readPlan}
-use Rattle.model.specs.Changes.{joinOn, leaveOn, gone, carried}
+use Rattle.model_changes.specs.Changes.{joinOn, leaveOn, gone, carried}
 use Rattle.model.specs.Reduction.{stepsOf}
 use Rattle.model.specs.Finder as F
 use Rattle.model.specs.Finder.{Record, finderOf}
-use Rattle.model.specs.Desk as D
-use Rattle.model.specs.Desk.{Held, roster, planned, proposed, needsProposal}
-use Rattle.model.specs.Desk.{Call, Lends, find, join, leave, Answer, onto, needsRoster, needsPlan, finderShort, lentShort, stateRefusal, refusal}
-use Rattle.model.specs.Desk.{stateRefused, onRoster, answerOn, lentOn, foundAnswer, foundOn, foundBytes, changedAnswer, changedBytes, withChange, deskOn}
+use Rattle.model_desk.specs.Desk as D
+use Rattle.model_desk.specs.Desk.{Held, roster, planned, proposed, needsProposal}
+use Rattle.model_desk.specs.Desk.{Call, Lends, find, join, leave, Answer, onto, needsRoster, needsPlan, finderShort, lentShort, stateRefusal, refusal}
+use Rattle.model_desk.specs.Desk.{stateRefused, onRoster, answerOn, lentOn, foundAnswer, foundOn, foundBytes, changedAnswer, changedBytes, withChange, deskOn}
 use Rattle.theory_verdict.specs.Rival.{rivalOf}
 use Rattle.theory_finder.specs.Choices.{chosen}
 use Rattle.theory_files.specs.Reads.{isBytes, accepted-value}

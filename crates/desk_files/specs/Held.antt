@@ -12,8 +12,8 @@ use Rattle.model.specs.RosterFile.{readRosterBy, readRoster}
 use Rattle.model.specs.Edges.{instanceOf}
 use Rattle.model.specs.Plans.{Plan}
 use Rattle.model.specs.PlanFile.{readPlan}
-use Rattle.model.specs.Desk.{Held, nothing, roster, planned, proposed, opening, loadRoster, loadPlan, propose, noRoster, noPlan, onRoster, onPlan}
-use Rattle.model.specs.Desk.{withRoster, withPlan, withProposal, stateRefusal, deskAfter}
+use Rattle.model_desk.specs.Desk.{Held, nothing, roster, planned, proposed, opening, loadRoster, loadPlan, propose, noRoster, noPlan, onRoster, onPlan}
+use Rattle.model_desk.specs.Desk.{withRoster, withPlan, withProposal, stateRefusal, deskAfter}
 use Rattle.theory_files.specs.Reads.{isBytes}
 use Rattle.theory_finder.specs.Desks.{sound, desk-sound}
 use Rattle.desk_loaded.specs.Held.{heldPlan, held, stateNumber}

@@ -4,8 +4,8 @@
 use mathlib.Core.Path.{_≡_, sym, ap, subst}
 use mathlib.Core.List.{List, [], _∷_}
 use lib.Dec.{T}
-use Rattle.model.specs.Desk.{Call, Answer, opening, answerOf, deskAfter}
-use Rattle.model.specs.History.{eventOf, eventsOf, lastPlan, heldPairs}
+use Rattle.model_desk.specs.Desk.{Call, Answer, opening, answerOf, deskAfter}
+use Rattle.model_desk.specs.History.{eventOf, eventsOf, lastPlan, heldPairs}
 use Rattle.theory_finder.specs.Choices.{chosen}
 use Rattle.theory_finder.specs.Desks.{lendsBytes}
 use Rattle.theory_finder.specs.HistoryPlan.{Told, told-start, told-step, told-plan}

@@ -7,14 +7,14 @@ use mathlib.Core.List.{List, []}
 use Rattle.model.specs.RosterFile.{writeRoster}
 use Rattle.model.specs.Edges.{instanceOf}
 use Rattle.model.specs.PlanFile as plans
-use Rattle.model.specs.Changes.{gone}
-use Rattle.model.specs.Compare as model
-use Rattle.model.specs.Compare.{Part, winnerPart}
-use Rattle.model.specs.Desk.{Held, Call, loadRoster, loadPlan, writeRosterTo, writePlanTo, find, join, leave, judge, compare, blocking, Answer}
-use Rattle.model.specs.Desk.{planToNew, planToOld, propose, commit}
-use Rattle.model.specs.Desk.{onRoster, onPlan, refused, loaded, wrote, plan, none, strong, popular, beaten, votes, refusedPart, blockedBy, unblocked}
-use Rattle.model.specs.Desk.{bothVotes, committed}
-use Rattle.model.specs.Desk.{answerOf, lentAfter, deskAfter}
+use Rattle.model_changes.specs.Changes.{gone}
+use Rattle.model_desk.specs.Compare as model
+use Rattle.model_desk.specs.Compare.{Part, winnerPart}
+use Rattle.model_desk.specs.Desk.{Held, Call, loadRoster, loadPlan, writeRosterTo, writePlanTo, find, join, leave, judge, compare, blocking, Answer}
+use Rattle.model_desk.specs.Desk.{planToNew, planToOld, propose, commit}
+use Rattle.model_desk.specs.Desk.{onRoster, onPlan, refused, loaded, wrote, plan, none, strong, popular, beaten, votes, refusedPart, blockedBy, unblocked}
+use Rattle.model_desk.specs.Desk.{bothVotes, committed}
+use Rattle.model_desk.specs.Desk.{answerOf, lentAfter, deskAfter}
 use Rattle.theory_finder.specs.Choices.{chosen}
 use Rattle.desk_files.specs.declared.Files.{Files}
 use Rattle.desk_files.specs.Held.{rosterBytes, planBytes, proposalBytes, heldOf}

@@ -15,10 +15,10 @@ use Rattle.model.specs.Edges.{instanceOf}
 use Rattle.model.specs.Plans.{Plan}
 use Rattle.model.specs.PlanFile as plans
 use Rattle.model.specs.PlanFile.{readPlan}
-use Rattle.model.specs.Desk.{Held, Call, loadRoster, loadPlan, writeRosterTo, writePlanTo, find, join, leave, judge, compare, blocking, Answer}
-use Rattle.model.specs.Desk.{planToNew, planToOld, propose, commit, needsProposal, noProposal}
-use Rattle.model.specs.Desk.{needsRoster, needsPlan, lentShort, noRoster, noPlan, stateRefusal, answerOn, lentOn, stateRefused, answerOf, lentAfter}
-use Rattle.model.specs.Desk.{deskOn, deskAfter}
+use Rattle.model_desk.specs.Desk.{Held, Call, loadRoster, loadPlan, writeRosterTo, writePlanTo, find, join, leave, judge, compare, blocking, Answer}
+use Rattle.model_desk.specs.Desk.{planToNew, planToOld, propose, commit, needsProposal, noProposal}
+use Rattle.model_desk.specs.Desk.{needsRoster, needsPlan, lentShort, noRoster, noPlan, stateRefusal, answerOn, lentOn, stateRefused, answerOf, lentAfter}
+use Rattle.model_desk.specs.Desk.{deskOn, deskAfter}
 use Rattle.theory_finder.specs.Choices.{chosen}
 use Rattle.desk_files.specs.declared.Files.{Files}
 use Rattle.instance.specs.Decoded.{shownBy}

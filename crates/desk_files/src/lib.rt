@@ -6,7 +6,7 @@ ghost use mathlib.Core.Bool.{true};
 ghost use Prim.Native.Nat.{_≤_};
 ghost use lib.ListN.{length, take};
 ghost use Rattle.model.specs.Limits.{planSize, rosterSize};
-ghost use Rattle.model.specs.Desk.{opening, onto};
+ghost use Rattle.model_desk.specs.Desk.{opening, onto};
 ghost use Rattle.desk_loaded.specs.OnDesk.{LoadedFrom};
 ghost use Rattle.desk_files.specs.Held.{rosterBytes, planBytes, heldOf};
 ghost use Rattle.desk_files.specs.Replies.{RosterIn, PlanIn, ProposalIn, CommitIn};

@@ -20,7 +20,7 @@ use Rattle.model.specs.PlanFile.{readPlan}
 use Rattle.model.specs.Reduction.{stepsOf}
 use Rattle.model.specs.Finder as F
 use Rattle.model.specs.Finder.{recordOf, diaryOf, finderOf}
-use Rattle.model.specs.Desk.{Call, find, refused, refusal, foundOn, foundBytes, lentShort, stateRefusal, answerOn, lentOn, foundAnswer, foundWritten, onto}
+use Rattle.model_desk.specs.Desk.{Call, find, refused, refusal, foundOn, foundBytes, lentShort, stateRefusal, answerOn, lentOn, foundAnswer, foundWritten, onto}
 use Rattle.theory_verdict.specs.Rival.{rivalOf}
 use Rattle.theory_finder.specs.Choices.{chosen}
 use Rattle.theory_reduction.specs.Course.{steps-few}

@@ -9,7 +9,7 @@ use Rattle.model.specs.Roster.{Roster}
 use Rattle.model.specs.Edges.{instanceOf}
 use Rattle.model.specs.Plans.{Plan}
 use Rattle.model.specs.PlanFile.{readPlan}
-use Rattle.model.specs.Desk.{Held, nothing, roster, planned, noRoster, noPlan}
+use Rattle.model_desk.specs.Desk.{Held, nothing, roster, planned, noRoster, noPlan}
 
 -- for each case of the plan's reading, and of the roster's
 abbrev pub heldPlan : Roster → Reading Plan → Held

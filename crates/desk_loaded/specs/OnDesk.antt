@@ -16,7 +16,7 @@ use Rattle.model.specs.RosterFile.{readRoster, writeRoster}
 use Rattle.model.specs.Edges.{instanceOf}
 use Rattle.model.specs.Plans.{Plan, on, plansOf}
 use Rattle.model.specs.PlanFile.{edgesIn, planBytes, readPlan}
-use Rattle.model.specs.Desk.{Held, noRoster, noPlan}
+use Rattle.model_desk.specs.Desk.{Held, noRoster, noPlan}
 use Rattle.theory_files.specs.Reads.{isBytes}
 use Rattle.theory_files.specs.Rosters.{read-write, read-fits}
 use Rattle.theory_files.specs.PlanFiles.{plan-read-within, plan-read-write}

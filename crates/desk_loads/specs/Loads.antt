@@ -13,8 +13,8 @@ use Rattle.model.specs.RosterFile.{readRoster}
 use Rattle.model.specs.Edges.{instanceOf}
 use Rattle.model.specs.Plans.{Plan}
 use Rattle.model.specs.PlanFile.{readPlanBy, readPlan}
-use Rattle.model.specs.Desk.{Held, loadRoster, loadPlan, refusal, stateRefusal, answerOf, answerOn, loadedRoster, loadedPlan, withRoster, withPlan}
-use Rattle.model.specs.Desk.{deskOn, deskAfter}
+use Rattle.model_desk.specs.Desk.{Held, loadRoster, loadPlan, refusal, stateRefusal, answerOf, answerOn, loadedRoster, loadedPlan, withRoster, withPlan}
+use Rattle.model_desk.specs.Desk.{deskOn, deskAfter}
 use Rattle.theory_files.specs.Reads.{isBytes}
 use Rattle.theory_files.specs.Rosters.{accepted-size}
 use Rattle.theory_files.specs.PlanFiles.{plan-accepted-size}

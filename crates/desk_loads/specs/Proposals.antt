@@ -19,10 +19,10 @@ use Rattle.model.specs.Edges.{instanceOf}
 use Rattle.model.specs.Instance.{Instance}
 use Rattle.model.specs.Plans.{Plan, voteOf}
 use Rattle.model.specs.PlanFile.{readPlanBy, readPlan}
-use Rattle.model.specs.Compare as model
-use Rattle.model.specs.Compare.{compared, secondJudged, comparisonOf}
-use Rattle.model.specs.Desk.{Held, nothing, roster, planned, proposed, Answer, refused, refusal, bothVotes, committed, propose, commit, proposalAnswer, withProposal}
-use Rattle.model.specs.Desk.{stateRefusal, answerOf, answerOn, deskOn, deskAfter}
+use Rattle.model_desk.specs.Compare as model
+use Rattle.model_desk.specs.Compare.{compared, secondJudged, comparisonOf}
+use Rattle.model_desk.specs.Desk.{Held, nothing, roster, planned, proposed, Answer, refused, refusal, bothVotes, committed, propose, commit, proposalAnswer, withProposal}
+use Rattle.model_desk.specs.Desk.{stateRefusal, answerOf, answerOn, deskOn, deskAfter}
 use Rattle.theory_finder.specs.Choices.{chosen}
 use Rattle.theory_files.specs.Reads.{isBytes}
 use Rattle.theory_files.specs.PlanFiles.{plan-accepted-size}

@@ -1,5 +1,5 @@
 // Loading at the desk, proposing and committing: a file that is accepted is taken in, a refused one leaves everything as it was.
-ghost use Rattle.model.specs.Desk.{loadRoster, loadPlan, propose, commit};
+ghost use Rattle.model_desk.specs.Desk.{loadRoster, loadPlan, propose, commit};
 ghost use Rattle.answers.specs.FileCases.{fileShown};
 ghost use Rattle.answers.specs.ProposalCases.{proposalShown, commitShown};
 ghost use Rattle.desk_files.specs.Replies.{Replied};

@@ -18,10 +18,10 @@ use Rattle.model.specs.Plans.{Plan, on, verdictOf}
 use Rattle.model.specs.PlanFile as plans
 use Rattle.model.specs.PlanFile.{edgesIn, readPlan}
 use Rattle.model.specs.Blocking.{someBlocks, topBlocking}
-use Rattle.model.specs.Compare as outcome
-use Rattle.model.specs.Compare.{winnerPart, partOf, comparisonOf}
-use Rattle.model.specs.Desk.{writeRosterTo, writePlanTo, judge, compare, blocking, refusal, wrote, votes, refusedPart, onto, verdictAnswer}
-use Rattle.model.specs.Desk.{verdictWritten, comparisonAnswer, blockingAnswer}
+use Rattle.model_desk.specs.Compare as outcome
+use Rattle.model_desk.specs.Compare.{winnerPart, partOf, comparisonOf}
+use Rattle.model_desk.specs.Desk.{writeRosterTo, writePlanTo, judge, compare, blocking, refusal, wrote, votes, refusedPart, onto, verdictAnswer}
+use Rattle.model_desk.specs.Desk.{verdictWritten, comparisonAnswer, blockingAnswer}
 use Rattle.theory_verdict.specs.Rival.{rivalOf}
 use Rattle.arrays.specs.ArrayInstance.{at, flag}
 use Rattle.answers.specs.declared.Verdict.{Verdict}

@@ -13,9 +13,9 @@ use Rattle.model.specs.Instance.{Instance}
 use Rattle.model.specs.Edges.{instanceOf}
 use Rattle.model.specs.Plans.{Plan}
 use Rattle.model.specs.PlanFile.{readPlanBy, readPlan}
-use Rattle.model.specs.Compare.{Part, secondJudged, firstJudged, comparisonOf}
-use Rattle.model.specs.Desk as D
-use Rattle.model.specs.Desk.{Held, nothing, roster, planned, Answer, votes, refusedPart, compare, comparisonAnswer, answerOf, stateRefusal}
+use Rattle.model_desk.specs.Compare.{Part, secondJudged, firstJudged, comparisonOf}
+use Rattle.model_desk.specs.Desk as D
+use Rattle.model_desk.specs.Desk.{Held, nothing, roster, planned, Answer, votes, refusedPart, compare, comparisonAnswer, answerOf, stateRefusal}
 use Rattle.answers.specs.declared.Comparison.{Comparison}
 use Rattle.answers.specs.declared.Comparison.the-variants.{Votes, Refused}
 use Rattle.answers.specs.ComparisonCases.{partShown, comparisonShown}

@@ -12,7 +12,7 @@ use Rattle.model.specs.RosterFile.{readRoster}
 use Rattle.model.specs.Edges.{instanceOf}
 use Rattle.model.specs.Plans.{Plan, plansOf}
 use Rattle.model.specs.PlanFile.{readPlan}
-use Rattle.model.specs.Desk.{planHeld, judge}
+use Rattle.model_desk.specs.Desk.{planHeld, judge}
 use Rattle.theory_finder.specs.RivalSaid.{RivalSaid, rival-said}
 use Rattle.answers.specs.declared.Verdict.{Verdict}
 use Rattle.answers.specs.VerdictCases.{verdictShown}

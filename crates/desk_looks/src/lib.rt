@@ -1,5 +1,5 @@
 // The calls that leave the desk alike: "Finder, verdict, comparison, blocking and writing", but for the finder, and plans of old seasons.
-ghost use Rattle.model.specs.Desk.{writeRosterTo, writePlanTo, compare, blocking};
+ghost use Rattle.model_desk.specs.Desk.{writeRosterTo, writePlanTo, compare, blocking};
 ghost use Rattle.answers.specs.WrittenCases.{writtenShown};
 ghost use Rattle.answers.specs.ComparisonCases.{comparisonShown};
 ghost use Rattle.answers.specs.BlockedCases.{blockedShown};

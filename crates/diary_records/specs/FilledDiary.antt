@@ -9,7 +9,7 @@ use Rattle.lists.specs.Keep.{gather}
 use Rattle.model.specs.Instance.{Instance}
 use Rattle.model.specs.Reduction.{stepsOf}
 use Rattle.model.specs.Finder.{Record, recordOf, diaryOf}
-use Rattle.model.specs.Desk.{onto}
+use Rattle.model_desk.specs.Desk.{onto}
 use Rattle.arrays.specs.ArrayInstance.{at}
 use Rattle.reduction_state.specs.declared.Trace.{Trace}
 use Rattle.reduction_state.specs.Trace.{Traced}

@@ -5,7 +5,7 @@ ghost use mathlib.Core.Path.{_≡_};
 ghost use Prim.Native.Nat.{_<_, _≤_};
 ghost use lib.ListN.{length};
 ghost use Rattle.model.specs.Limits.{diarySize};
-ghost use Rattle.model.specs.Desk.{onto};
+ghost use Rattle.model_desk.specs.Desk.{onto};
 ghost use Rattle.diary.specs.LentSteps.{stepAt, stepsIn};
 ghost use Rattle.diary_records.specs.TraceRecords.{Readable, flatOf};
 use diary::Step;

@@ -22,7 +22,7 @@ use Rattle.model.specs.PlanFile.{pairList, planBytes}
 use Rattle.model.specs.Reduction.{Step, Rule, rules, stepsOf, endOf}
 use Rattle.model.specs.Finder as F
 use Rattle.model.specs.Finder.{Record, diaryOf, leftOf, candidateOf, Rival, Found, found, isEmpty, finderOf}
-use Rattle.model.specs.Desk.{Lends, onto, foundAnswer, foundWritten}
+use Rattle.model_desk.specs.Desk.{Lends, onto, foundAnswer, foundWritten}
 use Rattle.theory_verdict.specs.Rival.{rivalOf}
 use Rattle.theory_verdict.specs.Meaning.{Beaten, verdict-means}
 use Rattle.theory_files.specs.RosterInstance.{lawful}

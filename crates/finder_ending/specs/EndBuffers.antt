@@ -11,7 +11,7 @@ use Rattle.model.specs.Plans.{Plan, Verdict, voteOf, verdictOf}
 use Rattle.model.specs.PlanFile.{edgesIn, pairList, planBytes}
 use Rattle.model.specs.Finder as F
 use Rattle.model.specs.Finder.{Found, isEmpty}
-use Rattle.model.specs.Desk.{onto}
+use Rattle.model_desk.specs.Desk.{onto}
 use Rattle.theory_verdict.specs.Rival.{rivalOf}
 use Rattle.arrays.specs.ArrayInstance.{flag}
 use Rattle.instance.specs.declared.Instance as arrays

@@ -13,7 +13,7 @@ use Rattle.model.specs.Plans.{Plan, on, Verdict, verdictOf}
 use Rattle.model.specs.PlanFile.{edgesIn, pairList, planBytes}
 use Rattle.model.specs.Finder as F
 use Rattle.model.specs.Finder.{Found, isEmpty}
-use Rattle.model.specs.Desk.{onto}
+use Rattle.model_desk.specs.Desk.{onto}
 use Rattle.theory_files.specs.PlanFiles.{plan-few}
 use Rattle.theory_files.specs.Chosen.{edgesIn-cong}
 use Rattle.arrays.specs.ArrayInstance.{flag}

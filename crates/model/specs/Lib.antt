@@ -10,15 +10,9 @@ pub mod Roster
 pub mod RosterFile
 pub mod Edges
 pub mod PlanFile
-pub mod Changes
-pub mod Seasons
 pub mod Finder
-pub mod Compare
 pub mod Text
 pub mod Printed
-pub mod Desk
-pub mod History
-pub mod SeasonCalls
 pub mod Decimal
 pub mod LimitCases
 pub mod FitCases
@@ -27,11 +21,4 @@ pub mod Cases
 pub mod MoreCases
 pub mod RosterCases
 pub mod PlanCases
-pub mod ChangeCases
-pub mod DeskCases
-pub mod CompareCases
-pub mod DeskChangeCases
-pub mod LentCases
-pub mod ProposalCases
-pub mod SeasonCases
 pub mod GroupCases

@@ -34,6 +34,10 @@ pub sizes : (rosterSize ≡ longest entryWidth) × (oldRosterSize ≡ longest (l
     × (diarySize ≡ entryLimit) × (emptyRank ≡ suc listLimit)
 sizes = (refl, refl, refl, refl, refl, refl, refl, refl)
 
+-- how long a list may be, whatever the other side's count, and in an old roster as that count
+pub lists-end : (shifted .longest 7 ≡ listLimit) × (plain .longest 7 ≡ 7)
+lists-end = (refl, refl)
+
 -- what is a byte; no pair is in a plan behind its end
 pub ends : (isBytes (0 ∷ 255 ∷ []) ≡ true) × (isBytes (256 ∷ []) ≡ false) × (on (true ∷ []) 1 ≡ false)
 ends = (refl, refl, refl)

@@ -14,7 +14,7 @@ use Rattle.model.specs.Limits.{planLimit, planSize, pairWidth}
 use Rattle.model.specs.Instance.{Instance}
 use Rattle.model.specs.Plans.{Plan, on}
 use Rattle.model.specs.PlanFile.{edgesIn, planOf, planBytesBy, planBytes}
-use Rattle.model.specs.Desk.{onto}
+use Rattle.model_desk.specs.Desk.{onto}
 use Rattle.theory_files.specs.Chosen.{on-planOf, edgesIn-cong}
 use Rattle.theory_files.specs.PlanFiles.{pairs-size}
 use Rattle.theory_files.specs.Carried.{besides}

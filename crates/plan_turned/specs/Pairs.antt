@@ -12,8 +12,8 @@ use Rattle.model.specs.Limits.{planLimit, planSize}
 use Rattle.model.specs.Reading.{Reading, accepted, refused}
 use Rattle.model.specs.Refusal.{groupOf}
 use Rattle.model.specs.PlanFile.{Named}
-use Rattle.model.specs.Desk as model
-use Rattle.model.specs.Desk.{wrote, onto, convertedAnswer, convertedOnto}
+use Rattle.model_desk.specs.Desk as model
+use Rattle.model_desk.specs.Desk.{wrote, onto, convertedAnswer, convertedOnto}
 use Rattle.answers.specs.declared.Group.{Group}
 use Rattle.answers.specs.declared.Written.{Written}
 use Rattle.answers.specs.declared.Written.the-variants.{Wrote, Refused}

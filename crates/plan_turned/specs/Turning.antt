@@ -15,9 +15,9 @@ use Rattle.model.specs.Refusal.{groupOf}
 use Rattle.model.specs.Instance.{Instance}
 use Rattle.model.specs.Plans.{Plan, on}
 use Rattle.model.specs.PlanFile.{Named, nameOf, plainPair, edgesIn, planBytesBy, planBytes, readPlan}
-use Rattle.model.specs.Seasons.{onlyFirstPairs, planToNew, planToOld}
-use Rattle.model.specs.Desk as model
-use Rattle.model.specs.Desk.{convertedAnswer, convertedOnto}
+use Rattle.model_desk.specs.Seasons.{onlyFirstPairs, planToNew, planToOld}
+use Rattle.model_desk.specs.Desk as model
+use Rattle.model_desk.specs.Desk.{convertedAnswer, convertedOnto}
 use Rattle.theory_files.specs.Reads.{read-value, read-rest}
 use Rattle.theory_files.specs.Layouts.{PairAgrees, in-shiftedPair, in-plainPair}
 use Rattle.theory_files.specs.PlanFiles.{Fileable, plan-read-write-by, plan-read-within-by, plan-read-held, plan-few, bytes-are, bytes-size}

@@ -5,7 +5,7 @@ ghost use Prim.Native.Nat.{_+_, _*_, _≤_};
 ghost use lib.ListN.{length};
 ghost use Rattle.lists.specs.Keep.{all?};
 ghost use Rattle.model.specs.Limits.{planLimit, planSize};
-ghost use Rattle.model.specs.Desk.{onto};
+ghost use Rattle.model_desk.specs.Desk.{onto};
 ghost use Rattle.pair_bytes.specs.PairAt.{widthOf};
 ghost use Rattle.plan_turned.specs.Pairs.{pairsFrom, firstPair, otherPlan, PairsTurned};
 ghost use Rattle.plan_turned.specs.Turning.{SomePlan, PlanTurned};

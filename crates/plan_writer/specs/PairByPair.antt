@@ -10,7 +10,7 @@ use Rattle.lists.specs.Ranges.{gather-append, keep-last}
 use Rattle.model.specs.Limits.{pairWidth, planSize}
 use Rattle.model.specs.Plans.{on}
 use Rattle.model.specs.PlanFile.{edgesIn, planBytesBy, planBytes}
-use Rattle.model.specs.Desk.{onto}
+use Rattle.model_desk.specs.Desk.{onto}
 use Rattle.theory_files.specs.Chosen.{edgesIn-cong}
 use Rattle.arrays.specs.ArrayInstance.{at, flag, shown}
 use Rattle.arrays.specs.Kept.{keep-few}

@@ -6,7 +6,7 @@ use mathlib.Core.List.{List}
 use Rattle.lists.specs.Keep.{gather}
 use Rattle.model.specs.Plans.{Plan, on}
 use Rattle.model.specs.PlanFile.{planBytes}
-use Rattle.model.specs.Desk.{onto}
+use Rattle.model_desk.specs.Desk.{onto}
 use Rattle.arrays.specs.ArrayInstance.{at, flag, shown}
 use Rattle.pair_bytes.specs.PairAt.{pairOf}
 

@@ -15,7 +15,7 @@ use Rattle.model.specs.PlanFile.{pairList, planBytes}
 use Rattle.model.specs.Reduction.{stepsOf}
 use Rattle.model.specs.Finder as F
 use Rattle.model.specs.Finder.{diaryOf, finderOf, candidateOf}
-use Rattle.model.specs.Desk.{refused, onto}
+use Rattle.model_desk.specs.Desk.{refused, onto}
 use Rattle.model.specs.Printed.{answerText}
 use Rattle.theory_files.specs.Reads.{isBytes}
 use Rattle.theory_files.specs.Rosters.{read-fits}

@@ -8,7 +8,7 @@ use lib.ListN.{length, set, replicate, length-append, length-replicate}
 use lib.Seq.{set-at}
 use Rattle.model.specs.Limits.{entryLimit}
 use Rattle.model.specs.Reduction.{Step}
-use Rattle.model.specs.Desk.{onto}
+use Rattle.model_desk.specs.Desk.{onto}
 use Rattle.reduction_state.specs.declared.Trace.{Trace}
 
 -- no entry yet

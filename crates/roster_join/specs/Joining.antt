@@ -15,7 +15,7 @@ use Rattle.model.specs.Limits.{nodeLimit, quotaLimit, quotaSumLimit, listLimit,
 use Rattle.model.specs.Reading.{Reading, accepted, refused, whole}
 use Rattle.model.specs.Roster.{Entry, Ranking, Roster, surveyorCount, standCount, entries, has, shifts, listFits, rankingFits, fits}
 use Rattle.model.specs.RosterFile.{shifted, listBytes, entriesBytes, rankingBytes, writeRoster, readList, readRoster}
-use Rattle.model.specs.Changes.{joinerAt, entered, joined, noPlace, tooLong, joinedBy, joinOn}
+use Rattle.model_changes.specs.Changes.{joinerAt, entered, joined, noPlace, tooLong, joinedBy, joinOn}
 use Rattle.theory_files.specs.Reads.{isBytes, whole-accepted}
 use Rattle.theory_files.specs.Layouts.{in-shifted}
 use Rattle.theory_files.specs.Sections.{held, list}

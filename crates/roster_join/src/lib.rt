@@ -7,7 +7,7 @@ ghost use Rattle.lists.specs.Sum.{sum};
 ghost use Rattle.model.specs.Limits.{nodeLimit, listLimit, shiftLimit};
 ghost use Rattle.model.specs.Reading.{whole};
 ghost use Rattle.model.specs.RosterFile.{shifted, readList};
-ghost use Rattle.model.specs.Changes.{joinOn};
+ghost use Rattle.model_changes.specs.Changes.{joinOn};
 ghost use Rattle.instance.specs.Accepted.{RosterAccepted};
 ghost use Rattle.roster_positions.specs.Rows.{bytesOf};
 ghost use Rattle.roster_parts.specs.Growth.{Room, Grown};

@@ -14,7 +14,7 @@ use Rattle.lists.specs.Ranges.{gather-append}
 use Rattle.model.specs.Reading.{accepted, refused}
 use Rattle.model.specs.Roster.{Entry, Ranking, Roster, surveyorCount, standCount, fits}
 use Rattle.model.specs.RosterFile.{shifted, listBytes, entriesBytes, rankingBytes, writeRoster, readRoster}
-use Rattle.model.specs.Changes.{departed, leaveOn}
+use Rattle.model_changes.specs.Changes.{departed, leaveOn}
 use Rattle.theory_files.specs.Reads.{isBytes}
 use Rattle.theory_files.specs.ByLists.{fits-lists}
 use Rattle.theory_files.specs.Rosters.{read-write, read-fits}

@@ -4,7 +4,7 @@ use mathlib.Core.List.{List, [], _∷_, _++_}
 use lib.ListN.{take, drop, set}
 use Rattle.model.specs.Roster.{Ranking}
 use Rattle.model.specs.RosterFile.{shifted, rankingBytes}
-use Rattle.model.specs.Changes.{without}
+use Rattle.model_changes.specs.Changes.{without}
 use Rattle.roster_positions.specs.Tables.{entriesIn, listsEnd}
 use Rattle.roster_parts.specs.Rankings.{rankingsFrom}
 use Rattle.roster_parts.specs.Gives.{rosterOf}

@@ -10,7 +10,7 @@ use lib.Dec.{eqb}
 use borrow.Author.Tests.{eq-eqb, ne-eqb}
 use Rattle.model.specs.Limits.{entryWidth}
 use Rattle.model.specs.Roster.{Entry}
-use Rattle.model.specs.Changes.{without}
+use Rattle.model_changes.specs.Changes.{without}
 use Rattle.roster_positions.specs.Tables.{entriesIn}
 use Rattle.roster_positions.proofs.Stamping.{entries-none, entries-cons}
 

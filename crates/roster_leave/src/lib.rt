@@ -4,7 +4,7 @@ ghost use mathlib.Core.Path.{_≡_};
 ghost use Prim.Native.Nat.{_≤_, _<_};
 ghost use lib.ListN.{length};
 ghost use Rattle.model.specs.Limits.{nodeLimit};
-ghost use Rattle.model.specs.Changes.{without, leaveOn};
+ghost use Rattle.model_changes.specs.Changes.{without, leaveOn};
 ghost use Rattle.instance.specs.Accepted.{RosterAccepted};
 ghost use Rattle.roster_positions.specs.Tables.{entriesIn};
 ghost use Rattle.roster_positions.specs.Rows.{bytesOf};

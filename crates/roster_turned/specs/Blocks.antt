@@ -13,7 +13,7 @@ use Rattle.lists.specs.Keep.{all?, gather}
 use Rattle.model.specs.Limits.{rosterSize}
 use Rattle.model.specs.Roster.{Entry, noEntry}
 use Rattle.model.specs.RosterFile.{Layout}
-use Rattle.model.specs.Seasons.{isFirst}
+use Rattle.model_desk.specs.Seasons.{isFirst}
 use Rattle.roster_reading.specs.Check.{fields-length, fields-at}
 use Rattle.roster_reading.specs.Layout.{layoutOf, widthOf, entryFrom, entriesIn}
 use Rattle.roster_parts.specs.Growth.{Grown, grown-then, grown-as}

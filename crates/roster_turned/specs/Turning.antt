@@ -13,7 +13,7 @@ use Rattle.model.specs.Limits.{nodeLimit}
 use Rattle.model.specs.Reading.{accepted, isBytes}
 use Rattle.model.specs.Roster.{Entry, Ranking, Roster, entries, surveyorCount, standCount, totalS, totalT, quotasFit, fitsBy}
 use Rattle.model.specs.RosterFile.{Layout, listBytes, wideBytes, entriesBytes, rankingBytes, readRosterBy, writeRosterBy}
-use Rattle.model.specs.Seasons.{isFirst, onlyFirst}
+use Rattle.model_desk.specs.Seasons.{isFirst, onlyFirst}
 use Rattle.theory_files.specs.Layouts.{Agrees}
 use Rattle.theory_files.specs.Rosters.{Held, read-held, read-write-by, read-fits-by, fits-parts-by, entries-size}
 use Rattle.theory_files.specs.Offsets.{head-is, tail-is, part-is, rest-is, listsStart, rankingSection, offsets, rankings-from}

@@ -13,11 +13,11 @@ use Rattle.model.specs.Limits.{rosterSize}
 use Rattle.model.specs.Reading.{Reading, accepted, refused, isBytes}
 use Rattle.model.specs.Roster.{Roster}
 use Rattle.model.specs.RosterFile.{readRosterBy, writeRosterBy}
-use Rattle.model.specs.Seasons.{onlyFirst, toNew, toOld}
+use Rattle.model_desk.specs.Seasons.{onlyFirst, toNew, toOld}
 use Rattle.model.specs.Refusal.{groupOf}
-use Rattle.model.specs.Desk.{wrote, refusal, onto, short, convertedAnswer, convertedOnto}
-use Rattle.model.specs.Desk as model
-use Rattle.model.specs.SeasonCalls.{fileAnswer, fileLent}
+use Rattle.model_desk.specs.Desk.{wrote, refusal, onto, short, convertedAnswer, convertedOnto}
+use Rattle.model_desk.specs.Desk as model
+use Rattle.model_desk.specs.SeasonCalls.{fileAnswer, fileLent}
 use Rattle.theory_files.specs.Seasons.{back, forth, old-first, new-size, old-size, old-taken, new-taken, new-refused, old-turned-away, new-turned-away}
 use Rattle.answers.specs.declared.Group.{Group}
 use Rattle.answers.specs.declared.Written.{Written}

@@ -4,7 +4,7 @@
 ghost use Prim.Native.Nat.{_≤_};
 ghost use lib.ListN.{length};
 ghost use Rattle.model.specs.Limits.{rosterSize};
-ghost use Rattle.model.specs.Seasons.{toNew, toOld};
+ghost use Rattle.model_desk.specs.Seasons.{toNew, toOld};
 ghost use Rattle.seasons.specs.Converting.{Accepted, Settles, Answers, Converts};
 use answers::FileAnswer;
 use answers::Written;

@@ -15,7 +15,7 @@ use Rattle.model.specs.Instance.{Instance}
 use Rattle.model.specs.Plans.{Plan}
 use Rattle.model.specs.Finder as F
 use Rattle.model.specs.Finder.{diaryOf}
-use Rattle.model.specs.Desk.{onto}
+use Rattle.model_desk.specs.Desk.{onto}
 use Rattle.model.specs.Printed.{number, line, diaryLine, ending, groupWord, answerText}
 use Rattle.theory_finder.specs.Choices.{chosen}
 use Rattle.answers.specs.declared.Group.{Group}

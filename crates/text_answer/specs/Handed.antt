@@ -15,7 +15,7 @@ use Rattle.model.specs.PlanFile.{edgesIn, pairList, planBytesBy, planBytes}
 use Rattle.model.specs.Reduction.{stepsOf}
 use Rattle.model.specs.Finder as F
 use Rattle.model.specs.Finder.{recordOf, diaryOf}
-use Rattle.model.specs.Desk.{refusal, foundAnswer}
+use Rattle.model_desk.specs.Desk.{refusal, foundAnswer}
 use Rattle.model.specs.Printed.{number, signed, line, diaryLine, counted, planLines, ending}
 use Rattle.theory_finder.specs.Choices.{chosen}
 use Rattle.diary.specs.FlatDiary.{written}

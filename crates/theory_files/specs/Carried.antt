@@ -19,8 +19,8 @@ use Rattle.model.specs.Roster.{Entry, Roster, surveyorCount, standCount, listed
 use Rattle.model.specs.Edges.{instanceOf}
 use Rattle.model.specs.Plans.{Plan, on, plansOf}
 use Rattle.model.specs.PlanFile.{planOf, planBytes, edgeOfPair, readPlan}
-use Rattle.model.specs.Changes.{joined, departed, carried, joinOn, leaveOn}
-use Rattle.model.specs.History.{planPairs}
+use Rattle.model_changes.specs.Changes.{joined, departed, carried, joinOn, leaveOn}
+use Rattle.model_desk.specs.History.{planPairs}
 use Rattle.theory_instance.specs.Degree.{deg-sub, deg-zero}
 use Rattle.theory_instance.specs.Within.{within-matching, matching-within}
 use Rattle.theory_files.specs.Reads.{isBytes}

@@ -17,7 +17,7 @@ use Rattle.model.specs.Limits.{nodeLimit, quotaLimit, quotaSumLimit, listLimit}
 use Rattle.model.specs.Reading.{accepted, refused}
 use Rattle.model.specs.Roster.{Entry, Ranking, Roster, entries, surveyorCount, standCount, listS, listT, same, has, before, outside, noEntry, shifts}
 use Rattle.model.specs.Roster.{listed, listedBack, distinct, ascending, entryFits, quotasFit, listFits, rankingFits, fits}
-use Rattle.model.specs.Changes.{without, departed, leaveOn}
+use Rattle.model_changes.specs.Changes.{without, departed, leaveOn}
 use Rattle.theory_files.specs.Order.{before-on}
 use Rattle.theory_files.specs.Reads.{accepted-value, refuse-read, refuse-no}
 use Rattle.theory_files.specs.Entries.{inRange, small}

@@ -16,7 +16,7 @@ use Rattle.model.specs.Reading.{accepted}
 use Rattle.model.specs.Roster.{Entry, Ranking, Roster, entries, surveyorCount, standCount, listS, listT, same, has, listed, listedBack, entryFits, fits}
 use Rattle.model.specs.Edges.{instanceOf}
 use Rattle.model.specs.Plans.{Plan, plansOf}
-use Rattle.model.specs.Changes.{departed, leaveOn, gone, carried}
+use Rattle.model_changes.specs.Changes.{departed, leaveOn, gone, carried}
 use Rattle.theory_files.specs.Entries.{in-range}
 use Rattle.theory_files.specs.ByLists.{list-range, fits-lists}
 use Rattle.theory_files.specs.RosterInstance.{entries-fit}

@@ -13,8 +13,8 @@ use Rattle.model.specs.Roster.{Roster, elem, fits}
 use Rattle.model.specs.Edges.{instanceOf}
 use Rattle.model.specs.Plans.{Plan, on, plansOf}
 use Rattle.model.specs.PlanFile.{Named, nameOf, edgesIn, pairList, planBytesBy, planBytes, readPlan}
-use Rattle.model.specs.Changes.{joinOn, leaveOn, carried}
-use Rattle.model.specs.History.{pairsIn, filePairs, less, planPairs}
+use Rattle.model_changes.specs.Changes.{joinOn, leaveOn, carried}
+use Rattle.model_desk.specs.History.{pairsIn, filePairs, less, planPairs}
 use Rattle.theory_files.specs.Reads.{isBytes}
 use Rattle.theory_files.specs.Chosen.{on-planOf, edgesIn-cong}
 use Rattle.theory_files.specs.PlanFiles.{plan-read-write}

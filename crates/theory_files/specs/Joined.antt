@@ -19,7 +19,7 @@ use Rattle.model.specs.Reading.{Reading, accepted, refused, whole}
 use Rattle.model.specs.Roster.{Entry, Ranking, Roster, entries, surveyorCount, standCount, listT, same, has, before, noEntry, shifts, listed, listedBack}
 use Rattle.model.specs.Roster.{distinct, ascending, entryFits, quotasFit, listFits, rankingFits, fits}
 use Rattle.model.specs.RosterFile.{shifted, readList, entriesBytes}
-use Rattle.model.specs.Changes.{joinerAt, entered, joined, noPlace, tooLong, joinedBy, joinOn}
+use Rattle.model_changes.specs.Changes.{joinerAt, entered, joined, noPlace, tooLong, joinedBy, joinOn}
 use Rattle.theory_files.specs.Order.{→before}
 use Rattle.theory_files.specs.Reads.{isBytes, accepted-value, refused-not, refuse-read, refuse-no, refuse-other, whole-accepted}
 use Rattle.theory_files.specs.Entries.{apart, distinct-append, inRange, in-range, range-in, small}

@@ -12,7 +12,7 @@ use Rattle.lists.specs.Sum.{_∈_, range, ∈-range}
 use Rattle.lists.specs.Keep.{gather, gather-∈, any-append, ∈-all}
 use Rattle.model.specs.Limits.{shiftLimit}
 use Rattle.model.specs.Roster.{Entry, same, has, before, shifts, entryFits, distinct, ascending}
-use Rattle.model.specs.Changes.{joinerAt}
+use Rattle.model_changes.specs.Changes.{joinerAt}
 use Rattle.theory_files.specs.Order.{before-on, →before}
 use Rattle.theory_files.specs.Entries.{inRange, range-in}
 

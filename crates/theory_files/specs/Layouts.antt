@@ -9,7 +9,7 @@ use Rattle.lists.specs.Test.{given}
 use Rattle.model.specs.Reading.{accepted, byte, twoBytes}
 use Rattle.model.specs.Roster.{Entry}
 use Rattle.model.specs.RosterFile.{Layout, shifted, plain}
-use Rattle.model.specs.Seasons.{isFirst}
+use Rattle.model_desk.specs.Seasons.{isFirst}
 use Rattle.model.specs.PlanFile.{Named, PairLayout, threeBytes, shiftedPair, plainPair}
 use Rattle.theory_files.specs.Reads.{Reads, read-value, read-rest, refused-not, then-read, byte-read, twoBytes-read}
 

@@ -16,7 +16,7 @@ use Rattle.model.specs.Roster.{Roster, surveyorCount, standCount, listed, shift
 use Rattle.model.specs.Edges.{Edge, pairEdge, edgesOf, noEdge, edgeAt, instanceOf}
 use Rattle.model.specs.Plans.{Plan, on}
 use Rattle.model.specs.PlanFile.{Named, nameOf, shiftedPair, edgesIn, planBytesBy, planBytes}
-use Rattle.model.specs.History.{planPairs}
+use Rattle.model_desk.specs.History.{planPairs}
 use Rattle.theory_files.specs.Layouts.{in-shiftedPair}
 use Rattle.theory_files.specs.Chosen.{deg-atNode}
 use Rattle.theory_files.specs.PlanFiles.{bytes-are}

@@ -15,7 +15,7 @@ use Rattle.model.specs.RosterFile.{readRoster}
 use Rattle.model.specs.Edges.{instanceOf}
 use Rattle.model.specs.Plans.{Plan, plansOf}
 use Rattle.model.specs.PlanFile.{plainPair, planBytesBy, planBytes, readPlanBy, readPlan}
-use Rattle.model.specs.Seasons.{onlyFirstPairs, newPlan, planToNew, oldPlan, planToOld}
+use Rattle.model_desk.specs.Seasons.{onlyFirstPairs, newPlan, planToNew, oldPlan, planToOld}
 use Rattle.theory_files.specs.Reads.{accepted-value, refused-not}
 use Rattle.theory_files.specs.Layouts.{in-plainPair}
 use Rattle.theory_files.specs.Rosters.{read-fits}

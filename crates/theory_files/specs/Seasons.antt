@@ -17,7 +17,7 @@ use Rattle.model.specs.Reading.{Reading, accepted, refused, isBytes}
 use Rattle.model.specs.Roster.{Entry, Ranking, Roster, entries, surveyorCount, standCount, listS, listT, same, has, listed, listedBack}
 use Rattle.model.specs.Roster.{entryFits, distinct, ascending, noEntry, quotasFit, listFits, rankingFits, fitsBy, fits}
 use Rattle.model.specs.RosterFile.{plain, readRosterBy, readRoster, writeRosterBy, writeRoster}
-use Rattle.model.specs.Seasons.{isFirst, onlyFirst, newRoster, toNew, oldRoster, toOld}
+use Rattle.model_desk.specs.Seasons.{isFirst, onlyFirst, newRoster, toNew, oldRoster, toOld}
 use Rattle.theory_files.specs.Reads.{accepted-value, refused-not}
 use Rattle.theory_files.specs.Entries.{inRange, in-range}
 use Rattle.theory_files.specs.Layouts.{in-plain}

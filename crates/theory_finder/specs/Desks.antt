@@ -13,10 +13,10 @@ use Rattle.model.specs.RosterFile.{readRoster}
 use Rattle.model.specs.Edges.{instanceOf}
 use Rattle.model.specs.Plans.{Plan, on, within, plansOf}
 use Rattle.model.specs.PlanFile.{readPlan}
-use Rattle.model.specs.Desk.{Held, nothing, roster, planned, proposed, Call, loadRoster, loadPlan, writeRosterTo, writePlanTo, find, join, leave}
-use Rattle.model.specs.Desk.{judge, compare, blocking, planToNew, planToOld, propose, commit, withRoster, withPlan, withProposal, withCommit, withChange}
-use Rattle.model.specs.Desk.{onRoster, onPlan, deskOn, stateRefusal, deskAfter}
-use Rattle.model.specs.Changes.{joinOn, leaveOn, gone, carried}
+use Rattle.model_desk.specs.Desk.{Held, nothing, roster, planned, proposed, Call, loadRoster, loadPlan, writeRosterTo, writePlanTo, find, join, leave}
+use Rattle.model_desk.specs.Desk.{judge, compare, blocking, planToNew, planToOld, propose, commit, withRoster, withPlan, withProposal, withCommit, withChange}
+use Rattle.model_desk.specs.Desk.{onRoster, onPlan, deskOn, stateRefusal, deskAfter}
+use Rattle.model_changes.specs.Changes.{joinOn, leaveOn, gone, carried}
 use Rattle.theory_files.specs.Reads.{isBytes}
 use Rattle.theory_files.specs.Rosters.{read-fits}
 use Rattle.theory_files.specs.Chosen.{plan-length, plan-within, within-plan}

@@ -21,13 +21,13 @@ use Rattle.model.specs.PlanFile.{Named, readPlan}
 use Rattle.model.specs.Reduction.{stepsOf}
 use Rattle.model.specs.Finder as F
 use Rattle.model.specs.Finder.{Found, finderOf}
-use Rattle.model.specs.Changes.{joinOn, leaveOn, gone, carried}
-use Rattle.model.specs.Desk as D
-use Rattle.model.specs.Desk.{Held, nothing, roster, planned, proposed, opening, Call, Answer, Choices, stateRefusal, stateRefused, refusal, onRoster}
-use Rattle.model.specs.Desk.{loadedRoster, loadedPlan, foundAnswer, foundOn, changedAnswer, proposalAnswer, withRoster, withPlan, withProposal, withChange}
-use Rattle.model.specs.Desk.{answerOn, answerOf, deskOn, deskAfter}
-use Rattle.model.specs.History.{Event, newRoster, newPlan, newProposal, committing, leaver, nothingNew, filePairs, isRefused, eventOf, eventsOf, less}
-use Rattle.model.specs.History.{lastProposal, lastPlan, planPairs, heldPairs}
+use Rattle.model_changes.specs.Changes.{joinOn, leaveOn, gone, carried}
+use Rattle.model_desk.specs.Desk as D
+use Rattle.model_desk.specs.Desk.{Held, nothing, roster, planned, proposed, opening, Call, Answer, Choices, stateRefusal, stateRefused, refusal, onRoster}
+use Rattle.model_desk.specs.Desk.{loadedRoster, loadedPlan, foundAnswer, foundOn, changedAnswer, proposalAnswer, withRoster, withPlan, withProposal, withChange}
+use Rattle.model_desk.specs.Desk.{answerOn, answerOf, deskOn, deskAfter}
+use Rattle.model_desk.specs.History.{Event, newRoster, newPlan, newProposal, committing, leaver, nothingNew, filePairs, isRefused, eventOf, eventsOf, less}
+use Rattle.model_desk.specs.History.{lastProposal, lastPlan, planPairs, heldPairs}
 use Rattle.theory_files.specs.Reads.{isBytes}
 use Rattle.theory_files.specs.HeldPairs.{read-pairs, less-none, less-more, join-pairs, leave-pairs}
 use Rattle.theory_files.specs.Gone.{gone-roster}

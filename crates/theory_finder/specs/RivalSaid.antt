@@ -16,9 +16,9 @@ use Rattle.model.specs.Instance.{Instance}
 use Rattle.model.specs.Plans as P
 use Rattle.model.specs.Plans.{Plan, plansOf, samePlan, isStrong, voteOf, verdictOf}
 use Rattle.model.specs.PlanFile.{planBytes}
-use Rattle.model.specs.Desk as D
-use Rattle.model.specs.Desk.{Held, planHeld, Answer, Call, judge, planned, short, onto, refused, strong, popular, beaten, stateRefusal, answerOf, lentAfter}
-use Rattle.model.specs.Desk.{verdictAnswer, verdictWritten}
+use Rattle.model_desk.specs.Desk as D
+use Rattle.model_desk.specs.Desk.{Held, planHeld, Answer, Call, judge, planned, short, onto, refused, strong, popular, beaten, stateRefusal, answerOf, lentAfter}
+use Rattle.model_desk.specs.Desk.{verdictAnswer, verdictWritten}
 use Rattle.theory_verdict.specs.Rival.{rivalOf}
 use Rattle.theory_finder.specs.Demand3.{rival-holds}
 use Rattle.theory_finder.specs.Choices.{chosen}

@@ -25,12 +25,12 @@ use Rattle.model.specs.Plans.{choices, within, plansOf, samePlan, beatenBy, dra
 use Rattle.model.specs.Reduction as R
 use Rattle.model.specs.PlanFile.{planBytesBy, edgeOfPair, readPlanBy}
 use Rattle.model.specs.Finder.{Record, diaryOf, leftOf, candidateOf, finderOf}
-use Rattle.model.specs.Compare.{Winner, File, Part, firstFile, secondFile, comparisonOf, partOf}
-use Rattle.model.specs.Compare as C
+use Rattle.model_desk.specs.Compare.{Winner, File, Part, firstFile, secondFile, comparisonOf, partOf}
+use Rattle.model_desk.specs.Compare as C
 use Rattle.model.specs.Blocking.{blocks, someBlocks, topBlocking}
-use Rattle.model.specs.Changes.{joined, joinOn, departed, leaveOn, carried}
-use Rattle.model.specs.Desk as D
-use Rattle.model.specs.Desk.{Held, Call, Answer, NoneKind, opening, stateRefusal, answerOf, deskAfter}
+use Rattle.model_changes.specs.Changes.{joined, joinOn, departed, leaveOn, carried}
+use Rattle.model_desk.specs.Desk as D
+use Rattle.model_desk.specs.Desk.{Held, Call, Answer, NoneKind, opening, stateRefusal, answerOf, deskAfter}
 use Rattle.theory_verdict.specs.LemmaX.{swapped}
 use Rattle.theory_verdict.specs.Search.{arc, layer, trace, terminal, directs, aloneAt, loopAt, pathAt, levels, search, rivalEdges}
 use Rattle.theory_verdict.specs.Rival.{rivalOf}

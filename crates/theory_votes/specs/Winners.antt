@@ -13,7 +13,7 @@ use Rattle.lists.specs.Test.{T-true, T-false, false-T}
 use Rattle.lists.specs.Integer.{<→≤, sum-above, sum-below, sum-zero}
 use Rattle.model.specs.Instance.{Instance}
 use Rattle.model.specs.Vote.{vote}
-use Rattle.model.specs.Compare.{Winner, first, second, both, neither, winnerOf}
+use Rattle.model_desk.specs.Compare.{Winner, first, second, both, neither, winnerOf}
 use Rattle.theory_instance.specs.Lawful.{Matching}
 use Rattle.theory_votes.specs.PlanVotes.{vote-both}
 

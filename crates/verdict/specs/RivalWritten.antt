@@ -12,7 +12,7 @@ use Rattle.model.specs.Vote.{vote}
 use Rattle.model.specs.Plans.{Plan, on, plansOf, Verdict, voteOf, verdictOf}
 use Rattle.model.specs.Plans as verdict
 use Rattle.model.specs.PlanFile.{edgesIn, pairList, planBytesBy, planBytes}
-use Rattle.model.specs.Desk.{onto}
+use Rattle.model_desk.specs.Desk.{onto}
 use Rattle.theory_instance.specs.Lawful.{Matching}
 use Rattle.theory_files.specs.PlanFiles.{plan-few}
 use Rattle.theory_verdict.specs.Plans.{plan-matching}

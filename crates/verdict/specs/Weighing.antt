@@ -9,8 +9,8 @@ use Rattle.model.specs.Instance.{Instance}
 use Rattle.model.specs.Plans.{Plan, on, plansOf, voteOf, verdictOf}
 use Rattle.model.specs.Plans as verdict
 use Rattle.model.specs.PlanFile.{planBytes}
-use Rattle.model.specs.Desk as desk
-use Rattle.model.specs.Desk.{onto}
+use Rattle.model_desk.specs.Desk as desk
+use Rattle.model_desk.specs.Desk.{onto}
 use Rattle.theory_verdict.specs.Rival.{rivalOf}
 use Rattle.arrays.specs.ArrayInstance.{flag}
 use Rattle.answers.specs.declared.Verdict.{Verdict}

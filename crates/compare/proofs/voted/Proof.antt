@@ -2,7 +2,7 @@
 use mathlib.Core.Path.{ap₂, _∙_}
 use mir.Syntax.{w16}
 use mir.ValLaws.{toZ-ofZ}
-use Rattle.model.specs.Compare.{winnerOf}
+use Rattle.model_desk.specs.Compare.{winnerOf}
 use Rattle.answers.specs.declared.Comparison.the-variants.{Votes}
 use Rattle.answers.specs.ComparisonCases.{winnerCase}
 use Rattle.vote_of_flags.specs.Votable.{side-arrays, light}

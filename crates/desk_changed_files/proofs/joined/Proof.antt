@@ -2,7 +2,7 @@
 use mathlib.Core.Path.{ap, _∙_, subst}
 use Rattle.lists.specs.Test.{given}
 use Rattle.model.specs.RosterFile.{readRoster}
-use Rattle.model.specs.Changes.{joinOn}
+use Rattle.model_changes.specs.Changes.{joinOn}
 use Rattle.roster_parts.specs.Gives.{ChangedBy}
 use Rattle.desk_loaded.specs.OnDesk.{its-roster}
 use Rattle.desk_files.specs.State.{arrays-are}

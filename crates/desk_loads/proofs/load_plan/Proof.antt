@@ -5,7 +5,7 @@ use Rattle.theory_files.specs.Reads.{isBytes}
 use Rattle.roster_reading.specs.Place.{bytes-of}
 use Rattle.desk_loads.specs.Loads.{plan-small, plan-refused, plan-loaded}
 use mathlib.Core.Path.{ap}
-use Rattle.model.specs.Desk.{loadPlan, refused}
+use Rattle.model_desk.specs.Desk.{loadPlan, refused}
 use Rattle.desk_files.specs.State.{by-state}
 use Rattle.desk_files.specs.State.{state-is, arrays-are}
 use borrow.Author.Needs.{needs}

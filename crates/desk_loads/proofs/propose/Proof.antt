@@ -3,8 +3,8 @@ use mathlib.Core.Path.{sym, ap, _∙_}
 use lib.Dec.{T}
 use mir.Syntax.{w16}
 use mir.ValLaws.{toZ-ofZ}
-use Rattle.model.specs.Compare.{comparisonOf}
-use Rattle.model.specs.Desk.{propose, refused}
+use Rattle.model_desk.specs.Compare.{comparisonOf}
+use Rattle.model_desk.specs.Desk.{propose, refused}
 use Rattle.theory_files.specs.Reads.{isBytes}
 use Rattle.answers.specs.ComparisonCases.{comparisonCase}
 use Rattle.roster_reading.specs.Place.{bytes-of}

@@ -1,7 +1,7 @@
 -- `desk_looks::blocking` meets its contract. Assumes nothing.
 use mathlib.Core.Path.{refl}
 use mathlib.Core.Path.{ap}
-use Rattle.model.specs.Desk.{blocking, refused}
+use Rattle.model_desk.specs.Desk.{blocking, refused}
 use Rattle.desk_files.specs.State.{by-state}
 use Rattle.finder_ending.specs.EndReached.{few-edges}
 use Rattle.desk_files.specs.State.{state-is, arrays-are}

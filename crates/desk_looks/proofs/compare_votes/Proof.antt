@@ -1,8 +1,8 @@
 -- `desk_looks::compare_votes` meets its contract. Assumes nothing.
 use mathlib.Core.Path.{ap}
 use Rattle.model.specs.Refusal.{Group}
-use Rattle.model.specs.Compare.{winnerPart, neither}
-use Rattle.model.specs.Desk.{compare, refusedPart}
+use Rattle.model_desk.specs.Compare.{winnerPart, neither}
+use Rattle.model_desk.specs.Desk.{compare, refusedPart}
 use Rattle.desk_files.specs.State.{by-state}
 use Rattle.desk_files.specs.State.{state-is, arrays-are}
 use Rattle.desk_looks.specs.Calls.{compare-reply}

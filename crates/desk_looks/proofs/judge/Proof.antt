@@ -1,7 +1,7 @@
 -- `desk_looks::judge` meets its contract. Assumes nothing.
 use mathlib.Core.Path.{refl, ap}
 use Rattle.model.specs.Limits.{planSize}
-use Rattle.model.specs.Desk.{judge, refused}
+use Rattle.model_desk.specs.Desk.{judge, refused}
 use Rattle.desk_files.specs.State.{by-state}
 use Rattle.desk_files.specs.State.{state-is, arrays-are, long-enough}
 use Rattle.desk_looks.specs.Calls.{plan-shown, plan-listed, judge-reply}

@@ -1,6 +1,6 @@
 -- `roster_leave::append_ranking` meets its contract: both lengths, then both parts without the number. Assumes nothing.
 use borrow.Author.Needs.{needs}
-use Rattle.model.specs.Changes.{without}
+use Rattle.model_changes.specs.Changes.{without}
 use Rattle.roster_positions.specs.Tables.{entriesIn}
 use Rattle.roster_parts.specs.Growth.{grown-then, grown-as}
 use Rattle.roster_parts.specs.Rankings.{ranking-written}

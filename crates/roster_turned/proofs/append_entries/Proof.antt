@@ -7,7 +7,7 @@ use mathlib.Core.List.{[], _∷_}
 use lib.ListN.{length, drop}
 use borrow.Author.Needs.{needs}
 use Rattle.lists.specs.Keep.{all?, gather}
-use Rattle.model.specs.Seasons.{isFirst}
+use Rattle.model_desk.specs.Seasons.{isFirst}
 use Rattle.roster_reading.specs.Layout.{entryOf, layoutOf, widthOf, width-some}
 use Rattle.roster_parts.specs.Growth.{Going, going-starts, going-on, going-ends}
 use Rattle.roster_turned.specs.Blocks.{partEntries, otherBytes, entry-room, entry-near, entries-turn, entries-done}

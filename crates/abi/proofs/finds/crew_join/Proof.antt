@@ -30,7 +30,7 @@ use denote.Triple.Spec.{Meets, tripleOf}
 use denote.Triple.Statement.{Contract, Triple}
 use denote.Triple.Table.{entered, cited}
 use denote.Triple.Walked.{says, walkOf, ends-at}
-use Rattle.model.specs.Desk as model
+use Rattle.model_desk.specs.Desk as model
 use Rattle.diary.specs.declared.Step.{Step}
 use Rattle.diary.proofs.Step as T
 use Rattle.desk.specs.declared.Desk.{Desk}

@@ -39,7 +39,7 @@ use denote.Triple.Call.{calls-at}
 use denote.Triple.Clauses.{ensured, lasts}
 use denote.Triple.Table.{entered, cited}
 use denote.Triple.Walked.{says, Stays, stay-dropped, walkOf, Walks, ends-at, walked, goes-dropped, walk-meets}
-use Rattle.model.specs.Desk.{compare}
+use Rattle.model_desk.specs.Desk.{compare}
 use Rattle.answers.specs.ComparisonCases.{partShown, comparisonShown}
 use Rattle.answers.proofs.Comparison as E
 use Rattle.answers.proofs.Comparison.Laws as E′

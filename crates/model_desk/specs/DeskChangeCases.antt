@@ -8,21 +8,21 @@ use mathlib.Core.List.{List, [], _∷_}
 use Rattle.lists.specs.Sum.{count}
 use Rattle.lists.specs.Search.{low}
 use Rattle.lists.specs.First as Fst
 use Rattle.model.specs.Decimal.{bytes, numbersFrom}
 use Rattle.model.specs.Refusal.{groupOf, form, content, desk}
 use Rattle.model.specs.Reading.{readEach}
 use Rattle.model.specs.Roster.{Roster, listed}
 use Rattle.model.specs.Edges.{position, edgesOf, instanceOf}
 use Rattle.model.specs.Instance.{deg}
 use Rattle.model.specs.Vote.{nodeVote, vote}
 use Rattle.model.specs.Plans.{choices, within, plansOf, samePlan, beatenBy, drawnWith, verdictOf}
 use Rattle.model.specs.Reduction as R
 use Rattle.model.specs.PlanFile.{edgeOfPair}
 use Rattle.model.specs.Finder.{leftOf, candidateOf, finderOf}
-use Rattle.model.specs.Changes.{joined, joinOn, departed, leaveOn, carried}
-use Rattle.model.specs.Desk as D
-use Rattle.model.specs.Desk.{Choices, nothing, roster, planned, Call, stateRefusal, answerOf, deskAfter, refused}
-use Rattle.model.specs.DeskCases.{whole, diary, early, entry, sample, twice, one, two, Each, Change, Said, Answered}
+use Rattle.model_changes.specs.Changes.{joined, joinOn, departed, leaveOn, carried}
+use Rattle.model_desk.specs.Desk as D
+use Rattle.model_desk.specs.Desk.{Choices, nothing, roster, planned, Call, stateRefusal, answerOf, deskAfter, refused}
+use Rattle.model_desk.specs.DeskCases.{whole, diary, early, entry, sample, twice, one, two, Each, Change, Said, Answered}
 
 abbrev pub join : ℕ → List ℕ → Call
 join q file = D.join q file (diary 1024) (whole 3072) (whole 193) (whole 193)

@@ -10,25 +10,25 @@ use lib.ListN.{length, drop}
 use lib.Dec.{T, ltb}
 use lib.IntN.{ℤ}
 use Rattle.lists.specs.Sum.{_∈_}
 use Rattle.model.specs.Limits.{planSize, rosterSize, diarySize, leftSize}
 use Rattle.model.specs.Refusal.{Group, groupOf}
 use Rattle.model.specs.Reading as reading
 use Rattle.model.specs.Reading.{Reading, accepted}
 use Rattle.model.specs.Roster.{Roster, fits}
 use Rattle.model.specs.RosterFile.{readRoster, writeRoster}
 use Rattle.model.specs.Edges.{instanceOf}
 use Rattle.model.specs.Instance.{Instance}
 use Rattle.model.specs.Plans as P
 use Rattle.model.specs.Plans.{Plan, Verdict, isStrong, on, plansOf, voteOf, verdictOf}
 use Rattle.model.specs.PlanFile.{pairList, planBytes, readPlan}
 use Rattle.model.specs.Reduction.{stepsOf}
 use Rattle.model.specs.Finder as F
 use Rattle.model.specs.Finder.{Record, diaryOf, Rival, Found, finderOf}
-use Rattle.model.specs.Compare as C
-use Rattle.model.specs.Compare.{Comparison, Winner, Part, comparisonOf, partOf}
+use Rattle.model_desk.specs.Compare as C
+use Rattle.model_desk.specs.Compare.{Comparison, Winner, Part, comparisonOf, partOf}
 use Rattle.model.specs.Blocking.{someBlocks, topBlocking}
-use Rattle.model.specs.Changes.{joinOn, leaveOn, gone, carried}
-use Rattle.model.specs.Seasons as S
+use Rattle.model_changes.specs.Changes.{joinOn, leaveOn, gone, carried}
+use Rattle.model_desk.specs.Seasons as S
 
 -- "nothing loaded, a roster, or a roster and a plan"; W-207: "A proposal stores the new plan beside the held one"
 pub data Held : Type 0 where

@@ -7,13 +7,13 @@ use mathlib.Core.List.{List, [], _∷_, map}
 use mathlib.Core.Option.{Option, none, some}
 use lib.ListN.{drop}
 use Rattle.lists.specs.Keep.{keep}
 use Rattle.model.specs.Roster.{elem}
 use Rattle.model.specs.Edges.{instanceOf}
 use Rattle.model.specs.Instance.{Instance}
 use Rattle.model.specs.Plans.{Plan, on}
 use Rattle.model.specs.PlanFile.{Named, nameOf, edgesIn}
-use Rattle.model.specs.Desk as D
-use Rattle.model.specs.Desk.{Held, Call, Answer}
+use Rattle.model_desk.specs.Desk as D
+use Rattle.model_desk.specs.Desk.{Held, Call, Answer}
 
 -- the pairs in a plan file, three numbers each behind the count
 abbrev pub pairsIn : List ℕ → List Named

@@ -11,24 +11,24 @@ use lib.IntN.{pos, negsuc}
 use Rattle.lists.specs.Sum.{count}
 use Rattle.lists.specs.Search.{low}
 use Rattle.lists.specs.First as Fst
 use Rattle.model.specs.Decimal.{bytes, numbersFrom, sameBytes}
 use Rattle.model.specs.Refusal.{groupOf, form, content, plan, desk}
 use Rattle.model.specs.Reading.{readEach}
 use Rattle.model.specs.Roster.{Entry, Roster, listed, listedBack, bothOrNeither}
 use Rattle.model.specs.RosterFile.{readRosterBy, readRoster, writeRosterBy, writeRoster}
 use Rattle.model.specs.Edges.{position, edgesOf, instanceOf}
 use Rattle.model.specs.Instance.{deg}
 use Rattle.model.specs.Vote.{nodeVote, vote}
 use Rattle.model.specs.Plans.{Plan, choices, within, plansOf, samePlan, beatenBy, drawnWith, verdictOf}
 use Rattle.model.specs.Plans as P
 use Rattle.model.specs.Reduction as R
 use Rattle.model.specs.PlanFile.{planBytesBy, edgeOfPair, readPlanBy, readPlan}
 use Rattle.model.specs.Finder.{Record, diaryOf, leftOf, candidateOf, finderOf}
-use Rattle.model.specs.Compare.{Part, firstFile, secondFile, first, second, neither, comparisonOf, partOf}
+use Rattle.model_desk.specs.Compare.{Part, firstFile, secondFile, first, second, neither, comparisonOf, partOf}
 use Rattle.model.specs.Blocking.{blocks, someBlocks, topBlocking}
-use Rattle.model.specs.Desk as D
-use Rattle.model.specs.Desk.{Choices, Held, nothing, roster, planned, Call, Answer, stateRefusal, answerOf, lentAfter, deskAfter, loaded}
-use Rattle.model.specs.Desk.{refused, wrote, strong, none, left}
+use Rattle.model_desk.specs.Desk as D
+use Rattle.model_desk.specs.Desk.{Choices, Held, nothing, roster, planned, Call, Answer, stateRefusal, answerOf, lentAfter, deskAfter, loaded}
+use Rattle.model_desk.specs.Desk.{refused, wrote, strong, none, left}
 
 -- buffers of a size
 abbrev pub whole : ℕ → List ℕ

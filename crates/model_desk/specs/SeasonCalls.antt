@@ -3,9 +3,9 @@
 use Prim.Native.Nat.{ℕ}
 use mathlib.Core.Bool.{cond}
 use mathlib.Core.List.{List}
 use Rattle.model.specs.Limits.{rosterSize}
 use Rattle.model.specs.Reading.{Reading}
-use Rattle.model.specs.Desk.{Answer, refusal, short, convertedAnswer, convertedOnto}
+use Rattle.model_desk.specs.Desk.{Answer, refusal, short, convertedAnswer, convertedOnto}
 
 -- what such a call answers for the conversion of its file, and the buffer lent to it afterwards: "The buffer written to needs 4,262 (..) bytes
 -- either way."

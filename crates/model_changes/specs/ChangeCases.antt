@@ -10,16 +10,16 @@ use lib.Dec.{eqb}
 use Rattle.lists.specs.Keep.{all?, gather}
 use Rattle.lists.specs.Sum.{range}
 use Rattle.lists.specs.Search.{low}
 use Rattle.model.specs.Decimal.{bytes, numbersFrom, sameBytes}
 use Rattle.model.specs.Reading.{Reading, accepted, refused, readEach}
 use Rattle.model.specs.Roster.{Entry, Roster, listed, listedBack, bothOrNeither}
 use Rattle.model.specs.RosterFile.{readRosterBy, readRoster, writeRosterBy, writeRoster}
 use Rattle.model.specs.Edges.{position, edgesOf, instanceOf}
 use Rattle.model.specs.Plans.{Plan}
 use Rattle.model.specs.PlanFile.{planBytesBy, planBytes, edgeOfPair, readPlanBy, readPlan}
-use Rattle.model.specs.Changes.{joined, joinOn, departed, leaveOn, carried}
+use Rattle.model_changes.specs.Changes.{gone, joined, joinOn, departed, leaveOn, carried}
 use Rattle.model.specs.RosterCases.{refusalIn, meets, alone}
 use Rattle.model.specs.PlanCases.{meetsOn}
 
 abbrev read : String → Reading Roster
 read s = readRoster (bytes s)
@@ -173,6 +173,16 @@ pub leave-refusals : all? (λ (c : String × ℕ). eqb (refusalIn (leave (read (
     ((sample, 0) ∷ (sample, 3) ∷ (sample, 255) ∷ (nobody, 0) ∷ (nobody, 1) ∷ []) ≡ true
 unfolding numbersFrom listed listedBack bothOrNeither readEach readRosterBy departed leaveOn
 leave-refusals = refl
+
+-- one who has left already has quota 0 and no pair; quota 0 with a pair, or a quota without a pair, is not enough
+abbrev goneIn : Reading Roster → (number : ℕ) → Bool
+goneIn (accepted r) s = gone r s
+goneIn (refused n) s = false
+
+pub left-already : (goneIn (read "2 0 1 1 1 1 0 0 1 1 1 1 0 1 0 2 1") 1 ≡ true) × (goneIn (read "2 0 1 1 1 2 0 1 1 1 1 1 1 2 0 2 0 1 1 2 1") 1 ≡ false)
+    × (goneIn (read "1 1 0 0 0 0 0 0") 1 ≡ false)
+unfolding numbersFrom listed listedBack bothOrNeither readEach readRosterBy
+left-already = (refl, refl, refl)
 
 -- ---- the held plan: the plan file that is held before the change, and the plan's bytes behind it; a file that is no plan is no case
 abbrev carriedTo : Roster → Roster → Reading Plan → List ℕ → Bool

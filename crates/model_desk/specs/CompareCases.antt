@@ -5,18 +5,18 @@ use mathlib.Core.List.{List, [], _∷_}
 use lib.IntN.{pos, negsuc}
 use Rattle.lists.specs.Sum.{count}
 use Rattle.lists.specs.Search.{low}
 use Rattle.model.specs.Decimal.{bytes, numbersFrom}
 use Rattle.model.specs.Refusal.{groupOf}
 use Rattle.model.specs.Reading.{Reading, accepted, refused, readEach}
 use Rattle.model.specs.Roster.{Roster, listed, listedBack, bothOrNeither}
 use Rattle.model.specs.RosterFile.{readRosterBy, readRoster}
 use Rattle.model.specs.Edges.{position, edgesOf, instanceOf}
 use Rattle.model.specs.Instance.{deg}
 use Rattle.model.specs.Vote.{nodeVote, vote}
 use Rattle.model.specs.PlanFile.{edgeOfPair, readPlanBy}
-use Rattle.model.specs.Compare.{Part, firstFile, secondFile, first, second, both, neither, comparisonOf, partOf}
-use Rattle.model.specs.Desk.{Answer, votes, refusal, comparisonAnswer}
-use Rattle.model.specs.DeskCases.{Each}
+use Rattle.model_desk.specs.Compare.{Part, firstFile, secondFile, first, second, both, neither, comparisonOf, partOf}
+use Rattle.model_desk.specs.Desk.{Answer, votes, refusal, comparisonAnswer}
+use Rattle.model_desk.specs.DeskCases.{Each}
 
 -- the comparison of two plan files on a roster's file
 pub record Case : Type 0 where

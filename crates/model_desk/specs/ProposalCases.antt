@@ -9,24 +9,24 @@ use mathlib.Core.List.{List, [], _∷_}
 use lib.IntN.{pos, negsuc}
 use Rattle.lists.specs.Sum.{count}
 use Rattle.lists.specs.Search.{low}
 use Rattle.model.specs.Decimal.{bytes, numbersFrom}
 use Rattle.model.specs.Refusal.{groupOf, form, plan, desk}
 use Rattle.model.specs.Reading.{readEach}
 use Rattle.model.specs.Roster.{Roster, listed, listedBack, bothOrNeither}
 use Rattle.model.specs.RosterFile.{readRosterBy}
 use Rattle.model.specs.Edges.{position, edgesOf, instanceOf}
 use Rattle.model.specs.Instance.{deg}
 use Rattle.model.specs.Vote.{nodeVote, vote}
 use Rattle.model.specs.Plans.{Plan, choices, within, plansOf, samePlan, beatenBy, drawnWith, verdictOf}
 use Rattle.model.specs.PlanFile.{Named, planBytesBy, edgeOfPair, readPlanBy}
 use Rattle.model.specs.Blocking.{blocks, someBlocks, topBlocking}
-use Rattle.model.specs.Changes.{joined, joinOn, departed, leaveOn, carried}
-use Rattle.model.specs.Desk as D
-use Rattle.model.specs.Desk.{Choices, Held, nothing, roster, planned, proposed, Call, Answer, loadRoster, loadPlan, propose, commit, loaded, refused}
-use Rattle.model.specs.Desk.{bothVotes, committed, stateRefusal, answerOf, lentAfter, deskAfter, onto}
-use Rattle.model.specs.DeskCases.{whole, diary, early, one, Each, Change, Said, Answered}
-use Rattle.model.specs.DeskChangeCases.{join, leave}
-use Rattle.model.specs.History.{Event, newRoster, newPlan, newProposal, committing, leaver, nothingNew, lastPlan, eventsOf, heldPairs}
+use Rattle.model_changes.specs.Changes.{joined, joinOn, departed, leaveOn, carried}
+use Rattle.model_desk.specs.Desk as D
+use Rattle.model_desk.specs.Desk.{Choices, Held, nothing, roster, planned, proposed, Call, Answer, loadRoster, loadPlan, propose, commit, loaded, refused}
+use Rattle.model_desk.specs.Desk.{bothVotes, committed, stateRefusal, answerOf, lentAfter, deskAfter, onto}
+use Rattle.model_desk.specs.DeskCases.{whole, diary, early, one, Each, Change, Said, Answered}
+use Rattle.model_desk.specs.DeskChangeCases.{join, leave}
+use Rattle.model_desk.specs.History.{Event, newRoster, newPlan, newProposal, committing, leaver, nothingNew, lastPlan, eventsOf, heldPairs}
 
 -- ---- P5: two surveyors tied at one stand of quota 2; the same without the second, without the first, with a third
 abbrev P5File : List ℕ

@@ -10,21 +10,21 @@ use lib.ListN.{replicate}
 use Rattle.lists.specs.Sum.{count}
 use Rattle.lists.specs.Search.{low}
 use Rattle.lists.specs.First as Fst
 use Rattle.model.specs.Decimal.{bytes, numbersFrom}
 use Rattle.model.specs.Reading.{readEach}
 use Rattle.model.specs.Roster.{listed}
 use Rattle.model.specs.Edges.{position, edgesOf, instanceOf}
 use Rattle.model.specs.Instance.{deg}
 use Rattle.model.specs.Vote.{nodeVote, vote}
 use Rattle.model.specs.Plans.{choices, within, plansOf, samePlan, beatenBy, drawnWith, verdictOf}
 use Rattle.model.specs.Reduction as R
 use Rattle.model.specs.PlanFile.{planBytesBy, edgeOfPair, pairBytes}
 use Rattle.model.specs.Finder as F
 use Rattle.model.specs.Finder.{Record, diaryOf, leftOf, candidateOf, finderOf}
-use Rattle.model.specs.Changes.{joined, joinOn, departed, leaveOn, carried}
-use Rattle.model.specs.Desk as D
-use Rattle.model.specs.Desk.{Choices, Call, Lends, stateRefusal, lentAfter}
-use Rattle.model.specs.DeskCases.{diary, sample, twice, one}
+use Rattle.model_changes.specs.Changes.{joined, joinOn, departed, leaveOn, carried}
+use Rattle.model_desk.specs.Desk as D
+use Rattle.model_desk.specs.Desk.{Choices, Call, Lends, stateRefusal, lentAfter}
+use Rattle.model_desk.specs.DeskCases.{diary, sample, twice, one}
 
 abbrev step : ℕ → ℕ → ℕ → ℕ → ℕ → Record
 step f s t k r = record { fate = f; surveyor = s; stand = t; shift = k; rule = r }

@@ -6,18 +6,18 @@ use mathlib.Core.Path.{_≡_, refl}
 use mathlib.Core.List.{List, [], _∷_, _++_}
 use lib.ListN.{replicate}
 use Rattle.lists.specs.Search.{low}
 use Rattle.model.specs.Decimal.{bytes, numbersFrom}
 use Rattle.model.specs.Refusal.{groupOf, form, content, plan, desk}
 use Rattle.model.specs.Reading.{Reading, accepted, refused, readEach}
 use Rattle.model.specs.Roster.{Roster, listed, listedBack, bothOrNeither}
 use Rattle.model.specs.RosterFile.{readRosterBy, writeRosterBy}
 use Rattle.model.specs.Edges.{position, edgesOf, instanceOf}
 use Rattle.model.specs.PlanFile.{planBytesBy, edgeOfPair, readPlanBy}
-use Rattle.model.specs.Seasons.{toNew, toOld, planToNew, planToOld}
-use Rattle.model.specs.Desk as D
-use Rattle.model.specs.Desk.{Choices, nothing, roster, stateRefusal, answerOf, lentAfter, deskAfter, wrote}
-use Rattle.model.specs.SeasonCalls.{fileAnswer, fileLent}
-use Rattle.model.specs.DeskCases.{whole, entry, sample, twice, one, Each, Change, Said, Answered, Lent}
+use Rattle.model_desk.specs.Seasons.{toNew, toOld, planToNew, planToOld}
+use Rattle.model_desk.specs.Desk as D
+use Rattle.model_desk.specs.Desk.{Choices, nothing, roster, stateRefusal, answerOf, lentAfter, deskAfter, wrote}
+use Rattle.model_desk.specs.SeasonCalls.{fileAnswer, fileLent}
+use Rattle.model_desk.specs.DeskCases.{whole, entry, sample, twice, one, Each, Change, Said, Answered, Lent}
 
 -- a file, and what it becomes
 abbrev Turned : Type 0

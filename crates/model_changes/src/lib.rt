@@ -1,0 +1,1 @@
+// Surveyors who join and leave (request W-202): definitions and their cases.

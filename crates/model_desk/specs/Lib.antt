@@ -1,0 +1,11 @@
+pub mod Seasons
+pub mod Compare
+pub mod Desk
+pub mod History
+pub mod SeasonCalls
+pub mod DeskCases
+pub mod CompareCases
+pub mod DeskChangeCases
+pub mod LentCases
+pub mod ProposalCases
+pub mod SeasonCases
