@@ -1,2 +1,1 @@
 pub mod TwoPlans
-pub mod Parts

@@ -18,7 +18,7 @@ ghost use Rattle.desk_looks.specs.Comparing.{Compares};
 ghost use Rattle.desk.specs.Replies.{searchedIn};
 ghost use Rattle.desk_looks.specs.Judging.{Judges};
 ghost use Rattle.desk_files.specs.Replies.{Replied};
-ghost use Rattle.desk_looks.specs.Seasons.{Turns};
+ghost use Rattle.desk_writes.specs.Seasons.{Turns};
 use answers::Blocked;
 use answers::Commit;
 use answers::Comparison;
@@ -199,7 +199,7 @@ impl Desk {
     pub fn propose(self, file: &[u8]) -> ProposeReply
         ensures { λ r. ⌜ Replied (self .files) (propose (now (file .entry))) (proposalShown (r .answer)) (propose (now (file .entry))) (r .desk .files) ⌝ }
     {
-        let r = desk_loads::propose(self.files, file);
+        let r = desk_proposals::propose(self.files, file);
         let files = r.files;
         let answer = r.answer;
         ProposeReply {
@@ -212,7 +212,7 @@ impl Desk {
     pub fn commit(self) -> CommitReply
         ensures { λ r. ⌜ Replied (self .files) commit (commitShown (r .answer)) commit (r .desk .files) ⌝ }
     {
-        let r = desk_loads::commit(self.files);
+        let r = desk_proposals::commit(self.files);
         let files = r.files;
         let answer = r.answer;
         CommitReply {
@@ -224,7 +224,7 @@ impl Desk {
     pub fn write_roster(self, out: &mut [u8]) -> WriteReply
         ensures { λ r. ⌜ Replied (self .files) (writeRosterTo (now (out .entry))) (writtenShown (r .answer)) (writeRosterTo (now (out .exit))) (r .desk .files) ⌝ }
     {
-        let a = desk_looks::write_roster(self.files, out);
+        let a = desk_writes::write_roster(self.files, out);
         WriteReply {
             desk: self,
             answer: a,
@@ -234,7 +234,7 @@ impl Desk {
     pub fn write_plan(self, out: &mut [u8]) -> WriteReply
         ensures { λ r. ⌜ Replied (self .files) (writePlanTo (now (out .entry))) (writtenShown (r .answer)) (writePlanTo (now (out .exit))) (r .desk .files) ⌝ }
     {
-        let a = desk_looks::write_plan(self.files, out);
+        let a = desk_writes::write_plan(self.files, out);
         WriteReply {
             desk: self,
             answer: a,
@@ -270,7 +270,7 @@ impl Desk {
         ensures { λ r. ⌜ Compares (self .files) (first .entry) (second .entry) (r .answer) (r .part) (r .desk .files) ⌝ }
     {
         let c = self.compare_votes(first, second);
-        let p = compare::part_of(c.answer, first, second);
+        let p = compare_winner::part_of(c.answer, first, second);
         Compared {
             desk: c.desk,
             answer: c.answer,
@@ -343,7 +343,7 @@ impl Desk {
     pub fn plan_to_new(self, file: &[u8], out: &mut [u8]) -> WriteReply
         ensures { λ r. ⌜ Turns planToNew planToOld (self .files) (now (file .entry)) (now (out .entry)) (r .answer) (now (out .exit)) (r .desk .files) ⌝ }
     {
-        let a = desk_looks::turned(self.files, file, false, out);
+        let a = desk_writes::turned(self.files, file, false, out);
         WriteReply {
             desk: self,
             answer: a,
@@ -354,7 +354,7 @@ impl Desk {
     pub fn plan_to_old(self, file: &[u8], out: &mut [u8]) -> WriteReply
         ensures { λ r. ⌜ Turns planToOld planToNew (self .files) (now (file .entry)) (now (out .entry)) (r .answer) (now (out .exit)) (r .desk .files) ⌝ }
     {
-        let a = desk_looks::turned(self.files, file, true, out);
+        let a = desk_writes::turned(self.files, file, true, out);
         WriteReply {
             desk: self,
             answer: a,

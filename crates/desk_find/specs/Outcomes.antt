@@ -103,35 +103,35 @@ sizes room l p v e =
     none false b e = (refl, e)
 
 module _ {roster file : List ℕ} (room : ℕ) (l p v : List ℕ) {b : Bool} {k : OnDesk} (is : b ≡ short room l p v) (loaded : LoadedFrom roster file false b k)
-    where
-  F : LoadedFrom roster file false (short room l p v) k
-  F = subst (λ b. LoadedFrom roster file false b k) is loaded
+  where
+    F : LoadedFrom roster file false (short room l p v) k
+    F = subst (λ b. LoadedFrom roster file false b k) is loaded
 
-  -- the state's refusal
-  pub out-refused : 0 < k .refusal → (o : Outcome) → Refuses (k .refusal) o → Outcomes roster room l p v o l p v
-  out-refused h o r = go (readRoster roster) (short room l p v) (F .refusal)
-    where
-      kept : (n : ℕ) → k .refusal ≡ n → Kept n l p v o l p v
-      kept n e = record { refuses = subst (λ n. Refuses n o) e r; left = refl; plan = refl; rival = refl }
+    -- the state's refusal
+    pub out-refused : 0 < k .refusal → (o : Outcome) → Refuses (k .refusal) o → Outcomes roster room l p v o l p v
+    out-refused h o r = go (readRoster roster) (short room l p v) (F .refusal)
+      where
+        kept : (n : ℕ) → k .refusal ≡ n → Kept n l p v o l p v
+        kept n e = record { refuses = subst (λ n. Refuses n o) e r; left = refl; plan = refl; rival = refl }
 
-      go : (x : Reading Roster) (b : Bool) → k .refusal ≡ stateNumber (held x file) false b → OutcomeFor x b l p v o l p v
-      go (refused n) b e = kept 13 e
-      go (accepted R) true e = kept 15 (e ∙ sym (unneeded R (readPlan (instanceOf R) file) true))
-      go (accepted R) false e = absurd (let q = e ∙ sym (unneeded R (readPlan (instanceOf R) file) false) in let z : ⊥ = omega arith in z)
+        go : (x : Reading Roster) (b : Bool) → k .refusal ≡ stateNumber (held x file) false b → OutcomeFor x b l p v o l p v
+        go (refused n) b e = kept 13 e
+        go (accepted R) true e = kept 15 (e ∙ sym (unneeded R (readPlan (instanceOf R) file) true))
+        go (accepted R) false e = absurd (let q = e ∙ sym (unneeded R (readPlan (instanceOf R) file) false) in let z : ⊥ = omega arith in z)
 
-  module _ (z : k .refusal ≤ 0) where
-    pub long-enough : (leftSize ≤ length l) × (planSize ≤ length p) × (planSize ≤ length v)
-    long-enough = sizes room l p v (its-length z F)
+    module _ (z : k .refusal ≤ 0) where
+      pub long-enough : (leftSize ≤ length l) × (planSize ≤ length p) × (planSize ≤ length v)
+      long-enough = sizes room l p v (its-length z F)
 
-    pub out-found : (o : Outcome) (l′ p′ v′ : List ℕ) → Works (shownBy (k .g)) l p v o l′ p′ v′ → Outcomes roster room l p v o l′ p′ v′
-    out-found o l′ p′ v′ w = given (its-roster z F) (λ (R, e).
-        let I = F .instance R e in
-        subst (λ y. OutcomeFor y (short room l p v) l p v o l′ p′ v′) (sym e)
-        (subst (λ y. OutcomeFor (accepted R) y l p v o l′ p′ v′) (sym (its-length z F)) (
-          record {
-            fitting = F .fitting R e;
-            few = subst (λ (G : Instance). G .m ≤ entryLimit) (I .1) (I .0 .edges);
-            finds = subst (λ G. FindsIn G (replicate flatSize 0) l p v (o .answer) (o .flat) l′ p′ v′) (I .1) (w .finds);
-          },
-          w .steps,
-        )))
+      pub out-found : (o : Outcome) (l′ p′ v′ : List ℕ) → Works (shownBy (k .g)) l p v o l′ p′ v′ → Outcomes roster room l p v o l′ p′ v′
+      out-found o l′ p′ v′ w = given (its-roster z F) (λ (R, e).
+          let I = F .instance R e in
+          subst (λ y. OutcomeFor y (short room l p v) l p v o l′ p′ v′) (sym e)
+          (subst (λ y. OutcomeFor (accepted R) y l p v o l′ p′ v′) (sym (its-length z F)) (
+            record {
+              fitting = F .fitting R e;
+              few = subst (λ (G : Instance). G .m ≤ entryLimit) (I .1) (I .0 .edges);
+              finds = subst (λ G. FindsIn G (replicate flatSize 0) l p v (o .answer) (o .flat) l′ p′ v′) (I .1) (w .finds);
+            },
+            w .steps,
+          )))

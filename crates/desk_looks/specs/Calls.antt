@@ -1,26 +1,22 @@
 -- The calls that the state lets pass: from what each call on the arrays promises to the desk's reply.
 use Prim.Native.Nat.{ℕ, _≤_}
-use mathlib.Core.Path.{_≡_, refl, sym, ap, _∙_, fun-ext}
+use mathlib.Core.Path.{_≡_, refl, ap, _∙_, fun-ext}
 use mathlib.Core.Bool.{Bool, true, false}
 use mathlib.Core.List.{List, map}
 use lib.ListN.{length}
-use lib.Dec.{ltb, nltb→le}
-use Rattle.lists.specs.Test.{given, false-T}
+use lib.Dec.{ltb}
+use Rattle.lists.specs.Test.{given}
 use Rattle.lists.specs.Sum.{range}
-use Rattle.model.specs.Limits.{planSize, rosterSize}
-use Rattle.model.specs.Reading.{Reading}
+use Rattle.model.specs.Limits.{planSize}
 use Rattle.model.specs.Refusal.{groupOf}
-use Rattle.model.specs.Roster.{Roster}
-use Rattle.model.specs.RosterFile.{writeRoster}
 use Rattle.model.specs.Instance.{Instance}
 use Rattle.model.specs.Edges.{instanceOf}
 use Rattle.model.specs.Plans.{Plan, on, verdictOf}
-use Rattle.model.specs.PlanFile as plans
 use Rattle.model.specs.PlanFile.{edgesIn, readPlan}
 use Rattle.model.specs.Blocking.{someBlocks, topBlocking}
 use Rattle.model_desk.specs.Compare as outcome
 use Rattle.model_desk.specs.Compare.{winnerPart, partOf, comparisonOf}
-use Rattle.model_desk.specs.Desk.{writeRosterTo, writePlanTo, judge, compare, blocking, refusal, wrote, votes, refusedPart, onto, verdictAnswer}
+use Rattle.model_desk.specs.Desk.{judge, compare, blocking, refusal, votes, refusedPart, verdictAnswer}
 use Rattle.model_desk.specs.Desk.{verdictWritten, comparisonAnswer, blockingAnswer}
 use Rattle.theory_verdict.specs.Rival.{rivalOf}
 use Rattle.arrays.specs.ArrayInstance.{at, flag}
@@ -32,30 +28,15 @@ use Rattle.answers.specs.VerdictCases.{verdictShown}
 use Rattle.answers.specs.ComparisonCases.{comparisonShown, comparisonCase, winner-shown}
 use Rattle.answers.specs.BlockedCases.{blockedShown}
 use Rattle.instance.specs.Decoded.{shownBy}
-use Rattle.instance.specs.Loaded.{Loaded}
 use Rattle.verdict.specs.Weighing.{Shows, WeighedFor, desk-answer, desk-written}
 use Rattle.blocking_search.specs.Blocking.{blockedBy, blocked-shown, same-plan}
 use Rattle.desk_loaded.specs.declared.OnDesk.{OnDesk}
 use Rattle.desk_loaded.specs.Held.{heldPlan, stateNumber}
-use Rattle.desk_loaded.specs.OnDesk.{PlanIn, LoadedFrom, its-roster, its-plan, its-length}
+use Rattle.desk_loaded.specs.OnDesk.{LoadedFrom, its-roster}
 use Rattle.desk_files.specs.declared.Files.{Files}
 use Rattle.desk_files.specs.Held.{rosterBytes, planBytes, proposalBytes, heldProposal, beside, heldOf, of-roster, of-plan}
 use Rattle.desk_files.specs.Replies.{Replied}
 use Rattle.desk_files.specs.State.{state-is, roster-held, passes, other, its-plan-held}
-
--- ---- with the roster held
-module _ (d : Files) {short : Bool} {l : OnDesk} (F : LoadedFrom (rosterBytes d) (planBytes d) false short l) (z : l .refusal ≤ 0) where
-  pub write-roster-reply : (out : List ℕ) {k : ℕ} {after : List ℕ} → short ≡ ltb (length out) rosterSize → k ≡ length (rosterBytes d)
-      → after ≡ onto (rosterBytes d) out
-      → Replied d (writeRosterTo out) (wrote k) (writeRosterTo after) d
-  write-roster-reply out s p q = given (its-roster z F) (λ (R, a).
-      let y = readPlan (instanceOf R) (planBytes d) in
-      let w : writeRoster R ≡ rosterBytes d = F .instance R a .2 in
-      let f = proposalBytes d in
-      passes d (writeRosterTo out) tt tt (state-is d F ∙ ap (stateNumber (heldOf d) false) s) z (beside f (heldPlan R y)) (roster-held d R a)
-      (ap wrote (p ∙ ap length (sym w)) ∙ of-roster (refusal 13) (λ r. wrote (length (writeRoster r))) R y f)
-      (ap writeRosterTo (q ∙ ap (λ bs. onto bs out) (sym w)) ∙ of-roster (writeRosterTo out) (λ r. writeRosterTo (onto (writeRoster r) out)) R y f)
-      refl refl)
 
 -- the model's answer to a comparison, for each case of the code's
 compared-shown : (G : Instance) (a b : List ℕ)
@@ -85,15 +66,6 @@ module _ (d : Files) {short : Bool} {l : OnDesk} (F : LoadedFrom (rosterBytes d)
 
   pub plan-listed : edgesIn (l .g .m) (flag (l .plan)) ≡ map (at (l .edges)) (range 0 (l .n))
   plan-listed = given (its-plan-held d F z) (λ (R, M, e, s, P, w). P .listed)
-
-  pub write-plan-reply : (out : List ℕ) {k : ℕ} {after : List ℕ} → short ≡ ltb (length out) planSize → k ≡ length (planBytes d) → after ≡ onto (planBytes d) out
-      → Replied d (writePlanTo out) (wrote k) (writePlanTo after) d
-  write-plan-reply out s p q = given (its-plan-held d F z) (λ (R, M, e, g, P, w).
-      passes d (writePlanTo out) tt tt (state-is d F ∙ ap (stateNumber (heldOf d) true) s) z (heldProposal R M (other d R)) e
-      (ap wrote (p ∙ ap length (sym w)) ∙ of-plan (refusal 14) (λ r M. wrote (length (plans.planBytes (instanceOf r) M))) R M (other d R))
-      (ap writePlanTo (q ∙ ap (λ bs. onto bs out) (sym w))
-      ∙ of-plan (writePlanTo out) (λ r M. writePlanTo (onto (plans.planBytes (instanceOf r) M) out)) R M (other d R))
-      refl refl)
 
   pub judge-reply : (out : List ℕ) {v : Verdict} {after : List ℕ} → short ≡ ltb (length out) planSize → WeighedFor (shownBy (l .g)) (l .plan) out v after
       → Replied d (judge out) (verdictShown v) (judge after) d

@@ -19,7 +19,7 @@ use Rattle.model_desk.specs.Desk.{Held, nothing, roster, planned, Answer, votes
 use Rattle.answers.specs.declared.Comparison.{Comparison}
 use Rattle.answers.specs.declared.Comparison.the-variants.{Votes, Refused}
 use Rattle.answers.specs.ComparisonCases.{partShown, comparisonShown}
-use Rattle.compare.specs.Parts.{placed, Counted}
+use Rattle.compare_winner.specs.Parts.{placed, Counted}
 use Rattle.desk_files.specs.declared.Files.{Files}
 use Rattle.desk_files.specs.Held.{heldOf}
 use Rattle.desk_files.specs.Replies.{partIn, answered, Replied}

@@ -1,4 +1,3 @@
 pub mod Calls
 pub mod Judging
 pub mod Comparing
-pub mod Seasons

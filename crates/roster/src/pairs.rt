@@ -6,7 +6,7 @@ ghost use lib.ListN.{length};
 ghost use Rattle.model.specs.Limits.{nodeLimit};
 ghost use Rattle.roster_reading.specs.Slot.{rowWidth, tableSize};
 ghost use Rattle.roster_reading.specs.Pairs.{rowAlike, bothAlike};
-use roster_fields::SHIFTS;
+use roster_entries::SHIFTS;
 use roster_lists::ROW;
 
 // The pairs of surveyor i, from 0 on, at the first so many places of its row: each names a stand and a shift. `surveyors` and `stands` are the

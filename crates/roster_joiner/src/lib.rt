@@ -23,7 +23,7 @@ pub(crate) fn asks(row: &[bool; ROW], stand: u8, shift: u8) -> bool
         number: stand,
         shift: shift,
     };
-    let k = roster_fields::slot(x);
+    let k = roster_entries::slot(x);
     row[k]
 }
 

@@ -14,7 +14,7 @@ ghost use Rattle.roster_reading.specs.Row.{Shows, Marked, EntriesAt};
 ghost use Rattle.roster_reading.specs.Table.{ListsShown, RankingsShown};
 use limits::LIST_LIMIT;
 use limits::NODE_LIMIT;
-use roster_fields::SHIFTS;
+use roster_entries::SHIFTS;
 use roster_reading::Section;
 
 // The marks of a row: one for each number from 1 to 32 and each of its shifts.
@@ -36,7 +36,7 @@ pub fn entries_at(
     requires { ⌜ (at ≤ length (now file)) × (other * shiftLimit ≤ length (now row)) ⌝ }
     ensures { λ r. ⌜ EntriesAt shifts tied other n (now (file .entry)) at (now (row .entry)) r (now (row .exit)) ⌝ }
 {
-    let width = roster_fields::entry_width(shifts);
+    let width = roster_entries::entry_width(shifts);
     let there = roster_fields::whole_fields(file.len(), at, n, width);
     let end = at + width * there;
     let refusal = roster_fields::check_entries(&file[at..end], there, other, shifts, tied, row);

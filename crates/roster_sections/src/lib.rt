@@ -70,7 +70,7 @@ pub(crate) fn told_end(file: &[u8], at: usize, heads: usize, shifts: bool) -> Se
     if ENTRY_LIMIT < total {
         return Section::Refused(2);
     }
-    let width = roster_fields::entry_width(shifts);
+    let width = roster_entries::entry_width(shifts);
     Section::Read(at + 2 + heads + width * total)
 }
 

@@ -44,13 +44,13 @@ pub(crate) fn append_entries(
     requires { ⌜ Room n (now out) ⌝ }
     ensures { λ r. ⌜ EntriesTurned shifts (now (part .entry)) n (now (out .entry)) r (now (out .exit)) ⌝ }
 {
-    let width = roster_fields::entry_width(shifts);
+    let width = roster_entries::entry_width(shifts);
     let count = part.len() / width;
     let mut len = n;
     let mut first = true;
     let mut i = 0;
     while i < count {
-        let x = roster_fields::entry_at(part, i, shifts);
+        let x = roster_entries::entry_at(part, i, shifts);
         len = append_by(&mut *out, len, x, !shifts);
         first = first & (x.shift == 1);
         i += 1;
@@ -97,7 +97,7 @@ pub(crate) fn append_lists(
     requires { ⌜ Room n (now out) × (start ≤ 40000) × (count ≤ nodeLimit) ⌝ }
     ensures { λ r. ⌜ ListsTurned shifts ties (now (file .entry)) count start n (now (out .entry)) r (now (out .exit)) ⌝ }
 {
-    let width = roster_fields::entry_width(shifts);
+    let width = roster_entries::entry_width(shifts);
     let lengths = heads(ties);
     let mut at = start;
     let mut len = n;

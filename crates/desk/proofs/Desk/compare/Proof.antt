@@ -43,7 +43,7 @@ use Rattle.model_desk.specs.Desk.{compare}
 use Rattle.answers.specs.ComparisonCases.{partShown, comparisonShown}
 use Rattle.answers.proofs.Comparison as E
 use Rattle.answers.proofs.Comparison.Laws as E′
-use Rattle.compare.specs.Parts.{placed}
+use Rattle.compare_winner.specs.Parts.{placed}
 use Rattle.desk.specs.declared.Desk.{Desk}
 use Rattle.desk.specs.declared.CompareReply.{CompareReply}
 use Rattle.desk.specs.declared.Compared.{Compared}
@@ -60,10 +60,10 @@ use Rattle.desk.proofs.Desk.compare_votes as votes
 use Rattle.desk.proofs.Desk.compare_votes.Symbol as votes-def
 use Rattle.desk.proofs.Desk.compare_votes.Symbol.{name as #votes}
 use Rattle.desk.proofs.Desk.compare_votes.Met as votes-thm
-use Rattle.compare.proofs.part_of as part
-use Rattle.compare.proofs.part_of.Symbol as part-def
-use Rattle.compare.proofs.part_of.Symbol.{name as #part}
-use Rattle.compare.proofs.part_of.Met as part-thm
+use Rattle.compare_winner.proofs.part_of as part
+use Rattle.compare_winner.proofs.part_of.Symbol as part-def
+use Rattle.compare_winner.proofs.part_of.Symbol.{name as #part}
+use Rattle.compare_winner.proofs.part_of.Met as part-thm
 use Rattle.desk.proofs.Desk.compare.Key.{name as #compare}
 use Rattle.desk.proofs.Desk.compare as compare′
 use Rattle.desk.proofs.Desk.compare.Statement as stated

@@ -1,7 +1,7 @@
--- `roster_fields::ascends` meets its contract, by the numbers, and where these are equal by the shifts. Assumes nothing.
+-- `roster_entries::ascends` meets its contract, by the numbers, and where these are equal by the shifts. Assumes nothing.
 use borrow.Author.Tests.{eq-eqb, ne-eqb, lt-ltb, le-ltb}
-use Rattle.roster_fields.proofs.ascends.Statement.{statement}
-use Rattle.roster_fields.proofs.ascends.Tie as tie
+use Rattle.roster_entries.proofs.ascends.Statement.{statement}
+use Rattle.roster_entries.proofs.ascends.Tie as tie
 
 returns : tie.Need-returns
 returns c = simp (lt-ltb _ _ (c .if1 .taken))

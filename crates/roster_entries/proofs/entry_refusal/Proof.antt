@@ -1,4 +1,4 @@
--- `roster_fields::entry_refusal` meets its contract, test by test in the order of the model's. Assumes nothing.
+-- `roster_entries::entry_refusal` meets its contract, test by test in the order of the model's. Assumes nothing.
 use mathlib.Core.Path.{_≡_, sym, ap, _∙_}
 use mathlib.Core.Bool.{false, not, cond, _||_}
 use lib.ListN.{getD}
@@ -8,8 +8,8 @@ use Rattle.model.specs.Roster.{before}
 use Rattle.roster_reading.specs.Layout.{entryOf}
 use Rattle.roster_reading.specs.Slot.{slotOf}
 use Rattle.roster_reading.specs.Row.{markCheck}
-use Rattle.roster_fields.proofs.entry_refusal.Statement.{statement}
-use Rattle.roster_fields.proofs.entry_refusal.Tie as tie
+use Rattle.roster_entries.proofs.entry_refusal.Statement.{statement}
+use Rattle.roster_entries.proofs.entry_refusal.Tie as tie
 
 returns : tie.Need-returns
 returns c = simp (eq-eqb _ _ (c .if1 .taken))

@@ -1,12 +1,12 @@
--- `desk_looks::turned` meets its contract: the state's refusal, or what the plan's reading gives. Assumes nothing.
+-- `desk_writes::turned` meets its contract: the state's refusal, or what the plan's reading gives. Assumes nothing.
 use Rattle.model.specs.Limits.{planSize}
 use Rattle.roster_reading.specs.Place.{bytes-of}
 use Rattle.instance.specs.Decoded.{shownBy}
 use Rattle.desk_files.specs.State.{arrays-are, long-enough}
-use Rattle.desk_looks.specs.Seasons.{turns-not, turns}
+use Rattle.desk_writes.specs.Seasons.{turns-not, turns}
 use borrow.Author.Needs.{needs}
-use Rattle.desk_looks.proofs.turned.Statement.{statement}
-use Rattle.desk_looks.proofs.turned.Tie as tie
+use Rattle.desk_writes.proofs.turned.Statement.{statement}
+use Rattle.desk_writes.proofs.turned.Tie as tie
 
 returns : tie.Need-returns
 returns c =

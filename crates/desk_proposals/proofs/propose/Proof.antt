@@ -1,4 +1,4 @@
--- `desk_loads::propose` meets its contract. Assumes nothing.
+-- `desk_proposals::propose` meets its contract. Assumes nothing.
 use mathlib.Core.Path.{sym, ap, _∙_}
 use lib.Dec.{T}
 use mir.Syntax.{w16}
@@ -10,10 +10,10 @@ use Rattle.answers.specs.ComparisonCases.{comparisonCase}
 use Rattle.roster_reading.specs.Place.{bytes-of}
 use Rattle.instance.specs.Decoded.{shownBy}
 use Rattle.desk_files.specs.State.{by-state, state-is, arrays-are}
-use Rattle.desk_loads.specs.Proposals.{propose-refused, proposal-small, propose-taken}
+use Rattle.desk_proposals.specs.Proposals.{propose-refused, proposal-small, propose-taken}
 use borrow.Author.Needs.{needs, sfits-of}
-use Rattle.desk_loads.proofs.propose.Statement.{statement}
-use Rattle.desk_loads.proofs.propose.Tie as tie
+use Rattle.desk_proposals.proofs.propose.Statement.{statement}
+use Rattle.desk_proposals.proofs.propose.Tie as tie
 
 returns : tie.Need-returns
 returns c =

@@ -1,11 +1,11 @@
--- `compare::part_of` meets its contract: the part is tied to its file by its place. Assumes nothing.
+-- `compare_winner::part_of` meets its contract: the part is tied to its file by its place. Assumes nothing.
 use Prim.Native.Nat.{_≤_}
 use native.Mathlib.Omega.{arith}
 use lib.ListN.{length}
-use Rattle.compare.specs.Parts.{counts, first-part, second-part, both-part, no-part, refused-part}
+use Rattle.compare_winner.specs.Parts.{counts, first-part, second-part, both-part, no-part, refused-part}
 use borrow.Author.Needs.{needs}
-use Rattle.compare.proofs.part_of.Statement.{statement}
-use Rattle.compare.proofs.part_of.Tie as tie
+use Rattle.compare_winner.proofs.part_of.Statement.{statement}
+use Rattle.compare_winner.proofs.part_of.Tie as tie
 
 -- both files have their count byte
 counted : (c : tie.After-answer) → let a = c .before .before .args in (1 ≤ length (a .first .now)) × (1 ≤ length (a .second .now))

@@ -1,4 +1,4 @@
--- `roster_fields::entry_at` meets its contract, with shifts and without. Assumes nothing.
+-- `roster_entries::entry_at` meets its contract, with shifts and without. Assumes nothing.
 use Prim.Native.Nat.{ℕ, _+_, _*_, _≤_, _<_}
 use native.Mathlib.Omega.{arith}
 use mathlib.Core.Path.{_≡_, sym, ap, ap₂, _∙_, subst}
@@ -9,8 +9,8 @@ use lib.Seq.{getD-drop}
 use Rattle.model.specs.Limits.{entryWidth}
 use Rattle.model.specs.Roster.{Entry}
 use Rattle.roster_reading.specs.Layout.{widthOf, entryFrom}
-use Rattle.roster_fields.proofs.entry_at.Statement.{statement}
-use Rattle.roster_fields.proofs.entry_at.Tie as tie
+use Rattle.roster_entries.proofs.entry_at.Statement.{statement}
+use Rattle.roster_entries.proofs.entry_at.Tie as tie
 
 module _ (part : List ℕ) (i : ℕ) {shifts : Bool} where
   -- with shifts

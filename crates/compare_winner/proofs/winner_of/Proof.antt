@@ -1,4 +1,4 @@
--- `compare::winner_of` meets its contract: the votes are compared with zero as W-206 has it. Assumes nothing.
+-- `compare_winner::winner_of` meets its contract: the votes are compared with zero as W-206 has it. Assumes nothing.
 use mathlib.Core.Path.{_≡_, sym, ap, _∙_}
 use mathlib.Core.Bool.{Bool}
 use lib.IntN.{ℤ, pos}
@@ -6,8 +6,8 @@ use lib.Signed.{ltZ}
 use mir.Syntax.{w16}
 use mir.Val.{toZ, ofZ, SFits}
 use mir.ValLaws.{toZ-ofZ}
-use Rattle.compare.proofs.winner_of.Statement.{statement}
-use Rattle.compare.proofs.winner_of.Tie as tie
+use Rattle.compare_winner.proofs.winner_of.Statement.{statement}
+use Rattle.compare_winner.proofs.winner_of.Tie as tie
 
 -- the code's test of a vote
 below : (z : ℤ) {b : Bool} → SFits w16 z → ltZ (toZ w16 (ofZ w16 z)) (pos 0) ≡ b → ltZ z (pos 0) ≡ b
