@@ -30,7 +30,8 @@ pub extern "C" fn crew_roster_to_old(file: &[u8], out: &mut [u8]) -> Outcome
 // a plan of an old season as one of today, judged against the held roster; out has at least 193 bytes, else 15
 #[no_mangle]
 pub extern "C" fn crew_plan_to_new(desk: Desk, file: &[u8], out: &mut [u8]) -> DeskWritten
-    ensures { λ r. ⌜ Told (λ x. Turns planToNew planToOld (desk .files) (now (file .entry)) (now (out .entry)) x (now (out .exit)) (r .desk .files)) (r .outcome) ⌝ }
+    ensures { λ r. ⌜ Told (λ x. Turns planToNew planToOld (desk .files) (now (file .entry)) (now (out .entry)) x (now (out .exit))
+        (r .desk .files)) (r .outcome) ⌝ }
 {
     let r = desk.plan_to_new(file, out);
     let d = r.desk;
@@ -45,7 +46,8 @@ pub extern "C" fn crew_plan_to_new(desk: Desk, file: &[u8], out: &mut [u8]) -> D
 // a plan of today with only shift 1 as one of an old season; out has at least 193 bytes, else 15
 #[no_mangle]
 pub extern "C" fn crew_plan_to_old(desk: Desk, file: &[u8], out: &mut [u8]) -> DeskWritten
-    ensures { λ r. ⌜ Told (λ x. Turns planToOld planToNew (desk .files) (now (file .entry)) (now (out .entry)) x (now (out .exit)) (r .desk .files)) (r .outcome) ⌝ }
+    ensures { λ r. ⌜ Told (λ x. Turns planToOld planToNew (desk .files) (now (file .entry)) (now (out .entry)) x (now (out .exit))
+        (r .desk .files)) (r .outcome) ⌝ }
 {
     let r = desk.plan_to_old(file, out);
     let d = r.desk;

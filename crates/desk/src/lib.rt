@@ -1,6 +1,7 @@
 // The desk, document 01's session state: "The desk goes into each call by value and comes back: nothing loaded, a roster, or a roster and
-// a plan." W-207: a proposal may stand beside a plan. What it holds is said by its bytes alone, so any field values may come in: a length above its array is cut to it, bytes that
-// are no roster are nothing loaded, and bytes that are no plan of the roster are no plan held. No call asks anything of its caller.
+// a plan." W-207: a proposal may stand beside a plan. What it holds is said by its bytes alone, so any field values may come in: a length above
+// its array is cut to it, bytes that are no roster are nothing loaded, and bytes that are no plan of the roster are no plan held. No call asks
+// anything of its caller.
 ghost use mathlib.Core.Path.{_≡_};
 ghost use Rattle.model_changes.specs.Changes.{leaveOn};
 ghost use Rattle.model_desk.specs.Desk.{opening, loadRoster, loadPlan, writeRosterTo, writePlanTo, join, leave, compare, blocking, planToNew, planToOld};
@@ -222,7 +223,8 @@ impl Desk {
     }
 
     pub fn write_roster(self, out: &mut [u8]) -> WriteReply
-        ensures { λ r. ⌜ Replied (self .files) (writeRosterTo (now (out .entry))) (writtenShown (r .answer)) (writeRosterTo (now (out .exit))) (r .desk .files) ⌝ }
+        ensures { λ r. ⌜ Replied (self .files) (writeRosterTo (now (out .entry))) (writtenShown (r .answer)) (writeRosterTo (now (out .exit)))
+            (r .desk .files) ⌝ }
     {
         let a = desk_writes::write_roster(self.files, out);
         WriteReply {
@@ -296,7 +298,8 @@ impl Desk {
         plan: &mut [u8],
         rival: &mut [u8],
     ) -> FindReply
-        ensures { λ r. ⌜ Finds (self .files) (now (diary .entry)) (now (left .entry)) (now (plan .entry)) (now (rival .entry)) (r .answer) (now (diary .exit)) (now (left .exit))
+        ensures { λ r. ⌜ Finds (self .files) (now (diary .entry)) (now (left .entry)) (now (plan .entry)) (now (rival .entry)) (r .answer)
+            (now (diary .exit)) (now (left .exit))
             (now (plan .exit)) (now (rival .exit)) (r .desk .files) ⌝ }
     {
         let c = core(self, diary.len(), left, plan, rival);
@@ -314,7 +317,8 @@ impl Desk {
         plan: &mut [u8],
         rival: &mut [u8],
     ) -> FindReply
-        ensures { λ r. ⌜ Changes (self .files) (join quota (now (list .entry))) (now (diary .entry)) (now (left .entry)) (now (plan .entry)) (now (rival .entry))
+        ensures { λ r. ⌜ Changes (self .files) (join quota (now (list .entry))) (now (diary .entry)) (now (left .entry)) (now (plan .entry))
+            (now (rival .entry))
             (r .answer) (now (diary .exit)) (now (left .exit)) (now (plan .exit)) (now (rival .exit)) (r .desk .files) ⌝ }
     {
         let c = join_core(self, quota, list, diary.len(), left, plan, rival);

@@ -208,7 +208,8 @@ module _ (call : Lends) (change : ToRoster) (n : ℕ) (K : IsChange call change 
   unfolding heldOf
   state-is x b e q =
       ap₂ (λ x b. stateNumber (held x (planBytes d)) false b) (sym e) (sym q ∙ short-is s l p v ∙ sym (K .sizes (recordsIn s) l p v))
-      ∙ beside-number (proposalBytes d) (held (readRoster (rosterBytes d)) (planBytes d)) false (lentShort C) ∙ ap (λ a. stateNumber (heldOf d) a (lentShort C)) (sym (K .noPlan (recordsIn s) l p v))
+      ∙ beside-number (proposalBytes d) (held (readRoster (rosterBytes d)) (planBytes d)) false (lentShort C)
+      ∙ ap (λ a. stateNumber (heldOf d) a (lentShort C)) (sym (K .noPlan (recordsIn s) l p v))
 
   state-refused : (m : ℕ) → 0 < m → m ≡ stateNumber (heldOf d) (needsPlan C) (lentShort C) → Replied d C (refusal m) C d
   state-refused m h e = by-state d C (K .needs (recordsIn s) l p v) (K .noProposal (recordsIn s) l p v) e h (sym (K .refuses m (recordsIn s) l p v))
@@ -275,7 +276,8 @@ module _ (call : Lends) (change : ToRoster) (n : ℕ) (K : IsChange call change 
 
       -- the plan M, and the proposal beside it
       beside-then : (M M′ : Plan) → M′ ≡ carried (instanceOf R) (instanceOf H) M
-          → beside (proposalBytes (k .files)) (planned H M′) ≡ withChange (K .closes R) (heldProposal R M (readPlan (instanceOf R) (proposalBytes d))) (accepted H)
+          → beside (proposalBytes (k .files)) (planned H M′)
+          ≡ withChange (K .closes R) (heldProposal R M (readPlan (instanceOf R) (proposalBytes d))) (accepted H)
       unfolding readPlanBy
       beside-then M M′ m = go (K .closes R) refl
         where

@@ -113,7 +113,8 @@ unfolding heldOf
 roster-held d R a = ap (λ x. beside (proposalBytes d) (held x (planBytes d))) a
 
 -- a call that leaves the desk as it came: its answer and the bytes lent, by what is held
-module _ (d : Files) (c : Call) (t : T (needsRoster c)) (u : T (not (needsProposal c))) {n : ℕ} (i : n ≡ stateNumber (heldOf d) (needsPlan c) (lentShort c)) (z : n ≤ 0) where
+module _ (d : Files) (c : Call) (t : T (needsRoster c)) (u : T (not (needsProposal c))) {n : ℕ}
+    (i : n ≡ stateNumber (heldOf d) (needsPlan c) (lentShort c)) (z : n ≤ 0) where
   pub passed : 0 ≡ stateRefusal (heldOf d) c
   passed = no-number z i ∙ states (heldOf d) c t u
 

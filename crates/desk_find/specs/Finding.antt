@@ -77,7 +77,8 @@ fit room l p v o l′ p′ v′ (accepted R) false q (f, e) =
     first true b e = subst T e tt
     first false b e = tt
 
-pub within : (d : Files) (room : ℕ) (l p v : List ℕ) (c : Searched) (l′ p′ v′ : List ℕ) → Done d room l p v c l′ p′ v′ → (c .outcome .steps ≤ 1024) × (c .outcome .steps ≤ room)
+pub within : (d : Files) (room : ℕ) (l p v : List ℕ) (c : Searched) (l′ p′ v′ : List ℕ) → Done d room l p v c l′ p′ v′
+    → (c .outcome .steps ≤ 1024) × (c .outcome .steps ≤ room)
 within d room l p v c l′ p′ v′ D = fit room l p v (c .outcome) l′ p′ v′ (readRoster (rosterBytes d)) (short room l p v) refl (D .outcome)
 
 -- ---- the reply
@@ -145,7 +146,8 @@ module _ (s : List Step) (l p v : List ℕ) where
 
       found-reply : 0 ≡ stateRefusal (heldOf d) call → Replied d call (foundShown ans) (find (recordsIn s′) l′ p′ v′) d′
       found-reply z = record {
-        answer = answer-here ∙ sym (ap (λ h. answerOn chosen h call) (roster-held d R e) ∙ answer-on R (planBytes d) (proposalBytes d)) ∙ pass-answer (heldOf d) call z;
+        answer = answer-here ∙ sym (ap (λ h. answerOn chosen h call) (roster-held d R e) ∙ answer-on R (planBytes d) (proposalBytes d))
+            ∙ pass-answer (heldOf d) call z;
         lent = lent-here ∙ sym (ap (λ h. lentOn chosen h call) (roster-held d R e) ∙ lent-on R (planBytes d) (proposalBytes d)) ∙ pass-lent (heldOf d) call z;
         desk = ap heldOf same ∙ desk-alike (heldOf d) call refl;
         stored = same;
@@ -220,6 +222,7 @@ pub found : (d : Files) (s : List Step) (l p v : List ℕ) (c : Searched) (s′ 
     → Finds d s l p v (c .outcome .answer) s′ l′ p′ v′ (c .files)
 found d s l p v c s′ l′ p′ v′ D w =
     let (a, b) =
-    by-outcome s l p v d (c .outcome .answer) (c .files) (D .same) (c .outcome .flat) s′ l′ p′ v′ (readRoster (rosterBytes d)) refl (short (length s) l p v) refl (c .outcome .steps)
+    by-outcome s l p v d (c .outcome .answer) (c .files) (D .same) (c .outcome .flat) s′ l′ p′ v′ (readRoster (rosterBytes d)) refl
+    (short (length s) l p v) refl (c .outcome .steps)
     (D .outcome) w in
     record { replied = a; demand3 = b }

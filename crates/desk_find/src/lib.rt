@@ -86,7 +86,8 @@ pub fn search(
     plan: &mut [u8],
     rival: &mut [u8],
 ) -> Searched
-    ensures { λ r. ⌜ Done files room (now (left .entry)) (now (plan .entry)) (now (rival .entry)) r (now (left .exit)) (now (plan .exit)) (now (rival .exit)) ⌝ }
+    ensures { λ r. ⌜ Done files room (now (left .entry)) (now (plan .entry)) (now (rival .entry)) r (now (left .exit)) (now (plan .exit))
+        (now (rival .exit)) ⌝ }
 {
     let roster = files.roster;
     let held = files.plan;

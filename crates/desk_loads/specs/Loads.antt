@@ -85,7 +85,8 @@ module _ (d : Files) (file : List ℕ) {l : OnDesk} (F : LoadedFrom (rosterBytes
 
   answers : {a : FileAnswer} (R : Roster) (y : Reading Plan) → a ≡ fileCase (readPlan (instanceOf R) file)
       → fileShown a ≡ answerOn chosen (now R y) (loadPlan file)
-  answers R y e = ap fileShown e ∙ plan-shown (readPlan (instanceOf R) file) ∙ of-roster (refusal 13) (λ r. loadedPlan (readPlan (instanceOf r) file)) R y (proposalBytes d)
+  answers R y e = ap fileShown e ∙ plan-shown (readPlan (instanceOf R) file)
+      ∙ of-roster (refusal 13) (λ r. loadedPlan (readPlan (instanceOf r) file)) R y (proposalBytes d)
 
   holds : (R : Roster) (y : Reading Plan) → withPlan (now R y) R (readPlan (instanceOf R) file) ≡ deskOn (now R y) (loadPlan file)
   holds R y = of-roster (now R y) (λ r. withPlan (now R y) r (readPlan (instanceOf r) file)) R y (proposalBytes d)
@@ -112,7 +113,8 @@ module _ (d : Files) (file : List ℕ) {l : OnDesk} (F : LoadedFrom (rosterBytes
               answers R y (against e R r) ∙ ap (λ h. answerOn chosen h (loadPlan file)) (sym (roster-held d R r)) ∙ pass-answer (heldOf d) (loadPlan file) s;
           lent = lent-alike (heldOf d) (loadPlan file) refl;
           desk = roster-held d′ R (ap readRoster (ap₂ take m b) ∙ r) ∙ ap₂ (λ f q. beside f (heldPlan R (readPlan (instanceOf R) q))) u p
-              ∙ ap (λ y. beside [] (heldPlan R y)) (t .1) ∙ sym (ap (withPlan (now R y) R) (t .1)) ∙ holds R y ∙ ap (λ h. deskOn h (loadPlan file)) (sym (roster-held d R r))
+              ∙ ap (λ y. beside [] (heldPlan R y)) (t .1) ∙ sym (ap (withPlan (now R y) R) (t .1)) ∙ holds R y
+              ∙ ap (λ h. deskOn h (loadPlan file)) (sym (roster-held d R r))
               ∙ pass-desk (heldOf d) (loadPlan file) s;
           stored = ((m, b), p, u);
         })

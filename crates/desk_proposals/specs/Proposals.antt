@@ -21,7 +21,8 @@ use Rattle.model.specs.Plans.{Plan, voteOf}
 use Rattle.model.specs.PlanFile.{readPlanBy, readPlan}
 use Rattle.model_desk.specs.Compare as model
 use Rattle.model_desk.specs.Compare.{compared, secondJudged, comparisonOf}
-use Rattle.model_desk.specs.Desk.{Held, nothing, roster, planned, proposed, Answer, refused, refusal, bothVotes, committed, propose, commit, proposalAnswer, withProposal}
+use Rattle.model_desk.specs.Desk.{Held, nothing, roster, planned, proposed, Answer, refused, refusal, bothVotes, committed, propose, commit}
+use Rattle.model_desk.specs.Desk.{proposalAnswer, withProposal}
 use Rattle.model_desk.specs.Desk.{stateRefusal, answerOf, answerOn, deskOn, deskAfter}
 use Rattle.theory_finder.specs.Choices.{chosen}
 use Rattle.theory_files.specs.Reads.{isBytes}

@@ -17,7 +17,8 @@ use Rattle.model.specs.Edges.{instanceOf}
 use Rattle.model.specs.Plans.{Plan}
 use Rattle.model.specs.PlanFile.{readPlan}
 use Rattle.model_desk.specs.Seasons as S
-use Rattle.model_desk.specs.Desk.{Held, Call, planToNew, planToOld, refused, wrote, refusal, onto, convertedAnswer, convertedOnto, stateRefusal, answerOn, lentOn}
+use Rattle.model_desk.specs.Desk.{Held, Call, planToNew, planToOld, refused, wrote, refusal, onto, convertedAnswer, convertedOnto}
+use Rattle.model_desk.specs.Desk.{stateRefusal, answerOn, lentOn}
 use Rattle.theory_files.specs.PlanFiles.{Fileable}
 use Rattle.theory_files.specs.RosterInstance.{fileable}
 use Rattle.theory_files.specs.PlanSeasons.{plan-back, plan-forth}

@@ -67,7 +67,8 @@ module _ (shifts : Bool) (f : List ℕ) where
       → (namedAt shifts f at ≡ p) × (drop (at + widthOf shifts) f ≡ rest)
   pair-at at p rest t e =
       let room : at + widthOf shifts ≤ length f = inside (widthOf shifts) (length rest)
-      (sym (length-drop at f) ∙ ap length e ∙ length-append (pairLayout shifts .bytes p) rest ∙ ap (λ k. k + length rest) (agrees shifts .wide p ∙ same-width shifts))
+      (sym (length-drop at f) ∙ ap length e ∙ length-append (pairLayout shifts .bytes p) rest
+      ∙ ap (λ k. k + length rest) (agrees shifts .wide p ∙ same-width shifts))
       (some shifts) in
       let q = sym (field-at shifts f at room) ∙ ap (pairLayout shifts .field) e ∙ agrees shifts .reads .forth p rest t in
       (read-value q, read-rest q)
@@ -100,7 +101,8 @@ module _ (shifts : Bool) (G : Instance) (F : Fileable G) (f : List ℕ) (isB : T
 
   file-is : f ≡ length ds ∷ gather (pairLayout shifts .bytes) names
   unfolding planBytesBy
-  file-is = sym (plan-read-write-by G (pairLayout shifts) (agrees shifts) f M isB a) ∙ ap (λ z. length ds ∷ z) (bytes-are G (pairLayout shifts) (agrees shifts) ds)
+  file-is = sym (plan-read-write-by G (pairLayout shifts) (agrees shifts) f M isB a)
+      ∙ ap (λ z. length ds ∷ z) (bytes-are G (pairLayout shifts) (agrees shifts) ds)
 
   pub pairs-few : length ds ≤ planLimit
   pairs-few = plan-few G F M (plan-read-within-by G (pairLayout shifts) (agrees shifts) f M isB a)

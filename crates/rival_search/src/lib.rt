@@ -169,7 +169,8 @@ pub fn searched(
         × Low n (now ps) nodeLimit × Low n (now pt) nodeLimit
         × Rows (now arcs) n (arcCell m (now sv) (now st) (now rs) (now rt) (now plan) (now ps) (now pt) (now rps) (now rpt))
         × (m ≤ low (freeAt (now sv) (now st) (now plan) (now fs) (now ft)) m) ⌝ }
-    ensures { λ r. ⌜ Searched m (now (sv .entry)) (now (st .entry)) (now (rs .entry)) (now (rt .entry)) (now (plan .entry)) n (now (ps .entry)) (now (pt .entry))
+    ensures { λ r. ⌜ Searched m (now (sv .entry)) (now (st .entry)) (now (rs .entry)) (now (rt .entry)) (now (plan .entry)) n (now (ps .entry))
+        (now (pt .entry))
         (now (rps .entry)) (now (rpt .entry)) (now (fs .entry)) (now (ft .entry)) (now (arcs .entry)) (r .below) (r .found) ⌝ }
 {
     let ends = terminal_table(

@@ -75,7 +75,8 @@ fn judged_by_tables(
         × Low planLimit (now ps) nodeLimit × Low planLimit (now pt) nodeLimit
         × Linked m (now sv) (now hs) (now ls) × Linked m (now st) (now ht) (now lt)
         × (m ≤ low (freeAt (now sv) (now st) (now plan) (now fs) (now ft)) m) ⌝ }
-    ensures { λ r. ⌜ ShownFor m (now (sv .entry)) (now (st .entry)) (now (rs .entry)) (now (rt .entry)) (now (plan .entry)) n (now (ps .entry)) (now (pt .entry))
+    ensures { λ r. ⌜ ShownFor m (now (sv .entry)) (now (st .entry)) (now (rs .entry)) (now (rt .entry)) (now (plan .entry)) n (now (ps .entry))
+        (now (pt .entry))
         (now (fs .entry)) (now (ft .entry)) (verdictFor (r .beaten) (r .rivalled)) (r .rival) ⌝ }
 {
     let arcs = rival_arcs::arcs(m, sv, st, rs, rt, plan, ht, lt, n, ps, pt, qs, qt);
@@ -150,7 +151,8 @@ pub fn judged_on(
     requires { ⌜ (m ≤ entryLimit) × (n ≤ planLimit) × Low m (now sv) nodeLimit × Low m (now st) nodeLimit × Lists m (now plan) n (now es)
         × Views n (now es) (now sv) (now st) (now rs) (now rt) (now ps) (now pt) (now qs) (now qt)
         × Low planLimit (now ps) nodeLimit × Low planLimit (now pt) nodeLimit ⌝ }
-    ensures { λ r. ⌜ ShownFor m (now (sv .entry)) (now (st .entry)) (now (rs .entry)) (now (rt .entry)) (now (plan .entry)) n (now (ps .entry)) (now (pt .entry))
+    ensures { λ r. ⌜ ShownFor m (now (sv .entry)) (now (st .entry)) (now (rs .entry)) (now (rt .entry)) (now (plan .entry)) n (now (ps .entry))
+        (now (pt .entry))
         (now (fs .entry)) (now (ft .entry)) (verdictFor (r .beaten) (r .rivalled)) (r .rival) ⌝ }
 {
     let f = rival_capacity::direct(m, sv, st, plan, fs, ft);
@@ -204,7 +206,8 @@ pub fn judge(
     es: &[u16; 64],
 ) -> Judged
     requires { ⌜ (m ≤ entryLimit) × (n ≤ planLimit) × Low m (now sv) nodeLimit × Low m (now st) nodeLimit × Lists m (now plan) n (now es) ⌝ }
-    ensures { λ r. ⌜ RivalShown m (now (sv .entry)) (now (st .entry)) (now (rs .entry)) (now (rt .entry)) (now (bs .entry)) (now (bt .entry)) (now (plan .entry))
+    ensures { λ r. ⌜ RivalShown m (now (sv .entry)) (now (st .entry)) (now (rs .entry)) (now (rt .entry)) (now (bs .entry)) (now (bt .entry))
+        (now (plan .entry))
         (verdictFor (r .beaten) (r .rivalled)) (r .rival) ⌝ }
 {
     let ps = rival_tables::gathered(n, es, sv);

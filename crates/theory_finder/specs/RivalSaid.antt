@@ -17,7 +17,8 @@ use Rattle.model.specs.Plans as P
 use Rattle.model.specs.Plans.{Plan, plansOf, samePlan, isStrong, voteOf, verdictOf}
 use Rattle.model.specs.PlanFile.{planBytes}
 use Rattle.model_desk.specs.Desk as D
-use Rattle.model_desk.specs.Desk.{Held, planHeld, Answer, Call, judge, planned, short, onto, refused, strong, popular, beaten, stateRefusal, answerOf, lentAfter}
+use Rattle.model_desk.specs.Desk.{Held, planHeld, Answer, Call, judge, planned, short, onto, refused, strong, popular, beaten}
+use Rattle.model_desk.specs.Desk.{stateRefusal, answerOf, lentAfter}
 use Rattle.model_desk.specs.Desk.{verdictAnswer, verdictWritten}
 use Rattle.theory_verdict.specs.Rival.{rivalOf}
 use Rattle.theory_finder.specs.Demand3.{rival-holds}

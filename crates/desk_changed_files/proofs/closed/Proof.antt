@@ -11,7 +11,8 @@ returns c =
 
 returns-2 : tie.Need-returns-2
 returns-2 c =
-    (refl, refl, open-no-more (c .before .before .before .before .front .ensures) (c .before .before .front2 .ensures) (c .before .same .ensures) (c .if1 .left))
+    let s = c .before in
+    (refl, refl, open-no-more (s .before .before .before .front .ensures) (s .before .front2 .ensures) (s .same .ensures) (c .if1 .left))
 
 pub closed-spec : {M : Type 1} → statement M
 closed-spec =

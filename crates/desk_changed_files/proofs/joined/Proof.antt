@@ -23,7 +23,9 @@ join-requires c κs =
     given (its-roster (s .if1 .left) (s .before .loaded .ensures)) (λ (R, a). (R, ap readRoster (c .front .ensures) ∙ a))
 
 taken-requires : tie.Need-taken-requires
-taken-requires c κs = let s = c .before .before .before .before in arrays-are (s .before .before .before .args .files) (s .before .loaded .ensures) (s .if1 .left)
+taken-requires c κs =
+    let s = c .before .before .before .before in
+    arrays-are (s .before .before .before .args .files) (s .before .loaded .ensures) (s .if1 .left)
 
 returns-2 : tie.Need-returns-2
 returns-2 c =

@@ -6,15 +6,16 @@ use Rattle.desk_find.proofs.worked.Tie as tie
 
 flat-records-requires : tie.Need-flat-records-requires
 flat-records-requires c κs =
-    let s = c .before .before .before .before .before .before .before .before .before .before .before .before .before .before .before .before .before .before .before .before in
-    let f = c .before .before .before .before .before .before .before .before .before .before .find in
+    let r = c .before .before .before .before .before .before .before .before .before .before in
+    let s = r .before .before .before .before .before .before .before .before .before .before in
+    let f = r .find in
     can-read (s .args .g) (s .pre .0) _ _ _ (f .result) _ _ _ (f .ensures)
 
 returns : tie.Need-returns
 returns c =
-    let s =
-    c .before .before .before .before .before .before .before .before .before .before .before .before .before .before .before .before .before .before .before .before .before in
-    let f = c .before .before .before .before .before .before .before .before .before .before .before .find in
+    let r = c .before .before .before .before .before .before .before .before .before .before .before in
+    let s = r .before .before .before .before .before .before .before .before .before .before in
+    let f = r .find in
     works (s .args .g) (s .pre .0) _ _ _ (f .result) _ _ _ (f .ensures) _ (c .flat-records .ensures)
 
 pub worked-spec : {M : Type 1} → statement M

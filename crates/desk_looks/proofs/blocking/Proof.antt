@@ -26,7 +26,8 @@ blocking-requires c κs =
 
 returns-2 : tie.Need-returns-2
 returns-2 c =
-    blocking-reply (c .before .before .before .before .before .before .before .args .files) (c .before .before .before .before .before .before .loaded .ensures) (c .before .before .before .before .before .if1 .left) refl (c .blocking .ensures)
+    let s = c .before .before .before .before .before in
+    blocking-reply (s .before .before .args .files) (s .before .loaded .ensures) (s .if1 .left) refl (c .blocking .ensures)
 
 pub blocking-spec : {M : Type 1} → statement M
 blocking-spec = tie.close (tie.spec (λ c κs. search needs) (λ c κs. search needs) returns blocking-requires returns-2)

@@ -15,7 +15,9 @@ returns c =
     commit-refused (c .before .before .before .args .files) (l .ensures) (c .before .if1 .taken) (c .group-of .result) (c .group-of .ensures)
 
 read-plan-requires : tie.Need-read-plan-requires
-read-plan-requires c κs = arrays-are (c .before .before .before .before .before .args .files) (c .before .before .before .before .loaded .ensures) (c .before .before .before .if1 .left)
+read-plan-requires c κs =
+    let s = c .before .before .before in
+    arrays-are (s .before .before .args .files) (s .before .loaded .ensures) (s .if1 .left)
 
 returns-2 : tie.Need-returns-2
 returns-2 c =

@@ -23,7 +23,9 @@ returns c =
     (ap (refused (l .result .refusal)) (c .group-of .ensures))
 
 compare-requires : tie.Need-compare-requires
-compare-requires c κs = arrays-are (c .before .before .before .before .before .before .args .files) (c .before .before .before .before .loaded .ensures) (c .before .before .before .if1 .left)
+compare-requires c κs =
+    let s = c .before .before .before in
+    arrays-are (s .before .before .before .args .files) (s .before .loaded .ensures) (s .if1 .left)
 
 with-proposal-requires : tie.Need-with-proposal-requires
 with-proposal-requires c κs =

@@ -300,7 +300,8 @@ module _ {M : Type 1} (𝓤 : URA M) (H : Heap 𝓤) (A : Atoms 𝓤) (W : Given
           (guardI 𝓤 (n ≤ n) (⋆ 𝓤 H A (At 0)) (le-refl n)))
           (loop-rule 𝓤 H (W .laws) 𝓣 _<_ (Nat·lt-wfRel .wf) En mir′.turn-1 Left Inv turns n)
 
-    walk : (𝓣 : Tables 𝓤 H) → Triple 𝓤 (𝓣 .C #diary_records·step-at) (StepAt 𝓤 H A at-mem run) → Room T.the-row (length ys) → n < 2 ^ 64 → (n ≤ 1024) × (n ≤ length ys)
+    walk : (𝓣 : Tables 𝓤 H) → Triple 𝓤 (𝓣 .C #diary_records·step-at) (StepAt 𝓤 H A at-mem run) → Room T.the-row (length ys) → n < 2 ^ 64
+        → (n ≤ 1024) × (n ≤ length ys)
         → ent 𝓤 (onEntry 𝓤 H A fill′.signature (κ, tt) (q, tt) x at) (WpFn 𝓤 H (𝓣 .C) (𝓣 .Λ) code.function (sv ∷ fv ∷ vint w64 n ∷ []) Post)
     walk 𝓣 known g n-fits h =
         let typed = array-lawful 𝓤 H A W u8 (uint-lawful 𝓤 H A W w8) flatSize .typed f _ is-flat .0 in
@@ -346,4 +347,5 @@ fill-spec 𝓤 H 𝓜 𝓖 𝓡 =
     entered 𝓤 H (tripleOf 𝓤 H (𝓖 .A) fill′.signature (fill′.spec 𝓤 H (𝓖 .A) (𝓜 .mem) (𝓡 .run)))
     (tables 𝓤 H 𝓜 𝓡 code.env .C) (tables 𝓤 H 𝓜 𝓡 code.env .Λ) #diary_records·fill code.function (code.unfolded 𝓤 H 𝓜 𝓡)
     (fill-meets 𝓤 H (𝓖 .A) (givenOf 𝓤 H 𝓜 𝓖) (𝓜 .mem) (𝓡 .run) (tablesOf 𝓤 H 𝓜 (tables 𝓤 H 𝓜 𝓡 code.env))
-    (cited 𝓤 H (StepAt 𝓤 H (𝓖 .A) (𝓜 .mem) (𝓡 .run)) 𝓜 𝓡 code.env #diary_records·step-at step-at-def.routine code.calls-diary-records·step-at (step-at-thm.met 𝓤 H 𝓜 𝓖 𝓡)))
+    (cited 𝓤 H (StepAt 𝓤 H (𝓖 .A) (𝓜 .mem) (𝓡 .run)) 𝓜 𝓡 code.env #diary_records·step-at step-at-def.routine code.calls-diary-records·step-at
+    (step-at-thm.met 𝓤 H 𝓜 𝓖 𝓡)))
