@@ -115,6 +115,9 @@ askedLeft = proposed secondGone (true ∷ []) (false ∷ [])
 abbrev idleAsked : Held
 idleAsked = proposed idle (false ∷ true ∷ []) (false ∷ false ∷ [])
 
+abbrev firstAsked : Held
+firstAsked = proposed firstGone (true ∷ []) (false ∷ [])
+
 -- ---- what is held after each call
 -- a morning, call by call
 abbrev morning : List Change
@@ -156,6 +159,8 @@ closings =
     -- the roster changes if the leaver has a pair or a quota above 0
     ∷ record { before = idleAsked; call = leave 1; after = planned idleWithoutFirst (true ∷ []) }
     ∷ record { before = idleAsked; call = leave 2; after = planned idleWithoutSecond (false ∷ true ∷ []) }
+    -- and not if the leaver has left already
+    ∷ record { before = firstAsked; call = leave 1; after = firstAsked }
     -- refused calls close nothing
     ∷ record { before = asked; call = loadRoster (bytes "1 9"); after = asked } ∷ record { before = asked; call = loadPlan (bytes "1 3 1 1"); after = asked }
     ∷ record { before = asked; call = join 1 (bytes "1 2 1"); after = asked } ∷ record { before = asked; call = leave 3; after = asked }
@@ -165,7 +170,7 @@ closings =
 pub closings-held : Each (λ (c : Change). deskAfter (c .before) (c .call) ≡ c .after) closings
 unfolding numbersFrom low listed listedBack bothOrNeither readEach readRosterBy position edgesOf instanceOf edgeOfPair readPlanBy joined joinOn departed leaveOn
     carried stateRefusal deskAfter
-closings-held = (refl, (refl, (refl, (refl, (refl, (refl, (refl, (refl, (refl, (refl, (refl, (refl, (refl, (refl, (refl, (refl, (refl, tt)))))))))))))))))
+closings-held = (refl, (refl, (refl, (refl, (refl, (refl, (refl, (refl, (refl, (refl, (refl, (refl, (refl, (refl, (refl, (refl, (refl, (refl, tt))))))))))))))))))
 
 -- nor does a call that looks
 abbrev looks : List Call
