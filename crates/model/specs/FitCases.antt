@@ -1,4 +1,5 @@
--- Rosters within the limits and just outside them, run by the checker: each limit is passed by one, with all else in order. And counts of two bytes.
+-- Rosters within the limits and just outside them, run by the checker: each limit is passed by one, with all else in order. And counts of two bytes,
+-- and ranks.
 use Prim.Native.Nat.{ℕ}
 use Prim.Native.String.{String}
 use mathlib.Core.Path.{_≡_, refl}
@@ -10,6 +11,7 @@ use Rattle.lists.specs.Keep.{gather}
 use Rattle.model.specs.Decimal.{bytes, numbersFrom}
 use Rattle.model.specs.Roster.{Entry, Ranking, Roster, listed, listedBack, bothOrNeither, listFits, rankingFits, fitsBy, fits}
 use Rattle.model.specs.RosterFile.{plain, wideBytes}
+use Rattle.model.specs.Edges.{position}
 
 abbrev entry : ℕ → ℕ → Entry
 entry n k = record { number = n; shift = k }
@@ -62,15 +64,17 @@ outside =
     ∷ roster "1" "1" (early "2" ∷ []) (ranking [] [] ∷ []) ∷ roster "1" "1" (early "0" ∷ []) (ranking [] [] ∷ [])
     ∷ roster "1" "1" ((entry 1 0 ∷ []) ∷ []) (ranking (entry 1 0 ∷ []) [] ∷ []) ∷ roster "1" "1" ((entry 1 4 ∷ []) ∷ []) (ranking (entry 1 4 ∷ []) [] ∷ [])
     ∷ roster "1" "1" ([] ∷ []) (ranking (early "2") [] ∷ [])
-    -- an entry twice, in a list, in a ranking
-    ∷ roster "1" "1" (early "1 1" ∷ []) (ranking (early "1") [] ∷ []) ∷ roster "1" "1" (early "1" ∷ []) (ranking (early "1") (early "1") ∷ [])
+    -- an entry twice, in a list, behind another one, in a ranking
+    ∷ roster "1" "1" (early "1 1" ∷ []) (ranking (early "1") [] ∷ [])
+    ∷ roster "1" "1 1" (early "1 2 2" ∷ []) (ranking (early "1") [] ∷ ranking (early "1") [] ∷ [])
+    ∷ roster "1" "1" (early "1" ∷ []) (ranking (early "1") (early "1") ∷ [])
     -- ties that do not ascend, by number, by shift
     ∷ roster "1 1" "1" (early "1" ∷ early "1" ∷ []) (ranking [] (early "2 1") ∷ [])
     ∷ roster "2" "2" ((entry 1 3 ∷ entry 1 1 ∷ []) ∷ []) (ranking [] (entry 1 3 ∷ entry 1 1 ∷ []) ∷ [])
     -- a pair that one side lists
     ∷ roster "1" "1" (early "1" ∷ []) (ranking [] [] ∷ []) ∷ roster "1" "1" ([] ∷ []) (ranking (early "1") [] ∷ []) ∷ []
 
-pub not-fitting : map fits outside ≡ replicate 19 false
+pub not-fitting : map fits outside ≡ replicate 20 false
 unfolding numbersFrom listed listedBack bothOrNeither fitsBy
 not-fitting = refl
 
@@ -94,3 +98,8 @@ ranking-lengths = refl
 -- "a two-byte count of all entries, low byte first"
 pub wide : map wideBytes (0 ∷ 255 ∷ 256 ∷ 300 ∷ 1024 ∷ []) ≡ (0 ∷ 0 ∷ []) ∷ (255 ∷ 0 ∷ []) ∷ (0 ∷ 1 ∷ []) ∷ (44 ∷ 1 ∷ []) ∷ (0 ∷ 4 ∷ []) ∷ []
 wide = refl
+
+-- "The rank of a strict entry is its position from 1; all tied entries share the next number"
+pub ranks : map (λ x. position x (early "4 2 7")) (early "4 2 7 1 5") ≡ 1 ∷ 2 ∷ 3 ∷ 4 ∷ 4 ∷ []
+unfolding numbersFrom position
+ranks = refl

@@ -198,8 +198,34 @@ P33 = record {
   claims = prints "strike 1 1 1 4\nstrike 1 2 1 4\nfix 2 4 1 6\nstrike 1 4 1 2\nfix 1 3 1 3\nplan 2\n1 3 1\n2 4 1\n" ∷ [];
 }
 
+-- rule 6 fixes the surveyor's best pair, not the lowest: in shift 2, before shift 1
+abbrev P34 : Case
+P34 = record { file = bytes "1 2 1 1 2 0 2 1 2 1 1 2 0 0 2 1 1 1 2"; claims = prints "fix 1 1 2 6\nstrike 1 1 1 2\nplan 1\n1 1 2\n" ∷ strongOnes 1 ∷ [] }
+
+-- rule 7 fixes the stand's best pair, not the lowest (P10 with the stands and one ranking the other way round), and no tied one: surveyor 1 ranks
+-- stand 2 in shift 1, then stand 1 in shift 3, surveyor 2 ranks stand 2 in shift 2, then in shift 1; stand 1 ties its pair, stand 2 has 2 in shift 1 before a tie
+abbrev P35 : Case
+P35 = record {
+  file = bytes "2 1 1 2 2 1 4 0 2 2 1 1 1 2 2 1 1 1 4 0 2 0 2 1 1 1 0 2 1 1 2 1";
+  claims = prints "fix 2 1 1 7\nstrike 2 2 1 2\nfix 1 2 1 3\nstrike 1 1 1 2\nplan 2\n1 2 1\n2 1 1\n" ∷ [];
+}
+
+abbrev P36 : Case
+P36 = record {
+  file = bytes "2 1 1 2 2 2 4 0 2 2 1 1 3 2 2 2 2 1 4 0 0 1 1 3 1 2 2 1 1 1 2 2";
+  claims = prints "none left 4\n1 1 3\n1 2 1\n2 2 1\n2 2 2\n" ∷ [];
+}
+
+-- a full node yields for a worse pair of its own that is in the plan: surveyor 1 ranks stand 1, which it has, and stand 2 in shifts 1 and 3, where there is room;
+-- surveyor 2 ranks stand 1, stand 3, of quota 0, and stand 4, which it has. Neither 1-2, better than its other shift, nor any other pair blocks.
+abbrev P37 : Case
+P37 = record {
+  file = bytes "2 1 1 4 1 1 0 1 6 0 3 1 1 2 1 2 3 3 1 1 3 1 4 1 6 0 2 0 1 1 2 1 2 0 1 1 1 3 1 0 2 1 1 0 2 1";
+  claims = blocked (bytes "2 1 1 1 2 4 1") false ∷ [];
+}
+
 pub more-cases : all? isTrue (P11 ∷ P12 ∷ P13 ∷ P14 ∷ P15 ∷ P16 ∷ P17 ∷ P18 ∷ P19 ∷ P20 ∷ P21 ∷ P22 ∷ P23 ∷ P24 ∷ P25 ∷ P26 ∷ P27 ∷ P28 ∷ P29 ∷ P30
-    ∷ P31 ∷ P32 ∷ P33 ∷ []) ≡ true
+    ∷ P31 ∷ P32 ∷ P33 ∷ P34 ∷ P35 ∷ P36 ∷ P37 ∷ []) ≡ true
 unfolding numbersFrom count low text groupOf listed listedBack bothOrNeither readEach readRosterBy position edgesOf instanceOf deg nodeVote vote
     choices within plansOf samePlan beatenBy drawnWith verdictOf strongPlans cut ahead arrow loose reserved betterS betterT worseReserved rule1 rule2
     rule3 rule4 rule5 rule6 rule7 act rules first orElse Option·elim stepBy firstStep begin stepsFrom stateAfter stepsOf endOf planBytesBy edgeOfPair
