@@ -216,6 +216,20 @@ P36 = record {
   claims = prints "none left 4\n1 1 3\n1 2 1\n2 2 1\n2 2 2\n" ∷ [];
 }
 
+-- N(s) alone: rule 4 strikes the worst of N(s), not a worse pair outside of it that is lower, surveyor 1's with stand 1 in shift 1; and what is fixed is no
+-- more in N(s), surveyor 1's pair with stand 2 in shift 2
+abbrev P38 : Case
+P38 = record {
+  file = bytes "2 1 1 2 1 2 6 0 4 1 2 2 3 2 1 1 1 2 1 1 2 1 6 0 0 3 1 1 1 2 2 1 0 3 1 1 1 3 2 1";
+  claims = prints "strike 1 2 1 4\nstrike 1 1 1 5\nnone left 4\n1 1 2\n1 2 3\n2 1 1\n2 2 1\n" ∷ [];
+}
+
+abbrev P39 : Case
+P39 = record {
+  file = bytes "2 2 1 2 1 2 4 0 3 1 1 2 2 2 1 1 1 1 4 0 0 2 1 1 2 1 0 2 1 1 1 2";
+  claims = prints "fix 1 2 2 3\nfix 2 1 1 6\nstrike 1 1 1 2\nfix 1 2 1 3\nplan 3\n1 2 1\n1 2 2\n2 1 1\n" ∷ [];
+}
+
 -- a full node yields for a worse pair of its own that is in the plan: surveyor 1 ranks stand 1, which it has, and stand 2 in shifts 1 and 3, where there is room;
 -- surveyor 2 ranks stand 1, stand 3, of quota 0, and stand 4, which it has. Neither 1-2, better than its other shift, nor any other pair blocks.
 abbrev P37 : Case
@@ -225,7 +239,7 @@ P37 = record {
 }
 
 pub more-cases : all? isTrue (P11 ∷ P12 ∷ P13 ∷ P14 ∷ P15 ∷ P16 ∷ P17 ∷ P18 ∷ P19 ∷ P20 ∷ P21 ∷ P22 ∷ P23 ∷ P24 ∷ P25 ∷ P26 ∷ P27 ∷ P28 ∷ P29 ∷ P30
-    ∷ P31 ∷ P32 ∷ P33 ∷ P34 ∷ P35 ∷ P36 ∷ P37 ∷ []) ≡ true
+    ∷ P31 ∷ P32 ∷ P33 ∷ P34 ∷ P35 ∷ P36 ∷ P37 ∷ P38 ∷ P39 ∷ []) ≡ true
 unfolding numbersFrom count low text groupOf listed listedBack bothOrNeither readEach readRosterBy position edgesOf instanceOf deg nodeVote vote
     choices within plansOf samePlan beatenBy drawnWith verdictOf strongPlans cut ahead arrow loose reserved betterS betterT worseReserved rule1 rule2
     rule3 rule4 rule5 rule6 rule7 act rules first orElse Option·elim stepBy firstStep begin stepsFrom stateAfter stepsOf endOf planBytesBy edgeOfPair
