@@ -181,13 +181,13 @@ P30 = record { file = bytes "1 1 1 1 1 0 1 1 4"; claims = prints "refused 18 con
 abbrev P31 : Case
 P31 = record {
   file = bytes "1 2 2 0 1 2 0 2 2 1 2 3 2 0 0 0 2 0 1 1 1 3";
-  claims = standVotes 1 (bytes "0") (bytes "1 1 2 1") (negsuc 0) ∷ strongOnes 1 ∷ judged (bytes "1 1 2 1") strong ∷ [];
+  claims = standVotes 1 (bytes "0") (bytes "1 1 2 1") (negsuc 0) ∷ judged (bytes "1 1 2 1") strong ∷ [];
 }
 
 abbrev P32 : Case
 P32 = record {
   file = bytes "2 0 1 1 2 2 0 0 2 1 1 1 3 2 0 2 0 2 1 2 3";
-  claims = votes (bytes "0") (bytes "1 2 1 1") (negsuc 1) ∷ strongOnes 1 ∷ judged (bytes "1 2 1 1") strong ∷ [];
+  claims = judged (bytes "1 2 1 1") strong ∷ [];
 }
 
 -- rule 4 twice: the worst of N(s) is looked for in N(s), out of which the first step has taken a worse one. Surveyor 1 ranks stands 4, 3, 2, 1, surveyor 2
@@ -200,7 +200,7 @@ P33 = record {
 
 -- rule 6 fixes the surveyor's best pair, not the lowest: in shift 2, before shift 1
 abbrev P34 : Case
-P34 = record { file = bytes "1 2 1 1 2 0 2 1 2 1 1 2 0 0 2 1 1 1 2"; claims = prints "fix 1 1 2 6\nstrike 1 1 1 2\nplan 1\n1 1 2\n" ∷ strongOnes 1 ∷ [] }
+P34 = record { file = bytes "1 2 1 1 2 0 2 1 2 1 1 2 0 0 2 1 1 1 2"; claims = prints "fix 1 1 2 6\nstrike 1 1 1 2\nplan 1\n1 1 2\n" ∷ [] }
 
 -- rule 7 fixes the stand's best pair, not the lowest (P10 with the stands and one ranking the other way round), and no tied one: surveyor 1 ranks
 -- stand 2 in shift 1, then stand 1 in shift 3, surveyor 2 ranks stand 2 in shift 2, then in shift 1; stand 1 ties its pair, stand 2 has 2 in shift 1 before a tie
