@@ -1,6 +1,7 @@
 -- More rosters than document 01 has, run by the checker: each of rules 4 to 6 in turn, a quota that is cut, a surveyor with room, a vote
 -- below zero, two digits and more, the worst rank, what is printed for a refusal, the blocking pair that is named, one surveyor and one stand in
--- several shifts, and the last node where there are fewer of the others. Outputs are the reference's.
+-- several shifts, and the last node where there are fewer of the others. Outputs up to P30 are the reference's; the steps of P33 to P39 are those
+-- of a second writing of the rules, which is not kept, and their plans are the model's own.
 use mathlib.Core.Path.{_≡_, refl}
 use mathlib.Core.Bool.{true, false}
 use mathlib.Core.Option.{Option·elim, orElse}
