@@ -1,5 +1,5 @@
 -- What is claimed of a roster, as a test that the checker computes. A roster of which more is claimed than what is printed, and every plan file
--- in a claim, must be accepted. Stands are counted from 0 here.
+-- in a claim, must be accepted. Surveyors and stands are counted from 0 here.
 use Prim.Native.Nat.{ℕ, suc}
 use Prim.Native.String.{String}
 use mathlib.Core.Bool.{Bool, true, false, _&&_}
@@ -17,7 +17,7 @@ use Rattle.model.specs.Edges.{instanceOf}
 use Rattle.model.specs.Instance.{Instance, stands}
 use Rattle.model.specs.Vote.{nodeVote, vote}
 use Rattle.model.specs.Plans.{Plan, on, plansOf, Verdict, strong, popular, beaten, beatenBy, drawnWith, verdictOf, strongCount}
-use Rattle.model.specs.Reduction.{cutT, begin}
+use Rattle.model.specs.Reduction.{cutS, cutT, begin}
 use Rattle.model.specs.PlanFile.{planBytes, readPlan}
 use Rattle.model.specs.Blocking.{someBlocks, topBlocking}
 use Rattle.model.specs.Printed.{printed}
@@ -33,6 +33,7 @@ pub data Claim : Type 0 where
   blocked : List ℕ → Bool → Claim  -- whether it has a blocking pair
   blockedAt : List ℕ → (surveyor stand shift : ℕ) → Claim  -- the numbers of the one that is named
   cutTo : ℕ → ℕ → Claim  -- a stand's quota as the first step cuts it
+  surveyorCutTo : ℕ → ℕ → Claim  -- a surveyor's
 
 pub record Case : Type 0 where
   pub file : List ℕ
@@ -91,6 +92,7 @@ holdsOf G (blocked a b) = onPlan (readPlan G a) (λ M. alike (someBlocks G (on M
 holdsOf G (blockedAt a s t k) =
     onPlan (readPlan G a) (λ M. let e = topBlocking G (on M) in eqb (suc (G .sv e)) s && (eqb (suc (G .st e)) t && eqb (G .sh e) k))
 holdsOf G (cutTo t q) = eqb (cutT G (begin G) t) q
+holdsOf G (surveyorCutTo s q) = eqb (cutS G (begin G) s) q
 
 abbrev onRoster : Reading Roster → Claim → Bool
 onRoster (accepted r) c = holdsOf (instanceOf r) c
@@ -106,6 +108,7 @@ holds file (rivals a bs) = onRoster (readRoster file) (rivals a bs)
 holds file (blocked a b) = onRoster (readRoster file) (blocked a b)
 holds file (blockedAt a s t k) = onRoster (readRoster file) (blockedAt a s t k)
 holds file (cutTo t q) = onRoster (readRoster file) (cutTo t q)
+holds file (surveyorCutTo s q) = onRoster (readRoster file) (surveyorCutTo s q)
 
 abbrev pub isTrue : Case → Bool
 isTrue c = all? (holds (c .file)) (c .claims)

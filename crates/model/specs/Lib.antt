@@ -17,6 +17,7 @@ pub mod Decimal
 pub mod LimitCases
 pub mod FitCases
 pub mod Claims
+pub mod ClaimCases
 pub mod Cases
 pub mod MoreCases
 pub mod RosterCases

@@ -3,14 +3,14 @@
 use Prim.Native.Nat.{ℕ, suc, _+_, _*_}
 use mathlib.Core.Path.{_≡_, refl}
 use mathlib.Core.Bool.{true, false}
-use mathlib.Core.List.{[], _∷_}
+use mathlib.Core.List.{[], _∷_, map}
 use lib.ListN.{length}
 use Rattle.model.specs.Limits.{nodeLimit, entryLimit, listLimit, planLimit, entryWidth, pairWidth, emptyRank, planSize, rosterSize, diarySize, leftSize}
 use Rattle.model.specs.Limits.{inputSize, oldRosterSize, oldPlanSize}
 use Rattle.model.specs.Reading.{isBytes}
 use Rattle.model.specs.Roster.{Entry}
 use Rattle.model.specs.RosterFile.{shifted, plain}
-use Rattle.model.specs.Plans.{on}
+use Rattle.model.specs.Plans.{on, samePlan}
 use Rattle.model.specs.PlanFile.{Named, shiftedPair, plainPair}
 
 abbrev anEntry : Entry
@@ -41,3 +41,9 @@ lists-end = (refl, refl)
 -- what is a byte; no pair is in a plan behind its end
 pub ends : (isBytes (0 ∷ 255 ∷ []) ≡ true) × (isBytes (256 ∷ []) ≡ false) × (on (true ∷ []) 1 ≡ false)
 ends = (refl, refl, refl)
+
+-- "Plans with the same pairs are one plan": not with a pair less, with one more, with another
+pub same-plans : map (samePlan (true ∷ false ∷ [])) ((true ∷ false ∷ []) ∷ (false ∷ false ∷ []) ∷ (true ∷ true ∷ []) ∷ (false ∷ true ∷ []) ∷ [])
+    ≡ true ∷ false ∷ false ∷ false ∷ []
+unfolding samePlan
+same-plans = refl

@@ -1,18 +1,19 @@
 -- More rosters than document 01 has, run by the checker: each of rules 4 to 6 in turn, a quota that is cut, a surveyor with room, a vote
--- below zero, two digits, the worst rank, what is printed for a refusal, the blocking pair that is named, and one surveyor and one stand in
--- several shifts. Outputs are the reference's.
+-- below zero, two digits and more, the worst rank, what is printed for a refusal, the blocking pair that is named, one surveyor and one stand in
+-- several shifts, and the last node where there are fewer of the others. Outputs up to P30 are the reference's; the steps of P33 to P39 are those
+-- of a second writing of the rules, which is not kept, and their plans are the model's own.
 use mathlib.Core.Path.{_≡_, refl}
 use mathlib.Core.Bool.{true, false}
 use mathlib.Core.Option.{Option·elim, orElse}
-use mathlib.Core.List.{[], _∷_, _++_}
+use mathlib.Core.List.{[], _∷_, _++_, map}
 use lib.ListN.{replicate}
-use lib.IntN.{pos}
+use lib.IntN.{pos, negsuc}
 use Rattle.lists.specs.Sum.{count, range}
 use Rattle.lists.specs.Search.{low}
 use Rattle.lists.specs.First.{first}
 use Rattle.lists.specs.Keep.{all?, gather}
 use Rattle.model.specs.Decimal.{bytes, numbersFrom}
-use Rattle.model.specs.Claims.{Case, isTrue, prints, strongOnes, votes, standVotes, judged, rivals, blocked, blockedAt, cutTo}
+use Rattle.model.specs.Claims.{Case, isTrue, prints, strongOnes, votes, standVotes, judged, rivals, blocked, blockedAt, cutTo, surveyorCutTo}
 use Rattle.model.specs.Text.{text}
 use Rattle.model.specs.Refusal.{groupOf}
 use Rattle.model.specs.Reading.{readEach}
@@ -27,7 +28,7 @@ use Rattle.model.specs.Reduction.{rule6, rule7, act, rules, stepBy, firs
 use Rattle.model.specs.PlanFile.{planBytesBy, edgeOfPair, readPlanBy}
 use Rattle.model.specs.Finder.{diaryOf, leftOf, candidateOf, finderOf}
 use Rattle.model.specs.Blocking.{blocks, someBlocks, topBlocking}
-use Rattle.model.specs.Printed.{digits, printed}
+use Rattle.model.specs.Printed.{digits, number, printed}
 
 -- the same for a surveyor that a strong plan leaves with room: surveyor 1, quota 2, and surveyor 2 rank stand 1, then 2; stand 1 ties
 -- them; stand 2 ranks 2, 1
@@ -37,9 +38,9 @@ P11 = record {
   claims = prints "fix 1 1 1 6\nstrike 2 1 1 2\nfix 2 2 1 1\nstrike 1 2 1 2\nplan 2\n1 1 1\n2 2 1\n" ∷ strongOnes 1 ∷ [];
 }
 
--- a quota above the stand's pairs is cut to their number; no step is another for it (docs/DECISIONS.md), so it is said of the cut itself
+-- a quota above the node's pairs is cut to their number; no step is another for it (docs/DECISIONS.md), so it is said of the cut itself
 abbrev P12 : Case
-P12 = record { file = bytes "1 1 1 2 1 0 1 1 1 1 0 1 0 1 1"; claims = prints "fix 1 1 1 1\nplan 1\n1 1 1\n" ∷ cutTo 0 1 ∷ [] }
+P12 = record { file = bytes "1 3 1 2 1 0 1 1 1 1 0 1 0 1 1"; claims = prints "fix 1 1 1 1\nplan 1\n1 1 1\n" ∷ cutTo 0 1 ∷ surveyorCutTo 0 1 ∷ [] }
 
 -- refusals, with their groups
 abbrev P13 : Case
@@ -176,9 +177,77 @@ P29 = record {
 abbrev P30 : Case
 P30 = record { file = bytes "1 1 1 1 1 0 1 1 4"; claims = prints "refused 18 content\n" ∷ [] }
 
-pub more-cases : all? isTrue (P11 ∷ P12 ∷ P13 ∷ P14 ∷ P15 ∷ P16 ∷ P17 ∷ P18 ∷ P19 ∷ P20 ∷ P21 ∷ P22 ∷ P23 ∷ P24 ∷ P25 ∷ P26 ∷ P27 ∷ P28 ∷ P29 ∷ P30 ∷ []) ≡ true
+-- the last node, where there are fewer of the others: stand 2 of one surveyor's, with quota 1 in two shifts, and surveyor 2 at one stand. Its quota, not the
+-- first one's, gives its places, and no plan passes it.
+abbrev P31 : Case
+P31 = record {
+  file = bytes "1 2 2 0 1 2 0 2 2 1 2 3 2 0 0 0 2 0 1 1 1 3";
+  claims = standVotes 1 (bytes "0") (bytes "1 1 2 1") (negsuc 0) ∷ judged (bytes "1 1 2 1") strong ∷ [];
+}
+
+abbrev P32 : Case
+P32 = record {
+  file = bytes "2 0 1 1 2 2 0 0 2 1 1 1 3 2 0 2 0 2 1 2 3";
+  claims = judged (bytes "1 2 1 1") strong ∷ [];
+}
+
+-- rule 4 twice: the worst of N(s) is looked for in N(s), out of which the first step has taken a worse one. Surveyor 1 ranks stands 4, 3, 2, 1, surveyor 2
+-- stand 4, and all are tied.
+abbrev P33 : Case
+P33 = record {
+  file = bytes "2 1 1 4 1 1 1 1 5 0 4 4 1 3 1 2 1 1 1 1 4 1 5 0 0 1 1 1 0 1 1 1 0 1 1 1 0 2 1 1 2 1";
+  claims = prints "strike 1 1 1 4\nstrike 1 2 1 4\nfix 2 4 1 6\nstrike 1 4 1 2\nfix 1 3 1 3\nplan 2\n1 3 1\n2 4 1\n" ∷ [];
+}
+
+-- rule 6 fixes the surveyor's best pair, not the lowest: in shift 2, before shift 1
+abbrev P34 : Case
+P34 = record { file = bytes "1 2 1 1 2 0 2 1 2 1 1 2 0 0 2 1 1 1 2"; claims = prints "fix 1 1 2 6\nstrike 1 1 1 2\nplan 1\n1 1 2\n" ∷ [] }
+
+-- rule 7 fixes the stand's best pair, not the lowest (P10 with the stands and one ranking the other way round), and no tied one: surveyor 1 ranks
+-- stand 2 in shift 1, then stand 1 in shift 3, surveyor 2 ranks stand 2 in shift 2, then in shift 1; stand 1 ties its pair, stand 2 has 2 in shift 1 before a tie
+abbrev P35 : Case
+P35 = record {
+  file = bytes "2 1 1 2 2 1 4 0 2 2 1 1 1 2 2 1 1 1 4 0 2 0 2 1 1 1 0 2 1 1 2 1";
+  claims = prints "fix 2 1 1 7\nstrike 2 2 1 2\nfix 1 2 1 3\nstrike 1 1 1 2\nplan 2\n1 2 1\n2 1 1\n" ∷ [];
+}
+
+abbrev P36 : Case
+P36 = record {
+  file = bytes "2 1 1 2 2 2 4 0 2 2 1 1 3 2 2 2 2 1 4 0 0 1 1 3 1 2 2 1 1 1 2 2";
+  claims = prints "none left 4\n1 1 3\n1 2 1\n2 2 1\n2 2 2\n" ∷ [];
+}
+
+-- N(s) alone: rule 4 strikes the worst of N(s), not a worse pair outside of it that is lower, surveyor 1's with stand 1 in shift 1; and what is fixed is no
+-- more in N(s), surveyor 1's pair with stand 2 in shift 2
+abbrev P38 : Case
+P38 = record {
+  file = bytes "2 1 1 2 1 2 6 0 4 1 2 2 3 2 1 1 1 2 1 1 2 1 6 0 0 3 1 1 1 2 2 1 0 3 1 1 1 3 2 1";
+  claims = prints "strike 1 2 1 4\nstrike 1 1 1 5\nnone left 4\n1 1 2\n1 2 3\n2 1 1\n2 2 1\n" ∷ [];
+}
+
+abbrev P39 : Case
+P39 = record {
+  file = bytes "2 2 1 2 1 2 4 0 3 1 1 2 2 2 1 1 1 1 4 0 0 2 1 1 2 1 0 2 1 1 1 2";
+  claims = prints "fix 1 2 2 3\nfix 2 1 1 6\nstrike 1 1 1 2\nfix 1 2 1 3\nplan 3\n1 2 1\n1 2 2\n2 1 1\n" ∷ [];
+}
+
+-- a full node yields for a worse pair of its own that is in the plan: surveyor 1 ranks stand 1, which it has, and stand 2 in shifts 1 and 3, where there is room;
+-- surveyor 2 ranks stand 1, stand 3, of quota 0, and stand 4, which it has. Neither 1-2, better than its other shift, nor any other pair blocks.
+abbrev P37 : Case
+P37 = record {
+  file = bytes "2 1 1 4 1 1 0 1 6 0 3 1 1 2 1 2 3 3 1 1 3 1 4 1 6 0 2 0 1 1 2 1 2 0 1 1 1 3 1 0 2 1 1 0 2 1";
+  claims = blocked (bytes "2 1 1 1 2 4 1") false ∷ [];
+}
+
+pub more-cases : all? isTrue (P11 ∷ P12 ∷ P13 ∷ P14 ∷ P15 ∷ P16 ∷ P17 ∷ P18 ∷ P19 ∷ P20 ∷ P21 ∷ P22 ∷ P23 ∷ P24 ∷ P25 ∷ P26 ∷ P27 ∷ P28 ∷ P29 ∷ P30
+    ∷ P31 ∷ P32 ∷ P33 ∷ P34 ∷ P35 ∷ P36 ∷ P37 ∷ P38 ∷ P39 ∷ []) ≡ true
 unfolding numbersFrom count low text groupOf listed listedBack bothOrNeither readEach readRosterBy position edgesOf instanceOf deg nodeVote vote
     choices within plansOf samePlan beatenBy drawnWith verdictOf strongPlans cut ahead arrow loose reserved betterS betterT worseReserved rule1 rule2
     rule3 rule4 rule5 rule6 rule7 act rules first orElse Option·elim stepBy firstStep begin stepsFrom stateAfter stepsOf endOf planBytesBy edgeOfPair
     readPlanBy diaryOf leftOf candidateOf finderOf blocks someBlocks topBlocking digits printed
 more-cases = refl
+
+-- numbers of up to four digits, in decimal
+pub numbers : map number (0 ∷ 9 ∷ 10 ∷ 305 ∷ 1024 ∷ []) ≡ text "0" ∷ text "9" ∷ text "10" ∷ text "305" ∷ text "1024" ∷ []
+unfolding text digits
+numbers = refl

@@ -44,20 +44,21 @@ refusals =
     ∷ ("1 1 1 1 1 0 1 1 0", 18) ∷ ("1 1 1 1 1 0 1 1 4", 18) ∷ ("1 1 1 1 1 0 1 1 255", 18) ∷ ("1 1 1 1 1 0 1 1 1 1 0 1 0 1 4", 18)
     ∷ ("1 1 1 1 1 0 1 1 1 1 0 0 1 1 0", 18) ∷ ("1 1 1 1 1 0 1 9 9", 4) ∷ ("1 1 1 1 1 0 1 0 0", 4) ∷ ("1 1 1 1 1 0 1 2 4", 4) ∷ ("1 1 1 1 2 0 2 1 4", 18)
     ∷ ("1 1 1 1 2 0 2 1 4 1 4", 18) ∷ ("1 1 1 1 2 0 2 1 3 1 1 2 0 0 2 1 1 1 0", 18)
-    -- "5 an entry twice in one list": also of a stand's strict part in its tie, and before 6 and a later 18
-    ∷ ("1 1 1 1 2 0 2 1 1 1 1", 5) ∷ ("2 1 1 1 1 2 0 1 1 1 1 1 1 2 0 1 1 1 1 1 1", 5) ∷ ("2 1 1 1 1 2 0 1 1 1 1 1 1 2 0 0 2 2 1 2 1", 5)
+    -- "5 an entry twice in one list": also behind another, of a stand's strict part in its tie, and before 6 and a later 18
+    ∷ ("1 1 1 1 2 0 2 1 1 1 1", 5) ∷ ("1 1 1 1 3 0 3 1 1 1 2 1 1", 5) ∷ ("2 1 1 1 1 2 0 1 1 1 1 1 1 2 0 1 1 1 1 1 1", 5) ∷ ("2 1 1 1 1 2 0 1 1 1 1 1 1 2 0 0 2 2 1 2 1", 5)
     ∷ ("1 1 1 1 3 0 3 1 2 1 2 1 4", 5)
     -- "6 a tie that does not ascend": by surveyor, then by shift; the first entry of a tie is compared with none
     ∷ ("2 1 1 1 1 2 0 1 1 1 1 1 1 2 0 0 2 2 1 1 1", 6) ∷ ("3 1 1 1 1 1 3 0 1 1 1 1 1 1 1 1 1 3 0 0 3 1 1 3 1 2 1", 6)
     ∷ ("1 1 1 1 2 0 2 1 3 1 1 2 0 0 2 1 3 1 1", 6) ∷ ("2 1 1 1 1 2 0 1 1 3 1 1 1 2 0 0 2 2 1 1 3", 6)
     ∷ ("1 1 1 1 2 0 2 1 3 1 1 2 0 0 2 1 1 1 3", 0) ∷ ("2 1 1 1 1 2 0 1 1 3 1 1 1 2 0 0 2 1 3 2 1", 0)
     ∷ ("2 1 1 1 1 2 0 1 1 1 1 1 1 2 0 1 1 2 1 1 1", 0) ∷ ("1 1 1 1 2 0 2 1 3 1 1 2 0 1 1 1 3 1 1", 0)
-    -- "7 a section count that is not the sum of its lengths": before the next section's count, and before 9
-    ∷ ("1 1 1 1 0 0 1 1 1", 7) ∷ ("1 1 1 1 1 0 0", 7) ∷ ("1 1 1 1 2 0 1 1 1", 7) ∷ ("1 1 1 1 1 0 1 1 1 2 0 1 0 1 1", 7) ∷ ("0 0 1 0", 7)
+    -- "7 a section count that is not the sum of its lengths": by its high byte alone too; before the next section's count, and before 9
+    ∷ ("0 0 0 1 0 0", 7) ∷ ("1 1 1 1 0 0 1 1 1", 7) ∷ ("1 1 1 1 1 0 0", 7) ∷ ("1 1 1 1 2 0 1 1 1", 7) ∷ ("1 1 1 1 1 0 1 1 1 2 0 1 0 1 1", 7) ∷ ("0 0 1 0", 7)
     ∷ ("0 0 0 0 1 0 7", 7)
-    -- "8 a pair listed by one side only": a pair in another shift is another
+    -- "8 a pair listed by one side only": a pair in another shift is another; of the last stand, of the last surveyor, where there are fewer of the others
     ∷ ("1 1 1 1 1 0 1 1 1 0 0 0 0", 8) ∷ ("1 1 1 1 0 0 0 1 0 1 0 1 1", 8) ∷ ("1 1 1 1 1 0 1 1 1 1 0 1 0 1 2", 8)
     ∷ ("1 1 1 1 2 0 2 1 3 1 1 2 0 0 2 1 1 1 2", 8) ∷ ("1 1 1 1 2 0 2 1 3 1 1 1 0 1 0 1 3", 8)
+    ∷ ("1 1 2 1 1 0 0 0 1 0 0 0 1 0 1 1", 8) ∷ ("2 1 1 1 1 1 0 0 1 1 1 0 0 0 0", 8)
     -- "9 bytes after the end", before 8
     ∷ ("0 0 0 0 0 0 0", 9) ∷ ("1 1 1 1 1 0 1 1 1 0 0 0 0 7", 9)
     -- accepted: document 01's sample, its tie, no surveyors; one surveyor and one stand in three shifts, in lists longer than the other side's count

@@ -1,6 +1,6 @@
 -- Surveyors who join and leave, run by the checker: the changed roster's bytes, the refusal that a change meets, and the held plan behind it.
 -- Numbers are as in files, and an expected roster is read back to itself.
-use Prim.Native.Nat.{ℕ}
+use Prim.Native.Nat.{ℕ, _-_}
 use Prim.Native.String.{String}
 use mathlib.Core.Path.{_≡_, refl}
 use mathlib.Core.Bool.{Bool, true, false, _&&_}
@@ -116,7 +116,7 @@ unfolding numbersFrom listed listedBack bothOrNeither readEach readRosterBy join
 join-limits = refl
 
 -- W-204: "A joiner's entry that takes a stand's list past 32 meets 2, after all checks of the joiner's own list." So many surveyors, who all list
--- the second of two stands in these shifts; the list brought; 0 for none
+-- the second of two stands in these shifts, of whom it ties all but the first; the list brought; 0 for none
 abbrev ofShifts : ℕ → List ℕ → List Entry
 ofShifts n ks = map (λ k. record { number = n; shift = k }) ks
 
@@ -125,7 +125,7 @@ crowd n ks = record {
   quotasS = replicate n 1;
   quotasT = 1 ∷ 1 ∷ [];
   listsS = replicate n (ofShifts 2 ks);
-  listsT = record { strict = []; tied = [] } ∷ record { strict = []; tied = gather (λ s. ofShifts s ks) (range 1 n) } ∷ [];
+  listsT = record { strict = []; tied = [] } ∷ record { strict = ofShifts 1 ks; tied = gather (λ s. ofShifts s ks) (range 2 (n - 1)) } ∷ [];
 }
 
 abbrev joinCrowd : ℕ → List ℕ → List ℕ → Reading Roster

@@ -159,16 +159,16 @@ pub record Said : Type 0 where
 abbrev pub Answered : Choices → List Said → Type 0
 Answered ch xs = Each (λ (s : Said). answerOf ch (s .held) (s .call) ≡ s .answer) xs
 
--- 13 before 14 and 15, for every call but a roster's load; a comparison hands back the empty part of its first file
+-- a desk that is new: 13 before 14 and 15, for every call but a roster's load; a comparison hands back the empty part of its first file
 abbrev noRoster : List Said
 noRoster =
-    record { held = nothing; call = D.loadPlan (bytes "0"); answer = refused 13 desk }
-    ∷ record { held = nothing; call = D.writeRosterTo []; answer = refused 13 desk }
-    ∷ record { held = nothing; call = D.writePlanTo []; answer = refused 13 desk }
-    ∷ record { held = nothing; call = D.find [] [] [] []; answer = refused 13 desk }
-    ∷ record { held = nothing; call = D.judge []; answer = refused 13 desk }
-    ∷ record { held = nothing; call = D.blocking; answer = refused 13 desk }
-    ∷ record { held = nothing; call = D.compare (bytes "65") (bytes "0"); answer = D.refusedPart 13 desk empty } ∷ []
+    record { held = D.opening; call = D.loadPlan (bytes "0"); answer = refused 13 desk }
+    ∷ record { held = D.opening; call = D.writeRosterTo []; answer = refused 13 desk }
+    ∷ record { held = D.opening; call = D.writePlanTo []; answer = refused 13 desk }
+    ∷ record { held = D.opening; call = D.find [] [] [] []; answer = refused 13 desk }
+    ∷ record { held = D.opening; call = D.judge []; answer = refused 13 desk }
+    ∷ record { held = D.opening; call = D.blocking; answer = refused 13 desk }
+    ∷ record { held = D.opening; call = D.compare (bytes "65") (bytes "0"); answer = D.refusedPart 13 desk empty } ∷ []
 
 pub no-roster-said : (ch : Choices) → Answered ch noRoster
 unfolding numbersFrom count low groupOf listed listedBack bothOrNeither readEach readRosterBy writeRosterBy position edgesOf instanceOf deg nodeVote

@@ -12,19 +12,20 @@ use Rattle.lists.specs.Search.{low}
 use Rattle.lists.specs.First as Fst
 use Rattle.model.specs.Decimal.{bytes, numbersFrom}
 use Rattle.model.specs.Reading.{readEach}
-use Rattle.model.specs.Roster.{listed}
+use Rattle.model.specs.Roster.{Roster, listed}
+use Rattle.model.specs.RosterFile.{writeRosterBy}
 use Rattle.model.specs.Edges.{position, edgesOf, instanceOf}
-use Rattle.model.specs.Instance.{deg}
+use Rattle.model.specs.Instance.{Instance, deg}
 use Rattle.model.specs.Vote.{nodeVote, vote}
-use Rattle.model.specs.Plans.{choices, within, plansOf, samePlan, beatenBy, drawnWith, verdictOf}
+use Rattle.model.specs.Plans.{Plan, voteOf, choices, within, plansOf, samePlan, beatenBy, drawnWith, verdictOf}
 use Rattle.model.specs.Reduction as R
-use Rattle.model.specs.PlanFile.{planBytesBy, edgeOfPair, pairBytes}
+use Rattle.model.specs.PlanFile.{planBytesBy, planBytes, edgeOfPair, pairBytes}
 use Rattle.model.specs.Finder as F
 use Rattle.model.specs.Finder.{Record, diaryOf, leftOf, candidateOf, finderOf}
 use Rattle.model_changes.specs.Changes.{joined, joinOn, departed, leaveOn, carried}
 use Rattle.model_desk.specs.Desk as D
-use Rattle.model_desk.specs.Desk.{Choices, Call, Lends, stateRefusal, lentAfter}
-use Rattle.model_desk.specs.DeskCases.{diary, sample, twice, one}
+use Rattle.model_desk.specs.Desk.{Choices, Call, Lends, stateRefusal, answerOf, lentAfter}
+use Rattle.model_desk.specs.DeskCases.{diary, early, sample, twice, one}
 
 abbrev step : ℕ → ℕ → ℕ → ℕ → ℕ → Record
 step f s t k r = record { fate = f; surveyor = s; stand = t; shift = k; rule = r }
@@ -60,10 +61,49 @@ kept ch = (refl, refl, refl, refl, refl, refl)
 
 pub changed : (ch : Choices) → (lentAfter ch one (lent (D.leave 1))
     ≡ D.leave 1 (step 1 2 1 1 1 ∷ diary 1023) (replicate 3072 3) (bytes "1 2 1 1" ++ replicate 189 4) (replicate 193 5))
-    × (lentAfter ch one (lent (D.join 1 (bytes "0")))
-    ≡ D.join 1 (bytes "0") (step 1 1 1 1 1 ∷ step 2 2 1 1 2 ∷ diary 1022) (replicate 3072 3) (bytes "1 1 1 1" ++ replicate 189 4) (replicate 193 5))
+    × (lentAfter ch one (lent (D.join 1 (bytes "1 1 1"))) ≡ D.join 1 (bytes "1 1 1") (step 1 1 1 1 1 ∷ step 2 2 1 1 2 ∷ step 2 3 1 1 2 ∷ diary 1021)
+    (replicate 3072 3) (bytes "1 1 1 1" ++ replicate 189 4) (replicate 193 5))
 unfolding numbersFrom count low listed readEach position edgesOf instanceOf deg nodeVote vote choices within plansOf samePlan beatenBy drawnWith
     verdictOf R.cut R.ahead R.arrow R.loose R.reserved R.betterS R.betterT R.worseReserved R.rule1 R.rule2 R.rule3 R.rule4 R.rule5 R.rule6 R.rule7
     Fst.first Option·elim orElse R.rules R.stepBy R.firstStep R.act R.begin R.stepsFrom R.stateAfter R.stepsOf R.endOf planBytesBy diaryOf leftOf
     candidateOf finderOf joined joinOn departed leaveOn stateRefusal lentAfter
 changed ch = (refl, refl)
+
+-- a roster is written to the buffer that is lent
+pub roster-lent : (ch : Choices) → lentAfter ch one (D.writeRosterTo (replicate 4262 3))
+    ≡ D.writeRosterTo (bytes "2 1 1 1 1 2 0 1 1 1 1 1 1 2 0 2 0 1 1 2 1" ++ replicate 4241 3)
+unfolding numbersFrom writeRosterBy stateRefusal lentAfter
+roster-lent ch = refl
+
+-- P4, a tie of two: the candidate is rivalled. Whichever rival is named, the candidate's vote against it is answered, and it is written behind the candidate;
+-- so it is for the verdict on that plan.
+abbrev tie : Roster
+tie = record {
+  quotasS = bytes "1 1";
+  quotasT = bytes "1";
+  listsS = early "1" ∷ early "1" ∷ [];
+  listsT = record { strict = []; tied = early "1 2" } ∷ [];
+}
+
+abbrev G : Instance
+G = instanceOf tie
+
+abbrev candidate : Plan
+candidate = true ∷ false ∷ []
+
+pub rival-answered : (ch : Choices) → (answerOf ch (D.roster tie) (lent D.find) ≡ D.none 2 (D.rivalled (voteOf G candidate (ch .rivalOf G candidate))))
+    × (answerOf ch (D.planned tie candidate) (D.judge (replicate 193 5)) ≡ D.popular (voteOf G candidate (ch .rivalOf G candidate)))
+unfolding numbersFrom count low listed position edgesOf instanceOf deg nodeVote vote choices within plansOf samePlan beatenBy drawnWith
+    verdictOf R.cut R.ahead R.arrow R.loose R.reserved R.betterS R.betterT R.worseReserved R.rule1 R.rule2 R.rule3 R.rule4 R.rule5 R.rule6 R.rule7
+    Fst.first Option·elim orElse R.rules R.stepBy R.firstStep R.act R.begin R.stepsFrom R.stateAfter R.stepsOf R.endOf leftOf
+    candidateOf finderOf stateRefusal answerOf
+rival-answered ch = (refl, refl)
+
+pub rival-lent : (ch : Choices) → (lentAfter ch (D.roster tie) (lent D.find) ≡ D.find (step 1 1 1 1 6 ∷ step 2 2 1 1 2 ∷ diary 1022) (replicate 3072 3)
+    (bytes "1 1 1 1" ++ replicate 189 4) (D.onto (planBytes G (ch .rivalOf G candidate)) (replicate 193 5)))
+    × (lentAfter ch (D.planned tie candidate) (D.judge (replicate 193 5)) ≡ D.judge (D.onto (planBytes G (ch .rivalOf G candidate)) (replicate 193 5)))
+unfolding numbersFrom count low listed position edgesOf instanceOf deg nodeVote vote choices within plansOf samePlan beatenBy drawnWith
+    verdictOf R.cut R.ahead R.arrow R.loose R.reserved R.betterS R.betterT R.worseReserved R.rule1 R.rule2 R.rule3 R.rule4 R.rule5 R.rule6 R.rule7
+    Fst.first Option·elim orElse R.rules R.stepBy R.firstStep R.act R.begin R.stepsFrom R.stateAfter R.stepsOf R.endOf planBytesBy diaryOf leftOf
+    candidateOf finderOf stateRefusal lentAfter
+rival-lent ch = (refl, refl)

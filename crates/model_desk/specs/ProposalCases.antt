@@ -5,7 +5,7 @@ use mathlib.Core.Path.{_≡_, refl}
 use mathlib.Core.Bool.{true, false}
 use mathlib.Core.Option.{Option}
 use mathlib.Core.Option as O
-use mathlib.Core.List.{List, [], _∷_}
+use mathlib.Core.List.{List, [], _∷_, _++_, map}
 use lib.IntN.{pos, negsuc}
 use Rattle.lists.specs.Sum.{count}
 use Rattle.lists.specs.Search.{low}
@@ -115,6 +115,9 @@ askedLeft = proposed secondGone (true ∷ []) (false ∷ [])
 abbrev idleAsked : Held
 idleAsked = proposed idle (false ∷ true ∷ []) (false ∷ false ∷ [])
 
+abbrev firstAsked : Held
+firstAsked = proposed firstGone (true ∷ []) (false ∷ [])
+
 -- ---- what is held after each call
 -- a morning, call by call
 abbrev morning : List Change
@@ -156,6 +159,8 @@ closings =
     -- the roster changes if the leaver has a pair or a quota above 0
     ∷ record { before = idleAsked; call = leave 1; after = planned idleWithoutFirst (true ∷ []) }
     ∷ record { before = idleAsked; call = leave 2; after = planned idleWithoutSecond (false ∷ true ∷ []) }
+    -- and not if the leaver has left already
+    ∷ record { before = firstAsked; call = leave 1; after = firstAsked }
     -- refused calls close nothing
     ∷ record { before = asked; call = loadRoster (bytes "1 9"); after = asked } ∷ record { before = asked; call = loadPlan (bytes "1 3 1 1"); after = asked }
     ∷ record { before = asked; call = join 1 (bytes "1 2 1"); after = asked } ∷ record { before = asked; call = leave 3; after = asked }
@@ -165,7 +170,7 @@ closings =
 pub closings-held : Each (λ (c : Change). deskAfter (c .before) (c .call) ≡ c .after) closings
 unfolding numbersFrom low listed listedBack bothOrNeither readEach readRosterBy position edgesOf instanceOf edgeOfPair readPlanBy joined joinOn departed leaveOn
     carried stateRefusal deskAfter
-closings-held = (refl, (refl, (refl, (refl, (refl, (refl, (refl, (refl, (refl, (refl, (refl, (refl, (refl, (refl, (refl, (refl, (refl, tt)))))))))))))))))
+closings-held = (refl, (refl, (refl, (refl, (refl, (refl, (refl, (refl, (refl, (refl, (refl, (refl, (refl, (refl, (refl, (refl, (refl, (refl, tt))))))))))))))))))
 
 -- nor does a call that looks
 abbrev looks : List Call
@@ -262,6 +267,11 @@ logs =
     ∷ record { calls = (leave 2, D.plan 1) ∷ loadedBoth; plan = O.some (pair 1 1 ∷ []) }
     ∷ record { calls = (join 1 [], D.plan 1) ∷ (D.blocking, D.unblocked) ∷ loadedBoth; plan = O.some (pair 1 1 ∷ pair 2 1 ∷ []) }
     ∷ record { calls = (commit, committed) ∷ (propose (bytes "0"), bothVotes (negsuc 3) (pos 4)) ∷ loadedBoth; plan = O.some [] }
+    ∷ record { calls = (commit, committed) ∷ (propose (bytes "1 2 1 1"), bothVotes (negsuc 1) (pos 2)) ∷ loadedBoth; plan = O.some (pair 2 1 ∷ []) }
+    ∷ record { calls = (leave 2, D.none 0 (D.left 1)) ∷ loadedBoth; plan = O.some (pair 1 1 ∷ []) }
+    -- a call that looks tells nothing, whatever its answer; a pair's three numbers are the file's
+    ∷ record { calls = map (λ c. (c, D.wrote 4)) looks ++ loadedBoth; plan = O.some (pair 1 1 ∷ pair 2 1 ∷ []) }
+    ∷ record { calls = (loadPlan (bytes "1 1 2 3"), loaded) ∷ []; plan = O.some (record { surveyor = 1; stand = 2; shift = 3 } ∷ []) }
     -- refused
     ∷ record { calls = (loadRoster [], refused 1 form) ∷ loadedBoth; plan = O.some (pair 1 1 ∷ pair 2 1 ∷ []) }
     ∷ record { calls = (loadPlan (bytes "1 3 1 1"), refused 10 plan) ∷ loadedBoth; plan = O.some (pair 1 1 ∷ pair 2 1 ∷ []) }
@@ -274,7 +284,7 @@ logs =
 
 pub logs-told : Each (λ (l : Log). lastPlan [] (eventsOf (l .calls)) ≡ l .plan) logs
 unfolding numbersFrom
-logs-told = (refl, (refl, (refl, (refl, (refl, (refl, (refl, (refl, (refl, tt)))))))))
+logs-told = (refl, (refl, (refl, (refl, (refl, (refl, (refl, (refl, (refl, (refl, (refl, (refl, (refl, tt)))))))))))))
 
 -- the same pairs in what a desk holds; an open proposal's are none of them
 pub pairs-held : Each (λ (h : Held × Option (List Named)). heldPairs (h .0) ≡ h .1) (
@@ -282,3 +292,8 @@ pub pairs-held : Each (λ (h : Held × Option (List Named)). heldPairs (h .0) �
     ∷ (planned firstGone (true ∷ []), O.some (pair 2 1 ∷ [])) ∷ [])
 unfolding numbersFrom listed edgesOf instanceOf
 pairs-held = (refl, (refl, (refl, (refl, (refl, tt)))))
+
+-- the plan that is held, with its roster; an open proposal is none
+pub plans-held : Each (λ (h : Held × Option (Roster × Plan)). D.planHeld (h .0) ≡ h .1) (
+    (nothing, O.none) ∷ (roster P5, O.none) ∷ (held, O.some (P5, first)) ∷ (asked, O.some (P5, first)) ∷ [])
+plans-held = (refl, (refl, (refl, (refl, tt))))

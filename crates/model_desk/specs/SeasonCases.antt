@@ -24,16 +24,17 @@ abbrev Turned : Type 0
 Turned = String × Reading (List ℕ)
 
 -- ---- rosters
--- no nodes; document 01's sample; P4, with a tie; surveyors 1 and 2 with a list each, at a stand that ties the second
+-- no nodes; document 01's sample; P4, with a tie; surveyors 1 and 2 with a list each, at a stand that ties the second; one surveyor with two stands
 abbrev both : List (String × String)
 both =
     ("0 0 0 0 0 0", "0 0 0 0 0 0") ∷ ("2 1 1 1 1 2 0 1 1 1 1 2 0 2 0 1 2", "2 1 1 1 1 2 0 1 1 1 1 1 1 2 0 2 0 1 1 2 1")
     ∷ ("2 1 1 1 1 2 0 1 1 1 1 2 0 0 2 1 2", "2 1 1 1 1 2 0 1 1 1 1 1 1 2 0 0 2 1 1 2 1")
-    ∷ ("2 1 1 2 1 1 3 0 2 2 1 1 2 3 0 1 0 1 1 1 1 2", "2 1 1 2 1 1 3 0 2 2 1 1 1 1 2 1 3 0 1 0 1 1 1 1 1 1 2 1") ∷ []
+    ∷ ("2 1 1 2 1 1 3 0 2 2 1 1 2 3 0 1 0 1 1 1 1 2", "2 1 1 2 1 1 3 0 2 2 1 1 1 1 2 1 3 0 1 0 1 1 1 1 1 1 2 1")
+    ∷ ("1 2 2 1 1 2 0 2 2 1 2 0 1 0 1 1 0 1", "1 2 2 1 1 2 0 2 2 1 1 1 2 0 1 0 1 1 1 0 1 1") ∷ []
 
 pub rosters-turned : Each (λ (c : String × String). (toNew (bytes (c .0)) ≡ accepted (bytes (c .1))) × (toOld (bytes (c .1)) ≡ accepted (bytes (c .0)))) both
 unfolding numbersFrom toNew toOld readRosterBy writeRosterBy readEach bothOrNeither listed listedBack
-rosters-turned = ((refl, refl), ((refl, refl), ((refl, refl), ((refl, refl), tt))))
+rosters-turned = ((refl, refl), ((refl, refl), ((refl, refl), ((refl, refl), ((refl, refl), tt)))))
 
 abbrev notOld : List (String × ℕ)
 notOld =
@@ -74,7 +75,7 @@ unfolding numbersFrom groupOf toNew toOld readRosterBy writeRosterBy readEach bo
 files-said = (refl, refl, refl, refl, refl, refl, refl)
 
 pub files-written : (fileLent (toNew oldSample) (whole 4262) ≡ newSample ++ replicate 4241 7)
-    × (fileLent (toOld newSample) (whole 4262) ≡ oldSample ++ replicate 4245 7) × (fileLent (toNew oldSample) (whole 100) ≡ whole 100)
+    × (fileLent (toOld newSample) (whole 4262) ≡ oldSample ++ replicate 4245 7) × (fileLent (toNew oldSample) (whole 4261) ≡ whole 4261)
     × (fileLent (toNew newSample) (whole 4262) ≡ whole 4262)
 unfolding numbersFrom toNew toOld readRosterBy writeRosterBy readEach bothOrNeither listed listedBack fileLent
 files-written = (refl, refl, refl, refl)
@@ -105,6 +106,20 @@ late = record { quotasS = bytes "1"; quotasT = bytes "1"; listsS = (entry 1 2 �
 pub late-plans : (planToNew (instanceOf late) (bytes "1 1 1") ≡ refused 10) × (planToOld (instanceOf late) (bytes "1 1 1 2") ≡ refused 19)
 unfolding numbersFrom low listed planToNew planToOld readPlanBy planBytesBy edgeOfPair readEach instanceOf edgesOf position
 late-plans = (refl, refl)
+
+-- one surveyor with two stands: the stand's number goes both ways
+abbrev wide : Roster
+wide = record {
+  quotasS = bytes "2";
+  quotasT = bytes "1 1";
+  listsS = (entry 1 1 ∷ entry 2 1 ∷ []) ∷ [];
+  listsT = record { strict = entry 1 1 ∷ []; tied = [] } ∷ record { strict = entry 1 1 ∷ []; tied = [] } ∷ [];
+}
+
+pub wide-plans : (planToNew (instanceOf wide) (bytes "1 1 2") ≡ accepted (bytes "1 1 2 1"))
+    × (planToOld (instanceOf wide) (bytes "2 1 1 1 1 2 1") ≡ accepted (bytes "2 1 1 1 2"))
+unfolding numbersFrom low listed planToNew planToOld readPlanBy planBytesBy edgeOfPair readEach instanceOf edgesOf position
+wide-plans = (refl, refl)
 
 -- ---- on the desk: 13, then 15, "193 bytes either way", then the plan's refusals; no plan needs to be held, and one that is stays
 abbrev said : List Said
