@@ -53,7 +53,8 @@ fitting = refl
 abbrev outside : List Roster
 outside =
     -- a surveyor's quota, a stand's; 33 surveyors; quotas of 65 in all
-    roster "9 1" "1" (early "1" ∷ early "1" ∷ []) (ranking (early "1 2") [] ∷ []) ∷ roster "1 1" "9" (early "1" ∷ early "1" ∷ []) (ranking (early "1 2") [] ∷ [])
+    roster "9 1" "1" (early "1" ∷ early "1" ∷ []) (ranking (early "1 2") [] ∷ [])
+    ∷ roster "1 1" "9" (early "1" ∷ early "1" ∷ []) (ranking (early "1 2") [] ∷ [])
     ∷ idle (replicate 33 0) ∷ idle (1 ∷ replicate 8 8)
     -- a list too few, on either side
     ∷ roster "1 1" "" ([] ∷ []) [] ∷ roster "" "1" [] []

@@ -1,7 +1,6 @@
 -- More rosters than document 01 has, run by the checker: each of rules 4 to 6 in turn, a quota that is cut, a surveyor with room, a vote
 -- below zero, two digits and more, the worst rank, what is printed for a refusal, the blocking pair that is named, one surveyor and one stand in
--- several shifts, and the last node where there are fewer of the others. Outputs up to P30 are the reference's; the steps of P33 to P39 are those
--- of a second writing of the rules, which is not kept, and their plans are the model's own.
+-- several shifts, and the last node where there are fewer of the others. Outputs are the reference's.
 use mathlib.Core.Path.{_≡_, refl}
 use mathlib.Core.Bool.{true, false}
 use mathlib.Core.Option.{Option·elim, orElse}
@@ -204,7 +203,8 @@ abbrev P34 : Case
 P34 = record { file = bytes "1 2 1 1 2 0 2 1 2 1 1 2 0 0 2 1 1 1 2"; claims = prints "fix 1 1 2 6\nstrike 1 1 1 2\nplan 1\n1 1 2\n" ∷ [] }
 
 -- rule 7 fixes the stand's best pair, not the lowest (P10 with the stands and one ranking the other way round), and no tied one: surveyor 1 ranks
--- stand 2 in shift 1, then stand 1 in shift 3, surveyor 2 ranks stand 2 in shift 2, then in shift 1; stand 1 ties its pair, stand 2 has 2 in shift 1 before a tie
+-- stand 2 in shift 1, then stand 1 in shift 3, surveyor 2 ranks stand 2 in shift 2, then in shift 1; stand 1 ties its pair, stand 2 has 2 in
+-- shift 1 before a tie
 abbrev P35 : Case
 P35 = record {
   file = bytes "2 1 1 2 2 1 4 0 2 2 1 1 1 2 2 1 1 1 4 0 2 0 2 1 1 1 0 2 1 1 2 1";
@@ -231,8 +231,8 @@ P39 = record {
   claims = prints "fix 1 2 2 3\nfix 2 1 1 6\nstrike 1 1 1 2\nfix 1 2 1 3\nplan 3\n1 2 1\n1 2 2\n2 1 1\n" ∷ [];
 }
 
--- a full node yields for a worse pair of its own that is in the plan: surveyor 1 ranks stand 1, which it has, and stand 2 in shifts 1 and 3, where there is room;
--- surveyor 2 ranks stand 1, stand 3, of quota 0, and stand 4, which it has. Neither 1-2, better than its other shift, nor any other pair blocks.
+-- a full node yields for a worse pair of its own that is in the plan: surveyor 1 ranks stand 1, which it has, and stand 2 in shifts 1 and 3,
+-- where there is room; surveyor 2 ranks stand 1, stand 3, of quota 0, and stand 4, which it has. Neither 1-2, better than its other shift, nor any other pair blocks.
 abbrev P37 : Case
 P37 = record {
   file = bytes "2 1 1 4 1 1 0 1 6 0 3 1 1 2 1 2 3 3 1 1 3 1 4 1 6 0 2 0 1 1 2 1 2 0 1 1 1 3 1 0 2 1 1 0 2 1";

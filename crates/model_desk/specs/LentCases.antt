@@ -54,7 +54,8 @@ pairs = (refl, refl)
 
 -- calls that write nothing leave what they are lent; a change writes what the finder finds on the changed roster
 pub kept : (ch : Choices) → (lentAfter ch one (D.loadRoster (bytes "1 9")) ≡ D.loadRoster (bytes "1 9"))
-    × (lentAfter ch one (D.loadPlan (bytes "0")) ≡ D.loadPlan (bytes "0")) × (lentAfter ch one (D.compare (bytes "0") (bytes "1")) ≡ D.compare (bytes "0") (bytes "1"))
+    × (lentAfter ch one (D.loadPlan (bytes "0")) ≡ D.loadPlan (bytes "0"))
+    × (lentAfter ch one (D.compare (bytes "0") (bytes "1")) ≡ D.compare (bytes "0") (bytes "1"))
     × (lentAfter ch one D.blocking ≡ D.blocking) × (lentAfter ch one (D.propose (bytes "0")) ≡ D.propose (bytes "0")) × (lentAfter ch one D.commit ≡ D.commit)
 unfolding stateRefusal lentAfter
 kept ch = (refl, refl, refl, refl, refl, refl)
