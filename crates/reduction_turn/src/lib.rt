@@ -9,7 +9,7 @@ ghost use lib.Dec.{eqb};
 ghost use Rattle.model.specs.Limits.{nodeLimit, entryLimit, emptyRank};
 ghost use Rattle.arrays.specs.ArrayInstance.{at};
 ghost use Rattle.arrays.specs.Passes.{Low};
-ghost use Rattle.edge_links.specs.Linked.{Linked};
+ghost use Rattle.reduction_links.specs.Listed.{Listed};
 ghost use Rattle.reduction_cells.specs.Cells.{Celled};
 ghost use Rattle.reduction_nodes.specs.Numbers.{secondsOf};
 ghost use Rattle.reduction_nodes.specs.Kept.{Tables, edges, links, looks};
@@ -18,6 +18,7 @@ ghost use Rattle.reduction_turn.specs.Onward.{Marked, Repainted, CalmOn,
 ghost use Rattle.reduction_turn.specs.Shown.{ShownOn};
 use limits::ENTRY_LIMIT;
 use reduction_cells::CELLS;
+use reduction_links::PLACES;
 
 // The surveyors and the stands that saw a change.
 pub struct Saw {
@@ -31,7 +32,7 @@ pub fn passed_over(
     end: &[u8; ENTRY_LIMIT],
     rank: &[u8; ENTRY_LIMIT],
     tied: &[bool; ENTRY_LIMIT],
-    next: &[u16; ENTRY_LIMIT],
+    list: &[u16; PLACES],
     first: &[u16; 32],
     cell: &[u16; CELLS],
     rem: &[bool; ENTRY_LIMIT],
@@ -41,14 +42,14 @@ pub fn passed_over(
     e: usize,
     x: &mut [u16; 32],
 )
-    requires { ⌜ (v < nodeLimit) × (e < m) × Linked m (now end) (now first) (now next) × Celled m (now end) (now rank) (now tied) (now cell)
+    requires { ⌜ (v < nodeLimit) × (e < m) × Listed m (now end) (now first) (now list) × Celled m (now end) (now rank) (now tied) (now cell)
         × Low m (now rank) emptyRank × (length (now x) ≡ nodeLimit) ⌝ }
     ensures { λ r. ⌜ (length (now (x .exit)) ≡ nodeLimit) × ((u : ℕ) → at (now (x .exit)) u
         ≡ cond (eqb u v && eqb (at (now (x .entry)) v) e) (secondsOf m (now (end .entry)) (now (rank .entry)) (now (cell .entry))
         (now (rem .entry)) (now (f .entry)) (now (q .entry)) u) (at (now (x .entry)) u)) ⌝ }
 {
     if x[v] == e as u16 {
-        x[v] = reduction_nodes::second(m, end, rank, tied, next, first, cell, v, rem, f, q[v]);
+        x[v] = reduction_nodes::second(m, end, rank, tied, list, first, cell, v, rem, f, q[v]);
     }
 }
 
@@ -107,9 +108,9 @@ pub fn calmly(
     rt: &[u8; ENTRY_LIMIT],
     strict: &[bool; ENTRY_LIMIT],
     tied: &[bool; ENTRY_LIMIT],
-    ns: &[u16; ENTRY_LIMIT],
+    ls: &[u16; PLACES],
     hs: &[u16; 32],
-    nt: &[u16; ENTRY_LIMIT],
+    lt: &[u16; PLACES],
     ht: &[u16; 32],
     cs: &[u16; CELLS],
     ct: &[u16; CELLS],
@@ -126,19 +127,19 @@ pub fn calmly(
     oldt: &mut [bool; 32],
 )
     requires { ⌜ (e < m) × Tables (edges m (now sv) (now st) (now rs) (now rt) (now tied)) (now strict)
-        (links (now ns) (now hs) (now nt) (now ht) (now cs) (now ct)) ⌝ }
+        (links (now ls) (now hs) (now lt) (now ht) (now cs) (now ct)) ⌝ }
     requires { ⌜ SizedN (numbers (now one) (now twos) (now twot) (now olds) (now oldt)) ⌝ }
     ensures { λ r. ⌜ SizedN (numbers (now (one .entry)) (now (twos .exit)) (now (twot .exit)) (now (olds .exit)) (now (oldt .exit))) ⌝ }
     ensures { λ r. ⌜ CalmOn (edges m (now (sv .entry)) (now (st .entry)) (now (rs .entry)) (now (rt .entry)) (now (tied .entry)))
-        (links (now (ns .entry)) (now (hs .entry)) (now (nt .entry)) (now (ht .entry)) (now (cs .entry)) (now (ct .entry)))
+        (links (now (ls .entry)) (now (hs .entry)) (now (lt .entry)) (now (ht .entry)) (now (cs .entry)) (now (ct .entry)))
         (looks (now (rem .entry)) (now (fs .entry)) (now (ft .entry)) (now (qs .entry)) (now (qt .entry))) e
         (numbers (now (one .entry)) (now (twos .entry)) (now (twot .entry)) (now (olds .entry)) (now (oldt .entry)))
         (numbers (now (one .entry)) (now (twos .exit)) (now (twot .exit)) (now (olds .exit)) (now (oldt .exit))) ⌝ }
 {
     let s = sv[e] as usize;
     let t = st[e] as usize;
-    passed_over(m, sv, rs, strict, ns, hs, cs, rem, ft, qs, s, e, twos);
-    passed_over(m, st, rt, tied, nt, ht, ct, rem, fs, qt, t, e, twot);
+    passed_over(m, sv, rs, strict, ls, hs, cs, rem, ft, qs, s, e, twos);
+    passed_over(m, st, rt, tied, lt, ht, ct, rem, fs, qt, t, e, twot);
     olds[s] = true;
     oldt[t] = true;
 }
@@ -152,9 +153,9 @@ pub fn anew(
     rt: &[u8; ENTRY_LIMIT],
     strict: &[bool; ENTRY_LIMIT],
     tied: &[bool; ENTRY_LIMIT],
-    ns: &[u16; ENTRY_LIMIT],
+    ls: &[u16; PLACES],
     hs: &[u16; 32],
-    nt: &[u16; ENTRY_LIMIT],
+    lt: &[u16; PLACES],
     ht: &[u16; 32],
     cs: &[u16; CELLS],
     ct: &[u16; CELLS],
@@ -171,11 +172,11 @@ pub fn anew(
     oldt: &mut [bool; 32],
 )
     requires { ⌜ (e < m) × Tables (edges m (now sv) (now st) (now rs) (now rt) (now tied)) (now strict)
-        (links (now ns) (now hs) (now nt) (now ht) (now cs) (now ct)) ⌝ }
+        (links (now ls) (now hs) (now lt) (now ht) (now cs) (now ct)) ⌝ }
     requires { ⌜ SizedN (numbers (now one) (now twos) (now twot) (now olds) (now oldt)) × (length (now fs) ≡ entryLimit) × (length (now ft) ≡ entryLimit) ⌝ }
     ensures { λ r. ⌜ SizedN (numbers (now (one .exit)) (now (twos .exit)) (now (twot .exit)) (now (olds .exit)) (now (oldt .exit))) ⌝ }
     ensures { λ r. ⌜ AnewOn (edges m (now (sv .entry)) (now (st .entry)) (now (rs .entry)) (now (rt .entry)) (now (tied .entry)))
-        (links (now (ns .entry)) (now (hs .entry)) (now (nt .entry)) (now (ht .entry)) (now (cs .entry)) (now (ct .entry)))
+        (links (now (ls .entry)) (now (hs .entry)) (now (lt .entry)) (now (ht .entry)) (now (cs .entry)) (now (ct .entry)))
         (now (rem .entry)) (now (qs .entry)) (now (qt .entry)) (now (fs .entry)) (now (ft .entry)) (now (fs .exit)) (now (ft .exit)) e
         (numbers (now (one .entry)) (now (twos .entry)) (now (twot .entry)) (now (olds .entry)) (now (oldt .entry)))
         (numbers (now (one .exit)) (now (twos .exit)) (now (twot .exit)) (now (olds .exit)) (now (oldt .exit))) ⌝ }
@@ -202,9 +203,9 @@ pub fn anew(
     );
     let saws = w.s;
     let sawt = w.t;
-    reduction_nodes::first_renewed(m, sv, ns, hs, fs, ft, &saws, one);
-    reduction_nodes::second_renewed(m, sv, rs, strict, ns, hs, cs, rem, ft, qs, &saws, twos);
-    reduction_nodes::second_renewed(m, st, rt, tied, nt, ht, ct, rem, fs, qt, &sawt, twot);
+    reduction_nodes::first_renewed(m, sv, ls, hs, fs, ft, &saws, one);
+    reduction_nodes::second_renewed(m, sv, rs, strict, ls, hs, cs, rem, ft, qs, &saws, twos);
+    reduction_nodes::second_renewed(m, st, rt, tied, lt, ht, ct, rem, fs, qt, &sawt, twot);
     marked(&saws, olds);
     marked(&sawt, oldt);
 }
@@ -218,9 +219,9 @@ pub fn turn(
     rt: &[u8; ENTRY_LIMIT],
     strict: &[bool; ENTRY_LIMIT],
     tied: &[bool; ENTRY_LIMIT],
-    ns: &[u16; ENTRY_LIMIT],
+    ls: &[u16; PLACES],
     hs: &[u16; 32],
-    nt: &[u16; ENTRY_LIMIT],
+    lt: &[u16; PLACES],
     ht: &[u16; 32],
     cs: &[u16; CELLS],
     ct: &[u16; CELLS],
@@ -241,14 +242,14 @@ pub fn turn(
     oldt: &mut [bool; 32],
 )
     requires { ⌜ (e < m) × Tables (edges m (now sv) (now st) (now rs) (now rt) (now tied)) (now strict)
-        (links (now ns) (now hs) (now nt) (now ht) (now cs) (now ct)) ⌝ }
+        (links (now ls) (now hs) (now lt) (now ht) (now cs) (now ct)) ⌝ }
     requires { ⌜ Sized (whole (now rem) (now fixed) (now qs) (now qt) (now ds) (now dt))
         × SizedN (numbers (now one) (now twos) (now twot) (now olds) (now oldt)) × (length (now fs) ≡ entryLimit) × (length (now ft) ≡ entryLimit) ⌝ }
     ensures { λ r. ⌜ Sized (whole (now (rem .exit)) (now (fixed .exit)) (now (qs .exit)) (now (qt .exit)) (now (ds .exit)) (now (dt .exit)))
         × SizedN (numbers (now (one .exit)) (now (twos .exit)) (now (twot .exit)) (now (olds .exit)) (now (oldt .exit)))
         × (length (now (fs .exit)) ≡ entryLimit) × (length (now (ft .exit)) ≡ entryLimit) ⌝ }
     ensures { λ r. ⌜ Onward (edges m (now (sv .entry)) (now (st .entry)) (now (rs .entry)) (now (rt .entry)) (now (tied .entry)))
-        (links (now (ns .entry)) (now (hs .entry)) (now (nt .entry)) (now (ht .entry)) (now (cs .entry)) (now (ct .entry)))
+        (links (now (ls .entry)) (now (hs .entry)) (now (lt .entry)) (now (ht .entry)) (now (cs .entry)) (now (ct .entry)))
         (looks (now (rem .entry)) (now (fs .entry)) (now (ft .entry)) (now (qs .entry)) (now (qt .entry)))
         (numbers (now (one .entry)) (now (twos .entry)) (now (twot .entry)) (now (olds .entry)) (now (oldt .entry)))
         (looks (now (rem .exit)) (now (fs .exit)) (now (ft .exit)) (now (qs .exit)) (now (qt .exit)))
@@ -273,9 +274,9 @@ pub fn turn(
             rt,
             strict,
             tied,
-            ns,
+            ls,
             hs,
-            nt,
+            lt,
             ht,
             cs,
             ct,
@@ -301,9 +302,9 @@ pub fn turn(
         rt,
         strict,
         tied,
-        ns,
+        ls,
         hs,
-        nt,
+        lt,
         ht,
         cs,
         ct,

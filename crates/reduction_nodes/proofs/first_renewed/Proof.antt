@@ -33,7 +33,7 @@ cast-x c =
     let a = c .before .before .before .before .before .args in
     omega (
       arith,
-      c .before .before .before .before .before .pre .0 .edges,
+      c .before .before .before .before .before .pre .0 .linked .edges,
       c .both .ensures,
       low-is (atNode (a .sv .now) (c .before .before .before .before .loop .i) (λ d. flag (a .fs .now) d && flag (a .ft .now) d)) (a .m) .0,
     )

@@ -16,14 +16,14 @@ repainted-requires c κs =
 first-renewed-requires : tie.Need-first-renewed-requires
 first-renewed-requires c κs =
     let b6 = c .before .before .before .before .before .before in
-    let p = b6 .before .before .before .before .before .pre in (p .0 .1 .linkedS, p .1 .0 .one)
+    let p = b6 .before .before .before .before .before .pre in (p .0 .1 .listedS, p .1 .0 .one)
 
 second-renewed-requires : tie.Need-second-renewed-requires
 second-renewed-requires c κs =
     let b12 = c .before .before .before .before .before .before .before .before .before .before .before .before in
     let p = b12 .before .before .before .pre in
     let D = p .0 .1 in
-    (D .linkedS, D .celledS, D .placedS, p .1 .0 .twos)
+    (D .listedS, D .celledS, D .placedS, p .1 .0 .twos)
 
 second-renewed-requires-2 : tie.Need-second-renewed-requires-2
 second-renewed-requires-2 c κs =
@@ -31,7 +31,7 @@ second-renewed-requires-2 c κs =
     .before in
     let p = b18 .before .pre in
     let D = p .0 .1 in
-    (D .linkedT, D .celledT, D .placedT, p .1 .0 .twot)
+    (D .listedT, D .celledT, D .placedT, p .1 .0 .twot)
 
 returns : tie.Need-returns
 returns c =
@@ -42,7 +42,7 @@ returns c =
     let a = b24 .before .before .args in
     let p = b24 .before .before .pre in
     let A = edges (a .m) (a .sv .now) (a .st .now) (a .rs .now) (a .rt .now) (a .tied .now) in
-    let L = links (a .ns .now) (a .hs .now) (a .nt .now) (a .ht .now) (a .cs .now) (a .ct .now) in
+    let L = links (a .ls .now) (a .hs .now) (a .lt .now) (a .ht .now) (a .cs .now) (a .ct .now) in
     let w = b18 .before .before .before .repainted .result in
     let k = numbers (a .one .now) (a .twos .now) (a .twot .now) (a .olds .now) (a .oldt .now) in
     let N = b12 .before .before .first-renewed .ensures in

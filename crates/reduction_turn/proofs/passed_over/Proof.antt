@@ -42,5 +42,5 @@ returns-2 c =
 
 pub passed-over-spec : {M : Type 1} → statement M
 passed-over-spec =
-    tie.close (tie.spec (λ c. search needs) (λ c. search needs) (λ c. omega (arith, c .before .pre .1, c .before .pre .2 .edges)) (λ c. search needs)
+    tie.close (tie.spec (λ c. search needs) (λ c. search needs) (λ c. omega (arith, c .before .pre .1, c .before .pre .2 .linked .edges)) (λ c. search needs)
     (λ c. search needs) second-requires (λ c. search needs) (λ c. search needs) returns returns-2)

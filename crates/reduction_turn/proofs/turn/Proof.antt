@@ -17,7 +17,7 @@ act-requires c κs =
     let b6 = c .before .before .before .before .before .before in
     let p = b6 .before .before .before .before .pre .0 in
     let e = b6 .before .before .before .before .args .e in
-    (omega (arith, p .0, p .1 .linkedS .edges), p .1 .fitS e (p .0), p .1 .fitT e (p .0))
+    (omega (arith, p .0, p .1 .listedS .linked .edges), p .1 .fitS e (p .0), p .1 .fitT e (p .0))
 
 calmly-requires : tie.Need-calmly-requires
 calmly-requires c κs =
@@ -33,7 +33,7 @@ returns c =
     let a = b24 .before .before .before .args in
     let p = b24 .before .before .before .pre in
     let A = edges (a .m) (a .sv .now) (a .st .now) (a .rs .now) (a .rt .now) (a .tied .now) in
-    let L = links (a .ns .now) (a .hs .now) (a .nt .now) (a .ht .now) (a .cs .now) (a .ct .now) in
+    let L = links (a .ls .now) (a .hs .now) (a .lt .now) (a .ht .now) (a .cs .now) (a .ct .now) in
     let D = p .0 .1 in
     let x = whole (a .rem .now) (a .fixed .now) (a .qs .now) (a .qt .now) (a .ds .now) (a .dt .now) in
     let i = b12 .before .before .before .before .act .ensures in
@@ -63,7 +63,7 @@ returns-2 c =
     let a = b24 .before .before .before .args in
     let p = b24 .before .before .before .pre in
     let A = edges (a .m) (a .sv .now) (a .st .now) (a .rs .now) (a .rt .now) (a .tied .now) in
-    let L = links (a .ns .now) (a .hs .now) (a .nt .now) (a .ht .now) (a .cs .now) (a .ct .now) in
+    let L = links (a .ls .now) (a .hs .now) (a .lt .now) (a .ht .now) (a .cs .now) (a .ct .now) in
     let x = whole (a .rem .now) (a .fixed .now) (a .qs .now) (a .qt .now) (a .ds .now) (a .dt .now) in
     let i = b12 .before .before .before .before .act .ensures in
     let E = c .anew .ensures in
