@@ -144,12 +144,6 @@ renewed-at : {B : Type 0} (d : B) (saw : List Bool) (new : ℕ → B) (old xs : 
 renewed-at d saw new old xs R v w b t =
     R v ∙ ap (λ a. cond (a && flag saw v) (new v) (getD old v d)) (lt-ltb v nodeLimit w) ∙ ap (λ b. cond b (new v) (getD old v d)) t
 
--- a renewed array holds the new numbers, if the others stay
-pub renewed-all : (saw : List Bool) (new : ℕ → ℕ) (old xs : List ℕ) → Renewed 0 saw new old nodeLimit xs
-    → ((v : ℕ) → v < nodeLimit → flag saw v ≡ false → at old v ≡ new v) → (v : ℕ) → v < nodeLimit → at xs v ≡ new v
-renewed-all saw new old xs R h v w = by-bool (flag saw v) (λ t. renewed-at 0 saw new old xs R v w true t)
-    (λ t. renewed-at 0 saw new old xs R v w false t ∙ h v w t)
-
 stood-at : (new : ℕ → Stand) (saw : List Bool) (x y : Stands) → Stood new saw x nodeLimit y → (v : ℕ) → v < nodeLimit → (b : Bool) → flag saw v ≡ b
     → standAt y v ≡ cond b (new v) (standAt x v)
 stood-at new saw x y S v w true t = λ k. record {

@@ -3,7 +3,7 @@
 // anew. Rules 1 and 2 are asked at every step, the later ones only where both are silent, so each group has its own functions.
 ghost use mathlib.Core.Path.{_≡_};
 ghost use mathlib.Core.Bool.{_&&_, _||_, cond};
-ghost use Prim.Native.Nat.{_<_};
+ghost use Prim.Native.Nat.{_≤_, _<_};
 ghost use lib.ListN.{length};
 ghost use lib.Dec.{leb, ltb};
 ghost use Rattle.lists.specs.Search.{low};
@@ -13,8 +13,8 @@ ghost use Rattle.arrays.specs.Passes.{Low};
 ghost use Rattle.reduction_links.specs.Listed.{Listed};
 ghost use Rattle.reduction_links.specs.Walks.{atNode};
 ghost use Rattle.reduction_cells.specs.Cells.{Celled, barOf, bestOf, worstOf};
-ghost use Rattle.reduction_cells.specs.Painted.{differ};
-ghost use Rattle.reduction_nodes.specs.Renewed.{Renewed};
+ghost use Rattle.reduction_cells.specs.Painted.{differ, among};
+ghost use Rattle.reduction_nodes.specs.Renewed.{RenewedBy};
 ghost use Rattle.reduction_nodes.specs.Numbers.{firstOf, secondsOf, surveyorOf, standOf, surveyorsOf, standsOf};
 ghost use Rattle.reduction_nodes.specs.Numbers.{Surveyed, Stood, SizedS, SizedT, surveyorNumbers, standNumbers};
 use limits::EMPTY_RANK;
@@ -189,7 +189,7 @@ pub fn stand_now(
     }
 }
 
-// Rule 1 at the surveyors in `saw`, anew.
+// Rule 1 at the surveyors of a list, its first n, anew.
 pub fn first_renewed(
     m: usize,
     sv: &[u8; ENTRY_LIMIT],
@@ -197,24 +197,23 @@ pub fn first_renewed(
     first: &[u16; 32],
     fs: &[bool; ENTRY_LIMIT],
     ft: &[bool; ENTRY_LIMIT],
-    saw: &[bool; 32],
+    turned: &[u8; EMPTY_RANK],
+    n: usize,
     x: &mut [u16; 32],
 )
-    requires { ⌜ Listed m (now sv) (now first) (now list) × (length (now x) ≡ nodeLimit) ⌝ }
-    ensures { λ r. ⌜ (length (now (x .exit)) ≡ nodeLimit) × Renewed 0 (now (saw .entry))
-        (firstOf m (now (sv .entry)) (now (fs .entry)) (now (ft .entry))) (now (x .entry)) nodeLimit (now (x .exit)) ⌝ }
+    requires { ⌜ Listed m (now sv) (now first) (now list) × (length (now x) ≡ nodeLimit) × (n ≤ emptyRank) × Low n (now turned) nodeLimit ⌝ }
+    ensures { λ r. ⌜ (length (now (x .exit)) ≡ nodeLimit) × RenewedBy (among (now (turned .entry)) n)
+        (firstOf m (now (sv .entry)) (now (fs .entry)) (now (ft .entry))) (now (x .entry)) (now (x .exit)) ⌝ }
 {
     let mut i: usize = 0;
-    while i < 32 {
-        let v = i;
+    while i < n {
+        let v = turned[i] as usize;
+        x[v] = reduction_links::both(m, sv, list, first, v, fs, ft) as u16;
         i += 1;
-        if saw[v] {
-            x[v] = reduction_links::both(m, sv, list, first, v, fs, ft) as u16;
-        }
     }
 }
 
-// Rule 2 at the nodes of one side in `saw`, anew.
+// Rule 2 at the nodes of a list, all of one side, anew.
 pub fn second_renewed(
     m: usize,
     end: &[u8; ENTRY_LIMIT],
@@ -226,22 +225,21 @@ pub fn second_renewed(
     rem: &[bool; ENTRY_LIMIT],
     f: &[bool; ENTRY_LIMIT],
     q: &[u16; 32],
-    saw: &[bool; 32],
+    turned: &[u8; EMPTY_RANK],
+    n: usize,
     x: &mut [u16; 32],
 )
     requires { ⌜ Listed m (now end) (now first) (now list) × Celled m (now end) (now rank) (now tied) (now cell) × Low m (now rank) emptyRank
-        × (length (now x) ≡ nodeLimit) ⌝ }
-    ensures { λ r. ⌜ (length (now (x .exit)) ≡ nodeLimit) × Renewed 0 (now (saw .entry))
+        × (length (now x) ≡ nodeLimit) × (n ≤ emptyRank) × Low n (now turned) nodeLimit ⌝ }
+    ensures { λ r. ⌜ (length (now (x .exit)) ≡ nodeLimit) × RenewedBy (among (now (turned .entry)) n)
         (secondsOf m (now (end .entry)) (now (rank .entry)) (now (cell .entry)) (now (rem .entry)) (now (f .entry)) (now (q .entry)))
-        (now (x .entry)) nodeLimit (now (x .exit)) ⌝ }
+        (now (x .entry)) (now (x .exit)) ⌝ }
 {
     let mut i: usize = 0;
-    while i < 32 {
-        let v = i;
+    while i < n {
+        let v = turned[i] as usize;
+        x[v] = second(m, end, rank, tied, list, first, cell, v, rem, f, q[v]);
         i += 1;
-        if saw[v] {
-            x[v] = second(m, end, rank, tied, list, first, cell, v, rem, f, q[v]);
-        }
     }
 }
 

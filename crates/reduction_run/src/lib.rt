@@ -6,10 +6,12 @@ ghost use Prim.Native.Nat.{_≤_, _<_};
 ghost use lib.ListN.{length};
 ghost use Rattle.model.specs.Limits.{nodeLimit, entryLimit, emptyRank};
 ghost use Rattle.arrays.specs.Passes.{Low};
+ghost use Rattle.arrays.specs.Filled.{Made};
 ghost use Rattle.reduction_nodes.specs.Known.{Known, instanceOf};
 ghost use Rattle.reduction_nodes.specs.Kept.{Tables, Leads, edges, links, looks};
 ghost use Rattle.reduction_state.specs.Outcome.{Reduced, ReducedFrom};
 ghost use Rattle.reduction_run.specs.Running.{Begun};
+use limits::EMPTY_RANK;
 use limits::ENTRY_LIMIT;
 use reduction_cells::CELLS;
 use reduction_links::PLACES;
@@ -77,6 +79,19 @@ pub(crate) fn begun(
     }
 }
 
+// A list of all nodes of a side.
+pub(crate) fn everyone() -> [u8; EMPTY_RANK]
+    ensures { λ r. ⌜ Made 0 r (λ v. v) nodeLimit ⌝ }
+{
+    let mut o = [0u8; EMPTY_RANK];
+    let mut i = 0;
+    while i < 32 {
+        o[i] = i as u8;
+        i += 1;
+    }
+    o
+}
+
 // The numbers of rules 1 and 2 at all nodes.
 pub(crate) fn numbered(
     m: usize,
@@ -110,10 +125,10 @@ pub(crate) fn numbered(
         (looks (now (rem .entry)) (now (fs .entry)) (now (ft .entry)) (now (qs .entry)) (now (qt .entry)))
         (now (one .exit)) (now (twos .exit)) (now (twot .exit)) ⌝ }
 {
-    let all = [true; 32];
-    reduction_nodes::first_renewed(m, sv, ls, hs, fs, ft, &all, one);
-    reduction_nodes::second_renewed(m, sv, rs, strict, ls, hs, cs, rem, ft, qs, &all, twos);
-    reduction_nodes::second_renewed(m, st, rt, tied, lt, ht, ct, rem, fs, qt, &all, twot);
+    let all = everyone();
+    reduction_nodes::first_renewed(m, sv, ls, hs, fs, ft, &all, 32, one);
+    reduction_nodes::second_renewed(m, sv, rs, strict, ls, hs, cs, rem, ft, qs, &all, 32, twos);
+    reduction_nodes::second_renewed(m, st, rt, tied, lt, ht, ct, rem, fs, qt, &all, 32, twot);
 }
 
 // All steps, with the tables of the edges. At the beginning what the later rules name is old at every node.
