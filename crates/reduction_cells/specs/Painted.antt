@@ -20,6 +20,11 @@ use Rattle.reduction_cells.specs.Cells.{Celled, place, inCell, passed, s
 abbrev pub differ : Bool → Bool → Bool
 differ a b = not (Bool·beq a b)
 
+-- neither of two
+pub or-parts : (a b : Bool) → a || b ≡ false → (a ≡ false) × (b ≡ false)
+or-parts true b h = (h, absurd (subst T h tt))
+or-parts false b h = (refl, h)
+
 -- ---- u is among the first n of a list
 unfoldable pub among : (list : List ℕ) (n u : ℕ) → Bool
 among list zero u = false
@@ -89,13 +94,6 @@ module _ (m : ℕ) (end rank : List ℕ) (tied : List Bool) (other cell : List �
   same-flag true false h = h
   same-flag false true h = sym h
   same-flag false false h = refl
-
-  or-parts : (a b : Bool) → a || b ≡ false → (a ≡ false) × (b ≡ false)
-  or-parts true b h = (h, absurd-true h)
-    where
-      absurd-true : true ≡ false → b ≡ false
-      absurd-true h = absurd (subst T h tt)
-  or-parts false b h = (refl, h)
 
   -- a cell with an edge: its flag is stored, and its other node sees whether it turned
   pub painted-edge : (r : ℕ) (f : List Bool) (w w′ : ℕ → Bool) → v < nodeLimit → r < emptyRank → inCell cell v r < m → inCell cell v r < length f

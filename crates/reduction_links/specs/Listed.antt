@@ -16,7 +16,7 @@ use Rattle.lists.specs.Test.{by-eq, eqb-yes, eqb-no, bit}
 use Rattle.lists.specs.Sum.{count, count-≤, count-add, count-cong, count-none}
 use Rattle.model.specs.Limits.{entryLimit, nodeLimit}
 use Rattle.arrays.specs.ArrayInstance.{at}
-use Rattle.edge_links.specs.Linked.{Linked, First, first-head, first-next}
+use Rattle.edge_links.specs.Linked.{Linked, first-head, first-next}
 
 -- a place for each edge, and one more for each node
 abbrev pub placeLimit : ℕ

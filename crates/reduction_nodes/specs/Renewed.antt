@@ -51,13 +51,13 @@ RenewedBy w new old xs = (v : ℕ) → at xs v ≡ cond (w v) (new v) (at old v)
 pub by-all : (w : ℕ → Bool) (new : ℕ → ℕ) (old xs : List ℕ) → RenewedBy w new old xs → (v : ℕ) → (w v ≡ false → at old v ≡ new v) → at xs v ≡ new v
 by-all w new old xs R v h = by-bool (w v) (λ t. R v ∙ ap (λ b. cond b (new v) (at old v)) t) (λ t. R v ∙ ap (λ b. cond b (new v) (at old v)) t ∙ h t)
 
+pub or-true : (b : Bool) → b || true ≡ true
+or-true true = refl
+or-true false = refl
+
 -- one node of the list more
 pub among-own : (list : List ℕ) (i v : ℕ) → v ≡ at list i → among list (i + 1) v ≡ true
 among-own list i v q = among-next list i v ∙ ap (λ b. among list i v || b) (eqb-yes (at list i) v (sym q)) ∙ or-true (among list i v)
-  where
-    or-true : (b : Bool) → b || true ≡ true
-    or-true true = refl
-    or-true false = refl
 
 pub among-other : (list : List ℕ) (i v : ℕ) → v ≢ at list i → among list (i + 1) v ≡ among list i v
 among-other list i v n =

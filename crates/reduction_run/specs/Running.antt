@@ -1,23 +1,24 @@
 -- Where a run is: the numbers that it carries are those of its arrays, and the arrays show the model's state and its arrows. So it is at the beginning,
 -- and after each step.
-use Prim.Native.Nat.{ℕ, suc, _<_}
+use Prim.Native.Nat.{ℕ, suc, _+_, _<_}
 use native.Mathlib.Omega.{arith}
 use native.Mathlib.Decide.{decLt}
-use mathlib.Core.Path.{_≡_, refl, sym, ap, _∙_, subst}
+use mathlib.Core.Path.{_≡_, sym, ap, _∙_, subst}
 use mathlib.Core.Logic.{by-cases}
-use mathlib.Core.Bool.{Bool, true, false, cond, _||_}
+use mathlib.Core.Bool.{Bool, true, false, cond}
 use mathlib.Core.List.{List}
 use lib.ListN.{length, replicate, getD-replicate}
-use lib.Dec.{T, eqb}
-use Rattle.lists.specs.Test.{by-eq, eqb-yes}
+use lib.Dec.{T}
+use Rattle.lists.specs.Test.{by-eq}
 use Rattle.model.specs.Limits.{nodeLimit, entryLimit}
 use Rattle.model.specs.Instance.{surveyors, stands}
 use Rattle.model.specs.Reduction.{cutS, cutT}
-use Rattle.arrays.specs.ArrayInstance.{at, flag}
+use Rattle.arrays.specs.ArrayInstance.{flag}
 use Rattle.arrays.specs.Passes.{Low}
 use Rattle.arrays.specs.Filled.{Made}
 use Rattle.reduction_cells.specs.Painted.{AllPainted, among}
 use Rattle.reduction_cells.specs.CellLaws.{all-arrows}
+use Rattle.reduction_nodes.specs.Renewed.{among-own, among-other}
 use Rattle.reduction_nodes.specs.Known.{Edges, Known, instanceOf}
 use Rattle.reduction_nodes.specs.Kept.{Links, Tables, looks, Later, Leads, Lates, SizedL, cellsS, cellsT}
 use Rattle.reduction_state.specs.declared.State as arrays
@@ -44,14 +45,10 @@ all-marked v w h = subst T (sym (getD-replicate nodeLimit v true false w) ∙ h)
 
 -- and read then: a list of all nodes has each
 all-among : (list : List ℕ) (n v : ℕ) → v < n → Made 0 list (λ u. u) n → among list n v ≡ true
-unfolding among
-all-among list (suc n) v h M = by-eq v n
-    (λ q t. ap (λ b. among list n v || b) (eqb-yes (at list n) v (M n (omega arith) ∙ sym q)) ∙ or-true (among list n v))
-    (λ k t. ap (λ b. b || eqb (at list n) v) (all-among list n v (by-cases (decLt v n) (λ l. l) (λ l. absurd (k (omega arith)))) (λ u l. M u (omega arith))))
-  where
-    or-true : (b : Bool) → b || true ≡ true
-    or-true true = refl
-    or-true false = refl
+all-among list (suc n) v h M = ap (λ k. among list k v) (let z : suc n ≡ n + 1 = omega arith in z) ∙ by-eq v n
+    (λ q t. among-own list n v (q ∙ sym (M n (omega arith))))
+    (λ k t. among-other list n v (λ z. k (z ∙ M n (omega arith)))
+    ∙ all-among list n v (by-cases (decLt v n) (λ l. l) (λ l. absurd (k (omega arith)))) (λ u l. M u (omega arith)))
 
 pub all-low : (list : List ℕ) → Made 0 list (λ u. u) nodeLimit → Low nodeLimit list nodeLimit
 all-low list M i h = omega (arith, M i h)

@@ -9,15 +9,15 @@ use mathlib.Core.List.{List}
 use lib.ListN.{length, set}
 use lib.Seq.{getD-set-same, getD-set-other}
 use lib.Dec.{T, eqb}
-use Rattle.lists.specs.Test.{by-eq, by-bool, given, eqb-yes, eqb-no, nor-l, nor-r, T-false, false-T}
+use Rattle.lists.specs.Test.{by-eq, by-bool, given, eqb-yes, eqb-no}
 use Rattle.model.specs.Limits.{nodeLimit, emptyRank}
 use Rattle.arrays.specs.ArrayInstance.{at, flag}
 use Rattle.arrays.specs.Passes.{Low}
 use Rattle.reduction_cells.specs.Cells.{Celled, inCell, same-place, cell-holds}
-use Rattle.reduction_cells.specs.Painted.{Painted, among, among-none}
+use Rattle.reduction_cells.specs.Painted.{Painted, or-parts, among, among-none}
 use Rattle.reduction_cells.specs.Local.{Agree}
 use Rattle.reduction_nodes.specs.Known.{Edges}
-use Rattle.reduction_nodes.specs.Renewed.{RenewedBy, by-all, among-own, among-other}
+use Rattle.reduction_nodes.specs.Renewed.{RenewedBy, by-all, among-own, among-other, or-true}
 use Rattle.reduction_nodes.specs.Numbers.{firstOf, secondOf, secondsOf, Surveyors, Stands}
 use Rattle.reduction_nodes.specs.Local.{Same, first-local, second-local, stand-local, surveyor-local, second-struck}
 use Rattle.reduction_nodes.specs.Kept.{Links, Tables, Looks, looks, Later, Leads, Lates, firstNow, secondS, secondT}
@@ -118,14 +118,11 @@ module _ (m : ℕ) (end rank : List ℕ) (tied : List Bool) (cell : List ℕ) (C
   waiting-over : (f : List Bool) (x x′ : List ℕ) (fell : Bool) → (fell ≡ false → at q (at end e) ≡ at q₀ (at end e))
       → RenewedBy (λ u. eqb u (at end e) && (fell || eqb (at x (at end e)) e)) (new f) x x′ → Waiting f x → (v : ℕ) → v < nodeLimit → at x′ v ≡ new f v
   waiting-over f x x′ fell Q R H v w = by-all (λ u. eqb u s && (fell || eqb (at x s) e)) (new f) x x′ R v (λ t. by-eq v s
-      (λ i u. ap (at x) i ∙ still (or-no fell (eqb (at x s) e) (sym (ap (λ b. b && (fell || eqb (at x s) e)) u) ∙ t)) ∙ ap (new f) (sym i))
+      (λ i u. ap (at x) i ∙ still (or-parts fell (eqb (at x s) e) (sym (ap (λ b. b && (fell || eqb (at x s) e)) u) ∙ t)) ∙ ap (new f) (sym i))
       (λ n u. H .apart v w n))
     where
       s : ℕ
       s = at end e
-
-      or-no : (a b : Bool) → a || b ≡ false → (a ≡ false) × (b ≡ false)
-      or-no a b h = let t = false-T h in (T-false (nor-l a b t), T-false (nor-r a b t))
 
       still : (fell ≡ false) × (eqb (at x s) e ≡ false) → at x s ≡ new f s
       still (a, b) = ⊎-elim (λ h. h) (λ h. h
@@ -146,10 +143,6 @@ marked-next list old old′ i l M v = by-eq v (at list i)
     (λ q t. ap (flag (set old′ (at list i) true)) q ∙ getD-set-same old′ (at list i) true false l
     ∙ sym (ap (λ b. flag old v || b) (among-own list i v q) ∙ or-true (flag old v)))
     (λ n t. getD-set-other old′ (at list i) v true false n ∙ M v ∙ sym (ap (λ b. flag old v || b) (among-other list i v n)))
-  where
-    or-true : (b : Bool) → b || true ≡ true
-    or-true true = refl
-    or-true false = refl
 
 -- one node is marked
 marked-other : (old : List Bool) (u v : ℕ) → length old ≡ nodeLimit → u < nodeLimit → flag (set old u true) v ≡ false → (v ≢ u) × (flag old v ≡ false)
@@ -213,6 +206,10 @@ pub off : (b : Bool) → not b ≡ true → b ≡ false
 off true e = sym e
 off false e = refl
 
+pub on : (b : Bool) → not b ≡ false → b ≡ true
+on true e = refl
+on false e = sym e
+
 pub both-ways {ℓ} : {B : Type ℓ} {b : Bool} → b ≡ true → b ≡ false → B
 both-ways t f = absurd (subst T (sym t ∙ f) tt)
 
@@ -261,15 +258,11 @@ module _ (A : Edges) (strict : List Bool) (L : Links) (D : Tables A strict L) (r
         (S .second)
         (waiting-first (A .m) (A .st) (A .rt) (A .tied) (L .cellT) (D .celledT) (D .placedT) rem₀ rem qt₀ qt e fit g fs (k .twot) QT H))
 
-    -- neither was marked, nor saw it a change
-    neither : (a b c : Bool) → c ≡ a || b → c ≡ false → (a ≡ false) × (b ≡ false)
-    neither a b c i h = let t = false-T (sym i ∙ h) in (T-false (nor-l a b t), T-false (nor-r a b t))
-
     pub turn-on : Onward A L X k Y (numbers one twos twot olds oldt)
     turn-on = record {
       leads = λ H. record { first = first-on (H .first); atS = secondS-on (H .atS); atT = secondT-on (H .atT) };
       lates = lates-on A strict L D X Y k (numbers one twos twot olds oldt)
-          (λ v w t. given (neither (flag (set (k .olds) (at (A .sv) e) true) v) (T′ .seen v) (flag olds v) (T′ .marked v) t)
+          (λ v w t. given (or-parts (flag (set (k .olds) (at (A .sv) e) true) v) (T′ .seen v) (sym (T′ .marked v) ∙ t))
           (λ (a, b). given (marked-other (k .olds) (at (A .sv) e) v (z .olds) (D .fitS e el) a) (λ (n, o). (
             o,
             record {
@@ -279,7 +272,7 @@ module _ (A : Edges) (strict : List Bool) (L : Links) (D : Tables A strict L) (r
             },
             QS v n,
           ))))
-          (λ v w t. given (neither (flag (set (k .oldt) (at (A .st) e) true) v) (S .seen v) (flag oldt v) (S .marked v) t)
+          (λ v w t. given (or-parts (flag (set (k .oldt) (at (A .st) e) true) v) (S .seen v) (sym (S .marked v) ∙ t))
           (λ (a, b). given (marked-other (k .oldt) (at (A .st) e) v (z .oldt) (D .fitT e el) a) (λ (n, o). (
             o,
             record {

@@ -2,7 +2,7 @@
 // keeps its arrows; else they are painted anew, and the nodes that saw one turn are read anew. Rule 2's number at an end of e is read anew if it was
 // e or if the quota fell there. What the later rules name is marked old at both ends, and at every node that saw an arrow turn.
 ghost use mathlib.Core.Path.{_≡_};
-ghost use mathlib.Core.Bool.{Bool, _&&_, _||_};
+ghost use mathlib.Core.Bool.{_&&_, _||_};
 ghost use Prim.Native.Nat.{_≤_, _<_};
 ghost use lib.ListN.{length};
 ghost use lib.Dec.{eqb};

@@ -36,13 +36,12 @@ use types.Run.{assigns-last, land, stays, leaves-loop, returns, enter, alloc1, a
 use denote.Exit.{yes}
 use denote.RattleType.{owns}
 use denote.Shadow.{pureI}
-use denote.Memory.{pointee}
 use denote.Laws.{Is, shows}
 use denote.Plain.{uint-vals, uint-tells, uint-makes, uint-lawful}
 use denote.Array.{Array, array-vals, array-tells, array-lawful, array-makes}
 use denote.Builtin.{u8, usize, ArrayOf}
 use denote.Ref.{RefT, now}
-use denote.Slice.{sliceTy, sliceVal, MutSlice, heres, Room, slice-vals, mut-slice-tells, at-slice, codedHoleys}
+use denote.Slice.{sliceVal, MutSlice, heres, Room, slice-vals, mut-slice-tells, at-slice, codedHoleys}
 use denote.Lend.{Held}
 use denote.Index.{row, place-is, elem-out, elem-put, opens-slice, closes-slice}
 use denote.Signature.{plain}

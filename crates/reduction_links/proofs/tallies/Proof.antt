@@ -2,7 +2,7 @@
 use mathlib.Core.Path.{subst, sym}
 use Rattle.arrays.specs.ArrayInstance.{at, flag}
 use Rattle.arrays.specs.Tally.{byte-bit, byte-one}
-use Prim.Native.Nat.{ℕ, _+_, _-_}
+use Prim.Native.Nat.{_+_, _-_}
 use native.Mathlib.Omega.{arith}
 use borrow.Author.Needs.{needs}
 use Rattle.reduction_links.specs.Walks.{Counted, count-starts, count-on, count-ends, count-small}

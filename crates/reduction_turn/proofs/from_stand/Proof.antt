@@ -1,16 +1,11 @@
 -- The arrows stay, or they are painted anew and the nodes that saw one turn are read anew.
-use mathlib.Core.Path.{_≡_, refl, sym, _∙_, subst}
-use mathlib.Core.Bool.{Bool, not, true, false}
-use Prim.Native.Nat.{ℕ, _≤_}
+use mathlib.Core.Path.{refl}
+use Prim.Native.Nat.{ℕ}
 use native.Mathlib.Omega.{arith}
-use borrow.Author.Needs.{needs}
-use lib.ListN.{length-set, length-replicate}
-use lib.Dec.{T, eqb}
-use Rattle.lists.specs.Search.{low, low-is}
+use lib.ListN.{length-replicate}
 use Rattle.model.specs.Limits.{emptyRank}
 use Rattle.arrays.specs.ArrayInstance.{at}
-use Rattle.reduction_cells.specs.Painted.{among}
-use Rattle.reduction_turn.specs.Onward.{carried-still, painted-apart, one-renewed, eqb-other, off, both-ways}
+use Rattle.reduction_turn.specs.Onward.{carried-still, painted-apart, off, on, both-ways}
 use Rattle.reduction_turn.proofs.from_stand.Statement.{statement}
 use Rattle.reduction_turn.proofs.from_stand.Tie as tie
 
@@ -84,10 +79,6 @@ returns-2 c =
         },
       ),
     )
-  where
-    on : (b : Bool) → not b ≡ false → b ≡ true
-    on true e = refl
-    on false e = sym e
 
 pub from-stand-spec : {M : Type 1} → statement M
 from-stand-spec =

@@ -1,16 +1,14 @@
 -- The arrows stay, or they are painted anew and the nodes that saw one turn are read anew.
-use mathlib.Core.Path.{_≡_, refl, sym, _∙_, subst}
-use mathlib.Core.Bool.{Bool, not, true, false}
+use mathlib.Core.Path.{_≡_, refl, _∙_}
+use mathlib.Core.Bool.{Bool}
 use Prim.Native.Nat.{ℕ, _≤_}
 use native.Mathlib.Omega.{arith}
-use borrow.Author.Needs.{needs}
 use lib.ListN.{length-set, length-replicate}
-use lib.Dec.{T, eqb}
+use lib.Dec.{eqb}
 use Rattle.lists.specs.Search.{low, low-is}
 use Rattle.model.specs.Limits.{emptyRank}
 use Rattle.arrays.specs.ArrayInstance.{at}
-use Rattle.reduction_cells.specs.Painted.{among}
-use Rattle.reduction_turn.specs.Onward.{carried-still, painted-apart, one-renewed, eqb-other, off, both-ways}
+use Rattle.reduction_turn.specs.Onward.{carried-still, painted-apart, one-renewed, eqb-other, off, on, both-ways}
 use Rattle.reduction_turn.proofs.from_surveyor.Statement.{statement}
 use Rattle.reduction_turn.proofs.from_surveyor.Tie as tie
 
@@ -105,10 +103,6 @@ returns-2 c =
         },
       ),
     )
-  where
-    on : (b : Bool) → not b ≡ false → b ≡ true
-    on true e = refl
-    on false e = sym e
 
 pub from-surveyor-spec : {M : Type 1} → statement M
 from-surveyor-spec =

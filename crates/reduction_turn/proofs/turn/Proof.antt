@@ -1,30 +1,25 @@
 -- The step, the arrows of both ends where they change, and rule 2's numbers at both ends.
-use mathlib.Core.Path.{_≡_, _∙_, sym, ap}
-use mathlib.Core.Bool.{Bool, not, true, false, _||_}
+use mathlib.Core.Path.{_≡_, _∙_, sym}
+use mathlib.Core.Bool.{Bool, not, false, _||_}
 use Prim.Native.Nat.{ℕ}
 use native.Mathlib.Omega.{arith}
-use borrow.Author.Needs.{needs}
 use lib.ListN.{length-set}
 use lib.Dec.{T, eqb, eqb→eq}
-use Rattle.lists.specs.Test.{T-true, T-false, false-T, nor-l, nor-r}
-use Rattle.arrays.specs.ArrayInstance.{at, flag}
+use Rattle.lists.specs.Test.{true-T}
+use Rattle.reduction_cells.specs.Painted.{or-parts}
 use Rattle.reduction_nodes.specs.Kept.{edges, links}
 use Rattle.reduction_state.specs.RunState.{whole, sized-next}
-use Rattle.reduction_turn.specs.Onward.{numbers, turn-on, off}
+use Rattle.reduction_turn.specs.Onward.{numbers, turn-on, on}
 use Rattle.reduction_turn.specs.Shown.{acted-gone, acted-qs, acted-qt, shown-on}
 use Rattle.reduction_turn.proofs.turn.Statement.{statement}
 use Rattle.reduction_turn.proofs.turn.Tie as tie
 
 -- a quota that did not fall, and an edge that had no arrow beside
 same : (a b : ℕ) → not (eqb a b) ≡ false → a ≡ b
-same a b h = eqb→eq a b (on (eqb a b) h)
-  where
-    on : (t : Bool) → not t ≡ false → T t
-    on true e = tt
-    on false e = absurd (false-T e)
+same a b h = eqb→eq a b (true-T (on (eqb a b) h))
 
 neither : (f : Bool) (a b : ℕ) → f || not (eqb a b) ≡ false → (f ≡ false) × (a ≡ b)
-neither f a b h = let t = false-T h in (T-false (nor-l f (not (eqb a b)) t), same a b (T-false (nor-r f (not (eqb a b)) t)))
+neither f a b h = let t = or-parts f (not (eqb a b)) h in (t .0, same a b (t .1))
 
 element-copy-out-s : tie.Need-element-copy-out-s
 element-copy-out-s c =
