@@ -57,7 +57,8 @@ element-copy-out-turned : tie.Need-element-copy-out-turned Inv-loop μ-loop
 element-copy-out-turned c = omega (arith, c .before .before .before .before .before .pre .0 .1 .edges)
 
 element-write-turned : tie.Need-element-write-turned Inv-loop μ-loop
-element-write-turned c = let l = c .before .before .before .before .before .loop in omega (arith, l .inv .4, l .inv .5, c .before .before .before .before .loop-test .taken)
+element-write-turned c = let l = c .before .before .before .before .before .loop in omega
+    (arith, l .inv .4, l .inv .5, c .before .before .before .before .loop-test .taken)
 
 element-copy-out-n : tie.Need-element-copy-out-n Inv-loop μ-loop
 element-copy-out-n c = omega (arith, c .before .before .before .before .before .before .pre .0 .1 .edges)
@@ -67,7 +68,13 @@ add-n c =
     let l = c .before .before .before .before .before .before .loop in
     let a = c .before .before .before .before .before .before .before .args in
     let e = inCell (a .cell .now) (a .v) (l .r) in
-    omega (arith, l .inv .5, c .before .before .before .before .before .loop-test .taken, byte-one (differ (flag (a .rem .now) e && ltb (l .c) (a .q)) (flag (l .f) e)))
+    omega (
+      arith,
+      l .inv .5,
+      c .before .before .before .before .before .loop-test .taken,
+      byte-one
+          (differ (flag (a .rem .now) e && ltb (l .c) (a .q)) (flag (l .f) e)),
+    )
 
 element-write-f : tie.Need-element-write-f Inv-loop μ-loop
 element-write-f c = omega (arith, c .before .before .before .before .before .before .before .pre .0 .1 .edges)
@@ -108,7 +115,8 @@ loop-again c =
       painted-edge (a .m) (a .end .now) (a .rank .now) (a .tied .now) (a .other .now) (a .cell .now) (P .1) (a .rem .now) (a .v) (a .q) (a .f .now)
           (l .r) (l .f) (among (l .turned) (l .n)) _ (P .0) t lt (omega (arith, l .inv .3, P .1 .edges))
           on (ap (λ x. flag (a .rem .now) e && ltb x (a .q)) (l .inv .1))
-          (λ u. subst (λ x. among (set (l .turned) (l .n) (at (a .other .now) e)) (l .n + x) u ≡ among (l .turned) (l .n) u || (b && eqb (at (a .other .now) e) u))
+          (λ u. subst (λ x. among (set (l .turned) (l .n) (at (a .other .now) e)) (l .n + x) u ≡ among (l .turned) (l .n) u ||
+          (b && eqb (at (a .other .now) e) u))
           (sym (byte-bit b)) (among-put (l .turned) (l .n) (at (a .other .now) e) u b room))
           (l .inv .2),
       simp length-set (l .inv .3),
@@ -148,9 +156,13 @@ returns c =
       omega (arith, l .inv .5),
       l .inv .4,
       l .inv .6,
-      subst (λ k. Painted (a .m) (a .other .now) (a .cell .now) (a .rem .now) (a .v) (a .q) k (a .f .now) (l .f) (among (l .turned) (l .n))) e (l .inv .2),
+      subst (λ k. Painted (a .m) (a .other .now) (a .cell .now) (a .rem .now) (a .v) (a .q) k (a .f .now) (l .f) (among (l .turned) (l .n))) e
+          (l .inv .2),
     )
 
 pub paint-spec : {M : Type 1} → statement M
 paint-spec =
-    tie.close (tie.spec Inv-loop μ-loop (λ c. search needs) loop-holds (λ c. search needs) (λ c. search needs) (λ c. search needs) cast-e (λ c. search needs) element-copy-out-on element-copy-out-turned element-write-turned element-copy-out-n (λ c. search needs) add-n element-write-f element-copy-out-c (λ c. search needs) add-c (λ c. search needs) loop-again (λ c. search needs) loop-again-2 returns)
+    tie.close (tie.spec Inv-loop μ-loop (λ c. search needs) loop-holds (λ c. search needs) (λ c. search needs) (λ c. search needs) cast-e
+    (λ c. search needs) element-copy-out-on element-copy-out-turned element-write-turned element-copy-out-n
+    (λ c. search needs) add-n element-write-f element-copy-out-c (λ c. search needs) add-c (λ c. search needs) loop-again
+    (λ c. search needs) loop-again-2 returns)

@@ -54,5 +54,6 @@ returns c =
     subst (λ k. AllPainted (a .m) (a .cell .now) (a .rem .now) (a .q .now) k (l .f)) e (l .inv .3)
 
 pub painted-spec : {M : Type 1} → statement M
-painted-spec = tie.close (tie.spec Inv-loop μ-loop loop-holds (λ c. search needs) (λ c. search needs) paint-requires (λ c. search needs) (λ c. search needs)
+painted-spec = tie.close (tie.spec Inv-loop μ-loop loop-holds (λ c. search needs) (λ c. search needs) paint-requires (λ c. search needs)
+    (λ c. search needs)
     loop-again returns)

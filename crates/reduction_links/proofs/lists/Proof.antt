@@ -42,19 +42,25 @@ put-requires c κs =
     let p = c .before .before .before .before .before .before .before .before .before .pre in
     let a = c .before .before .before .before .before .before .before .before .before .args in
     let l = c .before .before .before .before .loop in
-    let t = c .before .before .before .loop-test .taken in
-    (t, c .before .before .before .before .before .before .links .ensures .1, listing-room (a .m) (a .end .now) (l .v) (l .k) (l .first) (l .list) (l .inv .1) t (p .0), l .inv .1 .size)
+    let t = c .before .before .before .loop-test .taken in (
+      t,
+      c .before .before .before .before .before .before .links .ensures .1,
+      listing-room (a .m) (a .end .now) (l .v) (l .k) (l .first) (l .list)
+          (l .inv .1) t (p .0),
+      l .inv .1 .size,
+    )
 
 loop-again : tie.Need-loop-again Inv-loop μ-loop
 loop-again c =
-    let p = c .before .before .before .before .before .before .before .before .before .before .pre in
     let a = c .before .before .before .before .before .before .before .before .before .before .args in
-    let l = c .before .before .before .before .before .loop in
-    (omega (arith, c .before .before .before .before .loop-test .taken), listing-next (a .m) (a .end .now) (l .v) (l .k) (l .first) (l .list) (l .inv .1) (c .before .before .before .before .loop-test .taken) _ _ (c .put .ensures))
+    let l = c .before .before .before .before .before .loop in (
+      omega (arith, c .before .before .before .before .loop-test .taken),
+      listing-next (a .m) (a .end .now) (l .v) (l .k) (l .first) (l .list)
+          (l .inv .1) (c .before .before .before .before .loop-test .taken) _ _ (c .put .ensures),
+    )
 
 returns : tie.Need-returns Inv-loop μ-loop
 returns c =
-    let p = c .before .before .before .before .before .before .pre in
     let a = c .before .before .before .before .before .before .args in
     let l = c .before .loop in
     let z : l .v ≡ 32 = omega (arith, l .inv .0, c .loop-test .left) in
@@ -63,4 +69,5 @@ returns c =
 
 pub lists-spec : {M : Type 1} → statement M
 lists-spec =
-    tie.close (tie.spec Inv-loop μ-loop (λ c. search needs) (λ c κs. search needs) loop-holds cast-first mul-first array-write-first put-requires (λ c. search needs) (λ c. search needs) loop-again returns)
+    tie.close (tie.spec Inv-loop μ-loop (λ c. search needs) (λ c κs. search needs) loop-holds cast-first mul-first array-write-first put-requires
+    (λ c. search needs) (λ c. search needs) loop-again returns)

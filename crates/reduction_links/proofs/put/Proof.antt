@@ -109,4 +109,5 @@ returns c =
 
 pub put-spec : {M : Type 1} → statement M
 put-spec =
-    tie.close (tie.spec Inv-loop μ-loop (λ c. search needs) (λ c. search needs) cast-e loop-holds cast-list mul-list element-write-list add-i (λ c. search needs) (λ c. search needs) cast-e-2 loop-less loop-again cast-list-2 mul-list-2 element-write-list-2 add-result returns)
+    tie.close (tie.spec Inv-loop μ-loop (λ c. search needs) (λ c. search needs) cast-e loop-holds cast-list mul-list element-write-list add-i
+    (λ c. search needs) (λ c. search needs) cast-e-2 loop-less loop-again cast-list-2 mul-list-2 element-write-list-2 add-result returns)

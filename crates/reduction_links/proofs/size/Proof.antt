@@ -34,13 +34,15 @@ cast-e : tie.Need-cast-e Inv-loop μ-loop
 cast-e c = let p = c .before .before .pre in omega (arith, p .1 .linked .edges, first-inside (p .1) (c .before .before .args .v) (p .0))
 
 loop-holds : tie.Need-loop-holds Inv-loop μ-loop
-loop-holds c = let p = c .before .before .pre in let a = c .before .before .args in count-starts (p .1) (a .v) (p .0) (test (a .other .now) (a .rem .now) (a .lo .now) (a .f .now))
+loop-holds c = let p = c .before .before .pre in let a = c .before .before .args in count-starts (p .1) (a .v) (p .0)
+    (test (a .other .now) (a .rem .now) (a .lo .now) (a .f .now))
 
 cast-w : tie.Need-cast-w Inv-loop μ-loop
 cast-w c = let p = c .before .before .before .before .before .pre in omega (arith, p .2 (c .before .before .loop .e) (c .before .loop-test .taken))
 
 element-copy-out-c-2 : tie.Need-element-copy-out-c-2 Inv-loop μ-loop
-element-copy-out-c-2 c = let p = c .before .before .before .before .before .before .pre in omega (arith, p .2 (c .before .before .before .loop .e) (c .before .before .loop-test .taken))
+element-copy-out-c-2 c = let p = c .before .before .before .before .before .before .pre in omega
+    (arith, p .2 (c .before .before .before .loop .e) (c .before .before .loop-test .taken))
 
 add-c : tie.Need-add-c Inv-loop μ-loop
 add-c c =
@@ -48,37 +50,65 @@ add-c c =
     let a = c .before .before .before .before .before .before .before .before .args in
     let l = c .before .before .before .before .before .loop in
     let q = test (a .other .now) (a .rem .now) (a .lo .now) (a .f .now) in
-    omega (arith, c .before .before .before .before .loop-test .taken, p .1 .linked .edges, count-small (p .1) (a .v) (p .0) q (l .k) (l .e) (l .c) (l .inv), byte-one (q (l .e)))
+    omega (
+      arith,
+      c .before .before .before .before .loop-test .taken,
+      p .1 .linked .edges,
+      count-small (p .1) (a .v) (p .0) q (l .k) (l .e) (l .c)
+          (l .inv),
+      byte-one (q (l .e)),
+    )
 
 add-k : tie.Need-add-k Inv-loop μ-loop
 add-k c =
     let p = c .before .before .before .before .before .before .before .before .pre in
     let l = c .before .before .before .before .before .loop in
-    omega (arith, next-room (p .1) (c .before .before .before .before .before .before .before .before .args .v) (p .0) (l .k) (l .e) (c .before .before .before .before .loop-test .taken) (l .inv .at-edge))
+    omega (
+      arith,
+      next-room (p .1) (c .before .before .before .before .before .before .before .before .args .v) (p .0) (l .k) (l .e)
+          (c .before .before .before .before .loop-test .taken) (l .inv .at-edge),
+    )
 
 mul-e-2 : tie.Need-mul-e-2 Inv-loop μ-loop
 mul-e-2 c =
     let p = c .before .before .before .before .before .before .before .before .pre in
     let l = c .before .before .before .before .before .loop in
-    omega (arith, next-room (p .1) (c .before .before .before .before .before .before .before .before .args .v) (p .0) (l .k) (l .e) (c .before .before .before .before .loop-test .taken) (l .inv .at-edge))
+    omega (
+      arith,
+      next-room (p .1) (c .before .before .before .before .before .before .before .before .args .v) (p .0) (l .k) (l .e)
+          (c .before .before .before .before .loop-test .taken) (l .inv .at-edge),
+    )
 
 element-copy-out-e-2 : tie.Need-element-copy-out-e-2 Inv-loop μ-loop
 element-copy-out-e-2 c =
     let p = c .before .before .before .before .before .before .before .before .pre in
     let l = c .before .before .before .before .before .loop in
-    omega (arith, next-room (p .1) (c .before .before .before .before .before .before .before .before .args .v) (p .0) (l .k) (l .e) (c .before .before .before .before .loop-test .taken) (l .inv .at-edge))
+    omega (
+      arith,
+      next-room (p .1) (c .before .before .before .before .before .before .before .before .args .v) (p .0) (l .k) (l .e)
+          (c .before .before .before .before .loop-test .taken) (l .inv .at-edge),
+    )
 
 cast-e-2 : tie.Need-cast-e-2 Inv-loop μ-loop
 cast-e-2 c =
     let p = c .before .before .before .before .before .before .before .before .before .pre in
     let l = c .before .before .before .before .before .before .loop in
-    omega (arith, p .1 .linked .edges, next-inside (p .1) (c .before .before .before .before .before .before .before .before .before .args .v) (p .0) (l .k) (l .e) (c .before .before .before .before .before .loop-test .taken) (l .inv .at-edge))
+    omega (
+      arith,
+      p .1 .linked .edges,
+      next-inside (p .1) (c .before .before .before .before .before .before .before .before .before .args .v) (p .0)
+          (l .k) (l .e) (c .before .before .before .before .before .loop-test .taken) (l .inv .at-edge),
+    )
 
 loop-less : tie.Need-loop-less Inv-loop μ-loop
 loop-less c =
     let p = c .before .before .before .before .before .before .before .before .before .pre in
     let l = c .before .before .before .before .before .before .loop in
-    omega (arith, next-later (p .1) (c .before .before .before .before .before .before .before .before .before .args .v) (p .0) (l .k) (l .e) (c .before .before .before .before .before .loop-test .taken) (l .inv .at-edge))
+    omega (
+      arith,
+      next-later (p .1) (c .before .before .before .before .before .before .before .before .before .args .v) (p .0) (l .k) (l .e)
+          (c .before .before .before .before .before .loop-test .taken) (l .inv .at-edge),
+    )
 
 loop-again : tie.Need-loop-again Inv-loop μ-loop
 loop-again c =
@@ -86,7 +116,8 @@ loop-again c =
     let a = c .before .before .before .before .before .before .before .before .before .args in
     let l = c .before .before .before .before .before .before .loop in
     let q = test (a .other .now) (a .rem .now) (a .lo .now) (a .f .now) in
-    subst (λ x. Counted (a .m) (a .end .now) (a .first .now) (a .v) q (l .k + 1) (at (a .list .now) (l .k + 1)) (l .c + x)) (sym (byte-bit (q (l .e))))
+    subst (λ x. Counted (a .m) (a .end .now) (a .first .now) (a .v) q (l .k + 1) (at (a .list .now) (l .k + 1)) (l .c + x))
+    (sym (byte-bit (q (l .e))))
     (count-on (p .1) (a .v) (p .0) q (l .k) (l .e) (l .c) (c .before .before .before .before .before .loop-test .taken) (l .inv))
 
 returns : tie.Need-returns Inv-loop μ-loop
@@ -98,4 +129,6 @@ returns c =
 
 pub size-spec : {M : Type 1} → statement M
 size-spec =
-    tie.close (tie.spec Inv-loop μ-loop (λ c. search needs) (λ c. search needs) cast-k mul-e element-copy-out-e cast-e loop-holds (λ c. search needs) cast-w (λ c. search needs) element-copy-out-c-2 (λ c. search needs) (λ c. search needs) add-c add-k mul-e-2 element-copy-out-e-2 cast-e-2 loop-less loop-again returns)
+    tie.close (tie.spec Inv-loop μ-loop (λ c. search needs) (λ c. search needs) cast-k mul-e element-copy-out-e cast-e loop-holds
+    (λ c. search needs) cast-w (λ c. search needs) element-copy-out-c-2 (λ c. search needs)
+    (λ c. search needs) add-c add-k mul-e-2 element-copy-out-e-2 cast-e-2 loop-less loop-again returns)

@@ -38,7 +38,14 @@ add-c c =
     let a = c .before .before .before .before .before .args in
     let l = c .before .before .loop in
     let q = flag (a .p .now) in
-    omega (arith, c .before .loop-test .taken, p .1 .linked .edges, count-small (p .1) (a .v) (p .0) q (l .k) (l .e) (l .c) (l .inv .0), byte-one (q (l .e)))
+    omega (
+      arith,
+      c .before .loop-test .taken,
+      p .1 .linked .edges,
+      count-small (p .1) (a .v) (p .0) q (l .k) (l .e) (l .c) (l .inv .0),
+      byte-one
+          (q (l .e)),
+    )
 
 add-d : tie.Need-add-d Inv-loop μ-loop
 add-d c =
@@ -46,37 +53,65 @@ add-d c =
     let a = c .before .before .before .before .before .before .args in
     let l = c .before .before .before .loop in
     let q = flag (a .q .now) in
-    omega (arith, c .before .before .loop-test .taken, p .1 .linked .edges, count-small (p .1) (a .v) (p .0) q (l .k) (l .e) (l .d) (l .inv .1), byte-one (q (l .e)))
+    omega (
+      arith,
+      c .before .before .loop-test .taken,
+      p .1 .linked .edges,
+      count-small (p .1) (a .v) (p .0) q (l .k) (l .e) (l .d)
+          (l .inv .1),
+      byte-one (q (l .e)),
+    )
 
 add-k : tie.Need-add-k Inv-loop μ-loop
 add-k c =
     let p = c .before .before .before .before .before .before .pre in
     let l = c .before .before .before .loop in
-    omega (arith, next-room (p .1) (c .before .before .before .before .before .before .args .v) (p .0) (l .k) (l .e) (c .before .before .loop-test .taken) (l .inv .0 .at-edge))
+    omega (
+      arith,
+      next-room (p .1) (c .before .before .before .before .before .before .args .v) (p .0) (l .k) (l .e)
+          (c .before .before .loop-test .taken) (l .inv .0 .at-edge),
+    )
 
 mul-e-2 : tie.Need-mul-e-2 Inv-loop μ-loop
 mul-e-2 c =
     let p = c .before .before .before .before .before .before .pre in
     let l = c .before .before .before .loop in
-    omega (arith, next-room (p .1) (c .before .before .before .before .before .before .args .v) (p .0) (l .k) (l .e) (c .before .before .loop-test .taken) (l .inv .0 .at-edge))
+    omega (
+      arith,
+      next-room (p .1) (c .before .before .before .before .before .before .args .v) (p .0) (l .k) (l .e)
+          (c .before .before .loop-test .taken) (l .inv .0 .at-edge),
+    )
 
 element-copy-out-e-2 : tie.Need-element-copy-out-e-2 Inv-loop μ-loop
 element-copy-out-e-2 c =
     let p = c .before .before .before .before .before .before .pre in
     let l = c .before .before .before .loop in
-    omega (arith, next-room (p .1) (c .before .before .before .before .before .before .args .v) (p .0) (l .k) (l .e) (c .before .before .loop-test .taken) (l .inv .0 .at-edge))
+    omega (
+      arith,
+      next-room (p .1) (c .before .before .before .before .before .before .args .v) (p .0) (l .k) (l .e)
+          (c .before .before .loop-test .taken) (l .inv .0 .at-edge),
+    )
 
 cast-e-2 : tie.Need-cast-e-2 Inv-loop μ-loop
 cast-e-2 c =
     let p = c .before .before .before .before .before .before .before .pre in
     let l = c .before .before .before .before .loop in
-    omega (arith, p .1 .linked .edges, next-inside (p .1) (c .before .before .before .before .before .before .before .args .v) (p .0) (l .k) (l .e) (c .before .before .before .loop-test .taken) (l .inv .0 .at-edge))
+    omega (
+      arith,
+      p .1 .linked .edges,
+      next-inside (p .1) (c .before .before .before .before .before .before .before .args .v) (p .0) (l .k) (l .e)
+          (c .before .before .before .loop-test .taken) (l .inv .0 .at-edge),
+    )
 
 loop-less : tie.Need-loop-less Inv-loop μ-loop
 loop-less c =
     let p = c .before .before .before .before .before .before .before .pre in
     let l = c .before .before .before .before .loop in
-    omega (arith, next-later (p .1) (c .before .before .before .before .before .before .before .args .v) (p .0) (l .k) (l .e) (c .before .before .before .loop-test .taken) (l .inv .0 .at-edge))
+    omega (
+      arith,
+      next-later (p .1) (c .before .before .before .before .before .before .before .args .v) (p .0) (l .k) (l .e)
+          (c .before .before .before .loop-test .taken) (l .inv .0 .at-edge),
+    )
 
 loop-again : tie.Need-loop-again Inv-loop μ-loop
 loop-again c =
@@ -85,9 +120,11 @@ loop-again c =
     let l = c .before .before .before .before .loop in
     let e = at (a .list .now) (l .k + 1) in
     let t = c .before .before .before .loop-test .taken in (
-      subst (λ x. Counted (a .m) (a .end .now) (a .first .now) (a .v) (flag (a .p .now)) (l .k + 1) e (l .c + x)) (sym (byte-bit (flag (a .p .now) (l .e))))
+      subst (λ x. Counted (a .m) (a .end .now) (a .first .now) (a .v) (flag (a .p .now)) (l .k + 1) e (l .c + x))
+          (sym (byte-bit (flag (a .p .now) (l .e))))
           (count-on (p .1) (a .v) (p .0) (flag (a .p .now)) (l .k) (l .e) (l .c) t (l .inv .0)),
-      subst (λ x. Counted (a .m) (a .end .now) (a .first .now) (a .v) (flag (a .q .now)) (l .k + 1) e (l .d + x)) (sym (byte-bit (flag (a .q .now) (l .e))))
+      subst (λ x. Counted (a .m) (a .end .now) (a .first .now) (a .v) (flag (a .q .now)) (l .k + 1) e (l .d + x))
+          (sym (byte-bit (flag (a .q .now) (l .e))))
           (count-on (p .1) (a .v) (p .0) (flag (a .q .now)) (l .k) (l .e) (l .d) t (l .inv .1)),
     )
 
@@ -103,4 +140,5 @@ returns c =
 
 pub tallies-spec : {M : Type 1} → statement M
 tallies-spec =
-    tie.close (tie.spec Inv-loop μ-loop (λ c. search needs) (λ c. search needs) cast-k mul-e element-copy-out-e cast-e loop-holds (λ c. search needs) (λ c. search needs) add-c (λ c. search needs) (λ c. search needs) add-d add-k mul-e-2 element-copy-out-e-2 cast-e-2 loop-less loop-again returns)
+    tie.close (tie.spec Inv-loop μ-loop (λ c. search needs) (λ c. search needs) cast-k mul-e element-copy-out-e cast-e loop-holds (λ c. search needs)
+    (λ c. search needs) add-c (λ c. search needs) (λ c. search needs) add-d add-k mul-e-2 element-copy-out-e-2 cast-e-2 loop-less loop-again returns)

@@ -30,15 +30,12 @@ loop-holds c =
 
 element-copy-out-v : tie.Need-element-copy-out-v Inv-loop μ-loop
 element-copy-out-v c =
-    let a = c .before .before .args in
     let p = c .before .before .pre in
-    let l = c .before .loop in
     let t = c .loop-test .taken in
     omega (arith, t, p .2)
 
 cast-v : tie.Need-cast-v Inv-loop μ-loop
 cast-v c =
-    let a = c .before .before .before .args in
     let p = c .before .before .before .pre in
     let l = c .before .before .loop in
     let t = c .before .loop-test .taken in
@@ -46,7 +43,6 @@ cast-v c =
 
 both-requires : tie.Need-both-requires Inv-loop μ-loop
 both-requires c κs =
-    let a = c .before .before .before .args in
     let p = c .before .before .before .pre in
     let l = c .before .before .loop in
     let t = c .before .loop-test .taken in
@@ -57,7 +53,6 @@ cast-x c =
     let a = c .before .before .before .before .args in
     let p = c .before .before .before .before .pre in
     let l = c .before .before .before .loop in
-    let t = c .before .before .loop-test .taken in
     omega (
       arith,
       p .0 .linked .edges,
@@ -67,7 +62,6 @@ cast-x c =
 
 mul-x : tie.Need-mul-x Inv-loop μ-loop
 mul-x c =
-    let a = c .before .before .before .before .args in
     let p = c .before .before .before .before .pre in
     let l = c .before .before .before .loop in
     let t = c .before .before .loop-test .taken in
@@ -75,7 +69,6 @@ mul-x c =
 
 element-write-x : tie.Need-element-write-x Inv-loop μ-loop
 element-write-x c =
-    let a = c .before .before .before .before .args in
     let p = c .before .before .before .before .pre in
     let l = c .before .before .before .loop in
     let t = c .before .before .loop-test .taken in
@@ -83,9 +76,7 @@ element-write-x c =
 
 add-i : tie.Need-add-i Inv-loop μ-loop
 add-i c =
-    let a = c .before .before .before .before .args in
     let p = c .before .before .before .before .pre in
-    let l = c .before .before .before .loop in
     let t = c .before .before .loop-test .taken in
     omega (arith, t, p .2)
 
@@ -99,17 +90,21 @@ loop-again c =
     let y = c .both in (
       omega (arith, t),
       length-set (l .x) v (y .result) ∙ l .inv .1,
-      by-next (a .turned .now) (firstOf (a .m) (a .sv .now) (a .fs .now) (a .ft .now)) (a .x .now) (l .i) (l .x) (y .result) (omega (arith, l .inv .1, p .3 (l .i) t)) (y .ensures) (l .inv .2),
+      by-next (a .turned .now) (firstOf (a .m) (a .sv .now) (a .fs .now) (a .ft .now)) (a .x .now) (l .i) (l .x) (y .result)
+          (omega (arith, l .inv .1, p .3 (l .i) t)) (y .ensures) (l .inv .2),
     )
 
 returns : tie.Need-returns Inv-loop μ-loop
 returns c =
     let a = c .before .before .args in
-    let p = c .before .before .pre in
     let l = c .before .loop in
-    let e : l .i ≡ a .n = omega (arith, l .inv .0, c .loop-test .left) in
-    (l .inv .1, subst (λ k. RenewedBy (among (a .turned .now) k) (firstOf (a .m) (a .sv .now) (a .fs .now) (a .ft .now)) (a .x .now) (l .x)) e (l .inv .2))
+    let e : l .i ≡ a .n = omega (arith, l .inv .0, c .loop-test .left) in (
+      l .inv .1,
+      subst (λ k. RenewedBy (among (a .turned .now) k) (firstOf (a .m) (a .sv .now) (a .fs .now) (a .ft .now)) (a .x .now) (l .x)) e
+          (l .inv .2),
+    )
 
 pub first-renewed-spec : {M : Type 1} → statement M
 first-renewed-spec =
-    tie.close (tie.spec Inv-loop μ-loop loop-holds element-copy-out-v cast-v both-requires cast-x mul-x element-write-x add-i (λ c. search needs) loop-again returns)
+    tie.close (tie.spec Inv-loop μ-loop loop-holds element-copy-out-v cast-v both-requires cast-x mul-x element-write-x add-i
+    (λ c. search needs) loop-again returns)

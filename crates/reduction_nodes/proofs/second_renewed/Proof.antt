@@ -13,7 +13,8 @@ use Rattle.reduction_nodes.proofs.second_renewed.Statement.{statement}
 use Rattle.reduction_nodes.proofs.second_renewed.Tie as tie
 
 abbrev Inv-loop : tie.InvT-loop
-Inv-loop m end rank tied list first cell rem f q turned n x₀ i₀ x i = (i ≤ n) × (length x ≡ nodeLimit) × RenewedBy (among turned i) (secondsOf m end rank cell rem f q) x₀ x
+Inv-loop m end rank tied list first cell rem f q turned n x₀ i₀ x i = (i ≤ n) × (length x ≡ nodeLimit) × RenewedBy (among turned i)
+    (secondsOf m end rank cell rem f q) x₀ x
 
 abbrev μ-loop : tie.MeasureT-loop
 μ-loop m end rank tied list first cell rem f q turned n x₀ i₀ x i = n - i
@@ -21,20 +22,21 @@ abbrev μ-loop : tie.MeasureT-loop
 loop-holds : tie.Need-loop-holds Inv-loop μ-loop
 loop-holds c =
     let a = c .args in
-    let p = c .pre in
-    (zero-le, p .3, by-none (a .turned .now) (secondsOf (a .m) (a .end .now) (a .rank .now) (a .cell .now) (a .rem .now) (a .f .now) (a .q .now)) (a .x .now))
+    let p = c .pre in (
+      zero-le,
+      p .3,
+      by-none (a .turned .now) (secondsOf (a .m) (a .end .now) (a .rank .now) (a .cell .now) (a .rem .now) (a .f .now) (a .q .now))
+          (a .x .now),
+    )
 
 element-copy-out-v : tie.Need-element-copy-out-v Inv-loop μ-loop
 element-copy-out-v c =
-    let a = c .before .before .args in
     let p = c .before .before .pre in
-    let l = c .before .loop in
     let t = c .loop-test .taken in
     omega (arith, t, p .4)
 
 cast-v : tie.Need-cast-v Inv-loop μ-loop
 cast-v c =
-    let a = c .before .before .before .args in
     let p = c .before .before .before .pre in
     let l = c .before .before .loop in
     let t = c .before .loop-test .taken in
@@ -42,7 +44,6 @@ cast-v c =
 
 mul-second : tie.Need-mul-second Inv-loop μ-loop
 mul-second c =
-    let a = c .before .before .before .args in
     let p = c .before .before .before .pre in
     let l = c .before .before .loop in
     let t = c .before .loop-test .taken in
@@ -50,7 +51,6 @@ mul-second c =
 
 element-copy-out-second : tie.Need-element-copy-out-second Inv-loop μ-loop
 element-copy-out-second c =
-    let a = c .before .before .before .args in
     let p = c .before .before .before .pre in
     let l = c .before .before .loop in
     let t = c .before .loop-test .taken in
@@ -58,7 +58,6 @@ element-copy-out-second c =
 
 second-requires : tie.Need-second-requires Inv-loop μ-loop
 second-requires c κs =
-    let a = c .before .before .before .before .args in
     let p = c .before .before .before .before .pre in
     let l = c .before .before .before .loop in
     let t = c .before .before .loop-test .taken in
@@ -66,7 +65,6 @@ second-requires c κs =
 
 mul-x : tie.Need-mul-x Inv-loop μ-loop
 mul-x c =
-    let a = c .before .before .before .before .before .args in
     let p = c .before .before .before .before .before .pre in
     let l = c .before .before .before .before .loop in
     let t = c .before .before .before .loop-test .taken in
@@ -74,7 +72,6 @@ mul-x c =
 
 element-write-x : tie.Need-element-write-x Inv-loop μ-loop
 element-write-x c =
-    let a = c .before .before .before .before .before .args in
     let p = c .before .before .before .before .before .pre in
     let l = c .before .before .before .before .loop in
     let t = c .before .before .before .loop-test .taken in
@@ -82,9 +79,7 @@ element-write-x c =
 
 add-i : tie.Need-add-i Inv-loop μ-loop
 add-i c =
-    let a = c .before .before .before .before .before .args in
     let p = c .before .before .before .before .before .pre in
-    let l = c .before .before .before .before .loop in
     let t = c .before .before .before .loop-test .taken in
     omega (arith, t, p .4)
 
@@ -98,16 +93,19 @@ loop-again c =
     let y = c .second in (
       omega (arith, t),
       length-set (l .x) v (y .result) ∙ l .inv .1,
-      by-next (a .turned .now) (secondsOf (a .m) (a .end .now) (a .rank .now) (a .cell .now) (a .rem .now) (a .f .now) (a .q .now)) (a .x .now) (l .i) (l .x) (y .result) (omega (arith, l .inv .1, p .5 (l .i) t)) (y .ensures) (l .inv .2),
+      by-next (a .turned .now) (secondsOf (a .m) (a .end .now) (a .rank .now) (a .cell .now) (a .rem .now) (a .f .now) (a .q .now)) (a .x .now) (l .i)
+          (l .x) (y .result) (omega (arith, l .inv .1, p .5 (l .i) t)) (y .ensures) (l .inv .2),
     )
 
 returns : tie.Need-returns Inv-loop μ-loop
 returns c =
     let a = c .before .before .args in
-    let p = c .before .before .pre in
     let l = c .before .loop in
-    let e : l .i ≡ a .n = omega (arith, l .inv .0, c .loop-test .left) in
-    (l .inv .1, subst (λ k. RenewedBy (among (a .turned .now) k) (secondsOf (a .m) (a .end .now) (a .rank .now) (a .cell .now) (a .rem .now) (a .f .now) (a .q .now)) (a .x .now) (l .x)) e (l .inv .2))
+    let e : l .i ≡ a .n = omega (arith, l .inv .0, c .loop-test .left) in (
+      l .inv .1,
+      subst (λ k. RenewedBy (among (a .turned .now) k)
+          (secondsOf (a .m) (a .end .now) (a .rank .now) (a .cell .now) (a .rem .now) (a .f .now) (a .q .now)) (a .x .now) (l .x)) e (l .inv .2),
+    )
 
 pub second-renewed-spec : {M : Type 1} → statement M
 second-renewed-spec =

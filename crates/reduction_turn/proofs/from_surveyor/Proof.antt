@@ -3,6 +3,7 @@ use mathlib.Core.Path.{_≡_, refl, _∙_}
 use mathlib.Core.Bool.{Bool}
 use Prim.Native.Nat.{ℕ, _≤_}
 use native.Mathlib.Omega.{arith}
+use borrow.Author.Needs.{needs}
 use lib.ListN.{length-set, length-replicate}
 use lib.Dec.{eqb}
 use Rattle.lists.specs.Search.{low, low-is}
@@ -24,27 +25,13 @@ returns c =
       ),
     )
 
-mul-paint : tie.Need-mul-paint
-mul-paint c =
-    let a = c .before .args in
-    let p = c .before .pre in
-    omega (arith, p .1 .0)
-
-element-copy-out-paint : tie.Need-element-copy-out-paint
-element-copy-out-paint c =
-    let a = c .before .args in
-    let p = c .before .pre in
-    omega (arith, p .1 .0)
-
 paint-requires : tie.Need-paint-requires
 paint-requires c κs =
-    let a = c .before .before .before .before .args in
     let p = c .before .before .before .before .pre in
     ((p .1 .0, p .0 .celledS, p .0 .fitT), (p .1 .1, length-replicate {A = ℕ} emptyRank 0))
 
 both-requires : tie.Need-both-requires
 both-requires c κs =
-    let a = c .before .before .before .before .before .before .args in
     let p = c .before .before .before .before .before .before .pre in
     (p .1 .0, p .0 .listedS)
 
@@ -57,27 +44,13 @@ cast-one c =
     bound : (q : ℕ → Bool) (m r : ℕ) → r ≡ low q m → r ≤ m
     bound q m r i = omega (arith, low-is q m .0)
 
-mul-one : tie.Need-mul-one
-mul-one c =
-    let a = c .before .before .before .before .before .before .before .args in
-    let p = c .before .before .before .before .before .before .before .pre in
-    omega (arith, p .1 .0, p .1 .2)
-
-element-write-one : tie.Need-element-write-one
-element-write-one c =
-    let a = c .before .before .before .before .before .before .before .args in
-    let p = c .before .before .before .before .before .before .before .pre in
-    omega (arith, p .1 .0, p .1 .2)
-
 second-renewed-requires : tie.Need-second-renewed-requires
 second-renewed-requires c κs =
-    let a = c .before .before .before .before .before .before .before .before .before .before .args in
     let p = c .before .before .before .before .before .before .before .before .before .before .pre in
     let w = c .before .before .before .before .before .paint .ensures in (p .0 .listedT, p .0 .celledT, p .0 .placedT, p .1 .3, w .0, w .2)
 
 marked-requires : tie.Need-marked-requires
 marked-requires c κs =
-    let a = c .before .before .before .before .before .before .before .before .before .before .before .before .before .args in
     let p = c .before .before .before .before .before .before .before .before .before .before .before .before .before .pre in
     let w = c .before .before .before .before .before .before .before .before .paint .ensures in (w .0, w .2, p .1 .4)
 
@@ -87,6 +60,8 @@ returns-2 c =
     let p = c .before .before .before .before .before .before .before .before .before .before .before .before .before .before .pre in
     let w = c .before .before .before .before .before .before .before .before .before .paint .ensures in
     let W = w .3 in
+    let apart = painted-apart (a .m) (a .sv .now) (a .rs .now) (a .strict .now) (a .cs .now) (p .0 .celledS) (p .0 .placedS) (a .st .now)
+    (a .rem .now) (a .s) (at (a .qs .now) (a .s)) (p .1 .0) (a .fs .now) _ _ W in
     let h = c .before .before .before .before .before .before .before .before .before .before .before .before .before .if1 .left in (
       (length-set (a .one .now) (a .s) _ ∙ p .1 .2, c .before .before .before .second-renewed .ensures .0, c .marked .ensures .0),
       (
@@ -95,9 +70,10 @@ returns-2 c =
           lead = λ u. eqb u (a .s);
           seen = _;
           across = W .saw;
-          own = painted-apart (a .m) (a .sv .now) (a .rs .now) (a .strict .now) (a .cs .now) (p .0 .celledS) (p .0 .placedS) (a .st .now) (a .rem .now) (a .s) (at (a .qs .now) (a .s)) (p .1 .0) (a .fs .now) _ _ W;
-          led = λ u h. painted-apart (a .m) (a .sv .now) (a .rs .now) (a .strict .now) (a .cs .now) (p .0 .celledS) (p .0 .placedS) (a .st .now) (a .rem .now) (a .s) (at (a .qs .now) (a .s)) (p .1 .0) (a .fs .now) _ _ W u (eqb-other u (a .s) h);
-          first = one-renewed _ (a .one .now) (a .s) _ (omega (arith, p .1 .0, p .1 .2)) (c .before .before .before .before .before .before .before .both .ensures);
+          own = apart;
+          led = λ u h. apart u (eqb-other u (a .s) h);
+          first = one-renewed _ (a .one .now) (a .s) _ (omega (arith, p .1 .0, p .1 .2))
+              (c .before .before .before .before .before .before .before .both .ensures);
           second = c .before .before .before .second-renewed .ensures .1;
           marked = c .marked .ensures .1;
         },
@@ -106,4 +82,5 @@ returns-2 c =
 
 pub from-surveyor-spec : {M : Type 1} → statement M
 from-surveyor-spec =
-    tie.close (tie.spec returns mul-paint element-copy-out-paint paint-requires both-requires cast-one mul-one element-write-one second-renewed-requires marked-requires returns-2)
+    tie.close (tie.spec returns (λ c. search needs) (λ c. search needs) paint-requires both-requires cast-one (λ c. search needs)
+    (λ c. search needs) second-renewed-requires marked-requires returns-2)

@@ -24,15 +24,12 @@ loop-holds c =
 
 element-copy-out-v : tie.Need-element-copy-out-v Inv-loop μ-loop
 element-copy-out-v c =
-    let a = c .before .before .args in
     let p = c .before .before .pre in
-    let l = c .before .loop in
     let t = c .loop-test .taken in
     omega (arith, t, p .0)
 
 cast-v : tie.Need-cast-v Inv-loop μ-loop
 cast-v c =
-    let a = c .before .before .before .args in
     let p = c .before .before .before .pre in
     let l = c .before .before .loop in
     let t = c .before .loop-test .taken in
@@ -40,7 +37,6 @@ cast-v c =
 
 element-write-old : tie.Need-element-write-old Inv-loop μ-loop
 element-write-old c =
-    let a = c .before .before .before .args in
     let p = c .before .before .before .pre in
     let l = c .before .before .loop in
     let t = c .before .loop-test .taken in
@@ -48,9 +44,7 @@ element-write-old c =
 
 add-i : tie.Need-add-i Inv-loop μ-loop
 add-i c =
-    let a = c .before .before .before .args in
     let p = c .before .before .before .pre in
-    let l = c .before .before .loop in
     let t = c .before .loop-test .taken in
     omega (arith, t, p .0)
 
@@ -68,7 +62,6 @@ loop-again c =
 returns : tie.Need-returns Inv-loop μ-loop
 returns c =
     let a = c .before .before .args in
-    let p = c .before .before .pre in
     let l = c .before .loop in
     let e : l .i ≡ a .n = omega (arith, l .inv .0, c .loop-test .left) in
     (l .inv .1, subst (λ k. Marked (among (a .turned .now) k) (a .old .now) (l .old)) e (l .inv .2))

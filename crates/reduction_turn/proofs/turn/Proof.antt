@@ -3,6 +3,7 @@ use mathlib.Core.Path.{_≡_, _∙_, sym}
 use mathlib.Core.Bool.{Bool, not, false, _||_}
 use Prim.Native.Nat.{ℕ}
 use native.Mathlib.Omega.{arith}
+use borrow.Author.Needs.{needs}
 use lib.ListN.{length-set}
 use lib.Dec.{T, eqb, eqb→eq}
 use Rattle.lists.specs.Test.{true-T}
@@ -21,23 +22,11 @@ same a b h = eqb→eq a b (true-T (on (eqb a b) h))
 neither : (f : Bool) (a b : ℕ) → f || not (eqb a b) ≡ false → (f ≡ false) × (a ≡ b)
 neither f a b h = let t = or-parts f (not (eqb a b)) h in (t .0, same a b (t .1))
 
-element-copy-out-s : tie.Need-element-copy-out-s
-element-copy-out-s c =
-    let a = c .args in
-    let p = c .pre in
-    omega (arith, p .0 .0, p .0 .1 .listedS .linked .edges)
-
 cast-s : tie.Need-cast-s
 cast-s c =
     let a = c .before .args in
     let p = c .before .pre in
     omega (arith, p .0 .1 .fitS (a .e) (p .0 .0), p .1 .1 .olds)
-
-element-copy-out-t : tie.Need-element-copy-out-t
-element-copy-out-t c =
-    let a = c .before .args in
-    let p = c .before .pre in
-    omega (arith, p .0 .0, p .0 .1 .listedS .linked .edges)
 
 cast-t : tie.Need-cast-t
 cast-t c =
@@ -99,15 +88,8 @@ element-copy-out-fellt c =
     let p = c .before .before .before .before .before .before .before .before .before .before .before .before .pre in
     omega (arith, p .0 .1 .fitT (a .e) (p .0 .0), p .1 .1 .oldt)
 
-element-copy-out-ons : tie.Need-element-copy-out-ons
-element-copy-out-ons c =
-    let a = c .before .before .before .before .before .before .before .before .before .before .before .before .before .args in
-    let p = c .before .before .before .before .before .before .before .before .before .before .before .before .before .pre in
-    omega (arith, p .0 .0, p .0 .1 .listedS .linked .edges)
-
 element-copy-out-ont : tie.Need-element-copy-out-ont
 element-copy-out-ont c =
-    let a = c .before .before .before .before .before .before .before .before .before .before .before .before .before .before .args in
     let p = c .before .before .before .before .before .before .before .before .before .before .before .before .before .before .pre in
     omega (arith, p .0 .0, p .0 .1 .listedS .linked .edges)
 
@@ -132,20 +114,42 @@ from-surveyor-requires c κs =
 from-stand-requires : tie.Need-from-stand-requires
 from-stand-requires c κs =
     let a = c .before .before .before .before .before .before .before .before .before .before .before .before .before .before .before .before .before .before .before .before .before .before .before .before .before .before .before .before .before .before .before .before .args in
-    let p = c .before .before .before .before .before .before .before .before .before .before .before .before .before .before .before .before .before .before .before .before .before .before .before .before .before .before .before .before .before .before .before .before .pre in
-    (p .0 .1, (p .0 .1 .fitT (a .e) (p .0 .0), p .1 .3, c .before .before .before .before .before .before .before .before .from-surveyor .ensures .0 .0, p .1 .1 .twos, simp length-set (p .1 .1 .olds)))
+    let p = c .before .before .before .before .before .before .before .before .before .before .before .before .before .before .before .before .before .before .before .before .before .before .before .before .before .before .before .before .before .before .before .before .pre in (
+      p .0 .1,
+      (
+        p .0 .1 .fitT (a .e) (p .0 .0),
+        p .1 .3,
+        c .before .before .before .before .before .before .before .before .from-surveyor .ensures .0 .0,
+        p .1 .1 .twos,
+        simp length-set (p .1 .1 .olds),
+      ),
+    )
 
 passed-over-requires : tie.Need-passed-over-requires
 passed-over-requires c κs =
     let a = c .before .before .before .before .before .before .before .before .before .before .before .before .before .before .before .before .before .before .before .before .before .before .before .before .before .before .before .before .before .before .before .before .before .before .before .before .before .args in
     let p = c .before .before .before .before .before .before .before .before .before .before .before .before .before .before .before .before .before .before .before .before .before .before .before .before .before .before .before .before .before .before .before .before .before .before .before .before .before .pre in
-    let D = p .0 .1 in (D .fitS (a .e) (p .0 .0), p .0 .0, D .listedS, D .celledS, D .placedS, c .before .before .before .before .from-stand .ensures .0 .1)
+    let D = p .0 .1 in (
+      D .fitS (a .e) (p .0 .0),
+      p .0 .0,
+      D .listedS,
+      D .celledS,
+      D .placedS,
+      c .before .before .before .before .from-stand .ensures .0 .1,
+    )
 
 passed-over-requires-2 : tie.Need-passed-over-requires-2
 passed-over-requires-2 c κs =
     let a = c .before .before .before .before .before .before .before .before .before .before .before .before .before .before .before .before .before .before .before .before .before .before .before .before .before .before .before .before .before .before .before .before .before .before .before .before .before .before .before .before .before .before .args in
     let p = c .before .before .before .before .before .before .before .before .before .before .before .before .before .before .before .before .before .before .before .before .before .before .before .before .before .before .before .before .before .before .before .before .before .before .before .before .before .before .before .before .before .before .pre in
-    let D = p .0 .1 in (D .fitT (a .e) (p .0 .0), p .0 .0, D .listedT, D .celledT, D .placedT, c .before .before .before .before .before .before .before .before .before .before .before .before .before .before .before .before .before .before .from-surveyor .ensures .0 .1)
+    let D = p .0 .1 in (
+      D .fitT (a .e) (p .0 .0),
+      p .0 .0,
+      D .listedT,
+      D .celledT,
+      D .placedT,
+      c .before .before .before .before .before .before .before .before .before .before .before .before .before .before .before .before .before .before .from-surveyor .ensures .0 .1,
+    )
 
 returns : tie.Need-returns
 returns c =
@@ -169,7 +173,8 @@ returns c =
       (
         turn-on A (a .strict .now) L (p .0 .1) (a .rem .now) _ (a .qs .now) _ (a .qt .now) _ (a .e) (p .0 .0)
             (acted-gone (a .sv .now) (a .st .now) x (a .rule) (a .e) _ i) (acted-qs (a .sv .now) (a .st .now) x (a .rule) (a .e) _ i)
-            (acted-qt (a .sv .now) (a .st .now) x (a .rule) (a .e) _ i) (a .fs .now) (a .ft .now) _ _ k (p .1 .1) _ _ _ _ _ _ _ _ (S .1 .1) (T .1 .1) _ _
+            (acted-qt (a .sv .now) (a .st .now) x (a .rule) (a .e) _ i) (a .fs .now) (a .ft .now) _ _ k (p .1 .1) _ _ _ _ _ _ _ _ (S .1 .1) (T .1 .1)
+            _ _
             (λ h. sym (same _ _ h)) (λ h. sym (same _ _ h)) (RS .1) (RT .1),
         shown-on A (a .strict .now) L (p .0 .1) x (a .fs .now) (a .ft .now) (a .rule) (a .e) (p .0 .0) (p .1 .0) _ i _ _ _ _
             (S .1 .0) (neither _ _ _) (T .1 .0) (neither _ _ _),
@@ -178,4 +183,5 @@ returns c =
 
 pub turn-spec : {M : Type 1} → statement M
 turn-spec =
-    tie.close (tie.spec element-copy-out-s cast-s element-copy-out-t cast-t mul-quotas element-copy-out-quotas mul-quotat element-copy-out-quotat act-requires mul-fells element-copy-out-fells mul-fellt element-copy-out-fellt element-copy-out-ons element-copy-out-ont element-write-olds element-write-oldt from-surveyor-requires from-stand-requires passed-over-requires passed-over-requires-2 returns)
+    tie.close (tie.spec (λ c. search needs) cast-s
+    (λ c. search needs) cast-t mul-quotas element-copy-out-quotas mul-quotat element-copy-out-quotat act-requires mul-fells element-copy-out-fells mul-fellt element-copy-out-fellt (λ c. search needs) element-copy-out-ont element-write-olds element-write-oldt from-surveyor-requires from-stand-requires passed-over-requires passed-over-requires-2 returns)
