@@ -1,2 +1,3 @@
 pub mod TraceRecords
+pub mod Quartered
 pub mod FilledDiary

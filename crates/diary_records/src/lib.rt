@@ -2,11 +2,16 @@
 // records as numbers, five a record, and `fill` puts the records of such a flat diary to the front of the lent slice. No other function of the
 // planner writes into a slice of structs.
 ghost use mathlib.Core.Path.{_≡_};
-ghost use Prim.Native.Nat.{_<_, _≤_};
+ghost use Prim.Native.Nat.{ℕ, _+_, _<_, _≤_};
+ghost use mathlib.Core.List.{List};
 ghost use lib.ListN.{length};
 ghost use Rattle.model.specs.Limits.{diarySize};
 ghost use Rattle.model_desk.specs.Desk.{onto};
+ghost use Rattle.arrays.specs.ArrayInstance.{at};
+ghost use Rattle.arrays.specs.Filled.{Made};
+ghost use Rattle.diary.specs.FlatDiary.{flatSize};
 ghost use Rattle.diary.specs.LentSteps.{stepAt, stepsIn};
+ghost use Rattle.diary_records.specs.Quartered.{Quartered, quarterSize};
 ghost use Rattle.diary_records.specs.TraceRecords.{Readable, flatOf};
 use diary::Step;
 use limits::ENTRY_LIMIT;
@@ -41,19 +46,80 @@ pub fn flat_records(
     flat
 }
 
-// The i-th record of a flat diary.
-pub(crate) fn step_at(flat: [u8; FLAT_SIZE], i: usize) -> Step
-    requires { ⌜ i < diarySize ⌝ }
-    ensures { λ r. ⌜ r ≡ stepAt flat i ⌝ }
+// A quarter of a flat diary: 256 records.
+pub const QUARTER: usize = 1280;
+
+// To read a place of an array by value is to copy the array, so a diary is filled from quarters.
+pub struct Quarters {
+    pub first: [u8; QUARTER],
+    pub second: [u8; QUARTER],
+    pub third: [u8; QUARTER],
+    pub fourth: [u8; QUARTER],
+}
+
+// The quarter from place b on.
+pub(crate) fn quarter(flat: [u8; FLAT_SIZE], b: usize) -> [u8; QUARTER]
+    requires { ⌜ b + quarterSize ≤ flatSize ⌝ }
+    ensures { λ r. ⌜ Made 0 r (λ j. at flat (b + j)) quarterSize ⌝ }
+{
+    let mut o = [0u8; QUARTER];
+    let mut i = 0;
+    while i < QUARTER {
+        o[i] = flat[b + i];
+        i += 1;
+    }
+    o
+}
+
+pub(crate) fn split(flat: [u8; FLAT_SIZE]) -> Quarters
+    ensures { λ r. ⌜ Quartered flat r ⌝ }
+{
+    let first = quarter(flat, 0);
+    let second = quarter(flat, 1280);
+    let third = quarter(flat, 2560);
+    let fourth = quarter(flat, 3840);
+    Quarters {
+        first: first,
+        second: second,
+        third: third,
+        fourth: fourth,
+    }
+}
+
+// The i-th record of a quarter.
+pub(crate) fn step_in(part: [u8; QUARTER], i: usize) -> Step
+    requires { ⌜ i < 256 ⌝ }
+    ensures { λ r. ⌜ r ≡ stepAt part i ⌝ }
 {
     let b = i * RECORD_WIDTH;
     Step {
-        fate: flat[b],
-        surveyor: flat[b + 1],
-        stand: flat[b + 2],
-        shift: flat[b + 3],
-        rule: flat[b + 4],
+        fate: part[b],
+        surveyor: part[b + 1],
+        stand: part[b + 2],
+        shift: part[b + 3],
+        rule: part[b + 4],
     }
+}
+
+// The i-th record of the flat diary that has these quarters.
+pub(crate) fn step_at(q: Quarters, i: usize) -> Step
+    requires { ⌜ i < diarySize ⌝ }
+    ensures { λ r. ⌜ ((flat : List ℕ) → Quartered flat q → r ≡ stepAt flat i) ⌝ }
+{
+    if i < 256 {
+        let part = q.first;
+        return step_in(part, i);
+    }
+    if i < 512 {
+        let part = q.second;
+        return step_in(part, i - 256);
+    }
+    if i < 768 {
+        let part = q.third;
+        return step_in(part, i - 512);
+    }
+    let part = q.fourth;
+    step_in(part, i - 768)
 }
 
 // The first n records of a flat diary go to the front of the lent one; behind them it keeps its records.
@@ -61,9 +127,10 @@ pub fn fill(diary: &mut [Step], flat: [u8; FLAT_SIZE], n: usize)
     requires { ⌜ (n ≤ diarySize) × (n ≤ length (now diary)) ⌝ }
     ensures { λ _. ⌜ now (diary .exit) ≡ onto (stepsIn n flat) (now (diary .entry)) ⌝ }
 {
+    let q = split(flat);
     let mut i = 0;
     while i < n {
-        diary[i] = step_at(flat, i);
+        diary[i] = step_at(q, i);
         i += 1;
     }
 }

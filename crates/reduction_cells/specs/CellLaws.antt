@@ -261,7 +261,7 @@ module _ (K : Side) (law : Ranked K) (cell : List ℕ) (C : Cells K cell) (rem f
       (λ s. arrow-new (K .end e) (at q (K .end e)) w (λ r. P .new (K .end e) r w) Q (sym (h (K .end e) w)) e l refl s)
 
   -- one node painted anew: its own edges have their arrows, if its tied edges have none
-  module _ (other : List ℕ) (v q : ℕ) (w : v < nodeLimit) (f₀ w₀ u : List Bool) (P : Painted (K .m) other cell rem v q emptyRank f₀ w₀ f u) where
+  module _ (other : List ℕ) (v q : ℕ) (w : v < nodeLimit) (f₀ : List Bool) (u : ℕ → Bool) (P : Painted (K .m) other cell rem v q emptyRank f₀ f u) where
     pub painted-new : (Q : ℕ → ℕ) → Q v ≡ q → (e : ℕ) → e < K .m → K .end e ≡ v → (T (K .tie e) → flag f₀ e ≡ false)
         → flag f e ≡ arrow K (flag rem) Q e
     painted-new Q qi e l i h = by-test (K .tie e)

@@ -1,15 +1,16 @@
--- The arrows of a node painted anew from its cells: which edges have one, and which nodes at their other ends saw one turn.
-use Prim.Native.Nat.{ℕ, _+_, _≤_, _<_}
+-- The arrows of a node painted anew from its cells: which edges have one, and the list of the nodes at whose ends one turned.
+use Prim.Native.Nat.{ℕ, zero, suc, _+_, _≤_, _<_}
 use native.Mathlib.Omega.{arith}
 use native.Mathlib.Nat.{eq-or-lt-of-le}
-use mathlib.Core.Path.{_≡_, refl, sym, ap, _∙_, subst}
-use mathlib.Core.Logic.{_≢_, ⊎-elim}
-use mathlib.Core.Bool.{Bool, true, false, not, _&&_, _||_, Bool·beq}
+use mathlib.Core.Path.{_≡_, refl, sym, ap, ap₂, _∙_, subst}
+use native.Mathlib.Decide.{decLt}
+use mathlib.Core.Logic.{_≢_, ⊎-elim, by-cases}
+use mathlib.Core.Bool.{Bool, true, false, not, _&&_, _||_, Bool·beq, or-false}
 use mathlib.Core.List.{List}
 use lib.ListN.{length, set, length-set}
 use lib.Seq.{getD-set-same, getD-set-other}
-use lib.Dec.{T, ltb}
-use Rattle.lists.specs.Test.{by-eq}
+use lib.Dec.{T, eqb, ltb}
+use Rattle.lists.specs.Test.{by-eq, eqb-yes, bit, bit-one}
 use Rattle.model.specs.Limits.{nodeLimit, emptyRank}
 use Rattle.arrays.specs.ArrayInstance.{at, flag}
 use Rattle.arrays.specs.Passes.{Low}
@@ -19,33 +20,67 @@ use Rattle.reduction_cells.specs.Cells.{Celled, place, inCell, passed, s
 abbrev pub differ : Bool → Bool → Bool
 differ a b = not (Bool·beq a b)
 
--- the cells of v below rank r are painted from what remains, with the quota q: f₀ is now f, and w₀ now w
-pub record Painted (m : ℕ) (other cell : List ℕ) (rem : List Bool) (v q r : ℕ) (f₀ w₀ f w : List Bool) : Type 0 where
+-- neither of two
+pub or-parts : (a b : Bool) → a || b ≡ false → (a ≡ false) × (b ≡ false)
+or-parts true b h = (h, absurd (subst T h tt))
+or-parts false b h = (refl, h)
+
+-- ---- u is among the first n of a list
+unfoldable pub among : (list : List ℕ) (n u : ℕ) → Bool
+among list zero u = false
+among list (suc n) u = among list n u || eqb (at list n) u
+
+pub among-none : (list : List ℕ) (u : ℕ) → among list 0 u ≡ false
+unfolding among
+among-none list u = refl
+
+pub among-next : (list : List ℕ) (n u : ℕ) → among list (n + 1) u ≡ among list n u || eqb (at list n) u
+unfolding among
+among-next list n u = ap (λ k. among list k u) (let e : n + 1 ≡ suc n = omega arith in e)
+
+-- what is stored behind them changes nothing
+among-behind : (list : List ℕ) (k x n u : ℕ) → n ≤ k → among (set list k x) n u ≡ among list n u
+unfolding among
+among-behind list k x zero u h = refl
+among-behind list k x (suc n) u h = ap₂ (λ (a : Bool) (y : ℕ). a || eqb y u) (among-behind list k x n u (omega arith))
+    (getD-set-other list k n x 0 (λ (z : n ≡ k). absurd (omega arith)))
+
+-- one more is stored, and counted or not
+pub among-put : (list : List ℕ) (k x u : ℕ) (b : Bool) → k < length list → among (set list k x) (k + bit b) u ≡ among list k u || (b && eqb x u)
+among-put list k x u true l = among-next (set list k x) k u
+    ∙ ap₂ (λ (a : Bool) (y : ℕ). a || eqb y u) (among-behind list k x k u (omega arith)) (getD-set-same list k x 0 l)
+among-put list k x u false l = ap (λ n. among (set list k x) n u) (let e : k + 0 ≡ k = omega arith in e) ∙ among-behind list k x k u (omega arith)
+    ∙ sym (or-false (among list k u))
+
+pub low-put : (list : List ℕ) (k x : ℕ) (b : Bool) → k < length list → x < nodeLimit → Low k list nodeLimit → Low (k + bit b) (set list k x) nodeLimit
+low-put list k x b l h L i il = by-eq i k
+    (λ z t. omega (arith, ap (at (set list k x)) z, getD-set-same list k x 0 l))
+    (λ n t. omega (arith, getD-set-other list k i x 0 n, L i (by-cases (decLt i k) (λ a. a) (λ a. absurd (n (omega (arith, bit-one b)))))))
+
+-- ---- the cells of v below rank r are painted from what remains, with the quota q: f₀ is now f, and the nodes in w saw an arrow turn
+pub record Painted (m : ℕ) (other cell : List ℕ) (rem : List Bool) (v q r : ℕ) (f₀ f : List Bool) (w : ℕ → Bool) : Type 0 where
   pub sizeF : length f ≡ length f₀
-  pub sizeW : length w ≡ length w₀
   pub new : (i : ℕ) → i < r → inCell cell v i < m → flag f (inCell cell v i) ≡ flag rem (inCell cell v i) && ltb (passed m cell (flag rem) v i) q
   pub old : (e : ℕ) → ((i : ℕ) → i < r → inCell cell v i ≢ e) → flag f e ≡ flag f₀ e
-  pub saw : (u : ℕ) → flag w u ≡ false → (flag w₀ u ≡ false) × ((e : ℕ) → e < m → at other e ≡ u → flag f e ≡ flag f₀ e)
+  pub saw : (u : ℕ) → w u ≡ false → (e : ℕ) → e < m → at other e ≡ u → flag f e ≡ flag f₀ e
 
 module _ (m : ℕ) (end rank : List ℕ) (tied : List Bool) (other cell : List ℕ) (C : Celled m end rank tied cell) (rem : List Bool) (v q : ℕ)
-    (f₀ w₀ : List Bool) where
-  abbrev At : (r : ℕ) → (f w : List Bool) → Type 0
-  At r f w = Painted m other cell rem v q r f₀ w₀ f w
+    (f₀ : List Bool) where
+  abbrev At : (r : ℕ) → (f : List Bool) (w : ℕ → Bool) → Type 0
+  At r f w = Painted m other cell rem v q r f₀ f w
 
-  pub painted-none : At 0 f₀ w₀
-  painted-none = record {
+  pub painted-none : (w : ℕ → Bool) → At 0 f₀ w
+  painted-none w = record {
     sizeF = refl;
-    sizeW = refl;
     new = λ i h. absurd (omega arith);
     old = λ e h. refl;
-    saw = λ u h. (h, λ e l i. refl);
+    saw = λ u h e l i. refl;
   }
 
   -- a cell without an edge
-  pub painted-empty : (r : ℕ) (f w : List Bool) → m ≤ inCell cell v r → At r f w → At (r + 1) f w
+  pub painted-empty : (r : ℕ) (f : List Bool) (w : ℕ → Bool) → m ≤ inCell cell v r → At r f w → At (r + 1) f w
   painted-empty r f w h P = record {
     sizeF = P .sizeF;
-    sizeW = P .sizeW;
     new = λ i k l. ⊎-elim
         (λ e. let x : inCell cell v i ≡ inCell cell v r = ap (inCell cell v) e in absurd (omega arith))
         (λ b. P .new i b l)
@@ -60,48 +95,34 @@ module _ (m : ℕ) (end rank : List ℕ) (tied : List Bool) (other cell : List �
   same-flag false true h = sym h
   same-flag false false h = refl
 
-  or-parts : (a b : Bool) → a || b ≡ false → (a ≡ false) × (b ≡ false)
-  or-parts true b h = (h, absurd-true h)
-    where
-      absurd-true : true ≡ false → b ≡ false
-      absurd-true h = absurd (subst T h tt)
-  or-parts false b h = (refl, h)
-
   -- a cell with an edge: its flag is stored, and its other node sees whether it turned
-  pub painted-edge : (r : ℕ) (f w : List Bool) → v < nodeLimit → r < emptyRank → inCell cell v r < m → inCell cell v r < length f
-      → at other (inCell cell v r) < length w → (on : Bool) → on ≡ flag rem (inCell cell v r) && ltb (passed m cell (flag rem) v r) q → At r f w
-      → At (r + 1) (set f (inCell cell v r) on)
-      (set w (at other (inCell cell v r)) (flag w (at other (inCell cell v r)) || differ on (flag f (inCell cell v r))))
-  painted-edge r f w wl rl l lf lw on oi P = record {
+  pub painted-edge : (r : ℕ) (f : List Bool) (w w′ : ℕ → Bool) → v < nodeLimit → r < emptyRank → inCell cell v r < m → inCell cell v r < length f
+      → (on : Bool) → on ≡ flag rem (inCell cell v r) && ltb (passed m cell (flag rem) v r) q
+      → ((u : ℕ) → w′ u ≡ w u || (differ on (flag f (inCell cell v r)) && eqb (at other (inCell cell v r)) u)) → At r f w
+      → At (r + 1) (set f (inCell cell v r) on) w′
+  painted-edge r f w w′ wl rl l lf on oi wi P = record {
     sizeF = simp length-set (P .sizeF);
-    sizeW = simp length-set (P .sizeW);
     new = λ i k il. ⊎-elim
         (λ e. subst (λ z. flag (set f d on) (inCell cell v z) ≡ flag rem (inCell cell v z) && ltb (passed m cell (flag rem) v z) q) (sym e)
         (getD-set-same f d on false lf ∙ oi))
         (λ b. getD-set-other f d (inCell cell v i) on false (apart i b il) ∙ P .new i b il)
         (let g : i ≤ r = omega arith in eq-or-lt-of-le g);
     old = λ e n. getD-set-other f d e on false (λ (z : e ≡ d). n r (omega arith) (sym z)) ∙ P .old e (λ i k. n i (omega arith));
-    saw = λ u h. by-eq u o
-        (λ i t.
-        let p = or-parts (flag w o) (differ on (flag f d)) (sym (getD-set-same w o (flag w o || differ on (flag f d)) false lw) ∙ ap (flag w′) (sym i) ∙ h) in
-        let Q = P .saw u (ap (flag w) i ∙ p .0) in (
-          Q .0,
-          λ e el j. by-eq e d
-              (λ z s. ap (flag (set f d on)) z ∙ getD-set-same f d on false lf ∙ same-flag on (flag f d) (p .1) ∙ ap (flag f) (sym z) ∙ Q .1 e el j)
-              (λ ne s. getD-set-other f d e on false ne ∙ Q .1 e el j),
-        ))
-        (λ n t. let Q = P .saw u (sym (getD-set-other w o u (flag w o || differ on (flag f d)) false n) ∙ h) in
-        (Q .0, λ e el j. getD-set-other f d e on false (λ (z : e ≡ d). n (sym j ∙ ap (at other) z)) ∙ Q .1 e el j));
+    saw = λ u h e el j.
+        let p = or-parts (w u) (differ on (flag f d) && eqb (at other d) u) (sym (wi u) ∙ h) in
+        by-eq e d
+        (λ z s. ap (flag (set f d on)) z ∙ getD-set-same f d on false lf
+        ∙ same-flag on (flag f d) (seen (differ on (flag f d)) (eqb (at other d) u) (p .1) (eqb-yes (at other d) u (ap (at other) (sym z) ∙ j)))
+        ∙ ap (flag f) (sym z) ∙ P .saw u (p .0) e el j)
+        (λ ne s. getD-set-other f d e on false ne ∙ P .saw u (p .0) e el j);
   }
     where
       d : ℕ
       d = inCell cell v r
 
-      o : ℕ
-      o = at other d
-
-      w′ : List Bool
-      w′ = set w o (flag w o || differ on (flag f d))
+      seen : (a b : Bool) → a && b ≡ false → b ≡ true → a ≡ false
+      seen true b h t = absurd (subst T (sym t ∙ h) tt)
+      seen false b h t = refl
 
       apart : (i : ℕ) → i < r → inCell cell v i < m → inCell cell v i ≡ inCell cell v r → ⊥
       apart i b il z = omega (
@@ -122,9 +143,9 @@ all-none m cell rem q f h = record { new = λ v i k. absurd (omega arith); old =
 
 -- one node more
 pub all-next : (m : ℕ) (end rank : List ℕ) (tied : List Bool) (cell : List ℕ) → Celled m end rank tied cell → Low m rank emptyRank → (other : List ℕ)
-    (rem : List Bool) (q : List ℕ) (n : ℕ) → n < nodeLimit → (f₀ w₀ f w : List Bool) → AllPainted m cell rem q n f₀
-    → Painted m other cell rem n (at q n) emptyRank f₀ w₀ f w → AllPainted m cell rem q (n + 1) f
-all-next m end rank tied cell C placed other rem q n nl f₀ w₀ f w A P = record {
+    (rem : List Bool) (q : List ℕ) (n : ℕ) → n < nodeLimit → (f₀ f : List Bool) (w : ℕ → Bool) → AllPainted m cell rem q n f₀
+    → Painted m other cell rem n (at q n) emptyRank f₀ f w → AllPainted m cell rem q (n + 1) f
+all-next m end rank tied cell C placed other rem q n nl f₀ f w A P = record {
   new = λ v i k h l. ⊎-elim
       (λ e. subst
       (λ u. inCell cell u i < m → flag f (inCell cell u i) ≡ flag rem (inCell cell u i) && ltb (passed m cell (flag rem) u i) (at q u)) (sym e)

@@ -9,7 +9,7 @@ ghost use Rattle.model.specs.Limits.{entryLimit, nodeLimit, emptyRank};
 ghost use Rattle.arrays.specs.ArrayInstance.{at, flag};
 ghost use Rattle.arrays.specs.Passes.{Low};
 ghost use Rattle.reduction_cells.specs.Cells.{Celled, edgeIn, barOf, bestOf, worstOf};
-ghost use Rattle.reduction_cells.specs.Painted.{Painted, AllPainted};
+ghost use Rattle.reduction_cells.specs.Painted.{Painted, AllPainted, among};
 use limits::EMPTY_RANK;
 use limits::ENTRY_LIMIT;
 
@@ -151,7 +151,8 @@ pub fn worst(
     m
 }
 
-// The arrows of v painted anew: the strict remaining edges that fewer than q are ahead of. A node in `saw` saw an arrow turn.
+// The arrows of v painted anew: the strict remaining edges that fewer than q are ahead of. The nodes that saw an arrow turn go to the front of
+// `turned`; how many they are is returned.
 pub fn paint(
     m: usize,
     end: &[u8; ENTRY_LIMIT],
@@ -163,27 +164,29 @@ pub fn paint(
     other: &[u8; ENTRY_LIMIT],
     rem: &[bool; ENTRY_LIMIT],
     f: &mut [bool; ENTRY_LIMIT],
-    saw: &mut [bool; 32],
-)
+    turned: &mut [u8; EMPTY_RANK],
+) -> usize
     requires { ⌜ (v < nodeLimit) × Celled m (now end) (now rank) (now tied) (now cell) × Low m (now other) nodeLimit ⌝ }
-    requires { ⌜ (length (now f) ≡ entryLimit) × (length (now saw) ≡ nodeLimit) ⌝ }
-    ensures { λ r. ⌜ Painted m (now (other .entry)) (now (cell .entry)) (now (rem .entry)) v q emptyRank (now (f .entry)) (now (saw .entry))
-        (now (f .exit)) (now (saw .exit)) ⌝ }
+    requires { ⌜ (length (now f) ≡ entryLimit) × (length (now turned) ≡ emptyRank) ⌝ }
+    ensures { λ r. ⌜ (r ≤ emptyRank) × (length (now (turned .exit)) ≡ emptyRank) × Low r (now (turned .exit)) nodeLimit
+        × Painted m (now (other .entry)) (now (cell .entry)) (now (rem .entry)) v q emptyRank (now (f .entry)) (now (f .exit)) (among (now (turned .exit)) r) ⌝ }
 {
     let b = v * EMPTY_RANK;
     let mut c: u16 = 0;
+    let mut n: usize = 0;
     let mut r: usize = 0;
     while r < EMPTY_RANK {
         let e = cell[b + r] as usize;
         r += 1;
         if e < m {
             let on = rem[e] & (c < q);
-            let w = other[e] as usize;
-            saw[w] = saw[w] | (on != f[e]);
+            turned[n] = other[e];
+            n += (on != f[e]) as usize;
             f[e] = on;
             c += rem[e] as u16;
         }
     }
+    n
 }
 
 // The arrows of all nodes of one side.
@@ -201,7 +204,7 @@ pub fn painted(
     ensures { λ r. ⌜ AllPainted m (now (cell .entry)) (now (rem .entry)) (now (q .entry)) nodeLimit r ⌝ }
 {
     let mut f = [false; ENTRY_LIMIT];
-    let mut saw = [false; 32];
+    let mut turned = [0u8; EMPTY_RANK];
     let mut v: usize = 0;
     while v < 32 {
         paint(
@@ -215,7 +218,7 @@ pub fn painted(
             other,
             rem,
             &mut f,
-            &mut saw,
+            &mut turned,
         );
         v += 1;
     }

@@ -1,10 +1,9 @@
--- Walks along the links of a node's edges: to the first edge that passes a test, or counting those that do.
-use Prim.Native.Nat.{ℕ, zero, suc, _+_, _≤_, _<_, zero-le}
+-- Walks along the list of a node's edges: to the first edge that passes a test, or counting those that do.
+use Prim.Native.Nat.{ℕ, suc, _+_, _≤_, _<_, zero-le}
 use native.Mathlib.Omega.{arith}
-use native.Mathlib.Nat.{eq-or-lt-of-le}
 use native.Mathlib.Decide.{decLt}
-use mathlib.Core.Path.{_≡_, refl, sym, ap, ap₂, _∙_}
-use mathlib.Core.Logic.{by-cases, ⊎-elim, _≢_}
+use mathlib.Core.Path.{_≡_, refl, sym, ap, ap₂, _∙_, subst}
+use mathlib.Core.Logic.{by-cases, _≢_}
 use mathlib.Core.Bool.{Bool, true, false, _&&_, and-false}
 use mathlib.Core.List.{List}
 use lib.Dec.{eqb}
@@ -13,105 +12,136 @@ use Rattle.lists.specs.Search.{low, low-hit, low-none}
 use Rattle.lists.specs.Sum.{count, count-≤}
 use Rattle.model.specs.Limits.{nodeLimit}
 use Rattle.arrays.specs.ArrayInstance.{at}
-use Rattle.edge_links.specs.Linked.{Linked, First, first-head, first-next}
+use Rattle.edge_links.specs.Linked.{First, first-head, first-next}
+use Rattle.reduction_links.specs.Listed.{Listed, placeLimit, tallied, tallied-jump, before, before-less, first-before, next-before}
 
 -- a test at a node alone
 abbrev pub atNode : (end : List ℕ) (v : ℕ) (q : ℕ → Bool) → ℕ → Bool
 atNode end v q d = eqb (at end d) v && q d
 
--- how many edges of a node below e pass
-abbrev pub tallied : (end : List ℕ) (v : ℕ) (q : ℕ → Bool) → ℕ → ℕ
-tallied end v q e = count (λ d. q d && eqb (at end d) v) e
-
--- ---- a walk by links: before e nothing passes the test q, and e is at v if it is an edge
-pub record Walked (m : ℕ) (end : List ℕ) (v : ℕ) (q : ℕ → Bool) (e : ℕ) : Type 0 where
+-- ---- a walk along a list: it stands at place k, at the edge e of v, or at its end
+pub record Stood (m : ℕ) (end first : List ℕ) (v k e : ℕ) : Type 0 where
   pub inside : e ≤ m
-  pub none : (d : ℕ) → d < e → atNode end v q d ≡ false
   pub here : e < m → at end e ≡ v
+  pub place : k ≡ at first v + before end v e
+
+-- before e nothing passes the test q
+pub record Walked (m : ℕ) (end first : List ℕ) (v : ℕ) (q : ℕ → Bool) (k e : ℕ) : Type 0 where
+  pub at-edge : Stood m end first v k e
+  pub none : (d : ℕ) → d < e → atNode end v q d ≡ false
 
 -- a walk that counts: of the edges before e, c pass
-pub record Counted (m : ℕ) (end : List ℕ) (v : ℕ) (q : ℕ → Bool) (e c : ℕ) : Type 0 where
-  pub inside : e ≤ m
-  pub here : e < m → at end e ≡ v
+pub record Counted (m : ℕ) (end first : List ℕ) (v : ℕ) (q : ℕ → Bool) (k e c : ℕ) : Type 0 where
+  pub at-edge : Stood m end first v k e
   pub is : c ≡ tallied end v q e
 
-module _ {m : ℕ} {end first next : List ℕ} (L : Linked m end first next) (v : ℕ) where
-  starts : v < nodeLimit → First m end 0 v (at first v)
-  starts w = first-head m end first next L v w
+module _ {m : ℕ} {end first list : List ℕ} (L : Listed m end first list) (v : ℕ) (w : v < nodeLimit) where
+  -- the list has an edge of v, and m behind all of them, in its place
+  spelled : (i e : ℕ) → First m end i v e → at list (at first v + before end v e) ≡ e
+  spelled i e F = let N = L .nodes v w in by-cases (decLt e m)
+      (λ l. N .spelled e l (F .here l))
+      (λ h. let z : e ≡ m = omega (arith, F .inside) in ap (λ x. at list (at first v + before end v x)) z ∙ N .ends ∙ sym z)
 
-  on : (e : ℕ) → e < m → at end e ≡ v → First m end (e + 1) v (at next e)
-  on e l i = first-next m end first next L v e l i
+  first-of : First m end 0 v (at (L .head) v)
+  first-of = first-head m end (L .head) (L .next) (L .linked) v w
 
-  pub next-inside : (e : ℕ) → e < m → at next e ≤ m
-  next-inside e l = first-next m end first next L (at end e) e l refl .inside
+  next-of : (e : ℕ) → e < m → at end e ≡ v → First m end (e + 1) v (at (L .next) e)
+  next-of e l i = first-next m end (L .head) (L .next) (L .linked) v e l i
 
-  pub first-inside : v < nodeLimit → at first v ≤ m
-  first-inside w = starts w .inside
+  -- so its first place has the first edge, and the place behind an edge has the next one
+  pub list-first : at list (at first v) ≡ at (L .head) v
+  list-first = let z : at first v ≡ at first v + before end v (at (L .head) v) = omega (arith, first-before (L .linked) v w) in
+      ap (at list) z ∙ spelled 0 (at (L .head) v) first-of
 
-  pub next-later : (e : ℕ) → e < m → at end e ≡ v → e < at next e
-  next-later e l i = omega (arith, on e l i .onward (omega arith))
+  pub list-next : (k e : ℕ) → e < m → Stood m end first v k e → at list (k + 1) ≡ at (L .next) e
+  list-next k e l S =
+      let i = S .here l in
+      let z : k + 1 ≡ at first v + before end v (at (L .next) e) = omega (arith, S .place, next-before (L .linked) v e l i) in
+      ap (at list) z ∙ spelled (e + 1) (at (L .next) e) (next-of e l i)
+
+  starts : First m end 0 v (at list (at first v))
+  starts = subst (First m end 0 v) (sym list-first) first-of
+
+  on : (k e : ℕ) → e < m → Stood m end first v k e → First m end (e + 1) v (at list (k + 1))
+  on k e l S = subst (First m end (e + 1) v) (sym (list-next k e l S)) (next-of e l (S .here l))
+
+  pub first-room : at first v < placeLimit
+  first-room = omega (arith, L .nodes v w .room)
+
+  pub first-inside : at list (at first v) ≤ m
+  first-inside = starts .inside
+
+  pub next-room : (k e : ℕ) → e < m → Stood m end first v k e → k + 1 < placeLimit
+  next-room k e l S = omega (arith, S .place, before-less end v e m l (S .here l), L .nodes v w .room)
+
+  pub next-inside : (k e : ℕ) → e < m → Stood m end first v k e → at list (k + 1) ≤ m
+  next-inside k e l S = on k e l S .inside
+
+  pub next-later : (k e : ℕ) → e < m → Stood m end first v k e → e < at list (k + 1)
+  next-later k e l S = omega (arith, on k e l S .onward (omega arith))
+
+  stood-first : Stood m end first v (at first v) (at list (at first v))
+  stood-first = record {
+    inside = starts .inside;
+    here = starts .here;
+    place = omega (arith, first-before (L .linked) v w, ap (before end v) list-first);
+  }
+
+  stood-next : (k e : ℕ) → e < m → Stood m end first v k e → Stood m end first v (k + 1) (at list (k + 1))
+  stood-next k e l S = let F = on k e l S in record {
+    inside = F .inside;
+    here = F .here;
+    place = omega (arith, S .place, next-before (L .linked) v e l (S .here l), ap (before end v) (list-next k e l S));
+  }
 
   module _ (q : ℕ → Bool) where
     off : (d : ℕ) → at end d ≢ v → atNode end v q d ≡ false
     off d n = ap (λ b. b && q d) (eqb-no (at end d) v n)
 
-    pub walk-starts : v < nodeLimit → Walked m end v q (at first v)
-    walk-starts w = let F = starts w in record { inside = F .inside; none = λ d l. off d (F .none d zero-le l); here = F .here }
+    pub walk-starts : Walked m end first v q (at first v) (at list (at first v))
+    walk-starts = record { at-edge = stood-first; none = λ d l. off d (starts .none d zero-le l) }
 
-    -- one link on
-    pub walk-on : (e : ℕ) → e < m → Walked m end v q e → q e ≡ false → Walked m end v q (at next e)
-    walk-on e l W f =
-        let F = on e l (W .here l) in
+    -- one place on
+    pub walk-on : (k e : ℕ) → e < m → Walked m end first v q k e → q e ≡ false → Walked m end first v q (k + 1) (at list (k + 1))
+    walk-on k e l W f =
+        let F = on k e l (W .at-edge) in
         record {
-          inside = F .inside;
+          at-edge = stood-next k e l (W .at-edge);
           none = λ d dl. by-cases (decLt d e) (W .none d) (λ h. by-eq d e
               (λ i t. ap (λ b. eqb (at end d) v && b) (ap q i ∙ f) ∙ and-false (eqb (at end d) v))
               (λ ne t. off d (F .none d (past e d ne h) dl)));
-          here = F .here;
         }
       where
         past : (e d : ℕ) → d ≢ e → (d < e → ⊥) → e + 1 ≤ d
         past e d ne h = by-cases (decLt e d) (λ k. omega arith) (λ k. absurd (ne (omega arith)))
 
-    pub walk-hit : (e : ℕ) → e < m → Walked m end v q e → q e ≡ true → e ≡ low (atNode end v q) m
-    walk-hit e l W t = sym (low-hit (atNode end v q) e m (low-none (atNode end v q) e (W .none)) (ap₂ _&&_ (eqb-yes (at end e) v (W .here l)) t) l)
+    pub walk-hit : (k e : ℕ) → e < m → Walked m end first v q k e → q e ≡ true → e ≡ low (atNode end v q) m
+    walk-hit k e l W t =
+        sym (low-hit (atNode end v q) e m (low-none (atNode end v q) e (W .none)) (ap₂ _&&_ (eqb-yes (at end e) v (W .at-edge .here l)) t) l)
 
-    pub walk-ends : (e : ℕ) → m ≤ e → Walked m end v q e → e ≡ low (atNode end v q) m
-    walk-ends e h W = let i : e ≡ m = omega (arith, W .inside) in i ∙ sym (low-none (atNode end v q) m (λ d l. W .none d (omega arith)))
+    pub walk-ends : (k e : ℕ) → m ≤ e → Walked m end first v q k e → e ≡ low (atNode end v q) m
+    walk-ends k e h W = let i : e ≡ m = omega (arith, W .at-edge .inside) in i ∙ sym (low-none (atNode end v q) m (λ d l. W .none d (omega arith)))
 
-    -- ---- counting: where nothing of v lies between, the count stays
-    jump : (i n : ℕ) → i ≤ n → ((d : ℕ) → i ≤ d → d < n → at end d ≢ v) → tallied end v q n ≡ tallied end v q i
+    -- ---- counting
+    pub count-starts : Counted m end first v q (at first v) (at list (at first v)) 0
     unfolding count
-    jump i zero h f = ap (tallied end v q) (let e : 0 ≡ i = omega arith in e)
-    jump i (suc n) h f = ⊎-elim
-        (λ e. ap (tallied end v q) (sym e))
-        (λ k. omega (
-          arith,
-          jump i n (omega arith) (λ d a b. f d a (omega arith)),
-          ap bit (ap (λ b. q n && b) (eqb-no (at end n) v (f n (omega arith) (omega arith))) ∙ and-false (q n)),
-        ))
-        (eq-or-lt-of-le h)
-
-    pub count-starts : v < nodeLimit → Counted m end v q (at first v) 0
-    unfolding count
-    count-starts w = let F = starts w in record {
-      inside = F .inside;
-      here = F .here;
-      is = sym (jump 0 (at first v) (omega arith) (λ d a l. F .none d a l));
+    count-starts = record {
+      at-edge = stood-first;
+      is = sym (tallied-jump end v q 0 (at list (at first v)) zero-le (λ d a l. starts .none d a l));
     }
 
-    pub count-on : (e c : ℕ) → e < m → Counted m end v q e c → Counted m end v q (at next e) (c + bit (q e))
+    pub count-on : (k e c : ℕ) → e < m → Counted m end first v q k e c → Counted m end first v q (k + 1) (at list (k + 1)) (c + bit (q e))
     unfolding count
-    count-on e c l W =
-        let F = on e l (W .here l) in
+    count-on k e c l W =
+        let S = W .at-edge in
+        let F = on k e l S in
         record {
-          inside = F .inside;
-          here = F .here;
+          at-edge = stood-next k e l S;
           is = omega (
             arith,
             W .is,
-            jump (suc e) (at next e) (omega (arith, next-later e l (W .here l))) (λ d a b. F .none d (omega arith) b),
-            one (q e) (eqb (at end e) v) (eqb-yes (at end e) v (W .here l)),
+            tallied-jump end v q (suc e) (at list (k + 1)) (omega (arith, next-later k e l S)) (λ d a b. F .none d (omega arith) b),
+            one (q e) (eqb (at end e) v) (eqb-yes (at end e) v (S .here l)),
           );
         }
       where
@@ -119,8 +149,8 @@ module _ {m : ℕ} {end first next : List ℕ} (L : Linked m end first next) (v 
         one true b i = ap bit i
         one false b i = refl
 
-    pub count-ends : (e c : ℕ) → m ≤ e → Counted m end v q e c → c ≡ tallied end v q m
-    count-ends e c h W = let i : e ≡ m = omega (arith, W .inside) in W .is ∙ ap (tallied end v q) i
+    pub count-ends : (k e c : ℕ) → m ≤ e → Counted m end first v q k e c → c ≡ tallied end v q m
+    count-ends k e c h W = let i : e ≡ m = omega (arith, W .at-edge .inside) in W .is ∙ ap (tallied end v q) i
 
-    pub count-small : (e c : ℕ) → Counted m end v q e c → c ≤ e
-    count-small e c W = omega (arith, W .is, count-≤ (λ d. q d && eqb (at end d) v) e)
+    pub count-small : (k e c : ℕ) → Counted m end first v q k e c → c ≤ e
+    count-small k e c W = omega (arith, W .is, count-≤ (λ d. q d && eqb (at end d) v) e)

@@ -3,7 +3,7 @@
 use Prim.Native.Nat.{ℕ, _<_}
 use native.Mathlib.Omega.{arith}
 use mathlib.Core.Path.{_≡_, refl, sym, ap, _∙_, subst}
-use mathlib.Core.Bool.{Bool, true, false, not, cond, _&&_}
+use mathlib.Core.Bool.{Bool, true, false, cond, _&&_}
 use mathlib.Core.List.{List}
 use lib.ListN.{length, getD, replicate, getD-replicate}
 use lib.Dec.{T, ltb, nltb→le}
@@ -14,7 +14,7 @@ use Rattle.model.specs.Limits.{nodeLimit, emptyRank}
 use Rattle.model.specs.Instance.{surveyors, stands}
 use Rattle.arrays.specs.ArrayInstance.{at, flag}
 use Rattle.arrays.specs.Passes.{Low}
-use Rattle.edge_links.specs.Linked.{Linked}
+use Rattle.reduction_links.specs.Listed.{Listed}
 use Rattle.reduction_cells.specs.Cells.{Celled}
 use Rattle.reduction_cells.specs.CellLaws.{Cells, celled-is}
 use Rattle.reduction_cells.specs.Painted.{differ}
@@ -26,11 +26,11 @@ use Rattle.reduction_nodes.specs.Numbers.{firstOf, secondsOf, surveyorsO
 use Rattle.reduction_nodes.specs.Numbers.{surveyorNumbers, standNumbers, Surveyed, Stood, SizedS, SizedT}
 use Rattle.reduction_nodes.specs.Local.{surveyor-local}
 
--- ---- the tables of the edges, made once: links and cells of both sides; `strict` says that surveyors tie nothing
+-- ---- the tables of the edges, made once: lists and cells of both sides; `strict` says that surveyors tie nothing
 pub record Links : Type 0 where
-  pub nextS : List ℕ
+  pub listS : List ℕ
   pub firstS : List ℕ
-  pub nextT : List ℕ
+  pub listT : List ℕ
   pub firstT : List ℕ
   pub cellS : List ℕ
   pub cellT : List ℕ
@@ -41,8 +41,8 @@ pub record Tables (A : Edges) (strict : List Bool) (L : Links) : Type 0 where
   pub placedS : Low (A .m) (A .rs) emptyRank
   pub placedT : Low (A .m) (A .rt) emptyRank
   pub none : (e : ℕ) → flag strict e ≡ false
-  pub linkedS : Linked (A .m) (A .sv) (L .firstS) (L .nextS)
-  pub linkedT : Linked (A .m) (A .st) (L .firstT) (L .nextT)
+  pub listedS : Listed (A .m) (A .sv) (L .firstS) (L .listS)
+  pub listedT : Listed (A .m) (A .st) (L .firstT) (L .listT)
   pub celledS : Celled (A .m) (A .sv) (A .rs) strict (L .cellS)
   pub celledT : Celled (A .m) (A .st) (A .rt) (A .tied) (L .cellT)
 
@@ -69,8 +69,8 @@ pub record Looks : Type 0 where
 abbrev pub edges : (m : ℕ) (sv st rs rt : List ℕ) (tied : List Bool) → Edges
 edges m sv st rs rt tied = record { m = m; sv = sv; st = st; rs = rs; rt = rt; tied = tied }
 
-abbrev pub links : (ns hs nt ht cs ct : List ℕ) → Links
-links ns hs nt ht cs ct = record { nextS = ns; firstS = hs; nextT = nt; firstT = ht; cellS = cs; cellT = ct }
+abbrev pub links : (ls hs lt ht cs ct : List ℕ) → Links
+links ls hs lt ht cs ct = record { listS = ls; firstS = hs; listT = lt; firstT = ht; cellS = cs; cellT = ct }
 
 abbrev pub looks : (rem fs ft : List Bool) (qs qt : List ℕ) → Looks
 looks rem fs ft qs qt = record { rem = rem; fs = fs; ft = ft; qs = qs; qt = qt }
@@ -143,12 +143,6 @@ renewed-at : {B : Type 0} (d : B) (saw : List Bool) (new : ℕ → B) (old xs : 
     → (b : Bool) → flag saw v ≡ b → getD xs v d ≡ cond b (new v) (getD old v d)
 renewed-at d saw new old xs R v w b t =
     R v ∙ ap (λ a. cond (a && flag saw v) (new v) (getD old v d)) (lt-ltb v nodeLimit w) ∙ ap (λ b. cond b (new v) (getD old v d)) t
-
--- a renewed array holds the new numbers, if the others stay
-pub renewed-all : (saw : List Bool) (new : ℕ → ℕ) (old xs : List ℕ) → Renewed 0 saw new old nodeLimit xs
-    → ((v : ℕ) → v < nodeLimit → flag saw v ≡ false → at old v ≡ new v) → (v : ℕ) → v < nodeLimit → at xs v ≡ new v
-renewed-all saw new old xs R h v w = by-bool (flag saw v) (λ t. renewed-at 0 saw new old xs R v w true t)
-    (λ t. renewed-at 0 saw new old xs R v w false t ∙ h v w t)
 
 stood-at : (new : ℕ → Stand) (saw : List Bool) (x y : Stands) → Stood new saw x nodeLimit y → (v : ℕ) → v < nodeLimit → (b : Bool) → flag saw v ≡ b
     → standAt y v ≡ cond b (new v) (standAt x v)

@@ -1,17 +1,18 @@
--- An array by node of which some entries are made anew, those of the nodes in `saw`, from its front on.
+-- An array by node of which some entries are made anew: those of the nodes in `saw`, from its front on, or those of the nodes of a list.
 use Prim.Native.Nat.{ℕ, _+_, _<_}
 use native.Mathlib.Omega.{arith}
 use native.Mathlib.Decide.{decLt}
-use mathlib.Core.Path.{_≡_, sym, ap, ap₂, _∙_}
+use mathlib.Core.Path.{_≡_, refl, sym, ap, ap₂, _∙_}
 use mathlib.Core.Logic.{by-cases, _≢_}
-use mathlib.Core.Bool.{Bool, true, false, cond, _&&_, and-false}
+use mathlib.Core.Bool.{Bool, true, false, cond, _&&_, _||_, and-false, or-false}
 use mathlib.Core.List.{List}
 use lib.ListN.{length, getD, set}
 use lib.Seq.{getD-set-same, getD-set-other}
 use lib.Dec.{ltb}
 use borrow.Author.Tests.{lt-ltb, le-ltb}
-use Rattle.lists.specs.Test.{by-eq}
-use Rattle.arrays.specs.ArrayInstance.{flag}
+use Rattle.lists.specs.Test.{by-eq, by-bool, eqb-yes, eqb-no}
+use Rattle.arrays.specs.ArrayInstance.{at, flag}
+use Rattle.reduction_cells.specs.Painted.{among, among-none, among-next}
 
 -- one number more
 pub other : (i v : ℕ) → v ≢ i → ltb v i ≡ ltb v (i + 1)
@@ -41,3 +42,34 @@ module _ {A : Type 0} (d : A) (saw : List Bool) (new : ℕ → A) (old : List A)
       (λ q t. R v ∙ ap (entry v) (ap (λ b. ltb v i && b) (ap (flag saw) q ∙ s) ∙ and-false (ltb v i)
       ∙ sym (ap (λ b. ltb v (i + 1) && b) (ap (flag saw) q ∙ s) ∙ and-false (ltb v (i + 1)))))
       (λ n t. R v ∙ ap (λ b. entry v (b && flag saw v)) (other i v n))
+
+-- ---- those that pass a test are renewed
+abbrev pub RenewedBy : (w : ℕ → Bool) (new : ℕ → ℕ) (old xs : List ℕ) → Type 0
+RenewedBy w new old xs = (v : ℕ) → at xs v ≡ cond (w v) (new v) (at old v)
+
+-- the array holds the new numbers then, if the others stay
+pub by-all : (w : ℕ → Bool) (new : ℕ → ℕ) (old xs : List ℕ) → RenewedBy w new old xs → (v : ℕ) → (w v ≡ false → at old v ≡ new v) → at xs v ≡ new v
+by-all w new old xs R v h = by-bool (w v) (λ t. R v ∙ ap (λ b. cond b (new v) (at old v)) t) (λ t. R v ∙ ap (λ b. cond b (new v) (at old v)) t ∙ h t)
+
+pub or-true : (b : Bool) → b || true ≡ true
+or-true true = refl
+or-true false = refl
+
+-- one node of the list more
+pub among-own : (list : List ℕ) (i v : ℕ) → v ≡ at list i → among list (i + 1) v ≡ true
+among-own list i v q = among-next list i v ∙ ap (λ b. among list i v || b) (eqb-yes (at list i) v (sym q)) ∙ or-true (among list i v)
+
+pub among-other : (list : List ℕ) (i v : ℕ) → v ≢ at list i → among list (i + 1) v ≡ among list i v
+among-other list i v n =
+    among-next list i v ∙ ap (λ b. among list i v || b) (eqb-no (at list i) v (λ (z : at list i ≡ v). n (sym z))) ∙ or-false (among list i v)
+
+module _ (list : List ℕ) (new : ℕ → ℕ) (old : List ℕ) where
+  pub by-none : RenewedBy (among list 0) new old old
+  by-none v = sym (ap (λ b. cond b (new v) (at old v)) (among-none list v))
+
+  pub by-next : (i : ℕ) (xs : List ℕ) (x : ℕ) → at list i < length xs → x ≡ new (at list i) → RenewedBy (among list i) new old xs
+      → RenewedBy (among list (i + 1)) new old (set xs (at list i) x)
+  by-next i xs x l e R v = by-eq v (at list i)
+      (λ q t. ap (at (set xs (at list i) x)) q ∙ getD-set-same xs (at list i) x 0 l ∙ e ∙ ap new (sym q)
+      ∙ sym (ap (λ b. cond b (new v) (at old v)) (among-own list i v q)))
+      (λ n t. getD-set-other xs (at list i) v x 0 n ∙ R v ∙ sym (ap (λ b. cond b (new v) (at old v)) (among-other list i v n)))

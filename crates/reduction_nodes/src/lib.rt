@@ -3,23 +3,24 @@
 // anew. Rules 1 and 2 are asked at every step, the later ones only where both are silent, so each group has its own functions.
 ghost use mathlib.Core.Path.{_≡_};
 ghost use mathlib.Core.Bool.{_&&_, _||_, cond};
-ghost use Prim.Native.Nat.{_<_};
+ghost use Prim.Native.Nat.{_≤_, _<_};
 ghost use lib.ListN.{length};
 ghost use lib.Dec.{leb, ltb};
 ghost use Rattle.lists.specs.Search.{low};
 ghost use Rattle.model.specs.Limits.{nodeLimit, emptyRank};
 ghost use Rattle.arrays.specs.ArrayInstance.{at, flag};
 ghost use Rattle.arrays.specs.Passes.{Low};
-ghost use Rattle.edge_links.specs.Linked.{Linked};
+ghost use Rattle.reduction_links.specs.Listed.{Listed};
 ghost use Rattle.reduction_links.specs.Walks.{atNode};
 ghost use Rattle.reduction_cells.specs.Cells.{Celled, barOf, bestOf, worstOf};
-ghost use Rattle.reduction_cells.specs.Painted.{differ};
-ghost use Rattle.reduction_nodes.specs.Renewed.{Renewed};
+ghost use Rattle.reduction_cells.specs.Painted.{differ, among};
+ghost use Rattle.reduction_nodes.specs.Renewed.{RenewedBy};
 ghost use Rattle.reduction_nodes.specs.Numbers.{firstOf, secondsOf, surveyorOf, standOf, surveyorsOf, standsOf};
 ghost use Rattle.reduction_nodes.specs.Numbers.{Surveyed, Stood, SizedS, SizedT, surveyorNumbers, standNumbers};
 use limits::EMPTY_RANK;
 use limits::ENTRY_LIMIT;
 use reduction_cells::CELLS;
+use reduction_links::PLACES;
 
 // Of one node, by rule.
 pub struct Surveyor {
@@ -40,7 +41,7 @@ pub fn second(
     end: &[u8; ENTRY_LIMIT],
     rank: &[u8; ENTRY_LIMIT],
     tied: &[bool; ENTRY_LIMIT],
-    next: &[u16; ENTRY_LIMIT],
+    list: &[u16; PLACES],
     first: &[u16; 32],
     cell: &[u16; CELLS],
     v: usize,
@@ -48,7 +49,7 @@ pub fn second(
     f: &[bool; ENTRY_LIMIT],
     q: u16,
 ) -> u16
-    requires { ⌜ (v < nodeLimit) × Linked m (now end) (now first) (now next) × Celled m (now end) (now rank) (now tied) (now cell)
+    requires { ⌜ (v < nodeLimit) × Listed m (now end) (now first) (now list) × Celled m (now end) (now rank) (now tied) (now cell)
         × Low m (now rank) emptyRank ⌝ }
     ensures { λ r. ⌜ r ≡ low (atNode (now (end .entry)) v
         (λ d. flag (now (rem .entry)) d && leb (barOf m (now (cell .entry)) (flag (now (f .entry))) v q) (at (now (rank .entry)) d))) m ⌝ }
@@ -57,14 +58,14 @@ pub fn second(
     if bar >= 33 {
         return m as u16;
     }
-    reduction_links::behind(m, end, next, first, v, rem, rank, bar) as u16
+    reduction_links::behind(m, end, list, first, v, rem, rank, bar) as u16
 }
 
 // Rule 3: the first arrow in, where there are no more arrows than the quota, n in all.
 pub fn third(
     m: usize,
     end: &[u8; ENTRY_LIMIT],
-    next: &[u16; ENTRY_LIMIT],
+    list: &[u16; PLACES],
     first: &[u16; 32],
     v: usize,
     rem: &[bool; ENTRY_LIMIT],
@@ -72,11 +73,11 @@ pub fn third(
     n: u16,
     q: u16,
 ) -> u16
-    requires { ⌜ (v < nodeLimit) × Linked m (now end) (now first) (now next) ⌝ }
+    requires { ⌜ (v < nodeLimit) × Listed m (now end) (now first) (now list) ⌝ }
     ensures { λ r. ⌜ r ≡ cond (leb n q) (low (atNode (now (end .entry)) v (λ d. flag (now (rem .entry)) d && flag (now (f .entry)) d)) m) m ⌝ }
 {
     if n <= q {
-        return reduction_links::both(m, end, next, first, v, rem, f) as u16;
+        return reduction_links::both(m, end, list, first, v, rem, f) as u16;
     }
     m as u16
 }
@@ -133,7 +134,7 @@ pub fn surveyor_now(
     st: &[u8; ENTRY_LIMIT],
     rank: &[u8; ENTRY_LIMIT],
     tied: &[bool; ENTRY_LIMIT],
-    next: &[u16; ENTRY_LIMIT],
+    list: &[u16; PLACES],
     first: &[u16; 32],
     cell: &[u16; CELLS],
     rem: &[bool; ENTRY_LIMIT],
@@ -143,14 +144,14 @@ pub fn surveyor_now(
     q: u16,
     v: usize,
 ) -> Surveyor
-    requires { ⌜ (v < nodeLimit) × Linked m (now sv) (now first) (now next) × Celled m (now sv) (now rank) (now tied) (now cell)
+    requires { ⌜ (v < nodeLimit) × Listed m (now sv) (now first) (now list) × Celled m (now sv) (now rank) (now tied) (now cell)
         × Low m (now st) nodeLimit ⌝ }
     ensures { λ r. ⌜ r ≡ surveyorOf m (now (sv .entry)) (now (st .entry)) (now (cell .entry)) (now (rem .entry)) (now (fs .entry))
         (now (ft .entry)) (now (lo .entry)) q v ⌝ }
 {
-    let n = reduction_links::size(m, sv, next, first, v, st, rem, lo, ft);
+    let n = reduction_links::size(m, sv, list, first, v, st, rem, lo, ft);
     let rule4 = fourth(m, sv, rank, tied, cell, v, st, rem, lo, ft, n, q);
-    let rule5 = reduction_links::idle(m, sv, next, first, v, st, rem, lo, fs, ft) as u16;
+    let rule5 = reduction_links::idle(m, sv, list, first, v, st, rem, lo, fs, ft) as u16;
     let rule6 = short(m, sv, rank, tied, cell, v, rem, n, q);
     Surveyor {
         rule4: rule4,
@@ -164,7 +165,7 @@ pub fn stand_now(
     st: &[u8; ENTRY_LIMIT],
     rank: &[u8; ENTRY_LIMIT],
     tied: &[bool; ENTRY_LIMIT],
-    next: &[u16; ENTRY_LIMIT],
+    list: &[u16; PLACES],
     first: &[u16; 32],
     cell: &[u16; CELLS],
     rem: &[bool; ENTRY_LIMIT],
@@ -173,13 +174,13 @@ pub fn stand_now(
     q: u16,
     v: usize,
 ) -> Stand
-    requires { ⌜ (v < nodeLimit) × Linked m (now st) (now first) (now next) × Celled m (now st) (now rank) (now tied) (now cell) ⌝ }
+    requires { ⌜ (v < nodeLimit) × Listed m (now st) (now first) (now list) × Celled m (now st) (now rank) (now tied) (now cell) ⌝ }
     ensures { λ r. ⌜ r ≡ standOf m (now (st .entry)) (now (cell .entry)) (now (rem .entry)) (now (fs .entry)) (now (ft .entry)) q v ⌝ }
 {
-    let n = reduction_links::tallies(m, st, next, first, v, fs, ft);
+    let n = reduction_links::tallies(m, st, list, first, v, fs, ft);
     let got = n.p;
     let sent = n.q;
-    let rule3 = third(m, st, next, first, v, rem, fs, got + sent, q);
+    let rule3 = third(m, st, list, first, v, rem, fs, got + sent, q);
     let rule7 = short(m, st, rank, tied, cell, v, rem, got, q);
     Stand {
         rule3: rule3,
@@ -188,59 +189,57 @@ pub fn stand_now(
     }
 }
 
-// Rule 1 at the surveyors in `saw`, anew.
+// Rule 1 at the surveyors of a list, its first n, anew.
 pub fn first_renewed(
     m: usize,
     sv: &[u8; ENTRY_LIMIT],
-    next: &[u16; ENTRY_LIMIT],
+    list: &[u16; PLACES],
     first: &[u16; 32],
     fs: &[bool; ENTRY_LIMIT],
     ft: &[bool; ENTRY_LIMIT],
-    saw: &[bool; 32],
+    turned: &[u8; EMPTY_RANK],
+    n: usize,
     x: &mut [u16; 32],
 )
-    requires { ⌜ Linked m (now sv) (now first) (now next) × (length (now x) ≡ nodeLimit) ⌝ }
-    ensures { λ r. ⌜ (length (now (x .exit)) ≡ nodeLimit) × Renewed 0 (now (saw .entry))
-        (firstOf m (now (sv .entry)) (now (fs .entry)) (now (ft .entry))) (now (x .entry)) nodeLimit (now (x .exit)) ⌝ }
+    requires { ⌜ Listed m (now sv) (now first) (now list) × (length (now x) ≡ nodeLimit) × (n ≤ emptyRank) × Low n (now turned) nodeLimit ⌝ }
+    ensures { λ r. ⌜ (length (now (x .exit)) ≡ nodeLimit) × RenewedBy (among (now (turned .entry)) n)
+        (firstOf m (now (sv .entry)) (now (fs .entry)) (now (ft .entry))) (now (x .entry)) (now (x .exit)) ⌝ }
 {
     let mut i: usize = 0;
-    while i < 32 {
-        let v = i;
+    while i < n {
+        let v = turned[i] as usize;
+        x[v] = reduction_links::both(m, sv, list, first, v, fs, ft) as u16;
         i += 1;
-        if saw[v] {
-            x[v] = reduction_links::both(m, sv, next, first, v, fs, ft) as u16;
-        }
     }
 }
 
-// Rule 2 at the nodes of one side in `saw`, anew.
+// Rule 2 at the nodes of a list, all of one side, anew.
 pub fn second_renewed(
     m: usize,
     end: &[u8; ENTRY_LIMIT],
     rank: &[u8; ENTRY_LIMIT],
     tied: &[bool; ENTRY_LIMIT],
-    next: &[u16; ENTRY_LIMIT],
+    list: &[u16; PLACES],
     first: &[u16; 32],
     cell: &[u16; CELLS],
     rem: &[bool; ENTRY_LIMIT],
     f: &[bool; ENTRY_LIMIT],
     q: &[u16; 32],
-    saw: &[bool; 32],
+    turned: &[u8; EMPTY_RANK],
+    n: usize,
     x: &mut [u16; 32],
 )
-    requires { ⌜ Linked m (now end) (now first) (now next) × Celled m (now end) (now rank) (now tied) (now cell) × Low m (now rank) emptyRank
-        × (length (now x) ≡ nodeLimit) ⌝ }
-    ensures { λ r. ⌜ (length (now (x .exit)) ≡ nodeLimit) × Renewed 0 (now (saw .entry))
+    requires { ⌜ Listed m (now end) (now first) (now list) × Celled m (now end) (now rank) (now tied) (now cell) × Low m (now rank) emptyRank
+        × (length (now x) ≡ nodeLimit) × (n ≤ emptyRank) × Low n (now turned) nodeLimit ⌝ }
+    ensures { λ r. ⌜ (length (now (x .exit)) ≡ nodeLimit) × RenewedBy (among (now (turned .entry)) n)
         (secondsOf m (now (end .entry)) (now (rank .entry)) (now (cell .entry)) (now (rem .entry)) (now (f .entry)) (now (q .entry)))
-        (now (x .entry)) nodeLimit (now (x .exit)) ⌝ }
+        (now (x .entry)) (now (x .exit)) ⌝ }
 {
     let mut i: usize = 0;
-    while i < 32 {
-        let v = i;
+    while i < n {
+        let v = turned[i] as usize;
+        x[v] = second(m, end, rank, tied, list, first, cell, v, rem, f, q[v]);
         i += 1;
-        if saw[v] {
-            x[v] = second(m, end, rank, tied, next, first, cell, v, rem, f, q[v]);
-        }
     }
 }
 
@@ -251,7 +250,7 @@ pub fn surveyors_renewed(
     st: &[u8; ENTRY_LIMIT],
     rank: &[u8; ENTRY_LIMIT],
     tied: &[bool; ENTRY_LIMIT],
-    next: &[u16; ENTRY_LIMIT],
+    list: &[u16; PLACES],
     first: &[u16; 32],
     cell: &[u16; CELLS],
     rem: &[bool; ENTRY_LIMIT],
@@ -264,7 +263,7 @@ pub fn surveyors_renewed(
     rule5: &mut [u16; 32],
     rule6: &mut [u16; 32],
 )
-    requires { ⌜ Linked m (now sv) (now first) (now next) × Celled m (now sv) (now rank) (now tied) (now cell) × Low m (now st) nodeLimit ⌝ }
+    requires { ⌜ Listed m (now sv) (now first) (now list) × Celled m (now sv) (now rank) (now tied) (now cell) × Low m (now st) nodeLimit ⌝ }
     requires { ⌜ SizedS (surveyorNumbers (now rule4) (now rule5) (now rule6)) ⌝ }
     ensures { λ r. ⌜ SizedS (surveyorNumbers (now (rule4 .exit)) (now (rule5 .exit)) (now (rule6 .exit))) ⌝ }
     ensures { λ r. ⌜ Surveyed (surveyorsOf m (now (sv .entry)) (now (st .entry)) (now (cell .entry)) (now (rem .entry))
@@ -283,7 +282,7 @@ pub fn surveyors_renewed(
                 st,
                 rank,
                 tied,
-                next,
+                list,
                 first,
                 cell,
                 rem,
@@ -306,7 +305,7 @@ pub fn stands_renewed(
     st: &[u8; ENTRY_LIMIT],
     rank: &[u8; ENTRY_LIMIT],
     tied: &[bool; ENTRY_LIMIT],
-    next: &[u16; ENTRY_LIMIT],
+    list: &[u16; PLACES],
     first: &[u16; 32],
     cell: &[u16; CELLS],
     rem: &[bool; ENTRY_LIMIT],
@@ -318,7 +317,7 @@ pub fn stands_renewed(
     rule7: &mut [u16; 32],
     loose: &mut [bool; 32],
 )
-    requires { ⌜ Linked m (now st) (now first) (now next) × Celled m (now st) (now rank) (now tied) (now cell) ⌝ }
+    requires { ⌜ Listed m (now st) (now first) (now list) × Celled m (now st) (now rank) (now tied) (now cell) ⌝ }
     requires { ⌜ SizedT (standNumbers (now rule3) (now rule7) (now loose)) ⌝ }
     ensures { λ r. ⌜ SizedT (standNumbers (now (rule3 .exit)) (now (rule7 .exit)) (now (loose .exit))) ⌝ }
     ensures { λ r. ⌜ Stood (standsOf m (now (st .entry)) (now (cell .entry)) (now (rem .entry)) (now (fs .entry)) (now (ft .entry))
@@ -330,7 +329,7 @@ pub fn stands_renewed(
         let v = i;
         i += 1;
         if saw[v] {
-            let s = stand_now(m, st, rank, tied, next, first, cell, rem, fs, ft, q[v], v);
+            let s = stand_now(m, st, rank, tied, list, first, cell, rem, fs, ft, q[v], v);
             rule3[v] = s.rule3;
             rule7[v] = s.rule7;
             loose[v] = s.loose;

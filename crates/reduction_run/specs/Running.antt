@@ -1,18 +1,24 @@
 -- Where a run is: the numbers that it carries are those of its arrays, and the arrays show the model's state and its arrows. So it is at the beginning,
 -- and after each step.
-use Prim.Native.Nat.{ℕ, _<_}
-use mathlib.Core.Path.{_≡_, sym, ap, ap₂, _∙_, subst}
-use mathlib.Core.Bool.{Bool, true, false, cond, _&&_}
+use Prim.Native.Nat.{ℕ, suc, _+_, _<_}
+use native.Mathlib.Omega.{arith}
+use native.Mathlib.Decide.{decLt}
+use mathlib.Core.Path.{_≡_, sym, ap, _∙_, subst}
+use mathlib.Core.Logic.{by-cases}
+use mathlib.Core.Bool.{Bool, true, false, cond}
 use mathlib.Core.List.{List}
 use lib.ListN.{length, replicate, getD-replicate}
-use lib.Dec.{T, ltb}
-use borrow.Author.Tests.{lt-ltb}
+use lib.Dec.{T}
+use Rattle.lists.specs.Test.{by-eq}
 use Rattle.model.specs.Limits.{nodeLimit, entryLimit}
 use Rattle.model.specs.Instance.{surveyors, stands}
 use Rattle.model.specs.Reduction.{cutS, cutT}
 use Rattle.arrays.specs.ArrayInstance.{flag}
-use Rattle.reduction_cells.specs.Painted.{AllPainted}
+use Rattle.arrays.specs.Passes.{Low}
+use Rattle.arrays.specs.Filled.{Made}
+use Rattle.reduction_cells.specs.Painted.{AllPainted, among}
 use Rattle.reduction_cells.specs.CellLaws.{all-arrows}
+use Rattle.reduction_nodes.specs.Renewed.{among-own, among-other}
 use Rattle.reduction_nodes.specs.Known.{Edges, Known, instanceOf}
 use Rattle.reduction_nodes.specs.Kept.{Links, Tables, looks, Later, Leads, Lates, SizedL, cellsS, cellsT}
 use Rattle.reduction_state.specs.declared.State as arrays
@@ -34,16 +40,22 @@ pub record Running (A : Edges) (L : Links) (x : arrays.State) (fs ft : List Bool
   pub sizeT : length ft ≡ entryLimit
 
 -- every node is marked old at the beginning
-all-true : (v : ℕ) → v < nodeLimit → flag (replicate nodeLimit true) v ≡ true
-all-true v w = getD-replicate nodeLimit v true false w
-
 pub all-marked : (v : ℕ) → v < nodeLimit → flag (replicate nodeLimit true) v ≡ false → ⊥
-all-marked v w h = subst T (sym (all-true v w) ∙ h) tt
+all-marked v w h = subst T (sym (getD-replicate nodeLimit v true false w) ∙ h) tt
 
--- and read then
-pub all-read : (new old xs : ℕ → ℕ) → ((v : ℕ) → xs v ≡ cond (ltb v nodeLimit && flag (replicate nodeLimit true) v) (new v) (old v))
-    → (v : ℕ) → v < nodeLimit → xs v ≡ new v
-all-read new old xs R v w = R v ∙ ap (λ b. cond b (new v) (old v)) (ap₂ _&&_ (lt-ltb v nodeLimit w) (all-true v w))
+-- and read then: a list of all nodes has each
+all-among : (list : List ℕ) (n v : ℕ) → v < n → Made 0 list (λ u. u) n → among list n v ≡ true
+all-among list (suc n) v h M = ap (λ k. among list k v) (let z : suc n ≡ n + 1 = omega arith in z) ∙ by-eq v n
+    (λ q t. among-own list n v (q ∙ sym (M n (omega arith))))
+    (λ k t. among-other list n v (λ z. k (z ∙ M n (omega arith)))
+    ∙ all-among list n v (by-cases (decLt v n) (λ l. l) (λ l. absurd (k (omega arith)))) (λ u l. M u (omega arith)))
+
+pub all-low : (list : List ℕ) → Made 0 list (λ u. u) nodeLimit → Low nodeLimit list nodeLimit
+all-low list M i h = omega (arith, M i h)
+
+pub all-read : (list : List ℕ) → Made 0 list (λ u. u) nodeLimit → (new old xs : ℕ → ℕ)
+    → ((v : ℕ) → xs v ≡ cond (among list nodeLimit v) (new v) (old v)) → (v : ℕ) → v < nodeLimit → xs v ≡ new v
+all-read list M new old xs R v w = R v ∙ ap (λ b. cond b (new v) (old v)) (all-among list nodeLimit v w M)
 
 -- ---- the beginning
 abbrev pub stateOf : Start → arrays.State

@@ -6,12 +6,15 @@ ghost use Prim.Native.Nat.{_≤_, _<_};
 ghost use lib.ListN.{length};
 ghost use Rattle.model.specs.Limits.{nodeLimit, entryLimit, emptyRank};
 ghost use Rattle.arrays.specs.Passes.{Low};
+ghost use Rattle.arrays.specs.Filled.{Made};
 ghost use Rattle.reduction_nodes.specs.Known.{Known, instanceOf};
 ghost use Rattle.reduction_nodes.specs.Kept.{Tables, Leads, edges, links, looks};
 ghost use Rattle.reduction_state.specs.Outcome.{Reduced, ReducedFrom};
 ghost use Rattle.reduction_run.specs.Running.{Begun};
+use limits::EMPTY_RANK;
 use limits::ENTRY_LIMIT;
 use reduction_cells::CELLS;
+use reduction_links::PLACES;
 use reduction_state::Trace;
 
 // What a run leaves: what remains, what is fixed, and its trace.
@@ -41,9 +44,9 @@ pub(crate) fn begun(
     rt: &[u8; ENTRY_LIMIT],
     strict: &[bool; ENTRY_LIMIT],
     tied: &[bool; ENTRY_LIMIT],
-    ns: &[u16; ENTRY_LIMIT],
+    ls: &[u16; PLACES],
     hs: &[u16; 32],
-    nt: &[u16; ENTRY_LIMIT],
+    lt: &[u16; PLACES],
     ht: &[u16; 32],
     cs: &[u16; CELLS],
     ct: &[u16; CELLS],
@@ -51,7 +54,7 @@ pub(crate) fn begun(
     qt: &[u8; 32],
 ) -> Start
     requires { ⌜ Tables (edges m (now sv) (now st) (now rs) (now rt) (now tied)) (now strict)
-        (links (now ns) (now hs) (now nt) (now ht) (now cs) (now ct)) ⌝ }
+        (links (now ls) (now hs) (now lt) (now ht) (now cs) (now ct)) ⌝ }
     ensures { λ r. ⌜ Begun (edges m (now (sv .entry)) (now (st .entry)) (now (rs .entry)) (now (rt .entry)) (now (tied .entry)))
         (now (qs .entry)) (now (qt .entry)) r ⌝ }
 {
@@ -76,6 +79,19 @@ pub(crate) fn begun(
     }
 }
 
+// A list of all nodes of a side.
+pub(crate) fn everyone() -> [u8; EMPTY_RANK]
+    ensures { λ r. ⌜ Made 0 r (λ v. v) nodeLimit ⌝ }
+{
+    let mut o = [0u8; EMPTY_RANK];
+    let mut i = 0;
+    while i < 32 {
+        o[i] = i as u8;
+        i += 1;
+    }
+    o
+}
+
 // The numbers of rules 1 and 2 at all nodes.
 pub(crate) fn numbered(
     m: usize,
@@ -85,9 +101,9 @@ pub(crate) fn numbered(
     rt: &[u8; ENTRY_LIMIT],
     strict: &[bool; ENTRY_LIMIT],
     tied: &[bool; ENTRY_LIMIT],
-    ns: &[u16; ENTRY_LIMIT],
+    ls: &[u16; PLACES],
     hs: &[u16; 32],
-    nt: &[u16; ENTRY_LIMIT],
+    lt: &[u16; PLACES],
     ht: &[u16; 32],
     cs: &[u16; CELLS],
     ct: &[u16; CELLS],
@@ -101,18 +117,18 @@ pub(crate) fn numbered(
     twot: &mut [u16; 32],
 )
     requires { ⌜ Tables (edges m (now sv) (now st) (now rs) (now rt) (now tied)) (now strict)
-        (links (now ns) (now hs) (now nt) (now ht) (now cs) (now ct)) ⌝ }
+        (links (now ls) (now hs) (now lt) (now ht) (now cs) (now ct)) ⌝ }
     requires { ⌜ (length (now one) ≡ nodeLimit) × (length (now twos) ≡ nodeLimit) × (length (now twot) ≡ nodeLimit) ⌝ }
     ensures { λ r. ⌜ (length (now (one .exit)) ≡ nodeLimit) × (length (now (twos .exit)) ≡ nodeLimit) × (length (now (twot .exit)) ≡ nodeLimit) ⌝ }
     ensures { λ r. ⌜ Leads (edges m (now (sv .entry)) (now (st .entry)) (now (rs .entry)) (now (rt .entry)) (now (tied .entry)))
-        (links (now (ns .entry)) (now (hs .entry)) (now (nt .entry)) (now (ht .entry)) (now (cs .entry)) (now (ct .entry)))
+        (links (now (ls .entry)) (now (hs .entry)) (now (lt .entry)) (now (ht .entry)) (now (cs .entry)) (now (ct .entry)))
         (looks (now (rem .entry)) (now (fs .entry)) (now (ft .entry)) (now (qs .entry)) (now (qt .entry)))
         (now (one .exit)) (now (twos .exit)) (now (twot .exit)) ⌝ }
 {
-    let all = [true; 32];
-    reduction_nodes::first_renewed(m, sv, ns, hs, fs, ft, &all, one);
-    reduction_nodes::second_renewed(m, sv, rs, strict, ns, hs, cs, rem, ft, qs, &all, twos);
-    reduction_nodes::second_renewed(m, st, rt, tied, nt, ht, ct, rem, fs, qt, &all, twot);
+    let all = everyone();
+    reduction_nodes::first_renewed(m, sv, ls, hs, fs, ft, &all, 32, one);
+    reduction_nodes::second_renewed(m, sv, rs, strict, ls, hs, cs, rem, ft, qs, &all, 32, twos);
+    reduction_nodes::second_renewed(m, st, rt, tied, lt, ht, ct, rem, fs, qt, &all, 32, twot);
 }
 
 // All steps, with the tables of the edges. At the beginning what the later rules name is old at every node.
@@ -124,9 +140,9 @@ pub(crate) fn run(
     rt: &[u8; ENTRY_LIMIT],
     strict: &[bool; ENTRY_LIMIT],
     tied: &[bool; ENTRY_LIMIT],
-    ns: &[u16; ENTRY_LIMIT],
+    ls: &[u16; PLACES],
     hs: &[u16; 32],
-    nt: &[u16; ENTRY_LIMIT],
+    lt: &[u16; PLACES],
     ht: &[u16; 32],
     cs: &[u16; CELLS],
     ct: &[u16; CELLS],
@@ -134,7 +150,7 @@ pub(crate) fn run(
     qt: &[u8; 32],
 ) -> Reduction
     requires { ⌜ Tables (edges m (now sv) (now st) (now rs) (now rt) (now tied)) (now strict)
-        (links (now ns) (now hs) (now nt) (now ht) (now cs) (now ct)) ⌝ }
+        (links (now ls) (now hs) (now lt) (now ht) (now cs) (now ct)) ⌝ }
     ensures { λ r. ⌜ ((K : Known (edges m (now (sv .entry)) (now (st .entry)) (now (rs .entry)) (now (rt .entry)) (now (tied .entry)))
         (now (qs .entry)) (now (qt .entry))) → Reduced (instanceOf K) (r .rem) (r .fixed) (r .trace)) ⌝ }
 {
@@ -148,9 +164,9 @@ pub(crate) fn run(
         rt,
         strict,
         tied,
-        ns,
+        ls,
         hs,
-        nt,
+        lt,
         ht,
         cs,
         ct,
@@ -176,9 +192,9 @@ pub(crate) fn run(
         rt,
         strict,
         tied,
-        ns,
+        ls,
         hs,
-        nt,
+        lt,
         ht,
         cs,
         ct,
@@ -209,9 +225,9 @@ pub(crate) fn run(
             rt,
             strict,
             tied,
-            ns,
+            ls,
             hs,
-            nt,
+            lt,
             ht,
             cs,
             ct,
@@ -247,9 +263,9 @@ pub(crate) fn run(
             rt,
             strict,
             tied,
-            ns,
+            ls,
             hs,
-            nt,
+            lt,
             ht,
             cs,
             ct,
@@ -298,10 +314,10 @@ pub fn reduce(
         (now (qt .entry)) (r .rem) (r .fixed) (r .trace) ⌝ }
 {
     let strict = [false; ENTRY_LIMIT];
-    let mut ns = [0u16; ENTRY_LIMIT];
-    let hs = edge_links::links(m, &sv[..], &mut ns[..]);
-    let mut nt = [0u16; ENTRY_LIMIT];
-    let ht = edge_links::links(m, &st[..], &mut nt[..]);
+    let mut ls = [0u16; PLACES];
+    let hs = reduction_links::lists(m, sv, &mut ls);
+    let mut lt = [0u16; PLACES];
+    let ht = reduction_links::lists(m, st, &mut lt);
     let cs = reduction_cells::cells(m, sv, rs, &strict);
     let ct = reduction_cells::cells(m, st, rt, tied);
     run(
@@ -312,9 +328,9 @@ pub fn reduce(
         rt,
         &strict,
         tied,
-        &ns,
+        &ls,
         &hs,
-        &nt,
+        &lt,
         &ht,
         &cs,
         &ct,

@@ -10,6 +10,7 @@ ghost use Rattle.reduction_step.specs.Least.{Least};
 ghost use Rattle.reduction_step.specs.RuleChosen.{Later37, Steps};
 use limits::ENTRY_LIMIT;
 use reduction_cells::CELLS;
+use reduction_links::PLACES;
 
 // A rule and an edge, 8 and m if no rule names one.
 pub struct Named {
@@ -58,9 +59,9 @@ pub fn renewed(
     rt: &[u8; ENTRY_LIMIT],
     strict: &[bool; ENTRY_LIMIT],
     tied: &[bool; ENTRY_LIMIT],
-    ns: &[u16; ENTRY_LIMIT],
+    ls: &[u16; PLACES],
     hs: &[u16; 32],
-    nt: &[u16; ENTRY_LIMIT],
+    lt: &[u16; PLACES],
     ht: &[u16; 32],
     cs: &[u16; CELLS],
     ct: &[u16; CELLS],
@@ -79,16 +80,16 @@ pub fn renewed(
     oldt: &mut [bool; 32],
 )
     requires { ⌜ Tables (edges m (now sv) (now st) (now rs) (now rt) (now tied)) (now strict)
-        (links (now ns) (now hs) (now nt) (now ht) (now cs) (now ct)) ⌝ }
+        (links (now ls) (now hs) (now lt) (now ht) (now cs) (now ct)) ⌝ }
     requires { ⌜ Lates (edges m (now sv) (now st) (now rs) (now rt) (now tied))
-        (links (now ns) (now hs) (now nt) (now ht) (now cs) (now ct))
+        (links (now ls) (now hs) (now lt) (now ht) (now cs) (now ct))
         (looks (now rem) (now fs) (now ft) (now qs) (now qt))
         (later (now rule3) (now rule4) (now rule5) (now rule6) (now rule7) (now loose) (now olds) (now oldt)) ⌝ }
     requires { ⌜ SizedL (later (now rule3) (now rule4) (now rule5) (now rule6) (now rule7) (now loose) (now olds) (now oldt)) ⌝ }
     ensures { λ r. ⌜ SizedL (later (now (rule3 .exit)) (now (rule4 .exit)) (now (rule5 .exit)) (now (rule6 .exit)) (now (rule7 .exit))
         (now (loose .exit)) (now (olds .exit)) (now (oldt .exit))) ⌝ }
     ensures { λ r. ⌜ Fresh (edges m (now (sv .entry)) (now (st .entry)) (now (rs .entry)) (now (rt .entry)) (now (tied .entry)))
-        (links (now (ns .entry)) (now (hs .entry)) (now (nt .entry)) (now (ht .entry)) (now (cs .entry)) (now (ct .entry)))
+        (links (now (ls .entry)) (now (hs .entry)) (now (lt .entry)) (now (ht .entry)) (now (cs .entry)) (now (ct .entry)))
         (looks (now (rem .entry)) (now (fs .entry)) (now (ft .entry)) (now (qs .entry)) (now (qt .entry)))
         (later (now (rule3 .exit)) (now (rule4 .exit)) (now (rule5 .exit)) (now (rule6 .exit)) (now (rule7 .exit)) (now (loose .exit)) (now (olds .exit))
         (now (oldt .exit))) ⌝ }
@@ -99,7 +100,7 @@ pub fn renewed(
         st,
         rt,
         tied,
-        nt,
+        lt,
         ht,
         ct,
         rem,
@@ -120,7 +121,7 @@ pub fn renewed(
         st,
         rs,
         strict,
-        ns,
+        ls,
         hs,
         cs,
         rem,
@@ -182,9 +183,9 @@ pub fn step(
     rt: &[u8; ENTRY_LIMIT],
     strict: &[bool; ENTRY_LIMIT],
     tied: &[bool; ENTRY_LIMIT],
-    ns: &[u16; ENTRY_LIMIT],
+    ls: &[u16; PLACES],
     hs: &[u16; 32],
-    nt: &[u16; ENTRY_LIMIT],
+    lt: &[u16; PLACES],
     ht: &[u16; 32],
     cs: &[u16; CELLS],
     ct: &[u16; CELLS],
@@ -206,19 +207,19 @@ pub fn step(
     oldt: &mut [bool; 32],
 ) -> Named
     requires { ⌜ Tables (edges m (now sv) (now st) (now rs) (now rt) (now tied)) (now strict)
-        (links (now ns) (now hs) (now nt) (now ht) (now cs) (now ct)) ⌝ }
+        (links (now ls) (now hs) (now lt) (now ht) (now cs) (now ct)) ⌝ }
     requires { ⌜ Leads (edges m (now sv) (now st) (now rs) (now rt) (now tied))
-        (links (now ns) (now hs) (now nt) (now ht) (now cs) (now ct))
+        (links (now ls) (now hs) (now lt) (now ht) (now cs) (now ct))
         (looks (now rem) (now fs) (now ft) (now qs) (now qt)) (now one) (now twos) (now twot) ⌝ }
     requires { ⌜ Lates (edges m (now sv) (now st) (now rs) (now rt) (now tied))
-        (links (now ns) (now hs) (now nt) (now ht) (now cs) (now ct))
+        (links (now ls) (now hs) (now lt) (now ht) (now cs) (now ct))
         (looks (now rem) (now fs) (now ft) (now qs) (now qt))
         (later (now rule3) (now rule4) (now rule5) (now rule6) (now rule7) (now loose) (now olds) (now oldt)) ⌝ }
     requires { ⌜ SizedL (later (now rule3) (now rule4) (now rule5) (now rule6) (now rule7) (now loose) (now olds) (now oldt)) ⌝ }
     ensures { λ r. ⌜ SizedL (later (now (rule3 .exit)) (now (rule4 .exit)) (now (rule5 .exit)) (now (rule6 .exit)) (now (rule7 .exit))
         (now (loose .exit)) (now (olds .exit)) (now (oldt .exit))) ⌝ }
     ensures { λ r. ⌜ Lates (edges m (now (sv .entry)) (now (st .entry)) (now (rs .entry)) (now (rt .entry)) (now (tied .entry)))
-        (links (now (ns .entry)) (now (hs .entry)) (now (nt .entry)) (now (ht .entry)) (now (cs .entry)) (now (ct .entry)))
+        (links (now (ls .entry)) (now (hs .entry)) (now (lt .entry)) (now (ht .entry)) (now (cs .entry)) (now (ct .entry)))
         (looks (now (rem .entry)) (now (fs .entry)) (now (ft .entry)) (now (qs .entry)) (now (qt .entry)))
         (later (now (rule3 .exit)) (now (rule4 .exit)) (now (rule5 .exit)) (now (rule6 .exit)) (now (rule7 .exit)) (now (loose .exit)) (now (olds .exit))
         (now (oldt .exit))) ⌝ }
@@ -241,9 +242,9 @@ pub fn step(
         rt,
         strict,
         tied,
-        ns,
+        ls,
         hs,
-        nt,
+        lt,
         ht,
         cs,
         ct,

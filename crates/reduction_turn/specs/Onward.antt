@@ -2,26 +2,25 @@
 -- of the arrays alone.
 use Prim.Native.Nat.{ℕ, _+_, _<_}
 use native.Mathlib.Omega.{arith}
-use mathlib.Core.Path.{_≡_, refl, sym, ap, ap₂, _∙_, subst}
-use mathlib.Core.Logic.{_≢_}
+use mathlib.Core.Path.{_≡_, refl, sym, ap, _∙_, subst}
+use mathlib.Core.Logic.{_≢_, _⊎_, inl, inr, ⊎-elim, ⊎-map}
 use mathlib.Core.Bool.{Bool, true, false, not, cond, _&&_, _||_, and-true, and-false, or-false}
 use mathlib.Core.List.{List}
 use lib.ListN.{length, set}
 use lib.Seq.{getD-set-same, getD-set-other}
-use lib.Dec.{T, eqb, ltb}
-use borrow.Author.Tests.{lt-ltb, le-ltb}
-use Rattle.lists.specs.Test.{by-eq, given, eqb-yes, eqb-no, nor-l, nor-r, T-false, false-T}
+use lib.Dec.{T, eqb}
+use Rattle.lists.specs.Test.{by-eq, by-bool, given, eqb-yes, eqb-no}
 use Rattle.model.specs.Limits.{nodeLimit, emptyRank}
 use Rattle.arrays.specs.ArrayInstance.{at, flag}
 use Rattle.arrays.specs.Passes.{Low}
 use Rattle.reduction_cells.specs.Cells.{Celled, inCell, same-place, cell-holds}
-use Rattle.reduction_cells.specs.Painted.{Painted}
+use Rattle.reduction_cells.specs.Painted.{Painted, or-parts, among, among-none}
 use Rattle.reduction_cells.specs.Local.{Agree}
 use Rattle.reduction_nodes.specs.Known.{Edges}
-use Rattle.reduction_nodes.specs.Renewed.{Renewed, other}
-use Rattle.reduction_nodes.specs.Numbers.{secondOf, secondsOf, Surveyors, Stands}
+use Rattle.reduction_nodes.specs.Renewed.{RenewedBy, by-all, among-own, among-other, or-true}
+use Rattle.reduction_nodes.specs.Numbers.{firstOf, secondOf, secondsOf, Surveyors, Stands}
 use Rattle.reduction_nodes.specs.Local.{Same, first-local, second-local, stand-local, surveyor-local, second-struck}
-use Rattle.reduction_nodes.specs.Kept.{Links, Tables, Looks, looks, Later, Leads, Lates, firstNow, secondS, secondT, renewed-all}
+use Rattle.reduction_nodes.specs.Kept.{Links, Tables, Looks, looks, Later, Leads, Lates, firstNow, secondS, secondT}
 
 -- ---- e is taken out of what remained
 abbrev pub Gone : (rem₀ rem : List Bool) (e : ℕ) → Type 0
@@ -79,24 +78,71 @@ module _ (A : Edges) (strict : List Bool) (L : Links) (D : Tables A strict L) wh
         (Y .rem) (Y .fs) (Y .ft) (y .loose) (at (X .qs) v) (at (Y .qs) v) s (λ e l j. refl) q));
   }
 
--- ---- a calm turn: e had no arrow, and the quotas stay
--- rule 2's numbers of one side
-seconds-calm : (m : ℕ) (end rank : List ℕ) (tied : List Bool) (cell : List ℕ) → Celled m end rank tied cell → Low m rank emptyRank
-    → (rem₀ rem f : List Bool) (q₀ q : List ℕ) (e : ℕ) (x x′ : List ℕ) → Gone rem₀ rem e → ((v : ℕ) → at q v ≡ at q₀ v)
-    → ((u : ℕ) → at x′ u ≡ cond (eqb u (at end e) && eqb (at x (at end e)) e) (secondsOf m end rank cell rem f q u) (at x u))
-    → ((v : ℕ) → v < nodeLimit → at x v ≡ secondsOf m end rank cell rem₀ f q₀ v) → (v : ℕ) → v < nodeLimit → at x′ v ≡ secondsOf m end rank cell rem f q v
-seconds-calm m end rank tied cell C placed rem₀ rem f q₀ q e x x′ g Q h H v w =
-    let s = at end e in
-    let new = secondsOf m end rank cell rem f q v in
-    h v ∙ by-eq v s
-    (λ i t. by-eq (at x s) e
-    (λ j u. ap (λ b. cond b new (at x v)) (ap₂ _&&_ t u))
-    (λ n u. ap (λ b. cond b new (at x v)) (ap₂ _&&_ t u) ∙ H v w
-    ∙ sym (second-struck m end rank cell rem₀ rem f (at q₀ v) v e (gone-other rem₀ rem e g) (gone-self rem₀ rem e g)
-    (λ (z : secondOf m end rank cell rem₀ f (at q₀ v) v ≡ e). n (ap (at x) (sym i) ∙ H v w ∙ z)))
-    ∙ ap (λ k. secondOf m end rank cell rem f k v) (sym (Q v))))
-    (λ n t. ap (λ b. cond (b && eqb (at x s) e) new (at x v)) t ∙ H v w
-    ∙ sym (second-local m end rank tied cell C placed v w rem₀ f rem f (at q₀ v) (at q v) (gone-apart m end rem₀ rem e g v n) (λ d l j. refl) (Q v)))
+-- ---- rule 2's numbers of one side while a turn goes on: e is gone, and at its end alone the quota may have fallen and the number may still be the one
+-- of before
+module _ (m : ℕ) (end rank : List ℕ) (tied : List Bool) (cell : List ℕ) (C : Celled m end rank tied cell) (placed : Low m rank emptyRank)
+    (rem₀ rem : List Bool) (q₀ q : List ℕ) (e : ℕ) (fit : at end e < nodeLimit) (g : Gone rem₀ rem e) where
+  abbrev new : List Bool → ℕ → ℕ
+  new f = secondsOf m end rank cell rem f q
+
+  abbrev before : List Bool → ℕ → ℕ
+  before f = secondsOf m end rank cell rem₀ f q₀
+
+  record Waiting (f : List Bool) (x : List ℕ) : Type 0 where
+    apart : (v : ℕ) → v < nodeLimit → v ≢ at end e → at x v ≡ new f v
+    own : (at x (at end e) ≡ new f (at end e)) ⊎ (at x (at end e) ≡ before f (at end e))
+
+  waiting-first : (f : List Bool) (x : List ℕ) → ((v : ℕ) → v ≢ at end e → at q v ≡ at q₀ v) → ((v : ℕ) → v < nodeLimit → at x v ≡ before f v) → Waiting f x
+  waiting-first f x Q H = record {
+    apart = λ v w n. H v w
+        ∙ sym (second-local m end rank tied cell C placed v w rem₀ f rem f (at q₀ v) (at q v) (gone-apart m end rem₀ rem e g v n) (λ d l j. refl) (Q v n));
+    own = inr (H (at end e) fit);
+  }
+
+  -- arrows turned, and the nodes that saw it are read anew
+  waiting-seen : (f f′ : List Bool) (x x′ : List ℕ) (seen : ℕ → Bool) → ((v : ℕ) → seen v ≡ false → Agree m end v (flag f′) (flag f))
+      → RenewedBy seen (new f′) x x′ → Waiting f x → Waiting f′ x′
+  waiting-seen f f′ x x′ seen A R H = record {
+    apart = λ v w n. by-all seen (new f′) x x′ R v (λ t. H .apart v w n ∙ kept v w t rem q);
+    own = by-bool (seen (at end e))
+        (λ t. inl (R (at end e) ∙ ap (λ b. cond b (new f′ (at end e)) (at x (at end e))) t))
+        (λ t. let same : at x′ (at end e) ≡ at x (at end e) = R (at end e) ∙ ap (λ b. cond b (new f′ (at end e)) (at x (at end e))) t in
+        ⊎-map (λ h. same ∙ h ∙ kept (at end e) fit t rem q) (λ h. same ∙ h ∙ kept (at end e) fit t rem₀ q₀) (H .own));
+  }
+    where
+      kept : (v : ℕ) → v < nodeLimit → seen v ≡ false → (rem : List Bool) (q : List ℕ) → secondsOf m end rank cell rem f q v ≡ secondsOf m end rank cell rem f′ q v
+      kept v w t rem q =
+          sym (second-local m end rank tied cell C placed v w rem f rem f′ (at q v) (at q v) (λ d l j. refl) (A v t) refl)
+
+  -- at the end of e it is read anew if it was e or the quota fell
+  waiting-over : (f : List Bool) (x x′ : List ℕ) (fell : Bool) → (fell ≡ false → at q (at end e) ≡ at q₀ (at end e))
+      → RenewedBy (λ u. eqb u (at end e) && (fell || eqb (at x (at end e)) e)) (new f) x x′ → Waiting f x → (v : ℕ) → v < nodeLimit → at x′ v ≡ new f v
+  waiting-over f x x′ fell Q R H v w = by-all (λ u. eqb u s && (fell || eqb (at x s) e)) (new f) x x′ R v (λ t. by-eq v s
+      (λ i u. ap (at x) i ∙ still (or-parts fell (eqb (at x s) e) (sym (ap (λ b. b && (fell || eqb (at x s) e)) u) ∙ t)) ∙ ap (new f) (sym i))
+      (λ n u. H .apart v w n))
+    where
+      s : ℕ
+      s = at end e
+
+      still : (fell ≡ false) × (eqb (at x s) e ≡ false) → at x s ≡ new f s
+      still (a, b) = ⊎-elim (λ h. h) (λ h. h
+          ∙ sym (second-struck m end rank cell rem₀ rem f (at q₀ s) s e (gone-other rem₀ rem e g) (gone-self rem₀ rem e g)
+          (λ (z : before f s ≡ e). absurd (subst T (sym (eqb-yes (at x s) e (h ∙ z)) ∙ b) tt)))
+          ∙ ap (λ k. secondOf m end rank cell rem f k s) (sym (Q a))) (H .own)
+
+-- ---- the nodes of a list are marked
+abbrev pub Marked : (seen : ℕ → Bool) (old old′ : List Bool) → Type 0
+Marked seen old old′ = (v : ℕ) → flag old′ v ≡ flag old v || seen v
+
+pub marked-none : (list : List ℕ) (old : List Bool) → Marked (among list 0) old old
+marked-none list old v = sym (ap (λ b. flag old v || b) (among-none list v) ∙ or-false (flag old v))
+
+pub marked-next : (list : List ℕ) (old old′ : List Bool) (i : ℕ) → at list i < length old′ → Marked (among list i) old old′
+    → Marked (among list (i + 1)) old (set old′ (at list i) true)
+marked-next list old old′ i l M v = by-eq v (at list i)
+    (λ q t. ap (flag (set old′ (at list i) true)) q ∙ getD-set-same old′ (at list i) true false l
+    ∙ sym (ap (λ b. flag old v || b) (among-own list i v q) ∙ or-true (flag old v)))
+    (λ n t. getD-set-other old′ (at list i) v true false n ∙ M v ∙ sym (ap (λ b. flag old v || b) (among-other list i v n)))
 
 -- one node is marked
 marked-other : (old : List Bool) (u v : ℕ) → length old ≡ nodeLimit → u < nodeLimit → flag (set old u true) v ≡ false → (v ≢ u) × (flag old v ≡ false)
@@ -104,146 +150,136 @@ marked-other old u v n w h = by-eq v u
     (λ i t. absurd (subst T (sym (getD-set-same old u true false (omega arith)) ∙ ap (flag (set old u true)) (sym i) ∙ h) tt))
     (λ ne t. (ne, sym (getD-set-other old u v true false ne) ∙ h))
 
-abbrev pub CalmOn : (A : Edges) (L : Links) (Y : Looks) (e : ℕ) (k k′ : Numbers) → Type 0
-CalmOn A L Y e k k′ = (rem₀ : List Bool) (qs₀ qt₀ : List ℕ) → Gone rem₀ (Y .rem) e → ((v : ℕ) → at (Y .qs) v ≡ at qs₀ v) → ((v : ℕ) → at (Y .qt) v ≡ at qt₀ v)
-    → Onward A L (looks rem₀ (Y .fs) (Y .ft) qs₀ qt₀) k Y k′
+-- ---- the arrows of v are painted if `on`, else they stay
+pub record Arrows (m : ℕ) (other cell : List ℕ) (rem : List Bool) (v q : ℕ) (on : Bool) (f f′ : List Bool) : Type 0 where
+  pub size : length f′ ≡ length f
+  pub anew : on ≡ true → (w : ℕ → Bool) × Painted m other cell rem v q emptyRank f f′ w
+  pub still : on ≡ false → f′ ≡ f
 
--- the numbers then: both ends are marked old
-abbrev pub calmed : (A : Edges) (e : ℕ) (k : Numbers) (twos twot : List ℕ) → Numbers
-calmed A e k twos twot = record {
-  one = k .one;
-  twos = twos;
-  twot = twot;
-  olds = set (k .olds) (at (A .sv) e) true;
-  oldt = set (k .oldt) (at (A .st) e) true;
+-- and the numbers that go on then: of rule 1 at the surveyors in `lead`, of rule 2 at the other side's nodes in `seen`, which are marked old
+pub record Carried (m : ℕ) (sv end other : List ℕ) (v : ℕ) (f f′ : List Bool) (rule1 rule2 : ℕ → ℕ) (one one′ two two′ : List ℕ) (old old′ : List Bool)
+    : Type 0 where
+  pub lead : ℕ → Bool
+  pub seen : ℕ → Bool
+  pub across : (u : ℕ) → seen u ≡ false → Agree m other u (flag f′) (flag f)
+  pub own : (u : ℕ) → u ≢ v → Agree m end u (flag f′) (flag f)
+  pub led : (u : ℕ) → lead u ≡ false → Agree m sv u (flag f′) (flag f)
+  pub first : RenewedBy lead rule1 one one′
+  pub second : RenewedBy seen rule2 two two′
+  pub marked : Marked seen old old′
+
+-- where they stay
+pub carried-still : (m : ℕ) (sv end other : List ℕ) (v : ℕ) (f : List Bool) (rule1 rule2 : ℕ → ℕ) (one two : List ℕ) (old : List Bool)
+    → Carried m sv end other v f f rule1 rule2 one one two two old old
+carried-still m sv end other v f rule1 rule2 one two old = record {
+  lead = λ u. false;
+  seen = λ u. false;
+  across = λ u h d l j. refl;
+  own = λ u n d l j. refl;
+  led = λ u h d l j. refl;
+  first = λ u. refl;
+  second = λ u. refl;
+  marked = λ u. sym (or-false (flag old u));
 }
-
-pub calm-on : (A : Edges) (strict : List Bool) (L : Links) (D : Tables A strict L) (Y : Looks) (e : ℕ) → e < A .m → (k : Numbers) (twos twot : List ℕ)
-    → length (k .olds) ≡ nodeLimit → length (k .oldt) ≡ nodeLimit
-    → ((u : ℕ) → at twos u ≡ cond (eqb u (at (A .sv) e) && eqb (at (k .twos) (at (A .sv) e)) e) (secondS A L Y u) (at (k .twos) u))
-    → ((u : ℕ) → at twot u ≡ cond (eqb u (at (A .st) e) && eqb (at (k .twot) (at (A .st) e)) e) (secondT A L Y u) (at (k .twot) u))
-    → CalmOn A L Y e k (calmed A e k twos twot)
-calm-on A strict L D Y e l k twos twot ns nt hs ht rem₀ qs₀ qt₀ g QS QT = record {
-  leads = λ H. record {
-    first = H .first;
-    atS = seconds-calm (A .m) (A .sv) (A .rs) strict (L .cellS) (D .celledS) (D .placedS) rem₀ (Y .rem) (Y .ft) qs₀ (Y .qs) e (k .twos) twos g QS hs (H .atS);
-    atT = seconds-calm (A .m) (A .st) (A .rt) (A .tied) (L .cellT) (D .celledT) (D .placedT) rem₀ (Y .rem) (Y .fs) qt₀ (Y .qt) e (k .twot) twot g QT ht
-        (H .atT);
-  };
-  lates = lates-on A strict L D (looks rem₀ (Y .fs) (Y .ft) qs₀ qt₀) Y k (calmed A e k twos twot)
-      (λ v w t. given (marked-other (k .olds) (at (A .sv) e) v ns (D .fitS e l) t) (λ (n, o). (o, same (A .sv) v n, QS v)))
-      (λ v w t. given (marked-other (k .oldt) (at (A .st) e) v nt (D .fitT e l) t) (λ (n, o). (o, same (A .st) v n, QT v)));
-}
-  where
-    same : (end : List ℕ) (v : ℕ) → v ≢ at end e → Same (A .m) end v rem₀ (Y .fs) (Y .ft) (Y .rem) (Y .fs) (Y .ft)
-    same end v n = record { left = gone-apart (A .m) end rem₀ (Y .rem) e g v n; fromS = λ d l j. refl; fromT = λ d l j. refl }
-
--- ---- of the nodes below n those that saw a change are marked
-abbrev pub Marked : (saw old : List Bool) (n : ℕ) (old′ : List Bool) → Type 0
-Marked saw old n old′ = (v : ℕ) → flag old′ v ≡ flag old v || (ltb v n && flag saw v)
-
-pub marked-none : (saw old : List Bool) → Marked saw old 0 old
-marked-none saw old v = sym (ap (λ b. flag old v || (b && flag saw v)) (le-ltb v 0 (omega arith)) ∙ or-false (flag old v))
-
-pub marked-next : (saw old old′ : List Bool) (i : ℕ) → i < length old′ → Marked saw old i old′
-    → Marked saw old (i + 1) (set old′ i (flag old′ i || flag saw i))
-marked-next saw old old′ i l M v = by-eq v i
-    (λ q t. ap (flag (set old′ i (flag old′ i || flag saw i))) q ∙ getD-set-same old′ i (flag old′ i || flag saw i) false l
-    ∙ ap (λ b. b || flag saw i) (M i ∙ ap (λ b. flag old i || (b && flag saw i)) (le-ltb i i (omega arith)) ∙ or-false (flag old i))
-    ∙ sym (ap₂ _||_ (ap (flag old) q) (ap₂ _&&_ (lt-ltb v (i + 1) (omega arith)) (ap (flag saw) q))))
-    (λ n t. getD-set-other old′ i v (flag old′ i || flag saw i) false n ∙ M v ∙ ap (λ b. flag old v || (b && flag saw v)) (other i v n))
-
--- ---- the arrows of s and t painted anew; both saw a change
-pub record Repainted (m : ℕ) (sv st cs ct qs qt : List ℕ) (rem : List Bool) (s t : ℕ) (fs ft fs′ ft′ saws sawt : List Bool) : Type 0 where
-  pub fromS : List Bool
-  pub fromT : List Bool
-  pub atS : Painted m st cs rem s (at qs s) emptyRank fs fromT fs′ sawt
-  pub atT : Painted m sv ct rem t (at qt t) emptyRank ft fromS ft′ saws
-  pub ownS : flag saws s ≡ true
-  pub ownT : flag sawt t ≡ true
-
--- a node that is marked before its arrows are painted is marked then
-pub still-marked : {m : ℕ} {other cell : List ℕ} {rem : List Bool} {v q r : ℕ} {f₀ w₀ f w : List Bool} → Painted m other cell rem v q r f₀ w₀ f w
-    → (u : ℕ) → flag w₀ u ≡ true → flag w u ≡ true
-still-marked {w₀} {w} P u h = go (flag w u) refl
-  where
-    go : (b : Bool) → flag w u ≡ b → b ≡ true
-    go true e = refl
-    go false e = sym (P .saw u e .0) ∙ h
 
 -- at its own side the arrows of other nodes stay
-painted-apart : (m : ℕ) (end rank : List ℕ) (tied : List Bool) (cell : List ℕ) → Celled m end rank tied cell → Low m rank emptyRank → (other : List ℕ)
-    (rem : List Bool) (v q : ℕ) → v < nodeLimit → (f₀ w₀ f w : List Bool) → Painted m other cell rem v q emptyRank f₀ w₀ f w → (u : ℕ) → u ≢ v
+pub painted-apart : (m : ℕ) (end rank : List ℕ) (tied : List Bool) (cell : List ℕ) → Celled m end rank tied cell → Low m rank emptyRank → (other : List ℕ)
+    (rem : List Bool) (v q : ℕ) → v < nodeLimit → (f₀ f : List Bool) (w : ℕ → Bool) → Painted m other cell rem v q emptyRank f₀ f w → (u : ℕ) → u ≢ v
     → Agree m end u (flag f) (flag f₀)
-painted-apart m end rank tied cell C placed other rem v q vl f₀ w₀ f w P u n d l j = P .old d (λ i h (z : inCell cell v i ≡ d).
+painted-apart m end rank tied cell C placed other rem v q vl f₀ f w P u n d l j = P .old d (λ i h (z : inCell cell v i ≡ d).
     let k : inCell cell v i < m = omega arith in
     n (sym j ∙ ap (at end) (sym z)
     ∙ same-place (at end (inCell cell v i)) v (at rank (inCell cell v i)) i (placed (inCell cell v i) k) h (cell-holds m end rank tied cell C v i vl h k .0)
     .0))
 
-pub record AnewOn (A : Edges) (L : Links) (rem : List Bool) (qs qt : List ℕ) (fs ft fs′ ft′ : List Bool) (e : ℕ) (k k′ : Numbers) : Type 0 where
-  pub saws : List Bool
-  pub sawt : List Bool
-  pub painted : Repainted (A .m) (A .sv) (A .st) (L .cellS) (L .cellT) qs qt rem (at (A .sv) e) (at (A .st) e) fs ft fs′ ft′ saws sawt
-  pub onward : (rem₀ : List Bool) (qs₀ qt₀ : List ℕ) → Gone rem₀ rem e → ((v : ℕ) → v ≢ at (A .sv) e → at qs v ≡ at qs₀ v)
-      → ((v : ℕ) → v ≢ at (A .st) e → at qt v ≡ at qt₀ v) → Onward A L (looks rem₀ fs ft qs₀ qt₀) k (looks rem fs′ ft′ qs qt) k′
+-- one number is read anew
+pub one-renewed : (new : ℕ → ℕ) (x : List ℕ) (v y : ℕ) → v < length x → y ≡ new v → RenewedBy (λ u. eqb u v) new x (set x v y)
+one-renewed new x v y l i u = by-eq u v
+    (λ q t. ap (at (set x v y)) q ∙ getD-set-same x v y 0 l ∙ i ∙ ap new (sym q) ∙ sym (ap (λ b. cond b (new u) (at x u)) t))
+    (λ n t. getD-set-other x v u y 0 n ∙ sym (ap (λ b. cond b (new u) (at x u)) t))
 
-module _ (A : Edges) (strict : List Bool) (L : Links) (D : Tables A strict L) (rem : List Bool) (qs qt : List ℕ) (fs ft fs′ ft′ : List Bool) (e : ℕ)
-    (l : e < A .m) (saws sawt : List Bool)
-    (R : Repainted (A .m) (A .sv) (A .st) (L .cellS) (L .cellT) qs qt rem (at (A .sv) e) (at (A .st) e) fs ft fs′ ft′ saws sawt) where
-  -- a node that saw nothing is another one
-  away : (saw : List Bool) (u v : ℕ) → flag saw u ≡ true → flag saw v ≡ false → v ≢ u
-  away saw u v h k z = absurd (subst T (sym h ∙ ap (flag saw) (sym z) ∙ k) tt)
+pub eqb-other : (u v : ℕ) → eqb u v ≡ false → u ≢ v
+eqb-other u v h z = absurd (subst T (sym (eqb-yes u v z) ∙ h) tt)
 
-  module _ (rem₀ : List Bool) (g : Gone rem₀ rem e) where
-    sameS : (v : ℕ) → flag saws v ≡ false → Same (A .m) (A .sv) v rem₀ fs ft rem fs′ ft′
-    sameS v t = let n = away saws (at (A .sv) e) v (R .ownS) t in record {
-      left = gone-apart (A .m) (A .sv) rem₀ rem e g v n;
-      fromS = painted-apart (A .m) (A .sv) (A .rs) strict (L .cellS) (D .celledS) (D .placedS) (A .st) rem (at (A .sv) e) (at qs (at (A .sv) e)) (D .fitS e l)
-          fs (R .fromT) fs′ sawt (R .atS) v n;
-      fromT = R .atT .saw v t .1;
-    }
+-- a test and its opposite
+pub off : (b : Bool) → not b ≡ true → b ≡ false
+off true e = sym e
+off false e = refl
 
-    sameT : (v : ℕ) → flag sawt v ≡ false → Same (A .m) (A .st) v rem₀ fs ft rem fs′ ft′
-    sameT v t = let n = away sawt (at (A .st) e) v (R .ownT) t in record {
-      left = gone-apart (A .m) (A .st) rem₀ rem e g v n;
-      fromS = R .atS .saw v t .1;
-      fromT = painted-apart (A .m) (A .st) (A .rt) (A .tied) (L .cellT) (D .celledT) (D .placedT) (A .sv) rem (at (A .st) e) (at qt (at (A .st) e))
-          (D .fitT e l) ft (R .fromS) ft′ saws (R .atT) v n;
-    }
+pub on : (b : Bool) → not b ≡ false → b ≡ true
+on true e = refl
+on false e = sym e
+
+pub both-ways {ℓ} : {B : Type ℓ} {b : Bool} → b ≡ true → b ≡ false → B
+both-ways t f = absurd (subst T (sym t ∙ f) tt)
+
+-- ---- the whole turn: both ends marked old, the arrows of s and then those of t, and rule 2's numbers at both ends
+module _ (A : Edges) (strict : List Bool) (L : Links) (D : Tables A strict L) (rem₀ rem : List Bool) (qs₀ qs qt₀ qt : List ℕ) (e : ℕ) (el : e < A .m)
+    (g : Gone rem₀ rem e) (QS : (v : ℕ) → v ≢ at (A .sv) e → at qs v ≡ at qs₀ v) (QT : (v : ℕ) → v ≢ at (A .st) e → at qt v ≡ at qt₀ v)
+    (fs ft fs′ ft′ : List Bool) (k : Numbers) (z : SizedN k) where
+  abbrev X : Looks
+  X = looks rem₀ fs ft qs₀ qt₀
 
   abbrev Y : Looks
   Y = looks rem fs′ ft′ qs qt
 
-  -- neither was marked, nor saw it a change
-  neither : (a b c : Bool) → c ≡ a || b → c ≡ false → (a ≡ false) × (b ≡ false)
-  neither a b c i h = let t = false-T (sym i ∙ h) in (T-false (nor-l a b t), T-false (nor-r a b t))
+  abbrev pub CarriedS : (one twot : List ℕ) (oldt : List Bool) → Type 0
+  CarriedS one twot oldt = Carried (A .m) (A .sv) (A .sv) (A .st) (at (A .sv) e) fs fs′ (firstOf (A .m) (A .sv) fs′ ft) (secondT A L Y)
+      (k .one) one (k .twot) twot (set (k .oldt) (at (A .st) e) true) oldt
 
-  below : (v : ℕ) → v < nodeLimit → (a b : Bool) → a || (ltb v nodeLimit && b) ≡ a || b
-  below v w a b = ap (λ x. a || (x && b)) (lt-ltb v nodeLimit w)
+  abbrev pub CarriedT : (one₁ one twos : List ℕ) (olds : List Bool) → Type 0
+  CarriedT one₁ one twos olds = Carried (A .m) (A .sv) (A .st) (A .sv) (at (A .st) e) ft ft′ (firstNow A L Y) (secondS A L Y)
+      one₁ one (k .twos) twos (set (k .olds) (at (A .sv) e) true) olds
 
-  pub anew-on : (k k′ : Numbers) → Renewed 0 saws (firstNow A L Y) (k .one) nodeLimit (k′ .one)
-      → Renewed 0 saws (secondS A L Y) (k .twos) nodeLimit (k′ .twos) → Renewed 0 sawt (secondT A L Y) (k .twot) nodeLimit (k′ .twot)
-      → Marked saws (k .olds) nodeLimit (k′ .olds) → Marked sawt (k .oldt) nodeLimit (k′ .oldt) → AnewOn A L rem qs qt fs ft fs′ ft′ e k k′
-  anew-on k k′ N NS NT MS MT = record {
-    saws = saws;
-    sawt = sawt;
-    painted = R;
-    onward = λ rem₀ qs₀ qt₀ g QS QT. record {
-      leads = λ H. record {
-        first = renewed-all saws (firstNow A L Y) (k .one) (k′ .one) N (λ v w t. H .first v w
-            ∙ sym (first-local (A .m) (A .sv) v fs ft fs′ ft′ (sameS rem₀ g v t .fromS) (sameS rem₀ g v t .fromT)));
-        atS = renewed-all saws (secondS A L Y) (k .twos) (k′ .twos) NS (λ v w t. H .atS v w
-            ∙ sym (second-local (A .m) (A .sv) (A .rs) strict (L .cellS) (D .celledS) (D .placedS) v w rem₀ ft rem ft′ (at qs₀ v) (at qs v)
-            (sameS rem₀ g v t .left) (sameS rem₀ g v t .fromT) (QS v (away saws (at (A .sv) e) v (R .ownS) t))));
-        atT = renewed-all sawt (secondT A L Y) (k .twot) (k′ .twot) NT (λ v w t. H .atT v w
-            ∙ sym (second-local (A .m) (A .st) (A .rt) (A .tied) (L .cellT) (D .celledT) (D .placedT) v w rem₀ fs rem fs′ (at qt₀ v) (at qt v)
-            (sameT rem₀ g v t .left) (sameT rem₀ g v t .fromS) (QT v (away sawt (at (A .st) e) v (R .ownT) t))));
-      };
-      lates = lates-on A strict L D (looks rem₀ fs ft qs₀ qt₀) Y k k′
-          (λ v w t. given (neither (flag (k .olds) v) (flag saws v) (flag (k′ .olds) v) (MS v ∙ below v w (flag (k .olds) v) (flag saws v)) t)
-          (λ (a, b). (a, sameS rem₀ g v b, QS v (away saws (at (A .sv) e) v (R .ownS) b))))
-          (λ v w t. given (neither (flag (k .oldt) v) (flag sawt v) (flag (k′ .oldt) v) (MT v ∙ below v w (flag (k .oldt) v) (flag sawt v)) t)
-          (λ (a, b). (a, sameT rem₀ g v b, QT v (away sawt (at (A .st) e) v (R .ownT) b))));
-    };
-  }
+  module _ (one₁ one twos₁ twos twot₁ twot : List ℕ) (olds oldt : List Bool) (S : CarriedS one₁ twot₁ oldt) (T′ : CarriedT one₁ one twos₁ olds)
+      (fellS fellT : Bool) (FS : fellS ≡ false → at qs (at (A .sv) e) ≡ at qs₀ (at (A .sv) e))
+      (FT : fellT ≡ false → at qt (at (A .st) e) ≡ at qt₀ (at (A .st) e))
+      (RS : RenewedBy (λ u. eqb u (at (A .sv) e) && (fellS || eqb (at twos₁ (at (A .sv) e)) e)) (secondS A L Y) twos₁ twos)
+      (RT : RenewedBy (λ u. eqb u (at (A .st) e) && (fellT || eqb (at twot₁ (at (A .st) e)) e)) (secondT A L Y) twot₁ twot) where
+    first-on : ((v : ℕ) → v < nodeLimit → at (k .one) v ≡ firstNow A L X v) → (v : ℕ) → v < nodeLimit → at one v ≡ firstNow A L Y v
+    first-on H v w = by-all (T′ .lead) (firstNow A L Y) one₁ one (T′ .first) v (λ t.
+        by-all (S .lead) (firstOf (A .m) (A .sv) fs′ ft) (k .one) one₁ (S .first) v
+        (λ u. H v w ∙ sym (first-local (A .m) (A .sv) v fs ft fs′ ft (S .led v u) (λ d l j. refl)))
+        ∙ sym (first-local (A .m) (A .sv) v fs′ ft fs′ ft′ (λ d l j. refl) (T′ .led v t)))
+
+    secondS-on : ((v : ℕ) → v < nodeLimit → at (k .twos) v ≡ secondS A L X v) → (v : ℕ) → v < nodeLimit → at twos v ≡ secondS A L Y v
+    secondS-on H =
+        let fit = D .fitS e el in
+        waiting-over (A .m) (A .sv) (A .rs) strict (L .cellS) (D .celledS) (D .placedS) rem₀ rem qs₀ qs e fit g ft′ twos₁ twos fellS FS RS
+        (waiting-seen (A .m) (A .sv) (A .rs) strict (L .cellS) (D .celledS) (D .placedS) rem₀ rem qs₀ qs e fit g ft ft′ (k .twos) twos₁ (T′ .seen) (T′ .across)
+        (T′ .second)
+        (waiting-first (A .m) (A .sv) (A .rs) strict (L .cellS) (D .celledS) (D .placedS) rem₀ rem qs₀ qs e fit g ft (k .twos) QS H))
+
+    secondT-on : ((v : ℕ) → v < nodeLimit → at (k .twot) v ≡ secondT A L X v) → (v : ℕ) → v < nodeLimit → at twot v ≡ secondT A L Y v
+    secondT-on H =
+        let fit = D .fitT e el in
+        waiting-over (A .m) (A .st) (A .rt) (A .tied) (L .cellT) (D .celledT) (D .placedT) rem₀ rem qt₀ qt e fit g fs′ twot₁ twot fellT FT RT
+        (waiting-seen (A .m) (A .st) (A .rt) (A .tied) (L .cellT) (D .celledT) (D .placedT) rem₀ rem qt₀ qt e fit g fs fs′ (k .twot) twot₁ (S .seen) (S .across)
+        (S .second)
+        (waiting-first (A .m) (A .st) (A .rt) (A .tied) (L .cellT) (D .celledT) (D .placedT) rem₀ rem qt₀ qt e fit g fs (k .twot) QT H))
+
+    pub turn-on : Onward A L X k Y (numbers one twos twot olds oldt)
+    turn-on = record {
+      leads = λ H. record { first = first-on (H .first); atS = secondS-on (H .atS); atT = secondT-on (H .atT) };
+      lates = lates-on A strict L D X Y k (numbers one twos twot olds oldt)
+          (λ v w t. given (or-parts (flag (set (k .olds) (at (A .sv) e) true) v) (T′ .seen v) (sym (T′ .marked v) ∙ t))
+          (λ (a, b). given (marked-other (k .olds) (at (A .sv) e) v (z .olds) (D .fitS e el) a) (λ (n, o). (
+            o,
+            record {
+              left = gone-apart (A .m) (A .sv) rem₀ rem e g v n;
+              fromS = S .own v n;
+              fromT = T′ .across v b;
+            },
+            QS v n,
+          ))))
+          (λ v w t. given (or-parts (flag (set (k .oldt) (at (A .st) e) true) v) (S .seen v) (sym (S .marked v) ∙ t))
+          (λ (a, b). given (marked-other (k .oldt) (at (A .st) e) v (z .oldt) (D .fitT e el) a) (λ (n, o). (
+            o,
+            record {
+              left = gone-apart (A .m) (A .st) rem₀ rem e g v n;
+              fromS = S .across v b;
+              fromT = T′ .own v n;
+            },
+            QT v n,
+          ))));
+    }

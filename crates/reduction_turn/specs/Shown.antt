@@ -6,7 +6,7 @@ use mathlib.Core.Bool.{Bool, false, not, _&&_}
 use mathlib.Core.List.{List}
 use lib.Seq.{getD-set-other}
 use lib.Dec.{eqb}
-use Rattle.lists.specs.Test.{by-eq, false-T}
+use Rattle.lists.specs.Test.{by-eq, by-bool, given, false-T}
 use Rattle.model.specs.Limits.{nodeLimit, emptyRank}
 use Rattle.model.specs.Instance.{Instance, Side, surveyors, stands}
 use Rattle.model.specs.Reduction.{arrow, cutS, cutT, arrowS, arrowT}
@@ -24,7 +24,7 @@ use Rattle.reduction_state.specs.declared.Trace.{Trace}
 use Rattle.reduction_state.specs.Trace.{entered}
 use Rattle.reduction_state.specs.AfterStep.{struck}
 use Rattle.reduction_state.specs.RunState.{acted, Sized, Stands, stateAt, stands-next}
-use Rattle.reduction_turn.specs.Onward.{Gone, gone-other, Repainted}
+use Rattle.reduction_turn.specs.Onward.{Gone, gone-other, Arrows}
 
 -- where a run stands, and the arrows there
 pub record Shown (G : Instance) (x : arrays.State) (fs ft : List Bool) (t : Trace) : Type 0 where
@@ -63,11 +63,11 @@ module _ (sv st : List ℕ) (x : arrays.State) (r e : ℕ) (y : arrays.State) (i
 module _ (K : Side) (law : Ranked K) (cell : List ℕ) (C : Cells K cell) (rem₀ rem : List Bool) (e : ℕ) (g : Gone rem₀ rem e) (k₀ k : ℕ → ℕ) (f₀ : List Bool)
     (F : (d : ℕ) → d < K .m → flag f₀ d ≡ arrow K (flag rem₀) k₀ d) where
   -- painted at the node of e
-  painted-on : K .end e < nodeLimit → (other : List ℕ) (q : ℕ) (w₀ f w : List Bool) → Painted (K .m) other cell rem (K .end e) q emptyRank f₀ w₀ f w
+  painted-on : K .end e < nodeLimit → (other : List ℕ) (q : ℕ) (f : List Bool) (w : ℕ → Bool) → Painted (K .m) other cell rem (K .end e) q emptyRank f₀ f w
       → k (K .end e) ≡ q → ((v : ℕ) → v < nodeLimit → v ≢ K .end e → k v ≡ k₀ v) → (d : ℕ) → d < K .m → flag f d ≡ arrow K (flag rem) k d
-  painted-on wl other q w₀ f w P i h d l = by-eq (K .end d) (K .end e)
-      (λ j t. painted-new K law cell C rem f other (K .end e) q wl f₀ w₀ w P k i d l j (λ s. F d l ∙ arrow-tied K law cell C rem₀ f k₀ d s))
-      (λ n t. painted-other K law cell C rem f other (K .end e) q wl f₀ w₀ w P d l n ∙ F d l
+  painted-on wl other q f w P i h d l = by-eq (K .end d) (K .end e)
+      (λ j t. painted-new K law cell C rem f other (K .end e) q wl f₀ w P k i d l j (λ s. F d l ∙ arrow-tied K law cell C rem₀ f k₀ d s))
+      (λ n t. painted-other K law cell C rem f other (K .end e) q wl f₀ w P d l n ∙ F d l
       ∙ sym (arrow-local K (flag rem₀) (flag rem) k₀ k d l (λ c cl j. gone-other rem₀ rem e g c (λ (z : c ≡ e). n (sym j ∙ ap (K .end) z)))
       (h (K .end d) (C .nodes d l) n)))
 
@@ -97,36 +97,38 @@ module _ (A : Edges) (strict : List Bool) (L : Links) (D : Tables A strict L) (x
     gone : Gone (x .rem) (y .rem) e
     gone = acted-gone (A .sv) (A .st) x r e y i
 
-    calm : flag fs e ≡ false → flag ft e ≡ false → ((v : ℕ) → at (y .qs) v ≡ at (x .qs) v) → ((v : ℕ) → at (y .qt) v ≡ at (x .qt) v)
-        → Shown G y fs ft (entered t e r)
-    calm ns nt QS QT = record {
-      stood = next;
-      fromS = calm-arrows (surveyors G) (K .law .atS) (L .cellS) (cellsS D K) (x .rem) (y .rem) e gone (cutS G (stateAt (S .stood))) (cutS G (stateAt next)) fs
-          (S .fromS) el ns (λ v w. cutS-on v w (QS v));
-      fromT = calm-arrows (stands G) (K .law .atT) (L .cellT) (cellsT D K) (x .rem) (y .rem) e gone (cutT G (stateAt (S .stood))) (cutT G (stateAt next)) ft
-          (S .fromT) el nt (λ v w. cutT-on v w (QT v));
-    }
+    -- at each end painted, or as they were
+    arrows-S : (fs′ : List Bool) (on : Bool)
+        → Arrows (A .m) (A .st) (L .cellS) (y .rem) (at (A .sv) e) (at (y .qs) (at (A .sv) e)) on fs fs′
+        → (on ≡ false → (flag fs e ≡ false) × (at (x .qs) (at (A .sv) e) ≡ at (y .qs) (at (A .sv) e)))
+        → (d : ℕ) → d < A .m → flag fs′ d ≡ arrowS G (stateAt next) d
+    arrows-S fs′ on R c = by-bool on
+        (λ o. given (R .anew o) (λ (w, P). painted-on (surveyors G) (K .law .atS) (L .cellS) (cellsS D K) (x .rem) (y .rem) e gone (cutS G (stateAt (S .stood)))
+        (cutS G (stateAt next)) fs (S .fromS) (D .fitS e el) (A .st) (at (y .qs) (at (A .sv) e)) fs′ w P
+        (sym (next .holds .atS .cut-is (at (A .sv) e) (D .fitS e el))) (λ v w n. cutS-on v w (acted-qs (A .sv) (A .st) x r e y i v n))))
+        (λ o. given (c o) (λ (n, q) d l. ap (λ f. flag f d) (R .still o)
+        ∙ calm-arrows (surveyors G) (K .law .atS) (L .cellS) (cellsS D K) (x .rem) (y .rem) e gone (cutS G (stateAt (S .stood))) (cutS G (stateAt next)) fs
+        (S .fromS) el n (λ v w. cutS-on v w (same-qs (A .sv) (A .st) x r e y i q v)) d l))
 
-    painted : (fs′ ft′ saws sawt : List Bool)
-        → Repainted (A .m) (A .sv) (A .st) (L .cellS) (L .cellT) (y .qs) (y .qt) (y .rem) (at (A .sv) e) (at (A .st) e) fs ft fs′ ft′ saws sawt
-        → Shown G y fs′ ft′ (entered t e r)
-    painted fs′ ft′ saws sawt R = record {
-      stood = next;
-      fromS = painted-on (surveyors G) (K .law .atS) (L .cellS) (cellsS D K) (x .rem) (y .rem) e gone (cutS G (stateAt (S .stood))) (cutS G (stateAt next)) fs
-          (S .fromS) (D .fitS e el) (A .st) (at (y .qs) (at (A .sv) e)) (R .fromT) fs′ sawt (R .atS)
-          (sym (next .holds .atS .cut-is (at (A .sv) e) (D .fitS e el)))
-          (λ v w n. cutS-on v w (acted-qs (A .sv) (A .st) x r e y i v n));
-      fromT = painted-on (stands G) (K .law .atT) (L .cellT) (cellsT D K) (x .rem) (y .rem) e gone (cutT G (stateAt (S .stood))) (cutT G (stateAt next)) ft
-          (S .fromT) (D .fitT e el) (A .sv) (at (y .qt) (at (A .st) e)) (R .fromS) ft′ saws (R .atT)
-          (sym (next .holds .atT .cut-is (at (A .st) e) (D .fitT e el)))
-          (λ v w n. cutT-on v w (acted-qt (A .sv) (A .st) x r e y i v n));
-    }
+    arrows-T : (ft′ : List Bool) (on : Bool)
+        → Arrows (A .m) (A .sv) (L .cellT) (y .rem) (at (A .st) e) (at (y .qt) (at (A .st) e)) on ft ft′
+        → (on ≡ false → (flag ft e ≡ false) × (at (x .qt) (at (A .st) e) ≡ at (y .qt) (at (A .st) e)))
+        → (d : ℕ) → d < A .m → flag ft′ d ≡ arrowT G (stateAt next) d
+    arrows-T ft′ on R c = by-bool on
+        (λ o. given (R .anew o) (λ (w, P). painted-on (stands G) (K .law .atT) (L .cellT) (cellsT D K) (x .rem) (y .rem) e gone (cutT G (stateAt (S .stood)))
+        (cutT G (stateAt next)) ft (S .fromT) (D .fitT e el) (A .sv) (at (y .qt) (at (A .st) e)) ft′ w P
+        (sym (next .holds .atT .cut-is (at (A .st) e) (D .fitT e el))) (λ v w n. cutT-on v w (acted-qt (A .sv) (A .st) x r e y i v n))))
+        (λ o. given (c o) (λ (n, q) d l. ap (λ f. flag f d) (R .still o)
+        ∙ calm-arrows (stands G) (K .law .atT) (L .cellT) (cellsT D K) (x .rem) (y .rem) e gone (cutT G (stateAt (S .stood))) (cutT G (stateAt next)) ft
+        (S .fromT) el n (λ v w. cutT-on v w (same-qt (A .sv) (A .st) x r e y i q v)) d l))
 
-  pub shown-calm : flag fs e ≡ false → flag ft e ≡ false → ((v : ℕ) → at (y .qs) v ≡ at (x .qs) v) → ((v : ℕ) → at (y .qt) v ≡ at (x .qt) v)
-      → ShownOn A x fs ft r e y fs ft
-  shown-calm ns nt QS QT quotaS quotaT K t S ri ei nl = calm K t S ri ei nl ns nt QS QT
-
-  pub shown-painted : (fs′ ft′ saws sawt : List Bool)
-      → Repainted (A .m) (A .sv) (A .st) (L .cellS) (L .cellT) (y .qs) (y .qt) (y .rem) (at (A .sv) e) (at (A .st) e) fs ft fs′ ft′ saws sawt
-      → ShownOn A x fs ft r e y fs′ ft′
-  shown-painted fs′ ft′ saws sawt R quotaS quotaT K t S ri ei nl = painted K t S ri ei nl fs′ ft′ saws sawt R
+  pub shown-on : (fs′ ft′ : List Bool) (onS onT : Bool)
+      → Arrows (A .m) (A .st) (L .cellS) (y .rem) (at (A .sv) e) (at (y .qs) (at (A .sv) e)) onS fs fs′
+      → (onS ≡ false → (flag fs e ≡ false) × (at (x .qs) (at (A .sv) e) ≡ at (y .qs) (at (A .sv) e)))
+      → Arrows (A .m) (A .sv) (L .cellT) (y .rem) (at (A .st) e) (at (y .qt) (at (A .st) e)) onT ft ft′
+      → (onT ≡ false → (flag ft e ≡ false) × (at (x .qt) (at (A .st) e) ≡ at (y .qt) (at (A .st) e))) → ShownOn A x fs ft r e y fs′ ft′
+  shown-on fs′ ft′ onS onT RS cS RT cT quotaS quotaT K t S ri ei nl = record {
+    stood = next K t S ri ei nl;
+    fromS = arrows-S K t S ri ei nl fs′ onS RS cS;
+    fromT = arrows-T K t S ri ei nl ft′ onT RT cT;
+  }

@@ -1,11 +1,12 @@
--- A walk by links: before e nothing passes the test.
+-- A walk along a node's list: before e nothing passes the test.
 use mathlib.Core.Bool.{Bool, not, _&&_}
 use mathlib.Core.List.{List}
 use Rattle.arrays.specs.ArrayInstance.{at, flag}
 use Prim.Native.Nat.{ℕ, _-_}
 use native.Mathlib.Omega.{arith}
 use borrow.Author.Needs.{needs}
-use Rattle.reduction_links.specs.Walks.{Walked, walk-starts, walk-on, walk-hit, walk-ends, first-inside, next-inside, next-later}
+use Rattle.reduction_links.specs.Walks.{Walked, walk-starts, walk-on, walk-hit, walk-ends}
+use Rattle.reduction_links.specs.Walks.{first-room, first-inside, next-room, next-inside, next-later}
 use Rattle.reduction_links.proofs.idle.Statement.{statement}
 use Rattle.reduction_links.proofs.idle.Tie as tie
 
@@ -13,62 +14,112 @@ abbrev test : (other : List ℕ) (rem lo fs ft : List Bool) → ℕ → Bool
 test other rem lo fs ft d = flag rem d && (not (flag lo (at other d)) && (not (flag fs d) && not (flag ft d)))
 
 abbrev Inv-loop : tie.InvT-loop
-Inv-loop m end next first v other rem lo fs ft e₀ e = Walked m end v (test other rem lo fs ft) e
+Inv-loop m end list first v other rem lo fs ft k₀ e₀ k e = Walked m end first v (test other rem lo fs ft) k e
 
 abbrev μ-loop : tie.MeasureT-loop
-μ-loop m end next first v other rem lo fs ft e₀ e = m - e
+μ-loop m end list first v other rem lo fs ft k₀ e₀ k e = m - e
+
+cast-k : tie.Need-cast-k Inv-loop μ-loop
+cast-k c = let p = c .before .pre in omega (arith, first-room (p .1) (c .before .args .v) (p .0))
+
+mul-e : tie.Need-mul-e Inv-loop μ-loop
+mul-e c = let p = c .before .pre in omega (arith, first-room (p .1) (c .before .args .v) (p .0))
+
+element-copy-out-e : tie.Need-element-copy-out-e Inv-loop μ-loop
+element-copy-out-e c = let p = c .before .pre in omega (arith, first-room (p .1) (c .before .args .v) (p .0))
+
+cast-e : tie.Need-cast-e Inv-loop μ-loop
+cast-e c = let p = c .before .before .pre in omega (arith, p .1 .linked .edges, first-inside (p .1) (c .before .before .args .v) (p .0))
 
 loop-holds : tie.Need-loop-holds Inv-loop μ-loop
-loop-holds c =
-    let a = c .before .args in
-    walk-starts (c .before .pre .1) (a .v) (test (a .other .now) (a .rem .now) (a .lo .now) (a .fs .now) (a .ft .now)) (c .before .pre .0)
+loop-holds c = let p = c .before .before .pre in let a = c .before .before .args in walk-starts (p .1) (a .v) (p .0)
+    (test (a .other .now) (a .rem .now) (a .lo .now) (a .fs .now) (a .ft .now))
+
+cast-w : tie.Need-cast-w Inv-loop μ-loop
+cast-w c = let p = c .before .before .before .before .before .pre in omega (arith, p .2 (c .before .before .loop .e) (c .before .loop-test .taken))
+
+element-copy-out-if1-2 : tie.Need-element-copy-out-if1-2 Inv-loop μ-loop
+element-copy-out-if1-2 c = let p = c .before .before .before .before .before .before .pre in omega
+    (arith, p .2 (c .before .before .before .loop .e) (c .before .before .loop-test .taken))
 
 returns : tie.Need-returns Inv-loop μ-loop
 returns c =
-    let b6 = c .before .before .before .before .before .before in
-    let a = b6 .before .before .before .args in
-    let l = b6 .before .loop in
-    walk-hit (b6 .before .before .before .pre .1) (a .v) (test (a .other .now) (a .rem .now) (a .lo .now) (a .fs .now) (a .ft .now)) (l .e)
-    (b6 .loop-test .taken) (l .inv) (c .if1 .taken)
+    let p = c .before .before .before .before .before .before .before .before .before .before .pre in
+    let a = c .before .before .before .before .before .before .before .before .before .before .args in
+    let l = c .before .before .before .before .before .before .before .loop in
+    walk-hit (p .1) (a .v) (p .0) (test (a .other .now) (a .rem .now) (a .lo .now) (a .fs .now) (a .ft .now)) (l .k) (l .e)
+    (c .before .before .before .before .before .before .loop-test .taken) (l .inv) (c .if1 .taken)
 
-cast-e : tie.Need-cast-e Inv-loop μ-loop
-cast-e c =
-    let p = c .before .pre in
-    omega (arith, p .1 .edges, first-inside (p .1) (c .before .args .v) (p .0))
+add-k : tie.Need-add-k Inv-loop μ-loop
+add-k c =
+    let p = c .before .before .before .before .before .before .before .before .before .before .pre in
+    let l = c .before .before .before .before .before .before .before .loop in
+    omega (
+      arith,
+      next-room (p .1) (c .before .before .before .before .before .before .before .before .before .before .args .v) (p .0) (l .k) (l .e)
+          (c .before .before .before .before .before .before .loop-test .taken) (l .inv .at-edge),
+    )
+
+mul-e-2 : tie.Need-mul-e-2 Inv-loop μ-loop
+mul-e-2 c =
+    let p = c .before .before .before .before .before .before .before .before .before .before .pre in
+    let l = c .before .before .before .before .before .before .before .loop in
+    omega (
+      arith,
+      next-room (p .1) (c .before .before .before .before .before .before .before .before .before .before .args .v) (p .0) (l .k) (l .e)
+          (c .before .before .before .before .before .before .loop-test .taken) (l .inv .at-edge),
+    )
+
+element-copy-out-e-2 : tie.Need-element-copy-out-e-2 Inv-loop μ-loop
+element-copy-out-e-2 c =
+    let p = c .before .before .before .before .before .before .before .before .before .before .pre in
+    let l = c .before .before .before .before .before .before .before .loop in
+    omega (
+      arith,
+      next-room (p .1) (c .before .before .before .before .before .before .before .before .before .before .args .v) (p .0) (l .k) (l .e)
+          (c .before .before .before .before .before .before .loop-test .taken) (l .inv .at-edge),
+    )
 
 cast-e-2 : tie.Need-cast-e-2 Inv-loop μ-loop
 cast-e-2 c =
-    let b6 = c .before .before .before .before .before .before in
-    let p = b6 .before .before .before .before .pre in
-    omega (arith, p .1 .edges, next-inside (p .1) (b6 .before .before .before .before .args .v) (b6 .before .before .loop .e) (b6 .before .loop-test .taken))
+    let p = c .before .before .before .before .before .before .before .before .before .before .before .pre in
+    let l = c .before .before .before .before .before .before .before .before .loop in
+    omega (
+      arith,
+      p .1 .linked .edges,
+      next-inside (p .1)
+          (c .before .before .before .before .before .before .before .before .before .before .before .args .v) (p .0) (l .k) (l .e)
+          (c .before .before .before .before .before .before .before .loop-test .taken) (l .inv .at-edge),
+    )
 
 loop-less : tie.Need-loop-less Inv-loop μ-loop
 loop-less c =
-    let b6 = c .before .before .before .before .before .before in
-    let l = b6 .before .before .loop in
-    let t = b6 .before .loop-test .taken in
-    omega (arith, next-later (b6 .before .before .before .before .pre .1) (b6 .before .before .before .before .args .v) (l .e) t (l .inv .here t))
+    let p = c .before .before .before .before .before .before .before .before .before .before .before .pre in
+    let l = c .before .before .before .before .before .before .before .before .loop in
+    omega (
+      arith,
+      next-later (p .1) (c .before .before .before .before .before .before .before .before .before .before .before .args .v) (p .0) (l .k)
+          (l .e) (c .before .before .before .before .before .before .before .loop-test .taken) (l .inv .at-edge),
+    )
 
 loop-again : tie.Need-loop-again Inv-loop μ-loop
 loop-again c =
-    let b6 = c .before .before .before .before .before .before in
-    let a = b6 .before .before .before .before .args in
-    let l = b6 .before .before .loop in
-    walk-on (b6 .before .before .before .before .pre .1) (a .v) (test (a .other .now) (a .rem .now) (a .lo .now) (a .fs .now) (a .ft .now)) (l .e)
-    (b6 .before .loop-test .taken) (l .inv) (c .before .if1 .left)
+    let p = c .before .before .before .before .before .before .before .before .before .before .before .pre in
+    let a = c .before .before .before .before .before .before .before .before .before .before .before .args in
+    let l = c .before .before .before .before .before .before .before .before .loop in
+    walk-on (p .1) (a .v) (p .0) (test (a .other .now) (a .rem .now) (a .lo .now) (a .fs .now) (a .ft .now)) (l .k) (l .e)
+    (c .before .before .before .before .before .before .before .loop-test .taken) (l .inv) (c .before .if1 .left)
 
 returns-2 : tie.Need-returns-2 Inv-loop μ-loop
 returns-2 c =
-    let a = c .before .before .before .args in
+    let p = c .before .before .before .before .pre in
+    let a = c .before .before .before .before .args in
     let l = c .before .loop in
-    walk-ends (c .before .before .before .pre .1) (a .v) (test (a .other .now) (a .rem .now) (a .lo .now) (a .fs .now) (a .ft .now)) (l .e)
-    (c .loop-test .left) (l .inv)
+    walk-ends (p .1) (a .v) (p .0) (test (a .other .now) (a .rem .now) (a .lo .now) (a .fs .now) (a .ft .now)) (l .k) (l .e) (c .loop-test .left)
+    (l .inv)
 
 pub idle-spec : {M : Type 1} → statement M
 idle-spec =
-    tie.close (tie.spec Inv-loop μ-loop (λ c. search needs) (λ c. search needs) cast-e loop-holds (λ c. search needs)
-    (λ c. omega (arith, c .before .before .before .before .pre .2 (c .before .before .loop .e) (c .before .loop-test .taken))) (λ c. search needs)
-    (λ c. omega (arith, c .before .before .before .before .before .pre .2 (c .before .before .before .loop .e) (c .before .before .loop-test .taken)))
-    (λ c. search needs)
-    (λ c. search needs) returns (λ c. search needs)
-    (λ c. search needs) cast-e-2 loop-less loop-again returns-2)
+    tie.close (tie.spec Inv-loop μ-loop (λ c. search needs) (λ c. search needs) cast-k mul-e element-copy-out-e cast-e loop-holds
+    (λ c. search needs) cast-w (λ c. search needs) element-copy-out-if1-2 (λ c. search needs)
+    (λ c. search needs) returns add-k mul-e-2 element-copy-out-e-2 cast-e-2 loop-less loop-again returns-2)

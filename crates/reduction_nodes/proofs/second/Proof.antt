@@ -17,7 +17,7 @@ bar-requires c κs =
 
 cast-result : tie.Need-cast-result
 cast-result c =
-    omega (arith, c .before .before .pre .1 .edges)
+    omega (arith, c .before .before .pre .1 .linked .edges)
 
 returns : tie.Need-returns
 returns c =
@@ -37,7 +37,7 @@ cast-result-2 c =
     let a = c .before .before .before .args in
     omega (
       arith,
-      c .before .before .before .pre .1 .edges,
+      c .before .before .before .pre .1 .linked .edges,
       c .behind .ensures,
       low-is
           (atNode (a .end .now) (a .v) (λ d. flag (a .rem .now) d && leb (c .before .before .bar .result) (at (a .rank .now) d))) (a .m) .0,

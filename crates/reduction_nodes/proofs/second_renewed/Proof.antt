@@ -5,66 +5,108 @@ use native.Mathlib.Omega.{arith}
 use borrow.Author.Needs.{needs}
 use lib.ListN.{length, length-set}
 use Rattle.model.specs.Limits.{nodeLimit}
-use Rattle.reduction_nodes.specs.Renewed.{Renewed, renewed-none, renewed-set, renewed-skip}
+use Rattle.arrays.specs.ArrayInstance.{at}
+use Rattle.reduction_cells.specs.Painted.{among}
 use Rattle.reduction_nodes.specs.Numbers.{secondsOf}
+use Rattle.reduction_nodes.specs.Renewed.{RenewedBy, by-none, by-next}
 use Rattle.reduction_nodes.proofs.second_renewed.Statement.{statement}
 use Rattle.reduction_nodes.proofs.second_renewed.Tie as tie
 
 abbrev Inv-loop : tie.InvT-loop
-Inv-loop m end rank tied next first cell rem f q saw x₀ i₀ x i = (i ≤ nodeLimit) × (length x ≡ nodeLimit) × Renewed 0 saw (secondsOf m end rank cell rem f q)
-    x₀ i x
+Inv-loop m end rank tied list first cell rem f q turned n x₀ i₀ x i = (i ≤ n) × (length x ≡ nodeLimit) × RenewedBy (among turned i)
+    (secondsOf m end rank cell rem f q) x₀ x
 
 abbrev μ-loop : tie.MeasureT-loop
-μ-loop m end rank tied next first cell rem f q saw x₀ i₀ x i = nodeLimit - i
+μ-loop m end rank tied list first cell rem f q turned n x₀ i₀ x i = n - i
 
 loop-holds : tie.Need-loop-holds Inv-loop μ-loop
 loop-holds c =
-    let a = c .args in (
+    let a = c .args in
+    let p = c .pre in (
       zero-le,
-      c .pre .3,
-      renewed-none 0 (a .saw .now) (secondsOf (a .m) (a .end .now) (a .rank .now) (a .cell .now) (a .rem .now) (a .f .now) (a .q .now))
+      p .3,
+      by-none (a .turned .now) (secondsOf (a .m) (a .end .now) (a .rank .now) (a .cell .now) (a .rem .now) (a .f .now) (a .q .now))
           (a .x .now),
     )
 
+element-copy-out-v : tie.Need-element-copy-out-v Inv-loop μ-loop
+element-copy-out-v c =
+    let p = c .before .before .pre in
+    let t = c .loop-test .taken in
+    omega (arith, t, p .4)
+
+cast-v : tie.Need-cast-v Inv-loop μ-loop
+cast-v c =
+    let p = c .before .before .before .pre in
+    let l = c .before .before .loop in
+    let t = c .before .loop-test .taken in
+    omega (arith, t, l .inv .1, p .5 (l .i) t)
+
+mul-second : tie.Need-mul-second Inv-loop μ-loop
+mul-second c =
+    let p = c .before .before .before .pre in
+    let l = c .before .before .loop in
+    let t = c .before .loop-test .taken in
+    omega (arith, t, l .inv .1, p .5 (l .i) t)
+
+element-copy-out-second : tie.Need-element-copy-out-second Inv-loop μ-loop
+element-copy-out-second c =
+    let p = c .before .before .before .pre in
+    let l = c .before .before .loop in
+    let t = c .before .loop-test .taken in
+    omega (arith, t, l .inv .1, p .5 (l .i) t)
+
 second-requires : tie.Need-second-requires Inv-loop μ-loop
 second-requires c κs =
+    let p = c .before .before .before .before .pre in
+    let l = c .before .before .before .loop in
+    let t = c .before .before .loop-test .taken in
+    (p .5 (l .i) t, p .0, p .1, p .2)
+
+mul-x : tie.Need-mul-x Inv-loop μ-loop
+mul-x c =
     let p = c .before .before .before .before .before .pre in
-    (c .before .before .before .loop-test .taken, p .0, p .1, p .2)
+    let l = c .before .before .before .before .loop in
+    let t = c .before .before .before .loop-test .taken in
+    omega (arith, t, l .inv .1, p .5 (l .i) t)
+
+element-write-x : tie.Need-element-write-x Inv-loop μ-loop
+element-write-x c =
+    let p = c .before .before .before .before .before .pre in
+    let l = c .before .before .before .before .loop in
+    let t = c .before .before .before .loop-test .taken in
+    omega (arith, t, l .inv .1, p .5 (l .i) t)
+
+add-i : tie.Need-add-i Inv-loop μ-loop
+add-i c =
+    let p = c .before .before .before .before .before .pre in
+    let t = c .before .before .before .loop-test .taken in
+    omega (arith, t, p .4)
 
 loop-again : tie.Need-loop-again Inv-loop μ-loop
 loop-again c =
-    let a = c .before .before .before .before .before .before .args in
-    let l = c .before .before .before .before .before .loop in
+    let a = c .before .before .before .before .before .args in
+    let p = c .before .before .before .before .before .pre in
+    let l = c .before .before .before .before .loop in
+    let t = c .before .before .before .loop-test .taken in
+    let v = at (a .turned .now) (l .i) in
     let y = c .second in (
-      omega arith,
-      length-set (l .x) (l .i) (y .result) ∙ l .inv .1,
-      renewed-set 0 (a .saw .now) (secondsOf (a .m) (a .end .now) (a .rank .now) (a .cell .now) (a .rem .now) (a .f .now) (a .q .now)) (a .x .now) (l .i) (l .x)
-          (y .result) (omega (arith, l .inv .1)) (c .before .before .if1 .taken) (y .ensures) (l .inv .2),
-    )
-
-loop-again-2 : tie.Need-loop-again-2 Inv-loop μ-loop
-loop-again-2 c =
-    let a = c .before .before .before .before .args in
-    let l = c .before .before .before .loop in (
-      omega arith,
-      l .inv .1,
-      renewed-skip 0 (a .saw .now) (secondsOf (a .m) (a .end .now) (a .rank .now) (a .cell .now) (a .rem .now) (a .f .now) (a .q .now)) (a .x .now) (l .i)
-          (l .x)
-          (c .if1 .left) (l .inv .2),
+      omega (arith, t),
+      length-set (l .x) v (y .result) ∙ l .inv .1,
+      by-next (a .turned .now) (secondsOf (a .m) (a .end .now) (a .rank .now) (a .cell .now) (a .rem .now) (a .f .now) (a .q .now)) (a .x .now) (l .i)
+          (l .x) (y .result) (omega (arith, l .inv .1, p .5 (l .i) t)) (y .ensures) (l .inv .2),
     )
 
 returns : tie.Need-returns Inv-loop μ-loop
 returns c =
     let a = c .before .before .args in
     let l = c .before .loop in
-    let e : l .i ≡ nodeLimit = omega arith in (
+    let e : l .i ≡ a .n = omega (arith, l .inv .0, c .loop-test .left) in (
       l .inv .1,
-      subst (λ k. Renewed 0 (a .saw .now) (secondsOf (a .m) (a .end .now) (a .rank .now) (a .cell .now) (a .rem .now) (a .f .now) (a .q .now))
-          (a .x .now) k (l .x)) e
-          (l .inv .2),
+      subst (λ k. RenewedBy (among (a .turned .now) k)
+          (secondsOf (a .m) (a .end .now) (a .rank .now) (a .cell .now) (a .rem .now) (a .f .now) (a .q .now)) (a .x .now) (l .x)) e (l .inv .2),
     )
 
 pub second-renewed-spec : {M : Type 1} → statement M
 second-renewed-spec =
-    tie.close (tie.spec Inv-loop μ-loop loop-holds (λ c. search needs) (λ c. search needs) (λ c. search needs) (λ c. search needs) second-requires
-    (λ c. search needs) (λ c. search needs) (λ c. search needs) loop-again (λ c. search needs) loop-again-2 returns)
+    tie.close (tie.spec Inv-loop μ-loop loop-holds element-copy-out-v cast-v mul-second element-copy-out-second second-requires mul-x element-write-x add-i (λ c. search needs) loop-again returns)

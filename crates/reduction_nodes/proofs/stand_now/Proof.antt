@@ -16,7 +16,7 @@ add-third c =
     let n = c .tallies .ensures in
     omega (
       arith,
-      c .before .pre .1 .edges,
+      c .before .pre .1 .linked .edges,
       n .0,
       n .1,
       count-≤ (λ d. flag (a .fs .now) d && eqb (at (a .st .now) d) (a .v)) (a .m),

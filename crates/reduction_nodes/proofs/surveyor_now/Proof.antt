@@ -24,7 +24,7 @@ cast-rule5 c =
     let a = c .before .before .before .args in
     let idle = atNode (a .sv .now) (a .v)
     (λ d. flag (a .rem .now) d && (not (flag (a .lo .now) (at (a .st .now) d)) && (not (flag (a .fs .now) d) && not (flag (a .ft .now) d)))) in
-    omega (arith, c .before .before .before .pre .1 .edges, c .idle .ensures, low-is idle (a .m) .0)
+    omega (arith, c .before .before .before .pre .1 .linked .edges, c .idle .ensures, low-is idle (a .m) .0)
 
 short-requires : tie.Need-short-requires
 short-requires c κs =

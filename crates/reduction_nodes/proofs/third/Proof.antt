@@ -18,7 +18,7 @@ cast-result c =
     let a = c .before .before .args in
     omega (
       arith,
-      c .before .before .pre .1 .edges,
+      c .before .before .pre .1 .linked .edges,
       c .both .ensures,
       low-is (atNode (a .end .now) (a .v) (λ d. flag (a .rem .now) d && flag (a .f .now) d))
           (a .m) .0,
@@ -32,7 +32,7 @@ returns c =
 
 cast-result-2 : tie.Need-cast-result-2
 cast-result-2 c =
-    omega (arith, c .before .pre .1 .edges)
+    omega (arith, c .before .pre .1 .linked .edges)
 
 returns-2 : tie.Need-returns-2
 returns-2 c =

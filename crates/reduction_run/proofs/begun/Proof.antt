@@ -9,7 +9,7 @@ use Rattle.reduction_run.proofs.begun.Statement.{statement}
 use Rattle.reduction_run.proofs.begun.Tie as tie
 
 start-requires : tie.Need-start-requires
-start-requires c κs = let D = c .pre in (D .linkedS .edges, D .fitS, D .fitT)
+start-requires c κs = let D = c .pre in (D .listedS .linked .edges, D .fitS, D .fitT)
 
 painted-requires : tie.Need-painted-requires
 painted-requires c κs =

@@ -15,16 +15,16 @@ use Rattle.reduction_run.proofs.run.Statement.{statement}
 use Rattle.reduction_run.proofs.run.Tie as tie
 
 abbrev Inv-loop : tie.InvT-loop
-Inv-loop m sv st rs rt strict tied ns hs nt ht cs ct qs qt
+Inv-loop m sv st rs rt strict tied ls hs lt ht cs ct qs qt
     edges₀ rules₀ rem₀ fixed₀ cuts₀ cutt₀ ds₀ dt₀ fs₀ ft₀ one₀ twos₀ twot₀ rule3₀ rule4₀ rule5₀ rule6₀ rule7₀ loose₀ olds₀ oldt₀ n₀
     edges′ rules rem fixed cuts cutt ds dt fs ft one twos twot rule3 rule4 rule5 rule6 rule7 loose olds oldt n =
-    Running (edges m sv st rs rt tied) (links ns hs nt ht cs ct) (whole rem fixed cuts cutt ds dt) fs ft (numbers one twos twot olds oldt)
+    Running (edges m sv st rs rt tied) (links ls hs lt ht cs ct) (whole rem fixed cuts cutt ds dt) fs ft (numbers one twos twot olds oldt)
     (later rule3 rule4 rule5 rule6 rule7 loose olds oldt)
     × ((K : Known (edges m sv st rs rt tied) qs qt)
     → Shown (instanceOf K) (whole rem fixed cuts cutt ds dt) fs ft (record { edges = edges′; rules = rules; steps = n }))
 
 abbrev μ-loop : tie.MeasureT-loop
-μ-loop m sv st rs rt strict tied ns hs nt ht cs ct qs qt
+μ-loop m sv st rs rt strict tied ls hs lt ht cs ct qs qt
     edges₀ rules₀ rem₀ fixed₀ cuts₀ cutt₀ ds₀ dt₀ fs₀ ft₀ one₀ twos₀ twot₀ rule3₀ rule4₀ rule5₀ rule6₀ rule7₀ loose₀ olds₀ oldt₀ n₀
     edges′ rules rem fixed cuts cutt ds dt fs ft one twos twot rule3 rule4 rule5 rule6 rule7 loose olds oldt n = m - n
 
@@ -137,7 +137,7 @@ cast-edges : tie.Need-cast-edges Inv-loop μ-loop
 cast-edges c =
     let b36 = c .before .before .before .before .before .before .before .before .before .before .before .before .before .before .before .before .before
     .before .before .before .before .before .before .before .before .before .before .before .before .before .before .before .before .before .before .before in
-    omega (arith, c .if1 .left, b36 .before .before .pre .linkedS .edges)
+    omega (arith, c .if1 .left, b36 .before .before .pre .listedS .linked .edges)
 
 mul-edges : tie.Need-mul-edges Inv-loop μ-loop
 mul-edges c =
@@ -145,7 +145,7 @@ mul-edges c =
     .before in
     let b36 = b18 .before .before .before .before .before .before .before .before .before .before .before .before .before .before .before .before .before
     .before in
-    omega (arith, b18 .loop-test .taken, b36 .before .before .pre .linkedS .edges)
+    omega (arith, b18 .loop-test .taken, b36 .before .before .pre .listedS .linked .edges)
 
 array-write-edges : tie.Need-array-write-edges Inv-loop μ-loop
 array-write-edges c =
@@ -153,7 +153,7 @@ array-write-edges c =
     .before in
     let b36 = b18 .before .before .before .before .before .before .before .before .before .before .before .before .before .before .before .before .before
     .before in
-    omega (arith, b18 .loop-test .taken, b36 .before .before .pre .linkedS .edges)
+    omega (arith, b18 .loop-test .taken, b36 .before .before .pre .listedS .linked .edges)
 
 array-write-rules : tie.Need-array-write-rules Inv-loop μ-loop
 array-write-rules c =
@@ -161,7 +161,7 @@ array-write-rules c =
     .before in
     let b36 = b18 .before .before .before .before .before .before .before .before .before .before .before .before .before .before .before .before .before
     .before in
-    omega (arith, b18 .loop-test .taken, b36 .before .before .pre .linkedS .edges)
+    omega (arith, b18 .loop-test .taken, b36 .before .before .pre .listedS .linked .edges)
 
 add-n : tie.Need-add-n Inv-loop μ-loop
 add-n c =
@@ -169,7 +169,7 @@ add-n c =
     .before .before .before .before .before .before .before .before .before .before .before .before .before in
     let b48 = b30 .before .before .before .before .before .before .before .before .before .before .before .before .before .before .before .before .before
     .before in
-    omega (arith, b30 .before .before .loop-test .taken, b48 .before .before .before .before .pre .linkedS .edges)
+    omega (arith, b30 .before .before .loop-test .taken, b48 .before .before .before .before .pre .listedS .linked .edges)
 
 loop-less : tie.Need-loop-less Inv-loop μ-loop
 loop-less c =

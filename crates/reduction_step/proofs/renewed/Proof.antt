@@ -10,13 +10,13 @@ use Rattle.reduction_step.proofs.renewed.Statement.{statement}
 use Rattle.reduction_step.proofs.renewed.Tie as tie
 
 stands-renewed-requires : tie.Need-stands-renewed-requires
-stands-renewed-requires c κs = let p = c .before .before .before .before .before .pre in ((p .0 .linkedT, p .0 .celledT), p .1 .1 .stands)
+stands-renewed-requires c κs = let p = c .before .before .before .before .before .pre in ((p .0 .listedT, p .0 .celledT), p .1 .1 .stands)
 
 surveyors-renewed-requires : tie.Need-surveyors-renewed-requires
 surveyors-renewed-requires c κs =
     let b12 = c .before .before .before .before .before .before .before .before .before .before .before .before in
     let p = b12 .before .before .before .before .pre in
-    ((p .0 .linkedS, p .0 .celledS, p .0 .fitT), p .1 .1 .surveyors)
+    ((p .0 .listedS, p .0 .celledS, p .0 .fitT), p .1 .1 .surveyors)
 
 returns : tie.Need-returns
 returns c =
@@ -26,7 +26,7 @@ returns c =
     let a = b18 .before .args in
     let p = b18 .before .pre in
     let A = edges (a .m) (a .sv .now) (a .st .now) (a .rs .now) (a .rt .now) (a .tied .now) in
-    let L = links (a .ns .now) (a .hs .now) (a .nt .now) (a .ht .now) (a .cs .now) (a .ct .now) in
+    let L = links (a .ls .now) (a .hs .now) (a .lt .now) (a .ht .now) (a .cs .now) (a .ct .now) in
     let X = looks (a .rem .now) (a .fs .now) (a .ft .now) (a .qs .now) (a .qt .now) in
     let x = later (a .rule3 .now) (a .rule4 .now) (a .rule5 .now) (a .rule6 .now) (a .rule7 .now) (a .loose .now) (a .olds .now) (a .oldt .now) in
     let T = b12 .before .stands-renewed .ensures in
