@@ -232,7 +232,8 @@ P39 = record {
 }
 
 -- a full node yields for a worse pair of its own that is in the plan: surveyor 1 ranks stand 1, which it has, and stand 2 in shifts 1 and 3,
--- where there is room; surveyor 2 ranks stand 1, stand 3, of quota 0, and stand 4, which it has. Neither 1-2, better than its other shift, nor any other pair blocks.
+-- where there is room; surveyor 2 ranks stand 1, stand 3, of quota 0, and stand 4, which it has.
+-- Neither 1-2, better than its other shift, nor any other pair blocks.
 abbrev P37 : Case
 P37 = record {
   file = bytes "2 1 1 4 1 1 0 1 6 0 3 1 1 2 1 2 3 3 1 1 3 1 4 1 6 0 2 0 1 1 2 1 2 0 1 1 1 3 1 0 2 1 1 0 2 1";

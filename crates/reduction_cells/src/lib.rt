@@ -169,7 +169,8 @@ pub fn paint(
     requires { ⌜ (v < nodeLimit) × Celled m (now end) (now rank) (now tied) (now cell) × Low m (now other) nodeLimit ⌝ }
     requires { ⌜ (length (now f) ≡ entryLimit) × (length (now turned) ≡ emptyRank) ⌝ }
     ensures { λ r. ⌜ (r ≤ emptyRank) × (length (now (turned .exit)) ≡ emptyRank) × Low r (now (turned .exit)) nodeLimit
-        × Painted m (now (other .entry)) (now (cell .entry)) (now (rem .entry)) v q emptyRank (now (f .entry)) (now (f .exit)) (among (now (turned .exit)) r) ⌝ }
+        × Painted m (now (other .entry)) (now (cell .entry)) (now (rem .entry)) v q emptyRank (now (f .entry)) (now (f .exit))
+        (among (now (turned .exit)) r) ⌝ }
 {
     let b = v * EMPTY_RANK;
     let mut c: u16 = 0;

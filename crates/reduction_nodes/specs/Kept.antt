@@ -14,7 +14,7 @@ use Rattle.model.specs.Limits.{nodeLimit, emptyRank}
 use Rattle.model.specs.Instance.{surveyors, stands}
 use Rattle.arrays.specs.ArrayInstance.{at, flag}
 use Rattle.arrays.specs.Passes.{Low}
-use Rattle.reduction_links.specs.Listed.{Listed}
+use Rattle.reduction_lists.specs.Listed.{Listed}
 use Rattle.reduction_cells.specs.Cells.{Celled}
 use Rattle.reduction_cells.specs.CellLaws.{Cells, celled-is}
 use Rattle.reduction_cells.specs.Painted.{differ}

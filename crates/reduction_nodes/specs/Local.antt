@@ -16,8 +16,8 @@ use Rattle.theory_instance.specs.Degree.{deg-cong}
 use Rattle.theory_reduction.specs.ByNode.{lowestAt-cong}
 use Rattle.arrays.specs.ArrayInstance.{at, flag}
 use Rattle.arrays.specs.Passes.{Low}
-use Rattle.reduction_links.specs.Listed.{tallied}
-use Rattle.reduction_links.specs.Walks.{atNode}
+use Rattle.reduction_lists.specs.Listed.{tallied}
+use Rattle.reduction_lists.specs.Walks.{atNode}
 use Rattle.reduction_cells.specs.Cells.{Celled, barOf}
 use Rattle.reduction_cells.specs.CellLaws.{sideOf}
 use Rattle.reduction_cells.specs.Local.{Agree, bar-local, best-local, worst-local}

@@ -16,7 +16,7 @@ use Rattle.theory_instance.specs.Degree.{deg-cong}
 use Rattle.theory_reduction.specs.Facts.{arrowS-rem, reserved-rem}
 use Rattle.theory_reduction.specs.ByNode.{lowestAt, lowestAt-cong, rule2S, rule2T}
 use Rattle.arrays.specs.ArrayInstance.{at, flag}
-use Rattle.reduction_links.specs.Listed.{tallied}
+use Rattle.reduction_lists.specs.Listed.{tallied}
 use Rattle.reduction_cells.specs.Cells.{barOf, bestOf, worstOf}
 use Rattle.reduction_cells.specs.CellLaws.{Cells, bar-is, best-is, worst-is}
 use Rattle.reduction_nodes.specs.Known.{Edges, Known, instanceOf, stateOf}

@@ -9,8 +9,8 @@ use lib.Dec.{eqb, leb, ltb}
 use Rattle.lists.specs.Search.{low}
 use Rattle.model.specs.Limits.{nodeLimit}
 use Rattle.arrays.specs.ArrayInstance.{at, flag}
-use Rattle.reduction_links.specs.Listed.{tallied}
-use Rattle.reduction_links.specs.Walks.{atNode}
+use Rattle.reduction_lists.specs.Listed.{tallied}
+use Rattle.reduction_lists.specs.Walks.{atNode}
 use Rattle.reduction_cells.specs.Cells.{barOf, bestOf, worstOf}
 use Rattle.reduction_nodes.specs.declared.Surveyor.{Surveyor}
 use Rattle.reduction_nodes.specs.declared.Stand.{Stand}

@@ -10,8 +10,8 @@ ghost use Rattle.lists.specs.Search.{low};
 ghost use Rattle.model.specs.Limits.{nodeLimit, emptyRank};
 ghost use Rattle.arrays.specs.ArrayInstance.{at, flag};
 ghost use Rattle.arrays.specs.Passes.{Low};
-ghost use Rattle.reduction_links.specs.Listed.{Listed};
-ghost use Rattle.reduction_links.specs.Walks.{atNode};
+ghost use Rattle.reduction_lists.specs.Listed.{Listed};
+ghost use Rattle.reduction_lists.specs.Walks.{atNode};
 ghost use Rattle.reduction_cells.specs.Cells.{Celled, barOf, bestOf, worstOf};
 ghost use Rattle.reduction_cells.specs.Painted.{differ, among};
 ghost use Rattle.reduction_nodes.specs.Renewed.{RenewedBy};
@@ -20,7 +20,7 @@ ghost use Rattle.reduction_nodes.specs.Numbers.{Surveyed, Stood, SizedS,
 use limits::EMPTY_RANK;
 use limits::ENTRY_LIMIT;
 use reduction_cells::CELLS;
-use reduction_links::PLACES;
+use reduction_lists::PLACES;
 
 // Of one node, by rule.
 pub struct Surveyor {
@@ -58,7 +58,7 @@ pub fn second(
     if bar >= 33 {
         return m as u16;
     }
-    reduction_links::behind(m, end, list, first, v, rem, rank, bar) as u16
+    reduction_lists::behind(m, end, list, first, v, rem, rank, bar) as u16
 }
 
 // Rule 3: the first arrow in, where there are no more arrows than the quota, n in all.
@@ -77,7 +77,7 @@ pub fn third(
     ensures { λ r. ⌜ r ≡ cond (leb n q) (low (atNode (now (end .entry)) v (λ d. flag (now (rem .entry)) d && flag (now (f .entry)) d)) m) m ⌝ }
 {
     if n <= q {
-        return reduction_links::both(m, end, list, first, v, rem, f) as u16;
+        return reduction_lists::both(m, end, list, first, v, rem, f) as u16;
     }
     m as u16
 }
@@ -149,9 +149,9 @@ pub fn surveyor_now(
     ensures { λ r. ⌜ r ≡ surveyorOf m (now (sv .entry)) (now (st .entry)) (now (cell .entry)) (now (rem .entry)) (now (fs .entry))
         (now (ft .entry)) (now (lo .entry)) q v ⌝ }
 {
-    let n = reduction_links::size(m, sv, list, first, v, st, rem, lo, ft);
+    let n = reduction_lists::size(m, sv, list, first, v, st, rem, lo, ft);
     let rule4 = fourth(m, sv, rank, tied, cell, v, st, rem, lo, ft, n, q);
-    let rule5 = reduction_links::idle(m, sv, list, first, v, st, rem, lo, fs, ft) as u16;
+    let rule5 = reduction_lists::idle(m, sv, list, first, v, st, rem, lo, fs, ft) as u16;
     let rule6 = short(m, sv, rank, tied, cell, v, rem, n, q);
     Surveyor {
         rule4: rule4,
@@ -177,7 +177,7 @@ pub fn stand_now(
     requires { ⌜ (v < nodeLimit) × Listed m (now st) (now first) (now list) × Celled m (now st) (now rank) (now tied) (now cell) ⌝ }
     ensures { λ r. ⌜ r ≡ standOf m (now (st .entry)) (now (cell .entry)) (now (rem .entry)) (now (fs .entry)) (now (ft .entry)) q v ⌝ }
 {
-    let n = reduction_links::tallies(m, st, list, first, v, fs, ft);
+    let n = reduction_lists::tallies(m, st, list, first, v, fs, ft);
     let got = n.p;
     let sent = n.q;
     let rule3 = third(m, st, list, first, v, rem, fs, got + sent, q);
@@ -208,7 +208,7 @@ pub fn first_renewed(
     let mut i: usize = 0;
     while i < n {
         let v = turned[i] as usize;
-        x[v] = reduction_links::both(m, sv, list, first, v, fs, ft) as u16;
+        x[v] = reduction_lists::both(m, sv, list, first, v, fs, ft) as u16;
         i += 1;
     }
 }

@@ -14,7 +14,7 @@ ghost use Rattle.reduction_run.specs.Running.{Begun};
 use limits::EMPTY_RANK;
 use limits::ENTRY_LIMIT;
 use reduction_cells::CELLS;
-use reduction_links::PLACES;
+use reduction_lists::PLACES;
 use reduction_state::Trace;
 
 // What a run leaves: what remains, what is fixed, and its trace.
@@ -315,9 +315,9 @@ pub fn reduce(
 {
     let strict = [false; ENTRY_LIMIT];
     let mut ls = [0u16; PLACES];
-    let hs = reduction_links::lists(m, sv, &mut ls);
+    let hs = reduction_lists::lists(m, sv, &mut ls);
     let mut lt = [0u16; PLACES];
-    let ht = reduction_links::lists(m, st, &mut lt);
+    let ht = reduction_lists::lists(m, st, &mut lt);
     let cs = reduction_cells::cells(m, sv, rs, &strict);
     let ct = reduction_cells::cells(m, st, rt, tied);
     run(

@@ -10,7 +10,7 @@ ghost use Rattle.reduction_step.specs.Least.{Least};
 ghost use Rattle.reduction_step.specs.RuleChosen.{Later37, Steps};
 use limits::ENTRY_LIMIT;
 use reduction_cells::CELLS;
-use reduction_links::PLACES;
+use reduction_lists::PLACES;
 
 // A rule and an edge, 8 and m if no rule names one.
 pub struct Named {

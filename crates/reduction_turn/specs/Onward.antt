@@ -110,7 +110,8 @@ module _ (m : ℕ) (end rank : List ℕ) (tied : List Bool) (cell : List ℕ) (C
         ⊎-map (λ h. same ∙ h ∙ kept (at end e) fit t rem q) (λ h. same ∙ h ∙ kept (at end e) fit t rem₀ q₀) (H .own));
   }
     where
-      kept : (v : ℕ) → v < nodeLimit → seen v ≡ false → (rem : List Bool) (q : List ℕ) → secondsOf m end rank cell rem f q v ≡ secondsOf m end rank cell rem f′ q v
+      kept : (v : ℕ) → v < nodeLimit → seen v ≡ false → (rem : List Bool) (q : List ℕ)
+          → secondsOf m end rank cell rem f q v ≡ secondsOf m end rank cell rem f′ q v
       kept v w t rem q =
           sym (second-local m end rank tied cell C placed v w rem f rem f′ (at q v) (at q v) (λ d l j. refl) (A v t) refl)
 

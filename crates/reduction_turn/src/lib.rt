@@ -9,7 +9,7 @@ ghost use lib.Dec.{eqb};
 ghost use Rattle.model.specs.Limits.{nodeLimit, entryLimit, emptyRank};
 ghost use Rattle.arrays.specs.ArrayInstance.{at};
 ghost use Rattle.arrays.specs.Passes.{Low};
-ghost use Rattle.reduction_links.specs.Listed.{Listed};
+ghost use Rattle.reduction_lists.specs.Listed.{Listed};
 ghost use Rattle.reduction_cells.specs.Cells.{Celled};
 ghost use Rattle.reduction_cells.specs.Painted.{among};
 ghost use Rattle.reduction_nodes.specs.Renewed.{RenewedBy};
@@ -21,7 +21,7 @@ ghost use Rattle.reduction_turn.specs.Shown.{ShownOn};
 use limits::EMPTY_RANK;
 use limits::ENTRY_LIMIT;
 use reduction_cells::CELLS;
-use reduction_links::PLACES;
+use reduction_lists::PLACES;
 
 // Rule 2's numbers of one side after e, an edge of v, is gone: that of v is read anew if it was e or if v's quota fell.
 pub fn passed_over(
@@ -106,7 +106,7 @@ pub fn from_surveyor(
     }
     let mut turned = [0u8; EMPTY_RANK];
     let n = reduction_cells::paint(m, sv, rs, strict, cs, s, qs[s], st, rem, fs, &mut turned);
-    one[s] = reduction_links::both(m, sv, ls, hs, s, fs, ft) as u16;
+    one[s] = reduction_lists::both(m, sv, ls, hs, s, fs, ft) as u16;
     reduction_nodes::second_renewed(m, st, rt, tied, lt, ht, ct, rem, fs, qt, &turned, n, twot);
     marked(&turned, n, oldt);
 }

@@ -378,7 +378,8 @@ module _ {M : Type 1} (𝓤 : URA M) (H : Heap 𝓤) (A : Atoms 𝓤) (W : Given
       splits =
           qed W Entered ∵ exec ! (𝓣 .C) (𝓣 .Λ) En′ mir′.t-1 (atRet En′ Post) $
           nothing ! $ use1 W (raw (Split 𝓤 H A at-mem run .pre to-split)) asks-split $
-          calls-at ! (fmOf 𝓤 H (W .laws) 𝓣) (Split 𝓤 H A at-mem run) known-split to-split (and-then ! (load ! (from ! (stop !)) (look ! 15 refl)) (no-more !)) (λ w.
+          calls-at ! (fmOf 𝓤 H (W .laws) 𝓣) (Split 𝓤 H A at-mem run) known-split to-split
+          (and-then ! (load ! (from ! (stop !)) (look ! 15 refl)) (no-more !)) (λ w.
           use1 W
           (later
           (some
@@ -405,7 +406,8 @@ module _ {M : Type 1} (𝓤 : URA M) (H : Heap 𝓤) (A : Atoms 𝓤) (W : Given
         by ! (splits 𝓣 known-split known g h l₀ l₁ l₂ l₃ l₄ l₅ l₆ l₇ l₈ l₉)))))))))))
 
 module _ {M : Type 1} (𝓤 : URA M) (H : Heap 𝓤) (A : Atoms 𝓤) (W : Given 𝓤 H A) (at-mem : Memory → SProp 𝓤) (run : Routine → Fun 𝓤) (𝓣 : Tables 𝓤 H)
-    (known-split : Triple 𝓤 (𝓣 .C #diary_records·split) (Split 𝓤 H A at-mem run)) (known : Triple 𝓤 (𝓣 .C #diary_records·step-at) (StepAt 𝓤 H A at-mem run)) where
+    (known-split : Triple 𝓤 (𝓣 .C #diary_records·split) (Split 𝓤 H A at-mem run))
+    (known : Triple 𝓤 (𝓣 .C #diary_records·step-at) (StepAt 𝓤 H A at-mem run)) where
   fill-walks : Walks 𝓤 H A fill′.ended stayed (WpFn 𝓤 H (𝓣 .C) (𝓣 .Λ) code.function) (fill′.clauses 𝓤 H A at-mem run)
   fill-walks = walked 𝓤 H A fill′.ended stayed (fill′.clauses 𝓤 H A at-mem run) (WpFn 𝓤 H (𝓣 .C) (𝓣 .Λ) code.function)
       (λ κs. (slice-vals, (array-vals (uint-vals w8), (uint-vals w64, tt))))
@@ -431,5 +433,7 @@ fill-spec 𝓤 H 𝓜 𝓖 𝓡 =
     entered 𝓤 H (tripleOf 𝓤 H (𝓖 .A) fill′.signature (fill′.spec 𝓤 H (𝓖 .A) (𝓜 .mem) (𝓡 .run)))
     (tables 𝓤 H 𝓜 𝓡 code.env .C) (tables 𝓤 H 𝓜 𝓡 code.env .Λ) #diary_records·fill code.function (code.unfolded 𝓤 H 𝓜 𝓡)
     (fill-meets 𝓤 H (𝓖 .A) (givenOf 𝓤 H 𝓜 𝓖) (𝓜 .mem) (𝓡 .run) (tablesOf 𝓤 H 𝓜 (tables 𝓤 H 𝓜 𝓡 code.env))
-    (cited 𝓤 H (Split 𝓤 H (𝓖 .A) (𝓜 .mem) (𝓡 .run)) 𝓜 𝓡 code.env #diary_records·split split-def.routine code.calls-diary-records·split (split-thm.met 𝓤 H 𝓜 𝓖 𝓡))
-    (cited 𝓤 H (StepAt 𝓤 H (𝓖 .A) (𝓜 .mem) (𝓡 .run)) 𝓜 𝓡 code.env #diary_records·step-at step-at-def.routine code.calls-diary-records·step-at (step-at-thm.met 𝓤 H 𝓜 𝓖 𝓡)))
+    (cited 𝓤 H (Split 𝓤 H (𝓖 .A) (𝓜 .mem) (𝓡 .run)) 𝓜 𝓡 code.env #diary_records·split split-def.routine code.calls-diary-records·split
+    (split-thm.met 𝓤 H 𝓜 𝓖 𝓡))
+    (cited 𝓤 H (StepAt 𝓤 H (𝓖 .A) (𝓜 .mem) (𝓡 .run)) 𝓜 𝓡 code.env #diary_records·step-at step-at-def.routine code.calls-diary-records·step-at
+    (step-at-thm.met 𝓤 H 𝓜 𝓖 𝓡)))

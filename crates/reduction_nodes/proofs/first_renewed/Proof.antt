@@ -10,7 +10,7 @@ use Rattle.reduction_cells.specs.Painted.{among}
 use mathlib.Core.Bool.{_&&_}
 use Rattle.lists.specs.Search.{low-is}
 use Rattle.arrays.specs.ArrayInstance.{flag}
-use Rattle.reduction_links.specs.Walks.{atNode}
+use Rattle.reduction_lists.specs.Walks.{atNode}
 use Rattle.reduction_nodes.specs.Numbers.{firstOf}
 use Rattle.reduction_nodes.specs.Renewed.{RenewedBy, by-none, by-next}
 use Rattle.reduction_nodes.proofs.first_renewed.Statement.{statement}

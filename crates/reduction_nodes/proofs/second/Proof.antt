@@ -6,7 +6,7 @@ use borrow.Author.Tests.{lt-leb}
 use lib.Dec.{eqb, leb}
 use Rattle.lists.specs.Search.{low, low-is, low-none}
 use Rattle.arrays.specs.ArrayInstance.{at, flag}
-use Rattle.reduction_links.specs.Walks.{atNode}
+use Rattle.reduction_lists.specs.Walks.{atNode}
 use Rattle.reduction_cells.specs.Cells.{barOf}
 use Rattle.reduction_nodes.proofs.second.Statement.{statement}
 use Rattle.reduction_nodes.proofs.second.Tie as tie

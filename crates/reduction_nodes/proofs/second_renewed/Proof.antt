@@ -109,4 +109,5 @@ returns c =
 
 pub second-renewed-spec : {M : Type 1} → statement M
 second-renewed-spec =
-    tie.close (tie.spec Inv-loop μ-loop loop-holds element-copy-out-v cast-v mul-second element-copy-out-second second-requires mul-x element-write-x add-i (λ c. search needs) loop-again returns)
+    tie.close (tie.spec Inv-loop μ-loop loop-holds element-copy-out-v cast-v mul-second element-copy-out-second second-requires mul-x
+    element-write-x add-i (λ c. search needs) loop-again returns)

@@ -3,7 +3,7 @@ use mathlib.Core.Bool.{_&&_, not}
 use native.Mathlib.Omega.{arith}
 use Rattle.lists.specs.Search.{low-is}
 use Rattle.arrays.specs.ArrayInstance.{at, flag}
-use Rattle.reduction_links.specs.Walks.{atNode}
+use Rattle.reduction_lists.specs.Walks.{atNode}
 use Rattle.reduction_nodes.proofs.surveyor_now.Statement.{statement}
 use Rattle.reduction_nodes.proofs.surveyor_now.Tie as tie
 

@@ -5,7 +5,7 @@ use native.Mathlib.Omega.{arith}
 use borrow.Author.Tests.{le-leb, lt-leb}
 use Rattle.lists.specs.Search.{low, low-is}
 use Rattle.arrays.specs.ArrayInstance.{flag}
-use Rattle.reduction_links.specs.Walks.{atNode}
+use Rattle.reduction_lists.specs.Walks.{atNode}
 use Rattle.reduction_nodes.proofs.third.Statement.{statement}
 use Rattle.reduction_nodes.proofs.third.Tie as tie
 

@@ -4,7 +4,7 @@ use Prim.Native.Nat.{ℕ}
 use lib.ListN.{length-replicate}
 use Rattle.model.specs.Limits.{entryLimit}
 use Rattle.arrays.specs.Passes.{all-blank}
-use Rattle.reduction_links.specs.Listed.{placeLimit}
+use Rattle.reduction_lists.specs.Listed.{placeLimit}
 use Rattle.reduction_run.proofs.reduce.Statement.{statement}
 use Rattle.reduction_run.proofs.reduce.Tie as tie
 

@@ -107,14 +107,17 @@ element-write-oldt c =
 
 from-surveyor-requires : tie.Need-from-surveyor-requires
 from-surveyor-requires c κs =
-    let a = c .before .before .before .before .before .before .before .before .before .before .before .before .before .before .before .before .before .before .before .before .before .before .before .args in
-    let p = c .before .before .before .before .before .before .before .before .before .before .before .before .before .before .before .before .before .before .before .before .before .before .before .pre in
+    let c₁ = c .before .before .before .before .before .before .before .before .before .before .before .before .before .before .before .before in
+    let a = c₁ .before .before .before .before .before .before .before .args in
+    let p = c₁ .before .before .before .before .before .before .before .pre in
     (p .0 .1, (p .0 .1 .fitS (a .e) (p .0 .0), p .1 .2, p .1 .1 .one, p .1 .1 .twot, simp length-set (p .1 .1 .oldt)))
 
 from-stand-requires : tie.Need-from-stand-requires
 from-stand-requires c κs =
-    let a = c .before .before .before .before .before .before .before .before .before .before .before .before .before .before .before .before .before .before .before .before .before .before .before .before .before .before .before .before .before .before .before .before .args in
-    let p = c .before .before .before .before .before .before .before .before .before .before .before .before .before .before .before .before .before .before .before .before .before .before .before .before .before .before .before .before .before .before .before .before .pre in (
+    let c₁ = c .before .before .before .before .before .before .before .before .before .before .before .before .before .before .before .before in
+    let c₂ = c₁ .before .before .before .before .before .before .before .before .before .before .before .before .before .before .before .before in
+    let a = c₂ .args in
+    let p = c₂ .pre in (
       p .0 .1,
       (
         p .0 .1 .fitT (a .e) (p .0 .0),
@@ -127,8 +130,10 @@ from-stand-requires c κs =
 
 passed-over-requires : tie.Need-passed-over-requires
 passed-over-requires c κs =
-    let a = c .before .before .before .before .before .before .before .before .before .before .before .before .before .before .before .before .before .before .before .before .before .before .before .before .before .before .before .before .before .before .before .before .before .before .before .before .before .args in
-    let p = c .before .before .before .before .before .before .before .before .before .before .before .before .before .before .before .before .before .before .before .before .before .before .before .before .before .before .before .before .before .before .before .before .before .before .before .before .before .pre in
+    let c₁ = c .before .before .before .before .before .before .before .before .before .before .before .before .before .before .before .before in
+    let c₂ = c₁ .before .before .before .before .before .before .before .before .before .before .before .before .before .before .before .before in
+    let a = c₂ .before .before .before .before .before .args in
+    let p = c₂ .before .before .before .before .before .pre in
     let D = p .0 .1 in (
       D .fitS (a .e) (p .0 .0),
       p .0 .0,
@@ -140,27 +145,31 @@ passed-over-requires c κs =
 
 passed-over-requires-2 : tie.Need-passed-over-requires-2
 passed-over-requires-2 c κs =
-    let a = c .before .before .before .before .before .before .before .before .before .before .before .before .before .before .before .before .before .before .before .before .before .before .before .before .before .before .before .before .before .before .before .before .before .before .before .before .before .before .before .before .before .before .args in
-    let p = c .before .before .before .before .before .before .before .before .before .before .before .before .before .before .before .before .before .before .before .before .before .before .before .before .before .before .before .before .before .before .before .before .before .before .before .before .before .before .before .before .before .before .pre in
+    let c₁ = c .before .before .before .before .before .before .before .before .before .before .before .before .before .before .before .before in
+    let c₂ = c₁ .before .before .before .before .before .before .before .before .before .before .before .before .before .before .before .before in
+    let a = c₂ .before .before .before .before .before .before .before .before .before .before .args in
+    let p = c₂ .before .before .before .before .before .before .before .before .before .before .pre in
     let D = p .0 .1 in (
       D .fitT (a .e) (p .0 .0),
       p .0 .0,
       D .listedT,
       D .celledT,
       D .placedT,
-      c .before .before .before .before .before .before .before .before .before .before .before .before .before .before .before .before .before .before .from-surveyor .ensures .0 .1,
+      c₁ .before .before .from-surveyor .ensures .0 .1,
     )
 
 returns : tie.Need-returns
 returns c =
-    let a = c .before .before .before .before .before .before .before .before .before .before .before .before .before .before .before .before .before .before .before .before .before .before .before .before .before .before .before .before .before .before .before .before .before .before .before .before .before .before .before .before .before .before .before .args in
-    let p = c .before .before .before .before .before .before .before .before .before .before .before .before .before .before .before .before .before .before .before .before .before .before .before .before .before .before .before .before .before .before .before .before .before .before .before .before .before .before .before .before .before .before .before .pre in
+    let c₁ = c .before .before .before .before .before .before .before .before .before .before .before .before .before .before .before .before in
+    let c₂ = c₁ .before .before .before .before .before .before .before .before .before .before .before .before .before .before .before .before in
+    let a = c₂ .before .before .before .before .before .before .before .before .before .before .before .args in
+    let p = c₂ .before .before .before .before .before .before .before .before .before .before .before .pre in
     let A = edges (a .m) (a .sv .now) (a .st .now) (a .rs .now) (a .rt .now) (a .tied .now) in
     let L = links (a .ls .now) (a .hs .now) (a .lt .now) (a .ht .now) (a .cs .now) (a .ct .now) in
     let x = whole (a .rem .now) (a .fixed .now) (a .qs .now) (a .qt .now) (a .ds .now) (a .dt .now) in
     let k = numbers (a .one .now) (a .twos .now) (a .twot .now) (a .olds .now) (a .oldt .now) in
-    let i = c .before .before .before .before .before .before .before .before .before .before .before .before .before .before .before .before .before .before .before .before .before .before .before .before .before .before .before .before .before .before .before .before .act .ensures in
-    let S = c .before .before .before .before .before .before .before .before .before .before .before .before .before .before .before .before .before .before .before .from-surveyor .ensures in
+    let i = c₂ .act .ensures in
+    let S = c₁ .before .before .before .from-surveyor .ensures in
     let T = c .before .before .before .before .before .before .before .before .before .before .from-stand .ensures in
     let RS = c .before .before .before .before .before .passed-over .ensures in
     let RT = c .passed-over2 .ensures in (
@@ -184,4 +193,6 @@ returns c =
 pub turn-spec : {M : Type 1} → statement M
 turn-spec =
     tie.close (tie.spec (λ c. search needs) cast-s
-    (λ c. search needs) cast-t mul-quotas element-copy-out-quotas mul-quotat element-copy-out-quotat act-requires mul-fells element-copy-out-fells mul-fellt element-copy-out-fellt (λ c. search needs) element-copy-out-ont element-write-olds element-write-oldt from-surveyor-requires from-stand-requires passed-over-requires passed-over-requires-2 returns)
+    (λ c. search needs) cast-t mul-quotas element-copy-out-quotas mul-quotat element-copy-out-quotat act-requires
+    mul-fells element-copy-out-fells mul-fellt element-copy-out-fellt (λ c. search needs) element-copy-out-ont element-write-olds element-write-oldt
+    from-surveyor-requires from-stand-requires passed-over-requires passed-over-requires-2 returns)

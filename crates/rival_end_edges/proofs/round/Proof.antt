@@ -115,7 +115,8 @@ loop-again c =
       F .inside,
       F .here,
       past-others (a .m) (a .st .now) (g + 1) t (at (a .lt .now) g)
-          (Held (a .m) (a .sv .now) (a .st .now) (a .rs .now) (a .rt .now) (a .x) (a .y) (a .plan .now) (a .fs .now) w (told (a .m) o) whole) (omega (arith, h)) F
+          (Held (a .m) (a .sv .now) (a .st .now) (a .rs .now) (a .rt .now) (a .x) (a .y) (a .plan .now) (a .fs .now) w (told (a .m) o) whole)
+          (omega (arith, h)) F
           (others (a .m) (a .sv .now) (a .st .now) (a .rs .now) (a .rt .now) (a .x) (a .y) (a .plan .now) (a .fs .now) w (told (a .m) o) whole)
           (⊎-elim
           (λ u. round-turn (a .m) (a .sv .now) (a .st .now) (a .rs .now) (a .rt .now) (a .x) (a .y) (a .plan .now) (a .fs .now) w held (told (a .m) o) g

@@ -3,9 +3,9 @@ use Prim.Native.Nat.{_-_}
 use native.Mathlib.Omega.{arith}
 use borrow.Author.Needs.{needs}
 use Rattle.edge_links.specs.Linked.{first-head, first-next}
-use Rattle.reduction_links.specs.Listed.{Spelling, spelling-starts, spelling-room, spelling-on, spelling-ends}
-use Rattle.reduction_links.proofs.put.Statement.{statement}
-use Rattle.reduction_links.proofs.put.Tie as tie
+use Rattle.reduction_lists.specs.Listed.{Spelling, spelling-starts, spelling-room, spelling-on, spelling-ends}
+use Rattle.reduction_lists.proofs.put.Statement.{statement}
+use Rattle.reduction_lists.proofs.put.Tie as tie
 
 abbrev Inv-loop : tie.InvT-loop
 Inv-loop m end head next v k list₀ i₀ e₀ list i e = Spelling m end v k list₀ e i list

@@ -13,7 +13,7 @@ use Rattle.lists.specs.Sum.{count, count-≤}
 use Rattle.model.specs.Limits.{nodeLimit}
 use Rattle.arrays.specs.ArrayInstance.{at}
 use Rattle.edge_links.specs.Linked.{First, first-head, first-next}
-use Rattle.reduction_links.specs.Listed.{Listed, placeLimit, tallied, tallied-jump, before, before-less, first-before, next-before}
+use Rattle.reduction_lists.specs.Listed.{Listed, placeLimit, tallied, tallied-jump, before, before-less, first-before, next-before}
 
 -- a test at a node alone
 abbrev pub atNode : (end : List ℕ) (v : ℕ) (q : ℕ → Bool) → ℕ → Bool

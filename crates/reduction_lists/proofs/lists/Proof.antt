@@ -4,9 +4,9 @@ use Prim.Native.Nat.{ℕ, _-_, _≤_}
 use native.Mathlib.Omega.{arith}
 use borrow.Author.Needs.{needs}
 use lib.ListN.{length-replicate}
-use Rattle.reduction_links.specs.Listed.{Listing, listing-none, listing-room, listing-next}
-use Rattle.reduction_links.proofs.lists.Statement.{statement}
-use Rattle.reduction_links.proofs.lists.Tie as tie
+use Rattle.reduction_lists.specs.Listed.{Listing, listing-none, listing-room, listing-next}
+use Rattle.reduction_lists.proofs.lists.Statement.{statement}
+use Rattle.reduction_lists.proofs.lists.Tie as tie
 
 abbrev Inv-loop : tie.InvT-loop
 Inv-loop m end list₀ next head first₀ k₀ v₀ list first k v = (v ≤ 32) × Listing m end v k first list

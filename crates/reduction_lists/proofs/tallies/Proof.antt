@@ -5,10 +5,10 @@ use Rattle.arrays.specs.Tally.{byte-bit, byte-one}
 use Prim.Native.Nat.{_+_, _-_}
 use native.Mathlib.Omega.{arith}
 use borrow.Author.Needs.{needs}
-use Rattle.reduction_links.specs.Walks.{Counted, count-starts, count-on, count-ends, count-small}
-use Rattle.reduction_links.specs.Walks.{first-room, first-inside, next-room, next-inside, next-later}
-use Rattle.reduction_links.proofs.tallies.Statement.{statement}
-use Rattle.reduction_links.proofs.tallies.Tie as tie
+use Rattle.reduction_lists.specs.Walks.{Counted, count-starts, count-on, count-ends, count-small}
+use Rattle.reduction_lists.specs.Walks.{first-room, first-inside, next-room, next-inside, next-later}
+use Rattle.reduction_lists.proofs.tallies.Statement.{statement}
+use Rattle.reduction_lists.proofs.tallies.Tie as tie
 
 abbrev Inv-loop : tie.InvT-loop
 Inv-loop m end list first v p q c₀ d₀ k₀ e₀ c d k e = Counted m end first v (flag p) k e c × Counted m end first v (flag q) k e d
@@ -18,12 +18,6 @@ abbrev μ-loop : tie.MeasureT-loop
 
 cast-k : tie.Need-cast-k Inv-loop μ-loop
 cast-k c = let p = c .before .pre in omega (arith, first-room (p .1) (c .before .args .v) (p .0))
-
-mul-e : tie.Need-mul-e Inv-loop μ-loop
-mul-e c = let p = c .before .pre in omega (arith, first-room (p .1) (c .before .args .v) (p .0))
-
-element-copy-out-e : tie.Need-element-copy-out-e Inv-loop μ-loop
-element-copy-out-e c = let p = c .before .pre in omega (arith, first-room (p .1) (c .before .args .v) (p .0))
 
 cast-e : tie.Need-cast-e Inv-loop μ-loop
 cast-e c = let p = c .before .before .pre in omega (arith, p .1 .linked .edges, first-inside (p .1) (c .before .before .args .v) (p .0))
@@ -140,5 +134,6 @@ returns c =
 
 pub tallies-spec : {M : Type 1} → statement M
 tallies-spec =
-    tie.close (tie.spec Inv-loop μ-loop (λ c. search needs) (λ c. search needs) cast-k mul-e element-copy-out-e cast-e loop-holds (λ c. search needs)
+    tie.close (tie.spec Inv-loop μ-loop (λ c. search needs) (λ c. search needs) cast-k (λ c. let p = c .before .pre in omega (arith, first-room (p .1) (c .before .args .v) (p .0)))
+    (λ c. let p = c .before .pre in omega (arith, first-room (p .1) (c .before .args .v) (p .0))) cast-e loop-holds (λ c. search needs)
     (λ c. search needs) add-c (λ c. search needs) (λ c. search needs) add-d add-k mul-e-2 element-copy-out-e-2 cast-e-2 loop-less loop-again returns)

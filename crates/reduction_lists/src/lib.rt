@@ -11,8 +11,8 @@ ghost use Rattle.model.specs.Limits.{entryLimit, nodeLimit};
 ghost use Rattle.arrays.specs.ArrayInstance.{at, flag};
 ghost use Rattle.arrays.specs.Passes.{Low};
 ghost use Rattle.edge_links.specs.Linked.{Linked};
-ghost use Rattle.reduction_links.specs.Listed.{Listed, Put, placeLimit, before, tallied};
-ghost use Rattle.reduction_links.specs.Walks.{atNode};
+ghost use Rattle.reduction_lists.specs.Listed.{Listed, Put, placeLimit, before, tallied};
+ghost use Rattle.reduction_lists.specs.Walks.{atNode};
 use limits::ENTRY_LIMIT;
 
 // A place for each edge, and one more for each node.
