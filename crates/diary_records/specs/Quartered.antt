@@ -9,16 +9,20 @@ use Rattle.diary.specs.FlatDiary.{recordWidth}
 use Rattle.diary.specs.LentSteps.{stepAt}
 use Rattle.diary_records.specs.declared.Quarters.{Quarters}
 
+-- a quarter's records, and its numbers
+abbrev pub quarterRecords : ℕ
+quarterRecords = 256
+
 abbrev pub quarterSize : ℕ
-quarterSize = 1280
+quarterSize = quarterRecords * recordWidth
 
 pub record Quartered (flat : List ℕ) (q : Quarters) : Type 0 where
   pub first : Made 0 (q .first) (λ j. at flat (0 + j)) quarterSize
-  pub second : Made 0 (q .second) (λ j. at flat (1280 + j)) quarterSize
-  pub third : Made 0 (q .third) (λ j. at flat (2560 + j)) quarterSize
-  pub fourth : Made 0 (q .fourth) (λ j. at flat (3840 + j)) quarterSize
+  pub second : Made 0 (q .second) (λ j. at flat (quarterSize + j)) quarterSize
+  pub third : Made 0 (q .third) (λ j. at flat (2 * quarterSize + j)) quarterSize
+  pub fourth : Made 0 (q .fourth) (λ j. at flat (3 * quarterSize + j)) quarterSize
 
-pub step-in : (flat part : List ℕ) (b k i : ℕ) → Made 0 part (λ j. at flat (b + j)) quarterSize → k < 256 → b + k * recordWidth ≡ i * recordWidth
+pub step-in : (flat part : List ℕ) (b k i : ℕ) → Made 0 part (λ j. at flat (b + j)) quarterSize → k < quarterRecords → b + k * recordWidth ≡ i * recordWidth
     → stepAt part k ≡ stepAt flat i
 step-in flat part b k i M l e = λ j. record {
   fate = here (k * recordWidth) (i * recordWidth) (omega arith) (omega arith) j;

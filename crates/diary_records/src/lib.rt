@@ -11,7 +11,7 @@ ghost use Rattle.arrays.specs.ArrayInstance.{at};
 ghost use Rattle.arrays.specs.Filled.{Made};
 ghost use Rattle.diary.specs.FlatDiary.{flatSize};
 ghost use Rattle.diary.specs.LentSteps.{stepAt, stepsIn};
-ghost use Rattle.diary_records.specs.Quartered.{Quartered, quarterSize};
+ghost use Rattle.diary_records.specs.Quartered.{Quartered, quarterRecords, quarterSize};
 ghost use Rattle.diary_records.specs.TraceRecords.{Readable, flatOf};
 use diary::Step;
 use limits::ENTRY_LIMIT;
@@ -46,8 +46,20 @@ pub fn flat_records(
     flat
 }
 
-// A quarter of a flat diary: 256 records.
+// A quarter of a flat diary: 256 records of five numbers. Where the quarters behind the first begin, in records and in numbers.
 pub const QUARTER: usize = 1280;
+
+pub(crate) const SECOND_RECORD: usize = 256;
+
+pub(crate) const THIRD_RECORD: usize = 512;
+
+pub(crate) const FOURTH_RECORD: usize = 768;
+
+pub(crate) const SECOND: usize = 1280;
+
+pub(crate) const THIRD: usize = 2560;
+
+pub(crate) const FOURTH: usize = 3840;
 
 // To read a place of an array by value is to copy the array, so a diary is filled from quarters.
 pub struct Quarters {
@@ -75,9 +87,9 @@ pub(crate) fn split(flat: [u8; FLAT_SIZE]) -> Quarters
     ensures { λ r. ⌜ Quartered flat r ⌝ }
 {
     let first = quarter(flat, 0);
-    let second = quarter(flat, 1280);
-    let third = quarter(flat, 2560);
-    let fourth = quarter(flat, 3840);
+    let second = quarter(flat, SECOND);
+    let third = quarter(flat, THIRD);
+    let fourth = quarter(flat, FOURTH);
     Quarters {
         first: first,
         second: second,
@@ -88,7 +100,7 @@ pub(crate) fn split(flat: [u8; FLAT_SIZE]) -> Quarters
 
 // The i-th record of a quarter.
 pub(crate) fn step_in(part: [u8; QUARTER], i: usize) -> Step
-    requires { ⌜ i < 256 ⌝ }
+    requires { ⌜ i < quarterRecords ⌝ }
     ensures { λ r. ⌜ r ≡ stepAt part i ⌝ }
 {
     let b = i * RECORD_WIDTH;
@@ -106,20 +118,20 @@ pub(crate) fn step_at(q: Quarters, i: usize) -> Step
     requires { ⌜ i < diarySize ⌝ }
     ensures { λ r. ⌜ ((flat : List ℕ) → Quartered flat q → r ≡ stepAt flat i) ⌝ }
 {
-    if i < 256 {
+    if i < SECOND_RECORD {
         let part = q.first;
         return step_in(part, i);
     }
-    if i < 512 {
+    if i < THIRD_RECORD {
         let part = q.second;
-        return step_in(part, i - 256);
+        return step_in(part, i - SECOND_RECORD);
     }
-    if i < 768 {
+    if i < FOURTH_RECORD {
         let part = q.third;
-        return step_in(part, i - 512);
+        return step_in(part, i - THIRD_RECORD);
     }
     let part = q.fourth;
-    step_in(part, i - 768)
+    step_in(part, i - FOURTH_RECORD)
 }
 
 // The first n records of a flat diary go to the front of the lent one; behind them it keeps its records.
