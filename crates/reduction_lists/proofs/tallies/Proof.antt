@@ -132,8 +132,13 @@ returns c =
       count-ends (p .1) (a .v) (p .0) (flag (a .q .now)) (l .k) (l .e) (l .d) t (l .inv .1),
     )
 
+mul-e : tie.Need-mul-e Inv-loop μ-loop
+mul-e c = let p = c .before .pre in omega (arith, first-room (p .1) (c .before .args .v) (p .0))
+
+element-copy-out-e : tie.Need-element-copy-out-e Inv-loop μ-loop
+element-copy-out-e c = let p = c .before .pre in omega (arith, first-room (p .1) (c .before .args .v) (p .0))
+
 pub tallies-spec : {M : Type 1} → statement M
 tallies-spec =
-    tie.close (tie.spec Inv-loop μ-loop (λ c. search needs) (λ c. search needs) cast-k (λ c. let p = c .before .pre in omega (arith, first-room (p .1) (c .before .args .v) (p .0)))
-    (λ c. let p = c .before .pre in omega (arith, first-room (p .1) (c .before .args .v) (p .0))) cast-e loop-holds (λ c. search needs)
+    tie.close (tie.spec Inv-loop μ-loop (λ c. search needs) (λ c. search needs) cast-k mul-e element-copy-out-e cast-e loop-holds (λ c. search needs)
     (λ c. search needs) add-c (λ c. search needs) (λ c. search needs) add-d add-k mul-e-2 element-copy-out-e-2 cast-e-2 loop-less loop-again returns)
