@@ -57,12 +57,12 @@ low-put list k x b l h L i il = by-eq i k
     (λ z t. omega (arith, ap (at (set list k x)) z, getD-set-same list k x 0 l))
     (λ n t. omega (arith, getD-set-other list k i x 0 n, L i (by-cases (decLt i k) (λ a. a) (λ a. absurd (n (omega (arith, bit-one b)))))))
 
--- ---- the cells of v below rank r are painted from what remains, with the quota q: f₀ is now f, and the nodes in w saw an arrow turn
+-- ---- the cells of v below rank r are painted from what remains, with the quota q: f₀ is now f, and the nodes in w are across an arrow that turned
 pub record Painted (m : ℕ) (other cell : List ℕ) (rem : List Bool) (v q r : ℕ) (f₀ f : List Bool) (w : ℕ → Bool) : Type 0 where
   pub sizeF : length f ≡ length f₀
   pub new : (i : ℕ) → i < r → inCell cell v i < m → flag f (inCell cell v i) ≡ flag rem (inCell cell v i) && ltb (passed m cell (flag rem) v i) q
   pub old : (e : ℕ) → ((i : ℕ) → i < r → inCell cell v i ≢ e) → flag f e ≡ flag f₀ e
-  pub saw : (u : ℕ) → w u ≡ false → (e : ℕ) → e < m → at other e ≡ u → flag f e ≡ flag f₀ e
+  pub elsewhere : (u : ℕ) → w u ≡ false → (e : ℕ) → e < m → at other e ≡ u → flag f e ≡ flag f₀ e
 
 module _ (m : ℕ) (end rank : List ℕ) (tied : List Bool) (other cell : List ℕ) (C : Celled m end rank tied cell) (rem : List Bool) (v q : ℕ)
     (f₀ : List Bool) where
@@ -74,7 +74,7 @@ module _ (m : ℕ) (end rank : List ℕ) (tied : List Bool) (other cell : List �
     sizeF = refl;
     new = λ i h. absurd (omega arith);
     old = λ e h. refl;
-    saw = λ u h e l i. refl;
+    elsewhere = λ u h e l i. refl;
   }
 
   -- a cell without an edge
@@ -86,7 +86,7 @@ module _ (m : ℕ) (end rank : List ℕ) (tied : List Bool) (other cell : List �
         (λ b. P .new i b l)
         (let g : i ≤ r = omega arith in eq-or-lt-of-le g);
     old = λ e n. P .old e (λ i k. n i (omega arith));
-    saw = P .saw;
+    elsewhere = P .elsewhere;
   }
 
   same-flag : (a b : Bool) → differ a b ≡ false → a ≡ b
@@ -95,7 +95,7 @@ module _ (m : ℕ) (end rank : List ℕ) (tied : List Bool) (other cell : List �
   same-flag false true h = sym h
   same-flag false false h = refl
 
-  -- a cell with an edge: its flag is stored, and its other node sees whether it turned
+  -- a cell with an edge: its flag is stored, and its other node is in w if it turned
   pub painted-edge : (r : ℕ) (f : List Bool) (w w′ : ℕ → Bool) → v < nodeLimit → r < emptyRank → inCell cell v r < m → inCell cell v r < length f
       → (on : Bool) → on ≡ flag rem (inCell cell v r) && ltb (passed m cell (flag rem) v r) q
       → ((u : ℕ) → w′ u ≡ w u || (differ on (flag f (inCell cell v r)) && eqb (at other (inCell cell v r)) u)) → At r f w
@@ -108,13 +108,13 @@ module _ (m : ℕ) (end rank : List ℕ) (tied : List Bool) (other cell : List �
         (λ b. getD-set-other f d (inCell cell v i) on false (apart i b il) ∙ P .new i b il)
         (let g : i ≤ r = omega arith in eq-or-lt-of-le g);
     old = λ e n. getD-set-other f d e on false (λ (z : e ≡ d). n r (omega arith) (sym z)) ∙ P .old e (λ i k. n i (omega arith));
-    saw = λ u h e el j.
+    elsewhere = λ u h e el j.
         let p = or-parts (w u) (differ on (flag f d) && eqb (at other d) u) (sym (wi u) ∙ h) in
         by-eq e d
         (λ z s. ap (flag (set f d on)) z ∙ getD-set-same f d on false lf
         ∙ same-flag on (flag f d) (seen (differ on (flag f d)) (eqb (at other d) u) (p .1) (eqb-yes (at other d) u (ap (at other) (sym z) ∙ j)))
-        ∙ ap (flag f) (sym z) ∙ P .saw u (p .0) e el j)
-        (λ ne s. getD-set-other f d e on false ne ∙ P .saw u (p .0) e el j);
+        ∙ ap (flag f) (sym z) ∙ P .elsewhere u (p .0) e el j)
+        (λ ne s. getD-set-other f d e on false ne ∙ P .elsewhere u (p .0) e el j);
   }
     where
       d : ℕ

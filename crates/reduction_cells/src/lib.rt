@@ -151,7 +151,7 @@ pub fn worst(
     m
 }
 
-// The arrows of v painted anew: the strict remaining edges that fewer than q are ahead of. The nodes that saw an arrow turn go to the front of
+// The arrows of v painted anew: the strict remaining edges that fewer than q are ahead of. The nodes across an arrow that turned go to the front of
 // `turned`; how many they are is returned.
 pub fn paint(
     m: usize,

@@ -27,7 +27,7 @@ use Rattle.reduction_nodes.specs.Numbers.{surveyorNumbers, standNumbers,
 use Rattle.reduction_nodes.specs.Local.{surveyor-local}
 
 -- ---- the tables of the edges, made once: lists and cells of both sides; `strict` says that surveyors tie nothing
-pub record Links : Type 0 where
+pub record NodeLists : Type 0 where
   pub listS : List ℕ
   pub firstS : List ℕ
   pub listT : List ℕ
@@ -35,7 +35,7 @@ pub record Links : Type 0 where
   pub cellS : List ℕ
   pub cellT : List ℕ
 
-pub record Tables (A : Edges) (strict : List Bool) (L : Links) : Type 0 where
+pub record Tables (A : Edges) (strict : List Bool) (L : NodeLists) : Type 0 where
   pub fitS : Low (A .m) (A .sv) nodeLimit
   pub fitT : Low (A .m) (A .st) nodeLimit
   pub placedS : Low (A .m) (A .rs) emptyRank
@@ -47,12 +47,12 @@ pub record Tables (A : Edges) (strict : List Bool) (L : Links) : Type 0 where
   pub celledT : Celled (A .m) (A .st) (A .rt) (A .tied) (L .cellT)
 
 -- in a lawful instance the cells are those of the model's sides
-pub cellsS : {A : Edges} {strict : List Bool} {L : Links} → Tables A strict L → {quotaS quotaT : List ℕ} (K : Known A quotaS quotaT)
+pub cellsS : {A : Edges} {strict : List Bool} {L : NodeLists} → Tables A strict L → {quotaS quotaT : List ℕ} (K : Known A quotaS quotaT)
     → Cells (surveyors (instanceOf K)) (L .cellS)
 cellsS {A} {strict} {L} D {quotaS} K =
     celled-is (A .m) (K .ns) (A .sv) (A .rs) strict (λ e. false) (at quotaS) (L .cellS) (λ e. sym (D .none e)) (D .fitS) (D .celledS) (K .law .atS)
 
-pub cellsT : {A : Edges} {strict : List Bool} {L : Links} → Tables A strict L → {quotaS quotaT : List ℕ} (K : Known A quotaS quotaT)
+pub cellsT : {A : Edges} {strict : List Bool} {L : NodeLists} → Tables A strict L → {quotaS quotaT : List ℕ} (K : Known A quotaS quotaT)
     → Cells (stands (instanceOf K)) (L .cellT)
 cellsT {A} {L} D {quotaT} K =
     celled-is (A .m) (K .nt) (A .st) (A .rt) (A .tied) (flag (A .tied)) (at quotaT) (L .cellT) (λ e. refl) (D .fitT) (D .celledT) (K .law .atT)
@@ -69,8 +69,8 @@ pub record Looks : Type 0 where
 abbrev pub edges : (m : ℕ) (sv st rs rt : List ℕ) (tied : List Bool) → Edges
 edges m sv st rs rt tied = record { m = m; sv = sv; st = st; rs = rs; rt = rt; tied = tied }
 
-abbrev pub links : (ls hs lt ht cs ct : List ℕ) → Links
-links ls hs lt ht cs ct = record { listS = ls; firstS = hs; listT = lt; firstT = ht; cellS = cs; cellT = ct }
+abbrev pub nodeLists : (ls bs lt bt cs ct : List ℕ) → NodeLists
+nodeLists ls bs lt bt cs ct = record { listS = ls; firstS = bs; listT = lt; firstT = bt; cellS = cs; cellT = ct }
 
 abbrev pub looks : (rem fs ft : List Bool) (qs qt : List ℕ) → Looks
 looks rem fs ft qs qt = record { rem = rem; fs = fs; ft = ft; qs = qs; qt = qt }
@@ -103,7 +103,7 @@ surveyorAt x v = record { rule4 = at (x .rule4) v; rule5 = at (x .rule5) v; rule
 abbrev pub standAt : Stands → ℕ → Stand
 standAt y v = record { rule3 = at (y .rule3) v; rule7 = at (y .rule7) v; loose = flag (y .loose) v }
 
-module _ (A : Edges) (L : Links) (X : Looks) where
+module _ (A : Edges) (L : NodeLists) (X : Looks) where
   abbrev pub surveyorNow : (lo : List Bool) → ℕ → Surveyor
   surveyorNow lo = surveyorsOf (A .m) (A .sv) (A .st) (L .cellS) (X .rem) (X .fs) (X .ft) lo (X .qs)
 
@@ -139,35 +139,35 @@ module _ (A : Edges) (L : Links) (X : Looks) where
     pub noneT : (v : ℕ) → v < nodeLimit → flag (x .oldt) v ≡ false
 
 -- ---- renewed numbers
-renewed-at : {B : Type 0} (d : B) (saw : List Bool) (new : ℕ → B) (old xs : List B) → Renewed d saw new old nodeLimit xs → (v : ℕ) → v < nodeLimit
-    → (b : Bool) → flag saw v ≡ b → getD xs v d ≡ cond b (new v) (getD old v d)
-renewed-at d saw new old xs R v w b t =
-    R v ∙ ap (λ a. cond (a && flag saw v) (new v) (getD old v d)) (lt-ltb v nodeLimit w) ∙ ap (λ b. cond b (new v) (getD old v d)) t
+renewed-at : {B : Type 0} (d : B) (due : List Bool) (new : ℕ → B) (old xs : List B) → Renewed d due new old nodeLimit xs → (v : ℕ) → v < nodeLimit
+    → (b : Bool) → flag due v ≡ b → getD xs v d ≡ cond b (new v) (getD old v d)
+renewed-at d due new old xs R v w b t =
+    R v ∙ ap (λ a. cond (a && flag due v) (new v) (getD old v d)) (lt-ltb v nodeLimit w) ∙ ap (λ b. cond b (new v) (getD old v d)) t
 
-stood-at : (new : ℕ → Stand) (saw : List Bool) (x y : Stands) → Stood new saw x nodeLimit y → (v : ℕ) → v < nodeLimit → (b : Bool) → flag saw v ≡ b
+stood-at : (new : ℕ → Stand) (due : List Bool) (x y : Stands) → Stood new due x nodeLimit y → (v : ℕ) → v < nodeLimit → (b : Bool) → flag due v ≡ b
     → standAt y v ≡ cond b (new v) (standAt x v)
-stood-at new saw x y S v w true t = λ k. record {
-  rule3 = renewed-at 0 saw (λ v. new v .rule3) (x .rule3) (y .rule3) (S .rule3) v w true t k;
-  rule7 = renewed-at 0 saw (λ v. new v .rule7) (x .rule7) (y .rule7) (S .rule7) v w true t k;
-  loose = renewed-at false saw (λ v. new v .loose) (x .loose) (y .loose) (S .loose) v w true t k;
+stood-at new due x y S v w true t = λ k. record {
+  rule3 = renewed-at 0 due (λ v. new v .rule3) (x .rule3) (y .rule3) (S .rule3) v w true t k;
+  rule7 = renewed-at 0 due (λ v. new v .rule7) (x .rule7) (y .rule7) (S .rule7) v w true t k;
+  loose = renewed-at false due (λ v. new v .loose) (x .loose) (y .loose) (S .loose) v w true t k;
 }
-stood-at new saw x y S v w false t = λ k. record {
-  rule3 = renewed-at 0 saw (λ v. new v .rule3) (x .rule3) (y .rule3) (S .rule3) v w false t k;
-  rule7 = renewed-at 0 saw (λ v. new v .rule7) (x .rule7) (y .rule7) (S .rule7) v w false t k;
-  loose = renewed-at false saw (λ v. new v .loose) (x .loose) (y .loose) (S .loose) v w false t k;
+stood-at new due x y S v w false t = λ k. record {
+  rule3 = renewed-at 0 due (λ v. new v .rule3) (x .rule3) (y .rule3) (S .rule3) v w false t k;
+  rule7 = renewed-at 0 due (λ v. new v .rule7) (x .rule7) (y .rule7) (S .rule7) v w false t k;
+  loose = renewed-at false due (λ v. new v .loose) (x .loose) (y .loose) (S .loose) v w false t k;
 }
 
-surveyed-at : (new : ℕ → Surveyor) (saw : List Bool) (x y : Surveyors) → Surveyed new saw x nodeLimit y → (v : ℕ) → v < nodeLimit → (b : Bool)
-    → flag saw v ≡ b → surveyorAt y v ≡ cond b (new v) (surveyorAt x v)
-surveyed-at new saw x y S v w true t = λ k. record {
-  rule4 = renewed-at 0 saw (λ v. new v .rule4) (x .rule4) (y .rule4) (S .rule4) v w true t k;
-  rule5 = renewed-at 0 saw (λ v. new v .rule5) (x .rule5) (y .rule5) (S .rule5) v w true t k;
-  rule6 = renewed-at 0 saw (λ v. new v .rule6) (x .rule6) (y .rule6) (S .rule6) v w true t k;
+surveyed-at : (new : ℕ → Surveyor) (due : List Bool) (x y : Surveyors) → Surveyed new due x nodeLimit y → (v : ℕ) → v < nodeLimit → (b : Bool)
+    → flag due v ≡ b → surveyorAt y v ≡ cond b (new v) (surveyorAt x v)
+surveyed-at new due x y S v w true t = λ k. record {
+  rule4 = renewed-at 0 due (λ v. new v .rule4) (x .rule4) (y .rule4) (S .rule4) v w true t k;
+  rule5 = renewed-at 0 due (λ v. new v .rule5) (x .rule5) (y .rule5) (S .rule5) v w true t k;
+  rule6 = renewed-at 0 due (λ v. new v .rule6) (x .rule6) (y .rule6) (S .rule6) v w true t k;
 }
-surveyed-at new saw x y S v w false t = λ k. record {
-  rule4 = renewed-at 0 saw (λ v. new v .rule4) (x .rule4) (y .rule4) (S .rule4) v w false t k;
-  rule5 = renewed-at 0 saw (λ v. new v .rule5) (x .rule5) (y .rule5) (S .rule5) v w false t k;
-  rule6 = renewed-at 0 saw (λ v. new v .rule6) (x .rule6) (y .rule6) (S .rule6) v w false t k;
+surveyed-at new due x y S v w false t = λ k. record {
+  rule4 = renewed-at 0 due (λ v. new v .rule4) (x .rule4) (y .rule4) (S .rule4) v w false t k;
+  rule5 = renewed-at 0 due (λ v. new v .rule5) (x .rule5) (y .rule5) (S .rule5) v w false t k;
+  rule6 = renewed-at 0 due (λ v. new v .rule6) (x .rule6) (y .rule6) (S .rule6) v w false t k;
 }
 
 -- two arrays in which no node is unlike
@@ -178,7 +178,7 @@ alike false true h = sym h
 alike false false h = refl
 
 -- ---- the old numbers made anew: first those of stands; where none is loose that was not, or the other way round, the surveyors' fresh ones stay
-module _ (A : Edges) (strict : List Bool) (L : Links) (D : Tables A strict L) (X : Looks) (x : Later) (K : Lates A L X x) (y : Stands)
+module _ (A : Edges) (strict : List Bool) (L : NodeLists) (D : Tables A strict L) (X : Looks) (x : Later) (K : Lates A L X x) (y : Stands)
     (S : Stood (standNow A L X) (x .oldt) (x .stands) nodeLimit y) where
   stands-fresh : (v : ℕ) → v < nodeLimit → standAt y v ≡ standNow A L X v
   stands-fresh v w = by-bool (flag (x .oldt) v) (λ t. stood-at (standNow A L X) (x .oldt) (x .stands) y S v w true t)
@@ -221,6 +221,6 @@ module _ (A : Edges) (strict : List Bool) (L : Links) (D : Tables A strict L) (X
     noneT = λ v w. getD-replicate nodeLimit v false false w;
   }
 
-  pub later-fresh : (saw : List Bool) → saw ≡ touched → (z : Surveyors) → Surveyed (surveyorNow A L X (y .loose)) saw (x .surveyors) nodeLimit z
+  pub later-fresh : (due : List Bool) → due ≡ touched → (z : Surveyors) → Surveyed (surveyorNow A L X (y .loose)) due (x .surveyors) nodeLimit z
       → Fresh A L X (record { surveyors = z; stands = y; olds = replicate nodeLimit false; oldt = replicate nodeLimit false })
-  later-fresh saw q z R = fresh-then z (subst (λ s. Surveyed (surveyorNow A L X (y .loose)) s (x .surveyors) nodeLimit z) q R)
+  later-fresh due q z R = fresh-then z (subst (λ s. Surveyed (surveyorNow A L X (y .loose)) s (x .surveyors) nodeLimit z) q R)

@@ -69,16 +69,16 @@ surveyorNumbers rule4 rule5 rule6 = record { rule4 = rule4; rule5 = rule5; rule6
 abbrev pub standNumbers : (rule3 rule7 : List ℕ) (loose : List Bool) → Stands
 standNumbers rule3 rule7 loose = record { rule3 = rule3; rule7 = rule7; loose = loose }
 
--- of the nodes below n, those in `saw` are made anew
-pub record Surveyed (new : ℕ → Surveyor) (saw : List Bool) (x : Surveyors) (n : ℕ) (y : Surveyors) : Type 0 where
-  pub rule4 : Renewed 0 saw (λ v. new v .rule4) (x .rule4) n (y .rule4)
-  pub rule5 : Renewed 0 saw (λ v. new v .rule5) (x .rule5) n (y .rule5)
-  pub rule6 : Renewed 0 saw (λ v. new v .rule6) (x .rule6) n (y .rule6)
+-- of the nodes below n, those in `due` are made anew
+pub record Surveyed (new : ℕ → Surveyor) (due : List Bool) (x : Surveyors) (n : ℕ) (y : Surveyors) : Type 0 where
+  pub rule4 : Renewed 0 due (λ v. new v .rule4) (x .rule4) n (y .rule4)
+  pub rule5 : Renewed 0 due (λ v. new v .rule5) (x .rule5) n (y .rule5)
+  pub rule6 : Renewed 0 due (λ v. new v .rule6) (x .rule6) n (y .rule6)
 
-pub record Stood (new : ℕ → Stand) (saw : List Bool) (x : Stands) (n : ℕ) (y : Stands) : Type 0 where
-  pub rule3 : Renewed 0 saw (λ v. new v .rule3) (x .rule3) n (y .rule3)
-  pub rule7 : Renewed 0 saw (λ v. new v .rule7) (x .rule7) n (y .rule7)
-  pub loose : Renewed false saw (λ v. new v .loose) (x .loose) n (y .loose)
+pub record Stood (new : ℕ → Stand) (due : List Bool) (x : Stands) (n : ℕ) (y : Stands) : Type 0 where
+  pub rule3 : Renewed 0 due (λ v. new v .rule3) (x .rule3) n (y .rule3)
+  pub rule7 : Renewed 0 due (λ v. new v .rule7) (x .rule7) n (y .rule7)
+  pub loose : Renewed false due (λ v. new v .loose) (x .loose) n (y .loose)
 
 -- the arrays have their sizes
 pub record SizedS (y : Surveyors) : Type 0 where
@@ -92,12 +92,12 @@ pub record SizedT (y : Stands) : Type 0 where
   pub loose : length (y .loose) ≡ nodeLimit
 
 -- ---- one node after the other
-module _ (new : ℕ → Surveyor) (saw : List Bool) (x : Surveyors) where
-  pub surveyed-none : Surveyed new saw x 0 x
+module _ (new : ℕ → Surveyor) (due : List Bool) (x : Surveyors) where
+  pub surveyed-none : Surveyed new due x 0 x
   surveyed-none = record {
-    rule4 = renewed-none 0 saw (λ v. new v .rule4) (x .rule4);
-    rule5 = renewed-none 0 saw (λ v. new v .rule5) (x .rule5);
-    rule6 = renewed-none 0 saw (λ v. new v .rule6) (x .rule6);
+    rule4 = renewed-none 0 due (λ v. new v .rule4) (x .rule4);
+    rule5 = renewed-none 0 due (λ v. new v .rule5) (x .rule5);
+    rule6 = renewed-none 0 due (λ v. new v .rule6) (x .rule6);
   }
 
   abbrev pub stored : Surveyors → ℕ → Surveyor → Surveyors
@@ -107,8 +107,8 @@ module _ (new : ℕ → Surveyor) (saw : List Bool) (x : Surveyors) where
     rule6 = set (y .rule6) v (s .rule6);
   }
 
-  pub surveyed-next : (i : ℕ) (y : Surveyors) (s : Surveyor) → i < nodeLimit → SizedS y → flag saw i ≡ true → s ≡ new i → Surveyed new saw x i y
-      → SizedS (stored y i s) × Surveyed new saw x (i + 1) (stored y i s)
+  pub surveyed-next : (i : ℕ) (y : Surveyors) (s : Surveyor) → i < nodeLimit → SizedS y → flag due i ≡ true → s ≡ new i → Surveyed new due x i y
+      → SizedS (stored y i s) × Surveyed new due x (i + 1) (stored y i s)
   surveyed-next i y s l z t e R = (
     record {
       rule4 = simp length-set (z .rule4);
@@ -116,28 +116,28 @@ module _ (new : ℕ → Surveyor) (saw : List Bool) (x : Surveyors) where
       rule6 = simp length-set (z .rule6);
     },
     record {
-      rule4 = renewed-set 0 saw (λ v. new v .rule4) (x .rule4) i (y .rule4) (s .rule4) (omega (arith, z .rule4)) t (ap (λ (k : Surveyor). k .rule4) e)
+      rule4 = renewed-set 0 due (λ v. new v .rule4) (x .rule4) i (y .rule4) (s .rule4) (omega (arith, z .rule4)) t (ap (λ (k : Surveyor). k .rule4) e)
           (R .rule4);
-      rule5 = renewed-set 0 saw (λ v. new v .rule5) (x .rule5) i (y .rule5) (s .rule5) (omega (arith, z .rule5)) t (ap (λ (k : Surveyor). k .rule5) e)
+      rule5 = renewed-set 0 due (λ v. new v .rule5) (x .rule5) i (y .rule5) (s .rule5) (omega (arith, z .rule5)) t (ap (λ (k : Surveyor). k .rule5) e)
           (R .rule5);
-      rule6 = renewed-set 0 saw (λ v. new v .rule6) (x .rule6) i (y .rule6) (s .rule6) (omega (arith, z .rule6)) t (ap (λ (k : Surveyor). k .rule6) e)
+      rule6 = renewed-set 0 due (λ v. new v .rule6) (x .rule6) i (y .rule6) (s .rule6) (omega (arith, z .rule6)) t (ap (λ (k : Surveyor). k .rule6) e)
           (R .rule6);
     },
   )
 
-  pub surveyed-skip : (i : ℕ) (y : Surveyors) → flag saw i ≡ false → Surveyed new saw x i y → Surveyed new saw x (i + 1) y
+  pub surveyed-skip : (i : ℕ) (y : Surveyors) → flag due i ≡ false → Surveyed new due x i y → Surveyed new due x (i + 1) y
   surveyed-skip i y t R = record {
-    rule4 = renewed-skip 0 saw (λ v. new v .rule4) (x .rule4) i (y .rule4) t (R .rule4);
-    rule5 = renewed-skip 0 saw (λ v. new v .rule5) (x .rule5) i (y .rule5) t (R .rule5);
-    rule6 = renewed-skip 0 saw (λ v. new v .rule6) (x .rule6) i (y .rule6) t (R .rule6);
+    rule4 = renewed-skip 0 due (λ v. new v .rule4) (x .rule4) i (y .rule4) t (R .rule4);
+    rule5 = renewed-skip 0 due (λ v. new v .rule5) (x .rule5) i (y .rule5) t (R .rule5);
+    rule6 = renewed-skip 0 due (λ v. new v .rule6) (x .rule6) i (y .rule6) t (R .rule6);
   }
 
-module _ (new : ℕ → Stand) (saw : List Bool) (x : Stands) where
-  pub stood-none : Stood new saw x 0 x
+module _ (new : ℕ → Stand) (due : List Bool) (x : Stands) where
+  pub stood-none : Stood new due x 0 x
   stood-none = record {
-    rule3 = renewed-none 0 saw (λ v. new v .rule3) (x .rule3);
-    rule7 = renewed-none 0 saw (λ v. new v .rule7) (x .rule7);
-    loose = renewed-none false saw (λ v. new v .loose) (x .loose);
+    rule3 = renewed-none 0 due (λ v. new v .rule3) (x .rule3);
+    rule7 = renewed-none 0 due (λ v. new v .rule7) (x .rule7);
+    loose = renewed-none false due (λ v. new v .loose) (x .loose);
   }
 
   abbrev pub put : Stands → ℕ → Stand → Stands
@@ -147,8 +147,8 @@ module _ (new : ℕ → Stand) (saw : List Bool) (x : Stands) where
     loose = set (y .loose) v (s .loose);
   }
 
-  pub stood-next : (i : ℕ) (y : Stands) (s : Stand) → i < nodeLimit → SizedT y → flag saw i ≡ true → s ≡ new i → Stood new saw x i y
-      → SizedT (put y i s) × Stood new saw x (i + 1) (put y i s)
+  pub stood-next : (i : ℕ) (y : Stands) (s : Stand) → i < nodeLimit → SizedT y → flag due i ≡ true → s ≡ new i → Stood new due x i y
+      → SizedT (put y i s) × Stood new due x (i + 1) (put y i s)
   stood-next i y s l z t e R = (
     record {
       rule3 = simp length-set (z .rule3);
@@ -156,16 +156,16 @@ module _ (new : ℕ → Stand) (saw : List Bool) (x : Stands) where
       loose = simp length-set (z .loose);
     },
     record {
-      rule3 = renewed-set 0 saw (λ v. new v .rule3) (x .rule3) i (y .rule3) (s .rule3) (omega (arith, z .rule3)) t (ap (λ (k : Stand). k .rule3) e) (R .rule3);
-      rule7 = renewed-set 0 saw (λ v. new v .rule7) (x .rule7) i (y .rule7) (s .rule7) (omega (arith, z .rule7)) t (ap (λ (k : Stand). k .rule7) e) (R .rule7);
-      loose = renewed-set false saw (λ v. new v .loose) (x .loose) i (y .loose) (s .loose) (omega (arith, z .loose)) t (ap (λ (k : Stand). k .loose) e)
+      rule3 = renewed-set 0 due (λ v. new v .rule3) (x .rule3) i (y .rule3) (s .rule3) (omega (arith, z .rule3)) t (ap (λ (k : Stand). k .rule3) e) (R .rule3);
+      rule7 = renewed-set 0 due (λ v. new v .rule7) (x .rule7) i (y .rule7) (s .rule7) (omega (arith, z .rule7)) t (ap (λ (k : Stand). k .rule7) e) (R .rule7);
+      loose = renewed-set false due (λ v. new v .loose) (x .loose) i (y .loose) (s .loose) (omega (arith, z .loose)) t (ap (λ (k : Stand). k .loose) e)
           (R .loose);
     },
   )
 
-  pub stood-skip : (i : ℕ) (y : Stands) → flag saw i ≡ false → Stood new saw x i y → Stood new saw x (i + 1) y
+  pub stood-skip : (i : ℕ) (y : Stands) → flag due i ≡ false → Stood new due x i y → Stood new due x (i + 1) y
   stood-skip i y t R = record {
-    rule3 = renewed-skip 0 saw (λ v. new v .rule3) (x .rule3) i (y .rule3) t (R .rule3);
-    rule7 = renewed-skip 0 saw (λ v. new v .rule7) (x .rule7) i (y .rule7) t (R .rule7);
-    loose = renewed-skip false saw (λ v. new v .loose) (x .loose) i (y .loose) t (R .loose);
+    rule3 = renewed-skip 0 due (λ v. new v .rule3) (x .rule3) i (y .rule3) t (R .rule3);
+    rule7 = renewed-skip 0 due (λ v. new v .rule7) (x .rule7) i (y .rule7) t (R .rule7);
+    loose = renewed-skip false due (λ v. new v .loose) (x .loose) i (y .loose) t (R .loose);
   }

@@ -1,5 +1,5 @@
 // By node, the lowest edge that each rule names there, m if it names none: rules 1, 4, 5, 6 and one half of rule 2 by surveyor, rules 3, 7 and the
-// other half by stand; and which stands are loose. Each is read from the node's own edges; after a step only the nodes that saw a change are read
+// other half by stand; and which stands are loose. Each is read from the node's own edges; after a step only the nodes that due a change are read
 // anew. Rules 1 and 2 are asked at every step, the later ones only where both are silent, so each group has its own functions.
 ghost use mathlib.Core.Path.{_≡_};
 ghost use mathlib.Core.Bool.{_&&_, _||_, cond};
@@ -243,7 +243,7 @@ pub fn second_renewed(
     }
 }
 
-// Rules 4, 5 and 6 at the surveyors in `saw`, anew.
+// Rules 4, 5 and 6 at the surveyors in `due`, anew.
 pub fn surveyors_renewed(
     m: usize,
     sv: &[u8; ENTRY_LIMIT],
@@ -258,7 +258,7 @@ pub fn surveyors_renewed(
     ft: &[bool; ENTRY_LIMIT],
     lo: &[bool; 32],
     q: &[u16; 32],
-    saw: &[bool; 32],
+    due: &[bool; 32],
     rule4: &mut [u16; 32],
     rule5: &mut [u16; 32],
     rule6: &mut [u16; 32],
@@ -267,7 +267,7 @@ pub fn surveyors_renewed(
     requires { ⌜ SizedS (surveyorNumbers (now rule4) (now rule5) (now rule6)) ⌝ }
     ensures { λ r. ⌜ SizedS (surveyorNumbers (now (rule4 .exit)) (now (rule5 .exit)) (now (rule6 .exit))) ⌝ }
     ensures { λ r. ⌜ Surveyed (surveyorsOf m (now (sv .entry)) (now (st .entry)) (now (cell .entry)) (now (rem .entry))
-        (now (fs .entry)) (now (ft .entry)) (now (lo .entry)) (now (q .entry))) (now (saw .entry))
+        (now (fs .entry)) (now (ft .entry)) (now (lo .entry)) (now (q .entry))) (now (due .entry))
         (surveyorNumbers (now (rule4 .entry)) (now (rule5 .entry)) (now (rule6 .entry))) nodeLimit
         (surveyorNumbers (now (rule4 .exit)) (now (rule5 .exit)) (now (rule6 .exit))) ⌝ }
 {
@@ -275,7 +275,7 @@ pub fn surveyors_renewed(
     while i < 32 {
         let v = i;
         i += 1;
-        if saw[v] {
+        if due[v] {
             let s = surveyor_now(
                 m,
                 sv,
@@ -299,7 +299,7 @@ pub fn surveyors_renewed(
     }
 }
 
-// Rules 3 and 7 at the stands in `saw`, anew, and whether they are loose.
+// Rules 3 and 7 at the stands in `due`, anew, and whether they are loose.
 pub fn stands_renewed(
     m: usize,
     st: &[u8; ENTRY_LIMIT],
@@ -312,7 +312,7 @@ pub fn stands_renewed(
     fs: &[bool; ENTRY_LIMIT],
     ft: &[bool; ENTRY_LIMIT],
     q: &[u16; 32],
-    saw: &[bool; 32],
+    due: &[bool; 32],
     rule3: &mut [u16; 32],
     rule7: &mut [u16; 32],
     loose: &mut [bool; 32],
@@ -321,14 +321,14 @@ pub fn stands_renewed(
     requires { ⌜ SizedT (standNumbers (now rule3) (now rule7) (now loose)) ⌝ }
     ensures { λ r. ⌜ SizedT (standNumbers (now (rule3 .exit)) (now (rule7 .exit)) (now (loose .exit))) ⌝ }
     ensures { λ r. ⌜ Stood (standsOf m (now (st .entry)) (now (cell .entry)) (now (rem .entry)) (now (fs .entry)) (now (ft .entry))
-        (now (q .entry))) (now (saw .entry)) (standNumbers (now (rule3 .entry)) (now (rule7 .entry)) (now (loose .entry))) nodeLimit
+        (now (q .entry))) (now (due .entry)) (standNumbers (now (rule3 .entry)) (now (rule7 .entry)) (now (loose .entry))) nodeLimit
         (standNumbers (now (rule3 .exit)) (now (rule7 .exit)) (now (loose .exit))) ⌝ }
 {
     let mut i: usize = 0;
     while i < 32 {
         let v = i;
         i += 1;
-        if saw[v] {
+        if due[v] {
             let s = stand_now(m, st, rank, tied, list, first, cell, rem, fs, ft, q[v], v);
             rule3[v] = s.rule3;
             rule7[v] = s.rule7;

@@ -1,36 +1,21 @@
 -- Where a run is: the numbers that it carries are those of its arrays, and the arrays show the model's state and its arrows. So it is at the beginning,
 -- and after each step.
-use Prim.Native.Nat.{ℕ, suc, _+_, _<_}
-use native.Mathlib.Omega.{arith}
-use native.Mathlib.Decide.{decLt}
-use mathlib.Core.Path.{_≡_, sym, ap, _∙_, subst}
-use mathlib.Core.Logic.{by-cases}
-use mathlib.Core.Bool.{Bool, true, false, cond}
+use Prim.Native.Nat.{ℕ, _<_}
+use mathlib.Core.Path.{_≡_, sym, _∙_, subst}
+use mathlib.Core.Bool.{Bool, true, false}
 use mathlib.Core.List.{List}
 use lib.ListN.{length, replicate, getD-replicate}
 use lib.Dec.{T}
-use Rattle.lists.specs.Test.{by-eq}
 use Rattle.model.specs.Limits.{nodeLimit, entryLimit}
-use Rattle.model.specs.Instance.{surveyors, stands}
-use Rattle.model.specs.Reduction.{cutS, cutT}
 use Rattle.arrays.specs.ArrayInstance.{flag}
-use Rattle.arrays.specs.Passes.{Low}
-use Rattle.arrays.specs.Filled.{Made}
-use Rattle.reduction_cells.specs.Painted.{AllPainted, among}
-use Rattle.reduction_cells.specs.CellLaws.{all-arrows}
-use Rattle.reduction_nodes.specs.Renewed.{among-own, among-other}
-use Rattle.reduction_nodes.specs.Known.{Edges, Known, instanceOf}
-use Rattle.reduction_nodes.specs.Kept.{Links, Tables, looks, Later, Leads, Lates, SizedL, cellsS, cellsT}
+use Rattle.reduction_nodes.specs.Known.{Edges}
+use Rattle.reduction_nodes.specs.Kept.{NodeLists, looks, Later, Leads, Lates, SizedL}
 use Rattle.reduction_state.specs.declared.State as arrays
-use Rattle.reduction_state.specs.Trace.{blank}
-use Rattle.reduction_state.specs.RunState as state
-use Rattle.reduction_state.specs.RunState.{whole, Sized, Started, stateAt}
+use Rattle.reduction_state.specs.RunState.{Sized}
 use Rattle.reduction_turn.specs.Onward.{Numbers, SizedN}
-use Rattle.reduction_turn.specs.Shown.{Shown}
-use Rattle.reduction_run.specs.declared.Start.{Start}
 
 -- ---- the numbers that a run carries, and the sizes of its arrays
-pub record Running (A : Edges) (L : Links) (x : arrays.State) (fs ft : List Bool) (k : Numbers) (l : Later) : Type 0 where
+pub record Running (A : Edges) (L : NodeLists) (x : arrays.State) (fs ft : List Bool) (k : Numbers) (l : Later) : Type 0 where
   pub leads : Leads A L (looks (x .rem) fs ft (x .qs) (x .qt)) (k .one) (k .twos) (k .twot)
   pub lates : Lates A L (looks (x .rem) fs ft (x .qs) (x .qt)) l
   pub sized : Sized x
@@ -42,38 +27,3 @@ pub record Running (A : Edges) (L : Links) (x : arrays.State) (fs ft : List Bool
 -- every node is marked old at the beginning
 pub all-marked : (v : ℕ) → v < nodeLimit → flag (replicate nodeLimit true) v ≡ false → ⊥
 all-marked v w h = subst T (sym (getD-replicate nodeLimit v true false w) ∙ h) tt
-
--- and read then: a list of all nodes has each
-all-among : (list : List ℕ) (n v : ℕ) → v < n → Made 0 list (λ u. u) n → among list n v ≡ true
-all-among list (suc n) v h M = ap (λ k. among list k v) (let z : suc n ≡ n + 1 = omega arith in z) ∙ by-eq v n
-    (λ q t. among-own list n v (q ∙ sym (M n (omega arith))))
-    (λ k t. among-other list n v (λ z. k (z ∙ M n (omega arith)))
-    ∙ all-among list n v (by-cases (decLt v n) (λ l. l) (λ l. absurd (k (omega arith)))) (λ u l. M u (omega arith)))
-
-pub all-low : (list : List ℕ) → Made 0 list (λ u. u) nodeLimit → Low nodeLimit list nodeLimit
-all-low list M i h = omega (arith, M i h)
-
-pub all-read : (list : List ℕ) → Made 0 list (λ u. u) nodeLimit → (new old xs : ℕ → ℕ)
-    → ((v : ℕ) → xs v ≡ cond (among list nodeLimit v) (new v) (old v)) → (v : ℕ) → v < nodeLimit → xs v ≡ new v
-all-read list M new old xs R v w = R v ∙ ap (λ b. cond b (new v) (old v)) (all-among list nodeLimit v w M)
-
--- ---- the beginning
-abbrev pub stateOf : Start → arrays.State
-stateOf b = whole (b .rem) (b .fixed) (b .qs) (b .qt) (b .ds) (b .dt)
-
-pub record Begun (A : Edges) (quotaS quotaT : List ℕ) (b : Start) : Type 0 where
-  pub shown : (K : Known A quotaS quotaT) → Shown (instanceOf K) (stateOf b) (b .fs) (b .ft) blank
-  pub sized : Sized (stateOf b)
-  pub sizeS : length (b .fs) ≡ entryLimit
-  pub sizeT : length (b .ft) ≡ entryLimit
-
-pub shown-first : {A : Edges} {strict : List Bool} {L : Links} (D : Tables A strict L) {quotaS quotaT : List ℕ} (K : Known A quotaS quotaT)
-    (x : arrays.State) → Started (A .m) (A .sv) (A .st) quotaS quotaT x → (fs ft : List Bool) → AllPainted (A .m) (L .cellS) (x .rem) (x .qs) nodeLimit fs
-    → AllPainted (A .m) (L .cellT) (x .rem) (x .qt) nodeLimit ft → Shown (instanceOf K) x fs ft blank
-shown-first {A} {L} D K x S fs ft PS PT =
-    let G = instanceOf K in
-    let Z = state.stands-first K x S in record {
-      stood = Z;
-      fromS = all-arrows (surveyors G) (K .law .atS) (L .cellS) (cellsS D K) (x .rem) fs (x .qs) PS (cutS G (stateAt Z)) (Z .holds .atS .cut-is);
-      fromT = all-arrows (stands G) (K .law .atT) (L .cellT) (cellsT D K) (x .rem) ft (x .qt) PT (cutT G (stateAt Z)) (Z .holds .atT .cut-is);
-    }

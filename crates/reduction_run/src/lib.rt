@@ -1,17 +1,12 @@
 // The whole reduction: all steps, each entered in the trace, and what remains and what is fixed at the end. Beside the state and its arrows a run
 // carries the numbers of the nodes, which say what the rules name; a step renews them where it changed something (crate reduction_turn). All of
 // that stays in place, lent to each step and turn.
-ghost use mathlib.Core.Path.{_≡_};
 ghost use Prim.Native.Nat.{_≤_, _<_};
-ghost use lib.ListN.{length};
 ghost use Rattle.model.specs.Limits.{nodeLimit, entryLimit, emptyRank};
 ghost use Rattle.arrays.specs.Passes.{Low};
-ghost use Rattle.arrays.specs.Filled.{Made};
 ghost use Rattle.reduction_nodes.specs.Known.{Known, instanceOf};
-ghost use Rattle.reduction_nodes.specs.Kept.{Tables, Leads, edges, links, looks};
+ghost use Rattle.reduction_nodes.specs.Kept.{Tables, edges, nodeLists};
 ghost use Rattle.reduction_state.specs.Outcome.{Reduced, ReducedFrom};
-ghost use Rattle.reduction_run.specs.Running.{Begun};
-use limits::EMPTY_RANK;
 use limits::ENTRY_LIMIT;
 use reduction_cells::CELLS;
 use reduction_lists::PLACES;
@@ -24,113 +19,6 @@ pub struct Reduction {
     pub trace: Trace,
 }
 
-// The beginning: the state, and its arrows.
-pub struct Start {
-    pub rem: [bool; ENTRY_LIMIT],
-    pub fixed: [bool; ENTRY_LIMIT],
-    pub qs: [u16; 32],
-    pub qt: [u16; 32],
-    pub ds: [u16; 32],
-    pub dt: [u16; 32],
-    pub fs: [bool; ENTRY_LIMIT],
-    pub ft: [bool; ENTRY_LIMIT],
-}
-
-pub(crate) fn begun(
-    m: usize,
-    sv: &[u8; ENTRY_LIMIT],
-    st: &[u8; ENTRY_LIMIT],
-    rs: &[u8; ENTRY_LIMIT],
-    rt: &[u8; ENTRY_LIMIT],
-    strict: &[bool; ENTRY_LIMIT],
-    tied: &[bool; ENTRY_LIMIT],
-    ls: &[u16; PLACES],
-    hs: &[u16; 32],
-    lt: &[u16; PLACES],
-    ht: &[u16; 32],
-    cs: &[u16; CELLS],
-    ct: &[u16; CELLS],
-    qs: &[u8; 32],
-    qt: &[u8; 32],
-) -> Start
-    requires { ⌜ Tables (edges m (now sv) (now st) (now rs) (now rt) (now tied)) (now strict)
-        (links (now ls) (now hs) (now lt) (now ht) (now cs) (now ct)) ⌝ }
-    ensures { λ r. ⌜ Begun (edges m (now (sv .entry)) (now (st .entry)) (now (rs .entry)) (now (rt .entry)) (now (tied .entry)))
-        (now (qs .entry)) (now (qt .entry)) r ⌝ }
-{
-    let a = reduction_state::start(m, sv, st, qs, qt);
-    let rem = a.rem;
-    let fixed = a.fixed;
-    let cuts = a.qs;
-    let cutt = a.qt;
-    let ds = a.ds;
-    let dt = a.dt;
-    let fs = reduction_cells::painted(m, sv, rs, strict, cs, &cuts, st, &rem);
-    let ft = reduction_cells::painted(m, st, rt, tied, ct, &cutt, sv, &rem);
-    Start {
-        rem: rem,
-        fixed: fixed,
-        qs: cuts,
-        qt: cutt,
-        ds: ds,
-        dt: dt,
-        fs: fs,
-        ft: ft,
-    }
-}
-
-// A list of all nodes of a side.
-pub(crate) fn everyone() -> [u8; EMPTY_RANK]
-    ensures { λ r. ⌜ Made 0 r (λ v. v) nodeLimit ⌝ }
-{
-    let mut o = [0u8; EMPTY_RANK];
-    let mut i = 0;
-    while i < 32 {
-        o[i] = i as u8;
-        i += 1;
-    }
-    o
-}
-
-// The numbers of rules 1 and 2 at all nodes.
-pub(crate) fn numbered(
-    m: usize,
-    sv: &[u8; ENTRY_LIMIT],
-    st: &[u8; ENTRY_LIMIT],
-    rs: &[u8; ENTRY_LIMIT],
-    rt: &[u8; ENTRY_LIMIT],
-    strict: &[bool; ENTRY_LIMIT],
-    tied: &[bool; ENTRY_LIMIT],
-    ls: &[u16; PLACES],
-    hs: &[u16; 32],
-    lt: &[u16; PLACES],
-    ht: &[u16; 32],
-    cs: &[u16; CELLS],
-    ct: &[u16; CELLS],
-    rem: &[bool; ENTRY_LIMIT],
-    fs: &[bool; ENTRY_LIMIT],
-    ft: &[bool; ENTRY_LIMIT],
-    qs: &[u16; 32],
-    qt: &[u16; 32],
-    one: &mut [u16; 32],
-    twos: &mut [u16; 32],
-    twot: &mut [u16; 32],
-)
-    requires { ⌜ Tables (edges m (now sv) (now st) (now rs) (now rt) (now tied)) (now strict)
-        (links (now ls) (now hs) (now lt) (now ht) (now cs) (now ct)) ⌝ }
-    requires { ⌜ (length (now one) ≡ nodeLimit) × (length (now twos) ≡ nodeLimit) × (length (now twot) ≡ nodeLimit) ⌝ }
-    ensures { λ r. ⌜ (length (now (one .exit)) ≡ nodeLimit) × (length (now (twos .exit)) ≡ nodeLimit) × (length (now (twot .exit)) ≡ nodeLimit) ⌝ }
-    ensures { λ r. ⌜ Leads (edges m (now (sv .entry)) (now (st .entry)) (now (rs .entry)) (now (rt .entry)) (now (tied .entry)))
-        (links (now (ls .entry)) (now (hs .entry)) (now (lt .entry)) (now (ht .entry)) (now (cs .entry)) (now (ct .entry)))
-        (looks (now (rem .entry)) (now (fs .entry)) (now (ft .entry)) (now (qs .entry)) (now (qt .entry)))
-        (now (one .exit)) (now (twos .exit)) (now (twot .exit)) ⌝ }
-{
-    let all = everyone();
-    reduction_nodes::first_renewed(m, sv, ls, hs, fs, ft, &all, 32, one);
-    reduction_nodes::second_renewed(m, sv, rs, strict, ls, hs, cs, rem, ft, qs, &all, 32, twos);
-    reduction_nodes::second_renewed(m, st, rt, tied, lt, ht, ct, rem, fs, qt, &all, 32, twot);
-}
-
 // All steps, with the tables of the edges. At the beginning what the later rules name is old at every node.
 pub(crate) fn run(
     m: usize,
@@ -141,22 +29,22 @@ pub(crate) fn run(
     strict: &[bool; ENTRY_LIMIT],
     tied: &[bool; ENTRY_LIMIT],
     ls: &[u16; PLACES],
-    hs: &[u16; 32],
+    bs: &[u16; 32],
     lt: &[u16; PLACES],
-    ht: &[u16; 32],
+    bt: &[u16; 32],
     cs: &[u16; CELLS],
     ct: &[u16; CELLS],
     qs: &[u8; 32],
     qt: &[u8; 32],
 ) -> Reduction
     requires { ⌜ Tables (edges m (now sv) (now st) (now rs) (now rt) (now tied)) (now strict)
-        (links (now ls) (now hs) (now lt) (now ht) (now cs) (now ct)) ⌝ }
+        (nodeLists (now ls) (now bs) (now lt) (now bt) (now cs) (now ct)) ⌝ }
     ensures { λ r. ⌜ ((K : Known (edges m (now (sv .entry)) (now (st .entry)) (now (rs .entry)) (now (rt .entry)) (now (tied .entry)))
         (now (qs .entry)) (now (qt .entry))) → Reduced (instanceOf K) (r .rem) (r .fixed) (r .trace)) ⌝ }
 {
     let mut edges = [0u16; ENTRY_LIMIT];
     let mut rules = [0u8; ENTRY_LIMIT];
-    let b = begun(
+    let b = reduction_start::begun(
         m,
         sv,
         st,
@@ -165,9 +53,9 @@ pub(crate) fn run(
         strict,
         tied,
         ls,
-        hs,
+        bs,
         lt,
-        ht,
+        bt,
         cs,
         ct,
         qs,
@@ -184,7 +72,7 @@ pub(crate) fn run(
     let mut one = [0u16; 32];
     let mut twos = [0u16; 32];
     let mut twot = [0u16; 32];
-    numbered(
+    reduction_start::numbered(
         m,
         sv,
         st,
@@ -193,9 +81,9 @@ pub(crate) fn run(
         strict,
         tied,
         ls,
-        hs,
+        bs,
         lt,
-        ht,
+        bt,
         cs,
         ct,
         &rem,
@@ -226,9 +114,9 @@ pub(crate) fn run(
             strict,
             tied,
             ls,
-            hs,
+            bs,
             lt,
-            ht,
+            bt,
             cs,
             ct,
             &rem,
@@ -264,9 +152,9 @@ pub(crate) fn run(
             strict,
             tied,
             ls,
-            hs,
+            bs,
             lt,
-            ht,
+            bt,
             cs,
             ct,
             rule,
@@ -315,9 +203,9 @@ pub fn reduce(
 {
     let strict = [false; ENTRY_LIMIT];
     let mut ls = [0u16; PLACES];
-    let hs = reduction_lists::lists(m, sv, &mut ls);
+    let bs = reduction_lists::lists(m, sv, &mut ls);
     let mut lt = [0u16; PLACES];
-    let ht = reduction_lists::lists(m, st, &mut lt);
+    let bt = reduction_lists::lists(m, st, &mut lt);
     let cs = reduction_cells::cells(m, sv, rs, &strict);
     let ct = reduction_cells::cells(m, st, rt, tied);
     run(
@@ -329,9 +217,9 @@ pub fn reduce(
         &strict,
         tied,
         &ls,
-        &hs,
+        &bs,
         &lt,
-        &ht,
+        &bt,
         &cs,
         &ct,
         qs,

@@ -15,7 +15,7 @@ use Rattle.theory_reduction.specs.ByNode.{rule2S, rule2T, rule2-ends}
 use Rattle.reduction_nodes.specs.declared.Surveyor.{Surveyor}
 use Rattle.reduction_nodes.specs.declared.Stand.{Stand}
 use Rattle.reduction_nodes.specs.Known.{Edges, Known, instanceOf, stateOf}
-use Rattle.reduction_nodes.specs.Kept.{Links, Tables, Looks, Later, Leads, Fresh, cellsS, cellsT}
+use Rattle.reduction_nodes.specs.Kept.{NodeLists, Tables, Looks, Later, Leads, Fresh, cellsS, cellsT}
 use Rattle.reduction_nodes.specs.NodeLaws.{Seen, Named, Loose, stand2, stand3, stand7, stand-loose, surveyor1, surveyor2, surveyor4, surveyor5, surveyor6}
 use Rattle.reduction_step.specs.Least.{Least, least-lowest, low-either}
 
@@ -115,7 +115,7 @@ abbrev pub Steps : (A : Edges) (X : Looks) (r e : ℕ) → Type 0
 Steps A X r e = (quotaS quotaT : List ℕ) (K : Known A quotaS quotaT) (fixed : List Bool) (kS kT : ℕ → ℕ)
     → Seen (instanceOf K) (stateOf (X .rem) fixed kS kT) (X .fs) (X .ft) (X .qs) (X .qt) → Says (instanceOf K) (stateOf (X .rem) fixed kS kT) r e
 
-module _ {A : Edges} {strict : List Bool} {L : Links} (D : Tables A strict L) (X : Looks) {quotaS quotaT : List ℕ} (K : Known A quotaS quotaT)
+module _ {A : Edges} {strict : List Bool} {L : NodeLists} (D : Tables A strict L) (X : Looks) {quotaS quotaT : List ℕ} (K : Known A quotaS quotaT)
     (fixed : List Bool) (kS kT : ℕ → ℕ)
     (S : Seen (instanceOf K) (stateOf (X .rem) fixed kS kT) (X .fs) (X .ft) (X .qs) (X .qt)) where
   abbrev G : Instance

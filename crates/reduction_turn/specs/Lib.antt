@@ -1,2 +1,2 @@
 pub mod Onward
-pub mod Shown
+pub mod ShownOn

@@ -20,7 +20,7 @@ use Rattle.reduction_nodes.specs.Known.{Edges}
 use Rattle.reduction_nodes.specs.Renewed.{RenewedBy, by-all, among-own, among-other, or-true}
 use Rattle.reduction_nodes.specs.Numbers.{firstOf, secondOf, secondsOf, Surveyors, Stands}
 use Rattle.reduction_nodes.specs.Local.{Same, first-local, second-local, stand-local, surveyor-local, second-struck}
-use Rattle.reduction_nodes.specs.Kept.{Links, Tables, Looks, looks, Later, Leads, Lates, firstNow, secondS, secondT}
+use Rattle.reduction_nodes.specs.Kept.{NodeLists, Tables, Looks, looks, Later, Leads, Lates, firstNow, secondS, secondT}
 
 -- ---- e is taken out of what remained
 abbrev pub Gone : (rem₀ rem : List Bool) (e : ℕ) → Type 0
@@ -57,7 +57,7 @@ pub record SizedN (k : Numbers) : Type 0 where
 abbrev pub later : Surveyors → Stands → Numbers → Later
 later x y k = record { surveyors = x; stands = y; olds = k .olds; oldt = k .oldt }
 
-pub record Onward (A : Edges) (L : Links) (X : Looks) (k : Numbers) (Y : Looks) (k′ : Numbers) : Type 0 where
+pub record Onward (A : Edges) (L : NodeLists) (X : Looks) (k : Numbers) (Y : Looks) (k′ : Numbers) : Type 0 where
   pub leads : Leads A L X (k .one) (k .twos) (k .twot) → Leads A L Y (k′ .one) (k′ .twos) (k′ .twot)
   pub lates : (x : Surveyors) (y : Stands) → Lates A L X (later x y k) → Lates A L Y (later x y k′)
 
@@ -66,7 +66,7 @@ abbrev Unmoved : (m : ℕ) (end : List ℕ) (X Y : Looks) (old old′ : List Boo
 Unmoved m end X Y old old′ q q′ = (v : ℕ) → v < nodeLimit → flag old′ v ≡ false
     → (flag old v ≡ false) × Same m end v (X .rem) (X .fs) (X .ft) (Y .rem) (Y .fs) (Y .ft) × (at q′ v ≡ at q v)
 
-module _ (A : Edges) (strict : List Bool) (L : Links) (D : Tables A strict L) where
+module _ (A : Edges) (strict : List Bool) (L : NodeLists) (D : Tables A strict L) where
   lates-on : (X Y : Looks) (k k′ : Numbers) → Unmoved (A .m) (A .sv) X Y (k .olds) (k′ .olds) (X .qs) (Y .qs)
       → Unmoved (A .m) (A .st) X Y (k .oldt) (k′ .oldt) (X .qt) (Y .qt) → (x : Surveyors) (y : Stands) → Lates A L X (later x y k) → Lates A L Y (later x y k′)
   lates-on X Y k k′ hS hT x y K = record {
@@ -99,7 +99,7 @@ module _ (m : ℕ) (end rank : List ℕ) (tied : List Bool) (cell : List ℕ) (C
     own = inr (H (at end e) fit);
   }
 
-  -- arrows turned, and the nodes that saw it are read anew
+  -- arrows turned, and the nodes across them are read anew
   waiting-seen : (f f′ : List Bool) (x x′ : List ℕ) (seen : ℕ → Bool) → ((v : ℕ) → seen v ≡ false → Agree m end v (flag f′) (flag f))
       → RenewedBy seen (new f′) x x′ → Waiting f x → Waiting f′ x′
   waiting-seen f f′ x x′ seen A R H = record {
@@ -215,7 +215,7 @@ pub both-ways {ℓ} : {B : Type ℓ} {b : Bool} → b ≡ true → b ≡ false �
 both-ways t f = absurd (subst T (sym t ∙ f) tt)
 
 -- ---- the whole turn: both ends marked old, the arrows of s and then those of t, and rule 2's numbers at both ends
-module _ (A : Edges) (strict : List Bool) (L : Links) (D : Tables A strict L) (rem₀ rem : List Bool) (qs₀ qs qt₀ qt : List ℕ) (e : ℕ) (el : e < A .m)
+module _ (A : Edges) (strict : List Bool) (L : NodeLists) (D : Tables A strict L) (rem₀ rem : List Bool) (qs₀ qs qt₀ qt : List ℕ) (e : ℕ) (el : e < A .m)
     (g : Gone rem₀ rem e) (QS : (v : ℕ) → v ≢ at (A .sv) e → at qs v ≡ at qs₀ v) (QT : (v : ℕ) → v ≢ at (A .st) e → at qt v ≡ at qt₀ v)
     (fs ft fs′ ft′ : List Bool) (k : Numbers) (z : SizedN k) where
   abbrev X : Looks

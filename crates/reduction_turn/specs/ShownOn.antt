@@ -17,23 +17,14 @@ use Rattle.arrays.specs.ArrayInstance.{at, flag}
 use Rattle.reduction_cells.specs.Painted.{Painted}
 use Rattle.reduction_cells.specs.CellLaws.{Cells, arrow-tied, painted-new, painted-other}
 use Rattle.reduction_nodes.specs.Known.{Edges, Known, instanceOf}
-use Rattle.reduction_nodes.specs.Kept.{Links, Tables, cellsS, cellsT}
-use Rattle.reduction_nodes.specs.NodeLaws.{Seen}
+use Rattle.reduction_nodes.specs.Kept.{NodeLists, Tables, cellsS, cellsT}
 use Rattle.reduction_state.specs.declared.State as arrays
 use Rattle.reduction_state.specs.declared.Trace.{Trace}
 use Rattle.reduction_state.specs.Trace.{entered}
 use Rattle.reduction_state.specs.AfterStep.{struck}
 use Rattle.reduction_state.specs.RunState.{acted, Sized, Stands, stateAt, stands-next}
+use Rattle.reduction_state.specs.Shown.{Shown}
 use Rattle.reduction_turn.specs.Onward.{Gone, gone-other, Arrows}
-
--- where a run stands, and the arrows there
-pub record Shown (G : Instance) (x : arrays.State) (fs ft : List Bool) (t : Trace) : Type 0 where
-  pub stood : Stands G x t
-  pub fromS : (d : ℕ) → d < G .m → flag fs d ≡ arrowS G (stateAt stood) d
-  pub fromT : (d : ℕ) → d < G .m → flag ft d ≡ arrowT G (stateAt stood) d
-
-pub seen : {G : Instance} {x : arrays.State} {fs ft : List Bool} {t : Trace} (S : Shown G x fs ft t) → Seen G (stateAt (S .stood)) fs ft (x .qs) (x .qt)
-seen S = record { fromS = S .fromS; fromT = S .fromT; quotaS = S .stood .holds .atS .cut-is; quotaT = S .stood .holds .atT .cut-is }
 
 -- one step on, in every lawful instance that the arrays show
 abbrev pub ShownOn : (A : Edges) (x : arrays.State) (fs ft : List Bool) (r e : ℕ) (y : arrays.State) (fs′ ft′ : List Bool) → Type 0
@@ -77,7 +68,7 @@ module _ (K : Side) (law : Ranked K) (cell : List ℕ) (C : Cells K cell) (rem�
       ∙ sym (arrow-local K (λ c. flag rem₀ c && not (eqb c e)) (flag rem) k₀ k d l (λ c cl j. g c) (h (K .end d) (C .nodes d l)))
 
 -- ---- both sides
-module _ (A : Edges) (strict : List Bool) (L : Links) (D : Tables A strict L) (x : arrays.State) (fs ft : List Bool) (r e : ℕ) (el : e < A .m) (z : Sized x)
+module _ (A : Edges) (strict : List Bool) (L : NodeLists) (D : Tables A strict L) (x : arrays.State) (fs ft : List Bool) (r e : ℕ) (el : e < A .m) (z : Sized x)
     (y : arrays.State) (i : y ≡ acted (A .sv) (A .st) x r e) where
   module _ {quotaS quotaT : List ℕ} (K : Known A quotaS quotaT) (t : Trace) (S : Shown (instanceOf K) x fs ft t)
       (ri : ruleOf (instanceOf K) (stateAt (S .stood)) ≡ r) (ei : edgeOf (instanceOf K) (stateAt (S .stood)) ≡ e) (nl : t .steps < A .m) where

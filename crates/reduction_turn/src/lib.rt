@@ -1,6 +1,6 @@
-// One turn of a run: the state after a step at e, its arrows, and the numbers of the nodes. An end of e whose arrow e was not, and whose quota stays,
-// keeps its arrows; else they are painted anew, and the nodes that saw one turn are read anew. Rule 2's number at an end of e is read anew if it was
-// e or if the quota fell there. What the later rules name is marked old at both ends, and at every node that saw an arrow turn.
+// One turn of a run: the state after a step at e, its arrows, and the numbers of the nodes. An end of e whose arrow e was not, and whose quota
+// stays, keeps its arrows; else they are painted anew, and the nodes across an arrow that turned are read anew. Rule 2's number at an end of e is read
+// anew if it was e or if the quota fell there. What the later rules name is marked old at both ends, and at every node across an arrow that turned.
 ghost use mathlib.Core.Path.{_≡_};
 ghost use mathlib.Core.Bool.{_&&_, _||_};
 ghost use Prim.Native.Nat.{_≤_, _<_};
@@ -14,10 +14,10 @@ ghost use Rattle.reduction_cells.specs.Cells.{Celled};
 ghost use Rattle.reduction_cells.specs.Painted.{among};
 ghost use Rattle.reduction_nodes.specs.Renewed.{RenewedBy};
 ghost use Rattle.reduction_nodes.specs.Numbers.{firstOf, secondsOf};
-ghost use Rattle.reduction_nodes.specs.Kept.{Tables, edges, links, looks};
+ghost use Rattle.reduction_nodes.specs.Kept.{Tables, edges, nodeLists, looks};
 ghost use Rattle.reduction_state.specs.RunState.{whole, Sized};
 ghost use Rattle.reduction_turn.specs.Onward.{Marked, Arrows, Carried, Onward, SizedN, numbers};
-ghost use Rattle.reduction_turn.specs.Shown.{ShownOn};
+ghost use Rattle.reduction_turn.specs.ShownOn.{ShownOn};
 use limits::EMPTY_RANK;
 use limits::ENTRY_LIMIT;
 use reduction_cells::CELLS;
@@ -51,7 +51,7 @@ pub fn passed_over(
     }
 }
 
-// The nodes that saw an arrow turn are marked old.
+// The nodes across an arrow that turned are marked old.
 pub fn marked(turned: &[u8; EMPTY_RANK], n: usize, old: &mut [bool; 32])
     requires { ⌜ (n ≤ emptyRank) × Low n (now turned) nodeLimit × (length (now old) ≡ nodeLimit) ⌝ }
     ensures { λ r. ⌜ (length (now (old .exit)) ≡ nodeLimit) × Marked (among (now (turned .entry)) n) (now (old .entry)) (now (old .exit)) ⌝ }
@@ -64,7 +64,7 @@ pub fn marked(turned: &[u8; EMPTY_RANK], n: usize, old: &mut [bool; 32])
     }
 }
 
-// The arrows of the surveyor s, painted anew if `on`: rule 1's number there, and rule 2's at the stands that saw one turn.
+// The arrows of the surveyor s, painted anew if `on`: rule 1's number there, and rule 2's at the stands across one that turned.
 pub fn from_surveyor(
     m: usize,
     sv: &[u8; ENTRY_LIMIT],
@@ -74,9 +74,9 @@ pub fn from_surveyor(
     strict: &[bool; ENTRY_LIMIT],
     tied: &[bool; ENTRY_LIMIT],
     ls: &[u16; PLACES],
-    hs: &[u16; 32],
+    bs: &[u16; 32],
     lt: &[u16; PLACES],
-    ht: &[u16; 32],
+    bt: &[u16; 32],
     cs: &[u16; CELLS],
     ct: &[u16; CELLS],
     rem: &[bool; ENTRY_LIMIT],
@@ -91,7 +91,7 @@ pub fn from_surveyor(
     oldt: &mut [bool; 32],
 )
     requires { ⌜ Tables (edges m (now sv) (now st) (now rs) (now rt) (now tied)) (now strict)
-        (links (now ls) (now hs) (now lt) (now ht) (now cs) (now ct)) ⌝ }
+        (nodeLists (now ls) (now bs) (now lt) (now bt) (now cs) (now ct)) ⌝ }
     requires { ⌜ (s < nodeLimit) × (length (now fs) ≡ entryLimit) × (length (now one) ≡ nodeLimit) × (length (now twot) ≡ nodeLimit)
         × (length (now oldt) ≡ nodeLimit) ⌝ }
     ensures { λ r. ⌜ (length (now (one .exit)) ≡ nodeLimit) × (length (now (twot .exit)) ≡ nodeLimit) × (length (now (oldt .exit)) ≡ nodeLimit) ⌝ }
@@ -106,12 +106,12 @@ pub fn from_surveyor(
     }
     let mut turned = [0u8; EMPTY_RANK];
     let n = reduction_cells::paint(m, sv, rs, strict, cs, s, qs[s], st, rem, fs, &mut turned);
-    one[s] = reduction_lists::both(m, sv, ls, hs, s, fs, ft) as u16;
-    reduction_nodes::second_renewed(m, st, rt, tied, lt, ht, ct, rem, fs, qt, &turned, n, twot);
+    one[s] = reduction_lists::both(m, sv, ls, bs, s, fs, ft) as u16;
+    reduction_nodes::second_renewed(m, st, rt, tied, lt, bt, ct, rem, fs, qt, &turned, n, twot);
     marked(&turned, n, oldt);
 }
 
-// The arrows of the stand t, painted anew if `on`: the numbers of rules 1 and 2 at the surveyors that saw one turn.
+// The arrows of the stand t, painted anew if `on`: the numbers of rules 1 and 2 at the surveyors across one that turned.
 pub fn from_stand(
     m: usize,
     sv: &[u8; ENTRY_LIMIT],
@@ -121,9 +121,9 @@ pub fn from_stand(
     strict: &[bool; ENTRY_LIMIT],
     tied: &[bool; ENTRY_LIMIT],
     ls: &[u16; PLACES],
-    hs: &[u16; 32],
+    bs: &[u16; 32],
     lt: &[u16; PLACES],
-    ht: &[u16; 32],
+    bt: &[u16; 32],
     cs: &[u16; CELLS],
     ct: &[u16; CELLS],
     rem: &[bool; ENTRY_LIMIT],
@@ -138,7 +138,7 @@ pub fn from_stand(
     olds: &mut [bool; 32],
 )
     requires { ⌜ Tables (edges m (now sv) (now st) (now rs) (now rt) (now tied)) (now strict)
-        (links (now ls) (now hs) (now lt) (now ht) (now cs) (now ct)) ⌝ }
+        (nodeLists (now ls) (now bs) (now lt) (now bt) (now cs) (now ct)) ⌝ }
     requires { ⌜ (t < nodeLimit) × (length (now ft) ≡ entryLimit) × (length (now one) ≡ nodeLimit) × (length (now twos) ≡ nodeLimit)
         × (length (now olds) ≡ nodeLimit) ⌝ }
     ensures { λ r. ⌜ (length (now (one .exit)) ≡ nodeLimit) × (length (now (twos .exit)) ≡ nodeLimit) × (length (now (olds .exit)) ≡ nodeLimit) ⌝ }
@@ -153,8 +153,8 @@ pub fn from_stand(
     }
     let mut turned = [0u8; EMPTY_RANK];
     let n = reduction_cells::paint(m, st, rt, tied, ct, t, qt[t], sv, rem, ft, &mut turned);
-    reduction_nodes::first_renewed(m, sv, ls, hs, fs, ft, &turned, n, one);
-    reduction_nodes::second_renewed(m, sv, rs, strict, ls, hs, cs, rem, ft, qs, &turned, n, twos);
+    reduction_nodes::first_renewed(m, sv, ls, bs, fs, ft, &turned, n, one);
+    reduction_nodes::second_renewed(m, sv, rs, strict, ls, bs, cs, rem, ft, qs, &turned, n, twos);
     marked(&turned, n, olds);
 }
 
@@ -168,9 +168,9 @@ pub fn turn(
     strict: &[bool; ENTRY_LIMIT],
     tied: &[bool; ENTRY_LIMIT],
     ls: &[u16; PLACES],
-    hs: &[u16; 32],
+    bs: &[u16; 32],
     lt: &[u16; PLACES],
-    ht: &[u16; 32],
+    bt: &[u16; 32],
     cs: &[u16; CELLS],
     ct: &[u16; CELLS],
     rule: u8,
@@ -190,14 +190,14 @@ pub fn turn(
     oldt: &mut [bool; 32],
 )
     requires { ⌜ (e < m) × Tables (edges m (now sv) (now st) (now rs) (now rt) (now tied)) (now strict)
-        (links (now ls) (now hs) (now lt) (now ht) (now cs) (now ct)) ⌝ }
+        (nodeLists (now ls) (now bs) (now lt) (now bt) (now cs) (now ct)) ⌝ }
     requires { ⌜ Sized (whole (now rem) (now fixed) (now qs) (now qt) (now ds) (now dt))
         × SizedN (numbers (now one) (now twos) (now twot) (now olds) (now oldt)) × (length (now fs) ≡ entryLimit) × (length (now ft) ≡ entryLimit) ⌝ }
     ensures { λ r. ⌜ Sized (whole (now (rem .exit)) (now (fixed .exit)) (now (qs .exit)) (now (qt .exit)) (now (ds .exit)) (now (dt .exit)))
         × SizedN (numbers (now (one .exit)) (now (twos .exit)) (now (twot .exit)) (now (olds .exit)) (now (oldt .exit)))
         × (length (now (fs .exit)) ≡ entryLimit) × (length (now (ft .exit)) ≡ entryLimit) ⌝ }
     ensures { λ r. ⌜ Onward (edges m (now (sv .entry)) (now (st .entry)) (now (rs .entry)) (now (rt .entry)) (now (tied .entry)))
-        (links (now (ls .entry)) (now (hs .entry)) (now (lt .entry)) (now (ht .entry)) (now (cs .entry)) (now (ct .entry)))
+        (nodeLists (now (ls .entry)) (now (bs .entry)) (now (lt .entry)) (now (bt .entry)) (now (cs .entry)) (now (ct .entry)))
         (looks (now (rem .entry)) (now (fs .entry)) (now (ft .entry)) (now (qs .entry)) (now (qt .entry)))
         (numbers (now (one .entry)) (now (twos .entry)) (now (twot .entry)) (now (olds .entry)) (now (oldt .entry)))
         (looks (now (rem .exit)) (now (fs .exit)) (now (ft .exit)) (now (qs .exit)) (now (qt .exit)))
@@ -228,9 +228,9 @@ pub fn turn(
         strict,
         tied,
         ls,
-        hs,
+        bs,
         lt,
-        ht,
+        bt,
         cs,
         ct,
         rem,
@@ -253,9 +253,9 @@ pub fn turn(
         strict,
         tied,
         ls,
-        hs,
+        bs,
         lt,
-        ht,
+        bt,
         cs,
         ct,
         rem,
@@ -275,7 +275,7 @@ pub fn turn(
         rs,
         strict,
         ls,
-        hs,
+        bs,
         cs,
         rem,
         ft,
@@ -285,5 +285,5 @@ pub fn turn(
         fells,
         twos,
     );
-    passed_over(m, st, rt, tied, lt, ht, ct, rem, fs, qt, t, e, fellt, twot);
+    passed_over(m, st, rt, tied, lt, bt, ct, rem, fs, qt, t, e, fellt, twot);
 }

@@ -4,9 +4,9 @@ use borrow.Author.Needs.{needs}
 use lib.ListN.{length}
 use Rattle.model.specs.Limits.{entryLimit}
 use Rattle.reduction_state.specs.RunState.{Sized}
-use Rattle.reduction_run.specs.Running.{shown-first}
-use Rattle.reduction_run.proofs.begun.Statement.{statement}
-use Rattle.reduction_run.proofs.begun.Tie as tie
+use Rattle.reduction_start.specs.Beginning.{shown-first}
+use Rattle.reduction_start.proofs.begun.Statement.{statement}
+use Rattle.reduction_start.proofs.begun.Tie as tie
 
 start-requires : tie.Need-start-requires
 start-requires c κs = let D = c .pre in (D .listedS .linked .edges, D .fitS, D .fitT)

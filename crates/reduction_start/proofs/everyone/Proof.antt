@@ -4,8 +4,8 @@ use Prim.Native.Nat.{_-_, _≤_, zero-le}
 use native.Mathlib.Omega.{arith}
 use Rattle.model.specs.Limits.{nodeLimit, emptyRank}
 use Rattle.arrays.specs.Passes.{Fill, fill-none, fill-next, fill-at}
-use Rattle.reduction_run.proofs.everyone.Statement.{statement}
-use Rattle.reduction_run.proofs.everyone.Tie as tie
+use Rattle.reduction_start.proofs.everyone.Statement.{statement}
+use Rattle.reduction_start.proofs.everyone.Tie as tie
 
 abbrev Inv-loop : tie.InvT-loop
 Inv-loop o₀ i₀ o i = (i ≤ nodeLimit) × Fill 0 emptyRank o i (λ v. v)

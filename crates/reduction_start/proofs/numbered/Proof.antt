@@ -1,10 +1,10 @@
 -- All nodes are read.
 use native.Mathlib.Omega.{arith}
 use borrow.Author.Needs.{needs}
-use Rattle.reduction_nodes.specs.Kept.{edges, links, looks, firstNow, secondS, secondT}
-use Rattle.reduction_run.specs.Running.{all-low, all-read}
-use Rattle.reduction_run.proofs.numbered.Statement.{statement}
-use Rattle.reduction_run.proofs.numbered.Tie as tie
+use Rattle.reduction_nodes.specs.Kept.{edges, nodeLists, looks, firstNow, secondS, secondT}
+use Rattle.reduction_start.specs.Beginning.{all-low, all-read}
+use Rattle.reduction_start.proofs.numbered.Statement.{statement}
+use Rattle.reduction_start.proofs.numbered.Tie as tie
 
 first-renewed-requires : tie.Need-first-renewed-requires
 first-renewed-requires c κs =
@@ -29,7 +29,7 @@ returns c =
     let a = b6 .before .before .before .before .args in
     let y = b6 .before .before .before .everyone in
     let A = edges (a .m) (a .sv .now) (a .st .now) (a .rs .now) (a .rt .now) (a .tied .now) in
-    let L = links (a .ls .now) (a .hs .now) (a .lt .now) (a .ht .now) (a .cs .now) (a .ct .now) in
+    let L = nodeLists (a .ls .now) (a .bs .now) (a .lt .now) (a .bt .now) (a .cs .now) (a .ct .now) in
     let X = looks (a .rem .now) (a .fs .now) (a .ft .now) (a .qs .now) (a .qt .now) in
     let N = b6 .first-renewed .ensures in
     let NS = c .before .before .before .second-renewed .ensures in

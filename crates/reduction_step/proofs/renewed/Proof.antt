@@ -5,7 +5,7 @@ use lib.ListN.{replicate, length-replicate}
 use lib.Dec.{ltb}
 use borrow.Author.Needs.{needs}
 use Rattle.model.specs.Limits.{nodeLimit}
-use Rattle.reduction_nodes.specs.Kept.{edges, links, looks, later, later-fresh}
+use Rattle.reduction_nodes.specs.Kept.{edges, nodeLists, looks, later, later-fresh}
 use Rattle.reduction_step.proofs.renewed.Statement.{statement}
 use Rattle.reduction_step.proofs.renewed.Tie as tie
 
@@ -26,7 +26,7 @@ returns c =
     let a = b18 .before .args in
     let p = b18 .before .pre in
     let A = edges (a .m) (a .sv .now) (a .st .now) (a .rs .now) (a .rt .now) (a .tied .now) in
-    let L = links (a .ls .now) (a .hs .now) (a .lt .now) (a .ht .now) (a .cs .now) (a .ct .now) in
+    let L = nodeLists (a .ls .now) (a .bs .now) (a .lt .now) (a .bt .now) (a .cs .now) (a .ct .now) in
     let X = looks (a .rem .now) (a .fs .now) (a .ft .now) (a .qs .now) (a .qt .now) in
     let x = later (a .rule3 .now) (a .rule4 .now) (a .rule5 .now) (a .rule6 .now) (a .rule7 .now) (a .loose .now) (a .olds .now) (a .oldt .now) in
     let T = b12 .before .stands-renewed .ensures in

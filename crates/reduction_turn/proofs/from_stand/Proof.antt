@@ -1,4 +1,4 @@
--- The arrows stay, or they are painted anew and the nodes that saw one turn are read anew.
+-- The arrows stay, or they are painted anew and the nodes across an arrow that turned are read anew.
 use mathlib.Core.Path.{refl}
 use Prim.Native.Nat.{ℕ}
 use borrow.Author.Needs.{needs}
@@ -61,9 +61,9 @@ returns-2 c =
         record {
           lead = _;
           seen = _;
-          across = W .saw;
+          across = W .elsewhere;
           own = apart;
-          led = W .saw;
+          led = W .elsewhere;
           first = c .before .before .before .before .before .before .before .first-renewed .ensures .1;
           second = c .before .before .before .second-renewed .ensures .1;
           marked = c .marked .ensures .1;

@@ -1,4 +1,4 @@
--- The arrows stay, or they are painted anew and the nodes that saw one turn are read anew.
+-- The arrows stay, or they are painted anew and the nodes across an arrow that turned are read anew.
 use mathlib.Core.Path.{_≡_, refl, _∙_}
 use mathlib.Core.Bool.{Bool}
 use Prim.Native.Nat.{ℕ, _≤_}
@@ -69,7 +69,7 @@ returns-2 c =
         record {
           lead = λ u. eqb u (a .s);
           seen = _;
-          across = W .saw;
+          across = W .elsewhere;
           own = apart;
           led = λ u h. apart u (eqb-other u (a .s) h);
           first = one-renewed _ (a .one .now) (a .s) _ (omega (arith, p .1 .0, p .1 .2))

@@ -8,10 +8,10 @@ use lib.ListN.{length-set}
 use lib.Dec.{T, eqb, eqb→eq}
 use Rattle.lists.specs.Test.{true-T}
 use Rattle.reduction_cells.specs.Painted.{or-parts}
-use Rattle.reduction_nodes.specs.Kept.{edges, links}
+use Rattle.reduction_nodes.specs.Kept.{edges, nodeLists}
 use Rattle.reduction_state.specs.RunState.{whole, sized-next}
 use Rattle.reduction_turn.specs.Onward.{numbers, turn-on, on}
-use Rattle.reduction_turn.specs.Shown.{acted-gone, acted-qs, acted-qt, shown-on}
+use Rattle.reduction_turn.specs.ShownOn.{acted-gone, acted-qs, acted-qt, shown-on}
 use Rattle.reduction_turn.proofs.turn.Statement.{statement}
 use Rattle.reduction_turn.proofs.turn.Tie as tie
 
@@ -165,7 +165,7 @@ returns c =
     let a = c₂ .before .before .before .before .before .before .before .before .before .before .before .args in
     let p = c₂ .before .before .before .before .before .before .before .before .before .before .before .pre in
     let A = edges (a .m) (a .sv .now) (a .st .now) (a .rs .now) (a .rt .now) (a .tied .now) in
-    let L = links (a .ls .now) (a .hs .now) (a .lt .now) (a .ht .now) (a .cs .now) (a .ct .now) in
+    let L = nodeLists (a .ls .now) (a .bs .now) (a .lt .now) (a .bt .now) (a .cs .now) (a .ct .now) in
     let x = whole (a .rem .now) (a .fixed .now) (a .qs .now) (a .qt .now) (a .ds .now) (a .dt .now) in
     let k = numbers (a .one .now) (a .twos .now) (a .twot .now) (a .olds .now) (a .oldt .now) in
     let i = c₂ .act .ensures in
