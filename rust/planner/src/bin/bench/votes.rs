@@ -1,12 +1,14 @@
-//! Votes: two plans of 64 pairs where eight nodes of one side have quota 8, and
-//! a comparison from bytes to answer. With eight nodes of quota 8 on both sides
-//! at once there is only one plan of 64 pairs, so there are two rosters, one
-//! for each side.
+//! Votes: two plans of 64 pairs where eight nodes of one side have quota 8, a
+//! comparison from bytes to answer, and one of the plans proposed beside the
+//! other and committed. With eight nodes of quota 8 on both sides at once there
+//! is only one plan of 64 pairs, so there are two rosters, one for each side.
 
 use std::hint::black_box;
 
 use planner::Desk;
 use reference::fast;
+use reference::fast::plan::Chosen;
+use reference::fast::roster::Instance;
 use reference::plan;
 use reference::random::{self, Random};
 use reference::roster::{self, Roster, Side};
@@ -72,15 +74,43 @@ fn measure(full: Side, name: &str) {
             ));
         }),
     );
+    let files = [&file, &first, &second];
+    let voted = time(200, || {
+        let (instance, plans) = read(files);
+        black_box(fast::vote::vote(&instance, &plans[0], &plans[1]));
+        black_box(fast::vote::vote(&instance, &plans[1], &plans[0]));
+    });
     report(
         &format!("comparison of them, from bytes to answer ({name})"),
         whole,
+        voted,
+    );
+
+    // The second plan is held, and the first proposed.
+    desk.load_plan(&second).expect("accepted");
+    report(
+        &format!("one proposed beside the other ({name})"),
         time(200, || {
-            let instance = fast::roster::read(black_box(&file)).expect("accepted");
-            let plans = [&first, &second]
-                .map(|plan| fast::plan::read(&instance, black_box(plan)).expect("accepted"));
-            black_box(fast::vote::vote(&instance, &plans[0], &plans[1]));
-            black_box(fast::vote::vote(&instance, &plans[1], &plans[0]));
+            let _ = black_box(black_box(&mut desk).propose(black_box(&first)));
+        }),
+        voted,
+    );
+    report(
+        &format!("the proposal committed ({name})"),
+        time(200, || {
+            let mut asked = black_box(&desk).clone();
+            assert_eq!(black_box(asked.commit()), Ok(()));
+        }),
+        time(200, || {
+            black_box(read(files));
         }),
     );
+}
+
+/// A roster and two plans of it, read from their files by the reference.
+fn read([file, first, second]: [&Vec<u8>; 3]) -> (Instance, [Chosen; 2]) {
+    let instance = fast::roster::read(black_box(file)).expect("accepted");
+    let plans =
+        [first, second].map(|plan| fast::plan::read(&instance, black_box(plan)).expect("accepted"));
+    (instance, plans)
 }
