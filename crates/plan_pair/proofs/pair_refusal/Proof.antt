@@ -1,10 +1,10 @@
--- `plan_reader::pair_refusal` meets its contract.
+-- `plan_pair::pair_refusal` meets its contract.
 use mathlib.Core.Bool.{true, false}
 use native.Mathlib.Omega.{arith}
-use Rattle.plan_reader.specs.Answers.{not-there, not-ascending, by-quota}
+use Rattle.plan_pair.specs.PairRefusal.{not-there, not-ascending, by-quota}
 use borrow.Author.Needs.{needs}
-use Rattle.plan_reader.proofs.pair_refusal.Statement.{statement}
-use Rattle.plan_reader.proofs.pair_refusal.Tie as tie
+use Rattle.plan_pair.proofs.pair_refusal.Statement.{statement}
+use Rattle.plan_pair.proofs.pair_refusal.Tie as tie
 
 returns : tie.Need-returns
 returns c = let a = c .before .args in not-there (a .m) (a .e) (a .from) _ _ (c .if1 .taken)
