@@ -1,14 +1,14 @@
--- `blocking_search::top_wanted` answers the first edge that passes. The loop's invariant: what the edges below i leave as the top and its key.
+-- `blocking_wanted::top_wanted` answers the first edge that passes. The loop's invariant: what the edges below i leave as the top and its key.
 -- Assumes nothing.
 use Prim.Native.Nat.{_-_, _≤_, zero-le}
 use native.Mathlib.Omega.{arith}
 use mathlib.Core.Path.{_≡_, subst}
 use mathlib.Core.Logic.{⊎-elim}
 use Rattle.arrays.specs.ArrayInstance.{at}
-use Rattle.blocking_search.specs.Blocking.{wanted}
-use Rattle.blocking_search.specs.TopSearch.{Seen, seen-none, key-low, seen-taken, seen-left, seen-all}
-use Rattle.blocking_search.proofs.top_wanted.Statement.{statement}
-use Rattle.blocking_search.proofs.top_wanted.Tie as tie
+use Rattle.blocking_wanted.specs.Wanted.{wanted}
+use Rattle.blocking_wanted.specs.TopSearch.{Seen, seen-none, key-low, seen-taken, seen-left, seen-all}
+use Rattle.blocking_wanted.proofs.top_wanted.Statement.{statement}
+use Rattle.blocking_wanted.proofs.top_wanted.Tie as tie
 
 abbrev Inv-loop : tie.InvT-loop
 Inv-loop m sv st rs rt ls lt p top₀ key₀ i₀ top key i = (i ≤ m) × Seen (at sv) (at rs) m (wanted sv st rs rt ls lt p) i top key
