@@ -1,10 +1,10 @@
--- `roster_leave::nodes_left` meets its contract: a copy, and the leaver's quota in it. Assumes nothing.
+-- `roster_without::nodes_left` meets its contract: a copy, and the leaver's quota in it. Assumes nothing.
 use mathlib.Core.Path.{ap}
 use lib.ListN.{set}
 use borrow.Author.Needs.{needs}
 use Rattle.roster_parts.specs.Growth.{grown-as, grown-set}
-use Rattle.roster_leave.proofs.nodes_left.Statement.{statement}
-use Rattle.roster_leave.proofs.nodes_left.Tie as tie
+use Rattle.roster_without.proofs.nodes_left.Statement.{statement}
+use Rattle.roster_without.proofs.nodes_left.Tie as tie
 
 returns : tie.Need-returns
 returns c =

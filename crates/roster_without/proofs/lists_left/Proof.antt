@@ -1,10 +1,10 @@
--- `roster_leave::lists_left` meets its contract: the lists before the leaver's, its length 0, and those behind it. Assumes nothing.
+-- `roster_without::lists_left` meets its contract: the lists before the leaver's, its length 0, and those behind it. Assumes nothing.
 use mathlib.Core.Path.{ap₂}
 use mathlib.Core.List.{[], _∷_, _++_}
 use borrow.Author.Needs.{needs}
 use Rattle.roster_parts.specs.Growth.{grown-then, grown-as}
-use Rattle.roster_leave.proofs.lists_left.Statement.{statement}
-use Rattle.roster_leave.proofs.lists_left.Tie as tie
+use Rattle.roster_without.proofs.lists_left.Statement.{statement}
+use Rattle.roster_without.proofs.lists_left.Tie as tie
 
 returns : tie.Need-returns
 returns c =

@@ -1,12 +1,12 @@
--- `roster_leave::others` meets its contract: the entries counted and those to come are all. Assumes nothing.
+-- `roster_without::others` meets its contract: the entries counted and those to come are all. Assumes nothing.
 use Prim.Native.Nat.{_+_, _-_, _≤_, zero-le}
 use native.Mathlib.Omega.{arith}
 use mathlib.Core.Path.{_≡_, ap}
 use lib.ListN.{length}
 use borrow.Author.Needs.{needs}
-use Rattle.roster_leave.specs.Others.{othersFrom, other-not, other-one, other-none}
-use Rattle.roster_leave.proofs.others.Statement.{statement}
-use Rattle.roster_leave.proofs.others.Tie as tie
+use Rattle.roster_without.specs.Others.{othersFrom, other-not, other-one, other-none}
+use Rattle.roster_without.proofs.others.Statement.{statement}
+use Rattle.roster_without.proofs.others.Tie as tie
 
 abbrev Inv-loop : tie.InvT-loop
 Inv-loop list number n k₀ i₀ k i = (i ≤ n) × (k ≤ i) × (k + length (othersFrom number list i) ≡ length (othersFrom number list 0))

@@ -1,11 +1,11 @@
--- `roster_leave::append_ranking` meets its contract: both lengths, then both parts without the number. Assumes nothing.
+-- `roster_without::append_ranking` meets its contract: both lengths, then both parts without the number. Assumes nothing.
 use borrow.Author.Needs.{needs}
 use Rattle.model_changes.specs.Changes.{without}
 use Rattle.roster_positions.specs.Tables.{entriesIn}
 use Rattle.roster_parts.specs.Growth.{grown-then, grown-as}
 use Rattle.roster_parts.specs.Rankings.{ranking-written}
-use Rattle.roster_leave.proofs.append_ranking.Statement.{statement}
-use Rattle.roster_leave.proofs.append_ranking.Tie as tie
+use Rattle.roster_without.proofs.append_ranking.Statement.{statement}
+use Rattle.roster_without.proofs.append_ranking.Tie as tie
 
 returns : tie.Need-returns
 returns c =

@@ -1,13 +1,13 @@
--- `roster_leave::append_others` meets its contract: the entries from i on are left. Assumes nothing.
+-- `roster_without::append_others` meets its contract: the entries from i on are left. Assumes nothing.
 use Prim.Native.Nat.{_-_, _≤_, zero-le}
 use native.Mathlib.Omega.{arith}
 use mathlib.Core.Path.{ap}
 use borrow.Author.Needs.{needs}
 use Rattle.roster_positions.specs.Rows.{bytesOf}
 use Rattle.roster_parts.specs.Growth.{Going, going-starts, going-on, going-past, going-ends}
-use Rattle.roster_leave.specs.Others.{othersFrom, other-not, other-one, other-none}
-use Rattle.roster_leave.proofs.append_others.Statement.{statement}
-use Rattle.roster_leave.proofs.append_others.Tie as tie
+use Rattle.roster_without.specs.Others.{othersFrom, other-not, other-one, other-none}
+use Rattle.roster_without.proofs.append_others.Statement.{statement}
+use Rattle.roster_without.proofs.append_others.Tie as tie
 
 abbrev Inv-loop : tie.InvT-loop
 Inv-loop out₀ n list number count len₀ i₀ out len i =
