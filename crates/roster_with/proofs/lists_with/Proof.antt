@@ -1,10 +1,10 @@
--- `roster_join::lists_with` meets its contract: the lists that are there, then the joiner's. Assumes nothing.
+-- `roster_with::lists_with` meets its contract: the lists that are there, then the joiner's. Assumes nothing.
 use mathlib.Core.Path.{ap}
 use mathlib.Core.List.{_++_}
 use borrow.Author.Needs.{needs}
 use Rattle.roster_parts.specs.Growth.{grown-then, grown-as}
-use Rattle.roster_join.proofs.lists_with.Statement.{statement}
-use Rattle.roster_join.proofs.lists_with.Tie as tie
+use Rattle.roster_with.proofs.lists_with.Statement.{statement}
+use Rattle.roster_with.proofs.lists_with.Tie as tie
 
 returns : tie.Need-returns
 returns c =

@@ -1,4 +1,4 @@
--- `roster_joiner::too_long` meets its contract: one of the lists from the j-th on is too long, or none. Assumes nothing.
+-- `roster_with::too_long` meets its contract: one of the lists from the j-th on is too long, or none. Assumes nothing.
 use Prim.Native.Nat.{_+_, _-_, _*_, _≤_, zero-le}
 use native.Mathlib.Omega.{arith}
 use mathlib.Core.Path.{_≡_, sym, ap, _∙_}
@@ -8,9 +8,10 @@ use borrow.Author.Needs.{needs}
 use borrow.Author.Tests.{lt-ltb, le-ltb}
 use Rattle.model.specs.Limits.{listLimit, entryWidth}
 use Rattle.roster_positions.proofs.Stamping.{left-all}
-use Rattle.roster_joiner.specs.Entering.{marksIn, longFrom, long-turn, long-done}
-use Rattle.roster_joiner.proofs.too_long.Statement.{statement}
-use Rattle.roster_joiner.proofs.too_long.Tie as tie
+use Rattle.roster_joiner.specs.Entering.{marksIn}
+use Rattle.roster_with.specs.WithJoiner.{longFrom, long-turn, long-done}
+use Rattle.roster_with.proofs.too_long.Statement.{statement}
+use Rattle.roster_with.proofs.too_long.Tie as tie
 
 abbrev Inv-loop : tie.InvT-loop
 Inv-loop file start n row at₀ j₀ at j =

@@ -1,10 +1,10 @@
--- `roster_join::joined` meets its contract: the nodes, then both sections. Assumes nothing.
+-- `roster_joined::joined` meets its contract: the nodes, then both sections. Assumes nothing.
 use Prim.Native.Nat.{_+_}
 use borrow.Author.Needs.{needs}
 use Rattle.roster_parts.specs.Gives.{held}
-use Rattle.roster_joiner.specs.Entering.{nodesWith}
-use Rattle.roster_join.proofs.joined.Statement.{statement}
-use Rattle.roster_join.proofs.joined.Tie as tie
+use Rattle.roster_with.specs.WithJoiner.{nodesWith}
+use Rattle.roster_joined.proofs.joined.Statement.{statement}
+use Rattle.roster_joined.proofs.joined.Tie as tie
 
 returns : tie.Need-returns
 returns c =

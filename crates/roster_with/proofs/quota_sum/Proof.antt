@@ -1,4 +1,4 @@
--- `roster_join::quota_sum` meets its contract: the quotas added and those to come are all. Assumes nothing.
+-- `roster_with::quota_sum` meets its contract: the quotas added and those to come are all. Assumes nothing.
 use Prim.Native.Nat.{_+_, _-_, _*_, _≤_, zero-le}
 use native.Mathlib.Omega.{arith}
 use mathlib.Core.Path.{_≡_, ap}
@@ -6,8 +6,8 @@ use lib.ListN.{length, drop, drop-of-length-le}
 use borrow.Author.Needs.{needs}
 use Rattle.lists.specs.Sum.{sum}
 use Rattle.roster_parts.specs.Growth.{next-byte}
-use Rattle.roster_join.proofs.quota_sum.Statement.{statement}
-use Rattle.roster_join.proofs.quota_sum.Tie as tie
+use Rattle.roster_with.proofs.quota_sum.Statement.{statement}
+use Rattle.roster_with.proofs.quota_sum.Tie as tie
 
 abbrev Inv-loop : tie.InvT-loop
 Inv-loop quotas total₀ i₀ total i = (i ≤ length quotas) × (total ≤ 255 * i) × (total + sum (λ q. q) (drop i quotas) ≡ sum (λ q. q) quotas)

@@ -1,11 +1,11 @@
--- `roster_join::nodes_with` meets its contract: the count, the quotas, the joiner's, and the stands'. Assumes nothing.
+-- `roster_with::nodes_with` meets its contract: the count, the quotas, the joiner's, and the stands'. Assumes nothing.
 use Prim.Native.Nat.{_+_}
 use mathlib.Core.Path.{ap₂}
 use mathlib.Core.List.{[], _∷_, _++_}
 use borrow.Author.Needs.{needs}
 use Rattle.roster_parts.specs.Growth.{grown-then, grown-as}
-use Rattle.roster_join.proofs.nodes_with.Statement.{statement}
-use Rattle.roster_join.proofs.nodes_with.Tie as tie
+use Rattle.roster_with.proofs.nodes_with.Statement.{statement}
+use Rattle.roster_with.proofs.nodes_with.Tie as tie
 
 returns : tie.Need-returns
 returns c =

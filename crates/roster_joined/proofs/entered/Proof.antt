@@ -1,4 +1,4 @@
--- `roster_join::entered` meets its contract: 9, then 2, then the roster with the joiner. Assumes nothing.
+-- `roster_joined::entered` meets its contract: 9, then 2, then the roster with the joiner. Assumes nothing.
 use mathlib.Core.Path.{_≡_, refl, sym, _∙_}
 use mathlib.Core.Bool.{Bool, true, false}
 use lib.ListN.{length}
@@ -6,10 +6,11 @@ use lib.Dec.{ltb}
 use borrow.Author.Needs.{needs}
 use borrow.Author.Tests.{lt-ltb, le-ltb}
 use Rattle.roster_parts.specs.declared.Changed.{Changed}
-use Rattle.roster_joiner.specs.Entering.{marksIn, joinedBytes}
-use Rattle.roster_join.specs.Listing.{EntersIf, EntersBy, enters}
-use Rattle.roster_join.proofs.entered.Statement.{statement}
-use Rattle.roster_join.proofs.entered.Tie as tie
+use Rattle.roster_joiner.specs.Entering.{marksIn}
+use Rattle.roster_with.specs.WithJoiner.{joinedBytes}
+use Rattle.roster_joined.specs.Enters.{EntersIf, EntersBy, enters}
+use Rattle.roster_joined.proofs.entered.Statement.{statement}
+use Rattle.roster_joined.proofs.entered.Tie as tie
 
 -- by the two tests
 tested : (t : tie.After-too-long) →

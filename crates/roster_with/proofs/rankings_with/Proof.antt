@@ -1,4 +1,4 @@
--- `roster_joiner::rankings_with` meets its contract: the lists from the j-th on are left. Assumes nothing.
+-- `roster_with::rankings_with` meets its contract: the lists from the j-th on are left. Assumes nothing.
 use Prim.Native.Nat.{_+_, _-_, _*_, _≤_, zero-le}
 use native.Mathlib.Omega.{arith}
 use mathlib.Core.Path.{ap}
@@ -6,9 +6,10 @@ use borrow.Author.Needs.{needs}
 use Rattle.roster_positions.proofs.Stamping.{left-all}
 use Rattle.roster_parts.specs.Growth.{Going, going-starts, going-on, going-past, going-ends}
 use Rattle.roster_parts.specs.Rankings.{rankingsFrom, rankings-turn, rankings-done}
-use Rattle.roster_joiner.specs.Entering.{marksIn, entering, rankingsWith}
-use Rattle.roster_joiner.proofs.rankings_with.Statement.{statement}
-use Rattle.roster_joiner.proofs.rankings_with.Tie as tie
+use Rattle.roster_joiner.specs.Entering.{marksIn, entering}
+use Rattle.roster_with.specs.WithJoiner.{rankingsWith}
+use Rattle.roster_with.proofs.rankings_with.Statement.{statement}
+use Rattle.roster_with.proofs.rankings_with.Tie as tie
 
 abbrev Inv-loop : tie.InvT-loop
 Inv-loop out₀ file start n joiner row len₀ at₀ j₀ out len at j =
