@@ -1,3 +1,2 @@
 pub mod Blocking
-pub mod TopSearch
 pub mod Search

@@ -1,28 +1,20 @@
 -- From the numbers that the passes compute to the model's blocking pairs: the first edge that is wanted at both its ends is the first that blocks.
 use Prim.Native.Nat.{ℕ, _+_, _≤_, _<_}
-use native.Mathlib.Omega.{arith}
-use native.Mathlib.Decide.{decLt}
 use native.Mathlib.Numerals.{add-one}
 use mathlib.Core.Path.{_≡_, sym, ap, ap₂, _∙_, subst}
-use mathlib.Core.Logic.{⊎-elim, by-cases}
 use mathlib.Core.Bool.{Bool, true, false, not, _&&_}
 use mathlib.Core.List.{List}
-use lib.Dec.{T, T-not}
 use borrow.Author.Tests.{lt-ltb}
-use Rattle.lists.specs.Test.{given, T-true, T-false, false-T}
-use Rattle.lists.specs.Sum.{_∈_, upTo, upTo-∈, upTo-<}
-use Rattle.lists.specs.Keep.{any-or}
-use Rattle.lists.specs.Search.{low, low-is, low-cong}
 use Rattle.model.specs.Instance as model
-use Rattle.model.specs.Plans.{Plan, on}
 use Rattle.model.specs.Blocking.{yields, blocks, topOf, topBlocking}
 use Rattle.arrays.specs.ArrayInstance.{at, flag, shown}
 use Rattle.answers.specs.declared.Blocked.the-variants.{Pair, Unblocked}
 use Rattle.instance.specs.declared.Instance.{Instance}
 use Rattle.instance.specs.Loaded.{Loaded}
 use Rattle.blocking_thresholds.specs.Threshold.{Edges, Thresholds, sideOf}
+use Rattle.blocking_wanted.specs.Wanted.{Placed, wanted}
 use Rattle.theory_instance.specs.TopBlocking.{top-cong, top-below, top-behind}
-use Rattle.blocking_search.specs.Blocking.{named, blockedBy, Placed, wanted}
+use Rattle.blocking_search.specs.Blocking.{named, blockedBy}
 
 module _ (m : ℕ) (sv st rs rt qs qt ls lt : List ℕ) (p : List Bool) (os : Placed m rs) (ot : Placed m rt) (hs : Thresholds m sv rs qs p ls)
     (ht : Thresholds m st rt qt p lt)

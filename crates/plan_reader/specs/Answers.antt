@@ -1,13 +1,10 @@
 -- What is promised of a plan file's reading: document 01's answer, and the edges of an accepted plan.
-use Prim.Native.Nat.{ℕ, _≤_, _<_}
+use Prim.Native.Nat.{ℕ}
 use mathlib.Core.Path.{_≡_, refl, sym, ap, _∙_, subst}
-use mathlib.Core.Bool.{Bool, true, false, not, cond, _||_}
+use mathlib.Core.Bool.{Bool, true, false}
 use mathlib.Core.List.{List}
 use lib.ListN.{length, take}
-use lib.Dec.{T, leb, ltb, nleb→lt, nltb→le}
-use borrow.Author.Tests.{lt-ltb, le-ltb, le-leb, lt-leb}
-use Rattle.lists.specs.Test.{given, nor-l, nor-r}
-use Rattle.theory_files.specs.Entries.{cond-zero}
+use lib.Dec.{T}
 use Rattle.model.specs.Reading.{Reading, accepted, refused}
 use Rattle.model.specs.Instance.{Instance}
 use Rattle.model.specs.Plans.{Plan, on}
@@ -73,30 +70,3 @@ module _ {shifts : Bool} {G : Instance} {file : List ℕ} {r : PlanRead} (A : Re
       go : (x : Reading Plan) → Refused n ≡ answerOf (G .m) x → x ≡ refused n
       go (accepted M) e = absurd (subst (λ a. T (isAccepted a)) (sym e) tt)
       go (refused k) e = ap (λ a. refused (numberOf a)) (sym e)
-
--- "10 a plan pair not in the roster; 11 plan pairs not strictly ascending; 12 a pair that takes a node past its quota"
-unfoldable pub pairRefusal : (m e from : ℕ) (fullS fullT : Bool) → ℕ
-pairRefusal m e from fullS fullT = cond (leb m e) 10 (cond (ltb e from) 11 (cond (fullS || fullT) 12 0))
-
--- ---- by its tests
-module _ (m e from : ℕ) (fullS fullT : Bool) where
-  pub not-there : m ≤ e → 10 ≡ pairRefusal m e from fullS fullT
-  unfolding pairRefusal
-  not-there h = simp (le-leb m e h)
-
-  pub not-ascending : e < m → e < from → 11 ≡ pairRefusal m e from fullS fullT
-  unfolding pairRefusal
-  not-ascending h k = simp (lt-leb m e h, lt-ltb e from k)
-
-  pub by-quota : e < m → from ≤ e → (b : Bool) → fullS || fullT ≡ b → cond b 12 0 ≡ pairRefusal m e from fullS fullT
-  unfolding pairRefusal
-  by-quota h k b q = simp (lt-leb m e h, le-ltb e from k, q)
-
-  -- no refusal
-  pub passed : pairRefusal m e from fullS fullT ≡ 0 → (e < m) × (from ≤ e) × T (not fullS) × T (not fullT)
-  unfolding pairRefusal
-  passed q =
-      given (cond-zero (leb m e) 9 q) (λ (t, q₁).
-      given (cond-zero (ltb e from) 10 q₁) (λ (u, q₂).
-      given (cond-zero (fullS || fullT) 11 q₂) (λ (v, z).
-      (nleb→lt m e t, nltb→le e from u, nor-l fullS fullT v, nor-r fullS fullT v))))

@@ -6,14 +6,14 @@ use native.Mathlib.Numerals.{add-one}
 use native.Mathlib.Decide.{decLt}
 use mathlib.Core.Path.{_≡_, refl, sym, ap, ap₂, _∙_, subst}
 use mathlib.Core.Logic.{by-cases}
-use mathlib.Core.Bool.{Bool, true, false, cond, _||_}
+use mathlib.Core.Bool.{Bool, true, false, not, cond, _||_}
 use mathlib.Core.List.{List, [], _∷_, _++_, map, map-append}
 use lib.ListN.{length, take, drop, getD, set, replicate, length-set, length-append, length-map, length-replicate, length-drop, drop-of-length-le}
 use lib.ListN.{List·getD-eq-default}
 use lib.Seq.{drop-cons, getD-set-same, getD-set-other, take-suc-set}
-use lib.Dec.{eqb, leb, ltb, nleb→lt}
+use lib.Dec.{T, eqb, leb, ltb, nleb→lt, nltb→le}
 use borrow.Author.Tests.{le-leb}
-use Rattle.lists.specs.Test.{given, by-eq, bit, bit-one, eqb-no}
+use Rattle.lists.specs.Test.{given, by-eq, bit, bit-one, eqb-no, nor-l, nor-r}
 use Rattle.lists.specs.Sum.{sum-append}
 use Rattle.lists.specs.Keep.{any-append}
 use Rattle.model.specs.Limits.{planLimit, pairWidth}
@@ -22,6 +22,7 @@ use Rattle.model.specs.Roster.{elem}
 use Rattle.model.specs.Instance.{Instance, Side, surveyors, stands}
 use Rattle.model.specs.Plans.{Plan, on}
 use Rattle.model.specs.PlanFile.{Named, PairLayout, edgesIn, edgeOfPair, full, Pairs, pairCheck, withPair, planOfPairs, readPlanBy}
+use Rattle.theory_files.specs.Entries.{cond-zero}
 use Rattle.theory_files.specs.Reads.{accepted-value, refused-not}
 use Rattle.theory_files.specs.Chosen.{on-planOf, planOf-length, edgesIn-cong, From, Below, edges-of-elem, atNode}
 use Rattle.theory_files.specs.PlanPairs.{noPairs, pairsLeft, plan-empty, plan-long, plan-starts, left-cut, left-pair, left-none}
@@ -29,8 +30,9 @@ use Rattle.arrays.specs.ArrayInstance.{at, flag, shown}
 use Rattle.plan_reader.specs.declared.PlanAnswer.the-variants.{Accepted, Refused}
 use Rattle.plan_reader.specs.declared.PlanRead.{PlanRead}
 use Rattle.arrays.specs.Passes.{Low, all-blank}
+use Rattle.plan_pair.specs.PairRefusal.{pairRefusal}
 use Rattle.pair_bytes.specs.PairAt.{pairLayout, widthOf, width-most, namedAt, field-cut, field-at}
-use Rattle.plan_reader.specs.Answers.{answerOf, planIn, ReadAs, ReadFor, pairRefusal, passed}
+use Rattle.plan_reader.specs.Answers.{answerOf, planIn, ReadAs, ReadFor}
 
 -- ---- ascending lists with one number more
 from-snoc : (j f e : ℕ) (es : List ℕ) → j ≤ e → f ≤ e → From j es → Below f es → From j (es ++ e ∷ [])
@@ -83,6 +85,15 @@ used-snoc K u es e l h v = by-eq (K .end e) v
       sum-append (λ d. bit (eqb (K .end d) v)) es (e ∷ []),
       ap bit b,
     ))
+
+-- no refusal
+passed : (m e from : ℕ) (fullS fullT : Bool) → pairRefusal m e from fullS fullT ≡ 0 → (e < m) × (from ≤ e) × T (not fullS) × T (not fullT)
+unfolding pairRefusal
+passed m e from fullS fullT q =
+    given (cond-zero (leb m e) 9 q) (λ (t, q₁).
+    given (cond-zero (ltb e from) 10 q₁) (λ (u, q₂).
+    given (cond-zero (fullS || fullT) 11 q₂) (λ (v, z).
+    (nleb→lt m e t, nltb→le e from u, nor-l fullS fullT v, nor-r fullS fullT v))))
 
 -- a pair that names no edge is refused, whatever its ends hold
 refusal-same : (m e from : ℕ) (a b c d : Bool) → (e < m → (a ≡ c) × (b ≡ d)) → pairRefusal m e from a b ≡ pairRefusal m e from c d

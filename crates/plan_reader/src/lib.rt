@@ -2,15 +2,13 @@
 // these, or two in a file without shifts, where every pair is in shift 1. Refusals in document 01's order: 1, 2, then pair by pair 1, 10,
 // 11, 12, then 9.
 ghost use mathlib.Core.Path.{_≡_};
-ghost use mathlib.Core.Bool.{_&&_};
-ghost use Prim.Native.Nat.{ℕ, _+_, _≤_, _<_};
+ghost use Prim.Native.Nat.{_≤_, _<_};
 ghost use lib.ListN.{length, getD};
-ghost use lib.Dec.{eqb, leb};
 ghost use Rattle.arrays.specs.ArrayInstance.{at};
 ghost use Rattle.arrays.specs.Passes.{Low};
 ghost use Rattle.model.specs.Limits.{nodeLimit, entryLimit, planLimit};
 ghost use Rattle.plan_lookup.specs.PairEdge.{Differ};
-ghost use Rattle.plan_reader.specs.Answers.{pairRefusal, ReadFor};
+ghost use Rattle.plan_reader.specs.Answers.{ReadFor};
 use limits::ENTRY_LIMIT;
 use limits::PLAN_LIMIT;
 
@@ -25,36 +23,6 @@ pub struct PlanRead {
     pub answer: PlanAnswer,
     pub chosen: [bool; ENTRY_LIMIT],
     pub edges: [u16; PLAN_LIMIT],
-}
-
-// the refusal of a pair that names edge e, 0 for none; us, ut: the places that the pairs before it take at each node
-pub(crate) fn pair_refusal(
-    m: usize,
-    sv: &[u8; ENTRY_LIMIT],
-    st: &[u8; ENTRY_LIMIT],
-    qs: &[u8; 32],
-    qt: &[u8; 32],
-    us: &[u8; 32],
-    ut: &[u8; 32],
-    from: usize,
-    e: usize,
-) -> u8
-    requires { ⌜ (m ≤ entryLimit) × Low m (now sv) nodeLimit × Low m (now st) nodeLimit ⌝ }
-    ensures { λ r. ⌜ r ≡ pairRefusal m e from (leb (at (now (qs .entry)) (at (now (sv .entry)) e)) (at (now (us .entry)) (at (now (sv .entry)) e)))
-        (leb (at (now (qt .entry)) (at (now (st .entry)) e)) (at (now (ut .entry)) (at (now (st .entry)) e))) ⌝ }
-{
-    if m <= e {
-        return 10;
-    }
-    if e < from {
-        return 11;
-    }
-    let i = sv[e] as usize;
-    let j = st[e] as usize;
-    if (qs[i] <= us[i]) | (qt[j] <= ut[j]) {
-        return 12;
-    }
-    0
 }
 
 // the n pairs behind the count byte
@@ -91,7 +59,7 @@ pub(crate) fn read_pairs(
         }
         let p = pair_bytes::get(file, at, shifts);
         let e = plan_lookup::edge_of(m, sv, st, sh, from, p.surveyor, p.stand, p.shift);
-        let c = pair_refusal(m, sv, st, qs, qt, &us, &ut, from, e);
+        let c = plan_pair::pair_refusal(m, sv, st, qs, qt, &us, &ut, from, e);
         if c != 0 {
             return PlanRead {
                 answer: PlanAnswer::Refused(c),

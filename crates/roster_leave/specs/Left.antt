@@ -1,27 +1,10 @@
 -- What the code writes where a surveyor leaves, by the places of the roster's file.
 use Prim.Native.Nat.{ℕ, _+_, _-_}
-use mathlib.Core.List.{List, [], _∷_, _++_}
-use lib.ListN.{take, drop, set}
-use Rattle.model.specs.Roster.{Ranking}
-use Rattle.model.specs.RosterFile.{shifted, rankingBytes}
-use Rattle.model_changes.specs.Changes.{without}
-use Rattle.roster_positions.specs.Tables.{entriesIn, listsEnd}
+use mathlib.Core.List.{List}
+use Rattle.roster_positions.specs.Tables.{listsEnd}
 use Rattle.roster_parts.specs.Rankings.{rankingsFrom}
 use Rattle.roster_parts.specs.Gives.{rosterOf}
-
--- a stand's list without a number
-abbrev pub leftBy : ℕ → Ranking → Ranking
-leftBy s R = record { strict = without s (R .strict); tied = without s (R .tied) }
-
--- its bytes, from those of its two parts
-abbrev pub rankingLeft : ℕ → (strict tied : List ℕ) → List ℕ
-rankingLeft s xs ys = rankingBytes shifted (leftBy s (record { strict = entriesIn xs; tied = entriesIn ys }))
-
-abbrev pub nodesLeft : List ℕ → ℕ → ℕ → List ℕ
-nodesLeft f n s = set (take n f) s 0
-
-abbrev pub listsLeft : List ℕ → (start mine next end : ℕ) → List ℕ
-listsLeft f start mine next end = (take (mine - start) (drop start f) ++ 0 ∷ []) ++ take (end - next) (drop next f)
+use Rattle.roster_without.specs.LeftParts.{rankingLeft, nodesLeft, listsLeft}
 
 abbrev pub rankingsLeft : List ℕ → (start n s : ℕ) → List ℕ
 rankingsLeft f start n s = rankingsFrom (λ j. rankingLeft s) f n 1 start

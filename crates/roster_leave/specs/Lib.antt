@@ -1,3 +1,2 @@
-pub mod Others
 pub mod Left
 pub mod Departing

@@ -1,7 +1,6 @@
 // Lists at places of the file. Each list's entries are handed on as a part of the file that starts at its offset; each list has a row
 // of marks for its entries. `shifts` says how an entry stands in the file. This crate is a part of the roster reader (crate roster), whose
 // public call needs none of what these functions require.
-ghost use mathlib.Core.Path.{_≡_};
 ghost use mathlib.Core.List.{[]};
 ghost use Prim.Native.Nat.{_*_, _≤_};
 ghost use lib.ListN.{length};
@@ -12,7 +11,6 @@ ghost use Rattle.roster_reading.specs.Layout.{layoutOf, listBy, rankingBy};
 ghost use Rattle.roster_reading.specs.Slot.{rowWidth};
 ghost use Rattle.roster_reading.specs.Row.{Shows, Marked, EntriesAt};
 ghost use Rattle.roster_reading.specs.Table.{ListsShown, RankingsShown};
-use limits::LIST_LIMIT;
 use limits::NODE_LIMIT;
 use roster_entries::SHIFTS;
 use roster_reading::Section;
@@ -41,16 +39,6 @@ pub fn entries_at(
     let end = at + width * there;
     let refusal = roster_fields::check_entries(&file[at..end], there, other, shifts, tied, row);
     roster_fields::part_answer(refusal, there, n, end)
-}
-
-// "A list .. has at most 32 entries"; a file without shifts "keeps the list limit from before W-204", the other side's count.
-pub fn longest_list(other: u8, shifts: bool) -> u8
-    ensures { λ r. ⌜ r ≡ layoutOf shifts .longest other ⌝ }
-{
-    if shifts {
-        return LIST_LIMIT;
-    }
-    other
 }
 
 // "a length byte and stand numbers, best first": at most `longest` entries, each of a number up to `other`.
@@ -121,7 +109,7 @@ pub fn lists_at(
     requires { ⌜ (start ≤ length (now file)) × (n * rowWidth ≤ length (now table)) × (other ≤ nodeLimit) × ListsShown (now table) [] ⌝ }
     ensures { λ r. ⌜ Marked (readMany (listBy shifts other) n) ListsShown (now (file .entry)) start r (now (table .exit)) ⌝ }
 {
-    let longest = longest_list(other, shifts);
+    let longest = roster_reading::longest_list(other, shifts);
     let mut at = start;
     let mut k = 0;
     while k < n {
@@ -149,7 +137,7 @@ pub fn rankings_at(
     requires { ⌜ (start ≤ length (now file)) × (n * rowWidth ≤ length (now table)) × (other ≤ nodeLimit) × RankingsShown (now table) [] ⌝ }
     ensures { λ r. ⌜ Marked (readMany (rankingBy shifts other) n) RankingsShown (now (file .entry)) start r (now (table .exit)) ⌝ }
 {
-    let longest = longest_list(other, shifts);
+    let longest = roster_reading::longest_list(other, shifts);
     let mut at = start;
     let mut k = 0;
     while k < n {

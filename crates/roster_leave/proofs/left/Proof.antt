@@ -5,7 +5,8 @@ use borrow.Author.Needs.{needs}
 use Rattle.roster_positions.specs.Tables.{listsEnd}
 use Rattle.roster_parts.specs.Growth.{grown-as}
 use Rattle.roster_parts.specs.Gives.{held}
-use Rattle.roster_leave.specs.Left.{listsLeft, rankingsLeft}
+use Rattle.roster_without.specs.LeftParts.{listsLeft}
+use Rattle.roster_leave.specs.Left.{rankingsLeft}
 use Rattle.roster_leave.proofs.left.Statement.{statement}
 use Rattle.roster_leave.proofs.left.Tie as tie
 
