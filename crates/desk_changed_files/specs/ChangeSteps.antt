@@ -19,7 +19,7 @@ use Rattle.arrays.specs.ArrayInstance.{flag}
 use Rattle.instance.specs.declared.Instance as arrays
 use Rattle.instance.specs.Decoded.{shownBy}
 use Rattle.instance.specs.Loaded.{Loaded}
-use Rattle.finder_ending.specs.EndReached.{few-edges}
+use Rattle.finder_candidate.specs.Judging.{few-edges}
 use Rattle.roster_parts.specs.declared.Changed.{Changed}
 use Rattle.roster_parts.specs.Gives.{Gives, ChangedBy}
 use Rattle.plan_carried.specs.declared.CarriedPlan.{CarriedPlan}
