@@ -213,7 +213,7 @@ impl Desk {
     pub fn commit(self) -> CommitReply
         ensures { λ r. ⌜ Replied (self .files) commit (commitShown (r .answer)) commit (r .desk .files) ⌝ }
     {
-        let r = desk_proposals::commit(self.files);
+        let r = desk_commits::commit(self.files);
         let files = r.files;
         let answer = r.answer;
         CommitReply {

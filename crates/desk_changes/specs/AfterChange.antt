@@ -8,7 +8,7 @@ use Rattle.model_changes.specs.Changes.{joinOn}
 use Rattle.theory_files.specs.Reads.{isBytes}
 use Rattle.desk_files.specs.declared.Files.{Files}
 use Rattle.desk_find.specs.Outcomes.{short, Kept}
-use Rattle.desk_changed_files.specs.declared.Change.{Change}
+use Rattle.desk_stored.specs.declared.Change.{Change}
 use Rattle.desk_changed_files.specs.Changing.{ToRoster, ChangedTo}
 use Rattle.desk_find.specs.declared.Searched.{Searched}
 use Rattle.desk_find.specs.Finding.{Done}

@@ -47,13 +47,14 @@ use Rattle.finder.specs.Promise.{Promise, written-is}
 use Rattle.desk_loaded.specs.Held.{heldPlan, held, stateNumber, unneeded}
 use Rattle.desk_files.specs.declared.Files.{Files}
 use Rattle.desk_find.specs.declared.Searched.{Searched}
-use Rattle.desk_changed_files.specs.declared.Change.{Change}
+use Rattle.desk_stored.specs.declared.Change.{Change}
 use Rattle.desk_files.specs.Held.{rosterBytes, planBytes, proposalBytes, heldProposal, beside, heldOf, beside-number, of-roster, of-plan}
 use Rattle.desk_files.specs.Replies.{answered, lentThen, isAccepted, rosterFile, planFile, ChangeIn, Stored, Replied}
 use Rattle.desk_files.specs.State.{states, by-state, pass-answer, pass-lent, pass-desk, roster-held, passed, passes}
 use Rattle.desk_find.specs.Outcomes.{short, Kept}
 use Rattle.desk_find.specs.Finding.{Done, Finds, within, short-is, found}
-use Rattle.desk_changed_files.specs.Changing.{ToRoster, Unchanged, LessOf, Made, ChangedFor, ChangeFor}
+use Rattle.desk_stored.specs.Storing.{Unchanged, LessOf, Made}
+use Rattle.desk_changed_files.specs.Changing.{ToRoster, ChangedFor, ChangeFor}
 use Rattle.desk_changes.specs.AfterChange.{FoundOn, ChangeDone, JoinDone}
 
 -- `call` is join with its quota and its list, or leave with its number

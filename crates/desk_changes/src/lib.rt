@@ -1,9 +1,9 @@
 // Surveyors who join and leave in the field (request W-202): the finder on the desk's files behind the change, or the change's refusal.
 ghost use Rattle.model_changes.specs.Changes.{leaveOn};
 ghost use Rattle.desk_changes.specs.AfterChange.{FoundOn, ChangeDone, JoinDone};
-use desk_changed_files::Change;
 use desk_files::Files;
 use desk_find::Searched;
+use desk_stored::Change;
 
 // the finder behind a change, or the change's refusal
 pub(crate) fn found_on(

@@ -147,13 +147,17 @@ long-enough out size F z = nltb→le (length out) size (false-T (its-length z F)
 abbrev pub other : Files → Roster → Reading Plan
 other d R = readPlan (instanceOf R) (proposalBytes d)
 
+pub plan-held : (d : Files) (R : Roster) (M : Plan) → readRoster (rosterBytes d) ≡ accepted R → readPlan (instanceOf R) (planBytes d) ≡ accepted M
+    → heldOf d ≡ heldProposal R M (other d R)
+plan-held d R M a b = roster-held d R a ∙ ap (λ y. beside (proposalBytes d) (heldPlan R y)) b
+
 pub its-plan-held : (d : Files) {short : Bool} {l : OnDesk} → LoadedFrom (rosterBytes d) (planBytes d) true short l → l .refusal ≤ 0
     → (R : Roster) × (M : Plan) × (heldOf d ≡ heldProposal R M (other d R)) × (shownBy (l .g) ≡ instanceOf R) × PlanIn l M
     × (plans.planBytes (instanceOf R) M ≡ planBytes d)
 its-plan-held d F z = given (its-plan z F) (λ (R, M, a, b). (
   R,
   M,
-  roster-held d R a ∙ ap (λ y. beside (proposalBytes d) (heldPlan R y)) b,
+  plan-held d R M a b,
   F .instance R a .1,
   F .planned R a tt M b .0,
   F .planned R a tt M b .1,

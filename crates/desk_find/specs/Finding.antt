@@ -32,7 +32,7 @@ use Rattle.answers.specs.FinderCases.{foundShown}
 use Rattle.answers.specs.GroupCases.{shown-case}
 use Rattle.finder.specs.Promise as promise
 use Rattle.finder.specs.Promise.{Promise, written-is, shown-is, promised, steps-are}
-use Rattle.finder_ending.specs.EndBuffers.{leftAfter, planAfter, answerFor}
+use Rattle.finder_candidate.specs.FoundBuffers.{leftAfter, planAfter, answerFor}
 use Rattle.diary.specs.FlatDiary.{flatSize}
 use Rattle.desk_find.specs.declared.Outcome.{Outcome}
 use Rattle.desk_find.specs.Outcomes as finds

@@ -27,7 +27,7 @@ use Rattle.answers.specs.declared.Found as code
 use Rattle.answers.specs.declared.Found.the-variants as says
 use Rattle.diary.specs.FlatDiary.{flatSize, written}
 use Rattle.diary_records.specs.TraceRecords.{flatOf, Readable, trace-flat, readable}
-use Rattle.finder_ending.specs.EndBuffers.{Wrote}
+use Rattle.finder_candidate.specs.FoundBuffers.{Wrote}
 use Rattle.finder_run.specs.declared.Outcome as traced
 use Rattle.finder_run.specs.Finding.{Finds}
 use Rattle.finder.specs.Promise.{stepsIn, steps-are}

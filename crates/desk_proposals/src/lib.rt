@@ -1,10 +1,8 @@
-// Proposing and committing at the desk (request W-207): a plan file beside the held plan, and the open proposal in its place.
-ghost use Rattle.model_desk.specs.Desk.{propose, commit};
-ghost use Rattle.answers.specs.ProposalCases.{proposalShown, commitShown};
+// Proposing at the desk (request W-207): a plan file beside the held plan.
+ghost use Rattle.model_desk.specs.Desk.{propose};
+ghost use Rattle.answers.specs.ProposalCases.{proposalShown};
 ghost use Rattle.desk_files.specs.Replies.{Replied};
-use answers::Commit;
 use answers::Comparison;
-use answers::FileAnswer;
 use answers::Proposal;
 use desk_files::Files;
 
@@ -40,41 +38,6 @@ pub fn propose(files: Files, file: &[u8]) -> Proposed
             Proposed {
                 files: beside,
                 answer: Proposal::Votes(v, w),
-            }
-        }
-    }
-}
-
-pub struct Committed {
-    pub files: Files,
-    pub answer: Commit,
-}
-
-// "a commit makes it the held plan and closes it"; "with no open proposal (20, desk, after 14)"
-pub fn commit(files: Files) -> Committed
-    ensures { λ r. ⌜ Replied files commit (commitShown (r .answer)) commit (r .files) ⌝ }
-{
-    let here = desk_files::loaded(files, true, false);
-    let n = here.refusal;
-    if 0 < n {
-        return Committed {
-            files: files,
-            answer: Commit::Refused(n, answers::group_of(n)),
-        };
-    }
-    let array = files.proposal;
-    let file = desk_files::front(&array, files.proposal_len);
-    let a = desk_loaded::read_plan(here.g, file);
-    match a {
-        FileAnswer::Refused(_, _) => Committed {
-            files: files,
-            answer: Commit::Refused(20, answers::group_of(20)),
-        },
-        FileAnswer::Accepted => {
-            let done = desk_files::with_commit(files);
-            Committed {
-                files: done,
-                answer: Commit::Committed,
             }
         }
     }

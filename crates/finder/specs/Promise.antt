@@ -33,7 +33,7 @@ use Rattle.answers.specs.declared.Found as code
 use Rattle.answers.specs.declared.Found.the-variants as says
 use Rattle.answers.specs.declared.NoneKind.the-variants as kind
 use Rattle.answers.specs.FinderCases.{foundShown}
-use Rattle.finder_ending.specs.EndBuffers.{leftAfter, planAfter, rivalAfter, answerFor}
+use Rattle.finder_candidate.specs.FoundBuffers.{leftAfter, planAfter, rivalAfter, answerFor}
 
 -- ---- the buffers after a call that is lent the finder's are those of the desk's call
 pub written-is : (call : Lends) (G : Instance) (x : Found) (d : List Record) (l p v : List ℕ)

@@ -1,2 +1,1 @@
-pub mod EndBuffers
 pub mod EndReached

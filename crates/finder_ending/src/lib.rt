@@ -1,4 +1,4 @@
-// The end of the steps: the pairs left, or the candidate with its verdict.
+// The end of the steps: the pairs left, or, with none left, the candidate with its verdict.
 ghost use Prim.Native.Nat.{_≤_};
 ghost use lib.ListN.{length};
 ghost use Rattle.model.specs.Limits.{planSize, leftSize};
@@ -6,39 +6,11 @@ ghost use Rattle.model.specs.Plans.{Plan};
 ghost use Rattle.instance.specs.Loaded.{Loaded};
 ghost use Rattle.instance.specs.Decoded.{shownBy};
 ghost use Rattle.verdict.specs.Weighing.{Shows};
-ghost use Rattle.finder_ending.specs.EndBuffers.{Judges, Ends};
+ghost use Rattle.finder_ending.specs.EndReached.{Ends};
 use answers::Found;
 use answers::NoneKind;
-use answers::Verdict;
 use instance::Instance;
 use limits::ENTRY_LIMIT;
-
-// "Otherwise the fixed pairs are the candidate: strong gives the plan; else none, rivalled": after so many steps.
-pub(crate) fn judged(
-    g: Instance,
-    fixed: &[bool; ENTRY_LIMIT],
-    steps: usize,
-    plan: &mut [u8],
-    rival: &mut [u8],
-) -> Found
-    requires { ⌜ Loaded g × ((M : Plan) × Shows (shownBy g) (now fixed) M) × (planSize ≤ length (now plan)) × (planSize ≤ length (now rival)) ⌝ }
-    ensures { λ r. ⌜ Judges g (now (fixed .entry)) steps (now (plan .entry)) (now (rival .entry)) r (now (plan .exit)) (now (rival .exit)) ⌝ }
-{
-    let m = g.m;
-    let sv = g.sv;
-    let st = g.st;
-    let l = plan_lookup::list_edges(m, fixed);
-    let es = l.edges;
-    let sh = g.sh;
-    plan_writer::write_plan(m, &sv, &st, &sh, fixed, &mut *plan);
-    let w = verdict::weigh(g, fixed, l.n, &es, &mut *rival);
-    match w {
-        Verdict::Strong => Found::Plan(steps),
-        Verdict::Popular(v) => Found::None(steps, NoneKind::Rivalled(v)),
-        Verdict::Beaten(v) => Found::None(steps, NoneKind::Rivalled(v)),
-        Verdict::Refused(number, group) => Found::Refused(number, group),
-    }
-}
 
 // "If pairs remain when no rule acts, the answer is none, left, with those pairs"
 pub fn ended(
@@ -63,5 +35,5 @@ pub fn ended(
     if 0 < k {
         return Found::None(steps, NoneKind::Left(k));
     }
-    judged(g, fixed, steps, plan, rival)
+    finder_candidate::judged(g, fixed, steps, plan, rival)
 }

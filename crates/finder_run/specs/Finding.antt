@@ -28,7 +28,8 @@ use Rattle.answers.specs.declared.Found as code
 use Rattle.reduction_state.specs.declared.Trace.{Trace}
 use Rattle.reduction_state.specs.Trace.{Traced}
 use Rattle.reduction_state.specs.Outcome.{Reduced, ReducedFrom}
-use Rattle.finder_ending.specs.EndBuffers.{candidate, atEnd, Wrote, Ends}
+use Rattle.finder_candidate.specs.FoundBuffers.{candidate, Wrote}
+use Rattle.finder_ending.specs.EndReached.{atEnd, Ends}
 use Rattle.finder_run.specs.declared.Outcome.{Outcome}
 
 pub record Finds (G : Instance) (l p v : List ℕ) (o : Outcome) (l′ p′ v′ : List ℕ) : Type 0 where

@@ -34,7 +34,7 @@ use Rattle.instance.specs.declared.Instance as arrays
 use Rattle.instance.specs.Decoded.{shownBy, Decoded}
 use Rattle.diary.specs.FlatDiary.{flatSize, written}
 use Rattle.diary_records.specs.TraceRecords.{flatOf, Readable, trace-flat, readable}
-use Rattle.finder_ending.specs.EndBuffers.{leftAfter, planAfter, rivalAfter}
+use Rattle.finder_candidate.specs.FoundBuffers.{leftAfter, planAfter, rivalAfter}
 use Rattle.finder_run.specs.declared.Outcome.{Outcome}
 use Rattle.finder_run.specs.Finding.{Finds}
 use Rattle.finder.specs.Promise.{shown-is}

@@ -3,7 +3,7 @@ use mathlib.Core.Path.{refl}
 use mathlib.Core.Path.{ap}
 use Rattle.model_desk.specs.Desk.{blocking, refused}
 use Rattle.desk_files.specs.State.{by-state}
-use Rattle.finder_ending.specs.EndReached.{few-edges}
+use Rattle.finder_candidate.specs.Judging.{few-edges}
 use Rattle.desk_files.specs.State.{state-is, arrays-are}
 use Rattle.desk_looks.specs.Calls.{plan-shown, plan-listed, blocking-reply}
 use borrow.Author.Needs.{needs}

@@ -1,13 +1,13 @@
--- `desk_proposals::commit` meets its contract. Assumes nothing.
+-- `desk_commits::commit` meets its contract. Assumes nothing.
 use mathlib.Core.Path.{sym, ap, _∙_}
 use Rattle.model.specs.PlanFile.{readPlan}
 use Rattle.answers.specs.FileCases.{fileCase}
 use Rattle.instance.specs.Decoded.{shownBy}
 use Rattle.desk_files.specs.State.{arrays-are}
-use Rattle.desk_proposals.specs.Proposals.{commit-refused, none-open, commit-taken}
+use Rattle.desk_commits.specs.Commits.{commit-refused, none-open, commit-taken}
 use borrow.Author.Needs.{needs}
-use Rattle.desk_proposals.proofs.commit.Statement.{statement}
-use Rattle.desk_proposals.proofs.commit.Tie as tie
+use Rattle.desk_commits.proofs.commit.Statement.{statement}
+use Rattle.desk_commits.proofs.commit.Tie as tie
 
 returns : tie.Need-returns
 returns c =

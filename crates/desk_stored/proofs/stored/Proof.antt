@@ -1,14 +1,14 @@
--- `desk_changed_files::stored` meets its contract. Assumes nothing.
+-- `desk_stored::stored` meets its contract. Assumes nothing.
 use mathlib.Core.Path.{refl, subst}
 use mathlib.Core.List.{[]}
 use lib.ListN.{take}
 use Rattle.model.specs.PlanFile.{readPlan}
 use Rattle.instance.specs.Decoded.{shownBy}
-use Rattle.desk_changed_files.specs.Changing.{LessOf}
-use Rattle.desk_changed_files.specs.ChangeSteps.{no-plan, plan-few, plan-less}
+use Rattle.desk_stored.specs.Storing.{LessOf}
+use Rattle.desk_stored.specs.StoringSteps.{no-plan, plan-few, plan-less}
 use borrow.Author.Needs.{needs}
-use Rattle.desk_changed_files.proofs.stored.Statement.{statement}
-use Rattle.desk_changed_files.proofs.stored.Tie as tie
+use Rattle.desk_stored.proofs.stored.Statement.{statement}
+use Rattle.desk_stored.proofs.stored.Tie as tie
 
 returns : tie.Need-returns
 returns c =

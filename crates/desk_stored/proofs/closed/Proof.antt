@@ -1,9 +1,9 @@
--- `desk_changed_files::closed` meets its contract. Assumes nothing.
+-- `desk_stored::closed` meets its contract. Assumes nothing.
 use mathlib.Core.Path.{refl}
-use Rattle.desk_changed_files.specs.ChangeSteps.{open-still, open-no-more}
+use Rattle.desk_stored.specs.StoringSteps.{open-still, open-no-more}
 use borrow.Author.Needs.{needs}
-use Rattle.desk_changed_files.proofs.closed.Statement.{statement}
-use Rattle.desk_changed_files.proofs.closed.Tie as tie
+use Rattle.desk_stored.proofs.closed.Statement.{statement}
+use Rattle.desk_stored.proofs.closed.Tie as tie
 
 returns : tie.Need-returns
 returns c =

@@ -1,19 +1,17 @@
--- What the finder answers and what it leaves in each buffer, by what it finds, and what the functions of this crate promise: that for the plan
--- which the fixed edges are.
+-- What the finder answers and what it leaves in each buffer, by what it finds, and what `judged` promises: that for the plan which the fixed edges are.
 use Prim.Native.Nat.{ℕ}
 use mathlib.Core.Path.{_≡_}
-use mathlib.Core.Bool.{Bool, true, false}
+use mathlib.Core.Bool.{Bool}
 use mathlib.Core.List.{List}
 use lib.ListN.{length}
 use Rattle.model.specs.Instance.{Instance}
 use Rattle.model.specs.Plans as P
 use Rattle.model.specs.Plans.{Plan, Verdict, voteOf, verdictOf}
-use Rattle.model.specs.PlanFile.{edgesIn, pairList, planBytes}
+use Rattle.model.specs.PlanFile.{pairList, planBytes}
 use Rattle.model.specs.Finder as F
-use Rattle.model.specs.Finder.{Found, isEmpty}
+use Rattle.model.specs.Finder.{Found}
 use Rattle.model_desk.specs.Desk.{onto}
 use Rattle.theory_verdict.specs.Rival.{rivalOf}
-use Rattle.arrays.specs.ArrayInstance.{flag}
 use Rattle.instance.specs.declared.Instance as arrays
 use Rattle.instance.specs.Decoded.{shownBy}
 use Rattle.verdict.specs.Weighing.{Shows}
@@ -51,10 +49,6 @@ candidate G M P.strong = F.plan M
 candidate G M P.popular = F.rivalled M (rivalOf G M) (voteOf G M (rivalOf G M))
 candidate G M P.beaten = F.rivalled M (rivalOf G M) (voteOf G M (rivalOf G M))
 
--- and at the end of the steps, with these edges left
-abbrev pub atEnd : Instance → Plan → List ℕ → Found
-atEnd G M es = elim (isEmpty es) as (λ b. Found) [ true ↦ candidate G M (verdictOf G M) | false ↦ F.left es ]
-
 pub record Wrote (G : Instance) (x : Found) (steps : ℕ) (l p v : List ℕ) (r : code.Found) (l′ p′ v′ : List ℕ) : Type 0 where
   pub answer : r ≡ answerFor steps x
   pub left : l′ ≡ leftAfter G x l
@@ -65,7 +59,3 @@ pub record Wrote (G : Instance) (x : Found) (steps : ℕ) (l p v : List ℕ) (r 
 abbrev pub Judges : (g : arrays.Instance) (fixed : List Bool) (steps : ℕ) (p v : List ℕ) (r : code.Found) (p′ v′ : List ℕ) → Type 0
 Judges g fixed steps p v r p′ v′ = (M : Plan) → Shows (shownBy g) fixed M → (l : List ℕ)
     → Wrote (shownBy g) (candidate (shownBy g) M (verdictOf (shownBy g) M)) steps l p v r l p′ v′
-
-abbrev pub Ends : (g : arrays.Instance) (rem fixed : List Bool) (steps : ℕ) (l p v : List ℕ) (r : code.Found) (l′ p′ v′ : List ℕ) → Type 0
-Ends g rem fixed steps l p v r l′ p′ v′ = (M : Plan) → Shows (shownBy g) fixed M
-    → Wrote (shownBy g) (atEnd (shownBy g) M (edgesIn (g .m) (flag rem))) steps l p v r l′ p′ v′

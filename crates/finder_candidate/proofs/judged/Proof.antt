@@ -1,13 +1,13 @@
--- finder_ending::judged writes the candidate, weighs it and answers what was found of it.
+-- finder_candidate::judged writes the candidate, weighs it and answers what was found of it.
 use mathlib.Core.Path.{sym, ap, _∙_}
 use mir.Syntax.{w16}
 use mir.ValLaws.{toZ-ofZ}
 use borrow.Author.Needs.{needs, sfits-of}
 use Rattle.answers.specs.declared.Found.the-variants as says
 use Rattle.answers.specs.declared.NoneKind.the-variants as kind
-use Rattle.finder_ending.specs.EndReached.{answerOn, wrote-judged, few-edges, lists-are, plan-onto}
-use Rattle.finder_ending.proofs.judged.Statement.{statement}
-use Rattle.finder_ending.proofs.judged.Tie as tie
+use Rattle.finder_candidate.specs.Judging.{answerOn, wrote-judged, few-edges, lists-are, plan-onto}
+use Rattle.finder_candidate.proofs.judged.Statement.{statement}
+use Rattle.finder_candidate.proofs.judged.Tie as tie
 
 -- the start, from the candidate written
 abbrev start : tie.After-write-plan → tie.Start

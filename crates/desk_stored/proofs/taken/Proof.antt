@@ -1,10 +1,10 @@
--- `desk_changed_files::taken` meets its contract. Assumes nothing.
+-- `desk_stored::taken` meets its contract. Assumes nothing.
 use mathlib.Core.Path.{refl}
 use Rattle.instance.specs.Decoded.{shownBy}
-use Rattle.desk_changed_files.specs.ChangeSteps.{taken-refused, taken-stored}
+use Rattle.desk_stored.specs.StoringSteps.{taken-refused, taken-stored}
 use borrow.Author.Needs.{needs}
-use Rattle.desk_changed_files.proofs.taken.Statement.{statement}
-use Rattle.desk_changed_files.proofs.taken.Tie as tie
+use Rattle.desk_stored.proofs.taken.Statement.{statement}
+use Rattle.desk_stored.proofs.taken.Tie as tie
 
 returns : tie.Need-returns
 returns c =

@@ -1,0 +1,2 @@
+pub mod FoundBuffers
+pub mod Judging
