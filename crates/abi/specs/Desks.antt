@@ -15,7 +15,7 @@ use Rattle.abi_numbers.specs.Numbers.{judgedIn}
 use Rattle.desk_files.specs.declared.Files.{Files}
 use Rattle.desk_files.specs.Held.{heldOf}
 use Rattle.desk_files.specs.Replies.{answered, Replied}
-use Rattle.desk_looks.specs.Judging.{Judges}
+use Rattle.desk_queries.specs.Judging.{Judges}
 
 -- a call on a desk: its numbers, and all that the desk promises
 pub record Served {A : Type 0} (numbersIn : Answer → A) (d : Files) (c : Call) (n : A) (c′ : Call) (d′ : Files) : Type 0 where

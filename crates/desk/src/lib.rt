@@ -15,9 +15,9 @@ ghost use Rattle.desk_files.specs.Held.{heldOf};
 ghost use Rattle.desk_changes.specs.AfterChange.{ChangeDone, JoinDone};
 ghost use Rattle.desk_changes.specs.Changes.{Changes};
 ghost use Rattle.desk_find.specs.Finding.{Done, Finds};
-ghost use Rattle.desk_looks.specs.Comparing.{Compares};
+ghost use Rattle.desk_queries.specs.Comparing.{Compares};
 ghost use Rattle.desk.specs.Replies.{searchedIn};
-ghost use Rattle.desk_looks.specs.Judging.{Judges};
+ghost use Rattle.desk_queries.specs.Judging.{Judges};
 ghost use Rattle.desk_files.specs.Replies.{Replied};
 ghost use Rattle.desk_writes.specs.Seasons.{Turns};
 use answers::Blocked;
@@ -247,7 +247,7 @@ impl Desk {
     pub fn judge(self, rival: &mut [u8]) -> JudgeReply
         ensures { λ r. ⌜ Judges (self .files) (now (rival .entry)) (r .answer) (now (rival .exit)) (r .desk .files) ⌝ }
     {
-        let a = desk_looks::judge(self.files, rival);
+        let a = desk_queries::judge(self.files, rival);
         JudgeReply {
             desk: self,
             answer: a,
@@ -259,7 +259,7 @@ impl Desk {
         ensures { λ r. ⌜ Replied (self .files) (compare (now (first .entry)) (now (second .entry)))
             (comparisonShown (now (first .entry)) (now (second .entry)) (r .answer)) (compare (now (first .entry)) (now (second .entry))) (r .desk .files) ⌝ }
     {
-        let a = desk_looks::compare_votes(self.files, first, second);
+        let a = desk_queries::compare_votes(self.files, first, second);
         CompareReply {
             desk: self,
             answer: a,
@@ -283,7 +283,7 @@ impl Desk {
     pub fn blocking(self) -> BlockingReply
         ensures { λ r. ⌜ Replied (self .files) blocking (blockedShown (r .answer)) blocking (r .desk .files) ⌝ }
     {
-        let a = desk_looks::blocking(self.files);
+        let a = desk_queries::blocking(self.files);
         BlockingReply {
             desk: self,
             answer: a,

@@ -48,7 +48,7 @@ use Rattle.desk.specs.declared.Desk.{Desk}
 use Rattle.desk.specs.declared.CompareReply.{CompareReply}
 use Rattle.desk.specs.declared.Compared.{Compared}
 use Rattle.desk_files.specs.Held.{heldOf}
-use Rattle.desk_looks.specs.Comparing.{counted, compares}
+use Rattle.desk_queries.specs.Comparing.{counted, compares}
 use Rattle.desk_files.specs.Replies.{Replied}
 use Rattle.desk.proofs.Desk as D
 use Rattle.desk.proofs.Desk.Laws as D′

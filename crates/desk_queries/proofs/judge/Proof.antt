@@ -1,14 +1,14 @@
--- `desk_looks::judge` meets its contract. Assumes nothing.
+-- `desk_queries::judge` meets its contract. Assumes nothing.
 use mathlib.Core.Path.{refl, ap}
 use Rattle.model.specs.Limits.{planSize}
 use Rattle.model_desk.specs.Desk.{judge, refused}
 use Rattle.desk_files.specs.State.{by-state}
 use Rattle.desk_files.specs.State.{state-is, arrays-are, long-enough}
-use Rattle.desk_looks.specs.Calls.{plan-shown, plan-listed, judge-reply}
-use Rattle.desk_looks.specs.Judging.{judges}
+use Rattle.desk_queries.specs.Calls.{plan-shown, plan-listed, judge-reply}
+use Rattle.desk_queries.specs.Judging.{judges}
 use borrow.Author.Needs.{needs}
-use Rattle.desk_looks.proofs.judge.Statement.{statement}
-use Rattle.desk_looks.proofs.judge.Tie as tie
+use Rattle.desk_queries.proofs.judge.Statement.{statement}
+use Rattle.desk_queries.proofs.judge.Tie as tie
 
 returns : tie.Need-returns
 returns c =

@@ -1,14 +1,14 @@
--- `desk_looks::compare_votes` meets its contract. Assumes nothing.
+-- `desk_queries::compare_votes` meets its contract. Assumes nothing.
 use mathlib.Core.Path.{ap}
 use Rattle.model.specs.Refusal.{Group}
 use Rattle.model_desk.specs.Compare.{winnerPart, neither}
 use Rattle.model_desk.specs.Desk.{compare, refusedPart}
 use Rattle.desk_files.specs.State.{by-state}
 use Rattle.desk_files.specs.State.{state-is, arrays-are}
-use Rattle.desk_looks.specs.Calls.{compare-reply}
+use Rattle.desk_queries.specs.Calls.{compare-reply}
 use borrow.Author.Needs.{needs}
-use Rattle.desk_looks.proofs.compare_votes.Statement.{statement}
-use Rattle.desk_looks.proofs.compare_votes.Tie as tie
+use Rattle.desk_queries.proofs.compare_votes.Statement.{statement}
+use Rattle.desk_queries.proofs.compare_votes.Tie as tie
 
 returns : tie.Need-returns
 returns c =

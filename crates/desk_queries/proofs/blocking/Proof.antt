@@ -1,14 +1,14 @@
--- `desk_looks::blocking` meets its contract. Assumes nothing.
+-- `desk_queries::blocking` meets its contract. Assumes nothing.
 use mathlib.Core.Path.{refl}
 use mathlib.Core.Path.{ap}
 use Rattle.model_desk.specs.Desk.{blocking, refused}
 use Rattle.desk_files.specs.State.{by-state}
 use Rattle.finder_candidate.specs.Judging.{few-edges}
 use Rattle.desk_files.specs.State.{state-is, arrays-are}
-use Rattle.desk_looks.specs.Calls.{plan-shown, plan-listed, blocking-reply}
+use Rattle.desk_queries.specs.Calls.{plan-shown, plan-listed, blocking-reply}
 use borrow.Author.Needs.{needs}
-use Rattle.desk_looks.proofs.blocking.Statement.{statement}
-use Rattle.desk_looks.proofs.blocking.Tie as tie
+use Rattle.desk_queries.proofs.blocking.Statement.{statement}
+use Rattle.desk_queries.proofs.blocking.Tie as tie
 
 returns : tie.Need-returns
 returns c =

@@ -3,7 +3,7 @@ ghost use Rattle.model_desk.specs.Desk.{compare, blocking};
 ghost use Rattle.answers.specs.ComparisonCases.{comparisonShown};
 ghost use Rattle.answers.specs.BlockedCases.{blockedShown};
 ghost use Rattle.desk_files.specs.Replies.{Replied};
-ghost use Rattle.desk_looks.specs.Judging.{Judges};
+ghost use Rattle.desk_queries.specs.Judging.{Judges};
 use answers::Blocked;
 use answers::Comparison;
 use answers::Verdict;
