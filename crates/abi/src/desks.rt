@@ -5,10 +5,11 @@ ghost use mathlib.Core.Path.{_≡_};
 ghost use Rattle.model_desk.specs.Desk.{opening, loadRoster, loadPlan, writeRosterTo, writePlanTo, compare, blocking};
 ghost use Rattle.model_desk.specs.Desk.{propose, commit};
 ghost use Rattle.desk_files.specs.Held.{heldOf};
-ghost use Rattle.abi_numbers.specs.Numbers.{refusalIn, outcomeIn, proposedIn, comparedIn, blockerIn};
+ghost use Rattle.abi_numbers.specs.Numbers.{refusalIn, outcomeIn, proposedIn, blockerIn};
+ghost use Rattle.abi_comparison.specs.ComparisonNumbers.{comparedIn};
 ghost use Rattle.abi.specs.Desks.{Served, JudgedFor};
+use abi_comparison::Compared;
 use abi_numbers::Blocker;
-use abi_numbers::Compared;
 use abi_numbers::Judged;
 use abi_numbers::Outcome;
 use abi_numbers::Proposed;
@@ -167,7 +168,7 @@ pub extern "C" fn crew_compare(desk: Desk, first: &[u8], second: &[u8]) -> DeskC
     let r = desk.compare_votes(first, second);
     let d = r.desk;
     let a = r.answer;
-    let n = abi_numbers::comparison_numbers(a, first, second);
+    let n = abi_comparison::comparison_numbers(a, first, second);
     DeskCompared {
         desk: d,
         compared: n,

@@ -1,25 +1,21 @@
-// The answers as numbers, for C: a refusal is its number, 0 for none, and what an answer does not have is 0.
+// The answers as numbers, for C (a comparison: abi_comparison): a refusal is its number, 0 for none, and what an answer does not have is 0.
 ghost use mathlib.Core.Path.{_≡_};
-ghost use Prim.Native.Nat.{_-_};
 ghost use Rattle.answers.specs.GroupCases.{groupShown};
 ghost use Rattle.answers.specs.FileCases.{fileShown};
 ghost use Rattle.answers.specs.ProposalCases.{proposalShown, commitShown};
 ghost use Rattle.answers.specs.WrittenCases.{writtenShown};
 ghost use Rattle.answers.specs.FinderCases.{foundShown};
 ghost use Rattle.answers.specs.VerdictCases.{verdictShown};
-ghost use Rattle.answers.specs.ComparisonCases.{comparisonShown};
 ghost use Rattle.answers.specs.BlockedCases.{blockedShown};
-ghost use Rattle.abi_numbers.specs.Numbers.{groupNumber, refusalIn, outcomeIn, judgedIn, comparedIn, blockerIn, proposedIn, foundIn};
+ghost use Rattle.abi_numbers.specs.Numbers.{groupNumber, refusalIn, outcomeIn, judgedIn, blockerIn, proposedIn, foundIn};
 use answers::Blocked;
 use answers::Commit;
-use answers::Comparison;
 use answers::FileAnswer;
 use answers::Found;
 use answers::Group;
 use answers::NoneKind;
 use answers::Proposal;
 use answers::Verdict;
-use answers::Winner;
 use answers::Written;
 
 // a refusal, or 0 and the length written
@@ -36,20 +32,6 @@ pub struct Judged {
     pub refusal: u8,
     pub verdict: u8,
     pub vote: i16,
-}
-
-// A refusal, 0 for none; both votes, first against second and second against first; the winner, 0 neither, 1 first, 2 second,
-// 3 both; and its pair bytes: the file, 1 first, 2 second, where they begin in it and how many they are. On a refusal the votes are 0; with
-// both, with neither and on a refusal the part is the empty one at the first file's start.
-#[repr(C)]
-pub struct Compared {
-    pub refusal: u8,
-    pub winner: u8,
-    pub first_vote: i16,
-    pub second_vote: i16,
-    pub file: u8,
-    pub from: usize,
-    pub length: usize,
 }
 
 // A refusal, 0 for none; the numbers of a blocking pair, 0 0 0 if there is none.
@@ -170,71 +152,6 @@ pub fn verdict_numbers(v: Verdict) -> Judged
             refusal: number,
             verdict: 0,
             vote: 0,
-        },
-    }
-}
-
-// the size of a file behind its count byte
-pub(crate) fn behind_count(size: usize) -> usize
-    ensures { λ r. ⌜ r ≡ size - 1 ⌝ }
-{
-    if 0 < size {
-        return size - 1;
-    }
-    0
-}
-
-// a comparison of two files, with the winner's part as the file, the byte that it begins at and its length
-pub fn comparison_numbers(c: Comparison, first: &[u8], second: &[u8]) -> Compared
-    ensures { λ r. ⌜ r ≡ comparedIn (comparisonShown (now (first .entry)) (now (second .entry)) c) ⌝ }
-{
-    match c {
-        Comparison::Votes(v, w, x) => match x {
-            Winner::First => Compared {
-                refusal: 0,
-                winner: 1,
-                first_vote: v,
-                second_vote: w,
-                file: 1,
-                from: 1,
-                length: behind_count(first.len()),
-            },
-            Winner::Second => Compared {
-                refusal: 0,
-                winner: 2,
-                first_vote: v,
-                second_vote: w,
-                file: 2,
-                from: 1,
-                length: behind_count(second.len()),
-            },
-            Winner::Both => Compared {
-                refusal: 0,
-                winner: 3,
-                first_vote: v,
-                second_vote: w,
-                file: 1,
-                from: 0,
-                length: 0,
-            },
-            Winner::Neither => Compared {
-                refusal: 0,
-                winner: 0,
-                first_vote: v,
-                second_vote: w,
-                file: 1,
-                from: 0,
-                length: 0,
-            },
-        },
-        Comparison::Refused(number, _) => Compared {
-            refusal: number,
-            winner: 0,
-            first_vote: 0,
-            second_vote: 0,
-            file: 1,
-            from: 0,
-            length: 0,
         },
     }
 }

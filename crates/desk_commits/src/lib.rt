@@ -33,7 +33,7 @@ pub fn commit(files: Files) -> Committed
             answer: Commit::Refused(20, answers::group_of(20)),
         },
         FileAnswer::Accepted => {
-            let done = desk_files::with_commit(files);
+            let done = desk_intake::with_commit(files);
             Committed {
                 files: done,
                 answer: Commit::Committed,

@@ -22,7 +22,7 @@ pub fn load_roster(files: Files, file: &[u8]) -> Load
             answer: FileAnswer::Refused(number, group),
         },
         FileAnswer::Accepted => {
-            let d = desk_files::with_roster(files, file);
+            let d = desk_intake::with_roster(files, file);
             Load {
                 files: d,
                 answer: FileAnswer::Accepted,
@@ -50,7 +50,7 @@ pub fn load_plan(files: Files, file: &[u8]) -> Load
             answer: FileAnswer::Refused(number, group),
         },
         FileAnswer::Accepted => {
-            let next = desk_files::with_plan(files, file);
+            let next = desk_intake::with_plan(files, file);
             Load {
                 files: next,
                 answer: FileAnswer::Accepted,

@@ -34,7 +34,7 @@ pub fn propose(files: Files, file: &[u8]) -> Proposed
             answer: Proposal::Refused(number, group),
         },
         Comparison::Votes(v, w, _) => {
-            let beside = desk_files::with_proposal(files, file);
+            let beside = desk_intake::with_proposal(files, file);
             Proposed {
                 files: beside,
                 answer: Proposal::Votes(v, w),

@@ -1,13 +1,13 @@
--- `desk_files::with_roster` meets its contract. Assumes nothing.
+-- `desk_intake::with_roster` meets its contract. Assumes nothing.
 use Prim.Native.Nat.{_≤_}
 use native.Mathlib.Omega.{arith}
 use mathlib.Core.Path.{_≡_, refl}
 use lib.ListN.{length}
 use Rattle.model.specs.Limits.{rosterSize}
-use Rattle.desk_files.specs.Front.{front-copied}
+use Rattle.desk_intake.specs.Front.{front-copied}
 use borrow.Author.Needs.{needs}
-use Rattle.desk_files.proofs.with_roster.Statement.{statement}
-use Rattle.desk_files.proofs.with_roster.Tie as tie
+use Rattle.desk_intake.proofs.with_roster.Statement.{statement}
+use Rattle.desk_intake.proofs.with_roster.Tie as tie
 
 copy-requires : tie.Need-copy-requires
 copy-requires c κs =

@@ -1,13 +1,13 @@
--- `desk_files::with_plan` meets its contract. Assumes nothing.
+-- `desk_intake::with_plan` meets its contract. Assumes nothing.
 use Prim.Native.Nat.{_≤_}
 use native.Mathlib.Omega.{arith}
 use mathlib.Core.Path.{_≡_, refl}
 use lib.ListN.{length}
 use Rattle.model.specs.Limits.{planSize}
-use Rattle.desk_files.specs.Front.{front-copied}
+use Rattle.desk_intake.specs.Front.{front-copied}
 use borrow.Author.Needs.{needs}
-use Rattle.desk_files.proofs.with_plan.Statement.{statement}
-use Rattle.desk_files.proofs.with_plan.Tie as tie
+use Rattle.desk_intake.proofs.with_plan.Statement.{statement}
+use Rattle.desk_intake.proofs.with_plan.Tie as tie
 
 copy-requires : tie.Need-copy-requires
 copy-requires c κs =

@@ -1,4 +1,4 @@
--- `seasons::settled` meets its contract: another shift is 19, and else the array's front is copied. Assumes nothing.
+-- `season_rosters::settled` meets its contract: another shift is 19, and else the array's front is copied. Assumes nothing.
 use native.Mathlib.Omega.{arith}
 use mathlib.Core.Path.{refl, sym}
 use lib.ListN.{take, length-take}
@@ -9,9 +9,9 @@ use borrow.Author.Needs.{needs}
 use Rattle.model.specs.Reading.{isBytes}
 use Rattle.theory_files.specs.Reads.{bytes-are}
 use Rattle.roster_turned.specs.Turning.{counts-few}
-use Rattle.seasons.specs.Converting.{settles-not, settles-wrote}
-use Rattle.seasons.proofs.settled.Statement.{statement}
-use Rattle.seasons.proofs.settled.Tie as tie
+use Rattle.season_rosters.specs.Settling.{settles-not, settles-wrote}
+use Rattle.season_rosters.proofs.settled.Statement.{statement}
+use Rattle.season_rosters.proofs.settled.Tie as tie
 
 -- the file is bytes
 file-bytes : (p : tie.After-slice-known) → T (isBytes (p .before .before .args .file .now))

@@ -1,11 +1,11 @@
--- `abi_numbers::comparison_numbers` meets its contract: the part of the winner's file goes out as numbers. Assumes nothing.
+-- `abi_comparison::comparison_numbers` meets its contract: the part of the winner's file goes out as numbers. Assumes nothing.
 use mathlib.Core.Path.{ap₂, _∙_}
 use mir.Syntax.{w16}
 use mir.ValLaws.{toZ-ofZ}
-use Rattle.abi_numbers.specs.Numbers.{voted, first-numbers, second-numbers, both-numbers, neither-numbers, refused-numbers}
+use Rattle.abi_comparison.specs.ComparisonNumbers.{voted, first-numbers, second-numbers, both-numbers, neither-numbers, refused-numbers}
 use borrow.Author.Needs.{needs, sfits-of}
-use Rattle.abi_numbers.proofs.comparison_numbers.Statement.{statement}
-use Rattle.abi_numbers.proofs.comparison_numbers.Tie as tie
+use Rattle.abi_comparison.proofs.comparison_numbers.Statement.{statement}
+use Rattle.abi_comparison.proofs.comparison_numbers.Tie as tie
 
 returns : tie.Need-returns
 returns c =
