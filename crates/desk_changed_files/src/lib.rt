@@ -24,13 +24,13 @@ pub fn joined(files: Files, short: bool, quota: u8, list: &[u8]) -> Change
 pub fn departed(files: Files, short: bool, number: u8) -> Change
     ensures { λ r. ⌜ ChangedTo files short (λ R. leaveOn R number) number r ⌝ }
 {
-    let l = desk_files::loaded(files, false, short);
-    let n = l.refusal;
+    let held = desk_files::loaded(files, false, short);
+    let n = held.refusal;
     if 0 < n {
         return desk_stored::unchanged(files, n);
     }
     let array = files.roster;
     let file = desk_files::front(&array, files.roster_len);
     let c = roster_leave::leave(file, number);
-    desk_stored::taken(files, l.g, c, number)
+    desk_stored::taken(files, held.g, c, number)
 }

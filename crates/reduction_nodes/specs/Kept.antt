@@ -69,8 +69,8 @@ pub record Looks : Type 0 where
 abbrev pub edges : (m : ℕ) (sv st rs rt : List ℕ) (tied : List Bool) → Edges
 edges m sv st rs rt tied = record { m = m; sv = sv; st = st; rs = rs; rt = rt; tied = tied }
 
-abbrev pub nodeLists : (ls bs lt bt cs ct : List ℕ) → NodeLists
-nodeLists ls bs lt bt cs ct = record { listS = ls; firstS = bs; listT = lt; firstT = bt; cellS = cs; cellT = ct }
+abbrev pub nodeLists : (ls os lt ot cs ct : List ℕ) → NodeLists
+nodeLists ls os lt ot cs ct = record { listS = ls; firstS = os; listT = lt; firstT = ot; cellS = cs; cellT = ct }
 
 abbrev pub looks : (rem fs ft : List Bool) (qs qt : List ℕ) → Looks
 looks rem fs ft qs qt = record { rem = rem; fs = fs; ft = ft; qs = qs; qt = qt }

@@ -29,16 +29,16 @@ pub(crate) fn run(
     strict: &[bool; ENTRY_LIMIT],
     tied: &[bool; ENTRY_LIMIT],
     ls: &[u16; PLACES],
-    bs: &[u16; 32],
+    os: &[u16; 32],
     lt: &[u16; PLACES],
-    bt: &[u16; 32],
+    ot: &[u16; 32],
     cs: &[u16; CELLS],
     ct: &[u16; CELLS],
     qs: &[u8; 32],
     qt: &[u8; 32],
 ) -> Reduction
     requires { ⌜ Tables (edges m (now sv) (now st) (now rs) (now rt) (now tied)) (now strict)
-        (nodeLists (now ls) (now bs) (now lt) (now bt) (now cs) (now ct)) ⌝ }
+        (nodeLists (now ls) (now os) (now lt) (now ot) (now cs) (now ct)) ⌝ }
     ensures { λ r. ⌜ ((K : Known (edges m (now (sv .entry)) (now (st .entry)) (now (rs .entry)) (now (rt .entry)) (now (tied .entry)))
         (now (qs .entry)) (now (qt .entry))) → Reduced (instanceOf K) (r .rem) (r .fixed) (r .trace)) ⌝ }
 {
@@ -53,9 +53,9 @@ pub(crate) fn run(
         strict,
         tied,
         ls,
-        bs,
+        os,
         lt,
-        bt,
+        ot,
         cs,
         ct,
         qs,
@@ -81,9 +81,9 @@ pub(crate) fn run(
         strict,
         tied,
         ls,
-        bs,
+        os,
         lt,
-        bt,
+        ot,
         cs,
         ct,
         &rem,
@@ -114,9 +114,9 @@ pub(crate) fn run(
             strict,
             tied,
             ls,
-            bs,
+            os,
             lt,
-            bt,
+            ot,
             cs,
             ct,
             &rem,
@@ -152,9 +152,9 @@ pub(crate) fn run(
             strict,
             tied,
             ls,
-            bs,
+            os,
             lt,
-            bt,
+            ot,
             cs,
             ct,
             rule,
@@ -203,9 +203,9 @@ pub fn reduce(
 {
     let strict = [false; ENTRY_LIMIT];
     let mut ls = [0u16; PLACES];
-    let bs = reduction_lists::lists(m, sv, &mut ls);
+    let os = reduction_lists::lists(m, sv, &mut ls);
     let mut lt = [0u16; PLACES];
-    let bt = reduction_lists::lists(m, st, &mut lt);
+    let ot = reduction_lists::lists(m, st, &mut lt);
     let cs = reduction_cells::cells(m, sv, rs, &strict);
     let ct = reduction_cells::cells(m, st, rt, tied);
     run(
@@ -217,9 +217,9 @@ pub fn reduce(
         &strict,
         tied,
         &ls,
-        &bs,
+        &os,
         &lt,
-        &bt,
+        &ot,
         &cs,
         &ct,
         qs,

@@ -22,7 +22,7 @@ use Rattle.reduction_state.specs.declared.State as arrays
 use Rattle.reduction_state.specs.Trace.{blank}
 use Rattle.reduction_state.specs.RunState as state
 use Rattle.reduction_state.specs.RunState.{whole, Sized, Started, stateAt}
-use Rattle.reduction_state.specs.Shown.{Shown}
+use Rattle.reduction_state.specs.RunArrows.{Shown}
 use Rattle.reduction_start.specs.declared.Start.{Start}
 
 -- ---- a list of all nodes has each

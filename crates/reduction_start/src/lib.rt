@@ -31,16 +31,16 @@ pub fn begun(
     strict: &[bool; ENTRY_LIMIT],
     tied: &[bool; ENTRY_LIMIT],
     ls: &[u16; PLACES],
-    bs: &[u16; 32],
+    os: &[u16; 32],
     lt: &[u16; PLACES],
-    bt: &[u16; 32],
+    ot: &[u16; 32],
     cs: &[u16; CELLS],
     ct: &[u16; CELLS],
     qs: &[u8; 32],
     qt: &[u8; 32],
 ) -> Start
     requires { ⌜ Tables (edges m (now sv) (now st) (now rs) (now rt) (now tied)) (now strict)
-        (nodeLists (now ls) (now bs) (now lt) (now bt) (now cs) (now ct)) ⌝ }
+        (nodeLists (now ls) (now os) (now lt) (now ot) (now cs) (now ct)) ⌝ }
     ensures { λ r. ⌜ Begun (edges m (now (sv .entry)) (now (st .entry)) (now (rs .entry)) (now (rt .entry)) (now (tied .entry)))
         (now (qs .entry)) (now (qt .entry)) r ⌝ }
 {
@@ -88,9 +88,9 @@ pub fn numbered(
     strict: &[bool; ENTRY_LIMIT],
     tied: &[bool; ENTRY_LIMIT],
     ls: &[u16; PLACES],
-    bs: &[u16; 32],
+    os: &[u16; 32],
     lt: &[u16; PLACES],
-    bt: &[u16; 32],
+    ot: &[u16; 32],
     cs: &[u16; CELLS],
     ct: &[u16; CELLS],
     rem: &[bool; ENTRY_LIMIT],
@@ -103,16 +103,16 @@ pub fn numbered(
     twot: &mut [u16; 32],
 )
     requires { ⌜ Tables (edges m (now sv) (now st) (now rs) (now rt) (now tied)) (now strict)
-        (nodeLists (now ls) (now bs) (now lt) (now bt) (now cs) (now ct)) ⌝ }
+        (nodeLists (now ls) (now os) (now lt) (now ot) (now cs) (now ct)) ⌝ }
     requires { ⌜ (length (now one) ≡ nodeLimit) × (length (now twos) ≡ nodeLimit) × (length (now twot) ≡ nodeLimit) ⌝ }
     ensures { λ r. ⌜ (length (now (one .exit)) ≡ nodeLimit) × (length (now (twos .exit)) ≡ nodeLimit) × (length (now (twot .exit)) ≡ nodeLimit) ⌝ }
     ensures { λ r. ⌜ Leads (edges m (now (sv .entry)) (now (st .entry)) (now (rs .entry)) (now (rt .entry)) (now (tied .entry)))
-        (nodeLists (now (ls .entry)) (now (bs .entry)) (now (lt .entry)) (now (bt .entry)) (now (cs .entry)) (now (ct .entry)))
+        (nodeLists (now (ls .entry)) (now (os .entry)) (now (lt .entry)) (now (ot .entry)) (now (cs .entry)) (now (ct .entry)))
         (looks (now (rem .entry)) (now (fs .entry)) (now (ft .entry)) (now (qs .entry)) (now (qt .entry)))
         (now (one .exit)) (now (twos .exit)) (now (twot .exit)) ⌝ }
 {
     let all = everyone();
-    reduction_nodes::first_renewed(m, sv, ls, bs, fs, ft, &all, 32, one);
-    reduction_nodes::second_renewed(m, sv, rs, strict, ls, bs, cs, rem, ft, qs, &all, 32, twos);
-    reduction_nodes::second_renewed(m, st, rt, tied, lt, bt, ct, rem, fs, qt, &all, 32, twot);
+    reduction_nodes::first_renewed(m, sv, ls, os, fs, ft, &all, 32, one);
+    reduction_nodes::second_renewed(m, sv, rs, strict, ls, os, cs, rem, ft, qs, &all, 32, twos);
+    reduction_nodes::second_renewed(m, st, rt, tied, lt, ot, ct, rem, fs, qt, &all, 32, twot);
 }

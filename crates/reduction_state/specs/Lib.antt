@@ -2,4 +2,4 @@ pub mod AfterStep
 pub mod Trace
 pub mod Outcome
 pub mod RunState
-pub mod Shown
+pub mod RunArrows

@@ -60,9 +60,9 @@ pub fn renewed(
     strict: &[bool; ENTRY_LIMIT],
     tied: &[bool; ENTRY_LIMIT],
     ls: &[u16; PLACES],
-    bs: &[u16; 32],
+    os: &[u16; 32],
     lt: &[u16; PLACES],
-    bt: &[u16; 32],
+    ot: &[u16; 32],
     cs: &[u16; CELLS],
     ct: &[u16; CELLS],
     rem: &[bool; ENTRY_LIMIT],
@@ -80,16 +80,16 @@ pub fn renewed(
     oldt: &mut [bool; 32],
 )
     requires { ⌜ Tables (edges m (now sv) (now st) (now rs) (now rt) (now tied)) (now strict)
-        (nodeLists (now ls) (now bs) (now lt) (now bt) (now cs) (now ct)) ⌝ }
+        (nodeLists (now ls) (now os) (now lt) (now ot) (now cs) (now ct)) ⌝ }
     requires { ⌜ Lates (edges m (now sv) (now st) (now rs) (now rt) (now tied))
-        (nodeLists (now ls) (now bs) (now lt) (now bt) (now cs) (now ct))
+        (nodeLists (now ls) (now os) (now lt) (now ot) (now cs) (now ct))
         (looks (now rem) (now fs) (now ft) (now qs) (now qt))
         (later (now rule3) (now rule4) (now rule5) (now rule6) (now rule7) (now loose) (now olds) (now oldt)) ⌝ }
     requires { ⌜ SizedL (later (now rule3) (now rule4) (now rule5) (now rule6) (now rule7) (now loose) (now olds) (now oldt)) ⌝ }
     ensures { λ r. ⌜ SizedL (later (now (rule3 .exit)) (now (rule4 .exit)) (now (rule5 .exit)) (now (rule6 .exit)) (now (rule7 .exit))
         (now (loose .exit)) (now (olds .exit)) (now (oldt .exit))) ⌝ }
     ensures { λ r. ⌜ Fresh (edges m (now (sv .entry)) (now (st .entry)) (now (rs .entry)) (now (rt .entry)) (now (tied .entry)))
-        (nodeLists (now (ls .entry)) (now (bs .entry)) (now (lt .entry)) (now (bt .entry)) (now (cs .entry)) (now (ct .entry)))
+        (nodeLists (now (ls .entry)) (now (os .entry)) (now (lt .entry)) (now (ot .entry)) (now (cs .entry)) (now (ct .entry)))
         (looks (now (rem .entry)) (now (fs .entry)) (now (ft .entry)) (now (qs .entry)) (now (qt .entry)))
         (later (now (rule3 .exit)) (now (rule4 .exit)) (now (rule5 .exit)) (now (rule6 .exit)) (now (rule7 .exit)) (now (loose .exit)) (now (olds .exit))
         (now (oldt .exit))) ⌝ }
@@ -101,7 +101,7 @@ pub fn renewed(
         rt,
         tied,
         lt,
-        bt,
+        ot,
         ct,
         rem,
         fs,
@@ -122,7 +122,7 @@ pub fn renewed(
         rs,
         strict,
         ls,
-        bs,
+        os,
         cs,
         rem,
         fs,
@@ -184,9 +184,9 @@ pub fn step(
     strict: &[bool; ENTRY_LIMIT],
     tied: &[bool; ENTRY_LIMIT],
     ls: &[u16; PLACES],
-    bs: &[u16; 32],
+    os: &[u16; 32],
     lt: &[u16; PLACES],
-    bt: &[u16; 32],
+    ot: &[u16; 32],
     cs: &[u16; CELLS],
     ct: &[u16; CELLS],
     rem: &[bool; ENTRY_LIMIT],
@@ -207,19 +207,19 @@ pub fn step(
     oldt: &mut [bool; 32],
 ) -> Named
     requires { ⌜ Tables (edges m (now sv) (now st) (now rs) (now rt) (now tied)) (now strict)
-        (nodeLists (now ls) (now bs) (now lt) (now bt) (now cs) (now ct)) ⌝ }
+        (nodeLists (now ls) (now os) (now lt) (now ot) (now cs) (now ct)) ⌝ }
     requires { ⌜ Leads (edges m (now sv) (now st) (now rs) (now rt) (now tied))
-        (nodeLists (now ls) (now bs) (now lt) (now bt) (now cs) (now ct))
+        (nodeLists (now ls) (now os) (now lt) (now ot) (now cs) (now ct))
         (looks (now rem) (now fs) (now ft) (now qs) (now qt)) (now one) (now twos) (now twot) ⌝ }
     requires { ⌜ Lates (edges m (now sv) (now st) (now rs) (now rt) (now tied))
-        (nodeLists (now ls) (now bs) (now lt) (now bt) (now cs) (now ct))
+        (nodeLists (now ls) (now os) (now lt) (now ot) (now cs) (now ct))
         (looks (now rem) (now fs) (now ft) (now qs) (now qt))
         (later (now rule3) (now rule4) (now rule5) (now rule6) (now rule7) (now loose) (now olds) (now oldt)) ⌝ }
     requires { ⌜ SizedL (later (now rule3) (now rule4) (now rule5) (now rule6) (now rule7) (now loose) (now olds) (now oldt)) ⌝ }
     ensures { λ r. ⌜ SizedL (later (now (rule3 .exit)) (now (rule4 .exit)) (now (rule5 .exit)) (now (rule6 .exit)) (now (rule7 .exit))
         (now (loose .exit)) (now (olds .exit)) (now (oldt .exit))) ⌝ }
     ensures { λ r. ⌜ Lates (edges m (now (sv .entry)) (now (st .entry)) (now (rs .entry)) (now (rt .entry)) (now (tied .entry)))
-        (nodeLists (now (ls .entry)) (now (bs .entry)) (now (lt .entry)) (now (bt .entry)) (now (cs .entry)) (now (ct .entry)))
+        (nodeLists (now (ls .entry)) (now (os .entry)) (now (lt .entry)) (now (ot .entry)) (now (cs .entry)) (now (ct .entry)))
         (looks (now (rem .entry)) (now (fs .entry)) (now (ft .entry)) (now (qs .entry)) (now (qt .entry)))
         (later (now (rule3 .exit)) (now (rule4 .exit)) (now (rule5 .exit)) (now (rule6 .exit)) (now (rule7 .exit)) (now (loose .exit)) (now (olds .exit))
         (now (oldt .exit))) ⌝ }
@@ -243,9 +243,9 @@ pub fn step(
         strict,
         tied,
         ls,
-        bs,
+        os,
         lt,
-        bt,
+        ot,
         cs,
         ct,
         rem,

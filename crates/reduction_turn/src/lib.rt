@@ -17,7 +17,7 @@ ghost use Rattle.reduction_nodes.specs.Numbers.{firstOf, secondsOf};
 ghost use Rattle.reduction_nodes.specs.Kept.{Tables, edges, nodeLists, looks};
 ghost use Rattle.reduction_state.specs.RunState.{whole, Sized};
 ghost use Rattle.reduction_turn.specs.Onward.{Marked, Arrows, Carried, Onward, SizedN, numbers};
-ghost use Rattle.reduction_turn.specs.ShownOn.{ShownOn};
+ghost use Rattle.reduction_turn.specs.AfterTurn.{ShownOn};
 use limits::EMPTY_RANK;
 use limits::ENTRY_LIMIT;
 use reduction_cells::CELLS;
@@ -74,9 +74,9 @@ pub fn from_surveyor(
     strict: &[bool; ENTRY_LIMIT],
     tied: &[bool; ENTRY_LIMIT],
     ls: &[u16; PLACES],
-    bs: &[u16; 32],
+    os: &[u16; 32],
     lt: &[u16; PLACES],
-    bt: &[u16; 32],
+    ot: &[u16; 32],
     cs: &[u16; CELLS],
     ct: &[u16; CELLS],
     rem: &[bool; ENTRY_LIMIT],
@@ -91,7 +91,7 @@ pub fn from_surveyor(
     oldt: &mut [bool; 32],
 )
     requires { ⌜ Tables (edges m (now sv) (now st) (now rs) (now rt) (now tied)) (now strict)
-        (nodeLists (now ls) (now bs) (now lt) (now bt) (now cs) (now ct)) ⌝ }
+        (nodeLists (now ls) (now os) (now lt) (now ot) (now cs) (now ct)) ⌝ }
     requires { ⌜ (s < nodeLimit) × (length (now fs) ≡ entryLimit) × (length (now one) ≡ nodeLimit) × (length (now twot) ≡ nodeLimit)
         × (length (now oldt) ≡ nodeLimit) ⌝ }
     ensures { λ r. ⌜ (length (now (one .exit)) ≡ nodeLimit) × (length (now (twot .exit)) ≡ nodeLimit) × (length (now (oldt .exit)) ≡ nodeLimit) ⌝ }
@@ -106,8 +106,8 @@ pub fn from_surveyor(
     }
     let mut turned = [0u8; EMPTY_RANK];
     let n = reduction_cells::paint(m, sv, rs, strict, cs, s, qs[s], st, rem, fs, &mut turned);
-    one[s] = reduction_lists::both(m, sv, ls, bs, s, fs, ft) as u16;
-    reduction_nodes::second_renewed(m, st, rt, tied, lt, bt, ct, rem, fs, qt, &turned, n, twot);
+    one[s] = reduction_lists::both(m, sv, ls, os, s, fs, ft) as u16;
+    reduction_nodes::second_renewed(m, st, rt, tied, lt, ot, ct, rem, fs, qt, &turned, n, twot);
     marked(&turned, n, oldt);
 }
 
@@ -121,9 +121,9 @@ pub fn from_stand(
     strict: &[bool; ENTRY_LIMIT],
     tied: &[bool; ENTRY_LIMIT],
     ls: &[u16; PLACES],
-    bs: &[u16; 32],
+    os: &[u16; 32],
     lt: &[u16; PLACES],
-    bt: &[u16; 32],
+    ot: &[u16; 32],
     cs: &[u16; CELLS],
     ct: &[u16; CELLS],
     rem: &[bool; ENTRY_LIMIT],
@@ -138,7 +138,7 @@ pub fn from_stand(
     olds: &mut [bool; 32],
 )
     requires { ⌜ Tables (edges m (now sv) (now st) (now rs) (now rt) (now tied)) (now strict)
-        (nodeLists (now ls) (now bs) (now lt) (now bt) (now cs) (now ct)) ⌝ }
+        (nodeLists (now ls) (now os) (now lt) (now ot) (now cs) (now ct)) ⌝ }
     requires { ⌜ (t < nodeLimit) × (length (now ft) ≡ entryLimit) × (length (now one) ≡ nodeLimit) × (length (now twos) ≡ nodeLimit)
         × (length (now olds) ≡ nodeLimit) ⌝ }
     ensures { λ r. ⌜ (length (now (one .exit)) ≡ nodeLimit) × (length (now (twos .exit)) ≡ nodeLimit) × (length (now (olds .exit)) ≡ nodeLimit) ⌝ }
@@ -153,8 +153,8 @@ pub fn from_stand(
     }
     let mut turned = [0u8; EMPTY_RANK];
     let n = reduction_cells::paint(m, st, rt, tied, ct, t, qt[t], sv, rem, ft, &mut turned);
-    reduction_nodes::first_renewed(m, sv, ls, bs, fs, ft, &turned, n, one);
-    reduction_nodes::second_renewed(m, sv, rs, strict, ls, bs, cs, rem, ft, qs, &turned, n, twos);
+    reduction_nodes::first_renewed(m, sv, ls, os, fs, ft, &turned, n, one);
+    reduction_nodes::second_renewed(m, sv, rs, strict, ls, os, cs, rem, ft, qs, &turned, n, twos);
     marked(&turned, n, olds);
 }
 
@@ -168,9 +168,9 @@ pub fn turn(
     strict: &[bool; ENTRY_LIMIT],
     tied: &[bool; ENTRY_LIMIT],
     ls: &[u16; PLACES],
-    bs: &[u16; 32],
+    os: &[u16; 32],
     lt: &[u16; PLACES],
-    bt: &[u16; 32],
+    ot: &[u16; 32],
     cs: &[u16; CELLS],
     ct: &[u16; CELLS],
     rule: u8,
@@ -190,14 +190,14 @@ pub fn turn(
     oldt: &mut [bool; 32],
 )
     requires { ⌜ (e < m) × Tables (edges m (now sv) (now st) (now rs) (now rt) (now tied)) (now strict)
-        (nodeLists (now ls) (now bs) (now lt) (now bt) (now cs) (now ct)) ⌝ }
+        (nodeLists (now ls) (now os) (now lt) (now ot) (now cs) (now ct)) ⌝ }
     requires { ⌜ Sized (whole (now rem) (now fixed) (now qs) (now qt) (now ds) (now dt))
         × SizedN (numbers (now one) (now twos) (now twot) (now olds) (now oldt)) × (length (now fs) ≡ entryLimit) × (length (now ft) ≡ entryLimit) ⌝ }
     ensures { λ r. ⌜ Sized (whole (now (rem .exit)) (now (fixed .exit)) (now (qs .exit)) (now (qt .exit)) (now (ds .exit)) (now (dt .exit)))
         × SizedN (numbers (now (one .exit)) (now (twos .exit)) (now (twot .exit)) (now (olds .exit)) (now (oldt .exit)))
         × (length (now (fs .exit)) ≡ entryLimit) × (length (now (ft .exit)) ≡ entryLimit) ⌝ }
     ensures { λ r. ⌜ Onward (edges m (now (sv .entry)) (now (st .entry)) (now (rs .entry)) (now (rt .entry)) (now (tied .entry)))
-        (nodeLists (now (ls .entry)) (now (bs .entry)) (now (lt .entry)) (now (bt .entry)) (now (cs .entry)) (now (ct .entry)))
+        (nodeLists (now (ls .entry)) (now (os .entry)) (now (lt .entry)) (now (ot .entry)) (now (cs .entry)) (now (ct .entry)))
         (looks (now (rem .entry)) (now (fs .entry)) (now (ft .entry)) (now (qs .entry)) (now (qt .entry)))
         (numbers (now (one .entry)) (now (twos .entry)) (now (twot .entry)) (now (olds .entry)) (now (oldt .entry)))
         (looks (now (rem .exit)) (now (fs .exit)) (now (ft .exit)) (now (qs .exit)) (now (qt .exit)))
@@ -228,9 +228,9 @@ pub fn turn(
         strict,
         tied,
         ls,
-        bs,
+        os,
         lt,
-        bt,
+        ot,
         cs,
         ct,
         rem,
@@ -253,9 +253,9 @@ pub fn turn(
         strict,
         tied,
         ls,
-        bs,
+        os,
         lt,
-        bt,
+        ot,
         cs,
         ct,
         rem,
@@ -275,7 +275,7 @@ pub fn turn(
         rs,
         strict,
         ls,
-        bs,
+        os,
         cs,
         rem,
         ft,
@@ -285,5 +285,5 @@ pub fn turn(
         fells,
         twos,
     );
-    passed_over(m, st, rt, tied, lt, bt, ct, rem, fs, qt, t, e, fellt, twot);
+    passed_over(m, st, rt, tied, lt, ot, ct, rem, fs, qt, t, e, fellt, twot);
 }

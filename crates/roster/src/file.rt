@@ -7,7 +7,6 @@ ghost use Rattle.model.specs.Limits.{nodeLimit};
 ghost use Rattle.model.specs.RosterFile.{readRosterBy};
 ghost use Rattle.roster_reading.specs.Layout.{layoutOf};
 ghost use Rattle.roster_reading.specs.Whole.{closed, ListsRead};
-use super::pairs;
 use roster_lists::TABLE;
 use roster_reading::Section;
 
@@ -31,7 +30,7 @@ pub(crate) fn lists_to_end(file: &[u8], at: usize, ns: u8, nt: u8, shifts: bool)
     if end < file.len() {
         return Section::Refused(9);
     }
-    if pairs::both_alike(&surveyors, &stands, m, n) {
+    if roster_pairs::both_alike(&surveyors, &stands, m, n) {
         return t;
     }
     Section::Refused(8)

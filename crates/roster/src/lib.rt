@@ -1,6 +1,5 @@
 // The roster reader: section "Roster bytes" of document 01 with the shifts of W-204, and refusals 1 to 9 and 18 in their order.
 mod file;
-mod pairs;
 
 ghost use mathlib.Core.Path.{_≡_};
 ghost use Rattle.model.specs.RosterFile.{readRosterBy, readRoster};

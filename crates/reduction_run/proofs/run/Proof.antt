@@ -9,22 +9,22 @@ use Rattle.reduction_nodes.specs.Kept.{edges, nodeLists, later}
 use Rattle.reduction_state.specs.declared.Trace.{Trace}
 use Rattle.reduction_state.specs.RunState.{whole, stands-end, stands-full}
 use Rattle.reduction_turn.specs.Onward.{numbers}
-use Rattle.reduction_state.specs.Shown.{Shown, seen}
+use Rattle.reduction_state.specs.RunArrows.{Shown, seen}
 use Rattle.reduction_run.specs.Running.{Running, all-marked}
 use Rattle.reduction_run.proofs.run.Statement.{statement}
 use Rattle.reduction_run.proofs.run.Tie as tie
 
 abbrev Inv-loop : tie.InvT-loop
-Inv-loop m sv st rs rt strict tied ls bs lt bt cs ct qs qt
+Inv-loop m sv st rs rt strict tied ls os lt ot cs ct qs qt
     edges₀ rules₀ rem₀ fixed₀ cuts₀ cutt₀ ds₀ dt₀ fs₀ ft₀ one₀ twos₀ twot₀ rule3₀ rule4₀ rule5₀ rule6₀ rule7₀ loose₀ olds₀ oldt₀ n₀
     edges′ rules rem fixed cuts cutt ds dt fs ft one twos twot rule3 rule4 rule5 rule6 rule7 loose olds oldt n =
-    Running (edges m sv st rs rt tied) (nodeLists ls bs lt bt cs ct) (whole rem fixed cuts cutt ds dt) fs ft (numbers one twos twot olds oldt)
+    Running (edges m sv st rs rt tied) (nodeLists ls os lt ot cs ct) (whole rem fixed cuts cutt ds dt) fs ft (numbers one twos twot olds oldt)
     (later rule3 rule4 rule5 rule6 rule7 loose olds oldt)
     × ((K : Known (edges m sv st rs rt tied) qs qt)
     → Shown (instanceOf K) (whole rem fixed cuts cutt ds dt) fs ft (record { edges = edges′; rules = rules; steps = n }))
 
 abbrev μ-loop : tie.MeasureT-loop
-μ-loop m sv st rs rt strict tied ls bs lt bt cs ct qs qt
+μ-loop m sv st rs rt strict tied ls os lt ot cs ct qs qt
     edges₀ rules₀ rem₀ fixed₀ cuts₀ cutt₀ ds₀ dt₀ fs₀ ft₀ one₀ twos₀ twot₀ rule3₀ rule4₀ rule5₀ rule6₀ rule7₀ loose₀ olds₀ oldt₀ n₀
     edges′ rules rem fixed cuts cutt ds dt fs ft one twos twot rule3 rule4 rule5 rule6 rule7 loose olds oldt n = m - n
 

@@ -11,7 +11,7 @@ use Rattle.reduction_cells.specs.Painted.{or-parts}
 use Rattle.reduction_nodes.specs.Kept.{edges, nodeLists}
 use Rattle.reduction_state.specs.RunState.{whole, sized-next}
 use Rattle.reduction_turn.specs.Onward.{numbers, turn-on, on}
-use Rattle.reduction_turn.specs.ShownOn.{acted-gone, acted-qs, acted-qt, shown-on}
+use Rattle.reduction_turn.specs.AfterTurn.{acted-gone, acted-qs, acted-qt, shown-on}
 use Rattle.reduction_turn.proofs.turn.Statement.{statement}
 use Rattle.reduction_turn.proofs.turn.Tie as tie
 
@@ -165,7 +165,7 @@ returns c =
     let a = c₂ .before .before .before .before .before .before .before .before .before .before .before .args in
     let p = c₂ .before .before .before .before .before .before .before .before .before .before .before .pre in
     let A = edges (a .m) (a .sv .now) (a .st .now) (a .rs .now) (a .rt .now) (a .tied .now) in
-    let L = nodeLists (a .ls .now) (a .bs .now) (a .lt .now) (a .bt .now) (a .cs .now) (a .ct .now) in
+    let L = nodeLists (a .ls .now) (a .os .now) (a .lt .now) (a .ot .now) (a .cs .now) (a .ct .now) in
     let x = whole (a .rem .now) (a .fixed .now) (a .qs .now) (a .qt .now) (a .ds .now) (a .dt .now) in
     let k = numbers (a .one .now) (a .twos .now) (a .twot .now) (a .olds .now) (a .oldt .now) in
     let i = c₂ .act .ensures in

@@ -23,7 +23,7 @@ use Rattle.reduction_state.specs.declared.Trace.{Trace}
 use Rattle.reduction_state.specs.Trace.{entered}
 use Rattle.reduction_state.specs.AfterStep.{struck}
 use Rattle.reduction_state.specs.RunState.{acted, Sized, Stands, stateAt, stands-next}
-use Rattle.reduction_state.specs.Shown.{Shown}
+use Rattle.reduction_state.specs.RunArrows.{Shown}
 use Rattle.reduction_turn.specs.Onward.{Gone, gone-other, Arrows}
 
 -- one step on, in every lawful instance that the arrays show

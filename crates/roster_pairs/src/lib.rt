@@ -30,7 +30,7 @@ pub(crate) fn row_alike(surveyors: &[bool], stands: &[bool], i: usize, places: u
 }
 
 // The pairs of each of m surveyors and each of n stands.
-pub(crate) fn both_alike(surveyors: &[bool], stands: &[bool], m: usize, n: usize) -> bool
+pub fn both_alike(surveyors: &[bool], stands: &[bool], m: usize, n: usize) -> bool
     requires { ⌜ (m ≤ nodeLimit) × (n ≤ nodeLimit) × (length (now surveyors) ≡ tableSize) × (length (now stands) ≡ tableSize) ⌝ }
     ensures { λ r. ⌜ r ≡ bothAlike (now (surveyors .entry)) (now (stands .entry)) m n ⌝ }
 {

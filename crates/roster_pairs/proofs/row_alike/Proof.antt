@@ -1,12 +1,12 @@
--- `roster::pairs::row_alike` meets its contract: the places that are left have the answer of all. Assumes nothing.
+-- `roster_pairs::row_alike` meets its contract: the places that are left have the answer of all. Assumes nothing.
 use Prim.Native.Nat.{_≤_}
 use native.Mathlib.Omega.{arith}
 use native.Mathlib.Nat.{le-refl}
 use mathlib.Core.Path.{_≡_, refl, sym, _∙_}
 use borrow.Author.Needs.{needs}
 use Rattle.roster_reading.specs.Pairs.{rowAlike, row-unlike, row-like, row-end}
-use Rattle.roster.proofs.pairs.row_alike.Statement.{statement}
-use Rattle.roster.proofs.pairs.row_alike.Tie as tie
+use Rattle.roster_pairs.proofs.row_alike.Statement.{statement}
+use Rattle.roster_pairs.proofs.row_alike.Tie as tie
 
 abbrev Inv-loop : tie.InvT-loop
 Inv-loop surveyors stands i places t₀ t = (t ≤ places) × (rowAlike surveyors stands i places ≡ rowAlike surveyors stands i t)

@@ -1,4 +1,4 @@
--- `roster::pairs::both_alike` meets its contract: the surveyors that are left have the answer of all. Assumes nothing.
+-- `roster_pairs::both_alike` meets its contract: the surveyors that are left have the answer of all. Assumes nothing.
 use Prim.Native.Nat.{_≤_}
 use native.Mathlib.Omega.{arith}
 use native.Mathlib.Nat.{le-refl}
@@ -6,8 +6,8 @@ use mathlib.Core.Path.{_≡_, refl, sym, _∙_}
 use borrow.Author.Needs.{needs}
 use borrow.Author.Tests.{not-true, not-false}
 use Rattle.roster_reading.specs.Pairs.{bothAlike, both-unlike, both-like, both-end}
-use Rattle.roster.proofs.pairs.both_alike.Statement.{statement}
-use Rattle.roster.proofs.pairs.both_alike.Tie as tie
+use Rattle.roster_pairs.proofs.both_alike.Statement.{statement}
+use Rattle.roster_pairs.proofs.both_alike.Tie as tie
 
 abbrev Inv-loop : tie.InvT-loop
 Inv-loop surveyors stands m n i₀ i = (i ≤ m) × (bothAlike surveyors stands m n ≡ bothAlike surveyors stands i n)
