@@ -1,0 +1,1 @@
+// Base lemmas: tests, sums, counting, search, lists without repeats. No code.

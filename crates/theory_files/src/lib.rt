@@ -1,0 +1,1 @@
+// The laws of roster and plan files. No code.

@@ -1,0 +1,1 @@
+// Demand 3 about the model's definitions. No code.

@@ -1,0 +1,1 @@
+// The laws of votes by pairings. No code.
