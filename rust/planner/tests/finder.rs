@@ -1,6 +1,8 @@
 //! The proved finder, through the desk: small rosters counted by brute force,
 //! rosters up to the limits against the reference's finder, damaged rosters,
-//! and every byte of every lent buffer, which are full of junk before.
+//! and every byte of every lent buffer, which are full of junk before. A plan
+//! that it hands back is the only popular one and has no blocking pair, by the
+//! verdict and the blocking call.
 
 mod calls;
 mod common;
@@ -9,7 +11,7 @@ mod lent;
 use calls::{Calls, Desk};
 use common::{damage, plan_front, NUMBERS};
 use lent::{Buffers, SIZES};
-use reference::desk::{record, Found, NoneKind, Record};
+use reference::desk::{record, Found, Judged, NoneKind, Record};
 use reference::every;
 use reference::fast::{self, finder::Ending, roster::Instance};
 use reference::plan::{self, Plan};
@@ -17,7 +19,7 @@ use reference::plans::Verdict;
 use reference::random::{self, Random};
 use reference::reduction;
 use reference::roster::{self, Pair, Roster};
-use reference::tables::Tables;
+use reference::tables::{Contest, Tables};
 
 /// How often what happened.
 #[derive(Debug, Default)]
@@ -28,6 +30,8 @@ struct Tally {
     /// How often each rule acted, rule 1 at index 0.
     rules: [u64; 7],
     plan: u64,
+    /// The other plans of rosters for which a plan was handed back.
+    others: u64,
     left: u64,
     rivalled_at_zero: u64,
     rivalled_below_zero: u64,
@@ -57,8 +61,8 @@ impl Tally {
         );
         println!("  acts of rules 1 to 7: {:?}", self.rules);
         println!(
-            "  plan {}, left {}, rivalled at zero {}, rivalled below zero {}",
-            self.plan, self.left, self.rivalled_at_zero, self.rivalled_below_zero
+            "  plan {} with {} others, left {}, rivalled at zero {}, rivalled below zero {}",
+            self.plan, self.others, self.left, self.rivalled_at_zero, self.rivalled_below_zero
         );
     }
 
@@ -75,6 +79,33 @@ fn loaded(bytes: &[u8]) -> Desk {
     let (desk, answer) = Desk::open().load_roster(bytes);
     assert_eq!(answer, Ok(()), "{bytes:?}");
     desk
+}
+
+/// W-213, by the calls: every plan but the one handed back is beaten, and that one
+/// has no blocking pair. Tells how many others there are.
+fn check_only_popular(roster: &Roster, bytes: &[u8], contest: &Contest, handed_back: usize) -> u64 {
+    let mut desk = loaded(bytes);
+    let mut others = 0;
+    for (place, plan) in contest.plans().iter().enumerate() {
+        let file = plan::write(roster, plan);
+        let (holding, answer) = desk.load_plan(&file);
+        assert_eq!(answer, Ok(()), "{bytes:?} {file:?}");
+        desk = if place == handed_back {
+            let (holding, blocking) = holding.blocking();
+            assert_eq!(blocking, Ok(None), "{bytes:?} {file:?}");
+            holding
+        } else {
+            others += 1;
+            let mut rival = [0; planner::PLAN_BYTES];
+            let (holding, judged) = holding.judge(&mut rival);
+            assert!(
+                matches!(judged, Ok(Judged::Beaten(vote)) if vote < 0),
+                "{judged:?}: {bytes:?} {file:?}"
+            );
+            holding
+        };
+    }
+    others
 }
 
 /// The pairs as they stand in the buffer for left pairs.
@@ -143,6 +174,7 @@ impl Checks {
                 assert_eq!(strong.len(), 1, "{bytes:?}");
                 let plan = plan::write(roster, &contest.plans()[strong[0]]);
                 after.hold(before, &steps, &[], &plan, &[]);
+                self.tally.others += check_only_popular(roster, &bytes, &contest, strong[0]);
             }
             Found::None {
                 steps: number,
@@ -267,6 +299,7 @@ fn every_small_roster() {
     checks.tally.print("every small roster");
     assert!(checks.tally.rosters >= 500_000);
     assert!(checks.tally.parallel >= 500_000);
+    assert!(checks.tally.others >= 500_000);
     checks.tally.assert_at_least(2_000, 4_000);
 }
 
