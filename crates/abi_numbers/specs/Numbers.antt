@@ -2,17 +2,20 @@
 use Prim.Native.Nat.{ℕ}
 use mathlib.Core.Path.{_≡_, refl}
 use lib.IntN.{pos}
+use Rattle.lists.specs.Test.{bit}
 use Rattle.model.specs.Reading as reading
 use Rattle.model.specs.Reading.{Reading, accepted}
 use Rattle.model.specs.Refusal as model
 use Rattle.model_desk.specs.Desk.{NoneKind, left, rivalled, Answer, refused, loaded, wrote, plan, none, strong, popular, beaten, votes, refusedPart}
 use Rattle.model_desk.specs.Desk.{blockedBy, unblocked, bothVotes, committed}
+use Rattle.model_files.specs.Profile as profile
 use Rattle.answers.specs.FileCases.{fileShown, fileCase}
 use Rattle.abi_numbers.specs.declared.Outcome.{Outcome}
 use Rattle.abi_numbers.specs.declared.Judged.{Judged}
 use Rattle.abi_numbers.specs.declared.Blocker.{Blocker}
 use Rattle.abi_numbers.specs.declared.Proposed.{Proposed}
 use Rattle.abi_numbers.specs.declared.FoundNumbers.{FoundNumbers}
+use Rattle.abi_numbers.specs.declared.OffersNumbers.{OffersNumbers}
 
 -- the groups as numbers
 abbrev pub groupNumber : model.Group → ℕ
@@ -140,6 +143,11 @@ foundIn (blockedBy s t k) = nothingFound
 foundIn unblocked = nothingFound
 foundIn (bothVotes v w) = nothingFound
 foundIn committed = nothingFound
+
+-- W-212: whether the plan of the offers is strong, and the length written
+abbrev pub offersIn : profile.Answer → OffersNumbers
+offersIn (profile.offers s n) = record { refusal = 0; strong = bit s; length = n }
+offersIn (profile.refused n g) = record { refusal = n; strong = 0; length = 0 }
 
 -- ---- the refusal of a reading, 0 for none
 abbrev pub refusalOf : {A : Type 0} → Reading A → ℕ

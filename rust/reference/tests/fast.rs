@@ -6,8 +6,10 @@ mod common;
 use common::NUMBERS;
 use reference::blocking;
 use reference::fast;
+use reference::finder;
 use reference::layout::Layout;
 use reference::limits::{MAX_PLAN_BYTES, MAX_ROSTER_BYTES};
+use reference::offers;
 use reference::plan::{self, Plan};
 use reference::plans;
 use reference::random::{self, Random, Shape};
@@ -385,4 +387,42 @@ fn verdicts_on_long_walks() {
     }
     println!("beaten, popular, strong: {met:?}");
     assert!(met.iter().all(|&count| count > 200));
+}
+
+#[test]
+fn offers_are_made_alike() {
+    let mut random = Random::new(48);
+    let mut met = [0usize; NUMBERS];
+    let mut strong = [0usize; 2];
+    for _ in 0..40_000 {
+        let shape = Shape {
+            counts: [0..=5, 0..=5],
+            quotas: [1..=1, 1..=1],
+            shifts: 1,
+            pairs: 80,
+            ties: 0,
+            opposed: 50,
+        };
+        let mut file = roster::write(&random::roster(&mut random, &shape));
+        if random.chance(30) {
+            damage(&mut random, &mut file);
+        }
+        let before = [7; MAX_PLAN_BYTES];
+        let [mut own, mut other] = [before; 2];
+        let plain = offers::profile_judged_by(&file, &mut own, finder::verdict_large);
+        let fast = fast::offers::profile(&file, &mut other);
+        assert_eq!(plain.map_err(Refusal::number), fast, "{file:?}");
+        assert_eq!(own, other, "{file:?}");
+        match fast {
+            Ok((verdict, _)) => strong[usize::from(verdict)] += 1,
+            Err(number) => met[usize::from(number)] += 1,
+        }
+    }
+    println!("not strong, strong: {strong:?}; refusals met: {met:?}");
+    assert!(strong.iter().all(|&count| count > 1_000));
+    for number in [1, 2, 3, 4, 5, 7, 8, 9, 18, 22] {
+        assert!(met[number] > 10, "{number}");
+    }
+    let small = fast::offers::profile(&[], &mut [0; MAX_PLAN_BYTES - 1]);
+    assert_eq!(small, Err(15));
 }

@@ -7,6 +7,7 @@
 
 pub mod blocking;
 pub mod finder;
+pub mod offers;
 pub mod plan;
 pub mod reduction;
 pub mod roster;

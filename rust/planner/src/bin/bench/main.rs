@@ -11,6 +11,7 @@ mod files;
 mod finder;
 mod lent;
 mod longest;
+mod offers;
 mod seasons;
 mod stack;
 mod verdict;
@@ -47,6 +48,8 @@ fn main() {
     files::run();
     println!();
     seasons::run();
+    println!();
+    offers::run();
     println!();
     votes::run();
     println!();

@@ -1,0 +1,5 @@
+pub mod NextEntry
+pub mod Standing
+pub mod Turned
+pub mod TurnStands
+pub mod Running

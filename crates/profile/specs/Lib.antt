@@ -1,0 +1,3 @@
+pub mod EachTest
+pub mod Weighed
+pub mod Profiles
