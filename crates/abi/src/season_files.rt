@@ -4,7 +4,7 @@ ghost use Rattle.model_desk.specs.Seasons.{toNew, toOld};
 ghost use Rattle.model_desk.specs.Desk.{planToNew, planToOld};
 ghost use Rattle.seasons.specs.Converting.{Converts};
 ghost use Rattle.desk_writes.specs.Seasons.{Turns};
-ghost use Rattle.abi.specs.Seasons.{Told};
+ghost use Rattle.abi.specs.WrittenFiles.{Told};
 use super::desks::DeskWritten;
 use abi_numbers::Outcome;
 use desk::Desk;

@@ -64,7 +64,8 @@ pub(crate) fn one_to_one(g: Instance) -> bool
     (s & t) & plain
 }
 
-// The plan of the offers, written and weighed: its bytes, and whether it is strong. The verdict is the finder's on its candidate; the rival that it finds is not asked for.
+// The plan of the offers, written and weighed: its bytes, and whether it is strong. The verdict is the finder's on its candidate; the rival that it
+// finds is not asked for.
 pub(crate) fn offered(g: Instance, out: &mut [u8]) -> Offers
     requires { ⌜ Ready g × (planSize ≤ length (now out)) ⌝ }
     ensures { λ r. ⌜ Gives g (now (out .entry)) r (now (out .exit)) ⌝ }

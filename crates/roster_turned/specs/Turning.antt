@@ -9,6 +9,7 @@ use lib.Seq.{take-at}
 use lib.Dec.{T, leb, eqb→eq, leb→le}
 use Rattle.lists.specs.Test.{given, and-l, and-r}
 use Rattle.lists.specs.Keep.{all?, gather}
+use Rattle.lists.specs.Ranges.{gather-map}
 use Rattle.model.specs.Limits.{nodeLimit}
 use Rattle.model.specs.Reading.{accepted, isBytes}
 use Rattle.model.specs.Roster.{Entry, Ranking, Roster, entries, surveyorCount, standCount, totalS, totalT, quotasFit, fitsBy}
@@ -104,10 +105,6 @@ list-shaped shifts xs t = record { lengths = refl; told = refl; held = t }
 ranking-shaped : (shifts : Bool) (R : Ranking) → T (all? (agreesOf shifts .holds) (entries R)) → Shaped shifts true (rankingBlock R)
 ranking-shaped shifts R t = record { lengths = refl; told = sym (length-append (R .strict) (R .tied)); held = t }
 
-gather-map : {A : Type 0} (L : Layout) (block : A → Block) (xs : List A) → gather (blockBytes L) (map block xs) ≡ gather (λ x. blockBytes L (block x)) xs
-gather-map L block [] = refl
-gather-map L block (x ∷ xs) = ap (λ z. blockBytes L (block x) ++ z) (gather-map L block xs)
-
 first-map : (ls : List (List Entry)) → all? firstBlock (map listBlock ls) ≡ all? (λ xs. all? isFirst xs) ls
 first-map [] = refl
 first-map (xs ∷ ls) = ap (λ b. all? isFirst xs && b) (first-map ls)
@@ -153,9 +150,9 @@ module _ (shifts : Bool) (f : List ℕ) (r : Roster) (e : writeRosterBy (layoutO
       let lists = gather (entriesBytes M) (r .listsS) in
       let rankings = gather (rankingBytes M) (r .listsT) in
       let p : gather (blockBytes M) (surveyorBlocks shifts ns nt f) ≡ lists =
-      ap (gather (blockBytes M)) (surveyors .0) ∙ gather-map M listBlock (r .listsS) in
+      ap (gather (blockBytes M)) (surveyors .0) ∙ gather-map (blockBytes M) listBlock (r .listsS) in
       let q : gather (blockBytes M) (standBlocks shifts ns nt f) ≡ rankings =
-      ap (gather (blockBytes M)) stands ∙ gather-map M rankingBlock (r .listsT) in
+      ap (gather (blockBytes M)) stands ∙ gather-map (blockBytes M) rankingBlock (r .listsT) in
       let t : take 2 (drop (middle shifts ns nt f) f) ≡ wideBytes (totalT (r .listsT)) = ap (take 2) (surveyors .1) in
       (λ k. ((nodes k ++ p k) ++ t k) ++ q k)
       ∙ join-up (listBytes (r .quotasS)) (listBytes (r .quotasT)) (wideBytes (totalS (r .listsS))) lists (wideBytes (totalT (r .listsT))) rankings

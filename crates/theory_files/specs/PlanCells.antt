@@ -4,13 +4,13 @@ use Prim.Native.Nat.{ℕ, suc, _+_, _≤_, _<_}
 use native.Mathlib.Omega.{arith}
 use mathlib.Core.Path.{_≡_, refl, sym, ap, ap₂, _∙_, subst}
 use mathlib.Core.Bool.{Bool, true, false, cond, _&&_}
-use mathlib.Core.List.{List, [], _∷_, _++_, map, append-nil, map-append}
+use mathlib.Core.List.{List, [], _∷_, _++_, map, append-nil}
 use lib.ListN.{length, getD, length-map}
 use lib.Dec.{T, eqb, eqb·suc-suc}
 use Rattle.lists.specs.Test.{given, bit}
 use Rattle.lists.specs.Sum.{sum, sum-cong, sum-map, range, ∈-range}
 use Rattle.lists.specs.Keep.{keep, gather}
-use Rattle.lists.specs.Ranges.{range-add, keep-append, gather-append, gather-cong, gather-none}
+use Rattle.lists.specs.Ranges.{range-add, keep-append, gather-append, gather-cong, gather-none, map-gather}
 use Rattle.model.specs.Instance.{Instance, Side, surveyors, stands, deg}
 use Rattle.model.specs.Roster.{Roster, surveyorCount, standCount, listed, shifts}
 use Rattle.model.specs.Edges.{Edge, pairEdge, edgesOf, noEdge, edgeAt, instanceOf}
@@ -52,10 +52,6 @@ same-degrees G H M N e v = (
 keep-gather : {A B : Type 0} (p : B → Bool) (h : A → List B) (xs : List A) → keep p (gather h xs) ≡ gather (λ x. keep p (h x)) xs
 keep-gather p h [] = refl
 keep-gather p h (x ∷ xs) = keep-append p (h x) (gather h xs) ∙ ap (λ z. keep p (h x) ++ z) (keep-gather p h xs)
-
-map-gather : {A B C : Type 0} (f : B → C) (h : A → List B) (xs : List A) → map f (gather h xs) ≡ gather (λ x. map f (h x)) xs
-map-gather f h [] = refl
-map-gather f h (x ∷ xs) = map-append f (h x) (gather h xs) ∙ ap (λ z. map f (h x) ++ z) (map-gather f h xs)
 
 -- the elements at the places that a test names
 places : {A B : Type 0} (d : A) (f : A → B) (p : A → Bool) (g : ℕ → B) (q : ℕ → Bool) (es : List A) (k : ℕ)

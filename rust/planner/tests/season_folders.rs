@@ -1,81 +1,19 @@
 //! The command `seasons` on folders of season files: what it writes and says,
 //! and that nothing else changes.
 
+mod commands;
 mod common;
 
 use std::collections::BTreeMap;
+use std::ffi::OsStr;
 use std::fs;
-use std::path::{Path, PathBuf};
-use std::process::Command;
+use std::path::Path;
 
+use commands::{files, run, Said, Scratch};
 use common::root;
 
-/// A folder for one test, removed at its end.
-struct Scratch(PathBuf);
-
-impl Scratch {
-    fn new(name: &str) -> Scratch {
-        let path = std::env::temp_dir().join(format!("crew-{}-{name}", std::process::id()));
-        fs::create_dir(&path).expect("a new folder");
-        Scratch(path)
-    }
-
-    /// A folder in it with these files.
-    fn folder(&self, name: &str, files: &[(&str, &[u8])]) -> PathBuf {
-        let path = self.0.join(name);
-        fs::create_dir(&path).expect("a new folder");
-        for (name, bytes) in files {
-            fs::write(path.join(name), bytes).expect("a file");
-        }
-        path
-    }
-
-    /// The path of a folder that is not there yet.
-    fn target(&self, name: &str) -> PathBuf {
-        self.0.join(name)
-    }
-}
-
-impl Drop for Scratch {
-    fn drop(&mut self) {
-        // what stays behind is in the folder for such things
-        let _ = fs::remove_dir_all(&self.0);
-    }
-}
-
-/// The files of a folder by their names.
-fn files(folder: &Path) -> BTreeMap<String, Vec<u8>> {
-    let entries = fs::read_dir(folder).expect("a folder");
-    let paths = entries.map(|entry| entry.expect("an entry").path());
-    let files = paths.filter(|path| path.is_file()).map(|path| {
-        let name = path.file_name().and_then(|name| name.to_str());
-        let name = name.expect("a plain name").to_owned();
-        (name, fs::read(&path).expect("its bytes"))
-    });
-    files.collect()
-}
-
-/// What the command said: its exit code, and the lines of its two outputs.
-struct Said {
-    code: i32,
-    lines: Vec<String>,
-    errors: Vec<String>,
-}
-
-fn seasons<S: AsRef<std::ffi::OsStr>>(arguments: &[S]) -> Said {
-    let output = Command::new(env!("CARGO_BIN_EXE_seasons"))
-        .args(arguments)
-        .output()
-        .expect("the command starts");
-    let lines = |bytes: Vec<u8>| -> Vec<String> {
-        let text = String::from_utf8(bytes).expect("plain text");
-        text.lines().map(str::to_owned).collect()
-    };
-    Said {
-        code: output.status.code().expect("the command ends by itself"),
-        lines: lines(output.stdout),
-        errors: lines(output.stderr),
-    }
+fn seasons<S: AsRef<OsStr>>(arguments: &[S]) -> Said {
+    run(env!("CARGO_BIN_EXE_seasons"), arguments)
 }
 
 /// Runs the command; nothing in the folder changes.
@@ -316,7 +254,7 @@ fn what_cannot_be_tried() {
 }
 
 /// What the command says where nothing can be tried.
-fn turn_nothing<S: AsRef<std::ffi::OsStr>>(arguments: &[S]) -> Vec<String> {
+fn turn_nothing<S: AsRef<OsStr>>(arguments: &[S]) -> Vec<String> {
     let said = seasons(arguments);
     assert_eq!((said.code, said.lines), (2, vec![]));
     said.errors

@@ -48,6 +48,16 @@ pub const SMALL: [Size; 11] = [
     size([1, 2], 3, [2..=2, 2..=2], 253_345, 1),
 ];
 
+/// Sizes so small that every roster of them can be tried beside every other.
+pub const FOR_PAIRS: [Size; 6] = [
+    size([0, 1], 1, [0..=0, 1..=1], 1, 1),
+    size([1, 1], 1, [0..=2, 0..=2], 3, 9),
+    size([2, 1], 1, [1..=1, 1..=2], 10, 2),
+    size([1, 2], 1, [1..=2, 1..=1], 13, 2),
+    size([1, 1], 2, [1..=2, 1..=2], 15, 4),
+    size([2, 2], 1, [1..=1, 1..=1], 223, 1),
+];
+
 /// All orders of all subsets of the entries.
 fn ordered_subsets(entries: &[Entry]) -> Vec<Vec<Entry>> {
     let mut all = vec![Vec::new()];

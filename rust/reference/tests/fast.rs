@@ -5,6 +5,7 @@ mod common;
 
 use common::NUMBERS;
 use reference::blocking;
+use reference::districts;
 use reference::fast;
 use reference::finder;
 use reference::layout::Layout;
@@ -135,8 +136,8 @@ fn plans_are_read_and_written_alike() {
     assert!([0, 1, 2, 9, 10, 11, 12].iter().all(|&n| met[n] > 100));
 }
 
-/// Holds a fast conversion of an old season's file against the plain one, both
-/// lent such a buffer, which is now and then too small; and counts its number.
+/// Holds a fast call that turns files against the plain one, both lent such a
+/// buffer, which is now and then too small; and counts its number.
 fn turned_alike(
     random: &mut Random,
     met: &mut [usize; NUMBERS],
@@ -186,6 +187,36 @@ fn old_rosters_are_turned_alike() {
     let numbers: Vec<usize> = (0..=9).chain([15]).collect();
     assert!(numbers.iter().all(|&n| met[0][n] > 50 && met[1][n] > 50));
     assert!(met[1][18] > 50 && met[1][19] > 50);
+}
+
+#[test]
+fn districts_are_joined_alike() {
+    let mut random = Random::new(51);
+    let mut met = [0usize; NUMBERS];
+    for _ in 0..40_000 {
+        let [first, second] = [(); 2].map(|()| {
+            let nodes = [4, 20][random.below(2)];
+            let shape = Shape {
+                pairs: 20,
+                ..shape(&mut random, nodes, 3)
+            };
+            let mut file = roster::write(&random::roster(&mut random, &shape));
+            if random.chance(25) {
+                damage(&mut random, &mut file);
+            }
+            file
+        });
+        turned_alike(
+            &mut random,
+            &mut met,
+            MAX_ROSTER_BYTES,
+            |out| districts::join(&first, &second, out),
+            |out| fast::districts::join(&first, &second, out),
+        );
+    }
+    println!("accepted and refusals met: {met:?}");
+    let mut numbers = (0..=9).chain([15, 18]);
+    assert!(numbers.all(|number| met[number] > 50));
 }
 
 #[test]

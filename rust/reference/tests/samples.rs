@@ -2,9 +2,11 @@
 //! settled by document 01 alone, because only one plan can be the rival.
 
 use std::fs;
-use std::path::Path;
+use std::path::{Path, PathBuf};
 
+use reference::districts;
 use reference::finder::{find, find_large, Answer, Why};
+use reference::limits::MAX_ROSTER_BYTES;
 use reference::plans::all_plans;
 use reference::program;
 use reference::roster;
@@ -13,11 +15,19 @@ use reference::votes::plan_vote;
 /// Rosters up to this many pairs are also judged by the votes against all plans.
 const SMALL: usize = 12;
 
+fn folder() -> PathBuf {
+    Path::new(env!("CARGO_MANIFEST_DIR")).join("../../samples")
+}
+
+/// The bytes of a file among the samples.
+fn sample(name: &str) -> Vec<u8> {
+    fs::read(folder().join(name)).expect("a sample")
+}
+
 /// All samples: name, roster bytes, what must be printed for them.
 fn samples() -> Vec<(String, Vec<u8>, Vec<u8>)> {
-    let folder = Path::new(env!("CARGO_MANIFEST_DIR")).join("../../samples");
     let mut samples = Vec::new();
-    for entry in fs::read_dir(folder).expect("the samples") {
+    for entry in fs::read_dir(folder()).expect("the samples") {
         let path = entry.expect("a sample").path();
         if path.extension().is_some_and(|end| end == "roster") {
             let bytes = fs::read(&path).expect("its bytes");
@@ -89,4 +99,14 @@ fn rivals_are_the_only_ones() {
         assert_eq!(rivals, [&rival], "{name}");
     }
     assert!(rivalled >= 2);
+}
+
+#[test]
+fn two_districts_are_joined() {
+    let [north, south, both] =
+        ["north", "south", "north-and-south"].map(|name| sample(&format!("{name}.roster")));
+    let mut out = [0; MAX_ROSTER_BYTES];
+    let joined = districts::join(&north, &south, &mut out);
+    assert_eq!(joined, Ok(both.len()));
+    assert_eq!(out[..both.len()], both);
 }

@@ -14,14 +14,17 @@
 //! of each side are numbered from 1 in order; the two sides may be mixed. A
 //! quota that is not written is 1. What follows a `#` is a comment.
 //!
-//! Files from the seasons before the shifts are turned by `seasons`, a command of
-//! the crate `planner`: it makes the proved calls for that, and this crate is to
-//! be had without the proved library.
+//! Files from the seasons before the shifts are turned by `seasons`, and rosters of
+//! two districts, as text or as bytes, are joined by `rosters`, commands of the
+//! crate `planner`: they make the proved calls for that, and this crate is to be had
+//! without the proved library.
 
+mod files;
 mod line;
 mod problem;
 mod text;
 
+pub use files::{pack, unpack};
 pub use line::Listed;
 pub use problem::{Problem, What};
 pub use text::{parse, print};

@@ -4,7 +4,7 @@
 use std::io::{self, Read, Write};
 use std::process::ExitCode;
 
-use reference::roster;
+use rostertext::{pack, unpack};
 
 fn main() -> ExitCode {
     let mut arguments = std::env::args().skip(1);
@@ -31,18 +31,4 @@ fn turn(way: fn(&[u8]) -> Result<Vec<u8>, String>) -> Result<(), String> {
     let output = way(&input)?;
     let written = io::stdout().write_all(&output);
     written.map_err(|problem| problem.to_string())
-}
-
-fn pack(input: &[u8]) -> Result<Vec<u8>, String> {
-    let text = std::str::from_utf8(input).map_err(|_| "the input is no text")?;
-    let roster = rostertext::parse(text).map_err(|problem| problem.to_string())?;
-    Ok(roster::write(&roster))
-}
-
-fn unpack(input: &[u8]) -> Result<Vec<u8>, String> {
-    let roster = roster::read(input).map_err(|refusal| {
-        let (number, group) = (refusal.number(), refusal.group());
-        format!("the input is no roster: refused {number} {group}, {refusal}")
-    })?;
-    Ok(rostertext::print(&roster).into_bytes())
 }

@@ -7,6 +7,7 @@
 
 mod blocking;
 mod changes;
+mod districts;
 mod files;
 mod finder;
 mod lent;
@@ -50,6 +51,8 @@ fn main() {
     seasons::run();
     println!();
     offers::run();
+    println!();
+    districts::run();
     println!();
     votes::run();
     println!();

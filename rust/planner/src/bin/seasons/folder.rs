@@ -1,15 +1,10 @@
-//! A folder of season files: which are rosters, which are plans of them, and how
-//! they are read and put.
+//! A folder of season files: which are rosters, and which are plans of them.
 
 use std::collections::{BTreeMap, BTreeSet};
 use std::ffi::{OsStr, OsString};
-use std::fs::{self, File, OpenOptions};
-use std::io::{self, Read, Write};
+use std::fs;
+use std::io;
 use std::path::{Path, PathBuf};
-
-use planner::ROSTER_BYTES;
-
-use crate::problem::Problem;
 
 /// The names of a folder's files, each kind in the order of the names.
 #[derive(Default)]
@@ -64,43 +59,5 @@ impl Folder {
     pub fn count(&self) -> usize {
         let plans: usize = self.rosters.values().map(Vec::len).sum();
         self.rosters.len() + plans + self.plans_without_roster.len()
-    }
-}
-
-/// A file's bytes, but no more than tell that it is too long for any roster.
-pub fn read(path: &Path) -> io::Result<Vec<u8>> {
-    const ENOUGH: u64 = ROSTER_BYTES as u64 + 1;
-    let mut bytes = Vec::new();
-    File::open(path)?.take(ENOUGH).read_to_end(&mut bytes)?;
-    Ok(bytes)
-}
-
-/// What became of bytes that were to be put into a file.
-pub enum Put {
-    Written,
-    /// They are there already.
-    There,
-}
-
-/// Puts bytes into a new file. One that is there is left as it is.
-pub fn put(path: &Path, bytes: &[u8]) -> Result<Put, Problem> {
-    let opened = OpenOptions::new().write(true).create_new(true).open(path);
-    let mut file = match opened {
-        Ok(file) => file,
-        Err(error) if error.kind() == io::ErrorKind::AlreadyExists => {
-            return match read(path) {
-                Ok(there) if there == bytes => Ok(Put::There),
-                _ => Err(Problem::OtherThere),
-            };
-        }
-        Err(error) => return Err(Problem::NotWritten(error)),
-    };
-    match file.write_all(bytes) {
-        Ok(()) => Ok(Put::Written),
-        Err(error) => {
-            // half a file is worse than none; if it stays, the error says so
-            let _ = fs::remove_file(path);
-            Err(Problem::NotWritten(error))
-        }
     }
 }

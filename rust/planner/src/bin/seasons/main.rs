@@ -1,5 +1,7 @@
 //! Turns a folder of old season files into new ones, and back.
 
+#[path = "../common/files.rs"]
+mod files;
 mod folder;
 mod problem;
 mod run;

@@ -6,6 +6,8 @@ use std::io;
 
 use planner::Refusal;
 
+use crate::files::NotPut;
+
 pub enum Problem {
     Refused(Refusal),
     /// No roster's name begins the plan's.
@@ -13,9 +15,8 @@ pub enum Problem {
     /// The roster of this name, which the plan is judged against, is not turned.
     RosterNotTurned(OsString),
     NotRead(io::Error),
-    NotWritten(io::Error),
-    /// The target folder has a file of this name, with other bytes.
-    OtherThere,
+    /// Into the target folder.
+    NotPut(NotPut),
 }
 
 impl fmt::Display for Problem {
@@ -29,8 +30,10 @@ impl fmt::Display for Problem {
                 write!(formatter, "its roster {} is not turned", roster.display())
             }
             Problem::NotRead(error) => write!(formatter, "it cannot be read: {error}"),
-            Problem::NotWritten(error) => write!(formatter, "it cannot be written: {error}"),
-            Problem::OtherThere => formatter
+            Problem::NotPut(NotPut::NotWritten(error)) => {
+                write!(formatter, "it cannot be written: {error}")
+            }
+            Problem::NotPut(NotPut::OtherThere) => formatter
                 .write_str("the target has a file of this name with other bytes, which stays"),
         }
     }

@@ -5,9 +5,10 @@ use std::fs;
 use std::io::{self, Write};
 use std::path::Path;
 
-use planner::Desk;
+use planner::{Desk, ROSTER_BYTES};
 
-use crate::folder::{put, read, Folder, Put};
+use crate::files::{put, read, Put};
+use crate::folder::Folder;
 use crate::problem::Problem;
 use crate::way::Way;
 
@@ -89,23 +90,27 @@ impl<W: Write> Run<'_, W> {
 
     /// Turns a roster; its plans are judged on the desk.
     fn roster(&self, name: &OsStr) -> Result<(Done, Desk), Problem> {
-        let file = read(&self.folder.join(name)).map_err(Problem::NotRead)?;
+        let file = self.read(name)?;
         let turned = self.way.roster(&file).map_err(Problem::Refused)?;
         let done = self.put(name, &file, &turned.file)?;
         Ok((done, turned.desk))
     }
 
     fn plan(&self, desk: &Desk, name: &OsStr) -> Result<(Done, ()), Problem> {
-        let file = read(&self.folder.join(name)).map_err(Problem::NotRead)?;
+        let file = self.read(name)?;
         let turned = self.way.plan(desk, &file).map_err(Problem::Refused)?;
         Ok((self.put(name, &file, &turned)?, ()))
+    }
+
+    fn read(&self, name: &OsStr) -> Result<Vec<u8>, Problem> {
+        read(&self.folder.join(name), ROSTER_BYTES).map_err(Problem::NotRead)
     }
 
     fn put(&self, name: &OsStr, file: &[u8], turned: &[u8]) -> Result<Done, Problem> {
         Ok(Done {
             from: file.len(),
             to: turned.len(),
-            put: put(&self.target.join(name), turned)?,
+            put: put(&self.target.join(name), turned).map_err(Problem::NotPut)?,
         })
     }
 

@@ -1,0 +1,14 @@
+// Roster files for C, without a desk: two districts joined (request W-210), into a lent buffer. The numbers are a refusal, or 0 and the
+// length written.
+ghost use Rattle.districts.specs.Joins.{Joins};
+ghost use Rattle.abi.specs.WrittenFiles.{Told};
+use abi_numbers::Outcome;
+
+// two roster files as one; out has at least 4,262 bytes, else 15
+#[no_mangle]
+pub extern "C" fn crew_join_districts(first: &[u8], second: &[u8], out: &mut [u8]) -> Outcome
+    ensures { λ r. ⌜ Told (λ x. Joins (now (first .entry)) (now (second .entry)) (now (out .entry)) x (now (out .exit))) r ⌝ }
+{
+    let a = districts::join(first, second, out);
+    abi_numbers::written_numbers(a)
+}

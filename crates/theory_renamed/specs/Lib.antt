@@ -1,0 +1,10 @@
+pub mod Part
+pub mod StrongPlans
+pub mod FinderAnswers
+pub mod MovedUp
+pub mod JoinedFits
+pub mod Beside
+pub mod BothStrong
+pub mod JoinedEdges
+pub mod JoinedPlans
+pub mod JoinedFiles
