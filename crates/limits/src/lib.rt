@@ -42,6 +42,9 @@ pub const LEFT_SIZE: usize = 3072;
 // the size of a flat diary, five numbers a record
 pub const FLAT_SIZE: usize = 5120;
 
+// W-214: "Either buffer needs 4,295 bytes": a route's count and 32 numbers, and the longest roster
+pub const STORED_SIZE: usize = 4295;
+
 // W-204: "the program reads at most 4,263"
 pub const INPUT_SIZE: usize = 4263;
 

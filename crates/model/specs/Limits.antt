@@ -54,6 +54,10 @@ diarySize = 1024
 abbrev pub leftSize : ℕ
 leftSize = 3072
 
+-- W-214: "Either buffer needs 4,295 bytes": a route's count and 32 numbers, and the longest roster
+abbrev pub storedSize : ℕ
+storedSize = 4295
+
 -- W-204: "the program reads at most 4,263"
 abbrev pub inputSize : ℕ
 inputSize = 4263

@@ -40,7 +40,7 @@ pub record Fileable (G : Instance) : Type 0 where
   pub differ : (d e : ℕ) → d < G .m → e < G .m → G .sv d ≡ G .sv e → G .st d ≡ G .st e → G .sh d ≡ G .sh e → d ≡ e
   pub few : sum (G .quotaS) (upTo (G .ns)) ≤ planLimit
 
-name-parts : (p q : Named) → T (sameName p q) → (p .surveyor ≡ q .surveyor) × (p .stand ≡ q .stand) × (p .shift ≡ q .shift)
+pub name-parts : (p q : Named) → T (sameName p q) → (p .surveyor ≡ q .surveyor) × (p .stand ≡ q .stand) × (p .shift ≡ q .shift)
 name-parts p q t =
     let a = eqb (p .surveyor) (q .surveyor) in
     let b = eqb (p .stand) (q .stand) in
@@ -51,7 +51,7 @@ name-parts p q t =
       eqb→eq (p .shift) (q .shift) (and-r b c u),
     ))
 
-same-name : (p q : Named) → (p .surveyor ≡ q .surveyor) × (p .stand ≡ q .stand) × (p .shift ≡ q .shift) → p ≡ q
+pub same-name : (p q : Named) → (p .surveyor ≡ q .surveyor) × (p .stand ≡ q .stand) × (p .shift ≡ q .shift) → p ≡ q
 same-name p q (a, b, c) = λ i. record { surveyor = a i; stand = b i; shift = c i }
 
 module _ (G : Instance) where

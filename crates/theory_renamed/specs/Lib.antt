@@ -8,3 +8,10 @@ pub mod BothStrong
 pub mod JoinedEdges
 pub mod JoinedPlans
 pub mod JoinedFiles
+pub mod Numberings
+pub mod Renaming
+pub mod RouteNumbers
+pub mod RenumberedFits
+pub mod RenumberedEdges
+pub mod RenumberedPlans
+pub mod StoredFiles

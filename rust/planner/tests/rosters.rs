@@ -171,11 +171,127 @@ fn nothing_is_overwritten() {
     assert_eq!(join(&folder, ["a", "b", "d"]), there);
 }
 
+/// Stores a file of a folder along a route into another one there.
+fn store(folder: &Path, names: [&str; 2], route: &[&str]) -> (i32, String) {
+    walk("store", folder, names, route)
+}
+
+fn unstore(folder: &Path, names: [&str; 2]) -> (i32, String) {
+    walk("unstore", folder, names, &[])
+}
+
+fn walk(call: &str, folder: &Path, names: [&str; 2], route: &[&str]) -> (i32, String) {
+    let [file, target] = names.map(|name| folder.join(name));
+    let mut words: Vec<&OsStr> = vec![call.as_ref(), file.as_ref(), target.as_ref()];
+    words.extend(route.iter().map(OsStr::new));
+    let (code, words) = line(rosters(&words));
+    (code, words.replace(&format!("{}/", folder.display()), ""))
+}
+
+#[test]
+fn a_roster_is_stored_and_taken_back() {
+    let scratch = Scratch::new("walked");
+    let (roster, text) = (sample("walked.roster"), sample("walked.txt"));
+    let folder = scratch.folder("files", &[("a.roster", &roster), ("a.txt", &text)]);
+    let stored = sample("walked.stored");
+    let length = stored.len();
+    // from bytes and from a text, the route in words or in one
+    let cases: [(&str, &[&str]); 3] = [
+        ("a.roster", &["2", "3", "1"]),
+        ("a.txt", &["2", "3", "1"]),
+        ("a.roster", &["2 3 1"]),
+    ];
+    for (place, (file, route)) in cases.into_iter().enumerate() {
+        let target = format!("{place}.stored");
+        let said = store(&folder, [file, &target], route);
+        assert_eq!(said, (0, format!("{target} written, {length} bytes")));
+        assert_eq!(files(&folder)[&target], stored);
+    }
+    let said = unstore(&folder, ["0.stored", "back.roster"]);
+    let length = roster.len();
+    let words = format!("back.roster written, {length} bytes; the route is 2 3 1");
+    assert_eq!(said, (0, words));
+    assert_eq!(files(&folder)["back.roster"], roster);
+    // into the roster itself, which is there, and into a text
+    let (code, words) = unstore(&folder, ["0.stored", "a.roster"]);
+    assert_eq!(code, 0);
+    assert!(words.starts_with("a.roster is there already"), "{words}");
+    assert_eq!(unstore(&folder, ["0.stored", "back.txt"]).0, 0);
+    assert_eq!(rostertext::pack(&files(&folder)["back.txt"]), Ok(roster));
+}
+
+#[test]
+fn a_refused_route_is_told_apart_from_a_refused_roster() {
+    let scratch = Scratch::new("routes");
+    let roster = sample("walked.roster");
+    let many = ["1"; 33];
+    let folder = scratch.folder(
+        "files",
+        &[
+            ("a.roster", &roster),
+            ("cut", &roster[..9]),
+            ("empty", &[0; 6]),
+            ("twice.stored", &[&[3, 2, 2, 1], &roster[..]].concat()),
+            ("route.stored", &[3, 2, 3]),
+            ("count.stored", &[33]),
+        ],
+    );
+    let before = files(&folder);
+    let once = "refused by number 23: the route is not each stand exactly once";
+    let short = "refused by number 1: the bytes end inside a field";
+    let limit = "refused by number 2: a count or a list length is above its limit";
+    let route = |why: &str| format!("the route for a.roster: {why}");
+    let cases: [(&str, &[&str], String); 9] = [
+        ("a.roster", &["2", "2", "1"], route(once)),
+        ("a.roster", &["2", "3"], route(once)),
+        ("a.roster", &[], route(once)),
+        ("a.roster", &["2", "3", "0"], route(once)),
+        ("a.roster", &many, route(limit)),
+        (
+            "a.roster",
+            &["2", "x", "1"],
+            route("'x' is no number of a stand"),
+        ),
+        (
+            "a.roster",
+            &["2", "256", "1"],
+            route("'256' is no number of a stand"),
+        ),
+        // the roster's refusal comes before 23, and behind a count that is too high
+        ("cut", &["2", "2", "1"], format!("cut: {short}")),
+        ("cut", &many, format!("the route for cut: {limit}")),
+    ];
+    for (file, numbers, words) in cases {
+        assert_eq!(store(&folder, [file, "target"], numbers), (1, words));
+    }
+    let cases = [
+        ("twice.stored", once),
+        ("route.stored", short),
+        ("count.stored", limit),
+    ];
+    for (file, why) in cases {
+        assert_eq!(
+            unstore(&folder, [file, "target"]),
+            (1, format!("{file}: {why}"))
+        );
+    }
+    let words = "a.roster: it is there with other bytes, and stays";
+    let said = store(&folder, ["a.roster", "a.roster"], &["2", "3", "1"]);
+    assert_eq!(said, (1, words.to_owned()));
+    assert_eq!(files(&folder), before);
+    // a roster without stands has a route without numbers
+    assert_eq!(store(&folder, ["empty", "target"], &[]).0, 0);
+    let words = "back written, 6 bytes; the route is empty";
+    assert_eq!(unstore(&folder, ["target", "back"]), (0, words.to_owned()));
+}
+
 #[test]
 fn what_cannot_be_tried() {
     let usage = "usage: rosters join FIRST SECOND TARGET";
-    let words: [&[&str]; 4] = [
+    let words: [&[&str]; 6] = [
         &[],
+        &["store", "a"],
+        &["unstore", "a", "b", "1"],
         &["join", "a", "b"],
         &["jion", "a", "b", "c"],
         &["halp"],

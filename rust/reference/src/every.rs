@@ -1,4 +1,4 @@
-//! All rosters of a given size, for counting by brute force.
+//! All rosters of a given size, and all routes, for counting by brute force.
 
 use std::ops::RangeInclusive;
 
@@ -57,6 +57,29 @@ pub const FOR_PAIRS: [Size; 6] = [
     size([1, 1], 2, [1..=2, 1..=2], 15, 4),
     size([2, 2], 1, [1..=1, 1..=1], 223, 1),
 ];
+
+/// Sizes so small that every roster of them can be tried along every route.
+pub const FOR_ROUTES: [Size; 4] = [
+    size([1, 3], 1, [0..=4, 0..=2], 79, 5 * 27),
+    size([2, 2], 1, [1..=2, 1..=2], 223, 16),
+    size([1, 2], 2, [1..=2, 1..=2], 901, 8),
+    size([2, 3], 1, [1..=1, 1..=1], 10_132, 1),
+];
+
+/// All routes over so many stands.
+pub fn routes(stands: u8) -> Vec<Vec<u8>> {
+    if stands == 0 {
+        return vec![Vec::new()];
+    }
+    let with_last = |route: Vec<u8>| {
+        (0..=route.len()).map(move |place| {
+            let mut route = route.clone();
+            route.insert(place, stands);
+            route
+        })
+    };
+    routes(stands - 1).into_iter().flat_map(with_last).collect()
+}
 
 /// All orders of all subsets of the entries.
 fn ordered_subsets(entries: &[Entry]) -> Vec<Vec<Entry>> {

@@ -39,6 +39,9 @@ const QUOTA_SECTION_BYTES: usize = NARROW_FIELD * (1 + MAX_NODES);
 pub const MAX_ROSTER_BYTES: usize = 2 * QUOTA_SECTION_BYTES
     + 2 * (WIDE_FIELD + ENTRY_FIELD * MAX_ENTRIES)
     + (1 + 2) * NARROW_FIELD * MAX_NODES;
+/// Bytes of the longest file of a route and a roster: a route is a count and a number
+/// for each stand.
+pub const MAX_STORED_BYTES: usize = NARROW_FIELD * (1 + MAX_NODES) + MAX_ROSTER_BYTES;
 /// Bytes of the longest plan.
 pub const MAX_PLAN_BYTES: usize = NARROW_FIELD + PAIR_FIELD * MAX_PLAN_PAIRS;
 /// Bytes that the program reads: one more than the longest roster, so that a

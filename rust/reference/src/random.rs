@@ -273,6 +273,13 @@ fn stand(random: &mut Random, shape: &Shape, surveyors: &[Node], number: u8) -> 
     }
 }
 
+/// A route that names each of so many stands once.
+pub fn route(random: &mut Random, stands: usize) -> Vec<u8> {
+    let mut route: Vec<u8> = (1..=narrow(stands)).collect();
+    random.shuffle(&mut route);
+    route
+}
+
 /// A random plan within the quotas: pairs are tried in a random order, and one
 /// that still fits is taken in `percent` of a hundred cases.
 pub fn plan(random: &mut Random, roster: &Roster, percent: u8) -> Plan {

@@ -9,14 +9,15 @@ use reference::districts;
 use reference::fast;
 use reference::finder;
 use reference::layout::Layout;
-use reference::limits::{MAX_PLAN_BYTES, MAX_ROSTER_BYTES};
+use reference::limits::{MAX_PLAN_BYTES, MAX_ROSTER_BYTES, MAX_STORED_BYTES};
 use reference::offers;
 use reference::plan::{self, Plan};
 use reference::plans;
 use reference::random::{self, Random, Shape};
 use reference::reduction;
 use reference::refusal::Refusal;
-use reference::roster::{self, Pair, Roster, SIDES};
+use reference::roster::{self, Pair, Roster, Side, SIDES};
+use reference::routes;
 use reference::seasons;
 use reference::votes;
 
@@ -217,6 +218,37 @@ fn districts_are_joined_alike() {
     println!("accepted and refusals met: {met:?}");
     let mut numbers = (0..=9).chain([15, 18]);
     assert!(numbers.all(|number| met[number] > 50));
+}
+
+#[test]
+fn routes_are_walked_alike() {
+    let mut random = Random::new(52);
+    let mut met = [[0usize; NUMBERS]; 2];
+    for _ in 0..60_000 {
+        let roster = some_roster(&mut random, 5, 8);
+        let route = random::route(&mut random, roster.nodes(Side::Stands).len());
+        let mut file = routes::write(&route, &roster);
+        if random.chance(60) {
+            damage(&mut random, &mut file);
+        }
+        turned_alike(
+            &mut random,
+            &mut met[0],
+            MAX_STORED_BYTES,
+            |out| routes::store(&file, out),
+            |out| fast::routes::store(&file, out),
+        );
+        turned_alike(
+            &mut random,
+            &mut met[1],
+            MAX_STORED_BYTES,
+            |out| routes::unstore(&file, out),
+            |out| fast::routes::unstore(&file, out),
+        );
+    }
+    println!("stored, unstored: {met:?}");
+    let mut numbers = (0..=9).chain([15, 18, 23]);
+    assert!(numbers.all(|n| met.iter().all(|met| met[n] > 20)));
 }
 
 #[test]

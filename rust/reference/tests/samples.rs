@@ -6,10 +6,11 @@ use std::path::{Path, PathBuf};
 
 use reference::districts;
 use reference::finder::{find, find_large, Answer, Why};
-use reference::limits::MAX_ROSTER_BYTES;
+use reference::limits::{MAX_ROSTER_BYTES, MAX_STORED_BYTES};
 use reference::plans::all_plans;
 use reference::program;
 use reference::roster;
+use reference::routes;
 use reference::votes::plan_vote;
 
 /// Rosters up to this many pairs are also judged by the votes against all plans.
@@ -109,4 +110,29 @@ fn two_districts_are_joined() {
     let joined = districts::join(&north, &south, &mut out);
     assert_eq!(joined, Ok(both.len()));
     assert_eq!(out[..both.len()], both);
+}
+
+/// What the program prints behind the diary.
+fn printed_plan(roster: &[u8]) -> String {
+    let printed = program::run_with(roster, find);
+    let text = String::from_utf8(printed).expect("plain text");
+    let start = text.find("plan ").expect("a plan");
+    text[start..].to_owned()
+}
+
+#[test]
+fn a_roster_is_stored_in_walking_order() {
+    let (roster, stored) = (sample("walked.roster"), sample("walked.stored"));
+    let route: &[u8] = &[3, 2, 3, 1];
+    let file = [route, &roster].concat();
+    let mut out = [0; MAX_STORED_BYTES];
+    assert_eq!(routes::store(&file, &mut out), Ok(stored.len()));
+    assert_eq!(out[..stored.len()], stored);
+    assert_eq!(routes::unstore(&stored, &mut out), Ok(file.len()));
+    assert_eq!(out[..file.len()], file);
+    // stand 2 is the first now, 3 the second and 1 the third
+    let plan = "plan 4\n1 1 1\n1 2 1\n2 3 1\n3 2 1\n";
+    assert_eq!(printed_plan(&roster), plan);
+    let renumbered = "plan 4\n1 1 1\n1 3 1\n2 2 1\n3 1 1\n";
+    assert_eq!(printed_plan(&stored[route.len()..]), renumbered);
 }

@@ -12,6 +12,7 @@ pub mod offers;
 pub mod plan;
 pub mod reduction;
 pub mod roster;
+pub mod routes;
 pub mod seasons;
 pub mod verdict;
 pub mod vote;

@@ -13,6 +13,7 @@ mod finder;
 mod lent;
 mod longest;
 mod offers;
+mod routes;
 mod seasons;
 mod stack;
 mod verdict;
@@ -53,6 +54,8 @@ fn main() {
     offers::run();
     println!();
     districts::run();
+    println!();
+    routes::run();
     println!();
     votes::run();
     println!();

@@ -18,6 +18,8 @@ pub enum What {
     Refused(Refusal),
     /// The text form says what is wrong with a text.
     Text(String),
+    /// Of a route; no byte could hold it as a stand's number.
+    NoStand(String),
     NotRead(io::Error),
     NotPut(NotPut),
 }
@@ -35,6 +37,12 @@ impl Problem {
         let about = format!("{} and {} together", first.display(), second.display());
         Problem { about, what }
     }
+
+    /// The route that a file's roster was to be stored by.
+    pub fn of_route(file: &Path, what: What) -> Problem {
+        let about = format!("the route for {}", file.display());
+        Problem { about, what }
+    }
 }
 
 impl fmt::Display for Problem {
@@ -45,6 +53,7 @@ impl fmt::Display for Problem {
                 write!(formatter, "refused by number {}: {refusal}", refusal.number)
             }
             What::Text(words) => formatter.write_str(words),
+            What::NoStand(word) => write!(formatter, "'{word}' is no number of a stand"),
             What::NotRead(error) => write!(formatter, "it cannot be read: {error}"),
             What::NotPut(NotPut::NotWritten(error)) => {
                 write!(formatter, "it cannot be written: {error}")

@@ -35,7 +35,7 @@ pub fn put(path: &Path, roster: &[u8]) -> Result<String, Problem> {
 }
 
 /// Puts bytes into a new file, and tells of it.
-fn put_bytes(path: &Path, bytes: &[u8]) -> Result<String, Problem> {
+pub fn put_bytes(path: &Path, bytes: &[u8]) -> Result<String, Problem> {
     let put = files::put(path, bytes);
     let words = match put.map_err(|why| Problem::of(path, What::NotPut(why)))? {
         Put::Written => "written",
