@@ -2,10 +2,10 @@
 -- that the stands keep are the plan of the offers.
 use Prim.Native.Nat.{ℕ, zero, suc, _+_, _-_, _≤_, _<_}
 use native.Mathlib.Omega.{arith}
-use mathlib.Core.Path.{_≡_, refl, sym, ap, _∙_, subst}
+use mathlib.Core.Path.{_≡_, refl, sym, ap, ap₂, _∙_, subst}
 use mathlib.Core.Logic.{by-cases}
 use native.Mathlib.Decide.{decLt}
-use mathlib.Core.Bool.{Bool, true, false, cond}
+use mathlib.Core.Bool.{Bool, true, false, not, cond, _&&_}
 use mathlib.Core.List.{List}
 use lib.ListN.{set, replicate, length-set, length-replicate, getD-replicate, List·getD-eq-default}
 use lib.Seq.{getD-set-same, getD-set-other}
@@ -31,12 +31,12 @@ use Rattle.instance.specs.Decoded.{shownBy}
 use Rattle.instance.specs.Loaded.{Loaded}
 use Rattle.reduction_cells.specs.Cells.{Celled}
 use Rattle.reduction_cells.specs.CellLaws.{Cells, celled-is}
-use Rattle.offers.specs.NextEntry.{offerOf}
+use Rattle.offers.specs.NextEntry.{entryFrom, offering, offerOf, Missed}
 use Rattle.offers.specs.Standing as next
-use Rattle.offers.specs.Standing.{BySurveyor, offer-is}
+use Rattle.offers.specs.Standing.{BySurveyor, offer-is, none-before}
 use Rattle.offers.specs.declared.Standing.{Standing}
-use Rattle.offers.specs.Turned.{turnOf}
-use Rattle.offers.specs.TurnStands.{Sized, turn-stands}
+use Rattle.offers.specs.Turned.{Sized, turnOf, Turned}
+use Rattle.offers.specs.TurnStands.{turn-stands}
 
 -- what the offers ask of the arrays of a roster
 pub record Ready (g : Instance) : Type 0 where
@@ -142,9 +142,9 @@ module _ (g : Instance) (R : Ready g) where
       rest-next l n = let q = sym next-is in ap (λ x. cond (leb (g .m) x) z (offersFrom G n (offered G z x))) q
           ∙ ap (λ b. cond b z (offersFrom G n (offered G z e))) (lt-leb (g .m) e l)
 
-      pub running-next : i < g .m → e < g .m → Running (turnOf (g .m) (g .sv) (g .st) (g .«rank_s») (g .«rank_t») o e) (i + 1)
+      one-more : i < g .m → e < g .m → Running (turnOf (g .m) (g .sv) (g .st) (g .«rank_s») (g .«rank_t») o e) (i + 1)
       unfolding z
-      running-next h l =
+      one-more h l =
           let N = next→ G z e (subst (λ x. T (nextOffer G z x)) (sym next-is) (low-is (nextOffer G z) (g .m) .2 (subst (λ x. x < g .m) next-is l))) in
           record {
             few = omega arith;
@@ -156,6 +156,16 @@ module _ (g : Instance) (R : Ready g) where
             kept = further G L (R .profile .strict) z (W .kept) e l N .0;
             rest = W .rest ∙ ap (λ n. offersFrom G n z) (let q : g .m - i ≡ suc (g .m - (i + 1)) = omega arith in q) ∙ rest-next l (g .m - (i + 1));
           }
+
+      module _ (p : Standing) (r : ℕ) (N : Turned (g .m) (g .sv) (g .st) (g .«rank_s») (g .«rank_t») o e p r) where
+        pub running-next : i < g .m → e < g .m → Running p (i + 1)
+        running-next h l = subst (λ p. Running p (i + 1)) (sym (N .after)) (one-more h l)
+
+        -- nobody before the lowest surveyor that was touched offers
+        pub resumed : e < g .m → Missed (offering (g .m) cell (p .next) (p .held)) r
+        resumed l j h = let S = N .same j h in
+            ap₂ (λ n f. not f && ltb (entryFrom (g .m) cell j n) (g .m)) (S .0) (S .1)
+            ∙ none-before G L cell cells (R .loaded .surveyors) (o .next) (o .held) e found l j (omega (arith, N .lowest))
 
       -- ---- nobody offers
       pub none-left : g .m ≤ e → offersFrom G (g .m) (noOffers G) ≡ W .offers

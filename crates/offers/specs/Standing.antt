@@ -19,7 +19,7 @@ use Rattle.theory_offers.specs.NextOffer.{In, Next, next→, →next}
 use Rattle.arrays.specs.ArrayInstance.{at, flag}
 use Rattle.reduction_cells.specs.Cells.{inCell}
 use Rattle.reduction_cells.specs.CellLaws.{Cells}
-use Rattle.offers.specs.NextEntry.{holds, found, entryFrom, offering, offerOf}
+use Rattle.offers.specs.NextEntry.{holds, found, entryFrom, offering, offerOf, Missed}
 
 pub record Standing (G : Instance) (next kept : List ℕ) (held : List Bool) (z : Offers) : Type 0 where
   pub away : (e : ℕ) → e < G .m → z .away e ≡ ltb (G .rankS e) (at next (G .sv e))
@@ -74,6 +74,19 @@ module _ (G : Instance) (L : Lawful G) (cell : List ℕ) (C : Cells (surveyors G
         }))
         (λ q. let f : found (G .m) cell s (low p emptyRank) ≡ G .m =
         ap (λ x. cond x (inCell cell s (low p emptyRank)) (G .m)) (le-ltb (low p emptyRank) emptyRank (omega arith)) in absurd (let n : ⊥ = omega arith in n)))
+
+  -- ---- nobody before the surveyor of the next offer offers
+  pub none-before : G .ns ≤ nodeLimit → (next : List ℕ) (held : List Bool) (e : ℕ) → e ≡ offerOf (G .m) (G .ns) cell next held → e < G .m
+      → Missed (offering (G .m) cell next held) (G .sv e)
+  unfolding offerOf
+  none-before few next held e f l i h =
+      let q = offering (G .m) cell next held in
+      let s = low q (G .ns) in
+      let y = entryFrom (G .m) cell s (at next s) in
+      given (low-is q (G .ns)) (λ (a, b, t). by-cases (decLt s (G .ns))
+      (λ k. let x : e ≡ y = f ∙ ap (λ c. cond c y (G .m)) (lt-ltb s (G .ns) k) in
+      let o : G .sv e ≡ s = ap (G .sv) x ∙ entry-is s (at next s) (omega arith) (subst (λ d. d < G .m) x l) .owner in T-false (b i (omega arith)))
+      (λ k. let x : e ≡ G .m = f ∙ ap (λ c. cond c y (G .m)) (le-ltb s (G .ns) (omega arith)) in absurd (let n : ⊥ = omega arith in n)))
 
   -- ---- who offers
   module _ (sorted : BySurveyor G) (few : G .ns ≤ nodeLimit) (next kept : List ℕ) (held : List Bool) (z : Offers) (S : Standing G next kept held z) where

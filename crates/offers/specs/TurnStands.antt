@@ -22,7 +22,7 @@ use Rattle.theory_offers.specs.KeptOffers.{Kept}
 use Rattle.arrays.specs.ArrayInstance.{at, flag, shown}
 use Rattle.offers.specs.Standing as next
 use Rattle.offers.specs.declared.Standing.{Standing}
-use Rattle.offers.specs.Turned.{turnOf, turn-first, turn-instead, turn-away}
+use Rattle.offers.specs.Turned.{Sized, turnOf, turn-first, turn-instead, turn-away}
 
 -- an entry after a store
 here : (xs : List ℕ) (i j v : ℕ) → i < length xs → j ≡ i → at (set xs i v) j ≡ v
@@ -48,9 +48,6 @@ and-self false = refl
 and-yes : (b : Bool) → b && true ≡ b
 and-yes true = refl
 and-yes false = refl
-
-abbrev pub Sized : Standing → Type 0
-Sized o = (length (o .next) ≡ nodeLimit) × (length (o .kept) ≡ nodeLimit) × (length (o .held) ≡ nodeLimit)
 
 module _ (G : Instance) (L : Lawful G) (strict : (e : ℕ) → e < G .m → T (not (G .tied e)))
     (lowS : (e : ℕ) → e < G .m → G .sv e < nodeLimit) (lowT : (e : ℕ) → e < G .m → G .st e < nodeLimit)

@@ -1,13 +1,23 @@
--- Where the offers stand after one more.
+-- Where the offers stand after one more, and up to which surveyor they stand as before.
 use Prim.Native.Nat.{ℕ, _+_, _≤_, _<_}
-use mathlib.Core.Path.{_≡_, sym, ap, _∙_}
-use mathlib.Core.Bool.{true, false, cond}
+use native.Mathlib.Omega.{arith}
+use mathlib.Core.Path.{_≡_, refl, sym, ap, _∙_}
+use mathlib.Core.Bool.{Bool, true, false, cond}
 use mathlib.Core.List.{List}
-use lib.ListN.{set}
+use lib.ListN.{length, set}
+use lib.Seq.{getD-set-other}
 use lib.Dec.{ltb, leb}
 use borrow.Author.Tests.{lt-ltb, le-ltb, le-leb, lt-leb}
-use Rattle.arrays.specs.ArrayInstance.{at}
+use Rattle.model.specs.Limits.{nodeLimit}
+use Rattle.arrays.specs.ArrayInstance.{at, flag}
 use Rattle.offers.specs.declared.Standing.{Standing}
+
+-- the three arrays
+abbrev pub standing : (next kept : List ℕ) (held : List Bool) → Standing
+standing next kept held = record { next = next; kept = kept; held = held }
+
+abbrev pub Sized : Standing → Type 0
+Sized o = (length (o .next) ≡ nodeLimit) × (length (o .kept) ≡ nodeLimit) × (length (o .held) ≡ nodeLimit)
 
 module _ (sv st rs : List ℕ) (o : Standing) (e : ℕ) where
   -- the stand had none: it keeps e
@@ -51,3 +61,27 @@ module _ (m : ℕ) (sv st rs rt : List ℕ) (o : Standing) (e : ℕ) where
   turn-away h k = sym (ap (λ b. cond b (keptFirst sv st rs o e)
       (cond (ltb (at rt e) (at rt keptThere)) (keptInstead sv st rs o e keptThere) (turnedAway sv st rs o e))) (lt-leb m keptThere h)
       ∙ ap (λ b. cond b (keptInstead sv st rs o e keptThere) (turnedAway sv st rs o e)) (le-ltb (at rt e) (at rt keptThere) k))
+
+-- ---- the surveyors before r stand as before
+abbrev pub Same : (o p : Standing) (r : ℕ) → Type 0
+Same o p r = (i : ℕ) → i < r → (at (p .next) i ≡ at (o .next) i) × (flag (p .held) i ≡ flag (o .held) i)
+
+-- p is where the offers stand after e; r is not behind the surveyor of e, and nobody before r was touched
+pub record Turned (m : ℕ) (sv st rs rt : List ℕ) (o : Standing) (e : ℕ) (p : Standing) (r : ℕ) : Type 0 where
+  pub after : p ≡ turnOf m sv st rs rt o e
+  pub lowest : r ≤ at sv e
+  pub same : Same o p r
+
+module _ (sv st rs : List ℕ) (o : Standing) (e : ℕ) where
+  pub first-same : Same o (keptFirst sv st rs o e) (at sv e)
+  first-same i l = (refl, getD-set-other (o .held) (at sv e) i true false (λ q. let n : ⊥ = omega arith in n))
+
+  pub instead-same : (d r : ℕ) → r ≤ at sv e → r ≤ at sv d → Same o (keptInstead sv st rs o e d) r
+  instead-same d r h k i l = (
+    getD-set-other (o .next) (at sv d) i (at rs d + 1) 0 (λ q. let n : ⊥ = omega arith in n),
+    getD-set-other (set (o .held) (at sv d) false) (at sv e) i true false (λ q. let n : ⊥ = omega arith in n)
+        ∙ getD-set-other (o .held) (at sv d) i false false (λ q. let n : ⊥ = omega arith in n),
+  )
+
+  pub away-same : Same o (turnedAway sv st rs o e) (at sv e)
+  away-same i l = (getD-set-other (o .next) (at sv e) i (at rs e + 1) 0 (λ q. let n : ⊥ = omega arith in n), refl)

@@ -3,13 +3,12 @@
 ghost use mathlib.Core.Path.{_≡_};
 ghost use mathlib.Core.Bool.{false};
 ghost use Prim.Native.Nat.{_≤_, _<_};
-ghost use lib.Dec.{eqb};
 ghost use Rattle.model.specs.Limits.{nodeLimit, entryLimit, emptyRank};
-ghost use Rattle.arrays.specs.ArrayInstance.{at};
 ghost use Rattle.arrays.specs.Passes.{Low, Shows};
-ghost use Rattle.offers.specs.NextEntry.{Inside, entryFrom, offerOf};
-ghost use Rattle.offers.specs.Turned.{turnOf};
-ghost use Rattle.offers.specs.Running.{Ready, startOf, unmarked, Ended, Offered};
+ghost use Rattle.offers.specs.NextEntry.{Inside, entryFrom, offering, offerOf, Missed};
+ghost use Rattle.offers.specs.Turned.{standing, Sized, Turned};
+ghost use Rattle.offers.specs.KeptEdges.{Own, isKept};
+ghost use Rattle.offers.specs.Running.{Ready, unmarked, Ended, Offered};
 ghost use Rattle.reduction_cells.specs.Cells.{Celled};
 use instance::Instance;
 use limits::EMPTY_RANK;
@@ -41,18 +40,19 @@ pub(crate) fn entry_from(m: usize, cell: &[u16; CELLS], s: usize, from: u8) -> u
     m
 }
 
-// The edge that is offered next, m if there is none.
+// The edge that is offered next, m if there is none, looked for from a surveyor on: nobody before that one has an offer to make.
 pub(crate) fn next_offer(
     m: usize,
     ns: usize,
     cell: &[u16; CELLS],
     next: &[u8; 32],
     held: &[bool; 32],
+    from: usize,
 ) -> usize
-    requires { ⌜ (ns ≤ nodeLimit) × (m ≤ entryLimit) × Inside m (now cell) ⌝ }
+    requires { ⌜ (ns ≤ nodeLimit) × (m ≤ entryLimit) × Inside m (now cell) × Missed (offering m (now cell) (now next) (now held)) from ⌝ }
     ensures { λ r. ⌜ r ≡ offerOf m ns (now (cell .entry)) (now (next .entry)) (now (held .entry)) ⌝ }
 {
-    let mut s: usize = 0;
+    let mut s = from;
     while s < ns {
         if held[s] {
             s += 1;
@@ -67,33 +67,31 @@ pub(crate) fn next_offer(
     m
 }
 
-// After the offer of e: a stand without an edge keeps it; else it keeps the better of the two, and the other's surveyor goes on behind it.
+// After the offer of e: a stand without an edge keeps it; else it keeps the better of the two, and the other's surveyor goes on behind it. The lowest
+// surveyor that it touched is returned: whoever is before that one stands as before.
 pub(crate) fn turn(
     m: usize,
     sv: &[u8; ENTRY_LIMIT],
     st: &[u8; ENTRY_LIMIT],
     rs: &[u8; ENTRY_LIMIT],
     rt: &[u8; ENTRY_LIMIT],
-    o: Standing,
+    next: &mut [u8; 32],
+    kept: &mut [u16; 32],
+    held: &mut [bool; 32],
     e: usize,
-) -> Standing
+) -> usize
     requires { ⌜ (m ≤ entryLimit) × (e < m) × Low m (now sv) nodeLimit × Low m (now st) nodeLimit × Low m (now rs) emptyRank ⌝ }
-    ensures { λ r. ⌜ r ≡ turnOf m (now (sv .entry)) (now (st .entry)) (now (rs .entry)) (now (rt .entry)) o e ⌝ }
+    requires { ⌜ Sized (standing (now next) (now kept) (now held)) × Low nodeLimit (now kept) 65536 ⌝ }
+    ensures { λ r. ⌜ Turned m (now (sv .entry)) (now (st .entry)) (now (rs .entry)) (now (rt .entry))
+        (standing (now (next .entry)) (now (kept .entry)) (now (held .entry))) e (standing (now (next .exit)) (now (kept .exit)) (now (held .exit))) r ⌝ }
 {
-    let mut next = o.next;
-    let mut kept = o.kept;
-    let mut held = o.held;
     let s = sv[e] as usize;
     let t = st[e] as usize;
     let d = kept[t] as usize;
     if m <= d {
         kept[t] = e as u16;
         held[s] = true;
-        return Standing {
-            next: next,
-            kept: kept,
-            held: held,
-        };
+        return s;
     }
     if rt[e] < rt[d] {
         let u = sv[d] as usize;
@@ -101,49 +99,33 @@ pub(crate) fn turn(
         held[u] = false;
         held[s] = true;
         next[u] = rs[d] + 1;
-        return Standing {
-            next: next,
-            kept: kept,
-            held: held,
-        };
+        if u < s {
+            return u;
+        }
+        return s;
     }
     next[s] = rs[e] + 1;
-    Standing {
-        next: next,
-        kept: kept,
-        held: held,
-    }
+    s
 }
 
-// Before the first offer: nobody was turned away, no stand keeps an edge.
-pub(crate) fn start(m: usize) -> Standing
-    requires { ⌜ m ≤ entryLimit ⌝ }
-    ensures { λ r. ⌜ r ≡ startOf m ⌝ }
-{
-    Standing {
-        next: [0u8; 32],
-        kept: [m as u16; 32],
-        held: [false; 32],
-    }
-}
-
-// The edges that the stands keep.
+// The edges that the stands keep, each an edge of its stand.
 pub(crate) fn kept_edges(m: usize, st: &[u8; ENTRY_LIMIT], kept: &[u16; 32]) -> [bool; ENTRY_LIMIT]
-    requires { ⌜ (m ≤ entryLimit) × Low m (now st) nodeLimit × Low nodeLimit (now kept) 65536 ⌝ }
-    ensures { λ r. ⌜ Shows false r m (λ e. eqb (at (now (kept .entry)) (at (now (st .entry)) e)) e) ⌝ }
+    requires { ⌜ (m ≤ entryLimit) × Low m (now st) nodeLimit × Low nodeLimit (now kept) 65536 × Own m (now st) (now kept) ⌝ }
+    ensures { λ r. ⌜ Shows false r m (isKept (now (st .entry)) (now (kept .entry))) ⌝ }
 {
     let mut plan = [false; ENTRY_LIMIT];
-    let mut e: usize = 0;
-    while e < m {
-        let t = st[e] as usize;
+    let mut t: usize = 0;
+    while t < 32 {
         let k = kept[t] as usize;
-        plan[e] = k == e;
-        e += 1;
+        t += 1;
+        if k < m {
+            plan[k] = true;
+        }
     }
     plan
 }
 
-// All offers, one a turn: each edge is offered at most once.
+// All offers, one a turn: each edge is offered at most once. At first nobody was turned away, and no stand keeps an edge.
 pub(crate) fn run(g: Instance, cell: &[u16; CELLS]) -> Standing
     requires { ⌜ Ready g × Celled (g .m) (g .sv) (g .«rank_s») unmarked (now cell) ⌝ }
     ensures { λ r. ⌜ Ended g r ⌝ }
@@ -153,19 +135,24 @@ pub(crate) fn run(g: Instance, cell: &[u16; CELLS]) -> Standing
     let st = g.st;
     let rs = g.rank_s;
     let rt = g.rank_t;
-    let mut o = start(m);
+    let mut next = [0u8; 32];
+    let mut kept = [m as u16; 32];
+    let mut held = [false; 32];
+    let mut from: usize = 0;
     let mut i: usize = 0;
     while i < m {
-        let next = o.next;
-        let held = o.held;
-        let e = next_offer(m, g.ns, cell, &next, &held);
+        let e = next_offer(m, g.ns, cell, &next, &held, from);
         if m <= e {
             break;
         }
-        o = turn(m, &sv, &st, &rs, &rt, o, e);
+        from = turn(m, &sv, &st, &rs, &rt, &mut next, &mut kept, &mut held, e);
         i += 1;
     }
-    o
+    Standing {
+        next: next,
+        kept: kept,
+        held: held,
+    }
 }
 
 // The plan of the offers, as the flags of its edges.

@@ -1,60 +1,57 @@
--- The flags below e are set.
+-- The edges that the stands passed keep are marked.
 use Prim.Native.Nat.{_-_, _≤_}
 use native.Mathlib.Omega.{arith}
-use mathlib.Core.Path.{_≡_, refl, subst}
-use mathlib.Core.Bool.{false}
-use lib.Dec.{eqb}
+use mathlib.Core.Path.{_≡_, _∙_}
+use mathlib.Core.Bool.{true, false}
+use lib.ListN.{length, length-set, length-replicate}
 use borrow.Author.Needs.{needs}
-use Rattle.model.specs.Limits.{entryLimit}
+use Rattle.model.specs.Limits.{nodeLimit, entryLimit}
 use Rattle.arrays.specs.ArrayInstance.{at}
-use Rattle.arrays.specs.Passes.{Shows, Fill, fill-none, fill-next}
+use Rattle.offers.specs.KeptEdges.{Marked, marked-none, marked-passed, marked-next, marked-all}
 use Rattle.offers.proofs.kept_edges.Statement.{statement}
 use Rattle.offers.proofs.kept_edges.Tie as tie
 
 abbrev Inv-loop : tie.InvT-loop
-Inv-loop m st kept plan₀ e₀ plan e = (e ≤ m) × Fill false entryLimit plan e (λ e. eqb (at kept (at st e)) e)
+Inv-loop m st kept plan₀ t₀ plan t = (t ≤ nodeLimit) × (length plan ≡ entryLimit) × Marked m st kept plan t
 
 abbrev μ-loop : tie.MeasureT-loop
-μ-loop m st kept plan₀ e₀ plan e = m - e
+μ-loop m st kept plan₀ t₀ plan t = nodeLimit - t
 
 loop-holds : tie.Need-loop-holds Inv-loop μ-loop
-loop-holds c = let a = c .args in (omega arith, fill-none false entryLimit (λ e. eqb (at (a .kept .now) (at (a .st .now) e)) e))
-
-element-copy-out-t : tie.Need-element-copy-out-t Inv-loop μ-loop
-element-copy-out-t c = omega (arith, c .before .before .pre .0)
-
-cast-t : tie.Need-cast-t Inv-loop μ-loop
-cast-t c = let s = c .before .before .before in omega (arith, s .pre .1 (c .before .before .loop .e) (omega arith))
-
-mul-k : tie.Need-mul-k Inv-loop μ-loop
-mul-k c = let s = c .before .before .before in omega (arith, s .pre .1 (c .before .before .loop .e) (omega arith))
-
-element-copy-out-k : tie.Need-element-copy-out-k Inv-loop μ-loop
-element-copy-out-k c = let s = c .before .before .before in omega (arith, s .pre .1 (c .before .before .loop .e) (omega arith))
+loop-holds c = let a = c .args in (omega arith, length-replicate entryLimit false, marked-none (a .m) (a .st .now) (a .kept .now))
 
 cast-k : tie.Need-cast-k Inv-loop μ-loop
-cast-k c =
-    let s = c .before .before .before .before in
-    let e = c .before .before .before .loop .e in
-    omega (arith, s .pre .2 (at (s .args .st .now) e) (s .pre .1 e (omega arith)))
+cast-k c = omega (arith, c .before .before .before .pre .2 (c .before .before .loop .t) (omega arith))
+
+array-write-plan : tie.Need-array-write-plan Inv-loop μ-loop
+array-write-plan c = omega (arith, c .before .before .before .before .pre .0)
 
 loop-again : tie.Need-loop-again Inv-loop μ-loop
 loop-again c =
-    let l = c .before .before .before .loop in
-    let a = c .before .before .before .before .args in (
+    let s = c .before .before .before .before in
+    let l = c .before .before .before .loop in (
       omega arith,
-      fill-next false entryLimit (l .plan) (λ e. eqb (at (a .kept .now) (at (a .st .now) e)) e) (l .e) _ refl
-          (omega (arith, c .before .before .before .before .pre .0)) (l .inv .1),
+      length-set (l .plan) (at (s .args .kept .now) (l .t)) true ∙ l .inv .1,
+      marked-next (s .args .m) (s .args .st .now) (s .args .kept .now) (l .plan) (l .t) (l .inv .2) (s .pre .3) (omega arith) (c .if1 .taken)
+          (omega (arith, s .pre .0, l .inv .1)),
+    )
+
+loop-again-2 : tie.Need-loop-again-2 Inv-loop μ-loop
+loop-again-2 c =
+    let s = c .before .before .before .before in
+    let l = c .before .before .before .loop in (
+      omega arith,
+      l .inv .1,
+      marked-passed (s .args .m) (s .args .st .now) (s .args .kept .now) (l .plan) (l .t) (l .inv .2) (omega arith),
     )
 
 returns : tie.Need-returns Inv-loop μ-loop
 returns c =
     let l = c .before .loop in
-    let a = c .before .before .args in
-    let q : l .e ≡ a .m = omega arith in
-    subst (λ k. Shows false (l .plan) k (λ e. eqb (at (a .kept .now) (at (a .st .now) e)) e)) q (l .inv .1 .shows)
+    let s = c .before .before in
+    marked-all (s .args .m) (s .args .st .now) (s .args .kept .now) (s .pre .1) (l .plan) (l .t) (omega arith) (l .inv .2)
 
 pub kept-edges-spec : {M : Type 1} → statement M
 kept-edges-spec =
-    tie.close (tie.spec Inv-loop μ-loop loop-holds element-copy-out-t cast-t mul-k element-copy-out-k cast-k (λ c. search needs) (λ c. search needs)
-    (λ c. search needs) loop-again returns)
+    tie.close (tie.spec Inv-loop μ-loop loop-holds (λ c. search needs) (λ c. search needs) cast-k (λ c. search needs) array-write-plan
+    (λ c. search needs) loop-again (λ c. search needs) loop-again-2 returns)

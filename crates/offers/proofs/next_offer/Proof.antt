@@ -1,5 +1,5 @@
 -- None of the surveyors passed offers.
-use Prim.Native.Nat.{_-_, _≤_, _<_}
+use Prim.Native.Nat.{_-_, _<_}
 use native.Mathlib.Omega.{arith}
 use mathlib.Core.Path.{_∙_, subst}
 use borrow.Author.Needs.{needs}
@@ -8,22 +8,20 @@ use Rattle.offers.proofs.next_offer.Statement.{statement}
 use Rattle.offers.proofs.next_offer.Tie as tie
 
 abbrev Inv-loop : tie.InvT-loop
-Inv-loop m ns cell next held s₀ s = (s ≤ ns) × Missed (offering m cell next held) s
+Inv-loop m ns cell next held from s₀ s = Missed (offering m cell next held) s
 
 abbrev μ-loop : tie.MeasureT-loop
-μ-loop m ns cell next held s₀ s = ns - s
+μ-loop m ns cell next held from s₀ s = ns - s
 
 loop-holds : tie.Need-loop-holds Inv-loop μ-loop
-loop-holds c = (omega arith, λ i (l : i < 0). absurd (omega arith))
+loop-holds c = c .pre .3
 
 loop-again : tie.Need-loop-again Inv-loop μ-loop
 loop-again c =
     let l = c .before .before .before .loop in
-    let a = c .before .before .before .before .args in (
-      omega arith,
-      missed-next (offering (a .m) (a .cell .now) (a .next .now) (a .held .now)) (l .s) (l .inv .1)
-          (held-missed (a .m) (a .ns) (a .cell .now) (a .next .now) (a .held .now) (l .s) (c .if1 .taken)),
-    )
+    let a = c .before .before .before .before .args in
+    missed-next (offering (a .m) (a .cell .now) (a .next .now) (a .held .now)) (l .s) (l .inv)
+    (held-missed (a .m) (a .ns) (a .cell .now) (a .next .now) (a .held .now) (l .s) (c .if1 .taken))
 
 entry-from-requires : tie.Need-entry-from-requires Inv-loop μ-loop
 entry-from-requires c κs = let s = c .before .before .before .before .before in (omega (arith, s .pre .0), s .pre .1, s .pre .2)
@@ -34,23 +32,21 @@ returns c =
     let a = c .before .before .before .before .before .before .before .args in
     let e = c .before .entry-from .ensures in
     e ∙ offer-hit (a .m) (a .ns) (a .cell .now) (a .next .now) (a .held .now) (l .s) (omega arith) (c .before .before .before .if1 .left)
-    (subst (λ x. x < a .m) e (c .if2 .taken)) (l .inv .1)
+    (subst (λ x. x < a .m) e (c .if2 .taken)) (l .inv)
 
 loop-again-2 : tie.Need-loop-again-2 Inv-loop μ-loop
 loop-again-2 c =
     let l = c .before .before .before .before .before .before .loop in
     let a = c .before .before .before .before .before .before .before .args in
-    let e = c .before .entry-from .ensures in (
-      omega arith,
-      missed-next (offering (a .m) (a .cell .now) (a .next .now) (a .held .now)) (l .s) (l .inv .1)
-          (empty-missed (a .m) (a .ns) (a .cell .now) (a .next .now) (a .held .now) (l .s) (omega (arith, e))),
-    )
+    let e = c .before .entry-from .ensures in
+    missed-next (offering (a .m) (a .cell .now) (a .next .now) (a .held .now)) (l .s) (l .inv)
+    (empty-missed (a .m) (a .ns) (a .cell .now) (a .next .now) (a .held .now) (l .s) (omega (arith, e)))
 
 returns-2 : tie.Need-returns-2 Inv-loop μ-loop
 returns-2 c =
     let l = c .before .loop in
     let a = c .before .before .args in
-    offer-none (a .m) (a .ns) (a .cell .now) (a .next .now) (a .held .now) (l .s) (omega arith) (l .inv .1)
+    offer-none (a .m) (a .ns) (a .cell .now) (a .next .now) (a .held .now) (l .s) (omega arith) (l .inv)
 
 pub next-offer-spec : {M : Type 1} → statement M
 next-offer-spec =

@@ -18,7 +18,8 @@ kept-edges-requires c κs =
     let L = s .pre .loaded in (
       L .edges,
       (λ e l. L .low-st e),
-      λ t w. given (c .before .before .before .run .ensures (s .pre)) (λ (i, W, q). let h = W .inside t w in omega (arith, L .edges)),
+      (λ t w. given (c .before .before .before .run .ensures (s .pre)) (λ (i, W, q). let h = W .inside t w in omega (arith, L .edges))),
+      λ t w. given (c .before .before .before .run .ensures (s .pre)) (λ (i, W, q). W .stands .stand t w),
     )
 
 returns : tie.Need-returns
