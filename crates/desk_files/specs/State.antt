@@ -4,21 +4,23 @@ use native.Mathlib.Omega.{arith}
 use mathlib.Core.Path.{_≡_, refl, sym, ap, _∙_, subst}
 use mathlib.Core.Bool.{Bool, true, false, not, cond, _&&_}
 use mathlib.Core.List.{List}
+use mathlib.Core.Option.{none, some, Option·some-injective, Option·none-ne-some}
 use lib.ListN.{length}
 use lib.Dec.{T, ltb, nltb→le}
 use borrow.Author.Tests.{lt-ltb}
+use Rattle.lists.specs.Sum.{_∈_}
 use Rattle.lists.specs.Test.{given, false-T}
 use Rattle.model.specs.Reading.{Reading, accepted, refused}
-use Rattle.model.specs.Roster.{Roster}
+use Rattle.model.specs.Roster.{Roster, fits}
 use Rattle.model.specs.RosterFile.{readRoster}
 use Rattle.model.specs.Edges.{instanceOf}
-use Rattle.model.specs.Plans.{Plan}
+use Rattle.model.specs.Plans.{Plan, plansOf}
 use Rattle.model.specs.PlanFile as plans
 use Rattle.model.specs.PlanFile.{readPlan}
 use Rattle.model_desk.specs.Desk.{Held, Call, loadRoster, loadPlan, writeRosterTo, writePlanTo, find, join, leave, judge, compare, blocking, Answer}
-use Rattle.model_desk.specs.Desk.{planToNew, planToOld, propose, commit, needsProposal, noProposal}
+use Rattle.model_desk.specs.Desk.{planToNew, planToOld, propose, commit, spread, needsProposal, noProposal}
 use Rattle.model_desk.specs.Desk.{needsRoster, needsPlan, lentShort, noRoster, noPlan, stateRefusal, answerOn, lentOn, stateRefused, answerOf, lentAfter}
-use Rattle.model_desk.specs.Desk.{deskOn, deskAfter}
+use Rattle.model_desk.specs.Desk.{deskOn, deskAfter, planHeld}
 use Rattle.theory_finder.specs.Choices.{chosen}
 use Rattle.desk_files.specs.declared.Files.{Files}
 use Rattle.instance.specs.Decoded.{shownBy}
@@ -26,7 +28,7 @@ use Rattle.instance.specs.Loaded.{Loaded}
 use Rattle.desk_loaded.specs.declared.OnDesk.{OnDesk}
 use Rattle.desk_loaded.specs.Held.{heldPlan, held, stateNumber}
 use Rattle.desk_loaded.specs.OnDesk.{PlanIn, LoadedFrom, its-roster, its-plan, its-length}
-use Rattle.desk_files.specs.Held.{rosterBytes, planBytes, proposalBytes, heldProposal, beside, heldOf, beside-number}
+use Rattle.desk_files.specs.Held.{rosterBytes, planBytes, proposalBytes, heldProposal, beside, heldOf, beside-number, of-plan}
 use Rattle.desk_files.specs.Replies.{answered, lentThen, isAccepted, Stored, Replied}
 
 -- ---- a refusal by the state
@@ -48,6 +50,7 @@ same-desk d n (planToNew f b) = refl
 same-desk d n (planToOld f b) = refl
 same-desk d n (propose f) = refl
 same-desk d n commit = refl
+same-desk d n (spread b) = refl
 
 -- a call that needs a roster, and no proposal
 pub states : (h : Held) (c : Call) → T (needsRoster c) → T (not (needsProposal c)) → stateNumber h (needsPlan c) (lentShort c) ≡ stateRefusal h c
@@ -161,4 +164,32 @@ its-plan-held d F z = given (its-plan z F) (λ (R, M, a, b). (
   F .instance R a .1,
   F .planned R a tt M b .0,
   F .planned R a tt M b .1,
+))
+
+-- what a desk with a plan has read
+abbrev Both : (file plan : List ℕ) (R : Roster) (M : Plan) → Type 0
+Both file plan R M = (readRoster file ≡ accepted R) × (readPlan (instanceOf R) plan ≡ accepted M)
+
+both-read : (file plan proposal : List ℕ) (R : Roster) (M : Plan) → planHeld (beside proposal (held (readRoster file) plan)) ≡ some (R, M)
+    → Both file plan R M
+both-read file plan proposal R M = by-roster (readRoster file) refl
+  where
+    by-plan : (r : Roster) → readRoster file ≡ accepted r → (y : Reading Plan) → readPlan (instanceOf r) plan ≡ y
+        → planHeld (beside proposal (heldPlan r y)) ≡ some (R, M) → Both file plan R M
+    by-plan r a (accepted N) b z =
+        let e = Option·some-injective (r, N) (R, M) (of-plan none (λ r M. some (r, M)) r N (readPlan (instanceOf r) proposal) ∙ z) in
+        (a ∙ ap (λ x. accepted (x .0)) e, ap (λ x. readPlan (instanceOf (x .0)) plan) (sym e) ∙ b ∙ ap (λ x. accepted (x .1)) e)
+    by-plan r a (refused n) b z = absurd (Option·none-ne-some (R, M) z)
+
+    by-roster : (x : Reading Roster) → readRoster file ≡ x → planHeld (beside proposal (held x plan)) ≡ some (R, M) → Both file plan R M
+    by-roster (accepted r) a z = by-plan r a (readPlan (instanceOf r) plan) refl z
+    by-roster (refused n) a z = absurd (Option·none-ne-some (R, M) z)
+
+-- so the plan held is within the quotas of a roster within the limits
+pub held-within : (d : Files) {short : Bool} {l : OnDesk} → LoadedFrom (rosterBytes d) (planBytes d) true short l → (R : Roster) (M : Plan)
+    → planHeld (heldOf d) ≡ some (R, M) → T (fits R) × (M ∈ plansOf (instanceOf R))
+unfolding heldOf
+held-within d F R M h = given (both-read (rosterBytes d) (planBytes d) (proposalBytes d) R M h) (λ (a, b). (
+  F .fitting R a,
+  subst (λ G. M ∈ plansOf G) (F .instance R a .1) (F .planned R a tt M b .0 .within),
 ))

@@ -39,6 +39,11 @@ pub const DIARY_SIZE: usize = 1024;
 
 pub const LEFT_SIZE: usize = 3072;
 
+// W-209: "over days 1 to 9: one day byte for each entry in the plan's order, in a buffer of 64 bytes"
+pub const LAST_DAY: u8 = 9;
+
+pub const DAY_SIZE: usize = 64;
+
 // the size of a flat diary, five numbers a record
 pub const FLAT_SIZE: usize = 5120;
 

@@ -10,6 +10,7 @@ pub mod Roster
 pub mod RosterFile
 pub mod Edges
 pub mod PlanFile
+pub mod Days
 pub mod Finder
 pub mod Text
 pub mod Printed
@@ -22,4 +23,5 @@ pub mod Cases
 pub mod MoreCases
 pub mod RosterCases
 pub mod PlanCases
+pub mod DayCases
 pub mod GroupCases

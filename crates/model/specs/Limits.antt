@@ -1,4 +1,4 @@
--- The limits and sizes of document 01, as W-204 of document 02 has changed them, each under a name of its own, also where two are equal: they
+-- The limits and sizes of document 01 and of document 02's requests, each under a name of its own, also where two are equal: they
 -- are about different things.
 use Prim.Native.Nat.{ℕ}
 
@@ -57,6 +57,13 @@ leftSize = 3072
 -- W-214: "Either buffer needs 4,295 bytes": a route's count and 32 numbers, and the longest roster
 abbrev pub storedSize : ℕ
 storedSize = 4295
+
+-- W-209: "over days 1 to 9: one day byte for each entry in the plan's order, in a buffer of 64 bytes"
+abbrev pub lastDay : ℕ
+lastDay = 9
+
+abbrev pub daySize : ℕ
+daySize = 64
 
 -- W-204: "the program reads at most 4,263"
 abbrev pub inputSize : ℕ

@@ -1,6 +1,6 @@
 -- The desk, document 01's session state, and each call on it: what the call answers, every byte lent to it afterwards, and what the
 -- desk then holds. A `Call` is a call with the files and buffers lent to it; it also stands for the same buffers as they are afterwards.
--- Which rival is open: it is a field of a record `Choices`, with what holds of it.
+-- Which rival and which spreading is open: they are fields of a record `Choices`, with what holds of them.
 use Prim.Native.Nat.{ℕ, suc}
 use mathlib.Core.Bool.{Bool, true, false, not, cond, _&&_, _||_}
 use mathlib.Core.List.{List, _++_}
@@ -10,7 +10,7 @@ use lib.ListN.{length, drop}
 use lib.Dec.{T, ltb}
 use lib.IntN.{ℤ}
 use Rattle.lists.specs.Sum.{_∈_}
-use Rattle.model.specs.Limits.{planSize, rosterSize, diarySize, leftSize}
+use Rattle.model.specs.Limits.{planSize, rosterSize, diarySize, leftSize, daySize}
 use Rattle.model.specs.Refusal.{Group, groupOf}
 use Rattle.model.specs.Reading as reading
 use Rattle.model.specs.Reading.{Reading, accepted}
@@ -28,6 +28,7 @@ use Rattle.model_desk.specs.Compare as C
 use Rattle.model_desk.specs.Compare.{Comparison, Winner, Part, comparisonOf, partOf}
 use Rattle.model.specs.Blocking.{someBlocks, topBlocking}
 use Rattle.model_changes.specs.Changes.{joinOn, leaveOn, gone, carried}
+use Rattle.model.specs.Days.{Sheet}
 use Rattle.model_desk.specs.Seasons as S
 
 -- "nothing loaded, a roster, or a roster and a plan"; W-207: "A proposal stores the new plan beside the held one"
@@ -58,6 +59,7 @@ pub data Call : Type 0 where
   planToOld : (file buffer : List ℕ) → Call
   propose : (file : List ℕ) → Call  -- W-207
   commit : Call
+  spread : (buffer : List ℕ) → Call  -- W-209: a day for each entry of the held plan
 
 -- why there is none: so many pairs left, or the candidate's vote against its rival
 pub data NoneKind : Type 0 where
@@ -96,6 +98,7 @@ needsRoster (planToNew f b) = true
 needsRoster (planToOld f b) = true
 needsRoster (propose f) = true
 needsRoster commit = true
+needsRoster (spread b) = true
 
 abbrev pub needsPlan : Call → Bool
 needsPlan (loadRoster file) = false
@@ -112,6 +115,7 @@ needsPlan (planToNew f b) = false
 needsPlan (planToOld f b) = false
 needsPlan (propose f) = true
 needsPlan commit = true
+needsPlan (spread b) = true
 
 abbrev pub needsProposal : Call → Bool
 needsProposal (loadRoster file) = false
@@ -128,9 +132,10 @@ needsProposal (planToNew f b) = false
 needsProposal (planToOld f b) = false
 needsProposal (propose f) = false
 needsProposal commit = true
+needsProposal (spread b) = false
 
 -- "a buffer for a plan, candidate or rival needs" 193 bytes, "for a roster" 4,262 (W-204), "the diary and the left pairs 1,024 entries
--- each, however little is written"; W-205: "The buffer written to needs 4,262 or 193 bytes either way."
+-- each, however little is written"; W-205: "The buffer written to needs 4,262 or 193 bytes either way."; W-209: "in a buffer of 64 bytes, else 15"
 abbrev pub short : List ℕ → ℕ → Bool
 short buffer size = ltb (length buffer) size
 
@@ -152,6 +157,7 @@ lentShort (planToNew f b) = short b planSize
 lentShort (planToOld f b) = short b planSize
 lentShort (propose f) = false
 lentShort commit = false
+lentShort (spread b) = short b daySize
 
 abbrev pub noRoster : Held → Bool
 noRoster nothing = true
@@ -259,6 +265,7 @@ stateRefused n (planToNew f b) = refusal n
 stateRefused n (planToOld f b) = refusal n
 stateRefused n (propose f) = refusal n
 stateRefused n commit = refusal n
+stateRefused n (spread b) = refusal n
 
 -- ---- what is said of the roster held, of the roster and the plan held; x where they are not there, and the state refuses the call
 abbrev pub onRoster : {A : Type 0} → A → Held → (Roster → A) → A
@@ -278,11 +285,14 @@ abbrev pub planHeld : Held → Option (Roster × Plan)
 planHeld h = onPlan O.none h (λ r M. some (r, M))
 
 -- ---- the answer, and the bytes lent
--- "Only which rival and which blocking pair is open; what holds of them is said above." W-201 has closed the second.
+-- "Only which rival and which blocking pair is open; what holds of them is said above." W-201 has closed the second. W-209: "Which spreading is
+-- open."
 pub record Choices : Type 0 where
   pub rivalOf : Instance → Plan → Plan
   pub rival-holds : (r : Roster) → T (fits r) → (M : Plan) → M ∈ plansOf (instanceOf r)
       → T (not (isStrong (verdictOf (instanceOf r) M))) → Rival (instanceOf r) M (rivalOf (instanceOf r) M)
+  pub daysOf : Instance → Plan → List ℕ
+  pub days-hold : (r : Roster) → T (fits r) → (M : Plan) → M ∈ plansOf (instanceOf r) → Sheet (instanceOf r) M (daysOf (instanceOf r) M)
 
 module _ (ch : Choices) where
   -- the finder on a roster: its answer, and the bytes lent
@@ -317,6 +327,7 @@ module _ (ch : Choices) where
   answerOn h (planToOld f b) = onRoster (refusal 13) h (λ r. convertedAnswer (S.planToOld (instanceOf r) f))
   answerOn h (propose f) = onPlan (refusal 14) h (λ r M. let G = instanceOf r in proposalAnswer G M (readPlan G f))
   answerOn h commit = committed
+  answerOn h (spread b) = onPlan (refusal 14) h (λ r M. wrote (length (ch .daysOf (instanceOf r) M)))
 
   abbrev pub lentOn : Held → Call → Call
   lentOn h (loadRoster file) = loadRoster file
@@ -333,6 +344,7 @@ module _ (ch : Choices) where
   lentOn h (planToOld f b) = onRoster (planToOld f b) h (λ r. planToOld f (convertedOnto (S.planToOld (instanceOf r) f) b))
   lentOn h (propose f) = propose f
   lentOn h commit = commit
+  lentOn h (spread b) = onPlan (spread b) h (λ r M. spread (onto (ch .daysOf (instanceOf r) M) b))
 
   -- "13, 14, 15 come first", 20 among them
   unfoldable pub answerOf : Held → Call → Answer
@@ -390,6 +402,7 @@ deskOn h (planToNew f b) = h
 deskOn h (planToOld f b) = h
 deskOn h (propose f) = onPlan h h (λ r M. withProposal h r M (readPlan (instanceOf r) f))
 deskOn h commit = withCommit h
+deskOn h (spread b) = h
 
 -- so does a refusal by the state
 unfoldable pub deskAfter : Held → Call → Held

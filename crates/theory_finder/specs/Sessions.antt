@@ -13,7 +13,7 @@ use Rattle.lists.specs.Search.{low}
 use Rattle.lists.specs.First.{first, best}
 use Rattle.lists.specs.Keep.{all?}
 use Rattle.model.specs.Decimal.{bytes, numbersFrom, sameBytes}
-use Rattle.model.specs.Limits.{planSize, rosterSize, diarySize, leftSize}
+use Rattle.model.specs.Limits.{planSize, rosterSize, diarySize, leftSize, daySize}
 use Rattle.model.specs.Refusal.{Group, form, content, plan, desk, groupOf}
 use Rattle.model.specs.Reading.{readEach}
 use Rattle.model.specs.Roster.{listed, listedBack, bothOrNeither}
@@ -34,6 +34,9 @@ use Rattle.model_desk.specs.Desk.{Held, Call, Answer, NoneKind, opening, stateR
 use Rattle.theory_verdict.specs.LemmaX.{swapped}
 use Rattle.theory_verdict.specs.Search.{arc, layer, trace, terminal, directs, aloneAt, loopAt, pathAt, levels, search, rivalEdges}
 use Rattle.theory_verdict.specs.Rival.{rivalOf}
+use Rattle.theory_days.specs.Chain.{setDay, chase}
+use Rattle.theory_days.specs.Spread.{freeDay, withDay, spread}
+use Rattle.theory_days.specs.Sheets.{spreadBy}
 use Rattle.theory_finder.specs.Choices.{chosen}
 
 -- ---- an answer as numbers, so that two can be compared
@@ -131,14 +134,16 @@ abbrev states : Session
 states =
     (D.loadPlan (bytes "0"), D.refused 13 desk) ∷ (D.writeRosterTo [], D.refused 13 desk) ∷ (D.writePlanTo [], D.refused 13 desk)
     ∷ (D.find [] [] [] [], D.refused 13 desk) ∷ (D.join 9 [] [] [] [] [], D.refused 13 desk) ∷ (D.leave 0 [] [] [] [], D.refused 13 desk)
-    ∷ (D.judge [], D.refused 13 desk) ∷ (D.blocking, D.refused 13 desk)
+    ∷ (D.judge [], D.refused 13 desk) ∷ (D.blocking, D.refused 13 desk) ∷ (D.spread [], D.refused 13 desk)
     ∷ (D.compare (bytes "65") (bytes "0"), D.refusedPart 13 desk (nothingOf firstFile))
     ∷ (D.loadRoster sample, D.loaded) ∷ (D.writePlanTo [], D.refused 14 desk) ∷ (D.judge [], D.refused 14 desk) ∷ (D.blocking, D.refused 14 desk)
+    ∷ (D.spread [], D.refused 14 desk)
     ∷ (D.writeRosterTo (room 4261), D.refused 15 desk) ∷ (D.find (records 1023) (room leftSize) (room planSize) (room planSize), D.refused 15 desk)
     ∷ (D.find (records diarySize) (room 3071) (room planSize) (room planSize), D.refused 15 desk)
     ∷ (D.join 9 [] (records diarySize) (room leftSize) (room 192) (room planSize), D.refused 15 desk)
     ∷ (D.leave 0 (records diarySize) (room leftSize) (room planSize) (room 192), D.refused 15 desk)
-    ∷ (D.loadPlan (bytes "1 1 1 1"), D.loaded) ∷ (D.judge (room 192), D.refused 15 desk) ∷ (D.writePlanTo (room 192), D.refused 15 desk) ∷ []
+    ∷ (D.loadPlan (bytes "1 1 1 1"), D.loaded) ∷ (D.judge (room 192), D.refused 15 desk) ∷ (D.writePlanTo (room 192), D.refused 15 desk)
+    ∷ (D.spread (room 63), D.refused 15 desk) ∷ []
 
 -- a morning: refused loads leave roster and plan, a roster drops the plan, the looks in between leave the desk alike
 abbrev morning : Session
@@ -182,11 +187,20 @@ proposals =
     ∷ (leave 2, D.plan 1) ∷ (D.propose (bytes "0"), D.bothVotes (negsuc 1) (pos 2)) ∷ (leave 2, D.plan 1) ∷ (join 9 [], D.refused 3 content)
     ∷ (D.writePlanTo (room planSize), D.wrote 4) ∷ (D.commit, D.committed) ∷ (D.writePlanTo (room planSize), D.wrote 1) ∷ []
 
-pub sessions : all? (holds opening) (states ∷ morning ∷ digits ∷ field ∷ proposals ∷ []) ≡ true
+-- the foreman's sheet (W-209): the number of the held plan's entries, whatever is proposed beside it; a plan with none has none
+abbrev sheets : Session
+sheets =
+    (D.loadRoster shared, D.loaded) ∷ (D.loadPlan (bytes "2 1 1 1 2 1 1"), D.loaded) ∷ (D.spread (room daySize), D.wrote 2)
+    ∷ (D.propose (bytes "0"), D.bothVotes (negsuc 3) (pos 4)) ∷ (D.spread (room 100), D.wrote 2) ∷ (D.commit, D.committed)
+    ∷ (D.spread (room daySize), D.wrote 0) ∷ (leave 1, D.plan 1) ∷ (D.spread (room daySize), D.wrote 0)
+    ∷ (D.loadRoster (bytes "33"), D.refused 2 form) ∷ (D.spread (room daySize), D.wrote 0) ∷ (D.loadRoster shared, D.loaded)
+    ∷ (D.spread (room daySize), D.refused 14 desk) ∷ []
+
+pub sessions : all? (holds opening) (states ∷ morning ∷ digits ∷ field ∷ proposals ∷ sheets ∷ []) ≡ true
 unfolding numbersFrom count low groupOf listed listedBack bothOrNeither readEach readRosterBy writeRosterBy position edgesOf instanceOf deg nodeVote
     vote choices within plansOf samePlan beatenBy drawnWith verdictOf R.cut R.ahead R.arrow R.loose R.reserved R.betterS R.betterT R.worseReserved
     R.rule1 R.rule2 R.rule3 R.rule4 R.rule5 R.rule6 R.rule7 first Option·elim orElse R.rules R.stepBy R.firstStep R.act R.begin R.stepsFrom R.stateAfter
     R.stepsOf R.endOf planBytesBy edgeOfPair readPlanBy diaryOf leftOf candidateOf finderOf comparisonOf partOf blocks someBlocks topBlocking joined
     joinOn departed leaveOn carried stateRefusal answerOf deskAfter rivalOf rivalEdges swapped search directs aloneAt levels loopAt pathAt best arc layer
-    trace terminal
+    trace terminal setDay chase freeDay withDay spread spreadBy
 sessions = refl

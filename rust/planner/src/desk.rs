@@ -75,6 +75,17 @@ impl Desk {
         self.written(&reply)
     }
 
+    /// Spreads the held plan over days: writes a day for each entry, in the plan's
+    /// order, to the front of `out`, which needs [`crate::DAY_BYTES`], and gives
+    /// their number. No surveyor and no stand has two entries on one day. The days
+    /// are 1 to as many as the busiest node has entries, at most 8, and all of them
+    /// are used; no other spreading uses fewer. On a refusal no byte changes.
+    /// [`Desk::sheet`] gives the days with their entries.
+    pub fn spread(&self, out: &mut [u8]) -> Result<usize, Refusal> {
+        let reply = unsafe { ffi::crew_spread(self.clone(), out.as_mut_ptr(), out.len()) };
+        self.written(&reply)
+    }
+
     /// Turns an old plan file of the held roster into a new one, with shift 1
     /// throughout: writes it to the front of `out`, which needs
     /// [`crate::PLAN_BYTES`], and gives its length. No plan needs to be held, and a

@@ -6,6 +6,8 @@ pub const ROSTER_BYTES: usize = 4_262;
 pub const PLAN_BYTES: usize = 193;
 /// Bytes that a buffer for a roster with a route before it needs.
 pub const STORED_BYTES: usize = 4_295;
+/// Bytes that a buffer for the days of a plan needs.
+pub const DAY_BYTES: usize = 64;
 /// Records that a lent diary needs, and bytes of the buffer for the pairs left.
 pub const DIARY_RECORDS: usize = 1_024;
 pub const LEFT_BYTES: usize = 3_072;

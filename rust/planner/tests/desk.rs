@@ -13,7 +13,7 @@ use calls::winner;
 use change::Change;
 use common::{check_written, damage, held_by, junk, number, season_plan, shape, Met};
 use found::check_rival;
-use lent::{Buffers, SIZES};
+use lent::{check_days, Buffers, SIZES};
 use planner::{Desk, Verdict};
 use reference::desk::Desk as Held;
 use reference::limits::PAIR_FIELD;
@@ -103,6 +103,24 @@ fn write_plan(random: &mut Random, desk: &Desk, held: &Held) -> u8 {
         Ok((roster, plan)) => Ok(plan::write(roster, plan)),
     };
     check_written(answer, expected, &before, &out);
+    number(&answer)
+}
+
+/// The days of the held plan.
+fn spread(random: &mut Random, desk: &Desk, held: &Held) -> u8 {
+    let before = buffer(random, planner::DAY_BYTES);
+    let mut out = before.clone();
+    let answer = desk.spread(&mut out);
+    match held.roster_and_plan() {
+        Ok((roster, plan)) if before.len() >= planner::DAY_BYTES => {
+            let count = answer.expect("a plan is held");
+            check_days(roster, plan, &before, &out, count);
+        }
+        held => {
+            let expected = held.err().unwrap_or(Refusal::BufferTooSmall);
+            assert_eq!((number(&answer), out), (expected.number(), before));
+        }
+    }
     number(&answer)
 }
 
@@ -248,13 +266,14 @@ fn calls_one_after_another() {
         let mut desk = Desk::open();
         let mut held = Held::Nothing;
         for _ in 0..random.below(26) {
-            let refusal = match random.below(14) {
+            let refusal = match random.below(15) {
                 0 => write_roster(&mut random, &desk, &held),
                 1 => write_plan(&mut random, &desk, &held),
                 2 => judge(&mut random, &desk, &held),
                 3 => compare_two(&mut random, &desk, &held),
                 4 => blocking_pair(&desk, &held),
                 5 => turn_plan(&mut random, &desk, &held),
+                6 => spread(&mut random, &desk, &held),
                 _ => take(&mut random, &mut desk, &held),
             };
             met.count(refusal);
@@ -273,6 +292,7 @@ fn a_new_desk_has_nothing_loaded() {
     let mut out = [0; planner::ROSTER_BYTES];
     assert_eq!(number(&desk.write_roster(&mut out)), 13);
     assert_eq!(number(&desk.write_plan(&mut out[..1])), 13);
+    assert_eq!(number(&desk.spread(&mut out[..1])), 13);
     assert_eq!(number(&desk.judge(&mut out[..1])), 13);
     assert_eq!(number(&desk.blocking()), 13);
     assert_eq!(number(&desk.compare(&[0], &[0]).outcome), 13);

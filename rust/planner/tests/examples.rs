@@ -7,8 +7,11 @@ use std::error::Error;
 #[path = "../examples/desk.rs"]
 mod desk;
 #[allow(dead_code)]
-#[path = "../examples/nine_days.rs"]
-mod nine_days;
+#[path = "../examples/in_the_field.rs"]
+mod in_the_field;
+#[allow(dead_code)]
+#[path = "../examples/sheet.rs"]
+mod sheet;
 
 /// What an example tells.
 fn told(tell: impl FnOnce(&mut Vec<u8>) -> Result<(), Box<dyn Error>>) -> String {
@@ -25,7 +28,12 @@ fn a_morning_at_the_desk() {
 #[test]
 fn nine_days_in_the_field() {
     assert_eq!(
-        told(nine_days::tell),
-        include_str!("../examples/nine_days.out")
+        told(in_the_field::tell),
+        include_str!("../examples/in_the_field.out")
     );
+}
+
+#[test]
+fn a_sheet_for_the_foreman() {
+    assert_eq!(told(sheet::tell), include_str!("../examples/sheet.out"));
 }

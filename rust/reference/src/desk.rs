@@ -6,9 +6,10 @@
 use crate::blocking::first_blocking_pair;
 use crate::changes;
 use crate::compare::{compare, Comparison, Part, Votes};
+use crate::days;
 use crate::finder::{find_large, verdict_large, Answer, Why};
 use crate::lent::{enough, put};
-use crate::limits::{MAX_ENTRIES, MAX_PLAN_BYTES, MAX_ROSTER_BYTES, PAIR_FIELD};
+use crate::limits::{MAX_DAY_BYTES, MAX_ENTRIES, MAX_PLAN_BYTES, MAX_ROSTER_BYTES, PAIR_FIELD};
 use crate::plan::{self, Plan};
 use crate::plans::Verdict;
 use crate::reduction::{Fate, Step};
@@ -191,6 +192,15 @@ impl Desk {
         let answer = self.roster_and_plan().and_then(|(roster, held)| {
             enough(out.len(), MAX_PLAN_BYTES)?;
             Ok(put(out, &plan::write(roster, held)))
+        });
+        (self, answer)
+    }
+
+    /// Writes a day for each entry of the held plan and tells their number.
+    pub fn spread(self, out: &mut [u8]) -> (Desk, Result<usize, Refusal>) {
+        let answer = self.roster_and_plan().and_then(|(roster, held)| {
+            enough(out.len(), MAX_DAY_BYTES)?;
+            Ok(put(out, &days::spread(roster, held)))
         });
         (self, answer)
     }

@@ -18,6 +18,9 @@ pub const MAX_ENTRIES: usize = 1_024;
 /// The largest number of pairs in a plan; no plan can pass a side's quotas.
 pub const MAX_PLAN_PAIRS: usize = 64;
 
+/// The last day of a sheet; the first is 1.
+pub const LAST_DAY: u8 = 9;
+
 /// The rank of an empty place, one behind every rank a list can give.
 pub const EMPTY_RANK: u8 = 33;
 
@@ -44,6 +47,8 @@ pub const MAX_ROSTER_BYTES: usize = 2 * QUOTA_SECTION_BYTES
 pub const MAX_STORED_BYTES: usize = NARROW_FIELD * (1 + MAX_NODES) + MAX_ROSTER_BYTES;
 /// Bytes of the longest plan.
 pub const MAX_PLAN_BYTES: usize = NARROW_FIELD + PAIR_FIELD * MAX_PLAN_PAIRS;
+/// Bytes that a buffer for days needs: one for each pair of the largest plan.
+pub const MAX_DAY_BYTES: usize = NARROW_FIELD * MAX_PLAN_PAIRS;
 /// Bytes that the program reads: one more than the longest roster, so that a
 /// byte after the end is still seen.
 pub const MAX_INPUT_BYTES: usize = MAX_ROSTER_BYTES + 1;

@@ -9,7 +9,7 @@ use common::{desk, desk_with_plan, P10, P3, P4, P6, SHIFTS, SHIFTS_CROSSED};
 use lent::{record, Buffers, JUNK, SIZES};
 use reference::compare::File;
 use reference::desk::{Desk, Found, Judged, NoneKind};
-use reference::limits::{MAX_PLAN_BYTES, MAX_ROSTER_BYTES};
+use reference::limits::{MAX_DAY_BYTES, MAX_PLAN_BYTES, MAX_ROSTER_BYTES};
 use reference::refusal::Refusal;
 use reference::roster::Pair;
 
@@ -22,6 +22,7 @@ fn nothing_loaded_is_13_everywhere() {
     assert_eq!(nothing.clone().load_plan(&[]).1.err(), refused);
     assert_eq!(nothing.clone().write_roster(&mut small).1.err(), refused);
     assert_eq!(nothing.clone().write_plan(&mut small).1.err(), refused);
+    assert_eq!(nothing.clone().spread(&mut small).1.err(), refused);
     let mut buffers = Buffers::new([0; 4]);
     assert_eq!(nothing.clone().find(buffers.lend()).1.err(), refused);
     assert_eq!(nothing.clone().judge(&mut small).1.err(), refused);
@@ -34,6 +35,7 @@ fn no_plan_is_14_before_15() {
     let refused = Some(Refusal::NoPlanHeld);
     let mut small = [];
     assert_eq!(desk(P3).write_plan(&mut small).1.err(), refused);
+    assert_eq!(desk(P3).spread(&mut small).1.err(), refused);
     assert_eq!(desk(P3).judge(&mut small).1.err(), refused);
     assert_eq!(desk(P3).blocking().1.err(), refused);
 }
@@ -47,6 +49,8 @@ fn buffers_below_their_size_are_15() {
     let short_plan = &mut short[..MAX_PLAN_BYTES - 1];
     assert_eq!(held.clone().write_plan(short_plan).1.err(), refused);
     assert_eq!(held.clone().judge(short_plan).1.err(), refused);
+    let short_days = &mut short[..MAX_DAY_BYTES - 1];
+    assert_eq!(held.clone().spread(short_days).1.err(), refused);
     assert!(short.iter().all(|&byte| byte == JUNK));
     for place in 0..SIZES.len() {
         let mut sizes = SIZES;
@@ -149,6 +153,22 @@ fn comparison_and_blocking() {
     );
     let (_, blocking) = desk_with_plan(P3, &[1, 1, 1, 1]).blocking();
     assert_eq!(blocking, Ok(None));
+}
+
+#[test]
+fn days_are_written() {
+    let mut days = [JUNK; MAX_DAY_BYTES + 2];
+    // the stand has both entries, so on two days; which comes first is open
+    let held = desk_with_plan(P10, &[2, 1, 2, 1, 2, 2, 1]);
+    let (after, count) = held.clone().spread(&mut days);
+    assert_eq!((after, count), (held, Ok(2)));
+    let (front, behind) = days.split_at_mut(2);
+    front.sort_unstable();
+    assert_eq!(front, [1, 2]);
+    assert!(behind.iter().all(|&byte| byte == JUNK));
+    // an empty plan has none
+    let (_, count) = desk_with_plan(P10, &[0]).spread(&mut days);
+    assert_eq!((count, &days[..2]), (Ok(0), &[1, 2][..]));
 }
 
 #[test]

@@ -11,7 +11,7 @@ use common::damage;
 use lent::{Buffers, SIZES};
 use reference::desk::Desk;
 use reference::history::{pairs, Event, History};
-use reference::limits::{MAX_PLAN_BYTES, MAX_ROSTER_BYTES};
+use reference::limits::{MAX_DAY_BYTES, MAX_PLAN_BYTES, MAX_ROSTER_BYTES};
 use reference::plan;
 use reference::random::{self, fitting_list, small_shape, Random};
 use reference::refusal::Refusal;
@@ -238,7 +238,7 @@ fn call(random: &mut Random, tally: &mut Tally, session: &mut Session, rosters: 
 fn look(random: &mut Random, tally: &mut Tally, session: &mut Session) {
     let plan_size = size(random, MAX_PLAN_BYTES);
     let mut out = vec![0; plan_size];
-    match random.below(8) {
+    match random.below(9) {
         0 => {
             let mut out = vec![0; size(random, MAX_ROSTER_BYTES)];
             let write = |desk: Desk| done(desk.write_roster(&mut out));
@@ -271,6 +271,11 @@ fn look(random: &mut Random, tally: &mut Tally, session: &mut Session) {
         }
         5 => session.call(tally, "blocking", |desk| done(desk.blocking()), None),
         6 => {
+            let mut out = vec![0; size(random, MAX_DAY_BYTES)];
+            let spread = |desk: Desk| done(desk.spread(&mut out));
+            session.call(tally, "spread", spread, None);
+        }
+        7 => {
             let turn = |desk: Desk| done(desk.plan_to_new(&[0], &mut out));
             session.call(tally, "plan to new", turn, None);
         }
@@ -335,6 +340,7 @@ fn expected() -> Vec<(&'static str, Vec<u8>, Vec<Proposal>)> {
         ("judge", vec![0, 15], vec![None, Kept]),
         ("compare", vec![0, 10], vec![None, Kept]),
         ("blocking", vec![0], vec![None, Kept]),
+        ("spread", vec![0, 15], vec![None, Kept]),
         ("plan to new", vec![0, 15], vec![None, Kept]),
         ("plan to old", vec![0, 19], vec![None, Kept]),
         ("plan to old", turned.to_vec(), vec![None]),

@@ -4,7 +4,7 @@ mod common;
 
 use common::{entries, plan, roster, without_pairs};
 use reference::desk::{DIARY_RECORDS, LEFT_BYTES};
-use reference::limits::{MAX_INPUT_BYTES, MAX_PLAN_BYTES, MAX_ROSTER_BYTES};
+use reference::limits::{MAX_DAY_BYTES, MAX_INPUT_BYTES, MAX_PLAN_BYTES, MAX_ROSTER_BYTES};
 use reference::plan;
 use reference::reduction::reduce;
 use reference::refusal::Refusal;
@@ -128,6 +128,7 @@ fn the_longest_plan() {
     let file = longest_plan();
     assert_eq!(file.len(), 193);
     assert_eq!(MAX_PLAN_BYTES, 193);
+    assert_eq!(MAX_DAY_BYTES, 64);
     let full = plan::read(&roster, &file).expect("the longest plan");
     assert_eq!(plan::write(&roster, &full), file);
     let empty = plan(&roster, &[]);

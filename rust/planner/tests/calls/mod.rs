@@ -103,6 +103,7 @@ pub trait Calls: Sized {
     fn commit(self) -> (Self, Result<(), u8>);
     fn write_roster(self, out: &mut [u8]) -> (Self, Result<usize, u8>);
     fn write_plan(self, out: &mut [u8]) -> (Self, Result<usize, u8>);
+    fn spread(self, out: &mut [u8]) -> (Self, Result<usize, u8>);
     fn plan_to_new(self, file: &[u8], out: &mut [u8]) -> (Self, Result<usize, u8>);
     fn plan_to_old(self, file: &[u8], out: &mut [u8]) -> (Self, Result<usize, u8>);
     fn find(self, lent: Lent) -> (Self, Result<Found, u8>);
@@ -151,6 +152,11 @@ impl Calls for Desk {
 
     fn write_plan(self, out: &mut [u8]) -> (Desk, Result<usize, u8>) {
         let answer = self.0.write_plan(out).map_err(number);
+        (self, answer)
+    }
+
+    fn spread(self, out: &mut [u8]) -> (Desk, Result<usize, u8>) {
+        let answer = self.0.spread(out).map_err(number);
         (self, answer)
     }
 

@@ -4,9 +4,12 @@
 // Every test file compiles this module for itself and uses its part of it.
 #![allow(dead_code)]
 
+use reference::days::{busiest, is_sheet};
 use reference::desk::{Lent, Record, DIARY_RECORDS, LEFT_BYTES};
 use reference::limits::MAX_PLAN_BYTES;
+use reference::plan::Plan;
 use reference::random::Random;
+use reference::roster::{Pair, Roster};
 
 use crate::common::junk;
 
@@ -14,6 +17,18 @@ use crate::common::junk;
 pub fn only_front(before: &[u8], after: &[u8], front: &[u8]) {
     assert_eq!(&after[..front.len()], front);
     assert_eq!(after[front.len()..], before[front.len()..]);
+}
+
+/// Whether a buffer begins with a sheet of the plan, of so many days, and is as it
+/// was behind it: the days go from 1 to the entries of the busiest node, without a
+/// gap. Which sheet it is, is open.
+pub fn check_days(roster: &Roster, plan: &Plan, before: &[u8], after: &[u8], count: usize) {
+    let pairs: Vec<Pair> = plan.pairs(roster).collect();
+    let days = &after[..count];
+    assert!(is_sheet(&pairs, days), "{pairs:?}: {days:?}");
+    let last = days.iter().max().map_or(0, |&last| usize::from(last));
+    assert_eq!(last, busiest(&pairs), "{pairs:?}: {days:?}");
+    only_front(before, after, days);
 }
 
 /// Bytes of a diary's record.

@@ -2,18 +2,18 @@
 //! desk: the same answers, the same bytes in every lent buffer, and after each
 //! call the same held, to the byte of the desk's own files. The held plan is also
 //! what the calls and their answers tell by themselves, with no desk at all. Of a
-//! rival only what document 01 settles is asked.
+//! rival and of a spreading over days only what the papers settle is asked.
 
 use crate::calls::Calls;
 use crate::change::Change;
 use crate::common::{damage, files_of, junk, BEAT_EACH_OTHER, NUMBERS, P7_TWICE};
 use crate::found::{check_rival, same_found};
-use crate::lent::{Buffers, SIZES};
+use crate::lent::{check_days, Buffers, SIZES};
 use reference::desk::{Desk as Held, Judged};
 use reference::history::{pairs, Event, History};
 use reference::layout::Layout;
 use reference::limits::{
-    MAX_PLAN_BYTES, MAX_ROSTER_BYTES, NARROW_FIELD, OLD_PAIR_FIELD, PAIR_FIELD,
+    MAX_DAY_BYTES, MAX_PLAN_BYTES, MAX_ROSTER_BYTES, NARROW_FIELD, OLD_PAIR_FIELD, PAIR_FIELD,
 };
 use reference::plan;
 use reference::random::{self, Random, Shape};
@@ -21,7 +21,7 @@ use reference::refusal::Refusal;
 use reference::roster;
 
 /// The calls, as rows of the tally.
-const CALLS: [&str; 14] = [
+const CALLS: [&str; 15] = [
     "load roster",
     "load plan",
     "write roster",
@@ -36,6 +36,7 @@ const CALLS: [&str; 14] = [
     "plan to old",
     "propose",
     "commit",
+    "spread",
 ];
 
 /// How often each call answered and was refused by each number, 0 for none; how
@@ -273,6 +274,25 @@ impl<D: Calls> Desks<D> {
         }
     }
 
+    fn spread(self, tally: &mut Tally, before: &[u8]) -> Desks<D> {
+        let [mut own, mut other] = [before.to_vec(), before.to_vec()];
+        let (ours, answer) = self.ours.spread(&mut own);
+        let (theirs, expected) = self.theirs.spread(&mut other);
+        tally.refusals(14, &answer, &expected);
+        match answer {
+            Ok(count) => {
+                let (roster, plan) = theirs.roster_and_plan().expect("roster and plan");
+                check_days(roster, plan, before, &own, count);
+            }
+            Err(_) => assert_eq!(own, before),
+        }
+        Desks {
+            ours,
+            theirs,
+            ..self
+        }
+    }
+
     fn plan_to_new(self, tally: &mut Tally, file: &[u8], before: &[u8]) -> Desks<D> {
         let [mut own, mut other] = [before.to_vec(), before.to_vec()];
         let (ours, answer) = self.ours.plan_to_new(file, &mut own);
@@ -419,7 +439,7 @@ impl<D: Calls> Desks<D> {
 
     /// A random call.
     fn call(self, random: &mut Random, tally: &mut Tally, pool: &Pool) -> Desks<D> {
-        match random.below(25) {
+        match random.below(26) {
             0 | 1 => self.load_roster(tally, pool.roster(random)),
             2..=4 => self.load_plan(tally, pool.plan(random)),
             5 => {
@@ -447,6 +467,10 @@ impl<D: Calls> Desks<D> {
             }
             16..=18 => self.propose(tally, pool.plan(random)),
             19 | 20 => self.commit(tally),
+            21 => {
+                let size = size(random, MAX_DAY_BYTES);
+                self.spread(tally, &junk(random, size))
+            }
             _ => {
                 let change = Change::random(random, &self.theirs);
                 self.change(tally, &change, &buffers(random))
@@ -515,6 +539,7 @@ pub fn run<D: Calls>(mut open: impl FnMut() -> D, seed: u64, sequences: usize, l
         &[&turned[..], &[19]].concat(),
         &[&plan_refusals[..], &[14]].concat(),
         &[0, 13, 14, 20],
+        &[0, 13, 14, 15],
     ];
     for (call, numbers) in expected.iter().enumerate() {
         for &number in *numbers {

@@ -6,6 +6,7 @@
 //! Refusals are bare numbers here, 0 for none.
 
 pub mod blocking;
+pub mod days;
 pub mod districts;
 pub mod finder;
 pub mod offers;

@@ -7,6 +7,7 @@
 
 mod blocking;
 mod changes;
+mod days;
 mod districts;
 mod files;
 mod finder;
@@ -60,6 +61,8 @@ fn main() {
     votes::run();
     println!();
     blocking::run();
+    println!();
+    days::run();
     println!();
     verdict::run();
     println!();

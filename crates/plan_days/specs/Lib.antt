@@ -1,0 +1,5 @@
+pub mod Chase
+pub mod Walk
+pub mod Tied
+pub mod DayByDay
+pub mod Bytes
