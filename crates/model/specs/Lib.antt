@@ -21,7 +21,6 @@ pub mod Claims
 pub mod ClaimCases
 pub mod Cases
 pub mod MoreCases
-pub mod ReportCases
 pub mod RosterCases
 pub mod PlanCases
 pub mod DayCases
