@@ -39,7 +39,7 @@ pub(crate) fn voted(
     let qs = g.quota_s;
     let qt = g.quota_t;
     let both = vote_plans::plan_votes(g.m, g.ns, g.nt, &sv, &st, &rs, &rt, p, pn, pe, q, qn, qe);
-    vote_pairings::plan_pairings(
+    vote_pairings::both_pairings(
         g.m,
         g.ns,
         g.nt,
@@ -56,23 +56,6 @@ pub(crate) fn voted(
         qn,
         qe,
         forward,
-    );
-    vote_pairings::plan_pairings(
-        g.m,
-        g.ns,
-        g.nt,
-        &sv,
-        &st,
-        &rs,
-        &rt,
-        qs,
-        qt,
-        q,
-        qn,
-        qe,
-        p,
-        pn,
-        pe,
         back,
     );
     let v = both.first;

@@ -2,16 +2,18 @@
 use Prim.Native.Nat.{ℕ, _+_, _*_, _≤_, _<_}
 use native.Mathlib.Omega.{arith}
 use native.Mathlib.Decide.{decLt}
-use mathlib.Core.Path.{_≡_, sym, ap, ap₂, _∙_, subst}
+use mathlib.Core.Path.{_≡_, refl, sym, ap, ap₂, _∙_, subst}
 use mathlib.Core.Logic.{by-cases}
 use mathlib.Core.Bool.{Bool, false, not}
-use mathlib.Core.List.{List, _++_}
+use mathlib.Core.List.{List, [], _∷_, _++_}
 use lib.ListN.{length, getD, take, drop, List·getD-eq-default}
 use Rattle.lists.specs.Sum.{_∈_, sum, range, ∈-range, upTo}
-use Rattle.lists.specs.Keep.{getD-∈}
+use Rattle.lists.specs.Test.{by-bool}
+use Rattle.lists.specs.Keep.{keep, getD-∈}
 use Rattle.lists.specs.Ranges.{gather-cong}
 use Rattle.model.specs.Limits.{nodeLimit, quotaLimit}
 use Rattle.model.specs.Instance.{Side, deg}
+use Rattle.model.specs.PlanFile.{edgesIn}
 use Rattle.model.specs.Facing.{facing, facingBytes, sideBytes, pairingBytes}
 use Rattle.model_desk.specs.Desk.{onto}
 use Rattle.theory_instance.specs.Lawful.{Within}
@@ -20,6 +22,7 @@ use Rattle.theory_votes.specs.PairingBytes.{side-bytes-length}
 use Rattle.arrays.specs.ArrayInstance.{at, flag, shown}
 use Rattle.vote_own_ranks.specs.declared.Ranked.{Ranked}
 use Rattle.vote_own_ranks.specs.Own.{blank, Gathered, GatheredShared}
+use Rattle.vote_own_ranks.specs.Kept.{ranksAt}
 use Rattle.vote_plans.specs.Node.{Sound, own}
 use Rattle.vote_plans.specs.Plan.{Arrays, Light, sideOf, within-light}
 use Rattle.vote_plans.specs.Side.{gathered-sound, gathered-is, gathered-ready}
@@ -44,6 +47,25 @@ abbrev pub PlanWritten : (m ns nt : ℕ) (sv st rankS rankT quotaS quotaT : List
 PlanWritten m ns nt sv st rankS rankT quotaS quotaT p q before after = (sh : List ℕ) (tied : List Bool)
     → after ≡ onto (pairingBytes (shown m ns nt sv st rankS rankT sh tied quotaS quotaT) (flag p) (flag q)) before
 
+-- what is kept of each node are the ranks of the edges that both plans have
+abbrev pub SharedIn : (m : ℕ) (end rank : List ℕ) (p q : List Bool) → List Ranked → Type 0
+SharedIn m end rank p q s = (v : ℕ) → v < nodeLimit → Sound (ranksAt (at end) (at rank) (λ e. not (flag q e)) v (edgesIn m (flag p))) (getD s v blank)
+
+-- the same from the other plan's side
+ranks-shared : (end rank : ℕ → ℕ) (p q : ℕ → Bool) (v : ℕ) (es : List ℕ)
+    → ranksAt end rank (λ e. not (q e)) v (keep p es) ≡ ranksAt end rank (λ e. not (p e)) v (keep q es)
+unfolding ranksAt
+ranks-shared end rank p q v [] = refl
+ranks-shared end rank p q v (e ∷ es) = by-bool (p e)
+    (λ s. by-bool (q e) (λ t. simp (s, t, ranks-shared end rank p q v es)) (λ t. simp (s, t, ranks-shared end rank p q v es)))
+    (λ s. by-bool (q e) (λ t. simp (s, t, ranks-shared end rank p q v es)) (λ t. simp (s, t, ranks-shared end rank p q v es)))
+
+pub shared-back : (m : ℕ) (end rank : List ℕ) (p q : List Bool) (s : List Ranked) → SharedIn m end rank p q s → SharedIn m end rank q p s
+shared-back m end rank p q s S v h = subst (λ xs. Sound xs (getD s v blank)) (ranks-shared (at end) (at rank) (flag p) (flag q) v (range 0 m)) (S v h)
+
+pub faced-back : (m n : ℕ) (end rank quota : List ℕ) (p q : List Bool) → Faced m n end rank quota p q → Faced m n end rank quota q p
+faced-back m n end rank quota p q F = record { arrays = F .arrays; few = F .few; first = F .second; second = F .first }
+
 module _ (m n : ℕ) (end rank quota : List ℕ) (p q : List Bool) (F : Faced m n end rank quota p q) where
   -- ties do not matter to the quotas
   within : (tie : ℕ → Bool) → Within (sideOf m n end rank tie (at quota)) (flag p) × Within (sideOf m n end rank tie (at quota)) (flag q)
@@ -56,8 +78,11 @@ module _ (m n : ℕ) (end rank quota : List ℕ) (p q : List Bool) (F : Faced m 
     within-light m n end rank (λ e. false) (at quota) q (F .few) (F .second),
   )
 
+  pub shared-in : (pn : ℕ) (pe : List ℕ) → Listed m p pn pe → (s : List Ranked) → GatheredShared pn pe end rank q s → SharedIn m end rank p q s
+  shared-in pn pe P s G = gathered-sound m n end rank (F .arrays) p pn pe P (light .0) (λ e. not (flag q e)) s G
+
   module _ (pn qn : ℕ) (pe qe : List ℕ) (P : Listed m p pn pe) (Q : Listed m q qn qe) (a b s : List Ranked)
-      (Ga : Gathered pn pe end rank q a) (Gb : Gathered qn qe end rank p b) (Gs : GatheredShared pn pe end rank q s) where
+      (Ga : Gathered pn pe end rank q a) (Gb : Gathered qn qe end rank p b) (S : SharedIn m end rank p q s) where
     module _ (tie : ℕ → Bool) (v : ℕ) (inside : v < n) where
       abbrev K : Side
       K = sideOf m n end rank tie (at quota)
@@ -72,7 +97,7 @@ module _ (m n : ℕ) (end rank quota : List ℕ) (p q : List Bool) (F : Faced m 
       second = gathered-sound m n end rank (F .arrays) q qn qe Q (light .1) (flag p) b Gb v low
 
       both : Sound (own K (flag p) (λ e. not (flag q e)) v) (getD s v blank)
-      both = gathered-sound m n end rank (F .arrays) p pn pe P (light .0) (λ e. not (flag q e)) s Gs v low
+      both = S v low
 
       keys-are : keysAt a b s quota v ≡ nodePairs (own K (flag p) (flag q) v) (own K (flag q) (flag p) v) (getD s v blank) .keys
       keys-are = ap₂ (λ x y. nodePairs x y (getD s v blank) .keys)

@@ -122,6 +122,102 @@ pub fn plan_pairings(
     side_pairings(m, nt, st, rt, qt, p, pn, pe, q, qn, qe, out, middle);
 }
 
+// The pairings of one side for both votes, that of p against q and that of q against p, each from a place of its buffer on; the place behind them.
+// The ranks that each plan has alone, and those that both have, are listed once for both.
+pub fn both_sides_pairings(
+    m: usize,
+    n: usize,
+    end: &[u8; 1024],
+    rank: &[u8; 1024],
+    quota: [u8; 32],
+    p: &[bool; 1024],
+    pn: usize,
+    pe: &[u16; 64],
+    q: &[bool; 1024],
+    qn: usize,
+    qe: &[u16; 64],
+    forward: &mut [u8],
+    back: &mut [u8],
+    from: usize,
+) -> usize
+    requires { ⌜ Faced m n (now end) (now rank) quota (now p) (now q) × Listed m (now p) pn (now pe) × Listed m (now q) qn (now qe) ⌝ }
+    requires { ⌜ (from + 2 * sum (at quota) (upTo n) ≤ length (now forward)) × (from + 2 * sum (at quota) (upTo n) ≤ length (now back)) ⌝ }
+    ensures { λ r. ⌜ r ≡ from + 2 * sum (at quota) (upTo n) ⌝ }
+    ensures { λ _. ⌜ SideWritten m n (now (end .entry)) (now (rank .entry)) quota (now (p .entry)) (now (q .entry)) from
+        (now (forward .entry)) (now (forward .exit)) ⌝ }
+    ensures { λ _. ⌜ SideWritten m n (now (end .entry)) (now (rank .entry)) quota (now (q .entry)) (now (p .entry)) from
+        (now (back .entry)) (now (back .exit)) ⌝ }
+{
+    let a = vote_own_ranks::own_ranks(pn, pe, end, rank, q);
+    let b = vote_own_ranks::own_ranks(qn, qe, end, rank, p);
+    let shared = vote_own_ranks::shared_ranks(pn, pe, end, rank, q);
+    side_pairs(n, a, b, shared, quota, forward, from);
+    side_pairs(n, b, a, shared, quota, back, from)
+}
+
+// The pairings of both votes of two plans, p with pn edges that pe lists, q likewise, at the fronts of two buffers.
+pub fn both_pairings(
+    m: usize,
+    ns: usize,
+    nt: usize,
+    sv: &[u8; 1024],
+    st: &[u8; 1024],
+    rs: &[u8; 1024],
+    rt: &[u8; 1024],
+    qs: [u8; 32],
+    qt: [u8; 32],
+    p: &[bool; 1024],
+    pn: usize,
+    pe: &[u16; 64],
+    q: &[bool; 1024],
+    qn: usize,
+    qe: &[u16; 64],
+    forward: &mut [u8],
+    back: &mut [u8],
+)
+    requires { ⌜ Faced m ns (now sv) (now rs) qs (now p) (now q) × Faced m nt (now st) (now rt) qt (now p) (now q) ⌝ }
+    requires { ⌜ Listed m (now p) pn (now pe) × Listed m (now q) qn (now qe) ⌝ }
+    requires { ⌜ (2 * (sum (at qs) (upTo ns) + sum (at qt) (upTo nt)) ≤ length (now forward))
+        × (2 * (sum (at qs) (upTo ns) + sum (at qt) (upTo nt)) ≤ length (now back)) ⌝ }
+    ensures { λ _. ⌜ PlanWritten m ns nt (now (sv .entry)) (now (st .entry)) (now (rs .entry)) (now (rt .entry)) qs qt (now (p .entry)) (now (q .entry))
+        (now (forward .entry)) (now (forward .exit)) ⌝ }
+    ensures { λ _. ⌜ PlanWritten m ns nt (now (sv .entry)) (now (st .entry)) (now (rs .entry)) (now (rt .entry)) qs qt (now (q .entry)) (now (p .entry))
+        (now (back .entry)) (now (back .exit)) ⌝ }
+{
+    let middle = both_sides_pairings(
+        m,
+        ns,
+        sv,
+        rs,
+        qs,
+        p,
+        pn,
+        pe,
+        q,
+        qn,
+        qe,
+        &mut *forward,
+        &mut *back,
+        0,
+    );
+    both_sides_pairings(
+        m,
+        nt,
+        st,
+        rt,
+        qt,
+        p,
+        pn,
+        pe,
+        q,
+        qn,
+        qe,
+        forward,
+        back,
+        middle,
+    );
+}
+
 // ---- two plans within the quotas of an accepted roster, from the flags of their edges
 // The pairings of the vote of plan p against plan q, at the front of a buffer of 256 bytes.
 pub fn pairings_between(g: Instance, p: &[bool; 1024], q: &[bool; 1024], out: &mut [u8])

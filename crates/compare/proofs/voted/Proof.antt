@@ -23,10 +23,10 @@ plan-votes-requires c κs =
     let b = light g (s .pre .0 .0) (s .args .q .now) (q .matching) in
     (side-arrays g (s .pre .0 .0), ((a .0, b .0, a .1, b .1), (p .listed, q .listed)))
 
-plan-pairings-requires : tie.Need-plan-pairings-requires
-plan-pairings-requires c κs =
-    let far = c .before .before .before .before .before .before .before .before .before .before .before .before in
-    let s = far .before .before .before .before .before .before in
+both-pairings-requires : tie.Need-both-pairings-requires
+both-pairings-requires c κs =
+    let s = c .before .before .before .before .before .before .before .before .before .before .before .before .before .before .before .before .before
+    .before .before in
     let a = s .args in
     let L = s .pre .0 .0 in
     let p = s .pre .0 .1 in
@@ -34,32 +34,19 @@ plan-pairings-requires c κs =
       both-faced (a .g) L (a .p .now) (a .q .now) (p .matching) (q .matching),
       (
         (p .listed, q .listed),
-        room (a .g) L (a .p .now) (a .q .now) (p .matching) (q .matching) (length (a .forward .now)) (s .pre .1 .0),
-      ),
-    )
-
-plan-pairings-requires-2 : tie.Need-plan-pairings-requires-2
-plan-pairings-requires-2 c κs =
-    let far = c .before .before .before .before .before .before .before .before .before .before .before .before in
-    let s = far .before .before .before .before .before .before .before .before .before .before .before .before .before .before in
-    let a = s .args in
-    let L = s .pre .0 .0 in
-    let p = s .pre .0 .1 in
-    let q = s .pre .0 .2 in (
-      both-faced (a .g) L (a .q .now) (a .p .now) (q .matching) (p .matching),
-      (
-        (q .listed, p .listed),
-        room (a .g) L (a .q .now) (a .p .now) (q .matching) (p .matching) (length (a .back .now)) (s .pre .1 .1),
+        (
+          room (a .g) L (a .p .now) (a .q .now) (p .matching) (q .matching) (length (a .forward .now)) (s .pre .1 .0),
+          room (a .g) L (a .p .now) (a .q .now) (p .matching) (q .matching) (length (a .back .now)) (s .pre .1 .1),
+        ),
       ),
     )
 
 returns : tie.Need-returns
 returns c =
-    let far = c .before .before .before .before .before .before .before .before .before .before .before .before in
-    let both = far .before .before .before .before .before .before .before .plan-votes in
-    let far = c .before .before .before .before .before .before .before .before .before .before .before .before in
-    let s = far .before .before .before .before .before .before .before .before .before .before .before .before .before .before .before .before .before
-    .before .before .before in
+    let both = c .before .before .before .before .before .before .before .before .before .before .before .before .before .before .plan-votes in
+    let r = c .before .before .before .before .before .before .before .both-pairings in
+    let s = c .before .before .before .before .before .before .before .before .before .before .before .before .before .before .before .before .before
+    .before .before .before .before .before .before .before .before .before .before in
     let a = s .args in
     let g = a .g in
     let kv = toZ-ofZ w16 (both .result .first) (sfits-of (c .before .before .struct-told .given .0 .1)) in
@@ -67,14 +54,10 @@ returns c =
       ap₂ (λ y z. Votes y z (c .winner-of .result)) kv kw
           ∙ votes-are g (a .p .now) (a .q .now) (s .pre .0 .1 .matching) (s .pre .0 .2 .matching) (both .ensures)
           (c .winner-of .ensures ∙ ap₂ (λ y z. winnerCase (winnerOf y z)) kv kw),
-      record {
-        first = c .before .before .before .before .before .before .before .before .before .before .before .before .before .plan-pairings .ensures (g .sh)
-            (g .tied);
-        second = c .before .before .before .before .before .plan-pairings2 .ensures (g .sh) (g .tied);
-      },
+      record { first = r .ensures .0 (g .sh) (g .tied); second = r .ensures .1 (g .sh) (g .tied) },
     )
 
 pub voted-spec : {M : Type 1} → statement M
 voted-spec =
-    tie.close (tie.spec plan-votes-requires plan-pairings-requires plan-pairings-requires-2 (λ c κs. search needs) (λ c. search needs)
+    tie.close (tie.spec plan-votes-requires both-pairings-requires (λ c κs. search needs) (λ c. search needs)
     (λ c. search needs) returns)

@@ -3,7 +3,7 @@ use mathlib.Core.Path.{ap, _∙_}
 use borrow.Author.Needs.{needs}
 use Rattle.vote_plans.specs.Side.{listed-edges}
 use Rattle.vote_pairings.specs.SideBytes.{written}
-use Rattle.vote_pairings.specs.SidePairings.{node-ready, side-is}
+use Rattle.vote_pairings.specs.SidePairings.{shared-in, node-ready, side-is}
 use Rattle.vote_pairings.proofs.side_pairings.Statement.{statement}
 use Rattle.vote_pairings.proofs.side_pairings.Tie as tie
 
@@ -29,12 +29,14 @@ side-pairs-requires : tie.Need-side-pairs-requires
 side-pairs-requires c κs =
     let r = c .before in
     let s = r .before .before .before .before in
-    let a = s .args in (
+    let a = s .args in
+    let S = shared-in (a .m) (a .n) (a .end .now) (a .rank .now) (a .quota) (a .p .now) (a .q .now) (s .pre .0 .0) (a .pn) (a .pe .now) (s .pre .0 .1)
+    (r .shared-ranks .result) (r .shared-ranks .ensures) in (
       (
         s .pre .0 .0 .arrays .nodes,
         node-ready (a .m) (a .n) (a .end .now) (a .rank .now) (a .quota) (a .p .now) (a .q .now) (s .pre .0 .0) (a .pn) (a .qn) (a .pe .now) (a .qe .now)
             (s .pre .0 .1) (s .pre .0 .2) (r .before .before .own-ranks .result) (r .before .own-ranks2 .result) (r .shared-ranks .result)
-            (r .before .before .own-ranks .ensures) (r .before .own-ranks2 .ensures) (r .shared-ranks .ensures),
+            (r .before .before .own-ranks .ensures) (r .before .own-ranks2 .ensures) S,
       ),
       s .pre .1,
     )
@@ -44,12 +46,14 @@ returns c =
     let w = c .before .before in
     let r = w .before .before in
     let s = r .before .before .before .before in
-    let a = s .args in (
+    let a = s .args in
+    let S = shared-in (a .m) (a .n) (a .end .now) (a .rank .now) (a .quota) (a .p .now) (a .q .now) (s .pre .0 .0) (a .pn) (a .pe .now) (s .pre .0 .1)
+    (r .shared-ranks .result) (r .shared-ranks .ensures) in (
       w .side-pairs .ensures .0,
       λ tie. w .side-pairs .ensures .1 ∙ ap (λ bs. written (a .from) bs (a .out .now))
           (side-is (a .m) (a .n) (a .end .now) (a .rank .now) (a .quota) (a .p .now) (a .q .now) (s .pre .0 .0) (a .pn) (a .qn) (a .pe .now) (a .qe .now)
           (s .pre .0 .1) (s .pre .0 .2) (r .before .before .own-ranks .result) (r .before .own-ranks2 .result) (r .shared-ranks .result)
-          (r .before .before .own-ranks .ensures) (r .before .own-ranks2 .ensures) (r .shared-ranks .ensures) tie),
+          (r .before .before .own-ranks .ensures) (r .before .own-ranks2 .ensures) S tie),
     )
 
 pub side-pairings-spec : {M : Type 1} → statement M
