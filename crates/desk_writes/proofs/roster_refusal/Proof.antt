@@ -1,0 +1,30 @@
+-- `desk_writes::roster_refusal` meets its contract. Assumes nothing.
+use mathlib.Core.Path.{sym, ap, _∙_}
+use mathlib.Core.Bool.{cond}
+use Rattle.roster_reading.specs.Place.{bytes-of}
+use Rattle.desk_writes.specs.Writing.{judged-not, judged}
+use borrow.Author.Needs.{needs}
+use Rattle.desk_writes.proofs.roster_refusal.Statement.{statement}
+use Rattle.desk_writes.proofs.roster_refusal.Tie as tie
+
+returns : tie.Need-returns
+returns c =
+    let k = c .before .before .before .before in
+    let a = k .before .args in
+    judged (a .roster .now) (a .short) (bytes-of (a .roster .now) (λ i. k .shared-slice-known .given i))
+    (sym (c .before .enum-told2 .given .1) ∙ c .before .before .before .read-roster .ensures) 15 (sym (ap (λ b. cond b 15 0) (c .if1 .taken)))
+
+returns-2 : tie.Need-returns-2
+returns-2 c =
+    let a = c .before .before .before .before .args in
+    judged-not (a .roster .now) (a .short) (sym (c .enum-told .given .1) ∙ c .before .before .read-roster .ensures)
+
+returns-3 : tie.Need-returns-3
+returns-3 c =
+    let k = c .before .before .before .before in
+    let a = k .before .args in
+    judged (a .roster .now) (a .short) (bytes-of (a .roster .now) (λ i. k .shared-slice-known .given i))
+    (sym (c .before .enum-told2 .given .1) ∙ c .before .before .before .read-roster .ensures) 0 (sym (ap (λ b. cond b 15 0) (c .if1 .left)))
+
+pub roster-refusal-spec : {M : Type 1} → statement M
+roster-refusal-spec = tie.close (tie.spec (λ c κs. search needs) (λ c. search needs) (λ c. search needs) returns returns-2 returns-3)
