@@ -6,7 +6,7 @@ use lib.ListN.{length, length-drop}
 use lib.IntN.{ℤ, pos}
 use Rattle.model_desk.specs.Compare as compare
 use Rattle.model_desk.specs.Desk.{Answer, refused, loaded, wrote, plan, none, strong, popular, beaten, votes, refusedPart}
-use Rattle.model_desk.specs.Desk.{blockedBy, unblocked, bothVotes, committed}
+use Rattle.model_desk.specs.Desk.{blockedBy, unblocked, bothVotes, committed, leastVote}
 use Rattle.answers.specs.declared.Group.{Group}
 use Rattle.answers.specs.declared.Winner.{Winner}
 use Rattle.answers.specs.declared.Winner.the-variants as winner
@@ -46,6 +46,7 @@ comparedIn (blockedBy s t k) = noVotes
 comparedIn unblocked = noVotes
 comparedIn (bothVotes v w) = noVotes
 comparedIn committed = noVotes
+comparedIn (leastVote v n) = noVotes
 
 -- ---- the numbers of each case of a comparison
 abbrev pub voted : (winner file from length : ℕ) → ℤ → ℤ → Compared

@@ -7,13 +7,14 @@ use Rattle.model.specs.Reading as reading
 use Rattle.model.specs.Reading.{Reading, accepted}
 use Rattle.model.specs.Refusal as model
 use Rattle.model_desk.specs.Desk.{NoneKind, left, rivalled, Answer, refused, loaded, wrote, plan, none, strong, popular, beaten, votes, refusedPart}
-use Rattle.model_desk.specs.Desk.{blockedBy, unblocked, bothVotes, committed}
+use Rattle.model_desk.specs.Desk.{blockedBy, unblocked, bothVotes, committed, leastVote}
 use Rattle.model_files.specs.Profile as profile
 use Rattle.answers.specs.FileCases.{fileShown, fileCase}
 use Rattle.abi_numbers.specs.declared.Outcome.{Outcome}
 use Rattle.abi_numbers.specs.declared.Judged.{Judged}
 use Rattle.abi_numbers.specs.declared.Blocker.{Blocker}
 use Rattle.abi_numbers.specs.declared.Proposed.{Proposed}
+use Rattle.abi_numbers.specs.declared.LeastNumbers.{LeastNumbers}
 use Rattle.abi_numbers.specs.declared.FoundNumbers.{FoundNumbers}
 use Rattle.abi_numbers.specs.declared.OffersNumbers.{OffersNumbers}
 
@@ -39,6 +40,7 @@ refusalIn (blockedBy s t k) = 0
 refusalIn unblocked = 0
 refusalIn (bothVotes v w) = 0
 refusalIn committed = 0
+refusalIn (leastVote v n) = 0
 
 -- a refusal, or 0 and the length written
 abbrev pub lengthIn : Answer → ℕ
@@ -56,6 +58,7 @@ lengthIn (blockedBy s t k) = 0
 lengthIn unblocked = 0
 lengthIn (bothVotes v w) = 0
 lengthIn committed = 0
+lengthIn (leastVote v n) = 0
 
 abbrev pub outcomeIn : Answer → Outcome
 outcomeIn a = record { refusal = refusalIn a; length = lengthIn a }
@@ -79,6 +82,7 @@ judgedIn (blockedBy s t k) = noVerdict 0
 judgedIn unblocked = noVerdict 0
 judgedIn (bothVotes v w) = noVerdict 0
 judgedIn committed = noVerdict 0
+judgedIn (leastVote v n) = noVerdict 0
 
 -- the numbers of a blocking pair: surveyor, stand, shift
 abbrev pub pairIn : Answer → ℕ × ℕ × ℕ
@@ -96,6 +100,7 @@ pairIn (blockedBy s t k) = (s, t, k)
 pairIn unblocked = (0, 0, 0)
 pairIn (bothVotes v w) = (0, 0, 0)
 pairIn committed = (0, 0, 0)
+pairIn (leastVote v n) = (0, 0, 0)
 
 abbrev pub blockerIn : Answer → Blocker
 blockerIn a = record { refusal = refusalIn a; surveyor = pairIn a .0; stand = pairIn a .1; shift = pairIn a .2 }
@@ -119,6 +124,28 @@ proposedIn (blockedBy s t k) = noProposal
 proposedIn unblocked = noProposal
 proposedIn (bothVotes v w) = record { refusal = 0; «proposal_vote» = v; «held_vote» = w }
 proposedIn committed = noProposal
+proposedIn (leastVote v n) = noProposal
+
+-- W-211: the least vote, and the length of the choice written
+abbrev noLeast : ℕ → LeastNumbers
+noLeast n = record { refusal = n; vote = pos 0; length = 0 }
+
+abbrev pub leastIn : Answer → LeastNumbers
+leastIn (refused n g) = noLeast n
+leastIn loaded = noLeast 0
+leastIn (wrote n) = noLeast 0
+leastIn (plan n) = noLeast 0
+leastIn (none n k) = noLeast 0
+leastIn strong = noLeast 0
+leastIn (popular v) = noLeast 0
+leastIn (beaten v) = noLeast 0
+leastIn (votes v w x p) = noLeast 0
+leastIn (refusedPart n g p) = noLeast n
+leastIn (blockedBy s t k) = noLeast 0
+leastIn unblocked = noLeast 0
+leastIn (bothVotes v w) = noLeast 0
+leastIn committed = noLeast 0
+leastIn (leastVote v n) = record { refusal = 0; vote = v; length = n }
 
 -- what the finder found
 abbrev pub nothingFound : FoundNumbers
@@ -143,6 +170,7 @@ foundIn (blockedBy s t k) = nothingFound
 foundIn unblocked = nothingFound
 foundIn (bothVotes v w) = nothingFound
 foundIn committed = nothingFound
+foundIn (leastVote v n) = nothingFound
 
 -- W-212: whether the plan of the offers is strong, and the length written
 abbrev pub offersIn : profile.Answer → OffersNumbers

@@ -37,6 +37,7 @@ foundCase (model.blockedBy s t k) = found.Plan 0
 foundCase model.unblocked = found.Plan 0
 foundCase (model.bothVotes v w) = found.Plan 0
 foundCase model.committed = found.Plan 0
+foundCase (model.leastVote v n) = found.Plan 0
 
 kind-shown : (k : NoneKind) → kindCase (kindShown k) ≡ k
 kind-shown (kind.Left k) = refl

@@ -32,6 +32,7 @@ bytesIn (model.blockedBy s t k) = 0
 bytesIn model.unblocked = 0
 bytesIn (model.bothVotes v w) = 0
 bytesIn model.committed = 0
+bytesIn (model.leastVote v n) = 0
 
 pub refused-no-bytes : {A : Type 0} {n m : ℕ} → model.refusal m ≡ model.wrote n → A
 refused-no-bytes e = absurd (let z : ⊥ = omega (arith, ap bytesIn e) in z)

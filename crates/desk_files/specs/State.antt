@@ -18,7 +18,7 @@ use Rattle.model.specs.Plans.{Plan, plansOf}
 use Rattle.model.specs.PlanFile as plans
 use Rattle.model.specs.PlanFile.{readPlan}
 use Rattle.model_desk.specs.Desk.{Held, Call, loadRoster, loadPlan, writeRosterTo, writePlanTo, find, join, leave, judge, compare, blocking, Answer}
-use Rattle.model_desk.specs.Desk.{planToNew, planToOld, propose, commit, spread, needsProposal, noProposal}
+use Rattle.model_desk.specs.Desk.{planToNew, planToOld, propose, commit, spread, least, needsProposal, noProposal}
 use Rattle.model_desk.specs.Desk.{needsRoster, needsPlan, lentShort, noRoster, noPlan, stateRefusal, answerOn, lentOn, stateRefused, answerOf, lentAfter}
 use Rattle.model_desk.specs.Desk.{deskOn, deskAfter, planHeld}
 use Rattle.theory_finder.specs.Choices.{chosen}
@@ -51,6 +51,7 @@ same-desk d n (planToOld f b) = refl
 same-desk d n (propose a f k) = refl
 same-desk d n commit = refl
 same-desk d n (spread b) = refl
+same-desk d n (least a b c w) = refl
 
 -- a call that needs a roster, and no proposal
 pub states : (h : Held) (c : Call) → T (needsRoster c) → T (not (needsProposal c)) → stateNumber h (needsPlan c) (lentShort c) ≡ stateRefusal h c

@@ -50,6 +50,7 @@ isVotes (D.blockedBy s t k) = false
 isVotes D.unblocked = false
 isVotes (D.bothVotes v w) = false
 isVotes D.committed = false
+isVotes (D.leastVote v n) = false
 
 abbrev isAccepted : Reading Plan → Bool
 isAccepted (accepted M) = true

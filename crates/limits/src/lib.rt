@@ -47,6 +47,11 @@ pub const DAY_SIZE: usize = 64;
 // W-208: "Each vote's pairings need a buffer of 256 bytes"
 pub const PAIRING_SIZE: usize = 256;
 
+// W-211: "a rank byte for each range, in a buffer of 2,048 bytes"; "high above 32" is refused
+pub const CHOICE_SIZE: usize = 2048;
+
+pub const RANK_LIMIT: u8 = 32;
+
 // the size of a flat diary, five numbers a record
 pub const FLAT_SIZE: usize = 5120;
 

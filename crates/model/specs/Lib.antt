@@ -12,6 +12,7 @@ pub mod RosterFile
 pub mod Edges
 pub mod PlanFile
 pub mod Days
+pub mod Ranges
 pub mod Finder
 pub mod Text
 pub mod Printed
@@ -25,5 +26,6 @@ pub mod MoreCases
 pub mod RosterCases
 pub mod PlanCases
 pub mod DayCases
+pub mod RangeCases
 pub mod GroupCases
 pub mod FacingCases

@@ -6,7 +6,7 @@ use mathlib.Core.Bool.{true, false}
 use mathlib.Core.List.{[], _∷_, map}
 use lib.ListN.{length}
 use Rattle.model.specs.Limits.{nodeLimit, entryLimit, listLimit, planLimit, entryWidth, pairWidth, emptyRank, planSize, rosterSize, diarySize, leftSize}
-use Rattle.model.specs.Limits.{quotaLimit, lastDay, daySize, storedSize, inputSize, oldRosterSize, oldPlanSize}
+use Rattle.model.specs.Limits.{quotaLimit, lastDay, daySize, rankLimit, choiceSize, storedSize, inputSize, oldRosterSize, oldPlanSize}
 use Rattle.model.specs.Reading.{isBytes}
 use Rattle.model.specs.Roster.{Entry}
 use Rattle.model.specs.RosterFile.{shifted, plain}
@@ -37,6 +37,10 @@ sizes = (refl, refl, refl, refl, refl, refl, refl, refl, refl)
 -- a day byte for each pair of the longest plan; of the days there is one more than any node has entries
 pub days : (daySize ≡ planLimit) × (lastDay ≡ suc quotaLimit)
 days = (refl, refl)
+
+-- a rank byte for each entry of both sides' longest lists; the highest rank is that of the last entry of the longest list, and below an empty place's
+pub ranks : (choiceSize ≡ entryLimit + entryLimit) × (rankLimit ≡ listLimit) × (suc rankLimit ≡ emptyRank)
+ranks = (refl, refl, refl)
 
 -- how long a list may be, whatever the other side's count, and in an old roster as that count
 pub lists-end : (shifted .longest 7 ≡ listLimit) × (plain .longest 7 ≡ 7)

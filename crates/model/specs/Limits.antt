@@ -69,6 +69,14 @@ daySize = 64
 abbrev pub pairingSize : ℕ
 pairingSize = 256
 
+-- W-211: "high above 32" is refused: the highest rank of an entry; an empty place stays worse
+abbrev pub rankLimit : ℕ
+rankLimit = 32
+
+-- W-211: "a rank byte for each range, in a buffer of 2,048 bytes": at most 1,024 entries on either side
+abbrev pub choiceSize : ℕ
+choiceSize = 2048
+
 -- W-204: "the program reads at most 4,263"
 abbrev pub inputSize : ℕ
 inputSize = 4263

@@ -1,7 +1,8 @@
 -- The desk, document 01's session state, and each call on it: what the call answers, every byte lent to it afterwards, and what the
 -- desk then holds. A `Call` is a call with the files and buffers lent to it; it also stands for the same buffers as they are afterwards.
--- Which rival and which spreading is open: they are fields of a record `Choices`, with what holds of them.
+-- Which rival, which spreading and which choice of ranks is open: they are fields of a record `Choices`, with what holds of them.
 use Prim.Native.Nat.{ℕ, suc}
+use mathlib.Core.Path.{_≡_}
 use mathlib.Core.Bool.{Bool, true, false, not, cond, _&&_, _||_}
 use mathlib.Core.List.{List, _++_}
 use mathlib.Core.Option as O
@@ -10,10 +11,10 @@ use lib.ListN.{length, drop}
 use lib.Dec.{T, ltb}
 use lib.IntN.{ℤ}
 use Rattle.lists.specs.Sum.{_∈_}
-use Rattle.model.specs.Limits.{planSize, rosterSize, diarySize, leftSize, daySize, pairingSize}
+use Rattle.model.specs.Limits.{planSize, rosterSize, diarySize, leftSize, daySize, pairingSize, choiceSize}
 use Rattle.model.specs.Refusal.{Group, groupOf}
 use Rattle.model.specs.Reading as reading
-use Rattle.model.specs.Reading.{Reading, accepted}
+use Rattle.model.specs.Reading.{Reading, accepted, isBytes}
 use Rattle.model.specs.Roster.{Roster, fits}
 use Rattle.model.specs.RosterFile.{readRoster, writeRoster}
 use Rattle.model.specs.Edges.{instanceOf}
@@ -30,6 +31,7 @@ use Rattle.model_desk.specs.Compare.{Comparison, Winner, Part, compariso
 use Rattle.model.specs.Blocking.{someBlocks, topBlocking}
 use Rattle.model_changes.specs.Changes.{joinOn, leaveOn, gone, carried}
 use Rattle.model.specs.Days.{Sheet}
+use Rattle.model.specs.Ranges.{Question, readQuestion, ranked, Least}
 use Rattle.model_desk.specs.Seasons as S
 
 -- "nothing loaded, a roster, or a roster and a plan"; W-207: "A proposal stores the new plan beside the held one"
@@ -61,6 +63,7 @@ pub data Call : Type 0 where
   propose : (file forward back : List ℕ) → Call  -- W-207; the pairings of the proposal's vote, of the held plan's
   commit : Call
   spread : (buffer : List ℕ) → Call  -- W-209: a day for each entry of the held plan
+  least : (first second ranges buffer : List ℕ) → Call  -- W-211: two plans and ranges of ranks
 
 -- why there is none: so many pairs left, or the candidate's vote against its rival
 pub data NoneKind : Type 0 where
@@ -82,6 +85,7 @@ pub data Answer : Type 0 where
   unblocked : Answer
   bothVotes : (proposal held : ℤ) → Answer  -- W-207, "and returns both votes": the proposal's against the held plan, and the reverse
   committed : Answer
+  leastVote : ℤ → (bytes : ℕ) → Answer  -- W-211: "the least vote", and how many bytes of the choice are written
 
 -- "13, 14, 15 come first, in that order", and 20 after 14 (W-207): what a call needs
 abbrev pub needsRoster : Call → Bool
@@ -100,6 +104,7 @@ needsRoster (planToOld f b) = true
 needsRoster (propose a f k) = true
 needsRoster commit = true
 needsRoster (spread b) = true
+needsRoster (least a b c w) = true
 
 abbrev pub needsPlan : Call → Bool
 needsPlan (loadRoster file) = false
@@ -117,6 +122,7 @@ needsPlan (planToOld f b) = false
 needsPlan (propose a f k) = true
 needsPlan commit = true
 needsPlan (spread b) = true
+needsPlan (least a b c w) = false
 
 abbrev pub needsProposal : Call → Bool
 needsProposal (loadRoster file) = false
@@ -134,10 +140,11 @@ needsProposal (planToOld f b) = false
 needsProposal (propose a f k) = false
 needsProposal commit = true
 needsProposal (spread b) = false
+needsProposal (least a b c w) = false
 
 -- "a buffer for a plan, candidate or rival needs" 193 bytes, "for a roster" 4,262 (W-204), "the diary and the left pairs 1,024 entries
 -- each, however little is written"; W-205: "The buffer written to needs 4,262 or 193 bytes either way."; W-208:
--- "Each vote's pairings need a buffer of 256 bytes, else 15"; W-209: "in a buffer of 64 bytes, else 15"
+-- "Each vote's pairings need a buffer of 256 bytes, else 15"; W-209: "in a buffer of 64 bytes, else 15"; W-211: "in a buffer of 2,048 bytes, else 15"
 abbrev pub short : List ℕ → ℕ → Bool
 short buffer size = ltb (length buffer) size
 
@@ -160,6 +167,7 @@ lentShort (planToOld f b) = short b planSize
 lentShort (propose a f k) = short f pairingSize || short k pairingSize
 lentShort commit = false
 lentShort (spread b) = short b daySize
+lentShort (least a b c w) = short w choiceSize
 
 abbrev pub noRoster : Held → Bool
 noRoster nothing = true
@@ -278,6 +286,7 @@ stateRefused n (planToOld f b) = refusal n
 stateRefused n (propose a f k) = refusal n
 stateRefused n commit = refusal n
 stateRefused n (spread b) = refusal n
+stateRefused n (least a b c w) = refusal n
 
 -- ---- what is said of the roster held, of the roster and the plan held; x where they are not there, and the state refuses the call
 abbrev pub onRoster : {A : Type 0} → A → Held → (Roster → A) → A
@@ -298,13 +307,17 @@ planHeld h = onPlan O.none h (λ r M. some (r, M))
 
 -- ---- the answer, and the bytes lent
 -- "Only which rival and which blocking pair is open; what holds of them is said above." W-201 has closed the second. W-209: "Which spreading is
--- open."
+-- open." W-211: "one choice that reaches it (which one is open)".
 pub record Choices : Type 0 where
   pub rivalOf : Instance → Plan → Plan
   pub rival-holds : (r : Roster) → T (fits r) → (M : Plan) → M ∈ plansOf (instanceOf r)
       → T (not (isStrong (verdictOf (instanceOf r) M))) → Rival (instanceOf r) M (rivalOf (instanceOf r) M)
   pub daysOf : Instance → Plan → List ℕ
   pub days-hold : (r : Roster) → T (fits r) → (M : Plan) → M ∈ plansOf (instanceOf r) → Sheet (instanceOf r) M (daysOf (instanceOf r) M)
+  pub choiceOf : Roster → Question → List ℕ
+  pub choice-holds : (r : Roster) → T (fits r) → (first second ranges : List ℕ) → T (isBytes first) → T (isBytes second)
+      → (q : Question) → readQuestion r first second ranges ≡ accepted q
+      → Least r (q .ranges) (q .first) (q .second) (voteOf (ranked r (choiceOf r q)) (q .first) (q .second)) (choiceOf r q)
 
 module _ (ch : Choices) where
   -- the finder on a roster: its answer, and the bytes lent
@@ -323,6 +336,15 @@ module _ (ch : Choices) where
   changedBytes call (accepted r) = foundBytes call r
   changedBytes call (reading.refused n) = call
 
+  -- W-211: the least vote and the choice that reaches it
+  abbrev pub leastAnswer : Roster → Reading Question → Answer
+  leastAnswer r (accepted q) = leastVote (voteOf (ranked r (ch .choiceOf r q)) (q .first) (q .second)) (length (ch .choiceOf r q))
+  leastAnswer r (reading.refused n) = refusal n
+
+  abbrev pub leastOnto : Roster → Reading Question → List ℕ → List ℕ
+  leastOnto r (accepted q) w = onto (ch .choiceOf r q) w
+  leastOnto r (reading.refused n) w = w
+
   -- a call that the state lets pass
   abbrev pub answerOn : Held → Call → Answer
   answerOn h (loadRoster file) = loadedRoster (readRoster file)
@@ -340,6 +362,7 @@ module _ (ch : Choices) where
   answerOn h (propose a f k) = onPlan (refusal 14) h (λ r M. let G = instanceOf r in proposalAnswer G M (readPlan G a))
   answerOn h commit = committed
   answerOn h (spread b) = onPlan (refusal 14) h (λ r M. wrote (length (ch .daysOf (instanceOf r) M)))
+  answerOn h (least a b c w) = onRoster (refusal 13) h (λ r. leastAnswer r (readQuestion r a b c))
 
   abbrev pub lentOn : Held → Call → Call
   lentOn h (loadRoster file) = loadRoster file
@@ -358,6 +381,7 @@ module _ (ch : Choices) where
       onPlan (propose a f k) h (λ r M. let G = instanceOf r in pairingsOnto (propose a) (proposalPairings G M (readPlan G a)) f k)
   lentOn h commit = commit
   lentOn h (spread b) = onPlan (spread b) h (λ r M. spread (onto (ch .daysOf (instanceOf r) M) b))
+  lentOn h (least a b c w) = onRoster (least a b c w) h (λ r. least a b c (leastOnto r (readQuestion r a b c) w))
 
   -- "13, 14, 15 come first", 20 among them
   unfoldable pub answerOf : Held → Call → Answer
@@ -416,6 +440,7 @@ deskOn h (planToOld f b) = h
 deskOn h (propose a f k) = onPlan h h (λ r M. withProposal h r M (readPlan (instanceOf r) a))
 deskOn h commit = withCommit h
 deskOn h (spread b) = h
+deskOn h (least a b c w) = h
 
 -- so does a refusal by the state
 unfoldable pub deskAfter : Held → Call → Held

@@ -13,7 +13,7 @@ use Rattle.lists.specs.Search.{low}
 use Rattle.lists.specs.First.{first, best}
 use Rattle.lists.specs.Keep.{all?}
 use Rattle.model.specs.Decimal.{bytes, numbersFrom, sameBytes}
-use Rattle.model.specs.Limits.{planSize, rosterSize, diarySize, leftSize, daySize, pairingSize}
+use Rattle.model.specs.Limits.{planSize, rosterSize, diarySize, leftSize, daySize, pairingSize, choiceSize}
 use Rattle.model.specs.Refusal.{Group, form, content, plan, desk, groupOf}
 use Rattle.model.specs.Reading.{readEach}
 use Rattle.model.specs.Roster.{listed, listedBack, bothOrNeither}
@@ -24,6 +24,7 @@ use Rattle.model.specs.Vote.{nodeVote, vote}
 use Rattle.model.specs.Plans.{choices, within, plansOf, samePlan, beatenBy, drawnWith, verdictOf}
 use Rattle.model.specs.Reduction as R
 use Rattle.model.specs.PlanFile.{planBytesBy, edgeOfPair, readPlanBy}
+use Rattle.model.specs.Ranges.{readRanges, readQuestion, placeS, placeT, ranked}
 use Rattle.model.specs.Finder.{Record, diaryOf, leftOf, candidateOf, finderOf}
 use Rattle.model_desk.specs.Compare.{Winner, File, Part, firstFile, secondFile, comparisonOf, partOf}
 use Rattle.model_desk.specs.Compare as C
@@ -37,6 +38,8 @@ use Rattle.theory_verdict.specs.Rival.{rivalOf}
 use Rattle.theory_days.specs.Chain.{setDay, chase}
 use Rattle.theory_days.specs.Spread.{freeDay, withDay, spread}
 use Rattle.theory_days.specs.Sheets.{spreadBy}
+use Rattle.theory_ranges.specs.Places.{ahead, placeIn}
+use Rattle.theory_ranges.specs.Worst.{worstBy}
 use Rattle.theory_finder.specs.Choices.{chosen}
 
 -- ---- an answer as numbers, so that two can be compared
@@ -82,6 +85,7 @@ code (D.blockedBy s t k) = 11 ∷ s ∷ t ∷ k ∷ []
 code D.unblocked = 12 ∷ []
 code (D.bothVotes v w) = 13 ∷ voteCode v ++ voteCode w
 code D.committed = 14 ∷ []
+code (D.leastVote v n) = 15 ∷ n ∷ voteCode v
 
 -- ---- a session: each call with its answer, from what is held on
 abbrev Session : Type 0
@@ -203,11 +207,24 @@ sheets =
     ∷ (D.loadRoster (bytes "33"), D.refused 2 form) ∷ (D.spread (room daySize), D.wrote 0) ∷ (D.loadRoster shared, D.loaded)
     ∷ (D.spread (room daySize), D.refused 14 desk) ∷ []
 
-pub sessions : all? (holds opening) (states ∷ morning ∷ digits ∷ field ∷ proposals ∷ sheets ∷ []) ≡ true
+-- rankings not yet settled (W-211): 13, 15, then the plans and the ranges; the least vote over the ranges, and the ordinary one where they are settled
+abbrev least : (ranges : List ℕ) → Call
+least ranges = D.least (bytes "1 1 1 1") (bytes "1 2 1 1") ranges (room choiceSize)
+
+abbrev unsettled : Session
+unsettled =
+    (D.least [] [] [] [], D.refused 13 desk) ∷ (D.loadRoster sample, D.loaded) ∷ (D.least [] [] [] (room 2047), D.refused 15 desk)
+    ∷ (D.least (bytes "1 3 1 1") [] [] (room choiceSize), D.refused 10 plan) ∷ (D.least (bytes "0") (bytes "65") [] (room choiceSize), D.refused 2 form)
+    ∷ (least (bytes "1 2 1 1 1 4 2"), D.refused 1 form) ∷ (least (bytes "1 2 1 1 5 4 2 3 1"), D.refused 21 content)
+    ∷ (least (bytes "1 2 1 1 1 4 2 3 1"), D.refused 9 form) ∷ (least (bytes "1 2 1 1 1 4 2 3"), D.leastVote (negsuc 0) 4)
+    ∷ (least (bytes "1 1 1 1 1 1 2 2"), D.leastVote (pos 1) 4) ∷ (least (bytes "1 32 1 32 3 3 3 3"), D.leastVote (pos 0) 4)
+    ∷ (judge, D.refused 14 desk) ∷ []
+
+pub sessions : all? (holds opening) (states ∷ morning ∷ digits ∷ field ∷ proposals ∷ sheets ∷ unsettled ∷ []) ≡ true
 unfolding numbersFrom count low groupOf listed listedBack bothOrNeither readEach readRosterBy writeRosterBy position edgesOf instanceOf deg nodeVote
     vote choices within plansOf samePlan beatenBy drawnWith verdictOf R.cut R.ahead R.arrow R.loose R.reserved R.betterS R.betterT R.worseReserved
     R.rule1 R.rule2 R.rule3 R.rule4 R.rule5 R.rule6 R.rule7 first Option·elim orElse R.rules R.stepBy R.firstStep R.act R.begin R.stepsFrom R.stateAfter
     R.stepsOf R.endOf planBytesBy edgeOfPair readPlanBy diaryOf leftOf candidateOf finderOf comparisonOf partOf blocks someBlocks topBlocking joined
     joinOn departed leaveOn carried stateRefusal answerOf deskAfter rivalOf rivalEdges swapped search directs aloneAt levels loopAt pathAt best arc layer
-    trace terminal setDay chase freeDay withDay spread spreadBy
+    trace terminal setDay chase freeDay withDay spread spreadBy readRanges readQuestion placeS placeT ranked ahead placeIn worstBy
 sessions = refl

@@ -49,6 +49,14 @@ pub struct ProposalVotes {
     pub held: i16,
 }
 
+/// The least vote of one plan against another over ranges of ranks.
+#[derive(Clone, Copy, Debug, PartialEq, Eq)]
+pub struct Least {
+    pub vote: i16,
+    /// How many ranks were written, one for each range.
+    pub ranks: usize,
+}
+
 /// What the finder answers, and a change of the roster with it, with the number
 /// of steps that are in the diary.
 #[derive(Clone, Copy, Debug, PartialEq, Eq)]
@@ -101,6 +109,13 @@ pub(crate) fn proposal_votes(proposed: &ffi::Proposed) -> Result<ProposalVotes, 
     refusal::check(proposed.refusal).map(|()| ProposalVotes {
         proposal: proposed.proposal_vote,
         held: proposed.held_vote,
+    })
+}
+
+pub(crate) fn least(least: &ffi::Least) -> Result<Least, Refusal> {
+    refusal::check(least.refusal).map(|()| Least {
+        vote: least.vote,
+        ranks: least.length,
     })
 }
 

@@ -3,7 +3,7 @@
 //! value and comes back; the calls that only look at it hand the same desk back,
 //! which is asserted in builds with debug assertions.
 
-use crate::answers::{self, Comparison, Found, ProposalVotes, Verdict};
+use crate::answers::{self, Comparison, Found, Least, ProposalVotes, Verdict};
 use crate::ffi;
 use crate::layout::{Desk, Step};
 use crate::refusal::{self, Refusal};
@@ -188,6 +188,40 @@ impl Desk {
         };
         debug_assert!(*self == reply.desk);
         answers::comparison(&reply.compared, first, second)
+    }
+
+    /// The least vote of the plan of one file against that of another, where the
+    /// ranks in the lists are known only from a low to a high number. `ranges` has
+    /// these two for each list entry in the roster's order: the surveyors' lists and
+    /// then the stands', each from its first entry on, a stand's tied entries behind
+    /// its strict ones. A rank within each range goes to the front of `ranks`, which
+    /// needs [`crate::RANK_BYTES`]: with these the vote is the least that any choice
+    /// within the ranges allows, equal ranks included. Where both numbers of every
+    /// range are the rank in the roster, it is the first vote of [`Desk::compare`].
+    /// The first plan is judged in full, then the second, then the ranges; on a
+    /// refusal no byte changes.
+    pub fn least(
+        &self,
+        first: &[u8],
+        second: &[u8],
+        ranges: &[u8],
+        ranks: &mut [u8],
+    ) -> Result<Least, Refusal> {
+        let reply = unsafe {
+            ffi::crew_least(
+                self.clone(),
+                first.as_ptr(),
+                first.len(),
+                second.as_ptr(),
+                second.len(),
+                ranges.as_ptr(),
+                ranges.len(),
+                ranks.as_mut_ptr(),
+                ranks.len(),
+            )
+        };
+        debug_assert!(*self == reply.desk);
+        answers::least(&reply.least)
     }
 
     /// The first blocking pair of the held plan, by the numbers of its surveyor

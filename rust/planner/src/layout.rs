@@ -10,6 +10,8 @@ pub const STORED_BYTES: usize = 4_295;
 pub const DAY_BYTES: usize = 64;
 /// Bytes that a buffer for the pairings of a vote needs.
 pub const PAIRING_BYTES: usize = 256;
+/// Bytes that a buffer for the ranks of a choice needs.
+pub const RANK_BYTES: usize = 2_048;
 /// Records that a lent diary needs, and bytes of the buffer for the pairs left.
 pub const DIARY_RECORDS: usize = 1_024;
 pub const LEFT_BYTES: usize = 3_072;

@@ -13,7 +13,7 @@ use calls::winner;
 use change::Change;
 use common::{check_written, damage, held_by, junk, length, number, season_plan, shape, Met};
 use found::check_rival;
-use lent::{check_days, only_front, Buffers, Pairings, SIZES};
+use lent::{check_days, check_ranks, only_front, ranges_file, Buffers, Pairings, SIZES};
 use planner::{Desk, Verdict};
 use reference::desk::Desk as Held;
 use reference::limits::PAIR_FIELD;
@@ -119,6 +119,41 @@ fn spread(random: &mut Random, desk: &Desk, held: &Held) -> u8 {
         held => {
             let expected = held.err().unwrap_or(Refusal::BufferTooSmall);
             assert_eq!((number(&answer), out), (expected.number(), before));
+        }
+    }
+    number(&answer)
+}
+
+/// The least vote of two plan files over ranges of ranks.
+fn least(random: &mut Random, desk: &Desk, held: &Held) -> u8 {
+    let before = buffer(random, planner::RANK_BYTES);
+    let [first, second] = [(); 2].map(|()| plan_file(random, held));
+    let mut ranges = held
+        .roster()
+        .map_or(vec![1, 1], |roster| ranges_file(random, roster));
+    if random.chance(40) {
+        damage(random, &mut ranges);
+    }
+    let mut out = before.clone();
+    let answer = desk.least(&first, &second, &ranges, &mut out);
+    let (_, expected) = held
+        .clone()
+        .least(&first, &second, &ranges, &mut before.clone());
+    match (&answer, &expected) {
+        (Ok(least), Ok((vote, ranks))) => {
+            assert_eq!((least.vote, least.ranks), (*vote, *ranks));
+            let roster = held.roster().expect("a roster");
+            check_ranks(
+                roster,
+                [&first, &second, &ranges],
+                &before,
+                &out,
+                (*vote, *ranks),
+            );
+        }
+        _ => {
+            let expected = expected.err().map_or(0, |refusal| refusal.number());
+            assert_eq!((number(&answer), out), (expected, before));
         }
     }
     number(&answer)
@@ -266,7 +301,7 @@ fn calls_one_after_another() {
         let mut desk = Desk::open();
         let mut held = Held::Nothing;
         for _ in 0..random.below(26) {
-            let refusal = match random.below(15) {
+            let refusal = match random.below(16) {
                 0 => write_roster(&mut random, &desk, &held),
                 1 => write_plan(&mut random, &desk, &held),
                 2 => judge(&mut random, &desk, &held),
@@ -274,6 +309,7 @@ fn calls_one_after_another() {
                 4 => blocking_pair(&desk, &held),
                 5 => turn_plan(&mut random, &desk, &held),
                 6 => spread(&mut random, &desk, &held),
+                7 => least(&mut random, &desk, &held),
                 _ => take(&mut random, &mut desk, &held),
             };
             met.count(refusal);
@@ -283,7 +319,10 @@ fn calls_one_after_another() {
             held = held_by(&desk);
         }
     }
-    met.require(&[0, 1, 2, 10, 11, 12, 13, 14, 15, 16, 18, 19, 20], 100);
+    met.require(
+        &[0, 1, 2, 9, 10, 11, 12, 13, 14, 15, 16, 18, 19, 20, 21],
+        100,
+    );
 }
 
 #[test]
@@ -295,6 +334,7 @@ fn a_new_desk_has_nothing_loaded() {
     assert_eq!(number(&desk.spread(&mut out[..1])), 13);
     assert_eq!(number(&desk.judge(&mut out[..1], &mut [0])), 13);
     assert_eq!(number(&desk.blocking()), 13);
+    assert_eq!(number(&desk.least(&[0], &[0], &[], &mut out[..1])), 13);
     let compared = desk.compare(&[0], &[0], &mut [], &mut []);
     assert_eq!(number(&compared.outcome), 13);
     assert_eq!(number(&desk.plan_to_new(&[0], &mut out[..1])), 13);

@@ -15,6 +15,9 @@ mod in_the_field;
 #[allow(dead_code)]
 #[path = "../examples/sheet.rs"]
 mod sheet;
+#[allow(dead_code)]
+#[path = "../examples/unsettled.rs"]
+mod unsettled;
 
 /// What an example tells.
 fn told(tell: impl FnOnce(&mut Vec<u8>) -> Result<(), Box<dyn Error>>) -> String {
@@ -44,4 +47,12 @@ fn a_sheet_for_the_foreman() {
 #[test]
 fn who_faced_whom_at_a_stand() {
     assert_eq!(told(faced::tell), include_str!("../examples/faced.out"));
+}
+
+#[test]
+fn rankings_not_yet_settled() {
+    assert_eq!(
+        told(unsettled::tell),
+        include_str!("../examples/unsettled.out")
+    );
 }

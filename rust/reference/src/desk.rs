@@ -11,11 +11,13 @@ use crate::days;
 use crate::finder::{find_large, verdict_large, Answer, Why};
 use crate::lent::{enough, put};
 use crate::limits::{
-    MAX_DAY_BYTES, MAX_ENTRIES, MAX_PAIRING_BYTES, MAX_PLAN_BYTES, MAX_ROSTER_BYTES, PAIR_FIELD,
+    MAX_DAY_BYTES, MAX_ENTRIES, MAX_PAIRING_BYTES, MAX_PLAN_BYTES, MAX_RANK_BYTES,
+    MAX_ROSTER_BYTES, PAIR_FIELD,
 };
 use crate::pairings;
 use crate::plan::{self, Plan};
 use crate::plans::Verdict;
+use crate::ranges;
 use crate::reduction::{Fate, Step};
 use crate::refusal::Refusal;
 use crate::roster::{self, Pair, Roster};
@@ -349,6 +351,23 @@ impl Desk {
                 part: Part::empty(),
             },
         };
+        (self, answer)
+    }
+
+    /// The least vote of one plan file against another over ranges of ranks, judged
+    /// against the held roster. Writes ranks that reach it, and tells their number.
+    pub fn least(
+        self,
+        first: &[u8],
+        second: &[u8],
+        ranges: &[u8],
+        out: &mut [u8],
+    ) -> (Desk, Result<(i16, usize), Refusal>) {
+        let answer = self.roster().and_then(|roster| {
+            enough(out.len(), MAX_RANK_BYTES)?;
+            let (vote, ranks) = ranges::least(roster, first, second, ranges)?;
+            Ok((vote, put(out, &ranks)))
+        });
         (self, answer)
     }
 

@@ -21,6 +21,11 @@ pub const MAX_PLAN_PAIRS: usize = 64;
 /// The last day of a sheet; the first is 1.
 pub const LAST_DAY: u8 = 9;
 
+/// The highest rank of a range; an empty place stays worse.
+pub const MAX_RANK: u8 = 32;
+/// Bytes of a range: a low and a high rank.
+pub const RANGE_FIELD: usize = 2;
+
 /// The rank of an empty place, one behind every rank a list can give.
 pub const EMPTY_RANK: u8 = 33;
 
@@ -51,6 +56,8 @@ pub const MAX_PLAN_BYTES: usize = NARROW_FIELD + PAIR_FIELD * MAX_PLAN_PAIRS;
 pub const MAX_DAY_BYTES: usize = NARROW_FIELD * MAX_PLAN_PAIRS;
 /// Bytes that a buffer for pairings needs: two ranks for each place of both sides.
 pub const MAX_PAIRING_BYTES: usize = 2 * 2 * MAX_QUOTA_SUM;
+/// Bytes that a buffer for ranks needs: one for each entry of both sides' lists.
+pub const MAX_RANK_BYTES: usize = 2 * MAX_ENTRIES;
 /// Bytes that the program reads: one more than the longest roster, so that a
 /// byte after the end is still seen.
 pub const MAX_INPUT_BYTES: usize = MAX_ROSTER_BYTES + 1;

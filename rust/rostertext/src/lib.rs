@@ -14,6 +14,10 @@
 //! of each side are numbered from 1 in order; the two sides may be mixed. A
 //! quota that is not written is 1. What follows a `#` is a comment.
 //!
+//! Beside a roster there may be a text of ranges, where its ranks are not settled:
+//! `stand 1: 2=2..4` says that stand 1 ranks surveyor 2 second, third or fourth. An
+//! entry that is not named has its rank in the roster.
+//!
 //! Files from the seasons before the shifts are turned by `seasons`, and rosters of
 //! two districts, as text or as bytes, are joined by `rosters`, commands of the
 //! crate `planner`: they make the proved calls for that, and this crate is to be had
@@ -22,9 +26,11 @@
 mod files;
 mod line;
 mod problem;
+mod ranges;
 mod text;
 
-pub use files::{pack, unpack};
+pub use files::{pack, pack_ranges, unpack, unpack_ranges};
 pub use line::Listed;
 pub use problem::{Problem, What};
+pub use ranges::{parse_ranges, print_ranges};
 pub use text::{parse, print};

@@ -1,9 +1,12 @@
-//! One line of a text roster: a node with its quota and its list.
+//! One line of a text roster: a node with its quota and its list. And one line of
+//! ranges: a node, and entries of its list with their ranks.
 
 use reference::limits::{MAX_QUOTA, MAX_SHIFT};
+use reference::ranges::Range;
 use reference::roster::Side;
 
 use crate::problem::What;
+use crate::ranges;
 
 /// An entry of a list as it is written: a number of the other side, which may
 /// not be there, and one of the shifts.
@@ -45,12 +48,7 @@ pub fn words(line: &str) -> Vec<String> {
 /// Reads a line's words.
 pub fn read(words: &[String]) -> Result<Line, What> {
     let mut words = words.iter().map(String::as_str).peekable();
-    let side = match words.next().unwrap_or("") {
-        "surveyor" => Side::Surveyors,
-        "stand" => Side::Stands,
-        other => return Err(What::UnknownStart(other.to_owned())),
-    };
-    let number = number(words.next(), "behind the line's first word")?;
+    let (side, number) = node(&mut words)?;
     let quota = match words.next_if(|&word| word == "quota") {
         Some(_) => quota(words.next())?,
         None => PLAIN_QUOTA,
@@ -70,6 +68,47 @@ pub fn read(words: &[String]) -> Result<Line, What> {
         quota,
         strict,
         tied,
+    })
+}
+
+/// The node with which a line begins.
+fn node<'a>(words: &mut impl Iterator<Item = &'a str>) -> Result<(Side, usize), What> {
+    let side = match words.next().unwrap_or("") {
+        "surveyor" => Side::Surveyors,
+        "stand" => Side::Stands,
+        other => return Err(What::UnknownStart(other.to_owned())),
+    };
+    let number = number(words.next(), "behind the line's first word")?;
+    Ok((side, number))
+}
+
+/// A node, and entries of its list with the ranks that they may have; whether the
+/// list has them is not known yet.
+pub struct RangesLine {
+    pub side: Side,
+    pub number: usize,
+    pub ranges: Vec<(Listed, Range)>,
+}
+
+/// Reads the words of a line of ranges.
+pub fn read_ranges(words: &[String]) -> Result<RangesLine, What> {
+    let mut words = words.iter().map(String::as_str);
+    let (side, number) = node(&mut words)?;
+    match words.next().unwrap_or("") {
+        ":" => {}
+        other => return Err(What::NoColon(other.to_owned())),
+    }
+    let ranged = |word: &str| {
+        let (front, behind) = word
+            .split_once('=')
+            .ok_or_else(|| What::NoEquals(word.to_owned()))?;
+        Ok((entry(front)?, ranges::range(behind)?))
+    };
+    let ranges = words.map(ranged).collect::<Result<_, What>>()?;
+    Ok(RangesLine {
+        side,
+        number,
+        ranges,
     })
 }
 
@@ -127,7 +166,7 @@ fn shift(word: &str) -> Result<u8, What> {
 }
 
 /// A number in digits. More digits than a roster can need are no number.
-fn number(word: Option<&str>, place: &'static str) -> Result<usize, What> {
+pub fn number(word: Option<&str>, place: &'static str) -> Result<usize, What> {
     let found = word.unwrap_or("");
     let digits = found.bytes().all(|letter| letter.is_ascii_digit());
     match found.parse() {

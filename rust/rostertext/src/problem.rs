@@ -1,8 +1,8 @@
-//! What can be wrong with a text roster, in plain words.
+//! What can be wrong with a text roster, or with a text of ranges, in plain words.
 
 use std::fmt;
 
-use reference::limits::{MAX_LIST, MAX_NODES, MAX_QUOTA, MAX_QUOTA_SUM, MAX_SHIFT};
+use reference::limits::{MAX_LIST, MAX_NODES, MAX_QUOTA, MAX_QUOTA_SUM, MAX_RANK, MAX_SHIFT};
 use reference::roster::Side;
 
 use crate::line::{Listed, PLAIN_SHIFT};
@@ -53,6 +53,19 @@ pub enum What {
         entry: Listed,
     },
     OneSideOnly {
+        side: Side,
+        number: usize,
+        entry: Listed,
+    },
+    /// An entry of a line of ranges has none behind it.
+    NoEquals(String),
+    /// The two numbers are no range of ranks.
+    NoRange {
+        low: usize,
+        high: usize,
+    },
+    /// The node's list does not have the entry, or there is no such node.
+    NotListed {
         side: Side,
         number: usize,
         entry: Listed,
@@ -178,6 +191,30 @@ impl fmt::Display for What {
                 write!(
                     formatter,
                     "{own} {number} lists {other} {entry}{shift}, but {other} {entry} does not list {own} {number}{shift}"
+                )
+            }
+            What::NoEquals(found) => {
+                write!(
+                    formatter,
+                    "'{found}' has no range behind it, as in '{found}=2..4'"
+                )
+            }
+            What::NoRange { low, high } => {
+                write!(
+                    formatter,
+                    "{low} to {high} is no range: ranks go from 1 to {MAX_RANK}, the lower one first"
+                )
+            }
+            What::NotListed {
+                side,
+                number,
+                entry,
+            } => {
+                let (own, other) = (word(*side), word(side.other()));
+                let (entry, shift) = (entry.number, in_shift(entry.shift));
+                write!(
+                    formatter,
+                    "{own} {number} does not list {other} {entry}{shift} in the roster"
                 )
             }
         }

@@ -156,7 +156,7 @@ fn print_node(text: &mut String, side: Side, number: usize, node: &Node) -> std:
 }
 
 /// An entry as a person writes it: the plain shift is left out.
-fn written(Entry { number, shift }: Entry) -> String {
+pub(crate) fn written(Entry { number, shift }: Entry) -> String {
     if shift == PLAIN_SHIFT {
         number.to_string()
     } else {

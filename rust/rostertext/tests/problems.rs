@@ -249,7 +249,8 @@ fn lists_of_32_entries() {
 
 #[test]
 fn the_command_tells_what_is_wrong() {
-    let usage = "usage: rostertext pack < text > bytes, rostertext unpack < bytes > text\n";
+    let usage = "usage: rostertext pack < text > bytes, rostertext unpack < bytes > text,
+       rostertext pack-ranges ROSTER < text > bytes, rostertext unpack-ranges ROSTER < bytes > text\n";
     let cases: [(&[&str], &[u8], &str); 7] = [
         (&[], b"", usage),
         (&["fold"], b"", usage),

@@ -111,6 +111,7 @@ pub trait Calls: Sized {
     fn leave(self, number: u8, lent: Lent) -> (Self, Result<Found, u8>);
     fn judge(self, rival: &mut [u8], pairing: &mut [u8]) -> (Self, Result<Judged, u8>);
     fn compare(self, first: &[u8], second: &[u8], facing: Facing) -> (Self, Compared);
+    fn least(self, files: [&[u8]; 3], out: &mut [u8]) -> (Self, Result<(i16, usize), u8>);
     fn blocking(self) -> (Self, Result<Option<(u8, u8, u8)>, u8>);
 
     /// The desk's own files, at the front of their arrays: roster, plan, proposal.
@@ -203,6 +204,13 @@ impl Calls for Desk {
             .map(|votes| (votes.first, votes.second, winner(votes.winner)));
         let part = place(answer.part, first, second);
         (self, (outcome.map_err(number), part))
+    }
+
+    fn least(self, files: [&[u8]; 3], out: &mut [u8]) -> (Desk, Result<(i16, usize), u8>) {
+        let [first, second, ranges] = files;
+        let answer = self.0.least(first, second, ranges, out);
+        let answer = answer.map(|least| (least.vote, least.ranks));
+        (self, answer.map_err(number))
     }
 
     fn blocking(self) -> (Desk, Result<Option<(u8, u8, u8)>, u8>) {

@@ -6,9 +6,10 @@
 
 use reference::days::{busiest, is_sheet};
 use reference::desk::{Facing, Lent, Record, DIARY_RECORDS, LEFT_BYTES};
-use reference::limits::{MAX_PAIRING_BYTES, MAX_PLAN_BYTES};
+use reference::limits::{MAX_PAIRING_BYTES, MAX_PLAN_BYTES, MAX_RANK};
 use reference::plan::Plan;
 use reference::random::Random;
+use reference::ranges::{self, Range};
 use reference::roster::{Pair, Roster};
 
 use crate::common::junk;
@@ -29,6 +30,40 @@ pub fn check_days(roster: &Roster, plan: &Plan, before: &[u8], after: &[u8], cou
     let last = days.iter().max().map_or(0, |&last| usize::from(last));
     assert_eq!(last, busiest(&pairs), "{pairs:?}: {days:?}");
     only_front(before, after, days);
+}
+
+/// A range of ranks for each list entry of a roster, as a file: some settled at the
+/// roster's rank, the others anywhere.
+pub fn ranges_file(random: &mut Random, roster: &Roster) -> Vec<u8> {
+    let any = |rank: u8| {
+        if random.chance(30) {
+            return Range::settled(rank);
+        }
+        let low = random.within(&(1..=MAX_RANK));
+        let high = random.within(&(low..=MAX_RANK));
+        Range { low, high }
+    };
+    let ranges: Vec<Range> = ranges::roster_ranks(roster).into_iter().map(any).collect();
+    ranges::write(&ranges)
+}
+
+/// Whether a buffer begins with so many ranks, one within each range of the file,
+/// with which the vote of two plans is the one answered, and is as it was behind
+/// them. Which choice it is, is open.
+pub fn check_ranks(
+    roster: &Roster,
+    [first, second, file]: [&[u8]; 3],
+    before: &[u8],
+    after: &[u8],
+    (vote, count): (i16, usize),
+) {
+    let ranks = &after[..count];
+    let read = ranges::read(roster, file).expect("accepted");
+    assert!(ranges::is_choice(&read, ranks), "{read:?}: {ranks:?}");
+    let chosen: Vec<Range> = ranks.iter().copied().map(Range::settled).collect();
+    let reached = ranges::least(roster, first, second, &ranges::write(&chosen));
+    assert_eq!(reached.expect("accepted").0, vote);
+    only_front(before, after, ranks);
 }
 
 /// Bytes of a diary's record.

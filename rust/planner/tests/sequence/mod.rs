@@ -2,19 +2,20 @@
 //! desk: the same answers, the same bytes in every lent buffer, and after each
 //! call the same held, to the byte of the desk's own files. The held plan is also
 //! what the calls and their answers tell by themselves, with no desk at all. Of a
-//! rival and of a spreading over days only what the papers settle is asked.
+//! rival, of a spreading over days and of a choice of ranks only what the papers settle
+//! is asked.
 
 use crate::calls::Calls;
 use crate::change::Change;
 use crate::common::{damage, files_of, junk, BEAT_EACH_OTHER, NUMBERS, P7_TWICE};
 use crate::found::{check_rival, same_found};
-use crate::lent::{check_days, only_front, Buffers, Pairings, SIZES};
+use crate::lent::{check_days, check_ranks, only_front, ranges_file, Buffers, Pairings, SIZES};
 use reference::desk::{Desk as Held, Judged};
 use reference::history::{pairs, Event, History};
 use reference::layout::Layout;
 use reference::limits::{
-    MAX_DAY_BYTES, MAX_PAIRING_BYTES, MAX_PLAN_BYTES, MAX_ROSTER_BYTES, NARROW_FIELD,
-    OLD_PAIR_FIELD, PAIR_FIELD,
+    MAX_DAY_BYTES, MAX_PAIRING_BYTES, MAX_PLAN_BYTES, MAX_RANK_BYTES, MAX_ROSTER_BYTES,
+    NARROW_FIELD, OLD_PAIR_FIELD, PAIR_FIELD,
 };
 use reference::pairings;
 use reference::plan;
@@ -23,7 +24,7 @@ use reference::refusal::Refusal;
 use reference::roster;
 
 /// The calls, as rows of the tally.
-const CALLS: [&str; 15] = [
+const CALLS: [&str; 16] = [
     "load roster",
     "load plan",
     "write roster",
@@ -39,6 +40,7 @@ const CALLS: [&str; 15] = [
     "propose",
     "commit",
     "spread",
+    "least",
 ];
 
 /// How often each call answered and was refused by each number, 0 for none; how
@@ -297,6 +299,41 @@ impl<D: Calls> Desks<D> {
         }
     }
 
+    fn least(self, tally: &mut Tally, files: [&[u8]; 3], before: &[u8]) -> Desks<D> {
+        let [mut own, mut other] = [before.to_vec(), before.to_vec()];
+        let [first, second, ranges] = files;
+        let (ours, answer) = self.ours.least(files, &mut own);
+        let (theirs, expected) = self.theirs.least(first, second, ranges, &mut other);
+        tally.refusals(15, &answer, &expected);
+        assert_eq!(answer.ok(), expected.ok());
+        match answer {
+            Ok(least) => {
+                let roster = theirs.roster().expect("a roster");
+                check_ranks(roster, files, before, &own, least);
+            }
+            Err(_) => assert_eq!(own, before),
+        }
+        Desks {
+            ours,
+            theirs,
+            ..self
+        }
+    }
+
+    /// Ranges of the held roster, sometimes damaged; any bytes where there is none.
+    fn ranges(&self, random: &mut Random) -> Vec<u8> {
+        let Ok(roster) = self.theirs.roster() else {
+            return junk(random, 8);
+        };
+        let mut file = ranges_file(random, roster);
+        for _ in 0..random.below(4).saturating_sub(1) {
+            if !file.is_empty() {
+                damage(random, &mut file);
+            }
+        }
+        file
+    }
+
     fn plan_to_new(self, tally: &mut Tally, file: &[u8], before: &[u8]) -> Desks<D> {
         let [mut own, mut other] = [before.to_vec(), before.to_vec()];
         let (ours, answer) = self.ours.plan_to_new(file, &mut own);
@@ -449,7 +486,7 @@ impl<D: Calls> Desks<D> {
 
     /// A random call.
     fn call(self, random: &mut Random, tally: &mut Tally, pool: &Pool) -> Desks<D> {
-        match random.below(26) {
+        match random.below(29) {
             0 | 1 => self.load_roster(tally, pool.roster(random)),
             2..=4 => self.load_plan(tally, pool.plan(random)),
             5 => {
@@ -487,6 +524,12 @@ impl<D: Calls> Desks<D> {
             21 => {
                 let size = size(random, MAX_DAY_BYTES);
                 self.spread(tally, &junk(random, size))
+            }
+            22..=24 => {
+                let size = size(random, MAX_RANK_BYTES);
+                let [first, second] = [(); 2].map(|()| pool.plan(random));
+                let ranges = self.ranges(random);
+                self.least(tally, [first, second, &ranges], &junk(random, size))
             }
             _ => {
                 let change = Change::random(random, &self.theirs);
@@ -563,6 +606,7 @@ pub fn run<D: Calls>(mut open: impl FnMut() -> D, seed: u64, sequences: usize, l
         &[&turned[..], &[14]].concat(),
         &[0, 13, 14, 20],
         &[0, 13, 14, 15],
+        &[&turned[..], &[21]].concat(),
     ];
     for (call, numbers) in expected.iter().enumerate() {
         for &number in *numbers {

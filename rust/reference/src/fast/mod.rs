@@ -12,6 +12,7 @@ pub mod finder;
 pub mod offers;
 pub mod pairing;
 pub mod plan;
+pub mod ranges;
 pub mod reduction;
 pub mod roster;
 pub mod routes;

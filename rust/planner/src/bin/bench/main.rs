@@ -14,6 +14,7 @@ mod finder;
 mod lent;
 mod longest;
 mod offers;
+mod ranges;
 mod routes;
 mod seasons;
 mod stack;
@@ -59,6 +60,8 @@ fn main() {
     routes::run();
     println!();
     votes::run();
+    println!();
+    ranges::run();
     println!();
     blocking::run();
     println!();

@@ -1,0 +1,2 @@
+pub mod ChoiceVote
+pub mod Asked

@@ -1,0 +1,12 @@
+pub mod Falls
+pub mod Places
+pub mod Worst
+pub mod Entries
+pub mod Counted
+pub mod RosterSums
+pub mod RosterPlaces
+pub mod InOrder
+pub mod LeastVote
+pub mod Settled
+pub mod RangesFile
+pub mod Questions
