@@ -11,7 +11,7 @@ use crate::header::{Call, Header, Parameter, Type};
 /// out and those of structs inside named by themselves.
 fn numbers(header: &Header, answer: &Type) -> Vec<(String, usize, Type)> {
     let Type::Struct(name) = answer else {
-        return vec![("refusal".to_owned(), 0, answer.clone())];
+        return vec![("answer".to_owned(), 0, answer.clone())];
     };
     let Some(structure) = header.structure(name) else {
         return Vec::new();
