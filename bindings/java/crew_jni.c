@@ -78,7 +78,7 @@ static uint8_t *copied(JNIEnv *env, jbyteArray array, size_t *length) {
     return bytes;
 }
 
-JNIEXPORT jlongArray JNICALL Java_crew_Library_call(JNIEnv *env, jclass class, jstring name, jbyteArray held, jint number,
+JNIEXPORT jlongArray JNICALL Java_crew_Library_made(JNIEnv *env, jclass class, jstring name, jbyteArray held, jint number,
                                                     jobjectArray slices) {
     size_t form = form_of(env, name), given = (size_t)(*env)->GetArrayLength(env, slices), taken = 0, count, i;
     struct crew_slice slice[MOST_SLICES];

@@ -14,7 +14,7 @@ public final class Library {
     static native String numbers(String name);
 
     /** Makes a call: the desk's bytes, which it changes, or null; a number, or 0; slices in the header's order, filled where it writes. */
-    static native long[] call(String name, byte[] desk, int number, byte[][] slices);
+    static native long[] made(String name, byte[] desk, int number, byte[][] slices);
 
     /** A constant of crew.h, by its name there. */
     static native int constant(String name);
@@ -29,7 +29,7 @@ public final class Library {
         if (names == null) {
             throw new IllegalArgumentException(name + " is no call of crew.h");
         }
-        long[] values = call(name, desk, number, slices);
+        long[] values = made(name, desk, number, slices);
         Map<String, Long> told = new LinkedHashMap<>();
         int place = 0;
         for (String field : names.trim().split(" ")) {
