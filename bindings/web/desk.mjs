@@ -13,6 +13,7 @@ const letters = new Map();
 for (const [, letter, name] of readFileSync(source, 'utf8').matchAll(/case '(.)': (?:desk = )?(?:crew_)?(\w+)\(/g)) letters.set(letter, name);
 
 // ---- the pipe
+const PIPE = 1 << 16;
 let waiting = Buffer.alloc(0);
 function take(length) {
   while (waiting.length < length) {
@@ -25,7 +26,6 @@ function take(length) {
   waiting = waiting.subarray(length);
   return taken;
 }
-const PIPE = 1 << 16;
 
 // a pipe that has nothing, or no room, is asked again
 function again(ask) {
