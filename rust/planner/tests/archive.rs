@@ -103,8 +103,12 @@ fn no_table_of_votes_in_the_program() {
 /// How the name of each exported call begins.
 const PREFIX: &str = "crew_";
 
+/// Where the header turns from the calls to what it adds for a reader.
+const ADDED: &str = "/* ---- from here on nothing is exported";
+
 /// The calls that a text declares or makes: the names before a parenthesis.
 fn calls(text: &str) -> BTreeSet<&str> {
+    let (text, _) = text.split_once(ADDED).unwrap_or((text, ""));
     let names = text.match_indices(PREFIX).filter_map(|(start, _)| {
         let (name, _) = text[start..].split_once('(')?;
         let plain = |letter: char| letter.is_ascii_lowercase() || letter == '_';
