@@ -39,6 +39,7 @@ REPLY(written, outcome, struct crew_outcome)
 REPLY(judged, judged, struct crew_judged)
 REPLY(compared, compared, struct crew_compared)
 REPLY(blocker, blocker, struct crew_blocker)
+REPLY(least, least, struct crew_least)
 
 static struct crew_desk_found with_found(struct crew_found found, const struct crew_desk *desk) {
     struct crew_desk_found reply;
@@ -67,6 +68,7 @@ static struct crew_desk_found with_found(struct crew_found found, const struct c
 #define crew_plan_to_old(desk, ...) with_written(crew_desk_plan_to_old(&(desk), __VA_ARGS__), &(desk))
 #define crew_judge(desk, ...) with_judged(crew_desk_judge(&(desk), __VA_ARGS__), &(desk))
 #define crew_compare(desk, ...) with_compared(crew_desk_compare(&(desk), __VA_ARGS__), &(desk))
+#define crew_least(desk, ...) with_least(crew_desk_least(&(desk), __VA_ARGS__), &(desk))
 #define crew_blocking(desk) with_blocker(crew_desk_blocking(&(desk)), &(desk))
 #define crew_find(desk, ...) with_found(crew_desk_find(&(desk), __VA_ARGS__), &(desk))
 #define crew_join(desk, ...) with_found(crew_desk_join(&(desk), __VA_ARGS__), &(desk))

@@ -5,8 +5,9 @@
 use std::path::{Path, PathBuf};
 
 use reference::limits::{
-    MAX_DAY_BYTES, MAX_ENTRIES, MAX_LIST, MAX_NODES, MAX_PLAN_BYTES, MAX_PLAN_PAIRS, MAX_QUOTA,
-    MAX_QUOTA_SUM, MAX_ROSTER_BYTES, MAX_SHIFT, MAX_STORED_BYTES, PAIR_FIELD,
+    MAX_DAY_BYTES, MAX_ENTRIES, MAX_LIST, MAX_NODES, MAX_PAIRING_BYTES, MAX_PLAN_BYTES,
+    MAX_PLAN_PAIRS, MAX_QUOTA, MAX_QUOTA_SUM, MAX_RANK_BYTES, MAX_ROSTER_BYTES, MAX_SHIFT,
+    MAX_STORED_BYTES, PAIR_FIELD,
 };
 use reference::refusal::{group_of, ALL};
 use reference::roster;
@@ -83,6 +84,8 @@ fn the_limits_and_sizes_are_those_of_the_limits() {
         MAX_PLAN_BYTES,
         MAX_STORED_BYTES,
         MAX_DAY_BYTES,
+        MAX_PAIRING_BYTES,
+        MAX_RANK_BYTES,
         PAIR_FIELD * MAX_ENTRIES,
         MAX_ENTRIES,
     ];
