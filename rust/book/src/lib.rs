@@ -1,0 +1,7 @@
+//! The contract book: every public call with its contract, each name in it a link to its definition, and on, down to the model and the kit's library.
+
+pub mod lex;
+pub mod names;
+pub mod rattle;
+pub mod source;
+pub mod term;

@@ -1,0 +1,530 @@
+//! Terms of the checker's language: enough of the grammar to know which word is bound where, what is applied to what, and whose field is taken.
+//!
+//! Operators stay a flat row of operands; which part of which operator a word is, the caller tells.
+
+use crate::lex::{Kind, Word};
+
+/// Words `from..to` of a file.
+#[derive(Clone, Copy, Debug, PartialEq, Eq)]
+pub struct Span {
+    pub from: usize,
+    pub to: usize,
+}
+
+/// A term; numbers are places of words.
+#[derive(Debug, Clone)]
+pub enum Term {
+    Name(usize),
+    /// `a.b.c`, written without spaces
+    Path(Vec<usize>),
+    /// a number, a text, a hole, a universe
+    Literal,
+    Apply(Box<Term>, Vec<Argument>),
+    Field(Box<Term>, usize),
+    Infix(Vec<Operand>),
+    Lambda(Vec<Pattern>, Box<Term>),
+    /// `let p : type = value in body`
+    Let(Pattern, Option<Box<Term>>, Box<Term>, Box<Term>),
+    /// `(x : A) → B`, `A → B`; a product too, told by the flag
+    Binding(Vec<Binder>, Box<Term>, Former),
+    Tuple(Vec<Term>),
+    Record(Vec<(usize, Term)>),
+    Elim(Box<Term>, Option<Box<Term>>, Vec<(Pattern, Term)>),
+}
+
+/// A function type or a product.
+#[derive(Debug, Clone, Copy, PartialEq, Eq)]
+pub enum Former {
+    Arrow,
+    Product,
+}
+
+/// An argument: explicit, or in braces, there perhaps by name.
+#[derive(Debug, Clone)]
+pub enum Argument {
+    Explicit(Term),
+    Implicit(Term),
+}
+
+/// A part of a row of operators.
+#[derive(Debug, Clone)]
+pub enum Operand {
+    Term(Term),
+    Operator(usize),
+}
+
+/// Names bound to one type.
+#[derive(Debug, Clone)]
+pub struct Binder {
+    pub names: Vec<usize>,
+    pub of: Option<Term>,
+    pub implicit: bool,
+}
+
+/// A pattern of a clause, a function or a `let`.
+#[derive(Debug, Clone)]
+pub enum Pattern {
+    Name(usize),
+    Path(Vec<usize>),
+    Apply(Box<Pattern>, Vec<Pattern>),
+    Infix(Vec<Pattern>, Vec<usize>),
+    Tuple(Vec<Pattern>),
+    Typed(Vec<usize>, Box<Term>),
+    Implicit(Box<Pattern>),
+    Other,
+}
+
+/// The left side of a clause with its right side.
+#[derive(Debug, Clone)]
+pub struct Clause {
+    pub left: Vec<Pattern>,
+    pub operators: Vec<usize>,
+    pub right: Option<Term>,
+}
+
+/// Reads terms from the words of a file.
+pub struct Parser<'a> {
+    pub text: &'a str,
+    pub words: &'a [Word],
+    pub at: usize,
+    pub end: usize,
+    /// whether a word is a part of an operator in scope
+    pub operator: &'a dyn Fn(&str) -> bool,
+}
+
+/// Words that end an application.
+const STOPS: &[&str] = &[
+    ")", "}", ",", ";", "→", "=", "|", "↦", "]", "⌝", "in", "as", "where", ":", "←",
+];
+
+impl<'a> Parser<'a> {
+    fn word(&self, at: usize) -> &'a str {
+        if at < self.end {
+            self.words[at].of(self.text)
+        } else {
+            ""
+        }
+    }
+
+    fn here(&self) -> &'a str {
+        self.word(self.at)
+    }
+
+    fn eat(&mut self, word: &str) -> bool {
+        let there = self.at < self.end && self.here() == word;
+        self.at += usize::from(there);
+        there
+    }
+
+    fn is_operator(&self) -> bool {
+        let word = self.here();
+        self.at < self.end
+            && self.words[self.at].kind == Kind::Name
+            && (word == "×" || (self.operator)(word))
+    }
+
+    /// The place behind the bracket that closes the one at `open`.
+    fn closing(&self, open: usize) -> usize {
+        let mut depth = 0usize;
+        for k in open..self.end {
+            match self.word(k) {
+                "(" | "{" => depth += 1,
+                ")" | "}" => depth -= 1,
+                _ => {}
+            }
+            if depth == 0 {
+                return k + 1;
+            }
+        }
+        self.end
+    }
+
+    /// Whether the bracket here opens a binder: names, a colon, a type.
+    fn opens_binder(&self) -> bool {
+        let mut k = self.at + 1;
+        while k < self.end && self.words[k].kind == Kind::Name && !STOPS.contains(&self.word(k)) {
+            k += 1;
+        }
+        k > self.at + 1 && self.word(k) == ":"
+    }
+
+    /// A term, as far as it goes.
+    pub fn term(&mut self) -> Term {
+        let mut binders = Vec::new();
+        while matches!(self.here(), "(" | "{") && self.opens_binder() {
+            binders.push(self.binder());
+        }
+        if !binders.is_empty() {
+            let former = if self.eat("×") {
+                Former::Product
+            } else {
+                self.eat("→");
+                Former::Arrow
+            };
+            return Term::Binding(binders, Box::new(self.term()), former);
+        }
+        if self.here() == "∀" {
+            self.at += 1;
+            return self.term();
+        }
+        let left = self.infix();
+        if self.eat("→") {
+            let binder = Binder {
+                names: Vec::new(),
+                of: Some(left),
+                implicit: false,
+            };
+            return Term::Binding(vec![binder], Box::new(self.term()), Former::Arrow);
+        }
+        left
+    }
+
+    fn binder(&mut self) -> Binder {
+        let implicit = self.here() == "{";
+        let end = self.closing(self.at) - 1;
+        self.at += 1;
+        let mut names = Vec::new();
+        while self.here() != ":" {
+            names.push(self.at);
+            self.at += 1;
+        }
+        self.at += 1;
+        let of = Some(self.inside(end, |p| p.term()));
+        self.at += 1;
+        Binder {
+            names,
+            of,
+            implicit,
+        }
+    }
+
+    /// Reads up to `end` only, and goes on from there.
+    fn inside<T>(&mut self, end: usize, read: impl FnOnce(&mut Self) -> T) -> T {
+        let outer = self.end;
+        self.end = end.min(outer);
+        let got = read(self);
+        self.at = self.end;
+        self.end = outer;
+        got
+    }
+
+    /// A row of applications and operators.
+    fn infix(&mut self) -> Term {
+        let mut row = Vec::new();
+        loop {
+            if self.is_operator() {
+                row.push(Operand::Operator(self.at));
+                self.at += 1;
+                if matches!(self.here(), "(" | "{") && self.opens_binder() {
+                    row.push(Operand::Term(self.term()));
+                    break;
+                }
+                continue;
+            }
+            if self.at >= self.end || STOPS.contains(&self.here()) {
+                break;
+            }
+            let before = self.at;
+            row.push(Operand::Term(self.application()));
+            if self.at == before {
+                self.at += 1;
+            }
+        }
+        match row.len() {
+            1 => match row.pop() {
+                Some(Operand::Term(t)) => t,
+                Some(Operand::Operator(k)) => Term::Name(k),
+                None => Term::Literal,
+            },
+            0 => Term::Literal,
+            _ => Term::Infix(row),
+        }
+    }
+
+    fn application(&mut self) -> Term {
+        let Some(mut head) = self.atom() else {
+            return Term::Literal;
+        };
+        let mut arguments: Vec<Argument> = Vec::new();
+        let close = |head: Term, arguments: &mut Vec<Argument>| {
+            if arguments.is_empty() {
+                head
+            } else {
+                Term::Apply(Box::new(head), std::mem::take(arguments))
+            }
+        };
+        loop {
+            if self.here() == "." && self.at + 1 < self.end && self.words[self.at + 1].tight {
+                let field = self.at + 1;
+                self.at += 2;
+                head = Term::Field(Box::new(close(head, &mut arguments)), field);
+            } else if self.here() == "{" {
+                arguments.push(self.braced());
+            } else if self.is_operator() || self.at >= self.end || STOPS.contains(&self.here()) {
+                break;
+            } else if let Some(argument) = self.atom() {
+                arguments.push(Argument::Explicit(argument));
+            } else {
+                break;
+            }
+        }
+        close(head, &mut arguments)
+    }
+
+    /// `{x = e}` or `{e}`
+    fn braced(&mut self) -> Argument {
+        let end = self.closing(self.at) - 1;
+        self.at += 1;
+        let named = self.word(self.at + 1) == "=";
+        self.at += if named { 2 } else { 0 };
+        let inner = self.inside(end, |p| p.term());
+        self.at += 1;
+        Argument::Implicit(inner)
+    }
+
+    fn atom(&mut self) -> Option<Term> {
+        if self.at >= self.end {
+            return None;
+        }
+        let word = self.here();
+        let kind = self.words[self.at].kind;
+        if kind == Kind::Number || kind == Kind::Text {
+            self.at += 1;
+            return Some(Term::Literal);
+        }
+        match word {
+            "(" => return Some(self.bracket()),
+            "λ" => return Some(self.lambda()),
+            "let" => return Some(self.binding()),
+            "record" => return Some(self.record()),
+            "elim" => return Some(self.elim()),
+            "unfold" => {
+                while self.at < self.end && !self.eat("in") {
+                    self.at += 1;
+                }
+                return Some(self.term());
+            }
+            "⌜" => {
+                self.at += 1;
+                let inner = self.term();
+                self.eat("⌝");
+                return Some(inner);
+            }
+            "Type" | "_" | "𝕀" | "?" => {
+                self.at += 1;
+                return Some(Term::Literal);
+            }
+            _ => {}
+        }
+        if kind != Kind::Name {
+            return None;
+        }
+        Some(self.path())
+    }
+
+    /// A name, or names joined by dots without spaces.
+    fn path(&mut self) -> Term {
+        let mut names = vec![self.at];
+        self.at += 1;
+        while self.here() == "."
+            && self.words[self.at].tight
+            && self.at + 1 < self.end
+            && self.words[self.at + 1].tight
+            && self.words[self.at + 1].kind != Kind::Mark
+        {
+            names.push(self.at + 1);
+            self.at += 2;
+        }
+        if names.len() == 1 {
+            Term::Name(names[0])
+        } else {
+            Term::Path(names)
+        }
+    }
+
+    fn bracket(&mut self) -> Term {
+        if self.opens_binder() {
+            return self.term();
+        }
+        let end = self.closing(self.at) - 1;
+        self.at += 1;
+        let inner = self.inside(end, |p| p.tuple());
+        self.at += 1;
+        inner
+    }
+
+    fn tuple(&mut self) -> Term {
+        let mut parts = Vec::new();
+        while self.at < self.end {
+            parts.push(self.term());
+            if !self.eat(",") {
+                break;
+            }
+        }
+        if parts.len() == 1 {
+            parts.pop().expect("one part")
+        } else {
+            Term::Tuple(parts)
+        }
+    }
+
+    fn lambda(&mut self) -> Term {
+        self.at += 1;
+        let mut patterns = Vec::new();
+        while self.at < self.end && self.here() != "." {
+            patterns.push(self.pattern_atom());
+        }
+        self.eat(".");
+        Term::Lambda(patterns, Box::new(self.term()))
+    }
+
+    fn binding(&mut self) -> Term {
+        self.at += 1;
+        let pattern = self.pattern_atom();
+        let of = if self.eat(":") {
+            Some(Box::new(self.term()))
+        } else {
+            None
+        };
+        self.eat("=");
+        let value = Box::new(self.term());
+        self.eat("in");
+        Term::Let(pattern, of, value, Box::new(self.term()))
+    }
+
+    fn record(&mut self) -> Term {
+        self.at += 1;
+        if self.here() != "{" {
+            return Term::Literal;
+        }
+        let end = self.closing(self.at) - 1;
+        self.at += 1;
+        let fields = self.inside(end, |p| {
+            let mut fields = Vec::new();
+            while p.at < p.end {
+                let name = p.at;
+                p.at += 1;
+                if !p.eat("=") {
+                    p.eat(":");
+                }
+                fields.push((name, p.term()));
+                p.eat(";");
+            }
+            fields
+        });
+        self.at += 1;
+        Term::Record(fields)
+    }
+
+    /// `elim x as motive [ p ↦ e | .. ]`
+    fn elim(&mut self) -> Term {
+        self.at += 1;
+        let mut subject = self.atom().unwrap_or(Term::Literal);
+        while self.here() == "." && self.at + 1 < self.end && self.words[self.at + 1].tight {
+            subject = Term::Field(Box::new(subject), self.at + 1);
+            self.at += 2;
+        }
+        let motive = if self.eat("as") {
+            self.atom().map(Box::new)
+        } else {
+            None
+        };
+        let mut cases = Vec::new();
+        if self.eat("[") {
+            while self.at < self.end && !self.eat("]") {
+                let pattern = self.pattern();
+                self.eat("↦");
+                cases.push((pattern, self.term()));
+                self.eat("|");
+            }
+        }
+        Term::Elim(Box::new(subject), motive, cases)
+    }
+
+    /// A pattern: a constructor with arguments, or operators between them.
+    fn pattern(&mut self) -> Pattern {
+        let (mut row, operators) = self.pattern_row();
+        match (row.len(), operators.is_empty()) {
+            (0, _) => Pattern::Other,
+            (1, true) => row.pop().expect("one pattern"),
+            (_, false) => Pattern::Infix(row, operators),
+            _ => {
+                let head = Box::new(row.remove(0));
+                Pattern::Apply(head, row)
+            }
+        }
+    }
+
+    fn pattern_row(&mut self) -> (Vec<Pattern>, Vec<usize>) {
+        let (mut row, mut operators) = (Vec::new(), Vec::new());
+        while self.at < self.end && !STOPS.contains(&self.here()) {
+            if self.is_operator() {
+                operators.push(self.at);
+                self.at += 1;
+            } else {
+                row.push(self.pattern_atom());
+            }
+        }
+        (row, operators)
+    }
+
+    fn pattern_atom(&mut self) -> Pattern {
+        let word = self.here();
+        if word == "(" && self.opens_binder() {
+            let binder = self.binder();
+            return Pattern::Typed(binder.names, Box::new(binder.of.unwrap_or(Term::Literal)));
+        }
+        if word == "(" {
+            let end = self.closing(self.at) - 1;
+            self.at += 1;
+            let parts = self.inside(end, |p| {
+                let mut parts = Vec::new();
+                while p.at < p.end {
+                    parts.push(p.pattern());
+                    if !p.eat(",") {
+                        break;
+                    }
+                }
+                parts
+            });
+            self.at += 1;
+            return match parts.len() {
+                1 => parts.into_iter().next().expect("one part"),
+                _ => Pattern::Tuple(parts),
+            };
+        }
+        if word == "{" {
+            let end = self.closing(self.at) - 1;
+            self.at += 1;
+            self.at += if self.word(self.at + 1) == "=" { 2 } else { 0 };
+            let inner = self.inside(end, |p| p.pattern());
+            self.at += 1;
+            return Pattern::Implicit(Box::new(inner));
+        }
+        let named = self.words[self.at].kind == Kind::Name && word != "_";
+        if !named {
+            self.at += 1;
+            return Pattern::Other;
+        }
+        match self.path() {
+            Term::Path(names) => Pattern::Path(names),
+            Term::Name(k) => Pattern::Name(k),
+            _ => Pattern::Other,
+        }
+    }
+
+    /// A clause: patterns, and what stands behind `=`; `where` and what follows is left unread.
+    pub fn clause(&mut self) -> Clause {
+        let (left, operators) = self.pattern_row();
+        let right = if self.eat("=") {
+            Some(self.term())
+        } else {
+            None
+        };
+        Clause {
+            left,
+            operators,
+            right,
+        }
+    }
+}
