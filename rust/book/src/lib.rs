@@ -5,3 +5,5 @@ pub mod names;
 pub mod rattle;
 pub mod source;
 pub mod term;
+pub mod types;
+pub mod walk;

@@ -135,7 +135,7 @@ struct Reader<'a> {
 }
 
 /// Items of a block: runs of words that begin a line at the block's column.
-fn items(file: &File, block: Span) -> Vec<Span> {
+pub fn items(file: &File, block: Span) -> Vec<Span> {
     let mut starts: Vec<usize> = Vec::new();
     if block.from >= block.to {
         return Vec::new();
@@ -175,14 +175,17 @@ fn find(file: &File, span: Span, word: &str) -> Option<usize> {
     None
 }
 
-/// The place behind the levels in braces that may follow a name.
+/// The place behind the levels in braces that may follow a name: they have no type.
 fn behind_levels(file: &File, at: usize, end: usize) -> usize {
     if at >= end || file.word(at) != "{" {
         return at;
     }
-    (at..end)
-        .find(|&k| file.word(k) == "}")
-        .map_or(end, |k| k + 1)
+    let close = (at..end).find(|&k| file.word(k) == "}").unwrap_or(end - 1);
+    if (at..close).any(|k| file.word(k) == ":") {
+        at
+    } else {
+        close + 1
+    }
 }
 
 /// The comment lines directly above a line, in the column of what stands there; headings of dashes are none.
@@ -259,7 +262,7 @@ impl Reader<'_> {
         };
         self.sections.push(self.spans.len());
         self.spans.push(Span {
-            from: item.from + 2,
+            from: behind_levels(file, item.from + 2, end),
             to: end,
         });
         let inner = Span {
@@ -338,7 +341,7 @@ impl Reader<'_> {
             note: note_above(file, line, column),
             sections: self.sections.clone(),
             parameters: Span {
-                from: at + 1,
+                from: behind_levels(file, at + 1, colon),
                 to: colon,
             },
             of: Span {
