@@ -1,8 +1,11 @@
 //! The contract book: every public call with its contract, each name in it a link to its definition, and on, down to the model and the kit's library.
 
+pub mod edits;
 pub mod lex;
 pub mod names;
+pub mod papers;
 pub mod rattle;
+pub mod reach;
 pub mod source;
 pub mod term;
 pub mod types;

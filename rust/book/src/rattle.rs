@@ -281,7 +281,10 @@ impl Reader<'_> {
         let from = self.at + 2;
         self.at = from;
         while !matches!(self.here(), "requires" | "ensures" | "{" | ";" | "") {
-            self.at += 1;
+            self.at = match self.here() {
+                "[" | "(" => self.closing(self.at),
+                _ => self.at + 1,
+            };
         }
         Some(Span { from, to: self.at })
     }

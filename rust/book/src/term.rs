@@ -28,7 +28,8 @@ pub enum Term {
     /// `(x : A) → B`, `A → B`; a product too, told by the flag
     Binding(Vec<Binder>, Box<Term>, Former),
     Tuple(Vec<Term>),
-    Record(Vec<(usize, Term)>),
+    /// a field's name, its value, and where the value ends
+    Record(Vec<(usize, Term, usize)>),
     Elim(Box<Term>, Option<Box<Term>>, Vec<(Pattern, Term)>),
 }
 
@@ -407,7 +408,8 @@ impl<'a> Parser<'a> {
                 if !p.eat("=") {
                     p.eat(":");
                 }
-                fields.push((name, p.term()));
+                let value = p.term();
+                fields.push((name, value, p.at));
                 p.eat(";");
             }
             fields

@@ -6,7 +6,7 @@ use crate::rattle::Function;
 use crate::source::Sort;
 use crate::term::{Argument, Binder, Clause, Operand, Pattern, Span, Term};
 use crate::types::{operator_arity, Env, Store, Trees, Type};
-use std::collections::BTreeMap;
+use std::collections::{BTreeMap, BTreeSet};
 use std::rc::Rc;
 
 /// What a word is.
@@ -23,12 +23,18 @@ pub enum Link {
     Lost,
 }
 
-/// The words of a declaration that are names; the flag says that a word stands in a pattern.
+/// The words of a declaration that are names.
 #[derive(Default, Clone)]
 pub struct Links {
     pub words: BTreeMap<usize, Link>,
-    /// constructors in patterns, clause by clause: the clause's words, and the constructors that it is for
+    /// clauses with the constructors that they are for, and values of fields with their field: words that count only where those are met
     pub cases: Vec<(Span, Vec<Target>)>,
+    /// words that stand in patterns, and the names of fields where a record is built or declared
+    pub patterns: BTreeSet<usize>,
+    /// the types of the fields that are declared here
+    pub fields: Vec<(Span, Target)>,
+    /// the records that are built here
+    pub built: BTreeSet<usize>,
 }
 
 struct Local {
@@ -77,6 +83,19 @@ pub fn declaration(trees: &Trees, decl: usize) -> Links {
         Sort::Definition => walk.definition(decl),
         _ => walk.members(decl),
     }
+    walk.settle();
+    walk.links
+}
+
+/// Resolves the names of a declaration's statement alone.
+pub fn statement(trees: &Trees, decl: usize) -> Links {
+    let library = trees.library;
+    let d = &library.decls[decl];
+    let mut walk = Walk::new(trees, d.file, Some(decl));
+    walk.enter_sections(decl);
+    let term = trees.term(d.file, d.of);
+    walk.mark_own(Span { from: d.words.from, to: d.of.from }, &d.name, decl);
+    walk.check(&term, &Type::Universe);
     walk.settle();
     walk.links
 }
@@ -228,8 +247,8 @@ impl<'a> Walk<'a> {
             self.link(k, Link::To(Target::Decl(decl)));
         }
         let d = &self.library.decls[decl];
-        let body = d.clauses.first().map_or(d.words.to, |c| c.from);
-        let line = (d.of.to..body).skip_while(|&k| self.word(k) == "unfolding");
+        let body = d.clauses.first().map_or(d.of.to, |c| c.from);
+        let line = (d.of.to..body.min(span.to)).skip_while(|&k| self.word(k) == "unfolding");
         for k in line.collect::<Vec<_>>() {
             if let Some(&target) = self.scope.names.get(self.word(k)) {
                 self.link(k, Link::To(target));
@@ -247,6 +266,8 @@ impl<'a> Walk<'a> {
         self.check(&term, &Type::Universe);
         for (m, member) in d.members.iter().enumerate() {
             self.link(member.word, Link::To(Target::Member(decl, m)));
+            self.links.patterns.insert(member.word);
+            self.links.fields.push((member.of, Target::Member(decl, m)));
             let term = self.store.trees.term(d.file, member.of);
             let before = self.locals.len();
             self.check(&term, &Type::Universe);
@@ -351,6 +372,7 @@ impl<'a> Walk<'a> {
                 match self.constructor(&word) {
                     Some(target) => {
                         self.link(*k, Link::To(target));
+                        self.links.patterns.insert(*k);
                         self.matched.push(target);
                     }
                     None => {
@@ -394,9 +416,13 @@ impl<'a> Walk<'a> {
             Pattern::Name(k) => {
                 let found = self.constructor(self.word(*k));
                 self.link(*k, found.map_or(Link::Lost, Link::To));
+                self.links.patterns.insert(*k);
                 found
             }
-            Pattern::Path(names) => self.qualified(names),
+            Pattern::Path(names) => {
+                self.links.patterns.extend(names);
+                self.qualified(names)
+            }
             _ => None,
         };
         self.matched.extend(target);
@@ -422,6 +448,7 @@ impl<'a> Walk<'a> {
 
     fn bind_infix(&mut self, patterns: &[Pattern], operators: &[usize], of: &Type) {
         let target = operators.first().and_then(|&k| self.operator(k));
+        self.links.patterns.extend(operators);
         for &k in operators.iter().skip(1) {
             self.operator(k);
         }
@@ -726,17 +753,21 @@ impl<'a> Walk<'a> {
         Type::Product(found)
     }
 
-    fn record(&mut self, fields: &[(usize, Term)], expected: &Type) -> Type {
+    fn record(&mut self, fields: &[(usize, Term, usize)], expected: &Type) -> Type {
         let names: Vec<&str> = fields.iter().map(|f| lex::plain(self.word(f.0))).collect();
         let known = self.store.record(expected).or_else(|| {
             let found = self.records_with(&names);
             (found.len() == 1).then(|| (found[0], Vec::new()))
         });
-        for (k, value) in fields {
+        for (k, value, to) in fields {
             let member = known.as_ref().and_then(|(d, _)| self.library.member(*d, self.word(*k)));
             match (&known, member) {
                 (Some((d, arguments)), Some(m)) => {
-                    self.link(*k, Link::To(Target::Member(*d, m)));
+                    let target = Target::Member(*d, m);
+                    self.link(*k, Link::To(target));
+                    self.links.patterns.insert(*k);
+                    self.links.built.insert(*d);
+                    self.links.cases.push((Span { from: *k, to: *to }, vec![target]));
                     let of = self.store.field(*d, m, arguments);
                     let told = self.check(value, &of);
                     self.store.unify(&told, &of);
