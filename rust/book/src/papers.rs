@@ -134,9 +134,10 @@ impl Papers {
     /// A place in words: the paper, and the section.
     pub fn told(&self, place: &Place) -> String {
         let paper = &self.papers[place.paper];
-        match paper.section(place.from) {
-            "" => format!("document {}", paper.name),
-            section => format!("document {}, {section}", paper.name),
+        match (paper.name.as_str(), paper.section(place.from)) {
+            ("demands", section) => section.to_string(),
+            (name, "") => format!("document {name}"),
+            (name, section) => format!("document {name}, {section}"),
         }
     }
 }

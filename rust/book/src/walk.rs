@@ -245,6 +245,7 @@ impl<'a> Walk<'a> {
         let first = (span.from..span.to).find(|&k| self.word(k) == name);
         if let Some(k) = first {
             self.link(k, Link::To(Target::Decl(decl)));
+            self.levels(k + 1, decl);
         }
         let d = &self.library.decls[decl];
         let body = d.clauses.first().map_or(d.of.to, |c| c.from);
@@ -252,6 +253,18 @@ impl<'a> Walk<'a> {
         for k in line.collect::<Vec<_>>() {
             if let Some(&target) = self.scope.names.get(self.word(k)) {
                 self.link(k, Link::To(target));
+            }
+        }
+    }
+
+    /// Levels in braces behind the declared name: they are bound in the whole declaration.
+    fn levels(&mut self, from: usize, decl: usize) {
+        let d = &self.library.decls[decl];
+        for k in from..d.parameters.from.min(d.of.from) {
+            let name = self.word(k).to_string();
+            if self.library.files[self.file].words[k].kind == Kind::Name && name != ":" {
+                self.link(k, Link::Bound);
+                self.push(&name, Type::Unknown);
             }
         }
     }
