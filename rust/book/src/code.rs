@@ -40,7 +40,7 @@ impl Graph {
     }
 }
 
-/// The functions that a body names: `crate::name(`, `value.name(`, `name(`.
+/// The functions that a body names: `crate::name(` or `file::name(`, `value.name(`, `name(`.
 fn named(
     library: &Library,
     function: &crate::rattle::Function,
@@ -58,7 +58,9 @@ fn named(
         let name = at(k).to_string();
         let before = if k > function.body.from { at(k - 1) } else { "" };
         let target = match before {
-            ":" => by_name.get(&(at(k - 3).to_string(), name.clone())).or_else(|| by_name.get(&(own.to_string(), format!("{}::{name}", at(k - 3))))),
+            ":" => [(at(k - 3), name.clone()), (own, format!("{}::{name}", at(k - 3))), (own, name.clone())]
+                .into_iter()
+                .find_map(|(owner, name)| by_name.get(&(owner.to_string(), name))),
             "." => methods.get(&name).filter(|m| m.len() == 1).and_then(|m| m.first()),
             _ => by_name.get(&(own.to_string(), name)),
         };

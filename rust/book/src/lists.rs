@@ -13,7 +13,8 @@ impl Block {
     }
 
     /// All values of a key.
-    pub fn all<'a>(&'a self, key: &'a str) -> impl Iterator<Item = &'a str> {
+    pub fn all<'a>(&'a self, key: &str) -> impl Iterator<Item = &'a str> {
+        let key = key.to_string();
         self.fields.iter().filter(move |f| f.0 == key).map(|f| f.1.as_str())
     }
 

@@ -49,7 +49,7 @@ pub fn quotations(note: &str) -> Vec<String> {
 
 /// The parts of a quotation that leaves something out: `(..)` or `..`.
 fn parts(quotation: &str) -> Vec<Vec<u16>> {
-    quotation
+    unmarked(quotation)
         .replace("(..)", "…")
         .replace("..", "…")
         .split('…')
@@ -118,9 +118,15 @@ impl Papers {
         Ok(Papers { papers })
     }
 
-    /// Where a quotation stands, if it is in a paper.
+    /// Where a quotation stands, if it is in a paper; the title of a section is one too.
     pub fn find(&self, quotation: &str) -> Option<Place> {
         let parts = parts(quotation);
+        let titled = words(quotation);
+        for (paper, p) in self.papers.iter().enumerate() {
+            if let Some(section) = p.sections.iter().find(|s| words(&s.0) == titled) {
+                return Some(Place { paper, from: section.1, to: section.1 });
+            }
+        }
         self.papers.iter().enumerate().find_map(|(paper, p)| {
             let (first, last) = p.find(&parts)?;
             Some(Place {
