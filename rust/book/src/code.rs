@@ -49,7 +49,13 @@ fn named(
 ) -> Vec<usize> {
     let source = &library.files[function.file];
     let own = library.crate_of(function.file).unwrap_or("");
-    let at = |k: usize| if k < function.body.to { source.word(k) } else { "" };
+    let at = |k: usize| {
+        if k < function.body.to {
+            source.word(k)
+        } else {
+            ""
+        }
+    };
     let mut found = Vec::new();
     for k in function.body.from..function.body.to {
         if at(k + 1) != "(" {

@@ -12,6 +12,9 @@ use crate::walk::{Link, Links};
 use std::collections::{BTreeMap, BTreeSet, HashMap};
 use std::path::Path;
 
+/// A quotation has at least so many words to stand beside a definition.
+const SENTENCE: usize = 3;
+
 /// A quotation, and where it stands.
 pub type Quotation = (String, Place);
 
@@ -242,10 +245,10 @@ impl<'a> Book<'a> {
         }
     }
 
-    /// The quotations of a comment that are in a paper.
+    /// The quotations of a comment that are in a paper and say something: no single words, no titles.
     pub fn found(&self, comment: &str) -> Vec<Quotation> {
-        let all = quotations(comment).into_iter();
-        all.filter_map(|q| self.papers.find(&q).map(|place| (q, place))).collect()
+        let all = quotations(comment).into_iter().filter(|q| crate::papers::words(q).len() >= SENTENCE);
+        all.filter(|q| !self.papers.is_title(q)).filter_map(|q| self.papers.find(&q).map(|place| (q, place))).collect()
     }
 
     /// Every name and quotation of the lists that are written by hand.
@@ -306,10 +309,7 @@ impl<'a> Book<'a> {
             let d = &library.decls[decl];
             return Some((format!("{}:{}", library.shown_place(d.file), d.line), Some(decl)));
         }
-        let function = library
-            .functions
-            .iter()
-            .find(|f| f.name == name || (f.name == of && library.crate_of(f.file) == Some(owner)))?;
+        let function = library.functions.iter().find(|f| f.name == name || (f.name == of && library.crate_of(f.file) == Some(owner)))?;
         Some((format!("{}:{}", library.shown_place(function.file), function.line), None))
     }
 

@@ -24,13 +24,7 @@ pub struct Edit {
 
 /// Takes an edit's file apart.
 fn parse(name: String, told: &str) -> Edit {
-    let mut edit = Edit {
-        name,
-        wrong: String::new(),
-        file: String::new(),
-        changes: Vec::new(),
-        changed: Vec::new(),
-    };
+    let mut edit = Edit { name, wrong: String::new(), file: String::new(), changes: Vec::new(), changed: Vec::new() };
     for line in told.lines() {
         if let Some(wrong) = line.strip_prefix("# ") {
             edit.wrong.push_str(wrong);
@@ -98,10 +92,7 @@ mod tests {
 
     #[test]
     fn an_edit_is_taken_apart() {
-        let edit = parse(
-            "a/b".to_string(),
-            "# the wrong one\nfile: specs/V.antt\nold: f x = 1\nnew: f x = 2\nold: g\nnew:\n",
-        );
+        let edit = parse("a/b".to_string(), "# the wrong one\nfile: specs/V.antt\nold: f x = 1\nnew: f x = 2\nold: g\nnew:\n");
         assert_eq!(edit.wrong, "the wrong one");
         assert_eq!(edit.file, "specs/V.antt");
         assert_eq!(edit.changes[0], ("f x = 1".to_string(), "f x = 2".to_string()));

@@ -11,8 +11,8 @@ use std::fmt::Write;
 
 /// How many names a line beside a definition has at most.
 const MANY: usize = 24;
-/// How deep below a call the edits are that stand beside it.
-const NEAR: usize = 2;
+/// How many edits of the code stand beside a call, the nearest first.
+const NEAR: usize = 10;
 
 /// What a declaration is, for a reader.
 fn sort_name(book: &Book, decl: usize) -> &'static str {
@@ -87,7 +87,7 @@ impl Book<'_> {
         let mut made = String::new();
         for &s in &d.sections {
             let over = self.code(file, file.sections[s], &links, d.column, None);
-            let _ = writeln!(made, "<i>for every</i> {over}");
+            let _ = write!(made, "<i>for every</i> {}", over.replacen("<span class=l>", "<span>", 1));
         }
         let to = if self.names.is_law(decl) { d.of.to } else { d.words.to };
         made + &self.code(file, Span { from: d.words.from, to }, &links, d.column, Some(decl))
@@ -127,8 +127,22 @@ impl Book<'_> {
                 }
             }
         }
-        let told = |cells: &[&str]| cells.iter().map(|c| marked(c)).collect::<Vec<_>>().join("; ");
+        let told = |cells: &[&str]| cells.iter().map(|c| self.linked(c)).collect::<Vec<_>>().join("; ");
         self.line("proof", &told(&cells[0])) + &self.line("tests", &told(&cells[1]))
+    }
+
+    /// A cell of a document, its `crate/File.name` as links where the book has them.
+    fn linked(&self, cell: &str) -> String {
+        let words = cell.split_inclusive([' ', ',', ';', ':']);
+        let links = words.map(|word| {
+            let name = word.trim_end_matches([' ', ',', ';', ':', '.']);
+            let decl = if name.contains('/') { self.library().named(name) } else { None };
+            match decl.filter(|d| self.entries.contains(d) || self.laws.contains(d)) {
+                Some(d) => self.link(d, name) + &escaped(&word[name.len()..]),
+                None => marked(word),
+            }
+        });
+        links.collect()
     }
 
     fn edits_at(&self, decl: usize) -> String {
@@ -152,16 +166,12 @@ impl Book<'_> {
         main += &self.line("comes to", &format!("{} definitions, {own} of them of the model", call.comes_to.len()));
         main += &self.tests(|row| row.calls.contains(&call.name));
         let edits = self.edits_below(call);
-        let near: Vec<String> = edits
-            .iter()
-            .filter(|e| e.0 <= NEAR)
-            .map(|e| format!("{}: {}", self.link_edit(e.1), escaped(&self.edits[e.1].wrong)))
-            .collect();
+        let near: Vec<String> = edits.iter().take(NEAR).map(|e| format!("{}: {}", self.link_edit(e.1), escaped(&self.edits[e.1].wrong))).collect();
         let far = edits.len() - near.len();
         let mut told = near.join("; ");
         if far > 0 {
             let joint = if told.is_empty() { "" } else { "; " };
-            let _ = write!(told, "{joint}<a href=\"#edits\">{far} edits</a> in the code further below");
+            let _ = write!(told, "{joint}<a href=\"#edits\">{far} more</a> in the code below");
         }
         main += &self.line("must be refused", &told);
         let place = format!("{}:{}", library.shown_place(f.file), f.line);

@@ -25,10 +25,13 @@ impl Book<'_> {
         let mut made = String::new();
         for block in &self.lists.demands {
             let number = block.get("number");
-            let _ = write!(made, "<article id=\"demand-{number}\"><h3>Demand {number}</h3><blockquote class=demand>{}</blockquote>", escaped(block.get("words")));
+            let _ =
+                write!(made, "<article id=\"demand-{number}\"><h3>Demand {number}</h3><blockquote class=demand>{}</blockquote>", escaped(block.get("words")));
             let laws: Vec<String> = block.names("laws").iter().filter_map(|l| Some(self.link(self.library().named(l)?, l))).collect();
             let calls = match block.get("calls") {
-                "every" => vec!["<a href=\"#calls\">the contract of every public call</a>".to_string()],
+                "every" => {
+                    vec!["<a href=\"#calls\">the contract of every public call</a>".to_string()]
+                }
                 _ => block.names("calls").iter().map(|c| format!("the contract of {}", self.link_call(c))).collect(),
             };
             let _ = write!(made, "<p><b>Stated by</b> {}.</p>", calls.into_iter().chain(laws).collect::<Vec<_>>().join(", "));
@@ -165,7 +168,7 @@ impl Book<'_> {
                     range = false;
                 }
                 (".", _) => range = true,
-                (word, _) if file.word(k - 1) == ":" => found.push((std::mem::take(&mut numbers), word.to_lowercase())),
+                (word, _) if file.word(k - 1) == ":" && word != ":" => found.push((std::mem::take(&mut numbers), word.to_lowercase())),
                 _ => {}
             }
         }
@@ -254,7 +257,11 @@ impl Book<'_> {
         let c = self.counts;
         let whole = c.linked + c.bound + c.built + c.untold + c.lost;
         let lines: usize = self.entries.iter().map(|&d| self.lines(d)).sum();
-        let told: Vec<String> = self.coverage().iter().map(|(name, n, all)| format!("{n} of {all} of {}", if name == "demands" { "the demands".to_string() } else { format!("document {name}") })).collect();
+        let told: Vec<String> = self
+            .coverage()
+            .iter()
+            .map(|(name, n, all)| format!("{n} of {all} of {}", if name == "demands" { "the demands".to_string() } else { format!("document {name}") }))
+            .collect();
         format!(
             "<p>{} public calls, {} definitions that their contracts lead to ({lines} lines), {} laws that speak of these definitions and of nothing else, {} edits that must be refused.</p>\
              <p>{whole} names in the contracts, definitions and statements shown here: {} lead to a definition, {} to a word of the checker, {} are bound where they stand. \

@@ -32,14 +32,17 @@ pub fn marked(text: &str) -> String {
 }
 
 impl Book<'_> {
-    /// A link to a declaration in the book, under some words.
+    /// A link to a declaration, under some words; where the book does not have it, the words and where it stands.
     pub fn link(&self, decl: usize, words: &str) -> String {
-        let name = self.library().full_name(decl);
-        let shown = self.entries.contains(&decl) || self.laws.contains(&decl);
-        if !shown {
-            return format!("<span title=\"{}\">{}</span>", escaped(&name), escaped(words));
+        self.link_titled(decl, words, &self.library().full_name(decl))
+    }
+
+    fn link_titled(&self, decl: usize, words: &str, title: &str) -> String {
+        let (words, title) = (escaped(words), escaped(title));
+        if !self.entries.contains(&decl) && !self.laws.contains(&decl) {
+            return format!("<span title=\"{title}\">{words}</span>");
         }
-        format!("<a href=\"#{}\" title=\"{}\">{}</a>", anchor(&name), escaped(&name), escaped(words))
+        format!("<a href=\"#{}\" title=\"{title}\">{words}</a>", anchor(&self.library().full_name(decl)))
     }
 
     /// A link by the declaration's own name.
@@ -65,12 +68,12 @@ impl Book<'_> {
         let told = escaped(word);
         match link {
             Some(Link::To(Target::Built(k))) => self.built(&self.library().built_name(*k), &told),
-            Some(Link::To(target)) if target.decl().is_some() && target.decl() == own => format!("<b>{told}</b>"),
+            Some(Link::To(target)) if target.decl().is_some() && target.decl() == own => {
+                format!("<b>{told}</b>")
+            }
             Some(Link::To(Target::Member(d, m))) => {
                 let member = &self.library().decls[*d].members[*m].name;
-                let name = self.library().full_name(*d);
-                let title = escaped(&format!("{member} of {name}"));
-                format!("<a href=\"#{}\" title=\"{title}\">{told}</a>", anchor(&name))
+                self.link_titled(*d, word, &format!("{member} of {}", self.library().full_name(*d)))
             }
             Some(Link::To(Target::Decl(d))) => self.link(*d, word),
             Some(Link::Contract(n)) => self.built(crate::names::CONTRACT_WORDS[*n], &told),
@@ -95,8 +98,17 @@ impl Book<'_> {
             made += &self.word(file.word(k), links.words.get(&k), own);
             at = word.end;
         }
-        made
+        lines(&made)
     }
+}
+
+/// Lines of code, each a block of its own: what does not fit goes on below, a little to the right.
+fn lines(code: &str) -> String {
+    let line = |line: &str| match line.len() - line.trim_start_matches(' ').len() {
+        0 => format!("<span class=l>{line}</span>"),
+        spaces => format!("<span class=l style=\"--n:{spaces}\">{line}</span>"),
+    };
+    code.split('\n').map(line).collect()
 }
 
 /// What stands between two words: spaces and comments.

@@ -32,16 +32,12 @@ impl Word {
 
 /// Whether a character ends a name.
 fn ends_name(c: char) -> bool {
-    c.is_whitespace() || "(){}.;,@\"«»".contains(c)
+    matches!(c, ' ' | '\n' | '(' | ')' | '{' | '}' | '.' | ';' | ',' | '@' | '"' | '«' | '»') || c.is_whitespace()
 }
 
 /// The end of the word that begins at the start of `rest`, which is no space, and what it is.
 fn word_at(rest: &str) -> (usize, Kind) {
-    let until = |mark: &str, from: usize| {
-        rest[from..]
-            .find(mark)
-            .map_or(rest.len(), |k| from + k + mark.len())
-    };
+    let until = |mark: &str, from: usize| rest[from..].find(mark).map_or(rest.len(), |k| from + k + mark.len());
     if rest.starts_with("--") {
         return (rest.find('\n').unwrap_or(rest.len()), Kind::Comment);
     }
@@ -55,11 +51,7 @@ fn word_at(rest: &str) -> (usize, Kind) {
         _ if ends_name(first) => (first.len_utf8(), Kind::Mark),
         _ => {
             let end = rest.find(ends_name).unwrap_or(rest.len());
-            let kind = if first.is_ascii_digit() {
-                Kind::Number
-            } else {
-                Kind::Name
-            };
+            let kind = if first.is_ascii_digit() { Kind::Number } else { Kind::Name };
             (end, kind)
         }
     }
@@ -79,84 +71,85 @@ fn text_end(rest: &str) -> usize {
     rest.len()
 }
 
+/// Where a reader of words stands: the next byte, its line from 1, its column from 0.
+struct Place {
+    at: usize,
+    line: usize,
+    column: usize,
+}
+
+impl Place {
+    /// Goes on by the characters of a text.
+    fn pass(&mut self, text: &str) {
+        self.at += text.len();
+        match text.rfind('\n') {
+            Some(last) => {
+                self.line += text.matches('\n').count();
+                self.column = text[last + 1..].chars().count();
+            }
+            None => self.column += text.chars().count(),
+        }
+    }
+
+    /// The word of some bytes that begins here, behind those that were found.
+    fn word(&self, length: usize, kind: Kind, found: &[Word]) -> Word {
+        Word { kind, start: self.at, end: self.at + length, line: self.line, column: self.column, tight: found.last().is_some_and(|w| w.end == self.at) }
+    }
+}
+
+/// The length of the spaces that a text begins with.
+fn spaces(text: &str) -> usize {
+    text.find(|c: char| !c.is_whitespace()).unwrap_or(text.len())
+}
+
 /// All words of a text, comments among them.
 pub fn words(text: &str) -> Vec<Word> {
-    let (mut line, mut line_start, mut at) = (1, 0, 0);
+    let mut place = Place { at: 0, line: 1, column: 0 };
     let mut found: Vec<Word> = Vec::new();
-    while at < text.len() {
-        let c = text[at..].chars().next().expect("inside the text");
-        if c.is_whitespace() {
-            at += c.len_utf8();
-            if c == '\n' {
-                line += 1;
-                line_start = at;
-            }
-            continue;
-        }
-        let (length, kind) = word_at(&text[at..]);
-        let end = at + length;
-        found.push(Word {
-            kind,
-            start: at,
-            end,
-            line,
-            column: text[line_start..at].chars().count(),
-            tight: found.last().is_some_and(|w| w.end == at),
-        });
-        let inner = &text[at..end];
-        if let Some(k) = inner.rfind('\n') {
-            line += inner.matches('\n').count();
-            line_start = at + k + 1;
-        }
-        at = end;
+    place.pass(&text[..spaces(text)]);
+    while place.at < text.len() {
+        let (length, kind) = word_at(&text[place.at..]);
+        found.push(place.word(length, kind, &found));
+        let end = place.at + length;
+        place.pass(&text[place.at..end + spaces(&text[end..])]);
     }
     found
 }
 
 /// The words of a file of code: names of letters, digits and `_`; what stands in the braces of a contract is read as the checker's language.
 pub fn code_words(text: &str) -> Vec<Word> {
+    let mut place = Place { at: 0, line: 1, column: 0 };
     let mut found: Vec<Word> = Vec::new();
-    let (mut line, mut line_start, mut at) = (1, 0, 0);
     let mut contract = false;
-    while at < text.len() {
-        let c = text[at..].chars().next().expect("inside the text");
-        if c.is_whitespace() {
-            at += c.len_utf8();
-            if c == '\n' {
-                line += 1;
-                line_start = at;
-            }
-            continue;
-        }
-        if contract && c == '{' {
-            let end = at + braces(&text[at..]);
-            for w in words(&text[at..end]) {
-                let column = if w.line == 1 { w.column + text[line_start..at].chars().count() } else { w.column };
-                found.push(Word { start: w.start + at, end: w.end + at, line: w.line + line - 1, column, ..w });
-            }
-            let inner = &text[at..end];
-            if let Some(k) = inner.rfind('\n') {
-                line += inner.matches('\n').count();
-                line_start = at + k + 1;
-            }
-            at = end;
+    place.pass(&text[..spaces(text)]);
+    while place.at < text.len() {
+        let rest = &text[place.at..];
+        let length = if contract && rest.starts_with('{') {
+            let inner = braces(rest);
+            found.extend(words(&rest[..inner]).into_iter().map(|w| moved(w, &place)));
             contract = false;
-            continue;
-        }
-        let (length, kind) = code_word_at(&text[at..]);
-        let end = at + length;
-        contract = CONTRACT.contains(&&text[at..end]);
-        found.push(Word {
-            kind,
-            start: at,
-            end,
-            line,
-            column: text[line_start..at].chars().count(),
-            tight: found.last().is_some_and(|w| w.end == at),
-        });
-        at = end;
+            inner
+        } else {
+            let (length, kind) = code_word_at(rest);
+            contract = CONTRACT.contains(&&rest[..length]);
+            found.push(place.word(length, kind, &found));
+            length
+        };
+        let end = place.at + length;
+        place.pass(&text[place.at..end + spaces(&text[end..])]);
     }
     found
+}
+
+/// A word of a piece of text, where that piece begins at a place.
+fn moved(word: Word, place: &Place) -> Word {
+    Word {
+        start: word.start + place.at,
+        end: word.end + place.at,
+        line: word.line + place.line - 1,
+        column: word.column + if word.line == 1 { place.column } else { 0 },
+        ..word
+    }
 }
 
 /// Words of the code behind which the checker's language stands in braces.
@@ -194,9 +187,7 @@ fn code_word_at(rest: &str) -> (usize, Kind) {
 
 /// A name without the marks of an escaped one.
 pub fn plain(name: &str) -> &str {
-    name.strip_prefix('«')
-        .and_then(|n| n.strip_suffix('»'))
-        .unwrap_or(name)
+    name.strip_prefix('«').and_then(|n| n.strip_suffix('»')).unwrap_or(name)
 }
 
 /// The parts of an operator's name: `_≡_` has `≡`, `_≡⟨_⟩_` has two. A name without places for arguments has none.
@@ -212,34 +203,21 @@ mod tests {
     use super::*;
 
     fn told(text: &str) -> Vec<(&str, Kind)> {
-        words(text)
-            .iter()
-            .map(|w| (w.of(text), w.kind))
-            .collect()
+        words(text).iter().map(|w| (w.of(text), w.kind)).collect()
     }
 
     #[test]
     fn names_run_to_a_space_or_a_bracket() {
         let read = told("n+n (x .rem) xs′ [] «max_len»");
         let names: Vec<&str> = read.iter().map(|r| r.0).collect();
-        assert_eq!(
-            names,
-            ["n+n", "(", "x", ".", "rem", ")", "xs′", "[]", "«max_len»"]
-        );
+        assert_eq!(names, ["n+n", "(", "x", ".", "rem", ")", "xs′", "[]", "«max_len»"]);
     }
 
     #[test]
     fn comments_texts_and_numbers_are_told_apart() {
         assert_eq!(
             told("a -- b\n\"c -- d\" 12 {- e\nf -} g"),
-            [
-                ("a", Kind::Name),
-                ("-- b", Kind::Comment),
-                ("\"c -- d\"", Kind::Text),
-                ("12", Kind::Number),
-                ("{- e\nf -}", Kind::Comment),
-                ("g", Kind::Name)
-            ]
+            [("a", Kind::Name), ("-- b", Kind::Comment), ("\"c -- d\"", Kind::Text), ("12", Kind::Number), ("{- e\nf -}", Kind::Comment), ("g", Kind::Name)]
         );
     }
 

@@ -2,6 +2,7 @@
 
 pub mod code;
 pub mod contents;
+pub mod documents;
 pub mod edits;
 pub mod entries;
 pub mod front;

@@ -29,9 +29,8 @@ impl Target {
 }
 
 /// Names of the prelude, which stands open in every file.
-const PRELUDE: &[&str] = &[
-    "IsProp", "IsSet", "⊥", "absurd", "¬_", "Dec", "yes", "no", "Discrete", "∥_∥₁", "∣_∣₁", "squash₁", "Unit", "tt", "Id", "J", "Path", "Level",
-];
+const PRELUDE: &[&str] =
+    &["IsProp", "IsSet", "⊥", "absurd", "¬_", "Dec", "yes", "no", "Discrete", "∥_∥₁", "∣_∣₁", "squash₁", "Unit", "tt", "Id", "J", "Path", "Level"];
 
 /// Words of a contract: a lent slice as it is, before the call and after it.
 pub const CONTRACT_WORDS: &[&str] = &["now", "entry", "exit"];
@@ -52,6 +51,9 @@ pub struct Dangling {
     pub name: String,
 }
 
+/// A change to files as they are read.
+type Change = dyn Fn(&Path, String) -> String;
+
 /// All files of the project, and those of the kit that they lead to.
 pub struct Library {
     pub root: PathBuf,
@@ -65,6 +67,8 @@ pub struct Library {
     libraries: HashMap<String, PathBuf>,
     built: RefCell<Vec<String>>,
     scopes: RefCell<HashMap<usize, Rc<Scope>>>,
+    /// what becomes of a file's text when it is read
+    change: Box<Change>,
 }
 
 /// The files below a folder with an ending, sorted.
@@ -105,14 +109,17 @@ fn libraries(kit: &Path) -> HashMap<String, PathBuf> {
         let from = line.find(&format!("\"{key}\""))?;
         line[from..].split('"').nth(3).map(str::to_string)
     };
-    told.lines()
-        .filter_map(|line| Some((value(line, "name")?, kit.join("logic").join(value(line, "src")?))))
-        .collect()
+    told.lines().filter_map(|line| Some((value(line, "name")?, kit.join("logic").join(value(line, "src")?)))).collect()
 }
 
 impl Library {
     /// Reads the crates below `root` and what of the kit they name.
     pub fn read(root: &Path, kit: &Path) -> std::io::Result<Library> {
+        Library::read_changed(root, kit, |_, text| text)
+    }
+
+    /// The same with files changed as they are read, for tests.
+    pub fn read_changed(root: &Path, kit: &Path, change: impl Fn(&Path, String) -> String + 'static) -> std::io::Result<Library> {
         let mut library = Library {
             root: root.to_path_buf(),
             kit: kit.to_path_buf(),
@@ -124,6 +131,7 @@ impl Library {
             libraries: libraries(kit),
             built: RefCell::new(Vec::new()),
             scopes: RefCell::new(HashMap::new()),
+            change: Box::new(change),
         };
         for name in library.crates()? {
             let folder = root.join("crates").join(&name);
@@ -162,7 +170,7 @@ impl Library {
             }
         }
         for place in files_below(&folder.join("src"), "rt") {
-            let text = std::fs::read_to_string(&place)?;
+            let text = (self.change)(&place, std::fs::read_to_string(&place)?);
             let number = self.files.len();
             let first = self.decls.len();
             let path = format!("code:{name}");
@@ -177,7 +185,7 @@ impl Library {
     }
 
     fn read_file(&mut self, path: &str, place: PathBuf) -> std::io::Result<usize> {
-        let text = std::fs::read_to_string(&place)?;
+        let text = (self.change)(&place, std::fs::read_to_string(&place)?);
         let number = self.files.len();
         let file = source::read(path, place, text, number, &mut self.decls);
         self.files.push(file);
@@ -207,11 +215,7 @@ impl Library {
 
     /// Reads what the `use` lines of the crates name, as far as names are handed on.
     fn reach_kit(&mut self) {
-        let mut queue: Vec<(String, Option<String>)> = self
-            .files
-            .iter()
-            .flat_map(|f| f.uses.iter().map(|u| (u.path.clone(), u.name.clone())))
-            .collect();
+        let mut queue: Vec<(String, Option<String>)> = self.files.iter().flat_map(|f| f.uses.iter().map(|u| (u.path.clone(), u.name.clone()))).collect();
         let mut seen = std::collections::HashSet::new();
         while let Some((path, name)) = queue.pop() {
             if !seen.insert((path.clone(), name.clone())) || path.starts_with("code:") {
@@ -295,9 +299,7 @@ impl Library {
             return self.find_from(&on?.path, there, depth + 1);
         }
         let children = file.globs.iter();
-        children
-            .filter_map(|c| self.find_from(&format!("{path}.{c}"), name, depth + 1))
-            .next()
+        children.filter_map(|c| self.find_from(&format!("{path}.{c}"), name, depth + 1)).next()
     }
 
     /// A type of the code, or one of its variants.

@@ -32,7 +32,9 @@ const BEHIND: [(&str, &str, &str); 2] = [
 impl Book<'_> {
     /// The page, with the text of docs/LANDINGS.md for the table by request.
     pub fn page(&self, landings: &str) -> String {
-        let mut made = String::from("<!doctype html>\n<html lang=\"en\"><head><meta charset=\"utf-8\"><meta name=\"viewport\" content=\"width=device-width, initial-scale=1\">");
+        let mut made = String::from(
+            "<!doctype html>\n<html lang=\"en\"><head><meta charset=\"utf-8\"><meta name=\"viewport\" content=\"width=device-width, initial-scale=1\">",
+        );
         let _ = write!(made, "<title>The contracts of the crew vote</title><style>\n{STYLE}</style></head>\n<body>{}<main>", self.navigation());
         made += "<h1>The contracts of the crew vote</h1>\n<p>Every public call with its contract. Each name in a contract leads to its definition, and on from there, down to the model, which is document 01 and document 02 as definitions that run, and to the kit's library. Beside a definition stands the paper's sentence that it states; under it who uses it, its laws, the tests, and the edits that the prover must refuse.</p>\n";
         made += &self.numbers_text();

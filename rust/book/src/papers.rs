@@ -28,17 +28,12 @@ pub struct Papers {
 
 /// The words of a text: letters and digits, small.
 pub fn words(text: &str) -> Vec<String> {
-    text.split(|c: char| !c.is_alphanumeric())
-        .filter(|w| !w.is_empty())
-        .map(str::to_lowercase)
-        .collect()
+    text.split(|c: char| !c.is_alphanumeric()).filter(|w| !w.is_empty()).map(str::to_lowercase).collect()
 }
 
 /// A word's number: FNV-1a, folded to 12 bits.
 pub fn number(word: &str) -> u16 {
-    let hash = word
-        .bytes()
-        .fold(0x811c_9dc5u32, |h, b| (h ^ u32::from(b)).wrapping_mul(0x0100_0193));
+    let hash = word.bytes().fold(0x811c_9dc5u32, |h, b| (h ^ u32::from(b)).wrapping_mul(0x0100_0193));
     ((hash ^ (hash >> 12) ^ (hash >> 24)) & 0xfff) as u16
 }
 
@@ -61,13 +56,7 @@ fn parts(quotation: &str) -> Vec<Vec<u16>> {
 impl Paper {
     /// Reads a paper's list: `# title` begins a section, each other line is a sentence.
     pub fn read(name: &str, told: &str) -> Paper {
-        let mut paper = Paper {
-            name: name.to_string(),
-            sections: Vec::new(),
-            sentences: 0,
-            words: Vec::new(),
-            sentence_of: Vec::new(),
-        };
+        let mut paper = Paper { name: name.to_string(), sections: Vec::new(), sentences: 0, words: Vec::new(), sentence_of: Vec::new() };
         for line in told.lines() {
             if let Some(title) = line.strip_prefix("# ") {
                 paper.sections.push((title.to_string(), paper.sentences));
@@ -86,11 +75,7 @@ impl Paper {
     /// The section of a sentence.
     pub fn section(&self, sentence: usize) -> &str {
         let before = self.sections.iter().rev();
-        before
-            .filter(|s| s.1 <= sentence)
-            .map(|s| s.0.as_str())
-            .next()
-            .unwrap_or("")
+        before.filter(|s| s.1 <= sentence).map(|s| s.0.as_str()).next().unwrap_or("")
     }
 
     /// The words where the parts of a quotation stand, one behind the other.
@@ -129,12 +114,14 @@ impl Papers {
         }
         self.papers.iter().enumerate().find_map(|(paper, p)| {
             let (first, last) = p.find(&parts)?;
-            Some(Place {
-                paper,
-                from: p.sentence_of[first],
-                to: p.sentence_of[last],
-            })
+            Some(Place { paper, from: p.sentence_of[first], to: p.sentence_of[last] })
         })
+    }
+
+    /// Whether a quotation is the title of a section.
+    pub fn is_title(&self, quotation: &str) -> bool {
+        let titled = words(quotation);
+        self.papers.iter().flat_map(|p| &p.sections).any(|s| words(&s.0) == titled)
     }
 
     /// A place in words: the paper, and the section.
@@ -208,9 +195,7 @@ mod tests {
     const TEXT: &str = "# A title\n\nThe node's vote is the *least* sum. It lies between -b and b.\n- 1 bytes end inside a field\n\n**W-201 The top.** Crew leaders talk. Yes and no remain.\n";
 
     fn papers() -> Papers {
-        Papers {
-            papers: vec![Paper::read("01", &fingerprint(TEXT))],
-        }
+        Papers { papers: vec![Paper::read("01", &fingerprint(TEXT))] }
     }
 
     #[test]

@@ -27,25 +27,9 @@ pub struct Function {
 
 /// Reads a file of code: its types are appended to `all`.
 pub fn read(path: &str, place: PathBuf, text: String, number: usize, all: &mut Vec<Decl>) -> (File, Vec<Function>) {
-    let (comments, words) = lex::code_words(&text)
-        .into_iter()
-        .partition(|w: &Word| w.kind == Kind::Comment);
-    let file = File {
-        path: path.to_string(),
-        place,
-        text,
-        words,
-        comments,
-        ..File::default()
-    };
-    let mut reader = Reader {
-        number,
-        file,
-        all,
-        functions: Vec::new(),
-        owner: None,
-        at: 0,
-    };
+    let (comments, words) = lex::code_words(&text).into_iter().partition(|w: &Word| w.kind == Kind::Comment);
+    let file = File { path: path.to_string(), place, text, words, comments, ..File::default() };
+    let mut reader = Reader { number, file, all, functions: Vec::new(), owner: None, at: 0 };
     reader.run();
     (reader.file, reader.functions)
 }
@@ -209,11 +193,7 @@ impl Reader<'_> {
                 };
             }
             let skip = if sort == Sort::Struct { 2 } else { 1 };
-            found.push(Member {
-                name: self.file.word(name).to_string(),
-                word: name,
-                of: Span { from: (name + skip).min(end), to: end },
-            });
+            found.push(Member { name: self.file.word(name).to_string(), word: name, of: Span { from: (name + skip).min(end), to: end } });
             at = end;
         }
         found

@@ -13,14 +13,13 @@ use std::rc::Rc;
 pub struct Names<'a> {
     pub trees: &'a Trees<'a>,
     links: RefCell<HashMap<usize, Rc<Links>>>,
+    /// records that some definition builds: of these only the fields that are taken count, of others, which are statements, all
+    built: RefCell<HashSet<usize>>,
 }
 
 impl<'a> Names<'a> {
     pub fn new(trees: &'a Trees<'a>) -> Self {
-        Names {
-            trees,
-            links: RefCell::new(HashMap::new()),
-        }
+        Names { trees, links: RefCell::new(HashMap::new()), built: RefCell::new(HashSet::new()) }
     }
 
     pub fn library(&self) -> &'a Library {
@@ -75,17 +74,16 @@ impl<'a> Names<'a> {
     /// patterns, and of a record that is built only those fields that are taken from it. So `Desk::blocking` comes to what the desk answers to `blocking`, and
     /// not to what it answers to the other calls.
     pub fn comes_to(&self, links: &Links) -> BTreeSet<usize> {
-        let all = self.closure(Self::targets(links));
-        let built = all.iter().flat_map(|&d| self.links(d).built.clone()).collect();
-        let mut course = Course {
-            names: self,
-            built,
-            found: BTreeSet::new(),
-            made: HashSet::new(),
-            any: HashSet::new(),
-        };
+        let mut course = Course { names: self, found: BTreeSet::new(), made: HashSet::new(), any: HashSet::new() };
         course.run(links);
         course.found
+    }
+
+    /// The records that definitions build, of all that some names lead to.
+    pub fn note_built(&self, starts: impl IntoIterator<Item = usize>) {
+        let all = self.closure(starts);
+        let built = all.iter().flat_map(|&d| self.links(d).built.clone());
+        self.built.borrow_mut().extend(built);
     }
 }
 
@@ -97,19 +95,21 @@ struct Course<'b, 'a> {
     made: HashSet<Target>,
     /// data of which no constructor is: a value of it comes from outside, and may be any
     any: HashSet<usize>,
-    /// records that some definition builds: of these only the fields that are taken count, of others, which are statements, all
-    built: HashSet<usize>,
 }
 
 impl Course<'_, '_> {
     fn run(&mut self, links: &Links) {
         self.take(links, &mut Vec::new());
+        let mut whole: HashSet<usize> = HashSet::new();
         loop {
             let before = (self.found.len(), self.made.len());
             let mut waiting = Vec::new();
-            for decl in self.found.clone() {
+            let next: Vec<usize> = self.found.iter().copied().filter(|d| !whole.contains(d)).collect();
+            for decl in next {
                 let links = self.names.links(decl);
-                self.take(&links, &mut waiting);
+                if self.take(&links, &mut waiting) {
+                    whole.insert(decl);
+                }
             }
             if before == (self.found.len(), self.made.len()) {
                 let made = |d: usize, made: &HashSet<Target>| made.iter().any(|t| t.decl() == Some(d));
@@ -147,10 +147,12 @@ impl Course<'_, '_> {
         open
     }
 
-    fn take(&mut self, links: &Links, waiting: &mut Vec<usize>) {
+    /// Takes the names that count by now; tells whether those are all.
+    fn take(&mut self, links: &Links, waiting: &mut Vec<usize>) -> bool {
         let cases = links.cases.iter().filter(|case| !self.open(&case.1, waiting)).map(|case| case.0);
         let mut shut: Vec<_> = cases.collect();
-        let untaken = |t: &Target| t.decl().is_some_and(|d| self.built.contains(&d)) && !self.made.contains(t);
+        let built = self.names.built.borrow();
+        let untaken = |t: &Target| t.decl().is_some_and(|d| built.contains(&d)) && !self.made.contains(t);
         shut.extend(links.fields.iter().filter(|f| untaken(&f.1)).map(|f| f.0));
         for (&word, link) in &links.words {
             let Link::To(target) = link else {
@@ -165,6 +167,7 @@ impl Course<'_, '_> {
                 self.made.insert(*target);
             }
         }
+        shut.is_empty()
     }
 }
 
@@ -205,14 +208,11 @@ pub fn calls(names: &Names, crates: &[String]) -> Vec<Call> {
         if !function.public || !crates.iter().any(|c| c == owner) {
             continue;
         }
-        let links = walk::contract(names.trees, function);
-        let comes_to = names.comes_to(&links);
-        found.push(Call {
-            name: call_name(library, function),
-            function: n,
-            links,
-            comes_to,
-        });
+        found.push(Call { name: call_name(library, function), function: n, links: walk::contract(names.trees, function), comes_to: BTreeSet::new() });
+    }
+    names.note_built(found.iter().flat_map(|c| Names::targets(&c.links)).collect::<Vec<_>>());
+    for call in &mut found {
+        call.comes_to = names.comes_to(&call.links);
     }
     found
 }

@@ -44,12 +44,7 @@ impl Book<'_> {
             let comes = self.calls.iter().enumerate();
             let comes = comes.filter(|(n, c)| calls.contains(n) || definitions.iter().any(|d| c.comes_to.contains(d)));
             let calls = comes.map(|(_, c)| c.name.clone()).filter(|n| !n.starts_with("crew_")).collect();
-            Sentence {
-                place,
-                words,
-                definitions: definitions.into_iter().collect(),
-                calls,
-            }
+            Sentence { place, words, definitions: definitions.into_iter().collect(), calls }
         });
         made.collect()
     }
@@ -70,26 +65,18 @@ impl Book<'_> {
     /// The requests that have landed, by the headings of docs/LANDINGS.md.
     pub fn requests(&self, landings: &str) -> Vec<Request> {
         let titles = landings.lines().filter_map(|l| l.strip_prefix("## W-"));
-        let mut found: Vec<Request> = titles
-            .filter_map(|t| t.split_once(' '))
-            .map(|(number, title)| self.request(format!("W-{number}"), title.to_string()))
-            .collect();
+        let mut found: Vec<Request> =
+            titles.filter_map(|t| t.split_once(' ')).map(|(number, title)| self.request(format!("W-{number}"), title.to_string())).collect();
         found.sort_by(|a, b| a.number.cmp(&b.number));
         found
     }
 
     fn request(&self, number: String, title: String) -> Request {
         let library = self.library();
-        let quotes = |quoted: &[(String, Place)]| {
-            quoted.iter().any(|(_, p)| self.papers.papers[p.paper].section(p.from).starts_with(&number))
-        };
+        let quotes = |quoted: &[(String, Place)]| quoted.iter().any(|(_, p)| self.papers.papers[p.paper].section(p.from).starts_with(&number));
         let marked = |note: &[String]| note.join(" ").contains(&number);
-        let definitions: BTreeSet<usize> = self
-            .entries
-            .iter()
-            .copied()
-            .filter(|d| marked(&library.decls[*d].note) || self.quoted.get(d).is_some_and(|q| quotes(q)))
-            .collect();
+        let mut definitions: BTreeSet<usize> =
+            self.entries.iter().copied().filter(|d| marked(&library.decls[*d].note) || self.quoted.get(d).is_some_and(|q| quotes(q))).collect();
         let heads = |file: usize| crate::contents::comments(&library.files[file]).first().map_or(String::new(), |c| c.1.clone());
         let calls = self.calls.iter().filter(|c| {
             let f = &library.functions[c.function];
@@ -99,19 +86,16 @@ impl Book<'_> {
         });
         let rows = self.rows.iter().filter(|r| r.section.contains(&number) || r.sentence.contains(&number));
         let mut tests: Vec<String> = Vec::new();
+        let mut calls: BTreeSet<String> = calls.map(|c| c.name.clone()).collect();
         for row in rows {
+            calls.extend(row.calls.iter().filter(|c| self.call(c).is_some()).cloned());
+            definitions.extend(row.definitions.iter().filter(|d| self.entries.contains(d)));
             for test in row.test.split("; ").filter(|t| !t.is_empty() && *t != "the same") {
                 if !tests.iter().any(|t| t == test) {
                     tests.push(test.to_string());
                 }
             }
         }
-        Request {
-            calls: calls.map(|c| c.name.clone()).collect(),
-            number,
-            title,
-            definitions,
-            tests,
-        }
+        Request { calls, number, title, definitions, tests }
     }
 }

@@ -97,28 +97,10 @@ impl File {
 
 /// Reads a file: its declarations are appended to `all`, numbered `number`.
 pub fn read(path: &str, place: PathBuf, text: String, number: usize, all: &mut Vec<Decl>) -> File {
-    let (comments, words) = lex::words(&text)
-        .into_iter()
-        .partition(|w: &Word| w.kind == Kind::Comment);
-    let mut file = File {
-        path: path.to_string(),
-        place,
-        text,
-        words,
-        comments,
-        ..File::default()
-    };
-    let whole = Span {
-        from: 0,
-        to: file.words.len(),
-    };
-    let mut reader = Reader {
-        number,
-        all,
-        sections: Vec::new(),
-        spans: Vec::new(),
-        decls: Vec::new(),
-    };
+    let (comments, words) = lex::words(&text).into_iter().partition(|w: &Word| w.kind == Kind::Comment);
+    let mut file = File { path: path.to_string(), place, text, words, comments, ..File::default() };
+    let whole = Span { from: 0, to: file.words.len() };
+    let mut reader = Reader { number, all, sections: Vec::new(), spans: Vec::new(), decls: Vec::new() };
     reader.block(&mut file, whole);
     file.sections = reader.spans;
     file.decls = reader.decls;
@@ -148,17 +130,8 @@ pub fn items(file: &File, block: Span) -> Vec<Span> {
             starts.push(k);
         }
     }
-    let ends: Vec<usize> = starts
-        .iter()
-        .skip(1)
-        .copied()
-        .chain([block.to])
-        .collect();
-    starts
-        .into_iter()
-        .zip(ends)
-        .map(|(from, to)| Span { from, to })
-        .collect()
+    let ends: Vec<usize> = starts.iter().skip(1).copied().chain([block.to]).collect();
+    starts.into_iter().zip(ends).map(|(from, to)| Span { from, to }).collect()
 }
 
 /// The place of a word outside brackets, if it is there.
@@ -225,13 +198,7 @@ impl Reader<'_> {
                     self.section(file, item);
                     current = None;
                 }
-                "mutual" => self.block(
-                    file,
-                    Span {
-                        from: item.from + 1,
-                        to: item.to,
-                    },
-                ),
+                "mutual" => self.block(file, Span { from: item.from + 1, to: item.to }),
                 "unfolding" => self.extend(current, item, false),
                 _ if self.header(file, item) => {}
                 _ => match self.declaration(file, item) {
@@ -261,14 +228,8 @@ impl Reader<'_> {
             return;
         };
         self.sections.push(self.spans.len());
-        self.spans.push(Span {
-            from: behind_levels(file, item.from + 2, end),
-            to: end,
-        });
-        let inner = Span {
-            from: end + 1,
-            to: item.to,
-        };
+        self.spans.push(Span { from: behind_levels(file, item.from + 2, end), to: end });
+        let inner = Span { from: end + 1, to: item.to };
         self.block(file, inner);
         self.sections.pop();
     }
@@ -287,10 +248,7 @@ impl Reader<'_> {
             }
             "use" => {
                 let line = file.words[at].line;
-                let span = Span {
-                    from: at + 1,
-                    to: item.to,
-                };
+                let span = Span { from: at + 1, to: item.to };
                 let told = file.slice(span).to_string();
                 use_line(file, &told, line);
                 true
@@ -314,14 +272,7 @@ impl Reader<'_> {
             }
             at += 1;
         }
-        let colon = find(
-            file,
-            Span {
-                from: at,
-                to: item.to,
-            },
-            ":",
-        );
+        let colon = find(file, Span { from: at, to: item.to }, ":");
         let colon = match (sort, colon) {
             (Sort::Definition, Some(k)) if k == behind_levels(file, at + 1, item.to) => k,
             (Sort::Definition, _) if rules => at + 1,
@@ -340,14 +291,8 @@ impl Reader<'_> {
             line,
             note: note_above(file, line, column),
             sections: self.sections.clone(),
-            parameters: Span {
-                from: behind_levels(file, at + 1, colon),
-                to: colon,
-            },
-            of: Span {
-                from: colon + 1,
-                to: body,
-            },
+            parameters: Span { from: behind_levels(file, at + 1, colon), to: colon },
+            of: Span { from: colon + 1, to: body },
             members: members(file, body + 1, item.to),
             clauses: Vec::new(),
             words: item,
@@ -367,14 +312,7 @@ fn members(file: &File, from: usize, to: usize) -> Vec<Member> {
         };
         for k in item.from..colon {
             if file.word(k) != "pub" {
-                found.push(Member {
-                    name: lex::plain(file.word(k)).to_string(),
-                    word: k,
-                    of: Span {
-                        from: colon + 1,
-                        to: item.to,
-                    },
-                });
+                found.push(Member { name: lex::plain(file.word(k)).to_string(), word: k, of: Span { from: colon + 1, to: item.to } });
             }
         }
     }
@@ -383,8 +321,7 @@ fn members(file: &File, from: usize, to: usize) -> Vec<Member> {
 
 /// One name for a module that its own crate and others spell differently.
 pub fn module_path(path: &str) -> String {
-    path.replace("·specs.specs", ".specs")
-        .replace("·proofs.proofs", ".proofs")
+    path.replace("·specs.specs", ".specs").replace("·proofs.proofs", ".proofs")
 }
 
 /// The leaves of a `use` line, without the word `use`.
@@ -392,12 +329,7 @@ pub fn use_line(file: &mut File, told: &str, line: usize) {
     let told = told.trim().trim_end_matches(';');
     let told = told.strip_prefix("package.").unwrap_or(told);
     let mut leaf = |here: &str, path: &str, name: Option<&str>| {
-        file.uses.push(Use {
-            here: here.to_string(),
-            path: module_path(path),
-            name: name.map(str::to_string),
-            line,
-        });
+        file.uses.push(Use { here: here.to_string(), path: module_path(path), name: name.map(str::to_string), line });
     };
     if let Some((path, names)) = told.split_once(".{") {
         for name in names.trim_end_matches('}').split(',').map(str::trim) {
@@ -455,18 +387,7 @@ mod tests {
     #[test]
     fn use_lines() {
         let (file, _) = sample();
-        let told: Vec<(&str, &str, Option<&str>)> = file
-            .uses
-            .iter()
-            .map(|u| (u.here.as_str(), u.path.as_str(), u.name.as_deref()))
-            .collect();
-        assert_eq!(
-            told,
-            [
-                ("c", "a.B", Some("c")),
-                ("e", "a.B", Some("d")),
-                ("F", "a.B", None)
-            ]
-        );
+        let told: Vec<(&str, &str, Option<&str>)> = file.uses.iter().map(|u| (u.here.as_str(), u.path.as_str(), u.name.as_deref())).collect();
+        assert_eq!(told, [("c", "a.B", Some("c")), ("e", "a.B", Some("d")), ("F", "a.B", None)]);
     }
 }

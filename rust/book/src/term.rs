@@ -94,9 +94,7 @@ pub struct Parser<'a> {
 }
 
 /// Words that end an application.
-const STOPS: &[&str] = &[
-    ")", "}", ",", ";", "→", "=", "|", "↦", "]", "⌝", "in", "as", "where", ":", "←",
-];
+const STOPS: &[&str] = &[")", "}", ",", ";", "→", "=", "|", "↦", "]", "⌝", "in", "as", "where", ":", "←"];
 
 impl<'a> Parser<'a> {
     fn word(&self, at: usize) -> &'a str {
@@ -119,9 +117,7 @@ impl<'a> Parser<'a> {
 
     fn is_operator(&self) -> bool {
         let word = self.here();
-        self.at < self.end
-            && self.words[self.at].kind == Kind::Name
-            && (word == "×" || (self.operator)(word))
+        self.at < self.end && self.words[self.at].kind == Kind::Name && (word == "×" || (self.operator)(word))
     }
 
     /// The place behind the bracket that closes the one at `open`.
@@ -170,11 +166,7 @@ impl<'a> Parser<'a> {
         }
         let left = self.infix();
         if self.eat("→") {
-            let binder = Binder {
-                names: Vec::new(),
-                of: Some(left),
-                implicit: false,
-            };
+            let binder = Binder { names: Vec::new(), of: Some(left), implicit: false };
             return Term::Binding(vec![binder], Box::new(self.term()), Former::Arrow);
         }
         left
@@ -192,11 +184,7 @@ impl<'a> Parser<'a> {
         self.at += 1;
         let of = Some(self.inside(end, |p| p.term()));
         self.at += 1;
-        Binder {
-            names,
-            of,
-            implicit,
-        }
+        Binder { names, of, implicit }
     }
 
     /// Reads up to `end` only, and goes on from there.
@@ -382,11 +370,7 @@ impl<'a> Parser<'a> {
     fn binding(&mut self) -> Term {
         self.at += 1;
         let pattern = self.pattern_atom();
-        let of = if self.eat(":") {
-            Some(Box::new(self.term()))
-        } else {
-            None
-        };
+        let of = if self.eat(":") { Some(Box::new(self.term())) } else { None };
         self.eat("=");
         let value = Box::new(self.term());
         self.eat("in");
@@ -426,11 +410,7 @@ impl<'a> Parser<'a> {
             subject = Term::Field(Box::new(subject), self.at + 1);
             self.at += 2;
         }
-        let motive = if self.eat("as") {
-            self.atom().map(Box::new)
-        } else {
-            None
-        };
+        let motive = if self.eat("as") { self.atom().map(Box::new) } else { None };
         let mut cases = Vec::new();
         if self.eat("[") {
             while self.at < self.end && !self.eat("]") {
@@ -518,15 +498,7 @@ impl<'a> Parser<'a> {
     /// A clause: patterns, and what stands behind `=`; `where` and what follows is left unread.
     pub fn clause(&mut self) -> Clause {
         let (left, operators) = self.pattern_row();
-        let right = if self.eat("=") {
-            Some(self.term())
-        } else {
-            None
-        };
-        Clause {
-            left,
-            operators,
-            right,
-        }
+        let right = if self.eat("=") { Some(self.term()) } else { None };
+        Clause { left, operators, right }
     }
 }

@@ -32,10 +32,7 @@ pub struct Trees<'a> {
 
 impl<'a> Trees<'a> {
     pub fn new(library: &'a Library) -> Self {
-        Trees {
-            library,
-            terms: RefCell::new(HashMap::new()),
-        }
+        Trees { library, terms: RefCell::new(HashMap::new()) }
     }
 
     /// Reads words of a file with the operators that stand in it.
@@ -43,13 +40,7 @@ impl<'a> Trees<'a> {
         let scope = self.library.scope(file);
         let source = &self.library.files[file];
         let operator = |word: &str| scope.parts.contains_key(word);
-        let mut parser = Parser {
-            text: &source.text,
-            words: &source.words,
-            at: span.from,
-            end: span.to,
-            operator: &operator,
-        };
+        let mut parser = Parser { text: &source.text, words: &source.words, at: span.from, end: span.to, operator: &operator };
         read(&mut parser)
     }
 
@@ -84,10 +75,7 @@ pub struct Store<'a> {
 
 impl<'a> Store<'a> {
     pub fn new(trees: &'a Trees<'a>) -> Self {
-        Store {
-            trees,
-            open: Vec::new(),
-        }
+        Store { trees, open: Vec::new() }
     }
 
     fn library(&self) -> &'a Library {
@@ -229,10 +217,7 @@ impl<'a> Store<'a> {
             return Type::Unknown;
         };
         let scope = library.scope(file);
-        let found = scope
-            .modules
-            .get(source.word(*module))
-            .and_then(|path| library.find(path, source.word(*name)));
+        let found = scope.modules.get(source.word(*module)).and_then(|path| library.find(path, source.word(*name)));
         found.map_or(Type::Unknown, |t| Type::Named(t, Vec::new()))
     }
 
@@ -273,10 +258,7 @@ impl<'a> Store<'a> {
             }
             return Type::Product(parts);
         }
-        domains
-            .into_iter()
-            .rev()
-            .fold(last, |to, (from, implicit)| Type::Function(Box::new(from), Box::new(to), implicit))
+        domains.into_iter().rev().fold(last, |to, (from, implicit)| Type::Function(Box::new(from), Box::new(to), implicit))
     }
 
     /// Binds the names of a binder: one that is a type stands for a type yet to be found out.
@@ -339,11 +321,7 @@ impl<'a> Store<'a> {
         let d = &library.decls[decl];
         if d.sort == Sort::Enum {
             let whole = Type::Named(Target::Decl(decl), Vec::new());
-            return self
-                .code_types(d.file, d.members[member].of)
-                .into_iter()
-                .rev()
-                .fold(whole, |to, from| Type::Function(Box::new(from), Box::new(to), false));
+            return self.code_types(d.file, d.members[member].of).into_iter().rev().fold(whole, |to, from| Type::Function(Box::new(from), Box::new(to), false));
         }
         let mut env: Env = Vec::new();
         for (name, _) in self.parameters(decl) {
@@ -394,10 +372,7 @@ impl<'a> Store<'a> {
             }
         }
         let whole = last(self, &mut env);
-        domains
-            .into_iter()
-            .rev()
-            .fold(whole, |to, (from, implicit)| Type::Function(Box::new(from), Box::new(to), implicit))
+        domains.into_iter().rev().fold(whole, |to, (from, implicit)| Type::Function(Box::new(from), Box::new(to), implicit))
     }
 
     /// The type that a name has.

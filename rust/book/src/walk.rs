@@ -182,11 +182,7 @@ impl<'a> Walk<'a> {
             Type::Universe => self.store.fresh(),
             _ => Type::Unknown,
         };
-        self.locals.push(Local {
-            name: lex::plain(name).to_string(),
-            of,
-            stands,
-        });
+        self.locals.push(Local { name: lex::plain(name).to_string(), of, stands });
     }
 
     fn local(&self, name: &str) -> Option<&Local> {
@@ -412,11 +408,7 @@ impl<'a> Walk<'a> {
                 }
             }
             Pattern::Typed(names, term) => {
-                let binder = Binder {
-                    names: names.clone(),
-                    of: Some((**term).clone()),
-                    implicit: false,
-                };
+                let binder = Binder { names: names.clone(), of: Some((**term).clone()), implicit: false };
                 self.binders(&[binder]);
             }
             Pattern::Implicit(inner) => self.bind(inner, &Type::Unknown),
@@ -729,10 +721,7 @@ impl<'a> Walk<'a> {
         let last = self.check(body, &rest);
         self.store.unify(&last, &rest);
         self.locals.truncate(before);
-        domains
-            .into_iter()
-            .rev()
-            .fold(last, |to, from| Type::Function(Box::new(from), Box::new(to), false))
+        domains.into_iter().rev().fold(last, |to, from| Type::Function(Box::new(from), Box::new(to), false))
     }
 
     fn binding(&mut self, pattern: &Pattern, of: Option<&Term>, value: &Term, body: &Term, expected: &Type) -> Type {
@@ -801,9 +790,7 @@ impl<'a> Walk<'a> {
     fn records_with(&self, names: &[&str]) -> Vec<usize> {
         let fits = |d: usize| {
             let decl = &self.library.decls[d];
-            matches!(decl.sort, Sort::Record | Sort::Struct)
-                && decl.members.len() == names.len()
-                && names.iter().all(|n| self.library.member(d, n).is_some())
+            matches!(decl.sort, Sort::Record | Sort::Struct) && decl.members.len() == names.len() && names.iter().all(|n| self.library.member(d, n).is_some())
         };
         let all: Vec<usize> = (0..self.library.decls.len()).filter(|&d| fits(d)).collect();
         let here: Vec<usize> = all.iter().copied().filter(|&d| self.in_scope(d)).collect();
@@ -836,11 +823,7 @@ impl<'a> Walk<'a> {
             }
         }
         let result = self.store.fresh();
-        self.pending.push(Pending {
-            word: k,
-            of: of.clone(),
-            result: result.clone(),
-        });
+        self.pending.push(Pending { word: k, of: of.clone(), result: result.clone() });
         result
     }
 
