@@ -99,13 +99,23 @@ impl<'a> Store<'a> {
         of
     }
 
+    /// Whether a type yet to be found out stands in another.
+    fn occurs(&self, open: usize, of: &Type) -> bool {
+        match self.seen(of) {
+            Type::Open(k) => k == open,
+            Type::Named(_, parts) | Type::Product(parts) => parts.iter().any(|p| self.occurs(open, p)),
+            Type::Function(from, to, _) => self.occurs(open, &from) || self.occurs(open, &to),
+            Type::Unknown | Type::Universe => false,
+        }
+    }
+
     /// Makes two types the same where they can be.
     pub fn unify(&mut self, a: &Type, b: &Type) {
         let (a, b) = (self.seen(a), self.seen(b));
         match (&a, &b) {
             (Type::Open(x), Type::Open(y)) if x == y => {}
             (Type::Open(x), known) | (known, Type::Open(x)) => {
-                if !matches!(known, Type::Unknown) {
+                if !matches!(known, Type::Unknown) && !self.occurs(*x, known) {
                     self.open[*x] = Some(known.clone());
                 }
             }

@@ -533,12 +533,12 @@ impl<'a> Walk<'a> {
             Term::Literal => Type::Unknown,
             Term::Name(k) => self.name(*k),
             Term::Path(names) => self.path(names),
-            Term::Apply(head, arguments) => self.apply_term(head, arguments),
+            Term::Apply(head, arguments) => self.apply_term(head, arguments, expected),
             Term::Field(of, k) => {
                 let of = self.check(of, &Type::Unknown);
                 self.field(*k, &of)
             }
-            Term::Infix(row) => self.row(row),
+            Term::Infix(row) => self.row(row, expected),
             Term::Lambda(patterns, body) => self.lambda(patterns, body, expected),
             Term::Let(pattern, of, value, body) => self.binding(pattern, of.as_deref(), value, body, expected),
             Term::Binding(binders, body, _) => {
@@ -588,7 +588,7 @@ impl<'a> Walk<'a> {
         of
     }
 
-    fn apply_term(&mut self, head: &Term, arguments: &[Argument]) -> Type {
+    fn apply_term(&mut self, head: &Term, arguments: &[Argument], expected: &Type) -> Type {
         let now = matches!(head, Term::Name(k) if self.contract && self.word(*k) == "now" && self.local("now").is_none());
         let function = self.check(head, &Type::Unknown);
         let mut given = Vec::new();
@@ -603,13 +603,13 @@ impl<'a> Walk<'a> {
         if let (true, [Given::Term(only)]) = (now, given.as_slice()) {
             return self.check(only, &Type::Unknown);
         }
-        self.apply(function, &given)
+        self.apply(function, &given, expected)
     }
 
-    /// Functions given as arguments wait until the others have told what they can.
-    fn apply(&mut self, mut function: Type, given: &[Given]) -> Type {
-        let mut waiting = Vec::new();
-        for argument in given {
+    /// What is expected of the result is known first; functions and records given as arguments wait until the others have told what they can.
+    fn apply(&mut self, mut function: Type, given: &[Given], expected: &Type) -> Type {
+        let mut domains = Vec::new();
+        for _ in given {
             function = self.store.unfolded(&function);
             while let Type::Function(_, to, true) = function {
                 function = self.store.unfolded(&to);
@@ -618,15 +618,15 @@ impl<'a> Walk<'a> {
                 Type::Function(from, to, _) => (*from, *to),
                 _ => (Type::Unknown, Type::Unknown),
             };
+            domains.push(from);
             function = to;
-            if matches!(argument, Given::Term(Term::Lambda(..) | Term::Record(_))) {
-                waiting.push((argument, from));
-            } else {
-                self.check_given(argument, &from);
-            }
         }
-        for (argument, from) in waiting {
-            self.check_given(argument, &from);
+        self.store.unify(&function, expected);
+        let waits = |g: &Given| matches!(g, Given::Term(Term::Lambda(..) | Term::Record(_)));
+        for waiting in [false, true] {
+            for (argument, from) in given.iter().zip(&domains).filter(|(g, _)| waits(g) == waiting) {
+                self.check_given(argument, from);
+            }
         }
         function
     }
@@ -634,15 +634,15 @@ impl<'a> Walk<'a> {
     fn check_given(&mut self, given: &Given, expected: &Type) {
         let of = match given {
             Given::Term(term) => self.check(term, expected),
-            Given::Row(row) => self.row(row),
+            Given::Row(row) => self.row(row, expected),
         };
         self.store.unify(&of, expected);
     }
 
     /// A row of operators: a product first, then what makes a type, then from the right, or from the left where an operator leans so.
-    fn row(&mut self, row: &[Operand]) -> Type {
+    fn row(&mut self, row: &[Operand], expected: &Type) -> Type {
         if let [Operand::Term(term)] = row {
-            return self.check(term, &Type::Unknown);
+            return self.check(term, expected);
         }
         let times = |walk: &Self, o: &Operand| matches!(o, Operand::Operator(k) if walk.word(*k) == "×");
         if let Some(n) = row.iter().position(|o| times(self, o)) {
@@ -687,14 +687,14 @@ impl<'a> Walk<'a> {
                 _ => Given::Row(side),
             })
             .collect();
-        self.apply(of, &sides)
+        self.apply(of, &sides, expected)
     }
 
     fn part(&mut self, row: &[Operand]) -> Type {
         if row.is_empty() {
             return Type::Unknown;
         }
-        self.row(row)
+        self.row(row, &Type::Unknown)
     }
 
     fn lambda(&mut self, patterns: &[Pattern], body: &Term, expected: &Type) -> Type {
@@ -756,11 +756,7 @@ impl<'a> Walk<'a> {
     }
 
     fn record(&mut self, fields: &[(usize, Term, usize)], expected: &Type) -> Type {
-        let names: Vec<&str> = fields.iter().map(|f| lex::plain(self.word(f.0))).collect();
-        let known = self.store.record(expected).or_else(|| {
-            let found = self.records_with(&names);
-            (found.len() == 1).then(|| (found[0], Vec::new()))
-        });
+        let known = self.store.record(expected);
         for (k, value, to) in fields {
             let member = known.as_ref().and_then(|(d, _)| self.library.member(*d, self.word(*k)));
             match (&known, member) {
@@ -784,25 +780,6 @@ impl<'a> Walk<'a> {
             Some((d, arguments)) => Type::Named(Target::Decl(d), arguments),
             None => Type::Unknown,
         }
-    }
-
-    /// The records that have exactly these fields, those that the file names if there are any.
-    fn records_with(&self, names: &[&str]) -> Vec<usize> {
-        let fits = |d: usize| {
-            let decl = &self.library.decls[d];
-            matches!(decl.sort, Sort::Record | Sort::Struct) && decl.members.len() == names.len() && names.iter().all(|n| self.library.member(d, n).is_some())
-        };
-        let all: Vec<usize> = (0..self.library.decls.len()).filter(|&d| fits(d)).collect();
-        let here: Vec<usize> = all.iter().copied().filter(|&d| self.in_scope(d)).collect();
-        if here.is_empty() {
-            all
-        } else {
-            here
-        }
-    }
-
-    fn in_scope(&self, decl: usize) -> bool {
-        self.scope.names.values().any(|t| *t == Target::Decl(decl))
     }
 
     fn field(&mut self, k: usize, of: &Type) -> Type {
@@ -834,7 +811,7 @@ impl<'a> Walk<'a> {
         Some(self.store.field(decl, member, &arguments))
     }
 
-    /// Fields whose record became known later; the others by their name, if one record alone has it.
+    /// Fields whose record became known later; of the others it cannot be told.
     fn settle(&mut self) {
         loop {
             let waiting = std::mem::take(&mut self.pending);
@@ -850,25 +827,7 @@ impl<'a> Walk<'a> {
             }
         }
         for p in std::mem::take(&mut self.pending) {
-            let link = match self.by_name(self.word(p.word)).as_slice() {
-                [only] => Link::To(*only),
-                _ => Link::Untold,
-            };
-            self.link(p.word, link);
-        }
-    }
-
-    /// The fields of a name, of the records that the file names if there are any.
-    fn by_name(&self, name: &str) -> Vec<Target> {
-        let all = (0..self.library.decls.len())
-            .filter(|&d| matches!(self.library.decls[d].sort, Sort::Record | Sort::Struct))
-            .filter_map(|d| Some(Target::Member(d, self.library.member(d, name)?)));
-        let all: Vec<Target> = all.collect();
-        let here: Vec<Target> = all.iter().copied().filter(|t| t.decl().is_some_and(|d| self.in_scope(d))).collect();
-        if here.is_empty() {
-            all
-        } else {
-            here
+            self.link(p.word, Link::Untold);
         }
     }
 }
