@@ -1,6 +1,7 @@
 //! The edits that must be refused: the wrong program that each tries, and the definition or the function that it changes.
 
-use crate::names::{files_below, Library};
+use crate::kit::files_below;
+use crate::names::Library;
 
 /// What an edit changes.
 #[derive(Clone, Copy, PartialEq, Eq, Debug)]

@@ -87,7 +87,7 @@ impl Book<'_> {
         let mut made = String::new();
         for &s in &d.sections {
             let over = self.code(file, file.sections[s], &links, d.column, None);
-            let _ = write!(made, "<i>for every</i> {}", over.replacen("<span class=l>", "<span>", 1));
+            made += &over.replacen("<span class=l>", "<span class=l><i>for every</i> ", 1);
         }
         let to = if self.names.is_law(decl) { d.of.to } else { d.words.to };
         made + &self.code(file, Span { from: d.words.from, to }, &links, d.column, Some(decl))
@@ -235,9 +235,9 @@ impl Book<'_> {
             for (old, new) in &edit.changes {
                 let _ = writeln!(lines, "<del>{}</del>\n<ins>{}</ins>", escaped(old.trim()), escaped(new.trim()));
             }
-            let _ = write!(
+            let _ = writeln!(
                 made,
-                "<section id=\"{}\" class=edit><h4>{} <small>in {}</small></h4><div class=main><p class=note>{}</p><pre>{}</pre></div></section>\n",
+                "<section id=\"{}\" class=edit><h4>{} <small>in {}</small></h4><div class=main><p class=note>{}</p><pre>{}</pre></div></section>",
                 anchor(&format!("edit:{}", edit.name)),
                 escaped(&edit.name),
                 places.join(", "),

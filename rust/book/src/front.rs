@@ -35,7 +35,7 @@ impl Book<'_> {
                 _ => block.names("calls").iter().map(|c| format!("the contract of {}", self.link_call(c))).collect(),
             };
             let _ = write!(made, "<p><b>Stated by</b> {}.</p>", calls.into_iter().chain(laws).collect::<Vec<_>>().join(", "));
-            let _ = write!(made, "<p>{}</p>{}</article>\n", marked(block.get("beside")), self.believed(block));
+            let _ = writeln!(made, "<p>{}</p>{}</article>", marked(block.get("beside")), self.believed(block));
         }
         made
     }
@@ -82,7 +82,7 @@ impl Book<'_> {
                     format!("<b id=\"{}\">{}</b> {}", anchor(&r.number), escaped(&r.number), escaped(&r.title)),
                     definitions.join(", "),
                     calls.join(", "),
-                    r.tests.iter().map(|t| marked(t)).collect::<Vec<_>>().join("; "),
+                    r.tests.iter().map(|t| marked(t).replace('/', "/<wbr>")).collect::<Vec<_>>().join("; "),
                 ]
             })
             .collect();

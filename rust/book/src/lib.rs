@@ -7,6 +7,7 @@ pub mod edits;
 pub mod entries;
 pub mod front;
 pub mod html;
+pub mod kit;
 pub mod lex;
 pub mod lists;
 pub mod names;

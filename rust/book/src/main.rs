@@ -3,7 +3,8 @@
 //! `book fingerprint FILE`: prints a paper's list, for rust/book/papers.
 
 use book::contents::Book;
-use book::names::{kit_folder, Library};
+use book::kit::kit_folder;
+use book::names::Library;
 use book::reach::Names;
 use book::types::Trees;
 use std::path::Path;

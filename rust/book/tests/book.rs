@@ -1,7 +1,8 @@
 //! The book of this project: made whole, without a name that leads nowhere, and changes that must not pass unnoticed.
 
 use book::contents::Book;
-use book::names::{kit_folder, Library};
+use book::kit::kit_folder;
+use book::names::Library;
 use book::reach::Names;
 use book::types::Trees;
 use std::collections::HashSet;
