@@ -8,7 +8,8 @@ use mathlib.Core.Logic.{by-cases}
 use mathlib.Core.List.{List, [], _∷_, _++_, map, map-append}
 use lib.ListN.{length, set, take, drop, length-map, List·getD-eq-default}
 use lib.Seq.{take-suc, drop-cons, append-snoc, set-at, length-take-le, getD-take, getD-set-same, getD-set-other}
-use Rattle.lists.specs.Sum.{range}
+use lib.Dec.{eqb}
+use Rattle.lists.specs.Sum.{range, count, count-cong}
 use Rattle.lists.specs.Ranges.{map-at}
 use Rattle.arrays.specs.ArrayInstance.{at}
 use Rattle.arrays.specs.Kept.{front-is}
@@ -42,9 +43,16 @@ ends-are n es end r l h j = by-cases (decLt j n)
     (λ s. h j .1 (omega arith)
     ∙ sym (List·getD-eq-default (map (at end) (take n es)) 0 (omega (arith, length-map (take n es) (at end), length-take-le n es l))))
 
-pub ends-low : (n k : ℕ) (es end r : List ℕ) → n ≤ length es → ((j : ℕ) → j < n → at end (at es j) < k) → Ends n es end r → Low n r k
-ends-low n k es end r l low E j h = subst (λ z. z < k) (sym (E j ∙ map-at (at end) (take n es) j 0 0 (omega (arith, length-take-le n es l))
-    ∙ ap (at end) (getD-take n es j 0 h))) (low j h)
+module _ (n : ℕ) (es end r : List ℕ) (l : n ≤ length es) (E : Ends n es end r) where
+  own : (j : ℕ) → j < n → at r j ≡ at end (at es j)
+  own j h = E j ∙ map-at (at end) (take n es) j 0 0 (omega (arith, length-take-le n es l)) ∙ ap (at end) (getD-take n es j 0 h)
+
+  pub ends-low : (k : ℕ) → ((j : ℕ) → j < n → at end (at es j) < k) → Low n r k
+  ends-low k low j h = subst (λ z. z < k) (sym (own j h)) (low j h)
+
+  -- as many entries at a node as have it for their end
+  pub ends-few : (k : ℕ) → ((v : ℕ) → count (λ j. eqb (at end (at es j)) v) n ≤ k) → (v : ℕ) → count (λ j. eqb (at r j) v) n ≤ k
+  ends-few k few v = omega (arith, few v, count-cong (λ j. eqb (at r j) v) (λ j. eqb (at end (at es j)) v) n (λ j h. ap (λ z. eqb z v) (own j h)))
 
 -- ---- bytes
 -- one more day is written

@@ -18,19 +18,6 @@ use Rattle.arrays.specs.ArrayInstance.{at}
 abbrev pub meets : (end day : List ℕ) → ℕ → ℕ → Bool
 meets end day cur j = not (eqb j cur) && (eqb (at end j) (at end cur) && eqb (at day j) (at day cur))
 
-module _ (end day : List ℕ) (cur j : ℕ) where
-  -- at another end nothing is met
-  pub meets-off : at end j ≢ at end cur → meets end day cur j ≡ false
-  meets-off d = ap (λ b. not (eqb j cur) && (b && eqb (at day j) (at day cur))) (eqb-no (at end j) (at end cur) d) ∙ go (not (eqb j cur))
-    where
-      go : (b : Bool) → (b && false) ≡ false
-      go true = refl
-      go false = refl
-
-  -- at cur's end the day decides
-  pub meets-at : at end j ≡ at end cur → (not (eqb j cur) && eqb (at day j) (at day cur)) ≡ meets end day cur j
-  meets-at e = sym (ap (λ b. not (eqb j cur) && (b && eqb (at day j) (at day cur))) (eqb-yes (at end j) (at end cur) e))
-
 -- the first entry that meets cur; n if there is none
 abbrev pub other : (n : ℕ) (end day : List ℕ) → ℕ → ℕ
 other n end day cur = low (meets end day cur) n

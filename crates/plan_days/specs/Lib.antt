@@ -1,5 +1,6 @@
 pub mod Chase
-pub mod Walk
 pub mod Tied
 pub mod DayByDay
+pub mod Tables
+pub mod Turns
 pub mod Bytes

@@ -1,25 +1,30 @@
 // Days for the entries of a plan (W-209), over arrays: entry by entry a day that is free at both its ends, or one that is free at its surveyor; an
 // entry of its stand that is on that day goes to another, and so on along a chain. Days are counted from 0 here; the sheet's bytes are one more.
+// Two tables, by surveyor and by stand, tell for each node and day which entry is there: its number, counted from 1, or 0.
 ghost use mathlib.Core.Path.{_≡_};
-ghost use mathlib.Core.Bool.{not};
 ghost use mathlib.Core.List.{map, _++_};
 ghost use Prim.Native.Nat.{ℕ, suc, _+_, _≤_, _<_};
-ghost use lib.ListN.{length, take, drop};
+ghost use lib.ListN.{length, set, take, drop};
+ghost use lib.Dec.{eqb};
 ghost use Rattle.lists.specs.Search.{low};
+ghost use Rattle.lists.specs.Sum.{count};
 ghost use Rattle.model.specs.Limits.{nodeLimit, daySize, lastDay};
-ghost use Rattle.arrays.specs.ArrayInstance.{at, flag};
+ghost use Rattle.arrays.specs.ArrayInstance.{at};
 ghost use Rattle.arrays.specs.Passes.{Low};
 ghost use Rattle.theory_days.specs.Sheets.{spreadBy};
-ghost use Rattle.plan_days.specs.Walk.{Linking, Marked};
-ghost use Rattle.plan_days.specs.Chase.{meets, chaseIn, Small};
+ghost use Rattle.plan_days.specs.Chase.{chaseIn};
 ghost use Rattle.plan_days.specs.DayByDay.{withDayIn, spreadIn};
+ghost use Rattle.plan_days.specs.Tables.{place, settled, Held};
+ghost use Rattle.plan_days.specs.Turns.{Chasing, Placing};
 ghost use Rattle.plan_days.specs.Bytes.{Ends};
 use limits::ENTRY_LIMIT;
 use limits::LAST_DAY;
 use limits::PLAN_LIMIT;
 
-// Flags of the days, counted from 0, and of 9, which stands for none.
-const FLAGS: usize = 10;
+// The places of a node in a table, more than there are days, and of all nodes.
+const ROW: usize = 16;
+
+const PLACES: usize = 512;
 
 // The ends of a plan's n entries on one side, in the plan's order; 0 behind them.
 pub fn ends(n: usize, es: &[u16; PLAN_LIMIT], end: &[u8; ENTRY_LIMIT]) -> [u8; PLAN_LIMIT]
@@ -36,94 +41,44 @@ pub fn ends(n: usize, es: &[u16; PLAN_LIMIT], end: &[u8; ENTRY_LIMIT]) -> [u8; P
     r
 }
 
-// The first of n entries, other than cur, at cur's end on cur's day; n if there is none.
-pub fn clash_at(
-    n: usize,
-    end: &[u8; PLAN_LIMIT],
-    head: &[u16; 32],
-    next: &[u16; PLAN_LIMIT],
-    day: &[u8; PLAN_LIMIT],
-    cur: usize,
-) -> usize
-    requires { ⌜ (n ≤ 64) × (cur < n) × Linking n (now end) (now head) (now next) ⌝ }
-    ensures { λ r. ⌜ r ≡ low (meets (now (end .entry)) (now (day .entry)) cur) n ⌝ }
+// Entry cur is on day `to` at its end, and whoever was on it there on the day `other`; who it was.
+pub fn settle(end: &[u8; PLAN_LIMIT], cur: usize, to: u8, other: u8, who: &mut [u8; PLACES]) -> u8
+    requires { ⌜ (cur < daySize) × (at (now end) cur < nodeLimit) × (to ≤ lastDay) × (other ≤ lastDay) ⌝ }
+    ensures { λ r. ⌜ (r ≡ at (now (who .entry)) (place (at (now (end .entry)) cur) to))
+        × (now (who .exit) ≡ settled (now (who .entry)) (at (now (end .entry)) cur) to other cur) ⌝ }
 {
-    let v = end[cur] as usize;
-    let d = day[cur];
-    let mut j = head[v] as usize;
-    while j < n {
-        if (j != cur) & (day[j] == d) {
-            return j;
-        }
-        j = next[j] as usize;
-    }
-    n
+    let row = ROW * (end[cur] as usize);
+    let e = who[row + to as usize];
+    who[row + to as usize] = cur as u8 + 1;
+    who[row + other as usize] = e;
+    e
 }
 
-// Entry k has day a; each entry that then clashes takes the other of the two days, at stands b, at surveyors a.
-pub fn chase(
-    n: usize,
-    sv: &[u8; PLAN_LIMIT],
-    hs: &[u16; 32],
-    ns: &[u16; PLAN_LIMIT],
-    st: &[u8; PLAN_LIMIT],
-    ht: &[u16; 32],
-    nt: &[u16; PLAN_LIMIT],
-    a: u8,
-    b: u8,
-    k: usize,
-    day: &mut [u8; PLAN_LIMIT],
-)
-    requires { ⌜ (n ≤ 64) × (k < n) × Linking n (now sv) (now hs) (now ns) × Linking n (now st) (now ht) (now nt) ⌝ }
-    ensures { λ _. ⌜ now (day .exit) ≡ chaseIn n (now (sv .entry)) (now (st .entry)) a b n k (now (day .entry)) ⌝ }
+// Who is at entry k's end on a day.
+pub fn who_at(end: &[u8; PLAN_LIMIT], k: usize, day: u8, who: &[u8; PLACES]) -> u8
+    requires { ⌜ (k < daySize) × (at (now end) k < nodeLimit) × (day ≤ lastDay) ⌝ }
+    ensures { λ r. ⌜ r ≡ at (now (who .entry)) (place (at (now (end .entry)) k) day) ⌝ }
 {
-    let mut cur = k;
-    let mut i = 0;
-    while i < n {
-        let e = clash_at(n, st, ht, nt, day, cur);
-        if n <= e {
-            return;
-        }
-        day[e] = b;
-        let f = clash_at(n, sv, hs, ns, day, e);
-        if n <= f {
-            return;
-        }
-        day[f] = a;
-        cur = f;
-        i += 1;
-    }
+    who[ROW * (end[k] as usize) + day as usize]
 }
 
-// The days on which one of the first k entries is at the k-th one's end.
-pub fn taken_days(
-    k: usize,
-    end: &[u8; PLAN_LIMIT],
-    head: &[u16; 32],
-    next: &[u16; PLAN_LIMIT],
-    day: &[u8; PLAN_LIMIT],
-) -> [bool; FLAGS]
-    requires { ⌜ (k < 64) × Linking (k + 1) (now end) (now head) (now next) × Small lastDay (now day) ⌝ }
-    ensures { λ r. ⌜ Marked k (at (now (end .entry)) k) (now (end .entry)) (now (day .entry)) r ⌝ }
+// Entry k is told at its end on a day.
+pub fn tell(end: &[u8; PLAN_LIMIT], k: usize, day: u8, who: &mut [u8; PLACES])
+    requires { ⌜ (k < daySize) × (at (now end) k < nodeLimit) × (day ≤ lastDay) ⌝ }
+    ensures { λ _. ⌜ now (who .exit) ≡ set (now (who .entry)) (place (at (now (end .entry)) k) day) (k + 1) ⌝ }
 {
-    let mut used = [false; FLAGS];
-    let v = end[k] as usize;
-    let mut j = head[v] as usize;
-    while j < k {
-        let d = day[j] as usize;
-        used[d] = true;
-        j = next[j] as usize;
-    }
-    used
+    who[ROW * (end[k] as usize) + day as usize] = k as u8 + 1;
 }
 
-// The first day without a flag; 9 if there is none.
-pub fn free_day(used: &[bool; FLAGS]) -> u8
-    ensures { λ r. ⌜ r ≡ low (λ d. not (flag (now (used .entry)) d)) lastDay ⌝ }
+// The first day free at entry k's end; 9 if there is none.
+pub fn free_day(end: &[u8; PLAN_LIMIT], k: usize, who: &[u8; PLACES]) -> u8
+    requires { ⌜ (k < daySize) × (at (now end) k < nodeLimit) ⌝ }
+    ensures { λ r. ⌜ r ≡ low (λ d. eqb (at (now (who .entry)) (place (at (now (end .entry)) k) d)) 0) lastDay ⌝ }
 {
+    let row = ROW * (end[k] as usize);
     let mut d: u8 = 0;
     while d < LAST_DAY {
-        if !used[d as usize] {
+        if who[row + d as usize] == 0 {
             return d;
         }
         d += 1;
@@ -131,47 +86,83 @@ pub fn free_day(used: &[bool; FLAGS]) -> u8
     d
 }
 
+// Entry k has day a; each entry that it and those after it meet takes the other of the two days, at stands b, at surveyors a. Fewer entries than n
+// change their days, so that the last to be settled meets nobody.
+pub fn chase(
+    n: usize,
+    sv: &[u8; PLAN_LIMIT],
+    st: &[u8; PLAN_LIMIT],
+    a: u8,
+    b: u8,
+    k: usize,
+    day: &mut [u8; PLAN_LIMIT],
+    ws: &mut [u8; PLACES],
+    wt: &mut [u8; PLACES],
+)
+    requires { ⌜ Chasing n (now sv) (now st) a b k (now day) (now ws) (now wt) ⌝ }
+    ensures { λ _. ⌜ (now (day .exit) ≡ chaseIn n (now (sv .entry)) (now (st .entry)) a b n k (now (day .entry)))
+        × Held n (now (sv .entry)) (now (day .exit)) (now (ws .exit)) × Held n (now (st .entry)) (now (day .exit)) (now (wt .exit)) ⌝ }
+{
+    let mut cur = k;
+    let mut i = 0;
+    while i < n {
+        let e = settle(st, cur, a, b, &mut *wt);
+        if e == 0 {
+            return;
+        }
+        let x = (e - 1) as usize;
+        day[x] = b;
+        let f = settle(sv, x, b, a, &mut *ws);
+        if f == 0 {
+            return;
+        }
+        cur = (f - 1) as usize;
+        day[cur] = a;
+        i += 1;
+    }
+    settle(st, cur, a, b, &mut *wt);
+}
+
 // One entry more, the k-th: the first day free at its stand, if it is free at its surveyor too; else a day free at the surveyor, mended at the
 // stand.
 pub fn with_day(
     k: usize,
     sv: &[u8; PLAN_LIMIT],
-    hs: &[u16; 32],
-    ns: &[u16; PLAN_LIMIT],
     st: &[u8; PLAN_LIMIT],
-    ht: &[u16; 32],
-    nt: &[u16; PLAN_LIMIT],
     day: &mut [u8; PLAN_LIMIT],
+    ws: &mut [u8; PLACES],
+    wt: &mut [u8; PLACES],
 )
-    requires { ⌜ (k < 64) × Small lastDay (now day)
-        × Linking (k + 1) (now sv) (now hs) (now ns) × Linking (k + 1) (now st) (now ht) (now nt) ⌝ }
-    ensures { λ _. ⌜ now (day .exit) ≡ withDayIn k (now (sv .entry)) (now (st .entry)) (now (day .entry)) ⌝ }
+    requires { ⌜ Placing k (now sv) (now st) (now day) (now ws) (now wt) ⌝ }
+    ensures { λ _. ⌜ (now (day .exit) ≡ withDayIn k (now (sv .entry)) (now (st .entry)) (now (day .entry)))
+        × Held (k + 1) (now (sv .entry)) (now (day .exit)) (now (ws .exit))
+        × Held (k + 1) (now (st .entry)) (now (day .exit)) (now (wt .exit)) ⌝ }
 {
-    let us = taken_days(k, sv, hs, ns, day);
-    let ut = taken_days(k, st, ht, nt, day);
-    let b = free_day(&ut);
-    if !us[b as usize] {
+    let b = free_day(st, k, wt);
+    if who_at(sv, k, b, ws) == 0 {
         day[k] = b;
+        tell(sv, k, b, &mut *ws);
+        tell(st, k, b, &mut *wt);
         return;
     }
-    let a = free_day(&us);
+    let a = free_day(sv, k, ws);
     day[k] = a;
-    chase(k + 1, sv, hs, ns, st, ht, nt, a, b, k, &mut *day);
+    tell(sv, k, a, &mut *ws);
+    chase(k + 1, sv, st, a, b, k, &mut *day, &mut *ws, &mut *wt);
 }
 
-// The days of n entries by their ends.
+// The days of n entries by their ends, no more of them at one node than there are days.
 pub fn days_of(n: usize, sv: &[u8; PLAN_LIMIT], st: &[u8; PLAN_LIMIT]) -> [u8; PLAN_LIMIT]
-    requires { ⌜ (n ≤ 64) × (n ≤ length (now sv)) × (n ≤ length (now st)) × Low n (now sv) nodeLimit × Low n (now st) nodeLimit ⌝ }
+    requires { ⌜ (n ≤ daySize) × Low n (now sv) nodeLimit × Low n (now st) nodeLimit
+        × ((v : ℕ) → count (λ j. eqb (at (now sv) j) v) n ≤ lastDay) × ((v : ℕ) → count (λ j. eqb (at (now st) j) v) n ≤ lastDay) ⌝ }
     ensures { λ r. ⌜ r ≡ spreadIn n (now (sv .entry)) (now (st .entry)) ⌝ }
 {
-    let mut ns = [0u16; PLAN_LIMIT];
-    let hs = edge_links::links(n, &sv[..], &mut ns[..]);
-    let mut nt = [0u16; PLAN_LIMIT];
-    let ht = edge_links::links(n, &st[..], &mut nt[..]);
+    let mut ws = [0u8; PLACES];
+    let mut wt = [0u8; PLACES];
     let mut day = [0u8; PLAN_LIMIT];
     let mut k = 0;
     while k < n {
-        with_day(k, sv, &hs, &ns, st, &ht, &nt, &mut day);
+        with_day(k, sv, st, &mut day, &mut ws, &mut wt);
         k += 1;
     }
     day
@@ -198,7 +189,8 @@ pub fn spread(
     out: &mut [u8],
 )
     requires { ⌜ (n ≤ 64) × (n ≤ length (now es)) × ((k : ℕ) → k < n → at (now es) k < 1024) × (daySize ≤ length (now out))
-        × ((k : ℕ) → k < n → (at (now sv) (at (now es) k) < nodeLimit) × (at (now st) (at (now es) k) < nodeLimit)) ⌝ }
+        × ((k : ℕ) → k < n → (at (now sv) (at (now es) k) < nodeLimit) × (at (now st) (at (now es) k) < nodeLimit))
+        × ((v : ℕ) → (count (λ j. eqb (at (now sv) (at (now es) j)) v) n ≤ lastDay) × (count (λ j. eqb (at (now st) (at (now es) j)) v) n ≤ lastDay)) ⌝ }
     ensures { λ _. ⌜ now (out .exit) ≡ spreadBy (at (now (sv .entry))) (at (now (st .entry))) (take n (now (es .entry))) ++ drop n (now (out .entry)) ⌝ }
 {
     let s = ends(n, es, sv);

@@ -24,7 +24,7 @@ spread-requires c κs =
     let z = c .before .before .before .before .before .before .before .before .if1 .left in
     let full : length (l .result .edges) ≡ 64 = search needs in
     let a = asked (d .files) (l .ensures) z full in
-    (a .0, a .1, a .2, long-enough (d .out .now) daySize (l .ensures) z, a .3)
+    (a .0, a .1, a .2, long-enough (d .out .now) daySize (l .ensures) z, a .3, a .4)
 
 returns-2 : tie.Need-returns-2
 returns-2 c =

@@ -1,14 +1,14 @@
 -- plan_days::spread: the ends of the entries, their days, and the bytes. Assumes nothing.
 use Prim.Native.Nat.{suc}
 use native.Mathlib.Omega.{arith}
-use mathlib.Core.Path.{_≡_, sym, ap, _∙_, subst}
+use mathlib.Core.Path.{sym, ap, _∙_, subst}
 use mathlib.Core.List.{map, _++_}
 use lib.ListN.{length, take, drop}
 use borrow.Author.Needs.{needs}
 use Rattle.model.specs.Limits.{nodeLimit, lastDay}
 use Rattle.plan_days.specs.Chase.{Small}
 use Rattle.plan_days.specs.DayByDay.{spread-length, spread-small}
-use Rattle.plan_days.specs.Bytes.{ends-low, bytes-are}
+use Rattle.plan_days.specs.Bytes.{ends-low, ends-few, bytes-are}
 use Rattle.plan_days.proofs.spread.Statement.{statement}
 use Rattle.plan_days.proofs.spread.Tie as tie
 
@@ -17,14 +17,12 @@ days-of-requires c κs =
     let e = c .before .before .before .ends in
     let f = c .before .before .ends2 in
     let s = c .before .before .before .before .before in
-    let a = s .args in
-    let le : length (e .result) ≡ 64 = search needs in
-    let lf : length (f .result) ≡ 64 = search needs in (
+    let a = s .args in (
       s .pre .0,
-      omega (arith, le, s .pre .0),
-      omega (arith, lf, s .pre .0),
-      ends-low (a .n) nodeLimit (a .es .now) (a .sv .now) (e .result) (s .pre .1) (λ k h. s .pre .4 k h .0) (e .ensures),
-      ends-low (a .n) nodeLimit (a .es .now) (a .st .now) (f .result) (s .pre .1) (λ k h. s .pre .4 k h .1) (f .ensures),
+      ends-low (a .n) (a .es .now) (a .sv .now) (e .result) (s .pre .1) (e .ensures) nodeLimit (λ k h. s .pre .4 k h .0),
+      ends-low (a .n) (a .es .now) (a .st .now) (f .result) (s .pre .1) (f .ensures) nodeLimit (λ k h. s .pre .4 k h .1),
+      ends-few (a .n) (a .es .now) (a .sv .now) (e .result) (s .pre .1) (e .ensures) lastDay (λ v. s .pre .5 v .0),
+      ends-few (a .n) (a .es .now) (a .st .now) (f .result) (s .pre .1) (f .ensures) lastDay (λ v. s .pre .5 v .1),
     )
 
 put-days-requires : tie.Need-put-days-requires

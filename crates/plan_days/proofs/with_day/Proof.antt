@@ -1,12 +1,10 @@
--- plan_days::with_day: the flags of both ends, the searches in them, and the chain. Assumes nothing.
+-- plan_days::with_day: the first free days by the tables, and the chain. Assumes nothing.
+use Prim.Native.Nat.{_+_}
 use native.Mathlib.Omega.{arith}
-use mathlib.Core.Path.{sym, ap, _∙_}
-use mathlib.Core.Bool.{not}
-use Rattle.lists.specs.Search.{low-is}
-use Rattle.model.specs.Limits.{lastDay}
-use Rattle.arrays.specs.ArrayInstance.{flag}
-use Rattle.plan_days.specs.Walk.{marked-free}
-use Rattle.plan_days.specs.DayByDay.{with-free, with-chase}
+use mathlib.Core.Path.{sym, _∙_, subst}
+use lib.ListN.{set}
+use Rattle.plan_days.specs.Tables.{Held}
+use Rattle.plan_days.specs.Turns.{Chasing, b-low, placed, a-low, chained, chasing}
 use borrow.Author.Needs.{needs}
 use Rattle.plan_days.proofs.with_day.Statement.{statement}
 use Rattle.plan_days.proofs.with_day.Tie as tie
@@ -14,76 +12,132 @@ use Rattle.plan_days.proofs.with_day.Reads as reads
 use Rattle.plan_days.proofs.with_day.Lts as lts
 use Rattle.plan_days.proofs.chase.Reads as chase-reads
 use Rattle.plan_days.proofs.free_day.Reads as free-day-reads
-use Rattle.plan_days.proofs.taken_days.Reads as taken-days-reads
-
-taken-days-requires : tie.Need-taken-days-requires
-taken-days-requires c κs = search needs
-
-taken-days-requires-2 : tie.Need-taken-days-requires-2
-taken-days-requires-2 c κs = search needs
+use Rattle.plan_days.proofs.tell.Reads as tell-reads
+use Rattle.plan_days.proofs.who_at.Reads as who-at-reads
 
 free-day-requires : tie.Need-free-day-requires
-free-day-requires c κs = search needs
+free-day-requires c κs = let s = c .before in (s .pre .many, s .pre .nodesT (s .args .k) (omega arith))
 
-cast-if1 : tie.Need-cast-if1
-cast-if1 c = search needs
-
-array-read-if1 : tie.Need-array-read-if1
-array-read-if1 c =
-    omega (arith, c .free-day .ensures, low-is (λ d. not (flag (c .before .before .taken-days2 .result) d)) lastDay .0)
+who-at-requires : tie.Need-who-at-requires
+who-at-requires c κs =
+    let s = c .before .before .before in
+    let a = s .args in
+    let f = c .before .free-day in (
+      s .pre .many,
+      s .pre .nodesS (a .k) (omega arith),
+      omega (
+        arith,
+        b-low (a .k) (a .sv .now) (a .st .now) (a .day .now) (a .ws .now) (a .wt .now)
+            (s .pre) (f .result) (f .ensures),
+      ),
+    )
 
 element-write-day : tie.Need-element-write-day
 element-write-day c = search needs
 
+tell-requires : tie.Need-tell-requires
+tell-requires c κs =
+    let s = c .before .before .before .before .before .before in
+    let a = s .args in
+    let f = c .before .before .before .before .free-day in (
+      s .pre .many,
+      s .pre .nodesS (a .k) (omega arith),
+      omega (
+        arith,
+        b-low (a .k) (a .sv .now) (a .st .now) (a .day .now) (a .ws .now) (a .wt .now)
+            (s .pre) (f .result) (f .ensures),
+      ),
+    )
+
+tell-requires-2 : tie.Need-tell-requires-2
+tell-requires-2 c κs =
+    let s = c .before .before .before .before .before .before .before .before in
+    let a = s .args in
+    let f = c .before .before .before .before .before .before .free-day in (
+      s .pre .many,
+      s .pre .nodesT (a .k) (omega arith),
+      omega (
+        arith,
+        b-low (a .k) (a .sv .now) (a .st .now) (a .day .now) (a .ws .now) (a .wt .now)
+            (s .pre) (f .result) (f .ensures),
+      ),
+    )
+
 returns : tie.Need-returns
 returns c =
-    let s = c .before .before .before .before .before .before .before in
+    let s = c .before .before .before .before .before .before .before .before .before in
     let a = s .args in
-    let ms = c .before .before .before .before .before .taken-days in
-    let mt = c .before .before .before .taken-days2 in
-    let f = c .before .free-day in
-    with-free (a .k) (a .sv .now) (a .st .now) (a .day .now) (f .result)
-    (f .ensures ∙ marked-free (a .k) (a .st .now) (a .day .now) (mt .result) (mt .ensures))
-    (ap not (sym (ms .ensures (f .result) (omega (arith, f .ensures, low-is (λ d. not (flag (mt .result) d)) lastDay .0)))) ∙ c .if1 .taken)
+    let f = c .before .before .before .before .before .before .before .free-day in
+    let (days, heldS, heldT) = placed (a .k) (a .sv .now) (a .st .now) (a .day .now) (a .ws .now) (a .wt .now) (s .pre) (f .result) (f .ensures)
+    (sym (c .before .before .before .before .before .who-at .ensures) ∙ c .before .before .before .before .if1 .taken) in (
+      days,
+      subst (Held (a .k + 1) (a .sv .now) (set (a .day .now) (a .k) (f .result))) (sym (c .before .before .tell .ensures)) heldS,
+      subst (Held (a .k + 1) (a .st .now) (set (a .day .now) (a .k) (f .result))) (sym (c .tell2 .ensures)) heldT,
+    )
 
 free-day-requires-2 : tie.Need-free-day-requires-2
-free-day-requires-2 c κs = search needs
+free-day-requires-2 c κs = let s = c .before .before .before .before .before .before in (s .pre .many, s .pre .nodesS (s .args .k) (omega arith))
 
 element-write-day-2 : tie.Need-element-write-day-2
 element-write-day-2 c = search needs
+
+tell-requires-3 : tie.Need-tell-requires-3
+tell-requires-3 c κs =
+    let s = c .before .before .before .before .before .before .before .before in
+    let a = s .args in
+    let f = c .before .before .before .before .before .before .free-day in
+    let g = c .before .free-day2 in (
+      s .pre .many,
+      s .pre .nodesS (a .k) (omega arith),
+      omega (
+        arith,
+        a-low (a .k) (a .sv .now) (a .st .now) (a .day .now) (a .ws .now) (a .wt .now) (s .pre) (f .result) (f .ensures) (g .result)
+            (g .ensures) (λ z. c .before .before .before .if1 .left (c .before .before .before .before .who-at .ensures ∙ z)),
+      ),
+    )
 
 add-chase : tie.Need-add-chase
 add-chase c = search needs
 
 chase-requires : tie.Need-chase-requires
-chase-requires c κs = search needs
+chase-requires c κs =
+    let s = c .before .before .before .before .before .before .before .before .before .before .before .before in
+    let a = s .args in
+    let f = c .before .before .before .before .before .before .before .before .before .before .free-day in
+    let g = c .before .before .before .before .before .free-day2 in
+    subst (λ w. Chasing (a .k + 1) (a .sv .now) (a .st .now) (g .result) (f .result) (a .k) (set (a .day .now) (a .k) (g .result)) w (a .wt .now))
+    (sym (c .before .before .before .tell3 .ensures))
+    (chasing (a .k) (a .sv .now) (a .st .now) (a .day .now) (a .ws .now) (a .wt .now) (s .pre) (f .result) (f .ensures) (g .result) (g .ensures)
+    (λ z. c .before .before .before .before .before .before .before .if1 .left (c .before .before .before .before .before .before .before .before .who-at
+    .ensures ∙ z)))
 
 returns-2 : tie.Need-returns-2
 returns-2 c =
-    let s = c .before .before .before .before .before .before .before .before .before .before .before in
+    let s = c .before .before .before .before .before .before .before .before .before .before .before .before .before in
     let a = s .args in
-    let ms = c .before .before .before .before .before .before .before .before .before .taken-days in
-    let mt = c .before .before .before .before .before .before .before .taken-days2 in
-    let f = c .before .before .before .before .before .free-day in
-    let g = c .before .before .free-day2 in
-    c .chase .ensures ∙ with-chase (a .k) (a .sv .now) (a .st .now) (a .day .now) (f .result)
-    (f .ensures ∙ marked-free (a .k) (a .st .now) (a .day .now) (mt .result) (mt .ensures)) (g .result)
-    (g .ensures ∙ marked-free (a .k) (a .sv .now) (a .day .now) (ms .result) (ms .ensures))
-    (ap not (sym (ms .ensures (f .result) (omega (arith, f .ensures, low-is (λ d. not (flag (mt .result) d)) lastDay .0)))) ∙ c .before .before .before .before .if1 .left)
+    let f = c .before .before .before .before .before .before .before .before .before .before .before .free-day in
+    let g = c .before .before .before .before .before .before .free-day2 in
+    let r = c .chase .ensures in (
+      r .0 ∙ chained (a .k) (a .sv .now) (a .st .now) (a .day .now) (a .ws .now) (a .wt .now) (s .pre) (f .result) (f .ensures) (g .result) (g .ensures)
+          (λ z. c .before .before .before .before .before .before .before .before .if1 .left (c .before .before .before .before .before .before .before
+          .before .before .who-at .ensures ∙ z)),
+      r .1,
+      r .2,
+    )
 
 pub with-day-spec : {M : Type 1} → statement M
 with-day-spec =
     tie.close
     (tie.spec
-    taken-days-requires
-    taken-days-requires-2
     free-day-requires
-    cast-if1
-    array-read-if1
+    who-at-requires
     element-write-day
+    tell-requires
+    tell-requires-2
     returns
     free-day-requires-2
     element-write-day-2
+    tell-requires-3
     add-chase
     chase-requires
     returns-2)
