@@ -31,6 +31,8 @@ pub struct Counts {
 /// All that the book shows.
 pub struct Book<'a> {
     pub names: &'a Names<'a>,
+    /// the text of docs/LANDINGS.md
+    pub landings: String,
     pub calls: Vec<Call>,
     /// the definitions that the calls lead to
     pub entries: BTreeSet<usize>,
@@ -59,7 +61,8 @@ impl<'a> Book<'a> {
         let library = names.library();
         let gate = std::fs::read_to_string(library.root.join(".ci/run"))?;
         let calls = reach::calls(names, &reach::public_crates(&gate));
-        let lists = Lists::read(&own.join("lists"))?;
+        let landings = std::fs::read_to_string(library.root.join("docs/LANDINGS.md"))?;
+        let lists = Lists::read(&own.join("lists"), &landings)?;
         let architecture = std::fs::read_to_string(library.root.join("docs/ARCHITECTURE.md"))?;
         let (rows, faults) = rows::read(library, &architecture);
         let starts: Vec<usize> = calls.iter().flat_map(|c| Names::targets(&c.links)).collect();
@@ -67,6 +70,7 @@ impl<'a> Book<'a> {
         let entries = names.closure(starts.into_iter().chain(stated));
         let mut book = Book {
             names,
+            landings,
             calls,
             entries,
             words: BTreeSet::new(),

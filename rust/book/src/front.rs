@@ -71,9 +71,9 @@ impl Book<'_> {
     }
 
     /// The requests that have landed.
-    pub fn requests_text(&self, landings: &str) -> String {
+    pub fn requests_text(&self) -> String {
         let rows: Vec<Vec<String>> = self
-            .requests(landings)
+            .requests()
             .into_iter()
             .map(|r| {
                 let definitions: Vec<String> = r.definitions.iter().map(|&d| self.link_named(d)).collect();
@@ -96,17 +96,19 @@ impl Book<'_> {
         let sites = self.refusal_sites();
         let listed = self.lists.refusals.iter().filter_map(|b| b.get("number").parse::<usize>().ok());
         for number in listed.chain(sites.keys().copied()).collect::<BTreeSet<_>>() {
-            let block = self.lists.refusals.iter().find(|b| b.get("number") == number.to_string()).cloned().unwrap_or_default();
-            let by = block.names("by").into_iter().filter_map(|d| self.library().named(d));
+            let blocks: Vec<&Block> = self.lists.refusals.iter().filter(|b| b.get("number") == number.to_string()).collect();
+            let named = |key: &'static str| blocks.iter().flat_map(move |b| b.names(key));
+            let by = named("by").filter_map(|d| self.library().named(d));
             let by: BTreeSet<usize> = by.chain(sites.get(&number).into_iter().flatten().copied()).collect();
-            let words = match block.get("words") {
+            let words = match blocks.first().map_or("", |b| b.get("words")) {
                 "" => self.words_about(&by, number),
                 words => words.to_string(),
             };
-            let calls: Vec<String> = match block.names("calls") {
-                calls if calls.is_empty() => self.calls.iter().filter(|c| by.iter().any(|d| c.comes_to.contains(d))).map(|c| self.link_call(&c.name)).collect(),
-                calls => calls.iter().map(|c| self.link_call(c)).collect(),
-            };
+            let mut calls: Vec<String> = named("calls").map(|c| self.link_call(c)).collect();
+            if calls.is_empty() {
+                calls = self.calls.iter().filter(|c| by.iter().any(|d| c.comes_to.contains(d))).map(|c| self.link_call(&c.name)).collect();
+            }
+            let after: Vec<&str> = blocks.iter().map(|b| b.get("after")).filter(|a| !a.is_empty()).collect();
             let group = groups.iter().find(|g| g.0.contains(&number)).map_or("content", |g| g.1.as_str());
             rows.insert(
                 number,
@@ -115,7 +117,7 @@ impl Book<'_> {
                     escaped(&words),
                     escaped(group),
                     by.iter().map(|&d| self.link_named(d)).collect::<Vec<_>>().join(", "),
-                    escaped(block.get("after")),
+                    escaped(&after.join("; ")),
                     some(&calls, FEW),
                 ],
             );
@@ -124,18 +126,19 @@ impl Book<'_> {
         table("refusals", &["no.", "when", "group", "given by", "after", "answered by"], &rows)
     }
 
-    /// Definitions of the model that give a refusal's number by `refused` or `refusal`.
+    /// Definitions of the model that give a refusal's number: behind `refused` or `refusal`, or, in a check, behind the test of a `cond`.
     fn refusal_sites(&self) -> BTreeMap<usize, BTreeSet<usize>> {
         let library = self.library();
         let mut found: BTreeMap<usize, BTreeSet<usize>> = BTreeMap::new();
         for &decl in self.entries.iter().filter(|&&d| self.is_model(d)) {
             let d = &library.decls[decl];
             let file = &library.files[d.file];
-            for k in d.words.from + 1..d.words.to {
-                if matches!(file.word(k - 1), "refused" | "refusal") {
-                    if let Ok(number) = file.word(k).parse() {
-                        found.entry(number).or_default().insert(decl);
-                    }
+            let check = d.name.ends_with("Check") || d.name.ends_with("Refusal");
+            for k in d.of.to + 1..d.words.to {
+                let gives = matches!(file.word(k - 1), "refused" | "refusal") || (check && file.word(k - 1) == ")");
+                match file.word(k).parse() {
+                    Ok(number) if gives && number > 0 => _ = found.entry(number).or_default().insert(decl),
+                    _ => {}
                 }
             }
         }

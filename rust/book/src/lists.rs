@@ -52,9 +52,13 @@ pub struct Lists {
 }
 
 impl Lists {
-    /// Reads the lists of a folder.
-    pub fn read(folder: &std::path::Path) -> std::io::Result<Lists> {
-        let list = |name: &str| std::fs::read_to_string(folder.join(name)).map(|told| blocks(&told));
+    /// Reads the lists of a folder; a block of a request counts where docs/LANDINGS.md has that request.
+    pub fn read(folder: &std::path::Path, landings: &str) -> std::io::Result<Lists> {
+        let landed = |block: &Block| block.get("request").is_empty() || landings.contains(&format!("## {} ", block.get("request")));
+        let list = |name: &str| {
+            let told = std::fs::read_to_string(folder.join(name))?;
+            Ok::<_, std::io::Error>(blocks(&told).into_iter().filter(landed).collect())
+        };
         Ok(Lists {
             demands: list("demands.txt")?,
             refusals: list("refusals.txt")?,

@@ -47,10 +47,9 @@ fn make_book(documents: bool) -> std::io::Result<bool> {
             }
         }
     }
-    let landings = std::fs::read_to_string(root.join("docs/LANDINGS.md"))?;
     let page = root.join("target/book/index.html");
     std::fs::create_dir_all(root.join("target/book"))?;
-    std::fs::write(&page, book.page(&landings))?;
+    std::fs::write(&page, book.page())?;
     let stale = book.stale()?;
     for fault in book.faults.iter().chain(&stale) {
         println!("{fault}");

@@ -30,8 +30,8 @@ const BEHIND: [(&str, &str, &str); 2] = [
 ];
 
 impl Book<'_> {
-    /// The page, with the text of docs/LANDINGS.md for the table by request.
-    pub fn page(&self, landings: &str) -> String {
+    /// The page.
+    pub fn page(&self) -> String {
         let mut made = String::from(
             "<!doctype html>\n<html lang=\"en\"><head><meta charset=\"utf-8\"><meta name=\"viewport\" content=\"width=device-width, initial-scale=1\">",
         );
@@ -39,16 +39,16 @@ impl Book<'_> {
         made += "<h1>The contracts of the crew vote</h1>\n<p>Every public call with its contract. Each name in a contract leads to its definition, and on from there, down to the model, which is document 01 and document 02 as definitions that run, and to the kit's library. Beside a definition stands the paper's sentence that it states; under it who uses it, its laws, the tests, and the edits that the prover must refuse.</p>\n";
         made += &self.numbers_text();
         for (place, title, says) in CHAPTERS.iter().chain(&BEHIND) {
-            let _ = write!(made, "\n<h2 id=\"{place}\">{}</h2>\n<p>{says}</p>\n{}", escaped(title), self.part(place, landings));
+            let _ = write!(made, "\n<h2 id=\"{place}\">{}</h2>\n<p>{says}</p>\n{}", escaped(title), self.part(place));
         }
         made += "</main></body></html>\n";
         made
     }
 
-    fn part(&self, place: &str, landings: &str) -> String {
+    fn part(&self, place: &str) -> String {
         match place {
             "demands" => self.demands_text(),
-            "requests" => self.requests_text(landings),
+            "requests" => self.requests_text(),
             "refusals" => self.refusals_text(),
             "forms" => self.forms_text(),
             "mistakes" => self.mistakes_text(),

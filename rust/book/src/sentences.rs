@@ -63,8 +63,8 @@ impl Book<'_> {
     }
 
     /// The requests that have landed, by the headings of docs/LANDINGS.md.
-    pub fn requests(&self, landings: &str) -> Vec<Request> {
-        let titles = landings.lines().filter_map(|l| l.strip_prefix("## W-"));
+    pub fn requests(&self) -> Vec<Request> {
+        let titles = self.landings.lines().filter_map(|l| l.strip_prefix("## W-"));
         let mut found: Vec<Request> =
             titles.filter_map(|t| t.split_once(' ')).map(|(number, title)| self.request(format!("W-{number}"), title.to_string())).collect();
         found.sort_by(|a, b| a.number.cmp(&b.number));
