@@ -118,7 +118,7 @@ impl Book<'_> {
                     escaped(group),
                     by.iter().map(|&d| self.link_named(d)).collect::<Vec<_>>().join(", "),
                     escaped(&after.join("; ")),
-                    some(&calls, FEW),
+                    calls.join(", "),
                 ],
             );
         }
