@@ -26,14 +26,15 @@ pub served : {A : Type 0} (numbersIn : Answer → A) {d : Files} {c : Call} {a :
     → n ≡ numbersIn a → Served numbersIn d c n c′ d′
 served numbersIn {d} {c} {a} {n} {c′} {d′} R e = record { numbers = e ∙ ap numbersIn (R .answer); reply = subst (λ z. Replied d c z c′ d′) (R .answer) R }
 
--- the verdict's call: the same, and what holds of the rival that it writes
-pub record JudgedFor (d : Files) (v : List ℕ) (n : Judged) (v′ : List ℕ) (d′ : Files) : Type 0 where
-  pub served : Served judgedIn d (judge v) n (judge v′) d′
-  pub rival : (R : Roster) (M : Plan) → planHeld (heldOf d) ≡ some (R, M) → RivalSaid (instanceOf R) M (answered (heldOf d) (judge v)) v v′
+-- the verdict's call: the same, and what holds of the rival that it writes and of the pairings of the vote against it
+pub record JudgedFor (d : Files) (v f : List ℕ) (n : Judged) (v′ f′ : List ℕ) (d′ : Files) : Type 0 where
+  pub served : Served judgedIn d (judge v f) n (judge v′ f′) d′
+  pub rival : (R : Roster) (M : Plan) → planHeld (heldOf d) ≡ some (R, M)
+      → RivalSaid (instanceOf R) M (answered (heldOf d) (judge v f)) (v, f) (v′, f′)
 
-pub judged : {d : Files} {v : List ℕ} {a : Verdict} {n : Judged} {v′ : List ℕ} {d′ : Files} → Judges d v a v′ d′ → n ≡ judgedIn (verdictShown a)
-    → JudgedFor d v n v′ d′
-judged {d} {v} {a} {n} {v′} {d′} J e = record {
+pub judged : {d : Files} {v f : List ℕ} {a : Verdict} {n : Judged} {v′ f′ : List ℕ} {d′ : Files} → Judges d v f a v′ f′ d′ → n ≡ judgedIn (verdictShown a)
+    → JudgedFor d v f n v′ f′ d′
+judged {d} {v} {f} {a} {n} {v′} {f′} {d′} J e = record {
   served = served judgedIn (J .replied) e;
-  rival = λ R M h. subst (λ x. RivalSaid (instanceOf R) M x v v′) (J .replied .answer) (J .rival R M h);
+  rival = λ R M h. subst (λ x. RivalSaid (instanceOf R) M x (v, f) (v′, f′)) (J .replied .answer) (J .rival R M h);
 }

@@ -15,7 +15,10 @@ use Rattle.model.specs.Instance as model
 use Rattle.model.specs.Plans.{Plan, on, voteOf}
 use Rattle.model.specs.PlanFile.{edgesIn, readPlan}
 use Rattle.model.specs.Vote.{vote}
-use Rattle.model_desk.specs.Compare.{votes, winnerOf, compared, secondJudged, firstJudged, comparisonOf}
+use Rattle.model.specs.Facing.{pairingBytes}
+use Rattle.model_desk.specs.Compare.{votes, winnerOf, compared, secondJudged, firstJudged, comparisonOf, Pairings, bothPairings, noPairings, secondPaired}
+use Rattle.model_desk.specs.Compare.{firstPaired, pairingsOf}
+use Rattle.model_desk.specs.Desk.{onto}
 use Rattle.theory_files.specs.Reads.{isBytes}
 use Rattle.theory_instance.specs.Lawful.{Matching}
 use Rattle.theory_files.specs.PlanFiles.{plan-read-within, plan-read-matching, plan-few}
@@ -40,6 +43,14 @@ pub record Planned (g : Instance) (p : List Bool) (n : ℕ) (es : List ℕ) : Ty
   pub matching : Matching (shownBy g) (flag p)
   pub listed : Listed (g .m) p n es
 
+-- two buffers with the pairings of both votes at their fronts
+pub record Paired (p : Pairings) (forward back forward′ back′ : List ℕ) : Type 0 where
+  pub first : forward′ ≡ onto (p .0) forward
+  pub second : back′ ≡ onto (p .1) back
+
+pub paired-as : {p p′ : Pairings} {f k f′ k′ : List ℕ} → p ≡ p′ → Paired p f k f′ k′ → Paired p′ f k f′ k′
+paired-as {f = f} {k = k} {f′ = f′} {k′ = k′} e P = subst (λ p. Paired p f k f′ k′) e P
+
 -- ---- the votes of two plans
 module _ (g : Instance) (p q : List Bool) (Mp : Matching (shownBy g) (flag p)) (Mq : Matching (shownBy g) (flag q)) where
   pub votes-are : {v w : ℤ} {x : Winner} → PlanVotes (g .m) (g .ns) (g .nt) (g .sv) (g .st) (g .«rank_s») (g .«rank_t») p q v w → x ≡ winnerCase (winnerOf v w)
@@ -56,6 +67,13 @@ byEdges G f h = comparisonCase (votes (vote G f h) (vote G h f) (winnerOf (vote 
 same-first : (G : model.Instance) (M M′ : Plan) → on M ≡ on M′ → (x : Reading Plan) → comparisonCase (secondJudged G M x) ≡ comparisonCase (secondJudged G M′ x)
 same-first G M M′ e (accepted N) = ap (λ f. byEdges G f (on N)) e
 same-first G M M′ e (refused n) = refl
+
+abbrev pairedBy : model.Instance → (ℕ → Bool) → (ℕ → Bool) → Pairings
+pairedBy G f h = (pairingBytes G f h, pairingBytes G h f)
+
+same-paired : (G : model.Instance) (M M′ : Plan) → on M ≡ on M′ → (x : Reading Plan) → secondPaired G M x ≡ secondPaired G M′ x
+same-paired G M M′ e (accepted N) = ap (λ f. pairedBy G f (on N)) e
+same-paired G M M′ e (refused n) = refl
 
 -- ---- a plan file read against the arrays of an accepted roster
 module _ (g : Instance) (file : List ℕ) (r : PlanRead) (A : ReadFor true (g .m) (g .sv) (g .st) (g .sh) (g .«quota_s») (g .«quota_t») file r) where
@@ -86,8 +104,23 @@ module _ (g : Instance) (file : List ℕ) (r : PlanRead) (A : ReadFor true (g .m
         → c ≡ comparisonCase (secondJudged G p (readPlan G file))
     second-accepted q e = given (accepted-read here q) (λ (M, a, s). e ∙ ap (byEdges G (on p)) s ∙ sym (ap (λ x. comparisonCase (secondJudged G p x)) a))
 
+    pub second-none : {n : ℕ} → r .answer ≡ plan.Refused n → noPairings ≡ secondPaired G p (readPlan G file)
+    second-none q = sym (ap (secondPaired G p) (refused-read here q))
+
+    pub second-paired : {n : ℕ} → r .answer ≡ plan.Accepted n → bothPairings G p (r .chosen) ≡ secondPaired G p (readPlan G file)
+    second-paired q = given (accepted-read here q) (λ (M, a, s). ap (pairedBy G (on p)) s ∙ sym (ap (secondPaired G p) a))
+
   -- as the first file
   module _ (second : List ℕ) where
+    pub first-none : {n : ℕ} → r .answer ≡ plan.Refused n → noPairings ≡ pairingsOf G file second
+    unfolding pairingsOf
+    first-none q = sym (ap (λ x. firstPaired G x second) (refused-read here q))
+
+    pub first-paired : {n : ℕ} → r .answer ≡ plan.Accepted n → secondPaired G (r .chosen) (readPlan G second) ≡ pairingsOf G file second
+    unfolding pairingsOf
+    first-paired q = given (accepted-read here q) (λ (M, a, s).
+        same-paired G (r .chosen) M s (readPlan G second) ∙ sym (ap (λ x. firstPaired G x second) a))
+
     pub first-refused : {n : ℕ} (k : Group) → r .answer ≡ plan.Refused n → groupShown k ≡ groupOf n → Refused n k ≡ comparisonCase (comparisonOf G file second)
     unfolding comparisonOf
     first-refused {n} k q e = ap (Refused n) (shows-case k e) ∙ sym (ap (λ x. comparisonCase (firstJudged G x second)) (refused-read here q))

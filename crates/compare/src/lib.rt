@@ -1,12 +1,15 @@
-// The comparison of two plan files against the arrays of an accepted roster: both votes and the winner. The first file is judged in full before
-// the second.
+// The comparison of two plan files against the arrays of an accepted roster: both votes and the winner, and the pairings of both votes (W-208) at
+// the fronts of two buffers. The first file is judged in full before the second.
 ghost use mathlib.Core.Path.{_≡_};
+ghost use Prim.Native.Nat.{_≤_};
+ghost use lib.ListN.{length};
+ghost use Rattle.model.specs.Limits.{pairingSize};
 ghost use Rattle.model.specs.PlanFile.{readPlan};
-ghost use Rattle.model_desk.specs.Compare.{compared, secondJudged, comparisonOf};
+ghost use Rattle.model_desk.specs.Compare.{compared, secondJudged, comparisonOf, bothPairings, secondPaired, pairingsOf};
 ghost use Rattle.answers.specs.ComparisonCases.{comparisonCase};
 ghost use Rattle.instance.specs.Decoded.{shownBy};
 ghost use Rattle.instance.specs.Loaded.{Loaded};
-ghost use Rattle.compare.specs.TwoPlans.{Planned};
+ghost use Rattle.compare.specs.TwoPlans.{Planned, Paired};
 use answers::Comparison;
 use instance::Instance;
 use plan_reader::PlanAnswer;
@@ -20,15 +23,58 @@ pub(crate) fn voted(
     q: &[bool; 1024],
     qn: usize,
     qe: &[u16; 64],
+    forward: &mut [u8],
+    back: &mut [u8],
 ) -> Comparison
     requires { ⌜ Loaded g × Planned g (now p) pn (now pe) × Planned g (now q) qn (now qe) ⌝ }
+    requires { ⌜ (pairingSize ≤ length (now forward)) × (pairingSize ≤ length (now back)) ⌝ }
     ensures { λ r. ⌜ r ≡ comparisonCase (compared (shownBy g) (now (p .entry)) (now (q .entry))) ⌝ }
+    ensures { λ _. ⌜ Paired (bothPairings (shownBy g) (now (p .entry)) (now (q .entry))) (now (forward .entry)) (now (back .entry))
+        (now (forward .exit)) (now (back .exit)) ⌝ }
 {
     let sv = g.sv;
     let st = g.st;
     let rs = g.rank_s;
     let rt = g.rank_t;
+    let qs = g.quota_s;
+    let qt = g.quota_t;
     let both = vote_plans::plan_votes(g.m, g.ns, g.nt, &sv, &st, &rs, &rt, p, pn, pe, q, qn, qe);
+    vote_pairings::plan_pairings(
+        g.m,
+        g.ns,
+        g.nt,
+        &sv,
+        &st,
+        &rs,
+        &rt,
+        qs,
+        qt,
+        p,
+        pn,
+        pe,
+        q,
+        qn,
+        qe,
+        forward,
+    );
+    vote_pairings::plan_pairings(
+        g.m,
+        g.ns,
+        g.nt,
+        &sv,
+        &st,
+        &rs,
+        &rt,
+        qs,
+        qt,
+        q,
+        qn,
+        qe,
+        p,
+        pn,
+        pe,
+        back,
+    );
     let v = both.first;
     let w = both.second;
     let x = compare_winner::winner_of(v, w);
@@ -42,9 +88,14 @@ pub(crate) fn second_judged(
     pn: usize,
     pe: &[u16; 64],
     second: &[u8],
+    forward: &mut [u8],
+    back: &mut [u8],
 ) -> Comparison
     requires { ⌜ Loaded g × Planned g (now p) pn (now pe) ⌝ }
+    requires { ⌜ (pairingSize ≤ length (now forward)) × (pairingSize ≤ length (now back)) ⌝ }
     ensures { λ r. ⌜ r ≡ comparisonCase (secondJudged (shownBy g) (now (p .entry)) (readPlan (shownBy g) (now (second .entry)))) ⌝ }
+    ensures { λ _. ⌜ Paired (secondPaired (shownBy g) (now (p .entry)) (readPlan (shownBy g) (now (second .entry)))) (now (forward .entry))
+        (now (back .entry)) (now (forward .exit)) (now (back .exit)) ⌝ }
 {
     let sv = g.sv;
     let st = g.st;
@@ -58,15 +109,24 @@ pub(crate) fn second_judged(
         PlanAnswer::Accepted(n) => {
             let q = read.chosen;
             let qe = read.edges;
-            voted(g, p, pn, pe, &q, n, &qe)
+            voted(g, p, pn, pe, &q, n, &qe, forward, back)
         }
     }
 }
 
 // Two plan files against the arrays of an accepted roster. "The first file is checked in full before the second."
-pub fn compare(g: Instance, first: &[u8], second: &[u8]) -> Comparison
+pub fn compare(
+    g: Instance,
+    first: &[u8],
+    second: &[u8],
+    forward: &mut [u8],
+    back: &mut [u8],
+) -> Comparison
     requires { ⌜ Loaded g ⌝ }
+    requires { ⌜ (pairingSize ≤ length (now forward)) × (pairingSize ≤ length (now back)) ⌝ }
     ensures { λ r. ⌜ r ≡ comparisonCase (comparisonOf (shownBy g) (now (first .entry)) (now (second .entry))) ⌝ }
+    ensures { λ _. ⌜ Paired (pairingsOf (shownBy g) (now (first .entry)) (now (second .entry))) (now (forward .entry)) (now (back .entry))
+        (now (forward .exit)) (now (back .exit)) ⌝ }
 {
     let sv = g.sv;
     let st = g.st;
@@ -80,7 +140,7 @@ pub fn compare(g: Instance, first: &[u8], second: &[u8]) -> Comparison
         PlanAnswer::Accepted(n) => {
             let p = read.chosen;
             let pe = read.edges;
-            second_judged(g, &p, n, &pe, second)
+            second_judged(g, &p, n, &pe, second, forward, back)
         }
     }
 }

@@ -1,5 +1,5 @@
 -- Steps of a walk by hand, beside the kit's (`types.Run`): a function's locals, a call that comes back, a slice that is lent on, a callee's words on what
--- three or four buffers hold last, a local that dies at the return; what a walk owes for its parameters, four lent slices among them; and that a function
+-- two, three or four buffers hold last, a local that dies at the return; what a walk owes for its parameters, lent slices among them; and that a function
 -- meets its contract by its walk. A number that a step is told is, as in the kit, a place in the context; the equations say what stands there and in which
 -- local, and `refl` shows each. Assumes nothing.
 use mathlib.Core.Path.{_≡_, refl, sym, subst}
@@ -111,12 +111,12 @@ module _ {M : Type 1} {𝓤 : URA M} {H : Heap 𝓤} {A : Atoms 𝓤} {K : Type 
         (and-then t (load t (within t in-i (fld t refl (stop t))) (look-part t s then-s (sub t 1 refl (whole t)))) (no-more t))))
         (within t in-k (stop t)) (init t r then-r (tt, (tt, (record { fits = fits }, tt)))) $ z)
 
-  -- A callee's words on what three buffers hold last: their lists are as long as they were.
-  pub last-lists : K → {G : Goal 𝓤 H} {F₁ F₂ F₃ : Fml} {a b c d e f : ℕ} → (a ≡ b → c ≡ d → e ≡ f → Seq K W (‵ F₁ ∷ ‵ F₂ ∷ ‵ F₃ ∷ Γ) G)
-      → Seq K W (‵ (fsep (fsep F₁ (feq ℕ a b)) (fsep (fsep F₂ (feq ℕ c d)) (fsep (fsep F₃ (feq ℕ e f)) ftrue))) ∷ Γ) G
-  last-lists t k =
+  -- A callee's words on what two buffers hold last: their lists are as long as they were.
+  pub last-two : K → {G : Goal 𝓤 H} {F₁ F₂ : Fml} {a b c d : ℕ} → (a ≡ b → c ≡ d → Seq K W (‵ F₁ ∷ ‵ F₂ ∷ Γ) G)
+      → Seq K W (‵ (fsep (fsep F₁ (feq ℕ a b)) (fsep (fsep F₂ (feq ℕ c d)) ftrue)) ∷ Γ) G
+  last-two t k =
       fsplit t $ fsplit t $ move t (1 ∷ []) $ feqL t (λ x. move t (1 ∷ []) $ fsplit t $ fsplit t $ move t (1 ∷ []) $ feqL t (λ y.
-      move t (1 ∷ []) $ fsplit t $ fsplit t $ move t (1 ∷ []) $ feqL t (λ z. move t (1 ∷ []) $ drop t $ move t (2 ∷ 1 ∷ []) $ k x y z)))
+      move t (1 ∷ []) $ drop t $ move t (1 ∷ []) $ k x y))
 
   -- What four slices hold last, as an exit asks for it.
   pub joins-lists : K → {G : Goal 𝓤 H} {F₁ F₂ F₃ F₄ : Fml} → Step K W (‵ (fsep F₁ (fsep F₂ (fsep F₃ (fsep F₄ ftrue)))) ∷ Γ) G (‵ F₁ ∷ ‵ F₂ ∷ ‵ F₃ ∷ ‵ F₄ ∷ Γ) G
@@ -145,7 +145,12 @@ module _ {M : Type 1} {𝓤 : URA M} {H : Heap 𝓤} {A : Atoms 𝓤} {K : Type 
   })
 
 module _ {M : Type 1} {𝓤 : URA M} {H : Heap 𝓤} {A : Atoms 𝓤} {K : Type 0} {W : Given 𝓤 H A} {Γ : List (Item 𝓤)} where
-  -- The same of four buffers.
+  -- The same of three buffers, and of four.
+  pub last-lists : K → {G : Goal 𝓤 H} {F₁ F₂ F₃ : Fml} {a b c d e f : ℕ} → (a ≡ b → c ≡ d → e ≡ f → Seq K W (‵ F₁ ∷ ‵ F₂ ∷ ‵ F₃ ∷ Γ) G)
+      → Seq K W (‵ (fsep (fsep F₁ (feq ℕ a b)) (fsep (fsep F₂ (feq ℕ c d)) (fsep (fsep F₃ (feq ℕ e f)) ftrue))) ∷ Γ) G
+  last-lists t k = fsplit t $ fsplit t $ move t (1 ∷ []) $ feqL t (λ x. move t (1 ∷ []) $ last-two t (λ y z. move t (2 ∷ []) $ k x y z))
+
+module _ {M : Type 1} {𝓤 : URA M} {H : Heap 𝓤} {A : Atoms 𝓤} {K : Type 0} {W : Given 𝓤 H A} {Γ : List (Item 𝓤)} where
   pub last-four : K → {G : Goal 𝓤 H} {F₀ F₁ F₂ F₃ : Fml} {a b c d e f g h : ℕ}
       → (a ≡ b → c ≡ d → e ≡ f → g ≡ h → Seq K W (‵ F₀ ∷ ‵ F₁ ∷ ‵ F₂ ∷ ‵ F₃ ∷ Γ) G)
       → Seq K W (‵ (fsep (fsep F₀ (feq ℕ a b)) (fsep (fsep F₁ (feq ℕ c d)) (fsep (fsep F₂ (feq ℕ e f)) (fsep (fsep F₃ (feq ℕ g h)) ftrue)))) ∷ Γ) G
@@ -170,7 +175,21 @@ module _ {n : ℕ} {ss : List (Slot n)} {ks : Kepts ss} (s : Slot n) where
     tell = λ κs. (tl κs, o .tell κs);
   }
 
--- ---- the last four parameters of a call are lent slices, at the lifetimes h, i, j, k of n, and are given up for good
+-- ---- the last parameters of a call are lent slices, each at its lifetime of n, and are given up for good
+module _ {n : ℕ} where
+  abbrev pub no-more-owed : Owed {n = n} [] tt
+  no-more-owed = record { stays = tt; goes = λ 𝓤 H A W. tt; spells = λ κs. tt; tell = λ κs. tt }
+
+  abbrev pub lent-before : {ss : List (Slot n)} {ks : Kepts ss} (R : RattleType) (h : ℕ) (oh : AllWithin n (h ∷ [])) → Owed ss ks
+      → Owed (mutSliceOf (h ∷ []) oh (plain (λ _. R)) ∷ ss) (yes, ks)
+  lent-before R h oh o = record {
+    stays = (gave-slice (h ∷ []) oh (plain (λ _. R)), o .stays);
+    goes = λ 𝓤 H A W. (goes-gave-slice 𝓤 H A W n h oh (plain (λ _. R)), o .goes 𝓤 H A W);
+    spells = λ κs. (slice-vals, o .spells κs);
+    tell = λ κs. (mut-slice-tells (nameOf (h ∷ [])) (meetAt n (h ∷ []) oh κs) R, o .tell κs);
+  }
+
+-- four of them, the first of records
 module _ (n : ℕ) (R : RattleType) (h i j k : ℕ) (oh : AllWithin n (h ∷ [])) (oi : AllWithin n (i ∷ [])) (oj : AllWithin n (j ∷ []))
     (ok : AllWithin n (k ∷ [])) where
   abbrev Four : List (Slot n)
@@ -178,37 +197,8 @@ module _ (n : ℕ) (R : RattleType) (h i j k : ℕ) (oh : AllWithin n (h ∷ [])
       mutSliceOf (h ∷ []) oh (plain (λ _. R)) ∷ mutSliceOf (i ∷ []) oi (plain (λ _. u8)) ∷ mutSliceOf (j ∷ []) oj (plain (λ _. u8))
       ∷ mutSliceOf (k ∷ []) ok (plain (λ _. u8)) ∷ []
 
-  abbrev gave-four : Stays Four (yes, (yes, (yes, (yes, tt))))
-  gave-four = (
-    gave-slice (h ∷ []) oh (plain (λ _. R)),
-    (gave-slice (i ∷ []) oi (plain (λ _. u8)), (gave-slice (j ∷ []) oj (plain (λ _. u8)), (gave-slice (k ∷ []) ok (plain (λ _. u8)), tt))),
-  )
-
-  pub tell-four : (κs : Lfts n) → Tellss (typesAt Four κs) (Ises (typesAt Four κs)) (slice-vals, (slice-vals, (slice-vals, (slice-vals, tt))))
-  tell-four κs = (
-    mut-slice-tells (nameOf (h ∷ [])) (meetAt n (h ∷ []) oh κs) R,
-    (
-      mut-slice-tells (nameOf (i ∷ [])) (meetAt n (i ∷ []) oi κs) u8,
-      (mut-slice-tells (nameOf (j ∷ [])) (meetAt n (j ∷ []) oj κs) u8, (mut-slice-tells (nameOf (k ∷ [])) (meetAt n (k ∷ []) ok κs) u8, tt)),
-    ),
-  )
-
-  pub goes-four : {M : Type 1} (𝓤 : URA M) (H : Heap 𝓤) (A : Atoms 𝓤) (W : Given 𝓤 H A) → AllGo 𝓤 H A W n Four (yes, (yes, (yes, (yes, tt)))) gave-four
-  goes-four 𝓤 H A W = (
-    goes-gave-slice 𝓤 H A W n h oh (plain (λ _. R)),
-    (
-      goes-gave-slice 𝓤 H A W n i oi (plain (λ _. u8)),
-      (goes-gave-slice 𝓤 H A W n j oj (plain (λ _. u8)), (goes-gave-slice 𝓤 H A W n k ok (plain (λ _. u8)), tt)),
-    ),
-  )
-
   abbrev pub four : Owed Four (yes, (yes, (yes, (yes, tt))))
-  four = record {
-    stays = gave-four;
-    goes = goes-four;
-    spells = λ κs. (slice-vals, (slice-vals, (slice-vals, (slice-vals, tt))));
-    tell = tell-four;
-  }
+  four = lent-before R h oh (lent-before u8 i oi (lent-before u8 j oj (lent-before u8 k ok no-more-owed)))
 
 -- ---- A function e of MIR meets its contract by a walk from its parameters' machine values; of a `requires` nothing is used.
 module _ {M : Type 1} (𝓤 : URA M) (H : Heap 𝓤) (A : Atoms 𝓤) (W : Given 𝓤 H A) (T : Ended) (o : Owed (T .signature .params) (T .kept)) (c : Clauses 𝓤 T)

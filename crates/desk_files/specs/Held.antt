@@ -4,8 +4,9 @@ use Prim.Native.Nat.{ℕ}
 use mathlib.Core.Path.{_≡_, refl, sym, ap, ap₂, subst}
 use mathlib.Core.Bool.{Bool, false, cond, _&&_}
 use mathlib.Core.List.{List, []}
-use lib.ListN.{take}
+use lib.ListN.{take, replicate}
 use lib.Dec.{T}
+use Rattle.model.specs.Limits.{pairingSize}
 use Rattle.model.specs.Reading.{Reading, accepted, refused}
 use Rattle.model.specs.Roster.{Roster}
 use Rattle.model.specs.RosterFile.{readRosterBy, readRoster}
@@ -13,7 +14,7 @@ use Rattle.model.specs.Edges.{instanceOf}
 use Rattle.model.specs.Plans.{Plan}
 use Rattle.model.specs.PlanFile.{readPlan}
 use Rattle.model_desk.specs.Desk.{Held, nothing, roster, planned, proposed, opening, loadRoster, loadPlan, propose, noRoster, noPlan, onRoster, onPlan}
-use Rattle.model_desk.specs.Desk.{withRoster, withPlan, withProposal, stateRefusal, deskAfter}
+use Rattle.model_desk.specs.Desk.{Call, withRoster, withPlan, withProposal, stateRefusal, deskAfter}
 use Rattle.theory_files.specs.Reads.{isBytes}
 use Rattle.theory_finder.specs.Desks.{sound, desk-sound}
 use Rattle.desk_loaded.specs.Held.{heldPlan, held, stateNumber}
@@ -87,8 +88,12 @@ of-plan x g R M (accepted N) = refl
 of-plan x g R M (refused n) = refl
 
 -- ---- a desk holds what a new one holds after loading its bytes, and proposing; so what any desk holds is sound
+-- a proposal with buffers of their size for its pairings (W-208), in which nothing is looked for
+abbrev asked : List ℕ → Call
+asked file = propose file (replicate pairingSize 0) (replicate pairingSize 0)
+
 pub held-loads : (file plan proposal : List ℕ)
-    → beside proposal (held (readRoster file) plan) ≡ deskAfter (deskAfter (deskAfter opening (loadRoster file)) (loadPlan plan)) (propose proposal)
+    → beside proposal (held (readRoster file) plan) ≡ deskAfter (deskAfter (deskAfter opening (loadRoster file)) (loadPlan plan)) (asked proposal)
 unfolding deskAfter stateRefusal
 held-loads file plan proposal = by-roster (readRoster file)
   where
@@ -96,16 +101,16 @@ held-loads file plan proposal = by-roster (readRoster file)
     by-proposal r M (accepted N) = refl
     by-proposal r M (refused n) = refl
 
-    by-plan : (r : Roster) (y : Reading Plan) → beside proposal (heldPlan r y) ≡ deskAfter (withPlan (roster r) r y) (propose proposal)
+    by-plan : (r : Roster) (y : Reading Plan) → beside proposal (heldPlan r y) ≡ deskAfter (withPlan (roster r) r y) (asked proposal)
     by-plan r (accepted M) = by-proposal r M (readPlan (instanceOf r) proposal)
     by-plan r (refused n) = refl
 
-    by-roster : (x : Reading Roster) → beside proposal (held x plan) ≡ deskAfter (deskAfter (withRoster nothing x) (loadPlan plan)) (propose proposal)
+    by-roster : (x : Reading Roster) → beside proposal (held x plan) ≡ deskAfter (deskAfter (withRoster nothing x) (loadPlan plan)) (asked proposal)
     by-roster (accepted r) = by-plan r (readPlan (instanceOf r) plan)
     by-roster (refused n) = refl
 
 pub held-sound : (d : Files) → T (isBytes (rosterBytes d)) → T (isBytes (planBytes d)) → T (isBytes (proposalBytes d)) → T (sound (heldOf d))
 unfolding heldOf sound
 held-sound d s t u = subst (λ h. T (sound h)) (sym (held-loads (rosterBytes d) (planBytes d) (proposalBytes d)))
-    (desk-sound (deskAfter (deskAfter opening (loadRoster (rosterBytes d))) (loadPlan (planBytes d))) (propose (proposalBytes d)) u
+    (desk-sound (deskAfter (deskAfter opening (loadRoster (rosterBytes d))) (loadPlan (planBytes d))) (asked (proposalBytes d)) u
     (desk-sound (deskAfter opening (loadRoster (rosterBytes d))) (loadPlan (planBytes d)) t (desk-sound opening (loadRoster (rosterBytes d)) s tt)))

@@ -2,14 +2,14 @@
 use Prim.Native.Nat.{ℕ, _≤_, _<_}
 use native.Mathlib.Omega.{arith}
 use mathlib.Core.Path.{_≡_, refl, sym, ap, _∙_, subst}
-use mathlib.Core.Bool.{Bool, true, false, not, cond, _&&_}
+use mathlib.Core.Bool.{Bool, true, false, not, cond, _&&_, _||_}
 use mathlib.Core.List.{List}
 use mathlib.Core.Option.{none, some, Option·some-injective, Option·none-ne-some}
 use lib.ListN.{length}
 use lib.Dec.{T, ltb, nltb→le}
 use borrow.Author.Tests.{lt-ltb}
 use Rattle.lists.specs.Sum.{_∈_}
-use Rattle.lists.specs.Test.{given, false-T}
+use Rattle.lists.specs.Test.{given, false-T, nor-l, nor-r}
 use Rattle.model.specs.Reading.{Reading, accepted, refused}
 use Rattle.model.specs.Roster.{Roster, fits}
 use Rattle.model.specs.RosterFile.{readRoster}
@@ -43,12 +43,12 @@ same-desk d n (writePlanTo buffer) = refl
 same-desk d n (find s l p v) = refl
 same-desk d n (join q f s l p v) = refl
 same-desk d n (leave m s l p v) = refl
-same-desk d n (judge v) = refl
-same-desk d n (compare a b) = refl
+same-desk d n (judge v f) = refl
+same-desk d n (compare a b f k) = refl
 same-desk d n blocking = refl
 same-desk d n (planToNew f b) = refl
 same-desk d n (planToOld f b) = refl
-same-desk d n (propose f) = refl
+same-desk d n (propose a f k) = refl
 same-desk d n commit = refl
 same-desk d n (spread b) = refl
 
@@ -145,6 +145,13 @@ pub long-enough : (out : List ℕ) (size : ℕ) {roster plan : List ℕ} {needs 
     → LoadedFrom roster plan needs (ltb (length out) size) l → l .refusal ≤ 0
     → size ≤ length out
 long-enough out size F z = nltb→le (length out) size (false-T (its-length z F))
+
+-- the same of two buffers
+pub both-long : (x y : List ℕ) (n m : ℕ) {roster plan : List ℕ} {needs : Bool} {l : OnDesk}
+    → LoadedFrom roster plan needs (ltb (length x) n || ltb (length y) m) l → l .refusal ≤ 0 → (n ≤ length x) × (m ≤ length y)
+both-long x y n m F z =
+    let t = false-T (its-length z F) in
+    (nltb→le (length x) n (nor-l (ltb (length x) n) (ltb (length y) m) t), nltb→le (length y) m (nor-r (ltb (length x) n) (ltb (length y) m) t))
 
 -- ---- the plan held, and the proposal beside it, if there is one
 abbrev pub other : Files → Roster → Reading Plan

@@ -1,13 +1,13 @@
 -- The calls that the state lets pass: from what each call on the arrays promises to the desk's reply.
 use Prim.Native.Nat.{ℕ, _≤_}
-use mathlib.Core.Path.{_≡_, refl, ap, _∙_, fun-ext}
-use mathlib.Core.Bool.{Bool, true, false}
+use mathlib.Core.Path.{_≡_, refl, ap, ap₂, _∙_, fun-ext}
+use mathlib.Core.Bool.{Bool, true, false, _||_}
 use mathlib.Core.List.{List, map}
 use lib.ListN.{length}
 use lib.Dec.{ltb}
 use Rattle.lists.specs.Test.{given}
 use Rattle.lists.specs.Sum.{range}
-use Rattle.model.specs.Limits.{planSize}
+use Rattle.model.specs.Limits.{planSize, pairingSize}
 use Rattle.model.specs.Refusal.{groupOf}
 use Rattle.model.specs.Instance.{Instance}
 use Rattle.model.specs.Edges.{instanceOf}
@@ -15,9 +15,9 @@ use Rattle.model.specs.Plans.{Plan, on, verdictOf}
 use Rattle.model.specs.PlanFile.{edgesIn, readPlan}
 use Rattle.model.specs.Blocking.{someBlocks, topBlocking}
 use Rattle.model_desk.specs.Compare as outcome
-use Rattle.model_desk.specs.Compare.{winnerPart, partOf, comparisonOf}
+use Rattle.model_desk.specs.Compare.{winnerPart, partOf, comparisonOf, pairingsOf}
 use Rattle.model_desk.specs.Desk.{judge, compare, blocking, refusal, votes, refusedPart, verdictAnswer}
-use Rattle.model_desk.specs.Desk.{verdictWritten, comparisonAnswer, blockingAnswer}
+use Rattle.model_desk.specs.Desk.{verdictWritten, comparisonAnswer, blockingAnswer, pairingsOnto}
 use Rattle.theory_verdict.specs.Rival.{rivalOf}
 use Rattle.arrays.specs.ArrayInstance.{at, flag}
 use Rattle.answers.specs.declared.Verdict.{Verdict}
@@ -28,7 +28,8 @@ use Rattle.answers.specs.VerdictCases.{verdictShown}
 use Rattle.answers.specs.ComparisonCases.{comparisonShown, comparisonCase, winner-shown}
 use Rattle.answers.specs.BlockedCases.{blockedShown}
 use Rattle.instance.specs.Decoded.{shownBy}
-use Rattle.verdict.specs.Weighing.{Shows, WeighedFor, desk-answer, desk-written}
+use Rattle.verdict.specs.Weighing.{Shows, WeighedFor, PairedFor, desk-answer, desk-written}
+use Rattle.compare.specs.TwoPlans.{Paired}
 use Rattle.blocking_search.specs.Blocking.{blockedBy, blocked-shown, same-plan}
 use Rattle.desk_loaded.specs.declared.OnDesk.{OnDesk}
 use Rattle.desk_loaded.specs.Held.{heldPlan, stateNumber}
@@ -48,16 +49,19 @@ compared-shown G a b = go (comparisonOf G a b)
     go (outcome.votes v w x) = ap (λ y. votes v w y (winnerPart y a b)) (winner-shown x)
     go (outcome.refused n) = ap (λ g. refusedPart n g (winnerPart outcome.neither a b)) (shown-case (groupOf n))
 
-module _ (d : Files) {l : OnDesk} (F : LoadedFrom (rosterBytes d) (planBytes d) false false l) (a b : List ℕ) where
-  pub compare-reply : l .refusal ≤ 0 → {c : Comparison} → c ≡ comparisonCase (comparisonOf (shownBy (l .g)) a b)
-      → Replied d (compare a b) (comparisonShown a b c) (compare a b) d
-  compare-reply z e = given (its-roster z F) (λ (R, r).
+module _ (d : Files) (a b f k : List ℕ) {l : OnDesk}
+    (F : LoadedFrom (rosterBytes d) (planBytes d) false (ltb (length f) pairingSize || ltb (length k) pairingSize) l) where
+  pub compare-reply : l .refusal ≤ 0 → {c : Comparison} {f′ k′ : List ℕ} → c ≡ comparisonCase (comparisonOf (shownBy (l .g)) a b)
+      → Paired (pairingsOf (shownBy (l .g)) a b) f k f′ k′ → Replied d (compare a b f k) (comparisonShown a b c) (compare a b f′ k′) d
+  compare-reply z e P = given (its-roster z F) (λ (R, r).
       let y = readPlan (instanceOf R) (planBytes d) in
-      let f = proposalBytes d in
-      passes d (compare a b) tt tt (state-is d F) z (beside f (heldPlan R y)) (roster-held d R r)
+      let h = proposalBytes d in
+      passes d (compare a b f k) tt tt (state-is d F) z (beside h (heldPlan R y)) (roster-held d R r)
       (ap (comparisonShown a b) e ∙ compared-shown (shownBy (l .g)) a b ∙ ap (λ G. comparisonAnswer (partOf G a b) (comparisonOf G a b)) (F .instance R r .1)
-      ∙ of-roster (refusal 13) (λ r. comparisonAnswer (partOf (instanceOf r) a b) (comparisonOf (instanceOf r) a b)) R y f)
-      refl refl refl)
+      ∙ of-roster (refusal 13) (λ r. comparisonAnswer (partOf (instanceOf r) a b) (comparisonOf (instanceOf r) a b)) R y h)
+      (ap₂ (compare a b) (P .first) (P .second) ∙ ap (λ G. pairingsOnto (compare a b) (pairingsOf G a b) f k) (F .instance R r .1)
+      ∙ of-roster (compare a b f k) (λ r. pairingsOnto (compare a b) (pairingsOf (instanceOf r) a b) f k) R y h)
+      refl refl)
 
 -- ---- with the plan held
 module _ (d : Files) {short : Bool} {l : OnDesk} (F : LoadedFrom (rosterBytes d) (planBytes d) true short l) (z : l .refusal ≤ 0) where
@@ -67,16 +71,18 @@ module _ (d : Files) {short : Bool} {l : OnDesk} (F : LoadedFrom (rosterBytes d)
   pub plan-listed : edgesIn (l .g .m) (flag (l .plan)) ≡ map (at (l .edges)) (range 0 (l .n))
   plan-listed = given (its-plan-held d F z) (λ (R, M, e, s, P, w). P .listed)
 
-  pub judge-reply : (out : List ℕ) {v : Verdict} {after : List ℕ} → short ≡ ltb (length out) planSize → WeighedFor (shownBy (l .g)) (l .plan) out v after
-      → Replied d (judge out) (verdictShown v) (judge after) d
-  judge-reply out s W = given (its-plan-held d F z) (λ (R, M, e, g, P, w).
+  pub judge-reply : (out f : List ℕ) {v : Verdict} {after f′ : List ℕ} → short ≡ ltb (length out) planSize || ltb (length f) pairingSize
+      → WeighedFor (shownBy (l .g)) (l .plan) out v after → PairedFor (shownBy (l .g)) (l .plan) f f′
+      → Replied d (judge out f) (verdictShown v) (judge after f′) d
+  judge-reply out f s W P = given (its-plan-held d F z) (λ (R, M, e, g, I, w).
       let G = shownBy (l .g) in
-      let J = W M (P .within, P .flags) in
-      passes d (judge out) tt tt (state-is d F ∙ ap (stateNumber (heldOf d) true) s) z (heldProposal R M (other d R)) e
+      let J = W M (I .within, I .flags) in
+      passes d (judge out f) tt tt (state-is d F ∙ ap (stateNumber (heldOf d) true) s) z (heldProposal R M (other d R)) e
       (ap verdictShown (J .reply) ∙ desk-answer G M (verdictOf G M) ∙ ap (λ G. verdictAnswer G M (rivalOf G M) (verdictOf G M)) g
       ∙ of-plan (refusal 14) (λ r M. verdictAnswer (instanceOf r) M (rivalOf (instanceOf r) M) (verdictOf (instanceOf r) M)) R M (other d R))
-      (ap judge (J .buffer) ∙ desk-written G M (verdictOf G M) out ∙ ap (λ G. verdictWritten G (rivalOf G M) (verdictOf G M) out) g
-      ∙ of-plan (judge out) (λ r M. verdictWritten (instanceOf r) (rivalOf (instanceOf r) M) (verdictOf (instanceOf r) M) out) R M (other d R))
+      (ap₂ judge (J .buffer) (P M (I .within, I .flags)) ∙ desk-written G M (verdictOf G M) out f
+      ∙ ap (λ G. verdictWritten G M (rivalOf G M) (verdictOf G M) out f) g
+      ∙ of-plan (judge out f) (λ r M. verdictWritten (instanceOf r) M (rivalOf (instanceOf r) M) (verdictOf (instanceOf r) M) out f) R M (other d R))
       refl refl)
 
   pub blocking-reply : {b : Blocked} → short ≡ false → b ≡ blockedBy (shownBy (l .g)) (l .plan) → Replied d blocking (blockedShown b) blocking d

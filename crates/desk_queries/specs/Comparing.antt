@@ -2,18 +2,19 @@
 use Prim.Native.Nat.{ℕ, _≤_}
 use native.Mathlib.Omega.{arith}
 use mathlib.Core.Path.{_≡_, refl, ap, _∙_, subst}
-use mathlib.Core.Bool.{Bool, true, false}
+use mathlib.Core.Bool.{Bool, true, false, cond}
 use mathlib.Core.List.{List, [], _∷_}
 use lib.ListN.{length}
-use lib.Dec.{T}
+use lib.Dec.{T, ltb}
 use denote.Ref.{RefT, ptr, now}
+use Rattle.model.specs.Refusal.{Group, groupOf}
 use Rattle.model.specs.Reading as reading
 use Rattle.model.specs.Reading.{Reading, accepted}
 use Rattle.model.specs.Instance.{Instance}
 use Rattle.model.specs.Edges.{instanceOf}
 use Rattle.model.specs.Plans.{Plan}
 use Rattle.model.specs.PlanFile.{readPlanBy, readPlan}
-use Rattle.model_desk.specs.Compare.{Part, secondJudged, firstJudged, comparisonOf}
+use Rattle.model_desk.specs.Compare.{Part, secondJudged, firstJudged, comparisonOf, winnerPart, neither, partOf}
 use Rattle.model_desk.specs.Desk as D
 use Rattle.model_desk.specs.Desk.{Held, nothing, roster, planned, Answer, votes, refusedPart, compare, comparisonAnswer, answerOf, stateRefusal}
 use Rattle.answers.specs.declared.Comparison.{Comparison}
@@ -24,12 +25,14 @@ use Rattle.desk_files.specs.declared.Files.{Files}
 use Rattle.desk_files.specs.Held.{heldOf}
 use Rattle.desk_files.specs.Replies.{partIn, answered, Replied}
 
--- the comparison's call on desk d with two lent files: the answer, the part and the desk then
-pub record Compares (d : Files) (first second : RefT (List ℕ)) (answer : Comparison) (handed : RefT (List ℕ)) (d′ : Files) : Type 0 where
-  pub replied : Replied d (compare (now first) (now second)) (comparisonShown (now first) (now second) answer) (compare (now first) (now second)) d′
+-- the comparison's call on desk d with two lent files and two buffers for the pairings of both votes (W-208): the answer, the part, the buffers and
+-- the desk then
+pub record Compares (d : Files) (first second : RefT (List ℕ)) (f k : List ℕ) (answer : Comparison) (handed : RefT (List ℕ)) (f′ k′ : List ℕ) (d′ : Files)
+    : Type 0 where
+  pub replied : Replied d (compare (now first) (now second) f k) (comparisonShown (now first) (now second) answer) (compare (now first) (now second) f′ k′) d′
   -- "the winner's pair bytes are handed back as a part of its own file": "the winner's for first and second, and empty for both and neither" (W-206);
   -- the empty part, on a refusal too, is "taken from the first file"
-  pub part : (ptr handed, now handed) ≡ placed first second (partIn (answered (heldOf d) (compare (now first) (now second))))
+  pub part : (ptr handed, now handed) ≡ placed first second (partIn (answered (heldOf d) (compare (now first) (now second) f k)))
 
 -- ---- where there are votes, both files have their count byte
 abbrev isVotes : Answer → Bool
@@ -70,23 +73,40 @@ both-filled G a b p t = by-first (readPlan G a) (λ h. filled G a h) t
     by-first (accepted M) h t = (h tt, by-second M (readPlan G b) (λ g. filled G b g) t)
     by-first (reading.refused n) h t = absurd t
 
-pub counted : (h : Held) (a b : List ℕ) (c : Comparison) → comparisonShown a b c ≡ answered h (compare a b) → Counted c a b
-unfolding answerOf stateRefusal
-counted h a b (Refused n k) e = tt
-counted nothing a b (Votes v w x) e = absurd (subst (λ z. T (isVotes z)) e tt)
-counted (roster r) a b (Votes v w x) e = both-filled (instanceOf r) a b _ (subst (λ z. T (isVotes z)) e tt)
-counted (planned r M) a b (Votes v w x) e = both-filled (instanceOf r) a b _ (subst (λ z. T (isVotes z)) e tt)
-counted (D.proposed r M N) a b (Votes v w x) e = both-filled (instanceOf r) a b _ (subst (λ z. T (isVotes z)) e tt)
+-- votes are answered only where the buffers have their size
+by-size : (n : ℕ) (g : Group) (q : Part) (short : Bool) (x : Answer) → T (isVotes (cond (ltb 0 (cond short 15 0)) (refusedPart n g q) x)) → T (isVotes x)
+by-size n g q true x t = absurd t
+by-size n g q false x t = t
+
+module _ (a b f k : List ℕ) where
+  abbrev small : Bool
+  small = D.lentShort (compare a b f k)
+
+  abbrev refusing : ℕ
+  refusing = cond small 15 0
+
+  sized : (G : Instance) → T (isVotes (cond (ltb 0 refusing) (refusedPart refusing (groupOf refusing) (winnerPart neither a b))
+      (comparisonAnswer (partOf G a b) (comparisonOf G a b)))) → (1 ≤ length a) × (1 ≤ length b)
+  sized G t = both-filled G a b (partOf G a b) (by-size refusing (groupOf refusing) (winnerPart neither a b) small
+      (comparisonAnswer (partOf G a b) (comparisonOf G a b)) t)
+
+  pub counted : (h : Held) (c : Comparison) → comparisonShown a b c ≡ answered h (compare a b f k) → Counted c a b
+  unfolding answerOf stateRefusal
+  counted h (Refused n g) e = tt
+  counted nothing (Votes v w x) e = absurd (subst (λ z. T (isVotes z)) e tt)
+  counted (roster r) (Votes v w x) e = sized (instanceOf r) (subst (λ z. T (isVotes z)) e tt)
+  counted (planned r M) (Votes v w x) e = sized (instanceOf r) (subst (λ z. T (isVotes z)) e tt)
+  counted (D.proposed r M N) (Votes v w x) e = sized (instanceOf r) (subst (λ z. T (isVotes z)) e tt)
 
 -- ---- the part that the answer names is the one in the model's answer
 in-answer : (a b : List ℕ) (c : Comparison) → partShown c a b ≡ partIn (comparisonShown a b c)
 in-answer a b (Votes v w x) = refl
 in-answer a b (Refused n k) = refl
 
-pub compares : (d : Files) (first second : RefT (List ℕ)) (answer : Comparison) (handed : RefT (List ℕ)) (d′ : Files)
-    → Replied d (compare (now first) (now second)) (comparisonShown (now first) (now second) answer) (compare (now first) (now second)) d′
-    → (ptr handed, now handed) ≡ placed first second (partShown answer (now first) (now second)) → Compares d first second answer handed d′
-compares d first second answer handed d′ R e = record {
+pub compares : (d : Files) (first second : RefT (List ℕ)) (f k : List ℕ) (answer : Comparison) (handed : RefT (List ℕ)) (f′ k′ : List ℕ) (d′ : Files)
+    → Replied d (compare (now first) (now second) f k) (comparisonShown (now first) (now second) answer) (compare (now first) (now second) f′ k′) d′
+    → (ptr handed, now handed) ≡ placed first second (partShown answer (now first) (now second)) → Compares d first second f k answer handed f′ k′ d′
+compares d first second f k answer handed f′ k′ d′ R e = record {
   replied = R;
   part = e ∙ ap (placed first second) (in-answer (now first) (now second) answer ∙ ap partIn (R .answer));
 }

@@ -19,16 +19,19 @@ use Rattle.desk_files.specs.Held.{rosterBytes, planBytes, heldOf}
 use Rattle.desk_files.specs.Replies.{Replied}
 use Rattle.desk_files.specs.State.{held-within}
 
--- the verdict's call on desk d with the rival's buffer v: the answer, the buffer and the desk then
-pub record Judges (d : Files) (v : List ℕ) (answer : Verdict) (v′ : List ℕ) (d′ : Files) : Type 0 where
-  pub replied : Replied d (judge v) (verdictShown answer) (judge v′) d′
+-- the verdict's call on desk d with the buffers v for a rival and f for the pairings of the vote against it (W-208): the answer, the buffers and the
+-- desk then
+pub record Judges (d : Files) (v f : List ℕ) (answer : Verdict) (v′ f′ : List ℕ) (d′ : Files) : Type 0 where
+  pub replied : Replied d (judge v f) (verdictShown answer) (judge v′ f′) d′
   -- "Beaten and popular write a rival, such an N, and the vote of M against it", for the plan M held
-  pub rival : (R : Roster) (M : Plan) → planHeld (heldOf d) ≡ some (R, M) → RivalSaid (instanceOf R) M (verdictShown answer) v v′
+  pub rival : (R : Roster) (M : Plan) → planHeld (heldOf d) ≡ some (R, M) → RivalSaid (instanceOf R) M (verdictShown answer) (v, f) (v′, f′)
 
 -- ---- the reply has what holds of the rival in it
 pub judges : (d : Files) {short : Bool} {l : OnDesk} → LoadedFrom (rosterBytes d) (planBytes d) true short l
-    → (v : List ℕ) {answer : Verdict} {v′ : List ℕ} {d′ : Files} → Replied d (judge v) (verdictShown answer) (judge v′) d′ → Judges d v answer v′ d′
-judges d F v {answer} {v′} A = record {
+    → (v f : List ℕ) {answer : Verdict} {v′ f′ : List ℕ} {d′ : Files} → Replied d (judge v f) (verdictShown answer) (judge v′ f′) d′
+    → Judges d v f answer v′ f′ d′
+judges d F v f {answer} {v′} {f′} A = record {
   replied = A;
-  rival = λ R M h. given (held-within d F R M h) (λ (ok, m). rival-said R ok M m v (heldOf d) h (verdictShown answer) v′ (A .answer) (A .lent));
+  rival = λ R M h. given (held-within d F R M h) (λ (ok, m).
+      rival-said R ok M m v f (heldOf d) h (verdictShown answer) v′ f′ (A .answer) (A .lent));
 }

@@ -1,4 +1,4 @@
-// Verdict, comparison and blocking pair: calls that leave the desk as it is, and write at most a rival.
+// Verdict, comparison and blocking pair: calls that leave the desk as it is, and write at most a rival and the pairings of their votes (W-208).
 ghost use Rattle.model_desk.specs.Desk.{compare, blocking};
 ghost use Rattle.answers.specs.ComparisonCases.{comparisonShown};
 ghost use Rattle.answers.specs.BlockedCases.{blockedShown};
@@ -8,33 +8,50 @@ use answers::Blocked;
 use answers::Comparison;
 use answers::Verdict;
 use desk_files::Files;
+use limits::PAIRING_SIZE;
 use limits::PLAN_SIZE;
 
-// The verdict on the held plan; the rival of a plan that is not strong goes to the front of the buffer, and what holds of it is promised.
-pub fn judge(files: Files, rival: &mut [u8]) -> Verdict
-    ensures { λ r. ⌜ Judges files (now (rival .entry)) r (now (rival .exit)) files ⌝ }
+// The verdict on the held plan; the rival of a plan that is not strong goes to the front of the buffer, the pairings of the vote against it to that of
+// the other, and what holds of it is promised.
+pub fn judge(files: Files, rival: &mut [u8], pairings: &mut [u8]) -> Verdict
+    ensures { λ r. ⌜ Judges files (now (rival .entry)) (now (pairings .entry)) r (now (rival .exit)) (now (pairings .exit)) files ⌝ }
 {
-    let l = desk_files::loaded(files, true, rival.len() < PLAN_SIZE);
+    let l = desk_files::loaded(
+        files,
+        true,
+        (rival.len() < PLAN_SIZE) | (pairings.len() < PAIRING_SIZE),
+    );
     let n = l.refusal;
     if 0 < n {
         return Verdict::Refused(n, answers::group_of(n));
     }
     let plan = l.plan;
     let edges = l.edges;
-    verdict::weigh(l.g, &plan, l.n, &edges, rival)
+    verdict::weigh_paired(l.g, &plan, l.n, &edges, rival, pairings)
 }
 
-// Both votes and the winner, without the part.
-pub fn compare_votes(files: Files, first: &[u8], second: &[u8]) -> Comparison
-    ensures { λ r. ⌜ Replied files (compare (now (first .entry)) (now (second .entry))) (comparisonShown (now (first .entry)) (now (second .entry)) r)
-        (compare (now (first .entry)) (now (second .entry))) files ⌝ }
+// Both votes and the winner, without the part, and the pairings of both votes.
+pub fn compare_votes(
+    files: Files,
+    first: &[u8],
+    second: &[u8],
+    forward: &mut [u8],
+    back: &mut [u8],
+) -> Comparison
+    ensures { λ r. ⌜ Replied files (compare (now (first .entry)) (now (second .entry)) (now (forward .entry)) (now (back .entry)))
+        (comparisonShown (now (first .entry)) (now (second .entry)) r)
+        (compare (now (first .entry)) (now (second .entry)) (now (forward .exit)) (now (back .exit))) files ⌝ }
 {
-    let l = desk_files::loaded(files, false, false);
+    let l = desk_files::loaded(
+        files,
+        false,
+        (forward.len() < PAIRING_SIZE) | (back.len() < PAIRING_SIZE),
+    );
     let n = l.refusal;
     if 0 < n {
         return Comparison::Refused(n, answers::group_of(n));
     }
-    compare::compare(l.g, first, second)
+    compare::compare(l.g, first, second, forward, back)
 }
 
 pub fn blocking(files: Files) -> Blocked

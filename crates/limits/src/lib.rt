@@ -44,6 +44,9 @@ pub const LAST_DAY: u8 = 9;
 
 pub const DAY_SIZE: usize = 64;
 
+// W-208: "Each vote's pairings need a buffer of 256 bytes"
+pub const PAIRING_SIZE: usize = 256;
+
 // the size of a flat diary, five numbers a record
 pub const FLAT_SIZE: usize = 5120;
 

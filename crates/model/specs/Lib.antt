@@ -1,6 +1,7 @@
 pub mod Limits
 pub mod Instance
 pub mod Vote
+pub mod Facing
 pub mod Plans
 pub mod Reduction
 pub mod Blocking
@@ -25,3 +26,4 @@ pub mod RosterCases
 pub mod PlanCases
 pub mod DayCases
 pub mod GroupCases
+pub mod FacingCases

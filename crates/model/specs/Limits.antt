@@ -65,6 +65,10 @@ lastDay = 9
 abbrev pub daySize : ℕ
 daySize = 64
 
+-- W-208: "Each vote's pairings need a buffer of 256 bytes": two bytes a place, and the quotas of each side sum to at most 64
+abbrev pub pairingSize : ℕ
+pairingSize = 256
+
 -- W-204: "the program reads at most 4,263"
 abbrev pub inputSize : ℕ
 inputSize = 4263

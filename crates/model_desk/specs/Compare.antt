@@ -9,8 +9,9 @@ use lib.Signed.{ltZ}
 use Rattle.model.specs.Reading as reading
 use Rattle.model.specs.Reading.{Reading, accepted}
 use Rattle.model.specs.Instance.{Instance}
-use Rattle.model.specs.Plans.{Plan, voteOf}
+use Rattle.model.specs.Plans.{Plan, on, voteOf}
 use Rattle.model.specs.PlanFile.{readPlan}
+use Rattle.model.specs.Facing.{pairingBytes}
 
 -- W-206: "Comparison answers first, second, both or neither."
 pub data Winner : Type 0 where
@@ -69,3 +70,25 @@ comparisonPart (refused n) a b = winnerPart neither a b
 
 unfoldable pub partOf : Instance → (firstBytes secondBytes : List ℕ) → Part
 partOf G a b = comparisonPart (comparisonOf G a b) a b
+
+-- W-208: "Comparison, verdict and proposal pass the pairings of their votes on": those of both votes, in the order of the votes
+abbrev pub Pairings : Type 0
+Pairings = List ℕ × List ℕ
+
+abbrev pub bothPairings : Instance → (M N : Plan) → Pairings
+bothPairings G M N = (pairingBytes G (on M) (on N), pairingBytes G (on N) (on M))
+
+-- no vote, no pairings
+abbrev pub noPairings : Pairings
+noPairings = ([], [])
+
+abbrev pub secondPaired : Instance → Plan → Reading Plan → Pairings
+secondPaired G M (accepted N) = bothPairings G M N
+secondPaired G M (reading.refused n) = noPairings
+
+abbrev pub firstPaired : Instance → Reading Plan → List ℕ → Pairings
+firstPaired G (accepted M) file = secondPaired G M (readPlan G file)
+firstPaired G (reading.refused n) file = noPairings
+
+unfoldable pub pairingsOf : Instance → (firstBytes secondBytes : List ℕ) → Pairings
+pairingsOf G a b = firstPaired G (readPlan G a) b

@@ -10,7 +10,7 @@ use lib.ListN.{length, drop}
 use lib.Dec.{T, ltb}
 use lib.IntN.{ℤ}
 use Rattle.lists.specs.Sum.{_∈_}
-use Rattle.model.specs.Limits.{planSize, rosterSize, diarySize, leftSize, daySize}
+use Rattle.model.specs.Limits.{planSize, rosterSize, diarySize, leftSize, daySize, pairingSize}
 use Rattle.model.specs.Refusal.{Group, groupOf}
 use Rattle.model.specs.Reading as reading
 use Rattle.model.specs.Reading.{Reading, accepted}
@@ -21,6 +21,7 @@ use Rattle.model.specs.Instance.{Instance}
 use Rattle.model.specs.Plans as P
 use Rattle.model.specs.Plans.{Plan, Verdict, isStrong, on, plansOf, voteOf, verdictOf}
 use Rattle.model.specs.PlanFile.{pairList, planBytes, readPlan}
+use Rattle.model.specs.Facing.{pairingBytes}
 use Rattle.model.specs.Reduction.{stepsOf}
 use Rattle.model.specs.Finder as F
 use Rattle.model.specs.Finder.{Record, diaryOf, Rival, Found, finderOf}
@@ -52,12 +53,12 @@ pub data Call : Type 0 where
   find : (diary : List Record) (left plan rival : List ℕ) → Call
   join : (quota : ℕ) (file : List ℕ) (diary : List Record) (left plan rival : List ℕ) → Call  -- W-202: "both calls are also lent the finder's buffers"
   leave : (number : ℕ) (diary : List Record) (left plan rival : List ℕ) → Call
-  judge : (rival : List ℕ) → Call
-  compare : (first second : List ℕ) → Call
+  judge : (rival pairings : List ℕ) → Call  -- W-208: the pairings of the vote against the rival
+  compare : (first second forward back : List ℕ) → Call  -- the pairings of the first vote, of the second
   blocking : Call
   planToNew : (file buffer : List ℕ) → Call  -- W-205: a plan of an old season, and back
   planToOld : (file buffer : List ℕ) → Call
-  propose : (file : List ℕ) → Call  -- W-207
+  propose : (file forward back : List ℕ) → Call  -- W-207; the pairings of the proposal's vote, of the held plan's
   commit : Call
   spread : (buffer : List ℕ) → Call  -- W-209: a day for each entry of the held plan
 
@@ -91,12 +92,12 @@ needsRoster (writePlanTo buffer) = true
 needsRoster (find d l p v) = true
 needsRoster (join q f d l p v) = true
 needsRoster (leave s d l p v) = true
-needsRoster (judge v) = true
-needsRoster (compare a b) = true
+needsRoster (judge v f) = true
+needsRoster (compare a b f k) = true
 needsRoster blocking = true
 needsRoster (planToNew f b) = true
 needsRoster (planToOld f b) = true
-needsRoster (propose f) = true
+needsRoster (propose a f k) = true
 needsRoster commit = true
 needsRoster (spread b) = true
 
@@ -108,12 +109,12 @@ needsPlan (writePlanTo buffer) = true
 needsPlan (find d l p v) = false
 needsPlan (join q f d l p v) = false
 needsPlan (leave s d l p v) = false
-needsPlan (judge v) = true
-needsPlan (compare a b) = false
+needsPlan (judge v f) = true
+needsPlan (compare a b f k) = false
 needsPlan blocking = true
 needsPlan (planToNew f b) = false
 needsPlan (planToOld f b) = false
-needsPlan (propose f) = true
+needsPlan (propose a f k) = true
 needsPlan commit = true
 needsPlan (spread b) = true
 
@@ -125,17 +126,18 @@ needsProposal (writePlanTo buffer) = false
 needsProposal (find d l p v) = false
 needsProposal (join q f d l p v) = false
 needsProposal (leave s d l p v) = false
-needsProposal (judge v) = false
-needsProposal (compare a b) = false
+needsProposal (judge v f) = false
+needsProposal (compare a b f k) = false
 needsProposal blocking = false
 needsProposal (planToNew f b) = false
 needsProposal (planToOld f b) = false
-needsProposal (propose f) = false
+needsProposal (propose a f k) = false
 needsProposal commit = true
 needsProposal (spread b) = false
 
 -- "a buffer for a plan, candidate or rival needs" 193 bytes, "for a roster" 4,262 (W-204), "the diary and the left pairs 1,024 entries
--- each, however little is written"; W-205: "The buffer written to needs 4,262 or 193 bytes either way."; W-209: "in a buffer of 64 bytes, else 15"
+-- each, however little is written"; W-205: "The buffer written to needs 4,262 or 193 bytes either way."; W-208:
+-- "Each vote's pairings need a buffer of 256 bytes, else 15"; W-209: "in a buffer of 64 bytes, else 15"
 abbrev pub short : List ℕ → ℕ → Bool
 short buffer size = ltb (length buffer) size
 
@@ -150,12 +152,12 @@ lentShort (writePlanTo buffer) = short buffer planSize
 lentShort (find d l p v) = finderShort d l p v
 lentShort (join q f d l p v) = finderShort d l p v
 lentShort (leave s d l p v) = finderShort d l p v
-lentShort (judge v) = short v planSize
-lentShort (compare a b) = false
+lentShort (judge v f) = short v planSize || short f pairingSize
+lentShort (compare a b f k) = short f pairingSize || short k pairingSize
 lentShort blocking = false
 lentShort (planToNew f b) = short b planSize
 lentShort (planToOld f b) = short b planSize
-lentShort (propose f) = false
+lentShort (propose a f k) = short f pairingSize || short k pairingSize
 lentShort commit = false
 lentShort (spread b) = short b daySize
 
@@ -220,10 +222,11 @@ verdictAnswer G M N P.strong = strong
 verdictAnswer G M N P.popular = popular (voteOf G M N)
 verdictAnswer G M N P.beaten = beaten (voteOf G M N)
 
-abbrev pub verdictWritten : Instance → (N : Plan) → Verdict → List ℕ → Call
-verdictWritten G N P.strong v = judge v
-verdictWritten G N P.popular v = judge (onto (planBytes G N) v)
-verdictWritten G N P.beaten v = judge (onto (planBytes G N) v)
+-- W-208: with the rival the pairings of the vote against it; "a strong verdict writes none"
+abbrev pub verdictWritten : Instance → (M N : Plan) → Verdict → (rival pairings : List ℕ) → Call
+verdictWritten G M N P.strong v f = judge v f
+verdictWritten G M N P.popular v f = judge (onto (planBytes G N) v) (onto (pairingBytes G (on M) (on N)) f)
+verdictWritten G M N P.beaten v f = judge (onto (planBytes G N) v) (onto (pairingBytes G (on M) (on N)) f)
 
 -- the comparison, with the part that is handed back
 abbrev pub comparisonAnswer : Part → Comparison → Answer
@@ -249,6 +252,15 @@ abbrev pub proposalAnswer : Instance → Plan → Reading Plan → Answer
 proposalAnswer G M (accepted N) = bothVotes (voteOf G N M) (voteOf G M N)
 proposalAnswer G M (reading.refused n) = refusal n
 
+-- W-208: its pairings, and those of the held plan's vote
+abbrev pub proposalPairings : Instance → Plan → Reading Plan → C.Pairings
+proposalPairings G M (accepted N) = C.bothPairings G N M
+proposalPairings G M (reading.refused n) = C.noPairings
+
+-- the pairings of two votes in their buffers
+abbrev pub pairingsOnto : (List ℕ → List ℕ → Call) → C.Pairings → (forward back : List ℕ) → Call
+pairingsOnto call p f k = call (onto (p .0) f) (onto (p .1) k)
+
 -- "on a refusal, the part is empty, taken from the first file"
 abbrev pub stateRefused : ℕ → Call → Answer
 stateRefused n (loadRoster file) = refusal n
@@ -258,12 +270,12 @@ stateRefused n (writePlanTo buffer) = refusal n
 stateRefused n (find d l p v) = refusal n
 stateRefused n (join q f d l p v) = refusal n
 stateRefused n (leave s d l p v) = refusal n
-stateRefused n (judge v) = refusal n
-stateRefused n (compare a b) = refusedPart n (groupOf n) (C.winnerPart C.neither a b)
+stateRefused n (judge v f) = refusal n
+stateRefused n (compare a b f k) = refusedPart n (groupOf n) (C.winnerPart C.neither a b)
 stateRefused n blocking = refusal n
 stateRefused n (planToNew f b) = refusal n
 stateRefused n (planToOld f b) = refusal n
-stateRefused n (propose f) = refusal n
+stateRefused n (propose a f k) = refusal n
 stateRefused n commit = refusal n
 stateRefused n (spread b) = refusal n
 
@@ -320,12 +332,12 @@ module _ (ch : Choices) where
   answerOn h (find d l p v) = onRoster (refusal 13) h foundOn
   answerOn h (join q f d l p v) = onRoster (refusal 13) h (λ r. changedAnswer (joinOn r q f))
   answerOn h (leave s d l p v) = onRoster (refusal 13) h (λ r. changedAnswer (leaveOn r s))
-  answerOn h (judge v) = onPlan (refusal 14) h (λ r M. let G = instanceOf r in verdictAnswer G M (ch .rivalOf G M) (verdictOf G M))
-  answerOn h (compare a b) = onRoster (refusal 13) h (λ r. let G = instanceOf r in comparisonAnswer (partOf G a b) (comparisonOf G a b))
+  answerOn h (judge v f) = onPlan (refusal 14) h (λ r M. let G = instanceOf r in verdictAnswer G M (ch .rivalOf G M) (verdictOf G M))
+  answerOn h (compare a b f k) = onRoster (refusal 13) h (λ r. let G = instanceOf r in comparisonAnswer (partOf G a b) (comparisonOf G a b))
   answerOn h blocking = onPlan (refusal 14) h (λ r M. let G = instanceOf r in blockingAnswer G (topBlocking G (on M)) (someBlocks G (on M)))
   answerOn h (planToNew f b) = onRoster (refusal 13) h (λ r. convertedAnswer (S.planToNew (instanceOf r) f))
   answerOn h (planToOld f b) = onRoster (refusal 13) h (λ r. convertedAnswer (S.planToOld (instanceOf r) f))
-  answerOn h (propose f) = onPlan (refusal 14) h (λ r M. let G = instanceOf r in proposalAnswer G M (readPlan G f))
+  answerOn h (propose a f k) = onPlan (refusal 14) h (λ r M. let G = instanceOf r in proposalAnswer G M (readPlan G a))
   answerOn h commit = committed
   answerOn h (spread b) = onPlan (refusal 14) h (λ r M. wrote (length (ch .daysOf (instanceOf r) M)))
 
@@ -337,12 +349,13 @@ module _ (ch : Choices) where
   lentOn h (find d l p v) = onRoster (find d l p v) h (λ r. foundBytes find r d l p v)
   lentOn h (join q f d l p v) = onRoster (join q f d l p v) h (λ r. changedBytes (join q f) (joinOn r q f) d l p v)
   lentOn h (leave s d l p v) = onRoster (leave s d l p v) h (λ r. changedBytes (leave s) (leaveOn r s) d l p v)
-  lentOn h (judge v) = onPlan (judge v) h (λ r M. let G = instanceOf r in verdictWritten G (ch .rivalOf G M) (verdictOf G M) v)
-  lentOn h (compare a b) = compare a b
+  lentOn h (judge v f) = onPlan (judge v f) h (λ r M. let G = instanceOf r in verdictWritten G M (ch .rivalOf G M) (verdictOf G M) v f)
+  lentOn h (compare a b f k) = onRoster (compare a b f k) h (λ r. pairingsOnto (compare a b) (C.pairingsOf (instanceOf r) a b) f k)
   lentOn h blocking = blocking
   lentOn h (planToNew f b) = onRoster (planToNew f b) h (λ r. planToNew f (convertedOnto (S.planToNew (instanceOf r) f) b))
   lentOn h (planToOld f b) = onRoster (planToOld f b) h (λ r. planToOld f (convertedOnto (S.planToOld (instanceOf r) f) b))
-  lentOn h (propose f) = propose f
+  lentOn h (propose a f k) =
+      onPlan (propose a f k) h (λ r M. let G = instanceOf r in pairingsOnto (propose a) (proposalPairings G M (readPlan G a)) f k)
   lentOn h commit = commit
   lentOn h (spread b) = onPlan (spread b) h (λ r M. spread (onto (ch .daysOf (instanceOf r) M) b))
 
@@ -395,12 +408,12 @@ deskOn h (writePlanTo buffer) = h
 deskOn h (find d l p v) = h
 deskOn h (join q f d l p v) = onRoster h h (λ r. withChange true h (joinOn r q f))
 deskOn h (leave s d l p v) = onRoster h h (λ r. withChange (not (gone r s)) h (leaveOn r s))
-deskOn h (judge v) = h
-deskOn h (compare a b) = h
+deskOn h (judge v f) = h
+deskOn h (compare a b f k) = h
 deskOn h blocking = h
 deskOn h (planToNew f b) = h
 deskOn h (planToOld f b) = h
-deskOn h (propose f) = onPlan h h (λ r M. withProposal h r M (readPlan (instanceOf r) f))
+deskOn h (propose a f k) = onPlan h h (λ r M. withProposal h r M (readPlan (instanceOf r) a))
 deskOn h commit = withCommit h
 deskOn h (spread b) = h
 

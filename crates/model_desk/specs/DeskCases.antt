@@ -26,6 +26,8 @@ use Rattle.model.specs.PlanFile.{planBytesBy, edgeOfPair, readPlanBy, readPlan}
 use Rattle.model.specs.Finder.{Record, diaryOf, leftOf, candidateOf, finderOf}
 use Rattle.model_desk.specs.Compare.{Part, firstFile, secondFile, first, second, neither, comparisonOf, partOf}
 use Rattle.model.specs.Blocking.{blocks, someBlocks, topBlocking}
+use Rattle.model.specs.Facing.{facing, pairingBytes}
+use Rattle.model_desk.specs.Compare as C
 use Rattle.model_desk.specs.Desk as D
 use Rattle.model_desk.specs.Desk.{Choices, Held, nothing, roster, planned, Call, Answer, stateRefusal, answerOf, lentAfter, deskAfter, loaded}
 use Rattle.model_desk.specs.Desk.{refused, wrote, strong, none, left}
@@ -33,6 +35,13 @@ use Rattle.model_desk.specs.Desk.{refused, wrote, strong, none, left}
 -- buffers of a size
 abbrev pub whole : ℕ → List ℕ
 whole n = replicate n 7
+
+-- W-208: with buffers of their size for the pairings
+abbrev pub judge : List ℕ → Call
+judge v = D.judge v (whole 256)
+
+abbrev pub compare : (first second : List ℕ) → Call
+compare a b = D.compare a b (whole 256) (whole 256)
 
 abbrev pub diary : ℕ → List Record
 diary n = replicate n (record { fate = 7; surveyor = 7; stand = 7; shift = 7; rule = 7 })
@@ -127,8 +136,8 @@ changes =
     -- the other calls leave the desk alike
     ∷ record { before = one; call = D.writeRosterTo (whole 4262); after = one }
     ∷ record { before = one; call = D.writePlanTo (whole 193); after = one }
-    ∷ record { before = one; call = D.judge (whole 193); after = one }
-    ∷ record { before = one; call = D.compare (bytes "0") (bytes "0"); after = one }
+    ∷ record { before = one; call = judge (whole 193); after = one }
+    ∷ record { before = one; call = compare (bytes "0") (bytes "0"); after = one }
     ∷ record { before = one; call = D.blocking; after = one } ∷ record { before = one; call = find; after = one } ∷ []
 
 pub holds : Each (λ (c : Change). deskAfter (c .before) (c .call) ≡ c .after) changes
@@ -166,9 +175,9 @@ noRoster =
     ∷ record { held = D.opening; call = D.writeRosterTo []; answer = refused 13 desk }
     ∷ record { held = D.opening; call = D.writePlanTo []; answer = refused 13 desk }
     ∷ record { held = D.opening; call = D.find [] [] [] []; answer = refused 13 desk }
-    ∷ record { held = D.opening; call = D.judge []; answer = refused 13 desk }
+    ∷ record { held = D.opening; call = judge []; answer = refused 13 desk }
     ∷ record { held = D.opening; call = D.blocking; answer = refused 13 desk }
-    ∷ record { held = D.opening; call = D.compare (bytes "65") (bytes "0"); answer = D.refusedPart 13 desk empty } ∷ []
+    ∷ record { held = D.opening; call = compare (bytes "65") (bytes "0"); answer = D.refusedPart 13 desk empty } ∷ []
 
 pub no-roster-said : (ch : Choices) → Answered ch noRoster
 unfolding numbersFrom count low groupOf listed listedBack bothOrNeither readEach readRosterBy writeRosterBy position edgesOf instanceOf deg nodeVote
@@ -181,14 +190,15 @@ no-roster-said ch = (refl, (refl, (refl, (refl, (refl, (refl, (refl, tt)))))))
 abbrev shortBuffers : List Said
 shortBuffers =
     record { held = roster sample; call = D.blocking; answer = refused 14 desk }
-    ∷ record { held = roster sample; call = D.judge []; answer = refused 14 desk }
+    ∷ record { held = roster sample; call = judge []; answer = refused 14 desk }
     ∷ record { held = roster sample; call = D.writePlanTo (whole 192); answer = refused 14 desk }
     ∷ record { held = roster sample; call = D.writeRosterTo (whole 4261); answer = refused 15 desk }
     ∷ record { held = roster sample; call = D.find (diary 1023) (whole 3072) (whole 193) (whole 193); answer = refused 15 desk }
     ∷ record { held = roster sample; call = D.find (diary 1024) (whole 3071) (whole 193) (whole 193); answer = refused 15 desk }
     ∷ record { held = roster sample; call = D.find (diary 1024) (whole 3072) (whole 192) (whole 193); answer = refused 15 desk }
     ∷ record { held = roster sample; call = D.find (diary 1024) (whole 3072) (whole 193) (whole 192); answer = refused 15 desk }
-    ∷ record { held = one; call = D.judge (whole 192); answer = refused 15 desk }
+    ∷ record { held = one; call = judge (whole 192); answer = refused 15 desk }
+    ∷ record { held = one; call = D.judge (whole 193) (whole 255); answer = refused 15 desk }
     ∷ record { held = one; call = D.writePlanTo (whole 192); answer = refused 15 desk } ∷ []
 
 pub short-buffers-said : (ch : Choices) → Answered ch shortBuffers
@@ -196,7 +206,7 @@ unfolding numbersFrom count low groupOf listed listedBack bothOrNeither readEach
     vote choices within plansOf samePlan beatenBy drawnWith verdictOf R.cut R.ahead R.arrow R.loose R.reserved R.betterS R.betterT R.worseReserved
     R.rule1 R.rule2 R.rule3 R.rule4 R.rule5 R.rule6 R.rule7 Fst.first Option·elim orElse R.rules R.stepBy R.firstStep R.act R.begin R.stepsFrom R.stateAfter
     R.stepsOf R.endOf planBytesBy edgeOfPair readPlanBy diaryOf leftOf candidateOf finderOf comparisonOf partOf blocks someBlocks stateRefusal answerOf
-short-buffers-said ch = (refl, (refl, (refl, (refl, (refl, (refl, (refl, (refl, (refl, (refl, tt))))))))))
+short-buffers-said ch = (refl, (refl, (refl, (refl, (refl, (refl, (refl, (refl, (refl, (refl, (refl, tt)))))))))))
 
 -- loads, accepted and refused
 abbrev loads : List Said
@@ -265,7 +275,7 @@ written-said ch = (refl, (refl, (refl, (refl, tt))))
 -- the verdict, the blocking pair and the finder, where no rival is named
 abbrev found : List Said
 found =
-    record { held = one; call = D.judge (whole 193); answer = strong }
+    record { held = one; call = judge (whole 193); answer = strong }
     ∷ record { held = one; call = D.blocking; answer = D.unblocked }
     ∷ record { held = two; call = D.blocking; answer = D.blockedBy 1 1 1 }
     ∷ record { held = roster sample; call = find; answer = D.plan 2 }
@@ -288,42 +298,44 @@ abbrev compared : List Said
 compared =
     record {
       held = roster sample;
-      call = D.compare (bytes "1 1 1 1") (bytes "1 2 1 1");
+      call = compare (bytes "1 1 1 1") (bytes "1 2 1 1");
       answer = D.votes (pos 1) (negsuc 0) first (record { file = firstFile; from = 1; bytes = bytes "1 1 1" });
     }
     ∷ record {
       held = roster sample;
-      call = D.compare (bytes "1 2 1 1") (bytes "1 1 1 1");
+      call = compare (bytes "1 2 1 1") (bytes "1 1 1 1");
       answer = D.votes (negsuc 0) (pos 1) second (record { file = secondFile; from = 1; bytes = bytes "1 1 1" });
     }
-    ∷ record { held = one; call = D.compare (bytes "0") (bytes "0"); answer = D.votes (pos 0) (pos 0) neither empty }
+    ∷ record { held = one; call = compare (bytes "0") (bytes "0"); answer = D.votes (pos 0) (pos 0) neither empty }
     ∷ record {
       held = roster twice;
-      call = D.compare (bytes "2 1 1 1 1 1 3") (bytes "1 1 1 1");
+      call = compare (bytes "2 1 1 1 1 1 3") (bytes "1 1 1 1");
       answer = D.votes (pos 2) (negsuc 1) first (record { file = firstFile; from = 1; bytes = bytes "1 1 1 1 1 3" });
     }
-    ∷ record { held = roster crossed; call = D.compare (bytes "1 1 1 1") (bytes "1 1 1 3"); answer = D.votes (pos 0) (pos 0) neither empty }
-    ∷ record { held = roster sample; call = D.compare (bytes "1 3 1 1") (bytes "65"); answer = D.refusedPart 10 plan empty }
-    ∷ record { held = roster sample; call = D.compare (bytes "0") (bytes "65"); answer = D.refusedPart 2 form empty } ∷ []
+    ∷ record { held = roster crossed; call = compare (bytes "1 1 1 1") (bytes "1 1 1 3"); answer = D.votes (pos 0) (pos 0) neither empty }
+    ∷ record { held = roster sample; call = compare (bytes "1 3 1 1") (bytes "65"); answer = D.refusedPart 10 plan empty }
+    ∷ record { held = roster sample; call = D.compare (bytes "65") (bytes "0") (whole 255) (whole 256); answer = D.refusedPart 15 desk empty }
+    ∷ record { held = roster sample; call = D.compare (bytes "65") (bytes "0") (whole 256) (whole 255); answer = D.refusedPart 15 desk empty }
+    ∷ record { held = roster sample; call = compare (bytes "0") (bytes "65"); answer = D.refusedPart 2 form empty } ∷ []
 
 pub compared-said : (ch : Choices) → Answered ch compared
 unfolding numbersFrom count low groupOf listed listedBack bothOrNeither readEach readRosterBy writeRosterBy position edgesOf instanceOf deg nodeVote
     vote choices within plansOf samePlan beatenBy drawnWith verdictOf R.cut R.ahead R.arrow R.loose R.reserved R.betterS R.betterT R.worseReserved
     R.rule1 R.rule2 R.rule3 R.rule4 R.rule5 R.rule6 R.rule7 Fst.first Option·elim orElse R.rules R.stepBy R.firstStep R.act R.begin R.stepsFrom R.stateAfter
     R.stepsOf R.endOf planBytesBy edgeOfPair readPlanBy diaryOf leftOf candidateOf finderOf comparisonOf partOf blocks someBlocks stateRefusal answerOf
-compared-said ch = (refl, (refl, (refl, (refl, (refl, (refl, (refl, tt)))))))
+compared-said ch = (refl, (refl, (refl, (refl, (refl, (refl, (refl, (refl, (refl, tt)))))))))
 
 -- a vote of two digits, below zero
 abbrev twoDigits : List Said
 twoDigits =
     record {
       held = roster five;
-      call = D.compare (bytes "0") (bytes "5 1 1 1 2 2 1 3 3 1 4 4 1 5 5 1");
+      call = compare (bytes "0") (bytes "5 1 1 1 2 2 1 3 3 1 4 4 1 5 5 1");
       answer = D.votes (negsuc 9) (pos 10) second (record { file = secondFile; from = 1; bytes = bytes "1 1 1 2 2 1 3 3 1 4 4 1 5 5 1" });
     } ∷ []
 
 comparison : (ch : Choices) (r : Roster) (a b : List ℕ)
-    → answerOf ch (roster r) (D.compare a b) ≡ D.comparisonAnswer (partOf (instanceOf r) a b) (comparisonOf (instanceOf r) a b)
+    → answerOf ch (roster r) (compare a b) ≡ D.comparisonAnswer (partOf (instanceOf r) a b) (comparisonOf (instanceOf r) a b)
 unfolding stateRefusal answerOf
 comparison ch r a b = refl
 
@@ -354,15 +366,17 @@ lent =
     record { held = nothing; call = D.writeRosterTo (whole 4262); after = D.writeRosterTo (whole 4262) }
     ∷ record { held = roster sample; call = D.writePlanTo (whole 193); after = D.writePlanTo (whole 193) }
     ∷ record { held = one; call = D.writePlanTo (whole 192); after = D.writePlanTo (whole 192) }
-    ∷ record { held = one; call = D.judge (whole 193); after = D.judge (whole 193) }
+    ∷ record { held = one; call = judge (whole 193); after = judge (whole 193) }
+    ∷ record { held = one; call = D.judge (whole 193) (whole 255); after = D.judge (whole 193) (whole 255) }
+    ∷ record { held = one; call = D.compare (bytes "1 1 1 1") (bytes "1 3 1 1") (whole 256) (whole 256); after = compare (bytes "1 1 1 1") (bytes "1 3 1 1") }
     ∷ record { held = one; call = D.writePlanTo (whole 194); after = D.writePlanTo (onto (bytes "1 1 1 1") 190) } ∷ []
 
 pub lent-said : (ch : Choices) → Each (λ (s : Lent). lentAfter ch (s .held) (s .call) ≡ s .after) lent
 unfolding numbersFrom count low groupOf writeRosterBy position edgesOf listed instanceOf deg nodeVote vote choices within plansOf samePlan beatenBy drawnWith
     verdictOf R.cut R.ahead R.arrow R.loose R.reserved R.betterS R.betterT R.worseReserved R.rule1 R.rule2 R.rule3 R.rule4 R.rule5 R.rule6 R.rule7
     Fst.first Option·elim orElse R.rules R.stepBy R.firstStep R.act R.begin R.stepsFrom R.stateAfter R.stepsOf R.endOf planBytesBy diaryOf leftOf
-    candidateOf finderOf stateRefusal lentAfter
-lent-said ch = (refl, (refl, (refl, (refl, (refl, tt)))))
+    candidateOf finderOf stateRefusal lentAfter C.pairingsOf readPlanBy readEach edgeOfPair
+lent-said ch = (refl, (refl, (refl, (refl, (refl, (refl, (refl, tt)))))))
 
 -- a roster in a buffer; what the finder writes: a plan with its steps, or the pairs left
 pub roster-written : sameBytes (D.onto (writeRoster sample) (whole 4262)) (onto sampleFile 4241) ≡ true
@@ -392,9 +406,11 @@ mine = false ∷ true ∷ []
 
 pub rival-said : (D.verdictAnswer (instanceOf sample) mine other P.beaten ≡ D.beaten (negsuc 0))
     × ((D.verdictAnswer (instanceOf sample) mine other P.popular ≡ D.popular (negsuc 0))
-    × ((D.verdictWritten (instanceOf sample) other P.beaten (whole 193) ≡ D.judge (onto (bytes "1 1 1 1") 189))
-    × ((D.verdictWritten (instanceOf sample) other P.popular (whole 193) ≡ D.judge (onto (bytes "1 1 1 1") 189))
+    × ((D.verdictWritten (instanceOf sample) mine other P.beaten (whole 193) (whole 256)
+    ≡ D.judge (onto (bytes "1 1 1 1") 189) (onto (bytes "33 1 1 33 2 1") 250))
+    × ((D.verdictWritten (instanceOf sample) mine other P.popular (whole 193) (whole 256)
+    ≡ D.judge (onto (bytes "1 1 1 1") 189) (onto (bytes "33 1 1 33 2 1") 250))
     × ((D.blockingAnswer (instanceOf sample) 0 true ≡ D.blockedBy 1 1 1) × (D.blockingAnswer (instanceOf four) 1 true ≡ D.blockedBy 1 2 1)
     × (D.blockingAnswer (instanceOf twice) 1 true ≡ D.blockedBy 1 1 3)))))
-unfolding numbersFrom count low listed position edgesOf instanceOf deg nodeVote vote planBytesBy
+unfolding numbersFrom count low listed position edgesOf instanceOf deg nodeVote vote planBytesBy facing pairingBytes
 rival-said = (refl, (refl, (refl, (refl, (refl, refl, refl)))))

@@ -17,12 +17,14 @@ use Rattle.model.specs.RosterFile.{writeRosterBy}
 use Rattle.model.specs.Edges.{position, edgesOf, instanceOf}
 use Rattle.model.specs.Instance.{Instance, deg}
 use Rattle.model.specs.Vote.{nodeVote, vote}
-use Rattle.model.specs.Plans.{Plan, voteOf, choices, within, plansOf, samePlan, beatenBy, drawnWith, verdictOf}
+use Rattle.model.specs.Plans.{Plan, on, voteOf, choices, within, plansOf, samePlan, beatenBy, drawnWith, verdictOf}
 use Rattle.model.specs.Reduction as R
-use Rattle.model.specs.PlanFile.{planBytesBy, planBytes, edgeOfPair, pairBytes}
+use Rattle.model.specs.PlanFile.{planBytesBy, planBytes, edgeOfPair, pairBytes, readPlanBy}
 use Rattle.model.specs.Finder as F
 use Rattle.model.specs.Finder.{Record, diaryOf, leftOf, candidateOf, finderOf}
 use Rattle.model_changes.specs.Changes.{joined, joinOn, departed, leaveOn, carried}
+use Rattle.model.specs.Facing.{facing, pairingBytes}
+use Rattle.model_desk.specs.Compare.{pairingsOf}
 use Rattle.model_desk.specs.Desk as D
 use Rattle.model_desk.specs.Desk.{Choices, Call, Lends, stateRefusal, answerOf, lentAfter}
 use Rattle.model_desk.specs.DeskCases.{diary, early, sample, twice, one}
@@ -55,8 +57,9 @@ pairs = (refl, refl)
 -- calls that write nothing leave what they are lent; a change writes what the finder finds on the changed roster
 pub kept : (ch : Choices) → (lentAfter ch one (D.loadRoster (bytes "1 9")) ≡ D.loadRoster (bytes "1 9"))
     × (lentAfter ch one (D.loadPlan (bytes "0")) ≡ D.loadPlan (bytes "0"))
-    × (lentAfter ch one (D.compare (bytes "0") (bytes "1")) ≡ D.compare (bytes "0") (bytes "1"))
-    × (lentAfter ch one D.blocking ≡ D.blocking) × (lentAfter ch one (D.propose (bytes "0")) ≡ D.propose (bytes "0")) × (lentAfter ch one D.commit ≡ D.commit)
+    × (lentAfter ch one (D.compare (bytes "0") (bytes "1") [] []) ≡ D.compare (bytes "0") (bytes "1") [] [])
+    × (lentAfter ch one D.blocking ≡ D.blocking) × (lentAfter ch one (D.propose (bytes "0") [] []) ≡ D.propose (bytes "0") [] [])
+    × (lentAfter ch one D.commit ≡ D.commit)
 unfolding stateRefusal lentAfter
 kept ch = (refl, refl, refl, refl, refl, refl)
 
@@ -69,6 +72,16 @@ unfolding numbersFrom count low listed readEach position edgesOf instanceOf deg 
     Fst.first Option·elim orElse R.rules R.stepBy R.firstStep R.act R.begin R.stepsFrom R.stateAfter R.stepsOf R.endOf planBytesBy diaryOf leftOf
     candidateOf finderOf joined joinOn departed leaveOn stateRefusal lentAfter
 changed ch = (refl, refl)
+
+-- W-208: the pairings of both votes, each in its buffer: of a comparison the first file's vote first, of a proposal its own
+pub pairings-lent : (ch : Choices) → (lentAfter ch one (D.compare (bytes "1 1 1 1") (bytes "1 2 1 1") (replicate 256 6) (replicate 256 8))
+    ≡ D.compare (bytes "1 1 1 1") (bytes "1 2 1 1") (bytes "1 33 33 1 1 2" ++ replicate 250 6) (bytes "33 1 1 33 2 1" ++ replicate 250 8))
+    × (lentAfter ch one (D.propose (bytes "1 2 1 1") (replicate 256 6) (replicate 256 8))
+    ≡ D.propose (bytes "1 2 1 1") (bytes "33 1 1 33 2 1" ++ replicate 250 6) (bytes "1 33 33 1 1 2" ++ replicate 250 8))
+    × (lentAfter ch one (D.propose (bytes "1 3 1 1") (replicate 256 6) (replicate 256 8)) ≡ D.propose (bytes "1 3 1 1") (replicate 256 6) (replicate 256 8))
+unfolding numbersFrom count low listed position edgesOf instanceOf deg nodeVote edgeOfPair readPlanBy facing pairingBytes pairingsOf stateRefusal lentAfter
+    readEach
+pairings-lent ch = (refl, refl, refl)
 
 -- a roster is written to the buffer that is lent
 pub roster-lent : (ch : Choices) → lentAfter ch one (D.writeRosterTo (replicate 4262 3))
@@ -93,7 +106,7 @@ abbrev candidate : Plan
 candidate = true ∷ false ∷ []
 
 pub rival-answered : (ch : Choices) → (answerOf ch (D.roster tie) (lent D.find) ≡ D.none 2 (D.rivalled (voteOf G candidate (ch .rivalOf G candidate))))
-    × (answerOf ch (D.planned tie candidate) (D.judge (replicate 193 5)) ≡ D.popular (voteOf G candidate (ch .rivalOf G candidate)))
+    × (answerOf ch (D.planned tie candidate) (D.judge (replicate 193 5) (replicate 256 6)) ≡ D.popular (voteOf G candidate (ch .rivalOf G candidate)))
 unfolding numbersFrom count low listed position edgesOf instanceOf deg nodeVote vote choices within plansOf samePlan beatenBy drawnWith
     verdictOf R.cut R.ahead R.arrow R.loose R.reserved R.betterS R.betterT R.worseReserved R.rule1 R.rule2 R.rule3 R.rule4 R.rule5 R.rule6 R.rule7
     Fst.first Option·elim orElse R.rules R.stepBy R.firstStep R.act R.begin R.stepsFrom R.stateAfter R.stepsOf R.endOf leftOf
@@ -102,7 +115,9 @@ rival-answered ch = (refl, refl)
 
 pub rival-lent : (ch : Choices) → (lentAfter ch (D.roster tie) (lent D.find) ≡ D.find (step 1 1 1 1 6 ∷ step 2 2 1 1 2 ∷ diary 1022) (replicate 3072 3)
     (bytes "1 1 1 1" ++ replicate 189 4) (D.onto (planBytes G (ch .rivalOf G candidate)) (replicate 193 5)))
-    × (lentAfter ch (D.planned tie candidate) (D.judge (replicate 193 5)) ≡ D.judge (D.onto (planBytes G (ch .rivalOf G candidate)) (replicate 193 5)))
+    × (lentAfter ch (D.planned tie candidate) (D.judge (replicate 193 5) (replicate 256 6)) ≡ D.judge
+    (D.onto (planBytes G (ch .rivalOf G candidate)) (replicate 193 5))
+    (D.onto (pairingBytes G (on candidate) (on (ch .rivalOf G candidate))) (replicate 256 6)))
 unfolding numbersFrom count low listed position edgesOf instanceOf deg nodeVote vote choices within plansOf samePlan beatenBy drawnWith
     verdictOf R.cut R.ahead R.arrow R.loose R.reserved R.betterS R.betterT R.worseReserved R.rule1 R.rule2 R.rule3 R.rule4 R.rule5 R.rule6 R.rule7
     Fst.first Option·elim orElse R.rules R.stepBy R.firstStep R.act R.begin R.stepsFrom R.stateAfter R.stepsOf R.endOf planBytesBy diaryOf leftOf

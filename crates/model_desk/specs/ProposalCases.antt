@@ -22,13 +22,17 @@ use Rattle.model.specs.PlanFile.{Named, planBytesBy, edgeOfPair, readPlanBy}
 use Rattle.model.specs.Blocking.{blocks, someBlocks, topBlocking}
 use Rattle.model_changes.specs.Changes.{joined, joinOn, departed, leaveOn, carried}
 use Rattle.model_desk.specs.Desk as D
-use Rattle.model_desk.specs.Desk.{Choices, Held, nothing, roster, planned, proposed, Call, Answer, loadRoster, loadPlan, propose, commit, loaded, refused}
+use Rattle.model_desk.specs.Desk.{Choices, Held, nothing, roster, planned, proposed, Call, Answer, loadRoster, loadPlan, commit, loaded, refused}
 use Rattle.model_desk.specs.Desk.{bothVotes, committed, stateRefusal, answerOf, lentAfter, deskAfter, onto}
-use Rattle.model_desk.specs.DeskCases.{whole, diary, early, one, Each, Change, Said, Answered}
+use Rattle.model_desk.specs.DeskCases.{whole, judge, compare, diary, early, one, Each, Change, Said, Answered}
 use Rattle.model_desk.specs.DeskChangeCases.{join, leave}
 use Rattle.model_desk.specs.History.{Event, newRoster, newPlan, newProposal, committing, leaver, nothingNew, lastPlan, eventsOf, heldPairs}
 
 -- ---- P5: two surveyors tied at one stand of quota 2; the same without the second, without the first, with a third
+-- W-208: with buffers of their size for the pairings
+abbrev propose : List ℕ → Call
+propose a = D.propose a (whole 256) (whole 256)
+
 abbrev P5File : List ℕ
 P5File = bytes "2 1 1 1 2 2 0 1 1 1 1 1 1 2 0 0 2 1 1 2 1"
 
@@ -183,8 +187,8 @@ unclosed-held = (refl, (refl, (refl, (refl, (refl, (refl, tt))))))
 -- nor does a call that looks
 abbrev looks : List Call
 looks =
-    D.writeRosterTo (whole 4262) ∷ D.writePlanTo (whole 193) ∷ D.find (diary 1024) (whole 3072) (whole 193) (whole 193) ∷ D.judge (whole 193)
-    ∷ D.compare (bytes "0") (bytes "0") ∷ D.blocking ∷ D.planToNew (bytes "0") (whole 193) ∷ D.planToOld (bytes "0") (whole 193) ∷ []
+    D.writeRosterTo (whole 4262) ∷ D.writePlanTo (whole 193) ∷ D.find (diary 1024) (whole 3072) (whole 193) (whole 193) ∷ judge (whole 193)
+    ∷ compare (bytes "0") (bytes "0") ∷ D.blocking ∷ D.planToNew (bytes "0") (whole 193) ∷ D.planToOld (bytes "0") (whole 193) ∷ []
 
 pub looks-held : Each (λ c. deskAfter asked c ≡ asked) looks
 unfolding stateRefusal deskAfter
@@ -219,7 +223,7 @@ answers =
     -- the plan that is held is the one that is looked at
     ∷ record { held = asked; call = D.blocking; answer = D.blockedBy 2 1 1 }
     ∷ record { held = asked; call = D.writePlanTo (whole 193); answer = D.wrote 4 }
-    ∷ record { held = proposed P5 both first; call = D.judge (whole 193); answer = D.strong } ∷ []
+    ∷ record { held = proposed P5 both first; call = judge (whole 193); answer = D.strong } ∷ []
 
 pub answers-said : (ch : Choices) → Answered ch answers
 unfolding numbersFrom count low listed readEach position edgesOf instanceOf deg nodeVote vote choices within plansOf samePlan beatenBy drawnWith verdictOf

@@ -13,7 +13,7 @@ use Rattle.lists.specs.Search.{low}
 use Rattle.lists.specs.First.{first, best}
 use Rattle.lists.specs.Keep.{all?}
 use Rattle.model.specs.Decimal.{bytes, numbersFrom, sameBytes}
-use Rattle.model.specs.Limits.{planSize, rosterSize, diarySize, leftSize, daySize}
+use Rattle.model.specs.Limits.{planSize, rosterSize, diarySize, leftSize, daySize, pairingSize}
 use Rattle.model.specs.Refusal.{Group, form, content, plan, desk, groupOf}
 use Rattle.model.specs.Reading.{readEach}
 use Rattle.model.specs.Roster.{listed, listedBack, bothOrNeither}
@@ -108,7 +108,13 @@ abbrev leave : ℕ → Call
 leave s = D.leave s (records diarySize) (room leftSize) (room planSize) (room planSize)
 
 abbrev judge : Call
-judge = D.judge (room planSize)
+judge = D.judge (room planSize) (room pairingSize)
+
+abbrev compare : (first second : List ℕ) → Call
+compare a b = D.compare a b (room pairingSize) (room pairingSize)
+
+abbrev propose : List ℕ → Call
+propose a = D.propose a (room pairingSize) (room pairingSize)
 
 abbrev nothingOf : File → Part
 nothingOf f = record { file = f; from = 0; bytes = [] }
@@ -134,16 +140,17 @@ abbrev states : Session
 states =
     (D.loadPlan (bytes "0"), D.refused 13 desk) ∷ (D.writeRosterTo [], D.refused 13 desk) ∷ (D.writePlanTo [], D.refused 13 desk)
     ∷ (D.find [] [] [] [], D.refused 13 desk) ∷ (D.join 9 [] [] [] [] [], D.refused 13 desk) ∷ (D.leave 0 [] [] [] [], D.refused 13 desk)
-    ∷ (D.judge [], D.refused 13 desk) ∷ (D.blocking, D.refused 13 desk) ∷ (D.spread [], D.refused 13 desk)
-    ∷ (D.compare (bytes "65") (bytes "0"), D.refusedPart 13 desk (nothingOf firstFile))
-    ∷ (D.loadRoster sample, D.loaded) ∷ (D.writePlanTo [], D.refused 14 desk) ∷ (D.judge [], D.refused 14 desk) ∷ (D.blocking, D.refused 14 desk)
-    ∷ (D.spread [], D.refused 14 desk)
+    ∷ (D.judge [] [], D.refused 13 desk) ∷ (D.blocking, D.refused 13 desk) ∷ (D.spread [], D.refused 13 desk)
+    ∷ (D.compare (bytes "65") (bytes "0") [] [], D.refusedPart 13 desk (nothingOf firstFile))
+    ∷ (D.loadRoster sample, D.loaded) ∷ (D.compare (bytes "65") (bytes "0") (room 255) (room pairingSize), D.refusedPart 15 desk (nothingOf firstFile))
+    ∷ (D.compare (bytes "65") (bytes "0") (room pairingSize) (room 255), D.refusedPart 15 desk (nothingOf firstFile))
+    ∷ (D.writePlanTo [], D.refused 14 desk) ∷ (D.judge [] [], D.refused 14 desk) ∷ (D.blocking, D.refused 14 desk) ∷ (D.spread [], D.refused 14 desk)
     ∷ (D.writeRosterTo (room 4261), D.refused 15 desk) ∷ (D.find (records 1023) (room leftSize) (room planSize) (room planSize), D.refused 15 desk)
     ∷ (D.find (records diarySize) (room 3071) (room planSize) (room planSize), D.refused 15 desk)
     ∷ (D.join 9 [] (records diarySize) (room leftSize) (room 192) (room planSize), D.refused 15 desk)
     ∷ (D.leave 0 (records diarySize) (room leftSize) (room planSize) (room 192), D.refused 15 desk)
-    ∷ (D.loadPlan (bytes "1 1 1 1"), D.loaded) ∷ (D.judge (room 192), D.refused 15 desk) ∷ (D.writePlanTo (room 192), D.refused 15 desk)
-    ∷ (D.spread (room 63), D.refused 15 desk) ∷ []
+    ∷ (D.loadPlan (bytes "1 1 1 1"), D.loaded) ∷ (D.judge (room 192) (room pairingSize), D.refused 15 desk)
+    ∷ (D.judge (room planSize) (room 255), D.refused 15 desk) ∷ (D.writePlanTo (room 192), D.refused 15 desk) ∷ (D.spread (room 63), D.refused 15 desk) ∷ []
 
 -- a morning: refused loads leave roster and plan, a roster drops the plan, the looks in between leave the desk alike
 abbrev morning : Session
@@ -152,11 +159,11 @@ morning =
     ∷ (D.blocking, D.blockedBy 1 1 1) ∷ (D.loadPlan (bytes "1 3 1 1"), D.refused 10 plan) ∷ (D.blocking, D.blockedBy 1 1 1)
     ∷ (D.loadRoster (bytes "33"), D.refused 2 form) ∷ (judge, D.beaten (negsuc 0)) ∷ (D.loadPlan (bytes "1 1 1 1"), D.loaded) ∷ (judge, D.strong)
     ∷ (D.blocking, D.unblocked) ∷ (D.writePlanTo (room planSize), D.wrote 4) ∷ (D.writeRosterTo (room rosterSize), D.wrote 21)
-    ∷ (D.compare (bytes "1 1 1 1") (bytes "1 2 1 1"), D.votes (pos 1) (negsuc 0) C.first (pairsOf firstFile (bytes "1 1 1")))
-    ∷ (D.compare (bytes "1 2 1 1") (bytes "1 1 1 1"), D.votes (negsuc 0) (pos 1) C.second (pairsOf secondFile (bytes "1 1 1")))
-    ∷ (D.compare (bytes "0") (bytes "0"), D.votes (pos 0) (pos 0) C.neither (nothingOf firstFile))
-    ∷ (D.compare (bytes "1 3 1 1") (bytes "65"), D.refusedPart 10 plan (nothingOf firstFile))
-    ∷ (D.compare (bytes "0") (bytes "65"), D.refusedPart 2 form (nothingOf firstFile))
+    ∷ (compare (bytes "1 1 1 1") (bytes "1 2 1 1"), D.votes (pos 1) (negsuc 0) C.first (pairsOf firstFile (bytes "1 1 1")))
+    ∷ (compare (bytes "1 2 1 1") (bytes "1 1 1 1"), D.votes (negsuc 0) (pos 1) C.second (pairsOf secondFile (bytes "1 1 1")))
+    ∷ (compare (bytes "0") (bytes "0"), D.votes (pos 0) (pos 0) C.neither (nothingOf firstFile))
+    ∷ (compare (bytes "1 3 1 1") (bytes "65"), D.refusedPart 10 plan (nothingOf firstFile))
+    ∷ (compare (bytes "0") (bytes "65"), D.refusedPart 2 form (nothingOf firstFile))
     ∷ (judge, D.strong) ∷ (D.loadRoster tied, D.loaded) ∷ (judge, D.refused 14 desk) ∷ (find, D.none 2 (D.rivalled (pos 0)))
     ∷ (D.loadPlan (bytes "1 1 1 1"), D.loaded) ∷ (judge, D.popular (pos 0)) ∷ []
 
@@ -165,7 +172,7 @@ abbrev digits : Session
 digits =
     (D.loadRoster five, D.loaded)
     ∷ (
-      D.compare (bytes "0") (bytes "5 1 1 1 2 2 1 3 3 1 4 4 1 5 5 1"),
+      compare (bytes "0") (bytes "5 1 1 1 2 2 1 3 3 1 4 4 1 5 5 1"),
       D.votes (negsuc 9) (pos 10) C.second (pairsOf secondFile (bytes "1 1 1 2 2 1 3 3 1 4 4 1 5 5 1")),
     ) ∷ []
 
@@ -180,18 +187,18 @@ field =
 -- a plan proposed and committed: refused calls and a second leaving leave the proposal open, and what is written is the plan that is held
 abbrev proposals : Session
 proposals =
-    (D.commit, D.refused 13 desk) ∷ (D.propose [], D.refused 13 desk) ∷ (D.loadRoster shared, D.loaded) ∷ (D.commit, D.refused 14 desk)
-    ∷ (D.propose (bytes "1 1 1 1"), D.refused 14 desk) ∷ (D.loadPlan (bytes "1 1 1 1"), D.loaded) ∷ (D.commit, D.refused 20 desk)
-    ∷ (D.propose (bytes "2 1 1 1 2 1 1"), D.bothVotes (pos 2) (negsuc 1)) ∷ (D.propose (bytes "9"), D.refused 1 form)
+    (D.commit, D.refused 13 desk) ∷ (D.propose [] [] [], D.refused 13 desk) ∷ (D.loadRoster shared, D.loaded) ∷ (D.commit, D.refused 14 desk)
+    ∷ (propose (bytes "1 1 1 1"), D.refused 14 desk) ∷ (D.loadPlan (bytes "1 1 1 1"), D.loaded) ∷ (D.commit, D.refused 20 desk)
+    ∷ (propose (bytes "2 1 1 1 2 1 1"), D.bothVotes (pos 2) (negsuc 1)) ∷ (propose (bytes "9"), D.refused 1 form)
     ∷ (D.writePlanTo (room planSize), D.wrote 4) ∷ (D.commit, D.committed) ∷ (D.writePlanTo (room planSize), D.wrote 7) ∷ (D.commit, D.refused 20 desk)
-    ∷ (leave 2, D.plan 1) ∷ (D.propose (bytes "0"), D.bothVotes (negsuc 1) (pos 2)) ∷ (leave 2, D.plan 1) ∷ (join 9 [], D.refused 3 content)
+    ∷ (leave 2, D.plan 1) ∷ (propose (bytes "0"), D.bothVotes (negsuc 1) (pos 2)) ∷ (leave 2, D.plan 1) ∷ (join 9 [], D.refused 3 content)
     ∷ (D.writePlanTo (room planSize), D.wrote 4) ∷ (D.commit, D.committed) ∷ (D.writePlanTo (room planSize), D.wrote 1) ∷ []
 
 -- the foreman's sheet (W-209): the number of the held plan's entries, whatever is proposed beside it; a plan with none has none
 abbrev sheets : Session
 sheets =
     (D.loadRoster shared, D.loaded) ∷ (D.loadPlan (bytes "2 1 1 1 2 1 1"), D.loaded) ∷ (D.spread (room daySize), D.wrote 2)
-    ∷ (D.propose (bytes "0"), D.bothVotes (negsuc 3) (pos 4)) ∷ (D.spread (room 100), D.wrote 2) ∷ (D.commit, D.committed)
+    ∷ (propose (bytes "0"), D.bothVotes (negsuc 3) (pos 4)) ∷ (D.spread (room 100), D.wrote 2) ∷ (D.commit, D.committed)
     ∷ (D.spread (room daySize), D.wrote 0) ∷ (leave 1, D.plan 1) ∷ (D.spread (room daySize), D.wrote 0)
     ∷ (D.loadRoster (bytes "33"), D.refused 2 form) ∷ (D.spread (room daySize), D.wrote 0) ∷ (D.loadRoster shared, D.loaded)
     ∷ (D.spread (room daySize), D.refused 14 desk) ∷ []

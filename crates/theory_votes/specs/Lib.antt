@@ -16,3 +16,13 @@ pub mod Exchange
 pub mod Node
 pub mod Couples
 pub mod Converse
+pub mod RankPairs
+pub mod PairOrder
+pub mod Greedy
+pub mod PairingPairs
+pub mod Lift
+pub mod Reaching
+pub mod NodePairs
+pub mod FacingLaws
+pub mod PairingBytes
+pub mod Keys

@@ -44,6 +44,14 @@ rate-≤ a b = omega (arith, bit-one (ltb a b), bit-one (leb a b))
 rate-≥ : (a b : ℕ) → a ≤ b → 1 ≤ rate a b
 rate-≥ a b h = omega (arith, ap bit (le-leb a b h))
 
+-- a worse rank has no higher rate
+pub rate-falls : (a b c : ℕ) → a ≤ b → rate b c ≤ rate a c
+rate-falls a b c h = by-cases (decLt c b)
+    (λ k. omega (arith, rate-worse b c k))
+    (λ k. by-cases (decLt b c)
+    (λ l. omega (arith, rate-≤ b c, rate-better a c (omega arith)))
+    (λ l. omega (arith, rate-same b c (omega arith), rate-≥ a c (omega arith))))
+
 -- one bar: a couple that crosses it counts at least 1
 pub bar : (x a b : ℕ) → upto x a ≤ rate a b + under x b
 bar x a b = by-cases (decLt b x)

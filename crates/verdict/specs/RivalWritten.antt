@@ -2,9 +2,10 @@
 use Prim.Native.Nat.{ℕ, _≤_}
 use native.Mathlib.Omega.{arith}
 use mathlib.Core.Path.{_≡_, refl, sym, ap, ap₂, _∙_, subst, fun-ext}
-use mathlib.Core.Bool.{Bool}
+use mathlib.Core.Bool.{Bool, true, false}
 use mathlib.Core.List.{List, _∷_}
 use lib.ListN.{length, length-map}
+use lib.Dec.{T}
 use lib.IntN.{ℤ}
 use Rattle.lists.specs.Sum.{_∈_, range, range-length}
 use Rattle.model.specs.Instance as model
@@ -12,6 +13,7 @@ use Rattle.model.specs.Vote.{vote}
 use Rattle.model.specs.Plans.{Plan, on, plansOf, Verdict, voteOf, verdictOf}
 use Rattle.model.specs.Plans as verdict
 use Rattle.model.specs.PlanFile.{edgesIn, pairList, planBytesBy, planBytes}
+use Rattle.model.specs.Facing.{pairingBytes}
 use Rattle.model_desk.specs.Desk.{onto}
 use Rattle.theory_instance.specs.Lawful.{Matching}
 use Rattle.theory_files.specs.PlanFiles.{plan-few}
@@ -24,8 +26,9 @@ use Rattle.instance.specs.Loaded.{Loaded}
 use Rattle.plan_writer.specs.Written.{WrittenFor}
 use Rattle.rival_search.specs.SearchView.{Lists}
 use Rattle.rival_verdict.specs.RivalOfArrays.{RivalShown, shown-verdict, shown-rival}
+use Rattle.answers.specs.declared.Verdict as answer
 use Rattle.answers.specs.declared.Verdict.the-variants.{Strong, Popular, Beaten}
-use Rattle.verdict.specs.Weighing.{Shows, weighedAs, rivalWritten, WeighedBy}
+use Rattle.verdict.specs.Weighing.{Shows, weighedAs, rivalWritten, WeighedBy, pairingsWritten, RivalFor, hasRival}
 
 -- ---- the vote of one plan against another, whose bytes are written
 pub record Voted (G : model.Instance) (plan rival : List Bool) (out : List ℕ) (v : ℤ) (after : List ℕ) : Type 0 where
@@ -78,7 +81,7 @@ module _ (g : Instance) (L : Loaded g) (plan : List Bool) (M : Plan) (S : Shows 
         shown-verdict (g .m) (g .ns) (g .nt) (g .sv) (g .st) (g .«rank_s») (g .«rank_t») (g .sh) (g .tied) (g .«quota_s») (g .«quota_t») plan v rival R G
         refl M (S .1) (L .lawful) (S .0) (plan-few G (L .fileable) M (S .0))
 
-    is-rival : flag rival ≡ on (rivalOf G M)
+    pub is-rival : flag rival ≡ on (rivalOf G M)
     is-rival =
         fun-ext
         (shown-rival (g .m) (g .ns) (g .nt) (g .sv) (g .st) (g .«rank_s») (g .«rank_t») (g .sh) (g .tied) (g .«quota_s») (g .«quota_t») plan v rival R G
@@ -122,3 +125,36 @@ module _ (g : Instance) (L : Loaded g) (plan : List Bool) (M : Plan) (S : Shows 
       beaten-weighed e =
           let q : verdict.beaten ≡ verdictOf G M = sym e ∙ is-verdict in
           record { reply = ap Beaten its-vote ∙ ap (weighedAs G M) q; buffer = its-bytes ∙ ap (λ w. rivalWritten G M w out) q }
+
+-- ---- W-208: the pairings, by the answer
+module _ (g : Instance) (L : Loaded g) (plan rival : List Bool) (R : RivalFor (shownBy g) plan rival) (M : Plan) (S : Shows (shownBy g) plan M)
+    (out after : List ℕ) (a : answer.Verdict) (W : WeighedBy (shownBy g) M out a after) where
+  abbrev H : model.Instance
+  H = shownBy g
+
+  -- what the answer says of the verdict
+  unrivalled : hasRival a ≡ false → (x : verdict.Verdict) → a ≡ weighedAs H M x → (d : List ℕ) → d ≡ pairingsWritten H M x d
+  unrivalled e verdict.strong q d = refl
+  unrivalled e verdict.popular q d = absurd (subst T (sym (ap hasRival q) ∙ e) tt)
+  unrivalled e verdict.beaten q d = absurd (subst T (sym (ap hasRival q) ∙ e) tt)
+
+  pub none-paired : hasRival a ≡ false → (d : List ℕ) → d ≡ pairingsWritten H M (verdictOf H M) d
+  none-paired e d = unrivalled e (verdictOf H M) (W .reply) d
+
+  there : hasRival a ≡ true → (x : verdict.Verdict) → verdictOf H M ≡ x → a ≡ weighedAs H M x → rivalOf H M ∈ plansOf H
+  there e verdict.strong v q = absurd (subst T (sym e ∙ ap hasRival q) tt)
+  there e verdict.popular v q = popular-rival H M (L .lawful) (S .0) (plan-few H (L .fileable) M (S .0)) v .inQuotas
+  there e verdict.beaten v q = beaten-rival H M (L .lawful) (S .0) (plan-few H (L .fileable) M (S .0)) v .inQuotas
+
+  pub rival-matching : hasRival a ≡ true → Matching H (flag rival)
+  rival-matching e = subst (Matching H) (sym (R M S)) (plan-matching H (L .lawful) (there e (verdictOf H M) refl (W .reply)))
+
+  by-rival : hasRival a ≡ true → (x : verdict.Verdict) → a ≡ weighedAs H M x → (d : List ℕ)
+      → onto (pairingBytes H (on M) (on (rivalOf H M))) d ≡ pairingsWritten H M x d
+  by-rival e verdict.strong q d = absurd (subst T (sym e ∙ ap hasRival q) tt)
+  by-rival e verdict.popular q d = refl
+  by-rival e verdict.beaten q d = refl
+
+  pub some-paired : hasRival a ≡ true → (d d′ : List ℕ) → d′ ≡ onto (pairingBytes H (flag plan) (flag rival)) d → d′ ≡ pairingsWritten H M (verdictOf H M) d
+  some-paired e d d′ q =
+      q ∙ ap₂ (λ p r. onto (pairingBytes H p r) d) (same g L plan M S) (R M S) ∙ by-rival e (verdictOf H M) (W .reply) d

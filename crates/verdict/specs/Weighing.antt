@@ -2,19 +2,20 @@
 -- at the front of the buffer. The rival is the search's (theory_verdict, Rival).
 use Prim.Native.Nat.{ℕ}
 use mathlib.Core.Path.{_≡_, refl}
-use mathlib.Core.Bool.{Bool}
+use mathlib.Core.Bool.{Bool, true, false}
 use mathlib.Core.List.{List}
 use Rattle.lists.specs.Sum.{_∈_}
 use Rattle.model.specs.Instance.{Instance}
 use Rattle.model.specs.Plans.{Plan, on, plansOf, voteOf, verdictOf}
 use Rattle.model.specs.Plans as verdict
 use Rattle.model.specs.PlanFile.{planBytes}
+use Rattle.model.specs.Facing.{pairingBytes}
 use Rattle.model_desk.specs.Desk as desk
 use Rattle.model_desk.specs.Desk.{onto}
 use Rattle.theory_verdict.specs.Rival.{rivalOf}
 use Rattle.arrays.specs.ArrayInstance.{flag}
 use Rattle.answers.specs.declared.Verdict.{Verdict}
-use Rattle.answers.specs.declared.Verdict.the-variants.{Strong, Popular, Beaten}
+use Rattle.answers.specs.declared.Verdict.the-variants.{Strong, Popular, Beaten, Refused}
 use Rattle.answers.specs.VerdictCases.{verdictShown}
 
 -- an array shows a plan within the quotas
@@ -40,6 +41,25 @@ pub record WeighedBy (G : Instance) (M : Plan) (out : List ℕ) (r : Verdict) (a
 abbrev pub WeighedFor : Instance → (plan : List Bool) (out : List ℕ) → Verdict → List ℕ → Type 0
 WeighedFor G plan out r after = (M : Plan) → Shows G plan M → WeighedBy G M out r after
 
+-- ---- W-208: the pairings of the vote against the rival
+abbrev pub pairingsWritten : Instance → Plan → verdict.Verdict → List ℕ → List ℕ
+pairingsWritten G M verdict.strong d = d
+pairingsWritten G M verdict.popular d = onto (pairingBytes G (on M) (on (rivalOf G M))) d
+pairingsWritten G M verdict.beaten d = onto (pairingBytes G (on M) (on (rivalOf G M))) d
+
+abbrev pub PairedFor : Instance → (plan : List Bool) (before after : List ℕ) → Type 0
+PairedFor G plan before after = (M : Plan) → Shows G plan M → after ≡ pairingsWritten G M (verdictOf G M) before
+
+-- the flags of the rival
+abbrev pub RivalFor : Instance → (plan rival : List Bool) → Type 0
+RivalFor G plan rival = (M : Plan) → Shows G plan M → flag rival ≡ on (rivalOf G M)
+
+abbrev pub hasRival : Verdict → Bool
+hasRival Strong = false
+hasRival (Popular v) = true
+hasRival (Beaten v) = true
+hasRival (Refused n g) = false
+
 -- ---- these are the desk's
 module _ (G : Instance) (M : Plan) where
   pub desk-answer : (v : verdict.Verdict) → verdictShown (weighedAs G M v) ≡ desk.verdictAnswer G M (rivalOf G M) v
@@ -47,7 +67,8 @@ module _ (G : Instance) (M : Plan) where
   desk-answer verdict.popular = refl
   desk-answer verdict.beaten = refl
 
-  pub desk-written : (v : verdict.Verdict) (out : List ℕ) → desk.judge (rivalWritten G M v out) ≡ desk.verdictWritten G (rivalOf G M) v out
-  desk-written verdict.strong out = refl
-  desk-written verdict.popular out = refl
-  desk-written verdict.beaten out = refl
+  pub desk-written : (v : verdict.Verdict) (out d : List ℕ)
+      → desk.judge (rivalWritten G M v out) (pairingsWritten G M v d) ≡ desk.verdictWritten G M (rivalOf G M) v out d
+  desk-written verdict.strong out d = refl
+  desk-written verdict.popular out d = refl
+  desk-written verdict.beaten out d = refl

@@ -5,7 +5,8 @@
 use std::error::Error;
 use std::io::{self, Write};
 
-use planner::{Desk, Found, Step, DIARY_RECORDS, LEFT_BYTES, PAIR_BYTES, PLAN_BYTES};
+use planner::{Desk, Facing, Found, Pairing, Step};
+use planner::{DIARY_RECORDS, LEFT_BYTES, PAIRING_BYTES, PAIR_BYTES, PLAN_BYTES};
 
 /// Tells the morning.
 pub fn tell(out: &mut impl Write) -> Result<(), Box<dyn Error>> {
@@ -33,17 +34,31 @@ pub fn tell(out: &mut impl Write) -> Result<(), Box<dyn Error>> {
         writeln!(out, "plan: {:?}", &plan[..length])?;
     }
 
-    let compared = desk.compare(&first, &second);
+    let (mut forward, mut back) = ([0; PAIRING_BYTES], [0; PAIRING_BYTES]);
+    let compared = desk.compare(&first, &second, &mut forward, &mut back);
     writeln!(out, "{:?}", compared.outcome?)?;
     writeln!(out, "the winner's pairs: {:?}", compared.part)?;
+    for pairing in desk.pairings(&forward)? {
+        writeln!(out, "who faced whom: {}", faced(&pairing))?;
+    }
 
     desk.load_plan(&first)?;
-    writeln!(out, "verdict: {:?}", desk.judge(&mut [0; PLAN_BYTES])?)?;
+    let verdict = desk.judge(&mut [0; PLAN_BYTES], &mut [0; PAIRING_BYTES])?;
+    writeln!(out, "verdict: {verdict:?}")?;
     writeln!(out, "blocking pair: {:?}", desk.blocking()?)?;
     let refusal = desk.load_plan(&[1, 1, 2, 1]).unwrap_err();
     writeln!(out, "{}: {refusal}", refusal.number)?;
     writeln!(out, "blocking pair: {:?}", desk.blocking()?)?;
     Ok(())
+}
+
+/// A node and its places: the rank that each has in the first plan, against the
+/// one that it faces in the second.
+fn faced(pairing: &Pairing) -> String {
+    let rank = |rank: Option<u8>| rank.map_or("empty".to_string(), |rank| rank.to_string());
+    let place = |place: &Facing| format!("{} against {}", rank(place.own), rank(place.other));
+    let places: Vec<String> = pairing.places.iter().map(place).collect();
+    format!("{:?}: {}", pairing.node, places.join(", "))
 }
 
 fn main() -> Result<(), Box<dyn Error>> {

@@ -6,7 +6,8 @@ use std::error::Error;
 use std::io::{self, Write};
 
 use planner::{
-    Desk, Found, Refusal, Step, Verdict, DIARY_RECORDS, LEFT_BYTES, PAIR_BYTES, PLAN_BYTES,
+    Desk, Found, Refusal, Step, Verdict, DIARY_RECORDS, LEFT_BYTES, PAIRING_BYTES, PAIR_BYTES,
+    PLAN_BYTES,
 };
 use Event::{Join, Leave};
 
@@ -102,7 +103,8 @@ impl Planner {
     fn held(&self) -> Result<String, Refusal> {
         let mut plan = [0; PLAN_BYTES];
         self.desk.write_plan(&mut plan)?;
-        let verdict = match self.desk.judge(&mut [0; PLAN_BYTES])? {
+        let (mut rival, mut pairing) = ([0; PLAN_BYTES], [0; PAIRING_BYTES]);
+        let verdict = match self.desk.judge(&mut rival, &mut pairing)? {
             Verdict::Strong => "strongly popular",
             Verdict::Popular(_) => "popular",
             Verdict::Beaten(_) => "beaten by another",

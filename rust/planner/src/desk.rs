@@ -37,13 +37,30 @@ impl Desk {
     /// Proposes a plan of the held roster beside the held plan, in the place of an
     /// open proposal, and answers both votes. The held plan stays held until
     /// [`Desk::commit`]. A refused file changes nothing: an open proposal stays
-    /// open.
+    /// open. The pairings of the proposal's vote are written to the front of
+    /// `forward`, those of the held plan's vote to the front of `back`, as
+    /// [`Desk::compare`] does.
     ///
     /// A proposal is closed by a commit, by a roster or a plan that is loaded, by a
     /// surveyor who joins, and by one who leaves, unless that changes nothing.
     /// Refused calls and all others leave it open.
-    pub fn propose(&mut self, file: &[u8]) -> Result<ProposalVotes, Refusal> {
-        let reply = unsafe { ffi::crew_propose(self.clone(), file.as_ptr(), file.len()) };
+    pub fn propose(
+        &mut self,
+        file: &[u8],
+        forward: &mut [u8],
+        back: &mut [u8],
+    ) -> Result<ProposalVotes, Refusal> {
+        let reply = unsafe {
+            ffi::crew_propose(
+                self.clone(),
+                file.as_ptr(),
+                file.len(),
+                forward.as_mut_ptr(),
+                forward.len(),
+                back.as_mut_ptr(),
+                back.len(),
+            )
+        };
         *self = reply.desk;
         answers::proposal_votes(&reply.proposed)
     }
@@ -127,16 +144,35 @@ impl Desk {
     }
 
     /// The verdict on the held plan. The plan of a rival is written to the
-    /// front of `rival`; for a strong plan and on a refusal no byte changes.
-    pub fn judge(&self, rival: &mut [u8]) -> Result<Verdict, Refusal> {
-        let reply = unsafe { ffi::crew_judge(self.clone(), rival.as_mut_ptr(), rival.len()) };
+    /// front of `rival`, and the pairings of the vote against it to the front of
+    /// `pairing`, which needs [`crate::PAIRING_BYTES`]; for a strong plan and on a
+    /// refusal no byte changes. [`Desk::pairings`] reads them.
+    pub fn judge(&self, rival: &mut [u8], pairing: &mut [u8]) -> Result<Verdict, Refusal> {
+        let reply = unsafe {
+            ffi::crew_judge(
+                self.clone(),
+                rival.as_mut_ptr(),
+                rival.len(),
+                pairing.as_mut_ptr(),
+                pairing.len(),
+            )
+        };
         debug_assert!(*self == reply.desk);
         answers::verdict(&reply.judged)
     }
 
     /// Compares two plan files of the held roster: the first one in full, then
-    /// the second.
-    pub fn compare<'a>(&self, first: &'a [u8], second: &'a [u8]) -> Comparison<'a> {
+    /// the second. The pairings of the first plan's vote are written to the front
+    /// of `forward`, those of the second's to the front of `back`, which need
+    /// [`crate::PAIRING_BYTES`] each; on a refusal no byte changes.
+    /// [`Desk::pairings`] reads them.
+    pub fn compare<'a>(
+        &self,
+        first: &'a [u8],
+        second: &'a [u8],
+        forward: &mut [u8],
+        back: &mut [u8],
+    ) -> Comparison<'a> {
         let reply = unsafe {
             ffi::crew_compare(
                 self.clone(),
@@ -144,6 +180,10 @@ impl Desk {
                 first.len(),
                 second.as_ptr(),
                 second.len(),
+                forward.as_mut_ptr(),
+                forward.len(),
+                back.as_mut_ptr(),
+                back.len(),
             )
         };
         debug_assert!(*self == reply.desk);

@@ -8,6 +8,8 @@ pub const PLAN_BYTES: usize = 193;
 pub const STORED_BYTES: usize = 4_295;
 /// Bytes that a buffer for the days of a plan needs.
 pub const DAY_BYTES: usize = 64;
+/// Bytes that a buffer for the pairings of a vote needs.
+pub const PAIRING_BYTES: usize = 256;
 /// Records that a lent diary needs, and bytes of the buffer for the pairs left.
 pub const DIARY_RECORDS: usize = 1_024;
 pub const LEFT_BYTES: usize = 3_072;

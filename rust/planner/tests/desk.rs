@@ -11,9 +11,9 @@ mod taken;
 
 use calls::winner;
 use change::Change;
-use common::{check_written, damage, held_by, junk, number, season_plan, shape, Met};
+use common::{check_written, damage, held_by, junk, length, number, season_plan, shape, Met};
 use found::check_rival;
-use lent::{check_days, Buffers, SIZES};
+use lent::{check_days, only_front, Buffers, Pairings, SIZES};
 use planner::{Desk, Verdict};
 use reference::desk::Desk as Held;
 use reference::limits::PAIR_FIELD;
@@ -21,7 +21,7 @@ use reference::plan::{self, Plan};
 use reference::random::{self, Random};
 use reference::refusal::Refusal;
 use reference::roster::{self, Roster};
-use reference::{blocking, compare, fast};
+use reference::{blocking, compare, fast, pairings};
 use taken::Call;
 
 /// A plan file: of the held roster if there is one, damaged now and then.
@@ -149,16 +149,19 @@ fn turn_plan(random: &mut Random, desk: &Desk, held: &Held) -> u8 {
 /// recount of the vote.
 fn judge(random: &mut Random, desk: &Desk, held: &Held) -> u8 {
     let before = buffer(random, planner::PLAN_BYTES);
-    let mut rival = before.clone();
-    let answer = desk.judge(&mut rival);
+    let facing = buffer(random, planner::PAIRING_BYTES);
+    let (mut rival, mut pairing) = (before.clone(), facing.clone());
+    let answer = desk.judge(&mut rival, &mut pairing);
+    let short = before.len() < planner::PLAN_BYTES || facing.len() < planner::PAIRING_BYTES;
     let expected = held.roster_and_plan().and_then(|held| match held {
-        _ if before.len() < planner::PLAN_BYTES => Err(Refusal::BufferTooSmall),
+        _ if short => Err(Refusal::BufferTooSmall),
         held => Ok(held),
     });
     let (roster, plan) = match expected {
         Ok(held) => held,
         Err(refusal) => {
             assert_eq!((number(&answer), rival), (refusal.number(), before));
+            assert_eq!(pairing, facing);
             return refusal.number();
         }
     };
@@ -166,7 +169,7 @@ fn judge(random: &mut Random, desk: &Desk, held: &Held) -> u8 {
     let theirs = fast_verdict(roster, plan);
     let vote = match verdict {
         Verdict::Strong => {
-            assert_eq!((theirs, rival), (0, before));
+            assert_eq!((theirs, rival, pairing), (0, before, facing));
             return 0;
         }
         Verdict::Popular(vote) => {
@@ -179,7 +182,9 @@ fn judge(random: &mut Random, desk: &Desk, held: &Held) -> u8 {
             vote
         }
     };
-    check_rival(roster, plan, &before, &rival, vote);
+    let rival = check_rival(roster, plan, &before, &rival, vote);
+    let faced = pairings::bytes_large(roster, plan, &rival);
+    only_front(&facing, &pairing, &faced);
     0
 }
 
@@ -197,18 +202,13 @@ fn fast_verdict(roster: &Roster, plan: &Plan) -> u8 {
 fn compare_two(random: &mut Random, desk: &Desk, held: &Held) -> u8 {
     let first = plan_file(random, held);
     let second = plan_file(random, held);
-    let answer = desk.compare(&first, &second);
-    let empty = (first.as_ptr(), 0);
+    let sizes = [(); 2].map(|()| length(random, planner::PAIRING_BYTES));
+    let before = Pairings::new(random, sizes);
+    let [mut own, mut other] = [before.clone(), before];
+    let answer = desk.compare(&first, &second, &mut own.forward, &mut own.back);
     let part = (answer.part.as_ptr(), answer.part.len());
-    let roster = match held.roster() {
-        Ok(roster) => roster,
-        Err(refusal) => {
-            assert_eq!(number(&answer.outcome), refusal.number());
-            assert_eq!(part, empty);
-            return refusal.number();
-        }
-    };
-    let expected = compare::compare(roster, &first, &second);
+    let (after, expected) = held.clone().compare(&first, &second, other.lend());
+    assert_eq!((after, own), (held.clone(), other));
     match expected.outcome {
         Ok(votes) => {
             let ours = answer.outcome.expect("both accepted");
@@ -293,11 +293,12 @@ fn a_new_desk_has_nothing_loaded() {
     assert_eq!(number(&desk.write_roster(&mut out)), 13);
     assert_eq!(number(&desk.write_plan(&mut out[..1])), 13);
     assert_eq!(number(&desk.spread(&mut out[..1])), 13);
-    assert_eq!(number(&desk.judge(&mut out[..1])), 13);
+    assert_eq!(number(&desk.judge(&mut out[..1], &mut [0])), 13);
     assert_eq!(number(&desk.blocking()), 13);
-    assert_eq!(number(&desk.compare(&[0], &[0]).outcome), 13);
+    let compared = desk.compare(&[0], &[0], &mut [], &mut []);
+    assert_eq!(number(&compared.outcome), 13);
     assert_eq!(number(&desk.plan_to_new(&[0], &mut out[..1])), 13);
     assert_eq!(number(&desk.plan_to_old(&[0], &mut out[..1])), 13);
-    assert_eq!(number(&desk.propose(&[0])), 13);
+    assert_eq!(number(&desk.propose(&[0], &mut [], &mut [])), 13);
     assert_eq!(number(&desk.commit()), 13);
 }

@@ -7,6 +7,9 @@ use std::error::Error;
 #[path = "../examples/desk.rs"]
 mod desk;
 #[allow(dead_code)]
+#[path = "../examples/faced.rs"]
+mod faced;
+#[allow(dead_code)]
 #[path = "../examples/in_the_field.rs"]
 mod in_the_field;
 #[allow(dead_code)]
@@ -36,4 +39,9 @@ fn nine_days_in_the_field() {
 #[test]
 fn a_sheet_for_the_foreman() {
     assert_eq!(told(sheet::tell), include_str!("../examples/sheet.out"));
+}
+
+#[test]
+fn who_faced_whom_at_a_stand() {
+    assert_eq!(told(faced::tell), include_str!("../examples/faced.out"));
 }

@@ -7,7 +7,7 @@ mod common;
 use std::fmt::Debug;
 
 use common::{check_written, damage, junk, length, number, same_refusal, shape, Met};
-use common::{desk_with, desk_with_plan};
+use common::{compared, desk_with, desk_with_plan};
 use planner::Desk;
 use reference::limits::MAX_SHIFT;
 use reference::plan;
@@ -133,7 +133,7 @@ fn check_ranks(random: &mut Random, roster: &Roster, desk: &Desk) {
     let (Ok(mine), Ok(theirs)) = (plan::read(roster, &first), plan::read(roster, &second)) else {
         return;
     };
-    let votes = desk.compare(&first, &second).outcome.expect("accepted");
+    let votes = compared(desk, &first, &second).outcome.expect("accepted");
     assert_eq!(votes.first, votes::plan_vote(roster, &mine, &theirs));
     assert_eq!(votes.second, votes::plan_vote(roster, &theirs, &mine));
 }

@@ -97,7 +97,7 @@ fn check_only_popular(roster: &Roster, bytes: &[u8], contest: &Contest, handed_b
         } else {
             others += 1;
             let mut rival = [0; planner::PLAN_BYTES];
-            let (holding, judged) = holding.judge(&mut rival);
+            let (holding, judged) = holding.judge(&mut rival, &mut [0; planner::PAIRING_BYTES]);
             assert!(
                 matches!(judged, Ok(Judged::Beaten(vote)) if vote < 0),
                 "{judged:?}: {bytes:?} {file:?}"

@@ -14,6 +14,7 @@ use change::Change::{Join, Leave};
 use common::{desk_with, desk_with_plan, files, junk, plan_of, RANKED, TIED};
 use lent::{Buffers, SIZES};
 use planner::{Desk, Group};
+use reference::desk::Facing;
 use reference::random::{self, Random, Shape};
 use reference::{plan, roster};
 use taken::{Answer, Call};
@@ -61,7 +62,7 @@ fn committed(desk: &Desk) -> Answer {
 /// A desk that holds a plan of the tied roster, with a proposal beside it.
 fn proposed(held: &[u8], proposal: &[u8]) -> Desk {
     let mut desk = desk_with_plan(&TIED, held).expect("accepted");
-    desk.propose(proposal).expect("accepted");
+    assert!(made(&mut desk, &propose(proposal)).is_ok());
     desk
 }
 
@@ -166,7 +167,7 @@ fn refusals_in_their_order() {
             assert_eq!(committed(&desk), Err(commit), "{file:?}");
         }
         // an open proposal stays open
-        with_plan.propose(NONE).expect("accepted");
+        assert!(made(&mut with_plan, &propose(NONE)).is_ok());
         assert_eq!(made(&mut with_plan, &propose(file)), Err(number));
         assert_eq!(committed(&with_plan), Ok(None), "{file:?}");
     }
@@ -208,7 +209,7 @@ fn leavers_with_little() {
     let held = &[1, 4, 1, 1];
     for (leaver, expected) in [(1, Err(20)), (2, Err(20)), (3, Ok(None))] {
         let mut desk = desk_with_plan(&file, held).expect("accepted");
-        desk.propose(NONE).expect("accepted");
+        assert!(made(&mut desk, &propose(NONE)).is_ok());
         assert_eq!(made(&mut desk, &leave(leaver)), Ok(None));
         assert_eq!(plan_of(&desk), Ok(held.to_vec()));
         assert_eq!(committed(&desk), expected, "{leaver}");
@@ -283,9 +284,15 @@ fn looks(desk: &Desk) -> Vec<(String, Vec<u8>)> {
     };
     look(&|desk, out| told(desk.write_roster(out)));
     look(&|desk, out| told(desk.write_plan(out)));
-    look(&|desk, out| told(desk.judge(out)));
+    look(&|desk, out| {
+        let (rival, pairing) = out.split_at_mut(planner::PLAN_BYTES);
+        told(desk.judge(rival, pairing))
+    });
     look(&|desk, _| told(desk.blocking()));
-    look(&|desk, _| told(desk.compare(ONE, TWO)));
+    look(&|desk, out| {
+        let (forward, back) = out.split_at_mut(planner::PAIRING_BYTES);
+        told(desk.compare(ONE, TWO, Facing { forward, back }))
+    });
     look(&|desk, out| told(desk.plan_to_new(&[1, 2, 1], out)));
     look(&|desk, out| told(desk.plan_to_old(OTHER, out)));
     look(&|desk, _| {

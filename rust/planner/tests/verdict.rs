@@ -20,7 +20,8 @@ use reference::tables::{Contest, Tables};
 /// The call under test on a desk with these files, with the reference's verdict
 /// and a refusal as its number.
 fn verdict(roster: &[u8], plan: &[u8], rival: &mut [u8]) -> Result<Judged, u8> {
-    let answer = desk_with_plan(roster, plan).and_then(|desk| desk.judge(rival));
+    let pairing = &mut [0; planner::PAIRING_BYTES];
+    let answer = desk_with_plan(roster, plan).and_then(|desk| desk.judge(rival, pairing));
     answer.map(calls::judged).map_err(|refusal| refusal.number)
 }
 

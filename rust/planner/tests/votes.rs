@@ -4,8 +4,10 @@
 //! refusals.
 
 mod common;
+mod nodes;
 
-use common::{desk_with, desk_with_plan, same_refusal, BEAT_EACH_OTHER, P7_TWICE};
+use common::{compared, desk_with, desk_with_plan, same_refusal, BEAT_EACH_OTHER, P7_TWICE};
+use nodes::{at_place, at_places, at_the_stand, for_each_shape, one_stand};
 use planner::{Desk, Votes, Winner};
 use reference::blocking::{blocking_pairs, first_blocking_pair};
 use reference::compare::{self, File};
@@ -13,7 +15,7 @@ use reference::fast;
 use reference::limits::{EMPTY_RANK, MAX_SHIFT};
 use reference::plan::{self, Plan};
 use reference::random::{self, Random, Shape};
-use reference::roster::{self, Entry, List, Node, Pair, Roster, Side};
+use reference::roster::{self, Entry, Pair, Roster, Side};
 use reference::votes::{node_vote, plan_vote, rank, rank_vote};
 
 fn held(roster: &Roster) -> Desk {
@@ -21,7 +23,7 @@ fn held(roster: &Roster) -> Desk {
 }
 
 fn votes(desk: &Desk, first: &[u8], second: &[u8]) -> Votes {
-    let comparison = desk.compare(first, second);
+    let comparison = compared(desk, first, second);
     let votes = comparison.outcome.expect("accepted");
     check_winner(votes, comparison.part, first, second);
     votes
@@ -62,54 +64,6 @@ impl Winners {
     }
 }
 
-/// The entry at a place of the one stand's list, from 1 on. With several shifts
-/// each surveyor stands there so many times in a row.
-fn at_place(place: u8, shifts: u8) -> Entry {
-    Entry {
-        number: (place - 1) / shifts + 1,
-        shift: (place - 1) % shifts + 1,
-    }
-}
-
-/// A roster with one stand, which ranks all entries in their order, the last
-/// `tied` of them alike. Each surveyor has that stand alone, in the order of the
-/// shifts, and room in all of them.
-fn one_stand(quota: u8, entries: u8, tied: u8, shifts: u8) -> Roster {
-    let here: Vec<Entry> = (1..=entries).map(|place| at_place(place, shifts)).collect();
-    let surveyors = here.chunk_by(|one, next| one.number == next.number);
-    let surveyors = surveyors.map(|own| {
-        let own = own.iter().map(|entry| Entry {
-            number: 1,
-            ..*entry
-        });
-        Node {
-            quota: shifts,
-            list: List {
-                strict: own.collect(),
-                tied: Vec::new(),
-            },
-        }
-    });
-    let (strict, tied) = here.split_at(usize::from(entries - tied));
-    let list = List {
-        strict: strict.to_vec(),
-        tied: tied.to_vec(),
-    };
-    let stand = Node { quota, list };
-    Roster::new(surveyors.collect(), vec![stand]).expect("accepted")
-}
-
-/// The plan that gives the one stand these entries, as its file.
-fn at_the_stand(entries: &[Entry]) -> Vec<u8> {
-    let mut file = vec![entries.len() as u8];
-    file.extend(
-        entries
-            .iter()
-            .flat_map(|entry| [entry.number, 1, entry.shift]),
-    );
-    file
-}
-
 /// The stand's vote alone: the surveyors' votes are taken off, each by all
 /// pairings.
 fn stand_vote(roster: &Roster, mine: &[Entry], theirs: &[Entry]) -> i16 {
@@ -123,14 +77,6 @@ fn stand_vote(roster: &Roster, mine: &[Entry], theirs: &[Entry]) -> i16 {
         node_vote(node, &mine, &theirs)
     });
     vote - own.sum::<i16>()
-}
-
-/// Entries at these places.
-fn at_places(places: &[u8], shifts: u8) -> Vec<Entry> {
-    places
-        .iter()
-        .map(|&place| at_place(place, shifts))
-        .collect()
 }
 
 #[test]
@@ -183,23 +129,6 @@ fn votes_of_every_two_ranks() {
     }
     // all but the last rank and the empty place against themselves
     assert_eq!(different, 2 * (33 * 33 - 2));
-}
-
-/// Every way to give each of some places to the first plan, the second or both,
-/// with at most four for each plan: all orders of up to four pairs a side,
-/// shared ones too.
-fn for_each_shape(places: u8, visit: &mut impl FnMut(&[u8], &[u8])) {
-    for code in 0..3usize.pow(u32::from(places)) {
-        let label = |place: u8| code / 3usize.pow(u32::from(place) - 1) % 3;
-        let with = |lacking: usize| -> Vec<u8> {
-            let all = 1..=places;
-            all.filter(|&place| label(place) != lacking).collect()
-        };
-        let (mine, theirs) = (with(1), with(2));
-        if mine.len() <= 4 && theirs.len() <= 4 {
-            visit(&mine, &theirs);
-        }
-    }
 }
 
 #[test]
@@ -430,7 +359,7 @@ fn damaged_files_are_refused_in_their_order() {
         }
         let mut desk = Desk::open();
         let loaded = desk.load_roster(&bytes);
-        let ours = desk.compare(&first, &second);
+        let ours = compared(&desk, &first, &second);
         let roster = match roster::read(&bytes) {
             Ok(roster) => roster,
             Err(refusal) => {
@@ -477,7 +406,7 @@ fn no_roster_and_two_refused_files() {
     // no roster, then the first file's refusal, then the second's
     let roster = held(&one_stand(1, 2, 0, 1));
     let number = |desk: &Desk, first: &[u8], second: &[u8]| {
-        let comparison = desk.compare(first, second);
+        let comparison = compared(desk, first, second);
         check_empty(comparison.part, first);
         comparison.outcome.expect_err("refused").number
     };

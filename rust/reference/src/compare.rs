@@ -98,9 +98,15 @@ pub fn compare(roster: &Roster, first: &[u8], second: &[u8]) -> Comparison {
     Comparison { outcome, part }
 }
 
-/// Both votes; the first file is checked in full before the second.
+/// Both votes.
 fn votes(roster: &Roster, first: &[u8], second: &[u8]) -> Result<Votes, Refusal> {
+    let [first, second] = plans(roster, first, second)?;
+    Ok(Votes::of(roster, &first, &second))
+}
+
+/// Both plans; the first file is checked in full before the second.
+pub(crate) fn plans(roster: &Roster, first: &[u8], second: &[u8]) -> Result<[Plan; 2], Refusal> {
     let first = plan::read(roster, first)?;
     let second = plan::read(roster, second)?;
-    Ok(Votes::of(roster, &first, &second))
+    Ok([first, second])
 }

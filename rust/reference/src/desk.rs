@@ -1,15 +1,19 @@
 //! The desk: nothing loaded, a roster, or a roster and a plan, with a proposal
 //! beside it or without. Every call takes the desk by value and hands it back
-//! with its answer. The verdict is the fast reading's, so that every roster is
-//! answered at once; the tests hold it against the votes of all plans.
+//! with its answer. The verdict and the pairings are the fast reading's, so that
+//! every roster is answered at once; the tests hold them against the votes of all
+//! plans and against all pairings.
 
 use crate::blocking::first_blocking_pair;
 use crate::changes;
-use crate::compare::{compare, Comparison, Part, Votes};
+use crate::compare::{self, compare, Comparison, Part, Votes};
 use crate::days;
 use crate::finder::{find_large, verdict_large, Answer, Why};
 use crate::lent::{enough, put};
-use crate::limits::{MAX_DAY_BYTES, MAX_ENTRIES, MAX_PLAN_BYTES, MAX_ROSTER_BYTES, PAIR_FIELD};
+use crate::limits::{
+    MAX_DAY_BYTES, MAX_ENTRIES, MAX_PAIRING_BYTES, MAX_PLAN_BYTES, MAX_ROSTER_BYTES, PAIR_FIELD,
+};
+use crate::pairings;
 use crate::plan::{self, Plan};
 use crate::plans::Verdict;
 use crate::reduction::{Fate, Step};
@@ -60,6 +64,25 @@ impl Lent<'_> {
         enough(self.left.len(), LEFT_BYTES)?;
         enough(self.plan.len(), MAX_PLAN_BYTES)?;
         enough(self.rival.len(), MAX_PLAN_BYTES)
+    }
+}
+
+/// The buffers that are lent for the pairings of both votes of two plans: of the
+/// first against the second, and back.
+pub struct Facing<'a> {
+    pub forward: &'a mut [u8],
+    pub back: &'a mut [u8],
+}
+
+impl Facing<'_> {
+    fn check(&self) -> Result<(), Refusal> {
+        enough(self.forward.len(), MAX_PAIRING_BYTES)?;
+        enough(self.back.len(), MAX_PAIRING_BYTES)
+    }
+
+    fn put(self, roster: &Roster, first: &Plan, second: &Plan) {
+        put(self.forward, &pairings::bytes_large(roster, first, second));
+        put(self.back, &pairings::bytes_large(roster, second, first));
     }
 }
 
@@ -142,11 +165,14 @@ impl Desk {
     }
 
     /// Proposes a plan of the held roster beside the held plan, in the place of
-    /// an open proposal. Answers the votes of the two, the proposal first.
-    pub fn propose(self, file: &[u8]) -> (Desk, Result<Votes, Refusal>) {
+    /// an open proposal. Answers the votes of the two, the proposal first, and
+    /// writes their pairings.
+    pub fn propose(self, file: &[u8], facing: Facing) -> (Desk, Result<Votes, Refusal>) {
         let read = self.roster_and_plan().and_then(|(roster, held)| {
+            facing.check()?;
             let proposal = plan::read(roster, file)?;
             let votes = Votes::of(roster, &proposal, held);
+            facing.put(roster, &proposal, held);
             Ok((proposal, votes))
         });
         match (read, self) {
@@ -279,18 +305,24 @@ impl Desk {
         }
     }
 
-    /// The verdict on the held plan; a rival is written.
-    pub fn judge(self, rival: &mut [u8]) -> (Desk, Result<Judged, Refusal>) {
+    /// The verdict on the held plan; a rival is written, and the pairings of the
+    /// vote against it.
+    pub fn judge(self, rival: &mut [u8], pairing: &mut [u8]) -> (Desk, Result<Judged, Refusal>) {
         let answer = self.roster_and_plan().and_then(|(roster, held)| {
             enough(rival.len(), MAX_PLAN_BYTES)?;
+            enough(pairing.len(), MAX_PAIRING_BYTES)?;
+            let mut named = |found: &Plan| {
+                put(rival, &plan::write(roster, found));
+                put(pairing, &pairings::bytes_large(roster, held, found));
+            };
             Ok(match verdict_large(roster, held) {
                 Verdict::Strong => Judged::Strong,
                 Verdict::Popular(found) => {
-                    put(rival, &plan::write(roster, &found.plan));
+                    named(&found.plan);
                     Judged::Popular(found.vote)
                 }
                 Verdict::Beaten(found) => {
-                    put(rival, &plan::write(roster, &found.plan));
+                    named(&found.plan);
                     Judged::Beaten(found.vote)
                 }
             })
@@ -298,10 +330,20 @@ impl Desk {
         (self, answer)
     }
 
-    /// Compares two plan files, judged against the held roster.
-    pub fn compare(self, first: &[u8], second: &[u8]) -> (Desk, Comparison) {
-        let answer = match self.roster() {
-            Ok(roster) => compare(roster, first, second),
+    /// Compares two plan files, judged against the held roster, and writes the
+    /// pairings of both votes.
+    pub fn compare(self, first: &[u8], second: &[u8], facing: Facing) -> (Desk, Comparison) {
+        let held = self.roster().and_then(|roster| {
+            facing.check()?;
+            Ok(roster)
+        });
+        let answer = match held {
+            Ok(roster) => {
+                if let Ok([first, second]) = compare::plans(roster, first, second) {
+                    facing.put(roster, &first, &second);
+                }
+                compare(roster, first, second)
+            }
             Err(refusal) => Comparison {
                 outcome: Err(refusal),
                 part: Part::empty(),

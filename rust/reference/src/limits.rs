@@ -49,6 +49,8 @@ pub const MAX_STORED_BYTES: usize = NARROW_FIELD * (1 + MAX_NODES) + MAX_ROSTER_
 pub const MAX_PLAN_BYTES: usize = NARROW_FIELD + PAIR_FIELD * MAX_PLAN_PAIRS;
 /// Bytes that a buffer for days needs: one for each pair of the largest plan.
 pub const MAX_DAY_BYTES: usize = NARROW_FIELD * MAX_PLAN_PAIRS;
+/// Bytes that a buffer for pairings needs: two ranks for each place of both sides.
+pub const MAX_PAIRING_BYTES: usize = 2 * 2 * MAX_QUOTA_SUM;
 /// Bytes that the program reads: one more than the longest roster, so that a
 /// byte after the end is still seen.
 pub const MAX_INPUT_BYTES: usize = MAX_ROSTER_BYTES + 1;

@@ -39,19 +39,31 @@ pub fn node_vote(node: &Node, mine: &[Entry], theirs: &[Entry]) -> i16 {
 }
 
 /// The least sum over all valid pairings of quota places against quota places,
-/// or none if no pairing is valid. The places of `mine` keep their order while
-/// those of `theirs` run through all their orders.
+/// or none if no pairing is valid.
 pub fn least_sum(node: &Node, mine: &[Entry], theirs: &[Entry]) -> Option<i16> {
-    let mine = places(node, mine);
-    let mut theirs = places(node, theirs);
     let mut least = None;
-    for_each_order(&mut theirs, 0, &mut |theirs| {
-        if is_valid(&mine, theirs) {
-            let sum = sum(&node.list, &mine, theirs);
-            least = Some(least.map_or(sum, |least: i16| least.min(sum)));
-        }
+    for_each_pairing(node, mine, theirs, |mine, theirs| {
+        let sum = sum(&node.list, mine, theirs);
+        least = Some(least.map_or(sum, |least: i16| least.min(sum)));
     });
     least
+}
+
+/// Calls `visit` with every valid pairing. The places of `mine` keep their order
+/// while those of `theirs` run through all their orders.
+pub(crate) fn for_each_pairing(
+    node: &Node,
+    mine: &[Entry],
+    theirs: &[Entry],
+    mut visit: impl FnMut(&[Place], &[Place]),
+) {
+    let mine = places(node, mine);
+    let mut theirs = places(node, theirs);
+    for_each_order(&mut theirs, 0, &mut |theirs| {
+        if is_valid(&mine, theirs) {
+            visit(&mine, theirs);
+        }
+    });
 }
 
 /// As many places as the node's quota: one for each entry, the rest empty.
@@ -86,7 +98,8 @@ fn is_valid(mine: &[Place], theirs: &[Place]) -> bool {
     shared_faces_itself && !(empty_faces_pair && pair_faces_empty)
 }
 
-fn sum(list: &List, mine: &[Place], theirs: &[Place]) -> i16 {
+/// The votes of a pairing, summed.
+pub(crate) fn sum(list: &List, mine: &[Place], theirs: &[Place]) -> i16 {
     let facing = mine.iter().zip(theirs);
     facing
         .map(|(&own, &other)| rank_vote(rank(list, own), rank(list, other)))

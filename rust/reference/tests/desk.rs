@@ -6,10 +6,10 @@ mod common;
 mod lent;
 
 use common::{desk, desk_with_plan, P10, P3, P4, P6, SHIFTS, SHIFTS_CROSSED};
-use lent::{record, Buffers, JUNK, SIZES};
+use lent::{record, Buffers, Pairings, JUNK, SIZES};
 use reference::compare::File;
 use reference::desk::{Desk, Found, Judged, NoneKind};
-use reference::limits::{MAX_DAY_BYTES, MAX_PLAN_BYTES, MAX_ROSTER_BYTES};
+use reference::limits::{MAX_DAY_BYTES, MAX_PAIRING_BYTES, MAX_PLAN_BYTES, MAX_ROSTER_BYTES};
 use reference::refusal::Refusal;
 use reference::roster::Pair;
 
@@ -25,8 +25,12 @@ fn nothing_loaded_is_13_everywhere() {
     assert_eq!(nothing.clone().spread(&mut small).1.err(), refused);
     let mut buffers = Buffers::new([0; 4]);
     assert_eq!(nothing.clone().find(buffers.lend()).1.err(), refused);
-    assert_eq!(nothing.clone().judge(&mut small).1.err(), refused);
-    assert_eq!(nothing.clone().compare(&[], &[]).1.outcome.err(), refused);
+    assert_eq!(nothing.clone().judge(&mut small, &mut []).1.err(), refused);
+    let mut none = Pairings::new([0; 2]);
+    let (nothing, compared) = nothing.compare(&[], &[], none.lend());
+    assert_eq!(compared.outcome.err(), refused);
+    let (nothing, proposed) = nothing.propose(&[], none.lend());
+    assert_eq!(proposed.err(), refused);
     assert_eq!(nothing.clone().blocking().1.err(), refused);
 }
 
@@ -36,7 +40,9 @@ fn no_plan_is_14_before_15() {
     let mut small = [];
     assert_eq!(desk(P3).write_plan(&mut small).1.err(), refused);
     assert_eq!(desk(P3).spread(&mut small).1.err(), refused);
-    assert_eq!(desk(P3).judge(&mut small).1.err(), refused);
+    assert_eq!(desk(P3).judge(&mut small, &mut []).1.err(), refused);
+    let mut none = Pairings::new([0; 2]);
+    assert_eq!(desk(P3).propose(&[], none.lend()).1.err(), refused);
     assert_eq!(desk(P3).blocking().1.err(), refused);
 }
 
@@ -48,7 +54,12 @@ fn buffers_below_their_size_are_15() {
     assert_eq!(held.clone().write_roster(&mut short).1.err(), refused);
     let short_plan = &mut short[..MAX_PLAN_BYTES - 1];
     assert_eq!(held.clone().write_plan(short_plan).1.err(), refused);
-    assert_eq!(held.clone().judge(short_plan).1.err(), refused);
+    let pairing = &mut [JUNK; MAX_PAIRING_BYTES];
+    assert_eq!(held.clone().judge(short_plan, pairing).1.err(), refused);
+    let rival = &mut [JUNK; MAX_PLAN_BYTES];
+    let short_pairing = &mut pairing[..MAX_PAIRING_BYTES - 1];
+    assert_eq!(held.clone().judge(rival, short_pairing).1.err(), refused);
+    assert!(rival.iter().chain(&*pairing).all(|&byte| byte == JUNK));
     let short_days = &mut short[..MAX_DAY_BYTES - 1];
     assert_eq!(held.clone().spread(short_days).1.err(), refused);
     assert!(short.iter().all(|&byte| byte == JUNK));
@@ -58,6 +69,16 @@ fn buffers_below_their_size_are_15() {
         let mut buffers = Buffers::new(sizes);
         assert_eq!(held.clone().find(buffers.lend()).1.err(), refused);
         buffers.hold(&[], &[], &[], &[]);
+    }
+    // before a file is looked at
+    for place in 0..2 {
+        let mut sizes = [MAX_PAIRING_BYTES; 2];
+        sizes[place] -= 1;
+        let mut pairings = Pairings::new(sizes);
+        let (desk, compared) = held.clone().compare(&[], &[], pairings.lend());
+        assert_eq!(compared.outcome.err(), refused);
+        assert_eq!(desk.propose(&[], pairings.lend()).1.err(), refused);
+        pairings.hold(&[], &[]);
     }
 }
 
@@ -117,21 +138,27 @@ fn the_finder_writes_each_ending() {
 #[test]
 fn verdicts_and_rivals() {
     let mut rival = [JUNK; MAX_PLAN_BYTES];
-    let (_, judged) = desk_with_plan(P10, &[2, 1, 2, 1, 2, 1, 1]).judge(&mut rival);
+    let mut pairing = [JUNK; MAX_PAIRING_BYTES];
+    let strong = desk_with_plan(P10, &[2, 1, 2, 1, 2, 1, 1]);
+    let (_, judged) = strong.judge(&mut rival, &mut pairing);
     assert_eq!(judged, Ok(Judged::Strong));
-    assert!(rival.iter().all(|&byte| byte == JUNK));
-    let (_, judged) = desk_with_plan(P4, &[1, 1, 1, 1]).judge(&mut rival);
+    assert!(rival.iter().chain(&pairing).all(|&byte| byte == JUNK));
+    let (_, judged) = desk_with_plan(P4, &[1, 1, 1, 1]).judge(&mut rival, &mut pairing);
     assert_eq!(
         (judged, &rival[..5]),
         (Ok(Judged::Popular(0)), &[1, 2, 1, 1, JUNK][..])
     );
-    let (_, judged) = desk_with_plan(P3, &[0]).judge(&mut rival);
+    // a surveyor each loses and gains the stand, which ties them
+    assert_eq!(pairing[..7], [1, 33, 33, 1, 1, 1, JUNK]);
+    let (_, judged) = desk_with_plan(P3, &[0]).judge(&mut rival, &mut pairing);
     assert_eq!((judged, rival[0]), (Ok(Judged::Beaten(-2)), 1));
 }
 
 #[test]
 fn comparison_and_blocking() {
-    let (held, compared) = desk(P3).compare(&[1, 2, 1, 1], &[1, 1, 1, 1]);
+    let mut pairings = Pairings::new([MAX_PAIRING_BYTES; 2]);
+    let (held, compared) = desk(P3).compare(&[1, 2, 1, 1], &[1, 1, 1, 1], pairings.lend());
+    pairings.hold(&[33, 1, 1, 33, 2, 1], &[1, 33, 33, 1, 1, 2]);
     let votes = compared.outcome.expect("accepted");
     assert_eq!(
         (votes.first_against_second, votes.second_against_first),
@@ -187,7 +214,7 @@ fn shifts_are_written() {
 
     let mut rival = [JUNK; MAX_PLAN_BYTES];
     let held = desk_with_plan(SHIFTS_CROSSED, &[1, 1, 1, 1]);
-    let (held, judged) = held.judge(&mut rival);
+    let (held, judged) = held.judge(&mut rival, &mut [JUNK; MAX_PAIRING_BYTES]);
     assert_eq!(
         (judged, &rival[..5]),
         (Ok(Judged::Popular(0)), &[1, 1, 1, 3, JUNK][..])

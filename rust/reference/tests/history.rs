@@ -8,10 +8,10 @@ mod lent;
 use std::collections::BTreeMap;
 
 use common::damage;
-use lent::{Buffers, SIZES};
+use lent::{Buffers, Pairings, SIZES};
 use reference::desk::Desk;
 use reference::history::{pairs, Event, History};
-use reference::limits::{MAX_DAY_BYTES, MAX_PLAN_BYTES, MAX_ROSTER_BYTES};
+use reference::limits::{MAX_DAY_BYTES, MAX_PAIRING_BYTES, MAX_PLAN_BYTES, MAX_ROSTER_BYTES};
 use reference::plan;
 use reference::random::{self, fitting_list, small_shape, Random};
 use reference::refusal::Refusal;
@@ -208,7 +208,9 @@ fn call(random: &mut Random, tally: &mut Tally, session: &mut Session, rosters: 
         5..=11 => {
             let file = plan_file(random, &session.desk);
             let event = Some(Event::Propose(pairs(&file)));
-            session.call(tally, "propose", |desk| propose(desk, &file), event);
+            let mut pairings = pairings(random);
+            let propose = |desk| propose(desk, &file, &mut pairings);
+            session.call(tally, "propose", propose, event);
         }
         12..=16 => session.call(tally, "commit", Desk::commit, Some(Event::Commit)),
         17..=22 => {
@@ -260,11 +262,16 @@ fn look(random: &mut Random, tally: &mut Tally, session: &mut Session) {
             let find = |desk: Desk| done(desk.find(buffers.lend()));
             session.call(tally, "find", find, None);
         }
-        3 => session.call(tally, "judge", |desk| done(desk.judge(&mut out)), None),
+        3 => {
+            let mut pairing = vec![0; size(random, MAX_PAIRING_BYTES)];
+            let judge = |desk: Desk| done(desk.judge(&mut out, &mut pairing));
+            session.call(tally, "judge", judge, None);
+        }
         4 => {
             let files = [(); 2].map(|()| plan_file(random, &session.desk));
+            let mut pairings = pairings(random);
             let compare = |desk: Desk| {
-                let (desk, compared) = desk.compare(&files[0], &files[1]);
+                let (desk, compared) = desk.compare(&files[0], &files[1], pairings.lend());
                 done((desk, compared.outcome))
             };
             session.call(tally, "compare", compare, None);
@@ -288,15 +295,22 @@ fn look(random: &mut Random, tally: &mut Tally, session: &mut Session) {
 }
 
 /// A proposal, whose votes are those of a comparison with the held plan.
-fn propose(desk: Desk, file: &[u8]) -> (Desk, Result<(), Refusal>) {
+fn propose(desk: Desk, file: &[u8], lent: &mut Pairings) -> (Desk, Result<(), Refusal>) {
     let own = desk.roster_and_plan();
     let own = own.map(|(roster, held)| plan::write(roster, held));
-    let (desk, votes) = desk.propose(file);
-    let (desk, compared) = desk.compare(file, &own.unwrap_or_default());
+    let mut again = lent.clone();
+    let (desk, votes) = desk.propose(file, lent.lend());
+    let (desk, compared) = desk.compare(file, &own.unwrap_or_default(), again.lend());
     if let Ok(votes) = votes {
         assert_eq!(compared.outcome, Ok(votes));
+        assert_eq!(*lent, again);
     }
     done((desk, votes))
+}
+
+/// Buffers for pairings, one of them sometimes below its size.
+fn pairings(random: &mut Random) -> Pairings {
+    Pairings::new([(); 2].map(|()| size(random, MAX_PAIRING_BYTES)))
 }
 
 /// Two rosters of one shape and a damaged one.
@@ -327,7 +341,7 @@ fn expected() -> Vec<(&'static str, Vec<u8>, Vec<Proposal>)> {
         ("load plan", plan.to_vec(), vec![None, Kept]),
         ("propose", vec![0], vec![Opened, Replaced]),
         ("propose", vec![13, 14], vec![None]),
-        ("propose", plan.to_vec(), vec![None, Kept]),
+        ("propose", turned.to_vec(), vec![None, Kept]),
         ("commit", vec![0], vec![Closed]),
         ("commit", vec![13, 14, 20], vec![None]),
         ("leave", vec![0], vec![None, Kept, Closed]),
@@ -338,7 +352,7 @@ fn expected() -> Vec<(&'static str, Vec<u8>, Vec<Proposal>)> {
         ("write plan", vec![0, 15], vec![None, Kept]),
         ("find", vec![0, 15], vec![None, Kept]),
         ("judge", vec![0, 15], vec![None, Kept]),
-        ("compare", vec![0, 10], vec![None, Kept]),
+        ("compare", vec![0, 10, 15], vec![None, Kept]),
         ("blocking", vec![0], vec![None, Kept]),
         ("spread", vec![0, 15], vec![None, Kept]),
         ("plan to new", vec![0, 15], vec![None, Kept]),

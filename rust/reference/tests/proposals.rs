@@ -5,11 +5,11 @@ mod common;
 mod lent;
 
 use common::{desk, desk_with_plan, Bytes, P3, P5};
-use lent::{Buffers, SIZES};
+use lent::{Buffers, Pairings, SIZES};
 use reference::compare::Votes;
 use reference::desk::Desk;
 use reference::history::{pairs, Event, History, Numbers};
-use reference::limits::{MAX_PLAN_BYTES, MAX_ROSTER_BYTES};
+use reference::limits::{MAX_PAIRING_BYTES, MAX_PLAN_BYTES, MAX_ROSTER_BYTES};
 use reference::refusal::{Group, Refusal};
 use Call::{Commit, Join, Leave, LoadPlan, LoadRoster, Propose};
 
@@ -37,10 +37,13 @@ fn made(desk: Desk, call: Call) -> (Desk, Result<Option<(i16, i16)>, u8>) {
     let held = desk.clone();
     let done = |answer: Result<(), Refusal>| answer.map(|()| None);
     let mut buffers = Buffers::new(SIZES);
+    let mut pairings = Pairings::new([MAX_PAIRING_BYTES; 2]);
     let (desk, answer) = match call {
         LoadRoster(file) => then(desk.load_roster(file), done),
         LoadPlan(file) => then(desk.load_plan(file), done),
-        Propose(file) => then(desk.propose(file), |answer| answer.map(both)),
+        Propose(file) => then(desk.propose(file, pairings.lend()), |answer| {
+            answer.map(both)
+        }),
         Commit => then(desk.commit(), done),
         Join(quota, list) => then(desk.join(quota, list, buffers.lend()), |answer| {
             answer.map(|_| None)
@@ -66,7 +69,8 @@ fn both(votes: Votes) -> Option<(i16, i16)> {
 
 /// A desk that holds a plan, with a proposal beside it.
 fn proposed(roster: &[u8], held: &[u8], proposal: &[u8]) -> Desk {
-    let (desk, answer) = desk_with_plan(roster, held).propose(proposal);
+    let mut pairings = Pairings::new([MAX_PAIRING_BYTES; 2]);
+    let (desk, answer) = desk_with_plan(roster, held).propose(proposal, pairings.lend());
     answer.expect("accepted");
     desk
 }
@@ -149,8 +153,9 @@ fn what_leaves_a_proposal_open() {
     assert_eq!(open.clone().write_roster(&mut out).0, open);
     assert_eq!(open.clone().write_plan(plan).0, open);
     assert_eq!(open.clone().find(buffers.lend()).0, open);
-    assert_eq!(open.clone().judge(plan).0, open);
-    assert_eq!(open.clone().compare(ONE, TWO).0, open);
+    let mut pairings = Pairings::new([MAX_PAIRING_BYTES; 2]);
+    assert_eq!(open.clone().judge(plan, &mut pairings.forward).0, open);
+    assert_eq!(open.clone().compare(ONE, TWO, pairings.lend()).0, open);
     assert_eq!(open.clone().blocking().0, open);
     assert_eq!(open.clone().plan_to_new(NONE, plan).0, open);
     assert_eq!(open.clone().plan_to_old(NONE, plan).0, open);

@@ -7,7 +7,7 @@
 
 use planner::{Refusal, Step, Verdict};
 use reference::compare::{File, Part, Winner};
-use reference::desk::{Found, Judged, Lent, NoneKind, Record};
+use reference::desk::{Facing, Found, Judged, Lent, NoneKind, Record};
 
 use crate::common::files;
 
@@ -99,7 +99,7 @@ fn place(part: &[u8], first: &[u8], second: &[u8]) -> Part {
 pub trait Calls: Sized {
     fn load_roster(self, file: &[u8]) -> (Self, Result<(), u8>);
     fn load_plan(self, file: &[u8]) -> (Self, Result<(), u8>);
-    fn propose(self, file: &[u8]) -> (Self, Result<(i16, i16), u8>);
+    fn propose(self, file: &[u8], facing: Facing) -> (Self, Result<(i16, i16), u8>);
     fn commit(self) -> (Self, Result<(), u8>);
     fn write_roster(self, out: &mut [u8]) -> (Self, Result<usize, u8>);
     fn write_plan(self, out: &mut [u8]) -> (Self, Result<usize, u8>);
@@ -109,8 +109,8 @@ pub trait Calls: Sized {
     fn find(self, lent: Lent) -> (Self, Result<Found, u8>);
     fn join(self, quota: u8, list: &[u8], lent: Lent) -> (Self, Result<Found, u8>);
     fn leave(self, number: u8, lent: Lent) -> (Self, Result<Found, u8>);
-    fn judge(self, rival: &mut [u8]) -> (Self, Result<Judged, u8>);
-    fn compare(self, first: &[u8], second: &[u8]) -> (Self, Compared);
+    fn judge(self, rival: &mut [u8], pairing: &mut [u8]) -> (Self, Result<Judged, u8>);
+    fn compare(self, first: &[u8], second: &[u8], facing: Facing) -> (Self, Compared);
     fn blocking(self) -> (Self, Result<Option<(u8, u8, u8)>, u8>);
 
     /// The desk's own files, at the front of their arrays: roster, plan, proposal.
@@ -134,8 +134,8 @@ impl Calls for Desk {
         (self, answer)
     }
 
-    fn propose(mut self, file: &[u8]) -> (Desk, Result<(i16, i16), u8>) {
-        let answer = self.0.propose(file);
+    fn propose(mut self, file: &[u8], facing: Facing) -> (Desk, Result<(i16, i16), u8>) {
+        let answer = self.0.propose(file, facing.forward, facing.back);
         let votes = answer.map(|votes| (votes.proposal, votes.held));
         (self, votes.map_err(number))
     }
@@ -191,13 +191,13 @@ impl Calls for Desk {
         (self, answer)
     }
 
-    fn judge(self, rival: &mut [u8]) -> (Desk, Result<Judged, u8>) {
-        let answer = self.0.judge(rival).map(judged).map_err(number);
+    fn judge(self, rival: &mut [u8], pairing: &mut [u8]) -> (Desk, Result<Judged, u8>) {
+        let answer = self.0.judge(rival, pairing).map(judged).map_err(number);
         (self, answer)
     }
 
-    fn compare(self, first: &[u8], second: &[u8]) -> (Desk, Compared) {
-        let answer = self.0.compare(first, second);
+    fn compare(self, first: &[u8], second: &[u8], facing: Facing) -> (Desk, Compared) {
+        let answer = self.0.compare(first, second, facing.forward, facing.back);
         let outcome = answer
             .outcome
             .map(|votes| (votes.first, votes.second, winner(votes.winner)));

@@ -50,12 +50,14 @@ fn read_front(roster: &Roster, buffer: &[u8]) -> Plan {
     plan::read(roster, plan_front(buffer)).expect("a plan within the quotas")
 }
 
-/// Whether a rival was written, another plan with this vote, and nothing else.
-pub fn check_rival(roster: &Roster, plan: &Plan, before: &[u8], after: &[u8], vote: i16) {
+/// Whether a rival was written, another plan with this vote, and nothing else;
+/// gives the rival.
+pub fn check_rival(roster: &Roster, plan: &Plan, before: &[u8], after: &[u8], vote: i16) -> Plan {
     let rival = read_front(roster, after);
     assert_ne!(rival, *plan);
     assert_eq!(recount(roster, plan, &rival), vote);
     only_front(before, after, &plan::write(roster, &rival));
+    rival
 }
 
 /// The vote of two plans by all pairings, or by the fast reading where these are

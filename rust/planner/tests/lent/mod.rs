@@ -5,8 +5,8 @@
 #![allow(dead_code)]
 
 use reference::days::{busiest, is_sheet};
-use reference::desk::{Lent, Record, DIARY_RECORDS, LEFT_BYTES};
-use reference::limits::MAX_PLAN_BYTES;
+use reference::desk::{Facing, Lent, Record, DIARY_RECORDS, LEFT_BYTES};
+use reference::limits::{MAX_PAIRING_BYTES, MAX_PLAN_BYTES};
 use reference::plan::Plan;
 use reference::random::Random;
 use reference::roster::{Pair, Roster};
@@ -96,5 +96,37 @@ impl Buffers {
         only_front(&before.left, &self.left, left);
         only_front(&before.plan, &self.plan, plan);
         only_front(&before.rival, &self.rival, rival);
+    }
+}
+
+/// The buffers for the pairings of both votes.
+#[derive(Clone, Debug, PartialEq, Eq)]
+pub struct Pairings {
+    pub forward: Vec<u8>,
+    pub back: Vec<u8>,
+}
+
+impl Pairings {
+    /// Buffers of these sizes, full of junk.
+    pub fn new(random: &mut Random, [forward, back]: [usize; 2]) -> Pairings {
+        Pairings {
+            forward: junk(random, forward),
+            back: junk(random, back),
+        }
+    }
+
+    /// Buffers of the least size, with one byte everywhere.
+    pub fn of(byte: u8) -> Pairings {
+        Pairings {
+            forward: vec![byte; MAX_PAIRING_BYTES],
+            back: vec![byte; MAX_PAIRING_BYTES],
+        }
+    }
+
+    pub fn lend(&mut self) -> Facing<'_> {
+        Facing {
+            forward: &mut self.forward,
+            back: &mut self.back,
+        }
     }
 }

@@ -8,13 +8,15 @@ use crate::calls::Calls;
 use crate::change::Change;
 use crate::common::{damage, files_of, junk, BEAT_EACH_OTHER, NUMBERS, P7_TWICE};
 use crate::found::{check_rival, same_found};
-use crate::lent::{check_days, Buffers, SIZES};
+use crate::lent::{check_days, only_front, Buffers, Pairings, SIZES};
 use reference::desk::{Desk as Held, Judged};
 use reference::history::{pairs, Event, History};
 use reference::layout::Layout;
 use reference::limits::{
-    MAX_DAY_BYTES, MAX_PLAN_BYTES, MAX_ROSTER_BYTES, NARROW_FIELD, OLD_PAIR_FIELD, PAIR_FIELD,
+    MAX_DAY_BYTES, MAX_PAIRING_BYTES, MAX_PLAN_BYTES, MAX_ROSTER_BYTES, NARROW_FIELD,
+    OLD_PAIR_FIELD, PAIR_FIELD,
 };
+use reference::pairings;
 use reference::plan;
 use reference::random::{self, Random, Shape};
 use reference::refusal::Refusal;
@@ -217,10 +219,12 @@ impl<D: Calls> Desks<D> {
         }
     }
 
-    fn propose(mut self, tally: &mut Tally, file: &[u8]) -> Desks<D> {
-        let (ours, answer) = self.ours.propose(file);
-        let (theirs, expected) = self.theirs.propose(file);
+    fn propose(mut self, tally: &mut Tally, file: &[u8], before: &Pairings) -> Desks<D> {
+        let [mut own, mut other] = [before.clone(), before.clone()];
+        let (ours, answer) = self.ours.propose(file, own.lend());
+        let (theirs, expected) = self.theirs.propose(file, other.lend());
         tally.refusals(12, &answer, &expected);
+        assert_eq!(own, other);
         let votes = expected
             .ok()
             .map(|votes| (votes.first_against_second, votes.second_against_first));
@@ -336,16 +340,17 @@ impl<D: Calls> Desks<D> {
         }
     }
 
-    fn judge(self, tally: &mut Tally, before: &[u8]) -> Desks<D> {
+    fn judge(self, tally: &mut Tally, [before, facing]: [&[u8]; 2]) -> Desks<D> {
         let [mut own, mut other] = [before.to_vec(), before.to_vec()];
-        let (ours, answer) = self.ours.judge(&mut own);
-        let (theirs, expected) = self.theirs.judge(&mut other);
+        let [mut pairing, mut others] = [facing.to_vec(), facing.to_vec()];
+        let (ours, answer) = self.ours.judge(&mut own, &mut pairing);
+        let (theirs, expected) = self.theirs.judge(&mut other, &mut others);
         tally.refusals(5, &answer, &expected);
         let vote = match (answer, expected) {
             (Ok(Judged::Popular(vote)), Ok(Judged::Popular(_))) => vote,
             (Ok(Judged::Beaten(vote)), Ok(Judged::Beaten(_))) => vote,
             (Ok(Judged::Strong), Ok(Judged::Strong)) | (Err(_), _) => {
-                assert_eq!(own, before);
+                assert_eq!((&own[..], &pairing[..]), (before, facing));
                 return Desks {
                     ours,
                     theirs,
@@ -355,7 +360,9 @@ impl<D: Calls> Desks<D> {
             _ => panic!("{answer:?}, but {expected:?}"),
         };
         let (roster, plan) = theirs.roster_and_plan().expect("roster and plan");
-        check_rival(roster, plan, before, &own, vote);
+        let rival = check_rival(roster, plan, before, &own, vote);
+        let faced = pairings::bytes_large(roster, plan, &rival);
+        only_front(facing, &pairing, &faced);
         Desks {
             ours,
             theirs,
@@ -363,10 +370,13 @@ impl<D: Calls> Desks<D> {
         }
     }
 
-    fn compare(self, tally: &mut Tally, first: &[u8], second: &[u8]) -> Desks<D> {
-        let (ours, (answer, part)) = self.ours.compare(first, second);
-        let (theirs, expected) = self.theirs.compare(first, second);
+    fn compare(self, tally: &mut Tally, files: [&[u8]; 2], before: &Pairings) -> Desks<D> {
+        let [mut own, mut other] = [before.clone(), before.clone()];
+        let [first, second] = files;
+        let (ours, (answer, part)) = self.ours.compare(first, second, own.lend());
+        let (theirs, expected) = self.theirs.compare(first, second, other.lend());
         tally.refusals(6, &answer, &expected.outcome);
+        assert_eq!(own, other);
         let votes = expected.outcome.ok().map(|votes| {
             let (first, second) = (votes.first_against_second, votes.second_against_first);
             tally.winners[votes.winner() as usize] += 1;
@@ -452,10 +462,17 @@ impl<D: Calls> Desks<D> {
             }
             7 => self.find(tally, &buffers(random)),
             8 => {
-                let size = size(random, MAX_PLAN_BYTES);
-                self.judge(tally, &junk(random, size))
+                let sizes = [MAX_PLAN_BYTES, MAX_PAIRING_BYTES];
+                let [rival, pairing] = sizes.map(|needed| {
+                    let size = size(random, needed);
+                    junk(random, size)
+                });
+                self.judge(tally, [&rival, &pairing])
             }
-            9 | 10 => self.compare(tally, pool.plan(random), pool.plan(random)),
+            9 | 10 => {
+                let files = [(); 2].map(|()| pool.plan(random));
+                self.compare(tally, files, &pairings_buffers(random))
+            }
             11 => self.blocking(tally),
             12 | 13 => {
                 let size = size(random, MAX_PLAN_BYTES);
@@ -465,7 +482,7 @@ impl<D: Calls> Desks<D> {
                 let size = size(random, MAX_PLAN_BYTES);
                 self.plan_to_old(tally, pool.plan(random), &junk(random, size))
             }
-            16..=18 => self.propose(tally, pool.plan(random)),
+            16..=18 => self.propose(tally, pool.plan(random), &pairings_buffers(random)),
             19 | 20 => self.commit(tally),
             21 => {
                 let size = size(random, MAX_DAY_BYTES);
@@ -487,6 +504,12 @@ fn buffers(random: &mut Random) -> Buffers {
         sizes[place] = size(random, sizes[place]);
     }
     Buffers::new(random, sizes)
+}
+
+/// Buffers for the pairings of both votes, sometimes below their size.
+fn pairings_buffers(random: &mut Random) -> Pairings {
+    let sizes = [(); 2].map(|()| size(random, MAX_PAIRING_BYTES));
+    Pairings::new(random, sizes)
 }
 
 /// Runs so many sequences, each on a desk that `open` gives; every answer that a
@@ -531,13 +554,13 @@ pub fn run<D: Calls>(mut open: impl FnMut() -> D, seed: u64, sequences: usize, l
         &[0, 13, 14, 15],
         &[0, 13, 15],
         &[0, 13, 14, 15],
-        &plan_refusals,
+        &turned,
         &[0, 13, 14],
         &[0, 1, 2, 3, 4, 5, 9, 13, 15, 17, 18],
         &[0, 13, 15, 16],
         &turned,
         &[&turned[..], &[19]].concat(),
-        &[&plan_refusals[..], &[14]].concat(),
+        &[&turned[..], &[14]].concat(),
         &[0, 13, 14, 20],
         &[0, 13, 14, 15],
     ];

@@ -7,7 +7,7 @@ use reference::compare::Votes;
 
 use crate::change::Change;
 use crate::common::{files, held_by, same_refusal};
-use crate::lent::Buffers;
+use crate::lent::{Buffers, Pairings};
 
 #[derive(Clone, Debug)]
 pub enum Call {
@@ -40,11 +40,18 @@ impl Call {
                 told(held.load_plan(file), |()| None),
                 [roster, file, &[]],
             ),
-            Call::Propose(file) => (
-                desk.propose(file).map(own_votes),
-                told(held.propose(file), their_votes),
-                [roster, plan, file],
-            ),
+            Call::Propose(file) => {
+                let mut own = Pairings::of(0xaa);
+                let mut other = own.clone();
+                let votes = desk.propose(file, &mut own.forward, &mut own.back);
+                let expected = held.propose(file, other.lend());
+                assert_eq!(own, other, "{self:?}");
+                (
+                    votes.map(own_votes),
+                    told(expected, their_votes),
+                    [roster, plan, file],
+                )
+            }
             Call::Commit => (
                 desk.commit().map(|()| None),
                 told(held.commit(), |()| None),

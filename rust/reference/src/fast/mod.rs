@@ -10,6 +10,7 @@ pub mod days;
 pub mod districts;
 pub mod finder;
 pub mod offers;
+pub mod pairing;
 pub mod plan;
 pub mod reduction;
 pub mod roster;

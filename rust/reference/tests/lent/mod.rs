@@ -3,7 +3,7 @@
 // Every test file compiles this module for itself and uses its part of it.
 #![allow(dead_code)]
 
-use reference::desk::{Lent, Record, DIARY_RECORDS, LEFT_BYTES};
+use reference::desk::{Facing, Lent, Record, DIARY_RECORDS, LEFT_BYTES};
 use reference::limits::MAX_PLAN_BYTES;
 
 pub const JUNK: u8 = 0xa5;
@@ -14,6 +14,41 @@ const NO_RECORD: Record = Record {
     shift: JUNK,
     rule: JUNK,
 };
+
+/// Whether a buffer begins with these bytes and is junk behind them.
+fn only_front(buffer: &[u8], front: &[u8]) {
+    assert_eq!(&buffer[..front.len()], front);
+    assert!(buffer[front.len()..].iter().all(|&byte| byte == JUNK));
+}
+
+/// Buffers of given sizes for the pairings of both votes, full of junk.
+#[derive(Clone, Debug, PartialEq, Eq)]
+pub struct Pairings {
+    pub forward: Vec<u8>,
+    pub back: Vec<u8>,
+}
+
+impl Pairings {
+    pub fn new([forward, back]: [usize; 2]) -> Pairings {
+        Pairings {
+            forward: vec![JUNK; forward],
+            back: vec![JUNK; back],
+        }
+    }
+
+    pub fn lend(&mut self) -> Facing<'_> {
+        Facing {
+            forward: &mut self.forward,
+            back: &mut self.back,
+        }
+    }
+
+    /// Whether the buffers begin with these and are junk behind them.
+    pub fn hold(&self, forward: &[u8], back: &[u8]) {
+        only_front(&self.forward, forward);
+        only_front(&self.back, back);
+    }
+}
 
 /// What the buffers need: diary, left pairs, plan, rival.
 pub const SIZES: [usize; 4] = [DIARY_RECORDS, LEFT_BYTES, MAX_PLAN_BYTES, MAX_PLAN_BYTES];
@@ -48,13 +83,9 @@ impl Buffers {
 
     /// Whether the buffers begin with these and are junk behind them.
     pub fn hold(&self, diary: &[Record], left: &[u8], plan: &[u8], rival: &[u8]) {
-        let bytes = |buffer: &[u8], front: &[u8]| {
-            assert_eq!(&buffer[..front.len()], front);
-            assert!(buffer[front.len()..].iter().all(|&byte| byte == JUNK));
-        };
-        bytes(&self.left, left);
-        bytes(&self.plan, plan);
-        bytes(&self.rival, rival);
+        only_front(&self.left, left);
+        only_front(&self.plan, plan);
+        only_front(&self.rival, rival);
         assert_eq!(&self.diary[..diary.len()], diary);
         let behind = &self.diary[diary.len()..];
         assert!(behind.iter().all(|&record| record == NO_RECORD));

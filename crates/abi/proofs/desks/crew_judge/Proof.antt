@@ -5,7 +5,7 @@ use Rattle.abi.proofs.desks.crew_judge.Statement.{statement}
 use Rattle.abi.proofs.desks.crew_judge.Tie as tie
 
 returns : tie.Need-returns
-returns c = judged (c .before .before .before .before .judge .ensures) (c .verdict-numbers .ensures)
+returns c = judged (c .before .before .before .before .before .before .judge .ensures) (c .verdict-numbers .ensures)
 
 pub crew-judge-spec : {M : Type 1} → statement M
-crew-judge-spec = tie.close (tie.spec (λ c κs. search needs) (λ c κs. search needs) (λ c. search needs) returns)
+crew-judge-spec = tie.close (tie.spec (λ c κs. search needs) (λ c κs. search needs) (λ c. search needs) (λ c. search needs) returns)

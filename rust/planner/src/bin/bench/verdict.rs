@@ -55,8 +55,9 @@ fn cases() -> Vec<Case> {
     cases
 }
 
-/// The fast reading's verdict, from bytes to answer, its rival written.
-fn judge(roster: &[u8], plan: &[u8], out: &mut [u8]) -> &'static str {
+/// The fast reading's verdict, from bytes to answer, its rival and the pairings
+/// of the vote against it written.
+fn judge(roster: &[u8], plan: &[u8], out: &mut [u8], pairing: &mut [u8]) -> &'static str {
     let instance = fast::roster::read(roster).expect("accepted");
     let plan = fast::plan::read(&instance, plan).expect("accepted");
     let (rival, verdict) = match fast::verdict::judge(&instance, &plan) {
@@ -65,22 +66,24 @@ fn judge(roster: &[u8], plan: &[u8], out: &mut [u8]) -> &'static str {
         Verdict::Beaten(rival) => (rival, "beaten"),
     };
     fast::plan::write(&instance, &rival.plan, out);
+    fast::pairing::write(&instance, &plan, &rival.plan, pairing);
     verdict
 }
 
 pub fn run() {
     heading();
     let mut out = [0; planner::PLAN_BYTES];
+    let mut pairing = [0; planner::PAIRING_BYTES];
     for case in cases() {
         let roster = roster::write(&case.roster);
         let plan = plan::write(&case.roster, &case.plan);
         assert_eq!(roster.len(), planner::ROSTER_BYTES);
-        let theirs = judge(&roster, &plan, &mut out);
+        let theirs = judge(&roster, &plan, &mut out, &mut pairing);
         assert_eq!(theirs, case.verdict.unwrap_or(theirs), "{}", case.name);
         let mut desk = Desk::open();
         desk.load_roster(&roster).expect("accepted");
         desk.load_plan(&plan).expect("accepted");
-        let ours = desk.judge(&mut out).expect("a plan is held");
+        let ours = desk.judge(&mut out, &mut pairing).expect("a plan is held");
         let ours = match ours {
             planner::Verdict::Strong => "strong",
             planner::Verdict::Popular(_) => "popular",
@@ -90,10 +93,12 @@ pub fn run() {
         report(
             &format!("verdict, {theirs}: {}", case.name),
             time(1, || {
-                black_box(black_box(&desk).judge(&mut out)).expect("a plan is held");
+                let judged = black_box(&desk).judge(&mut out, &mut pairing);
+                black_box(judged).expect("a plan is held");
             }),
             time(1, || {
-                black_box(judge(black_box(&roster), black_box(&plan), &mut out));
+                let (roster, plan) = (black_box(&roster), black_box(&plan));
+                black_box(judge(roster, plan, &mut out, &mut pairing));
             }),
         );
     }

@@ -1,11 +1,11 @@
-//! Votes: two plans of 64 pairs where eight nodes of one side have quota 8, a
-//! comparison from bytes to answer, and one of the plans proposed beside the
-//! other and committed. With eight nodes of quota 8 on both sides at once there
+//! Votes with their pairings: two plans of 64 pairs where eight nodes of one side
+//! have quota 8, a comparison from bytes to answer, and one of the plans proposed
+//! beside the other and committed. With eight nodes of quota 8 on both sides at once there
 //! is only one plan of 64 pairs, so there are two rosters, one for each side.
 
 use std::hint::black_box;
 
-use planner::Desk;
+use planner::{Desk, PAIRING_BYTES};
 use reference::fast;
 use reference::fast::plan::Chosen;
 use reference::fast::roster::Instance;
@@ -31,8 +31,11 @@ fn largest(random: &mut Random, roster: &Roster) -> Vec<u8> {
 
 /// What a comparison's call takes.
 fn comparison(desk: &Desk, first: &[u8], second: &[u8]) -> f64 {
+    let [mut forward, mut back] = [[0; PAIRING_BYTES]; 2];
     time(200, || {
-        let _ = black_box(black_box(desk).compare(black_box(first), black_box(second)));
+        let (first, second) = (black_box(first), black_box(second));
+        let compared = black_box(desk).compare(first, second, &mut forward, &mut back);
+        let _ = black_box(compared);
     })
 }
 
@@ -52,11 +55,18 @@ fn measure(full: Side, name: &str) {
     let plans = [&first, &second].map(|plan| fast::plan::read(&instance, plan).expect("accepted"));
     let mut desk = Desk::open();
     desk.load_roster(&file).expect("accepted");
-    let votes = desk.compare(&first, &second).outcome.expect("accepted");
+    let [mut forward, mut back] = [[0; PAIRING_BYTES]; 2];
+    let compared = desk.compare(&first, &second, &mut forward, &mut back);
+    let votes = compared.outcome.expect("accepted");
+    let [mut forth, mut returned] = [[0; PAIRING_BYTES]; 2];
     assert_eq!(
-        votes.first,
-        fast::vote::vote(&instance, &plans[0], &plans[1])
+        (votes.first, votes.second),
+        (
+            voted(&instance, [&plans[0], &plans[1]], &mut forth),
+            voted(&instance, [&plans[1], &plans[0]], &mut returned)
+        )
     );
+    assert_eq!((forward, back), (forth, returned));
 
     // A comparison whose first file is refused at once reads the roster alone;
     // one whose second file is reads a plan more.
@@ -64,36 +74,34 @@ fn measure(full: Side, name: &str) {
     let one_plan = comparison(&desk, &first, &[]);
     let whole = comparison(&desk, &first, &second);
     report(
-        &format!("vote of two 64-pair plans, eight {name} of quota 8"),
+        &format!("vote of two 64-pair plans with its pairings, eight {name} of quota 8"),
         (whole - 2.0 * one_plan + roster_alone) / 2.0,
         time(2_000, || {
-            black_box(fast::vote::vote(
-                black_box(&instance),
-                black_box(&plans[0]),
-                black_box(&plans[1]),
-            ));
+            let plans = [&plans[0], &plans[1]].map(black_box);
+            black_box(voted(black_box(&instance), plans, &mut forth));
         }),
     );
     let files = [&file, &first, &second];
-    let voted = time(200, || {
+    let both = time(200, || {
         let (instance, plans) = read(files);
-        black_box(fast::vote::vote(&instance, &plans[0], &plans[1]));
-        black_box(fast::vote::vote(&instance, &plans[1], &plans[0]));
+        black_box(voted(&instance, [&plans[0], &plans[1]], &mut forth));
+        black_box(voted(&instance, [&plans[1], &plans[0]], &mut returned));
     });
     report(
-        &format!("comparison of them, from bytes to answer ({name})"),
+        &format!("comparison of them with both pairings, from bytes to answer ({name})"),
         whole,
-        voted,
+        both,
     );
 
     // The second plan is held, and the first proposed.
     desk.load_plan(&second).expect("accepted");
     report(
-        &format!("one proposed beside the other ({name})"),
+        &format!("one proposed beside the other, with both pairings ({name})"),
         time(200, || {
-            let _ = black_box(black_box(&mut desk).propose(black_box(&first)));
+            let first = black_box(&first);
+            let _ = black_box(black_box(&mut desk).propose(first, &mut forward, &mut back));
         }),
-        voted,
+        both,
     );
     report(
         &format!("the proposal committed ({name})"),
@@ -105,6 +113,12 @@ fn measure(full: Side, name: &str) {
             black_box(read(files));
         }),
     );
+}
+
+/// The reference's vote of one plan against another, its pairings written.
+fn voted(instance: &Instance, [mine, theirs]: [&Chosen; 2], out: &mut [u8]) -> i16 {
+    fast::pairing::write(instance, mine, theirs, out);
+    fast::vote::vote(instance, mine, theirs)
 }
 
 /// A roster and two plans of it, read from their files by the reference.

@@ -1,4 +1,4 @@
--- `verdict::weigh` meets its contract: beaten, or popular, with the rival written, or strong. Assumes nothing.
+-- `verdict::weighed` meets its contract: beaten, or popular, with the rival written, or strong. Assumes nothing.
 use mathlib.Core.Path.{ap, ap₂}
 use mathlib.Core.Bool.{Bool}
 use mir.Syntax.{w16}
@@ -7,8 +7,8 @@ use borrow.Author.Needs.{needs, sfits-of}
 use Rattle.rival_verdict.specs.Judged.{verdictFor}
 use Rattle.verdict.specs.RivalWritten as made
 use Rattle.verdict.specs.RivalWritten.{few, plan-within, popular-as, beaten-as}
-use Rattle.verdict.proofs.weigh.Statement.{statement}
-use Rattle.verdict.proofs.weigh.Tie as tie
+use Rattle.verdict.proofs.weighed.Statement.{statement}
+use Rattle.verdict.proofs.weighed.Tie as tie
 
 -- the start, from the judgement
 abbrev start : tie.After-judge → tie.Start
@@ -49,10 +49,12 @@ returns c =
     let a = s .args in
     let j = after .judge in
     let v = verdictFor (j .result .beaten) (j .result .rivalled) in
-    let w = c .before .before .voted in
-    λ M S. beaten-as (toZ-ofZ w16 (w .result) (sfits-of (w .ok)))
-    (made.beaten-weighed (a .g) (s .pre .0) (a .plan .now) M S v (j .result .rival) (j .ensures) (a .out .now) (w .ensures)
-    (ap (λ (b : Bool). verdictFor b (j .result .rivalled)) (c .before .before .before .before .before .if1 .taken)))
+    let w = c .before .before .voted in (
+      λ M S. beaten-as (toZ-ofZ w16 (w .result) (sfits-of (w .ok)))
+          (made.beaten-weighed (a .g) (s .pre .0) (a .plan .now) M S v (j .result .rival) (j .ensures) (a .out .now) (w .ensures)
+          (ap (λ (b : Bool). verdictFor b (j .result .rivalled)) (c .before .before .before .before .before .if1 .taken))),
+      λ M S. made.is-rival (a .g) (s .pre .0) (a .plan .now) M S v (j .result .rival) (j .ensures),
+    )
 
 voted-requires-2 : tie.Need-voted-requires-2
 voted-requires-2 c κs =
@@ -78,10 +80,12 @@ returns-2 c =
     let a = s .args in
     let j = after .judge in
     let v = verdictFor (j .result .beaten) (j .result .rivalled) in
-    let w = c .before .before .voted2 in
-    λ M S. popular-as (toZ-ofZ w16 (w .result) (sfits-of (w .ok)))
-    (made.popular-weighed (a .g) (s .pre .0) (a .plan .now) M S v (j .result .rival) (j .ensures) (a .out .now) (w .ensures)
-    (ap₂ verdictFor (c .before .before .before .before .before .before .if1 .left) (c .before .before .before .before .before .if2 .taken)))
+    let w = c .before .before .voted2 in (
+      λ M S. popular-as (toZ-ofZ w16 (w .result) (sfits-of (w .ok)))
+          (made.popular-weighed (a .g) (s .pre .0) (a .plan .now) M S v (j .result .rival) (j .ensures) (a .out .now) (w .ensures)
+          (ap₂ verdictFor (c .before .before .before .before .before .before .if1 .left) (c .before .before .before .before .before .if2 .taken))),
+      λ M S. made.is-rival (a .g) (s .pre .0) (a .plan .now) M S v (j .result .rival) (j .ensures),
+    )
 
 returns-3 : tie.Need-returns-3
 returns-3 c =
@@ -89,9 +93,11 @@ returns-3 c =
     let s = start after in
     let a = s .args in
     let j = after .judge in
-    let v = verdictFor (j .result .beaten) (j .result .rivalled) in
-    λ M S. made.strong-weighed (a .g) (s .pre .0) (a .plan .now) M S v (j .result .rival) (j .ensures) (a .out .now)
-    (ap₂ verdictFor (c .before .if1 .left) (c .if2 .left))
+    let v = verdictFor (j .result .beaten) (j .result .rivalled) in (
+      λ M S. made.strong-weighed (a .g) (s .pre .0) (a .plan .now) M S v (j .result .rival) (j .ensures) (a .out .now)
+          (ap₂ verdictFor (c .before .if1 .left) (c .if2 .left)),
+      λ M S. made.is-rival (a .g) (s .pre .0) (a .plan .now) M S v (j .result .rival) (j .ensures),
+    )
 
-pub weigh-spec : {M : Type 1} → statement M
-weigh-spec = tie.close (tie.spec judge-requires voted-requires (λ c. search needs) returns voted-requires-2 (λ c. search needs) returns-2 returns-3)
+pub weighed-spec : {M : Type 1} → statement M
+weighed-spec = tie.close (tie.spec judge-requires voted-requires (λ c. search needs) returns voted-requires-2 (λ c. search needs) returns-2 returns-3)

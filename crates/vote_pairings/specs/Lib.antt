@@ -1,0 +1,3 @@
+pub mod SideBytes
+pub mod SidePairings
+pub mod RosterPairings

@@ -1,0 +1,160 @@
+// Who faced whom: the pairings of the vote of one plan against another, into a lent buffer; two bytes a place, the surveyors' nodes before the stands'.
+ghost use mathlib.Core.Path.{_≡_};
+ghost use Prim.Native.Nat.{ℕ, _+_, _*_, _≤_, _<_};
+ghost use lib.ListN.{length, take};
+ghost use Rattle.lists.specs.Sum.{sum, upTo};
+ghost use Rattle.model.specs.Limits.{quotaLimit, nodeLimit, pairingSize};
+ghost use Rattle.arrays.specs.ArrayInstance.{at, flag};
+ghost use Rattle.theory_votes.specs.Keys.{emptyKey, keyBytes};
+ghost use Rattle.vote_pairings.specs.SideBytes.{written, sideOut, NodeReady};
+ghost use Rattle.plan_lookup.specs.PlanEdges.{Listed};
+ghost use Rattle.vote_pairings.specs.SidePairings.{Faced, SideWritten, PlanWritten};
+ghost use Rattle.model.specs.Facing.{pairingBytes};
+ghost use Rattle.model_desk.specs.Desk.{onto};
+ghost use Rattle.theory_instance.specs.Lawful.{Matching};
+ghost use Rattle.instance.specs.Decoded.{shownBy};
+ghost use Rattle.instance.specs.Loaded.{Loaded};
+use instance::Instance;
+use vote_own_ranks::Ranked;
+
+// ---- the nodes of one side
+// The first n pairs, from a place of the buffer on.
+pub fn put_pairs(out: &mut [u8], from: usize, keys: [u16; 8], n: usize)
+    requires { ⌜ (n ≤ quotaLimit) × (from + 2 * n ≤ length (now out)) × ((i : ℕ) → at keys i ≤ emptyKey) ⌝ }
+    ensures { λ _. ⌜ now (out .exit) ≡ written from (keyBytes (take n keys)) (now (out .entry)) ⌝ }
+{
+    let mut i = 0;
+    while i < n {
+        let key = keys[i];
+        let place = from + 2 * i;
+        out[place] = (key / 64) as u8;
+        out[place + 1] = (key % 64) as u8;
+        i += 1;
+    }
+}
+
+// The pairs of the first n nodes of a side, as many each as its quota says, from a place of the buffer on; the place behind them.
+pub fn side_pairs(
+    n: usize,
+    a: [Ranked; 32],
+    b: [Ranked; 32],
+    shared: [Ranked; 32],
+    quota: [u8; 32],
+    out: &mut [u8],
+    from: usize,
+) -> usize
+    requires { ⌜ (n ≤ nodeLimit) × ((v : ℕ) → v < n → NodeReady a b shared quota v) ⌝ }
+    requires { ⌜ from + 2 * sum (at quota) (upTo n) ≤ length (now out) ⌝ }
+    ensures { λ r. ⌜ r ≡ from + 2 * sum (at quota) (upTo n) ⌝ }
+    ensures { λ _. ⌜ now (out .exit) ≡ written from (sideOut a b shared quota n) (now (out .entry)) ⌝ }
+{
+    let mut place = from;
+    let mut v = 0;
+    while v < n {
+        let x = a[v];
+        let y = b[v];
+        let s = shared[v];
+        let pairs = vote_pairings_node::node_pairs(x, y, s);
+        let places = quota[v] as usize;
+        let keys = pairs.keys;
+        put_pairs(&mut *out, place, keys, places);
+        place += 2 * places;
+        v += 1;
+    }
+    place
+}
+
+// ---- two plans, over the arrays of an instance
+// The pairings of one side, from a place of the buffer on; the place behind them.
+pub fn side_pairings(
+    m: usize,
+    n: usize,
+    end: &[u8; 1024],
+    rank: &[u8; 1024],
+    quota: [u8; 32],
+    p: &[bool; 1024],
+    pn: usize,
+    pe: &[u16; 64],
+    q: &[bool; 1024],
+    qn: usize,
+    qe: &[u16; 64],
+    out: &mut [u8],
+    from: usize,
+) -> usize
+    requires { ⌜ Faced m n (now end) (now rank) quota (now p) (now q) × Listed m (now p) pn (now pe) × Listed m (now q) qn (now qe) ⌝ }
+    requires { ⌜ from + 2 * sum (at quota) (upTo n) ≤ length (now out) ⌝ }
+    ensures { λ r. ⌜ r ≡ from + 2 * sum (at quota) (upTo n) ⌝ }
+    ensures { λ _. ⌜ SideWritten m n (now (end .entry)) (now (rank .entry)) quota (now (p .entry)) (now (q .entry)) from
+        (now (out .entry)) (now (out .exit)) ⌝ }
+{
+    let a = vote_own_ranks::own_ranks(pn, pe, end, rank, q);
+    let b = vote_own_ranks::own_ranks(qn, qe, end, rank, p);
+    let s = vote_own_ranks::shared_ranks(pn, pe, end, rank, q);
+    side_pairs(n, a, b, s, quota, out, from)
+}
+
+// The pairings of the vote of plan p, whose edges are the first pn of pe, against plan q, at the buffer's front.
+pub fn plan_pairings(
+    m: usize,
+    ns: usize,
+    nt: usize,
+    sv: &[u8; 1024],
+    st: &[u8; 1024],
+    rs: &[u8; 1024],
+    rt: &[u8; 1024],
+    qs: [u8; 32],
+    qt: [u8; 32],
+    p: &[bool; 1024],
+    pn: usize,
+    pe: &[u16; 64],
+    q: &[bool; 1024],
+    qn: usize,
+    qe: &[u16; 64],
+    out: &mut [u8],
+)
+    requires { ⌜ Faced m ns (now sv) (now rs) qs (now p) (now q) × Faced m nt (now st) (now rt) qt (now p) (now q) ⌝ }
+    requires { ⌜ Listed m (now p) pn (now pe) × Listed m (now q) qn (now qe) ⌝ }
+    requires { ⌜ 2 * (sum (at qs) (upTo ns) + sum (at qt) (upTo nt)) ≤ length (now out) ⌝ }
+    ensures { λ _. ⌜ PlanWritten m ns nt (now (sv .entry)) (now (st .entry)) (now (rs .entry)) (now (rt .entry)) qs qt (now (p .entry)) (now (q .entry))
+        (now (out .entry)) (now (out .exit)) ⌝ }
+{
+    let middle = side_pairings(m, ns, sv, rs, qs, p, pn, pe, q, qn, qe, &mut *out, 0);
+    side_pairings(m, nt, st, rt, qt, p, pn, pe, q, qn, qe, out, middle);
+}
+
+// ---- two plans within the quotas of an accepted roster, from the flags of their edges
+// The pairings of the vote of plan p against plan q, at the front of a buffer of 256 bytes.
+pub fn pairings_between(g: Instance, p: &[bool; 1024], q: &[bool; 1024], out: &mut [u8])
+    requires { ⌜ Loaded g × Matching (shownBy g) (flag (now p)) × Matching (shownBy g) (flag (now q)) × (pairingSize ≤ length (now out)) ⌝ }
+    ensures { λ _. ⌜ now (out .exit) ≡ onto (pairingBytes (shownBy g) (flag (now (p .entry))) (flag (now (q .entry)))) (now (out .entry)) ⌝ }
+{
+    let m = g.m;
+    let sv = g.sv;
+    let st = g.st;
+    let rs = g.rank_s;
+    let rt = g.rank_t;
+    let qs = g.quota_s;
+    let qt = g.quota_t;
+    let a = plan_lookup::list_edges(m, p);
+    let b = plan_lookup::list_edges(m, q);
+    let pe = a.edges;
+    let qe = b.edges;
+    plan_pairings(
+        m,
+        g.ns,
+        g.nt,
+        &sv,
+        &st,
+        &rs,
+        &rt,
+        qs,
+        qt,
+        p,
+        a.n,
+        &pe,
+        q,
+        b.n,
+        &qe,
+        out,
+    );
+}
