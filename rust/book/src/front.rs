@@ -3,6 +3,7 @@
 use crate::contents::{Book, Chapter};
 use crate::html::{anchor, escaped, marked, some, table};
 use crate::lists::Block;
+use crate::reach::Names;
 use std::collections::{BTreeMap, BTreeSet};
 use std::fmt::Write;
 
@@ -44,11 +45,14 @@ impl Book<'_> {
     fn believed(&self, block: &Block) -> String {
         let library = self.library();
         let every = block.get("calls") == "every";
-        let calls = self.calls.iter().filter(|c| every || block.names("calls").contains(&c.name.as_str()));
-        let mut all: BTreeSet<usize> = calls.flat_map(|c| c.comes_to.iter().copied()).collect();
-        for law in block.names("laws").into_iter().filter_map(|l| library.named(l)) {
+        let calls: Vec<_> = self.calls.iter().filter(|c| every || block.names("calls").contains(&c.name.as_str())).collect();
+        let laws: Vec<usize> = block.names("laws").into_iter().filter_map(|l| library.named(l)).collect();
+        let mut all: BTreeSet<usize> = calls.iter().flat_map(|c| c.comes_to.iter().copied()).collect();
+        for &law in &laws {
             all.extend(self.names.comes_to(&self.names.links(law)));
         }
+        let led_to = self.names.closure(calls.iter().flat_map(|c| Names::targets(&c.links)).chain(laws));
+        let led_to = led_to.iter().filter(|&&d| !self.names.is_law(d)).fold((0, 0), |(n, l), &d| (n + 1, l + self.lines(d)));
         let mut rows = Vec::new();
         let mut sums = (0, 0);
         for chapter in [Chapter::Model, Chapter::Promises, Chapter::Code, Chapter::Kit] {
@@ -59,6 +63,12 @@ impl Book<'_> {
         }
         rows.push(vec!["<b>together</b>".to_string(), format!("<b>{}</b>", sums.0), format!("<b>{}</b>", sums.1)]);
         let mut made = format!("<h4>To be believed</h4>{}", table("sizes", &["of", "definitions", "lines"], &rows));
+        let _ = write!(
+            made,
+            "<p>Counted is what the statements can come to, read off the text: of a definition by cases the clauses for these calls, of a record that is built \
+             the fields that are taken. All that their names lead to, other cases included, is {} definitions with {} lines.</p>",
+            led_to.0, led_to.1
+        );
         if every {
             made += "<p class=list>These are the chapters that follow.</p>";
             return made;
