@@ -4,18 +4,21 @@ ghost use mathlib.Core.Path.{_≡_};
 ghost use Prim.Native.Nat.{_≤_};
 ghost use lib.ListN.{length};
 ghost use Rattle.model.specs.Limits.{pairingSize};
+ghost use Rattle.model.specs.Plans.{voteOf};
 ghost use Rattle.model.specs.PlanFile.{readPlan};
 ghost use Rattle.model_desk.specs.Compare.{compared, secondJudged, comparisonOf, bothPairings, secondPaired, pairingsOf};
 ghost use Rattle.answers.specs.ComparisonCases.{comparisonCase};
 ghost use Rattle.instance.specs.Decoded.{shownBy};
 ghost use Rattle.instance.specs.Loaded.{Loaded};
-ghost use Rattle.compare.specs.TwoPlans.{Planned, Paired};
+ghost use Rattle.plan_reader.specs.Planned.{Planned};
+ghost use Rattle.compare.specs.TwoPlans.{Paired};
 use answers::Comparison;
 use instance::Instance;
 use plan_reader::PlanAnswer;
+use vote_plans::Votes;
 
-// Two plans of an accepted roster, p with pn edges that pe lists, q likewise.
-pub(crate) fn voted(
+// Both votes of two plans of an accepted roster, p with pn edges that pe lists, q likewise, and their pairings.
+pub fn both_votes(
     g: Instance,
     p: &[bool; 1024],
     pn: usize,
@@ -25,10 +28,10 @@ pub(crate) fn voted(
     qe: &[u16; 64],
     forward: &mut [u8],
     back: &mut [u8],
-) -> Comparison
+) -> Votes
     requires { ⌜ Loaded g × Planned g (now p) pn (now pe) × Planned g (now q) qn (now qe) ⌝ }
     requires { ⌜ (pairingSize ≤ length (now forward)) × (pairingSize ≤ length (now back)) ⌝ }
-    ensures { λ r. ⌜ r ≡ comparisonCase (compared (shownBy g) (now (p .entry)) (now (q .entry))) ⌝ }
+    ensures { λ r. ⌜ (r .first ≡ voteOf (shownBy g) (now (p .entry)) (now (q .entry))) × (r .second ≡ voteOf (shownBy g) (now (q .entry)) (now (p .entry))) ⌝ }
     ensures { λ _. ⌜ Paired (bothPairings (shownBy g) (now (p .entry)) (now (q .entry))) (now (forward .entry)) (now (back .entry))
         (now (forward .exit)) (now (back .exit)) ⌝ }
 {
@@ -58,6 +61,28 @@ pub(crate) fn voted(
         forward,
         back,
     );
+    both
+}
+
+// The same with the winner.
+pub(crate) fn voted(
+    g: Instance,
+    p: &[bool; 1024],
+    pn: usize,
+    pe: &[u16; 64],
+    q: &[bool; 1024],
+    qn: usize,
+    qe: &[u16; 64],
+    forward: &mut [u8],
+    back: &mut [u8],
+) -> Comparison
+    requires { ⌜ Loaded g × Planned g (now p) pn (now pe) × Planned g (now q) qn (now qe) ⌝ }
+    requires { ⌜ (pairingSize ≤ length (now forward)) × (pairingSize ≤ length (now back)) ⌝ }
+    ensures { λ r. ⌜ r ≡ comparisonCase (compared (shownBy g) (now (p .entry)) (now (q .entry))) ⌝ }
+    ensures { λ _. ⌜ Paired (bothPairings (shownBy g) (now (p .entry)) (now (q .entry))) (now (forward .entry)) (now (back .entry))
+        (now (forward .exit)) (now (back .exit)) ⌝ }
+{
+    let both = both_votes(g, p, pn, pe, q, qn, qe, forward, back);
     let v = both.first;
     let w = both.second;
     let x = compare_winner::winner_of(v, w);
@@ -80,12 +105,7 @@ pub(crate) fn second_judged(
     ensures { λ _. ⌜ Paired (secondPaired (shownBy g) (now (p .entry)) (readPlan (shownBy g) (now (second .entry)))) (now (forward .entry))
         (now (back .entry)) (now (forward .exit)) (now (back .exit)) ⌝ }
 {
-    let sv = g.sv;
-    let st = g.st;
-    let sh = g.sh;
-    let qs = g.quota_s;
-    let qt = g.quota_t;
-    let read = plan_reader::read_plan(g.m, &sv, &st, &sh, &qs, &qt, second, true);
+    let read = plan_reader::read_against(g, second, true);
     let a = read.answer;
     match a {
         PlanAnswer::Refused(n) => Comparison::Refused(n, answers::group_of(n)),
@@ -111,12 +131,7 @@ pub fn compare(
     ensures { λ _. ⌜ Paired (pairingsOf (shownBy g) (now (first .entry)) (now (second .entry))) (now (forward .entry)) (now (back .entry))
         (now (forward .exit)) (now (back .exit)) ⌝ }
 {
-    let sv = g.sv;
-    let st = g.st;
-    let sh = g.sh;
-    let qs = g.quota_s;
-    let qt = g.quota_t;
-    let read = plan_reader::read_plan(g.m, &sv, &st, &sh, &qs, &qt, first, true);
+    let read = plan_reader::read_against(g, first, true);
     let a = read.answer;
     match a {
         PlanAnswer::Refused(n) => Comparison::Refused(n, answers::group_of(n)),

@@ -4,24 +4,23 @@ use Prim.Native.Nat.{ℕ, suc, _≤_}
 use native.Mathlib.Omega.{arith}
 use mathlib.Core.Path.{_≡_, refl, sym, ap, _∙_, subst}
 use mathlib.Core.Bool.{Bool, true, false, cond, _&&_}
-use mathlib.Core.List.{List, map}
-use lib.ListN.{length, length-take}
+use mathlib.Core.List.{List}
 use lib.Dec.{T}
 use Rattle.lists.specs.Test.{given}
-use Rattle.lists.specs.Sum.{_∈_, range}
+use Rattle.lists.specs.Sum.{_∈_}
 use Rattle.model.specs.Reading.{Reading, accepted, refused}
 use Rattle.model.specs.Refusal.{groupOf}
 use Rattle.model.specs.Roster.{Roster, fits}
 use Rattle.model.specs.RosterFile.{readRoster, writeRoster}
 use Rattle.model.specs.Edges.{instanceOf}
 use Rattle.model.specs.Plans.{Plan, on, plansOf}
-use Rattle.model.specs.PlanFile.{edgesIn, planBytes, readPlan}
+use Rattle.model.specs.PlanFile.{planBytes, readPlan}
 use Rattle.model_desk.specs.Desk.{Held, noRoster, noPlan}
 use Rattle.theory_files.specs.Reads.{isBytes}
 use Rattle.theory_files.specs.Rosters.{read-write, read-fits}
 use Rattle.theory_files.specs.PlanFiles.{plan-read-within, plan-read-write}
-use Rattle.arrays.specs.ArrayInstance.{at, flag}
-use Rattle.arrays.specs.Kept.{front-is}
+use Rattle.arrays.specs.ArrayInstance.{flag}
+use Rattle.plan_lookup.specs.PlanEdges.{Listed}
 use Rattle.answers.specs.declared.Group.{Group}
 use Rattle.answers.specs.declared.FileAnswer.the-variants as answer
 use Rattle.answers.specs.GroupCases.{groupShown, shows-case}
@@ -31,7 +30,8 @@ use Rattle.instance.specs.Decoded.{shownBy, Decoded}
 use Rattle.instance.specs.Loaded.{Loaded, loaded}
 use Rattle.plan_reader.specs.declared.PlanAnswer.the-variants as plan
 use Rattle.plan_reader.specs.declared.PlanRead.{PlanRead}
-use Rattle.plan_reader.specs.Answers.{ReadAs, accepted-read, accepted-edges, refused-read}
+use Rattle.plan_reader.specs.Answers.{ReadAs, accepted-read, refused-read}
+use Rattle.plan_reader.specs.Planned.{read-planned}
 use Rattle.desk_loaded.specs.declared.OnDesk.{OnDesk}
 use Rattle.desk_loaded.specs.Held.{heldPlan, held, stateNumber, unneeded}
 
@@ -39,7 +39,7 @@ use Rattle.desk_loaded.specs.Held.{heldPlan, held, stateNumber, unneeded
 pub record PlanIn (r : OnDesk) (M : Plan) : Type 0 where
   pub within : M ∈ plansOf (shownBy (r .g))
   pub flags : (e : ℕ) → flag (r .plan) e ≡ on M e
-  pub listed : edgesIn (r .g .m) (flag (r .plan)) ≡ map (at (r .edges)) (range 0 (r .n))
+  pub listed : Listed (r .g .m) (r .plan) (r .n) (r .edges)
 
 -- on the arrays of an accepted roster, with a plan file
 pub record OnRoster (g : Instance) (file : List ℕ) (needs short : Bool) (r : OnDesk) : Type 0 where
@@ -80,9 +80,9 @@ module _ (g : Instance) (file : List ℕ) (p : PlanRead) (A : ReadAs true (shown
       planned = λ t M a. none (sym (refused-read A q) ∙ a);
     }
 
-    pub plan-there : T (isBytes file) → {n : ℕ} → p .answer ≡ plan.Accepted n → r .refusal ≡ cond short 15 0
+    pub plan-there : Loaded g → T (isBytes file) → {n : ℕ} → p .answer ≡ plan.Accepted n → r .refusal ≡ cond short 15 0
         → r .n ≡ n → r .plan ≡ p .chosen → r .edges ≡ p .edges → OnRoster g file true short r
-    plan-there isB {n} q e en ep ee = given (accepted-read A q) (λ (M, a, s). record {
+    plan-there L isB {n} q e en ep ee = given (accepted-read A q) (λ (M, a, s). record {
       arrays = same;
       refusal = λ R. e ∙ sym (ap (λ y. stateNumber (heldPlan R y) true short) a);
       planned =
@@ -99,14 +99,13 @@ module _ (g : Instance) (file : List ℕ) (p : PlanRead) (A : ReadAs true (shown
         in-arrays : (N : Plan) → readPlan (shownBy g) file ≡ accepted N → PlanIn r N
         in-arrays N w =
             let f : (e : ℕ) → flag (p .chosen) e ≡ on N e = A .chosen N w in
-            given (accepted-edges A q N w) (λ (c, t).
-            let h : n ≤ length (p .edges) = omega (arith, c, ap length t, length-take n (p .edges)) in
+            let l : Listed (g .m) (p .chosen) n (p .edges) = read-planned g file p A L isB q .listed in
             record {
               within = subst (λ h. N ∈ plansOf (shownBy h)) (sym same) (plan-read-within (shownBy g) file N isB w);
               flags = λ e. ap (λ z. flag z e) ep ∙ f e;
-              listed = ap (λ h. edgesIn (h .m) (flag (r .plan))) same ∙ ap (λ z. edgesIn (g .m) (flag z)) ep ∙ ap (edgesIn (g .m)) (λ k e. f e k)
-                  ∙ sym t ∙ front-is (p .edges) n h ∙ ap (λ z. map (at z) (range 0 n)) (sym ee) ∙ ap (λ k. map (at (r .edges)) (range 0 k)) (sym en);
-            })
+              listed = subst (λ h. Listed (h .m) (r .plan) (r .n) (r .edges)) (sym same) (subst (λ z. Listed (g .m) z (r .n) (r .edges)) (sym ep)
+                  (subst (λ k. Listed (g .m) (p .chosen) k (r .edges)) (sym en) (subst (Listed (g .m) (p .chosen) n) (sym ee) l)));
+            }
 
 -- no plan is needed
 pub plan-unneeded : (g : Instance) (file : List ℕ) (short : Bool) (r : OnDesk) → r .g ≡ g → r .refusal ≡ cond short 15 0 → OnRoster g file false short r

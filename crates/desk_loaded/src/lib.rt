@@ -6,13 +6,11 @@ ghost use Rattle.model.specs.PlanFile.{readPlan};
 ghost use Rattle.answers.specs.FileCases.{fileCase};
 ghost use Rattle.instance.specs.Decoded.{shownBy};
 ghost use Rattle.instance.specs.Loaded.{Loaded};
-ghost use Rattle.plan_reader.specs.Answers.{ReadAs};
 ghost use Rattle.desk_loaded.specs.OnDesk.{OnRoster, LoadedFrom};
 use answers::FileAnswer;
 use instance::Instance;
 use limits::ENTRY_LIMIT;
 use plan_reader::PlanAnswer;
-use plan_reader::PlanRead;
 
 // The refusal, 0 for none; the instance; the plan by the flags of its edges, their number, and the list of them. Where no plan is needed,
 // and on a refusal, the plan is empty.
@@ -24,25 +22,12 @@ pub struct OnDesk {
     pub edges: [u16; 64],
 }
 
-// a plan file, with shifts or without, against the arrays of an accepted roster
-pub fn plan_read(g: Instance, file: &[u8], shifts: bool) -> PlanRead
-    requires { ⌜ Loaded g ⌝ }
-    ensures { λ r. ⌜ ReadAs shifts (shownBy g) (now (file .entry)) r ⌝ }
-{
-    let sv = g.sv;
-    let st = g.st;
-    let sh = g.sh;
-    let qs = g.quota_s;
-    let qt = g.quota_t;
-    plan_reader::read_plan(g.m, &sv, &st, &sh, &qs, &qt, file, shifts)
-}
-
 // a plan file against the arrays of an accepted roster: accepted, or its refusal
 pub fn read_plan(g: Instance, file: &[u8]) -> FileAnswer
     requires { ⌜ Loaded g ⌝ }
     ensures { λ r. ⌜ r ≡ fileCase (readPlan (shownBy g) (now (file .entry))) ⌝ }
 {
-    let read = plan_read(g, file, true);
+    let read = plan_reader::read_against(g, file, true);
     let a = read.answer;
     match a {
         PlanAnswer::Accepted(_) => FileAnswer::Accepted,
@@ -78,7 +63,7 @@ pub fn with_plan(g: Instance, plan: &[u8], short: bool) -> OnDesk
     requires { ⌜ Loaded g ⌝ }
     ensures { λ r. ⌜ OnRoster g (now (plan .entry)) true short r ⌝ }
 {
-    let read = plan_read(g, plan, true);
+    let read = plan_reader::read_against(g, plan, true);
     let a = read.answer;
     match a {
         PlanAnswer::Refused(_) => bare(g, 14),

@@ -1,11 +1,11 @@
--- Proposals (W-207): what they answer, and what the desk holds behind them. A proposal is compared with the held plan as two plan files are, the
--- proposal's file first.
+-- Proposals (W-207): what they answer, and what the desk holds behind them. A proposal is read against the roster held, and votes with the held plan,
+-- the proposal first.
 use Prim.Native.Nat.{ℕ, _≤_}
-use mathlib.Core.Path.{_≡_, refl, sym, ap, ap₂, _∙_, subst}
-use mathlib.Core.Bool.{Bool, true, false, _||_}
+use mathlib.Core.Path.{_≡_, refl, sym, ap, ap₂, _∙_, subst, fun-ext}
+use mathlib.Core.Bool.{Bool, true, _||_}
 use mathlib.Core.List.{List}
 use lib.ListN.{length, take}
-use lib.IntN.{ℤ, pos}
+use lib.IntN.{ℤ}
 use lib.Dec.{T, ltb}
 use Rattle.lists.specs.Test.{given}
 use Rattle.model.specs.Limits.{planSize, pairingSize}
@@ -16,21 +16,22 @@ use Rattle.model.specs.Roster.{Roster}
 use Rattle.model.specs.RosterFile.{readRoster}
 use Rattle.model.specs.Edges.{instanceOf}
 use Rattle.model.specs.Instance.{Instance}
-use Rattle.model.specs.Plans.{Plan, voteOf}
+use Rattle.model.specs.Plans.{Plan, on, voteOf}
 use Rattle.model.specs.PlanFile.{readPlan}
-use Rattle.model_desk.specs.Compare as model
-use Rattle.model_desk.specs.Compare.{compared, secondJudged, comparisonOf, pairingsOf}
+use Rattle.model.specs.Vote.{vote}
+use Rattle.model.specs.Facing.{pairingBytes}
+use Rattle.model_desk.specs.Compare.{bothPairings}
 use Rattle.model_desk.specs.Desk.{refused, refusal, bothVotes, propose, proposalAnswer, withProposal, proposalPairings, pairingsOnto, answerOn, lentOn, deskOn}
+use Rattle.theory_instance.specs.Lawful.{Matching}
 use Rattle.theory_finder.specs.Choices.{chosen}
 use Rattle.theory_files.specs.Reads.{isBytes}
 use Rattle.theory_files.specs.PlanFiles.{plan-accepted-size}
+use Rattle.theory_verdict.specs.Plans.{plan-matching}
+use Rattle.arrays.specs.ArrayInstance.{flag}
 use Rattle.answers.specs.declared.Group.{Group}
-use Rattle.answers.specs.declared.Winner.{Winner}
-use Rattle.answers.specs.declared.Comparison.{Comparison}
-use Rattle.answers.specs.declared.Comparison.the-variants.{Votes, Refused}
-use Rattle.answers.specs.GroupCases.{groupShown, shown-case}
-use Rattle.answers.specs.ComparisonCases.{comparisonCase}
+use Rattle.answers.specs.GroupCases.{groupShown}
 use Rattle.instance.specs.Decoded.{shownBy}
+use Rattle.plan_reader.specs.Planned.{Planned}
 use Rattle.compare.specs.TwoPlans.{Paired}
 use Rattle.desk_loaded.specs.declared.OnDesk.{OnDesk}
 use Rattle.desk_loaded.specs.Held.{heldPlan}
@@ -40,70 +41,11 @@ use Rattle.desk_files.specs.Held.{rosterBytes, planBytes, heldProposal, beside,
 use Rattle.desk_files.specs.Replies.{ProposalIn, Replied}
 use Rattle.desk_files.specs.State.{pass-answer, pass-lent, pass-desk, roster-held, plan-held, passed, passes, state-is, other}
 
--- ---- the comparison with the held plan M, by the proposal's reading
-abbrev judged : Instance → Plan → Reading Plan → model.Comparison
-judged G M (accepted N) = compared G N M
-judged G M (reading.refused n) = model.refused n
-
-judged-is : (G : Instance) (M : Plan) (file plan : List ℕ) → readPlan G plan ≡ accepted M → comparisonOf G file plan ≡ judged G M (readPlan G file)
-unfolding comparisonOf
-judged-is G M file plan b = go (readPlan G file)
-  where
-    go : (y : Reading Plan) → model.firstJudged G y plan ≡ judged G M y
-    go (accepted N) = ap (secondJudged G N) b
-    go (reading.refused n) = refl
-
--- W-208: the same of the pairings
-paired-is : (G : Instance) (M : Plan) (file plan : List ℕ) → readPlan G plan ≡ accepted M → pairingsOf G file plan ≡ proposalPairings G M (readPlan G file)
-unfolding pairingsOf
-paired-is G M file plan b = go (readPlan G file)
-  where
-    go : (y : Reading Plan) → model.firstPaired G y plan ≡ proposalPairings G M y
-    go (accepted N) = ap (model.secondPaired G N) b
-    go (reading.refused n) = refl
-
--- what the code's answer says of it
-abbrev isVotes : Comparison → Bool
-isVotes (Votes v w x) = true
-isVotes (Refused n g) = false
-
-abbrev votesIn : Comparison → ℤ × ℤ
-votesIn (Votes v w x) = (v, w)
-votesIn (Refused n g) = (pos 0, pos 0)
-
-abbrev numberIn : Comparison → ℕ
-numberIn (Votes v w x) = 0
-numberIn (Refused n g) = n
-
-abbrev groupIn : Group → Comparison → Group
-groupIn k (Votes v w x) = k
-groupIn k (Refused n g) = g
-
-its-votes : (G : Instance) (M : Plan) (y : Reading Plan) {v w : ℤ} {x : Winner} → Votes v w x ≡ comparisonCase (judged G M y)
-    → (N : Plan) × (y ≡ accepted N) × (bothVotes v w ≡ bothVotes (voteOf G N M) (voteOf G M N))
-its-votes G M (accepted N) e = (N, refl, ap (λ c. bothVotes (votesIn c .0) (votesIn c .1)) e)
-its-votes G M (reading.refused n) e = absurd (subst (λ c. T (isVotes c)) e tt)
-
-its-refusal : (G : Instance) (M : Plan) (y : Reading Plan) {n : ℕ} {g : Group} → Refused n g ≡ comparisonCase (judged G M y)
-    → (y ≡ reading.refused n) × (refused n (groupShown g) ≡ refusal n)
-its-refusal G M (accepted N) e = absurd (subst (λ c. T (isVotes c)) (sym e) tt)
-its-refusal G M (reading.refused m) {n} {g} e =
-    let i : m ≡ n = ap numberIn (sym e) in (
-      ap reading.refused i,
-      ap (λ k. refused n (groupShown k)) (ap (groupIn g) e) ∙ ap (refused n) (shown-case (groupOf m)) ∙ ap (λ k. refused n (groupOf k)) i,
-    )
-
 -- ---- a proposal, with a roster and a plan held
 module _ (d : Files) (file f k : List ℕ) {l : OnDesk}
     (F : LoadedFrom (rosterBytes d) (planBytes d) true (ltb (length f) pairingSize || ltb (length k) pairingSize) l) (z : l .refusal ≤ 0) where
-  -- what is compared
-  abbrev Compared : Comparison → Type 0
-  Compared c = c ≡ comparisonCase (comparisonOf (shownBy (l .g)) file (planBytes d))
-
-  here : {c : Comparison} → Compared c → (R : Roster) (M : Plan) → readRoster (rosterBytes d) ≡ accepted R → readPlan (instanceOf R) (planBytes d) ≡ accepted M
-      → c ≡ comparisonCase (judged (instanceOf R) M (readPlan (instanceOf R) file))
-  here {c} e R M a b = subst (λ G. c ≡ comparisonCase (comparisonOf G file (planBytes d))) (F .instance R a .1) e
-      ∙ ap comparisonCase (judged-is (instanceOf R) M file (planBytes d) b)
+  abbrev G : Instance
+  G = shownBy (l .g)
 
   answers : (R : Roster) (M : Plan) (y : Reading Plan) → readPlan (instanceOf R) file ≡ y
       → proposalAnswer (instanceOf R) M y ≡ answerOn chosen (heldProposal R M (other d R)) (propose file f k)
@@ -116,45 +58,51 @@ module _ (d : Files) (file f k : List ℕ) {l : OnDesk}
       let h = heldProposal R M (other d R) in
       ap (withProposal h R M) (sym e) ∙ of-plan h (λ r M. withProposal h r M (readPlan (instanceOf r) file)) R M (other d R)
 
-  -- the pairings that are written
-  abbrev pub PairedAs : (f′ k′ : List ℕ) → Type 0
-  PairedAs f′ k′ = Paired (pairingsOf (shownBy (l .g)) file (planBytes d)) f k f′ k′
-
-  lends : {f′ k′ : List ℕ} → PairedAs f′ k′ → (R : Roster) (M : Plan) → readRoster (rosterBytes d) ≡ accepted R
-      → readPlan (instanceOf R) (planBytes d) ≡ accepted M
-      → propose file f′ k′ ≡ lentOn chosen (heldProposal R M (other d R)) (propose file f k)
-  lends P R M a b =
-      ap₂ (propose file) (P .first) (P .second)
-      ∙ ap (λ G. pairingsOnto (propose file) (pairingsOf G file (planBytes d)) f k) (F .instance R a .1)
-      ∙ ap (λ p. pairingsOnto (propose file) p f k) (paired-is (instanceOf R) M file (planBytes d) b)
+  lends : (R : Roster) (M : Plan) (y : Reading Plan) → readPlan (instanceOf R) file ≡ y
+      → pairingsOnto (propose file) (proposalPairings (instanceOf R) M y) f k ≡ lentOn chosen (heldProposal R M (other d R)) (propose file f k)
+  lends R M y e = ap (λ y. pairingsOnto (propose file) (proposalPairings (instanceOf R) M y) f k) (sym e)
       ∙ of-plan (propose file f k) (λ r M. pairingsOnto (propose file) (proposalPairings (instanceOf r) M (readPlan (instanceOf r) file)) f k) R M (other d R)
 
-  pub propose-refused : {n : ℕ} {g : Group} {f′ k′ : List ℕ} → Compared (Refused n g) → PairedAs f′ k′
-      → Replied d (propose file f k) (refused n (groupShown g)) (propose file f′ k′) d
-  propose-refused e P = given (its-plan z F) (λ (R, M, a, b).
-      given (its-refusal (instanceOf R) M (readPlan (instanceOf R) file) (here e R M a b)) (λ (y, q).
-      passes d (propose file f k) tt tt (state-is d F) z (heldProposal R M (other d R)) (plan-held d R M a b) (q ∙ answers R M (reading.refused _) y)
-      (lends P R M a b)
-      (holds R M (reading.refused _) y) refl))
+  -- the held plan, as it is read against the roster held
+  pub held-planned : Planned (l .g) (l .plan) (l .n) (l .edges)
+  held-planned = given (its-plan z F) (λ (R, M, a, b).
+      let P = F .planned R a tt M b .0 in
+      record {
+        matching = subst (Matching G) (sym (fun-ext (P .flags))) (plan-matching G (F .instance R a .0 .lawful) (P .within));
+        listed = P .listed;
+      })
 
-  module _ {v w : ℤ} {x : Winner} (e : Compared (Votes v w x)) where
+  pub propose-refused : {n : ℕ} (g : Group) → readPlan G file ≡ reading.refused n → groupShown g ≡ groupOf n
+      → Replied d (propose file f k) (refused n (groupShown g)) (propose file f k) d
+  propose-refused {n} g y q = given (its-plan z F) (λ (R, M, a, b).
+      let y = ap (λ G. readPlan G file) (sym (F .instance R a .1)) ∙ y in
+      passes d (propose file f k) tt tt (state-is d F) z (heldProposal R M (other d R)) (plan-held d R M a b)
+      (ap (refused n) q ∙ answers R M (reading.refused n) y) (lends R M (reading.refused n) y) (holds R M (reading.refused n) y) refl)
+
+  -- the file's plan N, by its flags, and the votes of both plans
+  module _ (N : Plan) (y : readPlan G file ≡ accepted N) (p : List Bool) (same : flag p ≡ on N) where
     pub proposal-small : T (isBytes file) → length file ≤ planSize
-    proposal-small isB = given (its-plan z F) (λ (R, M, a, b).
-        given (its-votes (instanceOf R) M (readPlan (instanceOf R) file) (here e R M a b)) (λ (N, y, q). plan-accepted-size (instanceOf R) file N isB y))
+    proposal-small isB = plan-accepted-size G file N isB y
 
-    pub propose-taken : {v′ w′ : ℤ} {f′ k′ : List ℕ} → v′ ≡ v → w′ ≡ w → PairedAs f′ k′ → (d′ : Files) → ProposalIn file true d d′
-        → Replied d (propose file f k) (bothVotes v′ w′) (propose file f′ k′) d′
-    propose-taken i j P d′ ((m, r), (n, p), g) = given (its-plan z F) (λ (R, M, a, b).
-        given (its-votes (instanceOf R) M (readPlan (instanceOf R) file) (here e R M a b)) (λ (N, y, q).
+    pub propose-taken : {v w : ℤ} {f′ k′ : List ℕ} → v ≡ voteOf G p (l .plan) → w ≡ voteOf G (l .plan) p → Paired (bothPairings G p (l .plan)) f k f′ k′
+        → (d′ : Files) → ProposalIn file true d d′ → Replied d (propose file f k) (bothVotes v w) (propose file f′ k′) d′
+    propose-taken i j P d′ ((m, r), (n, q), g) = given (its-plan z F) (λ (R, M, a, b).
+        let is = F .instance R a .1 in
+        let y = ap (λ G. readPlan G file) (sym is) ∙ y in
+        let held = fun-ext (F .planned R a tt M b .0 .flags) in
         let s = passed d (propose file f k) tt tt (state-is d F) z in
         let h = heldProposal R M (other d R) in
         record {
-          answer = ap₂ bothVotes i j ∙ q ∙ answers R M (accepted N) y ∙ ap (λ h. answerOn chosen h (propose file f k)) (sym (plan-held d R M a b))
-              ∙ pass-answer (heldOf d) (propose file f k) s;
-          lent = lends P R M a b ∙ ap (λ h. lentOn chosen h (propose file f k)) (sym (plan-held d R M a b)) ∙ pass-lent (heldOf d) (propose file f k) s;
+          answer = ap₂ bothVotes i j ∙ ap₂ (λ x z. bothVotes (vote G x z) (vote G z x)) same held
+              ∙ ap (λ G. bothVotes (voteOf G N M) (voteOf G M N)) is ∙ answers R M (accepted N) y
+              ∙ ap (λ h. answerOn chosen h (propose file f k)) (sym (plan-held d R M a b)) ∙ pass-answer (heldOf d) (propose file f k) s;
+          lent = ap₂ (propose file) (P .first) (P .second)
+              ∙ ap₂ (λ x z. pairingsOnto (propose file) (pairingBytes G x z, pairingBytes G z x) f k) same held
+              ∙ ap (λ G. pairingsOnto (propose file) (bothPairings G N M) f k) is ∙ lends R M (accepted N) y
+              ∙ ap (λ h. lentOn chosen h (propose file f k)) (sym (plan-held d R M a b)) ∙ pass-lent (heldOf d) (propose file f k) s;
           desk = roster-held d′ R (ap readRoster (ap₂ take m r) ∙ a)
-              ∙ ap₂ (λ g q. beside g (heldPlan R (readPlan (instanceOf R) q))) g (ap₂ take n p)
+              ∙ ap₂ (λ g q. beside g (heldPlan R (readPlan (instanceOf R) q))) g (ap₂ take n q)
               ∙ ap (λ y. beside file (heldPlan R y)) b ∙ ap (heldProposal R M) y ∙ holds R M (accepted N) y
               ∙ ap (λ h. deskOn h (propose file f k)) (sym (plan-held d R M a b)) ∙ pass-desk (heldOf d) (propose file f k) s;
-          stored = ((m, r), (n, p), g);
-        }))
+          stored = ((m, r), (n, q), g);
+        })

@@ -2,10 +2,10 @@
 ghost use Rattle.model_desk.specs.Desk.{propose};
 ghost use Rattle.answers.specs.ProposalCases.{proposalShown};
 ghost use Rattle.desk_files.specs.Replies.{Replied};
-use answers::Comparison;
 use answers::Proposal;
 use desk_files::Files;
 use limits::PAIRING_SIZE;
+use plan_reader::PlanAnswer;
 
 // the files afterwards, and the answer
 pub struct Proposed {
@@ -13,8 +13,8 @@ pub struct Proposed {
     pub answer: Proposal,
 }
 
-// A plan file beside the held plan (request W-207), "and returns both votes". It is compared with the held plan's file as two files are, the new one
-// first: that is judged in full, and the held plan is one of the roster. The pairings of both votes (W-208) go to two buffers, its own first.
+// A plan file beside the held plan (request W-207), "and returns both votes": the file is judged in full, then its plan and the held one vote, the new
+// one first. The pairings of both votes (W-208) go to two buffers, its own first.
 pub fn propose(files: Files, file: &[u8], forward: &mut [u8], back: &mut [u8]) -> Proposed
     ensures { λ r. ⌜ Replied files (propose (now (file .entry)) (now (forward .entry)) (now (back .entry))) (proposalShown (r .answer))
         (propose (now (file .entry)) (now (forward .exit)) (now (back .exit))) (r .files) ⌝ }
@@ -31,19 +31,23 @@ pub fn propose(files: Files, file: &[u8], forward: &mut [u8], back: &mut [u8]) -
             answer: Proposal::Refused(n, answers::group_of(n)),
         };
     }
-    let array = files.plan;
-    let held = desk_files::front(&array, files.plan_len);
-    let c = compare::compare(l.g, file, held, forward, back);
-    match c {
-        Comparison::Refused(number, group) => Proposed {
+    let read = plan_reader::read_against(l.g, file, true);
+    let a = read.answer;
+    match a {
+        PlanAnswer::Refused(number) => Proposed {
             files: files,
-            answer: Proposal::Refused(number, group),
+            answer: Proposal::Refused(number, answers::group_of(number)),
         },
-        Comparison::Votes(v, w, _) => {
+        PlanAnswer::Accepted(k) => {
+            let plan = read.chosen;
+            let edges = read.edges;
+            let held = l.plan;
+            let list = l.edges;
+            let both = compare::both_votes(l.g, &plan, k, &edges, &held, l.n, &list, forward, back);
             let beside = desk_intake::with_proposal(files, file);
             Proposed {
                 files: beside,
-                answer: Proposal::Votes(v, w),
+                answer: Proposal::Votes(both.first, both.second),
             }
         }
     }

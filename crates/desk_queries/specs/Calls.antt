@@ -2,24 +2,23 @@
 use Prim.Native.Nat.{ℕ, _≤_}
 use mathlib.Core.Path.{_≡_, refl, ap, ap₂, _∙_, fun-ext}
 use mathlib.Core.Bool.{Bool, true, false, _||_}
-use mathlib.Core.List.{List, map}
+use mathlib.Core.List.{List}
 use lib.ListN.{length}
 use lib.Dec.{ltb}
 use Rattle.lists.specs.Test.{given}
-use Rattle.lists.specs.Sum.{range}
 use Rattle.model.specs.Limits.{planSize, pairingSize}
 use Rattle.model.specs.Refusal.{groupOf}
 use Rattle.model.specs.Instance.{Instance}
 use Rattle.model.specs.Edges.{instanceOf}
 use Rattle.model.specs.Plans.{Plan, on, verdictOf}
-use Rattle.model.specs.PlanFile.{edgesIn, readPlan}
+use Rattle.model.specs.PlanFile.{readPlan}
 use Rattle.model.specs.Blocking.{someBlocks, topBlocking}
 use Rattle.model_desk.specs.Compare as outcome
 use Rattle.model_desk.specs.Compare.{winnerPart, partOf, comparisonOf, pairingsOf}
 use Rattle.model_desk.specs.Desk.{judge, compare, blocking, refusal, votes, refusedPart, verdictAnswer}
 use Rattle.model_desk.specs.Desk.{verdictWritten, comparisonAnswer, blockingAnswer, pairingsOnto}
 use Rattle.theory_verdict.specs.Rival.{rivalOf}
-use Rattle.arrays.specs.ArrayInstance.{at, flag}
+use Rattle.arrays.specs.ArrayInstance.{flag}
 use Rattle.answers.specs.declared.Verdict.{Verdict}
 use Rattle.answers.specs.declared.Comparison.{Comparison}
 use Rattle.answers.specs.declared.Blocked.{Blocked}
@@ -28,6 +27,7 @@ use Rattle.answers.specs.VerdictCases.{verdictShown}
 use Rattle.answers.specs.ComparisonCases.{comparisonShown, comparisonCase, winner-shown}
 use Rattle.answers.specs.BlockedCases.{blockedShown}
 use Rattle.instance.specs.Decoded.{shownBy}
+use Rattle.plan_lookup.specs.PlanEdges.{Listed}
 use Rattle.verdict.specs.Weighing.{Shows, WeighedFor, PairedFor, desk-answer, desk-written}
 use Rattle.compare.specs.TwoPlans.{Paired}
 use Rattle.blocking_search.specs.Blocking.{blockedBy, blocked-shown, same-plan}
@@ -68,7 +68,7 @@ module _ (d : Files) {short : Bool} {l : OnDesk} (F : LoadedFrom (rosterBytes d)
   pub plan-shown : (M : Plan) × Shows (shownBy (l .g)) (l .plan) M
   plan-shown = given (its-plan-held d F z) (λ (R, M, e, s, P, w). (M, (P .within, P .flags)))
 
-  pub plan-listed : edgesIn (l .g .m) (flag (l .plan)) ≡ map (at (l .edges)) (range 0 (l .n))
+  pub plan-listed : Listed (l .g .m) (l .plan) (l .n) (l .edges)
   plan-listed = given (its-plan-held d F z) (λ (R, M, e, s, P, w). P .listed)
 
   pub judge-reply : (out f : List ℕ) {v : Verdict} {after f′ : List ℕ} → short ≡ ltb (length out) planSize || ltb (length f) pairingSize

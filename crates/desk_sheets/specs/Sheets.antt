@@ -5,8 +5,8 @@ use mathlib.Core.Path.{_≡_, refl, sym, ap, ap₂, _∙_, subst}
 use mathlib.Core.Bool.{Bool, true}
 use mathlib.Core.List.{List, map, _++_}
 use mathlib.Core.Option.{some}
-use lib.ListN.{length, take, drop, getD, length-map}
-use lib.Seq.{getD-take}
+use lib.ListN.{length, take, drop, getD}
+use lib.Seq.{getD-take, length-take-le}
 use lib.Dec.{ltb, eqb}
 use Rattle.lists.specs.Test.{given}
 use Rattle.lists.specs.Sum.{_∈_, range, ∈-range, range-length, count, count-cong}
@@ -25,7 +25,7 @@ use Rattle.theory_files.specs.Chosen.{plan-within}
 use Rattle.theory_files.specs.PlanFiles.{plan-few}
 use Rattle.theory_days.specs.Sheets.{spreadBy, spreadOf, sheet-holds, days-many, entries-at}
 use Rattle.arrays.specs.ArrayInstance.{at, flag}
-use Rattle.arrays.specs.Kept.{front-is}
+use Rattle.plan_lookup.specs.PlanEdges.{Listed}
 use Rattle.answers.specs.declared.Written.{Written}
 use Rattle.answers.specs.WrittenCases.{writtenShown}
 use Rattle.instance.specs.Decoded.{shownBy}
@@ -59,22 +59,11 @@ at-node K p edges n e front v =
 -- the list of a plan's edges, as the call has it
 module _ (d : Files) {short : Bool} {l : OnDesk} (F : LoadedFrom (rosterBytes d) (planBytes d) true short l) (z : l .refusal ≤ 0)
     (full : length (l .edges) ≡ 64) where
+  listed : Listed (l .g .m) (l .plan) (l .n) (l .edges)
+  listed = given (its-plan-held d F z) (λ (R, M, e, s, P, w). P .listed)
+
   count-is : l .n ≡ length (edgesIn (l .g .m) (flag (l .plan)))
-  count-is = given (its-plan-held d F z) (λ (R, M, e, s, P, w).
-      sym (ap length (P .listed) ∙ length-map (range 0 (l .n)) (at (l .edges)) ∙ range-length 0 (l .n)))
-
-  few : l .n ≤ planLimit
-  few = given (its-plan-held d F z) (λ (R, M, e, s, P, w).
-      omega (
-        arith,
-        count-is,
-        ap (λ f. length (edgesIn (l .g .m) f)) (λ i k. P .flags k i),
-        plan-few (shownBy (l .g)) (arrays-are d F z .fileable) M
-            (P .within),
-      ))
-
-  front : take (l .n) (l .edges) ≡ edgesIn (l .g .m) (flag (l .plan))
-  front = given (its-plan-held d F z) (λ (R, M, e, s, P, w). front-is (l .edges) (l .n) (omega (arith, few)) ∙ sym (P .listed))
+  count-is = omega (arith, length-take-le (l .n) (l .edges) (listed .there), ap length (listed .are))
 
   -- no node has more entries than there are days
   few-at : (v : ℕ) → (count (λ j. eqb (at (l .g .sv) (at (l .edges) j)) v) (l .n) ≤ lastDay)
@@ -86,13 +75,13 @@ module _ (d : Files) {short : Bool} {l : OnDesk} (F : LoadedFrom (rosterBytes d)
       let match = within-matching G (on M) (A .lawful) (plan-within G (P .within)) in (
         omega (
           arith,
-          at-node (surveyors G) (flag (l .plan)) (l .edges) (l .n) count-is front v,
+          at-node (surveyors G) (flag (l .plan)) (l .edges) (l .n) count-is (listed .are) v,
           ap (λ p. deg
               (surveyors G) p v) f,
           match .atS v,
           A .quotas v .0,
         ),
-        omega (arith, at-node (stands G) (flag (l .plan)) (l .edges) (l .n) count-is front v, ap (λ p. deg (stands G) p v) f, match .atT v, A .quotas v .1),
+        omega (arith, at-node (stands G) (flag (l .plan)) (l .edges) (l .n) count-is (listed .are) v, ap (λ p. deg (stands G) p v) f, match .atT v, A .quotas v .1),
       ))
 
   -- what the spreading asks for
@@ -101,10 +90,10 @@ module _ (d : Files) {short : Bool} {l : OnDesk} (F : LoadedFrom (rosterBytes d)
       × ((v : ℕ) → (count (λ j. eqb (at (l .g .sv) (at (l .edges) j)) v) (l .n) ≤ lastDay)
       × (count (λ j. eqb (at (l .g .st) (at (l .edges) j)) v) (l .n) ≤ lastDay))
   asked = (
-    few,
-    omega (arith, few),
+    listed .few,
+    omega (arith, listed .few),
     (λ k h.
-        let m = subst (λ xs. getD xs k 0 ∈ edgesIn (l .g .m) (flag (l .plan))) (sym front)
+        let m = subst (λ xs. getD xs k 0 ∈ edgesIn (l .g .m) (flag (l .plan))) (sym (listed .are))
         (getD-∈ (edgesIn (l .g .m) (flag (l .plan))) k 0 (omega (arith, count-is))) in
         let b = ∈-range (l .g .m) 0 (∈-keep (flag (l .plan)) (range 0 (l .g .m)) m .0) .1 in
         omega (arith, b, getD-take (l .n) (l .edges) k 0 h, arrays-are d F z .edges)),
@@ -119,7 +108,7 @@ module _ (d : Files) {short : Bool} {l : OnDesk} (F : LoadedFrom (rosterBytes d)
       let G = shownBy (l .g) in
       let f : flag (l .plan) ≡ on M = (λ i k. P .flags k i) in
       let days : spreadBy (at (l .g .sv)) (at (l .g .st)) (take (l .n) (l .edges)) ≡ spreadOf G M = ap (spreadBy (at (l .g .sv)) (at (l .g .st)))
-      (front ∙ ap (edgesIn (l .g .m)) f) in
+      (listed .are ∙ ap (edgesIn (l .g .m)) f) in
       let many : l .n ≡ length (spreadOf G M) = count-is ∙ ap (λ p. length (edgesIn (l .g .m) p)) f ∙ sym (days-many G M) in
       passes d (spread out) tt tt (state-is d F ∙ ap (stateNumber (heldOf d) true) s) z (heldProposal R M (other d R)) e
       (ap wrote (many ∙ ap (λ G. length (spreadOf G M)) g) ∙ of-plan (refusal 14) (λ r M. wrote (length (spreadOf (instanceOf r) M))) R M (other d R))

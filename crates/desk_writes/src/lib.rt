@@ -64,7 +64,7 @@ pub fn turned(files: Files, file: &[u8], shifts: bool, out: &mut [u8]) -> Writte
     if 0 < n {
         return Written::Refused(n, answers::group_of(n));
     }
-    let read = desk_loaded::plan_read(l.g, file, shifts);
+    let read = plan_reader::read_against(l.g, file, shifts);
     let a = read.answer;
     plan_turned::turn(a, file, shifts, out)
 }

@@ -13,9 +13,6 @@ use Rattle.model_desk.specs.Desk.{onto}
 use Rattle.theory_files.specs.PlanFiles.{plan-few}
 use Rattle.theory_files.specs.Chosen.{edgesIn-cong}
 use Rattle.arrays.specs.ArrayInstance.{flag}
-use Rattle.arrays.specs.Kept.{front-is}
-use Rattle.plan_lookup.specs.PlanEdges.{Listed}
-use Rattle.rival_search.specs.SearchView.{Lists}
 use Rattle.plan_writer.specs.Written.{WrittenFor}
 use Rattle.instance.specs.declared.Instance as arrays
 use Rattle.instance.specs.Decoded.{shownBy}
@@ -27,10 +24,6 @@ use Rattle.answers.specs.declared.Found as code
 use Rattle.answers.specs.declared.Found.the-variants as says
 use Rattle.answers.specs.declared.NoneKind.the-variants as kind
 use Rattle.finder_candidate.specs.FoundBuffers.{candidate, Wrote}
-
--- ---- a list of a plan's edges, as the search asks for it
-pub lists-are : (m : ℕ) (p : List Bool) (n : ℕ) (es : List ℕ) → Listed m p n es → Lists m p n es
-lists-are m p n es l = sym (l .are) ∙ front-is es n (l .there)
 
 -- ---- a candidate judged
 -- the answer for what is weighed

@@ -2,23 +2,27 @@
 use Prim.Native.Nat.{ℕ, _+_, _≤_, _<_}
 use native.Mathlib.Omega.{arith}
 use native.Mathlib.Numerals.{add-one}
-use mathlib.Core.Path.{_≡_, ap, _∙_}
+use mathlib.Core.Path.{_≡_, sym, ap, _∙_}
 use mathlib.Core.Bool.{Bool, true, cond}
-use mathlib.Core.List.{List, [], _∷_, _++_}
+use mathlib.Core.List.{List, [], _∷_, _++_, map}
 use lib.ListN.{length, take, length-append}
 use Rattle.lists.specs.Sum.{range}
 use Rattle.lists.specs.Keep.{keep}
 use Rattle.lists.specs.Ranges.{keep-last}
 use Rattle.model.specs.Limits.{planLimit}
 use Rattle.model.specs.PlanFile.{edgesIn}
-use Rattle.arrays.specs.ArrayInstance.{flag}
-use Rattle.arrays.specs.Kept.{Kept, keep-few}
+use Rattle.arrays.specs.ArrayInstance.{at, flag}
+use Rattle.arrays.specs.Kept.{Kept, keep-few, front-is}
 
 -- the first n numbers of a list are the plan's edges, ascending
 pub record Listed (m : ℕ) (p : List Bool) (n : ℕ) (es : List ℕ) : Type 0 where
   pub few : n ≤ planLimit
   pub there : n ≤ length es
   pub are : take n es ≡ edgesIn m (flag p)
+
+-- the same number by number
+pub lists-are : (m : ℕ) (p : List Bool) (n : ℕ) (es : List ℕ) → Listed m p n es → edgesIn m (flag p) ≡ map (at es) (range 0 n)
+lists-are m p n es l = sym (l .are) ∙ front-is es n (l .there)
 
 module _ (p : List Bool) (front : List ℕ) (n e m : ℕ) (K : Kept (flag p) front n e) where
   -- one more is chosen below m, so there is room for it

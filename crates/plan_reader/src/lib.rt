@@ -8,7 +8,10 @@ ghost use Rattle.arrays.specs.ArrayInstance.{at};
 ghost use Rattle.arrays.specs.Passes.{Low};
 ghost use Rattle.model.specs.Limits.{nodeLimit, entryLimit, planLimit};
 ghost use Rattle.plan_lookup.specs.PairEdge.{Differ};
-ghost use Rattle.plan_reader.specs.Answers.{ReadFor};
+ghost use Rattle.instance.specs.Decoded.{shownBy};
+ghost use Rattle.instance.specs.Loaded.{Loaded};
+ghost use Rattle.plan_reader.specs.Answers.{ReadAs, ReadFor};
+use instance::Instance;
 use limits::ENTRY_LIMIT;
 use limits::PLAN_LIMIT;
 
@@ -121,4 +124,17 @@ pub fn read_plan(
         };
     }
     read_pairs(m, sv, st, sh, qs, qt, n as usize, file, shifts)
+}
+
+// A plan file, with shifts or without, against the arrays of an accepted roster.
+pub fn read_against(g: Instance, file: &[u8], shifts: bool) -> PlanRead
+    requires { ⌜ Loaded g ⌝ }
+    ensures { λ r. ⌜ ReadAs shifts (shownBy g) (now (file .entry)) r ⌝ }
+{
+    let sv = g.sv;
+    let st = g.st;
+    let sh = g.sh;
+    let qs = g.quota_s;
+    let qt = g.quota_t;
+    read_plan(g.m, &sv, &st, &sh, &qs, &qt, file, shifts)
 }

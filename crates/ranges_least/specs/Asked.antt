@@ -28,7 +28,7 @@ use Rattle.instance.specs.declared.Instance.{Instance}
 use Rattle.instance.specs.Decoded.{shownBy}
 use Rattle.plan_reader.specs.declared.PlanRead.{PlanRead}
 use Rattle.plan_reader.specs.declared.PlanAnswer.the-variants as plan
-use Rattle.plan_reader.specs.Answers.{ReadAs, ReadFor, accepted-read, refused-read}
+use Rattle.plan_reader.specs.Answers.{ReadAs, accepted-read, refused-read}
 use Rattle.arrays.specs.ArrayInstance.{at, flag}
 use Rattle.answers.specs.declared.Group.{Group}
 use Rattle.answers.specs.GroupCases.{groupShown, groupCase, shows-case}
@@ -186,13 +186,9 @@ module _ (G : model.Instance) (out : List ℕ) where
   same-first p M e (accepted N) ranges a = same-plans p M N N e refl (rangesRead (G .m) ranges) a
   same-first p M e (refused n) ranges a = a
 
-module _ (g : Instance) (file : List ℕ) (r : PlanRead) (F : ReadFor true (g .m) (g .sv) (g .st) (g .sh) (g .«quota_s») (g .«quota_t») file r)
-    (out : List ℕ) where
+module _ (g : Instance) (file : List ℕ) (r : PlanRead) (A : ReadAs true (shownBy g) file r) (out : List ℕ) where
   abbrev H : model.Instance
   H = shownBy g
-
-  A : ReadAs true (shownBy g) file r
-  A = F (g .ns) (g .nt) (g .«rank_s») (g .«rank_t») (g .tied)
 
   module _ (p : Plan) (ranges : List ℕ) where
     pub second-refused : {c : ℕ} (k : Group) → r .answer ≡ plan.Refused c → groupShown k ≡ groupOf c

@@ -15,7 +15,7 @@ ghost use Rattle.instance.specs.Decoded.{shownBy};
 ghost use Rattle.instance.specs.Loaded.{Loaded};
 ghost use Rattle.plan_lookup.specs.PlanEdges.{Listed};
 ghost use Rattle.vote_plans.specs.Plan.{Arrays, Light};
-ghost use Rattle.compare.specs.TwoPlans.{Planned};
+ghost use Rattle.plan_reader.specs.Planned.{Planned};
 ghost use Rattle.ranges_choice.specs.Choosing.{Lows};
 ghost use Rattle.ranges_choice.specs.Chosen.{Ranked};
 ghost use Rattle.ranges_least.specs.ChoiceVote.{SideSum};
@@ -139,12 +139,7 @@ pub fn second_judged(
     ensures { λ r. ⌜ Asked (shownBy g) (secondOn (shownBy g) (now (p .entry)) (readPlan (shownBy g) (now (second .entry))) (now (ranges .entry)))
         (now (out .entry)) r (now (out .exit)) ⌝ }
 {
-    let sv = g.sv;
-    let st = g.st;
-    let sh = g.sh;
-    let qs = g.quota_s;
-    let qt = g.quota_t;
-    let read = plan_reader::read_plan(g.m, &sv, &st, &sh, &qs, &qt, second, true);
+    let read = plan_reader::read_against(g, second, true);
     let a = read.answer;
     match a {
         PlanAnswer::Refused(n) => LeastVote::Refused(n, answers::group_of(n)),
@@ -162,12 +157,7 @@ pub fn least(g: Instance, first: &[u8], second: &[u8], ranges: &[u8], out: &mut 
     ensures { λ r. ⌜ Asked (shownBy g) (questionOn (shownBy g) (now (first .entry)) (now (second .entry)) (now (ranges .entry))) (now (out .entry)) r
         (now (out .exit)) ⌝ }
 {
-    let sv = g.sv;
-    let st = g.st;
-    let sh = g.sh;
-    let qs = g.quota_s;
-    let qt = g.quota_t;
-    let read = plan_reader::read_plan(g.m, &sv, &st, &sh, &qs, &qt, first, true);
+    let read = plan_reader::read_against(g, first, true);
     let a = read.answer;
     match a {
         PlanAnswer::Refused(n) => LeastVote::Refused(n, answers::group_of(n)),

@@ -1,7 +1,7 @@
 -- The search below 0, and the search below 1 if that one finds nothing: what is found, by places that are there.
 use Prim.Native.Nat.{ℕ, zero, suc, _+_, _*_, _≤_, _<_}
 use native.Mathlib.Omega.{arith}
-use mathlib.Core.Path.{_≡_, refl, sym, ap, _∙_, subst}
+use mathlib.Core.Path.{_≡_, refl, sym, ap, ap₂, _∙_, subst}
 use mathlib.Core.Bool.{Bool, true, false, cond}
 use mathlib.Core.Option.{orElse}
 use mathlib.Core.List.{List}
@@ -10,13 +10,14 @@ use borrow.Author.Tests.{lt-ltb, le-ltb}
 use Rattle.lists.specs.Test.{if-ind}
 use Rattle.lists.specs.Search.{low, low-is}
 use Rattle.model.specs.Instance.{Instance}
-use Rattle.rival_tables.specs.Filled.{cell, Grid}
-use Rattle.rival_layers.specs.Layers.{layerAt}
+use Rattle.arrays.specs.ArrayInstance.{at}
+use Rattle.rival_tables.specs.Filled.{cell, Grid, Rows}
+use Rattle.rival_layers.specs.Layers.{layerAt, Small, Cheap}
 use Rattle.rival_levels.specs.declared.Found.the-variants as found
 use Rattle.rival_levels.specs.declared.Found.{Found}
-use Rattle.rival_levels.specs.Levels.{diagAt, endsAt, levelLoop, levelRow, levelColumn, levelChange, levelsAt}
+use Rattle.rival_levels.specs.Levels.{diagAt, endsAt, levelLoop, levelRow, levelColumn, levelChange, levelsAt, SmallEnds}
 use Rattle.rival_laws.specs.Walks.{hitOf, searchAt}
-use Rattle.rival_search.specs.SearchView.{freeAt, terminalCell}
+use Rattle.rival_search.specs.SearchView.{freeAt, arcCell, terminalCell, arc-small, arc-cheap, but-small}
 
 -- whether it was found below 0, and what
 abbrev pub searched : Found → Found → Bool × Found
@@ -118,3 +119,26 @@ searching-bounded m sv st rs rt plan n ps pt rps rpt roomS roomT arcs below what
   where
     free : ℕ → Bool
     free = freeAt sv st plan roomS roomT
+
+-- ---- the two tables of a plan are what the searches ask for, and where no edge has room at both ends what they find is what is searched for
+module _ (m : ℕ) (sv st rs rt : List ℕ) (plan : List Bool) (n : ℕ) (ps pt rps rpt : List ℕ) (roomS roomT : List Bool) (arcs ends : List ℕ)
+    (arcsShow : Rows arcs n (arcCell m sv st rs rt plan ps pt rps rpt)) (endsShow : Grid ends n (terminalCell m sv st rs rt plan roomS roomT ps pt rps rpt)) where
+  pub tables-fine : Small n arcs × Cheap n arcs × SmallEnds n ends
+  tables-fine = (
+    (λ i j h k. omega (arith, arcsShow i j h k, arc-small m sv st rs rt plan (at pt i) (at rpt i) (at ps j) (at rps j))),
+    (λ i j h k l. omega (
+      arith,
+      arcsShow i j h k,
+      arc-cheap m sv st rs rt plan (at pt i) (at rpt i) (at ps j) (at rps j) (omega (arith, arcsShow i j h k)),
+    )),
+    (λ i j h k. omega (arith, endsShow i j h k, but-small m sv st rs plan roomT (at ps i) (at rps i) (at pt j))),
+  )
+
+  pub tables-searched : m ≤ low (freeAt sv st plan roomS roomT) m → (below : Bool) (what : Found) → OnTables arcs ends n below what
+      → Searched m sv st rs rt plan n ps pt rps rpt roomS roomT arcs below what
+  tables-searched h below what e =
+      let free = freeAt sv st plan roomS roomT in (
+        ends,
+        endsShow,
+        e ∙ sym (ap₂ (λ (f g : Found). searched f g) (search-places m free arcs ends n (low free m) refl 0 h) (search-places m free arcs ends n (low free m) refl 1 h)),
+      )

@@ -1,20 +1,19 @@
-// The search for a rival of a plan: the table of the ends, then on it and on the table of the arcs the search below 0, and the search below 1 if that one
+// The search for a rival of a plan: the table of the ends; and on it and on the table of the arcs the search below 0, and the search below 1 if that one
 // finds nothing. hs and ls are the links through the edges of each surveyor, ht and lt those of each stand: first edges and next ones.
 ghost use mathlib.Core.Path.{_≡_};
 ghost use mathlib.Core.Logic.{_⊎_};
 ghost use mathlib.Core.Bool.{true};
 ghost use Prim.Native.Nat.{ℕ, _≤_, _<_};
-ghost use Rattle.lists.specs.Search.{low};
 ghost use Rattle.model.specs.Limits.{entryLimit, nodeLimit, planLimit};
 ghost use Rattle.arrays.specs.Passes.{Low};
 ghost use Rattle.edge_links.specs.Linked.{Linked};
-ghost use Rattle.rival_tables.specs.Filled.{Grid, Rows};
+ghost use Rattle.rival_tables.specs.Filled.{Grid};
 ghost use Rattle.rival_layers.specs.Layers.{Small, Cheap};
 ghost use Rattle.rival_levels.specs.Levels.{SmallEnds};
 ghost use Rattle.rival_levels.specs.declared.Found.the-variants as found;
 ghost use Rattle.rival_certificate.specs.Certified.{Closed};
-ghost use Rattle.rival_search.specs.SearchView.{freeAt, arcCell, terminalCell};
-ghost use Rattle.rival_search.specs.TwoThresholds.{placesAt, OnTables, Searched};
+ghost use Rattle.rival_search.specs.SearchView.{terminalCell};
+ghost use Rattle.rival_search.specs.TwoThresholds.{placesAt, OnTables};
 
 // The table of the ends, from the ends and ranks of the plan's edges and the room at the nodes. Where no node has room, as in every plan of 64 edges,
 // nothing can be gained: each edge of the plan is lost at both ends, which costs 6.
@@ -128,7 +127,7 @@ fn searched_by_costs(n: usize, arcs: &[u8; 4096], ends: &[u8; 4096]) -> Hunt
 }
 
 // Both searches on the two tables. Most plans that are beaten are so by a walk of the first two levels.
-fn searched_on(n: usize, arcs: &[u8; 4096], ends: &[u8; 4096]) -> Hunt
+pub fn searched_on(n: usize, arcs: &[u8; 4096], ends: &[u8; 4096]) -> Hunt
     requires { ⌜ (n ≤ planLimit) × Small n (now arcs) × Cheap n (now arcs) × SmallEnds n (now ends) ⌝ }
     ensures { λ r. ⌜ OnTables (now (arcs .entry)) (now (ends .entry)) n (r .below) (r .found) ⌝ }
 {
@@ -140,57 +139,4 @@ fn searched_on(n: usize, arcs: &[u8; 4096], ends: &[u8; 4096]) -> Hunt
             found: first,
         },
     }
-}
-
-// The search below 0, and the search below 1 if that one finds nothing, where no edge has room at both ends; from the ends and ranks of the plan's
-// edges, the room at the nodes and the table of the arcs.
-pub fn searched(
-    m: usize,
-    sv: &[u8; 1024],
-    st: &[u8; 1024],
-    rs: &[u8; 1024],
-    rt: &[u8; 1024],
-    plan: &[bool; 1024],
-    hs: &[u16; 32],
-    ls: &[u16; 1024],
-    ht: &[u16; 32],
-    lt: &[u16; 1024],
-    n: usize,
-    ps: &[u8; 64],
-    pt: &[u8; 64],
-    rps: &[u8; 64],
-    rpt: &[u8; 64],
-    fs: &[bool; 32],
-    ft: &[bool; 32],
-    arcs: &[u8; 4096],
-) -> Hunt
-    requires { ⌜ (m ≤ entryLimit) × (n ≤ planLimit) × Low m (now sv) nodeLimit × Low m (now st) nodeLimit
-        × Linked m (now sv) (now hs) (now ls) × Linked m (now st) (now ht) (now lt)
-        × Low n (now ps) nodeLimit × Low n (now pt) nodeLimit
-        × Rows (now arcs) n (arcCell m (now sv) (now st) (now rs) (now rt) (now plan) (now ps) (now pt) (now rps) (now rpt))
-        × (m ≤ low (freeAt (now sv) (now st) (now plan) (now fs) (now ft)) m) ⌝ }
-    ensures { λ r. ⌜ Searched m (now (sv .entry)) (now (st .entry)) (now (rs .entry)) (now (rt .entry)) (now (plan .entry)) n (now (ps .entry))
-        (now (pt .entry))
-        (now (rps .entry)) (now (rpt .entry)) (now (fs .entry)) (now (ft .entry)) (now (arcs .entry)) (r .below) (r .found) ⌝ }
-{
-    let ends = terminal_table(
-        m,
-        sv,
-        st,
-        rs,
-        rt,
-        plan,
-        hs,
-        ls,
-        ht,
-        lt,
-        n,
-        ps,
-        pt,
-        rps,
-        rpt,
-        fs,
-        ft,
-    );
-    searched_on(n, arcs, &ends)
 }

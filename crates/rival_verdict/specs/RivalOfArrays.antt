@@ -21,12 +21,13 @@ use Rattle.theory_verdict.specs.Search.{Hit, rivalBy, search, judge, verdictBy,
 use Rattle.theory_verdict.specs.Rival.{lid, sizeOf, computedVerdict, rivalOf, computed-verdict}
 use Rattle.arrays.specs.ArrayInstance.{at, flag, shown}
 use Rattle.arrays.specs.Passes.{Shows, Low}
-use Rattle.rival_tables.specs.Filled.{Grid, Rows, tableOf, table-rows}
+use Rattle.rival_tables.specs.Filled.{Grid, Rows, cell, tableOf, table-rows}
 use Rattle.rival_levels.specs.declared.Found.the-variants as found
 use Rattle.rival_levels.specs.declared.Found.{Found}
+use Rattle.rival_levels.specs.Levels.{diagAt}
 use Rattle.rival_laws.specs.Walks.{hitOf, searchAt}
 use Rattle.rival_search.specs.SearchView.{Lists, Views, Roomy, freeAt, arcCell, terminalCell, search-shown, arc-shown, terminal-shown, room-S, room-T}
-use Rattle.rival_search.specs.TwoThresholds.{searched, Searched, search-direct, searched-hit, searching-bounded}
+use Rattle.rival_search.specs.TwoThresholds.{searched, Searched, out-alone, search-direct, search-places, searched-hit, searching-bounded}
 use Rattle.rival_verdict.specs.Judged.{isSomething, verdictFor, verdict-hits}
 use Rattle.rival_exchange.specs.Swaps.{Marks, goneBy, comeBy, rivalAt, rival-at, shows-plan}
 
@@ -154,3 +155,26 @@ module _ (m : ℕ) (sv st rs rt quotaS quotaT : List ℕ) (plan : List Bool) (n 
 
       terminals : List ℕ
       terminals = tableOf (terminalCell m sv st rs rt plan roomS roomT ps pt qs qt) (n * 64)
+
+-- ---- so does an edge of the plan that is better exchanged alone, where none has room at both ends; the table of the arcs need not be there
+module _ (m : ℕ) (sv st rs rt quotaS quotaT : List ℕ) (plan : List Bool) (n : ℕ) (es ps pt qs qt : List ℕ) (roomS roomT : List Bool)
+    (fits : n ≤ 64) (lowS : Low m sv 32) (lowT : Low m st 32) (lists : Lists m plan n es) (views : Views n es sv st rs rt ps pt qs qt)
+    (roomyS : Roomy n ps quotaS roomS) (roomyT : Roomy n pt quotaT roomT) (shut : m ≤ low (freeAt sv st plan roomS roomT) m)
+    (ends : List ℕ) (endsShow : Grid ends n (terminalCell m sv st rs rt plan roomS roomT ps pt qs qt)) where
+  abbrev arcs₀ : List ℕ
+  arcs₀ = tableOf (arcCell m sv st rs rt plan ps pt qs qt) (n * 64)
+
+  pub alone-shown : (i : ℕ) (gone come rival : List Bool) → i ≡ diagAt (cell ends) n 4 → i < n
+      → Marks gone (goneBy m sv st rs rt plan roomS roomT es arcs₀ n (found.Alone i))
+      → Marks come (comeBy m sv st rs rt plan roomS roomT es arcs₀ n (found.Alone i))
+      → Shows false rival m (λ e. (flag plan e && not (flag gone e)) || flag come e) → RivalShown m sv st rs rt quotaS quotaT plan beaten rival
+  alone-shown i gone come rival e h = found-shown m sv st rs rt quotaS quotaT plan n es ps pt qs qt roomS roomT arcs₀ true (found.Alone i) fits lowS lowT
+      lists views roomyS roomyT (table-rows (arcCell m sv st rs rt plan ps pt qs qt) n) (
+        ends,
+        endsShow,
+        ap (λ (a : Found). searched a (searchAt m free arcs₀ ends n 1))
+            (out-alone arcs₀ ends n 0 i e h ∙ sym (search-places m free arcs₀ ends n (low free m) refl 0 shut)),
+      ) beaten gone come rival refl
+    where
+      free : ℕ → Bool
+      free = freeAt sv st plan roomS roomT

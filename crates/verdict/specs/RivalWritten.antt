@@ -1,16 +1,16 @@
 -- What the code finds on its ways, and that the promised answers follow.
 use Prim.Native.Nat.{ℕ, _≤_}
-use native.Mathlib.Omega.{arith}
 use mathlib.Core.Path.{_≡_, refl, sym, ap, ap₂, _∙_, subst, fun-ext}
-use mathlib.Core.Bool.{Bool, true, false}
+use mathlib.Core.Bool.{Bool, true, false, not, cond, _||_}
 use mathlib.Core.List.{List, _∷_}
-use lib.ListN.{length, length-map}
+use lib.ListN.{length}
 use lib.Dec.{T}
 use lib.IntN.{ℤ}
-use Rattle.lists.specs.Sum.{_∈_, range, range-length}
+use Rattle.lists.specs.Sum.{_∈_}
+use Rattle.model.specs.Limits.{planLimit}
 use Rattle.model.specs.Instance as model
 use Rattle.model.specs.Vote.{vote}
-use Rattle.model.specs.Plans.{Plan, on, plansOf, Verdict, voteOf, verdictOf}
+use Rattle.model.specs.Plans.{Plan, on, plansOf, Verdict, voteOf, verdictOf, isStrong}
 use Rattle.model.specs.Plans as verdict
 use Rattle.model.specs.PlanFile.{edgesIn, pairList, planBytesBy, planBytes}
 use Rattle.model.specs.Facing.{pairingBytes}
@@ -19,16 +19,17 @@ use Rattle.theory_instance.specs.Lawful.{Matching}
 use Rattle.theory_files.specs.PlanFiles.{plan-few}
 use Rattle.theory_verdict.specs.Plans.{plan-matching}
 use Rattle.theory_verdict.specs.Rival.{rivalOf, beaten-rival, popular-rival}
-use Rattle.arrays.specs.ArrayInstance.{at, flag}
+use Rattle.arrays.specs.ArrayInstance.{flag}
 use Rattle.instance.specs.declared.Instance.{Instance}
 use Rattle.instance.specs.Decoded.{shownBy}
 use Rattle.instance.specs.Loaded.{Loaded}
 use Rattle.plan_writer.specs.Written.{WrittenFor}
-use Rattle.rival_search.specs.SearchView.{Lists}
+use Rattle.plan_lookup.specs.PlanEdges.{Listed}
+use Rattle.rival_verdict.specs.Judged.{verdictFor}
 use Rattle.rival_verdict.specs.RivalOfArrays.{RivalShown, shown-verdict, shown-rival}
 use Rattle.answers.specs.declared.Verdict as answer
 use Rattle.answers.specs.declared.Verdict.the-variants.{Strong, Popular, Beaten}
-use Rattle.verdict.specs.Weighing.{Shows, weighedAs, rivalWritten, WeighedBy, pairingsWritten, RivalFor, hasRival}
+use Rattle.verdict.specs.Weighing.{Shows, weighedAs, rivalWritten, WeighedBy, pairingsWritten, RivalFor}
 
 -- ---- the vote of one plan against another, whose bytes are written
 pub record Voted (G : model.Instance) (plan rival : List Bool) (out : List ℕ) (v : ℤ) (after : List ℕ) : Type 0 where
@@ -42,18 +43,21 @@ voted g plan rival out a b = record {
   buffer = b (g .ns) (g .nt) (g .«rank_s») (g .«rank_t») (g .tied) (g .«quota_s») (g .«quota_t») rival (λ e l. refl);
 }
 
--- the vote as it is handed on
-pub voted-as : {G : model.Instance} {plan rival : List Bool} {out : List ℕ} {v w : ℤ} {after : List ℕ} → v ≡ w → Voted G plan rival out w after
-    → Voted G plan rival out v after
-voted-as e h = record { vote = e ∙ h .vote; buffer = h .buffer }
+-- the answer as it is handed on
+pub weighed-as : {G : model.Instance} {M : Plan} {out : List ℕ} {a b : answer.Verdict} {after : List ℕ} → a ≡ b → WeighedBy G M out b after
+    → WeighedBy G M out a after
+weighed-as e h = record { reply = e ∙ h .reply; buffer = h .buffer }
 
-pub popular-as : {G : model.Instance} {M : Plan} {out : List ℕ} {v w : ℤ} {after : List ℕ} → v ≡ w → WeighedBy G M out (Popular w) after
-    → WeighedBy G M out (Popular v) after
-popular-as e h = record { reply = ap Popular e ∙ h .reply; buffer = h .buffer }
+-- ---- what the test for a rival says
+pub no-rival : (b r : Bool) → not (b || r) ≡ true → verdictFor b r ≡ verdict.strong
+no-rival true r e = absurd (subst T (sym e) tt)
+no-rival false true e = absurd (subst T (sym e) tt)
+no-rival false false e = refl
 
-pub beaten-as : {G : model.Instance} {M : Plan} {out : List ℕ} {v w : ℤ} {after : List ℕ} → v ≡ w → WeighedBy G M out (Beaten w) after
-    → WeighedBy G M out (Beaten v) after
-beaten-as e h = record { reply = ap Beaten e ∙ h .reply; buffer = h .buffer }
+pub some-rival : (b r : Bool) → not (b || r) ≡ false → verdictFor b r ≡ cond b verdict.beaten verdict.popular
+some-rival true r e = refl
+some-rival false true e = refl
+some-rival false false e = absurd (subst T e tt)
 
 module _ (g : Instance) (L : Loaded g) (plan : List Bool) (M : Plan) (S : Shows (shownBy g) plan M) where
   abbrev G : model.Instance
@@ -61,15 +65,6 @@ module _ (g : Instance) (L : Loaded g) (plan : List Bool) (M : Plan) (S : Shows 
 
   same : flag plan ≡ on M
   same = fun-ext (S .1)
-
-  pub few : (n : ℕ) (es : List ℕ) → Lists (g .m) plan n es → n ≤ 64
-  few n es l =
-      omega (
-        arith,
-        plan-few G (L .fileable) M (S .0),
-        sym (ap (λ (p : ℕ → Bool). length (edgesIn (g .m) p)) same) ∙ ap length l
-            ∙ length-map (range 0 n) (at es) ∙ range-length 0 n,
-      )
 
   pub plan-within : Matching G (flag plan)
   plan-within = subst (Matching G) (sym same) (plan-matching G (L .lawful) (S .0))
@@ -81,80 +76,96 @@ module _ (g : Instance) (L : Loaded g) (plan : List Bool) (M : Plan) (S : Shows 
         shown-verdict (g .m) (g .ns) (g .nt) (g .sv) (g .st) (g .«rank_s») (g .«rank_t») (g .sh) (g .tied) (g .«quota_s») (g .«quota_t») plan v rival R G
         refl M (S .1) (L .lawful) (S .0) (plan-few G (L .fileable) M (S .0))
 
-    pub is-rival : flag rival ≡ on (rivalOf G M)
+    is-rival : flag rival ≡ on (rivalOf G M)
     is-rival =
         fun-ext
         (shown-rival (g .m) (g .ns) (g .nt) (g .sv) (g .st) (g .«rank_s») (g .«rank_t») (g .sh) (g .tied) (g .«quota_s») (g .«quota_t») plan v rival R G
         refl M (S .1))
 
+    -- ---- strong
     pub strong-weighed : (out : List ℕ) → v ≡ verdict.strong → WeighedBy G M out Strong out
     strong-weighed out e =
         let q : verdict.strong ≡ verdictOf G M = sym e ∙ is-verdict in record { reply = ap (weighedAs G M) q; buffer = ap (λ w. rivalWritten G M w out) q }
 
-    -- there is a rival
-    abbrev pub Rivalled : Type 0
-    Rivalled = rivalOf G M ∈ plansOf G
+    -- ---- with a rival
+    module _ (b : Bool) (e : v ≡ cond b verdict.beaten verdict.popular) where
+      there : (b : Bool) → v ≡ cond b verdict.beaten verdict.popular → rivalOf G M ∈ plansOf G
+      there true e = beaten-rival G M (L .lawful) (S .0) (plan-few G (L .fileable) M (S .0)) (sym is-verdict ∙ e) .inQuotas
+      there false e = popular-rival G M (L .lawful) (S .0) (plan-few G (L .fileable) M (S .0)) (sym is-verdict ∙ e) .inQuotas
 
-    pub popular-there : v ≡ verdict.popular → Rivalled
-    popular-there e = popular-rival G M (L .lawful) (S .0) (plan-few G (L .fileable) M (S .0)) (sym is-verdict ∙ e) .inQuotas
+      pub rival-within : Matching G (flag rival)
+      rival-within = subst (Matching G) (sym is-rival) (plan-matching G (L .lawful) (there b e))
 
-    pub beaten-there : v ≡ verdict.beaten → Rivalled
-    beaten-there e = beaten-rival G M (L .lawful) (S .0) (plan-few G (L .fileable) M (S .0)) (sym is-verdict ∙ e) .inQuotas
+      pub rival-few : length (edgesIn (g .m) (flag rival)) ≤ planLimit
+      rival-few = subst (λ (p : ℕ → Bool). length (edgesIn (g .m) p) ≤ planLimit) (sym is-rival) (plan-few G (L .fileable) (rivalOf G M) (there b e))
 
-    pub rival-within : Rivalled → Matching G (flag rival)
-    rival-within k = subst (Matching G) (sym is-rival) (plan-matching G (L .lawful) k)
+      -- its vote and its bytes are the rival's
+      module _ (out : List ℕ) {after : List ℕ} {z : ℤ} (W : Voted G plan rival out z after) where
+        its-vote : z ≡ voteOf G M (rivalOf G M)
+        its-vote = W .vote ∙ ap₂ (vote G) same is-rival
 
-    pub rival-few : Rivalled → length (edgesIn (g .m) (flag rival)) ≤ 64
-    rival-few k = subst (λ (p : ℕ → Bool). length (edgesIn (g .m) p) ≤ 64) (sym is-rival) (plan-few G (L .fileable) (rivalOf G M) k)
+        its-bytes : after ≡ onto (planBytes G (rivalOf G M)) out
+        unfolding planBytesBy
+        its-bytes = W .buffer ∙ ap (λ (p : ℕ → Bool). onto (length (edgesIn (g .m) p) ∷ pairList G (edgesIn (g .m) p)) out) is-rival
 
-    -- its vote and its bytes are the rival's
-    module _ (out : List ℕ) {after : List ℕ} {z : ℤ} (W : Voted G plan rival out z after) where
-      its-vote : z ≡ voteOf G M (rivalOf G M)
-      its-vote = W .vote ∙ ap₂ (vote G) same is-rival
+        weighed-by : (b : Bool) → v ≡ cond b verdict.beaten verdict.popular → WeighedBy G M out (cond b (Beaten z) (Popular z)) after
+        weighed-by true e =
+            let q : verdict.beaten ≡ verdictOf G M = sym e ∙ is-verdict in
+            record { reply = ap Beaten its-vote ∙ ap (weighedAs G M) q; buffer = its-bytes ∙ ap (λ w. rivalWritten G M w out) q }
+        weighed-by false e =
+            let q : verdict.popular ≡ verdictOf G M = sym e ∙ is-verdict in
+            record { reply = ap Popular its-vote ∙ ap (weighedAs G M) q; buffer = its-bytes ∙ ap (λ w. rivalWritten G M w out) q }
 
-      its-bytes : after ≡ onto (planBytes G (rivalOf G M)) out
-      unfolding planBytesBy
-      its-bytes = W .buffer ∙ ap (λ (p : ℕ → Bool). onto (length (edgesIn (g .m) p) ∷ pairList G (edgesIn (g .m) p)) out) is-rival
+        pub rival-weighed : WeighedBy G M out (cond b (Beaten z) (Popular z)) after
+        rival-weighed = weighed-by b e
 
-      pub popular-weighed : v ≡ verdict.popular → WeighedBy G M out (Popular z) after
-      popular-weighed e =
-          let q : verdict.popular ≡ verdictOf G M = sym e ∙ is-verdict in
-          record { reply = ap Popular its-vote ∙ ap (weighedAs G M) q; buffer = its-bytes ∙ ap (λ w. rivalWritten G M w out) q }
+-- ---- what is kept of the rival, for the pairings
+module _ (g : Instance) (L : Loaded g) (plan : List Bool) (M₀ : Plan) (S₀ : Shows (shownBy g) plan M₀) (v : Verdict) (rival : List Bool)
+    (R : RivalShown (g .m) (g .sv) (g .st) (g .«rank_s») (g .«rank_t») (g .«quota_s») (g .«quota_t») plan v rival) where
+  -- there is one exactly if the verdict found is not strong
+  exactly : {r : Bool} → r ≡ not (isStrong v) → (M : Plan) → Shows (shownBy g) plan M → r ≡ not (isStrong (verdictOf (shownBy g) M))
+  exactly e M S = e ∙ ap (λ x. not (isStrong x)) (is-verdict g L plan M S v rival R)
 
-      pub beaten-weighed : v ≡ verdict.beaten → WeighedBy G M out (Beaten z) after
-      beaten-weighed e =
-          let q : verdict.beaten ≡ verdictOf G M = sym e ∙ is-verdict in
-          record { reply = ap Beaten its-vote ∙ ap (weighedAs G M) q; buffer = its-bytes ∙ ap (λ w. rivalWritten G M w out) q }
+  pub unrivalled : (n : ℕ) (es : List ℕ) → v ≡ verdict.strong → RivalFor (shownBy g) plan false rival n es
+  unrivalled n es e = record {
+    there = exactly (ap (λ x. not (isStrong x)) (sym e));
+    flags = λ M S. is-rival g L plan M S v rival R;
+    within = λ f. absurd (subst T (sym f) tt);
+    listed = λ f. absurd (subst T (sym f) tt);
+  }
 
--- ---- W-208: the pairings, by the answer
-module _ (g : Instance) (L : Loaded g) (plan rival : List Bool) (R : RivalFor (shownBy g) plan rival) (M : Plan) (S : Shows (shownBy g) plan M)
-    (out after : List ℕ) (a : answer.Verdict) (W : WeighedBy (shownBy g) M out a after) where
+  not-strong : (b : Bool) → v ≡ cond b verdict.beaten verdict.popular → true ≡ not (isStrong v)
+  not-strong true e = ap (λ x. not (isStrong x)) (sym e)
+  not-strong false e = ap (λ x. not (isStrong x)) (sym e)
+
+  pub rivalled : (b : Bool) → v ≡ cond b verdict.beaten verdict.popular → (n : ℕ) (es : List ℕ) → Listed (g .m) rival n es
+      → RivalFor (shownBy g) plan true rival n es
+  rivalled b e n es l = record {
+    there = exactly (not-strong b e);
+    flags = λ M S. is-rival g L plan M S v rival R;
+    within = λ f. rival-within g L plan M₀ S₀ v rival R b e;
+    listed = λ f. l;
+  }
+
+-- ---- W-208: the pairings, by whether there is a rival
+module _ (g : Instance) (plan rival : List Bool) (n : ℕ) (es : List ℕ) {r : Bool} (R : RivalFor (shownBy g) plan r rival n es)
+    (M : Plan) (S : Shows (shownBy g) plan M) where
   abbrev H : model.Instance
   H = shownBy g
 
-  -- what the answer says of the verdict
-  unrivalled : hasRival a ≡ false → (x : verdict.Verdict) → a ≡ weighedAs H M x → (d : List ℕ) → d ≡ pairingsWritten H M x d
-  unrivalled e verdict.strong q d = refl
-  unrivalled e verdict.popular q d = absurd (subst T (sym (ap hasRival q) ∙ e) tt)
-  unrivalled e verdict.beaten q d = absurd (subst T (sym (ap hasRival q) ∙ e) tt)
+  none-by : (x : verdict.Verdict) → false ≡ not (isStrong x) → (d : List ℕ) → d ≡ pairingsWritten H M x d
+  none-by verdict.strong e d = refl
+  none-by verdict.popular e d = absurd (subst T (sym e) tt)
+  none-by verdict.beaten e d = absurd (subst T (sym e) tt)
 
-  pub none-paired : hasRival a ≡ false → (d : List ℕ) → d ≡ pairingsWritten H M (verdictOf H M) d
-  none-paired e d = unrivalled e (verdictOf H M) (W .reply) d
+  pub none-paired : r ≡ false → (d : List ℕ) → d ≡ pairingsWritten H M (verdictOf H M) d
+  none-paired e d = none-by (verdictOf H M) (sym e ∙ R .there M S) d
 
-  there : hasRival a ≡ true → (x : verdict.Verdict) → verdictOf H M ≡ x → a ≡ weighedAs H M x → rivalOf H M ∈ plansOf H
-  there e verdict.strong v q = absurd (subst T (sym e ∙ ap hasRival q) tt)
-  there e verdict.popular v q = popular-rival H M (L .lawful) (S .0) (plan-few H (L .fileable) M (S .0)) v .inQuotas
-  there e verdict.beaten v q = beaten-rival H M (L .lawful) (S .0) (plan-few H (L .fileable) M (S .0)) v .inQuotas
+  some-by : (x : verdict.Verdict) → true ≡ not (isStrong x) → (d : List ℕ) → onto (pairingBytes H (on M) (on (rivalOf H M))) d ≡ pairingsWritten H M x d
+  some-by verdict.strong e d = absurd (subst T e tt)
+  some-by verdict.popular e d = refl
+  some-by verdict.beaten e d = refl
 
-  pub rival-matching : hasRival a ≡ true → Matching H (flag rival)
-  rival-matching e = subst (Matching H) (sym (R M S)) (plan-matching H (L .lawful) (there e (verdictOf H M) refl (W .reply)))
-
-  by-rival : hasRival a ≡ true → (x : verdict.Verdict) → a ≡ weighedAs H M x → (d : List ℕ)
-      → onto (pairingBytes H (on M) (on (rivalOf H M))) d ≡ pairingsWritten H M x d
-  by-rival e verdict.strong q d = absurd (subst T (sym e ∙ ap hasRival q) tt)
-  by-rival e verdict.popular q d = refl
-  by-rival e verdict.beaten q d = refl
-
-  pub some-paired : hasRival a ≡ true → (d d′ : List ℕ) → d′ ≡ onto (pairingBytes H (flag plan) (flag rival)) d → d′ ≡ pairingsWritten H M (verdictOf H M) d
+  pub some-paired : r ≡ true → (d d′ : List ℕ) → d′ ≡ onto (pairingBytes H (flag plan) (flag rival)) d → d′ ≡ pairingsWritten H M (verdictOf H M) d
   some-paired e d d′ q =
-      q ∙ ap₂ (λ p r. onto (pairingBytes H p r) d) (same g L plan M S) (R M S) ∙ by-rival e (verdictOf H M) (W .reply) d
+      q ∙ ap₂ (λ p r. onto (pairingBytes H p r) d) (fun-ext (S .1)) (R .flags M S) ∙ some-by (verdictOf H M) (sym e ∙ R .there M S) d

@@ -2,20 +2,22 @@
 -- at the front of the buffer. The rival is the search's (theory_verdict, Rival).
 use Prim.Native.Nat.{ℕ}
 use mathlib.Core.Path.{_≡_, refl}
-use mathlib.Core.Bool.{Bool, true, false}
+use mathlib.Core.Bool.{Bool, true, not}
 use mathlib.Core.List.{List}
 use Rattle.lists.specs.Sum.{_∈_}
 use Rattle.model.specs.Instance.{Instance}
-use Rattle.model.specs.Plans.{Plan, on, plansOf, voteOf, verdictOf}
+use Rattle.model.specs.Plans.{Plan, on, plansOf, voteOf, verdictOf, isStrong}
 use Rattle.model.specs.Plans as verdict
 use Rattle.model.specs.PlanFile.{planBytes}
 use Rattle.model.specs.Facing.{pairingBytes}
 use Rattle.model_desk.specs.Desk as desk
 use Rattle.model_desk.specs.Desk.{onto}
 use Rattle.theory_verdict.specs.Rival.{rivalOf}
+use Rattle.theory_instance.specs.Lawful.{Matching}
 use Rattle.arrays.specs.ArrayInstance.{flag}
+use Rattle.plan_lookup.specs.PlanEdges.{Listed}
 use Rattle.answers.specs.declared.Verdict.{Verdict}
-use Rattle.answers.specs.declared.Verdict.the-variants.{Strong, Popular, Beaten, Refused}
+use Rattle.answers.specs.declared.Verdict.the-variants.{Strong, Popular, Beaten}
 use Rattle.answers.specs.VerdictCases.{verdictShown}
 
 -- an array shows a plan within the quotas
@@ -50,15 +52,12 @@ pairingsWritten G M verdict.beaten d = onto (pairingBytes G (on M) (on (rivalOf 
 abbrev pub PairedFor : Instance → (plan : List Bool) (before after : List ℕ) → Type 0
 PairedFor G plan before after = (M : Plan) → Shows G plan M → after ≡ pairingsWritten G M (verdictOf G M) before
 
--- the flags of the rival
-abbrev pub RivalFor : Instance → (plan rival : List Bool) → Type 0
-RivalFor G plan rival = (M : Plan) → Shows G plan M → flag rival ≡ on (rivalOf G M)
-
-abbrev pub hasRival : Verdict → Bool
-hasRival Strong = false
-hasRival (Popular v) = true
-hasRival (Beaten v) = true
-hasRival (Refused n g) = false
+-- whether there is a rival, and where there is one its flags and the list of its edges
+pub record RivalFor (G : Instance) (plan : List Bool) (rivalled : Bool) (rival : List Bool) (n : ℕ) (es : List ℕ) : Type 0 where
+  pub there : (M : Plan) → Shows G plan M → rivalled ≡ not (isStrong (verdictOf G M))
+  pub flags : (M : Plan) → Shows G plan M → flag rival ≡ on (rivalOf G M)
+  pub within : rivalled ≡ true → Matching G (flag rival)
+  pub listed : rivalled ≡ true → Listed (G .m) rival n es
 
 -- ---- these are the desk's
 module _ (G : Instance) (M : Plan) where

@@ -2,36 +2,76 @@
 ghost use Prim.Native.Nat.{_≤_};
 ghost use lib.ListN.{length};
 ghost use mathlib.Core.Path.{_≡_};
-ghost use Rattle.model.specs.Limits.{planSize, planLimit, pairingSize};
+ghost use mathlib.Core.Bool.{cond};
+ghost use Rattle.model.specs.Limits.{planSize, pairingSize};
 ghost use Rattle.model.specs.Plans.{Plan};
-ghost use Rattle.model.specs.PlanFile.{edgesIn};
 ghost use Rattle.theory_instance.specs.Lawful.{Matching};
 ghost use Rattle.arrays.specs.ArrayInstance.{flag};
 ghost use Rattle.instance.specs.Decoded.{shownBy};
 ghost use Rattle.instance.specs.Loaded.{Loaded};
-ghost use Rattle.rival_search.specs.SearchView.{Lists};
-ghost use Rattle.verdict.specs.Weighing.{Shows, WeighedFor, RivalFor, PairedFor, hasRival};
+ghost use Rattle.plan_lookup.specs.PlanEdges as edges;
+ghost use Rattle.verdict.specs.Weighing.{Shows, WeighedFor, RivalFor, PairedFor};
 ghost use Rattle.verdict.specs.RivalWritten.{Voted};
+ghost use Rattle.answers.specs.declared.Verdict.the-variants.{Popular, Beaten};
 use answers::Verdict;
 use instance::Instance;
+use plan_lookup::Listed;
 
-// the verdict, and the flags of the rival that was found; where the plan is strong they say nothing
+// the verdict, whether there is a rival, and where there is one its flags and the list of its edges
 pub struct WithRival {
     pub verdict: Verdict,
+    pub rivalled: bool,
     pub rival: [bool; 1024],
+    pub listed: Listed,
 }
 
-// The rival's bytes written to the buffer's front, and the vote of the plan against it.
-pub(crate) fn voted(g: Instance, plan: &[bool; 1024], rival: &[bool; 1024], out: &mut [u8]) -> i16
+// The rival, whose edges are listed, in bytes at the buffer's front, and the vote of the plan against it.
+pub(crate) fn voted(
+    g: Instance,
+    plan: &[bool; 1024],
+    n: usize,
+    es: &[u16; 64],
+    rival: &[bool; 1024],
+    listed: Listed,
+    out: &mut [u8],
+) -> i16
     requires { ⌜ Loaded g × Matching (shownBy g) (flag (now plan)) × Matching (shownBy g) (flag (now rival))
-        × (length (edgesIn (g .m) (flag (now rival))) ≤ planLimit) × (planSize ≤ length (now out)) ⌝ }
+        × edges.Listed (g .m) (now plan) n (now es) × edges.Listed (g .m) (now rival) (listed .n) (listed .edges) × (planSize ≤ length (now out)) ⌝ }
     ensures { λ r. ⌜ Voted (shownBy g) (now (plan .entry)) (now (rival .entry)) (now (out .entry)) r (now (out .exit)) ⌝ }
 {
     let sv = g.sv;
     let st = g.st;
     let sh = g.sh;
+    let rs = g.rank_s;
+    let rt = g.rank_t;
+    let re = listed.edges;
     plan_writer::write_plan(g.m, &sv, &st, &sh, rival, &mut *out);
-    vote_of_flags::vote_between(g, plan, rival)
+    let both = vote_plans::plan_votes(
+        g.m,
+        g.ns,
+        g.nt,
+        &sv,
+        &st,
+        &rs,
+        &rt,
+        plan,
+        n,
+        es,
+        rival,
+        listed.n,
+        &re,
+    );
+    both.first
+}
+
+// The verdict on a plan that has a rival: by whether that beats it, with the vote against it.
+pub(crate) fn verdict_with(beaten: bool, vote: i16) -> Verdict
+    ensures { λ r. ⌜ r ≡ cond beaten (Beaten vote) (Popular vote) ⌝ }
+{
+    if beaten {
+        return Verdict::Beaten(vote);
+    }
+    Verdict::Popular(vote)
 }
 
 // A plan within the quotas, and the list of its edges.
@@ -42,9 +82,9 @@ pub fn weighed(
     es: &[u16; 64],
     out: &mut [u8],
 ) -> WithRival
-    requires { ⌜ Loaded g × ((M : Plan) × Shows (shownBy g) (now plan) M) × Lists (g .m) (now plan) n (now es) × (planSize ≤ length (now out)) ⌝ }
+    requires { ⌜ Loaded g × ((M : Plan) × Shows (shownBy g) (now plan) M) × edges.Listed (g .m) (now plan) n (now es) × (planSize ≤ length (now out)) ⌝ }
     ensures { λ r. ⌜ WeighedFor (shownBy g) (now (plan .entry)) (now (out .entry)) (r .verdict) (now (out .exit)) ⌝ }
-    ensures { λ r. ⌜ RivalFor (shownBy g) (now (plan .entry)) (r .rival) ⌝ }
+    ensures { λ r. ⌜ RivalFor (shownBy g) (now (plan .entry)) (r .rivalled) (r .rival) (r .listed .n) (r .listed .edges) ⌝ }
 {
     let sv = g.sv;
     let st = g.st;
@@ -54,43 +94,34 @@ pub fn weighed(
     let bt = g.quota_t;
     let j = rival_verdict::judge(g.m, &sv, &st, &rs, &rt, &bs, &bt, plan, n, es);
     let rival = j.rival;
-    if j.beaten {
+    if !(j.beaten | j.rivalled) {
         return WithRival {
-            verdict: Verdict::Beaten(voted(g, plan, &rival, out)),
+            verdict: Verdict::Strong,
+            rivalled: false,
             rival: rival,
+            listed: Listed {
+                n: 0,
+                edges: [0; 64],
+            },
         };
     }
-    if j.rivalled {
-        return WithRival {
-            verdict: Verdict::Popular(voted(g, plan, &rival, out)),
-            rival: rival,
-        };
-    }
+    let listed = plan_lookup::list_edges(g.m, &rival);
+    let vote = voted(g, plan, n, es, &rival, listed, out);
     WithRival {
-        verdict: Verdict::Strong,
+        verdict: verdict_with(j.beaten, vote),
+        rivalled: true,
         rival: rival,
+        listed: listed,
     }
 }
 
 // The verdict alone, for the finder.
 pub fn weigh(g: Instance, plan: &[bool; 1024], n: usize, es: &[u16; 64], out: &mut [u8]) -> Verdict
-    requires { ⌜ Loaded g × ((M : Plan) × Shows (shownBy g) (now plan) M) × Lists (g .m) (now plan) n (now es) × (planSize ≤ length (now out)) ⌝ }
+    requires { ⌜ Loaded g × ((M : Plan) × Shows (shownBy g) (now plan) M) × edges.Listed (g .m) (now plan) n (now es) × (planSize ≤ length (now out)) ⌝ }
     ensures { λ r. ⌜ WeighedFor (shownBy g) (now (plan .entry)) (now (out .entry)) r (now (out .exit)) ⌝ }
 {
     let w = weighed(g, plan, n, es, out);
     w.verdict
-}
-
-// Whether there is a rival.
-pub(crate) fn rivalled(v: Verdict) -> bool
-    ensures { λ r. ⌜ r ≡ hasRival v ⌝ }
-{
-    match v {
-        Verdict::Strong => false,
-        Verdict::Popular(_) => true,
-        Verdict::Beaten(_) => true,
-        Verdict::Refused(_, _) => false,
-    }
 }
 
 // The verdict with the pairings of the vote against the rival (W-208) in a second buffer; "a strong verdict writes none".
@@ -102,17 +133,39 @@ pub fn weigh_paired(
     out: &mut [u8],
     pairings: &mut [u8],
 ) -> Verdict
-    requires { ⌜ Loaded g × ((M : Plan) × Shows (shownBy g) (now plan) M) × Lists (g .m) (now plan) n (now es) × (planSize ≤ length (now out)) ⌝ }
+    requires { ⌜ Loaded g × ((M : Plan) × Shows (shownBy g) (now plan) M) × edges.Listed (g .m) (now plan) n (now es) × (planSize ≤ length (now out)) ⌝ }
     requires { ⌜ pairingSize ≤ length (now pairings) ⌝ }
     ensures { λ r. ⌜ WeighedFor (shownBy g) (now (plan .entry)) (now (out .entry)) r (now (out .exit)) ⌝ }
     ensures { λ _. ⌜ PairedFor (shownBy g) (now (plan .entry)) (now (pairings .entry)) (now (pairings .exit)) ⌝ }
 {
     let w = weighed(g, plan, n, es, out);
-    let v = w.verdict;
-    let rival = w.rival;
-    if !rivalled(v) {
-        return v;
+    if w.rivalled {
+        let sv = g.sv;
+        let st = g.st;
+        let rs = g.rank_s;
+        let rt = g.rank_t;
+        let qs = g.quota_s;
+        let qt = g.quota_t;
+        let rival = w.rival;
+        let re = w.listed.edges;
+        vote_pairings::plan_pairings(
+            g.m,
+            g.ns,
+            g.nt,
+            &sv,
+            &st,
+            &rs,
+            &rt,
+            qs,
+            qt,
+            plan,
+            n,
+            es,
+            &rival,
+            w.listed.n,
+            &re,
+            pairings,
+        );
     }
-    vote_pairings::pairings_between(g, plan, &rival, pairings);
-    v
+    w.verdict
 }

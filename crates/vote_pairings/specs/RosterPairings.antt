@@ -20,7 +20,7 @@ use Rattle.arrays.specs.ArrayInstance.{at, flag}
 use Rattle.instance.specs.declared.Instance.{Instance}
 use Rattle.instance.specs.Decoded.{shownBy}
 use Rattle.instance.specs.Loaded.{Loaded}
-use Rattle.vote_of_flags.specs.Votable.{side-arrays}
+use Rattle.vote_plans.specs.Votable.{side-arrays}
 use Rattle.vote_pairings.specs.SidePairings.{Faced}
 
 -- "Each vote's pairings need a buffer of 256 bytes"

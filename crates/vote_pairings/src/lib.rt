@@ -3,18 +3,12 @@ ghost use mathlib.Core.Path.{_≡_};
 ghost use Prim.Native.Nat.{ℕ, _+_, _*_, _≤_, _<_};
 ghost use lib.ListN.{length, take};
 ghost use Rattle.lists.specs.Sum.{sum, upTo};
-ghost use Rattle.model.specs.Limits.{quotaLimit, nodeLimit, pairingSize};
-ghost use Rattle.arrays.specs.ArrayInstance.{at, flag};
+ghost use Rattle.model.specs.Limits.{quotaLimit, nodeLimit};
+ghost use Rattle.arrays.specs.ArrayInstance.{at};
 ghost use Rattle.theory_votes.specs.Keys.{emptyKey, keyBytes};
 ghost use Rattle.vote_pairings.specs.SideBytes.{written, sideOut, NodeReady};
 ghost use Rattle.plan_lookup.specs.PlanEdges.{Listed};
 ghost use Rattle.vote_pairings.specs.SidePairings.{Faced, SideWritten, PlanWritten};
-ghost use Rattle.model.specs.Facing.{pairingBytes};
-ghost use Rattle.model_desk.specs.Desk.{onto};
-ghost use Rattle.theory_instance.specs.Lawful.{Matching};
-ghost use Rattle.instance.specs.Decoded.{shownBy};
-ghost use Rattle.instance.specs.Loaded.{Loaded};
-use instance::Instance;
 use vote_own_ranks::Ranked;
 
 // ---- the nodes of one side
@@ -215,42 +209,5 @@ pub fn both_pairings(
         forward,
         back,
         middle,
-    );
-}
-
-// ---- two plans within the quotas of an accepted roster, from the flags of their edges
-// The pairings of the vote of plan p against plan q, at the front of a buffer of 256 bytes.
-pub fn pairings_between(g: Instance, p: &[bool; 1024], q: &[bool; 1024], out: &mut [u8])
-    requires { ⌜ Loaded g × Matching (shownBy g) (flag (now p)) × Matching (shownBy g) (flag (now q)) × (pairingSize ≤ length (now out)) ⌝ }
-    ensures { λ _. ⌜ now (out .exit) ≡ onto (pairingBytes (shownBy g) (flag (now (p .entry))) (flag (now (q .entry)))) (now (out .entry)) ⌝ }
-{
-    let m = g.m;
-    let sv = g.sv;
-    let st = g.st;
-    let rs = g.rank_s;
-    let rt = g.rank_t;
-    let qs = g.quota_s;
-    let qt = g.quota_t;
-    let a = plan_lookup::list_edges(m, p);
-    let b = plan_lookup::list_edges(m, q);
-    let pe = a.edges;
-    let qe = b.edges;
-    plan_pairings(
-        m,
-        g.ns,
-        g.nt,
-        &sv,
-        &st,
-        &rs,
-        &rt,
-        qs,
-        qt,
-        p,
-        a.n,
-        &pe,
-        q,
-        b.n,
-        &qe,
-        out,
     );
 }

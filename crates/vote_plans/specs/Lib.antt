@@ -1,3 +1,4 @@
 pub mod Node
 pub mod Plan
 pub mod Side
+pub mod Votable

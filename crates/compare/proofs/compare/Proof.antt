@@ -3,23 +3,22 @@ use mathlib.Core.Path.{refl}
 use lib.Dec.{T}
 use Rattle.theory_files.specs.Reads.{isBytes}
 use Rattle.roster_reading.specs.Place.{bytes-of}
-use Rattle.compare.specs.TwoPlans.{read-planned, paired-as, first-refused, first-accepted, first-none, first-paired}
+use Rattle.plan_reader.specs.Planned.{read-planned}
+use Rattle.compare.specs.TwoPlans.{paired-as, first-refused, first-accepted, first-none, first-paired}
 use borrow.Author.Needs.{needs}
 use Rattle.compare.proofs.compare.Statement.{statement}
 use Rattle.compare.proofs.compare.Tie as tie
 
-read-plan-requires : tie.Need-read-plan-requires
-read-plan-requires c κs =
-    let L = c .before .before .before .before .before .before .before .before .before .before .before .before .before .before .pre .0 in
-    (L .edges, λ e h. L .low-sv e, λ e h. L .low-st e, L .fileable .differ)
+-- the start, from the reading
+abbrev start : tie.After-read-against → tie.Start
+start r = r .before .before .before .before .before
 
 second-judged-requires : tie.Need-second-judged-requires
 second-judged-requires c κs =
-    let far = c .before .before .before .before .before .before .before .before .before .before .before .before in
-    let k = far .before .before .before .before .before .before .before .before .before .before .before in
-    let s = k .before in
-    let r = c .before .before .before .before .before .before .before .before .before .read-plan in
-    let isF : T (isBytes (s .args .first .now)) = bytes-of (s .args .first .now) (λ i. k .shared-slice-known .given i) in (
+    let k = c .before .before .before .before .before .before .before .before .before in
+    let s = start k in
+    let r = k .read-against in
+    let isF : T (isBytes (s .args .first .now)) = bytes-of (s .args .first .now) (λ i. k .before .before .before .before .shared-slice-known .given i) in (
       (
         s .pre .0,
         read-planned (s .args .g) (s .args .first .now) (r .result) (r .ensures) (s .pre .0) isF
@@ -30,10 +29,9 @@ second-judged-requires c κs =
 
 returns : tie.Need-returns
 returns c =
-    let r = c .before .before .before .before .read-plan in
-    let far = c .before .before .before .before .before .before .before .before .before .before .before .before in
-    let s = far .before .before .before .before .before .before .before in
-    let a = s .args in
+    let k = c .before .before .before .before in
+    let r = k .read-against in
+    let a = start k .args in
     let q = c .before .before .a .given .1 in (
       first-refused (a .g) (a .first .now) (r .result) (r .ensures) (a .second .now) (c .group-of .result) q (c .group-of .ensures),
       paired-as (first-none (a .g) (a .first .now) (r .result) (r .ensures) (a .second .now) q) (record { first = refl; second = refl }),
@@ -41,10 +39,9 @@ returns c =
 
 returns-2 : tie.Need-returns-2
 returns-2 c =
-    let r = c .before .before .before .before .before .before .before .before .before .before .before .before .before .before .read-plan in
-    let far = c .before .before .before .before .before .before .before .before .before .before .before .before in
-    let s = far .before .before .before .before .before .before .before .before .before .before .before .before .before .before .before .before .before in
-    let a = s .args in
+    let k = c .before .before .before .before .before .before .before .before .before .before .before .before .before .before in
+    let r = k .read-against in
+    let a = start k .args in
     let w = c .before .before .before .before .second-judged in
     let q = c .before .before .before .before .before .before .before .before .before .before .before .before .a2 .given .1 in (
       first-accepted (a .g) (a .first .now) (r .result) (r .ensures) (a .second .now) q (w .ensures .0),
@@ -53,5 +50,5 @@ returns-2 c =
 
 pub compare-spec : {M : Type 1} → statement M
 compare-spec =
-    tie.close (tie.spec read-plan-requires (λ c. search needs) (λ c κs. search needs) (λ c. search needs) second-judged-requires returns
+    tie.close (tie.spec (λ c κs. search needs) (λ c. search needs) (λ c κs. search needs) (λ c. search needs) second-judged-requires returns
     (λ c. search needs) (λ c. search needs) returns-2)

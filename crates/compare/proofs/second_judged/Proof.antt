@@ -3,23 +3,22 @@ use mathlib.Core.Path.{refl}
 use lib.Dec.{T}
 use Rattle.theory_files.specs.Reads.{isBytes}
 use Rattle.roster_reading.specs.Place.{bytes-of}
-use Rattle.compare.specs.TwoPlans.{read-planned, paired-as, second-refused, second-accepted, second-none, second-paired}
+use Rattle.plan_reader.specs.Planned.{read-planned}
+use Rattle.compare.specs.TwoPlans.{paired-as, second-refused, second-accepted, second-none, second-paired}
 use borrow.Author.Needs.{needs}
 use Rattle.compare.proofs.second_judged.Statement.{statement}
 use Rattle.compare.proofs.second_judged.Tie as tie
 
-read-plan-requires : tie.Need-read-plan-requires
-read-plan-requires c κs =
-    let L = c .before .before .before .before .before .before .before .before .before .before .before .before .before .pre .0 .0 in
-    (L .edges, λ e h. L .low-sv e, λ e h. L .low-st e, L .fileable .differ)
+-- the start, from the reading
+abbrev start : tie.After-read-against → tie.Start
+start r = r .before .before .before .before
 
 voted-requires : tie.Need-voted-requires
 voted-requires c κs =
-    let far = c .before .before .before .before .before .before .before .before .before .before .before .before in
-    let k = far .before .before .before .before .before .before .before .before .before .before in
-    let s = k .before in
-    let r = c .before .before .before .before .before .before .before .before .before .read-plan in
-    let isB : T (isBytes (s .args .second .now)) = bytes-of (s .args .second .now) (λ i. k .shared-slice-known .given i) in (
+    let k = c .before .before .before .before .before .before .before .before .before in
+    let s = start k in
+    let r = k .read-against in
+    let isB : T (isBytes (s .args .second .now)) = bytes-of (s .args .second .now) (λ i. k .before .before .before .shared-slice-known .given i) in (
       (
         s .pre .0 .0,
         s .pre .0 .1,
@@ -31,10 +30,9 @@ voted-requires c κs =
 
 returns : tie.Need-returns
 returns c =
-    let r = c .before .before .before .before .read-plan in
-    let far = c .before .before .before .before .before .before .before .before .before .before .before .before in
-    let s = far .before .before .before .before .before .before in
-    let a = s .args in
+    let k = c .before .before .before .before in
+    let r = k .read-against in
+    let a = start k .args in
     let q = c .before .before .a .given .1 in (
       second-refused (a .g) (a .second .now) (r .result) (r .ensures) (a .p .now) (c .group-of .result) q (c .group-of .ensures),
       paired-as (second-none (a .g) (a .second .now) (r .result) (r .ensures) (a .p .now) q) (record { first = refl; second = refl }),
@@ -42,10 +40,9 @@ returns c =
 
 returns-2 : tie.Need-returns-2
 returns-2 c =
-    let r = c .before .before .before .before .before .before .before .before .before .before .before .before .before .before .read-plan in
-    let far = c .before .before .before .before .before .before .before .before .before .before .before .before in
-    let s = far .before .before .before .before .before .before .before .before .before .before .before .before .before .before .before .before in
-    let a = s .args in
+    let k = c .before .before .before .before .before .before .before .before .before .before .before .before .before .before in
+    let r = k .read-against in
+    let a = start k .args in
     let w = c .before .before .before .before .voted in
     let q = c .before .before .before .before .before .before .before .before .before .before .before .before .a2 .given .1 in (
       second-accepted (a .g) (a .second .now) (r .result) (r .ensures) (a .p .now) q (w .ensures .0),
@@ -54,5 +51,5 @@ returns-2 c =
 
 pub second-judged-spec : {M : Type 1} → statement M
 second-judged-spec =
-    tie.close (tie.spec read-plan-requires (λ c. search needs) (λ c κs. search needs) (λ c. search needs) voted-requires returns
+    tie.close (tie.spec (λ c κs. search needs) (λ c. search needs) (λ c κs. search needs) (λ c. search needs) voted-requires returns
     (λ c. search needs) (λ c. search needs) returns-2)

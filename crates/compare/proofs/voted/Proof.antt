@@ -1,63 +1,27 @@
--- `compare::voted` meets its contract: both votes are the model's, and so are the pairings of both. Assumes nothing.
+-- `compare::voted` meets its contract: both votes, and the winner by them. Assumes nothing.
 use mathlib.Core.Path.{ap₂, _∙_}
-use lib.ListN.{length}
 use mir.Syntax.{w16}
 use mir.ValLaws.{toZ-ofZ}
 use Rattle.model_desk.specs.Compare.{winnerOf}
 use Rattle.answers.specs.declared.Comparison.the-variants.{Votes}
 use Rattle.answers.specs.ComparisonCases.{winnerCase}
-use Rattle.vote_of_flags.specs.Votable.{side-arrays, light}
-use Rattle.vote_pairings.specs.RosterPairings.{both-faced, room}
+use Rattle.instance.specs.Decoded.{shownBy}
 use Rattle.compare.specs.TwoPlans.{votes-are}
 use borrow.Author.Needs.{needs, sfits-of}
 use Rattle.compare.proofs.voted.Statement.{statement}
 use Rattle.compare.proofs.voted.Tie as tie
 
-plan-votes-requires : tie.Need-plan-votes-requires
-plan-votes-requires c κs =
-    let s = c .before .before .before .before .before .before .before .before .before .before .before .before in
-    let g = s .args .g in
-    let p = s .pre .0 .1 in
-    let q = s .pre .0 .2 in
-    let a = light g (s .pre .0 .0) (s .args .p .now) (p .matching) in
-    let b = light g (s .pre .0 .0) (s .args .q .now) (q .matching) in
-    (side-arrays g (s .pre .0 .0), ((a .0, b .0, a .1, b .1), (p .listed, q .listed)))
-
-both-pairings-requires : tie.Need-both-pairings-requires
-both-pairings-requires c κs =
-    let s = c .before .before .before .before .before .before .before .before .before .before .before .before .before .before .before .before .before
-    .before .before in
-    let a = s .args in
-    let L = s .pre .0 .0 in
-    let p = s .pre .0 .1 in
-    let q = s .pre .0 .2 in (
-      both-faced (a .g) L (a .p .now) (a .q .now) (p .matching) (q .matching),
-      (
-        (p .listed, q .listed),
-        (
-          room (a .g) L (a .p .now) (a .q .now) (p .matching) (q .matching) (length (a .forward .now)) (s .pre .1 .0),
-          room (a .g) L (a .p .now) (a .q .now) (p .matching) (q .matching) (length (a .back .now)) (s .pre .1 .1),
-        ),
-      ),
-    )
-
 returns : tie.Need-returns
 returns c =
-    let both = c .before .before .before .before .before .before .before .before .before .before .before .before .before .before .plan-votes in
-    let r = c .before .before .before .before .before .before .before .both-pairings in
-    let s = c .before .before .before .before .before .before .before .before .before .before .before .before .before .before .before .before .before
-    .before .before .before .before .before .before .before .before .before .before in
-    let a = s .args in
-    let g = a .g in
+    let both = c .before .before .before .before .before .before .before .both-votes in
+    let a = c .before .before .before .before .before .before .before .before .before .before .before .before .args in
     let kv = toZ-ofZ w16 (both .result .first) (sfits-of (c .before .before .struct-told .given .0 .1)) in
     let kw = toZ-ofZ w16 (both .result .second) (sfits-of (c .before .struct-told2 .given .1 .0 .1)) in (
       ap₂ (λ y z. Votes y z (c .winner-of .result)) kv kw
-          ∙ votes-are g (a .p .now) (a .q .now) (s .pre .0 .1 .matching) (s .pre .0 .2 .matching) (both .ensures)
+          ∙ votes-are (shownBy (a .g)) (a .p .now) (a .q .now) (both .ensures .0 .0) (both .ensures .0 .1)
           (c .winner-of .ensures ∙ ap₂ (λ y z. winnerCase (winnerOf y z)) kv kw),
-      record { first = r .ensures .0 (g .sh) (g .tied); second = r .ensures .1 (g .sh) (g .tied) },
+      both .ensures .1,
     )
 
 pub voted-spec : {M : Type 1} → statement M
-voted-spec =
-    tie.close (tie.spec plan-votes-requires both-pairings-requires (λ c κs. search needs) (λ c. search needs)
-    (λ c. search needs) returns)
+voted-spec = tie.close (tie.spec (λ c κs. search needs) (λ c κs. search needs) (λ c. search needs) (λ c. search needs) returns)

@@ -7,13 +7,13 @@ use Rattle.desk_loaded.proofs.read_plan.Tie as tie
 returns : tie.Need-returns
 returns c =
     let a = c .before .before .before .before .args in
-    let p = c .before .before .plan-read in
+    let p = c .before .before .read-against in
     answer-accepted (a .g) (a .file .now) (p .result) (p .ensures) (c .enum-told .given .1)
 
 returns-2 : tie.Need-returns-2
 returns-2 c =
     let a = c .before .before .before .before .before .before .args in
-    let p = c .before .before .before .before .plan-read in
+    let p = c .before .before .before .before .read-against in
     answer-refused (a .g) (a .file .now) (p .result) (p .ensures) (c .group-of .result) (c .before .before .a .given .1) (c .group-of .ensures)
 
 pub read-plan-spec : {M : Type 1} → statement M

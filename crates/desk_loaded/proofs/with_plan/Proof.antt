@@ -11,17 +11,18 @@ use Rattle.desk_loaded.proofs.with_plan.Tie as tie
 returns : tie.Need-returns
 returns c =
     let a = c .before .before .before .before .before .args in
-    let p = c .before .before .before .plan-read in
+    let p = c .before .before .before .read-against in
     plan-missing (a .g) (a .plan .now) (p .result) (p .ensures) (a .short) (c .bare .result) (c .bare .ensures .0) (c .before .enum-told .given .1)
     (c .bare .ensures .1)
 
 returns-2 : tie.Need-returns-2
 returns-2 c =
-    let a = c .before .before .before .before .before .before .before .before .args in
-    let p = c .before .before .before .before .before .before .plan-read in
+    let s = c .before .before .before .before .before .before .before .before in
+    let a = s .args in
+    let p = c .before .before .before .before .before .before .read-against in
     let isB : T (isBytes (a .plan .now)) =
     bytes-of (a .plan .now) (λ i. c .before .before .before .before .before .before .before .shared-slice-known .given i) in
-    plan-there (a .g) (a .plan .now) (p .result) (p .ensures) (a .short) _ refl isB (c .before .before .before .before .a .given .1)
+    plan-there (a .g) (a .plan .now) (p .result) (p .ensures) (a .short) _ refl (s .pre) isB (c .before .before .before .before .a .given .1)
     (c .before .before .short-refusal .ensures) refl refl refl
 
 pub with-plan-spec : {M : Type 1} → statement M

@@ -1,73 +1,96 @@
 -- `desk_proposals::propose` meets its contract. Assumes nothing.
-use mathlib.Core.Path.{sym, ap, _∙_}
+use mathlib.Core.Path.{ap, _∙_}
 use lib.Dec.{T}
 use mir.Syntax.{w16}
 use mir.ValLaws.{toZ-ofZ}
+use Rattle.lists.specs.Test.{given}
 use Rattle.model.specs.Limits.{pairingSize}
-use Rattle.model_desk.specs.Compare.{comparisonOf, pairingsOf}
 use Rattle.model_desk.specs.Desk.{propose, refused}
 use Rattle.theory_files.specs.Reads.{isBytes}
-use Rattle.answers.specs.ComparisonCases.{comparisonCase}
 use Rattle.roster_reading.specs.Place.{bytes-of}
-use Rattle.instance.specs.Decoded.{shownBy}
-use Rattle.compare.specs.TwoPlans.{paired-as}
+use Rattle.plan_reader.specs.Answers.{accepted-read, refused-read}
+use Rattle.plan_reader.specs.Planned.{read-planned}
 use Rattle.desk_files.specs.State.{by-state, state-is, arrays-are, both-long}
-use Rattle.desk_proposals.specs.Proposals.{propose-refused, proposal-small, propose-taken}
+use Rattle.desk_proposals.specs.Proposals.{held-planned, propose-refused, proposal-small, propose-taken}
 use borrow.Author.Needs.{needs, sfits-of}
 use Rattle.desk_proposals.proofs.propose.Statement.{statement}
 use Rattle.desk_proposals.proofs.propose.Tie as tie
 
+-- the start, from what the desk holds; and what the desk holds, from the file's reading
+abbrev start : tie.After-loaded → tie.Start
+start l = l .before .before .before .before
+
+abbrev held : tie.After-read-against → tie.After-loaded
+held r = r .before .before
+
+-- the reading, from the votes
+abbrev reading : tie.After-both-votes → tie.After-read-against
+reading v = v .before .before .before .before .before .before .before .before .before .before .before .before .before .before
+
 returns : tie.Need-returns
 returns c =
-    let d = c .before .before .before .before .before .before .args in
-    let l = c .before .before .loaded in
-    by-state (d .files) (propose (d .file .now) (d .forward .now) (d .back .now)) tt tt (state-is (d .files) (l .ensures)) (c .before .if1 .taken)
-    (ap (refused (l .result .refusal)) (c .group-of .ensures))
+    let l = c .before .before in
+    let d = start l .args in
+    by-state (d .files) (propose (d .file .now) (d .forward .now) (d .back .now)) tt tt (state-is (d .files) (l .loaded .ensures)) (c .before .if1 .taken)
+    (ap (refused (l .loaded .result .refusal)) (c .group-of .ensures))
 
-compare-requires : tie.Need-compare-requires
-compare-requires c κs =
-    let d = c .before .before .before .before .before .before .before .before .before .before .args in
-    let F = c .before .before .before .before .before .before .loaded .ensures in
-    let z = c .before .before .before .before .before .if1 .left in
-    (arrays-are (d .files) F z, both-long (d .forward .now) (d .back .now) pairingSize pairingSize F z)
+read-against-requires : tie.Need-read-against-requires
+read-against-requires c κs = let l = c .before in arrays-are (start l .args .files) (l .loaded .ensures) (c .if1 .left)
+
+both-votes-requires : tie.Need-both-votes-requires
+both-votes-requires c κs =
+    let r = c .before .before .before .before .before .before .before .before .before .before .before .before .before in
+    let l = held r in
+    let d = start l .args in
+    let F = l .loaded .ensures in
+    let z = r .before .if1 .left in
+    let L = arrays-are (d .files) F z in
+    let isB : T (isBytes (d .file .now)) = bytes-of (d .file .now) (λ i. l .before .before .before .shared-slice-known .given i) in (
+      (
+        L,
+        read-planned (l .loaded .result .g) (d .file .now) (r .read-against .result) (r .read-against .ensures) L isB
+            (c .before .before .before .before .before .before .before .before .before .before .before .a2 .given .1),
+        held-planned (d .files) (d .file .now) (d .forward .now) (d .back .now) F z,
+      ),
+      both-long (d .forward .now) (d .back .now) pairingSize pairingSize F z,
+    )
 
 with-proposal-requires : tie.Need-with-proposal-requires
 with-proposal-requires c κs =
-    let f = c .before .before .before .before .before .before .before .before .before .before in
-    let k = c .before .before .before .before .before .before .before .before .before .before .before .before .before .before .before .before .before in
-    let l = f .before .before .before .before .loaded in
-    let d = k .before .args in
-    let isB : T (isBytes (d .file .now)) = bytes-of (d .file .now) (λ i. k .shared-slice-known .given i) in
-    proposal-small (d .files) (d .file .now) (d .forward .now) (d .back .now) (l .ensures) (f .before .before .before .if1 .left)
-    (sym (c .before .c2 .given .1) ∙ c .before .before .before .before .before .before .before .compare .ensures .0
-    ∙ ap (λ b. comparisonCase (comparisonOf (shownBy (l .result .g)) (d .file .now) b)) (f .front .ensures)) isB
+    let v = c .before .before .before .before in
+    let r = reading v in
+    let l = held r in
+    let d = start l .args in
+    let isB : T (isBytes (d .file .now)) = bytes-of (d .file .now) (λ i. l .before .before .before .shared-slice-known .given i) in
+    given (accepted-read (r .read-against .ensures)
+    (v .before .before .before .before .before .before .before .before .before .before .before .before .a2 .given .1)) (λ (N, y, s).
+    proposal-small (d .files) (d .file .now) (d .forward .now) (d .back .now) (l .loaded .ensures) (r .before .if1 .left) N y
+    (r .read-against .result .chosen) s isB)
 
 returns-2 : tie.Need-returns-2
 returns-2 c =
-    let f = c .before .before .before .before .before .before .before .before .before .before in
-    let l = f .before .before .before .before .loaded in
-    let d = f .before .before .before .before .before .before .before .before .args in
-    let w = c .before .before .before .before .before .before .before .compare in
-    propose-refused (d .files) (d .file .now) (d .forward .now) (d .back .now) (l .ensures) (f .before .before .before .if1 .left)
-    (sym (c .before .c .given .1) ∙ w .ensures .0 ∙ ap (λ b. comparisonCase (comparisonOf (shownBy (l .result .g)) (d .file .now) b)) (f .front .ensures))
-    (paired-as (ap (pairingsOf (shownBy (l .result .g)) (d .file .now)) (f .front .ensures)) (w .ensures .1))
+    let r = c .before .before .before .before in
+    let l = held r in
+    let d = start l .args in
+    propose-refused (d .files) (d .file .now) (d .forward .now) (d .back .now) (l .loaded .ensures) (r .before .if1 .left) (c .group-of2 .result)
+    (refused-read (r .read-against .ensures) (c .before .before .a .given .1)) (c .group-of2 .ensures)
 
 returns-3 : tie.Need-returns-3
 returns-3 c =
-    let f = c .before .before .before .before .before .before .before .before .before .before .before in
-    let l = f .before .before .before .before .loaded in
-    let d = f .before .before .before .before .before .before .before .before .args in
-    let w = c .before .before .before .before .before .before .before .before .compare in
-    let m = c .before .before .c2 .given in
-    let t = c .before .known-told2 .given in
-    propose-taken (d .files) (d .file .now) (d .forward .now) (d .back .now) (l .ensures) (f .before .before .before .if1 .left)
-    (sym (m .1) ∙ w .ensures .0 ∙ ap (λ b. comparisonCase (comparisonOf (shownBy (l .result .g)) (d .file .now) b)) (f .front .ensures))
-    (toZ-ofZ w16 (m .0 .0) (sfits-of (t .0 .1))) (toZ-ofZ w16 (m .0 .1 .0) (sfits-of (t .1 .0 .1)))
-    (paired-as (ap (pairingsOf (shownBy (l .result .g)) (d .file .now)) (f .front .ensures)) (w .ensures .1))
-    (c .with-proposal .result) (c .with-proposal .ensures)
+    let v = c .before .before .before .before .before .before in
+    let r = reading v in
+    let l = held r in
+    let d = start l .args in
+    let b = v .both-votes in
+    given (accepted-read (r .read-against .ensures)
+    (v .before .before .before .before .before .before .before .before .before .before .before .before .a2 .given .1)) (λ (N, y, s).
+    propose-taken (d .files) (d .file .now) (d .forward .now) (d .back .now) (l .loaded .ensures) (r .before .if1 .left) N y
+    (r .read-against .result .chosen) s
+    (toZ-ofZ w16 (b .result .first) (sfits-of (c .struct-told .given .0 .1)) ∙ b .ensures .0 .0)
+    (toZ-ofZ w16 (b .result .second) (sfits-of (c .struct-told .given .1 .0 .1)) ∙ b .ensures .0 .1)
+    (b .ensures .1) (c .before .with-proposal .result) (c .before .with-proposal .ensures))
 
 pub propose-spec : {M : Type 1} → statement M
 propose-spec =
-    tie.close (tie.spec (λ c κs. search needs) (λ c κs. search needs) returns (λ c. search needs) (λ c κs. search needs) compare-requires
-    (λ c. search needs) (λ c. search needs) with-proposal-requires (λ c. search needs) (λ c. search needs) returns-2 (λ c. search needs)
-    (λ c. search needs) returns-3)
+    tie.close (tie.spec (λ c κs. search needs) (λ c κs. search needs) returns read-against-requires (λ c. search needs) (λ c κs. search needs)
+    (λ c. search needs) both-votes-requires with-proposal-requires returns-2 (λ c. search needs) (λ c. search needs) returns-3)

@@ -3,6 +3,7 @@ use mathlib.Core.Path.{refl}
 use mathlib.Core.Path.{ap}
 use Rattle.model_desk.specs.Desk.{blocking, refused}
 use Rattle.desk_files.specs.State.{by-state}
+use Rattle.plan_lookup.specs.PlanEdges.{lists-are}
 use Rattle.finder_candidate.specs.Judging.{few-edges}
 use Rattle.desk_files.specs.State.{state-is, arrays-are}
 use Rattle.desk_queries.specs.Calls.{plan-shown, plan-listed, blocking-reply}
@@ -22,7 +23,7 @@ blocking-requires c κs =
     let k = c .before .before .before .before .before .loaded in
     let z = c .before .before .before .before .if1 .left in
     let L = arrays-are d (k .ensures) z in
-    (L, few-edges (k .result .g) L (k .result .plan) (plan-shown d (k .ensures) z), plan-listed d (k .ensures) z)
+    (L, few-edges (k .result .g) L (k .result .plan) (plan-shown d (k .ensures) z), lists-are (k .result .g .m) (k .result .plan) (k .result .n) (k .result .edges) (plan-listed d (k .ensures) z))
 
 returns-2 : tie.Need-returns-2
 returns-2 c =

@@ -14,8 +14,8 @@ returns c =
     let a = l .before .before .before .args in
     turns-not (a .shifts) (a .files) (a .file .now) (a .out .now) (l .loaded .ensures) (c .before .if1 .taken) (c .group-of .result) (c .group-of .ensures)
 
-plan-read-requires : tie.Need-plan-read-requires
-plan-read-requires c κs = let l = c .before in arrays-are (l .before .before .before .args .files) (l .loaded .ensures) (c .if1 .left)
+read-against-requires : tie.Need-read-against-requires
+read-against-requires c κs = let l = c .before in arrays-are (l .before .before .before .args .files) (l .loaded .ensures) (c .if1 .left)
 
 turn-requires : tie.Need-turn-requires
 turn-requires c κs =
@@ -23,7 +23,7 @@ turn-requires c κs =
     let l = r .before .before in
     let a = l .before .before .before .args in
     let g = arrays-are (a .files) (l .loaded .ensures) (r .before .if1 .left) in (
-      (shownBy (l .loaded .result .g), (g .fileable, r .plan-read .ensures .answer)),
+      (shownBy (l .loaded .result .g), (g .fileable, r .read-against .ensures .answer)),
       long-enough (a .out .now) planSize (l .loaded .ensures) (r .before .if1 .left),
     )
 
@@ -36,8 +36,8 @@ returns-2 c =
     let a = k .before .args in
     let g = arrays-are (a .files) (l .loaded .ensures) (r .before .if1 .left) in
     turns (a .shifts) (a .files) (a .file .now) (a .out .now) (bytes-of (a .file .now) (λ i. k .shared-slice-known .given i)) (l .loaded .ensures)
-    (r .before .if1 .left) (t .turn .ensures (shownBy (l .loaded .result .g)) (g .fileable, r .plan-read .ensures .answer))
+    (r .before .if1 .left) (t .turn .ensures (shownBy (l .loaded .result .g)) (g .fileable, r .read-against .ensures .answer))
 
 pub turned-spec : {M : Type 1} → statement M
 turned-spec =
-    tie.close (tie.spec (λ c κs. search needs) (λ c κs. search needs) returns plan-read-requires turn-requires (λ c. search needs) returns-2)
+    tie.close (tie.spec (λ c κs. search needs) (λ c κs. search needs) returns read-against-requires turn-requires (λ c. search needs) returns-2)

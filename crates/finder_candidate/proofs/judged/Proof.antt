@@ -5,7 +5,7 @@ use mir.ValLaws.{toZ-ofZ}
 use borrow.Author.Needs.{needs, sfits-of}
 use Rattle.answers.specs.declared.Found.the-variants as says
 use Rattle.answers.specs.declared.NoneKind.the-variants as kind
-use Rattle.finder_candidate.specs.Judging.{answerOn, wrote-judged, few-edges, lists-are, plan-onto}
+use Rattle.finder_candidate.specs.Judging.{answerOn, wrote-judged, few-edges, plan-onto}
 use Rattle.finder_candidate.proofs.judged.Statement.{statement}
 use Rattle.finder_candidate.proofs.judged.Tie as tie
 
@@ -29,7 +29,7 @@ weigh-requires : tie.Need-weigh-requires
 weigh-requires c κs =
     let b = c .before .before .before .before .before .before .before .before .before .before .before .before .before .before .before .before in
     let l = c .before .before .before .before .before .before .before .before .before .before .before .list-edges .ensures in
-    (b .pre .0, b .pre .1, lists-are (b .args .g .m) (b .args .fixed .now) _ _ l, b .pre .3)
+    (b .pre .0, b .pre .1, l, b .pre .3)
 
 returns : tie.Need-returns
 returns c =

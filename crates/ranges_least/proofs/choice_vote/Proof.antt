@@ -1,7 +1,7 @@
 -- ranges_least::choice_vote answers the vote under the choice, the sum of both sides. Assumes nothing.
 use native.Mathlib.Omega.{arith}
 use mathlib.Core.Path.{_∙_}
-use Rattle.vote_of_flags.specs.Votable.{light}
+use Rattle.vote_plans.specs.Votable.{light}
 use Rattle.vote_plans.proofs.FilledRanks.{both-fits, both-kept}
 use Rattle.ranges_least.specs.ChoiceVote.{arrays, vote-is}
 use Rattle.ranges_least.proofs.choice_vote.Statement.{statement}

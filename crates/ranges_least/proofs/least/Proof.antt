@@ -2,30 +2,26 @@
 use lib.Dec.{T}
 use Rattle.theory_files.specs.Reads.{isBytes}
 use Rattle.roster_reading.specs.Place.{bytes-of}
-use Rattle.compare.specs.TwoPlans.{read-planned}
+use Rattle.plan_reader.specs.Planned.{read-planned}
 use Rattle.ranges_least.specs.Asked.{first-refused, first-accepted}
 use borrow.Author.Needs.{needs}
 use Rattle.ranges_least.proofs.least.Statement.{statement}
 use Rattle.ranges_least.proofs.least.Tie as tie
 
 -- the start, from the first plan's reading
-abbrev start : tie.After-read-plan → tie.Start
-start r = r .before .before .before .before .before .before .before .before .before .before .before .before .before .before .before
-
-read-plan-requires : tie.Need-read-plan-requires
-read-plan-requires c κs = let L = c .before .before .before .before .before .before .before .before .before .before .before .before .before .before .pre .0 in
-    (L .edges, λ e h. L .low-sv e, λ e h. L .low-st e, L .fileable .differ)
+abbrev start : tie.After-read-against → tie.Start
+start r = r .before .before .before .before .before
 
 second-judged-requires : tie.Need-second-judged-requires
 second-judged-requires c κs =
     let r = c .before .before .before .before .before .before .before .before in
     let s = start r in
     let f = s .args .first .now in
-    let k = r .before .before .before .before .before .before .before .before .before .before .before .before .before .before in
+    let k = r .before .before .before .before in
     let isB : T (isBytes f) = bytes-of f (λ i. k .shared-slice-known .given i) in (
       (
         s .pre .0,
-        read-planned (s .args .g) f (r .read-plan .result) (r .read-plan .ensures) (s .pre .0) isB
+        read-planned (s .args .g) f (r .read-against .result) (r .read-against .ensures) (s .pre .0) isB
             (c .before .before .before .before .before .before .a2 .given .1),
         s .pre .2,
       ),
@@ -36,17 +32,17 @@ returns : tie.Need-returns
 returns c =
     let r = c .before .before .before .before in
     let a = start r .args in
-    first-refused (a .g) (a .first .now) (r .read-plan .result) (r .read-plan .ensures) (a .out .now) (a .second .now) (a .ranges .now) (c .group-of .result)
+    first-refused (a .g) (a .first .now) (r .read-against .result) (r .read-against .ensures) (a .out .now) (a .second .now) (a .ranges .now) (c .group-of .result)
     (c .before .before .a .given .1) (c .group-of .ensures)
 
 returns-2 : tie.Need-returns-2
 returns-2 c =
     let r = c .before .before .before .before .before .before .before .before .before .before .before in
     let a = start r .args in
-    first-accepted (a .g) (a .first .now) (r .read-plan .result) (r .read-plan .ensures) (a .out .now) (a .second .now) (a .ranges .now)
+    first-accepted (a .g) (a .first .now) (r .read-against .result) (r .read-against .ensures) (a .out .now) (a .second .now) (a .ranges .now)
     (c .before .before .before .before .before .before .before .before .before .a2 .given .1) (c .before .before .second-judged .ensures)
 
 pub least-spec : {M : Type 1} → statement M
 least-spec =
-    tie.close (tie.spec read-plan-requires (λ c. search needs) (λ c κs. search needs) (λ c. search needs) second-judged-requires returns
+    tie.close (tie.spec (λ c κs. search needs) (λ c. search needs) (λ c κs. search needs) (λ c. search needs) second-judged-requires returns
     (λ c. search needs) returns-2)

@@ -2,31 +2,27 @@
 use lib.Dec.{T}
 use Rattle.theory_files.specs.Reads.{isBytes}
 use Rattle.roster_reading.specs.Place.{bytes-of}
-use Rattle.compare.specs.TwoPlans.{read-planned}
+use Rattle.plan_reader.specs.Planned.{read-planned}
 use Rattle.ranges_least.specs.Asked.{second-refused, second-accepted}
 use borrow.Author.Needs.{needs}
 use Rattle.ranges_least.proofs.second_judged.Statement.{statement}
 use Rattle.ranges_least.proofs.second_judged.Tie as tie
 
 -- the start, from the second plan's reading
-abbrev start : tie.After-read-plan → tie.Start
-start r = r .before .before .before .before .before .before .before .before .before .before .before .before .before .before
-
-read-plan-requires : tie.Need-read-plan-requires
-read-plan-requires c κs = let L = c .before .before .before .before .before .before .before .before .before .before .before .before .before .pre .0 .0 in
-    (L .edges, λ e h. L .low-sv e, λ e h. L .low-st e, L .fileable .differ)
+abbrev start : tie.After-read-against → tie.Start
+start r = r .before .before .before .before
 
 ranges-judged-requires : tie.Need-ranges-judged-requires
 ranges-judged-requires c κs =
     let r = c .before .before .before .before .before .before .before .before in
     let s = start r in
     let f = s .args .second .now in
-    let k = r .before .before .before .before .before .before .before .before .before .before .before .before .before in
+    let k = r .before .before .before in
     let isB : T (isBytes f) = bytes-of f (λ i. k .shared-slice-known .given i) in (
       (
         s .pre .0 .0,
         s .pre .0 .1,
-        read-planned (s .args .g) f (r .read-plan .result) (r .read-plan .ensures) (s .pre .0 .0) isB
+        read-planned (s .args .g) f (r .read-against .result) (r .read-against .ensures) (s .pre .0 .0) isB
             (c .before .before .before .before .before .before .a2 .given .1),
         s .pre .0 .2,
       ),
@@ -37,17 +33,17 @@ returns : tie.Need-returns
 returns c =
     let r = c .before .before .before .before in
     let a = start r .args in
-    second-refused (a .g) (a .second .now) (r .read-plan .result) (r .read-plan .ensures) (a .out .now) (a .p .now) (a .ranges .now) (c .group-of .result)
+    second-refused (a .g) (a .second .now) (r .read-against .result) (r .read-against .ensures) (a .out .now) (a .p .now) (a .ranges .now) (c .group-of .result)
     (c .before .before .a .given .1) (c .group-of .ensures)
 
 returns-2 : tie.Need-returns-2
 returns-2 c =
     let r = c .before .before .before .before .before .before .before .before .before .before .before in
     let a = start r .args in
-    second-accepted (a .g) (a .second .now) (r .read-plan .result) (r .read-plan .ensures) (a .out .now) (a .p .now) (a .ranges .now)
+    second-accepted (a .g) (a .second .now) (r .read-against .result) (r .read-against .ensures) (a .out .now) (a .p .now) (a .ranges .now)
     (c .before .before .before .before .before .before .before .before .before .a2 .given .1) (c .before .before .ranges-judged .ensures)
 
 pub second-judged-spec : {M : Type 1} → statement M
 second-judged-spec =
-    tie.close (tie.spec read-plan-requires (λ c. search needs) (λ c κs. search needs) (λ c. search needs) ranges-judged-requires returns
+    tie.close (tie.spec (λ c κs. search needs) (λ c. search needs) (λ c κs. search needs) (λ c. search needs) ranges-judged-requires returns
     (λ c. search needs) returns-2)

@@ -1,59 +1,54 @@
 -- `verdict::weigh_paired` meets its contract: the verdict, and where there is a rival the pairings of the vote against it. Assumes nothing.
-use mathlib.Core.Path.{_≡_, refl, sym, _∙_}
-use mathlib.Core.Bool.{Bool, true, false, not}
+use lib.ListN.{length}
 use borrow.Author.Needs.{needs}
-use Rattle.verdict.specs.RivalWritten.{plan-within, none-paired, some-paired, rival-matching}
+use Rattle.vote_pairings.specs.SidePairings.{Faced}
+use Rattle.vote_pairings.specs.RosterPairings.{both-faced, room}
+use Rattle.verdict.specs.RivalWritten.{plan-within, none-paired, some-paired}
 use Rattle.verdict.proofs.weigh_paired.Statement.{statement}
 use Rattle.verdict.proofs.weigh_paired.Tie as tie
 
--- what the test says of the answer
-not-no : (b : Bool) → not b ≡ false → b ≡ true
-not-no true e = refl
-not-no false e = sym e
-
-not-yes : (b : Bool) → not b ≡ true → b ≡ false
-not-yes true e = sym e
-not-yes false e = refl
+plan-pairings-requires : tie.Need-plan-pairings-requires
+plan-pairings-requires c κs =
+    let there = c .before .before .before .before .before .before .before .before .before .before .before .before .before .before .before in
+    let after = there .before .before .before in
+    let w = after .weighed in
+    let s = after .before .before .before .before in
+    let a = s .args in
+    let L = s .pre .0 .0 in
+    let p = plan-within (a .g) L (a .plan .now) (s .pre .0 .1 .0) (s .pre .0 .1 .1) in
+    let q = w .ensures .1 .within (there .if1 .taken) in (
+      both-faced (a .g) L (a .plan .now) (w .result .rival) p q,
+      (
+        (s .pre .0 .2, w .ensures .1 .listed (there .if1 .taken)),
+        room (a .g) L (a .plan .now) (w .result .rival) p q (length (a .pairings .now)) (s .pre .1),
+      ),
+    )
 
 returns : tie.Need-returns
 returns c =
-    let w = c .before .before .before .before .before .weighed in
-    let s = c .before .before .before .before .before .before .before .before .before in
+    let paired = c .before .before in
+    let there = paired .before .before .before .before .before .before .before .before .before .before .before .before .before .before .before .before in
+    let after = there .before .before .before in
+    let w = after .weighed in
+    let s = after .before .before .before .before in
     let a = s .args in
-    let e = sym (c .before .rivalled .ensures) ∙ not-yes (c .before .rivalled .result) (c .if1 .taken) in (
+    let g = a .g in (
       w .ensures .0,
-      λ M S. none-paired (a .g) (s .pre .0 .0) (a .plan .now) (w .result .rival) (w .ensures .1) M S (a .out .now) _ (w .result .verdict)
-          (w .ensures .0 M S) e (a .pairings .now),
-    )
-
-pairings-between-requires : tie.Need-pairings-between-requires
-pairings-between-requires c κs =
-    let w = c .before .before .before .before .before .before .before .weighed in
-    let s = c .before .before .before .before .before .before .before .before .before .before .before in
-    let a = s .args in
-    let M = s .pre .0 .1 .0 in
-    let S = s .pre .0 .1 .1 in
-    let r = c .before .before .before .rivalled in
-    let e = sym (r .ensures) ∙ not-no (r .result) (c .before .before .if1 .left) in (
-      s .pre .0 .0,
-      plan-within (a .g) (s .pre .0 .0) (a .plan .now) M S,
-      rival-matching (a .g) (s .pre .0 .0) (a .plan .now) (w .result .rival) (w .ensures .1) M S (a .out .now) _ (w .result .verdict) (w .ensures .0 M S) e,
-      s .pre .1,
+      λ M S. some-paired g (a .plan .now) (w .result .rival) (w .result .listed .n) (w .result .listed .edges) (w .ensures .1) M S (there .if1 .taken)
+          (a .pairings .now) _ (paired .plan-pairings .ensures (g .sh) (g .tied)),
     )
 
 returns-2 : tie.Need-returns-2
 returns-2 c =
-    let w = c .before .before .before .before .before .before .before .before .before .before .weighed in
-    let s = c .before .before .before .before .before .before .before .before .before .before .before .before .before .before in
-    let a = s .args in
-    let r = c .before .before .before .before .before .before .rivalled in
-    let e = sym (r .ensures) ∙ not-no (r .result) (c .before .before .before .before .before .if1 .left) in (
+    let after = c .before .before .before in
+    let w = after .weighed in
+    let s = after .before .before .before .before in
+    let a = s .args in (
       w .ensures .0,
-      λ M S. some-paired (a .g) (s .pre .0 .0) (a .plan .now) (w .result .rival) (w .ensures .1) M S (a .out .now) _ (w .result .verdict)
-          (w .ensures .0 M S) e (a .pairings .now) _ (c .before .before .pairings-between .ensures),
+      λ M S. none-paired (a .g) (a .plan .now) (w .result .rival) (w .result .listed .n) (w .result .listed .edges) (w .ensures .1) M S (c .if1 .left)
+          (a .pairings .now),
     )
 
 pub weigh-paired-spec : {M : Type 1} → statement M
 weigh-paired-spec =
-    tie.close (tie.spec (λ c κs. search needs) (λ c κs. search needs) (λ c. search needs) returns pairings-between-requires (λ c. search needs)
-    (λ c. search needs) returns-2)
+    tie.close (tie.spec (λ c κs. search needs) plan-pairings-requires (λ c. search needs) (λ c. search needs) returns (λ c. search needs) returns-2)

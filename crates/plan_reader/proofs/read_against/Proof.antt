@@ -1,6 +1,6 @@
--- `desk_loaded::plan_read` meets its contract: the arrays are what the plan reader asks for. Assumes nothing.
-use Rattle.desk_loaded.proofs.plan_read.Statement.{statement}
-use Rattle.desk_loaded.proofs.plan_read.Tie as tie
+-- `plan_reader::read_against` meets its contract: the arrays are what the plan reader asks for. Assumes nothing.
+use Rattle.plan_reader.proofs.read_against.Statement.{statement}
+use Rattle.plan_reader.proofs.read_against.Tie as tie
 
 read-plan-requires : tie.Need-read-plan-requires
 read-plan-requires c κs =
@@ -12,5 +12,5 @@ returns c =
     let g = c .before .before .before .before .before .before .before .before .before .before .before .before .args .g in
     c .read-plan .ensures (g .ns) (g .nt) (g .«rank_s») (g .«rank_t») (g .tied)
 
-pub plan-read-spec : {M : Type 1} → statement M
-plan-read-spec = tie.close (tie.spec read-plan-requires returns)
+pub read-against-spec : {M : Type 1} → statement M
+read-against-spec = tie.close (tie.spec read-plan-requires returns)
