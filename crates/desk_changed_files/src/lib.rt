@@ -9,28 +9,26 @@ use desk_stored::Change;
 pub fn joined(files: Files, short: bool, quota: u8, list: &[u8]) -> Change
     ensures { λ r. ⌜ ChangedTo files short (λ R. joinOn R quota (now (list .entry))) 0 r ⌝ }
 {
-    let l = desk_files::loaded(files, false, short);
-    let n = l.refusal;
+    let array = files.roster;
+    let file = desk_files::front(&array, files.roster_len);
+    let n = desk_loaded::roster_refusal(file, short);
     if 0 < n {
         return desk_stored::unchanged(files, n);
     }
-    let array = files.roster;
-    let file = desk_files::front(&array, files.roster_len);
     let c = roster_join::join(file, quota, list);
-    desk_stored::taken(files, l.g, c, 0)
+    desk_stored::taken(files, c, 0)
 }
 
 // a surveyor leaves; `short`: a buffer lent to the call is below its size
 pub fn departed(files: Files, short: bool, number: u8) -> Change
     ensures { λ r. ⌜ ChangedTo files short (λ R. leaveOn R number) number r ⌝ }
 {
-    let held = desk_files::loaded(files, false, short);
-    let n = held.refusal;
-    if 0 < n {
-        return desk_stored::unchanged(files, n);
-    }
     let array = files.roster;
     let file = desk_files::front(&array, files.roster_len);
+    let refusal = desk_loaded::roster_refusal(file, short);
+    if 0 < refusal {
+        return desk_stored::unchanged(files, refusal);
+    }
     let c = roster_leave::leave(file, number);
-    desk_stored::taken(files, held.g, c, number)
+    desk_stored::taken(files, c, number)
 }

@@ -36,10 +36,13 @@ use Rattle.finder_candidate.specs.FoundBuffers.{leftAfter, planAfter, answerFor
 use Rattle.diary.specs.FlatDiary.{flatSize}
 use Rattle.desk_find.specs.declared.Outcome.{Outcome}
 use Rattle.desk_find.specs.Outcomes as finds
-use Rattle.desk_find.specs.Outcomes.{FindsFor, short, OutcomeFor, Outcomes}
+use Rattle.desk_find.specs.Outcomes.{FindsFor, Works, short, OutcomeFor, Outcomes, out-settled}
 use Rattle.desk_files.specs.declared.Files.{Files}
 use Rattle.desk_find.specs.declared.Searched.{Searched}
+use Rattle.instance.specs.declared.Instance as arrays
+use Rattle.instance.specs.Decoded.{shownBy}
 use Rattle.desk_loaded.specs.Held.{heldPlan, held, stateNumber}
+use Rattle.desk_loaded.specs.RosterBytes.{ArraysOf}
 use Rattle.desk_files.specs.Held.{rosterBytes, planBytes, proposalBytes, beside, heldOf, beside-number, of-roster}
 use Rattle.desk_files.specs.Replies.{Replied}
 use Rattle.desk_files.specs.State.{states, by-state, pass-answer, pass-lent, desk-alike, roster-held}
@@ -47,6 +50,17 @@ use Rattle.desk_files.specs.State.{states, by-state, pass-answer, pass-lent, de
 pub record Done (d : Files) (room : ℕ) (l p v : List ℕ) (c : Searched) (l′ p′ v′ : List ℕ) : Type 0 where
   pub same : c .files ≡ d
   pub outcome : Outcomes (rosterBytes d) room l p v (c .outcome) l′ p′ v′
+
+-- the roster held is accepted, and the buffers have their sizes
+abbrev pub Settled : Files → (room : ℕ) (l p v : List ℕ) → Type 0
+Settled d room l p v = ((R : Roster) × (readRoster (rosterBytes d) ≡ accepted R)) × (short room l p v ≡ false)
+
+pub done-settled : (d : Files) (room : ℕ) (l p v : List ℕ) → Settled d room l p v → {roster : List ℕ} → roster ≡ rosterBytes d → {g : arrays.Instance}
+    → ArraysOf roster g → (c : Searched) (l′ p′ v′ : List ℕ) → c .files ≡ d → Works (shownBy g) l p v (c .outcome) l′ p′ v′ → Done d room l p v c l′ p′ v′
+done-settled d room l p v ((R, a), e) {roster} i {g} A c l′ p′ v′ same w = record {
+  same = same;
+  outcome = out-settled room l p v e R a (subst (λ bs. ArraysOf bs g) i A) (c .outcome) l′ p′ v′ w;
+}
 
 -- on the bytes held
 pub done-on : {d : Files} {room : ℕ} {l p v : List ℕ} {c : Searched} {l′ p′ v′ : List ℕ} {roster : List ℕ} → roster ≡ rosterBytes d → c .files ≡ d

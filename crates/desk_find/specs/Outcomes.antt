@@ -34,6 +34,7 @@ use Rattle.finder.specs.Promise.{stepsIn, steps-are}
 use Rattle.desk_loaded.specs.declared.OnDesk.{OnDesk}
 use Rattle.desk_loaded.specs.Held.{held, stateNumber, unneeded}
 use Rattle.desk_loaded.specs.OnDesk.{LoadedFrom, its-roster, its-length}
+use Rattle.desk_loaded.specs.RosterBytes.{ArraysOf}
 use Rattle.desk_find.specs.declared.Outcome.{Outcome}
 
 -- ---- what is found, with the flat diary
@@ -102,6 +103,20 @@ sizes room l p v e =
     none true b e = absurd (subst T e tt)
     none false b e = (refl, e)
 
+-- of a roster that is accepted, with buffers of their sizes
+pub out-settled : {roster : List ℕ} (room : ℕ) (l p v : List ℕ) → short room l p v ≡ false → (R : Roster) → readRoster roster ≡ accepted R
+    → {g : arrays.Instance} → ArraysOf roster g → (o : Outcome) (l′ p′ v′ : List ℕ) → Works (shownBy g) l p v o l′ p′ v′ → Outcomes roster room l p v o l′ p′ v′
+out-settled room l p v s R a A o l′ p′ v′ w =
+    subst (λ y. OutcomeFor y (short room l p v) l p v o l′ p′ v′) (sym a)
+    (subst (λ y. OutcomeFor (accepted R) y l p v o l′ p′ v′) (sym s) (
+      record {
+        fitting = A .fitting R a;
+        few = subst (λ (G : Instance). G .m ≤ entryLimit) (A .instance R a) (A .arrays .edges);
+        finds = subst (λ G. FindsIn G (replicate flatSize 0) l p v (o .answer) (o .flat) l′ p′ v′) (A .instance R a) (w .finds);
+      },
+      w .steps,
+    ))
+
 module _ {roster file : List ℕ} (room : ℕ) (l p v : List ℕ) {b : Bool} {k : OnDesk} (is : b ≡ short room l p v) (loaded : LoadedFrom roster file false b k)
   where
     F : LoadedFrom roster file false (short room l p v) k
@@ -125,13 +140,5 @@ module _ {roster file : List ℕ} (room : ℕ) (l p v : List ℕ) {b : Bool} {k 
 
       pub out-found : (o : Outcome) (l′ p′ v′ : List ℕ) → Works (shownBy (k .g)) l p v o l′ p′ v′ → Outcomes roster room l p v o l′ p′ v′
       out-found o l′ p′ v′ w = given (its-roster z F) (λ (R, e).
-          let I = F .instance R e in
-          subst (λ y. OutcomeFor y (short room l p v) l p v o l′ p′ v′) (sym e)
-          (subst (λ y. OutcomeFor (accepted R) y l p v o l′ p′ v′) (sym (its-length z F)) (
-            record {
-              fitting = F .fitting R e;
-              few = subst (λ (G : Instance). G .m ≤ entryLimit) (I .1) (I .0 .edges);
-              finds = subst (λ G. FindsIn G (replicate flatSize 0) l p v (o .answer) (o .flat) l′ p′ v′) (I .1) (w .finds);
-            },
-            w .steps,
-          )))
+          out-settled room l p v (its-length z F) R e
+          (record { arrays = F .instance R e .0; instance = λ R e. F .instance R e .1; fitting = F .fitting }) o l′ p′ v′ w)

@@ -6,7 +6,7 @@ ghost use Rattle.model.specs.Limits.{planSize, leftSize};
 ghost use Rattle.instance.specs.Decoded.{shownBy};
 ghost use Rattle.instance.specs.Loaded.{Loaded};
 ghost use Rattle.desk_find.specs.Outcomes.{Refuses, Works, Outcomes};
-ghost use Rattle.desk_find.specs.Finding.{Done};
+ghost use Rattle.desk_find.specs.Finding.{Settled, Done};
 use answers::Found;
 use desk_files::Files;
 use instance::Instance;
@@ -94,6 +94,27 @@ pub fn search(
     let r = desk_files::front(&roster, files.roster_len);
     let p = desk_files::front(&held, files.plan_len);
     let o = found(r, p, room, left, plan, rival);
+    Searched {
+        files: files,
+        outcome: o,
+    }
+}
+
+// The same behind a change, whose roster is accepted and for whose call the buffers had their sizes: neither is judged again.
+pub fn search_changed(
+    files: Files,
+    room: usize,
+    left: &mut [u8],
+    plan: &mut [u8],
+    rival: &mut [u8],
+) -> Searched
+    requires { ⌜ Settled files room (now left) (now plan) (now rival) ⌝ }
+    ensures { λ r. ⌜ Done files room (now (left .entry)) (now (plan .entry)) (now (rival .entry)) r (now (left .exit)) (now (plan .exit))
+        (now (rival .exit)) ⌝ }
+{
+    let roster = files.roster;
+    let g = desk_loaded::arrays_of(desk_files::front(&roster, files.roster_len));
+    let o = worked(g, left, plan, rival);
     Searched {
         files: files,
         outcome: o,

@@ -2,11 +2,15 @@
 // roster's bytes are read once, for their refusal, and decoded once, for the arrays; the plan's bytes are read once, where a plan is needed.
 ghost use mathlib.Core.Path.{_≡_};
 ghost use mathlib.Core.Bool.{true, cond};
+ghost use Rattle.model.specs.Reading.{accepted};
+ghost use Rattle.model.specs.Roster.{Roster};
+ghost use Rattle.model.specs.RosterFile.{readRoster};
 ghost use Rattle.model.specs.PlanFile.{readPlan};
 ghost use Rattle.answers.specs.FileCases.{fileCase};
 ghost use Rattle.instance.specs.Decoded.{shownBy};
 ghost use Rattle.instance.specs.Loaded.{Loaded};
 ghost use Rattle.desk_loaded.specs.OnDesk.{OnRoster, LoadedFrom};
+ghost use Rattle.desk_loaded.specs.RosterBytes.{Judged, ArraysOf};
 use answers::FileAnswer;
 use instance::Instance;
 use limits::ENTRY_LIMIT;
@@ -105,4 +109,29 @@ pub fn loaded(roster: &[u8], plan: &[u8], needs: bool, short: bool) -> OnDesk
         FileAnswer::Refused(_, _) => bare(g, 13),
         FileAnswer::Accepted => on_roster(g, plan, needs, short),
     }
+}
+
+// ---- the two halves of it, for calls that need one of them
+// The state's refusal of a call that works on the roster's bytes alone, which are judged and not decoded: 13, then 15; 0 for none.
+pub fn roster_refusal(roster: &[u8], short: bool) -> u8
+    ensures { λ r. ⌜ Judged (now (roster .entry)) short r ⌝ }
+{
+    let a = roster::read_roster(roster);
+    match a {
+        FileAnswer::Refused(_, _) => 13,
+        FileAnswer::Accepted => {
+            if short {
+                return 15;
+            }
+            0
+        }
+    }
+}
+
+// The arrays of bytes that are known to be a roster's, which are decoded and not judged.
+pub fn arrays_of(roster: &[u8]) -> Instance
+    requires { ⌜ ((R : Roster) × (readRoster (now roster) ≡ accepted R)) ⌝ }
+    ensures { λ g. ⌜ ArraysOf (now (roster .entry)) g ⌝ }
+{
+    instance::instance_of(roster)
 }

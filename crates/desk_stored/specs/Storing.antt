@@ -5,6 +5,9 @@ use mathlib.Core.List.{List, []}
 use lib.ListN.{take}
 use Rattle.lists.specs.Sum.{_∈_}
 use Rattle.model.specs.Reading.{Reading, accepted, refused}
+use Rattle.model.specs.Roster.{Roster}
+use Rattle.model.specs.RosterFile.{readRoster}
+use Rattle.model.specs.Edges.{instanceOf}
 use Rattle.model.specs.Instance.{Instance}
 use Rattle.model.specs.Plans.{Plan, plansOf}
 use Rattle.model.specs.PlanFile as plans
@@ -24,9 +27,17 @@ abbrev pub LessOf : Instance → (number : ℕ) → Reading Plan → List ℕ �
 LessOf G s (accepted M) bytes = (M ∈ plansOf G) × (bytes ≡ plans.planBytes G (besides G M s))
 LessOf G s (refused n) bytes = bytes ≡ []
 
+-- the same of the files, with the roster that is held
+abbrev pub LessHeld : Files → (number : ℕ) → List ℕ → Type 0
+LessHeld d s bytes = (R : Roster) → readRoster (rosterBytes d) ≡ accepted R → LessOf (instanceOf R) s (readPlan (instanceOf R) (planBytes d)) bytes
+
 -- a roster and the plan with it, and the proposal's bytes as they were
-abbrev pub StoredAs : Instance → (before : Files) → (number : ℕ) → (roster : List ℕ) → (after : Files) → Type 0
-StoredAs G d s roster d′ = (rosterBytes d′ ≡ roster) × LessOf G s (readPlan G (planBytes d)) (planBytes d′) × (proposalBytes d′ ≡ proposalBytes d)
+abbrev pub StoredFor : Instance → (before : Files) → (number : ℕ) → (roster : List ℕ) → (after : Files) → Type 0
+StoredFor G d s roster d′ = (rosterBytes d′ ≡ roster) × LessOf G s (readPlan G (planBytes d)) (planBytes d′) × (proposalBytes d′ ≡ proposalBytes d)
+
+-- with the roster that is held
+abbrev pub StoredAs : (before : Files) → (number : ℕ) → (roster : List ℕ) → (after : Files) → Type 0
+StoredAs d s roster d′ = (R : Roster) → readRoster (rosterBytes d) ≡ accepted R → StoredFor (instanceOf R) d s roster d′
 
 -- W-207: the proposal's bytes stay where the roster's are what they were, else they are gone
 abbrev pub Open : (old new proposal : List ℕ) → (after : List ℕ) → Type 0
@@ -41,6 +52,9 @@ pub record Made (G : Instance) (d : Files) (s : ℕ) (roster : List ℕ) (d′ :
   pub proposal : Open (rosterBytes d) roster (proposalBytes d) (proposalBytes d′)
 
 -- by the answer of the change's bytes
-pub record Taken (G : Instance) (d : Files) (s : ℕ) (c : Changed) (r : Change) : Type 0 where
+pub record TakenFor (G : Instance) (d : Files) (s : ℕ) (c : Changed) (r : Change) : Type 0 where
   pub refuses : 0 < c .refusal → Unchanged (c .refusal) d r
   pub takes : c .refusal ≤ 0 → (r .refusal ≡ 0) × Made G d s (take (c .len) (c .roster)) (r .files)
+
+abbrev pub Taken : (d : Files) (s : ℕ) (c : Changed) (r : Change) → Type 0
+Taken d s c r = (R : Roster) → readRoster (rosterBytes d) ≡ accepted R → TakenFor (instanceOf R) d s c r

@@ -1,12 +1,20 @@
 // A changed roster stored in the desk's files (request W-202): with it the held plan less a leaver's pairs, and the proposal open or closed (W-207); or
 // the change's refusal, and the files as they were.
+ghost use mathlib.Core.Path.{_≡_};
 ghost use lib.ListN.{take};
+ghost use Rattle.model.specs.Reading.{accepted};
+ghost use Rattle.model.specs.Roster.{Roster};
+ghost use Rattle.model.specs.RosterFile.{readRoster};
+ghost use Rattle.model.specs.PlanFile.{readPlan};
 ghost use Rattle.instance.specs.Decoded.{shownBy};
 ghost use Rattle.instance.specs.Loaded.{Loaded};
-ghost use Rattle.desk_stored.specs.Storing.{Unchanged, StoredAs, ClosedFor, Taken};
+ghost use Rattle.desk_files.specs.Held.{rosterBytes};
+ghost use Rattle.desk_stored.specs.Storing.{Unchanged, LessOf, LessHeld, StoredAs, ClosedFor, Taken};
 use desk_files::Files;
 use instance::Instance;
+use limits::PLAN_SIZE;
 use limits::ROSTER_SIZE;
+use plan_carried::CarriedPlan;
 use roster_parts::Changed;
 
 // A refusal, 0 for none, and the files afterwards: on a refusal as they came.
@@ -24,30 +32,47 @@ pub fn unchanged(files: Files, number: u8) -> Change
     }
 }
 
-// The changed roster in the place of the one held, and the plan held, where there is one, without the pairs of a leaver's number: "nothing
-// stale" stays in the plan's array. The proposal's bytes as they are.
-pub(crate) fn stored(
-    files: Files,
-    g: Instance,
-    roster: [u8; ROSTER_SIZE],
-    n: usize,
-    number: u8,
-) -> Files
+// The plan held less the pairs of a leaver's number, by the arrays of the roster held; where its bytes are no plan there is none: "nothing stale" stays.
+pub(crate) fn less(g: Instance, plan: &[u8], number: u8) -> CarriedPlan
     requires { ⌜ Loaded g ⌝ }
-    ensures { λ r. ⌜ StoredAs (shownBy g) files number (take n roster) r ⌝ }
+    ensures { λ r. ⌜ LessOf (shownBy g) number (readPlan (shownBy g) (now (plan .entry))) (take (r .len) (r .bytes)) ⌝ }
+{
+    let l = desk_loaded::with_plan(g, plan, false);
+    if 0 < l.refusal {
+        return CarriedPlan {
+            len: 0,
+            bytes: [0; PLAN_SIZE],
+        };
+    }
+    let held = l.plan;
+    plan_carried::carried(g, &held, number)
+}
+
+// The same of the files: the roster held is decoded for it.
+pub(crate) fn less_held(files: Files, number: u8) -> CarriedPlan
+    requires { ⌜ ((R : Roster) × (readRoster (rosterBytes files) ≡ accepted R)) ⌝ }
+    ensures { λ r. ⌜ LessHeld files number (take (r .len) (r .bytes)) ⌝ }
 {
     let array = files.plan;
-    let file = desk_files::front(&array, files.plan_len);
-    let l = desk_loaded::with_plan(g, file, false);
+    let plan = desk_files::front(&array, files.plan_len);
+    let old = files.roster;
+    let g = desk_loaded::arrays_of(desk_files::front(&old, files.roster_len));
+    less(g, plan, number)
+}
+
+// The changed roster in the place of the one held, and the plan held, where there is one, without the pairs of a leaver's number; the proposal's bytes
+// as they are.
+pub(crate) fn stored(files: Files, roster: [u8; ROSTER_SIZE], n: usize, number: u8) -> Files
+    requires { ⌜ ((R : Roster) × (readRoster (rosterBytes files) ≡ accepted R)) ⌝ }
+    ensures { λ r. ⌜ StoredAs files number (take n roster) r ⌝ }
+{
     let mut next = files;
     next.roster_len = n;
     next.roster = roster;
-    if 0 < l.refusal {
-        next.plan_len = 0;
+    if files.plan_len == 0 {
         return next;
     }
-    let plan = l.plan;
-    let c = plan_carried::carried(g, &plan, number);
+    let c = less_held(files, number);
     let bytes = c.bytes;
     next.plan_len = c.len;
     next.plan = bytes;
@@ -71,16 +96,16 @@ pub(crate) fn closed(files: Files, next: Files) -> Files
 }
 
 // the answer of a change of the roster held
-pub fn taken(files: Files, g: Instance, c: Changed, number: u8) -> Change
-    requires { ⌜ Loaded g ⌝ }
-    ensures { λ r. ⌜ Taken (shownBy g) files number c r ⌝ }
+pub fn taken(files: Files, c: Changed, number: u8) -> Change
+    requires { ⌜ ((R : Roster) × (readRoster (rosterBytes files) ≡ accepted R)) ⌝ }
+    ensures { λ r. ⌜ Taken files number c r ⌝ }
 {
     let n = c.refusal;
     if 0 < n {
         return unchanged(files, n);
     }
     let roster = c.roster;
-    let next = stored(files, g, roster, c.len, number);
+    let next = stored(files, roster, c.len, number);
     let d = closed(files, next);
     Change {
         refusal: 0,

@@ -5,65 +5,35 @@ use mathlib.Core.Path.{_≡_, refl, sym, ap, _∙_}
 use mathlib.Core.Bool.{Bool, true, false, cond}
 use mathlib.Core.List.{List}
 use lib.ListN.{length}
-use lib.Dec.{T, ltb}
+use lib.Dec.{ltb}
 use Rattle.lists.specs.Test.{given, by-bool}
 use Rattle.model.specs.Limits.{planSize, rosterSize}
-use Rattle.model.specs.Reading.{accepted, isBytes}
+use Rattle.model.specs.Reading.{accepted}
 use Rattle.model.specs.Roster.{Roster}
 use Rattle.model.specs.RosterFile.{readRoster, writeRoster}
 use Rattle.model.specs.Edges.{instanceOf}
 use Rattle.model.specs.PlanFile as plans
 use Rattle.model.specs.PlanFile.{readPlan}
 use Rattle.model_desk.specs.Desk.{writeRosterTo, writePlanTo, refusal, wrote, onto}
-use Rattle.theory_files.specs.Rosters.{read-write}
-use Rattle.answers.specs.declared.Group.{Group}
-use Rattle.answers.specs.declared.FileAnswer.the-variants.{Accepted, Refused}
-use Rattle.answers.specs.FileCases.{fileCase, case-accepted, case-refused}
 use Rattle.desk_loaded.specs.declared.OnDesk.{OnDesk}
 use Rattle.desk_loaded.specs.Held.{heldPlan, held, stateNumber, unneeded}
 use Rattle.desk_loaded.specs.OnDesk.{LoadedFrom}
+use Rattle.desk_loaded.specs.RosterBytes.{Judged}
 use Rattle.desk_files.specs.declared.Files.{Files}
 use Rattle.desk_files.specs.Held.{rosterBytes, planBytes, proposalBytes, heldProposal, beside, heldOf, beside-number, of-roster, of-plan}
 use Rattle.desk_files.specs.Replies.{Replied}
 use Rattle.desk_files.specs.State.{state-is, roster-held, passes, other, its-plan-held}
 
 -- ---- with the roster held
--- n is the state's refusal of a call that needs these bytes to be a roster, and a roster's bytes are what the model writes of it
-pub record Judged (bytes : List ℕ) (short : Bool) (n : ℕ) : Type 0 where
-  pub refusal-is : (plan : List ℕ) → n ≡ stateNumber (held (readRoster bytes) plan) false short
-  pub roster-is : n ≤ 0 → (R : Roster) × (readRoster bytes ≡ accepted R) × (writeRoster R ≡ bytes)
-
-module _ (bytes : List ℕ) (short : Bool) where
-  pub judged-not : {n : ℕ} {g : Group} → Refused n g ≡ fileCase (readRoster bytes) → Judged bytes short 13
-  judged-not q = record {
-    refusal-is = λ plan. sym (ap (λ x. stateNumber (held x plan) false short) (case-refused (readRoster bytes) q));
-    roster-is = λ z. absurd (omega arith);
-  }
-
-  pub judged : T (isBytes bytes) → Accepted ≡ fileCase (readRoster bytes) → (n : ℕ) → n ≡ cond short 15 0 → Judged bytes short n
-  judged isB q n i = given (case-accepted (readRoster bytes) q) (λ (R, e). record {
-    refusal-is = λ plan. i ∙ unneeded R (readPlan (instanceOf R) plan) short ∙ sym (ap (λ x. stateNumber (held x plan) false short) e);
-    roster-is = λ z. (R, e, read-write bytes R isB e);
-  })
-
 module _ (d : Files) {short : Bool} {n : ℕ} (J : Judged (rosterBytes d) short n) where
   pub judged-state : n ≡ stateNumber (heldOf d) false short
   unfolding heldOf
   judged-state = J .refusal-is (planBytes d) ∙ beside-number (proposalBytes d) (held (readRoster (rosterBytes d)) (planBytes d)) false short
 
-  -- the buffer lent to it has its size
-  pub judged-long : n ≤ 0 → short ≡ false
-  judged-long z = given (J .roster-is z) (λ (R, a, w). by-bool short
-      (λ t. absurd (omega (arith, numbered R a, ap {B = ℕ} (λ b. cond b 15 0) t))) (λ f. f))
-    where
-      numbered : (R : Roster) → readRoster (rosterBytes d) ≡ accepted R → n ≡ cond short 15 0
-      numbered R a = J .refusal-is (planBytes d) ∙ ap (λ x. stateNumber (held x (planBytes d)) false short) a
-          ∙ sym (unneeded R (readPlan (instanceOf R) (planBytes d)) short)
-
   pub write-roster-reply : n ≤ 0 → (out : List ℕ) {k : ℕ} {after : List ℕ} → short ≡ ltb (length out) rosterSize → k ≡ length (rosterBytes d)
       → after ≡ onto (rosterBytes d) out
       → Replied d (writeRosterTo out) (wrote k) (writeRosterTo after) d
-  write-roster-reply z out s p q = given (J .roster-is z) (λ (R, a, w).
+  write-roster-reply z out s p q = given (J .roster-is z) (λ (R, a, h, w).
       let y = readPlan (instanceOf R) (planBytes d) in
       let f = proposalBytes d in
       passes d (writeRosterTo out) tt tt (judged-state ∙ ap (stateNumber (heldOf d) false) s) z (beside f (heldPlan R y)) (roster-held d R a)

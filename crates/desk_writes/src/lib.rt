@@ -2,35 +2,17 @@
 ghost use Rattle.model_desk.specs.Desk.{writeRosterTo, writePlanTo};
 ghost use Rattle.answers.specs.WrittenCases.{writtenShown};
 ghost use Rattle.desk_files.specs.Replies.{Replied};
-ghost use Rattle.desk_writes.specs.Writing.{Judged};
 ghost use Rattle.desk_writes.specs.Seasons.{TurnsBy};
-use answers::FileAnswer;
 use answers::Written;
 use desk_files::Files;
 use limits::PLAN_SIZE;
 use limits::ROSTER_SIZE;
 
-// The state's refusal of a call that works on the roster's bytes alone, which are judged and not decoded: 13, then 15; 0 for none.
-fn roster_refusal(roster: &[u8], short: bool) -> u8
-    ensures { λ r. ⌜ Judged (now (roster .entry)) short r ⌝ }
-{
-    let a = roster::read_roster(roster);
-    match a {
-        FileAnswer::Refused(_, _) => 13,
-        FileAnswer::Accepted => {
-            if short {
-                return 15;
-            }
-            0
-        }
-    }
-}
-
 pub fn write_roster(files: Files, out: &mut [u8]) -> Written
     ensures { λ r. ⌜ Replied files (writeRosterTo (now (out .entry))) (writtenShown r) (writeRosterTo (now (out .exit))) files ⌝ }
 {
     let roster = files.roster;
-    let n = roster_refusal(
+    let n = desk_loaded::roster_refusal(
         desk_files::front(&roster, files.roster_len),
         out.len() < ROSTER_SIZE,
     );

@@ -11,12 +11,15 @@ returns c = record {
   finds = λ z. absurd (let h = c .before .if1 .taken in let z : ⊥ = omega arith in z);
 }
 
+search-changed-requires : tie.Need-search-changed-requires
+search-changed-requires c κs = c .before .before .before .before .before .before .before .before .pre (c .before .before .before .if1 .left)
+
 returns-2 : tie.Need-returns-2
 returns-2 c = record {
   refuses = λ h. absurd (let z = c .before .before .before .before .before .before .before .before .before .before .if1 .left in let z : ⊥ = omega arith in z);
-  finds = λ z. c .before .before .before .before .before .before .search .ensures;
+  finds = λ z. c .before .before .before .before .before .before .search-changed .ensures;
 }
 
 pub found-on-spec : {M : Type 1} → statement M
 found-on-spec =
-    tie.close (tie.spec (λ c κs. search needs) returns (λ c κs. search needs) (λ c. search needs) (λ c. search needs) (λ c. search needs) returns-2)
+    tie.close (tie.spec (λ c κs. search needs) returns search-changed-requires (λ c. search needs) (λ c. search needs) (λ c. search needs) returns-2)

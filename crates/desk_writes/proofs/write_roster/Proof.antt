@@ -7,7 +7,8 @@ use Rattle.lists.specs.Test.{false-T}
 use Rattle.model.specs.Limits.{rosterSize}
 use Rattle.model_desk.specs.Desk.{writeRosterTo, refused}
 use Rattle.desk_files.specs.State.{by-state}
-use Rattle.desk_writes.specs.Writing.{Judged, judged-state, judged-long, write-roster-reply}
+use Rattle.desk_loaded.specs.RosterBytes.{Judged, judged-long}
+use Rattle.desk_writes.specs.Writing.{judged-state, write-roster-reply}
 use borrow.Author.Needs.{needs}
 use Rattle.desk_writes.proofs.write_roster.Statement.{statement}
 use Rattle.desk_writes.proofs.write_roster.Tie as tie
@@ -26,7 +27,7 @@ copied-requires c κs =
     let r = c .before .before .before .roster-refusal in
     let J = subst (λ bs. Judged bs (ltb (length (d .out .now)) rosterSize) (r .result)) (c .before .before .before .before .front .ensures) (r .ensures) in
     let full : length (d .files .roster) ≡ rosterSize = search needs in
-    omega (arith, full, nltb→le (length (d .out .now)) rosterSize (false-T (judged-long (d .files) J (c .before .before .if1 .left))))
+    omega (arith, full, nltb→le (length (d .out .now)) rosterSize (false-T (judged-long J (c .before .before .if1 .left))))
 
 returns-2 : tie.Need-returns-2
 returns-2 c =

@@ -1,11 +1,11 @@
--- `desk_writes::roster_refusal` meets its contract. Assumes nothing.
+-- `desk_loaded::roster_refusal` meets its contract. Assumes nothing.
 use mathlib.Core.Path.{sym, ap, _∙_}
 use mathlib.Core.Bool.{cond}
 use Rattle.roster_reading.specs.Place.{bytes-of}
-use Rattle.desk_writes.specs.Writing.{judged-not, judged}
+use Rattle.desk_loaded.specs.RosterBytes.{judged-not, judged}
 use borrow.Author.Needs.{needs}
-use Rattle.desk_writes.proofs.roster_refusal.Statement.{statement}
-use Rattle.desk_writes.proofs.roster_refusal.Tie as tie
+use Rattle.desk_loaded.proofs.roster_refusal.Statement.{statement}
+use Rattle.desk_loaded.proofs.roster_refusal.Tie as tie
 
 returns : tie.Need-returns
 returns c =
