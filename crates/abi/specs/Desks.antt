@@ -6,7 +6,7 @@ use mathlib.Core.Option.{some}
 use Rattle.model.specs.Roster.{Roster}
 use Rattle.model.specs.Edges.{instanceOf}
 use Rattle.model.specs.Plans.{Plan}
-use Rattle.model_desk.specs.Desk.{planHeld, Call, judge, Answer}
+use Rattle.model_desk.specs.Desk.{planHeld, Topic, Call, judge, Answer}
 use Rattle.theory_finder.specs.RivalSaid.{RivalSaid}
 use Rattle.answers.specs.declared.Verdict.{Verdict}
 use Rattle.answers.specs.VerdictCases.{verdictShown}
@@ -18,12 +18,12 @@ use Rattle.desk_files.specs.Replies.{answered, Replied}
 use Rattle.desk_queries.specs.Judging.{Judges}
 
 -- a call on a desk: its numbers, and all that the desk promises
-pub record Served {A : Type 0} (numbersIn : Answer → A) (d : Files) (c : Call) (n : A) (c′ : Call) (d′ : Files) : Type 0 where
+pub record Served {A : Type 0} {k : Topic} (numbersIn : Answer k → A) (d : Files) (c : Call k) (n : A) (c′ : Call k) (d′ : Files) : Type 0 where
   pub numbers : n ≡ numbersIn (answered (heldOf d) c)
   pub reply : Replied d c (answered (heldOf d) c) c′ d′
 
-pub served : {A : Type 0} (numbersIn : Answer → A) {d : Files} {c : Call} {a : Answer} {n : A} {c′ : Call} {d′ : Files} → Replied d c a c′ d′
-    → n ≡ numbersIn a → Served numbersIn d c n c′ d′
+pub served : {A : Type 0} {k : Topic} (numbersIn : Answer k → A) {d : Files} {c : Call k} {a : Answer k} {n : A} {c′ : Call k} {d′ : Files}
+    → Replied d c a c′ d′ → n ≡ numbersIn a → Served numbersIn d c n c′ d′
 served numbersIn {d} {c} {a} {n} {c′} {d′} R e = record { numbers = e ∙ ap numbersIn (R .answer); reply = subst (λ z. Replied d c z c′ d′) (R .answer) R }
 
 -- the verdict's call: the same, and what holds of the rival that it writes and of the pairings of the vote against it

@@ -20,7 +20,8 @@ use Rattle.model.specs.Plans.{Plan, voteOf}
 use Rattle.model.specs.PlanFile.{readPlan}
 use Rattle.model_desk.specs.Compare as model
 use Rattle.model_desk.specs.Compare.{compared, secondJudged, comparisonOf, pairingsOf}
-use Rattle.model_desk.specs.Desk.{refused, refusal, bothVotes, propose, proposalAnswer, withProposal, proposalPairings, pairingsOnto, answerOn, lentOn, deskOn}
+use Rattle.model_desk.specs.Desk.{refused, said, refusal, bothVotes, propose, proposalAnswer, withProposal, proposalPairings, pairingsOnto, answerOn}
+use Rattle.model_desk.specs.Desk.{lentOn, deskOn}
 use Rattle.theory_finder.specs.Choices.{chosen}
 use Rattle.theory_files.specs.Reads.{isBytes}
 use Rattle.theory_files.specs.PlanFiles.{plan-accepted-size}
@@ -80,12 +81,12 @@ groupIn k (Votes v w x) = k
 groupIn k (Refused n g) = g
 
 its-votes : (G : Instance) (M : Plan) (y : Reading Plan) {v w : ℤ} {x : Winner} → Votes v w x ≡ comparisonCase (judged G M y)
-    → (N : Plan) × (y ≡ accepted N) × (bothVotes v w ≡ bothVotes (voteOf G N M) (voteOf G M N))
-its-votes G M (accepted N) e = (N, refl, ap (λ c. bothVotes (votesIn c .0) (votesIn c .1)) e)
+    → (N : Plan) × (y ≡ accepted N) × (said (bothVotes v w) ≡ proposalAnswer G M (accepted N))
+its-votes G M (accepted N) e = (N, refl, ap (λ c. said (bothVotes (votesIn c .0) (votesIn c .1))) e)
 its-votes G M (reading.refused n) e = absurd (subst (λ c. T (isVotes c)) e tt)
 
 its-refusal : (G : Instance) (M : Plan) (y : Reading Plan) {n : ℕ} {g : Group} → Refused n g ≡ comparisonCase (judged G M y)
-    → (y ≡ reading.refused n) × (refused n (groupShown g) ≡ refusal n)
+    → (y ≡ reading.refused n) × (refused n (groupShown g) ≡ proposalAnswer G M (reading.refused n))
 its-refusal G M (accepted N) e = absurd (subst (λ c. T (isVotes c)) (sym e) tt)
 its-refusal G M (reading.refused m) {n} {g} e =
     let i : m ≡ n = ap numberIn (sym e) in (
@@ -143,13 +144,14 @@ module _ (d : Files) (file f k : List ℕ) {l : OnDesk}
         given (its-votes (instanceOf R) M (readPlan (instanceOf R) file) (here e R M a b)) (λ (N, y, q). plan-accepted-size (instanceOf R) file N isB y))
 
     pub propose-taken : {v′ w′ : ℤ} {f′ k′ : List ℕ} → v′ ≡ v → w′ ≡ w → PairedAs f′ k′ → (d′ : Files) → ProposalIn file true d d′
-        → Replied d (propose file f k) (bothVotes v′ w′) (propose file f′ k′) d′
+        → Replied d (propose file f k) (said (bothVotes v′ w′)) (propose file f′ k′) d′
     propose-taken i j P d′ ((m, r), (n, p), g) = given (its-plan z F) (λ (R, M, a, b).
         given (its-votes (instanceOf R) M (readPlan (instanceOf R) file) (here e R M a b)) (λ (N, y, q).
         let s = passed d (propose file f k) tt tt (state-is d F) z in
         let h = heldProposal R M (other d R) in
         record {
-          answer = ap₂ bothVotes i j ∙ q ∙ answers R M (accepted N) y ∙ ap (λ h. answerOn chosen h (propose file f k)) (sym (plan-held d R M a b))
+          answer = ap₂ (λ v w. said (bothVotes v w)) i j ∙ q ∙ answers R M (accepted N) y
+              ∙ ap (λ h. answerOn chosen h (propose file f k)) (sym (plan-held d R M a b))
               ∙ pass-answer (heldOf d) (propose file f k) s;
           lent = lends P R M a b ∙ ap (λ h. lentOn chosen h (propose file f k)) (sym (plan-held d R M a b)) ∙ pass-lent (heldOf d) (propose file f k) s;
           desk = roster-held d′ R (ap readRoster (ap₂ take m r) ∙ a)

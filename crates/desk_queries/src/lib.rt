@@ -39,7 +39,7 @@ pub fn compare_votes(
     back: &mut [u8],
 ) -> Comparison
     ensures { λ r. ⌜ Replied files (compare (now (first .entry)) (now (second .entry)) (now (forward .entry)) (now (back .entry)))
-        (comparisonShown (now (first .entry)) (now (second .entry)) r)
+        (comparisonShown r)
         (compare (now (first .entry)) (now (second .entry)) (now (forward .exit)) (now (back .exit))) files ⌝ }
 {
     let l = desk_files::loaded(

@@ -14,7 +14,7 @@ use Rattle.model.specs.RosterFile.{readRoster, writeRoster}
 use Rattle.model.specs.Edges.{instanceOf}
 use Rattle.model.specs.PlanFile as plans
 use Rattle.model.specs.PlanFile.{readPlan}
-use Rattle.model_desk.specs.Desk.{writeRosterTo, writePlanTo, refusal, wrote, onto}
+use Rattle.model_desk.specs.Desk.{writeRosterTo, writePlanTo, refusal, said, wrote, onto}
 use Rattle.theory_files.specs.Rosters.{read-write}
 use Rattle.answers.specs.declared.Group.{Group}
 use Rattle.answers.specs.declared.FileAnswer.the-variants.{Accepted, Refused}
@@ -62,22 +62,23 @@ module _ (d : Files) {short : Bool} {n : ℕ} (J : Judged (rosterBytes d) short 
 
   pub write-roster-reply : n ≤ 0 → (out : List ℕ) {k : ℕ} {after : List ℕ} → short ≡ ltb (length out) rosterSize → k ≡ length (rosterBytes d)
       → after ≡ onto (rosterBytes d) out
-      → Replied d (writeRosterTo out) (wrote k) (writeRosterTo after) d
+      → Replied d (writeRosterTo out) (said (wrote k)) (writeRosterTo after) d
   write-roster-reply z out s p q = given (J .roster-is z) (λ (R, a, w).
       let y = readPlan (instanceOf R) (planBytes d) in
       let f = proposalBytes d in
       passes d (writeRosterTo out) tt tt (judged-state ∙ ap (stateNumber (heldOf d) false) s) z (beside f (heldPlan R y)) (roster-held d R a)
-      (ap wrote (p ∙ ap length (sym w)) ∙ of-roster (refusal 13) (λ r. wrote (length (writeRoster r))) R y f)
+      (ap (λ k. said (wrote k)) (p ∙ ap length (sym w)) ∙ of-roster (refusal 13) (λ r. said (wrote (length (writeRoster r)))) R y f)
       (ap writeRosterTo (q ∙ ap (λ bs. onto bs out) (sym w)) ∙ of-roster (writeRosterTo out) (λ r. writeRosterTo (onto (writeRoster r) out)) R y f)
       refl refl)
 
 -- ---- with the plan held
 module _ (d : Files) {short : Bool} {l : OnDesk} (F : LoadedFrom (rosterBytes d) (planBytes d) true short l) (z : l .refusal ≤ 0) where
   pub write-plan-reply : (out : List ℕ) {k : ℕ} {after : List ℕ} → short ≡ ltb (length out) planSize → k ≡ length (planBytes d) → after ≡ onto (planBytes d) out
-      → Replied d (writePlanTo out) (wrote k) (writePlanTo after) d
+      → Replied d (writePlanTo out) (said (wrote k)) (writePlanTo after) d
   write-plan-reply out s p q = given (its-plan-held d F z) (λ (R, M, e, g, P, w).
       passes d (writePlanTo out) tt tt (state-is d F ∙ ap (stateNumber (heldOf d) true) s) z (heldProposal R M (other d R)) e
-      (ap wrote (p ∙ ap length (sym w)) ∙ of-plan (refusal 14) (λ r M. wrote (length (plans.planBytes (instanceOf r) M))) R M (other d R))
+      (ap (λ k. said (wrote k)) (p ∙ ap length (sym w))
+      ∙ of-plan (refusal 14) (λ r M. said (wrote (length (plans.planBytes (instanceOf r) M)))) R M (other d R))
       (ap writePlanTo (q ∙ ap (λ bs. onto bs out) (sym w))
       ∙ of-plan (writePlanTo out) (λ r M. writePlanTo (onto (plans.planBytes (instanceOf r) M) out)) R M (other d R))
       refl refl)
