@@ -52,7 +52,7 @@ opening = nothing
 pub data Call : Topic → Type 0 where
   loadRoster : (file : List ℕ) → Call loads
   loadPlan : (file : List ℕ) → Call loads
-  join : (quota : ℕ) (file : List ℕ) (diary : List Record) (left plan rival : List ℕ) → Call finds  -- W-202: "also lent the finder's buffers"
+  join : (quota : ℕ) (file : List ℕ) (diary : List Record) (left plan rival : List ℕ) → Call finds  -- W-202: "both calls are also lent the finder's buffers"
   leave : (number : ℕ) (diary : List Record) (left plan rival : List ℕ) → Call finds
   propose : (file forward back : List ℕ) → Call proposes  -- W-207; the pairings of the proposal's vote, of the held plan's
   commit : Call commits
