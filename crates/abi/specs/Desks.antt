@@ -6,12 +6,12 @@ use mathlib.Core.Option.{some}
 use Rattle.model.specs.Roster.{Roster}
 use Rattle.model.specs.Edges.{instanceOf}
 use Rattle.model.specs.Plans.{Plan}
-use Rattle.model_desk.specs.Desk.{planHeld, Topic, Call, judge, Answer}
+use Rattle.model_desk.specs.Desk.{planHeld, Topic, Call, judge, Answer, said, Level, holding, holds, levelOf, stateRefusal, answerOf}
 use Rattle.theory_finder.specs.RivalSaid.{RivalSaid}
 use Rattle.answers.specs.declared.Verdict.{Verdict}
 use Rattle.answers.specs.VerdictCases.{verdictShown}
 use Rattle.abi_numbers.specs.declared.Judged.{Judged}
-use Rattle.abi_numbers.specs.Numbers.{judgedIn}
+use Rattle.abi_numbers.specs.Numbers.{judgedIn, levelNumber}
 use Rattle.desk_files.specs.declared.Files.{Files}
 use Rattle.desk_files.specs.Held.{heldOf}
 use Rattle.desk_files.specs.Replies.{answered, Replied}
@@ -38,3 +38,15 @@ judged {d} {v} {f} {a} {n} {v′} {f′} {d′} J e = record {
   served = served judgedIn (J .replied) e;
   rival = λ R M h. subst (λ x. RivalSaid (instanceOf R) M x (v, f) (v′, f′)) (J .replied .answer) (J .rival R M h);
 }
+
+-- what is held: its number, and the desk's promise; it is never refused
+pub record HoldsFor (d : Files) (n : ℕ) (d′ : Files) : Type 0 where
+  pub numbers : n ≡ levelNumber (levelOf (heldOf d))
+  pub reply : Replied d holds (said (holding (levelOf (heldOf d)))) holds d′
+
+pub held-for : {d : Files} {x : Level} {n : ℕ} {d′ : Files} → Replied d holds (said (holding x)) holds d′ → n ≡ levelNumber x → HoldsFor d n d′
+unfolding answerOf stateRefusal
+held-for {d} {x} {n} {d′} R e =
+    let q : said (holding x) ≡ said (holding (levelOf (heldOf d))) = R .answer in
+    let i : x ≡ levelOf (heldOf d) = cc in
+    record { numbers = e ∙ ap levelNumber i; reply = subst (λ y. Replied d holds (said (holding y)) holds d′) i R }

@@ -8,6 +8,7 @@ use Rattle.model.specs.Reading.{Reading, accepted}
 use Rattle.model.specs.Refusal as model
 use Rattle.model_desk.specs.Desk.{Topic, writes, finds, judges, blocks, proposes, bounds, NoneKind, left, rivalled, Answer, refused, said}
 use Rattle.model_desk.specs.Desk.{wrote, plan, none, strong, popular, beaten, blockedBy, unblocked, bothVotes, leastVote}
+use Rattle.model_desk.specs.Desk.{Level, bare, aRoster, aPlan, aProposal}
 use Rattle.model_files.specs.Profile as profile
 use Rattle.answers.specs.FileCases.{fileShown, fileCase}
 use Rattle.abi_numbers.specs.declared.Outcome.{Outcome}
@@ -66,6 +67,13 @@ abbrev pub foundIn : Answer finds → FoundNumbers
 foundIn (refused n g) = record { kind = 4; refusal = n; vote = pos 0; steps = 0; left = 0 }
 foundIn (said (plan n)) = record { kind = 1; refusal = 0; vote = pos 0; steps = n; left = 0 }
 foundIn (said (none n k)) = noneIn n k
+
+-- how much is held
+abbrev pub levelNumber : Level → ℕ
+levelNumber bare = 0
+levelNumber aRoster = 1
+levelNumber aPlan = 2
+levelNumber aProposal = 3
 
 -- W-212: whether the plan of the offers is strong, and the length written
 abbrev pub offersIn : profile.Answer → OffersNumbers

@@ -19,11 +19,19 @@ pub data Topic : Type 0 where
   proposes : Topic
   commits : Topic
   bounds : Topic
+  keeps : Topic
 
 -- why there is none: so many pairs left, or the candidate's vote against its rival
 pub data NoneKind : Type 0 where
   left : ℕ → NoneKind
   rivalled : ℤ → NoneKind
+
+-- what is held, or has to be; each with what comes before it
+pub data Level : Type 0 where
+  bare : Level
+  aRoster : Level
+  aPlan : Level
+  aProposal : Level
 
 -- what a call says that is not refused
 pub data Said : Topic → Type 0 where
@@ -40,6 +48,7 @@ pub data Said : Topic → Type 0 where
   bothVotes : (proposal held : ℤ) → Said proposes  -- W-207, "and returns both votes": the proposal's against the held plan, and the reverse
   committed : Said commits
   leastVote : ℤ → (bytes : ℕ) → Said bounds  -- W-211: "the least vote", and how many bytes of the choice are written
+  holding : Level → Said keeps
 
 -- "A refusal returns only its number and its group (a comparison also its empty part)": the part is Desk's `partIn`
 pub data Answer (k : Topic) : Type 0 where
@@ -67,3 +76,5 @@ pub data Asking : Topic → Type 0 where
   planToOld : (file buffer : List ℕ) → Asking writes
   spread : (buffer : List ℕ) → Asking writes  -- W-209: a day for each entry of the held plan
   least : (first second ranges buffer : List ℕ) → Asking bounds  -- W-211: two plans and ranges of ranks
+  holds : Asking keeps  -- what is held
+  writeProposalTo : (buffer : List ℕ) → Asking writes

@@ -33,9 +33,9 @@ use Rattle.model.specs.Days.{Sheet}
 use Rattle.model.specs.Ranges.{Question, readQuestion, ranked, Least}
 use Rattle.model_desk.specs.Seasons as S
 use Rattle.model_desk.specs.Calls as A
-pub use Rattle.model_desk.specs.Calls.{Topic, loads, writes, finds, judges, compares, blocks, proposes, commits, bounds, Asking}
+pub use Rattle.model_desk.specs.Calls.{Topic, loads, writes, finds, judges, compares, blocks, proposes, commits, bounds, keeps, Asking}
 pub use Rattle.model_desk.specs.Calls.{Answer, refused, said, refusal, isRefused, Said, loaded, wrote, plan, none, NoneKind, left, rivalled}
-pub use Rattle.model_desk.specs.Calls.{strong, popular, beaten, votes, blockedBy, unblocked, bothVotes, committed, leastVote}
+pub use Rattle.model_desk.specs.Calls.{strong, popular, beaten, votes, blockedBy, unblocked, bothVotes, committed, leastVote, Level, bare, aRoster, aPlan, aProposal, holding}
 
 -- "nothing loaded, a roster, or a roster and a plan"; W-207: "A proposal stores the new plan beside the held one"
 pub data Held : Type 0 where
@@ -92,15 +92,15 @@ spread b = asks (A.spread b)
 abbrev pub least : (first second ranges buffer : List ℕ) → Call bounds
 least a b c w = asks (A.least a b c w)
 
--- what a call needs to be held; each with what comes before it
-pub data Need : Type 0 where
-  noNeed : Need
-  aRoster : Need
-  aPlan : Need
-  aProposal : Need
+abbrev pub holds : Call keeps
+holds = asks A.holds
 
-abbrev pub need : {k : Topic} → Call k → Need
-need (loadRoster file) = noNeed
+abbrev pub writeProposalTo : List ℕ → Call writes
+writeProposalTo b = asks (A.writeProposalTo b)
+
+-- what a call needs to be held
+abbrev pub need : {k : Topic} → Call k → Level
+need (loadRoster file) = bare
 need (loadPlan file) = aRoster
 need (join q f d l p v) = aRoster
 need (leave s d l p v) = aRoster
@@ -116,21 +116,23 @@ need (asks (A.planToNew f b)) = aRoster
 need (asks (A.planToOld f b)) = aRoster
 need (asks (A.spread b)) = aPlan
 need (asks (A.least a b c w)) = aRoster
+need (asks A.holds) = bare
+need (asks (A.writeProposalTo b)) = aProposal
 
-abbrev pub needsRoster : Need → Bool
-needsRoster noNeed = false
+abbrev pub needsRoster : Level → Bool
+needsRoster bare = false
 needsRoster aRoster = true
 needsRoster aPlan = true
 needsRoster aProposal = true
 
-abbrev pub needsPlan : Need → Bool
-needsPlan noNeed = false
+abbrev pub needsPlan : Level → Bool
+needsPlan bare = false
 needsPlan aRoster = false
 needsPlan aPlan = true
 needsPlan aProposal = true
 
-abbrev pub needsProposal : Need → Bool
-needsProposal noNeed = false
+abbrev pub needsProposal : Level → Bool
+needsProposal bare = false
 needsProposal aRoster = false
 needsProposal aPlan = false
 needsProposal aProposal = true
@@ -161,6 +163,8 @@ lentShort (asks (A.planToNew f b)) = short b planSize
 lentShort (asks (A.planToOld f b)) = short b planSize
 lentShort (asks (A.spread b)) = short b daySize
 lentShort (asks (A.least a b c w)) = short w choiceSize
+lentShort (asks A.holds) = false
+lentShort (asks (A.writeProposalTo b)) = short b planSize
 
 abbrev pub noRoster : Held → Bool
 noRoster nothing = true
@@ -260,7 +264,8 @@ proposalPairings G M (reading.refused n) = C.noPairings
 abbrev pub pairingsOnto : {k : Topic} → (List ℕ → List ℕ → Call k) → C.Pairings → (forward back : List ℕ) → Call k
 pairingsOnto call p f k = call (onto (p .0) f) (onto (p .1) k)
 
--- ---- what is said of the roster held, of the roster and the plan held; x where they are not there, and the state refuses the call
+-- ---- what is said of the roster held, of the roster and the plan held, of the proposal beside it; x where they are not there, and the state
+-- refuses the call
 abbrev pub onRoster : {A : Type 0} → A → Held → (Roster → A) → A
 onRoster x nothing f = x
 onRoster x (roster r) f = f r
@@ -272,6 +277,19 @@ onPlan x nothing f = x
 onPlan x (roster r) f = x
 onPlan x (planned r M) f = f r M
 onPlan x (proposed r M N) f = f r M
+
+abbrev pub onProposal : {A : Type 0} → A → Held → (Roster → Plan → A) → A
+onProposal x nothing f = x
+onProposal x (roster r) f = x
+onProposal x (planned r M) f = x
+onProposal x (proposed r M N) f = f r N
+
+-- how much is held
+abbrev pub levelOf : Held → Level
+levelOf nothing = bare
+levelOf (roster r) = aRoster
+levelOf (planned r M) = aPlan
+levelOf (proposed r M N) = aProposal
 
 -- the plan held, with its roster; a proposal beside it is none
 abbrev pub planHeld : Held → Option (Roster × Plan)
@@ -335,6 +353,8 @@ module _ (ch : Choices) where
   answerOn h (asks (A.planToOld f b)) = onRoster (refusal 13) h (λ r. convertedAnswer (S.planToOld (instanceOf r) f))
   answerOn h (asks (A.spread b)) = onPlan (refusal 14) h (λ r M. said (wrote (length (ch .daysOf (instanceOf r) M))))
   answerOn h (asks (A.least a b c w)) = onRoster (refusal 13) h (λ r. leastAnswer r (readQuestion r a b c))
+  answerOn h (asks A.holds) = said (holding (levelOf h))
+  answerOn h (asks (A.writeProposalTo b)) = onProposal (refusal 20) h (λ r N. said (wrote (length (planBytes (instanceOf r) N))))
 
   abbrev pub lentOn : Held → {k : Topic} → Call k → Call k
   lentOn h (loadRoster file) = loadRoster file
@@ -354,6 +374,8 @@ module _ (ch : Choices) where
   lentOn h (asks (A.planToOld f b)) = onRoster (planToOld f b) h (λ r. planToOld f (convertedOnto (S.planToOld (instanceOf r) f) b))
   lentOn h (asks (A.spread b)) = onPlan (spread b) h (λ r M. spread (onto (ch .daysOf (instanceOf r) M) b))
   lentOn h (asks (A.least a b c w)) = onRoster (least a b c w) h (λ r. least a b c (leastOnto r (readQuestion r a b c) w))
+  lentOn h (asks A.holds) = holds
+  lentOn h (asks (A.writeProposalTo b)) = onProposal (writeProposalTo b) h (λ r N. writeProposalTo (onto (planBytes (instanceOf r) N) b))
 
   -- "13, 14, 15 come first", 20 among them
   unfoldable pub answerOf : Held → {k : Topic} → Call k → Answer k

@@ -31,7 +31,7 @@ use Rattle.model_desk.specs.Compare as C
 use Rattle.model.specs.Blocking.{blocks, someBlocks, topBlocking}
 use Rattle.model_changes.specs.Changes.{joined, joinOn, departed, leaveOn, carried}
 use Rattle.model_desk.specs.Desk as D
-use Rattle.model_desk.specs.Desk.{Held, Topic, finds, judges, compares, proposes, bounds, Call, Answer, NoneKind, Said, said, opening, stateRefusal}
+use Rattle.model_desk.specs.Desk.{Held, Topic, finds, judges, compares, proposes, bounds, Call, Answer, NoneKind, Level, Said, said, opening, stateRefusal}
 use Rattle.model_desk.specs.Desk.{answerOf, deskAfter}
 use Rattle.model_desk.specs.DeskCases.{partWith}
 use Rattle.theory_verdict.specs.LemmaX.{swapped}
@@ -72,6 +72,12 @@ abbrev noneCode : NoneKind → List ℕ
 noneCode (D.left n) = 1 ∷ n ∷ []
 noneCode (D.rivalled v) = 2 ∷ voteCode v
 
+abbrev levelCode : Level → ℕ
+levelCode D.bare = 0
+levelCode D.aRoster = 1
+levelCode D.aPlan = 2
+levelCode D.aProposal = 3
+
 abbrev code : {k : Topic} → Said k → List ℕ
 code D.loaded = []
 code (D.wrote n) = n ∷ []
@@ -86,6 +92,7 @@ code D.unblocked = []
 code (D.bothVotes v w) = voteCode v ++ voteCode w
 code D.committed = []
 code (D.leastVote v n) = n ∷ voteCode v
+code (D.holding x) = levelCode x ∷ []
 
 abbrev answerCode : {k : Topic} → Answer k → List ℕ
 answerCode (D.refused n g) = 0 ∷ n ∷ groupCode g ∷ []
@@ -296,7 +303,26 @@ unsettled =
     ∷ gives (least (bytes "1 32 1 32 3 3 3 3")) (said (D.leastVote (pos 0) 4))
     ∷ gives judge (D.refused 14 desk) ∷ []
 
-pub sessions : all? (holds opening) (states ∷ morning ∷ digits ∷ field ∷ proposals ∷ sheets ∷ unsettled ∷ []) ≡ true
+-- what is held, from call to call; and the proposal's bytes, which are those that a commit makes the plan's
+abbrev kept : Session
+kept =
+    gives D.holds (said (D.holding D.bare))
+    ∷ gives (D.writeProposalTo []) (D.refused 13 desk)
+    ∷ gives (D.loadRoster shared) (said D.loaded)
+    ∷ gives D.holds (said (D.holding D.aRoster))
+    ∷ gives (D.writeProposalTo []) (D.refused 14 desk)
+    ∷ gives (D.loadPlan (bytes "1 1 1 1")) (said D.loaded)
+    ∷ gives D.holds (said (D.holding D.aPlan))
+    ∷ gives (D.writeProposalTo []) (D.refused 20 desk)
+    ∷ gives (propose (bytes "2 1 1 1 2 1 1")) (said (D.bothVotes (pos 2) (negsuc 1)))
+    ∷ gives D.holds (said (D.holding D.aProposal))
+    ∷ gives (D.writeProposalTo (room 192)) (D.refused 15 desk)
+    ∷ gives (D.writeProposalTo (room planSize)) (said (D.wrote 7))
+    ∷ gives D.commit (said D.committed)
+    ∷ gives D.holds (said (D.holding D.aPlan))
+    ∷ gives (D.writePlanTo (room planSize)) (said (D.wrote 7)) ∷ []
+
+pub sessions : all? (holds opening) (states ∷ morning ∷ digits ∷ field ∷ proposals ∷ sheets ∷ unsettled ∷ kept ∷ []) ≡ true
 unfolding numbersFrom count low groupOf listed listedBack bothOrNeither readEach readRosterBy writeRosterBy position edgesOf instanceOf deg nodeVote
     vote choices within plansOf samePlan beatenBy drawnWith verdictOf R.cut R.ahead R.arrow R.loose R.reserved R.betterS R.betterT R.worseReserved
     R.rule1 R.rule2 R.rule3 R.rule4 R.rule5 R.rule6 R.rule7 first Option·elim orElse R.rules R.stepBy R.firstStep R.act R.begin R.stepsFrom R.stateAfter
