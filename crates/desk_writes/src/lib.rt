@@ -1,4 +1,5 @@
-// Files from the desk to a buffer: the roster held, the plan held, the open proposal, and a plan of an old season in the layout of today or back (request W-205).
+// Files from the desk to a buffer: the roster held, the plan held, the open proposal, and a plan of an old season in the layout of today or back
+// (request W-205).
 ghost use Rattle.model_desk.specs.Desk.{writeRosterTo, writePlanTo, writeProposalTo};
 ghost use Rattle.answers.specs.WrittenCases.{writtenShown};
 ghost use Rattle.desk_files.specs.Replies.{Replied};

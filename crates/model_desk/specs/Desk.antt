@@ -35,7 +35,8 @@ use Rattle.model_desk.specs.Seasons as S
 use Rattle.model_desk.specs.Calls as A
 pub use Rattle.model_desk.specs.Calls.{Topic, loads, writes, finds, judges, compares, blocks, proposes, commits, bounds, keeps, Asking}
 pub use Rattle.model_desk.specs.Calls.{Answer, refused, said, refusal, isRefused, Said, loaded, wrote, plan, none, NoneKind, left, rivalled}
-pub use Rattle.model_desk.specs.Calls.{strong, popular, beaten, votes, blockedBy, unblocked, bothVotes, committed, leastVote, Level, bare, aRoster, aPlan, aProposal, holding}
+pub use Rattle.model_desk.specs.Calls.{strong, popular, beaten, votes, blockedBy, unblocked, bothVotes, committed, leastVote, holding}
+pub use Rattle.model_desk.specs.Calls.{Level, bare, aRoster, aPlan, aProposal}
 
 -- "nothing loaded, a roster, or a roster and a plan"; W-207: "A proposal stores the new plan beside the held one"
 pub data Held : Type 0 where

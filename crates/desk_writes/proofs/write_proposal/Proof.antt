@@ -17,7 +17,8 @@ copied-requires : tie.Need-copied-requires
 copied-requires c κs =
     let d = c .before .before .before .before .before .before .args in
     let full : length (d .files .proposal) ≡ planSize = search needs in
-    omega (arith, full, write-proposal-long (d .files) (d .out .now) (c .before .before .before .before .open-refusal .ensures) (c .before .before .before .if1 .left))
+    let long = write-proposal-long (d .files) (d .out .now) (c .before .before .before .before .open-refusal .ensures) (c .before .before .before .if1 .left) in
+    omega (arith, full, long)
 
 returns-2 : tie.Need-returns-2
 returns-2 c =
