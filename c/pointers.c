@@ -40,6 +40,7 @@ REPLY(judged, judged, struct crew_judged)
 REPLY(compared, compared, struct crew_compared)
 REPLY(blocker, blocker, struct crew_blocker)
 REPLY(least, least, struct crew_least)
+REPLY(holds, holds, uint8_t)
 
 static struct crew_desk_found with_found(struct crew_found found, const struct crew_desk *desk) {
     struct crew_desk_found reply;
@@ -63,6 +64,8 @@ static struct crew_desk_found with_found(struct crew_found found, const struct c
 #define crew_commit(desk) with_loaded(crew_desk_commit(&(desk)), &(desk))
 #define crew_write_roster(desk, ...) with_written(crew_desk_write_roster(&(desk), __VA_ARGS__), &(desk))
 #define crew_write_plan(desk, ...) with_written(crew_desk_write_plan(&(desk), __VA_ARGS__), &(desk))
+#define crew_write_proposal(desk, ...) with_written(crew_desk_write_proposal(&(desk), __VA_ARGS__), &(desk))
+#define crew_holds(desk) with_holds(crew_desk_holds(&(desk)), &(desk))
 #define crew_spread(desk, ...) with_written(crew_desk_spread(&(desk), __VA_ARGS__), &(desk))
 #define crew_plan_to_new(desk, ...) with_written(crew_desk_plan_to_new(&(desk), __VA_ARGS__), &(desk))
 #define crew_plan_to_old(desk, ...) with_written(crew_desk_plan_to_old(&(desk), __VA_ARGS__), &(desk))

@@ -6,24 +6,24 @@ use mathlib.Core.Option.{some}
 use Rattle.model.specs.Roster.{Roster}
 use Rattle.model.specs.Edges.{instanceOf}
 use Rattle.model.specs.Plans.{Plan}
-use Rattle.model_desk.specs.Desk.{planHeld, Call, judge, Answer}
+use Rattle.model_desk.specs.Desk.{planHeld, Topic, Call, judge, Answer, said, Level, holding, holds, levelOf, stateRefusal, answerOf}
 use Rattle.theory_finder.specs.RivalSaid.{RivalSaid}
 use Rattle.answers.specs.declared.Verdict.{Verdict}
 use Rattle.answers.specs.VerdictCases.{verdictShown}
 use Rattle.abi_numbers.specs.declared.Judged.{Judged}
-use Rattle.abi_numbers.specs.Numbers.{judgedIn}
+use Rattle.abi_numbers.specs.Numbers.{judgedIn, levelNumber}
 use Rattle.desk_files.specs.declared.Files.{Files}
 use Rattle.desk_files.specs.Held.{heldOf}
 use Rattle.desk_files.specs.Replies.{answered, Replied}
 use Rattle.desk_queries.specs.Judging.{Judges}
 
 -- a call on a desk: its numbers, and all that the desk promises
-pub record Served {A : Type 0} (numbersIn : Answer → A) (d : Files) (c : Call) (n : A) (c′ : Call) (d′ : Files) : Type 0 where
+pub record Served {A : Type 0} {k : Topic} (numbersIn : Answer k → A) (d : Files) (c : Call k) (n : A) (c′ : Call k) (d′ : Files) : Type 0 where
   pub numbers : n ≡ numbersIn (answered (heldOf d) c)
   pub reply : Replied d c (answered (heldOf d) c) c′ d′
 
-pub served : {A : Type 0} (numbersIn : Answer → A) {d : Files} {c : Call} {a : Answer} {n : A} {c′ : Call} {d′ : Files} → Replied d c a c′ d′
-    → n ≡ numbersIn a → Served numbersIn d c n c′ d′
+pub served : {A : Type 0} {k : Topic} (numbersIn : Answer k → A) {d : Files} {c : Call k} {a : Answer k} {n : A} {c′ : Call k} {d′ : Files}
+    → Replied d c a c′ d′ → n ≡ numbersIn a → Served numbersIn d c n c′ d′
 served numbersIn {d} {c} {a} {n} {c′} {d′} R e = record { numbers = e ∙ ap numbersIn (R .answer); reply = subst (λ z. Replied d c z c′ d′) (R .answer) R }
 
 -- the verdict's call: the same, and what holds of the rival that it writes and of the pairings of the vote against it
@@ -38,3 +38,15 @@ judged {d} {v} {f} {a} {n} {v′} {f′} {d′} J e = record {
   served = served judgedIn (J .replied) e;
   rival = λ R M h. subst (λ x. RivalSaid (instanceOf R) M x (v, f) (v′, f′)) (J .replied .answer) (J .rival R M h);
 }
+
+-- what is held: its number, and the desk's promise; it is never refused
+pub record HoldsFor (d : Files) (n : ℕ) (d′ : Files) : Type 0 where
+  pub numbers : n ≡ levelNumber (levelOf (heldOf d))
+  pub reply : Replied d holds (said (holding (levelOf (heldOf d)))) holds d′
+
+pub held-for : {d : Files} {x : Level} {n : ℕ} {d′ : Files} → Replied d holds (said (holding x)) holds d′ → n ≡ levelNumber x → HoldsFor d n d′
+unfolding answerOf stateRefusal
+held-for {d} {x} {n} {d′} R e =
+    let q : said (holding x) ≡ said (holding (levelOf (heldOf d))) = R .answer in
+    let i : x ≡ levelOf (heldOf d) = cc in
+    record { numbers = e ∙ ap levelNumber i; reply = subst (λ y. Replied d holds (said (holding y)) holds d′) i R }

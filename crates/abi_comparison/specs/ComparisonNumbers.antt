@@ -5,8 +5,7 @@ use mathlib.Core.List.{List}
 use lib.ListN.{length, length-drop}
 use lib.IntN.{ℤ, pos}
 use Rattle.model_desk.specs.Compare as compare
-use Rattle.model_desk.specs.Desk.{Answer, refused, loaded, wrote, plan, none, strong, popular, beaten, votes, refusedPart}
-use Rattle.model_desk.specs.Desk.{blockedBy, unblocked, bothVotes, committed, leastVote}
+use Rattle.model_desk.specs.Desk.{Answer, compares, refused, said, votes, partIn}
 use Rattle.answers.specs.declared.Group.{Group}
 use Rattle.answers.specs.declared.Winner.{Winner}
 use Rattle.answers.specs.declared.Winner.the-variants as winner
@@ -26,27 +25,14 @@ abbrev pub fileNumber : compare.File → ℕ
 fileNumber compare.firstFile = 1
 fileNumber compare.secondFile = 2
 
-abbrev pub noVotes : Compared
-noVotes = record { refusal = 0; winner = 0; «first_vote» = pos 0; «second_vote» = pos 0; file = 0; from = 0; length = 0 }
+abbrev pub numbered : (refusal winner : ℕ) → ℤ → ℤ → compare.Part → Compared
+numbered n x v w p =
+    record { refusal = n; winner = x; «first_vote» = v; «second_vote» = w; file = fileNumber (p .file); from = p .from; length = length (p .bytes) }
 
-abbrev pub comparedIn : Answer → Compared
-comparedIn (refused n g) = noVotes
-comparedIn loaded = noVotes
-comparedIn (wrote n) = noVotes
-comparedIn (plan n) = noVotes
-comparedIn (none n k) = noVotes
-comparedIn strong = noVotes
-comparedIn (popular v) = noVotes
-comparedIn (beaten v) = noVotes
-comparedIn (votes v w x p) =
-    record { refusal = 0; winner = winnerCode x; «first_vote» = v; «second_vote» = w; file = fileNumber (p .file); from = p .from; length = length (p .bytes) }
-comparedIn (refusedPart n g p) =
-    record { refusal = n; winner = 0; «first_vote» = pos 0; «second_vote» = pos 0; file = fileNumber (p .file); from = p .from; length = length (p .bytes) }
-comparedIn (blockedBy s t k) = noVotes
-comparedIn unblocked = noVotes
-comparedIn (bothVotes v w) = noVotes
-comparedIn committed = noVotes
-comparedIn (leastVote v n) = noVotes
+-- of the two files compared, with the part that is handed back
+abbrev pub comparedIn : (first second : List ℕ) → Answer compares → Compared
+comparedIn a b (said (votes v w x)) = numbered 0 (winnerCode x) v w (partIn a b (said (votes v w x)))
+comparedIn a b (refused n g) = numbered n 0 (pos 0) (pos 0) (partIn a b (refused n g))
 
 -- ---- the numbers of each case of a comparison
 abbrev pub voted : (winner file from length : ℕ) → ℤ → ℤ → Compared
@@ -54,7 +40,7 @@ voted x f i n v w = record { refusal = 0; winner = x; «first_vote» = v; «seco
 
 module _ (a b : List ℕ) where
   abbrev numbersOf : Comparison → Compared
-  numbersOf c = comparedIn (comparisonShown a b c)
+  numbersOf c = comparedIn a b (comparisonShown c)
 
   module _ {c : Comparison} {v w : ℤ} {y : Winner} (e : c ≡ comparison.Votes v w y) where
     won : (z : Winner) → y ≡ z → numbersOf (comparison.Votes v w z) ≡ numbersOf c

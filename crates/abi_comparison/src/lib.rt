@@ -32,7 +32,7 @@ pub(crate) fn behind_count(size: usize) -> usize
 
 // a comparison of two files, with the winner's part as the file, the byte that it begins at and its length
 pub fn comparison_numbers(c: Comparison, first: &[u8], second: &[u8]) -> Compared
-    ensures { λ r. ⌜ r ≡ comparedIn (comparisonShown (now (first .entry)) (now (second .entry)) c) ⌝ }
+    ensures { λ r. ⌜ r ≡ comparedIn (now (first .entry)) (now (second .entry)) (comparisonShown c) ⌝ }
 {
     match c {
         Comparison::Votes(v, w, x) => match x {

@@ -4,7 +4,7 @@ use Rattle.answers.specs.GroupCases.{groupShown}
 use Rattle.answers.specs.declared.Blocked.{Blocked}
 use Rattle.answers.specs.declared.Blocked.the-variants.{Pair, Unblocked, Refused}
 
-abbrev pub blockedShown : Blocked → model.Answer
-blockedShown (Pair s t k) = model.blockedBy s t k
-blockedShown Unblocked = model.unblocked
+abbrev pub blockedShown : Blocked → model.Answer model.blocks
+blockedShown (Pair s t k) = model.said (model.blockedBy s t k)
+blockedShown Unblocked = model.said model.unblocked
 blockedShown (Refused n g) = model.refused n (groupShown g)

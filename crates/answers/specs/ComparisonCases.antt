@@ -1,5 +1,5 @@
--- What each case of the code's answer says, in document 01's words: the comparison of two plan files. The winner's part, or the empty one,
--- belongs to the answer: it is a part of the files compared.
+-- What each case of the code's answer says, in document 01's words: the comparison of two plan files, and the part of them that is
+-- handed back with an answer.
 use Prim.Native.Nat.{ℕ}
 use mathlib.Core.Path.{_≡_, refl}
 use mathlib.Core.List.{List}
@@ -25,9 +25,14 @@ abbrev pub partShown : Comparison → (firstBytes secondBytes : List ℕ) → Pa
 partShown (Votes v w x) a b = winnerPart (winnerShown x) a b
 partShown (Refused n g) a b = winnerPart compare.neither a b
 
-abbrev pub comparisonShown : (firstBytes secondBytes : List ℕ) → Comparison → model.Answer
-comparisonShown a b (Votes v w x) = model.votes v w (winnerShown x) (winnerPart (winnerShown x) a b)
-comparisonShown a b (Refused n g) = model.refusedPart n (groupShown g) (winnerPart compare.neither a b)
+abbrev pub comparisonShown : Comparison → model.Answer model.compares
+comparisonShown (Votes v w x) = model.said (model.votes v w (winnerShown x))
+comparisonShown (Refused n g) = model.refused n (groupShown g)
+
+-- it is the part that the model hands back with that answer
+pub part-shown : (c : Comparison) (a b : List ℕ) → partShown c a b ≡ model.partIn a b (comparisonShown c)
+part-shown (Votes v w x) a b = refl
+part-shown (Refused n g) a b = refl
 
 -- the case for the model's comparison
 abbrev pub winnerCase : compare.Winner → Winner

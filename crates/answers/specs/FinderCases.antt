@@ -12,32 +12,20 @@ abbrev pub kindShown : NoneKind → model.NoneKind
 kindShown (kind.Left k) = model.left k
 kindShown (kind.Rivalled v) = model.rivalled v
 
-abbrev pub foundShown : Found → model.Answer
-foundShown (found.Plan n) = model.plan n
-foundShown (found.None n k) = model.none n (kindShown k)
+abbrev pub foundShown : Found → model.Answer model.finds
+foundShown (found.Plan n) = model.said (model.plan n)
+foundShown (found.None n k) = model.said (model.none n (kindShown k))
 foundShown (found.Refused n g) = model.refused n (groupShown g)
 
--- the case that shows an answer of the finder; the other answers have none
+-- the case that shows an answer of the finder
 abbrev pub kindCase : model.NoneKind → NoneKind
 kindCase (model.left k) = kind.Left k
 kindCase (model.rivalled v) = kind.Rivalled v
 
-abbrev pub foundCase : model.Answer → Found
+abbrev pub foundCase : model.Answer model.finds → Found
 foundCase (model.refused n g) = found.Refused n (groupCase g)
-foundCase model.loaded = found.Plan 0
-foundCase (model.wrote n) = found.Plan 0
-foundCase (model.plan n) = found.Plan n
-foundCase (model.none n k) = found.None n (kindCase k)
-foundCase model.strong = found.Plan 0
-foundCase (model.popular v) = found.Plan 0
-foundCase (model.beaten v) = found.Plan 0
-foundCase (model.votes v w x p) = found.Plan 0
-foundCase (model.refusedPart n g p) = found.Plan 0
-foundCase (model.blockedBy s t k) = found.Plan 0
-foundCase model.unblocked = found.Plan 0
-foundCase (model.bothVotes v w) = found.Plan 0
-foundCase model.committed = found.Plan 0
-foundCase (model.leastVote v n) = found.Plan 0
+foundCase (model.said (model.plan n)) = found.Plan n
+foundCase (model.said (model.none n k)) = found.None n (kindCase k)
 
 kind-shown : (k : NoneKind) → kindCase (kindShown k) ≡ k
 kind-shown (kind.Left k) = refl
@@ -48,5 +36,5 @@ found-shown (found.Plan n) = refl
 found-shown (found.None n k) = ap (found.None n) (kind-shown k)
 found-shown (found.Refused n g) = ap (found.Refused n) (case-shown g)
 
-pub shows-found : (a : Found) {m : model.Answer} → foundShown a ≡ m → a ≡ foundCase m
+pub shows-found : (a : Found) {m : model.Answer model.finds} → foundShown a ≡ m → a ≡ foundCase m
 shows-found a e = sym (found-shown a) ∙ ap foundCase e

@@ -5,6 +5,6 @@ use Rattle.answers.specs.GroupCases.{groupShown}
 use Rattle.answers.specs.declared.LeastVote.{LeastVote}
 use Rattle.answers.specs.declared.LeastVote.the-variants.{Vote, Refused}
 
-abbrev pub leastShown : LeastVote → model.Answer
-leastShown (Vote v n) = model.leastVote v n
+abbrev pub leastShown : LeastVote → model.Answer model.bounds
+leastShown (Vote v n) = model.said (model.leastVote v n)
 leastShown (Refused n g) = model.refused n (groupShown g)

@@ -9,10 +9,10 @@ use Rattle.answers.specs.declared.Proposal.the-variants as proposals
 use Rattle.answers.specs.declared.Commit as commit
 use Rattle.answers.specs.declared.Commit.the-variants as commits
 
-abbrev pub proposalShown : proposal.Proposal → model.Answer
-proposalShown (proposals.Votes v w) = model.bothVotes v w
+abbrev pub proposalShown : proposal.Proposal → model.Answer model.proposes
+proposalShown (proposals.Votes v w) = model.said (model.bothVotes v w)
 proposalShown (proposals.Refused n g) = model.refused n (groupShown g)
 
-abbrev pub commitShown : commit.Commit → model.Answer
-commitShown commits.Committed = model.committed
+abbrev pub commitShown : commit.Commit → model.Answer model.commits
+commitShown commits.Committed = model.said model.committed
 commitShown (commits.Refused n g) = model.refused n (groupShown g)

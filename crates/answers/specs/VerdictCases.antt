@@ -4,8 +4,8 @@ use Rattle.answers.specs.GroupCases.{groupShown}
 use Rattle.answers.specs.declared.Verdict.{Verdict}
 use Rattle.answers.specs.declared.Verdict.the-variants.{Strong, Popular, Beaten, Refused}
 
-abbrev pub verdictShown : Verdict → model.Answer
-verdictShown Strong = model.strong
-verdictShown (Popular v) = model.popular v
-verdictShown (Beaten v) = model.beaten v
+abbrev pub verdictShown : Verdict → model.Answer model.judges
+verdictShown Strong = model.said model.strong
+verdictShown (Popular v) = model.said (model.popular v)
+verdictShown (Beaten v) = model.said (model.beaten v)
 verdictShown (Refused n g) = model.refused n (groupShown g)

@@ -12,7 +12,7 @@ use Rattle.model.specs.Roster.{Roster}
 use Rattle.model.specs.RosterFile.{readRoster}
 use Rattle.model.specs.Edges.{instanceOf}
 use Rattle.model.specs.PlanFile.{readPlanBy, readPlan}
-use Rattle.model_desk.specs.Desk.{Held, nothing, roster, planned, proposed, refused, committed, commit, stateRefusal, answerOf, deskAfter}
+use Rattle.model_desk.specs.Desk.{Held, nothing, roster, planned, proposed, refused, said, committed, commit, stateRefusal, answerOf, deskAfter}
 use Rattle.theory_finder.specs.Choices.{chosen}
 use Rattle.answers.specs.declared.Group.{Group}
 use Rattle.answers.specs.declared.FileAnswer.{FileAnswer}
@@ -53,7 +53,7 @@ module _ (d : Files) {l : OnDesk} (F : LoadedFrom (rosterBytes d) (planBytes d) 
         refuses-by d commit (sym (ap (λ x. stateRefusal x commit) h)) (omega arith) (ap (refused 20) q))
 
     pub commit-taken : files.Accepted ≡ fileCase (readPlan (shownBy (l .g)) (proposalBytes d)) → (d′ : Files) → CommitIn true d d′
-        → Replied d commit committed commit d′
+        → Replied d commit (said committed) commit d′
     unfolding stateRefusal answerOf deskAfter readPlanBy
     commit-taken e d′ ((m, r), p, f) = given (its-plan z F) (λ (R, M, a, b).
         given (case-accepted (other d R) (against e R a)) (λ (N, y).

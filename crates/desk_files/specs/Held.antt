@@ -14,7 +14,7 @@ use Rattle.model.specs.Edges.{instanceOf}
 use Rattle.model.specs.Plans.{Plan}
 use Rattle.model.specs.PlanFile.{readPlan}
 use Rattle.model_desk.specs.Desk.{Held, nothing, roster, planned, proposed, opening, loadRoster, loadPlan, propose, noRoster, noPlan, onRoster, onPlan}
-use Rattle.model_desk.specs.Desk.{Call, withRoster, withPlan, withProposal, stateRefusal, deskAfter}
+use Rattle.model_desk.specs.Desk.{Call, proposes, withRoster, withPlan, withProposal, stateRefusal, deskAfter}
 use Rattle.theory_files.specs.Reads.{isBytes}
 use Rattle.theory_finder.specs.Desks.{sound, desk-sound}
 use Rattle.desk_loaded.specs.Held.{heldPlan, held, stateNumber}
@@ -89,7 +89,7 @@ of-plan x g R M (refused n) = refl
 
 -- ---- a desk holds what a new one holds after loading its bytes, and proposing; so what any desk holds is sound
 -- a proposal with buffers of their size for its pairings (W-208), in which nothing is looked for
-abbrev asked : List ℕ → Call
+abbrev asked : List ℕ → Call proposes
 asked file = propose file (replicate pairingSize 0) (replicate pairingSize 0)
 
 pub held-loads : (file plan proposal : List ℕ)

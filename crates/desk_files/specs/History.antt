@@ -4,8 +4,8 @@
 use mathlib.Core.Path.{_≡_, sym, ap, subst}
 use mathlib.Core.List.{List, [], _∷_}
 use lib.Dec.{T}
-use Rattle.model_desk.specs.Desk.{Call, Answer, opening, answerOf, deskAfter}
-use Rattle.model_desk.specs.History.{eventOf, eventsOf, lastPlan, heldPairs}
+use Rattle.model_desk.specs.Desk.{Topic, Call, Answer, opening, answerOf, deskAfter}
+use Rattle.model_desk.specs.History.{eventOf, Exchange, gave, eventsOf, lastPlan, heldPairs}
 use Rattle.theory_finder.specs.Choices.{chosen}
 use Rattle.theory_finder.specs.Desks.{lendsBytes}
 use Rattle.theory_finder.specs.HistoryPlan.{Told, told-start, told-step, told-plan}
@@ -14,16 +14,16 @@ use Rattle.desk_files.specs.Held.{heldOf}
 use Rattle.desk_files.specs.Replies.{Replied}
 
 -- a desk that holds nothing, and every desk that a call on one of these has returned; the files lent are bytes
-pub data Session : List (Call × Answer) → Files → Type 0 where
+pub data Session : List Exchange → Files → Type 0 where
   starts : (d : Files) → heldOf d ≡ opening → Session [] d
-  calls : {cs : List (Call × Answer)} {d : Files} → Session cs d → {c : Call} {a : Answer} {c′ : Call} {d′ : Files} → T (lendsBytes c) → Replied d c a c′ d′
-      → Session ((c, a) ∷ cs) d′
+  calls : {cs : List Exchange} {d : Files} → Session cs d → {k : Topic} {c : Call k} {a : Answer k} {c′ : Call k} {d′ : Files} → T (lendsBytes c)
+      → Replied d c a c′ d′ → Session (gave c a ∷ cs) d′
 
-told : {cs : List (Call × Answer)} {d : Files} → Session cs d → Told (heldOf d) (eventsOf cs)
+told : {cs : List Exchange} {d : Files} → Session cs d → Told (heldOf d) (eventsOf cs)
 told (starts d e) = subst (λ h. Told h []) (sym e) told-start
-told (calls {cs} {d} S {c} {a} {c′} {d′} t R) =
-    subst (λ h. Told h (eventsOf ((c, a) ∷ cs))) (sym (R .desk))
+told (calls {cs} {d} S {k} {c} {a} {c′} {d′} t R) =
+    subst (λ h. Told h (eventsOf (gave c a ∷ cs))) (sym (R .desk))
     (subst (λ x. Told (deskAfter (heldOf d) c) (eventOf c x ∷ eventsOf cs)) (sym (R .answer)) (told-step chosen (eventsOf cs) (heldOf d) c t (told S)))
 
-pub last-plan : {cs : List (Call × Answer)} {d : Files} → Session cs d → heldPairs (heldOf d) ≡ lastPlan [] (eventsOf cs)
+pub last-plan : {cs : List Exchange} {d : Files} → Session cs d → heldPairs (heldOf d) ≡ lastPlan [] (eventsOf cs)
 last-plan S = told-plan (told S)

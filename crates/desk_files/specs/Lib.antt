@@ -3,3 +3,4 @@ pub mod Front
 pub mod Replies
 pub mod State
 pub mod History
+pub mod Open

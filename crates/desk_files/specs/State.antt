@@ -17,10 +17,9 @@ use Rattle.model.specs.Edges.{instanceOf}
 use Rattle.model.specs.Plans.{Plan, plansOf}
 use Rattle.model.specs.PlanFile as plans
 use Rattle.model.specs.PlanFile.{readPlan}
-use Rattle.model_desk.specs.Desk.{Held, Call, loadRoster, loadPlan, writeRosterTo, writePlanTo, find, join, leave, judge, compare, blocking, Answer}
-use Rattle.model_desk.specs.Desk.{planToNew, planToOld, propose, commit, spread, least, needsProposal, noProposal}
-use Rattle.model_desk.specs.Desk.{needsRoster, needsPlan, lentShort, noRoster, noPlan, stateRefusal, answerOn, lentOn, stateRefused, answerOf, lentAfter}
-use Rattle.model_desk.specs.Desk.{deskOn, deskAfter, planHeld}
+use Rattle.model_desk.specs.Desk.{Held, Topic, Call, loadRoster, loadPlan, join, leave, propose, commit, asks, Answer, refusal, noProposal}
+use Rattle.model_desk.specs.Desk.{need, needsRoster, needsPlan, needsProposal, lentShort, noRoster, noPlan, stateRefusal, answerOn, lentOn}
+use Rattle.model_desk.specs.Desk.{answerOf, lentAfter, deskOn, deskAfter, planHeld}
 use Rattle.theory_finder.specs.Choices.{chosen}
 use Rattle.desk_files.specs.declared.Files.{Files}
 use Rattle.instance.specs.Decoded.{shownBy}
@@ -35,54 +34,46 @@ use Rattle.desk_files.specs.Replies.{answered, lentThen, isAccepted, Sto
 by-number : {A : Type 0} (f : ℕ → A) (x : A) {n s : ℕ} → n ≡ s → 0 < n → f n ≡ cond (ltb 0 s) (f s) x
 by-number f x {n} {s} e h = sym (ap (λ b. cond b (f n) x) (lt-ltb 0 n h)) ∙ ap (λ k. cond (ltb 0 k) (f k) x) e
 
-same-desk : (d : Files) (n : ℕ) (c : Call) → Stored c (isAccepted (stateRefused n c)) d d
-same-desk d n (loadRoster file) = refl
-same-desk d n (loadPlan file) = refl
-same-desk d n (writeRosterTo buffer) = refl
-same-desk d n (writePlanTo buffer) = refl
-same-desk d n (find s l p v) = refl
-same-desk d n (join q f s l p v) = refl
-same-desk d n (leave m s l p v) = refl
-same-desk d n (judge v f) = refl
-same-desk d n (compare a b f k) = refl
-same-desk d n blocking = refl
-same-desk d n (planToNew f b) = refl
-same-desk d n (planToOld f b) = refl
-same-desk d n (propose a f k) = refl
-same-desk d n commit = refl
-same-desk d n (spread b) = refl
-same-desk d n (least a b c w) = refl
+same-desk : (d : Files) {k : Topic} (c : Call k) → Stored c false d d
+same-desk d (loadRoster file) = refl
+same-desk d (loadPlan file) = refl
+same-desk d (join q f s l p v) = refl
+same-desk d (leave m s l p v) = refl
+same-desk d (propose a f k) = refl
+same-desk d commit = refl
+same-desk d (asks a) = refl
 
 -- a call that needs a roster, and no proposal
-pub states : (h : Held) (c : Call) → T (needsRoster c) → T (not (needsProposal c)) → stateNumber h (needsPlan c) (lentShort c) ≡ stateRefusal h c
+pub states : (h : Held) {k : Topic} (c : Call k) → T (needsRoster (need c)) → T (not (needsProposal (need c)))
+    → stateNumber h (needsPlan (need c)) (lentShort c) ≡ stateRefusal h c
 unfolding stateRefusal
-states h c t u = go (needsRoster c) (needsProposal c) t u
+states h c t u = go (needsRoster (need c)) (needsProposal (need c)) t u
   where
     go : (a b : Bool) → T a → T (not b)
-        → stateNumber h (needsPlan c) (lentShort c)
-        ≡ cond (a && noRoster h) 13 (cond (needsPlan c && noPlan h) 14 (cond (b && noProposal h) 20 (cond (lentShort c) 15 0)))
+        → stateNumber h (needsPlan (need c)) (lentShort c)
+        ≡ cond (a && noRoster h) 13 (cond (needsPlan (need c) && noPlan h) 14 (cond (b && noProposal h) 20 (cond (lentShort c) 15 0)))
     go true false t u = refl
     go true true t u = absurd u
     go false b t u = absurd t
 
-pub refuses-by : (d : Files) (c : Call) {n : ℕ} {a : Answer} → n ≡ stateRefusal (heldOf d) c → 0 < n → a ≡ stateRefused n c → Replied d c a c d
+pub refuses-by : (d : Files) {k : Topic} (c : Call k) {n : ℕ} {a : Answer k} → n ≡ stateRefusal (heldOf d) c → 0 < n → a ≡ refusal n → Replied d c a c d
 unfolding answerOf lentAfter deskAfter
 refuses-by d c {n} {a} e h q = record {
-  answer = q ∙ by-number (λ k. stateRefused k c) (answerOn chosen (heldOf d) c) e h;
+  answer = q ∙ by-number refusal (answerOn chosen (heldOf d) c) e h;
   lent = by-number (λ k. c) (lentOn chosen (heldOf d) c) e h;
   desk = by-number (λ k. heldOf d) (deskOn (heldOf d) c) e h;
-  stored = subst (λ z. Stored c (isAccepted z) d d) (sym q) (same-desk d n c);
+  stored = subst (λ z. Stored c (isAccepted z) d d) (sym q) (same-desk d c);
 }
 
-pub by-state : (d : Files) (c : Call) → T (needsRoster c) → T (not (needsProposal c)) → {n : ℕ} {a : Answer}
-    → n ≡ stateNumber (heldOf d) (needsPlan c) (lentShort c) → 0 < n → a ≡ stateRefused n c → Replied d c a c d
+pub by-state : (d : Files) {k : Topic} (c : Call k) → T (needsRoster (need c)) → T (not (needsProposal (need c))) → {n : ℕ} {a : Answer k}
+    → n ≡ stateNumber (heldOf d) (needsPlan (need c)) (lentShort c) → 0 < n → a ≡ refusal n → Replied d c a c d
 by-state d c t u i h q = refuses-by d c (i ∙ states (heldOf d) c t u) h q
 
 -- ---- a call that the state lets pass
-module _ (h : Held) (c : Call) (s : 0 ≡ stateRefusal h c) where
+module _ (h : Held) {k : Topic} (c : Call k) (s : 0 ≡ stateRefusal h c) where
   pub pass-answer : answerOn chosen h c ≡ answered h c
   unfolding answerOf
-  pass-answer = ap (λ k. cond (ltb 0 k) (stateRefused k c) (answerOn chosen h c)) s
+  pass-answer = ap (λ k. cond (ltb 0 k) (refusal k) (answerOn chosen h c)) s
 
   pub pass-lent : lentOn chosen h c ≡ lentThen h c
   unfolding lentAfter
@@ -98,12 +89,12 @@ either true e = refl
 either false e = e
 
 -- a call that is lent no buffer to write to
-pub lent-alike : (h : Held) (c : Call) → c ≡ lentOn chosen h c → c ≡ lentThen h c
+pub lent-alike : (h : Held) {k : Topic} (c : Call k) → c ≡ lentOn chosen h c → c ≡ lentThen h c
 unfolding lentAfter
 lent-alike h c e = either (ltb 0 (stateRefusal h c)) e
 
 -- a call that leaves the desk alike
-pub desk-alike : (h : Held) (c : Call) → h ≡ deskOn h c → h ≡ deskAfter h c
+pub desk-alike : (h : Held) {k : Topic} (c : Call k) → h ≡ deskOn h c → h ≡ deskAfter h c
 unfolding deskAfter
 desk-alike h c e = either (ltb 0 (stateRefusal h c)) e
 
@@ -117,12 +108,12 @@ unfolding heldOf
 roster-held d R a = ap (λ x. beside (proposalBytes d) (held x (planBytes d))) a
 
 -- a call that leaves the desk as it came: its answer and the bytes lent, by what is held
-module _ (d : Files) (c : Call) (t : T (needsRoster c)) (u : T (not (needsProposal c))) {n : ℕ}
-    (i : n ≡ stateNumber (heldOf d) (needsPlan c) (lentShort c)) (z : n ≤ 0) where
+module _ (d : Files) {k : Topic} (c : Call k) (t : T (needsRoster (need c))) (u : T (not (needsProposal (need c)))) {n : ℕ}
+    (i : n ≡ stateNumber (heldOf d) (needsPlan (need c)) (lentShort c)) (z : n ≤ 0) where
   pub passed : 0 ≡ stateRefusal (heldOf d) c
   passed = no-number z i ∙ states (heldOf d) c t u
 
-  pub passes : {a : Answer} {c′ : Call} (h : Held) → heldOf d ≡ h → a ≡ answerOn chosen h c → c′ ≡ lentOn chosen h c → h ≡ deskOn h c
+  pub passes : {a : Answer k} {c′ : Call k} (h : Held) → heldOf d ≡ h → a ≡ answerOn chosen h c → c′ ≡ lentOn chosen h c → h ≡ deskOn h c
       → Stored c (isAccepted a) d d → Replied d c a c′ d
   passes h e p q k s = record {
     answer = p ∙ ap (λ h. answerOn chosen h c) (sym e) ∙ pass-answer (heldOf d) c passed;

@@ -7,6 +7,7 @@ ghost use lib.ListN.{length, take};
 ghost use Rattle.model_desk.specs.Desk.{opening, onto};
 ghost use Rattle.desk_loaded.specs.OnDesk.{LoadedFrom};
 ghost use Rattle.desk_files.specs.Held.{rosterBytes, planBytes, heldOf};
+ghost use Rattle.desk_files.specs.Open.{Opened};
 use desk_loaded::OnDesk;
 use limits::PLAN_SIZE;
 use limits::ROSTER_SIZE;
@@ -63,4 +64,23 @@ pub fn loaded(files: Files, needs: bool, short: bool) -> OnDesk
     let r = front(&roster, files.roster_len);
     let p = front(&plan, files.plan_len);
     desk_loaded::loaded(r, p, needs, short)
+}
+
+// The state's refusal of a call that needs an open proposal: 13, 14, 20, then 15, where a buffer lent to it is below its size; 0 for none.
+pub fn open_refusal(files: Files, short: bool) -> u8
+    ensures { λ r. ⌜ Opened files short r ⌝ }
+{
+    let here = loaded(files, true, false);
+    let n = here.refusal;
+    if 0 < n {
+        return n;
+    }
+    let proposal = files.proposal;
+    let file = front(&proposal, files.proposal_len);
+    let beside = desk_loaded::with_plan(here.g, file, short);
+    let m = beside.refusal;
+    if m == 14 {
+        return 20;
+    }
+    m
 }

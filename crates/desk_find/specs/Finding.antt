@@ -20,7 +20,8 @@ use Rattle.model.specs.PlanFile.{readPlan}
 use Rattle.model.specs.Reduction.{stepsOf}
 use Rattle.model.specs.Finder as F
 use Rattle.model.specs.Finder.{recordOf, diaryOf, finderOf}
-use Rattle.model_desk.specs.Desk.{Call, find, refused, refusal, foundOn, foundBytes, lentShort, stateRefusal, answerOn, lentOn, foundAnswer, foundWritten, onto}
+use Rattle.model_desk.specs.Desk.{Call, finds, find, refused, refusal, foundOn, foundBytes, lentShort, stateRefusal, answerOn, lentOn, foundAnswer}
+use Rattle.model_desk.specs.Desk.{foundWritten, onto}
 use Rattle.theory_verdict.specs.Rival.{rivalOf}
 use Rattle.theory_finder.specs.Choices.{chosen}
 use Rattle.theory_reduction.specs.Course.{steps-few}
@@ -97,7 +98,7 @@ within d room l p v c l′ p′ v′ D = fit room l p v (c .outcome) l′ p′ v
 
 -- ---- the reply
 module _ (s : List Step) (l p v : List ℕ) where
-  abbrev call : Call
+  abbrev call : Call finds
   call = find (recordsIn s) l p v
 
   pub short-is : short (length s) l p v ≡ lentShort call

@@ -21,7 +21,8 @@ use Rattle.model.specs.PlanFile.{readPlan}
 use Rattle.model.specs.Vote.{vote}
 use Rattle.model.specs.Facing.{pairingBytes}
 use Rattle.model_desk.specs.Compare.{bothPairings}
-use Rattle.model_desk.specs.Desk.{refused, refusal, bothVotes, propose, proposalAnswer, withProposal, proposalPairings, pairingsOnto, answerOn, lentOn, deskOn}
+use Rattle.model_desk.specs.Desk.{refused, said, refusal, bothVotes, propose, proposalAnswer, withProposal, proposalPairings, pairingsOnto, answerOn}
+use Rattle.model_desk.specs.Desk.{lentOn, deskOn}
 use Rattle.theory_instance.specs.Lawful.{Matching}
 use Rattle.theory_finder.specs.Choices.{chosen}
 use Rattle.theory_files.specs.Reads.{isBytes}
@@ -85,7 +86,7 @@ module _ (d : Files) (file f k : List ℕ) {l : OnDesk}
     proposal-small isB = plan-accepted-size G file N isB y
 
     pub propose-taken : {v w : ℤ} {f′ k′ : List ℕ} → v ≡ voteOf G p (l .plan) → w ≡ voteOf G (l .plan) p → Paired (bothPairings G p (l .plan)) f k f′ k′
-        → (d′ : Files) → ProposalIn file true d d′ → Replied d (propose file f k) (bothVotes v w) (propose file f′ k′) d′
+        → (d′ : Files) → ProposalIn file true d d′ → Replied d (propose file f k) (said (bothVotes v w)) (propose file f′ k′) d′
     propose-taken i j P d′ ((m, r), (n, q), g) = given (its-plan z F) (λ (R, M, a, b).
         let is = F .instance R a .1 in
         let y = ap (λ G. readPlan G file) (sym is) ∙ y in
@@ -93,8 +94,8 @@ module _ (d : Files) (file f k : List ℕ) {l : OnDesk}
         let s = passed d (propose file f k) tt tt (state-is d F) z in
         let h = heldProposal R M (other d R) in
         record {
-          answer = ap₂ bothVotes i j ∙ ap₂ (λ x z. bothVotes (vote G x z) (vote G z x)) same held
-              ∙ ap (λ G. bothVotes (voteOf G N M) (voteOf G M N)) is ∙ answers R M (accepted N) y
+          answer = ap₂ (λ v w. said (bothVotes v w)) i j ∙ ap₂ (λ x z. said (bothVotes (vote G x z) (vote G z x))) same held
+              ∙ ap (λ G. said (bothVotes (voteOf G N M) (voteOf G M N))) is ∙ answers R M (accepted N) y
               ∙ ap (λ h. answerOn chosen h (propose file f k)) (sym (plan-held d R M a b)) ∙ pass-answer (heldOf d) (propose file f k) s;
           lent = ap₂ (propose file) (P .first) (P .second)
               ∙ ap₂ (λ x z. pairingsOnto (propose file) (pairingBytes G x z, pairingBytes G z x) f k) same held

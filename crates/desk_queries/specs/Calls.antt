@@ -8,14 +8,13 @@ use lib.Dec.{ltb}
 use Rattle.lists.specs.Test.{given}
 use Rattle.model.specs.Limits.{planSize, pairingSize}
 use Rattle.model.specs.Refusal.{groupOf}
-use Rattle.model.specs.Instance.{Instance}
 use Rattle.model.specs.Edges.{instanceOf}
 use Rattle.model.specs.Plans.{Plan, on, verdictOf}
 use Rattle.model.specs.PlanFile.{readPlan}
 use Rattle.model.specs.Blocking.{someBlocks, topBlocking}
 use Rattle.model_desk.specs.Compare as outcome
-use Rattle.model_desk.specs.Compare.{winnerPart, partOf, comparisonOf, pairingsOf}
-use Rattle.model_desk.specs.Desk.{judge, compare, blocking, refusal, votes, refusedPart, verdictAnswer}
+use Rattle.model_desk.specs.Compare.{comparisonOf, pairingsOf}
+use Rattle.model_desk.specs.Desk.{judge, compare, blocking, refused, said, refusal, votes, verdictAnswer}
 use Rattle.model_desk.specs.Desk.{verdictWritten, comparisonAnswer, blockingAnswer, pairingsOnto}
 use Rattle.theory_verdict.specs.Rival.{rivalOf}
 use Rattle.arrays.specs.ArrayInstance.{flag}
@@ -40,25 +39,20 @@ use Rattle.desk_files.specs.Replies.{Replied}
 use Rattle.desk_files.specs.State.{state-is, roster-held, passes, other, its-plan-held}
 
 -- the model's answer to a comparison, for each case of the code's
-compared-shown : (G : Instance) (a b : List ℕ)
-    → comparisonShown a b (comparisonCase (comparisonOf G a b)) ≡ comparisonAnswer (partOf G a b) (comparisonOf G a b)
-unfolding partOf
-compared-shown G a b = go (comparisonOf G a b)
-  where
-    go : (c : outcome.Comparison) → comparisonShown a b (comparisonCase c) ≡ comparisonAnswer (outcome.comparisonPart c a b) c
-    go (outcome.votes v w x) = ap (λ y. votes v w y (winnerPart y a b)) (winner-shown x)
-    go (outcome.refused n) = ap (λ g. refusedPart n g (winnerPart outcome.neither a b)) (shown-case (groupOf n))
+compared-shown : (c : outcome.Comparison) → comparisonShown (comparisonCase c) ≡ comparisonAnswer c
+compared-shown (outcome.votes v w x) = ap (λ y. said (votes v w y)) (winner-shown x)
+compared-shown (outcome.refused n) = ap (refused n) (shown-case (groupOf n))
 
 module _ (d : Files) (a b f k : List ℕ) {l : OnDesk}
     (F : LoadedFrom (rosterBytes d) (planBytes d) false (ltb (length f) pairingSize || ltb (length k) pairingSize) l) where
   pub compare-reply : l .refusal ≤ 0 → {c : Comparison} {f′ k′ : List ℕ} → c ≡ comparisonCase (comparisonOf (shownBy (l .g)) a b)
-      → Paired (pairingsOf (shownBy (l .g)) a b) f k f′ k′ → Replied d (compare a b f k) (comparisonShown a b c) (compare a b f′ k′) d
+      → Paired (pairingsOf (shownBy (l .g)) a b) f k f′ k′ → Replied d (compare a b f k) (comparisonShown c) (compare a b f′ k′) d
   compare-reply z e P = given (its-roster z F) (λ (R, r).
       let y = readPlan (instanceOf R) (planBytes d) in
       let h = proposalBytes d in
       passes d (compare a b f k) tt tt (state-is d F) z (beside h (heldPlan R y)) (roster-held d R r)
-      (ap (comparisonShown a b) e ∙ compared-shown (shownBy (l .g)) a b ∙ ap (λ G. comparisonAnswer (partOf G a b) (comparisonOf G a b)) (F .instance R r .1)
-      ∙ of-roster (refusal 13) (λ r. comparisonAnswer (partOf (instanceOf r) a b) (comparisonOf (instanceOf r) a b)) R y h)
+      (ap comparisonShown e ∙ compared-shown (comparisonOf (shownBy (l .g)) a b) ∙ ap (λ G. comparisonAnswer (comparisonOf G a b)) (F .instance R r .1)
+      ∙ of-roster (refusal 13) (λ r. comparisonAnswer (comparisonOf (instanceOf r) a b)) R y h)
       (ap₂ (compare a b) (P .first) (P .second) ∙ ap (λ G. pairingsOnto (compare a b) (pairingsOf G a b) f k) (F .instance R r .1)
       ∙ of-roster (compare a b f k) (λ r. pairingsOnto (compare a b) (pairingsOf (instanceOf r) a b) f k) R y h)
       refl refl)

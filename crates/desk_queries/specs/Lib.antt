@@ -1,3 +1,4 @@
 pub mod Calls
 pub mod Judging
 pub mod Comparing
+pub mod Holding

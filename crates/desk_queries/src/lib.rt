@@ -1,11 +1,13 @@
-// Verdict, comparison and blocking pair: calls that leave the desk as it is, and write at most a rival and the pairings of their votes (W-208).
-ghost use Rattle.model_desk.specs.Desk.{compare, blocking};
+// Verdict, comparison, blocking pair and what is held: calls that leave the desk as it is, and write at most a rival and the pairings of their votes (W-208).
+ghost use Rattle.model_desk.specs.Desk.{compare, blocking, holds, said, holding};
 ghost use Rattle.answers.specs.ComparisonCases.{comparisonShown};
 ghost use Rattle.answers.specs.BlockedCases.{blockedShown};
+ghost use Rattle.answers.specs.HoldingCases.{holdingShown};
 ghost use Rattle.desk_files.specs.Replies.{Replied};
 ghost use Rattle.desk_queries.specs.Judging.{Judges};
 use answers::Blocked;
 use answers::Comparison;
+use answers::Holding;
 use answers::Verdict;
 use desk_files::Files;
 use limits::PAIRING_SIZE;
@@ -39,7 +41,7 @@ pub fn compare_votes(
     back: &mut [u8],
 ) -> Comparison
     ensures { λ r. ⌜ Replied files (compare (now (first .entry)) (now (second .entry)) (now (forward .entry)) (now (back .entry)))
-        (comparisonShown (now (first .entry)) (now (second .entry)) r)
+        (comparisonShown r)
         (compare (now (first .entry)) (now (second .entry)) (now (forward .exit)) (now (back .exit))) files ⌝ }
 {
     let l = desk_files::loaded(
@@ -65,4 +67,21 @@ pub fn blocking(files: Files) -> Blocked
     let plan = l.plan;
     let edges = l.edges;
     blocking_search::blocking(l.g, &plan, l.n, &edges)
+}
+
+// How much the desk holds; no state refuses it.
+pub fn holds(files: Files) -> Holding
+    ensures { λ r. ⌜ Replied files holds (said (holding (holdingShown r))) holds files ⌝ }
+{
+    let n = desk_files::open_refusal(files, false);
+    if n == 13 {
+        return Holding::Nothing;
+    }
+    if n == 14 {
+        return Holding::Roster;
+    }
+    if n == 20 {
+        return Holding::Plan;
+    }
+    Holding::Proposal
 }

@@ -17,7 +17,7 @@ use Rattle.model.specs.Plans.{Plan, on, voteOf}
 use Rattle.model.specs.PlanFile.{readPlan}
 use Rattle.model.specs.Ranges.{Question, readQuestion, ranked, Least, rosterRanks, settledAt}
 use Rattle.model_desk.specs.Desk as D
-use Rattle.model_desk.specs.Desk.{Held, onRoster, least, leastVote, refusal, leastAnswer, leastOnto}
+use Rattle.model_desk.specs.Desk.{Held, onRoster, least, said, leastVote, refusal, leastAnswer, leastOnto}
 use Rattle.theory_files.specs.Reads.{isBytes}
 use Rattle.theory_ranges.specs.Worst.{worst-choice, choice-placed}
 use Rattle.theory_ranges.specs.InOrder.{InOrder, in-order}
@@ -87,7 +87,7 @@ module _ (d : Files) (a b c w : List ℕ) (ia : T (isBytes a)) (ib : T (isBytes 
         let f = on (q .first) in
         let h = on (q .second) in
         let small = choice-placed G f h (q .ranges) (s .ranges) (choiceFor R q) (worst-choice G f h (q .ranges) (s .ranges)) in
-        ap (λ v. leastVote v (length (choiceFor R q))) (sym (ranked-vote R ok (q .first) (q .second) (s .first) (s .second) (choiceFor R q) small))
+        ap (λ v. said (leastVote v (length (choiceFor R q)))) (sym (ranked-vote R ok (q .first) (q .second) (s .first) (s .second) (choiceFor R q) small))
     shown (refused n) e = ap (D.refused n) (shown-case (groupOf n))
 
     written : (x : Reading Question) → leastBytes (instanceOf R) x w ≡ leastOnto chosen R x w

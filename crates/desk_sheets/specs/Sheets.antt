@@ -19,7 +19,7 @@ use Rattle.model.specs.Edges.{instanceOf}
 use Rattle.model.specs.Plans.{Plan, on}
 use Rattle.model.specs.PlanFile.{edgesIn}
 use Rattle.model.specs.Days.{Sheet}
-use Rattle.model_desk.specs.Desk.{planHeld, spread, refusal, wrote, onto}
+use Rattle.model_desk.specs.Desk.{planHeld, spread, refusal, said, wrote, onto}
 use Rattle.theory_instance.specs.Within.{within-matching}
 use Rattle.theory_files.specs.Chosen.{plan-within}
 use Rattle.theory_files.specs.PlanFiles.{plan-few}
@@ -103,7 +103,8 @@ module _ (d : Files) {short : Bool} {l : OnDesk} (F : LoadedFrom (rosterBytes d)
 
   -- the answer and the buffer
   pub spread-reply : (out : List ℕ) {after : List ℕ} → short ≡ ltb (length out) daySize
-      → after ≡ spreadBy (at (l .g .sv)) (at (l .g .st)) (take (l .n) (l .edges)) ++ drop (l .n) out → Replied d (spread out) (wrote (l .n)) (spread after) d
+      → after ≡ spreadBy (at (l .g .sv)) (at (l .g .st)) (take (l .n) (l .edges)) ++ drop (l .n) out
+      → Replied d (spread out) (said (wrote (l .n))) (spread after) d
   spread-reply out s q = given (its-plan-held d F z) (λ (R, M, e, g, P, w).
       let G = shownBy (l .g) in
       let f : flag (l .plan) ≡ on M = (λ i k. P .flags k i) in
@@ -111,7 +112,8 @@ module _ (d : Files) {short : Bool} {l : OnDesk} (F : LoadedFrom (rosterBytes d)
       (listed .are ∙ ap (edgesIn (l .g .m)) f) in
       let many : l .n ≡ length (spreadOf G M) = count-is ∙ ap (λ p. length (edgesIn (l .g .m) p)) f ∙ sym (days-many G M) in
       passes d (spread out) tt tt (state-is d F ∙ ap (stateNumber (heldOf d) true) s) z (heldProposal R M (other d R)) e
-      (ap wrote (many ∙ ap (λ G. length (spreadOf G M)) g) ∙ of-plan (refusal 14) (λ r M. wrote (length (spreadOf (instanceOf r) M))) R M (other d R))
+      (ap (λ k. said (wrote k)) (many ∙ ap (λ G. length (spreadOf G M)) g)
+      ∙ of-plan (refusal 14) (λ r M. said (wrote (length (spreadOf (instanceOf r) M)))) R M (other d R))
       (ap spread (q ∙ ap₂ (λ x k. x ++ drop k out) days many ∙ ap (λ G. onto (spreadOf G M) out) g)
       ∙ of-plan (spread out) (λ r M. spread (onto (spreadOf (instanceOf r) M) out)) R M (other d R))
       refl refl)

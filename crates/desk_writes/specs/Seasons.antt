@@ -17,7 +17,7 @@ use Rattle.model.specs.Edges.{instanceOf}
 use Rattle.model.specs.Plans.{Plan}
 use Rattle.model.specs.PlanFile.{readPlan}
 use Rattle.model_desk.specs.Seasons as S
-use Rattle.model_desk.specs.Desk.{Held, Call, planToNew, planToOld, refused, wrote, refusal, onto, convertedAnswer, convertedOnto}
+use Rattle.model_desk.specs.Desk.{Held, Call, writes, planToNew, planToOld, refused, said, wrote, refusal, onto, convertedAnswer, convertedOnto}
 use Rattle.model_desk.specs.Desk.{stateRefusal, answerOn, lentOn}
 use Rattle.theory_files.specs.PlanFiles.{Fileable}
 use Rattle.theory_files.specs.RosterInstance.{fileable}
@@ -39,14 +39,14 @@ use Rattle.desk_files.specs.Replies.{answered, lentThen, Replied}
 use Rattle.desk_files.specs.State.{states, by-state, pass-answer, pass-lent, roster-held, passes, state-is}
 
 -- `call` is the way that is gone, `undo` the other one
-pub record Turns (call undo : (file buffer : List ℕ) → Call) (d : Files) (f o : List ℕ) (r : Written) (o′ : List ℕ) (d′ : Files) : Type 0 where
+pub record Turns (call undo : (file buffer : List ℕ) → Call writes) (d : Files) (f o : List ℕ) (r : Written) (o′ : List ℕ) (d′ : Files) : Type 0 where
   pub replied : Replied d (call f o) (writtenShown r) (call f o′) d′
   -- "goes back to the identical old bytes": the other call, on the desk that comes back, writes the identical file of what was written
-  pub undone : (n : ℕ) → writtenShown r ≡ wrote n → (b : List ℕ) → planSize ≤ length b
-      → (answered (heldOf d′) (undo (take n o′) b) ≡ wrote (length f)) × (lentThen (heldOf d′) (undo (take n o′) b) ≡ undo (take n o′) (onto f b))
+  pub undone : (n : ℕ) → writtenShown r ≡ said (wrote n) → (b : List ℕ) → planSize ≤ length b
+      → (answered (heldOf d′) (undo (take n o′) b) ≡ said (wrote (length f))) × (lentThen (heldOf d′) (undo (take n o′) b) ≡ undo (take n o′) (onto f b))
 
 -- ---- the call by the layout that is read
-abbrev pub callBy : (shifts : Bool) → (file buffer : List ℕ) → Call
+abbrev pub callBy : (shifts : Bool) → (file buffer : List ℕ) → Call writes
 callBy true = planToOld
 callBy false = planToNew
 
@@ -72,9 +72,9 @@ module _ (d : Files) (R : Roster) (a : readRoster (rosterBytes d) ≡ accepted R
   H = beside (proposalBytes d) (heldPlan R y)
 
   -- what is said of a file
-  said : (b : Bool) (f o : List ℕ) → convertedAnswer (planBy b (instanceOf R) f) ≡ answerOn chosen H (callBy b f o)
-  said true f o = of-roster (refusal 13) (λ r. convertedAnswer (S.planToOld (instanceOf r) f)) R y (proposalBytes d)
-  said false f o = of-roster (refusal 13) (λ r. convertedAnswer (S.planToNew (instanceOf r) f)) R y (proposalBytes d)
+  told : (b : Bool) (f o : List ℕ) → convertedAnswer (planBy b (instanceOf R) f) ≡ answerOn chosen H (callBy b f o)
+  told true f o = of-roster (refusal 13) (λ r. convertedAnswer (S.planToOld (instanceOf r) f)) R y (proposalBytes d)
+  told false f o = of-roster (refusal 13) (λ r. convertedAnswer (S.planToNew (instanceOf r) f)) R y (proposalBytes d)
 
   lent : (b : Bool) (f o : List ℕ) → callBy b f (convertedOnto (planBy b (instanceOf R) f) o) ≡ lentOn chosen H (callBy b f o)
   lent true f o = of-roster (planToOld f o) (λ r. planToOld f (convertedOnto (S.planToOld (instanceOf r) f) o)) R y (proposalBytes d)
@@ -96,10 +96,10 @@ module _ (d : Files) (R : Roster) (a : readRoster (rosterBytes d) ≡ accepted R
 
   -- a file that is turned into another
   turned-into : (b : Bool) (f g o : List ℕ) → planSize ≤ length o → planBy b (instanceOf R) f ≡ accepted g
-      → (answered (heldOf d) (callBy b f o) ≡ wrote (length g)) × (lentThen (heldOf d) (callBy b f o) ≡ callBy b f (onto g o))
+      → (answered (heldOf d) (callBy b f o) ≡ said (wrote (length g))) × (lentThen (heldOf d) (callBy b f o) ≡ callBy b f (onto g o))
   turned-into b f g o h p = (
     sym (pass-answer (heldOf d) (callBy b f o) (passed-by b f o h)) ∙ ap (λ x. answerOn chosen x (callBy b f o)) (roster-held d R a)
-        ∙ sym (said b f o) ∙ ap convertedAnswer p,
+        ∙ sym (told b f o) ∙ ap convertedAnswer p,
     sym (pass-lent (heldOf d) (callBy b f o) (passed-by b f o h)) ∙ ap (λ x. lentOn chosen x (callBy b f o)) (roster-held d R a)
         ∙ sym (lent b f o) ∙ ap (λ x. callBy b f (convertedOnto x o)) p,
   )
@@ -124,12 +124,12 @@ turns shifts d f o isB {l} F z {r} {o′} X =
   where
     -- a file of which the other call writes f
     Undone : List ℕ → List ℕ → Type 0
-    Undone b w = (answered (heldOf d) (callBy (not shifts) w b) ≡ wrote (length f))
+    Undone b w = (answered (heldOf d) (callBy (not shifts) w b) ≡ said (wrote (length f)))
         × (lentThen (heldOf d) (callBy (not shifts) w b) ≡ callBy (not shifts) w (onto f b))
 
     reply : (R : Roster) (a : readRoster (rosterBytes d) ≡ accepted R) (b : Bool) → TurnedFor b (instanceOf R) f o r o′
         → Replied d (callBy b f o) (writtenShown r) (callBy b f o′) d
     reply R a true Y = passes d (planToOld f o) tt tt (state-is d F) z (H d R a) (roster-held d R a)
-        (Y .answer ∙ said d R a true f o) (ap (planToOld f) (Y .lent) ∙ lent d R a true f o) refl refl
+        (Y .answer ∙ told d R a true f o) (ap (planToOld f) (Y .lent) ∙ lent d R a true f o) refl refl
     reply R a false Y = passes d (planToNew f o) tt tt (state-is d F) z (H d R a) (roster-held d R a)
-        (Y .answer ∙ said d R a false f o) (ap (planToNew f) (Y .lent) ∙ lent d R a false f o) refl refl
+        (Y .answer ∙ told d R a false f o) (ap (planToNew f) (Y .lent) ∙ lent d R a false f o) refl refl

@@ -1,5 +1,6 @@
-// Files from the desk to a buffer: the roster held, the plan held, and a plan of an old season in the layout of today or back (request W-205).
-ghost use Rattle.model_desk.specs.Desk.{writeRosterTo, writePlanTo};
+// Files from the desk to a buffer: the roster held, the plan held, the open proposal, and a plan of an old season in the layout of today or back
+// (request W-205).
+ghost use Rattle.model_desk.specs.Desk.{writeRosterTo, writePlanTo, writeProposalTo};
 ghost use Rattle.answers.specs.WrittenCases.{writtenShown};
 ghost use Rattle.desk_files.specs.Replies.{Replied};
 ghost use Rattle.desk_writes.specs.Seasons.{TurnsBy};
@@ -33,6 +34,19 @@ pub fn write_plan(files: Files, out: &mut [u8]) -> Written
     }
     let plan = files.plan;
     let k = desk_files::copied(&plan, files.plan_len, out);
+    Written::Wrote(k)
+}
+
+// The open proposal: 13, 14, 20, then 15, where the buffer is below a plan's size.
+pub fn write_proposal(files: Files, out: &mut [u8]) -> Written
+    ensures { λ r. ⌜ Replied files (writeProposalTo (now (out .entry))) (writtenShown r) (writeProposalTo (now (out .exit))) files ⌝ }
+{
+    let n = desk_files::open_refusal(files, out.len() < PLAN_SIZE);
+    if 0 < n {
+        return Written::Refused(n, answers::group_of(n));
+    }
+    let proposal = files.proposal;
+    let k = desk_files::copied(&proposal, files.proposal_len, out);
     Written::Wrote(k)
 }
 

@@ -17,7 +17,7 @@ use Rattle.model.specs.Edges.{instanceOf}
 use Rattle.model.specs.Plans.{Plan, strongPlans, strongCount}
 use Rattle.model.specs.PlanFile.{planBytes}
 use Rattle.model.specs.Finder.{finderOf, plan}
-use Rattle.model_desk.specs.Desk.{wrote}
+use Rattle.model_desk.specs.Desk.{said, wrote}
 use Rattle.model_desk.specs.History.{planPairs}
 use Rattle.model_desk.specs.SeasonCalls.{fileAnswer, fileLent}
 use Rattle.model_files.specs.Districts.{sideBySide, secondTo, firstTo, joinOf, fileOf, joinedFile, pairsBeside, pairsBytes}
@@ -64,7 +64,7 @@ pub record Joins (first second o : List ℕ) (r : Written) (o′ : List ℕ) : T
   pub answer : writtenShown r ≡ fileAnswer (joinedFile first second) o
   -- they are in front of the buffer, which keeps the rest; a refusal changes no byte
   pub lent : o′ ≡ fileLent (joinedFile first second) o
-  pub joined : (n : ℕ) → writtenShown r ≡ wrote n → Together first second (take n o′)
+  pub joined : (n : ℕ) → writtenShown r ≡ said (wrote n) → Together first second (take n o′)
 
 module _ (f g : List ℕ) (isF : T (isBytes f)) (isG : T (isBytes g)) where
   together : (bs : List ℕ) → joinedFile f g ≡ accepted bs → Together f g bs

@@ -14,8 +14,8 @@ use Rattle.model.specs.Edges.{position, edgesOf, instanceOf}
 use Rattle.model.specs.Instance.{deg}
 use Rattle.model.specs.Vote.{nodeVote, vote}
 use Rattle.model.specs.PlanFile.{edgeOfPair, readPlanBy}
-use Rattle.model_desk.specs.Compare.{Part, firstFile, secondFile, first, second, both, neither, comparisonOf, partOf}
-use Rattle.model_desk.specs.Desk.{Answer, votes, refusal, comparisonAnswer}
+use Rattle.model_desk.specs.Compare.{Part, firstFile, secondFile, first, second, both, neither, comparisonOf}
+use Rattle.model_desk.specs.Desk.{Answer, compares, said, votes, refusal, comparisonAnswer, partIn}
 use Rattle.model_desk.specs.DeskCases.{Each}
 
 -- the comparison of two plan files on a roster's file
@@ -23,10 +23,11 @@ pub record Case : Type 0 where
   pub roster : List ℕ
   pub plan : List ℕ
   pub other : List ℕ
-  pub answer : Answer
+  pub answer : Answer compares
+  pub part : Part
 
-abbrev comparedOn : Reading Roster → (firstBytes secondBytes : List ℕ) → Answer
-comparedOn (accepted r) a b = comparisonAnswer (partOf (instanceOf r) a b) (comparisonOf (instanceOf r) a b)
+abbrev comparedOn : Reading Roster → (firstBytes secondBytes : List ℕ) → Answer compares
+comparedOn (accepted r) a b = comparisonAnswer (comparisonOf (instanceOf r) a b)
 comparedOn (refused n) a b = refusal n
 
 abbrev whole : List ℕ → Part
@@ -54,33 +55,46 @@ doubleP7 = bytes "8 1 1 1 1 1 1 1 1 2 2 2 8 0 1 1 1 1 1 1 1 1 1 1 1 1 1 2 1 1 2 
 
 abbrev cases : List Case
 cases =
-    record { roster = sample; plan = bytes "1 1 1 1"; other = bytes "1 2 1 1"; answer = votes (pos 1) (negsuc 0) first (whole (bytes "1 1 1")) }
-    ∷ record { roster = sample; plan = bytes "1 2 1 1"; other = bytes "1 1 1 1"; answer = votes (negsuc 0) (pos 1) second (wholeSecond (bytes "1 1 1")) }
+    record { roster = sample; plan = bytes "1 1 1 1"; other = bytes "1 2 1 1"; answer = said (votes (pos 1) (negsuc 0) first); part = whole (bytes "1 1 1") }
+    ∷ record {
+      roster = sample;
+      plan = bytes "1 2 1 1";
+      other = bytes "1 1 1 1";
+      answer = said (votes (negsuc 0) (pos 1) second);
+      part = wholeSecond (bytes "1 1 1");
+    }
     -- no vote is above zero: the plan that the other does not beat wins
     ∷ record {
       roster = P7;
       plan = bytes "2 1 1 1 3 1 1";
       other = bytes "2 2 1 1 4 1 1";
-      answer = votes (pos 0) (negsuc 1) first (whole (bytes "1 1 1 3 1 1"));
+      answer = said (votes (pos 0) (negsuc 1) first);
+      part = whole (bytes "1 1 1 3 1 1");
     }
     ∷ record {
       roster = P7;
       plan = bytes "2 2 1 1 4 1 1";
       other = bytes "2 1 1 1 3 1 1";
-      answer = votes (negsuc 1) (pos 0) second (wholeSecond (bytes "1 1 1 3 1 1"));
+      answer = said (votes (negsuc 1) (pos 0) second);
+      part = wholeSecond (bytes "1 1 1 3 1 1");
     }
     -- each beats the other
     ∷ record {
       roster = doubleP7;
       plan = bytes "4 1 1 1 3 1 1 6 2 1 8 2 1";
       other = bytes "4 2 1 1 4 1 1 5 2 1 7 2 1";
-      answer = votes (negsuc 1) (negsuc 1) both empty;
+      answer = said (votes (negsuc 1) (negsuc 1) both);
+      part = empty;
     }
     -- neither does: a plan and itself, and two plans that draw
-    ∷ record { roster = P7; plan = bytes "2 1 1 1 3 1 1"; other = bytes "2 1 1 1 3 1 1"; answer = votes (pos 0) (pos 0) neither empty }
-    ∷ record { roster = P24; plan = bytes "1 1 1 1"; other = bytes "1 1 1 3"; answer = votes (pos 0) (pos 0) neither empty } ∷ []
+    ∷ record { roster = P7; plan = bytes "2 1 1 1 3 1 1"; other = bytes "2 1 1 1 3 1 1"; answer = said (votes (pos 0) (pos 0) neither); part = empty }
+    ∷ record { roster = P24; plan = bytes "1 1 1 1"; other = bytes "1 1 1 3"; answer = said (votes (pos 0) (pos 0) neither); part = empty } ∷ []
 
-pub compared : Each (λ (c : Case). comparedOn (readRoster (c .roster)) (c .plan) (c .other) ≡ c .answer) cases
+abbrev Compared : Case → Type 0
+Compared c = (comparedOn (readRoster (c .roster)) (c .plan) (c .other) ≡ c .answer)
+    × (partIn (c .plan) (c .other) (comparedOn (readRoster (c .roster)) (c .plan) (c .other)) ≡ c .part)
+
+pub compared : Each Compared cases
 unfolding numbersFrom count low groupOf listed listedBack bothOrNeither readEach readRosterBy position edgesOf instanceOf deg nodeVote vote edgeOfPair
-    readPlanBy comparisonOf partOf
-compared = (refl, (refl, (refl, (refl, (refl, (refl, (refl, tt)))))))
+    readPlanBy comparisonOf
+compared = ((refl, refl), ((refl, refl), ((refl, refl), ((refl, refl), ((refl, refl), ((refl, refl), ((refl, refl), tt)))))))

@@ -12,7 +12,6 @@ use lib.Dec.{T, ltb}
 use lib.IntN.{ℤ}
 use Rattle.lists.specs.Sum.{_∈_}
 use Rattle.model.specs.Limits.{planSize, rosterSize, diarySize, leftSize, daySize, pairingSize, choiceSize}
-use Rattle.model.specs.Refusal.{Group, groupOf}
 use Rattle.model.specs.Reading as reading
 use Rattle.model.specs.Reading.{Reading, accepted, isBytes}
 use Rattle.model.specs.Roster.{Roster, fits}
@@ -33,6 +32,11 @@ use Rattle.model_changes.specs.Changes.{joinOn, leaveOn, gone, carried}
 use Rattle.model.specs.Days.{Sheet}
 use Rattle.model.specs.Ranges.{Question, readQuestion, ranked, Least}
 use Rattle.model_desk.specs.Seasons as S
+use Rattle.model_desk.specs.Calls as A
+pub use Rattle.model_desk.specs.Calls.{Topic, loads, writes, finds, judges, compares, blocks, proposes, commits, bounds, keeps, Asking}
+pub use Rattle.model_desk.specs.Calls.{Answer, refused, said, refusal, isRefused, Said, loaded, wrote, plan, none, NoneKind, left, rivalled}
+pub use Rattle.model_desk.specs.Calls.{strong, popular, beaten, votes, blockedBy, unblocked, bothVotes, committed, leastVote, holding}
+pub use Rattle.model_desk.specs.Calls.{Level, bare, aRoster, aPlan, aProposal}
 
 -- "nothing loaded, a roster, or a roster and a plan"; W-207: "A proposal stores the new plan beside the held one"
 pub data Held : Type 0 where
@@ -45,102 +49,94 @@ pub data Held : Type 0 where
 abbrev pub opening : Held
 opening = nothing
 
--- the calls, with the files and buffers lent to them. The left pairs' buffer is bytes, three for each of its 1,024 entries; the finder's
--- plan and its candidate share one buffer, as there is never more than one of them.
-pub data Call : Type 0 where
-  loadRoster : (file : List ℕ) → Call
-  loadPlan : (file : List ℕ) → Call
-  writeRosterTo : (buffer : List ℕ) → Call
-  writePlanTo : (buffer : List ℕ) → Call
-  find : (diary : List Record) (left plan rival : List ℕ) → Call
-  join : (quota : ℕ) (file : List ℕ) (diary : List Record) (left plan rival : List ℕ) → Call  -- W-202: "both calls are also lent the finder's buffers"
-  leave : (number : ℕ) (diary : List Record) (left plan rival : List ℕ) → Call
-  judge : (rival pairings : List ℕ) → Call  -- W-208: the pairings of the vote against the rival
-  compare : (first second forward back : List ℕ) → Call  -- the pairings of the first vote, of the second
-  blocking : Call
-  planToNew : (file buffer : List ℕ) → Call  -- W-205: a plan of an old season, and back
-  planToOld : (file buffer : List ℕ) → Call
-  propose : (file forward back : List ℕ) → Call  -- W-207; the pairings of the proposal's vote, of the held plan's
-  commit : Call
-  spread : (buffer : List ℕ) → Call  -- W-209: a day for each entry of the held plan
-  least : (first second ranges buffer : List ℕ) → Call  -- W-211: two plans and ranges of ranks
+-- the calls: those that take something in, and those that only ask
+pub data Call : Topic → Type 0 where
+  loadRoster : (file : List ℕ) → Call loads
+  loadPlan : (file : List ℕ) → Call loads
+  join : (quota : ℕ) (file : List ℕ) (diary : List Record) (left plan rival : List ℕ) → Call finds  -- W-202: "both calls are also lent the finder's buffers"
+  leave : (number : ℕ) (diary : List Record) (left plan rival : List ℕ) → Call finds
+  propose : (file forward back : List ℕ) → Call proposes  -- W-207; the pairings of the proposal's vote, of the held plan's
+  commit : Call commits
+  asks : {k : Topic} → Asking k → Call k
 
--- why there is none: so many pairs left, or the candidate's vote against its rival
-pub data NoneKind : Type 0 where
-  left : ℕ → NoneKind
-  rivalled : ℤ → NoneKind
+-- a call that is lent the finder's buffers: diary, left pairs, plan, rival
+abbrev pub Lends : Type 0
+Lends = List Record → (left plan rival : List ℕ) → Call finds
 
-pub data Answer : Type 0 where
-  refused : ℕ → Group → Answer  -- "A refusal returns only its number and its group (a comparison also its empty part)"
-  loaded : Answer
-  wrote : ℕ → Answer  -- writing answers how many bytes: the house's own
-  plan : (steps : ℕ) → Answer  -- the finder's, each with the number of steps
-  none : (steps : ℕ) → NoneKind → Answer
-  strong : Answer  -- the verdict's; the other two with the vote against the rival that is written
-  popular : ℤ → Answer
-  beaten : ℤ → Answer
-  votes : ℤ → ℤ → Winner → Part → Answer  -- the comparison's
-  refusedPart : ℕ → Group → Part → Answer
-  blockedBy : (surveyor stand shift : ℕ) → Answer  -- yes, with the pair
-  unblocked : Answer
-  bothVotes : (proposal held : ℤ) → Answer  -- W-207, "and returns both votes": the proposal's against the held plan, and the reverse
-  committed : Answer
-  leastVote : ℤ → (bytes : ℕ) → Answer  -- W-211: "the least vote", and how many bytes of the choice are written
+abbrev pub writeRosterTo : List ℕ → Call writes
+writeRosterTo b = asks (A.writeRosterTo b)
 
--- "13, 14, 15 come first, in that order", and 20 after 14 (W-207): what a call needs
-abbrev pub needsRoster : Call → Bool
-needsRoster (loadRoster file) = false
-needsRoster (loadPlan file) = true
-needsRoster (writeRosterTo buffer) = true
-needsRoster (writePlanTo buffer) = true
-needsRoster (find d l p v) = true
-needsRoster (join q f d l p v) = true
-needsRoster (leave s d l p v) = true
-needsRoster (judge v f) = true
-needsRoster (compare a b f k) = true
-needsRoster blocking = true
-needsRoster (planToNew f b) = true
-needsRoster (planToOld f b) = true
-needsRoster (propose a f k) = true
-needsRoster commit = true
-needsRoster (spread b) = true
-needsRoster (least a b c w) = true
+abbrev pub writePlanTo : List ℕ → Call writes
+writePlanTo b = asks (A.writePlanTo b)
 
-abbrev pub needsPlan : Call → Bool
-needsPlan (loadRoster file) = false
-needsPlan (loadPlan file) = false
-needsPlan (writeRosterTo buffer) = false
-needsPlan (writePlanTo buffer) = true
-needsPlan (find d l p v) = false
-needsPlan (join q f d l p v) = false
-needsPlan (leave s d l p v) = false
-needsPlan (judge v f) = true
-needsPlan (compare a b f k) = false
-needsPlan blocking = true
-needsPlan (planToNew f b) = false
-needsPlan (planToOld f b) = false
-needsPlan (propose a f k) = true
-needsPlan commit = true
-needsPlan (spread b) = true
-needsPlan (least a b c w) = false
+abbrev pub find : Lends
+find d l p v = asks (A.find d l p v)
 
-abbrev pub needsProposal : Call → Bool
-needsProposal (loadRoster file) = false
-needsProposal (loadPlan file) = false
-needsProposal (writeRosterTo buffer) = false
-needsProposal (writePlanTo buffer) = false
-needsProposal (find d l p v) = false
-needsProposal (join q f d l p v) = false
-needsProposal (leave s d l p v) = false
-needsProposal (judge v f) = false
-needsProposal (compare a b f k) = false
-needsProposal blocking = false
-needsProposal (planToNew f b) = false
-needsProposal (planToOld f b) = false
-needsProposal (propose a f k) = false
-needsProposal commit = true
-needsProposal (spread b) = false
-needsProposal (least a b c w) = false
+abbrev pub judge : (rival pairings : List ℕ) → Call judges
+judge v f = asks (A.judge v f)
+
+abbrev pub compare : (first second forward back : List ℕ) → Call compares
+compare a b f k = asks (A.compare a b f k)
+
+abbrev pub blocking : Call blocks
+blocking = asks A.blocking
+
+abbrev pub planToNew : (file buffer : List ℕ) → Call writes
+planToNew f b = asks (A.planToNew f b)
+
+abbrev pub planToOld : (file buffer : List ℕ) → Call writes
+planToOld f b = asks (A.planToOld f b)
+
+abbrev pub spread : List ℕ → Call writes
+spread b = asks (A.spread b)
+
+abbrev pub least : (first second ranges buffer : List ℕ) → Call bounds
+least a b c w = asks (A.least a b c w)
+
+abbrev pub holds : Call keeps
+holds = asks A.holds
+
+abbrev pub writeProposalTo : List ℕ → Call writes
+writeProposalTo b = asks (A.writeProposalTo b)
+
+-- what a call needs to be held
+abbrev pub need : {k : Topic} → Call k → Level
+need (loadRoster file) = bare
+need (loadPlan file) = aRoster
+need (join q f d l p v) = aRoster
+need (leave s d l p v) = aRoster
+need (propose a f k) = aPlan
+need commit = aProposal
+need (asks (A.writeRosterTo b)) = aRoster
+need (asks (A.writePlanTo b)) = aPlan
+need (asks (A.find d l p v)) = aRoster
+need (asks (A.judge v f)) = aPlan
+need (asks (A.compare a b f k)) = aRoster
+need (asks A.blocking) = aPlan
+need (asks (A.planToNew f b)) = aRoster
+need (asks (A.planToOld f b)) = aRoster
+need (asks (A.spread b)) = aPlan
+need (asks (A.least a b c w)) = aRoster
+need (asks A.holds) = bare
+need (asks (A.writeProposalTo b)) = aProposal
+
+abbrev pub needsRoster : Level → Bool
+needsRoster bare = false
+needsRoster aRoster = true
+needsRoster aPlan = true
+needsRoster aProposal = true
+
+abbrev pub needsPlan : Level → Bool
+needsPlan bare = false
+needsPlan aRoster = false
+needsPlan aPlan = true
+needsPlan aProposal = true
+
+abbrev pub needsProposal : Level → Bool
+needsProposal bare = false
+needsProposal aRoster = false
+needsProposal aPlan = false
+needsProposal aProposal = true
 
 -- "a buffer for a plan, candidate or rival needs" 193 bytes, "for a roster" 4,262 (W-204), "the diary and the left pairs 1,024 entries
 -- each, however little is written"; W-205: "The buffer written to needs 4,262 or 193 bytes either way."; W-208:
@@ -151,23 +147,25 @@ short buffer size = ltb (length buffer) size
 abbrev pub finderShort : List Record → (left plan rival : List ℕ) → Bool
 finderShort d l p v = ltb (length d) diarySize || (short l leftSize || (short p planSize || short v planSize))
 
-abbrev pub lentShort : Call → Bool
+abbrev pub lentShort : {k : Topic} → Call k → Bool
 lentShort (loadRoster file) = false
 lentShort (loadPlan file) = false
-lentShort (writeRosterTo buffer) = short buffer rosterSize
-lentShort (writePlanTo buffer) = short buffer planSize
-lentShort (find d l p v) = finderShort d l p v
 lentShort (join q f d l p v) = finderShort d l p v
 lentShort (leave s d l p v) = finderShort d l p v
-lentShort (judge v f) = short v planSize || short f pairingSize
-lentShort (compare a b f k) = short f pairingSize || short k pairingSize
-lentShort blocking = false
-lentShort (planToNew f b) = short b planSize
-lentShort (planToOld f b) = short b planSize
 lentShort (propose a f k) = short f pairingSize || short k pairingSize
 lentShort commit = false
-lentShort (spread b) = short b daySize
-lentShort (least a b c w) = short w choiceSize
+lentShort (asks (A.writeRosterTo b)) = short b rosterSize
+lentShort (asks (A.writePlanTo b)) = short b planSize
+lentShort (asks (A.find d l p v)) = finderShort d l p v
+lentShort (asks (A.judge v f)) = short v planSize || short f pairingSize
+lentShort (asks (A.compare a b f k)) = short f pairingSize || short k pairingSize
+lentShort (asks A.blocking) = false
+lentShort (asks (A.planToNew f b)) = short b planSize
+lentShort (asks (A.planToOld f b)) = short b planSize
+lentShort (asks (A.spread b)) = short b daySize
+lentShort (asks (A.least a b c w)) = short w choiceSize
+lentShort (asks A.holds) = false
+lentShort (asks (A.writeProposalTo b)) = short b planSize
 
 abbrev pub noRoster : Held → Bool
 noRoster nothing = true
@@ -187,37 +185,30 @@ noProposal (roster r) = true
 noProposal (planned r M) = true
 noProposal (proposed r M N) = false
 
--- 13, 14, 20 or 15; 0 where the call meets none of them. No call can meet both 20 and 15.
-unfoldable pub stateRefusal : Held → Call → ℕ
-stateRefusal h c = cond (needsRoster c && noRoster h) 13
-    (cond (needsPlan c && noPlan h) 14 (cond (needsProposal c && noProposal h) 20 (cond (lentShort c) 15 0)))
+-- "13, 14, 15 come first, in that order", and 20 after 14 (W-207): 13, 14, 20 or 15; 0 where the call meets none of them
+unfoldable pub stateRefusal : Held → {k : Topic} → Call k → ℕ
+stateRefusal h c = cond (needsRoster (need c) && noRoster h) 13
+    (cond (needsPlan (need c) && noPlan h) 14 (cond (needsProposal (need c) && noProposal h) 20 (cond (lentShort c) 15 0)))
 
 -- what is written at a buffer's front; "Beyond what is written, buffers keep their bytes."
 abbrev pub onto : {A : Type 0} → List A → List A → List A
 onto front buffer = front ++ drop (length front) buffer
 
-abbrev pub refusal : ℕ → Answer
-refusal n = refused n (groupOf n)
-
 -- ---- what a call that passes answers and writes, where nothing is open
 -- a load
-abbrev pub loadedRoster : Reading Roster → Answer
-loadedRoster (accepted r) = loaded
+abbrev pub loadedRoster : Reading Roster → Answer loads
+loadedRoster (accepted r) = said loaded
 loadedRoster (reading.refused n) = refusal n
 
-abbrev pub loadedPlan : Reading Plan → Answer
-loadedPlan (accepted M) = loaded
+abbrev pub loadedPlan : Reading Plan → Answer loads
+loadedPlan (accepted M) = said loaded
 loadedPlan (reading.refused n) = refusal n
 
 -- the finder: the steps it took, and what it found
-abbrev pub foundAnswer : ℕ → Found → Answer
-foundAnswer n (F.plan M) = plan n
-foundAnswer n (F.left es) = none n (left (length es))
-foundAnswer n (F.rivalled M N v) = none n (rivalled v)
-
--- a call that is lent the finder's buffers: diary, left pairs, plan, rival
-abbrev pub Lends : Type 0
-Lends = List Record → (left plan rival : List ℕ) → Call
+abbrev pub foundAnswer : ℕ → Found → Answer finds
+foundAnswer n (F.plan M) = said (plan n)
+foundAnswer n (F.left es) = said (none n (left (length es)))
+foundAnswer n (F.rivalled M N v) = said (none n (rivalled v))
 
 abbrev pub foundWritten : Lends → Instance → Found → Lends
 foundWritten call G (F.plan M) d l p v = call (onto (diaryOf G) d) l (onto (planBytes G M) p) v
@@ -225,30 +216,35 @@ foundWritten call G (F.left es) d l p v = call (onto (diaryOf G) d) (onto (pairL
 foundWritten call G (F.rivalled M N w) d l p v = call (onto (diaryOf G) d) l (onto (planBytes G M) p) (onto (planBytes G N) v)
 
 -- the verdict on M, with its rival N: "Beaten and popular write a rival, such an N, and the vote of M against it."
-abbrev pub verdictAnswer : Instance → (M N : Plan) → Verdict → Answer
-verdictAnswer G M N P.strong = strong
-verdictAnswer G M N P.popular = popular (voteOf G M N)
-verdictAnswer G M N P.beaten = beaten (voteOf G M N)
+abbrev pub verdictAnswer : Instance → (M N : Plan) → Verdict → Answer judges
+verdictAnswer G M N P.strong = said strong
+verdictAnswer G M N P.popular = said (popular (voteOf G M N))
+verdictAnswer G M N P.beaten = said (beaten (voteOf G M N))
 
 -- W-208: with the rival the pairings of the vote against it; "a strong verdict writes none"
-abbrev pub verdictWritten : Instance → (M N : Plan) → Verdict → (rival pairings : List ℕ) → Call
+abbrev pub verdictWritten : Instance → (M N : Plan) → Verdict → (rival pairings : List ℕ) → Call judges
 verdictWritten G M N P.strong v f = judge v f
 verdictWritten G M N P.popular v f = judge (onto (planBytes G N) v) (onto (pairingBytes G (on M) (on N)) f)
 verdictWritten G M N P.beaten v f = judge (onto (planBytes G N) v) (onto (pairingBytes G (on M) (on N)) f)
 
--- the comparison, with the part that is handed back
-abbrev pub comparisonAnswer : Part → Comparison → Answer
-comparisonAnswer p (C.votes v w x) = votes v w x p
-comparisonAnswer p (C.refused n) = refusedPart n (groupOf n) p
+-- the comparison
+abbrev pub comparisonAnswer : Comparison → Answer compares
+comparisonAnswer (C.votes v w x) = said (votes v w x)
+comparisonAnswer (C.refused n) = refusal n
+
+-- the part that is handed back with an answer: the winner's, and "on a refusal, the part is empty, taken from the first file"
+abbrev pub partIn : (first second : List ℕ) → Answer compares → Part
+partIn a b (said (votes v w x)) = C.winnerPart x a b
+partIn a b (refused n g) = C.winnerPart C.neither a b
 
 -- "The answer is yes with some such pair, or no": the pair is edge e, W-201's first one
-abbrev pub blockingAnswer : Instance → (e : ℕ) → Bool → Answer
-blockingAnswer G e true = blockedBy (suc (G .sv e)) (suc (G .st e)) (G .sh e)
-blockingAnswer G e false = unblocked
+abbrev pub blockingAnswer : Instance → (e : ℕ) → Bool → Answer blocks
+blockingAnswer G e true = said (blockedBy (suc (G .sv e)) (suc (G .st e)) (G .sh e))
+blockingAnswer G e false = said unblocked
 
 -- W-205, a file of another season: the number of its bytes is answered, and they are written to the buffer's front
-abbrev pub convertedAnswer : Reading (List ℕ) → Answer
-convertedAnswer (accepted bs) = wrote (length bs)
+abbrev pub convertedAnswer : Reading (List ℕ) → Answer writes
+convertedAnswer (accepted bs) = said (wrote (length bs))
 convertedAnswer (reading.refused n) = refusal n
 
 abbrev pub convertedOnto : Reading (List ℕ) → List ℕ → List ℕ
@@ -256,8 +252,8 @@ convertedOnto (accepted bs) b = onto bs b
 convertedOnto (reading.refused n) b = b
 
 -- W-207: both votes, the proposal's against the held plan first
-abbrev pub proposalAnswer : Instance → Plan → Reading Plan → Answer
-proposalAnswer G M (accepted N) = bothVotes (voteOf G N M) (voteOf G M N)
+abbrev pub proposalAnswer : Instance → Plan → Reading Plan → Answer proposes
+proposalAnswer G M (accepted N) = said (bothVotes (voteOf G N M) (voteOf G M N))
 proposalAnswer G M (reading.refused n) = refusal n
 
 -- W-208: its pairings, and those of the held plan's vote
@@ -266,29 +262,11 @@ proposalPairings G M (accepted N) = C.bothPairings G N M
 proposalPairings G M (reading.refused n) = C.noPairings
 
 -- the pairings of two votes in their buffers
-abbrev pub pairingsOnto : (List ℕ → List ℕ → Call) → C.Pairings → (forward back : List ℕ) → Call
+abbrev pub pairingsOnto : {k : Topic} → (List ℕ → List ℕ → Call k) → C.Pairings → (forward back : List ℕ) → Call k
 pairingsOnto call p f k = call (onto (p .0) f) (onto (p .1) k)
 
--- "on a refusal, the part is empty, taken from the first file"
-abbrev pub stateRefused : ℕ → Call → Answer
-stateRefused n (loadRoster file) = refusal n
-stateRefused n (loadPlan file) = refusal n
-stateRefused n (writeRosterTo buffer) = refusal n
-stateRefused n (writePlanTo buffer) = refusal n
-stateRefused n (find d l p v) = refusal n
-stateRefused n (join q f d l p v) = refusal n
-stateRefused n (leave s d l p v) = refusal n
-stateRefused n (judge v f) = refusal n
-stateRefused n (compare a b f k) = refusedPart n (groupOf n) (C.winnerPart C.neither a b)
-stateRefused n blocking = refusal n
-stateRefused n (planToNew f b) = refusal n
-stateRefused n (planToOld f b) = refusal n
-stateRefused n (propose a f k) = refusal n
-stateRefused n commit = refusal n
-stateRefused n (spread b) = refusal n
-stateRefused n (least a b c w) = refusal n
-
--- ---- what is said of the roster held, of the roster and the plan held; x where they are not there, and the state refuses the call
+-- ---- what is said of the roster held, of the roster and the plan held, of the proposal beside it; x where they are not there, and the state
+-- refuses the call
 abbrev pub onRoster : {A : Type 0} → A → Held → (Roster → A) → A
 onRoster x nothing f = x
 onRoster x (roster r) f = f r
@@ -300,6 +278,19 @@ onPlan x nothing f = x
 onPlan x (roster r) f = x
 onPlan x (planned r M) f = f r M
 onPlan x (proposed r M N) f = f r M
+
+abbrev pub onProposal : {A : Type 0} → A → Held → (Roster → Plan → A) → A
+onProposal x nothing f = x
+onProposal x (roster r) f = x
+onProposal x (planned r M) f = x
+onProposal x (proposed r M N) f = f r N
+
+-- how much is held
+abbrev pub levelOf : Held → Level
+levelOf nothing = bare
+levelOf (roster r) = aRoster
+levelOf (planned r M) = aPlan
+levelOf (proposed r M N) = aProposal
 
 -- the plan held, with its roster; a proposal beside it is none
 abbrev pub planHeld : Held → Option (Roster × Plan)
@@ -321,14 +312,14 @@ pub record Choices : Type 0 where
 
 module _ (ch : Choices) where
   -- the finder on a roster: its answer, and the bytes lent
-  abbrev pub foundOn : Roster → Answer
+  abbrev pub foundOn : Roster → Answer finds
   foundOn r = let G = instanceOf r in foundAnswer (length (stepsOf G)) (finderOf G (ch .rivalOf G))
 
   abbrev pub foundBytes : Lends → Roster → Lends
   foundBytes call r = let G = instanceOf r in foundWritten call G (finderOf G (ch .rivalOf G))
 
   -- W-202: "they answer and write there exactly what the finder, called afresh on the changed roster, does, rival included"
-  abbrev pub changedAnswer : Reading Roster → Answer
+  abbrev pub changedAnswer : Reading Roster → Answer finds
   changedAnswer (accepted r) = foundOn r
   changedAnswer (reading.refused n) = refusal n
 
@@ -337,8 +328,8 @@ module _ (ch : Choices) where
   changedBytes call (reading.refused n) = call
 
   -- W-211: the least vote and the choice that reaches it
-  abbrev pub leastAnswer : Roster → Reading Question → Answer
-  leastAnswer r (accepted q) = leastVote (voteOf (ranked r (ch .choiceOf r q)) (q .first) (q .second)) (length (ch .choiceOf r q))
+  abbrev pub leastAnswer : Roster → Reading Question → Answer bounds
+  leastAnswer r (accepted q) = said (leastVote (voteOf (ranked r (ch .choiceOf r q)) (q .first) (q .second)) (length (ch .choiceOf r q)))
   leastAnswer r (reading.refused n) = refusal n
 
   abbrev pub leastOnto : Roster → Reading Question → List ℕ → List ℕ
@@ -346,48 +337,52 @@ module _ (ch : Choices) where
   leastOnto r (reading.refused n) w = w
 
   -- a call that the state lets pass
-  abbrev pub answerOn : Held → Call → Answer
+  abbrev pub answerOn : Held → {k : Topic} → Call k → Answer k
   answerOn h (loadRoster file) = loadedRoster (readRoster file)
   answerOn h (loadPlan file) = onRoster (refusal 13) h (λ r. loadedPlan (readPlan (instanceOf r) file))
-  answerOn h (writeRosterTo buffer) = onRoster (refusal 13) h (λ r. wrote (length (writeRoster r)))
-  answerOn h (writePlanTo buffer) = onPlan (refusal 14) h (λ r M. wrote (length (planBytes (instanceOf r) M)))
-  answerOn h (find d l p v) = onRoster (refusal 13) h foundOn
   answerOn h (join q f d l p v) = onRoster (refusal 13) h (λ r. changedAnswer (joinOn r q f))
   answerOn h (leave s d l p v) = onRoster (refusal 13) h (λ r. changedAnswer (leaveOn r s))
-  answerOn h (judge v f) = onPlan (refusal 14) h (λ r M. let G = instanceOf r in verdictAnswer G M (ch .rivalOf G M) (verdictOf G M))
-  answerOn h (compare a b f k) = onRoster (refusal 13) h (λ r. let G = instanceOf r in comparisonAnswer (partOf G a b) (comparisonOf G a b))
-  answerOn h blocking = onPlan (refusal 14) h (λ r M. let G = instanceOf r in blockingAnswer G (topBlocking G (on M)) (someBlocks G (on M)))
-  answerOn h (planToNew f b) = onRoster (refusal 13) h (λ r. convertedAnswer (S.planToNew (instanceOf r) f))
-  answerOn h (planToOld f b) = onRoster (refusal 13) h (λ r. convertedAnswer (S.planToOld (instanceOf r) f))
   answerOn h (propose a f k) = onPlan (refusal 14) h (λ r M. let G = instanceOf r in proposalAnswer G M (readPlan G a))
-  answerOn h commit = committed
-  answerOn h (spread b) = onPlan (refusal 14) h (λ r M. wrote (length (ch .daysOf (instanceOf r) M)))
-  answerOn h (least a b c w) = onRoster (refusal 13) h (λ r. leastAnswer r (readQuestion r a b c))
+  answerOn h commit = said committed
+  answerOn h (asks (A.writeRosterTo b)) = onRoster (refusal 13) h (λ r. said (wrote (length (writeRoster r))))
+  answerOn h (asks (A.writePlanTo b)) = onPlan (refusal 14) h (λ r M. said (wrote (length (planBytes (instanceOf r) M))))
+  answerOn h (asks (A.find d l p v)) = onRoster (refusal 13) h foundOn
+  answerOn h (asks (A.judge v f)) = onPlan (refusal 14) h (λ r M. let G = instanceOf r in verdictAnswer G M (ch .rivalOf G M) (verdictOf G M))
+  answerOn h (asks (A.compare a b f k)) = onRoster (refusal 13) h (λ r. comparisonAnswer (comparisonOf (instanceOf r) a b))
+  answerOn h (asks A.blocking) = onPlan (refusal 14) h (λ r M. let G = instanceOf r in blockingAnswer G (topBlocking G (on M)) (someBlocks G (on M)))
+  answerOn h (asks (A.planToNew f b)) = onRoster (refusal 13) h (λ r. convertedAnswer (S.planToNew (instanceOf r) f))
+  answerOn h (asks (A.planToOld f b)) = onRoster (refusal 13) h (λ r. convertedAnswer (S.planToOld (instanceOf r) f))
+  answerOn h (asks (A.spread b)) = onPlan (refusal 14) h (λ r M. said (wrote (length (ch .daysOf (instanceOf r) M))))
+  answerOn h (asks (A.least a b c w)) = onRoster (refusal 13) h (λ r. leastAnswer r (readQuestion r a b c))
+  answerOn h (asks A.holds) = said (holding (levelOf h))
+  answerOn h (asks (A.writeProposalTo b)) = onProposal (refusal 20) h (λ r N. said (wrote (length (planBytes (instanceOf r) N))))
 
-  abbrev pub lentOn : Held → Call → Call
+  abbrev pub lentOn : Held → {k : Topic} → Call k → Call k
   lentOn h (loadRoster file) = loadRoster file
   lentOn h (loadPlan file) = loadPlan file
-  lentOn h (writeRosterTo b) = onRoster (writeRosterTo b) h (λ r. writeRosterTo (onto (writeRoster r) b))
-  lentOn h (writePlanTo b) = onPlan (writePlanTo b) h (λ r M. writePlanTo (onto (planBytes (instanceOf r) M) b))
-  lentOn h (find d l p v) = onRoster (find d l p v) h (λ r. foundBytes find r d l p v)
   lentOn h (join q f d l p v) = onRoster (join q f d l p v) h (λ r. changedBytes (join q f) (joinOn r q f) d l p v)
   lentOn h (leave s d l p v) = onRoster (leave s d l p v) h (λ r. changedBytes (leave s) (leaveOn r s) d l p v)
-  lentOn h (judge v f) = onPlan (judge v f) h (λ r M. let G = instanceOf r in verdictWritten G M (ch .rivalOf G M) (verdictOf G M) v f)
-  lentOn h (compare a b f k) = onRoster (compare a b f k) h (λ r. pairingsOnto (compare a b) (C.pairingsOf (instanceOf r) a b) f k)
-  lentOn h blocking = blocking
-  lentOn h (planToNew f b) = onRoster (planToNew f b) h (λ r. planToNew f (convertedOnto (S.planToNew (instanceOf r) f) b))
-  lentOn h (planToOld f b) = onRoster (planToOld f b) h (λ r. planToOld f (convertedOnto (S.planToOld (instanceOf r) f) b))
   lentOn h (propose a f k) =
       onPlan (propose a f k) h (λ r M. let G = instanceOf r in pairingsOnto (propose a) (proposalPairings G M (readPlan G a)) f k)
   lentOn h commit = commit
-  lentOn h (spread b) = onPlan (spread b) h (λ r M. spread (onto (ch .daysOf (instanceOf r) M) b))
-  lentOn h (least a b c w) = onRoster (least a b c w) h (λ r. least a b c (leastOnto r (readQuestion r a b c) w))
+  lentOn h (asks (A.writeRosterTo b)) = onRoster (writeRosterTo b) h (λ r. writeRosterTo (onto (writeRoster r) b))
+  lentOn h (asks (A.writePlanTo b)) = onPlan (writePlanTo b) h (λ r M. writePlanTo (onto (planBytes (instanceOf r) M) b))
+  lentOn h (asks (A.find d l p v)) = onRoster (find d l p v) h (λ r. foundBytes find r d l p v)
+  lentOn h (asks (A.judge v f)) = onPlan (judge v f) h (λ r M. let G = instanceOf r in verdictWritten G M (ch .rivalOf G M) (verdictOf G M) v f)
+  lentOn h (asks (A.compare a b f k)) = onRoster (compare a b f k) h (λ r. pairingsOnto (compare a b) (C.pairingsOf (instanceOf r) a b) f k)
+  lentOn h (asks A.blocking) = blocking
+  lentOn h (asks (A.planToNew f b)) = onRoster (planToNew f b) h (λ r. planToNew f (convertedOnto (S.planToNew (instanceOf r) f) b))
+  lentOn h (asks (A.planToOld f b)) = onRoster (planToOld f b) h (λ r. planToOld f (convertedOnto (S.planToOld (instanceOf r) f) b))
+  lentOn h (asks (A.spread b)) = onPlan (spread b) h (λ r M. spread (onto (ch .daysOf (instanceOf r) M) b))
+  lentOn h (asks (A.least a b c w)) = onRoster (least a b c w) h (λ r. least a b c (leastOnto r (readQuestion r a b c) w))
+  lentOn h (asks A.holds) = holds
+  lentOn h (asks (A.writeProposalTo b)) = onProposal (writeProposalTo b) h (λ r N. writeProposalTo (onto (planBytes (instanceOf r) N) b))
 
   -- "13, 14, 15 come first", 20 among them
-  unfoldable pub answerOf : Held → Call → Answer
-  answerOf h c = cond (ltb 0 (stateRefusal h c)) (stateRefused (stateRefusal h c) c) (answerOn h c)
+  unfoldable pub answerOf : Held → {k : Topic} → Call k → Answer k
+  answerOf h c = cond (ltb 0 (stateRefusal h c)) (refusal (stateRefusal h c)) (answerOn h c)
 
-  unfoldable pub lentAfter : Held → Call → Call
+  unfoldable pub lentAfter : Held → {k : Topic} → Call k → Call k
   lentAfter h c = cond (ltb 0 (stateRefusal h c)) c (lentOn h c)
 
 -- ---- what the desk holds afterwards
@@ -423,25 +418,16 @@ withCommit (roster r) = roster r
 withCommit (planned r M) = planned r M
 withCommit (proposed r M N) = planned r N
 
--- "Finder, verdict, comparison, blocking and writing leave the desk alike", and so does a plan of another season, which goes to the buffer alone
-abbrev pub deskOn : Held → Call → Held
+-- a call that only asks leaves the desk alike
+abbrev pub deskOn : Held → {k : Topic} → Call k → Held
 deskOn h (loadRoster file) = withRoster h (readRoster file)
 deskOn h (loadPlan file) = onRoster h h (λ r. withPlan h r (readPlan (instanceOf r) file))
-deskOn h (writeRosterTo buffer) = h
-deskOn h (writePlanTo buffer) = h
-deskOn h (find d l p v) = h
 deskOn h (join q f d l p v) = onRoster h h (λ r. withChange true h (joinOn r q f))
 deskOn h (leave s d l p v) = onRoster h h (λ r. withChange (not (gone r s)) h (leaveOn r s))
-deskOn h (judge v f) = h
-deskOn h (compare a b f k) = h
-deskOn h blocking = h
-deskOn h (planToNew f b) = h
-deskOn h (planToOld f b) = h
 deskOn h (propose a f k) = onPlan h h (λ r M. withProposal h r M (readPlan (instanceOf r) a))
 deskOn h commit = withCommit h
-deskOn h (spread b) = h
-deskOn h (least a b c w) = h
+deskOn h (asks a) = h
 
 -- so does a refusal by the state
-unfoldable pub deskAfter : Held → Call → Held
+unfoldable pub deskAfter : Held → {k : Topic} → Call k → Held
 deskAfter h c = cond (ltb 0 (stateRefusal h c)) h (deskOn h c)

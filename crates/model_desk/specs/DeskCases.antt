@@ -2,7 +2,7 @@
 -- written out, so that the lists together are the session. No answer here depends on which rival is named, so they hold for every choice.
 use Prim.Native.Nat.{ℕ}
 use Prim.Native.String.{String}
-use mathlib.Core.Path.{_≡_, refl, _∙_}
+use mathlib.Core.Path.{_≡_, refl, ap, _∙_}
 use mathlib.Core.Bool.{true, false}
 use mathlib.Core.Option.{Option·elim, orElse}
 use mathlib.Core.List.{List, [], _∷_, _++_, map}
@@ -17,19 +17,21 @@ use Rattle.model.specs.Reading.{readEach}
 use Rattle.model.specs.Roster.{Entry, Roster, listed, listedBack, bothOrNeither}
 use Rattle.model.specs.RosterFile.{readRosterBy, readRoster, writeRosterBy, writeRoster}
 use Rattle.model.specs.Edges.{position, edgesOf, instanceOf}
-use Rattle.model.specs.Instance.{deg}
+use Rattle.model.specs.Instance.{Instance, deg}
 use Rattle.model.specs.Vote.{nodeVote, vote}
 use Rattle.model.specs.Plans.{Plan, choices, within, plansOf, samePlan, beatenBy, drawnWith, verdictOf}
 use Rattle.model.specs.Plans as P
 use Rattle.model.specs.Reduction as R
 use Rattle.model.specs.PlanFile.{planBytesBy, edgeOfPair, readPlanBy, readPlan}
 use Rattle.model.specs.Finder.{Record, diaryOf, leftOf, candidateOf, finderOf}
-use Rattle.model_desk.specs.Compare.{Part, firstFile, secondFile, first, second, neither, comparisonOf, partOf}
+use Rattle.model_desk.specs.Compare.{File, Part, firstFile, secondFile, first, second, neither, comparisonOf, partOf}
 use Rattle.model.specs.Blocking.{blocks, someBlocks, topBlocking}
 use Rattle.model.specs.Facing.{facing, pairingBytes}
 use Rattle.model_desk.specs.Compare as C
+use Rattle.model_desk.specs.Calls as A
 use Rattle.model_desk.specs.Desk as D
-use Rattle.model_desk.specs.Desk.{Choices, Held, nothing, roster, planned, Call, Answer, stateRefusal, answerOf, lentAfter, deskAfter, loaded}
+use Rattle.model_desk.specs.Desk.{Choices, Held, nothing, roster, planned, Topic, judges, compares, finds, Call, Answer, said, loaded, stateRefusal}
+use Rattle.model_desk.specs.Desk.{answerOf, lentAfter, deskAfter}
 use Rattle.model_desk.specs.Desk.{refused, wrote, strong, none, left}
 
 -- buffers of a size
@@ -37,16 +39,16 @@ abbrev pub whole : ℕ → List ℕ
 whole n = replicate n 7
 
 -- W-208: with buffers of their size for the pairings
-abbrev pub judge : List ℕ → Call
+abbrev pub judge : List ℕ → Call judges
 judge v = D.judge v (whole 256)
 
-abbrev pub compare : (first second : List ℕ) → Call
+abbrev pub compare : (first second : List ℕ) → Call compares
 compare a b = D.compare a b (whole 256) (whole 256)
 
 abbrev pub diary : ℕ → List Record
 diary n = replicate n (record { fate = 7; surveyor = 7; stand = 7; shift = 7; rule = 7 })
 
-abbrev find : Call
+abbrev find : Call finds
 find = D.find (diary 1024) (whole 3072) (whole 193) (whole 193)
 
 -- entries in shift 1, by their numbers; one in any shift
@@ -115,44 +117,45 @@ Each P [] = Unit {0}
 Each P (x ∷ xs) = P x × Each P xs
 
 -- ---- what is held after each call
-pub record Change : Type 0 where
-  pub before : Held
-  pub call : Call
-  pub after : Held
+pub data Change : Type 0 where
+  turns : (before : Held) {k : Topic} → Call k → (after : Held) → Change
+
+abbrev pub HeldThen : Change → Type 0
+HeldThen (turns h c h′) = deskAfter h c ≡ h′
 
 abbrev changes : List Change
 changes =
     -- a roster; a plan; another in its place; a roster drops it
-    record { before = nothing; call = D.loadRoster sampleFile; after = roster sample }
-    ∷ record { before = roster sample; call = D.loadPlan (bytes "1 2 1 1"); after = two }
-    ∷ record { before = two; call = D.loadPlan (bytes "1 1 1 1"); after = one }
-    ∷ record { before = one; call = D.loadRoster (bytes "2 1 1 2 1 1 4 0 2 1 1 2 1 2 2 1 1 1 4 0 2 0 2 1 1 1 2 0 1 1 2 1"); after = roster four }
+    turns nothing (D.loadRoster sampleFile) (roster sample)
+    ∷ turns (roster sample) (D.loadPlan (bytes "1 2 1 1")) two
+    ∷ turns two (D.loadPlan (bytes "1 1 1 1")) one
+    ∷ turns one (D.loadRoster (bytes "2 1 1 2 1 1 4 0 2 1 1 2 1 2 2 1 1 1 4 0 2 0 2 1 1 1 2 0 1 1 2 1")) (roster four)
     -- refused loads leave roster and plan
-    ∷ record { before = nothing; call = D.loadRoster (bytes "1 9"); after = nothing }
-    ∷ record { before = nothing; call = D.loadPlan (bytes "0"); after = nothing }
-    ∷ record { before = roster sample; call = D.loadPlan (bytes "1 3 1 1"); after = roster sample }
-    ∷ record { before = one; call = D.loadPlan (bytes "2 1 1 1 2 1 1"); after = one }
-    ∷ record { before = one; call = D.loadRoster (bytes "1 9"); after = one }
+    ∷ turns nothing (D.loadRoster (bytes "1 9")) nothing
+    ∷ turns nothing (D.loadPlan (bytes "0")) nothing
+    ∷ turns (roster sample) (D.loadPlan (bytes "1 3 1 1")) (roster sample)
+    ∷ turns one (D.loadPlan (bytes "2 1 1 1 2 1 1")) one
+    ∷ turns one (D.loadRoster (bytes "1 9")) one
     -- the other calls leave the desk alike
-    ∷ record { before = one; call = D.writeRosterTo (whole 4262); after = one }
-    ∷ record { before = one; call = D.writePlanTo (whole 193); after = one }
-    ∷ record { before = one; call = judge (whole 193); after = one }
-    ∷ record { before = one; call = compare (bytes "0") (bytes "0"); after = one }
-    ∷ record { before = one; call = D.blocking; after = one } ∷ record { before = one; call = find; after = one } ∷ []
+    ∷ turns one (D.writeRosterTo (whole 4262)) one
+    ∷ turns one (D.writePlanTo (whole 193)) one
+    ∷ turns one (judge (whole 193)) one
+    ∷ turns one (compare (bytes "0") (bytes "0")) one
+    ∷ turns one D.blocking one ∷ turns one find one ∷ []
 
-pub holds : Each (λ (c : Change). deskAfter (c .before) (c .call) ≡ c .after) changes
+pub holds : Each HeldThen changes
 unfolding numbersFrom low listed listedBack bothOrNeither readEach readRosterBy position edgesOf instanceOf edgeOfPair readPlanBy stateRefusal deskAfter
 holds = (refl, (refl, (refl, (refl, (refl, (refl, (refl, (refl, (refl, (refl, (refl, (refl, (refl, (refl, (refl, tt)))))))))))))))
 
 -- W-204: shifts, read and held, or refused
 abbrev shiftChanges : List Change
 shiftChanges =
-    record { before = one; call = D.loadRoster (bytes "1 2 1 2 2 0 2 1 3 1 1 2 0 1 1 1 1 1 3"); after = roster twice }
-    ∷ record { before = roster twice; call = D.loadPlan (bytes "1 1 1 3"); after = planned twice (false ∷ true ∷ []) }
-    ∷ record { before = one; call = D.loadRoster (bytes "1 1 1 1 1 0 1 1 4"); after = one }
-    ∷ record { before = one; call = D.loadPlan (bytes "1 1 1 3"); after = one } ∷ []
+    turns one (D.loadRoster (bytes "1 2 1 2 2 0 2 1 3 1 1 2 0 1 1 1 1 1 3")) (roster twice)
+    ∷ turns (roster twice) (D.loadPlan (bytes "1 1 1 3")) (planned twice (false ∷ true ∷ []))
+    ∷ turns one (D.loadRoster (bytes "1 1 1 1 1 0 1 1 4")) one
+    ∷ turns one (D.loadPlan (bytes "1 1 1 3")) one ∷ []
 
-pub shifts-held : Each (λ (c : Change). deskAfter (c .before) (c .call) ≡ c .after) shiftChanges
+pub shifts-held : Each HeldThen shiftChanges
 unfolding numbersFrom low listed listedBack bothOrNeither readEach readRosterBy position edgesOf instanceOf edgeOfPair readPlanBy stateRefusal deskAfter
 shifts-held = (refl, (refl, (refl, (refl, tt))))
 
@@ -160,46 +163,56 @@ shifts-held = (refl, (refl, (refl, (refl, tt))))
 abbrev empty : Part
 empty = record { file = firstFile; from = 0; bytes = [] }
 
-pub record Said : Type 0 where
-  pub held : Held
-  pub call : Call
-  pub answer : Answer
+abbrev pairs : File → String → Part
+pairs f s = record { file = f; from = 1; bytes = bytes s }
 
-abbrev pub Answered : Choices → List Said → Type 0
-Answered ch xs = Each (λ (s : Said). answerOf ch (s .held) (s .call) ≡ s .answer) xs
+-- on what is held, a call and its answer; a comparison's with the part that it hands back
+pub data Reply : Type 0 where
+  replies : Held → {k : Topic} → Call k → Answer k → Reply
+  hands : Held → Call compares → Answer compares → Part → Reply
+
+abbrev pub partWith : Call compares → Answer compares → Part
+partWith (D.asks (A.compare a b f k)) x = D.partIn a b x
+
+abbrev pub Given : Choices → Reply → Type 0
+Given ch (replies h c x) = answerOf ch h c ≡ x
+Given ch (hands h c x p) = (answerOf ch h c ≡ x) × (partWith c (answerOf ch h c) ≡ p)
+
+abbrev pub Answered : Choices → List Reply → Type 0
+Answered ch xs = Each (Given ch) xs
 
 -- a desk that is new: 13 before 14 and 15, for every call but a roster's load; a comparison hands back the empty part of its first file
-abbrev noRoster : List Said
+abbrev noRoster : List Reply
 noRoster =
-    record { held = D.opening; call = D.loadPlan (bytes "0"); answer = refused 13 desk }
-    ∷ record { held = D.opening; call = D.writeRosterTo []; answer = refused 13 desk }
-    ∷ record { held = D.opening; call = D.writePlanTo []; answer = refused 13 desk }
-    ∷ record { held = D.opening; call = D.find [] [] [] []; answer = refused 13 desk }
-    ∷ record { held = D.opening; call = judge []; answer = refused 13 desk }
-    ∷ record { held = D.opening; call = D.blocking; answer = refused 13 desk }
-    ∷ record { held = D.opening; call = compare (bytes "65") (bytes "0"); answer = D.refusedPart 13 desk empty } ∷ []
+    replies D.opening (D.loadPlan (bytes "0")) (refused 13 desk)
+    ∷ replies D.opening (D.writeRosterTo []) (refused 13 desk)
+    ∷ replies D.opening (D.writePlanTo []) (refused 13 desk)
+    ∷ replies D.opening (D.find [] [] [] []) (refused 13 desk)
+    ∷ replies D.opening (judge []) (refused 13 desk)
+    ∷ replies D.opening D.blocking (refused 13 desk)
+    ∷ hands D.opening (compare (bytes "65") (bytes "0")) (refused 13 desk) empty ∷ []
 
 pub no-roster-said : (ch : Choices) → Answered ch noRoster
 unfolding numbersFrom count low groupOf listed listedBack bothOrNeither readEach readRosterBy writeRosterBy position edgesOf instanceOf deg nodeVote
     vote choices within plansOf samePlan beatenBy drawnWith verdictOf R.cut R.ahead R.arrow R.loose R.reserved R.betterS R.betterT R.worseReserved
     R.rule1 R.rule2 R.rule3 R.rule4 R.rule5 R.rule6 R.rule7 Fst.first Option·elim orElse R.rules R.stepBy R.firstStep R.act R.begin R.stepsFrom R.stateAfter
     R.stepsOf R.endOf planBytesBy edgeOfPair readPlanBy diaryOf leftOf candidateOf finderOf comparisonOf partOf blocks someBlocks stateRefusal answerOf
-no-roster-said ch = (refl, (refl, (refl, (refl, (refl, (refl, (refl, tt)))))))
+no-roster-said ch = (refl, (refl, (refl, (refl, (refl, (refl, ((refl, refl), tt)))))))
 
 -- a roster: 14 before 15, and 15 for each buffer
-abbrev shortBuffers : List Said
+abbrev shortBuffers : List Reply
 shortBuffers =
-    record { held = roster sample; call = D.blocking; answer = refused 14 desk }
-    ∷ record { held = roster sample; call = judge []; answer = refused 14 desk }
-    ∷ record { held = roster sample; call = D.writePlanTo (whole 192); answer = refused 14 desk }
-    ∷ record { held = roster sample; call = D.writeRosterTo (whole 4261); answer = refused 15 desk }
-    ∷ record { held = roster sample; call = D.find (diary 1023) (whole 3072) (whole 193) (whole 193); answer = refused 15 desk }
-    ∷ record { held = roster sample; call = D.find (diary 1024) (whole 3071) (whole 193) (whole 193); answer = refused 15 desk }
-    ∷ record { held = roster sample; call = D.find (diary 1024) (whole 3072) (whole 192) (whole 193); answer = refused 15 desk }
-    ∷ record { held = roster sample; call = D.find (diary 1024) (whole 3072) (whole 193) (whole 192); answer = refused 15 desk }
-    ∷ record { held = one; call = judge (whole 192); answer = refused 15 desk }
-    ∷ record { held = one; call = D.judge (whole 193) (whole 255); answer = refused 15 desk }
-    ∷ record { held = one; call = D.writePlanTo (whole 192); answer = refused 15 desk } ∷ []
+    replies (roster sample) D.blocking (refused 14 desk)
+    ∷ replies (roster sample) (judge []) (refused 14 desk)
+    ∷ replies (roster sample) (D.writePlanTo (whole 192)) (refused 14 desk)
+    ∷ replies (roster sample) (D.writeRosterTo (whole 4261)) (refused 15 desk)
+    ∷ replies (roster sample) (D.find (diary 1023) (whole 3072) (whole 193) (whole 193)) (refused 15 desk)
+    ∷ replies (roster sample) (D.find (diary 1024) (whole 3071) (whole 193) (whole 193)) (refused 15 desk)
+    ∷ replies (roster sample) (D.find (diary 1024) (whole 3072) (whole 192) (whole 193)) (refused 15 desk)
+    ∷ replies (roster sample) (D.find (diary 1024) (whole 3072) (whole 193) (whole 192)) (refused 15 desk)
+    ∷ replies one (judge (whole 192)) (refused 15 desk)
+    ∷ replies one (D.judge (whole 193) (whole 255)) (refused 15 desk)
+    ∷ replies one (D.writePlanTo (whole 192)) (refused 15 desk) ∷ []
 
 pub short-buffers-said : (ch : Choices) → Answered ch shortBuffers
 unfolding numbersFrom count low groupOf listed listedBack bothOrNeither readEach readRosterBy writeRosterBy position edgesOf instanceOf deg nodeVote
@@ -209,14 +222,14 @@ unfolding numbersFrom count low groupOf listed listedBack bothOrNeither readEach
 short-buffers-said ch = (refl, (refl, (refl, (refl, (refl, (refl, (refl, (refl, (refl, (refl, (refl, tt)))))))))))
 
 -- loads, accepted and refused
-abbrev loads : List Said
+abbrev loads : List Reply
 loads =
-    record { held = nothing; call = D.loadRoster sampleFile; answer = loaded }
-    ∷ record { held = one; call = D.loadRoster (bytes "1 9"); answer = refused 3 content }
-    ∷ record { held = roster sample; call = D.loadPlan (bytes "1 2 1 1"); answer = loaded }
-    ∷ record { held = one; call = D.loadPlan (bytes "1 3 1 1"); answer = refused 10 plan }
-    ∷ record { held = nothing; call = D.loadRoster (bytes "1 1 1 1 1 0 1 1 4"); answer = refused 18 content }
-    ∷ record { held = one; call = D.loadPlan (bytes "1 1 1 4"); answer = refused 10 plan } ∷ []
+    replies nothing (D.loadRoster sampleFile) (said loaded)
+    ∷ replies one (D.loadRoster (bytes "1 9")) (refused 3 content)
+    ∷ replies (roster sample) (D.loadPlan (bytes "1 2 1 1")) (said loaded)
+    ∷ replies one (D.loadPlan (bytes "1 3 1 1")) (refused 10 plan)
+    ∷ replies nothing (D.loadRoster (bytes "1 1 1 1 1 0 1 1 4")) (refused 18 content)
+    ∷ replies one (D.loadPlan (bytes "1 1 1 4")) (refused 10 plan) ∷ []
 
 roster-load : (ch : Choices) (h : Held) (file : List ℕ) → answerOf ch h (D.loadRoster file) ≡ D.loadedRoster (readRoster file)
 unfolding stateRefusal answerOf
@@ -228,12 +241,12 @@ plan-load : (ch : Choices) (r : Roster) (M : Plan) (file : List ℕ)
 unfolding stateRefusal answerOf
 plan-load ch r M file = (refl, refl)
 
-rosters-read : (D.loadedRoster (readRoster sampleFile) ≡ loaded) × (D.loadedRoster (readRoster (bytes "1 9")) ≡ refused 3 content)
+rosters-read : (D.loadedRoster (readRoster sampleFile) ≡ said loaded) × (D.loadedRoster (readRoster (bytes "1 9")) ≡ refused 3 content)
     × (D.loadedRoster (readRoster (bytes "1 1 1 1 1 0 1 1 4")) ≡ refused 18 content)
 unfolding numbersFrom count low groupOf listed listedBack bothOrNeither readEach readRosterBy position edgesOf instanceOf edgeOfPair readPlanBy
 rosters-read = (refl, refl, refl)
 
-plans-read : (D.loadedPlan (readPlan (instanceOf sample) (bytes "1 2 1 1")) ≡ loaded)
+plans-read : (D.loadedPlan (readPlan (instanceOf sample) (bytes "1 2 1 1")) ≡ said loaded)
     × (D.loadedPlan (readPlan (instanceOf sample) (bytes "1 3 1 1")) ≡ refused 10 plan)
     × (D.loadedPlan (readPlan (instanceOf sample) (bytes "1 1 1 4")) ≡ refused 10 plan)
 unfolding numbersFrom count low groupOf listed listedBack bothOrNeither readEach readRosterBy position edgesOf instanceOf edgeOfPair readPlanBy
@@ -258,12 +271,12 @@ loads-said ch = (
 )
 
 -- writing
-abbrev written : List Said
+abbrev written : List Reply
 written =
-    record { held = one; call = D.writePlanTo (whole 193); answer = wrote 4 }
-    ∷ record { held = one; call = D.writeRosterTo (whole 4262); answer = wrote 21 }
-    ∷ record { held = planned twice (true ∷ true ∷ []); call = D.writePlanTo (whole 193); answer = wrote 7 }
-    ∷ record { held = roster twice; call = D.writeRosterTo (whole 4262); answer = wrote 19 } ∷ []
+    replies one (D.writePlanTo (whole 193)) (said (wrote 4))
+    ∷ replies one (D.writeRosterTo (whole 4262)) (said (wrote 21))
+    ∷ replies (planned twice (true ∷ true ∷ [])) (D.writePlanTo (whole 193)) (said (wrote 7))
+    ∷ replies (roster twice) (D.writeRosterTo (whole 4262)) (said (wrote 19)) ∷ []
 
 pub written-said : (ch : Choices) → Answered ch written
 unfolding numbersFrom count low groupOf listed listedBack bothOrNeither readEach readRosterBy writeRosterBy position edgesOf instanceOf deg nodeVote
@@ -273,17 +286,17 @@ unfolding numbersFrom count low groupOf listed listedBack bothOrNeither readEach
 written-said ch = (refl, (refl, (refl, (refl, tt))))
 
 -- the verdict, the blocking pair and the finder, where no rival is named
-abbrev found : List Said
+abbrev found : List Reply
 found =
-    record { held = one; call = judge (whole 193); answer = strong }
-    ∷ record { held = one; call = D.blocking; answer = D.unblocked }
-    ∷ record { held = two; call = D.blocking; answer = D.blockedBy 1 1 1 }
-    ∷ record { held = roster sample; call = find; answer = D.plan 2 }
-    ∷ record { held = roster four; call = find; answer = none 0 (left 4) }
+    replies one (judge (whole 193)) (said strong)
+    ∷ replies one D.blocking (said D.unblocked)
+    ∷ replies two D.blocking (said (D.blockedBy 1 1 1))
+    ∷ replies (roster sample) find (said (D.plan 2))
+    ∷ replies (roster four) find (said (none 0 (left 4)))
     -- two pairs of one surveyor and one stand: with none held the surveyor's best is named, with one held the other
-    ∷ record { held = planned twice (false ∷ false ∷ []); call = D.blocking; answer = D.blockedBy 1 1 3 }
-    ∷ record { held = planned twice (false ∷ true ∷ []); call = D.blocking; answer = D.blockedBy 1 1 1 }
-    ∷ record { held = roster twice; call = find; answer = D.plan 2 } ∷ record { held = roster crossed; call = find; answer = none 0 (left 2) } ∷ []
+    ∷ replies (planned twice (false ∷ false ∷ [])) D.blocking (said (D.blockedBy 1 1 3))
+    ∷ replies (planned twice (false ∷ true ∷ [])) D.blocking (said (D.blockedBy 1 1 1))
+    ∷ replies (roster twice) find (said (D.plan 2)) ∷ replies (roster crossed) find (said (none 0 (left 2))) ∷ []
 
 pub found-said : (ch : Choices) → Answered ch found
 unfolding numbersFrom count low groupOf listed listedBack bothOrNeither readEach readRosterBy writeRosterBy position edgesOf instanceOf deg nodeVote
@@ -294,66 +307,65 @@ unfolding numbersFrom count low groupOf listed listedBack bothOrNeither readEach
 found-said ch = (refl, (refl, (refl, (refl, (refl, (refl, (refl, (refl, (refl, tt)))))))))
 
 -- the comparison's parts: the first wins, the second, neither (both: CompareCases); the first file is judged in full before the second
-abbrev compared : List Said
+abbrev compared : List Reply
 compared =
-    record {
-      held = roster sample;
-      call = compare (bytes "1 1 1 1") (bytes "1 2 1 1");
-      answer = D.votes (pos 1) (negsuc 0) first (record { file = firstFile; from = 1; bytes = bytes "1 1 1" });
-    }
-    ∷ record {
-      held = roster sample;
-      call = compare (bytes "1 2 1 1") (bytes "1 1 1 1");
-      answer = D.votes (negsuc 0) (pos 1) second (record { file = secondFile; from = 1; bytes = bytes "1 1 1" });
-    }
-    ∷ record { held = one; call = compare (bytes "0") (bytes "0"); answer = D.votes (pos 0) (pos 0) neither empty }
-    ∷ record {
-      held = roster twice;
-      call = compare (bytes "2 1 1 1 1 1 3") (bytes "1 1 1 1");
-      answer = D.votes (pos 2) (negsuc 1) first (record { file = firstFile; from = 1; bytes = bytes "1 1 1 1 1 3" });
-    }
-    ∷ record { held = roster crossed; call = compare (bytes "1 1 1 1") (bytes "1 1 1 3"); answer = D.votes (pos 0) (pos 0) neither empty }
-    ∷ record { held = roster sample; call = compare (bytes "1 3 1 1") (bytes "65"); answer = D.refusedPart 10 plan empty }
-    ∷ record { held = roster sample; call = D.compare (bytes "65") (bytes "0") (whole 255) (whole 256); answer = D.refusedPart 15 desk empty }
-    ∷ record { held = roster sample; call = D.compare (bytes "65") (bytes "0") (whole 256) (whole 255); answer = D.refusedPart 15 desk empty }
-    ∷ record { held = roster sample; call = compare (bytes "0") (bytes "65"); answer = D.refusedPart 2 form empty } ∷ []
+    hands (roster sample) (compare (bytes "1 1 1 1") (bytes "1 2 1 1")) (said (D.votes (pos 1) (negsuc 0) first)) (pairs firstFile "1 1 1")
+    ∷ hands (roster sample) (compare (bytes "1 2 1 1") (bytes "1 1 1 1")) (said (D.votes (negsuc 0) (pos 1) second)) (pairs secondFile "1 1 1")
+    ∷ hands one (compare (bytes "0") (bytes "0")) (said (D.votes (pos 0) (pos 0) neither)) empty
+    ∷ hands (roster twice) (compare (bytes "2 1 1 1 1 1 3") (bytes "1 1 1 1")) (said (D.votes (pos 2) (negsuc 1) first)) (pairs firstFile "1 1 1 1 1 3")
+    ∷ hands (roster crossed) (compare (bytes "1 1 1 1") (bytes "1 1 1 3")) (said (D.votes (pos 0) (pos 0) neither)) empty
+    ∷ hands (roster sample) (compare (bytes "1 3 1 1") (bytes "65")) (refused 10 plan) empty
+    ∷ hands (roster sample) (D.compare (bytes "65") (bytes "0") (whole 255) (whole 256)) (refused 15 desk) empty
+    ∷ hands (roster sample) (D.compare (bytes "65") (bytes "0") (whole 256) (whole 255)) (refused 15 desk) empty
+    ∷ hands (roster sample) (compare (bytes "0") (bytes "65")) (refused 2 form) empty ∷ []
 
 pub compared-said : (ch : Choices) → Answered ch compared
 unfolding numbersFrom count low groupOf listed listedBack bothOrNeither readEach readRosterBy writeRosterBy position edgesOf instanceOf deg nodeVote
     vote choices within plansOf samePlan beatenBy drawnWith verdictOf R.cut R.ahead R.arrow R.loose R.reserved R.betterS R.betterT R.worseReserved
     R.rule1 R.rule2 R.rule3 R.rule4 R.rule5 R.rule6 R.rule7 Fst.first Option·elim orElse R.rules R.stepBy R.firstStep R.act R.begin R.stepsFrom R.stateAfter
     R.stepsOf R.endOf planBytesBy edgeOfPair readPlanBy diaryOf leftOf candidateOf finderOf comparisonOf partOf blocks someBlocks stateRefusal answerOf
-compared-said ch = (refl, (refl, (refl, (refl, (refl, (refl, (refl, (refl, (refl, tt)))))))))
+compared-said ch = (
+  (refl, refl),
+  ((refl, refl), ((refl, refl), ((refl, refl), ((refl, refl), ((refl, refl), ((refl, refl), ((refl, refl), ((refl, refl), tt)))))))),
+)
 
 -- a vote of two digits, below zero
-abbrev twoDigits : List Said
+abbrev twoDigits : List Reply
 twoDigits =
-    record {
-      held = roster five;
-      call = compare (bytes "0") (bytes "5 1 1 1 2 2 1 3 3 1 4 4 1 5 5 1");
-      answer = D.votes (negsuc 9) (pos 10) second (record { file = secondFile; from = 1; bytes = bytes "1 1 1 2 2 1 3 3 1 4 4 1 5 5 1" });
-    } ∷ []
+    hands (roster five) (compare (bytes "0") (bytes "5 1 1 1 2 2 1 3 3 1 4 4 1 5 5 1")) (said (D.votes (negsuc 9) (pos 10) second))
+    (pairs secondFile "1 1 1 2 2 1 3 3 1 4 4 1 5 5 1") ∷ []
 
-comparison : (ch : Choices) (r : Roster) (a b : List ℕ)
-    → answerOf ch (roster r) (compare a b) ≡ D.comparisonAnswer (partOf (instanceOf r) a b) (comparisonOf (instanceOf r) a b)
+comparison : (ch : Choices) (r : Roster) (a b : List ℕ) → answerOf ch (roster r) (compare a b) ≡ D.comparisonAnswer (comparisonOf (instanceOf r) a b)
 unfolding stateRefusal answerOf
 comparison ch r a b = refl
 
-five-compared : D.comparisonAnswer (partOf (instanceOf five) (bytes "0") (bytes "5 1 1 1 2 2 1 3 3 1 4 4 1 5 5 1"))
-    (comparisonOf (instanceOf five) (bytes "0") (bytes "5 1 1 1 2 2 1 3 3 1 4 4 1 5 5 1"))
-    ≡ D.votes (negsuc 9) (pos 10) second (record { file = secondFile; from = 1; bytes = bytes "1 1 1 2 2 1 3 3 1 4 4 1 5 5 1" })
+five-compared : D.comparisonAnswer (comparisonOf (instanceOf five) (bytes "0") (bytes "5 1 1 1 2 2 1 3 3 1 4 4 1 5 5 1"))
+    ≡ said (D.votes (negsuc 9) (pos 10) second)
 unfolding numbersFrom count low groupOf listed listedBack bothOrNeither readEach readRosterBy position edgesOf instanceOf edgeOfPair readPlanBy deg
-    nodeVote vote comparisonOf partOf
+    nodeVote vote comparisonOf
 five-compared = refl
 
 pub two-digits-said : (ch : Choices) → Answered ch twoDigits
-two-digits-said ch = (comparison ch five (bytes "0") (bytes "5 1 1 1 2 2 1 3 3 1 4 4 1 5 5 1") ∙ five-compared, tt)
+unfolding numbersFrom
+two-digits-said ch =
+    let e = comparison ch five (bytes "0") (bytes "5 1 1 1 2 2 1 3 3 1 4 4 1 5 5 1") ∙ five-compared in
+    ((e, ap (D.partIn (bytes "0") (bytes "5 1 1 1 2 2 1 3 3 1 4 4 1 5 5 1")) e), tt)
+
+-- the part of a comparison that passes is Compare's
+pub part-said : (G : Instance) (a b : List ℕ) → D.partIn a b (D.comparisonAnswer (comparisonOf G a b)) ≡ partOf G a b
+unfolding partOf
+part-said G a b = go (comparisonOf G a b)
+  where
+    go : (c : C.Comparison) → D.partIn a b (D.comparisonAnswer c) ≡ C.comparisonPart c a b
+    go (C.votes v w x) = refl
+    go (C.refused n) = refl
 
 -- ---- the buffers after a call: what is written is in front, the rest is as it was; a refusal changes none
-pub record Lent : Type 0 where
-  pub held : Held
-  pub call : Call
-  pub after : Call
+pub data Lent : Type 0 where
+  lends : Held → {k : Topic} → Call k → (after : Call k) → Lent
+
+abbrev pub LentThen : Choices → Lent → Type 0
+LentThen ch (lends h c c′) = lentAfter ch h c ≡ c′
 
 abbrev onto : List ℕ → ℕ → List ℕ
 onto front n = front ++ replicate n 7
@@ -363,15 +375,15 @@ step f s t k r = record { fate = f; surveyor = s; stand = t; shift = k; rule = r
 
 abbrev lent : List Lent
 lent =
-    record { held = nothing; call = D.writeRosterTo (whole 4262); after = D.writeRosterTo (whole 4262) }
-    ∷ record { held = roster sample; call = D.writePlanTo (whole 193); after = D.writePlanTo (whole 193) }
-    ∷ record { held = one; call = D.writePlanTo (whole 192); after = D.writePlanTo (whole 192) }
-    ∷ record { held = one; call = judge (whole 193); after = judge (whole 193) }
-    ∷ record { held = one; call = D.judge (whole 193) (whole 255); after = D.judge (whole 193) (whole 255) }
-    ∷ record { held = one; call = D.compare (bytes "1 1 1 1") (bytes "1 3 1 1") (whole 256) (whole 256); after = compare (bytes "1 1 1 1") (bytes "1 3 1 1") }
-    ∷ record { held = one; call = D.writePlanTo (whole 194); after = D.writePlanTo (onto (bytes "1 1 1 1") 190) } ∷ []
+    lends nothing (D.writeRosterTo (whole 4262)) (D.writeRosterTo (whole 4262))
+    ∷ lends (roster sample) (D.writePlanTo (whole 193)) (D.writePlanTo (whole 193))
+    ∷ lends one (D.writePlanTo (whole 192)) (D.writePlanTo (whole 192))
+    ∷ lends one (judge (whole 193)) (judge (whole 193))
+    ∷ lends one (D.judge (whole 193) (whole 255)) (D.judge (whole 193) (whole 255))
+    ∷ lends one (D.compare (bytes "1 1 1 1") (bytes "1 3 1 1") (whole 256) (whole 256)) (compare (bytes "1 1 1 1") (bytes "1 3 1 1"))
+    ∷ lends one (D.writePlanTo (whole 194)) (D.writePlanTo (onto (bytes "1 1 1 1") 190)) ∷ []
 
-pub lent-said : (ch : Choices) → Each (λ (s : Lent). lentAfter ch (s .held) (s .call) ≡ s .after) lent
+pub lent-said : (ch : Choices) → Each (LentThen ch) lent
 unfolding numbersFrom count low groupOf writeRosterBy position edgesOf listed instanceOf deg nodeVote vote choices within plansOf samePlan beatenBy drawnWith
     verdictOf R.cut R.ahead R.arrow R.loose R.reserved R.betterS R.betterT R.worseReserved R.rule1 R.rule2 R.rule3 R.rule4 R.rule5 R.rule6 R.rule7
     Fst.first Option·elim orElse R.rules R.stepBy R.firstStep R.act R.begin R.stepsFrom R.stateAfter R.stepsOf R.endOf planBytesBy diaryOf leftOf
@@ -383,7 +395,7 @@ pub roster-written : sameBytes (D.onto (writeRoster sample) (whole 4262)) (onto 
 unfolding numbersFrom writeRosterBy
 roster-written = refl
 
-abbrev foundFor : Roster → Call
+abbrev foundFor : Roster → Call finds
 foundFor r = D.foundWritten D.find (instanceOf r) (finderOf (instanceOf r) (λ M. M)) (diary 1024) (whole 3072) (whole 193) (whole 193)
 
 pub found-written : (foundFor sample ≡ D.find (step 1 1 1 1 1 ∷ step 2 2 1 1 2 ∷ diary 1022) (whole 3072) (onto (bytes "1 1 1 1") 189) (whole 193))
@@ -404,13 +416,13 @@ other = true ∷ false ∷ []
 abbrev mine : Plan
 mine = false ∷ true ∷ []
 
-pub rival-said : (D.verdictAnswer (instanceOf sample) mine other P.beaten ≡ D.beaten (negsuc 0))
-    × ((D.verdictAnswer (instanceOf sample) mine other P.popular ≡ D.popular (negsuc 0))
+pub rival-said : (D.verdictAnswer (instanceOf sample) mine other P.beaten ≡ said (D.beaten (negsuc 0)))
+    × ((D.verdictAnswer (instanceOf sample) mine other P.popular ≡ said (D.popular (negsuc 0)))
     × ((D.verdictWritten (instanceOf sample) mine other P.beaten (whole 193) (whole 256)
     ≡ D.judge (onto (bytes "1 1 1 1") 189) (onto (bytes "33 1 1 33 2 1") 250))
     × ((D.verdictWritten (instanceOf sample) mine other P.popular (whole 193) (whole 256)
     ≡ D.judge (onto (bytes "1 1 1 1") 189) (onto (bytes "33 1 1 33 2 1") 250))
-    × ((D.blockingAnswer (instanceOf sample) 0 true ≡ D.blockedBy 1 1 1) × (D.blockingAnswer (instanceOf four) 1 true ≡ D.blockedBy 1 2 1)
-    × (D.blockingAnswer (instanceOf twice) 1 true ≡ D.blockedBy 1 1 3)))))
+    × ((D.blockingAnswer (instanceOf sample) 0 true ≡ said (D.blockedBy 1 1 1)) × (D.blockingAnswer (instanceOf four) 1 true ≡ said (D.blockedBy 1 2 1))
+    × (D.blockingAnswer (instanceOf twice) 1 true ≡ said (D.blockedBy 1 1 3))))))
 unfolding numbersFrom count low listed position edgesOf instanceOf deg nodeVote vote planBytesBy facing pairingBytes
 rival-said = (refl, (refl, (refl, (refl, (refl, refl, refl)))))

@@ -21,13 +21,13 @@ use Rattle.model.specs.PlanFile.{edgeOfPair}
 use Rattle.model.specs.Finder.{leftOf, candidateOf, finderOf}
 use Rattle.model_changes.specs.Changes.{joined, joinOn, departed, leaveOn, carried}
 use Rattle.model_desk.specs.Desk as D
-use Rattle.model_desk.specs.Desk.{Choices, nothing, roster, planned, Call, stateRefusal, answerOf, deskAfter, refused}
-use Rattle.model_desk.specs.DeskCases.{whole, diary, early, entry, sample, twice, one, two, Each, Change, Said, Answered}
+use Rattle.model_desk.specs.Desk.{Choices, nothing, roster, planned, Call, finds, said, stateRefusal, answerOf, deskAfter, refused}
+use Rattle.model_desk.specs.DeskCases.{whole, diary, early, entry, sample, twice, one, two, Each, Change, turns, HeldThen, Reply, replies, Answered}
 
-abbrev pub join : ℕ → List ℕ → Call
+abbrev pub join : ℕ → List ℕ → Call finds
 join q file = D.join q file (diary 1024) (whole 3072) (whole 193) (whole 193)
 
-abbrev pub leave : ℕ → Call
+abbrev pub leave : ℕ → Call finds
 leave s = D.leave s (diary 1024) (whole 3072) (whole 193) (whole 193)
 
 -- a third surveyor, in the stand's tie; without the first surveyor's pair
@@ -87,45 +87,45 @@ nobodyLeft = record { quotasS = bytes "0"; quotasT = bytes "2"; listsS = [] ∷ 
 abbrev changes : List Change
 changes =
     -- a plan held keeps its pairs, less the leaver's; with none held, none is held
-    record { before = one; call = join 1 (bytes "1 1 1"); after = planned three (true ∷ false ∷ false ∷ []) }
-    ∷ record { before = roster sample; call = join 1 (bytes "1 1 1"); after = roster three }
-    ∷ record { before = one; call = leave 1; after = planned firstGone (false ∷ []) }
-    ∷ record { before = two; call = leave 1; after = planned firstGone (true ∷ []) }
-    ∷ record { before = roster sample; call = leave 1; after = roster firstGone }
+    turns one (join 1 (bytes "1 1 1")) (planned three (true ∷ false ∷ false ∷ []))
+    ∷ turns (roster sample) (join 1 (bytes "1 1 1")) (roster three)
+    ∷ turns one (leave 1) (planned firstGone (false ∷ []))
+    ∷ turns two (leave 1) (planned firstGone (true ∷ []))
+    ∷ turns (roster sample) (leave 1) (roster firstGone)
     -- "leaving twice changes nothing more"
-    ∷ record { before = planned firstGone (true ∷ []); call = leave 1; after = planned firstGone (true ∷ []) }
+    ∷ turns (planned firstGone (true ∷ [])) (leave 1) (planned firstGone (true ∷ []))
     -- W-204: entries of all shifts come and go, and the plan's pairs keep theirs
-    ∷ record { before = one; call = join 1 (bytes "2 1 3 1 1"); after = planned threeTwice (true ∷ false ∷ false ∷ false ∷ []) }
-    ∷ record { before = planned threeTwice (false ∷ false ∷ false ∷ true ∷ []); call = leave 1; after = planned threeLeft (false ∷ false ∷ true ∷ []) }
-    ∷ record { before = planned twice (false ∷ true ∷ []); call = join 1 (bytes "1 1 2"); after = planned beside (false ∷ true ∷ false ∷ []) }
-    ∷ record { before = planned beside (false ∷ true ∷ true ∷ []); call = leave 1; after = planned besideLeft (true ∷ []) }
-    ∷ record { before = planned twice (true ∷ true ∷ []); call = leave 1; after = planned nobodyLeft [] }
+    ∷ turns one (join 1 (bytes "2 1 3 1 1")) (planned threeTwice (true ∷ false ∷ false ∷ false ∷ []))
+    ∷ turns (planned threeTwice (false ∷ false ∷ false ∷ true ∷ [])) (leave 1) (planned threeLeft (false ∷ false ∷ true ∷ []))
+    ∷ turns (planned twice (false ∷ true ∷ [])) (join 1 (bytes "1 1 2")) (planned beside (false ∷ true ∷ false ∷ []))
+    ∷ turns (planned beside (false ∷ true ∷ true ∷ [])) (leave 1) (planned besideLeft (true ∷ []))
+    ∷ turns (planned twice (true ∷ true ∷ [])) (leave 1) (planned nobodyLeft [])
     -- refused, by the change or by the state
-    ∷ record { before = one; call = join 9 []; after = one } ∷ record { before = one; call = join 1 (bytes "1 2 1"); after = one }
-    ∷ record { before = one; call = join 1 (bytes "1 1 4"); after = one } ∷ record { before = one; call = leave 3; after = one }
-    ∷ record { before = one; call = D.join 1 (bytes "1 1 1") (diary 1024) (whole 3072) (whole 193) (whole 192); after = one }
-    ∷ record { before = one; call = D.leave 1 (diary 1023) (whole 3072) (whole 193) (whole 193); after = one }
-    ∷ record { before = nothing; call = leave 1; after = nothing } ∷ []
+    ∷ turns one (join 9 []) one ∷ turns one (join 1 (bytes "1 2 1")) one
+    ∷ turns one (join 1 (bytes "1 1 4")) one ∷ turns one (leave 3) one
+    ∷ turns one (D.join 1 (bytes "1 1 1") (diary 1024) (whole 3072) (whole 193) (whole 192)) one
+    ∷ turns one (D.leave 1 (diary 1023) (whole 3072) (whole 193) (whole 193)) one
+    ∷ turns nothing (leave 1) nothing ∷ []
 
-pub holds : Each (λ (c : Change). deskAfter (c .before) (c .call) ≡ c .after) changes
+pub holds : Each HeldThen changes
 unfolding numbersFrom low listed readEach position edgesOf instanceOf edgeOfPair stateRefusal deskAfter joined joinOn departed leaveOn carried
 holds = (refl, (refl, (refl, (refl, (refl, (refl, (refl, (refl, (refl, (refl, (refl, (refl, (refl, (refl, (refl, (refl, (refl, (refl, tt))))))))))))))))))
 
 -- 13, 15, 3, 17, then the list; 13, 15, 16; the finder's answer on the changed roster
-abbrev answers : List Said
+abbrev answers : List Reply
 answers =
-    record { held = nothing; call = D.join 9 [] [] [] [] []; answer = refused 13 desk }
-    ∷ record { held = nothing; call = D.leave 0 [] [] [] []; answer = refused 13 desk }
-    ∷ record { held = one; call = D.join 9 [] (diary 1024) (whole 3071) (whole 193) (whole 193); answer = refused 15 desk }
-    ∷ record { held = one; call = D.leave 0 (diary 1024) (whole 3072) (whole 192) (whole 193); answer = refused 15 desk }
-    ∷ record { held = one; call = join 9 []; answer = refused 3 content } ∷ record { held = one; call = join 8 []; answer = refused 1 form }
-    ∷ record { held = one; call = join 1 (bytes "33"); answer = refused 2 form } ∷ record { held = one; call = join 1 (bytes "1 1"); answer = refused 1 form }
-    ∷ record { held = one; call = join 1 (bytes "1 2 4"); answer = refused 4 content }
-    ∷ record { held = one; call = join 1 (bytes "1 1 4"); answer = refused 18 content }
-    ∷ record { held = one; call = leave 0; answer = refused 16 content } ∷ record { held = one; call = leave 3; answer = refused 16 content }
-    ∷ record { held = one; call = join 1 (bytes "1 1 1"); answer = D.plan 3 } ∷ record { held = one; call = leave 1; answer = D.plan 1 }
-    ∷ record { held = one; call = join 1 (bytes "2 1 3 1 1"); answer = D.plan 4 }
-    ∷ record { held = roster twice; call = leave 1; answer = D.plan 0 } ∷ []
+    replies nothing (D.join 9 [] [] [] [] []) (refused 13 desk)
+    ∷ replies nothing (D.leave 0 [] [] [] []) (refused 13 desk)
+    ∷ replies one (D.join 9 [] (diary 1024) (whole 3071) (whole 193) (whole 193)) (refused 15 desk)
+    ∷ replies one (D.leave 0 (diary 1024) (whole 3072) (whole 192) (whole 193)) (refused 15 desk)
+    ∷ replies one (join 9 []) (refused 3 content) ∷ replies one (join 8 []) (refused 1 form)
+    ∷ replies one (join 1 (bytes "33")) (refused 2 form) ∷ replies one (join 1 (bytes "1 1")) (refused 1 form)
+    ∷ replies one (join 1 (bytes "1 2 4")) (refused 4 content)
+    ∷ replies one (join 1 (bytes "1 1 4")) (refused 18 content)
+    ∷ replies one (leave 0) (refused 16 content) ∷ replies one (leave 3) (refused 16 content)
+    ∷ replies one (join 1 (bytes "1 1 1")) (said (D.plan 3)) ∷ replies one (leave 1) (said (D.plan 1))
+    ∷ replies one (join 1 (bytes "2 1 3 1 1")) (said (D.plan 4))
+    ∷ replies (roster twice) (leave 1) (said (D.plan 0)) ∷ []
 
 pub answers-said : (ch : Choices) → Answered ch answers
 unfolding numbersFrom count low groupOf listed readEach position edgesOf instanceOf deg nodeVote vote choices within plansOf samePlan beatenBy drawnWith

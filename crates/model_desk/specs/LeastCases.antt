@@ -15,8 +15,8 @@ use Rattle.model.specs.Plans.{voteOf}
 use Rattle.model.specs.PlanFile.{edgeOfPair, readPlanBy}
 use Rattle.model.specs.Ranges.{Question, rangeOf, readRanges, readQuestion, ranked}
 use Rattle.model_desk.specs.Desk as D
-use Rattle.model_desk.specs.Desk.{Choices, nothing, roster, stateRefusal, answerOf, lentAfter, deskAfter, leastVote}
-use Rattle.model_desk.specs.DeskCases.{whole, sample, one, Said, Answered}
+use Rattle.model_desk.specs.Desk.{Choices, nothing, roster, stateRefusal, answerOf, lentAfter, deskAfter, said, leastVote}
+use Rattle.model_desk.specs.DeskCases.{whole, sample, one, Reply, replies, Answered}
 
 abbrev first : List ℕ
 first = bytes "1 1 1 1"
@@ -27,17 +27,17 @@ second = bytes "1 2 1 1"
 abbrev ranges : List ℕ
 ranges = bytes "1 2 1 1 1 4 2 3"
 
-abbrev said : List Said
-said =
-    record { held = nothing; call = D.least [] [] [] (whole 2047); answer = D.refused 13 desk }
-    ∷ record { held = roster sample; call = D.least [] [] [] (whole 2047); answer = D.refused 15 desk }
-    ∷ record { held = roster sample; call = D.least [] [] [] (whole 2048); answer = D.refused 1 form }
-    ∷ record { held = roster sample; call = D.least (bytes "1 1 1 2") [] (bytes "0 0") (whole 2048); answer = D.refused 10 plan }
-    ∷ record { held = one; call = D.least first (bytes "65") (bytes "0 0") (whole 2048); answer = D.refused 2 form }
-    ∷ record { held = one; call = D.least first second (bytes "1 2 0 1 1") (whole 2048); answer = D.refused 21 content }
-    ∷ record { held = one; call = D.least first second (bytes "1 2 1 1 1 4 2 3 7") (whole 2048); answer = D.refused 9 form } ∷ []
+abbrev replied : List Reply
+replied =
+    replies nothing (D.least [] [] [] (whole 2047)) (D.refused 13 desk)
+    ∷ replies (roster sample) (D.least [] [] [] (whole 2047)) (D.refused 15 desk)
+    ∷ replies (roster sample) (D.least [] [] [] (whole 2048)) (D.refused 1 form)
+    ∷ replies (roster sample) (D.least (bytes "1 1 1 2") [] (bytes "0 0") (whole 2048)) (D.refused 10 plan)
+    ∷ replies one (D.least first (bytes "65") (bytes "0 0") (whole 2048)) (D.refused 2 form)
+    ∷ replies one (D.least first second (bytes "1 2 0 1 1") (whole 2048)) (D.refused 21 content)
+    ∷ replies one (D.least first second (bytes "1 2 1 1 1 4 2 3 7") (whole 2048)) (D.refused 9 form) ∷ []
 
-pub least-said : (ch : Choices) → Answered ch said
+pub least-said : (ch : Choices) → Answered ch replied
 unfolding numbersFrom groupOf low listed readEach readPlanBy readRanges readQuestion edgeOfPair instanceOf edgesOf position stateRefusal answerOf
 least-said ch = (refl, (refl, (refl, (refl, (refl, (refl, (refl, tt)))))))
 
@@ -46,7 +46,8 @@ abbrev asked : Question
 asked = record { first = true ∷ false ∷ []; second = false ∷ true ∷ []; ranges = map rangeOf ((1, 2) ∷ (1, 1) ∷ (1, 4) ∷ (2, 3) ∷ []) }
 
 pub least-written : (ch : Choices) → let ws = ch .choiceOf sample asked in
-    (answerOf ch (roster sample) (D.least first second ranges (whole 2048)) ≡ leastVote (voteOf (ranked sample ws) (asked .first) (asked .second)) (length ws))
+    (answerOf ch (roster sample) (D.least first second ranges (whole 2048))
+    ≡ said (leastVote (voteOf (ranked sample ws) (asked .first) (asked .second)) (length ws)))
     × (lentAfter ch one (D.least first second ranges (whole 2048)) ≡ D.least first second ranges (ws ++ drop (length ws) (whole 2048)))
     × (lentAfter ch one (D.least first second (bytes "0 0") (whole 2048)) ≡ D.least first second (bytes "0 0") (whole 2048))
     × (lentAfter ch one (D.least first second ranges (whole 2047)) ≡ D.least first second ranges (whole 2047))

@@ -26,14 +26,14 @@ use Rattle.model_changes.specs.Changes.{joined, joinOn, departed, leaveOn, carr
 use Rattle.model.specs.Facing.{facing, pairingBytes}
 use Rattle.model_desk.specs.Compare.{pairingsOf}
 use Rattle.model_desk.specs.Desk as D
-use Rattle.model_desk.specs.Desk.{Choices, Call, Lends, stateRefusal, answerOf, lentAfter}
+use Rattle.model_desk.specs.Desk.{Choices, Call, finds, Lends, said, stateRefusal, answerOf, lentAfter}
 use Rattle.model_desk.specs.DeskCases.{diary, early, sample, twice, one}
 
 abbrev step : ℕ → ℕ → ℕ → ℕ → ℕ → Record
 step f s t k r = record { fate = f; surveyor = s; stand = t; shift = k; rule = r }
 
 -- the pairs left in 3s, the plan in 4s, the rival in 5s
-abbrev lent : Lends → Call
+abbrev lent : Lends → Call finds
 lent call = call (diary 1024) (replicate 3072 3) (replicate 193 4) (replicate 193 5)
 
 -- what is found goes to its buffer: a plan, the pairs left, a candidate with its rival
@@ -105,8 +105,8 @@ G = instanceOf tie
 abbrev candidate : Plan
 candidate = true ∷ false ∷ []
 
-pub rival-answered : (ch : Choices) → (answerOf ch (D.roster tie) (lent D.find) ≡ D.none 2 (D.rivalled (voteOf G candidate (ch .rivalOf G candidate))))
-    × (answerOf ch (D.planned tie candidate) (D.judge (replicate 193 5) (replicate 256 6)) ≡ D.popular (voteOf G candidate (ch .rivalOf G candidate)))
+pub rival-answered : (ch : Choices) → (answerOf ch (D.roster tie) (lent D.find) ≡ said (D.none 2 (D.rivalled (voteOf G candidate (ch .rivalOf G candidate)))))
+    × (answerOf ch (D.planned tie candidate) (D.judge (replicate 193 5) (replicate 256 6)) ≡ said (D.popular (voteOf G candidate (ch .rivalOf G candidate))))
 unfolding numbersFrom count low listed position edgesOf instanceOf deg nodeVote vote choices within plansOf samePlan beatenBy drawnWith
     verdictOf R.cut R.ahead R.arrow R.loose R.reserved R.betterS R.betterT R.worseReserved R.rule1 R.rule2 R.rule3 R.rule4 R.rule5 R.rule6 R.rule7
     Fst.first Option·elim orElse R.rules R.stepBy R.firstStep R.act R.begin R.stepsFrom R.stateAfter R.stepsOf R.endOf leftOf

@@ -21,16 +21,18 @@ use Rattle.model.specs.Plans.{Plan, choices, within, plansOf, samePlan, beatenB
 use Rattle.model.specs.PlanFile.{Named, planBytesBy, edgeOfPair, readPlanBy}
 use Rattle.model.specs.Blocking.{blocks, someBlocks, topBlocking}
 use Rattle.model_changes.specs.Changes.{joined, joinOn, departed, leaveOn, carried}
+use Rattle.model_desk.specs.Compare as C
 use Rattle.model_desk.specs.Desk as D
-use Rattle.model_desk.specs.Desk.{Choices, Held, nothing, roster, planned, proposed, Call, Answer, loadRoster, loadPlan, commit, loaded, refused}
+use Rattle.model_desk.specs.Desk.{Choices, Held, nothing, roster, planned, proposed, proposes, Call, loadRoster, loadPlan, commit, refused, said, loaded}
 use Rattle.model_desk.specs.Desk.{bothVotes, committed, stateRefusal, answerOf, lentAfter, deskAfter, onto}
-use Rattle.model_desk.specs.DeskCases.{whole, judge, compare, diary, early, one, Each, Change, Said, Answered}
+use Rattle.model_desk.specs.DeskCases.{whole, judge, compare, diary, early, one, Each, Change, turns, HeldThen, Reply, replies, Answered}
 use Rattle.model_desk.specs.DeskChangeCases.{join, leave}
-use Rattle.model_desk.specs.History.{Event, newRoster, newPlan, newProposal, committing, leaver, nothingNew, lastPlan, eventsOf, heldPairs}
+use Rattle.model_desk.specs.History.{Event, Exchange, gave, newRoster, newPlan, newProposal, committing, leaver, nothingNew, lastPlan, eventsOf}
+use Rattle.model_desk.specs.History.{heldPairs}
 
 -- ---- P5: two surveyors tied at one stand of quota 2; the same without the second, without the first, with a third
 -- W-208: with buffers of their size for the pairings
-abbrev propose : List ℕ → Call
+abbrev propose : List ℕ → Call proposes
 propose a = D.propose a (whole 256) (whole 256)
 
 abbrev P5File : List ℕ
@@ -126,22 +128,22 @@ firstAsked = proposed firstGone (true ∷ []) (false ∷ [])
 -- a morning, call by call
 abbrev morning : List Change
 morning =
-    record { before = nothing; call = commit; after = nothing }
-    ∷ record { before = nothing; call = loadRoster P5File; after = roster P5 }
-    ∷ record { before = roster P5; call = commit; after = roster P5 }
-    ∷ record { before = roster P5; call = propose (bytes "1 1 1 1"); after = roster P5 }
-    ∷ record { before = roster P5; call = loadPlan (bytes "1 1 1 1"); after = held }
-    ∷ record { before = held; call = commit; after = held }
-    ∷ record { before = held; call = propose twoPairs; after = asked }
-    ∷ record { before = asked; call = propose (bytes "9"); after = asked }
-    ∷ record { before = asked; call = commit; after = planned P5 both }
-    ∷ record { before = planned P5 both; call = leave 2; after = planned secondGone (true ∷ []) }
-    ∷ record { before = planned secondGone (true ∷ []); call = propose (bytes "0"); after = askedLeft }
-    ∷ record { before = askedLeft; call = leave 2; after = askedLeft }
-    ∷ record { before = askedLeft; call = join 9 []; after = askedLeft }
-    ∷ record { before = askedLeft; call = commit; after = planned secondGone (false ∷ []) } ∷ []
+    turns nothing commit nothing
+    ∷ turns nothing (loadRoster P5File) (roster P5)
+    ∷ turns (roster P5) commit (roster P5)
+    ∷ turns (roster P5) (propose (bytes "1 1 1 1")) (roster P5)
+    ∷ turns (roster P5) (loadPlan (bytes "1 1 1 1")) held
+    ∷ turns held commit held
+    ∷ turns held (propose twoPairs) asked
+    ∷ turns asked (propose (bytes "9")) asked
+    ∷ turns asked commit (planned P5 both)
+    ∷ turns (planned P5 both) (leave 2) (planned secondGone (true ∷ []))
+    ∷ turns (planned secondGone (true ∷ [])) (propose (bytes "0")) askedLeft
+    ∷ turns askedLeft (leave 2) askedLeft
+    ∷ turns askedLeft (join 9 []) askedLeft
+    ∷ turns askedLeft commit (planned secondGone (false ∷ [])) ∷ []
 
-pub morning-held : Each (λ (c : Change). deskAfter (c .before) (c .call) ≡ c .after) morning
+pub morning-held : Each HeldThen morning
 unfolding numbersFrom low listed listedBack bothOrNeither readEach readRosterBy position edgesOf instanceOf edgeOfPair readPlanBy joined joinOn departed leaveOn
     carried stateRefusal deskAfter
 morning-held = (refl, (refl, (refl, (refl, (refl, (refl, (refl, (refl, (refl, (refl, (refl, (refl, (refl, (refl, tt))))))))))))))
@@ -150,23 +152,23 @@ morning-held = (refl, (refl, (refl, (refl, (refl, (refl, (refl, (refl, (refl, (r
 abbrev closings : List Change
 closings =
     -- "A later proposal replaces the open one", and may be the held plan itself
-    record { before = asked; call = propose (bytes "0"); after = proposed P5 first none }
-    ∷ record { before = asked; call = propose (bytes "1 1 1 1"); after = proposed P5 first first }
-    ∷ record { before = proposed P5 first first; call = commit; after = held }
+    turns asked (propose (bytes "0")) (proposed P5 first none)
+    ∷ turns asked (propose (bytes "1 1 1 1")) (proposed P5 first first)
+    ∷ turns (proposed P5 first first) commit held
     -- "Loading a roster or a plan, joining, or a leaving that changes the roster closes it"
-    ∷ record { before = asked; call = loadRoster P5File; after = roster P5 }
-    ∷ record { before = asked; call = loadPlan (bytes "0"); after = planned P5 none }
-    ∷ record { before = asked; call = loadPlan (bytes "1 1 1 1"); after = held }
-    ∷ record { before = asked; call = join 1 (bytes "1 1 1"); after = planned three (true ∷ false ∷ false ∷ []) }
-    ∷ record { before = asked; call = leave 1; after = planned firstGone (false ∷ []) }
-    ∷ record { before = asked; call = leave 2; after = planned secondGone (true ∷ []) }
+    ∷ turns asked (loadRoster P5File) (roster P5)
+    ∷ turns asked (loadPlan (bytes "0")) (planned P5 none)
+    ∷ turns asked (loadPlan (bytes "1 1 1 1")) held
+    ∷ turns asked (join 1 (bytes "1 1 1")) (planned three (true ∷ false ∷ false ∷ []))
+    ∷ turns asked (leave 1) (planned firstGone (false ∷ []))
+    ∷ turns asked (leave 2) (planned secondGone (true ∷ []))
     -- the roster changes if the leaver has a pair or a quota above 0
-    ∷ record { before = idleAsked; call = leave 1; after = planned idleWithoutFirst (true ∷ []) }
-    ∷ record { before = idleAsked; call = leave 2; after = planned idleWithoutSecond (false ∷ true ∷ []) }
+    ∷ turns idleAsked (leave 1) (planned idleWithoutFirst (true ∷ []))
+    ∷ turns idleAsked (leave 2) (planned idleWithoutSecond (false ∷ true ∷ []))
     -- and not if the leaver has left already
-    ∷ record { before = firstAsked; call = leave 1; after = firstAsked } ∷ []
+    ∷ turns firstAsked (leave 1) firstAsked ∷ []
 
-pub closings-held : Each (λ (c : Change). deskAfter (c .before) (c .call) ≡ c .after) closings
+pub closings-held : Each HeldThen closings
 unfolding numbersFrom low listed listedBack bothOrNeither readEach readRosterBy position edgesOf instanceOf edgeOfPair readPlanBy joined joinOn departed leaveOn
     carried stateRefusal deskAfter
 closings-held = (refl, (refl, (refl, (refl, (refl, (refl, (refl, (refl, (refl, (refl, (refl, (refl, tt))))))))))))
@@ -174,56 +176,58 @@ closings-held = (refl, (refl, (refl, (refl, (refl, (refl, (refl, (refl, (refl, (
 -- refused calls close nothing
 abbrev unclosed : List Change
 unclosed =
-    record { before = asked; call = loadRoster (bytes "1 9"); after = asked } ∷ record { before = asked; call = loadPlan (bytes "1 3 1 1"); after = asked }
-    ∷ record { before = asked; call = join 1 (bytes "1 2 1"); after = asked } ∷ record { before = asked; call = leave 3; after = asked }
-    ∷ record { before = asked; call = D.join 1 (bytes "1 1 1") (diary 1024) (whole 3072) (whole 193) (whole 192); after = asked }
-    ∷ record { before = asked; call = D.leave 1 (diary 1023) (whole 3072) (whole 193) (whole 193); after = asked } ∷ []
+    turns asked (loadRoster (bytes "1 9")) asked ∷ turns asked (loadPlan (bytes "1 3 1 1")) asked
+    ∷ turns asked (join 1 (bytes "1 2 1")) asked ∷ turns asked (leave 3) asked
+    ∷ turns asked (D.join 1 (bytes "1 1 1") (diary 1024) (whole 3072) (whole 193) (whole 192)) asked
+    ∷ turns asked (D.leave 1 (diary 1023) (whole 3072) (whole 193) (whole 193)) asked ∷ []
 
-pub unclosed-held : Each (λ (c : Change). deskAfter (c .before) (c .call) ≡ c .after) unclosed
+pub unclosed-held : Each HeldThen unclosed
 unfolding numbersFrom low listed listedBack bothOrNeither readEach readRosterBy position edgesOf instanceOf edgeOfPair readPlanBy joined joinOn departed leaveOn
     carried stateRefusal deskAfter
 unclosed-held = (refl, (refl, (refl, (refl, (refl, (refl, tt))))))
 
 -- nor does a call that looks
-abbrev looks : List Call
+abbrev looks : List Change
 looks =
-    D.writeRosterTo (whole 4262) ∷ D.writePlanTo (whole 193) ∷ D.find (diary 1024) (whole 3072) (whole 193) (whole 193) ∷ judge (whole 193)
-    ∷ compare (bytes "0") (bytes "0") ∷ D.blocking ∷ D.planToNew (bytes "0") (whole 193) ∷ D.planToOld (bytes "0") (whole 193) ∷ []
+    turns asked (D.writeRosterTo (whole 4262)) asked ∷ turns asked (D.writePlanTo (whole 193)) asked
+    ∷ turns asked (D.find (diary 1024) (whole 3072) (whole 193) (whole 193)) asked ∷ turns asked (judge (whole 193)) asked
+    ∷ turns asked (compare (bytes "0") (bytes "0")) asked ∷ turns asked D.blocking asked ∷ turns asked (D.planToNew (bytes "0") (whole 193)) asked
+    ∷ turns asked (D.planToOld (bytes "0") (whole 193)) asked ∷ []
 
-pub looks-held : Each (λ c. deskAfter asked c ≡ asked) looks
+pub looks-held : Each HeldThen looks
 unfolding stateRefusal deskAfter
 looks-held = (refl, (refl, (refl, (refl, (refl, (refl, (refl, (refl, tt))))))))
 
 -- ---- what each call answers
 -- 13, 14, then the plan's refusals; 13, 14, then 20
-abbrev refusals : List Said
+abbrev refusals : List Reply
 refusals =
-    record { held = nothing; call = propose []; answer = refused 13 desk } ∷ record { held = roster P5; call = propose []; answer = refused 14 desk }
-    ∷ record { held = held; call = propose []; answer = refused 1 form } ∷ record { held = held; call = propose (bytes "65"); answer = refused 2 form }
-    ∷ record { held = held; call = propose (bytes "0 0"); answer = refused 9 form }
-    ∷ record { held = held; call = propose (bytes "1 3 1 1"); answer = refused 10 plan }
-    ∷ record { held = held; call = propose (bytes "2 2 1 1 1 1 1"); answer = refused 11 plan }
-    ∷ record { held = one; call = propose twoPairs; answer = refused 12 plan }
-    ∷ record { held = asked; call = propose (bytes "9"); answer = refused 1 form }
-    ∷ record { held = nothing; call = commit; answer = refused 13 desk } ∷ record { held = roster P5; call = commit; answer = refused 14 desk }
-    ∷ record { held = held; call = commit; answer = refused 20 desk } ∷ []
+    replies nothing (propose []) (refused 13 desk) ∷ replies (roster P5) (propose []) (refused 14 desk)
+    ∷ replies held (propose []) (refused 1 form) ∷ replies held (propose (bytes "65")) (refused 2 form)
+    ∷ replies held (propose (bytes "0 0")) (refused 9 form)
+    ∷ replies held (propose (bytes "1 3 1 1")) (refused 10 plan)
+    ∷ replies held (propose (bytes "2 2 1 1 1 1 1")) (refused 11 plan)
+    ∷ replies one (propose twoPairs) (refused 12 plan)
+    ∷ replies asked (propose (bytes "9")) (refused 1 form)
+    ∷ replies nothing commit (refused 13 desk) ∷ replies (roster P5) commit (refused 14 desk)
+    ∷ replies held commit (refused 20 desk) ∷ []
 
 pub refusals-said : (ch : Choices) → Answered ch refusals
 unfolding numbersFrom low groupOf listed readEach position edgesOf instanceOf edgeOfPair readPlanBy stateRefusal answerOf
 refusals-said ch = (refl, (refl, (refl, (refl, (refl, (refl, (refl, (refl, (refl, (refl, (refl, (refl, tt))))))))))))
 
-abbrev answers : List Said
+abbrev answers : List Reply
 answers =
-    record { held = asked; call = commit; answer = committed }
+    replies asked commit (said committed)
     -- the proposal's vote against the held plan, not against the open proposal, and the reverse
-    ∷ record { held = held; call = propose twoPairs; answer = bothVotes (pos 2) (negsuc 1) }
-    ∷ record { held = held; call = propose (bytes "1 1 1 1"); answer = bothVotes (pos 0) (pos 0) }
-    ∷ record { held = asked; call = propose twoPairs; answer = bothVotes (pos 2) (negsuc 1) }
-    ∷ record { held = asked; call = propose (bytes "0"); answer = bothVotes (negsuc 1) (pos 2) }
+    ∷ replies held (propose twoPairs) (said (bothVotes (pos 2) (negsuc 1)))
+    ∷ replies held (propose (bytes "1 1 1 1")) (said (bothVotes (pos 0) (pos 0)))
+    ∷ replies asked (propose twoPairs) (said (bothVotes (pos 2) (negsuc 1)))
+    ∷ replies asked (propose (bytes "0")) (said (bothVotes (negsuc 1) (pos 2)))
     -- the plan that is held is the one that is looked at
-    ∷ record { held = asked; call = D.blocking; answer = D.blockedBy 2 1 1 }
-    ∷ record { held = asked; call = D.writePlanTo (whole 193); answer = D.wrote 4 }
-    ∷ record { held = proposed P5 both first; call = judge (whole 193); answer = D.strong } ∷ []
+    ∷ replies asked D.blocking (said (D.blockedBy 2 1 1))
+    ∷ replies asked (D.writePlanTo (whole 193)) (said (D.wrote 4))
+    ∷ replies (proposed P5 both first) (judge (whole 193)) (said D.strong) ∷ []
 
 pub answers-said : (ch : Choices) → Answered ch answers
 unfolding numbersFrom count low listed readEach position edgesOf instanceOf deg nodeVote vote choices within plansOf samePlan beatenBy drawnWith verdictOf
@@ -267,30 +271,42 @@ stories-told = (refl, (refl, (refl, (refl, (refl, (refl, (refl, (refl, (refl, (r
 
 -- the events are in the calls and their answers, and "refused calls count for nothing"
 pub record Log : Type 0 where
-  pub calls : List (Call × Answer)
+  pub calls : List Exchange
   pub plan : Option (List Named)
 
-abbrev loadedBoth : List (Call × Answer)
-loadedBoth = (loadPlan twoPairs, loaded) ∷ (loadRoster P5File, loaded) ∷ []
+abbrev loadedBoth : List Exchange
+loadedBoth = gave (loadPlan twoPairs) (said loaded) ∷ gave (loadRoster P5File) (said loaded) ∷ []
+
+-- calls that look, each with an answer that is no refusal
+abbrev looked : List Exchange
+looked =
+    gave (D.writeRosterTo (whole 4262)) (said (D.wrote 4)) ∷ gave (D.writePlanTo (whole 193)) (said (D.wrote 4))
+    ∷ gave (D.find (diary 1024) (whole 3072) (whole 193) (whole 193)) (said (D.plan 1)) ∷ gave (judge (whole 193)) (said D.strong)
+    ∷ gave (compare (bytes "0") (bytes "0")) (said (D.votes (pos 0) (pos 0) C.neither)) ∷ gave D.blocking (said D.unblocked)
+    ∷ gave (D.planToNew (bytes "0") (whole 193)) (said (D.wrote 4)) ∷ gave (D.planToOld (bytes "0") (whole 193)) (said (D.wrote 4)) ∷ []
 
 abbrev logs : List Log
 logs =
     record { calls = loadedBoth; plan = O.some (pair 1 1 ∷ pair 2 1 ∷ []) }
-    ∷ record { calls = (leave 2, D.plan 1) ∷ loadedBoth; plan = O.some (pair 1 1 ∷ []) }
-    ∷ record { calls = (join 1 [], D.plan 1) ∷ (D.blocking, D.unblocked) ∷ loadedBoth; plan = O.some (pair 1 1 ∷ pair 2 1 ∷ []) }
-    ∷ record { calls = (commit, committed) ∷ (propose (bytes "0"), bothVotes (negsuc 3) (pos 4)) ∷ loadedBoth; plan = O.some [] }
-    ∷ record { calls = (commit, committed) ∷ (propose (bytes "1 2 1 1"), bothVotes (negsuc 1) (pos 2)) ∷ loadedBoth; plan = O.some (pair 2 1 ∷ []) }
-    ∷ record { calls = (leave 2, D.none 0 (D.left 1)) ∷ loadedBoth; plan = O.some (pair 1 1 ∷ []) }
-    -- a call that looks tells nothing, whatever its answer; a pair's three numbers are the file's
-    ∷ record { calls = map (λ c. (c, D.wrote 4)) looks ++ loadedBoth; plan = O.some (pair 1 1 ∷ pair 2 1 ∷ []) }
-    ∷ record { calls = (loadPlan (bytes "1 1 2 3"), loaded) ∷ []; plan = O.some (record { surveyor = 1; stand = 2; shift = 3 } ∷ []) }
-    -- refused
-    ∷ record { calls = (loadRoster [], refused 1 form) ∷ loadedBoth; plan = O.some (pair 1 1 ∷ pair 2 1 ∷ []) }
-    ∷ record { calls = (loadPlan (bytes "1 3 1 1"), refused 10 plan) ∷ loadedBoth; plan = O.some (pair 1 1 ∷ pair 2 1 ∷ []) }
-    ∷ record { calls = (leave 2, refused 15 desk) ∷ loadedBoth; plan = O.some (pair 1 1 ∷ pair 2 1 ∷ []) }
-    ∷ record { calls = (commit, refused 20 desk) ∷ loadedBoth; plan = O.some (pair 1 1 ∷ pair 2 1 ∷ []) }
+    ∷ record { calls = gave (leave 2) (said (D.plan 1)) ∷ loadedBoth; plan = O.some (pair 1 1 ∷ []) }
+    ∷ record { calls = gave (join 1 []) (said (D.plan 1)) ∷ gave D.blocking (said D.unblocked) ∷ loadedBoth; plan = O.some (pair 1 1 ∷ pair 2 1 ∷ []) }
+    ∷ record { calls = gave commit (said committed) ∷ gave (propose (bytes "0")) (said (bothVotes (negsuc 3) (pos 4))) ∷ loadedBoth; plan = O.some [] }
     ∷ record {
-      calls = (commit, committed) ∷ (propose (bytes "1 3 1 1"), refused 10 plan) ∷ (propose (bytes "0"), bothVotes (negsuc 3) (pos 4)) ∷ loadedBoth;
+      calls = gave commit (said committed) ∷ gave (propose (bytes "1 2 1 1")) (said (bothVotes (negsuc 1) (pos 2))) ∷ loadedBoth;
+      plan = O.some (pair 2 1 ∷ []);
+    }
+    ∷ record { calls = gave (leave 2) (said (D.none 0 (D.left 1))) ∷ loadedBoth; plan = O.some (pair 1 1 ∷ []) }
+    -- a call that looks tells nothing, whatever its answer; a pair's three numbers are the file's
+    ∷ record { calls = looked ++ loadedBoth; plan = O.some (pair 1 1 ∷ pair 2 1 ∷ []) }
+    ∷ record { calls = gave (loadPlan (bytes "1 1 2 3")) (said loaded) ∷ []; plan = O.some (record { surveyor = 1; stand = 2; shift = 3 } ∷ []) }
+    -- refused
+    ∷ record { calls = gave (loadRoster []) (refused 1 form) ∷ loadedBoth; plan = O.some (pair 1 1 ∷ pair 2 1 ∷ []) }
+    ∷ record { calls = gave (loadPlan (bytes "1 3 1 1")) (refused 10 plan) ∷ loadedBoth; plan = O.some (pair 1 1 ∷ pair 2 1 ∷ []) }
+    ∷ record { calls = gave (leave 2) (refused 15 desk) ∷ loadedBoth; plan = O.some (pair 1 1 ∷ pair 2 1 ∷ []) }
+    ∷ record { calls = gave commit (refused 20 desk) ∷ loadedBoth; plan = O.some (pair 1 1 ∷ pair 2 1 ∷ []) }
+    ∷ record {
+      calls = gave commit (said committed) ∷ gave (propose (bytes "1 3 1 1")) (refused 10 plan)
+          ∷ gave (propose (bytes "0")) (said (bothVotes (negsuc 3) (pos 4))) ∷ loadedBoth;
       plan = O.some [];
     } ∷ []
 

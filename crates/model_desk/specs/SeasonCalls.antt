@@ -5,11 +5,11 @@ use mathlib.Core.Bool.{cond}
 use mathlib.Core.List.{List}
 use Rattle.model.specs.Limits.{rosterSize}
 use Rattle.model.specs.Reading.{Reading}
-use Rattle.model_desk.specs.Desk.{Answer, refusal, short, convertedAnswer, convertedOnto}
+use Rattle.model_desk.specs.Desk.{Answer, writes, refusal, short, convertedAnswer, convertedOnto}
 
 -- what such a call answers for the conversion of its file, and the buffer lent to it afterwards: "The buffer written to needs 4,262 (..) bytes
 -- either way."
-unfoldable pub fileAnswer : Reading (List ℕ) → (buffer : List ℕ) → Answer
+unfoldable pub fileAnswer : Reading (List ℕ) → (buffer : List ℕ) → Answer writes
 fileAnswer x b = cond (short b rosterSize) (refusal 15) (convertedAnswer x)
 
 unfoldable pub fileLent : Reading (List ℕ) → (buffer : List ℕ) → List ℕ

@@ -15,9 +15,9 @@ use Rattle.model.specs.Edges.{position, edgesOf, instanceOf}
 use Rattle.model.specs.PlanFile.{planBytesBy, edgeOfPair, readPlanBy}
 use Rattle.model_desk.specs.Seasons.{toNew, toOld, planToNew, planToOld}
 use Rattle.model_desk.specs.Desk as D
-use Rattle.model_desk.specs.Desk.{Choices, nothing, roster, stateRefusal, answerOf, lentAfter, deskAfter, wrote}
+use Rattle.model_desk.specs.Desk.{Choices, nothing, roster, stateRefusal, answerOf, lentAfter, deskAfter, said, wrote}
 use Rattle.model_desk.specs.SeasonCalls.{fileAnswer, fileLent}
-use Rattle.model_desk.specs.DeskCases.{whole, entry, sample, twice, one, Each, Change, Said, Answered, Lent}
+use Rattle.model_desk.specs.DeskCases.{whole, entry, sample, twice, one, Each, Reply, replies, Answered, Lent, lends, LentThen}
 
 -- a file, and what it becomes
 abbrev Turned : Type 0
@@ -69,7 +69,7 @@ newSample = bytes "2 1 1 1 1 2 0 1 1 1 1 1 1 2 0 2 0 1 1 2 1"
 
 pub files-said : (fileAnswer (toNew oldSample) (whole 4261) ≡ D.refused 15 desk) × (fileAnswer (toOld newSample) (whole 4261) ≡ D.refused 15 desk)
     × (fileAnswer (toNew []) (whole 4261) ≡ D.refused 15 desk) × (fileAnswer (toNew []) (whole 4262) ≡ D.refused 1 form)
-    × (fileAnswer (toNew oldSample) (whole 4262) ≡ wrote 21) × (fileAnswer (toOld newSample) (whole 4262) ≡ wrote 17)
+    × (fileAnswer (toNew oldSample) (whole 4262) ≡ said (wrote 21)) × (fileAnswer (toOld newSample) (whole 4262) ≡ said (wrote 17))
     × (fileAnswer (toOld (bytes "1 1 1 1 1 0 1 1 2 1 0 1 0 1 2")) (whole 4262) ≡ D.refused 19 content)
 unfolding numbersFrom groupOf toNew toOld readRosterBy writeRosterBy readEach bothOrNeither listed listedBack fileAnswer
 files-said = (refl, refl, refl, refl, refl, refl, refl)
@@ -122,31 +122,31 @@ unfolding numbersFrom low listed planToNew planToOld readPlanBy planBytesBy edge
 wide-plans = (refl, refl)
 
 -- ---- on the desk: 13, then 15, "193 bytes either way", then the plan's refusals; no plan needs to be held, and one that is stays
-abbrev said : List Said
-said =
-    record { held = nothing; call = D.planToNew [] (whole 192); answer = D.refused 13 desk }
-    ∷ record { held = nothing; call = D.planToOld [] (whole 192); answer = D.refused 13 desk }
-    ∷ record { held = roster sample; call = D.planToNew [] (whole 192); answer = D.refused 15 desk }
-    ∷ record { held = roster sample; call = D.planToOld [] (whole 192); answer = D.refused 15 desk }
-    ∷ record { held = roster sample; call = D.planToNew [] (whole 193); answer = D.refused 1 form }
-    ∷ record { held = roster sample; call = D.planToOld (bytes "1 1 1 2") (whole 193); answer = D.refused 10 plan }
-    ∷ record { held = roster twice; call = D.planToOld (bytes "1 1 1 3") (whole 193); answer = D.refused 19 content }
-    ∷ record { held = roster sample; call = D.planToNew (bytes "1 2 1") (whole 193); answer = wrote 4 }
-    ∷ record { held = one; call = D.planToOld (bytes "1 2 1 1") (whole 193); answer = wrote 3 } ∷ []
+abbrev replied : List Reply
+replied =
+    replies nothing (D.planToNew [] (whole 192)) (D.refused 13 desk)
+    ∷ replies nothing (D.planToOld [] (whole 192)) (D.refused 13 desk)
+    ∷ replies (roster sample) (D.planToNew [] (whole 192)) (D.refused 15 desk)
+    ∷ replies (roster sample) (D.planToOld [] (whole 192)) (D.refused 15 desk)
+    ∷ replies (roster sample) (D.planToNew [] (whole 193)) (D.refused 1 form)
+    ∷ replies (roster sample) (D.planToOld (bytes "1 1 1 2") (whole 193)) (D.refused 10 plan)
+    ∷ replies (roster twice) (D.planToOld (bytes "1 1 1 3") (whole 193)) (D.refused 19 content)
+    ∷ replies (roster sample) (D.planToNew (bytes "1 2 1") (whole 193)) (said (wrote 4))
+    ∷ replies one (D.planToOld (bytes "1 2 1 1") (whole 193)) (said (wrote 3)) ∷ []
 
-pub plans-said : (ch : Choices) → Answered ch said
+pub plans-said : (ch : Choices) → Answered ch replied
 unfolding numbersFrom groupOf low listed planToNew planToOld readPlanBy planBytesBy edgeOfPair readEach instanceOf edgesOf position stateRefusal answerOf
 plans-said ch = (refl, (refl, (refl, (refl, (refl, (refl, (refl, (refl, (refl, tt)))))))))
 
 abbrev lent : List Lent
 lent =
-    record { held = nothing; call = D.planToNew (bytes "0") (whole 193); after = D.planToNew (bytes "0") (whole 193) }
-    ∷ record { held = roster sample; call = D.planToNew (bytes "1 2 1") (whole 192); after = D.planToNew (bytes "1 2 1") (whole 192) }
-    ∷ record { held = roster sample; call = D.planToNew (bytes "1 2 1") (whole 194); after = D.planToNew (bytes "1 2 1") (bytes "1 2 1 1" ++ replicate 190 7) }
-    ∷ record { held = one; call = D.planToOld (bytes "1 2 1 1") (whole 193); after = D.planToOld (bytes "1 2 1 1") (bytes "1 2 1" ++ replicate 190 7) }
-    ∷ record { held = roster twice; call = D.planToOld (bytes "1 1 1 3") (whole 193); after = D.planToOld (bytes "1 1 1 3") (whole 193) } ∷ []
+    lends nothing (D.planToNew (bytes "0") (whole 193)) (D.planToNew (bytes "0") (whole 193))
+    ∷ lends (roster sample) (D.planToNew (bytes "1 2 1") (whole 192)) (D.planToNew (bytes "1 2 1") (whole 192))
+    ∷ lends (roster sample) (D.planToNew (bytes "1 2 1") (whole 194)) (D.planToNew (bytes "1 2 1") (bytes "1 2 1 1" ++ replicate 190 7))
+    ∷ lends one (D.planToOld (bytes "1 2 1 1") (whole 193)) (D.planToOld (bytes "1 2 1 1") (bytes "1 2 1" ++ replicate 190 7))
+    ∷ lends (roster twice) (D.planToOld (bytes "1 1 1 3") (whole 193)) (D.planToOld (bytes "1 1 1 3") (whole 193)) ∷ []
 
-pub plans-written : (ch : Choices) → Each (λ (s : Lent). lentAfter ch (s .held) (s .call) ≡ s .after) lent
+pub plans-written : (ch : Choices) → Each (LentThen ch) lent
 unfolding numbersFrom groupOf low listed planToNew planToOld readPlanBy planBytesBy edgeOfPair readEach instanceOf edgesOf position stateRefusal lentAfter
 plans-written ch = (refl, (refl, (refl, (refl, (refl, tt)))))
 

@@ -93,7 +93,8 @@ route-of-32 = refl
 
 -- ---- "Either buffer needs 4,295 bytes, else 15", before the file is read; beyond what is written it keeps its bytes
 pub files-said : (storedAnswer (storeOf []) (replicate 4294 7) ≡ D.refused 15 desk) × (storedAnswer (unstoreOf []) (replicate 4294 7) ≡ D.refused 15 desk)
-    × (storedAnswer (storeOf []) (replicate 4295 7) ≡ D.refused 1 form) × (storedAnswer (storeOf (bytes "1 1" ++ bytes sample)) (replicate 4295 7) ≡ D.wrote 23)
+    × (storedAnswer (storeOf []) (replicate 4295 7) ≡ D.refused 1 form)
+    × (storedAnswer (storeOf (bytes "1 1" ++ bytes sample)) (replicate 4295 7) ≡ D.said (D.wrote 23))
     × (storedAnswer (storeOf (bytes "1 2" ++ bytes sample)) (replicate 4295 7) ≡ D.refused 23 content)
 unfolding numbersFrom groupOf listed listedBack bothOrNeither readEach readRosterBy writeRosterBy namesEach newNumber renumbered wayBack storeOf unstoreOf
     storedAnswer

@@ -5,10 +5,10 @@ use mathlib.Core.Bool.{cond}
 use mathlib.Core.List.{List}
 use Rattle.model.specs.Limits.{storedSize}
 use Rattle.model.specs.Reading.{Reading}
-use Rattle.model_desk.specs.Desk.{Answer, refusal, short, convertedAnswer, convertedOnto}
+use Rattle.model_desk.specs.Desk.{Answer, writes, refusal, short, convertedAnswer, convertedOnto}
 
 -- "Either buffer needs 4,295 bytes, else 15."
-unfoldable pub storedAnswer : Reading (List ℕ) → (buffer : List ℕ) → Answer
+unfoldable pub storedAnswer : Reading (List ℕ) → (buffer : List ℕ) → Answer writes
 storedAnswer x b = cond (short b storedSize) (refusal 15) (convertedAnswer x)
 
 unfoldable pub storedLent : Reading (List ℕ) → (buffer : List ℕ) → List ℕ

@@ -13,7 +13,7 @@ use Rattle.model.specs.Reading.{Reading, accepted, refused}
 use Rattle.model.specs.Refusal.{groupOf}
 use Rattle.model.specs.PlanFile.{Named}
 use Rattle.model_desk.specs.Desk as model
-use Rattle.model_desk.specs.Desk.{wrote, onto, convertedAnswer, convertedOnto}
+use Rattle.model_desk.specs.Desk.{said, wrote, onto, convertedAnswer, convertedOnto}
 use Rattle.answers.specs.declared.Group.{Group}
 use Rattle.answers.specs.declared.Written.{Written}
 use Rattle.answers.specs.declared.Written.the-variants.{Wrote, Refused}
@@ -139,6 +139,6 @@ module _ (shifts : Bool) (f : List ℕ) (n : ℕ) (o : List ℕ) where
   pub pairs-wrote : {k : ℕ} {o′ : List ℕ} → all? firstPair (pairsFrom shifts f n 1) ≡ true → k ≡ length (otherPlan shifts f n)
       → o′ ≡ onto (otherPlan shifts f n) o → PairsTurned shifts f n o (Wrote k) o′
   pairs-wrote h p q = record {
-    answer = ap wrote p ∙ sym (ap (λ b. convertedAnswer (cond b (accepted (otherPlan shifts f n)) (refused 19))) h);
+    answer = ap (λ k. said (wrote k)) p ∙ sym (ap (λ b. convertedAnswer (cond b (accepted (otherPlan shifts f n)) (refused 19))) h);
     lent = q ∙ sym (ap (λ b. convertedOnto (cond b (accepted (otherPlan shifts f n)) (refused 19)) o) h);
   }

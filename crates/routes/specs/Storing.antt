@@ -17,7 +17,7 @@ use Rattle.model.specs.Refusal.{groupOf}
 use Rattle.model.specs.Edges.{instanceOf}
 use Rattle.model.specs.Plans.{Plan, strongPlans}
 use Rattle.model.specs.Finder.{finderOf, plan}
-use Rattle.model_desk.specs.Desk.{wrote}
+use Rattle.model_desk.specs.Desk.{said, wrote}
 use Rattle.model_files.specs.Routes.{readRoute, namesEach, renumbered, wayBack, rosterBehind, routeFirst, storeOf, unstoreOf, renumberedPlan}
 use Rattle.model_files.specs.StoredCalls.{storedAnswer, storedLent}
 use Rattle.theory_files.specs.Reads.{rest-bytes}
@@ -80,9 +80,9 @@ pub record StoresBy (by : List ℕ → List ℕ) (to undo : List ℕ → Reading
   -- they are in front of the buffer, which keeps the rest; a refusal changes no byte
   pub lent : o′ ≡ storedLent (to f) o
   -- as many as were read; the other way gives them back
-  pub kept : (n : ℕ) → writtenShown r ≡ wrote n → n ≡ length f
-  pub undone : (n : ℕ) → writtenShown r ≡ wrote n → undo (take n o′) ≡ accepted f
-  pub plans : (n : ℕ) → writtenShown r ≡ wrote n → Renumbered by f (take n o′)
+  pub kept : (n : ℕ) → writtenShown r ≡ said (wrote n) → n ≡ length f
+  pub undone : (n : ℕ) → writtenShown r ≡ said (wrote n) → undo (take n o′) ≡ accepted f
+  pub plans : (n : ℕ) → writtenShown r ≡ said (wrote n) → Renumbered by f (take n o′)
 
 renumbered-as : (back : Bool) (f g : List ℕ) → T (isBytes f) → turnBy back f ≡ accepted g → Renumbered (byOf back) f g
 renumbered-as back f g isB e = given (stored-parts (byOf back) f g isB (sym (turn-is back f) ∙ e)) (λ S.

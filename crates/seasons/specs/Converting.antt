@@ -15,7 +15,7 @@ use Rattle.model.specs.Roster.{Roster}
 use Rattle.model.specs.RosterFile.{readRosterBy, writeRosterBy}
 use Rattle.model.specs.Refusal.{groupOf}
 use Rattle.model_desk.specs.Seasons.{onlyFirst, toNew, toOld}
-use Rattle.model_desk.specs.Desk.{wrote}
+use Rattle.model_desk.specs.Desk.{said, wrote}
 use Rattle.model_desk.specs.SeasonCalls.{fileAnswer, fileLent}
 use Rattle.theory_files.specs.Seasons.{back, forth, old-first, new-size, old-size, old-taken, new-taken, new-refused, old-turned-away, new-turned-away}
 use Rattle.answers.specs.declared.Group.{Group}
@@ -38,7 +38,7 @@ pub record Converts (to undo : List ℕ → Reading (List ℕ)) (f o : List ℕ)
   -- they are in front of the buffer, which keeps the rest; a refusal changes no byte
   pub lent : o′ ≡ fileLent (to f) o
   -- "goes back to the identical old bytes": what is written is turned into the identical file by the other way
-  pub undone : (n : ℕ) → writtenShown r ≡ wrote n → undo (take n o′) ≡ accepted f
+  pub undone : (n : ℕ) → writtenShown r ≡ said (wrote n) → undo (take n o′) ≡ accepted f
 
 -- ---- the way by the layout that is read
 abbrev pub turnBy : (shifts : Bool) → List ℕ → Reading (List ℕ)

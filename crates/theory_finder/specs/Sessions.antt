@@ -31,7 +31,9 @@ use Rattle.model_desk.specs.Compare as C
 use Rattle.model.specs.Blocking.{blocks, someBlocks, topBlocking}
 use Rattle.model_changes.specs.Changes.{joined, joinOn, departed, leaveOn, carried}
 use Rattle.model_desk.specs.Desk as D
-use Rattle.model_desk.specs.Desk.{Held, Call, Answer, NoneKind, opening, stateRefusal, answerOf, deskAfter}
+use Rattle.model_desk.specs.Desk.{Held, Topic, finds, judges, compares, proposes, bounds, Call, Answer, NoneKind, Level, Said, said, opening, stateRefusal}
+use Rattle.model_desk.specs.Desk.{answerOf, deskAfter}
+use Rattle.model_desk.specs.DeskCases.{partWith}
 use Rattle.theory_verdict.specs.LemmaX.{swapped}
 use Rattle.theory_verdict.specs.Search.{arc, layer, trace, terminal, directs, aloneAt, loopAt, pathAt, levels, search, rivalEdges}
 use Rattle.theory_verdict.specs.Rival.{rivalOf}
@@ -70,30 +72,48 @@ abbrev noneCode : NoneKind → List ℕ
 noneCode (D.left n) = 1 ∷ n ∷ []
 noneCode (D.rivalled v) = 2 ∷ voteCode v
 
-abbrev code : Answer → List ℕ
-code (D.refused n g) = 1 ∷ n ∷ groupCode g ∷ []
-code D.loaded = 2 ∷ []
-code (D.wrote n) = 3 ∷ n ∷ []
-code (D.plan n) = 4 ∷ n ∷ []
-code (D.none n k) = 5 ∷ n ∷ noneCode k
-code D.strong = 6 ∷ []
-code (D.popular v) = 7 ∷ voteCode v
-code (D.beaten v) = 8 ∷ voteCode v
-code (D.votes v w x p) = 9 ∷ voteCode v ++ (voteCode w ++ winnerCode x ∷ partCode p)
-code (D.refusedPart n g p) = 10 ∷ n ∷ groupCode g ∷ partCode p
-code (D.blockedBy s t k) = 11 ∷ s ∷ t ∷ k ∷ []
-code D.unblocked = 12 ∷ []
-code (D.bothVotes v w) = 13 ∷ voteCode v ++ voteCode w
-code D.committed = 14 ∷ []
-code (D.leastVote v n) = 15 ∷ n ∷ voteCode v
+abbrev levelCode : Level → ℕ
+levelCode D.bare = 0
+levelCode D.aRoster = 1
+levelCode D.aPlan = 2
+levelCode D.aProposal = 3
 
--- ---- a session: each call with its answer, from what is held on
+abbrev code : {k : Topic} → Said k → List ℕ
+code D.loaded = []
+code (D.wrote n) = n ∷ []
+code (D.plan n) = 1 ∷ n ∷ []
+code (D.none n k) = 2 ∷ n ∷ noneCode k
+code D.strong = 1 ∷ []
+code (D.popular v) = 2 ∷ voteCode v
+code (D.beaten v) = 3 ∷ voteCode v
+code (D.votes v w x) = winnerCode x ∷ voteCode v ++ voteCode w
+code (D.blockedBy s t k) = s ∷ t ∷ k ∷ []
+code D.unblocked = []
+code (D.bothVotes v w) = voteCode v ++ voteCode w
+code D.committed = []
+code (D.leastVote v n) = n ∷ voteCode v
+code (D.holding x) = levelCode x ∷ []
+
+abbrev answerCode : {k : Topic} → Answer k → List ℕ
+answerCode (D.refused n g) = 0 ∷ n ∷ groupCode g ∷ []
+answerCode (said x) = 1 ∷ code x
+
+-- ---- a session: each call with its answer, a comparison's with the part that it hands back, from what is held on
+pub data Turn : Type 0 where
+  gives : {k : Topic} → Call k → Answer k → Turn
+  hands : Call compares → Answer compares → Part → Turn
+
 abbrev Session : Type 0
-Session = List (Call × Answer)
+Session = List Turn
+
+abbrev same : {k : Topic} → (a b : Answer k) → Bool
+same a b = sameBytes (answerCode a) (answerCode b)
 
 abbrev holds : Held → Session → Bool
 holds h [] = true
-holds h ((c, a) ∷ s) = sameBytes (code (answerOf chosen h c)) (code a) && holds (deskAfter h c) s
+holds h (gives c a ∷ s) = same (answerOf chosen h c) a && holds (deskAfter h c) s
+holds h (hands c a p ∷ s) =
+    same (answerOf chosen h c) a && (sameBytes (partCode (partWith c (answerOf chosen h c))) (partCode p) && holds (deskAfter h c) s)
 
 -- buffers of their sizes, or of others
 abbrev room : ℕ → List ℕ
@@ -102,22 +122,22 @@ room n = replicate n 7
 abbrev records : ℕ → List Record
 records n = replicate n (record { fate = 7; surveyor = 7; stand = 7; shift = 7; rule = 7 })
 
-abbrev find : Call
+abbrev find : Call finds
 find = D.find (records diarySize) (room leftSize) (room planSize) (room planSize)
 
-abbrev join : ℕ → List ℕ → Call
+abbrev join : ℕ → List ℕ → Call finds
 join q list = D.join q list (records diarySize) (room leftSize) (room planSize) (room planSize)
 
-abbrev leave : ℕ → Call
+abbrev leave : ℕ → Call finds
 leave s = D.leave s (records diarySize) (room leftSize) (room planSize) (room planSize)
 
-abbrev judge : Call
+abbrev judge : Call judges
 judge = D.judge (room planSize) (room pairingSize)
 
-abbrev compare : (first second : List ℕ) → Call
+abbrev compare : (first second : List ℕ) → Call compares
 compare a b = D.compare a b (room pairingSize) (room pairingSize)
 
-abbrev propose : List ℕ → Call
+abbrev propose : List ℕ → Call proposes
 propose a = D.propose a (room pairingSize) (room pairingSize)
 
 abbrev nothingOf : File → Part
@@ -142,85 +162,167 @@ five = bytes "5 1 1 1 1 1 5 1 1 1 1 1 5 0 1 1 1 1 2 1 1 3 1 1 4 1 1 5 1 5 0 1 0 
 -- 13 before 14 and 15, for every call but a roster's load; then 14 before 15; then 15
 abbrev states : Session
 states =
-    (D.loadPlan (bytes "0"), D.refused 13 desk) ∷ (D.writeRosterTo [], D.refused 13 desk) ∷ (D.writePlanTo [], D.refused 13 desk)
-    ∷ (D.find [] [] [] [], D.refused 13 desk) ∷ (D.join 9 [] [] [] [] [], D.refused 13 desk) ∷ (D.leave 0 [] [] [] [], D.refused 13 desk)
-    ∷ (D.judge [] [], D.refused 13 desk) ∷ (D.blocking, D.refused 13 desk) ∷ (D.spread [], D.refused 13 desk)
-    ∷ (D.compare (bytes "65") (bytes "0") [] [], D.refusedPart 13 desk (nothingOf firstFile))
-    ∷ (D.loadRoster sample, D.loaded) ∷ (D.compare (bytes "65") (bytes "0") (room 255) (room pairingSize), D.refusedPart 15 desk (nothingOf firstFile))
-    ∷ (D.compare (bytes "65") (bytes "0") (room pairingSize) (room 255), D.refusedPart 15 desk (nothingOf firstFile))
-    ∷ (D.writePlanTo [], D.refused 14 desk) ∷ (D.judge [] [], D.refused 14 desk) ∷ (D.blocking, D.refused 14 desk) ∷ (D.spread [], D.refused 14 desk)
-    ∷ (D.writeRosterTo (room 4261), D.refused 15 desk) ∷ (D.find (records 1023) (room leftSize) (room planSize) (room planSize), D.refused 15 desk)
-    ∷ (D.find (records diarySize) (room 3071) (room planSize) (room planSize), D.refused 15 desk)
-    ∷ (D.join 9 [] (records diarySize) (room leftSize) (room 192) (room planSize), D.refused 15 desk)
-    ∷ (D.leave 0 (records diarySize) (room leftSize) (room planSize) (room 192), D.refused 15 desk)
-    ∷ (D.loadPlan (bytes "1 1 1 1"), D.loaded) ∷ (D.judge (room 192) (room pairingSize), D.refused 15 desk)
-    ∷ (D.judge (room planSize) (room 255), D.refused 15 desk) ∷ (D.writePlanTo (room 192), D.refused 15 desk) ∷ (D.spread (room 63), D.refused 15 desk) ∷ []
+    gives (D.loadPlan (bytes "0")) (D.refused 13 desk)
+    ∷ gives (D.writeRosterTo []) (D.refused 13 desk)
+    ∷ gives (D.writePlanTo []) (D.refused 13 desk)
+    ∷ gives (D.find [] [] [] []) (D.refused 13 desk)
+    ∷ gives (D.join 9 [] [] [] [] []) (D.refused 13 desk)
+    ∷ gives (D.leave 0 [] [] [] []) (D.refused 13 desk)
+    ∷ gives (D.judge [] []) (D.refused 13 desk)
+    ∷ gives D.blocking (D.refused 13 desk)
+    ∷ gives (D.spread []) (D.refused 13 desk)
+    ∷ hands (D.compare (bytes "65") (bytes "0") [] []) (D.refused 13 desk) (nothingOf firstFile)
+    ∷ gives (D.loadRoster sample) (said D.loaded)
+    ∷ hands (D.compare (bytes "65") (bytes "0") (room 255) (room pairingSize)) (D.refused 15 desk) (nothingOf firstFile)
+    ∷ hands (D.compare (bytes "65") (bytes "0") (room pairingSize) (room 255)) (D.refused 15 desk) (nothingOf firstFile)
+    ∷ gives (D.writePlanTo []) (D.refused 14 desk)
+    ∷ gives (D.judge [] []) (D.refused 14 desk)
+    ∷ gives D.blocking (D.refused 14 desk)
+    ∷ gives (D.spread []) (D.refused 14 desk)
+    ∷ gives (D.writeRosterTo (room 4261)) (D.refused 15 desk)
+    ∷ gives (D.find (records 1023) (room leftSize) (room planSize) (room planSize)) (D.refused 15 desk)
+    ∷ gives (D.find (records diarySize) (room 3071) (room planSize) (room planSize)) (D.refused 15 desk)
+    ∷ gives (D.join 9 [] (records diarySize) (room leftSize) (room 192) (room planSize)) (D.refused 15 desk)
+    ∷ gives (D.leave 0 (records diarySize) (room leftSize) (room planSize) (room 192)) (D.refused 15 desk)
+    ∷ gives (D.loadPlan (bytes "1 1 1 1")) (said D.loaded)
+    ∷ gives (D.judge (room 192) (room pairingSize)) (D.refused 15 desk)
+    ∷ gives (D.judge (room planSize) (room 255)) (D.refused 15 desk)
+    ∷ gives (D.writePlanTo (room 192)) (D.refused 15 desk)
+    ∷ gives (D.spread (room 63)) (D.refused 15 desk) ∷ []
 
 -- a morning: refused loads leave roster and plan, a roster drops the plan, the looks in between leave the desk alike
 abbrev morning : Session
 morning =
-    (D.loadRoster (bytes "1 9"), D.refused 3 content) ∷ (D.loadRoster sample, D.loaded) ∷ (find, D.plan 2) ∷ (D.loadPlan (bytes "1 2 1 1"), D.loaded)
-    ∷ (D.blocking, D.blockedBy 1 1 1) ∷ (D.loadPlan (bytes "1 3 1 1"), D.refused 10 plan) ∷ (D.blocking, D.blockedBy 1 1 1)
-    ∷ (D.loadRoster (bytes "33"), D.refused 2 form) ∷ (judge, D.beaten (negsuc 0)) ∷ (D.loadPlan (bytes "1 1 1 1"), D.loaded) ∷ (judge, D.strong)
-    ∷ (D.blocking, D.unblocked) ∷ (D.writePlanTo (room planSize), D.wrote 4) ∷ (D.writeRosterTo (room rosterSize), D.wrote 21)
-    ∷ (compare (bytes "1 1 1 1") (bytes "1 2 1 1"), D.votes (pos 1) (negsuc 0) C.first (pairsOf firstFile (bytes "1 1 1")))
-    ∷ (compare (bytes "1 2 1 1") (bytes "1 1 1 1"), D.votes (negsuc 0) (pos 1) C.second (pairsOf secondFile (bytes "1 1 1")))
-    ∷ (compare (bytes "0") (bytes "0"), D.votes (pos 0) (pos 0) C.neither (nothingOf firstFile))
-    ∷ (compare (bytes "1 3 1 1") (bytes "65"), D.refusedPart 10 plan (nothingOf firstFile))
-    ∷ (compare (bytes "0") (bytes "65"), D.refusedPart 2 form (nothingOf firstFile))
-    ∷ (judge, D.strong) ∷ (D.loadRoster tied, D.loaded) ∷ (judge, D.refused 14 desk) ∷ (find, D.none 2 (D.rivalled (pos 0)))
-    ∷ (D.loadPlan (bytes "1 1 1 1"), D.loaded) ∷ (judge, D.popular (pos 0)) ∷ []
+    gives (D.loadRoster (bytes "1 9")) (D.refused 3 content)
+    ∷ gives (D.loadRoster sample) (said D.loaded)
+    ∷ gives find (said (D.plan 2))
+    ∷ gives (D.loadPlan (bytes "1 2 1 1")) (said D.loaded)
+    ∷ gives D.blocking (said (D.blockedBy 1 1 1))
+    ∷ gives (D.loadPlan (bytes "1 3 1 1")) (D.refused 10 plan)
+    ∷ gives D.blocking (said (D.blockedBy 1 1 1))
+    ∷ gives (D.loadRoster (bytes "33")) (D.refused 2 form)
+    ∷ gives judge (said (D.beaten (negsuc 0)))
+    ∷ gives (D.loadPlan (bytes "1 1 1 1")) (said D.loaded)
+    ∷ gives judge (said D.strong)
+    ∷ gives D.blocking (said D.unblocked)
+    ∷ gives (D.writePlanTo (room planSize)) (said (D.wrote 4))
+    ∷ gives (D.writeRosterTo (room rosterSize)) (said (D.wrote 21))
+    ∷ hands (compare (bytes "1 1 1 1") (bytes "1 2 1 1")) (said (D.votes (pos 1) (negsuc 0) C.first)) (pairsOf firstFile (bytes "1 1 1"))
+    ∷ hands (compare (bytes "1 2 1 1") (bytes "1 1 1 1")) (said (D.votes (negsuc 0) (pos 1) C.second)) (pairsOf secondFile (bytes "1 1 1"))
+    ∷ hands (compare (bytes "0") (bytes "0")) (said (D.votes (pos 0) (pos 0) C.neither)) (nothingOf firstFile)
+    ∷ hands (compare (bytes "1 3 1 1") (bytes "65")) (D.refused 10 plan) (nothingOf firstFile)
+    ∷ hands (compare (bytes "0") (bytes "65")) (D.refused 2 form) (nothingOf firstFile)
+    ∷ gives judge (said D.strong)
+    ∷ gives (D.loadRoster tied) (said D.loaded)
+    ∷ gives judge (D.refused 14 desk)
+    ∷ gives find (said (D.none 2 (D.rivalled (pos 0))))
+    ∷ gives (D.loadPlan (bytes "1 1 1 1")) (said D.loaded)
+    ∷ gives judge (said (D.popular (pos 0))) ∷ []
 
 -- votes of two digits, with a minus sign
 abbrev digits : Session
 digits =
-    (D.loadRoster five, D.loaded)
-    ∷ (
-      compare (bytes "0") (bytes "5 1 1 1 2 2 1 3 3 1 4 4 1 5 5 1"),
-      D.votes (negsuc 9) (pos 10) C.second (pairsOf secondFile (bytes "1 1 1 2 2 1 3 3 1 4 4 1 5 5 1")),
-    ) ∷ []
+    gives (D.loadRoster five) (said D.loaded)
+    ∷ hands (compare (bytes "0") (bytes "5 1 1 1 2 2 1 3 3 1 4 4 1 5 5 1")) (said (D.votes (negsuc 9) (pos 10) C.second))
+    (pairsOf secondFile (bytes "1 1 1 2 2 1 3 3 1 4 4 1 5 5 1")) ∷ []
 
 -- in the field: the plan loses the leaver's pairs, a second leaving changes nothing, refused changes leave the desk
 abbrev field : Session
 field =
-    (D.loadRoster sample, D.loaded) ∷ (D.loadPlan (bytes "1 1 1 1"), D.loaded) ∷ (join 9 [], D.refused 3 content)
-    ∷ (join 1 (bytes "1 1 4"), D.refused 18 content) ∷ (leave 3, D.refused 16 content) ∷ (judge, D.strong) ∷ (leave 1, D.plan 1)
-    ∷ (judge, D.beaten (negsuc 1)) ∷ (leave 1, D.plan 1) ∷ (D.writePlanTo (room planSize), D.wrote 1) ∷ (join 1 (bytes "1 1 3"), D.plan 2)
-    ∷ (D.loadPlan (bytes "1 3 1 3"), D.loaded) ∷ (D.blocking, D.blockedBy 2 1 1) ∷ []
+    gives (D.loadRoster sample) (said D.loaded)
+    ∷ gives (D.loadPlan (bytes "1 1 1 1")) (said D.loaded)
+    ∷ gives (join 9 []) (D.refused 3 content)
+    ∷ gives (join 1 (bytes "1 1 4")) (D.refused 18 content)
+    ∷ gives (leave 3) (D.refused 16 content)
+    ∷ gives judge (said D.strong)
+    ∷ gives (leave 1) (said (D.plan 1))
+    ∷ gives judge (said (D.beaten (negsuc 1)))
+    ∷ gives (leave 1) (said (D.plan 1))
+    ∷ gives (D.writePlanTo (room planSize)) (said (D.wrote 1))
+    ∷ gives (join 1 (bytes "1 1 3")) (said (D.plan 2))
+    ∷ gives (D.loadPlan (bytes "1 3 1 3")) (said D.loaded)
+    ∷ gives D.blocking (said (D.blockedBy 2 1 1)) ∷ []
 
 -- a plan proposed and committed: refused calls and a second leaving leave the proposal open, and what is written is the plan that is held
 abbrev proposals : Session
 proposals =
-    (D.commit, D.refused 13 desk) ∷ (D.propose [] [] [], D.refused 13 desk) ∷ (D.loadRoster shared, D.loaded) ∷ (D.commit, D.refused 14 desk)
-    ∷ (propose (bytes "1 1 1 1"), D.refused 14 desk) ∷ (D.loadPlan (bytes "1 1 1 1"), D.loaded) ∷ (D.commit, D.refused 20 desk)
-    ∷ (propose (bytes "2 1 1 1 2 1 1"), D.bothVotes (pos 2) (negsuc 1)) ∷ (propose (bytes "9"), D.refused 1 form)
-    ∷ (D.writePlanTo (room planSize), D.wrote 4) ∷ (D.commit, D.committed) ∷ (D.writePlanTo (room planSize), D.wrote 7) ∷ (D.commit, D.refused 20 desk)
-    ∷ (leave 2, D.plan 1) ∷ (propose (bytes "0"), D.bothVotes (negsuc 1) (pos 2)) ∷ (leave 2, D.plan 1) ∷ (join 9 [], D.refused 3 content)
-    ∷ (D.writePlanTo (room planSize), D.wrote 4) ∷ (D.commit, D.committed) ∷ (D.writePlanTo (room planSize), D.wrote 1) ∷ []
+    gives D.commit (D.refused 13 desk)
+    ∷ gives (D.propose [] [] []) (D.refused 13 desk)
+    ∷ gives (D.loadRoster shared) (said D.loaded)
+    ∷ gives D.commit (D.refused 14 desk)
+    ∷ gives (propose (bytes "1 1 1 1")) (D.refused 14 desk)
+    ∷ gives (D.loadPlan (bytes "1 1 1 1")) (said D.loaded)
+    ∷ gives D.commit (D.refused 20 desk)
+    ∷ gives (propose (bytes "2 1 1 1 2 1 1")) (said (D.bothVotes (pos 2) (negsuc 1)))
+    ∷ gives (propose (bytes "9")) (D.refused 1 form)
+    ∷ gives (D.writePlanTo (room planSize)) (said (D.wrote 4))
+    ∷ gives D.commit (said D.committed)
+    ∷ gives (D.writePlanTo (room planSize)) (said (D.wrote 7))
+    ∷ gives D.commit (D.refused 20 desk)
+    ∷ gives (leave 2) (said (D.plan 1))
+    ∷ gives (propose (bytes "0")) (said (D.bothVotes (negsuc 1) (pos 2)))
+    ∷ gives (leave 2) (said (D.plan 1))
+    ∷ gives (join 9 []) (D.refused 3 content)
+    ∷ gives (D.writePlanTo (room planSize)) (said (D.wrote 4))
+    ∷ gives D.commit (said D.committed)
+    ∷ gives (D.writePlanTo (room planSize)) (said (D.wrote 1)) ∷ []
 
 -- the foreman's sheet (W-209): the number of the held plan's entries, whatever is proposed beside it; a plan with none has none
 abbrev sheets : Session
 sheets =
-    (D.loadRoster shared, D.loaded) ∷ (D.loadPlan (bytes "2 1 1 1 2 1 1"), D.loaded) ∷ (D.spread (room daySize), D.wrote 2)
-    ∷ (propose (bytes "0"), D.bothVotes (negsuc 3) (pos 4)) ∷ (D.spread (room 100), D.wrote 2) ∷ (D.commit, D.committed)
-    ∷ (D.spread (room daySize), D.wrote 0) ∷ (leave 1, D.plan 1) ∷ (D.spread (room daySize), D.wrote 0)
-    ∷ (D.loadRoster (bytes "33"), D.refused 2 form) ∷ (D.spread (room daySize), D.wrote 0) ∷ (D.loadRoster shared, D.loaded)
-    ∷ (D.spread (room daySize), D.refused 14 desk) ∷ []
+    gives (D.loadRoster shared) (said D.loaded)
+    ∷ gives (D.loadPlan (bytes "2 1 1 1 2 1 1")) (said D.loaded)
+    ∷ gives (D.spread (room daySize)) (said (D.wrote 2))
+    ∷ gives (propose (bytes "0")) (said (D.bothVotes (negsuc 3) (pos 4)))
+    ∷ gives (D.spread (room 100)) (said (D.wrote 2))
+    ∷ gives D.commit (said D.committed)
+    ∷ gives (D.spread (room daySize)) (said (D.wrote 0))
+    ∷ gives (leave 1) (said (D.plan 1))
+    ∷ gives (D.spread (room daySize)) (said (D.wrote 0))
+    ∷ gives (D.loadRoster (bytes "33")) (D.refused 2 form)
+    ∷ gives (D.spread (room daySize)) (said (D.wrote 0))
+    ∷ gives (D.loadRoster shared) (said D.loaded)
+    ∷ gives (D.spread (room daySize)) (D.refused 14 desk) ∷ []
 
 -- rankings not yet settled (W-211): 13, 15, then the plans and the ranges; the least vote over the ranges, and the ordinary one where they are settled
-abbrev least : (ranges : List ℕ) → Call
+abbrev least : (ranges : List ℕ) → Call bounds
 least ranges = D.least (bytes "1 1 1 1") (bytes "1 2 1 1") ranges (room choiceSize)
 
 abbrev unsettled : Session
 unsettled =
-    (D.least [] [] [] [], D.refused 13 desk) ∷ (D.loadRoster sample, D.loaded) ∷ (D.least [] [] [] (room 2047), D.refused 15 desk)
-    ∷ (D.least (bytes "1 3 1 1") [] [] (room choiceSize), D.refused 10 plan) ∷ (D.least (bytes "0") (bytes "65") [] (room choiceSize), D.refused 2 form)
-    ∷ (least (bytes "1 2 1 1 1 4 2"), D.refused 1 form) ∷ (least (bytes "1 2 1 1 5 4 2 3 1"), D.refused 21 content)
-    ∷ (least (bytes "1 2 1 1 1 4 2 3 1"), D.refused 9 form) ∷ (least (bytes "1 2 1 1 1 4 2 3"), D.leastVote (negsuc 0) 4)
-    ∷ (least (bytes "1 1 1 1 1 1 2 2"), D.leastVote (pos 1) 4) ∷ (least (bytes "1 32 1 32 3 3 3 3"), D.leastVote (pos 0) 4)
-    ∷ (judge, D.refused 14 desk) ∷ []
+    gives (D.least [] [] [] []) (D.refused 13 desk)
+    ∷ gives (D.loadRoster sample) (said D.loaded)
+    ∷ gives (D.least [] [] [] (room 2047)) (D.refused 15 desk)
+    ∷ gives (D.least (bytes "1 3 1 1") [] [] (room choiceSize)) (D.refused 10 plan)
+    ∷ gives (D.least (bytes "0") (bytes "65") [] (room choiceSize)) (D.refused 2 form)
+    ∷ gives (least (bytes "1 2 1 1 1 4 2")) (D.refused 1 form)
+    ∷ gives (least (bytes "1 2 1 1 5 4 2 3 1")) (D.refused 21 content)
+    ∷ gives (least (bytes "1 2 1 1 1 4 2 3 1")) (D.refused 9 form)
+    ∷ gives (least (bytes "1 2 1 1 1 4 2 3")) (said (D.leastVote (negsuc 0) 4))
+    ∷ gives (least (bytes "1 1 1 1 1 1 2 2")) (said (D.leastVote (pos 1) 4))
+    ∷ gives (least (bytes "1 32 1 32 3 3 3 3")) (said (D.leastVote (pos 0) 4))
+    ∷ gives judge (D.refused 14 desk) ∷ []
 
-pub sessions : all? (holds opening) (states ∷ morning ∷ digits ∷ field ∷ proposals ∷ sheets ∷ unsettled ∷ []) ≡ true
+-- what is held, from call to call; and the proposal's bytes, which are those that a commit makes the plan's
+abbrev kept : Session
+kept =
+    gives D.holds (said (D.holding D.bare))
+    ∷ gives (D.writeProposalTo []) (D.refused 13 desk)
+    ∷ gives (D.loadRoster shared) (said D.loaded)
+    ∷ gives D.holds (said (D.holding D.aRoster))
+    ∷ gives (D.writeProposalTo []) (D.refused 14 desk)
+    ∷ gives (D.loadPlan (bytes "1 1 1 1")) (said D.loaded)
+    ∷ gives D.holds (said (D.holding D.aPlan))
+    ∷ gives (D.writeProposalTo []) (D.refused 20 desk)
+    ∷ gives (propose (bytes "2 1 1 1 2 1 1")) (said (D.bothVotes (pos 2) (negsuc 1)))
+    ∷ gives D.holds (said (D.holding D.aProposal))
+    ∷ gives (D.writeProposalTo (room 192)) (D.refused 15 desk)
+    ∷ gives (D.writeProposalTo (room planSize)) (said (D.wrote 7))
+    ∷ gives D.commit (said D.committed)
+    ∷ gives D.holds (said (D.holding D.aPlan))
+    ∷ gives (D.writePlanTo (room planSize)) (said (D.wrote 7)) ∷ []
+
+pub sessions : all? (holds opening) (states ∷ morning ∷ digits ∷ field ∷ proposals ∷ sheets ∷ unsettled ∷ kept ∷ []) ≡ true
 unfolding numbersFrom count low groupOf listed listedBack bothOrNeither readEach readRosterBy writeRosterBy position edgesOf instanceOf deg nodeVote
     vote choices within plansOf samePlan beatenBy drawnWith verdictOf R.cut R.ahead R.arrow R.loose R.reserved R.betterS R.betterT R.worseReserved
     R.rule1 R.rule2 R.rule3 R.rule4 R.rule5 R.rule6 R.rule7 first Option·elim orElse R.rules R.stepBy R.firstStep R.act R.begin R.stepsFrom R.stateAfter

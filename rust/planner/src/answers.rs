@@ -40,6 +40,26 @@ pub struct Comparison<'a> {
     pub part: &'a [u8],
 }
 
+/// What a desk holds, each with what comes before it.
+#[derive(Clone, Copy, Debug, PartialEq, Eq, PartialOrd, Ord)]
+pub enum Holding {
+    Nothing,
+    Roster,
+    Plan,
+    Proposal,
+}
+
+/// What a desk holds, by its number.
+pub(crate) fn holding(number: u8) -> Holding {
+    match number {
+        0 => Holding::Nothing,
+        1 => Holding::Roster,
+        2 => Holding::Plan,
+        3 => Holding::Proposal,
+        _ => unreachable!("0 to 3"),
+    }
+}
+
 /// The votes of a proposal and the held plan.
 #[derive(Clone, Copy, Debug, PartialEq, Eq)]
 pub struct ProposalVotes {

@@ -3,7 +3,7 @@
 //! value and comes back; the calls that only look at it hand the same desk back,
 //! which is asserted in builds with debug assertions.
 
-use crate::answers::{self, Comparison, Found, Least, ProposalVotes, Verdict};
+use crate::answers::{self, Comparison, Found, Holding, Least, ProposalVotes, Verdict};
 use crate::ffi;
 use crate::layout::{Desk, Step};
 use crate::refusal::{self, Refusal};
@@ -90,6 +90,22 @@ impl Desk {
     pub fn write_plan(&self, out: &mut [u8]) -> Result<usize, Refusal> {
         let reply = unsafe { ffi::crew_write_plan(self.clone(), out.as_mut_ptr(), out.len()) };
         self.written(&reply)
+    }
+
+    /// Writes the open proposal to the front of `out`, which needs
+    /// [`crate::PLAN_BYTES`], and gives its length; it stays open. On a refusal no
+    /// byte changes.
+    pub fn write_proposal(&self, out: &mut [u8]) -> Result<usize, Refusal> {
+        let reply = unsafe { ffi::crew_write_proposal(self.clone(), out.as_mut_ptr(), out.len()) };
+        self.written(&reply)
+    }
+
+    /// What the desk holds: nothing, a roster, a plan with it, or a proposal beside
+    /// both.
+    pub fn holds(&self) -> Holding {
+        let reply = unsafe { ffi::crew_holds(self.clone()) };
+        debug_assert!(*self == reply.desk);
+        answers::holding(reply.holds)
     }
 
     /// Spreads the held plan over days: writes a day for each entry, in the plan's

@@ -14,7 +14,7 @@ use change::Change;
 use common::{check_written, damage, held_by, junk, length, number, season_plan, shape, Met};
 use found::check_rival;
 use lent::{check_days, check_ranks, only_front, ranges_file, Buffers, Pairings, SIZES};
-use planner::{Desk, Verdict};
+use planner::{Desk, Holding, Verdict};
 use reference::desk::Desk as Held;
 use reference::limits::PAIR_FIELD;
 use reference::plan::{self, Plan};
@@ -104,6 +104,28 @@ fn write_plan(random: &mut Random, desk: &Desk, held: &Held) -> u8 {
     };
     check_written(answer, expected, &before, &out);
     number(&answer)
+}
+
+fn write_proposal(random: &mut Random, desk: &Desk, held: &Held) -> u8 {
+    let before = buffer(random, planner::PLAN_BYTES);
+    let mut out = before.clone();
+    let answer = desk.write_proposal(&mut out);
+    let proposal = held
+        .proposal()
+        .and_then(|open| Ok(plan::write(held.roster()?, open)));
+    let expected = match proposal {
+        Err(refusal) => Err(refusal.number()),
+        Ok(_) if before.len() < planner::PLAN_BYTES => Err(15),
+        Ok(bytes) => Ok(bytes),
+    };
+    check_written(answer, expected, &before, &out);
+    number(&answer)
+}
+
+/// What is held, which is never refused.
+fn holds(desk: &Desk, held: &Held) -> u8 {
+    assert_eq!(desk.holds() as u8, held.holds());
+    0
 }
 
 /// The days of the held plan.
@@ -301,7 +323,7 @@ fn calls_one_after_another() {
         let mut desk = Desk::open();
         let mut held = Held::Nothing;
         for _ in 0..random.below(26) {
-            let refusal = match random.below(16) {
+            let refusal = match random.below(18) {
                 0 => write_roster(&mut random, &desk, &held),
                 1 => write_plan(&mut random, &desk, &held),
                 2 => judge(&mut random, &desk, &held),
@@ -310,6 +332,8 @@ fn calls_one_after_another() {
                 5 => turn_plan(&mut random, &desk, &held),
                 6 => spread(&mut random, &desk, &held),
                 7 => least(&mut random, &desk, &held),
+                8 => write_proposal(&mut random, &desk, &held),
+                9 => holds(&desk, &held),
                 _ => take(&mut random, &mut desk, &held),
             };
             met.count(refusal);
@@ -331,6 +355,8 @@ fn a_new_desk_has_nothing_loaded() {
     let mut out = [0; planner::ROSTER_BYTES];
     assert_eq!(number(&desk.write_roster(&mut out)), 13);
     assert_eq!(number(&desk.write_plan(&mut out[..1])), 13);
+    assert_eq!(number(&desk.write_proposal(&mut out[..1])), 13);
+    assert_eq!(desk.holds(), Holding::Nothing);
     assert_eq!(number(&desk.spread(&mut out[..1])), 13);
     assert_eq!(number(&desk.judge(&mut out[..1], &mut [0])), 13);
     assert_eq!(number(&desk.blocking()), 13);

@@ -224,6 +224,26 @@ impl Desk {
         (self, answer)
     }
 
+    /// Writes the open proposal and tells its length.
+    pub fn write_proposal(self, out: &mut [u8]) -> (Desk, Result<usize, Refusal>) {
+        let answer = self.proposal().and_then(|proposal| {
+            enough(out.len(), MAX_PLAN_BYTES)?;
+            Ok(put(out, &plan::write(self.roster()?, proposal)))
+        });
+        (self, answer)
+    }
+
+    /// How much is held: 0 nothing, 1 a roster, 2 a plan with it, 3 a proposal
+    /// beside both.
+    pub fn holds(&self) -> u8 {
+        match self {
+            Desk::Nothing => 0,
+            Desk::Roster(_) => 1,
+            Desk::RosterAndPlan(..) => 2,
+            Desk::WithProposal { .. } => 3,
+        }
+    }
+
     /// Writes a day for each entry of the held plan and tells their number.
     pub fn spread(self, out: &mut [u8]) -> (Desk, Result<usize, Refusal>) {
         let answer = self.roster_and_plan().and_then(|(roster, held)| {

@@ -183,6 +183,32 @@ fn comparison_and_blocking() {
 }
 
 #[test]
+fn the_open_proposal_is_written() {
+    let mut out = [JUNK; MAX_PLAN_BYTES];
+    let held = desk_with_plan(P4, &[1, 1, 1, 1]);
+    let kept = [Desk::default().holds(), desk(P4).holds(), held.holds()];
+    assert_eq!(kept, [0, 1, 2]);
+    let refused = |desk: Desk, out: &mut [u8]| desk.write_proposal(out).1.err();
+    let nothing = refused(Desk::default(), &mut []);
+    assert_eq!(nothing, Some(Refusal::NoRosterLoaded));
+    assert_eq!(refused(desk(P4), &mut []), Some(Refusal::NoPlanHeld));
+    assert_eq!(
+        refused(held.clone(), &mut []),
+        Some(Refusal::NoProposalOpen)
+    );
+    let mut pairings = Pairings::new([MAX_PAIRING_BYTES; 2]);
+    let (open, _) = held.propose(&[1, 2, 1, 1], pairings.lend());
+    assert_eq!(open.holds(), 3);
+    let short = refused(open.clone(), &mut out[..MAX_PLAN_BYTES - 1]);
+    assert_eq!(short, Some(Refusal::BufferTooSmall));
+    assert!(out.iter().all(|&byte| byte == JUNK));
+    let (after, count) = open.clone().write_proposal(&mut out);
+    assert_eq!((after, count), (open, Ok(4)));
+    assert_eq!(out[..4], [1, 2, 1, 1]);
+    assert!(out[4..].iter().all(|&byte| byte == JUNK));
+}
+
+#[test]
 fn days_are_written() {
     let mut days = [JUNK; MAX_DAY_BYTES + 2];
     // the stand has both entries, so on two days; which comes first is open

@@ -1,9 +1,7 @@
 -- `desk_queries::compare_votes` meets its contract. Assumes nothing.
 use mathlib.Core.Path.{ap}
 use Rattle.model.specs.Limits.{pairingSize}
-use Rattle.model.specs.Refusal.{Group}
-use Rattle.model_desk.specs.Compare.{winnerPart, neither}
-use Rattle.model_desk.specs.Desk.{compare, refusedPart}
+use Rattle.model_desk.specs.Desk.{compare, refused}
 use Rattle.desk_files.specs.State.{by-state, state-is, arrays-are, both-long}
 use Rattle.desk_queries.specs.Calls.{compare-reply}
 use borrow.Author.Needs.{needs}
@@ -16,7 +14,7 @@ returns c =
     let l = c .before .before .loaded in
     by-state (d .files) (compare (d .first .now) (d .second .now) (d .forward .now) (d .back .now)) tt tt (state-is (d .files) (l .ensures))
     (c .before .if1 .taken)
-    (ap (λ (k : Group). refusedPart (l .result .refusal) k (winnerPart neither (d .first .now) (d .second .now))) (c .group-of .ensures))
+    (ap (refused (l .result .refusal)) (c .group-of .ensures))
 
 compare-requires : tie.Need-compare-requires
 compare-requires c κs =

@@ -5,7 +5,7 @@
 // Every test file compiles this module for itself and uses its part of it.
 #![allow(dead_code)]
 
-use planner::{Refusal, Step, Verdict};
+use planner::{Holding, Refusal, Step, Verdict};
 use reference::compare::{File, Part, Winner};
 use reference::desk::{Facing, Found, Judged, Lent, NoneKind, Record};
 
@@ -103,6 +103,7 @@ pub trait Calls: Sized {
     fn commit(self) -> (Self, Result<(), u8>);
     fn write_roster(self, out: &mut [u8]) -> (Self, Result<usize, u8>);
     fn write_plan(self, out: &mut [u8]) -> (Self, Result<usize, u8>);
+    fn write_proposal(self, out: &mut [u8]) -> (Self, Result<usize, u8>);
     fn spread(self, out: &mut [u8]) -> (Self, Result<usize, u8>);
     fn plan_to_new(self, file: &[u8], out: &mut [u8]) -> (Self, Result<usize, u8>);
     fn plan_to_old(self, file: &[u8], out: &mut [u8]) -> (Self, Result<usize, u8>);
@@ -113,6 +114,7 @@ pub trait Calls: Sized {
     fn compare(self, first: &[u8], second: &[u8], facing: Facing) -> (Self, Compared);
     fn least(self, files: [&[u8]; 3], out: &mut [u8]) -> (Self, Result<(i16, usize), u8>);
     fn blocking(self) -> (Self, Result<Option<(u8, u8, u8)>, u8>);
+    fn holds(self) -> (Self, u8);
 
     /// The desk's own files, at the front of their arrays: roster, plan, proposal.
     fn files(&self) -> [Vec<u8>; 3];
@@ -154,6 +156,21 @@ impl Calls for Desk {
     fn write_plan(self, out: &mut [u8]) -> (Desk, Result<usize, u8>) {
         let answer = self.0.write_plan(out).map_err(number);
         (self, answer)
+    }
+
+    fn write_proposal(self, out: &mut [u8]) -> (Desk, Result<usize, u8>) {
+        let answer = self.0.write_proposal(out).map_err(number);
+        (self, answer)
+    }
+
+    fn holds(self) -> (Desk, u8) {
+        let holds = match self.0.holds() {
+            Holding::Nothing => 0,
+            Holding::Roster => 1,
+            Holding::Plan => 2,
+            Holding::Proposal => 3,
+        };
+        (self, holds)
     }
 
     fn spread(self, out: &mut [u8]) -> (Desk, Result<usize, u8>) {

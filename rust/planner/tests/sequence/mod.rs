@@ -41,6 +41,8 @@ const CALLS: [&str; 16] = [
     "commit",
     "spread",
     "least",
+    "write proposal",
+    "holds",
 ];
 
 /// How often each call answered and was refused by each number, 0 for none; how
@@ -280,6 +282,25 @@ impl<D: Calls> Desks<D> {
         }
     }
 
+    fn write_proposal(self, tally: &mut Tally, before: &[u8]) -> Desks<D> {
+        let [mut own, mut other] = [before.to_vec(), before.to_vec()];
+        let (ours, answer) = self.ours.write_proposal(&mut own);
+        let (theirs, expected) = self.theirs.write_proposal(&mut other);
+        tally.written(16, (answer, own), (expected, other));
+        Desks {
+            ours,
+            theirs,
+            ..self
+        }
+    }
+
+    fn holds(self, tally: &mut Tally) -> Desks<D> {
+        let (ours, holds) = self.ours.holds();
+        assert_eq!(holds, self.theirs.holds());
+        tally.count(17, 0);
+        Desks { ours, ..self }
+    }
+
     fn spread(self, tally: &mut Tally, before: &[u8]) -> Desks<D> {
         let [mut own, mut other] = [before.to_vec(), before.to_vec()];
         let (ours, answer) = self.ours.spread(&mut own);
@@ -486,7 +507,7 @@ impl<D: Calls> Desks<D> {
 
     /// A random call.
     fn call(self, random: &mut Random, tally: &mut Tally, pool: &Pool) -> Desks<D> {
-        match random.below(29) {
+        match random.below(32) {
             0 | 1 => self.load_roster(tally, pool.roster(random)),
             2..=4 => self.load_plan(tally, pool.plan(random)),
             5 => {
@@ -531,6 +552,11 @@ impl<D: Calls> Desks<D> {
                 let ranges = self.ranges(random);
                 self.least(tally, [first, second, &ranges], &junk(random, size))
             }
+            25 | 26 => {
+                let size = size(random, MAX_PLAN_BYTES);
+                self.write_proposal(tally, &junk(random, size))
+            }
+            27 => self.holds(tally),
             _ => {
                 let change = Change::random(random, &self.theirs);
                 self.change(tally, &change, &buffers(random))
@@ -611,6 +637,8 @@ pub fn run<D: Calls>(mut open: impl FnMut() -> D, seed: u64, sequences: usize, l
         &[0, 13, 14, 20],
         &[0, 13, 14, 15],
         &[&turned[..], &[21]].concat(),
+        &[0, 13, 14, 15, 20],
+        &[0],
     ];
     for (call, numbers) in expected.iter().enumerate() {
         for &number in *numbers {
@@ -633,7 +661,7 @@ fn check_open(tally: &Tally, least: usize) {
         let expected = match *call {
             "load roster" | "load plan" | "join" => [true, false, true],
             "leave" => [true, true, true],
-            "blocking" => [false, true, false],
+            "blocking" | "holds" => [false, true, false],
             "commit" => [false, false, true],
             _ => [true, true, false],
         };

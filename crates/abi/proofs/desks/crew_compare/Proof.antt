@@ -6,7 +6,7 @@ use Rattle.abi.proofs.desks.crew_compare.Statement.{statement}
 use Rattle.abi.proofs.desks.crew_compare.Tie as tie
 
 returns : tie.Need-returns
-returns c = served comparedIn (c .before .before .before .before .before .before .compare-votes .ensures) (c .comparison-numbers .ensures)
+returns c = served (comparedIn _ _) (c .before .before .before .before .before .before .compare-votes .ensures) (c .comparison-numbers .ensures)
 
 pub crew-compare-spec : {M : Type 1} → statement M
 crew-compare-spec = tie.close (tie.spec (λ c κs. search needs) (λ c κs. search needs) (λ c. search needs) (λ c. search needs) returns)

@@ -166,7 +166,7 @@ module _ {M : Type 1} (𝓤 : URA M) (H : Heap 𝓤) (A : Atoms 𝓤) (W : Given
 
   -- of the reply, and of what the buffers hold last
   abbrev Said : CompareReply → (f k : List ℕ) → Type 0
-  Said c f k = Replied (d .files) (compare (F .now) (G .now) (P .now) (R .now)) (comparisonShown (F .now) (G .now) (c .answer))
+  Said c f k = Replied (d .files) (compare (F .now) (G .now) (P .now) (R .now)) (comparisonShown (c .answer))
       (compare (F .now) (G .now) f k) (c .desk .files)
 
   abbrev Part : CompareReply → RefT (List ℕ) → Type 0
