@@ -52,14 +52,14 @@ pub fn first(instance: &Instance, chosen: &Chosen) -> Option<(u8, u8, u8)> {
         held[usize::from(pair)] = true;
     }
     let mut first = None;
-    for surveyor in 0..instance.surveyors {
+    for (surveyor, limit) in at_s.into_iter().enumerate().take(instance.surveyors) {
         let start = usize::from(instance.first[surveyor]);
         let count = instance.listed[surveyor].count_ones() as usize;
-        let mut best = at_s[surveyor];
-        for pair in start..start + count {
+        let mut best = limit;
+        for (pair, &is_held) in (start..).zip(&held[start..start + count]) {
             let stand = usize::from(instance.stand[pair]);
             let welcome = instance.rank_t[pair] < at_t[stand];
-            if instance.rank_s[pair] < best && welcome && !held[pair] {
+            if instance.rank_s[pair] < best && welcome && !is_held {
                 best = instance.rank_s[pair];
                 first = Some(pair as u16);
             }

@@ -1,15 +1,22 @@
 //! The command `rosters` on roster files: what it writes and says, and that nothing
 //! else changes.
 
-mod commands;
 mod common;
 
 use std::ffi::OsStr;
 use std::fs;
 use std::path::Path;
 
-use commands::{files, run, Said, Scratch};
-use common::{root, without_pairs, RANKED, TIED};
+use common::{files, root, run, Said, Scratch};
+
+/// Two surveyors rank one stand, which ranks 1 before 2; and the stand with quota 2,
+/// which ties them.
+const RANKED: [u8; 21] = [
+    2, 1, 1, 1, 1, 2, 0, 1, 1, 1, 1, 1, 1, 2, 0, 2, 0, 1, 1, 2, 1,
+];
+const TIED: [u8; 21] = [
+    2, 1, 1, 1, 2, 2, 0, 1, 1, 1, 1, 1, 1, 2, 0, 0, 2, 1, 1, 2, 1,
+];
 
 fn rosters<S: AsRef<OsStr>>(arguments: &[S]) -> Said {
     run(env!("CARGO_BIN_EXE_rosters"), arguments)
@@ -33,6 +40,13 @@ fn join(folder: &Path, names: [&str; 3]) -> (i32, String) {
     ]);
     let (code, words) = line(said);
     (code, words.replace(&format!("{}/", folder.display()), ""))
+}
+
+/// So many surveyors of one quota, who rank nothing, as a roster's file.
+fn alone(surveyors: u8, quota: u8) -> Vec<u8> {
+    let line = |number| format!("surveyor {number} quota {quota}:\n");
+    let text: String = (1..=surveyors).map(line).collect();
+    rostertext::pack(text.as_bytes()).expect("a text")
 }
 
 fn sample(name: &str) -> Vec<u8> {
@@ -76,8 +90,8 @@ fn districts_are_joined_as_bytes_and_as_text() {
 #[test]
 fn a_refused_file_is_named_with_its_number() {
     let scratch = Scratch::new("refused");
-    let many = without_pairs([&[0; 20], &[]]);
-    let large = without_pairs([&[8; 8], &[]]);
+    let many = alone(20, 0);
+    let large = alone(8, 8);
     let text = "surveyor 1: 1\nstand 1:\n";
     let mut long = RANKED.to_vec();
     long.resize(1_000_000, 0);

@@ -1,5 +1,5 @@
-//! What the tests of the commands share: folders of their own, and what a command
-//! says.
+//! What the tests of the commands share: where the samples are, folders of their
+//! own, and what a command says.
 
 // Every test file compiles this module for itself and uses its part of it.
 #![allow(dead_code)]
@@ -9,6 +9,11 @@ use std::ffi::OsStr;
 use std::fs;
 use std::path::{Path, PathBuf};
 use std::process::Command;
+
+/// The repository's folder.
+pub fn root() -> PathBuf {
+    Path::new(env!("CARGO_MANIFEST_DIR")).join("../..")
+}
 
 /// A folder for one test, removed at its end.
 pub struct Scratch(PathBuf);

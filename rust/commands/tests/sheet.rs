@@ -7,8 +7,8 @@ use std::fs;
 use std::path::{Path, PathBuf};
 use std::process::Command;
 
-use common::{desk_with_plan, root};
-use planner::{Entry, Sheet};
+use common::root;
+use planner::{Desk, Entry, Sheet};
 use reference::plan;
 use reference::random::{self, any_shape, Random};
 use reference::roster::{self, Roster, Side};
@@ -116,8 +116,10 @@ fn random_plans() {
         let roster = random::roster(&mut random, &shape);
         let chosen = random::maximal_plan(&mut random, &roster);
         let (bytes, plan) = (roster::write(&roster), plan::write(&roster, &chosen));
-        let held = desk_with_plan(&bytes, &plan).expect("accepted");
-        let held = held.sheet().expect("a plan is held");
+        let mut desk = Desk::open();
+        desk.load_roster(&bytes).expect("accepted");
+        desk.load_plan(&plan).expect("accepted");
+        let held = desk.sheet().expect("a plan is held");
         let files = Files::new("sheet", &bytes, &plan);
         for (rows, side) in [("surveyors", Side::Surveyors), ("stands", Side::Stands)] {
             let text = table(rows, &files.roster, &files.plan);

@@ -1,7 +1,5 @@
 //! Turns a folder of old season files into new ones, and back.
 
-#[path = "../common/files.rs"]
-mod files;
 mod folder;
 mod problem;
 mod run;

@@ -3,9 +3,9 @@
 use std::fs;
 use std::path::Path;
 
+use commands::files::{self, Put};
 use planner::ROSTER_BYTES;
 
-use crate::files::{self, Put};
 use crate::problem::{Problem, What};
 
 fn is_text(path: &Path) -> bool {

@@ -4,9 +4,9 @@
 use std::ffi::OsString;
 use std::path::Path;
 
+use commands::files;
 use planner::{Refusal, ROSTER_BYTES, STORED_BYTES};
 
-use crate::files;
 use crate::problem::{Problem, What};
 use crate::roster;
 

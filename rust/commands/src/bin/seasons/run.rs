@@ -5,9 +5,9 @@ use std::fs;
 use std::io::{self, Write};
 use std::path::Path;
 
+use commands::files::{put, read, Put};
 use planner::{Desk, ROSTER_BYTES};
 
-use crate::files::{put, read, Put};
 use crate::folder::Folder;
 use crate::problem::Problem;
 use crate::way::Way;

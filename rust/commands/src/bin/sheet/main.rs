@@ -6,11 +6,10 @@ mod table;
 
 use std::env;
 use std::ffi::{OsStr, OsString};
-use std::fs::File;
-use std::io::{self, Read};
 use std::path::Path;
 use std::process::ExitCode;
 
+use commands::files;
 use planner::{Desk, ROSTER_BYTES};
 
 use problem::{Problem, Why};
@@ -73,18 +72,12 @@ fn sheet(rows: Rows, roster: &OsStr, plan: &OsStr) -> Result<String, Problem> {
     Ok(table(&sheet, rows, rows.count(&desk)))
 }
 
-/// Reads a file, but no more than tell that it is too long for any roster, and
-/// loads it.
+/// Reads a file and loads it.
 fn load(
     path: &Path,
     load: impl FnOnce(&[u8]) -> Result<(), planner::Refusal>,
 ) -> Result<(), Problem> {
-    const ENOUGH: u64 = ROSTER_BYTES as u64 + 1;
-    let read = || -> io::Result<Vec<u8>> {
-        let mut bytes = Vec::new();
-        File::open(path)?.take(ENOUGH).read_to_end(&mut bytes)?;
-        Ok(bytes)
-    };
-    let file = read().map_err(|error| Problem::of(path, Why::NotRead(error)))?;
+    let file = files::read(path, ROSTER_BYTES);
+    let file = file.map_err(|error| Problem::of(path, Why::NotRead(error)))?;
     load(&file).map_err(|refusal| Problem::of(path, Why::Refused(refusal)))
 }

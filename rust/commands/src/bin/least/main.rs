@@ -8,16 +8,13 @@ use std::ffi::OsString;
 use std::path::Path;
 use std::process::ExitCode;
 
+use commands::files;
 use planner::{Desk, PAIRING_BYTES, PLAN_BYTES, RANK_BYTES, ROSTER_BYTES};
 use reference::ranges::Range;
 use reference::roster;
 use rostertext::{pack_ranges, print_ranges};
 
 use problem::{Problem, Why};
-
-#[path = "../common/files.rs"]
-#[allow(dead_code)]
-mod files;
 
 const USAGE: &str = "usage: least ROSTER FIRST SECOND RANGES
        least help";

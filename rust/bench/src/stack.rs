@@ -33,13 +33,16 @@ fn words(top: *mut u64) -> impl Iterator<Item = *mut u64> {
 
 #[inline(never)]
 fn paint(top: *mut u64) {
-    // Sound because the thread's stack reaches further down than the painted
-    // part, and nothing below the caller's frame is in use.
-    words(top).for_each(|word| unsafe { word.write_volatile(PAINT) });
+    for word in words(top) {
+        // SAFETY: the thread's stack reaches further down than the painted part, and
+        // nothing below the caller's frame is in use.
+        unsafe { word.write_volatile(PAINT) };
+    }
 }
 
 #[inline(never)]
 fn used(top: *mut u64) -> usize {
+    // SAFETY: as in `paint`, which has written these words.
     let unpainted = words(top).position(|word| unsafe { word.read_volatile() } != PAINT);
     unpainted.map_or(OWN, |place| PAINTED - place * size_of::<u64>())
 }

@@ -4,9 +4,8 @@ use std::fmt;
 use std::io;
 use std::path::Path;
 
+use commands::files::NotPut;
 use planner::Refusal;
-
-use crate::files::NotPut;
 
 /// The file that shows it, or the files, and what it is.
 pub struct Problem {

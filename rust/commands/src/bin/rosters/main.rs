@@ -1,7 +1,5 @@
 //! Roster files joined, two districts becoming one, and stored in walking order.
 
-#[path = "../common/files.rs"]
-mod files;
 mod join;
 mod problem;
 mod roster;

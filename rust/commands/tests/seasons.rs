@@ -1,7 +1,6 @@
 //! The command `seasons` on folders of season files: what it writes and says,
 //! and that nothing else changes.
 
-mod commands;
 mod common;
 
 use std::collections::BTreeMap;
@@ -9,8 +8,7 @@ use std::ffi::OsStr;
 use std::fs;
 use std::path::Path;
 
-use commands::{files, run, Said, Scratch};
-use common::root;
+use common::{files, root, run, Said, Scratch};
 
 fn seasons<S: AsRef<OsStr>>(arguments: &[S]) -> Said {
     run(env!("CARGO_BIN_EXE_seasons"), arguments)

@@ -1,14 +1,12 @@
 //! The command `least` on files: what it prints, and what it says of files that it
 //! cannot use.
 
-mod commands;
 mod common;
 
 use std::fs;
 use std::path::{Path, PathBuf};
 
-use commands::{run, Said, Scratch};
-use common::root;
+use common::{root, run, Said, Scratch};
 
 fn least(paths: &[&Path]) -> Said {
     run(env!("CARGO_BIN_EXE_least"), paths)

@@ -5,6 +5,8 @@
 //!
 //! Run with `cargo run --release --offline --bin bench`.
 
+#![warn(clippy::undocumented_unsafe_blocks)]
+
 mod blocking;
 mod changes;
 mod days;

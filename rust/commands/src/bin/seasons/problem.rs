@@ -6,7 +6,7 @@ use std::io;
 
 use planner::Refusal;
 
-use crate::files::NotPut;
+use commands::files::NotPut;
 
 pub enum Problem {
     Refused(Refusal),
