@@ -3,13 +3,14 @@
 
 use std::hint::black_box;
 
-use planner::Desk;
 use reference::fast;
 use reference::plan;
 use reference::random::{self, Random};
 use reference::roster::{self, Roster};
 
-use crate::{heading, report, time};
+use crate::lent::loaded;
+use crate::measure::Effort;
+use crate::table::Table;
 
 /// A roster file, a plan file and what is asked of them.
 struct Case {
@@ -50,21 +51,25 @@ fn first(roster: &[u8], plan: &[u8]) -> Option<(u8, u8, u8)> {
     fast::blocking::first(&instance, &chosen)
 }
 
-pub fn run() {
-    heading();
+pub fn table(effort: Effort) -> Table {
+    let mut table = Table::new("blocking");
     for Case { name, roster, plan } in cases() {
-        let mut desk = Desk::open();
-        desk.load_roster(&roster).expect("accepted");
+        let mut desk = loaded(&roster);
         desk.load_plan(&plan).expect("accepted");
         assert_eq!(desk.blocking(), Ok(first(&roster, &plan)), "{name}");
-        report(
-            &format!("blocking pair of a plan of the longest roster: {name}"),
-            time(200, || {
+        let times = effort.both(
+            200,
+            || {
                 let _ = black_box(black_box(&desk).blocking());
-            }),
-            time(200, || {
+            },
+            || {
                 black_box(first(black_box(&roster), black_box(&plan)));
-            }),
+            },
+        );
+        table.put(
+            format!("blocking pair of a plan of the longest roster: {name}"),
+            times,
         );
     }
+    table
 }

@@ -9,12 +9,12 @@ use planner::Desk;
 use reference::random::{list_file, Random};
 use reference::roster::{self, Node, Roster, Side};
 
+use crate::finder;
 use crate::lent::{loaded, Buffers};
 use crate::longest::longest;
-use crate::{report, stack, time};
-
-/// How often the two calls take turns.
-const TURNS: usize = 4;
+use crate::measure::Effort;
+use crate::stack;
+use crate::table::{Table, PROVED};
 
 const LAST: u8 = 32;
 /// Neither the first of the lists nor the last.
@@ -81,34 +81,40 @@ fn cases() -> Vec<Case> {
     cases
 }
 
-/// Both times in turn and more than once, so that the ratio is of the same
-/// moments of an uneven machine.
-fn measure(case: &Case, buffers: &mut Buffers) {
-    let changed = case.changed(buffers);
-    let (mut ours, mut find) = (f64::MAX, f64::MAX);
-    for _ in 0..TURNS {
-        ours = ours.min(time(1, || {
-            black_box(case.changed(buffers));
-        }));
-        find = find.min(time(1, || buffers.find(black_box(&changed))));
-    }
-    report(&case.name, ours, find);
+/// The call, the proved find on the changed roster, and the reference's find on it.
+fn times(effort: Effort, case: &Case) -> Vec<f64> {
+    let [mut changing, mut finding, mut theirs] = [(); 3].map(|()| Buffers::new());
+    let changed = case.changed(&mut changing);
+    let bytes = changed.roster[..changed.roster_len].to_vec();
+    effort.in_turn(
+        1,
+        &mut [
+            &mut || {
+                black_box(case.changed(&mut changing));
+            },
+            &mut || finding.find(black_box(&changed)),
+            &mut || finder::find(black_box(&bytes), &mut theirs),
+        ],
+    )
 }
 
-pub fn run() {
-    println!("| call | proved, us | find on the changed roster, us | ratio |");
-    println!("|---|---|---|---|");
+pub fn table(effort: Effort) -> Table {
+    const COLUMNS: &[&str] = &[
+        PROVED,
+        "find on the changed roster, us",
+        "reference's find on it, us",
+    ];
+    let mut table = Table::of("changes", "call", COLUMNS);
     let cases = cases();
-    let mut buffers = Buffers::new();
     for case in &cases {
-        measure(case, &mut buffers);
+        table.put(case.name.clone(), times(effort, case));
     }
-    println!();
     let depths = cases.into_iter().map(|case| {
         stack::depth(move || {
             case.changed(&mut Buffers::new());
         })
     });
     let deepest = depths.max().unwrap_or(0).div_ceil(1024);
-    println!("stack of a join or leave call: {deepest} KiB");
+    table.note(format!("A call takes {deepest} KiB of stack."));
+    table
 }

@@ -3,13 +3,15 @@
 
 use std::hint::black_box;
 
+use planner::ROSTER_BYTES;
 use reference::fast;
 use reference::random::{self, Random, Shape};
 use reference::roster;
 
-use crate::{heading, report, time};
+use crate::measure::Effort;
+use crate::table::Table;
 
-pub fn run() {
+pub fn rows(effort: Effort, table: &mut Table) {
     let mut random = Random::new(13);
     let [first, second] = [(); 2].map(|()| {
         let shape = Shape {
@@ -18,19 +20,21 @@ pub fn run() {
         };
         roster::write(&random::roster(&mut random, &shape))
     });
-    let mut out = vec![0; planner::ROSTER_BYTES];
-    let mut other = out.clone();
-    heading();
-    report(
-        "join two districts to the longest roster (4,262 bytes)",
-        time(200, || {
+    let (mut out, mut other) = ([0; ROSTER_BYTES], [0; ROSTER_BYTES]);
+    let times = effort.both(
+        200,
+        || {
             let length = planner::join_districts(black_box(&first), black_box(&second), &mut out);
-            assert_eq!(black_box(length), Ok(planner::ROSTER_BYTES));
-        }),
-        time(200, || {
+            assert_eq!(black_box(length), Ok(ROSTER_BYTES));
+        },
+        || {
             let length = fast::districts::join(black_box(&first), black_box(&second), &mut other);
-            assert_eq!(black_box(length), Ok(planner::ROSTER_BYTES));
-        }),
+            assert_eq!(black_box(length), Ok(ROSTER_BYTES));
+        },
     );
     assert_eq!(out, other);
+    table.put(
+        "join two districts to the longest roster (4,262 bytes)",
+        times,
+    );
 }

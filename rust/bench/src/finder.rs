@@ -2,6 +2,7 @@
 //! typical shapes, the slowest of many, and how much stack a call takes.
 
 use std::hint::black_box;
+use std::sync::OnceLock;
 use std::time::Instant;
 
 use planner::Step;
@@ -11,11 +12,12 @@ use reference::roster;
 
 use crate::lent::{loaded, Buffers};
 use crate::longest::longest;
+use crate::measure::Effort;
 use crate::stack;
-use crate::{heading, report, time};
+use crate::table::Table;
 
 /// The fast reading's finder with all bytes written.
-fn find(bytes: &[u8], out: &mut Buffers) {
+pub fn find(bytes: &[u8], out: &mut Buffers) {
     let instance = fast::roster::read(bytes).expect("accepted");
     let answer = fast::finder::find(&instance);
     for (place, step) in out.diary.iter_mut().zip(&answer.steps) {
@@ -59,11 +61,11 @@ type Named = (String, Vec<u8>);
 
 /// Random rosters of the longest kind: many shapes, from all strict to all
 /// tied, from agreement to opposition.
-fn random_rosters(random: &mut Random) -> Vec<Named> {
+fn random_rosters(random: &mut Random, each: usize) -> Vec<Named> {
     let mut rosters = Vec::new();
     for ties in [0, 30, 60, 100] {
         for opposed in [0, 30, 60, 100] {
-            for _ in 0..20 {
+            for _ in 0..each {
                 let roster = random::roster(random, &random::longest_shape(ties, opposed));
                 let name = format!("{ties}% of stands tie, {opposed}% oppose");
                 rosters.push((name, roster::write(&roster)));
@@ -73,50 +75,59 @@ fn random_rosters(random: &mut Random) -> Vec<Named> {
     rosters
 }
 
-/// The roster on which the call takes longest, by the best of three calls.
-fn slowest<'a>(rosters: &'a [Named], buffers: &mut Buffers) -> &'a Named {
-    let mut longest = |(_, bytes): &&Named| {
-        let desk = loaded(bytes);
-        let mut once = || {
-            let start = Instant::now();
-            buffers.find(&desk);
-            start.elapsed()
+/// The roster on which the call takes longest, by the best of three calls: looked for
+/// once, so that all runs have the same.
+fn slowest(effort: Effort, random: &mut Random) -> &'static Named {
+    static SLOWEST: OnceLock<Named> = OnceLock::new();
+    SLOWEST.get_or_init(|| {
+        let rosters = random_rosters(random, if effort.quick { 1 } else { 20 });
+        let many = rosters.len();
+        let mut buffers = Buffers::new();
+        let mut longest = |(_, bytes): &Named| {
+            let desk = loaded(bytes);
+            let mut once = || {
+                let start = Instant::now();
+                buffers.find(&desk);
+                start.elapsed()
+            };
+            once().min(once()).min(once())
         };
-        once().min(once()).min(once())
-    };
-    let timed = rosters.iter().map(|named| (longest(&named), named));
-    let slowest = timed.max_by_key(|&(time, _)| time);
-    slowest.expect("some rosters").1
+        let timed = rosters.into_iter().map(|named| (longest(&named), named));
+        let slowest = timed.max_by_key(|&(time, _)| time);
+        let (name, bytes) = slowest.expect("some rosters").1;
+        (format!("slowest of {many} ({name})"), bytes)
+    })
 }
 
-fn measure(what: &str, bytes: &[u8], buffers: &mut Buffers) {
+/// The times of the proved call and of the reference.
+pub fn times(effort: Effort, bytes: &[u8]) -> Vec<f64> {
     let desk = loaded(bytes);
-    let mut theirs = Buffers::new();
-    report(
-        &format!("find on the longest roster, {what}: {}", ending(bytes)),
-        time(1, || buffers.find(black_box(&desk))),
-        time(1, || find(black_box(bytes), &mut theirs)),
-    );
+    let (mut ours, mut theirs) = (Buffers::new(), Buffers::new());
+    effort.both(
+        1,
+        || ours.find(black_box(&desk)),
+        || find(black_box(bytes), &mut theirs),
+    )
 }
 
-pub fn run() {
+pub fn table(effort: Effort) -> Table {
+    let mut table = Table::new("finder");
     let mut random = Random::new(10);
-    let mut buffers = Buffers::new();
     let rosters = longest(&mut random).map(|(name, roster)| (name, roster::write(&roster)));
-    let random_rosters = random_rosters(&mut random);
-    let (name, slowest) = slowest(&random_rosters, &mut buffers);
-    heading();
+    let (name, slowest) = slowest(effort, &mut random);
+    let rosters = rosters.iter().map(|(name, bytes)| (*name, bytes));
+    let rosters: Vec<(&str, &Vec<u8>)> = rosters.chain([(name.as_str(), slowest)]).collect();
     for (name, bytes) in &rosters {
-        measure(name, bytes, &mut buffers);
+        table.put(
+            format!("find on the longest roster, {name}: {}", ending(bytes)),
+            times(effort, bytes),
+        );
     }
-    let what = format!("slowest of {} ({name})", random_rosters.len());
-    measure(&what, slowest, &mut buffers);
-    println!();
-    let files = rosters.iter().map(|(_, bytes)| bytes).chain([slowest]);
-    let depths = files.map(|bytes| {
+    let depths = rosters.iter().map(|(_, bytes)| {
         let desk = loaded(bytes);
         stack::depth(move || Buffers::new().find(&desk))
     });
-    let deepest = depths.max().unwrap_or(0);
-    println!("stack of a find call: {} KiB", deepest.div_ceil(1024));
+    let deepest = depths.max().unwrap_or(0).div_ceil(1024);
+    table.note(format!("A call takes {deepest} KiB of stack."));
+    table
 }

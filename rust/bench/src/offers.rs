@@ -8,12 +8,13 @@ use reference::limits::MAX_NODES;
 use reference::random::{self, Random, Shape};
 use reference::roster;
 
-use crate::{heading, report, time};
+use crate::measure::Effort;
+use crate::table::Table;
 
-pub fn run() {
+pub fn table(effort: Effort) -> Table {
+    let mut table = Table::new("offers");
     let mut random = Random::new(21);
     let nodes = MAX_NODES as u8;
-    heading();
     for (lists, opposed) in [
         ("random lists", 0),
         ("lists half opposed", 50),
@@ -28,27 +29,26 @@ pub fn run() {
             opposed,
         };
         let file = roster::write(&random::roster(&mut random, &shape));
-        offers(lists, &file);
+        offers(effort, &mut table, lists, &file);
     }
+    table
 }
 
-fn offers(lists: &str, file: &[u8]) {
-    let mut out = [0; planner::PLAN_BYTES];
-    let mut other = out;
-    let mut strong = [false; 2];
-    let ours = time(200, || {
-        let offers = planner::offers(black_box(file), &mut out).expect("of the profile");
-        strong[0] = black_box(offers).strong;
-    });
-    let theirs = time(200, || {
-        let offers = fast::offers::profile(black_box(file), &mut other).expect("of the profile");
-        strong[1] = black_box(offers).0;
-    });
-    assert_eq!((out, strong[0]), (other, strong[1]));
-    let verdict = if strong[0] { "strong" } else { "not strong" };
-    report(
-        &format!("plain offers, 32 and 32, all pairs listed, {lists}, {verdict}"),
-        ours,
-        theirs,
+fn offers(effort: Effort, table: &mut Table, lists: &str, file: &[u8]) {
+    let (mut out, mut other) = ([0; planner::PLAN_BYTES], [0; planner::PLAN_BYTES]);
+    let (mut ours, mut theirs) = (false, false);
+    let times = effort.both(
+        200,
+        || {
+            let offers = planner::offers(black_box(file), &mut out).expect("of the profile");
+            ours = black_box(offers).strong;
+        },
+        || {
+            let offers = fast::offers::profile(black_box(file), &mut other);
+            theirs = black_box(offers).expect("of the profile").0;
+        },
     );
+    assert_eq!((out, ours), (other, theirs));
+    let verdict = if ours { ", strong" } else { "" };
+    table.put(format!("plain offers, {lists}{verdict}"), times);
 }

@@ -1,105 +1,186 @@
 //! The verdict on plans of the longest roster, from bytes to answer: strong,
 //! popular and beaten ones of 64 pairs, and plans of 32 pairs that leave room
-//! on one side.
+//! on one side. Those of 64 pairs are held against the peer from outside too.
 
 use std::hint::black_box;
 
-use planner::Desk;
+use planner::{Desk, PAIRING_BYTES, PLAN_BYTES};
 use reference::fast::{self, verdict::Verdict};
 use reference::plan::{self, Plan};
 use reference::random::{self, Random, Shape};
 use reference::roster::{self, Roster};
 
-use crate::{heading, report, time};
+use crate::lent::loaded;
+use crate::measure::Effort;
+use crate::peer;
+use crate::table::{Table, PROVED};
 
-/// A plan of the longest roster, and what the verdict on it must be, where that
-/// is known.
-struct Case {
-    name: String,
-    roster: Roster,
-    plan: Plan,
-    verdict: Option<&'static str>,
+/// A plan of a roster, by their files.
+pub struct Case {
+    pub name: String,
+    pub roster: Vec<u8>,
+    pub plan: Vec<u8>,
 }
 
-fn cases() -> Vec<Case> {
-    let mut random = Random::new(9);
+impl Case {
+    pub fn new(name: impl Into<String>, roster: &Roster, plan: &Plan) -> Case {
+        Case {
+            name: name.into(),
+            roster: roster::write(roster),
+            plan: plan::write(roster, plan),
+        }
+    }
+
+    /// A desk that holds both.
+    pub fn desk(&self) -> Desk {
+        let mut desk = loaded(&self.roster);
+        desk.load_plan(&self.plan).expect("accepted");
+        desk
+    }
+
+    /// The proved verdict, its rival and the pairings of the vote against it written.
+    pub fn judged(desk: &Desk, out: &mut Written) -> &'static str {
+        let judged = black_box(desk).judge(&mut out.rival, &mut out.pairing);
+        match black_box(judged).expect("a plan is held") {
+            planner::Verdict::Strong => "strong",
+            planner::Verdict::Popular(_) => "popular",
+            planner::Verdict::Beaten(_) => "beaten",
+        }
+    }
+
+    /// The fast reading's verdict, from bytes to answer, the same written.
+    pub fn by_reference(&self, out: &mut Written) -> &'static str {
+        let instance = fast::roster::read(black_box(&self.roster)).expect("accepted");
+        let plan = fast::plan::read(&instance, black_box(&self.plan)).expect("accepted");
+        let (rival, verdict) = match fast::verdict::judge(&instance, &plan) {
+            Verdict::Strong => return "strong",
+            Verdict::Popular(rival) => (rival, "popular"),
+            Verdict::Beaten(rival) => (rival, "beaten"),
+        };
+        fast::plan::write(&instance, &rival.plan, &mut out.rival);
+        fast::pairing::write(&instance, &plan, &rival.plan, &mut out.pairing);
+        verdict
+    }
+
+    /// The verdict, on which all agree, and the times of the proved call and of the
+    /// reference.
+    pub fn times(&self, effort: Effort) -> (&'static str, Vec<f64>) {
+        let (mut ours, mut theirs) = (Written::new(), Written::new());
+        let desk = self.desk();
+        let verdict = Case::judged(&desk, &mut ours);
+        assert_eq!(verdict, self.by_reference(&mut theirs), "{}", self.name);
+        let times = effort.both(
+            1,
+            || {
+                Case::judged(&desk, &mut ours);
+            },
+            || {
+                self.by_reference(&mut theirs);
+            },
+        );
+        (verdict, times)
+    }
+}
+
+/// What a verdict writes.
+pub struct Written {
+    rival: [u8; PLAN_BYTES],
+    pairing: [u8; PAIRING_BYTES],
+}
+
+impl Written {
+    pub fn new() -> Written {
+        Written {
+            rival: [0; PLAN_BYTES],
+            pairing: [0; PAIRING_BYTES],
+        }
+    }
+}
+
+/// Where the plans are drawn from.
+const SEED: u64 = 9;
+
+/// Plans of 64 pairs, which leave no room, each with what the verdict must be.
+fn full(random: &mut Random) -> Vec<(Case, &'static str)> {
     let mut cases = Vec::new();
-    let mut put = |name: &str, (roster, plan), verdict| {
-        cases.push(Case {
-            name: format!("64 pairs, {name}"),
-            roster,
-            plan,
-            verdict: Some(verdict),
-        });
+    let mut put = |name: &str, (roster, plan): (Roster, Plan), verdict| {
+        let name = format!("64 pairs, {name}");
+        cases.push((Case::new(name, &roster, &plan), verdict));
     };
-    put("all agree", random::agreed(&mut random, 0), "strong");
-    put("long walks", random::chained(&mut random), "strong");
-    put("some stands tie", random::agreed(&mut random, 4), "popular");
+    put("all agree", random::agreed(random, 0), "strong");
+    put("long walks", random::chained(random), "strong");
+    let ring = random::ringed(&mut Random::new(15));
+    put("long walks, closed", ring, "popular");
+    put("some stands tie", random::agreed(random, 4), "popular");
     for (name, ties, opposed) in [("random", 50, 20), ("random, opposed", 50, 100)] {
-        let roster = random::roster(&mut random, &random::longest_shape(ties, opposed));
-        let plan = random::plan_of(&mut random, &roster, 64);
+        let roster = random::roster(random, &random::longest_shape(ties, opposed));
+        let plan = random::plan_of(random, &roster, 64);
         put(name, (roster, plan), "beaten");
     }
+    cases
+}
+
+/// Plans of 32 pairs that leave a place at every node of one side.
+fn with_room(random: &mut Random) -> Vec<Case> {
+    let mut cases = Vec::new();
     for (name, ties, opposed) in [("strict", 0, 0), ("random", 50, 20), ("opposed", 50, 100)] {
         for (side, quotas) in [("surveyors", [2..=2, 1..=1]), ("stands", [1..=1, 2..=2])] {
             let longest = random::longest_shape(ties, opposed);
-            let roster = random::roster(&mut random, &Shape { quotas, ..longest });
-            cases.push(Case {
-                name: format!("32 pairs, {name}, {side} have room"),
-                plan: random::plan_of(&mut random, &roster, 32),
-                roster,
-                verdict: None,
-            });
+            let roster = random::roster(random, &Shape { quotas, ..longest });
+            let plan = random::plan_of(random, &roster, 32);
+            let name = format!("32 pairs, {name}, {side} have room");
+            cases.push(Case::new(name, &roster, &plan));
         }
     }
     cases
 }
 
-/// The fast reading's verdict, from bytes to answer, its rival and the pairings
-/// of the vote against it written.
-fn judge(roster: &[u8], plan: &[u8], out: &mut [u8], pairing: &mut [u8]) -> &'static str {
-    let instance = fast::roster::read(roster).expect("accepted");
-    let plan = fast::plan::read(&instance, plan).expect("accepted");
-    let (rival, verdict) = match fast::verdict::judge(&instance, &plan) {
-        Verdict::Strong => return "strong",
-        Verdict::Popular(rival) => (rival, "popular"),
-        Verdict::Beaten(rival) => (rival, "beaten"),
-    };
-    fast::plan::write(&instance, &rival.plan, out);
-    fast::pairing::write(&instance, &plan, &rival.plan, pairing);
-    verdict
+pub fn table(effort: Effort) -> Table {
+    let mut table = Table::new("verdict");
+    let mut random = Random::new(SEED);
+    for (case, expected) in full(&mut random) {
+        let (verdict, times) = case.times(effort);
+        assert_eq!(verdict, expected, "{}", case.name);
+        table.put(format!("verdict, {verdict}: {}", case.name), times);
+    }
+    for case in with_room(&mut random) {
+        let (verdict, times) = case.times(effort);
+        table.put(format!("verdict, {verdict}: {}", case.name), times);
+    }
+    table
 }
 
-pub fn run() {
-    heading();
-    let mut out = [0; planner::PLAN_BYTES];
-    let mut pairing = [0; planner::PAIRING_BYTES];
-    for case in cases() {
-        let roster = roster::write(&case.roster);
-        let plan = plan::write(&case.roster, &case.plan);
-        assert_eq!(roster.len(), planner::ROSTER_BYTES);
-        let theirs = judge(&roster, &plan, &mut out, &mut pairing);
-        assert_eq!(theirs, case.verdict.unwrap_or(theirs), "{}", case.name);
-        let mut desk = Desk::open();
-        desk.load_roster(&roster).expect("accepted");
-        desk.load_plan(&plan).expect("accepted");
-        let ours = desk.judge(&mut out, &mut pairing).expect("a plan is held");
-        let ours = match ours {
-            planner::Verdict::Strong => "strong",
-            planner::Verdict::Popular(_) => "popular",
-            planner::Verdict::Beaten(_) => "beaten",
-        };
-        assert_eq!(ours, theirs, "{}", case.name);
-        report(
-            &format!("verdict, {theirs}: {}", case.name),
-            time(1, || {
-                let judged = black_box(&desk).judge(&mut out, &mut pairing);
-                black_box(judged).expect("a plan is held");
-            }),
-            time(1, || {
-                let (roster, plan) = (black_box(&roster), black_box(&plan));
-                black_box(judge(roster, plan, &mut out, &mut pairing));
-            }),
-        );
+/// The plans without room against the peer: from the bytes, and with its graph built
+/// before.
+pub fn against_the_peer(effort: Effort) -> Table {
+    const COLUMNS: &[&str] = &[PROVED, "LEMON from bytes, us", "LEMON's solving alone, us"];
+    let mut table = Table::of("peer", "verdict", COLUMNS);
+    if !peer::THERE {
+        let package = peer::PACKAGE;
+        table.note(format!(
+            "LEMON was not there when the benchmark was built: install {package}."
+        ));
+        return table;
     }
+    for (case, verdict) in full(&mut Random::new(SEED)) {
+        let mut out = Written::new();
+        let desk = case.desk();
+        let mut graph = peer::Graph::new(&case.roster, &case.plan);
+        assert_eq!(Case::judged(&desk, &mut out), verdict, "{}", case.name);
+        let times = effort.in_turn(
+            1,
+            &mut [
+                &mut || {
+                    Case::judged(&desk, &mut out);
+                },
+                &mut || {
+                    let theirs = peer::verdict(black_box(&case.roster), black_box(&case.plan));
+                    assert_eq!(theirs, verdict, "{}", case.name);
+                },
+                &mut || assert_eq!(graph.solve(), verdict, "{}", case.name),
+            ],
+        );
+        table.put(format!("{verdict}: {}", case.name), times);
+    }
+    table
 }

@@ -31,6 +31,10 @@ fn limits(
 /// The pair that is shown, by the numbers of its surveyor and its stand, and its
 /// shift. Pairs ascend by surveyor, so the search ends with the first surveyor
 /// that has one.
+#[expect(
+    clippy::needless_range_loop,
+    reason = "with iterators over the slices it was slower in the benchmark"
+)]
 pub fn first(instance: &Instance, chosen: &Chosen) -> Option<(u8, u8, u8)> {
     let pairs = instance.pairs;
     let at_s = limits(
@@ -52,14 +56,14 @@ pub fn first(instance: &Instance, chosen: &Chosen) -> Option<(u8, u8, u8)> {
         held[usize::from(pair)] = true;
     }
     let mut first = None;
-    for (surveyor, limit) in at_s.into_iter().enumerate().take(instance.surveyors) {
+    for surveyor in 0..instance.surveyors {
         let start = usize::from(instance.first[surveyor]);
         let count = instance.listed[surveyor].count_ones() as usize;
-        let mut best = limit;
-        for (pair, &is_held) in (start..).zip(&held[start..start + count]) {
+        let mut best = at_s[surveyor];
+        for pair in start..start + count {
             let stand = usize::from(instance.stand[pair]);
             let welcome = instance.rank_t[pair] < at_t[stand];
-            if instance.rank_s[pair] < best && welcome && !is_held {
+            if instance.rank_s[pair] < best && welcome && !held[pair] {
                 best = instance.rank_s[pair];
                 first = Some(pair as u16);
             }

@@ -1,0 +1,85 @@
+//! The verdict by a library from outside, LEMON, where it was there when this was
+//! built: `peer/verdict.cpp` says how.
+
+/// What it is, for the tables, and where it is to be had.
+pub const PACKAGE: &str = "liblemon-dev";
+
+/// Whether it was there.
+pub const THERE: bool = cfg!(peer);
+
+#[cfg(peer)]
+pub use there::{verdict, Graph};
+
+#[cfg(not(peer))]
+pub use missing::{verdict, Graph};
+
+/// The verdict's word, by its number.
+#[cfg(peer)]
+fn word(verdict: i32) -> &'static str {
+    match verdict {
+        1 => "strong",
+        2 => "popular",
+        _ => "beaten",
+    }
+}
+
+#[cfg(peer)]
+mod there {
+    use std::ffi::c_void;
+
+    extern "C" {
+        fn peer_verdict(roster: *const u8, plan: *const u8) -> i32;
+        fn peer_graph(roster: *const u8, plan: *const u8) -> *mut c_void;
+        fn peer_solve(graph: *mut c_void) -> i32;
+        fn peer_drop(graph: *mut c_void);
+    }
+
+    /// The verdict, from the bytes of a roster and a plan that were accepted, where the
+    /// plan leaves no room.
+    pub fn verdict(roster: &[u8], plan: &[u8]) -> &'static str {
+        // SAFETY: the peer reads two accepted files to their ends and no further.
+        super::word(unsafe { peer_verdict(roster.as_ptr(), plan.as_ptr()) })
+    }
+
+    /// The graph of such a plan.
+    pub struct Graph(*mut c_void);
+
+    impl Graph {
+        pub fn new(roster: &[u8], plan: &[u8]) -> Graph {
+            // SAFETY: as above.
+            Graph(unsafe { peer_graph(roster.as_ptr(), plan.as_ptr()) })
+        }
+
+        /// The verdict, solved anew.
+        pub fn solve(&mut self) -> &'static str {
+            // SAFETY: the graph was made by `peer_graph` and is there until it is dropped.
+            super::word(unsafe { peer_solve(self.0) })
+        }
+    }
+
+    impl Drop for Graph {
+        fn drop(&mut self) {
+            // SAFETY: the graph was made by `peer_graph`, and is not used after this.
+            unsafe { peer_drop(self.0) }
+        }
+    }
+}
+
+#[cfg(not(peer))]
+mod missing {
+    pub fn verdict(_roster: &[u8], _plan: &[u8]) -> &'static str {
+        unreachable!("the peer was not there")
+    }
+
+    pub struct Graph;
+
+    impl Graph {
+        pub fn new(_roster: &[u8], _plan: &[u8]) -> Graph {
+            Graph
+        }
+
+        pub fn solve(&mut self) -> &'static str {
+            unreachable!("the peer was not there")
+        }
+    }
+}
