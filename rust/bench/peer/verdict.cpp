@@ -12,6 +12,7 @@
 #include <utility>
 #include <vector>
 
+#include <lemon/config.h>
 #include <lemon/network_simplex.h>
 #include <lemon/static_graph.h>
 
@@ -169,6 +170,8 @@ public:
 } // namespace
 
 extern "C" {
+
+const char *peer_version() { return LEMON_VERSION; }
 
 // From bytes to the verdict.
 int peer_verdict(const uint8_t *roster, const uint8_t *plan) { return Rival(roster, plan).verdict(); }

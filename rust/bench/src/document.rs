@@ -5,6 +5,7 @@
 use std::fs;
 use std::process::Command;
 
+use crate::peer;
 use crate::table::Table;
 
 const END: &str = "<!-- bench: end -->";
@@ -29,11 +30,11 @@ impl Part {
         let processors = std::thread::available_parallelism().map_or(1, |number| number.get());
         let text = format!(
             "Measured on {} at commit {}: {processors} processors ({}), load {load} at the start. {runs} runs; each number is the least of \
-             the {runs}, the ratio that of the least numbers. The peer is LEMON {}.\n",
+             the {runs}, the ratio that of the least numbers. LEMON's version: {}.\n",
             said("date", &["+%Y-%m-%d"]),
             said("git", &["rev-parse", "--short", "HEAD"]),
             model(),
-            said("dpkg-query", &["-W", "-f=${Version}", crate::peer::PACKAGE])
+            peer::version()
         );
         Part {
             name: "measured",

@@ -1,17 +1,17 @@
 //! The verdict by a library from outside, LEMON, where it was there when this was
 //! built: `peer/verdict.cpp` says how.
 
-/// What it is, for the tables, and where it is to be had.
+/// Where it is to be had.
 pub const PACKAGE: &str = "liblemon-dev";
 
 /// Whether it was there.
 pub const THERE: bool = cfg!(peer);
 
 #[cfg(peer)]
-pub use there::{verdict, Graph};
+pub use there::{verdict, version, Graph};
 
 #[cfg(not(peer))]
-pub use missing::{verdict, Graph};
+pub use missing::{verdict, version, Graph};
 
 /// The verdict's word, by its number.
 #[cfg(peer)]
@@ -25,13 +25,21 @@ fn word(verdict: i32) -> &'static str {
 
 #[cfg(peer)]
 mod there {
-    use std::ffi::c_void;
+    use std::ffi::{c_char, c_void, CStr};
 
     extern "C" {
+        fn peer_version() -> *const c_char;
         fn peer_verdict(roster: *const u8, plan: *const u8) -> i32;
         fn peer_graph(roster: *const u8, plan: *const u8) -> *mut c_void;
         fn peer_solve(graph: *mut c_void) -> i32;
         fn peer_drop(graph: *mut c_void);
+    }
+
+    /// The library's version.
+    pub fn version() -> String {
+        // SAFETY: the peer hands out a constant, which ends with a zero.
+        let version = unsafe { CStr::from_ptr(peer_version()) };
+        version.to_string_lossy().into_owned()
     }
 
     /// The verdict, from the bytes of a roster and a plan that were accepted, where the
@@ -67,6 +75,10 @@ mod there {
 
 #[cfg(not(peer))]
 mod missing {
+    pub fn version() -> String {
+        "none, which was not there".into()
+    }
+
     pub fn verdict(_roster: &[u8], _plan: &[u8]) -> &'static str {
         unreachable!("the peer was not there")
     }

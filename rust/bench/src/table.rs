@@ -20,6 +20,9 @@ pub struct Row {
     pub times: Vec<f64>,
 }
 
+/// The least ratio that is told as above 1.00.
+const SLOWER: f64 = 1.005;
+
 pub const PROVED: &str = "proved, us";
 pub const REFERENCE: &str = "reference, us";
 
@@ -60,7 +63,7 @@ impl Table {
                 .iter()
                 .map(move |row| (row.name.as_str(), ratio(row)))
         });
-        ratios.filter(|&(_, ratio)| ratio > 1.0)
+        ratios.filter(|&(_, ratio)| ratio >= SLOWER)
     }
 
     pub fn rows(&self) -> &[Row] {

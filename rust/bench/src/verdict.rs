@@ -184,3 +184,53 @@ pub fn against_the_peer(effort: Effort) -> Table {
     }
     table
 }
+
+#[cfg(test)]
+mod tests {
+    use super::*;
+
+    /// Plans without room of rosters of several sizes: agreed ones, with ties and without,
+    /// closed walks, random ones.
+    fn cases() -> Vec<Case> {
+        let mut random = Random::new(18);
+        let mut cases = Vec::new();
+        for nodes in [2, 4, 6, 10] {
+            for tied in 0..=nodes / 2 {
+                let (roster, plan) = random::agreed_of(&mut random, nodes, tied);
+                cases.push(Case::new(format!("{nodes}, {tied} tied"), &roster, &plan));
+            }
+            let nodes = nodes as u8;
+            let shape = Shape {
+                counts: [nodes..=nodes, nodes..=nodes],
+                ..random::longest_shape(50, 20)
+            };
+            for _ in 0..10 {
+                let roster = random::roster(&mut random, &shape);
+                let plan = random::plan_of(&mut random, &roster, 2 * usize::from(nodes));
+                cases.push(Case::new(format!("{nodes}, random"), &roster, &plan));
+            }
+        }
+        cases.extend(full(&mut random).into_iter().map(|(case, _)| case));
+        cases
+    }
+
+    #[test]
+    fn the_peer_gives_the_same_verdicts() {
+        if !peer::THERE {
+            let package = peer::PACKAGE;
+            println!("\nskipped: the_peer_gives_the_same_verdicts: install {package}");
+            return;
+        }
+        let mut met = std::collections::BTreeMap::new();
+        for case in cases() {
+            let verdict = case.by_reference(&mut Written::new());
+            let theirs = peer::verdict(&case.roster, &case.plan);
+            assert_eq!(theirs, verdict, "{}: {:?}", case.name, case.roster);
+            let mut graph = peer::Graph::new(&case.roster, &case.plan);
+            assert_eq!([graph.solve(), graph.solve()], [verdict; 2]);
+            *met.entry(verdict).or_insert(0) += 1;
+        }
+        println!("verdicts met: {met:?}");
+        assert!(met.len() == 3 && met.values().all(|&number| number >= 5));
+    }
+}
