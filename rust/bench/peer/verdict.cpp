@@ -12,6 +12,9 @@
 #include <utility>
 #include <vector>
 
+#include <malloc.h>
+
+#include <lemon/capacity_scaling.h>
 #include <lemon/config.h>
 #include <lemon/network_simplex.h>
 #include <lemon/static_graph.h>
@@ -19,7 +22,8 @@
 namespace {
 
 using Graph = lemon::StaticDigraph;
-using Flow = lemon::NetworkSimplex<Graph, int, int>;
+using Simplex = lemon::NetworkSimplex<Graph, int, int>;
+using Scaling = lemon::CapacityScaling<Graph, int, int>;
 
 constexpr int MOST_NODES = 33;
 constexpr int MOST_SHIFTS = 4;
@@ -102,8 +106,13 @@ struct Arcs {
     }
 };
 
-// The graph of the flow, and the flow. Every arc has capacity 1.
-class Rival {
+struct Rival {
+    virtual ~Rival() {}
+    virtual Verdict verdict() = 0;
+};
+
+// The graph of the flow, and the flow by one of LEMON's algorithms. Every arc has capacity 1.
+template <class Flow> class RivalBy : public Rival {
     int kept;
     Graph graph;
     std::unique_ptr<Flow> flow;
@@ -141,7 +150,7 @@ class Rival {
     }
 
 public:
-    Rival(const uint8_t *roster, const uint8_t *plan) {
+    RivalBy(const uint8_t *roster, const uint8_t *plan) {
         const Files files(roster, plan);
         kept = files.kept;
         const Arcs arcs = arcs_of(files);
@@ -160,12 +169,18 @@ public:
         flow->upperMap(capacity).costMap(cost).supplyMap(supply);
     }
 
-    Verdict verdict() {
+    Verdict verdict() override {
         flow->run();
-        const int least = flow->totalCost<int>();
+        const int least = flow->template totalCost<int>();
         return least < 0 ? BEATEN : least < kept ? POPULAR : STRONG;
     }
 };
+
+// One of the two algorithms that are quickest here, by its number.
+Rival *rival(int algorithm, const uint8_t *roster, const uint8_t *plan) {
+    if (algorithm == 0) return new RivalBy<Simplex>(roster, plan);
+    return new RivalBy<Scaling>(roster, plan);
+}
 
 } // namespace
 
@@ -173,11 +188,20 @@ extern "C" {
 
 const char *peer_version() { return LEMON_VERSION; }
 
+// What is freed stays with the process from now on. Else the system may have to hand out the pages of every graph anew, which can take longer than to
+// build and solve it, and does so by chance.
+void peer_keep_memory() {
+    mallopt(M_TRIM_THRESHOLD, 1 << 28);
+    mallopt(M_MMAP_THRESHOLD, 1 << 28);
+}
+
 // From bytes to the verdict.
-int peer_verdict(const uint8_t *roster, const uint8_t *plan) { return Rival(roster, plan).verdict(); }
+int peer_verdict(int algorithm, const uint8_t *roster, const uint8_t *plan) {
+    return std::unique_ptr<Rival>(rival(algorithm, roster, plan))->verdict();
+}
 
 // The graph alone, its verdict, which may be asked for again, and its end.
-void *peer_graph(const uint8_t *roster, const uint8_t *plan) { return new Rival(roster, plan); }
+void *peer_graph(int algorithm, const uint8_t *roster, const uint8_t *plan) { return rival(algorithm, roster, plan); }
 int peer_solve(void *graph) { return static_cast<Rival *>(graph)->verdict(); }
 void peer_drop(void *graph) { delete static_cast<Rival *>(graph); }
 }

@@ -31,7 +31,8 @@ pub fn rows(effort: Effort, table: &mut Table) {
         times.join(", ")
     };
     table.note(format!(
-        "The spreading alone, in the order of its rows: {} microseconds, a difference of two times, the call's less that of writing the plan; the reference's {}.",
+        "The spreading alone, in the order of its rows: {} microseconds, a difference of two times, the call's less that \
+         of writing the plan; the reference's {}.",
         told(0),
         told(1)
     ));

@@ -111,6 +111,8 @@ fn full(random: &mut Random) -> Vec<(Case, &'static str)> {
     put("long walks", random::chained(random), "strong");
     let ring = random::ringed(&mut Random::new(15));
     put("long walks, closed", ring, "popular");
+    let scattered = random::scattered(&mut Random::new(15));
+    put("walks closed anywhere", scattered, "popular");
     put("some stands tie", random::agreed(random, 4), "popular");
     for (name, ties, opposed) in [("random", 50, 20), ("random, opposed", 50, 100)] {
         let roster = random::roster(random, &random::longest_shape(ties, opposed));
@@ -151,7 +153,7 @@ pub fn table(effort: Effort) -> Table {
 }
 
 /// The plans without room against the peer: from the bytes, and with its graph built
-/// before.
+/// before, each by the quicker of its algorithms.
 pub fn against_the_peer(effort: Effort) -> Table {
     const COLUMNS: &[&str] = &[PROVED, "LEMON from bytes, us", "LEMON's solving alone, us"];
     let mut table = Table::of("peer", "verdict", COLUMNS);
@@ -162,25 +164,34 @@ pub fn against_the_peer(effort: Effort) -> Table {
         ));
         return table;
     }
+    peer::keep_memory();
     for (case, verdict) in full(&mut Random::new(SEED)) {
         let mut out = Written::new();
         let desk = case.desk();
-        let mut graph = peer::Graph::new(&case.roster, &case.plan);
         assert_eq!(Case::judged(&desk, &mut out), verdict, "{}", case.name);
+        let [one, other] = peer::ALGORITHMS;
+        let by = |algorithm| {
+            let theirs = peer::verdict(algorithm, black_box(&case.roster), black_box(&case.plan));
+            assert_eq!(theirs, verdict, "{}", case.name);
+        };
+        let [mut first, mut second] =
+            peer::ALGORITHMS.map(|algorithm| peer::Graph::new(algorithm, &case.roster, &case.plan));
         let times = effort.in_turn(
             1,
             &mut [
                 &mut || {
                     Case::judged(&desk, &mut out);
                 },
-                &mut || {
-                    let theirs = peer::verdict(black_box(&case.roster), black_box(&case.plan));
-                    assert_eq!(theirs, verdict, "{}", case.name);
-                },
-                &mut || assert_eq!(graph.solve(), verdict, "{}", case.name),
+                &mut || by(one),
+                &mut || by(other),
+                &mut || assert_eq!(first.solve(), verdict, "{}", case.name),
+                &mut || assert_eq!(second.solve(), verdict, "{}", case.name),
             ],
         );
-        table.put(format!("{verdict}: {}", case.name), times);
+        table.put(
+            format!("{verdict}: {}", case.name),
+            vec![times[0], times[1].min(times[2]), times[3].min(times[4])],
+        );
     }
     table
 }
@@ -224,10 +235,12 @@ mod tests {
         let mut met = std::collections::BTreeMap::new();
         for case in cases() {
             let verdict = case.by_reference(&mut Written::new());
-            let theirs = peer::verdict(&case.roster, &case.plan);
-            assert_eq!(theirs, verdict, "{}: {:?}", case.name, case.roster);
-            let mut graph = peer::Graph::new(&case.roster, &case.plan);
-            assert_eq!([graph.solve(), graph.solve()], [verdict; 2]);
+            for by in peer::ALGORITHMS {
+                let theirs = peer::verdict(by, &case.roster, &case.plan);
+                assert_eq!(theirs, verdict, "{}: {:?}", case.name, case.roster);
+                let mut graph = peer::Graph::new(by, &case.roster, &case.plan);
+                assert_eq!([graph.solve(), graph.solve()], [verdict; 2]);
+            }
             *met.entry(verdict).or_insert(0) += 1;
         }
         println!("verdicts met: {met:?}");

@@ -366,27 +366,51 @@ pub fn ringed(random: &mut Random) -> (Roster, Plan) {
     chain(random, MAX_NODES)
 }
 
+/// The same with the stand between anywhere: each surveyor has another one there, so that
+/// walks close after some stands or lead into one that does. The plan is popular.
+pub fn scattered(random: &mut Random) -> (Roster, Plan) {
+    const SOME: usize = 8;
+    let mut others: Vec<Round> = rounds(random, MAX_NODES, MAX_SHIFT);
+    others.retain(|&(distance, _)| distance > 1);
+    others.truncate(SOME);
+    let between: Vec<Round> = (0..MAX_NODES).map(|_| others[random.below(SOME)]).collect();
+    walked(random, &others, |node| Some(between[node]))
+}
+
 /// A chain in which so many surveyors, from the first on, have a stand between their two.
 fn chain(random: &mut Random, surveyors: usize) -> (Roster, Plan) {
-    const PLAN: [Round; 2] = [(0, 1), (1, 2)];
     const BETWEEN: Round = (2, 3);
+    walked(random, &[BETWEEN], |node| {
+        (node < surveyors).then_some(BETWEEN)
+    })
+}
+
+/// A roster of the longest kind with a plan of 64 pairs: each surveyor has the stand of
+/// its own number and the one behind it, and ranks a third between the two if it is given
+/// one, of some rounds. Stands rank their own two first.
+fn walked(
+    random: &mut Random,
+    others: &[Round],
+    between: impl Fn(usize) -> Option<Round>,
+) -> (Roster, Plan) {
+    const PLAN: [Round; 2] = [(0, 1), (1, 2)];
     let first = |side, node, round: Round| match (side, round) {
         (Side::Stands, round) => usize::from(!PLAN.contains(&round)),
         (Side::Surveyors, round) if round == PLAN[0] => 0,
-        (Side::Surveyors, round) if round == BETWEEN && node < surveyors => 1,
+        (Side::Surveyors, round) if between(node) == Some(round) => 1,
         (Side::Surveyors, round) if round == PLAN[1] => 2,
         (Side::Surveyors, _) => 3,
     };
-    let given = [PLAN[0], PLAN[1], BETWEEN];
+    let given = [&PLAN, others].concat();
     let roster = longest(random, MAX_NODES, &given, first, |_| false);
     let plan = plan_where(&roster, &PLAN);
     (roster, plan)
 }
 
 /// A roster of so many nodes a side with the longest lists: its pairs are those of 32
-/// rounds, if there are so many, the given ones among them. Everyone ranks the own pairs by a key, and in a random order where
-/// keys are equal. The stands chosen by `tied` move the two best to a tie at the
-/// end. Nodes are counted from 0.
+/// rounds, if there are so many, the given ones among them. Everyone ranks the own
+/// pairs by a key, and in a random order where keys are equal. The stands chosen by
+/// `tied` move the two best to a tie at the end. Nodes are counted from 0.
 fn longest(
     random: &mut Random,
     nodes: usize,
