@@ -1,8 +1,9 @@
-//! Links the proved static library. If it is not there yet, it is built: that
-//! proves the exported calls once more.
+//! Links the proved static library. Where it is missing this makes nothing: that would
+//! prove for minutes, unasked. It says how the library is made, by a warning, which is
+//! all that `cargo check` and `cargo clippy` need, since they do not link; and by the
+//! name that the compiler then looks for in vain, since `cargo --quiet` hides warnings.
 
-use std::path::{Path, PathBuf};
-use std::process::Command;
+use std::path::Path;
 
 const LIBRARY: &str = "abi";
 
@@ -12,19 +13,18 @@ fn main() {
         .ancestors()
         .nth(2)
         .expect("two folders up");
-    let folder: PathBuf = root.join("target/staticlib");
+    let folder = root.join("target/staticlib");
     let archive = folder.join(format!("lib{LIBRARY}.a"));
-    if !archive.exists() {
-        let built = Command::new("rt")
-            .args(["staticlib", LIBRARY])
-            .current_dir(root)
-            .status();
-        assert!(
-            built.is_ok_and(|status| status.success()),
-            "the static library is missing and `rt staticlib {LIBRARY}` did not build it"
-        );
-    }
     println!("cargo:rerun-if-changed={}", archive.display());
     println!("cargo:rustc-link-search=native={}", folder.display());
-    println!("cargo:rustc-link-lib=static={LIBRARY}");
+    if archive.exists() {
+        println!("cargo:rustc-link-lib=static={LIBRARY}");
+        return;
+    }
+    let made_by = format!(
+        "'rt staticlib {LIBRARY}' in {} proves the calls and makes it, in some minutes",
+        root.display()
+    );
+    println!("cargo:warning={} is missing; {made_by}", archive.display());
+    println!("cargo:rustc-link-lib=static={LIBRARY} ({made_by})");
 }

@@ -110,9 +110,45 @@ impl Book<'_> {
         made
     }
 
+    /// The forms that document 01 names, with their places.
+    fn forms_part(&self) -> String {
+        let mut made = String::from("| sentence | form | places |\n|---|---|---|\n");
+        for block in &self.lists.forms {
+            let note = match block.get("note") {
+                "" => String::new(),
+                note => format!("; {note}"),
+            };
+            let _ = writeln!(made, "| \"{}\" | {} | {}{note} |", block.get("words"), block.get("form"), block.get("places"));
+        }
+        made
+    }
+
+    /// One row a refusal.
+    fn refusals_part(&self) -> String {
+        let mut made = String::from("| number | when | group | definition | met after | answered by |\n|---|---|---|---|---|---|\n");
+        for refusal in self.refusals() {
+            let by: Vec<String> = refusal.by.iter().map(|&d| self.library().full_name(d)).collect();
+            let _ = writeln!(
+                made,
+                "| {} | {} | {} | {} | {} | {} |",
+                refusal.number,
+                refusal.words,
+                refusal.group,
+                by.join(", "),
+                refusal.after,
+                refusal.calls.join(", ")
+            );
+        }
+        made
+    }
+
     /// A part by its name.
     pub fn part_of_document(&self, name: &str) -> Option<String> {
         match name {
+            "believed" => Some(self.believed_part()),
+            "types" => Some(self.types_part()),
+            "forms" => Some(self.forms_part()),
+            "refusals" => Some(self.refusals_part()),
             "crates without code" => self.crates_part(false),
             "crates with code" => self.crates_part(true),
             "sentences" => Some(self.sentences_part()),

@@ -1,5 +1,6 @@
 //! The contract book: every public call with its contract, each name in it a link to its definition, and on, down to the model and the kit's library.
 
+pub mod believed;
 pub mod code;
 pub mod contents;
 pub mod documents;
@@ -15,6 +16,7 @@ pub mod page;
 pub mod papers;
 pub mod rattle;
 pub mod reach;
+pub mod refusals;
 pub mod rows;
 pub mod sentences;
 pub mod source;

@@ -17,12 +17,14 @@ impl Default for Desk {
 impl Desk {
     /// A desk with nothing loaded.
     pub fn open() -> Desk {
+        // SAFETY: no pointer goes in.
         unsafe { ffi::crew_open() }
     }
 
     /// Takes a roster in, drops the plan and closes a proposal. A refused file
     /// changes nothing.
     pub fn load_roster(&mut self, file: &[u8]) -> Result<(), Refusal> {
+        // SAFETY: a slice that is read, with its own length.
         let reply = unsafe { ffi::crew_load_roster(self.clone(), file.as_ptr(), file.len()) };
         self.take_loaded(reply)
     }
@@ -30,6 +32,7 @@ impl Desk {
     /// Takes a plan of the held roster in, in the place of the one held, and
     /// closes a proposal. A refused file changes nothing.
     pub fn load_plan(&mut self, file: &[u8]) -> Result<(), Refusal> {
+        // SAFETY: a slice that is read, with its own length.
         let reply = unsafe { ffi::crew_load_plan(self.clone(), file.as_ptr(), file.len()) };
         self.take_loaded(reply)
     }
@@ -50,6 +53,7 @@ impl Desk {
         forward: &mut [u8],
         back: &mut [u8],
     ) -> Result<ProposalVotes, Refusal> {
+        // SAFETY: slices, each with its own length; those that are written overlap none, as `&mut`.
         let reply = unsafe {
             ffi::crew_propose(
                 self.clone(),
@@ -68,6 +72,7 @@ impl Desk {
     /// Makes the open proposal the held plan, which closes it. Where none is open
     /// the call is refused, and nothing changes.
     pub fn commit(&mut self) -> Result<(), Refusal> {
+        // SAFETY: no pointer goes in.
         let reply = unsafe { ffi::crew_commit(self.clone()) };
         self.take_loaded(reply)
     }
@@ -81,6 +86,7 @@ impl Desk {
     /// Writes the held roster to the front of `out` and gives its length. On a
     /// refusal no byte changes.
     pub fn write_roster(&self, out: &mut [u8]) -> Result<usize, Refusal> {
+        // SAFETY: a slice that is lent to be written, with its own length.
         let reply = unsafe { ffi::crew_write_roster(self.clone(), out.as_mut_ptr(), out.len()) };
         self.written(&reply)
     }
@@ -88,6 +94,7 @@ impl Desk {
     /// Writes the held plan to the front of `out` and gives its length. On a
     /// refusal no byte changes.
     pub fn write_plan(&self, out: &mut [u8]) -> Result<usize, Refusal> {
+        // SAFETY: a slice that is lent to be written, with its own length.
         let reply = unsafe { ffi::crew_write_plan(self.clone(), out.as_mut_ptr(), out.len()) };
         self.written(&reply)
     }
@@ -115,6 +122,7 @@ impl Desk {
     /// are used; no other spreading uses fewer. On a refusal no byte changes.
     /// [`Desk::sheet`] gives the days with their entries.
     pub fn spread(&self, out: &mut [u8]) -> Result<usize, Refusal> {
+        // SAFETY: a slice that is lent to be written, with its own length.
         let reply = unsafe { ffi::crew_spread(self.clone(), out.as_mut_ptr(), out.len()) };
         self.written(&reply)
     }
@@ -124,6 +132,7 @@ impl Desk {
     /// [`crate::PLAN_BYTES`], and gives its length. No plan needs to be held, and a
     /// held one stays. On a refusal no byte changes.
     pub fn plan_to_new(&self, file: &[u8], out: &mut [u8]) -> Result<usize, Refusal> {
+        // SAFETY: slices, each with its own length; those that are written overlap none, as `&mut`.
         let reply = unsafe {
             ffi::crew_plan_to_new(
                 self.clone(),
@@ -141,6 +150,7 @@ impl Desk {
     /// [`crate::PLAN_BYTES`] too, and gives their number. The roster may have other
     /// shifts. On a refusal no byte changes.
     pub fn plan_to_old(&self, file: &[u8], out: &mut [u8]) -> Result<usize, Refusal> {
+        // SAFETY: slices, each with its own length; those that are written overlap none, as `&mut`.
         let reply = unsafe {
             ffi::crew_plan_to_old(
                 self.clone(),
@@ -164,6 +174,7 @@ impl Desk {
     /// `pairing`, which needs [`crate::PAIRING_BYTES`]; for a strong plan and on a
     /// refusal no byte changes. [`Desk::pairings`] reads them.
     pub fn judge(&self, rival: &mut [u8], pairing: &mut [u8]) -> Result<Verdict, Refusal> {
+        // SAFETY: slices that are lent to be written, each with its own length.
         let reply = unsafe {
             ffi::crew_judge(
                 self.clone(),
@@ -189,6 +200,7 @@ impl Desk {
         forward: &mut [u8],
         back: &mut [u8],
     ) -> Comparison<'a> {
+        // SAFETY: slices, each with its own length; those that are written overlap none, as `&mut`.
         let reply = unsafe {
             ffi::crew_compare(
                 self.clone(),
@@ -223,6 +235,7 @@ impl Desk {
         ranges: &[u8],
         ranks: &mut [u8],
     ) -> Result<Least, Refusal> {
+        // SAFETY: slices, each with its own length; those that are written overlap none, as `&mut`.
         let reply = unsafe {
             ffi::crew_least(
                 self.clone(),
@@ -244,6 +257,7 @@ impl Desk {
     /// and its stand and by its shift, or that there is none: of the lowest
     /// surveyor that has one, the pair best in this surveyor's list.
     pub fn blocking(&self) -> Result<Option<(u8, u8, u8)>, Refusal> {
+        // SAFETY: no pointer goes in.
         let reply = unsafe { ffi::crew_blocking(self.clone()) };
         debug_assert!(*self == reply.desk);
         answers::blocking(&reply.blocker)
@@ -260,6 +274,7 @@ impl Desk {
         plan: &mut [u8],
         rival: &mut [u8],
     ) -> Result<Found, Refusal> {
+        // SAFETY: slices that are lent to be written, each with its own length.
         let reply = unsafe {
             ffi::crew_find(
                 self.clone(),
@@ -291,6 +306,7 @@ impl Desk {
         plan: &mut [u8],
         rival: &mut [u8],
     ) -> Result<Found, Refusal> {
+        // SAFETY: slices, each with its own length; those that are written overlap none, as `&mut`.
         let reply = unsafe {
             ffi::crew_join(
                 self.clone(),
@@ -322,6 +338,7 @@ impl Desk {
         plan: &mut [u8],
         rival: &mut [u8],
     ) -> Result<Found, Refusal> {
+        // SAFETY: slices that are lent to be written, each with its own length.
         let reply = unsafe {
             ffi::crew_leave(
                 self.clone(),

@@ -26,6 +26,7 @@ use crate::refusal::Refusal;
 /// # Ok::<(), planner::Refusal>(())
 /// ```
 pub fn join_districts(first: &[u8], second: &[u8], out: &mut [u8]) -> Result<usize, Refusal> {
+    // SAFETY: slices, each with its own length; those that are written overlap none, as `&mut`.
     let outcome = unsafe {
         ffi::crew_join_districts(
             first.as_ptr(),

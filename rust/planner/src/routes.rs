@@ -32,6 +32,7 @@ use crate::refusal::Refusal;
 /// # Ok::<(), planner::Refusal>(())
 /// ```
 pub fn store(file: &[u8], out: &mut [u8]) -> Result<usize, Refusal> {
+    // SAFETY: slices, each with its own length; those that are written overlap none, as `&mut`.
     let outcome =
         unsafe { ffi::crew_store(file.as_ptr(), file.len(), out.as_mut_ptr(), out.len()) };
     answers::length(&outcome)
@@ -41,6 +42,7 @@ pub fn store(file: &[u8], out: &mut [u8]) -> Result<usize, Refusal> {
 /// of `out`, which needs [`crate::STORED_BYTES`] too. It takes what [`store`] takes,
 /// and each of the two undoes the other. On a refusal no byte changes.
 pub fn unstore(file: &[u8], out: &mut [u8]) -> Result<usize, Refusal> {
+    // SAFETY: slices, each with its own length; those that are written overlap none, as `&mut`.
     let outcome =
         unsafe { ffi::crew_unstore(file.as_ptr(), file.len(), out.as_mut_ptr(), out.len()) };
     answers::length(&outcome)

@@ -10,6 +10,7 @@ use crate::refusal::Refusal;
 /// the front of `out`, which needs [`crate::ROSTER_BYTES`], and gives its length.
 /// On a refusal no byte changes.
 pub fn roster_to_new(file: &[u8], out: &mut [u8]) -> Result<usize, Refusal> {
+    // SAFETY: slices, each with its own length; those that are written overlap none, as `&mut`.
     let outcome =
         unsafe { ffi::crew_roster_to_new(file.as_ptr(), file.len(), out.as_mut_ptr(), out.len()) };
     answers::length(&outcome)
@@ -19,6 +20,7 @@ pub fn roster_to_new(file: &[u8], out: &mut [u8]) -> Result<usize, Refusal> {
 /// to the front of `out`, which needs [`crate::ROSTER_BYTES`] too, and gives their
 /// number. On a refusal no byte changes.
 pub fn roster_to_old(file: &[u8], out: &mut [u8]) -> Result<usize, Refusal> {
+    // SAFETY: slices, each with its own length; those that are written overlap none, as `&mut`.
     let outcome =
         unsafe { ffi::crew_roster_to_old(file.as_ptr(), file.len(), out.as_mut_ptr(), out.len()) };
     answers::length(&outcome)

@@ -178,7 +178,7 @@ impl Checks {
                 assert_eq!(strong.len(), 1, "{bytes:?}");
                 let plan = plan::write(roster, &contest.plans()[strong[0]]);
                 after.hold(before, &steps, &[], &plan, &[]);
-                if self.one_judged_of > 0 && self.tally.plan % self.one_judged_of == 0 {
+                if self.one_judged_of > 0 && self.tally.plan.is_multiple_of(self.one_judged_of) {
                     self.tally.others += check_only_popular(roster, &bytes, &contest, strong[0]);
                 }
             }

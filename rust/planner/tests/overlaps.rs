@@ -20,7 +20,8 @@ fn files_that_are_read_may_overlap() {
         let both = [&file[..], &file[..]].concat();
         for from in 0..=file.len() {
             let [first, second] = [&both[..file.len()], &both[from..from + file.len()]];
-            let copies = joined(&first.to_vec(), &second.to_vec());
+            let [one, other] = [first, second].map(<[u8]>::to_vec);
+            let copies = joined(&one, &other);
             accepted += usize::from(copies.0.is_ok());
             assert_eq!(joined(first, second), copies, "{name} from {from}");
         }

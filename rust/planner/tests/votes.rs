@@ -81,17 +81,19 @@ fn stand_vote(roster: &Roster, mine: &[Entry], theirs: &[Entry]) -> i16 {
 
 #[test]
 fn stated_node_votes() {
-    let cases: [(&str, u8, u8, &[u8], &[u8], i16); 5] = [
-        ("P7", 2, 4, &[1, 3], &[2, 4], 0),
-        ("P7 reversed", 2, 4, &[2, 4], &[1, 3], -2),
-        ("P8", 3, 3, &[1], &[2, 3], 0),
-        ("P9", 2, 3, &[2, 3], &[1, 2], -1),
-        ("P9 reversed", 2, 3, &[1, 2], &[2, 3], 1),
+    // what a stand with a quota and so many entries has: the places of one plan, and of another
+    type Places = [&'static [u8]; 2];
+    let cases: [(&str, u8, u8, Places, i16); 5] = [
+        ("P7", 2, 4, [&[1, 3], &[2, 4]], 0),
+        ("P7 reversed", 2, 4, [&[2, 4], &[1, 3]], -2),
+        ("P8", 3, 3, [&[1], &[2, 3]], 0),
+        ("P9", 2, 3, [&[2, 3], &[1, 2]], -1),
+        ("P9 reversed", 2, 3, [&[1, 2], &[2, 3]], 1),
     ];
-    for (name, quota, entries, mine, theirs, vote) in cases {
+    for (name, quota, entries, places, vote) in cases {
         for shifts in 1..=MAX_SHIFT {
             let roster = one_stand(quota, entries, 0, shifts);
-            let [mine, theirs] = [mine, theirs].map(|places| at_places(places, shifts));
+            let [mine, theirs] = places.map(|places| at_places(places, shifts));
             assert_eq!(stand_vote(&roster, &mine, &theirs), vote, "{name} {shifts}");
         }
     }

@@ -25,7 +25,7 @@ pub fn pairing(node: &Node, mine: &[Entry], theirs: &[Entry]) -> Vec<RankPair> {
             .map(|(&own, &other)| (rank(&node.list, own), rank(&node.list, other)))
             .collect();
         pairs.sort_unstable();
-        if smallest.as_ref().map_or(true, |least| pairs < *least) {
+        if smallest.as_ref().is_none_or(|least| pairs < *least) {
             smallest = Some(pairs);
         }
     });

@@ -336,12 +336,18 @@ pub fn plan_of(random: &mut Random, roster: &Roster, pairs: usize) -> Plan {
 /// strong. With some groups `tied`, whose stands rank the own surveyors last and
 /// alike, it is less so.
 pub fn agreed(random: &mut Random, tied: usize) -> (Roster, Plan) {
-    const GROUPS: usize = MAX_NODES / 2;
-    const OWN: [Round; 2] = [(0, 1), (GROUPS, 3)];
-    let first = |_, _, round| usize::from(!OWN.contains(&round));
-    let tied = |stand: usize| stand % GROUPS < tied;
-    let roster = longest(random, &OWN, first, tied);
-    let plan = plan_where(&roster, &OWN);
+    agreed_of(random, MAX_NODES, tied)
+}
+
+/// The same with so many nodes a side, an even number, and a plan of twice as many
+/// pairs. Lists are as long as the limit and three shifts allow.
+pub fn agreed_of(random: &mut Random, nodes: usize, tied: usize) -> (Roster, Plan) {
+    let groups = nodes / 2;
+    let own: [Round; 2] = [(0, 1), (groups, 3)];
+    let first = |_, _, round| usize::from(!own.contains(&round));
+    let tied = |stand: usize| stand % groups < tied;
+    let roster = longest(random, nodes, &own, first, tied);
+    let plan = plan_where(&roster, &own);
     (roster, plan)
 }
 
@@ -350,32 +356,69 @@ pub fn agreed(random: &mut Random, tied: usize) -> (Roster, Plan) {
 /// its own number and the one behind it, and ranks the one behind that between
 /// the two. So walks of cost 0 lead from each stand to the next.
 pub fn chained(random: &mut Random) -> (Roster, Plan) {
-    const PLAN: [Round; 2] = [(0, 1), (1, 2)];
+    // the last two have none behind that, so that no walk closes
+    chain(random, MAX_NODES - 2)
+}
+
+/// The same with the walk closed: it leads through all stands and back, and is the
+/// only draw. So the plan is popular, and the search for its rival goes deepest.
+pub fn ringed(random: &mut Random) -> (Roster, Plan) {
+    chain(random, MAX_NODES)
+}
+
+/// The same with the stand between anywhere: each surveyor has another one there, so that
+/// walks close after some stands or lead into one that does. The plan is popular.
+pub fn scattered(random: &mut Random) -> (Roster, Plan) {
+    const SOME: usize = 8;
+    let mut others: Vec<Round> = rounds(random, MAX_NODES, MAX_SHIFT);
+    others.retain(|&(distance, _)| distance > 1);
+    others.truncate(SOME);
+    let between: Vec<Round> = (0..MAX_NODES).map(|_| others[random.below(SOME)]).collect();
+    walked(random, &others, |node| Some(between[node]))
+}
+
+/// A chain in which so many surveyors, from the first on, have a stand between their two.
+fn chain(random: &mut Random, surveyors: usize) -> (Roster, Plan) {
     const BETWEEN: Round = (2, 3);
+    walked(random, &[BETWEEN], |node| {
+        (node < surveyors).then_some(BETWEEN)
+    })
+}
+
+/// A roster of the longest kind with a plan of 64 pairs: each surveyor has the stand of
+/// its own number and the one behind it, and ranks a third between the two if it is given
+/// one, of some rounds. Stands rank their own two first.
+fn walked(
+    random: &mut Random,
+    others: &[Round],
+    between: impl Fn(usize) -> Option<Round>,
+) -> (Roster, Plan) {
+    const PLAN: [Round; 2] = [(0, 1), (1, 2)];
     let first = |side, node, round: Round| match (side, round) {
         (Side::Stands, round) => usize::from(!PLAN.contains(&round)),
         (Side::Surveyors, round) if round == PLAN[0] => 0,
-        // the last two have none behind that, so that no walk closes
-        (Side::Surveyors, round) if round == BETWEEN && node < MAX_NODES - 2 => 1,
+        (Side::Surveyors, round) if between(node) == Some(round) => 1,
         (Side::Surveyors, round) if round == PLAN[1] => 2,
         (Side::Surveyors, _) => 3,
     };
-    let roster = longest(random, &[PLAN[0], PLAN[1], BETWEEN], first, |_| false);
+    let given = [&PLAN, others].concat();
+    let roster = longest(random, MAX_NODES, &given, first, |_| false);
     let plan = plan_where(&roster, &PLAN);
     (roster, plan)
 }
 
-/// A roster of the longest kind: its pairs are those of 32 rounds, the given ones
-/// among them. Everyone ranks the own pairs by a key, and in a random order where
-/// keys are equal. The stands chosen by `tied` move the two best to a tie at the
-/// end. Nodes are counted from 0.
+/// A roster of so many nodes a side with the longest lists: its pairs are those of 32
+/// rounds, if there are so many, the given ones among them. Everyone ranks the own
+/// pairs by a key, and in a random order where keys are equal. The stands chosen by
+/// `tied` move the two best to a tie at the end. Nodes are counted from 0.
 fn longest(
     random: &mut Random,
+    nodes: usize,
     given: &[Round],
     key: impl Fn(Side, usize, Round) -> usize,
     tied: impl Fn(usize) -> bool,
 ) -> Roster {
-    let mut drawn = rounds(random, MAX_NODES, MAX_SHIFT);
+    let mut drawn = rounds(random, nodes, MAX_SHIFT);
     drawn.sort_by_key(|round| !given.contains(round));
     drawn.truncate(MAX_LIST);
     let mut node = |side, number: usize| {
@@ -384,9 +427,9 @@ fn longest(
         let entry = |&(distance, shift): &Round| {
             let other = match side {
                 Side::Surveyors => number + distance,
-                Side::Stands => number + MAX_NODES - distance,
+                Side::Stands => number + nodes - distance,
             };
-            let number = narrow(other % MAX_NODES + 1);
+            let number = narrow(other % nodes + 1);
             Entry { number, shift }
         };
         let mut list = List {
@@ -400,15 +443,16 @@ fn longest(
         Node { quota: 2, list }
     };
     let [surveyors, stands] =
-        SIDES.map(|side| (0..MAX_NODES).map(|number| node(side, number)).collect());
+        SIDES.map(|side| (0..nodes).map(|number| node(side, number)).collect());
     Roster::new(surveyors, stands).expect("both sides have the same rounds")
 }
 
 /// The plan of the pairs of some rounds.
 fn plan_where(roster: &Roster, chosen: &[Round]) -> Plan {
+    let nodes = roster.nodes(Side::Stands).len();
     let round = |pair: Pair| {
-        let distance = usize::from(pair.stand) + MAX_NODES - usize::from(pair.surveyor);
-        (distance % MAX_NODES, pair.shift)
+        let distance = usize::from(pair.stand) + nodes - usize::from(pair.surveyor);
+        (distance % nodes, pair.shift)
     };
     let in_round = |&index: &usize| chosen.contains(&round(roster.pairs()[index]));
     (0..roster.pairs().len()).filter(in_round).collect()

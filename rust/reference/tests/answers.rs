@@ -193,7 +193,8 @@ fn the_first_blocking_pair() {
         2, 1, 2, 3, 1, 1, 1, 6, 0, 3, 3, 1, 2, 1, 1, 1, 3, 1, 1, 3, 1, 2, 1, 6, 0, 2, 0, 1, 1, 2,
         1, 2, 0, 2, 1, 1, 1, 2, 0, 2, 1, 1, 1,
     ];
-    let cases: [(&str, Bytes, Pairs, Option<(u8, u8, u8)>); 10] = [
+    type Numbers = (u8, u8, u8);
+    let cases: [(&str, Bytes, Pairs, Option<Numbers>); 10] = [
         ("best in the list", CHOICE, &[], Some((1, 2, 1))),
         (
             "better than the held one",

@@ -1,5 +1,6 @@
 //! Files of the two forms, turned into each other. Problems are told in plain words.
 
+use reference::layout::Layout;
 use reference::ranges;
 use reference::roster::{self, Roster};
 
@@ -18,11 +19,16 @@ pub fn unpack(input: &[u8]) -> Result<Vec<u8>, String> {
     Ok(print(&read(input)?).into_bytes())
 }
 
-/// The roster of a roster's file.
+/// The roster of a roster's file. One from before the shifts is refused, and told as
+/// such.
 fn read(input: &[u8]) -> Result<Roster, String> {
     roster::read(input).map_err(|refusal| {
         let (number, group) = (refusal.number(), refusal.group());
-        format!("the input is no roster: refused {number} {group}, {refusal}")
+        let hint = match roster::read_by(Layout::Old, input) {
+            Ok(_) => "; it is one of a season before the shifts, which `seasons to-new` turns",
+            Err(_) => "",
+        };
+        format!("the input is no roster: refused {number} {group}, {refusal}{hint}")
     })
 }
 

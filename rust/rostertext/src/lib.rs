@@ -20,7 +20,7 @@
 //!
 //! Files from the seasons before the shifts are turned by `seasons`, and rosters of
 //! two districts, as text or as bytes, are joined by `rosters`, commands of the
-//! crate `planner`: they make the proved calls for that, and this crate is to be had
+//! package `commands`: they make the proved calls for that, and this crate is to be had
 //! without the proved library.
 
 mod files;

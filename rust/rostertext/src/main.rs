@@ -32,7 +32,10 @@ fn main() -> ExitCode {
 }
 
 /// Ranges from standard input to standard output, for the roster of a file.
-fn beside(roster: &str, way: fn(&[u8], &[u8]) -> Result<Vec<u8>, String>) -> Result<(), String> {
+fn beside(
+    roster: &str,
+    way: impl Fn(&[u8], &[u8]) -> Result<Vec<u8>, String>,
+) -> Result<(), String> {
     let bytes = fs::read(roster).map_err(|problem| format!("{roster}: {problem}"))?;
     turn(|input| way(&bytes, input))
 }

@@ -166,6 +166,17 @@ impl fmt::Display for What {
                     "the list has {length} entries, more than {MAX_LIST}"
                 )
             }
+            What::EntryOutOfRange {
+                side,
+                entry,
+                count: 0,
+            } => {
+                let other = word(side.other());
+                write!(
+                    formatter,
+                    "{other} {entry} is listed, but the text has no {other}"
+                )
+            }
             What::EntryOutOfRange { side, entry, count } => {
                 let other = word(side.other());
                 write!(

@@ -74,7 +74,7 @@ const CASES: [(&str, &str); 40] = [
     ("stand 1: 1 ]", "line 1: ']' is no number, in the list"),
     (
         "surveyor 1: 1",
-        "line 1: stand 1 is listed, but the stands are numbered from 1 to 0",
+        "line 1: stand 1 is listed, but the text has no stand",
     ),
     (
         "surveyor 1: 1\nstand 1: 1 0",
@@ -251,11 +251,15 @@ fn lists_of_32_entries() {
 fn the_command_tells_what_is_wrong() {
     let usage = "usage: rostertext pack < text > bytes, rostertext unpack < bytes > text,
        rostertext pack-ranges ROSTER < text > bytes, rostertext unpack-ranges ROSTER < bytes > text\n";
-    let cases: [(&[&str], &[u8], &str); 7] = [
+    let cases: [(&[&str], &[u8], &str); 8] = [
         (&[], b"", usage),
         (&["fold"], b"", usage),
         (&["pack", "unpack"], b"", usage),
-        (&["pack"], b"stand 1: 1", "line 1: surveyor 1 is listed, but the surveyors are numbered from 1 to 0\n"),
+        (
+            &["pack"],
+            b"stand 1: 1",
+            "line 1: surveyor 1 is listed, but the text has no surveyor\n",
+        ),
         (&["pack"], &[0xff], "the input is no text\n"),
         (
             &["unpack"],
@@ -266,6 +270,13 @@ fn the_command_tells_what_is_wrong() {
             &["unpack"],
             &[1, 1, 1, 1, 1, 0, 1, 1, 4],
             "the input is no roster: refused 18 content, a list entry's shift is not 1, 2 or 3\n",
+        ),
+        // two surveyors and a stand as files were before the shifts
+        (
+            &["unpack"],
+            &[2, 1, 1, 1, 1, 2, 0, 1, 1, 1, 1, 2, 0, 2, 0, 1, 2],
+            "the input is no roster: refused 4 content, a list entry is 0 or above the other side's count; \
+             it is one of a season before the shifts, which `seasons to-new` turns\n",
         ),
     ];
     for (arguments, input, words) in cases {

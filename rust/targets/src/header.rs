@@ -209,7 +209,10 @@ impl Header {
             Type::Size => Ok((8, 8)),
             Type::Struct(name) => match self.structure(name) {
                 Some(structure) => Ok((structure.size, structure.align)),
-                None => unknown("a struct that stands further down", &[name.clone()]),
+                None => unknown(
+                    "a struct that stands further down",
+                    std::slice::from_ref(name),
+                ),
             },
         }
     }

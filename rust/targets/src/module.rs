@@ -226,7 +226,7 @@ impl Reader {
         }
         let numbered = |start: &&str| line.strip_prefix(*start).is_some_and(is_number);
         let known = line == "source_filename = \"rattle\""
-            || DECLARED.iter().any(|start| numbered(start))
+            || DECLARED.iter().any(numbered)
             || is_note(line);
         known
             .then(|| line.to_owned())

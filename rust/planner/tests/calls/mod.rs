@@ -13,6 +13,9 @@ use crate::common::files;
 
 pub struct Desk(pub planner::Desk);
 
+/// A pair by the numbers of its surveyor and its stand, and its shift.
+pub type Pair = (u8, u8, u8);
+
 /// Both votes and who wins, and the part that is handed back.
 pub type Compared = (Result<(i16, i16, Winner), u8>, Part);
 
@@ -113,7 +116,7 @@ pub trait Calls: Sized {
     fn judge(self, rival: &mut [u8], pairing: &mut [u8]) -> (Self, Result<Judged, u8>);
     fn compare(self, first: &[u8], second: &[u8], facing: Facing) -> (Self, Compared);
     fn least(self, files: [&[u8]; 3], out: &mut [u8]) -> (Self, Result<(i16, usize), u8>);
-    fn blocking(self) -> (Self, Result<Option<(u8, u8, u8)>, u8>);
+    fn blocking(self) -> (Self, Result<Option<Pair>, u8>);
     fn holds(self) -> (Self, u8);
 
     /// The desk's own files, at the front of their arrays: roster, plan, proposal.
@@ -230,7 +233,7 @@ impl Calls for Desk {
         (self, answer.map_err(number))
     }
 
-    fn blocking(self) -> (Desk, Result<Option<(u8, u8, u8)>, u8>) {
+    fn blocking(self) -> (Desk, Result<Option<Pair>, u8>) {
         let answer = self.0.blocking().map_err(number);
         (self, answer)
     }

@@ -31,6 +31,10 @@ fn limits(
 /// The pair that is shown, by the numbers of its surveyor and its stand, and its
 /// shift. Pairs ascend by surveyor, so the search ends with the first surveyor
 /// that has one.
+#[expect(
+    clippy::needless_range_loop,
+    reason = "with iterators over the slices it was slower in the benchmark"
+)]
 pub fn first(instance: &Instance, chosen: &Chosen) -> Option<(u8, u8, u8)> {
     let pairs = instance.pairs;
     let at_s = limits(
