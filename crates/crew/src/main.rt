@@ -5,7 +5,6 @@ ghost use lib.ListN.{length};
 use libc::STDERR_FILENO;
 use libc::STDIN_FILENO;
 use libc::STDOUT_FILENO;
-use limits::INPUT_SIZE;
 use limits::TEXT_SIZE;
 
 // How many bytes were read, and whether every read was in order.
@@ -50,7 +49,7 @@ fn print_answer(input: &[u8]) {
 }
 
 fn main() {
-    let mut input = [0u8; INPUT_SIZE];
+    let mut input = program::input_buffer();
     let r = read_input(&mut input);
     if !r.fine {
         io::write_all(STDERR_FILENO, b"crew: the roster cannot be read\n");

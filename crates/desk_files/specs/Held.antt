@@ -50,6 +50,10 @@ pub held-empty : (d : Files) → rosterBytes d ≡ [] → heldOf d ≡ opening
 unfolding heldOf readRosterBy
 held-empty d e = ap (λ bs. beside (proposalBytes d) (held (readRoster bs) (planBytes d))) e
 
+-- a new desk: nothing is held, and there is no file in it
+abbrev pub New : Files → Type 0
+New d = (heldOf d ≡ opening) × (rosterBytes d ≡ []) × (planBytes d ≡ []) × (proposalBytes d ≡ [])
+
 -- ---- the proposal is no matter to a roster and a plan held
 pub beside-roster : (f : List ℕ) (h : Held) → noRoster (beside f h) ≡ noRoster h
 beside-roster f nothing = refl

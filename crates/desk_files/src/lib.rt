@@ -4,9 +4,9 @@
 ghost use mathlib.Core.Path.{_≡_};
 ghost use Prim.Native.Nat.{_≤_};
 ghost use lib.ListN.{length, take};
-ghost use Rattle.model_desk.specs.Desk.{opening, onto};
+ghost use Rattle.model_desk.specs.Desk.{onto};
 ghost use Rattle.desk_loaded.specs.OnDesk.{LoadedFrom};
-ghost use Rattle.desk_files.specs.Held.{rosterBytes, planBytes, heldOf};
+ghost use Rattle.desk_files.specs.Held.{rosterBytes, planBytes, New};
 ghost use Rattle.desk_files.specs.Open.{Opened};
 use desk_loaded::OnDesk;
 use limits::PLAN_SIZE;
@@ -24,7 +24,7 @@ pub struct Files {
 
 // nothing loaded
 pub fn none() -> Files
-    ensures { λ r. ⌜ heldOf r ≡ opening ⌝ }
+    ensures { λ r. ⌜ New r ⌝ }
 {
     Files {
         roster_len: 0,

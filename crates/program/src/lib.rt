@@ -1,11 +1,14 @@
 // The program's answer: the text that it prints for what it read. The program itself (crate crew) only reads, calls this and writes.
 ghost use mathlib.Core.Path.{_≡_};
+ghost use lib.ListN.{replicate};
+ghost use Rattle.model.specs.Limits.{inputSize};
 ghost use Rattle.model.specs.Printed.{printed};
 ghost use Rattle.theory_verdict.specs.Rival.{rivalOf};
 ghost use Rattle.instance.specs.Accepted.{RosterAccepted};
 ghost use Rattle.program.specs.Printing.{Prints};
 use answers::FileAnswer;
 use answers::Found;
+use limits::INPUT_SIZE;
 use limits::LEFT_SIZE;
 use limits::PLAN_SIZE;
 use limits::TEXT_SIZE;
@@ -48,4 +51,12 @@ pub fn answer(input: &[u8], out: &mut [u8; TEXT_SIZE]) -> usize
         }
         FileAnswer::Accepted => worked(input, out),
     }
+}
+
+// ---- the program's input
+// The buffer that the input is read into, one byte larger than the longest roster: what fills it is no roster, however much more there is to read.
+pub fn input_buffer() -> [u8; INPUT_SIZE]
+    ensures { λ r. ⌜ r ≡ replicate inputSize 0 ⌝ }
+{
+    [0u8; INPUT_SIZE]
 }

@@ -5,7 +5,7 @@ use Rattle.desk_files.proofs.none.Statement.{statement}
 use Rattle.desk_files.proofs.none.Tie as tie
 
 returns : tie.Need-returns
-returns c = held-empty _ refl
+returns c = (held-empty _ refl, refl, refl, refl)
 
 pub none-spec : {M : Type 1} → statement M
 none-spec = tie.close (tie.spec returns)
