@@ -10,5 +10,5 @@ slice-aggregate-print-answer c = let r = c .before .before .before .before .read
 
 pub main-spec : {M : Type 1} → statement M
 main-spec =
-    tie.close (tie.spec (λ c. search needs) (λ c κs. search needs) (λ c. search needs) (λ c κs. search needs) (λ c. search needs)
+    tie.close (tie.spec (λ c κs. search needs) (λ c. search needs) (λ c κs. search needs) (λ c. search needs) (λ c κs. search needs) (λ c. search needs)
     (λ c. search needs) slice-aggregate-print-answer (λ c κs. search needs) (λ c. search needs))
