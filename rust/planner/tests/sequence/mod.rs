@@ -24,7 +24,7 @@ use reference::refusal::Refusal;
 use reference::roster;
 
 /// The calls, as rows of the tally.
-const CALLS: [&str; 16] = [
+const CALLS: [&str; 18] = [
     "load roster",
     "load plan",
     "write roster",
