@@ -1,0 +1,161 @@
+// What a user can do. Each action makes proved calls, keeps what they answered, and tells the listeners. A refusal changes nothing but the notice.
+import { Refused, planPairs } from './crew.mjs';
+import { pairKey, pairText, readPlan, readRoster, rosterPairs, writePlan, writeRoster } from './files.mjs';
+import { page, tell } from './state.mjs';
+import { parse, print, Problem } from './text.mjs';
+
+// Does something that may be refused. The notice is what was refused, with its number, its group, its words and the place if it is known.
+function attempt(what, act, place = () => null) {
+  try {
+    act();
+    page.notice = null;
+  } catch (error) {
+    if (error instanceof Refused) page.notice = { what, number: error.number, group: error.group, text: error.text, place: place(error.number) };
+    else if (error instanceof Problem) page.notice = { what, line: error.line, text: error.what };
+    else if (error instanceof Unusable) page.notice = { what, text: error.message };
+    else throw error;
+  }
+  tell();
+  return page.notice === null;
+}
+
+class Unusable extends Error {}
+
+// where this page's own reader stops, if it stops at the refusal's number
+const placeIn = ({ stop }, number) => (stop !== undefined && stop.number === number ? { byte: stop.byte, words: stop.words } : null);
+
+const log = (text) => page.told.push(text);
+const copy = () => Object.assign(page.crew.desk(), { held: page.desk.held.slice() });
+
+// ---- rosters
+
+export function openRoster(bytes, title, text) {
+  const load = () => {
+    const desk = page.crew.desk();
+    desk.loadRoster(bytes);
+    Object.assign(page, { desk, title, told: [], change: null, draft: new Set(), chosen: null });
+    took(desk.find());
+    page.text = text ?? print(page.roster);
+    if (page.view === 'write') page.view = 'roster';
+    log(`${title} was opened.`);
+  };
+  return attempt(title, load, (number) => placeIn(readRoster(bytes), number));
+}
+
+export function openText(text, title) {
+  let bytes;
+  const read = attempt(title, () => {
+    bytes = writeRoster(parse(text));
+  });
+  return read && openRoster(bytes, title, text);
+}
+
+export function openFile(bytes, title) {
+  if (/\.plan$/.test(title)) return holdFile(bytes, title);
+  const text = asText(bytes, title);
+  return text === null ? openRoster(bytes, title) : openText(text, title);
+}
+
+// The text of a file, or null where it is no text. The bytes of a roster always have numbers below 9 among them, which no text has.
+function asText(bytes, title) {
+  if (!/\.txt$/.test(title) && (bytes.length === 0 || bytes.some((byte) => byte < 9))) return null;
+  try {
+    return new TextDecoder('utf-8', { fatal: true, ignoreBOM: true }).decode(bytes);
+  } catch {
+    return null;
+  }
+}
+
+// what the finder answers, and the roster that it was asked of
+function took(found) {
+  page.found = found;
+  page.roster = readRoster(page.desk.roster()).value;
+  page.step = found.diary.length;
+}
+
+// ---- plans
+
+export const draftFile = () => writePlan([...page.draft].map((key) => key.split(' ').map(Number)));
+export const setDraft = (pairs) => {
+  page.draft = new Set(pairs.map(pairKey));
+  tell();
+};
+export function toggleDraft(key) {
+  if (!page.draft.delete(key)) page.draft.add(key);
+  tell();
+}
+
+const planPlace = (bytes) => (number) => (page.roster === null ? null : placeIn(readPlan(bytes, page.roster), number));
+
+export const holdFile = (bytes, title) =>
+  attempt(title, () => {
+    (page.desk ?? page.crew.desk()).loadPlan(bytes);
+    setDraftQuietly(planPairs(bytes));
+    log(`${title} is held.`);
+    page.view = 'desk';
+  }, planPlace(bytes));
+
+export const proposeFile = (bytes, title) =>
+  attempt(title, () => {
+    page.desk.propose(bytes);
+    log(`${title} is proposed.`);
+  }, planPlace(bytes));
+
+export const commit = () =>
+  attempt('The proposal', () => {
+    page.desk.commit();
+    setDraftQuietly(heldPlan());
+    log('The proposal is held.');
+  });
+
+const setDraftQuietly = (pairs) => {
+  page.draft = new Set(pairs.map(pairKey));
+};
+
+// the held plan's pairs, or null
+export function heldPlan() {
+  try {
+    return planPairs(page.desk.plan());
+  } catch (error) {
+    if (error instanceof Refused) return null;
+    throw error;
+  }
+}
+
+// The open proposal's pairs, or null: what a desk like this one would hold behind a commit.
+export function proposal() {
+  const desk = copy();
+  try {
+    desk.commit();
+    return planPairs(desk.plan());
+  } catch (error) {
+    if (error instanceof Refused) return null;
+    throw error;
+  }
+}
+
+// ---- joining and leaving
+
+export const join = (quota, stands) => change(`surveyor ${page.roster.surveyors.length + 1} joins`, (desk) => desk.join(quota, stands));
+export const leave = (number) => change(`surveyor ${number} leaves`, (desk) => desk.leave(number));
+
+function change(what, act) {
+  return attempt(`${what[0].toUpperCase()}${what.slice(1)}`, () => {
+    const before = { ...page.found, held: heldPlan(), proposal: proposal() };
+    took(act(page.desk));
+    page.text = print(page.roster);
+    page.chosen = null;
+    const known = new Set(rosterPairs(page.roster).map(pairKey));
+    page.draft = new Set([...page.draft].filter((key) => known.has(key)));
+    page.change = { what, before, after: { ...page.found, held: heldPlan(), proposal: proposal() } };
+    log(`${what[0].toUpperCase()}${what.slice(1)}: ${shortly(page.found)}.`);
+  });
+}
+
+const shortly = ({ kind, plan, left, vote }) =>
+  kind === 'plan' ? `the plan is ${plan.map(pairText).join(' ') || 'empty'}` : kind === 'left' ? `no plan, ${left.length} pairs are left` : `no plan, vote ${vote}`;
+
+export const note = (what, text) =>
+  attempt(what, () => {
+    throw new Unusable(text);
+  });
