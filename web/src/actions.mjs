@@ -2,7 +2,7 @@
 import { Refused, planPairs } from './crew.mjs';
 import { pairKey, pairText, readPlan, readRoster, rosterPairs, writePlan, writeRoster } from './files.mjs';
 import { page, tell } from './state.mjs';
-import { parse, print, Problem } from './text.mjs';
+import { decode, Unreadable, parse, print, Problem } from './text.mjs';
 
 // Does something that may be refused. The notice is what was refused, with its number, its group, its words and the place if it is known.
 function attempt(what, act, place = () => null) {
@@ -12,14 +12,12 @@ function attempt(what, act, place = () => null) {
   } catch (error) {
     if (error instanceof Refused) page.notice = { what, number: error.number, group: error.group, text: error.text, place: place(error.number) };
     else if (error instanceof Problem) page.notice = { what, line: error.line, text: error.what };
-    else if (error instanceof Unusable) page.notice = { what, text: error.message };
+    else if (error instanceof Unreadable) page.notice = { what, text: error.message };
     else throw error;
   }
   tell();
   return page.notice === null;
 }
-
-class Unusable extends Error {}
 
 // where this page's own reader stops, if it stops at the refusal's number
 const placeIn = ({ stop }, number) => (stop !== undefined && stop.number === number ? { byte: stop.byte, words: stop.words } : null);
@@ -29,41 +27,32 @@ const copy = () => Object.assign(page.crew.desk(), { held: page.desk.held.slice(
 
 // ---- rosters
 
-export function openRoster(bytes, title, text) {
-  const load = () => {
-    const desk = page.crew.desk();
-    desk.loadRoster(bytes);
-    Object.assign(page, { desk, title, told: [], change: null, draft: new Set(), chosen: null });
-    took(desk.find());
-    page.text = text ?? print(page.roster);
-    if (page.view === 'write') page.view = 'roster';
-    log(`${title} was opened.`);
-  };
-  return attempt(title, load, (number) => placeIn(readRoster(bytes), number));
-}
+export const openRoster = (bytes, title) => attempt(title, () => load(bytes, title), (number) => placeIn(readRoster(bytes), number));
 
-export function openText(text, title) {
-  let bytes;
-  const read = attempt(title, () => {
-    bytes = writeRoster(parse(text));
+// a text, or what gives one and may find that there is none
+export const openText = (given, title) =>
+  attempt(title, () => {
+    const text = typeof given === 'function' ? given() : given;
+    load(writeRoster(parse(text)), title, text);
   });
-  return read && openRoster(bytes, title, text);
+
+function load(bytes, title, text) {
+  const desk = page.crew.desk();
+  desk.loadRoster(bytes);
+  Object.assign(page, { desk, title, told: [], change: null, draft: new Set(), chosen: null });
+  took(desk.find());
+  page.text = text ?? print(page.roster);
+  if (page.view === 'write') page.view = 'roster';
+  log(`${title} was opened.`);
 }
 
+// A file by its name's ending: a plan, a text, a roster's bytes. Of other names a file is a text if it has a letter, and no byte that no text has; the
+// bytes of a roster have some.
 export function openFile(bytes, title) {
   if (/\.plan$/.test(title)) return holdFile(bytes, title);
-  const text = asText(bytes, title);
-  return text === null ? openRoster(bytes, title) : openText(text, title);
-}
-
-// The text of a file, or null where it is no text. The bytes of a roster always have numbers below 9 among them, which no text has.
-function asText(bytes, title) {
-  if (!/\.txt$/.test(title) && (bytes.length === 0 || bytes.some((byte) => byte < 9))) return null;
-  try {
-    return new TextDecoder('utf-8', { fatal: true, ignoreBOM: true }).decode(bytes);
-  } catch {
-    return null;
-  }
+  const looksWritten = bytes.some((byte) => byte >= 97 && byte <= 122) && bytes.every((byte) => byte >= 9);
+  if (!/\.txt$/.test(title) && (/\.roster$/.test(title) || !looksWritten)) return openRoster(bytes, title);
+  return openText(() => decode(bytes), title);
 }
 
 // what the finder answers, and the roster that it was asked of
@@ -77,10 +66,12 @@ function took(found) {
 
 export const draftFile = () => writePlan([...page.draft].map((key) => key.split(' ').map(Number)));
 export const setDraft = (pairs) => {
-  page.draft = new Set(pairs.map(pairKey));
+  page.notice = null;
+  setDraftQuietly(pairs);
   tell();
 };
 export function toggleDraft(key) {
+  page.notice = null;
   if (!page.draft.delete(key)) page.draft.add(key);
   tell();
 }
@@ -157,5 +148,5 @@ const shortly = ({ kind, plan, left, vote }) =>
 
 export const note = (what, text) =>
   attempt(what, () => {
-    throw new Unusable(text);
+    throw new Unreadable(text);
   });

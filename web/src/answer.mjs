@@ -16,6 +16,15 @@ export function pairsTable(pairs, side, given) {
   return table({ class: 'pairs', ...given }, [WORDS[side], `${WORDS[1 - side]}s`], rows);
 }
 
+// the same pairs by surveyor, which is the list of that name, and by stand
+export const bothTables = (pairs, name) =>
+  make(
+    'div',
+    { class: 'two' },
+    make('div', { 'data-list': name }, make('h3', null, 'By surveyor'), pairsTable(pairs, 0)),
+    make('div', null, make('h3', null, 'By stand'), pairsTable(pairs, 1)),
+  );
+
 // ---- the line at the top
 
 export function drawAnswer() {
@@ -27,6 +36,7 @@ export function drawAnswer() {
   box.className = found.kind;
   box.dataset.kind = found.kind;
   box.dataset.vote = found.vote;
+  $('key').dataset.kind = found.kind;
   fill($('said'), make('h2', null, head), make('p', null, words));
   $('title').textContent = page.title;
   $('tab-answer').textContent = found.kind === 'plan' ? 'The plan' : 'Why there is none';
@@ -46,17 +56,14 @@ function said() {
 
 export function drawAnswerView() {
   const { kind, plan, left, rival } = page.found;
-  const both = (pairs, name) =>
-    make('div', { class: 'two' }, make('div', { 'data-list': name }, make('h3', null, 'By surveyor'), pairsTable(pairs, 0)), make('div', null, make('h3', null, 'By stand'), pairsTable(pairs, 1)));
   const goes = (view, text) =>
     make('button', { type: 'button', onclick: () => Object.assign(page, { view }) && tell() }, text);
   const parts = {
-    plan: () => [make('h2', null, `The plan: ${count(plan.length, 'pair')}`), both(plan, 'plan'), make('p', { class: 'noprint' }, goes('desk', 'Hold it at the desk'))],
+    plan: () => [make('h2', null, `The plan: ${count(plan.length, 'pair')}`), bothTables(plan, 'plan'), make('p', { class: 'noprint' }, goes('desk', 'Hold it at the desk'))],
     left: () => [
       make('h2', null, `${count(left.length, 'pair')} left`),
       make('p', null, 'No rule names one of these pairs, so the steps end here. Where pairs are left, no plan wins the vote against every other. The picture shows them.'),
-      both(left, 'left'),
-      plan.length > 0 && make('h3', null, 'Fixed before that'),
+      bothTables(left, 'left'),
     ],
     rivalled: rivalled,
   };

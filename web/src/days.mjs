@@ -21,7 +21,7 @@ export function drawDays() {
     make('h2', null, `Day sheet of ${page.title}: ${count(held.length, 'pair')} on ${count(last, 'day')}`),
     make('p', { class: 'soft' }, 'Nobody and no stand has two entries on one day, and no sheet of this plan has fewer days.'),
     make('p', { class: 'row noprint' }, button('Print the sheet', () => window.print(), { class: 'main' }), [0, 1].map((side) => save(side, held, days, last))),
-    [0, 1].map((side) => [make('h3', null, `By ${WORDS[side]}`), sheet(side, held, days, last)]),
+    make('div', { class: 'two' }, [0, 1].map((side) => make('div', null, make('h3', null, `By ${WORDS[side]}`), sheet(side, held, days, last)))),
   );
 }
 

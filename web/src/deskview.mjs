@@ -1,6 +1,6 @@
 // The desk: the held plan with its verdict and blocking pair, a plan made by tapping pairs, a proposal with both votes, and surveyors who join and leave.
 import { commit, draftFile, heldPlan, holdFile, join, leave, note, proposal, proposeFile, setDraft, toggleDraft } from './actions.mjs';
-import { pairsTable } from './answer.mjs';
+import { bothTables, pairsTable } from './answer.mjs';
 import { $, button, count, fill, make } from './dom.mjs';
 import { facingTable } from './facing.mjs';
 import { pairKey, pairText, writePlan } from './files.mjs';
@@ -38,7 +38,7 @@ function heldPart(held) {
         ? 'No pair blocks it.'
         : `A pair blocks it: ${pairWords(blocking, hasShifts())}. It is not in the plan, and each of the two has room or a worse pair in it.`,
     ),
-    make('div', { 'data-list': 'held' }, pairsTable(held, 0)),
+    bothTables(held, 'held'),
     make('p', { class: 'row' }, button('Save the plan', () => savePlan(page.desk.plan())), found(held)),
     verdict !== 'strong' &&
       make('details', null, make('summary', null, 'The rival, and who faced whom'), make('div', { 'data-list': 'desk-rival' }, pairsTable(rival, 0)), facingTable(pairing, 'held plan', 'rival')),
@@ -73,7 +73,7 @@ function draftPart(held) {
       'p',
       { class: 'row' },
       held === null ? button('Hold it', () => holdFile(draftFile(), 'The plan made here'), { id: 'hold', class: 'main' }) : null,
-      held === null ? null : button('Propose it', () => proposeFile(draftFile(), 'The plan made here'), { id: 'propose', class: 'main' }),
+      held === null ? null : button('Propose it', () => proposeFile(draftFile(), 'The plan made here') && $('proposal').scrollIntoView({ block: 'nearest' }), { id: 'propose', class: 'main' }),
       held === null ? null : button('Hold it without a vote', () => holdFile(draftFile(), 'The plan made here'), { id: 'hold' }),
       button('Save it', () => savePlan(draftFile())),
       button('Open a plan file', () => chooseFile('plan'), { id: 'open-plan' }),

@@ -21,7 +21,16 @@ function filled(element, given, inside) {
 // puts these children in the place of all that an element had
 export const fill = (element, ...inside) => element.replaceChildren(...inside.flat(Infinity).filter((part) => part !== null && part !== undefined && part !== false));
 
-export const button = (text, onclick, given) => make('button', { type: 'button', onclick, ...given }, text);
+export const button = (text, onclick, given) => make('button', { type: 'button', 'data-focus': text, onclick, ...given }, text);
+
+// Draws, and keeps the focus where it was: on the element that has the same mark, or on `instead` where that is gone.
+export function keepingFocus(work, instead) {
+  const { id, dataset } = document.activeElement;
+  const mark = id ? `#${id}` : dataset.draft ? `[data-draft="${dataset.draft}"]` : dataset.focus ? `[data-focus="${dataset.focus}"]` : null;
+  work();
+  if (mark === null || document.activeElement.matches(mark)) return;
+  (document.querySelector(mark) ?? instead()).focus({ preventScroll: true });
+}
 
 export const table = (given, head, rows) =>
   make('table', given, make('thead', null, make('tr', null, head.map((cell) => make('th', { scope: 'col' }, cell)))), make('tbody', null, rows));

@@ -1,6 +1,6 @@
 // Who faced whom: for each surveyor and each stand the places of a plan, each against the place of the other plan that it was set against. The ranks are
 // the planner's (docs/FORMATS.md, Pairings); this page names the entries that have them.
-import { make, table, row } from './dom.mjs';
+import { count, make, table, row } from './dom.mjs';
 import { nodesOf, page } from './state.mjs';
 import { WORDS } from './text.mjs';
 import { ordinal, signed } from './words.mjs';
@@ -42,7 +42,7 @@ export function facingTable(bytes, own, other) {
   const quiet = told.length - moved.length;
   return [
     rows.length > 0 && table({ class: 'facing' }, ['who', `${own} against ${other}, place by place`, 'vote'], rows),
-    quiet > 0 && make('p', { class: 'soft' }, `For ${quiet === told.length ? 'all' : `the other ${quiet}`} both plans are alike.`),
+    quiet > 0 && make('p', { class: 'soft' }, `For ${quiet === told.length ? 'everyone' : count(quiet, 'other')} both plans are alike.`),
   ];
 }
 

@@ -4,7 +4,7 @@ import { drawAnswer, drawAnswerView } from './answer.mjs';
 import { open } from './crew.mjs';
 import { drawDays } from './days.mjs';
 import { drawDesk, startDesk } from './deskview.mjs';
-import { $, button, fill, make } from './dom.mjs';
+import { $, button, fill, keepingFocus, make } from './dom.mjs';
 import { saveRoster, saveRosterText, startFiles } from './export.mjs';
 import { drawPicture } from './picture.mjs';
 import { listen, page, tell } from './state.mjs';
@@ -41,24 +41,27 @@ function drawAll() {
     Object.assign($(`tab-${view}`), { disabled: !there && view !== 'write', tabIndex: on ? 0 : -1 });
     $(`tab-${view}`).setAttribute('aria-selected', String(on));
   }
-  if (there || page.view === 'write') DRAWN[page.view]();
+  if (there || page.view === 'write') keepingFocus(DRAWN[page.view], () => $(`view-${page.view}`));
   keep();
 }
+
+let drawn = null; // the notice that is on the page
 
 // what was refused: in words, with its number and its place
 function drawNotice() {
   const { notice } = page;
   $('notice').hidden = notice === null;
-  if (notice === null) return;
+  if (notice === null || notice === drawn) return;
+  drawn = notice;
   const { what, number, group, text, place, line } = notice;
   Object.assign($('notice').dataset, { refusal: number === undefined ? '' : `${number} ${group}`, line: line ?? '', byte: place?.byte ?? '' });
-  const where = line !== undefined ? `Line ${line}: ` : '';
+  const where = line === undefined ? '' : `Line ${line}: `;
   fill(
     $('notice'),
-    make('h2', null, number === undefined && line === undefined ? what : `${what} cannot be used`),
-    make('p', null, `${where}${text}.`, number === undefined ? '' : ` Refusal ${number}, ${group}.`),
-    place ? make('p', null, `Place: ${place.words} (byte ${place.byte}).`) : null,
-    make('p', null, page.found === null ? '' : 'What was open stays as it was.'),
+    make('h2', null, `${what} cannot be used`),
+    make('p', null, `${where}${text[0].toUpperCase()}${text.slice(1)}.`, number === undefined ? '' : ` Refusal ${number}, ${group}.`),
+    place && make('p', null, `Place: ${place.words} (byte ${place.byte}).`),
+    page.found !== null && make('p', null, 'What was open stays as it was.'),
     button('Close', () => {
       page.notice = null;
       tell();
@@ -81,7 +84,7 @@ function startTabs() {
 }
 
 function look(view) {
-  page.view = view;
+  Object.assign(page, { view, notice: null });
   tell();
 }
 

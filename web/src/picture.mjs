@@ -36,7 +36,7 @@ function build() {
   const heads = COLUMNS.map((x, side) => draw('text', { x, y: 18, class: 'head' }, `${WORDS[side]}s`));
   const picture = draw(
     'svg',
-    { viewBox: `0 0 ${WIDTH} ${TOP + rows * height + 4}`, role: 'group', 'aria-label': 'surveyors and stands; arrow keys move, Enter shows one alone' },
+    { class: rows > 20 ? 'tall' : 'short', viewBox: `0 0 ${WIDTH} ${TOP + rows * height + 4}`, role: 'group', 'aria-label': 'surveyors and stands; arrow keys move, Enter shows one alone' },
     heads,
     draw('g', { class: 'lines' }, [...lines.values()].map(({ group }) => group)),
     nodes.flat().map(({ group }) => group),

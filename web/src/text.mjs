@@ -28,16 +28,17 @@ const wrong = (what) => {
   throw new Wrong(what);
 };
 
-// The roster of a file's bytes that are a text.
-export function parseFile(bytes) {
-  let text;
+// The text of a file's bytes.
+export function decode(bytes) {
   try {
-    text = new TextDecoder('utf-8', { fatal: true, ignoreBOM: true }).decode(bytes);
+    return new TextDecoder('utf-8', { fatal: true, ignoreBOM: true }).decode(bytes);
   } catch {
-    throw new Error('the input is no text');
+    throw new Unreadable('the input is no text');
   }
-  return parse(text);
 }
+
+// what cannot be read as a text at all
+export class Unreadable extends Error {}
 
 // The roster of a text: its lines are judged one by one from the top, then the lists, then whether each pair stands in both lists.
 export function parse(text) {

@@ -133,11 +133,13 @@ export class Tab {
     }, selector, text);
   }
 
-  async key(name, times = 1) {
+  // Presses a key; `modifiers` 8 is the Shift key.
+  async key(name, times = 1, modifiers = 0) {
     const [code, text] = KEYS[name] ?? [name.toUpperCase().charCodeAt(0), name];
     for (let left = times; left > 0; left--) {
-      const params = { key: name, code: name, windowsVirtualKeyCode: code, text: text || undefined };
-      await this.send('Input.dispatchKeyEvent', { type: text ? 'keyDown' : 'rawKeyDown', ...params });
+      const params = { key: name, code: name, windowsVirtualKeyCode: code, text: text || undefined, modifiers };
+      const commands = modifiers === 2 && name === 'a' ? ['selectAll'] : undefined;
+      await this.send('Input.dispatchKeyEvent', { type: text ? 'keyDown' : 'rawKeyDown', commands, ...params });
       await this.send('Input.dispatchKeyEvent', { type: 'keyUp', ...params });
     }
   }
@@ -150,7 +152,7 @@ export class Tab {
   async give(path) {
     const { root } = await this.send('DOM.getDocument');
     const { nodeId } = await this.send('DOM.querySelector', { nodeId: root.nodeId, selector: '#file' });
-    await this.ask('performance.clearMeasures()');
+    await this.ask("performance.clearMeasures(); document.querySelector('#file').value = ''");
     await this.send('DOM.setFileInputFiles', { nodeId, files: [path] });
     await this.until("performance.getEntriesByName('answered').length > 0");
     return this.ask("performance.getEntriesByName('answered')[0].duration");
