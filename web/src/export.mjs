@@ -24,7 +24,7 @@ export function startFiles() {
   });
 }
 
-// From the moment that the file is there to the answer that is drawn, a measure for the tests.
+// From the moment that the file is there to the answer, and to the view below it, two measures for the tests.
 async function take(file, what) {
   if (!file) return;
   performance.mark('opened');
@@ -32,6 +32,7 @@ async function take(file, what) {
   if (what === 'plan') holdFile(bytes, file.name);
   else openFile(bytes, file.name);
   performance.measure('answered', 'opened');
+  requestAnimationFrame(() => setTimeout(() => performance.measure('drawn', 'opened')));
 }
 
 // ---- out

@@ -41,8 +41,19 @@ function drawAll() {
     Object.assign($(`tab-${view}`), { disabled: !there && view !== 'write', tabIndex: on ? 0 : -1 });
     $(`tab-${view}`).setAttribute('aria-selected', String(on));
   }
-  if (there || page.view === 'write') keepingFocus(DRAWN[page.view], () => $(`view-${page.view}`));
+  if (there || page.view === 'write') drawView();
   keep();
+}
+
+let pictured = null; // the roster that is drawn, or about to be
+
+// The view that is looked at. The first time that a roster is drawn, the answer above it comes first.
+function drawView() {
+  const draw = () => keepingFocus(DRAWN[page.view], () => $(`view-${page.view}`));
+  const first = pictured !== page.roster;
+  pictured = page.roster;
+  if (first && page.found !== null) requestAnimationFrame(() => setTimeout(draw));
+  else draw();
 }
 
 let drawn = null; // the notice that is on the page

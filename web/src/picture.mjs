@@ -11,12 +11,14 @@ const TOP = 34;
 const DOT = 12;
 const BEND = 100; // how far a line leads straight out of a number
 const BOW = 15; // how far the lines of two shifts lie apart
+const MOST_LABELS = 150; // more shifts than these are not written beside their lines
 
 const LETTER = 9.4; // how wide a letter of a list is, about
 const SUBSCRIPTS = ['', '₁', '₂', '₃'];
 
 let built = null; // the roster that the picture shows
 let lines = new Map(); // by pair, its line
+let over = null; // what is drawn over the lines: shifts, and the rival's dashes on the candidate's lines
 let nodes = [[], []]; // by side and number, its group and its dots
 
 export function drawPicture() {
@@ -32,13 +34,15 @@ function build() {
   const height = rows > 20 ? 34 : rows > 10 ? 44 : 56;
   const place = (side, index) => TOP + (rows * height * (index + 0.5)) / nodesOf(side).length;
   lines = new Map(rosterPairs(page.roster).map((pair) => [pairKey(pair), line(pair, place)]));
+  over = draw('g', { class: 'over' });
   nodes = [0, 1].map((side) => nodesOf(side).map((node, index) => nodeGroup(side, index, node, place(side, index), height)));
   const heads = COLUMNS.map((x, side) => draw('text', { x, y: 18, class: 'head' }, `${WORDS[side]}s`));
   const picture = draw(
     'svg',
     { class: rows > 20 ? 'tall' : 'short', viewBox: `0 0 ${WIDTH} ${TOP + rows * height + 4}`, role: 'group', 'aria-label': 'surveyors and stands; arrow keys move, Enter shows one alone' },
     heads,
-    draw('g', { class: 'lines' }, [...lines.values()].map(({ group }) => group)),
+    draw('g', { class: 'lines' }, [...lines.values()].map(({ path }) => path)),
+    over,
     nodes.flat().map(({ group }) => group),
   );
   picture.addEventListener('keydown', onKey);
@@ -51,10 +55,8 @@ function line([surveyor, stand, shift], place) {
   const bow = hasShifts() ? (shift - 2) * BOW : 0;
   const [from, to] = COLUMNS;
   const d = `M${from} ${a} C${from + BEND} ${a + bow} ${to - BEND} ${b + bow} ${to} ${b}`;
-  const path = (layer) => draw('path', { d, class: layer });
-  const group = draw('g', { class: 'pair', 'data-line': pairKey([surveyor, stand, shift]) }, path('first'), path('second'));
-  if (hasShifts()) group.append(draw('text', { x: (from + to) / 2 + (shift - 2) * 24, y: (a + b) / 2 + bow * 0.75 + 5, class: 'shift' }, String(shift)));
-  return { group };
+  const path = draw('path', { d, 'data-line': pairKey([surveyor, stand, shift]) });
+  return { path, label: { x: (from + to) / 2 + (shift - 2) * 24, y: (a + b) / 2 + bow * 0.75 + 5, class: 'shift' } };
 }
 
 function nodeGroup(side, index, node, y, height) {
@@ -97,11 +99,11 @@ const cut = (text, most) => (text.length <= most ? text : `${text.slice(0, text.
 function paint() {
   const fates = fatesNow();
   const fixed = [nodesOf(0).map(() => 0), nodesOf(1).map(() => 0)];
-  for (const [key, { group }] of lines) {
+  for (const [key, { path }] of lines) {
     const fate = fates.get(key) ?? 'open';
     const ends = key.split(' ').map(Number);
     const alone = page.chosen !== null && ends[page.chosen[0]] !== page.chosen[1];
-    group.setAttribute('class', `pair ${fate}${alone ? ' hidden' : ''}`);
+    path.setAttribute('class', `pair ${fate}${alone ? ' hidden' : ''}`);
     if (/\bfixed\b/.test(fate)) for (const side of [0, 1]) fixed[side][ends[side] - 1] += 1;
   }
   nodes.forEach((side, index) =>
@@ -114,13 +116,22 @@ function paint() {
   );
   const first = page.chosen === null ? nodes[0][0] ?? nodes[1][0] : nodes[page.chosen[0]][page.chosen[1] - 1];
   for (const { group } of nodes.flat()) group.setAttribute('tabindex', group === first?.group ? 0 : -1);
-  for (const fate of ['now', 'left', 'candidate', 'rival', 'fixed']) raise(fate);
+  paintOver();
 }
 
-// lines that matter are drawn over the others
-function raise(fate) {
-  const over = $('picture').querySelector('.lines');
-  if (over.childElementCount > 200) over.append(...over.querySelectorAll(`.pair.${fate}`));
+// The lines that matter come last, over the others; the rival's dashes lie on those of the candidate's lines that it has too; and where there are several
+// shifts, their numbers stand beside the lines that are not struck.
+function paintOver() {
+  const shown = [...lines].filter(([, { path }]) => !path.classList.contains('hidden'));
+  const matter = shown.filter(([, { path }]) => /fixed|left|rival|now/.test(path.getAttribute('class')));
+  $('picture').querySelector('.lines').append(...matter.map(([, { path }]) => path));
+  const both = shown.filter(([, { path }]) => path.matches('.candidate.rival'));
+  const labelled = hasShifts() ? shown.filter(([, { path }]) => !path.matches('.struck')) : [];
+  fill(
+    over,
+    both.map(([, { path }]) => draw('path', { d: path.getAttribute('d'), class: 'both' })),
+    labelled.length <= MOST_LABELS && labelled.map(([key, { label }]) => draw('text', label, key.split(' ')[2])),
+  );
 }
 
 // What has become of each pair by the step that is shown, in the words of the style sheet.

@@ -148,14 +148,14 @@ export class Tab {
     await this.send('Input.insertText', { text });
   }
 
-  // Gives a file to the page's file input, as the chooser does.
+  // Gives a file to the page's file input, as the chooser does: how many milliseconds later the answer was there, and all of it drawn.
   async give(path) {
     const { root } = await this.send('DOM.getDocument');
     const { nodeId } = await this.send('DOM.querySelector', { nodeId: root.nodeId, selector: '#file' });
     await this.ask("performance.clearMeasures(); document.querySelector('#file').value = ''");
     await this.send('DOM.setFileInputFiles', { nodeId, files: [path] });
-    await this.until("performance.getEntriesByName('answered').length > 0");
-    return this.ask("performance.getEntriesByName('answered')[0].duration");
+    await this.until("performance.getEntriesByName('drawn').length > 0");
+    return this.ask("['answered', 'drawn'].map((name) => performance.getEntriesByName(name)[0].duration)");
   }
 
   async shot(path, full = false) {

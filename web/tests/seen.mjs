@@ -22,7 +22,8 @@ function readers() {
     },
     steps: () =>
       all('#diary li').map((item) => {
-        const [, pair, fate, rule] = [...item.children].map((part) => part.innerText);
+        // what has been scrolled away is laid out when it is needed, so it has no innerText
+        const [, pair, fate, rule] = [...item.children].map((part) => part.textContent);
         const [surveyor, stand, shift] = pair.split(/ [–/] /);
         return `${{ fixed: 'fix', 'struck out': 'strike' }[fate]} ${surveyor} ${stand} ${shift ?? 1} ${rule.replace('rule ', '')}`;
       }),

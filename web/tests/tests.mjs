@@ -39,15 +39,21 @@ async function everySample({ tab, samples, read }) {
   return `${names.length} of them`;
 }
 
+// The falsified page differs from what is expected, and in its fates alone: so it was read, and the comparisons above would have failed.
 async function falsifiedSeen({ browser, falsified, url, samples, read }) {
   const other = await browser.open(url(falsified), 800, 1200);
-  for (const name of ['district', 'two-for-one', 'crossed', 'beaten'].filter((name) => /^(fix|strike)/m.test(read(`samples/${name}.out`)))) {
+  const turned = (text) => text.replace(/^(fix|strike)/gm, (word) => (word === 'fix' ? 'strike' : 'fix'));
+  const check = (shown, expected) => {
+    assert.notStrictEqual(shown, expected);
+    assert.strictEqual(turned(shown), expected);
+  };
+  for (const name of ['district', 'two-for-one', 'beaten', 'shifts']) {
     await other.give(`${samples}/${name}.roster`);
-    assert.notStrictEqual(`${(await answer(other)).join('\n')}\n`, read(`samples/${name}.out`), name);
+    check(`${(await answer(other)).join('\n')}\n`, read(`samples/${name}.out`));
   }
   const session = read('rust/planner/examples/session.txt').split('\n').filter((line) => !line.startsWith('#')).slice(0, 2).join('\n');
   const shown = await runSession(other, session, samples);
-  assert(!read('rust/planner/examples/session.out').startsWith(shown));
+  check(shown, read('rust/planner/examples/session.out').slice(0, shown.length));
   await browser.send('Target.closeTarget', { targetId: other.target });
 }
 
@@ -63,16 +69,21 @@ async function session({ tab, samples, read }) {
   return `${expected.length - 1} lines`;
 }
 
-// from a file that is chosen to the answer that is drawn; the best of some tries, since others may use the machine
-async function firstAnswer({ tab, samples }) {
+// from a file that is chosen to the answer above the view, in a page that has just been opened; the best of some tries, since others may use the machine
+async function firstAnswer({ tab, samples, page, url }) {
   const told = [];
   for (const name of ['district.roster', 'district.txt', 'longest.roster', 'longest.txt']) {
-    let best = Infinity;
-    for (let tries = 0; tries < ENOUGH_TRIES && (best > FIRST_ANSWER_MS / 2 || tries < 3); tries++) best = Math.min(best, await tab.give(`${samples}/${name}`));
-    told.push(`${name} ${best.toFixed(1)} ms`);
-    assert(best < FIRST_ANSWER_MS, told.join(', '));
+    let best = [Infinity];
+    for (let tries = 0; tries < ENOUGH_TRIES && (best[0] > FIRST_ANSWER_MS / 2 || tries < 3); tries++) {
+      await tab.ask('localStorage.clear()');
+      await tab.go(url(page));
+      const times = await tab.give(`${samples}/${name}`);
+      if (times[0] < best[0]) best = times;
+    }
+    told.push(`${name} ${best[0].toFixed(0)}, drawn ${best[1].toFixed(0)}`);
+    assert(best[0] < FIRST_ANSWER_MS, told.join('; '));
   }
-  return told.join(', ');
+  return told.join('; ');
 }
 
 // ---- files that are refused, texts, plans
