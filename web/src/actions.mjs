@@ -22,7 +22,10 @@ function attempt(what, act, place = () => null) {
 // where this page's own reader stops, if it stops at the refusal's number
 const placeIn = ({ stop }, number) => (stop !== undefined && stop.number === number ? { byte: stop.byte, words: stop.words } : null);
 
-const log = (text) => page.told.push(text);
+const MOST_TOLD = 50;
+const log = (text) => {
+  page.told = [...page.told, text].slice(-MOST_TOLD);
+};
 const copy = () => Object.assign(page.crew.desk(), { held: page.desk.held.slice() });
 
 // ---- rosters
@@ -39,7 +42,7 @@ export const openText = (given, title) =>
 function load(bytes, title, text) {
   const desk = page.crew.desk();
   desk.loadRoster(bytes);
-  Object.assign(page, { desk, title, told: [], change: null, draft: new Set(), chosen: null });
+  Object.assign(page, { desk, title, fresh: true, told: [], change: null, undo: null, draft: new Set(), chosen: null });
   took(desk.find());
   page.text = text ?? print(page.roster);
   if (page.view === 'write') page.view = 'roster';
@@ -78,23 +81,27 @@ export function toggleDraft(key) {
 
 const planPlace = (bytes) => (number) => (page.roster === null ? null : placeIn(readPlan(bytes, page.roster), number));
 
-export const holdFile = (bytes, title) =>
+// holds a plan, and goes to where it is seen
+export const holdFile = (bytes, title, view = 'desk') =>
   attempt(title, () => {
     (page.desk ?? page.crew.desk()).loadPlan(bytes);
     setDraftQuietly(planPairs(bytes));
+    page.undo = null;
     log(`${title} is held.`);
-    page.view = 'desk';
+    page.view = view;
   }, planPlace(bytes));
 
 export const proposeFile = (bytes, title) =>
   attempt(title, () => {
     page.desk.propose(bytes);
+    page.undo = null;
     log(`${title} is proposed.`);
   }, planPlace(bytes));
 
 export const commit = () =>
   attempt('The proposal', () => {
     page.desk.commit();
+    page.undo = null;
     setDraftQuietly(heldPlan());
     log('The proposal is held.');
   });
@@ -130,21 +137,36 @@ export function proposal() {
 export const join = (quota, stands) => change(`surveyor ${page.roster.surveyors.length + 1} joins`, (desk) => desk.join(quota, stands));
 export const leave = (number) => change(`surveyor ${number} leaves`, (desk) => desk.leave(number));
 
+const summary = () => ({ kind: page.found.kind, plan: page.found.plan, held: heldPlan(), proposal: proposal() });
+
 function change(what, act) {
   return attempt(`${what[0].toUpperCase()}${what.slice(1)}`, () => {
-    const before = { ...page.found, held: heldPlan(), proposal: proposal() };
+    const before = summary();
+    const undo = page.desk.held;
     took(act(page.desk));
+    page.undo = undo;
     page.text = print(page.roster);
     page.chosen = null;
     const known = new Set(rosterPairs(page.roster).map(pairKey));
     page.draft = new Set([...page.draft].filter((key) => known.has(key)));
-    page.change = { what, before, after: { ...page.found, held: heldPlan(), proposal: proposal() } };
+    page.change = { what, before, after: summary() };
     log(`${what[0].toUpperCase()}${what.slice(1)}: ${shortly(page.found)}.`);
   });
 }
 
-const shortly = ({ kind, plan, left, vote }) =>
-  kind === 'plan' ? `the plan is ${plan.map(pairText).join(' ') || 'empty'}` : kind === 'left' ? `no plan, ${left.length} pairs are left` : `no plan, vote ${vote}`;
+function shortly({ kind, plan, left, vote }) {
+  if (kind === 'plan') return `the plan is ${plan.map(pairText).join(' ') || 'empty'}`;
+  return kind === 'left' ? `no plan, ${left.length} pairs are left` : `no plan, the candidate's vote is ${vote}`;
+}
+
+// takes the last change back: the desk is again the one that went into it
+export function takeBack() {
+  page.desk.held = page.undo;
+  took(page.desk.find());
+  log(`Taken back: ${page.change.what}.`);
+  Object.assign(page, { undo: null, change: null, chosen: null, notice: null, text: print(page.roster) });
+  tell();
+}
 
 export const note = (what, text) =>
   attempt(what, () => {

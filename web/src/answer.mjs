@@ -1,17 +1,19 @@
 // The answer: in a line at the top of every view, and whole in a view of its own: the plan, or the pairs left, or candidate and rival side by side with
 // the vote and who faced whom.
-import { writePlan } from './files.mjs';
-import { $, count, fill, make, row, table } from './dom.mjs';
+import { holdFile } from './actions.mjs';
+import { $, button, count, fill, make, row, table } from './dom.mjs';
 import { facingTable } from './facing.mjs';
-import { hasShifts, page, tell } from './state.mjs';
+import { writePlan } from './files.mjs';
+import { hasShifts, page } from './state.mjs';
 import { WORDS } from './text.mjs';
 import { signed } from './words.mjs';
 
 // pairs as a table, a row for each node of a side; every pair stands there once
 export function pairsTable(pairs, side, given) {
-  const groups = Map.groupBy(pairs, (pair) => pair[side]);
-  const cell = (pair) => make('span', { class: 'chip', 'data-pair': pair.join(' ') }, hasShifts() ? `${pair[1 - side]}, shift ${pair[2]}` : String(pair[1 - side]));
-  const rows = [...groups].sort(([a], [b]) => a - b).map(([number, own]) => row(null, String(number), own.map(cell)));
+  const numbers = [...new Set(pairs.map((pair) => pair[side]))].sort((a, b) => a - b);
+  const text = (pair) => (hasShifts() ? `${pair[1 - side]}, shift ${pair[2]}` : `${pair[1 - side]}`);
+  const cell = (pair) => make('span', { class: 'chip', 'data-pair': pair.join(' ') }, text(pair));
+  const rows = numbers.map((number) => row(null, String(number), pairs.filter((pair) => pair[side] === number).map(cell)));
   if (rows.length === 0) return make('p', given, 'No pairs.');
   return table({ class: 'pairs', ...given }, [WORDS[side], `${WORDS[1 - side]}s`], rows);
 }
@@ -45,43 +47,48 @@ export function drawAnswer() {
 function said() {
   const { kind, plan, left, vote, diary } = page.found;
   if (kind === 'plan') return ['There is a plan', `${count(plan.length, 'pair')}. It wins the vote against every other plan that the quotas allow.`];
+  const none = 'No plan wins the vote against every other:';
   if (kind === 'left') {
-    return ['There is no plan', `No plan wins the vote against every other: after ${count(diary.length, 'step')} no rule acts any more, and ${count(left.length, 'pair')} are left.`];
+    const are = `${count(left.length, 'pair')} ${left.length === 1 ? 'is' : 'are'} left`;
+    return ['There is no plan', `${none} after ${count(diary.length, 'step')} no rule acts any more, and ${are}.`];
   }
   const how = vote < 0 ? 'loses against a rival' : 'does not win against a rival';
-  return ['There is no plan', `No plan wins the vote against every other: the one candidate that the steps leave ${how}. Its vote is ${signed(vote)}.`];
+  return ['There is no plan', `${none} the one candidate that the steps leave ${how}. Its vote is ${signed(vote)}.`];
 }
 
 // ---- the view
 
-export function drawAnswerView() {
-  const { kind, plan, left, rival } = page.found;
-  const goes = (view, text) =>
-    make('button', { type: 'button', onclick: () => Object.assign(page, { view }) && tell() }, text);
-  const parts = {
-    plan: () => [make('h2', null, `The plan: ${count(plan.length, 'pair')}`), bothTables(plan, 'plan'), make('p', { class: 'noprint' }, goes('desk', 'Hold it at the desk'))],
-    left: () => [
-      make('h2', null, `${count(left.length, 'pair')} left`),
-      make('p', null, 'No rule names one of these pairs, so the steps end here. Where pairs are left, no plan wins the vote against every other. The picture shows them.'),
-      bothTables(left, 'left'),
-    ],
-    rivalled: rivalled,
-  };
-  fill($('view-answer'), parts[kind]());
-  function rivalled() {
-    const { first, second, forward } = page.desk.compare(writePlan(plan), writePlan(rival));
-    return [
-      make('h2', null, 'Candidate and rival'),
-      make('p', { 'data-votes': `${first} ${second}` }, `The candidate's vote against the rival is ${signed(first)}, the rival's vote against the candidate ${signed(second)}.`),
-      make(
-        'div',
-        { class: 'two' },
-        make('div', { 'data-list': 'candidate', class: 'candidate' }, make('h3', null, 'Candidate'), pairsTable(plan, 0)),
-        make('div', { 'data-list': 'rival', class: 'rival' }, make('h3', null, 'Rival'), pairsTable(rival, 0)),
-      ),
-      make('h3', null, 'Who faced whom'),
-      make('p', { class: 'soft' }, 'Each place of the candidate votes for the plan that serves it better. Of all fair ways to set the places against each other the worst for the candidate counts; this is it.'),
-      facingTable(forward, 'candidate', 'rival'),
-    ];
-  }
+export const drawAnswerView = () => fill($('view-answer'), { plan: planPart, left: leftPart, rivalled: rivalledPart }[page.found.kind]());
+
+function planPart() {
+  const { plan } = page.found;
+  const hold = button('Hold it at the desk', () => holdFile(writePlan(plan), 'The plan found'));
+  return [make('h2', null, `The plan: ${count(plan.length, 'pair')}`), bothTables(plan, 'plan'), make('p', { class: 'noprint' }, hold)];
+}
+
+const LEFT =
+  'No rule names one of these pairs, so the steps end here. Where pairs are left, no plan wins the vote against every other. The picture shows them.';
+
+function leftPart() {
+  const { left } = page.found;
+  return [make('h2', null, `${count(left.length, 'pair')} left`), make('p', null, LEFT), bothTables(left, 'left')];
+}
+
+const FACED =
+  'Each place of the candidate votes for the plan that serves it better. Of all fair ways to set the places against each other the worst for the ' +
+  'candidate counts; this is it.';
+
+function rivalledPart() {
+  const { plan, rival } = page.found;
+  const { first, second, forward } = page.desk.compare(writePlan(plan), writePlan(rival));
+  const votes = `The candidate's vote against the rival is ${signed(first)}, the rival's vote against the candidate ${signed(second)}.`;
+  const side = (name, head, pairs) => make('div', { 'data-list': name, class: name }, make('h3', null, head), pairsTable(pairs, 0));
+  return [
+    make('h2', null, 'Candidate and rival'),
+    make('p', { 'data-votes': `${first} ${second}` }, votes),
+    make('div', { class: 'two' }, side('candidate', 'Candidate', plan), side('rival', 'Rival', rival)),
+    make('h3', null, 'Who faced whom'),
+    make('p', { class: 'soft' }, FACED),
+    facingTable(forward, 'candidate', 'rival'),
+  ];
 }

@@ -6,12 +6,15 @@ import { writePlan } from './files.mjs';
 import { nodesOf, page } from './state.mjs';
 import { entryText, WORDS } from './text.mjs';
 
+const SIDES = [0, 1];
+
 export function drawDays() {
   const held = heldPlan();
   if (held === null) {
     const { kind, plan } = page.found;
-    const hold = kind === 'plan' ? button('Hold the plan found', () => holdFile(writePlan(plan), 'The plan found') && show(), { class: 'main' }) : null;
-    fill($('view-days'), make('h2', null, 'Day sheet'), make('p', null, 'The sheet is that of the held plan, and none is held yet.'), make('p', { class: 'row' }, hold));
+    const hold = kind === 'plan' && button('Hold the plan found', () => holdFile(writePlan(plan), 'The plan found', 'days'), { class: 'main' });
+    const none = 'The sheet is that of the held plan, and none is held yet.';
+    fill($('view-days'), make('h2', null, 'Day sheet'), make('p', null, none), make('p', { class: 'row' }, hold));
     return;
   }
   const days = page.desk.spread();
@@ -20,17 +23,13 @@ export function drawDays() {
     $('view-days'),
     make('h2', null, `Day sheet of ${page.title}: ${count(held.length, 'pair')} on ${count(last, 'day')}`),
     make('p', { class: 'soft' }, 'Nobody and no stand has two entries on one day, and no sheet of this plan has fewer days.'),
-    make('p', { class: 'row noprint' }, button('Print the sheet', () => window.print(), { class: 'main' }), [0, 1].map((side) => save(side, held, days, last))),
-    make('div', { class: 'two' }, [0, 1].map((side) => make('div', null, make('h3', null, `By ${WORDS[side]}`), sheet(side, held, days, last)))),
+    make('p', { class: 'row noprint' }, button('Print the sheet', () => window.print(), { class: 'main' }), SIDES.map((side) => save(side, held, days, last))),
+    make('div', { class: 'two' }, SIDES.map((side) => make('div', null, make('h3', null, `By ${WORDS[side]}`), sheet(side, held, days, last)))),
   );
 }
 
-const show = () => {
-  page.view = 'days';
-  drawDays();
-};
-
-const save = (side, held, days, last) => button(`Save by ${WORDS[side]}`, () => saveText(sheetText(side, held, days, last), `${WORDS[side]}s.txt`));
+const save = (side, held, days, last) =>
+  button(`Save by ${WORDS[side]}`, () => saveText(sheetText(side, held, days, last), `${WORDS[side]}s.txt`));
 
 // The cells of a sheet: for each node of a side, by day, the other end with its shift behind a stroke, or a dash. All nodes have a row.
 function cells(side, held, days, last) {

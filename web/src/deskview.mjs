@@ -1,15 +1,16 @@
 // The desk: the held plan with its verdict and blocking pair, a plan made by tapping pairs, a proposal with both votes, and surveyors who join and leave.
-import { commit, draftFile, heldPlan, holdFile, join, leave, note, proposal, proposeFile, setDraft, toggleDraft } from './actions.mjs';
+import { commit, draftFile, heldPlan, holdFile, join, leave, note, proposal, proposeFile, setDraft, takeBack, toggleDraft } from './actions.mjs';
 import { bothTables, pairsTable } from './answer.mjs';
 import { $, button, count, fill, make } from './dom.mjs';
+import { chooseFile, savePlan } from './export.mjs';
 import { facingTable } from './facing.mjs';
 import { pairKey, pairText, writePlan } from './files.mjs';
-import { chooseFile, savePlan } from './export.mjs';
 import { hasShifts, page } from './state.mjs';
 import { entryText, readEntry } from './text.mjs';
 import { pairWords, signed, VERDICTS, winnerWords } from './words.mjs';
 
 const part = (id, head, ...inside) => make('section', { id, class: 'part' }, make('h2', null, head), inside);
+const folded = (head, ...inside) => make('details', null, make('summary', null, head), inside);
 
 export function drawDesk() {
   const held = heldPlan();
@@ -19,40 +20,53 @@ export function drawDesk() {
   drawChanges();
 }
 
+// by which pairs one plan differs from another
+function difference(before, after) {
+  const missing = (pairs, others) => {
+    const known = new Set(others.map(pairKey));
+    return pairs.filter((pair) => !known.has(pairKey(pair))).map(pairText).join(', ') || 'nothing';
+  };
+  return `New: ${missing(after, before)}. Gone: ${missing(before, after)}.`;
+}
+
 // ---- the held plan
 
 function heldPart(held) {
+  const hold = holdFound(held);
   if (held === null) {
-    return part('held', 'Held plan', make('p', null, 'No plan is held yet. Hold the plan found, or make one below.'), found());
+    const how = hold === null ? 'Make one below, or open a plan file.' : 'Hold the plan found, or make one below.';
+    return part('held', 'Held plan', make('p', null, `No plan is held yet. ${how}`), make('p', { class: 'row' }, hold));
   }
   const { verdict, vote, rival, pairing } = page.desk.judge();
   const blocking = page.desk.blocking();
+  const against = verdict === 'strong' ? '' : ` Against the rival its vote is ${signed(vote)}.`;
   return part(
     'held',
     `Held plan: ${count(held.length, 'pair')}`,
-    make('p', { class: `verdict ${verdict}`, 'data-verdict': verdict, 'data-vote': vote }, VERDICTS[verdict], verdict === 'strong' ? '' : ` Its vote against the rival is ${signed(vote)}.`),
-    make(
-      'p',
-      { 'data-blocking': blocking === null ? 'none' : pairKey(blocking) },
-      blocking === null
-        ? 'No pair blocks it.'
-        : `A pair blocks it: ${pairWords(blocking, hasShifts())}. It is not in the plan, and each of the two has room or a worse pair in it.`,
-    ),
+    make('p', { class: `verdict ${verdict}`, 'data-verdict': verdict }, VERDICTS[verdict], against),
+    make('p', { 'data-blocking': blocking === null ? 'none' : pairKey(blocking) }, blockingWords(blocking)),
     bothTables(held, 'held'),
-    make('p', { class: 'row' }, button('Save the plan', () => savePlan(page.desk.plan())), found(held)),
+    make('p', { class: 'row' }, button('Save the plan', () => savePlan(page.desk.plan())), hold),
     verdict !== 'strong' &&
-      make('details', null, make('summary', null, 'The rival, and who faced whom'), make('div', { 'data-list': 'desk-rival' }, pairsTable(rival, 0)), facingTable(pairing, 'held plan', 'rival')),
+      folded('The rival, and who faced whom', make('div', { class: 'rival' }, pairsTable(rival, 0)), facingTable(pairing, 'held plan', 'rival')),
   );
 }
 
+function blockingWords(blocking) {
+  if (blocking === null) return 'No pair blocks it.';
+  return `A pair blocks it: ${pairWords(blocking, hasShifts())}. It is not in the plan, and each of the two has room or a worse pair in the plan.`;
+}
+
 // a button that holds what the finder found, where that is not held already
-function found(held) {
+function holdFound(held) {
   const { kind, plan } = page.found;
-  if (kind !== 'plan' || (held && held.map(pairKey).join() === plan.map(pairKey).join())) return null;
+  if (kind !== 'plan' || (held !== null && held.map(pairKey).join() === plan.map(pairKey).join())) return null;
   return button('Hold the plan found', () => holdFile(writePlan(plan), 'The plan found'), { id: 'hold-found', class: 'main' });
 }
 
 // ---- a plan made by tapping
+
+const MADE = 'The plan made here';
 
 function draftPart(held) {
   const { kind, plan, rival } = page.found;
@@ -60,9 +74,11 @@ function draftPart(held) {
     kind === 'plan' && ['the plan found', plan],
     kind === 'rivalled' && ['the candidate', plan],
     kind === 'rivalled' && ['the rival', rival],
-    held && ['the held plan', held],
+    held !== null && ['the held plan', held],
     ['nothing', []],
   ].filter(Boolean);
+  const holds = () => holdFile(draftFile(), MADE);
+  const proposes = () => proposeFile(draftFile(), MADE) && $('proposal').scrollIntoView({ block: 'nearest' });
   return part(
     'draft',
     'Make a plan',
@@ -72,9 +88,9 @@ function draftPart(held) {
     make(
       'p',
       { class: 'row' },
-      held === null ? button('Hold it', () => holdFile(draftFile(), 'The plan made here'), { id: 'hold', class: 'main' }) : null,
-      held === null ? null : button('Propose it', () => proposeFile(draftFile(), 'The plan made here') && $('proposal').scrollIntoView({ block: 'nearest' }), { id: 'propose', class: 'main' }),
-      held === null ? null : button('Hold it without a vote', () => holdFile(draftFile(), 'The plan made here'), { id: 'hold' }),
+      held === null
+        ? button('Hold it', holds, { id: 'hold', class: 'main' })
+        : [button('Propose it', proposes, { id: 'propose', class: 'main' }), button('Hold it without a vote', holds, { id: 'hold' })],
       button('Save it', () => savePlan(draftFile())),
       button('Open a plan file', () => chooseFile('plan'), { id: 'open-plan' }),
     ),
@@ -104,20 +120,17 @@ function proposalPart(held) {
   const pairs = held === null ? null : proposal();
   if (pairs === null) return part('proposal', 'Proposal', make('p', null, held === null ? 'A plan can be proposed once one is held.' : 'None is open.'));
   const { winner, first, second, forward, back } = page.desk.compare(writePlan(pairs), page.desk.plan());
-  const known = new Set(held.map(pairKey));
-  const own = new Set(pairs.map(pairKey));
-  const comes = pairs.filter((pair) => !known.has(pairKey(pair))).map(pairText);
-  const goes = held.filter((pair) => !own.has(pairKey(pair))).map(pairText);
+  const votes = ` Its vote against the held plan is ${signed(first)}, the held plan's vote against it ${signed(second)}.`;
+  const same = pairs.map(pairKey).join() === held.map(pairKey).join();
   return part(
     'proposal',
     `Proposal: ${count(pairs.length, 'pair')}`,
-    make('p', { class: `votes ${winner}`, 'data-votes': `${first} ${second}` }, make('strong', null, winnerWords(winner, 'The proposal', 'the held plan')),
-      ` Its vote against the held plan is ${signed(first)}, the held plan's vote against it ${signed(second)}.`),
-    make('p', null, comes.length + goes.length === 0 ? 'It is the held plan again.' : `New: ${comes.join(', ') || 'nothing'}. Gone: ${goes.join(', ') || 'nothing'}.`),
+    make('p', { class: 'votes' }, make('strong', null, winnerWords(winner, 'The proposal', 'The held plan')), votes),
+    make('p', null, same ? 'It is the held plan again.' : difference(held, pairs)),
     make('div', { 'data-list': 'proposal' }, pairsTable(pairs, 0)),
     make('p', { class: 'row' }, button('Hold the proposal', commit, { id: 'commit', class: 'main' })),
-    make('details', null, make('summary', null, 'Who faced whom, for the proposal'), facingTable(forward, 'proposal', 'held plan')),
-    make('details', null, make('summary', null, 'Who faced whom, for the held plan'), facingTable(back, 'held plan', 'proposal')),
+    folded('Who faced whom, for the proposal', facingTable(forward, 'proposal', 'held plan')),
+    folded('Who faced whom, for the held plan', facingTable(back, 'held plan', 'proposal')),
   );
 }
 
@@ -164,18 +177,15 @@ function drawChanges() {
 
 // what a change of the roster changed in the answer and in the held plan
 function changed({ what, before, after }) {
-  const known = new Set(before.plan.map(pairKey));
-  const own = new Set(after.plan.map(pairKey));
-  const comes = after.plan.filter((pair) => !known.has(pairKey(pair))).map(pairText);
-  const goes = before.plan.filter((pair) => !own.has(pairKey(pair))).map(pairText);
+  const there = (kind, is, none) => (kind === 'plan' ? is : none);
   const lost = (before.held?.length ?? 0) - (after.held?.length ?? 0);
   const plans = before.kind === 'plan' && after.kind === 'plan';
-  const was = { plan: 'there was a plan', left: 'there was no plan', rivalled: 'there was no plan' }[before.kind];
-  const is = { plan: 'there is a plan', left: 'there is no plan', rivalled: 'there is no plan' }[after.kind];
+  const turn = `Before, ${there(before.kind, 'there was a plan', 'there was none')}; now ${there(after.kind, 'there is a plan', 'there is none')}.`;
   return [
     make('h3', null, `What changed: ${what}`),
-    make('p', null, `Before, ${was}; now ${is}.`, plans ? ` New: ${comes.join(', ') || 'nothing'}. Gone: ${goes.join(', ') || 'nothing'}.` : ''),
+    make('p', null, turn, plans ? ` ${difference(before.plan, after.plan)}` : ''),
     lost > 0 && make('p', null, `The held plan lost ${count(lost, 'pair')}.`),
     before.proposal && !after.proposal && make('p', null, 'The proposal was closed.'),
+    page.undo !== null && make('p', null, button('Take it back', takeBack, { id: 'take-back' })),
   ];
 }

@@ -14,12 +14,15 @@ function filled(element, given, inside) {
     else if (value === true) element.setAttribute(name, '');
     else if (value !== false && value !== null && value !== undefined) element.setAttribute(name, value);
   }
-  element.append(...inside.flat(Infinity).filter((part) => part !== null && part !== undefined && part !== false));
+  element.append(...shown(inside));
   return element;
 }
 
+// children in lists of lists; what is false or nothing is left out
+const shown = (inside) => inside.flat(Infinity).filter((part) => part !== null && part !== undefined && part !== false);
+
 // puts these children in the place of all that an element had
-export const fill = (element, ...inside) => element.replaceChildren(...inside.flat(Infinity).filter((part) => part !== null && part !== undefined && part !== false));
+export const fill = (element, ...inside) => element.replaceChildren(...shown(inside));
 
 export const button = (text, onclick, given) => make('button', { type: 'button', 'data-focus': text, onclick, ...given }, text);
 

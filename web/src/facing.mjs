@@ -30,23 +30,27 @@ function rankText(side, number, rank) {
 const voteOf = ([own, other]) => Math.sign(other - own);
 const MARKS = { 1: ['better', '▲ better'], 0: ['alike', '= alike'], '-1': ['worse', '▼ worse'] };
 
-// A table of the pairings of a vote: who, each place against the one that it faced, and what the places come to. Nodes whose places are all alike are
-// left out and counted.
+// A table of the pairings of a vote: who, each place against the one that it faced, and what the places come to. Nodes whose places are all alike have
+// theirs folded away.
 export function facingTable(bytes, own, other) {
   const told = pairingsOf(bytes);
   const moved = told.filter(({ places }) => places.some((place) => place[0] !== place[1]));
-  const rows = moved.map(({ side, number, places }) => {
-    const sum = places.reduce((total, place) => total + voteOf(place), 0);
-    return row({ 'data-facing': `${WORDS[side]} ${number}: ${places.map((place) => place.join(' ')).join(', ')}` }, `${WORDS[side]} ${number}`, places.map((place) => faced(side, number, place)), signed(sum));
-  });
-  const quiet = told.length - moved.length;
-  return [
-    rows.length > 0 && table({ class: 'facing' }, ['who', `${own} against ${other}, place by place`, 'vote'], rows),
-    quiet > 0 && make('p', { class: 'soft' }, `For ${quiet === told.length ? 'everyone' : count(quiet, 'other')} both plans are alike.`),
-  ];
+  const quiet = told.filter((pairing) => pairing.places.length > 0 && !moved.includes(pairing));
+  const heads = ['who', `${own} against ${other}, place by place`, 'vote'];
+  const ranks = ({ places }) => places.map((place) => place.join(' ')).join(', ');
+  const marked = (pairing) => nodeRow(pairing, { 'data-facing': `${WORDS[pairing.side]} ${pairing.number}: ${ranks(pairing)}` });
+  const alike = `${moved.length === 0 ? 'For everyone' : `For ${count(quiet.length, 'other')}`} both plans are alike`;
+  const rest = () => make('details', { class: 'alike' }, make('summary', null, alike), table({ class: 'facing' }, heads, quiet.map((node) => nodeRow(node))));
+  return [moved.length > 0 && table({ class: 'facing' }, heads, moved.map(marked)), quiet.length > 0 && rest()];
+}
+
+function nodeRow({ side, number, places }, given) {
+  const sum = places.reduce((total, place) => total + voteOf(place), 0);
+  return row(given, `${WORDS[side]} ${number}`, places.map((place) => faced(side, number, place)), signed(sum));
 }
 
 function faced(side, number, place) {
   const [name, mark] = MARKS[voteOf(place)];
-  return make('div', { class: `faced ${name}` }, make('span', null, rankText(side, number, place[0])), make('span', { class: 'mark' }, mark), make('span', null, rankText(side, number, place[1])));
+  const [own, other] = place.map((rank) => make('span', null, rankText(side, number, rank)));
+  return make('div', { class: `faced ${name}` }, own, make('span', { class: 'mark' }, mark), other);
 }

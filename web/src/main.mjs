@@ -45,15 +45,12 @@ function drawAll() {
   keep();
 }
 
-let pictured = null; // the roster that is drawn, or about to be
-
-// The view that is looked at. The first time that a roster is drawn, the answer above it comes first.
+// The view that is looked at. When a roster has just been opened, the answer above it comes first.
 function drawView() {
   const draw = () => keepingFocus(DRAWN[page.view], () => $(`view-${page.view}`));
-  const first = pictured !== page.roster;
-  pictured = page.roster;
-  if (first && page.found !== null) requestAnimationFrame(() => setTimeout(draw));
+  if (page.fresh) requestAnimationFrame(() => setTimeout(draw));
   else draw();
+  page.fresh = false;
 }
 
 let drawn = null; // the notice that is on the page
@@ -107,7 +104,8 @@ function openSample(name) {
 
 function startSamples() {
   const groups = [...new Set(samples.map(({ group }) => group))];
-  const options = groups.map((label) => make('optgroup', { label }, samples.filter(({ group }) => group === label).map(({ name }) => make('option', { value: name }, name.replaceAll('-', ' ')))));
+  const option = ({ name }) => make('option', { value: name }, name.replaceAll('-', ' '));
+  const options = groups.map((label) => make('optgroup', { label }, samples.filter(({ group }) => group === label).map(option)));
   for (const id of ['pick', 'pick-first']) {
     fill($(id), make('option', { value: '' }, 'Choose a sample'), options.map((option) => option.cloneNode(true)));
     $(id).addEventListener('change', () => {

@@ -1,9 +1,9 @@
 // The picture of a roster: surveyors on the left, stands on the right, each with its places and its list, and a line for each pair. It is built once a
 // roster; what a step changes is painted by classes, which the style sheet turns into colours and strokes.
 import { $, draw, fill } from './dom.mjs';
-import { byPair, listOf, pairKey, rosterPairs } from './files.mjs';
+import { listOf, pairKey, rosterPairs } from './files.mjs';
 import { hasShifts, nodesOf, page, tell } from './state.mjs';
-import { entryText, WORDS } from './text.mjs';
+import { WORDS } from './text.mjs';
 
 const WIDTH = 860;
 const COLUMNS = [290, 570]; // where the numbers of each side stand
@@ -39,7 +39,12 @@ function build() {
   const heads = COLUMNS.map((x, side) => draw('text', { x, y: 18, class: 'head' }, `${WORDS[side]}s`));
   const picture = draw(
     'svg',
-    { class: rows > 20 ? 'tall' : 'short', viewBox: `0 0 ${WIDTH} ${TOP + rows * height + 4}`, role: 'group', 'aria-label': 'surveyors and stands; arrow keys move, Enter shows one alone' },
+    {
+      class: rows > 20 ? 'tall' : 'short',
+      viewBox: `0 0 ${WIDTH} ${TOP + rows * height + 4}`,
+      role: 'group',
+      'aria-label': 'surveyors and stands; arrow keys move, Enter shows one alone',
+    },
     heads,
     draw('g', { class: 'lines' }, [...lines.values()].map(({ path }) => path)),
     over,
@@ -195,7 +200,8 @@ export function chosenPairs() {
   return listOf(node).map(([other, shift], index) => {
     const pair = side === 0 ? [number, other, shift] : [other, number, shift];
     const tied = index >= node.strict.length;
-    return { pair, other, shift, tied, rank: Math.min(index, node.strict.length) + 1, back: rankOf(1 - side, other, [number, shift]), fate: fates.get(pairKey(pair)) ?? 'open' };
+    const rank = Math.min(index, node.strict.length) + 1;
+    return { pair, other, shift, tied, rank, back: rankOf(1 - side, other, [number, shift]), fate: fates.get(pairKey(pair)) ?? 'open' };
   });
 }
 
@@ -204,6 +210,3 @@ function rankOf(side, number, [other, shift]) {
   const index = strict.findIndex((entry) => entry[0] === other && entry[1] === shift);
   return index < 0 ? null : index + 1;
 }
-
-export const sorted = (pairs) => [...pairs].sort(byPair);
-export const nodeText = (side, entry) => `${WORDS[side]} ${entryText(entry)}`;

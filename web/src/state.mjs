@@ -7,12 +7,14 @@ export const page = {
   title: '', // what the roster is called
   roster: null, // the held roster, read for the picture
   found: null, // what the finder answered
+  fresh: false, // it has just been opened, and is not drawn yet
   notice: null, // the last refusal, or what could not be read
   view: 'roster',
   step: 0, // how many steps of the diary are shown
   chosen: null, // the side and number whose pairs are shown alone
   draft: new Set(), // the pairs of the plan that is being made
   change: null, // what the last change of the roster changed
+  undo: null, // the desk's bytes before it
   told: [], // what happened, in order
   text: '', // the text that is being written
 };

@@ -1,5 +1,5 @@
 // The steps of the reduction one by one: a slider, keys, a list, and the rule of each in words; and beside them the pairs of a number that was tapped.
-import { $, fill, make, button, count } from './dom.mjs';
+import { $, button, count, fill, make, table } from './dom.mjs';
 import { chosenPairs } from './picture.mjs';
 import { hasShifts, page, tell } from './state.mjs';
 import { WORDS } from './text.mjs';
@@ -75,8 +75,8 @@ function mark() {
   }
   const item = items[page.step - 1];
   const box = $('diary');
-  if (!item) box.scrollTop = 0;
-  else if (item.offsetTop < box.scrollTop || item.offsetTop + item.offsetHeight > box.scrollTop + box.clientHeight) box.scrollTop = item.offsetTop - box.clientHeight / 2;
+  const seen = item && item.offsetTop >= box.scrollTop && item.offsetTop + item.offsetHeight <= box.scrollTop + box.clientHeight;
+  if (!seen) box.scrollTop = item ? item.offsetTop - box.clientHeight / 2 : 0;
 }
 
 // the step that is shown, in words
@@ -102,16 +102,16 @@ function drawCard() {
     make(
       'tr',
       { class: fate },
-      make('td', null, tied ? `${ordinal(rank)}, tied` : ordinal(rank)),
-      make('th', { scope: 'row' }, `${other} ${end}${hasShifts() ? `, shift ${shift}` : ''}`),
-      make('td', null, back === null ? 'tied there' : `${ordinal(back)} there`),
+      make('td', null, tied ? `${ordinal(rank)} (tied)` : ordinal(rank)),
+      make('th', { scope: 'row' }, `${end}${hasShifts() ? `, shift ${shift}` : ''}`),
+      make('td', null, back === null ? 'tied' : ordinal(back)),
       make('td', null, fate.split(' ').map((word) => CARD[word]).join(', ')),
     ),
   );
   fill(
     $('card'),
     make('h2', null, `${WORDS[side]} ${number} alone`),
-    rows.length > 0 ? make('table', { class: 'card' }, make('tbody', null, rows)) : make('p', null, 'Its list is empty.'),
+    rows.length > 0 ? table({ class: 'card' }, ['rank', other, 'rank there', ''], rows) : make('p', null, 'Its list is empty.'),
     button('Show all', () => {
       page.chosen = null;
       tell();

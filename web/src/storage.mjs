@@ -5,7 +5,7 @@ import { readRoster } from './files.mjs';
 import { page } from './state.mjs';
 
 const KEY = 'crew';
-const NAMES = ['title', 'view', 'step', 'chosen', 'told', 'text'];
+const NAMES = ['title', 'view', 'step', 'chosen', 'told', 'text', 'change'];
 
 const toText = (bytes) => btoa(Array.from(bytes, (byte) => String.fromCharCode(byte)).join(''));
 export const toBytes = (text) => Uint8Array.from(atob(text), (letter) => letter.charCodeAt(0));
@@ -15,7 +15,8 @@ export function keep() {
   if (page.desk === null) return;
   const kept = Object.fromEntries(NAMES.map((name) => [name, page[name]]));
   try {
-    localStorage.setItem(KEY, JSON.stringify({ ...kept, draft: [...page.draft], desk: toText(page.desk.held) }));
+    const undo = page.undo === null ? null : toText(page.undo);
+    localStorage.setItem(KEY, JSON.stringify({ ...kept, undo, draft: [...page.draft], desk: toText(page.desk.held) }));
     say(true);
   } catch {
     say(false);
@@ -32,6 +33,7 @@ export function restore() {
     const found = desk.find();
     Object.assign(page, { desk, found, roster: readRoster(desk.roster()).value, draft: new Set(kept.draft) });
     for (const name of NAMES) page[name] = kept[name];
+    page.undo = kept.undo === null ? null : toBytes(kept.undo);
     page.step = Math.min(page.step, found.diary.length);
     return true;
   } catch {

@@ -6,7 +6,8 @@ export const TERMS = [
   ['open places', 'A surveyor\'s or a stand\'s open places are its quota, less its fixed pairs, and never more than the pairs that it has left.'],
   [
     'arrows',
-    'Each surveyor and each stand sends arrows along its best pairs that are left, one for each open place as far as they go round; a stand sends none along a tied pair.',
+    'Each surveyor and each stand sends arrows along its best pairs that are left, one for each open place as far as they go round; a stand sends none ' +
+      'along a tied pair.',
   ],
   ['loose, firm', 'A stand is loose if it sends fewer arrows than it has open places and no arrow comes in; else it is firm.'],
   ['reserved', 'Reserved for a surveyor are its pairs along which a firm stand sends an arrow, and all its pairs with loose stands.'],
@@ -34,16 +35,18 @@ export const signed = (vote) => (vote > 0 ? `+${vote}` : vote < 0 ? `−${-vote}
 
 export const VERDICTS = {
   strong: 'It is strong: it wins the vote against every other plan that the quotas allow.',
-  popular: 'It is popular: no plan has a vote below zero from it, but it does not win against every one.',
-  beaten: 'It is beaten: against the rival below its vote is under zero.',
+  popular: 'It is popular: against no plan is its vote below zero, but it does not win against every one.',
+  beaten: 'It is beaten: there is a plan against which its vote is below zero.',
 };
+
+const lowered = (text) => `${text[0].toLowerCase()}${text.slice(1)}`;
 
 // of two plans, the first and the second by these names
 export const winnerWords = (winner, first, second) =>
   ({
-    first: `${first} beats ${second}.`,
-    second: `${second} beats ${first}.`,
-    both: `Each of the two beats the other.`,
+    first: `${first} beats ${lowered(second)}.`,
+    second: `${second} beats ${lowered(first)}.`,
+    both: 'Each of the two beats the other.',
     neither: 'Neither of the two beats the other.',
   })[winner];
 

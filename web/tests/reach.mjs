@@ -29,30 +29,33 @@ async function seenFocus(tab, selector) {
 }
 
 export async function keyboard({ tab }) {
-  const text = (selector) => tab.ask((wanted) => document.querySelector(wanted).innerText, selector);
+  const shows = async (selector, words) => {
+    const text = await tab.ask((wanted) => document.querySelector(wanted).innerText, selector);
+    assert(words.test(text), `${words} is not in: ${text}`);
+  };
   await tabTo(tab, '#pick-first');
   await tab.key('d');
-  await tab.until("document.querySelector('#title').innerText === 'district'");
+  await tab.until("document.querySelector('#title').innerText === 'district' && document.querySelectorAll('#diary li').length === 62");
   await tabTo(tab, '#slide');
   await tab.key('ArrowLeft', 3);
-  assert(/^Step 59 of 62/.test(await text('#now')));
+  await shows('#now', /^Step 59 of 62/);
   await tabTo(tab, '.node');
   await tab.key('ArrowDown');
   await tab.key('Enter');
-  assert(/^surveyor 2 alone/i.test(await text('#card')));
+  await shows('#card', /^surveyor 2 alone/i);
   await tab.key('ArrowRight');
   await tab.key(' ');
-  assert(/^stand 2 alone/i.test(await text('#card')));
+  await shows('#card', /^stand 2 alone/i);
   await tab.key('Escape');
   assert(await tab.ask("document.querySelector('#card').hidden"));
   await tabTo(tab, '#diary');
   await tab.key('ArrowUp', 2);
-  assert(/^Step 57 of 62/.test(await text('#now')));
+  await shows('#now', /^Step 57 of 62/);
   await tabTo(tab, '#tab-roster', SHIFT);
   await tab.key('ArrowRight', 2);
   await tabTo(tab, '#hold-found');
   await tab.key('Enter');
-  assert(/It is strong/.test(await text('#held')));
+  await shows('#held', /It is strong/);
   await tabTo(tab, '[data-draft="12 13 1"]');
   await tab.key(' ');
   assert.strictEqual(await tab.ask('document.activeElement.getAttribute("aria-pressed")'), 'false');
@@ -60,11 +63,11 @@ export async function keyboard({ tab }) {
   await tab.key('Enter');
   await tabTo(tab, '#commit');
   await tab.key('Enter');
-  assert(/It is beaten/.test(await text('#held')));
+  await shows('#held', /It is beaten/);
   await tabTo(tab, '#join-list');
   await tab.type('14 3');
   await tab.key('Enter');
-  assert(/surveyor 13 joins/.test(await text('#changed')));
+  await shows('#changed', /surveyor 13 joins/);
   await tabTo(tab, '#tab-desk', SHIFT);
   await tab.key('ArrowRight', 2);
   await tabTo(tab, '#text');
@@ -72,7 +75,7 @@ export async function keyboard({ tab }) {
   await tab.type('surveyor 1: 1\nstand 1: 1\n');
   await tabTo(tab, '#use');
   await tab.key('Enter');
-  assert(/^1 pair\./.test(await text('#said p')));
+  await shows('#said p', /^1 pair\./);
   await tab.send('Page.setInterceptFileChooserDialog', { enabled: true });
   await tabTo(tab, '#open');
   await tab.key('Enter');
@@ -105,7 +108,8 @@ const leastContrast = () => {
   const walker = document.createTreeWalker(document.body, NodeFilter.SHOW_TEXT);
   for (let node = walker.nextNode(); node; node = walker.nextNode()) {
     const element = node.parentElement;
-    if (!node.data.trim() || element.closest('script, option') || !element.checkVisibility?.({ checkVisibilityCSS: true }) || element.getClientRects().length === 0) continue;
+    if (!node.data.trim() || element.closest('script, option') || !element.checkVisibility({ checkVisibilityCSS: true })) continue;
+    if (element.getClientRects().length === 0) continue;
     const style = getComputedStyle(element);
     const back = behind(element);
     const fore = over(channels(element.namespaceURI.endsWith('svg') ? style.fill : style.color), back);

@@ -19,7 +19,8 @@ const given = { browser, tab, page, url, falsified, root, samples: `${root}/samp
 for (const [name, run] of tests.filter(([name]) => name.includes(only))) {
   const started = performance.now();
   try {
-    // each begins with nothing kept, at the tablet's size
+    // each begins with nothing kept, at the tablet's size, before all other tabs: those behind are not drawn
+    await tab.send('Page.bringToFront');
     await tab.size(800, 1200);
     await tab.ask('localStorage.clear()');
     await tab.go(url(page));

@@ -87,12 +87,12 @@ const days = () => {
 };
 
 const proposal = () => {
-  if (!document.querySelector('#proposal [data-votes]')) return [];
+  if (!document.querySelector('#proposal .votes')) return [];
   const text = document.querySelector('#proposal .votes').innerText;
   const [, first, second] = /vote against the held plan is ([−+]?\d+), the held plan's vote against it ([−+]?\d+)/.exec(text);
   const winner = [
     [/^The proposal beats/, 'first'],
-    [/^the held plan beats/, 'second'],
+    [/^The held plan beats/, 'second'],
     [/^Each/, 'both'],
     [/^Neither/, 'neither'],
   ].find(([start]) => start.test(text))[1];
