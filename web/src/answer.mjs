@@ -3,19 +3,19 @@
 import { holdFile } from './actions.mjs';
 import { $, button, count, fill, make, row, table } from './dom.mjs';
 import { facingTable } from './facing.mjs';
-import { writePlan } from './files.mjs';
+import { pairKey, writePlan } from './files.mjs';
 import { hasShifts, page } from './state.mjs';
 import { WORDS } from './text.mjs';
 import { signed } from './words.mjs';
 
-// pairs as a table, a row for each node of a side; every pair stands there once
-export function pairsTable(pairs, side, given) {
+// Pairs as a table, a row for each node of a side; every pair stands there once. With another plan's pairs those that it lacks are marked.
+export function pairsTable(pairs, side, others = pairs) {
+  const known = new Set(others.map(pairKey));
   const numbers = [...new Set(pairs.map((pair) => pair[side]))].sort((a, b) => a - b);
   const text = (pair) => (hasShifts() ? `${pair[1 - side]}, shift ${pair[2]}` : `${pair[1 - side]}`);
-  const cell = (pair) => make('span', { class: 'chip', 'data-pair': pair.join(' ') }, text(pair));
+  const cell = (pair) => make('span', { class: known.has(pairKey(pair)) ? 'chip' : 'chip apart' }, text(pair));
   const rows = numbers.map((number) => row(null, String(number), pairs.filter((pair) => pair[side] === number).map(cell)));
-  if (rows.length === 0) return make('p', given, 'No pairs.');
-  return table({ class: 'pairs', ...given }, [WORDS[side], `${WORDS[1 - side]}s`], rows);
+  return rows.length === 0 ? make('p', null, 'No pairs.') : table({ class: 'pairs' }, [WORDS[side], `${WORDS[1 - side]}s`], rows);
 }
 
 // the same pairs by surveyor, which is the list of that name, and by stand
@@ -82,11 +82,11 @@ function rivalledPart() {
   const { plan, rival } = page.found;
   const { first, second, forward } = page.desk.compare(writePlan(plan), writePlan(rival));
   const votes = `The candidate's vote against the rival is ${signed(first)}, the rival's vote against the candidate ${signed(second)}.`;
-  const side = (name, head, pairs) => make('div', { 'data-list': name, class: name }, make('h3', null, head), pairsTable(pairs, 0));
+  const side = (name, head, pairs, others) => make('div', { 'data-list': name, class: name }, make('h3', null, head), pairsTable(pairs, 0, others));
   return [
     make('h2', null, 'Candidate and rival'),
     make('p', { 'data-votes': `${first} ${second}` }, votes),
-    make('div', { class: 'two' }, side('candidate', 'Candidate', plan), side('rival', 'Rival', rival)),
+    make('div', { class: 'two' }, side('candidate', 'Candidate', plan, rival), side('rival', 'Rival', rival, plan)),
     make('h3', null, 'Who faced whom'),
     make('p', { class: 'soft' }, FACED),
     facingTable(forward, 'candidate', 'rival'),

@@ -48,7 +48,7 @@ function heldPart(held) {
     bothTables(held, 'held'),
     make('p', { class: 'row' }, button('Save the plan', () => savePlan(page.desk.plan())), hold),
     verdict !== 'strong' &&
-      folded('The rival, and who faced whom', make('div', { class: 'rival' }, pairsTable(rival, 0)), facingTable(pairing, 'held plan', 'rival')),
+      folded('The rival, and who faced whom', make('div', { class: 'rival' }, pairsTable(rival, 0, held)), facingTable(pairing, 'held plan', 'rival')),
   );
 }
 
@@ -127,7 +127,7 @@ function proposalPart(held) {
     `Proposal: ${count(pairs.length, 'pair')}`,
     make('p', { class: 'votes' }, make('strong', null, winnerWords(winner, 'The proposal', 'The held plan')), votes),
     make('p', null, same ? 'It is the held plan again.' : difference(held, pairs)),
-    make('div', { 'data-list': 'proposal' }, pairsTable(pairs, 0)),
+    make('div', { 'data-list': 'proposal' }, pairsTable(pairs, 0, held)),
     make('p', { class: 'row' }, button('Hold the proposal', commit, { id: 'commit', class: 'main' })),
     folded('Who faced whom, for the proposal', facingTable(forward, 'proposal', 'held plan')),
     folded('Who faced whom, for the held plan', facingTable(back, 'held plan', 'proposal')),

@@ -33,6 +33,7 @@ function drawAll() {
   drawNotice();
   drawAnswer();
   const there = page.found !== null;
+  document.body.dataset.view = page.view;
   $('welcome').hidden = there || page.view === 'write';
   $('views').hidden = !there && page.view !== 'write';
   for (const view of VIEWS) {

@@ -69,7 +69,7 @@ function nodeGroup(side, index, node, y, height) {
   const way = side === 0 ? -1 : 1;
   const dots = Array.from({ length: node.quota }, (_, place) => draw('circle', { cx: x + way * (28 + DOT * place), cy: y, r: 4.5 }));
   const from = 34 + DOT * node.quota;
-  const text = cut(listed(node), Math.floor((COLUMNS[0] - from) / LETTER));
+  const text = node.quota === 0 && listed(node) === '' ? 'no places' : cut(listed(node), Math.floor((COLUMNS[0] - from) / LETTER));
   const group = draw(
     'g',
     {

@@ -105,7 +105,7 @@ function drawCard() {
       make('td', null, tied ? `${ordinal(rank)} (tied)` : ordinal(rank)),
       make('th', { scope: 'row' }, `${end}${hasShifts() ? `, shift ${shift}` : ''}`),
       make('td', null, back === null ? 'tied' : ordinal(back)),
-      make('td', null, fate.split(' ').map((word) => CARD[word]).join(', ')),
+      make('td', null, fate.replace('fixed candidate', 'candidate').split(' ').map((word) => CARD[word]).join(', ')),
     ),
   );
   fill(
