@@ -41,6 +41,7 @@ export function drawAnswer() {
   $('key').dataset.kind = found.kind;
   fill($('said'), make('h2', null, head), make('p', null, words));
   $('title').textContent = page.title;
+  document.title = `${page.title} – Crew vote`;
   $('tab-answer').textContent = found.kind === 'plan' ? 'The plan' : 'Why there is none';
 }
 

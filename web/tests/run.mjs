@@ -8,12 +8,12 @@ const [page, falsified, root, only = ''] = process.argv.slice(2);
 const url = (path) => `file://${path}`;
 let passed = 0, failed = 0;
 
+const browser = new Browser(process.env.CHROMIUM ?? 'chromium');
 const guard = setTimeout(() => {
   console.log('FAILED: the browser did not answer in time');
+  browser.process.kill('SIGKILL');
   process.exit(1);
 }, 170000);
-
-const browser = new Browser(process.env.CHROMIUM ?? 'chromium');
 const tab = await browser.open(url(page), 800, 1200);
 const given = { browser, tab, page, url, falsified, root, samples: `${root}/samples`, read: (name) => readFileSync(`${root}/${name}`, 'utf8') };
 for (const [name, run] of tests.filter(([name]) => name.includes(only))) {
