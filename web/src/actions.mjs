@@ -2,7 +2,7 @@
 import { Refused, planPairs } from './crew.mjs';
 import { pairKey, pairText, readPlan, readRoster, rosterPairs, writePlan, writeRoster } from './files.mjs';
 import { page, tell } from './state.mjs';
-import { decode, Unreadable, parse, print, Problem } from './text.mjs';
+import { decode, parse, print, Problem, Unreadable } from './text.mjs';
 
 // Does something that may be refused. The notice is what was refused, with its number, its group, its words and the place if it is known.
 function attempt(what, act, place = () => null) {
@@ -45,7 +45,7 @@ function load(bytes, title, text) {
   Object.assign(page, { desk, title, fresh: true, told: [], change: null, undo: null, draft: new Set(), chosen: null });
   took(desk.find());
   page.text = text ?? print(page.roster);
-  if (page.view === 'write') page.view = 'roster';
+  page.view = 'roster';
   log(`${title} was opened.`);
 }
 
@@ -67,12 +67,15 @@ function took(found) {
 
 // ---- plans
 
+// the plan that is being made
 export const draftFile = () => writePlan([...page.draft].map((key) => key.split(' ').map(Number)));
-export const setDraft = (pairs) => {
-  page.notice = null;
-  setDraftQuietly(pairs);
+const drafted = (pairs) => new Set(pairs.map(pairKey));
+
+export function setDraft(pairs) {
+  Object.assign(page, { notice: null, draft: drafted(pairs) });
   tell();
-};
+}
+
 export function toggleDraft(key) {
   page.notice = null;
   if (!page.draft.delete(key)) page.draft.add(key);
@@ -85,10 +88,8 @@ const planPlace = (bytes) => (number) => (page.roster === null ? null : placeIn(
 export const holdFile = (bytes, title, view = 'desk') =>
   attempt(title, () => {
     (page.desk ?? page.crew.desk()).loadPlan(bytes);
-    setDraftQuietly(planPairs(bytes));
-    page.undo = null;
+    Object.assign(page, { view, undo: null, draft: drafted(planPairs(bytes)) });
     log(`${title} is held.`);
-    page.view = view;
   }, planPlace(bytes));
 
 export const proposeFile = (bytes, title) =>
@@ -101,14 +102,9 @@ export const proposeFile = (bytes, title) =>
 export const commit = () =>
   attempt('The proposal', () => {
     page.desk.commit();
-    page.undo = null;
-    setDraftQuietly(heldPlan());
+    Object.assign(page, { undo: null, draft: drafted(heldPlan()) });
     log('The proposal is held.');
   });
-
-const setDraftQuietly = (pairs) => {
-  page.draft = new Set(pairs.map(pairKey));
-};
 
 // the held plan's pairs, or null
 export function heldPlan() {
@@ -134,22 +130,19 @@ export function proposal() {
 
 // ---- joining and leaving
 
-export const join = (quota, stands) => change(`surveyor ${page.roster.surveyors.length + 1} joins`, (desk) => desk.join(quota, stands));
-export const leave = (number) => change(`surveyor ${number} leaves`, (desk) => desk.leave(number));
+export const join = (quota, stands) => change('This joiner', `surveyor ${page.roster.surveyors.length + 1} joins`, (desk) => desk.join(quota, stands));
+export const leave = (number) => change('This leaving', `surveyor ${number} leaves`, (desk) => desk.leave(number));
 
 const summary = () => ({ kind: page.found.kind, plan: page.found.plan, held: heldPlan(), proposal: proposal() });
 
-function change(what, act) {
-  return attempt(`${what[0].toUpperCase()}${what.slice(1)}`, () => {
+function change(name, what, act) {
+  return attempt(name, () => {
     const before = summary();
     const undo = page.desk.held;
     took(act(page.desk));
-    page.undo = undo;
-    page.text = print(page.roster);
-    page.chosen = null;
-    const known = new Set(rosterPairs(page.roster).map(pairKey));
-    page.draft = new Set([...page.draft].filter((key) => known.has(key)));
-    page.change = { what, before, after: summary() };
+    const known = drafted(rosterPairs(page.roster));
+    const draft = new Set([...page.draft].filter((key) => known.has(key)));
+    Object.assign(page, { undo, draft, chosen: null, text: print(page.roster), change: { what, before, after: summary() } });
     log(`${what[0].toUpperCase()}${what.slice(1)}: ${shortly(page.found)}.`);
   });
 }
@@ -168,6 +161,7 @@ export function takeBack() {
   tell();
 }
 
+// says that something could not be read
 export const note = (what, text) =>
   attempt(what, () => {
     throw new Unreadable(text);

@@ -37,7 +37,6 @@ export function drawAnswer() {
   const [head, words] = said();
   box.className = found.kind;
   box.dataset.kind = found.kind;
-  box.dataset.vote = found.vote;
   $('key').dataset.kind = found.kind;
   fill($('said'), make('h2', null, head), make('p', null, words));
   $('title').textContent = page.title;

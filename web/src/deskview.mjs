@@ -153,9 +153,9 @@ function entries(text) {
   try {
     const list = text.split(/[\s,]+/).filter(Boolean).map(readEntry);
     if (list.length <= 255 && list.every(([number]) => number <= 255)) return list;
-    note('The joiner', 'a stand has a number from 1 to 32');
+    note('This joiner', 'a stand has a number from 1 to 32');
   } catch (error) {
-    note('The joiner', error.message);
+    note('This joiner', error.message);
   }
   return null;
 }

@@ -1,10 +1,12 @@
 // Files in and out: the file chooser, files dropped on the page, and what is saved. Saving makes a file of bytes that the planner wrote, or a text.
-import { holdFile, openFile } from './actions.mjs';
+import { holdFile, note, openFile } from './actions.mjs';
 import { $ } from './dom.mjs';
 import { page } from './state.mjs';
 import { print } from './text.mjs';
 
 // ---- in
+
+const MOST_BYTES = 1 << 20; // a text may have long comments
 
 let kind = 'roster'; // what the chooser was opened for
 
@@ -27,6 +29,10 @@ export function startFiles() {
 // From the moment that the file is there to the answer, and to the view below it, two measures for the tests.
 async function take(file, what) {
   if (!file) return;
+  if (file.size > MOST_BYTES) {
+    note(file.name, 'it is too long for a roster or a plan');
+    return;
+  }
   performance.mark('opened');
   const bytes = new Uint8Array(await file.arrayBuffer());
   if (what === 'plan') holdFile(bytes, file.name);

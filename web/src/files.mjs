@@ -143,7 +143,8 @@ export const rosterPairs = ({ surveyors }) => surveyors.flatMap(({ strict }, ind
 export const byPair = (one, other) => one[0] - other[0] || one[1] - other[1] || one[2] - other[2];
 export const pairKey = (pair) => pair.join(' ');
 
-export const writePlan = (pairs) => Uint8Array.from([pairs.length, ...[...pairs].sort(byPair).flat()]);
+// a plan's file; more pairs than a byte counts are more than a plan has, and are refused as that
+export const writePlan = (pairs) => Uint8Array.from([Math.min(pairs.length, 255), ...[...pairs].sort(byPair).flat()]);
 
 export const readPlan = (bytes, roster) =>
   reading(bytes, (fields) => {

@@ -63,11 +63,10 @@ function drawNotice() {
   if (notice === null || notice === drawn) return;
   drawn = notice;
   const { what, number, group, text, place, line } = notice;
-  Object.assign($('notice').dataset, { refusal: number === undefined ? '' : `${number} ${group}`, line: line ?? '', byte: place?.byte ?? '' });
   const where = line === undefined ? '' : `Line ${line}: `;
   fill(
     $('notice'),
-    make('h2', null, `${what} cannot be used`),
+    make('h2', null, `${what} was refused`),
     make('p', null, `${where}${text[0].toUpperCase()}${text.slice(1)}.`, number === undefined ? '' : ` Refusal ${number}, ${group}.`),
     place && make('p', null, `Place: ${place.words} (byte ${place.byte}).`),
     page.found !== null && make('p', null, 'What was open stays as it was.'),

@@ -7,38 +7,38 @@ import { page } from './state.mjs';
 const KEY = 'crew';
 const NAMES = ['title', 'view', 'step', 'chosen', 'told', 'text', 'change'];
 
-const toText = (bytes) => btoa(Array.from(bytes, (byte) => String.fromCharCode(byte)).join(''));
-export const toBytes = (text) => Uint8Array.from(atob(text), (letter) => letter.charCodeAt(0));
+const toText = (bytes) => (bytes === null ? null : btoa(Array.from(bytes, (byte) => String.fromCharCode(byte)).join('')));
+export const toBytes = (text) => (text === null ? null : Uint8Array.from(atob(text), (letter) => letter.charCodeAt(0)));
 
 // Keeps what is held; what became of that is said at the foot of the page.
 export function keep() {
-  if (page.desk === null) return;
-  const kept = Object.fromEntries(NAMES.map((name) => [name, page[name]]));
+  const names = Object.fromEntries(NAMES.map((name) => [name, page[name]]));
+  const kept = { ...names, draft: [...page.draft], undo: toText(page.undo), desk: toText(page.desk?.held ?? null) };
   try {
-    const undo = page.undo === null ? null : toText(page.undo);
-    localStorage.setItem(KEY, JSON.stringify({ ...kept, undo, draft: [...page.draft], desk: toText(page.desk.held) }));
+    localStorage.setItem(KEY, JSON.stringify(kept));
     say(true);
   } catch {
     say(false);
   }
 }
 
-// What was kept, taken up again; false if there is nothing, or nothing that can be read.
+// What was kept, taken up again; what cannot be read any more is forgotten.
 export function restore() {
-  let kept;
   try {
-    kept = JSON.parse(localStorage.getItem(KEY));
-    if (kept === null) return false;
-    const desk = Object.assign(page.crew.desk(), { held: toBytes(kept.desk) });
-    const found = desk.find();
-    Object.assign(page, { desk, found, roster: readRoster(desk.roster()).value, draft: new Set(kept.draft) });
-    for (const name of NAMES) page[name] = kept[name];
-    page.undo = kept.undo === null ? null : toBytes(kept.undo);
-    page.step = Math.min(page.step, found.diary.length);
-    return true;
+    const kept = JSON.parse(localStorage.getItem(KEY));
+    if (kept === null) return;
+    const names = Object.fromEntries(NAMES.map((name) => [name, kept[name]]));
+    const held = kept.desk === null ? {} : taken(toBytes(kept.desk));
+    Object.assign(page, names, held, { draft: new Set(kept.draft), undo: toBytes(kept.undo) });
   } catch {
-    return false;
+    forget();
   }
+}
+
+// a desk of these bytes, with its roster and what the finder answers; refused where they hold no roster
+function taken(bytes) {
+  const desk = Object.assign(page.crew.desk(), { held: bytes });
+  return { desk, found: desk.find(), roster: readRoster(desk.roster()).value };
 }
 
 export function forget() {
@@ -53,5 +53,4 @@ function say(kept) {
   $('kept').textContent = kept
     ? 'Kept in this browser on this device: after a reload, or without a network, all of it is here again. Nothing is sent anywhere.'
     : 'This browser keeps nothing: save what you need before you close the page. Nothing is sent anywhere.';
-  $('kept').dataset.kept = kept;
 }

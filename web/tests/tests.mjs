@@ -263,7 +263,6 @@ async function kept({ tab, samples }) {
     now: document.querySelector('#now').innerText,
     card: document.querySelector('#card').innerText,
     said: document.querySelector('#kept').innerText,
-    kept: document.querySelector('#kept').dataset.kept,
   });
   const shown = await tab.ask(state);
   assert(/^Kept in this browser/.test(shown.said) && /^Step 5 of/.test(shown.now), JSON.stringify(shown));
@@ -272,6 +271,14 @@ async function kept({ tab, samples }) {
   assert.deepStrictEqual(await tab.ask(state), shown);
   assert.deepStrictEqual(await desk(tab), before);
   await tab.send('Network.emulateNetworkConditions', { offline: false, latency: 0, downloadThroughput: -1, uploadThroughput: -1 });
+  // a text that is being written is kept as well, without a roster
+  await tab.ask('localStorage.clear()');
+  await tab.reload();
+  await tab.click('#write-first');
+  await tab.write('#text', 'surveyor 1: 1');
+  await tab.reload();
+  assert.strictEqual(await tab.ask("document.querySelector('#text').value"), 'surveyor 1: 1');
+  await tab.give(`${samples}/district.roster`);
   // what is kept is judged anew: bytes that are no desk of a roster are not taken up
   await tab.ask("localStorage.setItem('crew', JSON.stringify({ ...JSON.parse(localStorage.getItem('crew')), desk: btoa('nothing') }))");
   await tab.reload();
