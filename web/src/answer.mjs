@@ -50,7 +50,8 @@ function said() {
   const none = 'No plan wins the vote against every other:';
   if (kind === 'left') {
     const are = `${count(left.length, 'pair')} ${left.length === 1 ? 'is' : 'are'} left`;
-    return ['There is no plan', `${none} after ${count(diary.length, 'step')} no rule acts any more, and ${are}.`];
+    const when = diary.length === 0 ? 'no rule acts at all' : `after ${count(diary.length, 'step')} no rule acts any more`;
+    return ['There is no plan', `${none} ${when}, and ${are}.`];
   }
   const how = vote < 0 ? 'loses against a rival' : 'does not win against a rival';
   return ['There is no plan', `${none} the one candidate that the steps leave ${how}. Its vote is ${signed(vote)}.`];
@@ -76,7 +77,7 @@ function leftPart() {
 
 const FACED =
   'Each place of the candidate votes for the plan that serves it better. Of all fair ways to set the places against each other the worst for the ' +
-  'candidate counts; this is it.';
+  'candidate counts; this is such a way.';
 
 function rivalledPart() {
   const { plan, rival } = page.found;
