@@ -89,6 +89,9 @@ fn text(random: &mut Random) -> Vec<u8> {
     if random.chance(30) {
         text = text.replace(" quota 1:", ":");
     }
+    if random.chance(30) {
+        text = ties_shuffled(random, &text);
+    }
     if random.chance(15) {
         text = shuffled(random, &text);
     }
@@ -109,6 +112,22 @@ fn text(random: &mut Random) -> Vec<u8> {
         bytes.insert(at, 0xff);
     }
     bytes
+}
+
+/// The entries of each tie in any order.
+fn ties_shuffled(random: &mut Random, text: &str) -> String {
+    let mut lines = String::new();
+    for line in text.lines() {
+        let (front, tie) = line.split_once('[').unwrap_or((line, ""));
+        let mut entries: Vec<&str> = tie.trim_end_matches(']').split_whitespace().collect();
+        random.shuffle(&mut entries);
+        lines.push_str(front);
+        if !entries.is_empty() {
+            lines.push_str(&format!("[{}]", entries.join(" ")));
+        }
+        lines.push('\n');
+    }
+    lines
 }
 
 /// The lines in another order.
