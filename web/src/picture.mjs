@@ -121,6 +121,7 @@ function paint() {
   );
   const first = page.chosen === null ? nodes[0][0] ?? nodes[1][0] : nodes[page.chosen[0]][page.chosen[1] - 1];
   for (const { group } of nodes.flat()) group.setAttribute('tabindex', group === first?.group ? 0 : -1);
+  $('picture').classList.toggle('alone', page.chosen !== null);
   paintOver();
 }
 
@@ -168,6 +169,14 @@ function choose(group) {
   const again = page.chosen !== null && page.chosen[0] === side && page.chosen[1] === number;
   page.chosen = again ? null : [side, number];
   tell();
+  if (!again) uncover(group);
+}
+
+// where the card lies over the picture, the number that was tapped stays in sight
+function uncover(group) {
+  const card = $('card');
+  const hidden = group.getBoundingClientRect().bottom - card.getBoundingClientRect().top;
+  if (getComputedStyle(card).position === 'fixed' && hidden > 0) window.scrollBy(0, hidden);
 }
 
 function onKey(event) {
@@ -192,7 +201,7 @@ function move(key, side, number) {
   return true;
 }
 
-// The pairs of the chosen number in the order of its list, with the other end's rank and what has become of each.
+// The pairs of the chosen number in the order of its list, with the other end's rank, what has become of each, and by which step.
 export function chosenPairs() {
   const [side, number] = page.chosen;
   const node = nodesOf(side)[number - 1];
@@ -201,9 +210,14 @@ export function chosenPairs() {
     const pair = side === 0 ? [number, other, shift] : [other, number, shift];
     const tied = index >= node.strict.length;
     const rank = Math.min(index, node.strict.length) + 1;
-    return { pair, other, shift, tied, rank, back: rankOf(1 - side, other, [number, shift]), fate: fates.get(pairKey(pair)) ?? 'open' };
+    const back = rankOf(1 - side, other, [number, shift]);
+    return { other, shift, tied, rank, back, fate: fates.get(pairKey(pair)) ?? 'open', step: stepOf(pair) };
   });
 }
+
+// the step by which a pair was settled, or 0 if it has not been shown yet
+const stepOf = (pair) =>
+  page.found.diary.slice(0, page.step).findIndex(({ surveyor, stand, shift }) => pairKey([surveyor, stand, shift]) === pairKey(pair)) + 1;
 
 function rankOf(side, number, [other, shift]) {
   const { strict } = nodesOf(side)[number - 1];

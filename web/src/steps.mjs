@@ -95,10 +95,11 @@ const CARD = { fixed: 'fixed', struck: 'struck out', open: 'open', left: 'left',
 
 function drawCard() {
   $('card').hidden = page.chosen === null;
+  document.body.classList.toggle('sheet', page.chosen !== null);
   if (page.chosen === null) return;
   const [side, number] = page.chosen;
   const other = WORDS[1 - side];
-  const rows = chosenPairs().map(({ rank, tied, other: end, shift, back, fate }) =>
+  const rows = chosenPairs().map(({ rank, tied, other: end, shift, back, fate, step }) =>
     make(
       'tr',
       { class: fate },
@@ -106,15 +107,16 @@ function drawCard() {
       make('th', { scope: 'row' }, `${end}${hasShifts() ? `, shift ${shift}` : ''}`),
       make('td', null, back === null ? 'tied' : ordinal(back)),
       make('td', null, fate.replace('fixed candidate', 'candidate').split(' ').map((word) => CARD[word]).join(', ')),
+      make('td', null, step > 0 && button(`step ${step}`, () => show(step), { class: 'small' })),
     ),
   );
+  const all = button('Show all', () => {
+    page.chosen = null;
+    tell();
+  });
   fill(
     $('card'),
-    make('h2', null, `${WORDS[side]} ${number} alone`),
-    rows.length > 0 ? table({ class: 'card' }, ['rank', other, 'rank there', ''], rows) : make('p', null, 'Its list is empty.'),
-    button('Show all', () => {
-      page.chosen = null;
-      tell();
-    }),
+    make('div', { class: 'cardhead' }, make('h2', null, `${WORDS[side]} ${number} alone`), all),
+    rows.length > 0 ? table(null, ['rank', other, 'rank there', '', ''], rows) : make('p', null, 'Its list is empty.'),
   );
 }

@@ -62,9 +62,13 @@ export async function alone({ tab, samples }) {
     assert.deepStrictEqual(shown, of);
     return rows;
   };
-  // by its list: the rank, the other end, the rank there, and what became of the pair
-  assert.deepStrictEqual(await check(0, 1), ['1st | 1, shift 1 | 1st | fixed', '2nd | 2, shift 1 | tied | fixed', '3rd | 3, shift 1 | 2nd | struck out']);
-  assert.deepStrictEqual(await check(1, 2), ['1st (tied) | 1, shift 1 | 2nd | fixed', '1st (tied) | 3, shift 1 | 1st | fixed']);
+  // by its list: the rank, the other end, the rank there, what became of the pair, and by which step
+  const first = ['1st | 1, shift 1 | 1st | fixed | step 1', '2nd | 2, shift 1 | tied | fixed | step 6', '3rd | 3, shift 1 | 2nd | struck out | step 3'];
+  assert.deepStrictEqual(await check(0, 1), first);
+  assert.deepStrictEqual(await check(1, 2), ['1st (tied) | 1, shift 1 | 2nd | fixed | step 6', '1st (tied) | 3, shift 1 | 1st | fixed | step 7']);
+  await tab.click('#card td button');
+  assert(/^Step 6 of 7/.test(await tab.ask("document.querySelector('#now').innerText")));
+  await tab.key('End');
   await tab.click('[data-node="1 2"]');
   assert.strictEqual(await tab.ask("document.querySelectorAll('.pair.hidden').length"), 0);
 }
