@@ -29,13 +29,10 @@ export function startFiles() {
 // From the moment that the file is there to the answer, and to the view below it, two measures for the tests.
 async function take(file, what) {
   if (!file) return;
-  if (file.size > MOST_BYTES) {
-    note(file.name, 'it is too long for a roster or a plan');
-    return;
-  }
   performance.mark('opened');
-  const bytes = new Uint8Array(await file.arrayBuffer());
-  if (what === 'plan') holdFile(bytes, file.name);
+  const bytes = new Uint8Array(await file.slice(0, MOST_BYTES).arrayBuffer());
+  if (file.size > MOST_BYTES) note(file.name, 'it is too long for a roster or a plan');
+  else if (what === 'plan') holdFile(bytes, file.name);
   else openFile(bytes, file.name);
   performance.measure('answered', 'opened');
   requestAnimationFrame(() => setTimeout(() => performance.measure('drawn', 'opened')));

@@ -92,6 +92,7 @@ const NOTICES = [
   ['no-ending', [...Buffer.from('surveyor 1 quota nine: 1')], ['Line 1', "'nine' is no number, behind 'quota'"]],
   ['broken.txt', [255, 254], ['no text']],
   ['early.plan', [1, 1, 1, 1], ['Refusal 13, desk']],
+  ['long.txt', new Array((1 << 20) + 1).fill(32), ['too long']],
 ];
 
 // plans that two-for-one does not have
@@ -116,11 +117,15 @@ export async function badFiles({ tab, samples }) {
       const text = await give(folder, 'bad.plan', bytes);
       assert(text.includes(`Refusal ${number}, plan`) && text.includes('pair') && text.includes('stays as it was'), text);
     }
+    await tab.click('#tab-desk');
+    await tab.write('#join-list', 'one');
+    await tab.click('#join');
+    assert(/This joiner was refused\s+'one' is no number, in the list/.test(await tab.ask("document.querySelector('#notice').innerText")));
     await give(folder, 'nine.roster', [1, 9]);
     assert.strictEqual(await tab.ask("document.querySelector('#title').innerText"), 'two-for-one.roster');
     await tab.click('#notice button');
     assert.deepStrictEqual(await answer(tab), before);
-    return `${NOTICES.length + 4} of them`;
+    return `${NOTICES.length + BAD_PLANS.length + 2} of them`;
   });
 }
 

@@ -1,8 +1,8 @@
 // The tests of the page in a browser: each is a name and what it does, which throws where something is wrong, and may tell something to be said with the name.
 import { badFiles, everySample, falsifiedSeen, firstAnswer, session, written } from './answers.mjs';
 import { alone, ending, facing, rulesOnPaper, steps } from './drawn.mjs';
+import { accessible, contrasts, keyboard, layouts, printed } from './everyone.mjs';
 import { kept, noNetwork, nothingKept, saved, takenBack } from './kept.mjs';
-import { accessible, contrasts, keyboard, layouts, printed } from './reach.mjs';
 
 export const tests = [
   ['every sample as the program prints it', everySample],
