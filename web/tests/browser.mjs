@@ -107,11 +107,16 @@ export class Tab {
     throw new Error(`this did not come true: ${expression}`);
   }
 
+  // Taps an element: it must be there, and in sight once it is scrolled to, with nothing over it.
   click(selector) {
     return this.ask((wanted) => {
       const element = document.querySelector(wanted);
       if (!element) throw new Error(`there is no ${wanted}`);
       if (element.disabled) throw new Error(`${wanted} is disabled`);
+      element.scrollIntoView({ block: 'center' });
+      const { left, top, width, height } = element.getBoundingClientRect();
+      const hit = document.elementFromPoint(left + width / 2, top + height / 2);
+      if (!element.contains(hit)) throw new Error(`over ${wanted} lies ${hit?.outerHTML.slice(0, 60)}`);
       element.dispatchEvent(new MouseEvent('click', { bubbles: true, cancelable: true }));
     }, selector);
   }
