@@ -26,7 +26,7 @@ export class Browser {
     this.rest = parts.pop();
     for (const part of parts) {
       const { id, result, error, method, params, sessionId } = JSON.parse(part);
-      if (id === undefined) this.listeners.forEach((listener) => listener(method, params, sessionId));
+      if (id === undefined) [...this.listeners].forEach((listener) => listener(method, params, sessionId));
       else {
         const [resolve, reject] = this.waiting.get(id);
         this.waiting.delete(id);
@@ -40,6 +40,18 @@ export class Browser {
     const id = ++this.last;
     this.process.stdio[3].write(`${JSON.stringify({ id, method, params, sessionId })}\0`);
     return new Promise((resolve, reject) => this.waiting.set(id, [resolve, reject]));
+  }
+
+  // Waits for an event.
+  next(wanted) {
+    return new Promise((resolve) => {
+      const listener = (method, params) => {
+        if (!wanted(method, params)) return;
+        this.listeners.splice(this.listeners.indexOf(listener), 1);
+        resolve(params);
+      };
+      this.listeners.push(listener);
+    });
   }
 
   async open(url, width, height) {

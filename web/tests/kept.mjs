@@ -1,6 +1,6 @@
 // Tests of what leaves the page and what stays: files that are saved, what the browser keeps, a change taken back, and that nothing goes to a network.
 import assert from 'node:assert';
-import { existsSync, readFileSync, rmSync, writeFileSync } from 'node:fs';
+import { readFileSync, rmSync, writeFileSync } from 'node:fs';
 import { join } from 'node:path';
 import { withFolder } from './folder.mjs';
 import { answer, desk } from './seen.mjs';
@@ -9,10 +9,12 @@ import { answer, desk } from './seen.mjs';
 
 export async function saved({ browser, tab, samples, read }) {
   return withFolder(async (folder) => {
-    await browser.send('Browser.setDownloadBehavior', { behavior: 'allow', downloadPath: folder });
+    await browser.send('Browser.setDownloadBehavior', { behavior: 'allow', downloadPath: folder, eventsEnabled: true });
     const press = async (text, name) => {
+      // the file is there before its bytes are
+      const whole = browser.next((method, params) => method === 'Browser.downloadProgress' && params.state === 'completed');
       await tab.ask((wanted) => [...document.querySelectorAll('button')].find((button) => button.innerText === wanted && button.offsetParent).click(), text);
-      for (let left = 200; left > 0 && !existsSync(join(folder, name)); left--) await new Promise((resolve) => setTimeout(resolve, 20));
+      await whole;
       const bytes = readFileSync(join(folder, name));
       rmSync(join(folder, name));
       return bytes;
