@@ -13,6 +13,8 @@ import { described } from './described.mjs';
 const GROUPS = ['', 'form', 'content', 'plan', 'desk'];
 const KINDS = ['', 'plan', 'left', 'rivalled'];
 const FATES = ['', 'fix', 'strike'];
+const VERDICTS = ['', 'strong', 'popular', 'beaten'];
+const WINNERS = ['neither', 'first', 'second', 'both'];
 const PAGE = 65536;
 
 export class Refused extends Error {
@@ -35,6 +37,7 @@ const split = (bytes, width, count) => Array.from({ length: count }, (_, i) => A
 
 // the pairs of a plan file
 export const planPairs = (file) => split(file.subarray(1), 3, file[0]);
+
 
 export class Crew {
   constructor(exports) {
@@ -134,6 +137,62 @@ export class Desk {
 
   leave(number) {
     return this.found('crew_leave', number);
+  }
+
+  // A plan beside the held one: both votes, and the pairings of each.
+  propose(file) {
+    const forward = this.buffer('CREW_PAIRING_BYTES'), back = this.buffer('CREW_PAIRING_BYTES');
+    const { proposal_vote, held_vote } = this.call('crew_propose', file, forward, back);
+    return { proposal: proposal_vote, held: held_vote, forward, back };
+  }
+
+  commit() {
+    this.call('crew_commit');
+  }
+
+  // Two plan files: both votes, the winner, and the pairings of each vote.
+  compare(one, other) {
+    const forward = this.buffer('CREW_PAIRING_BYTES'), back = this.buffer('CREW_PAIRING_BYTES');
+    const { winner, first_vote, second_vote } = this.call('crew_compare', one, other, forward, back);
+    return { winner: WINNERS[winner], first: first_vote, second: second_vote, forward, back };
+  }
+
+  // The verdict on the held plan; for one that is not strong a rival, the vote against it, and the pairings of that vote.
+  judge() {
+    const rival = this.buffer('CREW_PLAN_BYTES'), pairing = this.buffer('CREW_PAIRING_BYTES');
+    const { verdict, vote } = this.call('crew_judge', rival, pairing);
+    return { verdict: VERDICTS[verdict], vote, rival: planPairs(rival), pairing };
+  }
+
+  // The first blocking pair of the held plan, or null.
+  blocking() {
+    const { surveyor, stand, shift } = this.call('crew_blocking');
+    return surveyor === 0 ? null : [surveyor, stand, shift];
+  }
+
+  // The held plan's days, one for each pair in its order.
+  spread() {
+    const days = this.buffer('CREW_DAY_BYTES');
+    const { length } = this.call('crew_spread', days);
+    return Array.from(days.subarray(0, length));
+  }
+
+  // The held roster's file, the held plan's file.
+  roster() {
+    return this.written('crew_write_roster', 'CREW_ROSTER_BYTES');
+  }
+
+  plan() {
+    return this.written('crew_write_plan', 'CREW_PLAN_BYTES');
+  }
+
+  written(name, size) {
+    const out = this.buffer(size);
+    return out.slice(0, this.call(name, out).length);
+  }
+
+  buffer(size) {
+    return new Uint8Array(this.crew.constants[size]);
   }
 
   found(name, ...given) {

@@ -13,6 +13,9 @@ mod faced;
 #[path = "../examples/in_the_field.rs"]
 mod in_the_field;
 #[allow(dead_code)]
+#[path = "../examples/session.rs"]
+mod session;
+#[allow(dead_code)]
 #[path = "../examples/sheet.rs"]
 mod sheet;
 #[allow(dead_code)]
@@ -42,6 +45,11 @@ fn nine_days_in_the_field() {
 #[test]
 fn a_sheet_for_the_foreman() {
     assert_eq!(told(sheet::tell), include_str!("../examples/sheet.out"));
+}
+
+#[test]
+fn a_session_for_the_page() {
+    assert_eq!(told(session::tell), include_str!("../examples/session.out"));
 }
 
 #[test]
