@@ -119,12 +119,7 @@ pub fn roster_refusal(roster: &[u8], short: bool) -> u8
     let a = roster::read_roster(roster);
     match a {
         FileAnswer::Refused(_, _) => 13,
-        FileAnswer::Accepted => {
-            if short {
-                return 15;
-            }
-            0
-        }
+        FileAnswer::Accepted => short_refusal(short),
     }
 }
 

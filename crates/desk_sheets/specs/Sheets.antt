@@ -81,7 +81,13 @@ module _ (d : Files) {short : Bool} {l : OnDesk} (F : LoadedFrom (rosterBytes d)
           match .atS v,
           A .quotas v .0,
         ),
-        omega (arith, at-node (stands G) (flag (l .plan)) (l .edges) (l .n) count-is (listed .are) v, ap (λ p. deg (stands G) p v) f, match .atT v, A .quotas v .1),
+        omega (
+          arith,
+          at-node (stands G) (flag (l .plan)) (l .edges) (l .n) count-is (listed .are) v,
+          ap (λ p. deg (stands G) p v) f,
+          match .atT v,
+          A .quotas v .1,
+        ),
       ))
 
   -- what the spreading asks for

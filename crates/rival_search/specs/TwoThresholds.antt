@@ -122,7 +122,8 @@ searching-bounded m sv st rs rt plan n ps pt rps rpt roomS roomT arcs below what
 
 -- ---- the two tables of a plan are what the searches ask for, and where no edge has room at both ends what they find is what is searched for
 module _ (m : ℕ) (sv st rs rt : List ℕ) (plan : List Bool) (n : ℕ) (ps pt rps rpt : List ℕ) (roomS roomT : List Bool) (arcs ends : List ℕ)
-    (arcsShow : Rows arcs n (arcCell m sv st rs rt plan ps pt rps rpt)) (endsShow : Grid ends n (terminalCell m sv st rs rt plan roomS roomT ps pt rps rpt)) where
+    (arcsShow : Rows arcs n (arcCell m sv st rs rt plan ps pt rps rpt))
+    (endsShow : Grid ends n (terminalCell m sv st rs rt plan roomS roomT ps pt rps rpt)) where
   pub tables-fine : Small n arcs × Cheap n arcs × SmallEnds n ends
   tables-fine = (
     (λ i j h k. omega (arith, arcsShow i j h k, arc-small m sv st rs rt plan (at pt i) (at rpt i) (at ps j) (at rps j))),
@@ -140,5 +141,7 @@ module _ (m : ℕ) (sv st rs rt : List ℕ) (plan : List Bool) (n : ℕ) (ps pt 
       let free = freeAt sv st plan roomS roomT in (
         ends,
         endsShow,
-        e ∙ sym (ap₂ (λ (f g : Found). searched f g) (search-places m free arcs ends n (low free m) refl 0 h) (search-places m free arcs ends n (low free m) refl 1 h)),
+        e ∙ sym
+            (ap₂ (λ (f g : Found). searched f g) (search-places m free arcs ends n (low free m) refl 0 h)
+            (search-places m free arcs ends n (low free m) refl 1 h)),
       )

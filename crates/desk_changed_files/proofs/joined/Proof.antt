@@ -18,7 +18,8 @@ returns c =
     let f = c .before .before .before in
     let a = start f .args in
     let r = c .before .before .roster-refusal in
-    change-refused (a .files) (a .short) (λ R. joinOn R (a .quota) (a .list .now)) 0 (subst (λ bs. Judged bs (a .short) (r .result)) (f .front .ensures) (r .ensures))
+    change-refused (a .files) (a .short) (λ R. joinOn R (a .quota) (a .list .now)) 0
+    (subst (λ bs. Judged bs (a .short) (r .result)) (f .front .ensures) (r .ensures))
     (c .before .if1 .taken) (c .unchanged .ensures)
 
 join-requires : tie.Need-join-requires
@@ -37,7 +38,8 @@ returns-2 c =
     let r = c .before .before .before .roster-refusal in
     let k = c .before .join in
     let changed = subst (λ file. ChangedBy (λ R. joinOn R (a .quota) (a .list .now)) file (k .result)) (f .front .ensures) (k .ensures) in
-    change-taken (a .files) (a .short) (λ R. joinOn R (a .quota) (a .list .now)) 0 (subst (λ bs. Judged bs (a .short) (r .result)) (f .front .ensures) (r .ensures))
+    change-taken (a .files) (a .short) (λ R. joinOn R (a .quota) (a .list .now)) 0
+    (subst (λ bs. Judged bs (a .short) (r .result)) (f .front .ensures) (r .ensures))
     (c .before .before .if1 .left) changed (c .taken .ensures)
 
 pub joined-spec : {M : Type 1} → statement M

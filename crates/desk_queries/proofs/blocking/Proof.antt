@@ -23,7 +23,8 @@ blocking-requires c κs =
     let k = c .before .before .before .before .before .loaded in
     let z = c .before .before .before .before .if1 .left in
     let L = arrays-are d (k .ensures) z in
-    (L, few-edges (k .result .g) L (k .result .plan) (plan-shown d (k .ensures) z), lists-are (k .result .g .m) (k .result .plan) (k .result .n) (k .result .edges) (plan-listed d (k .ensures) z))
+    let l = k .result in
+    (L, few-edges (l .g) L (l .plan) (plan-shown d (k .ensures) z), lists-are (l .g .m) (l .plan) (l .n) (l .edges) (plan-listed d (k .ensures) z))
 
 returns-2 : tie.Need-returns-2
 returns-2 c =

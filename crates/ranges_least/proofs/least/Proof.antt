@@ -32,8 +32,8 @@ returns : tie.Need-returns
 returns c =
     let r = c .before .before .before .before in
     let a = start r .args in
-    first-refused (a .g) (a .first .now) (r .read-against .result) (r .read-against .ensures) (a .out .now) (a .second .now) (a .ranges .now) (c .group-of .result)
-    (c .before .before .a .given .1) (c .group-of .ensures)
+    first-refused (a .g) (a .first .now) (r .read-against .result) (r .read-against .ensures) (a .out .now) (a .second .now) (a .ranges .now)
+    (c .group-of .result) (c .before .before .a .given .1) (c .group-of .ensures)
 
 returns-2 : tie.Need-returns-2
 returns-2 c =

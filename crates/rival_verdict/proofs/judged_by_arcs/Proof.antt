@@ -37,7 +37,8 @@ swap-requires c κs =
       searching-bounded (a .m) (a .sv .now) (a .st .now) (a .rs .now) (a .rt .now) (a .plan .now) (a .n) (a .ps .now) (a .pt .now) (a .qs .now)
           (a .qt .now) (a .fs .now) (a .ft .now) (t .result) (h .result .below) (h .result .found)
           (tables-searched (a .m) (a .sv .now) (a .st .now) (a .rs .now) (a .rt .now) (a .plan .now) (a .n) (a .ps .now) (a .pt .now) (a .qs .now)
-          (a .qt .now) (a .fs .now) (a .ft .now) (t .result) (a .ends .now) (t .ensures) (s .pre .1) (p .10) (h .result .below) (h .result .found) (h .ensures)),
+          (a .qt .now) (a .fs .now) (a .ft .now) (t .result) (a .ends .now) (t .ensures) (s .pre .1) (p .10) (h .result .below) (h .result .found)
+          (h .ensures)),
       p .8,
       p .9,
     )
