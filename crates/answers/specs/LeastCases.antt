@@ -1,5 +1,4 @@
 -- What each case of the code's answer says, in document 02's words: the least vote over rankings not yet settled (W-211).
-use Prim.Native.Nat.{ℕ}
 use Rattle.model_desk.specs.Desk as model
 use Rattle.answers.specs.GroupCases.{groupShown}
 use Rattle.answers.specs.declared.LeastVote.{LeastVote}

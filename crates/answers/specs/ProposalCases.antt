@@ -1,7 +1,4 @@
 -- What each case of the code's answer says, in document 02's words: a proposal (W-207), and the commit of one.
-use Prim.Native.Nat.{ℕ}
-use mathlib.Core.Path.{_≡_, refl, ap}
-use Rattle.model.specs.Refusal.{groupOf}
 use Rattle.model_desk.specs.Desk as model
 use Rattle.answers.specs.GroupCases.{groupShown}
 use Rattle.answers.specs.declared.Proposal as proposal

@@ -15,7 +15,6 @@ use Rattle.model.specs.Facing.{pairingBytes}
 use Rattle.model_desk.specs.Compare.{votes, winnerOf, compared, secondJudged, firstJudged, comparisonOf, Pairings, bothPairings, noPairings, secondPaired}
 use Rattle.model_desk.specs.Compare.{firstPaired, pairingsOf}
 use Rattle.model_desk.specs.Desk.{onto}
-use Rattle.arrays.specs.ArrayInstance.{flag}
 use Rattle.answers.specs.declared.Group.{Group}
 use Rattle.answers.specs.GroupCases.{groupShown, shows-case}
 use Rattle.instance.specs.declared.Instance.{Instance}

@@ -1,10 +1,10 @@
 -- W-207, of the desks that the calls return: "Over every list of desk calls that starts with nothing loaded, each taking the desk that the one before
 -- returned, the held plan is the last one loaded or committed since the last roster, less the pairs of those who left after it; refused calls count
--- for nothing." A session is told by its calls and their answers, the last one first (model/History); every call of the desk promises `Replied`.
-use mathlib.Core.Path.{_≡_, sym, ap, subst}
+-- for nothing." A session is told by its calls and their answers, the last one first (model_desk/History); every call of the desk promises `Replied`.
+use mathlib.Core.Path.{_≡_, sym, subst}
 use mathlib.Core.List.{List, [], _∷_}
 use lib.Dec.{T}
-use Rattle.model_desk.specs.Desk.{Topic, Call, Answer, opening, answerOf, deskAfter}
+use Rattle.model_desk.specs.Desk.{Topic, Call, Answer, opening, deskAfter}
 use Rattle.model_desk.specs.History.{eventOf, Exchange, gave, eventsOf, lastPlan, heldPairs}
 use Rattle.theory_finder.specs.Choices.{chosen}
 use Rattle.theory_finder.specs.Desks.{lendsBytes}

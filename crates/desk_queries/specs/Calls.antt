@@ -17,7 +17,6 @@ use Rattle.model_desk.specs.Compare.{comparisonOf, pairingsOf}
 use Rattle.model_desk.specs.Desk.{judge, compare, blocking, refused, said, refusal, votes, verdictAnswer}
 use Rattle.model_desk.specs.Desk.{verdictWritten, comparisonAnswer, blockingAnswer, pairingsOnto}
 use Rattle.theory_verdict.specs.Rival.{rivalOf}
-use Rattle.arrays.specs.ArrayInstance.{flag}
 use Rattle.answers.specs.declared.Verdict.{Verdict}
 use Rattle.answers.specs.declared.Comparison.{Comparison}
 use Rattle.answers.specs.declared.Blocked.{Blocked}

@@ -13,7 +13,7 @@ use Rattle.model.specs.Reading.{Reading, accepted, refused}
 use Rattle.model.specs.Roster.{Roster, fits}
 use Rattle.model.specs.RosterFile.{readRoster}
 use Rattle.model.specs.Edges.{instanceOf}
-use Rattle.model.specs.Plans.{Plan, on, voteOf}
+use Rattle.model.specs.Plans.{on, voteOf}
 use Rattle.model.specs.PlanFile.{readPlan}
 use Rattle.model.specs.Ranges.{Question, readQuestion, ranked, Least, rosterRanks, settledAt}
 use Rattle.model_desk.specs.Desk as D

@@ -9,10 +9,10 @@ use lib.ListN.{length, take, drop, getD}
 use lib.Seq.{getD-take, length-take-le}
 use lib.Dec.{ltb, eqb}
 use Rattle.lists.specs.Test.{given}
-use Rattle.lists.specs.Sum.{_∈_, range, ∈-range, range-length, count, count-cong}
+use Rattle.lists.specs.Sum.{_∈_, range, ∈-range, count, count-cong}
 use Rattle.lists.specs.Ranges.{map-at}
 use Rattle.lists.specs.Keep.{∈-keep, getD-∈}
-use Rattle.model.specs.Limits.{nodeLimit, planLimit, daySize, lastDay, quotaLimit}
+use Rattle.model.specs.Limits.{nodeLimit, daySize, lastDay}
 use Rattle.model.specs.Roster.{Roster}
 use Rattle.model.specs.Instance.{Side, surveyors, stands, deg}
 use Rattle.model.specs.Edges.{instanceOf}
@@ -22,7 +22,6 @@ use Rattle.model.specs.Days.{Sheet}
 use Rattle.model_desk.specs.Desk.{planHeld, spread, refusal, said, wrote, onto}
 use Rattle.theory_instance.specs.Within.{within-matching}
 use Rattle.theory_files.specs.Chosen.{plan-within}
-use Rattle.theory_files.specs.PlanFiles.{plan-few}
 use Rattle.theory_days.specs.Sheets.{spreadBy, spreadOf, sheet-holds, days-many, entries-at}
 use Rattle.arrays.specs.ArrayInstance.{at, flag}
 use Rattle.plan_lookup.specs.PlanEdges.{Listed}

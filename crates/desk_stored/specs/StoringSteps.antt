@@ -30,7 +30,7 @@ use Rattle.desk_loaded.specs.RosterBytes.{ArraysOf}
 use Rattle.desk_files.specs.declared.Files.{Files}
 use Rattle.desk_stored.specs.declared.Change.{Change}
 use Rattle.desk_files.specs.Held.{rosterBytes, planBytes}
-use Rattle.desk_stored.specs.Storing.{Unchanged, LessOf, LessHeld, StoredAs, Open, ClosedFor, TakenFor, Taken}
+use Rattle.desk_stored.specs.Storing.{Unchanged, LessOf, LessHeld, StoredAs, Open, ClosedFor, Taken}
 
 -- ---- the plan held, or none
 -- that there is a plan does not depend on the roster it is held with

@@ -10,8 +10,6 @@ use Rattle.lists.specs.Test.{given, by-bool, false-T}
 use Rattle.model.specs.Limits.{planSize, rosterSize}
 use Rattle.model.specs.Refusal as G
 use Rattle.model.specs.Refusal.{groupOf}
-use Rattle.model.specs.Reading.{accepted}
-use Rattle.model.specs.Roster.{Roster}
 use Rattle.model.specs.RosterFile.{readRoster, writeRoster}
 use Rattle.model.specs.Edges.{instanceOf}
 use Rattle.model.specs.PlanFile as plans
@@ -19,7 +17,7 @@ use Rattle.model.specs.PlanFile.{readPlan}
 use Rattle.model_desk.specs.Desk.{writeRosterTo, writePlanTo, writeProposalTo, refused, refusal, said, wrote, onto, stateRefusal, answerOn, lentOn}
 use Rattle.theory_finder.specs.Choices.{chosen}
 use Rattle.desk_loaded.specs.declared.OnDesk.{OnDesk}
-use Rattle.desk_loaded.specs.Held.{heldPlan, held, stateNumber, unneeded}
+use Rattle.desk_loaded.specs.Held.{heldPlan, held, stateNumber}
 use Rattle.desk_loaded.specs.OnDesk.{LoadedFrom}
 use Rattle.desk_loaded.specs.RosterBytes.{Judged}
 use Rattle.desk_files.specs.declared.Files.{Files}

@@ -3,18 +3,13 @@ use Prim.Native.Nat.{ℕ, zero, suc, _+_, _*_}
 use native.Mathlib.Omega.{arith}
 use mathlib.Core.Path.{_≡_, refl, sym, ap, _∙_}
 use mathlib.Core.List.{List, [], _∷_, _++_}
-use lib.ListN.{length, getD, drop, replicate, length-map}
+use lib.ListN.{length, getD, drop, length-map}
 use lib.Seq.{getD-drop}
 use Rattle.lists.specs.Keep.{gather}
-use Rattle.model.specs.Instance.{Instance}
-use Rattle.model.specs.Reduction.{stepsOf}
-use Rattle.model.specs.Finder.{Record, recordOf, diaryOf}
+use Rattle.model.specs.Finder.{Record}
 use Rattle.model_desk.specs.Desk.{onto}
 use Rattle.arrays.specs.ArrayInstance.{at}
-use Rattle.reduction_state.specs.declared.Trace.{Trace}
-use Rattle.reduction_state.specs.Trace.{Traced}
-use Rattle.diary.specs.FlatDiary.{numbers, written, recordWidth, flatSize}
-use Rattle.diary_records.specs.TraceRecords.{flatOf, trace-flat}
+use Rattle.diary.specs.FlatDiary.{numbers, written, recordWidth}
 use Rattle.diary.specs.declared.Step.{Step}
 use Rattle.diary.specs.LentSteps.{recordIn, recordsIn, stepAt, stepsIn}
 
@@ -72,15 +67,6 @@ filled-diary rs n flat room before after e h k =
     ap recordsIn k ∙ records-onto (stepsIn n flat) before
     ∙ ap (λ (l : List Record). onto l (recordsIn before))
     (ap (λ (m : ℕ). recordsIn (stepsIn m flat)) h ∙ ap (λ (l : List ℕ). recordsIn (stepsIn (length rs) l)) e ∙ held rs (drop (recordWidth * length rs) room))
-
--- the same of the trace of a whole run: the lent diary begins with the model's diary
-pub filled-run : (G : Instance) (sv st sh : List ℕ) → G .sv ≡ at sv → G .st ≡ at st → G .sh ≡ at sh → (t : Trace) → Traced (stepsOf G) t
-    → (before after : List Step)
-    → after ≡ onto (stepsIn (t .steps) (flatOf sv st sh t)) before → recordsIn after ≡ onto (diaryOf G) (recordsIn before)
-unfolding diaryOf
-filled-run G sv st sh a b c t T before after k =
-    filled-diary (diaryOf G) (t .steps) (flatOf sv st sh t) (replicate flatSize 0) before after
-    (trace-flat G sv st sh a b c t T) (T .steps ∙ sym (length-map (stepsOf G) (recordOf G))) k
 
 -- no record, as on a refusal: the lent diary is left as it was
 pub filled-none : (n : ℕ) (flat : List ℕ) (before after : List Step) → n ≡ 0 → after ≡ onto (stepsIn n flat) before → after ≡ before

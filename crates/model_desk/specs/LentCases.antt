@@ -4,7 +4,7 @@ use Prim.Native.Nat.{ℕ}
 use mathlib.Core.Path.{_≡_, refl}
 use mathlib.Core.Bool.{true, false}
 use mathlib.Core.Option.{Option·elim, orElse}
-use mathlib.Core.List.{List, [], _∷_, _++_}
+use mathlib.Core.List.{[], _∷_, _++_}
 use lib.IntN.{pos}
 use lib.ListN.{replicate}
 use Rattle.lists.specs.Sum.{count}
@@ -22,7 +22,7 @@ use Rattle.model.specs.Reduction as R
 use Rattle.model.specs.PlanFile.{planBytesBy, planBytes, edgeOfPair, pairBytes, readPlanBy}
 use Rattle.model.specs.Finder as F
 use Rattle.model.specs.Finder.{Record, diaryOf, leftOf, candidateOf, finderOf}
-use Rattle.model_changes.specs.Changes.{joined, joinOn, departed, leaveOn, carried}
+use Rattle.model_changes.specs.Changes.{joined, joinOn, departed, leaveOn}
 use Rattle.model.specs.Facing.{facing, pairingBytes}
 use Rattle.model_desk.specs.Compare.{pairingsOf}
 use Rattle.model_desk.specs.Desk as D

@@ -1,11 +1,11 @@
 -- Proposals (W-207), run by the checker: what each call leaves held and what it answers, on P5's roster, and what a list of calls with their answers
--- tells of the held plan (model/History). No answer here depends on which rival is named.
+-- tells of the held plan (model_desk/History). No answer here depends on which rival is named.
 use Prim.Native.Nat.{ℕ}
 use mathlib.Core.Path.{_≡_, refl}
 use mathlib.Core.Bool.{true, false}
 use mathlib.Core.Option.{Option}
 use mathlib.Core.Option as O
-use mathlib.Core.List.{List, [], _∷_, _++_, map}
+use mathlib.Core.List.{List, [], _∷_, _++_}
 use lib.IntN.{pos, negsuc}
 use Rattle.lists.specs.Sum.{count}
 use Rattle.lists.specs.Search.{low}

@@ -67,9 +67,6 @@ wholeFields w size at n = min n ((size - at) / w)
 
 -- there is room for them, and if they are not all, for no further one
 module _ (w size at n : ℕ) {k : ℕ} (e : k ≡ wholeFields w size at n) where
-  pub fields-few : k ≤ n
-  fields-few = omega arith
-
   pub fields-room : w * k ≤ size - at
   fields-room =
       let h : k ≤ (size - at) / w = omega arith in

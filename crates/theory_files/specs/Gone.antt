@@ -14,14 +14,11 @@ use Rattle.lists.specs.Keep.{keep-all, all-∈, none-∈}
 use Rattle.model.specs.Limits.{shiftLimit, listLimit}
 use Rattle.model.specs.Reading.{accepted}
 use Rattle.model.specs.Roster.{Entry, Ranking, Roster, entries, surveyorCount, standCount, listS, listT, same, has, listed, listedBack, entryFits, fits}
-use Rattle.model.specs.Edges.{instanceOf}
-use Rattle.model.specs.Plans.{Plan, plansOf}
 use Rattle.model_changes.specs.Changes.{departed, leaveOn, gone, carried}
 use Rattle.theory_files.specs.Entries.{in-range}
 use Rattle.theory_files.specs.ByLists.{list-range, fits-lists}
 use Rattle.theory_files.specs.RosterInstance.{entries-fit}
 use Rattle.theory_files.specs.Departed.{others, one-less, leave-parts}
-use Rattle.theory_files.specs.Carried.{carried-same}
 
 module _ (r : Roster) (ok : T (fits r)) (v : ℕ) (inside : v < surveyorCount r) (quota : getD (r .quotasS) v 0 ≡ 0) (list : listS r v ≡ []) where
   -- a stand's list has the number in no shift, as the surveyor's own list has none
@@ -84,9 +81,6 @@ module _ (r h : Roster) (s : ℕ) (ok : T (fits r)) (left : T (gone r s)) (e : l
 
       at : (v : ℕ) → s ≡ suc v → (P : ℕ → Type 0) → P (s - 1) → P v
       at v q P p = let w : s - 1 ≡ v = omega arith in subst P w p
-
-  pub gone-plan : (M : Plan) → M ∈ plansOf (instanceOf r) → carried (instanceOf r) (instanceOf h) M ≡ M
-  gone-plan M m = ap (λ k. carried (instanceOf r) (instanceOf k) M) gone-roster ∙ carried-same r ok M m
 
 -- ---- and only one who has left leaves the roster as it is
 pub gone-unchanged : (r h : Roster) (s : ℕ) → T (fits r) → leaveOn r s ≡ accepted h → h ≡ r → T (gone r s)

@@ -1,4 +1,4 @@
--- The pairs of a held plan as model/History tells them (request W-207): those of a plan that was read are those in its file, a joiner leaves them as
+-- The pairs of a held plan as model_desk/History tells them (request W-207): those of a plan that was read are those in its file, a joiner leaves them as
 -- they are, a leaver takes the own ones away. And those who leave one after the other, taken together.
 use Prim.Native.Nat.{ℕ, suc}
 use mathlib.Core.Path.{_≡_, refl, sym, ap, _∙_}

@@ -303,10 +303,6 @@ module _ (G : Instance) where
       pub plan-read-matching-by : Lawful G → Matching G (on M)
       plan-read-matching-by law = within-matching G (on M) law (plan-within G plan-read-within-by)
 
-      -- its count byte is there
-      pub plan-accepted-count-by : 1 ≤ length bs
-      plan-accepted-count-by = given (plan-pairs bs M isB e) (λ X. subst (λ z. 1 ≤ length z) (sym (X .file)) (omega arith))
-
       pub plan-accepted-size-by : length bs ≤ planSizeBy
       plan-accepted-size-by = given (plan-pairs bs M isB e) (λ X.
           given (mul-le-mul-left (A .width) (leb→le (length (X .ps)) planLimit (X .small))) (λ h.

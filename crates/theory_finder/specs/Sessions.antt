@@ -1,6 +1,6 @@
 -- Sessions at the desk, run by the checker: calls one after another from a desk that holds nothing, each with the answer that it must give. A session is
 -- one Boolean test, and all of them are one theorem, for the rival that the calls name (`Choices.chosen`). What single calls answer whichever rival is
--- chosen, and what is held and written, is in model/DeskCases.
+-- chosen, and what is held and written, is in model_desk/DeskCases.
 use Prim.Native.Nat.{ℕ, suc}
 use mathlib.Core.Path.{_≡_, refl}
 use mathlib.Core.Bool.{Bool, true, _&&_}

@@ -94,10 +94,6 @@ module _ (G : Instance) where
   pub steps-below : (s : Step) → s ∈ stepsOf G → s .edge < G .m
   steps-below s k = given (steps-taken s k) (λ (i, A, e). subst (λ s. s .edge < G .m) (sym e) (A .inside))
 
-  pub steps-rule : (s : Step) → s ∈ stepsOf G → (1 ≤ s .rule) × (s .rule ≤ 7) × (s .fate ≡ fateOf (s .rule))
-  steps-rule s k = given (steps-taken s k)
-      (λ (i, A, e). subst (λ s. (1 ≤ s .rule) × (s .rule ≤ 7) × (s .fate ≡ fateOf (s .rule))) (sym e) (A .range .0, A .range .1, refl))
-
   -- ---- no edge twice, so no more steps than edges
   next-other : (Z : State) (e : ℕ) → T (next G Z .rem e) → T (Z .rem e) × T (not (eqb e (edgeOf G Z)))
   unfolding next act

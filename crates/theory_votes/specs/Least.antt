@@ -3,7 +3,7 @@
 use Prim.Native.Nat.{ℕ, _+_, _*_, _≤_, _<_, zero-le}
 use native.Mathlib.Omega.{arith}
 use native.Mathlib.Decide.{decLt}
-use mathlib.Core.Path.{_≡_, refl, sym, ap, subst}
+use mathlib.Core.Path.{_≡_, refl, ap, subst}
 use mathlib.Core.Logic.{by-cases, _⊎_, inl, inr}
 use mathlib.Core.List.{List, [], _∷_, map, append-nil, List·Memᴰ·head, Memᴰ·map, Memᴰ·of-map}
 use lib.ListN.{length}
@@ -14,7 +14,7 @@ use Rattle.lists.specs.Sum.{_∈_, sum, sum-pos, sum-mem, sum-length, ∈-occ}
 use Rattle.lists.specs.Keep.{picks, picks-sum, remove, remove-picks, sum-remove}
 use Rattle.lists.specs.Least.{leastOf, leastOf-≤, leastOf-∈}
 use Rattle.theory_votes.specs.Score.{rate}
-use Rattle.theory_votes.specs.Two.{Two, two, both-≤}
+use Rattle.theory_votes.specs.Two.{Two, two}
 use Rattle.theory_votes.specs.Sorted.{Sorted}
 use Rattle.theory_votes.specs.Rotation.{against, against-≤, turned, turned-length, cost, cost-≤, lead, Columns, turned-columns, over, turn-≤}
 use Rattle.theory_votes.specs.Rotation.{second-≤, reach}
@@ -91,21 +91,6 @@ module _ (n : ℕ) (xs ys : List ℕ) (l : length xs ≡ length ys) (u : Below n
 
       upper : leastSum xs ys ≤ t .first + t .second
       upper = let (r, c, h) = reach own n xs ys l u t in omega (arith, least-≤ xs ys r c)
-
--- the same leads, the same least sum
-pub least-leads : (n : ℕ) (xs ys vs ws : List ℕ) → length xs ≡ length ys → length vs ≡ length ws → Below n ys → Below n ws
-    → ((x : ℕ) → x < n → lead own xs ys x ≡ lead own vs ws x) → leastSum xs ys ≡ leastSum vs ws
-least-leads n xs ys vs ws l m u w h =
-    let t = two (lead own xs ys) n in
-    let s = two (lead own vs ws) n in
-    omega (
-      arith,
-      least-two n xs ys l u t,
-      least-two n vs ws m w s,
-      both-≤ (lead own xs ys) (lead own vs ws) n t s h,
-      both-≤ (lead own vs ws)
-          (lead own xs ys) n s t (λ x k. sym (h x k)),
-    )
 
 -- ---- by the turns
 module _ (xs ys : List ℕ) (l : length xs ≡ length ys) where

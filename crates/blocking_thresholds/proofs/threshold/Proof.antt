@@ -1,4 +1,4 @@
--- thresholds::threshold answers the rank of a worst place. Assumes nothing.
+-- blocking_thresholds::threshold answers the rank of a worst place. Assumes nothing.
 use borrow.Author.Tests.{lt-ltb, le-ltb}
 use Rattle.blocking_thresholds.proofs.threshold.Statement.{statement}
 use Rattle.blocking_thresholds.proofs.threshold.Tie as tie

@@ -1,4 +1,4 @@
--- thresholds::thresholds makes the array of the worst places. Assumes nothing.
+-- blocking_thresholds::thresholds makes the array of the worst places. Assumes nothing.
 use Prim.Native.Nat.{ℕ, _-_, _≤_, _<_, zero-le}
 use native.Mathlib.Omega.{arith}
 use native.Mathlib.Nat.{not-suc-le-zero}

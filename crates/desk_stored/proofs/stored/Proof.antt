@@ -1,6 +1,6 @@
 -- `desk_stored::stored` meets its contract. Assumes nothing.
 use mathlib.Core.Path.{_≡_, refl, ap}
-use mathlib.Core.List.{List, []}
+use mathlib.Core.List.{[]}
 use lib.ListN.{take}
 use Rattle.model.specs.Edges.{instanceOf}
 use Rattle.desk_files.specs.Held.{planBytes}

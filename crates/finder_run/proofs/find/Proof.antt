@@ -1,4 +1,4 @@
--- finder::find reduces and hands over to the end of the steps.
+-- finder_run::find reduces and hands over to the end of the steps.
 use borrow.Author.Needs.{needs}
 use Rattle.finder_run.specs.Finding.{fixed-planned, finds}
 use Rattle.finder_run.proofs.find.Statement.{statement}

@@ -1,6 +1,5 @@
 -- An edge of the plan that is better exchanged alone, by the table of the ends; or both tables decide.
 use native.Mathlib.Omega.{arith}
-use mathlib.Core.Path.{refl}
 use borrow.Author.Needs.{needs}
 use Rattle.rival_search.specs.SearchView.{listed-low}
 use Rattle.rival_verdict.specs.RivalOfArrays.{alone-shown}

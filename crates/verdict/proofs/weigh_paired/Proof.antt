@@ -1,7 +1,6 @@
 -- `verdict::weigh_paired` meets its contract: the verdict, and where there is a rival the pairings of the vote against it. Assumes nothing.
 use lib.ListN.{length}
 use borrow.Author.Needs.{needs}
-use Rattle.vote_pairings.specs.SidePairings.{Faced}
 use Rattle.vote_pairings.specs.RosterPairings.{both-faced, room}
 use Rattle.verdict.specs.RivalWritten.{plan-within, none-paired, some-paired}
 use Rattle.verdict.proofs.weigh_paired.Statement.{statement}
