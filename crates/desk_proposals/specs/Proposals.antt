@@ -16,7 +16,7 @@ use Rattle.model.specs.Roster.{Roster}
 use Rattle.model.specs.RosterFile.{readRoster}
 use Rattle.model.specs.Edges.{instanceOf}
 use Rattle.model.specs.Instance.{Instance}
-use Rattle.model.specs.Plans.{Plan}
+use Rattle.model.specs.Plans.{Plan, voteOf}
 use Rattle.model.specs.PlanFile.{readPlan}
 use Rattle.model_desk.specs.Compare as model
 use Rattle.model_desk.specs.Compare.{compared, secondJudged, comparisonOf, pairingsOf}

@@ -9,6 +9,7 @@ use mathlib.Core.Option as O
 use mathlib.Core.Option.{Option, some}
 use lib.ListN.{length, drop}
 use lib.Dec.{T, ltb}
+use lib.IntN.{ℤ}
 use Rattle.lists.specs.Sum.{_∈_}
 use Rattle.model.specs.Limits.{planSize, rosterSize, diarySize, leftSize, daySize, pairingSize, choiceSize}
 use Rattle.model.specs.Reading as reading
@@ -25,7 +26,7 @@ use Rattle.model.specs.Reduction.{stepsOf}
 use Rattle.model.specs.Finder as F
 use Rattle.model.specs.Finder.{Record, diaryOf, Rival, Found, finderOf}
 use Rattle.model_desk.specs.Compare as C
-use Rattle.model_desk.specs.Compare.{Comparison, Part, comparisonOf}
+use Rattle.model_desk.specs.Compare.{Comparison, Winner, Part, comparisonOf, partOf}
 use Rattle.model.specs.Blocking.{someBlocks, topBlocking}
 use Rattle.model_changes.specs.Changes.{joinOn, leaveOn, gone, carried}
 use Rattle.model.specs.Days.{Sheet}
@@ -62,7 +63,6 @@ pub data Call : Topic → Type 0 where
 abbrev pub Lends : Type 0
 Lends = List Record → (left plan rival : List ℕ) → Call finds
 
--- the asking calls under their own names
 abbrev pub writeRosterTo : List ℕ → Call writes
 writeRosterTo b = asks (A.writeRosterTo b)
 

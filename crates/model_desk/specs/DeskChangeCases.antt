@@ -1,7 +1,7 @@
 -- The desk when surveyors join and leave (W-202), run by the checker: what each call leaves held, and what it answers. On document 01's sample, and
 -- with one surveyor and one stand in several shifts (W-204).
 use Prim.Native.Nat.{ℕ}
-use mathlib.Core.Path.{refl}
+use mathlib.Core.Path.{_≡_, refl}
 use mathlib.Core.Bool.{true, false}
 use mathlib.Core.Option.{Option·elim, orElse}
 use mathlib.Core.List.{List, [], _∷_}

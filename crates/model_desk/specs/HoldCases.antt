@@ -1,6 +1,6 @@
 -- The calls that tell what a desk holds, and that write the open proposal, run by the checker: the first is never refused, the second by 13, 14, 20, then
 -- 15; what is written is the proposal and not the plan held; and the desk, which stays as it is.
-use mathlib.Core.Path.{refl}
+use mathlib.Core.Path.{_≡_, refl}
 use mathlib.Core.Bool.{true, false}
 use mathlib.Core.List.{List, [], _∷_, _++_}
 use lib.ListN.{replicate}
@@ -9,9 +9,10 @@ use Rattle.model.specs.Refusal.{groupOf, desk}
 use Rattle.model.specs.Roster.{listed}
 use Rattle.model.specs.Edges.{edgesOf, instanceOf}
 use Rattle.model.specs.PlanFile.{planBytesBy}
+use Rattle.model_desk.specs.Desk as D
 use Rattle.model_desk.specs.Desk.{Choices, Held, nothing, roster, proposed, holds, writeProposalTo, refused, said, wrote, holding, bare, aRoster, aPlan}
 use Rattle.model_desk.specs.Desk.{aProposal, stateRefusal, answerOf, lentAfter, deskAfter}
-use Rattle.model_desk.specs.DeskCases.{whole, sample, one, Each, turns, HeldThen, Reply, replies, Answered, Lent, lends, LentThen}
+use Rattle.model_desk.specs.DeskCases.{whole, sample, one, Each, Change, turns, HeldThen, Reply, replies, Answered, Lent, lends, LentThen}
 
 -- the sample with the plan of its first pair, and that of its second proposed; no pair proposed
 abbrev asked : Held
