@@ -2,20 +2,20 @@
 
 use crate::code::Callee;
 use crate::contents::Book;
+use crate::documents::capital;
 use crate::reach::call_name;
 use std::collections::{HashMap, HashSet};
 use std::fmt::Write;
 
 /// A function that several others call is a stretch if its way has so many lines,
 const SHARED: usize = 8;
-/// and any function is if its way has so many.
+/// and any that no public call names is if its way has so many.
 const LONG: usize = 40;
-/// A sentence with more characters is cut at a pause.
+/// A sentence with more characters is cut at a pause where it stands in a way.
 const WIDE: usize = 120;
 
 /// The chapters, each with the crates of its calls; the calls of all others are those on files.
-const CHAPTERS: [(&str, &[&str]); 4] =
-    [("The desk", &["desk"]), ("Calls on files", &[]), ("The program", &["program", "crew"]), ("The calls for C", &["abi"])];
+const CHAPTERS: [(&str, &[&str]); 4] = [("The desk", &["desk"]), ("Calls on files", &[]), ("The program", &["program", "crew"]), ("The calls for C", &["abi"])];
 const FILES: usize = 1;
 
 /// The ways of a book.
@@ -74,7 +74,9 @@ impl<'b, 'a> Ways<'b, 'a> {
                 continue;
             }
             let lines = 1 + self.lines(f).lines().count();
-            if lines >= LONG || (lines >= SHARED && callers.get(&f).is_some_and(|&n| n > 1)) {
+            let shared = callers.get(&f).is_some_and(|&n| n > 1);
+            let named = self.calls.iter().any(|&call| self.book.graph.below(call).any(|g| g == f));
+            if (lines >= SHARED && shared) || (lines >= LONG && !named) {
                 self.stretches.push(f);
             }
         }
@@ -89,11 +91,11 @@ impl<'b, 'a> Ways<'b, 'a> {
         call_name(library, &library.functions[function])
     }
 
-    /// The first sentence of a function's comment.
-    fn says(&self, function: usize) -> String {
+    /// The first sentence of a function's comment, cut where it has more than so many characters.
+    fn says(&self, function: usize, width: usize) -> String {
         let note = &self.book.library().functions[function].note;
         let told: Vec<&str> = note.iter().map(String::as_str).filter(|l| !l.starts_with("----")).collect();
-        sentence(&told.join(" "))
+        sentence(&told.join(" "), width)
     }
 
     /// The lines below a function.
@@ -122,17 +124,17 @@ impl<'b, 'a> Ways<'b, 'a> {
                 }
             };
             let name = self.name(g);
-            if self.has_own_way(g) {
+            if self.book.graph.calls[g].iter().all(|c| *c == Callee::Own(g)) {
+                small.push(format!("`{name}`"));
+            } else if self.has_own_way(g) {
                 flush(&mut small, made);
                 let anchor = self.anchors.get(&g).map_or("", String::as_str);
                 let _ = writeln!(made, "{indent}- → [`{name}`](#{anchor})");
-            } else if self.book.graph.calls[g].iter().all(|c| *c == Callee::Own(g)) {
-                small.push(format!("`{name}`"));
             } else if !shown.insert(g) {
                 small.push(format!("`{name}` (above)"));
             } else {
                 flush(&mut small, made);
-                let _ = writeln!(made, "{indent}- `{name}`{}", behind(": ", &self.says(g)));
+                let _ = writeln!(made, "{indent}- `{name}`{}", behind(": ", &self.says(g, WIDE)));
                 self.write_lines(g, depth + 1, shown, made);
             }
         }
@@ -178,7 +180,7 @@ impl<'b, 'a> Ways<'b, 'a> {
         let longest = chapters.iter().flat_map(|c| &c.1).map(|w| w.lines.lines().count()).max().unwrap_or(0);
         let mut made = format!(
             "{} calls and {} stretches, through {} functions; the longest way has {longest} lines. A function that several others call is a stretch if \
-             its way has {SHARED} lines or more, and any is if its way has {LONG} or more.\n",
+             its way has {SHARED} lines or more, and any that no public call names is if its way has {LONG} or more.\n",
             self.calls.len(),
             self.stretches.len(),
             self.from_below().len()
@@ -193,10 +195,10 @@ impl<'b, 'a> Ways<'b, 'a> {
     fn write_way(&self, way: &Way, made: &mut String) {
         let _ = write!(made, "\n### {}\n\n", self.title(way));
         for &f in &way.heads {
-            let says = self.says(f);
+            let says = self.says(f, usize::MAX);
             match (says.is_empty(), way.heads.len()) {
                 (true, _) => {}
-                (false, 1) => _ = write!(made, "{says}.\n\n"),
+                (false, 1) => _ = write!(made, "{}.\n\n", capital(&says)),
                 (false, _) => _ = write!(made, "`{}`: {says}.\n\n", self.name(f)),
             }
         }
@@ -218,23 +220,32 @@ fn anchor(title: &str) -> String {
     kept.chars().filter(|c| c.is_alphanumeric() || matches!(c, '_' | '-' | ' ')).map(|c| if c == ' ' { '-' } else { c }).collect()
 }
 
-/// The first sentence of a comment; a long one up to the last pause outside of brackets and quotation marks that leaves it short enough.
-fn sentence(comment: &str) -> String {
+/// The first sentence of a comment; a long one up to its last pause that leaves it short enough, at a semicolon if there is one, then at a colon.
+fn sentence(comment: &str, width: usize) -> String {
     let whole = comment.split(". ").next().unwrap_or("").trim().trim_end_matches(['.', ':']);
-    if whole.chars().count() <= WIDE {
+    if whole.chars().count() <= width {
         return marked(whole);
     }
-    let (mut depth, mut quoted, mut cut) = (0i32, false, whole.len());
-    for (count, (at, c)) in whole.char_indices().enumerate() {
+    let pauses = pauses(whole);
+    let last = |mark: char| pauses.iter().rev().find(|p| p.2 == mark && p.1 <= width);
+    let cut = last(';').or(last(':')).or(last(',')).or(pauses.first());
+    marked(&whole[..cut.map_or(whole.len(), |p| p.0)])
+}
+
+/// The pauses of a sentence outside of brackets and quotation marks: place, number of characters before, mark.
+fn pauses(text: &str) -> Vec<(usize, usize, char)> {
+    let (mut depth, mut quoted) = (0i32, false);
+    let mut found = Vec::new();
+    for (count, (at, c)) in text.char_indices().enumerate() {
         match c {
             '(' => depth += 1,
             ')' => depth -= 1,
-            '"' => quoted = !quoted,
-            ';' | ':' | ',' if depth == 0 && !quoted && whole[at + 1..].starts_with(' ') && (count <= WIDE || cut == whole.len()) => cut = at,
+            '"' | '`' => quoted = !quoted,
+            ';' | ':' | ',' if depth == 0 && !quoted && text[at + 1..].starts_with(' ') => found.push((at, count, c)),
             _ => {}
         }
     }
-    marked(&whole[..cut])
+    found
 }
 
 /// A text whose marks say themselves.
@@ -248,10 +259,12 @@ mod tests {
 
     #[test]
     fn a_sentence_is_short_and_whole() {
-        assert_eq!(sentence("Short. And more."), "Short");
+        assert_eq!(sentence("Short. And more.", WIDE), "Short");
         let long = format!("One thing, {} (a, b; c) and so on; that is all", "and another ".repeat(9));
-        assert_eq!(sentence(&long), "One thing");
-        assert_eq!(sentence(""), "");
+        assert_eq!(sentence(&long, WIDE), "One thing");
+        let quoted = format!("It {} says \"this; and that\": so it is; and, last, so on", "and again ".repeat(8));
+        assert_eq!(sentence(&quoted, WIDE), quoted.split("; and,").next().expect("its head"));
+        assert_eq!(sentence("", WIDE), "");
     }
 
     #[test]
