@@ -94,6 +94,7 @@ impl<'a> Book<'a> {
         book.gather_quotations();
         book.check_lists();
         book.check_uses();
+        book.faults.extend(book.graph.lost.iter().cloned());
         Ok(book)
     }
 

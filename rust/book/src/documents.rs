@@ -1,6 +1,7 @@
 //! The parts of the documents that are made from the sources: between `<!-- book: NAME -->` and `<!-- book: end -->`.
 
 use crate::contents::{comments, Book};
+use crate::ways::Ways;
 use std::fmt::Write;
 
 /// Calls in a row of a document at most.
@@ -153,6 +154,7 @@ impl Book<'_> {
             "crates with code" => self.crates_part(true),
             "sentences" => Some(self.sentences_part()),
             "mistakes" => Some(self.mistakes_part()),
+            "ways" => Some(Ways::of(self).page()),
             _ => None,
         }
     }
@@ -160,7 +162,7 @@ impl Book<'_> {
     /// The documents with parts of the book, as they are and as they should be.
     pub fn documents(&self) -> std::io::Result<Vec<(std::path::PathBuf, String, String)>> {
         let mut found = Vec::new();
-        for name in ["docs/ARCHITECTURE.md", "docs/CONTRACTS.md"] {
+        for name in ["docs/ARCHITECTURE.md", "docs/CONTRACTS.md", "docs/WAYS.md"] {
             let path = self.library().root.join(name);
             let is = std::fs::read_to_string(&path)?;
             let should = rewritten(&is, |part| self.part_of_document(part));
@@ -176,7 +178,8 @@ impl Book<'_> {
     }
 }
 
-fn capital(text: &str) -> String {
+/// A text that begins with a capital letter.
+pub fn capital(text: &str) -> String {
     let mut letters = text.chars();
     match letters.next() {
         Some(first) => first.to_uppercase().chain(letters).collect(),

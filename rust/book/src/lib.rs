@@ -23,3 +23,4 @@ pub mod source;
 pub mod term;
 pub mod types;
 pub mod walk;
+pub mod ways;

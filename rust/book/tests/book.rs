@@ -29,11 +29,12 @@ fn the_program_makes_a_whole_book() {
 }
 
 /// Changes to the sources, each of which must be noticed.
-const CHANGES: [(&str, &str, &str); 4] = [
+const CHANGES: [(&str, &str, &str); 5] = [
     ("crates/model/specs/Vote.antt", "pub nodeVote :", "pub votesOfNode :"),
     ("crates/model/specs/Plans.antt", "pub isStrong :", "pub isPlain :"),
     ("crates/model/specs/Vote.antt", "the least sum over valid", "the greatest sum over valid"),
     ("crates/theory_votes/src/lib.rt", "The laws of votes", "Some laws of votes"),
+    ("crates/verdict/src/lib.rt", "pub fn weigh_paired(", "pub fn weigh_twice("),
 ];
 
 fn changed(path: &Path, text: String) -> String {
@@ -55,7 +56,11 @@ fn what_changes_is_noticed() {
     noticed("Vote.nodeVote leads nowhere");
     noticed("Plans.isStrong leads nowhere");
     noticed("greatest sum over valid pairings.\" is in no paper");
-    assert!(!book.stale().expect("the documents are read").is_empty());
+    noticed("verdict::weigh_paired leads nowhere");
+    let stale = book.stale().expect("the documents are read");
+    for document in ["ARCHITECTURE", "WAYS"] {
+        assert!(stale.iter().any(|s| s.contains(document)), "{document} passed unnoticed");
+    }
     a_contract_comes_to_what_its_call_can_answer(&book);
     edits_and_rows_stand_at_their_definitions(&book);
 }
