@@ -146,6 +146,7 @@ function checkList({ side, strict, tied }, count) {
   const other = WORDS[1 - side];
   if (entries.length > MAX_LIST) wrong(`the list has ${entries.length} entries, more than ${MAX_LIST}`);
   entries.forEach(([number, shift], index) => {
+    if (count === 0) wrong(`${other} ${number} is listed, but the text has no ${other}`);
     if (number < 1 || number > count) wrong(`${other} ${number} is listed, but the ${other}s are numbered from 1 to ${count}`);
     if (has(entries.slice(0, index), [number, shift])) wrong(`${other} ${number}${inShift(shift)} stands twice in the list`);
   });
