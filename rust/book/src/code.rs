@@ -1,4 +1,4 @@
-//! Which functions a call comes to: each call in a body, in the order of the text, is led to a function of the project or of the kit's libraries.
+//! Which functions a call comes to: each call in a body, in its order, is led to a function of the project or of the kit's libraries.
 
 use crate::kit::files_below;
 use crate::lex::Kind;
@@ -17,7 +17,7 @@ const BUILT: [&str; 1] = ["len"];
 const HERE: [&str; 3] = ["super", "crate", "self"];
 
 /// What is called: a function of the project by its number, or `library::function` of the kit.
-#[derive(Clone, PartialEq, Eq, Debug)]
+#[derive(Clone, PartialEq, Eq, Hash, Debug)]
 pub enum Callee {
     Own(usize),
     Kit(String),
@@ -25,7 +25,7 @@ pub enum Callee {
 
 /// For each function what its body calls.
 pub struct Graph {
-    /// in the order of the text, each once
+    /// in the order of the text, arguments before the call that takes them, each once
     pub calls: Vec<Vec<Callee>>,
     /// calls that lead to no function
     pub lost: Vec<String>,
@@ -104,32 +104,33 @@ impl<'a> Resolver<'a> {
         Resolver { library, functions, methods, kit: kit_functions(library) }
     }
 
-    /// The calls of a body; those that lead nowhere are told in `lost`.
+    /// The calls of a body, each at its closing bracket; those that lead nowhere are told in `lost`.
     fn called(&self, function: &Function, lost: &mut Vec<String>) -> Vec<Callee> {
         let file = &self.library.files[function.file];
-        let mut found: Vec<Callee> = Vec::new();
+        let mut found: Vec<(usize, Callee)> = Vec::new();
         let mut at = function.body.from;
         while at + 1 < function.body.to {
             if STATED.contains(&file.word(at)) && file.word(at + 1) == "{" {
-                at = braces_end(file, at + 1, function.body.to);
+                at = behind(file, at + 1, function.body.to, "}");
                 continue;
             }
-            let called = file.words[at].kind == Kind::Name && file.word(at + 1) == "(" && !KEYWORDS.contains(&file.word(at));
-            if called {
+            if file.words[at].kind == Kind::Name && file.word(at + 1) == "(" && !KEYWORDS.contains(&file.word(at)) {
                 let (first, path) = path_at(file, function.body.from, at);
                 let method = file.word(first - 1) == "." && file.word(first - 2) != ".";
                 match if method { self.method(path[0]) } else { self.path(function, &path) } {
-                    Found::Call(callee) if !found.contains(&callee) => found.push(callee),
+                    Found::Call(callee) => found.push((behind(file, at + 1, function.body.to, ")"), callee)),
+                    Found::Value => {}
                     Found::Nothing => {
                         let place = self.library.shown_place(function.file);
                         lost.push(format!("{place}:{}: {} leads nowhere", file.words[at].line, path.join("::")));
                     }
-                    _ => {}
                 }
             }
             at += 1;
         }
-        found
+        found.sort_by_key(|f| f.0);
+        let mut seen = HashSet::new();
+        found.into_iter().map(|f| f.1).filter(|callee| seen.insert(callee.clone())).collect()
     }
 
     fn method(&self, name: &str) -> Found {
@@ -234,15 +235,12 @@ fn path_at(file: &File, from: usize, mut at: usize) -> (usize, Vec<&str>) {
     (at, path)
 }
 
-/// The place behind the brace that closes the one at `open`.
-fn braces_end(file: &File, open: usize, to: usize) -> usize {
+/// The place behind the bracket that closes the one at `open`.
+fn behind(file: &File, open: usize, to: usize, close: &str) -> usize {
     let mut depth = 0i32;
     for k in open..to {
-        match file.word(k) {
-            "{" => depth += 1,
-            "}" => depth -= 1,
-            _ => {}
-        }
+        let word = file.word(k);
+        depth += i32::from(word == file.word(open)) - i32::from(word == close);
         if depth == 0 {
             return k + 1;
         }

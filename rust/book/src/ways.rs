@@ -45,7 +45,7 @@ impl<'b, 'a> Ways<'b, 'a> {
     }
 
     /// The functions below the calls, each behind those that it calls.
-    fn from_below(&self) -> Vec<usize> {
+    fn upwards(&self) -> Vec<usize> {
         let mut found = Vec::new();
         let mut seen = HashSet::new();
         for &call in &self.calls {
@@ -64,7 +64,7 @@ impl<'b, 'a> Ways<'b, 'a> {
     }
 
     fn find_stretches(&mut self) {
-        let all = self.from_below();
+        let all = self.upwards();
         let mut callers: HashMap<usize, usize> = HashMap::new();
         for g in all.iter().flat_map(|&f| self.book.graph.below(f)) {
             *callers.entry(g).or_default() += 1;
@@ -183,7 +183,7 @@ impl<'b, 'a> Ways<'b, 'a> {
              its way has {SHARED} lines or more, and any that no public call names is if its way has {LONG} or more.\n",
             self.calls.len(),
             self.stretches.len(),
-            self.from_below().len()
+            self.upwards().len()
         );
         for (title, ways) in &chapters {
             let _ = write!(made, "\n## {title}\n");

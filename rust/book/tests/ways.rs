@@ -6,7 +6,8 @@ use book::names::Library;
 use std::collections::HashSet;
 use std::path::{Path, PathBuf};
 
-const SHOP: &str = "// a shop\nmod shelf;\nuse goods::Kind;\n\npub struct Till {\n    pub sum: u8,\n}\n\nimpl Till {\n    pub fn add(self, n: u8) -> Till { self }\n    pub fn new() -> Till { none() }\n}\n\n\
+const SHOP: &str = "// a shop\nmod shelf;\nuse goods::Kind;\n\npub struct Till {\n    pub sum: u8,\n}\n\n\
+    impl Till {\n    pub fn add(self, n: u8) -> Till { self }\n    pub fn new() -> Till { none() }\n}\n\n\
     fn none() -> Till { none() }\n\n";
 const SHELF: &str = "pub fn first(n: u8) -> u8 { n }\n";
 const GOODS: &str = "pub enum Kind {\n    Loose(u8),\n    Last,\n}\n\npub fn price(n: u8) -> u8 { n }\n";
@@ -42,12 +43,13 @@ fn called(name: &str, body: &str) -> (Vec<String>, Vec<String>) {
 
 #[test]
 fn calls_lead_to_functions_in_the_order_of_the_text() {
-    let body = "    // gone(n)\n    let t = Till::new();\n    let k = Kind::Loose(goods::price(n));\n    while (n < 3)\n        invariant { kept(n) }\n        decreases { left(n) }\n    {\n        \
-        let s = \"lost(n)\";\n        shelf::first(n);\n    }\n    let part = &s[0..sell(x, n)];\n    if (part.len() < 3) { return bytes::copy(n); }\n    match k {\n        \
-        goods::Kind::Loose(m) => goods::price(m),\n        Kind::Last => x.add(n).sum,\n    }\n    none();";
+    let body = "    // gone(n)\n    let t = Till::new();\n    let k = Kind::Loose(goods::price(shelf::first(n)));\n    \
+        while (n < 3)\n        invariant { kept(n) }\n        decreases { left(n) }\n    {\n        let s = \"lost(n)\";\n        shelf::first(n);\n    }\n    \
+        let part = &s[0..sell(x, n)];\n    if (part.len() < 3) { return bytes::copy(n); }\n    \
+        match k {\n        goods::Kind::Loose(m) => goods::price(m),\n        Kind::Last => x.add(n).sum,\n    }\n    none();";
     let (calls, lost) = called("order", body);
     assert_eq!(lost, Vec::<String>::new());
-    assert_eq!(calls, ["Till::new", "price", "first", "sell", "bytes::copy", "Till::add", "none"]);
+    assert_eq!(calls, ["Till::new", "first", "price", "sell", "bytes::copy", "Till::add", "none"]);
 }
 
 #[test]
@@ -103,7 +105,7 @@ fn every_public_call_has_a_way() {
     let mut calls = named("crates/abi/src", "pub extern \"C\" fn ");
     calls.extend(named("crates/desk/src", "    pub fn ").iter().map(|c| format!("Desk::{c}")));
     for owner in ["answers", "roster", "seasons", "profile", "districts", "routes", "program"] {
-        calls.extend(named(&format!("crates/{owner}/src"), "pub fn ").iter().filter(|c| *c != "roster_file").map(|c| format!("{owner}::{c}")));
+        calls.extend(named(&format!("crates/{owner}/src"), "pub fn ").iter().map(|c| format!("{owner}::{c}")));
     }
     calls.push("crew::main".to_string());
     assert!(calls.len() > 50, "{}", calls.len());
@@ -111,15 +113,20 @@ fn every_public_call_has_a_way() {
     assert_eq!(without, Vec::<&String>::new());
 }
 
-/// An arrow leads to a way of the page.
+/// An arrow leads to a way of the page, and its link to that way's heading.
 #[test]
 fn arrows_lead_to_ways() {
     let page = page();
-    let ways = headings(&page);
-    let arrows: Vec<&str> = page.split("→ [`").skip(1).filter_map(|a| a.split('`').next()).collect();
+    let titles: Vec<&str> = page.lines().filter_map(|l| l.strip_prefix("### ")).collect();
+    let place = |title: &str| title.to_lowercase().replace([':', ','], "").replace(' ', "-");
+    let arrows: Vec<(&str, &str)> = page.split("→ [`").skip(1).filter_map(|a| a.split(')').next()?.split_once("`](#")).collect();
     assert!(arrows.len() > 50);
-    let lost: Vec<&&str> = arrows.iter().filter(|a| !ways.contains(**a)).collect();
-    assert_eq!(lost, Vec::<&&str>::new());
+    for (name, link) in arrows {
+        let way = titles.iter().find(|t| t.split(", ").any(|n| n == name));
+        assert_eq!(way.map(|t| place(t)), Some(link.to_string()), "{name}");
+    }
+    let places: HashSet<String> = titles.iter().map(|t| place(t)).collect();
+    assert_eq!(places.len(), titles.len());
 }
 
 /// One way, read from the code by hand.
