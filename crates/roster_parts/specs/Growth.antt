@@ -46,25 +46,6 @@ grown-byte b n o l h = record {
       ∙ sym (take-all rosterSize (take n o ++ b ∷ []) (omega (arith, length-take n o, length-append (take n o) (b ∷ []))));
 }
 
--- a part copied over what stands behind the first n
-pub put-front : (n : ℕ) (o xs mid rest : List ℕ) {ys : List ℕ} → n ≤ length o → ys ≡ take (length xs) xs ++ drop (length xs) mid
-    → take (n + length xs) (take n o ++ (ys ++ rest)) ≡ take n o ++ xs
-put-front n o xs mid rest {ys} h e =
-    let more = drop (length xs) mid in
-    let k : n + length xs ≡ length (take n o ++ xs) = omega (arith, length-append (take n o) xs, length-take n o) in
-    let copied : ys ≡ xs ++ more = e ∙ ap (λ z. z ++ more) (take-all (length xs) xs (omega arith)) in
-    ap (take (n + length xs)) (ap (λ z. take n o ++ (z ++ rest)) copied ∙ ap (λ z. take n o ++ z) (append-assoc xs more rest)
-    ∙ sym (append-assoc (take n o) xs (more ++ rest)))
-    ∙ take-append-le (n + length xs) (take n o ++ xs) (more ++ rest) (omega (arith, k)) ∙ take-all (n + length xs) (take n o ++ xs) (omega (arith, k))
-
-pub grown-part : (xs : List ℕ) (n : ℕ) (o q : List ℕ) → n + length xs ≤ rosterSize → length q ≡ rosterSize → take (n + length xs) q ≡ take n o ++ xs
-    → Grown xs n o (n + length xs) q
-grown-part xs n o q h l e = record {
-  few = h;
-  size = l;
-  front = e ∙ sym (take-all rosterSize (take n o ++ xs) (omega (arith, length-append (take n o) xs, length-take n o)));
-}
-
 pub grown-full : (xs : List ℕ) (n : ℕ) (o : List ℕ) → length o ≡ rosterSize → n ≡ rosterSize → Grown xs n o n o
 grown-full xs n o l e = record {
   few = omega arith;

@@ -1,9 +1,9 @@
 // A changed roster's bytes put together: parts appended behind what an array of a roster's size holds already, sections with their counts,
 // and the answer of a change. What does not fit into the array is left out; a roster within the limits always fits.
 ghost use mathlib.Core.Path.{_≡_};
-ghost use mathlib.Core.List.{[], _∷_, _++_};
+ghost use mathlib.Core.List.{[], _∷_};
 ghost use Prim.Native.Nat.{_+_, _-_, _*_, _/_, _≤_};
-ghost use lib.ListN.{length, take};
+ghost use lib.ListN.{take};
 ghost use Rattle.model.specs.Limits.{nodeLimit, entryWidth};
 ghost use Rattle.roster_positions.specs.Tables.{listsEnd};
 ghost use Rattle.roster_parts.specs.Growth.{Room, Grown, sectionOf};
@@ -48,17 +48,8 @@ pub fn append_entry(out: &mut [u8; ROSTER_SIZE], n: usize, number: u8, shift: u8
     append_byte(&mut *out, second, shift)
 }
 
-// bytes in the place of those behind the first n
-pub(crate) fn put_behind(out: &mut [u8], n: usize, part: &[u8])
-    requires { ⌜ n + length (now part) ≤ length (now out) ⌝ }
-    ensures { λ _. ⌜ take (n + length (now (part .entry))) (now (out .exit)) ≡ take n (now (out .entry)) ++ now (part .entry) ⌝ }
-    ensures { λ _. ⌜ length (now (out .exit)) ≡ length (now (out .entry)) ⌝ }
-{
-    bytes::copy(part, &mut out[n..]);
-}
-
-// some bytes behind the first n, one by one as long as there is room
-pub(crate) fn append_some(out: &mut [u8; ROSTER_SIZE], n: usize, part: &[u8]) -> usize
+// some bytes behind the first n
+pub fn append(out: &mut [u8; ROSTER_SIZE], n: usize, part: &[u8]) -> usize
     requires { ⌜ Room n (now out) ⌝ }
     ensures { λ r. ⌜ Grown (now (part .entry)) n (now (out .entry)) r (now (out .exit)) ⌝ }
 {
@@ -69,18 +60,6 @@ pub(crate) fn append_some(out: &mut [u8; ROSTER_SIZE], n: usize, part: &[u8]) ->
         i += 1;
     }
     at
-}
-
-// some bytes behind the first n: all at once where there is room, as there is for a roster within the limits
-pub fn append(out: &mut [u8; ROSTER_SIZE], n: usize, part: &[u8]) -> usize
-    requires { ⌜ Room n (now out) ⌝ }
-    ensures { λ r. ⌜ Grown (now (part .entry)) n (now (out .entry)) r (now (out .exit)) ⌝ }
-{
-    if part.len() <= ROSTER_SIZE - n {
-        put_behind(&mut out[..], n, part);
-        return n + part.len();
-    }
-    append_some(out, n, part)
 }
 
 // the entries among the bytes of some lists, of which so many are lengths
