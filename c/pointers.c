@@ -54,6 +54,8 @@ static struct crew_desk_found with_found(struct crew_found found, const struct c
     reply.vote = found.vote;
     reply.steps = found.steps;
     reply.left = found.left;
+    reply.plan_length = found.plan_length;
+    reply.rival_length = found.rival_length;
     return reply;
 }
 

@@ -48,8 +48,8 @@ def pairs(data, count):
 
 
 def plan_pairs(file):
-    """The pairs of a plan file."""
-    return pairs(file[1:], file[0])
+    """The pairs of a plan file, three bytes each behind a count; none of no bytes."""
+    return pairs(file[1:], len(file) // 3)
 
 
 class Library:
@@ -147,4 +147,4 @@ class Desk:
         kind = KINDS[found["kind"]]
         steps = [Step(FATES[diary[5 * i]], *diary[5 * i + 1:5 * i + 5]) for i in range(found["steps"])]
         return Found(kind, found["vote"], steps, pairs(left, found["left"]),
-                     plan_pairs(plan) if kind != "left" else [], plan_pairs(rival) if kind == "rivalled" else [])
+                     plan_pairs(plan[:found["plan_length"]]), plan_pairs(rival[:found["rival_length"]]))

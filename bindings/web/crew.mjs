@@ -35,9 +35,8 @@ export async function open(source) {
 
 const split = (bytes, width, count) => Array.from({ length: count }, (_, i) => Array.from(bytes.subarray(width * i, width * (i + 1))));
 
-// the pairs of a plan file
-export const planPairs = (file) => split(file.subarray(1), 3, file[0]);
-
+// the pairs of a plan file, behind its count; none of no bytes
+export const planPairs = (file) => split(file.subarray(1), 3, Math.floor(file.length / 3));
 
 export class Crew {
   constructor(exports) {
@@ -160,8 +159,8 @@ export class Desk {
   // The verdict on the held plan; for one that is not strong a rival, the vote against it, and the pairings of that vote.
   judge() {
     const rival = this.buffer('CREW_PLAN_BYTES'), pairing = this.buffer('CREW_PAIRING_BYTES');
-    const { verdict, vote } = this.call('crew_judge', rival, pairing);
-    return { verdict: VERDICTS[verdict], vote, rival: planPairs(rival), pairing };
+    const { verdict, vote, rival_length } = this.call('crew_judge', rival, pairing);
+    return { verdict: VERDICTS[verdict], vote, rival: planPairs(rival.subarray(0, rival_length)), pairing };
   }
 
   // The first blocking pair of the held plan, or null.
@@ -206,8 +205,8 @@ export class Desk {
       vote: told.vote,
       diary: split(diary, 5, told.steps).map(([fate, surveyor, stand, shift, rule]) => ({ fate: FATES[fate], surveyor, stand, shift, rule })),
       left: split(left, 3, told.left),
-      plan: kind === 'left' ? [] : planPairs(plan),
-      rival: kind === 'rivalled' ? planPairs(rival) : [],
+      plan: planPairs(plan.subarray(0, told.plan_length)),
+      rival: planPairs(rival.subarray(0, told.rival_length)),
     };
   }
 }

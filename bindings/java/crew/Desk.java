@@ -53,13 +53,13 @@ public final class Desk {
         for (int i = 0; i < told.get("steps"); i++) {
             steps.add(new Found.Step(diary, 5 * i));
         }
-        List<Found.Pair> none = List.of();
         return new Found(kind, told.get("vote").intValue(), steps, pairs(left, 0, told.get("left").intValue()),
-            kind == Found.Kind.LEFT ? none : planPairs(plan), kind == Found.Kind.RIVALLED ? planPairs(rival) : none);
+            planPairs(plan, told.get("plan_length").intValue()), planPairs(rival, told.get("rival_length").intValue()));
     }
 
-    private static List<Found.Pair> planPairs(byte[] file) {
-        return pairs(file, 1, file[0]);
+    /** The pairs of a plan file of this length, three bytes each behind a count; none of one that was not written. */
+    private static List<Found.Pair> planPairs(byte[] file, int length) {
+        return pairs(file, 1, length / 3);
     }
 
     private static List<Found.Pair> pairs(byte[] bytes, int from, int count) {

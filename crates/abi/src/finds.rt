@@ -9,7 +9,8 @@ use desk::Desk;
 use desk::FindReply;
 use diary::Step;
 
-// the desk, and the numbers of what was found (abi_numbers, FoundNumbers)
+// the desk, the numbers of what was found (abi_numbers, FoundNumbers), and how many bytes of a plan or candidate and of a rival were written, 0 where
+// none was
 #[repr(C)]
 pub struct DeskFound {
     pub desk: Desk,
@@ -18,6 +19,8 @@ pub struct DeskFound {
     pub vote: i16,
     pub steps: usize,
     pub left: usize,
+    pub plan_length: usize,
+    pub rival_length: usize,
 }
 
 pub(crate) fn numbers_of(r: FindReply) -> DeskFound
@@ -25,6 +28,7 @@ pub(crate) fn numbers_of(r: FindReply) -> DeskFound
 {
     let d = r.desk;
     let a = r.answer;
+    let w = r.lengths;
     let n = abi_numbers::found_numbers(a);
     DeskFound {
         desk: d,
@@ -33,6 +37,8 @@ pub(crate) fn numbers_of(r: FindReply) -> DeskFound
         vote: n.vote,
         steps: n.steps,
         left: n.left,
+        plan_length: w.plan,
+        rival_length: w.rival,
     }
 }
 
@@ -46,7 +52,7 @@ pub extern "C" fn crew_find(
     rival: &mut [u8],
 ) -> DeskFound
     ensures { λ r. ⌜ Numbered (λ x. Finds (desk .files) (now (diary .entry)) (now (left .entry)) (now (plan .entry)) (now (rival .entry)) (x .answer)
-        (now (diary .exit)) (now (left .exit)) (now (plan .exit)) (now (rival .exit)) (x .desk .files)) r ⌝ }
+        (x .lengths) (now (diary .exit)) (now (left .exit)) (now (plan .exit)) (now (rival .exit)) (x .desk .files)) r ⌝ }
 {
     let r = desk.find(diary, left, plan, rival);
     numbers_of(r)
@@ -64,7 +70,7 @@ pub extern "C" fn crew_join(
     rival: &mut [u8],
 ) -> DeskFound
     ensures { λ r. ⌜ Numbered (λ x. Changes (desk .files) (join quota (now (list .entry))) (now (diary .entry)) (now (left .entry)) (now (plan .entry))
-        (now (rival .entry)) (x .answer) (now (diary .exit)) (now (left .exit)) (now (plan .exit)) (now (rival .exit)) (x .desk .files)) r ⌝ }
+        (now (rival .entry)) (x .answer) (x .lengths) (now (diary .exit)) (now (left .exit)) (now (plan .exit)) (now (rival .exit)) (x .desk .files)) r ⌝ }
 {
     let r = desk.join(quota, list, diary, left, plan, rival);
     numbers_of(r)
@@ -81,7 +87,7 @@ pub extern "C" fn crew_leave(
     rival: &mut [u8],
 ) -> DeskFound
     ensures { λ r. ⌜ Numbered (λ x. Changes (desk .files) (leave number) (now (diary .entry)) (now (left .entry)) (now (plan .entry)) (now (rival .entry))
-        (x .answer) (now (diary .exit)) (now (left .exit)) (now (plan .exit)) (now (rival .exit)) (x .desk .files)) r ⌝ }
+        (x .answer) (x .lengths) (now (diary .exit)) (now (left .exit)) (now (plan .exit)) (now (rival .exit)) (x .desk .files)) r ⌝ }
 {
     let r = desk.leave(number, diary, left, plan, rival);
     numbers_of(r)

@@ -1,1 +1,2 @@
+pub mod ComparisonNumbers
 pub mod Numbers

@@ -26,6 +26,7 @@ groupNumber model.content = 2
 groupNumber model.plan = 3
 groupNumber model.desk = 4
 
+-- a refusal's number, 0 for none
 abbrev pub refusalIn : {k : Topic} → Answer k → ℕ
 refusalIn (refused n g) = n
 refusalIn (said x) = 0
@@ -35,12 +36,12 @@ abbrev pub outcomeIn : Answer writes → Outcome
 outcomeIn (refused n g) = record { refusal = n; length = 0 }
 outcomeIn (said (wrote n)) = record { refusal = 0; length = n }
 
--- the verdict: 1 strong, 2 popular, 3 beaten; and the vote against the rival
-abbrev pub judgedIn : Answer judges → Judged
-judgedIn (refused n g) = record { refusal = n; verdict = 0; vote = pos 0 }
-judgedIn (said strong) = record { refusal = 0; verdict = 1; vote = pos 0 }
-judgedIn (said (popular v)) = record { refusal = 0; verdict = 2; vote = v }
-judgedIn (said (beaten v)) = record { refusal = 0; verdict = 3; vote = v }
+-- the verdict: 1 strong, 2 popular, 3 beaten; and the vote against the rival, of which k bytes are written
+abbrev pub judgedIn : (k : ℕ) → Answer judges → Judged
+judgedIn k (refused n g) = record { refusal = n; verdict = 0; vote = pos 0; «rival_length» = k }
+judgedIn k (said strong) = record { refusal = 0; verdict = 1; vote = pos 0; «rival_length» = k }
+judgedIn k (said (popular v)) = record { refusal = 0; verdict = 2; vote = v; «rival_length» = k }
+judgedIn k (said (beaten v)) = record { refusal = 0; verdict = 3; vote = v; «rival_length» = k }
 
 -- the numbers of a blocking pair: surveyor, stand, shift
 abbrev pub blockerIn : Answer blocks → Blocker
@@ -63,6 +64,7 @@ abbrev pub noneIn : ℕ → NoneKind → FoundNumbers
 noneIn n (left k) = record { kind = 2; refusal = 0; vote = pos 0; steps = n; left = k }
 noneIn n (rivalled v) = record { kind = 3; refusal = 0; vote = v; steps = n; left = 0 }
 
+-- by the kind of the answer
 abbrev pub foundIn : Answer finds → FoundNumbers
 foundIn (refused n g) = record { kind = 4; refusal = n; vote = pos 0; steps = 0; left = 0 }
 foundIn (said (plan n)) = record { kind = 1; refusal = 0; vote = pos 0; steps = n; left = 0 }
@@ -85,6 +87,7 @@ abbrev pub refusalOf : {A : Type 0} → Reading A → ℕ
 refusalOf (accepted a) = 0
 refusalOf (reading.refused n) = n
 
+-- of the answer that shows a reading
 pub reading-number : {A : Type 0} (x : Reading A) → refusalIn (fileShown (fileCase x)) ≡ refusalOf x
 reading-number (accepted a) = refl
 reading-number (reading.refused n) = refl

@@ -25,6 +25,7 @@ abbrev pub partShown : Comparison → (firstBytes secondBytes : List ℕ) → Pa
 partShown (Votes v w x) a b = winnerPart (winnerShown x) a b
 partShown (Refused n g) a b = winnerPart compare.neither a b
 
+-- both votes and who wins, or the refusal
 abbrev pub comparisonShown : Comparison → model.Answer model.compares
 comparisonShown (Votes v w x) = model.said (model.votes v w (winnerShown x))
 comparisonShown (Refused n g) = model.refused n (groupShown g)
@@ -41,10 +42,12 @@ winnerCase compare.second = Second
 winnerCase compare.both = Both
 winnerCase compare.neither = Neither
 
+-- both votes and the winner's case, or the refusal with the group of its number
 abbrev pub comparisonCase : compare.Comparison → Comparison
 comparisonCase (compare.votes v w x) = Votes v w (winnerCase x)
 comparisonCase (compare.refused n) = Refused n (groupCase (groupOf n))
 
+-- the case for a winner shows that winner
 pub winner-shown : (w : compare.Winner) → winnerShown (winnerCase w) ≡ w
 winner-shown compare.first = refl
 winner-shown compare.second = refl

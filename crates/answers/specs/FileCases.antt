@@ -32,10 +32,12 @@ numberOf Accepted = 0
 numberOf (Refused n g) = n
 
 module _ {A : Type 0} where
+  -- where the case is Accepted, the reading is accepted, with what was read
   pub case-accepted : (x : Reading A) → Accepted ≡ fileCase x → (a : A) × (x ≡ accepted a)
   case-accepted (accepted a) e = (a, refl)
   case-accepted (refused n) e = absurd (subst (λ b. T (isAccepted b)) e tt)
 
+  -- where the case is Refused, the reading is refused with that number
   pub case-refused : (x : Reading A) {n : ℕ} {g : Group} → Refused n g ≡ fileCase x → x ≡ refused n
   case-refused (accepted a) e = absurd (subst (λ b. T (isAccepted b)) (sym e) tt)
   case-refused (refused m) e = ap (λ b. refused (numberOf b)) (sym e)

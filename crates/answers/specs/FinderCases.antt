@@ -12,6 +12,7 @@ abbrev pub kindShown : NoneKind → model.NoneKind
 kindShown (kind.Left k) = model.left k
 kindShown (kind.Rivalled v) = model.rivalled v
 
+-- a plan, or none and why, each with the number of steps; or the refusal
 abbrev pub foundShown : Found → model.Answer model.finds
 foundShown (found.Plan n) = model.said (model.plan n)
 foundShown (found.None n k) = model.said (model.none n (kindShown k))
@@ -36,5 +37,6 @@ found-shown (found.Plan n) = refl
 found-shown (found.None n k) = ap (found.None n) (kind-shown k)
 found-shown (found.Refused n g) = ap (found.Refused n) (case-shown g)
 
+-- an answer is the case for what it shows
 pub shows-found : (a : Found) {m : model.Answer model.finds} → foundShown a ≡ m → a ≡ foundCase m
 shows-found a e = sym (found-shown a) ∙ ap foundCase e

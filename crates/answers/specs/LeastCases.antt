@@ -4,6 +4,7 @@ use Rattle.answers.specs.GroupCases.{groupShown}
 use Rattle.answers.specs.declared.LeastVote.{LeastVote}
 use Rattle.answers.specs.declared.LeastVote.the-variants.{Vote, Refused}
 
+-- the least vote and how many bytes of the choice are written, or the refusal
 abbrev pub leastShown : LeastVote → model.Answer model.bounds
 leastShown (Vote v n) = model.said (model.leastVote v n)
 leastShown (Refused n g) = model.refused n (groupShown g)

@@ -6,10 +6,12 @@ use Rattle.answers.specs.declared.Proposal.the-variants as proposals
 use Rattle.answers.specs.declared.Commit as commit
 use Rattle.answers.specs.declared.Commit.the-variants as commits
 
+-- both votes, the proposal's against the held plan first, or the refusal
 abbrev pub proposalShown : proposal.Proposal → model.Answer model.proposes
 proposalShown (proposals.Votes v w) = model.said (model.bothVotes v w)
 proposalShown (proposals.Refused n g) = model.refused n (groupShown g)
 
+-- committed, or the refusal
 abbrev pub commitShown : commit.Commit → model.Answer model.commits
 commitShown commits.Committed = model.said model.committed
 commitShown (commits.Refused n g) = model.refused n (groupShown g)

@@ -4,6 +4,7 @@ use Rattle.answers.specs.GroupCases.{groupShown}
 use Rattle.answers.specs.declared.Verdict.{Verdict}
 use Rattle.answers.specs.declared.Verdict.the-variants.{Strong, Popular, Beaten, Refused}
 
+-- strong, or popular or beaten with the vote against the rival, or the refusal
 abbrev pub verdictShown : Verdict → model.Answer model.judges
 verdictShown Strong = model.said model.strong
 verdictShown (Popular v) = model.said (model.popular v)

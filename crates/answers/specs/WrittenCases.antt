@@ -12,6 +12,7 @@ use Rattle.answers.specs.GroupCases.{groupShown}
 use Rattle.answers.specs.declared.Written.{Written}
 use Rattle.answers.specs.declared.Written.the-variants.{Wrote, Refused}
 
+-- how many bytes were written, or the refusal
 abbrev pub writtenShown : Written → model.Answer model.writes
 writtenShown (Wrote n) = model.said (model.wrote n)
 writtenShown (Refused n g) = model.refused n (groupShown g)
@@ -21,6 +22,7 @@ abbrev pub bytesIn : model.Answer model.writes → ℕ
 bytesIn (model.refused n g) = 0
 bytesIn (model.said (model.wrote n)) = suc n
 
+-- a refusal never says that bytes were written
 pub refused-no-bytes : {A : Type 0} {n m : ℕ} → _≡_ {A = model.Answer model.writes} (model.refusal m) (model.said (model.wrote n)) → A
 refused-no-bytes e = absurd (let z : ⊥ = omega (arith, ap bytesIn e) in z)
 

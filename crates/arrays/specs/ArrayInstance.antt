@@ -7,9 +7,11 @@ use mathlib.Core.List.{List}
 use lib.ListN.{getD}
 use Rattle.model.specs.Instance.{Instance}
 
+-- an array's entry at a position, 0 beyond its end
 abbrev pub at : List ℕ → ℕ → ℕ
 at xs e = getD xs e 0
 
+-- the same of an array of flags, false beyond its end
 abbrev pub flag : List Bool → ℕ → Bool
 flag xs e = getD xs e false
 

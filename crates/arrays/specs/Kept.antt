@@ -39,12 +39,14 @@ keep-few p a b h = omega (
     split a b h = omega arith
 
 module _ (p : ℕ → Bool) (front : List ℕ) (m c : ℕ) where
+  -- a turn at a number that meets the test: it is stored behind those found before, and counted
   pub kept-yes : p c ≡ true → m < length front → Kept p front m c → Kept p (set front m c) (m + 1) (c + 1)
   kept-yes t l (a, b) = let e = ap (λ k. keep p (range 0 k)) (add-one c) ∙ keep-last p c ∙ ap (λ b. keep p (range 0 c) ++ cond b (c ∷ []) []) t in (
     omega (arith, ap length e, length-append (keep p (range 0 c)) (c ∷ [])),
     ap (λ k. take k (set front m c)) (add-one m) ∙ take-suc-set front m c l ∙ ap (λ z. z ++ c ∷ []) b ∙ sym e,
   )
 
+  -- a turn at a number that does not meet it: array and count stay
   pub kept-no : p c ≡ false → Kept p front m c → Kept p front m (c + 1)
   kept-no t (a, b) =
       let e =

@@ -1,5 +1,7 @@
 pub mod ArrayInstance
+pub mod Filled
+pub mod Firsts
+pub mod Kept
+pub mod Linked
 pub mod Passes
 pub mod Tally
-pub mod Kept
-pub mod Filled

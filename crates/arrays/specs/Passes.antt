@@ -20,9 +20,11 @@ abbrev pub Low : ℕ → List ℕ → ℕ → Type 0
 Low n xs k = (e : ℕ) → e < n → at xs e < k
 
 module _ {A : Type 0} (d : A) where
+  -- an array that shows f's values below n, and the blank d from n on
   abbrev pub Shows : List A → ℕ → (ℕ → A) → Type 0
   Shows o n f = (e : ℕ) → getD o e d ≡ cond (ltb e n) (f e) d
 
+  -- an array of blanks shows a blank everywhere
   pub all-blank : (k e : ℕ) → getD (replicate k d) e d ≡ d
   all-blank zero e = refl
   all-blank (suc k) zero = refl
@@ -32,9 +34,11 @@ module _ {A : Type 0} (d : A) where
   shows-none k f e = all-blank k e ∙ sym (ap (λ b. cond b (f e) d) (le-ltb e 0 (omega arith)))
 
   module _ (o : List A) (f : ℕ → A) where
+    -- below n such an array shows f's value
     pub shows-at : (n e : ℕ) → Shows o n f → e < n → getD o e d ≡ f e
     shows-at n e s h = s e ∙ ap (λ b. cond b (f e) d) (lt-ltb e n h)
 
+    -- from n on such an array shows the blank
     pub shows-behind : (n e : ℕ) → Shows o n f → n ≤ e → getD o e d ≡ d
     shows-behind n e s h = s e ∙ ap (λ b. cond b (f e) d) (le-ltb e n h)
 
@@ -50,12 +54,15 @@ module _ {A : Type 0} (d : A) where
     pub size : length o ≡ k
     pub shows : Shows o n f
 
+  -- a loop's start: an array of k blanks, nothing filled
   pub fill-none : (k : ℕ) (f : ℕ → A) → Fill k (replicate k d) 0 f
   fill-none k f = record { size = length-replicate k d; shows = shows-none k f }
 
+  -- one turn: f's value is stored at i, and the array is filled up to i + 1
   pub fill-next : (k : ℕ) (o : List A) (f : ℕ → A) (i : ℕ) (v : A) → v ≡ f i → i < k → Fill k o i f → Fill k (set o i v) (i + 1) f
   fill-next k o f i v w l F = record { size = length-set o i v ∙ F .size; shows = shows-next o f i v w (subst (λ z. i < z) (sym (F .size)) l) (F .shows) }
 
+  -- an entry below n, where the array is filled, is f's value
   pub fill-at : {k n : ℕ} {o : List A} {f : ℕ → A} → Fill k o n f → (e : ℕ) → e < n → getD o e d ≡ f e
   fill-at {k} {n} {o} {f} F e h = shows-at o f n e (F .shows) h
 

@@ -15,6 +15,7 @@ abbrev pub named : Instance → (e : ℕ) → Bool → Blocked
 named G e true = Pair (suc (G .sv e)) (suc (G .st e)) (G .sh e)
 named G e false = Unblocked
 
+-- the answer for a plan: its first blocking pair, or that it has none
 abbrev pub blockedBy : Instance → Plan → Blocked
 blockedBy G M = named G (topBlocking G (on M)) (someBlocks G (on M))
 

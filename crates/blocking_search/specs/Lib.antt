@@ -1,2 +1,4 @@
 pub mod Blocking
 pub mod Search
+pub mod TopSearch
+pub mod Wanted

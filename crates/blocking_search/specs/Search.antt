@@ -12,7 +12,7 @@ use Rattle.answers.specs.declared.Blocked.the-variants.{Pair, Unblocked}
 use Rattle.instance.specs.declared.Instance.{Instance}
 use Rattle.instance.specs.Loaded.{Loaded}
 use Rattle.blocking_thresholds.specs.Threshold.{Edges, Thresholds, sideOf}
-use Rattle.blocking_wanted.specs.Wanted.{Placed, wanted}
+use Rattle.blocking_search.specs.Wanted.{Placed, wanted}
 use Rattle.theory_instance.specs.TopBlocking.{top-cong, top-below, top-behind}
 use Rattle.blocking_search.specs.Blocking.{named, blockedBy}
 

@@ -24,6 +24,7 @@ use Rattle.blocking_thresholds.specs.Threshold.{Edges, worse, Worst, Thr
 abbrev pub front : List ℕ → ℕ → List ℕ
 front es k = map (at es) (range 0 k)
 
+-- the first n entries of the list are the plan's edges, ascending
 abbrev pub Listed : ℕ → List Bool → ℕ → List ℕ → Type 0
 Listed m p n es = edgesIn m (flag p) ≡ front es n
 

@@ -7,6 +7,7 @@ ghost use lib.Dec.{ltb};
 ghost use lib.ListN.{getD};
 ghost use Rattle.arrays.specs.ArrayInstance.{at};
 ghost use Rattle.blocking_thresholds.specs.PlanList.{Places, AtNodes, WorstOf, ThresholdsOf};
+use limits::ENTRY_LIMIT;
 
 // The greater of two ranks.
 fn raised(w: u8, r: u8) -> u8
@@ -19,7 +20,7 @@ fn raised(w: u8, r: u8) -> u8
 }
 
 // How many of a plan's n edges lie at each node.
-pub fn held(n: usize, es: &[u16; 64], end: &[u8; 1024]) -> [u16; 32]
+pub fn held(n: usize, es: &[u16; 64], end: &[u8; ENTRY_LIMIT]) -> [u16; 32]
     requires { ⌜ Places n (now es) (now end) ⌝ }
     ensures { λ r. ⌜ AtNodes (now (end .entry)) (now (es .entry)) n r ⌝ }
 {
@@ -35,7 +36,12 @@ pub fn held(n: usize, es: &[u16; 64], end: &[u8; 1024]) -> [u16; 32]
 }
 
 // The worst rank of a plan's n edges at each node; 0 where there is none.
-pub fn worst(n: usize, es: &[u16; 64], end: &[u8; 1024], rank: &[u8; 1024]) -> [u8; 32]
+pub fn worst(
+    n: usize,
+    es: &[u16; 64],
+    end: &[u8; ENTRY_LIMIT],
+    rank: &[u8; ENTRY_LIMIT],
+) -> [u8; 32]
     requires { ⌜ Places n (now es) (now end) ⌝ }
     ensures { λ r. ⌜ WorstOf (now (end .entry)) (now (rank .entry)) (now (es .entry)) n r ⌝ }
 {
@@ -78,8 +84,8 @@ pub fn thresholds(d: &[u16; 32], quota: &[u8; 32], w: &[u8; 32]) -> [u8; 32]
 pub fn side_thresholds(
     n: usize,
     es: &[u16; 64],
-    end: &[u8; 1024],
-    rank: &[u8; 1024],
+    end: &[u8; ENTRY_LIMIT],
+    rank: &[u8; ENTRY_LIMIT],
     quota: &[u8; 32],
 ) -> [u8; 32]
     requires { ⌜ Places n (now es) (now end) ⌝ }

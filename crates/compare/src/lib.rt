@@ -14,16 +14,17 @@ ghost use Rattle.plan_reader.specs.Planned.{Planned};
 ghost use Rattle.compare.specs.TwoPlans.{Paired};
 use answers::Comparison;
 use instance::Instance;
+use limits::ENTRY_LIMIT;
 use plan_reader::PlanAnswer;
 use vote_plans::Votes;
 
 // Both votes of two plans of an accepted roster, p with pn edges that pe lists, q likewise, and their pairings.
 pub fn both_votes(
     g: Instance,
-    p: &[bool; 1024],
+    p: &[bool; ENTRY_LIMIT],
     pn: usize,
     pe: &[u16; 64],
-    q: &[bool; 1024],
+    q: &[bool; ENTRY_LIMIT],
     qn: usize,
     qe: &[u16; 64],
     forward: &mut [u8],
@@ -67,10 +68,10 @@ pub fn both_votes(
 // The same with the winner.
 pub(crate) fn voted(
     g: Instance,
-    p: &[bool; 1024],
+    p: &[bool; ENTRY_LIMIT],
     pn: usize,
     pe: &[u16; 64],
-    q: &[bool; 1024],
+    q: &[bool; ENTRY_LIMIT],
     qn: usize,
     qe: &[u16; 64],
     forward: &mut [u8],
@@ -92,7 +93,7 @@ pub(crate) fn voted(
 // The second file, after the first one gave plan p.
 pub(crate) fn second_judged(
     g: Instance,
-    p: &[bool; 1024],
+    p: &[bool; ENTRY_LIMIT],
     pn: usize,
     pe: &[u16; 64],
     second: &[u8],

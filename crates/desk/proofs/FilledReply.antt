@@ -97,17 +97,21 @@ module _ {M : Type 1} {𝓤 : URA M} {H : Heap 𝓤} {A : Atoms 𝓤} {K : Type 
 abbrev pub desk-val : Desk → Val
 desk-val d = LL.val D.the-type D′.the-laws d
 
+-- what a desk owns
 abbrev pub InDesk : Desk → Fml
 InDesk d = D.the-row .own d (desk-val d ∷ [])
 
 -- ---- the parameters before the four lent slices: the desk, a number, a shared slice of bytes at the lifetime h
 module _ {n : ℕ} {ss : List (Slot n)} {ks : Kepts ss} where
+  -- a desk
   abbrev pub desk-before : Owed ss ks → Owed (plain (λ _. D.the-row) ∷ ss) (yes, ks)
   desk-before = before (plain (λ _. D.the-row)) (λ κs x f. refl) (λ κs. LL.vals D.the-type D′.the-laws) (λ κs. LL.tells D.the-type D′.the-laws)
 
+  -- a number of one byte
   abbrev pub number-before : Owed ss ks → Owed (plain (λ _. u8) ∷ ss) (yes, ks)
   number-before = before (plain (λ _. u8)) (λ κs x f. refl) (λ κs. uint-vals w8) (λ κs. uint-tells w8)
 
+  -- a shared slice of bytes
   abbrev pub list-before : (h : ℕ) (oh : AllWithin n (h ∷ [])) → Owed ss ks → Owed (shrSliceOf (h ∷ []) oh (plain (λ _. u8)) ∷ ss) (yes, ks)
   list-before h oh = before (shrSliceOf (h ∷ []) oh (plain (λ _. u8))) (λ κs x f. refl) (λ κs. slice-vals)
       (λ κs. shr-slice-tells (nameOf (h ∷ [])) (meetAt n (h ∷ []) oh κs) u8)
@@ -116,6 +120,7 @@ module _ {n : ℕ} {ss : List (Slot n)} {ks : Kepts ss} where
 abbrev pub Diary : Lft → RefT (List Step) → Fml
 Diary κ S = MutSlice (named 0) κ T.the-row .own S (lent S ∷ [])
 
+-- what the three buffers of bytes own
 abbrev pub Buffers : (κ₁ κ₂ κ₃ : Lft) (L P R : RefT (List ℕ)) → Fml
 Buffers κ₁ κ₂ κ₃ L P R =
     fsep (MutSlice (named 1) κ₁ u8 .own L (lent L ∷ []))
@@ -126,6 +131,7 @@ module _ {M : Type 1} {𝓤 : URA M} where
   abbrev pub BufferTokens : (κ₁ κ₂ κ₃ : Lft) (q₁ q₂ q₃ : Share) → Item 𝓤
   BufferTokens κ₁ κ₂ κ₃ q₁ q₂ q₃ = ‵ (flft κ₁ q₁) ⊛ ‵ (flft κ₂ q₂) ⊛ ‵ (flft κ₃ q₃) ⊛ ‵ ftrue
 
+  -- what the diary and the buffers hold last, before all else
   abbrev pub Last : (S : RefT (List Step)) (L P R : RefT (List ℕ)) (s : List Step) (l p r : List ℕ) → List (Item 𝓤) → List (Item 𝓤)
   Last S L P R s l p r Γ =
       ‵ (finally T.the-row (S .name) s) ∷ ‵ (finally u8 (L .name) l) ∷ ‵ (finally u8 (P .name) p) ∷ ‵ (finally u8 (R .name) r) ∷ Γ

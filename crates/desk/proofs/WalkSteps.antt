@@ -13,9 +13,12 @@ use mir.Syntax.{aggregate, copy, field, deref, return}
 use mir.Val.{Val, vint, vptr, vstruct, vcons, vnil}
 use base.Logic.{SProp, ent, id⊢, sep, via, fst∗, mono∗, monoR, assoc′}
 use base.Fml.{Fml, ftrue, fsep, feq, fat, froom, fdies}
-use prog.Wp.{Heap, Env, Calls, Loops, Spot, spotOf, WpFn, Tables}
+use prog.Model.{Model}
+use prog.Routine.{Env as Meanings}
+use prog.Wp.{Heap, Env, Calls, Loops, Spot, spotOf, WpFn, Tables, Closed}
 use ghost.Atoms.{Atoms}
-use sound.WpLaws.{FmC, WpFn-mono}
+use contract.Running.{GhostRules, Running, givenOf, tables, tablesOf}
+use sound.WpLaws.{FmC, WpFn-mono, fmOf}
 use types.Kit.{Given, Item, ‵, raw, _⊛_, some, later, ⋆, mean, nth, del, put, pull, Post, atRet, Goal, prop, runs, lands, allocs, frees, Seq, Step, step, _$_}
 use types.Kit.{move, drop, use1, split, pick, await, fsplit, fjoin, feqL}
 use types.Part.{Part, agg, whole, sub, look-in}
@@ -34,14 +37,16 @@ use denote.Triple.Entry.{Args, Vals, Res, alive, onEntry}
 use denote.Triple.Spec.{Meets, tripleOf}
 use denote.Triple.Statement.{Triple}
 use denote.Triple.Call.{calls-at}
+use denote.Triple.Table.{entered}
 use denote.Triple.End.{Kepts}
 use denote.Triple.Walked.{Stays, stay-dropped, gave-slice, AllGo, goes-dropped, goes-gave-slice, walkOf, walked, walk-meets}
 use denote.Triple.Clauses.{Ended, Clauses, Lasts, lasts, atExit, closing}
 
--- the machine value of a slice, and of a lent one
+-- the machine value of a slice
 abbrev slice : (b o n : ℕ) → Val
 slice b o n = vstruct (vcons (vptr b o) (vcons (vint w64 n) vnil))
 
+-- of a lent one
 abbrev pub lent : {X : Type 0} → RefT (List X) → Val
 lent S = sliceVal (S .ptr) (length (S .now))
 
@@ -51,6 +56,7 @@ Located K W [] Kt Γ = Seq K W Γ (Kt [])
 Located K W (local τ h ∷ ls) Kt Γ = (b : ℕ) → Located K W ls (λ E. Kt ((τ, b) ∷ E)) (‵ (froom τ b 0) ∷ ‵ (fdies τ b) ∷ Γ)
 
 module _ {M : Type 1} {𝓤 : URA M} {H : Heap 𝓤} {A : Atoms 𝓤} {K : Type 0} {W : Given 𝓤 H A} where
+  -- one block for each local
   pub alloc-all : K → (ls : List Local) {Kt : Env 𝓤 H → Goal 𝓤 H} {Γ : List (Item 𝓤)} → Located K W ls Kt Γ → Seq K W Γ (allocs ls Kt)
   alloc-all t [] k = alloc0 t $ k
   alloc-all t (local τ h ∷ ls) k = alloc1 t (λ b. alloc-all t ls (k b))
@@ -145,12 +151,13 @@ module _ {M : Type 1} {𝓤 : URA M} {H : Heap 𝓤} {A : Atoms 𝓤} {K : Type 
   })
 
 module _ {M : Type 1} {𝓤 : URA M} {H : Heap 𝓤} {A : Atoms 𝓤} {K : Type 0} {W : Given 𝓤 H A} {Γ : List (Item 𝓤)} where
-  -- The same of three buffers, and of four.
+  -- The same of three buffers.
   pub last-lists : K → {G : Goal 𝓤 H} {F₁ F₂ F₃ : Fml} {a b c d e f : ℕ} → (a ≡ b → c ≡ d → e ≡ f → Seq K W (‵ F₁ ∷ ‵ F₂ ∷ ‵ F₃ ∷ Γ) G)
       → Seq K W (‵ (fsep (fsep F₁ (feq ℕ a b)) (fsep (fsep F₂ (feq ℕ c d)) (fsep (fsep F₃ (feq ℕ e f)) ftrue))) ∷ Γ) G
   last-lists t k = fsplit t $ fsplit t $ move t (1 ∷ []) $ feqL t (λ x. move t (1 ∷ []) $ last-two t (λ y z. move t (2 ∷ []) $ k x y z))
 
 module _ {M : Type 1} {𝓤 : URA M} {H : Heap 𝓤} {A : Atoms 𝓤} {K : Type 0} {W : Given 𝓤 H A} {Γ : List (Item 𝓤)} where
+  -- And of four.
   pub last-four : K → {G : Goal 𝓤 H} {F₀ F₁ F₂ F₃ : Fml} {a b c d e f g h : ℕ}
       → (a ≡ b → c ≡ d → e ≡ f → g ≡ h → Seq K W (‵ F₀ ∷ ‵ F₁ ∷ ‵ F₂ ∷ ‵ F₃ ∷ Γ) G)
       → Seq K W (‵ (fsep (fsep F₀ (feq ℕ a b)) (fsep (fsep F₁ (feq ℕ c d)) (fsep (fsep F₂ (feq ℕ e f)) (fsep (fsep F₃ (feq ℕ g h)) ftrue)))) ∷ Γ) G
@@ -197,6 +204,7 @@ module _ (n : ℕ) (R : RattleType) (h i j k : ℕ) (oh : AllWithin n (h ∷ [])
       mutSliceOf (h ∷ []) oh (plain (λ _. R)) ∷ mutSliceOf (i ∷ []) oi (plain (λ _. u8)) ∷ mutSliceOf (j ∷ []) oj (plain (λ _. u8))
       ∷ mutSliceOf (k ∷ []) ok (plain (λ _. u8)) ∷ []
 
+  -- what is owed for them
   abbrev pub four : Owed Four (yes, (yes, (yes, (yes, tt))))
   four = lent-before R h oh (lent-before u8 i oi (lent-before u8 j oj (lent-before u8 k ok no-more-owed)))
 
@@ -207,6 +215,7 @@ module _ {M : Type 1} (𝓤 : URA M) (H : Heap 𝓤) (A : Atoms 𝓤) (W : Given
   abbrev spelt : (κs : Lfts (T .signature .lifetimes)) → Args (T .signature) κs → Vals (T .signature) κs
   spelt κs a = valss (typesAt (T .signature .params) κs) (o .spells κs) a
 
+  -- by a walk for every choice of lifetimes, shares and arguments
   pub meets-by : ((κs : Lfts (T .signature .lifetimes)) (qs : Shares (T .signature .lifetimes))
       (os : AllOutlive (T .signature .lifetimes) (T .signature .outlives) κs) (a : Args (T .signature) κs) (g : c κs a .ghost)
       → Are (typesAt (T .signature .params) κs) (Ises (typesAt (T .signature .params) κs)) a (spelt κs a)
@@ -218,3 +227,28 @@ module _ {M : Type 1} (𝓤 : URA M) (H : Heap 𝓤) (A : Atoms 𝓤) (W : Given
       walk-meets 𝓤 H A T (o .stays) W (o .goes 𝓤 H A W) c (WpFn 𝓤 H (𝓣 .C) (𝓣 .Λ) e) (WpFn-mono 𝓤 H (W .laws) 𝓣 e)
       (walked 𝓤 H A T (o .stays) c (WpFn 𝓤 H (𝓣 .C) (𝓣 .Λ) e) (o .spells) (o .tell)
       (λ κs qs os a g are. via 𝓤 _ (fst∗ 𝓤 _ (c κs a .requires g)) (k κs qs os a g are)))
+
+-- ---- The same of a function that stands in a program γ under the name f.
+module _ {M : Type 1} (𝓤 : URA M) (H : Heap 𝓤) (𝓜 : Model 𝓤 H) (𝓖 : GhostRules 𝓤 H) (𝓡 : Running 𝓤 H 𝓜) (γ : Meanings) (T : Ended)
+    (o : Owed (T .signature .params) (T .kept)) (c : Clauses 𝓤 T) (f : Name) (e : Fn) where
+  abbrev calls : Calls 𝓤 H
+  calls = tables 𝓤 H 𝓜 𝓡 γ .C
+
+  abbrev loops : Loops 𝓤 H
+  loops = tables 𝓤 H 𝓜 𝓡 γ .Λ
+
+  -- by a walk for every choice of lifetimes, shares and arguments, which is told that a call keeps what it is not lent
+  pub enters-by : Closed 𝓤 H calls loops f e
+      → (FmC 𝓤 H (givenOf 𝓤 H 𝓜 𝓖 .laws) calls
+      → (κs : Lfts (T .signature .lifetimes)) (qs : Shares (T .signature .lifetimes))
+      (os : AllOutlive (T .signature .lifetimes) (T .signature .outlives) κs) (a : Args (T .signature) κs) (g : c κs a .ghost)
+      → Are (typesAt (T .signature .params) κs) (Ises (typesAt (T .signature .params) κs)) a (valss (typesAt (T .signature .params) κs) (o .spells κs) a)
+      → ent 𝓤 (onEntry 𝓤 H (𝓖 .A) (T .signature) κs qs a (valss (typesAt (T .signature .params) κs) (o .spells κs) a))
+      (WpFn 𝓤 H calls loops e (flat (typesAt (T .signature .params) κs) (valss (typesAt (T .signature .params) κs) (o .spells κs) a))
+      (walkOf 𝓤 H (𝓖 .A) T (o .stays) c .post ((κs, qs, os, a, valss (typesAt (T .signature .params) κs) (o .spells κs) a), g))))
+      → Triple 𝓤 (calls f) (tripleOf 𝓤 H (𝓖 .A) (T .signature) (closing 𝓤 H (𝓖 .A) T c))
+  unfolding tablesOf
+  enters-by closed k =
+      let 𝓣 = tablesOf 𝓤 H 𝓜 (tables 𝓤 H 𝓜 𝓡 γ) in
+      entered 𝓤 H (tripleOf 𝓤 H (𝓖 .A) (T .signature) (closing 𝓤 H (𝓖 .A) T c)) calls loops f e closed
+      (meets-by 𝓤 H (𝓖 .A) (givenOf 𝓤 H 𝓜 𝓖) T o c 𝓣 e (k (fmOf 𝓤 H (givenOf 𝓤 H 𝓜 𝓖 .laws) 𝓣)))

@@ -6,12 +6,15 @@ use mathlib.Core.List.{List}
 use Rattle.desk_files.specs.declared.Files.{Files}
 use Rattle.desk_find.specs.declared.Searched.{Searched}
 use Rattle.desk_find.specs.Finding.{Done}
-use Rattle.desk_changed_files.specs.Changing.{ToRoster}
+use Rattle.desk_stored.specs.Changing.{ToRoster}
 use Rattle.desk_changes.specs.AfterChange.{ChangeDone}
 use Rattle.desk.specs.declared.CoreReply.{CoreReply}
 
 abbrev pub searchedIn : CoreReply → Searched
-searchedIn c = record { files = c .reply .desk .files; outcome = record { answer = c .reply .answer; flat = c .flat; steps = c .steps } }
+searchedIn c = record {
+  files = c .reply .desk .files;
+  outcome = record { answer = c .reply .answer; lengths = c .reply .lengths; flat = c .flat; steps = c .steps };
+}
 
 module _ {d : Files} {room : ℕ} {l p v : List ℕ} {s : Searched} (c : CoreReply) (e : searchedIn c ≡ s) {l′ p′ v′ : List ℕ} where
   pub done-replied : Done d room l p v s l′ p′ v′ → Done d room l p v (searchedIn c) l′ p′ v′

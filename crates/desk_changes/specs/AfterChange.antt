@@ -17,7 +17,7 @@ use Rattle.desk_files.specs.Held.{rosterBytes}
 use Rattle.desk_files.specs.declared.Files.{Files}
 use Rattle.desk_find.specs.Outcomes.{short, Kept}
 use Rattle.desk_stored.specs.declared.Change.{Change}
-use Rattle.desk_changed_files.specs.Changing.{ToRoster, ChangedFor, ChangeFor, ChangedTo}
+use Rattle.desk_stored.specs.Changing.{ToRoster, ChangedFor, ChangeFor, ChangedTo}
 use Rattle.desk_find.specs.declared.Searched.{Searched}
 use Rattle.desk_find.specs.Finding.{Settled, Done}
 
@@ -25,6 +25,7 @@ pub record FoundOn (c : Change) (room : ℕ) (l p v : List ℕ) (r : Searched) (
   pub refuses : 0 < c .refusal → (r .files ≡ c .files) × Kept (c .refusal) l p v (r .outcome) l′ p′ v′
   pub finds : c .refusal ≤ 0 → Done (c .files) room l p v r l′ p′ v′
 
+-- a change made of the desk's files, and the finder on them
 pub record ChangeDone (d : Files) (change : ToRoster) (s room : ℕ) (l p v : List ℕ) (r : Searched) (l′ p′ v′ : List ℕ) : Type 0 where
   pub made : Change
   pub changed : ChangedTo d (short room l p v) change s made

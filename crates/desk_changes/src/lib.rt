@@ -43,8 +43,8 @@ pub fn join(
     ensures { λ r. ⌜ JoinDone files quota (now (list .entry)) room (now (left .entry)) (now (plan .entry)) (now (rival .entry)) r (now (left .exit))
         (now (plan .exit)) (now (rival .exit)) ⌝ }
 {
-    let short = desk_buffers::finder_short(room, left.len(), plan.len(), rival.len());
-    let c = desk_changed_files::joined(files, short, quota, list);
+    let short = desk_files::finder_short(room, left.len(), plan.len(), rival.len());
+    let c = desk_stored::joined(files, short, quota, list);
     found_on(c, room, left, plan, rival)
 }
 
@@ -60,7 +60,7 @@ pub fn leave(
     ensures { λ r. ⌜ ChangeDone files (λ R. leaveOn R number) number room (now (left .entry)) (now (plan .entry)) (now (rival .entry)) r (now (left .exit))
         (now (plan .exit)) (now (rival .exit)) ⌝ }
 {
-    let short = desk_buffers::finder_short(room, left.len(), plan.len(), rival.len());
-    let c = desk_changed_files::departed(files, short, number);
+    let short = desk_files::finder_short(room, left.len(), plan.len(), rival.len());
+    let c = desk_stored::departed(files, short, number);
     found_on(c, room, left, plan, rival)
 }

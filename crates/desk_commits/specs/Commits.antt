@@ -21,10 +21,11 @@ use Rattle.answers.specs.GroupCases.{groupShown}
 use Rattle.answers.specs.FileCases.{fileCase, case-accepted, case-refused}
 use Rattle.instance.specs.Decoded.{shownBy}
 use Rattle.desk_loaded.specs.declared.OnDesk.{OnDesk}
-use Rattle.desk_loaded.specs.Held.{heldPlan, stateNumber}
+use Rattle.model_desk.specs.HeldFiles.{heldPlan, heldProposal, beside}
+use Rattle.desk_loaded.specs.Held.{stateNumber}
 use Rattle.desk_loaded.specs.OnDesk.{LoadedFrom, its-plan}
 use Rattle.desk_files.specs.declared.Files.{Files}
-use Rattle.desk_files.specs.Held.{rosterBytes, planBytes, proposalBytes, heldProposal, beside, heldOf}
+use Rattle.desk_files.specs.Held.{rosterBytes, planBytes, proposalBytes, heldOf}
 use Rattle.desk_files.specs.Replies.{CommitIn, Replied}
 use Rattle.desk_files.specs.State.{refuses-by, lent-alike, roster-held, plan-held, state-is, other}
 

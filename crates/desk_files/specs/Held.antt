@@ -17,31 +17,23 @@ use Rattle.model_desk.specs.Desk.{Held, nothing, roster, planned, proposed, ope
 use Rattle.model_desk.specs.Desk.{Call, proposes, withRoster, withPlan, withProposal, stateRefusal, deskAfter}
 use Rattle.theory_files.specs.Reads.{isBytes}
 use Rattle.theory_finder.specs.Desks.{sound, desk-sound}
-use Rattle.desk_loaded.specs.Held.{heldPlan, held, stateNumber}
+use Rattle.model_desk.specs.HeldFiles.{heldPlan, held, heldProposal, beside}
+use Rattle.desk_loaded.specs.Held.{stateNumber}
 use Rattle.desk_files.specs.declared.Files.{Files}
 
--- a length above the array's is the whole array
+-- the roster's bytes: a length above the array's is the whole array
 abbrev pub rosterBytes : Files → List ℕ
 rosterBytes d = take (d .«roster_len») (d .roster)
 
+-- the plan's, likewise
 abbrev pub planBytes : Files → List ℕ
 planBytes d = take (d .«plan_len») (d .plan)
 
+-- and the proposal's
 abbrev pub proposalBytes : Files → List ℕ
 proposalBytes d = take (d .«proposal_len») (d .proposal)
 
--- a proposal counts only with a roster and a plan held
-abbrev pub heldProposal : Roster → Plan → Reading Plan → Held
-heldProposal r M (accepted N) = proposed r M N
-heldProposal r M (refused n) = planned r M
-
--- the proposal's bytes beside what a roster and a plan are read to
-abbrev pub beside : (proposal : List ℕ) → Held → Held
-beside f nothing = nothing
-beside f (roster r) = roster r
-beside f (planned r M) = heldProposal r M (readPlan (instanceOf r) f)
-beside f (proposed r M N) = proposed r M N
-
+-- what a desk holds
 unfoldable pub heldOf : Files → Held
 heldOf d = beside (proposalBytes d) (held (readRoster (rosterBytes d)) (planBytes d))
 
@@ -75,6 +67,7 @@ beside-plan f (planned r M) = go (readPlan (instanceOf r) f)
     go (refused n) = refl
 beside-plan f (proposed r M N) = refl
 
+-- so it is no matter to the state's refusal either
 pub beside-number : (f : List ℕ) (h : Held) (needs short : Bool) → stateNumber h needs short ≡ stateNumber (beside f h) needs short
 beside-number f h needs short = sym (ap₂ (λ a b. cond a 13 (cond (needs && b) 14 (cond short 15 0))) (beside-roster f h) (beside-plan f h))
 
@@ -87,6 +80,7 @@ of-roster x g R (accepted M) f = go (readPlan (instanceOf R) f)
     go (accepted N) = refl
     go (refused n) = refl
 
+-- of the plan held
 pub of-plan : {A : Type 0} (x : A) (g : Roster → Plan → A) (R : Roster) (M : Plan) (z : Reading Plan) → g R M ≡ onPlan x (heldProposal R M z) g
 of-plan x g R M (accepted N) = refl
 of-plan x g R M (refused n) = refl

@@ -1,6 +1,7 @@
-pub mod Held
 pub mod Front
-pub mod Replies
-pub mod State
+pub mod Held
 pub mod History
 pub mod Open
+pub mod PlanLength
+pub mod Replies
+pub mod State

@@ -14,12 +14,14 @@ use Rattle.model.specs.PlanFile.{readPlan}
 use Rattle.model_desk.specs.Desk.{Held, nothing, roster, planned, proposed, noRoster, noPlan, noProposal}
 use Rattle.instance.specs.Decoded.{shownBy}
 use Rattle.desk_loaded.specs.declared.OnDesk.{OnDesk}
-use Rattle.desk_loaded.specs.Held.{heldPlan, stateNumber}
+use Rattle.model_desk.specs.HeldFiles.{heldPlan, heldProposal}
+use Rattle.desk_loaded.specs.Held.{stateNumber}
 use Rattle.desk_loaded.specs.OnDesk.{OnRoster, LoadedFrom, its-plan}
 use Rattle.desk_files.specs.declared.Files.{Files}
-use Rattle.desk_files.specs.Held.{rosterBytes, planBytes, proposalBytes, heldProposal, heldOf}
+use Rattle.desk_files.specs.Held.{rosterBytes, planBytes, proposalBytes, heldOf}
 use Rattle.desk_files.specs.State.{state-is, plan-held}
 
+-- the state's refusal of a call that needs an open proposal, 0 for none
 abbrev pub openNumber : Held → (short : Bool) → ℕ
 openNumber h short = cond (noRoster h) 13 (cond (noPlan h) 14 (cond (noProposal h) 20 (cond short 15 0)))
 

@@ -25,9 +25,10 @@ use Rattle.desk_files.specs.declared.Files.{Files}
 use Rattle.instance.specs.Decoded.{shownBy}
 use Rattle.instance.specs.Loaded.{Loaded}
 use Rattle.desk_loaded.specs.declared.OnDesk.{OnDesk}
-use Rattle.desk_loaded.specs.Held.{heldPlan, held, stateNumber}
+use Rattle.model_desk.specs.HeldFiles.{heldPlan, held, heldProposal, beside}
+use Rattle.desk_loaded.specs.Held.{stateNumber}
 use Rattle.desk_loaded.specs.OnDesk.{PlanIn, LoadedFrom, its-roster, its-plan, its-length}
-use Rattle.desk_files.specs.Held.{rosterBytes, planBytes, proposalBytes, heldProposal, beside, heldOf, beside-number, of-plan}
+use Rattle.desk_files.specs.Held.{rosterBytes, planBytes, proposalBytes, heldOf, beside-number, of-plan}
 use Rattle.desk_files.specs.Replies.{answered, lentThen, isAccepted, Stored, Replied}
 
 -- ---- a refusal by the state
@@ -56,6 +57,7 @@ states h c t u = go (needsRoster (need c)) (needsProposal (need c)) t u
     go true true t u = absurd u
     go false b t u = absurd t
 
+-- a call that the state refuses: nothing changes
 pub refuses-by : (d : Files) {k : Topic} (c : Call k) {n : ℕ} {a : Answer k} → n ≡ stateRefusal (heldOf d) c → 0 < n → a ≡ refusal n → Replied d c a c d
 unfolding answerOf lentAfter deskAfter
 refuses-by d c {n} {a} e h q = record {
@@ -65,20 +67,24 @@ refuses-by d c {n} {a} e h q = record {
   stored = subst (λ z. Stored c (isAccepted z) d d) (sym q) (same-desk d c);
 }
 
+-- the same for a call that needs a roster, and no open proposal
 pub by-state : (d : Files) {k : Topic} (c : Call k) → T (needsRoster (need c)) → T (not (needsProposal (need c))) → {n : ℕ} {a : Answer k}
     → n ≡ stateNumber (heldOf d) (needsPlan (need c)) (lentShort c) → 0 < n → a ≡ refusal n → Replied d c a c d
 by-state d c t u i h q = refuses-by d c (i ∙ states (heldOf d) c t u) h q
 
 -- ---- a call that the state lets pass
 module _ (h : Held) {k : Topic} (c : Call k) (s : 0 ≡ stateRefusal h c) where
+  -- it answers what the model answers on what is held
   pub pass-answer : answerOn chosen h c ≡ answered h c
   unfolding answerOf
   pass-answer = ap (λ k. cond (ltb 0 k) (refusal k) (answerOn chosen h c)) s
 
+  -- and writes what the model writes
   pub pass-lent : lentOn chosen h c ≡ lentThen h c
   unfolding lentAfter
   pass-lent = ap (λ k. cond (ltb 0 k) c (lentOn chosen h c)) s
 
+  -- and leaves what the model leaves
   pub pass-desk : deskOn h c ≡ deskAfter h c
   unfolding deskAfter
   pass-desk = ap (λ k. cond (ltb 0 k) h (deskOn h c)) s
@@ -110,9 +116,11 @@ roster-held d R a = ap (λ x. beside (proposalBytes d) (held x (planBytes d))) a
 -- a call that leaves the desk as it came: its answer and the bytes lent, by what is held
 module _ (d : Files) {k : Topic} (c : Call k) (t : T (needsRoster (need c))) (u : T (not (needsProposal (need c)))) {n : ℕ}
     (i : n ≡ stateNumber (heldOf d) (needsPlan (need c)) (lentShort c)) (z : n ≤ 0) where
+  -- no refusal by the state
   pub passed : 0 ≡ stateRefusal (heldOf d) c
   passed = no-number z i ∙ states (heldOf d) c t u
 
+  -- the whole reply
   pub passes : {a : Answer k} {c′ : Call k} (h : Held) → heldOf d ≡ h → a ≡ answerOn chosen h c → c′ ≡ lentOn chosen h c → h ≡ deskOn h c
       → Stored c (isAccepted a) d d → Replied d c a c′ d
   passes h e p q k s = record {
@@ -129,6 +137,7 @@ pub state-is : (d : Files) {needs short : Bool} {l : OnDesk} → LoadedFrom (ros
 unfolding heldOf
 state-is d {needs} {short} F = F .refusal ∙ beside-number (proposalBytes d) (held (readRoster (rosterBytes d)) (planBytes d)) needs short
 
+-- the arrays of the roster held
 pub arrays-are : (d : Files) {needs short : Bool} {l : OnDesk} → LoadedFrom (rosterBytes d) (planBytes d) needs short l → l .refusal ≤ 0 → Loaded (l .g)
 arrays-are d F z = given (its-roster z F) (λ (R, a). F .instance R a .0)
 
@@ -149,10 +158,12 @@ both-long x y n m F z =
 abbrev pub other : Files → Roster → Reading Plan
 other d R = readPlan (instanceOf R) (proposalBytes d)
 
+-- what is held, by what both files are read to
 pub plan-held : (d : Files) (R : Roster) (M : Plan) → readRoster (rosterBytes d) ≡ accepted R → readPlan (instanceOf R) (planBytes d) ≡ accepted M
     → heldOf d ≡ heldProposal R M (other d R)
 plan-held d R M a b = roster-held d R a ∙ ap (λ y. beside (proposalBytes d) (heldPlan R y)) b
 
+-- the plan that is loaded is the one held
 pub its-plan-held : (d : Files) {short : Bool} {l : OnDesk} → LoadedFrom (rosterBytes d) (planBytes d) true short l → l .refusal ≤ 0
     → (R : Roster) × (M : Plan) × (heldOf d ≡ heldProposal R M (other d R)) × (shownBy (l .g) ≡ instanceOf R) × PlanIn l M
     × (plans.planBytes (instanceOf R) M ≡ planBytes d)

@@ -1,5 +1,5 @@
--- What the find call promises: the model's reply, and for a roster held demand 3 in named parts; and how that follows from what the core says and
--- the filled diary.
+-- What the find call promises: the model's reply, for a roster held demand 3 in named parts, and how much was written; and how that follows from what
+-- the core says and the filled diary.
 use Prim.Native.Nat.{ℕ, _≤_, _<_}
 use native.Mathlib.Omega.{arith}
 use mathlib.Core.Path.{_≡_, refl, sym, ap, _∙_, subst}
@@ -35,19 +35,23 @@ use Rattle.finder.specs.Promise as promise
 use Rattle.finder.specs.Promise.{Promise, written-is, shown-is, promised, steps-are}
 use Rattle.finder_candidate.specs.FoundBuffers.{leftAfter, planAfter, answerFor}
 use Rattle.diary.specs.FlatDiary.{flatSize}
+use Rattle.desk_find.specs.declared.Lengths.{Lengths}
 use Rattle.desk_find.specs.declared.Outcome.{Outcome}
+use Rattle.desk_find.specs.Lengths.{lengthsOn, lengths-held}
 use Rattle.desk_find.specs.Outcomes as finds
-use Rattle.desk_find.specs.Outcomes.{FindsFor, Works, short, OutcomeFor, Outcomes, out-settled}
+use Rattle.desk_find.specs.Outcomes.{FindsFor, refused-lengths, Works, short, OutcomeFor, Outcomes, out-settled}
 use Rattle.desk_files.specs.declared.Files.{Files}
 use Rattle.desk_find.specs.declared.Searched.{Searched}
 use Rattle.instance.specs.declared.Instance as arrays
 use Rattle.instance.specs.Decoded.{shownBy}
-use Rattle.desk_loaded.specs.Held.{heldPlan, held, stateNumber}
+use Rattle.model_desk.specs.HeldFiles.{heldPlan, held, beside}
+use Rattle.desk_loaded.specs.Held.{stateNumber}
 use Rattle.desk_loaded.specs.RosterBytes.{ArraysOf}
-use Rattle.desk_files.specs.Held.{rosterBytes, planBytes, proposalBytes, beside, heldOf, beside-number, of-roster}
+use Rattle.desk_files.specs.Held.{rosterBytes, planBytes, proposalBytes, heldOf, beside-number, of-roster}
 use Rattle.desk_files.specs.Replies.{Replied}
 use Rattle.desk_files.specs.State.{states, by-state, pass-answer, pass-lent, desk-alike, roster-held}
 
+-- what the core of a find says
 pub record Done (d : Files) (room : ℕ) (l p v : List ℕ) (c : Searched) (l′ p′ v′ : List ℕ) : Type 0 where
   pub same : c .files ≡ d
   pub outcome : Outcomes (rosterBytes d) room l p v (c .outcome) l′ p′ v′
@@ -70,20 +74,23 @@ done-on {d} {room} {l} {p} {v} {c} {l′} {p′} {v′} e q o =
     record { same = q; outcome = subst (λ b. Outcomes b room l p v (c .outcome) l′ p′ v′) e o }
 
 -- the call's promise
-pub record Finds (d : Files) (s : List Step) (l p v : List ℕ) (answer : Found) (s′ : List Step) (l′ p′ v′ : List ℕ) (d′ : Files) : Type 0 where
+pub record Finds (d : Files) (s : List Step) (l p v : List ℕ) (answer : Found) (n : Lengths) (s′ : List Step) (l′ p′ v′ : List ℕ) (d′ : Files)
+    : Type 0 where
   pub replied : Replied d (find (recordsIn s) l p v) (foundShown answer) (find (recordsIn s′) l′ p′ v′) d′
   -- demand 3, whole, for the roster held and buffers of their sizes
   pub demand3 : (R : Roster) → readRoster (rosterBytes d) ≡ accepted R → T (not (lentShort (find (recordsIn s) l p v)))
       → Promise R answer (recordsIn s) l p v (recordsIn s′) l′ p′ v′
+  -- how many bytes of a plan or candidate and of a rival were written
+  pub lengths : n ≡ lengthsOn (heldOf d′) (foundShown answer)
 
 -- ---- the records fit
 fit : (room : ℕ) (l p v : List ℕ) (o : Outcome) (l′ p′ v′ : List ℕ) (x : Reading Roster) (b : Bool) → short room l p v ≡ b
     → OutcomeFor x b l p v o l′ p′ v′ → (o .steps ≤ diarySize) × (o .steps ≤ room)
 fit room l p v o l′ p′ v′ (reading.refused n) b q k = (omega (arith, k .refuses .steps), omega (arith, k .refuses .steps))
 fit room l p v o l′ p′ v′ (accepted R) true q k = (omega (arith, k .refuses .steps), omega (arith, k .refuses .steps))
-fit room l p v o l′ p′ v′ (accepted R) false q (f, e) =
+fit room l p v o l′ p′ v′ (accepted R) false q (f, e, n) =
     let G = instanceOf R in
-    let n : o .steps ≡ length (stepsOf G) = e ∙ ap promise.stepsIn (f .finds .wrote .answer) ∙ steps-are (length (stepsOf G)) (finderOf G (rivalOf G)) in
+    let m : o .steps ≡ length (stepsOf G) = e ∙ ap promise.stepsIn (f .finds .wrote .answer) ∙ steps-are (length (stepsOf G)) (finderOf G (rivalOf G)) in
     let h : diarySize ≤ room =
     nltb→le room diarySize (first (ltb room diarySize) (ltb (length l) leftSize || (ltb (length p) planSize || ltb (length v) planSize)) q) in
     (omega (arith, steps-few G, f .few), omega (arith, steps-few G, f .few))
@@ -92,6 +99,7 @@ fit room l p v o l′ p′ v′ (accepted R) false q (f, e) =
     first true b e = subst T e tt
     first false b e = tt
 
+-- those of a find on a desk
 pub within : (d : Files) (room : ℕ) (l p v : List ℕ) (c : Searched) (l′ p′ v′ : List ℕ) → Done d room l p v c l′ p′ v′
     → (c .outcome .steps ≤ 1024) × (c .outcome .steps ≤ room)
 within d room l p v c l′ p′ v′ D = fit room l p v (c .outcome) l′ p′ v′ (readRoster (rosterBytes d)) (short room l p v) refl (D .outcome)
@@ -101,6 +109,7 @@ module _ (s : List Step) (l p v : List ℕ) where
   abbrev call : Call finds
   call = find (recordsIn s) l p v
 
+  -- the test of the sizes is the model's
   pub short-is : short (length s) l p v ≡ lentShort call
   short-is = ap (λ n. ltb n diarySize || (ltb (length l) leftSize || (ltb (length p) planSize || ltb (length v) planSize))) (sym (length-map s recordIn))
 
@@ -195,17 +204,19 @@ module _ (s : List Step) (l p v : List ℕ) where
         ∙ sym (length-map (stepsOf (instanceOf R)) (recordOf (instanceOf R)))) w
 
     -- by the roster's reading and the buffers' sizes
-    abbrev Both : Type 0
-    Both = Replied d call (foundShown ans) (find (recordsIn s′) l′ p′ v′) d′
+    abbrev Both : Lengths → Type 0
+    Both n = Replied d call (foundShown ans) (find (recordsIn s′) l′ p′ v′) d′
         × ((R : Roster) → readRoster (rosterBytes d) ≡ accepted R → T (not (lentShort call))
         → Promise R ans (recordsIn s) l p v (recordsIn s′) l′ p′ v′)
+        × (n ≡ lengthsOn (heldOf d′) (foundShown ans))
 
-    by-outcome : (x : Reading Roster) → readRoster (rosterBytes d) ≡ x → (b : Bool) → short (length s) l p v ≡ b → (steps : ℕ)
-        → OutcomeFor x b l p v (record { answer = ans; flat = flat; steps = steps }) l′ p′ v′ → s′ ≡ onto (stepsIn steps flat) s → Both
-    by-outcome (reading.refused n) e b q steps k w = (
-      refused-reply 13 (omega arith) (state-here (reading.refused n) e b q) (record { answer = ans; flat = flat; steps = steps }) refl k
+    by-outcome : (x : Reading Roster) → readRoster (rosterBytes d) ≡ x → (b : Bool) → short (length s) l p v ≡ b → (steps : ℕ) (n : Lengths)
+        → OutcomeFor x b l p v (record { answer = ans; lengths = n; flat = flat; steps = steps }) l′ p′ v′ → s′ ≡ onto (stepsIn steps flat) s → Both n
+    by-outcome (reading.refused n) e b q steps m k w = (
+      refused-reply 13 (omega arith) (state-here (reading.refused n) e b q) (record { answer = ans; lengths = m; flat = flat; steps = steps }) refl k
           (filled-none steps flat s s′ (k .refuses .steps) w),
       λ R a t. absurd (no-roster (sym e ∙ a)),
+      refused-lengths (heldOf d′) 13 (record { answer = ans; lengths = m; flat = flat; steps = steps }) (k .refuses),
     )
       where
         isTurned : Reading Roster → Bool
@@ -214,15 +225,17 @@ module _ (s : List Step) (l p v : List ℕ) where
 
         no-roster : {n : ℕ} {R : Roster} → reading.refused n ≡ accepted R → ⊥
         no-roster z = subst (λ y. T (isTurned y)) z tt
-    by-outcome (accepted R) e true q steps k w = (
-      refused-reply 15 (omega arith) (state-here (accepted R) e true q) (record { answer = ans; flat = flat; steps = steps }) refl k
+    by-outcome (accepted R) e true q steps m k w = (
+      refused-reply 15 (omega arith) (state-here (accepted R) e true q) (record { answer = ans; lengths = m; flat = flat; steps = steps }) refl k
           (filled-none steps flat s s′ (k .refuses .steps) w),
       λ R a t. absurd (subst (λ b. T (not b)) (sym short-is ∙ q) t),
+      refused-lengths (heldOf d′) 15 (record { answer = ans; lengths = m; flat = flat; steps = steps }) (k .refuses),
     )
-    by-outcome (accepted R) e false q steps (f, n) w = (
+    by-outcome (accepted R) e false q steps m (f, n, k) w = (
       found-reply R e f (diary-here R steps f n w) (state-here (accepted R) e false q ∙ states (heldOf d) call tt tt),
       λ R′ a t. subst (λ Q. Promise Q ans (recordsIn s) l p v (recordsIn s′) l′ p′ v′) (one (sym e ∙ a))
           (promised-here R e f (diary-here R steps f n w)),
+      k ∙ lengths-held d R e (foundShown ans) ∙ ap (λ z. lengthsOn (heldOf z) (foundShown ans)) (sym same),
     )
       where
         rosterOf : Roster → Reading Roster → Roster
@@ -232,12 +245,13 @@ module _ (s : List Step) (l p v : List ℕ) where
         one : {Q R : Roster} → accepted Q ≡ accepted R → Q ≡ R
         one {Q} z = ap (rosterOf Q) z
 
+-- what a find promises follows from its core and the filled diary
 pub found : (d : Files) (s : List Step) (l p v : List ℕ) (c : Searched) (s′ : List Step) (l′ p′ v′ : List ℕ) → Done d (length s) l p v c l′ p′ v′
     → s′ ≡ onto (stepsIn (c .outcome .steps) (c .outcome .flat)) s
-    → Finds d s l p v (c .outcome .answer) s′ l′ p′ v′ (c .files)
+    → Finds d s l p v (c .outcome .answer) (c .outcome .lengths) s′ l′ p′ v′ (c .files)
 found d s l p v c s′ l′ p′ v′ D w =
-    let (a, b) =
+    let (a, b, k) =
     by-outcome s l p v d (c .outcome .answer) (c .files) (D .same) (c .outcome .flat) s′ l′ p′ v′ (readRoster (rosterBytes d)) refl
-    (short (length s) l p v) refl (c .outcome .steps)
+    (short (length s) l p v) refl (c .outcome .steps) (c .outcome .lengths)
     (D .outcome) w in
-    record { replied = a; demand3 = b }
+    record { replied = a; demand3 = b; lengths = k }

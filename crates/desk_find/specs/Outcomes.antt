@@ -5,7 +5,7 @@ use native.Mathlib.Omega.{arith}
 use mathlib.Core.Path.{_≡_, refl, sym, ap, _∙_, subst}
 use mathlib.Core.Bool.{Bool, true, false, _||_}
 use mathlib.Core.List.{List}
-use lib.ListN.{length, replicate}
+use lib.ListN.{length, getD, replicate}
 use lib.Dec.{T, ltb, nltb→le}
 use Rattle.lists.specs.Test.{given, false-T}
 use Rattle.model.specs.Limits.{entryLimit, planSize, diarySize, leftSize}
@@ -18,11 +18,13 @@ use Rattle.model.specs.Instance.{Instance}
 use Rattle.model.specs.PlanFile.{readPlan}
 use Rattle.model.specs.Reduction.{stepsOf}
 use Rattle.model.specs.Finder.{diaryOf, finderOf}
+use Rattle.model_desk.specs.Desk.{Held}
 use Rattle.theory_verdict.specs.Rival.{rivalOf}
 use Rattle.instance.specs.declared.Instance as arrays
 use Rattle.instance.specs.Decoded.{shownBy}
 use Rattle.instance.specs.Loaded.{Loaded}
-use Rattle.answers.specs.GroupCases.{groupCase}
+use Rattle.answers.specs.GroupCases.{groupCase, groupShown}
+use Rattle.answers.specs.FinderCases.{foundShown}
 use Rattle.answers.specs.declared.Found as code
 use Rattle.answers.specs.declared.Found.the-variants as says
 use Rattle.diary.specs.FlatDiary.{flatSize, written}
@@ -32,10 +34,13 @@ use Rattle.finder_run.specs.declared.Outcome as traced
 use Rattle.finder_run.specs.Finding.{Finds}
 use Rattle.finder.specs.Promise.{stepsIn, steps-are}
 use Rattle.desk_loaded.specs.declared.OnDesk.{OnDesk}
-use Rattle.desk_loaded.specs.Held.{held, stateNumber, unneeded}
+use Rattle.model_desk.specs.HeldFiles.{held}
+use Rattle.desk_loaded.specs.Held.{stateNumber, unneeded}
 use Rattle.desk_loaded.specs.OnDesk.{LoadedFrom, its-roster, its-length}
 use Rattle.desk_loaded.specs.RosterBytes.{ArraysOf}
+use Rattle.desk_find.specs.declared.Lengths.{Lengths}
 use Rattle.desk_find.specs.declared.Outcome.{Outcome}
+use Rattle.desk_find.specs.Lengths.{unwritten, lengthsOf, lengthsOn, lengthsIn, lengths-told, none-refused}
 
 -- ---- what is found, with the flat diary
 pub record FindsIn (G : Instance) (d l p v : List ℕ) (r : code.Found) (d′ l′ p′ v′ : List ℕ) : Type 0 where
@@ -49,15 +54,22 @@ pub record FindsFor (R : Roster) (d l p v : List ℕ) (r : code.Found) (d′ l�
   pub finds : FindsIn (instanceOf R) d l p v r d′ l′ p′ v′
 
 -- ---- the finder with a diary of its own
--- a refusal: its number and its group, and no record
+-- a refusal: its number and its group, nothing written, and no record
 pub record Refuses (n : ℕ) (o : Outcome) : Type 0 where
   pub answer : o .answer ≡ says.Refused n (groupCase (groupOf n))
+  pub lengths : o .lengths ≡ unwritten
   pub steps : o .steps ≡ 0
   pub flat : o .flat ≡ replicate flatSize 0  -- the flat diary of a refused find is blank
+
+-- whatever the desk holds
+pub refused-lengths : (h : Held) (n : ℕ) (o : Outcome) → Refuses n o → o .lengths ≡ lengthsOn h (foundShown (o .answer))
+refused-lengths h n o k =
+    k .lengths ∙ none-refused h n (groupShown (groupCase (groupOf n))) ∙ ap (λ a. lengthsOn h (foundShown a)) (sym (k .answer))
 
 pub record Works (G : Instance) (l p v : List ℕ) (o : Outcome) (l′ p′ v′ : List ℕ) : Type 0 where
   pub finds : FindsIn G (replicate flatSize 0) l p v (o .answer) (o .flat) l′ p′ v′
   pub steps : o .steps ≡ stepsIn (o .answer)
+  pub lengths : o .lengths ≡ lengthsOf G (foundShown (o .answer))
 
 -- "15 a lent buffer below its size"
 abbrev pub short : (room : ℕ) (l p v : List ℕ) → Bool
@@ -74,6 +86,7 @@ abbrev pub OutcomeFor : Reading Roster → (isShort : Bool) (l p v : List ℕ) (
 OutcomeFor (refused n) s l p v o l′ p′ v′ = Kept 13 l p v o l′ p′ v′
 OutcomeFor (accepted R) true l p v o l′ p′ v′ = Kept 15 l p v o l′ p′ v′
 OutcomeFor (accepted R) false l p v o l′ p′ v′ = FindsFor R (replicate flatSize 0) l p v (o .answer) (o .flat) l′ p′ v′ × (o .steps ≡ stepsIn (o .answer))
+    × (o .lengths ≡ lengthsOf (instanceOf R) (foundShown (o .answer)))
 
 abbrev pub Outcomes : (roster : List ℕ) (room : ℕ) (l p v : List ℕ) (o : Outcome) (l′ p′ v′ : List ℕ) → Type 0
 Outcomes roster room l p v = OutcomeFor (readRoster roster) (short room l p v) l p v
@@ -84,11 +97,13 @@ module _ (g : arrays.Instance) (L : Loaded g) (l p v : List ℕ) (o : traced.Out
   pub can-read : Readable (g .sv) (g .st) (o .trace)
   can-read = readable (shownBy g) (g .sv) (g .st) (L .edges) (L .low-sv) (L .low-st) (o .trace) (F .traced)
 
-  pub works : (flat : List ℕ) → flat ≡ flatOf (g .sv) (g .st) (g .sh) (o .trace)
-      → Works (shownBy g) l p v (record { answer = o .answer; flat = flat; steps = o .trace .steps }) l′ p′ v′
-  works flat q = record {
+  pub works : (flat : List ℕ) → flat ≡ flatOf (g .sv) (g .st) (g .sh) (o .trace) → (n : Lengths) → n ≡ lengthsIn (o .answer) (getD p′ 0 0) (getD v′ 0 0)
+      → Works (shownBy g) l p v (record { answer = o .answer; lengths = n; flat = flat; steps = o .trace .steps }) l′ p′ v′
+  works flat q n w = record {
     finds = record { wrote = F .wrote; diary = q ∙ trace-flat (shownBy g) (g .sv) (g .st) (g .sh) refl refl refl (o .trace) (F .traced) };
     steps = F .traced .steps ∙ sym (ap stepsIn (F .wrote .answer) ∙ steps-are (length (stepsOf (shownBy g))) (finderOf (shownBy g) (rivalOf (shownBy g))));
+    lengths = w ∙ (λ i. lengthsIn (F .wrote .answer i) (getD (F .wrote .plan i) 0 0) (getD (F .wrote .rival i) 0 0))
+        ∙ lengths-told (shownBy g) (length (stepsOf (shownBy g))) p v ∙ ap (λ a. lengthsOf (shownBy g) (foundShown a)) (sym (F .wrote .answer));
   }
 
 -- the buffers have their sizes
@@ -115,6 +130,7 @@ out-settled room l p v s R a A o l′ p′ v′ w =
         finds = subst (λ G. FindsIn G (replicate flatSize 0) l p v (o .answer) (o .flat) l′ p′ v′) (A .instance R a) (w .finds);
       },
       w .steps,
+      w .lengths ∙ ap (λ G. lengthsOf G (foundShown (o .answer))) (A .instance R a),
     ))
 
 module _ {roster file : List ℕ} (room : ℕ) (l p v : List ℕ) {b : Bool} {k : OnDesk} (is : b ≡ short room l p v) (loaded : LoadedFrom roster file false b k)

@@ -1,20 +1,30 @@
 // The finder on the roster that a desk holds, with a flat diary (crate diary): the state's refusal first. It stands below the desk,
 // and asks nothing of its caller; a user calls the desk.
 ghost use Prim.Native.Nat.{_≤_};
+ghost use mathlib.Core.Path.{_≡_};
 ghost use lib.ListN.{length};
 ghost use Rattle.model.specs.Limits.{planSize, leftSize};
 ghost use Rattle.instance.specs.Decoded.{shownBy};
 ghost use Rattle.instance.specs.Loaded.{Loaded};
+ghost use Rattle.desk_find.specs.Lengths.{lengthsIn};
 ghost use Rattle.desk_find.specs.Outcomes.{Refuses, Works, Outcomes};
 ghost use Rattle.desk_find.specs.Finding.{Settled, Done};
 use answers::Found;
+use answers::NoneKind;
 use desk_files::Files;
 use instance::Instance;
 use limits::FLAT_SIZE;
 
-// What the finder answers, with the diary as numbers, five a record, and the number of its records: 0 of them on a refusal.
+// How many bytes of a plan or candidate and of its rival were written, 0 where none was.
+pub struct Lengths {
+    pub plan: usize,
+    pub rival: usize,
+}
+
+// What the finder answers, how much it has written, and the diary as numbers, five a record, with the number of its records: 0 of them on a refusal.
 pub struct Outcome {
     pub answer: Found,
+    pub lengths: Lengths,
     pub flat: [u8; FLAT_SIZE],
     pub steps: usize,
 }
@@ -25,18 +35,39 @@ pub struct Searched {
     pub outcome: Outcome,
 }
 
-// A refusal: no record.
+// A refusal: nothing written, no record.
 pub fn refused(number: u8) -> Outcome
     ensures { λ r. ⌜ Refuses number r ⌝ }
 {
     Outcome {
         answer: Found::Refused(number, answers::group_of(number)),
+        lengths: Lengths { plan: 0, rival: 0 },
         flat: [0; FLAT_SIZE],
         steps: 0,
     }
 }
 
-// The finder on the arrays of an accepted roster, and the flat diary of its trace.
+// The lengths that go with an answer, by the count bytes in front of both buffers.
+pub(crate) fn written_lengths(answer: Found, plan: u8, rival: u8) -> Lengths
+    ensures { λ r. ⌜ r ≡ lengthsIn answer plan rival ⌝ }
+{
+    match answer {
+        Found::Plan(_) => Lengths {
+            plan: desk_files::plan_length(plan),
+            rival: 0,
+        },
+        Found::None(_, why) => match why {
+            NoneKind::Left(_) => Lengths { plan: 0, rival: 0 },
+            NoneKind::Rivalled(_) => Lengths {
+                plan: desk_files::plan_length(plan),
+                rival: desk_files::plan_length(rival),
+            },
+        },
+        Found::Refused(_, _) => Lengths { plan: 0, rival: 0 },
+    }
+}
+
+// The finder on the arrays of an accepted roster, how much it has written, and the flat diary of its trace.
 pub(crate) fn worked(g: Instance, left: &mut [u8], plan: &mut [u8], rival: &mut [u8]) -> Outcome
     requires { ⌜ Loaded g × (leftSize ≤ length (now left)) × (planSize ≤ length (now plan)) × (planSize ≤ length (now rival)) ⌝ }
     ensures { λ r. ⌜ Works (shownBy g) (now (left .entry)) (now (plan .entry)) (now (rival .entry)) r (now (left .exit)) (now (plan .exit))
@@ -45,12 +76,14 @@ pub(crate) fn worked(g: Instance, left: &mut [u8], plan: &mut [u8], rival: &mut 
     let sv = g.sv;
     let st = g.st;
     let sh = g.sh;
-    let o = finder_run::find(g, left, plan, rival);
+    let o = finder_run::find(g, left, &mut *plan, &mut *rival);
     let answer = o.answer;
+    let written = written_lengths(answer, plan[0], rival[0]);
     let trace = o.trace;
     let flat = diary_records::flat_records(&sv, &st, &sh, trace);
     Outcome {
         answer: answer,
+        lengths: written,
         flat: flat,
         steps: trace.steps,
     }
@@ -69,7 +102,7 @@ pub(crate) fn found(
     ensures { λ r. ⌜ Outcomes (now (roster .entry)) room (now (left .entry)) (now (plan .entry)) (now (rival .entry)) r (now (left .exit)) (now (plan .exit))
         (now (rival .exit)) ⌝ }
 {
-    let short = desk_buffers::finder_short(room, left.len(), plan.len(), rival.len());
+    let short = desk_files::finder_short(room, left.len(), plan.len(), rival.len());
     let l = desk_loaded::loaded(roster, held, false, short);
     let n = l.refusal;
     if 0 < n {

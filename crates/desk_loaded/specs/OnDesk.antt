@@ -33,7 +33,8 @@ use Rattle.plan_reader.specs.declared.PlanRead.{PlanRead}
 use Rattle.plan_reader.specs.Answers.{ReadAs, accepted-read, refused-read}
 use Rattle.plan_reader.specs.Planned.{read-planned}
 use Rattle.desk_loaded.specs.declared.OnDesk.{OnDesk}
-use Rattle.desk_loaded.specs.Held.{heldPlan, held, stateNumber, unneeded}
+use Rattle.model_desk.specs.HeldFiles.{heldPlan, held}
+use Rattle.desk_loaded.specs.Held.{stateNumber, unneeded}
 
 -- the plan M: within the quotas, by its flags, and its edges in a list
 pub record PlanIn (r : OnDesk) (M : Plan) : Type 0 where

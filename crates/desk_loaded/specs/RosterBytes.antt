@@ -18,7 +18,8 @@ use Rattle.answers.specs.FileCases.{fileCase, case-accepted, case-refused}
 use Rattle.instance.specs.declared.Instance.{Instance}
 use Rattle.instance.specs.Decoded.{shownBy, Decoded}
 use Rattle.instance.specs.Loaded.{Loaded, loaded}
-use Rattle.desk_loaded.specs.Held.{held, stateNumber, unneeded}
+use Rattle.model_desk.specs.HeldFiles.{held}
+use Rattle.desk_loaded.specs.Held.{stateNumber, unneeded}
 
 -- n is the state's refusal of a call that needs these bytes to be a roster, and a roster's bytes are what the model writes of it
 pub record Judged (bytes : List ℕ) (short : Bool) (n : ℕ) : Type 0 where

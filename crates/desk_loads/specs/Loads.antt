@@ -25,10 +25,10 @@ use Rattle.answers.specs.declared.FileAnswer.the-variants.{Accepted, Refused}
 use Rattle.answers.specs.FileCases.{fileShown, fileCase, case-accepted, case-refused, refusal-shown}
 use Rattle.instance.specs.Decoded.{shownBy}
 use Rattle.desk_loaded.specs.declared.OnDesk.{OnDesk}
-use Rattle.desk_loaded.specs.Held.{heldPlan, held}
+use Rattle.model_desk.specs.HeldFiles.{heldPlan, held, beside}
 use Rattle.desk_loaded.specs.OnDesk.{LoadedFrom, its-roster}
 use Rattle.desk_files.specs.declared.Files.{Files}
-use Rattle.desk_files.specs.Held.{rosterBytes, planBytes, proposalBytes, beside, heldOf, of-roster}
+use Rattle.desk_files.specs.Held.{rosterBytes, planBytes, proposalBytes, heldOf, of-roster}
 use Rattle.desk_files.specs.Replies.{answered, RosterIn, PlanIn, Replied}
 use Rattle.desk_files.specs.State.{pass-answer, pass-desk, lent-alike, roster-held, passed, passes, state-is}
 

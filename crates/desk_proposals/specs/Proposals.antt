@@ -35,10 +35,10 @@ use Rattle.instance.specs.Decoded.{shownBy}
 use Rattle.plan_reader.specs.Planned.{Planned}
 use Rattle.compare.specs.TwoPlans.{Paired}
 use Rattle.desk_loaded.specs.declared.OnDesk.{OnDesk}
-use Rattle.desk_loaded.specs.Held.{heldPlan}
+use Rattle.model_desk.specs.HeldFiles.{heldPlan, heldProposal, beside}
 use Rattle.desk_loaded.specs.OnDesk.{LoadedFrom, its-plan}
 use Rattle.desk_files.specs.declared.Files.{Files}
-use Rattle.desk_files.specs.Held.{rosterBytes, planBytes, heldProposal, beside, heldOf, of-plan}
+use Rattle.desk_files.specs.Held.{rosterBytes, planBytes, heldOf, of-plan}
 use Rattle.desk_files.specs.Replies.{ProposalIn, Replied}
 use Rattle.desk_files.specs.State.{pass-answer, pass-lent, pass-desk, roster-held, plan-held, passed, passes, state-is, other}
 

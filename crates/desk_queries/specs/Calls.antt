@@ -30,10 +30,11 @@ use Rattle.verdict.specs.Weighing.{Shows, WeighedFor, PairedFor, desk-answer, d
 use Rattle.compare.specs.TwoPlans.{Paired}
 use Rattle.blocking_search.specs.Blocking.{blockedBy, blocked-shown, same-plan}
 use Rattle.desk_loaded.specs.declared.OnDesk.{OnDesk}
-use Rattle.desk_loaded.specs.Held.{heldPlan, stateNumber}
+use Rattle.model_desk.specs.HeldFiles.{heldPlan, heldProposal, beside}
+use Rattle.desk_loaded.specs.Held.{stateNumber}
 use Rattle.desk_loaded.specs.OnDesk.{LoadedFrom, its-roster}
 use Rattle.desk_files.specs.declared.Files.{Files}
-use Rattle.desk_files.specs.Held.{rosterBytes, planBytes, proposalBytes, heldProposal, beside, heldOf, of-roster, of-plan}
+use Rattle.desk_files.specs.Held.{rosterBytes, planBytes, proposalBytes, heldOf, of-roster, of-plan}
 use Rattle.desk_files.specs.Replies.{Replied}
 use Rattle.desk_files.specs.State.{state-is, roster-held, passes, other, its-plan-held}
 

@@ -74,6 +74,7 @@ module _ (a b f k : List ℕ) where
   sized : (G : Instance) → T (isVotes (cond (ltb 0 refusing) (refusal refusing) (comparisonAnswer (comparisonOf G a b)))) → (1 ≤ length a) × (1 ≤ length b)
   sized G t = both-filled G a b (by-size refusing small (comparisonAnswer (comparisonOf G a b)) t)
 
+  -- so a part can be named without the count byte
   pub counted : (h : Held) (c : Comparison) → comparisonShown c ≡ answered h (compare a b f k) → Counted c a b
   unfolding answerOf stateRefusal
   counted h (Refused n g) e = tt

@@ -1,10 +1,11 @@
 // Verdict, comparison, blocking pair and what is held: calls that leave the desk as it is, and write at most a rival and the pairings of their votes (W-208).
+ghost use mathlib.Core.Path.{_≡_};
 ghost use Rattle.model_desk.specs.Desk.{compare, blocking, holds, said, holding};
 ghost use Rattle.answers.specs.ComparisonCases.{comparisonShown};
 ghost use Rattle.answers.specs.BlockedCases.{blockedShown};
 ghost use Rattle.answers.specs.HoldingCases.{holdingShown};
 ghost use Rattle.desk_files.specs.Replies.{Replied};
-ghost use Rattle.desk_queries.specs.Judging.{Judges};
+ghost use Rattle.desk_queries.specs.Judging.{rivalIn, Judges};
 use answers::Blocked;
 use answers::Comparison;
 use answers::Holding;
@@ -13,10 +14,29 @@ use desk_files::Files;
 use limits::PAIRING_SIZE;
 use limits::PLAN_SIZE;
 
+// The verdict, and how many bytes of a rival were written, 0 where none was.
+pub struct Judgement {
+    pub verdict: Verdict,
+    pub rival_length: usize,
+}
+
+// The rival's length, by the verdict and the count byte in front of the buffer.
+pub(crate) fn rival_length(verdict: Verdict, pairs: u8) -> usize
+    ensures { λ r. ⌜ r ≡ rivalIn verdict pairs ⌝ }
+{
+    match verdict {
+        Verdict::Strong => 0,
+        Verdict::Popular(_) => desk_files::plan_length(pairs),
+        Verdict::Beaten(_) => desk_files::plan_length(pairs),
+        Verdict::Refused(_, _) => 0,
+    }
+}
+
 // The verdict on the held plan; the rival of a plan that is not strong goes to the front of the buffer, the pairings of the vote against it to that of
 // the other, and what holds of it is promised.
-pub fn judge(files: Files, rival: &mut [u8], pairings: &mut [u8]) -> Verdict
-    ensures { λ r. ⌜ Judges files (now (rival .entry)) (now (pairings .entry)) r (now (rival .exit)) (now (pairings .exit)) files ⌝ }
+pub fn judge(files: Files, rival: &mut [u8], pairings: &mut [u8]) -> Judgement
+    ensures { λ r. ⌜ Judges files (now (rival .entry)) (now (pairings .entry)) (r .verdict) (r .«rival_length») (now (rival .exit)) (now (pairings .exit))
+        files ⌝ }
 {
     let l = desk_files::loaded(
         files,
@@ -25,11 +45,18 @@ pub fn judge(files: Files, rival: &mut [u8], pairings: &mut [u8]) -> Verdict
     );
     let n = l.refusal;
     if 0 < n {
-        return Verdict::Refused(n, answers::group_of(n));
+        return Judgement {
+            verdict: Verdict::Refused(n, answers::group_of(n)),
+            rival_length: 0,
+        };
     }
     let plan = l.plan;
     let edges = l.edges;
-    verdict::weigh_paired(l.g, &plan, l.n, &edges, rival, pairings)
+    let verdict = verdict::weigh_paired(l.g, &plan, l.n, &edges, &mut *rival, pairings);
+    Judgement {
+        verdict: verdict,
+        rival_length: rival_length(verdict, rival[0]),
+    }
 }
 
 // Both votes and the winner, without the part, and the pairings of both votes.

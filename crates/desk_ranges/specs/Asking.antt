@@ -30,10 +30,10 @@ use Rattle.answers.specs.LeastCases.{leastShown}
 use Rattle.instance.specs.Decoded.{shownBy}
 use Rattle.ranges_least.specs.Asked.{Asked, questionOn, question-is, leastCase, leastBytes}
 use Rattle.desk_loaded.specs.declared.OnDesk.{OnDesk}
-use Rattle.desk_loaded.specs.Held.{heldPlan, held}
+use Rattle.model_desk.specs.HeldFiles.{heldPlan, held, beside}
 use Rattle.desk_loaded.specs.OnDesk.{LoadedFrom, its-roster}
 use Rattle.desk_files.specs.declared.Files.{Files}
-use Rattle.desk_files.specs.Held.{rosterBytes, planBytes, proposalBytes, beside, heldOf, of-roster}
+use Rattle.desk_files.specs.Held.{rosterBytes, planBytes, proposalBytes, heldOf, of-roster}
 use Rattle.desk_files.specs.Replies.{Replied}
 use Rattle.desk_files.specs.State.{state-is, roster-held, passes}
 

@@ -1,2 +1,4 @@
+pub mod ChangeSteps
+pub mod Changing
 pub mod Storing
 pub mod StoringSteps

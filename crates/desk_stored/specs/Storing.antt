@@ -46,6 +46,7 @@ Open old new f f′ = (old ≡ new → f′ ≡ f) × ((old ≡ new → ⊥) →
 abbrev pub ClosedFor : (before stored after : Files) → Type 0
 ClosedFor d k d′ = (rosterBytes d′ ≡ rosterBytes k) × (planBytes d′ ≡ planBytes k) × Open (rosterBytes d) (rosterBytes k) (proposalBytes k) (proposalBytes d′)
 
+-- a change that is taken: the roster's bytes, the plan less the leaver's pairs, the proposal open or closed
 pub record Made (G : Instance) (d : Files) (s : ℕ) (roster : List ℕ) (d′ : Files) : Type 0 where
   pub bytes : rosterBytes d′ ≡ roster
   pub plan : LessOf G s (readPlan G (planBytes d)) (planBytes d′)

@@ -24,7 +24,8 @@ use Rattle.roster_parts.specs.declared.Changed.{Changed}
 use Rattle.plan_carried.specs.declared.CarriedPlan.{CarriedPlan}
 use Rattle.plan_carried.specs.Remaining.{Few, CarriedFor}
 use Rattle.desk_loaded.specs.declared.OnDesk.{OnDesk}
-use Rattle.desk_loaded.specs.Held.{heldPlan, stateNumber}
+use Rattle.model_desk.specs.HeldFiles.{heldPlan}
+use Rattle.desk_loaded.specs.Held.{stateNumber}
 use Rattle.desk_loaded.specs.OnDesk.{OnRoster}
 use Rattle.desk_loaded.specs.RosterBytes.{ArraysOf}
 use Rattle.desk_files.specs.declared.Files.{Files}

@@ -1,5 +1,5 @@
-// A changed roster stored in the desk's files (request W-202): with it the held plan less a leaver's pairs, and the proposal open or closed (W-207); or
-// the change's refusal, and the files as they were.
+// Surveyors who join and leave in the field (request W-202): the changed roster stored in the desk's files, with it the held plan less a leaver's pairs,
+// and the proposal open or closed (W-207); or the refusal, and the files as they were.
 ghost use mathlib.Core.Path.{_≡_};
 ghost use lib.ListN.{take};
 ghost use Rattle.model.specs.Reading.{accepted};
@@ -10,6 +10,8 @@ ghost use Rattle.instance.specs.Decoded.{shownBy};
 ghost use Rattle.instance.specs.Loaded.{Loaded};
 ghost use Rattle.desk_files.specs.Held.{rosterBytes};
 ghost use Rattle.desk_stored.specs.Storing.{Unchanged, LessOf, LessHeld, StoredAs, ClosedFor, Taken};
+ghost use Rattle.model_changes.specs.Changes.{joinOn, leaveOn};
+ghost use Rattle.desk_stored.specs.Changing.{ChangedTo};
 use desk_files::Files;
 use instance::Instance;
 use limits::PLAN_SIZE;
@@ -23,7 +25,7 @@ pub struct Change {
     pub files: Files,
 }
 
-pub fn unchanged(files: Files, number: u8) -> Change
+pub(crate) fn unchanged(files: Files, number: u8) -> Change
     ensures { λ r. ⌜ Unchanged number files r ⌝ }
 {
     Change {
@@ -96,7 +98,7 @@ pub(crate) fn closed(files: Files, next: Files) -> Files
 }
 
 // the answer of a change of the roster held
-pub fn taken(files: Files, c: Changed, number: u8) -> Change
+pub(crate) fn taken(files: Files, c: Changed, number: u8) -> Change
     requires { ⌜ ((R : Roster) × (readRoster (rosterBytes files) ≡ accepted R)) ⌝ }
     ensures { λ r. ⌜ Taken files number c r ⌝ }
 {
@@ -111,4 +113,32 @@ pub fn taken(files: Files, c: Changed, number: u8) -> Change
         refusal: 0,
         files: d,
     }
+}
+
+// a surveyor joins; `short`: a buffer lent to the call is below its size
+pub fn joined(files: Files, short: bool, quota: u8, list: &[u8]) -> Change
+    ensures { λ r. ⌜ ChangedTo files short (λ R. joinOn R quota (now (list .entry))) 0 r ⌝ }
+{
+    let array = files.roster;
+    let file = desk_files::front(&array, files.roster_len);
+    let n = desk_loaded::roster_refusal(file, short);
+    if 0 < n {
+        return unchanged(files, n);
+    }
+    let c = roster_join::join(file, quota, list);
+    taken(files, c, 0)
+}
+
+// a surveyor leaves; `short`: a buffer lent to the call is below its size
+pub fn departed(files: Files, short: bool, number: u8) -> Change
+    ensures { λ r. ⌜ ChangedTo files short (λ R. leaveOn R number) number r ⌝ }
+{
+    let array = files.roster;
+    let file = desk_files::front(&array, files.roster_len);
+    let refusal = desk_loaded::roster_refusal(file, short);
+    if 0 < refusal {
+        return unchanged(files, refusal);
+    }
+    let c = roster_leave::leave(file, number);
+    taken(files, c, number)
 }

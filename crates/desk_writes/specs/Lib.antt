@@ -1,2 +1,3 @@
-pub mod Writing
 pub mod Seasons
+pub mod Sheets
+pub mod Writing

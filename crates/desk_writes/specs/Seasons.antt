@@ -31,10 +31,11 @@ use Rattle.answers.specs.WrittenCases.{writtenShown, refused-no-bytes, converte
 use Rattle.instance.specs.Decoded.{shownBy}
 use Rattle.plan_turned.specs.Turning.{planBy, TurnedFor}
 use Rattle.desk_loaded.specs.declared.OnDesk.{OnDesk}
-use Rattle.desk_loaded.specs.Held.{heldPlan, unneeded}
+use Rattle.model_desk.specs.HeldFiles.{heldPlan, beside}
+use Rattle.desk_loaded.specs.Held.{unneeded}
 use Rattle.desk_loaded.specs.OnDesk.{LoadedFrom, its-roster}
 use Rattle.desk_files.specs.declared.Files.{Files}
-use Rattle.desk_files.specs.Held.{rosterBytes, planBytes, proposalBytes, beside, heldOf, beside-number, of-roster}
+use Rattle.desk_files.specs.Held.{rosterBytes, planBytes, proposalBytes, heldOf, beside-number, of-roster}
 use Rattle.desk_files.specs.Replies.{answered, lentThen, Replied}
 use Rattle.desk_files.specs.State.{states, by-state, pass-answer, pass-lent, roster-held, passes, state-is}
 

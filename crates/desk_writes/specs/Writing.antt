@@ -17,11 +17,12 @@ use Rattle.model.specs.PlanFile.{readPlan}
 use Rattle.model_desk.specs.Desk.{writeRosterTo, writePlanTo, writeProposalTo, refused, refusal, said, wrote, onto, stateRefusal, answerOn, lentOn}
 use Rattle.theory_finder.specs.Choices.{chosen}
 use Rattle.desk_loaded.specs.declared.OnDesk.{OnDesk}
-use Rattle.desk_loaded.specs.Held.{heldPlan, held, stateNumber}
+use Rattle.model_desk.specs.HeldFiles.{heldPlan, held, heldProposal, beside}
+use Rattle.desk_loaded.specs.Held.{stateNumber}
 use Rattle.desk_loaded.specs.OnDesk.{LoadedFrom}
 use Rattle.desk_loaded.specs.RosterBytes.{Judged}
 use Rattle.desk_files.specs.declared.Files.{Files}
-use Rattle.desk_files.specs.Held.{rosterBytes, planBytes, proposalBytes, heldProposal, beside, heldOf, beside-number, of-roster, of-plan}
+use Rattle.desk_files.specs.Held.{rosterBytes, planBytes, proposalBytes, heldOf, beside-number, of-roster, of-plan}
 use Rattle.desk_files.specs.Replies.{Replied}
 use Rattle.desk_files.specs.State.{state-is, roster-held, passes, other, its-plan-held, refuses-by, no-number, pass-answer, pass-lent, desk-alike}
 use Rattle.desk_files.specs.Open.{openNumber, Opened}

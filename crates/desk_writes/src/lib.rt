@@ -1,11 +1,13 @@
-// Files from the desk to a buffer: the roster held, the plan held, the open proposal, and a plan of an old season in the layout of today or back
-// (request W-205).
+// Bytes from the desk to a buffer, and how many: the roster held, the plan held, the open proposal, a plan of an old season in the layout of today or
+// back (request W-205), and a day for each entry of the plan held (W-209).
 ghost use Rattle.model_desk.specs.Desk.{writeRosterTo, writePlanTo, writeProposalTo};
 ghost use Rattle.answers.specs.WrittenCases.{writtenShown};
 ghost use Rattle.desk_files.specs.Replies.{Replied};
 ghost use Rattle.desk_writes.specs.Seasons.{TurnsBy};
+ghost use Rattle.desk_writes.specs.Sheets.{Spreads};
 use answers::Written;
 use desk_files::Files;
+use limits::DAY_SIZE;
 use limits::PLAN_SIZE;
 use limits::ROSTER_SIZE;
 
@@ -63,4 +65,22 @@ pub fn turned(files: Files, file: &[u8], shifts: bool, out: &mut [u8]) -> Writte
     let read = plan_reader::read_against(l.g, file, shifts);
     let a = read.answer;
     plan_turned::turn(a, file, shifts, out)
+}
+
+// The days of the held plan's entries to the front of the buffer, and what holds of them is promised.
+pub fn spread(files: Files, out: &mut [u8]) -> Written
+    ensures { λ r. ⌜ Spreads files (now (out .entry)) r (now (out .exit)) files ⌝ }
+{
+    let l = desk_files::loaded(files, true, out.len() < DAY_SIZE);
+    let n = l.refusal;
+    if 0 < n {
+        return Written::Refused(n, answers::group_of(n));
+    }
+    let g = l.g;
+    let sv = g.sv;
+    let st = g.st;
+    let edges = l.edges;
+    let k = l.n;
+    plan_days::spread(k, &edges, &sv, &st, out);
+    Written::Wrote(k)
 }

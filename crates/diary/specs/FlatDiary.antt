@@ -46,6 +46,7 @@ unfoldable pub laid : ℕ → List Record → List ℕ → List ℕ
 laid n [] d = d
 laid n (r ∷ rs) d = laid (n + 1) rs (put d (n * recordWidth) r)
 
+-- a record written at its place leaves the buffer as long as it was
 pub put-length : (d d′ : List ℕ) (b : ℕ) (r : Record) → d′ ≡ put d b r → length d′ ≡ length d
 put-length d d′ b r e = ap length e ∙ simp length-set
 

@@ -10,6 +10,7 @@ use Rattle.diary.specs.FlatDiary.{recordWidth}
 abbrev pub recordIn : Step → Record
 recordIn s = record { fate = s .fate; surveyor = s .surveyor; stand = s .stand; shift = s .shift; rule = s .rule }
 
+-- the model's records that a slice of steps shows
 abbrev pub recordsIn : List Step → List Record
 recordsIn = map recordIn
 
@@ -23,6 +24,7 @@ stepAt f i = record {
   rule = getD f (i * recordWidth + 4) 0;
 }
 
+-- the first n records of a flat diary, as steps
 unfoldable pub stepsIn : ℕ → List ℕ → List Step
 stepsIn zero f = []
 stepsIn (suc n) f = stepAt f 0 ∷ stepsIn n (drop recordWidth f)

@@ -16,12 +16,11 @@ use Rattle.model.specs.Refusal.{groupOf}
 use Rattle.model.specs.Edges.{instanceOf}
 use Rattle.model.specs.Plans.{Plan, strongPlans, strongCount}
 use Rattle.model.specs.PlanFile.{planBytes}
-use Rattle.model.specs.Finder.{finderOf, plan}
+use Rattle.model.specs.Finder.{finderOf, plan, handsBack}
 use Rattle.model_desk.specs.Desk.{said, wrote}
 use Rattle.model_desk.specs.History.{planPairs}
 use Rattle.model_desk.specs.SeasonCalls.{fileAnswer, fileLent}
 use Rattle.model_files.specs.Districts.{sideBySide, secondTo, firstTo, joinOf, fileOf, joinedFile, pairsBeside, pairsBytes}
-use Rattle.theory_finder.specs.FoundPlan.{handsBack}
 use Rattle.theory_renamed.specs.BothStrong.{allBeside}
 use Rattle.theory_renamed.specs.JoinedFiles.{join-parts, joined-accepted}
 use Rattle.theory_renamed.specs.JoinedPlans.{strong-joined, count-joined, pairs-joined, bytes-joined, finder-joined, finder-both}
@@ -35,7 +34,7 @@ use Rattle.answers.specs.WrittenCases.{writtenShown}
 use Rattle.roster_parts.specs.declared.Changed.{Changed}
 use Rattle.roster_parts.specs.Gives.{Gives}
 use Rattle.roster_districts.specs.Joining.{sumsTo}
-use Rattle.file_calls.specs.Settling.{Settles, settles-refused, settles-file, settles-wrote, Answers, wrote-of}
+use Rattle.answers.specs.Settling.{Settles, settles-refused, settles-file, settles-wrote, Answers, wrote-of}
 
 -- "The joined roster has a strongly popular plan exactly when both have one, and it is the two side by side."
 pub record Together (first second bytes : List ℕ) : Type 0 where
@@ -59,6 +58,7 @@ pub record Together (first second bytes : List ℕ) : Type 0 where
   pub exactly : (ρ ρ₁ ρ₂ : Plan → Plan)
       → handsBack (finderOf (instanceOf (sideBySide r q)) ρ) ≡ handsBack (finderOf (instanceOf r) ρ₁) && handsBack (finderOf (instanceOf q) ρ₂)
 
+-- what the call promises: its answer, every byte of the buffer, and what holds of two rosters that are joined
 pub record Joins (first second o : List ℕ) (r : Written) (o′ : List ℕ) : Type 0 where
   -- 15, or a refusal of the first file, of the second, of the sums, each with its group, or the number of bytes written
   pub answer : writtenShown r ≡ fileAnswer (joinedFile first second) o

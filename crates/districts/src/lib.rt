@@ -4,7 +4,7 @@ ghost use Prim.Native.Nat.{_≤_};
 ghost use lib.ListN.{length};
 ghost use Rattle.model.specs.Limits.{rosterSize};
 ghost use Rattle.model_files.specs.Districts.{joinedFile};
-ghost use Rattle.file_calls.specs.Settling.{Settles};
+ghost use Rattle.answers.specs.Settling.{Settles};
 ghost use Rattle.roster_districts.specs.Joining.{Accepted};
 ghost use Rattle.districts.specs.Joins.{Joins};
 use answers::FileAnswer;

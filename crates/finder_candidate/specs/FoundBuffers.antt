@@ -21,16 +21,19 @@ use Rattle.answers.specs.declared.NoneKind.the-variants as kind
 
 -- ---- the buffers after a find, one by one
 module _ (G : Instance) where
+  -- the buffer of the left pairs: where pairs remain, they are written; else it is as it was
   abbrev pub leftAfter : Found → List ℕ → List ℕ
   leftAfter (F.plan M) l = l
   leftAfter (F.left es) l = onto (pairList G es) l
   leftAfter (F.rivalled M N w) l = l
 
+  -- the plan's buffer: the plan, or the candidate that has a rival; where pairs remain, it is as it was
   abbrev pub planAfter : Found → List ℕ → List ℕ
   planAfter (F.plan M) p = onto (planBytes G M) p
   planAfter (F.left es) p = p
   planAfter (F.rivalled M N w) p = onto (planBytes G M) p
 
+  -- the rival's buffer: where the candidate has a rival, that is written; else it is as it was
   abbrev pub rivalAfter : Found → List ℕ → List ℕ
   rivalAfter (F.plan M) v = v
   rivalAfter (F.left es) v = v
@@ -49,6 +52,7 @@ candidate G M P.strong = F.plan M
 candidate G M P.popular = F.rivalled M (rivalOf G M) (voteOf G M (rivalOf G M))
 candidate G M P.beaten = F.rivalled M (rivalOf G M) (voteOf G M (rivalOf G M))
 
+-- the answer is the one for what is found, and the three buffers are as after it
 pub record Wrote (G : Instance) (x : Found) (steps : ℕ) (l p v : List ℕ) (r : code.Found) (l′ p′ v′ : List ℕ) : Type 0 where
   pub answer : r ≡ answerFor steps x
   pub left : l′ ≡ leftAfter G x l

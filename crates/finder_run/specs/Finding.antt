@@ -29,9 +29,10 @@ use Rattle.reduction_state.specs.declared.Trace.{Trace}
 use Rattle.reduction_state.specs.Trace.{Traced}
 use Rattle.reduction_state.specs.Outcome.{Reduced, ReducedFrom}
 use Rattle.finder_candidate.specs.FoundBuffers.{candidate, Wrote}
-use Rattle.finder_ending.specs.EndReached.{atEnd, Ends}
+use Rattle.finder_run.specs.EndReached.{atEnd, Ends}
 use Rattle.finder_run.specs.declared.Outcome.{Outcome}
 
+-- the answer and the three buffers are those of the model's finder on G, and the trace is that of the reduction's steps
 pub record Finds (G : Instance) (l p v : List ℕ) (o : Outcome) (l′ p′ v′ : List ℕ) : Type 0 where
   pub wrote : Wrote G (finderOf G (rivalOf G)) (length (stepsOf G)) l p v (o .answer) l′ p′ v′
   pub traced : Traced (stepsOf G) (o .trace)

@@ -1,1 +1,2 @@
+pub mod EndReached
 pub mod Finding

@@ -15,6 +15,7 @@ use Rattle.instance.specs.declared.Instance.{Instance}
 abbrev pub shownBy : Instance → model.Instance
 shownBy g = shown (g .m) (g .ns) (g .nt) (g .sv) (g .st) (g .«rank_s») (g .«rank_t») (g .sh) (g .tied) (g .«quota_s») (g .«quota_t»)
 
+-- arrays within the limits that show the roster's instance, where the file is read to a roster
 pub record Decoded (file : List ℕ) (g : Instance) : Type 0 where
   pub edges : g .m ≤ entryLimit
   pub surveyors : g .ns ≤ nodeLimit

@@ -21,13 +21,13 @@ pub struct Instance {
     pub m: usize,
     pub ns: usize,
     pub nt: usize,
-    pub sv: [u8; 1024],
-    pub st: [u8; 1024],
+    pub sv: [u8; ENTRY_LIMIT],
+    pub st: [u8; ENTRY_LIMIT],
     // the shift of each edge
-    pub sh: [u8; 1024],
-    pub rank_s: [u8; 1024],
-    pub rank_t: [u8; 1024],
-    pub tied: [bool; 1024],
+    pub sh: [u8; ENTRY_LIMIT],
+    pub rank_s: [u8; ENTRY_LIMIT],
+    pub rank_t: [u8; ENTRY_LIMIT],
+    pub tied: [bool; ENTRY_LIMIT],
     pub quota_s: [u8; 32],
     pub quota_t: [u8; 32],
 }
@@ -116,12 +116,12 @@ pub fn filled(
     requires { ⌜ (m ≤ entryLimit) × Low m (now cell) tableSize ⌝ }
     ensures { λ r. ⌜ Filled ns nt m (now (cell .entry)) (now (listed .entry)) (now (strict .entry)) (now (next .entry)) qs qt r ⌝ }
 {
-    let mut sv = [0u8; 1024];
-    let mut st = [0u8; 1024];
-    let mut sh = [0u8; 1024];
-    let mut rank_s = [0u8; 1024];
-    let mut rank_t = [0u8; 1024];
-    let mut tied = [false; 1024];
+    let mut sv = [0u8; ENTRY_LIMIT];
+    let mut st = [0u8; ENTRY_LIMIT];
+    let mut sh = [0u8; ENTRY_LIMIT];
+    let mut rank_s = [0u8; ENTRY_LIMIT];
+    let mut rank_t = [0u8; ENTRY_LIMIT];
+    let mut tied = [false; ENTRY_LIMIT];
     let mut e = 0;
     while e < m {
         let c = cell[e] as usize;

@@ -32,6 +32,7 @@ abbrev pub daysUsed : List ℕ → ℕ
 daysUsed [] = 0
 daysUsed (d ∷ ds) = cond (elem d ds) (daysUsed ds) (suc (daysUsed ds))
 
+-- the greatest of some numbers, 0 of none
 abbrev pub greatest : List ℕ → ℕ
 greatest [] = 0
 greatest (x ∷ xs) = max x (greatest xs)

@@ -11,10 +11,12 @@ abbrev ended : Bool → ℕ → L.List ℕ → L.List ℕ
 ended true n ns = L._∷_ n ns
 ended false n ns = ns
 
+-- the numbers in the rest of a text; if one has begun, n is what its digits make so far
 unfoldable pub numbersFrom : (begun : Bool) → ℕ → String → L.List ℕ
 numbersFrom b n [] = ended b n L.[]
 numbersFrom b n (c ∷ s) = cond (eqb (code c) 32) (ended b n (numbersFrom false 0 s)) (numbersFrom true (10 * n + (code c - 48)) s)
 
+-- the bytes that a text shows
 abbrev pub bytes : String → L.List ℕ
 bytes s = numbersFrom false 0 s
 

@@ -22,10 +22,12 @@ abbrev pub putIn : ℕ × ℕ → List (ℕ × ℕ) → List (ℕ × ℕ)
 putIn c [] = c ∷ []
 putIn c (d ∷ ds) = cond (sooner d c) (d ∷ putIn c ds) (c ∷ d ∷ ds)
 
+-- a list of rank pairs, put in ascending order
 abbrev pub inOrder : List (ℕ × ℕ) → List (ℕ × ℕ)
 inOrder [] = []
 inOrder (c ∷ cs) = putIn c (inOrder cs)
 
+-- a pairing's rank pairs, ascending
 abbrev pub rankPairs : (ℕ → ℕ) → Pairing → List (ℕ × ℕ)
 rankPairs rank r = inOrder (map (rankPair rank) r)
 
@@ -35,6 +37,7 @@ smaller [] ds = false
 smaller (c ∷ cs) [] = false
 smaller (c ∷ cs) (d ∷ ds) = sooner c d || (not (sooner d c) && smaller cs ds)
 
+-- the smallest of a list of rank pairs and some others
 abbrev pub smallest : List (ℕ × ℕ) → List (List (ℕ × ℕ)) → List (ℕ × ℕ)
 smallest l [] = l
 smallest l (k ∷ ks) = smallest (cond (smaller k l) k l) ks

@@ -6,6 +6,7 @@ use mathlib.Core.Bool.{Bool, false, _&&_}
 use lib.Dec.{eqb}
 use Rattle.lists.specs.Sum.{count}
 
+-- edges, numbered, with their ends, shift and ranks; the surveyors and the stands with their quotas
 pub record Instance : Type 0 where
   pub m : ℕ  -- how many edges, surveyors, stands
   pub ns : ℕ
@@ -32,6 +33,7 @@ pub record Side : Type 0 where
 abbrev pub surveyors : Instance → Side
 surveyors G = record { m = G .m; n = G .ns; end = G .sv; rank = G .rankS; tie = λ e. false; quota = G .quotaS }
 
+-- the stands' side, with its ties
 abbrev pub stands : Instance → Side
 stands G = record { m = G .m; n = G .nt; end = G .st; rank = G .rankT; tie = G .tied; quota = G .quotaT }
 

@@ -10,6 +10,7 @@ nodeLimit = 32
 abbrev pub quotaLimit : ℕ
 quotaLimit = 8
 
+-- "The quotas of one side sum to at most 64."
 abbrev pub quotaSumLimit : ℕ
 quotaSumLimit = 64
 
@@ -33,6 +34,7 @@ planLimit = 64
 abbrev pub entryWidth : ℕ
 entryWidth = 2
 
+-- the bytes of a pair in a plan file: surveyor, stand, shift
 abbrev pub pairWidth : ℕ
 pairWidth = 3
 
@@ -44,9 +46,11 @@ emptyRank = 33
 abbrev pub planSize : ℕ
 planSize = 193
 
+-- the bytes of the longest roster, which a buffer for a roster has to hold
 abbrev pub rosterSize : ℕ
 rosterSize = 4262
 
+-- how many records a lent diary has to hold
 abbrev pub diarySize : ℕ
 diarySize = 1024
 
@@ -62,6 +66,7 @@ storedSize = 4295
 abbrev pub lastDay : ℕ
 lastDay = 9
 
+-- the bytes of a buffer for a plan's days: one for each of up to 64 entries
 abbrev pub daySize : ℕ
 daySize = 64
 
@@ -85,5 +90,6 @@ inputSize = 4263
 abbrev pub oldRosterSize : ℕ
 oldRosterSize = 2214
 
+-- the bytes of the longest plan without shifts: a count byte and 64 pairs of two
 abbrev pub oldPlanSize : ℕ
 oldPlanSize = 129

@@ -23,9 +23,11 @@ pub record Named : Type 0 where
   pub stand : ℕ
   pub shift : ℕ
 
+-- the numbers by which files name an edge: its surveyor and its stand counted from 1, and its shift
 abbrev pub nameOf : Instance → ℕ → Named
 nameOf G e = record { surveyor = suc (G .sv e); stand = suc (G .st e); shift = G .sh e }
 
+-- the same surveyor, stand and shift
 abbrev pub sameName : Named → Named → Bool
 sameName p q = eqb (p .surveyor) (q .surveyor) && (eqb (p .stand) (q .stand) && eqb (p .shift) (q .shift))
 
@@ -34,12 +36,14 @@ pub record PairLayout : Type 0 where
   pub field : List ℕ → Reading (Named × List ℕ)
   pub bytes : Named → List ℕ
 
+-- a pair's field in a file with shifts: three bytes, else refusal 1
 abbrev pub threeBytes : List ℕ → Reading (Named × List ℕ)
 threeBytes [] = refused 1
 threeBytes (x ∷ []) = refused 1
 threeBytes (x ∷ y ∷ []) = refused 1
 threeBytes (x ∷ y ∷ z ∷ bs) = accepted (record { surveyor = x; stand = y; shift = z }, bs)
 
+-- a pair in a file with shifts: surveyor, stand, shift
 abbrev pub shiftedPair : PairLayout
 shiftedPair = record { field = threeBytes; bytes = λ p. p .surveyor ∷ p .stand ∷ p .shift ∷ [] }
 
@@ -54,6 +58,7 @@ plainPair = record {
 abbrev pub edgesIn : ℕ → (ℕ → Bool) → List ℕ
 edgesIn m p = keep p (range 0 m)
 
+-- the plan of those of m edges that pass
 abbrev pub planOf : ℕ → (ℕ → Bool) → Plan
 planOf m p = map p (range 0 m)
 
@@ -61,15 +66,19 @@ planOf m p = map p (range 0 m)
 abbrev pub pairListBy : PairLayout → Instance → List ℕ → List ℕ
 pairListBy L G es = gather (λ e. L .bytes (nameOf G e)) es
 
+-- a plan's file in either layout: how many pairs, then the pairs ascending
 unfoldable pub planBytesBy : PairLayout → Instance → Plan → List ℕ
 planBytesBy L G M = length (edgesIn (G .m) (on M)) ∷ pairListBy L G (edgesIn (G .m) (on M))
 
+-- an edge's three bytes in a plan file
 abbrev pub pairBytes : Instance → ℕ → List ℕ
 pairBytes G e = shiftedPair .bytes (nameOf G e)
 
+-- the bytes of some edges, three each, without a count
 abbrev pub pairList : Instance → List ℕ → List ℕ
 pairList G es = pairListBy shiftedPair G es
 
+-- a plan's file, with shifts
 abbrev pub planBytes : Instance → Plan → List ℕ
 planBytes G M = planBytesBy shiftedPair G M
 
@@ -92,6 +101,7 @@ abbrev pub pairCheck : Instance → Pairs → Named → ℕ
 pairCheck G s p = cond (leb (G .m) (edgeOfPair G p)) 10 (cond (ltb (edgeOfPair G p) (s .from)) 11
     (cond (full (surveyors G) (s .seen) (edgeOfPair G p) || full (stands G) (s .seen) (edgeOfPair G p)) 12 0))
 
+-- one pair more is read: its edge is seen, and the next must come after it
 abbrev pub withPair : Instance → Pairs → Named → Pairs
 withPair G s p = record { seen = s .seen ++ edgeOfPair G p ∷ []; from = suc (edgeOfPair G p) }
 
@@ -99,11 +109,14 @@ withPair G s p = record { seen = s .seen ++ edgeOfPair G p ∷ []; from = suc (e
 abbrev pub readPairsBy : PairLayout → Instance → ℕ → List ℕ → Reading (List Named × List ℕ)
 readPairsBy L G n bs = readEach (L .field) (pairCheck G) (withPair G) n (record { seen = []; from = 0 }) bs
 
+-- the plan of the edges that some pairs name
 abbrev pub planOfPairs : Instance → List Named → Plan
 planOfPairs G ps = planOf (G .m) (λ e. elem e (map (edgeOfPair G) ps))
 
+-- a plan file of either layout, read against an instance: count, pairs, nothing after them
 unfoldable pub readPlanBy : PairLayout → Instance → List ℕ → Reading Plan
 readPlanBy L G bs = whole (readCount planLimit bs then readPairsBy L G then (λ ps rest. accepted (planOfPairs G ps, rest)))
 
+-- a plan file with shifts, read against an instance
 abbrev pub readPlan : Instance → List ℕ → Reading Plan
 readPlan G bs = readPlanBy shiftedPair G bs

@@ -45,6 +45,7 @@ fateWord zero = []
 fateWord (suc zero) = text "fix"
 fateWord (suc (suc n)) = text "strike"
 
+-- a diary line: fate, surveyor, stand, shift, rule
 abbrev pub diaryLine : Record → List ℕ
 diaryLine x = line (fateWord (x .fate) ∷ number (x .surveyor) ∷ number (x .stand) ∷ number (x .shift) ∷ number (x .rule) ∷ [])
 
@@ -52,20 +53,25 @@ diaryLine x = line (fateWord (x .fate) ∷ number (x .surveyor) ∷ number (x .s
 abbrev pub pairLine : Instance → ℕ → List ℕ
 pairLine G e = line (number (suc (G .sv e)) ∷ number (suc (G .st e)) ∷ number (G .sh e) ∷ [])
 
+-- a pair line for each of some edges
 abbrev pub pairLines : Instance → List ℕ → List ℕ
 pairLines G es = gather (pairLine G) es
 
+-- a line of a word and K, and the K pair lines
 abbrev pub counted : Instance → List ℕ → List ℕ → List ℕ
 counted G word es = line (word ∷ number (length es) ∷ []) ++ pairLines G es
 
+-- a line of a word and the number of a plan's pairs, and their pair lines
 abbrev pub planLines : Instance → List ℕ → Plan → List ℕ
 planLines G word M = counted G word (edgesIn (G .m) (on M))
 
+-- what comes after the diary lines: the plan; the pairs left; or the vote, the candidate and its rival
 abbrev pub ending : Instance → Found → List ℕ
 ending G (finder.plan M) = planLines G (text "plan") M
 ending G (left es) = counted G (text "none left") es
 ending G (rivalled F N v) = line (text "none rivalled" ∷ signed v ∷ []) ++ (planLines G (text "candidate") F ++ planLines G (text "rival") N)
 
+-- a group's word in the line of a refusal
 abbrev pub groupWord : Group → List ℕ
 groupWord form = text "form"
 groupWord content = text "content"

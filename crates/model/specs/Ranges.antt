@@ -31,9 +31,11 @@ rangeCheck w = cond (eqb (w .0) 0 || (ltb (w .1) (w .0) || ltb rankLimit (w .1))
 abbrev pub entryCount : Roster → ℕ
 entryCount r = totalS (r .listsS) + totalT (r .listsT)
 
+-- the range of two bytes, low and high
 abbrev pub rangeOf : ℕ × ℕ → Range
 rangeOf w = record { low = w .0; high = w .1 }
 
+-- the ranges of a file's reading, or its refusal
 abbrev pub rangesIn : Reading (List (ℕ × ℕ)) → Reading (List Range)
 rangesIn (accepted ws) = accepted (map rangeOf ws)
 rangesIn (refused n) = refused n
@@ -73,6 +75,7 @@ ranked r ws = let G = instanceOf r in record {
 abbrev pub rangeAt : List Range → ℕ → Range
 rangeAt rs k = getD rs k (record { low = 0; high = 0 })
 
+-- a choice of ranks within the ranges: one for each, from its low to its high
 pub record Choice (rs : List Range) (ws : List ℕ) : Type 0 where
   pub each : length ws ≡ length rs
   pub from : (k : ℕ) → k < length rs → rangeAt rs k .low ≤ getD ws k 0
@@ -88,6 +91,7 @@ pub record Least (r : Roster) (rs : List Range) (M N : Plan) (v : ℤ) (ws : Lis
 abbrev pub rankingRanks : Ranking → List ℕ
 rankingRanks R = range 1 (length (R .strict)) ++ replicate (length (R .tied)) (suc (length (R .strict)))
 
+-- the roster's ranks, entry by entry: the surveyors' lists, then the stands'
 unfoldable pub rosterRanks : Roster → List ℕ
 rosterRanks r = gather (λ xs. range 1 (length xs)) (r .listsS) ++ gather rankingRanks (r .listsT)
 
@@ -101,17 +105,21 @@ pub record Question : Type 0 where
   pub second : Plan
   pub ranges : List Range
 
+-- the question, by the reading of the ranges: with the two plans, or refused
 abbrev pub rangesJudged : Plan → Plan → Reading (List Range) → Reading Question
 rangesJudged M N (accepted rs) = accepted (record { first = M; second = N; ranges = rs })
 rangesJudged M N (refused n) = refused n
 
+-- the question, by the reading of the second plan: the ranges are read where it is accepted
 abbrev pub secondJudged : Roster → Plan → Reading Plan → (ranges : List ℕ) → Reading Question
 secondJudged r M (accepted N) ranges = rangesJudged M N (readRanges r ranges)
 secondJudged r M (refused n) ranges = refused n
 
+-- the question, by the reading of the first plan: the second is read where it is accepted
 abbrev pub firstJudged : Roster → Reading Plan → (second ranges : List ℕ) → Reading Question
 firstJudged r (accepted M) second ranges = secondJudged r M (readPlan (instanceOf r) second) ranges
 firstJudged r (refused n) second ranges = refused n
 
+-- the question in three files: first plan, second plan, ranges; or the refusal met first
 unfoldable pub readQuestion : Roster → (first second ranges : List ℕ) → Reading Question
 readQuestion r a b c = firstJudged r (readPlan (instanceOf r) a) b c

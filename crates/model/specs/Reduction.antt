@@ -10,6 +10,7 @@ use Rattle.lists.specs.Sum.{range}
 use Rattle.lists.specs.First.{first}
 use Rattle.model.specs.Instance.{Instance, Side, surveyors, stands, deg}
 
+-- the state: what remains, what is fixed, and the quotas
 pub record State : Type 0 where
   pub rem : ℕ → Bool  -- the remaining edges
   pub fixed : ℕ → Bool  -- the fixed ones
@@ -37,6 +38,7 @@ module _ (G : Instance) (Z : State) where
   abbrev pub cutS : ℕ → ℕ
   cutS = cut (surveyors G) (Z .rem) (Z .qS)
 
+  -- the cut quotas of the stands
   abbrev pub cutT : ℕ → ℕ
   cutT = cut (stands G) (Z .rem) (Z .qT)
 
@@ -44,12 +46,15 @@ module _ (G : Instance) (Z : State) where
   abbrev pub arrowS : ℕ → Bool
   arrowS = arrow (surveyors G) (Z .rem) cutS
 
+  -- the edges along which an arrow leaves their stand
   abbrev pub arrowT : ℕ → Bool
   arrowT = arrow (stands G) (Z .rem) cutT
 
+  -- how many edges of a set lie at a surveyor
   abbrev pub degS : (ℕ → Bool) → ℕ → ℕ
   degS = deg (surveyors G)
 
+  -- how many edges of a set lie at a stand
   abbrev pub degT : (ℕ → Bool) → ℕ → ℕ
   degT = deg (stands G)
 
@@ -57,6 +62,7 @@ module _ (G : Instance) (Z : State) where
   abbrev pub aheadS : ℕ → ℕ
   aheadS e = ahead (surveyors G) (Z .rem) (G .sv e) (G .rankS e)
 
+  -- how many strict remaining edges are better than e at its stand
   abbrev pub aheadT : ℕ → ℕ
   aheadT e = ahead (stands G) (Z .rem) (G .st e) (G .rankT e)
 
@@ -73,6 +79,7 @@ module _ (G : Instance) (Z : State) where
   unfoldable pub betterS : ℕ → ℕ → Bool
   betterS e d = arrowT d && ltb (G .rankS d) (G .rankS e)
 
+  -- an arrow comes in along d, which is strictly better than e at e's stand
   unfoldable pub betterT : ℕ → ℕ → Bool
   betterT e d = arrowS d && ltb (G .rankT d) (G .rankT e)
 
@@ -111,10 +118,12 @@ module _ (G : Instance) (Z : State) where
   unfoldable pub rule7 : ℕ → Bool
   rule7 e = ltb (degT arrowS (G .st e)) (cutT (G .st e)) && (not (G .tied e) && eqb (aheadT e) 0)
 
+-- what a rule does with a pair
 pub data Fate : Type 0 where
   fix : Fate
   strike : Fate
 
+-- whether a fate is fix
 abbrev pub fixes : Fate → Bool
 fixes fix = true
 fixes strike = false
@@ -134,6 +143,7 @@ pub record Rule : Type 0 where
   pub fate : Fate
   pub names : ℕ → Bool
 
+-- the seven rules in a state, in the order in which they are tried
 unfoldable pub rules : Instance → State → List Rule
 rules G Z = record { number = 1; fate = fix; names = rule1 G Z }
     ∷ record { number = 2; fate = strike; names = rule2 G Z }
@@ -156,6 +166,7 @@ pub record Step : Type 0 where
 unfoldable pub stepBy : Instance → State → Rule → Option Step
 stepBy G Z R = first (λ e. Z .rem e && R .names e) (λ e. record { fate = R .fate; edge = e; rule = R .number }) (range 0 (G .m))
 
+-- the step of the first of some rules that has one
 unfoldable pub firstStep : Instance → State → List Rule → Option Step
 firstStep G Z [] = none
 firstStep G Z (R ∷ Rs) = orElse (stepBy G Z R) (firstStep G Z Rs)
@@ -164,9 +175,11 @@ firstStep G Z (R ∷ Rs) = orElse (stepBy G Z R) (firstStep G Z Rs)
 abbrev pub stepFrom : Instance → State → Option Step
 stepFrom G Z = firstStep G Z (rules G Z)
 
+-- the state after a step
 abbrev pub afterStep : Instance → State → Step → State
 afterStep G Z s = act G Z (s .fate) (s .edge)
 
+-- the state before the first step: every edge remains, none is fixed, the quotas are the stated ones
 unfoldable pub begin : Instance → State
 begin G = record { rem = λ e. ltb e (G .m); fixed = λ e. false; qS = G .quotaS; qT = G .quotaT }
 
@@ -175,6 +188,7 @@ unfoldable pub stepsFrom : Instance → ℕ → State → List Step
 stepsFrom G zero Z = []
 stepsFrom G (suc n) Z = Option·elim (stepFrom G Z) [] (λ s. s ∷ stepsFrom G n (afterStep G Z s))
 
+-- the state after at most n steps
 unfoldable pub stateAfter : Instance → ℕ → State → State
 stateAfter G zero Z = Z
 stateAfter G (suc n) Z = Option·elim (stepFrom G Z) Z (λ s. stateAfter G n (afterStep G Z s))

@@ -3,6 +3,7 @@ use Prim.Native.Nat.{ℕ}
 use mathlib.Core.Bool.{Bool, cond, _&&_, _||_}
 use lib.Dec.{eqb, leb}
 
+-- the four groups of refusals
 pub data Group : Type 0 where
   form : Group
   content : Group

@@ -18,12 +18,14 @@ pub record Ranking : Type 0 where
   pub strict : List Entry
   pub tied : List Entry
 
+-- the quotas and the lists of both sides
 pub record Roster : Type 0 where
   pub quotasS : List ℕ  -- the surveyors' quotas, the stands'
   pub quotasT : List ℕ
   pub listsS : List (List Entry)  -- each surveyor's entries, best first
   pub listsT : List Ranking
 
+-- all entries of a stand's list, the strict ones first
 abbrev pub entries : Ranking → List Entry
 entries R = R .strict ++ R .tied
 
@@ -31,6 +33,7 @@ entries R = R .strict ++ R .tied
 abbrev pub surveyorCount : Roster → ℕ
 surveyorCount r = length (r .quotasS)
 
+-- how many stands there are
 abbrev pub standCount : Roster → ℕ
 standCount r = length (r .quotasT)
 
@@ -38,6 +41,7 @@ standCount r = length (r .quotasT)
 abbrev pub listS : Roster → ℕ → List Entry
 listS r i = getD (r .listsS) i []
 
+-- the list of the stand at a place from 0 on; empty where there is no stand
 abbrev pub listT : Roster → ℕ → Ranking
 listT r j = getD (r .listsT) j (record { strict = []; tied = [] })
 
@@ -49,6 +53,7 @@ elem x xs = any? (eqb x) xs
 abbrev pub same : Entry → Entry → Bool
 same x y = eqb (x .number) (y .number) && eqb (x .shift) (y .shift)
 
+-- is the entry in the list?
 abbrev pub has : Entry → List Entry → Bool
 has x xs = any? (same x) xs
 
@@ -64,6 +69,7 @@ outside count x = eqb x 0 || ltb count x
 abbrev pub totalS : List (List Entry) → ℕ
 totalS ls = sum length ls
 
+-- the entries of all stands' lists, strict and tied
 abbrev pub totalT : List Ranking → ℕ
 totalT ts = sum (λ R. length (entries R)) ts
 
@@ -71,13 +77,16 @@ totalT ts = sum (λ R. length (entries R)) ts
 unfoldable pub listed : Roster → ℕ → ℕ → ℕ → Bool
 listed r i j k = has (record { number = suc j; shift = k }) (listS r i)
 
+-- the pair of surveyor i, stand j and shift k is in the stand's list
 unfoldable pub listedBack : Roster → ℕ → ℕ → ℕ → Bool
 listedBack r i j k = has (record { number = suc i; shift = k }) (entries (listT r j))
 
+-- both pass or both fail
 abbrev pub alike : Bool → Bool → Bool
 alike true b = b
 alike false b = not b
 
+-- the shifts 1 to 3
 abbrev pub shifts : List ℕ
 shifts = range 1 shiftLimit
 
@@ -111,6 +120,7 @@ listFits longest count xs = leb (length xs) longest && (all? (entryFits count) x
 abbrev pub noEntry : Entry
 noEntry = record { number = 0; shift = 0 }
 
+-- a stand's list within the limits: all its entries as one list, and an ascending tie
 abbrev pub rankingFits : (longest count : ℕ) → Ranking → Bool
 rankingFits longest count R = listFits longest count (entries R) && ascending noEntry (R .tied)
 
@@ -123,5 +133,6 @@ fitsBy longest r = (quotasFit (r .quotasS) && quotasFit (r .quotasT))
     && (all? (rankingFits (longest (surveyorCount r)) (surveyorCount r)) (r .listsT) && leb (totalT (r .listsT)) entryLimit))
     && bothOrNeither r))
 
+-- a roster within the limits, with lists of up to 32 entries
 abbrev pub fits : Roster → Bool
 fits r = fitsBy (λ count. listLimit) r

@@ -18,6 +18,7 @@ abbrev pub refusalIn : {A : Type 0} → Reading A → ℕ
 refusalIn (accepted a) = 0
 refusalIn (refused n) = n
 
+-- a file, read as a roster, meets refusal n, 0 for none
 abbrev pub meets : List ℕ → ℕ → Bool
 meets file n = eqb (refusalIn (readRoster file)) n
 

@@ -22,6 +22,7 @@ readWideCount bs = twoBytes bs then (λ w rest. refuseIf (ltb entryLimit (w .0 +
 abbrev pub quotaCheck : ℕ → ℕ → ℕ
 quotaCheck so q = cond (ltb quotaLimit q || ltb quotaSumLimit (so + q)) 3 0
 
+-- n quotas, each checked with the sum of those before it
 abbrev pub readQuotas : ℕ → List ℕ → Reading (List ℕ × List ℕ)
 readQuotas n bs = readEach byte quotaCheck (λ so q. so + q) n 0 bs
 
@@ -65,6 +66,7 @@ pub record Tie : Type 0 where
   pub seen : List Entry
   pub last : Entry
 
+-- the refusal that a tied entry meets, in the order 4, 18, 5, 6; 0 for none
 abbrev pub tiedCheck : (other : ℕ) → Tie → Entry → ℕ
 tiedCheck other s x = entryRefusal other x (cond (has x (s .seen)) 5 (cond (before (s .last) x) 0 6))
 
@@ -85,14 +87,17 @@ oneSided (refused n) = refused n
 abbrev pub wideBytes : ℕ → List ℕ
 wideBytes n = n % 256 ∷ n / 256 ∷ []
 
+-- a count byte, and the bytes that it counts
 abbrev pub listBytes : List ℕ → List ℕ
 listBytes xs = length xs ∷ xs
 
 -- ---- all that depends on the layout
 module _ (L : Layout) where
+  -- n strict entries of a list, each checked with those before it
   abbrev pub readEntries : (other : ℕ) → ℕ → List ℕ → Reading (List Entry × List ℕ)
   readEntries other n bs = readEach (L .field) (entryCheck other) (λ seen x. seen ++ x ∷ []) n [] bs
 
+  -- n tied entries behind the strict ones of a list, each checked with all those before it
   abbrev pub readTied : (other : ℕ) (strict : List Entry) → ℕ → List ℕ → Reading (List Entry × List ℕ)
   readTied other strict n bs = readEach (L .field) (tiedCheck other) (λ s x. record { seen = s .seen ++ x ∷ []; last = x }) n
       (record { seen = strict; last = noEntry }) bs
@@ -114,15 +119,19 @@ module _ (L : Layout) where
       readSection (readRanking (L .longest (length qs)) (length qs)) totalT (length qt) rest then (λ ts rest.
       accepted (record { quotasS = qs; quotasT = qt; listsS = ls; listsT = ts }, rest)))))
 
+  -- a roster file read in full: its sections, nothing after them, and every pair in both lists
   unfoldable pub readRosterBy : List ℕ → Reading Roster
   readRosterBy bs = oneSided (whole (readSections bs))
 
+  -- a surveyor's list: its length byte and its entries
   abbrev pub entriesBytes : List Entry → List ℕ
   entriesBytes xs = length xs ∷ gather (L .bytes) xs
 
+  -- a stand's list: the strict length byte, the tie length byte, and the entries, the strict ones first
   abbrev pub rankingBytes : Ranking → List ℕ
   rankingBytes R = length (R .strict) ∷ length (R .tied) ∷ gather (L .bytes) (entries R)
 
+  -- a roster's file: the quotas of both sides, then the lists of both, each section after its count
   unfoldable pub writeRosterBy : Roster → List ℕ
   writeRosterBy r = listBytes (r .quotasS) ++ (listBytes (r .quotasT)
       ++ ((wideBytes (totalS (r .listsS)) ++ gather entriesBytes (r .listsS))
@@ -132,5 +141,6 @@ module _ (L : Layout) where
 abbrev pub readRoster : List ℕ → Reading Roster
 readRoster bs = readRosterBy shifted bs
 
+-- the file of a roster, with shifts
 abbrev pub writeRoster : Roster → List ℕ
 writeRoster r = writeRosterBy shifted r

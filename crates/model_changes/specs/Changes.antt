@@ -42,6 +42,7 @@ noPlace r q = leb nodeLimit (surveyorCount r) || ltb quotaSumLimit (sum (λ x. x
 abbrev pub tooLong : Roster → Bool
 tooLong r = any? (λ R. ltb listLimit (length (entries R))) (r .listsT)
 
+-- the roster with the joiner, where the list is accepted and no stand's list gets too long; or the refusal
 abbrev pub joinedBy : Roster → ℕ → Reading (List Entry) → Reading Roster
 joinedBy r q (accepted list) = cond (tooLong (joined r q list)) (refused 2) (accepted (joined r q list))
 joinedBy r q (refused n) = refused n
@@ -78,5 +79,6 @@ gone r s = eqb (getD (r .quotasS) (s - 1) 0) 0 && eqb (length (listS r (s - 1)))
 abbrev pub sameEdge : Instance → Instance → ℕ → ℕ
 sameEdge G H e = edgeOfPair G (nameOf H e)
 
+-- a plan of G as one of H: the edges of H whose pair is in it
 unfoldable pub carried : Instance → Instance → Plan → Plan
 carried G H M = planOf (H .m) (λ e. ltb (sameEdge G H e) (G .m) && on M (sameEdge G H e))

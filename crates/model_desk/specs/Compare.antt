@@ -20,6 +20,7 @@ pub data Winner : Type 0 where
   both : Winner
   neither : Winner
 
+-- the two files of a comparison
 pub data File : Type 0 where
   firstFile : File
   secondFile : File
@@ -40,9 +41,11 @@ pub data Comparison : Type 0 where
 abbrev pub winnerOf : (v w : ℤ) → Winner
 winnerOf v w = cond (ltZ w (pos 0)) (cond (ltZ v (pos 0)) both first) (cond (ltZ v (pos 0)) second neither)
 
+-- the comparison of two plans: both votes, and who wins by them
 abbrev pub compared : Instance → Plan → Plan → Comparison
 compared G M N = votes (voteOf G M N) (voteOf G N M) (winnerOf (voteOf G M N) (voteOf G N M))
 
+-- the comparison of a plan with what the second file is read to, or its refusal
 abbrev pub secondJudged : Instance → Plan → Reading Plan → Comparison
 secondJudged G M (accepted N) = compared G M N
 secondJudged G M (reading.refused n) = refused n
@@ -52,6 +55,7 @@ abbrev pub firstJudged : Instance → Reading Plan → List ℕ → Comparison
 firstJudged G (accepted M) file = secondJudged G M (readPlan G file)
 firstJudged G (reading.refused n) file = refused n
 
+-- the comparison of two plan files
 unfoldable pub comparisonOf : Instance → (firstBytes secondBytes : List ℕ) → Comparison
 comparisonOf G a b = firstJudged G (readPlan G a) b
 
@@ -68,6 +72,7 @@ abbrev pub comparisonPart : Comparison → (firstBytes secondBytes : List ℕ) �
 comparisonPart (votes v w x) a b = winnerPart x a b
 comparisonPart (refused n) a b = winnerPart neither a b
 
+-- the part that is handed back with the comparison of two plan files
 unfoldable pub partOf : Instance → (firstBytes secondBytes : List ℕ) → Part
 partOf G a b = comparisonPart (comparisonOf G a b) a b
 
@@ -75,6 +80,7 @@ partOf G a b = comparisonPart (comparisonOf G a b) a b
 abbrev pub Pairings : Type 0
 Pairings = List ℕ × List ℕ
 
+-- the pairings of M's vote against N, and of N's against M
 abbrev pub bothPairings : Instance → (M N : Plan) → Pairings
 bothPairings G M N = (pairingBytes G (on M) (on N), pairingBytes G (on N) (on M))
 
@@ -82,13 +88,16 @@ bothPairings G M N = (pairingBytes G (on M) (on N), pairingBytes G (on N) (on M)
 abbrev pub noPairings : Pairings
 noPairings = ([], [])
 
+-- the pairings of both votes, by the second file's reading; none on a refusal
 abbrev pub secondPaired : Instance → Plan → Reading Plan → Pairings
 secondPaired G M (accepted N) = bothPairings G M N
 secondPaired G M (reading.refused n) = noPairings
 
+-- the pairings of both votes, by the first file's reading: the second is read where it is accepted
 abbrev pub firstPaired : Instance → Reading Plan → List ℕ → Pairings
 firstPaired G (accepted M) file = secondPaired G M (readPlan G file)
 firstPaired G (reading.refused n) file = noPairings
 
+-- the pairings of both votes of two plan files; none on a refusal
 unfoldable pub pairingsOf : Instance → (firstBytes secondBytes : List ℕ) → Pairings
 pairingsOf G a b = firstPaired G (readPlan G a) b

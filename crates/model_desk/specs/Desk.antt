@@ -62,39 +62,51 @@ pub data Call : Topic → Type 0 where
 abbrev pub Lends : Type 0
 Lends = List Record → (left plan rival : List ℕ) → Call finds
 
+-- the call that writes the held roster to a buffer
 abbrev pub writeRosterTo : List ℕ → Call writes
 writeRosterTo b = asks (A.writeRosterTo b)
 
+-- the call that writes the held plan to a buffer
 abbrev pub writePlanTo : List ℕ → Call writes
 writePlanTo b = asks (A.writePlanTo b)
 
+-- the call of the finder on the held roster
 abbrev pub find : Lends
 find d l p v = asks (A.find d l p v)
 
+-- the call for the verdict on the held plan, lent a buffer for the rival and one for the pairings of the vote against it
 abbrev pub judge : (rival pairings : List ℕ) → Call judges
 judge v f = asks (A.judge v f)
 
+-- the call that compares two plan files, lent a buffer for each vote's pairings
 abbrev pub compare : (first second forward back : List ℕ) → Call compares
 compare a b f k = asks (A.compare a b f k)
 
+-- the call for a blocking pair of the held plan
 abbrev pub blocking : Call blocks
 blocking = asks A.blocking
 
+-- the call that turns a plan file of an old season into a new one (W-205)
 abbrev pub planToNew : (file buffer : List ℕ) → Call writes
 planToNew f b = asks (A.planToNew f b)
 
+-- the call that turns a new plan file into one of an old season (W-205)
 abbrev pub planToOld : (file buffer : List ℕ) → Call writes
 planToOld f b = asks (A.planToOld f b)
 
+-- the call that gives each entry of the held plan a day (W-209)
 abbrev pub spread : List ℕ → Call writes
 spread b = asks (A.spread b)
 
+-- the call for the least vote of the first plan file against the second under ranges of ranks (W-211)
 abbrev pub least : (first second ranges buffer : List ℕ) → Call bounds
 least a b c w = asks (A.least a b c w)
 
+-- the call that asks how much is held
 abbrev pub holds : Call keeps
 holds = asks A.holds
 
+-- the call that writes the open proposal to a buffer
 abbrev pub writeProposalTo : List ℕ → Call writes
 writeProposalTo b = asks (A.writeProposalTo b)
 
@@ -119,18 +131,21 @@ need (asks (A.least a b c w)) = aRoster
 need (asks A.holds) = bare
 need (asks (A.writeProposalTo b)) = aProposal
 
+-- whether a call of this level needs a roster loaded
 abbrev pub needsRoster : Level → Bool
 needsRoster bare = false
 needsRoster aRoster = true
 needsRoster aPlan = true
 needsRoster aProposal = true
 
+-- whether a call of this level needs a plan held
 abbrev pub needsPlan : Level → Bool
 needsPlan bare = false
 needsPlan aRoster = false
 needsPlan aPlan = true
 needsPlan aProposal = true
 
+-- whether a call of this level needs an open proposal
 abbrev pub needsProposal : Level → Bool
 needsProposal bare = false
 needsProposal aRoster = false
@@ -143,9 +158,11 @@ needsProposal aProposal = true
 abbrev pub short : List ℕ → ℕ → Bool
 short buffer size = ltb (length buffer) size
 
+-- one of the finder's four buffers is below its size
 abbrev pub finderShort : List Record → (left plan rival : List ℕ) → Bool
 finderShort d l p v = ltb (length d) diarySize || (short l leftSize || (short p planSize || short v planSize))
 
+-- a buffer lent to the call is below its size
 abbrev pub lentShort : {k : Topic} → Call k → Bool
 lentShort (loadRoster file) = false
 lentShort (loadPlan file) = false
@@ -166,18 +183,21 @@ lentShort (asks (A.least a b c w)) = short w choiceSize
 lentShort (asks A.holds) = false
 lentShort (asks (A.writeProposalTo b)) = short b planSize
 
+-- no roster is loaded
 abbrev pub noRoster : Held → Bool
 noRoster nothing = true
 noRoster (roster r) = false
 noRoster (planned r M) = false
 noRoster (proposed r M N) = false
 
+-- no plan is held
 abbrev pub noPlan : Held → Bool
 noPlan nothing = true
 noPlan (roster r) = true
 noPlan (planned r M) = false
 noPlan (proposed r M N) = false
 
+-- no proposal is open
 abbrev pub noProposal : Held → Bool
 noProposal nothing = true
 noProposal (roster r) = true
@@ -199,6 +219,7 @@ abbrev pub loadedRoster : Reading Roster → Answer loads
 loadedRoster (accepted r) = said loaded
 loadedRoster (reading.refused n) = refusal n
 
+-- a plan's load: loaded, or the refusal
 abbrev pub loadedPlan : Reading Plan → Answer loads
 loadedPlan (accepted M) = said loaded
 loadedPlan (reading.refused n) = refusal n
@@ -209,6 +230,7 @@ foundAnswer n (F.plan M) = said (plan n)
 foundAnswer n (F.left es) = said (none n (left (length es)))
 foundAnswer n (F.rivalled M N v) = said (none n (rivalled v))
 
+-- a call's buffers after a find: the diary, and the plan, or the left pairs, or the candidate and its rival
 abbrev pub foundWritten : Lends → Instance → Found → Lends
 foundWritten call G (F.plan M) d l p v = call (onto (diaryOf G) d) l (onto (planBytes G M) p) v
 foundWritten call G (F.left es) d l p v = call (onto (diaryOf G) d) (onto (pairList G es) l) p v
@@ -246,6 +268,7 @@ abbrev pub convertedAnswer : Reading (List ℕ) → Answer writes
 convertedAnswer (accepted bs) = said (wrote (length bs))
 convertedAnswer (reading.refused n) = refusal n
 
+-- the buffer afterwards: the file's bytes at its front; a refusal changes no byte
 abbrev pub convertedOnto : Reading (List ℕ) → List ℕ → List ℕ
 convertedOnto (accepted bs) b = onto bs b
 convertedOnto (reading.refused n) b = b
@@ -272,6 +295,7 @@ onRoster x (roster r) f = f r
 onRoster x (planned r M) f = f r
 onRoster x (proposed r M N) f = f r
 
+-- what is said of the roster and the plan held; x where no plan is held
 abbrev pub onPlan : {A : Type 0} → A → Held → (Roster → Plan → A) → A
 onPlan x nothing f = x
 onPlan x (roster r) f = x
@@ -314,6 +338,7 @@ module _ (ch : Choices) where
   abbrev pub foundOn : Roster → Answer finds
   foundOn r = let G = instanceOf r in foundAnswer (length (stepsOf G)) (finderOf G (ch .rivalOf G))
 
+  -- a call's buffers after the finder on a roster
   abbrev pub foundBytes : Lends → Roster → Lends
   foundBytes call r = let G = instanceOf r in foundWritten call G (finderOf G (ch .rivalOf G))
 
@@ -322,6 +347,7 @@ module _ (ch : Choices) where
   changedAnswer (accepted r) = foundOn r
   changedAnswer (reading.refused n) = refusal n
 
+  -- a call's buffers after a change: as after the finder on the changed roster; a refusal changes no byte
   abbrev pub changedBytes : Lends → Reading Roster → Lends
   changedBytes call (accepted r) = foundBytes call r
   changedBytes call (reading.refused n) = call
@@ -331,6 +357,7 @@ module _ (ch : Choices) where
   leastAnswer r (accepted q) = said (leastVote (voteOf (ranked r (ch .choiceOf r q)) (q .first) (q .second)) (length (ch .choiceOf r q)))
   leastAnswer r (reading.refused n) = refusal n
 
+  -- the buffer afterwards: the choice's rank bytes at its front; a refusal changes no byte
   abbrev pub leastOnto : Roster → Reading Question → List ℕ → List ℕ
   leastOnto r (accepted q) w = onto (ch .choiceOf r q) w
   leastOnto r (reading.refused n) w = w
@@ -356,6 +383,7 @@ module _ (ch : Choices) where
   answerOn h (asks A.holds) = said (holding (levelOf h))
   answerOn h (asks (A.writeProposalTo b)) = onProposal (refusal 20) h (λ r N. said (wrote (length (planBytes (instanceOf r) N))))
 
+  -- what is lent to a call that the state lets pass, as it is afterwards
   abbrev pub lentOn : Held → {k : Topic} → Call k → Call k
   lentOn h (loadRoster file) = loadRoster file
   lentOn h (loadPlan file) = loadPlan file
@@ -381,6 +409,7 @@ module _ (ch : Choices) where
   unfoldable pub answerOf : Held → {k : Topic} → Call k → Answer k
   answerOf h c = cond (ltb 0 (stateRefusal h c)) (refusal (stateRefusal h c)) (answerOn h c)
 
+  -- what is lent to a call, as it is afterwards; where the state refuses the call, as it was
   unfoldable pub lentAfter : Held → {k : Topic} → Call k → Call k
   lentAfter h c = cond (ltb 0 (stateRefusal h c)) c (lentOn h c)
 
@@ -391,6 +420,7 @@ abbrev pub withRoster : Held → Reading Roster → Held
 withRoster h (accepted r) = roster r
 withRoster h (reading.refused n) = h
 
+-- a plan's load: it is held with the roster, and no proposal is open; a refusal leaves the desk alike
 abbrev pub withPlan : Held → Roster → Reading Plan → Held
 withPlan h r (accepted M) = planned r M
 withPlan h r (reading.refused n) = h

@@ -112,6 +112,7 @@ two = planned sample (false ∷ true ∷ [])
 abbrev sampleFile : List ℕ
 sampleFile = bytes "2 1 1 1 1 2 0 1 1 1 1 1 1 2 0 2 0 1 1 2 1"
 
+-- a property of every element of a list
 abbrev pub Each : {A : Type 0} → (A → Type 0) → List A → Type 0
 Each P [] = Unit {0}
 Each P (x ∷ xs) = P x × Each P xs
@@ -171,6 +172,7 @@ pub data Reply : Type 0 where
   replies : Held → {k : Topic} → Call k → Answer k → Reply
   hands : Held → Call compares → Answer compares → Part → Reply
 
+-- the part that a comparison hands back with its answer
 abbrev pub partWith : Call compares → Answer compares → Part
 partWith (D.asks (A.compare a b f k)) x = D.partIn a b x
 

@@ -12,5 +12,6 @@ use Rattle.model_desk.specs.Desk.{Answer, writes, refusal, short, conver
 unfoldable pub fileAnswer : Reading (List ℕ) → (buffer : List ℕ) → Answer writes
 fileAnswer x b = cond (short b rosterSize) (refusal 15) (convertedAnswer x)
 
+-- the buffer after such a call: the file's bytes at its front; a refusal changes no byte
 unfoldable pub fileLent : Reading (List ℕ) → (buffer : List ℕ) → List ℕ
 fileLent x b = cond (short b rosterSize) b (convertedOnto x b)

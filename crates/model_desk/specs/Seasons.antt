@@ -20,6 +20,7 @@ isFirst x = eqb (x .shift) 1
 abbrev pub onlyFirst : Roster → Bool
 onlyFirst r = all? (λ xs. all? isFirst xs) (r .listsS)
 
+-- the new file of a roster that was read, or the refusal
 abbrev pub newRoster : Reading Roster → Reading (List ℕ)
 newRoster (accepted r) = accepted (writeRoster r)
 newRoster (refused n) = refused n
@@ -41,16 +42,20 @@ toOld file = oldRoster (readRoster file)
 abbrev pub onlyFirstPairs : Instance → Plan → Bool
 onlyFirstPairs G M = all? (λ e. eqb (G .sh e) 1) (edgesIn (G .m) (on M))
 
+-- the new file of a plan that was read, or the refusal
 abbrev pub newPlan : Instance → Reading Plan → Reading (List ℕ)
 newPlan G (accepted M) = accepted (planBytes G M)
 newPlan G (refused n) = refused n
 
+-- an old plan file, judged against an instance, as a new one
 unfoldable pub planToNew : Instance → List ℕ → Reading (List ℕ)
 planToNew G file = newPlan G (readPlanBy plainPair G file)
 
+-- the old file of a plan that was read, 19 if a pair of it has another shift than 1; or the refusal
 abbrev pub oldPlan : Instance → Reading Plan → Reading (List ℕ)
 oldPlan G (accepted M) = cond (onlyFirstPairs G M) (accepted (planBytesBy plainPair G M)) (refused 19)
 oldPlan G (refused n) = refused n
 
+-- a new plan file, judged against an instance, as an old one
 unfoldable pub planToOld : Instance → List ℕ → Reading (List ℕ)
 planToOld G file = oldPlan G (readPlan G file)

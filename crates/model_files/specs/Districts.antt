@@ -17,9 +17,11 @@ use Rattle.model.specs.PlanFile.{Named, shiftedPair}
 abbrev pub entryUp : ℕ → Entry → Entry
 entryUp n x = record { number = n + x .number; shift = x .shift }
 
+-- a list's entries, their numbers moved up
 abbrev pub listUp : ℕ → List Entry → List Entry
 listUp n xs = map (entryUp n) xs
 
+-- a stand's list, its numbers moved up
 abbrev pub rankingUp : ℕ → Ranking → Ranking
 rankingUp n R = record { strict = listUp n (R .strict); tied = listUp n (R .tied) }
 
@@ -38,6 +40,7 @@ abbrev pub countsPast : Roster → Roster → Bool
 countsPast r q = ltb nodeLimit (surveyorCount r + surveyorCount q) || (ltb nodeLimit (standCount r + standCount q)
     || (ltb entryLimit (totalS (r .listsS) + totalS (q .listsS)) || ltb entryLimit (totalT (r .listsT) + totalT (q .listsT))))
 
+-- the quotas of two rosters' surveyors, or of their stands, sum past 64
 abbrev pub quotasPast : Roster → Roster → Bool
 quotasPast r q = ltb quotaSumLimit (sum (λ x. x) (r .quotasS) + sum (λ x. x) (q .quotasS))
     || ltb quotaSumLimit (sum (λ x. x) (r .quotasT) + sum (λ x. x) (q .quotasT))
@@ -65,6 +68,7 @@ abbrev pub fileOf : Reading Roster → Reading (List ℕ)
 fileOf (accepted r) = accepted (writeRoster r)
 fileOf (refused n) = refused n
 
+-- the file of the joined roster of two roster files, or the refusal
 unfoldable pub joinedFile : (first second : List ℕ) → Reading (List ℕ)
 joinedFile first second = fileOf (joinOf first second)
 

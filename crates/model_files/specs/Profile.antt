@@ -39,6 +39,7 @@ abbrev pub ofProfile : Reading Roster → Reading Roster
 ofProfile (accepted r) = cond (oneToOne r) (accepted r) (reading.refused 22)
 ofProfile (reading.refused n) = reading.refused n
 
+-- a roster file read, with 22 where the roster is not of the profile
 unfoldable pub readProfile : List ℕ → Reading Roster
 readProfile file = ofProfile (readRoster file)
 
@@ -47,16 +48,20 @@ pub data Answer : Type 0 where
   offers : (strong : Bool) (bytes : ℕ) → Answer
   refused : ℕ → Group → Answer
 
+-- a refusal with the group of its number
 abbrev pub refusal : ℕ → Answer
 refusal n = refused n (groupOf n)
 
+-- the answer for an instance of the profile: whether the plan of the offers is strong, and how many bytes it has
 abbrev pub offersAnswer : Instance → Answer
 offersAnswer G = offers (isStrong (verdictOf G (offersPlan G))) (length (planBytes G (offersPlan G)))
 
+-- the answer for a file's reading: that of the offers, or the refusal
 abbrev pub answerFor : Reading Roster → Answer
 answerFor (accepted r) = offersAnswer (instanceOf r)
 answerFor (reading.refused n) = refusal n
 
+-- the buffer for a file's reading: the plan's bytes at its front; a refusal changes no byte
 abbrev pub writtenFor : Reading Roster → List ℕ → List ℕ
 writtenFor (accepted r) b = onto (planBytes (instanceOf r) (offersPlan (instanceOf r))) b
 writtenFor (reading.refused n) b = b
@@ -65,5 +70,6 @@ writtenFor (reading.refused n) b = b
 unfoldable pub profileAnswer : (file buffer : List ℕ) → Answer
 profileAnswer file b = cond (short b planSize) (refusal 15) (answerFor (readProfile file))
 
+-- the buffer after the call: the plan's bytes at its front; a refusal, 15 too, changes no byte
 unfoldable pub profileLent : (file buffer : List ℕ) → List ℕ
 profileLent file b = cond (short b planSize) b (writtenFor (readProfile file) b)

@@ -33,6 +33,7 @@ unfoldable pub newNumber : (route : List ℕ) → ℕ → ℕ
 newNumber [] t = 1
 newNumber (x ∷ route) t = cond (eqb t x) 1 (suc (newNumber route t))
 
+-- a surveyor's entry with its stand's new number
 abbrev pub entryBy : (route : List ℕ) → Entry → Entry
 entryBy route x = record { number = newNumber route (x .number); shift = x .shift }
 

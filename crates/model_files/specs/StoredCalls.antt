@@ -11,5 +11,6 @@ use Rattle.model_desk.specs.Desk.{Answer, writes, refusal, short, convertedAnsw
 unfoldable pub storedAnswer : Reading (List ℕ) → (buffer : List ℕ) → Answer writes
 storedAnswer x b = cond (short b storedSize) (refusal 15) (convertedAnswer x)
 
+-- the buffer after such a call: the file's bytes at its front; a refusal, 15 too, changes no byte
 unfoldable pub storedLent : Reading (List ℕ) → (buffer : List ℕ) → List ℕ
 storedLent x b = cond (short b storedSize) b (convertedOnto x b)

@@ -165,7 +165,8 @@ pub fn offers(g: Instance) -> [bool; ENTRY_LIMIT]
     let st = g.st;
     let rs = g.rank_s;
     let strict = [false; ENTRY_LIMIT];
-    let cell = reduction_cells::cells(m, &sv, &rs, &strict);
+    let mut cell = [m as u16; CELLS];
+    reduction_cells::cells(m, &sv, &rs, &strict, &mut cell[..]);
     let o = run(g, &cell);
     let kept = o.kept;
     kept_edges(m, &st, &kept)

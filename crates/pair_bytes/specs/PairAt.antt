@@ -23,6 +23,7 @@ pair-wide s t k = refl
 abbrev pub withPair : List ℕ → (at s t k : ℕ) → List ℕ
 withPair d i s t k = set (set (set d i (suc s)) (i + 1) (suc t)) (i + 2) k
 
+-- a buffer with a pair put into it keeps its length
 pub with-length : (d : List ℕ) (i s t k : ℕ) → length (withPair d i s t k) ≡ length d
 with-length d i s t k = simp length-set refl
 
@@ -74,13 +75,16 @@ pair-behind w d i s t k l h = three-behind w d i (suc s) (suc t) k l h
 abbrev pub namedOf : Pair → Named
 namedOf p = record { surveyor = p .surveyor; stand = p .stand; shift = p .shift }
 
+-- a buffer with a pair's bytes at a place: surveyor, stand and, in a file with shifts, the shift
 abbrev pub putBy : Bool → List ℕ → ℕ → Pair → List ℕ
 putBy shifts d i p = cond shifts (set (set (set d i (p .surveyor)) (i + 1) (p .stand)) (i + 2) (p .shift)) (set (set d i (p .surveyor)) (i + 1) (p .stand))
 
+-- in either layout the buffer keeps its length
 pub put-length : (shifts : Bool) (d : List ℕ) (i : ℕ) (p : Pair) → length (putBy shifts d i p) ≡ length d
 put-length true d i p = simp length-set refl
 put-length false d i p = simp length-set refl
 
+-- put behind a front that is written, a pair's bytes go on with the front, and what lies behind them stays
 pub put-behind : (shifts : Bool) (w d : List ℕ) (i : ℕ) (p : Pair) → length w ≡ i → i + widthOf shifts ≤ length d
     → putBy shifts (w ++ drop i d) i p ≡ (w ++ pairLayout shifts .bytes (namedOf p)) ++ drop (i + widthOf shifts) d
 put-behind true w d i p l h = three-behind w d i (p .surveyor) (p .stand) (p .shift) l h
@@ -90,6 +94,7 @@ pub width-least : (shifts : Bool) → 2 ≤ widthOf shifts
 width-least true = omega arith
 width-least false = omega arith
 
+-- a pair has at most three bytes
 pub width-most : (shifts : Bool) → widthOf shifts ≤ pairWidth
 width-most true = omega arith
 width-most false = omega arith
@@ -101,6 +106,7 @@ width-shifts e = ap widthOf e
 abbrev pub namedAt : Bool → List ℕ → ℕ → Named
 namedAt shifts d i = namedOf (pairFrom shifts d i)
 
+-- fewer bytes than a pair has: refusal 1
 pub field-cut : (shifts : Bool) (bs : List ℕ) → length bs < widthOf shifts → pairLayout shifts .field bs ≡ refused 1
 field-cut true [] h = refl
 field-cut true (x ∷ []) h = refl
@@ -110,6 +116,7 @@ field-cut false [] h = refl
 field-cut false (x ∷ []) h = refl
 field-cut false (x ∷ y ∷ bs) h = absurd (omega arith)
 
+-- bytes enough for a pair at the place: that pair is read, and the bytes behind it are left
 pub field-at : (shifts : Bool) (f : List ℕ) (i : ℕ) → i + widthOf shifts ≤ length f
     → pairLayout shifts .field (drop i f) ≡ accepted (namedAt shifts f i, drop (i + widthOf shifts) f)
 field-at shifts f i h =

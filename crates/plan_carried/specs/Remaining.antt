@@ -33,6 +33,7 @@ InFlags G plan M = (e : ℕ) → e < G .m → flag plan e ≡ on M e
 abbrev pub Few : ℕ → List Bool → Type 0
 Few m plan = length (edgesIn m (flag plan)) ≤ planLimit
 
+-- the array's front is the bytes of the plan besides the surveyor's pairs, for any plan that the flags show
 abbrev pub CarriedFor : Instance → List Bool → (number : ℕ) → CarriedPlan → Type 0
 CarriedFor G plan s r = (M : Plan) → InFlags G plan M → (r .len ≤ planSize) × (take (r .len) (r .bytes) ≡ planBytes G (besides G M s))
 

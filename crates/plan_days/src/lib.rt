@@ -8,7 +8,7 @@ ghost use lib.ListN.{length, set, take, drop};
 ghost use lib.Dec.{eqb};
 ghost use Rattle.lists.specs.Search.{low};
 ghost use Rattle.lists.specs.Sum.{count};
-ghost use Rattle.model.specs.Limits.{nodeLimit, daySize, lastDay};
+ghost use Rattle.model.specs.Limits.{nodeLimit, entryLimit, daySize, lastDay};
 ghost use Rattle.arrays.specs.ArrayInstance.{at};
 ghost use Rattle.arrays.specs.Passes.{Low};
 ghost use Rattle.theory_days.specs.Sheets.{spreadBy};
@@ -28,7 +28,7 @@ const PLACES: usize = 512;
 
 // The ends of a plan's n entries on one side, in the plan's order; 0 behind them.
 pub fn ends(n: usize, es: &[u16; PLAN_LIMIT], end: &[u8; ENTRY_LIMIT]) -> [u8; PLAN_LIMIT]
-    requires { ⌜ (n ≤ 64) × (n ≤ length (now es)) × ((k : ℕ) → k < n → at (now es) k < 1024) ⌝ }
+    requires { ⌜ (n ≤ 64) × (n ≤ length (now es)) × ((k : ℕ) → k < n → at (now es) k < entryLimit) ⌝ }
     ensures { λ r. ⌜ Ends n (now (es .entry)) (now (end .entry)) r ⌝ }
 {
     let mut r = [0u8; PLAN_LIMIT];
@@ -188,7 +188,7 @@ pub fn spread(
     st: &[u8; ENTRY_LIMIT],
     out: &mut [u8],
 )
-    requires { ⌜ (n ≤ 64) × (n ≤ length (now es)) × ((k : ℕ) → k < n → at (now es) k < 1024) × (daySize ≤ length (now out))
+    requires { ⌜ (n ≤ 64) × (n ≤ length (now es)) × ((k : ℕ) → k < n → at (now es) k < entryLimit) × (daySize ≤ length (now out))
         × ((k : ℕ) → k < n → (at (now sv) (at (now es) k) < nodeLimit) × (at (now st) (at (now es) k) < nodeLimit))
         × ((v : ℕ) → (count (λ j. eqb (at (now sv) (at (now es) j)) v) n ≤ lastDay) × (count (λ j. eqb (at (now st) (at (now es) j)) v) n ≤ lastDay)) ⌝ }
     ensures { λ _. ⌜ now (out .exit) ≡ spreadBy (at (now (sv .entry))) (at (now (st .entry))) (take n (now (es .entry))) ++ drop n (now (out .entry)) ⌝ }

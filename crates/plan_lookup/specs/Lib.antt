@@ -1,2 +1,3 @@
 pub mod PairEdge
+pub mod PairRefusal
 pub mod PlanEdges

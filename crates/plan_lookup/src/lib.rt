@@ -1,15 +1,49 @@
-// From pairs and flags to edges: the edge that a pair names, and the edges of a plan listed.
+// From pairs and flags to edges: the edge that a pair of a plan file names, the refusal that it meets, 10, 11 or 12, given the places that the pairs before
+// it take, and the edges of a plan listed.
 ghost use mathlib.Core.Path.{_≡_};
 ghost use Prim.Native.Nat.{_≤_};
 ghost use lib.ListN.{length};
 ghost use Rattle.lists.specs.Search.{low};
-ghost use Rattle.model.specs.Limits.{entryLimit, planLimit};
+ghost use Rattle.model.specs.Limits.{entryLimit, planLimit, nodeLimit};
 ghost use Rattle.model.specs.PlanFile.{edgesIn};
-ghost use Rattle.arrays.specs.ArrayInstance.{flag};
+ghost use Rattle.arrays.specs.ArrayInstance.{flag, at};
 ghost use Rattle.plan_lookup.specs.PairEdge.{Differ, Names, Scanned};
+ghost use lib.Dec.{leb};
+ghost use Rattle.arrays.specs.Passes.{Low};
+ghost use Rattle.plan_lookup.specs.PairRefusal.{pairRefusal};
 ghost use Rattle.plan_lookup.specs.PlanEdges as edges;
 use limits::ENTRY_LIMIT;
 use limits::PLAN_LIMIT;
+
+// the refusal of a pair that names edge e, 0 for none; us, ut: the places that the pairs before it take at each node
+pub fn pair_refusal(
+    m: usize,
+    sv: &[u8; ENTRY_LIMIT],
+    st: &[u8; ENTRY_LIMIT],
+    qs: &[u8; 32],
+    qt: &[u8; 32],
+    us: &[u8; 32],
+    ut: &[u8; 32],
+    from: usize,
+    e: usize,
+) -> u8
+    requires { ⌜ (m ≤ entryLimit) × Low m (now sv) nodeLimit × Low m (now st) nodeLimit ⌝ }
+    ensures { λ r. ⌜ r ≡ pairRefusal m e from (leb (at (now (qs .entry)) (at (now (sv .entry)) e)) (at (now (us .entry)) (at (now (sv .entry)) e)))
+        (leb (at (now (qt .entry)) (at (now (st .entry)) e)) (at (now (ut .entry)) (at (now (st .entry)) e))) ⌝ }
+{
+    if m <= e {
+        return 10;
+    }
+    if e < from {
+        return 11;
+    }
+    let i = sv[e] as usize;
+    let j = st[e] as usize;
+    if (qs[i] <= us[i]) | (qt[j] <= ut[j]) {
+        return 12;
+    }
+    0
+}
 
 // the lowest edge from start on, and below end, of surveyor s and stand t in shift k; end if there is none
 pub(crate) fn scan(

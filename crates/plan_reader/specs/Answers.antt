@@ -24,6 +24,7 @@ answerOf m (refused n) = Refused n
 abbrev pub planIn : Bool → Instance → List ℕ → Reading Plan
 planIn shifts G file = readPlanBy (pairLayout shifts) G file
 
+-- what is read of a plan file: the model's answer, and of an accepted plan its edges, as flags and as an ascending list
 pub record ReadAs (shifts : Bool) (G : Instance) (file : List ℕ) (r : PlanRead) : Type 0 where
   pub answer : r .answer ≡ answerOf (G .m) (planIn shifts G file)
   pub chosen : (M : Plan) → planIn shifts G file ≡ accepted M → (e : ℕ) → flag (r .chosen) e ≡ on M e
@@ -64,6 +65,7 @@ module _ {shifts : Bool} {G : Instance} {file : List ℕ} {r : PlanRead} (A : Re
       let c : n ≡ length (edgesIn (G .m) (on M)) = ap countOf (sym q ∙ A .answer ∙ ap (answerOf (G .m)) a) in
       (c, ap (λ k. take k (r .edges)) c ∙ A .edges M a)
 
+  -- refused: the file meets that number
   pub refused-read : {n : ℕ} → r .answer ≡ Refused n → planIn shifts G file ≡ refused n
   refused-read {n} q = go (planIn shifts G file) (sym q ∙ A .answer)
     where

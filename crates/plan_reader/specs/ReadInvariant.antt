@@ -30,7 +30,7 @@ use Rattle.arrays.specs.ArrayInstance.{at, flag, shown}
 use Rattle.plan_reader.specs.declared.PlanAnswer.the-variants.{Accepted, Refused}
 use Rattle.plan_reader.specs.declared.PlanRead.{PlanRead}
 use Rattle.arrays.specs.Passes.{Low, all-blank}
-use Rattle.plan_pair.specs.PairRefusal.{pairRefusal}
+use Rattle.plan_lookup.specs.PairRefusal.{pairRefusal}
 use Rattle.pair_bytes.specs.PairAt.{pairLayout, widthOf, width-most, namedAt, field-cut, field-at}
 use Rattle.plan_reader.specs.Answers.{answerOf, planIn, ReadAs, ReadFor}
 

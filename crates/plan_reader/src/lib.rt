@@ -62,7 +62,7 @@ pub(crate) fn read_pairs(
         }
         let p = pair_bytes::get(file, at, shifts);
         let e = plan_lookup::edge_of(m, sv, st, sh, from, p.surveyor, p.stand, p.shift);
-        let c = plan_pair::pair_refusal(m, sv, st, qs, qt, &us, &ut, from, e);
+        let c = plan_lookup::pair_refusal(m, sv, st, qs, qt, &us, &ut, from, e);
         if c != 0 {
             return PlanRead {
                 answer: PlanAnswer::Refused(c),

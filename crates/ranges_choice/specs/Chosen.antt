@@ -30,6 +30,7 @@ ShowsList xs o = (k : ℕ) → at o k ≡ at xs k
 abbrev pub SideRanks : (m : ℕ) (place rank : ℕ → ℕ) (ps qs choice o : List ℕ) → Type 0
 SideRanks m place rank ps qs choice o = (e : ℕ) → e < m → at o e ≡ cond (elem e qs) (at choice (place e)) (cond (elem e ps) (at choice (place e)) (rank e))
 
+-- at both ends the edges of either list have the ranks chosen for their entries, and every other edge the rank that it had
 pub record Ranked (G : Instance) (ps qs : List ℕ) (r : Choice) : Type 0 where
   pub atS : SideRanks (G .m) (entryS G) (G .rankS) ps qs (r .ranks) (r .«rank_s»)
   pub atT : SideRanks (G .m) (entryT G) (G .rankT) ps qs (r .ranks) (r .«rank_t»)

@@ -48,6 +48,7 @@ abbrev pub firstOn : model.Instance → Reading Plan → (second ranges : List �
 firstOn G (accepted M) second ranges = secondOn G M (readPlan G second) ranges
 firstOn G (refused n) second ranges = refused n
 
+-- the whole question: the first plan file, then the second, then the ranges
 abbrev pub questionOn : model.Instance → (first second ranges : List ℕ) → Reading Question
 questionOn G a b c = firstOn G (readPlan G a) b c
 
@@ -71,14 +72,17 @@ question-is r ok a b c = first (readPlan (instanceOf r) a)
 abbrev pub choiceOn : model.Instance → Question → List ℕ
 choiceOn G q = worstChoice G (on (q .first)) (on (q .second)) (q .ranges)
 
+-- the answer: the vote under the choice that is written, with the number of its bytes, or the refusal with its group
 abbrev pub leastCase : model.Instance → Reading Question → LeastVote
 leastCase G (accepted q) = Vote (vote (rankedBy G (choiceOn G q)) (on (q .first)) (on (q .second))) (length (choiceOn G q))
 leastCase G (refused n) = Refused n (groupCase (groupOf n))
 
+-- the buffer afterwards: the choice at its front, or every byte as it was where the question is refused
 abbrev pub leastBytes : model.Instance → Reading Question → List ℕ → List ℕ
 leastBytes G (accepted q) out = onto (choiceOn G q) out
 leastBytes G (refused n) out = out
 
+-- the answer and the buffer are those of the question as it is read
 pub record Asked (G : model.Instance) (x : Reading Question) (out : List ℕ) (answer : LeastVote) (out′ : List ℕ) : Type 0 where
   pub said : answer ≡ leastCase G x
   pub written : out′ ≡ leastBytes G x out

@@ -23,6 +23,7 @@ ghost use Rattle.ranges_least.specs.Asked.{Asked, rangesRead, secondOn, 
 use answers::LeastVote;
 use instance::Instance;
 use limits::CHOICE_SIZE;
+use limits::ENTRY_LIMIT;
 use plan_reader::PlanAnswer;
 use ranges_choice::Choice;
 
@@ -30,12 +31,12 @@ use ranges_choice::Choice;
 pub fn side_sum(
     m: usize,
     n: usize,
-    end: &[u8; 1024],
-    rank: &[u8; 1024],
-    p: &[bool; 1024],
+    end: &[u8; ENTRY_LIMIT],
+    rank: &[u8; ENTRY_LIMIT],
+    p: &[bool; ENTRY_LIMIT],
     pn: usize,
     pe: &[u16; 64],
-    q: &[bool; 1024],
+    q: &[bool; ENTRY_LIMIT],
     qn: usize,
     qe: &[u16; 64],
 ) -> i16
@@ -52,10 +53,10 @@ pub fn side_sum(
 pub fn choice_vote(
     g: Instance,
     c: Choice,
-    p: &[bool; 1024],
+    p: &[bool; ENTRY_LIMIT],
     pn: usize,
     pe: &[u16; 64],
-    q: &[bool; 1024],
+    q: &[bool; ENTRY_LIMIT],
     qn: usize,
     qe: &[u16; 64],
 ) -> i16
@@ -75,10 +76,10 @@ pub fn choice_vote(
 // Two plans and ranges that meet no refusal, with their low ranks: the vote under the choice, which is written.
 pub fn answered(
     g: Instance,
-    p: &[bool; 1024],
+    p: &[bool; ENTRY_LIMIT],
     pn: usize,
     pe: &[u16; 64],
-    q: &[bool; 1024],
+    q: &[bool; ENTRY_LIMIT],
     qn: usize,
     qe: &[u16; 64],
     ranges: &[u8],
@@ -101,10 +102,10 @@ pub fn answered(
 // The ranges, after both plans were accepted.
 pub fn ranges_judged(
     g: Instance,
-    p: &[bool; 1024],
+    p: &[bool; ENTRY_LIMIT],
     pn: usize,
     pe: &[u16; 64],
-    q: &[bool; 1024],
+    q: &[bool; ENTRY_LIMIT],
     qn: usize,
     qe: &[u16; 64],
     ranges: &[u8],
@@ -127,7 +128,7 @@ pub fn ranges_judged(
 // The second plan, after the first one gave p.
 pub fn second_judged(
     g: Instance,
-    p: &[bool; 1024],
+    p: &[bool; ENTRY_LIMIT],
     pn: usize,
     pe: &[u16; 64],
     second: &[u8],

@@ -20,7 +20,7 @@ use Rattle.theory_instance.specs.Degree.{deg-cong, deg-without, deg-zero, deg-n
 use Rattle.theory_reduction.specs.Arrows.{Ahead, ahead-mono, ahead-is, is-ahead, arrow-strict}
 use Rattle.arrays.specs.ArrayInstance.{at, flag}
 use Rattle.arrays.specs.Passes.{Low}
-use Rattle.edge_links.specs.Firsts.{from}
+use Rattle.arrays.specs.Firsts.{from}
 use Rattle.reduction_cells.specs.Painted.{Painted, AllPainted}
 use Rattle.reduction_cells.specs.Cells.{Celled, place, inCell, edgeIn, passed, barOf, bestOf, worstOf, same-place, cell-holds}
 
@@ -36,6 +36,7 @@ pub record Cells (K : Side) (cell : List ℕ) : Type 0 where
 abbrev pub sideOf : (m n : ℕ) (end rank : List ℕ) (tie : ℕ → Bool) (quota : ℕ → ℕ) → Side
 sideOf m n end rank tie quota = record { m = m; n = n; end = at end; rank = at rank; tie = tie; quota = quota }
 
+-- the cells that the code makes are those of a lawful side
 pub celled-is : (m n : ℕ) (end rank : List ℕ) (tied : List Bool) (tie : ℕ → Bool) (quota : ℕ → ℕ) (cell : List ℕ) → ((e : ℕ) → tie e ≡ flag tied e)
     → Low m end nodeLimit → Celled m end rank tied cell → Ranked (sideOf m n end rank tie quota) → Cells (sideOf m n end rank tie quota) cell
 celled-is m n end rank tied tie quota cell ties fit C law = record {
@@ -150,6 +151,7 @@ module _ (K : Side) (law : Ranked K) (cell : List ℕ) (C : Cells K cell) (p : �
       go zero n = refl
       go (suc k) n = omega (arith, go k (λ r l. n r (omega arith)), bit-no (in? k) (n k (omega arith)))
 
+  -- the code's best edge is the one with none ahead of it
   pub best-is : bestOf (K .m) cell p v ≡ low first (K .m)
   unfolding ahead
   best-is = given (low-is in? emptyRank) (λ (a, b, t). by-cases (decLt (low in? emptyRank) emptyRank)
@@ -196,6 +198,7 @@ module _ (K : Side) (law : Ranked K) (cell : List ℕ) (C : Cells K cell) (p : �
   abbrev from? : ℕ → Bool
   from? k = edgeIn (K .m) p (c (32 - k))
 
+  -- where nothing is tied the code's worst edge is the one with none behind it
   pub worst-is : ((e : ℕ) → T (not (K .tie e))) → worstOf (K .m) cell p v ≡ low last (K .m)
   worst-is all = given (low-is from? emptyRank) (λ (a, b, t). by-cases (decLt (low from? emptyRank) emptyRank)
       (λ h.
@@ -262,6 +265,7 @@ module _ (K : Side) (law : Ranked K) (cell : List ℕ) (C : Cells K cell) (rem f
 
   -- one node painted anew: its own edges have their arrows, if its tied edges have none
   module _ (other : List ℕ) (v q : ℕ) (w : v < nodeLimit) (f₀ : List Bool) (u : ℕ → Bool) (P : Painted (K .m) other cell rem v q emptyRank f₀ f u) where
+    -- its own edges have their arrows, if its tied edges had none
     pub painted-new : (Q : ℕ → ℕ) → Q v ≡ q → (e : ℕ) → e < K .m → K .end e ≡ v → (T (K .tie e) → flag f₀ e ≡ false)
         → flag f e ≡ arrow K (flag rem) Q e
     painted-new Q qi e l i h = by-test (K .tie e)

@@ -2,15 +2,17 @@
 use Prim.Native.Nat.{ℕ, zero, suc, _+_, _*_, _-_, _≤_, _<_}
 use native.Mathlib.Omega.{arith}
 use native.Mathlib.Numerals.{add-one}
-use mathlib.Core.Path.{_≡_, refl, sym, subst}
+use mathlib.Core.Path.{_≡_, refl, sym, ap, _∙_, subst}
 use mathlib.Core.Bool.{Bool, true, false, not, cond, _&&_}
 use mathlib.Core.List.{List}
+use lib.ListN.{length}
 use lib.Dec.{T, eqb, ltb, leb, eqb→eq, ltb→lt}
 use Rattle.lists.specs.Test.{and-l, and-r, bit, bit-one, if-ind}
 use Rattle.lists.specs.Search.{low, low-is}
 use Rattle.model.specs.Limits.{entryLimit, nodeLimit, emptyRank}
 use Rattle.arrays.specs.ArrayInstance.{at, flag}
-use Rattle.edge_links.specs.Firsts.{from, Firsts}
+use Rattle.arrays.specs.Passes.{Low}
+use Rattle.arrays.specs.Firsts.{from, Firsts}
 
 -- how many cells there are
 abbrev pub cellCount : ℕ
@@ -20,16 +22,33 @@ cellCount = 1056
 abbrev pub place : (end rank : List ℕ) → ℕ → ℕ
 place end rank e = at end e * emptyRank + at rank e
 
+-- nothing is there yet
+abbrev pub Empty : (m : ℕ) (cell : List ℕ) → Type 0
+Empty m cell = (k : ℕ) → k < length cell → at cell k ≡ m
+
+-- each cell has the first strict edge of its node and rank
 pub record Celled (m : ℕ) (end rank : List ℕ) (tied : List Bool) (cell : List ℕ) : Type 0 where
   pub edges : m ≤ entryLimit
   pub firsts : Firsts m (place end rank) (λ e. not (flag tied e)) cellCount 0 cell
 
+-- a place tells its node and its rank
 pub same-place : (a b r s : ℕ) → r < emptyRank → s < emptyRank → a * emptyRank + r ≡ b * emptyRank + s → (a ≡ b) × (r ≡ s)
 same-place a b r s h k e = (omega arith, omega arith)
 
 -- the edge of rank r at v
 abbrev pub inCell : (cell : List ℕ) (v r : ℕ) → ℕ
 inCell cell v r = at cell (v * emptyRank + r)
+
+-- what is read along the cells needs no ends and ranks: a cell holds an edge or m, and no edge stands in two of them
+pub record Spread (m : ℕ) (cell : List ℕ) : Type 0 where
+  pub edges : m ≤ entryLimit
+  pub inside : (v r : ℕ) → v < nodeLimit → r < emptyRank → inCell cell v r ≤ m
+  pub apart : (v i u j : ℕ) → v < nodeLimit → i < emptyRank → u < nodeLimit → j < emptyRank → inCell cell v i < m → inCell cell v i ≡ inCell cell u j
+      → (v ≡ u) × (i ≡ j)
+
+-- what the cells of a node hold are its edges
+abbrev pub Owned : (m : ℕ) (end cell : List ℕ) → Type 0
+Owned m end cell = (v r : ℕ) → v < nodeLimit → r < emptyRank → inCell cell v r < m → at end (inCell cell v r) ≡ v
 
 -- an edge, and in p
 abbrev pub edgeIn : (m : ℕ) (p : ℕ → Bool) → ℕ → Bool
@@ -57,6 +76,7 @@ barOf m cell p v q = low (λ r. leb q (passed m cell p v r)) emptyRank
 abbrev pub bestOf : (m : ℕ) (cell : List ℕ) (p : ℕ → Bool) (v : ℕ) → ℕ
 bestOf m cell p v = let r = low (λ r. edgeIn m p (inCell cell v r)) emptyRank in cond (ltb r emptyRank) (inCell cell v r) m
 
+-- the worst edge of p at v, m if there is none
 abbrev pub worstOf : (m : ℕ) (cell : List ℕ) (p : ℕ → Bool) (v : ℕ) → ℕ
 worstOf m cell p v = let k = low (λ k. edgeIn m p (inCell cell v (32 - k))) emptyRank in cond (ltb k emptyRank) (inCell cell v (32 - k)) m
 
@@ -65,7 +85,7 @@ bit-is true h = refl
 bit-is false h = absurd (omega arith)
 
 module _ (m : ℕ) (end rank : List ℕ) (tied : List Bool) (cell : List ℕ) (C : Celled m end rank tied cell) where
-  pub cell-inside : (v r : ℕ) → v < nodeLimit → r < emptyRank → inCell cell v r ≤ m
+  cell-inside : (v r : ℕ) → v < nodeLimit → r < emptyRank → inCell cell v r ≤ m
   cell-inside v r w h = omega (
     arith,
     C .firsts (v * emptyRank + r) (omega arith),
@@ -84,10 +104,31 @@ module _ (m : ℕ) (end rank : List ℕ) (tied : List Bool) (cell : List ℕ) (C
       let s = and-r (leb 0 e) (not (flag tied e) && eqb (place end rank e) k) t in
       (eqb→eq (place end rank e) k (and-r (not (flag tied e)) (eqb (place end rank e) k) s), and-l (not (flag tied e)) (eqb (place end rank e) k) s)
 
+  -- the same cells elsewhere
+  pub celled-kept : (cell′ : List ℕ) → ((k : ℕ) → k < cellCount → at cell′ k ≡ at cell k) → Celled m end rank tied cell′
+  celled-kept cell′ h = record { edges = C .edges; firsts = λ k l. h k l ∙ C .firsts k l }
+
+  -- so cells are spread, and each node owns the edges in its cells
+  pub celled-spread : Spread m cell
+  celled-spread = record {
+    edges = C .edges;
+    inside = cell-inside;
+    apart = λ v i u j vl il ul jl l z. same-place v u i j il jl
+        (sym (cell-holds v i vl il l .0) ∙ ap (place end rank) z ∙ cell-holds u j ul jl (omega arith) .0);
+  }
+
+  -- each node owns the edges in its cells, where ranks are below 33
+  pub celled-owned : Low m rank emptyRank → Owned m end cell
+  celled-owned placed v r w h l = let e = inCell cell v r in
+      same-place (at end e) v (at rank e) r (placed e l) h (cell-holds v r w h l .0) .0
+
+module _ (m : ℕ) (cell : List ℕ) (S : Spread m cell) where
+  -- the best and the worst are edges, or m
   pub best-inside : (p : ℕ → Bool) (v : ℕ) → v < nodeLimit → bestOf m cell p v ≤ m
   best-inside p v w = let r = low (λ r. edgeIn m p (inCell cell v r)) emptyRank in
-      if-ind (λ z. z ≤ m) (ltb r emptyRank) (λ t. cell-inside v r w (ltb→lt r emptyRank t)) (λ t. omega arith)
+      if-ind (λ z. z ≤ m) (ltb r emptyRank) (λ t. S .inside v r w (ltb→lt r emptyRank t)) (λ t. omega arith)
 
+  -- so is the worst
   pub worst-inside : (p : ℕ → Bool) (v : ℕ) → v < nodeLimit → worstOf m cell p v ≤ m
   worst-inside p v w = let k = low (λ k. edgeIn m p (inCell cell v (32 - k))) emptyRank in
-      if-ind (λ z. z ≤ m) (ltb k emptyRank) (λ t. cell-inside v (32 - k) w (omega arith)) (λ t. omega arith)
+      if-ind (λ z. z ≤ m) (ltb k emptyRank) (λ t. S .inside v (32 - k) w (omega arith)) (λ t. omega arith)

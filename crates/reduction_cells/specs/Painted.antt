@@ -14,7 +14,7 @@ use Rattle.lists.specs.Test.{by-eq, eqb-yes, bit, bit-one}
 use Rattle.model.specs.Limits.{nodeLimit, emptyRank}
 use Rattle.arrays.specs.ArrayInstance.{at, flag}
 use Rattle.arrays.specs.Passes.{Low}
-use Rattle.reduction_cells.specs.Cells.{Celled, place, inCell, passed, same-place, cell-holds}
+use Rattle.reduction_cells.specs.Cells.{Spread, inCell, passed}
 
 -- two flags differ
 abbrev pub differ : Bool → Bool → Bool
@@ -30,10 +30,12 @@ unfoldable pub among : (list : List ℕ) (n u : ℕ) → Bool
 among list zero u = false
 among list (suc n) u = among list n u || eqb (at list n) u
 
+-- nobody is among none
 pub among-none : (list : List ℕ) (u : ℕ) → among list 0 u ≡ false
 unfolding among
 among-none list u = refl
 
+-- among one more
 pub among-next : (list : List ℕ) (n u : ℕ) → among list (n + 1) u ≡ among list n u || eqb (at list n) u
 unfolding among
 among-next list n u = ap (λ k. among list k u) (let e : n + 1 ≡ suc n = omega arith in e)
@@ -64,8 +66,7 @@ pub record Painted (m : ℕ) (other cell : List ℕ) (rem : List Bool) (v q r : 
   pub old : (e : ℕ) → ((i : ℕ) → i < r → inCell cell v i ≢ e) → flag f e ≡ flag f₀ e
   pub elsewhere : (u : ℕ) → w u ≡ false → (e : ℕ) → e < m → at other e ≡ u → flag f e ≡ flag f₀ e
 
-module _ (m : ℕ) (end rank : List ℕ) (tied : List Bool) (other cell : List ℕ) (C : Celled m end rank tied cell) (rem : List Bool) (v q : ℕ)
-    (f₀ : List Bool) where
+module _ (m : ℕ) (other cell : List ℕ) (S : Spread m cell) (rem : List Bool) (v q : ℕ) (f₀ : List Bool) where
   abbrev At : (r : ℕ) → (f : List Bool) (w : ℕ → Bool) → Type 0
   At r f w = Painted m other cell rem v q r f₀ f w
 
@@ -125,12 +126,7 @@ module _ (m : ℕ) (end rank : List ℕ) (tied : List Bool) (other cell : List �
       seen false b h t = refl
 
       apart : (i : ℕ) → i < r → inCell cell v i < m → inCell cell v i ≡ inCell cell v r → ⊥
-      apart i b il z = omega (
-        arith,
-        cell-holds m end rank tied cell C v i wl (omega arith) il .0,
-        cell-holds m end rank tied cell C v r wl rl l .0,
-        ap (place end rank) z,
-      )
+      apart i b il z = omega (arith, S .apart v i v r wl (omega arith) wl rl il z .1)
 
 -- ---- all nodes below n are painted, each with its quota; nothing else has an arrow
 pub record AllPainted (m : ℕ) (cell : List ℕ) (rem : List Bool) (q : List ℕ) (n : ℕ) (f : List Bool) : Type 0 where
@@ -142,10 +138,9 @@ pub all-none : (m : ℕ) (cell : List ℕ) (rem : List Bool) (q : List ℕ) (f :
 all-none m cell rem q f h = record { new = λ v i k. absurd (omega arith); old = λ e n. h e }
 
 -- one node more
-pub all-next : (m : ℕ) (end rank : List ℕ) (tied : List Bool) (cell : List ℕ) → Celled m end rank tied cell → Low m rank emptyRank → (other : List ℕ)
-    (rem : List Bool) (q : List ℕ) (n : ℕ) → n < nodeLimit → (f₀ f : List Bool) (w : ℕ → Bool) → AllPainted m cell rem q n f₀
+pub all-next : (m : ℕ) (cell : List ℕ) → Spread m cell → (other : List ℕ) (rem : List Bool) (q : List ℕ) (n : ℕ) → n < nodeLimit → (f₀ f : List Bool) (w : ℕ → Bool) → AllPainted m cell rem q n f₀
     → Painted m other cell rem n (at q n) emptyRank f₀ f w → AllPainted m cell rem q (n + 1) f
-all-next m end rank tied cell C placed other rem q n nl f₀ f w A P = record {
+all-next m cell S other rem q n nl f₀ f w A P = record {
   new = λ v i k h l. ⊎-elim
       (λ e. subst
       (λ u. inCell cell u i < m → flag f (inCell cell u i) ≡ flag rem (inCell cell u i) && ltb (passed m cell (flag rem) u i) (at q u)) (sym e)
@@ -157,7 +152,4 @@ all-next m end rank tied cell C placed other rem q n nl f₀ f w A P = record {
   where
     -- an edge stands in the cells of one node
     apart : (v i : ℕ) → v < n → i < emptyRank → inCell cell v i < m → (j : ℕ) → j < emptyRank → inCell cell n j ≡ inCell cell v i → ⊥
-    apart v i b h l j k z =
-        let a = cell-holds m end rank tied cell C v i (omega arith) h l .0 in
-        let c = cell-holds m end rank tied cell C n j nl k (omega arith) .0 in
-        omega (arith, same-place v n i j h k (sym a ∙ sym (ap (place end rank) z) ∙ c) .0)
+    apart v i b h l j k z = omega (arith, S .apart v i n j (omega arith) h nl k l (sym z) .0)

@@ -8,7 +8,7 @@ ghost use Rattle.lists.specs.Test.{bit};
 ghost use Rattle.model.specs.Limits.{entryLimit, nodeLimit, emptyRank};
 ghost use Rattle.arrays.specs.ArrayInstance.{at, flag};
 ghost use Rattle.arrays.specs.Passes.{Low};
-ghost use Rattle.reduction_cells.specs.Cells.{Celled, edgeIn, barOf, bestOf, worstOf};
+ghost use Rattle.reduction_cells.specs.Cells.{cellCount, Empty, Celled, Spread, edgeIn, barOf, bestOf, worstOf};
 ghost use Rattle.reduction_cells.specs.Painted.{Painted, AllPainted, among};
 use limits::EMPTY_RANK;
 use limits::ENTRY_LIMIT;
@@ -16,16 +16,22 @@ use limits::ENTRY_LIMIT;
 // A cell for each node and rank.
 pub const CELLS: usize = 1056;
 
+// The table of one side: its cells, then the place where each node's list begins, then these lists (crate reduction_lists).
+pub const TABLE: usize = 2144;
+
+// The cells, where all that is given is m.
 pub fn cells(
     m: usize,
     end: &[u8; ENTRY_LIMIT],
     rank: &[u8; ENTRY_LIMIT],
     tied: &[bool; ENTRY_LIMIT],
-) -> [u16; CELLS]
+    cell: &mut [u16],
+)
     requires { ⌜ (m ≤ entryLimit) × Low m (now end) nodeLimit × Low m (now rank) emptyRank ⌝ }
-    ensures { λ r. ⌜ Celled m (now (end .entry)) (now (rank .entry)) (now (tied .entry)) r ⌝ }
+    requires { ⌜ (cellCount ≤ length (now cell)) × Empty m (now cell) ⌝ }
+    ensures { λ r. ⌜ (length (now (cell .exit)) ≡ length (now (cell .entry)))
+        × Celled m (now (end .entry)) (now (rank .entry)) (now (tied .entry)) (now (cell .exit)) ⌝ }
 {
-    let mut cell = [m as u16; CELLS];
     let mut i = m;
     while i > 0 {
         i -= 1;
@@ -35,7 +41,6 @@ pub fn cells(
             cell[v * EMPTY_RANK + r] = i as u16;
         }
     }
-    cell
 }
 
 // 1 if an edge is in p, 0 if not or if there is none.
@@ -50,18 +55,9 @@ pub fn held(m: usize, p: &[bool; ENTRY_LIMIT], e: usize) -> u16
 }
 
 // The first rank that q edges of p are better than at v, 33 if there is none.
-pub fn bar(
-    m: usize,
-    end: &[u8; ENTRY_LIMIT],
-    rank: &[u8; ENTRY_LIMIT],
-    tied: &[bool; ENTRY_LIMIT],
-    cell: &[u16; CELLS],
-    v: usize,
-    p: &[bool; ENTRY_LIMIT],
-    q: u16,
-) -> u8
-    requires { ⌜ (v < nodeLimit) × Celled m (now end) (now rank) (now tied) (now cell) ⌝ }
-    ensures { λ r. ⌜ r ≡ barOf m (now (cell .entry)) (flag (now (p .entry))) v q ⌝ }
+pub fn bar(m: usize, table: &[u16; TABLE], v: usize, p: &[bool; ENTRY_LIMIT], q: u16) -> u8
+    requires { ⌜ (v < nodeLimit) × Spread m (now table) ⌝ }
+    ensures { λ r. ⌜ r ≡ barOf m (now (table .entry)) (flag (now (p .entry))) v q ⌝ }
 {
     let b = v * EMPTY_RANK;
     let mut c: u16 = 0;
@@ -70,7 +66,7 @@ pub fn bar(
         if q <= c {
             return r as u8;
         }
-        let e = cell[b + r] as usize;
+        let e = table[b + r] as usize;
         c += held(m, p, e);
         r += 1;
     }
@@ -78,22 +74,14 @@ pub fn bar(
 }
 
 // The best edge of p at v, m if there is none.
-pub fn best(
-    m: usize,
-    end: &[u8; ENTRY_LIMIT],
-    rank: &[u8; ENTRY_LIMIT],
-    tied: &[bool; ENTRY_LIMIT],
-    cell: &[u16; CELLS],
-    v: usize,
-    p: &[bool; ENTRY_LIMIT],
-) -> usize
-    requires { ⌜ (v < nodeLimit) × Celled m (now end) (now rank) (now tied) (now cell) ⌝ }
-    ensures { λ r. ⌜ r ≡ bestOf m (now (cell .entry)) (flag (now (p .entry))) v ⌝ }
+pub fn best(m: usize, table: &[u16; TABLE], v: usize, p: &[bool; ENTRY_LIMIT]) -> usize
+    requires { ⌜ (v < nodeLimit) × Spread m (now table) ⌝ }
+    ensures { λ r. ⌜ r ≡ bestOf m (now (table .entry)) (flag (now (p .entry))) v ⌝ }
 {
     let b = v * EMPTY_RANK;
     let mut r: usize = 0;
     while r < EMPTY_RANK {
-        let e = cell[b + r] as usize;
+        let e = table[b + r] as usize;
         if held(m, p, e) == 1 {
             return e;
         }
@@ -125,24 +113,21 @@ pub fn reserved(
 // The worst edge of N(s), m if there is none.
 pub fn worst(
     m: usize,
-    end: &[u8; ENTRY_LIMIT],
-    rank: &[u8; ENTRY_LIMIT],
-    tied: &[bool; ENTRY_LIMIT],
-    cell: &[u16; CELLS],
+    table: &[u16; TABLE],
     v: usize,
     other: &[u8; ENTRY_LIMIT],
     rem: &[bool; ENTRY_LIMIT],
     lo: &[bool; 32],
     f: &[bool; ENTRY_LIMIT],
 ) -> usize
-    requires { ⌜ (v < nodeLimit) × Celled m (now end) (now rank) (now tied) (now cell) × Low m (now other) nodeLimit ⌝ }
-    ensures { λ r. ⌜ r ≡ worstOf m (now (cell .entry))
+    requires { ⌜ (v < nodeLimit) × Spread m (now table) × Low m (now other) nodeLimit ⌝ }
+    ensures { λ r. ⌜ r ≡ worstOf m (now (table .entry))
         (λ d. flag (now (rem .entry)) d && (flag (now (lo .entry)) (at (now (other .entry)) d) || flag (now (f .entry)) d)) v ⌝ }
 {
     let b = v * EMPTY_RANK;
     let mut k: usize = 0;
     while k < EMPTY_RANK {
-        let e = cell[b + (32 - k)] as usize;
+        let e = table[b + (32 - k)] as usize;
         if reserved(m, other, rem, lo, f, e) {
             return e;
         }
@@ -155,10 +140,7 @@ pub fn worst(
 // `turned`; how many they are is returned.
 pub fn paint(
     m: usize,
-    end: &[u8; ENTRY_LIMIT],
-    rank: &[u8; ENTRY_LIMIT],
-    tied: &[bool; ENTRY_LIMIT],
-    cell: &[u16; CELLS],
+    table: &[u16; TABLE],
     v: usize,
     q: u16,
     other: &[u8; ENTRY_LIMIT],
@@ -166,10 +148,10 @@ pub fn paint(
     f: &mut [bool; ENTRY_LIMIT],
     turned: &mut [u8; EMPTY_RANK],
 ) -> usize
-    requires { ⌜ (v < nodeLimit) × Celled m (now end) (now rank) (now tied) (now cell) × Low m (now other) nodeLimit ⌝ }
+    requires { ⌜ (v < nodeLimit) × Spread m (now table) × Low m (now other) nodeLimit ⌝ }
     requires { ⌜ (length (now f) ≡ entryLimit) × (length (now turned) ≡ emptyRank) ⌝ }
     ensures { λ r. ⌜ (r ≤ emptyRank) × (length (now (turned .exit)) ≡ emptyRank) × Low r (now (turned .exit)) nodeLimit
-        × Painted m (now (other .entry)) (now (cell .entry)) (now (rem .entry)) v q emptyRank (now (f .entry)) (now (f .exit))
+        × Painted m (now (other .entry)) (now (table .entry)) (now (rem .entry)) v q emptyRank (now (f .entry)) (now (f .exit))
         (among (now (turned .exit)) r) ⌝ }
 {
     let b = v * EMPTY_RANK;
@@ -177,7 +159,7 @@ pub fn paint(
     let mut n: usize = 0;
     let mut r: usize = 0;
     while r < EMPTY_RANK {
-        let e = cell[b + r] as usize;
+        let e = table[b + r] as usize;
         r += 1;
         if e < m {
             let on = rem[e] & (c < q);
@@ -193,34 +175,19 @@ pub fn paint(
 // The arrows of all nodes of one side.
 pub fn painted(
     m: usize,
-    end: &[u8; ENTRY_LIMIT],
-    rank: &[u8; ENTRY_LIMIT],
-    tied: &[bool; ENTRY_LIMIT],
-    cell: &[u16; CELLS],
+    table: &[u16; TABLE],
     q: &[u16; 32],
     other: &[u8; ENTRY_LIMIT],
     rem: &[bool; ENTRY_LIMIT],
 ) -> [bool; ENTRY_LIMIT]
-    requires { ⌜ Celled m (now end) (now rank) (now tied) (now cell) × Low m (now other) nodeLimit × Low m (now rank) emptyRank ⌝ }
-    ensures { λ r. ⌜ AllPainted m (now (cell .entry)) (now (rem .entry)) (now (q .entry)) nodeLimit r ⌝ }
+    requires { ⌜ Spread m (now table) × Low m (now other) nodeLimit ⌝ }
+    ensures { λ r. ⌜ AllPainted m (now (table .entry)) (now (rem .entry)) (now (q .entry)) nodeLimit r ⌝ }
 {
     let mut f = [false; ENTRY_LIMIT];
     let mut turned = [0u8; EMPTY_RANK];
     let mut v: usize = 0;
     while v < 32 {
-        paint(
-            m,
-            end,
-            rank,
-            tied,
-            cell,
-            v,
-            q[v],
-            other,
-            rem,
-            &mut f,
-            &mut turned,
-        );
+        paint(m, table, v, q[v], other, rem, &mut f, &mut turned);
         v += 1;
     }
     f

@@ -1,5 +1,5 @@
--- The edges of each node side by side: from a node's first place on an array has the node's edges, ascending, and behind them m. And how such an array
--- is made, along the links of the edges (crate edge_links): node by node, edge by edge.
+-- The edges of each node side by side: behind its cells a table has for each node the place where its list begins, and from there on the node's edges,
+-- ascending, and behind them m. And how that is made, along the links of the edges (crate edge_links): node by node, edge by edge.
 use Prim.Native.Nat.{ℕ, zero, suc, _+_, _≤_, _<_, zero-le}
 use native.Mathlib.Omega.{arith}
 use native.Mathlib.Nat.{eq-or-lt-of-le}
@@ -16,11 +16,20 @@ use Rattle.lists.specs.Test.{by-eq, eqb-yes, eqb-no, bit}
 use Rattle.lists.specs.Sum.{count, count-≤, count-add, count-cong, count-none}
 use Rattle.model.specs.Limits.{entryLimit, nodeLimit}
 use Rattle.arrays.specs.ArrayInstance.{at}
-use Rattle.edge_links.specs.Linked.{Linked, first-head, first-next}
+use Rattle.arrays.specs.Linked.{Linked, first-head, first-next}
+use Rattle.reduction_cells.specs.Cells.{cellCount}
 
--- a place for each edge, and one more for each node
-abbrev pub placeLimit : ℕ
-placeLimit = 1056
+-- where the lists begin; a place for each edge, and one more for each node
+abbrev listStart : ℕ
+listStart = 1088
+
+-- how many places a table has
+abbrev pub tableSize : ℕ
+tableSize = 2144
+
+-- where the list of a node begins
+abbrev pub begin : (table : List ℕ) (v : ℕ) → ℕ
+begin table v = at table (cellCount + v)
 
 -- how many edges of a node below e pass a test
 abbrev pub tallied : (end : List ℕ) (v : ℕ) (q : ℕ → Bool) → ℕ → ℕ
@@ -63,15 +72,20 @@ Spelled end v k e list = (d : ℕ) → d < e → at end d ≡ v → at list (k +
 
 -- the list of a node, from place k on
 pub record NodeListed (m : ℕ) (end : List ℕ) (v k : ℕ) (list : List ℕ) : Type 0 where
-  pub room : k + before end v m < placeLimit
+  pub room : k + before end v m < tableSize
   pub spelled : Spelled end v k m list
   pub ends : at list (k + before end v m) ≡ m
 
-pub record Listed (m : ℕ) (end first list : List ℕ) : Type 0 where
+-- the lists of all nodes of a side
+pub record Listed (m : ℕ) (end table : List ℕ) : Type 0 where
   pub head : List ℕ
   pub next : List ℕ
   pub linked : Linked m end head next
-  pub nodes : (v : ℕ) → v < nodeLimit → NodeListed m end v (at first v) list
+  pub nodes : (v : ℕ) → v < nodeLimit → NodeListed m end v (begin table v) table
+
+-- a walk goes along lists of whatever ends, and what it finds is so for all ends whose lists they are
+abbrev pub Shelved : (m : ℕ) (table : List ℕ) → Type 0
+Shelved m table = (end : List ℕ) × Listed m end table
 
 -- ---- along the links of one node
 module _ {m : ℕ} {end head next : List ℕ} (L : Linked m end head next) (v : ℕ) where
@@ -89,19 +103,19 @@ pub record Spelling (m : ℕ) (end : List ℕ) (v k : ℕ) (list₀ : List ℕ) 
   pub inside : e ≤ m
   pub here : e < m → at end e ≡ v
   pub place : i ≡ k + before end v e
-  pub size : length list ≡ placeLimit
+  pub size : length list ≡ tableSize
   pub spelled : Spelled end v k e list
   pub kept : (j : ℕ) → j < k → at list j ≡ at list₀ j
 
 -- what it is then: the list of v, and the places before it as they were
 pub record Put (m : ℕ) (end : List ℕ) (v k : ℕ) (list₀ : List ℕ) (i : ℕ) (list : List ℕ) : Type 0 where
   pub place : i ≡ k + before end v m + 1
-  pub size : length list ≡ placeLimit
+  pub size : length list ≡ tableSize
   pub node : NodeListed m end v k list
   pub kept : (j : ℕ) → j < k → at list j ≡ at list₀ j
 
-module _ {m : ℕ} {end head next : List ℕ} (L : Linked m end head next) (v : ℕ) (k : ℕ) (list₀ : List ℕ) (room : k + before end v m < placeLimit) where
-  pub spelling-starts : v < nodeLimit → length list₀ ≡ placeLimit → Spelling m end v k list₀ (at head v) k list₀
+module _ {m : ℕ} {end head next : List ℕ} (L : Linked m end head next) (v : ℕ) (k : ℕ) (list₀ : List ℕ) (room : k + before end v m < tableSize) where
+  pub spelling-starts : v < nodeLimit → length list₀ ≡ tableSize → Spelling m end v k list₀ (at head v) k list₀
   spelling-starts w n = let F = first-head m end head next L v w in record {
     inside = F .inside;
     here = F .here;
@@ -112,7 +126,7 @@ module _ {m : ℕ} {end head next : List ℕ} (L : Linked m end head next) (v : 
   }
 
   module _ (e i : ℕ) (list : List ℕ) (S : Spelling m end v k list₀ e i list) where
-    pub spelling-room : i < placeLimit
+    pub spelling-room : i < tableSize
     spelling-room = omega (arith, room, S .place, before-more end v e m (S .inside))
 
     -- a place more: the edge's own, or m behind all of them
@@ -169,51 +183,67 @@ one-node x v = by-eq x v
       ap bit t,
     )))
 
--- the lists of the nodes below v are made, up to place k
-pub record Listing (m : ℕ) (end : List ℕ) (v k : ℕ) (first list : List ℕ) : Type 0 where
-  pub place : k ≡ v + count (below end v) m
-  pub size : length list ≡ placeLimit
-  pub sizeF : length first ≡ nodeLimit
-  pub nodes : (u : ℕ) → u < v → NodeListed m end u (at first u) list
-  pub past : (u : ℕ) → u < v → at first u + before end u m < k
+-- the lists of the nodes below v are made, up to place k; the cells stay
+pub record Listing (m : ℕ) (end table₀ : List ℕ) (v k : ℕ) (table : List ℕ) : Type 0 where
+  pub place : k ≡ listStart + v + count (below end v) m
+  pub size : length table ≡ tableSize
+  pub nodes : (u : ℕ) → u < v → NodeListed m end u (begin table u) table
+  pub behind : (u : ℕ) → u < v → listStart ≤ begin table u
+  pub past : (u : ℕ) → u < v → begin table u + before end u m < k
+  pub kept : (j : ℕ) → j < cellCount → at table j ≡ at table₀ j
 
-module _ (m : ℕ) (end : List ℕ) where
-  pub listing-none : (first list : List ℕ) → length first ≡ nodeLimit → length list ≡ placeLimit → Listing m end 0 0 first list
-  listing-none first list a b = record {
+module _ (m : ℕ) (end table₀ : List ℕ) where
+  pub listing-none : length table₀ ≡ tableSize → Listing m end table₀ 0 listStart table₀
+  listing-none n = record {
     place = omega (arith, count-cong (below end 0) (λ d. false) m (λ d l. le-ltb (at end d) 0 zero-le), count-none m);
-    size = b;
-    sizeF = a;
+    size = n;
     nodes = λ u l. absurd (omega arith);
+    behind = λ u l. absurd (omega arith);
     past = λ u l. absurd (omega arith);
+    kept = λ j l. refl;
   }
 
-  module _ (v k : ℕ) (first list : List ℕ) (S : Listing m end v k first list) (w : v < nodeLimit) where
+  module _ (v k : ℕ) (table : List ℕ) (S : Listing m end table₀ v k table) (w : v < nodeLimit) where
     more : count (below end (v + 1)) m ≡ count (below end v) m + before end v m
     more = count-add (below end v) (λ d. eqb (at end d) v) (below end (v + 1)) m (λ d l. one-node (at end d) v)
 
-    pub listing-room : m ≤ entryLimit → k + before end v m < placeLimit
+    pub listing-room : m ≤ entryLimit → k + before end v m < tableSize
     listing-room h = omega (arith, S .place, more, count-≤ (below end (v + 1)) m)
 
-    pub listing-next : (i : ℕ) (list′ : List ℕ) → Put m end v k list i list′ → Listing m end (v + 1) i (set first v k) list′
-    listing-next i list′ P = record {
+    -- where its list begins is entered, and then the list is put there
+    pub listing-next : (i : ℕ) (table′ : List ℕ) → Put m end v k (set table (cellCount + v) k) i table′ → Listing m end table₀ (v + 1) i table′
+    listing-next i table′ P = record {
       place = omega (arith, P .place, S .place, more);
       size = P .size;
-      sizeF = length-set first v k ∙ S .sizeF;
       nodes = λ u l. by-eq u v
-          (λ z t. subst (λ x. NodeListed m end x (at (set first v k) x) list′) (sym z)
-          (subst (λ x. NodeListed m end v x list′) (sym (getD-set-same first v k 0 (omega (arith, S .sizeF)))) (P .node)))
-          (λ n t. subst (λ x. NodeListed m end u x list′) (sym (getD-set-other first v u k 0 n)) (still u (before-it u n l)));
+          (λ z t. subst (λ x. NodeListed m end x (begin table′ x) table′) (sym z) (subst (λ x. NodeListed m end v x table′) (sym own) (P .node)))
+          (λ n t. subst (λ x. NodeListed m end u x table′) (sym (other u (before-it u n l))) (still u (before-it u n l)));
+      behind = λ u l. by-eq u v
+          (λ z t. omega (arith, ap (begin table′) z, own, S .place))
+          (λ n t. omega (arith, other u (before-it u n l), S .behind u (before-it u n l)));
       past = λ u l. by-eq u v
-          (λ z t. omega (arith, P .place, ap (at (set first v k)) z, getD-set-same first v k 0 (omega (arith, S .sizeF)), ap (λ x. before end x m) z))
-          (λ n t. omega (arith, P .place, getD-set-other first v u k 0 n, S .past u (before-it u n l)));
+          (λ z t. omega (arith, P .place, ap (begin table′) z, own, ap (λ x. before end x m) z))
+          (λ n t. omega (arith, P .place, other u (before-it u n l), S .past u (before-it u n l)));
+      kept = λ j l. P .kept j (omega (arith, S .place)) ∙ getD-set-other table (cellCount + v) j k 0 (λ q. absurd (omega (arith, q))) ∙ S .kept j l;
     }
       where
         before-it : (u : ℕ) → u ≢ v → u < v + 1 → u < v
         before-it u n l = by-cases (decLt u v) (λ h. h) (λ h. absurd (n (omega arith)))
 
-        still : (u : ℕ) → u < v → NodeListed m end u (at first u) list′
+        own : begin table′ v ≡ k
+        own = P .kept (cellCount + v) (omega (arith, S .place)) ∙ getD-set-same table (cellCount + v) k 0 (omega (arith, S .size))
+
+        other : (u : ℕ) → u < v → begin table′ u ≡ begin table u
+        other u l = P .kept (cellCount + u) (omega (arith, S .place)) ∙ getD-set-other table (cellCount + v) (cellCount + u) k 0 (λ q. absurd (omega (arith, q)))
+
+        -- among the lists of the nodes before v
+        same : (j : ℕ) → listStart ≤ j → j < k → at table′ j ≡ at table j
+        same j h l = P .kept j l ∙ getD-set-other table (cellCount + v) j k 0 (λ q. absurd (omega (arith, q)))
+
+        still : (u : ℕ) → u < v → NodeListed m end u (begin table u) table′
         still u l = let N = S .nodes u l in record {
           room = N .room;
-          spelled = λ d h q. P .kept (at first u + before end u d) (omega (arith, S .past u l, before-less end u d m h q)) ∙ N .spelled d h q;
-          ends = P .kept (at first u + before end u m) (S .past u l) ∙ N .ends;
+          spelled = λ d h q. same (begin table u + before end u d) (omega (arith, S .behind u l)) (omega (arith, S .past u l, before-less end u d m h q))
+              ∙ N .spelled d h q;
+          ends = same (begin table u + before end u m) (omega (arith, S .behind u l)) (S .past u l) ∙ N .ends;
         }

@@ -10,37 +10,41 @@ use lib.Dec.{eqb}
 use Rattle.lists.specs.Test.{by-eq, eqb-yes, eqb-no, bit}
 use Rattle.lists.specs.Search.{low, low-hit, low-none}
 use Rattle.lists.specs.Sum.{count, count-≤}
-use Rattle.model.specs.Limits.{nodeLimit}
+use Rattle.model.specs.Limits.{nodeLimit, entryLimit}
 use Rattle.arrays.specs.ArrayInstance.{at}
-use Rattle.edge_links.specs.Linked.{First, first-head, first-next}
-use Rattle.reduction_lists.specs.Listed.{Listed, placeLimit, tallied, tallied-jump, before, before-less, first-before, next-before}
+use Rattle.arrays.specs.Linked.{First, first-head, first-next}
+use Rattle.reduction_lists.specs.Listed.{Listed, tableSize, begin, tallied, tallied-jump, before, before-less, first-before, next-before}
 
 -- a test at a node alone
 abbrev pub atNode : (end : List ℕ) (v : ℕ) (q : ℕ → Bool) → ℕ → Bool
 atNode end v q d = eqb (at end d) v && q d
 
+-- the place behind k, where e is, has a later edge, or m
+abbrev pub Next : (m : ℕ) (table : List ℕ) (k e : ℕ) → Type 0
+Next m table k e = (k + 1 < tableSize) × (at table (k + 1) ≤ m) × (e < at table (k + 1)) × (m ≤ entryLimit)
+
 -- ---- a walk along a list: it stands at place k, at the edge e of v, or at its end
-pub record Stood (m : ℕ) (end first : List ℕ) (v k e : ℕ) : Type 0 where
+pub record Stood (m : ℕ) (end table : List ℕ) (v k e : ℕ) : Type 0 where
   pub inside : e ≤ m
   pub here : e < m → at end e ≡ v
-  pub place : k ≡ at first v + before end v e
+  pub place : k ≡ begin table v + before end v e
 
 -- before e nothing passes the test q
-pub record Walked (m : ℕ) (end first : List ℕ) (v : ℕ) (q : ℕ → Bool) (k e : ℕ) : Type 0 where
-  pub at-edge : Stood m end first v k e
+pub record Walked (m : ℕ) (end table : List ℕ) (v : ℕ) (q : ℕ → Bool) (k e : ℕ) : Type 0 where
+  pub at-edge : Stood m end table v k e
   pub none : (d : ℕ) → d < e → atNode end v q d ≡ false
 
 -- a walk that counts: of the edges before e, c pass
-pub record Counted (m : ℕ) (end first : List ℕ) (v : ℕ) (q : ℕ → Bool) (k e c : ℕ) : Type 0 where
-  pub at-edge : Stood m end first v k e
+pub record Counted (m : ℕ) (end table : List ℕ) (v : ℕ) (q : ℕ → Bool) (k e c : ℕ) : Type 0 where
+  pub at-edge : Stood m end table v k e
   pub is : c ≡ tallied end v q e
 
-module _ {m : ℕ} {end first list : List ℕ} (L : Listed m end first list) (v : ℕ) (w : v < nodeLimit) where
+module _ {m : ℕ} {end table : List ℕ} (L : Listed m end table) (v : ℕ) (w : v < nodeLimit) where
   -- the list has an edge of v, and m behind all of them, in its place
-  spelled : (i e : ℕ) → First m end i v e → at list (at first v + before end v e) ≡ e
+  spelled : (i e : ℕ) → First m end i v e → at table (begin table v + before end v e) ≡ e
   spelled i e F = let N = L .nodes v w in by-cases (decLt e m)
       (λ l. N .spelled e l (F .here l))
-      (λ h. let z : e ≡ m = omega (arith, F .inside) in ap (λ x. at list (at first v + before end v x)) z ∙ N .ends ∙ sym z)
+      (λ h. let z : e ≡ m = omega (arith, F .inside) in ap (λ x. at table (begin table v + before end v x)) z ∙ N .ends ∙ sym z)
 
   first-of : First m end 0 v (at (L .head) v)
   first-of = first-head m end (L .head) (L .next) (L .linked) v w
@@ -49,45 +53,45 @@ module _ {m : ℕ} {end first list : List ℕ} (L : Listed m end first list) (v 
   next-of e l i = first-next m end (L .head) (L .next) (L .linked) v e l i
 
   -- so its first place has the first edge, and the place behind an edge has the next one
-  pub list-first : at list (at first v) ≡ at (L .head) v
-  list-first = let z : at first v ≡ at first v + before end v (at (L .head) v) = omega (arith, first-before (L .linked) v w) in
-      ap (at list) z ∙ spelled 0 (at (L .head) v) first-of
+  list-first : at table (begin table v) ≡ at (L .head) v
+  list-first = let z : begin table v ≡ begin table v + before end v (at (L .head) v) = omega (arith, first-before (L .linked) v w) in
+      ap (at table) z ∙ spelled 0 (at (L .head) v) first-of
 
-  pub list-next : (k e : ℕ) → e < m → Stood m end first v k e → at list (k + 1) ≡ at (L .next) e
+  list-next : (k e : ℕ) → e < m → Stood m end table v k e → at table (k + 1) ≡ at (L .next) e
   list-next k e l S =
       let i = S .here l in
-      let z : k + 1 ≡ at first v + before end v (at (L .next) e) = omega (arith, S .place, next-before (L .linked) v e l i) in
-      ap (at list) z ∙ spelled (e + 1) (at (L .next) e) (next-of e l i)
+      let z : k + 1 ≡ begin table v + before end v (at (L .next) e) = omega (arith, S .place, next-before (L .linked) v e l i) in
+      ap (at table) z ∙ spelled (e + 1) (at (L .next) e) (next-of e l i)
 
-  starts : First m end 0 v (at list (at first v))
+  starts : First m end 0 v (at table (begin table v))
   starts = subst (First m end 0 v) (sym list-first) first-of
 
-  on : (k e : ℕ) → e < m → Stood m end first v k e → First m end (e + 1) v (at list (k + 1))
+  on : (k e : ℕ) → e < m → Stood m end table v k e → First m end (e + 1) v (at table (k + 1))
   on k e l S = subst (First m end (e + 1) v) (sym (list-next k e l S)) (next-of e l (S .here l))
 
-  pub first-room : at first v < placeLimit
-  first-room = omega (arith, L .nodes v w .room)
-
-  pub first-inside : at list (at first v) ≤ m
-  first-inside = starts .inside
-
-  pub next-room : (k e : ℕ) → e < m → Stood m end first v k e → k + 1 < placeLimit
-  next-room k e l S = omega (arith, S .place, before-less end v e m l (S .here l), L .nodes v w .room)
-
-  pub next-inside : (k e : ℕ) → e < m → Stood m end first v k e → at list (k + 1) ≤ m
-  next-inside k e l S = on k e l S .inside
-
-  pub next-later : (k e : ℕ) → e < m → Stood m end first v k e → e < at list (k + 1)
+  next-later : (k e : ℕ) → e < m → Stood m end table v k e → e < at table (k + 1)
   next-later k e l S = omega (arith, on k e l S .onward (omega arith))
 
-  stood-first : Stood m end first v (at first v) (at list (at first v))
+  -- the first place is in the table, and so is the next one; they have edges, or m
+  pub first-place : (begin table v < tableSize) × (at table (begin table v) ≤ m) × (m ≤ entryLimit)
+  first-place = (omega (arith, L .nodes v w .room), starts .inside, L .linked .edges)
+
+  pub next-place : (k e : ℕ) → e < m → Stood m end table v k e → Next m table k e
+  next-place k e l S = (
+    omega (arith, S .place, before-less end v e m l (S .here l), L .nodes v w .room),
+    on k e l S .inside,
+    next-later k e l S,
+    L .linked .edges,
+  )
+
+  stood-first : Stood m end table v (begin table v) (at table (begin table v))
   stood-first = record {
     inside = starts .inside;
     here = starts .here;
     place = omega (arith, first-before (L .linked) v w, ap (before end v) list-first);
   }
 
-  stood-next : (k e : ℕ) → e < m → Stood m end first v k e → Stood m end first v (k + 1) (at list (k + 1))
+  stood-next : (k e : ℕ) → e < m → Stood m end table v k e → Stood m end table v (k + 1) (at table (k + 1))
   stood-next k e l S = let F = on k e l S in record {
     inside = F .inside;
     here = F .here;
@@ -98,11 +102,11 @@ module _ {m : ℕ} {end first list : List ℕ} (L : Listed m end first list) (v 
     off : (d : ℕ) → at end d ≢ v → atNode end v q d ≡ false
     off d n = ap (λ b. b && q d) (eqb-no (at end d) v n)
 
-    pub walk-starts : Walked m end first v q (at first v) (at list (at first v))
+    pub walk-starts : Walked m end table v q (begin table v) (at table (begin table v))
     walk-starts = record { at-edge = stood-first; none = λ d l. off d (starts .none d zero-le l) }
 
     -- one place on
-    pub walk-on : (k e : ℕ) → e < m → Walked m end first v q k e → q e ≡ false → Walked m end first v q (k + 1) (at list (k + 1))
+    pub walk-on : (k e : ℕ) → e < m → Walked m end table v q k e → q e ≡ false → Walked m end table v q (k + 1) (at table (k + 1))
     walk-on k e l W f =
         let F = on k e l (W .at-edge) in
         record {
@@ -115,22 +119,22 @@ module _ {m : ℕ} {end first list : List ℕ} (L : Listed m end first list) (v 
         past : (e d : ℕ) → d ≢ e → (d < e → ⊥) → e + 1 ≤ d
         past e d ne h = by-cases (decLt e d) (λ k. omega arith) (λ k. absurd (ne (omega arith)))
 
-    pub walk-hit : (k e : ℕ) → e < m → Walked m end first v q k e → q e ≡ true → e ≡ low (atNode end v q) m
+    pub walk-hit : (k e : ℕ) → e < m → Walked m end table v q k e → q e ≡ true → e ≡ low (atNode end v q) m
     walk-hit k e l W t =
         sym (low-hit (atNode end v q) e m (low-none (atNode end v q) e (W .none)) (ap₂ _&&_ (eqb-yes (at end e) v (W .at-edge .here l)) t) l)
 
-    pub walk-ends : (k e : ℕ) → m ≤ e → Walked m end first v q k e → e ≡ low (atNode end v q) m
+    pub walk-ends : (k e : ℕ) → m ≤ e → Walked m end table v q k e → e ≡ low (atNode end v q) m
     walk-ends k e h W = let i : e ≡ m = omega (arith, W .at-edge .inside) in i ∙ sym (low-none (atNode end v q) m (λ d l. W .none d (omega arith)))
 
     -- ---- counting
-    pub count-starts : Counted m end first v q (at first v) (at list (at first v)) 0
+    pub count-starts : Counted m end table v q (begin table v) (at table (begin table v)) 0
     unfolding count
     count-starts = record {
       at-edge = stood-first;
-      is = sym (tallied-jump end v q 0 (at list (at first v)) zero-le (λ d a l. starts .none d a l));
+      is = sym (tallied-jump end v q 0 (at table (begin table v)) zero-le (λ d a l. starts .none d a l));
     }
 
-    pub count-on : (k e c : ℕ) → e < m → Counted m end first v q k e c → Counted m end first v q (k + 1) (at list (k + 1)) (c + bit (q e))
+    pub count-on : (k e c : ℕ) → e < m → Counted m end table v q k e c → Counted m end table v q (k + 1) (at table (k + 1)) (c + bit (q e))
     unfolding count
     count-on k e c l W =
         let S = W .at-edge in
@@ -140,7 +144,7 @@ module _ {m : ℕ} {end first list : List ℕ} (L : Listed m end first list) (v 
           is = omega (
             arith,
             W .is,
-            tallied-jump end v q (suc e) (at list (k + 1)) (omega (arith, next-later k e l S)) (λ d a b. F .none d (omega arith) b),
+            tallied-jump end v q (suc e) (at table (k + 1)) (omega (arith, next-later k e l S)) (λ d a b. F .none d (omega arith) b),
             one (q e) (eqb (at end e) v) (eqb-yes (at end e) v (S .here l)),
           );
         }
@@ -149,8 +153,8 @@ module _ {m : ℕ} {end first list : List ℕ} (L : Listed m end first list) (v 
         one true b i = ap bit i
         one false b i = refl
 
-    pub count-ends : (k e c : ℕ) → m ≤ e → Counted m end first v q k e c → c ≡ tallied end v q m
+    pub count-ends : (k e c : ℕ) → m ≤ e → Counted m end table v q k e c → c ≡ tallied end v q m
     count-ends k e c h W = let i : e ≡ m = omega (arith, W .at-edge .inside) in W .is ∙ ap (tallied end v q) i
 
-    pub count-small : (k e c : ℕ) → Counted m end first v q k e c → c ≤ e
+    pub count-small : (k e c : ℕ) → Counted m end table v q k e c → c ≤ e
     count-small k e c W = omega (arith, W .is, count-≤ (λ d. q d && eqb (at end d) v) e)

@@ -10,52 +10,68 @@ use lib.Dec.{T, ltb, nltb→le}
 use borrow.Author.Tests.{lt-ltb}
 use Rattle.lists.specs.Test.{by-bool, T-false, false-T, given}
 use Rattle.lists.specs.Search.{low, low-is}
-use Rattle.model.specs.Limits.{nodeLimit, emptyRank}
+use Rattle.model.specs.Limits.{entryLimit, nodeLimit, emptyRank}
 use Rattle.model.specs.Instance.{surveyors, stands}
 use Rattle.arrays.specs.ArrayInstance.{at, flag}
-use Rattle.arrays.specs.Passes.{Low}
+use Rattle.arrays.specs.Passes.{Low, all-blank}
 use Rattle.reduction_lists.specs.Listed.{Listed}
-use Rattle.reduction_cells.specs.Cells.{Celled}
+use Rattle.reduction_cells.specs.Cells.{Celled, Spread, Owned}
 use Rattle.reduction_cells.specs.CellLaws.{Cells, celled-is}
 use Rattle.reduction_cells.specs.Painted.{differ}
 use Rattle.reduction_nodes.specs.declared.Surveyor.{Surveyor}
 use Rattle.reduction_nodes.specs.declared.Stand.{Stand}
 use Rattle.reduction_nodes.specs.Known.{Edges, Known, instanceOf}
 use Rattle.reduction_nodes.specs.Renewed.{Renewed}
-use Rattle.reduction_nodes.specs.Numbers.{firstOf, secondsOf, surveyorsOf, standsOf, Surveyors, Stands}
-use Rattle.reduction_nodes.specs.Numbers.{surveyorNumbers, standNumbers, Surveyed, Stood, SizedS, SizedT}
+use Rattle.reduction_nodes.specs.Numbers.{Readable, firstOf, secondsOf, surveyorsOf, standsOf, Surveyors, Stands}
+use Rattle.reduction_nodes.specs.Numbers.{Rows, surveyorNumbers, standNumbers, Surveyed, Stood}
 use Rattle.reduction_nodes.specs.Local.{surveyor-local}
 
--- ---- the tables of the edges, made once: lists and cells of both sides; `strict` says that surveyors tie nothing
+-- ---- the tables of the edges, made once: cells and lists of both sides
 pub record NodeLists : Type 0 where
-  pub listS : List ℕ
-  pub firstS : List ℕ
-  pub listT : List ℕ
-  pub firstT : List ℕ
-  pub cellS : List ℕ
-  pub cellT : List ℕ
+  pub tableS : List ℕ
+  pub tableT : List ℕ
 
-pub record Tables (A : Edges) (strict : List Bool) (L : NodeLists) : Type 0 where
+-- what reading them needs: lists of the ends, and cells that hold a node's own edges
+pub record Tables (A : Edges) (L : NodeLists) : Type 0 where
   pub fitS : Low (A .m) (A .sv) nodeLimit
   pub fitT : Low (A .m) (A .st) nodeLimit
   pub placedS : Low (A .m) (A .rs) emptyRank
   pub placedT : Low (A .m) (A .rt) emptyRank
-  pub none : (e : ℕ) → flag strict e ≡ false
-  pub listedS : Listed (A .m) (A .sv) (L .firstS) (L .listS)
-  pub listedT : Listed (A .m) (A .st) (L .firstT) (L .listT)
-  pub celledS : Celled (A .m) (A .sv) (A .rs) strict (L .cellS)
-  pub celledT : Celled (A .m) (A .st) (A .rt) (A .tied) (L .cellT)
+  pub listedS : Listed (A .m) (A .sv) (L .tableS)
+  pub listedT : Listed (A .m) (A .st) (L .tableT)
+  pub spreadS : Spread (A .m) (L .tableS)
+  pub spreadT : Spread (A .m) (L .tableT)
+  pub ownedS : Owned (A .m) (A .sv) (L .tableS)
+  pub ownedT : Owned (A .m) (A .st) (L .tableT)
 
--- in a lawful instance the cells are those of the model's sides
-pub cellsS : {A : Edges} {strict : List Bool} {L : NodeLists} → Tables A strict L → {quotaS quotaT : List ℕ} (K : Known A quotaS quotaT)
-    → Cells (surveyors (instanceOf K)) (L .cellS)
-cellsS {A} {strict} {L} D {quotaS} K =
-    celled-is (A .m) (K .ns) (A .sv) (A .rs) strict (λ e. false) (at quotaS) (L .cellS) (λ e. sym (D .none e)) (D .fitS) (D .celledS) (K .law .atS)
+-- so both can be read
+pub readableS : {A : Edges} {L : NodeLists} → Tables A L → Readable (A .m) (L .tableS)
+readableS D = record { cells = D .spreadS; lists = (_, D .listedS) }
 
-pub cellsT : {A : Edges} {strict : List Bool} {L : NodeLists} → Tables A strict L → {quotaS quotaT : List ℕ} (K : Known A quotaS quotaT)
-    → Cells (stands (instanceOf K)) (L .cellT)
-cellsT {A} {L} D {quotaT} K =
-    celled-is (A .m) (K .nt) (A .st) (A .rt) (A .tied) (flag (A .tied)) (at quotaT) (L .cellT) (λ e. refl) (D .fitT) (D .celledT) (K .law .atT)
+-- the stands' one
+pub readableT : {A : Edges} {L : NodeLists} → Tables A L → Readable (A .m) (L .tableT)
+readableT D = record { cells = D .spreadT; lists = (_, D .listedT) }
+
+-- no edge is tied, as at surveyors
+abbrev pub untied : List Bool
+untied = replicate entryLimit false
+
+-- what they are to the model: the cells hold every strict edge
+pub record Filled (A : Edges) (tied : List Bool) (L : NodeLists) : Type 0 where
+  pub celledS : Celled (A .m) (A .sv) (A .rs) untied (L .tableS)
+  pub celledT : Celled (A .m) (A .st) (A .rt) tied (L .tableT)
+
+-- in a lawful instance they are the cells of the model's sides
+pub cellsS : {A : Edges} {quotaS quotaT : List ℕ} (K : Known A quotaS quotaT) {L : NodeLists} → Filled A (K .tied) L
+    → Cells (surveyors (instanceOf K)) (L .tableS)
+cellsS {A} {quotaS} K {L} F = celled-is (A .m) (K .ns) (A .sv) (A .rs) untied (λ e. false) (at quotaS) (L .tableS)
+    (λ e. sym (all-blank false entryLimit e)) (K .fitS) (F .celledS) (K .law .atS)
+
+-- the stands' cells
+pub cellsT : {A : Edges} {quotaS quotaT : List ℕ} (K : Known A quotaS quotaT) {L : NodeLists} → Filled A (K .tied) L
+    → Cells (stands (instanceOf K)) (L .tableT)
+cellsT {A} {quotaT} K {L} F = celled-is (A .m) (K .nt) (A .st) (A .rt) (K .tied) (flag (K .tied)) (at quotaT) (L .tableT) (λ e. refl) (K .fitT)
+    (F .celledT) (K .law .atT)
 
 -- ---- the arrays of a state that the rules look at: what remains, the arrows, the cut quotas
 pub record Looks : Type 0 where
@@ -66,12 +82,14 @@ pub record Looks : Type 0 where
   pub qt : List ℕ
 
 -- from the arrays themselves
-abbrev pub edges : (m : ℕ) (sv st rs rt : List ℕ) (tied : List Bool) → Edges
-edges m sv st rs rt tied = record { m = m; sv = sv; st = st; rs = rs; rt = rt; tied = tied }
+abbrev pub edges : (m : ℕ) (sv st rs rt : List ℕ) → Edges
+edges m sv st rs rt = record { m = m; sv = sv; st = st; rs = rs; rt = rt }
 
-abbrev pub nodeLists : (ls os lt ot cs ct : List ℕ) → NodeLists
-nodeLists ls os lt ot cs ct = record { listS = ls; firstS = os; listT = lt; firstT = ot; cellS = cs; cellT = ct }
+-- the tables, from the arrays
+abbrev pub nodeLists : (ts tu : List ℕ) → NodeLists
+nodeLists ts tu = record { tableS = ts; tableT = tu }
 
+-- what the rules look at, from the arrays
 abbrev pub looks : (rem fs ft : List Bool) (qs qt : List ℕ) → Looks
 looks rem fs ft qs qt = record { rem = rem; fs = fs; ft = ft; qs = qs; qt = qt }
 
@@ -82,19 +100,17 @@ pub record Later : Type 0 where
   pub olds : List Bool
   pub oldt : List Bool
 
-abbrev pub later : (rule3 rule4 rule5 rule6 rule7 : List ℕ) (loose olds oldt : List Bool) → Later
-later rule3 rule4 rule5 rule6 rule7 loose olds oldt = record {
-  surveyors = surveyorNumbers rule4 rule5 rule6;
-  stands = standNumbers rule3 rule7 loose;
-  olds = olds;
-  oldt = oldt;
-}
+-- the later numbers, from the arrays
+abbrev pub later : (lates latet : List (List ℕ)) (loose olds oldt : List Bool) → Later
+later lates latet loose olds oldt = record { surveyors = surveyorNumbers lates; stands = standNumbers latet loose; olds = olds; oldt = oldt }
 
-pub record SizedL (x : Later) : Type 0 where
-  pub surveyors : SizedS (x .surveyors)
-  pub stands : SizedT (x .stands)
-  pub olds : length (x .olds) ≡ nodeLimit
-  pub oldt : length (x .oldt) ≡ nodeLimit
+-- their sizes
+pub record SizedL (lates latet : List (List ℕ)) (loose olds oldt : List Bool) : Type 0 where
+  pub surveyors : Rows 3 lates
+  pub stands : Rows 2 latet
+  pub sizeL : length loose ≡ nodeLimit
+  pub sizeS : length olds ≡ nodeLimit
+  pub sizeT : length oldt ≡ nodeLimit
 
 -- the numbers of one node, of all nodes of a side
 abbrev pub surveyorAt : Surveyors → ℕ → Surveyor
@@ -105,29 +121,34 @@ standAt y v = record { rule3 = at (y .rule3) v; rule7 = at (y .rule7) v; loose =
 
 module _ (A : Edges) (L : NodeLists) (X : Looks) where
   abbrev pub surveyorNow : (lo : List Bool) → ℕ → Surveyor
-  surveyorNow lo = surveyorsOf (A .m) (A .sv) (A .st) (L .cellS) (X .rem) (X .fs) (X .ft) lo (X .qs)
+  surveyorNow lo = surveyorsOf (A .m) (A .sv) (A .st) (L .tableS) (X .rem) (X .fs) (X .ft) lo (X .qs)
 
   abbrev pub standNow : ℕ → Stand
-  standNow = standsOf (A .m) (A .st) (L .cellT) (X .rem) (X .fs) (X .ft) (X .qt)
+  standNow = standsOf (A .m) (A .st) (L .tableT) (X .rem) (X .fs) (X .ft) (X .qt)
 
+  -- rule 1 by surveyor
   abbrev pub firstNow : ℕ → ℕ
   firstNow = firstOf (A .m) (A .sv) (X .fs) (X .ft)
 
+  -- rule 2 by surveyor
   abbrev pub secondS : ℕ → ℕ
-  secondS = secondsOf (A .m) (A .sv) (A .rs) (L .cellS) (X .rem) (X .ft) (X .qs)
+  secondS = secondsOf (A .m) (A .sv) (A .rs) (L .tableS) (X .rem) (X .ft) (X .qs)
 
+  -- rule 2 by stand
   abbrev pub secondT : ℕ → ℕ
-  secondT = secondsOf (A .m) (A .st) (A .rt) (L .cellT) (X .rem) (X .fs) (X .qt)
+  secondT = secondsOf (A .m) (A .st) (A .rt) (L .tableT) (X .rem) (X .fs) (X .qt)
 
   -- an array holds the numbers of a rule
   abbrev pub Holds : List ℕ → (ℕ → ℕ) → Type 0
   Holds xs now = (v : ℕ) → v < nodeLimit → at xs v ≡ now v
 
+  -- the numbers of rules 1 and 2 are those of the arrays
   pub record Leads (one twoS twoT : List ℕ) : Type 0 where
     pub first : Holds one firstNow
     pub atS : Holds twoS secondS
     pub atT : Holds twoT secondT
 
+  -- the later numbers are those of the arrays, where they are not old
   pub record Lates (x : Later) : Type 0 where
     pub stand : (v : ℕ) → v < nodeLimit → flag (x .oldt) v ≡ false → standAt (x .stands) v ≡ standNow v
     pub surveyor : (v : ℕ) → v < nodeLimit → flag (x .olds) v ≡ false → surveyorAt (x .surveyors) v ≡ surveyorNow (x .stands .loose) v
@@ -178,7 +199,7 @@ alike false true h = sym h
 alike false false h = refl
 
 -- ---- the old numbers made anew: first those of stands; where none is loose that was not, or the other way round, the surveyors' fresh ones stay
-module _ (A : Edges) (strict : List Bool) (L : NodeLists) (D : Tables A strict L) (X : Looks) (x : Later) (K : Lates A L X x) (y : Stands)
+module _ (A : Edges) (L : NodeLists) (D : Tables A L) (X : Looks) (x : Later) (K : Lates A L X x) (y : Stands)
     (S : Stood (standNow A L X) (x .oldt) (x .stands) nodeLimit y) where
   stands-fresh : (v : ℕ) → v < nodeLimit → standAt y v ≡ standNow A L X v
   stands-fresh v w = by-bool (flag (x .oldt) v) (λ t. stood-at (standNow A L X) (x .oldt) (x .stands) y S v w true t)
@@ -212,7 +233,7 @@ module _ (A : Edges) (strict : List Bool) (L : NodeLists) (D : Tables A strict L
       surveyor = λ v w t. by-bool (flag touched v)
           (λ s. surveyed-at (surveyorNow A L X (y .loose)) touched (x .surveyors) z R v w true s)
           (λ s. given (untouched v w s) (λ (a, b). surveyed-at (surveyorNow A L X (y .loose)) touched (x .surveyors) z R v w false s ∙ K .surveyor v w a
-          ∙ sym (surveyor-local (A .m) (A .sv) (A .rs) strict (L .cellS) (D .celledS) (D .placedS) v w (A .st) (X .rem) (X .fs) (X .ft) (x .stands .loose)
+          ∙ sym (surveyor-local (A .m) (A .sv) (L .tableS) (D .ownedS) v w (A .st) (X .rem) (X .fs) (X .ft) (x .stands .loose)
           (X .rem) (X .fs) (X .ft) (y .loose) (at (X .qs) v) (at (X .qs) v)
           (record { left = λ e l j. refl; fromS = λ e l j. refl; fromT = λ e l j. refl })
           (λ e l j. b (at (A .st) e) (D .fitT e l)) refl)));
@@ -221,6 +242,7 @@ module _ (A : Edges) (strict : List Bool) (L : NodeLists) (D : Tables A strict L
     noneT = λ v w. getD-replicate nodeLimit v false false w;
   }
 
+  -- the same of an array of flags that is as it was computed
   pub later-fresh : (due : List Bool) → due ≡ touched → (z : Surveyors) → Surveyed (surveyorNow A L X (y .loose)) due (x .surveyors) nodeLimit z
       → Fresh A L X (record { surveyors = z; stands = y; olds = replicate nodeLimit false; oldt = replicate nodeLimit false })
   later-fresh due q z R = fresh-then z (subst (λ s. Surveyed (surveyorNow A L X (y .loose)) s (x .surveyors) nodeLimit z) q R)

@@ -9,27 +9,28 @@ use Rattle.theory_instance.specs.Lawful.{Lawful}
 use Rattle.arrays.specs.ArrayInstance.{flag, shown}
 use Rattle.arrays.specs.Passes.{Low}
 
--- the edges: ends, ranks, ties
+-- the edges: ends and ranks
 pub record Edges : Type 0 where
   pub m : ℕ
   pub sv : List ℕ
   pub st : List ℕ
   pub rs : List ℕ
   pub rt : List ℕ
-  pub tied : List Bool
 
--- the edges with the quotas, and the numbers of nodes and the shifts, which no rule looks at: a lawful instance
+-- the edges with the quotas, and the ties, the numbers of nodes and the shifts, which no rule looks at: a lawful instance
 pub record Known (A : Edges) (quotaS quotaT : List ℕ) : Type 0 where
   pub ns : ℕ
   pub nt : ℕ
   pub sh : List ℕ
-  pub law : Lawful (shown (A .m) ns nt (A .sv) (A .st) (A .rs) (A .rt) sh (A .tied) quotaS quotaT)
+  pub tied : List Bool
+  pub law : Lawful (shown (A .m) ns nt (A .sv) (A .st) (A .rs) (A .rt) sh tied quotaS quotaT)
   pub size : A .m ≤ entryLimit
   pub fitS : Low (A .m) (A .sv) nodeLimit
   pub fitT : Low (A .m) (A .st) nodeLimit
 
+-- the instance itself
 abbrev pub instanceOf : {A : Edges} {quotaS quotaT : List ℕ} → Known A quotaS quotaT → Instance
-instanceOf {A} {quotaS} {quotaT} K = shown (A .m) (K .ns) (K .nt) (A .sv) (A .st) (A .rs) (A .rt) (K .sh) (A .tied) quotaS quotaT
+instanceOf {A} {quotaS} {quotaT} K = shown (A .m) (K .ns) (K .nt) (A .sv) (A .st) (A .rs) (A .rt) (K .sh) (K .tied) quotaS quotaT
 
 -- the state whose quotas are kS, kT
 abbrev pub stateOf : (rem fixed : List Bool) (kS kT : ℕ → ℕ) → State

@@ -24,6 +24,7 @@ use Rattle.reduction_nodes.specs.Numbers.{inN, secondOf}
 
 -- ---- what the arrays of a state are: arrows and cut quotas; of its nodes: the lowest edges by rule
 module _ (G : Instance) (Z : State) where
+  -- the arrays of a state
   pub record Seen (fs ft : List Bool) (qs qt : List ℕ) : Type 0 where
     pub fromS : (e : ℕ) → e < G .m → flag fs e ≡ arrowS G Z e
     pub fromT : (e : ℕ) → e < G .m → flag ft e ≡ arrowT G Z e
@@ -34,9 +35,11 @@ module _ (G : Instance) (Z : State) where
   abbrev pub namedAt : (end : ℕ → ℕ) (rule : Instance → State → ℕ → Bool) → ℕ → ℕ
   namedAt end rule v = lowestAt (G .m) end (λ e. Z .rem e && rule G Z e) v
 
+  -- an array has the lowest edges that a rule names
   abbrev pub Named : (xs : List ℕ) (end : ℕ → ℕ) (rule : Instance → State → ℕ → Bool) → Type 0
   Named xs end rule = (v : ℕ) → v < nodeLimit → at xs v ≡ namedAt end rule v
 
+  -- flags of the loose stands
   abbrev pub Loose : List Bool → Type 0
   Loose lo = (v : ℕ) → v < nodeLimit → flag lo v ≡ loose G Z v
 
@@ -145,10 +148,12 @@ module _ {A : Edges} {quotaS quotaT : List ℕ} (K : Known A quotaS quotaT) (rem
   unfolding deg
   sent-is v = deg-cong (stands G) (flag ft) (arrowT G Z) v (λ e l i. S .fromT e l)
 
+  -- rule 2 at a stand
   pub stand2 : (v : ℕ) → v < nodeLimit → secondOf m (A .st) (A .rt) ct rem fs (at qt v) v ≡ namedAt G Z (G .st) rule2T v
   unfolding betterT
   stand2 v w = second-is (stands G) (K .law .atT) ct CT (flag rem) (flag fs) (arrowS G Z) (S .fromS) (cutT G Z) (at qt v) v w (S .quotaT v w)
 
+  -- rule 3
   pub stand3 : (v : ℕ) → v < nodeLimit → cond (leb (tallied (A .st) v (flag fs) m + tallied (A .st) v (flag ft) m) (at qt v))
       (lowestAt m (at (A .st)) (λ d. flag rem d && flag fs d) v) m ≡ namedAt G Z (G .st) rule3 v
   unfolding rule3
@@ -160,6 +165,7 @@ module _ {A : Edges} {quotaS quotaT : List ℕ} (K : Known A quotaS quotaT) (rem
       (at qt v))
       (sym i) (sym (ap₂ leb (ap₂ _+_ (got-is v) (sent-is v)) (S .quotaT v w)))))
 
+  -- rule 7
   pub stand7 : (v : ℕ) → v < nodeLimit → cond (ltb (tallied (A .st) v (flag fs) m) (at qt v)) (bestOf m ct (flag rem) v) m ≡ namedAt G Z (G .st) rule7 v
   unfolding rule7
   stand7 v w = ap (λ x. cond (ltb (tallied (A .st) v (flag fs) m) (at qt v)) x m) (best-is (stands G) (K .law .atT) ct CT (flag rem) v w)
@@ -170,6 +176,7 @@ module _ {A : Edges} {quotaS quotaT : List ℕ} (K : Known A quotaS quotaT) (rem
       (subst (λ u. ltb (degT G Z (arrowS G Z) u) (cutT G Z u) ≡ ltb (tallied (A .st) v (flag fs) m) (at qt v)) (sym i)
       (sym (ap₂ ltb (got-is v) (S .quotaT v w)))))
 
+  -- looseness
   pub stand-loose : (v : ℕ) → v < nodeLimit → ltb (tallied (A .st) v (flag ft) m) (at qt v) && eqb (tallied (A .st) v (flag fs) m) 0 ≡ loose G Z v
   unfolding loose
   stand-loose v w = ap₂ _&&_ (ap₂ ltb (sent-is v) (S .quotaT v w)) (ap (λ n. eqb n 0) (got-is v))
@@ -180,6 +187,7 @@ module _ {A : Edges} {quotaS quotaT : List ℕ} (K : Known A quotaS quotaT) (rem
   surveyor1 v w = lowestAt-cong m (G .sv) (λ d. flag fs d && flag ft d) (λ e. flag rem e && rule1 G Z e) v
       (λ e l i. ap₂ _&&_ (S .fromS e l) (S .fromT e l) ∙ both-left (flag rem e) (arrowS G Z e) (arrowT G Z e) (arrowS-rem G Z e))
 
+  -- rule 2 at a surveyor
   pub surveyor2 : (v : ℕ) → v < nodeLimit → secondOf m (A .sv) (A .rs) cs rem ft (at qs v) v ≡ namedAt G Z (G .sv) rule2S v
   unfolding betterS
   surveyor2 v w = second-is (surveyors G) (K .law .atS) cs CS (flag rem) (flag ft) (arrowT G Z) (S .fromT) (cutS G Z) (at qs v) v w (S .quotaS v w)
@@ -195,6 +203,7 @@ module _ {A : Edges} {quotaS quotaT : List ℕ} (K : Known A quotaS quotaT) (rem
     unfolding deg
     size-is v = deg-cong (surveyors G) (inN (A .st) rem ft lo) (reserved G Z) v (λ e l i. in-N e l)
 
+    -- rule 4
     pub surveyor4 : (v : ℕ) → v < nodeLimit
         → cond (ltb (at qs v) (tallied (A .sv) v (inN (A .st) rem ft lo) m)) (worstOf m cs (inN (A .st) rem ft lo) v) m ≡ namedAt G Z (G .sv) rule4 v
     unfolding rule4 worseReserved
@@ -215,6 +224,7 @@ module _ {A : Edges} {quotaS quotaT : List ℕ} (K : Known A quotaS quotaT) (rem
         left : (e : ℕ) → T (reserved G Z e) → T (flag rem e)
         left e t = reserved-rem G Z e t
 
+    -- rule 5
     pub surveyor5 : (v : ℕ) → v < nodeLimit
         → lowestAt m (at (A .sv)) (λ d. flag rem d && (not (flag lo (at (A .st) d)) && (not (flag fs d) && not (flag ft d)))) v ≡ namedAt G Z (G .sv) rule5 v
     unfolding rule5
@@ -223,6 +233,7 @@ module _ {A : Edges} {quotaS quotaT : List ℕ} (K : Known A quotaS quotaT) (rem
         (λ e l i. ap (λ b. flag rem e && b) (ap₂ (λ (x y : Bool). not x && y) (L (at (A .st) e) (K .fitT e l))
         (ap₂ (λ (x y : Bool). not x && not y) (S .fromS e l) (S .fromT e l))))
 
+    -- rule 6
     pub surveyor6 : (v : ℕ) → v < nodeLimit
         → cond (ltb (tallied (A .sv) v (inN (A .st) rem ft lo) m) (at qs v)) (bestOf m cs (flag rem) v) m ≡ namedAt G Z (G .sv) rule6 v
     unfolding rule6

@@ -51,6 +51,7 @@ RenewedBy w new old xs = (v : ℕ) → at xs v ≡ cond (w v) (new v) (at old v)
 pub by-all : (w : ℕ → Bool) (new : ℕ → ℕ) (old xs : List ℕ) → RenewedBy w new old xs → (v : ℕ) → (w v ≡ false → at old v ≡ new v) → at xs v ≡ new v
 by-all w new old xs R v h = by-bool (w v) (λ t. R v ∙ ap (λ b. cond b (new v) (at old v)) t) (λ t. R v ∙ ap (λ b. cond b (new v) (at old v)) t ∙ h t)
 
+-- what is true beside anything
 pub or-true : (b : Bool) → b || true ≡ true
 or-true true = refl
 or-true false = refl
@@ -59,6 +60,7 @@ or-true false = refl
 pub among-own : (list : List ℕ) (i v : ℕ) → v ≡ at list i → among list (i + 1) v ≡ true
 among-own list i v q = among-next list i v ∙ ap (λ b. among list i v || b) (eqb-yes (at list i) v (sym q)) ∙ or-true (among list i v)
 
+-- a node that is not the next of the list
 pub among-other : (list : List ℕ) (i v : ℕ) → v ≢ at list i → among list (i + 1) v ≡ among list i v
 among-other list i v n =
     among-next list i v ∙ ap (λ b. among list i v || b) (eqb-no (at list i) v (λ (z : at list i ≡ v). n (sym z))) ∙ or-false (among list i v)

@@ -5,11 +5,10 @@ ghost use Prim.Native.Nat.{_≤_, _<_};
 ghost use Rattle.model.specs.Limits.{nodeLimit, entryLimit, emptyRank};
 ghost use Rattle.arrays.specs.Passes.{Low};
 ghost use Rattle.reduction_nodes.specs.Known.{Known, instanceOf};
-ghost use Rattle.reduction_nodes.specs.Kept.{Tables, edges, nodeLists};
+ghost use Rattle.reduction_nodes.specs.Kept.{Tables, Filled, edges, nodeLists};
 ghost use Rattle.reduction_state.specs.Outcome.{Reduced, ReducedFrom};
 use limits::ENTRY_LIMIT;
-use reduction_cells::CELLS;
-use reduction_lists::PLACES;
+use reduction_cells::TABLE;
 use reduction_state::Trace;
 
 // What a run leaves: what remains, what is fixed, and its trace.
@@ -26,41 +25,19 @@ pub(crate) fn run(
     st: &[u8; ENTRY_LIMIT],
     rs: &[u8; ENTRY_LIMIT],
     rt: &[u8; ENTRY_LIMIT],
-    strict: &[bool; ENTRY_LIMIT],
-    tied: &[bool; ENTRY_LIMIT],
-    ls: &[u16; PLACES],
-    os: &[u16; 32],
-    lt: &[u16; PLACES],
-    ot: &[u16; 32],
-    cs: &[u16; CELLS],
-    ct: &[u16; CELLS],
+    tabs: &[u16; TABLE],
+    tabt: &[u16; TABLE],
     qs: &[u8; 32],
     qt: &[u8; 32],
 ) -> Reduction
-    requires { ⌜ Tables (edges m (now sv) (now st) (now rs) (now rt) (now tied)) (now strict)
-        (nodeLists (now ls) (now os) (now lt) (now ot) (now cs) (now ct)) ⌝ }
-    ensures { λ r. ⌜ ((K : Known (edges m (now (sv .entry)) (now (st .entry)) (now (rs .entry)) (now (rt .entry)) (now (tied .entry)))
-        (now (qs .entry)) (now (qt .entry))) → Reduced (instanceOf K) (r .rem) (r .fixed) (r .trace)) ⌝ }
+    requires { ⌜ Tables (edges m (now sv) (now st) (now rs) (now rt)) (nodeLists (now tabs) (now tabt)) ⌝ }
+    ensures { λ r. ⌜ ((K : Known (edges m (now (sv .entry)) (now (st .entry)) (now (rs .entry)) (now (rt .entry))) (now (qs .entry)) (now (qt .entry)))
+        → Filled (edges m (now (sv .entry)) (now (st .entry)) (now (rs .entry)) (now (rt .entry))) (K .tied)
+        (nodeLists (now (tabs .entry)) (now (tabt .entry))) → Reduced (instanceOf K) (r .rem) (r .fixed) (r .trace)) ⌝ }
 {
     let mut edges = [0u16; ENTRY_LIMIT];
     let mut rules = [0u8; ENTRY_LIMIT];
-    let b = reduction_start::begun(
-        m,
-        sv,
-        st,
-        rs,
-        rt,
-        strict,
-        tied,
-        ls,
-        os,
-        lt,
-        ot,
-        cs,
-        ct,
-        qs,
-        qt,
-    );
+    let b = reduction_start::begun(m, sv, st, tabs, tabt, qs, qt);
     let mut rem = b.rem;
     let mut fixed = b.fixed;
     let mut cuts = b.qs;
@@ -69,37 +46,22 @@ pub(crate) fn run(
     let mut dt = b.dt;
     let mut fs = b.fs;
     let mut ft = b.ft;
-    let mut one = [0u16; 32];
-    let mut twos = [0u16; 32];
-    let mut twot = [0u16; 32];
+    let mut lead = [[0u16; 32]; 3];
     reduction_start::numbered(
         m,
-        sv,
-        st,
         rs,
         rt,
-        strict,
-        tied,
-        ls,
-        os,
-        lt,
-        ot,
-        cs,
-        ct,
+        tabs,
+        tabt,
         &rem,
         &fs,
         &ft,
         &cuts,
         &cutt,
-        &mut one,
-        &mut twos,
-        &mut twot,
+        &mut lead,
     );
-    let mut rule3 = [0u16; 32];
-    let mut rule4 = [0u16; 32];
-    let mut rule5 = [0u16; 32];
-    let mut rule6 = [0u16; 32];
-    let mut rule7 = [0u16; 32];
+    let mut lates = [[0u16; 32]; 3];
+    let mut latet = [[0u16; 32]; 2];
     let mut loose = [false; 32];
     let mut olds = [true; 32];
     let mut oldt = [true; 32];
@@ -107,31 +69,17 @@ pub(crate) fn run(
     while n < m {
         let a = reduction_step::step(
             m,
-            sv,
             st,
-            rs,
-            rt,
-            strict,
-            tied,
-            ls,
-            os,
-            lt,
-            ot,
-            cs,
-            ct,
+            tabs,
+            tabt,
             &rem,
             &fs,
             &ft,
             &cuts,
             &cutt,
-            &one,
-            &twos,
-            &twot,
-            &mut rule3,
-            &mut rule4,
-            &mut rule5,
-            &mut rule6,
-            &mut rule7,
+            &lead,
+            &mut lates,
+            &mut latet,
             &mut loose,
             &mut olds,
             &mut oldt,
@@ -149,14 +97,8 @@ pub(crate) fn run(
             st,
             rs,
             rt,
-            strict,
-            tied,
-            ls,
-            os,
-            lt,
-            ot,
-            cs,
-            ct,
+            tabs,
+            tabt,
             rule,
             e,
             &mut rem,
@@ -167,9 +109,7 @@ pub(crate) fn run(
             &mut cutt,
             &mut ds,
             &mut dt,
-            &mut one,
-            &mut twos,
-            &mut twot,
+            &mut lead,
             &mut olds,
             &mut oldt,
         );
@@ -186,7 +126,7 @@ pub(crate) fn run(
     }
 }
 
-// All steps of an instance, from the ranks of its edges.
+// All steps of an instance, from the ranks of its edges. Surveyors tie nothing.
 pub fn reduce(
     m: usize,
     sv: &[u8; ENTRY_LIMIT],
@@ -201,28 +141,12 @@ pub fn reduce(
     ensures { λ r. ⌜ ReducedFrom m (now (sv .entry)) (now (st .entry)) (now (rs .entry)) (now (rt .entry)) (now (tied .entry)) (now (qs .entry))
         (now (qt .entry)) (r .rem) (r .fixed) (r .trace) ⌝ }
 {
-    let strict = [false; ENTRY_LIMIT];
-    let mut ls = [0u16; PLACES];
-    let os = reduction_lists::lists(m, sv, &mut ls);
-    let mut lt = [0u16; PLACES];
-    let ot = reduction_lists::lists(m, st, &mut lt);
-    let cs = reduction_cells::cells(m, sv, rs, &strict);
-    let ct = reduction_cells::cells(m, st, rt, tied);
-    run(
-        m,
-        sv,
-        st,
-        rs,
-        rt,
-        &strict,
-        tied,
-        &ls,
-        &os,
-        &lt,
-        &ot,
-        &cs,
-        &ct,
-        qs,
-        qt,
-    )
+    let untied = [false; ENTRY_LIMIT];
+    let mut tabs = [m as u16; TABLE];
+    reduction_cells::cells(m, sv, rs, &untied, &mut tabs[..]);
+    reduction_lists::lists(m, sv, &mut tabs);
+    let mut tabt = [m as u16; TABLE];
+    reduction_cells::cells(m, st, rt, tied, &mut tabt[..]);
+    reduction_lists::lists(m, st, &mut tabt);
+    run(m, sv, st, rs, rt, &tabs, &tabt, qs, qt)
 }

@@ -6,7 +6,7 @@ use mathlib.Core.Path.{_≡_, sym, ap, _∙_}
 use mathlib.Core.Logic.{by-cases}
 use mathlib.Core.Bool.{Bool, true, cond}
 use mathlib.Core.List.{List}
-use lib.ListN.{length}
+use lib.ListN.{length, set}
 use Rattle.lists.specs.Test.{by-eq}
 use Rattle.model.specs.Limits.{nodeLimit, entryLimit}
 use Rattle.model.specs.Instance.{surveyors, stands}
@@ -16,8 +16,9 @@ use Rattle.arrays.specs.Filled.{Made}
 use Rattle.reduction_cells.specs.Painted.{AllPainted, among}
 use Rattle.reduction_cells.specs.CellLaws.{all-arrows}
 use Rattle.reduction_nodes.specs.Renewed.{among-own, among-other}
+use Rattle.reduction_nodes.specs.Numbers.{row, row-own, row-other, Rows}
 use Rattle.reduction_nodes.specs.Known.{Edges, Known, instanceOf}
-use Rattle.reduction_nodes.specs.Kept.{NodeLists, Tables, cellsS, cellsT}
+use Rattle.reduction_nodes.specs.Kept.{NodeLists, Filled, edges, cellsS, cellsT}
 use Rattle.reduction_state.specs.declared.State as arrays
 use Rattle.reduction_state.specs.Trace.{blank}
 use Rattle.reduction_state.specs.RunState as state
@@ -39,23 +40,34 @@ pub all-read : (list : List ℕ) → Made 0 list (λ u. u) nodeLimit → (new ol
     → ((v : ℕ) → xs v ≡ cond (among list nodeLimit v) (new v) (old v)) → (v : ℕ) → v < nodeLimit → xs v ≡ new v
 all-read list M new old xs R v w = R v ∙ ap (λ b. cond b (new v) (old v)) (all-among list nodeLimit v w M)
 
+-- three rows are written, one after the other
+pub rows-three : (lead : List (List ℕ)) {x y z : List ℕ} → Rows 3 lead → Rows 3 (set lead 0 x) → Rows 3 (set (set lead 0 x) 1 y)
+    → Rows 3 (set (set (set lead 0 x) 1 y) 2 z) → (row (set (set (set lead 0 x) 1 y) 2 z) 0 ≡ x) × (row (set (set (set lead 0 x) 1 y) 2 z) 1 ≡ y)
+    × (row (set (set (set lead 0 x) 1 y) 2 z) 2 ≡ z)
+rows-three lead {x} {y} {z} R R₁ R₂ R₃ = (
+  row-other (set (set lead 0 x) 1 y) 2 0 z (λ (q : 0 ≡ 2). absurd (omega arith)) ∙ row-other (set lead 0 x) 1 0 y (λ (q : 0 ≡ 1). absurd (omega arith))
+      ∙ row-own lead 0 x (omega (arith, R .rows)),
+  row-other (set (set lead 0 x) 1 y) 2 1 z (λ (q : 1 ≡ 2). absurd (omega arith)) ∙ row-own (set lead 0 x) 1 y (omega (arith, R₁ .rows)),
+  row-own (set (set lead 0 x) 1 y) 2 z (omega (arith, R₂ .rows)),
+)
+
 -- ---- the beginning
 abbrev pub stateOf : Start → arrays.State
 stateOf b = whole (b .rem) (b .fixed) (b .qs) (b .qt) (b .ds) (b .dt)
 
-pub record Begun (A : Edges) (quotaS quotaT : List ℕ) (b : Start) : Type 0 where
-  pub shown : (K : Known A quotaS quotaT) → Shown (instanceOf K) (stateOf b) (b .fs) (b .ft) blank
+pub record Begun (m : ℕ) (sv st : List ℕ) (L : NodeLists) (quotaS quotaT : List ℕ) (b : Start) : Type 0 where
+  pub shown : (rs rt : List ℕ) (K : Known (edges m sv st rs rt) quotaS quotaT) → Filled (edges m sv st rs rt) (K .tied) L → Shown (instanceOf K) (stateOf b) (b .fs) (b .ft) blank
   pub sized : Sized (stateOf b)
   pub sizeS : length (b .fs) ≡ entryLimit
   pub sizeT : length (b .ft) ≡ entryLimit
 
-pub shown-first : {A : Edges} {strict : List Bool} {L : NodeLists} (D : Tables A strict L) {quotaS quotaT : List ℕ} (K : Known A quotaS quotaT)
-    (x : arrays.State) → Started (A .m) (A .sv) (A .st) quotaS quotaT x → (fs ft : List Bool) → AllPainted (A .m) (L .cellS) (x .rem) (x .qs) nodeLimit fs
-    → AllPainted (A .m) (L .cellT) (x .rem) (x .qt) nodeLimit ft → Shown (instanceOf K) x fs ft blank
-shown-first {A} {L} D K x S fs ft PS PT =
+pub shown-first : {A : Edges} {L : NodeLists} {quotaS quotaT : List ℕ} (K : Known A quotaS quotaT) → Filled A (K .tied) L →
+    (x : arrays.State) → Started (A .m) (A .sv) (A .st) quotaS quotaT x → (fs ft : List Bool) → AllPainted (A .m) (L .tableS) (x .rem) (x .qs) nodeLimit fs
+    → AllPainted (A .m) (L .tableT) (x .rem) (x .qt) nodeLimit ft → Shown (instanceOf K) x fs ft blank
+shown-first {A} {L} K F x S fs ft PS PT =
     let G = instanceOf K in
     let Z = state.stands-first K x S in record {
       stood = Z;
-      fromS = all-arrows (surveyors G) (K .law .atS) (L .cellS) (cellsS D K) (x .rem) fs (x .qs) PS (cutS G (stateAt Z)) (Z .holds .atS .cut-is);
-      fromT = all-arrows (stands G) (K .law .atT) (L .cellT) (cellsT D K) (x .rem) ft (x .qt) PT (cutT G (stateAt Z)) (Z .holds .atT .cut-is);
+      fromS = all-arrows (surveyors G) (K .law .atS) (L .tableS) (cellsS K F) (x .rem) fs (x .qs) PS (cutS G (stateAt Z)) (Z .holds .atS .cut-is);
+      fromT = all-arrows (stands G) (K .law .atT) (L .tableT) (cellsT K F) (x .rem) ft (x .qt) PT (cutT G (stateAt Z)) (Z .holds .atT .cut-is);
     }

@@ -1,14 +1,16 @@
 // The beginning of a run: the state and its arrows, and the numbers of rules 1 and 2 at all nodes.
-ghost use mathlib.Core.Path.{_≡_};
-ghost use lib.ListN.{length};
-ghost use Rattle.model.specs.Limits.{nodeLimit};
+ghost use mathlib.Core.List.{List};
+ghost use Prim.Native.Nat.{ℕ};
+ghost use Rattle.model.specs.Limits.{nodeLimit, emptyRank};
+ghost use Rattle.arrays.specs.Passes.{Low};
 ghost use Rattle.arrays.specs.Filled.{Made};
+ghost use Rattle.reduction_cells.specs.Cells.{Spread};
+ghost use Rattle.reduction_nodes.specs.Numbers.{Readable, row, Rows};
 ghost use Rattle.reduction_nodes.specs.Kept.{Tables, Leads, edges, nodeLists, looks};
 ghost use Rattle.reduction_start.specs.Beginning.{Begun};
 use limits::EMPTY_RANK;
 use limits::ENTRY_LIMIT;
-use reduction_cells::CELLS;
-use reduction_lists::PLACES;
+use reduction_cells::TABLE;
 
 // The beginning: the state, and its arrows.
 pub struct Start {
@@ -26,23 +28,13 @@ pub fn begun(
     m: usize,
     sv: &[u8; ENTRY_LIMIT],
     st: &[u8; ENTRY_LIMIT],
-    rs: &[u8; ENTRY_LIMIT],
-    rt: &[u8; ENTRY_LIMIT],
-    strict: &[bool; ENTRY_LIMIT],
-    tied: &[bool; ENTRY_LIMIT],
-    ls: &[u16; PLACES],
-    os: &[u16; 32],
-    lt: &[u16; PLACES],
-    ot: &[u16; 32],
-    cs: &[u16; CELLS],
-    ct: &[u16; CELLS],
+    tabs: &[u16; TABLE],
+    tabt: &[u16; TABLE],
     qs: &[u8; 32],
     qt: &[u8; 32],
 ) -> Start
-    requires { ⌜ Tables (edges m (now sv) (now st) (now rs) (now rt) (now tied)) (now strict)
-        (nodeLists (now ls) (now os) (now lt) (now ot) (now cs) (now ct)) ⌝ }
-    ensures { λ r. ⌜ Begun (edges m (now (sv .entry)) (now (st .entry)) (now (rs .entry)) (now (rt .entry)) (now (tied .entry)))
-        (now (qs .entry)) (now (qt .entry)) r ⌝ }
+    requires { ⌜ Low m (now sv) nodeLimit × Low m (now st) nodeLimit × Spread m (now tabs) × Spread m (now tabt) ⌝ }
+    ensures { λ r. ⌜ Begun m (now (sv .entry)) (now (st .entry)) (nodeLists (now (tabs .entry)) (now (tabt .entry))) (now (qs .entry)) (now (qt .entry)) r ⌝ }
 {
     let a = reduction_state::start(m, sv, st, qs, qt);
     let rem = a.rem;
@@ -51,8 +43,8 @@ pub fn begun(
     let cutt = a.qt;
     let ds = a.ds;
     let dt = a.dt;
-    let fs = reduction_cells::painted(m, sv, rs, strict, cs, &cuts, st, &rem);
-    let ft = reduction_cells::painted(m, st, rt, tied, ct, &cutt, sv, &rem);
+    let fs = reduction_cells::painted(m, tabs, &cuts, st, &rem);
+    let ft = reduction_cells::painted(m, tabt, &cutt, sv, &rem);
     Start {
         rem: rem,
         fixed: fixed,
@@ -81,38 +73,26 @@ pub(crate) fn everyone() -> [u8; EMPTY_RANK]
 // The numbers of rules 1 and 2 at all nodes.
 pub fn numbered(
     m: usize,
-    sv: &[u8; ENTRY_LIMIT],
-    st: &[u8; ENTRY_LIMIT],
     rs: &[u8; ENTRY_LIMIT],
     rt: &[u8; ENTRY_LIMIT],
-    strict: &[bool; ENTRY_LIMIT],
-    tied: &[bool; ENTRY_LIMIT],
-    ls: &[u16; PLACES],
-    os: &[u16; 32],
-    lt: &[u16; PLACES],
-    ot: &[u16; 32],
-    cs: &[u16; CELLS],
-    ct: &[u16; CELLS],
+    tabs: &[u16; TABLE],
+    tabt: &[u16; TABLE],
     rem: &[bool; ENTRY_LIMIT],
     fs: &[bool; ENTRY_LIMIT],
     ft: &[bool; ENTRY_LIMIT],
     qs: &[u16; 32],
     qt: &[u16; 32],
-    one: &mut [u16; 32],
-    twos: &mut [u16; 32],
-    twot: &mut [u16; 32],
+    lead: &mut [[u16; 32]; 3],
 )
-    requires { ⌜ Tables (edges m (now sv) (now st) (now rs) (now rt) (now tied)) (now strict)
-        (nodeLists (now ls) (now os) (now lt) (now ot) (now cs) (now ct)) ⌝ }
-    requires { ⌜ (length (now one) ≡ nodeLimit) × (length (now twos) ≡ nodeLimit) × (length (now twot) ≡ nodeLimit) ⌝ }
-    ensures { λ r. ⌜ (length (now (one .exit)) ≡ nodeLimit) × (length (now (twos .exit)) ≡ nodeLimit) × (length (now (twot .exit)) ≡ nodeLimit) ⌝ }
-    ensures { λ r. ⌜ Leads (edges m (now (sv .entry)) (now (st .entry)) (now (rs .entry)) (now (rt .entry)) (now (tied .entry)))
-        (nodeLists (now (ls .entry)) (now (os .entry)) (now (lt .entry)) (now (ot .entry)) (now (cs .entry)) (now (ct .entry)))
+    requires { ⌜ Low m (now rs) emptyRank × Low m (now rt) emptyRank × Readable m (now tabs) × Readable m (now tabt) × Rows 3 (now lead) ⌝ }
+    ensures { λ r. ⌜ Rows 3 (now (lead .exit)) ⌝ }
+    ensures { λ r. ⌜ ((sv st : List ℕ) → Tables (edges m sv st (now (rs .entry)) (now (rt .entry))) (nodeLists (now (tabs .entry)) (now (tabt .entry)))
+        → Leads (edges m sv st (now (rs .entry)) (now (rt .entry))) (nodeLists (now (tabs .entry)) (now (tabt .entry)))
         (looks (now (rem .entry)) (now (fs .entry)) (now (ft .entry)) (now (qs .entry)) (now (qt .entry)))
-        (now (one .exit)) (now (twos .exit)) (now (twot .exit)) ⌝ }
+        (row (now (lead .exit)) 0) (row (now (lead .exit)) 1) (row (now (lead .exit)) 2)) ⌝ }
 {
     let all = everyone();
-    reduction_nodes::first_renewed(m, sv, ls, os, fs, ft, &all, 32, one);
-    reduction_nodes::second_renewed(m, sv, rs, strict, ls, os, cs, rem, ft, qs, &all, 32, twos);
-    reduction_nodes::second_renewed(m, st, rt, tied, lt, ot, ct, rem, fs, qt, &all, 32, twot);
+    reduction_nodes::first_renewed(m, tabs, fs, ft, &all, 32, &mut lead[0]);
+    reduction_nodes::second_renewed(m, rs, tabs, rem, ft, qs, &all, 32, &mut lead[1]);
+    reduction_nodes::second_renewed(m, rt, tabt, rem, fs, qt, &all, 32, &mut lead[2]);
 }

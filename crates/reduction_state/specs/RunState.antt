@@ -37,6 +37,7 @@ acted sv st x rule e = record {
 abbrev pub whole : (rem fixed : List Bool) (qs qt ds dt : List ℕ) → arrays.State
 whole rem fixed qs qt ds dt = record { rem = rem; fixed = fixed; qs = qs; qt = qt; ds = ds; dt = dt }
 
+-- the arrays at the beginning
 pub record Started (m : ℕ) (sv st quotaS quotaT : List ℕ) (x : arrays.State) : Type 0 where
   pub all : (e : ℕ) → flag (x .rem) e ≡ ltb e m
   pub none : (e : ℕ) → flag (x .fixed) e ≡ false
@@ -62,6 +63,7 @@ sized-acted sv st x rule e S = record {
   dt = simp length-set (S .dt);
 }
 
+-- a step keeps the sizes
 pub sized-next : (sv st : List ℕ) (x y : arrays.State) (rule e : ℕ) → Sized x → y ≡ acted sv st x rule e → Sized y
 sized-next sv st x y rule e S i = subst Sized (sym i) (sized-acted sv st x rule e S)
 
@@ -76,6 +78,7 @@ pub record Stands (G : Instance) (x : arrays.State) (t : Trace) : Type 0 where
   pub holds : Holds G (shows x kS kT) (x .qs) (x .qt) (x .ds) (x .dt)
   pub ahead : onward G (G .m) (begin G) blank ≡ onward G (G .m - t .steps) (shows x kS kT) t
 
+-- the model's state that the arrays show
 abbrev pub stateAt : {G : Instance} {x : arrays.State} {t : Trace} → Stands G x t → State
 stateAt {x} S = shows x (S .kS) (S .kT)
 
@@ -137,6 +140,7 @@ module _ {A : Edges} {quotaS quotaT : List ℕ} (K : Known A quotaS quotaT) wher
           q,
         )
 
+    -- one step on
     pub stands-next : (r e : ℕ) → ruleOf G (stateAt S) ≡ r → edgeOf G (stateAt S) ≡ e → e < m → t .steps < m → Sized x
         → (y : arrays.State) → y ≡ acted sv st x r e → Onward r e y (entered t e r)
     stands-next r e ri ei l nl L y i = subst (λ y. Onward r e y (entered t e r)) (sym i) (stands-act r e ri ei l nl L)
@@ -145,6 +149,7 @@ module _ {A : Edges} {quotaS quotaT : List ℕ} (K : Known A quotaS quotaT) wher
     pub stands-end : m ≤ edgeOf G (stateAt S) → Reduced G (x .rem) (x .fixed) t
     stands-end h = reduced G (x .rem) (x .fixed) (S .kS) (S .kT) t (K .size) (S .ahead ∙ onward-stop G (m - t .steps) (stateAt S) t (edge-none G (stateAt S) h))
 
+    -- as many steps as edges: the run ends
     pub stands-full : m ≤ t .steps → Reduced G (x .rem) (x .fixed) t
     stands-full h = let j : m - t .steps ≡ 0 = omega arith in
         reduced G (x .rem) (x .fixed) (S .kS) (S .kT) t (K .size) (S .ahead ∙ ap (λ k. onward G k (stateAt S) t) j ∙ onward-none G (stateAt S) t)

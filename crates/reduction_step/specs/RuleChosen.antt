@@ -15,7 +15,8 @@ use Rattle.theory_reduction.specs.ByNode.{rule2S, rule2T, rule2-ends}
 use Rattle.reduction_nodes.specs.declared.Surveyor.{Surveyor}
 use Rattle.reduction_nodes.specs.declared.Stand.{Stand}
 use Rattle.reduction_nodes.specs.Known.{Edges, Known, instanceOf, stateOf}
-use Rattle.reduction_nodes.specs.Kept.{NodeLists, Tables, Looks, Later, Leads, Fresh, cellsS, cellsT}
+use Rattle.reduction_nodes.specs.Kept.{NodeLists, Tables, Filled, Looks, Later, Leads, Lates, Fresh, edges, later, cellsS, cellsT}
+use Rattle.reduction_nodes.specs.Numbers.{row}
 use Rattle.reduction_nodes.specs.NodeLaws.{Seen, Named, Loose, stand2, stand3, stand7, stand-loose, surveyor1, surveyor2, surveyor4, surveyor5, surveyor6}
 use Rattle.reduction_step.specs.Least.{Least, least-lowest, low-either}
 
@@ -58,13 +59,13 @@ module _ (G : Instance) (Z : State) where
     pub atS : (e : ℕ) → e < G .m → G .sv e < nodeLimit
     pub atT : (e : ℕ) → e < G .m → G .st e < nodeLimit
 
-  pub record Later37Named (rule3′ rule4′ rule5′ rule6′ rule7′ : List ℕ) : Type 0 where
+  pub record Later37Named (lates latet : List (List ℕ)) : Type 0 where
     pub fits : Fits
-    pub rule3 : Named G Z rule3′ (G .st) rule3
-    pub rule4 : Named G Z rule4′ (G .sv) rule4
-    pub rule5 : Named G Z rule5′ (G .sv) rule5
-    pub rule6 : Named G Z rule6′ (G .sv) rule6
-    pub rule7 : Named G Z rule7′ (G .st) rule7
+    pub rule3 : Named G Z (row latet 0) (G .st) rule3
+    pub rule4 : Named G Z (row lates 0) (G .sv) rule4
+    pub rule5 : Named G Z (row lates 1) (G .sv) rule5
+    pub rule6 : Named G Z (row lates 2) (G .sv) rule6
+    pub rule7 : Named G Z (row latet 1) (G .st) rule7
 
   pub lowest3 : Fits → (xs : List ℕ) → Named G Z xs (G .st) rule3 → (r : ℕ) → Least xs nodeLimit r → r ≡ lowest G Z 3
   unfolding lowest names
@@ -106,16 +107,34 @@ module _ (G : Instance) (Z : State) where
 
 -- ---- what the functions of a step promise
 -- of rules 3 to 7, of every instance and state whose numbers these are
-abbrev pub Later37 : (m : ℕ) (rule3 rule4 rule5 rule6 rule7 : List ℕ) (r e : ℕ) → Type 0
-Later37 m rule3 rule4 rule5 rule6 rule7 r e = (G : Instance) (Z : State) → m ≡ G .m → Later37Named G Z rule3 rule4 rule5 rule6 rule7 → Silent G Z 3
-    → Says G Z r e
+abbrev pub Later37 : (m : ℕ) (lates latet : List (List ℕ)) (r e : ℕ) → Type 0
+Later37 m lates latet r e = (G : Instance) (Z : State) → m ≡ G .m → Later37Named G Z lates latet → Silent G Z 3 → Says G Z r e
+
+-- below k of these rules none names an edge
+abbrev pub Quiet37 : (m : ℕ) (lates latet : List (List ℕ)) (k : ℕ) → Type 0
+Quiet37 m lates latet k = (G : Instance) (Z : State) → m ≡ G .m → Later37Named G Z lates latet → Silent G Z 3 → Silent G Z k
 
 -- of all rules, of every lawful instance and state that the arrays show
-abbrev pub Steps : (A : Edges) (X : Looks) (r e : ℕ) → Type 0
-Steps A X r e = (quotaS quotaT : List ℕ) (K : Known A quotaS quotaT) (fixed : List Bool) (kS kT : ℕ → ℕ)
+abbrev Steps : (A : Edges) (L : NodeLists) (X : Looks) (r e : ℕ) → Type 0
+Steps A L X r e = (quotaS quotaT : List ℕ) (K : Known A quotaS quotaT) → Filled A (K .tied) L → (fixed : List Bool) (kS kT : ℕ → ℕ)
     → Seen (instanceOf K) (stateOf (X .rem) fixed kS kT) (X .fs) (X .ft) (X .qs) (X .qt) → Says (instanceOf K) (stateOf (X .rem) fixed kS kT) r e
 
-module _ {A : Edges} {strict : List Bool} {L : NodeLists} (D : Tables A strict L) (X : Looks) {quotaS quotaT : List ℕ} (K : Known A quotaS quotaT)
+-- the later numbers are made anew, of all edges whose stands these are and whose tables
+abbrev pub Renews : (m : ℕ) (st : List ℕ) (L : NodeLists) (X : Looks) (x y : Later) → Type 0
+Renews m st L X x y = (sv rs rt : List ℕ) → Tables (edges m sv st rs rt) L → Lates (edges m sv st rs rt) L X x → Fresh (edges m sv st rs rt) L X y
+
+-- and the whole step, where the numbers of rules 1 and 2 are those of the arrays
+abbrev pub Stepped : (m : ℕ) (st : List ℕ) (L : NodeLists) (X : Looks) (lead : List (List ℕ)) (x y : Later) (r e : ℕ) → Type 0
+Stepped m st L X lead x y r e = (sv rs rt : List ℕ) → Tables (edges m sv st rs rt) L → Leads (edges m sv st rs rt) L X (row lead 0) (row lead 1) (row lead 2)
+    → Lates (edges m sv st rs rt) L X x → Lates (edges m sv st rs rt) L X y × Steps (edges m sv st rs rt) L X r e
+
+-- while the code asks: no rule below k names an edge, of every lawful instance and state that the arrays show
+abbrev pub Quiet : (m : ℕ) (st : List ℕ) (L : NodeLists) (X : Looks) (lead : List (List ℕ)) (k : ℕ) → Type 0
+Quiet m st L X lead k = (sv rs rt : List ℕ) → Leads (edges m sv st rs rt) L X (row lead 0) (row lead 1) (row lead 2) → (quotaS quotaT : List ℕ)
+    (K : Known (edges m sv st rs rt) quotaS quotaT) → Filled (edges m sv st rs rt) (K .tied) L → (fixed : List Bool) (kS kT : ℕ → ℕ)
+    → Seen (instanceOf K) (stateOf (X .rem) fixed kS kT) (X .fs) (X .ft) (X .qs) (X .qt) → Silent (instanceOf K) (stateOf (X .rem) fixed kS kT) k
+
+module _ {A : Edges} {L : NodeLists} (X : Looks) {quotaS quotaT : List ℕ} (K : Known A quotaS quotaT) (F : Filled A (K .tied) L)
     (fixed : List Bool) (kS kT : ℕ → ℕ)
     (S : Seen (instanceOf K) (stateOf (X .rem) fixed kS kT) (X .fs) (X .ft) (X .qs) (X .qt)) where
   abbrev G : Instance
@@ -125,34 +144,35 @@ module _ {A : Edges} {strict : List Bool} {L : NodeLists} (D : Tables A strict L
   Z = stateOf (X .rem) fixed kS kT
 
   fits : Fits G Z
-  fits = record { atS = D .fitS; atT = D .fitT }
+  fits = record { atS = K .fitS; atT = K .fitT }
 
   pub first-says : (one twoS twoT : List ℕ) → Leads A L X one twoS twoT → (r : ℕ) → Least one nodeLimit r → r ≡ lowest G Z 1
   first-says one twoS twoT H r M = lowest1 G Z fits one
-      (λ v w. H .first v w ∙ surveyor1 K (X .rem) fixed kS kT (X .fs) (X .ft) (X .qs) (X .qt) S (L .cellS) (L .cellT) (cellsS D K) (cellsT D K) v w) r M
+      (λ v w. H .first v w ∙ surveyor1 K (X .rem) fixed kS kT (X .fs) (X .ft) (X .qs) (X .qt) S (L .tableS) (L .tableT) (cellsS K F) (cellsT K F) v w) r M
 
   pub second-says : (one twoS twoT : List ℕ) → Leads A L X one twoS twoT → (a b r : ℕ) → Least twoS nodeLimit a → Least twoT nodeLimit b → r ≡ min a b
       → r ≡ lowest G Z 2
   second-says one twoS twoT H = lowest2 G Z fits twoS twoT
-      (λ v w. H .atS v w ∙ surveyor2 K (X .rem) fixed kS kT (X .fs) (X .ft) (X .qs) (X .qt) S (L .cellS) (L .cellT) (cellsS D K) (cellsT D K) v w)
-      (λ v w. H .atT v w ∙ stand2 K (X .rem) fixed kS kT (X .fs) (X .ft) (X .qs) (X .qt) S (L .cellS) (L .cellT) (cellsS D K) (cellsT D K) v w)
+      (λ v w. H .atS v w ∙ surveyor2 K (X .rem) fixed kS kT (X .fs) (X .ft) (X .qs) (X .qt) S (L .tableS) (L .tableT) (cellsS K F) (cellsT K F) v w)
+      (λ v w. H .atT v w ∙ stand2 K (X .rem) fixed kS kT (X .fs) (X .ft) (X .qs) (X .qt) S (L .tableS) (L .tableT) (cellsS K F) (cellsT K F) v w)
 
-  pub later-named : (x : Later) → Fresh A L X x
-      → Later37Named G Z (x .stands .rule3) (x .surveyors .rule4) (x .surveyors .rule5) (x .surveyors .rule6) (x .stands .rule7)
-  later-named x F =
+  pub later-named : (lates latet : List (List ℕ)) (loose olds oldt : List Bool) → Fresh A L X (later lates latet loose olds oldt)
+      → Later37Named G Z lates latet
+  later-named lates latet loose olds oldt H =
+      let x = later lates latet loose olds oldt in
       let lo : Loose G Z (x .stands .loose)
-      = (λ v w. ap (λ (s : Stand). s .loose) (F .lates .stand v w (F .noneT v w))
-      ∙ stand-loose K (X .rem) fixed kS kT (X .fs) (X .ft) (X .qs) (X .qt) S (L .cellS) (L .cellT) (cellsS D K) (cellsT D K) v w) in
+      = (λ v w. ap (λ (s : Stand). s .loose) (H .lates .stand v w (H .noneT v w))
+      ∙ stand-loose K (X .rem) fixed kS kT (X .fs) (X .ft) (X .qs) (X .qt) S (L .tableS) (L .tableT) (cellsS K F) (cellsT K F) v w) in
       record {
         fits = fits;
-        rule3 = λ v w. ap (λ (s : Stand). s .rule3) (F .lates .stand v w (F .noneT v w))
-            ∙ stand3 K (X .rem) fixed kS kT (X .fs) (X .ft) (X .qs) (X .qt) S (L .cellS) (L .cellT) (cellsS D K) (cellsT D K) v w;
-        rule4 = λ v w. ap (λ (s : Surveyor). s .rule4) (F .lates .surveyor v w (F .noneS v w))
-            ∙ surveyor4 K (X .rem) fixed kS kT (X .fs) (X .ft) (X .qs) (X .qt) S (L .cellS) (L .cellT) (cellsS D K) (cellsT D K) (x .stands .loose) lo v w;
-        rule5 = λ v w. ap (λ (s : Surveyor). s .rule5) (F .lates .surveyor v w (F .noneS v w))
-            ∙ surveyor5 K (X .rem) fixed kS kT (X .fs) (X .ft) (X .qs) (X .qt) S (L .cellS) (L .cellT) (cellsS D K) (cellsT D K) (x .stands .loose) lo v w;
-        rule6 = λ v w. ap (λ (s : Surveyor). s .rule6) (F .lates .surveyor v w (F .noneS v w))
-            ∙ surveyor6 K (X .rem) fixed kS kT (X .fs) (X .ft) (X .qs) (X .qt) S (L .cellS) (L .cellT) (cellsS D K) (cellsT D K) (x .stands .loose) lo v w;
-        rule7 = λ v w. ap (λ (s : Stand). s .rule7) (F .lates .stand v w (F .noneT v w))
-            ∙ stand7 K (X .rem) fixed kS kT (X .fs) (X .ft) (X .qs) (X .qt) S (L .cellS) (L .cellT) (cellsS D K) (cellsT D K) v w;
+        rule3 = λ v w. ap (λ (s : Stand). s .rule3) (H .lates .stand v w (H .noneT v w))
+            ∙ stand3 K (X .rem) fixed kS kT (X .fs) (X .ft) (X .qs) (X .qt) S (L .tableS) (L .tableT) (cellsS K F) (cellsT K F) v w;
+        rule4 = λ v w. ap (λ (s : Surveyor). s .rule4) (H .lates .surveyor v w (H .noneS v w))
+            ∙ surveyor4 K (X .rem) fixed kS kT (X .fs) (X .ft) (X .qs) (X .qt) S (L .tableS) (L .tableT) (cellsS K F) (cellsT K F) (x .stands .loose) lo v w;
+        rule5 = λ v w. ap (λ (s : Surveyor). s .rule5) (H .lates .surveyor v w (H .noneS v w))
+            ∙ surveyor5 K (X .rem) fixed kS kT (X .fs) (X .ft) (X .qs) (X .qt) S (L .tableS) (L .tableT) (cellsS K F) (cellsT K F) (x .stands .loose) lo v w;
+        rule6 = λ v w. ap (λ (s : Surveyor). s .rule6) (H .lates .surveyor v w (H .noneS v w))
+            ∙ surveyor6 K (X .rem) fixed kS kT (X .fs) (X .ft) (X .qs) (X .qt) S (L .tableS) (L .tableT) (cellsS K F) (cellsT K F) (x .stands .loose) lo v w;
+        rule7 = λ v w. ap (λ (s : Stand). s .rule7) (H .lates .stand v w (H .noneT v w))
+            ∙ stand7 K (X .rem) fixed kS kT (X .fs) (X .ft) (X .qs) (X .qt) S (L .tableS) (L .tableT) (cellsS K F) (cellsT K F) v w;
       }

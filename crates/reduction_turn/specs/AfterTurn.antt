@@ -17,7 +17,7 @@ use Rattle.arrays.specs.ArrayInstance.{at, flag}
 use Rattle.reduction_cells.specs.Painted.{Painted}
 use Rattle.reduction_cells.specs.CellLaws.{Cells, arrow-tied, painted-new, painted-other}
 use Rattle.reduction_nodes.specs.Known.{Edges, Known, instanceOf}
-use Rattle.reduction_nodes.specs.Kept.{NodeLists, Tables, cellsS, cellsT}
+use Rattle.reduction_nodes.specs.Kept.{NodeLists, Tables, Filled, cellsS, cellsT}
 use Rattle.reduction_state.specs.declared.State as arrays
 use Rattle.reduction_state.specs.declared.Trace.{Trace}
 use Rattle.reduction_state.specs.Trace.{entered}
@@ -27,8 +27,8 @@ use Rattle.reduction_state.specs.RunArrows.{Shown}
 use Rattle.reduction_turn.specs.Onward.{Gone, gone-other, Arrows}
 
 -- one step on, in every lawful instance that the arrays show
-abbrev pub ShownOn : (A : Edges) (x : arrays.State) (fs ft : List Bool) (r e : ℕ) (y : arrays.State) (fs′ ft′ : List Bool) → Type 0
-ShownOn A x fs ft r e y fs′ ft′ = (quotaS quotaT : List ℕ) (K : Known A quotaS quotaT) (t : Trace) (S : Shown (instanceOf K) x fs ft t)
+abbrev pub ShownOn : (A : Edges) (L : NodeLists) (x : arrays.State) (fs ft : List Bool) (r e : ℕ) (y : arrays.State) (fs′ ft′ : List Bool) → Type 0
+ShownOn A L x fs ft r e y fs′ ft′ = (quotaS quotaT : List ℕ) (K : Known A quotaS quotaT) → Filled A (K .tied) L → (t : Trace) (S : Shown (instanceOf K) x fs ft t)
     → ruleOf (instanceOf K) (stateAt (S .stood)) ≡ r → edgeOf (instanceOf K) (stateAt (S .stood)) ≡ e → t .steps < A .m → Shown (instanceOf K) y fs′ ft′
     (entered t e r)
 
@@ -68,9 +68,9 @@ module _ (K : Side) (law : Ranked K) (cell : List ℕ) (C : Cells K cell) (rem�
       ∙ sym (arrow-local K (λ c. flag rem₀ c && not (eqb c e)) (flag rem) k₀ k d l (λ c cl j. g c) (h (K .end d) (C .nodes d l)))
 
 -- ---- both sides
-module _ (A : Edges) (strict : List Bool) (L : NodeLists) (D : Tables A strict L) (x : arrays.State) (fs ft : List Bool) (r e : ℕ) (el : e < A .m) (z : Sized x)
+module _ (A : Edges) (L : NodeLists) (D : Tables A L) (x : arrays.State) (fs ft : List Bool) (r e : ℕ) (el : e < A .m) (z : Sized x)
     (y : arrays.State) (i : y ≡ acted (A .sv) (A .st) x r e) where
-  module _ {quotaS quotaT : List ℕ} (K : Known A quotaS quotaT) (t : Trace) (S : Shown (instanceOf K) x fs ft t)
+  module _ {quotaS quotaT : List ℕ} (K : Known A quotaS quotaT) (F : Filled A (K .tied) L) (t : Trace) (S : Shown (instanceOf K) x fs ft t)
       (ri : ruleOf (instanceOf K) (stateAt (S .stood)) ≡ r) (ei : edgeOf (instanceOf K) (stateAt (S .stood)) ≡ e) (nl : t .steps < A .m) where
     abbrev G : Instance
     G = instanceOf K
@@ -90,36 +90,36 @@ module _ (A : Edges) (strict : List Bool) (L : NodeLists) (D : Tables A strict L
 
     -- at each end painted, or as they were
     arrows-S : (fs′ : List Bool) (on : Bool)
-        → Arrows (A .m) (A .st) (L .cellS) (y .rem) (at (A .sv) e) (at (y .qs) (at (A .sv) e)) on fs fs′
+        → Arrows (A .m) (A .st) (L .tableS) (y .rem) (at (A .sv) e) (at (y .qs) (at (A .sv) e)) on fs fs′
         → (on ≡ false → (flag fs e ≡ false) × (at (x .qs) (at (A .sv) e) ≡ at (y .qs) (at (A .sv) e)))
         → (d : ℕ) → d < A .m → flag fs′ d ≡ arrowS G (stateAt next) d
     arrows-S fs′ on R c = by-bool on
-        (λ o. given (R .anew o) (λ (w, P). painted-on (surveyors G) (K .law .atS) (L .cellS) (cellsS D K) (x .rem) (y .rem) e gone (cutS G (stateAt (S .stood)))
+        (λ o. given (R .anew o) (λ (w, P). painted-on (surveyors G) (K .law .atS) (L .tableS) (cellsS K F) (x .rem) (y .rem) e gone (cutS G (stateAt (S .stood)))
         (cutS G (stateAt next)) fs (S .fromS) (D .fitS e el) (A .st) (at (y .qs) (at (A .sv) e)) fs′ w P
         (sym (next .holds .atS .cut-is (at (A .sv) e) (D .fitS e el))) (λ v w n. cutS-on v w (acted-qs (A .sv) (A .st) x r e y i v n))))
         (λ o. given (c o) (λ (n, q) d l. ap (λ f. flag f d) (R .still o)
-        ∙ calm-arrows (surveyors G) (K .law .atS) (L .cellS) (cellsS D K) (x .rem) (y .rem) e gone (cutS G (stateAt (S .stood))) (cutS G (stateAt next)) fs
+        ∙ calm-arrows (surveyors G) (K .law .atS) (L .tableS) (cellsS K F) (x .rem) (y .rem) e gone (cutS G (stateAt (S .stood))) (cutS G (stateAt next)) fs
         (S .fromS) el n (λ v w. cutS-on v w (same-qs (A .sv) (A .st) x r e y i q v)) d l))
 
     arrows-T : (ft′ : List Bool) (on : Bool)
-        → Arrows (A .m) (A .sv) (L .cellT) (y .rem) (at (A .st) e) (at (y .qt) (at (A .st) e)) on ft ft′
+        → Arrows (A .m) (A .sv) (L .tableT) (y .rem) (at (A .st) e) (at (y .qt) (at (A .st) e)) on ft ft′
         → (on ≡ false → (flag ft e ≡ false) × (at (x .qt) (at (A .st) e) ≡ at (y .qt) (at (A .st) e)))
         → (d : ℕ) → d < A .m → flag ft′ d ≡ arrowT G (stateAt next) d
     arrows-T ft′ on R c = by-bool on
-        (λ o. given (R .anew o) (λ (w, P). painted-on (stands G) (K .law .atT) (L .cellT) (cellsT D K) (x .rem) (y .rem) e gone (cutT G (stateAt (S .stood)))
+        (λ o. given (R .anew o) (λ (w, P). painted-on (stands G) (K .law .atT) (L .tableT) (cellsT K F) (x .rem) (y .rem) e gone (cutT G (stateAt (S .stood)))
         (cutT G (stateAt next)) ft (S .fromT) (D .fitT e el) (A .sv) (at (y .qt) (at (A .st) e)) ft′ w P
         (sym (next .holds .atT .cut-is (at (A .st) e) (D .fitT e el))) (λ v w n. cutT-on v w (acted-qt (A .sv) (A .st) x r e y i v n))))
         (λ o. given (c o) (λ (n, q) d l. ap (λ f. flag f d) (R .still o)
-        ∙ calm-arrows (stands G) (K .law .atT) (L .cellT) (cellsT D K) (x .rem) (y .rem) e gone (cutT G (stateAt (S .stood))) (cutT G (stateAt next)) ft
+        ∙ calm-arrows (stands G) (K .law .atT) (L .tableT) (cellsT K F) (x .rem) (y .rem) e gone (cutT G (stateAt (S .stood))) (cutT G (stateAt next)) ft
         (S .fromT) el n (λ v w. cutT-on v w (same-qt (A .sv) (A .st) x r e y i q v)) d l))
 
   pub shown-on : (fs′ ft′ : List Bool) (onS onT : Bool)
-      → Arrows (A .m) (A .st) (L .cellS) (y .rem) (at (A .sv) e) (at (y .qs) (at (A .sv) e)) onS fs fs′
+      → Arrows (A .m) (A .st) (L .tableS) (y .rem) (at (A .sv) e) (at (y .qs) (at (A .sv) e)) onS fs fs′
       → (onS ≡ false → (flag fs e ≡ false) × (at (x .qs) (at (A .sv) e) ≡ at (y .qs) (at (A .sv) e)))
-      → Arrows (A .m) (A .sv) (L .cellT) (y .rem) (at (A .st) e) (at (y .qt) (at (A .st) e)) onT ft ft′
-      → (onT ≡ false → (flag ft e ≡ false) × (at (x .qt) (at (A .st) e) ≡ at (y .qt) (at (A .st) e))) → ShownOn A x fs ft r e y fs′ ft′
-  shown-on fs′ ft′ onS onT RS cS RT cT quotaS quotaT K t S ri ei nl = record {
-    stood = next K t S ri ei nl;
-    fromS = arrows-S K t S ri ei nl fs′ onS RS cS;
-    fromT = arrows-T K t S ri ei nl ft′ onT RT cT;
+      → Arrows (A .m) (A .sv) (L .tableT) (y .rem) (at (A .st) e) (at (y .qt) (at (A .st) e)) onT ft ft′
+      → (onT ≡ false → (flag ft e ≡ false) × (at (x .qt) (at (A .st) e) ≡ at (y .qt) (at (A .st) e))) → ShownOn A L x fs ft r e y fs′ ft′
+  shown-on fs′ ft′ onS onT RS cS RT cT quotaS quotaT K F t S ri ei nl = record {
+    stood = next K F t S ri ei nl;
+    fromS = arrows-S K F t S ri ei nl fs′ onS RS cS;
+    fromT = arrows-T K F t S ri ei nl ft′ onT RT cT;
   }

@@ -6,19 +6,18 @@ use mathlib.Core.Path.{_≡_, refl, sym, ap, _∙_, subst}
 use mathlib.Core.Logic.{_≢_, _⊎_, inl, inr, ⊎-elim, ⊎-map}
 use mathlib.Core.Bool.{Bool, true, false, not, cond, _&&_, _||_, and-true, and-false, or-false}
 use mathlib.Core.List.{List}
-use lib.ListN.{length, set}
+use lib.ListN.{length, set, length-set}
 use lib.Seq.{getD-set-same, getD-set-other}
 use lib.Dec.{T, eqb}
 use Rattle.lists.specs.Test.{by-eq, by-bool, given, eqb-yes, eqb-no}
 use Rattle.model.specs.Limits.{nodeLimit, emptyRank}
 use Rattle.arrays.specs.ArrayInstance.{at, flag}
-use Rattle.arrays.specs.Passes.{Low}
-use Rattle.reduction_cells.specs.Cells.{Celled, inCell, same-place, cell-holds}
+use Rattle.reduction_cells.specs.Cells.{Owned, inCell}
 use Rattle.reduction_cells.specs.Painted.{Painted, or-parts, among, among-none}
 use Rattle.reduction_cells.specs.Local.{Agree}
 use Rattle.reduction_nodes.specs.Known.{Edges}
 use Rattle.reduction_nodes.specs.Renewed.{RenewedBy, by-all, among-own, among-other, or-true}
-use Rattle.reduction_nodes.specs.Numbers.{firstOf, secondOf, secondsOf, Surveyors, Stands}
+use Rattle.reduction_nodes.specs.Numbers.{row, row-own, row-other, Rows, firstOf, secondOf, secondsOf, Surveyors, Stands}
 use Rattle.reduction_nodes.specs.Local.{Same, first-local, second-local, stand-local, surveyor-local, second-struck}
 use Rattle.reduction_nodes.specs.Kept.{NodeLists, Tables, Looks, looks, Later, Leads, Lates, firstNow, secondS, secondT}
 
@@ -44,15 +43,15 @@ pub record Numbers : Type 0 where
   pub olds : List Bool
   pub oldt : List Bool
 
-abbrev pub numbers : (one twos twot : List ℕ) (olds oldt : List Bool) → Numbers
-numbers one twos twot olds oldt = record { one = one; twos = twos; twot = twot; olds = olds; oldt = oldt }
+-- the rows of `lead`: rule 1, and rule 2 by surveyor and by stand
+abbrev pub numbers : (lead : List (List ℕ)) (olds oldt : List Bool) → Numbers
+numbers lead olds oldt = record { one = row lead 0; twos = row lead 1; twot = row lead 2; olds = olds; oldt = oldt }
 
-pub record SizedN (k : Numbers) : Type 0 where
-  pub one : length (k .one) ≡ nodeLimit
-  pub twos : length (k .twos) ≡ nodeLimit
-  pub twot : length (k .twot) ≡ nodeLimit
-  pub olds : length (k .olds) ≡ nodeLimit
-  pub oldt : length (k .oldt) ≡ nodeLimit
+-- their sizes
+pub record SizedN (lead : List (List ℕ)) (olds oldt : List Bool) : Type 0 where
+  pub rows : Rows 3 lead
+  pub sizeS : length olds ≡ nodeLimit
+  pub sizeT : length oldt ≡ nodeLimit
 
 abbrev pub later : Surveyors → Stands → Numbers → Later
 later x y k = record { surveyors = x; stands = y; olds = k .olds; oldt = k .oldt }
@@ -66,21 +65,21 @@ abbrev Unmoved : (m : ℕ) (end : List ℕ) (X Y : Looks) (old old′ : List Boo
 Unmoved m end X Y old old′ q q′ = (v : ℕ) → v < nodeLimit → flag old′ v ≡ false
     → (flag old v ≡ false) × Same m end v (X .rem) (X .fs) (X .ft) (Y .rem) (Y .fs) (Y .ft) × (at q′ v ≡ at q v)
 
-module _ (A : Edges) (strict : List Bool) (L : NodeLists) (D : Tables A strict L) where
+module _ (A : Edges) (L : NodeLists) (D : Tables A L) where
   lates-on : (X Y : Looks) (k k′ : Numbers) → Unmoved (A .m) (A .sv) X Y (k .olds) (k′ .olds) (X .qs) (Y .qs)
       → Unmoved (A .m) (A .st) X Y (k .oldt) (k′ .oldt) (X .qt) (Y .qt) → (x : Surveyors) (y : Stands) → Lates A L X (later x y k) → Lates A L Y (later x y k′)
   lates-on X Y k k′ hS hT x y K = record {
     stand = λ v w t. given (hT v w t) (λ (a, s, q). K .stand v w a
-        ∙ sym (stand-local (A .m) (A .st) (A .rt) (A .tied) (L .cellT) (D .celledT) (D .placedT) v w (X .rem) (X .fs) (X .ft) (Y .rem) (Y .fs) (Y .ft)
+        ∙ sym (stand-local (A .m) (A .st) (L .tableT) (D .ownedT) v w (X .rem) (X .fs) (X .ft) (Y .rem) (Y .fs) (Y .ft)
         (at (X .qt) v) (at (Y .qt) v) s q));
     surveyor = λ v w t. given (hS v w t) (λ (a, s, q). K .surveyor v w a
-        ∙ sym (surveyor-local (A .m) (A .sv) (A .rs) strict (L .cellS) (D .celledS) (D .placedS) v w (A .st) (X .rem) (X .fs) (X .ft) (y .loose)
+        ∙ sym (surveyor-local (A .m) (A .sv) (L .tableS) (D .ownedS) v w (A .st) (X .rem) (X .fs) (X .ft) (y .loose)
         (Y .rem) (Y .fs) (Y .ft) (y .loose) (at (X .qs) v) (at (Y .qs) v) s (λ e l j. refl) q));
   }
 
 -- ---- rule 2's numbers of one side while a turn goes on: e is gone, and at its end alone the quota may have fallen and the number may still be the one
 -- of before
-module _ (m : ℕ) (end rank : List ℕ) (tied : List Bool) (cell : List ℕ) (C : Celled m end rank tied cell) (placed : Low m rank emptyRank)
+module _ (m : ℕ) (end rank cell : List ℕ) (O : Owned m end cell)
     (rem₀ rem : List Bool) (q₀ q : List ℕ) (e : ℕ) (fit : at end e < nodeLimit) (g : Gone rem₀ rem e) where
   abbrev new : List Bool → ℕ → ℕ
   new f = secondsOf m end rank cell rem f q
@@ -95,7 +94,7 @@ module _ (m : ℕ) (end rank : List ℕ) (tied : List Bool) (cell : List ℕ) (C
   waiting-first : (f : List Bool) (x : List ℕ) → ((v : ℕ) → v ≢ at end e → at q v ≡ at q₀ v) → ((v : ℕ) → v < nodeLimit → at x v ≡ before f v) → Waiting f x
   waiting-first f x Q H = record {
     apart = λ v w n. H v w
-        ∙ sym (second-local m end rank tied cell C placed v w rem₀ f rem f (at q₀ v) (at q v) (gone-apart m end rem₀ rem e g v n) (λ d l j. refl) (Q v n));
+        ∙ sym (second-local m end cell O v w rank rem₀ f rem f (at q₀ v) (at q v) (gone-apart m end rem₀ rem e g v n) (λ d l j. refl) (Q v n));
     own = inr (H (at end e) fit);
   }
 
@@ -113,7 +112,7 @@ module _ (m : ℕ) (end rank : List ℕ) (tied : List Bool) (cell : List ℕ) (C
       kept : (v : ℕ) → v < nodeLimit → seen v ≡ false → (rem : List Bool) (q : List ℕ)
           → secondsOf m end rank cell rem f q v ≡ secondsOf m end rank cell rem f′ q v
       kept v w t rem q =
-          sym (second-local m end rank tied cell C placed v w rem f rem f′ (at q v) (at q v) (λ d l j. refl) (A v t) refl)
+          sym (second-local m end cell O v w rank rem f rem f′ (at q v) (at q v) (λ d l j. refl) (A v t) refl)
 
   -- at the end of e it is read anew if it was e or the quota fell
   waiting-over : (f : List Bool) (x x′ : List ℕ) (fell : Bool) → (fell ≡ false → at q (at end e) ≡ at q₀ (at end e))
@@ -183,15 +182,31 @@ carried-still m sv end other v f rule1 rule2 one two old = record {
   marked = λ u. sym (or-false (flag old u));
 }
 
+-- arrays that are the same
+pub carried-same : {m : ℕ} {sv end other : List ℕ} {v : ℕ} {f f′ : List Bool} {rule1 rule2 : ℕ → ℕ} {one one₁ one₂ two₀ two₁ two₂ two₃ : List ℕ}
+    {old old′ : List Bool} → one₁ ≡ one₂ → two₀ ≡ two₁ → two₂ ≡ two₃ → Carried m sv end other v f f′ rule1 rule2 one one₁ two₀ two₂ old old′
+    → Carried m sv end other v f f′ rule1 rule2 one one₂ two₁ two₃ old old′
+carried-same {m} {sv} {end} {other} {v} {f} {f′} {rule1} {rule2} {one} {one₁} {two₁} {two₂} {two₃} {old} {old′} p q r C =
+    subst (λ (x : List ℕ). Carried m sv end other v f f′ rule1 rule2 one x two₁ two₃ old old′) p
+    (subst (λ (x : List ℕ). Carried m sv end other v f f′ rule1 rule2 one one₁ two₁ x old old′) r
+    (subst (λ (x : List ℕ). Carried m sv end other v f f′ rule1 rule2 one one₁ x two₂ old old′) q C))
+
+-- the first two rows are written, one after the other
+pub rows-two : (lead : List (List ℕ)) {x y : List ℕ} → Rows 3 lead → Rows 3 (set lead 0 x) → Rows 3 (set (set lead 0 x) 1 y)
+    → (x ≡ row (set (set lead 0 x) 1 y) 0) × (row (set lead 0 x) 1 ≡ row lead 1) × (y ≡ row (set (set lead 0 x) 1 y) 1)
+    × (row (set (set lead 0 x) 1 y) 2 ≡ row lead 2)
+rows-two lead {x} {y} R R₁ R₂ = (
+  sym (row-other (set lead 0 x) 1 0 y (λ (z : 0 ≡ 1). absurd (omega arith)) ∙ row-own lead 0 x (omega (arith, R .rows))),
+  row-other lead 0 1 x (λ (z : 1 ≡ 0). absurd (omega arith)),
+  sym (row-own (set lead 0 x) 1 y (omega (arith, R₁ .rows))),
+  row-other (set lead 0 x) 1 2 y (λ (z : 2 ≡ 1). absurd (omega arith)) ∙ row-other lead 0 2 x (λ (z : 2 ≡ 0). absurd (omega arith)),
+)
+
 -- at its own side the arrows of other nodes stay
-pub painted-apart : (m : ℕ) (end rank : List ℕ) (tied : List Bool) (cell : List ℕ) → Celled m end rank tied cell → Low m rank emptyRank → (other : List ℕ)
-    (rem : List Bool) (v q : ℕ) → v < nodeLimit → (f₀ f : List Bool) (w : ℕ → Bool) → Painted m other cell rem v q emptyRank f₀ f w → (u : ℕ) → u ≢ v
+pub painted-apart : (m : ℕ) (end cell : List ℕ) → Owned m end cell → (other : List ℕ) (rem : List Bool) (v q : ℕ) → v < nodeLimit → (f₀ f : List Bool) (w : ℕ → Bool) → Painted m other cell rem v q emptyRank f₀ f w → (u : ℕ) → u ≢ v
     → Agree m end u (flag f) (flag f₀)
-painted-apart m end rank tied cell C placed other rem v q vl f₀ f w P u n d l j = P .old d (λ i h (z : inCell cell v i ≡ d).
-    let k : inCell cell v i < m = omega arith in
-    n (sym j ∙ ap (at end) (sym z)
-    ∙ same-place (at end (inCell cell v i)) v (at rank (inCell cell v i)) i (placed (inCell cell v i) k) h (cell-holds m end rank tied cell C v i vl h k .0)
-    .0))
+painted-apart m end cell O other rem v q vl f₀ f w P u n d l j = P .old d (λ i h (z : inCell cell v i ≡ d).
+    n (sym j ∙ ap (at end) (sym z) ∙ O v i vl h (omega arith)))
 
 -- one number is read anew
 pub one-renewed : (new : ℕ → ℕ) (x : List ℕ) (v y : ℕ) → v < length x → y ≡ new v → RenewedBy (λ u. eqb u v) new x (set x v y)
@@ -215,9 +230,9 @@ pub both-ways {ℓ} : {B : Type ℓ} {b : Bool} → b ≡ true → b ≡ false �
 both-ways t f = absurd (subst T (sym t ∙ f) tt)
 
 -- ---- the whole turn: both ends marked old, the arrows of s and then those of t, and rule 2's numbers at both ends
-module _ (A : Edges) (strict : List Bool) (L : NodeLists) (D : Tables A strict L) (rem₀ rem : List Bool) (qs₀ qs qt₀ qt : List ℕ) (e : ℕ) (el : e < A .m)
+module _ (A : Edges) (L : NodeLists) (D : Tables A L) (rem₀ rem : List Bool) (qs₀ qs qt₀ qt : List ℕ) (e : ℕ) (el : e < A .m)
     (g : Gone rem₀ rem e) (QS : (v : ℕ) → v ≢ at (A .sv) e → at qs v ≡ at qs₀ v) (QT : (v : ℕ) → v ≢ at (A .st) e → at qt v ≡ at qt₀ v)
-    (fs ft fs′ ft′ : List Bool) (k : Numbers) (z : SizedN k) where
+    (fs ft fs′ ft′ : List Bool) (k : Numbers) (zS : length (k .olds) ≡ nodeLimit) (zT : length (k .oldt) ≡ nodeLimit) where
   abbrev X : Looks
   X = looks rem₀ fs ft qs₀ qt₀
 
@@ -246,25 +261,28 @@ module _ (A : Edges) (strict : List Bool) (L : NodeLists) (D : Tables A strict L
     secondS-on : ((v : ℕ) → v < nodeLimit → at (k .twos) v ≡ secondS A L X v) → (v : ℕ) → v < nodeLimit → at twos v ≡ secondS A L Y v
     secondS-on H =
         let fit = D .fitS e el in
-        waiting-over (A .m) (A .sv) (A .rs) strict (L .cellS) (D .celledS) (D .placedS) rem₀ rem qs₀ qs e fit g ft′ twos₁ twos fellS FS RS
-        (waiting-seen (A .m) (A .sv) (A .rs) strict (L .cellS) (D .celledS) (D .placedS) rem₀ rem qs₀ qs e fit g ft ft′ (k .twos) twos₁ (T′ .seen) (T′ .across)
+        waiting-over (A .m) (A .sv) (A .rs) (L .tableS) (D .ownedS) rem₀ rem qs₀ qs e fit g ft′ twos₁ twos fellS FS RS
+        (waiting-seen (A .m) (A .sv) (A .rs) (L .tableS) (D .ownedS) rem₀ rem qs₀ qs e fit g ft ft′ (k .twos) twos₁ (T′ .seen) (T′ .across)
         (T′ .second)
-        (waiting-first (A .m) (A .sv) (A .rs) strict (L .cellS) (D .celledS) (D .placedS) rem₀ rem qs₀ qs e fit g ft (k .twos) QS H))
+        (waiting-first (A .m) (A .sv) (A .rs) (L .tableS) (D .ownedS) rem₀ rem qs₀ qs e fit g ft (k .twos) QS H))
 
     secondT-on : ((v : ℕ) → v < nodeLimit → at (k .twot) v ≡ secondT A L X v) → (v : ℕ) → v < nodeLimit → at twot v ≡ secondT A L Y v
     secondT-on H =
         let fit = D .fitT e el in
-        waiting-over (A .m) (A .st) (A .rt) (A .tied) (L .cellT) (D .celledT) (D .placedT) rem₀ rem qt₀ qt e fit g fs′ twot₁ twot fellT FT RT
-        (waiting-seen (A .m) (A .st) (A .rt) (A .tied) (L .cellT) (D .celledT) (D .placedT) rem₀ rem qt₀ qt e fit g fs fs′ (k .twot) twot₁ (S .seen) (S .across)
+        waiting-over (A .m) (A .st) (A .rt) (L .tableT) (D .ownedT) rem₀ rem qt₀ qt e fit g fs′ twot₁ twot fellT FT RT
+        (waiting-seen (A .m) (A .st) (A .rt) (L .tableT) (D .ownedT) rem₀ rem qt₀ qt e fit g fs fs′ (k .twot) twot₁ (S .seen) (S .across)
         (S .second)
-        (waiting-first (A .m) (A .st) (A .rt) (A .tied) (L .cellT) (D .celledT) (D .placedT) rem₀ rem qt₀ qt e fit g fs (k .twot) QT H))
+        (waiting-first (A .m) (A .st) (A .rt) (L .tableT) (D .ownedT) rem₀ rem qt₀ qt e fit g fs (k .twot) QT H))
 
-    pub turn-on : Onward A L X k Y (numbers one twos twot olds oldt)
+    abbrev after : Numbers
+    after = record { one = one; twos = twos; twot = twot; olds = olds; oldt = oldt }
+
+    pub turn-on : Onward A L X k Y after
     turn-on = record {
       leads = λ H. record { first = first-on (H .first); atS = secondS-on (H .atS); atT = secondT-on (H .atT) };
-      lates = lates-on A strict L D X Y k (numbers one twos twot olds oldt)
+      lates = lates-on A L D X Y k after
           (λ v w t. given (or-parts (flag (set (k .olds) (at (A .sv) e) true) v) (T′ .seen v) (sym (T′ .marked v) ∙ t))
-          (λ (a, b). given (marked-other (k .olds) (at (A .sv) e) v (z .olds) (D .fitS e el) a) (λ (n, o). (
+          (λ (a, b). given (marked-other (k .olds) (at (A .sv) e) v zS (D .fitS e el) a) (λ (n, o). (
             o,
             record {
               left = gone-apart (A .m) (A .sv) rem₀ rem e g v n;
@@ -274,7 +292,7 @@ module _ (A : Edges) (strict : List Bool) (L : NodeLists) (D : Tables A strict L
             QS v n,
           ))))
           (λ v w t. given (or-parts (flag (set (k .oldt) (at (A .st) e) true) v) (S .seen v) (sym (S .marked v) ∙ t))
-          (λ (a, b). given (marked-other (k .oldt) (at (A .st) e) v (z .oldt) (D .fitT e el) a) (λ (n, o). (
+          (λ (a, b). given (marked-other (k .oldt) (at (A .st) e) v zT (D .fitT e el) a) (λ (n, o). (
             o,
             record {
               left = gone-apart (A .m) (A .st) rem₀ rem e g v n;
@@ -284,3 +302,37 @@ module _ (A : Edges) (strict : List Bool) (L : NodeLists) (D : Tables A strict L
             QT v n,
           ))));
     }
+
+-- the same by rows: `leadS` and `leadT` are the rows after the arrows of s and those of t, and then rule 2's two rows are entered
+module _ (A : Edges) (L : NodeLists) (D : Tables A L) (rem₀ rem : List Bool) (qs₀ qs qt₀ qt : List ℕ) (e : ℕ) (el : e < A .m)
+    (g : Gone rem₀ rem e) (QS : (v : ℕ) → v ≢ at (A .sv) e → at qs v ≡ at qs₀ v) (QT : (v : ℕ) → v ≢ at (A .st) e → at qt v ≡ at qt₀ v)
+    (fs ft fs′ ft′ : List Bool) (lead : List (List ℕ)) (olds₀ oldt₀ : List Bool) (zS : length olds₀ ≡ nodeLimit) (zT : length oldt₀ ≡ nodeLimit) where
+  abbrev before-it : Looks
+  before-it = looks rem₀ fs ft qs₀ qt₀
+
+  abbrev behind-it : Looks
+  behind-it = looks rem fs′ ft′ qs qt
+
+  pub rows-on : (leadS leadT : List (List ℕ)) (twos twot : List ℕ) (olds oldt : List Bool) → Rows 3 leadS → Rows 3 leadT
+      → Rows 3 (set (set leadT 1 twos) 2 twot) → row leadS 1 ≡ row lead 1 → row leadT 2 ≡ row leadS 2
+      → Carried (A .m) (A .sv) (A .sv) (A .st) (at (A .sv) e) fs fs′ (firstOf (A .m) (A .sv) fs′ ft) (secondT A L behind-it)
+      (row lead 0) (row leadS 0) (row lead 2) (row leadS 2) (set oldt₀ (at (A .st) e) true) oldt
+      → Carried (A .m) (A .sv) (A .st) (A .sv) (at (A .st) e) ft ft′ (firstNow A L behind-it) (secondS A L behind-it)
+      (row leadS 0) (row leadT 0) (row leadS 1) (row leadT 1) (set olds₀ (at (A .sv) e) true) olds
+      → (fellS fellT : Bool) → (fellS ≡ false → at qs (at (A .sv) e) ≡ at qs₀ (at (A .sv) e)) → (fellT ≡ false → at qt (at (A .st) e) ≡ at qt₀ (at (A .st) e))
+      → RenewedBy (λ u. eqb u (at (A .sv) e) && (fellS || eqb (at (row leadT 1) (at (A .sv) e)) e)) (secondS A L behind-it) (row leadT 1) twos
+      → RenewedBy (λ u. eqb u (at (A .st) e) && (fellT || eqb (at (row (set leadT 1 twos) 2) (at (A .st) e)) e)) (secondT A L behind-it)
+      (row (set leadT 1 twos) 2) twot → Onward A L before-it (numbers lead olds₀ oldt₀) behind-it (numbers (set (set leadT 1 twos) 2 twot) olds oldt)
+  rows-on leadS leadT twos twot olds oldt R₁ R R₄ hS hT S T′ fellS fellT FS FT RS RT =
+      let t = at (A .st) e in
+      let lead₃ = set leadT 1 twos in
+      let n = turn-on A L D rem₀ rem qs₀ qs qt₀ qt e el g QS QT fs ft fs′ ft′ (numbers lead olds₀ oldt₀) zS zT
+      (row leadS 0) (row leadT 0) (row leadT 1) twos (row leadS 2) twot olds oldt S
+      (subst (λ (x : List ℕ). Carried (A .m) (A .sv) (A .st) (A .sv) t ft ft′ (firstNow A L behind-it) (secondS A L behind-it) (row leadS 0) (row leadT 0)
+      x (row leadT 1) (set olds₀ (at (A .sv) e) true) olds) hS T′) fellS fellT FS FT RS
+      (subst (λ (x : List ℕ). RenewedBy (λ u. eqb u t && (fellT || eqb (at x t) e)) (secondT A L behind-it) x twot)
+      (row-other leadT 1 2 twos (λ (z : 2 ≡ 1). absurd (omega arith)) ∙ hT) RT) in
+      let p0 = sym (row-other lead₃ 2 0 twot (λ (z : 0 ≡ 2). absurd (omega arith)) ∙ row-other leadT 1 0 twos (λ (z : 0 ≡ 1). absurd (omega arith))) in
+      let p1 = sym (row-other lead₃ 2 1 twot (λ (z : 1 ≡ 2). absurd (omega arith)) ∙ row-own leadT 1 twos (omega (arith, R .rows))) in
+      let p2 = sym (row-own lead₃ 2 twot (omega (arith, R .rows, length-set leadT 1 twos))) in
+      subst (Onward A L before-it (numbers lead olds₀ oldt₀) behind-it) (λ i. record { one = p0 i; twos = p1 i; twot = p2 i; olds = olds; oldt = oldt }) n

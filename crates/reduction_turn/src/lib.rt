@@ -3,35 +3,30 @@
 // anew if it was e or if the quota fell there. What the later rules name is marked old at both ends, and at every node across an arrow that turned.
 ghost use mathlib.Core.Path.{_≡_};
 ghost use mathlib.Core.Bool.{_&&_, _||_};
-ghost use Prim.Native.Nat.{_≤_, _<_};
+ghost use mathlib.Core.List.{List};
+ghost use Prim.Native.Nat.{ℕ, _≤_, _<_};
 ghost use lib.ListN.{length};
 ghost use lib.Dec.{eqb};
 ghost use Rattle.model.specs.Limits.{nodeLimit, entryLimit, emptyRank};
 ghost use Rattle.arrays.specs.ArrayInstance.{at};
 ghost use Rattle.arrays.specs.Passes.{Low};
 ghost use Rattle.reduction_lists.specs.Listed.{Listed};
-ghost use Rattle.reduction_cells.specs.Cells.{Celled};
 ghost use Rattle.reduction_cells.specs.Painted.{among};
 ghost use Rattle.reduction_nodes.specs.Renewed.{RenewedBy};
-ghost use Rattle.reduction_nodes.specs.Numbers.{firstOf, secondsOf};
+ghost use Rattle.reduction_nodes.specs.Numbers.{Readable, row, Rows, firstOf, secondsOf};
 ghost use Rattle.reduction_nodes.specs.Kept.{Tables, edges, nodeLists, looks};
 ghost use Rattle.reduction_state.specs.RunState.{whole, Sized};
 ghost use Rattle.reduction_turn.specs.Onward.{Marked, Arrows, Carried, Onward, SizedN, numbers};
 ghost use Rattle.reduction_turn.specs.AfterTurn.{ShownOn};
 use limits::EMPTY_RANK;
 use limits::ENTRY_LIMIT;
-use reduction_cells::CELLS;
-use reduction_lists::PLACES;
+use reduction_cells::TABLE;
 
 // Rule 2's numbers of one side after e, an edge of v, is gone: that of v is read anew if it was e or if v's quota fell.
 pub fn passed_over(
     m: usize,
-    end: &[u8; ENTRY_LIMIT],
     rank: &[u8; ENTRY_LIMIT],
-    tied: &[bool; ENTRY_LIMIT],
-    list: &[u16; PLACES],
-    first: &[u16; 32],
-    cell: &[u16; CELLS],
+    table: &[u16; TABLE],
     rem: &[bool; ENTRY_LIMIT],
     f: &[bool; ENTRY_LIMIT],
     q: &[u16; 32],
@@ -40,14 +35,14 @@ pub fn passed_over(
     fell: bool,
     x: &mut [u16; 32],
 )
-    requires { ⌜ (v < nodeLimit) × (e < m) × Listed m (now end) (now first) (now list) × Celled m (now end) (now rank) (now tied) (now cell)
-        × Low m (now rank) emptyRank × (length (now x) ≡ nodeLimit) ⌝ }
-    ensures { λ r. ⌜ (length (now (x .exit)) ≡ nodeLimit) × RenewedBy (λ u. eqb u v && (fell || eqb (at (now (x .entry)) v) e))
-        (secondsOf m (now (end .entry)) (now (rank .entry)) (now (cell .entry)) (now (rem .entry)) (now (f .entry)) (now (q .entry)))
-        (now (x .entry)) (now (x .exit)) ⌝ }
+    requires { ⌜ (v < nodeLimit) × (e < m) × Readable m (now table) × Low m (now rank) emptyRank × (length (now x) ≡ nodeLimit) ⌝ }
+    ensures { λ r. ⌜ (length (now (x .exit)) ≡ nodeLimit) × ((end : List ℕ) → Listed m end (now (table .entry))
+        → RenewedBy (λ u. eqb u v && (fell || eqb (at (now (x .entry)) v) e))
+        (secondsOf m end (now (rank .entry)) (now (table .entry)) (now (rem .entry)) (now (f .entry)) (now (q .entry)))
+        (now (x .entry)) (now (x .exit))) ⌝ }
 {
     if fell | (x[v] == e as u16) {
-        x[v] = reduction_nodes::second(m, end, rank, tied, list, first, cell, v, rem, f, q[v]);
+        x[v] = reduction_nodes::second(m, rank, table, v, rem, f, q[v]);
     }
 }
 
@@ -67,18 +62,10 @@ pub fn marked(turned: &[u8; EMPTY_RANK], n: usize, old: &mut [bool; 32])
 // The arrows of the surveyor s, painted anew if `on`: rule 1's number there, and rule 2's at the stands across one that turned.
 pub fn from_surveyor(
     m: usize,
-    sv: &[u8; ENTRY_LIMIT],
     st: &[u8; ENTRY_LIMIT],
-    rs: &[u8; ENTRY_LIMIT],
     rt: &[u8; ENTRY_LIMIT],
-    strict: &[bool; ENTRY_LIMIT],
-    tied: &[bool; ENTRY_LIMIT],
-    ls: &[u16; PLACES],
-    os: &[u16; 32],
-    lt: &[u16; PLACES],
-    ot: &[u16; 32],
-    cs: &[u16; CELLS],
-    ct: &[u16; CELLS],
+    tabs: &[u16; TABLE],
+    tabt: &[u16; TABLE],
     rem: &[bool; ENTRY_LIMIT],
     fs: &mut [bool; ENTRY_LIMIT],
     ft: &[bool; ENTRY_LIMIT],
@@ -86,28 +73,26 @@ pub fn from_surveyor(
     qt: &[u16; 32],
     s: usize,
     on: bool,
-    one: &mut [u16; 32],
-    twot: &mut [u16; 32],
+    lead: &mut [[u16; 32]; 3],
     oldt: &mut [bool; 32],
 )
-    requires { ⌜ Tables (edges m (now sv) (now st) (now rs) (now rt) (now tied)) (now strict)
-        (nodeLists (now ls) (now os) (now lt) (now ot) (now cs) (now ct)) ⌝ }
-    requires { ⌜ (s < nodeLimit) × (length (now fs) ≡ entryLimit) × (length (now one) ≡ nodeLimit) × (length (now twot) ≡ nodeLimit)
-        × (length (now oldt) ≡ nodeLimit) ⌝ }
-    ensures { λ r. ⌜ (length (now (one .exit)) ≡ nodeLimit) × (length (now (twot .exit)) ≡ nodeLimit) × (length (now (oldt .exit)) ≡ nodeLimit) ⌝ }
-    ensures { λ r. ⌜ Arrows m (now (st .entry)) (now (cs .entry)) (now (rem .entry)) s (at (now (qs .entry)) s) on (now (fs .entry)) (now (fs .exit)) ⌝ }
-    ensures { λ r. ⌜ Carried m (now (sv .entry)) (now (sv .entry)) (now (st .entry)) s (now (fs .entry)) (now (fs .exit))
-        (firstOf m (now (sv .entry)) (now (fs .exit)) (now (ft .entry)))
-        (secondsOf m (now (st .entry)) (now (rt .entry)) (now (ct .entry)) (now (rem .entry)) (now (fs .exit)) (now (qt .entry)))
-        (now (one .entry)) (now (one .exit)) (now (twot .entry)) (now (twot .exit)) (now (oldt .entry)) (now (oldt .exit)) ⌝ }
+    requires { ⌜ Low m (now st) nodeLimit × Low m (now rt) emptyRank × Readable m (now tabs) × Readable m (now tabt) ⌝ }
+    requires { ⌜ (s < nodeLimit) × (length (now fs) ≡ entryLimit) × Rows 3 (now lead) × (length (now oldt) ≡ nodeLimit) ⌝ }
+    ensures { λ r. ⌜ Rows 3 (now (lead .exit)) × (length (now (oldt .exit)) ≡ nodeLimit) × (row (now (lead .exit)) 1 ≡ row (now (lead .entry)) 1) ⌝ }
+    ensures { λ r. ⌜ Arrows m (now (st .entry)) (now (tabs .entry)) (now (rem .entry)) s (at (now (qs .entry)) s) on (now (fs .entry)) (now (fs .exit)) ⌝ }
+    ensures { λ r. ⌜ ((sv rs : List ℕ) → Tables (edges m sv (now (st .entry)) rs (now (rt .entry))) (nodeLists (now (tabs .entry)) (now (tabt .entry)))
+        → Carried m sv sv (now (st .entry)) s (now (fs .entry)) (now (fs .exit)) (firstOf m sv (now (fs .exit)) (now (ft .entry)))
+        (secondsOf m (now (st .entry)) (now (rt .entry)) (now (tabt .entry)) (now (rem .entry)) (now (fs .exit)) (now (qt .entry)))
+        (row (now (lead .entry)) 0) (row (now (lead .exit)) 0) (row (now (lead .entry)) 2) (row (now (lead .exit)) 2)
+        (now (oldt .entry)) (now (oldt .exit))) ⌝ }
 {
     if !on {
         return;
     }
     let mut turned = [0u8; EMPTY_RANK];
-    let n = reduction_cells::paint(m, sv, rs, strict, cs, s, qs[s], st, rem, fs, &mut turned);
-    one[s] = reduction_lists::both(m, sv, ls, os, s, fs, ft) as u16;
-    reduction_nodes::second_renewed(m, st, rt, tied, lt, ot, ct, rem, fs, qt, &turned, n, twot);
+    let n = reduction_cells::paint(m, tabs, s, qs[s], st, rem, fs, &mut turned);
+    lead[0][s] = reduction_lists::both(m, tabs, s, fs, ft) as u16;
+    reduction_nodes::second_renewed(m, rt, tabt, rem, fs, qt, &turned, n, &mut lead[2]);
     marked(&turned, n, oldt);
 }
 
@@ -115,17 +100,9 @@ pub fn from_surveyor(
 pub fn from_stand(
     m: usize,
     sv: &[u8; ENTRY_LIMIT],
-    st: &[u8; ENTRY_LIMIT],
     rs: &[u8; ENTRY_LIMIT],
-    rt: &[u8; ENTRY_LIMIT],
-    strict: &[bool; ENTRY_LIMIT],
-    tied: &[bool; ENTRY_LIMIT],
-    ls: &[u16; PLACES],
-    os: &[u16; 32],
-    lt: &[u16; PLACES],
-    ot: &[u16; 32],
-    cs: &[u16; CELLS],
-    ct: &[u16; CELLS],
+    tabs: &[u16; TABLE],
+    tabt: &[u16; TABLE],
     rem: &[bool; ENTRY_LIMIT],
     fs: &[bool; ENTRY_LIMIT],
     ft: &mut [bool; ENTRY_LIMIT],
@@ -133,28 +110,27 @@ pub fn from_stand(
     qt: &[u16; 32],
     t: usize,
     on: bool,
-    one: &mut [u16; 32],
-    twos: &mut [u16; 32],
+    lead: &mut [[u16; 32]; 3],
     olds: &mut [bool; 32],
 )
-    requires { ⌜ Tables (edges m (now sv) (now st) (now rs) (now rt) (now tied)) (now strict)
-        (nodeLists (now ls) (now os) (now lt) (now ot) (now cs) (now ct)) ⌝ }
-    requires { ⌜ (t < nodeLimit) × (length (now ft) ≡ entryLimit) × (length (now one) ≡ nodeLimit) × (length (now twos) ≡ nodeLimit)
-        × (length (now olds) ≡ nodeLimit) ⌝ }
-    ensures { λ r. ⌜ (length (now (one .exit)) ≡ nodeLimit) × (length (now (twos .exit)) ≡ nodeLimit) × (length (now (olds .exit)) ≡ nodeLimit) ⌝ }
-    ensures { λ r. ⌜ Arrows m (now (sv .entry)) (now (ct .entry)) (now (rem .entry)) t (at (now (qt .entry)) t) on (now (ft .entry)) (now (ft .exit)) ⌝ }
-    ensures { λ r. ⌜ Carried m (now (sv .entry)) (now (st .entry)) (now (sv .entry)) t (now (ft .entry)) (now (ft .exit))
+    requires { ⌜ Low m (now sv) nodeLimit × Low m (now rs) emptyRank × Readable m (now tabs) × Readable m (now tabt) ⌝ }
+    requires { ⌜ (t < nodeLimit) × (length (now ft) ≡ entryLimit) × Rows 3 (now lead) × (length (now olds) ≡ nodeLimit) ⌝ }
+    ensures { λ r. ⌜ Rows 3 (now (lead .exit)) × (length (now (olds .exit)) ≡ nodeLimit) × (row (now (lead .exit)) 2 ≡ row (now (lead .entry)) 2) ⌝ }
+    ensures { λ r. ⌜ Arrows m (now (sv .entry)) (now (tabt .entry)) (now (rem .entry)) t (at (now (qt .entry)) t) on (now (ft .entry)) (now (ft .exit)) ⌝ }
+    ensures { λ r. ⌜ ((st rt : List ℕ) → Tables (edges m (now (sv .entry)) st (now (rs .entry)) rt) (nodeLists (now (tabs .entry)) (now (tabt .entry)))
+        → Carried m (now (sv .entry)) st (now (sv .entry)) t (now (ft .entry)) (now (ft .exit))
         (firstOf m (now (sv .entry)) (now (fs .entry)) (now (ft .exit)))
-        (secondsOf m (now (sv .entry)) (now (rs .entry)) (now (cs .entry)) (now (rem .entry)) (now (ft .exit)) (now (qs .entry)))
-        (now (one .entry)) (now (one .exit)) (now (twos .entry)) (now (twos .exit)) (now (olds .entry)) (now (olds .exit)) ⌝ }
+        (secondsOf m (now (sv .entry)) (now (rs .entry)) (now (tabs .entry)) (now (rem .entry)) (now (ft .exit)) (now (qs .entry)))
+        (row (now (lead .entry)) 0) (row (now (lead .exit)) 0) (row (now (lead .entry)) 1) (row (now (lead .exit)) 1)
+        (now (olds .entry)) (now (olds .exit))) ⌝ }
 {
     if !on {
         return;
     }
     let mut turned = [0u8; EMPTY_RANK];
-    let n = reduction_cells::paint(m, st, rt, tied, ct, t, qt[t], sv, rem, ft, &mut turned);
-    reduction_nodes::first_renewed(m, sv, ls, os, fs, ft, &turned, n, one);
-    reduction_nodes::second_renewed(m, sv, rs, strict, ls, os, cs, rem, ft, qs, &turned, n, twos);
+    let n = reduction_cells::paint(m, tabt, t, qt[t], sv, rem, ft, &mut turned);
+    reduction_nodes::first_renewed(m, tabs, fs, ft, &turned, n, &mut lead[0]);
+    reduction_nodes::second_renewed(m, rs, tabs, rem, ft, qs, &turned, n, &mut lead[1]);
     marked(&turned, n, olds);
 }
 
@@ -165,14 +141,8 @@ pub fn turn(
     st: &[u8; ENTRY_LIMIT],
     rs: &[u8; ENTRY_LIMIT],
     rt: &[u8; ENTRY_LIMIT],
-    strict: &[bool; ENTRY_LIMIT],
-    tied: &[bool; ENTRY_LIMIT],
-    ls: &[u16; PLACES],
-    os: &[u16; 32],
-    lt: &[u16; PLACES],
-    ot: &[u16; 32],
-    cs: &[u16; CELLS],
-    ct: &[u16; CELLS],
+    tabs: &[u16; TABLE],
+    tabt: &[u16; TABLE],
     rule: u8,
     e: usize,
     rem: &mut [bool; ENTRY_LIMIT],
@@ -183,26 +153,23 @@ pub fn turn(
     qt: &mut [u16; 32],
     ds: &mut [u16; 32],
     dt: &mut [u16; 32],
-    one: &mut [u16; 32],
-    twos: &mut [u16; 32],
-    twot: &mut [u16; 32],
+    lead: &mut [[u16; 32]; 3],
     olds: &mut [bool; 32],
     oldt: &mut [bool; 32],
 )
-    requires { ⌜ (e < m) × Tables (edges m (now sv) (now st) (now rs) (now rt) (now tied)) (now strict)
-        (nodeLists (now ls) (now os) (now lt) (now ot) (now cs) (now ct)) ⌝ }
-    requires { ⌜ Sized (whole (now rem) (now fixed) (now qs) (now qt) (now ds) (now dt))
-        × SizedN (numbers (now one) (now twos) (now twot) (now olds) (now oldt)) × (length (now fs) ≡ entryLimit) × (length (now ft) ≡ entryLimit) ⌝ }
+    requires { ⌜ (e < m) × Tables (edges m (now sv) (now st) (now rs) (now rt)) (nodeLists (now tabs) (now tabt)) ⌝ }
+    requires { ⌜ Sized (whole (now rem) (now fixed) (now qs) (now qt) (now ds) (now dt)) × SizedN (now lead) (now olds) (now oldt)
+        × (length (now fs) ≡ entryLimit) × (length (now ft) ≡ entryLimit) ⌝ }
     ensures { λ r. ⌜ Sized (whole (now (rem .exit)) (now (fixed .exit)) (now (qs .exit)) (now (qt .exit)) (now (ds .exit)) (now (dt .exit)))
-        × SizedN (numbers (now (one .exit)) (now (twos .exit)) (now (twot .exit)) (now (olds .exit)) (now (oldt .exit)))
-        × (length (now (fs .exit)) ≡ entryLimit) × (length (now (ft .exit)) ≡ entryLimit) ⌝ }
-    ensures { λ r. ⌜ Onward (edges m (now (sv .entry)) (now (st .entry)) (now (rs .entry)) (now (rt .entry)) (now (tied .entry)))
-        (nodeLists (now (ls .entry)) (now (os .entry)) (now (lt .entry)) (now (ot .entry)) (now (cs .entry)) (now (ct .entry)))
+        × SizedN (now (lead .exit)) (now (olds .exit)) (now (oldt .exit)) × (length (now (fs .exit)) ≡ entryLimit) × (length (now (ft .exit)) ≡ entryLimit) ⌝ }
+    ensures { λ r. ⌜ Onward (edges m (now (sv .entry)) (now (st .entry)) (now (rs .entry)) (now (rt .entry)))
+        (nodeLists (now (tabs .entry)) (now (tabt .entry)))
         (looks (now (rem .entry)) (now (fs .entry)) (now (ft .entry)) (now (qs .entry)) (now (qt .entry)))
-        (numbers (now (one .entry)) (now (twos .entry)) (now (twot .entry)) (now (olds .entry)) (now (oldt .entry)))
+        (numbers (now (lead .entry)) (now (olds .entry)) (now (oldt .entry)))
         (looks (now (rem .exit)) (now (fs .exit)) (now (ft .exit)) (now (qs .exit)) (now (qt .exit)))
-        (numbers (now (one .exit)) (now (twos .exit)) (now (twot .exit)) (now (olds .exit)) (now (oldt .exit))) ⌝ }
-    ensures { λ r. ⌜ ShownOn (edges m (now (sv .entry)) (now (st .entry)) (now (rs .entry)) (now (rt .entry)) (now (tied .entry)))
+        (numbers (now (lead .exit)) (now (olds .exit)) (now (oldt .exit))) ⌝ }
+    ensures { λ r. ⌜ ShownOn (edges m (now (sv .entry)) (now (st .entry)) (now (rs .entry)) (now (rt .entry)))
+        (nodeLists (now (tabs .entry)) (now (tabt .entry)))
         (whole (now (rem .entry)) (now (fixed .entry)) (now (qs .entry)) (now (qt .entry)) (now (ds .entry)) (now (dt .entry)))
         (now (fs .entry)) (now (ft .entry)) rule e
         (whole (now (rem .exit)) (now (fixed .exit)) (now (qs .exit)) (now (qt .exit)) (now (ds .exit)) (now (dt .exit)))
@@ -221,18 +188,10 @@ pub fn turn(
     oldt[t] = true;
     from_surveyor(
         m,
-        sv,
         st,
-        rs,
         rt,
-        strict,
-        tied,
-        ls,
-        os,
-        lt,
-        ot,
-        cs,
-        ct,
+        tabs,
+        tabt,
         rem,
         fs,
         ft,
@@ -240,24 +199,15 @@ pub fn turn(
         qt,
         s,
         ons,
-        one,
-        twot,
+        lead,
         oldt,
     );
     from_stand(
         m,
         sv,
-        st,
         rs,
-        rt,
-        strict,
-        tied,
-        ls,
-        os,
-        lt,
-        ot,
-        cs,
-        ct,
+        tabs,
+        tabt,
         rem,
         fs,
         ft,
@@ -265,25 +215,9 @@ pub fn turn(
         qt,
         t,
         ont,
-        one,
-        twos,
+        lead,
         olds,
     );
-    passed_over(
-        m,
-        sv,
-        rs,
-        strict,
-        ls,
-        os,
-        cs,
-        rem,
-        ft,
-        qs,
-        s,
-        e,
-        fells,
-        twos,
-    );
-    passed_over(m, st, rt, tied, lt, ot, ct, rem, fs, qt, t, e, fellt, twot);
+    passed_over(m, rs, tabs, rem, ft, qs, s, e, fells, &mut lead[1]);
+    passed_over(m, rt, tabt, rem, fs, qt, t, e, fellt, &mut lead[2]);
 }

@@ -2,7 +2,7 @@
 // stand of the first and at the surveyor of the second; 133 where there is none. A row is made by the links through the edges of its stand and, for
 // each of them, through the places of its surveyor.
 ghost use mathlib.Core.Path.{_≡_};
-ghost use Prim.Native.Nat.{ℕ, _+_, _≤_, _<_};
+ghost use Prim.Native.Nat.{_+_, _≤_, _<_};
 ghost use lib.ListN.{length};
 ghost use lib.Dec.{eqb};
 ghost use Rattle.model.specs.Limits.{entryLimit, nodeLimit, planLimit};
@@ -10,10 +10,11 @@ ghost use Rattle.theory_votes.specs.Score.{rate};
 ghost use Rattle.arrays.specs.ArrayInstance.{at};
 ghost use Rattle.arrays.specs.Passes.{Low};
 ghost use Rattle.arrays.specs.Filled.{Made};
-ghost use Rattle.edge_links.specs.Linked.{Linked};
+ghost use Rattle.arrays.specs.Linked.{Linked};
 ghost use Rattle.rival_tables.specs.Filled.{Rows};
 ghost use Rattle.rival_tables.specs.Cheapest.{offer};
 ghost use Rattle.rival_arcs.specs.Arcs.{arcPrice};
+use limits::ENTRY_LIMIT;
 
 // One more edge is offered to a row: it lies at surveyor s with rank r there, and its price at the stand is a. `ps` is there for the promise alone, as
 // the links stand for it; so are `ps` and `st` below.
@@ -43,13 +44,13 @@ pub fn joined(
 // The row of an edge of the plan with stand t and rank b there.
 pub fn arc_row(
     m: usize,
-    sv: &[u8; 1024],
-    st: &[u8; 1024],
-    rs: &[u8; 1024],
-    rt: &[u8; 1024],
-    plan: &[bool; 1024],
+    sv: &[u8; ENTRY_LIMIT],
+    st: &[u8; ENTRY_LIMIT],
+    rs: &[u8; ENTRY_LIMIT],
+    rt: &[u8; ENTRY_LIMIT],
+    plan: &[bool; ENTRY_LIMIT],
     head: &[u16; 32],
-    next: &[u16; 1024],
+    next: &[u16; ENTRY_LIMIT],
     ps: &[u8; 64],
     rps: &[u8; 64],
     first: &[u16; 32],
@@ -80,13 +81,13 @@ pub fn arc_row(
 // The whole table: the first n rows.
 pub fn arcs(
     m: usize,
-    sv: &[u8; 1024],
-    st: &[u8; 1024],
-    rs: &[u8; 1024],
-    rt: &[u8; 1024],
-    plan: &[bool; 1024],
+    sv: &[u8; ENTRY_LIMIT],
+    st: &[u8; ENTRY_LIMIT],
+    rs: &[u8; ENTRY_LIMIT],
+    rt: &[u8; ENTRY_LIMIT],
+    plan: &[bool; ENTRY_LIMIT],
     head: &[u16; 32],
-    next: &[u16; 1024],
+    next: &[u16; ENTRY_LIMIT],
     n: usize,
     ps: &[u8; 64],
     pt: &[u8; 64],
@@ -100,7 +101,7 @@ pub fn arcs(
         (at (now (rpt .entry)) i) (at (now (ps .entry)) j) (at (now (rps .entry)) j)) ⌝ }
 {
     let mut after = [0u16; 64];
-    let first = edge_links::links(64, &ps[..], &mut after[..]);
+    let first = arrays::links(64, &ps[..], &mut after[..]);
     let mut o = [133u8; 4096];
     let mut i = 0;
     while i < n {

@@ -1,13 +1,11 @@
-// A certificate that no level finds anything: a table of costs, 64 added, one for each two places, that no arc makes lower. It is made as the costs of
-// the least walks; nothing is promised of how it is made, since one pass over it checks all that is asked.
+// A table of costs, 64 added, one for each two places, that no arc makes lower: no walk costs less than it says. It is made as the costs of the least
+// walks; nothing is promised of how it is made, since one pass over it checks all that is asked.
 ghost use mathlib.Core.Path.{_≡_};
 ghost use mathlib.Core.Bool.{true};
 ghost use Prim.Native.Nat.{ℕ, _+_, _*_, _≤_, _<_, min};
 ghost use Rattle.model.specs.Limits.{planLimit};
 ghost use Rattle.arrays.specs.ArrayInstance.{at};
-ghost use Rattle.rival_tables.specs.Filled.{cell};
-ghost use Rattle.rival_layers.specs.Layers.{Small, Cheap};
-ghost use Rattle.rival_levels.specs.Levels.{SmallEnds, diagAt, pairAt};
+ghost use Rattle.rival_levels.specs.Layers.{Cheap};
 ghost use Rattle.rival_certificate.specs.Certified.{Closed};
 
 // The cost of an arc, 64 added and its two votes taken off; 127 where there is none.
@@ -122,24 +120,10 @@ pub fn certificate(n: usize, arcs: &[u8; 4096]) -> Costs
             table: d,
         };
     }
-    let e = rival_layers::next_layer(n, arcs, &d);
+    let e = rival_levels::next_layer(n, arcs, &d);
     let c = rival_levels::changed(n, &d, &e);
     Costs {
         closed: c >= n,
         table: d,
     }
-}
-
-// Whether no walk of the table is found below k, closed or with a start and an end.
-pub fn clear(n: usize, costs: &[u8; 4096], terminals: &[u8; 4096], k: u8) -> bool
-    requires { ⌜ (n ≤ planLimit) × (k ≤ 1) × Small n (now costs) × SmallEnds n (now terminals) ⌝ }
-    ensures { λ r. ⌜ (r ≡ true → (n ≤ diagAt (cell (now (costs .entry))) n (64 + k))
-        × (n ≤ pairAt (cell (now (costs .entry))) (now (terminals .entry)) n (68 + k))) ⌝ }
-{
-    let i = rival_levels::diagonal(n, costs, 64 + k);
-    if i < n {
-        return false;
-    }
-    let p = rival_levels::pair(n, costs, terminals, 68 + k);
-    p.row >= n
 }

@@ -28,12 +28,12 @@ use Rattle.arrays.specs.Passes.{Shows, all-blank}
 use Rattle.rival_tables.specs.Filled.{Grid}
 use Rattle.rival_levels.specs.declared.Found.the-variants as found
 use Rattle.rival_levels.specs.declared.Found.{Found}
-use Rattle.rival_laws.specs.Walks.{hitOf}
+use Rattle.rival_levels.specs.Walks.{hitOf}
 use Rattle.rival_walk.specs.Edges.{arcEdge}
 use Rattle.rival_walk.specs.Marks.{listed, Marked, note, none-left}
 use Rattle.rival_walk.specs.Walks.{walkAt, trace-is}
-use Rattle.rival_end_edges.specs.declared.Ends.{Ends}
-use Rattle.rival_end_edges.specs.Ways.{told, fresh-way, terminalBy, terminal-by}
+use Rattle.rival_exchange.specs.declared.Ends.{Ends}
+use Rattle.rival_exchange.specs.Ways.{told, fresh-way, terminalBy, terminal-by}
 use Rattle.rival_search.specs.TwoThresholds.{Bounded}
 
 -- an array marks the edges of a list
@@ -66,6 +66,7 @@ blank-none k e = all-blank false k e
 pub blank-marks : (k : ℕ) (xs : List ℕ) (r : List Bool) → Marked (replicate k false) xs r → Marks r xs
 blank-marks k xs r h e = marks-more (replicate k false) [] xs r (blank-none k) h e
 
+-- one edge marked in a blank array
 pub blank-one : (k m c : ℕ) (r : List Bool) → c < m → Marked (replicate k false) (cond (ltb c m) (c ∷ []) []) r → Marks r (c ∷ [])
 blank-one k m c r l h e = blank-marks k (cond (ltb c m) (c ∷ []) []) r h e ∙ ap (λ (b : Bool). listed e (cond b (c ∷ []) [])) (lt-ltb c m l)
 
@@ -102,6 +103,7 @@ module _ (m : ℕ) (sv st rs rt : List ℕ) (plan roomS roomT : List Bool) (es a
   abbrev pub waysBy : ℕ → ℕ → Way × Way
   waysBy x y = terminalBy m sv st rs rt x y plan roomS roomT .1
 
+  -- the edges of the plan that go by what was found
   abbrev pub goneBy : Found → List ℕ
   goneBy found.Nothing = []
   goneBy (found.Direct f) = []
@@ -109,6 +111,7 @@ module _ (m : ℕ) (sv st rs rt : List ℕ) (plan roomS roomT : List Bool) (es a
   goneBy (found.Closed l i) = zs (walkBy l i i)
   goneBy (found.Open l i j) = at es i ∷ zs (walkBy l i j)
 
+  -- the edges that come by what was found
   abbrev pub comeBy : Found → List ℕ
   comeBy found.Nothing = []
   comeBy (found.Direct f) = f ∷ []
@@ -142,6 +145,7 @@ module _ (m : ℕ) (sv st rs rt : List ℕ) (plan roomS roomT : List Bool) (es a
       abbrev elsewhere : Option Hit → ℕ → Bool
       elsewhere o = Option·elim o M (rivalBy M)
 
+      -- the exchange by places is that of the search
       pub rival-at : (f : Found) → Bounded m n f → (e : ℕ) → rivalAt f e ≡ elsewhere (hitOf G M es f) e
       unfolding Option·elim swapped
       rival-at found.Nothing b e = same (M e)

@@ -27,6 +27,7 @@ pub gainable-other : (end other : List ℕ) (plan room : List Bool) (e f : ℕ) 
 gainable-other end other plan room e f n =
     ap (λ b. not (flag plan f) && (b && flag room (at other f))) (eqb-no (at end f) e n) ∙ and-false (not (flag plan f))
 
+-- the test at an edge of the node itself
 pub gainable-here : (end other : List ℕ) (plan room : List Bool) (e f : ℕ) → at end f ≡ e
     → gainable end other plan room e f ≡ not (flag plan f) && flag room (at other f)
 gainable-here end other plan room e f q = ap (λ b. not (flag plan f) && (b && flag room (at other f))) (eqb-yes (at end f) e q)
@@ -35,6 +36,7 @@ gainable-here end other plan room e f q = ap (λ b. not (flag plan f) && (b && f
 unfoldable pub gainPrice : (m : ℕ) (end other rank : List ℕ) (plan room : List Bool) → ℕ → ℕ → ℕ → ℕ
 gainPrice m end other rank plan room v e b = cheapest (gainable end other plan room e) (λ f. rate b (at rank f)) v 0 m
 
+-- the least price with a node of the other side shut out
 unfoldable pub gainPriceBut : (m : ℕ) (end other rank : List ℕ) (plan room : List Bool) → ℕ → ℕ → ℕ → ℕ → ℕ
 gainPriceBut m end other rank plan room v e b d = cheapest (gainableBut end other plan room e d) (λ f. rate b (at rank f)) v 0 m
 
@@ -101,10 +103,12 @@ module _ (m : ℕ) (end other rank : List ℕ) (plan room : List Bool) (lowO : L
       ∙ ap (λ b. not (flag plan f) && b) (and-false (eqb (at end f) e))
       ∙ and-false (not (flag plan f))
 
+  -- where no node of the other side has room nothing is gained
   pub gain-none : (v e b : ℕ) → gainPrice m end other rank plan room v e b ≡ v
   unfolding gainPrice
   gain-none v e b = cheapest-none (gainable end other plan room e) (λ f. rate b (at rank f)) v 0 m (λ f l h. none e f (omega arith))
 
+  -- the same with a node shut out
   pub but-none : (v e b d : ℕ) → gainPriceBut m end other rank plan room v e b d ≡ v
   unfolding gainPriceBut
   but-none v e b d =

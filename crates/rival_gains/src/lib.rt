@@ -3,17 +3,18 @@
 // of a node are found by the links; `end` is there for the promise alone.
 ghost use mathlib.Core.Path.{_≡_};
 ghost use mathlib.Core.Bool.{not};
-ghost use Prim.Native.Nat.{ℕ, _≤_, _<_};
+ghost use Prim.Native.Nat.{_≤_, _<_};
 ghost use lib.ListN.{length};
 ghost use lib.Dec.{eqb};
 ghost use Rattle.model.specs.Limits.{entryLimit, nodeLimit, planLimit};
 ghost use Rattle.arrays.specs.ArrayInstance.{at};
 ghost use Rattle.arrays.specs.Passes.{Low};
 ghost use Rattle.arrays.specs.Filled.{Made};
-ghost use Rattle.edge_links.specs.Linked.{Linked};
+ghost use Rattle.arrays.specs.Linked.{Linked};
 ghost use Rattle.rival_tables.specs.Filled.{Rows};
 ghost use Rattle.rival_tables.specs.Cheapest.{offer};
 ghost use Rattle.rival_gains.specs.Gains.{gainPrice, gainPriceBut};
+use limits::ENTRY_LIMIT;
 
 // One more edge is offered to a row, in the columns of other nodes than its own, d; its rate is p.
 pub fn parted(row: &mut [u8; 64], po: &[u8; 64], d: u8, p: u8)
@@ -31,13 +32,13 @@ pub fn parted(row: &mut [u8; 64], po: &[u8; 64], d: u8, p: u8)
 // The least rates for an edge of the plan at node e with rank b, each column's node shut out; 3 if there is none.
 pub fn apart_row(
     m: usize,
-    end: &[u8; 1024],
-    other: &[u8; 1024],
-    rank: &[u8; 1024],
-    plan: &[bool; 1024],
+    end: &[u8; ENTRY_LIMIT],
+    other: &[u8; ENTRY_LIMIT],
+    rank: &[u8; ENTRY_LIMIT],
+    plan: &[bool; ENTRY_LIMIT],
     room: &[bool; 32],
     head: &[u16; 32],
-    next: &[u16; 1024],
+    next: &[u16; ENTRY_LIMIT],
     po: &[u8; 64],
     e: u8,
     b: u8,
@@ -66,13 +67,13 @@ pub fn apart_row(
 // The same for all edges of the plan, a row for each. Where no node has room, nothing can be gained.
 pub fn apart(
     m: usize,
-    end: &[u8; 1024],
-    other: &[u8; 1024],
-    rank: &[u8; 1024],
-    plan: &[bool; 1024],
+    end: &[u8; ENTRY_LIMIT],
+    other: &[u8; ENTRY_LIMIT],
+    rank: &[u8; ENTRY_LIMIT],
+    plan: &[bool; ENTRY_LIMIT],
     room: &[bool; 32],
     head: &[u16; 32],
-    next: &[u16; 1024],
+    next: &[u16; ENTRY_LIMIT],
     n: usize,
     pe: &[u8; 64],
     po: &[u8; 64],
@@ -84,7 +85,7 @@ pub fn apart(
         (at (now (pe .entry)) i) (at (now (pr .entry)) i) (at (now (po .entry)) j)) ⌝ }
 {
     let mut o = [3u8; 4096];
-    let roomy = rival_capacity::first_room(room);
+    let roomy = rival_tables::first_room(room);
     if roomy >= 32 {
         return o;
     }
@@ -112,13 +113,13 @@ pub fn apart(
 // The least rate for an edge of the plan at node e with rank b, no node shut out; 6 if there is none.
 pub fn gain(
     m: usize,
-    end: &[u8; 1024],
-    other: &[u8; 1024],
-    rank: &[u8; 1024],
-    plan: &[bool; 1024],
+    end: &[u8; ENTRY_LIMIT],
+    other: &[u8; ENTRY_LIMIT],
+    rank: &[u8; ENTRY_LIMIT],
+    plan: &[bool; ENTRY_LIMIT],
     room: &[bool; 32],
     head: &[u16; 32],
-    next: &[u16; 1024],
+    next: &[u16; ENTRY_LIMIT],
     e: u8,
     b: u8,
 ) -> u8
@@ -143,13 +144,13 @@ pub fn gain(
 // The same for all edges of the plan.
 pub fn gains(
     m: usize,
-    end: &[u8; 1024],
-    other: &[u8; 1024],
-    rank: &[u8; 1024],
-    plan: &[bool; 1024],
+    end: &[u8; ENTRY_LIMIT],
+    other: &[u8; ENTRY_LIMIT],
+    rank: &[u8; ENTRY_LIMIT],
+    plan: &[bool; ENTRY_LIMIT],
     room: &[bool; 32],
     head: &[u16; 32],
-    next: &[u16; 1024],
+    next: &[u16; ENTRY_LIMIT],
     n: usize,
     pe: &[u8; 64],
     pr: &[u8; 64],
@@ -161,7 +162,7 @@ pub fn gains(
         n ⌝ }
 {
     let mut o = [6u8; 64];
-    let roomy = rival_capacity::first_room(room);
+    let roomy = rival_tables::first_room(room);
     if roomy >= 32 {
         return o;
     }

@@ -11,7 +11,7 @@ use lib.Dec.{ltb}
 use borrow.Author.Tests.{lt-ltb, le-ltb}
 use Rattle.lists.specs.Search.{low, low-cong}
 use Rattle.rival_tables.specs.Filled.{cell, Rows}
-use Rattle.rival_layers.specs.Layers.{keptPrice, layerAt}
+use Rattle.rival_levels.specs.Layers.{keptPrice, layerAt}
 use Rattle.rival_levels.specs.declared.Found.the-variants as found
 use Rattle.rival_levels.specs.declared.Found.{Found}
 
@@ -24,15 +24,19 @@ SmallEnds n terminals = (i j : ℕ) → i < n → j < n → cell terminals i j �
 abbrev pub diagAt : (f : ℕ → ℕ → ℕ) → ℕ → ℕ → ℕ
 diagAt f n bound = low (λ i. ltb (f i i) bound) n
 
+-- the first column in which row i, with its ends, is below the bound
 abbrev pub endsAt : (f : ℕ → ℕ → ℕ) (terminals : List ℕ) → ℕ → ℕ → ℕ → ℕ
 endsAt f terminals n bound i = low (λ j. ltb (f i j + cell terminals i j) bound) n
 
+-- the first row that has such a column
 abbrev pub pairAt : (f : ℕ → ℕ → ℕ) (terminals : List ℕ) → ℕ → ℕ → ℕ
 pairAt f terminals n bound = low (λ i. ltb (endsAt f terminals n bound i) n) n
 
+-- the first column in which g is lower than f kept
 abbrev pub loweredAt : (f g : ℕ → ℕ → ℕ) → ℕ → ℕ → ℕ
 loweredAt f g n i = low (λ j. ltb (g i j) (keptPrice (f i j))) n
 
+-- the first row that has such a column
 abbrev pub changedAt : (f g : ℕ → ℕ → ℕ) → ℕ → ℕ
 changedAt f g n = low (λ i. ltb (loweredAt f g n i) n) n
 
@@ -40,12 +44,15 @@ changedAt f g n = low (λ i. ltb (loweredAt f g n i) n) n
 abbrev pub levelLoop : List ℕ → ℕ → ℕ → ℕ → ℕ
 levelLoop arcs n k l = diagAt (layerAt arcs n l) n (2 * suc l + k)
 
+-- the row of the first walk of level l with a start and an end
 abbrev pub levelRow : (arcs terminals : List ℕ) → ℕ → ℕ → ℕ → ℕ
 levelRow arcs terminals n k l = pairAt (layerAt arcs n l) terminals n (2 * suc l + 4 + k)
 
+-- its column
 abbrev pub levelColumn : (arcs terminals : List ℕ) → ℕ → ℕ → ℕ → ℕ
 levelColumn arcs terminals n k l = endsAt (layerAt arcs n l) terminals n (2 * suc l + 4 + k) (levelRow arcs terminals n k l)
 
+-- the first row in which layer l + 1 is lower than layer l kept
 abbrev pub levelChange : List ℕ → ℕ → ℕ → ℕ
 levelChange arcs n l = changedAt (layerAt arcs n l) (layerAt arcs n (suc l)) n
 
@@ -54,6 +61,7 @@ levelAt arcs terminals n k l rest = cond (ltb (levelLoop arcs n k l) n) (found.C
     (cond (ltb (levelRow arcs terminals n k l) n) (found.Open l (levelRow arcs terminals n k l) (levelColumn arcs terminals n k l))
     (cond (ltb (levelChange arcs n l) n) rest found.Nothing))
 
+-- what b levels from level l on find
 unfoldable pub levelsAt : (arcs terminals : List ℕ) → ℕ → ℕ → ℕ → ℕ → Found
 levelsAt arcs terminals n k zero l = found.Nothing
 levelsAt arcs terminals n k (suc b) l = levelAt arcs terminals n k l (levelsAt arcs terminals n k b (suc l))
@@ -79,6 +87,7 @@ more a b false true z r s h = inr refl
 more a b false false true r s h = h
 more a b false false false r s h = inl refl
 
+-- more levels find what fewer found
 pub levels-more : (arcs terminals : List ℕ) (n k b c l : ℕ) → b ≤ c
     → (levelsAt arcs terminals n k b l ≡ found.Nothing) ⊎ (levelsAt arcs terminals n k c l ≡ levelsAt arcs terminals n k b l)
 unfolding levelsAt
@@ -91,6 +100,7 @@ levels-more arcs terminals n k (suc b) (suc c) l h =
 
 -- ---- a table that shows a layer finds what the layer does
 module _ (arcs terminals d : List ℕ) (n k l : ℕ) (fits : n ≤ 64) (shows : Rows d n (layerAt arcs n l)) where
+  -- the diagonal of a table that shows layer l
   pub loop-is : (bound i : ℕ) → bound ≡ 2 * suc l + k → i ≡ diagAt (cell d) n bound → i ≡ levelLoop arcs n k l
   loop-is bound i e q =
       q ∙ low-cong (λ i. ltb (cell d i i) bound) (λ i. ltb (layerAt arcs n l i i) (2 * suc l + k)) n (λ i h. ap₂ ltb (shows i i h (omega arith)) e)

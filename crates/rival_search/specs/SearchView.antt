@@ -24,13 +24,14 @@ use Rattle.rival_tables.specs.Filled.{Grid}
 use Rattle.rival_tables.specs.Cheapest.{cheapest-cong, cheapest-≤, cheapest-reach}
 use Rattle.rival_arcs.specs.Arcs.{joining, priceOf, arcPrice}
 use Rattle.rival_gains.specs.Gains.{gainable, gainableBut, gainPrice, gainPriceBut, gain-none, but-none}
-use Rattle.rival_laws.specs.Walks.{hitOf, searchAt, search-is}
-use Rattle.rival_laws.specs.Prices.{arc-is, terminal-is, deg-places}
+use Rattle.rival_levels.specs.Walks.{hitOf, searchAt, search-is}
+use Rattle.rival_levels.specs.Prices.{arc-is, terminal-is, deg-places}
 
 -- the first n entries of es are the plan's edges
 abbrev pub Lists : ℕ → List Bool → ℕ → List ℕ → Type 0
 Lists m plan n es = edgesIn m (flag plan) ≡ map (at es) (range 0 n)
 
+-- the plan's edges are edges
 pub listed-low : (m : ℕ) (plan : List Bool) (n : ℕ) (es : List ℕ) → Lists m plan n es → (i : ℕ) → i < n → at es i < m
 listed-low m plan n es l i h =
     let k : at es i ∈ edgesIn m (flag plan) = subst (λ xs. at es i ∈ xs) (sym l) (Memᴰ·map (at es) (range-∈ n 0 i zero-le (omega arith))) in
@@ -64,10 +65,30 @@ freeAt sv st plan roomS roomT f = not (flag plan f) && (flag roomS (at sv f) && 
 abbrev pub arcCell : (m : ℕ) (sv st rs rt : List ℕ) (plan : List Bool) (ps pt rps rpt : List ℕ) → ℕ → ℕ → ℕ
 arcCell m sv st rs rt plan ps pt rps rpt i j = arcPrice m sv st rs rt plan (at pt i) (at rpt i) (at ps j) (at rps j)
 
+-- the price of a start with an end
 abbrev pub terminalCell : (m : ℕ) (sv st rs rt : List ℕ) (plan roomS roomT : List Bool) (ps pt rps rpt : List ℕ) → ℕ → ℕ → ℕ
 terminalCell m sv st rs rt plan roomS roomT ps pt rps rpt i j =
     min (min (gainPriceBut m sv st rs plan roomT 3 (at ps i) (at rps i) (at pt j)) (gainPriceBut m st sv rt plan roomS 3 (at pt j) (at rpt j) (at ps i)) + 3)
     (gainPrice m sv st rs plan roomT 6 (at ps i) (at rps i) + gainPrice m st sv rt plan roomS 6 (at pt j) (at rpt j))
+
+-- a table of the ends, whichever arrays hold the ranks of the plan's edges
+abbrev pub EndsFor : (m : ℕ) (sv st rs rt : List ℕ) (plan roomS roomT : List Bool) (n : ℕ) (es ps pt ends : List ℕ) → Type 0
+EndsFor m sv st rs rt plan roomS roomT n es ps pt ends =
+    (rps rpt : List ℕ) → Made 0 rps (λ i. at rs (at es i)) n → Made 0 rpt (λ i. at rt (at es i)) n
+    → Grid ends n (terminalCell m sv st rs rt plan roomS roomT ps pt rps rpt)
+
+-- one such array is enough
+pub ends-ranked : (m : ℕ) (sv st rs rt : List ℕ) (plan roomS roomT : List Bool) (n : ℕ) (es ps pt rps₀ rpt₀ ends : List ℕ)
+    → Shows 0 rps₀ n (λ i. at rs (at es i)) → Shows 0 rpt₀ n (λ i. at rt (at es i)) → Grid ends n (terminalCell m sv st rs rt plan roomS roomT ps pt rps₀ rpt₀)
+    → EndsFor m sv st rs rt plan roomS roomT n es ps pt ends
+ends-ranked m sv st rs rt plan roomS roomT n es ps pt rps₀ rpt₀ ends a b g rps rpt rankS rankT i j h k =
+    g i j h k
+    ∙ ap₂
+    (λ x y.
+    min (min (gainPriceBut m sv st rs plan roomT 3 (at ps i) x (at pt j)) (gainPriceBut m st sv rt plan roomS 3 (at pt j) y (at ps i)) + 3)
+    (gainPrice m sv st rs plan roomT 6 (at ps i) x + gainPrice m st sv rt plan roomS 6 (at pt j) y))
+    (shows-at 0 rps₀ (λ i. at rs (at es i)) n i a h ∙ sym (rankS i h))
+    (shows-at 0 rpt₀ (λ i. at rt (at es i)) n j b k ∙ sym (rankT j k))
 
 -- where no node has room, all of the ends cost 6
 pub full-cell : (m : ℕ) (sv st rs rt : List ℕ) (plan roomS roomT : List Bool) (ps pt rps rpt : List ℕ) → Low m sv 32 → Low m st 32
@@ -119,6 +140,7 @@ module _ (m ns nt : ℕ) (sv st rs rt sh : List ℕ) (tied : List Bool) (quotaS 
   abbrev M : ℕ → Bool
   M = flag plan
 
+  -- the table of the arcs shows the prices of the arcs
   pub arc-shown : (i j : ℕ) → i < n → j < n → arcCell m sv st rs rt plan ps pt rps rpt i j ≡ arc G M 133 (at es i) (at es j) .0
   unfolding arcPrice
   arc-shown i j il jl =
@@ -128,12 +150,14 @@ module _ (m ns nt : ℕ) (sv st rs rt sh : List ℕ) (tied : List Bool) (quotaS 
       (λ f p q. ap₂ (λ b a. rate b (at rt f) + rate a (at rs f)) (views .rt-at i il) (views .rs-at j jl))
       ∙ sym (arc-is G M (at es i) (at es j))
 
+  -- the room at the surveyor of an edge
   pub room-S : (f : ℕ) → f < m → flag roomS (at sv f) ≡ room? M (surveyors G) f
   room-S f h = roomyS (at sv f) (lowS f h) ∙ ap (λ c. ltb c (at quotaS (at sv f))) (counted ∙ sym (deg-places (surveyors G) M es n (at sv f) lists))
     where
       counted : count (λ j. eqb (at ps j) (at sv f)) n ≡ count (λ j. eqb (at sv (at es j)) (at sv f)) n
       counted = count-same (λ j. eqb (at ps j) (at sv f)) (λ j. eqb (at sv (at es j)) (at sv f)) n (λ j l. ap (λ s. eqb s (at sv f)) (views .sv-at j l))
 
+  -- the room at its stand
   pub room-T : (f : ℕ) → f < m → flag roomT (at st f) ≡ room? M (stands G) f
   room-T f h = roomyT (at st f) (lowT f h) ∙ ap (λ c. ltb c (at quotaT (at st f))) (counted ∙ sym (deg-places (stands G) M es n (at st f) lists))
     where
@@ -143,6 +167,7 @@ module _ (m ns nt : ℕ) (sv st rs rt sh : List ℕ) (tied : List Bool) (quotaS 
   pub free-shown : (f : ℕ) → f < m → freeAt sv st plan roomS roomT f ≡ not (M f) && (room? M (surveyors G) f && room? M (stands G) f)
   free-shown f h = ap₂ (λ a b. not (M f) && (a && b)) (room-S f h) (room-T f h)
 
+  -- the table of the ends shows the prices of starts with ends
   pub terminal-shown : (i j : ℕ) → i < n → j < n → terminalCell m sv st rs rt plan roomS roomT ps pt rps rpt i j ≡ terminal G M (at es i) (at es j) .0
   unfolding gainPrice gainPriceBut
   terminal-shown i j il jl = ap₂ (λ a b. min (a + 3) b) (ap₂ min
@@ -175,6 +200,7 @@ module _ (m ns nt : ℕ) (sv st rs rt sh : List ℕ) (tied : List Bool) (quotaS 
       y : ℕ
       y = at es j
 
+  -- the search on tables that show the prices is the search of the instance
   pub search-shown : (arcs terminals : List ℕ) (k : ℕ) → Grid arcs n (arcCell m sv st rs rt plan ps pt rps rpt)
       → Grid terminals n (terminalCell m sv st rs rt plan roomS roomT ps pt rps rpt)
       → 2 * n + 4 + k ≤ 133 → hitOf G M es (searchAt m (freeAt sv st plan roomS roomT) arcs terminals n k) ≡ search G M 133 k n

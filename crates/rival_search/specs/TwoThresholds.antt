@@ -12,11 +12,11 @@ use Rattle.lists.specs.Search.{low, low-is}
 use Rattle.model.specs.Instance.{Instance}
 use Rattle.arrays.specs.ArrayInstance.{at}
 use Rattle.rival_tables.specs.Filled.{cell, Grid, Rows}
-use Rattle.rival_layers.specs.Layers.{layerAt, Small, Cheap}
+use Rattle.rival_levels.specs.Layers.{layerAt, Small, Cheap}
 use Rattle.rival_levels.specs.declared.Found.the-variants as found
 use Rattle.rival_levels.specs.declared.Found.{Found}
 use Rattle.rival_levels.specs.Levels.{diagAt, endsAt, levelLoop, levelRow, levelColumn, levelChange, levelsAt, SmallEnds}
-use Rattle.rival_laws.specs.Walks.{hitOf, searchAt}
+use Rattle.rival_levels.specs.Walks.{hitOf, searchAt}
 use Rattle.rival_search.specs.SearchView.{freeAt, arcCell, terminalCell, arc-small, arc-cheap, but-small}
 
 -- whether it was found below 0, and what
@@ -32,6 +32,7 @@ abbrev pub placesAt : (arcs terminals : List ℕ) → ℕ → ℕ → Found
 placesAt arcs terminals n k =
     cond (ltb (diagAt (cell terminals) n (4 + k)) n) (found.Alone (diagAt (cell terminals) n (4 + k))) (levelsAt arcs terminals n k n 0)
 
+-- what both searches find on the two tables, where no edge has room at both ends
 abbrev pub OnTables : (arcs terminals : List ℕ) → ℕ → Bool → Found → Type 0
 OnTables arcs terminals n below what = _≡_ {A = Bool × Found} (below, what) (searched (placesAt arcs terminals n 0) (placesAt arcs terminals n 1))
 
@@ -40,6 +41,7 @@ module _ (arcs terminals : List ℕ) (n k i : ℕ) (e : i ≡ diagAt (cell termi
   abbrev onward : Bool → Found
   onward x = cond x (found.Alone (diagAt (cell terminals) n (4 + k))) (levelsAt arcs terminals n k n 0)
 
+  -- a walk without an arc
   pub out-alone : i < n → found.Alone i ≡ placesAt arcs terminals n k
   out-alone h = ap found.Alone e ∙ sym (ap onward (ap (λ z. ltb z n) (sym e) ∙ lt-ltb i n h))
 
@@ -48,11 +50,13 @@ module _ (arcs terminals : List ℕ) (n k i : ℕ) (e : i ≡ diagAt (cell termi
 
 -- an edge with room at both ends comes before
 module _ (m : ℕ) (free : ℕ → Bool) (arcs terminals : List ℕ) (n f : ℕ) (e : f ≡ low free m) where
+  -- such an edge is found
   pub search-direct : (k : ℕ) → f < m → searchAt m free arcs terminals n k ≡ found.Direct f
   unfolding searchAt
   search-direct k h =
       ap (λ x. cond x (found.Direct (low free m)) (placesAt arcs terminals n k)) (ap (λ z. ltb z m) (sym e) ∙ lt-ltb f m h) ∙ ap found.Direct (sym e)
 
+  -- there is none: the search goes on by places
   pub search-places : (k : ℕ) → m ≤ f → searchAt m free arcs terminals n k ≡ placesAt arcs terminals n k
   unfolding searchAt
   search-places k h = ap (λ x. cond x (found.Direct (low free m)) (placesAt arcs terminals n k)) (ap (λ z. ltb z m) (sym e) ∙ le-ltb f m h)
@@ -65,6 +69,7 @@ Searched m sv st rs rt plan n ps pt rps rpt roomS roomT arcs below what =
     × (_≡_ {A = Bool × Found} (below, what)
     (searched (searchAt m (freeAt sv st plan roomS roomT) arcs terminals n 0) (searchAt m (freeAt sv st plan roomS roomT) arcs terminals n 1)))
 
+-- what both searches find, by edges
 pub searched-hit : (G : Instance) (M : ℕ → Bool) (es : List ℕ) (a b : Found) → hitOf G M es (searched a b .1) ≡ orElse (hitOf G M es a) (hitOf G M es b)
 unfolding orElse
 searched-hit G M es found.Nothing b = refl
@@ -103,13 +108,22 @@ module _ (m : ℕ) (arcs terminals : List ℕ) (n k : ℕ) where
           let (a, b, c) = low-is (λ i. ltb (endsAt (layerAt arcs n l) terminals n (2 * suc l + 4 + k) i) n) n in
           ltb→lt (levelColumn arcs terminals n k l) n (c h)
 
+  places-bounded : Bounded m n (placesAt arcs terminals n k)
+  places-bounded = if-ind (Bounded m n) (ltb (diagAt (cell terminals) n (4 + k)) n)
+      (λ t. ltb→lt (diagAt (cell terminals) n (4 + k)) n t)
+      (λ t. levels-bounded n 0 (omega arith))
+
   search-bounded : (free : ℕ → Bool) → Bounded m n (searchAt m free arcs terminals n k)
   unfolding searchAt
-  search-bounded free = if-ind (Bounded m n) (ltb (low free m) m)
-      (λ t. ltb→lt (low free m) m t)
-      (λ t. if-ind (Bounded m n) (ltb (diagAt (cell terminals) n (4 + k)) n) (λ t. ltb→lt (diagAt (cell terminals) n (4 + k)) n t)
-      (λ t. levels-bounded n 0 (omega arith)))
+  search-bounded free = if-ind (Bounded m n) (ltb (low free m) m) (λ t. ltb→lt (low free m) m t) (λ t. places-bounded)
 
+-- what both searches find on the two tables is there
+pub tables-bounded : (m : ℕ) (arcs terminals : List ℕ) (n : ℕ) (below : Bool) (what : Found) → OnTables arcs terminals n below what → Bounded m n what
+tables-bounded m arcs terminals n below what e = subst (λ (h : Bool × Found). Bounded m n (h .1)) (sym e)
+    (searched-bounded m n (placesAt arcs terminals n 0) (placesAt arcs terminals n 1) (places-bounded m arcs terminals n 0)
+    (places-bounded m arcs terminals n 1))
+
+-- the places that both searches find are there
 pub searching-bounded : (m : ℕ) (sv st rs rt : List ℕ) (plan : List Bool) (n : ℕ) (ps pt rps rpt : List ℕ) (roomS roomT : List Bool) (arcs : List ℕ)
     (below : Bool) (what : Found)
     → Searched m sv st rs rt plan n ps pt rps rpt roomS roomT arcs below what → Bounded m n what
@@ -124,6 +138,7 @@ searching-bounded m sv st rs rt plan n ps pt rps rpt roomS roomT arcs below what
 module _ (m : ℕ) (sv st rs rt : List ℕ) (plan : List Bool) (n : ℕ) (ps pt rps rpt : List ℕ) (roomS roomT : List Bool) (arcs ends : List ℕ)
     (arcsShow : Rows arcs n (arcCell m sv st rs rt plan ps pt rps rpt))
     (endsShow : Grid ends n (terminalCell m sv st rs rt plan roomS roomT ps pt rps rpt)) where
+  -- their prices are small
   pub tables-fine : Small n arcs × Cheap n arcs × SmallEnds n ends
   tables-fine = (
     (λ i j h k. omega (arith, arcsShow i j h k, arc-small m sv st rs rt plan (at pt i) (at rpt i) (at ps j) (at rps j))),
@@ -135,6 +150,7 @@ module _ (m : ℕ) (sv st rs rt : List ℕ) (plan : List Bool) (n : ℕ) (ps pt 
     (λ i j h k. omega (arith, endsShow i j h k, but-small m sv st rs plan roomT (at ps i) (at rps i) (at pt j))),
   )
 
+  -- what both searches find on them
   pub tables-searched : m ≤ low (freeAt sv st plan roomS roomT) m → (below : Bool) (what : Found) → OnTables arcs ends n below what
       → Searched m sv st rs rt plan n ps pt rps rpt roomS roomT arcs below what
   tables-searched h below what e =

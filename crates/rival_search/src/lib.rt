@@ -3,58 +3,58 @@
 ghost use mathlib.Core.Path.{_≡_};
 ghost use mathlib.Core.Logic.{_⊎_};
 ghost use mathlib.Core.Bool.{true};
-ghost use Prim.Native.Nat.{ℕ, _≤_, _<_};
+ghost use Prim.Native.Nat.{_≤_, _<_};
 ghost use Rattle.model.specs.Limits.{entryLimit, nodeLimit, planLimit};
 ghost use Rattle.arrays.specs.Passes.{Low};
-ghost use Rattle.edge_links.specs.Linked.{Linked};
-ghost use Rattle.rival_tables.specs.Filled.{Grid};
-ghost use Rattle.rival_layers.specs.Layers.{Small, Cheap};
+ghost use Rattle.arrays.specs.Linked.{Linked};
+ghost use Rattle.rival_levels.specs.Layers.{Small, Cheap};
 ghost use Rattle.rival_levels.specs.Levels.{SmallEnds};
-ghost use Rattle.rival_levels.specs.declared.Found.the-variants as found;
 ghost use Rattle.rival_certificate.specs.Certified.{Closed};
-ghost use Rattle.rival_search.specs.SearchView.{terminalCell};
+ghost use Rattle.rival_search.specs.SearchView.{EndsFor};
 ghost use Rattle.rival_search.specs.TwoThresholds.{placesAt, OnTables};
+ghost use Rattle.rival_levels.specs.declared.Found.the-variants as found;
+use limits::ENTRY_LIMIT;
 
-// The table of the ends, from the ends and ranks of the plan's edges and the room at the nodes. Where no node has room, as in every plan of 64 edges,
-// nothing can be gained: each edge of the plan is lost at both ends, which costs 6.
+// The table of the ends, from the ends of the plan's edges and the room at the nodes. Where no node has room, as in every plan of 64 edges, nothing can be
+// gained: each edge of the plan is lost at both ends, which costs 6.
 pub fn terminal_table(
     m: usize,
-    sv: &[u8; 1024],
-    st: &[u8; 1024],
-    rs: &[u8; 1024],
-    rt: &[u8; 1024],
-    plan: &[bool; 1024],
+    sv: &[u8; ENTRY_LIMIT],
+    st: &[u8; ENTRY_LIMIT],
+    rs: &[u8; ENTRY_LIMIT],
+    rt: &[u8; ENTRY_LIMIT],
+    plan: &[bool; ENTRY_LIMIT],
     hs: &[u16; 32],
-    ls: &[u16; 1024],
+    ls: &[u16; ENTRY_LIMIT],
     ht: &[u16; 32],
-    lt: &[u16; 1024],
+    lt: &[u16; ENTRY_LIMIT],
     n: usize,
+    es: &[u16; 64],
     ps: &[u8; 64],
     pt: &[u8; 64],
-    rps: &[u8; 64],
-    rpt: &[u8; 64],
     fs: &[bool; 32],
     ft: &[bool; 32],
 ) -> [u8; 4096]
     requires { ⌜ (m ≤ entryLimit) × (n ≤ planLimit) × Low m (now sv) nodeLimit × Low m (now st) nodeLimit
         × Linked m (now sv) (now hs) (now ls) × Linked m (now st) (now ht) (now lt)
-        × Low n (now ps) nodeLimit × Low n (now pt) nodeLimit ⌝ }
-    ensures { λ r. ⌜ Grid r n
-        (terminalCell m (now (sv .entry)) (now (st .entry)) (now (rs .entry)) (now (rt .entry)) (now (plan .entry)) (now (fs .entry))
-        (now (ft .entry)) (now (ps .entry)) (now (pt .entry)) (now (rps .entry)) (now (rpt .entry))) ⌝ }
+        × Low n (now ps) nodeLimit × Low n (now pt) nodeLimit × Low n (now es) entryLimit ⌝ }
+    ensures { λ r. ⌜ EndsFor m (now (sv .entry)) (now (st .entry)) (now (rs .entry)) (now (rt .entry)) (now (plan .entry)) (now (fs .entry))
+        (now (ft .entry)) n (now (es .entry)) (now (ps .entry)) (now (pt .entry)) r ⌝ }
 {
-    let roomy_s = rival_capacity::first_room(fs);
-    let roomy_t = rival_capacity::first_room(ft);
+    let roomy_s = rival_tables::first_room(fs);
+    let roomy_t = rival_tables::first_room(ft);
     if roomy_s >= 32 {
         if roomy_t >= 32 {
             return [6u8; 4096];
         }
     }
-    let starts = rival_gains::apart(m, sv, st, rs, plan, ft, hs, ls, n, ps, pt, rps);
-    let stops = rival_gains::apart(m, st, sv, rt, plan, fs, ht, lt, n, pt, ps, rpt);
-    let gs = rival_gains::gains(m, sv, st, rs, plan, ft, hs, ls, n, ps, rps);
-    let gt = rival_gains::gains(m, st, sv, rt, plan, fs, ht, lt, n, pt, rpt);
-    rival_ends::terminals(n, &starts, &stops, &gs, &gt)
+    let rps = rival_tables::gathered(n, es, rs);
+    let rpt = rival_tables::gathered(n, es, rt);
+    let starts = rival_gains::apart(m, sv, st, rs, plan, ft, hs, ls, n, ps, pt, &rps);
+    let stops = rival_gains::apart(m, st, sv, rt, plan, fs, ht, lt, n, pt, ps, &rpt);
+    let gs = rival_gains::gains(m, sv, st, rs, plan, ft, hs, ls, n, ps, &rps);
+    let gt = rival_gains::gains(m, st, sv, rt, plan, fs, ht, lt, n, pt, &rpt);
+    rival_tables::terminals(n, &starts, &stops, &gs, &gt)
 }
 
 // Two levels of the search below 0: what they find, or nothing, which decides nothing.
@@ -70,7 +70,8 @@ fn first_levels(n: usize, arcs: &[u8; 4096], ends: &[u8; 4096]) -> rival_levels:
     rival_levels::levels(n, b, arcs, ends, 0)
 }
 
-// The search below k: a walk without an arc, then the levels, unless the table of costs, if it is closed, shows that they find nothing.
+// The search below k: a walk without an arc, then the levels. Where the table of costs, if it is closed, shows that no walk with a start and an end is
+// below k, closed walks alone are left to look for.
 fn search(
     n: usize,
     arcs: &[u8; 4096],
@@ -88,9 +89,9 @@ fn search(
         return rival_levels::Found::Alone(i);
     }
     if closed {
-        let none = rival_certificate::clear(n, costs, ends, k);
-        if none {
-            return rival_levels::Found::Nothing;
+        let open = rival_levels::pair(n, costs, ends, 68 + k);
+        if open.row >= n {
+            return rival_tight::closed_walk(n, arcs, costs, k);
         }
     }
     rival_levels::levels(n, n, arcs, ends, k)

@@ -14,6 +14,7 @@ module _ {B : Type 0} (bid : ℕ → ℕ × B) (t : ℕ → Bool) where
   abbrev pub taken : ℕ × B → ℕ → ℕ × B
   taken held i = cond (t i && ltb (bid i .0) (held .0)) (bid i) held
 
+  -- one turn of the loop
   pub best-turn : (held : ℕ × B) (i m : ℕ) → i < m → best bid held (keep t (range i (m - i))) ≡ best bid (taken held i) (keep t (range (i + 1) (m - (i + 1))))
   unfolding best
   best-turn held i m h =
@@ -27,15 +28,18 @@ module _ {B : Type 0} (bid : ℕ → ℕ × B) (t : ℕ → Bool) where
       go true = refl
       go false = refl
 
+  -- its end
   pub best-end : (held : ℕ × B) (i m : ℕ) → m ≤ i → best bid held (keep t (range i (m - i))) ≡ held
   unfolding best
   best-end held i m h = let e : m - i ≡ 0 = omega arith in ap (λ k. best bid held (keep t (range i k))) e
 
+  -- its start
   pub best-start : (held : ℕ × B) (m : ℕ) → best bid held (keep t (range 0 (m - 0))) ≡ best bid held (keep t (range 0 m))
   best-start held m = let e : m - 0 ≡ m = omega arith in ap (λ k. best bid held (keep t (range 0 k))) e
 
 -- ---- in parts
 module _ {A B : Type 0} (bid : A → ℕ × B) where
+  -- one list after the other
   pub best-append : (held : ℕ × B) (xs ys : List A) → best bid held (xs ++ ys) ≡ best bid (best bid held xs) ys
   unfolding best
   best-append held [] ys = refl
@@ -70,9 +74,11 @@ module _ {A B : Type 0} (bid : A → ℕ × B) where
 
 -- ---- under other names
 module _ {A B C D : Type 0} (bid : A → ℕ × B) (call : C → ℕ × D) (g : C → A) (name : D → B) where
+  -- a bid under another name
   abbrev pub named : ℕ × D → ℕ × B
   named c = (c .0, name (c .1))
 
+  -- the best under other names
   pub best-named : (held : ℕ × D) (xs : List C) → ((c : C) → c ∈ xs → bid (g c) ≡ named (call c)) → best bid (named held) (map g xs) ≡ named (best call held xs)
   unfolding best
   best-named held [] h = refl

@@ -27,6 +27,7 @@ pub cheapest-turn : (t : ℕ → Bool) (p : ℕ → ℕ) (v i m : ℕ) → i < m
 unfolding cheapest
 cheapest-turn t p v i m h = let e : m - i ≡ suc (m - (i + 1)) = omega arith in rw (e, add-one)
 
+-- the end of the loop
 pub cheapest-end : (t : ℕ → Bool) (p : ℕ → ℕ) (v i m : ℕ) → m ≤ i → cheapest t p v i (m - i) ≡ v
 unfolding cheapest
 cheapest-end t p v i m h = let e : m - i ≡ 0 = omega arith in rw e
@@ -48,6 +49,7 @@ cheapest-none t p v i (suc n) h =
     ap (λ b. cheapest t p (offer b (p i) v) (suc i) n) (h i (omega arith) (omega arith))
     ∙ cheapest-none t p v (suc i) n (λ e l g. h e (omega arith) (omega arith))
 
+-- it is no more than what was held
 pub cheapest-≤ : (t : ℕ → Bool) (p : ℕ → ℕ) (v i n : ℕ) → cheapest t p v i n ≤ v
 unfolding cheapest
 cheapest-≤ t p v i zero = omega arith
@@ -64,6 +66,7 @@ module _ {A B : Type 0} (bid : A → ℕ × B) where
       (λ e. ap (λ b. cond b (bid x) held .0) e ∙ omega (arith, ltb-true (bid x .0) (held .0) e))
       (λ e. ap (λ b. cond b (bid x) held .0) e ∙ omega (arith, ltb-false (bid x .0) (held .0) e))
 
+  -- of all numbers of a range
   pub best-map : (g : ℕ → A) (held : ℕ × B) (i n : ℕ) → best bid held (map g (range i n)) .0 ≡ cheapest (λ j. true) (λ j. bid (g j) .0) (held .0) i n
   unfolding best cheapest
   best-map g held i zero = refl
@@ -71,6 +74,7 @@ module _ {A B : Type 0} (bid : A → ℕ × B) where
       best-map g (cond (ltb (bid (g i) .0) (held .0)) (bid (g i)) held) (suc i) n
       ∙ ap (λ v. cheapest (λ j. true) (λ j. bid (g j) .0) v (suc i) n) (taken (g i) held)
 
+-- of those that pass a test
 pub best-keep : {B : Type 0} (bid : ℕ → ℕ × B) (t : ℕ → Bool) (held : ℕ × B) (i n : ℕ)
     → best bid held (keep t (range i n)) .0 ≡ cheapest t (λ j. bid j .0) (held .0) i n
 unfolding best cheapest
@@ -94,6 +98,7 @@ cheapest-at t p v i (suc n) e l h k = by-bool (ltb i e)
     (λ q. let s : i ≡ e = omega (arith, ltb-false i e q) in
     omega (arith, cheapest-≤ t p (offer (t i) (p i) v) (suc i) n, ap (λ b. offer b (p i) v) (ap t s ∙ k), ap p s))
 
+-- it is what was held, or one of the prices
 pub cheapest-reach : (t : ℕ → Bool) (p : ℕ → ℕ) (v i n : ℕ)
     → (cheapest t p v i n ≡ v) ⊎ ((e : ℕ) × (i ≤ e) × (e < i + n) × (t e ≡ true) × (cheapest t p v i n ≡ p e))
 unfolding cheapest

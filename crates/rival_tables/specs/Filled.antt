@@ -1,17 +1,14 @@
 -- Square tables of 64 columns that lie row after row in one array, filled row by row.
 use Prim.Native.Nat.{ℕ, zero, suc, _+_, _*_, _/_, _%_, _≤_, _<_}
 use native.Mathlib.Omega.{arith}
-use native.Mathlib.Nat.{eq-or-lt-of-le}
 use mathlib.Core.Path.{_≡_, refl, sym, ap, ap₂, _∙_, subst}
-use mathlib.Core.Logic.{⊎-elim}
 use mathlib.Core.Bool.{Bool, true, false, cond}
 use mathlib.Core.List.{List, map}
-use lib.ListN.{length, getD, set}
+use lib.ListN.{length, set}
 use lib.Seq.{getD-set-same, getD-set-other}
 use lib.Dec.{eqb, ltb}
 use borrow.Author.Tests.{lt-ltb, le-ltb, ltb-true, ltb-false}
-use mir.Val.{boolByte}
-use Rattle.lists.specs.Test.{by-bool, bit, by-eq, bit-one}
+use Rattle.lists.specs.Test.{by-bool, by-eq}
 use Rattle.lists.specs.Sum.{range}
 use Rattle.arrays.specs.ArrayInstance.{at}
 use Rattle.arrays.specs.Filled.{Made}
@@ -20,6 +17,7 @@ use Rattle.arrays.specs.Filled.{Made}
 abbrev pub cell : List ℕ → ℕ → ℕ → ℕ
 cell t i j = at t (i * 64 + j)
 
+-- the first n rows and columns are f's
 abbrev pub Grid : List ℕ → ℕ → (ℕ → ℕ → ℕ) → Type 0
 Grid t n f = (i j : ℕ) → i < n → j < n → cell t i j ≡ f i j
 
@@ -78,6 +76,7 @@ abbrev pub Remade : List ℕ → (ℕ → ℕ) → ℕ → List ℕ → Type 0
 Remade t f k r = (j : ℕ) → j < 64 → at r j ≡ cond (ltb j k) (f j) (at t j)
 
 module _ (t : List ℕ) (f : ℕ → ℕ) where
+  -- nothing is written yet
   pub remade-start : Remade t f 0 t
   remade-start j h = sym (ap (λ b. cond b (f j) (at t j)) (le-ltb j 0 (omega arith)))
 
@@ -85,6 +84,7 @@ module _ (t : List ℕ) (f : ℕ → ℕ) where
   pub remade-here : (k : ℕ) (r : List ℕ) → k < 64 → Remade t f k r → at r k ≡ at t k
   remade-here k r h m = m k h ∙ ap (λ b. cond b (f k) (at t k)) (le-ltb k k (omega arith))
 
+  -- entry k is written
   pub remade-next : (k : ℕ) (r : List ℕ) (v : ℕ) → length r ≡ 64 → k < 64 → v ≡ f k → Remade t f k r → Remade t f (k + 1) (set r k v)
   remade-next k r v l h e m j g = by-eq j k
       (λ q s. ap (at (set r k v)) q ∙ getD-set-same r k v 0 (omega arith) ∙ e ∙ ap f (sym q)
@@ -98,6 +98,7 @@ module _ (t : List ℕ) (f : ℕ → ℕ) where
       ∙ sym (ap (λ b. cond b (f j) (at t j)) (lt-ltb j (k + 1) (omega arith))))
       (λ n s. m j g ∙ ap (λ b. cond b (f j) (at t j)) (other-than j k n))
 
+  -- all is written
   pub remade-end : (k : ℕ) (r : List ℕ) → 64 ≤ k → Remade t f k r → Made 0 r f 64
   remade-end k r h m j g = m j g ∙ ap (λ b. cond b (f j) (at t j)) (lt-ltb j k (omega arith))
 
@@ -107,9 +108,11 @@ at-map g i zero k h = absurd (omega arith)
 at-map g i (suc n) zero h = let e : i ≡ i + 0 = omega arith in ap g e
 at-map g i (suc n) (suc k) h = let e : suc i + k ≡ i + suc k = omega arith in at-map g (suc i) n k (omega arith) ∙ ap g e
 
+-- the table of f
 unfoldable pub tableOf : (ℕ → ℕ → ℕ) → ℕ → List ℕ
 tableOf f size = map (λ k. f (k / 64) (k % 64)) (range 0 size)
 
+-- its rows are f's
 pub table-rows : (f : ℕ → ℕ → ℕ) (n : ℕ) → Rows (tableOf f (n * 64)) n f
 unfolding tableOf
 table-rows f n i j il jl = at-map (λ k. f (k / 64) (k % 64)) 0 (n * 64) (i * 64 + j) (omega arith) ∙ ap₂ f (row i j jl) (column i j jl)

@@ -1,3 +1,4 @@
-pub mod Filled
-pub mod Cheapest
 pub mod Best
+pub mod Cheapest
+pub mod Filled
+pub mod Terminals

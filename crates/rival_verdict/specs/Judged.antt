@@ -8,7 +8,7 @@ use Rattle.model.specs.Plans.{Verdict, strong, popular, beaten}
 use Rattle.theory_verdict.specs.Search.{judge}
 use Rattle.rival_levels.specs.declared.Found.the-variants as found
 use Rattle.rival_levels.specs.declared.Found.{Found}
-use Rattle.rival_laws.specs.Walks.{hitOf}
+use Rattle.rival_levels.specs.Walks.{hitOf}
 use Rattle.rival_search.specs.TwoThresholds.{searched}
 
 -- something was found

@@ -7,11 +7,13 @@ ghost use Rattle.lists.specs.Search.{low};
 ghost use Rattle.model.specs.Limits.{entryLimit, nodeLimit, planLimit};
 ghost use Rattle.arrays.specs.ArrayInstance.{flag};
 ghost use Rattle.arrays.specs.Passes.{Shows, Low};
-ghost use Rattle.edge_links.specs.Linked.{Linked};
-ghost use Rattle.rival_tables.specs.Filled.{Grid};
-ghost use Rattle.rival_search.specs.SearchView.{Lists, Views, freeAt, terminalCell};
-ghost use Rattle.rival_verdict.specs.RivalOfArrays.{RivalShown, ShownFor};
+ghost use Rattle.arrays.specs.Linked.{Linked};
+ghost use Rattle.rival_levels.specs.Layers.{Small, Cheap};
+ghost use Rattle.rival_levels.specs.Levels.{SmallEnds};
+ghost use Rattle.rival_search.specs.SearchView.{Lists, freeAt};
+ghost use Rattle.rival_verdict.specs.RivalOfArrays.{RivalShown, ShownFor, NodesAt, RivalOn};
 ghost use Rattle.rival_verdict.specs.Judged.{verdictFor, isSomething};
+use limits::ENTRY_LIMIT;
 
 // Whether something was found at all.
 pub fn is_something(found: rival_levels::Found) -> bool
@@ -26,14 +28,14 @@ pub fn is_something(found: rival_levels::Found) -> bool
 // The plan without the edges that go and with those that come.
 pub fn exchanged(
     m: usize,
-    plan: &[bool; 1024],
-    gone: &[bool; 1024],
-    come: &[bool; 1024],
-) -> [bool; 1024]
+    plan: &[bool; ENTRY_LIMIT],
+    gone: &[bool; ENTRY_LIMIT],
+    come: &[bool; ENTRY_LIMIT],
+) -> [bool; ENTRY_LIMIT]
     requires { ⌜ m ≤ entryLimit ⌝ }
     ensures { λ r. ⌜ Shows false r m (λ e. (flag (now (plan .entry)) e && not (flag (now (gone .entry)) e)) || flag (now (come .entry)) e) ⌝ }
 {
-    let mut o = [false; 1024];
+    let mut o = [false; ENTRY_LIMIT];
     let mut e = 0;
     while e < m {
         o[e] = (plan[e] & !gone[e]) | come[e];
@@ -47,45 +49,36 @@ pub fn exchanged(
 pub struct Judged {
     pub beaten: bool,
     pub rivalled: bool,
-    pub rival: [bool; 1024],
+    pub rival: [bool; ENTRY_LIMIT],
 }
 
-// Where no edge has room at both ends and none of the plan is better exchanged alone: by both tables, `ends` and that of the arcs, which is made here.
-// hs and ls are the links through the edges of each surveyor, ht and lt those of each stand.
+// By both tables: what the searches find, and the plan exchanged by it. hs and ls are the links through the edges of each surveyor, ht and lt those of each
+// stand.
 fn judged_by_arcs(
     m: usize,
-    sv: &[u8; 1024],
-    st: &[u8; 1024],
-    rs: &[u8; 1024],
-    rt: &[u8; 1024],
-    plan: &[bool; 1024],
+    sv: &[u8; ENTRY_LIMIT],
+    st: &[u8; ENTRY_LIMIT],
+    rs: &[u8; ENTRY_LIMIT],
+    rt: &[u8; ENTRY_LIMIT],
+    plan: &[bool; ENTRY_LIMIT],
     hs: &[u16; 32],
-    ls: &[u16; 1024],
+    ls: &[u16; ENTRY_LIMIT],
     ht: &[u16; 32],
-    lt: &[u16; 1024],
+    lt: &[u16; ENTRY_LIMIT],
     n: usize,
     es: &[u16; 64],
-    ps: &[u8; 64],
-    pt: &[u8; 64],
-    qs: &[u8; 64],
-    qt: &[u8; 64],
     fs: &[bool; 32],
     ft: &[bool; 32],
+    arcs: &[u8; 4096],
     ends: &[u8; 4096],
 ) -> Judged
-    requires { ⌜ (m ≤ entryLimit) × (n ≤ planLimit) × Low m (now sv) nodeLimit × Low m (now st) nodeLimit × Lists m (now plan) n (now es)
-        × Views n (now es) (now sv) (now st) (now rs) (now rt) (now ps) (now pt) (now qs) (now qt)
-        × Low planLimit (now ps) nodeLimit × Low planLimit (now pt) nodeLimit
-        × Linked m (now sv) (now hs) (now ls) × Linked m (now st) (now ht) (now lt)
-        × (m ≤ low (freeAt (now sv) (now st) (now plan) (now fs) (now ft)) m) ⌝ }
-    requires { ⌜ Grid (now ends) n
-        (terminalCell m (now sv) (now st) (now rs) (now rt) (now plan) (now fs) (now ft) (now ps) (now pt) (now qs) (now qt)) ⌝ }
-    ensures { λ r. ⌜ ShownFor m (now (sv .entry)) (now (st .entry)) (now (rs .entry)) (now (rt .entry)) (now (plan .entry)) n (now (ps .entry))
-        (now (pt .entry))
-        (now (fs .entry)) (now (ft .entry)) (verdictFor (r .beaten) (r .rivalled)) (r .rival) ⌝ }
+    requires { ⌜ (m ≤ entryLimit) × (n ≤ planLimit) × Low m (now sv) nodeLimit × Low m (now st) nodeLimit × Low n (now es) m
+        × Small n (now arcs) × Cheap n (now arcs) × SmallEnds n (now ends)
+        × Linked m (now sv) (now hs) (now ls) × Linked m (now st) (now ht) (now lt) ⌝ }
+    ensures { λ r. ⌜ RivalOn m (now (sv .entry)) (now (st .entry)) (now (rs .entry)) (now (rt .entry)) (now (plan .entry)) (now (fs .entry))
+        (now (ft .entry)) n (now (es .entry)) (now (arcs .entry)) (now (ends .entry)) (r .beaten) (r .rivalled) (r .rival) ⌝ }
 {
-    let arcs = rival_arcs::arcs(m, sv, st, rs, rt, plan, ht, lt, n, ps, pt, qs, qt);
-    let h = rival_search::searched_on(n, &arcs, ends);
+    let h = rival_search::searched_on(n, arcs, ends);
     let found = h.found;
     let rivalled = is_something(found);
     let s = rival_exchange::swap(
@@ -103,7 +96,7 @@ fn judged_by_arcs(
         es,
         fs,
         ft,
-        &arcs,
+        arcs,
         found,
     );
     let gone = s.gone;
@@ -120,26 +113,24 @@ fn judged_by_arcs(
 // are beaten by; the table of the arcs is not needed then.
 fn judged_by_tables(
     m: usize,
-    sv: &[u8; 1024],
-    st: &[u8; 1024],
-    rs: &[u8; 1024],
-    rt: &[u8; 1024],
-    plan: &[bool; 1024],
+    sv: &[u8; ENTRY_LIMIT],
+    st: &[u8; ENTRY_LIMIT],
+    rs: &[u8; ENTRY_LIMIT],
+    rt: &[u8; ENTRY_LIMIT],
+    plan: &[bool; ENTRY_LIMIT],
     hs: &[u16; 32],
-    ls: &[u16; 1024],
+    ls: &[u16; ENTRY_LIMIT],
     ht: &[u16; 32],
-    lt: &[u16; 1024],
+    lt: &[u16; ENTRY_LIMIT],
     n: usize,
     es: &[u16; 64],
     ps: &[u8; 64],
     pt: &[u8; 64],
-    qs: &[u8; 64],
-    qt: &[u8; 64],
     fs: &[bool; 32],
     ft: &[bool; 32],
 ) -> Judged
     requires { ⌜ (m ≤ entryLimit) × (n ≤ planLimit) × Low m (now sv) nodeLimit × Low m (now st) nodeLimit × Lists m (now plan) n (now es)
-        × Views n (now es) (now sv) (now st) (now rs) (now rt) (now ps) (now pt) (now qs) (now qt)
+        × NodesAt n (now es) (now sv) (now st) (now ps) (now pt)
         × Low planLimit (now ps) nodeLimit × Low planLimit (now pt) nodeLimit
         × Linked m (now sv) (now hs) (now ls) × Linked m (now st) (now ht) (now lt)
         × (m ≤ low (freeAt (now sv) (now st) (now plan) (now fs) (now ft)) m) ⌝ }
@@ -159,10 +150,9 @@ fn judged_by_tables(
         ht,
         lt,
         n,
+        es,
         ps,
         pt,
-        qs,
-        qt,
         fs,
         ft,
     );
@@ -179,6 +169,9 @@ fn judged_by_tables(
             rival: rival,
         };
     }
+    let rps = rival_tables::gathered(n, es, rs);
+    let rpt = rival_tables::gathered(n, es, rt);
+    let arcs = rival_arcs::arcs(m, sv, st, rs, rt, plan, ht, lt, n, ps, pt, &rps, &rpt);
     judged_by_arcs(
         m,
         sv,
@@ -192,45 +185,40 @@ fn judged_by_tables(
         lt,
         n,
         es,
-        ps,
-        pt,
-        qs,
-        qt,
         fs,
         ft,
+        &arcs,
         &ends,
     )
 }
 
-// From the ends and ranks of the plan's edges and the room at the nodes. An edge with room at both ends beats the plan, whatever the tables say, so it is
-// looked for before they are made.
+// From the nodes of the plan's edges and the room at the nodes. An edge with room at both ends beats the plan, whatever the tables say, so it is looked for
+// before they are made.
 pub fn judged_on(
     m: usize,
-    sv: &[u8; 1024],
-    st: &[u8; 1024],
-    rs: &[u8; 1024],
-    rt: &[u8; 1024],
-    plan: &[bool; 1024],
+    sv: &[u8; ENTRY_LIMIT],
+    st: &[u8; ENTRY_LIMIT],
+    rs: &[u8; ENTRY_LIMIT],
+    rt: &[u8; ENTRY_LIMIT],
+    plan: &[bool; ENTRY_LIMIT],
     n: usize,
     es: &[u16; 64],
     ps: &[u8; 64],
     pt: &[u8; 64],
-    qs: &[u8; 64],
-    qt: &[u8; 64],
     fs: &[bool; 32],
     ft: &[bool; 32],
 ) -> Judged
     requires { ⌜ (m ≤ entryLimit) × (n ≤ planLimit) × Low m (now sv) nodeLimit × Low m (now st) nodeLimit × Lists m (now plan) n (now es)
-        × Views n (now es) (now sv) (now st) (now rs) (now rt) (now ps) (now pt) (now qs) (now qt)
+        × NodesAt n (now es) (now sv) (now st) (now ps) (now pt)
         × Low planLimit (now ps) nodeLimit × Low planLimit (now pt) nodeLimit ⌝ }
     ensures { λ r. ⌜ ShownFor m (now (sv .entry)) (now (st .entry)) (now (rs .entry)) (now (rt .entry)) (now (plan .entry)) n (now (ps .entry))
         (now (pt .entry))
         (now (fs .entry)) (now (ft .entry)) (verdictFor (r .beaten) (r .rivalled)) (r .rival) ⌝ }
 {
-    let f = rival_capacity::direct(m, sv, st, plan, fs, ft);
+    let f = rival_tables::direct(m, sv, st, plan, fs, ft);
     if f < m {
-        let gone = [false; 1024];
-        let come = rival_exchange::gained([false; 1024], m, f);
+        let gone = [false; ENTRY_LIMIT];
+        let come = rival_exchange::gained([false; ENTRY_LIMIT], m, f);
         let rival = exchanged(m, plan, &gone, &come);
         return Judged {
             beaten: true,
@@ -238,10 +226,10 @@ pub fn judged_on(
             rival: rival,
         };
     }
-    let mut ls = [0u16; 1024];
-    let hs = edge_links::links(m, &sv[..], &mut ls[..]);
-    let mut lt = [0u16; 1024];
-    let ht = edge_links::links(m, &st[..], &mut lt[..]);
+    let mut ls = [0u16; ENTRY_LIMIT];
+    let hs = arrays::links(m, &sv[..], &mut ls[..]);
+    let mut lt = [0u16; ENTRY_LIMIT];
+    let ht = arrays::links(m, &st[..], &mut lt[..]);
     judged_by_tables(
         m,
         sv,
@@ -257,8 +245,6 @@ pub fn judged_on(
         es,
         ps,
         pt,
-        qs,
-        qt,
         fs,
         ft,
     )
@@ -267,13 +253,13 @@ pub fn judged_on(
 // From the plan's list and the quotas.
 pub fn judge(
     m: usize,
-    sv: &[u8; 1024],
-    st: &[u8; 1024],
-    rs: &[u8; 1024],
-    rt: &[u8; 1024],
+    sv: &[u8; ENTRY_LIMIT],
+    st: &[u8; ENTRY_LIMIT],
+    rs: &[u8; ENTRY_LIMIT],
+    rt: &[u8; ENTRY_LIMIT],
     bs: &[u8; 32],
     bt: &[u8; 32],
-    plan: &[bool; 1024],
+    plan: &[bool; ENTRY_LIMIT],
     n: usize,
     es: &[u16; 64],
 ) -> Judged
@@ -284,9 +270,7 @@ pub fn judge(
 {
     let ps = rival_tables::gathered(n, es, sv);
     let pt = rival_tables::gathered(n, es, st);
-    let qs = rival_tables::gathered(n, es, rs);
-    let qt = rival_tables::gathered(n, es, rt);
-    let fs = rival_capacity::rooms(n, &ps, bs);
-    let ft = rival_capacity::rooms(n, &pt, bt);
-    judged_on(m, sv, st, rs, rt, plan, n, es, &ps, &pt, &qs, &qt, &fs, &ft)
+    let fs = rival_tables::rooms(n, &ps, bs);
+    let ft = rival_tables::rooms(n, &pt, bt);
+    judged_on(m, sv, st, rs, rt, plan, n, es, &ps, &pt, &fs, &ft)
 }

@@ -33,6 +33,7 @@ module _ (m : ℕ) (sv st rs rt : List ℕ) (plan : List Bool) (x z : ℕ) where
   unfoldable pub edgeRest : ℕ × ℕ → ℕ → ℕ × ℕ
   edgeRest held f = best (λ f. (edgePrice f, f)) held (keep joins (range f (m - f)))
 
+  -- the edge of an arc
   unfoldable pub arcEdge : ℕ
   arcEdge = best (λ f. (edgePrice f, f)) (133, 0) (keep joins (range 0 m)) .1
 

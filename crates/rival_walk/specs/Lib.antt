@@ -1,3 +1,4 @@
 pub mod Edges
+pub mod Leads
 pub mod Marks
 pub mod Walks

@@ -12,6 +12,7 @@ use Rattle.lists.specs.Test.{bit, by-eq}
 use Rattle.lists.specs.Sum.{occ}
 use Rattle.arrays.specs.ArrayInstance.{flag}
 
+-- whether an edge is in a list
 abbrev pub listed : ℕ → List ℕ → Bool
 listed e xs = ltb 0 (occ e xs)
 
@@ -42,6 +43,7 @@ note g x xs e h = ap (λ b. b || listed e xs) (marked g x e h) ∙ move (eqb x e
     move false true c = refl
     move false false c = refl
 
+-- nothing is left to mark
 pub none-left : (b : Bool) (e : ℕ) → b ≡ b || listed e []
 none-left true e = refl
 none-left false e = refl

@@ -19,9 +19,9 @@ use Rattle.theory_verdict.specs.Arcs.{fs, zs}
 use Rattle.arrays.specs.ArrayInstance.{at, flag}
 use Rattle.rival_tables.specs.Filled.{cell, Grid}
 use Rattle.rival_tables.specs.Best.{best-named}
-use Rattle.rival_layers.specs.Layers.{keptPrice, layerAt}
-use Rattle.rival_laws.specs.Walks.{layer-is}
-use Rattle.rival_columns.specs.Leads.{bidAt, leadAt}
+use Rattle.rival_levels.specs.Layers.{keptPrice, layerAt}
+use Rattle.rival_levels.specs.Walks.{layer-is}
+use Rattle.rival_walk.specs.Leads.{bidAt, leadAt}
 use Rattle.rival_walk.specs.declared.Swap.{Swap}
 use Rattle.rival_walk.specs.Marks.{listed, Marked, note, none-left}
 
@@ -37,6 +37,7 @@ module _ (by : ℕ → ℕ → ℕ) (es arcs : List ℕ) (n j : ℕ) where
   abbrev pub arcTo : ℕ → ℕ → ℕ × ℕ
   arcTo i y = (by (at es i) (at es y), at es y)
 
+  -- the walk of level k from place i, as arcs
   unfoldable pub walkAt : ℕ → ℕ → Steps
   walkAt zero i = arcTo i j ∷ []
   walkAt (suc k) i = cond (ltb (ahead k i) n) (arcTo i (ahead k i) ∷ walkAt k (ahead k i)) (walkAt k i)
@@ -129,6 +130,7 @@ module _ (G : Instance) (M : ℕ → Bool) (es : List ℕ) (n : ℕ) (lists : ol
           (ap₂ (λ a b. a + b) (sym (arcsShow i y il l)) (layer-is G M es n lists arcs terminals arcsShow terminalsShow k y j l jl))
           (sym (ap (λ (b : Bool). cond b (via (at es y)) stay) (lt-ltb y n l)))
 
+  -- it is the walk that the search reads back
   pub trace-is : (k i j : ℕ) → i < n → j < n → trace G M 133 k (at es i) (at es j) ≡ walkAt by es arcs n j k i
   unfolding trace walkAt
   trace-is zero i j il jl = refl

@@ -30,7 +30,7 @@ pub(crate) fn lists_to_end(file: &[u8], at: usize, ns: u8, nt: u8, shifts: bool)
     if end < file.len() {
         return Section::Refused(9);
     }
-    if roster_pairs::both_alike(&surveyors, &stands, m, n) {
+    if crate::pairs::both_alike(&surveyors, &stands, m, n) {
         return t;
     }
     Section::Refused(8)

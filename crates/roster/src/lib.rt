@@ -1,10 +1,12 @@
 // The roster reader: section "Roster bytes" of document 01 with the shifts of W-204, and refusals 1 to 9 and 18 in their order.
-mod file;
-
 ghost use mathlib.Core.Path.{_≡_};
 ghost use Rattle.model.specs.RosterFile.{readRosterBy, readRoster};
 ghost use Rattle.answers.specs.FileCases.{fileCase};
 ghost use Rattle.roster_reading.specs.Layout.{layoutOf};
+
+mod file;
+mod pairs;
+
 use answers::FileAnswer;
 use roster_reading::Section;
 

@@ -12,7 +12,7 @@ use Rattle.arrays.specs.Filled.{Made}
 use Rattle.roster_positions.specs.Tables.{listsEnd}
 use Rattle.roster_parts.specs.Growth.{Grown}
 use Rattle.roster_parts.specs.Gives.{rosterOf}
-use Rattle.roster_mapped.specs.Mapped.{listsUnder, rankingsUnder}
+use Rattle.roster_parts.specs.Mapped.{listsUnder, rankingsUnder}
 
 -- a table that moves each number up to 32 by n
 unfoldable pub upTable : ℕ → List ℕ

@@ -27,7 +27,7 @@ use Rattle.theory_renamed.specs.JoinedFits.{Room, sums-by-counts, joined-counts
 use Rattle.roster_parts.specs.declared.Changed.{Changed}
 use Rattle.roster_parts.specs.Places.{quotas-part, surveyors-are, stands-are, lists-behind, lists-part}
 use Rattle.roster_parts.specs.Gives.{Gives, gives-refused, Holds, gives-held}
-use Rattle.roster_mapped.specs.Mapped.{under, allUnder, rankingUnder, listsUnder, rankingsUnder, lists-under, rankings-under}
+use Rattle.roster_parts.specs.Mapped.{under, allUnder, rankingUnder, listsUnder, rankingsUnder, lists-under, rankings-under}
 use Rattle.roster_districts.specs.Beside.{upTable, up-at, quotasFrom, nodesBeside, listsBeside, rankingsBeside, endAt, besideBytes}
 
 -- an accepted file

@@ -10,8 +10,8 @@ ghost use Rattle.roster_districts.specs.Joining.{Accepted, JoinedBy};
 use limits::NODE_LIMIT;
 use limits::QUOTA_SUM_LIMIT;
 use limits::ROSTER_SIZE;
-use roster_mapped::NUMBERS;
 use roster_parts::Changed;
+use roster_parts::NUMBERS;
 
 // "numbers moved up": what each number becomes
 pub(crate) fn moved_up(n: u8) -> [u8; NUMBERS]
@@ -68,7 +68,7 @@ pub(crate) fn lists_beside(
 {
     let lists = roster_positions::part(first, start, end - start);
     let a = roster_parts::append(&mut *out, 0, lists);
-    roster_mapped::append_lists(&mut *out, a, second, place, ms, table)
+    roster_parts::append_lists(&mut *out, a, second, place, ms, table)
 }
 
 // the first's stands' lists, from a place of its file on to its end, and mt of the second's, surveyor numbers by the table
@@ -86,7 +86,7 @@ pub(crate) fn rankings_beside(
 {
     let lists = roster_positions::part(first, start, ROSTER_SIZE);
     let a = roster_parts::append(&mut *out, 0, lists);
-    roster_mapped::append_rankings(&mut *out, a, second, place, mt, table)
+    roster_parts::append_rankings(&mut *out, a, second, place, mt, table)
 }
 
 // the roster of both

@@ -31,9 +31,9 @@ use Rattle.roster_parts.specs.declared.Changed.{Changed}
 use Rattle.roster_parts.specs.Rankings.{ranking-written, gatherFrom, rankings-are}
 use Rattle.roster_parts.specs.Places.{quotas-part, stands-part, surveyors-are, stands-are, lists-behind, lists-part}
 use Rattle.roster_parts.specs.Gives.{Gives, gives-refused, Holds, gives-held}
-use Rattle.roster_joiner.specs.Entering.{asked, shiftsAt, own, joinerIn, withLast, entering}
+use Rattle.roster_with.specs.Entering.{asked, shiftsAt, own, joinerIn, withLast, entering}
 use Rattle.roster_with.specs.WithJoiner.{nodesWith, listsWith, rankingsWith, endAt, longFrom, joinedBytes}
-use Rattle.roster_joined.specs.Enters.{EntersIf}
+use Rattle.roster_with.specs.Enters.{EntersIf}
 use Rattle.roster_join.specs.Listing.{marksOf, MadeBy}
 
 -- ---- the joiner's entries at a stand, by the marks of the list

@@ -24,9 +24,9 @@ use Rattle.roster_reading.specs.Place.{place-refused, place-read}
 use Rattle.roster_reading.specs.Slot.{atSlot}
 use Rattle.roster_reading.specs.Row.{Marked, Shows}
 use Rattle.roster_parts.specs.declared.Changed.{Changed}
-use Rattle.roster_joiner.specs.Entering.{marksIn}
+use Rattle.roster_with.specs.Entering.{marksIn}
 use Rattle.roster_with.specs.WithJoiner.{endAt, longFrom, joinedBytes}
-use Rattle.roster_joined.specs.Enters.{EntersIf, EntersBy}
+use Rattle.roster_with.specs.Enters.{EntersIf, EntersBy}
 
 -- the marks of a list
 abbrev pub marksOf : List Entry → ℕ → Bool

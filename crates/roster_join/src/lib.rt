@@ -25,15 +25,7 @@ pub(crate) fn listed(file: &[u8], ns: usize, nt: u8, quota: u8, list: &[u8]) -> 
     let s = roster_lists::list_at(list, 0, LIST_LIMIT, nt, true, &mut row);
     match s {
         Section::Refused(number) => roster_parts::refused(number),
-        Section::Read(read) => roster_joined::entered(
-            file,
-            ns,
-            nt as usize,
-            quota,
-            list,
-            read,
-            &row,
-        ),
+        Section::Read(read) => roster_with::entered(file, ns, nt as usize, quota, list, read, &row),
     }
 }
 

@@ -25,7 +25,7 @@ use Rattle.roster_parts.specs.declared.Changed.{Changed}
 use Rattle.roster_parts.specs.Rankings.{gatherFrom, rankings-are}
 use Rattle.roster_parts.specs.Places.{nodes-part, surveyors-are, stands-are, lists-behind, lists-part}
 use Rattle.roster_parts.specs.Gives.{Gives, gives-refused, Holds, gives-held}
-use Rattle.roster_without.specs.LeftParts.{leftBy, rankingLeft, nodesLeft, listsLeft}
+use Rattle.roster_leave.specs.LeftParts.{leftBy, rankingLeft, nodesLeft, listsLeft}
 use Rattle.roster_leave.specs.Left.{rankingsLeft, mineAt, nextAt, endAt, leftBytes}
 
 -- the bytes of a stand's list, without the number's entries

@@ -4,7 +4,7 @@ use mathlib.Core.List.{List}
 use Rattle.roster_positions.specs.Tables.{listsEnd}
 use Rattle.roster_parts.specs.Rankings.{rankingsFrom}
 use Rattle.roster_parts.specs.Gives.{rosterOf}
-use Rattle.roster_without.specs.LeftParts.{rankingLeft, nodesLeft, listsLeft}
+use Rattle.roster_leave.specs.LeftParts.{rankingLeft, nodesLeft, listsLeft}
 
 abbrev pub rankingsLeft : List ℕ → (start n s : ℕ) → List ℕ
 rankingsLeft f start n s = rankingsFrom (λ j. rankingLeft s) f n 1 start

@@ -1,2 +1,4 @@
-pub mod Left
 pub mod Departing
+pub mod Left
+pub mod LeftParts
+pub mod Others

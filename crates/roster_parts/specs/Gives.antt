@@ -21,6 +21,7 @@ abbrev pub Gives : Reading Roster → Changed → Type 0
 Gives (accepted H) c = (c .refusal ≡ 0) × (c .len ≤ rosterSize) × (take (c .len) (c .roster) ≡ writeRoster H)
 Gives (refused n) c = (c .refusal ≡ n) × (0 < n)
 
+-- a change that is refused, answered with the number of its refusal
 pub gives-refused : (x : Reading Roster) (n : ℕ) (c : Changed) → x ≡ refused n → 0 < n → c .refusal ≡ n → Gives x c
 gives-refused x n c e h q = subst (λ z. Gives z c) (sym e) (q, h)
 
@@ -85,6 +86,7 @@ module _ (H : Roster) (ok : T (fits H)) (nodes lists rankings : List ℕ) (n : n
       (ap (sectionOf (2 * length (H .listsT))) (ap (take rosterSize) t ∙ take-all rosterSize ranked ht) ∙ ap (λ k. wideBytes k ++ ranked) b))
       ∙ append-assoc (listBytes (H .quotasS)) (listBytes (H .quotasT)) sections
 
+  -- an array that holds the bytes of a roster within the limits, put together from its parts, gives that roster
   pub gives-held : {c : Changed} (ns nt : ℕ) → surveyorCount H ≡ ns → standCount H ≡ nt → Holds (rosterOf ns nt nodes lists rankings) c
       → Gives (accepted H) c
   gives-held {c} ns nt a b h = (

@@ -46,6 +46,25 @@ grown-byte b n o l h = record {
       ∙ sym (take-all rosterSize (take n o ++ b ∷ []) (omega (arith, length-take n o, length-append (take n o) (b ∷ []))));
 }
 
+-- a part copied over what stands behind the first n
+pub put-front : (n : ℕ) (o xs mid rest : List ℕ) {ys : List ℕ} → n ≤ length o → ys ≡ take (length xs) xs ++ drop (length xs) mid
+    → take (n + length xs) (take n o ++ (ys ++ rest)) ≡ take n o ++ xs
+put-front n o xs mid rest {ys} h e =
+    let more = drop (length xs) mid in
+    let k : n + length xs ≡ length (take n o ++ xs) = omega (arith, length-append (take n o) xs, length-take n o) in
+    let copied : ys ≡ xs ++ more = e ∙ ap (λ z. z ++ more) (take-all (length xs) xs (omega arith)) in
+    ap (take (n + length xs)) (ap (λ z. take n o ++ (z ++ rest)) copied ∙ ap (λ z. take n o ++ z) (append-assoc xs more rest)
+    ∙ sym (append-assoc (take n o) xs (more ++ rest)))
+    ∙ take-append-le (n + length xs) (take n o ++ xs) (more ++ rest) (omega (arith, k)) ∙ take-all (n + length xs) (take n o ++ xs) (omega (arith, k))
+
+pub grown-part : (xs : List ℕ) (n : ℕ) (o q : List ℕ) → n + length xs ≤ rosterSize → length q ≡ rosterSize → take (n + length xs) q ≡ take n o ++ xs
+    → Grown xs n o (n + length xs) q
+grown-part xs n o q h l e = record {
+  few = h;
+  size = l;
+  front = e ∙ sym (take-all rosterSize (take n o ++ xs) (omega (arith, length-append (take n o) xs, length-take n o)));
+}
+
 pub grown-full : (xs : List ℕ) (n : ℕ) (o : List ℕ) → length o ≡ rosterSize → n ≡ rosterSize → Grown xs n o n o
 grown-full xs n o l e = record {
   few = omega arith;
@@ -53,6 +72,7 @@ grown-full xs n o l e = record {
   front = sym (take-append-le rosterSize (take n o) xs (omega (arith, length-take n o)) ∙ take-all rosterSize (take n o) (omega (arith, length-take n o)));
 }
 
+-- what is appended in two parts, one behind the other, is appended as one
 pub grown-then : {xs ys : List ℕ} {n m r : ℕ} {o p q : List ℕ} → Grown xs n o m p → Grown ys m p r q → Grown (xs ++ ys) n o r q
 grown-then {xs} {ys} {n} {m} {r} {o} a b = record {
   few = b .few;
@@ -61,6 +81,7 @@ grown-then {xs} {ys} {n} {m} {r} {o} a b = record {
       ∙ ap (take rosterSize) (append-assoc (take n o) xs ys);
 }
 
+-- the same for bytes that are equal
 pub grown-as : {xs ys : List ℕ} {n r : ℕ} {o q : List ℕ} → xs ≡ ys → Grown xs n o r q → Grown ys n o r q
 grown-as {xs} {ys} {n} {r} {o} {q} e g = subst (λ z. Grown z n o r q) e g
 
@@ -70,9 +91,11 @@ pub record Going (whole left : List ℕ) (n : ℕ) (before : List ℕ) (r : ℕ)
   pub grown : Grown done n before r after
   pub is : done ++ left ≡ whole
 
+-- before the first turn nothing is appended, and the whole is left
 pub going-starts : (whole : List ℕ) (n : ℕ) (o : List ℕ) → Room n o → Going whole whole n o n o
 going-starts whole n o h = record { done = []; grown = grown-none n o h; is = refl }
 
+-- a turn that appends the first part of what is left
 pub going-on : {whole left more xs : List ℕ} {n m r : ℕ} {o p q : List ℕ} → left ≡ xs ++ more → Going whole left n o m p → Grown xs m p r q
     → Going whole more n o r q
 going-on {whole} {left} {more} {xs} e g h = record {
@@ -81,9 +104,11 @@ going-on {whole} {left} {more} {xs} e g h = record {
   is = append-assoc (g .done) xs more ∙ ap (λ z. g .done ++ z) (sym e) ∙ g .is;
 }
 
+-- a turn that appends nothing
 pub going-past : {whole left more : List ℕ} {n r : ℕ} {o q : List ℕ} → left ≡ more → Going whole left n o r q → Going whole more n o r q
 going-past {whole} {left} {more} e g = record { done = g .done; grown = g .grown; is = ap (λ z. g .done ++ z) (sym e) ∙ g .is }
 
+-- with nothing left, the whole is appended
 pub going-ends : {whole left : List ℕ} {n r : ℕ} {o q : List ℕ} → left ≡ [] → Going whole left n o r q → Grown whole n o r q
 going-ends {whole} {left} e g = grown-as (sym (append-nil (g .done)) ∙ ap (λ z. g .done ++ z) (sym e) ∙ g .is) (g .grown)
 
@@ -96,6 +121,7 @@ take-set : (n : ℕ) (xs : List ℕ) (i a : ℕ) → take n (set xs i a) ≡ set
 take-set n xs i a = by-cases (decLt i n) (take-set-lt n xs i a)
     (λ h. take-set-le n xs i a (omega (arith, h)) ∙ sym (set-out (take n xs) i a (omega (arith, h, length-take n xs))))
 
+-- a byte that is set in an array written from its front is set in what was written
 pub grown-set : {xs : List ℕ} {r : ℕ} {o q : List ℕ} (i a : ℕ) → Grown xs 0 o r q → Grown (set xs i a) 0 o r (set q i a)
 grown-set {xs} {r} {o} {q} i a g = record {
   few = g .few;

@@ -1,4 +1,5 @@
-pub mod Growth
-pub mod Rankings
-pub mod Places
 pub mod Gives
+pub mod Growth
+pub mod Mapped
+pub mod Places
+pub mod Rankings

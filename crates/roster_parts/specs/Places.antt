@@ -17,10 +17,12 @@ use Rattle.roster_positions.specs.Rows.{lists-are}
 
 -- ---- both sides' counts and quotas
 module _ (f : List ℕ) (r : Roster) (e : writeRoster r ≡ f) where
+  -- the surveyors' quotas stand behind the first byte
   pub quotas-part : take (surveyorCount r) (drop 1 f) ≡ r .quotasS
   unfolding writeRosterBy
   quotas-part = ap (λ z. take (surveyorCount r) (drop 1 z)) (sym e) ∙ take-at (r .quotasS) _ (surveyorCount r) refl
 
+  -- the stands' count and quotas stand behind those
   pub stands-part : take (standCount r + 1) (drop (surveyorCount r + 1) f) ≡ listBytes (r .quotasT)
   unfolding writeRosterBy
   stands-part =
@@ -30,6 +32,7 @@ module _ (f : List ℕ) (r : Roster) (e : writeRoster r ≡ f) where
       ∙ ap (take (standCount r + 1)) (drop-at (listBytes (r .quotasS)) _ (surveyorCount r + 1) k)
       ∙ take-at (listBytes (r .quotasT)) _ (standCount r + 1) n
 
+  -- the counts and quotas of both sides are the front of the file
   pub nodes-part : take (surveyorCount r + standCount r + 2) f ≡ listBytes (r .quotasS) ++ listBytes (r .quotasT)
   unfolding writeRosterBy
   nodes-part =
@@ -40,18 +43,22 @@ module _ (f : List ℕ) (r : Roster) (e : writeRoster r ≡ f) where
 
 -- ---- the counts, as the code reads them
 module _ (f : List ℕ) (r : Roster) (e : writeRoster r ≡ f) (n : ℕ) (c : n ≡ getD f 0 0) where
+  -- the first byte is the number of surveyors
   pub surveyors-are : n ≡ surveyorCount r
   surveyors-are = c ∙ offsets shifted f r e .surveyors
 
+  -- the byte behind the surveyors' quotas is the number of stands
   pub stands-are : (m : ℕ) → m ≡ getD f (n + 1) 0 → m ≡ standCount r
   stands-are m d = d ∙ ap (λ k. getD f (k + 1) 0) surveyors-are ∙ offsets shifted f r e .stands
 
+  -- of a roster within the limits both counts are at most 32
   pub counts-small : T (fits r) → (m : ℕ) → m ≡ getD f (n + 1) 0 → (n ≤ nodeLimit) × (m ≤ nodeLimit)
   counts-small ok m d = (omega (arith, surveyors-are, ns-small r ok), omega (arith, stands-are m d, nt-small r ok))
 
 -- ---- n surveyors' lists, up to the place behind them
 module _ (ls : List (List Entry)) (n : ℕ) (count : length ls ≡ n) (f : List ℕ) (at : ℕ) (post : List ℕ)
     (e : drop at f ≡ gather (entriesBytes shifted) ls ++ post) (some : 0 < length post) where
+  -- from the end of the lists on, the file has what follows them
   pub lists-behind : drop (listsEnd f n at) f ≡ post
   lists-behind = ap (λ k. drop (listsEnd f k at) f) (sym count) ∙ lists-are ls f at post e 0 [] .1
 
@@ -63,5 +70,6 @@ module _ (ls : List (List Entry)) (n : ℕ) (count : length ls ≡ n) (f : List 
     sym (length-drop (listsEnd f n at) f) ∙ ap length lists-behind,
   )
 
+  -- up to that end, the file has the bytes of the lists
   pub lists-part : take (listsEnd f n at - at) (drop at f) ≡ gather (entriesBytes shifted) ls
   lists-part = part-is f at (listsEnd f n at - at) (gather (entriesBytes shifted) ls) post e lists-length

@@ -33,17 +33,20 @@ gatherFrom w j (R ∷ ts) = w j (bytesOf (R .strict)) (bytesOf (R .tied)) ++ gat
 
 -- ---- one turn of a loop over them
 module _ (w : ℕ → (strict tied : List ℕ) → List ℕ) (f : List ℕ) (n i at : ℕ) where
+  -- the next stand's list: what w makes of its two parts, and then what is made of the lists behind it
   pub rankings-turn : i < n → (a b : ℕ) → a ≡ getD f at 0 → b ≡ getD f (at + 1) 0 → (xs ys : List ℕ) → xs ≡ take (entryWidth * a) (drop (at + 2) f)
       → ys ≡ take (entryWidth * b) (drop (at + 2 + entryWidth * a) f)
       → rankingsFrom w f (n - i) (i + 1) at ≡ w (i + 1) xs ys ++ rankingsFrom w f (n - (i + 1)) (i + 1 + 1) (at + (entryWidth * (a + b) + 2))
   unfolding rankingsFrom
   rankings-turn h a b d e xs ys x y = let k : n - i ≡ suc (n - (i + 1)) = omega arith in rw (x, y, d, e, k, add-one (i + 1))
 
+  -- behind the last list nothing is made
   pub rankings-done : n ≤ i → rankingsFrom w f (n - i) (i + 1) at ≡ []
   unfolding rankingsFrom
   rankings-done h = let k : n - i ≡ 0 = omega arith in rw k
 
 -- ---- the bytes are those of the model's lists
+-- where stands' lists stand at a place of the file, what is made of the bytes there is what is made of the lists
 pub rankings-are : (w : ℕ → (strict tied : List ℕ) → List ℕ) (ts : List Ranking) (f : List ℕ) (at : ℕ) (post : List ℕ)
     → drop at f ≡ gather (rankingBytes shifted) ts ++ post → (j : ℕ) → rankingsFrom w f (length ts) j at ≡ gatherFrom w j ts
 unfolding rankingsFrom gatherFrom

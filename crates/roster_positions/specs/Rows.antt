@@ -78,10 +78,12 @@ stamped-else row (x ∷ xs) k t c h =
     getD-set-other (stamped row xs (suc k) t) (row + column x) c k 0 (h (column x) (omega arith)) ∙ stamped-else row xs (suc k) t c h
 
 -- ---- list after list, row after row
+-- the positions of each list's entries, put into the list's row of the table
 unfoldable pub allStamped : ℕ → List (List Entry) → List ℕ → List ℕ
 allStamped row [] t = t
 allStamped row (xs ∷ ls) t = allStamped (row + rowWidth) ls (stamped row xs 1 t)
 
+-- an entry's position in a list, 0 where it is not listed
 abbrev pub positionIn : List Entry → Entry → ℕ
 positionIn xs y = cond (has y xs) (position y xs) 0
 
@@ -91,6 +93,7 @@ before-rows [] row t c h = refl
 before-rows (xs ∷ ls) row t c h =
     before-rows ls (row + rowWidth) (stamped row xs 1 t) c (omega arith) ∙ stamped-else row xs 1 t c (λ y l. λ (q : c ≡ row + y). omega arith)
 
+-- in a table that was 0 from the first row on, each row has the positions of its list's entries, and 0 elsewhere
 pub all-at : (ls : List (List Entry)) (row : ℕ) (t : List ℕ) → row + length ls * rowWidth ≤ length t → All (Within 32) ls
     → ((c : ℕ) → row ≤ c → getD t c 0 ≡ 0)
     → (i c : ℕ) → c < rowWidth → getD (allStamped row ls t) (row + i * rowWidth + c) 0 ≡ positionIn (getD ls i []) (entryOf c)
@@ -116,13 +119,16 @@ all-at (xs ∷ ls) row t l w z (suc i) c h =
     down row i c = omega arith
 
 -- ---- from the bytes: the entries of a part
+-- the bytes of some entries, number and shift of each
 abbrev pub bytesOf : List Entry → List ℕ
 bytesOf xs = gather (shifted .bytes) xs
 
+-- the bytes of some entries: two for each
 pub bytes-length : (xs : List Entry) → length (bytesOf xs) ≡ entryWidth * length xs
 bytes-length [] = refl
 bytes-length (x ∷ xs) = omega (arith, bytes-length xs)
 
+-- the entries that their bytes are
 pub entries-are : (xs : List Entry) → entriesIn (bytesOf xs) ≡ xs
 unfolding entriesIn
 entries-are [] = refl
@@ -133,9 +139,11 @@ module _ (f : List ℕ) (at n : ℕ) (xs : List Entry) (more : List ℕ) (e : dr
   size : length (bytesOf xs) ≡ entryWidth * n
   size = bytes-length xs ∙ ap (λ k. entryWidth * k) (sym l)
 
+  -- so many entries' bytes from the place on
   pub bytes-part : entryBytes f at n ≡ bytesOf xs
   bytes-part = part-is f at (entryWidth * n) (bytesOf xs) more e size
 
+  -- what stands behind them
   pub bytes-rest : drop (at + entryWidth * n) f ≡ more
   bytes-rest = rest-is f at (entryWidth * n) (bytesOf xs) more e size
 
@@ -144,6 +152,7 @@ stamped-part : (row : ℕ) (bs : List ℕ) (xs : List Entry) (t : List ℕ) → 
 stamped-part row bs xs t e = ap (λ z. stamped row z 1 t) (ap entriesIn e ∙ entries-are xs)
 
 -- ---- the surveyors' lists
+-- the loop over the bytes of surveyors' lists writes their entries' positions, and ends behind them
 pub lists-are : (ls : List (List Entry)) (f : List ℕ) (at : ℕ) (post : List ℕ) → drop at f ≡ gather (entriesBytes shifted) ls ++ post
     → (row : ℕ) (t : List ℕ)
     → (listsStamped f (length ls) row at t ≡ allStamped row ls t) × (drop (listsEnd f (length ls) at) f ≡ post)
@@ -162,6 +171,7 @@ lists-are (xs ∷ ls) f at post e row t =
     move at b = omega arith
 
 -- ---- the stands' lists
+-- the strict parts of some stands' lists
 abbrev pub strictLists : List Ranking → List (List Entry)
 strictLists ts = map (λ R. R .strict) ts
 
@@ -178,6 +188,7 @@ pub record RankingIs (f : List ℕ) (at : ℕ) (R : Ranking) (more : List ℕ) :
   pub tied : tiedAt f at ≡ bytesOf (R .tied)
   pub rest : drop (behind f at) f ≡ more
 
+-- where a stand's list stands at a place: its lengths, the bytes of its two parts, and what follows it
 pub ranking-is : (f : List ℕ) (at : ℕ) (R : Ranking) (more : List ℕ) → drop at f ≡ rankingBytes shifted R ++ more → RankingIs f at R more
 ranking-is f at R more e =
     let a = getD f at 0 in
@@ -203,6 +214,7 @@ ranking-is f at R more e =
     move : (at a b : ℕ) → at + (entryWidth * (a + b) + 2) ≡ at + 2 + entryWidth * a + entryWidth * b
     move at a b = omega arith
 
+-- the loops over the bytes of stands' lists write the positions in the strict parts, and the rank behind each of these
 pub rankings-are : (ts : List Ranking) (f : List ℕ) (at : ℕ) (post : List ℕ) → drop at f ≡ gather (rankingBytes shifted) ts ++ post
     → (row j : ℕ) (t u : List ℕ)
     → (strictStamped f (length ts) row at t ≡ allStamped row (strictLists ts) t) × (nextRanks f (length ts) j at u ≡ nextAll j ts u)
@@ -227,6 +239,7 @@ next-before (R ∷ ts) j t c h =
     next-before ts (suc j) (set t j ((length (R .strict) + 1) % 256)) c (omega arith)
     ∙ getD-set-other t j c ((length (R .strict) + 1) % 256) 0 (λ (q : c ≡ j). omega arith)
 
+-- the rank behind the strict part of each stand's list, as a byte
 pub next-at : (ts : List Ranking) (j : ℕ) (t : List ℕ) → j + length ts ≤ length t → (i : ℕ) → i < length ts
     → getD (nextAll j ts t) (j + i) 0 ≡ (length (getD ts i (record { strict = []; tied = [] }) .strict) + 1) % 256
 unfolding nextAll

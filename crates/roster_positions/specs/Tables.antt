@@ -6,9 +6,11 @@ use lib.ListN.{take, drop, getD, set}
 use Rattle.model.specs.Limits.{entryWidth}
 use Rattle.model.specs.Roster.{Entry}
 
+-- the numbers in a row: three for each of 32 numbers
 abbrev pub rowWidth : ℕ
 rowWidth = 96
 
+-- the numbers in a table: 32 rows
 abbrev pub tableSize : ℕ
 tableSize = 3072
 
@@ -16,6 +18,7 @@ tableSize = 3072
 abbrev pub column : Entry → ℕ
 column x = 3 * ((x .number + 31) % 32) + min (x .shift - 1) 2
 
+-- the entry that a place of a row stands for
 abbrev pub entryOf : ℕ → Entry
 entryOf c = record { number = suc (c / 3); shift = suc (c % 3) }
 
@@ -38,6 +41,7 @@ stamped row (x ∷ xs) k t = set (stamped row xs (suc k) t) (row + column x) k
 abbrev pub listAt : List ℕ → ℕ → List ℕ
 listAt f at = entryBytes f (at + 1) (getD f at 0)
 
+-- the place behind the surveyor's list at a place
 abbrev pub behindList : List ℕ → ℕ → ℕ
 behindList f at = at + (entryWidth * getD f at 0 + 1)
 
@@ -56,9 +60,11 @@ listsEnd f (suc n) at = listsEnd f n (behindList f at)
 abbrev pub strictAt : List ℕ → ℕ → List ℕ
 strictAt f at = entryBytes f (at + 2) (getD f at 0)
 
+-- the bytes of the tied entries of the stand's list at a place
 abbrev pub tiedAt : List ℕ → ℕ → List ℕ
 tiedAt f at = entryBytes f (at + 2 + entryWidth * getD f at 0) (getD f (at + 1) 0)
 
+-- the place behind the stand's list at a place
 abbrev pub behind : List ℕ → ℕ → ℕ
 behind f at = at + (entryWidth * (getD f at 0 + getD f (at + 1) 0) + 2)
 

@@ -35,15 +35,18 @@ pub record Fixed {A : Type 0} (field : List ℕ → Reading (A × List ℕ)) (w 
 
 -- the values of n fields in front of the bytes
 module _ {A : Type 0} (w : ℕ) (value : List ℕ → A) where
+  -- the values of n fields of w bytes each, from the first byte on
   unfoldable pub fieldsOf : ℕ → List ℕ → List A
   fieldsOf zero bs = []
   fieldsOf (suc n) bs = value bs ∷ fieldsOf n (drop w bs)
 
+  -- as many values as fields
   pub fields-length : (n : ℕ) (bs : List ℕ) → length (fieldsOf n bs) ≡ n
   unfolding fieldsOf
   fields-length zero bs = refl
   fields-length (suc n) bs = ap suc (fields-length n (drop w bs))
 
+  -- field i is told by the bytes from w * i on
   pub fields-at : (n : ℕ) (bs : List ℕ) (i : ℕ) (d : A) → i < n → getD (fieldsOf n bs) i d ≡ value (drop (w * i) bs)
   unfolding fieldsOf
   fields-at zero bs i d h = absurd (not-suc-le-zero h)
@@ -67,6 +70,7 @@ wholeFields w size at n = min n ((size - at) / w)
 
 -- there is room for them, and if they are not all, for no further one
 module _ (w size at n : ℕ) {k : ℕ} (e : k ≡ wholeFields w size at n) where
+  -- the whole fields have room in the bytes from the place on
   pub fields-room : w * k ≤ size - at
   fields-room =
       let h : k ≤ (size - at) / w = omega arith in
@@ -87,10 +91,12 @@ module _ {S A : Type 0} (check : S → A → ℕ) (next : S → A → S) where
   refusalOf s [] = 0
   refusalOf s (x ∷ xs) = firstOf (check s x) (refusalOf (next s x) xs)
 
+  -- behind the last field no refusal is met
   pub refusal-end : (s : S) (xs : List A) (i : ℕ) → length xs ≤ i → refusalOf s (drop i xs) ≡ 0
   unfolding refusalOf
   refusal-end s xs i h = rw (drop-of-length-le xs h)
 
+  -- from field i on: its own refusal, or else that of the fields behind it
   pub refusal-step : (d : A) (s : S) (xs : List A) (i : ℕ) → i < length xs
       → refusalOf s (drop i xs) ≡ firstOf (check s (getD xs i d)) (refusalOf (next s (getD xs i d)) (drop (i + 1) xs))
   unfolding refusalOf
@@ -190,6 +196,7 @@ module _ {S A : Type 0} (check : S → A → ℕ) (next : S → A → S) where
           (λ l. given (refuseBy-read (refusalOf s part) (sym (whole l) ∙ q)) (λ (z, g). (z, read-value (sym g))))
 
 -- ---- fields of one byte: they are the bytes
+-- a field of one byte, whose value is the byte
 pub fixed-byte : Fixed byte 1 (λ bs. getD bs 0 0)
 fixed-byte = record {
   some = le-refl 1;
@@ -206,6 +213,7 @@ fixed-byte = record {
     whole [] h = absurd (not-suc-le-zero h)
     whole (x ∷ bs) h = refl
 
+-- fields of one byte are the bytes themselves
 pub fields-bytes : (n : ℕ) (bs : List ℕ) → length bs ≡ n → fieldsOf 1 (λ bs. getD bs 0 0) n bs ≡ bs
 unfolding fieldsOf
 fields-bytes zero [] h = refl

@@ -38,12 +38,15 @@ byte-cut (x ∷ []) k h = refl
 byte-cut (x ∷ y ∷ bs) k h = absurd (let z : ⊥ = omega arith in z)
 
 module _ {A : Type 0} (f : List ℕ) (at limit : ℕ) (body : ℕ → List ℕ → Reading (A × List ℕ)) where
+  -- no byte for the count: 1
   pub count-end : length f ≤ at → (readCount limit (drop at f) then body) ≡ refused 1
   count-end h = rw (drop-of-length-le f h)
 
+  -- a count above its limit: 2
   pub count-long : at < length f → limit < getD f at 0 → (readCount limit (drop at f) then body) ≡ refused 2
   count-long h k = simp (from-one f at h, lt-ltb limit (getD f at 0) k)
 
+  -- a count within its limit: reading goes on behind it, with that number
   pub count-goes : at < length f → getD f at 0 ≤ limit → (readCount limit (drop at f) then body) ≡ body (getD f at 0) (drop (at + 1) f)
   count-goes h k = simp (from-one f at h, le-ltb limit (getD f at 0) k)
 

@@ -22,10 +22,12 @@ use Rattle.roster_reading.specs.Check.{Fixed, fixed-byte, fieldsOf}
 abbrev pub entryOf : code.Entry → Entry
 entryOf x = record { number = x .number; shift = x .shift }
 
+-- the model's layout that the flag stands for
 abbrev pub layoutOf : (shifts : Bool) → Layout
 layoutOf true = shifted
 layoutOf false = plain
 
+-- either layout has what the laws ask of one
 abbrev pub agreesOf : (shifts : Bool) → Agrees (layoutOf shifts)
 agreesOf true = in-shifted
 agreesOf false = in-plain
@@ -34,10 +36,12 @@ agreesOf false = in-plain
 abbrev pub widthOf : (shifts : Bool) → ℕ
 widthOf shifts = agreesOf shifts .width
 
+-- an entry has at least one byte
 pub width-some : (shifts : Bool) → 0 < widthOf shifts
 width-some true = omega arith
 width-some false = omega arith
 
+-- an entry has at most two bytes
 pub width-most : (shifts : Bool) → widthOf shifts ≤ entryWidth
 width-most true = omega arith
 width-most false = omega arith
@@ -79,9 +83,11 @@ abbrev pub entriesIn : (shifts : Bool) → ℕ → List ℕ → List Entry
 entriesIn shifts n bs = fieldsOf (widthOf shifts) (entryFrom shifts) n bs
 
 -- ---- a surveyor's list and a stand's, where the other side has so many
+-- a surveyor's list in the flag's layout, where there are so many stands
 abbrev pub listBy : (shifts : Bool) (other : ℕ) → List ℕ → Reading (List Entry × List ℕ)
 listBy shifts other = readList (layoutOf shifts) (layoutOf shifts .longest other) other
 
+-- a stand's list in the flag's layout, where there are so many surveyors
 abbrev pub rankingBy : (shifts : Bool) (other : ℕ) → List ℕ → Reading (Ranking × List ℕ)
 rankingBy shifts other = readRanking (layoutOf shifts) (layoutOf shifts .longest other) other
 
@@ -93,8 +99,10 @@ module _ (shifts : Bool) (other : ℕ) where
   abbrev pub rankingFit : Ranking → Bool
   rankingFit = rankingHeld (layoutOf shifts) (agreesOf shifts) (layoutOf shifts .longest other) other
 
+  -- a surveyor's list within its limits is read as it is written
   pub list-reads : Reads (listBy shifts other) (entriesBytes (layoutOf shifts)) (λ xs. T (listFit xs))
   list-reads = list (layoutOf shifts) (agreesOf shifts) (layoutOf shifts .longest other) other
 
+  -- a stand's list within its limits is read as it is written
   pub ranking-reads : Reads (rankingBy shifts other) (rankingBytes (layoutOf shifts)) (λ R. T (rankingFit R))
   ranking-reads = ranking (layoutOf shifts) (agreesOf shifts) (layoutOf shifts .longest other) other

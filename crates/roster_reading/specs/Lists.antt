@@ -23,12 +23,15 @@ module _ (shifts : Bool) (longest other : ℕ) (f : List ℕ) (at : ℕ) where
   L = layoutOf shifts
 
   -- ---- a surveyor's list
+  -- no byte for the length: 1
   pub list-end : {after : List Bool} → length f ≤ at → Marked (readList L longest other) Shows f at (section.Refused 1) after
   list-end h = marked-refused (count-end f at longest (readEntries L other) h)
 
+  -- a length above its limit: 2
   pub list-long : {after : List Bool} → at < length f → longest < getD f at 0 → Marked (readList L longest other) Shows f at (section.Refused 2) after
   list-long h k = marked-refused (count-long f at longest (readEntries L other) h k)
 
+  -- a length within its limit: the answer for the entries behind it is that for the list
   pub list-goes : {after : List Bool} {r : Section} → at < length f → getD f at 0 ≤ longest
       → Marked (readEntries L other (getD f at 0)) Shows f (at + 1) r after
       → Marked (readList L longest other) Shows f at r after
@@ -38,15 +41,18 @@ module _ (shifts : Bool) (longest other : ℕ) (f : List ℕ) (at : ℕ) where
   abbrev ShowsR : List Bool → Ranking → Type 0
   ShowsR row R = Shows row (entries R)
 
+  -- the bytes end inside the two lengths: 1
   pub ranking-end : {after : List Bool} → length f < at + 2 → Marked (readRanking L longest other) ShowsR f at (section.Refused 1) after
   ranking-end h = marked-refused (lengths-end L f at longest other h)
 
+  -- two lengths whose sum is above the limit: 2
   pub ranking-long : {after : List Bool} → at + 1 < length f → longest < getD f at 0 + getD f (at + 1) 0
       → Marked (readRanking L longest other) ShowsR f at (section.Refused 2) after
   ranking-long h k = marked-refused (lengths-long L f at longest other h k)
 
   module _ (h : at + 1 < length f) (k : getD f at 0 + getD f (at + 1) 0 ≤ longest) {between : List Bool} {s : Section}
       (m : Marked (readEntries L other (getD f at 0)) Shows f (at + 2) s between) where
+    -- a refusal of the strict entries is that of the list
     pub ranking-refused : {n : ℕ} → s ≡ section.Refused n → Marked (readRanking L longest other) ShowsR f at s between
     ranking-refused e = marked-as (sym e) (marked-refused (lengths-goes L f at longest other h k
         ∙ ap (λ r. r then tieBehind L f at longest other (getD f (at + 1) 0))
@@ -59,9 +65,11 @@ module _ (shifts : Bool) (longest other : ℕ) (f : List ℕ) (at : ℕ) where
           (sym e ∙ m .place))
           (λ x. (x .value, x .is, x .within))
 
+      -- the tie begins no further than the file's end
       pub tie-within : next ≤ length f
       tie-within = strict .2
 
+      -- behind strict entries that are read, the answer for the tie is that for the list
       pub ranking-goes : {after : List Bool} {r : Section} → EntriesAt shifts true other (getD f (at + 1) 0) f next between r after
           → Marked (readRanking L longest other) ShowsR f at r after
       ranking-goes t = given strict (λ (xs, is, w).

@@ -36,6 +36,7 @@ module _ {A : Type 0} (field : List ℕ → Reading (A × List ℕ)) (entries : 
     pub count : length lists ≡ k
     pub shown : Shown entries none table lists
 
+  -- before the first list, with a table in which no mark is set
   pub turn-start : {table : List Bool} → Shown entries none table [] → Turn start 0 table
   turn-start h =
       let e : n - 0 ≡ n = omega arith in
@@ -46,6 +47,7 @@ module _ {A : Type 0} (field : List ℕ → Reading (A × List ℕ)) (entries : 
   unfolding readEach
   step k bs h = let e : n - k ≡ suc (n - (k + 1)) = omega arith in rw e
 
+  -- a refusal of the next list is that of all
   pub turn-refused : {at k : ℕ} {table after : List Bool} {shows : List Bool → A → Type 0} {row : List Bool} {m : ℕ} → Turn at k table → k < n
       → Marked field shows f at (section.Refused m) row → Marked (readMany field n) (Shown entries none) f start (section.Refused m) after
   turn-refused {at} {k} {m = m} t h c =
@@ -55,6 +57,7 @@ module _ {A : Type 0} (field : List ℕ → Reading (A × List ℕ)) (entries : 
       ∙ ap (λ r. r then (λ xs rest. accepted (t .lists ++ xs, rest)))
       (step k (drop at f) h ∙ ap (λ r. r then (λ x rest. readMany field (n - (k + 1)) rest then (λ xs rest. accepted (x ∷ xs, rest)))) e))
 
+  -- after n lists the answer is the place behind the last one, and the table shows them
   pub turn-end : {at k : ℕ} {table : List Bool} → Turn at k table → n ≤ k → at ≤ length f
       → Marked (readMany field n) (Shown entries none) f start (section.Read at) table
   unfolding readEach
@@ -68,6 +71,7 @@ module _ {A : Type 0} (field : List ℕ → Reading (A × List ℕ)) (entries : 
       }
 
   module _ (empty : entries none ≡ []) {write : A → List ℕ} {P : A → Type 0} (R : Reads field write P) (isB : T (isBytes f)) where
+    -- the next list is read, and its row is put into the table: one list more
     pub turn-next : {at k next : ℕ} {table row : List Bool} → Turn at k table → k < n → at ≤ length f → k * rowWidth + rowWidth ≤ length table
         → length row ≡ rowWidth
         → Marked field (λ row a. Shows row (entries a)) f at (section.Read next) row → (next ≤ length f) × Turn next (k + 1) (withRow table k row)
@@ -100,6 +104,7 @@ abbrev pub Told : (w : ℕ) (f : List ℕ) (at heads : ℕ) → Section → Type
 Told w f at heads (section.Read end) = (at + 1 < length f) × (wide f at ≤ entryLimit) × (end ≡ at + 2 + heads + w * wide f at)
 Told w f at heads (section.Refused m) = ((m ≡ 1) × (length f < at + 2)) ⊎ ((m ≡ 2) × (at + 1 < length f) × (entryLimit < wide f at))
 
+-- a count that tells the place behind the section has its two bytes in the file
 pub told-room : (w : ℕ) (f : List ℕ) (at heads : ℕ) (r : Section) → Told w f at heads r → {end : ℕ} → r ≡ section.Read end → at + 2 ≤ length f
 told-room w f at heads r t q = given (subst (Told w f at heads) q t) (λ (h, k, e). omega arith)
 
@@ -156,12 +161,14 @@ module _ {A : Type 0} (field : List ℕ → Reading (A × List ℕ)) (total : Li
           ∙ simp (ne-eqb (wide f at) (total ls) (λ (q : wide f at ≡ total ls). e (omega (arith, ap (λ k. w * k) q))))))
 
   module _ (w heads : ℕ) (r : Section) (told : Told w f at heads r) {shows : List Bool → List A → Type 0} {after : List Bool} where
+    -- a refusal of the count is that of the section
     pub section-untold : {m : ℕ} → r ≡ section.Refused m → Marked (readSection field total n) shows f at r after
     section-untold {m} q = marked-as (sym q) (⊎-elim
         (λ (e, h). marked-as (ap section.Refused (sym e)) (section-cut h))
         (λ (e, h, k). marked-as (ap section.Refused (sym e)) (section-long h k))
         (subst (Told w f at heads) q told))
 
+    -- behind a count that tells the section's end, the answer is that of the lists, or 7 where they end at another place
     pub section-ends : {write : A → List ℕ} {P : A → Type 0} → Reads field write P → T (isBytes f) → 0 < w
         → ((ls : List A) → length ls ≡ n → length (gather write ls) ≡ heads + w * total ls)
         → {end : ℕ} → r ≡ section.Read end → (s : Section) → Marked (readMany field n) shows f (at + 2) s after

@@ -53,9 +53,11 @@ module _ (byS byT : List Bool) where
   abbrev pub pairAlike : ℕ → ℕ → Bool
   pairAlike i t = alike (getD byS (i * rowWidth + t) false) (getD byT (back i t) false)
 
+  -- in the row of surveyor i the first so many places have the same marks as the stands' table
   unfoldable pub rowAlike : (i places : ℕ) → Bool
   rowAlike i places = all? (pairAlike i) (upTo places)
 
+  -- the marks of both sides are the same for every pair of m surveyors and n stands, in every shift
   unfoldable pub bothAlike : ℕ → ℕ → Bool
   bothAlike m n = all? (λ i. rowAlike i (shiftLimit * n)) (upTo m)
 
@@ -70,12 +72,15 @@ module _ (byS byT : List Bool) where
       ap (λ k. all? (pairAlike i) (upTo k)) e
       ∙ ap (λ b. b && rowAlike i (n - 1)) (sym (same-alike (getD byS (i * rowWidth + (n - 1)) false) (getD byT (back i (n - 1)) false)))
 
+  -- from the last place on: where it differs, the row is not alike
   pub row-unlike : (i n : ℕ) → 0 < n → differ i (n - 1) ≡ true → rowAlike i n ≡ false
   row-unlike i n h d = row-step i n h ∙ ap (λ b. not b && rowAlike i (n - 1)) d
 
+  -- where the last place does not differ, those before it decide
   pub row-like : (i n : ℕ) → 0 < n → differ i (n - 1) ≡ false → rowAlike i n ≡ rowAlike i (n - 1)
   row-like i n h d = row-step i n h ∙ ap (λ b. not b && rowAlike i (n - 1)) d
 
+  -- with no place left the row is alike
   pub row-end : (i n : ℕ) → n ≤ 0 → rowAlike i n ≡ true
   unfolding rowAlike
   row-end i n h = let e : n ≡ 0 = omega arith in ap (λ k. all? (pairAlike i) (upTo k)) e
@@ -84,12 +89,15 @@ module _ (byS byT : List Bool) where
   unfolding bothAlike
   both-step m n h = let e : m ≡ suc (m - 1) = omega arith in ap (λ k. all? (λ i. rowAlike i (shiftLimit * n)) (upTo k)) e
 
+  -- from the last surveyor on: where that row is not alike, the marks of both sides are not
   pub both-unlike : (m n : ℕ) → 0 < m → rowAlike (m - 1) (shiftLimit * n) ≡ false → bothAlike m n ≡ false
   both-unlike m n h d = both-step m n h ∙ ap (λ b. b && bothAlike (m - 1) n) d
 
+  -- where the last row is alike, those before it decide
   pub both-like : (m n : ℕ) → 0 < m → rowAlike (m - 1) (shiftLimit * n) ≡ true → bothAlike m n ≡ bothAlike (m - 1) n
   both-like m n h d = both-step m n h ∙ ap (λ b. b && bothAlike (m - 1) n) d
 
+  -- with no row left the marks are alike
   pub both-end : (m n : ℕ) → m ≤ 0 → bothAlike m n ≡ true
   unfolding bothAlike
   both-end m n h = let e : m ≡ 0 = omega arith in ap (λ k. all? (λ i. rowAlike i (shiftLimit * n)) (upTo k)) e

@@ -61,6 +61,7 @@ pub bytes-of : (f : List ℕ) → ((i : ℕ) → Fits w8 (getD f i 0)) → T (is
 bytes-of [] h = tt
 bytes-of (x ∷ f) h = and-i (ltb x 256) (isBytes f) (lt→ltb x 256 (omega (arith, h 0))) (bytes-of f (λ i. h (suc i)))
 
+-- a place that the code answers is that behind a value which is read as it is written: the value, its bytes and its size
 pub place-read : {A : Type 0} {read : List ℕ → Reading (A × List ℕ)} {write : A → List ℕ} {P : A → Type 0} (R : Reads read write P) (f : List ℕ)
     (at : ℕ) {next : ℕ}
     → T (isBytes f) → at ≤ length f → section.Read next ≡ placed f (read (drop at f)) → Found read write P f at next

@@ -58,6 +58,7 @@ mark-more row seen x h p l k = rw (any-append (same (atSlot k)) seen (x ∷ []),
 pub seen-more : (seen xs : List Entry) (i : ℕ) → i < length xs → (seen ++ take i xs) ++ getD xs i noEntry ∷ [] ≡ seen ++ take (i + 1) xs
 seen-more seen xs i h = append-assoc seen (take i xs) (getD xs i noEntry ∷ []) ∙ ap (λ l. seen ++ l) (rw (add-one) (sym (take-suc xs i noEntry h)))
 
+-- entry i gets its mark: the marks show one entry more
 pub mark-passed : (row : List Bool) (seen xs : List Entry) (i : ℕ) (x : Entry) → x ≡ getD xs i noEntry → Shows row (seen ++ take i xs) → i < length xs
     → HasSlot x → slotOf x < length row
     → Shows (set row (slotOf x) true) (seen ++ take (i + 1) xs)
@@ -74,6 +75,7 @@ seen-all row seen xs i h l = subst (λ p. Shows row (seen ++ p)) (take-all i xs 
 abbrev pub listCheck : (tied : Bool) (other : ℕ) → Tie → Entry → ℕ
 listCheck tied other s x = entryRefusal other x (cond (has x (s .seen)) 5 (cond (not tied || before (s .last) x) 0 6))
 
+-- what the next entry is checked against: this one is seen too, and is the last
 abbrev pub passed : Tie → Entry → Tie
 passed s x = record { seen = s .seen ++ x ∷ []; last = x }
 
@@ -89,6 +91,7 @@ has-slot : (other : ℕ) (x : Entry) → T (not (outside other (x .number))) →
 has-slot other x a b =
     given (in-range other x (and-i (not (outside other (x .number))) (not (outside shiftLimit (x .shift))) a b)) (λ (p, q, u, v). ((p, u, v), q))
 
+-- an entry that the check by marks lets pass has a place in the row, and its number is not above the other side's count
 pub mark-in-range : (tied : Bool) (other : ℕ) (row : List Bool) (last x : Entry) (r : ℕ) → r ≡ markCheck tied other row last x → r ≡ 0
     → HasSlot x × (x .number ≤ other)
 mark-in-range tied other row last x r e z =
@@ -107,6 +110,7 @@ pub record Checked (refusal : ℕ) (entries : List Entry) (r : ℕ) (after : Lis
   pub number : r ≡ refusal
   pub marks : r ≡ 0 → Shows after entries
 
+-- the entries xs, behind whatever the marks show: the number is that of their first refusal, and with none the marks show them too
 abbrev pub EntriesChecked : (tied : Bool) (other : ℕ) (xs : List Entry) (before : List Bool) (r : ℕ) (after : List Bool) → Type 0
 EntriesChecked tied other xs before r after =
     (seen : List Entry) → Shows before seen → Checked (refusalOf (listCheck tied other) passed (behind seen) xs) (seen ++ xs) r after
@@ -123,6 +127,7 @@ check-step tied other row seen xs i last x r l e m h =
     ∙ ap₂ (λ c z. firstOf c (refusalOf (listCheck tied other) passed (record { seen = z; last = x }) (drop (i + 1) xs)))
     (sym (m ∙ mark-check tied other row (seen ++ take i xs) last x h)) (ap (λ y. (seen ++ take i xs) ++ y ∷ []) e ∙ seen-more seen xs i l)
 
+-- a refusal that comes first is the answer, and then nothing is asked of the marks
 pub checked-no : (r : ℕ) {refusal : ℕ} (rest : ℕ) {entries : List Entry} {after : List Bool} → 0 < r → refusal ≡ firstOf r rest
     → Checked refusal entries r after
 checked-no zero rest h e = absurd (not-suc-le-zero h)
@@ -138,6 +143,7 @@ module _ {A : Type 0} {read : List ℕ → Reading (A × List ℕ)} {shows : Lis
   pub marked-refused : {n : ℕ} → read (drop at f) ≡ refused n → Marked read shows f at (section.Refused n) after
   marked-refused e = record { place = sym (ap (placed f) e); marks = λ a rest d. refused-not (sym e ∙ d) }
 
+  -- the same for an answer that is equal
   pub marked-as : {r r′ : Section} → r ≡ r′ → Marked read shows f at r after → Marked read shows f at r′ after
   marked-as e m = subst (λ z. Marked read shows f at z after) e m
 
@@ -146,6 +152,7 @@ module _ {A : Type 0} {read : List ℕ → Reading (A × List ℕ)} {shows : Lis
       → Marked other shows f next r after → Marked read shows f at r after
   marked-behind e m = record { place = m .place ∙ sym (ap (placed f) e); marks = λ a rest d. m .marks a rest (sym e ∙ d) }
 
+-- the same for a reader that is equal
 pub marked-by : {A : Type 0} {read read′ : List ℕ → Reading (A × List ℕ)} {shows : List Bool → A → Type 0} {f : List ℕ} {at : ℕ} {r : Section}
     {after : List Bool}
     → read ≡ read′ → Marked read shows f at r after → Marked read′ shows f at r after
@@ -172,6 +179,7 @@ EntriesAt shifts tied other n f at before r after =
     (seen : List Entry) → Shows before seen
     → Marked (readEach (layoutOf shifts .field) (listCheck tied other) passed n (behind seen)) (λ row xs. Shows row (seen ++ xs)) f at r after
 
+-- the check of the part that holds the whole entries gives the answer for n entries from the place on
 pub marked-part : (shifts tied : Bool) (other : ℕ) (f : List ℕ) (at n k e m : ℕ) (before after : List Bool) → at ≤ length f
     → k ≡ wholeFields (widthOf shifts) (length f) at n → e ≡ at + widthOf shifts * k
     → EntriesChecked tied other (entriesIn shifts k (take (e - at) (drop at f))) before m after

@@ -13,6 +13,7 @@ use Rattle.model.specs.Roster.{Entry, same}
 abbrev pub rowWidth : ℕ
 rowWidth = nodeLimit * shiftLimit
 
+-- how many marks a side has: a row for each of 32 lists
 abbrev pub tableSize : ℕ
 tableSize = nodeLimit * rowWidth
 
@@ -20,6 +21,7 @@ tableSize = nodeLimit * rowWidth
 abbrev pub slotOf : Entry → ℕ
 slotOf x = shiftLimit * (x .number - 1) + (x .shift - 1)
 
+-- the entry that a place of a row stands for
 abbrev pub atSlot : ℕ → Entry
 atSlot k = record { number = suc (k / shiftLimit); shift = suc (k % shiftLimit) }
 

@@ -21,12 +21,14 @@ span k = k * rowWidth + rowWidth - k * rowWidth
 span-is : (k : ℕ) → span k ≡ rowWidth
 span-is k = omega arith
 
+-- the row of list k in the table
 abbrev pub rowOf : List Bool → ℕ → List Bool
 rowOf table k = take (span k) (drop (k * rowWidth) table)
 
 abbrev pub withRow : List Bool → ℕ → List Bool → List Bool
 withRow table k row = take (k * rowWidth) table ++ (row ++ drop (span k) (drop (k * rowWidth) table))
 
+-- a row that lies inside the table has a place for each entry
 pub row-wide : (table : List Bool) (k : ℕ) → k * rowWidth + rowWidth ≤ length table → length (rowOf table k) ≡ rowWidth
 row-wide table k h = simp (length-take, length-drop) (omega arith)
 
@@ -43,6 +45,7 @@ module _ {A : Type 0} (entries : A → List Entry) (none : A) where
         (λ h. List·getD-eq-default (replicate n false) false (simp length-replicate (omega (arith, h))))
         ∙ sym (ap (has (atSlot k)) empty)
 
+    -- in the row behind the n lists that are shown no mark is set
     pub row-clear : (table : List Bool) (ls : List A) (n : ℕ) → Shown table ls → length ls ≡ n → Shows (rowOf table n) []
     row-clear table ls n h l k = rw span-is (by-cases (decLt k rowWidth)
         (λ s. getD-take rowWidth (drop (n * rowWidth) table) k false s ∙ getD-drop (n * rowWidth) table k false ∙ h n k s
@@ -91,8 +94,10 @@ module _ {A : Type 0} (entries : A → List Entry) (none : A) where
 abbrev pub ListsShown : List Bool → List (List Entry) → Type 0
 ListsShown = Shown (λ xs. xs) []
 
+-- a stand's list without entries: what stands for a list that is not there
 abbrev pub noRanking : Ranking
 noRanking = record { strict = []; tied = [] }
 
+-- the rows show the stands' lists, strict and tied entries alike
 abbrev pub RankingsShown : List Bool → List Ranking → Type 0
 RankingsShown = Shown entries noRanking

@@ -31,6 +31,7 @@ pub record Nodes (f : List ℕ) (at next : ℕ) : Type 0 where
   pub room : at < next
   pub within : next ≤ length f
 
+-- where the code has read the nodes of a side: their quotas, and that there are as many as the count byte says, at most 32
 pub nodes-found : (f : List ℕ) (at : ℕ) {next : ℕ} → T (isBytes f) → at ≤ length f → section.Read next ≡ placed f (readNodes (drop at f)) → Nodes f at next
 nodes-found f at {next} isB h e = given (place-read nodes f at isB h e) (λ x.
     let z : at + 0 ≡ at = omega arith in
@@ -73,6 +74,7 @@ module _ (shifts : Bool) where
         → readLists qs qt (drop at f) ≡ (lists ns nt (drop at f) then (λ ls rest. rankings ns nt rest then finish qs qt ls))
     counted qs qt a b = simp (a, b)
 
+    -- a refusal of the surveyors' lists is the answer for both sections
     pub lists-refused : {s : Section} {n : ℕ} {after : List Bool} → Marked (lists ns nt) ListsShown f at s after → s ≡ section.Refused n
         → ListsRead ns nt f at s
     lists-refused m e qs qt a b = e ∙ sym (ap (λ r. closed f (oneSided (whole r))) (counted qs qt a b
@@ -85,9 +87,11 @@ module _ (shifts : Bool) where
           given (place-read (section-reads (listFit shifts nt) totalS (list-reads shifts nt) ns) f at isB h (sym e ∙ m .place))
           (λ x. (x .value, x .is, x .within, m .marks (x .value) (drop mid f) (x .is)))
 
+      -- the stands' lists begin no further than the file's end
       pub mid-within : mid ≤ length f
       mid-within = first .2
 
+      -- a refusal of the stands' lists is the answer for both sections
       pub rankings-refused : {t : Section} {n : ℕ} {after : List Bool} → Marked (rankings ns nt) RankingsShown f mid t after → t ≡ section.Refused n
           → ListsRead ns nt f at t
       rankings-refused k d qs qt a b = d ∙ sym (ap (λ r. closed f (oneSided (whole r))) (counted qs qt a b
@@ -128,11 +132,13 @@ module _ (shifts : Bool) where
             branch false = refl
 
         module _ (p : ns ≤ nodeLimit) (q : nt ≤ nodeLimit) (l : length f ≤ end) where
+          -- the file ends behind the lists and each pair is in both or in neither: the answer is the file's end
           pub lists-alike : bothAlike byS byT ns nt ≡ true → ListsRead ns nt f at (section.Read end)
           lists-alike v qs qt a b =
               let w : end ≡ length f = omega (arith, last .2) in
               ap section.Read w ∙ sym (closes l qs qt a b ∙ ap (λ c. cond c (section.Read (length f)) (section.Refused 8)) (sym (both-is p q qs qt a b) ∙ v))
 
+          -- the file ends behind the lists and some pair is in one side's list only: 8
           pub lists-unlike : bothAlike byS byT ns nt ≡ false → ListsRead ns nt f at (section.Refused 8)
           lists-unlike v qs qt a b = sym (closes l qs qt a b ∙ ap (λ c. cond c (section.Read (length f)) (section.Refused 8)) (sym (both-is p q qs qt a b) ∙ v))
 
@@ -140,12 +146,14 @@ module _ (shifts : Bool) where
   abbrev second : List ℕ → List ℕ → Reading (Roster × List ℕ)
   second qs rest = readNodes rest then readLists qs
 
+  -- a refusal of the surveyors' count or quotas is the file's
   pub nodes-refused : (f : List ℕ) {s : Section} {n : ℕ} → s ≡ placed f (readNodes (drop 0 f)) → s ≡ section.Refused n
       → s ≡ closed f (readRosterBy (layoutOf shifts) f)
   unfolding readRosterBy
   nodes-refused f m e = e ∙ sym (ap (λ r. closed f (oneSided (whole (r then second)))) (place-refused f (readNodes f) (sym e ∙ m)))
 
   module _ (f : List ℕ) {a : ℕ} (ns : Nodes f 0 a) where
+    -- a refusal of the stands' count or quotas is the file's
     pub stands-refused : {t : Section} {n : ℕ} → t ≡ placed f (readNodes (drop a f)) → t ≡ section.Refused n → t ≡ closed f (readRosterBy (layoutOf shifts) f)
     unfolding readRosterBy
     stands-refused m e =
@@ -154,17 +162,20 @@ module _ (shifts : Bool) where
         (ap (λ r. closed f (oneSided (whole (r then second)))) (ns .is)
         ∙ ap (λ r. closed f (oneSided (whole (r then readLists (ns .quotas))))) (place-refused f (readNodes (drop a f)) (sym e ∙ m)))
 
+    -- behind the nodes of both sides, the answer for the lists is the file's
     pub roster-read : {b : ℕ} (nt : Nodes f a b) {r : Section} → ListsRead (getD f 0 0) (getD f a 0) f b r → r ≡ closed f (readRosterBy (layoutOf shifts) f)
     unfolding readRosterBy
     roster-read nt m = m (ns .quotas) (nt .quotas) (ns .count) (nt .count)
         ∙ sym (ap (λ r. closed f (oneSided (whole (r then second)))) (ns .is) ∙ ap (λ r. closed f (oneSided (whole (r then readLists (ns .quotas))))) (nt .is))
 
 -- ---- what the file's end says of its reading
+-- a place that is answered is that of an accepted file: what g says of every roster it says of the reading
 pub closed-accepted : {A : Type 0} (f : List ℕ) (x : Reading Roster) {n : ℕ} (g : Reading Roster → A) {a : A} → ((R : Roster) → g (accepted R) ≡ a)
     → section.Read n ≡ closed f x → g x ≡ a
 closed-accepted f (accepted R) g h e = h R
 closed-accepted f (refused m) g h e = read-not e
 
+-- a refusal that is answered is that of the reading
 pub closed-refused : (f : List ℕ) (x : Reading Roster) {n : ℕ} → section.Refused n ≡ closed f x → x ≡ refused n
 closed-refused f (accepted R) e = refused-not-read e
 closed-refused f (refused m) e = ap refused (sym (ap numberOf e))

@@ -22,12 +22,14 @@ use Rattle.theory_files.specs.Chosen.{∈-elem}
 use Rattle.theory_renamed.specs.RouteNumbers.{Names, number-pos, number-at, named}
 use Rattle.roster_routes.specs.declared.Route.{Route}
 
+-- what the code has read of a route: whether it names each of n stands once, and if it does, each stand's new number
 pub record RouteRead (route : List ℕ) (n : ℕ) (r : Route) : Type 0 where
   pub yes-names : T (r .each) → Names route n
   pub names-yes : Names route n → T (r .each)
   pub size : length (r .numbers) ≡ 33
   pub number : T (r .each) → (t : ℕ) → 1 ≤ t → t ≤ n → getD (r .numbers) t 0 ≡ newNumber route t
 
+-- the route in a table of 33 places, from place 1 on
 pub record Places (route places : List ℕ) : Type 0 where
   pub size : length places ≡ 33
   pub place : (i : ℕ) → i < length route → getD places (i + 1) 0 ≡ getD route i 0

@@ -25,7 +25,7 @@ use Rattle.roster_positions.specs.Rows.{bytes-length, ranking-is}
 use Rattle.roster_parts.specs.declared.Changed.{Changed}
 use Rattle.roster_parts.specs.Places.{lists-behind}
 use Rattle.roster_parts.specs.Gives.{Gives, Holds, gives-held}
-use Rattle.roster_mapped.specs.Mapped.{under, allUnder, listsUnder, lists-under}
+use Rattle.roster_parts.specs.Mapped.{under, allUnder, listsUnder, lists-under}
 use Rattle.roster_routes.specs.Reordered.{Ordered, rankingsEnd, partsFrom, quotaAt, quotasInOrder, rankingPart, rankingAt, rankingsInOrder, nodesInOrder}
 use Rattle.roster_routes.specs.Reordered.{endAt, reorderedBytes}
 use Rattle.roster_routes.specs.Marking.{RouteRead, Places}
@@ -55,6 +55,7 @@ module _ (route : List ℕ) (n : ℕ) (N : Names route n) (w : Route) (places : 
       less : (t : ℕ) → 1 ≤ t → t ≡ t - 1 + 1
       less t a = omega arith
 
+-- where a route names each of at most 32 stands once, what takes each number is a number from 1 to 32
 pub way-ordered : (route : List ℕ) (n : ℕ) (order numbers : List ℕ) → Names route n → n ≤ nodeLimit → Way route n order numbers → Ordered n order
 way-ordered route n order numbers N few W j l = given (name-inside route n N j l) (λ (a, b).
     (subst (λ t. 1 ≤ t) (sym (W .stand j l)) a, subst (λ t. t ≤ nodeLimit) (sym (W .stand j l)) (omega arith)))
@@ -158,6 +159,7 @@ module _ (route : List ℕ) (f : List ℕ) (r : Roster) (e : writeRoster r ≡ f
       zero-plus : (j : ℕ) → 0 + j ≡ j
       zero-plus j = omega arith
 
+  -- an array that holds the reordered bytes of an accepted roster gives the renumbered roster
   pub reordered-gives : (c : Changed) → Holds (reorderedBytes f ns nt order numbers) c → Gives (accepted H) c
   reordered-gives c h = gives-held H (fits-renumbered route r ok N) (nodesInOrder f ns nt order) (listsUnder numbers f ns (ns + nt + 4))
       (rankingsInOrder f (endAt f ns nt + 2) order 0 nt) nodes-are lists-are rankings-are ns nt

@@ -11,8 +11,8 @@ ghost use Rattle.roster_routes.specs.Reordered.{Ordered, rankingsEnd, qu
 ghost use Rattle.roster_routes.specs.Marking.{RouteRead, Places};
 use limits::ENTRY_WIDTH;
 use limits::ROSTER_SIZE;
-use roster_mapped::NUMBERS;
 use roster_parts::Changed;
+use roster_parts::NUMBERS;
 
 // Whether a route names each stand once, and then the new number of each.
 pub struct Route {
@@ -153,7 +153,7 @@ pub fn reordered(file: &[u8], ns: usize, nt: usize, order: &[u8], numbers: &[u8]
     let mut lists = [0u8; ROSTER_SIZE];
     let a = roster_parts::append(&mut out, 0, nodes);
     let b = append_quotas(&mut out, a, file, ns + 1, nt, order);
-    let k = roster_mapped::append_lists(&mut lists, 0, file, start, ns, numbers);
+    let k = roster_parts::append_lists(&mut lists, 0, file, start, ns, numbers);
     let c = roster_parts::append_section(&mut out, b, ns, &lists, k);
     let m = append_rankings(&mut lists, file, end + 2, nt, order);
     let len = roster_parts::append_section(&mut out, c, lengths, &lists, m);

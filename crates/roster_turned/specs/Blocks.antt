@@ -128,6 +128,7 @@ module _ (shifts : Bool) (ns nt : ℕ) (f : List ℕ) where
   turnedBytes = ((take start f ++ gather (blockBytes (layoutOf (not shifts))) surveyorBlocks) ++ take 2 (drop middle f))
       ++ gather (blockBytes (layoutOf (not shifts))) standBlocks
 
+  -- the front of the array is the roster in the other layout, and it is told whether all that surveyors list is of shift 1
   pub record RosterTurned (r : Turned) (after : List ℕ) : Type 0 where
     pub few : r .len ≤ rosterSize
     pub size : length after ≡ rosterSize

@@ -175,6 +175,7 @@ module _ (shifts : Bool) (f : List ℕ) (isB : T (isBytes f)) (r : Roster) (a : 
   fit : T (fitsBy (layoutOf shifts .longest) r)
   fit = read-fits-by (layoutOf shifts) (agreesOf shifts) f r isB a
 
+  -- it has at most 32 surveyors and at most 32 stands
   pub counts-few : (ns ≤ nodeLimit) × (nt ≤ nodeLimit)
   counts-few = given (fits-parts-by (layoutOf shifts .longest) r fit) (λ ((p, q, s, t), n).
       (omega (arith, isS, few (r .quotasS) p), omega (arith, isT, few (r .quotasT) q)))
@@ -182,6 +183,7 @@ module _ (shifts : Bool) (f : List ℕ) (isB : T (isBytes f)) (r : Roster) (a : 
       few : (qs : List ℕ) → T (quotasFit qs) → length qs ≤ nodeLimit
       few qs p = leb→le (length qs) nodeLimit (and-l (leb (length qs) nodeLimit) _ p)
 
+  -- what is written is the roster in the other layout, and what is told is whether its surveyors list shift 1 alone
   pub turned-is : (turnedBytes shifts ns nt f ≡ writeRosterBy (layoutOf (not shifts)) r) × (all? firstBlock (surveyorBlocks shifts ns nt f) ≡ onlyFirst r)
   turned-is = given (fits-parts-by (layoutOf shifts .longest) r fit) (λ ((p, q, (lS, s, u), (lT, t, v)), n).
       given (read-held (layoutOf shifts) (agreesOf shifts) f r isB a) (λ held. (

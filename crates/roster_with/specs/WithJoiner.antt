@@ -11,15 +11,18 @@ use Rattle.model.specs.Limits.{entryWidth, listLimit}
 use Rattle.roster_positions.specs.Tables.{listsEnd, behind}
 use Rattle.roster_parts.specs.Rankings.{rankingsFrom}
 use Rattle.roster_parts.specs.Gives.{rosterOf}
-use Rattle.roster_joiner.specs.Entering.{shiftsAt, entering}
+use Rattle.roster_with.specs.Entering.{shiftsAt, entering}
 
 -- ---- the roster's parts
+-- the bytes of both sides' counts and quotas, one surveyor more and the joiner's quota behind the others
 abbrev pub nodesWith : List ℕ → (ns nt quota : ℕ) → List ℕ
 nodesWith f ns nt q = ((((ns + 1) ∷ []) ++ take ns (drop 1 f)) ++ q ∷ []) ++ take (nt + 1) (drop (ns + 1) f)
 
+-- the bytes of the surveyors' lists, and the joiner's list behind them
 abbrev pub listsWith : List ℕ → (start end : ℕ) (list : List ℕ) → List ℕ
 listsWith f start end list = take (end - start) (drop start f) ++ list
 
+-- the bytes of n stands' lists, each with the joiner's entries behind its tie
 abbrev pub rankingsWith : List ℕ → (start n joiner : ℕ) (marks : ℕ → Bool) → List ℕ
 rankingsWith f start n s marks = rankingsFrom (entering s marks) f n 1 start
 
@@ -27,6 +30,7 @@ rankingsWith f start n s marks = rankingsFrom (entering s marks) f n 1 start
 abbrev pub endAt : List ℕ → (ns nt : ℕ) → ℕ
 endAt f ns nt = listsEnd f ns (ns + nt + 4)
 
+-- the bytes of the whole roster with the joiner
 abbrev pub joinedBytes : List ℕ → (ns nt end quota : ℕ) (list : List ℕ) (marks : ℕ → Bool) → List ℕ
 joinedBytes f ns nt end q list marks = rosterOf (ns + 1) nt (nodesWith f ns nt q) (listsWith f (ns + nt + 4) end list)
     (rankingsWith f (end + 2) nt (ns + 1) marks)

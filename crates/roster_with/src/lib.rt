@@ -1,17 +1,102 @@
-// The parts of a roster's bytes with a joiner (requests W-202 and W-204): the quotas and their sum, the surveyors' lists, the stands' lists; and whether
-// one of these would be too long.
+// The bytes of a roster with a joiner whose list is read (requests W-202 and W-204), part by part: the quotas and their sum, the surveyors' lists, the
+// stands' lists, into each of which the joiner's entries come at their place; or the refusal of what stands behind the list, or of a stand's list that
+// would be too long.
 ghost use mathlib.Core.Path.{_≡_};
-ghost use Prim.Native.Nat.{_≤_};
+ghost use Prim.Native.Nat.{_≤_, _+_};
 ghost use lib.ListN.{length};
 ghost use Rattle.lists.specs.Sum.{sum};
-ghost use Rattle.model.specs.Limits.{nodeLimit};
+ghost use Rattle.model.specs.Limits.{nodeLimit, shiftLimit};
 ghost use Rattle.roster_parts.specs.Growth.{Room, Grown};
-ghost use Rattle.roster_joiner.specs.Entering.{marksIn};
-ghost use Rattle.roster_with.specs.WithJoiner.{nodesWith, listsWith, rankingsWith, longFrom};
+ghost use Rattle.roster_with.specs.Entering.{marksIn, asked, shiftsAt, joinerIn, entering};
+ghost use Rattle.roster_with.specs.WithJoiner.{nodesWith, listsWith, rankingsWith, longFrom, joinedBytes};
+ghost use Rattle.roster_parts.specs.Gives.{Holds};
+ghost use Rattle.roster_with.specs.Enters.{EntersBy};
+ghost use Rattle.roster_positions.specs.Rows.{bytesOf};
 use limits::ENTRY_WIDTH;
 use limits::LIST_LIMIT;
 use limits::ROSTER_SIZE;
+use limits::SHIFT_LIMIT;
 use roster_lists::ROW;
+use roster_parts::Changed;
+use roster_reading::Entry;
+
+// has the joiner's list this stand in this shift? The row has a mark for each entry that it has.
+pub(crate) fn asks(row: &[bool; ROW], stand: u8, shift: u8) -> bool
+    requires { ⌜ (1 ≤ stand) × (stand ≤ nodeLimit) × (1 ≤ shift) × (shift ≤ shiftLimit) ⌝ }
+    ensures { λ r. ⌜ r ≡ asked (marksIn (now (row .entry))) stand shift ⌝ }
+{
+    let x = Entry {
+        number: stand,
+        shift: shift,
+    };
+    let k = roster_entries::slot(x);
+    row[k]
+}
+
+// in how many shifts it has the stand
+pub fn shift_count(row: &[bool; ROW], stand: u8) -> usize
+    requires { ⌜ (1 ≤ stand) × (stand ≤ nodeLimit) ⌝ }
+    ensures { λ r. ⌜ (r ≡ length (shiftsAt (marksIn (now (row .entry))) stand)) × (r ≤ shiftLimit) ⌝ }
+{
+    let mut n: usize = 0;
+    let mut k: u8 = 0;
+    while k < SHIFT_LIMIT {
+        k += 1;
+        if !asks(row, stand, k) {
+            continue;
+        }
+        n += 1;
+    }
+    n
+}
+
+// the joiner's entries at the stand, "in shift order", whatever their order in the joiner's list
+pub(crate) fn append_joiner(
+    out: &mut [u8; ROSTER_SIZE],
+    n: usize,
+    joiner: u8,
+    row: &[bool; ROW],
+    stand: u8,
+) -> usize
+    requires { ⌜ Room n (now out) × (1 ≤ stand) × (stand ≤ nodeLimit) ⌝ }
+    ensures { λ r. ⌜ Grown (bytesOf (joinerIn joiner (shiftsAt (marksIn (now (row .entry))) stand))) n (now (out .entry)) r (now (out .exit)) ⌝ }
+{
+    let mut len = n;
+    let mut k: u8 = 0;
+    while k < SHIFT_LIMIT {
+        let shift = k + 1;
+        k += 1;
+        if !asks(row, stand, shift) {
+            continue;
+        }
+        len = roster_parts::append_entry(&mut *out, len, joiner, shift);
+    }
+    len
+}
+
+// a stand's list with those entries at the end of its tie
+pub fn append_ranking(
+    out: &mut [u8; ROSTER_SIZE],
+    n: usize,
+    strict: &[u8],
+    tied: &[u8],
+    joiner: u8,
+    row: &[bool; ROW],
+    stand: u8,
+) -> usize
+    requires { ⌜ Room n (now out) × (1 ≤ stand) × (stand ≤ nodeLimit) ⌝ }
+    ensures { λ r. ⌜ Grown (entering joiner (marksIn (now (row .entry))) stand (now (strict .entry)) (now (tied .entry))) n
+        (now (out .entry)) r (now (out .exit)) ⌝ }
+{
+    let more = shift_count(row, stand);
+    let strict_len = strict.len() / ENTRY_WIDTH;
+    let tie_len = tied.len() / ENTRY_WIDTH + more;
+    let second = roster_parts::append_byte(&mut *out, n, (strict_len % 256) as u8);
+    let entries = roster_parts::append_byte(&mut *out, second, (tie_len % 256) as u8);
+    let tie = roster_parts::append(&mut *out, entries, strict);
+    let end = roster_parts::append(&mut *out, tie, tied);
+    append_joiner(&mut *out, end, joiner, row, stand)
+}
 
 // the sum of some quotas
 pub fn quota_sum(quotas: &[u8]) -> usize
@@ -82,15 +167,7 @@ pub fn rankings_with(
         let b = roster_positions::byte_at(file, at + 1) as usize;
         let strict = roster_positions::part(file, at + 2, ENTRY_WIDTH * a);
         let tied = roster_positions::part(file, at + 2 + ENTRY_WIDTH * a, ENTRY_WIDTH * b);
-        len = roster_joiner::append_ranking(
-            &mut *out,
-            len,
-            strict,
-            tied,
-            joiner,
-            row,
-            (j + 1) as u8,
-        );
+        len = append_ranking(&mut *out, len, strict, tied, joiner, row, (j + 1) as u8);
         at += ENTRY_WIDTH * (a + b) + 2;
         j += 1;
     }
@@ -107,7 +184,7 @@ pub fn too_long(file: &[u8], start: usize, n: usize, row: &[bool; ROW]) -> bool
     while j < n {
         let a = roster_positions::byte_at(file, at) as usize;
         let b = roster_positions::byte_at(file, at + 1) as usize;
-        let more = roster_joiner::shift_count(row, (j + 1) as u8);
+        let more = shift_count(row, (j + 1) as u8);
         if (LIST_LIMIT as usize) < a + b + more {
             return true;
         }
@@ -115,4 +192,58 @@ pub fn too_long(file: &[u8], start: usize, n: usize, row: &[bool; ROW]) -> bool
         j += 1;
     }
     false
+}
+
+// the roster of ns surveyors and nt stands with one surveyor more, who takes "the number after the highest"; the surveyors' lists end at a
+// place of the file
+pub(crate) fn joined(
+    file: &[u8],
+    ns: usize,
+    nt: usize,
+    end: usize,
+    quota: u8,
+    list: &[u8],
+    row: &[bool; ROW],
+) -> Changed
+    requires { ⌜ (ns ≤ nodeLimit) × (nt ≤ nodeLimit) × (ns + nt + 4 ≤ end) × (end + 2 ≤ 20000) ⌝ }
+    ensures { λ r. ⌜ Holds (joinedBytes (now (file .entry)) ns nt end quota (now (list .entry)) (marksIn (now (row .entry)))) r ⌝ }
+{
+    let joiner = (ns + 1) as u8;
+    let mut out = [0u8; ROSTER_SIZE];
+    let mut lists = [0u8; ROSTER_SIZE];
+    let a = nodes_with(&mut out, file, ns, nt, quota);
+    let k = lists_with(&mut lists, file, ns + nt + 4, end, list);
+    let b = roster_parts::append_section(&mut out, a, ns + 1, &lists, k);
+    let m = rankings_with(&mut lists, file, end + 2, nt, joiner, row);
+    let len = roster_parts::append_section(&mut out, b, 2 * nt, &lists, m);
+    Changed {
+        refusal: 0,
+        len: len,
+        roster: out,
+    }
+}
+
+// with a list that is read up to a place of its file: "9 bytes after the end"; then "A joiner's entry that takes a stand's list past 32 meets
+// 2, after all checks of the joiner's own list."
+pub fn entered(
+    file: &[u8],
+    ns: usize,
+    nt: usize,
+    quota: u8,
+    list: &[u8],
+    read: usize,
+    row: &[bool; ROW],
+) -> Changed
+    requires { ⌜ (ns ≤ nodeLimit) × (nt ≤ nodeLimit) ⌝ }
+    ensures { λ r. ⌜ EntersBy (now (file .entry)) ns nt quota (now (list .entry)) read (marksIn (now (row .entry))) r ⌝ }
+{
+    let end = roster_parts::lists_end(file, ns + nt + 4, ns);
+    let long = too_long(file, end + 2, nt, row);
+    if read < list.len() {
+        return roster_parts::refused(9);
+    }
+    if long {
+        return roster_parts::refused(2);
+    }
+    joined(file, ns, nt, end, quota, list, row)
 }

@@ -16,13 +16,12 @@ use Rattle.model.specs.RosterFile.{readRoster, writeRoster, listBytes}
 use Rattle.model.specs.Refusal.{groupOf}
 use Rattle.model.specs.Edges.{instanceOf}
 use Rattle.model.specs.Plans.{Plan, strongPlans}
-use Rattle.model.specs.Finder.{finderOf, plan}
+use Rattle.model.specs.Finder.{finderOf, plan, handsBack}
 use Rattle.model_desk.specs.Desk.{said, wrote}
 use Rattle.model_files.specs.Routes.{readRoute, namesEach, renumbered, wayBack, rosterBehind, routeFirst, storeOf, unstoreOf, renumberedPlan}
 use Rattle.model_files.specs.StoredCalls.{storedAnswer, storedLent}
 use Rattle.theory_files.specs.Reads.{rest-bytes}
 use Rattle.theory_files.specs.Rosters.{read-write, read-fits, accepted-size}
-use Rattle.theory_finder.specs.FoundPlan.{handsBack}
 use Rattle.theory_renamed.specs.RouteNumbers.{Names, each-names, names-each, back-names}
 use Rattle.theory_renamed.specs.RenumberedPlans.{strong-renumbered, finder-renumbered, finder-alike}
 use Rattle.theory_renamed.specs.StoredFiles.{route-back, stored-parts, store-undone, unstore-undone, undone, kept-length}
@@ -40,7 +39,7 @@ use Rattle.roster_routes.specs.declared.Route.{Route}
 use Rattle.roster_routes.specs.Marking.{RouteRead, Places}
 use Rattle.roster_routes.specs.Reordered.{Ordered, reorderedBytes}
 use Rattle.roster_routes.specs.Renumbering.{Way, way-there, way-back, way-ordered, reordered-gives}
-use Rattle.file_calls.specs.Settling.{Settles, settles-refused, settles-file, settles-wrote, Answers, count-of, wrote-of}
+use Rattle.answers.specs.Settling.{Settles, settles-refused, settles-file, settles-wrote, Answers, count-of, wrote-of}
 use Rattle.routes.specs.Reading.{RouteAt, both, WrittenBoth}
 
 -- ---- by the way that is gone

@@ -5,7 +5,7 @@ ghost use Prim.Native.Nat.{_≤_};
 ghost use lib.ListN.{length};
 ghost use Rattle.model.specs.Limits.{nodeLimit, storedSize};
 ghost use Rattle.model_files.specs.Routes.{wayBack, storeOf, unstoreOf};
-ghost use Rattle.file_calls.specs.Settling.{Settles, Answers};
+ghost use Rattle.answers.specs.Settling.{Settles, Answers};
 ghost use Rattle.roster_routes.specs.Reordered.{Ordered};
 ghost use Rattle.routes.specs.Reading.{HeadRead, Behind, TurnedBy, Fits, WrittenBoth};
 ghost use Rattle.routes.specs.Storing.{turnBy, StoresBy};

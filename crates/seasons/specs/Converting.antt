@@ -29,7 +29,7 @@ use Rattle.roster_reading.specs.Layout.{layoutOf}
 use Rattle.roster_turned.specs.declared.Turned.{Turned}
 use Rattle.roster_turned.specs.Blocks.{RosterTurned}
 use Rattle.roster_turned.specs.Turning.{turned-is}
-use Rattle.file_calls.specs.Settling.{Settles, settles-refused, settles-file, settles-wrote, Answers, wrote-of}
+use Rattle.answers.specs.Settling.{Settles, settles-refused, settles-file, settles-wrote, Answers, wrote-of}
 
 -- the promise of a conversion: `to` is the way that is gone, `undo` the other one
 pub record Converts (to undo : List ℕ → Reading (List ℕ)) (f o : List ℕ) (r : Written) (o′ : List ℕ) : Type 0 where

@@ -5,7 +5,7 @@ ghost use Prim.Native.Nat.{_≤_};
 ghost use lib.ListN.{length};
 ghost use Rattle.model.specs.Limits.{rosterSize};
 ghost use Rattle.model_desk.specs.Seasons.{toNew, toOld};
-ghost use Rattle.file_calls.specs.Settling.{Settles, Answers};
+ghost use Rattle.answers.specs.Settling.{Settles, Answers};
 ghost use Rattle.seasons.specs.Converting.{turnBy, Accepted, Converts};
 use answers::FileAnswer;
 use answers::Written;

@@ -23,8 +23,8 @@ use Rattle.answers.specs.GroupCases.{groupShown, groupCase, shown-case}
 use Rattle.answers.specs.declared.Found.{Found}
 use Rattle.answers.specs.declared.Found.the-variants.{Refused}
 use Rattle.answers.specs.FinderCases.{shows-found}
-use Rattle.text_numbers.specs.Appended.{Appended}
-use Rattle.text_endings.specs.Endings.{refusedText}
+use Rattle.text_lines.specs.Appended.{Appended}
+use Rattle.text_lines.specs.Endings.{refusedText}
 use Rattle.text_answer.specs.Printable.{shownText}
 use Rattle.text_answer.specs.Handed.{Handed, HandedFor, handed-text}
 
@@ -60,6 +60,7 @@ answered {a} {flat} {left} {plan} {rival} w = record {
 }
 
 -- ---- for a roster file: the model's text of its reading
+-- what is written for a reading of the file is the program's text for it, of the finder's answer or of the refusal
 pub answered-text : (x : Reading Roster) {a : Found} {flat left plan rival before after : List ℕ} {n : ℕ}
     → HandedFor x a flat left plan rival → Answered a flat left plan rival before n after → Wrote (answerText x (chosen .rivalOf)) before n after
 answered-text (accepted r) h w = w .found (instanceOf r) (F.finderOf (instanceOf r) (chosen .rivalOf (instanceOf r))) h

@@ -24,7 +24,7 @@ use Rattle.answers.specs.FinderCases.{foundShown, shows-found}
 use Rattle.text_lines.specs.Texts.{texts}
 use Rattle.text_lines.specs.Lines.{diaryAt, pairAt}
 use Rattle.text_lines.specs.Held.{diary-lines, pair-lines}
-use Rattle.text_endings.specs.Endings.{countedText, planText, rivalledText}
+use Rattle.text_lines.specs.Endings.{countedText, planText, rivalledText}
 use Rattle.text_answer.specs.Printable.{shownText}
 
 -- a buffer that begins with some bytes
@@ -37,6 +37,7 @@ Pairs G (F.plan M) left plan rival = Front (planBytes G M) plan
 Pairs G (F.left es) left plan rival = Front (pairList G es) left
 Pairs G (F.rivalled M N v) left plan rival = Front (planBytes G M) plan × Front (planBytes G N) rival
 
+-- for what the finder found: the desk's answer, the diary in front of its buffer, and the pairs that go with the answer in theirs
 pub record Handed (G : Instance) (f : F.Found) (a : Found) (flat left plan rival : List ℕ) : Type 0 where
   pub answer : foundShown a ≡ foundAnswer (length (stepsOf G)) f
   pub diary : (d : List ℕ) × (flat ≡ written (diaryOf G) d)

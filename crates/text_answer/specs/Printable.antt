@@ -10,8 +10,8 @@ use Rattle.answers.specs.declared.Found.{Found}
 use Rattle.answers.specs.declared.Found.the-variants.{Plan, None, Refused}
 use Rattle.text_lines.specs.Texts.{texts, texts-length}
 use Rattle.text_lines.specs.Lines.{recordAt, diaryAt, diaryLineSize, diary-length}
-use Rattle.text_endings.specs.Endings.{planText, noneText, refusedText}
-use Rattle.text_endings.specs.Room.{Counted, NoneHeld, endingSize}
+use Rattle.text_lines.specs.Endings.{planText, noneText, refusedText}
+use Rattle.text_lines.specs.Room.{Counted, NoneHeld, endingSize}
 
 abbrev pub shownText : Found → (flat left plan rival : List ℕ) → List ℕ
 shownText (Plan n) flat left plan rival = texts (diaryAt flat) n ++ planText (text "plan ") plan
@@ -22,6 +22,7 @@ shownText (Refused n g) flat left plan rival = refusedText n g
 abbrev pub Noted : ℕ → List ℕ → Type 0
 Noted n flat = (n ≤ diarySize) × (flatSize ≤ length flat)
 
+-- what the text asks of an answer and its buffers: counts within their limits, and room for what they count
 abbrev pub Printable : Found → (flat left plan rival : List ℕ) → Type 0
 Printable (Plan n) flat left plan rival = Noted n flat × Counted plan
 Printable (None n k) flat left plan rival = Noted n flat × NoneHeld k left plan rival

@@ -89,6 +89,7 @@ file-printable (accepted r) ok a flat left plan rival d l p v h =
     handed-printable (steps-fit r (ok r refl)) d l p v (finderOf (instanceOf r) (chosen .rivalOf (instanceOf r))) (found-small r (ok r refl)) h
 file-printable (refused n) ok a flat left plan rival d l p v h = subst (λ k. Printable k flat left plan rival) (sym (shows-found a h)) tt
 
+-- the text for a roster within the limits, or for a refusal, is no longer than `textSize`
 pub answer-length : (x : Reading Roster) → ((r : Roster) → x ≡ accepted r → T (fits r)) → length (answerText x (chosen .rivalOf)) ≤ textSize
 answer-length (accepted r) h =
     text-length (instanceOf r) (finderOf (instanceOf r) (chosen .rivalOf (instanceOf r))) (steps-fit r (h r refl)) (found-small r (h r refl))

@@ -18,10 +18,10 @@ use Rattle.model.specs.Printed.{number, line, diaryLine, pairLine, counted, end
 use Rattle.diary.specs.FlatDiary.{flatSize}
 use Rattle.answers.specs.declared.Found.{Found}
 use Rattle.answers.specs.FinderCases.{shows-found}
-use Rattle.text_numbers.specs.Digits.{fieldSize, field-length}
-use Rattle.text_numbers.specs.Votes.{vote-length}
+use Rattle.text_lines.specs.Digits.{fieldSize, field-length}
+use Rattle.text_lines.specs.Votes.{vote-length}
 use Rattle.text_lines.specs.Lines.{diaryLineSize, diary-length, pairLineSize, pair-length}
-use Rattle.text_endings.specs.Room.{Counted, endingSize}
+use Rattle.text_lines.specs.Room.{Counted, endingSize}
 use Rattle.text_answer.specs.Printable.{Printable, textSize}
 use Rattle.text_answer.specs.Handed.{Front, Handed}
 

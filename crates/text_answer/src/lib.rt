@@ -21,12 +21,12 @@ pub fn answer_text(
     match answer {
         Found::Plan(steps) => {
             let next = text_lines::put_diary(out, 0, flat, steps);
-            text_endings::put_plan(out, next, b"plan ", plan)
+            text_lines::put_plan(out, next, b"plan ", plan)
         }
         Found::None(steps, kind) => {
             let next = text_lines::put_diary(out, 0, flat, steps);
-            text_endings::put_none(out, next, kind, left, plan, rival)
+            text_lines::put_none(out, next, kind, left, plan, rival)
         }
-        Found::Refused(number, group) => text_endings::put_refused(out, 0, number, group),
+        Found::Refused(number, group) => text_lines::put_refused(out, 0, number, group),
     }
 }

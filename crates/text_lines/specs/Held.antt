@@ -51,6 +51,7 @@ record-at rs d i h = λ j. record {
     held : (j : ℕ) → j < recordWidth → getD (gather numbers rs ++ rest) (recordWidth * i + j) 0 ≡ getD (numbers (getD rs i none)) j 0
     held j k = gather-at recordWidth numbers none (λ x. refl) rs rest i j h k
 
+-- the lines of a flat diary with these records in front are the model's lines of them
 pub diary-lines : (rs : List Record) (d : List ℕ) → texts (diaryAt (written rs d)) (length rs) ≡ gather diaryLine rs
 diary-lines rs d = texts-gather diaryLine none rs (diaryAt (written rs d)) (λ i h. ap diaryLine (record-at rs d i h))
 
@@ -62,5 +63,6 @@ pair-at G es rest i h = λ j. pairText (gather-first pairWidth (pairBytes G) 0 (
     held : (j : ℕ) → j < pairWidth → getD (pairList G es ++ rest) (pairWidth * i + j) 0 ≡ getD (pairBytes G (getD es i 0)) j 0
     held j k = gather-at pairWidth (pairBytes G) 0 (λ x. refl) es rest i j h k
 
+-- the lines of a buffer with the pairs of these edges in front are the model's lines of them
 pub pair-lines : (G : Instance) (es rest : List ℕ) → texts (pairAt (pairList G es ++ rest)) (length es) ≡ pairLines G es
 pair-lines G es rest = texts-gather (pairLine G) 0 es (pairAt (pairList G es ++ rest)) (pair-at G es rest)

@@ -1,3 +1,8 @@
-pub mod Texts
-pub mod Lines
+pub mod Appended
+pub mod Digits
+pub mod Endings
 pub mod Held
+pub mod Lines
+pub mod Room
+pub mod Texts
+pub mod Votes

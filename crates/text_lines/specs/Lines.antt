@@ -12,15 +12,17 @@ use Rattle.model.specs.Printed.{number, fateWord, diaryLine}
 use Rattle.diary.specs.FlatDiary.{recordWidth}
 use Rattle.pair_bytes.specs.declared.Pair.{Pair}
 use Rattle.pair_bytes.specs.PairAt.{pairFrom}
-use Rattle.text_numbers.specs.Digits.{digits-length, fieldSize}
+use Rattle.text_lines.specs.Digits.{digits-length, fieldSize}
 
 -- "strike" and a space
 abbrev pub fateSize : ℕ
 fateSize = 7
 
+-- the most bytes of a pair line: three numbers, a byte behind each
 abbrev pub pairLineSize : ℕ
 pairLineSize = 3 * fieldSize
 
+-- the most bytes of a diary line: the fate, a pair and the rule
 abbrev pub diaryLineSize : ℕ
 diaryLineSize = fateSize + pairLineSize + fieldSize
 
@@ -38,12 +40,14 @@ recordAt flat i = record {
   rule = getD flat (recordWidth * i + 4) 0;
 }
 
+-- the line of the i-th record of a flat diary
 abbrev pub diaryAt : List ℕ → ℕ → List ℕ
 diaryAt flat i = diaryLine (recordAt flat i)
 
 abbrev pub lineOf : Pair → List ℕ
 lineOf p = pairText (p .surveyor) (p .stand) (p .shift) 10
 
+-- the line of the i-th pair of some pair bytes
 abbrev pub pairAt : List ℕ → ℕ → List ℕ
 pairAt pairs i = lineOf (pairFrom true pairs (pairWidth * i))
 
@@ -53,6 +57,7 @@ fate-length zero = omega arith
 fate-length (suc zero) = omega arith
 fate-length (suc (suc n)) = omega arith
 
+-- no diary line is longer than its limit
 pub diary-length : (x : Record) → length (diaryLine x) ≤ diaryLineSize
 diary-length x = simp length-append (omega (
   arith,
@@ -63,6 +68,7 @@ diary-length x = simp length-append (omega (
   digits-length 4 (x .rule),
 ))
 
+-- no pair line is longer than its limit
 pub pair-length : (s t k end : ℕ) → length (pairText s t k end) ≤ pairLineSize
 pair-length s t k end = simp length-append (omega (arith, digits-length 4 s, digits-length 4 t, digits-length 4 k))
 

@@ -7,6 +7,7 @@ use mathlib.Core.List.{List, [], _∷_, _++_, append-assoc, append-nil}
 use lib.ListN.{length, getD, length-append}
 use Rattle.lists.specs.Keep.{gather}
 
+-- the first n texts, one behind the other
 unfoldable pub texts : (ℕ → List ℕ) → ℕ → List ℕ
 texts f zero = []
 texts f (suc n) = texts f n ++ f n
@@ -19,6 +20,7 @@ pub texts-more : (f : ℕ → List ℕ) (n : ℕ) → texts f n ++ f n ≡ texts
 unfolding texts
 texts-more f n = ap (texts f) (sym (add-one n))
 
+-- n texts of at most `size` bytes have at most n times as many
 pub texts-length : (f : ℕ → List ℕ) (size : ℕ) → ((i : ℕ) → length (f i) ≤ size) → (n : ℕ) → length (texts f n) ≤ size * n
 unfolding texts
 texts-length f size h zero = zero-le

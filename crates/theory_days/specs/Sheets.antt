@@ -91,6 +91,7 @@ suc-used [] = refl
 suc-used (d ∷ ds) = simp (suc-elem d ds, suc-used ds)
 
 -- ---- the days of some entries, numbered in their order
+-- a day from 1 on for each entry of the list, by the surveyors and the stands of the entries
 unfoldable pub spreadBy : (sv st : ℕ → ℕ) (es : List ℕ) → List ℕ
 spreadBy sv st es = map suc (map (spread (at (map sv es)) (at (map st es)) lastDay (length es)) (range 0 (length es)))
 

@@ -63,6 +63,7 @@ module _ (sv st : ℕ → ℕ) (B : ℕ) where
   withDay k c = cond (not (taken sv c k (sv k) (freeDay st c k (st k) B))) (setDay c k (freeDay st c k (st k) B))
       (chase sv st (freeDay sv c k (sv k) B) (freeDay st c k (st k) B) (suc k) (changes (suc k)) true k (setDay c k (freeDay sv c k (sv k) B)))
 
+  -- the days when k entries have one, given entry by entry
   unfoldable pub spread : ℕ → ℕ → ℕ
   spread zero = λ j. 0
   spread (suc k) = withDay k (spread k)
@@ -167,6 +168,7 @@ module _ (sv st : ℕ → ℕ) (B : ℕ) where
   unfolding count
   own-end end k = omega (arith, bit-yes (eqb (end k) (end k)) (eqb-refl (end k)))
 
+  -- with at most D entries at every surveyor and every stand, no two of a node share a day, and no day is D or above
   pub spread-proper : (D : ℕ) → D ≤ B → (n : ℕ) → ((v : ℕ) → count (λ j. eqb (sv j) v) n ≤ D) → ((v : ℕ) → count (λ j. eqb (st j) v) n ≤ D)
       → Proper sv st n (spread n) × ((j : ℕ) → j < n → spread n j < D)
   unfolding spread

@@ -20,23 +20,29 @@ use Rattle.theory_files.specs.Rosters.{fits-parts, parts-fit-by, write-r
 
 -- what holds of a list within its limits
 module _ (longest count : ℕ) (xs : List Entry) (t : T (listFits longest count xs)) where
+  -- it has no more entries than a list may have
   pub list-short : length xs ≤ longest
   list-short = leb→le (length xs) longest (and-l (leb (length xs) longest) _ t)
 
+  -- its numbers and shifts are in range
   pub list-range : T (inRange count xs)
   list-range = and-l (inRange count xs) (distinct xs) (and-r (leb (length xs) longest) _ t)
 
+  -- no entry stands in it twice
   pub list-distinct : T (distinct xs)
   list-distinct = and-r (inRange count xs) (distinct xs) (and-r (leb (length xs) longest) _ t)
 
 -- and of a stand's list
 module _ (longest count : ℕ) (R : Ranking) (t : T (rankingFits longest count R)) where
+  -- its strict and its tied entries together are a list within the limits
   pub ranking-list : T (listFits longest count (entries R))
   ranking-list = and-l (listFits longest count (entries R)) (ascending noEntry (R .tied)) t
 
+  -- its tie ascends
   pub ranking-ascends : T (ascending noEntry (R .tied))
   ranking-ascends = and-r (listFits longest count (entries R)) (ascending noEntry (R .tied)) t
 
+-- the limits but for the section counts: quotas, as many lists as nodes, each list by itself, and each pair in both lists or in neither
 pub record ByLists (r : Roster) : Type 0 where
   pub quotaS : T (quotasFit (r .quotasS))
   pub quotaT : T (quotasFit (r .quotasT))
@@ -67,6 +73,7 @@ module _ (r : Roster) where
   abbrev withStands : ℕ → Bool
   withStands i = all? (inShifts i) (upTo (standCount r))
 
+-- a roster within the limits is within them list by list
 pub fits-lists : (r : Roster) → T (fits r) → ByLists r
 unfolding bothOrNeither
 fits-lists r ok = given (fits-parts r ok) (λ ((a, b, (cl, dl, el), (ct, dt, et)), n). record {
@@ -90,6 +97,7 @@ total-small size (x ∷ ls) h = omega (arith, h x (List·Memᴰ·head refl), tot
 node-count : (qs : List ℕ) → T (quotasFit qs) → length qs ≤ nodeLimit
 node-count qs t = leb→le (length qs) nodeLimit (and-l (leb (length qs) nodeLimit) _ t)
 
+-- list by list is enough: 32 lists of at most 32 entries have no more than 1,024
 pub lists-fit : (r : Roster) → ByLists r → T (fits r)
 unfolding bothOrNeither
 lists-fit r b =
@@ -113,5 +121,6 @@ lists-fit r b =
 abbrev pub Storable : Roster → Type 0
 Storable h = T (fits h) × (readRoster (writeRoster h) ≡ accepted h) × (length (writeRoster h) ≤ rosterSize)
 
+-- every roster within the limits can be stored
 pub storable : (h : Roster) → T (fits h) → Storable h
 storable h t = (t, write-read h t, roster-size h t)

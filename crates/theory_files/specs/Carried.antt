@@ -186,6 +186,7 @@ abbrev pub besides : Instance → Plan → (number : ℕ) → Plan
 besides G M s = planOf (G .m) (λ e. on M e && not (eqb (suc (G .sv e)) s))
 
 module _ (r : Roster) (ok : T (fits r)) (M : Plan) (m : M ∈ plansOf (instanceOf r)) (h : Roster) where
+  -- when a joiner is taken in, the held plan keeps its bytes and can be stored with the new roster
   pub join-plan : (q : ℕ) (file : List ℕ) → T (isBytes file) → joinOn r q file ≡ accepted h → Carries r h M M
   join-plan q file isB e = given (join-parts r q file h isB e) (λ J. subst (λ h. Carries r h M M) (sym (J .is)) (
     carried-joined-bytes r ok M q (J .list),
@@ -193,6 +194,7 @@ module _ (r : Roster) (ok : T (fits r)) (M : Plan) (m : M ∈ plansOf (instanceO
         (carried (instanceOf r) (instanceOf (joined r q (J .list))) M) (carried-joined-within r ok M q (J .list) m),
   ))
 
+  -- when a surveyor leaves, the held plan has the bytes of its pairs besides the leaver's and can be stored with the new roster
   pub leave-plan : (s : ℕ) → leaveOn r s ≡ accepted h → Carries r h M (besides (instanceOf r) M s)
   leave-plan s e = given (leave-parts r s h e) (λ L. let v = L .place in
       subst (λ s. Carries r h M (besides (instanceOf r) M s)) (sym (L .number)) (subst (λ h. Carries r h M (besides (instanceOf r) M (suc v))) (sym (L .is)) (

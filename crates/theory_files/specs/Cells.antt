@@ -21,6 +21,7 @@ use Rattle.theory_files.specs.RosterInstance.{list-fits, entries-fit}
 abbrev pub Within : ℕ → List Entry → Type 0
 Within k xs = All (λ x. (1 ≤ x .number) × (x .number ≤ k) × (1 ≤ x .shift) × (x .shift ≤ shiftLimit)) xs
 
+-- entries in range, said of any bound that is not below the other side's count
 pub within : (count k : ℕ) → count ≤ k → (xs : List Entry) → T (inRange count xs) → Within k xs
 within count k h [] t = tt
 within count k h (x ∷ xs) t = given (in-range count x (and-l (entryFits count x) (inRange count xs) t)) (λ (a, b, c, d).
@@ -59,10 +60,12 @@ triples f a (suc n) =
     regroup x y z w = append-assoc x (y ++ (z ++ [])) w ∙ ap (λ u. x ++ u) (append-assoc y (z ++ []) w ∙ ap (λ u. y ++ u) (append-assoc z [] w))
 
 module _ (r : Roster) (ok : T (fits r)) where
+  -- a surveyor's entries, for any bound that is not below the number of stands
   pub list-within : (k i : ℕ) → standCount r ≤ k → i < surveyorCount r → Within k (listS r i)
   list-within k i h l = within (standCount r) k h (listS r i)
       (and-l (inRange (standCount r) (listS r i)) (distinct (listS r i)) (and-r (leb (length (listS r i)) listLimit) _ (list-fits r ok i l)))
 
+  -- a stand's strict entries, for any bound that is not below the number of surveyors
   pub strict-within : (k j : ℕ) → surveyorCount r ≤ k → j < standCount r → Within k (listT r j .strict)
   strict-within k j h l = within-front k (listT r j .strict) (listT r j .tied)
       (within (surveyorCount r) k h (entries (listT r j))
@@ -116,6 +119,8 @@ module _ (r : Roster) (ok : T (fits r)) where
       none : (j : ℕ) → standCount r ≤ j → stand i j ≡ []
       none j k = gather-none (one i j) shifts (λ s m. ap (λ b. cond b (pairEdge r i j s ∷ []) []) (listed-none i j s l k))
 
+  -- q tells of each cell whether its pair is listed, g gives the edge of a listed pair:
+  -- then what g gives of the cells that pass, in their order, are the roster's edges
   pub edges-cells : (w : ℕ) → standCount r ≤ w → (q : ℕ → Bool) (g : ℕ → Edge)
       → ((i j k : ℕ) → i < surveyorCount r → j < w → k < shiftLimit
       → (q (i * (3 * w) + (3 * j + k)) ≡ listed r i j (suc k)) × (T (listed r i j (suc k)) → g (i * (3 * w) + (3 * j + k)) ≡ pairEdge r i j (suc k)))

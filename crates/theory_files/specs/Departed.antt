@@ -142,6 +142,7 @@ module _ (r : Roster) (v : ℕ) where
   abbrev h : Roster
   h = departed r (suc v)
 
+  -- who leaves keeps the number: there are as many surveyors and stands as before
   pub departed-counts : (surveyorCount h ≡ surveyorCount r) × (standCount h ≡ standCount r)
   unfolding departed
   departed-counts = (length-set (r .quotasS) (suc v - 1) 0, refl)
@@ -184,6 +185,7 @@ module _ (r : Roster) (v : ℕ) where
         (listed-leaver j k ∙ sym (back-is v j k ∙ without-own (record { number = suc v; shift = k }) (entries (listT r j)))))
         (λ n t. listed-others i j k n ∙ fits-lists r ok .pairs i j k a b c ∙ sym (back-others i j k n))
 
+    -- the roster without the leaver is within the limits
     pub fits-departed : T (fits h)
     unfolding departed
     fits-departed = given (fits-lists r ok) (λ b. given (sym (departed-counts .0)) (λ same. lists-fit h (record {

@@ -106,6 +106,7 @@ module _ (r : Roster) where
   unfolding listed
   list-few i = pairs-few (listS r i) nt
 
+  -- a roster within the limits has at most 1,024 edges
   pub edges-few : T (fits r) → length (edgesOf r) ≤ entryLimit
   edges-few ok = given (fits-parts r ok) (λ ((q, u, (l, a, k), v), n). omega (
     arith,

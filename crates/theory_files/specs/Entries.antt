@@ -104,6 +104,7 @@ pub distinct-append : (xs ys : List Entry) → T (distinct xs) → T (distinct y
 distinct-append xs ys d e a = fresh-distinct (xs ++ ys)
     (subst T (sym (fresh-append [] xs ys)) (and-i (fresh [] xs) (fresh xs ys) (distinct-fresh xs d) (→fresh xs ys a e)))
 
+-- every number and shift of a list is in range
 abbrev pub inRange : ℕ → List Entry → Bool
 inRange other xs = all? (entryFits other) xs
 
@@ -122,6 +123,7 @@ in-range count x t =
     above zero t = absurd t
     above (suc n) t = omega arith
 
+-- a number from 1 to the count, with a shift from 1 to 3, is in range
 pub range-in : (count : ℕ) (x : Entry) → 1 ≤ x .number → x .number ≤ count → 1 ≤ x .shift → x .shift ≤ shiftLimit → T (entryFits count x)
 range-in count x a b c d = and-i (not (outside count (x .number))) (not (outside shiftLimit (x .shift)))
     (inside count (x .number) a b) (inside shiftLimit (x .shift) c d)
@@ -130,6 +132,7 @@ range-in count x a b c d = and-i (not (outside count (x .number))) (not (outside
     inside count n a b = nor-i (eqb n 0) (ltb count n) (false-T (eqb-no n 0 (λ (e : n ≡ 0). omega arith))) (le→nltb count n b)
 
 -- ---- quotas
+-- no quota is above 8
 abbrev pub small : List ℕ → Bool
 small qs = all? (λ q. leb q quotaLimit) qs
 

@@ -66,6 +66,7 @@ module _ (r : Roster) (ok : T (fits r)) (v : ℕ) (inside : v < surveyorCount r)
 
 -- ---- the call
 module _ (r h : Roster) (s : ℕ) (ok : T (fits r)) (left : T (gone r s)) (e : leaveOn r s ≡ accepted h) where
+  -- who has left already makes no other roster by leaving again
   pub gone-roster : h ≡ r
   gone-roster = given (leave-parts r s h e) (λ L.
       L .is ∙ departed-same r ok (L .place) (L .inside)

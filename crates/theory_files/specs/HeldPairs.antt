@@ -29,6 +29,7 @@ written-pairs G M = go (edgesIn (G .m) (on M))
     go [] = refl
     go (e ∷ es) = ap (λ ps. nameOf G e ∷ ps) (go es)
 
+-- the pairs of a plan that was read are those in its file, in the file's order
 pub read-pairs : (G : Instance) (file : List ℕ) (M : Plan) → T (isBytes file) → readPlan G file ≡ accepted M → planPairs G M ≡ filePairs file
 read-pairs G file M isB e = sym (written-pairs G M) ∙ ap filePairs (plan-read-write G file M isB e)
 
@@ -37,9 +38,11 @@ same-pairs : (G H : Instance) (M N : Plan) → planBytes G M ≡ planBytes H N �
 same-pairs G H M N e = sym (written-pairs G M) ∙ ap filePairs e ∙ written-pairs H N
 
 -- ---- those who left
+-- where nobody left, all pairs stay
 pub less-none : (ps : List Named) → less [] ps ≡ ps
 less-none ps = keep-all (λ p. true) ps (λ p m. tt)
 
+-- one more who left: that one's pairs go first, then those of the others
 pub less-more : (s : ℕ) (gone : List ℕ) (ps : List Named) → less (s ∷ gone) ps ≡ less gone (less (s ∷ []) ps)
 less-more s gone ps = sym (keep-keep (λ p. not (elem (p .surveyor) gone)) (λ p. not (elem (p .surveyor) (s ∷ []))) ps
     ∙ keep-cong (λ p. not (elem (p .surveyor) (s ∷ [])) && not (elem (p .surveyor) gone)) (λ p. not (elem (p .surveyor) (s ∷ gone))) ps
@@ -69,9 +72,11 @@ module _ (r : Roster) (ok : T (fits r)) (M : Plan) (m : M ∈ plansOf (instanceO
   abbrev kept : Plan
   kept = carried (instanceOf r) (instanceOf h) M
 
+  -- a joiner leaves the held plan's pairs as they are
   pub join-pairs : (q : ℕ) (file : List ℕ) → T (isBytes file) → joinOn r q file ≡ accepted h → planPairs (instanceOf h) kept ≡ planPairs (instanceOf r) M
   join-pairs q file isB e = same-pairs (instanceOf h) (instanceOf r) kept M (join-plan r ok M m h q file isB e .0)
 
+  -- a leaver takes the own pairs out of the held plan, and no other
   pub leave-pairs : (s : ℕ) → leaveOn r s ≡ accepted h → planPairs (instanceOf h) kept ≡ less (s ∷ []) (planPairs (instanceOf r) M)
   leave-pairs s e = same-pairs (instanceOf h) (instanceOf r) kept (besides (instanceOf r) M s) (leave-plan r ok M m h s e .0)
       ∙ besides-pairs (instanceOf r) M s

@@ -146,6 +146,7 @@ module _ (r : Roster) (q : ℕ) (list : List Entry) (ok : T (fits r)) where
   abbrev h : Roster
   h = joined r q list
 
+  -- with the joiner there is one surveyor more, and there are as many stands as before
   pub joined-counts : (surveyorCount h ≡ suc ns) × (standCount h ≡ nt)
   unfolding joined
   joined-counts = (snoc-length (r .quotasS) q, refl)

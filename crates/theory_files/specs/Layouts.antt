@@ -13,6 +13,7 @@ use Rattle.model_desk.specs.Seasons.{isFirst}
 use Rattle.model.specs.PlanFile.{Named, PairLayout, threeBytes, shiftedPair, plainPair}
 use Rattle.theory_files.specs.Reads.{Reads, read-value, read-rest, refused-not, then-read, byte-read, twoBytes-read}
 
+-- the entries that a layout can hold are written and read back the same, each in as many bytes as any other
 pub record Agrees (L : Layout) : Type 0 where
   pub holds : Entry → Bool  -- the entries that it can hold
   pub reads : Reads (L .field) (L .bytes) (λ x. T (holds x))
@@ -27,6 +28,7 @@ reads-shifted = record {
   forth = λ x rest p. refl;
 }
 
+-- the layout with shifts holds every entry, in two bytes
 abbrev pub in-shifted : Agrees shifted
 in-shifted = record { holds = λ x. true; reads = reads-shifted; width = 2; wide = λ x. refl }
 
@@ -38,10 +40,12 @@ reads-plain = record {
   forth = λ x rest p. ap (λ k. accepted (record { number = x .number; shift = k }, rest)) (sym (eqb→eq (x .shift) 1 p));
 }
 
+-- the layout without shifts holds the entries of shift 1, in one byte
 abbrev pub in-plain : Agrees plain
 in-plain = record { holds = isFirst; reads = reads-plain; width = 1; wide = λ x. refl }
 
 -- ---- the same for the pairs of a plan
+-- the pairs that a layout can hold are written and read back the same, each in as many bytes as any other
 pub record PairAgrees (L : PairLayout) : Type 0 where
   pub holds : Named → Bool
   pub reads : Reads (L .field) (L .bytes) (λ p. T (holds p))
@@ -57,6 +61,7 @@ threeBytes-read (x ∷ y ∷ z ∷ bs) e = ap₂ (λ (p : Named) zs. p .surveyor
 pub reads-shiftedPair : Reads (shiftedPair .field) (shiftedPair .bytes) (λ p. T true)
 reads-shiftedPair = record { back = λ bs p rest t e. (threeBytes-read bs e, tt); forth = λ p rest h. refl }
 
+-- with its shift every pair can be held, in three bytes
 abbrev pub in-shiftedPair : PairAgrees shiftedPair
 in-shiftedPair = record { holds = λ p. true; reads = reads-shiftedPair; width = 3; wide = λ p. refl }
 
@@ -70,5 +75,6 @@ reads-plainPair = record {
   forth = λ p rest h. ap (λ k. accepted (record { surveyor = p .surveyor; stand = p .stand; shift = k }, rest)) (sym (eqb→eq (p .shift) 1 h));
 }
 
+-- without shifts the pairs of shift 1 can be held, in two bytes
 abbrev pub in-plainPair : PairAgrees plainPair
 in-plainPair = record { holds = λ p. eqb (p .shift) 1; reads = reads-plainPair; width = 2; wide = λ p. refl }

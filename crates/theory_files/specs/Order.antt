@@ -30,6 +30,7 @@ InOrder x y = First (x .number) (y .number) (x .shift < y .shift)
 before→ : (x y : Entry) → T (before x y) → InOrder x y
 before→ x y t = ⊎-map (λ l. l) (λ (e, u). (e, ltb→lt (x .shift) (y .shift) u)) (first→ (x .number) (y .number) (ltb (x .shift) (y .shift)) t)
 
+-- entries in order pass the model's test
 pub →before : (x y : Entry) → InOrder x y → T (before x y)
 →before x y b = →first (x .number) (y .number) (ltb (x .shift) (y .shift)) (⊎-map (λ l. l) (λ (e, l). (e, lt→ltb (x .shift) (y .shift) l)) b)
 
@@ -39,5 +40,6 @@ before-trans x y z (inl k) (inr (e, l)) = inl (omega arith)
 before-trans x y z (inr (d, k)) (inl l) = inl (omega arith)
 before-trans x y z (inr (d, k)) (inr (e, l)) = inr (omega arith, omega arith)
 
+-- of three entries, the first is before the last if the second stands between them
 pub before-on : (x y z : Entry) → T (before x y) → T (before y z) → T (before x z)
 before-on x y z a b = →before x z (before-trans x y z (before→ x y a) (before→ y z b))

@@ -40,6 +40,7 @@ pub record Fileable (G : Instance) : Type 0 where
   pub differ : (d e : ℕ) → d < G .m → e < G .m → G .sv d ≡ G .sv e → G .st d ≡ G .st e → G .sh d ≡ G .sh e → d ≡ e
   pub few : sum (G .quotaS) (upTo (G .ns)) ≤ planLimit
 
+-- names that the test calls the same agree in surveyor, stand and shift
 pub name-parts : (p q : Named) → T (sameName p q) → (p .surveyor ≡ q .surveyor) × (p .stand ≡ q .stand) × (p .shift ≡ q .shift)
 name-parts p q t =
     let a = eqb (p .surveyor) (q .surveyor) in
@@ -51,6 +52,7 @@ name-parts p q t =
       eqb→eq (p .shift) (q .shift) (and-r b c u),
     ))
 
+-- names that agree in surveyor, stand and shift are one
 pub same-name : (p q : Named) → (p .surveyor ≡ q .surveyor) × (p .stand ≡ q .stand) × (p .shift ≡ q .shift) → p ≡ q
 same-name p q (a, b, c) = λ i. record { surveyor = a i; stand = b i; shift = c i }
 
@@ -64,6 +66,7 @@ module _ (G : Instance) where
   pub found-is : (p : Named) → edgeOfPair G p < G .m → nameOf G (edgeOfPair G p) ≡ p
   found-is p h = same-name (nameOf G (edgeOfPair G p)) p (found-parts p h)
 
+  -- an edge is found again by its name
   pub found : Fileable G → (e : ℕ) → e < G .m → edgeOfPair G (nameOf G e) ≡ e
   unfolding edgeOfPair
   found F e h =
@@ -253,6 +256,7 @@ module _ (G : Instance) where
           plan = sym (read-value h₁);
         })))
 
+    -- the bytes of some pairs: as many as the layout gives a pair, for each
     pub bytes-size : (ps : List Named) → length (gather (L .bytes) ps) ≡ A .width * length ps
     bytes-size [] = omega arith
     bytes-size (p ∷ ps) = omega (arith, length-append (L .bytes p) (gather (L .bytes) ps), A .wide p, bytes-size ps)
@@ -350,12 +354,15 @@ module _ (G : Instance) where
       go (d ∷ ds) = go ds
 
   module _ (bs : List ℕ) (M : Plan) (isB : T (isBytes bs)) (e : readPlan G bs ≡ accepted M) where
+    -- accepted bytes are written back the same
     pub plan-read-write : planBytes G M ≡ bs
     plan-read-write = plan-read-write-by shiftedPair in-shiftedPair bs M isB e
 
+    -- accepted bytes are a plan within the quotas
     pub plan-read-within : M ∈ plansOf G
     plan-read-within = plan-read-within-by shiftedPair in-shiftedPair bs M isB e
 
+    -- accepted bytes are, in a lawful instance, a set of edges within the quotas of both sides
     pub plan-read-matching : Lawful G → Matching G (on M)
     plan-read-matching law = plan-read-matching-by shiftedPair in-shiftedPair bs M isB e law
 

@@ -23,14 +23,17 @@ module _ (L : PairLayout) (G : Instance) where
   abbrev pub pairsLeft : ℕ → Pairs → List ℕ → List Named → Reading (Plan × List ℕ)
   pairsLeft n s bs ps = readEach (L .field) (pairCheck G) (withPair G) n s bs then finish ps
 
+  -- a plan file without any byte meets 1
   pub plan-empty : readPlanBy L G [] ≡ refused 1
   unfolding readPlanBy
   plan-empty = refl
 
+  -- a count above 64 meets 2
   pub plan-long : (n : ℕ) (bs : List ℕ) → planLimit < n → readPlanBy L G (n ∷ bs) ≡ refused 2
   unfolding readPlanBy
   plan-long n bs h = ap (λ b. whole (cond b (refused 2) (accepted (n, bs)) then readPairsBy L G then finish [])) (lt-ltb planLimit n h)
 
+  -- behind a count of at most 64 so many pairs are left, and then the file must end
   pub plan-starts : (n : ℕ) (bs : List ℕ) → n ≤ planLimit → readPlanBy L G (n ∷ bs) ≡ whole (pairsLeft n noPairs bs [])
   unfolding readPlanBy
   plan-starts n bs h = ap (λ b. whole (cond b (refused 2) (accepted (n, bs)) then readPairsBy L G then finish [])) (le-ltb planLimit n h)
@@ -57,6 +60,7 @@ module _ (L : PairLayout) (G : Instance) where
       out zero (refused k) = refl
       out (suc c) r = refl
 
+  -- with no pair left, those read are the plan, and the other bytes stand behind it
   pub left-none : (s : Pairs) (bs : List ℕ) (ps : List Named) → pairsLeft zero s bs ps ≡ accepted (planOfPairs G ps, bs)
   unfolding readEach
   left-none s bs ps = ap (λ z. accepted (planOfPairs G z, bs)) (append-nil ps)

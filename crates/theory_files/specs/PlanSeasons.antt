@@ -53,6 +53,7 @@ module _ (G : Instance) where
   unfolding planToNew
   old-plan-taken f M e = ap (newPlan G) e
 
+  -- an accepted plan of shift 1 alone goes back to its bytes without shifts
   pub new-plan-taken : (g : List ℕ) (M : Plan) → readPlan G g ≡ accepted M → T (onlyFirstPairs G M) → planToOld G g ≡ accepted (planBytesBy plainPair G M)
   unfolding planToOld
   new-plan-taken g M e o = ap (oldPlan G) e ∙ ap (λ b. cond b (accepted (planBytesBy plainPair G M)) (refused 19)) (T-true {b = onlyFirstPairs G M} o)
@@ -62,6 +63,7 @@ module _ (G : Instance) where
   unfolding planToNew
   old-plan-turned-away f n e = ap (newPlan G) e
 
+  -- a plan with shifts that is refused keeps its number on the way back
   pub new-plan-turned-away : (g : List ℕ) (n : ℕ) → readPlan G g ≡ refused n → planToOld G g ≡ refused n
   unfolding planToOld
   new-plan-turned-away g n e = ap (oldPlan G) e

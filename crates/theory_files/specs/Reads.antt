@@ -12,6 +12,7 @@ use Rattle.lists.specs.Keep.{gather, All}
 use Rattle.model.specs.Reading.{Reading, accepted, refused, _then_, refuseIf, refuseBy, byte, twoBytes, readEach, whole}
 pub use Rattle.model.specs.Reading.{isBytes}
 
+-- numbers that are all below 256 are bytes
 pub bytes-are : (bs : List ℕ) → ((i : ℕ) → getD bs i 0 < 256) → T (isBytes bs)
 bytes-are [] h = tt
 bytes-are (b ∷ bs) h = and-i (ltb b 256) (isBytes bs) (lt→ltb b 256 (h 0)) (bytes-are bs (λ i. h (suc i)))
@@ -26,9 +27,11 @@ module _ {A : Type 0} where
   isAccepted (accepted a) = true
   isAccepted (refused n) = false
 
+  -- two accepted readings are equal only with the same value
   pub accepted-value : {a b : A} → accepted a ≡ accepted b → a ≡ b
   accepted-value {a} e = ap (valueIn a) e
 
+  -- a refusal is no accepted reading
   pub refused-not {ℓ} : {C : Type ℓ} {n : ℕ} {a : A} → _≡_ {A = Reading A} (refused n) (accepted a) → C
   refused-not e = absurd (subst (λ r. T (not (isAccepted r))) e tt)
 
@@ -36,6 +39,7 @@ module _ {A : Type 0} where
   numberIn (accepted a) = 0
   numberIn (refused n) = n
 
+  -- two refusals are equal only with the same number
   pub refused-number : {n k : ℕ} → _≡_ {A = Reading A} (refused n) (refused k) → n ≡ k
   refused-number e = ap numberIn e
 
@@ -44,6 +48,7 @@ module _ {A : Type 0} where
   refuse-other true n d e = absurd (d (refused-number e))
   refuse-other false n d e = e
 
+  -- what was accepted past a refusal was not refused there: the test said no, and what comes behind it was accepted
   pub refuse-read : (b : Bool) (n : ℕ) {r : Reading A} {a : A} → refuseIf b n r ≡ accepted a → T (not b) × (r ≡ accepted a)
   refuse-read true n e = refused-not e
   refuse-read false n e = (tt, e)
@@ -54,17 +59,21 @@ module _ {A : Type 0} where
 
 -- ---- a field, and a whole file
 module _ {A : Type 0} where
+  -- two accepted fields are equal only with the same value
   pub read-value : {a b : A} {cs bs : List ℕ} → _≡_ {A = Reading (A × List ℕ)} (accepted (a, cs)) (accepted (b, bs)) → a ≡ b
   read-value e = ap (λ (w : A × List ℕ). w .0) (accepted-value e)
 
+  -- two accepted fields are equal only with the same bytes behind them
   pub read-rest : {a b : A} {cs bs : List ℕ} → _≡_ {A = Reading (A × List ℕ)} (accepted (a, cs)) (accepted (b, bs)) → cs ≡ bs
   read-rest e = ap (λ (w : A × List ℕ). w .1) (accepted-value e)
 
+  -- an accepted file was read to its end
   pub whole-accepted : (r : Reading (A × List ℕ)) {a : A} → whole r ≡ accepted a → r ≡ accepted (a, [])
   whole-accepted (accepted (a, [])) e = ap (λ z. accepted (z, [])) (accepted-value e)
   whole-accepted (accepted (a, x ∷ bs)) e = refused-not e
   whole-accepted (refused n) e = refused-not e
 
+-- two fields were accepted together: the first was, and the second was on the bytes behind it
 pub then-read : {A B : Type 0} (r : Reading (A × List ℕ)) (f : A → List ℕ → Reading (B × List ℕ)) {b : B} {bs : List ℕ} → (r then f) ≡ accepted (b, bs)
     → (a : A) × (mid : List ℕ) × (r ≡ accepted (a, mid)) × (f a mid ≡ accepted (b, bs))
 then-read (accepted (a, mid)) f e = (a, mid, refl, e)
@@ -80,10 +89,12 @@ twoBytes-read (x ∷ []) e = refused-not e
 twoBytes-read (x ∷ y ∷ bs) e = ap₂ (λ (w : ℕ × ℕ) zs. w .0 ∷ w .1 ∷ zs) (read-value e) (read-rest e)
 
 -- ---- the agreement
+-- for values of which P holds: bytes that are read are what is written of the value and the rest, and what is written is read back
 pub record Reads {A : Type 0} (read : List ℕ → Reading (A × List ℕ)) (write : A → List ℕ) (P : A → Type 0) : Type 0 where
   pub back : (bs : List ℕ) (a : A) (rest : List ℕ) → T (isBytes bs) → read bs ≡ accepted (a, rest) → (bs ≡ write a ++ rest) × P a
   pub forth : (a : A) (rest : List ℕ) → P a → read (write a ++ rest) ≡ accepted (a, rest)
 
+-- what stands behind some bytes of a file is bytes
 pub bytes-rest : (cs bs : List ℕ) → T (isBytes (cs ++ bs)) → T (isBytes bs)
 bytes-rest [] bs t = t
 bytes-rest (a ∷ cs) bs t = bytes-rest cs bs (and-r (ltb a 256) (isBytes (cs ++ bs)) t)
@@ -92,6 +103,7 @@ bytes-rest (a ∷ cs) bs t = bytes-rest cs bs (and-r (ltb a 256) (isBytes (cs ++
 pub rest-bytes : (cs rest : List ℕ) {bs : List ℕ} → bs ≡ cs ++ rest → T (isBytes bs) → T (isBytes rest)
 rest-bytes cs rest e t = bytes-rest cs rest (subst (λ z. T (isBytes z)) e t)
 
+-- what was accepted past a check met no refusal there, and what comes behind it was accepted
 pub refuseBy-read : {A : Type 0} (n : ℕ) {r : Reading (A × List ℕ)} {a : A} {bs : List ℕ} → refuseBy n r ≡ accepted (a, bs) → (n ≡ 0) × (r ≡ accepted (a, bs))
 refuseBy-read zero e = (refl, e)
 refuseBy-read (suc n) e = refused-not e
@@ -145,6 +157,7 @@ module _ {S A : Type 0} {field : List ℕ → Reading (A × List ℕ)} {write : 
       ∙ refuseBy-no (check s x) (more s x (length xs) (gather write xs ++ rest)) (k .0)
       ∙ ap (λ r. r then (λ xs rest. accepted (x ∷ xs, rest))) (each-forth (next s x) xs rest (p .1) (k .1))
 
+  -- n fields in a row, each within its check, are read as they are written one behind the other
   pub each : (n : ℕ) (s : S) → Reads (readEach field check next n s) (gather write) (λ xs. (length xs ≡ n) × All P xs × Passes check next s xs)
   each n s = record {
     back = λ bs xs rest t e. given (each-back n s bs xs rest t e) (λ (w, l, p, k). (w, (l, p, k)));

@@ -49,15 +49,19 @@ module _ (r : Roster) (ok : T (fits r)) where
   pub ns-small : ns ≤ nodeLimit
   ns-small = given (fits-parts r ok) (λ ((q, u, l, v), n). leb→le ns nodeLimit (and-l (leb ns nodeLimit) _ q))
 
+  -- at most 32 stands
   pub nt-small : nt ≤ nodeLimit
   nt-small = given (fits-parts r ok) (λ ((q, u, l, v), n). leb→le nt nodeLimit (and-l (leb nt nodeLimit) _ u))
 
+  -- a list for each surveyor
   pub lists-count : length (r .listsS) ≡ ns
   lists-count = given (fits-parts r ok) (λ ((q, u, (l, a, k), v), n). l)
 
+  -- a list for each stand
   pub rankings-count : length (r .listsT) ≡ nt
   rankings-count = given (fits-parts r ok) (λ ((q, u, v, (l, a, k)), n). l)
 
+  -- each surveyor's list is within its limits
   pub list-fits : (i : ℕ) → i < ns → T (listFits listLimit nt (listS r i))
   list-fits i h = given (fits-parts r ok) (λ ((q, u, (l, a, k), v), n).
       all-∈ (listFits listLimit nt) (r .listsS) a (listS r i) (getD-∈ (r .listsS) i [] (omega arith)))
@@ -83,9 +87,11 @@ module _ (r : Roster) (ok : T (fits r)) where
   abbrev D : ℕ → List Entry
   D j = listT r j .tied
 
+  -- the strict and the tied entries of each stand together are a list within its limits
   pub entries-fit : (j : ℕ) → j < nt → T (listFits listLimit ns (entries (listT r j)))
   entries-fit j h = and-l (listFits listLimit ns (entries (listT r j))) (ascending noEntry (D j)) (ranking-fits j h)
 
+  -- a stand has at most 32 entries, the strict and the tied ones together
   pub strict-length : (j : ℕ) → j < nt → length (S j) + length (D j) ≤ listLimit
   strict-length j h = subst (λ k. k ≤ listLimit) (length-append (S j) (D j))
       (leb→le (length (entries (listT r j))) listLimit (and-l (leb (length (entries (listT r j))) listLimit) _ (entries-fit j h)))
@@ -124,11 +130,13 @@ module _ (r : Roster) (ok : T (fits r)) where
       )
 
   -- ---- stands: strict entries by their place, tied ones behind them
+  -- the entry of an edge in its stand's list is a strict one or a tied one
   pub strict-or-tied : (x : Edge) (a : IsEdge r x) → T (has (ofT x a) (S (a .j))) ⊎ T (has (ofT x a) (D (a .j)))
   unfolding listedBack
   strict-or-tied x a = or-case (has (ofT x a) (S (a .j))) (has (ofT x a) (D (a .j)))
       (subst T (any-append (same (ofT x a)) (S (a .j)) (D (a .j))) (back (a .i) (a .j) (a .k) (a .i-in) (a .j-in) (a .k-from) (a .k-in) (a .pair)))
 
+  -- a tied entry of a stand is not among its strict ones
   pub tied-not-strict : (x : Entry) (j : ℕ) → j < nt → T (has x (D j)) → T (not (has x (S j)))
   tied-not-strict x j h t = distinct-apart x (S j) (D j) (distinct-entries j h) t
 
@@ -178,6 +186,7 @@ module _ (r : Roster) (ok : T (fits r)) where
   unfolding instanceOf
   pairs-differ = ends-differ es (edges-ascend r)
 
+  -- the instance of a roster within the limits has what the theory asks of one
   pub lawful : Lawful (instanceOf r)
   unfolding instanceOf
   lawful = record {
@@ -206,6 +215,7 @@ module _ (r : Roster) (ok : T (fits r)) where
       no-quota : length qs ≤ v → getD qs v 0 ≡ 0
       no-quota h = List·getD-eq-default qs 0 h
 
+  -- no quota is above 8
   pub quotas-small : (v : ℕ) → (instanceOf r .quotaS v ≤ quotaLimit) × (instanceOf r .quotaT v ≤ quotaLimit)
   unfolding instanceOf
   quotas-small v = given (fits-parts r ok) (λ ((q, u, l, k), n). (

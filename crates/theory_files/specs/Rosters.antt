@@ -32,6 +32,7 @@ SectionsFit longest r = T (quotasFit (r .quotasS)) × T (quotasFit (r .quotasT))
     × listsFit longest (surveyorCount r) (standCount r) (r .listsS) × rankingsFit longest (surveyorCount r) (standCount r) (r .listsT)
 
 -- ---- `fitsBy`, taken apart and put together
+-- a roster within the limits: its four sections are, and each pair is in both lists or in neither
 pub fits-parts-by : (longest : ℕ → ℕ) (r : Roster) → T (fitsBy longest r) → SectionsFit longest r × T (bothOrNeither r)
 unfolding fitsBy
 fits-parts-by longest r t =
@@ -117,6 +118,7 @@ module _ (L : Layout) (A : Agrees L) where
   SectionsHeld r = T (quotasFit (r .quotasS)) × T (quotasFit (r .quotasT))
       × SectionFits (fitS (standCount r)) totalS (surveyorCount r) (r .listsS) × SectionFits (fitT (surveyorCount r)) totalT (standCount r) (r .listsT)
 
+  -- the layout can hold every entry of both sides' lists
   abbrev pub Held : Roster → Type 0
   Held r = T (all? (held L A) (r .listsS)) × T (all? (λ R. held L A (entries R)) (r .listsT))
 
@@ -216,14 +218,17 @@ module _ (L : Layout) (A : Agrees L) where
       ∙ ap (λ b. cond b (accepted r) (refused 8)) (T-true {b = bothOrNeither r} n))
 
   -- ---- sizes
+  -- the bytes of some entries: the layout's width for each
   pub entries-size : (xs : List Entry) → length (gather (L .bytes) xs) ≡ A .width * length xs
   entries-size [] = omega arith
   entries-size (x ∷ xs) = omega (arith, length-append (L .bytes x) (gather (L .bytes) xs), A .wide x, entries-size xs)
 
+  -- the bytes of surveyors' lists: one length byte a list, and the layout's width for each entry
   pub lists-size-by : (ls : List (List Entry)) → length (gather (entriesBytes L) ls) ≡ length ls + A .width * totalS ls
   lists-size-by [] = omega arith
   lists-size-by (xs ∷ ls) = omega (arith, length-append (entriesBytes L xs) (gather (entriesBytes L) ls), entries-size xs, lists-size-by ls)
 
+  -- the bytes of stands' lists: two length bytes a list, and the layout's width for each entry
   pub rankings-size-by : (ts : List Ranking) → length (gather (rankingBytes L) ts) ≡ 2 * length ts + A .width * totalT ts
   rankings-size-by [] = omega arith
   rankings-size-by (R ∷ ts) = omega (arith, length-append (rankingBytes L R) (gather (rankingBytes L) ts), entries-size (entries R), rankings-size-by ts)
@@ -275,18 +280,23 @@ held-shifted r = (
 )
 
 module _ (bs : List ℕ) (r : Roster) (isB : T (isBytes bs)) (e : readRoster bs ≡ accepted r) where
+  -- accepted bytes are written back the same
   pub read-write : writeRoster r ≡ bs
   read-write = read-write-by shifted in-shifted bs r isB e
 
+  -- accepted bytes are a roster within the limits
   pub read-fits : T (fits r)
   read-fits = read-fits-by shifted in-shifted bs r isB e
 
+-- a roster within the limits is accepted when it is written, and read back the same
 pub write-read : (r : Roster) → T (fits r) → readRoster (writeRoster r) ≡ accepted r
 write-read r t = write-read-by shifted in-shifted r t (held-shifted r)
 
+-- the bytes of surveyors' lists with shifts: one for each list, two for each entry
 pub lists-size : (ls : List (List Entry)) → length (gather (entriesBytes shifted) ls) ≡ length ls + 2 * totalS ls
 lists-size ls = lists-size-by shifted in-shifted ls
 
+-- the bytes of stands' lists with shifts: two for each list, two for each entry
 pub rankings-size : (ts : List Ranking) → length (gather (rankingBytes shifted) ts) ≡ 2 * length ts + 2 * totalT ts
 rankings-size ts = rankings-size-by shifted in-shifted ts
 
@@ -294,5 +304,6 @@ rankings-size ts = rankings-size-by shifted in-shifted ts
 pub roster-size : (r : Roster) → T (fits r) → length (writeRoster r) ≤ rosterSize
 roster-size r t = roster-size-by shifted in-shifted (λ count. listLimit) r t
 
+-- an accepted roster file has at most 4,262 bytes
 pub accepted-size : (bs : List ℕ) (r : Roster) → T (isBytes bs) → readRoster bs ≡ accepted r → length bs ≤ rosterSize
 accepted-size bs r t e = accepted-size-by shifted in-shifted bs r t e

@@ -147,6 +147,7 @@ module _ (r : Roster) (t : T (fits r)) (o : T (onlyFirst r)) where
 
 -- an old file has shift 1 throughout, and is within the limits of today
 module _ (f : List ℕ) (r : Roster) (isB : T (isBytes f)) (e : readRosterBy plain f ≡ accepted r) where
+  -- what surveyors list in an old file is of shift 1
   pub old-first : T (onlyFirst r)
   old-first = read-held plain in-plain f r isB e .0
 
@@ -203,6 +204,7 @@ pub old-taken : (f : List ℕ) (r : Roster) → readRosterBy plain f ≡ accepte
 unfolding toNew
 old-taken f r e = ap newRoster e
 
+-- an accepted file of shift 1 alone goes back to its bytes without shifts
 pub new-taken : (g : List ℕ) (r : Roster) → readRoster g ≡ accepted r → T (onlyFirst r) → toOld g ≡ accepted (writeRosterBy plain r)
 unfolding toOld
 new-taken g r e o = ap oldRoster e ∙ ap (λ b. cond b (accepted (writeRosterBy plain r)) (refused 19)) (T-true {b = onlyFirst r} o)
@@ -212,6 +214,7 @@ pub old-turned-away : (f : List ℕ) (n : ℕ) → readRosterBy plain f ≡ refu
 unfolding toNew
 old-turned-away f n e = ap newRoster e
 
+-- a file with shifts that is refused keeps its number on the way back
 pub new-turned-away : (g : List ℕ) (n : ℕ) → readRoster g ≡ refused n → toOld g ≡ refused n
 unfolding toOld
 new-turned-away g n e = ap oldRoster e
@@ -244,6 +247,7 @@ pub new-size : (f g : List ℕ) → T (isBytes f) → toNew f ≡ accepted g →
 new-size f g isB e = given (new-one f g isB e) (λ X.
     subst (λ z. length z ≤ rosterSize) (X .new-bytes) (roster-size (X .roster) (old-read-fits f (X .roster) isB (X .old))))
 
+-- a file that went back has at most 2,214 bytes
 pub old-size : (f g : List ℕ) → T (isBytes g) → toOld g ≡ accepted f → length f ≤ oldRosterSize
 old-size f g isB e = given (old-one f g isB e) (λ X.
     subst (λ z. length z ≤ oldRosterSize) (X .old-bytes)

@@ -57,6 +57,7 @@ counted limit {A} {body} {write} {size} {P} R = record {
 }
 
 -- ---- "Surveyors: a count byte 0 to 32, then one quota byte each, 0 to 8. Stands: likewise."
+-- the count and the quotas of a side are read as they are written, if they are within the limits
 pub nodes : Reads readNodes listBytes (λ qs. T (quotasFit qs))
 nodes = alike
     (λ qs (l, p). given (quotas→ 0 qs (omega arith) p) (λ (a, s). and-i (leb (length qs) nodeLimit) (small qs && leb (sum (λ q. q) qs) quotaSumLimit) l
@@ -68,6 +69,7 @@ nodes = alike
     )))
     (counted nodeLimit (λ n. bytes quotaCheck (λ so q. so + q) n 0))
 
+-- where each element passes, the test of the whole list does
 pub every-all : {A : Type 0} (p : A → Bool) (xs : List A) → All (λ x. T (p x)) xs → T (all? p xs)
 every-all p [] e = tt
 every-all p (x ∷ xs) e = and-i (p x) (all? p xs) (e .0) (every-all p xs (e .1))
@@ -104,9 +106,11 @@ module _ (L : Layout) (A : Agrees L) where
   abbrev pub held : List Entry → Bool
   held xs = all? (A .holds) xs
 
+  -- a list within its limits, of entries that the layout can hold
   abbrev pub listHeld : (longest count : ℕ) → List Entry → Bool
   listHeld longest count xs = held xs && listFits longest count xs
 
+  -- a stand's list within its limits, of entries that the layout can hold
   abbrev pub rankingHeld : (longest count : ℕ) → Ranking → Bool
   rankingHeld longest count R = held (entries R) && rankingFits longest count R
 
@@ -126,6 +130,7 @@ module _ (L : Layout) (A : Agrees L) where
 
   module _ (longest count : ℕ) where
     -- ---- "for each surveyor a length byte and stand numbers, best first"
+    -- a surveyor's list is read as it is written, if it is within its limits and the layout can hold its entries
     pub list : Reads (readList L longest count) (entriesBytes L) (λ xs. T (listHeld longest count xs))
     list = alike
         (λ xs (l, (h, r, f)). and-i (held xs) (listFits longest count xs) h
@@ -191,6 +196,7 @@ module _ (L : Layout) (A : Agrees L) where
         ∙ ap (λ r. r then paired (R .strict))
         (tied-part count (R .strict) (length (R .tied)) .forth (R .tied) rest (refl, (and-r (held (R .strict)) (held (R .tied)) h, r′, f′, u)))))
 
+    -- a stand's list is read as it is written, if it is within its limits and the layout can hold its entries
     pub ranking : Reads (readRanking L longest count) (rankingBytes L) (λ R. T (rankingHeld longest count R))
     ranking = record { back = ranking-back; forth = ranking-forth }
 
@@ -265,5 +271,6 @@ module _ {A : Type 0} {field : List ℕ → Reading (A × List ℕ)} {write : A 
       same true t = tt
       same false t = absurd t
 
+  -- a section is read back as it was written, and written as it was read
   pub section : Reads (readSection field total n) sectionBytes Fits
   section = record { back = section-back; forth = section-forth }

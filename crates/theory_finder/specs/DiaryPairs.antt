@@ -16,25 +16,11 @@ use Rattle.model.specs.Edges.{Edge, edgesOf, edgeAt, noEdge, instanceOf}
 use Rattle.model.specs.Instance.{Instance}
 use Rattle.model.specs.Reduction.{Rule, Step, rules, stepsOf, endOf}
 use Rattle.model.specs.PlanFile.{Named, nameOf}
-use Rattle.model.specs.Finder.{Record, recordOf, diaryOf}
+use Rattle.model.specs.Finder.{Record, recordOf, diaryOf, PairOf, pairIn}
 use Rattle.theory_reduction.specs.Course.{steps-below, steps-once, end-quiet}
 use Rattle.theory_reduction.specs.RuleNumbers.{names}
 use Rattle.theory_files.specs.Ascending.{IsEdge, edge-is}
 use Rattle.theory_files.specs.RosterInstance.{pairs-differ}
-
--- a pair of the roster: surveyor i and stand j, whose numbers are one more, in a shift from 1 to 3
-pub record PairOf (r : Roster) (p : Named) : Type 0 where
-  pub i : ℕ
-  pub j : ℕ
-  pub pair : T (listed r i j (p .shift))
-  pub surveyor-is : p .surveyor ≡ suc i
-  pub stand-is : p .stand ≡ suc j
-  pub shift-from : 1 ≤ p .shift
-  pub shift-in : p .shift ≤ shiftLimit
-
--- the numbers of a record's pair
-abbrev pub pairIn : Record → Named
-pairIn x = record { surveyor = x .surveyor; stand = x .stand; shift = x .shift }
 
 -- a fact of every element of a list
 abbrev Every : (Rule → Type 0) → List Rule → Type 0
@@ -67,6 +53,7 @@ module _ (r : Roster) (ok : T (fits r)) where
       shift-is : {x : Edge} (a : IsEdge r x) → x .shift ≡ a .k
       shift-is a = ap (λ y. y .shift) (a .is)
 
+  -- each record of the diary names a pair of the roster
   pub diary-pairs : (x : Record) → x ∈ diaryOf G → PairOf r (pairIn x)
   unfolding diaryOf
   diary-pairs x k =
@@ -87,6 +74,7 @@ module _ (r : Roster) (ok : T (fits r)) where
     once ss (λ t n. h t (List·Memᴰ·tail n)) (u .1),
   )
 
+  -- no two records name the same pair
   pub diary-once : Nodup (map pairIn (diaryOf G))
   unfolding diaryOf
   diary-once = once (stepsOf G) (steps-below G) (steps-once G)
@@ -99,5 +87,6 @@ module _ (r : Roster) (ok : T (fits r)) where
   unfolding rules names
   silent = (end-quiet G 1, (end-quiet G 2, (end-quiet G 3, (end-quiet G 4, (end-quiet G 5, (end-quiet G 6, (end-quiet G 7, tt)))))))
 
+  -- at the end none of the rules names a pair that remains
   pub diary-all : (R : Rule) → R ∈ rules G (endOf G) → (e : ℕ) → e < G .m → T (endOf G .rem e) → T (not (R .names e))
   diary-all R = every Silent (rules G (endOf G)) silent R

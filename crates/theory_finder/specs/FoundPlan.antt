@@ -20,7 +20,7 @@ use Rattle.model.specs.Plans.{Plan, on, choices, within, plansOf, Verdict, stro
 use Rattle.model.specs.PlanFile.{edgesIn, planOf}
 use Rattle.model.specs.Reduction.{endOf}
 use Rattle.model.specs.Blocking.{yields, blocks, someBlocks}
-use Rattle.model.specs.Finder.{leftOf, candidateOf, Found, plan, left, rivalled, found, isEmpty, finderOf}
+use Rattle.model.specs.Finder.{leftOf, candidateOf, Found, plan, left, rivalled, handsBack, found, isEmpty, finderOf}
 use Rattle.theory_instance.specs.Lawful.{Lawful}
 use Rattle.theory_instance.specs.Walk.{NoBad}
 use Rattle.theory_verdict.specs.Strong.{Strong}
@@ -43,12 +43,6 @@ module _ (G : Instance) where
   Answers (plan M) = strongPlans G ≡ M ∷ []
   Answers (left es) = (strongPlans G ≡ []) × (es ≡ leftOf G) × (es ≢ [])
   Answers (rivalled F N v) = (strongPlans G ≡ []) × (leftOf G ≡ []) × (F ≡ candidateOf G) × (v ≡ voteOf G F N)
-
--- it hands back a plan
-abbrev pub handsBack : Found → Bool
-handsBack (plan M) = true
-handsBack (left es) = false
-handsBack (rivalled F N v) = false
 
 module _ (G : Instance) (L : Lawful G) where
   -- ---- a strong plan, by the votes against all plans, is strong against all matchings
@@ -73,6 +67,7 @@ module _ (G : Instance) (L : Lawful G) where
       given (∈-keep (endOf G .rem) (range 0 (G .m)) h)
       (λ (r, t). left-none L (plan-matching G L k) (strong-walks M k e) d (given (∈-range (G .m) 0 r .1) (λ l. omega arith)) t)))
 
+  -- the fixed pairs are a plan within the quotas
   pub candidate-plan : candidateOf G ∈ plansOf G
   unfolding candidateOf
   candidate-plan = matching-plan G (end-matching G)
@@ -106,6 +101,7 @@ module _ (G : Instance) (L : Lawful G) where
   fixed-rivalled h = no-element (strongPlans G) (λ M m. h (ap (verdictOf G) (sym (the-candidate M m)) ∙ strong-member M m .1))
 
   -- ---- the finder's answer
+  -- what the finder answers, whichever rival it names, is so of the strongly popular plans
   pub finder-answers : (rivalOf : Plan → Plan) → Answers G (finderOf G rivalOf)
   unfolding finderOf
   finder-answers rivalOf = by-left (leftOf G) refl

@@ -16,6 +16,7 @@ use Rattle.model.specs.Instance.{Instance}
 use Rattle.model.specs.Blocking.{blocks, someBlocks, above, isTop, topOf, topBlocking}
 use Rattle.theory_instance.specs.Lawful.{Lawful}
 
+-- an edge's place in the order in which blocking pairs are named: by surveyor, then by the rank there
 abbrev pub key : (sv rank : ℕ → ℕ) → ℕ → ℕ
 key sv rank e = sv e * emptyRank + rank e
 
@@ -76,6 +77,7 @@ module _ (sv rank : ℕ → ℕ) (m : ℕ) (p : ℕ → Bool) (placed : (e : ℕ
       (λ n. n))))
       (T-true (top-here e l t least)) l
 
+  -- where no edge passes, m is named, the number behind all edges
   pub top-none : ((d : ℕ) → d < m → T (not (p d))) → topOf sv rank m p ≡ m
   top-none none = low-none tops m (λ d l. T-false (nand-i (p d) (not (any? (before d) (upTo m))) (none d l)))
 
@@ -109,6 +111,7 @@ module _ (G : Instance) (M : ℕ → Bool) (placed : (e : ℕ) → e < G .m → 
       T-true (⊎-elim (λ y. y .0) (λ n. absurd (T-not (blocks G M top) (n .1 top (upTo-∈ (G .m) top h)) (and-l (blocks G M top) _ t)))
       (any-or (blocks G M) (upTo (G .m))))
 
+  -- what is named is no edge: then no edge blocks
   pub top-behind : G .m ≤ top → someBlocks G M ≡ false
   unfolding someBlocks
   top-behind h = T-false (⊎-elim

@@ -16,6 +16,7 @@ use Rattle.theory_instance.specs.Lawful.{Lawful}
 use Rattle.theory_offers.specs.NextOffer.{In, Next, keeps-none, keeps-some}
 
 module _ (G : Instance) (L : Lawful G) (strict : (e : ℕ) → e < G .m → T (not (G .tied e))) where
+  -- what holds after every offer of the pairs that are kept and of those turned away
   pub record Kept (z : Offers) : Type 0 where
     pub oneS : (d e : ℕ) → In G z d → In G z e → G .sv d ≡ G .sv e → d ≡ e
     pub oneT : (d e : ℕ) → In G z d → In G z e → G .st d ≡ G .st e → d ≡ e
@@ -146,6 +147,7 @@ module _ (G : Instance) (L : Lawful G) (strict : (e : ℕ) → e < G .m → T (n
     abbrev d : ℕ
     d = keptAt G z e
 
+    -- an offer keeps this, and more pairs were offered than before it
     pub further : Further z (offered G z e)
     unfolding tried
     further = if-ind (Further z) (leb (G .m) d)

@@ -18,6 +18,7 @@ module _ (G : Instance) (z : Offers) where
   In e = (e < G .m) × T (z .kept e)
 
   -- ---- who offers, and what
+  -- e was not turned away, its surveyor has no stand, and all that the surveyor ranks before e was turned away
   pub record Next (e : ℕ) : Type 0 where
     pub unasked : T (z .away e) → ⊥
     pub alone : (d : ℕ) → In d → G .sv d ≡ G .sv e → ⊥
@@ -29,6 +30,7 @@ module _ (G : Instance) (z : Offers) where
   abbrev own : ℕ → ℕ → Bool
   own e d = z .kept d && eqb (G .sv d) (G .sv e)
 
+  -- a pair that passes the test: it was not turned away, its surveyor has no stand, and all that is ranked before it was turned away
   pub next→ : (e : ℕ) → T (nextOffer G z e) → Next e
   next→ e t = record {
     unasked = λ s. T-not (z .away e) (and-l (not (z .away e)) (free G z e && bestLeft G z e) t) s;
@@ -44,6 +46,7 @@ module _ (G : Instance) (z : Offers) where
       rest : T (free G z e && bestLeft G z e)
       rest = and-r (not (z .away e)) (free G z e && bestLeft G z e) t
 
+  -- a pair of which this holds passes the test
   pub →next : (e : ℕ) → Next e → T (nextOffer G z e)
   →next e x = and-i (not (z .away e)) (free G z e && bestLeft G z e) (not-T (z .away e) (x .unasked)) (and-i (free G z e) (bestLeft G z e)
       (⊎-elim (λ (t, (d, m, s)). absurd (x .alone d (upTo-< (G .m) m, and-l (z .kept d) (eqb (G .sv d) (G .sv e)) s)

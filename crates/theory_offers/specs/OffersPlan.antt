@@ -17,7 +17,7 @@ use Rattle.lists.specs.Integer.{sub-≤}
 use Rattle.model.specs.Instance.{Instance, Side, surveyors, stands, deg}
 use Rattle.model.specs.Plans.{Plan, on, plansOf, samePlan, voteOf, isStrong, verdictOf, strongPlans}
 use Rattle.model.specs.Blocking.{yields, blocks, someBlocks}
-use Rattle.model.specs.Finder.{Found, plan, left, rivalled, finderOf}
+use Rattle.model.specs.Finder.{Found, plan, left, rivalled, finderOf, handsBack}
 use Rattle.model_files.specs.Offers.{Offers, offersFrom, noOffers, offersPlan}
 use Rattle.theory_instance.specs.Lawful.{Lawful, Within, Matching, Same}
 use Rattle.theory_instance.specs.Degree.{deg-sub, deg-some, deg-only, deg-cong}
@@ -25,7 +25,7 @@ use Rattle.theory_votes.specs.Score.{tally, quotas}
 use Rattle.theory_votes.specs.Signed.{vote-tally}
 use Rattle.theory_votes.specs.PlanVotes.{vote-same}
 use Rattle.theory_verdict.specs.Plans.{same-plan, plan-matching, matching-plan, planOf-same}
-use Rattle.theory_finder.specs.FoundPlan.{Answers, handsBack, strong-member, finder-answers}
+use Rattle.theory_finder.specs.FoundPlan.{Answers, strong-member, finder-answers}
 use Rattle.theory_finder.specs.OnlyPopular.{others-below}
 use Rattle.theory_offers.specs.KeptOffers.{Kept}
 use Rattle.theory_offers.specs.OffersEnd.{offers-end, unblocked}
@@ -89,6 +89,7 @@ module _ (G : Instance) (L : Lawful G) (O : OneToOne G) where
   unfolding offersPlan z
   same-kept = planOf-same G (z .kept)
 
+  -- the plan of the offers is within the quotas
   pub offers-plan : offersPlan G ∈ plansOf G
   unfolding offersPlan z
   offers-plan = matching-plan G kept-matching

@@ -27,12 +27,15 @@ use Rattle.theory_files.specs.ByLists.{list-range, ranking-list, fits-lists}
 use Rattle.theory_offers.specs.OffersPlan.{OneToOne}
 
 -- ---- the instance's own test
+-- each of n quotas is one
 unfoldable pub eachOne : (ℕ → ℕ) → ℕ → Bool
 eachOne q n = all? (λ v. eqb (q v) 1) (upTo n)
 
+-- no edge is tied, and each is in shift 1
 unfoldable pub plainEdges : (ℕ → Bool) → (ℕ → ℕ) → ℕ → Bool
 plainEdges tied sh m = all? (λ e. not (tied e) && eqb (sh e) 1) (upTo m)
 
+-- all quotas are one, and no edge is tied or in another shift than 1
 abbrev pub unitary : Instance → Bool
 unitary G = (eachOne (G .quotaS) (G .ns) && eachOne (G .quotaT) (G .nt)) && plainEdges (G .tied) (G .sh) (G .m)
 
@@ -160,6 +163,7 @@ module _ (r : Roster) (ok : T (fits r)) where
       given (λ e h. eqb→eq (edgeAt es e .shift) 1 (and-r (not (edgeAt es e .tied)) (eqb (edgeAt es e .shift) 1) (a e h)))
       (λ (c : (e : ℕ) → e < length es → edgeAt es e .shift ≡ 1). and-i (untied r) (onlyFirst r) (roster-untied b c) (roster-first b c)))))
 
+  -- a roster within the limits is of the profile exactly if its instance passes this test
   pub profile-is : oneToOne r ≡ unitary (instanceOf r)
   unfolding oneToOne instanceOf
   profile-is = ap (λ b. b && (untied r && onlyFirst r)) (ap (λ b. b && allOne (r .quotasT)) (quotas-one (r .quotasS))

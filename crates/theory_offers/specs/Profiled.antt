@@ -15,13 +15,12 @@ use Rattle.model.specs.Instance.{Instance}
 use Rattle.model.specs.Plans.{Plan, on, plansOf, voteOf, isStrong, verdictOf}
 use Rattle.model.specs.PlanFile.{planBytes}
 use Rattle.model.specs.Blocking.{someBlocks}
-use Rattle.model.specs.Finder.{plan, finderOf}
+use Rattle.model.specs.Finder.{plan, finderOf, handsBack}
 use Rattle.model_files.specs.Offers.{offersPlan}
 use Rattle.model_files.specs.Profile.{oneToOne, ofProfile, readProfile}
 use Rattle.theory_instance.specs.Lawful.{Lawful}
 use Rattle.theory_files.specs.Rosters.{read-fits}
 use Rattle.theory_files.specs.RosterInstance.{lawful}
-use Rattle.theory_finder.specs.FoundPlan.{handsBack}
 use Rattle.theory_offers.specs.OffersPlan.{OneToOne, offers-plan, no-blocking, no-vote-below, strong-when, finder-same}
 use Rattle.theory_offers.specs.ProfileInstance.{profile-instance}
 
@@ -73,6 +72,7 @@ pub profile-read : (f : List ℕ) (r : Roster) → readProfile f ≡ accepted r 
 unfolding readProfile
 profile-read f r e = taken-is (readRoster f) r e
 
+-- of every file that the profile takes, this holds of the plan of the offers
 pub profile-offered : (f : List ℕ) → T (isBytes f) → (r : Roster) → readProfile f ≡ accepted r → (rival : Plan → Plan) → Offered (instanceOf r) rival
 profile-offered f isB r e rival =
     let (a, t) = profile-read f r e in

@@ -19,6 +19,7 @@ use Rattle.theory_ranges.specs.Counted.{lower}
 use Rattle.theory_ranges.specs.RosterSums.{entry, sum-at, surveyor-sum}
 use Rattle.theory_ranges.specs.RosterPlaces.{rankS-is, place-S, whole-S}
 
+-- the edges come by surveyor, ranks count from 1, and an edge's entry stands behind all edges of lower surveyors, at its rank less one
 pub record InOrder (G : Instance) : Type 0 where
   pub ascends : (d e : ℕ) → d < e → e < G .m → G .sv d ≤ G .sv e
   pub first : (e : ℕ) → e < G .m → 1 ≤ G .rankS e
@@ -28,6 +29,7 @@ module _ (r : Roster) (ok : T (fits r)) where
   abbrev at : ℕ → Edge
   at e = edgeAt (edgesOf r) e
 
+  -- the instance of a roster within the limits is so
   pub in-order : InOrder (instanceOf r)
   unfolding instanceOf count placeS
   in-order = record {

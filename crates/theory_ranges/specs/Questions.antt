@@ -28,6 +28,7 @@ pub record Sound (r : Roster) (q : Question) : Type 0 where
   pub ranges : Fit (q .ranges)
 
 module _ (r : Roster) (a b c : List ℕ) (ia : T (isBytes a)) (ib : T (isBytes b)) (q : Question) (e : readQuestion r a b c ≡ accepted q) where
+  -- a question that is read has two plans within the quotas, and ranges that fit
   pub question-sound : Sound r q
   unfolding readQuestion
   question-sound = first (readPlan (instanceOf r) a) refl e
@@ -50,11 +51,13 @@ module _ (r : Roster) (a b c : List ℕ) (ia : T (isBytes a)) (ib : T (isBytes b
       first (accepted M) z e = second M (plan-read-within (instanceOf r) a M ia z) (readPlan (instanceOf r) b) refl e
       first (refused n) z e = refused-not e
 
+-- the choice that is written for a question is within its ranges and reaches the least vote
 pub choice-holds : (r : Roster) → T (fits r) → (a b c : List ℕ) → T (isBytes a) → T (isBytes b) → (q : Question) → readQuestion r a b c ≡ accepted q
     → Least r (q .ranges) (q .first) (q .second) (voteOf (ranked r (choiceFor r q)) (q .first) (q .second)) (choiceFor r q)
 choice-holds r ok a b c ia ib q e = let s = question-sound r a b c ia ib q e in least-holds r ok (q .first) (q .second) (s .first) (s .second) (q .ranges)
     (s .ranges)
 
+-- where each range is settled at the roster's own rank, the vote under that choice is the ordinary vote
 pub settled-holds : (r : Roster) → T (fits r) → (a b c : List ℕ) → T (isBytes a) → T (isBytes b) → (q : Question) → readQuestion r a b c ≡ accepted q
     → q .ranges ≡ map settledAt (rosterRanks r)
     → voteOf (ranked r (choiceFor r q)) (q .first) (q .second) ≡ voteOf (instanceOf r) (q .first) (q .second)

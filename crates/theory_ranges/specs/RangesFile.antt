@@ -68,9 +68,11 @@ ranges-read (suc n) (x ∷ y ∷ bs) = go (rangeCheck (x, y)) (ranges-read n bs)
     go zero ih = more (x, y) (readIn n bs) (rangesRefusal n bs) (pairsIn n bs) ih
     go (suc c) ih = refl
 
+-- the n ranges in front of the file, low and high
 abbrev pub rangesOf : ℕ → List ℕ → List Range
 rangesOf n bs = map rangeOf (pairsIn n bs)
 
+-- the model's reading of the file: that refusal, or those ranges where it is 0
 pub read-is : (r : Roster) (bs : List ℕ) → readRanges r bs ≡ readingBy (rangesRefusal (entryCount r) bs) (rangesOf (entryCount r) bs)
 unfolding readRanges
 read-is r bs = ap rangesIn (ranges-read (entryCount r) bs) ∙ go (rangesRefusal (entryCount r) bs)
@@ -110,6 +112,7 @@ step : (P : ℕ → Type 0) (n : ℕ) → P 0 → ((k : ℕ) → k < n → P (su
 step P n z s zero h = z
 step P n z s (suc k) h = s k (omega arith)
 
+-- what holds of a file that meets no refusal
 pub taken : (n : ℕ) (bs : List ℕ) → rangesRefusal n bs ≡ 0 → Taken n bs
 unfolding rangesRefusal pairsIn
 taken zero [] e = record {
@@ -147,6 +150,7 @@ taken (suc n) (x ∷ y ∷ bs) e =
     two-one : (k : ℕ) → at (2 * suc k + 1) ≡ getD bs (2 * k + 1) 0
     two-one k = let q : 2 * suc k + 1 ≡ suc (suc (2 * k + 1)) = omega arith in ap at q
 
+-- its ranges fit: no low above its high, no high above 32
 pub taken-fit : (n : ℕ) (bs : List ℕ) → Taken n bs → Fit (rangesOf n bs)
 taken-fit n bs t k h =
     let l : k < n = omega (arith, t .each) in
@@ -157,6 +161,7 @@ module _ (n : ℕ) (f : List ℕ) (k : ℕ) (h : k < n) where
   turns : rangesRefusal (n - k) (drop (2 * k) f) ≡ rangesRefusal (suc (n - (k + 1))) (drop (2 * k) f)
   turns = let e : n - k ≡ suc (n - (k + 1)) = omega arith in ap (λ t. rangesRefusal t (drop (2 * k) f)) e
 
+  -- the file ends inside range k: what is left of it meets 1
   pub ranges-cut : length f < 2 * k + 2 → rangesRefusal (n - k) (drop (2 * k) f) ≡ 1
   unfolding rangesRefusal
   ranges-cut l = turns ∙ go (drop (2 * k) f) (omega (arith, length-drop (2 * k) f))
@@ -166,6 +171,7 @@ module _ (n : ℕ) (f : List ℕ) (k : ℕ) (h : k < n) where
       go (x ∷ []) l = refl
       go (x ∷ y ∷ bs) l = absurd (omega arith)
 
+  -- range k is there: its own refusal comes first, and then that of the ranges behind it
   pub ranges-next : 2 * k + 2 ≤ length f → rangesRefusal (n - k) (drop (2 * k) f)
       ≡ orElse (rangeCheck (getD f (2 * k) 0, getD f (2 * k + 1) 0)) (rangesRefusal (n - (k + 1)) (drop (2 * (k + 1)) f))
   unfolding rangesRefusal
@@ -185,6 +191,7 @@ pub ranges-over : (f : List ℕ) (k : ℕ) → 2 * k < length f → rangesRefusa
 unfolding rangesRefusal
 ranges-over f k l = ap (rangesRefusal 0) (drop-cons f (2 * k) 0 l)
 
+-- with no range left and no byte left there is no refusal
 pub ranges-end : (f : List ℕ) (k : ℕ) → length f ≤ 2 * k → rangesRefusal 0 (drop (2 * k) f) ≡ 0
 unfolding rangesRefusal
 ranges-end f k l = ap (rangesRefusal 0) (drop-of-length-le f l)

@@ -42,6 +42,7 @@ module _ (G : Instance) where
   abbrev pub entryS : ℕ → ℕ
   entryS e = placeIn (G .m) (G .sv) (G .rankS) e
 
+  -- where an edge's entry in its stand's list stands: behind the surveyors' entries
   abbrev pub entryT : ℕ → ℕ
   entryT e = G .m + placeIn (G .m) (G .st) (G .rankT) e
 
@@ -60,17 +61,21 @@ module _ (G : Instance) where
   abbrev pub worstAt : (N : ℕ → Bool) (es : List ℕ) → List Range → ℕ → ℕ
   worstAt N es rs k = cond (raised N es k) (rangeAt rs k .high) (rangeAt rs k .low)
 
+  -- a rank for each range: the high one at both entries of each edge of the list that N lacks, the low one everywhere else
   unfoldable pub worstBy : (N : ℕ → Bool) (es : List ℕ) → List Range → List ℕ
   worstBy N es rs = map (worstAt N es rs) (range 0 (length rs))
 
+  -- the same for the edges of a set M: the choice that reaches the least vote
   abbrev pub worstChoice : (M N : ℕ → Bool) → List Range → List ℕ
   worstChoice M N rs = worstBy N (edgesIn (G .m) M) rs
 
   module _ (N : ℕ → Bool) (es : List ℕ) (rs : List Range) where
+    -- it has a rank for each range
     pub worst-length : length (worstBy N es rs) ≡ length rs
     unfolding worstBy
     worst-length = length-map (range 0 (length rs)) (worstAt N es rs) ∙ range-length 0 (length rs)
 
+    -- and at each place the rank that is taken there
     pub worst-is : (k : ℕ) → k < length rs → getD (worstBy N es rs) k 0 ≡ worstAt N es rs k
     unfolding worstBy
     worst-is k h = made-at (worstAt N es rs) (length rs) k h

@@ -154,5 +154,6 @@ Welcome K M f = (deg K M (K .end f) < K .quota (K .end f)) ⊎ ((x : ℕ) × (x 
 blocks : (K : Side) (M : ℕ → Bool) (f : ℕ) → Welcome K M f → Blocks K M M f
 blocks K M f = ⊎-map (λ r. r) (λ (x, l, t, i, w). (x, record { lt = l; mem = t; left = t }, i, w))
 
+-- no edge outside a plan that Lemma W holds of is welcome at both its ends
 pub no-blocking : {G : Instance} {M : ℕ → Bool} → NoBad G M → (f : ℕ) → f < G .m → T (not (M f)) → Welcome (surveyors G) M f → Welcome (stands G) M f → ⊥
 no-blocking {G} {M} W f l n s t = no-both-block W f (l, n) (blocks (surveyors G) M f s) (blocks (stands G) M f t)

@@ -30,12 +30,15 @@ module _ (K : Side) (rem : ℕ → Bool) where
   abbrev pub Ahead : ℕ → ℕ → Bool
   Ahead r d = strictLeft K rem d && ltb (K .rank d) r
 
+  -- an edge ahead of a rank remains, is strict, and is better
   pub ahead-is : (r d : ℕ) → T (Ahead r d) → T (rem d) × T (not (K .tie d)) × (K .rank d < r)
   ahead-is r d t = (search parts, search parts, ltb→lt (K .rank d) r (search parts))
 
+  -- a strict remaining edge that is better than a rank is ahead of it
   pub is-ahead : (r d : ℕ) → T (rem d) → T (not (K .tie d)) → K .rank d < r → T (Ahead r d)
   is-ahead r d a b h = and-i (strictLeft K rem d) (ltb (K .rank d) r) (and-i (rem d) (not (K .tie d)) a b) (lt→ltb (K .rank d) r h)
 
+  -- at a node no fewer edges are ahead of a worse rank
   pub ahead-mono : (v r s : ℕ) → r ≤ s → ahead K rem v r ≤ ahead K rem v s
   unfolding ahead
   ahead-mono v r s h = deg-sub K (Ahead r) (Ahead s) v (λ d l i t. given (ahead-is r d t) (λ (a, b, c). is-ahead s d a b (omega arith)))
@@ -76,6 +79,7 @@ module _ (K : Side) (rem : ℕ → Bool) where
     unfolding arrow
     arrow-rem e t = search parts
 
+    -- an arrow goes along a strict edge
     pub arrow-strict : (e : ℕ) → T (a e) → T (not (K .tie e))
     unfolding arrow
     arrow-strict e t = search parts

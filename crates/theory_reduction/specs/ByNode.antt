@@ -20,6 +20,7 @@ and-same : (a b c : Bool) → (T a → b ≡ c) → a && b ≡ a && c
 and-same true b c h = h tt
 and-same false b c h = refl
 
+-- tests that agree on the edges of a node find the same lowest edge there
 pub lowestAt-cong : (m : ℕ) (end : ℕ → ℕ) (p q : ℕ → Bool) (v : ℕ) → ((e : ℕ) → e < m → end e ≡ v → p e ≡ q e) → lowestAt m end p v ≡ lowestAt m end q v
 lowestAt-cong m end p q v h = low-cong (λ e. eqb (end e) v && p e) (λ e. eqb (end e) v && q e) m
     (λ e l. and-same (eqb (end e) v) (p e) (q e) (λ t. h e l (eqb→eq (end e) v t)))
@@ -28,14 +29,17 @@ lowestAt-cong m end p q v h = low-cong (λ e. eqb (end e) v && p e) (λ e. eqb (
 abbrev pub rule2S : Instance → State → ℕ → Bool
 rule2S G Z e = leb (cutS G Z (G .sv e)) (degS G Z (betterS G Z e) (G .sv e))
 
+-- rule 2 at the stand of e
 abbrev pub rule2T : Instance → State → ℕ → Bool
 rule2T G Z e = leb (cutT G Z (G .st e)) (degT G Z (betterT G Z e) (G .st e))
 
+-- rule 2 names an edge exactly if it does so at the surveyor or at the stand
 pub rule2-ends : (G : Instance) (Z : State) (e : ℕ) → rule2 G Z e ≡ rule2S G Z e || rule2T G Z e
 unfolding rule2
 rule2-ends G Z e = refl
 
 -- ---- arrows of one side depend on the node that they leave
+-- where the same edges remain at the node of e and its quota is the same, e has an arrow in both or in neither
 pub arrow-local : (K : Side) (rem rem′ : ℕ → Bool) (q q′ : ℕ → ℕ) (e : ℕ) → e < K .m → ((d : ℕ) → d < K .m → K .end d ≡ K .end e → rem′ d ≡ rem d)
     → q′ (K .end e) ≡ q (K .end e) → arrow K rem′ q′ e ≡ arrow K rem q e
 unfolding arrow ahead
@@ -84,6 +88,7 @@ module _ (K : Side) (rem : ℕ → Bool) (e : ℕ) where
     full s = nltb→le (ahead K rem (K .end e) (K .rank e)) (q (K .end e))
         (nand-r (strictLeft K rem e) (ltb (ahead K rem (K .end e) (K .rank e)) (q (K .end e))) n s)
 
+    -- where an edge without an arrow goes and the quotas stay, all arrows stay as they are
     pub arrow-kept : (d : ℕ) → arrow K rem′ q d ≡ arrow K rem q d
     unfolding arrow
     arrow-kept d = by-eq d e

@@ -56,6 +56,7 @@ module _ (G : Instance) (Z : State) where
     pub named : T (names G Z (ruleOf G Z) (edgeOf G Z))
     pub earlier : (k : ℕ) → k < ruleOf G Z → Quiet G Z (names G Z k)
 
+  -- a number below 8 is that of a rule that acts
   pub acts : ruleOf G Z < 8 → Acts
   unfolding ruleOf edgeOf lowest
   acts h =
@@ -82,6 +83,7 @@ module _ (G : Instance) (Z : State) where
       let t = low-is (λ e. Z .rem e && names G Z (ruleOf G Z) e) (G .m) .2 l in
       omega (arith, names-range (ruleOf G Z) (edgeOf G Z) (and-r (Z .rem (edgeOf G Z)) (names G Z (ruleOf G Z) (edgeOf G Z)) t))
 
+  -- where no edge is named, no rule acts
   pub edge-none : G .m ≤ edgeOf G Z → 8 ≤ ruleOf G Z
   edge-none h = by-cases (decLt (ruleOf G Z) 8) (λ k. absurd (omega (arith, acts k .inside))) (λ k. omega arith)
 

@@ -50,15 +50,18 @@ module _ (G : Instance) where
   pub sound-after : (n : ℕ) → Sound G (stateAfter G n (begin G))
   sound-after n = along (λ n Z ss Y. Sound G Z → Sound G Y) (λ n Z h S. S) (λ n Z ss Y h ih S. ih (next-sound G Z S h)) n (begin G) (begin-sound G)
 
+  -- what is fixed at the end is within the quotas
   pub end-matching : Matching G (endOf G .fixed)
   unfolding endOf
   end-matching = given (sound-after (G .m)) (λ S. record { atS = S .atS .within; atT = S .atT .within })
 
   -- ---- each step is that of the state before it
+  -- where a rule acts, the state after n + 1 steps is the one after n steps from the next state
   pub after-more : (n : ℕ) (Z : State) → ruleOf G Z < 8 → stateAfter G (suc n) Z ≡ stateAfter G n (next G Z)
   unfolding stateAfter next Option·elim
   after-more n Z h = ap (then-state n Z) (step-taken G Z h)
 
+  -- where a rule acts, the steps are its own and then those from the state after it
   pub steps-more : (n : ℕ) (Z : State) → ruleOf G Z < 8 → stepsFrom G (suc n) Z ≡ stepOf G Z ∷ stepsFrom G n (next G Z)
   unfolding stepsFrom next Option·elim
   steps-more n Z h = ap (then-steps n Z) (step-taken G Z h)
@@ -69,6 +72,7 @@ module _ (G : Instance) where
   after-none zero Z h = refl
   after-none (suc n) Z h = ap (then-state n Z) (no-step G Z h)
 
+  -- where no rule acts, there are no steps
   pub steps-none : (n : ℕ) (Z : State) → 8 ≤ ruleOf G Z → stepsFrom G n Z ≡ []
   unfolding stepsFrom Option·elim
   steps-none zero Z h = refl
@@ -91,6 +95,7 @@ module _ (G : Instance) where
   unfolding stepsOf
   steps-taken = all-taken (G .m) (begin G)
 
+  -- every step names an edge of the instance
   pub steps-below : (s : Step) → s ∈ stepsOf G → s .edge < G .m
   steps-below s k = given (steps-taken s k) (λ (i, A, e). subst (λ s. s .edge < G .m) (sym e) (A .inside))
 
@@ -120,10 +125,12 @@ module _ (G : Instance) where
         inside Z ss h (u, k),
       )
 
+  -- no two steps name the same edge
   pub steps-once : Nodup (map (λ s. s .edge) (stepsOf G))
   unfolding stepsOf
   steps-once = once (G .m) (begin G) .0
 
+  -- there are no more steps than edges
   pub steps-few : length (stepsOf G) ≤ G .m
   steps-few = omega (
     arith,
@@ -144,6 +151,7 @@ module _ (G : Instance) where
       stop n Z (inl z) k = by-cases (decLt (ruleOf G Z) 8) (λ h. absurd (omega (arith, next-less Z h))) (λ h. omega arith)
       stop n Z (inr h) k = h
 
+  -- at the end no rule names an edge that remains
   pub end-quiet : (r : ℕ) → Quiet G (endOf G) (names G (endOf G) r)
   unfolding endOf
   end-quiet = all-quiet G (endOf G) (done (G .m) (begin G) (count-≤ (begin G .rem) (G .m)))

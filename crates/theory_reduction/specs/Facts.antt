@@ -31,6 +31,7 @@ module _ (G : Instance) (Z : State) where
   abbrev dT : (ℕ → Bool) → ℕ → ℕ
   dT = degT G Z
 
+  -- an arrow from a surveyor goes along a remaining edge
   pub arrowS-rem : (e : ℕ) → T (aS e) → T (Z .rem e)
   arrowS-rem = arrow-rem (surveyors G) (Z .rem) (cutS G Z)
 
@@ -51,6 +52,7 @@ module _ (G : Instance) (Z : State) where
   firm-in t n h = by-cases (decLt 0 (dT aS t)) (λ k. k) (λ k.
       let z : dT aS t ≡ 0 = omega arith in absurd (T-not (ltb (dT aT t) (cutT G Z t) && eqb (dT aS t) 0) n (search whole)))
 
+  -- what is in N(s) remains
   pub reserved-rem : (e : ℕ) → T (reserved G Z e) → T (Z .rem e)
   unfolding reserved
   reserved-rem e t = search parts

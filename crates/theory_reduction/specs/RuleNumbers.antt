@@ -26,6 +26,7 @@ module _ (G : Instance) (Z : State) where
   unfoldable pub ruleOf : ℕ
   ruleOf = low (λ r. ltb (lowest r) (G .m)) 8
 
+  -- the lowest remaining edge that this rule names, m if no rule names one
   unfoldable pub edgeOf : ℕ
   edgeOf = lowest ruleOf
 
@@ -33,8 +34,10 @@ module _ (G : Instance) (Z : State) where
 unfoldable pub fateOf : ℕ → Fate
 fateOf r = getD (strike ∷ fix ∷ strike ∷ fix ∷ strike ∷ strike ∷ fix ∷ fix ∷ []) r strike
 
+-- the step of the first rule that names an edge, on the lowest that it names
 abbrev pub stepOf : Instance → State → Step
 stepOf G Z = record { fate = fateOf (ruleOf G Z); edge = edgeOf G Z; rule = ruleOf G Z }
 
+-- the state after that step
 unfoldable pub next : Instance → State → State
 next G Z = act G Z (fateOf (ruleOf G Z)) (edgeOf G Z)

@@ -54,9 +54,11 @@ module _ {G : Instance} {M : ℕ → Bool} where
   unfolding endOf
   end-sit law plan w = along G (λ n Z ss Y. Sit G Z M → Sit G Y M) (λ n Z h H. H) (λ n Z ss Y h ih H. ih (next-sit H h)) (G .m) (begin G) (begin-sit law plan w)
 
+  -- where Lemma W holds of some plan, no edge is left at the end
   pub left-none : Lawful G → Matching G M → NoBad G M → (e : ℕ) → e < G .m → T (endOf G .rem e) → ⊥
   left-none law plan w = finished (end-sit law plan w) (end-quiet G)
 
+  -- a plan that Lemma W holds of is the edges that are fixed at the end
   pub is-fixed : Lawful G → Matching G M → NoBad G M → (e : ℕ) → e < G .m → M e ≡ endOf G .fixed e
   is-fixed law plan w e l = given (end-sit law plan w) (λ H. bool-eq (M e) (endOf G .fixed e)
       (λ t. by-test (endOf G .fixed e) (λ f. f) (λ n. absurd (left-none law plan w e l (H .rest e l t n))))

@@ -27,6 +27,7 @@ pub record BothRead (first second : List ℕ) (J : Roster) : Type 0 where
   pub is : J ≡ sideBySide r q
 
 module _ (first second : List ℕ) (bytes₁ : T (isBytes first)) (bytes₂ : T (isBytes second)) where
+  -- a join that is not refused has accepted both files, has room for them together, and is the two rosters side by side
   pub join-parts : (J : Roster) → joinOf first second ≡ accepted J → BothRead first second J
   unfolding joinOf
   join-parts J e = by-first (readRoster first) refl e

@@ -33,6 +33,7 @@ abbrev noRanking : Ranking
 noRanking = record { strict = []; tied = [] }
 
 -- ---- the sums
+-- the counts of both sides and the sums of their quotas, of two rosters together, are within the limits
 pub record Room (r q : Roster) : Type 0 where
   pub countS : surveyorCount r + surveyorCount q ≤ nodeLimit
   pub countT : standCount r + standCount q ≤ nodeLimit
@@ -82,6 +83,7 @@ module _ (r q : Roster) (okr : T (fits r)) (okq : T (fits q)) where
   abbrev J : Roster
   J = sideBySide r q
 
+  -- of two rosters within the limits the model's check looks at the counts and the quotas alone
   pub sums-by-counts : sumsCheck r q ≡ sumsByCounts r q
   unfolding sumsCheck
   sums-by-counts = go (ltb nodeLimit (ns + ns′)) (ltb nodeLimit (nt + nt′)) (λ a. nltb→le nodeLimit (ns + ns′) a) (λ b. nltb→le nodeLimit (nt + nt′) b)
@@ -121,6 +123,7 @@ module _ (r q : Roster) (okr : T (fits r)) (okq : T (fits q)) where
       none false false e = (tt, tt)
 
   -- ---- the counts and the lists
+  -- the joined roster has as many surveyors and stands as both together
   pub joined-counts : (surveyorCount J ≡ ns + ns′) × (standCount J ≡ nt + nt′)
   unfolding sideBySide
   joined-counts = (length-append (r .quotasS) (q .quotasS), length-append (r .quotasT) (q .quotasT))
@@ -218,6 +221,7 @@ module _ (r q : Roster) (okr : T (fits r)) (okq : T (fits q)) where
   lists-length : {A : Type 0} (f : A → A) (xs ys : List A) → length (xs ++ map f ys) ≡ length xs + length ys
   lists-length f xs ys = length-append xs (map f ys) ∙ ap (λ n. length xs + n) (length-map ys f)
 
+  -- where there is room for both, the two side by side are a roster within the limits
   pub fits-joined : Room r q → T (fits J)
   unfolding sideBySide
   fits-joined room = given (fits-lists r okr) (λ a. given (fits-lists q okq) (λ b. lists-fit J (record {

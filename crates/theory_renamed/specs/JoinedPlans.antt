@@ -17,13 +17,12 @@ use Rattle.model.specs.Roster.{Roster, surveyorCount, standCount, fits}
 use Rattle.model.specs.Edges.{instanceOf}
 use Rattle.model.specs.Plans.{Plan, on, strongPlans, strongCount}
 use Rattle.model.specs.PlanFile.{Named, nameOf, shiftedPair, edgesIn, planBytesBy, planBytes}
-use Rattle.model.specs.Finder.{Found, plan, left, rivalled, finderOf}
+use Rattle.model.specs.Finder.{Found, plan, left, rivalled, finderOf, handsBack}
 use Rattle.model_desk.specs.History.{planPairs}
 use Rattle.model_files.specs.Districts.{sideBySide, pairUp, pairsBeside, pairsBytes}
 use Rattle.theory_files.specs.Layouts.{in-shiftedPair}
 use Rattle.theory_files.specs.PlanFiles.{bytes-are}
 use Rattle.theory_files.specs.RosterInstance.{lawful}
-use Rattle.theory_finder.specs.FoundPlan.{handsBack}
 use Rattle.theory_finder.specs.Demand3.{demand3}
 use Rattle.theory_renamed.specs.FinderAnswers.{plan-found, found-plan}
 use Rattle.theory_renamed.specs.BothStrong.{allBeside, strong-beside}
@@ -54,6 +53,7 @@ module _ (r q : Roster) (okr : T (fits r)) (okq : T (fits q)) (room : Room r q) 
   ok = fits-joined r q okr okq room
 
   -- ---- the strongly popular plans
+  -- those of the joined roster are each of the first beside each of the second
   pub strong-joined : strongPlans (instanceOf J) ≡ allBeside (strongPlans G) (strongPlans H)
   strong-joined = strong-beside (instanceOf J) G H (surveyors-beside r q okr okq) (stands-beside r q okr okq) (lawful J ok) (lawful r okr) (lawful q okq)
 
@@ -72,6 +72,7 @@ module _ (r q : Roster) (okr : T (fits r)) (okq : T (fits q)) (room : Room r q) 
       ∙ ap (map (λ e. G .m + e)) (keep-cong (λ e. on (M ++ N) (G .m + e)) (on N) (range 0 (H .m)) (λ e m.
       ap (λ n. getD (M ++ N) (n + e) false) (sym l) ∙ getD-append-add M N e false))
 
+  -- the pairs of a plan of the first with one of the second behind it: the first's pairs, then the second's, moved up
   pub pairs-joined : (M N : Plan) → length M ≡ G .m → planPairs (instanceOf J) (M ++ N) ≡ pairsBeside r (planPairs G M) (planPairs H N)
   pairs-joined M N l =
       let name : ℕ → Named = nameOf (instanceOf J) in
@@ -91,15 +92,18 @@ module _ (r q : Roster) (okr : T (fits r)) (okq : T (fits q)) (room : Room r q) 
       below : (n : ℕ) (p : ℕ → Bool) {e : ℕ} → e ∈ edgesIn n p → e < n
       below n p m = given (∈-range n 0 (∈-keep p (range 0 n) m .0) .1) (λ h. omega arith)
 
+  -- its bytes: the count of all these pairs, and then the pairs
   pub bytes-joined : (M N : Plan) → length M ≡ G .m → planBytes (instanceOf J) (M ++ N) ≡ pairsBytes (pairsBeside r (planPairs G M) (planPairs H N))
   bytes-joined M N l = plan-bytes (instanceOf J) (M ++ N) ∙ ap pairsBytes (pairs-joined M N l)
 
   -- ---- what the finder answers: a plan exactly when it does for both, and then the two side by side
   module _ (ρ ρ₁ ρ₂ : Plan → Plan) where
+    -- where the finder hands back a plan for each of the two rosters, for the joined one it hands back the two side by side
     pub finder-joined : (M N : Plan) → finderOf G ρ₁ ≡ plan M → finderOf H ρ₂ ≡ plan N → finderOf (instanceOf J) ρ ≡ plan (M ++ N)
     finder-joined M N d e = plan-found J ok ρ (M ++ N)
         (strong-joined ∙ ap₂ allBeside (found-plan r okr ρ₁ M d) (found-plan q okq ρ₂ N e))
 
+    -- the finder hands back a plan for the joined roster exactly when it does for both
     pub finder-both : handsBack (finderOf (instanceOf J) ρ) ≡ handsBack (finderOf G ρ₁) && handsBack (finderOf H ρ₂)
     finder-both = go (finderOf G ρ₁) (finderOf H ρ₂) refl refl
       where

@@ -83,6 +83,7 @@ tie-up n c (x ∷ xs) r t = and-i (before noEntry (entryUp n x)) (ascending (ent
     (given (in-range c x (and-l (entryFits c x) (inRange c xs) r)) (λ (l, u, a, b). omega arith))))
     (ascending-up n x xs (and-r (before noEntry x) (ascending x xs) t))
 
+-- where a list of two parts is in range, both parts are
 pub range-parts : (c : ℕ) (xs ys : List Entry) → T (inRange c (xs ++ ys)) → T (inRange c xs) × T (inRange c ys)
 range-parts c xs ys t = given (subst T (all-append (entryFits c) xs ys) t) (λ u. (and-l (inRange c xs) (inRange c ys) u, and-r (inRange c xs) (inRange c ys) u))
 

@@ -171,6 +171,7 @@ module _ (route : List ℕ) (r : Roster) (ok : T (fits r)) (N : Names route (sta
   abbrev old : ℕ → ℕ
   old = oldPlace route n N
 
+  -- as many surveyors and as many stands as before
   pub renumbered-counts : (surveyorCount H ≡ surveyorCount r) × (standCount H ≡ n)
   unfolding renumbered
   renumbered-counts = (refl, ordered-count route n N 0 (r .quotasT) refl)
@@ -208,6 +209,7 @@ module _ (route : List ℕ) (r : Roster) (ok : T (fits r)) (N : Names route (sta
       (subst (λ k. T (leb k quotaSumLimit)) (sym (ordered-sum route n N 0 qt refl (λ x. x)))
       (and-r (small qt) (leb (sum (λ x. x) qt) quotaSumLimit) (and-r (leb n nodeLimit) _ t))))
 
+  -- the renumbered roster is within the limits
   pub fits-renumbered : T (fits H)
   unfolding renumbered
   fits-renumbered = given (fits-lists r ok) (λ b. lists-fit H (record {

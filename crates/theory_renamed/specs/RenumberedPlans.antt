@@ -16,12 +16,11 @@ use Rattle.model.specs.Roster.{Roster, standCount, fits}
 use Rattle.model.specs.Edges.{instanceOf}
 use Rattle.model.specs.Plans.{Plan, on, strongPlans, strongCount}
 use Rattle.model.specs.PlanFile.{Named, nameOf, sameName, edgesIn, edgeOfPair}
-use Rattle.model.specs.Finder.{plan, finderOf}
+use Rattle.model.specs.Finder.{plan, finderOf, handsBack}
 use Rattle.model_files.specs.Routes.{renumbered, pairBy, renumberedPlan}
 use Rattle.theory_files.specs.Chosen.{on-planOf, planOf-cong}
 use Rattle.theory_files.specs.PlanFiles.{name-parts, same-name, found}
 use Rattle.theory_files.specs.RosterInstance.{lawful, fileable}
-use Rattle.theory_finder.specs.FoundPlan.{handsBack}
 use Rattle.theory_finder.specs.Demand3.{demand3}
 use Rattle.theory_renamed.specs.FinderAnswers.{plan-found, found-plan}
 use Rattle.theory_renamed.specs.RouteNumbers.{Names, newPlace, oldPlace}
@@ -89,6 +88,7 @@ module _ (route : List ℕ) (r : Roster) (ok : T (fits r)) (N : Names route (sta
   unfolding renumberedPlan renamed
   plan-renamed M = planOf-cong (H .m) _ (λ u. on M (old u)) (λ u l. on-renumbered M u l)
 
+  -- the strongly popular plans of the renumbered roster are those of the roster, renumbered
   pub strong-renumbered : strongPlans H ≡ map (renumberedPlan route G H) (strongPlans G)
   strong-renumbered =
       strong-renamed H G new old (λ v. v) (λ v. v) (newPlace route (standCount r) N) (oldPlace route (standCount r) N) (surveyors-moved route r ok N)
@@ -108,9 +108,11 @@ module _ (route : List ℕ) (r : Roster) (ok : T (fits r)) (N : Names route (sta
 
   -- ---- what the finder answers
   module _ (ρ σ : Plan → Plan) where
+    -- where the finder hands back a plan, for the renumbered roster it hands back the renumbered plan
     pub finder-renumbered : (M : Plan) → finderOf G ρ ≡ plan M → finderOf H σ ≡ plan (renumberedPlan route G H M)
     finder-renumbered M e = plan-found R fitsR σ (renumberedPlan route G H M)
         (strong-renumbered ∙ ap (map (renumberedPlan route G H)) (found-plan r ok ρ M e))
 
+    -- the finder hands back a plan for the renumbered roster exactly when it does for the roster
     pub finder-alike : handsBack (finderOf H σ) ≡ handsBack (finderOf G ρ)
     finder-alike = demand3 R fitsR σ .one ∙ ap (λ n. eqb n 1) count-renumbered ∙ sym (demand3 r ok ρ .one)

@@ -21,6 +21,7 @@ use Rattle.theory_files.specs.Chosen.{∈-elem}
 use Rattle.theory_renamed.specs.Numberings.{Numbering}
 
 -- ---- a number's place in a list
+-- new numbers count from 1
 pub number-pos : (route : List ℕ) (t : ℕ) → 1 ≤ newNumber route t
 unfolding newNumber
 number-pos [] t = omega arith
@@ -81,6 +82,7 @@ pub record Names (route : List ℕ) (n : ℕ) : Type 0 where
   pub inside : (t : ℕ) → t ∈ route → (1 ≤ t) × (t ≤ n)
   pub once : Nodup route
 
+-- a route that passes the model's test names each stand of the roster once
 pub each-names : (route : List ℕ) (r : Roster) → T (namesEach route r) → Names route (standCount r)
 unfolding namesEach
 each-names route r t =
@@ -98,6 +100,7 @@ each-names route r t =
     above zero h = absurd h
     above (suc t) h = omega arith
 
+-- a route that names each stand of the roster once passes the model's test
 pub names-each : (route : List ℕ) (r : Roster) → Names route (standCount r) → T (namesEach route r)
 unfolding namesEach
 names-each route r N =
@@ -138,6 +141,7 @@ module _ (route : List ℕ) (n : ℕ) (N : Names route n) where
   pub place-of : (j : ℕ) → j < n → newNumber route (getD route j 0) ≡ suc j
   place-of j l = number-at route (N .once) j (subst (λ m. j < m) (sym (N .count)) l)
 
+  -- at each place of the route stands the number of a stand
   pub name-inside : (j : ℕ) → j < n → (1 ≤ getD route j 0) × (getD route j 0 ≤ n)
   name-inside j l = N .inside (getD route j 0) (getD-∈ route j 0 (subst (λ m. j < m) (sym (N .count)) l))
 
@@ -167,6 +171,7 @@ module _ (route : List ℕ) (n : ℕ) (N : Names route n) where
   unfolding wayBack
   back-count = length-map (range 1 (length route)) (newNumber route) ∙ range-length 1 (length route) ∙ N .count
 
+  -- the way back has the new number of a stand at the stand's old place
   pub back-at : (j : ℕ) → j < n → getD (wayBack route) j 0 ≡ newNumber route (suc j)
   unfolding wayBack
   back-at j l = map-at (newNumber route) (range 1 (length route)) j 0 0 (omega (arith, range-length 1 (length route), N .count))
@@ -179,6 +184,7 @@ module _ (route : List ℕ) (n : ℕ) (N : Names route n) where
   numbers-differ : (s t : ℕ) → 1 ≤ s → s ≤ n → 1 ≤ t → t ≤ n → newNumber route s ≡ newNumber route t → s ≡ t
   numbers-differ s t a b c d e = sym (stand-at s a b) ∙ ap (λ z. getD route (z - 1) 0) e ∙ stand-at t c d
 
+  -- the way back names each stand once too
   pub back-names : Names (wayBack route) n
   unfolding wayBack
   back-names = record {
@@ -199,6 +205,7 @@ module _ (route : List ℕ) (n : ℕ) (N : Names route n) where
 
 -- the new number by the way back is the stand at that place
 module _ (route : List ℕ) (n : ℕ) (N : Names route n) where
+  -- the way back gives a number the stand that the route has at that place
   pub back-number : (t : ℕ) → 1 ≤ t → t ≤ n → newNumber (wayBack route) t ≡ getD route (t - 1) 0
   back-number t h k =
       let j = t - 1 in

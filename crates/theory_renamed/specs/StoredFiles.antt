@@ -43,6 +43,7 @@ unfolding readEach
 numbers-forth [] rest = refl
 numbers-forth (x ∷ route) rest = ap (λ z. z then (λ xs rest. accepted (x ∷ xs, rest))) (numbers-forth route rest)
 
+-- a route that was read has at most 32 numbers, and its bytes stand in front of the rest
 pub route-back : (bs route rest : List ℕ) → readRoute bs ≡ accepted (route, rest) → (bs ≡ listBytes route ++ rest) × (length route ≤ nodeLimit)
 route-back [] route rest e = refused-not e
 route-back (k ∷ bs) route rest e =
@@ -53,6 +54,7 @@ route-back (k ∷ bs) route rest e =
       given (nltb→le nodeLimit k t) (λ le. given (read-value e₂) (λ (v : k ≡ n). omega arith)),
     ))))
 
+-- a route of at most 32 numbers, written in front of some bytes, is read back with those behind it
 pub route-forth : (route rest : List ℕ) → length route ≤ nodeLimit → readRoute (listBytes route ++ rest) ≡ accepted (route, rest)
 route-forth route rest h = ap (λ b. refuseIf b 2 (accepted (length route, route ++ rest)) then numbers)
     (T-false {b = ltb nodeLimit (length route)} (le→nltb nodeLimit (length route) h))
@@ -98,6 +100,7 @@ pub record Stores (by : List ℕ → List ℕ) (f g : List ℕ) : Type 0 where
   pub to : g ≡ listBytes route ++ writeRoster (renumbered (by route) r)
 
 module _ (by : List ℕ → List ℕ) where
+  -- a file that is not refused is a route, naming each stand once, and a roster; it becomes the same route and the renumbered roster
   pub stored-parts : (f g : List ℕ) → T (isBytes f) → routeFirst by (readRoute f) ≡ accepted g → Stores by f g
   stored-parts f g isB e = by-route (readRoute f) refl e
     where
@@ -140,13 +143,16 @@ pub record Undoes (by back : List ℕ → List ℕ) : Type 0 where
   pub names : (route : List ℕ) (n : ℕ) → Names route n → Names (by route) n
   pub is : (route : List ℕ) (n : ℕ) → Names route n → back route ≡ wayBack (by route)
 
+-- unstoring is the way back of storing
 pub store-undone : Undoes (λ route. route) wayBack
 store-undone = record { names = λ route n N. N; is = λ route n N. refl }
 
+-- storing is the way back of unstoring
 pub unstore-undone : Undoes wayBack (λ route. route)
 unstore-undone = record { names = back-names; is = λ route n N. sym (back-twice route n N) }
 
 module _ (by back : List ℕ → List ℕ) (U : Undoes by back) (f g : List ℕ) (isB : T (isBytes f)) (e : routeFirst by (readRoute f) ≡ accepted g) where
+  -- what a file became goes back to the file
   pub undone : routeFirst back (readRoute g) ≡ accepted f
   undone = given (stored-parts by f g isB e) (λ S.
       let n = standCount (S .r) in
@@ -159,6 +165,7 @@ module _ (by back : List ℕ → List ℕ) (U : Undoes by back) (f g : List ℕ)
       (ap (λ w. renumbered w H) (U .is (S .route) n (S .names)) ∙ renumbered-back (by (S .route)) (S .r) (S .fit) N)
       ∙ ap accepted (sym (S .from)))))
 
+  -- a file keeps its length, and that is at most 4,295
   pub kept-length : (length g ≡ length f) × (length g ≤ storedSize)
   kept-length = given (stored-parts by f g isB e) (λ S.
       let H = renumbered (by (S .route)) (S .r) in

@@ -40,6 +40,7 @@ tails w = map (λ s. (edge (s .1), s .0)) w
 abbrev pub fs : Steps → List ℕ
 fs w = map (λ s. s .0) w
 
+-- the edges of M that a walk leads to, one an arc
 abbrev pub zs : Steps → List ℕ
 zs w = map (λ s. s .1) w
 

@@ -24,6 +24,7 @@ pub data Way : Type 0 where
   lose : Way
   gain : ℕ → Way
 
+-- the edge that comes at an end, if one is gained there
 abbrev pub fresh : Way → List ℕ
 fresh lose = []
 fresh (gain f) = f ∷ []

@@ -12,28 +12,12 @@ use Rattle.lists.specs.Keep.{any?, any-∈, none-∈}
 use Rattle.lists.specs.Integer.{<→≤, ≤-antisym, sum-above}
 use Rattle.model.specs.Instance.{Instance}
 use Rattle.model.specs.Plans.{Plan, on, plansOf, samePlan, Verdict, strong, popular, beaten, voteOf, beatenBy, drawnWith, verdictOf}
+use Rattle.model.specs.Plans.{Strong, Unbeaten, Tied, Beaten, Means}
 use Rattle.theory_instance.specs.Lawful.{Lawful}
 use Rattle.theory_votes.specs.PlanVotes.{vote-self, vote-both}
 use Rattle.theory_verdict.specs.Plans.{same-plan, plan-matching}
 
 module _ (G : Instance) (M : Plan) where
-  abbrev pub Strong : Type 0
-  Strong = (N : Plan) → N ∈ plansOf G → T (not (samePlan M N)) → pos 0 <ℤ voteOf G M N
-
-  abbrev pub Unbeaten : Type 0
-  Unbeaten = (N : Plan) → N ∈ plansOf G → pos 0 ≤ℤ voteOf G M N
-
-  abbrev pub Tied : Type 0
-  Tied = (N : Plan) × (N ∈ plansOf G) × T (not (samePlan M N)) × (voteOf G M N ≡ pos 0)
-
-  abbrev pub Beaten : Type 0
-  Beaten = (N : Plan) × (N ∈ plansOf G) × (voteOf G M N <ℤ pos 0)
-
-  abbrev pub Means : Verdict → Type 0
-  Means strong = Strong
-  Means popular = Unbeaten × Tied
-  Means beaten = Beaten
-
   -- ---- what the model computes
   abbrev even : Plan → Bool
   even N = leZ (voteOf G M N) (pos 0) && leZ (pos 0) (voteOf G M N)
@@ -47,11 +31,11 @@ module _ (G : Instance) (M : Plan) where
       (λ h. ltZ-yes h)
       (λ n. absurd (T-not (even N) t (and-i (leZ (voteOf G M N) (pos 0)) (leZ (pos 0) (voteOf G M N)) (ltZ-no {a = pos 0} {b = voteOf G M N} n .le) (l .le))))
 
-  verdict-says : Means (verdictOf G M)
+  verdict-says : Means G M (verdictOf G M)
   unfolding verdictOf beatenBy drawnWith
-  verdict-says = if-ind Means (any? (beatenBy G M) (plansOf G))
+  verdict-says = if-ind (Means G M) (any? (beatenBy G M) (plansOf G))
       (λ b. let (N, m, t) = any-∈ (beatenBy G M) (plansOf G) b in (N, m, ltZ-yes t))
-      (λ b. given (λ N m. ltZ-no (none-∈ (beatenBy G M) (plansOf G) b N m)) (λ (u : Unbeaten). if-ind Means (any? (drawnWith G M) (plansOf G))
+      (λ b. given (λ N m. ltZ-no (none-∈ (beatenBy G M) (plansOf G) b N m)) (λ (u : Unbeaten G M). if-ind (Means G M) (any? (drawnWith G M) (plansOf G))
       (λ e. let (N, m, t) = any-∈ (drawnWith G M) (plansOf G) e in
       (u, (N, m, and-l (not (samePlan M N)) (even N) t, even-zero N (and-r (not (samePlan M N)) (even N) t))))
       (λ e N m o. uneven-above N (u N m) (nand-r (not (samePlan M N)) (even N) (none-∈ (drawnWith G M) (plansOf G) e N m) o))))
@@ -59,19 +43,19 @@ module _ (G : Instance) (M : Plan) where
   -- ---- one of the three
   module _ (law : Lawful G) (ok : M ∈ plansOf G) where
     -- against itself a plan's vote is zero
-    at-least : Strong → Unbeaten
+    at-least : Strong G M → Unbeaten G M
     at-least s N m = by-test (samePlan M N)
         (λ t. subst (λ L. pos 0 ≤ℤ voteOf G M L) (same-plan M N .0 t)
         (subst (λ z. pos 0 ≤ℤ z) (sym (vote-self G (on M) (plan-matching G law ok))) (≤ℤ-refl (pos 0))))
         (λ n. <→≤ (s N m n))
 
-    beaten-not : Unbeaten → Beaten → ⊥
+    beaten-not : Unbeaten G M → Beaten G M → ⊥
     beaten-not u (N, m, b) = clashℤ b (u N m)
 
-    tied-not : Strong → Tied → ⊥
+    tied-not : Strong G M → Tied G M → ⊥
     tied-not s (N, m, o, e) = clashℤ (s N m o) (subst (λ z. z ≤ℤ pos 0) (sym e) (≤ℤ-refl (pos 0)))
 
-    means-one : (v w : Verdict) → Means v → Means w → v ≡ w
+    means-one : (v w : Verdict) → Means G M v → Means G M w → v ≡ w
     means-one strong strong m n = refl
     means-one strong popular m n = absurd (tied-not m (n .1))
     means-one strong beaten m n = absurd (beaten-not (at-least m) n)
@@ -82,9 +66,11 @@ module _ (G : Instance) (M : Plan) where
     means-one beaten popular m n = absurd (beaten-not (n .0) m)
     means-one beaten beaten m n = refl
 
-    pub verdict-means : (v : Verdict) → (verdictOf G M ≡ v) ↔ Means v
-    verdict-means v = (λ e. subst Means e verdict-says, means-one (verdictOf G M) v verdict-says)
+    -- the model's verdict is v exactly when the sentence of v holds
+    pub verdict-means : (v : Verdict) → (verdictOf G M ≡ v) ↔ Means G M v
+    verdict-means v = (λ e. subst (Means G M) e verdict-says, means-one (verdictOf G M) v verdict-says)
 
+    -- strong exactly when the plan's vote against every other plan within the quotas is above zero
     pub strong-means : (verdictOf G M ≡ strong) ↔ ((N : Plan) → N ∈ plansOf G → T (not (samePlan M N)) → pos 0 <ℤ voteOf G M N)
     strong-means = verdict-means strong
 
@@ -92,6 +78,7 @@ module _ (G : Instance) (M : Plan) where
         (((N : Plan) → N ∈ plansOf G → pos 0 ≤ℤ voteOf G M N) × ((N : Plan) × (N ∈ plansOf G) × T (not (samePlan M N)) × (voteOf G M N ≡ pos 0)))
     popular-means = verdict-means popular
 
+    -- beaten exactly when the plan's vote against some plan within the quotas is below zero
     pub beaten-means : (verdictOf G M ≡ beaten) ↔ ((N : Plan) × (N ∈ plansOf G) × (voteOf G M N <ℤ pos 0))
     beaten-means = verdict-means beaten
 

@@ -16,22 +16,24 @@ use lib.Dec.{T}
 use Rattle.lists.specs.Sum.{_∈_}
 use Rattle.model.specs.Limits.{planLimit}
 use Rattle.model.specs.Instance.{Instance}
-use Rattle.model.specs.Plans.{Plan, on, plansOf, samePlan, Verdict, strong, popular, beaten, voteOf, verdictOf}
+use Rattle.model.specs.Plans.{Plan, on, plansOf, samePlan, Verdict, strong, popular, beaten, voteOf, verdictOf, Strong, Unbeaten, Means}
 use Rattle.model.specs.PlanFile.{edgesIn, planOf}
 use Rattle.model.specs.Finder.{Rival}
 use Rattle.theory_instance.specs.Lawful.{Lawful}
 use Rattle.theory_verdict.specs.Search.{verdictBy, rivalEdges}
 use Rattle.theory_verdict.specs.Verdict.{Judged, judged}
 use Rattle.theory_verdict.specs.Plans.{plan-matching, other-edges, matching-plan, other-plan, vote-planOf}
-use Rattle.theory_verdict.specs.Meaning.{Strong, Unbeaten, Means, verdict-means}
+use Rattle.theory_verdict.specs.Meaning.{verdict-means}
 
 -- 133: a byte holds every price in a table
 abbrev pub lid : ℕ
 lid = 2 * planLimit + 5
 
+-- how many edges the plan has, and so how many levels are searched
 abbrev pub sizeOf : Instance → Plan → ℕ
 sizeOf G M = length (edgesIn (G .m) (on M))
 
+-- the verdict by the two searches, below 0 and below 1
 unfoldable pub computedVerdict : Instance → Plan → Verdict
 computedVerdict G M = verdictBy G (on M) lid (sizeOf G M)
 
@@ -68,6 +70,7 @@ module _ (G : Instance) (M : Plan) where
         )
         go beaten N r = (matching-plan G (r .plan), other-plan G M (r .other), subst (λ z. z <ℤ pos 0) (vote-planOf G M N) (r .vote))
 
+    -- the verdict that is computed is the model's, on every plan within the quotas that has at most 64 edges
     pub computed-verdict : computedVerdict G M ≡ verdictOf G M
     computed-verdict = sym (verdict-means G M law ok (computedVerdict G M) .1 (told-means (computedVerdict G M) (rivalOf G M) told))
 
@@ -77,8 +80,10 @@ module _ (G : Instance) (M : Plan) where
     is-rival : rivalOf G M ∈ plansOf G → T (not (samePlan M (rivalOf G M))) → Rival G M (rivalOf G M)
     is-rival m o = record { inQuotas = m; other = o; wins = λ e. told-at beaten e .2; draws = λ e. told-at popular e .3 }
 
+    -- of a beaten plan what is computed is a rival: the plan's vote against it is below zero
     pub beaten-rival : verdictOf G M ≡ beaten → Rival G M (rivalOf G M)
     beaten-rival e = is-rival (told-at beaten e .0) (told-at beaten e .1)
 
+    -- of a popular plan what is computed is a rival: the plan's vote against it is zero
     pub popular-rival : verdictOf G M ≡ popular → Rival G M (rivalOf G M)
     popular-rival e = is-rival (told-at popular e .1) (told-at popular e .2)

@@ -40,6 +40,7 @@ comes (direct f) = f ∷ []
 comes (loop x w) = fs w
 comes (path a x w y b) = comers a w b
 
+-- M after what was found: without the edges that go, with those that come
 abbrev pub rivalBy : (ℕ → Bool) → Hit → ℕ → Bool
 rivalBy M h = swapped M (goes h) (comes h)
 
@@ -48,6 +49,7 @@ pub data Lead : Type 0 where
   stay : Lead
   via : ℕ → Lead
 
+-- c where the walk is that of the layer before, f of the edge y where it leads off to y
 abbrev pub onLead : {C : Type 0} → Lead → C → (ℕ → C) → C
 onLead stay c f = c
 onLead (via y) c f = f y
@@ -72,9 +74,11 @@ module _ (G : Instance) where
   terminalPrice x y p = endPrice (G .rankS) x (p .0) + endPrice (G .rankT) y (p .1)
 
   -- ---- tests: f is an arc x → z; at the two ends no node both gains and loses
+  -- f lies at the stand of x and at the surveyor of z
   abbrev pub links? : ℕ → ℕ → ℕ → Bool
   links? x z f = eqb (G .st f) (G .st x) && eqb (G .sv f) (G .sv z)
 
+  -- a start at x and an end at y go together: no node both gains an edge and loses one
   abbrev pub apart? : ℕ → ℕ → Way × Way → Bool
   apart? x y (lose, lose) = true
   apart? x y (lose, gain g) = not (eqb (G .sv g) (G .sv x))
@@ -86,24 +90,30 @@ module _ (M : ℕ → Bool) where
   abbrev pub room? : Side → ℕ → Bool
   room? K f = ltb (deg K M (K .end f)) (K .quota (K .end f))
 
+  -- f lies at the node of z on side K and has room on side J
   abbrev pub joins? : Side → Side → ℕ → ℕ → Bool
   joins? K J z f = eqb (K .end f) (K .end z) && room? J f
 
 module _ (G : Instance) (M : ℕ → Bool) where
   -- ---- edges, in the order in which a loop meets them: those of M, and those outside that pass a test
+  -- the edges of M, ascending
   abbrev pub olds : List ℕ
   olds = edgesIn (G .m) M
 
+  -- the edges outside M that pass a test, ascending
   abbrev pub news : (ℕ → Bool) → List ℕ
   news p = keep (λ f. not (M f) && p f) (range 0 (G .m))
 
   -- ---- the table of the ends: the least price of a start at x with an end at y, and these two
+  -- how a walk may start or end at z: z is lost, or gives way on side K to an edge outside M that has room on side J
   abbrev pub ways : Side → Side → ℕ → List Way
   ways K J z = lose ∷ map gain (news (joins? M K J z))
 
+  -- every start at x with every end at y that goes together with it
   abbrev pub terminalsAt : ℕ → ℕ → List (Way × Way)
   terminalsAt x y = keep (apart? G x y) (product (ways (surveyors G) (stands G) x) (ways (stands G) (surveyors G) y))
 
+  -- the first cheapest of these with its price; none is dearer than to lose at both ends, which is 6
   unfoldable pub terminal : ℕ → ℕ → ℕ × (Way × Way)
   terminal x y = best (λ p. (terminalPrice G x y p, p)) (6, (lose, lose)) (terminalsAt x y)
 
@@ -118,6 +128,7 @@ module _ (G : Instance) (M : ℕ → Bool) where
     layer zero x z = (arc x z .0, stay)
     layer (suc n) x z = best (λ y. (arc x y .0 + layer n y z .0, via y)) (kept lid (layer n x z .0), stay) olds
 
+    -- the price alone, without how the walk leads off
     abbrev pub walkPrice : ℕ → ℕ → ℕ → ℕ
     walkPrice n x z = layer n x z .0
 
@@ -127,9 +138,11 @@ module _ (G : Instance) (M : ℕ → Bool) where
     trace (suc n) x z = onLead (layer (suc n) x z .1) (trace n x z) (λ y. (arc x y .1, y) ∷ trace n y z)
 
   -- ---- the tests, in their order: is there anything of cost below k?
+  -- a walk from x to y, with the cheapest start and end
   abbrev pub asPath : ℕ → ℕ → Steps → Hit
   asPath x y w = path (terminal x y .1 .0) x w y (terminal x y .1 .1)
 
+  -- the lowest edge outside M that has room at both ends, if there is one
   unfoldable pub directs : Option Hit
   directs = first (λ f. not (M f) && (room? M (surveyors G) f && room? M (stands G) f)) direct (range 0 (G .m))
 
@@ -142,6 +155,7 @@ module _ (G : Instance) (M : ℕ → Bool) where
     unfoldable pub loopAt : ℕ → Option Hit
     loopAt n = first (λ x. ltb (walkPrice lid n x x) (2 * suc n + k)) (λ x. loop x (trace lid n x x)) olds
 
+    -- the first two edges of M with a walk of at most n + 1 arcs between them that, with its start and end, costs less than k
     unfoldable pub pathAt : ℕ → Option Hit
     pathAt n = first (λ p. ltb (walkPrice lid n (p .0) (p .1) + terminal (p .0) (p .1) .0) (2 * suc n + 4 + k))
         (λ p. asPath (p .0) (p .1) (trace lid n (p .0) (p .1))) (product olds olds)
@@ -151,6 +165,7 @@ module _ (G : Instance) (M : ℕ → Bool) where
     levels zero n = none
     levels (suc j) n = orElse (loopAt n) (orElse (pathAt n) (levels j (suc n)))
 
+    -- the whole search for a cost below k: an edge with room, alternating paths without an arc, then B levels
     unfoldable pub search : ℕ → Option Hit
     search B = orElse directs (orElse aloneAt (levels B 0))
 
@@ -158,10 +173,12 @@ module _ (G : Instance) (M : ℕ → Bool) where
     unfoldable pub still : ℕ → Bool
     still n = all? (λ p. leb (kept lid (walkPrice lid n (p .0) (p .1))) (walkPrice lid (suc n) (p .0) (p .1))) (product olds olds)
 
+    -- level by level, up to the first layer that the next one adds nothing to
     unfoldable pub levels′ : ℕ → ℕ → Option Hit
     levels′ zero n = none
     levels′ (suc j) n = orElse (loopAt n) (orElse (pathAt n) (cond (still n) none (levels′ j (suc n))))
 
+    -- the whole search with the early stop
     unfoldable pub search′ : ℕ → Option Hit
     search′ B = orElse directs (orElse aloneAt (levels′ B 0))
 
@@ -172,6 +189,7 @@ judge none (some h) = popular
 judge (some h) o = beaten
 
 module _ (G : Instance) (M : ℕ → Bool) (lid B : ℕ) where
+  -- the verdict by the search below 0 and the search below 1, of B levels each
   unfoldable pub verdictBy : Verdict
   verdictBy = judge (search G M lid 0 B) (search G M lid 1 B)
 

@@ -69,6 +69,7 @@ module _ (G : Instance) (M : ℕ → Bool) (lid k : ℕ) where
       (λ t. sym (silent j n (omega arith) (stays n t) (record { loops = loops; paths = paths })))
       (λ t. levels-same B j (suc n) (omega arith) h)))
 
+  -- under a lid that is high enough for B levels, the search with the early stop finds the same as the one without
   pub search-same : (B : ℕ) → 2 * B + 4 + k ≤ lid → search′ G M lid k B ≡ search G M lid k B
   unfolding search search′
   search-same B h = ap (λ o. orElse (directs G M) (orElse (aloneAt G M lid k) o)) (levels-same B B 0 (omega arith) h)

@@ -12,6 +12,7 @@ use Rattle.theory_instance.specs.Lawful.{Matching, Same}
 use Rattle.theory_votes.specs.Score.{tally, quotas}
 use Rattle.theory_votes.specs.Signed.{vote-tally}
 
+-- a set within the quotas whose vote against every other such set is above zero
 pub record Strong (G : Instance) (M : ℕ → Bool) : Type 0 where
   pub plan : Matching G M
   pub wins : (N : ℕ → Bool) → Matching G N → (Same G M N → ⊥) → pos 0 <ℤ vote G M N

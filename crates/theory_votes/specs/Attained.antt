@@ -68,6 +68,7 @@ module _ (K : Side) (v : ℕ) where
   abbrev pub common : (ℕ → Bool) → (ℕ → Bool) → List ℕ
   common A B = keep (λ e. (A e && B e) && eqb (K .end e) v) (upTo (K .m))
 
+  -- the edges at v that A has and B lacks
   abbrev pub alone : (ℕ → Bool) → (ℕ → Bool) → List ℕ
   alone A B = keep (λ e. (A e && not (B e)) && eqb (K .end e) v) (upTo (K .m))
 
@@ -122,6 +123,7 @@ module _ (K : Side) (M N : ℕ → Bool) (v : ℕ) where
     length-map {B = Place × Place} (common K v M N) (λ e. (edge e, edge e)),
   )
 
+  -- the common edges at v and those that M has alone are as many as M has there; likewise for N
   pub counts : (length (common K v M N) + length (alone K v M N) ≡ deg K M v) × (length (common K v M N) + length (alone K v N M) ≡ deg K N v)
   counts =
       let t = parts (λ e. 1) in
@@ -200,6 +202,7 @@ module _ (K : Side) (M N : ℕ → Bool) (v : ℕ) where
     pub some-valid : (r : Pairing) × (r ∈ keep (valid M N) (pairings (places (K .quota v) (here K M v)) (places (K .quota v) (here K N v))))
     some-valid = let t = fair-valid M N (placesAt K M v) (placesAt K N v) some some-fair in (t .0, t .1)
 
+    -- some pairing of the two sets' places at the node obeys the rules and comes to the node's score
     pub attained : (r : Pairing) × (r ∈ pairings (placesAt K M v) (placesAt K N v)) × Fair M N (placesAt K M v) (placesAt K N v) r
         × (score K M N v ≡ sum (mark (K .rank)) r)
     unfolding score

@@ -37,6 +37,7 @@ goers-occ m M N e = sum-keep (λ d. bit (eqb d e)) (λ d. M d && not (N d)) (upT
 test-at : (S : ℕ → Bool) (d e : ℕ) → pk (not (S d)) (bit (eqb d e)) ≡ pk (not (S e)) (bit (eqb d e))
 test-at S d e = pk-when (not (S d)) (not (S e)) (eqb d e) (λ t. ap (λ z. not (S z)) (eqb→eq d e t))
 
+-- N is M without the edges that N lacks and with the edges that M lacks
 pub swap-of : (m : ℕ) (M N : ℕ → Bool) → Swap m M N (goers m M N) (goers m N M)
 swap-of m M N = record {
   goes = λ e. omega (arith, goers-occ m M N e, pk-split (M e) (N e) (occ e (upTo m)));
@@ -70,9 +71,11 @@ module _ (K : Side) (M N : ℕ → Bool) (hM : Within K M) (hN : Within K N) whe
   pair-kind v = kind K M N v (pair v) (pair-fair v)
 
   -- ---- the exchange on this side
+  -- the edges that come, each with what gives way to it on this side, node by node
   pub couplesTo : List Couple
   couplesTo = gather (λ v. couplesOf M (pair v)) (upTo (K .n))
 
+  -- the edges that are lost on this side without anything in return, node by node
   pub lossesTo : List ℕ
   lossesTo = gather (λ v. lossesOf (pair v)) (upTo (K .n))
 
@@ -230,6 +233,7 @@ module _ (K : Side) (M N : ℕ → Bool) (hM : Within K M) (hN : Within K N) whe
         ∙ sum-pk (not (M e)) (λ c. bit (same (c .1) (edge e))) (pair v) ∙ ap (λ z. pk (not (M e)) z) (fair-right K M N v (pair v) (pair-fair v) e)) in
         omega (arith, sum-couples g, per, spread (N e) (not (M e)) e, goers-occ (K .m) N M e)
 
+    -- these couples and losses are a valid exchange on this side, from M to N
     pub moves-of : Moves K M (goers (K .m) M N) (goers (K .m) N M) couplesTo lossesTo
     moves-of = record { gone = gone; come = come; meet = meet; room = room; apart = apart }
 
@@ -270,6 +274,7 @@ module _ (K : Side) (M N : ℕ → Bool) (hM : Within K M) (hN : Within K N) whe
       node-places K M v (hM v),
     )
 
+    -- the scores of all nodes of the side are its quotas and what the exchange costs there: votes for M and losses, less the votes against M
     pub cost-of : sum (score K M N) (upTo (K .n)) + sum (against (K .rank)) couplesTo
         ≡ sum (K .quota) (upTo (K .n)) + (sum (for (K .rank)) couplesTo + length lossesTo)
     cost-of =

@@ -104,6 +104,7 @@ module _ (K : Side) (M N : ℕ → Bool) (v : ℕ) (r : Pairing) (fair : Fair M 
   in-N : (p : Place) (f : ℕ) → _∈_ {A = Place × Place} (p, edge f) r → N f ≡ true
   in-N p f k = right-here K M N v r fair (p, edge f) k f refl .0
 
+  -- each couple of a pairing that obeys the rules is of one of these kinds
   pub kind : (c : Place × Place) → c ∈ r → Kind M N c
   kind (edge d, edge f) k = ⊎-elim
       (λ t. let p = eqb→eq d f t in shares p (ap M (sym p) ∙ in-M d (edge f) k) (ap N p ∙ in-N (edge d) f k))

@@ -27,6 +27,7 @@ abbrev pub for : (ℕ → ℕ) → Couple → ℕ
 for rank (edge d, f) = up (rank d) (rank f)
 for rank (empty, f) = 0
 
+-- 1 where what comes ranks better than what gives way, or where an empty place gives way
 abbrev pub against : (ℕ → ℕ) → Couple → ℕ
 against rank (edge d, f) = up (rank f) (rank d)
 against rank (empty, f) = 1
@@ -50,16 +51,20 @@ one-alone m A B e n = go (A e) (B e)
     go false y h k = absurd (omega arith)
 
 module _ (m : ℕ) (M N : ℕ → Bool) (R F : List ℕ) (sw : Swap m M N R F) where
+  -- an edge that goes is in M and not in N
   pub goer-is : (e : ℕ) → 0 < occ e R → (M e ≡ true) × (N e ≡ false) × (e < m)
   goer-is e = one-alone m M N e (occ e R) (sw .goes e)
 
+  -- an edge that comes is in N and not in M
   pub comer-is : (e : ℕ) → 0 < occ e F → (N e ≡ true) × (M e ≡ false) × (e < m)
   comer-is e = one-alone m N M e (occ e F) (ap (λ b. pk b (occ e (upTo m)) + occ e F) (and-comm (N e) (M e)) ∙ sw .comes e)
 
 -- ---- on one side: the couples cs, and the edges ls lost
+-- how many edges are lost at a node
 abbrev pub losses : Side → List ℕ → ℕ → ℕ
 losses K ls v = sum (λ l. pk (eqb (K .end l) v) 1) ls
 
+-- how many edges come to an empty place at a node
 abbrev pub gains : Side → List Couple → ℕ → ℕ
 gains K cs v = sum (λ c. pk (eqb (K .end (c .1)) v) (bit (same (c .0) empty))) cs
 
@@ -72,11 +77,14 @@ pub record Moves (K : Side) (M : ℕ → Bool) (R F : List ℕ) (cs : List Coupl
   pub apart : (v : ℕ) → (losses K ls v ≡ 0) ⊎ (gains K cs v ≡ 0)
 
 module _ (K : Side) (M : ℕ → Bool) (R F : List ℕ) (cs : List Couple) (ls : List ℕ) (mv : Moves K M R F cs ls) where
+  -- what comes in a couple is one of the edges F
   pub couple-comes : (c : Couple) → c ∈ cs → 0 < occ (c .1) F
   couple-comes c k = omega (arith, mv .come (c .1), sum-mem (λ d. bit (eqb (d .1) (c .1))) k, ap bit (eqb-yes (c .1) (c .1) refl))
 
+  -- an edge that gives way in a couple is one of the edges R
   pub couple-goes : (c : Couple) → c ∈ cs → (d : ℕ) → c .0 ≡ edge d → 0 < occ d R
   couple-goes c k d e = omega (arith, mv .gone d, sum-mem (λ b. bit (same (b .0) (edge d))) k, ap (λ p. bit (same p (edge d))) e, same-refl (edge d))
 
+  -- a lost edge is one of the edges R
   pub loss-goes : (l : ℕ) → l ∈ ls → 0 < occ l R
   loss-goes l k = omega (arith, mv .gone l, occ-∈ k)

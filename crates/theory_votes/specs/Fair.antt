@@ -120,6 +120,7 @@ is-here K v S d h = go (S d) (eqb (K .end d) v) (eqb→eq (K .end d) v) h
     go false y e h = absurd (omega arith)
 
 module _ (K : Side) (M N : ℕ → Bool) (v : ℕ) (r : Pairing) (f : Fair M N (placesAt K M v) (placesAt K N v) r) where
+  -- the node's score is at most what the couples come to
   pub score-≤ : score K M N v ≤ sum (mark (K .rank)) r
   unfolding score
   score-≤ =
@@ -141,6 +142,7 @@ module _ (K : Side) (M N : ℕ → Bool) (v : ℕ) (r : Pairing) (f : Fair M N (
   left-here c k d e = is-here K v M d
       (omega (arith, fair-left d, sum-mem (λ b. bit (same (b .0) (edge d))) k, ap (λ p. bit (same p (edge d))) e, same-refl (edge d)))
 
+  -- an edge on the right of a couple is one of N at the node
   pub right-here : (c : Place × Place) → c ∈ r → (d : ℕ) → c .1 ≡ edge d → Here K v N d
   right-here c k d e = is-here K v N d
       (omega (arith, fair-right d, sum-mem (λ b. bit (same (b .1) (edge d))) k, ap (λ p. bit (same p (edge d))) e, same-refl (edge d)))

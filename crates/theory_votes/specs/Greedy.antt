@@ -78,6 +78,7 @@ picks-sorted (y ∷ ys) s = (
   sorted-map y (picks ys) (picks-sorted ys (s .1)),
 )
 
+-- what a pick leaves of a list in order is in order
 pub rest-sorted : (ys : List ℕ) → Sorted own ys → (p : ℕ × List ℕ) → p ∈ picks ys → Sorted own (p .1)
 rest-sorted [] s p m = absurd (List·Memᴰ·not-nil m)
 rest-sorted (y ∷ ys) s p (List·Memᴰ·head e) = subst (λ q. Sorted own (q .1)) (sym e) (s .1)
@@ -173,6 +174,7 @@ module _ (x : ℕ) (xs : List ℕ) (sx : Sorted own (x ∷ xs)) (y : ℕ) where
             c,
           )
 
+  -- where the first other rank is better than the best own one, it can be faced by that one, and the rest still reaches the least sum
   pub best-can : (ys : List ℕ) → length xs ≡ length ys → y < x → T (can x xs (y ∷ ys) (y, ys))
   best-can ys l better = go (some-can x xs (y ∷ ys) (omega arith))
     where

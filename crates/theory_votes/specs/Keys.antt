@@ -120,5 +120,6 @@ module _ (K : Side) (M N : ℕ → Bool) (v : ℕ) (placed : (e : ℕ) → e < K
             ap (λ n. n * φ emptyKey) spare,
           )
 
+      -- the ranks of these keys, filled up to the quota, are the bytes of the node's pairing
       pub facing-key-bytes : keyBytes (fillKeys b ws) ≡ facingBytes (facing K M N v)
       facing-key-bytes = ap keyBytes (sym facing-keys) ∙ key-bytes (facing K M N v) (facing-fits K M N v placed hM hN .1)

@@ -94,9 +94,11 @@ module _ (n : ℕ) (xs ys : List ℕ) (l : length xs ≡ length ys) (u : Below n
 
 -- ---- by the turns
 module _ (xs ys : List ℕ) (l : length xs ≡ length ys) where
+  -- no turn of the first list against the second comes to less
   pub turn-above : (j : ℕ) → leastSum xs ys ≤ cost own (against (turned j xs) ys)
   turn-above j = least-≤ xs ys (against (turned j xs) ys) (turned-columns own j xs ys l)
 
+  -- the least sum is at most 2 for each rank of the first list
   pub least-most : leastSum xs ys ≤ 2 * length xs
   least-most = omega (arith, turn-above 0, cost-≤ own (against (turned 0 xs) ys), against-≤ (turned 0 xs) ys, turned-length 0 xs)
 

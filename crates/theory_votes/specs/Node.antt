@@ -138,6 +138,7 @@ module _ (K : Side) (M N : ℕ → Bool) (R F : List ℕ) (sw : Swap (K .m) M N 
     right-all : deg K N v + losses K ls v ≡ length (core K M N cs ls v)
     right-all = omega (arith, column-all N (λ c. c .1) right-edge, right-empty)
 
+    -- N has no more edges at the node than its quota
     pub exchange-within : deg K N v ≤ K .quota v
     exchange-within = omega (arith, left-all, right-all, mv .room v)
 

@@ -19,6 +19,7 @@ facing-bytes-length [] = refl
 facing-bytes-length (c ∷ cs) = omega (arith, facing-bytes-length cs)
 
 module _ (K : Side) (M N : ℕ → Bool) (placed : (e : ℕ) → e < K .m → K .rank e < emptyRank) (hM : Within K M) (hN : Within K N) where
+  -- the pairings of one side take two bytes for each place of its quotas
   pub side-bytes-length : length (sideBytes K M N) ≡ 2 * sum (K .quota) (upTo (K .n))
   side-bytes-length = sum-length (sideBytes K M N) ∙ sum-gather (λ b. 1) (λ v. facingBytes (facing K M N v)) (range 0 (K .n))
       ∙ sum-cong (λ v. sum (λ b. 1) (facingBytes (facing K M N v))) (λ v. 2 * K .quota v) (range 0 (K .n)) (λ v m. node v)
@@ -64,6 +65,7 @@ module _ (G : Instance) (M N : ℕ → Bool) (L : Lawful G) (pM : Matching G M) 
       → length (pairingBytes G M N) ≤ pairingSize
   pairing-bytes-fit h k = omega (arith, pairing-bytes-length)
 
+  -- where ranks count from 1, each byte is a rank, from 1 to that of an empty place
   pub pairing-bytes-ranks : ((e : ℕ) → e < G .m → (0 < G .rankS e) × (0 < G .rankT e)) → (b : ℕ) → b ∈ pairingBytes G M N → (0 < b) × (b ≤ emptyRank)
   unfolding pairingBytes
   pairing-bytes-ranks from-1 b m = ⊎-elim

@@ -15,12 +15,14 @@ use Rattle.lists.specs.Occur.{occ-upTo, sum-at}
 use Rattle.model.specs.Instance.{Side, deg}
 use Rattle.model.specs.Vote.{Place, edge, empty, same, here, places, Pairing, pairings, placesAt}
 
+-- places that the test calls the same are equal
 pub same→ : (p q : Place) → T (same p q) → p ≡ q
 same→ (edge d) (edge e) t = ap edge (eqb→eq d e t)
 same→ (edge d) empty t = absurd t
 same→ empty (edge e) t = absurd t
 same→ empty empty t = refl
 
+-- a place is the same as itself to the test
 pub same-refl : (p : Place) → bit (same p p) ≡ 1
 same-refl (edge d) = ap bit (eqb-yes d d refl)
 same-refl empty = refl
@@ -43,6 +45,7 @@ place-one : (m : ℕ) (p : Place) → ((d : ℕ) → p ≡ edge d → d < m) →
 place-one m (edge d) h = omega (arith, sum-cong (λ e. bit (eqb d e)) (λ e. pk (eqb d e) 1) (upTo m) (λ e k. bit-pk (eqb d e)), sum-one (λ u. 1) m d (h d refl))
 place-one m empty h = omega (arith, sum-zero (upTo m))
 
+-- whatever holds a place holds one edge or an empty place: counted edge by edge, with the empty ones, it is all of them
 pub census : {A : Type 0} (m : ℕ) (f : A → Place) (xs : List A) → ((x : A) → x ∈ xs → (d : ℕ) → f x ≡ edge d → d < m)
     → sum (λ e. sum (λ x. bit (same (f x) (edge e))) xs) (upTo m) + sum (λ x. bit (same (f x) empty)) xs ≡ length xs
 census m f xs h = omega (

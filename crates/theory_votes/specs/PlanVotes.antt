@@ -43,6 +43,7 @@ nodeVote-self K M v h = nodeVote-score K M M v h h ∙ ap (λ z. subℕ z (K .qu
 
 -- ---- all nodes
 module _ (G : Instance) where
+  -- the vote of a set within the quotas against itself is 0
   pub vote-self : (M : ℕ → Bool) → Matching G M → vote G M M ≡ pos 0
   vote-self M p = vote-tally G M M p p ∙ ap (λ z. subℕ z (quotas G)) even ∙ sub-self (quotas G)
     where
@@ -53,6 +54,7 @@ module _ (G : Instance) where
         sum-cong (score (stands G) M M) (G .quotaT) (upTo (G .nt)) (λ v k. score-self (stands G) M v (p .atT v)),
       )
 
+  -- the two votes of two sets within the quotas add to at most zero
   pub vote-both : (M N : ℕ → Bool) → Matching G M → Matching G N → (vote G M N +ℤ vote G N M) ≤ℤ pos 0
   vote-both M N p q = rw (vote-tally G M N p q, vote-tally G N M q p, sub-add (tally G M N) (quotas G) (tally G N M) (quotas G))
       (sub-≤ (tally G M N + tally G N M) (quotas G + quotas G) 0 0 (omega (arith, side (surveyors G) (p .atS) (q .atS), side (stands G) (p .atT) (q .atT))))
@@ -109,6 +111,7 @@ module _ (K : Side) (M N M′ N′ : ℕ → Bool) (v : ℕ) (sM : (e : ℕ) →
       (keep-cong (valid M N) (valid M′ N′) (pairings (placesAt K M v) (placesAt K N v)) valid-same
       ∙ ap₂ (λ xs ys. keep (valid M′ N′) (pairings (places (K .quota v) xs) (places (K .quota v) ys))) (here-same M M′ sM) (here-same N N′ sN))
 
+-- sets of the same edges have the same vote
 pub vote-same : (G : Instance) (M N M′ N′ : ℕ → Bool) → Same G M M′ → Same G N N′ → vote G M N ≡ vote G M′ N′
 unfolding vote
 vote-same G M N M′ N′ sM sN = ap₂ _+ℤ_ (side (surveyors G) sM sN) (side (stands G) sM sN)

@@ -26,6 +26,7 @@ min-falls b d s h k m = omega arith
 
 -- ---- two lists, one against the other
 module _ {A : Type 0} where
+  -- two lists set against each other place by place, as far as both go
   abbrev pub against : List A → List A → List (A × A)
   against [] qs = []
   against (p ∷ ps) [] = []
@@ -61,10 +62,12 @@ module _ {A : Type 0} where
   pub turned-sum : (φ : A → ℕ) (j : ℕ) (ps : List A) → sum φ (turned j ps) ≡ sum φ ps
   turned-sum φ j ps = omega (arith, sum-append φ (drop j ps) (take j ps), sum-append φ (take j ps) (drop j ps), ap (sum φ) (take-append-drop j ps))
 
+  -- a turn keeps the list's length
   pub turned-length : (j : ℕ) (ps : List A) → length (turned j ps) ≡ length ps
   turned-length j ps = omega (arith, turned-sum (λ p. 1) j ps, sum-length ps, sum-length (turned j ps))
 
 module _ {A : Type 0} (rank : A → ℕ) where
+  -- what some couples come to: the sum of their votes, each counted from one up
   abbrev pub cost : List (A × A) → ℕ
   cost r = sum (λ c. rate (rank (c .0)) (rank (c .1))) r
 

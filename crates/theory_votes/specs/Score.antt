@@ -23,17 +23,21 @@ rate a b = bit (ltb a b) + bit (leb a b)
 unfoldable pub mark : (ℕ → ℕ) → Place × Place → ℕ
 mark rank (p, q) = rate (placeRank rank p) (placeRank rank q)
 
+-- the node's score: the least sum over its valid pairings, each vote counted from one up
 unfoldable pub score : Side → (ℕ → Bool) → (ℕ → Bool) → ℕ → ℕ
 score K M N v = leastOf (map (sum (mark (K .rank))) (validPairings K M N v))
 
 module _ (G : Instance) where
+  -- the scores of all surveyors and all stands together
   abbrev pub tally : (ℕ → Bool) → (ℕ → Bool) → ℕ
   tally M N = sum (score (surveyors G) M N) (upTo (G .ns)) + sum (score (stands G) M N) (upTo (G .nt))
 
+  -- all quotas of both sides together
   abbrev pub quotas : ℕ
   quotas = sum (G .quotaS) (upTo (G .ns)) + sum (G .quotaT) (upTo (G .nt))
 
 -- ---- the vote in it: one way less the other
+-- counted from one up, the vote of a against b is 1 and what speaks for a, less what speaks for b
 pub rate-up : (a b : ℕ) → rate a b + up b a ≡ 1 + up a b
 unfolding up
 rate-up a b = go (ltb a b) (leb a b) (ltb b a) (ltb→lt a b) (nltb→le a b) (leb→le a b) (nleb→lt a b) (ltb→lt b a) (nltb→le b a)
@@ -58,10 +62,12 @@ module _ (rank : ℕ → ℕ) where
   unfolding mark
   mark-lost d h = omega (arith, rate-up (rank d) emptyRank, up-yes (rank d) emptyRank h, up-no emptyRank (rank d) (omega arith))
 
+  -- an empty place against a pair counts 0
   pub mark-gained : (f : ℕ) → rank f < emptyRank → mark rank (empty, edge f) ≡ 0
   unfolding mark
   mark-gained f h = omega (arith, rate-up emptyRank (rank f), up-yes (rank f) emptyRank h, up-no emptyRank (rank f) (omega arith))
 
+  -- a place against itself counts 1, which is the vote 0
   pub mark-same : (p : Place) → mark rank (p, p) ≡ 1
   unfolding mark
   mark-same p = omega (arith, rate-up (placeRank rank p) (placeRank rank p))

@@ -25,16 +25,19 @@ abbrev pub Shows : Instance → List Bool → Plan → Type 0
 Shows G plan M = (M ∈ plansOf G) × ((e : ℕ) → flag plan e ≡ on M e)
 
 -- ---- the answer and the buffer, for each verdict
+-- the answer, with the vote against the rival where the plan is not strong
 abbrev pub weighedAs : Instance → Plan → verdict.Verdict → Verdict
 weighedAs G M verdict.strong = Strong
 weighedAs G M verdict.popular = Popular (voteOf G M (rivalOf G M))
 weighedAs G M verdict.beaten = Beaten (voteOf G M (rivalOf G M))
 
+-- the buffer afterwards: the rival's bytes at its front, or every byte as it was where the plan is strong
 abbrev pub rivalWritten : Instance → Plan → verdict.Verdict → List ℕ → List ℕ
 rivalWritten G M verdict.strong out = out
 rivalWritten G M verdict.popular out = onto (planBytes G (rivalOf G M)) out
 rivalWritten G M verdict.beaten out = onto (planBytes G (rivalOf G M)) out
 
+-- the answer and the buffer are those of the model's verdict on M
 pub record WeighedBy (G : Instance) (M : Plan) (out : List ℕ) (r : Verdict) (after : List ℕ) : Type 0 where
   pub reply : r ≡ weighedAs G M (verdictOf G M)
   pub buffer : after ≡ rivalWritten G M (verdictOf G M) out
@@ -49,6 +52,7 @@ pairingsWritten G M verdict.strong d = d
 pairingsWritten G M verdict.popular d = onto (pairingBytes G (on M) (on (rivalOf G M))) d
 pairingsWritten G M verdict.beaten d = onto (pairingBytes G (on M) (on (rivalOf G M))) d
 
+-- for the plan that an array shows, the buffer afterwards is the one with these pairings, unchanged where the plan is strong
 abbrev pub PairedFor : Instance → (plan : List Bool) (before after : List ℕ) → Type 0
 PairedFor G plan before after = (M : Plan) → Shows G plan M → after ≡ pairingsWritten G M (verdictOf G M) before
 
@@ -61,11 +65,13 @@ pub record RivalFor (G : Instance) (plan : List Bool) (rivalled : Bool) (rival :
 
 -- ---- these are the desk's
 module _ (G : Instance) (M : Plan) where
+  -- for each verdict the answer is the desk's
   pub desk-answer : (v : verdict.Verdict) → verdictShown (weighedAs G M v) ≡ desk.verdictAnswer G M (rivalOf G M) v
   desk-answer verdict.strong = refl
   desk-answer verdict.popular = refl
   desk-answer verdict.beaten = refl
 
+  -- for each verdict both buffers afterwards are the desk's
   pub desk-written : (v : verdict.Verdict) (out d : List ℕ)
       → desk.judge (rivalWritten G M v out) (pairingsWritten G M v d) ≡ desk.verdictWritten G M (rivalOf G M) v out d
   desk-written verdict.strong out d = refl

@@ -15,23 +15,24 @@ ghost use Rattle.verdict.specs.RivalWritten.{Voted};
 ghost use Rattle.answers.specs.declared.Verdict.the-variants.{Popular, Beaten};
 use answers::Verdict;
 use instance::Instance;
+use limits::ENTRY_LIMIT;
 use plan_lookup::Listed;
 
 // the verdict, whether there is a rival, and where there is one its flags and the list of its edges
 pub struct WithRival {
     pub verdict: Verdict,
     pub rivalled: bool,
-    pub rival: [bool; 1024],
+    pub rival: [bool; ENTRY_LIMIT],
     pub listed: Listed,
 }
 
 // The rival, whose edges are listed, in bytes at the buffer's front, and the vote of the plan against it.
 pub(crate) fn voted(
     g: Instance,
-    plan: &[bool; 1024],
+    plan: &[bool; ENTRY_LIMIT],
     n: usize,
     es: &[u16; 64],
-    rival: &[bool; 1024],
+    rival: &[bool; ENTRY_LIMIT],
     listed: Listed,
     out: &mut [u8],
 ) -> i16
@@ -77,7 +78,7 @@ pub(crate) fn verdict_with(beaten: bool, vote: i16) -> Verdict
 // A plan within the quotas, and the list of its edges.
 pub fn weighed(
     g: Instance,
-    plan: &[bool; 1024],
+    plan: &[bool; ENTRY_LIMIT],
     n: usize,
     es: &[u16; 64],
     out: &mut [u8],
@@ -116,7 +117,13 @@ pub fn weighed(
 }
 
 // The verdict alone, for the finder.
-pub fn weigh(g: Instance, plan: &[bool; 1024], n: usize, es: &[u16; 64], out: &mut [u8]) -> Verdict
+pub fn weigh(
+    g: Instance,
+    plan: &[bool; ENTRY_LIMIT],
+    n: usize,
+    es: &[u16; 64],
+    out: &mut [u8],
+) -> Verdict
     requires { ⌜ Loaded g × ((M : Plan) × Shows (shownBy g) (now plan) M) × edges.Listed (g .m) (now plan) n (now es) × (planSize ≤ length (now out)) ⌝ }
     ensures { λ r. ⌜ WeighedFor (shownBy g) (now (plan .entry)) (now (out .entry)) r (now (out .exit)) ⌝ }
 {
@@ -127,7 +134,7 @@ pub fn weigh(g: Instance, plan: &[bool; 1024], n: usize, es: &[u16; 64], out: &m
 // The verdict with the pairings of the vote against the rival (W-208) in a second buffer; "a strong verdict writes none".
 pub fn weigh_paired(
     g: Instance,
-    plan: &[bool; 1024],
+    plan: &[bool; ENTRY_LIMIT],
     n: usize,
     es: &[u16; 64],
     out: &mut [u8],

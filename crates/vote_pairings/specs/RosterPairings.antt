@@ -33,6 +33,7 @@ module _ (r : Roster) (ok : T (fits r)) (M N : ℕ → Bool) (pM : Matching (ins
 
 -- ---- the arrays
 module _ (g : Instance) (L : Loaded g) (p q : List Bool) (pM : Matching (shownBy g) (flag p)) (qM : Matching (shownBy g) (flag q)) where
+  -- on both sides, the arrays of an accepted roster and two plans within its quotas are what the pairings ask for
   pub both-faced : Faced (g .m) (g .ns) (g .sv) (g .«rank_s») (g .«quota_s») p q × Faced (g .m) (g .nt) (g .st) (g .«rank_t») (g .«quota_t») p q
   unfolding deg
   both-faced = (
@@ -40,5 +41,6 @@ module _ (g : Instance) (L : Loaded g) (p q : List Bool) (pM : Matching (shownBy
     record { arrays = side-arrays g L .1; few = λ v. L .quotas v .1; first = pM .atT; second = qM .atT },
   )
 
+  -- a buffer of 256 bytes has two for each place of all quotas
   pub room : (n : ℕ) → pairingSize ≤ n → 2 * (sum (at (g .«quota_s»)) (upTo (g .ns)) + sum (at (g .«quota_t»)) (upTo (g .nt))) ≤ n
   room n h = omega (arith, L .places)

@@ -26,15 +26,16 @@ use Rattle.theory_votes.specs.Greedy.{greedy, greedy-reaches}
 use Rattle.theory_votes.specs.Keys.{emptyKey, fillKeys, keyBytes, facing-key-bytes}
 use Rattle.vote_own_ranks.specs.declared.Ranked.{Ranked}
 use Rattle.vote_own_ranks.specs.Kept.{ranks-alone}
-use Rattle.vote_pairings_choice.specs.declared.Pairs.{Pairs}
-use Rattle.vote_pairings_choice.specs.Pairs.{twin, sharedPairs, insEach, putEach, Kept}
-use Rattle.vote_pairings_choice.specs.KeptPairs.{sum-each, sorted-each, all-each, each-kept, shared-kept, sorted-twins}
+use Rattle.vote_pairings_node.specs.declared.Pairs.{Pairs}
+use Rattle.vote_pairings_node.specs.Pairs.{twin, sharedPairs, insEach, putEach, Kept}
+use Rattle.vote_pairings_node.specs.KeptPairs.{sum-each, sorted-each, all-each, each-kept, shared-kept, sorted-twins}
 use Rattle.vote_plans.specs.Node.{Sound, own}
 
 -- the greedy pairs of two lists of ranks, the shorter one filled up
 abbrev pub chosen : List ℕ → List ℕ → List (ℕ × ℕ)
 chosen xs ys = let k = max (length xs) (length ys) in greedy (fill k xs) (fill k ys)
 
+-- the pairs of a node: each shared rank against itself, and the greedy pairs of the two plans' own ranks put in
 unfoldable pub nodePairs : List ℕ → List ℕ → Ranked → Pairs
 nodePairs xs ys s = putEach (map key (chosen xs ys)) (sharedPairs s)
 
@@ -149,6 +150,7 @@ module _ (K : Side) (M N : ℕ → Bool) (v : ℕ) (placed : (e : ℕ) → e < K
     pub node-keys : nodePairs xs ys s .keys ≡ fillKeys quotaLimit ws
     node-keys = kept .are
 
+    -- with those of empty places it has eight keys, the highest quota
     pub node-keys-length : length (nodePairs xs ys s .keys) ≡ quotaLimit
     node-keys-length = ap length node-keys
         ∙ omega (arith, length-append ws (replicate (quotaLimit - length ws) emptyKey), length-replicate (quotaLimit - length ws) emptyKey, ws-length)
@@ -158,6 +160,7 @@ module _ (K : Side) (M N : ℕ → Bool) (v : ℕ) (placed : (e : ℕ) → e < K
     node-keys-low a m = ⊎-elim (keys-low a) (λ i. omega (arith, replicate-∈ (quotaLimit - length ws) emptyKey a i))
         (List·Memᴰ·append-cases ws (subst (λ l. a ∈ l) node-keys m))
 
+    -- the ranks in the first keys, as many as the quota, are the bytes of the node's pairing
     pub node-bytes : keyBytes (take (K .quota v) (nodePairs xs ys s .keys)) ≡ facingBytes (facing K M N v)
     node-bytes = ap keyBytes (ap (take (K .quota v)) node-keys ∙ front)
         ∙ facing-key-bytes K M N v placed hM hN xs ys shares (ranks-alone K M N v) (ranks-alone K N M v) shared-sum (A .sorted) (B .sorted) (A .most) (B .most)

@@ -30,6 +30,7 @@ pub record Sound (xs : List ℕ) (r : Ranked) : Type 0 where
   pub sorted : Sorted (λ z. z) xs
   pub most : (z : ℕ) → z ∈ xs → z ≤ emptyRank
 
+-- what is kept of a node can be voted on: the ranks in it are few, in order, and filled up
 abbrev pub Ready : Ranked → Type 0
 Ready r = Sound (ranksIn r) r
 

@@ -18,6 +18,7 @@ use Rattle.instance.specs.Loaded.{Loaded}
 use Rattle.vote_plans.specs.Plan.{Arrays, Light, within-light}
 
 module _ (g : Instance) (L : Loaded g) where
+  -- the arrays of both sides, surveyors and stands, are what the vote asks for
   pub side-arrays : Arrays (g .m) (g .ns) (g .sv) (g .«rank_s») × Arrays (g .m) (g .nt) (g .st) (g .«rank_t»)
   side-arrays = (
     record { edges = L .edges; nodes = L .surveyors; ends = λ e h. L .low-sv e; ranks = L .lawful .atS .placed },
@@ -25,6 +26,7 @@ module _ (g : Instance) (L : Loaded g) where
   )
 
   module _ (p : List Bool) (M : Matching (shownBy g) (flag p)) where
+    -- a plan within the quotas gives no surveyor and no stand more edges than a quota allows
     pub light : Light (g .m) (g .sv) p × Light (g .m) (g .st) p
     light = (
       within-light (g .m) (g .ns) (g .sv) (g .«rank_s») (λ e. false) (at (g .«quota_s»)) p (λ v. L .quotas v .0) (M .atS),

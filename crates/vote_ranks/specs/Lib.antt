@@ -1,1 +1,2 @@
 pub mod RankCases
+pub mod Turn

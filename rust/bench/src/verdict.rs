@@ -43,8 +43,8 @@ impl Case {
         let judged = black_box(desk).judge(&mut out.rival, &mut out.pairing);
         match black_box(judged).expect("a plan is held") {
             planner::Verdict::Strong => "strong",
-            planner::Verdict::Popular(_) => "popular",
-            planner::Verdict::Beaten(_) => "beaten",
+            planner::Verdict::Popular { .. } => "popular",
+            planner::Verdict::Beaten { .. } => "beaten",
         }
     }
 

@@ -149,6 +149,8 @@ fn the_way_of_a_verdict() {
         "        - vote_own_ranks::shared_ranks",
         "          - vote_own_ranks::put_rank",
         "        - → vote_pairings::side_pairs",
+        "  - desk_queries::rival_length",
+        "    - desk_files::plan_length",
     ];
     assert_eq!(lines.map(bare).collect::<Vec<_>>(), expected);
 }

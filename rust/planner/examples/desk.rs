@@ -6,7 +6,7 @@ use std::error::Error;
 use std::io::{self, Write};
 
 use planner::{Desk, Facing, Found, Pairing, Step};
-use planner::{DIARY_RECORDS, LEFT_BYTES, PAIRING_BYTES, PAIR_BYTES, PLAN_BYTES};
+use planner::{DIARY_RECORDS, LEFT_BYTES, PAIRING_BYTES, PLAN_BYTES};
 
 /// Tells the morning.
 pub fn tell(out: &mut impl Write) -> Result<(), Box<dyn Error>> {
@@ -28,9 +28,12 @@ pub fn tell(out: &mut impl Write) -> Result<(), Box<dyn Error>> {
         &mut [0; PLAN_BYTES],
     )?;
     writeln!(out, "{found:?}")?;
-    if let Found::Plan { steps } = found {
+    if let Found::Plan {
+        steps,
+        plan: length,
+    } = found
+    {
         writeln!(out, "steps: {:?}", &diary[..steps])?;
-        let length = 1 + PAIR_BYTES * usize::from(plan[0]);
         writeln!(out, "plan: {:?}", &plan[..length])?;
     }
 

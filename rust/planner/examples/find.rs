@@ -9,10 +9,10 @@ fn pairs(bytes: &[u8]) {
     }
 }
 
-/// A plan's file, at the front of its buffer.
+/// A plan's file: the number of its pairs, and the pairs.
 fn plan(name: &str, file: &[u8]) {
     println!("{name} {}", file[0]);
-    pairs(&file[1..][..planner::PAIR_BYTES * usize::from(file[0])]);
+    pairs(&file[1..]);
 }
 
 fn find(desk: &Desk) -> Result<(), planner::Refusal> {
@@ -20,7 +20,8 @@ fn find(desk: &Desk) -> Result<(), planner::Refusal> {
     let mut left = [0; planner::LEFT_BYTES];
     let [mut own, mut rival] = [[0; planner::PLAN_BYTES]; 2];
     let found = desk.find(&mut diary, &mut left, &mut own, &mut rival)?;
-    let (Found::Plan { steps } | Found::Left { steps, .. } | Found::Rivalled { steps, .. }) = found;
+    let (Found::Plan { steps, .. } | Found::Left { steps, .. } | Found::Rivalled { steps, .. }) =
+        found;
     for step in &diary[..steps] {
         let fate = if step.fate == 1 { "fix" } else { "strike" };
         let Step {
@@ -33,15 +34,20 @@ fn find(desk: &Desk) -> Result<(), planner::Refusal> {
         println!("{fate} {surveyor} {stand} {shift} {rule}");
     }
     match found {
-        Found::Plan { .. } => plan("plan", &own),
+        Found::Plan { plan: length, .. } => plan("plan", &own[..length]),
         Found::Left { pairs: count, .. } => {
             println!("none left {count}");
             pairs(&left[..planner::PAIR_BYTES * count]);
         }
-        Found::Rivalled { vote, .. } => {
+        Found::Rivalled {
+            vote,
+            plan: length,
+            rival: other,
+            ..
+        } => {
             println!("none rivalled {vote}");
-            plan("candidate", &own);
-            plan("rival", &rival);
+            plan("candidate", &own[..length]);
+            plan("rival", &rival[..other]);
         }
     }
     Ok(())

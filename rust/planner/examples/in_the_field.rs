@@ -85,15 +85,19 @@ impl Planner {
 
     /// An answer in words.
     fn answer(&self, found: Found) -> String {
-        let plan = listed(plan_pairs(&self.plan));
         match found {
-            Found::Plan { .. } => format!("strongly popular is {plan}"),
+            Found::Plan { plan, .. } => {
+                format!("strongly popular is {}", listed(&self.plan[1..plan]))
+            }
             Found::Left { pairs, .. } => {
                 let left = listed(&self.left[..PAIR_BYTES * pairs]);
                 format!("no plan is strongly popular: the pairs {left} are left")
             }
-            Found::Rivalled { vote, .. } => {
-                let rival = listed(plan_pairs(&self.rival));
+            Found::Rivalled {
+                vote, plan, rival, ..
+            } => {
+                let plan = listed(&self.plan[1..plan]);
+                let rival = listed(&self.rival[1..rival]);
                 format!("no plan is strongly popular: {plan} has vote {vote} against {rival}")
             }
         }
@@ -102,31 +106,25 @@ impl Planner {
     /// The held plan in words, with the verdict on it.
     fn held(&self) -> Result<String, Refusal> {
         let mut plan = [0; PLAN_BYTES];
-        self.desk.write_plan(&mut plan)?;
+        let length = self.desk.write_plan(&mut plan)?;
         let (mut rival, mut pairing) = ([0; PLAN_BYTES], [0; PAIRING_BYTES]);
         let verdict = match self.desk.judge(&mut rival, &mut pairing)? {
             Verdict::Strong => "strongly popular",
-            Verdict::Popular(_) => "popular",
-            Verdict::Beaten(_) => "beaten by another",
+            Verdict::Popular { .. } => "popular",
+            Verdict::Beaten { .. } => "beaten by another",
         };
-        let pairs = listed(plan_pairs(&plan));
+        let pairs = listed(&plan[1..length]);
         Ok(format!("the held plan is {pairs}, {verdict}"))
     }
 
-    /// Holds the plan that was answered.
-    fn take(&mut self) -> Result<(), Refusal> {
-        self.desk.load_plan(&self.plan[..plan_length(&self.plan)])
+    /// Holds the plan that was answered, if one was.
+    fn take(&mut self, found: Found, out: &mut impl Write) -> Result<(), Box<dyn Error>> {
+        if let Found::Plan { plan, .. } = found {
+            self.desk.load_plan(&self.plan[..plan])?;
+            writeln!(out, "  it is held from now on")?;
+        }
+        Ok(())
     }
-}
-
-/// How long the plan's file at the front of a buffer is.
-fn plan_length(plan: &[u8]) -> usize {
-    1 + PAIR_BYTES * usize::from(plan[0])
-}
-
-/// The pair bytes of a plan's file.
-fn plan_pairs(plan: &[u8]) -> &[u8] {
-    &plan[1..plan_length(plan)]
 }
 
 fn listed(pairs: &[u8]) -> String {
@@ -168,11 +166,7 @@ fn tell_event(
     }
     writeln!(out, "  {}", planner.held()?)?;
     writeln!(out, "  {}", planner.answer(found))?;
-    if let Found::Plan { .. } = found {
-        planner.take()?;
-        writeln!(out, "  it is held from now on")?;
-    }
-    Ok(())
+    planner.take(found, out)
 }
 
 /// Tells all nine days.
@@ -181,8 +175,7 @@ pub fn tell(out: &mut impl Write) -> Result<(), Box<dyn Error>> {
     let found = planner.start()?;
     writeln!(out, "day 1: three surveyors set out to four stands")?;
     writeln!(out, "  {}", planner.answer(found))?;
-    planner.take()?;
-    writeln!(out, "  it is held from now on")?;
+    planner.take(found, out)?;
     for (day, (what, event)) in (2..).zip(&DAYS) {
         writeln!(out, "day {day}: {what}")?;
         tell_event(&mut planner, event, out)?;

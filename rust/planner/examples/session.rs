@@ -106,8 +106,8 @@ impl Session {
     /// The plan's file of a line.
     fn file(&self, pairs: &[&str]) -> Result<Vec<u8>, Box<dyn Error>> {
         match pairs {
-            ["found"] => return Ok(self.plan[..length(&self.plan)].to_vec()),
-            ["rival"] => return Ok(self.rival[..length(&self.rival)].to_vec()),
+            ["found"] => return Ok(self.written().0.to_vec()),
+            ["rival"] => return Ok(self.written().1.to_vec()),
             _ => {}
         }
         let mut ends = Vec::new();
@@ -122,12 +122,22 @@ impl Session {
         Ok(file)
     }
 
+    /// The plan or candidate that the finder wrote last, and the rival.
+    fn written(&self) -> (&[u8], &[u8]) {
+        let (plan, rival) = match self.found {
+            Some(Found::Plan { plan, .. }) => (plan, 0),
+            Some(Found::Rivalled { plan, rival, .. }) => (plan, rival),
+            Some(Found::Left { .. }) | None => (0, 0),
+        };
+        (&self.plan[..plan], &self.rival[..rival])
+    }
+
     /// The finder's answer as the program prints it.
     fn tell_found(&self, out: &mut impl Write) -> io::Result<()> {
         let Some(found) = self.found else {
             return Ok(());
         };
-        let (Found::Plan { steps } | Found::Left { steps, .. } | Found::Rivalled { steps, .. }) =
+        let (Found::Plan { steps, .. } | Found::Left { steps, .. } | Found::Rivalled { steps, .. }) =
             found;
         for step in &self.diary[..steps] {
             let fate = if step.fate == 1 { "fix" } else { "strike" };
@@ -139,14 +149,15 @@ impl Session {
             )?;
         }
         match found {
-            Found::Plan { .. } => tell_plan(out, "plan", &self.plan),
+            Found::Plan { .. } => tell_plan(out, "plan", self.written().0),
             Found::Left { pairs, .. } => {
                 tell_pairs(out, "none left", &self.left[..PAIR_BYTES * pairs])
             }
             Found::Rivalled { vote, .. } => {
                 writeln!(out, "none rivalled {vote}")?;
-                tell_plan(out, "candidate", &self.plan)?;
-                tell_plan(out, "rival", &self.rival)
+                let (candidate, rival) = self.written();
+                tell_plan(out, "candidate", candidate)?;
+                tell_plan(out, "rival", rival)
             }
         }
     }
@@ -154,16 +165,17 @@ impl Session {
     /// What the desk holds, and what it answers of it.
     fn tell_desk(&self, out: &mut impl Write) -> Result<(), Box<dyn Error>> {
         let mut held = [0; PLAN_BYTES];
-        if self.desk.write_plan(&mut held).is_err() {
+        let Ok(length) = self.desk.write_plan(&mut held) else {
             writeln!(out, "holds no plan")?;
             return Ok(());
-        }
-        tell_plan(out, "holds", &held)?;
+        };
+        let held = &held[..length];
+        tell_plan(out, "holds", held)?;
         let (mut rival, mut pairing) = ([0; PLAN_BYTES], [0; PAIRING_BYTES]);
         match self.desk.judge(&mut rival, &mut pairing)? {
             Verdict::Strong => writeln!(out, "strong")?,
-            Verdict::Popular(vote) => writeln!(out, "popular {vote}")?,
-            Verdict::Beaten(vote) => writeln!(out, "beaten {vote}")?,
+            Verdict::Popular { vote, .. } => writeln!(out, "popular {vote}")?,
+            Verdict::Beaten { vote, .. } => writeln!(out, "beaten {vote}")?,
         }
         match self.desk.blocking()? {
             Some((surveyor, stand, shift)) => writeln!(out, "blocking {surveyor} {stand} {shift}")?,
@@ -176,7 +188,7 @@ impl Session {
                 .collect();
             tell_pairs(out, &format!("day {day}:"), &pairs)?;
         }
-        self.tell_proposal(out, &held)
+        self.tell_proposal(out, held)
     }
 
     /// The votes of an open proposal, who wins, and who faced whom: what a desk like
@@ -187,15 +199,11 @@ impl Session {
             return Ok(());
         }
         let mut proposed = [0; PLAN_BYTES];
-        let proposal = ahead.write_plan(&mut proposed)?;
-        tell_plan(out, "proposal", &proposed)?;
+        let length = ahead.write_plan(&mut proposed)?;
+        let proposed = &proposed[..length];
+        tell_plan(out, "proposal", proposed)?;
         let (mut forward, mut back) = ([0; PAIRING_BYTES], [0; PAIRING_BYTES]);
-        let compared = self.desk.compare(
-            &proposed[..proposal],
-            &held[..length(held)],
-            &mut forward,
-            &mut back,
-        );
+        let compared = self.desk.compare(proposed, held, &mut forward, &mut back);
         let votes = compared.outcome?;
         let winner = match votes.winner {
             Winner::First => "first",
@@ -228,13 +236,8 @@ fn tell_facing(out: &mut impl Write, pairing: &Pairing) -> io::Result<()> {
     writeln!(out, "faced {node}: {}", places.join(", "))
 }
 
-/// How long the plan's file at the front of a buffer is.
-fn length(plan: &[u8]) -> usize {
-    1 + PAIR_BYTES * usize::from(plan[0])
-}
-
 fn tell_plan(out: &mut impl Write, name: &str, plan: &[u8]) -> io::Result<()> {
-    tell_pairs(out, name, &plan[1..length(plan)])
+    tell_pairs(out, name, &plan[1..])
 }
 
 fn tell_pairs(out: &mut impl Write, name: &str, pairs: &[u8]) -> io::Result<()> {

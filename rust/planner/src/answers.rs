@@ -5,12 +5,13 @@ use crate::ffi;
 use crate::refusal::{self, Refusal};
 
 /// What the votes against all plans within the quotas make of a plan. A plan
-/// that is not strong has a rival: the number is the plan's vote against it.
+/// that is not strong has a rival: the plan's vote against it, and how many bytes
+/// of it are in the rival's buffer.
 #[derive(Clone, Copy, Debug, PartialEq, Eq)]
 pub enum Verdict {
     Strong,
-    Popular(i16),
-    Beaten(i16),
+    Popular { vote: i16, rival: usize },
+    Beaten { vote: i16, rival: usize },
 }
 
 /// Which of two plans beats the other: a plan does when the other's vote against
@@ -81,13 +82,19 @@ pub struct Least {
 /// of steps that are in the diary.
 #[derive(Clone, Copy, Debug, PartialEq, Eq)]
 pub enum Found {
-    /// The strongly popular plan is in the plan's buffer.
-    Plan { steps: usize },
+    /// The strongly popular plan is in the plan's buffer: so many bytes.
+    Plan { steps: usize, plan: usize },
     /// There is none: so many pairs remain, in the buffer for them.
     Left { steps: usize, pairs: usize },
     /// There is none: the candidate is in the plan's buffer, its rival in the
-    /// rival's, and this is the candidate's vote against it, zero or below.
-    Rivalled { steps: usize, vote: i16 },
+    /// rival's, each with so many bytes, and this is the candidate's vote against
+    /// it, zero or below.
+    Rivalled {
+        steps: usize,
+        vote: i16,
+        plan: usize,
+        rival: usize,
+    },
 }
 
 /// The length that a call wrote.
@@ -97,10 +104,11 @@ pub(crate) fn length(outcome: &ffi::Outcome) -> Result<usize, Refusal> {
 
 pub(crate) fn verdict(judged: &ffi::Judged) -> Result<Verdict, Refusal> {
     refusal::check(judged.refusal)?;
+    let (vote, rival) = (judged.vote, judged.rival_length);
     Ok(match judged.verdict {
         1 => Verdict::Strong,
-        2 => Verdict::Popular(judged.vote),
-        _ => Verdict::Beaten(judged.vote),
+        2 => Verdict::Popular { vote, rival },
+        _ => Verdict::Beaten { vote, rival },
     })
 }
 
@@ -150,7 +158,10 @@ pub(crate) fn found(reply: &ffi::DeskFound) -> Result<Found, Refusal> {
     refusal::check(reply.refusal)?;
     let steps = reply.steps;
     Ok(match reply.kind {
-        1 => Found::Plan { steps },
+        1 => Found::Plan {
+            steps,
+            plan: reply.plan_length,
+        },
         2 => Found::Left {
             steps,
             pairs: reply.left,
@@ -158,6 +169,8 @@ pub(crate) fn found(reply: &ffi::DeskFound) -> Result<Found, Refusal> {
         _ => Found::Rivalled {
             steps,
             vote: reply.vote,
+            plan: reply.plan_length,
+            rival: reply.rival_length,
         },
     })
 }

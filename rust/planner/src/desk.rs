@@ -103,6 +103,7 @@ impl Desk {
     /// [`crate::PLAN_BYTES`], and gives its length; it stays open. On a refusal no
     /// byte changes.
     pub fn write_proposal(&self, out: &mut [u8]) -> Result<usize, Refusal> {
+        // SAFETY: a slice that is lent to be written, with its own length.
         let reply = unsafe { ffi::crew_write_proposal(self.clone(), out.as_mut_ptr(), out.len()) };
         self.written(&reply)
     }
@@ -110,6 +111,7 @@ impl Desk {
     /// What the desk holds: nothing, a roster, a plan with it, or a proposal beside
     /// both.
     pub fn holds(&self) -> Holding {
+        // SAFETY: no pointer goes in.
         let reply = unsafe { ffi::crew_holds(self.clone()) };
         debug_assert!(*self == reply.desk);
         answers::holding(reply.holds)
@@ -172,7 +174,8 @@ impl Desk {
     /// The verdict on the held plan. The plan of a rival is written to the
     /// front of `rival`, and the pairings of the vote against it to the front of
     /// `pairing`, which needs [`crate::PAIRING_BYTES`]; for a strong plan and on a
-    /// refusal no byte changes. [`Desk::pairings`] reads them.
+    /// refusal no byte changes. The verdict says how long the rival is, and
+    /// [`Desk::pairings`] reads the pairings.
     pub fn judge(&self, rival: &mut [u8], pairing: &mut [u8]) -> Result<Verdict, Refusal> {
         // SAFETY: slices that are lent to be written, each with its own length.
         let reply = unsafe {
@@ -265,8 +268,8 @@ impl Desk {
 
     /// Runs the finder on the held roster. The diary needs
     /// [`crate::DIARY_RECORDS`], `left` [`crate::LEFT_BYTES`], `plan` and
-    /// `rival` [`crate::PLAN_BYTES`] each. Behind what is written, and on a
-    /// refusal, nothing changes.
+    /// `rival` [`crate::PLAN_BYTES`] each. The answer says how much is written to
+    /// each; behind that, and on a refusal, nothing changes.
     pub fn find(
         &self,
         diary: &mut [Step],

@@ -224,22 +224,23 @@ fn judge(random: &mut Random, desk: &Desk, held: &Held) -> u8 {
     };
     let verdict = answer.expect("a plan is held");
     let theirs = fast_verdict(roster, plan);
-    let vote = match verdict {
+    let (vote, length) = match verdict {
         Verdict::Strong => {
             assert_eq!((theirs, rival, pairing), (0, before, facing));
             return 0;
         }
-        Verdict::Popular(vote) => {
+        Verdict::Popular { vote, rival } => {
             assert_eq!((theirs, vote), (1, 0));
-            vote
+            (vote, rival)
         }
-        Verdict::Beaten(vote) => {
+        Verdict::Beaten { vote, rival } => {
             assert_eq!(theirs, 2);
             assert!(vote < 0);
-            vote
+            (vote, rival)
         }
     };
     let rival = check_rival(roster, plan, &before, &rival, vote);
+    assert_eq!(length, plan::write(roster, &rival).len());
     let faced = pairings::bytes_large(roster, plan, &rival);
     only_front(&facing, &pairing, &faced);
     0

@@ -8,7 +8,7 @@ mod calls;
 mod common;
 mod lent;
 
-use calls::{Calls, Desk};
+use calls::{Calls, Desk, Told};
 use common::{damage, plan_front, NUMBERS};
 use lent::{Buffers, SIZES};
 use reference::desk::{record, Found, Judged, NoneKind, Record};
@@ -99,7 +99,7 @@ fn check_only_popular(roster: &Roster, bytes: &[u8], contest: &Contest, handed_b
             let mut rival = [0; planner::PLAN_BYTES];
             let (holding, judged) = holding.judge(&mut rival, &mut [0; planner::PAIRING_BYTES]);
             assert!(
-                matches!(judged, Ok(Judged::Beaten(vote)) if vote < 0),
+                matches!(judged, Ok((Judged::Beaten(vote), _)) if vote < 0),
                 "{judged:?}: {bytes:?} {file:?}"
             );
             holding
@@ -147,7 +147,7 @@ impl Checks {
     }
 
     /// Runs the finder on buffers full of junk.
-    fn find(&mut self, bytes: &[u8]) -> (Found, Buffers) {
+    fn find(&mut self, bytes: &[u8]) -> (Told, Buffers) {
         if self.random.chance(1) {
             let sizes = SIZES.map(|size| size + self.random.below(3));
             self.before = Buffers::new(&mut self.random, sizes);
@@ -162,7 +162,7 @@ impl Checks {
     /// votes, and against the plain rules.
     fn small(&mut self, roster: &Roster) {
         let bytes = roster::write(roster);
-        let (found, after) = self.find(&bytes);
+        let ((found, lengths), after) = self.find(&bytes);
         let outcome = reduction::reduce(roster);
         let steps: Vec<Record> = outcome
             .diary
@@ -177,7 +177,8 @@ impl Checks {
                 assert_eq!(number, steps.len(), "{bytes:?}");
                 assert_eq!(strong.len(), 1, "{bytes:?}");
                 let plan = plan::write(roster, &contest.plans()[strong[0]]);
-                after.hold(before, &steps, &[], &plan, &[]);
+                let written = after.hold(before, &steps, &[], &plan, &[]);
+                assert_eq!(lengths, written, "{bytes:?}");
                 if self.one_judged_of > 0 && self.tally.plan.is_multiple_of(self.one_judged_of) {
                     self.tally.others += check_only_popular(roster, &bytes, &contest, strong[0]);
                 }
@@ -191,7 +192,8 @@ impl Checks {
                 assert_eq!(left, outcome.left.len(), "{bytes:?}");
                 assert!(left > 0);
                 let pairs = pair_bytes(roster, outcome.left.iter().copied());
-                after.hold(before, &steps, &pairs, &[], &[]);
+                let written = after.hold(before, &steps, &pairs, &[], &[]);
+                assert_eq!(lengths, written, "{bytes:?}");
             }
             Found::None {
                 steps: number,
@@ -202,7 +204,8 @@ impl Checks {
                 assert_eq!(outcome.left, [], "{bytes:?}");
                 let (front, rival) = rival_in(roster, &after.rival, &outcome.fixed);
                 let candidate = plan::write(roster, &outcome.fixed);
-                after.hold(before, &steps, &[], &candidate, &front);
+                let written = after.hold(before, &steps, &[], &candidate, &front);
+                assert_eq!(lengths, written, "{bytes:?}");
                 let place = |plan: &Plan| {
                     let mut plans = contest.plans().iter();
                     plans
@@ -225,7 +228,7 @@ impl Checks {
     /// by its vote.
     fn large(&mut self, roster: &Roster) {
         let bytes = roster::write(roster);
-        let (found, after) = self.find(&bytes);
+        let ((found, lengths), after) = self.find(&bytes);
         let instance = fast::roster::read(&bytes).expect("accepted");
         let expected = fast::finder::find(&instance);
         let steps = expected.steps.iter();
@@ -235,7 +238,8 @@ impl Checks {
         match expected.ending {
             Ending::Plan(chosen) => {
                 assert_eq!(found, Found::Plan { steps: number }, "{bytes:?}");
-                after.hold(before, &steps, &[], &written(&instance, &chosen), &[]);
+                let written = after.hold(before, &steps, &[], &written(&instance, &chosen), &[]);
+                assert_eq!(lengths, written, "{bytes:?}");
             }
             Ending::Left(left) => {
                 let kind = NoneKind::Left(left.len());
@@ -248,7 +252,8 @@ impl Checks {
                     "{bytes:?}"
                 );
                 let pairs = pair_bytes(roster, left.iter().map(|&pair| usize::from(pair)));
-                after.hold(before, &steps, &pairs, &[], &[]);
+                let written = after.hold(before, &steps, &pairs, &[], &[]);
+                assert_eq!(lengths, written, "{bytes:?}");
             }
             Ending::Rivalled { candidate, rival } => {
                 let Found::None {
@@ -266,7 +271,8 @@ impl Checks {
                 let own = written(&instance, &candidate);
                 let plan = plan::read(roster, &own).expect("within the quotas");
                 let (front, _) = rival_in(roster, &after.rival, &plan);
-                after.hold(before, &steps, &[], &own, &front);
+                let written = after.hold(before, &steps, &[], &own, &front);
+                assert_eq!(lengths, written, "{bytes:?}");
                 let other = fast::plan::read(&instance, &front).expect("within the quotas");
                 assert_eq!(
                     fast::vote::vote(&instance, &candidate, &other),

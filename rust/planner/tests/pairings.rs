@@ -238,8 +238,8 @@ fn verdicts_of_small_rosters() {
         let verdict = check_verdict(&desk, &roster, &held);
         met[match verdict {
             Verdict::Strong => 0,
-            Verdict::Popular(_) => 1,
-            Verdict::Beaten(_) => 2,
+            Verdict::Popular { .. } => 1,
+            Verdict::Beaten { .. } => 2,
         }] += 1;
     }
     println!("strong, popular, beaten: {met:?}");

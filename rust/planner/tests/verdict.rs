@@ -19,7 +19,7 @@ use reference::tables::{Contest, Tables};
 
 /// The call under test on a desk with these files, with the reference's verdict
 /// and a refusal as its number.
-fn verdict(roster: &[u8], plan: &[u8], rival: &mut [u8]) -> Result<Judged, u8> {
+fn verdict(roster: &[u8], plan: &[u8], rival: &mut [u8]) -> Result<(Judged, usize), u8> {
     let pairing = &mut [0; planner::PAIRING_BYTES];
     let answer = desk_with_plan(roster, plan).and_then(|desk| desk.judge(rival, pairing));
     answer.map(calls::judged).map_err(|refusal| refusal.number)
@@ -116,7 +116,7 @@ impl Tally {
         let before = junk(random, MAX_PLAN_BYTES + random.clone().below(3));
         let mut buffer = before.clone();
         let file = plan::write(roster, plan);
-        let judged = verdict(bytes, &file, &mut buffer).expect("accepted");
+        let (judged, length) = verdict(bytes, &file, &mut buffer).expect("accepted");
         let (sign, vote) = match judged {
             Judged::Strong => (1, None),
             Judged::Popular(vote) => (0, Some(vote)),
@@ -125,10 +125,11 @@ impl Tally {
         assert_eq!(sign, expected, "{bytes:?} {file:?}");
         let Some(vote) = vote else {
             self.strong += 1;
-            return assert_eq!(buffer, before);
+            return assert_eq!((length, buffer), (0, before));
         };
         assert_eq!(vote.signum(), sign, "{bytes:?} {file:?}");
         let written = plan_front(&buffer).to_vec();
+        assert_eq!(length, written.len(), "{bytes:?} {file:?}");
         only_front(&before, &buffer, &written);
         let rival = plan::read(roster, &written)
             .unwrap_or_else(|refusal| panic!("{refusal:?} {bytes:?} {file:?} {written:?}"));
@@ -239,19 +240,19 @@ fn the_cases_of_the_paper() {
     let mut rival = [7; MAX_PLAN_BYTES];
     assert_eq!(
         verdict(p4, &[1, 1, 1, 1], &mut rival),
-        Ok(Judged::Popular(0))
+        Ok((Judged::Popular(0), 4))
     );
     assert_eq!(rival[..5], [1, 2, 1, 1, 7]);
     rival[..4].fill(7);
     assert_eq!(
         verdict(p10, &[2, 1, 2, 1, 2, 1, 1], &mut rival),
-        Ok(Judged::Strong)
+        Ok((Judged::Strong, 0))
     );
     assert_eq!(rival, [7; MAX_PLAN_BYTES]);
     for plan in [&[2, 1, 1, 1, 2, 2, 1], &[2, 1, 2, 1, 2, 1, 1]] {
         assert!(matches!(
             verdict(p6, plan, &mut rival),
-            Ok(Judged::Popular(0))
+            Ok((Judged::Popular(0), _))
         ));
     }
     // one surveyor and one stand, who prefer different shifts
@@ -259,7 +260,7 @@ fn the_cases_of_the_paper() {
     rival.fill(7);
     assert_eq!(
         verdict(shifts, &[1, 1, 1, 1], &mut rival),
-        Ok(Judged::Popular(0))
+        Ok((Judged::Popular(0), 4))
     );
     assert_eq!(rival[..5], [1, 1, 1, 3, 7]);
     let mut tables = Tables::default();
@@ -327,10 +328,11 @@ fn a_beaten_plan_gives_way_to_its_rival() {
             check_large(&mut random, &mut tally, &roster, &plan);
             let mut rival = [0; MAX_PLAN_BYTES];
             let file = plan::write(&roster, &plan);
-            let Ok(Judged::Beaten(_)) = verdict(&roster::write(&roster), &file, &mut rival) else {
+            let judged = verdict(&roster::write(&roster), &file, &mut rival);
+            let Ok((Judged::Beaten(_), length)) = judged else {
                 break;
             };
-            plan = plan::read(&roster, plan_front(&rival)).expect("a plan");
+            plan = plan::read(&roster, &rival[..length]).expect("a plan");
         }
         tally.rosters += 1;
     }

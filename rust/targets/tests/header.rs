@@ -19,7 +19,7 @@ fn structs_are_laid_out_as_by_the_compiler() {
     let offsets: Vec<usize> = desk.fields.iter().map(|field| field.offset).collect();
     assert_eq!(offsets, [0, 8, 4_272, 4_280, 4_480, 4_488]);
     let found = header.structure("crew_desk_found").expect("an answer");
-    assert_eq!(found.size, 4_688 + 24);
+    assert_eq!(found.size, 4_688 + 40);
 }
 
 #[test]

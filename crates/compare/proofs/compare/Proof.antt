@@ -15,6 +15,7 @@ start r = r .before .before .before .before .before
 
 second-judged-requires : tie.Need-second-judged-requires
 second-judged-requires c κs =
+    let at-a2 = c .before .before .before .before .before .before .before in
     let k = c .before .before .before .before .before .before .before .before .before in
     let s = start k in
     let r = k .read-against in
@@ -22,7 +23,7 @@ second-judged-requires c κs =
       (
         s .pre .0,
         read-planned (s .args .g) (s .args .first .now) (r .result) (r .ensures) (s .pre .0) isF
-            (c .before .before .before .before .before .before .before .a2 .given .1),
+            (at-a2 .a2 .given .1),
       ),
       (s .pre .1 .0, s .pre .1 .1),
     )

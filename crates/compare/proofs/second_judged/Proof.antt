@@ -15,6 +15,7 @@ start r = r .before .before .before .before
 
 voted-requires : tie.Need-voted-requires
 voted-requires c κs =
+    let at-a2 = c .before .before .before .before .before .before .before in
     let k = c .before .before .before .before .before .before .before .before .before in
     let s = start k in
     let r = k .read-against in
@@ -23,7 +24,7 @@ voted-requires c κs =
         s .pre .0 .0,
         s .pre .0 .1,
         read-planned (s .args .g) (s .args .second .now) (r .result) (r .ensures) (s .pre .0 .0) isB
-            (c .before .before .before .before .before .before .before .a2 .given .1),
+            (at-a2 .a2 .given .1),
       ),
       (s .pre .1 .0, s .pre .1 .1),
     )

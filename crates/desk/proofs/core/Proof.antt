@@ -4,9 +4,13 @@ use borrow.Author.Needs.{needs}
 use Rattle.desk.proofs.core.Statement.{statement}
 use Rattle.desk.proofs.core.Tie as tie
 
+-- what the search hands on
+abbrev handed : tie.After-replied → tie.After-search
+handed r = r .before .before .before .before .before .before .before
+
 returns : tie.Need-returns
 returns c =
-    let s = c .before .before .before .before .before .before .before in
+    let s = handed c in
     done-replied (c .replied .result) (c .replied .ensures) (s .search .ensures)
 
 pub core-spec : {M : Type 1} → statement M

@@ -4,9 +4,13 @@ use borrow.Author.Needs.{needs}
 use Rattle.desk.proofs.join_core.Statement.{statement}
 use Rattle.desk.proofs.join_core.Tie as tie
 
+-- what the change hands on
+abbrev handed : tie.After-replied → tie.After-join
+handed r = r .before .before .before .before .before .before .before
+
 returns : tie.Need-returns
 returns c =
-    let s = c .before .before .before .before .before .before .before in
+    let s = handed c in
     (s .join .ensures .0, change-replied (c .replied .result) (c .replied .ensures) (s .join .ensures .1))
 
 pub join-core-spec : {M : Type 1} → statement M

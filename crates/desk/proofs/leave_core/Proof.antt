@@ -4,9 +4,13 @@ use borrow.Author.Needs.{needs}
 use Rattle.desk.proofs.leave_core.Statement.{statement}
 use Rattle.desk.proofs.leave_core.Tie as tie
 
+-- what the change hands on
+abbrev handed : tie.After-replied → tie.After-leave
+handed r = r .before .before .before .before .before .before .before
+
 returns : tie.Need-returns
 returns c =
-    let s = c .before .before .before .before .before .before .before in
+    let s = handed c in
     change-replied (c .replied .result) (c .replied .ensures) (s .leave .ensures)
 
 pub leave-core-spec : {M : Type 1} → statement M

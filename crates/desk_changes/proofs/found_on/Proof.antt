@@ -12,13 +12,15 @@ returns c = record {
 }
 
 search-changed-requires : tie.Need-search-changed-requires
-search-changed-requires c κs = c .before .before .before .before .before .before .before .before .pre (c .before .before .before .if1 .left)
+search-changed-requires c κs = let i = c .before .before .before in i .before .before .before .before .before .pre (i .if1 .left)
 
 returns-2 : tie.Need-returns-2
-returns-2 c = record {
-  refuses = λ h. absurd (let z = c .before .before .before .before .before .before .before .before .before .before .if1 .left in let z : ⊥ = omega arith in z);
-  finds = λ z. c .before .before .before .before .before .before .search-changed .ensures;
-}
+returns-2 c =
+    let s = c .before .before .before .before .before .before in
+    record {
+      refuses = λ h. absurd (let z = s .before .before .before .before .if1 .left in let z : ⊥ = omega arith in z);
+      finds = λ z. s .search-changed .ensures;
+    }
 
 pub found-on-spec : {M : Type 1} → statement M
 found-on-spec =

@@ -14,8 +14,9 @@ copy-requires c κs =
 
 returns : tie.Need-returns
 returns c =
-    copied (c .before .before .before .before .before .before .before .args .out .now) (c .before .before .before .before .front .ensures)
-    (c .before .before .copy .ensures .0) (c .before .before .copy .ensures .1)
+    let f = c .before .before .before .before in
+    let k = c .before .before .copy in
+    copied (f .before .before .before .args .out .now) (f .front .ensures) (k .ensures .0) (k .ensures .1)
 
 pub copied-spec : {M : Type 1} → statement M
 copied-spec = tie.close (tie.spec (λ c κs. search needs) copy-requires (λ c. search needs) returns)

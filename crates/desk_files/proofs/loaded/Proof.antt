@@ -8,11 +8,11 @@ use Rattle.desk_files.proofs.loaded.Tie as tie
 
 returns : tie.Need-returns
 returns c =
-    let a = c .before .before .before .before .before .before .before .args in
-    let r = c .before .before .before .front in
+    let r = c .before .before .before in
+    let a = r .before .before .before .before .args in
     let p = c .before .front2 in
     subst (λ b. LoadedFrom (rosterBytes (a .files)) b (a .needs) (a .short) (c .loaded .result)) (p .ensures)
-    (subst (λ b. LoadedFrom b (p .result .now) (a .needs) (a .short) (c .loaded .result)) (r .ensures) (c .loaded .ensures))
+    (subst (λ b. LoadedFrom b (p .result .now) (a .needs) (a .short) (c .loaded .result)) (r .front .ensures) (c .loaded .ensures))
 
 pub loaded-spec : {M : Type 1} → statement M
 loaded-spec =

@@ -18,15 +18,17 @@ on-roster-requires c κs =
 
 returns : tie.Need-returns
 returns c =
-    let a = c .before .before .before .before .before .before .before .args in
+    let r = c .before .before .before .before in
+    let a = r .before .before .before .args in
     roster-missing (a .roster .now) (a .plan .now) (a .needs) (a .short) (c .bare .result)
-    (sym (c .before .enum-told .given .1) ∙ c .before .before .before .before .read-roster .ensures) (c .bare .ensures .1)
+    (sym (c .before .enum-told .given .1) ∙ r .read-roster .ensures) (c .bare .ensures .1)
 
 returns-2 : tie.Need-returns-2
 returns-2 c =
-    let a = c .before .before .before .before .before .before .before .args in
-    let isB : T (isBytes (a .roster .now)) = bytes-of (a .roster .now) (λ j. c .before .before .before .before .before .before .shared-slice-known .given j) in
-    let e = sym (c .before .enum-told2 .given .1) ∙ c .before .before .before .before .read-roster .ensures in
+    let r = c .before .before .before .before in
+    let a = r .before .before .before .args in
+    let isB : T (isBytes (a .roster .now)) = bytes-of (a .roster .now) (λ j. r .before .before .shared-slice-known .given j) in
+    let e = sym (c .before .enum-told2 .given .1) ∙ r .read-roster .ensures in
     let i = c .before .before .before .instance-of in
     roster-there (a .roster .now) isB e (i .result) (i .ensures) (a .plan .now) (a .needs) (a .short) (c .on-roster .result) (c .on-roster .ensures)
 

@@ -17,11 +17,12 @@ returns c =
 
 returns-2 : tie.Need-returns-2
 returns-2 c =
-    let s = c .before .before .before .before .before .before .before .before in
+    let r = c .before .before .before .before .before .before in
+    let s = r .before .before in
     let a = s .args in
-    let p = c .before .before .before .before .before .before .read-against in
+    let p = r .read-against in
     let isB : T (isBytes (a .plan .now)) =
-    bytes-of (a .plan .now) (λ i. c .before .before .before .before .before .before .before .shared-slice-known .given i) in
+    bytes-of (a .plan .now) (λ i. r .before .shared-slice-known .given i) in
     plan-there (a .g) (a .plan .now) (p .result) (p .ensures) (a .short) _ refl (s .pre) isB (c .before .before .before .before .a .given .1)
     (c .before .before .short-refusal .ensures) refl refl refl
 

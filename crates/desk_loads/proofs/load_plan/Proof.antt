@@ -31,14 +31,16 @@ with-plan-requires c κs =
 
 returns-2 : tie.Need-returns-2
 returns-2 c =
-    let d = c .before .before .before .before .before .before .before .args in
-    plan-refused (d .files) (d .file .now) (c .before .before .before .before .before .loaded .ensures) (c .before .before .before .before .if1 .left)
+    let l = c .before .before .before .before .before in
+    let d = l .before .before .args in
+    plan-refused (d .files) (d .file .now) (l .loaded .ensures) (c .before .before .before .before .if1 .left)
     (sym (c .before .a .given .1) ∙ c .before .before .before .read-plan .ensures)
 
 returns-3 : tie.Need-returns-3
 returns-3 c =
-    let d = c .before .before .before .before .before .before .before .args in
-    plan-loaded (d .files) (d .file .now) (c .before .before .before .before .before .loaded .ensures) (c .before .before .before .before .if1 .left)
+    let l = c .before .before .before .before .before in
+    let d = l .before .before .args in
+    plan-loaded (d .files) (d .file .now) (l .loaded .ensures) (c .before .before .before .before .if1 .left)
     (sym (c .before .enum-told .given .1) ∙ c .before .before .before .read-plan .ensures)
     (c .with-plan .result) (c .with-plan .ensures)
 

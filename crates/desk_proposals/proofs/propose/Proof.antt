@@ -24,8 +24,14 @@ abbrev held : tie.After-read-against → tie.After-loaded
 held r = r .before .before
 
 -- the reading, from the votes
-abbrev reading : tie.After-both-votes → tie.After-read-against
-reading v = v .before .before .before .before .before .before .before .before .before .before .before .before .before .before
+abbrev reading : tie.After-a2 → tie.After-read-against
+reading a = a .before .before
+
+-- the file is accepted, before both votes
+abbrev accepted : tie.After-both-votes-arg2 → tie.After-a2
+accepted c =
+    let there = c .before .before .before .before .before .before .before .before .before .before .before in
+    there
 
 returns : tie.Need-returns
 returns c =
@@ -39,7 +45,8 @@ read-against-requires c κs = let l = c .before in arrays-are (start l .args .fi
 
 both-votes-requires : tie.Need-both-votes-requires
 both-votes-requires c κs =
-    let r = c .before .before .before .before .before .before .before .before .before .before .before .before .before in
+    let a = accepted c in
+    let r = reading a in
     let l = held r in
     let d = start l .args in
     let F = l .loaded .ensures in
@@ -49,7 +56,7 @@ both-votes-requires c κs =
       (
         L,
         read-planned (l .loaded .result .g) (d .file .now) (r .read-against .result) (r .read-against .ensures) L isB
-            (c .before .before .before .before .before .before .before .before .before .before .before .a2 .given .1),
+            (a .a2 .given .1),
         held-planned (d .files) (d .file .now) (d .forward .now) (d .back .now) F z,
       ),
       both-long (d .forward .now) (d .back .now) pairingSize pairingSize F z,
@@ -58,12 +65,12 @@ both-votes-requires c κs =
 with-proposal-requires : tie.Need-with-proposal-requires
 with-proposal-requires c κs =
     let v = c .before .before .before .before in
-    let r = reading v in
+    let a = accepted (v .before) in
+    let r = reading a in
     let l = held r in
     let d = start l .args in
     let isB : T (isBytes (d .file .now)) = bytes-of (d .file .now) (λ i. l .before .before .before .shared-slice-known .given i) in
-    given (accepted-read (r .read-against .ensures)
-    (v .before .before .before .before .before .before .before .before .before .before .before .before .a2 .given .1)) (λ (N, y, s).
+    given (accepted-read (r .read-against .ensures) (a .a2 .given .1)) (λ (N, y, s).
     proposal-small (d .files) (d .file .now) (d .forward .now) (d .back .now) (l .loaded .ensures) (r .before .if1 .left) N y
     (r .read-against .result .chosen) s isB)
 
@@ -78,12 +85,12 @@ returns-2 c =
 returns-3 : tie.Need-returns-3
 returns-3 c =
     let v = c .before .before .before .before .before .before in
-    let r = reading v in
+    let a = accepted (v .before) in
+    let r = reading a in
     let l = held r in
     let d = start l .args in
     let b = v .both-votes in
-    given (accepted-read (r .read-against .ensures)
-    (v .before .before .before .before .before .before .before .before .before .before .before .before .a2 .given .1)) (λ (N, y, s).
+    given (accepted-read (r .read-against .ensures) (a .a2 .given .1)) (λ (N, y, s).
     propose-taken (d .files) (d .file .now) (d .forward .now) (d .back .now) (l .loaded .ensures) (r .before .if1 .left) N y
     (r .read-against .result .chosen) s
     (toZ-ofZ w16 (b .result .first) (sfits-of (c .struct-told .given .0 .1)) ∙ b .ensures .0 .0)

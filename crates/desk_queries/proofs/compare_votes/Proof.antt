@@ -8,28 +8,33 @@ use borrow.Author.Needs.{needs}
 use Rattle.desk_queries.proofs.compare_votes.Statement.{statement}
 use Rattle.desk_queries.proofs.compare_votes.Tie as tie
 
+-- the start, from what is loaded
+abbrev start : tie.After-loaded → tie.Start
+start l = l .before .before .before .before .before
+
 returns : tie.Need-returns
 returns c =
-    let d = c .before .before .before .before .before .before .before .args in
-    let l = c .before .before .loaded in
-    by-state (d .files) (compare (d .first .now) (d .second .now) (d .forward .now) (d .back .now)) tt tt (state-is (d .files) (l .ensures))
+    let l = c .before .before in
+    let d = start l .args in
+    by-state (d .files) (compare (d .first .now) (d .second .now) (d .forward .now) (d .back .now)) tt tt (state-is (d .files) (l .loaded .ensures))
     (c .before .if1 .taken)
-    (ap (refused (l .result .refusal)) (c .group-of .ensures))
+    (ap (refused (l .loaded .result .refusal)) (c .group-of .ensures))
 
 compare-requires : tie.Need-compare-requires
 compare-requires c κs =
-    let d = c .before .before .before .before .before .before .before .before .args in
-    let F = c .before .before .before .loaded .ensures in
-    let z = c .before .before .if1 .left in
-    (arrays-are (d .files) F z, both-long (d .forward .now) (d .back .now) pairingSize pairingSize F z)
+    let i = c .before .before in
+    let l = i .before in
+    let d = start l .args in
+    (arrays-are (d .files) (l .loaded .ensures) (i .if1 .left), both-long (d .forward .now) (d .back .now) pairingSize pairingSize (l .loaded .ensures) (i .if1 .left))
 
 returns-2 : tie.Need-returns-2
 returns-2 c =
-    let d = c .before .before .before .before .before .before .before .before .before .before .before .before .before .args in
-    let w = c .before .before .before .before .compare in
-    compare-reply (d .files) (d .first .now) (d .second .now) (d .forward .now) (d .back .now)
-    (c .before .before .before .before .before .before .before .before .loaded .ensures)
-    (c .before .before .before .before .before .before .before .if1 .left) (w .ensures .0) (w .ensures .1)
+    let w = c .before .before .before .before in
+    let i = w .before .before .before in
+    let l = i .before in
+    let d = start l .args in
+    compare-reply (d .files) (d .first .now) (d .second .now) (d .forward .now) (d .back .now) (l .loaded .ensures) (i .if1 .left)
+    (w .compare .ensures .0) (w .compare .ensures .1)
 
 pub compare-votes-spec : {M : Type 1} → statement M
 compare-votes-spec =

@@ -16,9 +16,10 @@ carried-requires c κs =
 
 returns-2 : tie.Need-returns-2
 returns-2 c =
-    let s = c .before .before .before .before .before .before .before in
+    let w = c .before .before .before .before .before in
+    let s = w .before .before in
     let a = s .args in
-    plan-less (a .g) (a .plan .now) (c .before .before .before .before .before .with-plan .ensures) (s .pre) (c .before .before .before .if1 .left)
+    plan-less (a .g) (a .plan .now) (w .with-plan .ensures) (s .pre) (c .before .before .before .if1 .left)
     (a .number) (c .carried .result) (c .carried .ensures)
 
 pub less-spec : {M : Type 1} → statement M

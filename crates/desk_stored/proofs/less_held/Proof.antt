@@ -11,8 +11,9 @@ arrays-of-requires c κs = let (R, a) = c .before .before .before .before .befor
 
 returns : tie.Need-returns
 returns c =
-    let a = c .before .before .before .before .before .before .before .before .args in
-    carried-on (a .files) (a .number) _ (c .before .before .front2 .ensures) (c .before .before .before .before .before .front .ensures)
+    let f = c .before .before .before .before .before in
+    let a = f .before .before .before .args in
+    carried-on (a .files) (a .number) _ (c .before .before .front2 .ensures) (f .front .ensures)
     (c .before .arrays-of .ensures) (c .less .ensures)
 
 pub less-held-spec : {M : Type 1} → statement M

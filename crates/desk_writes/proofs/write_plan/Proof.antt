@@ -12,6 +12,9 @@ use borrow.Author.Needs.{needs}
 use Rattle.desk_writes.proofs.write_plan.Statement.{statement}
 use Rattle.desk_writes.proofs.write_plan.Tie as tie
 
+full : (s : tie.Start) → length (s .args .files .plan) ≡ planSize
+full s = search needs
+
 returns : tie.Need-returns
 returns c =
     let d = c .before .before .before .before .args in
@@ -21,16 +24,16 @@ returns c =
 
 copied-requires : tie.Need-copied-requires
 copied-requires c κs =
-    let d = c .before .before .before .before .before .before .args in
-    let full : length (d .files .plan) ≡ planSize = search needs in
-    omega (arith, full, long-enough (d .out .now) planSize (c .before .before .before .before .loaded .ensures) (c .before .before .before .if1 .left))
+    let i = c .before .before .before in
+    let s = i .before .before .before in
+    omega (arith, full s, long-enough (s .args .out .now) planSize (i .before .loaded .ensures) (i .if1 .left))
 
 returns-2 : tie.Need-returns-2
 returns-2 c =
-    let d = c .before .before .before .before .before .before .before .before .before .args in
-    write-plan-reply (d .files) (c .before .before .before .before .before .before .before .loaded .ensures)
-    (c .before .before .before .before .before .before .if1 .left) (d .out .now) refl (c .before .before .copied .ensures .0)
-    (c .before .before .copied .ensures .1)
+    let k = c .before .before in
+    let i = k .before .before .before .before in
+    let d = i .before .before .before .args in
+    write-plan-reply (d .files) (i .before .loaded .ensures) (i .if1 .left) (d .out .now) refl (k .copied .ensures .0) (k .copied .ensures .1)
 
 pub write-plan-spec : {M : Type 1} → statement M
 write-plan-spec =

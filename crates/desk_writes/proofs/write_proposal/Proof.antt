@@ -8,6 +8,9 @@ use borrow.Author.Needs.{needs}
 use Rattle.desk_writes.proofs.write_proposal.Statement.{statement}
 use Rattle.desk_writes.proofs.write_proposal.Tie as tie
 
+full : (s : tie.Start) → length (s .args .files .proposal) ≡ planSize
+full s = search needs
+
 returns : tie.Need-returns
 returns c =
     let d = c .before .before .before .before .args in
@@ -15,16 +18,16 @@ returns c =
 
 copied-requires : tie.Need-copied-requires
 copied-requires c κs =
-    let d = c .before .before .before .before .before .before .args in
-    let full : length (d .files .proposal) ≡ planSize = search needs in
-    let long = write-proposal-long (d .files) (d .out .now) (c .before .before .before .before .open-refusal .ensures) (c .before .before .before .if1 .left) in
-    omega (arith, full, long)
+    let i = c .before .before .before in
+    let s = i .before .before .before in
+    omega (arith, full s, write-proposal-long (s .args .files) (s .args .out .now) (i .before .open-refusal .ensures) (i .if1 .left))
 
 returns-2 : tie.Need-returns-2
 returns-2 c =
-    let d = c .before .before .before .before .before .before .before .before .before .args in
-    write-proposal-reply (d .files) (d .out .now) (c .before .before .before .before .before .before .before .open-refusal .ensures)
-    (c .before .before .before .before .before .before .if1 .left) (c .before .before .copied .ensures .0) (c .before .before .copied .ensures .1)
+    let k = c .before .before in
+    let i = k .before .before .before .before in
+    let d = i .before .before .before .args in
+    write-proposal-reply (d .files) (d .out .now) (i .before .open-refusal .ensures) (i .if1 .left) (k .copied .ensures .0) (k .copied .ensures .1)
 
 pub write-proposal-spec : {M : Type 1} → statement M
 write-proposal-spec =

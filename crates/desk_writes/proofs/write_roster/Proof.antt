@@ -6,6 +6,7 @@ use lib.Dec.{ltb, nltb→le}
 use Rattle.lists.specs.Test.{false-T}
 use Rattle.model.specs.Limits.{rosterSize}
 use Rattle.model_desk.specs.Desk.{writeRosterTo, refused}
+use Rattle.desk_files.specs.Held.{rosterBytes}
 use Rattle.desk_files.specs.State.{by-state}
 use Rattle.desk_loaded.specs.RosterBytes.{Judged, judged-long}
 use Rattle.desk_writes.specs.Writing.{judged-state, write-roster-reply}
@@ -13,31 +14,37 @@ use borrow.Author.Needs.{needs}
 use Rattle.desk_writes.proofs.write_roster.Statement.{statement}
 use Rattle.desk_writes.proofs.write_roster.Tie as tie
 
+-- the start, and the roster's bytes as they are judged
+abbrev start : tie.After-roster-refusal → tie.Start
+start r = r .before .before .before .before .before
+
+judged : (r : tie.After-roster-refusal)
+    → Judged (rosterBytes (start r .args .files)) (ltb (length (start r .args .out .now)) rosterSize) (r .roster-refusal .result)
+judged r = subst (λ bs. Judged bs (ltb (length (start r .args .out .now)) rosterSize) (r .roster-refusal .result)) (r .before .front .ensures)
+    (r .roster-refusal .ensures)
+
+full : (s : tie.Start) → length (s .args .files .roster) ≡ rosterSize
+full s = search needs
+
 returns : tie.Need-returns
 returns c =
-    let d = c .before .before .before .before .before .before .before .args in
-    let r = c .before .before .roster-refusal in
-    let J = subst (λ bs. Judged bs (ltb (length (d .out .now)) rosterSize) (r .result)) (c .before .before .before .front .ensures) (r .ensures) in
-    by-state (d .files) (writeRosterTo (d .out .now)) tt tt (judged-state (d .files) J) (c .before .if1 .taken)
-    (ap (refused (r .result)) (c .group-of .ensures))
+    let r = c .before .before in
+    let d = start r .args in
+    by-state (d .files) (writeRosterTo (d .out .now)) tt tt (judged-state (d .files) (judged r)) (c .before .if1 .taken)
+    (ap (refused (r .roster-refusal .result)) (c .group-of .ensures))
 
 copied-requires : tie.Need-copied-requires
 copied-requires c κs =
-    let d = c .before .before .before .before .before .before .before .before .args in
-    let r = c .before .before .before .roster-refusal in
-    let J = subst (λ bs. Judged bs (ltb (length (d .out .now)) rosterSize) (r .result)) (c .before .before .before .before .front .ensures) (r .ensures) in
-    let full : length (d .files .roster) ≡ rosterSize = search needs in
-    omega (arith, full, nltb→le (length (d .out .now)) rosterSize (false-T (judged-long J (c .before .before .if1 .left))))
+    let i = c .before .before in
+    let s = start (i .before) in
+    omega (arith, full s, nltb→le (length (s .args .out .now)) rosterSize (false-T (judged-long (judged (i .before)) (i .if1 .left))))
 
 returns-2 : tie.Need-returns-2
 returns-2 c =
-    let d = c .before .before .before .before .before .before .before .before .before .before .before .args in
-    let r = c .before .before .before .before .before .before .roster-refusal in
-    let J = subst (λ bs. Judged bs (ltb (length (d .out .now)) rosterSize) (r .result)) (c .before .before .before .before .before .before .before .front
-    .ensures)
-    (r .ensures) in
-    let k = c .before .before .copied in
-    write-roster-reply (d .files) J (c .before .before .before .before .before .if1 .left) (d .out .now) refl (k .ensures .0) (k .ensures .1)
+    let k = c .before .before in
+    let i = k .before .before .before in
+    let d = start (i .before) .args in
+    write-roster-reply (d .files) (judged (i .before)) (i .if1 .left) (d .out .now) refl (k .copied .ensures .0) (k .copied .ensures .1)
 
 pub write-roster-spec : {M : Type 1} → statement M
 write-roster-spec =

@@ -9,7 +9,7 @@ use Rattle.model.specs.RosterFile.{readRoster}
 use Rattle.model_files.specs.Districts.{joinedFile}
 use Rattle.theory_files.specs.Reads.{bytes-are}
 use Rattle.answers.specs.FileCases.{case-accepted}
-use Rattle.file_calls.specs.Settling.{answers-short, answers-settled}
+use Rattle.answers.specs.Settling.{answers-short, answers-settled}
 use Rattle.districts.specs.Joins.{joins, first-turned}
 use Rattle.districts.proofs.join.Statement.{statement}
 use Rattle.districts.proofs.join.Tie as tie

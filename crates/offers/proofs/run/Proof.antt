@@ -2,7 +2,7 @@
 use Prim.Native.Nat.{_-_}
 use native.Mathlib.Omega.{arith}
 use borrow.Author.Needs.{needs}
-use Rattle.reduction_cells.specs.Cells.{cell-inside}
+use Rattle.reduction_cells.specs.Cells.{celled-spread}
 use Rattle.offers.specs.NextEntry.{offering, Missed}
 use Rattle.offers.specs.Turned.{standing}
 use Rattle.offers.specs.Running.{Ready, unmarked, Running, running-start, running-next, resumed, none-left, all-made}
@@ -29,7 +29,7 @@ next-offer-requires c κs =
     let L = s .pre .0 .loaded in (
       L .surveyors,
       L .edges,
-      cell-inside (g .m) (g .sv) (g .«rank_s») unmarked (s .args .cell .now) (s .pre .1),
+      celled-spread (g .m) (g .sv) (g .«rank_s») unmarked (s .args .cell .now) (s .pre .1) .inside,
       c .before .before .before .loop .inv .1,
     )
 

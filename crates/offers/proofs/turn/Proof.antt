@@ -69,7 +69,9 @@ cast-u : tie.Need-cast-u
 cast-u c = let s = c .before .before .before .before .before .before .before .before in omega (arith, other s (omega arith))
 
 mul-kept-2 : tie.Need-mul-kept-2
-mul-kept-2 c = omega (arith, to (c .before .before .before .before .before .before .before .before))
+mul-kept-2 c =
+    let there = c .before .before .before .before .before .before .before .before in
+    omega (arith, to (there))
 
 element-write-kept-2 : tie.Need-element-write-kept-2
 element-write-kept-2 c = let s = c .before .before .before .before .before .before .before .before in omega (arith, to s, s .pre .1 .0 .1)

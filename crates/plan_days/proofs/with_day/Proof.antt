@@ -101,6 +101,8 @@ add-chase c = search needs
 
 chase-requires : tie.Need-chase-requires
 chase-requires c κs =
+    let at-if1 = c .before .before .before .before .before .before .before in
+    let at-who-at = at-if1 .before in
     let s = c .before .before .before .before .before .before .before .before .before .before .before .before in
     let a = s .args in
     let f = c .before .before .before .before .before .before .before .before .before .before .free-day in
@@ -108,19 +110,20 @@ chase-requires c κs =
     subst (λ w. Chasing (a .k + 1) (a .sv .now) (a .st .now) (g .result) (f .result) (a .k) (set (a .day .now) (a .k) (g .result)) w (a .wt .now))
     (sym (c .before .before .before .tell3 .ensures))
     (chasing (a .k) (a .sv .now) (a .st .now) (a .day .now) (a .ws .now) (a .wt .now) (s .pre) (f .result) (f .ensures) (g .result) (g .ensures)
-    (λ z. c .before .before .before .before .before .before .before .if1 .left (c .before .before .before .before .before .before .before .before .who-at
+    (λ z. at-if1 .if1 .left (at-who-at .who-at
     .ensures ∙ z)))
 
 returns-2 : tie.Need-returns-2
 returns-2 c =
+    let at-if1 = c .before .before .before .before .before .before .before .before in
+    let at-who-at = at-if1 .before in
     let s = c .before .before .before .before .before .before .before .before .before .before .before .before .before in
     let a = s .args in
     let f = c .before .before .before .before .before .before .before .before .before .before .before .free-day in
     let g = c .before .before .before .before .before .before .free-day2 in
     let r = c .chase .ensures in (
       r .0 ∙ chained (a .k) (a .sv .now) (a .st .now) (a .day .now) (a .ws .now) (a .wt .now) (s .pre) (f .result) (f .ensures) (g .result) (g .ensures)
-          (λ z. c .before .before .before .before .before .before .before .before .if1 .left (c .before .before .before .before .before .before .before
-          .before .before .who-at .ensures ∙ z)),
+          (λ z. at-if1 .if1 .left (at-who-at .who-at .ensures ∙ z)),
       r .1,
       r .2,
     )

@@ -40,13 +40,14 @@ passing : (c : tie.Else2 Inv-loop μ-loop) → let l =
     (e < a .m) × (l .loop .from ≤ e) × (at (l .loop .us) (at (a .sv .now) e) < at (a .qs .now) (at (a .sv .now) e))
     × (at (l .loop .ut) (at (a .st .now) e) < at (a .qt .now) (at (a .st .now) e))
 passing c =
+    let at-loop-test = c .before .before .before .before .before .before .before in
     let l = c .before .before .before .before .before .before .before .before in
     let s = l .before .before .before in
     let a = s .args in
     let k = c .before .before .before .before in
     invariant-passed (a .shifts) (a .m) (a .sv .now) (a .st .now) (a .sh .now) (a .qs .now)
     (a .qt .now) (a .file .now) (a .n) (l .loop .k) (l .loop .at) (l .loop .from) (l .loop .chosen)
-    (l .loop .edges) (l .loop .us) (l .loop .ut) (l .loop .inv .1) (c .before .before .before .before .before .before .before .loop-test .taken)
+    (l .loop .edges) (l .loop .us) (l .loop .ut) (l .loop .inv .1) (at-loop-test .loop-test .taken)
     (l .before .width .result) (l .before .width .ensures)
     (s .pre .0 .1) (s .pre .0 .2) (c .before .before .before .before .before .before .if1 .left) (k .edge-of .result) (found k)
     (c .before .pair-refusal .result) (c .before .pair-refusal .ensures) (omega arith)
@@ -106,6 +107,7 @@ pair-refusal-requires c κs = let s = c .before .before .before .before .before 
 
 returns-2 : tie.Need-returns-2 Inv-loop μ-loop
 returns-2 c =
+    let at-loop-test = c .before .before .before .before .before .before .before in
     let l = c .before .before .before .before .before .before .before .before in
     let s = l .before .before .before in
     let a = s .args in
@@ -117,7 +119,7 @@ returns-2 c =
     (invariant-refused (a .shifts) (a .m) (a .sv .now) (a .st .now) (a .sh .now)
     (a .qs .now) (a .qt .now) (a .file .now) (a .n) (l .loop .k) (l .loop .at) (l .loop .from)
     (l .loop .chosen) (l .loop .edges) (l .loop .us) (l .loop .ut) (l .loop .inv .1)
-    (c .before .before .before .before .before .before .before .loop-test .taken) (l .before .width .result) (l .before .width .ensures)
+    (at-loop-test .loop-test .taken) (l .before .width .result) (l .before .width .ensures)
     (s .pre .0 .1) (s .pre .0 .2)
     (c .before .before .before .before .before .before .if1 .left) (k .edge-of .result) (found k)
     (c .before .pair-refusal .result) (c .before .pair-refusal .ensures) (omega arith)))
@@ -163,6 +165,8 @@ add-from c = omega (arith, passing (c .before .before) .0)
 
 loop-again : tie.Need-loop-again Inv-loop μ-loop
 loop-again c =
+    let at-if1 = c .before .before .before .before .before .before .before .before in
+    let at-loop-test = at-if1 .before in
     let l = c .before .before .before .before .before .before .before .before .before .before in
     let s = l .before .before .before in
     let a = s .args in
@@ -171,9 +175,9 @@ loop-again c =
       invariant-on (a .shifts) (a .m) (a .sv .now) (a .st .now) (a .sh .now) (a .qs .now)
           (a .qt .now) (a .file .now) (a .n) (l .loop .k) (l .loop .at) (l .loop .from) (l .loop .chosen)
           (l .loop .edges) (l .loop .us) (l .loop .ut) (l .loop .inv .1)
-          (c .before .before .before .before .before .before .before .before .before .loop-test .taken) (l .before .width .result) (l .before .width .ensures)
+          (at-loop-test .loop-test .taken) (l .before .width .result) (l .before .width .ensures)
           (s .pre .0 .1) (s .pre .0 .2)
-          (c .before .before .before .before .before .before .before .before .if1 .left) (k .edge-of .result) (found k)
+          (at-if1 .if1 .left) (k .edge-of .result) (found k)
           (c .before .before .before .pair-refusal .result) (c .before .before .before .pair-refusal .ensures) (omega arith) (omega arith) (s .pre .0 .0),
     )
 

@@ -58,25 +58,32 @@ put-requires c κs =
     (omega (arith, room (c .before .before .before .before), l .loop .inv .2), p .1 (l .loop .e) h, p .2 (l .loop .e) h)
 
 add-k : tie.Need-add-k Inv-loop μ-loop
-add-k c = omega (arith, room (c .before .before .before .before .before .before .before))
+add-k c =
+    let there = c .before .before .before .before .before .before .before in
+    omega (arith, room (there))
 
 add-e-2 : tie.Need-add-e-2 Inv-loop μ-loop
 add-e-2 c =
+    let entry = c .before .before .before .before .before .before .before .before .before .before .before .before in
     let h = c .before .before .before .before .before .before .before .before .before .loop-test .taken in
-    omega (arith, h, c .before .before .before .before .before .before .before .before .before .before .before .before .pre .0)
+    omega (arith, h, entry .pre .0)
 
 loop-less-2 : tie.Need-loop-less-2 Inv-loop μ-loop
-loop-less-2 c = omega (arith, c .before .before .before .before .before .before .before .before .before .loop-test .taken)
+loop-less-2 c =
+    let at-loop-test = c .before .before .before .before .before .before .before .before .before in
+    omega (arith, at-loop-test .loop-test .taken)
 
 loop-again-2 : tie.Need-loop-again-2 Inv-loop μ-loop
 loop-again-2 c =
+    let at-if1 = c .before .before .before .before .before .before .before in
+    let at-loop-test = at-if1 .before .before in
     let l = c .before .before .before .before .before .before .before .before .before .before in
     let a = l .before .before .args in
     let w = c .before .before .put .ensures in (
-      omega (arith, c .before .before .before .before .before .before .before .before .before .loop-test .taken),
+      omega (arith, at-loop-test .loop-test .taken),
       turn-one (a .sv .now) (a .st .now) (a .sh .now) (a .chosen .now) (a .from) (a .out .now) (l .loop .e) (l .loop .k) (l .loop .out) (l .loop .inv .1 .0)
-          (l .loop .inv .1 .1) (not-no _ (c .before .before .before .before .before .before .before .if1 .left))
-          (room (c .before .before .before .before .before .before .before)) w,
+          (l .loop .inv .1 .1) (not-no _ (at-if1 .if1 .left))
+          (room (at-if1)) w,
       ap length w ∙ with-length (l .loop .out) (pairWidth * l .loop .k + a .from)
           (at (a .sv .now) (l .loop .e)) (at (a .st .now) (l .loop .e)) (at (a .sh .now) (l .loop .e))
           ∙ l .loop .inv .2,

@@ -12,13 +12,16 @@ worked-requires c κs = case-accepted _ (sym (c .before .enum-told .given .1) �
 
 returns : tie.Need-returns
 returns c =
+    let at-a = c .before .before .before .before .before .before .before in
+    let at-read-roster = at-a .before .before in
+    let at-shared-slice-known = at-read-roster .before in
     let b = c .before .before .before .before .before .before .before .before .before .before .before in
     let isB =
-    bytes-of (b .args .input .now) (λ k. c .before .before .before .before .before .before .before .before .before .before .shared-slice-known .given k) in
+    bytes-of (b .args .input .now) (λ k. at-shared-slice-known .shared-slice-known .given k) in
     prints (b .args .input .now) isB _ _ _ _ _
     (refused-handed (b .args .input .now) isB
-    (sym (c .before .before .before .before .before .before .before .a .given .1)
-    ∙ c .before .before .before .before .before .before .before .before .before .read-roster .ensures)
+    (sym (at-a .a .given .1)
+    ∙ at-read-roster .read-roster .ensures)
     _ _ _ _)
     _ _ _ (search needs) (c .answer-text .ensures)
 

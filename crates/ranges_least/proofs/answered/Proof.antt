@@ -56,9 +56,10 @@ array-share-prefix-ranks c = omega (
 
 slice-aggregate-copy : tie.Need-slice-aggregate-copy
 slice-aggregate-copy c =
+    let entry = c .before .before .before .before .before .before .before in
     let w = c .before .before .before .before .choose in
-    sym (length-take-le (2 * c .before .before .before .before .before .before .before .args .g .m) (w .result .ranks) (omega
-    (arith, w .ensures .size, c .before .before .before .before .before .before .before .pre .0 .0 .edges)))
+    sym (length-take-le (2 * entry .args .g .m) (w .result .ranks) (omega
+    (arith, w .ensures .size, entry .pre .0 .0 .edges)))
 
 copy-requires : tie.Need-copy-requires
 copy-requires c κs =

@@ -37,10 +37,11 @@ returns c =
 
 returns-2 : tie.Need-returns-2
 returns-2 c =
+    let at-a2 = c .before .before .before .before .before .before .before .before .before in
     let r = c .before .before .before .before .before .before .before .before .before .before .before in
     let a = start r .args in
     first-accepted (a .g) (a .first .now) (r .read-against .result) (r .read-against .ensures) (a .out .now) (a .second .now) (a .ranges .now)
-    (c .before .before .before .before .before .before .before .before .before .a2 .given .1) (c .before .before .second-judged .ensures)
+    (at-a2 .a2 .given .1) (c .before .before .second-judged .ensures)
 
 pub least-spec : {M : Type 1} → statement M
 least-spec =

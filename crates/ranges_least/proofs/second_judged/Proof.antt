@@ -38,10 +38,11 @@ returns c =
 
 returns-2 : tie.Need-returns-2
 returns-2 c =
+    let at-a2 = c .before .before .before .before .before .before .before .before .before in
     let r = c .before .before .before .before .before .before .before .before .before .before .before in
     let a = start r .args in
     second-accepted (a .g) (a .second .now) (r .read-against .result) (r .read-against .ensures) (a .out .now) (a .p .now) (a .ranges .now)
-    (c .before .before .before .before .before .before .before .before .before .a2 .given .1) (c .before .before .ranges-judged .ensures)
+    (at-a2 .a2 .given .1) (c .before .before .ranges-judged .ensures)
 
 pub second-judged-spec : {M : Type 1} → statement M
 second-judged-spec =

@@ -9,15 +9,15 @@ use Rattle.lists.specs.Test.{bit-one}
 use Rattle.lists.specs.Search.{low, low-hit, low-miss}
 use Rattle.model.specs.Limits.{emptyRank}
 use Rattle.arrays.specs.ArrayInstance.{flag}
-use Rattle.reduction_cells.specs.Cells.{edgeIn, inCell, passed, passed-next, passed-few, cell-inside}
+use Rattle.reduction_cells.specs.Cells.{edgeIn, inCell, passed, passed-next, passed-few}
 use Rattle.reduction_cells.proofs.bar.Statement.{statement}
 use Rattle.reduction_cells.proofs.bar.Tie as tie
 
 abbrev Inv-loop : tie.InvT-loop
-Inv-loop m end rank tied cell v p q b c₀ r₀ c r = (r ≤ emptyRank) × (c ≡ passed m cell (flag p) v r) × (low (λ r. leb q (passed m cell (flag p) v r)) r ≡ r)
+Inv-loop m table v p q b c₀ r₀ c r = (r ≤ emptyRank) × (c ≡ passed m table (flag p) v r) × (low (λ r. leb q (passed m table (flag p) v r)) r ≡ r)
 
 abbrev μ-loop : tie.MeasureT-loop
-μ-loop m end rank tied cell v p q b c₀ r₀ c r = emptyRank - r
+μ-loop m table v p q b c₀ r₀ c r = emptyRank - r
 
 loop-holds : tie.Need-loop-holds Inv-loop μ-loop
 unfolding low passed
@@ -28,8 +28,8 @@ returns : tie.Need-returns Inv-loop μ-loop
 returns c =
     let a = c .before .before .before .args in
     let l = c .before .before .loop in
-    sym (low-hit (λ r. leb (a .q) (passed (a .m) (a .cell .now) (flag (a .p .now)) (a .v) r)) (l .r) emptyRank (l .inv .2)
-    (le-leb (a .q) (passed (a .m) (a .cell .now) (flag (a .p .now)) (a .v) (l .r)) (omega (arith, l .inv .1))) (omega arith))
+    sym (low-hit (λ r. leb (a .q) (passed (a .m) (a .table .now) (flag (a .p .now)) (a .v) r)) (l .r) emptyRank (l .inv .2)
+    (le-leb (a .q) (passed (a .m) (a .table .now) (flag (a .p .now)) (a .v) (l .r)) (omega (arith, l .inv .1))) (omega arith))
 
 cast-e : tie.Need-cast-e Inv-loop μ-loop
 cast-e c =
@@ -38,8 +38,7 @@ cast-e c =
     omega (
       arith,
       c .before .before .before .before .pre .1 .edges,
-      cell-inside (a .m) (a .end .now) (a .rank .now) (a .tied .now) (a .cell .now)
-          (c .before .before .before .before .pre .1) (a .v) (l .r) (c .before .before .before .before .pre .0) (omega arith),
+      c .before .before .before .before .pre .1 .inside (a .v) (l .r) (c .before .before .before .before .pre .0) (omega arith),
     )
 
 held-requires : tie.Need-held-requires Inv-loop μ-loop
@@ -53,10 +52,10 @@ add-c c =
     omega (
       arith,
       l .inv .1,
-      passed-few (a .m) (a .cell .now) (flag (a .p .now)) (a .v) (l .r),
+      passed-few (a .m) (a .table .now) (flag (a .p .now)) (a .v) (l .r),
       c .held .ensures,
       bit-one
-          (edgeIn (a .m) (flag (a .p .now)) (inCell (a .cell .now) (a .v) (l .r))),
+          (edgeIn (a .m) (flag (a .p .now)) (inCell (a .table .now) (a .v) (l .r))),
     )
 
 loop-again : tie.Need-loop-again Inv-loop μ-loop
@@ -64,9 +63,9 @@ loop-again c =
     let a = c .before .before .before .before .before .args in
     let l = c .before .before .before .before .loop in (
       omega arith,
-      omega (arith, l .inv .1, c .held .ensures, passed-next (a .m) (a .cell .now) (flag (a .p .now)) (a .v) (l .r)),
-      low-miss (λ r. leb (a .q) (passed (a .m) (a .cell .now) (flag (a .p .now)) (a .v) r)) (l .r) (l .inv .2)
-          (lt-leb (a .q) (passed (a .m) (a .cell .now) (flag (a .p .now)) (a .v) (l .r)) (omega (arith, l .inv .1))),
+      omega (arith, l .inv .1, c .held .ensures, passed-next (a .m) (a .table .now) (flag (a .p .now)) (a .v) (l .r)),
+      low-miss (λ r. leb (a .q) (passed (a .m) (a .table .now) (flag (a .p .now)) (a .v) r)) (l .r) (l .inv .2)
+          (lt-leb (a .q) (passed (a .m) (a .table .now) (flag (a .p .now)) (a .v) (l .r)) (omega (arith, l .inv .1))),
     )
 
 returns-2 : tie.Need-returns-2 Inv-loop μ-loop
@@ -74,7 +73,7 @@ returns-2 c =
     let a = c .before .before .args in
     let l = c .before .loop in
     let e : l .r ≡ emptyRank = omega arith in
-    sym (l .inv .2) ∙ ap (low (λ r. leb (a .q) (passed (a .m) (a .cell .now) (flag (a .p .now)) (a .v) r))) e
+    sym (l .inv .2) ∙ ap (low (λ r. leb (a .q) (passed (a .m) (a .table .now) (flag (a .p .now)) (a .v) r))) e
 
 pub bar-spec : {M : Type 1} → statement M
 bar-spec = tie.close (tie.spec Inv-loop μ-loop (λ c. search needs) loop-holds (λ c. search needs) returns (λ c. search needs) (λ c. search needs)

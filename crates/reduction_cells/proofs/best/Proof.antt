@@ -10,15 +10,15 @@ use Rattle.lists.specs.Test.{bit-yes, T-false, by-test}
 use Rattle.lists.specs.Search.{low, low-hit, low-miss}
 use Rattle.model.specs.Limits.{emptyRank}
 use Rattle.arrays.specs.ArrayInstance.{flag}
-use Rattle.reduction_cells.specs.Cells.{edgeIn, inCell, cell-inside, bit-is}
+use Rattle.reduction_cells.specs.Cells.{edgeIn, inCell, bit-is}
 use Rattle.reduction_cells.proofs.best.Statement.{statement}
 use Rattle.reduction_cells.proofs.best.Tie as tie
 
 abbrev Inv-loop : tie.InvT-loop
-Inv-loop m end rank tied cell v p b r₀ r = (r ≤ emptyRank) × (low (λ r. edgeIn m (flag p) (inCell cell v r)) r ≡ r)
+Inv-loop m table v p b r₀ r = (r ≤ emptyRank) × (low (λ r. edgeIn m (flag p) (inCell table v r)) r ≡ r)
 
 abbrev μ-loop : tie.MeasureT-loop
-μ-loop m end rank tied cell v p b r₀ r = emptyRank - r
+μ-loop m table v p b r₀ r = emptyRank - r
 
 loop-holds : tie.Need-loop-holds Inv-loop μ-loop
 unfolding low
@@ -32,8 +32,7 @@ cast-e c =
     omega (
       arith,
       c .before .before .before .pre .1 .edges,
-      cell-inside (a .m) (a .end .now) (a .rank .now) (a .tied .now) (a .cell .now)
-          (c .before .before .before .pre .1) (a .v) (l .r) (c .before .before .before .pre .0) (omega arith),
+      c .before .before .before .pre .1 .inside (a .v) (l .r) (c .before .before .before .pre .0) (omega arith),
     )
 
 held-requires : tie.Need-held-requires Inv-loop μ-loop
@@ -44,9 +43,9 @@ returns : tie.Need-returns Inv-loop μ-loop
 returns c =
     let a = c .before .before .before .before .before .args in
     let l = c .before .before .before .before .loop in
-    let h = low-hit (λ r. edgeIn (a .m) (flag (a .p .now)) (inCell (a .cell .now) (a .v) r)) (l .r) emptyRank (l .inv .1)
-    (bit-is (edgeIn (a .m) (flag (a .p .now)) (inCell (a .cell .now) (a .v) (l .r))) (sym (c .before .held .ensures) ∙ c .if1 .taken)) (omega arith) in
-    sym (ap (λ r. cond (ltb r emptyRank) (inCell (a .cell .now) (a .v) r) (a .m)) h ∙ ap (λ b. cond b (inCell (a .cell .now) (a .v) (l .r)) (a .m))
+    let h = low-hit (λ r. edgeIn (a .m) (flag (a .p .now)) (inCell (a .table .now) (a .v) r)) (l .r) emptyRank (l .inv .1)
+    (bit-is (edgeIn (a .m) (flag (a .p .now)) (inCell (a .table .now) (a .v) (l .r))) (sym (c .before .held .ensures) ∙ c .if1 .taken)) (omega arith) in
+    sym (ap (λ r. cond (ltb r emptyRank) (inCell (a .table .now) (a .v) r) (a .m)) h ∙ ap (λ b. cond b (inCell (a .table .now) (a .v) (l .r)) (a .m))
     (lt-ltb (l .r) emptyRank (omega arith)))
 
 loop-again : tie.Need-loop-again Inv-loop μ-loop
@@ -54,9 +53,9 @@ loop-again c =
     let a = c .before .before .before .before .before .args in
     let l = c .before .before .before .before .loop in (
       omega arith,
-      low-miss (λ r. edgeIn (a .m) (flag (a .p .now)) (inCell (a .cell .now) (a .v) r)) (l .r) (l .inv .1)
-          (T-false (by-test (edgeIn (a .m) (flag (a .p .now)) (inCell (a .cell .now) (a .v) (l .r)))
-          (λ t. absurd (c .if1 .left (c .before .held .ensures ∙ bit-yes (edgeIn (a .m) (flag (a .p .now)) (inCell (a .cell .now) (a .v) (l .r))) t)))
+      low-miss (λ r. edgeIn (a .m) (flag (a .p .now)) (inCell (a .table .now) (a .v) r)) (l .r) (l .inv .1)
+          (T-false (by-test (edgeIn (a .m) (flag (a .p .now)) (inCell (a .table .now) (a .v) (l .r)))
+          (λ t. absurd (c .if1 .left (c .before .held .ensures ∙ bit-yes (edgeIn (a .m) (flag (a .p .now)) (inCell (a .table .now) (a .v) (l .r))) t)))
           (λ t. t))),
     )
 
@@ -65,9 +64,9 @@ returns-2 c =
     let a = c .before .before .args in
     let l = c .before .loop in
     let e : emptyRank ≡ l .r = omega arith in
-    let h : low (λ r. edgeIn (a .m) (flag (a .p .now)) (inCell (a .cell .now) (a .v) r)) emptyRank ≡ emptyRank = ap
-    (low (λ r. edgeIn (a .m) (flag (a .p .now)) (inCell (a .cell .now) (a .v) r))) e ∙ l .inv .1 ∙ sym e in
-    sym (ap (λ r. cond (ltb r emptyRank) (inCell (a .cell .now) (a .v) r) (a .m)) h)
+    let h : low (λ r. edgeIn (a .m) (flag (a .p .now)) (inCell (a .table .now) (a .v) r)) emptyRank ≡ emptyRank = ap
+    (low (λ r. edgeIn (a .m) (flag (a .p .now)) (inCell (a .table .now) (a .v) r))) e ∙ l .inv .1 ∙ sym e in
+    sym (ap (λ r. cond (ltb r emptyRank) (inCell (a .table .now) (a .v) r) (a .m)) h)
 
 pub best-spec : {M : Type 1} → statement M
 best-spec = tie.close (tie.spec Inv-loop μ-loop (λ c. search needs) loop-holds (λ c. search needs) (λ c. search needs) (λ c. search needs) cast-e

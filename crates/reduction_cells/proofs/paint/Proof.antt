@@ -12,17 +12,17 @@ use Rattle.model.specs.Limits.{emptyRank, nodeLimit, entryLimit}
 use Rattle.arrays.specs.ArrayInstance.{at, flag}
 use Rattle.arrays.specs.Passes.{Low}
 use Rattle.arrays.specs.Tally.{byte-bit, byte-one}
-use Rattle.reduction_cells.specs.Cells.{inCell, passed, passed-next, passed-few, cell-inside}
+use Rattle.reduction_cells.specs.Cells.{inCell, passed, passed-next, passed-few}
 use Rattle.reduction_cells.specs.Painted.{Painted, differ, among, among-put, low-put, painted-none, painted-empty, painted-edge}
 use Rattle.reduction_cells.proofs.paint.Statement.{statement}
 use Rattle.reduction_cells.proofs.paint.Tie as tie
 
 abbrev Inv-loop : tie.InvT-loop
-Inv-loop m end rank tied cell v q other rem f₀ turned₀ b c₀ n₀ r₀ f turned c n r = (r ≤ emptyRank) × (c ≡ passed m cell (flag rem) v r)
-    × Painted m other cell rem v q r f₀ f (among turned n) × (length f ≡ entryLimit) × (length turned ≡ emptyRank) × (n ≤ r) × Low n turned nodeLimit
+Inv-loop m table v q other rem f₀ turned₀ b c₀ n₀ r₀ f turned c n r = (r ≤ emptyRank) × (c ≡ passed m table (flag rem) v r)
+    × Painted m other table rem v q r f₀ f (among turned n) × (length f ≡ entryLimit) × (length turned ≡ emptyRank) × (n ≤ r) × Low n turned nodeLimit
 
 abbrev μ-loop : tie.MeasureT-loop
-μ-loop m end rank tied cell v q other rem f₀ turned₀ b c₀ n₀ r₀ f turned c n r = emptyRank - r
+μ-loop m table v q other rem f₀ turned₀ b c₀ n₀ r₀ f turned c n r = emptyRank - r
 
 loop-holds : tie.Need-loop-holds Inv-loop μ-loop
 unfolding passed
@@ -31,7 +31,7 @@ loop-holds c =
     let p = c .pre in (
       zero-le,
       refl,
-      painted-none (a .m) (a .end .now) (a .rank .now) (a .tied .now) (a .other .now) (a .cell .now) (p .0 .1) (a .rem .now) (a .v) (a .q)
+      painted-none (a .m) (a .other .now) (a .table .now) (p .0 .1) (a .rem .now) (a .v) (a .q)
           (a .f .now) _,
       p .1 .0,
       p .1 .1,
@@ -47,7 +47,7 @@ cast-e c =
     omega (
       arith,
       p .1 .edges,
-      cell-inside (a .m) (a .end .now) (a .rank .now) (a .tied .now) (a .cell .now) (p .1) (a .v) (l .r) (p .0) (c .before .loop-test .taken),
+      p .1 .inside (a .v) (l .r) (p .0) (c .before .loop-test .taken),
     )
 
 element-copy-out-on : tie.Need-element-copy-out-on Inv-loop μ-loop
@@ -63,43 +63,47 @@ element-write-turned c = let l = c .before .before .before .before .before .loop
 element-copy-out-n : tie.Need-element-copy-out-n Inv-loop μ-loop
 element-copy-out-n c = omega (arith, c .before .before .before .before .before .before .pre .0 .1 .edges)
 
+-- the turn in which an edge is painted
+abbrev turn : tie.After-n Inv-loop μ-loop → tie.In-loop Inv-loop μ-loop
+turn c = c .before .before .before .before .before
+
 add-n : tie.Need-add-n Inv-loop μ-loop
 add-n c =
-    let l = c .before .before .before .before .before .before .loop in
-    let a = c .before .before .before .before .before .before .before .args in
-    let e = inCell (a .cell .now) (a .v) (l .r) in
+    let l = turn c .before .loop in
+    let a = turn c .before .before .args in
+    let e = inCell (a .table .now) (a .v) (l .r) in
     omega (
       arith,
       l .inv .5,
-      c .before .before .before .before .before .loop-test .taken,
+      turn c .loop-test .taken,
       byte-one
           (differ (flag (a .rem .now) e && ltb (l .c) (a .q)) (flag (l .f) e)),
     )
 
 element-write-f : tie.Need-element-write-f Inv-loop μ-loop
-element-write-f c = omega (arith, c .before .before .before .before .before .before .before .pre .0 .1 .edges)
+element-write-f c = omega (arith, turn c .before .before .pre .0 .1 .edges)
 
 element-copy-out-c : tie.Need-element-copy-out-c Inv-loop μ-loop
-element-copy-out-c c = omega (arith, c .before .before .before .before .before .before .before .pre .0 .1 .edges)
+element-copy-out-c c = omega (arith, turn c .before .before .pre .0 .1 .edges)
 
 add-c : tie.Need-add-c Inv-loop μ-loop
 add-c c =
-    let a = c .before .before .before .before .before .before .before .before .args in
-    let l = c .before .before .before .before .before .before .before .loop in
+    let a = turn (c .before) .before .before .args in
+    let l = turn (c .before) .before .loop in
     omega (
       arith,
       l .inv .1,
-      passed-few (a .m) (a .cell .now) (flag (a .rem .now)) (a .v) (l .r),
-      byte-one (flag (a .rem .now) (inCell (a .cell .now) (a .v) (l .r))),
+      passed-few (a .m) (a .table .now) (flag (a .rem .now)) (a .v) (l .r),
+      byte-one (flag (a .rem .now) (inCell (a .table .now) (a .v) (l .r))),
     )
 
 loop-again : tie.Need-loop-again Inv-loop μ-loop
 loop-again c =
-    let a = c .before .before .before .before .before .before .before .before .args in
-    let l = c .before .before .before .before .before .before .before .loop in
-    let e = inCell (a .cell .now) (a .v) (l .r) in
-    let P = c .before .before .before .before .before .before .before .before .pre .0 in
-    let t = c .before .before .before .before .before .before .loop-test .taken in
+    let a = turn (c .before) .before .before .args in
+    let l = turn (c .before) .before .loop in
+    let e = inCell (a .table .now) (a .v) (l .r) in
+    let P = turn (c .before) .before .before .pre .0 in
+    let t = turn (c .before) .loop-test .taken in
     let lt = c .before .before .before .before .if1 .taken in
     let on = flag (a .rem .now) e && ltb (l .c) (a .q) in
     let b = differ on (flag (l .f) e) in
@@ -108,11 +112,11 @@ loop-again c =
       omega (
         arith,
         l .inv .1,
-        passed-next (a .m) (a .cell .now) (flag (a .rem .now)) (a .v) (l .r),
+        passed-next (a .m) (a .table .now) (flag (a .rem .now)) (a .v) (l .r),
         byte-bit (flag (a .rem .now) e),
         ap (λ b. bit (b && flag (a .rem .now) e)) (lt-ltb e (a .m) lt),
       ),
-      painted-edge (a .m) (a .end .now) (a .rank .now) (a .tied .now) (a .other .now) (a .cell .now) (P .1) (a .rem .now) (a .v) (a .q) (a .f .now)
+      painted-edge (a .m) (a .other .now) (a .table .now) (P .1) (a .rem .now) (a .v) (a .q) (a .f .now)
           (l .r) (l .f) (among (l .turned) (l .n)) _ (P .0) t lt (omega (arith, l .inv .3, P .1 .edges))
           on (ap (λ x. flag (a .rem .now) e && ltb x (a .q)) (l .inv .1))
           (λ u. subst (λ x. among (set (l .turned) (l .n) (at (a .other .now) e)) (l .n + x) u ≡ among (l .turned) (l .n) u ||
@@ -130,17 +134,17 @@ loop-again-2 : tie.Need-loop-again-2 Inv-loop μ-loop
 loop-again-2 c =
     let a = c .before .before .before .before .args in
     let l = c .before .before .before .loop in
-    let e = inCell (a .cell .now) (a .v) (l .r) in
+    let e = inCell (a .table .now) (a .v) (l .r) in
     let P = c .before .before .before .before .pre .0 in
     let left = c .if1 .left in (
       omega arith,
       omega (
         arith,
         l .inv .1,
-        passed-next (a .m) (a .cell .now) (flag (a .rem .now)) (a .v) (l .r),
+        passed-next (a .m) (a .table .now) (flag (a .rem .now)) (a .v) (l .r),
         ap (λ b. bit (b && flag (a .rem .now) e)) (le-ltb e (a .m) left),
       ),
-      painted-empty (a .m) (a .end .now) (a .rank .now) (a .tied .now) (a .other .now) (a .cell .now) (P .1) (a .rem .now) (a .v) (a .q) (a .f .now)
+      painted-empty (a .m) (a .other .now) (a .table .now) (P .1) (a .rem .now) (a .v) (a .q) (a .f .now)
           (l .r) (l .f) _ left (l .inv .2),
       l .inv .3,
       l .inv .4,
@@ -156,7 +160,7 @@ returns c =
       omega (arith, l .inv .5),
       l .inv .4,
       l .inv .6,
-      subst (λ k. Painted (a .m) (a .other .now) (a .cell .now) (a .rem .now) (a .v) (a .q) k (a .f .now) (l .f) (among (l .turned) (l .n))) e
+      subst (λ k. Painted (a .m) (a .other .now) (a .table .now) (a .rem .now) (a .v) (a .q) k (a .f .now) (l .f) (among (l .turned) (l .n))) e
           (l .inv .2),
     )
 

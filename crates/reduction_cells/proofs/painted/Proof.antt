@@ -12,11 +12,11 @@ use Rattle.reduction_cells.proofs.painted.Statement.{statement}
 use Rattle.reduction_cells.proofs.painted.Tie as tie
 
 abbrev Inv-loop : tie.InvT-loop
-Inv-loop m end rank tied cell q other rem f₀ turned₀ v₀ f turned v = (v ≤ nodeLimit) × (length f ≡ entryLimit) × (length turned ≡ emptyRank)
-    × AllPainted m cell rem q v f
+Inv-loop m table q other rem f₀ turned₀ v₀ f turned v = (v ≤ nodeLimit) × (length f ≡ entryLimit) × (length turned ≡ emptyRank)
+    × AllPainted m table rem q v f
 
 abbrev μ-loop : tie.MeasureT-loop
-μ-loop m end rank tied cell q other rem f₀ turned₀ v₀ f turned v = nodeLimit - v
+μ-loop m table q other rem f₀ turned₀ v₀ f turned v = nodeLimit - v
 
 loop-holds : tie.Need-loop-holds Inv-loop μ-loop
 loop-holds c =
@@ -24,7 +24,7 @@ loop-holds c =
       zero-le,
       length-replicate entryLimit false,
       length-replicate {A = ℕ} emptyRank 0,
-      all-none (a .m) (a .cell .now) (a .rem .now) (a .q .now) _ (all-blank false entryLimit),
+      all-none (a .m) (a .table .now) (a .rem .now) (a .q .now) _ (all-blank false entryLimit),
     )
 
 paint-requires : tie.Need-paint-requires Inv-loop μ-loop
@@ -42,7 +42,7 @@ loop-again c =
       omega arith,
       P .3 .sizeF ∙ l .inv .1,
       P .1,
-      all-next (a .m) (a .end .now) (a .rank .now) (a .tied .now) (a .cell .now) (p .0) (p .2) (a .other .now) (a .rem .now) (a .q .now) (l .v)
+      all-next (a .m) (a .table .now) (p .0) (a .other .now) (a .rem .now) (a .q .now) (l .v)
           (c .before .before .before .before .loop-test .taken) (l .f) _ _ (l .inv .3) (P .3),
     )
 
@@ -51,7 +51,7 @@ returns c =
     let a = c .before .before .args in
     let l = c .before .loop in
     let e : l .v ≡ nodeLimit = omega arith in
-    subst (λ k. AllPainted (a .m) (a .cell .now) (a .rem .now) (a .q .now) k (l .f)) e (l .inv .3)
+    subst (λ k. AllPainted (a .m) (a .table .now) (a .rem .now) (a .q .now) k (l .f)) e (l .inv .3)
 
 pub painted-spec : {M : Type 1} → statement M
 painted-spec = tie.close (tie.spec Inv-loop μ-loop loop-holds (λ c. search needs) (λ c. search needs) paint-requires (λ c. search needs)

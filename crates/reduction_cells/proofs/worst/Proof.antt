@@ -9,16 +9,16 @@ use lib.Dec.{ltb}
 use Rattle.lists.specs.Search.{low, low-hit, low-miss}
 use Rattle.model.specs.Limits.{emptyRank}
 use Rattle.arrays.specs.ArrayInstance.{at, flag}
-use Rattle.reduction_cells.specs.Cells.{edgeIn, inCell, cell-inside}
+use Rattle.reduction_cells.specs.Cells.{edgeIn, inCell}
 use Rattle.reduction_cells.proofs.worst.Statement.{statement}
 use Rattle.reduction_cells.proofs.worst.Tie as tie
 
 abbrev Inv-loop : tie.InvT-loop
-Inv-loop m end rank tied cell v other rem lo f b k₀ k = (k ≤ emptyRank) ×
-    (low (λ k. edgeIn m (λ d. flag rem d && (flag lo (at other d) || flag f d)) (inCell cell v (32 - k))) k ≡ k)
+Inv-loop m table v other rem lo f b k₀ k = (k ≤ emptyRank) ×
+    (low (λ k. edgeIn m (λ d. flag rem d && (flag lo (at other d) || flag f d)) (inCell table v (32 - k))) k ≡ k)
 
 abbrev μ-loop : tie.MeasureT-loop
-μ-loop m end rank tied cell v other rem lo f b k₀ k = emptyRank - k
+μ-loop m table v other rem lo f b k₀ k = emptyRank - k
 
 loop-holds : tie.Need-loop-holds Inv-loop μ-loop
 unfolding low
@@ -32,8 +32,7 @@ cast-e c =
     omega (
       arith,
       c .before .before .before .pre .1 .edges,
-      cell-inside (a .m) (a .end .now) (a .rank .now) (a .tied .now) (a .cell .now)
-          (c .before .before .before .pre .1) (a .v) (32 - l .k) (c .before .before .before .pre .0) (omega arith),
+      c .before .before .before .pre .1 .inside (a .v) (32 - l .k) (c .before .before .before .pre .0) (omega arith),
     )
 
 reserved-requires : tie.Need-reserved-requires Inv-loop μ-loop
@@ -45,10 +44,10 @@ returns c =
     let a = c .before .before .before .before .before .args in
     let l = c .before .before .before .before .loop in
     let h = low-hit (λ k. edgeIn (a .m) (λ d. flag (a .rem .now) d && (flag (a .lo .now) (at (a .other .now) d) || flag (a .f .now) d))
-    (inCell (a .cell .now) (a .v) (32 - k))) (l .k) emptyRank (l .inv .1)
+    (inCell (a .table .now) (a .v) (32 - k))) (l .k) emptyRank (l .inv .1)
     (sym (c .before .reserved .ensures) ∙ c .if1 .taken) (omega arith) in
-    sym (ap (λ k. cond (ltb k emptyRank) (inCell (a .cell .now) (a .v) (32 - k)) (a .m)) h ∙ ap
-    (λ b. cond b (inCell (a .cell .now) (a .v) (32 - l .k)) (a .m)) (lt-ltb (l .k) emptyRank (omega arith)))
+    sym (ap (λ k. cond (ltb k emptyRank) (inCell (a .table .now) (a .v) (32 - k)) (a .m)) h ∙ ap
+    (λ b. cond b (inCell (a .table .now) (a .v) (32 - l .k)) (a .m)) (lt-ltb (l .k) emptyRank (omega arith)))
 
 loop-again : tie.Need-loop-again Inv-loop μ-loop
 loop-again c =
@@ -56,7 +55,7 @@ loop-again c =
     let l = c .before .before .before .before .loop in (
       omega arith,
       low-miss (λ k. edgeIn (a .m) (λ d. flag (a .rem .now) d && (flag (a .lo .now) (at (a .other .now) d) || flag (a .f .now) d))
-          (inCell (a .cell .now) (a .v) (32 - k))) (l .k) (l .inv .1)
+          (inCell (a .table .now) (a .v) (32 - k))) (l .k) (l .inv .1)
           (sym (c .before .reserved .ensures) ∙ c .if1 .left),
     )
 
@@ -66,10 +65,10 @@ returns-2 c =
     let l = c .before .loop in
     let e : emptyRank ≡ l .k = omega arith in
     let h : low (λ k. edgeIn (a .m) (λ d. flag (a .rem .now) d && (flag (a .lo .now) (at (a .other .now) d) || flag (a .f .now) d))
-    (inCell (a .cell .now) (a .v) (32 - k))) emptyRank ≡ emptyRank = ap (low
+    (inCell (a .table .now) (a .v) (32 - k))) emptyRank ≡ emptyRank = ap (low
     (λ k. edgeIn (a .m) (λ d. flag (a .rem .now) d && (flag (a .lo .now) (at (a .other .now) d) || flag (a .f .now) d))
-    (inCell (a .cell .now) (a .v) (32 - k)))) e ∙ l .inv .1 ∙ sym e in
-    sym (ap (λ k. cond (ltb k emptyRank) (inCell (a .cell .now) (a .v) (32 - k)) (a .m)) h)
+    (inCell (a .table .now) (a .v) (32 - k)))) e ∙ l .inv .1 ∙ sym e in
+    sym (ap (λ k. cond (ltb k emptyRank) (inCell (a .table .now) (a .v) (32 - k)) (a .m)) h)
 
 pub worst-spec : {M : Type 1} → statement M
 worst-spec = tie.close (tie.spec Inv-loop μ-loop (λ c. search needs) loop-holds (λ c. search needs) (λ c. search needs) (λ c. search needs)

@@ -1,15 +1,17 @@
 -- The nodes passed are renewed.
 use mathlib.Core.Path.{_≡_, subst, _∙_}
-use Prim.Native.Nat.{_-_, _≤_, zero-le}
+use Prim.Native.Nat.{ℕ, _-_, _≤_, _<_, zero-le}
 use native.Mathlib.Omega.{arith}
 use borrow.Author.Needs.{needs}
 use lib.ListN.{length, length-set}
-use Rattle.model.specs.Limits.{nodeLimit}
+use Rattle.model.specs.Limits.{nodeLimit, emptyRank}
 use Rattle.arrays.specs.ArrayInstance.{at}
 use Rattle.reduction_cells.specs.Painted.{among}
 use mathlib.Core.Bool.{_&&_}
+use mathlib.Core.List.{List}
 use Rattle.lists.specs.Search.{low-is}
 use Rattle.arrays.specs.ArrayInstance.{flag}
+use Rattle.reduction_lists.specs.Listed.{Listed}
 use Rattle.reduction_lists.specs.Walks.{atNode}
 use Rattle.reduction_nodes.specs.Numbers.{firstOf}
 use Rattle.reduction_nodes.specs.Renewed.{RenewedBy, by-none, by-next}
@@ -17,68 +19,55 @@ use Rattle.reduction_nodes.proofs.first_renewed.Statement.{statement}
 use Rattle.reduction_nodes.proofs.first_renewed.Tie as tie
 
 abbrev Inv-loop : tie.InvT-loop
-Inv-loop m sv list first fs ft turned n x₀ i₀ x i = (i ≤ n) × (length x ≡ nodeLimit) × RenewedBy (among turned i) (firstOf m sv fs ft) x₀ x
+Inv-loop m table fs ft turned n x₀ i₀ x i = (i ≤ n) × (length x ≡ nodeLimit)
+    × ((sv : List ℕ) → Listed m sv table → RenewedBy (among turned i) (firstOf m sv fs ft) x₀ x)
 
 abbrev μ-loop : tie.MeasureT-loop
-μ-loop m sv list first fs ft turned n x₀ i₀ x i = n - i
+μ-loop m table fs ft turned n x₀ i₀ x i = n - i
 
 loop-holds : tie.Need-loop-holds Inv-loop μ-loop
 loop-holds c =
     let a = c .args in
     let p = c .pre in
-    (zero-le, p .1, by-none (a .turned .now) (firstOf (a .m) (a .sv .now) (a .fs .now) (a .ft .now)) (a .x .now))
+    (zero-le, p .1, λ sv L. by-none (a .turned .now) (firstOf (a .m) sv (a .fs .now) (a .ft .now)) (a .x .now))
+
+-- a turn: its node, and room for the next
+node : (c : tie.In-loop Inv-loop μ-loop) → let a = c .before .before .args in
+    (at (a .turned .now) (c .before .loop .i) < nodeLimit) × (c .before .loop .i < a .n) × (a .n ≤ emptyRank) × (length (c .before .loop .x) ≡ nodeLimit)
+node c =
+    let p = c .before .before .pre in
+    let l = c .before .loop in
+    (p .3 (l .i) (c .loop-test .taken), c .loop-test .taken, p .2, l .inv .1)
 
 element-copy-out-v : tie.Need-element-copy-out-v Inv-loop μ-loop
-element-copy-out-v c =
-    let p = c .before .before .pre in
-    let t = c .loop-test .taken in
-    omega (arith, t, p .2)
+element-copy-out-v c = omega (arith, node c)
 
 cast-v : tie.Need-cast-v Inv-loop μ-loop
-cast-v c =
-    let p = c .before .before .before .pre in
-    let l = c .before .before .loop in
-    let t = c .before .loop-test .taken in
-    omega (arith, t, l .inv .1, p .3 (l .i) t)
+cast-v c = omega (arith, node (c .before))
 
 both-requires : tie.Need-both-requires Inv-loop μ-loop
-both-requires c κs =
-    let p = c .before .before .before .pre in
-    let l = c .before .before .loop in
-    let t = c .before .loop-test .taken in
-    (p .3 (l .i) t, p .0)
+both-requires c κs = (node (c .before) .0, c .before .before .before .pre .0)
 
 cast-x : tie.Need-cast-x Inv-loop μ-loop
 cast-x c =
-    let a = c .before .before .before .before .args in
-    let p = c .before .before .before .before .pre in
-    let l = c .before .before .before .loop in
+    let s = c .before .before .before .before in
+    let a = s .args in
+    let E = s .pre .0 in
     omega (
       arith,
-      p .0 .linked .edges,
-      c .both .ensures,
-      low-is (atNode (a .sv .now) (at (a .turned .now) (l .i)) (λ d. flag (a .fs .now) d && flag (a .ft .now) d)) (a .m) .0,
+      E .1 .linked .edges,
+      c .both .ensures (E .0) (E .1),
+      low-is (atNode (E .0) (at (a .turned .now) (c .before .before .before .loop .i)) (λ d. flag (a .fs .now) d && flag (a .ft .now) d)) (a .m) .0,
     )
 
 mul-x : tie.Need-mul-x Inv-loop μ-loop
-mul-x c =
-    let p = c .before .before .before .before .pre in
-    let l = c .before .before .before .loop in
-    let t = c .before .before .loop-test .taken in
-    omega (arith, t, l .inv .1, p .3 (l .i) t)
+mul-x c = omega (arith, node (c .before .before))
 
 element-write-x : tie.Need-element-write-x Inv-loop μ-loop
-element-write-x c =
-    let p = c .before .before .before .before .pre in
-    let l = c .before .before .before .loop in
-    let t = c .before .before .loop-test .taken in
-    omega (arith, t, l .inv .1, p .3 (l .i) t)
+element-write-x c = omega (arith, node (c .before .before))
 
 add-i : tie.Need-add-i Inv-loop μ-loop
-add-i c =
-    let p = c .before .before .before .before .pre in
-    let t = c .before .before .loop-test .taken in
-    omega (arith, t, p .2)
+add-i c = omega (arith, node (c .before .before))
 
 loop-again : tie.Need-loop-again Inv-loop μ-loop
 loop-again c =
@@ -90,8 +79,8 @@ loop-again c =
     let y = c .both in (
       omega (arith, t),
       length-set (l .x) v (y .result) ∙ l .inv .1,
-      by-next (a .turned .now) (firstOf (a .m) (a .sv .now) (a .fs .now) (a .ft .now)) (a .x .now) (l .i) (l .x) (y .result)
-          (omega (arith, l .inv .1, p .3 (l .i) t)) (y .ensures) (l .inv .2),
+      λ sv L. by-next (a .turned .now) (firstOf (a .m) sv (a .fs .now) (a .ft .now)) (a .x .now) (l .i) (l .x) (y .result)
+          (omega (arith, l .inv .1, p .3 (l .i) t)) (y .ensures sv L) (l .inv .2 sv L),
     )
 
 returns : tie.Need-returns Inv-loop μ-loop
@@ -100,8 +89,7 @@ returns c =
     let l = c .before .loop in
     let e : l .i ≡ a .n = omega (arith, l .inv .0, c .loop-test .left) in (
       l .inv .1,
-      subst (λ k. RenewedBy (among (a .turned .now) k) (firstOf (a .m) (a .sv .now) (a .fs .now) (a .ft .now)) (a .x .now) (l .x)) e
-          (l .inv .2),
+      λ sv L. subst (λ k. RenewedBy (among (a .turned .now) k) (firstOf (a .m) sv (a .fs .now) (a .ft .now)) (a .x .now) (l .x)) e (l .inv .2 sv L),
     )
 
 pub first-renewed-spec : {M : Type 1} → statement M

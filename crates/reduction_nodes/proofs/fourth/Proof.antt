@@ -19,14 +19,14 @@ cast-result c =
       arith,
       c .before .before .pre .1 .edges,
       c .worst .ensures,
-      worst-inside (a .m) (a .end .now) (a .rank .now) (a .tied .now) (a .cell .now)
+      worst-inside (a .m) (a .table .now)
           (c .before .before .pre .1) (inN (a .other .now) (a .rem .now) (a .f .now) (a .lo .now)) (a .v) (c .before .before .pre .0),
     )
 
 returns : tie.Need-returns
 returns c =
     let a = c .before .before .args in
-    c .worst .ensures ∙ sym (ap (λ b. cond b (worstOf (a .m) (a .cell .now) (inN (a .other .now) (a .rem .now) (a .f .now) (a .lo .now)) (a .v)) (a .m))
+    c .worst .ensures ∙ sym (ap (λ b. cond b (worstOf (a .m) (a .table .now) (inN (a .other .now) (a .rem .now) (a .f .now) (a .lo .now)) (a .v)) (a .m))
     (lt-ltb (a .q) (a .n) (c .before .if1 .taken)))
 
 cast-result-2 : tie.Need-cast-result-2
@@ -36,7 +36,7 @@ cast-result-2 c =
 returns-2 : tie.Need-returns-2
 returns-2 c =
     let a = c .before .args in
-    sym (ap (λ b. cond b (worstOf (a .m) (a .cell .now) (inN (a .other .now) (a .rem .now) (a .f .now) (a .lo .now)) (a .v)) (a .m))
+    sym (ap (λ b. cond b (worstOf (a .m) (a .table .now) (inN (a .other .now) (a .rem .now) (a .f .now) (a .lo .now)) (a .v)) (a .m))
     (le-ltb (a .q) (a .n) (c .if1 .left)))
 
 pub fourth-spec : {M : Type 1} → statement M

@@ -1,11 +1,13 @@
 -- The nodes passed are renewed.
 use mathlib.Core.Path.{_≡_, subst, _∙_}
-use Prim.Native.Nat.{_-_, _≤_, zero-le}
+use mathlib.Core.List.{List}
+use Prim.Native.Nat.{ℕ, _-_, _≤_, _<_, zero-le}
 use native.Mathlib.Omega.{arith}
 use borrow.Author.Needs.{needs}
 use lib.ListN.{length, length-set}
-use Rattle.model.specs.Limits.{nodeLimit}
+use Rattle.model.specs.Limits.{nodeLimit, emptyRank}
 use Rattle.arrays.specs.ArrayInstance.{at}
+use Rattle.reduction_lists.specs.Listed.{Listed}
 use Rattle.reduction_cells.specs.Painted.{among}
 use Rattle.reduction_nodes.specs.Numbers.{secondsOf}
 use Rattle.reduction_nodes.specs.Renewed.{RenewedBy, by-none, by-next}
@@ -13,75 +15,53 @@ use Rattle.reduction_nodes.proofs.second_renewed.Statement.{statement}
 use Rattle.reduction_nodes.proofs.second_renewed.Tie as tie
 
 abbrev Inv-loop : tie.InvT-loop
-Inv-loop m end rank tied list first cell rem f q turned n x₀ i₀ x i = (i ≤ n) × (length x ≡ nodeLimit) × RenewedBy (among turned i)
-    (secondsOf m end rank cell rem f q) x₀ x
+Inv-loop m rank table rem f q turned n x₀ i₀ x i = (i ≤ n) × (length x ≡ nodeLimit)
+    × ((end : List ℕ) → Listed m end table → RenewedBy (among turned i) (secondsOf m end rank table rem f q) x₀ x)
 
 abbrev μ-loop : tie.MeasureT-loop
-μ-loop m end rank tied list first cell rem f q turned n x₀ i₀ x i = n - i
+μ-loop m rank table rem f q turned n x₀ i₀ x i = n - i
 
 loop-holds : tie.Need-loop-holds Inv-loop μ-loop
 loop-holds c =
     let a = c .args in
     let p = c .pre in (
       zero-le,
-      p .3,
-      by-none (a .turned .now) (secondsOf (a .m) (a .end .now) (a .rank .now) (a .cell .now) (a .rem .now) (a .f .now) (a .q .now))
+      p .2,
+      λ end L. by-none (a .turned .now) (secondsOf (a .m) end (a .rank .now) (a .table .now) (a .rem .now) (a .f .now) (a .q .now))
           (a .x .now),
     )
 
-element-copy-out-v : tie.Need-element-copy-out-v Inv-loop μ-loop
-element-copy-out-v c =
+-- a turn: its node, and room for the next
+node : (c : tie.In-loop Inv-loop μ-loop) → let a = c .before .before .args in
+    (at (a .turned .now) (c .before .loop .i) < nodeLimit) × (c .before .loop .i < a .n) × (a .n ≤ emptyRank) × (length (c .before .loop .x) ≡ nodeLimit)
+node c =
     let p = c .before .before .pre in
-    let t = c .loop-test .taken in
-    omega (arith, t, p .4)
+    let l = c .before .loop in
+    (p .4 (l .i) (c .loop-test .taken), c .loop-test .taken, p .3, l .inv .1)
+
+element-copy-out-v : tie.Need-element-copy-out-v Inv-loop μ-loop
+element-copy-out-v c = omega (arith, node c)
 
 cast-v : tie.Need-cast-v Inv-loop μ-loop
-cast-v c =
-    let p = c .before .before .before .pre in
-    let l = c .before .before .loop in
-    let t = c .before .loop-test .taken in
-    omega (arith, t, l .inv .1, p .5 (l .i) t)
+cast-v c = omega (arith, node (c .before))
 
 mul-second : tie.Need-mul-second Inv-loop μ-loop
-mul-second c =
-    let p = c .before .before .before .pre in
-    let l = c .before .before .loop in
-    let t = c .before .loop-test .taken in
-    omega (arith, t, l .inv .1, p .5 (l .i) t)
+mul-second c = omega (arith, node (c .before))
 
 element-copy-out-second : tie.Need-element-copy-out-second Inv-loop μ-loop
-element-copy-out-second c =
-    let p = c .before .before .before .pre in
-    let l = c .before .before .loop in
-    let t = c .before .loop-test .taken in
-    omega (arith, t, l .inv .1, p .5 (l .i) t)
+element-copy-out-second c = omega (arith, node (c .before))
 
 second-requires : tie.Need-second-requires Inv-loop μ-loop
-second-requires c κs =
-    let p = c .before .before .before .before .pre in
-    let l = c .before .before .before .loop in
-    let t = c .before .before .loop-test .taken in
-    (p .5 (l .i) t, p .0, p .1, p .2)
+second-requires c κs = let p = c .before .before .before .before .pre in (node (c .before .before) .0, p .0, p .1)
 
 mul-x : tie.Need-mul-x Inv-loop μ-loop
-mul-x c =
-    let p = c .before .before .before .before .before .pre in
-    let l = c .before .before .before .before .loop in
-    let t = c .before .before .before .loop-test .taken in
-    omega (arith, t, l .inv .1, p .5 (l .i) t)
+mul-x c = omega (arith, node (c .before .before .before))
 
 element-write-x : tie.Need-element-write-x Inv-loop μ-loop
-element-write-x c =
-    let p = c .before .before .before .before .before .pre in
-    let l = c .before .before .before .before .loop in
-    let t = c .before .before .before .loop-test .taken in
-    omega (arith, t, l .inv .1, p .5 (l .i) t)
+element-write-x c = omega (arith, node (c .before .before .before))
 
 add-i : tie.Need-add-i Inv-loop μ-loop
-add-i c =
-    let p = c .before .before .before .before .before .pre in
-    let t = c .before .before .before .loop-test .taken in
-    omega (arith, t, p .4)
+add-i c = omega (arith, node (c .before .before .before))
 
 loop-again : tie.Need-loop-again Inv-loop μ-loop
 loop-again c =
@@ -93,8 +73,8 @@ loop-again c =
     let y = c .second in (
       omega (arith, t),
       length-set (l .x) v (y .result) ∙ l .inv .1,
-      by-next (a .turned .now) (secondsOf (a .m) (a .end .now) (a .rank .now) (a .cell .now) (a .rem .now) (a .f .now) (a .q .now)) (a .x .now) (l .i)
-          (l .x) (y .result) (omega (arith, l .inv .1, p .5 (l .i) t)) (y .ensures) (l .inv .2),
+      λ end L. by-next (a .turned .now) (secondsOf (a .m) end (a .rank .now) (a .table .now) (a .rem .now) (a .f .now) (a .q .now)) (a .x .now) (l .i)
+          (l .x) (y .result) (omega (arith, l .inv .1, p .4 (l .i) t)) (y .ensures end L) (l .inv .2 end L),
     )
 
 returns : tie.Need-returns Inv-loop μ-loop
@@ -103,8 +83,8 @@ returns c =
     let l = c .before .loop in
     let e : l .i ≡ a .n = omega (arith, l .inv .0, c .loop-test .left) in (
       l .inv .1,
-      subst (λ k. RenewedBy (among (a .turned .now) k)
-          (secondsOf (a .m) (a .end .now) (a .rank .now) (a .cell .now) (a .rem .now) (a .f .now) (a .q .now)) (a .x .now) (l .x)) e (l .inv .2),
+      λ end L. subst (λ k. RenewedBy (among (a .turned .now) k)
+          (secondsOf (a .m) end (a .rank .now) (a .table .now) (a .rem .now) (a .f .now) (a .q .now)) (a .x .now) (l .x)) e (l .inv .2 end L),
     )
 
 pub second-renewed-spec : {M : Type 1} → statement M

@@ -19,14 +19,14 @@ cast-result c =
       arith,
       c .before .before .pre .1 .edges,
       c .best .ensures,
-      best-inside (a .m) (a .end .now) (a .rank .now) (a .tied .now) (a .cell .now)
+      best-inside (a .m) (a .table .now)
           (c .before .before .pre .1) (flag (a .rem .now)) (a .v) (c .before .before .pre .0),
     )
 
 returns : tie.Need-returns
 returns c =
     let a = c .before .before .args in
-    c .best .ensures ∙ sym (ap (λ b. cond b (bestOf (a .m) (a .cell .now) (flag (a .rem .now)) (a .v)) (a .m)) (lt-ltb (a .n) (a .q) (c .before .if1 .taken)))
+    c .best .ensures ∙ sym (ap (λ b. cond b (bestOf (a .m) (a .table .now) (flag (a .rem .now)) (a .v)) (a .m)) (lt-ltb (a .n) (a .q) (c .before .if1 .taken)))
 
 cast-result-2 : tie.Need-cast-result-2
 cast-result-2 c =
@@ -35,7 +35,7 @@ cast-result-2 c =
 returns-2 : tie.Need-returns-2
 returns-2 c =
     let a = c .before .args in
-    sym (ap (λ b. cond b (bestOf (a .m) (a .cell .now) (flag (a .rem .now)) (a .v)) (a .m)) (le-ltb (a .n) (a .q) (c .if1 .left)))
+    sym (ap (λ b. cond b (bestOf (a .m) (a .table .now) (flag (a .rem .now)) (a .v)) (a .m)) (le-ltb (a .n) (a .q) (c .if1 .left)))
 
 pub short-spec : {M : Type 1} → statement M
 short-spec = tie.close (tie.spec best-requires cast-result returns cast-result-2 returns-2)

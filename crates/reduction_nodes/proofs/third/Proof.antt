@@ -15,29 +15,30 @@ both-requires c κs =
 
 cast-result : tie.Need-cast-result
 cast-result c =
-    let a = c .before .before .args in
+    let s = c .before .before in
+    let a = s .args in
+    let E = s .pre .1 in
     omega (
       arith,
-      c .before .before .pre .1 .linked .edges,
-      c .both .ensures,
-      low-is (atNode (a .end .now) (a .v) (λ d. flag (a .rem .now) d && flag (a .f .now) d))
-          (a .m) .0,
+      E .1 .linked .edges,
+      c .both .ensures (E .0) (E .1),
+      low-is (atNode (E .0) (a .v) (λ d. flag (a .rem .now) d && flag (a .f .now) d)) (a .m) .0,
     )
 
 returns : tie.Need-returns
 returns c =
     let a = c .before .before .args in
-    c .both .ensures ∙ sym (ap (λ b. cond b (low (atNode (a .end .now) (a .v) (λ d. flag (a .rem .now) d && flag (a .f .now) d)) (a .m)) (a .m))
+    λ end L. c .both .ensures end L ∙ sym (ap (λ b. cond b (low (atNode end (a .v) (λ d. flag (a .rem .now) d && flag (a .f .now) d)) (a .m)) (a .m))
     (le-leb (a .n) (a .q) (c .before .if1 .taken)))
 
 cast-result-2 : tie.Need-cast-result-2
 cast-result-2 c =
-    omega (arith, c .before .pre .1 .linked .edges)
+    omega (arith, c .before .pre .1 .1 .linked .edges)
 
 returns-2 : tie.Need-returns-2
 returns-2 c =
     let a = c .before .args in
-    sym (ap (λ b. cond b (low (atNode (a .end .now) (a .v) (λ d. flag (a .rem .now) d && flag (a .f .now) d)) (a .m)) (a .m))
+    λ end L. sym (ap (λ b. cond b (low (atNode end (a .v) (λ d. flag (a .rem .now) d && flag (a .f .now) d)) (a .m)) (a .m))
     (lt-leb (a .n) (a .q) (c .if1 .left)))
 
 pub third-spec : {M : Type 1} → statement M

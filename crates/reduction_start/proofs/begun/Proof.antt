@@ -9,17 +9,19 @@ use Rattle.reduction_start.proofs.begun.Statement.{statement}
 use Rattle.reduction_start.proofs.begun.Tie as tie
 
 start-requires : tie.Need-start-requires
-start-requires c κs = let D = c .pre in (D .listedS .linked .edges, D .fitS, D .fitT)
+start-requires c κs = let p = c .pre in (p .2 .edges, p .0, p .1)
 
 painted-requires : tie.Need-painted-requires
-painted-requires c κs =
-    let b6 = c .before .before .before .before .before .before in
-    let D = b6 .before .before .before .pre in (D .celledS, D .fitT, D .placedS)
+painted-requires c κs = let p = c .before .before .before .before .before .before .before .before .before .pre in (p .2, p .1)
+
+-- where the surveyors' arrows are painted, the state at the beginning
+abbrev started : tie.After-painted → tie.After-start
+started c =
+    let there = c .before .before .before .before .before .before .before .before .before in
+    there
 
 painted-requires-2 : tie.Need-painted-requires-2
-painted-requires-2 c κs =
-    let b12 = c .before .before .before .before .before .before .before .before .before .before .before .before in
-    let D = b12 .pre in (D .celledT, D .fitS, D .placedT)
+painted-requires-2 c κs = let p = started (c .before .before) .before .pre in (p .3, p .0)
 
 -- the arrays have their sizes
 sized : (c : tie.After-start) → Sized (c .start .result)
@@ -33,15 +35,15 @@ sizeT c = search needs
 
 returns : tie.Need-returns
 returns c =
-    let b12 = c .before .before .before .before .before .before .before .before .before .before .before .before in
-    let p = b12 .before .pre in
-    let x = b12 .start .result in record {
-      shown = λ K. shown-first p K x (b12 .start .ensures) (c .before .before .before .painted .result) (c .painted2 .result)
-          (c .before .before .before .painted .ensures)
+    let f = c .before .before .before in
+    let s = started f in
+    let x = s .start .result in record {
+      shown = λ rs rt K F. shown-first K F x (s .start .ensures) (f .painted .result) (c .painted2 .result)
+          (f .painted .ensures)
           (c .painted2 .ensures);
-      sized = sized (b12);
-      sizeS = sizeS (c .before .before .before);
-      sizeT = sizeT (c);
+      sized = sized s;
+      sizeS = sizeS f;
+      sizeT = sizeT c;
     }
 
 pub begun-spec : {M : Type 1} → statement M

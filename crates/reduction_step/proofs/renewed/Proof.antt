@@ -10,31 +10,38 @@ use Rattle.reduction_step.proofs.renewed.Statement.{statement}
 use Rattle.reduction_step.proofs.renewed.Tie as tie
 
 stands-renewed-requires : tie.Need-stands-renewed-requires
-stands-renewed-requires c κs = let p = c .before .before .before .before .before .pre in ((p .0 .listedT, p .0 .celledT), p .1 .1 .stands)
+stands-renewed-requires c κs = let p = c .before .before .before .before .pre in (p .0 .2, (p .1 .stands, p .1 .sizeL))
+
+-- where the stands are read anew, and the beginning
+abbrev stood : tie.After-touched → tie.After-stands-renewed
+stood c = c .before .before .before .before .before
+
+abbrev start : tie.After-touched → tie.Start
+start c = stood c .before .before .before .before .before
 
 surveyors-renewed-requires : tie.Need-surveyors-renewed-requires
-surveyors-renewed-requires c κs =
-    let b12 = c .before .before .before .before .before .before .before .before .before .before .before .before in
-    let p = b12 .before .before .before .before .pre in
-    ((p .0 .listedS, p .0 .celledS, p .0 .fitT), p .1 .1 .surveyors)
+surveyors-renewed-requires c κs = let p = start (c .before .before .before) .pre in ((p .0 .1, p .0 .0), p .1 .surveyors)
 
 returns : tie.Need-returns
 returns c =
-    let b6 = c .before .before .before .before .before .before in
-    let b12 = b6 .before .before .before .before .before .before in
-    let b18 = b12 .before .before .before .before .before .before in
-    let a = b18 .before .args in
-    let p = b18 .before .pre in
-    let A = edges (a .m) (a .sv .now) (a .st .now) (a .rs .now) (a .rt .now) (a .tied .now) in
-    let L = nodeLists (a .ls .now) (a .os .now) (a .lt .now) (a .ot .now) (a .cs .now) (a .ct .now) in
+    let t = c .before .before .before .before .before .before in
+    let a = start t .args in
+    let L = nodeLists (a .tabs .now) (a .tabt .now) in
     let X = looks (a .rem .now) (a .fs .now) (a .ft .now) (a .qs .now) (a .qt .now) in
-    let x = later (a .rule3 .now) (a .rule4 .now) (a .rule5 .now) (a .rule6 .now) (a .rule7 .now) (a .loose .now) (a .olds .now) (a .oldt .now) in
-    let T = b12 .before .stands-renewed .ensures in
+    let x = later (a .lates .now) (a .latet .now) (a .loose .now) (a .olds .now) (a .oldt .now) in
+    let T = stood t .stands-renewed .ensures in
     let S = c .before .before .surveyors-renewed .ensures in
-    let q = b6 .before .before .touched .ensures
-    ∙ ap (λ k. cond (ltb k nodeLimit) (replicate nodeLimit true) (a .olds .now)) (b6 .before .before .before .before .unlike .ensures) in (
-      record { surveyors = S .0; stands = T .0; olds = length-replicate nodeLimit false; oldt = length-replicate nodeLimit false },
-      later-fresh A (a .strict .now) L (p .0) X x (p .1 .0) _ (T .1) (b6 .before .before .touched .result) q _ (S .1),
+    let q = t .touched .ensures
+    ∙ ap (λ k. cond (ltb k nodeLimit) (replicate nodeLimit true) (a .olds .now)) (t .before .before .unlike .ensures) in (
+      record {
+        surveyors = S .0;
+        stands = T .0 .0;
+        sizeL = T .0 .1;
+        sizeS = length-replicate nodeLimit false;
+        sizeT = length-replicate nodeLimit false;
+      },
+      λ sv rs rt D N. later-fresh (edges (a .m) sv (a .st .now) rs rt) L D X x N _ (T .1 (a .st .now) (D .listedT)) (t .touched .result) q _
+          (S .1 sv (D .listedS)),
     )
 
 pub renewed-spec : {M : Type 1} → statement M

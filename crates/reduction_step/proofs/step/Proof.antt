@@ -3,88 +3,96 @@ use mathlib.Core.Path.{refl}
 use native.Mathlib.Omega.{arith}
 use borrow.Author.Needs.{needs}
 use Rattle.reduction_nodes.specs.Known.{instanceOf, stateOf}
-use Rattle.reduction_nodes.specs.Kept.{looks}
-use Rattle.reduction_step.specs.RuleChosen.{silent-1, passes, says, first-says, second-says, later-named}
+use Rattle.reduction_nodes.specs.Numbers.{row}
+use Rattle.reduction_nodes.specs.Kept.{Looks, looks, nodeLists}
+use Rattle.reduction_step.specs.RuleChosen.{Quiet, silent-1, passes, says, first-says, second-says, later-named}
 use Rattle.reduction_step.proofs.step.Statement.{statement}
 use Rattle.reduction_step.proofs.step.Tie as tie
 
+-- what the arrays show at the beginning
+abbrev shown : tie.Start → Looks
+shown s = let a = s .args in looks (a .rem .now) (a .fs .now) (a .ft .now) (a .qs .now) (a .qt .now)
+
+-- the beginning, from where rule 1 and rule 2 were silent
+abbrev start1 : tie.Else1 → tie.Start
+start1 c = c .before .before .before
+
+abbrev start2 : tie.Else2 → tie.Start
+start2 c = start1 (c .before .before .before .before .before .before)
+
+quiet2 : (c : tie.Else1) → let a = start1 c .args in Quiet (a .m) (a .st .now) (nodeLists (a .tabs .now) (a .tabt .now)) (shown (start1 c)) (a .lead .now) 2
+quiet2 c sv rs rt H quotaS quotaT K F fixed kS kT S =
+    let a = start1 c .args in
+    let Z = stateOf (a .rem .now) fixed kS kT in
+    let l = c .before .least in
+    passes (instanceOf K) Z 1 (l .result) (silent-1 (instanceOf K) Z)
+    (first-says (shown (start1 c)) K F fixed kS kT S (row (a .lead .now) 0) (row (a .lead .now) 1) (row (a .lead .now) 2) H (l .result) (l .ensures))
+    (omega (arith, c .if1 .left))
+
+quiet3 : (c : tie.Else2) → let a = start2 c .args in Quiet (a .m) (a .st .now) (nodeLists (a .tabs .now) (a .tabt .now)) (shown (start2 c)) (a .lead .now) 3
+quiet3 c sv rs rt H quotaS quotaT K F fixed kS kT S =
+    let a = start2 c .args in
+    let l = c .before .lesser in
+    let l2 = c .before .before .before .before .least2 in
+    let l3 = c .before .before .least3 in
+    passes (instanceOf K) (stateOf (a .rem .now) fixed kS kT) 2 (l .result)
+    (quiet2 (c .before .before .before .before .before .before) sv rs rt H quotaS quotaT K F fixed kS kT S)
+    (second-says (shown (start2 c)) K F fixed kS kT S (row (a .lead .now) 0) (row (a .lead .now) 1) (row (a .lead .now) 2) H
+    (l2 .result) (l3 .result) (l .result) (l2 .ensures) (l3 .ensures) (l .ensures))
+    (omega (arith, c .if2 .left))
+
 returns : tie.Need-returns
 returns c =
-    let a = c .before .before .args in
-    let p = c .before .before .pre in
-    let X = looks (a .rem .now) (a .fs .now) (a .ft .now) (a .qs .now) (a .qt .now) in (
-      p .1 .1 .1,
-      (
-        p .1 .1 .0,
-        λ quotaS quotaT K fixed kS kT S.
-            let G = instanceOf K in
-            let Z = stateOf (a .rem .now) fixed kS kT in
-            says G Z 1 (c .before .least .result) (silent-1 G Z) (omega arith)
-            (first-says (p .0) X K fixed kS kT S (a .one .now) (a .twos .now) (a .twot .now) (p .1 .0) (c .before .least .result) (c .before .least .ensures))
+    let s = c .before .before .before in
+    let a = s .args in
+    let l = c .before .least in (
+      s .pre .1,
+      λ sv rs rt D H N. (
+        N,
+        λ quotaS quotaT K F fixed kS kT S. let Z = stateOf (a .rem .now) fixed kS kT in
+            says (instanceOf K) Z 1 (l .result) (silent-1 (instanceOf K) Z) (omega arith)
+            (first-says (shown s) K F fixed kS kT S (row (a .lead .now) 0) (row (a .lead .now) 1) (row (a .lead .now) 2) H (l .result) (l .ensures))
             (omega (arith, c .if1 .taken)),
       ),
     )
 
 returns-2 : tie.Need-returns-2
 returns-2 c =
-    let a = c .before .before .before .before .before .before .args in
-    let p = c .before .before .before .before .before .before .pre in
-    let X = looks (a .rem .now) (a .fs .now) (a .ft .now) (a .qs .now) (a .qt .now) in (
-      p .1 .1 .1,
-      (
-        p .1 .1 .0,
-        λ quotaS quotaT K fixed kS kT S.
-            let G = instanceOf K in
-            let Z = stateOf (a .rem .now) fixed kS kT in
-            let s2 = passes G Z 1 (c .before .before .before .before .before .least .result) (silent-1 G Z)
-            (first-says (p .0) X K fixed kS kT S (a .one .now) (a .twos .now) (a .twot .now) (p .1 .0)
-            (c .before .before .before .before .before .least .result)
-            (c .before .before .before .before .before .least .ensures))
-            (omega (arith, c .before .before .before .before .if1 .left)) in
-            says G Z 2 (c .before .lesser .result) s2 (omega arith)
-            (second-says (p .0) X K fixed kS kT S (a .one .now) (a .twos .now) (a .twot .now) (p .1 .0) (c .before .before .before .least2 .result)
-            (c .before .before .least3 .result)
-            (c .before .lesser .result) (c .before .before .before .least2 .ensures) (c .before .before .least3 .ensures) (c .before .lesser .ensures))
+    let q = c .before .before .before .before .before .before in
+    let s = start1 q in
+    let a = s .args in
+    let l = c .before .lesser in
+    let l2 = c .before .before .before .before .least2 in
+    let l3 = c .before .before .least3 in (
+      s .pre .1,
+      λ sv rs rt D H N. (
+        N,
+        λ quotaS quotaT K F fixed kS kT S. says (instanceOf K) (stateOf (a .rem .now) fixed kS kT) 2 (l .result)
+            (quiet2 q sv rs rt H quotaS quotaT K F fixed kS kT S) (omega arith)
+            (second-says (shown s) K F fixed kS kT S (row (a .lead .now) 0) (row (a .lead .now) 1) (row (a .lead .now) 2) H
+            (l2 .result) (l3 .result) (l .result) (l2 .ensures) (l3 .ensures) (l .ensures))
             (omega (arith, c .if2 .taken)),
       ),
     )
 
 renewed-requires : tie.Need-renewed-requires
-renewed-requires c κs =
-    let b12 = c .before .before .before .before .before .before .before .before .before .before .before .before in
-    (b12 .before .before .pre .0, b12 .before .before .pre .1 .1)
+renewed-requires c κs = start2 (c .before .before .before .before .before) .pre
 
 returns-3 : tie.Need-returns-3
 returns-3 c =
-    let b6 = c .before .before .before .before .before .before in
-    let b12 = b6 .before .before .before .before .before .before in
-    let b18 = b12 .before .before .before .before .before .before in
-    let a = b18 .before .before .before .args in
-    let p = b18 .before .before .before .pre in
-    let X = looks (a .rem .now) (a .fs .now) (a .ft .now) (a .qs .now) (a .qt .now) in
-    let E = b6 .renewed .ensures in
-    let F = E .1 in (
+    let n = c .before .before .before in
+    let q = n .before .before .before .before .before .before in
+    let a = start2 q .args in
+    let E = n .renewed .ensures in (
       E .0,
-      (
-        F .lates,
-        λ quotaS quotaT K fixed kS kT S.
-            let G = instanceOf K in
-            let Z = stateOf (a .rem .now) fixed kS kT in
-            let s2 = passes G Z 1 (b18 .before .before .least .result) (silent-1 G Z)
-            (first-says (p .0) X K fixed kS kT S (a .one .now) (a .twos .now) (a .twot .now) (p .1 .0) (b18 .before .before .least .result)
-            (b18 .before .before .least .ensures))
-            (omega (arith, b18 .before .if1 .left)) in
-            let s3 = passes G Z 2 (b12 .before .before .before .before .lesser .result) s2
-            (second-says (p .0) X K fixed kS kT S (a .one .now) (a .twos .now) (a .twot .now) (p .1 .0) (b18 .least2 .result)
-            (b12 .before .before .before .before .before .least3 .result)
-            (b12 .before .before .before .before .lesser .result) (b18 .least2 .ensures) (b12 .before .before .before .before .before .least3 .ensures)
-            (b12 .before .before .before .before .lesser .ensures))
-            (omega (arith, b12 .before .before .before .if2 .left)) in
-            c .late .ensures G Z refl (later-named (p .0) X K fixed kS kT S _ F) s3,
+      λ sv rs rt D H N. let R = E .1 sv rs rt D N in (
+        R .lates,
+        λ quotaS quotaT K F fixed kS kT S. c .late .ensures (instanceOf K) (stateOf (a .rem .now) fixed kS kT) refl
+            (later-named (shown (start2 q)) K F fixed kS kT S _ _ _ _ _ R) (quiet3 q sv rs rt H quotaS quotaT K F fixed kS kT S),
       ),
     )
 
 pub step-spec : {M : Type 1} → statement M
 step-spec =
-    tie.close (tie.spec (λ c κs. search needs) (λ c. search needs) returns (λ c κs. search needs) (λ c κs. search needs) (λ c κs. search needs)
-    (λ c. search needs) returns-2 renewed-requires (λ c κs. search needs) returns-3)
+    tie.close (tie.spec (λ c. search needs) (λ c κs. search needs) (λ c. search needs) returns (λ c. search needs) (λ c κs. search needs)
+    (λ c. search needs) (λ c κs. search needs) (λ c κs. search needs) (λ c. search needs) returns-2 renewed-requires (λ c κs. search needs) returns-3)

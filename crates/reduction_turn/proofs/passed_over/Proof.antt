@@ -14,10 +14,10 @@ use Rattle.reduction_turn.proofs.passed_over.Statement.{statement}
 use Rattle.reduction_turn.proofs.passed_over.Tie as tie
 
 cast-if1 : tie.Need-cast-if1
-cast-if1 c = let p = c .before .pre in omega (arith, p .1, p .2 .linked .edges)
+cast-if1 c = let p = c .before .pre in omega (arith, p .1, p .2 .cells .edges)
 
 second-requires : tie.Need-second-requires
-second-requires c κs = let p = c .before .before .before .pre in (p .0, p .2, p .3, p .4)
+second-requires c κs = let p = c .before .before .before .pre in (p .0, p .2, p .3)
 
 returns : tie.Need-returns
 returns c =
@@ -25,11 +25,12 @@ returns c =
     let p = c .before .before .before .before .pre in
     let x = a .x .now in
     let v = a .v in
-    let new : ℕ → ℕ = secondsOf (a .m) (a .end .now) (a .rank .now) (a .cell .now) (a .rem .now) (a .f .now) (a .q .now) in
     let y = c .second .result in (
-      length-set x v y ∙ p .5,
-      λ u. by-eq u v
-          (λ i t. ap (at (set x v y)) i ∙ getD-set-same x v y 0 (omega (arith, p .5, p .0)) ∙ c .second .ensures ∙ ap new (sym i)
+      length-set x v y ∙ p .4,
+      λ end L u.
+          let new : ℕ → ℕ = secondsOf (a .m) end (a .rank .now) (a .table .now) (a .rem .now) (a .f .now) (a .q .now) in
+          by-eq u v
+          (λ i t. ap (at (set x v y)) i ∙ getD-set-same x v y 0 (omega (arith, p .4, p .0)) ∙ c .second .ensures end L ∙ ap new (sym i)
           ∙ sym (ap (λ b. cond b (new u) (at x u)) (ap₂ _&&_ t (c .before .before .if1 .taken))))
           (λ n t. getD-set-other x v u y 0 n ∙ sym (ap (λ b. cond (b && (a .fell || eqb (at x v) (a .e))) (new u) (at x u)) t)),
     )
@@ -37,10 +38,11 @@ returns c =
 returns-2 : tie.Need-returns-2
 returns-2 c =
     let a = c .before .before .args in
-    let x = a .x .now in
-    let new : ℕ → ℕ = secondsOf (a .m) (a .end .now) (a .rank .now) (a .cell .now) (a .rem .now) (a .f .now) (a .q .now) in (
-      c .before .before .pre .5,
-      λ u. sym (ap (λ b. cond b (new u) (at x u)) (ap (λ b. eqb u (a .v) && b) (c .if1 .left) ∙ and-false (eqb u (a .v)))),
+    let x = a .x .now in (
+      c .before .before .pre .4,
+      λ end L u.
+          let new : ℕ → ℕ = secondsOf (a .m) end (a .rank .now) (a .table .now) (a .rem .now) (a .f .now) (a .q .now) in
+          sym (ap (λ b. cond b (new u) (at x u)) (ap (λ b. eqb u (a .v) && b) (c .if1 .left) ∙ and-false (eqb u (a .v)))),
     )
 
 pub passed-over-spec : {M : Type 1} → statement M

@@ -9,7 +9,7 @@ use lib.ListN.{length, replicate, length-replicate, getD-replicate}
 use lib.Dec.{eqb}
 use borrow.Author.Needs.{needs}
 use Rattle.arrays.specs.ArrayInstance.{at}
-use Rattle.edge_links.specs.Linked.{first-head, first-next, past-others}
+use Rattle.arrays.specs.Linked.{first-head, first-next, past-others}
 use Rattle.rival_tables.specs.Cheapest.{offer}
 use Rattle.theory_votes.specs.Score.{rate}
 use Rattle.rival_arcs.specs.Arcs.{arcPrice, arcRest, arc-start, arc-end, arc-other, arc-past, arc-turn}
@@ -59,7 +59,8 @@ loop-holds c =
 
 joined-requires : tie.Need-joined-requires Inv-loop μ-loop
 joined-requires c κs =
-    let l = c .before .before .before .before .before .before .before .before in
+    let t = c .before .before .before .before in
+    let l = t .before .before .before .before in
     let s = l .before .before in
     (l .loop .inv .2, s .pre .3, s .pre .1 (l .loop .f) (omega arith), omega arith)
 

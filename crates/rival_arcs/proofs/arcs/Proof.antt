@@ -34,13 +34,14 @@ arc-row-requires c κs =
     (s .pre .0, s .pre .2, s .pre .3, l .before .before .links .ensures .1, s .pre .5 (l .loop .i) (omega arith))
 
 put-row-requires : tie.Need-put-row-requires Inv-loop μ-loop
-put-row-requires c κs = (omega arith, c .before .before .before .before .before .before .before .before .loop .inv .1)
+put-row-requires c κs = let t = c .before .before .before .before in (omega arith, t .before .before .before .before .loop .inv .1)
 
 loop-again : tie.Need-loop-again Inv-loop μ-loop
 loop-again c =
-    let l = c .before .before .before .before .before .before .before .before .before in
+    let t = c .before .before .before .before in
+    let l = t .before .before .before .before .before in
     let a = l .before .before .before .before .before .args in (
-      omega (arith, c .before .before .before .before .before .before .before .before .loop-test .taken),
+      omega (arith, t .before .before .before .before .loop-test .taken),
       c .put-row .ensures .0,
       rows-next (l .loop .o) (c .before .before .before .arc-row .result) (c .put-row .last .0)
           (λ i j. arcPrice (a .m) (a .sv .now) (a .st .now) (a .rs .now) (a .rt .now) (a .plan .now) (at (a .pt .now) i) (at (a .rpt .now) i)

@@ -9,7 +9,7 @@ use lib.Dec.{eqb}
 use borrow.Author.Needs.{needs}
 use Rattle.lists.specs.Test.{eqb-yes, eqb-no}
 use Rattle.arrays.specs.ArrayInstance.{at}
-use Rattle.edge_links.specs.Linked.{first-head, first-next, past-others}
+use Rattle.arrays.specs.Linked.{first-head, first-next, past-others}
 use Rattle.rival_tables.specs.Cheapest.{offer}
 use Rattle.rival_tables.specs.Filled.{Remade, remade-start, remade-here, remade-next, remade-stay, remade-end}
 use Rattle.theory_votes.specs.Score.{rate}

@@ -1,7 +1,7 @@
 -- What is gained at both ends is marked.
 use native.Mathlib.Omega.{arith}
 use borrow.Author.Needs.{needs}
-use Rattle.rival_end_edges.specs.Ways.{terminalBy}
+use Rattle.rival_exchange.specs.Ways.{terminalBy}
 use Rattle.rival_exchange.specs.Swaps.{blank-one, marks-ends}
 use Rattle.rival_exchange.proofs.ended.Statement.{statement}
 use Rattle.rival_exchange.proofs.ended.Tie as tie

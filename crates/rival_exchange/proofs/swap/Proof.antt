@@ -164,7 +164,8 @@ returns-4 c =
 
 returns-5 : tie.Need-returns-5
 returns-5 c =
-    let a = c .before .before .before .before .before .before .before .args in
+    let t = c .before .before .before .before in
+    let a = t .before .before .before .args in
     subst
     (λ (f : Found). Marks (c .walked2 .result .gone)
     (goneBy (a .m) (a .sv .now) (a .st .now) (a .rs .now) (a .rt .now) (a .plan .now) (a .fs .now) (a .ft .now) (a .es .now) (a .arcs .now) (a .n) f)

@@ -4,7 +4,7 @@ use mathlib.Core.Logic.{⊎-elim}
 use Prim.Native.Nat.{ℕ, _-_}
 use native.Mathlib.Omega.{arith}
 use borrow.Author.Needs.{needs}
-use Rattle.rival_columns.specs.Leads.{Column}
+use Rattle.rival_walk.specs.Leads.{Column}
 use Rattle.rival_exchange.proofs.walked.Statement.{statement}
 use Rattle.rival_exchange.proofs.walked.Tie as tie
 

@@ -42,7 +42,8 @@ put-row-requires c κs = (omega arith, c .before .before .before .before .before
 
 loop-again : tie.Need-loop-again Inv-loop μ-loop
 loop-again c =
-    let l = c .before .before .before .before .before .before .before in
+    let t = c .before .before .before in
+    let l = t .before .before .before .before in
     let a = l .before .before .before .args in (
       omega arith,
       c .put-row .ensures .0,

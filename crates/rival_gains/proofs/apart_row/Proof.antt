@@ -9,7 +9,7 @@ use lib.ListN.{length, replicate, length-replicate, getD-replicate}
 use lib.Dec.{eqb}
 use borrow.Author.Needs.{needs}
 use Rattle.arrays.specs.ArrayInstance.{at}
-use Rattle.edge_links.specs.Linked.{first-head, first-next, past-others}
+use Rattle.arrays.specs.Linked.{first-head, first-next, past-others}
 use Rattle.rival_tables.specs.Cheapest.{offer}
 use Rattle.rival_gains.specs.Gains.{gainable-other, gainable-here, gainPriceBut, gainRestBut, but-start, but-end, but-past, but-turn}
 use Rattle.rival_gains.proofs.apart_row.Statement.{statement}
@@ -62,7 +62,7 @@ element-copy-out-if1-2 : tie.Need-element-copy-out-if1-2 Inv-loop μ-loop
 element-copy-out-if1-2 c = let l = c .before .before .before in omega (arith, l .before .before .pre .1 (l .loop .f) (omega arith))
 
 parted-requires : tie.Need-parted-requires Inv-loop μ-loop
-parted-requires c κs = c .before .before .before .before .before .before .before .before .loop .inv .2
+parted-requires c κs = let t = c .before .before .before .before in t .before .before .before .before .loop .inv .2
 
 cast-f-2 : tie.Need-cast-f-2 Inv-loop μ-loop
 cast-f-2 c =

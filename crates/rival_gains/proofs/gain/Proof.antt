@@ -8,7 +8,7 @@ use native.Mathlib.Omega.{arith}
 use borrow.Author.Needs.{needs}
 use Rattle.theory_votes.specs.Score.{rate}
 use Rattle.arrays.specs.ArrayInstance.{at}
-use Rattle.edge_links.specs.Linked.{first-head, first-next, past-others}
+use Rattle.arrays.specs.Linked.{first-head, first-next, past-others}
 use Rattle.rival_tables.specs.Cheapest.{offer}
 use Rattle.rival_gains.specs.Gains.{gainable, gainable-other, gainable-here, gainPrice, gainRest, gain-start, gain-end, gain-turn}
 use Rattle.rival_gains.proofs.gain.Statement.{statement}

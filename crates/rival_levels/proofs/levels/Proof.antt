@@ -4,7 +4,7 @@ use Prim.Native.Nat.{ℕ, suc, _+_, _-_, _*_, _≤_, zero-le}
 use native.Mathlib.Omega.{arith}
 use borrow.Author.Needs.{needs}
 use Rattle.rival_tables.specs.Filled.{Rows}
-use Rattle.rival_layers.specs.Layers.{Small, next-≤, layerAt, layer-first, layer-next}
+use Rattle.rival_levels.specs.Layers.{Small, next-≤, layerAt, layer-first, layer-next}
 use Rattle.rival_levels.specs.Levels.{levelsAt}
 use Rattle.rival_levels.specs.Levels.{levels-turn, levels-end, levels-start, loop-is, row-is, column-is, change-is, out-closed, out-open}
 use Rattle.rival_levels.specs.Levels.{out-nothing, out-on, out-last, levelLoop, levelRow, levelChange}
@@ -39,30 +39,37 @@ worth l = 2 * (l .loop .l + 1) + l .before .before .args .k + 4
 worth-is : (l : tie.At-loop Inv-loop μ-loop) → worth l ≡ 2 * suc (l .loop .l) + 4 + l .before .before .args .k
 worth-is l = omega arith
 
-rowed : (c : tie.After-pair Inv-loop μ-loop) → let l = c .before .before .before .before .before .before in let a = l .before .before .args in
+-- the head of the loop, from where the pair is looked for; and that place, from where the next layer is made
+abbrev head : tie.After-pair Inv-loop μ-loop → tie.At-loop Inv-loop μ-loop
+head c = c .before .before .before .before .before .before
+
+abbrev paired : tie.After-next-layer Inv-loop μ-loop → tie.After-pair Inv-loop μ-loop
+paired c = c .before .before .before .before .before
+
+rowed : (c : tie.After-pair Inv-loop μ-loop) → let l = head c in let a = l .before .before .args in
     c .pair .result .row ≡ levelRow (a .arcs .now) (a .terminals .now) (a .n) (a .k) (l .loop .l)
 rowed c =
-    let l = c .before .before .before .before .before .before in
+    let l = head c in
     let a = l .before .before .args in
     row-is (a .arcs .now) (a .terminals .now) (l .loop .d) (a .n) (a .k) (l .loop .l) (omega arith) (l .loop .inv .2) (worth l)
     (c .pair .result .row) (worth-is l) (c .pair .ensures .0)
 
 layered : (c : tie.After-next-layer Inv-loop μ-loop)
-    → let l = c .before .before .before .before .before .before .before .before .before .before .before in let a = l .before .before .args in
+    → let l = head (paired c) in let a = l .before .before .args in
     Rows (c .next-layer .result) (a .n) (layerAt (a .arcs .now) (a .n) (suc (l .loop .l)))
 layered c =
-    let l = c .before .before .before .before .before .before .before .before .before .before .before in
+    let l = head (paired c) in
     let a = l .before .before .args in
     layer-next (a .arcs .now) (l .loop .d) (c .next-layer .result) (a .n) (l .loop .l) (l .loop .inv .2) (c .next-layer .ensures)
 
 altered : (c : tie.After-changed Inv-loop μ-loop)
-    → let l = c .before .before .before .before .before .before .before .before .before .before .before .before .before .before in
+    → let l = head (paired (c .before .before .before)) in
     let a = l .before .before .args in
     c .changed .result ≡ levelChange (a .arcs .now) (a .n) (l .loop .l)
 altered c =
-    let l = c .before .before .before .before .before .before .before .before .before .before .before .before .before .before in
-    let a = l .before .before .args in
     let y = c .before .before .before in
+    let l = head (paired y) in
+    let a = l .before .before .args in
     change-is (a .arcs .now) (a .terminals .now) (l .loop .d) (a .n) (a .k) (l .loop .l) (omega arith) (l .loop .inv .2)
     (y .next-layer .result) (c .changed .result) (layered y) (c .changed .ensures)
 
@@ -77,7 +84,9 @@ returns c =
     ∙ sym (levels-turn (a .arcs .now) (a .terminals .now) (a .n) (a .k) (a .b) (l .loop .l) (omega arith)) ∙ l .loop .inv .3
 
 pair-requires : tie.Need-pair-requires Inv-loop μ-loop
-pair-requires c κs = (omega arith, c .before .before .before .before .before .loop .inv .1, c .before .before .before .before .before .before .before .pre .5)
+pair-requires c κs =
+    let l = c .before .before .before .before .before in
+    (omega arith, l .loop .inv .1, l .before .before .pre .5)
 
 returns-2 : tie.Need-returns-2 Inv-loop μ-loop
 returns-2 c =
@@ -106,19 +115,17 @@ returns-3 c =
     ∙ sym (levels-turn (a .arcs .now) (a .terminals .now) (a .n) (a .k) (a .b) (l .loop .l) (omega arith)) ∙ l .loop .inv .3
 
 next-layer-requires : tie.Need-next-layer-requires Inv-loop μ-loop
-next-layer-requires c κs = (
-  omega arith,
-  c .before .before .before .before .before .before .before .before .before .before .loop .inv .1,
-  c .before .before .before .before .before .before .before .before .before .before .before .before .pre .4,
-)
+next-layer-requires c κs =
+    let l = head (c .before .before .before .before) in
+    (omega arith, l .loop .inv .1, l .before .before .pre .4)
 
 changed-requires : tie.Need-changed-requires Inv-loop μ-loop
-changed-requires c κs = (omega arith, c .before .before .before .before .before .before .before .before .before .before .before .before .before .loop .inv .1)
+changed-requires c κs = (omega arith, head (paired (c .before .before)) .loop .inv .1)
 
 returns-4 : tie.Need-returns-4 Inv-loop μ-loop
 returns-4 c =
     let g = c .before in
-    let p = g .before .before .before .before .before .before .before .before in
+    let p = paired (g .before .before .before) in
     let d = p .before .before .before in
     let l = d .before .before .before in
     let a = l .before .before .args in
@@ -132,7 +139,7 @@ loop-again : tie.Need-loop-again Inv-loop μ-loop
 loop-again c =
     let g = c .before in
     let y = g .before .before .before in
-    let p = g .before .before .before .before .before .before .before .before in
+    let p = paired (g .before .before .before) in
     let d = p .before .before .before in
     let l = d .before .before .before in
     let a = l .before .before .args in

@@ -7,7 +7,7 @@ use borrow.Author.Needs.{needs}
 use borrow.Author.Tests.{lt-ltb, le-ltb}
 use Rattle.arrays.specs.ArrayInstance.{at}
 use Rattle.lists.specs.Search.{low, low-hit, low-miss}
-use Rattle.rival_layers.specs.Layers.{keptPrice}
+use Rattle.rival_levels.specs.Layers.{keptPrice}
 use Rattle.rival_levels.proofs.lowered.Statement.{statement}
 use Rattle.rival_levels.proofs.lowered.Tie as tie
 

@@ -1,5 +1,5 @@
 -- `rival_verdict::is_something` meets its contract: nothing was found, or something was. Assumes nothing.
-use mathlib.Core.Path.{_≡_, refl, sym, ap, _∙_}
+use mathlib.Core.Path.{_≡_, refl}
 use mathlib.Core.Bool.{true}
 use mathlib.Core.List.{[], _∷_}
 use types.Run.{OneOf, miss}

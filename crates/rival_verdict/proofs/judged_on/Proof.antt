@@ -1,7 +1,6 @@
 -- An edge with room at both ends was found; or the links are made, and the tables decide.
 use mathlib.Core.Path.{_≡_}
 use mathlib.Core.Bool.{false}
-use Prim.Native.Nat.{_≤_}
 use native.Mathlib.Omega.{arith}
 use lib.ListN.{length, replicate}
 use borrow.Author.Needs.{needs}
@@ -27,8 +26,7 @@ returns c =
     let g = c .before .before .before .gained in
     let h = c .before .before .before .before .if1 .taken in
     λ quotaS quotaT roomyS roomyT. direct-shown (a .m) (a .sv .now) (a .st .now) (a .rs .now) (a .rt .now) quotaS quotaT (a .plan .now) (a .n) (a .es .now)
-    (a .ps .now) (a .pt .now)
-    (a .qs .now) (a .qt .now) (a .fs .now) (a .ft .now) (s .pre .1) (s .pre .2) (s .pre .3) (s .pre .4) (s .pre .5) roomyS roomyT (f .result)
+    (a .ps .now) (a .pt .now) (a .fs .now) (a .ft .now) (s .pre .1) (s .pre .2) (s .pre .3) (s .pre .4) (s .pre .5) roomyS roomyT (f .result)
     (replicate 1024 false) (g .result) (c .exchanged .result) (f .ensures) h (blank-none 1024) (blank-one 1024 (a .m) (f .result) (g .result) h (g .ensures))
     (c .exchanged .ensures)
 
@@ -40,15 +38,17 @@ links-requires c κs =
 
 links-requires-2 : tie.Need-links-requires-2
 links-requires-2 c κs =
-    let s = c .before .before .before .before .before .before .before .before in
+    let l = c .before .before .before .before in
+    let s = l .before .before .before .before in
     let l : length (s .args .st .now) ≡ 1024 = search needs in
     (s .pre .0, omega (arith, l, s .pre .0), omega (arith, s .pre .0), s .pre .3)
 
 judged-by-tables-requires : tie.Need-judged-by-tables-requires
 judged-by-tables-requires c κs =
-    let s = c .before .before .before .before .before .before .before .before .before .before .before .before .before .before in
-    let i = c .before .before .before .before .before .before .before .before .before .before .before .before .if1 in
-    let f = c .before .before .before .before .before .before .before .before .before .before .before .before .before .direct in (
+    let u = c .before .before .before .before .before in
+    let l = u .before .before .before .before in
+    let d = l .before .before .before .before in
+    let s = d .before in (
       s .pre .0,
       s .pre .1,
       s .pre .2,
@@ -57,9 +57,9 @@ judged-by-tables-requires c κs =
       s .pre .5,
       s .pre .6,
       s .pre .7,
-      c .before .before .before .before .before .before .before .before .before .links .ensures .1,
-      c .before .before .before .before .before .links2 .ensures .1,
-      omega (arith, i .left, f .ensures),
+      l .links .ensures .1,
+      u .links2 .ensures .1,
+      omega (arith, l .before .before .before .if1 .left, d .direct .ensures),
     )
 
 pub judged-on-spec : {M : Type 1} → statement M

@@ -8,7 +8,7 @@ use native.Mathlib.Omega.{arith}
 use lib.Dec.{ltb}
 use borrow.Author.Needs.{needs}
 use Rattle.arrays.specs.ArrayInstance.{at}
-use Rattle.edge_links.specs.Linked.{first-head, first-next, past-others}
+use Rattle.arrays.specs.Linked.{first-head, first-next, past-others}
 use Rattle.rival_walk.specs.Edges.{edgePrice, edgeRest, arcEdge, joins-other, joins-here, edge-start, edge-end, edge-turn}
 use Rattle.rival_walk.proofs.arc_edge.Statement.{statement}
 use Rattle.rival_walk.proofs.arc_edge.Tie as tie
@@ -68,10 +68,11 @@ loop-holds c =
 
 cast-f-2 : tie.Need-cast-f-2 Inv-loop μ-loop
 cast-f-2 c =
-    let l = c .before .before .before .before .before .before .before .before .before in
+    let t = c .before .before .before .before .before in
+    let l = t .before .before .before .before in
     let s = l .before .before .before .before .before .before in
     let a = s .args in
-    let k : l .loop .f < a .m = c .before .before .before .before .before .before .before .before .loop-test .taken in
+    let k : l .loop .f < a .m = t .before .before .before .loop-test .taken in
     omega (
       arith,
       s .pre .0,
@@ -80,20 +81,22 @@ cast-f-2 c =
 
 loop-less : tie.Need-loop-less Inv-loop μ-loop
 loop-less c =
-    let l = c .before .before .before .before .before .before .before .before .before in
+    let t = c .before .before .before .before .before in
+    let l = t .before .before .before .before in
     let s = l .before .before .before .before .before .before in
     let a = s .args in
-    let k : l .loop .f < a .m = c .before .before .before .before .before .before .before .before .loop-test .taken in
+    let k : l .loop .f < a .m = t .before .before .before .loop-test .taken in
     let F = first-next (a .m) (a .st .now) (a .ht .now) (a .lt .now) (s .pre .4) (at (a .st .now) (a .x)) (l .loop .f) k (l .loop .inv .1 k) in
     omega (arith, k, F .inside, F .onward (omega (arith, k)))
 
 loop-again : tie.Need-loop-again Inv-loop μ-loop
 loop-again c =
-    let l = c .before .before .before .before .before .before .before .before .before in
+    let t = c .before .before .before .before .before in
+    let l = t .before .before .before .before in
     let s = l .before .before .before .before .before .before in
     let a = s .args in
     let f = l .loop .f in
-    let k : f < a .m = c .before .before .before .before .before .before .before .before .loop-test .taken in
+    let k : f < a .m = t .before .before .before .loop-test .taken in
     let here : at (a .st .now) f ≡ at (a .st .now) (a .x) = l .loop .inv .1 k in
     let F = first-next (a .m) (a .st .now) (a .ht .now) (a .lt .now) (s .pre .4) (at (a .st .now) (a .x)) f k here in
     let p = c .before .before .before .before .before .before .rated .result + c .before .before .before .before .rated2 .result in

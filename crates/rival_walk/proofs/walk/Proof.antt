@@ -6,11 +6,11 @@ use mathlib.Core.Bool.{true}
 use mathlib.Core.Logic.{⊎-elim}
 use lib.ListN.{length, length-set}
 use borrow.Author.Needs.{needs}
-use Rattle.rival_columns.specs.Leads.{layer-small, lead-cong}
+use Rattle.rival_walk.specs.Leads.{layer-small, lead-cong}
 use Rattle.rival_walk.specs.Edges.{arcEdge}
 use Rattle.arrays.specs.ArrayInstance.{at}
 use Rattle.rival_tables.specs.Filled.{cell}
-use Rattle.rival_layers.specs.Layers.{layerAt}
+use Rattle.rival_levels.specs.Layers.{layerAt}
 use Rattle.rival_walk.specs.Walks.{ahead, Read, read-on, read-stay, read-last}
 use Rattle.rival_walk.proofs.walk.Statement.{statement}
 use Rattle.rival_walk.proofs.walk.Tie as tie
@@ -44,34 +44,25 @@ lead-requires c κs =
 
 cast-x : tie.Need-cast-x Inv-loop μ-loop
 cast-x c =
-    omega (
-      arith,
-      c .before .before .before .before .before .before .before .pre .2 (c .before .before .before .before .loop .c)
-          (c .before .before .before .before .loop .inv .1),
-    )
+    let l = c .before .before .before .before in
+    omega (arith, l .before .before .before .pre .2 (l .loop .c) (l .loop .inv .1))
 
 cast-z : tie.Need-cast-z Inv-loop μ-loop
 cast-z c =
-    omega (
-      arith,
-      c .before .before .before .before .before .before .before .before .pre .2 (c .before .before .before .lead .result .place)
-          (c .before .before .if1 .taken),
-    )
+    let d = c .before .before .before in
+    omega (arith, d .before .before .before .before .before .pre .2 (d .lead .result .place) (c .before .before .if1 .taken))
 
 arc-edge-requires : tie.Need-arc-edge-requires Inv-loop μ-loop
 arc-edge-requires c κs =
-    let s = c .before .before .before .before .before .before .before .before in
     let l = c .before .before .before .before .before in
+    let s = l .before .before .before in
     let y = c .before .before .before .lead .result .place in
     (s .pre .0, s .pre .2 (l .loop .c) (l .loop .inv .1), s .pre .2 y (c .before .before .if1 .taken), s .pre .8, s .pre .9)
 
 array-write-gone : tie.Need-array-write-gone Inv-loop μ-loop
 array-write-gone c =
-    omega (
-      arith,
-      c .before .before .before .before .before .before .before .before .before .pre .2
-          (c .before .before .before .before .lead .result .place) (c .before .before .before .if1 .taken),
-    )
+    let d = c .before .before .before .before in
+    omega (arith, d .before .before .before .before .before .pre .2 (d .lead .result .place) (c .before .before .before .if1 .taken))
 
 loop-again : tie.Need-loop-again Inv-loop μ-loop
 loop-again c =
@@ -127,11 +118,9 @@ arc-edge-requires-2 c κs =
 
 array-write-gone-2 : tie.Need-array-write-gone-2 Inv-loop μ-loop
 array-write-gone-2 c =
-    omega (
-      arith,
-      c .before .before .before .before .before .before .before .pre .2 (c .before .before .before .before .before .before .before .args .j)
-          (c .before .before .before .before .before .before .before .pre .6),
-    )
+    let l = c .before .before .before .before in
+    let s = l .before .before .before in
+    omega (arith, s .pre .2 (s .args .j) (s .pre .6))
 
 returns : tie.Need-returns Inv-loop μ-loop
 returns c =

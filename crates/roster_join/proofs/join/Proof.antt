@@ -32,19 +32,24 @@ quota-sum-requires c κs = short (c .before .before .byte-at .result) 255 (c .pa
 
 listed-requires : tie.Need-listed-requires
 listed-requires c κs =
-    let f = c .before .before .before .before .before .before .before .before .before .args .file .now in
-    let isB = bytes-are f (λ i. omega (arith, c .before .before .before .before .before .before .before .before .shared-slice-known .given i)) in
-    let (R, d) = c .before .before .before .before .before .before .before .before .before .pre in
+    let at-shared-slice-known = c .before .before .before .before .before .before .before .before in
+    let entry = at-shared-slice-known .before in
+    let f = entry .args .file .now in
+    let isB = bytes-are f (λ i. omega (arith, at-shared-slice-known .shared-slice-known .given i)) in
+    let (R, d) = entry .pre in
     counts-small f R (read-write f R isB d) (c .before .before .before .before .before .byte-at .result)
     (c .before .before .before .before .before .byte-at .ensures) (read-fits f R isB d) (c .byte-at2 .result) (c .byte-at2 .ensures)
 
 returns-3 : tie.Need-returns-3
 returns-3 c =
+    let at-if1 = c .before .before .before .before .before .before .before in
+    let at-shared-slice-known2 = at-if1 .before in
+    let at-shared-slice-known = at-shared-slice-known2 .before in
     let a = c .before .before .before .before .before .before .before .before .before .before .args in
     let f = a .file .now in
-    let isB = bytes-are f (λ i. omega (arith, c .before .before .before .before .before .before .before .before .before .shared-slice-known .given i)) in
-    let isF = bytes-are (a .list .now) (λ i. omega (arith, c .before .before .before .before .before .before .before .before .shared-slice-known2 .given i)) in
-    λ R d. joins f isB R d (a .quota) (a .list .now) (c .listed .result) (c .before .before .before .before .before .before .before .if1 .left)
+    let isB = bytes-are f (λ i. omega (arith, at-shared-slice-known .shared-slice-known .given i)) in
+    let isF = bytes-are (a .list .now) (λ i. omega (arith, at-shared-slice-known2 .shared-slice-known2 .given i)) in
+    λ R d. joins f isB R d (a .quota) (a .list .now) (c .listed .result) (at-if1 .if1 .left)
     (c .before .before .before .before .before .before .byte-at .result) (c .before .before .before .before .before .before .byte-at .ensures)
     (omega (arith, c .before .before .before .before .before .if2 .left)) (c .before .before .before .quota-sum .result)
     (c .before .before .before .quota-sum .ensures .0 ∙ ap (sum (λ q. q)) (c .before .before .before .before .part .ensures))
@@ -53,9 +58,10 @@ returns-3 c =
 
 returns-4 : tie.Need-returns-4
 returns-4 c =
+    let at-shared-slice-known = c .before .before .before .before .before .before .before .before in
     let a = c .before .before .before .before .before .before .before .before .before .args in
     let f = a .file .now in
-    let isB = bytes-are f (λ i. omega (arith, c .before .before .before .before .before .before .before .before .shared-slice-known .given i)) in
+    let isB = bytes-are f (λ i. omega (arith, at-shared-slice-known .shared-slice-known .given i)) in
     λ R d. joins-over f isB R d (a .quota) (a .list .now) (c .refused3 .result) (c .before .before .before .before .before .before .if1 .left)
     (c .before .before .before .before .before .byte-at .result) (c .before .before .before .before .before .byte-at .ensures)
     (omega (arith, c .before .before .before .before .if2 .left)) (c .before .before .quota-sum .result)

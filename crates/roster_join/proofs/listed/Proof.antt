@@ -20,8 +20,9 @@ returns c =
 
 returns-2 : tie.Need-returns-2
 returns-2 c =
+    let at-shared-slice-known2 = c .before .before .before .before .before .before .before .before in
     let a = c .before .before .before .before .before .before .before .before .before .before .args in
-    let isB = bytes-are (a .list .now) (λ i. omega (arith, c .before .before .before .before .before .before .before .before .shared-slice-known2 .given i)) in
+    let isB = bytes-are (a .list .now) (λ i. omega (arith, at-shared-slice-known2 .shared-slice-known2 .given i)) in
     list-read (a .file .now) (a .ns) (a .nt) (a .quota) (a .list .now) (c .before .before .before .before .before .before .list-at .ensures)
     (c .entered .result) isB (c .before .before .before .s2 .given .1) (c .entered .ensures)
 

@@ -7,7 +7,7 @@ use Rattle.model.specs.Limits.{entryWidth}
 use Rattle.roster_positions.proofs.Stamping.{left-all, short}
 use Rattle.roster_parts.specs.Growth.{Going, going-starts, going-on, going-past, going-ends}
 use Rattle.roster_parts.specs.Rankings.{rankingsFrom, rankings-turn, rankings-done}
-use Rattle.roster_without.specs.LeftParts.{rankingLeft}
+use Rattle.roster_leave.specs.LeftParts.{rankingLeft}
 use Rattle.roster_leave.specs.Left.{rankingsLeft}
 use Rattle.roster_leave.proofs.rankings_left.Statement.{statement}
 use Rattle.roster_leave.proofs.rankings_left.Tie as tie

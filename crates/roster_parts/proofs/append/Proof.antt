@@ -1,37 +1,18 @@
--- `roster_parts::append` meets its contract: the bytes from i on are left. Assumes nothing.
-use Prim.Native.Nat.{_-_, _≤_, zero-le}
+-- `roster_parts::append` meets its contract: at once where there is room, else byte by byte. Assumes nothing.
 use native.Mathlib.Omega.{arith}
-use lib.ListN.{length, drop, drop-of-length-le}
+use mathlib.Core.Path.{_∙_}
 use borrow.Author.Needs.{needs}
-use Rattle.roster_parts.specs.Growth.{Going, going-starts, going-on, going-ends, next-byte}
+use Rattle.roster_parts.specs.Growth.{grown-part}
 use Rattle.roster_parts.proofs.append.Statement.{statement}
 use Rattle.roster_parts.proofs.append.Tie as tie
 
-abbrev Inv-loop : tie.InvT-loop
-Inv-loop out₀ n part at₀ i₀ out at i = (i ≤ length part) × Going part (drop i part) n out₀ at out
-
-abbrev μ-loop : tie.MeasureT-loop
-μ-loop out₀ n part at₀ i₀ out at i = length part - i
-
-loop-holds : tie.Need-loop-holds Inv-loop μ-loop
-loop-holds c = (zero-le, going-starts (c .before .args .part .now) (c .before .args .n) (c .before .args .out .now) (c .before .pre))
-
-append-byte-requires : tie.Need-append-byte-requires Inv-loop μ-loop
-append-byte-requires c κs = let g = c .before .before .before .loop .inv .1 .grown in (g .few, g .size)
-
-loop-again : tie.Need-loop-again Inv-loop μ-loop
-loop-again c =
-    let l = c .before .before .before .before in
-    let a = l .before .before .args in
-    (omega arith, going-on (next-byte (a .part .now) (l .loop .i) (c .before .before .before .loop-test .taken)) (l .loop .inv .1) (c .append-byte .ensures))
-
-returns : tie.Need-returns Inv-loop μ-loop
+returns : tie.Need-returns
 returns c =
-    let l = c .before in
-    let a = l .before .before .args in
-    going-ends (drop-of-length-le (a .part .now) (c .loop-test .left)) (l .loop .inv .1)
+    let s = c .before .before .before .before in
+    let a = s .args in
+    let p = c .put-behind .ensures in
+    grown-part (a .part .now) (a .n) (a .out .now) _ (omega (arith, s .pre .0, c .before .before .if1 .taken)) (p .1 ∙ s .pre .1) (p .0)
 
 pub append-spec : {M : Type 1} → statement M
 append-spec =
-    tie.close (tie.spec Inv-loop μ-loop loop-holds (λ c. search needs) append-byte-requires (λ c. search needs) (λ c. search needs)
-    loop-again returns)
+    tie.close (tie.spec (λ c. search needs) (λ c κs. search needs) (λ c. search needs) returns (λ c κs. search needs) (λ c. search needs))

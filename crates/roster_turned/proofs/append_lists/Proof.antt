@@ -63,10 +63,14 @@ append-entries-requires : tie.Need-append-entries-requires Inv-loop μ-loop
 append-entries-requires c κs = let g = c .before .append .ensures in (g .few, g .size)
 
 add-at : tie.Need-add-at Inv-loop μ-loop
-add-at c = let h = small (c .before .before .before .before .before .before .before) in search needs
+add-at c =
+    let there = c .before .before .before .before .before .before .before in
+    let h = small (there) in search needs
 
 add-at-2 : tie.Need-add-at-2 Inv-loop μ-loop
-add-at-2 c = let h = small (c .before .before .before .before .before .before .before) in search needs
+add-at-2 c =
+    let there = c .before .before .before .before .before .before .before in
+    let h = small (there) in search needs
 
 loop-again : tie.Need-loop-again Inv-loop μ-loop
 loop-again c =

@@ -9,10 +9,12 @@ use Rattle.roster_with.proofs.nodes_with.Tie as tie
 
 returns : tie.Need-returns
 returns c =
+    let at-part2 = c .before .before .before .before .before .before .before .before in
+    let at-part = at-part2 .before in
     let a = c .before .before .before .before .before .before .before .before .before .before .before .args in
     grown-as (ap₂ (λ x y. ((((a .ns + 1) ∷ []) ++ x) ++ a .quota ∷ []) ++ y)
-    (c .before .before .before .before .before .before .before .before .before .part .ensures)
-    (c .before .before .before .before .before .before .before .before .part2 .ensures))
+    (at-part .part .ensures)
+    (at-part2 .part2 .ensures))
     (grown-then (grown-then
     (grown-then (c .before .before .before .before .before .before .append-byte .ensures) (c .before .before .before .before .append .ensures))
     (c .before .before .append-byte2 .ensures)) (c .append2 .ensures))

@@ -6,7 +6,7 @@ use borrow.Author.Needs.{needs}
 use Rattle.roster_positions.proofs.Stamping.{left-all}
 use Rattle.roster_parts.specs.Growth.{Going, going-starts, going-on, going-past, going-ends}
 use Rattle.roster_parts.specs.Rankings.{rankingsFrom, rankings-turn, rankings-done}
-use Rattle.roster_joiner.specs.Entering.{marksIn, entering}
+use Rattle.roster_with.specs.Entering.{marksIn, entering}
 use Rattle.roster_with.specs.WithJoiner.{rankingsWith}
 use Rattle.roster_with.proofs.rankings_with.Statement.{statement}
 use Rattle.roster_with.proofs.rankings_with.Tie as tie

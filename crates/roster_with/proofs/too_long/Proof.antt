@@ -8,7 +8,7 @@ use borrow.Author.Needs.{needs}
 use borrow.Author.Tests.{lt-ltb, le-ltb}
 use Rattle.model.specs.Limits.{listLimit, entryWidth}
 use Rattle.roster_positions.proofs.Stamping.{left-all}
-use Rattle.roster_joiner.specs.Entering.{marksIn}
+use Rattle.roster_with.specs.Entering.{marksIn}
 use Rattle.roster_with.specs.WithJoiner.{longFrom, long-turn, long-done}
 use Rattle.roster_with.proofs.too_long.Statement.{statement}
 use Rattle.roster_with.proofs.too_long.Tie as tie

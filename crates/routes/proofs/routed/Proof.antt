@@ -5,7 +5,7 @@ use borrow.Author.Needs.{needs}
 use Rattle.model.specs.RosterFile.{readRoster}
 use Rattle.model.specs.Limits.{storedSize}
 use Rattle.answers.specs.FileCases.{fileCase, case-accepted}
-use Rattle.file_calls.specs.Settling.{answers-short, answers-settled}
+use Rattle.answers.specs.Settling.{answers-short, answers-settled}
 use Rattle.routes.specs.Storing.{turnBy, head-turned, roster-turned, rest-whole}
 use Rattle.routes.proofs.routed.Statement.{statement}
 use Rattle.routes.proofs.routed.Tie as tie

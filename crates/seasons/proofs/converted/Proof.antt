@@ -5,7 +5,7 @@ use Rattle.model.specs.Limits.{rosterSize}
 use Rattle.model.specs.RosterFile.{readRosterBy}
 use Rattle.answers.specs.FileCases.{case-accepted}
 use Rattle.roster_reading.specs.Layout.{layoutOf}
-use Rattle.file_calls.specs.Settling.{answers-short, answers-settled}
+use Rattle.answers.specs.Settling.{answers-short, answers-settled}
 use Rattle.seasons.specs.Converting.{turnBy, file-turned}
 use Rattle.seasons.proofs.converted.Statement.{statement}
 use Rattle.seasons.proofs.converted.Tie as tie

@@ -4,8 +4,8 @@ use native.Mathlib.Omega.{arith}
 use mathlib.Core.Path.{sym, ap, subst}
 use Rattle.model.specs.Text.{text}
 use Rattle.answers.specs.declared.Found.the-variants.{Plan, None}
-use Rattle.text_numbers.specs.Appended.{append-as, append-then}
-use Rattle.text_endings.specs.Endings.{noneText}
+use Rattle.text_lines.specs.Appended.{append-as, append-then}
+use Rattle.text_lines.specs.Endings.{noneText}
 use Rattle.text_answer.specs.Printable.{shownText, Printable, noted-length}
 use Rattle.text_answer.specs.Answered.{answered}
 use borrow.Author.Needs.{needs}
@@ -22,18 +22,19 @@ put-diary-requires c κs =
 
 put-plan-requires : tie.Need-put-plan-requires
 put-plan-requires c κs =
+    let at-answer = c .before .before .before .before .before .before .before in
     let s = c .before .before .before .before .before .before .before .before .before .before .before .before .before .before in
     let a = s .args in
-    let p : Printable (Plan (c .before .before .before .before .before .before .before .answer .given .0 .0)) (a .flat .now) (a .left .now)
+    let p : Printable (Plan (at-answer .answer .given .0 .0)) (a .flat .now) (a .left .now)
     (a .plan .now) (a .rival .now) =
     subst (λ k. Printable k (a .flat .now) (a .left .now) (a .plan .now) (a .rival .now))
-    (c .before .before .before .before .before .before .before .answer .given .1) (s .pre .0) in (
+    (at-answer .answer .given .1) (s .pre .0) in (
       p .1,
       omega (
         arith,
         s .pre .1,
         c .before .before .before .before .put-diary .ensures .place,
-        noted-length (c .before .before .before .before .before .before .before .answer .given .0 .0) (a .flat .now) (p .0 .0),
+        noted-length (at-answer .answer .given .0 .0) (a .flat .now) (p .0 .0),
       ),
     )
 
@@ -68,28 +69,31 @@ put-none-requires c κs =
 returns : tie.Need-returns
 unfolding text
 returns c =
+    let at-put-diary = c .before .before .before .before .before .before .before in
+    let at-answer = at-put-diary .before .before .before in
     let s = c .before .before .before .before .before .before .before .before .before .before .before .before .before .before .before .before .before in
     let a = s .args in
     answered
     (append-as
     (sym
     (ap (λ k. shownText k (a .flat .now) (a .left .now) (a .plan .now) (a .rival .now))
-    (c .before .before .before .before .before .before .before .before .before .before .answer .given .1)))
-    (append-then (a .out .now) 0 zero-le (c .before .before .before .before .before .before .before .put-diary .ensures)
+    (at-answer .answer .given .1)))
+    (append-then (a .out .now) 0 zero-le (at-put-diary .put-diary .ensures)
     (c .before .before .put-plan .ensures)))
 
 returns-2 : tie.Need-returns-2
 unfolding text
 returns-2 c =
+    let at-answer2 = c .before .before .before .before .before .before .before .before .before in
     let s = c .before .before .before .before .before .before .before .before .before .before .before .before .before .before .before .before in
     let a = s .args in
     answered
     (append-as
     (sym
     (ap (λ k. shownText k (a .flat .now) (a .left .now) (a .plan .now) (a .rival .now))
-    (c .before .before .before .before .before .before .before .before .before .answer2 .given .1)))
+    (at-answer2 .answer2 .given .1)))
     (append-then (a .out .now) 0
-    {y = noneText (c .before .before .before .before .before .before .before .before .before .answer2 .given .0 .1 .0) (a .left .now)
+    {y = noneText (at-answer2 .answer2 .given .0 .1 .0) (a .left .now)
     (a .plan .now) (a .rival .now)}
     zero-le (c .before .before .before .before .before .before .put-diary2 .ensures) (c .before .before .put-none .ensures)))
 

@@ -1,6 +1,6 @@
 -- `text_lines::put_fate` meets its contract: a word for each fate.
 use Rattle.model.specs.Text.{text}
-use Rattle.text_numbers.specs.Appended.{append-as}
+use Rattle.text_lines.specs.Appended.{append-as}
 use Rattle.text_lines.proofs.Fields.{fate-none, fate-fix, fate-strike}
 use borrow.Author.Needs.{needs}
 use Rattle.text_lines.proofs.put_fate.Statement.{statement}
@@ -14,15 +14,17 @@ returns c =
 returns-2 : tie.Need-returns-2
 unfolding text
 returns-2 c =
+    let entry = c .before .before .before .before .before .before .before .before in
     append-as
-    (fate-fix (c .before .before .before .before .before .before .before .before .args .fate) (c .before .before .before .before .before .if2 .taken))
+    (fate-fix (entry .args .fate) (c .before .before .before .before .before .if2 .taken))
     (c .before .before .put-word .ensures)
 
 returns-3 : tie.Need-returns-3
 unfolding text
 returns-3 c =
+    let entry = c .before .before .before .before .before .before .before .before in
     append-as
-    (fate-strike (c .before .before .before .before .before .before .before .before .args .fate)
+    (fate-strike (entry .args .fate)
     (c .before .before .before .before .before .before .if1 .left) (c .before .before .before .before .before .if2 .left))
     (c .before .before .put-word2 .ensures)
 

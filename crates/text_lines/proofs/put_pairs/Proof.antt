@@ -3,7 +3,7 @@ use Prim.Native.Nat.{_-_, _≤_}
 use native.Mathlib.Omega.{arith}
 use mathlib.Core.Path.{_≡_, refl, sym, ap}
 use lib.ListN.{length}
-use Rattle.text_numbers.specs.Appended.{Appended, append-as, append-none, append-then}
+use Rattle.text_lines.specs.Appended.{Appended, append-as, append-none, append-then}
 use Rattle.text_lines.specs.Texts.{texts, texts-none, texts-more, texts-length}
 use Rattle.text_lines.specs.Lines.{lineOf, pairAt, pairLineSize, pair-at-length}
 use Rattle.text_lines.proofs.put_pairs.Statement.{statement}

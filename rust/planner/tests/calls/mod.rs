@@ -16,6 +16,10 @@ pub struct Desk(pub planner::Desk);
 /// A pair by the numbers of its surveyor and its stand, and its shift.
 pub type Pair = (u8, u8, u8);
 
+/// What was found, and the lengths of the plan or candidate and of the rival that
+/// were written, 0 where none was.
+pub type Told = (Found, [usize; 2]);
+
 /// Both votes and who wins, and the part that is handed back.
 pub type Compared = (Result<(i16, i16, Winner), u8>, Part);
 
@@ -23,12 +27,12 @@ fn number(refusal: Refusal) -> u8 {
     refusal.number
 }
 
-/// A verdict as the reference tells it.
-pub fn judged(verdict: Verdict) -> Judged {
+/// A verdict as the reference tells it, with the length of the rival written.
+pub fn judged(verdict: Verdict) -> (Judged, usize) {
     match verdict {
-        Verdict::Strong => Judged::Strong,
-        Verdict::Popular(vote) => Judged::Popular(vote),
-        Verdict::Beaten(vote) => Judged::Beaten(vote),
+        Verdict::Strong => (Judged::Strong, 0),
+        Verdict::Popular { vote, rival } => (Judged::Popular(vote), rival),
+        Verdict::Beaten { vote, rival } => (Judged::Beaten(vote), rival),
     }
 }
 
@@ -42,17 +46,17 @@ pub fn winner(answer: planner::Winner) -> Winner {
     }
 }
 
-fn found(answer: planner::Found) -> Found {
+fn found(answer: planner::Found) -> Told {
+    let none = |steps, kind| Found::None { steps, kind };
     match answer {
-        planner::Found::Plan { steps } => Found::Plan { steps },
-        planner::Found::Left { steps, pairs } => Found::None {
+        planner::Found::Plan { steps, plan } => (Found::Plan { steps }, [plan, 0]),
+        planner::Found::Left { steps, pairs } => (none(steps, NoneKind::Left(pairs)), [0, 0]),
+        planner::Found::Rivalled {
             steps,
-            kind: NoneKind::Left(pairs),
-        },
-        planner::Found::Rivalled { steps, vote } => Found::None {
-            steps,
-            kind: NoneKind::Rivalled(vote),
-        },
+            vote,
+            plan,
+            rival,
+        } => (none(steps, NoneKind::Rivalled(vote)), [plan, rival]),
     }
 }
 
@@ -60,7 +64,7 @@ fn found(answer: planner::Found) -> Found {
 fn with_steps(
     lent: Lent,
     call: impl FnOnce(&mut [Step], &mut [u8], &mut [u8], &mut [u8]) -> Result<planner::Found, Refusal>,
-) -> Result<Found, u8> {
+) -> Result<Told, u8> {
     let step = |record: &Record| Step {
         fate: record.fate,
         surveyor: record.surveyor,
@@ -110,10 +114,10 @@ pub trait Calls: Sized {
     fn spread(self, out: &mut [u8]) -> (Self, Result<usize, u8>);
     fn plan_to_new(self, file: &[u8], out: &mut [u8]) -> (Self, Result<usize, u8>);
     fn plan_to_old(self, file: &[u8], out: &mut [u8]) -> (Self, Result<usize, u8>);
-    fn find(self, lent: Lent) -> (Self, Result<Found, u8>);
-    fn join(self, quota: u8, list: &[u8], lent: Lent) -> (Self, Result<Found, u8>);
-    fn leave(self, number: u8, lent: Lent) -> (Self, Result<Found, u8>);
-    fn judge(self, rival: &mut [u8], pairing: &mut [u8]) -> (Self, Result<Judged, u8>);
+    fn find(self, lent: Lent) -> (Self, Result<Told, u8>);
+    fn join(self, quota: u8, list: &[u8], lent: Lent) -> (Self, Result<Told, u8>);
+    fn leave(self, number: u8, lent: Lent) -> (Self, Result<Told, u8>);
+    fn judge(self, rival: &mut [u8], pairing: &mut [u8]) -> (Self, Result<(Judged, usize), u8>);
     fn compare(self, first: &[u8], second: &[u8], facing: Facing) -> (Self, Compared);
     fn least(self, files: [&[u8]; 3], out: &mut [u8]) -> (Self, Result<(i16, usize), u8>);
     fn blocking(self) -> (Self, Result<Option<Pair>, u8>);
@@ -191,28 +195,28 @@ impl Calls for Desk {
         (self, answer)
     }
 
-    fn find(self, lent: Lent) -> (Desk, Result<Found, u8>) {
+    fn find(self, lent: Lent) -> (Desk, Result<Told, u8>) {
         let answer = with_steps(lent, |diary, left, plan, rival| {
             self.0.find(diary, left, plan, rival)
         });
         (self, answer)
     }
 
-    fn join(mut self, quota: u8, list: &[u8], lent: Lent) -> (Desk, Result<Found, u8>) {
+    fn join(mut self, quota: u8, list: &[u8], lent: Lent) -> (Desk, Result<Told, u8>) {
         let answer = with_steps(lent, |diary, left, plan, rival| {
             self.0.join(quota, list, diary, left, plan, rival)
         });
         (self, answer)
     }
 
-    fn leave(mut self, number: u8, lent: Lent) -> (Desk, Result<Found, u8>) {
+    fn leave(mut self, number: u8, lent: Lent) -> (Desk, Result<Told, u8>) {
         let answer = with_steps(lent, |diary, left, plan, rival| {
             self.0.leave(number, diary, left, plan, rival)
         });
         (self, answer)
     }
 
-    fn judge(self, rival: &mut [u8], pairing: &mut [u8]) -> (Desk, Result<Judged, u8>) {
+    fn judge(self, rival: &mut [u8], pairing: &mut [u8]) -> (Desk, Result<(Judged, usize), u8>) {
         let answer = self.0.judge(rival, pairing).map(judged).map_err(number);
         (self, answer)
     }

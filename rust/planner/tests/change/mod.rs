@@ -11,7 +11,7 @@ use reference::random::{stand_list, Random};
 use reference::refusal::Refusal;
 use reference::roster::{self, narrow, Roster, Side};
 
-use crate::calls::{self, Calls};
+use crate::calls::{self, Calls, Told};
 use crate::common::{damage, desk_with, files, files_of, held_by};
 use crate::found::same_found;
 use crate::lent::Buffers;
@@ -48,7 +48,7 @@ impl Change {
         Change::Join(quota, list)
     }
 
-    fn on<D: Calls>(&self, desk: D, lent: Lent) -> (D, Result<Found, u8>) {
+    fn on<D: Calls>(&self, desk: D, lent: Lent) -> (D, Result<Told, u8>) {
         match self {
             Change::Join(quota, list) => desk.join(*quota, list, lent),
             Change::Leave(number) => desk.leave(*number, lent),
@@ -74,7 +74,7 @@ impl Change {
             return Changed {
                 ours,
                 theirs,
-                answer,
+                answer: answer.map(|(found, _)| found),
             };
         };
         let roster = theirs.roster().expect("a roster");
@@ -85,7 +85,7 @@ impl Change {
         Changed {
             ours,
             theirs,
-            answer,
+            answer: answer.map(|(found, _)| found),
         }
     }
 
@@ -116,7 +116,7 @@ impl Change {
         let (_, found) = calls::Desk(loaded).find(fresh.lend());
         assert_eq!((answer, own), (found, fresh), "{self:?}");
         *desk = after;
-        found.expect("a roster is held")
+        found.expect("a roster is held").0
     }
 
     /// The changed roster, by the reference.

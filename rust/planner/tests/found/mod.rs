@@ -7,6 +7,7 @@ use reference::plan::{self, Plan};
 use reference::roster::{self, Roster, SIDES};
 use reference::votes::plan_vote;
 
+use crate::calls::Told;
 use crate::common::plan_front;
 use crate::lent::{only_front, Buffers};
 
@@ -15,20 +16,32 @@ use crate::lent::{only_front, Buffers};
 pub fn same_found(
     roster: &Roster,
     before: &Buffers,
-    (found, own): (Found, &Buffers),
+    ((found, lengths), own): (Told, &Buffers),
     (expected, mut other): (Found, Buffers),
 ) {
     assert_eq!(without_vote(found), without_vote(expected));
+    let mut written = [0, 0];
     if let Found::None {
         kind: NoneKind::Rivalled(vote),
         ..
     } = found
     {
         let candidate = read_front(roster, &own.plan);
-        check_rival(roster, &candidate, &before.rival, &own.rival, vote);
+        let rival = check_rival(roster, &candidate, &before.rival, &own.rival, vote);
         other.rival.clone_from(&own.rival);
+        written[1] = plan::write(roster, &rival).len();
+    }
+    if lent_a_plan(expected) {
+        written[0] = plan_front(&other.plan).len();
     }
     assert_eq!(*own, other);
+    assert_eq!(lengths, written, "the lengths of the plan and of its rival");
+}
+
+/// Whether a plan or a candidate goes with an answer.
+fn lent_a_plan(found: Found) -> bool {
+    let left = |kind| matches!(kind, NoneKind::Left(_));
+    !matches!(found, Found::None { kind, .. } if left(kind))
 }
 
 /// The answer without the vote, of which only the sign is settled.

@@ -124,13 +124,21 @@ impl Buffers {
     }
 
     /// Whether these buffers begin with what was to be written and are behind
-    /// it as they were before.
-    pub fn hold(&self, before: &Buffers, diary: &[Record], left: &[u8], plan: &[u8], rival: &[u8]) {
+    /// it as they were before; gives the lengths of plan and rival.
+    pub fn hold(
+        &self,
+        before: &Buffers,
+        diary: &[Record],
+        left: &[u8],
+        plan: &[u8],
+        rival: &[u8],
+    ) -> [usize; 2] {
         assert_eq!(&self.diary[..diary.len()], diary);
         assert_eq!(self.diary[diary.len()..], before.diary[diary.len()..]);
         only_front(&before.left, &self.left, left);
         only_front(&before.plan, &self.plan, plan);
         only_front(&before.rival, &self.rival, rival);
+        [plan.len(), rival.len()]
     }
 }
 

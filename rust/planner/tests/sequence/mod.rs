@@ -404,10 +404,10 @@ impl<D: Calls> Desks<D> {
         let (ours, answer) = self.ours.judge(&mut own, &mut pairing);
         let (theirs, expected) = self.theirs.judge(&mut other, &mut others);
         tally.refusals(5, &answer, &expected);
-        let vote = match (answer, expected) {
-            (Ok(Judged::Popular(vote)), Ok(Judged::Popular(_))) => vote,
-            (Ok(Judged::Beaten(vote)), Ok(Judged::Beaten(_))) => vote,
-            (Ok(Judged::Strong), Ok(Judged::Strong)) | (Err(_), _) => {
+        let (vote, length) = match (answer, expected) {
+            (Ok((Judged::Popular(vote), length)), Ok(Judged::Popular(_))) => (vote, length),
+            (Ok((Judged::Beaten(vote), length)), Ok(Judged::Beaten(_))) => (vote, length),
+            (Ok((Judged::Strong, 0)), Ok(Judged::Strong)) | (Err(_), _) => {
                 assert_eq!((&own[..], &pairing[..]), (before, facing));
                 return Desks {
                     ours,
@@ -419,6 +419,7 @@ impl<D: Calls> Desks<D> {
         };
         let (roster, plan) = theirs.roster_and_plan().expect("roster and plan");
         let rival = check_rival(roster, plan, before, &own, vote);
+        assert_eq!(length, plan::write(roster, &rival).len());
         let faced = pairings::bytes_large(roster, plan, &rival);
         only_front(facing, &pairing, &faced);
         Desks {

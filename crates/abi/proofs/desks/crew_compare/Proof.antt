@@ -1,5 +1,5 @@
 -- `abi::crew_compare` meets its contract: the numbers of the desk's answer. Assumes nothing.
-use Rattle.abi_comparison.specs.ComparisonNumbers.{comparedIn}
+use Rattle.abi_numbers.specs.ComparisonNumbers.{comparedIn}
 use Rattle.abi.specs.Desks.{served}
 use borrow.Author.Needs.{needs}
 use Rattle.abi.proofs.desks.crew_compare.Statement.{statement}

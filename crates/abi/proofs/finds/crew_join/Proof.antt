@@ -11,11 +11,11 @@ use base.Logic.{SProp, ent}
 use base.Fml.{Lft, Share, Fml, fsep, flft}
 use prog.Memory.{Memory}
 use prog.Routine.{Routine}
-use prog.Wp.{Heap, Calls, Loops, WpFn, Tables}
+use prog.Wp.{Heap, Calls, Loops, WpFn}
 use ghost.Atoms.{Atoms}
 use contract.Monad.{Fun}
-use contract.Running.{givenOf, tables, tablesOf}
-use sound.WpLaws.{FmC, fmOf}
+use contract.Running.{givenOf, tablesOf}
+use sound.WpLaws.{FmC}
 use types.Kit.{Given, Item, ‵, raw, _⊛_, ⋆, _$_, _∵_, !, qed, by, move, drop, use2, join, fsplit, fjoin, suffices, frame, done}
 use types.Run.{look, init, stop, from, load, and-then, no-more, enter, params1, pass1, pass0, free0}
 use denote.Laws.{Is}
@@ -26,9 +26,9 @@ use denote.Slice.{ShrSlice, Room, shr-slice-lawful}
 use denote.Steps.{nothing, heard}
 use denote.Struct.Laws as LL
 use denote.Triple.Entry.{onEntry}
-use denote.Triple.Spec.{Meets, tripleOf}
+use denote.Triple.Spec.{tripleOf}
 use denote.Triple.Statement.{Contract, Triple}
-use denote.Triple.Table.{entered, cited}
+use denote.Triple.Table.{cited}
 use denote.Triple.Walked.{says, walkOf, ends-at}
 use Rattle.model_desk.specs.Desk as model
 use Rattle.diary.specs.declared.Step.{Step}
@@ -38,7 +38,7 @@ use Rattle.desk.specs.declared.FindReply.{FindReply}
 use Rattle.desk_changes.specs.Changes.{Changes}
 use Rattle.desk.proofs.Desk as D
 use Rattle.desk.proofs.Desk.Laws as D′
-use Rattle.desk.proofs.WalkSteps.{lent, alloc-all, calls-back, lends, last-four, joins-lists, dies, Owed, four, meets-by}
+use Rattle.desk.proofs.WalkSteps.{lent, alloc-all, calls-back, lends, last-four, joins-lists, dies, Owed, four, enters-by}
 use Rattle.desk.proofs.FilledReply.{desk-before, number-before, list-before, desk-val, InDesk, Diary, Buffers, BufferTokens, Last}
 use Rattle.desk.proofs.Desk.join as join′
 use Rattle.desk.proofs.Desk.join.Symbol as join-def
@@ -98,7 +98,7 @@ module _ {M : Type 1} (𝓤 : URA M) (H : Heap 𝓤) (A : Atoms 𝓤) (W : Given
 
   -- what `join` says of its reply and of the last lists
   abbrev Said : (s : List Step) (l p r : List ℕ) → FindReply → Type 0
-  Said s l p r x = Changes (d .files) (model.join k (Z .now)) (S .now) (L .now) (P .now) (R .now) (x .answer) s l p r (x .desk .files)
+  Said s l p r x = Changes (d .files) (model.join k (Z .now)) (S .now) (L .now) (P .now) (R .now) (x .answer) (x .lengths) s l p r (x .desk .files)
 
   exits : (n : DeskFound) (u : Val) (s : List Step) (l p r : List ℕ) → Numbered (Said s l p r) n
       → length s ≡ length (S .now) → length l ≡ length (L .now) → length p ≡ length (P .now) → length r ≡ length (R .now)
@@ -150,22 +150,14 @@ module _ {M : Type 1} (𝓤 : URA M) (H : Heap 𝓤) (A : Atoms 𝓤) (W : Given
         dies ! 14 refl refl $ dies ! 12 refl refl $ dies ! 10 refl refl $ dies ! 8 refl refl $ dies ! 6 refl refl $ free0 ! $
         by ! (exits n u s l p r (record { reply = x; numbers = e′; promised = e }) hs hl hp hr))))))
 
-module _ {M : Type 1} (𝓤 : URA M) (H : Heap 𝓤) (A : Atoms 𝓤) (W : Given 𝓤 H A) (at-mem : Memory → SProp 𝓤) (run : Routine → Fun 𝓤) (𝓣 : Tables 𝓤 H)
-    (known-join : Triple 𝓤 (𝓣 .C #join) (Join 𝓤 H A at-mem run)) (known-numbers : Triple 𝓤 (𝓣 .C #numbers-of) (NumbersOf 𝓤 H A at-mem run)) where
-  crew-meets : Meets 𝓤 H A crew.signature (WpFn 𝓤 H (𝓣 .C) (𝓣 .Λ) code.function) (crew.spec 𝓤 H A at-mem run)
-  crew-meets =
-      meets-by 𝓤 H A W crew.ended params (crew.clauses 𝓤 H A at-mem run) 𝓣 code.function
-      (λ κs qs bounds a g are. walk 𝓤 H A W at-mem run (κs .0) (κs .1 .0) (κs .1 .1 .0) (κs .1 .1 .1 .0) (κs .1 .1 .1 .1 .0)
-      (qs .0) (qs .1 .0) (qs .1 .1 .0) (qs .1 .1 .1 .0) (qs .1 .1 .1 .1 .0)
-      (a .0) (a .1 .0) (a .1 .1 .0) (a .1 .1 .1 .0) (a .1 .1 .1 .1 .0) (a .1 .1 .1 .1 .1 .0) (a .1 .1 .1 .1 .1 .1 .0)
-      (are .0) (are .1 .0) (are .1 .1 .1 .0 .0 .1) (are .1 .1 .1 .1 .0 .0 .1) (are .1 .1 .1 .1 .1 .0 .0 .1) (are .1 .1 .1 .1 .1 .1 .0 .0 .1)
-      (𝓣 .C) (𝓣 .Λ) (fmOf 𝓤 H (W .laws) 𝓣) known-join known-numbers (are .1 .1 .0))
-
 pub crew-join-spec : {M : Type 1} → stated.statement M
 unfolding code.routine tablesOf
 crew-join-spec 𝓤 H 𝓜 𝓖 𝓡 =
-    entered 𝓤 H (tripleOf 𝓤 H (𝓖 .A) crew.signature (crew.spec 𝓤 H (𝓖 .A) (𝓜 .mem) (𝓡 .run)))
-    (tables 𝓤 H 𝓜 𝓡 code.env .C) (tables 𝓤 H 𝓜 𝓡 code.env .Λ) #crew-join code.function (code.unfolded 𝓤 H 𝓜 𝓡)
-    (crew-meets 𝓤 H (𝓖 .A) (givenOf 𝓤 H 𝓜 𝓖) (𝓜 .mem) (𝓡 .run) (tablesOf 𝓤 H 𝓜 (tables 𝓤 H 𝓜 𝓡 code.env))
+    enters-by 𝓤 H 𝓜 𝓖 𝓡 code.env crew.ended params (crew.clauses 𝓤 H (𝓖 .A) (𝓜 .mem) (𝓡 .run)) #crew-join code.function (code.unfolded 𝓤 H 𝓜 𝓡)
+    (λ fm κs qs bounds a g are. walk 𝓤 H (𝓖 .A) (givenOf 𝓤 H 𝓜 𝓖) (𝓜 .mem) (𝓡 .run) (κs .0) (κs .1 .0) (κs .1 .1 .0) (κs .1 .1 .1 .0) (κs .1 .1 .1 .1 .0)
+    (qs .0) (qs .1 .0) (qs .1 .1 .0) (qs .1 .1 .1 .0) (qs .1 .1 .1 .1 .0)
+    (a .0) (a .1 .0) (a .1 .1 .0) (a .1 .1 .1 .0) (a .1 .1 .1 .1 .0) (a .1 .1 .1 .1 .1 .0) (a .1 .1 .1 .1 .1 .1 .0)
+    (are .0) (are .1 .0) (are .1 .1 .1 .0 .0 .1) (are .1 .1 .1 .1 .0 .0 .1) (are .1 .1 .1 .1 .1 .0 .0 .1) (are .1 .1 .1 .1 .1 .1 .0 .0 .1)
+    _ _ fm
     (cited 𝓤 H (Join 𝓤 H (𝓖 .A) (𝓜 .mem) (𝓡 .run)) 𝓜 𝓡 code.env #join join-def.routine code.calls-desk·Desk·join (join-thm.met 𝓤 H 𝓜 𝓖 𝓡))
-    (numbers-met 𝓤 H 𝓜 𝓖 𝓡 code.env code.calls-abi·finds·numbers-of))
+    (numbers-met 𝓤 H 𝓜 𝓖 𝓡 code.env code.calls-abi·finds·numbers-of) (are .1 .1 .0))

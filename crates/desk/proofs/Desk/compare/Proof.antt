@@ -13,11 +13,11 @@ use base.Logic.{SProp, ent, sep, id⊢}
 use base.Fml.{Lft, Share, Fml, ftrue, fsep, fat, flft}
 use prog.Memory.{Memory}
 use prog.Routine.{Routine}
-use prog.Wp.{Heap, Calls, Loops, WpFn, Tables}
+use prog.Wp.{Heap, Calls, Loops, WpFn}
 use ghost.Atoms.{Atoms, sem}
 use contract.Monad.{Fun}
-use contract.Running.{givenOf, tables, tablesOf}
-use sound.WpLaws.{FmC, fmOf}
+use contract.Running.{givenOf, tablesOf}
+use sound.WpLaws.{FmC}
 use types.Kit.{Given, Item, ‵, raw, _⊛_, ⋆, _$_, _∵_, !, qed, by}
 use types.Kit.{move, drop, use1, use2, split, join, rewrite, fsplit, fjoin, suffices, frame, done}
 use types.Part.{agg, whole, sub, look-in}
@@ -32,9 +32,9 @@ use denote.Enum.Laws as EL
 use denote.Struct.Laws as LL
 use denote.Struct.Rest.{own-shut}
 use denote.Triple.Entry.{onEntry}
-use denote.Triple.Spec.{Meets, tripleOf}
+use denote.Triple.Spec.{tripleOf}
 use denote.Triple.Statement.{Contract, Triple}
-use denote.Triple.Table.{entered, cited}
+use denote.Triple.Table.{cited}
 use denote.Triple.Walked.{says, walkOf, ends-at}
 use Rattle.model_desk.specs.Desk.{compare}
 use Rattle.answers.specs.ComparisonCases.{partShown, comparisonShown}
@@ -53,7 +53,7 @@ use Rattle.desk.proofs.CompareReply as C
 use Rattle.desk.proofs.CompareReply.Laws as C′
 use Rattle.desk.proofs.Compared as T
 use Rattle.desk.proofs.Compared.Laws as T′
-use Rattle.desk.proofs.WalkSteps.{lent, alloc-all, calls-back, lends, last-two, dies, Owed, no-more-owed, lent-before, meets-by}
+use Rattle.desk.proofs.WalkSteps.{lent, alloc-all, calls-back, lends, last-two, dies, Owed, no-more-owed, lent-before, enters-by}
 use Rattle.desk.proofs.FilledReply.{desk-before, list-before, desk-val, InDesk}
 use Rattle.desk.proofs.Desk.compare_votes as votes
 use Rattle.desk.proofs.Desk.compare_votes.Symbol as votes-def
@@ -268,21 +268,13 @@ module _ {M : Type 1} (𝓤 : URA M) (H : Heap 𝓤) (A : Atoms 𝓤) (W : Given
         dies ! 17 refl refl $ dies ! 15 refl refl $ dies ! 13 refl refl $ dies ! 11 refl refl $ dies ! 9 refl refl $ dies ! 7 refl refl $
         dies ! 5 refl refl $ free0 ! $ by ! (exits c p f k (w ∷ []) is e e′ hf hk)))))))))
 
-module _ {M : Type 1} (𝓤 : URA M) (H : Heap 𝓤) (A : Atoms 𝓤) (W : Given 𝓤 H A) (at-mem : Memory → SProp 𝓤) (run : Routine → Fun 𝓤) (𝓣 : Tables 𝓤 H)
-    (known-votes : Triple 𝓤 (𝓣 .C #votes) (Votes 𝓤 H A at-mem run)) (known-part : Triple 𝓤 (𝓣 .C #part) (Parts 𝓤 H A at-mem run)) where
-  compare-meets : Meets 𝓤 H A compare′.signature (WpFn 𝓤 H (𝓣 .C) (𝓣 .Λ) code.function) (compare′.spec 𝓤 H A at-mem run)
-  compare-meets =
-      meets-by 𝓤 H A W compare′.ended params (compare′.clauses 𝓤 H A at-mem run) 𝓣 code.function
-      (λ κs qs bounds a g are. walk 𝓤 H A W at-mem run (κs .0) (κs .1 .0) (κs .1 .1 .0) (qs .0) (qs .1 .0) (qs .1 .1 .0)
-      (a .0) (a .1 .0) (a .1 .1 .0) (a .1 .1 .1 .0) (a .1 .1 .1 .1 .0)
-      (are .0) (are .1 .0) (are .1 .1 .0) (are .1 .1 .1 .0 .0 .1) (are .1 .1 .1 .1 .0 .0 .1)
-      (𝓣 .C) (𝓣 .Λ) (fmOf 𝓤 H (W .laws) 𝓣) known-votes known-part)
-
 pub compare-spec : {M : Type 1} → stated.statement M
 unfolding code.routine tablesOf
 compare-spec 𝓤 H 𝓜 𝓖 𝓡 =
-    entered 𝓤 H (tripleOf 𝓤 H (𝓖 .A) compare′.signature (compare′.spec 𝓤 H (𝓖 .A) (𝓜 .mem) (𝓡 .run)))
-    (tables 𝓤 H 𝓜 𝓡 code.env .C) (tables 𝓤 H 𝓜 𝓡 code.env .Λ) #compare code.function (code.unfolded 𝓤 H 𝓜 𝓡)
-    (compare-meets 𝓤 H (𝓖 .A) (givenOf 𝓤 H 𝓜 𝓖) (𝓜 .mem) (𝓡 .run) (tablesOf 𝓤 H 𝓜 (tables 𝓤 H 𝓜 𝓡 code.env))
+    enters-by 𝓤 H 𝓜 𝓖 𝓡 code.env compare′.ended params (compare′.clauses 𝓤 H (𝓖 .A) (𝓜 .mem) (𝓡 .run)) #compare code.function (code.unfolded 𝓤 H 𝓜 𝓡)
+    (λ fm κs qs bounds a g are. walk 𝓤 H (𝓖 .A) (givenOf 𝓤 H 𝓜 𝓖) (𝓜 .mem) (𝓡 .run) (κs .0) (κs .1 .0) (κs .1 .1 .0) (qs .0) (qs .1 .0) (qs .1 .1 .0)
+    (a .0) (a .1 .0) (a .1 .1 .0) (a .1 .1 .1 .0) (a .1 .1 .1 .1 .0)
+    (are .0) (are .1 .0) (are .1 .1 .0) (are .1 .1 .1 .0 .0 .1) (are .1 .1 .1 .1 .0 .0 .1)
+    _ _ fm
     (cited 𝓤 H (Votes 𝓤 H (𝓖 .A) (𝓜 .mem) (𝓡 .run)) 𝓜 𝓡 code.env #votes votes-def.routine code.calls-desk·Desk·compare-votes (votes-thm.met 𝓤 H 𝓜 𝓖 𝓡))
     (cited 𝓤 H (Parts 𝓤 H (𝓖 .A) (𝓜 .mem) (𝓡 .run)) 𝓜 𝓡 code.env #part part-def.routine code.calls-compare-winner·part-of (part-thm.met 𝓤 H 𝓜 𝓖 𝓡)))

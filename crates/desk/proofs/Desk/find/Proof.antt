@@ -24,11 +24,11 @@ use base.Logic.{SProp, ent}
 use base.Fml.{Lft, Share, ftrue, fsep, flft}
 use prog.Memory.{Memory}
 use prog.Routine.{Routine}
-use prog.Wp.{Heap, Calls, Loops, WpFn, Tables}
+use prog.Wp.{Heap, Calls, Loops, WpFn}
 use ghost.Atoms.{Atoms}
 use contract.Monad.{Fun}
-use contract.Running.{givenOf, tables, tablesOf}
-use sound.WpLaws.{FmC, fmOf}
+use contract.Running.{givenOf, tablesOf}
+use sound.WpLaws.{FmC}
 use types.Kit.{Given, Item, ‵, raw, _⊛_, ⋆, _$_, _∵_, !, qed, by, move, drop, use3, split, join, fsplit, fjoin, suffices, frame, done}
 use types.Part.{whole, sub, look-in}
 use types.Run.{look, init, stop, fld, from, load, of-opd, and-then, no-more, assigns, enter, params1, pass1, pass0, free0}
@@ -40,9 +40,9 @@ use denote.Slice.{Room}
 use denote.Steps.{owned, heard}
 use denote.Struct.Laws as LL
 use denote.Triple.Entry.{onEntry}
-use denote.Triple.Spec.{Meets, tripleOf}
+use denote.Triple.Spec.{tripleOf}
 use denote.Triple.Statement.{Contract, Triple}
-use denote.Triple.Table.{entered, cited}
+use denote.Triple.Table.{cited}
 use denote.Triple.Walked.{says, walkOf, ends-at}
 use Rattle.diary.specs.declared.Step.{Step}
 use Rattle.diary.proofs.Step as T
@@ -55,7 +55,7 @@ use Rattle.desk.proofs.Desk as D
 use Rattle.desk.proofs.Desk.Laws as D′
 use Rattle.desk.proofs.FindReply as F
 use Rattle.desk.proofs.FindReply.Laws as F′
-use Rattle.desk.proofs.WalkSteps.{lent, alloc-all, calls-back, lends, last-lists, joins-lists, dies, Owed, four, meets-by}
+use Rattle.desk.proofs.WalkSteps.{lent, alloc-all, calls-back, lends, last-lists, joins-lists, dies, Owed, four, enters-by}
 use Rattle.desk.proofs.FilledReply.{desk-before, desk-val, reply-val, is-reply}
 use Rattle.desk.proofs.FilledReply.{InDesk, Diary, Buffers, BufferTokens, Last, Fill, fill-met, lands-core, fills}
 use Rattle.desk.proofs.core as core
@@ -103,7 +103,7 @@ module _ {M : Type 1} (𝓤 : URA M) (H : Heap 𝓤) (A : Atoms 𝓤) (W : Given
   Token = ‵ (flft κ₀ q₀) ⊛ ‵ ftrue
 
   exits : (c : CoreReply) (s : List Step) (l p r : List ℕ) → Is F.the-row (c .reply) (reply-val c ∷ [])
-      → Finds (d .files) (S .now) (L .now) (P .now) (R .now) (c .reply .answer) s l p r (c .reply .desk .files)
+      → Finds (d .files) (S .now) (L .now) (P .now) (R .now) (c .reply .answer) (c .reply .lengths) s l p r (c .reply .desk .files)
       → length s ≡ length (S .now) → length l ≡ length (L .now) → length p ≡ length (P .now) → length r ≡ length (R .now)
       → ent 𝓤 (⋆ 𝓤 H A (Token ∷ Last S L P R s l p r (Tokens ∷ []))) (Post (reply-val c))
   exits c s l p r is e hs hl hp hr =
@@ -178,21 +178,13 @@ module _ {M : Type 1} (𝓤 : URA M) (H : Heap 𝓤) (A : Atoms 𝓤) (W : Given
         dies ! 14 refl refl $ dies ! 12 refl refl $ dies ! 10 refl refl $ dies ! 8 refl refl $ dies ! 6 refl refl $ free0 ! $
         by ! (exits c s l p r (is-reply c (w ∷ []) is) (found (d .files) (S .now) (L .now) (P .now) (R .now) (searchedIn c) s l p r e e′) hs hl hp hr)))))))
 
-module _ {M : Type 1} (𝓤 : URA M) (H : Heap 𝓤) (A : Atoms 𝓤) (W : Given 𝓤 H A) (at-mem : Memory → SProp 𝓤) (run : Routine → Fun 𝓤) (𝓣 : Tables 𝓤 H)
-    (known-core : Triple 𝓤 (𝓣 .C #core) (Core 𝓤 H A at-mem run)) (known-fill : Triple 𝓤 (𝓣 .C #diary·fill) (Fill 𝓤 H A at-mem run)) where
-  find-meets : Meets 𝓤 H A find′.signature (WpFn 𝓤 H (𝓣 .C) (𝓣 .Λ) code.function) (find′.spec 𝓤 H A at-mem run)
-  find-meets =
-      meets-by 𝓤 H A W find′.ended params (find′.clauses 𝓤 H A at-mem run) 𝓣 code.function
-      (λ κs qs bounds a g are. walk 𝓤 H A W at-mem run (κs .0) (κs .1 .0) (κs .1 .1 .0) (κs .1 .1 .1 .0) (qs .0) (qs .1 .0) (qs .1 .1 .0) (qs .1 .1 .1 .0)
-      (a .0) (a .1 .0) (a .1 .1 .0) (a .1 .1 .1 .0) (a .1 .1 .1 .1 .0)
-      (are .0) (are .1 .0 .0 .1) (are .1 .1 .0 .0 .1) (are .1 .1 .1 .0 .0 .1) (are .1 .1 .1 .1 .0 .0 .1) (𝓣 .C) (𝓣 .Λ) (fmOf 𝓤 H (W .laws) 𝓣)
-      known-core known-fill)
-
 pub find-spec : {M : Type 1} → stated.statement M
 unfolding code.routine tablesOf
 find-spec 𝓤 H 𝓜 𝓖 𝓡 =
-    entered 𝓤 H (tripleOf 𝓤 H (𝓖 .A) find′.signature (find′.spec 𝓤 H (𝓖 .A) (𝓜 .mem) (𝓡 .run)))
-    (tables 𝓤 H 𝓜 𝓡 code.env .C) (tables 𝓤 H 𝓜 𝓡 code.env .Λ) #find code.function (code.unfolded 𝓤 H 𝓜 𝓡)
-    (find-meets 𝓤 H (𝓖 .A) (givenOf 𝓤 H 𝓜 𝓖) (𝓜 .mem) (𝓡 .run) (tablesOf 𝓤 H 𝓜 (tables 𝓤 H 𝓜 𝓡 code.env))
+    enters-by 𝓤 H 𝓜 𝓖 𝓡 code.env find′.ended params (find′.clauses 𝓤 H (𝓖 .A) (𝓜 .mem) (𝓡 .run)) #find code.function (code.unfolded 𝓤 H 𝓜 𝓡)
+    (λ fm κs qs bounds a g are. walk 𝓤 H (𝓖 .A) (givenOf 𝓤 H 𝓜 𝓖) (𝓜 .mem) (𝓡 .run) (κs .0) (κs .1 .0) (κs .1 .1 .0) (κs .1 .1 .1 .0) (qs .0) (qs .1 .0) (qs .1 .1 .0) (qs .1 .1 .1 .0)
+    (a .0) (a .1 .0) (a .1 .1 .0) (a .1 .1 .1 .0) (a .1 .1 .1 .1 .0)
+    (are .0) (are .1 .0 .0 .1) (are .1 .1 .0 .0 .1) (are .1 .1 .1 .0 .0 .1) (are .1 .1 .1 .1 .0 .0 .1)
+    _ _ fm
     (cited 𝓤 H (Core 𝓤 H (𝓖 .A) (𝓜 .mem) (𝓡 .run)) 𝓜 𝓡 code.env #core core-def.routine code.calls-desk·core (core-thm.met 𝓤 H 𝓜 𝓖 𝓡))
     (fill-met 𝓤 H 𝓜 𝓖 𝓡 code.env code.calls-diary-records·fill))

@@ -1,2 +1,0 @@
-pub mod Wanted
-pub mod TopSearch

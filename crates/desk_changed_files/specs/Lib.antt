@@ -1,2 +1,0 @@
-pub mod Changing
-pub mod ChangeSteps

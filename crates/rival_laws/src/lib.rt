@@ -1,1 +1,0 @@
-// That the search by places in a plan's list is the search of crate theory_verdict: no code.

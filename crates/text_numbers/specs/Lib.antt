@@ -1,3 +1,0 @@
-pub mod Appended
-pub mod Digits
-pub mod Votes
