@@ -33,3 +33,13 @@ RivalSaid G M (said strong) b a = a ≡ b
 RivalSaid G M (said (popular w)) b a = Named G M w b a × (w ≡ pos 0)
 RivalSaid G M (said (beaten w)) b a = Named G M w b a × (w <ℤ pos 0)
 RivalSaid G M (refused n g) b a = a ≡ b
+
+-- ---- what a caller takes from it: the rival of a beaten plan wins, that of a popular one draws, and the vote is the plan's against the rival
+pub beaten-below : (G : Instance) (M : Plan) (w : ℤ) (b a : Lent) → RivalSaid G M (said (beaten w)) b a → w <ℤ pos 0
+beaten-below G M w b a h = h .1
+
+pub popular-zero : (G : Instance) (M : Plan) (w : ℤ) (b a : Lent) → RivalSaid G M (said (popular w)) b a → w ≡ pos 0
+popular-zero G M w b a h = h .1
+
+pub plans-vote : (G : Instance) (M : Plan) (w : ℤ) (b a : Lent) → Named G M w b a → (N : Plan) × (w ≡ voteOf G M N)
+plans-vote G M w b a n = (n .rival, n .vote)
