@@ -1,13 +1,13 @@
 -- The edges of a plan listed: the pass over its flags.
-use Prim.Native.Nat.{ℕ, _+_, _≤_, _<_}
+use Prim.Native.Nat.{ℕ, _+_, _≤_, _<_, zero-le}
 use native.Mathlib.Omega.{arith}
 use native.Mathlib.Numerals.{add-one}
-use mathlib.Core.Path.{_≡_, sym, ap, _∙_}
+use mathlib.Core.Path.{_≡_, sym, ap, _∙_, subst}
 use mathlib.Core.Bool.{Bool, true, cond}
-use mathlib.Core.List.{List, [], _∷_, _++_, map}
+use mathlib.Core.List.{List, [], _∷_, _++_, map, Memᴰ·map}
 use lib.ListN.{length, take, length-append}
-use Rattle.lists.specs.Sum.{range}
-use Rattle.lists.specs.Keep.{keep}
+use Rattle.lists.specs.Sum.{_∈_, range, range-∈, ∈-range}
+use Rattle.lists.specs.Keep.{keep, ∈-keep}
 use Rattle.lists.specs.Ranges.{keep-last}
 use Rattle.model.specs.Limits.{planLimit}
 use Rattle.model.specs.PlanFile.{edgesIn}
@@ -23,6 +23,14 @@ pub record Listed (m : ℕ) (p : List Bool) (n : ℕ) (es : List ℕ) : Type 0 w
 -- the same number by number
 pub lists-are : (m : ℕ) (p : List Bool) (n : ℕ) (es : List ℕ) → Listed m p n es → edgesIn m (flag p) ≡ map (at es) (range 0 n)
 lists-are m p n es l = sym (l .are) ∙ front-is es n (l .there)
+
+-- each of them is an edge
+pub listed-below : (m : ℕ) (p : List Bool) (n : ℕ) (es : List ℕ) → Listed m p n es → (i : ℕ) → i < n → at es i < m
+listed-below m p n es l i h =
+    let k : at es i ∈ edgesIn m (flag p) = subst (λ xs. at es i ∈ xs) (sym (lists-are m p n es l)) (Memᴰ·map (at es) (range-∈ n 0 i zero-le (omega arith))) in
+    let (r, t) = ∈-keep (flag p) (range 0 m) k in
+    let (u, w) = ∈-range m 0 r in
+    omega arith
 
 module _ (p : List Bool) (front : List ℕ) (n e m : ℕ) (K : Kept (flag p) front n e) where
   -- one more is chosen below m, so there is room for it

@@ -173,3 +173,48 @@ pub fn gains(
     }
     o
 }
+
+// The least rates for one edge of the plan: of all edges that may be gained at its node, 6 if there is none, and of those whose other node is not the
+// plan's edge's own, 3 if there is none.
+pub struct LeastRates {
+    pub all: u8,
+    pub apart: u8,
+}
+
+// Both by one walk along the edges of node e; b is the rank there of the plan's edge, d its other node.
+pub fn least_rates(
+    m: usize,
+    end: &[u8; ENTRY_LIMIT],
+    other: &[u8; ENTRY_LIMIT],
+    rank: &[u8; ENTRY_LIMIT],
+    plan: &[bool; ENTRY_LIMIT],
+    room: &[bool; 32],
+    head: &[u16; 32],
+    next: &[u16; ENTRY_LIMIT],
+    e: u8,
+    b: u8,
+    d: u8,
+) -> LeastRates
+    requires { ⌜ (m ≤ entryLimit) × Low m (now other) nodeLimit × Linked m (now end) (now head) (now next) × (e < 32) ⌝ }
+    ensures { λ r. ⌜ (r .all ≡ gainPrice m (now (end .entry)) (now (other .entry)) (now (rank .entry)) (now (plan .entry)) (now (room .entry)) 6 e b)
+        × (r .apart ≡ gainPriceBut m (now (end .entry)) (now (other .entry)) (now (rank .entry)) (now (plan .entry)) (now (room .entry)) 3 e b d) ⌝ }
+{
+    let mut all = 6;
+    let mut apart = 3;
+    let u = e as usize;
+    let mut f = head[u] as usize;
+    while f < m {
+        let o = other[f];
+        let v = o as usize;
+        if !plan[f] & room[v] {
+            let p = vote_ranks::rated(b, rank[f]);
+            all = rival_tables::lesser(p, all);
+            apart = rival_tables::offered(!(o == d), p, apart);
+        }
+        f = next[f] as usize;
+    }
+    LeastRates {
+        all: all,
+        apart: apart,
+    }
+}

@@ -3,14 +3,15 @@
 use Prim.Native.Nat.{ℕ, _+_, _*_, _≤_, _<_, min, zero-le}
 use native.Mathlib.Omega.{arith}
 use native.Mathlib.Decide.{decLt}
-use mathlib.Core.Path.{_≡_, sym, ap, ap₂, _∙_, subst}
+use mathlib.Core.Path.{_≡_, refl, sym, ap, ap₂, _∙_, subst}
 use mathlib.Core.Bool.{Bool, false, not, _&&_}
 use mathlib.Core.List.{List, map, Memᴰ·map}
 use lib.Dec.{ltb, leb, eqb}
+use borrow.Author.Tests.{le-ltb}
 use mathlib.Core.Logic.{⊎-elim, by-cases}
 use Rattle.lists.specs.Test.{bit, bit-one}
 use Rattle.lists.specs.Sum.{_∈_, range, range-∈, ∈-range, count, sum-cong, upTo, upTo-<}
-use Rattle.lists.specs.Search.{low}
+use Rattle.lists.specs.Search.{low, low-none}
 use Rattle.lists.specs.Keep.{∈-keep}
 use Rattle.model.specs.Instance.{Instance, surveyors, stands}
 use Rattle.model.specs.PlanFile.{edgesIn}
@@ -90,6 +91,23 @@ ends-ranked m sv st rs rt plan roomS roomT n es ps pt rps₀ rpt₀ ends a b g r
     (shows-at 0 rps₀ (λ i. at rs (at es i)) n i a h ∙ sym (rankS i h))
     (shows-at 0 rpt₀ (λ i. at rt (at es i)) n j b k ∙ sym (rankT j k))
 
+-- the price of an edge e of the plan that is exchanged alone: the ends of a walk that starts and ends there
+abbrev pub alonePrice : (m : ℕ) (sv st rs rt : List ℕ) (plan roomS roomT : List Bool) → ℕ → ℕ
+alonePrice m sv st rs rt plan roomS roomT e =
+    min
+    (min (gainPriceBut m sv st rs plan roomT 3 (at sv e) (at rs e) (at st e)) (gainPriceBut m st sv rt plan roomS 3 (at st e) (at rt e) (at sv e)) + 3)
+    (gainPrice m sv st rs plan roomT 6 (at sv e) (at rs e) + gainPrice m st sv rt plan roomS 6 (at st e) (at rt e))
+
+-- the first edge of the plan's list that is better exchanged alone, n if there is none
+abbrev pub aloneAt : (m : ℕ) (sv st rs rt : List ℕ) (plan roomS roomT : List Bool) (es : List ℕ) → ℕ → ℕ
+aloneAt m sv st rs rt plan roomS roomT es n = low (λ i. ltb (alonePrice m sv st rs rt plan roomS roomT (at es i)) 4) n
+
+-- its price stands on the diagonal of every table of the ends
+pub alone-cell : (m : ℕ) (sv st rs rt : List ℕ) (plan roomS roomT : List Bool) (es ps pt rps rpt : List ℕ) (i : ℕ) → at ps i ≡ at sv (at es i)
+    → at pt i ≡ at st (at es i) → at rps i ≡ at rs (at es i) → at rpt i ≡ at rt (at es i)
+    → terminalCell m sv st rs rt plan roomS roomT ps pt rps rpt i i ≡ alonePrice m sv st rs rt plan roomS roomT (at es i)
+alone-cell m sv st rs rt plan roomS roomT es ps pt rps rpt i a b c d = simp (a, b, c, d) refl
+
 -- where no node has room, all of the ends cost 6
 pub full-cell : (m : ℕ) (sv st rs rt : List ℕ) (plan roomS roomT : List Bool) (ps pt rps rpt : List ℕ) → Low m sv 32 → Low m st 32
     → 32 ≤ low (flag roomS) 32 → 32 ≤ low (flag roomT) 32 → (i j : ℕ) → terminalCell m sv st rs rt plan roomS roomT ps pt rps rpt i j ≡ 6
@@ -100,6 +118,20 @@ full-cell m sv st rs rt plan roomS roomT ps pt rps rpt lowS lowT fullS fullT i j
   gain-none m sv st rs plan roomT lowT fullT 6 (at ps i) (at rps i),
   gain-none m st sv rt plan roomS lowS fullS 6 (at pt j) (at rpt j),
 )
+
+-- and no edge is better exchanged alone
+pub alone-full : (m : ℕ) (sv st rs rt : List ℕ) (plan roomS roomT : List Bool) (es : List ℕ) (n : ℕ) → Low m sv 32 → Low m st 32
+    → 32 ≤ low (flag roomS) 32 → 32 ≤ low (flag roomT) 32 → aloneAt m sv st rs rt plan roomS roomT es n ≡ n
+alone-full m sv st rs rt plan roomS roomT es n lowS lowT fullS fullT =
+    low-none (λ i. ltb (alonePrice m sv st rs rt plan roomS roomT (at es i)) 4) n (λ i h.
+    let e = at es i in
+    le-ltb (alonePrice m sv st rs rt plan roomS roomT e) 4 (omega (
+      arith,
+      but-none m sv st rs plan roomT lowT fullT 3 (at sv e) (at rs e) (at st e),
+      but-none m st sv rt plan roomS lowS fullS 3 (at st e) (at rt e) (at sv e),
+      gain-none m sv st rs plan roomT lowT fullT 6 (at sv e) (at rs e),
+      gain-none m st sv rt plan roomS lowS fullS 6 (at st e) (at rt e),
+    )))
 
 count-same : (p q : ℕ → Bool) (n : ℕ) → ((e : ℕ) → e < n → p e ≡ q e) → count p n ≡ count q n
 unfolding count

@@ -10,7 +10,7 @@ ghost use Rattle.arrays.specs.Linked.{Linked};
 ghost use Rattle.rival_levels.specs.Layers.{Small, Cheap};
 ghost use Rattle.rival_levels.specs.Levels.{SmallEnds};
 ghost use Rattle.rival_certificate.specs.Certified.{Closed};
-ghost use Rattle.rival_search.specs.SearchView.{EndsFor};
+ghost use Rattle.rival_search.specs.SearchView.{EndsFor, alonePrice, aloneAt};
 ghost use Rattle.rival_search.specs.TwoThresholds.{placesAt, OnTables};
 ghost use Rattle.rival_levels.specs.declared.Found.the-variants as found;
 use limits::ENTRY_LIMIT;
@@ -55,6 +55,90 @@ pub fn terminal_table(
     let gs = rival_gains::gains(m, sv, st, rs, plan, ft, hs, ls, n, ps, &rps);
     let gt = rival_gains::gains(m, st, sv, rt, plan, fs, ht, lt, n, pt, &rpt);
     rival_tables::terminals(n, &starts, &stops, &gs, &gt)
+}
+
+// The price of edge e of the plan if it is exchanged alone.
+fn alone_price(
+    m: usize,
+    sv: &[u8; ENTRY_LIMIT],
+    st: &[u8; ENTRY_LIMIT],
+    rs: &[u8; ENTRY_LIMIT],
+    rt: &[u8; ENTRY_LIMIT],
+    plan: &[bool; ENTRY_LIMIT],
+    hs: &[u16; 32],
+    ls: &[u16; ENTRY_LIMIT],
+    ht: &[u16; 32],
+    lt: &[u16; ENTRY_LIMIT],
+    fs: &[bool; 32],
+    ft: &[bool; 32],
+    e: usize,
+) -> u8
+    requires { ⌜ (m ≤ entryLimit) × (e < m) × Low m (now sv) nodeLimit × Low m (now st) nodeLimit
+        × Linked m (now sv) (now hs) (now ls) × Linked m (now st) (now ht) (now lt) ⌝ }
+    ensures { λ r. ⌜ r ≡ alonePrice m (now (sv .entry)) (now (st .entry)) (now (rs .entry)) (now (rt .entry)) (now (plan .entry)) (now (fs .entry))
+        (now (ft .entry)) e ⌝ }
+{
+    let s = sv[e];
+    let t = st[e];
+    let a = rival_gains::least_rates(m, sv, st, rs, plan, ft, hs, ls, s, rs[e], t);
+    let b = rival_gains::least_rates(m, st, sv, rt, plan, fs, ht, lt, t, rt[e], s);
+    let apart = rival_tables::lesser(a.apart, b.apart);
+    rival_tables::lesser(apart + 3, a.all + b.all)
+}
+
+// The first edge of the plan that is better exchanged alone, n if there is none: its place on the diagonal of the table of the ends is below 4. Most plans
+// with room are beaten by one, and it is found without the table.
+pub fn alone(
+    m: usize,
+    sv: &[u8; ENTRY_LIMIT],
+    st: &[u8; ENTRY_LIMIT],
+    rs: &[u8; ENTRY_LIMIT],
+    rt: &[u8; ENTRY_LIMIT],
+    plan: &[bool; ENTRY_LIMIT],
+    hs: &[u16; 32],
+    ls: &[u16; ENTRY_LIMIT],
+    ht: &[u16; 32],
+    lt: &[u16; ENTRY_LIMIT],
+    n: usize,
+    es: &[u16; 64],
+    fs: &[bool; 32],
+    ft: &[bool; 32],
+) -> usize
+    requires { ⌜ (m ≤ entryLimit) × (n ≤ planLimit) × Low m (now sv) nodeLimit × Low m (now st) nodeLimit
+        × Linked m (now sv) (now hs) (now ls) × Linked m (now st) (now ht) (now lt) × Low n (now es) m ⌝ }
+    ensures { λ r. ⌜ r ≡ aloneAt m (now (sv .entry)) (now (st .entry)) (now (rs .entry)) (now (rt .entry)) (now (plan .entry)) (now (fs .entry))
+        (now (ft .entry)) (now (es .entry)) n ⌝ }
+{
+    let roomy_s = rival_tables::first_room(fs);
+    let roomy_t = rival_tables::first_room(ft);
+    if roomy_s >= 32 {
+        if roomy_t >= 32 {
+            return n;
+        }
+    }
+    let mut i = 0;
+    while i < n {
+        let price = alone_price(
+            m,
+            sv,
+            st,
+            rs,
+            rt,
+            plan,
+            hs,
+            ls,
+            ht,
+            lt,
+            fs,
+            ft,
+            es[i] as usize,
+        );
+        if price < 4 {
+            return i;
+        }
+        i += 1;
+    }
+    n
 }
 
 // Two levels of the search below 0: what they find, or nothing, which decides nothing.

@@ -9,7 +9,7 @@ use mathlib.Core.List.{List, [], _∷_}
 use lib.ListN.{length, length-map}
 use lib.Dec.{ltb}
 use Rattle.lists.specs.Sum.{_∈_, range, range-length}
-use Rattle.lists.specs.Search.{low}
+use Rattle.lists.specs.Search.{low, low-cong}
 use Rattle.model.specs.Limits.{planLimit}
 use Rattle.model.specs.Instance.{Instance}
 use Rattle.model.specs.Plans.{Plan, on, plansOf, Verdict, beaten, verdictOf}
@@ -26,7 +26,7 @@ use Rattle.rival_levels.specs.declared.Found.the-variants as found
 use Rattle.rival_levels.specs.declared.Found.{Found}
 use Rattle.rival_levels.specs.Levels.{diagAt}
 use Rattle.rival_levels.specs.Walks.{hitOf, searchAt}
-use Rattle.rival_search.specs.SearchView.{Lists, Views, Roomy, freeAt, arcCell, terminalCell, EndsFor, search-shown, arc-shown, terminal-shown, room-S, room-T}
+use Rattle.rival_search.specs.SearchView.{Lists, Views, Roomy, freeAt, arcCell, terminalCell, alonePrice, aloneAt, alone-cell, search-shown, arc-shown, terminal-shown, room-S, room-T}
 use Rattle.rival_search.specs.TwoThresholds.{searched, Searched, OnTables, tables-searched, out-alone, search-direct, search-places, searched-hit, searching-bounded}
 use Rattle.rival_verdict.specs.Judged.{isSomething, verdictFor, verdict-hits}
 use Rattle.rival_exchange.specs.Swaps.{Marks, goneBy, comeBy, rivalAt, rival-at, shows-plan}
@@ -189,24 +189,37 @@ module _ (m : ℕ) (sv st rs rt quotaS quotaT : List ℕ) (plan : List Bool) (n 
       terminals : List ℕ
       terminals = tableOf (terminalCell m sv st rs rt plan roomS roomT ps pt (ranked rs es) (ranked rt es)) (n * 64)
 
--- ---- so does an edge of the plan that is better exchanged alone, where none has room at both ends; the table of the arcs need not be there
+-- ---- so does an edge of the plan that is better exchanged alone, where none has room at both ends; again the tables need not be there
 module _ (m : ℕ) (sv st rs rt quotaS quotaT : List ℕ) (plan : List Bool) (n : ℕ) (es ps pt : List ℕ) (roomS roomT : List Bool)
     (fits : n ≤ 64) (lowS : Low m sv 32) (lowT : Low m st 32) (lists : Lists m plan n es) (nodes : NodesAt n es sv st ps pt)
-    (roomyS : Roomy n ps quotaS roomS) (roomyT : Roomy n pt quotaT roomT) (shut : m ≤ low (freeAt sv st plan roomS roomT) m)
-    (ends : List ℕ) (endsShow : EndsFor m sv st rs rt plan roomS roomT n es ps pt ends) where
+    (roomyS : Roomy n ps quotaS roomS) (roomyT : Roomy n pt quotaT roomT) (shut : m ≤ low (freeAt sv st plan roomS roomT) m) where
   abbrev arcs₀ : List ℕ
   arcs₀ = tableOf (arcCell m sv st rs rt plan ps pt (ranked rs es) (ranked rt es)) (n * 64)
 
-  pub alone-shown : (i : ℕ) (gone come rival : List Bool) → i ≡ diagAt (cell ends) n 4 → i < n
+  abbrev ends₀ : List ℕ
+  ends₀ = tableOf (terminalCell m sv st rs rt plan roomS roomT ps pt (ranked rs es) (ranked rt es)) (n * 64)
+
+  shows₀ : Grid ends₀ n (terminalCell m sv st rs rt plan roomS roomT ps pt (ranked rs es) (ranked rt es))
+  shows₀ i j il jl = table-rows (terminalCell m sv st rs rt plan roomS roomT ps pt (ranked rs es) (ranked rt es)) n i j il (omega arith)
+
+  -- the first such edge is the first place on the diagonal
+  on-diagonal : aloneAt m sv st rs rt plan roomS roomT es n ≡ diagAt (cell ends₀) n 4
+  on-diagonal = low-cong (λ i. ltb (alonePrice m sv st rs rt plan roomS roomT (at es i)) 4) (λ i. ltb (cell ends₀ i i) 4) n (λ i h. ap (λ z. ltb z 4)
+      (sym (shows₀ i i h h
+      ∙ alone-cell m sv st rs rt plan roomS roomT es ps pt (ranked rs es) (ranked rt es) i (nodes .0 i h) (nodes .1 i h) (ranked-at rs es n fits i h)
+      (ranked-at rt es n fits i h))))
+
+  pub alone-shown : (i : ℕ) (gone come rival : List Bool) → i ≡ aloneAt m sv st rs rt plan roomS roomT es n → i < n
       → Marks gone (goneBy m sv st rs rt plan roomS roomT es arcs₀ n (found.Alone i))
       → Marks come (comeBy m sv st rs rt plan roomS roomT es arcs₀ n (found.Alone i))
       → Shows false rival m (λ e. (flag plan e && not (flag gone e)) || flag come e) → RivalShown m sv st rs rt quotaS quotaT plan beaten rival
-  alone-shown i gone come rival e h = found-shown m sv st rs rt quotaS quotaT plan n es ps pt (ranked rs es) (ranked rt es) roomS roomT arcs₀ true (found.Alone i) fits lowS lowT
-      lists (viewed n es sv st rs rt ps pt fits nodes) roomyS roomyT (table-rows (arcCell m sv st rs rt plan ps pt (ranked rs es) (ranked rt es)) n) (
-        ends,
-        endsShow (ranked rs es) (ranked rt es) (ranked-at rs es n fits) (ranked-at rt es n fits),
-        ap (λ (a : Found). searched a (searchAt m free arcs₀ ends n 1))
-            (out-alone arcs₀ ends n 0 i e h ∙ sym (search-places m free arcs₀ ends n (low free m) refl 0 shut)),
+  alone-shown i gone come rival e h = found-shown m sv st rs rt quotaS quotaT plan n es ps pt (ranked rs es) (ranked rt es) roomS roomT arcs₀ true
+      (found.Alone i) fits lowS lowT lists (viewed n es sv st rs rt ps pt fits nodes) roomyS roomyT
+      (table-rows (arcCell m sv st rs rt plan ps pt (ranked rs es) (ranked rt es)) n) (
+        ends₀,
+        shows₀,
+        ap (λ (a : Found). searched a (searchAt m free arcs₀ ends₀ n 1))
+            (out-alone arcs₀ ends₀ n 0 i (e ∙ on-diagonal) h ∙ sym (search-places m free arcs₀ ends₀ n (low free m) refl 0 shut)),
       ) beaten gone come rival refl
     where
       free : ℕ → Bool

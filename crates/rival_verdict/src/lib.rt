@@ -109,8 +109,7 @@ fn judged_by_arcs(
     }
 }
 
-// Where no edge has room at both ends. The table of the ends tells whether an edge of the plan is better exchanged alone, which most plans with room
-// are beaten by; the table of the arcs is not needed then.
+// Where no edge has room at both ends. Most plans with room are beaten by an edge of theirs that is better exchanged alone; no table is needed then.
 fn judged_by_tables(
     m: usize,
     sv: &[u8; ENTRY_LIMIT],
@@ -138,6 +137,19 @@ fn judged_by_tables(
         (now (pt .entry))
         (now (fs .entry)) (now (ft .entry)) (verdictFor (r .beaten) (r .rivalled)) (r .rival) ⌝ }
 {
+    let i = rival_search::alone(m, sv, st, rs, rt, plan, hs, ls, ht, lt, n, es, fs, ft);
+    if i < n {
+        let x = es[i] as usize;
+        let s = rival_exchange::ended(m, sv, st, rs, rt, plan, fs, ft, hs, ls, ht, lt, x, x);
+        let gone = s.gone;
+        let come = s.come;
+        let rival = exchanged(m, plan, &gone, &come);
+        return Judged {
+            beaten: true,
+            rivalled: true,
+            rival: rival,
+        };
+    }
     let ends = rival_search::terminal_table(
         m,
         sv,
@@ -156,19 +168,6 @@ fn judged_by_tables(
         fs,
         ft,
     );
-    let i = rival_levels::diagonal(n, &ends, 4);
-    if i < n {
-        let x = es[i] as usize;
-        let s = rival_exchange::ended(m, sv, st, rs, rt, plan, fs, ft, hs, ls, ht, lt, x, x);
-        let gone = s.gone;
-        let come = s.come;
-        let rival = exchanged(m, plan, &gone, &come);
-        return Judged {
-            beaten: true,
-            rivalled: true,
-            rival: rival,
-        };
-    }
     let rps = rival_tables::gathered(n, es, rs);
     let rpt = rival_tables::gathered(n, es, rt);
     let arcs = rival_arcs::arcs(m, sv, st, rs, rt, plan, ht, lt, n, ps, pt, &rps, &rpt);

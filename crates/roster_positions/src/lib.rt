@@ -41,13 +41,9 @@ pub fn part(file: &[u8], at: usize, n: usize) -> &[u8]
 pub(crate) fn shift_place(shift: u8) -> usize
     ensures { λ r. ⌜ r ≡ min (shift - 1) 2 ⌝ }
 {
-    if shift == 0 {
-        return 0;
-    }
-    if 3 < shift {
-        return 2;
-    }
-    (shift - 1) as usize
+    let first = if shift == 0 { 1 } else { shift };
+    let last = if 3 < first { 3 } else { first };
+    (last - 1) as usize
 }
 
 // the positions from 1 of a list's entries, each written at its number and shift in a row of the table; from the last entry to the first
