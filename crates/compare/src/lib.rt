@@ -44,7 +44,6 @@ pub fn both_votes(
     let qt = g.quota_t;
     let both = vote_plans::plan_votes(g.m, g.ns, g.nt, &sv, &st, &rs, &rt, p, pn, pe, q, qn, qe);
     vote_pairings::both_pairings(
-        g.m,
         g.ns,
         g.nt,
         &sv,

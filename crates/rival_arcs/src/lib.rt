@@ -2,7 +2,8 @@
 // stand of the first and at the surveyor of the second; 133 where there is none. A row is made by the links through the edges of its stand and, for
 // each of them, through the places of its surveyor.
 ghost use mathlib.Core.Path.{_≡_};
-ghost use Prim.Native.Nat.{_+_, _≤_, _<_};
+ghost use mathlib.Core.List.{List};
+ghost use Prim.Native.Nat.{ℕ, _+_, _≤_, _<_};
 ghost use lib.ListN.{length};
 ghost use lib.Dec.{eqb};
 ghost use Rattle.model.specs.Limits.{entryLimit, nodeLimit, planLimit};
@@ -16,11 +17,10 @@ ghost use Rattle.rival_tables.specs.Cheapest.{offer};
 ghost use Rattle.rival_arcs.specs.Arcs.{arcPrice};
 use limits::ENTRY_LIMIT;
 
-// One more edge is offered to a row: it lies at surveyor s with rank r there, and its price at the stand is a. `ps` is there for the promise alone, as
-// the links stand for it; so are `ps` and `st` below.
+// One more edge is offered to a row: it lies at surveyor s with rank r there, and its price at the stand is a. The promise holds for any surveyors ps of
+// the places that are linked so, and those below for any stands st of the edges.
 pub fn joined(
     row: &mut [u8; 64],
-    ps: &[u8; 64],
     rps: &[u8; 64],
     first: &[u16; 32],
     after: &[u16; 64],
@@ -28,9 +28,9 @@ pub fn joined(
     r: u8,
     a: u8,
 )
-    requires { ⌜ (length (now row) ≡ 64) × Linked 64 (now ps) (now first) (now after) × (s < 32) × (a ≤ 2) ⌝ }
-    ensures { λ _. ⌜ (length (now (row .exit)) ≡ 64)
-        × Made 0 (now (row .exit)) (λ j. offer (eqb s (at (now (ps .entry)) j)) (a + rate (at (now (rps .entry)) j) r) (at (now (row .entry)) j)) 64 ⌝ }
+    requires { ⌜ (length (now row) ≡ 64) × ((ps : List ℕ) × Linked 64 ps (now first) (now after)) × (s < 32) × (a ≤ 2) ⌝ }
+    ensures { λ _. ⌜ (length (now (row .exit)) ≡ 64) × ((ps : List ℕ) → Linked 64 ps (now (first .entry)) (now (after .entry))
+        → Made 0 (now (row .exit)) (λ j. offer (eqb s (at ps j)) (a + rate (at (now (rps .entry)) j) r) (at (now (row .entry)) j)) 64) ⌝ }
 {
     let v = s as usize;
     let mut j = first[v] as usize;
@@ -45,25 +45,22 @@ pub fn joined(
 pub fn arc_row(
     m: usize,
     sv: &[u8; ENTRY_LIMIT],
-    st: &[u8; ENTRY_LIMIT],
     rs: &[u8; ENTRY_LIMIT],
     rt: &[u8; ENTRY_LIMIT],
     plan: &[bool; ENTRY_LIMIT],
     head: &[u16; 32],
     next: &[u16; ENTRY_LIMIT],
-    ps: &[u8; 64],
     rps: &[u8; 64],
     first: &[u16; 32],
     after: &[u16; 64],
     t: u8,
     b: u8,
 ) -> [u8; 64]
-    requires { ⌜ (m ≤ entryLimit) × Low m (now sv) nodeLimit × Linked m (now st) (now head) (now next) × Linked 64 (now ps) (now first) (now after)
-        × (t < 32) ⌝ }
-    ensures { λ o. ⌜ Made 0 o
-        (λ j. arcPrice m (now (sv .entry)) (now (st .entry)) (now (rs .entry)) (now (rt .entry)) (now (plan .entry)) t b (at (now (ps .entry)) j)
-        (at (now (rps .entry)) j))
-        64 ⌝ }
+    requires { ⌜ (m ≤ entryLimit) × Low m (now sv) nodeLimit × ((st : List ℕ) × Linked m st (now head) (now next))
+        × ((ps : List ℕ) × Linked 64 ps (now first) (now after)) × (t < 32) ⌝ }
+    ensures { λ o. ⌜ ((st ps : List ℕ) → Linked m st (now (head .entry)) (now (next .entry)) → Linked 64 ps (now (first .entry)) (now (after .entry))
+        → Made 0 o (λ j. arcPrice m (now (sv .entry)) st (now (rs .entry)) (now (rt .entry)) (now (plan .entry)) t b (at ps j) (at (now (rps .entry)) j))
+        64) ⌝ }
 {
     let mut o = [133u8; 64];
     let v = t as usize;
@@ -71,7 +68,7 @@ pub fn arc_row(
     while f < m {
         if !plan[f] {
             let a = vote_ranks::rated(b, rt[f]);
-            joined(&mut o, ps, rps, first, after, sv[f], rs[f], a);
+            joined(&mut o, rps, first, after, sv[f], rs[f], a);
         }
         f = next[f] as usize;
     }
@@ -82,7 +79,6 @@ pub fn arc_row(
 pub fn arcs(
     m: usize,
     sv: &[u8; ENTRY_LIMIT],
-    st: &[u8; ENTRY_LIMIT],
     rs: &[u8; ENTRY_LIMIT],
     rt: &[u8; ENTRY_LIMIT],
     plan: &[bool; ENTRY_LIMIT],
@@ -94,11 +90,11 @@ pub fn arcs(
     rps: &[u8; 64],
     rpt: &[u8; 64],
 ) -> [u8; 4096]
-    requires { ⌜ (m ≤ entryLimit) × (n ≤ planLimit) × Low m (now sv) nodeLimit × Linked m (now st) (now head) (now next)
+    requires { ⌜ (m ≤ entryLimit) × (n ≤ planLimit) × Low m (now sv) nodeLimit × ((st : List ℕ) × Linked m st (now head) (now next))
         × Low planLimit (now ps) nodeLimit × Low n (now pt) nodeLimit ⌝ }
-    ensures { λ r. ⌜ Rows r n
-        (λ i j. arcPrice m (now (sv .entry)) (now (st .entry)) (now (rs .entry)) (now (rt .entry)) (now (plan .entry)) (at (now (pt .entry)) i)
-        (at (now (rpt .entry)) i) (at (now (ps .entry)) j) (at (now (rps .entry)) j)) ⌝ }
+    ensures { λ r. ⌜ ((st : List ℕ) → Linked m st (now (head .entry)) (now (next .entry)) → Rows r n
+        (λ i j. arcPrice m (now (sv .entry)) st (now (rs .entry)) (now (rt .entry)) (now (plan .entry)) (at (now (pt .entry)) i)
+        (at (now (rpt .entry)) i) (at (now (ps .entry)) j) (at (now (rps .entry)) j))) ⌝ }
 {
     let mut after = [0u16; 64];
     let first = arrays::links(64, &ps[..], &mut after[..]);
@@ -108,13 +104,11 @@ pub fn arcs(
         let row = arc_row(
             m,
             sv,
-            st,
             rs,
             rt,
             plan,
             head,
             next,
-            ps,
             rps,
             &first,
             &after,

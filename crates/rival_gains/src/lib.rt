@@ -1,9 +1,10 @@
 // What a walk may gain at an end: the least rate of an edge outside the plan that lies at the same node as an edge of the plan on one side and has
 // room on the other, for each edge of the plan; the same with a node of the other side shut out. The two sides are told apart by the arrays. The edges
-// of a node are found by the links; `end` is there for the promise alone.
+// of a node are found by the links alone, and the promises hold for any ends that these link.
 ghost use mathlib.Core.Path.{_≡_};
 ghost use mathlib.Core.Bool.{not};
-ghost use Prim.Native.Nat.{_≤_, _<_};
+ghost use mathlib.Core.List.{List};
+ghost use Prim.Native.Nat.{ℕ, _≤_, _<_};
 ghost use lib.ListN.{length};
 ghost use lib.Dec.{eqb};
 ghost use Rattle.model.specs.Limits.{entryLimit, nodeLimit, planLimit};
@@ -32,7 +33,6 @@ pub fn parted(row: &mut [u8; 64], po: &[u8; 64], d: u8, p: u8)
 // The least rates for an edge of the plan at node e with rank b, each column's node shut out; 3 if there is none.
 pub fn apart_row(
     m: usize,
-    end: &[u8; ENTRY_LIMIT],
     other: &[u8; ENTRY_LIMIT],
     rank: &[u8; ENTRY_LIMIT],
     plan: &[bool; ENTRY_LIMIT],
@@ -43,11 +43,10 @@ pub fn apart_row(
     e: u8,
     b: u8,
 ) -> [u8; 64]
-    requires { ⌜ (m ≤ entryLimit) × Low m (now other) nodeLimit × Linked m (now end) (now head) (now next) × (e < 32) ⌝ }
-    ensures { λ o. ⌜ Made 0 o
-        (λ j. gainPriceBut m (now (end .entry)) (now (other .entry)) (now (rank .entry)) (now (plan .entry)) (now (room .entry)) 3 e b
-        (at (now (po .entry)) j))
-        64 ⌝ }
+    requires { ⌜ (m ≤ entryLimit) × Low m (now other) nodeLimit × ((end : List ℕ) × Linked m end (now head) (now next)) × (e < 32) ⌝ }
+    ensures { λ o. ⌜ ((end : List ℕ) → Linked m end (now (head .entry)) (now (next .entry))
+        → Made 0 o (λ j. gainPriceBut m end (now (other .entry)) (now (rank .entry)) (now (plan .entry)) (now (room .entry)) 3 e b
+        (at (now (po .entry)) j)) 64) ⌝ }
 {
     let mut o = [3u8; 64];
     let u = e as usize;
@@ -67,7 +66,6 @@ pub fn apart_row(
 // The same for all edges of the plan, a row for each. Where no node has room, nothing can be gained.
 pub fn apart(
     m: usize,
-    end: &[u8; ENTRY_LIMIT],
     other: &[u8; ENTRY_LIMIT],
     rank: &[u8; ENTRY_LIMIT],
     plan: &[bool; ENTRY_LIMIT],
@@ -79,10 +77,10 @@ pub fn apart(
     po: &[u8; 64],
     pr: &[u8; 64],
 ) -> [u8; 4096]
-    requires { ⌜ (m ≤ entryLimit) × Low m (now other) nodeLimit × Linked m (now end) (now head) (now next) × (n ≤ planLimit) × Low n (now pe) nodeLimit ⌝ }
-    ensures { λ r. ⌜ Rows r n
-        (λ i j. gainPriceBut m (now (end .entry)) (now (other .entry)) (now (rank .entry)) (now (plan .entry)) (now (room .entry)) 3
-        (at (now (pe .entry)) i) (at (now (pr .entry)) i) (at (now (po .entry)) j)) ⌝ }
+    requires { ⌜ (m ≤ entryLimit) × Low m (now other) nodeLimit × ((end : List ℕ) × Linked m end (now head) (now next)) × (n ≤ planLimit) × Low n (now pe) nodeLimit ⌝ }
+    ensures { λ r. ⌜ ((end : List ℕ) → Linked m end (now (head .entry)) (now (next .entry))
+        → Rows r n (λ i j. gainPriceBut m end (now (other .entry)) (now (rank .entry)) (now (plan .entry)) (now (room .entry)) 3
+        (at (now (pe .entry)) i) (at (now (pr .entry)) i) (at (now (po .entry)) j))) ⌝ }
 {
     let mut o = [3u8; 4096];
     let roomy = rival_tables::first_room(room);
@@ -91,19 +89,7 @@ pub fn apart(
     }
     let mut i = 0;
     while i < n {
-        let row = apart_row(
-            m,
-            end,
-            other,
-            rank,
-            plan,
-            room,
-            head,
-            next,
-            po,
-            pe[i],
-            pr[i],
-        );
+        let row = apart_row(m, other, rank, plan, room, head, next, po, pe[i], pr[i]);
         rival_tables::put_row(&mut o, &row, i);
         i += 1;
     }
@@ -113,7 +99,6 @@ pub fn apart(
 // The least rate for an edge of the plan at node e with rank b, no node shut out; 6 if there is none.
 pub fn gain(
     m: usize,
-    end: &[u8; ENTRY_LIMIT],
     other: &[u8; ENTRY_LIMIT],
     rank: &[u8; ENTRY_LIMIT],
     plan: &[bool; ENTRY_LIMIT],
@@ -123,8 +108,9 @@ pub fn gain(
     e: u8,
     b: u8,
 ) -> u8
-    requires { ⌜ (m ≤ entryLimit) × Low m (now other) nodeLimit × Linked m (now end) (now head) (now next) × (e < 32) ⌝ }
-    ensures { λ r. ⌜ r ≡ gainPrice m (now (end .entry)) (now (other .entry)) (now (rank .entry)) (now (plan .entry)) (now (room .entry)) 6 e b ⌝ }
+    requires { ⌜ (m ≤ entryLimit) × Low m (now other) nodeLimit × ((end : List ℕ) × Linked m end (now head) (now next)) × (e < 32) ⌝ }
+    ensures { λ r. ⌜ ((end : List ℕ) → Linked m end (now (head .entry)) (now (next .entry))
+        → r ≡ gainPrice m end (now (other .entry)) (now (rank .entry)) (now (plan .entry)) (now (room .entry)) 6 e b) ⌝ }
 {
     let mut o = 6;
     let u = e as usize;
@@ -144,7 +130,6 @@ pub fn gain(
 // The same for all edges of the plan.
 pub fn gains(
     m: usize,
-    end: &[u8; ENTRY_LIMIT],
     other: &[u8; ENTRY_LIMIT],
     rank: &[u8; ENTRY_LIMIT],
     plan: &[bool; ENTRY_LIMIT],
@@ -155,11 +140,10 @@ pub fn gains(
     pe: &[u8; 64],
     pr: &[u8; 64],
 ) -> [u8; 64]
-    requires { ⌜ (m ≤ entryLimit) × Low m (now other) nodeLimit × Linked m (now end) (now head) (now next) × (n ≤ planLimit) × Low n (now pe) nodeLimit ⌝ }
-    ensures { λ r. ⌜ Made 0 r
-        (λ i. gainPrice m (now (end .entry)) (now (other .entry)) (now (rank .entry)) (now (plan .entry)) (now (room .entry)) 6
-        (at (now (pe .entry)) i) (at (now (pr .entry)) i))
-        n ⌝ }
+    requires { ⌜ (m ≤ entryLimit) × Low m (now other) nodeLimit × ((end : List ℕ) × Linked m end (now head) (now next)) × (n ≤ planLimit) × Low n (now pe) nodeLimit ⌝ }
+    ensures { λ r. ⌜ ((end : List ℕ) → Linked m end (now (head .entry)) (now (next .entry))
+        → Made 0 r (λ i. gainPrice m end (now (other .entry)) (now (rank .entry)) (now (plan .entry)) (now (room .entry)) 6
+        (at (now (pe .entry)) i) (at (now (pr .entry)) i)) n) ⌝ }
 {
     let mut o = [6u8; 64];
     let roomy = rival_tables::first_room(room);
@@ -168,7 +152,7 @@ pub fn gains(
     }
     let mut i = 0;
     while i < n {
-        o[i] = gain(m, end, other, rank, plan, room, head, next, pe[i], pr[i]);
+        o[i] = gain(m, other, rank, plan, room, head, next, pe[i], pr[i]);
         i += 1;
     }
     o

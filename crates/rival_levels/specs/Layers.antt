@@ -2,9 +2,12 @@
 -- Search.antt); here edges are places in the plan's list, and the prices of the arcs are a table.
 use Prim.Native.Nat.{ℕ, zero, suc, _+_, _-_, _≤_, _<_, min}
 use native.Mathlib.Omega.{arith}
-use mathlib.Core.Path.{_≡_, refl, ap, _∙_}
+use mathlib.Core.Path.{_≡_, refl, sym, ap, _∙_}
 use mathlib.Core.Bool.{true}
 use mathlib.Core.List.{List}
+use lib.ListN.{length}
+use Rattle.arrays.specs.ArrayInstance.{at}
+use Rattle.arrays.specs.Filled.{Made}
 use Rattle.rival_tables.specs.Filled.{cell, Rows}
 use Rattle.rival_tables.specs.Cheapest.{cheapest, cheapest-turn, cheapest-end, cheapest-cong, cheapest-≤}
 
@@ -56,6 +59,42 @@ module _ (arcs d : List ℕ) (n i j : ℕ) where
   pub next-≤ : nextPrice arcs d n i j ≤ 133
   unfolding nextPrice
   next-≤ = omega (arith, cheapest-≤ (λ y. true) (onward arcs d i j) (keptPrice (cell d i j)) 0 n)
+
+-- ---- row i of a layer in the making: the places from y on are still to come
+pub record Lowered (arcs d : List ℕ) (n i : ℕ) (o : List ℕ) (y : ℕ) : Type 0 where
+  pub whole : length o ≡ 64
+  pub small : (j : ℕ) → j < 64 → at o j ≤ 133
+  pub rest : (j : ℕ) → j < 64 → nextRest arcs d n i j (at o j) y ≡ nextPrice arcs d n i j
+
+module _ {arcs d : List ℕ} {n i : ℕ} where
+  -- it starts with what the layer before has, counted with one arc more
+  pub lowered-start : (o : List ℕ) → length o ≡ 64 → Made 0 o (λ j. keptPrice (cell d i j)) 64 → Lowered arcs d n i o 0
+  lowered-start o l e = record {
+    whole = l;
+    small = λ j h. omega (arith, e j h);
+    rest = λ j h. ap (λ v. nextRest arcs d n i j v 0) (e j h) ∙ next-start arcs d n i j;
+  }
+
+  module _ {o : List ℕ} {y : ℕ} (L : Lowered arcs d n i o y) where
+    -- the arc to place y is taken where it is less
+    pub lowered-turn : (r : List ℕ) → y < n → (length r ≡ 64) × Made 0 r (λ j. min (cell arcs i y + cell d y j) (at o j)) 64 → Lowered arcs d n i r (y + 1)
+    lowered-turn r h (l, e) = record {
+      whole = l;
+      small = λ j k. omega (arith, e j k, L .small j k);
+      rest = λ j k. ap (λ v. nextRest arcs d n i j v (y + 1)) (e j k) ∙ sym (next-turn arcs d n i j (at o j) y h) ∙ L .rest j k;
+    }
+
+    -- there is no arc to place y
+    pub lowered-past : y < n → 133 ≤ cell arcs i y → Lowered arcs d n i o (y + 1)
+    lowered-past h k = record {
+      whole = L .whole;
+      small = L .small;
+      rest = λ j l. sym (next-past arcs d n i j (at o j) y h k (L .small j l)) ∙ L .rest j l;
+    }
+
+    -- no place is to come
+    pub lowered-end : n ≤ y → Made 0 o (nextPrice arcs d n i) 64
+    lowered-end h j k = sym (next-end arcs d n i j (at o j) y h) ∙ L .rest j k
 
 -- ---- the layers
 unfoldable pub layerAt : List ℕ → ℕ → ℕ → ℕ → ℕ → ℕ

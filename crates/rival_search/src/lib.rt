@@ -50,10 +50,10 @@ pub fn terminal_table(
     }
     let rps = rival_tables::gathered(n, es, rs);
     let rpt = rival_tables::gathered(n, es, rt);
-    let starts = rival_gains::apart(m, sv, st, rs, plan, ft, hs, ls, n, ps, pt, &rps);
-    let stops = rival_gains::apart(m, st, sv, rt, plan, fs, ht, lt, n, pt, ps, &rpt);
-    let gs = rival_gains::gains(m, sv, st, rs, plan, ft, hs, ls, n, ps, &rps);
-    let gt = rival_gains::gains(m, st, sv, rt, plan, fs, ht, lt, n, pt, &rpt);
+    let starts = rival_gains::apart(m, st, rs, plan, ft, hs, ls, n, ps, pt, &rps);
+    let stops = rival_gains::apart(m, sv, rt, plan, fs, ht, lt, n, pt, ps, &rpt);
+    let gs = rival_gains::gains(m, st, rs, plan, ft, hs, ls, n, ps, &rps);
+    let gt = rival_gains::gains(m, sv, rt, plan, fs, ht, lt, n, pt, &rpt);
     rival_tables::terminals(n, &starts, &stops, &gs, &gt)
 }
 

@@ -65,11 +65,30 @@ put-next t row i k r l kl h a b bl = by-eq a i
 pub put-end : (t row : List ℕ) (i k : ℕ) (r : List ℕ) → 64 ≤ k → Putting t row i k r → Put t row i r
 put-end t row i k r l h a b bl = h a b bl ∙ ap (λ x. cond (eqb a i) (cond x (at row b) (cell t a b)) (cell t a b)) (lt-ltb b k (omega arith))
 
--- rows are made one after the other
-pub rows-next : (t row r : List ℕ) (f : ℕ → ℕ → ℕ) (i : ℕ) → Rows t i f → Made 0 row (f i) 64 → Put t row i r → Rows r (i + 1) f
-rows-next t row r f i h m p a b al bl = by-eq a i
-    (λ e s. p a b bl ∙ ap (λ x. cond x (at row b) (cell t a b)) s ∙ m b bl ∙ ap (λ z. f z b) (sym e))
-    (λ n s. p a b bl ∙ ap (λ x. cond x (at row b) (cell t a b)) s ∙ h a b (omega arith) bl)
+-- ---- a table that is written row by row: it is whole, and the entries of its first i rows are as Q says
+pub record Written (n : ℕ) (Q : ℕ → ℕ → ℕ → Type 0) (t : List ℕ) (i : ℕ) : Type 0 where
+  pub within : i ≤ n
+  pub whole : length t ≡ 4096
+  pub rows : (a b : ℕ) → a < i → b < 64 → Q a b (cell t a b)
+
+-- no row is written yet
+pub written-none : {n : ℕ} {Q : ℕ → ℕ → ℕ → Type 0} {t : List ℕ} → length t ≡ 4096 → Written n Q t 0
+written-none l = record { within = omega arith; whole = l; rows = λ a b h. absurd (omega arith) }
+
+module _ {n : ℕ} {Q : ℕ → ℕ → ℕ → Type 0} {t : List ℕ} {i : ℕ} (W : Written n Q t i) where
+  -- one row more
+  pub written-row : (row r : List ℕ) → i < n → ((b : ℕ) → b < 64 → Q i b (at row b)) → (length r ≡ 4096) × Put t row i r → Written n Q r (i + 1)
+  written-row row r h m (l, p) = record {
+    within = omega arith;
+    whole = l;
+    rows = λ a b al bl. by-eq a i
+        (λ e s. subst (λ z. Q z b (cell r a b)) (sym e) (subst (Q i b) (sym (p a b bl ∙ ap (λ x. cond x (at row b) (cell t a b)) s)) (m b bl)))
+        (λ d s. subst (Q a b) (sym (p a b bl ∙ ap (λ x. cond x (at row b) (cell t a b)) s)) (W .rows a b (omega arith) bl));
+  }
+
+  -- all rows are written
+  pub written-all : n ≤ i → (a b : ℕ) → a < n → b < 64 → Q a b (cell t a b)
+  written-all h a b al bl = W .rows a b (omega arith) bl
 
 -- ---- a row of 64 that is written anew in place, from its front: its first k entries are f's, the others as they were
 abbrev pub Remade : List ℕ → (ℕ → ℕ) → ℕ → List ℕ → Type 0

@@ -170,7 +170,7 @@ fn judged_by_tables(
     );
     let rps = rival_tables::gathered(n, es, rs);
     let rpt = rival_tables::gathered(n, es, rt);
-    let arcs = rival_arcs::arcs(m, sv, st, rs, rt, plan, ht, lt, n, ps, pt, &rps, &rpt);
+    let arcs = rival_arcs::arcs(m, sv, rs, rt, plan, ht, lt, n, ps, pt, &rps, &rpt);
     judged_by_arcs(
         m,
         sv,

@@ -156,7 +156,6 @@ pub fn weigh_paired(
         let rival = w.rival;
         let re = w.listed.edges;
         vote_pairings::plan_pairings(
-            g.m,
             g.ns,
             g.nt,
             &sv,

@@ -7,8 +7,7 @@ ghost use Rattle.model.specs.Limits.{quotaLimit, nodeLimit};
 ghost use Rattle.arrays.specs.ArrayInstance.{at};
 ghost use Rattle.theory_votes.specs.Keys.{emptyKey, keyBytes};
 ghost use Rattle.vote_pairings.specs.SideBytes.{written, sideOut, NodeReady};
-ghost use Rattle.plan_lookup.specs.PlanEdges.{Listed};
-ghost use Rattle.vote_pairings.specs.SidePairings.{Faced, SideWritten, PlanWritten};
+ghost use Rattle.vote_pairings.specs.SidePairings.{Asked, BothAsked, SideFaced, PlanFaced};
 use limits::ENTRY_LIMIT;
 use vote_own_ranks::Ranked;
 
@@ -62,7 +61,6 @@ pub fn side_pairs(
 // ---- two plans, over the arrays of an instance
 // The pairings of one side, from a place of the buffer on; the place behind them.
 pub fn side_pairings(
-    m: usize,
     n: usize,
     end: &[u8; ENTRY_LIMIT],
     rank: &[u8; ENTRY_LIMIT],
@@ -76,10 +74,10 @@ pub fn side_pairings(
     out: &mut [u8],
     from: usize,
 ) -> usize
-    requires { ⌜ Faced m n (now end) (now rank) quota (now p) (now q) × Listed m (now p) pn (now pe) × Listed m (now q) qn (now qe) ⌝ }
+    requires { ⌜ Asked n (now end) (now rank) quota (now p) pn (now pe) (now q) qn (now qe) ⌝ }
     requires { ⌜ from + 2 * sum (at quota) (upTo n) ≤ length (now out) ⌝ }
     ensures { λ r. ⌜ r ≡ from + 2 * sum (at quota) (upTo n) ⌝ }
-    ensures { λ _. ⌜ SideWritten m n (now (end .entry)) (now (rank .entry)) quota (now (p .entry)) (now (q .entry)) from
+    ensures { λ _. ⌜ SideFaced n (now (end .entry)) (now (rank .entry)) quota (now (p .entry)) pn (now (pe .entry)) (now (q .entry)) qn (now (qe .entry)) from
         (now (out .entry)) (now (out .exit)) ⌝ }
 {
     let a = vote_own_ranks::own_ranks(pn, pe, end, rank, q);
@@ -90,7 +88,6 @@ pub fn side_pairings(
 
 // The pairings of the vote of plan p, whose edges are the first pn of pe, against plan q, at the buffer's front.
 pub fn plan_pairings(
-    m: usize,
     ns: usize,
     nt: usize,
     sv: &[u8; ENTRY_LIMIT],
@@ -107,20 +104,18 @@ pub fn plan_pairings(
     qe: &[u16; 64],
     out: &mut [u8],
 )
-    requires { ⌜ Faced m ns (now sv) (now rs) qs (now p) (now q) × Faced m nt (now st) (now rt) qt (now p) (now q) ⌝ }
-    requires { ⌜ Listed m (now p) pn (now pe) × Listed m (now q) qn (now qe) ⌝ }
+    requires { ⌜ BothAsked ns nt (now sv) (now st) (now rs) (now rt) qs qt (now p) pn (now pe) (now q) qn (now qe) ⌝ }
     requires { ⌜ 2 * (sum (at qs) (upTo ns) + sum (at qt) (upTo nt)) ≤ length (now out) ⌝ }
-    ensures { λ _. ⌜ PlanWritten m ns nt (now (sv .entry)) (now (st .entry)) (now (rs .entry)) (now (rt .entry)) qs qt (now (p .entry)) (now (q .entry))
-        (now (out .entry)) (now (out .exit)) ⌝ }
+    ensures { λ _. ⌜ PlanFaced ns nt (now (sv .entry)) (now (st .entry)) (now (rs .entry)) (now (rt .entry)) qs qt
+        (now (p .entry)) pn (now (pe .entry)) (now (q .entry)) qn (now (qe .entry)) (now (out .entry)) (now (out .exit)) ⌝ }
 {
-    let middle = side_pairings(m, ns, sv, rs, qs, p, pn, pe, q, qn, qe, &mut *out, 0);
-    side_pairings(m, nt, st, rt, qt, p, pn, pe, q, qn, qe, out, middle);
+    let middle = side_pairings(ns, sv, rs, qs, p, pn, pe, q, qn, qe, &mut *out, 0);
+    side_pairings(nt, st, rt, qt, p, pn, pe, q, qn, qe, out, middle);
 }
 
 // The pairings of one side for both votes, that of p against q and that of q against p, each from a place of its buffer on; the place behind them.
 // The ranks that each plan has alone, and those that both have, are listed once for both.
 pub fn both_sides_pairings(
-    m: usize,
     n: usize,
     end: &[u8; ENTRY_LIMIT],
     rank: &[u8; ENTRY_LIMIT],
@@ -135,12 +130,12 @@ pub fn both_sides_pairings(
     back: &mut [u8],
     from: usize,
 ) -> usize
-    requires { ⌜ Faced m n (now end) (now rank) quota (now p) (now q) × Listed m (now p) pn (now pe) × Listed m (now q) qn (now qe) ⌝ }
+    requires { ⌜ Asked n (now end) (now rank) quota (now p) pn (now pe) (now q) qn (now qe) ⌝ }
     requires { ⌜ (from + 2 * sum (at quota) (upTo n) ≤ length (now forward)) × (from + 2 * sum (at quota) (upTo n) ≤ length (now back)) ⌝ }
     ensures { λ r. ⌜ r ≡ from + 2 * sum (at quota) (upTo n) ⌝ }
-    ensures { λ _. ⌜ SideWritten m n (now (end .entry)) (now (rank .entry)) quota (now (p .entry)) (now (q .entry)) from
+    ensures { λ _. ⌜ SideFaced n (now (end .entry)) (now (rank .entry)) quota (now (p .entry)) pn (now (pe .entry)) (now (q .entry)) qn (now (qe .entry)) from
         (now (forward .entry)) (now (forward .exit)) ⌝ }
-    ensures { λ _. ⌜ SideWritten m n (now (end .entry)) (now (rank .entry)) quota (now (q .entry)) (now (p .entry)) from
+    ensures { λ _. ⌜ SideFaced n (now (end .entry)) (now (rank .entry)) quota (now (q .entry)) qn (now (qe .entry)) (now (p .entry)) pn (now (pe .entry)) from
         (now (back .entry)) (now (back .exit)) ⌝ }
 {
     let a = vote_own_ranks::own_ranks(pn, pe, end, rank, q);
@@ -152,7 +147,6 @@ pub fn both_sides_pairings(
 
 // The pairings of both votes of two plans, p with pn edges that pe lists, q likewise, at the fronts of two buffers.
 pub fn both_pairings(
-    m: usize,
     ns: usize,
     nt: usize,
     sv: &[u8; ENTRY_LIMIT],
@@ -170,17 +164,15 @@ pub fn both_pairings(
     forward: &mut [u8],
     back: &mut [u8],
 )
-    requires { ⌜ Faced m ns (now sv) (now rs) qs (now p) (now q) × Faced m nt (now st) (now rt) qt (now p) (now q) ⌝ }
-    requires { ⌜ Listed m (now p) pn (now pe) × Listed m (now q) qn (now qe) ⌝ }
+    requires { ⌜ BothAsked ns nt (now sv) (now st) (now rs) (now rt) qs qt (now p) pn (now pe) (now q) qn (now qe) ⌝ }
     requires { ⌜ (2 * (sum (at qs) (upTo ns) + sum (at qt) (upTo nt)) ≤ length (now forward))
         × (2 * (sum (at qs) (upTo ns) + sum (at qt) (upTo nt)) ≤ length (now back)) ⌝ }
-    ensures { λ _. ⌜ PlanWritten m ns nt (now (sv .entry)) (now (st .entry)) (now (rs .entry)) (now (rt .entry)) qs qt (now (p .entry)) (now (q .entry))
-        (now (forward .entry)) (now (forward .exit)) ⌝ }
-    ensures { λ _. ⌜ PlanWritten m ns nt (now (sv .entry)) (now (st .entry)) (now (rs .entry)) (now (rt .entry)) qs qt (now (q .entry)) (now (p .entry))
-        (now (back .entry)) (now (back .exit)) ⌝ }
+    ensures { λ _. ⌜ PlanFaced ns nt (now (sv .entry)) (now (st .entry)) (now (rs .entry)) (now (rt .entry)) qs qt
+        (now (p .entry)) pn (now (pe .entry)) (now (q .entry)) qn (now (qe .entry)) (now (forward .entry)) (now (forward .exit)) ⌝ }
+    ensures { λ _. ⌜ PlanFaced ns nt (now (sv .entry)) (now (st .entry)) (now (rs .entry)) (now (rt .entry)) qs qt
+        (now (q .entry)) qn (now (qe .entry)) (now (p .entry)) pn (now (pe .entry)) (now (back .entry)) (now (back .exit)) ⌝ }
 {
     let middle = both_sides_pairings(
-        m,
         ns,
         sv,
         rs,
@@ -195,20 +187,5 @@ pub fn both_pairings(
         &mut *back,
         0,
     );
-    both_sides_pairings(
-        m,
-        nt,
-        st,
-        rt,
-        qt,
-        p,
-        pn,
-        pe,
-        q,
-        qn,
-        qe,
-        forward,
-        back,
-        middle,
-    );
+    both_sides_pairings(nt, st, rt, qt, p, pn, pe, q, qn, qe, forward, back, middle);
 }

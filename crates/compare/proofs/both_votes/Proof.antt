@@ -1,7 +1,7 @@
 -- `compare::both_votes` meets its contract: both votes are the model's, and so are the pairings of both. Assumes nothing.
 use lib.ListN.{length}
 use Rattle.vote_plans.specs.Votable.{side-arrays, light}
-use Rattle.vote_pairings.specs.RosterPairings.{both-faced, room}
+use Rattle.vote_pairings.specs.RosterPairings.{both-asked, room}
 use borrow.Author.Needs.{needs}
 use Rattle.compare.proofs.both_votes.Statement.{statement}
 use Rattle.compare.proofs.both_votes.Tie as tie
@@ -24,14 +24,8 @@ both-pairings-requires c κs =
     let L = s .pre .0 .0 in
     let p = s .pre .0 .1 in
     let q = s .pre .0 .2 in (
-      both-faced (a .g) L (a .p .now) (a .q .now) (p .matching) (q .matching),
-      (
-        (p .listed, q .listed),
-        (
-          room (a .g) L (a .p .now) (a .q .now) (p .matching) (q .matching) (length (a .forward .now)) (s .pre .1 .0),
-          room (a .g) L (a .p .now) (a .q .now) (p .matching) (q .matching) (length (a .back .now)) (s .pre .1 .1),
-        ),
-      ),
+      both-asked (a .g) L (p .matching) (q .matching) (p .listed) (q .listed),
+      (room (a .g) L (length (a .forward .now)) (s .pre .1 .0), room (a .g) L (length (a .back .now)) (s .pre .1 .1)),
     )
 
 returns : tie.Need-returns
@@ -41,13 +35,19 @@ returns c =
     let s = c .before .before .before .before .before .before .before .before .before .before .before .before .before .before .before .before .before
     .before .before .before .before .before .before .before in
     let g = s .args .g in
-    let p = s .pre .0 .1 .matching in
-    let q = s .pre .0 .2 .matching in (
+    let L = s .pre .0 .0 in
+    let P = s .pre .0 .1 in
+    let Q = s .pre .0 .2 in
+    let p = P .matching in
+    let q = Q .matching in (
       (
         both .ensures .first (g .sh) (g .tied) (g .«quota_s») (g .«quota_t») p q,
         both .ensures .second (g .sh) (g .tied) (g .«quota_s») (g .«quota_t») q p,
       ),
-      record { first = r .ensures .0 (g .sh) (g .tied); second = r .ensures .1 (g .sh) (g .tied) },
+      record {
+        first = r .ensures .0 (both-asked g L p q (P .listed) (Q .listed)) (g .sh) (g .tied);
+        second = r .ensures .1 (both-asked g L q p (Q .listed) (P .listed)) (g .sh) (g .tied);
+      },
     )
 
 pub both-votes-spec : {M : Type 1} → statement M

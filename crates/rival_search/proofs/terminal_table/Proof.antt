@@ -34,19 +34,19 @@ gathered-requires-2 : tie.Need-gathered-requires-2
 gathered-requires-2 c κs = let s = c .before .before .before .before in (s .pre .1, s .pre .8)
 
 apart-requires : tie.Need-apart-requires
-apart-requires c κs = let s = first (c .before) in (s .pre .0, s .pre .3, s .pre .4, s .pre .1, s .pre .6)
+apart-requires c κs = let s = first (c .before) in (s .pre .0, s .pre .3, (s .args .sv .now, s .pre .4), s .pre .1, s .pre .6)
 
 apart-requires-2 : tie.Need-apart-requires-2
-apart-requires-2 c κs = let s = first (c .before .before .before) in (s .pre .0, s .pre .2, s .pre .5, s .pre .1, s .pre .7)
+apart-requires-2 c κs = let s = first (c .before .before .before) in (s .pre .0, s .pre .2, (s .args .st .now, s .pre .5), s .pre .1, s .pre .7)
 
 gains-requires : tie.Need-gains-requires
-gains-requires c κs = let s = first (c .before .before .before .before .before) in (s .pre .0, s .pre .3, s .pre .4, s .pre .1, s .pre .6)
+gains-requires c κs = let s = first (c .before .before .before .before .before) in (s .pre .0, s .pre .3, (s .args .sv .now, s .pre .4), s .pre .1, s .pre .6)
 
 gains-requires-2 : tie.Need-gains-requires-2
 gains-requires-2 c κs =
     let b = c .before .before .before .before .before in
     let s = first (b .before .before) in
-    (s .pre .0, s .pre .2, s .pre .5, s .pre .1, s .pre .7)
+    (s .pre .0, s .pre .2, (s .args .st .now, s .pre .5), s .pre .1, s .pre .7)
 
 terminals-requires : tie.Need-terminals-requires
 terminals-requires c κs =
@@ -62,22 +62,22 @@ terminals-requires c κs =
         start =
             λ i j h k. omega (
               arith,
-              b .apart .ensures i j h (omega (arith, s .pre .1, k)),
+              b .apart .ensures (a .sv .now) (s .pre .4) i j h (omega (arith, s .pre .1, k)),
               but-small (a .m) (a .sv .now) (a .st .now) (a .rs .now) (a .plan .now) (a .ft .now) (at (a .ps .now) i) (at rps i)
                   (at (a .pt .now) j),
             );
         stop =
             λ i j h k. omega (
               arith,
-              g .before .before .before .before .apart2 .ensures i j h (omega (arith, s .pre .1, k)),
+              g .before .before .before .before .apart2 .ensures (a .st .now) (s .pre .5) i j h (omega (arith, s .pre .1, k)),
               but-small (a .m) (a .st .now) (a .sv .now) (a .rt .now) (a .plan .now) (a .fs .now) (at (a .pt .now) i) (at rpt i)
                   (at (a .ps .now) j),
             );
         both =
             λ i j h k. omega (
               arith,
-              g .before .before .gains .ensures i h,
-              g .gains2 .ensures j k,
+              g .before .before .gains .ensures (a .sv .now) (s .pre .4) i h,
+              g .gains2 .ensures (a .st .now) (s .pre .5) j k,
               gain-small (a .m) (a .sv .now) (a .st .now) (a .rs .now) (a .plan .now) (a .ft .now) (at (a .ps .now) i) (at rps i),
               gain-small (a .m) (a .st .now) (a .sv .now) (a .rt .now) (a .plan .now) (a .fs .now) (at (a .pt .now) j) (at rpt j),
             );
@@ -95,9 +95,9 @@ returns-2 c =
     (a .pt .now) (r .before .gathered .result) (r .gathered2 .result) (c .terminals .result) (r .before .gathered .ensures) (r .gathered2 .ensures)
     (λ i j h k. c .terminals .ensures i j h k
     ∙ ap₂ (λ x y. min (x + 3) y)
-    (ap₂ min (b .apart .ensures i j h (omega (arith, s .pre .1, k)))
-    (g .before .before .before .before .apart2 .ensures j i k (omega (arith, s .pre .1, h))))
-    (ap₂ (λ x y. x + y) (g .before .before .gains .ensures i h) (g .gains2 .ensures j k)))
+    (ap₂ min (b .apart .ensures (a .sv .now) (s .pre .4) i j h (omega (arith, s .pre .1, k)))
+    (g .before .before .before .before .apart2 .ensures (a .st .now) (s .pre .5) j i k (omega (arith, s .pre .1, h))))
+    (ap₂ (λ x y. x + y) (g .before .before .gains .ensures (a .sv .now) (s .pre .4) i h) (g .gains2 .ensures (a .st .now) (s .pre .5) j k)))
 
 pub terminal-table-spec : {M : Type 1} → statement M
 terminal-table-spec =

@@ -55,8 +55,9 @@ gathered-requires-2 c κs = let s = first (c .before) in (s .pre .1, listed s)
 
 arcs-requires : tie.Need-arcs-requires
 arcs-requires c κs =
-    let p = first (c .before .before .before .before) .pre in
-    (p .0, p .1, p .2, p .9, p .6, λ i h. p .7 i (omega (arith, p .1, h)))
+    let s = first (c .before .before .before .before) in
+    let p = s .pre in
+    (p .0, p .1, p .2, (s .args .st .now, p .9), p .6, λ i h. p .7 i (omega (arith, p .1, h)))
 
 -- ends and ranks of the plan's edges, by their places
 views : (c : tie.After-gathered2) → let s = first (c .before .before) in let a = s .args in
@@ -83,7 +84,7 @@ judged-by-arcs-requires c κs =
     let e = j .terminal-table in
     let v = views g in
     let t = tables-fine (a .m) (a .sv .now) (a .st .now) (a .rs .now) (a .rt .now) (a .plan .now) (a .n) (a .ps .now) (a .pt .now)
-    (g .before .gathered .result) (g .gathered2 .result) (a .fs .now) (a .ft .now) (b .arcs .result) (e .result) (b .arcs .ensures)
+    (g .before .gathered .result) (g .gathered2 .result) (a .fs .now) (a .ft .now) (b .arcs .result) (e .result) (b .arcs .ensures (a .st .now) (s .pre .9))
     (e .ensures (g .before .gathered .result) (g .gathered2 .result) (v .rs-at) (v .rt-at)) in (
       s .pre .0,
       s .pre .1,
@@ -109,7 +110,7 @@ returns-2 c =
     let v = views g in
     λ quotaS quotaT roomyS roomyT. tables-shown (a .m) (a .sv .now) (a .st .now) (a .rs .now) (a .rt .now) quotaS quotaT (a .plan .now) (a .n)
     (a .es .now) (a .ps .now) (a .pt .now) (g .before .gathered .result) (g .gathered2 .result) (a .fs .now) (a .ft .now) (s .pre .1) (s .pre .2)
-    (s .pre .3) (s .pre .4) v roomyS roomyT (s .pre .10) (b .arcs .result) (e .result) (b .arcs .ensures)
+    (s .pre .3) (s .pre .4) v roomyS roomyT (s .pre .10) (b .arcs .result) (e .result) (b .arcs .ensures (a .st .now) (s .pre .9))
     (e .ensures (g .before .gathered .result) (g .gathered2 .result) (v .rs-at) (v .rt-at)) (r .result .beaten) (r .result .rivalled)
     (r .result .rival) (r .ensures)
 
