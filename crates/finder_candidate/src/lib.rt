@@ -30,7 +30,7 @@ pub fn judged(
     let l = plan_lookup::list_edges(m, fixed);
     let es = l.edges;
     let sh = g.sh;
-    plan_writer::write_plan(m, &sv, &st, &sh, fixed, &mut *plan);
+    plan_writer::write_plan(l.n, &es, &sv, &st, &sh, &mut *plan);
     let w = verdict::weigh(g, fixed, l.n, &es, &mut *rival);
     match w {
         Verdict::Strong => Found::Plan(steps),

@@ -1,10 +1,10 @@
 -- The end of the steps: what `ended` promises, what it finds on its ways, and that its promise follows.
-use Prim.Native.Nat.{ℕ, _+_, _*_, _≤_, _<_}
+use Prim.Native.Nat.{ℕ, _*_, _≤_, _<_}
 use native.Mathlib.Omega.{arith}
 use mathlib.Core.Path.{_≡_, refl, sym, ap, _∙_, subst}
 use mathlib.Core.Bool.{Bool, true, false}
-use mathlib.Core.List.{List, [], _∷_, _++_}
-use lib.ListN.{length, take, drop}
+use mathlib.Core.List.{List, [], _∷_}
+use lib.ListN.{length}
 use Rattle.lists.specs.Sum.{range, range-length}
 use Rattle.model.specs.Limits.{entryLimit, pairWidth, leftSize}
 use Rattle.model.specs.Instance.{Instance}
@@ -16,7 +16,6 @@ use Rattle.model_desk.specs.Desk.{onto}
 use Rattle.arrays.specs.ArrayInstance.{flag}
 use Rattle.arrays.specs.Kept.{keep-most}
 use Rattle.plan_writer.specs.Written.{pairsOf}
-use Rattle.plan_writer.specs.PairByPair.{pairs-onto}
 use Rattle.instance.specs.declared.Instance as arrays
 use Rattle.instance.specs.Decoded.{shownBy}
 use Rattle.verdict.specs.Weighing.{Shows}
@@ -37,18 +36,15 @@ Ends g rem fixed steps l p v r l′ p′ v′ = (M : Plan) → Shows (shownBy g)
 
 -- ---- the end of the steps
 module _ (g : arrays.Instance) (M : Plan) (es : List ℕ) (steps : ℕ) (l p v l′ : List ℕ) (k : ℕ) (count : k ≡ length es)
-    (wrote : l′ ≡ (take 0 l ++ pairsOf (g .sv) (g .st) (g .sh) es) ++ drop (pairWidth * k + 0) l) where
+    (wrote : l′ ≡ onto (pairsOf (g .sv) (g .st) (g .sh) es) l) where
   abbrev G : Instance
   G = shownBy g
-
-  left-bytes : l′ ≡ onto (pairList G es) l
-  left-bytes = wrote ∙ ap (λ n. (take 0 l ++ pairsOf (g .sv) (g .st) (g .sh) es) ++ drop (pairWidth * n + 0) l) count ∙ pairs-onto (g .sv) (g .st) (g .sh) es l
 
   -- some pairs are left
   pub some-left : 0 < k → Wrote G (atEnd G M es) steps l p v (says.None steps (kind.Left k)) l′ p v
   some-left h = subst (λ b. Wrote G (ended b) steps l p v (says.None steps (kind.Left k)) l′ p v) (sym (filled es (omega arith))) (record {
     answer = ap (λ n. says.None steps (kind.Left n)) count;
-    left = left-bytes;
+    left = wrote;
     plan = refl;
     rival = refl;
   })
@@ -66,12 +62,12 @@ module _ (g : arrays.Instance) (M : Plan) (es : List ℕ) (steps : ℕ) (l p v l
   none-left h {r} {p′} {v′} W =
       let e : es ≡ [] = nothing es (omega arith) in
       subst (λ z. Wrote G (atEnd G M z) steps l p v r l′ p′ v′) (sym e)
-      (subst (λ z. Wrote G (candidate G M (verdictOf G M)) steps l p v r z p′ v′) (sym (left-bytes ∙ ap (λ z. onto (pairList G z) l) e)) (W l))
+      (subst (λ z. Wrote G (candidate G M (verdictOf G M)) steps l p v r z p′ v′) (sym (wrote ∙ ap (λ z. onto (pairList G z) l) e)) (W l))
     where
       nothing : (xs : List ℕ) → length xs ≤ 0 → xs ≡ []
       nothing [] h = refl
       nothing (x ∷ xs) h = absurd (omega arith)
 
 -- room for all pairs in a buffer of its size
-pub left-room : (m : ℕ) (rem : List Bool) (l : List ℕ) → m ≤ entryLimit → leftSize ≤ length l → pairWidth * length (edgesIn m (flag rem)) + 0 ≤ length l
+pub left-room : (m : ℕ) (rem : List Bool) (l : List ℕ) → m ≤ entryLimit → leftSize ≤ length l → pairWidth * length (edgesIn m (flag rem)) ≤ length l
 left-room m rem l h k = omega (arith, keep-most (flag rem) (range 0 m), range-length 0 m)

@@ -33,7 +33,7 @@ pub fn ended(
     let sv = g.sv;
     let st = g.st;
     let sh = g.sh;
-    let k = plan_writer::write_pairs(m, &sv, &st, &sh, rem, 0, &mut *left);
+    let k = plan_writer::write_pairs(m, &sv, &st, &sh, rem, &mut *left);
     if 0 < k {
         return Found::None(steps, NoneKind::Left(k));
     }

@@ -47,9 +47,11 @@ pub fn carried(g: Instance, plan: &[bool; ENTRY_LIMIT], number: u8) -> CarriedPl
     let kept = besides(g.m, &sv, plan, number);
     let mut bytes = [0u8; PLAN_SIZE];
     let sh = g.sh;
-    plan_writer::write_plan(g.m, &sv, &st, &sh, &kept, &mut bytes);
+    let l = plan_lookup::list_edges(g.m, &kept);
+    let es = l.edges;
+    plan_writer::write_plan(l.n, &es, &sv, &st, &sh, &mut bytes);
     CarriedPlan {
-        len: bytes[0] as usize * PAIR_WIDTH + 1,
+        len: l.n * PAIR_WIDTH + 1,
         bytes: bytes,
     }
 }

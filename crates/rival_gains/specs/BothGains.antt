@@ -6,7 +6,7 @@ use mathlib.Core.List.{List}
 use lib.Dec.{eqb}
 use Rattle.theory_votes.specs.Score.{rate}
 use Rattle.arrays.specs.ArrayInstance.{at}
-use Rattle.arrays.specs.Linked.{First, past-others}
+use Rattle.rival_tables.specs.Visits.{Passed}
 use Rattle.rival_tables.specs.Cheapest.{offer}
 use Rattle.rival_gains.specs.Gains.{gainable, gainable-other, gainPrice, gainPriceBut, gainRest, gainRestBut, gain-start, gain-end, gain-turn, but-start, but-end, but-past, but-turn}
 
@@ -37,10 +37,9 @@ module _ (m : ℕ) (end other rank : List ℕ) (plan room : List Bool) (e b d : 
     sym (but-turn m end other rank plan room e b d apart f l q) ∙ b′,
   )
 
-  -- the edges of other nodes up to the next one of node e change nothing
-  pub held-on : (all apart from f : ℕ) → First m end from e f → from ≤ m → Held all apart from → Held all apart f
-  held-on all apart from f F h = past-others m end from e f (Held all apart) h F
-      (λ g l n. held-past all apart g l (gainable-other end other plan room e g n))
+  -- an edge of another node changes nothing
+  pub held-others : (all apart : ℕ) → Passed m end e (Held all apart)
+  held-others all apart f l n = held-past all apart f l (gainable-other end other plan room e f n)
 
   -- by equal rates
   pub held-as : (f : ℕ) {all apart all′ apart′ : ℕ} → all′ ≡ all → apart′ ≡ apart → Held all apart f → Held all′ apart′ f

@@ -17,6 +17,9 @@ ghost use Rattle.rival_tables.specs.Cheapest.{offer};
 ghost use Rattle.rival_gains.specs.Gains.{gainPrice, gainPriceBut};
 use limits::ENTRY_LIMIT;
 
+// a number that is no node's
+const NO_NODE: u8 = 32;
+
 // One more edge is offered to a row, in the columns of other nodes than its own, d; its rate is p.
 pub fn parted(row: &mut [u8; 64], po: &[u8; 64], d: u8, p: u8)
     requires { ⌜ length (now row) ≡ 64 ⌝ }
@@ -96,8 +99,15 @@ pub fn apart(
     o
 }
 
-// The least rate for an edge of the plan at node e with rank b, no node shut out; 6 if there is none.
-pub fn gain(
+// The least rates for one edge of the plan: of all edges that may be gained at its node, 6 if there is none, and of those whose other node is not the
+// plan's edge's own, 3 if there is none.
+pub struct LeastRates {
+    pub all: u8,
+    pub apart: u8,
+}
+
+// Both by one walk along the edges of node e; b is the rank there of the plan's edge, d its other node, or a number that is no node's.
+pub fn least_rates(
     m: usize,
     other: &[u8; ENTRY_LIMIT],
     rank: &[u8; ENTRY_LIMIT],
@@ -107,27 +117,35 @@ pub fn gain(
     next: &[u16; ENTRY_LIMIT],
     e: u8,
     b: u8,
-) -> u8
+    d: u8,
+) -> LeastRates
     requires { ⌜ (m ≤ entryLimit) × Low m (now other) nodeLimit × ((end : List ℕ) × Linked m end (now head) (now next)) × (e < 32) ⌝ }
     ensures { λ r. ⌜ ((end : List ℕ) → Linked m end (now (head .entry)) (now (next .entry))
-        → r ≡ gainPrice m end (now (other .entry)) (now (rank .entry)) (now (plan .entry)) (now (room .entry)) 6 e b) ⌝ }
+        → (r .all ≡ gainPrice m end (now (other .entry)) (now (rank .entry)) (now (plan .entry)) (now (room .entry)) 6 e b)
+        × (r .apart ≡ gainPriceBut m end (now (other .entry)) (now (rank .entry)) (now (plan .entry)) (now (room .entry)) 3 e b d)) ⌝ }
 {
-    let mut o = 6;
+    let mut all = 6;
+    let mut apart = 3;
     let u = e as usize;
     let mut f = head[u] as usize;
     while f < m {
-        let v = other[f] as usize;
+        let o = other[f];
+        let v = o as usize;
         let ok = !plan[f] & room[v];
         if ok {
             let p = vote_ranks::rated(b, rank[f]);
-            o = rival_tables::lesser(p, o);
+            all = rival_tables::lesser(p, all);
+            apart = rival_tables::offered(!(o == d), p, apart);
         }
         f = next[f] as usize;
     }
-    o
+    LeastRates {
+        all: all,
+        apart: apart,
+    }
 }
 
-// The same for all edges of the plan.
+// The least rates for all edges of the plan, no node shut out; 6 if there is none.
 pub fn gains(
     m: usize,
     other: &[u8; ENTRY_LIMIT],
@@ -152,53 +170,20 @@ pub fn gains(
     }
     let mut i = 0;
     while i < n {
-        o[i] = gain(m, other, rank, plan, room, head, next, pe[i], pr[i]);
+        let r = least_rates(
+            m,
+            other,
+            rank,
+            plan,
+            room,
+            head,
+            next,
+            pe[i],
+            pr[i],
+            NO_NODE,
+        );
+        o[i] = r.all;
         i += 1;
     }
     o
-}
-
-// The least rates for one edge of the plan: of all edges that may be gained at its node, 6 if there is none, and of those whose other node is not the
-// plan's edge's own, 3 if there is none.
-pub struct LeastRates {
-    pub all: u8,
-    pub apart: u8,
-}
-
-// Both by one walk along the edges of node e; b is the rank there of the plan's edge, d its other node.
-pub fn least_rates(
-    m: usize,
-    end: &[u8; ENTRY_LIMIT],
-    other: &[u8; ENTRY_LIMIT],
-    rank: &[u8; ENTRY_LIMIT],
-    plan: &[bool; ENTRY_LIMIT],
-    room: &[bool; 32],
-    head: &[u16; 32],
-    next: &[u16; ENTRY_LIMIT],
-    e: u8,
-    b: u8,
-    d: u8,
-) -> LeastRates
-    requires { ⌜ (m ≤ entryLimit) × Low m (now other) nodeLimit × Linked m (now end) (now head) (now next) × (e < 32) ⌝ }
-    ensures { λ r. ⌜ (r .all ≡ gainPrice m (now (end .entry)) (now (other .entry)) (now (rank .entry)) (now (plan .entry)) (now (room .entry)) 6 e b)
-        × (r .apart ≡ gainPriceBut m (now (end .entry)) (now (other .entry)) (now (rank .entry)) (now (plan .entry)) (now (room .entry)) 3 e b d) ⌝ }
-{
-    let mut all = 6;
-    let mut apart = 3;
-    let u = e as usize;
-    let mut f = head[u] as usize;
-    while f < m {
-        let o = other[f];
-        let v = o as usize;
-        if !plan[f] & room[v] {
-            let p = vote_ranks::rated(b, rank[f]);
-            all = rival_tables::lesser(p, all);
-            apart = rival_tables::offered(!(o == d), p, apart);
-        }
-        f = next[f] as usize;
-    }
-    LeastRates {
-        all: all,
-        apart: apart,
-    }
 }

@@ -80,8 +80,8 @@ fn alone_price(
 {
     let s = sv[e];
     let t = st[e];
-    let a = rival_gains::least_rates(m, sv, st, rs, plan, ft, hs, ls, s, rs[e], t);
-    let b = rival_gains::least_rates(m, st, sv, rt, plan, fs, ht, lt, t, rt[e], s);
+    let a = rival_gains::least_rates(m, st, rs, plan, ft, hs, ls, s, rs[e], t);
+    let b = rival_gains::least_rates(m, sv, rt, plan, fs, ht, lt, t, rt[e], s);
     let apart = rival_tables::lesser(a.apart, b.apart);
     rival_tables::lesser(apart + 3, a.all + b.all)
 }

@@ -59,6 +59,12 @@ some-rival true r e = refl
 some-rival false true e = refl
 some-rival false false e = absurd (subst T e tt)
 
+-- it says whether the verdict is strong
+told-strong : (b r : Bool) → not (b || r) ≡ isStrong (verdictFor b r)
+told-strong true r = refl
+told-strong false true = refl
+told-strong false false = refl
+
 module _ (g : Instance) (L : Loaded g) (plan : List Bool) (M : Plan) (S : Shows (shownBy g) plan M) where
   abbrev G : model.Instance
   G = shownBy g
@@ -81,6 +87,10 @@ module _ (g : Instance) (L : Loaded g) (plan : List Bool) (M : Plan) (S : Shows 
         fun-ext
         (shown-rival (g .m) (g .ns) (g .nt) (g .sv) (g .st) (g .«rank_s») (g .«rank_t») (g .sh) (g .tied) (g .«quota_s») (g .«quota_t») plan v rival R G
         refl M (S .1))
+
+    -- strong by the test is strong by the votes
+    pub strong-is : (b r : Bool) → v ≡ verdictFor b r → not (b || r) ≡ isStrong (verdictOf G M)
+    strong-is b r e = told-strong b r ∙ ap isStrong (sym e ∙ is-verdict)
 
     -- ---- strong
     pub strong-weighed : (out : List ℕ) → v ≡ verdict.strong → WeighedBy G M out Strong out

@@ -4,7 +4,7 @@ ghost use lib.ListN.{length};
 ghost use mathlib.Core.Path.{_≡_};
 ghost use mathlib.Core.Bool.{cond};
 ghost use Rattle.model.specs.Limits.{planSize, pairingSize};
-ghost use Rattle.model.specs.Plans.{Plan};
+ghost use Rattle.model.specs.Plans.{Plan, verdictOf, isStrong};
 ghost use Rattle.theory_instance.specs.Lawful.{Matching};
 ghost use Rattle.arrays.specs.ArrayInstance.{flag};
 ghost use Rattle.instance.specs.Decoded.{shownBy};
@@ -46,7 +46,7 @@ pub(crate) fn voted(
     let rs = g.rank_s;
     let rt = g.rank_t;
     let re = listed.edges;
-    plan_writer::write_plan(g.m, &sv, &st, &sh, rival, &mut *out);
+    plan_writer::write_plan(listed.n, &re, &sv, &st, &sh, &mut *out);
     let both = vote_plans::plan_votes(
         g.m,
         g.ns,
@@ -114,6 +114,21 @@ pub fn weighed(
         rival: rival,
         listed: listed,
     }
+}
+
+// Whether a plan within the quotas is strong, for a caller who asks for no rival.
+pub fn is_strong(g: Instance, plan: &[bool; ENTRY_LIMIT], n: usize, es: &[u16; 64]) -> bool
+    requires { ⌜ Loaded g × ((M : Plan) × Shows (shownBy g) (now plan) M) × edges.Listed (g .m) (now plan) n (now es) ⌝ }
+    ensures { λ r. ⌜ ((M : Plan) → Shows (shownBy g) (now (plan .entry)) M → r ≡ isStrong (verdictOf (shownBy g) M)) ⌝ }
+{
+    let sv = g.sv;
+    let st = g.st;
+    let rs = g.rank_s;
+    let rt = g.rank_t;
+    let bs = g.quota_s;
+    let bt = g.quota_t;
+    let j = rival_verdict::judge(g.m, &sv, &st, &rs, &rt, &bs, &bt, plan, n, es);
+    !(j.beaten | j.rivalled)
 }
 
 // The verdict alone, for the finder.

@@ -35,7 +35,7 @@ module _ (r : Roster) (ok : T (fits r)) (M N : ℕ → Bool) (pM : Matching (ins
 -- ---- the arrays
 module _ (g : Instance) (L : Loaded g) where
   -- the arrays of an accepted roster and two plans within its quotas, with the lists of their edges, are what the pairings ask for
-  pub both-asked : {p q : List Bool} {pn qn : ℕ} {pe qe : List ℕ} → Matching (shownBy g) (flag p) → Matching (shownBy g) (flag q)
+  unfoldable pub both-asked : {p q : List Bool} {pn qn : ℕ} {pe qe : List ℕ} → Matching (shownBy g) (flag p) → Matching (shownBy g) (flag q)
       → Listed (g .m) p pn pe → Listed (g .m) q qn qe
       → BothAsked (g .ns) (g .nt) (g .sv) (g .st) (g .«rank_s») (g .«rank_t») (g .«quota_s») (g .«quota_t») p pn pe q qn qe
   unfolding deg

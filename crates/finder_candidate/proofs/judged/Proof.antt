@@ -21,9 +21,12 @@ list-edges-requires c κs =
 
 write-plan-requires : tie.Need-write-plan-requires
 write-plan-requires c κs =
-    let b = c .before .before .before .before .before .before .before .before .before .before .before in
+    let l = c .before .before .before .before .before .before in
+    let b = l .before .before .before .before .before in
+    let a = b .args in
     let L = b .pre .0 in
-    (L .edges, (λ e h. L .low-sv e), (λ e h. L .low-st e), few-edges (b .args .g) L (b .args .fixed .now) (b .pre .1), b .pre .2)
+    let W = record { edges = L .edges; low-sv = λ e h. L .low-sv e; low-st = λ e h. L .low-st e; list = l .list-edges .ensures } in
+    ((a .g .m, a .fixed .now, W), b .pre .2)
 
 weigh-requires : tie.Need-weigh-requires
 weigh-requires c κs =

@@ -14,7 +14,6 @@ write-pairs-requires c κs =
       L .edges,
       (λ e h. L .low-sv e),
       (λ e h. L .low-st e),
-      omega arith,
       left-room (b .args .g .m) (b .args .rem .now) (b .args .left .now) (L .edges) (b .pre .2),
     )
 

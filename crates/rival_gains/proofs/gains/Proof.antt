@@ -34,8 +34,8 @@ returns c =
 loop-holds : tie.Need-loop-holds Inv-loop μ-loop
 loop-holds c = (zero-le, refl, λ end L i h. absurd (not-suc-le-zero h))
 
-gain-requires : tie.Need-gain-requires Inv-loop μ-loop
-gain-requires c κs =
+least-rates-requires : tie.Need-least-rates-requires Inv-loop μ-loop
+least-rates-requires c κs =
     let l = c .before .before .before in
     let s = l .before .before .before in
     (s .pre .0, s .pre .1, s .pre .2, s .pre .4 (l .loop .i) (c .before .before .loop-test .taken))
@@ -48,7 +48,7 @@ loop-again c =
       simp length-set (l .loop .inv .1),
       λ end L. made-set 0 (l .loop .o)
           (λ i. gainPrice (a .m) end (a .other .now) (a .rank .now) (a .plan .now) (a .room .now) 6 (at (a .pe .now) i) (at (a .pr .now) i))
-          (l .loop .i) (c .gain .result) (omega arith) (c .gain .ensures end L) (l .loop .inv .2 end L),
+          (l .loop .i) (c .least-rates .result .all) (omega arith) (c .least-rates .ensures end L .0) (l .loop .inv .2 end L),
     )
 
 returns-2 : tie.Need-returns-2 Inv-loop μ-loop
@@ -56,5 +56,5 @@ returns-2 c = λ end L i h. c .before .loop .inv .2 end L i (omega arith)
 
 pub gains-spec : {M : Type 1} → statement M
 gains-spec =
-    tie.close (tie.spec Inv-loop μ-loop (λ c κs. search needs) returns loop-holds (λ c. search needs) (λ c. search needs) gain-requires (λ c. search needs)
+    tie.close (tie.spec Inv-loop μ-loop (λ c κs. search needs) returns loop-holds (λ c. search needs) (λ c. search needs) least-rates-requires (λ c. search needs)
     (λ c. search needs) (λ c. search needs) loop-again returns-2)

@@ -21,6 +21,7 @@ plan-pairings-requires c κs =
     )
 
 returns : tie.Need-returns
+unfolding both-asked
 returns c =
     let paired = c .before .before in
     let there = paired .before .before .before .before .before .before .before .before .before .before .before .before .before .before .before .before in
