@@ -51,7 +51,7 @@ pub fn carried(g: Instance, plan: &[bool; ENTRY_LIMIT], number: u8) -> CarriedPl
     let es = l.edges;
     plan_writer::write_plan(l.n, &es, &sv, &st, &sh, &mut bytes);
     CarriedPlan {
-        len: l.n * PAIR_WIDTH + 1,
+        len: bytes[0] as usize * PAIR_WIDTH + 1,
         bytes: bytes,
     }
 }

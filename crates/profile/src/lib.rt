@@ -12,7 +12,6 @@ ghost use Rattle.offers.specs.Running.{Ready};
 ghost use Rattle.profile.specs.Weighed.{Gives};
 ghost use Rattle.profile.specs.Profiles.{Settles, Profiles};
 use answers::FileAnswer;
-use answers::Found;
 use answers::Offers;
 use instance::Instance;
 use limits::ENTRY_LIMIT;
@@ -64,21 +63,20 @@ pub(crate) fn one_to_one(g: Instance) -> bool
     (s & t) & plain
 }
 
-// The plan of the offers, written and weighed: its bytes, and whether it is strong. The verdict is the finder's on its candidate; the rival that it
-// finds is not asked for.
+// The plan of the offers: its bytes, and whether it is strong. A rival is not asked for.
 pub(crate) fn offered(g: Instance, out: &mut [u8]) -> Offers
     requires { ⌜ Ready g × (planSize ≤ length (now out)) ⌝ }
     ensures { λ r. ⌜ Gives g (now (out .entry)) r (now (out .exit)) ⌝ }
 {
     let plan = offers::offers(g);
-    let mut rival = [0u8; PLAN_SIZE];
-    let f = finder_candidate::judged(g, &plan, 0, &mut *out, &mut rival);
-    let n = PAIR_WIDTH * (out[0] as usize) + 1;
-    match f {
-        Found::Plan(_) => Offers::Plan(true, n),
-        Found::None(_, _) => Offers::Plan(false, n),
-        Found::Refused(number, group) => Offers::Refused(number, group),
-    }
+    let sv = g.sv;
+    let st = g.st;
+    let sh = g.sh;
+    let l = plan_lookup::list_edges(g.m, &plan);
+    let es = l.edges;
+    plan_writer::write_plan(l.n, &es, &sv, &st, &sh, out);
+    let strong = verdict::is_strong(g, &plan, l.n, &es);
+    Offers::Plan(strong, PAIR_WIDTH * l.n + 1)
 }
 
 // An accepted roster: 22, or the plan of the offers.

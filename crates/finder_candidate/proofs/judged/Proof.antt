@@ -9,9 +9,12 @@ use Rattle.finder_candidate.specs.Judging.{answerOn, wrote-judged, few-e
 use Rattle.finder_candidate.proofs.judged.Statement.{statement}
 use Rattle.finder_candidate.proofs.judged.Tie as tie
 
--- the start, from the candidate written
+-- the candidate's edges listed, and the start, from the candidate written
+abbrev after-list : tie.After-write-plan → tie.After-list-edges
+after-list p = p .before .before .before .before .before .before .before .before
+
 abbrev start : tie.After-write-plan → tie.Start
-start p = p .before .before .before .before .before .before .before .before .before .before .before .before
+start p = after-list p .before .before .before .before .before
 
 list-edges-requires : tie.Need-list-edges-requires
 list-edges-requires c κs =
@@ -21,18 +24,17 @@ list-edges-requires c κs =
 
 write-plan-requires : tie.Need-write-plan-requires
 write-plan-requires c κs =
-    let l = c .before .before .before .before .before .before in
+    let l = c .before .before .before .before .before .before .before in
     let b = l .before .before .before .before .before in
     let a = b .args in
     let L = b .pre .0 in
-    let W = record { edges = L .edges; low-sv = λ e h. L .low-sv e; low-st = λ e h. L .low-st e; list = l .list-edges .ensures } in
-    ((a .g .m, a .fixed .now, W), b .pre .2)
+    ((a .g .m, a .fixed .now, record { edges = L .edges; low-sv = λ e h. L .low-sv e; low-st = λ e h. L .low-st e; list = l .list-edges .ensures }), b .pre .2)
 
 weigh-requires : tie.Need-weigh-requires
 weigh-requires c κs =
-    let b = c .before .before .before .before .before .before .before .before .before .before .before .before .before .before .before .before in
-    let l = c .before .before .before .before .before .before .before .before .before .before .before .list-edges .ensures in
-    (b .pre .0, b .pre .1, l, b .pre .3)
+    let p = c .before .before .before .before in
+    let b = start p in
+    (b .pre .0, b .pre .1, after-list p .list-edges .ensures, b .pre .3)
 
 returns : tie.Need-returns
 returns c =
@@ -41,7 +43,7 @@ returns c =
     let a = b .args in
     let w = c .before .before .before .before .weigh in
     λ M S l. wrote-judged _ M (a .steps) l (a .plan .now) (a .rival .now) _ _ (w .result) (w .ensures M S)
-    (plan-onto (a .g) (a .fixed .now) (a .plan .now) _ (p .write-plan .ensures) M (S .1))
+    (plan-onto (a .g) (a .fixed .now) (a .plan .now) _ (p .write-plan .ensures (a .g .m) (a .fixed .now) (after-list p .list-edges .ensures)) M (S .1))
     (ap (answerOn (a .steps)) (sym (c .enum-told .given .1)))
 
 returns-2 : tie.Need-returns-2
@@ -51,7 +53,7 @@ returns-2 c =
     let a = b .args in
     let w = c .before .before .before .before .before .weigh in
     λ M S l. wrote-judged _ M (a .steps) l (a .plan .now) (a .rival .now) _ _ (w .result) (w .ensures M S)
-    (plan-onto (a .g) (a .fixed .now) (a .plan .now) _ (p .write-plan .ensures) M (S .1))
+    (plan-onto (a .g) (a .fixed .now) (a .plan .now) _ (p .write-plan .ensures (a .g .m) (a .fixed .now) (after-list p .list-edges .ensures)) M (S .1))
     (ap (λ z. says.None (a .steps) (kind.Rivalled z)) (toZ-ofZ w16 (c .before .w .given .0 .0) (sfits-of (c .known-told .given .0 .1)))
     ∙ ap (answerOn (a .steps)) (sym (c .before .w .given .1)))
 
@@ -62,7 +64,7 @@ returns-3 c =
     let a = b .args in
     let w = c .before .before .before .before .before .weigh in
     λ M S l. wrote-judged _ M (a .steps) l (a .plan .now) (a .rival .now) _ _ (w .result) (w .ensures M S)
-    (plan-onto (a .g) (a .fixed .now) (a .plan .now) _ (p .write-plan .ensures) M (S .1))
+    (plan-onto (a .g) (a .fixed .now) (a .plan .now) _ (p .write-plan .ensures (a .g .m) (a .fixed .now) (after-list p .list-edges .ensures)) M (S .1))
     (ap (λ z. says.None (a .steps) (kind.Rivalled z)) (toZ-ofZ w16 (c .before .w2 .given .0 .0) (sfits-of (c .known-told2 .given .0 .1)))
     ∙ ap (answerOn (a .steps)) (sym (c .before .w2 .given .1)))
 
@@ -73,7 +75,7 @@ returns-4 c =
     let a = b .args in
     let w = c .before .before .before .before .before .weigh in
     λ M S l. wrote-judged _ M (a .steps) l (a .plan .now) (a .rival .now) _ _ (w .result) (w .ensures M S)
-    (plan-onto (a .g) (a .fixed .now) (a .plan .now) _ (p .write-plan .ensures) M (S .1))
+    (plan-onto (a .g) (a .fixed .now) (a .plan .now) _ (p .write-plan .ensures (a .g .m) (a .fixed .now) (after-list p .list-edges .ensures)) M (S .1))
     (ap (answerOn (a .steps)) (sym (c .before .w3 .given .1)))
 
 pub judged-spec : {M : Type 1} → statement M
