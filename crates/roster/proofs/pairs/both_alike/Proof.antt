@@ -45,5 +45,5 @@ returns-2 c =
 
 pub both-alike-spec : {M : Type 1} → statement M
 both-alike-spec =
-    tie.close (tie.spec Inv-loop μ-loop loop-holds (λ c. search needs) (λ c. search needs) (λ c κs. search needs) returns (λ c. omega arith)
+    tie.close (tie.spec Inv-loop μ-loop loop-holds (λ c. search needs) (λ c κs. search needs) returns (λ c. omega arith)
     loop-again returns-2)

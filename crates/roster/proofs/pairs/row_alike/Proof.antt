@@ -21,7 +21,7 @@ loop-holds c = (le-refl _, refl)
 returns : tie.Need-returns Inv-loop μ-loop
 returns c =
     let l = c .before .before .before in
-    let a = l .before .args in
+    let a = l .before .before .before .args in
     sym
     (l .loop .inv .1
     ∙ row-unlike (a .surveyors .now) (a .stands .now) (a .i) (l .loop .j) (c .before .before .loop-test .taken)
@@ -30,7 +30,7 @@ returns c =
 loop-again : tie.Need-loop-again Inv-loop μ-loop
 loop-again c =
     let l = c .before .before .before in
-    let a = l .before .args in (
+    let a = l .before .before .before .args in (
       omega arith,
       l .loop .inv .1
           ∙ row-like (a .surveyors .now) (a .stands .now) (a .i) (l .loop .j) (c .before .before .loop-test .taken)
@@ -40,10 +40,22 @@ loop-again c =
 returns-2 : tie.Need-returns-2 Inv-loop μ-loop
 returns-2 c =
     let l = c .before in
-    let a = l .before .args in
+    let a = l .before .before .before .args in
     sym (l .loop .inv .1 ∙ row-end (a .surveyors .now) (a .stands .now) (a .i) (l .loop .j) (c .loop-test .left))
+
+-- where both marks begin is inside the tables
+three-alike-requires : tie.Need-three-alike-requires Inv-loop μ-loop
+three-alike-requires c κs =
+    let t = c in
+    let l = t .before in
+    let s = l .before .before .before in (
+      omega (arith, t .loop-test .taken, l .loop .inv .0, s .pre .0, s .pre .1),
+      omega (arith, t .loop-test .taken, l .loop .inv .0, s .pre .0, s .pre .1),
+      s .pre .2,
+      s .pre .3,
+    )
 
 pub row-alike-spec : {M : Type 1} → statement M
 row-alike-spec =
     tie.close (tie.spec Inv-loop μ-loop loop-holds (λ c. search needs) (λ c. search needs) (λ c. search needs) (λ c. search needs)
-    (λ c. search needs) (λ c κs. search needs) returns (λ c. omega arith) loop-again returns-2)
+    (λ c. search needs) (λ c. search needs) (λ c. search needs) three-alike-requires returns (λ c. omega arith) loop-again returns-2)
