@@ -172,15 +172,15 @@ abbrev pub Counts : (m : ℕ) (table : List ℕ) (v : ℕ) (q : ℕ → Bool) (k
 Counts m table v q k e c = (end : List ℕ) → Listed m end table → Counted m end table v q k e c
 
 -- so the places that it reads are in the table, the first one and the next one
-module _ {m : ℕ} {table : List ℕ} {v : ℕ} (w : v < nodeLimit) (s : Shelved m table) where
+module _ {m : ℕ} {table : List ℕ} {v : ℕ} (p : (v < nodeLimit) × Shelved m table) where
   pub first-read : (begin table v < tableSize) × (at table (begin table v) ≤ m) × (m ≤ entryLimit)
-  first-read = first-place (s .1) w
+  first-read = first-place (p .1 .1) (p .0)
 
   pub next-walked : {q : ℕ → Bool} {k e : ℕ} → Walks m table v q k e → e < m → Next m table k e
-  next-walked {q} {k} {e} W l = next-place (s .1) w k e l (W (s .0) (s .1) .at-edge)
+  next-walked {q} {k} {e} W l = next-place (p .1 .1) (p .0) k e l (W (p .1 .0) (p .1 .1) .at-edge)
 
   pub next-counted : {q : ℕ → Bool} {k e c : ℕ} → Counts m table v q k e c → e < m → Next m table k e
-  next-counted {q} {k} {e} W l = next-place (s .1) w k e l (W (s .0) (s .1) .at-edge)
+  next-counted {q} {k} {e} W l = next-place (p .1 .1) (p .0) k e l (W (p .1 .0) (p .1 .1) .at-edge)
 
   pub few-counted : {q : ℕ → Bool} {k e c : ℕ} → Counts m table v q k e c → (c ≤ e) × (boolByte (q e) ≤ 1)
-  few-counted W = count-small (W (s .0) (s .1))
+  few-counted W = count-small (W (p .1 .0) (p .1 .1))

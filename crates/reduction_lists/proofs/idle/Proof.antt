@@ -21,7 +21,7 @@ turn c = c .before .before .before .before .before .before
 
 next : (c : tie.In-loop Inv-loop μ-loop) → let s = c .before .before .before .before .args in
     Next (s .m) (s .table .now) (c .before .loop .k) (c .before .loop .e)
-next c = let p = c .before .before .before .before .pre in next-walked (p .0) (p .1) (c .before .loop .inv) (c .loop-test .taken)
+next c = let p = c .before .before .before .before .pre in next-walked (p .0, p .1) (c .before .loop .inv) (c .loop-test .taken)
 
 across : (c : tie.In-loop Inv-loop μ-loop) → at (c .before .before .before .before .args .other .now) (c .before .loop .e) < nodeLimit
 across c = c .before .before .before .before .pre .2 (c .before .loop .e) (c .loop-test .taken)
@@ -37,9 +37,9 @@ loop-again c = let t = turn (c .before) in
 pub idle-spec : {M : Type 1} → statement M
 idle-spec =
     tie.close (tie.spec Inv-loop μ-loop (λ c. omega (arith, c .pre .0)) (λ c. omega (arith, c .pre .0)) (λ c. omega (arith, c .pre .0))
-    (λ c. omega (arith, first-read (c .before .pre .0) (c .before .pre .1))) (λ c. omega (arith, first-read (c .before .pre .0) (c .before .pre .1)))
-    (λ c. omega (arith, first-read (c .before .pre .0) (c .before .pre .1)))
-    (λ c. omega (arith, first-read (c .before .before .pre .0) (c .before .before .pre .1))) (λ c end L. walk-starts L (c .before .before .pre .0))
+    (λ c. omega (arith, first-read (c .before .pre .0, c .before .pre .1))) (λ c. omega (arith, first-read (c .before .pre .0, c .before .pre .1)))
+    (λ c. omega (arith, first-read (c .before .pre .0, c .before .pre .1)))
+    (λ c. omega (arith, first-read (c .before .before .pre .0, c .before .before .pre .1))) (λ c end L. walk-starts L (c .before .before .pre .0))
     (λ c. search needs) (λ c. omega (arith, across (c .before))) (λ c. search needs) (λ c. omega (arith, across (c .before .before))) (λ c. search needs)
     (λ c. search needs) returns (λ c. omega (arith, next (turn c))) (λ c. omega (arith, next (turn c))) (λ c. omega (arith, next (turn c)))
     (λ c. omega (arith, next (turn (c .before)))) (λ c. omega (arith, next (turn (c .before)))) loop-again

@@ -21,13 +21,13 @@ turn c = c .before .before .before .before
 
 next : (c : tie.In-loop Inv-loop μ-loop) → let s = c .before .before .before .before .args in
     Next (s .m) (s .table .now) (c .before .loop .k) (c .before .loop .e)
-next c = let p = c .before .before .before .before .pre in next-counted (p .0) (p .1) (c .before .loop .inv) (c .loop-test .taken)
+next c = let p = c .before .before .before .before .pre in next-counted (p .0, p .1) (c .before .loop .inv) (c .loop-test .taken)
 
 across : (c : tie.In-loop Inv-loop μ-loop) → at (c .before .before .before .before .args .other .now) (c .before .loop .e) < nodeLimit
 across c = c .before .before .before .before .pre .2 (c .before .loop .e) (c .loop-test .taken)
 
 add-c : tie.Need-add-c Inv-loop μ-loop
-add-c c = let t = turn c in let p = t .before .before .before .before .pre in omega (arith, next t, few-counted (p .0) (p .1) (t .before .loop .inv))
+add-c c = let t = turn c in let p = t .before .before .before .before .pre in omega (arith, next t, few-counted (p .0, p .1) (t .before .loop .inv))
 
 loop-again : tie.Need-loop-again Inv-loop μ-loop
 loop-again c = let t = turn (c .before) in
@@ -36,9 +36,9 @@ loop-again c = let t = turn (c .before) in
 pub size-spec : {M : Type 1} → statement M
 size-spec =
     tie.close (tie.spec Inv-loop μ-loop (λ c. omega (arith, c .pre .0)) (λ c. omega (arith, c .pre .0)) (λ c. omega (arith, c .pre .0))
-    (λ c. omega (arith, first-read (c .before .pre .0) (c .before .pre .1))) (λ c. omega (arith, first-read (c .before .pre .0) (c .before .pre .1)))
-    (λ c. omega (arith, first-read (c .before .pre .0) (c .before .pre .1)))
-    (λ c. omega (arith, first-read (c .before .before .pre .0) (c .before .before .pre .1))) (λ c end L. count-starts L (c .before .before .pre .0))
+    (λ c. omega (arith, first-read (c .before .pre .0, c .before .pre .1))) (λ c. omega (arith, first-read (c .before .pre .0, c .before .pre .1)))
+    (λ c. omega (arith, first-read (c .before .pre .0, c .before .pre .1)))
+    (λ c. omega (arith, first-read (c .before .before .pre .0, c .before .before .pre .1))) (λ c end L. count-starts L (c .before .before .pre .0))
     (λ c. search needs) (λ c. omega (arith, across (c .before))) (λ c. search needs) (λ c. omega (arith, across (c .before .before))) (λ c. search needs)
     (λ c. search needs) add-c (λ c. omega (arith, next (turn c))) (λ c. omega (arith, next (turn c))) (λ c. omega (arith, next (turn c)))
     (λ c. omega (arith, next (turn (c .before)))) (λ c. omega (arith, next (turn (c .before)))) loop-again

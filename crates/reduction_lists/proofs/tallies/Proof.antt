@@ -16,14 +16,13 @@ abbrev μ-loop : tie.MeasureT-loop
 -- the next place of the list
 next : (c : tie.In-loop Inv-loop μ-loop) → let s = c .before .before .before .before .args in
     Next (s .m) (s .table .now) (c .before .loop .k) (c .before .loop .e)
-next c = let p = c .before .before .before .before .pre in next-counted (p .0) (p .1) (c .before .loop .inv .0) (c .loop-test .taken)
+next c = next-counted (c .before .before .before .before .pre) (c .before .loop .inv .0) (c .loop-test .taken)
 
 add-c : tie.Need-add-c Inv-loop μ-loop
-add-c c = let t = c .before in let p = t .before .before .before .before .pre in omega (arith, next t, few-counted (p .0) (p .1) (t .before .loop .inv .0))
+add-c c = let t = c .before in omega (arith, next t, few-counted (t .before .before .before .before .pre) (t .before .loop .inv .0))
 
 add-d : tie.Need-add-d Inv-loop μ-loop
-add-d c = let t = c .before .before in let p = t .before .before .before .before .pre in
-    omega (arith, next t, few-counted (p .0) (p .1) (t .before .loop .inv .1))
+add-d c = let t = c .before .before in omega (arith, next t, few-counted (t .before .before .before .before .pre) (t .before .loop .inv .1))
 
 loop-again : tie.Need-loop-again Inv-loop μ-loop
 loop-again c = let t = c .before .before .before in let w = t .before .before .before .before .pre .0 in let l = t .before .loop .inv in
@@ -36,9 +35,8 @@ returns c = let l = c .before .loop .inv in
 pub tallies-spec : {M : Type 1} → statement M
 tallies-spec =
     tie.close (tie.spec Inv-loop μ-loop (λ c. omega (arith, c .pre .0)) (λ c. omega (arith, c .pre .0)) (λ c. omega (arith, c .pre .0))
-    (λ c. omega (arith, first-read (c .before .pre .0) (c .before .pre .1))) (λ c. omega (arith, first-read (c .before .pre .0) (c .before .pre .1)))
-    (λ c. omega (arith, first-read (c .before .pre .0) (c .before .pre .1)))
-    (λ c. omega (arith, first-read (c .before .before .pre .0) (c .before .before .pre .1)))
+    (λ c. omega (arith, first-read (c .before .pre))) (λ c. omega (arith, first-read (c .before .pre))) (λ c. omega (arith, first-read (c .before .pre)))
+    (λ c. omega (arith, first-read (c .before .before .pre)))
     (λ c. let w = c .before .before .pre .0 in (λ end L. count-starts L w, λ end L. count-starts L w)) (λ c. search needs) (λ c. search needs) add-c
     (λ c. search needs) (λ c. search needs) add-d (λ c. omega (arith, next (c .before .before))) (λ c. omega (arith, next (c .before .before)))
     (λ c. omega (arith, next (c .before .before))) (λ c. omega (arith, next (c .before .before .before)))
