@@ -39,15 +39,6 @@ node c =
     let l = c .before .loop in
     (p .3 (l .i) (c .loop-test .taken), c .loop-test .taken, p .2, l .inv .1)
 
-element-copy-out-v : tie.Need-element-copy-out-v Inv-loop μ-loop
-element-copy-out-v c = omega (arith, node c)
-
-cast-v : tie.Need-cast-v Inv-loop μ-loop
-cast-v c = omega (arith, node (c .before))
-
-both-requires : tie.Need-both-requires Inv-loop μ-loop
-both-requires c κs = (node (c .before) .0, c .before .before .before .pre .0)
-
 cast-x : tie.Need-cast-x Inv-loop μ-loop
 cast-x c =
     let s = c .before .before .before .before in
@@ -59,15 +50,6 @@ cast-x c =
       c .both .ensures (E .0) (E .1),
       low-is (atNode (E .0) (at (a .turned .now) (c .before .before .before .loop .i)) (λ d. flag (a .fs .now) d && flag (a .ft .now) d)) (a .m) .0,
     )
-
-mul-x : tie.Need-mul-x Inv-loop μ-loop
-mul-x c = omega (arith, node (c .before .before))
-
-element-write-x : tie.Need-element-write-x Inv-loop μ-loop
-element-write-x c = omega (arith, node (c .before .before))
-
-add-i : tie.Need-add-i Inv-loop μ-loop
-add-i c = omega (arith, node (c .before .before))
 
 loop-again : tie.Need-loop-again Inv-loop μ-loop
 loop-again c =
@@ -94,5 +76,6 @@ returns c =
 
 pub first-renewed-spec : {M : Type 1} → statement M
 first-renewed-spec =
-    tie.close (tie.spec Inv-loop μ-loop loop-holds element-copy-out-v cast-v both-requires cast-x mul-x element-write-x add-i
-    (λ c. search needs) loop-again returns)
+    tie.close (tie.spec Inv-loop μ-loop loop-holds (λ c. omega (arith, node c)) (λ c. omega (arith, node (c .before)))
+    (λ c κs. (node (c .before) .0, c .before .before .before .pre .0)) cast-x (λ c. omega (arith, node (c .before .before)))
+    (λ c. omega (arith, node (c .before .before))) (λ c. omega (arith, node (c .before .before))) (λ c. search needs) loop-again returns)
