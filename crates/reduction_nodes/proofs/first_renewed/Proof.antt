@@ -1,10 +1,10 @@
 -- The nodes passed are renewed.
 use mathlib.Core.Path.{_≡_, subst, _∙_}
-use Prim.Native.Nat.{ℕ, _-_, _≤_, _<_, zero-le}
+use Prim.Native.Nat.{ℕ, _-_, _≤_, zero-le}
 use native.Mathlib.Omega.{arith}
 use borrow.Author.Needs.{needs}
 use lib.ListN.{length, length-set}
-use Rattle.model.specs.Limits.{nodeLimit, emptyRank}
+use Rattle.model.specs.Limits.{nodeLimit}
 use Rattle.arrays.specs.ArrayInstance.{at}
 use Rattle.reduction_cells.specs.Painted.{among}
 use mathlib.Core.Bool.{_&&_}
@@ -14,7 +14,7 @@ use Rattle.arrays.specs.ArrayInstance.{flag}
 use Rattle.reduction_lists.specs.Listed.{Listed}
 use Rattle.reduction_lists.specs.Walks.{atNode}
 use Rattle.reduction_nodes.specs.Numbers.{firstOf}
-use Rattle.reduction_nodes.specs.Renewed.{RenewedBy, by-none, by-next}
+use Rattle.reduction_nodes.specs.Renewed.{RenewedBy, Visit, by-none, by-next}
 use Rattle.reduction_nodes.proofs.first_renewed.Statement.{statement}
 use Rattle.reduction_nodes.proofs.first_renewed.Tie as tie
 
@@ -32,8 +32,7 @@ loop-holds c =
     (zero-le, p .1, λ sv L. by-none (a .turned .now) (firstOf (a .m) sv (a .fs .now) (a .ft .now)) (a .x .now))
 
 -- a turn: its node, and room for the next
-node : (c : tie.In-loop Inv-loop μ-loop) → let a = c .before .before .args in
-    (at (a .turned .now) (c .before .loop .i) < nodeLimit) × (c .before .loop .i < a .n) × (a .n ≤ emptyRank) × (length (c .before .loop .x) ≡ nodeLimit)
+node : (c : tie.In-loop Inv-loop μ-loop) → let a = c .before .before .args in Visit (a .turned .now) (a .n) (c .before .loop .i) (c .before .loop .x)
 node c =
     let p = c .before .before .pre in
     let l = c .before .loop in

@@ -1,12 +1,12 @@
 -- The nodes passed are marked.
 use mathlib.Core.Path.{_≡_, subst}
-use Prim.Native.Nat.{_-_, _≤_, _<_, zero-le}
+use Prim.Native.Nat.{_-_, _≤_, zero-le}
 use native.Mathlib.Omega.{arith}
 use borrow.Author.Needs.{needs}
 use lib.ListN.{length, length-set}
-use Rattle.model.specs.Limits.{nodeLimit, emptyRank}
-use Rattle.arrays.specs.ArrayInstance.{at}
+use Rattle.model.specs.Limits.{nodeLimit}
 use Rattle.reduction_cells.specs.Painted.{among}
+use Rattle.reduction_nodes.specs.Renewed.{Visit}
 use Rattle.reduction_turn.specs.Onward.{Marked, marked-none, marked-next}
 use Rattle.reduction_turn.proofs.marked.Statement.{statement}
 use Rattle.reduction_turn.proofs.marked.Tie as tie
@@ -18,8 +18,7 @@ abbrev μ-loop : tie.MeasureT-loop
 μ-loop turned n old₀ i₀ old i = n - i
 
 -- a turn: its node, and room for the next
-node : (c : tie.In-loop Inv-loop μ-loop) → let a = c .before .before .args in
-    (at (a .turned .now) (c .before .loop .i) < nodeLimit) × (c .before .loop .i < a .n) × (a .n ≤ emptyRank) × (length (c .before .loop .old) ≡ nodeLimit)
+node : (c : tie.In-loop Inv-loop μ-loop) → let a = c .before .before .args in Visit (a .turned .now) (a .n) (c .before .loop .i) (c .before .loop .old)
 node c = let p = c .before .before .pre in let l = c .before .loop in (p .1 (l .i) (c .loop-test .taken), c .loop-test .taken, p .0, l .inv .1)
 
 loop-again : tie.Need-loop-again Inv-loop μ-loop
