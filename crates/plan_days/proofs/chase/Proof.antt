@@ -2,7 +2,7 @@
 -- nothing.
 use Prim.Native.Nat.{_+_, _-_, _≤_, _<_, zero-le}
 use native.Mathlib.Omega.{arith}
-use mathlib.Core.Path.{_≡_, refl, sym, ap, _∙_, subst}
+use mathlib.Core.Path.{_≡_, sym, ap, _∙_, subst}
 use Rattle.arrays.specs.ArrayInstance.{at}
 use Rattle.theory_days.specs.Chain.{Proper}
 use Rattle.plan_days.specs.Chase.{chaseIn, turns, turns-end, chase-stop, chase-half, chase-on}
