@@ -44,7 +44,8 @@ Turns A L d rem qs qt fs ft k fs′ ft′ k′ = (x : arrays.State) (r : ℕ) (f
 
 -- so it is at the edge of the step
 pub turned-at : {A : Edges} {L : NodeLists} {d : Acted} {rem : List Bool} {qs qt : List ℕ} {fs ft : List Bool} {k : Numbers}
-    {fs′ ft′ : List Bool} {k′ : Numbers} → Turns A L d rem qs qt fs ft k fs′ ft′ k′ → (x : arrays.State) (r e : ℕ) (fixed : List Bool) (ds dt : List ℕ) → Sized x
+    {fs′ ft′ : List Bool} {k′ : Numbers} → Turns A L d rem qs qt fs ft k fs′ ft′ k′
+    → (x : arrays.State) (r e : ℕ) (fixed : List Bool) (ds dt : List ℕ) → Sized x
     → whole rem fixed qs qt ds dt ≡ acted (A .sv) (A .st) x r e → d ≡ told (A .sv) (A .st) (x .qs) (x .qt) qs qt e
     → Onward A L (looks (x .rem) fs ft (x .qs) (x .qt)) k (looks rem fs′ ft′ qs qt) k′ × ShownOn A L x fs ft r e (whole rem fixed qs qt ds dt) fs′ ft′
 turned-at {A} {L} {d} {rem} {qs} {qt} {fs} {ft} {k} {fs′} {ft′} {k′} T x r e fixed ds dt z i t =
