@@ -5,13 +5,16 @@ use mathlib.Core.Path.{_≡_, refl}
 use mathlib.Core.Bool.{Bool, true, false}
 use mathlib.Core.List.{List, [], _∷_, _++_}
 use lib.ListN.{replicate}
+use lib.Dec.{eqb}
+use Rattle.lists.specs.Keep.{all?}
 use Rattle.lists.specs.Sum.{count}
 use Rattle.lists.specs.Search.{low}
 use Rattle.model.specs.Decimal.{bytes, numbersFrom}
 use Rattle.model.specs.Refusal.{groupOf, form, content, desk}
-use Rattle.model.specs.Reading.{refused, readEach}
+use Rattle.model.specs.Reading.{readEach}
 use Rattle.model.specs.Roster.{listed, listedBack, bothOrNeither}
 use Rattle.model.specs.RosterFile.{readRosterBy}
+use Rattle.model.specs.RosterCases.{refusalIn}
 use Rattle.model.specs.Edges.{position, edgesOf, instanceOf}
 use Rattle.model.specs.Instance.{deg}
 use Rattle.model.specs.Vote.{nodeVote, vote}
@@ -87,69 +90,9 @@ refusals =
     ∷ ("1 0 1 1 1 0 1 1 1 0 0 0 0", 8) ∷ ("1 0 1 1 1 0 1 1 1 1 0 1 0 1 1 0", 9) ∷ ("1 1 1 1 1 0 1 1 2 1 0 1 0 1 1", 8)
     ∷ ("1 1 1 1 1 0 1 1 1 1 0 0 1 1 1 0", 9) ∷ []
 
-pub profile-refused : Each (λ (c : String × ℕ). readProfile (bytes (c .0)) ≡ refused (c .1)) refusals
+pub profile-refused : all? (λ (c : String × ℕ). eqb (refusalIn (readProfile (bytes (c .0)))) (c .1)) refusals ≡ true
 unfolding numbersFrom listed listedBack bothOrNeither readEach readRosterBy oneToOne readProfile
-profile-refused = (
-  refl,
-  (
-    refl,
-    (
-      refl,
-      (
-        refl,
-        (
-          refl,
-          (
-            refl,
-            (
-              refl,
-              (
-                refl,
-                (
-                  refl,
-                  (
-                    refl,
-                    (
-                      refl,
-                      (
-                        refl,
-                        (
-                          refl,
-                          (
-                            refl,
-                            (
-                              refl,
-                              (
-                                refl,
-                                (
-                                  refl,
-                                  (
-                                    refl,
-                                    (
-                                      refl,
-                                      (
-                                        refl,
-                                        (refl, (refl, (refl, tt))),
-                                      ),
-                                    ),
-                                  ),
-                                ),
-                              ),
-                            ),
-                          ),
-                        ),
-                      ),
-                    ),
-                  ),
-                ),
-              ),
-            ),
-          ),
-        ),
-      ),
-    ),
-  ),
-)
+profile-refused = refl
 
 -- ---- 15 before all, with its group; a refusal leaves the buffer
 pub profile-said : (profileAnswer [] (whole 192) ≡ profile.refused 15 desk) × (profileAnswer (bytes (sample .file)) (whole 192) ≡ profile.refused 15 desk)

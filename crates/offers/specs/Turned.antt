@@ -73,15 +73,31 @@ pub record Turned (m : ℕ) (sv st rs rt : List ℕ) (o : Standing) (e : ℕ) (p
   pub same : Same o p r
 
 module _ (sv st rs : List ℕ) (o : Standing) (e : ℕ) where
-  pub first-same : Same o (keptFirst sv st rs o e) (at sv e)
+  first-same : Same o (keptFirst sv st rs o e) (at sv e)
   first-same i l = (refl, getD-set-other (o .held) (at sv e) i true false (λ q. let n : ⊥ = omega arith in n))
 
-  pub instead-same : (d r : ℕ) → r ≤ at sv e → r ≤ at sv d → Same o (keptInstead sv st rs o e d) r
+  instead-same : (d r : ℕ) → r ≤ at sv e → r ≤ at sv d → Same o (keptInstead sv st rs o e d) r
   instead-same d r h k i l = (
     getD-set-other (o .next) (at sv d) i (at rs d + 1) 0 (λ q. let n : ⊥ = omega arith in n),
     getD-set-other (set (o .held) (at sv d) false) (at sv e) i true false (λ q. let n : ⊥ = omega arith in n)
         ∙ getD-set-other (o .held) (at sv d) i false false (λ q. let n : ⊥ = omega arith in n),
   )
 
-  pub away-same : Same o (turnedAway sv st rs o e) (at sv e)
+  away-same : Same o (turnedAway sv st rs o e) (at sv e)
   away-same i l = (getD-set-other (o .next) (at sv e) i (at rs e + 1) 0 (λ q. let n : ⊥ = omega arith in n), refl)
+
+-- ---- so each case is the offer's turn; r is the first of the surveyors that are touched
+module _ {m : ℕ} {sv st rs rt : List ℕ} (o : Standing) (e : ℕ) where
+  pub turned-first : m ≤ at (o .kept) (at st e) → Turned m sv st rs rt o e (keptFirst sv st rs o e) (at sv e)
+  turned-first h = record { after = turn-first m sv st rs rt o e h; lowest = omega arith; same = first-same sv st rs o e }
+
+  pub turned-instead : {r : ℕ} → let d = at (o .kept) (at st e) in
+      d < m → at rt e < at rt d → r ≤ at sv e → r ≤ at sv d → Turned m sv st rs rt o e (keptInstead sv st rs o e d) r
+  turned-instead {r} h k a b = record {
+    after = turn-instead m sv st rs rt o e h k;
+    lowest = a;
+    same = instead-same sv st rs o e (at (o .kept) (at st e)) r a b;
+  }
+
+  pub turned-away : let d = at (o .kept) (at st e) in d < m → at rt d ≤ at rt e → Turned m sv st rs rt o e (turnedAway sv st rs o e) (at sv e)
+  turned-away h k = record { after = turn-away m sv st rs rt o e h k; lowest = omega arith; same = away-same sv st rs o e }

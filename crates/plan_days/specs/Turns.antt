@@ -38,7 +38,7 @@ module _ (n : ℕ) (end far ds table whole : List ℕ) (cur to other : ℕ) (nod
     (other-in : other ≤ lastDay) (U : Turn n end far ds table whole cur to other) where
   module _ {r : ℕ} {after : List ℕ} (found : r ≡ at table (place (at end cur) to)) (left : after ≡ settled table (at end cur) to other cur) where
     -- it meets nobody, and both tables are whole
-    pub turn-ends : r ≡ 0 → (n ≡ low (meets end ds cur) n) × Held n end ds after
+    turn-ends : r ≡ 0 → (n ≡ low (meets end ds cur) n) × Held n end ds after
     turn-ends z = (
       sym (nobody n end ds table cur to other (U .open-end) (U .own) (U .in-n) differ (nodes cur (U .in-n)) (omega arith) (omega arith) (U .small)
           (sym found ∙ z)),
@@ -48,7 +48,7 @@ module _ (n : ℕ) (end far ds table whole : List ℕ) (cur to other : ℕ) (nod
     )
 
     -- it meets an entry, whose turn it is
-    pub turn-on : r ≢ 0
+    turn-on : r ≢ 0
         → (r - 1 < n) × (r - 1 ≡ low (meets end ds cur) n) × Turn n far end (set ds (r - 1) other) whole after (r - 1) other to
     turn-on h = (
       inside,
@@ -101,6 +101,23 @@ pub record Chasing (n : ℕ) (sv st : List ℕ) (a b k : ℕ) (ds whoS whoT : Li
   pub b-in : b ≤ lastDay
   pub turn : Turn n st sv ds whoT whoS k a b
   pub proper : Proper (at sv) (at st) n (at (chaseIn n sv st a b n k ds))
+
+-- along the chain: an entry settles at its stand on day a, and the one that it meets there at its surveyor on day b
+module _ {n : ℕ} {sv st : List ℕ} {a b k : ℕ} {ds₀ ws₀ wt₀ : List ℕ} (P : Chasing n sv st a b k ds₀ ws₀ wt₀) {ds ws wt : List ℕ} {cur r : ℕ}
+    {after : List ℕ} where
+  module _ (U : Turn n st sv ds wt ws cur a b) (found : r ≡ at wt (place (at st cur) a)) (left : after ≡ settled wt (at st cur) a b cur) where
+    pub stand-ends : r ≡ 0 → (n ≡ low (meets st ds cur) n) × Held n st ds after
+    stand-ends = turn-ends n st sv ds wt ws cur a b (P .nodesT) (P .differ) (P .a-in) (P .b-in) U found left
+
+    pub stand-meets : r ≢ 0 → (r - 1 < n) × (r - 1 ≡ low (meets st ds cur) n) × Turn n sv st (set ds (r - 1) b) ws after (r - 1) b a
+    stand-meets = turn-on n st sv ds wt ws cur a b (P .nodesT) (P .differ) (P .a-in) (P .b-in) U found left
+
+  module _ (U : Turn n sv st ds ws wt cur b a) (found : r ≡ at ws (place (at sv cur) b)) (left : after ≡ settled ws (at sv cur) b a cur) where
+    pub surveyor-ends : r ≡ 0 → (n ≡ low (meets sv ds cur) n) × Held n sv ds after
+    surveyor-ends = turn-ends n sv st ds ws wt cur b a (P .nodesS) (λ q. P .differ (sym q)) (P .b-in) (P .a-in) U found left
+
+    pub surveyor-meets : r ≢ 0 → (r - 1 < n) × (r - 1 ≡ low (meets sv ds cur) n) × Turn n st sv (set ds (r - 1) a) wt after (r - 1) a b
+    surveyor-meets = turn-on n sv st ds ws wt cur b a (P .nodesS) (λ q. P .differ (sym q)) (P .b-in) (P .a-in) U found left
 
 pub record Placing (k : ℕ) (sv st ds whoS whoT : List ℕ) : Type 0 where
   pub many : k < daySize

@@ -7,8 +7,9 @@ use mathlib.Core.Bool.{Bool, true, false, not, cond, _&&_}
 use mathlib.Core.List.{List}
 use lib.ListN.{length}
 use lib.Dec.{T, eqb, ltb, leb, eqb→eq, ltb→lt}
+use borrow.Author.Tests.{lt-ltb}
 use Rattle.lists.specs.Test.{and-l, and-r, bit, bit-one, if-ind}
-use Rattle.lists.specs.Search.{low, low-is}
+use Rattle.lists.specs.Search.{low, low-is, low-hit}
 use Rattle.model.specs.Limits.{entryLimit, nodeLimit, emptyRank}
 use Rattle.arrays.specs.ArrayInstance.{at, flag}
 use Rattle.arrays.specs.Passes.{Low}
@@ -80,6 +81,34 @@ bestOf m cell p v = let r = low (λ r. edgeIn m p (inCell cell v r)) emptyRank i
 abbrev pub worstOf : (m : ℕ) (cell : List ℕ) (p : ℕ → Bool) (v : ℕ) → ℕ
 worstOf m cell p v = let k = low (λ k. edgeIn m p (inCell cell v (32 - k))) emptyRank in cond (ltb k emptyRank) (inCell cell v (32 - k)) m
 
+-- a search along a node's cells: step k looks at the cell f k, and none before it passed the test q; so it passes, or all are behind
+module _ (m : ℕ) (q : ℕ → Bool) (f : ℕ → ℕ) (k : ℕ) (none : low q k ≡ k) where
+  search-hit : k < emptyRank → q k ≡ true → f k ≡ cond (ltb (low q emptyRank) emptyRank) (f (low q emptyRank)) m
+  search-hit l t = sym (ap (λ r. cond (ltb r emptyRank) (f r) m) (low-hit q k emptyRank none t l) ∙ ap (λ b. cond b (f k) m) (lt-ltb k emptyRank l))
+
+  search-none : k ≡ emptyRank → m ≡ cond (ltb (low q emptyRank) emptyRank) (f (low q emptyRank)) m
+  search-none e = sym (ap (λ r. cond (ltb r emptyRank) (f r) m) (ap (low q) (sym e) ∙ none ∙ e))
+
+module _ (m : ℕ) (cell : List ℕ) (p : ℕ → Bool) (v : ℕ) where
+  -- whether a cell has an edge of p, from the best rank on, and from the worst on
+  abbrev pub inBest : ℕ → Bool
+  inBest r = edgeIn m p (inCell cell v r)
+
+  abbrev pub inWorst : ℕ → Bool
+  inWorst k = edgeIn m p (inCell cell v (32 - k))
+
+  pub best-hit : (r : ℕ) → low inBest r ≡ r → r < emptyRank → inBest r ≡ true → inCell cell v r ≡ bestOf m cell p v
+  best-hit = search-hit m inBest (inCell cell v)
+
+  pub best-none : (r : ℕ) → low inBest r ≡ r → r ≡ emptyRank → m ≡ bestOf m cell p v
+  best-none = search-none m inBest (inCell cell v)
+
+  pub worst-hit : (k : ℕ) → low inWorst k ≡ k → k < emptyRank → inWorst k ≡ true → inCell cell v (32 - k) ≡ worstOf m cell p v
+  worst-hit = search-hit m inWorst (λ k. inCell cell v (32 - k))
+
+  pub worst-none : (k : ℕ) → low inWorst k ≡ k → k ≡ emptyRank → m ≡ worstOf m cell p v
+  worst-none = search-none m inWorst (λ k. inCell cell v (32 - k))
+
 pub bit-is : (b : Bool) → bit b ≡ 1 → b ≡ true
 bit-is true h = refl
 bit-is false h = absurd (omega arith)
@@ -121,6 +150,10 @@ module _ (m : ℕ) (end rank : List ℕ) (tied : List Bool) (cell : List ℕ) (C
   pub celled-owned : Low m rank emptyRank → Owned m end cell
   celled-owned placed v r w h l = let e = inCell cell v r in
       same-place (at end e) v (at rank e) r (placed e l) h (cell-holds v r w h l .0) .0
+
+-- what is in a cell is at most as large as there can be edges
+pub spread-low : {m : ℕ} {cell : List ℕ} → Spread m cell → {v : ℕ} → v < nodeLimit → {r : ℕ} → r < emptyRank → inCell cell v r ≤ entryLimit
+spread-low S {v} w {r} h = omega (arith, S .edges, S .inside v r w h)
 
 module _ (m : ℕ) (cell : List ℕ) (S : Spread m cell) where
   -- the best and the worst are edges, or m

@@ -7,13 +7,15 @@ use mathlib.Core.Logic.{by-cases, _≢_}
 use mathlib.Core.Bool.{Bool, true, false, _&&_, and-false}
 use mathlib.Core.List.{List}
 use lib.Dec.{eqb}
+use mir.Val.{boolByte}
 use Rattle.lists.specs.Test.{by-eq, eqb-yes, eqb-no, bit}
 use Rattle.lists.specs.Search.{low, low-hit, low-none}
 use Rattle.lists.specs.Sum.{count, count-≤}
 use Rattle.model.specs.Limits.{nodeLimit, entryLimit}
 use Rattle.arrays.specs.ArrayInstance.{at}
+use Rattle.arrays.specs.Tally.{byte-bit, byte-one}
 use Rattle.arrays.specs.Linked.{First, first-head, first-next}
-use Rattle.reduction_lists.specs.Listed.{Listed, tableSize, begin, tallied, tallied-jump, before, before-less, first-before, next-before}
+use Rattle.reduction_lists.specs.Listed.{Listed, Shelved, tableSize, begin, tallied, tallied-jump, before, before-less, first-before, next-before}
 
 -- a test at a node alone
 abbrev pub atNode : (end : List ℕ) (v : ℕ) (q : ℕ → Bool) → ℕ → Bool
@@ -39,7 +41,7 @@ pub record Counted (m : ℕ) (end table : List ℕ) (v : ℕ) (q : ℕ → Bool)
   pub at-edge : Stood m end table v k e
   pub is : c ≡ tallied end v q e
 
-module _ {m : ℕ} {end table : List ℕ} (L : Listed m end table) (v : ℕ) (w : v < nodeLimit) where
+module _ {m : ℕ} {end table : List ℕ} (L : Listed m end table) {v : ℕ} (w : v < nodeLimit) where
   -- the list has an edge of v, and m behind all of them, in its place
   spelled : (i e : ℕ) → First m end i v e → at table (begin table v + before end v e) ≡ e
   spelled i e F = let N = L .nodes v w in by-cases (decLt e m)
@@ -73,10 +75,10 @@ module _ {m : ℕ} {end table : List ℕ} (L : Listed m end table) (v : ℕ) (w 
   next-later k e l S = omega (arith, on k e l S .onward (omega arith))
 
   -- the first place is in the table, and so is the next one; they have edges, or m
-  pub first-place : (begin table v < tableSize) × (at table (begin table v) ≤ m) × (m ≤ entryLimit)
+  first-place : (begin table v < tableSize) × (at table (begin table v) ≤ m) × (m ≤ entryLimit)
   first-place = (omega (arith, L .nodes v w .room), starts .inside, L .linked .edges)
 
-  pub next-place : (k e : ℕ) → e < m → Stood m end table v k e → Next m table k e
+  next-place : (k e : ℕ) → e < m → Stood m end table v k e → Next m table k e
   next-place k e l S = (
     omega (arith, S .place, before-less end v e m l (S .here l), L .nodes v w .room),
     on k e l S .inside,
@@ -98,33 +100,26 @@ module _ {m : ℕ} {end table : List ℕ} (L : Listed m end table) (v : ℕ) (w 
     place = omega (arith, S .place, next-before (L .linked) v e l (S .here l), ap (before end v) (list-next k e l S));
   }
 
-  module _ (q : ℕ → Bool) where
-    off : (d : ℕ) → at end d ≢ v → atNode end v q d ≡ false
-    off d n = ap (λ b. b && q d) (eqb-no (at end d) v n)
+  off : (q : ℕ → Bool) (d : ℕ) → at end d ≢ v → atNode end v q d ≡ false
+  off q d n = ap (λ b. b && q d) (eqb-no (at end d) v n)
 
+  module _ {q : ℕ → Bool} where
     pub walk-starts : Walked m end table v q (begin table v) (at table (begin table v))
-    walk-starts = record { at-edge = stood-first; none = λ d l. off d (starts .none d zero-le l) }
+    walk-starts = record { at-edge = stood-first; none = λ d l. off q d (starts .none d zero-le l) }
 
     -- one place on
-    pub walk-on : (k e : ℕ) → e < m → Walked m end table v q k e → q e ≡ false → Walked m end table v q (k + 1) (at table (k + 1))
-    walk-on k e l W f =
+    pub walk-on : {k e : ℕ} → e < m → Walked m end table v q k e → q e ≡ false → Walked m end table v q (k + 1) (at table (k + 1))
+    walk-on {k} {e} l W f =
         let F = on k e l (W .at-edge) in
         record {
           at-edge = stood-next k e l (W .at-edge);
           none = λ d dl. by-cases (decLt d e) (W .none d) (λ h. by-eq d e
               (λ i t. ap (λ b. eqb (at end d) v && b) (ap q i ∙ f) ∙ and-false (eqb (at end d) v))
-              (λ ne t. off d (F .none d (past e d ne h) dl)));
+              (λ ne t. off q d (F .none d (past e d ne h) dl)));
         }
       where
         past : (e d : ℕ) → d ≢ e → (d < e → ⊥) → e + 1 ≤ d
         past e d ne h = by-cases (decLt e d) (λ k. omega arith) (λ k. absurd (ne (omega arith)))
-
-    pub walk-hit : (k e : ℕ) → e < m → Walked m end table v q k e → q e ≡ true → e ≡ low (atNode end v q) m
-    walk-hit k e l W t =
-        sym (low-hit (atNode end v q) e m (low-none (atNode end v q) e (W .none)) (ap₂ _&&_ (eqb-yes (at end e) v (W .at-edge .here l)) t) l)
-
-    pub walk-ends : (k e : ℕ) → m ≤ e → Walked m end table v q k e → e ≡ low (atNode end v q) m
-    walk-ends k e h W = let i : e ≡ m = omega (arith, W .at-edge .inside) in i ∙ sym (low-none (atNode end v q) m (λ d l. W .none d (omega arith)))
 
     -- ---- counting
     pub count-starts : Counted m end table v q (begin table v) (at table (begin table v)) 0
@@ -134,9 +129,9 @@ module _ {m : ℕ} {end table : List ℕ} (L : Listed m end table) (v : ℕ) (w 
       is = sym (tallied-jump end v q 0 (at table (begin table v)) zero-le (λ d a l. starts .none d a l));
     }
 
-    pub count-on : (k e c : ℕ) → e < m → Counted m end table v q k e c → Counted m end table v q (k + 1) (at table (k + 1)) (c + bit (q e))
+    pub count-on : {k e c : ℕ} → e < m → Counted m end table v q k e c → Counted m end table v q (k + 1) (at table (k + 1)) (c + boolByte (q e))
     unfolding count
-    count-on k e c l W =
+    count-on {k} {e} {c} l W =
         let S = W .at-edge in
         let F = on k e l S in
         record {
@@ -144,6 +139,7 @@ module _ {m : ℕ} {end table : List ℕ} (L : Listed m end table) (v : ℕ) (w 
           is = omega (
             arith,
             W .is,
+            byte-bit (q e),
             tallied-jump end v q (suc e) (at table (k + 1)) (omega (arith, next-later k e l S)) (λ d a b. F .none d (omega arith) b),
             one (q e) (eqb (at end e) v) (eqb-yes (at end e) v (S .here l)),
           );
@@ -153,8 +149,38 @@ module _ {m : ℕ} {end table : List ℕ} (L : Listed m end table) (v : ℕ) (w 
         one true b i = ap bit i
         one false b i = refl
 
-    pub count-ends : (k e c : ℕ) → m ≤ e → Counted m end table v q k e c → c ≡ tallied end v q m
-    count-ends k e c h W = let i : e ≡ m = omega (arith, W .at-edge .inside) in W .is ∙ ap (tallied end v q) i
+-- ---- where a walk ends: at an edge that passes, or behind all of them
+module _ {m : ℕ} {end table : List ℕ} {v : ℕ} {q : ℕ → Bool} where
+  pub walk-hit : {k e : ℕ} → e < m → Walked m end table v q k e → q e ≡ true → e ≡ low (atNode end v q) m
+  walk-hit {k} {e} l W t =
+      sym (low-hit (atNode end v q) e m (low-none (atNode end v q) e (W .none)) (ap₂ _&&_ (eqb-yes (at end e) v (W .at-edge .here l)) t) l)
 
-    pub count-small : (k e c : ℕ) → Counted m end table v q k e c → c ≤ e
-    count-small k e c W = omega (arith, W .is, count-≤ (λ d. q d && eqb (at end d) v) e)
+  pub walk-ends : {k e : ℕ} → m ≤ e → Walked m end table v q k e → e ≡ low (atNode end v q) m
+  walk-ends {k} {e} h W = let i : e ≡ m = omega (arith, W .at-edge .inside) in i ∙ sym (low-none (atNode end v q) m (λ d l. W .none d (omega arith)))
+
+  pub count-ends : {k e c : ℕ} → m ≤ e → Counted m end table v q k e c → c ≡ tallied end v q m
+  count-ends {k} {e} {c} h W = let i : e ≡ m = omega (arith, W .at-edge .inside) in W .is ∙ ap (tallied end v q) i
+
+  pub count-small : {k e c : ℕ} → Counted m end table v q k e c → (c ≤ e) × (boolByte (q e) ≤ 1)
+  count-small {k} {e} {c} W = (omega (arith, W .is, count-≤ (λ d. q d && eqb (at end d) v) e), byte-one (q e))
+
+-- ---- what a loop along v's list keeps, of all ends whose lists these are: a walk to an edge, and one that counts
+abbrev pub Walks : (m : ℕ) (table : List ℕ) (v : ℕ) (q : ℕ → Bool) (k e : ℕ) → Type 0
+Walks m table v q k e = (end : List ℕ) → Listed m end table → Walked m end table v q k e
+
+abbrev pub Counts : (m : ℕ) (table : List ℕ) (v : ℕ) (q : ℕ → Bool) (k e c : ℕ) → Type 0
+Counts m table v q k e c = (end : List ℕ) → Listed m end table → Counted m end table v q k e c
+
+-- so the places that it reads are in the table, the first one and the next one
+module _ {m : ℕ} {table : List ℕ} {v : ℕ} (p : (v < nodeLimit) × Shelved m table) where
+  pub first-read : (begin table v < tableSize) × (at table (begin table v) ≤ m) × (m ≤ entryLimit)
+  first-read = first-place (p .1 .1) (p .0)
+
+  pub next-walked : {q : ℕ → Bool} {k e : ℕ} → Walks m table v q k e → e < m → Next m table k e
+  next-walked {q} {k} {e} W l = next-place (p .1 .1) (p .0) k e l (W (p .1 .0) (p .1 .1) .at-edge)
+
+  pub next-counted : {q : ℕ → Bool} {k e c : ℕ} → Counts m table v q k e c → e < m → Next m table k e
+  next-counted {q} {k} {e} W l = next-place (p .1 .1) (p .0) k e l (W (p .1 .0) (p .1 .1) .at-edge)
+
+  pub few-counted : {q : ℕ → Bool} {k e c : ℕ} → Counts m table v q k e c → (c ≤ e) × (boolByte (q e) ≤ 1)
+  few-counted W = count-small (W (p .1 .0) (p .1 .1))

@@ -1,5 +1,5 @@
 -- An array by node of which some entries are made anew: those of the nodes in `due`, from its front on, or those of the nodes of a list.
-use Prim.Native.Nat.{ℕ, _+_, _<_}
+use Prim.Native.Nat.{ℕ, _+_, _≤_, _<_}
 use native.Mathlib.Omega.{arith}
 use native.Mathlib.Decide.{decLt}
 use mathlib.Core.Path.{_≡_, refl, sym, ap, ap₂, _∙_}
@@ -11,6 +11,7 @@ use lib.Seq.{getD-set-same, getD-set-other}
 use lib.Dec.{ltb}
 use borrow.Author.Tests.{lt-ltb, le-ltb}
 use Rattle.lists.specs.Test.{by-eq, by-bool, eqb-yes, eqb-no}
+use Rattle.model.specs.Limits.{nodeLimit, emptyRank}
 use Rattle.arrays.specs.ArrayInstance.{at, flag}
 use Rattle.reduction_cells.specs.Painted.{among, among-none, among-next}
 
@@ -55,6 +56,10 @@ by-all w new old xs R v h = by-bool (w v) (λ t. R v ∙ ap (λ b. cond b (new v
 pub or-true : (b : Bool) → b || true ≡ true
 or-true true = refl
 or-true false = refl
+
+-- a turn of a walk along a list of nodes: the i-th is a node, and x, which is written along, has a place for it
+abbrev pub Visit : {A : Type 0} (list : List ℕ) (n i : ℕ) (x : List A) → Type 0
+Visit list n i x = (at list i < nodeLimit) × (i < n) × (n ≤ emptyRank) × (length x ≡ nodeLimit)
 
 -- one node of the list more
 pub among-own : (list : List ℕ) (i v : ℕ) → v ≡ at list i → among list (i + 1) v ≡ true

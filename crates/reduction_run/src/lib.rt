@@ -91,6 +91,18 @@ pub(crate) fn run(
         }
         edges[n] = e as u16;
         rules[n] = rule;
+        let d = reduction_state::act(
+            sv,
+            st,
+            &mut rem,
+            &mut fixed,
+            &mut cuts,
+            &mut cutt,
+            &mut ds,
+            &mut dt,
+            rule,
+            e,
+        );
         reduction_turn::turn(
             m,
             sv,
@@ -99,16 +111,12 @@ pub(crate) fn run(
             rt,
             tabs,
             tabt,
-            rule,
-            e,
-            &mut rem,
-            &mut fixed,
+            d,
+            &rem,
             &mut fs,
             &mut ft,
-            &mut cuts,
-            &mut cutt,
-            &mut ds,
-            &mut dt,
+            &cuts,
+            &cutt,
             &mut lead,
             &mut olds,
             &mut oldt,

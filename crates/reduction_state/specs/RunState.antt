@@ -2,10 +2,10 @@
 use Prim.Native.Nat.{ℕ, suc, _+_, _-_, _≤_, _<_, min}
 use native.Mathlib.Omega.{arith}
 use mathlib.Core.Path.{_≡_, sym, ap, ap₂, _∙_, subst, fun-ext}
-use mathlib.Core.Bool.{Bool, false, _||_}
+use mathlib.Core.Bool.{Bool, false, not, _||_}
 use mathlib.Core.List.{List}
 use lib.ListN.{length, set, length-set}
-use lib.Dec.{T, ltb}
+use lib.Dec.{T, eqb, ltb}
 use mir.Val.{boolByte}
 use Rattle.model.specs.Limits.{nodeLimit, entryLimit}
 use Rattle.model.specs.Instance.{Instance, deg}
@@ -16,6 +16,7 @@ use Rattle.arrays.specs.ArrayInstance.{at, flag}
 use Rattle.arrays.specs.Tally.{Tally}
 use Rattle.reduction_nodes.specs.Known.{Edges, Known, stateOf, instanceOf}
 use Rattle.reduction_state.specs.declared.State as arrays
+use Rattle.reduction_state.specs.declared.Acted.{Acted}
 use Rattle.reduction_state.specs.declared.Trace.{Trace}
 use Rattle.reduction_state.specs.Trace.{blank, entered}
 use Rattle.reduction_state.specs.Outcome.{onward, onward-next, onward-none, onward-stop, Reduced, reduced}
@@ -32,6 +33,11 @@ acted sv st x rule e = record {
   ds = set (x .ds) (at sv e) (at (x .ds) (at sv e) - 1);
   dt = set (x .dt) (at st e) (at (x .dt) (at st e) - 1);
 }
+
+-- what a step at e tells of itself, by the quotas before and after it
+abbrev pub told : (sv st qs qt qs′ qt′ : List ℕ) (e : ℕ) → Acted
+told sv st qs qt qs′ qt′ e =
+    record { edge = e; fells = not (eqb (at qs (at sv e)) (at qs′ (at sv e))); fellt = not (eqb (at qt (at st e)) (at qt′ (at st e))) }
 
 -- the arrays together
 abbrev pub whole : (rem fixed : List Bool) (qs qt ds dt : List ℕ) → arrays.State

@@ -11,7 +11,7 @@ ghost use Rattle.arrays.specs.Passes.{Low};
 ghost use Rattle.arrays.specs.Tally.{Tally};
 ghost use Rattle.arrays.specs.Filled.{Made};
 ghost use Rattle.model.specs.Limits.{nodeLimit, entryLimit};
-ghost use Rattle.reduction_state.specs.RunState.{acted, whole, Started};
+ghost use Rattle.reduction_state.specs.RunState.{acted, told, whole, Started};
 use limits::ENTRY_LIMIT;
 
 // The arrays of a state: remaining and fixed edges; by node, the cut quotas and the numbers of remaining edges.
@@ -83,6 +83,13 @@ pub fn lowered(q: u16, fix: bool, d: u16) -> u16
     d
 }
 
+// What a step tells of itself: its edge, and whether the quota fell at its surveyor and at its stand.
+pub struct Acted {
+    pub edge: usize,
+    pub fells: bool,
+    pub fellt: bool,
+}
+
 // The state after a step.
 pub fn act(
     sv: &[u8; ENTRY_LIMIT],
@@ -95,11 +102,12 @@ pub fn act(
     dt: &mut [u16; 32],
     rule: u8,
     e: usize,
-)
+) -> Acted
     requires { ⌜ (e < entryLimit) × (at (now sv) e < nodeLimit) × (at (now st) e < nodeLimit) ⌝ }
     ensures { λ r. ⌜ whole (now (rem .exit)) (now (fixed .exit)) (now (qs .exit)) (now (qt .exit)) (now (ds .exit)) (now (dt .exit))
         ≡ acted (now (sv .entry)) (now (st .entry))
         (whole (now (rem .entry)) (now (fixed .entry)) (now (qs .entry)) (now (qt .entry)) (now (ds .entry)) (now (dt .entry))) rule e ⌝ }
+    ensures { λ r. ⌜ r ≡ told (now (sv .entry)) (now (st .entry)) (now (qs .entry)) (now (qt .entry)) (now (qs .exit)) (now (qt .exit)) e ⌝ }
 {
     let fix = fixes(rule);
     rem[e] = false;
@@ -107,11 +115,18 @@ pub fn act(
     let s = sv[e] as usize;
     let left = fewer(ds[s]);
     ds[s] = left;
-    qs[s] = lowered(qs[s], fix, left);
+    let quotas = qs[s];
+    qs[s] = lowered(quotas, fix, left);
     let t = st[e] as usize;
     let more = fewer(dt[t]);
     dt[t] = more;
-    qt[t] = lowered(qt[t], fix, more);
+    let quotat = qt[t];
+    qt[t] = lowered(quotat, fix, more);
+    Acted {
+        edge: e,
+        fells: quotas != qs[s],
+        fellt: quotat != qt[t],
+    }
 }
 
 // How many edges of the set p lie at each node.

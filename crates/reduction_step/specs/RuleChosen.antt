@@ -1,7 +1,7 @@
 -- Which rule acts, and what a step promises. The code asks the rules one after the other: as long as none has named an edge, it is silent up to here.
 use Prim.Native.Nat.{ℕ, _+_, _≤_, _<_, min}
 use native.Mathlib.Omega.{arith}
-use mathlib.Core.Path.{_≡_, refl, sym, ap, ap₂, _∙_}
+use mathlib.Core.Path.{_≡_, refl, sym, ap, ap₂, _∙_, subst}
 use mathlib.Core.Bool.{Bool, true, false, _&&_, _||_, and-false}
 use mathlib.Core.List.{List}
 use lib.Dec.{ltb}
@@ -50,7 +50,7 @@ module _ (G : Instance) (Z : State) where
       let r : ruleOf G Z ≡ k = low-hit acts k 8 s (lt-ltb (lowest G Z k) (G .m) (omega arith)) kl in
       record { rule-is = r; edge-is = ap (lowest G Z) r ∙ sym h }
 
-  pub says-none : Silent 8 → Says 8 (G .m)
+  says-none : Silent 8 → Says 8 (G .m)
   unfolding ruleOf edgeOf names
   says-none s = record { rule-is = s; edge-is = ap (lowest G Z) s ∙ none 8 (λ e. refl) }
 
@@ -66,26 +66,6 @@ module _ (G : Instance) (Z : State) where
     pub rule5 : Named G Z (row lates 1) (G .sv) rule5
     pub rule6 : Named G Z (row lates 2) (G .sv) rule6
     pub rule7 : Named G Z (row latet 1) (G .st) rule7
-
-  pub lowest3 : Fits → (xs : List ℕ) → Named G Z xs (G .st) rule3 → (r : ℕ) → Least xs nodeLimit r → r ≡ lowest G Z 3
-  unfolding lowest names
-  lowest3 F xs N r L = least-lowest (G .m) (G .st) (λ e. Z .rem e && rule3 G Z e) (F .atT) xs r N L
-
-  pub lowest4 : Fits → (xs : List ℕ) → Named G Z xs (G .sv) rule4 → (r : ℕ) → Least xs nodeLimit r → r ≡ lowest G Z 4
-  unfolding lowest names
-  lowest4 F xs N r L = least-lowest (G .m) (G .sv) (λ e. Z .rem e && rule4 G Z e) (F .atS) xs r N L
-
-  pub lowest5 : Fits → (xs : List ℕ) → Named G Z xs (G .sv) rule5 → (r : ℕ) → Least xs nodeLimit r → r ≡ lowest G Z 5
-  unfolding lowest names
-  lowest5 F xs N r L = least-lowest (G .m) (G .sv) (λ e. Z .rem e && rule5 G Z e) (F .atS) xs r N L
-
-  pub lowest6 : Fits → (xs : List ℕ) → Named G Z xs (G .sv) rule6 → (r : ℕ) → Least xs nodeLimit r → r ≡ lowest G Z 6
-  unfolding lowest names
-  lowest6 F xs N r L = least-lowest (G .m) (G .sv) (λ e. Z .rem e && rule6 G Z e) (F .atS) xs r N L
-
-  pub lowest7 : Fits → (xs : List ℕ) → Named G Z xs (G .st) rule7 → (r : ℕ) → Least xs nodeLimit r → r ≡ lowest G Z 7
-  unfolding lowest names
-  lowest7 F xs N r L = least-lowest (G .m) (G .st) (λ e. Z .rem e && rule7 G Z e) (F .atT) xs r N L
 
   split : (r a b c : Bool) → c ≡ a || b → r && c ≡ (r && a) || (r && b)
   split true a b c h = h
@@ -113,6 +93,46 @@ Later37 m lates latet r e = (G : Instance) (Z : State) → m ≡ G .m → Later3
 -- below k of these rules none names an edge
 abbrev pub Quiet37 : (m : ℕ) (lates latet : List (List ℕ)) (k : ℕ) → Type 0
 Quiet37 m lates latet k = (G : Instance) (Z : State) → m ≡ G .m → Later37Named G Z lates latet → Silent G Z 3 → Silent G Z k
+
+-- and x is the lowest edge that rule k names
+abbrev Lowest37 : (m : ℕ) (lates latet : List (List ℕ)) (k x : ℕ) → Type 0
+Lowest37 m lates latet k x = (G : Instance) (Z : State) → m ≡ G .m → Later37Named G Z lates latet → x ≡ lowest G Z k
+
+module _ {m : ℕ} {lates latet : List (List ℕ)} where
+  pub quiet-3 : Quiet37 m lates latet 3
+  quiet-3 G Z i N s = s
+
+  -- rule k names none, or it names an edge; or all of them were asked
+  pub quiet-next : {k x : ℕ} → Quiet37 m lates latet k → Lowest37 m lates latet k x → m ≤ x → Quiet37 m lates latet (k + 1)
+  quiet-next {k} {x} q f l G Z i N s = passes G Z k x (q G Z i N s) (f G Z i N) (omega arith)
+
+  pub says-37 : {k x : ℕ} → k < 8 → Quiet37 m lates latet k → Lowest37 m lates latet k x → x < m → Later37 m lates latet k x
+  says-37 {k} {x} b q f l G Z i N s = says G Z k x (q G Z i N s) b (f G Z i N) (omega arith)
+
+  pub says-8 : Quiet37 m lates latet 8 → Later37 m lates latet 8 m
+  says-8 q G Z i N s = subst (Says G Z 8) (sym i) (says-none G Z (q G Z i N s))
+
+  -- the least of a rule's row is that edge
+  module _ {x : ℕ} where
+    pub least-3 : Least (row latet 0) nodeLimit x → Lowest37 m lates latet 3 x
+    unfolding lowest names
+    least-3 L G Z i N = least-lowest (G .m) (G .st) (λ e. Z .rem e && rule3 G Z e) (N .fits .atT) (row latet 0) x (N .rule3) L
+
+    pub least-4 : Least (row lates 0) nodeLimit x → Lowest37 m lates latet 4 x
+    unfolding lowest names
+    least-4 L G Z i N = least-lowest (G .m) (G .sv) (λ e. Z .rem e && rule4 G Z e) (N .fits .atS) (row lates 0) x (N .rule4) L
+
+    pub least-5 : Least (row lates 1) nodeLimit x → Lowest37 m lates latet 5 x
+    unfolding lowest names
+    least-5 L G Z i N = least-lowest (G .m) (G .sv) (λ e. Z .rem e && rule5 G Z e) (N .fits .atS) (row lates 1) x (N .rule5) L
+
+    pub least-6 : Least (row lates 2) nodeLimit x → Lowest37 m lates latet 6 x
+    unfolding lowest names
+    least-6 L G Z i N = least-lowest (G .m) (G .sv) (λ e. Z .rem e && rule6 G Z e) (N .fits .atS) (row lates 2) x (N .rule6) L
+
+    pub least-7 : Least (row latet 1) nodeLimit x → Lowest37 m lates latet 7 x
+    unfolding lowest names
+    least-7 L G Z i N = least-lowest (G .m) (G .st) (λ e. Z .rem e && rule7 G Z e) (N .fits .atT) (row latet 1) x (N .rule7) L
 
 -- of all rules, of every lawful instance and state that the arrays show
 abbrev Steps : (A : Edges) (L : NodeLists) (X : Looks) (r e : ℕ) → Type 0

@@ -1,6 +1,6 @@
 -- What a turn does to the state: where the arrays showed the model's state and its arrows, they show the next state and its arrows.
 use Prim.Native.Nat.{ℕ, _<_}
-use mathlib.Core.Path.{_≡_, sym, ap, _∙_}
+use mathlib.Core.Path.{_≡_, sym, ap, _∙_, subst}
 use mathlib.Core.Logic.{_≢_}
 use mathlib.Core.Bool.{Bool, false, not, _&&_}
 use mathlib.Core.List.{List}
@@ -17,20 +17,41 @@ use Rattle.arrays.specs.ArrayInstance.{at, flag}
 use Rattle.reduction_cells.specs.Painted.{Painted}
 use Rattle.reduction_cells.specs.CellLaws.{Cells, arrow-tied, painted-new, painted-other}
 use Rattle.reduction_nodes.specs.Known.{Edges, Known, instanceOf}
-use Rattle.reduction_nodes.specs.Kept.{NodeLists, Tables, Filled, cellsS, cellsT}
+use Rattle.reduction_nodes.specs.Kept.{NodeLists, Tables, Filled, looks, cellsS, cellsT}
 use Rattle.reduction_state.specs.declared.State as arrays
+use Rattle.reduction_state.specs.declared.Acted.{Acted}
 use Rattle.reduction_state.specs.declared.Trace.{Trace}
 use Rattle.reduction_state.specs.Trace.{entered}
 use Rattle.reduction_state.specs.AfterStep.{struck}
-use Rattle.reduction_state.specs.RunState.{acted, Sized, Stands, stateAt, stands-next}
+use Rattle.reduction_state.specs.RunState.{acted, told, whole, Sized, Stands, stateAt, stands-next}
 use Rattle.reduction_state.specs.RunArrows.{Shown}
-use Rattle.reduction_turn.specs.Onward.{Gone, gone-other, Arrows}
+use Rattle.reduction_turn.specs.Onward.{Numbers, Onward, Gone, gone-other, Arrows}
 
 -- one step on, in every lawful instance that the arrays show
 abbrev pub ShownOn : (A : Edges) (L : NodeLists) (x : arrays.State) (fs ft : List Bool) (r e : ℕ) (y : arrays.State) (fs′ ft′ : List Bool) → Type 0
 ShownOn A L x fs ft r e y fs′ ft′ = (quotaS quotaT : List ℕ) (K : Known A quotaS quotaT) → Filled A (K .tied) L → (t : Trace) (S : Shown (instanceOf K) x fs ft t)
     → ruleOf (instanceOf K) (stateAt (S .stood)) ≡ r → edgeOf (instanceOf K) (stateAt (S .stood)) ≡ e → t .steps < A .m → Shown (instanceOf K) y fs′ ft′
     (entered t e r)
+
+-- what a turn promises, of every state x and rule r whose step left the arrays of a state and told this of itself: the numbers are carried on, and the
+-- arrays show the next state and its arrows
+abbrev pub Turns : (A : Edges) (L : NodeLists) (d : Acted) (rem : List Bool) (qs qt : List ℕ) (fs ft : List Bool) (k : Numbers) (fs′ ft′ : List Bool)
+    (k′ : Numbers) → Type 0
+Turns A L d rem qs qt fs ft k fs′ ft′ k′ = (x : arrays.State) (r : ℕ) (fixed : List Bool) (ds dt : List ℕ) → Sized x
+    → whole rem fixed qs qt ds dt ≡ acted (A .sv) (A .st) x r (d .edge) → d ≡ told (A .sv) (A .st) (x .qs) (x .qt) qs qt (d .edge)
+    → Onward A L (looks (x .rem) fs ft (x .qs) (x .qt)) k (looks rem fs′ ft′ qs qt) k′
+    × ShownOn A L x fs ft r (d .edge) (whole rem fixed qs qt ds dt) fs′ ft′
+
+-- so it is at the edge of the step
+pub turned-at : {A : Edges} {L : NodeLists} {d : Acted} {rem : List Bool} {qs qt : List ℕ} {fs ft : List Bool} {k : Numbers}
+    {fs′ ft′ : List Bool} {k′ : Numbers} → Turns A L d rem qs qt fs ft k fs′ ft′ k′
+    → (x : arrays.State) (r e : ℕ) (fixed : List Bool) (ds dt : List ℕ) → Sized x
+    → whole rem fixed qs qt ds dt ≡ acted (A .sv) (A .st) x r e → d ≡ told (A .sv) (A .st) (x .qs) (x .qt) qs qt e
+    → Onward A L (looks (x .rem) fs ft (x .qs) (x .qt)) k (looks rem fs′ ft′ qs qt) k′ × ShownOn A L x fs ft r e (whole rem fixed qs qt ds dt) fs′ ft′
+turned-at {A} {L} {d} {rem} {qs} {qt} {fs} {ft} {k} {fs′} {ft′} {k′} T x r e fixed ds dt z i t =
+    subst (λ j. whole rem fixed qs qt ds dt ≡ acted (A .sv) (A .st) x r j → d ≡ told (A .sv) (A .st) (x .qs) (x .qt) qs qt j
+    → Onward A L (looks (x .rem) fs ft (x .qs) (x .qt)) k (looks rem fs′ ft′ qs qt) k′ × ShownOn A L x fs ft r j (whole rem fixed qs qt ds dt) fs′ ft′)
+    (ap (λ (w : Acted). w .edge) t) (T x r fixed ds dt z) i t
 
 -- ---- what is not at the ends of the edge stays
 module _ (sv st : List ℕ) (x : arrays.State) (r e : ℕ) (y : arrays.State) (i : y ≡ acted sv st x r e) where

@@ -1,4 +1,4 @@
-// One turn of a run: the state after a step at e, its arrows, and the numbers of the nodes. An end of e whose arrow e was not, and whose quota
+// One turn of a run: the arrows of the state after a step at e, and the numbers of the nodes. An end of e whose arrow e was not, and whose quota
 // stays, keeps its arrows; else they are painted anew, and the nodes across an arrow that turned are read anew. Rule 2's number at an end of e is read
 // anew if it was e or if the quota fell there. What the later rules name is marked old at both ends, and at every node across an arrow that turned.
 ghost use mathlib.Core.Path.{_≡_};
@@ -14,13 +14,13 @@ ghost use Rattle.reduction_lists.specs.Listed.{Listed};
 ghost use Rattle.reduction_cells.specs.Painted.{among};
 ghost use Rattle.reduction_nodes.specs.Renewed.{RenewedBy};
 ghost use Rattle.reduction_nodes.specs.Numbers.{Readable, row, Rows, firstOf, secondsOf};
-ghost use Rattle.reduction_nodes.specs.Kept.{Tables, edges, nodeLists, looks};
-ghost use Rattle.reduction_state.specs.RunState.{whole, Sized};
-ghost use Rattle.reduction_turn.specs.Onward.{Marked, Arrows, Carried, Onward, SizedN, numbers};
-ghost use Rattle.reduction_turn.specs.AfterTurn.{ShownOn};
+ghost use Rattle.reduction_nodes.specs.Kept.{Tables, edges, nodeLists};
+ghost use Rattle.reduction_turn.specs.Onward.{Marked, Arrows, Carried, SizedN, numbers};
+ghost use Rattle.reduction_turn.specs.AfterTurn.{Turns};
 use limits::EMPTY_RANK;
 use limits::ENTRY_LIMIT;
 use reduction_cells::TABLE;
+use reduction_state::Acted;
 
 // Rule 2's numbers of one side after e, an edge of v, is gone: that of v is read anew if it was e or if v's quota fell.
 pub fn passed_over(
@@ -134,7 +134,8 @@ pub fn from_stand(
     marked(&turned, n, olds);
 }
 
-// The turn: a step of a rule at e.
+// The turn behind a step at an edge, which struck it from what remains and renewed the quotas: the arrows and the numbers. It is told
+// of every state and rule whose step left these arrays; the state itself it does not see.
 pub fn turn(
     m: usize,
     sv: &[u8; ENTRY_LIMIT],
@@ -143,45 +144,30 @@ pub fn turn(
     rt: &[u8; ENTRY_LIMIT],
     tabs: &[u16; TABLE],
     tabt: &[u16; TABLE],
-    rule: u8,
-    e: usize,
-    rem: &mut [bool; ENTRY_LIMIT],
-    fixed: &mut [bool; ENTRY_LIMIT],
+    d: Acted,
+    rem: &[bool; ENTRY_LIMIT],
     fs: &mut [bool; ENTRY_LIMIT],
     ft: &mut [bool; ENTRY_LIMIT],
-    qs: &mut [u16; 32],
-    qt: &mut [u16; 32],
-    ds: &mut [u16; 32],
-    dt: &mut [u16; 32],
+    qs: &[u16; 32],
+    qt: &[u16; 32],
     lead: &mut [[u16; 32]; 3],
     olds: &mut [bool; 32],
     oldt: &mut [bool; 32],
 )
-    requires { ⌜ (e < m) × Tables (edges m (now sv) (now st) (now rs) (now rt)) (nodeLists (now tabs) (now tabt)) ⌝ }
-    requires { ⌜ Sized (whole (now rem) (now fixed) (now qs) (now qt) (now ds) (now dt)) × SizedN (now lead) (now olds) (now oldt)
-        × (length (now fs) ≡ entryLimit) × (length (now ft) ≡ entryLimit) ⌝ }
-    ensures { λ r. ⌜ Sized (whole (now (rem .exit)) (now (fixed .exit)) (now (qs .exit)) (now (qt .exit)) (now (ds .exit)) (now (dt .exit)))
-        × SizedN (now (lead .exit)) (now (olds .exit)) (now (oldt .exit)) × (length (now (fs .exit)) ≡ entryLimit) × (length (now (ft .exit)) ≡ entryLimit) ⌝ }
-    ensures { λ r. ⌜ Onward (edges m (now (sv .entry)) (now (st .entry)) (now (rs .entry)) (now (rt .entry)))
-        (nodeLists (now (tabs .entry)) (now (tabt .entry)))
-        (looks (now (rem .entry)) (now (fs .entry)) (now (ft .entry)) (now (qs .entry)) (now (qt .entry)))
-        (numbers (now (lead .entry)) (now (olds .entry)) (now (oldt .entry)))
-        (looks (now (rem .exit)) (now (fs .exit)) (now (ft .exit)) (now (qs .exit)) (now (qt .exit)))
-        (numbers (now (lead .exit)) (now (olds .exit)) (now (oldt .exit))) ⌝ }
-    ensures { λ r. ⌜ ShownOn (edges m (now (sv .entry)) (now (st .entry)) (now (rs .entry)) (now (rt .entry)))
-        (nodeLists (now (tabs .entry)) (now (tabt .entry)))
-        (whole (now (rem .entry)) (now (fixed .entry)) (now (qs .entry)) (now (qt .entry)) (now (ds .entry)) (now (dt .entry)))
-        (now (fs .entry)) (now (ft .entry)) rule e
-        (whole (now (rem .exit)) (now (fixed .exit)) (now (qs .exit)) (now (qt .exit)) (now (ds .exit)) (now (dt .exit)))
-        (now (fs .exit)) (now (ft .exit)) ⌝ }
+    requires { ⌜ (d .edge < m) × Tables (edges m (now sv) (now st) (now rs) (now rt)) (nodeLists (now tabs) (now tabt)) ⌝ }
+    requires { ⌜ SizedN (now lead) (now olds) (now oldt) × (length (now fs) ≡ entryLimit) × (length (now ft) ≡ entryLimit) ⌝ }
+    ensures { λ r. ⌜ SizedN (now (lead .exit)) (now (olds .exit)) (now (oldt .exit))
+        × (length (now (fs .exit)) ≡ entryLimit) × (length (now (ft .exit)) ≡ entryLimit) ⌝ }
+    ensures { λ r. ⌜ Turns (edges m (now (sv .entry)) (now (st .entry)) (now (rs .entry)) (now (rt .entry)))
+        (nodeLists (now (tabs .entry)) (now (tabt .entry))) d (now (rem .entry)) (now (qs .entry)) (now (qt .entry))
+        (now (fs .entry)) (now (ft .entry)) (numbers (now (lead .entry)) (now (olds .entry)) (now (oldt .entry)))
+        (now (fs .exit)) (now (ft .exit)) (numbers (now (lead .exit)) (now (olds .exit)) (now (oldt .exit))) ⌝ }
 {
+    let e = d.edge;
     let s = sv[e] as usize;
     let t = st[e] as usize;
-    let quotas = qs[s];
-    let quotat = qt[t];
-    reduction_state::act(sv, st, rem, fixed, qs, qt, ds, dt, rule, e);
-    let fells = quotas != qs[s];
-    let fellt = quotat != qt[t];
+    let fells = d.fells;
+    let fellt = d.fellt;
     let ons = fs[e] | fells;
     let ont = ft[e] | fellt;
     olds[s] = true;

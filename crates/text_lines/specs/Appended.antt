@@ -54,3 +54,8 @@ module _ (out : List ℕ) (at : ℕ) where
           bytes = b .bytes ∙ ap₂ (λ (l r : List ℕ). l ++ (y ++ r)) t d ∙ append-assoc (take at out) x (y ++ drop (at + length (x ++ y)) out)
               ∙ ap (λ (l : List ℕ). take at out ++ l) (sym (append-assoc x y (drop (at + length (x ++ y)) out)));
         }
+
+  -- and so are three
+  pub append-three : {x y z first second after : List ℕ} {p q r : ℕ} → at ≤ length out → Appended out at x first p → Appended first p y second q
+      → Appended second q z after r → Appended out at ((x ++ y) ++ z) after r
+  append-three h a b c = append-then h (append-then h a b) c

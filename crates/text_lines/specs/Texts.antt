@@ -6,17 +6,18 @@ use mathlib.Core.Path.{_≡_, refl, sym, ap, ap₂, _∙_}
 use mathlib.Core.List.{List, [], _∷_, _++_, append-assoc, append-nil}
 use lib.ListN.{length, getD, length-append}
 use Rattle.lists.specs.Keep.{gather}
+use Rattle.text_lines.specs.Appended.{Appended, append-as, append-none, append-then}
 
 -- the first n texts, one behind the other
 unfoldable pub texts : (ℕ → List ℕ) → ℕ → List ℕ
 texts f zero = []
 texts f (suc n) = texts f n ++ f n
 
-pub texts-none : (f : ℕ → List ℕ) → texts f 0 ≡ []
+texts-none : (f : ℕ → List ℕ) → texts f 0 ≡ []
 unfolding texts
 texts-none f = refl
 
-pub texts-more : (f : ℕ → List ℕ) (n : ℕ) → texts f n ++ f n ≡ texts f (n + 1)
+texts-more : (f : ℕ → List ℕ) (n : ℕ) → texts f n ++ f n ≡ texts f (n + 1)
 unfolding texts
 texts-more f n = ap (texts f) (sym (add-one n))
 
@@ -25,6 +26,18 @@ pub texts-length : (f : ℕ → List ℕ) (size : ℕ) → ((i : ℕ) → length
 unfolding texts
 texts-length f size h zero = zero-le
 texts-length f size h (suc n) = let e : size * suc n ≡ size * n + size = omega arith in simp length-append (omega (arith, h n, texts-length f size h n))
+
+-- a loop that appends one text a turn: before the first, one more, and after the last
+module _ (f : ℕ → List ℕ) {out : List ℕ} {at : ℕ} where
+  pub texts-start : Appended out at (texts f 0) out at
+  texts-start = append-as (sym (texts-none f)) (append-none out at)
+
+  pub texts-next : {mid after : List ℕ} {p q i : ℕ} → at ≤ length out → Appended out at (texts f i) mid p → Appended mid p (f i) after q
+      → Appended out at (texts f (i + 1)) after q
+  texts-next {i = i} h a b = append-as (texts-more f i) (append-then out at h a b)
+
+  pub texts-end : {after : List ℕ} {p i n : ℕ} → i ≤ n → n ≤ i → Appended out at (texts f i) after p → Appended out at (texts f n) after p
+  texts-end {i = i} {n = n} a b t = append-as (ap (texts f) (let e : i ≡ n = omega arith in e)) t
 
 -- the first text apart
 texts-first : (f : ℕ → List ℕ) (n : ℕ) → texts f (suc n) ≡ f 0 ++ texts (λ i. f (suc i)) n

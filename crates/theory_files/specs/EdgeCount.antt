@@ -6,11 +6,12 @@ use native.Mathlib.Nat.{suc-inj}
 use mathlib.Core.Path.{_≡_, refl, sym, ap, _∙_}
 use mathlib.Core.Bool.{Bool, true, false, cond, _&&_, _||_}
 use mathlib.Core.List.{List, [], _∷_, map}
-use lib.ListN.{length, getD, length-map, List·getD-map}
+use lib.ListN.{length, getD, length-map}
 use lib.Dec.{T, eqb, eqb→eq, leb→le}
 use Rattle.lists.specs.Test.{given, by-test, bit, bit-yes, bit-no}
-use Rattle.lists.specs.Sum.{sum, sum-add, sum-cong, sum-mono, sum-zeros, sum-length, sum-map, sum-range, sum-places, upTo, range, ∈-range}
+use Rattle.lists.specs.Sum.{sum, sum-add, sum-cong, sum-mono, sum-zeros, sum-length, sum-map, sum-range, sum-places, upTo, upTo-<, range, ∈-range}
 use Rattle.lists.specs.Keep.{gather, sum-gather}
+use Rattle.lists.specs.Ranges.{map-at}
 use Rattle.model.specs.Limits.{entryLimit}
 use Rattle.model.specs.Roster.{Entry, Roster, surveyorCount, standCount, listS, same, has, shifts, listed, totalS, fits}
 use Rattle.model.specs.Edges.{Edge, pairEdge, edgesOf}
@@ -68,13 +69,13 @@ pairs-few (y ∷ xs) n = omega (
     either true b = omega arith
     either false b = omega arith
 
--- the lengths of all lists, place by place
-lengths : (ls : List (List Entry)) → sum (λ i. length (getD ls i [])) (upTo (length ls)) ≡ sum length ls
-lengths ls =
-    sum-cong (λ i. length (getD ls i [])) (λ i. getD (map length ls) i 0) (upTo (length ls)) (λ i m. sym (List·getD-map length ls i []))
-    ∙ ap (λ n. sum (λ i. getD (map length ls) i 0) (upTo n)) (sym (length-map ls length))
-    ∙ sum-places (map length ls)
-    ∙ sum-map (λ n. n) length ls
+-- a sum over a list, place by place
+pub sum-by-place : {A : Type 0} (f : A → ℕ) (a : A) (xs : List A) → sum (λ i. f (getD xs i a)) (upTo (length xs)) ≡ sum f xs
+sum-by-place f a xs =
+    sum-cong (λ i. f (getD xs i a)) (λ i. getD (map f xs) i 0) (upTo (length xs)) (λ i m. sym (map-at f xs i a 0 (upTo-< (length xs) m)))
+    ∙ ap (λ n. sum (λ i. getD (map f xs) i 0) (upTo n)) (sym (length-map xs f))
+    ∙ sum-places (map f xs)
+    ∙ sum-map (λ n. n) f xs
 
 module _ (r : Roster) where
   abbrev ns : ℕ
@@ -114,6 +115,6 @@ module _ (r : Roster) where
     sum-mono (λ i. sum (λ j. sum (λ k. bit (listed r i j k)) shifts) (range 0 nt)) (λ i. length (listS r i)) (range 0 ns) (λ i m. list-few i),
     sum-range (λ i. length (listS r i)) ns,
     ap (λ n. sum (λ i. length (listS r i)) (upTo n)) (sym l),
-    lengths (r .listsS),
+    sum-by-place length [] (r .listsS),
     leb→le (totalS (r .listsS)) entryLimit k,
   ))

@@ -16,7 +16,7 @@ use Rattle.theory_files.specs.Ascending.{edges-ascend, later, Before}
 use Rattle.theory_files.specs.RosterInstance.{lawful}
 use Rattle.theory_ranges.specs.Places.{placeIn}
 use Rattle.theory_ranges.specs.Counted.{lower}
-use Rattle.theory_ranges.specs.RosterSums.{entry, sum-at, surveyor-sum}
+use Rattle.theory_ranges.specs.RosterSums.{entry, surveyor-sum}
 use Rattle.theory_ranges.specs.RosterPlaces.{rankS-is, place-S, whole-S}
 
 -- the edges come by surveyor, ranks count from 1, and an edge's entry stands behind all edges of lower surveyors, at its rank less one

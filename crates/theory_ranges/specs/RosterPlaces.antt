@@ -21,6 +21,7 @@ use Rattle.model.specs.Roster.{listed, listedBack, rankingFits, fits}
 use Rattle.model.specs.Roster as R
 use Rattle.model.specs.Edges.{Edge, position, edgesOf, noEdge, edgeAt}
 use Rattle.model.specs.Ranges.{placeS, placeT, entryCount}
+use Rattle.theory_files.specs.EdgeCount.{sum-by-place}
 use Rattle.theory_files.specs.Position.{position-pos, position-in, position-out, position-same}
 use Rattle.theory_files.specs.Order.{→before}
 use Rattle.theory_files.specs.Ascending.{IsEdge, edge-is, edges-ascend, later, ends-differ, Before}
@@ -29,7 +30,7 @@ use Rattle.theory_files.specs.RosterInstance.{list-fits, entries-fit, lists-cou
 use Rattle.theory_ranges.specs.Places.{placeIn}
 use Rattle.theory_ranges.specs.Entries.{position-left, position-right, ascending-places}
 use Rattle.theory_ranges.specs.Counted.{sooner, all-edges, place-is}
-use Rattle.theory_ranges.specs.RosterSums.{entry, sum-at, surveyor-sum, stand-sum}
+use Rattle.theory_ranges.specs.RosterSums.{entry, surveyor-sum, stand-sum}
 
 or-none : (a b : Bool) → b ≡ false → a || b ≡ a
 or-none true b e = refl
@@ -137,7 +138,7 @@ module _ (r : Roster) (ok : T (fits r)) where
 
   -- ---- the surveyors' side
   pub whole-S : (v : ℕ) → v < ns → (h : Entry → ℕ) → sum (λ d. pk (eqb (at d .surveyor) v) (h (ofS d))) (upTo (length es)) ≡ sum h (listS r v)
-  whole-S v l h = sum-at (λ x. pk (eqb (x .surveyor) v) (h (entry (x .stand) (x .shift)))) noEdge es ∙ surveyor-sum r ok v l h
+  whole-S v l h = sum-by-place (λ x. pk (eqb (x .surveyor) v) (h (entry (x .stand) (x .shift)))) noEdge es ∙ surveyor-sum r ok v l h
 
   orderS : (d e : ℕ) → d < length es → e < length es → at d .surveyor ≡ at e .surveyor
       → sooner (λ x. at x .rankS) d e ≡ ltb (position (ofS d) (listS r (at e .surveyor))) (position (ofS e) (listS r (at e .surveyor)))
@@ -165,13 +166,13 @@ module _ (r : Roster) (ok : T (fits r)) where
   -- as many edges as the surveyors' lists have entries
   pub total-S : totalS (r .listsS) ≡ length es
   total-S =
-      sym (sum-at length [] (r .listsS))
+      sym (sum-by-place length [] (r .listsS))
       ∙ ap (λ n. sum (λ a. length (listS r a)) (upTo n)) (lists-count r ok)
       ∙ sym (all-edges (length es) ns (λ x. at x .surveyor) (λ x. at x .rankS) (listS r) ofS whole-S surveyor-in)
 
   -- ---- the stands' side
   whole-T : (v : ℕ) → v < nt → (h : Entry → ℕ) → sum (λ d. pk (eqb (at d .stand) v) (h (ofT d))) (upTo (length es)) ≡ sum h (entries (listT r v))
-  whole-T v l h = sum-at (λ x. pk (eqb (x .stand) v) (h (entry (x .surveyor) (x .shift)))) noEdge es ∙ stand-sum r ok v l h
+  whole-T v l h = sum-by-place (λ x. pk (eqb (x .stand) v) (h (entry (x .surveyor) (x .shift)))) noEdge es ∙ stand-sum r ok v l h
 
   orderT : (d e : ℕ) → d < length es → e < length es → at d .stand ≡ at e .stand
       → sooner (λ x. at x .rankT) d e ≡ ltb (position (ofT d) (entries (listT r (at e .stand)))) (position (ofT e) (entries (listT r (at e .stand))))
@@ -190,7 +191,7 @@ module _ (r : Roster) (ok : T (fits r)) where
 
   pub total-T : totalT (r .listsT) ≡ length es
   total-T =
-      sym (sum-at (λ R. length (entries R)) (record { strict = []; tied = [] }) (r .listsT))
+      sym (sum-by-place (λ R. length (entries R)) (record { strict = []; tied = [] }) (r .listsT))
       ∙ ap (λ n. sum (λ b. length (entries (listT r b))) (upTo n)) (rankings-count r ok)
       ∙ sym (all-edges (length es) nt (λ x. at x .stand) (λ x. at x .rankT) (λ j. entries (listT r j)) ofT whole-T stand-in)
 

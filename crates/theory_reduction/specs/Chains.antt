@@ -1,18 +1,18 @@
 -- A plan that Lemma W holds of against the arrows of both sides: from an edge of the plan without an arrow of its surveyor a way
 -- leads back to a loss (Lemma B), from one that its firm stand sends no arrow along a way leads forth to an end (Lemma F). Both go
 -- from edge to edge by arcs of cost at most 0, which never close to a loop, so the chain lemma ends them.
-use Prim.Native.Nat.{ℕ, _+_, _≤_, _<_}
+use Prim.Native.Nat.{ℕ, _+_, _-_, _≤_, _<_, min}
 use native.Mathlib.Omega.{arith}
 use native.Mathlib.Decide.{decLe}
-use mathlib.Core.Path.{_≡_, sym, subst}
+use mathlib.Core.Path.{_≡_, refl, sym, subst}
 use mathlib.Core.Logic.{_⊎_, inr, ⊎-elim, by-cases}
 use mathlib.Core.Bool.{Bool, not, _||_}
 use lib.Dec.{T}
 use Rattle.lists.specs.Test.{given, or-case}
 use Rattle.lists.specs.Distinct.{chain}
-use Rattle.model.specs.Instance.{Instance, surveyors, stands, deg}
+use Rattle.model.specs.Instance.{Instance, Side, surveyors, stands, deg}
 use Rattle.model.specs.Reduction.{State, cutS, cutT, arrowS, arrowT, loose, reserved, rule1, rule2, rule3, rule4}
-use Rattle.theory_instance.specs.Lawful.{Lawful, Matching}
+use Rattle.theory_instance.specs.Lawful.{Lawful, Matching, Ranked, Within}
 use Rattle.theory_instance.specs.Degree.{deg-some}
 use Rattle.theory_instance.specs.Walk.{up-one, up-yes, up-no, New, NoBad}
 use Rattle.theory_reduction.specs.Arrows.{better, better-not}
@@ -35,38 +35,30 @@ pub record Sit (G : Instance) (Z : State) (M : ℕ → Bool) : Type 0 where
   pub rest : (e : ℕ) → e < G .m → T (M e) → T (not (Z .fixed e)) → T (Z .rem e)
 
 module _ {G : Instance} {Z : State} {M : ℕ → Bool} (H : Sit G Z M) where
-  -- the plan at the surveyors, at the stands
-  abbrev pub AS : PlanAgainstArrows
-  AS =
+  -- the plan at one side of the instance, with the quotas after the cut there
+  abbrev against : (K : Side) → K .m ≡ G .m → Ranked K → Within K M → (q : ℕ → ℕ)
+      → ((v : ℕ) → q v ≡ min (K .quota v - deg K (Z .fixed) v) (deg K (Z .rem) v)) → PlanAgainstArrows
+  against K i law plan q q-is =
       record {
-        K = surveyors G;
-        law = H .law .atS;
+        K = K;
+        law = law;
         M = M;
-        plan = H .plan .atS;
+        plan = plan;
         rem = Z .rem;
         fixed = Z .fixed;
-        kept = H .kept;
-        rest = H .rest;
-        apart = H .sound .apart;
-        q = cutS G Z;
-        q-is = H .sound .atS .cut-is;
+        kept = λ e l. H .kept e (omega arith);
+        rest = λ e l. H .rest e (omega arith);
+        apart = λ e l. H .sound .apart e (omega arith);
+        q = q;
+        q-is = q-is;
       }
 
+  -- at the surveyors, at the stands
+  abbrev pub AS : PlanAgainstArrows
+  AS = against (surveyors G) refl (H .law .atS) (H .plan .atS) (cutS G Z) (H .sound .atS .cut-is)
+
   abbrev pub AT : PlanAgainstArrows
-  AT =
-      record {
-        K = stands G;
-        law = H .law .atT;
-        M = M;
-        plan = H .plan .atT;
-        rem = Z .rem;
-        fixed = Z .fixed;
-        kept = H .kept;
-        rest = H .rest;
-        apart = H .sound .apart;
-        q = cutT G Z;
-        q-is = H .sound .atT .cut-is;
-      }
+  AT = against (stands G) refl (H .law .atT) (H .plan .atT) (cutT G Z) (H .sound .atT .cut-is)
 
   -- an edge of the plan that remains; the three kinds of parts of an alternating path
   abbrev pub Mem : ℕ → Type 0

@@ -9,7 +9,7 @@ use lib.ListN.{length, getD, length-map}
 use lib.Seq.{ext-getD}
 use lib.Dec.{T, eqb, leb}
 use Rattle.lists.specs.Test.{given, by-eq, eqb-yes, eqb-no, and-l, and-r, and-i}
-use Rattle.lists.specs.Sum.{_∈_, sum, sum-cong, sum-map, sum-places, upTo, upTo-<}
+use Rattle.lists.specs.Sum.{_∈_, sum, sum-cong, sum-map, upTo, upTo-<}
 use Rattle.lists.specs.Keep.{all?, all-∈, getD-∈}
 use Rattle.lists.specs.Ranges.{map-at}
 use Rattle.model.specs.Limits.{nodeLimit, quotaLimit, quotaSumLimit, listLimit}
@@ -17,6 +17,7 @@ use Rattle.model.specs.Roster.{Entry, Ranking, Roster, entries, surveyorCount, 
 use Rattle.model.specs.Roster.{distinct, entryFits, quotasFit, listFits, rankingFits, totalS, totalT, fits}
 use Rattle.model.specs.Edges.{position}
 use Rattle.model_files.specs.Routes.{newNumber, entryBy, renumbered, wayBack}
+use Rattle.theory_files.specs.EdgeCount.{sum-by-place}
 use Rattle.theory_files.specs.Entries.{inRange, in-range, range-in, small}
 use Rattle.theory_files.specs.RosterInstance.{lists-count, rankings-count, list-fits}
 use Rattle.theory_files.specs.ByLists.{list-range, list-distinct, fits-lists, lists-fit}
@@ -30,14 +31,6 @@ noRanking = record { strict = []; tied = [] }
 map-same : {A : Type 0} (f : A → A) (xs : List A) → ((x : A) → x ∈ xs → f x ≡ x) → map f xs ≡ xs
 map-same f [] h = refl
 map-same f (x ∷ xs) h = ap₂ _∷_ (h x (List·Memᴰ·head refl)) (map-same f xs (λ y m. h y (List·Memᴰ·tail m)))
-
--- a sum over a list by its places
-sum-at-places : {A : Type 0} (f : A → ℕ) (d : A) (xs : List A) → sum f xs ≡ sum (λ i. f (getD xs i d)) (upTo (length xs))
-sum-at-places f d xs =
-    let n = upTo (length xs) in
-    sym (sum-map (λ x. x) f xs) ∙ sym (sum-places (map f xs))
-    ∙ ap (λ k. sum (λ i. getD (map f xs) i 0) (upTo k)) (length-map xs f)
-    ∙ sum-cong (λ i. getD (map f xs) i 0) (λ i. f (getD xs i d)) n (λ i m. map-at f xs i d 0 (upTo-< (length xs) m))
 
 -- ---- a list in the route's order
 module _ (route : List ℕ) (n : ℕ) (N : Names route n) {A : Type 0} (d : A) (xs : List A) (l : length xs ≡ n) where
@@ -54,10 +47,10 @@ module _ (route : List ℕ) (n : ℕ) (N : Names route n) {A : Type 0} (d : A) (
   ordered-sum f =
       let g : ℕ → ℕ = λ i. f (getD xs i d) in
       given (places route n N) (λ P.
-      sum-at-places f d ordered ∙ ap (λ k. sum (λ i. f (getD ordered i d)) (upTo k)) ordered-count
+      sym (sum-by-place f d ordered) ∙ ap (λ k. sum (λ i. f (getD ordered i d)) (upTo k)) ordered-count
       ∙ sum-cong (λ i. f (getD ordered i d)) (λ i. g (oldPlace route n N i)) (upTo n) (λ i m. ap f (ordered-at i (upTo-< n m)))
       ∙ sum-back n (oldPlace route n N) (newPlace route n N) (record { into = P .back; back = P .into; there = P .here; here = P .there }) g
-      ∙ ap (λ k. sum g (upTo k)) (sym l) ∙ sym (sum-at-places f d xs))
+      ∙ ap (λ k. sum g (upTo k)) (sym l) ∙ sum-by-place f d xs)
 
   ordered-all : (p : A → Bool) → T (all? p xs) → T (all? p ordered)
   ordered-all p t = all-mapped route (λ s m. given (N .inside s m) (λ (a, b). all-∈ p xs t (getD xs (s - 1) d) (getD-∈ xs (s - 1) d (omega (arith, l)))))

@@ -15,16 +15,9 @@ Inv-loop b flat o₀ i₀ o i = (i ≤ quarterSize) × Fill 0 quarterSize o i (�
 abbrev μ-loop : tie.MeasureT-loop
 μ-loop b flat o₀ i₀ o i = quarterSize - i
 
-loop-holds : tie.Need-loop-holds Inv-loop μ-loop
-loop-holds c = (zero-le, fill-none 0 quarterSize _)
-
-loop-again : tie.Need-loop-again Inv-loop μ-loop
-loop-again c = (omega arith, fill-next 0 quarterSize _ _ _ _ refl (omega arith) (c .before .loop .inv .1))
-
-returns : tie.Need-returns Inv-loop μ-loop
-returns c = λ e h. fill-at 0 (c .before .loop .inv .1) e (omega arith)
-
 pub quarter-spec : {M : Type 1} → statement M
 quarter-spec =
-    tie.close (tie.spec Inv-loop μ-loop loop-holds (λ c. omega (arith, c .before .before .pre)) (λ c. search needs)
-    (λ c. omega (arith, c .before .loop .inv .1 .size)) (λ c. omega arith) (λ c. omega arith) loop-again returns)
+    tie.close (tie.spec Inv-loop μ-loop (λ c. (zero-le, fill-none 0 quarterSize _)) (λ c. omega (arith, c .before .before .pre)) (λ c. search needs)
+    (λ c. omega (arith, c .before .loop .inv .1 .size)) (λ c. omega arith) (λ c. omega arith)
+    (λ c. (omega arith, fill-next 0 quarterSize _ _ _ _ refl (omega arith) (c .before .loop .inv .1)))
+    (λ c. λ e h. fill-at 0 (c .before .loop .inv .1) e (omega arith)))

@@ -42,27 +42,6 @@ loop-holds c =
       fill-none false 1024 (λ e. f e .tied),
     )
 
-cast-c : tie.Need-cast-c Inv-loop μ-loop
-cast-c c = omega (arith, low (c .before))
-
-mul-t-2 : tie.Need-mul-t-2 Inv-loop μ-loop
-mul-t-2 c = omega (arith, low (c .before))
-
-add-t : tie.Need-add-t Inv-loop μ-loop
-add-t c = omega (arith, low (c .before))
-
-add-t-2 : tie.Need-add-t-2 Inv-loop μ-loop
-add-t-2 c = omega (arith, low (c .before))
-
-element-copy-out-t : tie.Need-element-copy-out-t Inv-loop μ-loop
-element-copy-out-t c = omega (arith, low (c .before))
-
-cast-sv : tie.Need-cast-sv Inv-loop μ-loop
-cast-sv c = omega (arith, low (c .before .before))
-
-element-copy-out-rank-s : tie.Need-element-copy-out-rank-s Inv-loop μ-loop
-element-copy-out-rank-s c = omega (arith, low (c .before .before))
-
 loop-again : tie.Need-loop-again Inv-loop μ-loop
 loop-again c =
     let l = c .before .before .before .before .before .before in
@@ -102,7 +81,8 @@ returns c =
 
 pub filled-spec : {M : Type 1} → statement M
 filled-spec =
-    tie.close (tie.spec Inv-loop μ-loop loop-holds (λ c. search needs) (λ c. search needs) cast-c (λ c. search needs) mul-t-2
-    add-t add-t-2 element-copy-out-t cast-sv (λ c. search needs) (λ c. search needs) (λ c. search needs) (λ c. search needs)
-    (λ c. search needs) (λ c. search needs) element-copy-out-rank-s (λ c. search needs) (λ c. search needs) (λ c κs. search needs)
-    (λ c. search needs) (λ c. search needs) (λ c. search needs) (λ c. search needs) loop-again returns)
+    tie.close (tie.spec Inv-loop μ-loop loop-holds (λ c. search needs) (λ c. search needs) (λ c. omega (arith, low (c .before))) (λ c. search needs)
+    (λ c. omega (arith, low (c .before))) (λ c. omega (arith, low (c .before))) (λ c. omega (arith, low (c .before))) (λ c. omega (arith, low (c .before)))
+    (λ c. omega (arith, low (c .before .before))) (λ c. search needs) (λ c. search needs) (λ c. search needs) (λ c. search needs) (λ c. search needs)
+    (λ c. search needs) (λ c. omega (arith, low (c .before .before))) (λ c. search needs) (λ c. search needs) (λ c κs. search needs) (λ c. search needs)
+    (λ c. search needs) (λ c. search needs) (λ c. search needs) loop-again returns)

@@ -7,7 +7,7 @@ use borrow.Author.Needs.{needs}
 use Rattle.model.specs.Limits.{nodeLimit, emptyRank}
 use Rattle.arrays.specs.ArrayInstance.{at}
 use Rattle.offers.specs.declared.Standing.{Standing}
-use Rattle.offers.specs.Turned.{standing, turn-first, turn-instead, turn-away, first-same, instead-same, away-same}
+use Rattle.offers.specs.Turned.{standing, turned-first, turned-instead, turned-away}
 use Rattle.offers.proofs.turn.Statement.{statement}
 use Rattle.offers.proofs.turn.Tie as tie
 
@@ -56,14 +56,7 @@ element-write-held : tie.Need-element-write-held
 element-write-held c = let s = c .before .before .before .before in omega (arith, by s, s .pre .1 .0 .2)
 
 returns : tie.Need-returns
-returns c =
-    let s = c .before .before .before .before in
-    let a = s .args in
-    record {
-      after = turn-first (a .m) (a .sv .now) (a .st .now) (a .rs .now) (a .rt .now) (before s) (a .e) (omega arith);
-      lowest = omega arith;
-      same = first-same (a .sv .now) (a .st .now) (a .rs .now) (before s) (a .e);
-    }
+returns c = let s = c .before .before .before .before in turned-first (before s) (s .args .e) (omega arith)
 
 cast-u : tie.Need-cast-u
 cast-u c = let s = c .before .before .before .before .before .before .before .before in omega (arith, other s (omega arith))
@@ -93,24 +86,12 @@ element-write-next c =
     omega (arith, other s (omega arith), s .pre .1 .0 .0)
 
 returns-2 : tie.Need-returns-2
-returns-2 c =
-    let s = c .before .before .before .before .before .before .before .before .before .before in
-    let a = s .args in
-    record {
-      after = turn-instead (a .m) (a .sv .now) (a .st .now) (a .rs .now) (a .rt .now) (before s) (a .e) (omega arith) (omega arith);
-      lowest = omega arith;
-      same = instead-same (a .sv .now) (a .st .now) (a .rs .now) (before s) (a .e) (there s) _ (omega arith) (omega arith);
-    }
+returns-2 c = let s = c .before .before .before .before .before .before .before .before .before .before in
+    turned-instead (before s) (s .args .e) (omega arith) (omega arith) (omega arith) (omega arith)
 
 returns-3 : tie.Need-returns-3
-returns-3 c =
-    let s = c .before .before .before .before .before .before .before .before .before .before in
-    let a = s .args in
-    record {
-      after = turn-instead (a .m) (a .sv .now) (a .st .now) (a .rs .now) (a .rt .now) (before s) (a .e) (omega arith) (omega arith);
-      lowest = omega arith;
-      same = instead-same (a .sv .now) (a .st .now) (a .rs .now) (before s) (a .e) (there s) _ (omega arith) (omega arith);
-    }
+returns-3 c = let s = c .before .before .before .before .before .before .before .before .before .before in
+    turned-instead (before s) (s .args .e) (omega arith) (omega arith) (omega arith) (omega arith)
 
 add-next-2 : tie.Need-add-next-2
 add-next-2 c = let s = c .before .before .before .before .before .before .before .before in omega (arith, s .pre .0 .4 (s .args .e) (s .pre .0 .1))
@@ -119,14 +100,7 @@ element-write-next-2 : tie.Need-element-write-next-2
 element-write-next-2 c = let s = c .before .before .before .before .before .before .before .before in omega (arith, by s, s .pre .1 .0 .0)
 
 returns-4 : tie.Need-returns-4
-returns-4 c =
-    let s = c .before .before .before .before .before .before .before .before in
-    let a = s .args in
-    record {
-      after = turn-away (a .m) (a .sv .now) (a .st .now) (a .rs .now) (a .rt .now) (before s) (a .e) (omega arith) (omega arith);
-      lowest = omega arith;
-      same = away-same (a .sv .now) (a .st .now) (a .rs .now) (before s) (a .e);
-    }
+returns-4 c = let s = c .before .before .before .before .before .before .before .before in turned-away (before s) (s .args .e) (omega arith) (omega arith)
 
 pub turn-spec : {M : Type 1} → statement M
 turn-spec =

@@ -2,12 +2,11 @@
 -- nothing.
 use Prim.Native.Nat.{_+_, _-_, _≤_, _<_, zero-le}
 use native.Mathlib.Omega.{arith}
-use mathlib.Core.Path.{_≡_, refl, sym, ap, _∙_, subst}
-use lib.ListN.{set}
+use mathlib.Core.Path.{_≡_, sym, ap, _∙_, subst}
 use Rattle.arrays.specs.ArrayInstance.{at}
 use Rattle.theory_days.specs.Chain.{Proper}
 use Rattle.plan_days.specs.Chase.{chaseIn, turns, turns-end, chase-stop, chase-half, chase-on}
-use Rattle.plan_days.specs.Turns.{Turn, turn-ends, turn-on, proper-ends}
+use Rattle.plan_days.specs.Turns.{Turn, stand-ends, stand-meets, surveyor-ends, surveyor-meets, proper-ends}
 use Rattle.plan_days.proofs.chase.Statement.{statement}
 use Rattle.plan_days.proofs.chase.Tie as tie
 use Rattle.plan_days.proofs.chase.Reads as reads
@@ -38,66 +37,48 @@ settle-requires c κs =
 returns : tie.Need-returns Inv-loop μ-loop
 returns c =
     let l = c .before .before .before .before in
-    let s = l .before in
-    let a = s .args in
-    let r = c .before .settle in
-    let (none, held) = turn-ends (a .n) (a .st .now) (a .sv .now) (l .loop .day) (l .loop .wt) (l .loop .ws) (l .loop .cur) (a .a) (a .b)
-    (s .pre .nodesT) (s .pre .differ) (s .pre .a-in) (s .pre .b-in) (l .loop .inv .2) (r .ensures .0) (r .ensures .1) (c .if1 .taken) in (
+    let a = l .before .args in
+    let r = c .before .settle .ensures in
+    let (none, held) = stand-ends (l .before .pre) (l .loop .inv .2) (r .0) (r .1) (c .if1 .taken) in (
       sym (l .loop .inv .1 ∙ turns (a .n) (a .sv .now) (a .st .now) (a .a) (a .b) (l .loop .i) (l .loop .cur) (l .loop .day) (omega arith)
           ∙ chase-stop (a .n) (a .sv .now) (a .st .now) (a .a) (a .b) (a .n - (l .loop .i + 1)) (l .loop .cur) (l .loop .day) (a .n) none (omega arith)),
       l .loop .inv .2 .told,
       held,
     )
 
-sub-x : tie.Need-sub-x Inv-loop μ-loop
-sub-x c = omega (arith, c .if1 .left)
+-- the entry that is met at the stand, and the one that is met at its surveyor then
+met : (c : tie.Else1 Inv-loop μ-loop) → c .before .settle .result - 1 < c .before .before .before .before .before .args .n
+met c = let l = c .before .before .before .before in let r = c .before .settle .ensures in
+    stand-meets (l .before .pre) (l .loop .inv .2) (r .0) (r .1) (c .if1 .left) .0
+
+met-2 : (c : tie.Else2 Inv-loop μ-loop) → c .before .settle2 .result - 1 < c .before .before .before .before .before .before .before .before .args .n
+met-2 c =
+    let H = c .before .before .before in
+    let l = H .before .before .before .before in
+    let r = H .before .settle .ensures in
+    let q = c .before .settle2 .ensures in
+    surveyor-meets (l .before .pre) (stand-meets (l .before .pre) (l .loop .inv .2) (r .0) (r .1) (H .if1 .left) .2) (q .0) (q .1) (c .if2 .left) .0
 
 cast-x : tie.Need-cast-x Inv-loop μ-loop
-cast-x c =
-    let H = c in
-    let l = H .before .before .before .before in
-    let s = l .before in
-    let a = s .args in
-    let r = H .before .settle in
-    let (e-in, e-low, U) = turn-on (a .n) (a .st .now) (a .sv .now) (l .loop .day) (l .loop .wt) (l .loop .ws) (l .loop .cur) (a .a) (a .b)
-    (s .pre .nodesT) (s .pre .differ) (s .pre .a-in) (s .pre .b-in) (l .loop .inv .2) (r .ensures .0) (r .ensures .1) (H .if1 .left) in
-    omega (arith, e-in, s .pre .many)
+cast-x c = omega (arith, met c, c .before .before .before .before .before .pre .many)
 
 element-write-day : tie.Need-element-write-day Inv-loop μ-loop
-element-write-day c =
-    let H = c in
-    let l = H .before .before .before .before in
-    let s = l .before in
-    let a = s .args in
-    let r = H .before .settle in
-    let (e-in, e-low, U) = turn-on (a .n) (a .st .now) (a .sv .now) (l .loop .day) (l .loop .wt) (l .loop .ws) (l .loop .cur) (a .a) (a .b)
-    (s .pre .nodesT) (s .pre .differ) (s .pre .a-in) (s .pre .b-in) (l .loop .inv .2) (r .ensures .0) (r .ensures .1) (H .if1 .left) in
-    omega (arith, e-in, s .pre .many)
+element-write-day c = omega (arith, met c, c .before .before .before .before .before .pre .many)
 
 settle-requires-2 : tie.Need-settle-requires-2 Inv-loop μ-loop
 settle-requires-2 c κs =
-    let H = c .before in
-    let l = H .before .before .before .before in
-    let s = l .before in
-    let a = s .args in
-    let r = H .before .settle in
-    let (e-in, e-low, U) = turn-on (a .n) (a .st .now) (a .sv .now) (l .loop .day) (l .loop .wt) (l .loop .ws) (l .loop .cur) (a .a) (a .b)
-    (s .pre .nodesT) (s .pre .differ) (s .pre .a-in) (s .pre .b-in) (l .loop .inv .2) (r .ensures .0) (r .ensures .1) (H .if1 .left) in
-    (omega (arith, e-in, s .pre .many), s .pre .nodesS (r .result - 1) e-in, s .pre .b-in, s .pre .a-in)
+    let P = c .before .before .before .before .before .before .pre in
+    (omega (arith, met (c .before), P .many), P .nodesS (c .before .before .settle .result - 1) (met (c .before)), P .b-in, P .a-in)
 
 returns-2 : tie.Need-returns-2 Inv-loop μ-loop
 returns-2 c =
     let H = c .before .before .before in
     let l = H .before .before .before .before in
-    let s = l .before in
-    let a = s .args in
+    let a = l .before .args in
     let r = H .before .settle in
-    let (e-in, e-low, U) = turn-on (a .n) (a .st .now) (a .sv .now) (l .loop .day) (l .loop .wt) (l .loop .ws) (l .loop .cur) (a .a) (a .b)
-    (s .pre .nodesT) (s .pre .differ) (s .pre .a-in) (s .pre .b-in) (l .loop .inv .2) (r .ensures .0) (r .ensures .1) (H .if1 .left) in
-    let q = c .before .settle2 in
-    let (none, held) = turn-ends (a .n) (a .sv .now) (a .st .now) (set (l .loop .day) (r .result - 1) (a .b)) (l .loop .ws) _ (r .result - 1) (a .b) (a .a)
-    (s .pre .nodesS) (λ q. s .pre .differ (sym q)) (s .pre .b-in) (s .pre .a-in) U
-    (q .ensures .0) (q .ensures .1) (c .if2 .taken) in (
+    let (e-in, e-low, U) = stand-meets (l .before .pre) (l .loop .inv .2) (r .ensures .0) (r .ensures .1) (H .if1 .left) in
+    let q = c .before .settle2 .ensures in
+    let (none, held) = surveyor-ends (l .before .pre) U (q .0) (q .1) (c .if2 .taken) in (
       sym (l .loop .inv .1 ∙ turns (a .n) (a .sv .now) (a .st .now) (a .a) (a .b) (l .loop .i) (l .loop .cur) (l .loop .day) (omega arith)
           ∙ chase-half (a .n) (a .sv .now) (a .st .now) (a .a) (a .b) (a .n - (l .loop .i + 1)) (l .loop .cur) (l .loop .day) (r .result - 1) e-low
           (a .n) none
@@ -106,59 +87,25 @@ returns-2 c =
       U .told,
     )
 
-sub-cur : tie.Need-sub-cur Inv-loop μ-loop
-sub-cur c = omega (arith, c .if2 .left)
-
 cast-cur : tie.Need-cast-cur Inv-loop μ-loop
-cast-cur c =
-    let H = c .before .before .before in
-    let l = H .before .before .before .before in
-    let s = l .before in
-    let a = s .args in
-    let r = H .before .settle in
-    let (e-in, e-low, U) = turn-on (a .n) (a .st .now) (a .sv .now) (l .loop .day) (l .loop .wt) (l .loop .ws) (l .loop .cur) (a .a) (a .b)
-    (s .pre .nodesT) (s .pre .differ) (s .pre .a-in) (s .pre .b-in) (l .loop .inv .2) (r .ensures .0) (r .ensures .1) (H .if1 .left) in
-    let q = c .before .settle2 in
-    let (f-in, f-low, W) = turn-on (a .n) (a .sv .now) (a .st .now) (set (l .loop .day) (r .result - 1) (a .b)) (l .loop .ws) _ (r .result - 1) (a .b) (a .a)
-    (s .pre .nodesS) (λ q. s .pre .differ (sym q)) (s .pre .b-in) (s .pre .a-in) U
-    (q .ensures .0) (q .ensures .1) (c .if2 .left) in
-    omega (arith, f-in, s .pre .many)
+cast-cur c = omega (arith, met-2 c, c .before .before .before .before .before .before .before .before .pre .many)
 
 element-write-day-2 : tie.Need-element-write-day-2 Inv-loop μ-loop
-element-write-day-2 c =
-    let H = c .before .before .before in
-    let l = H .before .before .before .before in
-    let s = l .before in
-    let a = s .args in
-    let r = H .before .settle in
-    let (e-in, e-low, U) = turn-on (a .n) (a .st .now) (a .sv .now) (l .loop .day) (l .loop .wt) (l .loop .ws) (l .loop .cur) (a .a) (a .b)
-    (s .pre .nodesT) (s .pre .differ) (s .pre .a-in) (s .pre .b-in) (l .loop .inv .2) (r .ensures .0) (r .ensures .1) (H .if1 .left) in
-    let q = c .before .settle2 in
-    let (f-in, f-low, W) = turn-on (a .n) (a .sv .now) (a .st .now) (set (l .loop .day) (r .result - 1) (a .b)) (l .loop .ws) _ (r .result - 1) (a .b) (a .a)
-    (s .pre .nodesS) (λ q. s .pre .differ (sym q)) (s .pre .b-in) (s .pre .a-in) U
-    (q .ensures .0) (q .ensures .1) (c .if2 .left) in
-    omega (arith, f-in, s .pre .many)
+element-write-day-2 c = omega (arith, met-2 c, c .before .before .before .before .before .before .before .before .pre .many)
 
 add-i : tie.Need-add-i Inv-loop μ-loop
 add-i c = let l = c .before .before .before .before .before .before .before in omega (arith, l .before .pre .many)
-
-loop-less : tie.Need-loop-less Inv-loop μ-loop
-loop-less c = omega arith
 
 loop-again : tie.Need-loop-again Inv-loop μ-loop
 loop-again c =
     let H = c .before .before .before in
     let l = H .before .before .before .before in
-    let s = l .before in
-    let a = s .args in
+    let a = l .before .args in
     let r = H .before .settle in
-    let (e-in, e-low, U) = turn-on (a .n) (a .st .now) (a .sv .now) (l .loop .day) (l .loop .wt) (l .loop .ws) (l .loop .cur) (a .a) (a .b)
-    (s .pre .nodesT) (s .pre .differ) (s .pre .a-in) (s .pre .b-in) (l .loop .inv .2) (r .ensures .0) (r .ensures .1) (H .if1 .left) in
+    let (e-in, e-low, U) = stand-meets (l .before .pre) (l .loop .inv .2) (r .ensures .0) (r .ensures .1) (H .if1 .left) in
     let q = c .before .settle2 in
-    let more = H .before .before .before .loop-test .taken in
-    let (f-in, f-low, W) = turn-on (a .n) (a .sv .now) (a .st .now) (set (l .loop .day) (r .result - 1) (a .b)) (l .loop .ws) _ (r .result - 1) (a .b) (a .a)
-    (s .pre .nodesS) (λ q. s .pre .differ (sym q)) (s .pre .b-in) (s .pre .a-in) U
-    (q .ensures .0) (q .ensures .1) (c .if2 .left) in (
+    let (f-in, f-low, W) = surveyor-meets (l .before .pre) U (q .ensures .0) (q .ensures .1) (c .if2 .left) in
+    let more = H .before .before .before .loop-test .taken in (
       omega (arith, more),
       l .loop .inv .1 ∙ turns (a .n) (a .sv .now) (a .st .now) (a .a) (a .b) (l .loop .i) (l .loop .cur) (l .loop .day) (omega (arith, more))
           ∙ chase-on (a .n) (a .sv .now) (a .st .now) (a .a) (a .b) (a .n - (l .loop .i + 1)) (l .loop .cur) (l .loop .day) (r .result - 1) e-low
@@ -177,37 +124,15 @@ returns-3 c =
     let l = c .before .before .before in
     let s = l .before in
     let a = s .args in
-    let r = c .settle3 in
+    let r = c .settle3 .ensures in
     let end : chaseIn (a .n) (a .sv .now) (a .st .now) (a .a) (a .b) (a .n) (a .k) (a .day .now) ≡ l .loop .day = l .loop .inv .1
     ∙ turns-end (a .n) (a .sv .now) (a .st .now) (a .a) (a .b) (l .loop .i) (l .loop .cur) (l .loop .day) (omega arith) in
     let free = proper-ends (a .n) (a .sv .now) (a .st .now) (l .loop .day) (l .loop .wt) (l .loop .ws) (l .loop .cur) (a .a) (a .b) (s .pre .nodesT)
     (s .pre .differ) (s .pre .a-in) (s .pre .b-in) (l .loop .inv .2) (subst (λ ds. Proper (at (a .sv .now)) (at (a .st .now)) (a .n) (at ds)) end
-    (s .pre .proper)) in (
-      sym end,
-      l .loop .inv .2 .told,
-      turn-ends (a .n) (a .st .now) (a .sv .now) (l .loop .day) (l .loop .wt) (l .loop .ws) (l .loop .cur) (a .a) (a .b)
-          (s .pre .nodesT) (s .pre .differ) (s .pre .a-in) (s .pre .b-in) (l .loop .inv .2) (r .ensures .0) (r .ensures .1) (r .ensures .0 ∙ free) .1,
-    )
+    (s .pre .proper)) in
+    (sym end, l .loop .inv .2 .told, stand-ends (s .pre) (l .loop .inv .2) (r .0) (r .1) (r .0 ∙ free) .1)
 
 pub chase-spec : {M : Type 1} → statement M
 chase-spec =
-    tie.close
-    (tie.spec
-    Inv-loop
-    μ-loop
-    loop-holds
-    settle-requires
-    returns
-    sub-x
-    cast-x
-    element-write-day
-    settle-requires-2
-    returns-2
-    sub-cur
-    cast-cur
-    element-write-day-2
-    add-i
-    loop-less
-    loop-again
-    settle-requires-3
-    returns-3)
+    tie.close (tie.spec Inv-loop μ-loop loop-holds settle-requires returns (λ c. omega (arith, c .if1 .left)) cast-x element-write-day settle-requires-2
+    returns-2 (λ c. omega (arith, c .if2 .left)) cast-cur element-write-day-2 add-i (λ c. omega arith) loop-again settle-requires-3 returns-3)

@@ -38,21 +38,6 @@ in-cells c =
     let l = c .before .before .before .before .before in
     let p = l .before .pre in (p .0 .1 (l .loop .i - 1) (omega arith), p .0 .2 (l .loop .i - 1) (omega arith), omega (arith, p .1 .0, l .loop .inv .1))
 
-cast-r : tie.Need-cast-r Inv-loop μ-loop
-cast-r c = omega (arith, in-cells c .1)
-
-mul-cell : tie.Need-mul-cell Inv-loop μ-loop
-mul-cell c = omega (arith, in-cells c)
-
-add-cell : tie.Need-add-cell Inv-loop μ-loop
-add-cell c = omega (arith, in-cells c)
-
-mul-cell-2 : tie.Need-mul-cell-2 Inv-loop μ-loop
-mul-cell-2 c = omega (arith, in-cells c)
-
-slice-write-cell : tie.Need-slice-write-cell Inv-loop μ-loop
-slice-write-cell c = omega (arith, in-cells c)
-
 loop-again : tie.Need-loop-again Inv-loop μ-loop
 loop-again c =
     let l = c .before .before .before .before .before in
@@ -96,6 +81,7 @@ returns c =
     )
 
 pub cells-spec : {M : Type 1} → statement M
-cells-spec = tie.close (tie.spec Inv-loop μ-loop loop-holds (λ c. search needs) (λ c. search needs) (λ c. search needs) cast-v
-    (λ c. search needs) cast-r (λ c. search needs) mul-cell add-cell mul-cell-2 slice-write-cell (λ c. search needs) loop-again (λ c. search needs)
-    loop-again-2 (λ c. c .before .loop .inv .1) returns)
+cells-spec =
+    tie.close (tie.spec Inv-loop μ-loop loop-holds (λ c. search needs) (λ c. search needs) (λ c. search needs) cast-v (λ c. search needs)
+    (λ c. omega (arith, in-cells c .1)) (λ c. search needs) (λ c. omega (arith, in-cells c)) (λ c. omega (arith, in-cells c)) (λ c. omega (arith, in-cells c))
+    (λ c. omega (arith, in-cells c)) (λ c. search needs) loop-again (λ c. search needs) loop-again-2 (λ c. c .before .loop .inv .1) returns)

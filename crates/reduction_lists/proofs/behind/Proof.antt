@@ -1,90 +1,35 @@
 -- A walk along a node's list: before e nothing passes the test.
-use mathlib.Core.Bool.{Bool, _&&_}
-use mathlib.Core.List.{List}
-use Prim.Native.Nat.{ℕ, _-_}
+use mathlib.Core.Bool.{_&&_}
+use Prim.Native.Nat.{_-_}
 use lib.Dec.{leb}
 use Rattle.arrays.specs.ArrayInstance.{at, flag}
 use native.Mathlib.Omega.{arith}
 use borrow.Author.Needs.{needs}
-use Rattle.reduction_lists.specs.Listed.{Listed}
-use Rattle.reduction_lists.specs.Walks.{Walked, Next, first-place, next-place, walk-starts, walk-on, walk-hit, walk-ends}
+use Rattle.reduction_lists.specs.Walks.{Walks, Next, first-read, next-walked, walk-starts, walk-on, walk-hit, walk-ends}
 use Rattle.reduction_lists.proofs.behind.Statement.{statement}
 use Rattle.reduction_lists.proofs.behind.Tie as tie
 
-abbrev test : (p : List Bool) (rank : List ℕ) (bar : ℕ) → ℕ → Bool
-test p rank bar d = flag p d && leb bar (at rank d)
-
 abbrev Inv-loop : tie.InvT-loop
-Inv-loop m table v p rank bar k₀ e₀ k e = (end : List ℕ) → Listed m end table → Walked m end table v (test p rank bar) k e
+Inv-loop m table v p rank bar k₀ e₀ k e = Walks m table v (λ d. flag p d && leb bar (at rank d)) k e
 
 abbrev μ-loop : tie.MeasureT-loop
 μ-loop m table v p rank bar k₀ e₀ k e = m - e
 
-loop-holds : tie.Need-loop-holds Inv-loop μ-loop
-loop-holds c = let s = c .before .before in let a = s .args in λ end L. walk-starts L (a .v) (s .pre .0) (test (a .p .now) (a .rank .now) (a .bar))
-
-cast-k : tie.Need-cast-k Inv-loop μ-loop
-cast-k c = omega (arith, first-place (c .before .pre .1 .1) (c .before .args .v) (c .before .pre .0))
-
-mul-e : tie.Need-mul-e Inv-loop μ-loop
-mul-e c = omega (arith, first-place (c .before .pre .1 .1) (c .before .args .v) (c .before .pre .0))
-
-element-copy-out-e : tie.Need-element-copy-out-e Inv-loop μ-loop
-element-copy-out-e c = omega (arith, first-place (c .before .pre .1 .1) (c .before .args .v) (c .before .pre .0))
-
-cast-e : tie.Need-cast-e Inv-loop μ-loop
-cast-e c = let s = c .before .before in omega (arith, first-place (s .pre .1 .1) (s .args .v) (s .pre .0))
-
--- a turn, and the next place of the list
-abbrev turn : tie.Else1 Inv-loop μ-loop → tie.In-loop Inv-loop μ-loop
-turn c = c .before .before .before
-
+-- the next place of the list
 next : (c : tie.In-loop Inv-loop μ-loop) → let s = c .before .before .before .before .args in
     Next (s .m) (s .table .now) (c .before .loop .k) (c .before .loop .e)
-next c =
-    let s = c .before .before .before .before in
-    let l = c .before .loop in
-    next-place (s .pre .1 .1) (s .args .v) (s .pre .0) (l .k) (l .e) (c .loop-test .taken) (l .inv _ (s .pre .1 .1) .at-edge)
-
-add-k-2 : tie.Need-add-k-2 Inv-loop μ-loop
-add-k-2 c = omega (arith, next (turn c))
-
-mul-e-2 : tie.Need-mul-e-2 Inv-loop μ-loop
-mul-e-2 c = omega (arith, next (turn c))
-
-element-copy-out-e-2 : tie.Need-element-copy-out-e-2 Inv-loop μ-loop
-element-copy-out-e-2 c = omega (arith, next (turn c))
-
-cast-e-2 : tie.Need-cast-e-2 Inv-loop μ-loop
-cast-e-2 c = omega (arith, next (turn (c .before)))
-
-loop-less : tie.Need-loop-less Inv-loop μ-loop
-loop-less c = omega (arith, next (turn (c .before)))
-
-returns : tie.Need-returns Inv-loop μ-loop
-returns c =
-    let t = c .before .before .before in
-    let s = t .before .before .before .before in
-    let a = s .args in
-    let l = t .before .loop in
-    λ end L. walk-hit L (a .v) (s .pre .0) (test (a .p .now) (a .rank .now) (a .bar)) (l .k) (l .e) (t .loop-test .taken) (l .inv end L) (c .if1 .taken)
+next c = next-walked (c .before .before .before .before .pre) (c .before .loop .inv) (c .loop-test .taken)
 
 loop-again : tie.Need-loop-again Inv-loop μ-loop
-loop-again c =
-    let t = turn (c .before) in
-    let s = t .before .before .before .before in
-    let a = s .args in
-    let l = t .before .loop in
-    λ end L. walk-on L (a .v) (s .pre .0) (test (a .p .now) (a .rank .now) (a .bar)) (l .k) (l .e) (t .loop-test .taken) (l .inv end L) (c .before .if1 .left)
-
-returns-2 : tie.Need-returns-2 Inv-loop μ-loop
-returns-2 c =
-    let s = c .before .before .before .before in
-    let a = s .args in
-    let l = c .before .loop in
-    λ end L. walk-ends L (a .v) (s .pre .0) (test (a .p .now) (a .rank .now) (a .bar)) (l .k) (l .e) (c .loop-test .left) (l .inv end L)
+loop-again c = let t = c .before .before .before .before in
+    λ end L. walk-on L (t .before .before .before .before .pre .0) (t .loop-test .taken) (t .before .loop .inv end L) (c .before .if1 .left)
 
 pub behind-spec : {M : Type 1} → statement M
 behind-spec =
-    tie.close (tie.spec Inv-loop μ-loop (λ c. omega (arith, c .pre .0)) (λ c. omega (arith, c .pre .0)) (λ c. omega (arith, c .pre .0)) cast-k mul-e element-copy-out-e cast-e loop-holds
-    (λ c. search needs) (λ c. search needs) returns add-k-2 mul-e-2 element-copy-out-e-2 cast-e-2 loop-less loop-again returns-2)
+    tie.close (tie.spec Inv-loop μ-loop (λ c. omega (arith, c .pre .0)) (λ c. omega (arith, c .pre .0)) (λ c. omega (arith, c .pre .0))
+    (λ c. omega (arith, first-read (c .before .pre))) (λ c. omega (arith, first-read (c .before .pre))) (λ c. omega (arith, first-read (c .before .pre)))
+    (λ c. omega (arith, first-read (c .before .before .pre))) (λ c end L. walk-starts L (c .before .before .pre .0)) (λ c. search needs) (λ c. search needs)
+    (λ c end L. let t = c .before .before .before in walk-hit (t .loop-test .taken) (t .before .loop .inv end L) (c .if1 .taken))
+    (λ c. omega (arith, next (c .before .before .before))) (λ c. omega (arith, next (c .before .before .before)))
+    (λ c. omega (arith, next (c .before .before .before))) (λ c. omega (arith, next (c .before .before .before .before)))
+    (λ c. omega (arith, next (c .before .before .before .before))) loop-again (λ c end L. walk-ends (c .loop-test .left) (c .before .loop .inv end L)))

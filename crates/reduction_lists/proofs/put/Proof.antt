@@ -38,18 +38,6 @@ room c =
     let l = c .loop in
     (spelling-room (p .1) (a .v) (a .k) (a .table .now) (p .2) (l .e) (l .i) (l .table) (l .inv), l .inv .size, p .1 .edges)
 
-cast-table : tie.Need-cast-table Inv-loop μ-loop
-cast-table c = omega (arith, room (c .before), c .loop-test .taken)
-
-mul-table : tie.Need-mul-table Inv-loop μ-loop
-mul-table c = omega (arith, room (c .before))
-
-element-write-table : tie.Need-element-write-table Inv-loop μ-loop
-element-write-table c = omega (arith, room (c .before))
-
-add-i : tie.Need-add-i Inv-loop μ-loop
-add-i c = omega (arith, room (c .before))
-
 -- the link of an edge goes on
 onward : (c : tie.In-loop Inv-loop μ-loop) → let a = c .before .before .before .args in let e = c .before .loop .e in
     (at (a .next .now) e ≤ a .m) × (e < at (a .next .now) e)
@@ -74,18 +62,6 @@ loop-again c =
     let l = c .before .before .loop in
     spelling-on (p .1) (a .v) (a .k) (a .table .now) (p .2) (l .e) (l .i) (l .table) (l .inv) (c .before .loop-test .taken)
 
-cast-table-2 : tie.Need-cast-table-2 Inv-loop μ-loop
-cast-table-2 c = omega (arith, room (c .before))
-
-mul-table-2 : tie.Need-mul-table-2 Inv-loop μ-loop
-mul-table-2 c = omega (arith, room (c .before))
-
-element-write-table-2 : tie.Need-element-write-table-2 Inv-loop μ-loop
-element-write-table-2 c = omega (arith, room (c .before))
-
-add-result : tie.Need-add-result Inv-loop μ-loop
-add-result c = omega (arith, room (c .before))
-
 returns : tie.Need-returns Inv-loop μ-loop
 returns c =
     let p = c .before .before .before .pre in
@@ -95,5 +71,7 @@ returns c =
 
 pub put-spec : {M : Type 1} → statement M
 put-spec =
-    tie.close (tie.spec Inv-loop μ-loop (λ c. search needs) (λ c. search needs) cast-e loop-holds cast-table mul-table element-write-table add-i
-    (λ c. search needs) (λ c. search needs) cast-e-2 loop-less loop-again cast-table-2 mul-table-2 element-write-table-2 add-result returns)
+    tie.close (tie.spec Inv-loop μ-loop (λ c. search needs) (λ c. search needs) cast-e loop-holds (λ c. omega (arith, room (c .before), c .loop-test .taken))
+    (λ c. omega (arith, room (c .before))) (λ c. omega (arith, room (c .before))) (λ c. omega (arith, room (c .before))) (λ c. search needs)
+    (λ c. search needs) cast-e-2 loop-less loop-again (λ c. omega (arith, room (c .before))) (λ c. omega (arith, room (c .before)))
+    (λ c. omega (arith, room (c .before))) (λ c. omega (arith, room (c .before))) returns)

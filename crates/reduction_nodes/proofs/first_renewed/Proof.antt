@@ -1,10 +1,10 @@
 -- The nodes passed are renewed.
 use mathlib.Core.Path.{_≡_, subst, _∙_}
-use Prim.Native.Nat.{ℕ, _-_, _≤_, _<_, zero-le}
+use Prim.Native.Nat.{ℕ, _-_, _≤_, zero-le}
 use native.Mathlib.Omega.{arith}
 use borrow.Author.Needs.{needs}
 use lib.ListN.{length, length-set}
-use Rattle.model.specs.Limits.{nodeLimit, emptyRank}
+use Rattle.model.specs.Limits.{nodeLimit}
 use Rattle.arrays.specs.ArrayInstance.{at}
 use Rattle.reduction_cells.specs.Painted.{among}
 use mathlib.Core.Bool.{_&&_}
@@ -14,7 +14,7 @@ use Rattle.arrays.specs.ArrayInstance.{flag}
 use Rattle.reduction_lists.specs.Listed.{Listed}
 use Rattle.reduction_lists.specs.Walks.{atNode}
 use Rattle.reduction_nodes.specs.Numbers.{firstOf}
-use Rattle.reduction_nodes.specs.Renewed.{RenewedBy, by-none, by-next}
+use Rattle.reduction_nodes.specs.Renewed.{RenewedBy, Visit, by-none, by-next}
 use Rattle.reduction_nodes.proofs.first_renewed.Statement.{statement}
 use Rattle.reduction_nodes.proofs.first_renewed.Tie as tie
 
@@ -32,21 +32,11 @@ loop-holds c =
     (zero-le, p .1, λ sv L. by-none (a .turned .now) (firstOf (a .m) sv (a .fs .now) (a .ft .now)) (a .x .now))
 
 -- a turn: its node, and room for the next
-node : (c : tie.In-loop Inv-loop μ-loop) → let a = c .before .before .args in
-    (at (a .turned .now) (c .before .loop .i) < nodeLimit) × (c .before .loop .i < a .n) × (a .n ≤ emptyRank) × (length (c .before .loop .x) ≡ nodeLimit)
+node : (c : tie.In-loop Inv-loop μ-loop) → let a = c .before .before .args in Visit (a .turned .now) (a .n) (c .before .loop .i) (c .before .loop .x)
 node c =
     let p = c .before .before .pre in
     let l = c .before .loop in
     (p .3 (l .i) (c .loop-test .taken), c .loop-test .taken, p .2, l .inv .1)
-
-element-copy-out-v : tie.Need-element-copy-out-v Inv-loop μ-loop
-element-copy-out-v c = omega (arith, node c)
-
-cast-v : tie.Need-cast-v Inv-loop μ-loop
-cast-v c = omega (arith, node (c .before))
-
-both-requires : tie.Need-both-requires Inv-loop μ-loop
-both-requires c κs = (node (c .before) .0, c .before .before .before .pre .0)
 
 cast-x : tie.Need-cast-x Inv-loop μ-loop
 cast-x c =
@@ -59,15 +49,6 @@ cast-x c =
       c .both .ensures (E .0) (E .1),
       low-is (atNode (E .0) (at (a .turned .now) (c .before .before .before .loop .i)) (λ d. flag (a .fs .now) d && flag (a .ft .now) d)) (a .m) .0,
     )
-
-mul-x : tie.Need-mul-x Inv-loop μ-loop
-mul-x c = omega (arith, node (c .before .before))
-
-element-write-x : tie.Need-element-write-x Inv-loop μ-loop
-element-write-x c = omega (arith, node (c .before .before))
-
-add-i : tie.Need-add-i Inv-loop μ-loop
-add-i c = omega (arith, node (c .before .before))
 
 loop-again : tie.Need-loop-again Inv-loop μ-loop
 loop-again c =
@@ -94,5 +75,6 @@ returns c =
 
 pub first-renewed-spec : {M : Type 1} → statement M
 first-renewed-spec =
-    tie.close (tie.spec Inv-loop μ-loop loop-holds element-copy-out-v cast-v both-requires cast-x mul-x element-write-x add-i
-    (λ c. search needs) loop-again returns)
+    tie.close (tie.spec Inv-loop μ-loop loop-holds (λ c. omega (arith, node c)) (λ c. omega (arith, node (c .before)))
+    (λ c κs. (node (c .before) .0, c .before .before .before .pre .0)) cast-x (λ c. omega (arith, node (c .before .before)))
+    (λ c. omega (arith, node (c .before .before))) (λ c. omega (arith, node (c .before .before))) (λ c. search needs) loop-again returns)

@@ -8,19 +8,13 @@ use Rattle.reduction_nodes.specs.Numbers.{inN}
 use Rattle.reduction_nodes.proofs.fourth.Statement.{statement}
 use Rattle.reduction_nodes.proofs.fourth.Tie as tie
 
-worst-requires : tie.Need-worst-requires
-worst-requires c κs =
-    c .before .pre
-
 cast-result : tie.Need-cast-result
-cast-result c =
-    let a = c .before .before .args in
+cast-result c = let s = c .before .before in let a = s .args in
     omega (
       arith,
-      c .before .before .pre .1 .edges,
+      s .pre .1 .edges,
       c .worst .ensures,
-      worst-inside (a .m) (a .table .now)
-          (c .before .before .pre .1) (inN (a .other .now) (a .rem .now) (a .f .now) (a .lo .now)) (a .v) (c .before .before .pre .0),
+      worst-inside (a .m) (a .table .now) (s .pre .1) (inN (a .other .now) (a .rem .now) (a .f .now) (a .lo .now)) (a .v) (s .pre .0),
     )
 
 returns : tie.Need-returns
@@ -29,10 +23,6 @@ returns c =
     c .worst .ensures ∙ sym (ap (λ b. cond b (worstOf (a .m) (a .table .now) (inN (a .other .now) (a .rem .now) (a .f .now) (a .lo .now)) (a .v)) (a .m))
     (lt-ltb (a .q) (a .n) (c .before .if1 .taken)))
 
-cast-result-2 : tie.Need-cast-result-2
-cast-result-2 c =
-    omega (arith, c .before .pre .1 .edges)
-
 returns-2 : tie.Need-returns-2
 returns-2 c =
     let a = c .before .args in
@@ -40,4 +30,4 @@ returns-2 c =
     (le-ltb (a .q) (a .n) (c .if1 .left)))
 
 pub fourth-spec : {M : Type 1} → statement M
-fourth-spec = tie.close (tie.spec worst-requires cast-result returns cast-result-2 returns-2)
+fourth-spec = tie.close (tie.spec (λ c κs. c .before .pre) cast-result returns (λ c. omega (arith, c .before .pre .1 .edges)) returns-2)

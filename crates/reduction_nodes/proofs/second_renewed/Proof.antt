@@ -1,16 +1,16 @@
 -- The nodes passed are renewed.
 use mathlib.Core.Path.{_≡_, subst, _∙_}
 use mathlib.Core.List.{List}
-use Prim.Native.Nat.{ℕ, _-_, _≤_, _<_, zero-le}
+use Prim.Native.Nat.{ℕ, _-_, _≤_, zero-le}
 use native.Mathlib.Omega.{arith}
 use borrow.Author.Needs.{needs}
 use lib.ListN.{length, length-set}
-use Rattle.model.specs.Limits.{nodeLimit, emptyRank}
+use Rattle.model.specs.Limits.{nodeLimit}
 use Rattle.arrays.specs.ArrayInstance.{at}
 use Rattle.reduction_lists.specs.Listed.{Listed}
 use Rattle.reduction_cells.specs.Painted.{among}
 use Rattle.reduction_nodes.specs.Numbers.{secondsOf}
-use Rattle.reduction_nodes.specs.Renewed.{RenewedBy, by-none, by-next}
+use Rattle.reduction_nodes.specs.Renewed.{RenewedBy, Visit, by-none, by-next}
 use Rattle.reduction_nodes.proofs.second_renewed.Statement.{statement}
 use Rattle.reduction_nodes.proofs.second_renewed.Tie as tie
 
@@ -32,36 +32,11 @@ loop-holds c =
     )
 
 -- a turn: its node, and room for the next
-node : (c : tie.In-loop Inv-loop μ-loop) → let a = c .before .before .args in
-    (at (a .turned .now) (c .before .loop .i) < nodeLimit) × (c .before .loop .i < a .n) × (a .n ≤ emptyRank) × (length (c .before .loop .x) ≡ nodeLimit)
+node : (c : tie.In-loop Inv-loop μ-loop) → let a = c .before .before .args in Visit (a .turned .now) (a .n) (c .before .loop .i) (c .before .loop .x)
 node c =
     let p = c .before .before .pre in
     let l = c .before .loop in
     (p .4 (l .i) (c .loop-test .taken), c .loop-test .taken, p .3, l .inv .1)
-
-element-copy-out-v : tie.Need-element-copy-out-v Inv-loop μ-loop
-element-copy-out-v c = omega (arith, node c)
-
-cast-v : tie.Need-cast-v Inv-loop μ-loop
-cast-v c = omega (arith, node (c .before))
-
-mul-second : tie.Need-mul-second Inv-loop μ-loop
-mul-second c = omega (arith, node (c .before))
-
-element-copy-out-second : tie.Need-element-copy-out-second Inv-loop μ-loop
-element-copy-out-second c = omega (arith, node (c .before))
-
-second-requires : tie.Need-second-requires Inv-loop μ-loop
-second-requires c κs = let p = c .before .before .before .before .pre in (node (c .before .before) .0, p .0, p .1)
-
-mul-x : tie.Need-mul-x Inv-loop μ-loop
-mul-x c = omega (arith, node (c .before .before .before))
-
-element-write-x : tie.Need-element-write-x Inv-loop μ-loop
-element-write-x c = omega (arith, node (c .before .before .before))
-
-add-i : tie.Need-add-i Inv-loop μ-loop
-add-i c = omega (arith, node (c .before .before .before))
 
 loop-again : tie.Need-loop-again Inv-loop μ-loop
 loop-again c =
@@ -89,5 +64,7 @@ returns c =
 
 pub second-renewed-spec : {M : Type 1} → statement M
 second-renewed-spec =
-    tie.close (tie.spec Inv-loop μ-loop loop-holds element-copy-out-v cast-v mul-second element-copy-out-second second-requires mul-x
-    element-write-x add-i (λ c. search needs) loop-again returns)
+    tie.close (tie.spec Inv-loop μ-loop loop-holds (λ c. omega (arith, node c)) (λ c. omega (arith, node (c .before))) (λ c. omega (arith, node (c .before)))
+    (λ c. omega (arith, node (c .before))) (λ c κs. let p = c .before .before .before .before .pre in (node (c .before .before) .0, p .0, p .1))
+    (λ c. omega (arith, node (c .before .before .before))) (λ c. omega (arith, node (c .before .before .before)))
+    (λ c. omega (arith, node (c .before .before .before))) (λ c. search needs) loop-again returns)

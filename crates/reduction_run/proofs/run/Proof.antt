@@ -1,4 +1,5 @@
 -- A run: where it is after each step.
+use mathlib.Core.Path.{ap}
 use mathlib.Core.Bool.{true, false}
 use Prim.Native.Nat.{ℕ, _-_, _≤_}
 use native.Mathlib.Omega.{arith}
@@ -6,9 +7,11 @@ use lib.ListN.{length-replicate}
 use Rattle.model.specs.Limits.{nodeLimit, entryLimit}
 use Rattle.reduction_nodes.specs.Known.{Known, instanceOf}
 use Rattle.reduction_nodes.specs.Kept.{Filled, edges, nodeLists, readableS, readableT}
+use Rattle.reduction_state.specs.declared.Acted.{Acted}
 use Rattle.reduction_state.specs.declared.Trace.{Trace}
-use Rattle.reduction_state.specs.RunState.{whole, stands-end, stands-full}
+use Rattle.reduction_state.specs.RunState.{whole, sized-next, stands-end, stands-full}
 use Rattle.reduction_state.specs.RunArrows.{Shown, seen}
+use Rattle.reduction_turn.specs.AfterTurn.{turned-at}
 use Rattle.reduction_run.specs.Running.{Running, all-marked, rows-none}
 use Rattle.reduction_run.proofs.run.Statement.{statement}
 use Rattle.reduction_run.proofs.run.Tie as tie
@@ -40,10 +43,11 @@ turn c =
     let there = c .before .before .before .before .before .before .before .before .before .before .before .before in
     there
 
-abbrev acting : tie.After-turn Inv-loop μ-loop → tie.Else1 Inv-loop μ-loop
-acting c =
-    let there = c .before .before .before .before .before .before .before .before .before .before .before .before in
-    there
+abbrev acting : tie.After-act Inv-loop μ-loop → tie.Else1 Inv-loop μ-loop
+acting c = c .before .before .before .before .before .before .before
+
+abbrev acted : tie.After-turn Inv-loop μ-loop → tie.After-act Inv-loop μ-loop
+acted c = c .before .before .before .before .before .before .before .before .before
 
 begun-requires : tie.Need-begun-requires Inv-loop μ-loop
 begun-requires c κs = let D = c .pre in (D .fitS, D .fitT, D .spreadS, D .spreadT)
@@ -94,46 +98,56 @@ array-write-edges c = omega (arith, turn (c .before) .loop-test .taken, few c)
 array-write-rules : tie.Need-array-write-rules Inv-loop μ-loop
 array-write-rules c = omega (arith, turn (c .before) .loop-test .taken, few c)
 
+act-requires : tie.Need-act-requires Inv-loop μ-loop
+act-requires c κs =
+    let e = c .before .before .before .before .before .before in
+    let D = start (turn (e .before)) .pre in
+    (omega (arith, e .if1 .left, few e), D .fitS (e .before .step .result .edge) (e .if1 .left), D .fitT (e .before .step .result .edge) (e .if1 .left))
+
 turn-requires : tie.Need-turn-requires Inv-loop μ-loop
 turn-requires c κs =
-    let e = c .before .before .before .before .before .before .before .before .before .before .before in
+    let d = c .before .before .before .before .before .before .before .before in
+    let e = acting d in
     let t = turn (e .before) in
     let R = t .before .loop .inv .0 in
     let Z = e .before .step .ensures .0 in (
-      (e .if1 .left, start t .pre),
-      (R .sized, record { rows = R .sizedN .rows; sizeS = Z .sizeS; sizeT = Z .sizeT }, R .sizeS, R .sizeT),
+      (omega (arith, ap (λ (x : Acted). x .edge) (d .act .ensures .1), e .if1 .left), start t .pre),
+      (record { rows = R .sizedN .rows; sizeS = Z .sizeS; sizeT = Z .sizeT }, R .sizeS, R .sizeT),
     )
 
 add-n : tie.Need-add-n Inv-loop μ-loop
-add-n c = omega (arith, turn (acting c .before) .loop-test .taken, few (acting c))
+add-n c = let e = acting (acted c) in omega (arith, turn (e .before) .loop-test .taken, few e)
 
 loop-less : tie.Need-loop-less Inv-loop μ-loop
-loop-less c = omega (arith, turn (acting c .before) .loop-test .taken)
+loop-less c = omega (arith, turn (acting (acted c) .before) .loop-test .taken)
 
 loop-again : tie.Need-loop-again Inv-loop μ-loop
 loop-again c =
-    let s = acting c .before in
+    let s = acting (acted c) .before in
     let t = turn s in
     let a = start t .args in
     let l = t .before .loop in
     let R = l .inv .0 in
     let Z = s .step .ensures .0 in
     let y = s .step .ensures .1 (a .sv .now) (a .rs .now) (a .rt .now) (start t .pre) (R .leads) (R .late) in
-    let u = c .turn .ensures in
+    let x = whole (l .rem) (l .fixed) (l .cuts) (l .cutt) (l .ds) (l .dt) in
+    let i = acted c .act .ensures in
+    let u = c .turn .ensures .0 in
+    let o = turned-at (c .turn .ensures .1) x (s .step .result .rule) (s .step .result .edge) _ _ _ (R .sized) (i .0) (i .1) in
     let r : Trace = record { edges = l .edges; rules = l .rules; steps = l .n } in (
       record {
-        leads = u .1 .0 .leads (R .leads);
-        late = u .1 .0 .lates _ _ (y .0);
-        sized = u .0 .0;
-        sizedN = u .0 .1;
-        sizedL = record { surveyors = Z .surveyors; stands = Z .stands; sizeL = Z .sizeL; sizeS = u .0 .1 .sizeS; sizeT = u .0 .1 .sizeT };
-        sizeS = u .0 .2;
-        sizeT = u .0 .3;
+        leads = o .0 .leads (R .leads);
+        late = o .0 .lates _ _ (y .0);
+        sized = sized-next (a .sv .now) (a .st .now) x _ (s .step .result .rule) (s .step .result .edge) (R .sized) (i .0);
+        sizedN = u .0;
+        sizedL = record { surveyors = Z .surveyors; stands = Z .stands; sizeL = Z .sizeL; sizeS = u .0 .sizeS; sizeT = u .0 .sizeT };
+        sizeS = u .1;
+        sizeT = u .2;
       },
       λ K F.
           let S = l .inv .1 K F in
           let w = y .1 (a .qs .now) (a .qt .now) K F (l .fixed) (S .stood .kS) (S .stood .kT) (seen S) in
-          u .1 .1 (a .qs .now) (a .qt .now) K F r S (w .rule-is) (w .edge-is) (t .loop-test .taken),
+          o .1 (a .qs .now) (a .qt .now) K F r S (w .rule-is) (w .edge-is) (t .loop-test .taken),
     )
 
 returns : tie.Need-returns Inv-loop μ-loop
@@ -159,4 +173,4 @@ returns-2 c =
 pub run-spec : {M : Type 1} → statement M
 run-spec =
     tie.close (tie.spec Inv-loop μ-loop begun-requires numbered-requires loop-holds step-requires cast-edges mul-edges array-write-edges
-    array-write-rules turn-requires add-n loop-less loop-again returns returns-2)
+    array-write-rules act-requires turn-requires add-n loop-less loop-again returns returns-2)

@@ -1,17 +1,21 @@
--- The state after a step.
+-- The state after a step, and what it tells of itself.
+use mathlib.Core.Path.{refl}
 use borrow.Author.Needs.{needs}
 use Rattle.reduction_state.proofs.act.Statement.{statement}
 use Rattle.reduction_state.proofs.act.Tie as tie
 
 returns : tie.Need-returns
 returns c =
-    let b6 = c .before .before .before .before .before .before in
-    simp (
-      b6 .before .before .before .before .before .fixes .ensures,
-      b6 .before .fewer .ensures,
-      c .before .before .before .before .before .lowered .ensures,
-      c .before .before .fewer2 .ensures,
-      c .lowered2 .ensures,
+    let at-lowered2 = c .before .before in
+    let at-fewer = at-lowered2 .before .before .before .before .before .before .before in (
+      simp (
+        at-fewer .before .before .before .before .fixes .ensures,
+        at-fewer .fewer .ensures,
+        at-lowered2 .before .before .before .before .before .lowered .ensures,
+        at-lowered2 .before .before .fewer2 .ensures,
+        at-lowered2 .lowered2 .ensures,
+      ),
+      refl,
     )
 
 pub act-spec : {M : Type 1} → statement M
@@ -20,4 +24,5 @@ act-spec =
     (λ c. search needs) (λ c. search needs) (λ c κs. search needs) (λ c. search needs) (λ c. search needs) (λ c. search needs)
     (λ c. search needs) (λ c κs. search needs) (λ c. search needs) (λ c. search needs) (λ c. search needs) (λ c. search needs)
     (λ c. search needs) (λ c. search needs) (λ c κs. search needs) (λ c. search needs) (λ c. search needs) (λ c. search needs)
-    (λ c. search needs) (λ c κs. search needs) (λ c. search needs) (λ c. search needs) returns)
+    (λ c. search needs) (λ c κs. search needs) (λ c. search needs) (λ c. search needs) (λ c. search needs) (λ c. search needs) (λ c. search needs)
+    (λ c. search needs) returns)

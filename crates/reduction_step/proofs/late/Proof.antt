@@ -1,9 +1,8 @@
 -- One rule after the other.
-use mathlib.Core.Path.{sym, subst}
+use Prim.Native.Nat.{ℕ}
 use native.Mathlib.Omega.{arith}
 use borrow.Author.Needs.{needs}
-use Rattle.reduction_nodes.specs.Numbers.{row}
-use Rattle.reduction_step.specs.RuleChosen.{Says, Quiet37, passes, says, says-none, lowest3, lowest4, lowest5, lowest6, lowest7}
+use Rattle.reduction_step.specs.RuleChosen.{Quiet37, quiet-3, quiet-next, says-37, says-8, least-3, least-4, least-5, least-6, least-7}
 use Rattle.reduction_step.proofs.late.Statement.{statement}
 use Rattle.reduction_step.proofs.late.Tie as tie
 
@@ -23,61 +22,42 @@ start4 c = start3 (c .before .before .before)
 abbrev start5 : tie.Else5 → tie.Start
 start5 c = start4 (c .before .before .before)
 
-quiet4 : (c : tie.Else1) → Quiet37 (start1 c .args .m) (start1 c .args .lates .now) (start1 c .args .latet .now) 4
-quiet4 c G Z i N s = let l = c .before .least in
-    passes G Z 3 (l .result) s (lowest3 G Z (N .fits) (row (start1 c .args .latet .now) 0) (N .rule3) (l .result) (l .ensures))
-    (omega (arith, c .if1 .left))
+-- the rules below k name no edge
+abbrev silent : tie.Start → ℕ → Type 0
+silent s k = Quiet37 (s .args .m) (s .args .lates .now) (s .args .latet .now) k
 
-quiet5 : (c : tie.Else2) → Quiet37 (start2 c .args .m) (start2 c .args .lates .now) (start2 c .args .latet .now) 5
-quiet5 c G Z i N s = let l = c .before .least2 in
-    passes G Z 4 (l .result) (quiet4 (c .before .before .before) G Z i N s) (lowest4 G Z (N .fits) (row (start2 c .args .lates .now) 0) (N .rule4) (l .result) (l .ensures))
-    (omega (arith, c .if2 .left))
+silent4 : (c : tie.Else1) → silent (start1 c) 4
+silent4 c = quiet-next quiet-3 (least-3 (c .before .least .ensures)) (c .if1 .left)
 
-quiet6 : (c : tie.Else3) → Quiet37 (start3 c .args .m) (start3 c .args .lates .now) (start3 c .args .latet .now) 6
-quiet6 c G Z i N s = let l = c .before .least3 in
-    passes G Z 5 (l .result) (quiet5 (c .before .before .before) G Z i N s) (lowest5 G Z (N .fits) (row (start3 c .args .lates .now) 1) (N .rule5) (l .result) (l .ensures))
-    (omega (arith, c .if3 .left))
+silent5 : (c : tie.Else2) → silent (start2 c) 5
+silent5 c = quiet-next (silent4 (c .before .before .before)) (least-4 (c .before .least2 .ensures)) (c .if2 .left)
 
-quiet7 : (c : tie.Else4) → Quiet37 (start4 c .args .m) (start4 c .args .lates .now) (start4 c .args .latet .now) 7
-quiet7 c G Z i N s = let l = c .before .least4 in
-    passes G Z 6 (l .result) (quiet6 (c .before .before .before) G Z i N s) (lowest6 G Z (N .fits) (row (start4 c .args .lates .now) 2) (N .rule6) (l .result) (l .ensures))
-    (omega (arith, c .if4 .left))
+silent6 : (c : tie.Else3) → silent (start3 c) 6
+silent6 c = quiet-next (silent5 (c .before .before .before)) (least-5 (c .before .least3 .ensures)) (c .if3 .left)
 
-quiet8 : (c : tie.Else5) → Quiet37 (start5 c .args .m) (start5 c .args .lates .now) (start5 c .args .latet .now) 8
-quiet8 c G Z i N s = let l = c .before .least5 in
-    passes G Z 7 (l .result) (quiet7 (c .before .before .before) G Z i N s) (lowest7 G Z (N .fits) (row (start5 c .args .latet .now) 1) (N .rule7) (l .result) (l .ensures))
-    (omega (arith, c .if5 .left))
+silent7 : (c : tie.Else4) → silent (start4 c) 7
+silent7 c = quiet-next (silent6 (c .before .before .before)) (least-6 (c .before .least4 .ensures)) (c .if4 .left)
+
+silent8 : (c : tie.Else5) → silent (start5 c) 8
+silent8 c = quiet-next (silent7 (c .before .before .before)) (least-7 (c .before .least5 .ensures)) (c .if5 .left)
 
 returns : tie.Need-returns
-returns c = λ G Z i N s. let l = c .before .least in
-    says G Z 3 (l .result) s (omega arith) (lowest3 G Z (N .fits) (row (c .before .before .before .args .latet .now) 0) (N .rule3) (l .result) (l .ensures))
-    (omega (arith, c .if1 .taken))
+returns c = says-37 (omega arith) quiet-3 (least-3 (c .before .least .ensures)) (c .if1 .taken)
 
 returns-2 : tie.Need-returns-2
-returns-2 c = λ G Z i N s. let l = c .before .least2 in
-    says G Z 4 (l .result) (quiet4 (c .before .before .before) G Z i N s) (omega arith) (lowest4 G Z (N .fits) (row (start1 (c .before .before .before) .args .lates .now) 0) (N .rule4) (l .result) (l .ensures))
-    (omega (arith, c .if2 .taken))
+returns-2 c = says-37 (omega arith) (silent4 (c .before .before .before)) (least-4 (c .before .least2 .ensures)) (c .if2 .taken)
 
 returns-3 : tie.Need-returns-3
-returns-3 c = λ G Z i N s. let l = c .before .least3 in
-    says G Z 5 (l .result) (quiet5 (c .before .before .before) G Z i N s) (omega arith) (lowest5 G Z (N .fits) (row (start2 (c .before .before .before) .args .lates .now) 1) (N .rule5) (l .result) (l .ensures))
-    (omega (arith, c .if3 .taken))
+returns-3 c = says-37 (omega arith) (silent5 (c .before .before .before)) (least-5 (c .before .least3 .ensures)) (c .if3 .taken)
 
 returns-4 : tie.Need-returns-4
-returns-4 c = λ G Z i N s. let l = c .before .least4 in
-    says G Z 6 (l .result) (quiet6 (c .before .before .before) G Z i N s) (omega arith) (lowest6 G Z (N .fits) (row (start3 (c .before .before .before) .args .lates .now) 2) (N .rule6) (l .result) (l .ensures))
-    (omega (arith, c .if4 .taken))
+returns-4 c = says-37 (omega arith) (silent6 (c .before .before .before)) (least-6 (c .before .least4 .ensures)) (c .if4 .taken)
 
 returns-5 : tie.Need-returns-5
-returns-5 c = λ G Z i N s. let l = c .before .least5 in
-    says G Z 7 (l .result) (quiet7 (c .before .before .before) G Z i N s) (omega arith) (lowest7 G Z (N .fits) (row (start4 (c .before .before .before) .args .latet .now) 1) (N .rule7) (l .result) (l .ensures))
-    (omega (arith, c .if5 .taken))
-
-returns-6 : tie.Need-returns-6
-returns-6 c = λ G Z i N s. subst (Says G Z 8) (sym i) (says-none G Z (quiet8 c G Z i N s))
+returns-5 c = says-37 (omega arith) (silent7 (c .before .before .before)) (least-7 (c .before .least5 .ensures)) (c .if5 .taken)
 
 pub late-spec : {M : Type 1} → statement M
 late-spec =
     tie.close (tie.spec (λ c. search needs) (λ c κs. search needs) (λ c. search needs) returns (λ c. search needs) (λ c κs. search needs) (λ c. search needs)
     returns-2 (λ c. search needs) (λ c κs. search needs) (λ c. search needs) returns-3 (λ c. search needs) (λ c κs. search needs) (λ c. search needs)
-    returns-4 (λ c. search needs) (λ c κs. search needs) (λ c. search needs) returns-5 returns-6)
+    returns-4 (λ c. search needs) (λ c κs. search needs) (λ c. search needs) returns-5 (λ c. says-8 (silent8 c)))

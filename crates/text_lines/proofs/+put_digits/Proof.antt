@@ -26,85 +26,35 @@ abbrev put-digits-below : ℕ → In 1 put-digits-kinds.ps
 put-digits-below t =
     and 1 put-digits-kinds.ps (falls 1 put-digits-kinds.ps _<_ μ-put-digits t) put-digits.Pre
 
-put-digits-returns : (t : ℕ)
-    → put-digits-lts.Need-returns (put-byte-reads.Asked, put-byte-reads.Learnt, put-digits-below t, put-digits.Post) (put-digits-at t) put-digits.Post
-put-digits-returns t c =
-    let a = c .before .before .args in append-as (sym (ap (λ k. digits k (a .n)) (c .if1 .taken) ∙ digits-none (a .n))) (append-none (a .out .now) (a .at))
+module _ (t : ℕ) where
+  -- what the calls are known to do: a byte is put, and the digits before the last
+  abbrev known : put-digits-lts.Claims
+  known = (put-byte-reads.Asked, put-byte-reads.Learnt, put-digits-below t, put-digits.Post)
 
-put-digits-cast-put-byte : (t : ℕ)
-    → put-digits-lts.Need-cast-put-byte (put-byte-reads.Asked, put-byte-reads.Learnt, put-digits-below t, put-digits.Post) (put-digits-at t) put-digits.Post
-put-digits-cast-put-byte t c = search needs
+  returns : put-digits-lts.Need-returns known (put-digits-at t) put-digits.Post
+  returns c =
+      let a = c .before .before .args in append-as (sym (ap (λ k. digits k (a .n)) (c .if1 .taken) ∙ digits-none (a .n))) (append-none (a .out .now) (a .at))
 
-put-digits-add-put-byte : (t : ℕ)
-    → put-digits-lts.Need-add-put-byte (put-byte-reads.Asked, put-byte-reads.Learnt, put-digits-below t, put-digits.Post) (put-digits-at t) put-digits.Post
-put-digits-add-put-byte t c = search needs
+  returns-2 : put-digits-lts.Need-returns-2 known (put-digits-at t) put-digits.Post
+  returns-2 c =
+      let a = c .before .before .before .before .before .before .before .args in
+      let h : 0 < a .places = omega arith in
+      append-as (sym (digits-last (a .places) (a .n) h (omega arith))) (c .before .before .put-byte .ensures)
 
-put-digits-put-byte-requires : (t : ℕ)
-    → put-digits-lts.Need-put-byte-requires (put-byte-reads.Asked, put-byte-reads.Learnt, put-digits-below t, put-digits.Post) (put-digits-at t) put-digits.Post
-put-digits-put-byte-requires t c κs = omega arith
+  put-byte-requires-2 : put-digits-lts.Need-put-byte-requires-2 known (put-digits-at t) put-digits.Post
+  put-byte-requires-2 c κs =
+      let a = c .before .before .before .before .before .before .before .before .args in
+      omega (arith, c .before .before .before .put-digits .ensures .place, digits-length (a .places - 1) (a .n / 10))
 
-put-digits-same-length : (t : ℕ)
-    → put-digits-lts.Need-same-length (put-byte-reads.Asked, put-byte-reads.Learnt, put-digits-below t, put-digits.Post) (put-digits-at t) put-digits.Post
-put-digits-same-length t c = search needs
-
-put-digits-returns-2 : (t : ℕ)
-    → put-digits-lts.Need-returns-2 (put-byte-reads.Asked, put-byte-reads.Learnt, put-digits-below t, put-digits.Post) (put-digits-at t) put-digits.Post
-put-digits-returns-2 t c =
-    let a = c .before .before .before .before .before .before .before .args in
-    let h : 0 < a .places = omega arith in
-    append-as (sym (digits-last (a .places) (a .n) h (omega arith))) (c .before .before .put-byte .ensures)
-
-put-digits-sub-put-digits : (t : ℕ)
-    → put-digits-lts.Need-sub-put-digits (put-byte-reads.Asked, put-byte-reads.Learnt, put-digits-below t, put-digits.Post) (put-digits-at t) put-digits.Post
-put-digits-sub-put-digits t c = search needs
-
-put-digits-put-digits-requires : (t : ℕ)
-    → put-digits-lts.Need-put-digits-requires (put-byte-reads.Asked, put-byte-reads.Learnt, put-digits-below t, put-digits.Post) (put-digits-at t)
-    put-digits.Post
-put-digits-put-digits-requires t c κs = omega arith
-
-put-digits-cast-put-byte-2 : (t : ℕ)
-    → put-digits-lts.Need-cast-put-byte-2 (put-byte-reads.Asked, put-byte-reads.Learnt, put-digits-below t, put-digits.Post) (put-digits-at t) put-digits.Post
-put-digits-cast-put-byte-2 t c = search needs
-
-put-digits-add-put-byte-2 : (t : ℕ)
-    → put-digits-lts.Need-add-put-byte-2 (put-byte-reads.Asked, put-byte-reads.Learnt, put-digits-below t, put-digits.Post) (put-digits-at t) put-digits.Post
-put-digits-add-put-byte-2 t c = search needs
-
-put-digits-put-byte-requires-2 : (t : ℕ)
-    → put-digits-lts.Need-put-byte-requires-2 (put-byte-reads.Asked, put-byte-reads.Learnt, put-digits-below t, put-digits.Post) (put-digits-at t)
-    put-digits.Post
-put-digits-put-byte-requires-2 t c κs =
-    let a = c .before .before .before .before .before .before .before .before .args in
-    omega (arith, c .before .before .before .put-digits .ensures .place, digits-length (a .places - 1) (a .n / 10))
-
-put-digits-same-length-2 : (t : ℕ)
-    → put-digits-lts.Need-same-length-2 (put-byte-reads.Asked, put-byte-reads.Learnt, put-digits-below t, put-digits.Post) (put-digits-at t) put-digits.Post
-put-digits-same-length-2 t c = search needs
-
-put-digits-returns-3 : (t : ℕ)
-    → put-digits-lts.Need-returns-3 (put-byte-reads.Asked, put-byte-reads.Learnt, put-digits-below t, put-digits.Post) (put-digits-at t) put-digits.Post
-put-digits-returns-3 t c =
-    let a = c .before .before .before .before .before .before .before .before .before .before .before .args in
-    let h : 0 < a .places = omega arith in
-    append-as (sym (digits-more (a .places) (a .n) h (omega arith)))
-    (append-then (a .out .now) (a .at) (omega arith) (c .before .before .before .before .before .before .put-digits .ensures)
-    (c .before .before .put-byte2 .ensures))
+  returns-3 : put-digits-lts.Need-returns-3 known (put-digits-at t) put-digits.Post
+  returns-3 c =
+      let a = c .before .before .before .before .before .before .before .before .before .before .before .args in
+      let h : 0 < a .places = omega arith in
+      append-as (sym (digits-more (a .places) (a .n) h (omega arith)))
+      (append-then (a .out .now) (a .at) (omega arith) (c .before .before .before .before .before .before .put-digits .ensures)
+      (c .before .before .put-byte2 .ensures))
 
 pub +put-digits-spec : {M : Type 1} → statement M
-+put-digits-spec = close μ-put-digits λ t. put-digits-lts.spec (put-byte-reads.Asked, put-byte-reads.Learnt, put-digits-below t, put-digits.Post)
-    (put-digits-at t)
-    put-digits.Post
-    (put-digits-returns t)
-    (put-digits-cast-put-byte t)
-    (put-digits-add-put-byte t)
-    (put-digits-put-byte-requires t)
-    (put-digits-same-length t)
-    (put-digits-returns-2 t)
-    (put-digits-sub-put-digits t)
-    (put-digits-put-digits-requires t)
-    (put-digits-cast-put-byte-2 t)
-    (put-digits-add-put-byte-2 t)
-    (put-digits-put-byte-requires-2 t)
-    (put-digits-same-length-2 t)
-    (put-digits-returns-3 t)
++put-digits-spec = close μ-put-digits λ t. put-digits-lts.spec (known t) (put-digits-at t) put-digits.Post (returns t) (λ c. search needs) (λ c. search needs)
+    (λ c κs. omega arith) (λ c. search needs) (returns-2 t) (λ c. search needs) (λ c κs. omega arith) (λ c. search needs) (λ c. search needs)
+    (put-byte-requires-2 t) (λ c. search needs) (returns-3 t)

@@ -1,8 +1,6 @@
 -- `text_lines::put_counted` meets its contract: a word, the count, the pairs.
-use Prim.Native.Nat.{_≤_}
 use native.Mathlib.Omega.{arith}
-use lib.ListN.{length}
-use Rattle.text_lines.specs.Appended.{append-then}
+use Rattle.text_lines.specs.Appended.{append-three}
 use Rattle.text_lines.specs.Digits.{field-length}
 use borrow.Author.Needs.{needs}
 use Rattle.text_lines.proofs.put_counted.Statement.{statement}
@@ -24,13 +22,8 @@ returns : tie.Need-returns
 returns c =
     let at-put-word = c .before .before .before .before .before .before .before .before .before .before in
     let entry = at-put-word .before .before .before .before .before in
-    let a = entry .args in
-    let h : a .at ≤ length (a .out .now) =
-    omega (arith, entry .pre) in
-    append-then (a .out .now) (a .at) h
-    (append-then (a .out .now) (a .at) h (at-put-word .put-word .ensures)
-    (c .before .before .before .before .before .before .put-field .ensures))
-    (c .before .before .put-pairs .ensures)
+    append-three (entry .args .out .now) (entry .args .at) (omega (arith, entry .pre)) (at-put-word .put-word .ensures)
+    (c .before .before .before .before .before .before .put-field .ensures) (c .before .before .put-pairs .ensures)
 
 pub put-counted-spec : {M : Type 1} → statement M
 put-counted-spec = tie.close (tie.spec (λ c κs. search needs) (λ c κs. search needs) put-pairs-requires (λ c. search needs) returns)

@@ -1,9 +1,7 @@
 -- `text_lines::put_refused` meets its contract: a word, the number, the group's word.
-use Prim.Native.Nat.{_≤_}
 use native.Mathlib.Omega.{arith}
-use lib.ListN.{length}
 use Rattle.model.specs.Text.{text}
-use Rattle.text_lines.specs.Appended.{append-then}
+use Rattle.text_lines.specs.Appended.{append-three}
 use Rattle.text_lines.specs.Digits.{field-length}
 use borrow.Author.Needs.{needs}
 use Rattle.text_lines.proofs.put_refused.Statement.{statement}
@@ -26,13 +24,8 @@ unfolding text
 returns c =
     let at-put-word = c .before .before .before .before .before .before .before .before .before .before in
     let entry = at-put-word .before .before .before .before in
-    let a = entry .args in
-    let h : a .at ≤ length (a .out .now) =
-    omega (arith, entry .pre) in
-    append-then (a .out .now) (a .at) h
-    (append-then (a .out .now) (a .at) h (at-put-word .put-word .ensures)
-    (c .before .before .before .before .before .before .put-field .ensures))
-    (c .before .before .put-group .ensures)
+    append-three (entry .args .out .now) (entry .args .at) (omega (arith, entry .pre)) (at-put-word .put-word .ensures)
+    (c .before .before .before .before .before .before .put-field .ensures) (c .before .before .put-group .ensures)
 
 pub put-refused-spec : {M : Type 1} → statement M
 put-refused-spec =
