@@ -12,13 +12,11 @@ use Rattle.model.specs.Plans.{Plan, on, voteOf}
 use Rattle.model.specs.PlanFile.{readPlan}
 use Rattle.model.specs.Vote.{vote}
 use Rattle.model.specs.Facing.{pairingBytes}
-use Rattle.model_desk.specs.Compare.{votes, winnerOf, compared, secondJudged, firstJudged, comparisonOf, Pairings, bothPairings, noPairings, secondPaired}
+use Rattle.model_desk.specs.Compare.{votes, winnerOf, compared, secondJudged, firstJudged, comparisonOf, Pairings, bothPairings, secondPaired}
 use Rattle.model_desk.specs.Compare.{firstPaired, pairingsOf}
 use Rattle.model_desk.specs.Desk.{onto}
 use Rattle.answers.specs.declared.Group.{Group}
 use Rattle.answers.specs.GroupCases.{groupShown, shows-case}
-use Rattle.instance.specs.declared.Instance.{Instance}
-use Rattle.instance.specs.Decoded.{shownBy}
 use Rattle.plan_reader.specs.declared.PlanRead.{PlanRead}
 use Rattle.plan_reader.specs.declared.PlanAnswer.the-variants as plan
 use Rattle.plan_reader.specs.Answers.{ReadAs, accepted-read, refused-read}
@@ -56,43 +54,43 @@ same-paired G M M′ e (accepted N) = ap (λ f. pairedBy G f (on N)) e
 same-paired G M M′ e (refused n) = refl
 
 -- ---- a plan file read against the arrays of an accepted roster
-module _ (g : Instance) (file : List ℕ) (r : PlanRead) (here : ReadAs true (shownBy g) file r) where
-  abbrev G : model.Instance
-  G = shownBy g
-
+module _ {G : model.Instance} {file : List ℕ} {r : PlanRead} (here : ReadAs true G file r) where
   -- as the second file, after plan p
   module _ (p : Plan) where
-    pub second-refused : {n : ℕ} (k : Group) → r .answer ≡ plan.Refused n → groupShown k ≡ groupOf n
-        → Refused n k ≡ comparisonCase (secondJudged G p (readPlan G file))
-    second-refused {n} k q e = ap (Refused n) (shows-case k e) ∙ sym (ap (λ x. comparisonCase (secondJudged G p x)) (refused-read here q))
+    -- the answer, and what the two buffers have behind it
+    abbrev AsSecond : Comparison → (forward back forward′ back′ : List ℕ) → Type 0
+    AsSecond c f b f′ b′ = (c ≡ comparisonCase (secondJudged G p (readPlan G file))) × Paired (secondPaired G p (readPlan G file)) f b f′ b′
 
-    pub second-accepted : {n : ℕ} {c : Comparison} → r .answer ≡ plan.Accepted n → c ≡ comparisonCase (compared G p (r .chosen))
-        → c ≡ comparisonCase (secondJudged G p (readPlan G file))
-    second-accepted q e = given (accepted-read here q) (λ (M, a, s). e ∙ ap (byEdges G (on p)) s ∙ sym (ap (λ x. comparisonCase (secondJudged G p x)) a))
+    pub second-refused : {n : ℕ} → r .answer ≡ plan.Refused n → (k : Group) → groupShown k ≡ groupOf n → {f b : List ℕ} → AsSecond (Refused n k) f b f b
+    second-refused {n} q k e = (
+      ap (Refused n) (shows-case k e) ∙ sym (ap (λ x. comparisonCase (secondJudged G p x)) (refused-read here q)),
+      paired-as (sym (ap (secondPaired G p) (refused-read here q))) (record { first = refl; second = refl }),
+    )
 
-    pub second-none : {n : ℕ} → r .answer ≡ plan.Refused n → noPairings ≡ secondPaired G p (readPlan G file)
-    second-none q = sym (ap (secondPaired G p) (refused-read here q))
-
-    pub second-paired : {n : ℕ} → r .answer ≡ plan.Accepted n → bothPairings G p (r .chosen) ≡ secondPaired G p (readPlan G file)
-    second-paired q = given (accepted-read here q) (λ (M, a, s). ap (pairedBy G (on p)) s ∙ sym (ap (secondPaired G p) a))
+    pub second-accepted : {n : ℕ} → r .answer ≡ plan.Accepted n → {c : Comparison} {f b f′ b′ : List ℕ}
+        → (c ≡ comparisonCase (compared G p (r .chosen))) × Paired (bothPairings G p (r .chosen)) f b f′ b′ → AsSecond c f b f′ b′
+    second-accepted q (e, P) = given (accepted-read here q) (λ (M, a, s). (
+      e ∙ ap (byEdges G (on p)) s ∙ sym (ap (λ x. comparisonCase (secondJudged G p x)) a),
+      paired-as (ap (pairedBy G (on p)) s ∙ sym (ap (secondPaired G p) a)) P,
+    ))
 
   -- as the first file
   module _ (second : List ℕ) where
-    pub first-none : {n : ℕ} → r .answer ≡ plan.Refused n → noPairings ≡ pairingsOf G file second
-    unfolding pairingsOf
-    first-none q = sym (ap (λ x. firstPaired G x second) (refused-read here q))
+    abbrev AsFirst : Comparison → (forward back forward′ back′ : List ℕ) → Type 0
+    AsFirst c f b f′ b′ = (c ≡ comparisonCase (comparisonOf G file second)) × Paired (pairingsOf G file second) f b f′ b′
 
-    pub first-paired : {n : ℕ} → r .answer ≡ plan.Accepted n → secondPaired G (r .chosen) (readPlan G second) ≡ pairingsOf G file second
-    unfolding pairingsOf
-    first-paired q = given (accepted-read here q) (λ (M, a, s).
-        same-paired G (r .chosen) M s (readPlan G second) ∙ sym (ap (λ x. firstPaired G x second) a))
+    pub first-refused : {n : ℕ} → r .answer ≡ plan.Refused n → (k : Group) → groupShown k ≡ groupOf n → {f b : List ℕ} → AsFirst (Refused n k) f b f b
+    unfolding comparisonOf pairingsOf
+    first-refused {n} q k e = (
+      ap (Refused n) (shows-case k e) ∙ sym (ap (λ x. comparisonCase (firstJudged G x second)) (refused-read here q)),
+      paired-as (sym (ap (λ x. firstPaired G x second) (refused-read here q))) (record { first = refl; second = refl }),
+    )
 
-    pub first-refused : {n : ℕ} (k : Group) → r .answer ≡ plan.Refused n → groupShown k ≡ groupOf n → Refused n k ≡ comparisonCase (comparisonOf G file second)
-    unfolding comparisonOf
-    first-refused {n} k q e = ap (Refused n) (shows-case k e) ∙ sym (ap (λ x. comparisonCase (firstJudged G x second)) (refused-read here q))
-
-    pub first-accepted : {n : ℕ} {c : Comparison} → r .answer ≡ plan.Accepted n → c ≡ comparisonCase (secondJudged G (r .chosen) (readPlan G second))
-        → c ≡ comparisonCase (comparisonOf G file second)
-    unfolding comparisonOf
-    first-accepted q e = given (accepted-read here q) (λ (M, a, s).
-        e ∙ same-first G (r .chosen) M s (readPlan G second) ∙ sym (ap (λ x. comparisonCase (firstJudged G x second)) a))
+    pub first-accepted : {n : ℕ} → r .answer ≡ plan.Accepted n → {c : Comparison} {f b f′ b′ : List ℕ}
+        → (c ≡ comparisonCase (secondJudged G (r .chosen) (readPlan G second))) × Paired (secondPaired G (r .chosen) (readPlan G second)) f b f′ b′
+        → AsFirst c f b f′ b′
+    unfolding comparisonOf pairingsOf
+    first-accepted q (e, P) = given (accepted-read here q) (λ (M, a, s). (
+      e ∙ same-first G (r .chosen) M s (readPlan G second) ∙ sym (ap (λ x. comparisonCase (firstJudged G x second)) a),
+      paired-as (same-paired G (r .chosen) M s (readPlan G second) ∙ sym (ap (λ x. firstPaired G x second) a)) P,
+    ))

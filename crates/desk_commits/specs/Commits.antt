@@ -3,7 +3,7 @@ use Prim.Native.Nat.{ℕ, _≤_, _<_}
 use native.Mathlib.Omega.{arith}
 use mathlib.Core.Path.{_≡_, refl, sym, ap, ap₂, _∙_, subst}
 use mathlib.Core.Bool.{true, false}
-use mathlib.Core.List.{[]}
+use mathlib.Core.List.{List, []}
 use lib.ListN.{take}
 use Rattle.lists.specs.Test.{given}
 use Rattle.model.specs.Refusal.{groupOf}
@@ -42,22 +42,27 @@ module _ (d : Files) {l : OnDesk} (F : LoadedFrom (rosterBytes d) (planBytes d) 
   commit-refused h g q = refuses-by d commit (state-is d F ∙ commit-number (heldOf d) (subst (λ n. 0 < n) (state-is d F) h)) h (ap (refused (l .refusal)) q)
 
   module _ (z : l .refusal ≤ 0) where
+    -- what is read of the proposal's bytes
+    opened : {x y : FileAnswer} {b : List ℕ} → y ≡ x → y ≡ fileCase (readPlan (shownBy (l .g)) b) → b ≡ proposalBytes d
+        → x ≡ fileCase (readPlan (shownBy (l .g)) (proposalBytes d))
+    opened s r e = sym s ∙ r ∙ ap (λ b. fileCase (readPlan (shownBy (l .g)) b)) e
+
     against : {x : FileAnswer} → x ≡ fileCase (readPlan (shownBy (l .g)) (proposalBytes d)) → (R : Roster) → readRoster (rosterBytes d) ≡ accepted R
         → x ≡ fileCase (other d R)
     against {x} e R a = subst (λ G. x ≡ fileCase (readPlan G (proposalBytes d))) (F .instance R a .1) e
 
-    pub none-open : {n : ℕ} {k : Group} → files.Refused n k ≡ fileCase (readPlan (shownBy (l .g)) (proposalBytes d)) → (g : Group)
-        → groupShown g ≡ groupOf 20 → Replied d commit (refused 20 (groupShown g)) commit d
+    pub none-open : {n : ℕ} {k : Group} {y : FileAnswer} {b : List ℕ} → y ≡ files.Refused n k → y ≡ fileCase (readPlan (shownBy (l .g)) b)
+        → b ≡ proposalBytes d → (g : Group) → groupShown g ≡ groupOf 20 → Replied d commit (refused 20 (groupShown g)) commit d
     unfolding stateRefusal
-    none-open e g q = given (its-plan z F) (λ (R, M, a, b).
-        let h : heldOf d ≡ planned R M = plan-held d R M a b ∙ ap (heldProposal R M) (case-refused (other d R) (against e R a)) in
+    none-open s r e g q = given (its-plan z F) (λ (R, M, a, b).
+        let h : heldOf d ≡ planned R M = plan-held d R M a b ∙ ap (heldProposal R M) (case-refused (other d R) (against (opened s r e) R a)) in
         refuses-by d commit (sym (ap (λ x. stateRefusal x commit) h)) (omega arith) (ap (refused 20) q))
 
-    pub commit-taken : files.Accepted ≡ fileCase (readPlan (shownBy (l .g)) (proposalBytes d)) → (d′ : Files) → CommitIn true d d′
+    pub commit-taken : {y : FileAnswer} {b : List ℕ} → y ≡ files.Accepted → y ≡ fileCase (readPlan (shownBy (l .g)) b) → b ≡ proposalBytes d → (d′ : Files) → CommitIn true d d′
         → Replied d commit (said committed) commit d′
     unfolding stateRefusal answerOf deskAfter readPlanBy
-    commit-taken e d′ ((m, r), p, f) = given (its-plan z F) (λ (R, M, a, b).
-        given (case-accepted (other d R) (against e R a)) (λ (N, y).
+    commit-taken s x e d′ ((m, r), p, f) = given (its-plan z F) (λ (R, M, a, b).
+        given (case-accepted (other d R) (against (opened s x e) R a)) (λ (N, y).
         let h : heldOf d ≡ proposed R M N = plan-held d R M a b ∙ ap (heldProposal R M) y in
         record {
           answer = sym (ap (λ x. answerOf chosen x commit) h);

@@ -46,26 +46,24 @@ held-empty d e = ap (λ bs. beside (proposalBytes d) (held (readRoster bs) (plan
 abbrev pub New : Files → Type 0
 New d = (heldOf d ≡ opening) × (rosterBytes d ≡ []) × (planBytes d ≡ []) × (proposalBytes d ≡ [])
 
--- ---- the proposal is no matter to a roster and a plan held
-pub beside-roster : (f : List ℕ) (h : Held) → noRoster (beside f h) ≡ noRoster h
-beside-roster f nothing = refl
-beside-roster f (roster r) = refl
-beside-roster f (planned r M) = go (readPlan (instanceOf r) f)
+-- ---- the proposal is no matter to what is the same with one and without
+pub beside-same : {A : Type 0} (g : Held → A) → ((r : Roster) (M N : Plan) → g (proposed r M N) ≡ g (planned r M)) → (f : List ℕ) (h : Held)
+    → g (beside f h) ≡ g h
+beside-same g s f nothing = refl
+beside-same g s f (roster r) = refl
+beside-same g s f (planned r M) = go (readPlan (instanceOf r) f)
   where
-    go : (x : Reading Plan) → noRoster (heldProposal r M x) ≡ false
-    go (accepted N) = refl
+    go : (x : Reading Plan) → g (heldProposal r M x) ≡ g (planned r M)
+    go (accepted N) = s r M N
     go (refused n) = refl
-beside-roster f (proposed r M N) = refl
+beside-same g s f (proposed r M N) = refl
+
+-- as whether a roster is held, and a plan
+pub beside-roster : (f : List ℕ) (h : Held) → noRoster (beside f h) ≡ noRoster h
+beside-roster = beside-same noRoster (λ r M N. refl)
 
 pub beside-plan : (f : List ℕ) (h : Held) → noPlan (beside f h) ≡ noPlan h
-beside-plan f nothing = refl
-beside-plan f (roster r) = refl
-beside-plan f (planned r M) = go (readPlan (instanceOf r) f)
-  where
-    go : (x : Reading Plan) → noPlan (heldProposal r M x) ≡ false
-    go (accepted N) = refl
-    go (refused n) = refl
-beside-plan f (proposed r M N) = refl
+beside-plan = beside-same noPlan (λ r M N. refl)
 
 -- so it is no matter to the state's refusal either
 pub beside-number : (f : List ℕ) (h : Held) (needs short : Bool) → stateNumber h needs short ≡ stateNumber (beside f h) needs short

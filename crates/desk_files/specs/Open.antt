@@ -3,6 +3,7 @@ use Prim.Native.Nat.{ℕ, _≤_, _<_}
 use native.Mathlib.Omega.{arith}
 use mathlib.Core.Path.{_≡_, refl, sym, ap, _∙_, subst}
 use mathlib.Core.Bool.{Bool, true, false, cond}
+use mathlib.Core.List.{List}
 use lib.Dec.{eqb}
 use Rattle.lists.specs.Test.{given}
 use Rattle.model.specs.Reading.{Reading, accepted, refused}
@@ -47,11 +48,15 @@ module _ (d : Files) (short : Bool) {l : OnDesk} (F : LoadedFrom (rosterBytes d)
       go (planned r M) i = absurd (let z : ⊥ = omega arith in z)
       go (proposed r M N) i = absurd (let z : ⊥ = omega arith in z)
 
-  -- beside the plan held
-  pub open-with : l .refusal ≤ 0 → {p : OnDesk} → OnRoster (l .g) (proposalBytes d) true short p → (n : ℕ) → n ≡ asOpen (p .refusal) → Opened d short n
-  open-with z {p} P n e = given (its-plan z F) (λ (R, M, a, b).
+  -- beside the plan held, where b are the proposal's bytes
+  pub open-with : l .refusal ≤ 0 → {b : List ℕ} → b ≡ proposalBytes d → {p : OnDesk} → OnRoster (l .g) b true short p → (n : ℕ) → n ≡ asOpen (p .refusal)
+      → Opened d short n
+  open-with z same {p} Q n e = given (its-plan z F) (λ (R, M, a, b).
       go R M (F .instance R a .1) (plan-held d R M a b) (readPlan (shownBy (l .g)) (proposalBytes d)) refl (P .refusal R))
     where
+      P : OnRoster (l .g) (proposalBytes d) true short p
+      P = subst (λ b. OnRoster (l .g) b true short p) same Q
+
       sized : (b : Bool) → asOpen (cond b 15 0) ≡ cond b 15 0
       sized true = refl
       sized false = refl

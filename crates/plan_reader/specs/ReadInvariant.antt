@@ -303,13 +303,18 @@ module _ (shifts : Bool) (m : ℕ) (sv st sh qs qt file : List ℕ) where
         })
 
   -- refused
-  pub refused-as : (c : ℕ) (chosen : List Bool) (edges : List ℕ) → planIn shifts G file ≡ refused c
+  refused-as : (c : ℕ) (chosen : List Bool) (edges : List ℕ) → planIn shifts G file ≡ refused c
       → ReadAs shifts G file (record { answer = Refused c; chosen = chosen; edges = edges })
   refused-as c chosen edges q = record {
     answer = sym (ap (answerOf m) q);
     chosen = λ M a. refused-not (sym q ∙ a);
     edges = λ M a. refused-not (sym q ∙ a);
   }
+
+  -- so for every instance that the arrays show
+  pub refused-for : (c : ℕ) (chosen : List Bool) (edges : List ℕ) → planIn shifts G file ≡ refused c
+      → ReadFor shifts m sv st sh qs qt file (record { answer = Refused c; chosen = chosen; edges = edges })
+  refused-for c chosen edges q = for-all (record { answer = Refused c; chosen = chosen; edges = edges }) (refused-as c chosen edges q)
 
   pub empty-file : length file ≤ 0 → planIn shifts G file ≡ refused 1
   empty-file h = ap (planIn shifts G) (none file h) ∙ plan-empty L G

@@ -190,10 +190,7 @@ module _ (G : model.Instance) (out : List ℕ) where
   same-first p M e (accepted N) ranges a = same-plans p M N N e refl (rangesRead (G .m) ranges) a
   same-first p M e (refused n) ranges a = a
 
-module _ (g : Instance) (file : List ℕ) (r : PlanRead) (A : ReadAs true (shownBy g) file r) (out : List ℕ) where
-  abbrev H : model.Instance
-  H = shownBy g
-
+module _ {H : model.Instance} {file : List ℕ} {r : PlanRead} (A : ReadAs true H file r) (out : List ℕ) where
   module _ (p : Plan) (ranges : List ℕ) where
     pub second-refused : {c : ℕ} (k : Group) → r .answer ≡ plan.Refused c → groupShown k ≡ groupOf c
         → Asked H (secondOn H p (readPlan H file) ranges) out (Refused c k) out

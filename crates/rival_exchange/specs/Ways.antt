@@ -51,6 +51,16 @@ module _ (m : ℕ) (sv st rs rt : List ℕ) (x y : ℕ) where
   abbrev pub bid : Way × Way → ℕ × (Way × Way)
   bid p = (endPrice (at rs) x (p .0) + endPrice (at rt) y (p .1), p)
 
+  -- a start of price a, and whether the end may be lost with it
+  abbrev pub Begun : (start a : ℕ) (free : Bool) → Type 0
+  Begun start a free = (a ≡ endPrice (at rs) x (wayOf m start)) × (free ≡ apart (wayOf m start, lose))
+
+  pub begun-lost : Begun m 3 true
+  begun-lost = (sym (ap (endPrice (at rs) x) (way-lose m)), sym (ap (λ w. apart (w, lose)) (way-lose m)))
+
+  pub begun-gain : (f a : ℕ) → f < m → a ≡ endPrice (at rs) x (gain f) → Begun f a (apart (gain f, lose))
+  begun-gain f a h e = (e ∙ sym (ap (endPrice (at rs) x) (way-gain m f h)), sym (ap (λ w. apart (w, lose)) (way-gain m f h)))
+
   module _ (plan roomS : List Bool) where
     abbrev pub stops : ℕ → Bool
     stops = gainable st sv plan roomS (at st y)
@@ -87,10 +97,10 @@ module _ (m : ℕ) (sv st rs rt : List ℕ) (x y : ℕ) where
         go true = refl
         go false = refl
 
-    pub round-begin : (s : Way) (held next : ℕ × (Way × Way)) (free : Bool) (a : ℕ) → free ≡ apart (s, lose) → a ≡ endPrice (at rs) x s
+    pub round-begin : (s : Way) (held next : ℕ × (Way × Way)) (free : Bool) (a : ℕ) → (a ≡ endPrice (at rs) x s) × (free ≡ apart (s, lose))
         → next ≡ cond (free && ltb (a + 3) (held .0)) (a + 3, (s, wayOf m m)) held
         → roundRest s next 0 ≡ round s held
-    round-begin s held next free a e q n =
+    round-begin s held next free a (q, e) n =
         ap (λ o. roundRest s o 0) (n ∙ ap (λ (w : Way). cond (free && ltb (a + 3) (held .0)) (a + 3, (s, w)) held) (way-lose m)
         ∙ ap₂ (λ (b : Bool) (p : ℕ). cond (b && ltb (p + 3) (held .0)) (p + 3, (s, lose)) held) e q) ∙ round-start s held
 

@@ -1,23 +1,21 @@
 // The exchange that makes a rival: what the search found is read back, with the first cheapest start and end of a walk, and the edges of the plan that go
 // and those that come are marked. hs and ls are the links through the edges of each surveyor, ht and lt those of each stand.
 ghost use mathlib.Core.Bool.{cond};
-ghost use mathlib.Core.List.{[], _∷_, _++_};
-ghost use Prim.Native.Nat.{_≤_, _<_};
+ghost use mathlib.Core.List.{List, [], _∷_, _++_};
+ghost use Prim.Native.Nat.{ℕ, _≤_, _<_};
 ghost use lib.Dec.{ltb};
 ghost use Rattle.model.specs.Limits.{entryLimit, nodeLimit, planLimit};
-ghost use Rattle.theory_verdict.specs.Ends.{fresh, lose};
+ghost use Rattle.theory_verdict.specs.Ends.{fresh};
 ghost use Rattle.arrays.specs.Passes.{Low};
 ghost use Rattle.arrays.specs.Linked.{Linked};
 ghost use Rattle.rival_levels.specs.Layers.{Small};
 ghost use Rattle.rival_walk.specs.Edges.{arcEdge};
 ghost use Rattle.rival_walk.specs.Marks.{Marked};
 ghost use Rattle.rival_walk.specs.Walks.{walkAt, Walked};
-ghost use Rattle.rival_exchange.specs.Ways.{terminalBy, wayOf, told, Offered, apart, round};
+ghost use Rattle.rival_exchange.specs.Ways.{terminalBy, wayOf, told, Offered, Begun, round};
 ghost use Rattle.rival_search.specs.TwoThresholds.{Bounded};
 ghost use Rattle.rival_exchange.specs.Swaps.{Marks, goneBy, comeBy};
 ghost use mathlib.Core.Path.{_≡_};
-ghost use Rattle.theory_verdict.specs.Search.{endPrice};
-ghost use Rattle.arrays.specs.ArrayInstance.{at};
 use limits::ENTRY_LIMIT;
 use rival_levels::Found;
 use rival_walk::Swap;
@@ -43,12 +41,11 @@ pub fn offered(ok: bool, p: u8, a: usize, b: usize, held: Ends) -> Ends
     held
 }
 
-// One start of price a with every end; `free` says that the end may be lost with it.
+// One start of price a with every end; `free` says that the end may be lost with it. The promise holds for any ranks rs at surveyors that tell both.
 pub fn round(
     m: usize,
     sv: &[u8; ENTRY_LIMIT],
     st: &[u8; ENTRY_LIMIT],
-    rs: &[u8; ENTRY_LIMIT],
     rt: &[u8; ENTRY_LIMIT],
     plan: &[bool; ENTRY_LIMIT],
     fs: &[bool; 32],
@@ -62,10 +59,10 @@ pub fn round(
     held: Ends,
 ) -> Ends
     requires { ⌜ (m ≤ entryLimit) × Low m (now sv) nodeLimit × Low m (now st) nodeLimit × Linked m (now st) (now ht) (now lt) × (x < m) × (y < m) × (a ≤ 3)
-        × (a ≡ endPrice (at (now rs)) x (wayOf m start))
-        × (free ≡ apart m (now sv) (now st) (now rs) (now rt) x y (wayOf m start, lose)) ⌝ }
-    ensures { λ r. ⌜ told m r ≡ round m (now (sv .entry)) (now (st .entry)) (now (rs .entry)) (now (rt .entry)) x y (now (plan .entry)) (now (fs .entry))
-        (wayOf m start) (told m held) ⌝ }
+        × ((rs : List ℕ) × Begun m (now sv) (now st) rs (now rt) x y start a free) ⌝ }
+    ensures { λ r. ⌜ ((rs : List ℕ) → Begun m (now (sv .entry)) (now (st .entry)) rs (now (rt .entry)) x y start a free
+        → told m r ≡ round m (now (sv .entry)) (now (st .entry)) rs (now (rt .entry)) x y (now (plan .entry)) (now (fs .entry))
+        (wayOf m start) (told m held)) ⌝ }
 {
     let s = sv[x];
     let t = st[y] as usize;
@@ -114,7 +111,7 @@ pub fn terminal(
         start: m,
         stop: m,
     };
-    let mut o = round(m, sv, st, rs, rt, plan, fs, ht, lt, x, y, m, 3, true, blank);
+    let mut o = round(m, sv, st, rt, plan, fs, ht, lt, x, y, m, 3, true, blank);
     let mut f = hs[s] as usize;
     while f < m {
         let v = st[f] as usize;
@@ -124,7 +121,6 @@ pub fn terminal(
                 m,
                 sv,
                 st,
-                rs,
                 rt,
                 plan,
                 fs,

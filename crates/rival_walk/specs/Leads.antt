@@ -30,9 +30,9 @@ unfoldable pub leadRest : List ℕ → ℕ → (ℕ → ℕ) → ℕ → ℕ × 
 leadRest arcs n c i held y = best (bidAt arcs c i) held (keep (λ y. true) (range y (n - y)))
 
 module _ (arcs : List ℕ) (n : ℕ) (c : ℕ → ℕ) (i : ℕ) where
-  pub lead-start : leadRest arcs n c i (keptPrice (c i), n) 0 ≡ leadAt arcs n c i
+  pub lead-start : {v : ℕ} → v ≡ keptPrice (c i) → leadRest arcs n c i (v, n) 0 ≡ leadAt arcs n c i
   unfolding leadRest leadAt
-  lead-start = best-start (bidAt arcs c i) (λ y. true) (keptPrice (c i), n) n
+  lead-start e = ap (λ v. leadRest arcs n c i (v, n) 0) e ∙ best-start (bidAt arcs c i) (λ y. true) (keptPrice (c i), n) n
 
   pub lead-end : (held : ℕ × ℕ) (y : ℕ) → n ≤ y → leadRest arcs n c i held y ≡ held
   unfolding leadRest
@@ -56,11 +56,11 @@ unfoldable pub priceRest : List ℕ → ℕ → (ℕ → ℕ) → ℕ → ℕ �
 priceRest arcs n c i v y = cheapest (λ y. true) (λ y. cell arcs i y + c y) v y (n - y)
 
 module _ (arcs : List ℕ) (n : ℕ) (c : ℕ → ℕ) (i : ℕ) where
-  pub price-start : priceRest arcs n c i (keptPrice (c i)) 0 ≡ leadAt arcs n c i .0
+  pub price-start : {v : ℕ} → v ≡ keptPrice (c i) → priceRest arcs n c i v 0 ≡ leadAt arcs n c i .0
   unfolding priceRest leadAt
-  price-start =
-      let e : n - 0 ≡ n = omega arith in
-      ap (cheapest (λ y. true) (λ y. cell arcs i y + c y) (keptPrice (c i)) 0) e ∙ sym (best-keep (bidAt arcs c i) (λ y. true) (keptPrice (c i), n) 0 n)
+  price-start e =
+      let z : n - 0 ≡ n = omega arith in
+      ap (λ v. priceRest arcs n c i v 0) e ∙ ap (cheapest (λ y. true) (λ y. cell arcs i y + c y) (keptPrice (c i)) 0) z ∙ sym (best-keep (bidAt arcs c i) (λ y. true) (keptPrice (c i), n) 0 n)
 
   pub price-end : (v y : ℕ) → n ≤ y → priceRest arcs n c i v y ≡ v
   unfolding priceRest

@@ -95,6 +95,12 @@ pub record Going (whole left : List ℕ) (n : ℕ) (before : List ℕ) (r : ℕ)
 pub going-starts : (whole : List ℕ) (n : ℕ) (o : List ℕ) → Room n o → Going whole whole n o n o
 going-starts whole n o h = record { done = []; grown = grown-none n o h; is = refl }
 
+-- the same for a whole that is made in so many turns
+pub going-first : (made : ℕ → List ℕ) (count n : ℕ) (o : List ℕ) → Room n o → Going (made count) (made (count - 0)) n o n o
+going-first made count n o h =
+    let e : count ≡ count - 0 = omega arith in
+    subst (λ k. Going (made count) (made k) n o n o) e (going-starts (made count) n o h)
+
 -- a turn that appends the first part of what is left
 pub going-on : {whole left more xs : List ℕ} {n m r : ℕ} {o p q : List ℕ} → left ≡ xs ++ more → Going whole left n o m p → Grown xs m p r q
     → Going whole more n o r q

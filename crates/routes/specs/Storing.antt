@@ -1,6 +1,6 @@
 -- What storing and unstoring promise: the model's answer and bytes, that the other way undoes it, and of the renumbered roster, that its strongly
 -- popular plans and the finder's answers are those of before, renumbered.
-use Prim.Native.Nat.{ℕ, _+_, _-_, _≤_}
+use Prim.Native.Nat.{ℕ, _+_, _-_, _≤_, _<_}
 use native.Mathlib.Omega.{arith}
 use mathlib.Core.Path.{_≡_, refl, sym, ap, ap₂, _∙_, subst}
 use mathlib.Core.Bool.{Bool, true, false, not, cond}
@@ -20,7 +20,7 @@ use Rattle.model.specs.Finder.{finderOf, plan, handsBack}
 use Rattle.model_desk.specs.Desk.{said, wrote}
 use Rattle.model_files.specs.Routes.{readRoute, namesEach, renumbered, wayBack, rosterBehind, routeFirst, storeOf, unstoreOf, renumberedPlan}
 use Rattle.model_files.specs.StoredCalls.{storedAnswer, storedLent}
-use Rattle.theory_files.specs.Reads.{rest-bytes}
+use Rattle.theory_files.specs.Reads.{bytes-are, rest-bytes}
 use Rattle.theory_files.specs.Rosters.{read-write, read-fits, accepted-size}
 use Rattle.theory_renamed.specs.RouteNumbers.{Names, each-names, names-each, back-names}
 use Rattle.theory_renamed.specs.RenumberedPlans.{strong-renumbered, finder-renumbered, finder-alike}
@@ -109,16 +109,16 @@ undoes false f g isB e =
     let d = sym (turn-is false f) ∙ e in
     (turn-is true g ∙ undone (λ route. route) wayBack store-undone f g isB d, kept-length (λ route. route) wayBack store-undone f g isB d .0)
 
-pub stores : (back : Bool) (f o : List ℕ) {r : Written} {o′ : List ℕ} → T (isBytes f) → Answers storedSize (turnBy back f) o r o′
+pub stores : (back : Bool) (f o : List ℕ) {r : Written} {o′ : List ℕ} → ((i : ℕ) → getD f i 0 < 256) → Answers storedSize (turnBy back f) o r o′
     → StoresBy (byOf back) (turnBy back) (turnBy (not back)) f o r o′
 unfolding storedAnswer storedLent
-stores back f o {r} {o′} isB a = record {
+stores back f o {r} {o′} low a = record {
   answer = a .answer;
   lent = a .lent;
   kept = λ n e. given (wrote-of storedSize (turnBy back f) o a n e) (λ (g, p, t).
-      count-of storedSize (turnBy back f) o a n e g p ∙ undoes back f g isB p .1);
-  undone = λ n e. given (wrote-of storedSize (turnBy back f) o a n e) (λ (g, p, t). ap (turnBy (not back)) t ∙ undoes back f g isB p .0);
-  plans = λ n e. given (wrote-of storedSize (turnBy back f) o a n e) (λ (g, p, t). subst (Renumbered (byOf back) f) (sym t) (renumbered-as back f g isB p));
+      count-of storedSize (turnBy back f) o a n e g p ∙ undoes back f g (bytes-are f low) p .1);
+  undone = λ n e. given (wrote-of storedSize (turnBy back f) o a n e) (λ (g, p, t). ap (turnBy (not back)) t ∙ undoes back f g (bytes-are f low) p .0);
+  plans = λ n e. given (wrote-of storedSize (turnBy back f) o a n e) (λ (g, p, t). subst (Renumbered (byOf back) f) (sym t) (renumbered-as back f g (bytes-are f low) p));
 }
 
 -- ---- an accepted roster behind a route, with the parts and counts as the code has them

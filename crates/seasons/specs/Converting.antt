@@ -1,6 +1,6 @@
 -- What a conversion of a roster file promises: the model's answer and bytes, and that the other way undoes it; and how that follows from what was
 -- read and turned.
-use Prim.Native.Nat.{ℕ, _+_, _≤_}
+use Prim.Native.Nat.{ℕ, _+_, _≤_, _<_}
 use native.Mathlib.Omega.{arith}
 use mathlib.Core.Path.{_≡_, sym, ap, _∙_, subst}
 use mathlib.Core.Bool.{Bool, true, false, not}
@@ -17,6 +17,7 @@ use Rattle.model.specs.Refusal.{groupOf}
 use Rattle.model_desk.specs.Seasons.{onlyFirst, toNew, toOld}
 use Rattle.model_desk.specs.Desk.{said, wrote}
 use Rattle.model_desk.specs.SeasonCalls.{fileAnswer, fileLent}
+use Rattle.theory_files.specs.Reads.{bytes-are}
 use Rattle.theory_files.specs.Seasons.{back, forth, old-first, new-size, old-size, old-taken, new-taken, new-refused, old-turned-away, new-turned-away}
 use Rattle.answers.specs.declared.Group.{Group}
 use Rattle.answers.specs.declared.Written.{Written}
@@ -53,13 +54,13 @@ undoes : (shifts : Bool) (f g : List ℕ) → T (isBytes f) → turnBy shifts f 
 undoes true f g isB e = forth g f isB e
 undoes false f g isB e = back f g isB e
 
-pub converts : (shifts : Bool) (f o : List ℕ) {r : Written} {o′ : List ℕ} → T (isBytes f) → Answers rosterSize (turnBy shifts f) o r o′
+pub converts : (shifts : Bool) (f o : List ℕ) {r : Written} {o′ : List ℕ} → ((i : ℕ) → getD f i 0 < 256) → Answers rosterSize (turnBy shifts f) o r o′
     → Converts (turnBy shifts) (turnBy (not shifts)) f o r o′
 unfolding fileAnswer fileLent
-converts shifts f o {r} {o′} isB a = record {
+converts shifts f o {r} {o′} low a = record {
   answer = a .answer;
   lent = a .lent;
-  undone = λ n e. given (wrote-of rosterSize (turnBy shifts f) o a n e) (λ (g, p, t). ap (turnBy (not shifts)) t ∙ undoes shifts f g isB p);
+  undone = λ n e. given (wrote-of rosterSize (turnBy shifts f) o a n e) (λ (g, p, t). ap (turnBy (not shifts)) t ∙ undoes shifts f g (bytes-are f low) p);
 }
 
 -- ---- a file that the reader refuses

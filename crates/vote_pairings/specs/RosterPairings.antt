@@ -22,7 +22,7 @@ use Rattle.instance.specs.Decoded.{shownBy}
 use Rattle.instance.specs.Loaded.{Loaded}
 use Rattle.vote_plans.specs.Votable.{side-arrays}
 use Rattle.plan_lookup.specs.PlanEdges.{Listed}
-use Rattle.vote_pairings.specs.SidePairings.{BothAsked}
+use Rattle.vote_pairings.specs.SidePairings.{Faced, BothAsked}
 
 -- "Each vote's pairings need a buffer of 256 bytes"
 module _ (r : Roster) (ok : T (fits r)) (M N : ℕ → Bool) (pM : Matching (instanceOf r) M) (pN : Matching (instanceOf r) N) where
@@ -34,18 +34,20 @@ module _ (r : Roster) (ok : T (fits r)) (M N : ℕ → Bool) (pM : Matching (ins
 
 -- ---- the arrays
 module _ (g : Instance) (L : Loaded g) where
-  -- the arrays of an accepted roster and two plans within its quotas, with the lists of their edges, are what the pairings ask for
-  unfoldable pub both-asked : {p q : List Bool} {pn qn : ℕ} {pe qe : List ℕ} → Matching (shownBy g) (flag p) → Matching (shownBy g) (flag q)
+  -- on both sides, the arrays of an accepted roster and two plans within its quotas face each other
+  pub both-faced : (p q : List Bool) → Matching (shownBy g) (flag p) → Matching (shownBy g) (flag q)
+      → Faced (g .m) (g .ns) (g .sv) (g .«rank_s») (g .«quota_s») p q × Faced (g .m) (g .nt) (g .st) (g .«rank_t») (g .«quota_t») p q
+  unfolding deg
+  both-faced p q pM qM = (
+    record { arrays = side-arrays g L .0; few = λ v. L .quotas v .0; first = pM .atS; second = qM .atS },
+    record { arrays = side-arrays g L .1; few = λ v. L .quotas v .1; first = pM .atT; second = qM .atT },
+  )
+
+  -- with the lists of their edges they are what the pairings ask for
+  abbrev pub both-asked : (p q : List Bool) {pn qn : ℕ} {pe qe : List ℕ} → Matching (shownBy g) (flag p) → Matching (shownBy g) (flag q)
       → Listed (g .m) p pn pe → Listed (g .m) q qn qe
       → BothAsked (g .ns) (g .nt) (g .sv) (g .st) (g .«rank_s») (g .«rank_t») (g .«quota_s») (g .«quota_t») p pn pe q qn qe
-  unfolding deg
-  both-asked pM qM P Q = record {
-    m = g .m;
-    atS = record { arrays = side-arrays g L .0; few = λ v. L .quotas v .0; first = pM .atS; second = qM .atS };
-    atT = record { arrays = side-arrays g L .1; few = λ v. L .quotas v .1; first = pM .atT; second = qM .atT };
-    own = P;
-    others = Q;
-  }
+  both-asked p q pM qM P Q = record { m = g .m; atS = both-faced p q pM qM .0; atT = both-faced p q pM qM .1; own = P; others = Q }
 
   -- a buffer of 256 bytes has two for each place of all quotas
   pub room : (n : ℕ) → pairingSize ≤ n → 2 * (sum (at (g .«quota_s»)) (upTo (g .ns)) + sum (at (g .«quota_t»)) (upTo (g .nt))) ≤ n

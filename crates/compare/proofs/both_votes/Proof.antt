@@ -24,7 +24,7 @@ both-pairings-requires c κs =
     let L = s .pre .0 .0 in
     let p = s .pre .0 .1 in
     let q = s .pre .0 .2 in (
-      both-asked (a .g) L (p .matching) (q .matching) (p .listed) (q .listed),
+      both-asked (a .g) L (a .p .now) (a .q .now) (p .matching) (q .matching) (p .listed) (q .listed),
       (room (a .g) L (length (a .forward .now)) (s .pre .1 .0), room (a .g) L (length (a .back .now)) (s .pre .1 .1)),
     )
 
@@ -45,8 +45,8 @@ returns c =
         both .ensures .second (g .sh) (g .tied) (g .«quota_s») (g .«quota_t») q p,
       ),
       record {
-        first = r .ensures .0 (both-asked g L p q (P .listed) (Q .listed)) (g .sh) (g .tied);
-        second = r .ensures .1 (both-asked g L q p (Q .listed) (P .listed)) (g .sh) (g .tied);
+        first = r .ensures .0 (both-asked g L (s .args .p .now) (s .args .q .now) p q (P .listed) (Q .listed)) (g .sh) (g .tied);
+        second = r .ensures .1 (both-asked g L (s .args .q .now) (s .args .p .now) q p (Q .listed) (P .listed)) (g .sh) (g .tied);
       },
     )
 

@@ -1,8 +1,4 @@
 -- `desk_commits::commit` meets its contract. Assumes nothing.
-use mathlib.Core.Path.{sym, ap, _∙_}
-use Rattle.model.specs.PlanFile.{readPlan}
-use Rattle.answers.specs.FileCases.{fileCase}
-use Rattle.instance.specs.Decoded.{shownBy}
 use Rattle.desk_files.specs.State.{arrays-are}
 use Rattle.desk_commits.specs.Commits.{commit-refused, none-open, commit-taken}
 use borrow.Author.Needs.{needs}
@@ -22,20 +18,16 @@ read-plan-requires c κs =
 returns-2 : tie.Need-returns-2
 returns-2 c =
     let f = c .before .before .before .before in
-    let l = f .before .before .before .before .loaded in
-    none-open (f .before .before .before .before .before .args .files) (l .ensures) (f .before .before .before .if1 .left)
-    (sym (c .before .enum-told .given .1) ∙ c .before .before .before .read-plan .ensures
-    ∙ ap (λ b. fileCase (readPlan (shownBy (l .result .g)) b)) (f .front .ensures))
-    (c .group-of2 .result) (c .group-of2 .ensures)
+    let s = f .before .before .before in
+    none-open (s .before .before .args .files) (s .before .loaded .ensures) (s .if1 .left) (c .before .enum-told .given .1)
+    (c .before .before .before .read-plan .ensures) (f .front .ensures) (c .group-of2 .result) (c .group-of2 .ensures)
 
 returns-3 : tie.Need-returns-3
 returns-3 c =
     let f = c .before .before .before .before in
-    let l = f .before .before .before .before .loaded in
-    commit-taken (f .before .before .before .before .before .args .files) (l .ensures) (f .before .before .before .if1 .left)
-    (sym (c .before .enum-told2 .given .1) ∙ c .before .before .before .read-plan .ensures
-    ∙ ap (λ b. fileCase (readPlan (shownBy (l .result .g)) b)) (f .front .ensures))
-    (c .with-commit .result) (c .with-commit .ensures)
+    let s = f .before .before .before in
+    commit-taken (s .before .before .args .files) (s .before .loaded .ensures) (s .if1 .left) (c .before .enum-told2 .given .1)
+    (c .before .before .before .read-plan .ensures) (f .front .ensures) (c .with-commit .result) (c .with-commit .ensures)
 
 pub commit-spec : {M : Type 1} → statement M
 commit-spec =

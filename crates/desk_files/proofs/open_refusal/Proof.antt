@@ -1,8 +1,7 @@
 -- `desk_files::open_refusal` meets its contract. Assumes nothing.
-use mathlib.Core.Path.{sym, ap, subst}
-use mathlib.Core.Bool.{true, cond}
+use mathlib.Core.Path.{sym, ap}
+use mathlib.Core.Bool.{cond}
 use borrow.Author.Tests.{ne-eqb}
-use Rattle.desk_loaded.specs.OnDesk.{OnRoster}
 use Rattle.desk_files.specs.State.{arrays-are}
 use Rattle.desk_files.specs.Open.{asOpen, open-not, open-with}
 use borrow.Author.Needs.{needs}
@@ -23,22 +22,18 @@ returns-2 : tie.Need-returns-2
 returns-2 c =
     let f = c .before .before in
     let s = f .before .before .before in
-    let l = s .before .loaded in
     let a = s .before .before .args in
-    let p = c .before .with-plan in
-    open-with (a .files) (a .short) (l .ensures) (s .if1 .left)
-    (subst (λ b. OnRoster (l .result .g) b true (a .short) (p .result)) (f .front .ensures) (p .ensures)) 20 (sym (ap asOpen (c .if2 .taken)))
+    open-with (a .files) (a .short) (s .before .loaded .ensures) (s .if1 .left) (f .front .ensures) (c .before .with-plan .ensures) 20
+    (sym (ap asOpen (c .if2 .taken)))
 
 returns-3 : tie.Need-returns-3
 returns-3 c =
     let f = c .before .before in
     let s = f .before .before .before in
-    let l = s .before .loaded in
     let a = s .before .before .args in
-    let p = c .before .with-plan in
-    open-with (a .files) (a .short) (l .ensures) (s .if1 .left)
-    (subst (λ b. OnRoster (l .result .g) b true (a .short) (p .result)) (f .front .ensures) (p .ensures)) (p .result .refusal)
-    (sym (ap (λ b. cond b 20 (p .result .refusal)) (ne-eqb (p .result .refusal) 14 (c .if2 .left))))
+    let n = c .before .with-plan .result .refusal in
+    open-with (a .files) (a .short) (s .before .loaded .ensures) (s .if1 .left) (f .front .ensures) (c .before .with-plan .ensures) n
+    (sym (ap (λ b. cond b 20 n) (ne-eqb n 14 (c .if2 .left))))
 
 pub open-refusal-spec : {M : Type 1} → statement M
 open-refusal-spec =

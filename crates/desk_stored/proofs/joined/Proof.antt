@@ -17,15 +17,6 @@ returns c =
     change-refused (a .files) (a .short) (λ R. joinOn R (a .quota) (a .list .now)) 0 (f .front .ensures) (c .before .before .roster-refusal .ensures)
     (c .before .if1 .taken) (c .unchanged .ensures)
 
-join-requires : tie.Need-join-requires
-join-requires c κs = given (c .before .roster-refusal .ensures .roster-is (c .if1 .left)) (λ (R, a, f, w). (R, a))
-
-taken-requires : tie.Need-taken-requires
-taken-requires c κs =
-    let r = c .before .before in
-    let f = r .before in
-    roster-here (start f .args .files) (f .front .ensures) (r .roster-refusal .ensures) (c .before .if1 .left)
-
 returns-2 : tie.Need-returns-2
 returns-2 c =
     let r = c .before .before .before in
@@ -36,5 +27,8 @@ returns-2 c =
 
 pub joined-spec : {M : Type 1} → statement M
 joined-spec =
-    tie.close (tie.spec (λ c. search needs) (λ c κs. search needs) (λ c κs. search needs) (λ c κs. search needs) returns join-requires taken-requires
+    tie.close (tie.spec (λ c. search needs) (λ c κs. search needs) (λ c κs. search needs) (λ c κs. search needs) returns
+    (λ c κs. given (c .before .roster-refusal .ensures .roster-is (c .if1 .left)) (λ (R, a, f, w). (R, a)))
+    (λ c κs. let r = c .before .before in
+    roster-here (start (r .before) .args .files) (r .before .front .ensures) (r .roster-refusal .ensures) (c .before .if1 .left))
     returns-2)

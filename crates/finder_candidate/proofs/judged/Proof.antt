@@ -1,11 +1,9 @@
 -- finder_candidate::judged writes the candidate, weighs it and answers what was found of it.
-use mathlib.Core.Path.{sym, ap, _∙_}
+use mathlib.Core.Path.{sym, ap}
 use mir.Syntax.{w16}
 use mir.ValLaws.{toZ-ofZ}
 use borrow.Author.Needs.{needs, sfits-of}
-use Rattle.answers.specs.declared.Found.the-variants as says
-use Rattle.answers.specs.declared.NoneKind.the-variants as kind
-use Rattle.finder_candidate.specs.Judging.{answerOn, wrote-judged, few-edges, plan-onto}
+use Rattle.finder_candidate.specs.Judging.{answerOn, rivalled-on, few-edges, judged-on}
 use Rattle.finder_candidate.proofs.judged.Statement.{statement}
 use Rattle.finder_candidate.proofs.judged.Tie as tie
 
@@ -39,43 +37,33 @@ weigh-requires c κs =
 returns : tie.Need-returns
 returns c =
     let p = c .before .before .before .before .before .before .before .before .before in
-    let b = start p in
-    let a = b .args in
+    let a = start p .args in
     let w = c .before .before .before .before .weigh in
-    λ M S l. wrote-judged _ M (a .steps) l (a .plan .now) (a .rival .now) _ _ (w .result) (w .ensures M S)
-    (plan-onto (a .g) (a .fixed .now) (a .plan .now) _ (p .write-plan .ensures (a .g .m) (a .fixed .now) (after-list p .list-edges .ensures)) M (S .1))
+    judged-on (a .g) (a .fixed .now) (a .steps) (a .plan .now) (a .rival .now) _ _ (w .result) (p .write-plan .ensures (a .g .m) (a .fixed .now) (after-list p .list-edges .ensures)) (w .ensures)
     (ap (answerOn (a .steps)) (sym (c .enum-told .given .1)))
 
 returns-2 : tie.Need-returns-2
 returns-2 c =
     let p = c .before .before .before .before .before .before .before .before .before .before in
-    let b = start p in
-    let a = b .args in
+    let a = start p .args in
     let w = c .before .before .before .before .before .weigh in
-    λ M S l. wrote-judged _ M (a .steps) l (a .plan .now) (a .rival .now) _ _ (w .result) (w .ensures M S)
-    (plan-onto (a .g) (a .fixed .now) (a .plan .now) _ (p .write-plan .ensures (a .g .m) (a .fixed .now) (after-list p .list-edges .ensures)) M (S .1))
-    (ap (λ z. says.None (a .steps) (kind.Rivalled z)) (toZ-ofZ w16 (c .before .w .given .0 .0) (sfits-of (c .known-told .given .0 .1)))
-    ∙ ap (answerOn (a .steps)) (sym (c .before .w .given .1)))
+    judged-on (a .g) (a .fixed .now) (a .steps) (a .plan .now) (a .rival .now) _ _ (w .result) (p .write-plan .ensures (a .g .m) (a .fixed .now) (after-list p .list-edges .ensures)) (w .ensures)
+    (rivalled-on (a .steps) (w .result) (toZ-ofZ w16 (c .before .w .given .0 .0) (sfits-of (c .known-told .given .0 .1))) (ap (answerOn (a .steps)) (c .before .w .given .1)))
 
 returns-3 : tie.Need-returns-3
 returns-3 c =
     let p = c .before .before .before .before .before .before .before .before .before .before in
-    let b = start p in
-    let a = b .args in
+    let a = start p .args in
     let w = c .before .before .before .before .before .weigh in
-    λ M S l. wrote-judged _ M (a .steps) l (a .plan .now) (a .rival .now) _ _ (w .result) (w .ensures M S)
-    (plan-onto (a .g) (a .fixed .now) (a .plan .now) _ (p .write-plan .ensures (a .g .m) (a .fixed .now) (after-list p .list-edges .ensures)) M (S .1))
-    (ap (λ z. says.None (a .steps) (kind.Rivalled z)) (toZ-ofZ w16 (c .before .w2 .given .0 .0) (sfits-of (c .known-told2 .given .0 .1)))
-    ∙ ap (answerOn (a .steps)) (sym (c .before .w2 .given .1)))
+    judged-on (a .g) (a .fixed .now) (a .steps) (a .plan .now) (a .rival .now) _ _ (w .result) (p .write-plan .ensures (a .g .m) (a .fixed .now) (after-list p .list-edges .ensures)) (w .ensures)
+    (rivalled-on (a .steps) (w .result) (toZ-ofZ w16 (c .before .w2 .given .0 .0) (sfits-of (c .known-told2 .given .0 .1))) (ap (answerOn (a .steps)) (c .before .w2 .given .1)))
 
 returns-4 : tie.Need-returns-4
 returns-4 c =
     let p = c .before .before .before .before .before .before .before .before .before .before in
-    let b = start p in
-    let a = b .args in
+    let a = start p .args in
     let w = c .before .before .before .before .before .weigh in
-    λ M S l. wrote-judged _ M (a .steps) l (a .plan .now) (a .rival .now) _ _ (w .result) (w .ensures M S)
-    (plan-onto (a .g) (a .fixed .now) (a .plan .now) _ (p .write-plan .ensures (a .g .m) (a .fixed .now) (after-list p .list-edges .ensures)) M (S .1))
+    judged-on (a .g) (a .fixed .now) (a .steps) (a .plan .now) (a .rival .now) _ _ (w .result) (p .write-plan .ensures (a .g .m) (a .fixed .now) (after-list p .list-edges .ensures)) (w .ensures)
     (ap (answerOn (a .steps)) (sym (c .before .w3 .given .1)))
 
 pub judged-spec : {M : Type 1} → statement M

@@ -10,7 +10,7 @@ use Rattle.pair_bytes.specs.declared.Pair.{Pair}
 use Rattle.pair_bytes.specs.PairAt.{namedAt, width-most}
 use Rattle.plan_lookup.specs.PairEdge.{Names}
 use Rattle.plan_reader.specs.ReadInvariant.{G, Invariant, for-all, invariant-first, invariant-cut, invariant-refused, invariant-passed}
-use Rattle.plan_reader.specs.ReadInvariant.{invariant-on, invariant-long, invariant-accepted, refused-as, used-few}
+use Rattle.plan_reader.specs.ReadInvariant.{invariant-on, invariant-long, invariant-accepted, refused-for, used-few}
 use borrow.Author.Needs.{needs}
 use Rattle.plan_reader.proofs.read_pairs.Statement.{statement}
 use Rattle.plan_reader.proofs.read_pairs.Tie as tie
@@ -92,12 +92,11 @@ returns : tie.Need-returns Inv-loop μ-loop
 returns c =
     let l = c .before .before in
     let a = l .before .before .before .args in
-    for-all (a .shifts) (a .m) (a .sv .now) (a .st .now) (a .sh .now) (a .qs .now) (a .qt .now) (a .file .now) _
-    (refused-as (a .shifts) (a .m) (a .sv .now) (a .st .now) (a .sh .now) (a .qs .now) (a .qt .now) (a .file .now) 1 (l .loop .chosen) (l .loop .edges)
+    refused-for (a .shifts) (a .m) (a .sv .now) (a .st .now) (a .sh .now) (a .qs .now) (a .qt .now) (a .file .now) 1 (l .loop .chosen) (l .loop .edges)
     (invariant-cut (a .shifts) (a .m) (a .sv .now) (a .st .now) (a .sh .now) (a .qs .now)
     (a .qt .now) (a .file .now) (a .n) (l .loop .k) (l .loop .at) (l .loop .from)
     (l .loop .chosen) (l .loop .edges) (l .loop .us) (l .loop .ut) (l .loop .inv .1)
-    (c .before .loop-test .taken) (l .before .width .result) (l .before .width .ensures) (c .if1 .taken)))
+    (c .before .loop-test .taken) (l .before .width .result) (l .before .width .ensures) (c .if1 .taken))
 
 edge-of-requires : tie.Need-edge-of-requires Inv-loop μ-loop
 edge-of-requires c κs = let l = c .before .before .before in let s = l .before .before .before in (l .loop .inv .1 .small, s .pre .0 .0, s .pre .0 .3)
@@ -112,9 +111,7 @@ returns-2 c =
     let s = l .before .before .before in
     let a = s .args in
     let k = c .before .before .before .before in
-    for-all (a .shifts) (a .m) (a .sv .now) (a .st .now) (a .sh .now) (a .qs .now) (a .qt .now) (a .file .now) _
-    (refused-as (a .shifts) (a .m) (a .sv .now) (a .st .now) (a .sh .now) (a .qs .now)
-    (a .qt .now) (a .file .now) (c .before .pair-refusal .result) (l .loop .chosen)
+    refused-for (a .shifts) (a .m) (a .sv .now) (a .st .now) (a .sh .now) (a .qs .now) (a .qt .now) (a .file .now) (c .before .pair-refusal .result) (l .loop .chosen)
     (l .loop .edges)
     (invariant-refused (a .shifts) (a .m) (a .sv .now) (a .st .now) (a .sh .now)
     (a .qs .now) (a .qt .now) (a .file .now) (a .n) (l .loop .k) (l .loop .at) (l .loop .from)
@@ -122,46 +119,7 @@ returns-2 c =
     (at-loop-test .loop-test .taken) (l .before .width .result) (l .before .width .ensures)
     (s .pre .0 .1) (s .pre .0 .2)
     (c .before .before .before .before .before .before .if1 .left) (k .edge-of .result) (found k)
-    (c .before .pair-refusal .result) (c .before .pair-refusal .ensures) (omega arith)))
-
-element-copy-out-i : tie.Need-element-copy-out-i Inv-loop μ-loop
-element-copy-out-i c = omega (arith, passing c .0)
-
-cast-i : tie.Need-cast-i Inv-loop μ-loop
-cast-i c = omega (arith, ends (c .before))
-
-element-copy-out-j : tie.Need-element-copy-out-j Inv-loop μ-loop
-element-copy-out-j c = omega (arith, passing (c .before) .0)
-
-cast-j : tie.Need-cast-j Inv-loop μ-loop
-cast-j c = omega (arith, ends (c .before .before))
-
-array-read-us : tie.Need-array-read-us Inv-loop μ-loop
-array-read-us c = omega (arith, ends (c .before .before))
-
-add-us : tie.Need-add-us Inv-loop μ-loop
-add-us c = omega (arith, used (c .before .before))
-
-array-write-us : tie.Need-array-write-us Inv-loop μ-loop
-array-write-us c = omega (arith, ends (c .before .before))
-
-array-read-ut : tie.Need-array-read-ut Inv-loop μ-loop
-array-read-ut c = omega (arith, ends (c .before .before))
-
-add-ut : tie.Need-add-ut Inv-loop μ-loop
-add-ut c = omega (arith, used (c .before .before))
-
-array-write-ut : tie.Need-array-write-ut Inv-loop μ-loop
-array-write-ut c = omega (arith, ends (c .before .before))
-
-array-write-chosen : tie.Need-array-write-chosen Inv-loop μ-loop
-array-write-chosen c = omega (arith, passing (c .before .before) .0)
-
-cast-edges : tie.Need-cast-edges Inv-loop μ-loop
-cast-edges c = omega (arith, passing (c .before .before) .0)
-
-add-from : tie.Need-add-from Inv-loop μ-loop
-add-from c = omega (arith, passing (c .before .before) .0)
+    (c .before .pair-refusal .result) (c .before .pair-refusal .ensures) (omega arith))
 
 loop-again : tie.Need-loop-again Inv-loop μ-loop
 loop-again c =
@@ -185,11 +143,10 @@ returns-3 : tie.Need-returns-3 Inv-loop μ-loop
 returns-3 c =
     let l = c .before .before in
     let a = l .before .before .before .args in
-    for-all (a .shifts) (a .m) (a .sv .now) (a .st .now) (a .sh .now) (a .qs .now) (a .qt .now) (a .file .now) _
-    (refused-as (a .shifts) (a .m) (a .sv .now) (a .st .now) (a .sh .now) (a .qs .now) (a .qt .now) (a .file .now) 9 (l .loop .chosen) (l .loop .edges)
+    refused-for (a .shifts) (a .m) (a .sv .now) (a .st .now) (a .sh .now) (a .qs .now) (a .qt .now) (a .file .now) 9 (l .loop .chosen) (l .loop .edges)
     (invariant-long (a .shifts) (a .m) (a .sv .now) (a .st .now) (a .sh .now) (a .qs .now)
     (a .qt .now) (a .file .now) (a .n) (l .loop .k) (l .loop .at) (l .loop .from)
-    (l .loop .chosen) (l .loop .edges) (l .loop .us) (l .loop .ut) (l .loop .inv .1) (omega arith) (omega arith)))
+    (l .loop .chosen) (l .loop .edges) (l .loop .us) (l .loop .ut) (l .loop .inv .1) (omega arith) (omega arith))
 
 returns-4 : tie.Need-returns-4 Inv-loop μ-loop
 returns-4 c =
@@ -212,6 +169,9 @@ add-at c =
 pub read-pairs-spec : {M : Type 1} → statement M
 read-pairs-spec =
     tie.close (tie.spec Inv-loop μ-loop (λ c κs. search needs) loop-holds add-end returns get-requires edge-of-requires pair-refusal-requires
-    returns-2 element-copy-out-i cast-i element-copy-out-j cast-j array-read-us add-us array-write-us array-read-ut add-ut array-write-ut
-    array-write-chosen cast-edges (λ c. search needs) (λ c. search needs) add-from add-at (λ c. search needs) (λ c. search needs) loop-again
-    returns-3 returns-4)
+    returns-2 (λ c. omega (arith, passing c .0)) (λ c. omega (arith, ends (c .before))) (λ c. omega (arith, passing (c .before) .0))
+    (λ c. omega (arith, ends (c .before .before))) (λ c. omega (arith, ends (c .before .before))) (λ c. omega (arith, used (c .before .before)))
+    (λ c. omega (arith, ends (c .before .before))) (λ c. omega (arith, ends (c .before .before))) (λ c. omega (arith, used (c .before .before)))
+    (λ c. omega (arith, ends (c .before .before))) (λ c. omega (arith, passing (c .before .before) .0))
+    (λ c. omega (arith, passing (c .before .before) .0)) (λ c. search needs) (λ c. search needs) (λ c. omega (arith, passing (c .before .before) .0))
+    add-at (λ c. search needs) (λ c. search needs) loop-again returns-3 returns-4)

@@ -15,9 +15,6 @@ Inv-loop n arcs nexts d o₀ i₀ o i = Written n (λ i j v. v ≡ nextPrice arc
 abbrev μ-loop : tie.MeasureT-loop
 μ-loop n arcs nexts d o₀ i₀ o i = n - i
 
-sparse-row-requires : tie.Need-sparse-row-requires Inv-loop μ-loop
-sparse-row-requires c κs = let s = c .before .before in (omega arith, omega arith, s .pre .1, s .pre .2, s .pre .3)
-
 loop-again : tie.Need-loop-again Inv-loop μ-loop
 loop-again c =
     let q = c .before .before .before in
@@ -25,6 +22,7 @@ loop-again c =
 
 pub sparse-layer-spec : {M : Type 1} → statement M
 sparse-layer-spec =
-    tie.close (tie.spec Inv-loop μ-loop (λ c. written-none (length-replicate {A = ℕ} 4096 133)) sparse-row-requires
+    tie.close (tie.spec Inv-loop μ-loop (λ c. written-none (length-replicate {A = ℕ} 4096 133))
+    (λ c κs. let s = c .before .before in (omega arith, omega arith, s .pre .1, s .pre .2, s .pre .3))
     (λ c κs. (omega arith, c .before .before .before .before .loop .inv .whole)) (λ c. search needs) (λ c. search needs) loop-again
     (λ c. written-all (c .before .loop .inv) (omega arith)))

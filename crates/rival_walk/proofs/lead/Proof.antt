@@ -5,7 +5,6 @@ use native.Mathlib.Omega.{arith}
 use borrow.Author.Needs.{needs}
 use mathlib.Core.Logic.{⊎-elim}
 use Rattle.rival_tables.specs.Filled.{cell}
-use Rattle.rival_levels.specs.Layers.{keptPrice}
 use Rattle.rival_walk.specs.Leads.{leadAt, leadRest, lead-start, lead-end, lead-lower, lead-same}
 use Rattle.rival_walk.proofs.lead.Statement.{statement}
 use Rattle.rival_walk.proofs.lead.Tie as tie
@@ -16,18 +15,10 @@ Inv-loop n arcs table k i b c v₀ p₀ y₀ v p y = (y ≤ n) × (v ≤ 133) ×
 abbrev μ-loop : tie.MeasureT-loop
 μ-loop n arcs table k i b c v₀ p₀ y₀ v p y = n - y
 
-add-lesser-2 : tie.Need-add-lesser-2 Inv-loop μ-loop
-add-lesser-2 c = omega (arith, c .before .pre .4 (c .before .args .i) (c .before .pre .1))
-
 loop-holds : tie.Need-loop-holds Inv-loop μ-loop
 loop-holds c =
     let a = c .before .before .args in
-    let e : c .lesser .result ≡ keptPrice (cell (a .table .now) (a .k) (a .i)) = c .lesser .ensures in (
-      zero-le,
-      omega (arith, e),
-      ap (λ v. leadRest (a .arcs .now) (a .n) (cell (a .table .now) (a .k)) (a .i) (v, a .n) 0) e
-          ∙ lead-start (a .arcs .now) (a .n) (cell (a .table .now) (a .k)) (a .i),
-    )
+    (zero-le, omega (arith, c .lesser .ensures), lead-start (a .arcs .now) (a .n) (cell (a .table .now) (a .k)) (a .i) (c .lesser .ensures))
 
 cast-s : tie.Need-cast-s Inv-loop μ-loop
 cast-s c =
@@ -78,6 +69,7 @@ returns c =
 
 pub lead-spec : {M : Type 1} → statement M
 lead-spec =
-    tie.close (tie.spec Inv-loop μ-loop (λ c. search needs) (λ c. search needs) (λ c. search needs) (λ c. search needs) add-lesser-2
+    tie.close (tie.spec Inv-loop μ-loop (λ c. search needs) (λ c. search needs) (λ c. search needs) (λ c. search needs)
+    (λ c. omega (arith, c .before .pre .4 (c .before .args .i) (c .before .pre .1)))
     (λ c κs. search needs) (λ c. search needs) loop-holds (λ c. search needs) (λ c. search needs) cast-s (λ c. search needs)
     (λ c. search needs) cast-s-2 add-s-3 (λ c. search needs) (λ c. search needs) loop-again (λ c. search needs) returns)

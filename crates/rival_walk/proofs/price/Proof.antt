@@ -1,10 +1,9 @@
 -- The least by the places from y on and of what is held is the least of all.
-use mathlib.Core.Path.{_≡_, sym, ap, _∙_}
+use mathlib.Core.Path.{_≡_, sym, _∙_}
 use Prim.Native.Nat.{_-_, _≤_, min, zero-le}
 use native.Mathlib.Omega.{arith}
 use borrow.Author.Needs.{needs}
 use Rattle.rival_tables.specs.Filled.{cell}
-use Rattle.rival_levels.specs.Layers.{keptPrice}
 use Rattle.rival_walk.specs.Leads.{leadAt, priceRest, price-start, price-end, price-turn}
 use Rattle.rival_walk.proofs.price.Statement.{statement}
 use Rattle.rival_walk.proofs.price.Tie as tie
@@ -15,18 +14,10 @@ Inv-loop n arcs table k i b c v₀ y₀ v y = (y ≤ n) × (v ≤ 133) × (price
 abbrev μ-loop : tie.MeasureT-loop
 μ-loop n arcs table k i b c v₀ y₀ v y = n - y
 
-add-lesser-2 : tie.Need-add-lesser-2 Inv-loop μ-loop
-add-lesser-2 c = omega (arith, c .before .pre .3 (c .before .args .i) (c .before .pre .1))
-
 loop-holds : tie.Need-loop-holds Inv-loop μ-loop
 loop-holds c =
     let a = c .before .before .args in
-    let e : c .lesser .result ≡ keptPrice (cell (a .table .now) (a .k) (a .i)) = c .lesser .ensures in (
-      zero-le,
-      omega (arith, e),
-      ap (λ v. priceRest (a .arcs .now) (a .n) (cell (a .table .now) (a .k)) (a .i) v 0) e
-          ∙ price-start (a .arcs .now) (a .n) (cell (a .table .now) (a .k)) (a .i),
-    )
+    (zero-le, omega (arith, c .lesser .ensures), price-start (a .arcs .now) (a .n) (cell (a .table .now) (a .k)) (a .i) (c .lesser .ensures))
 
 sub-lesser : tie.Need-sub-lesser Inv-loop μ-loop
 sub-lesser c =
@@ -66,7 +57,8 @@ returns c =
 
 pub price-spec : {M : Type 1} → statement M
 price-spec =
-    tie.close (tie.spec Inv-loop μ-loop (λ c. search needs) (λ c. search needs) (λ c. search needs) (λ c. search needs) add-lesser-2
+    tie.close (tie.spec Inv-loop μ-loop (λ c. search needs) (λ c. search needs) (λ c. search needs) (λ c. search needs)
+    (λ c. omega (arith, c .before .pre .3 (c .before .args .i) (c .before .pre .1)))
     (λ c κs. search needs) loop-holds (λ c. search needs) (λ c. search needs) (λ c. search needs) (λ c. search needs)
     sub-lesser (λ c κs. search needs) add-lesser-4 (λ c κs. search needs) (λ c. search needs) (λ c. search needs)
     loop-again returns)

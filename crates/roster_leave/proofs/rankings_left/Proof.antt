@@ -1,11 +1,10 @@
 -- `roster_leave::rankings_left` meets its contract: the lists from the j-th on are left. Assumes nothing.
 use Prim.Native.Nat.{_+_, _-_, _*_, _≤_, zero-le}
 use native.Mathlib.Omega.{arith}
-use mathlib.Core.Path.{ap}
 use borrow.Author.Needs.{needs}
 use Rattle.model.specs.Limits.{entryWidth}
-use Rattle.roster_positions.proofs.Stamping.{left-all, short}
-use Rattle.roster_parts.specs.Growth.{Going, going-starts, going-on, going-past, going-ends}
+use Rattle.roster_positions.proofs.Stamping.{short}
+use Rattle.roster_parts.specs.Growth.{Going, going-first, going-on, going-ends}
 use Rattle.roster_parts.specs.Rankings.{rankingsFrom, rankings-turn, rankings-done}
 use Rattle.roster_leave.specs.LeftParts.{rankingLeft}
 use Rattle.roster_leave.specs.Left.{rankingsLeft}
@@ -26,8 +25,7 @@ loop-holds c =
     let a = s .args in (
       zero-le,
       omega arith,
-      going-past (ap (λ k. rankingsFrom (λ j. rankingLeft (a .number)) (a .file .now) k 1 (a .start)) (left-all (a .n)))
-          (going-starts (rankingsLeft (a .file .now) (a .start) (a .n) (a .number)) 0 (a .out .now) (s .pre .0)),
+      going-first (λ k. rankingsFrom (λ j. rankingLeft (a .number)) (a .file .now) k 1 (a .start)) (a .n) 0 (a .out .now) (s .pre .0),
     )
 
 append-ranking-requires : tie.Need-append-ranking-requires Inv-loop μ-loop

@@ -1,10 +1,8 @@
 -- `roster_parts::append_rankings` meets its contract: the lists from the j-th on are left. Assumes nothing.
 use Prim.Native.Nat.{_+_, _-_, _*_, _≤_, zero-le}
 use native.Mathlib.Omega.{arith}
-use mathlib.Core.Path.{ap}
 use borrow.Author.Needs.{needs}
-use Rattle.roster_positions.proofs.Stamping.{left-all}
-use Rattle.roster_parts.specs.Growth.{Going, going-starts, going-on, going-past, going-ends, grown-then}
+use Rattle.roster_parts.specs.Growth.{Going, going-first, going-on, going-ends, grown-then}
 use Rattle.roster_parts.specs.Mapped.{rankingsUnder, rankings-turn, rankings-done}
 use Rattle.roster_parts.proofs.append_rankings.Statement.{statement}
 use Rattle.roster_parts.proofs.append_rankings.Tie as tie
@@ -19,12 +17,8 @@ abbrev μ-loop : tie.MeasureT-loop
 loop-holds : tie.Need-loop-holds Inv-loop μ-loop
 loop-holds c =
     let s = c .before .before in
-    let a = s .args in (
-      zero-le,
-      omega arith,
-      going-past (ap (λ k. rankingsUnder (a .table .now) (a .file .now) k (a .start)) (left-all (a .count)))
-          (going-starts (rankingsUnder (a .table .now) (a .file .now) (a .count) (a .start)) (a .n) (a .out .now) (s .pre .0)),
-    )
+    let a = s .args in
+    (zero-le, omega arith, going-first (λ k. rankingsUnder (a .table .now) (a .file .now) k (a .start)) (a .count) (a .n) (a .out .now) (s .pre .0))
 
 append-byte-requires : tie.Need-append-byte-requires Inv-loop μ-loop
 append-byte-requires c κs = let g = c .before .before .before .before .before .loop .inv .2 .grown in (g .few, g .size)

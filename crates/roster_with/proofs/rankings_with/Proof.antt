@@ -1,10 +1,8 @@
 -- `roster_with::rankings_with` meets its contract: the lists from the j-th on are left. Assumes nothing.
 use Prim.Native.Nat.{_+_, _-_, _*_, _≤_, zero-le}
 use native.Mathlib.Omega.{arith}
-use mathlib.Core.Path.{ap}
 use borrow.Author.Needs.{needs}
-use Rattle.roster_positions.proofs.Stamping.{left-all}
-use Rattle.roster_parts.specs.Growth.{Going, going-starts, going-on, going-past, going-ends}
+use Rattle.roster_parts.specs.Growth.{Going, going-first, going-on, going-ends}
 use Rattle.roster_parts.specs.Rankings.{rankingsFrom, rankings-turn, rankings-done}
 use Rattle.roster_with.specs.Entering.{marksIn, entering}
 use Rattle.roster_with.specs.WithJoiner.{rankingsWith}
@@ -26,8 +24,7 @@ loop-holds c =
     let w = entering (a .joiner) (marksIn (a .row .now)) in (
       zero-le,
       omega arith,
-      going-past (ap (λ k. rankingsFrom w (a .file .now) k 1 (a .start)) (left-all (a .n)))
-          (going-starts (rankingsFrom w (a .file .now) (a .n) 1 (a .start)) 0 (a .out .now) (s .pre .0)),
+      going-first (λ k. rankingsFrom w (a .file .now) k 1 (a .start)) (a .n) 0 (a .out .now) (s .pre .0),
     )
 
 append-ranking-requires : tie.Need-append-ranking-requires Inv-loop μ-loop

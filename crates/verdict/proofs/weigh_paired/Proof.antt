@@ -16,12 +16,11 @@ plan-pairings-requires c κs =
     let L = s .pre .0 .0 in
     let p = plan-within (a .g) L (a .plan .now) (s .pre .0 .1 .0) (s .pre .0 .1 .1) in
     let q = w .ensures .1 .within (there .if1 .taken) in (
-      both-asked (a .g) L p q (s .pre .0 .2) (w .ensures .1 .listed (there .if1 .taken)),
+      both-asked (a .g) L (a .plan .now) (w .result .rival) p q (s .pre .0 .2) (w .ensures .1 .listed (there .if1 .taken)),
       room (a .g) L (length (a .pairings .now)) (s .pre .1),
     )
 
 returns : tie.Need-returns
-unfolding both-asked
 returns c =
     let paired = c .before .before in
     let there = paired .before .before .before .before .before .before .before .before .before .before .before .before .before .before .before .before in
@@ -31,7 +30,8 @@ returns c =
     let a = s .args in
     let g = a .g in
     let p = plan-within g (s .pre .0 .0) (a .plan .now) (s .pre .0 .1 .0) (s .pre .0 .1 .1) in
-    let A = both-asked g (s .pre .0 .0) p (w .ensures .1 .within (there .if1 .taken)) (s .pre .0 .2) (w .ensures .1 .listed (there .if1 .taken)) in (
+    let q = w .ensures .1 .within (there .if1 .taken) in
+    let A = both-asked g (s .pre .0 .0) (a .plan .now) (w .result .rival) p q (s .pre .0 .2) (w .ensures .1 .listed (there .if1 .taken)) in (
       w .ensures .0,
       λ M S. some-paired g (a .plan .now) (w .result .rival) (w .result .listed .n) (w .result .listed .edges) (w .ensures .1) M S (there .if1 .taken)
           (a .pairings .now) _ (paired .plan-pairings .ensures A (g .sh) (g .tied)),
