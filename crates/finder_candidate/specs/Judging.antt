@@ -51,7 +51,7 @@ few-edges g L p (M, (ok, same)) =
     subst (λ es. length es ≤ planLimit) (edgesIn-cong (g .m) (on M) (flag p) (λ e h. sym (same e))) (plan-few (shownBy g) (L .fileable) M ok)
 
 -- the bytes that the plan writer leaves
-plan-onto : (g : arrays.Instance) (chosen : List Bool) (p p′ : List ℕ) → WrittenFor (g .m) (g .sv) (g .st) (g .sh) chosen p p′
+pub plan-onto : (g : arrays.Instance) (chosen : List Bool) (p p′ : List ℕ) → WrittenFor (g .m) (g .sv) (g .st) (g .sh) chosen p p′
     → (M : Plan) → ((e : ℕ) → flag chosen e ≡ on M e) → p′ ≡ onto (planBytes (shownBy g) M) p
 plan-onto g chosen p p′ W M same = W (g .ns) (g .nt) (g .«rank_s») (g .«rank_t») (g .tied) (g .«quota_s») (g .«quota_t») M (λ e k. sym (same e))
 
