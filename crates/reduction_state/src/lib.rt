@@ -109,18 +109,18 @@ pub fn act(
         (whole (now (rem .entry)) (now (fixed .entry)) (now (qs .entry)) (now (qt .entry)) (now (ds .entry)) (now (dt .entry))) rule e ⌝ }
     ensures { λ r. ⌜ r ≡ told (now (sv .entry)) (now (st .entry)) (now (qs .entry)) (now (qt .entry)) (now (qs .exit)) (now (qt .exit)) e ⌝ }
 {
+    let s = sv[e] as usize;
+    let t = st[e] as usize;
+    let quotas = qs[s];
+    let quotat = qt[t];
     let fix = fixes(rule);
     rem[e] = false;
     fixed[e] = fixed[e] | fix;
-    let s = sv[e] as usize;
     let left = fewer(ds[s]);
     ds[s] = left;
-    let quotas = qs[s];
     qs[s] = lowered(quotas, fix, left);
-    let t = st[e] as usize;
     let more = fewer(dt[t]);
     dt[t] = more;
-    let quotat = qt[t];
     qt[t] = lowered(quotat, fix, more);
     Acted {
         edge: e,

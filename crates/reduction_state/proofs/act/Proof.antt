@@ -7,12 +7,12 @@ use Rattle.reduction_state.proofs.act.Tie as tie
 returns : tie.Need-returns
 returns c =
     let at-lowered2 = c .before .before in
-    let at-fewer = at-lowered2 .before .before .before .before .before .before .before in (
+    let at-lowered = at-lowered2 .before .before .before in (
       simp (
-        at-fewer .before .before .before .before .fixes .ensures,
-        at-fewer .fewer .ensures,
-        at-lowered2 .before .before .before .before .before .lowered .ensures,
-        at-lowered2 .before .before .fewer2 .ensures,
+        at-lowered .before .before .before .before .fixes .ensures,
+        at-lowered .before .fewer .ensures,
+        at-lowered .lowered .ensures,
+        at-lowered2 .before .fewer2 .ensures,
         at-lowered2 .lowered2 .ensures,
       ),
       refl,
@@ -20,9 +20,8 @@ returns c =
 
 pub act-spec : {M : Type 1} → statement M
 act-spec =
-    tie.close (tie.spec (λ c κs. search needs) (λ c. search needs) (λ c. search needs) (λ c. search needs) (λ c. search needs) (λ c. search needs)
-    (λ c. search needs) (λ c. search needs) (λ c κs. search needs) (λ c. search needs) (λ c. search needs) (λ c. search needs)
-    (λ c. search needs) (λ c κs. search needs) (λ c. search needs) (λ c. search needs) (λ c. search needs) (λ c. search needs)
-    (λ c. search needs) (λ c. search needs) (λ c κs. search needs) (λ c. search needs) (λ c. search needs) (λ c. search needs)
-    (λ c. search needs) (λ c κs. search needs) (λ c. search needs) (λ c. search needs) (λ c. search needs) (λ c. search needs) (λ c. search needs)
-    (λ c. search needs) returns)
+    tie.close (tie.spec (λ c. search needs) (λ c. search needs) (λ c. search needs) (λ c. search needs) (λ c. search needs) (λ c. search needs)
+    (λ c. search needs) (λ c. search needs) (λ c κs. search needs) (λ c. search needs) (λ c. search needs) (λ c. search needs) (λ c. search needs)
+    (λ c. search needs) (λ c κs. search needs) (λ c. search needs) (λ c. search needs) (λ c κs. search needs) (λ c. search needs) (λ c. search needs)
+    (λ c. search needs) (λ c. search needs) (λ c κs. search needs) (λ c. search needs) (λ c. search needs) (λ c κs. search needs) (λ c. search needs)
+    (λ c. search needs) (λ c. search needs) (λ c. search needs) (λ c. search needs) (λ c. search needs) returns)
