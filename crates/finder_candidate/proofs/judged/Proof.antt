@@ -43,7 +43,8 @@ returns-2 c =
     let a = start p .args in
     let w = c .before .before .before .before .before .weigh in
     judged-on (a .g) (a .fixed .now) (a .steps) (a .plan .now) (a .rival .now) _ _ (w .result) (p .write-plan .ensures) (w .ensures)
-    (rivalled-on (a .steps) (w .result) (toZ-ofZ w16 (c .before .w .given .0 .0) (sfits-of (c .known-told .given .0 .1))) (ap (answerOn (a .steps)) (c .before .w .given .1)))
+    (rivalled-on (a .steps) (w .result) (toZ-ofZ w16 (c .before .w .given .0 .0) (sfits-of (c .known-told .given .0 .1)))
+    (ap (answerOn (a .steps)) (c .before .w .given .1)))
 
 returns-3 : tie.Need-returns-3
 returns-3 c =
@@ -51,7 +52,8 @@ returns-3 c =
     let a = start p .args in
     let w = c .before .before .before .before .before .weigh in
     judged-on (a .g) (a .fixed .now) (a .steps) (a .plan .now) (a .rival .now) _ _ (w .result) (p .write-plan .ensures) (w .ensures)
-    (rivalled-on (a .steps) (w .result) (toZ-ofZ w16 (c .before .w2 .given .0 .0) (sfits-of (c .known-told2 .given .0 .1))) (ap (answerOn (a .steps)) (c .before .w2 .given .1)))
+    (rivalled-on (a .steps) (w .result) (toZ-ofZ w16 (c .before .w2 .given .0 .0) (sfits-of (c .known-told2 .given .0 .1)))
+    (ap (answerOn (a .steps)) (c .before .w2 .given .1)))
 
 returns-4 : tie.Need-returns-4
 returns-4 c =

@@ -22,49 +22,39 @@ judged-requires c κs =
       omega (arith, length-replicate {A = ℕ} planSize 0),
     )
 
-cast-n : tie.Need-cast-n
-cast-n c =
-    let s = c .before .before .before .before .before .before .before .before .before .before in
-    let r = c .before .before .before .before .before .before .before .before .offers in
-    let j = c .before .before .before .before .judged in
-    omega (arith, count-small (s .args .g) (s .pre .0) (r .result) (r .ensures) _ _ _ _ _ (j .ensures))
+-- the start, and the plan made, from the plan judged
+abbrev start : tie.After-judged → tie.Start
+start j = j .before .before .before .before .before .before
 
-mul-n : tie.Need-mul-n
-mul-n c =
-    let s = c .before .before .before .before .before .before .before .before .before .before in
-    let r = c .before .before .before .before .before .before .before .before .offers in
-    let j = c .before .before .before .before .judged in
-    omega (arith, count-small (s .args .g) (s .pre .0) (r .result) (r .ensures) _ _ _ _ _ (j .ensures))
-
-add-n : tie.Need-add-n
-add-n c =
-    let s = c .before .before .before .before .before .before .before .before .before .before in
-    let r = c .before .before .before .before .before .before .before .before .offers in
-    let j = c .before .before .before .before .judged in
-    omega (arith, count-small (s .args .g) (s .pre .0) (r .result) (r .ensures) _ _ _ _ _ (j .ensures))
+abbrev made : tie.After-judged → tie.After-offers
+made j = j .before .before .before .before
 
 returns : tie.Need-returns
 returns c =
-    let s = c .before .before .before .before .before .before .before .before .before .before .before .before in
-    let r = c .before .before .before .before .before .before .before .before .before .before .offers in
-    let j = c .before .before .before .before .before .before .judged in
-    gives (s .args .g) (s .pre .0) (r .result) (r .ensures) _ _ _ _ _ (j .ensures) _ (ap strongIn (c .enum-told .given .1))
+    let j = c .before .before .before .before .before .before in
+    gives (start j .args .g) (start j .pre .0) (made j .offers .result) (made j .offers .ensures) _ _ _ _ _ (j .judged .ensures)
+    _ (ap strongIn (c .enum-told .given .1))
 
 returns-2 : tie.Need-returns-2
 returns-2 c =
-    let s = c .before .before .before .before .before .before .before .before .before .before .before .before in
-    let r = c .before .before .before .before .before .before .before .before .before .before .offers in
-    let j = c .before .before .before .before .before .before .judged in
-    gives (s .args .g) (s .pre .0) (r .result) (r .ensures) _ _ _ _ _ (j .ensures) _ (ap strongIn (c .enum-told2 .given .1))
+    let j = c .before .before .before .before .before .before in
+    gives (start j .args .g) (start j .pre .0) (made j .offers .result) (made j .offers .ensures) _ _ _ _ _ (j .judged .ensures)
+    _ (ap strongIn (c .enum-told2 .given .1))
 
 returns-3 : tie.Need-returns-3
 returns-3 c =
-    let s = c .before .before .before .before .before .before .before .before .before .before .before .before .before in
-    let r = c .before .before .before .before .before .before .before .before .before .before .before .offers in
-    let j = c .before .before .before .before .before .before .before .judged in
-    never-refused (s .args .g) (s .pre .0) (r .result) (r .ensures) _ _ _ _ _ (j .ensures) (ap isRefused (c .before .f .given .1))
+    let j = c .before .before .before .before .before .before .before in
+    never-refused (start j .args .g) (start j .pre .0) (made j .offers .result) (made j .offers .ensures) _ _ _ _ _ (j .judged .ensures)
+    (ap isRefused (c .before .f .given .1))
 
 pub offered-spec : {M : Type 1} → statement M
 offered-spec =
-    tie.close (tie.spec (λ c κs. search needs) (λ c. search needs) judged-requires (λ c. search needs) cast-n mul-n add-n (λ c. search needs)
+    tie.close (tie.spec (λ c κs. search needs) (λ c. search needs) judged-requires (λ c. search needs)
+    (λ c. let j = c .before .before .before .before in
+    omega (arith, count-small (start j .args .g) (start j .pre .0) (made j .offers .result) (made j .offers .ensures) _ _ _ _ _ (j .judged .ensures)))
+    (λ c. let j = c .before .before .before .before in
+    omega (arith, count-small (start j .args .g) (start j .pre .0) (made j .offers .result) (made j .offers .ensures) _ _ _ _ _ (j .judged .ensures)))
+    (λ c. let j = c .before .before .before .before in
+    omega (arith, count-small (start j .args .g) (start j .pre .0) (made j .offers .result) (made j .offers .ensures) _ _ _ _ _ (j .judged .ensures)))
+    (λ c. search needs)
     (λ c. search needs) (λ c. search needs) (λ c. search needs) returns (λ c. search needs) returns-2 (λ c. search needs) returns-3)

@@ -147,7 +147,8 @@ returns c =
 
 pub walk-spec : {M : Type 1} → statement M
 walk-spec =
-    tie.close (tie.spec Inv-loop μ-loop (λ c. search needs) columns-requires loop-holds (λ c. search needs) lead-requires (λ c. search needs) (λ c. search needs) cast-x
+    tie.close (tie.spec Inv-loop μ-loop (λ c. search needs) columns-requires loop-holds (λ c. search needs) lead-requires (λ c. search needs)
+    (λ c. search needs) cast-x
     (λ c. search needs) (λ c. search needs) cast-z arc-edge-requires array-write-gone (λ c. search needs) (λ c. search needs)
     (λ c. search needs) loop-again (λ c. search needs) (λ c. search needs) cast-x-2 (λ c. search needs) (λ c. search needs) cast-z-2
     arc-edge-requires-2 array-write-gone-2 (λ c. search needs) returns)
