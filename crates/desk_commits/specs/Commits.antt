@@ -58,8 +58,8 @@ module _ (d : Files) {l : OnDesk} (F : LoadedFrom (rosterBytes d) (planBytes d) 
         let h : heldOf d ≡ planned R M = plan-held d R M a b ∙ ap (heldProposal R M) (case-refused (other d R) (against (opened s r e) R a)) in
         refuses-by d commit (sym (ap (λ x. stateRefusal x commit) h)) (omega arith) (ap (refused 20) q))
 
-    pub commit-taken : {y : FileAnswer} {b : List ℕ} → y ≡ files.Accepted → y ≡ fileCase (readPlan (shownBy (l .g)) b) → b ≡ proposalBytes d → (d′ : Files) → CommitIn true d d′
-        → Replied d commit (said committed) commit d′
+    pub commit-taken : {y : FileAnswer} {b : List ℕ} → y ≡ files.Accepted → y ≡ fileCase (readPlan (shownBy (l .g)) b) → b ≡ proposalBytes d → (d′ : Files)
+        → CommitIn true d d′ → Replied d commit (said committed) commit d′
     unfolding stateRefusal answerOf deskAfter readPlanBy
     commit-taken s x e d′ ((m, r), p, f) = given (its-plan z F) (λ (R, M, a, b).
         given (case-accepted (other d R) (against (opened s x e) R a)) (λ (N, y).

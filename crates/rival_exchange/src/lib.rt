@@ -192,52 +192,6 @@ pub fn ended(
     }
 }
 
-// The walk of level l from place i to place j. It is read back by the layers below l.
-pub fn walked(
-    m: usize,
-    sv: &[u8; ENTRY_LIMIT],
-    st: &[u8; ENTRY_LIMIT],
-    rs: &[u8; ENTRY_LIMIT],
-    rt: &[u8; ENTRY_LIMIT],
-    plan: &[bool; ENTRY_LIMIT],
-    ht: &[u16; 32],
-    lt: &[u16; ENTRY_LIMIT],
-    n: usize,
-    es: &[u16; 64],
-    arcs: &[u8; 4096],
-    l: usize,
-    i: usize,
-    j: usize,
-    start: Swap,
-) -> Swap
-    requires { ⌜ (m ≤ entryLimit) × (n ≤ planLimit) × Low n (now es) m × Small n (now arcs) × (l < 64) × (i < n) × (j < n)
-        × Low m (now st) nodeLimit × Linked m (now st) (now ht) (now lt) ⌝ }
-    ensures { λ r. ⌜ Walked start
-        (walkAt (arcEdge m (now (sv .entry)) (now (st .entry)) (now (rs .entry)) (now (rt .entry)) (now (plan .entry))) (now (es .entry))
-        (now (arcs .entry)) n j l i) r ⌝ }
-{
-    let last = if l > 0 { l - 1 } else { 0 };
-    let table = rival_walk::columns(n, arcs, j, last);
-    rival_walk::walk(
-        m,
-        sv,
-        st,
-        rs,
-        rt,
-        plan,
-        ht,
-        lt,
-        n,
-        es,
-        arcs,
-        &table,
-        l,
-        i,
-        j,
-        start,
-    )
-}
-
 // What goes and what comes, by what was found.
 pub fn swap(
     m: usize,
@@ -280,12 +234,28 @@ pub fn swap(
             let x = es[i] as usize;
             ended(m, sv, st, rs, rt, plan, fs, ft, hs, ls, ht, lt, x, x)
         }
-        Found::Closed(l, i) => walked(m, sv, st, rs, rt, plan, ht, lt, n, es, arcs, l, i, i, blank),
+        Found::Closed(l, i) => rival_walk::walk(
+            m,
+            sv,
+            st,
+            rs,
+            rt,
+            plan,
+            ht,
+            lt,
+            n,
+            es,
+            arcs,
+            l,
+            i,
+            i,
+            blank,
+        ),
         Found::Open(l, i, j) => {
             let x = es[i] as usize;
             let y = es[j] as usize;
             let start = ended(m, sv, st, rs, rt, plan, fs, ft, hs, ls, ht, lt, x, y);
-            walked(m, sv, st, rs, rt, plan, ht, lt, n, es, arcs, l, i, j, start)
+            rival_walk::walk(m, sv, st, rs, rt, plan, ht, lt, n, es, arcs, l, i, j, start)
         }
     }
 }

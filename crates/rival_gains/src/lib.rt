@@ -80,7 +80,8 @@ pub fn apart(
     po: &[u8; 64],
     pr: &[u8; 64],
 ) -> [u8; 4096]
-    requires { ⌜ (m ≤ entryLimit) × Low m (now other) nodeLimit × ((end : List ℕ) × Linked m end (now head) (now next)) × (n ≤ planLimit) × Low n (now pe) nodeLimit ⌝ }
+    requires { ⌜ (m ≤ entryLimit) × Low m (now other) nodeLimit × ((end : List ℕ) × Linked m end (now head) (now next))
+        × (n ≤ planLimit) × Low n (now pe) nodeLimit ⌝ }
     ensures { λ r. ⌜ ((end : List ℕ) → Linked m end (now (head .entry)) (now (next .entry))
         → Rows r n (λ i j. gainPriceBut m end (now (other .entry)) (now (rank .entry)) (now (plan .entry)) (now (room .entry)) 3
         (at (now (pe .entry)) i) (at (now (pr .entry)) i) (at (now (po .entry)) j))) ⌝ }
@@ -158,7 +159,8 @@ pub fn gains(
     pe: &[u8; 64],
     pr: &[u8; 64],
 ) -> [u8; 64]
-    requires { ⌜ (m ≤ entryLimit) × Low m (now other) nodeLimit × ((end : List ℕ) × Linked m end (now head) (now next)) × (n ≤ planLimit) × Low n (now pe) nodeLimit ⌝ }
+    requires { ⌜ (m ≤ entryLimit) × Low m (now other) nodeLimit × ((end : List ℕ) × Linked m end (now head) (now next))
+        × (n ≤ planLimit) × Low n (now pe) nodeLimit ⌝ }
     ensures { λ r. ⌜ ((end : List ℕ) → Linked m end (now (head .entry)) (now (next .entry))
         → Made 0 r (λ i. gainPrice m end (now (other .entry)) (now (rank .entry)) (now (plan .entry)) (now (room .entry)) 6
         (at (now (pe .entry)) i) (at (now (pr .entry)) i)) n) ⌝ }

@@ -60,7 +60,8 @@ module _ (arcs : List ℕ) (n : ℕ) (c : ℕ → ℕ) (i : ℕ) where
   unfolding priceRest leadAt
   price-start e =
       let z : n - 0 ≡ n = omega arith in
-      ap (λ v. priceRest arcs n c i v 0) e ∙ ap (cheapest (λ y. true) (λ y. cell arcs i y + c y) (keptPrice (c i)) 0) z ∙ sym (best-keep (bidAt arcs c i) (λ y. true) (keptPrice (c i), n) 0 n)
+      ap (λ v. priceRest arcs n c i v 0) e ∙ ap (cheapest (λ y. true) (λ y. cell arcs i y + c y) (keptPrice (c i)) 0) z ∙ sym
+      (best-keep (bidAt arcs c i) (λ y. true) (keptPrice (c i), n) 0 n)
 
   pub price-end : (v y : ℕ) → n ≤ y → priceRest arcs n c i v y ≡ v
   unfolding priceRest

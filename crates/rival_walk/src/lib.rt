@@ -147,7 +147,7 @@ pub fn arc_edge(
     o
 }
 
-// The walk of level l from place i to place j, whose column the table holds in the layers below l.
+// The walk of level l from place i to place j. It is read back by the layers below l, whose column of place j is made first.
 pub fn walk(
     m: usize,
     sv: &[u8; ENTRY_LIMIT],
@@ -160,24 +160,25 @@ pub fn walk(
     n: usize,
     es: &[u16; 64],
     arcs: &[u8; 4096],
-    table: &[u8; 4096],
     l: usize,
     i: usize,
     j: usize,
     start: Swap,
 ) -> Swap
     requires { ⌜ (m ≤ entryLimit) × (n ≤ planLimit) × Low n (now es) m × Small n (now arcs) × (l < 64) × (i < n) × (j < n)
-        × Column (now arcs) n j (l - 1) (now table) × Low m (now st) nodeLimit × Linked m (now st) (now ht) (now lt) ⌝ }
+        × Low m (now st) nodeLimit × Linked m (now st) (now ht) (now lt) ⌝ }
     ensures { λ r. ⌜ Walked start
         (walkAt (arcEdge m (now (sv .entry)) (now (st .entry)) (now (rs .entry)) (now (rt .entry)) (now (plan .entry))) (now (es .entry))
         (now (arcs .entry)) n j l i) r ⌝ }
 {
+    let last = if l > 0 { l - 1 } else { 0 };
+    let table = columns(n, arcs, j, last);
     let mut gone = start.gone;
     let mut come = start.come;
     let mut k = l;
     let mut c = i;
     while k > 0 {
-        let a = lead(n, arcs, table, k - 1, c);
+        let a = lead(n, arcs, &table, k - 1, c);
         let y = a.place;
         if y < n {
             let x = es[c] as usize;

@@ -118,7 +118,8 @@ stores back f o {r} {o′} low a = record {
   kept = λ n e. given (wrote-of storedSize (turnBy back f) o a n e) (λ (g, p, t).
       count-of storedSize (turnBy back f) o a n e g p ∙ undoes back f g (bytes-are f low) p .1);
   undone = λ n e. given (wrote-of storedSize (turnBy back f) o a n e) (λ (g, p, t). ap (turnBy (not back)) t ∙ undoes back f g (bytes-are f low) p .0);
-  plans = λ n e. given (wrote-of storedSize (turnBy back f) o a n e) (λ (g, p, t). subst (Renumbered (byOf back) f) (sym t) (renumbered-as back f g (bytes-are f low) p));
+  plans = λ n e. given (wrote-of storedSize (turnBy back f) o a n e) (λ (g, p, t). subst (Renumbered (byOf back) f) (sym t)
+      (renumbered-as back f g (bytes-are f low) p));
 }
 
 -- ---- an accepted roster behind a route, with the parts and counts as the code has them

@@ -17,13 +17,22 @@ voted-requires c κs =
     let k = c .before .before .before .before .before .before .before .before .before in
     let s = start k in
     let f = s .args .second .now in
-    let isB : T (isBytes f) = bytes-of f (λ i. k .before .before .before .shared-slice-known .given i) in
-    ((s .pre .0 .0, s .pre .0 .1, read-planned (s .args .g) f (k .read-against .result) (k .read-against .ensures) (s .pre .0 .0) isB (c .before .before .before .before .before .before .before .a2 .given .1)), s .pre .1)
+    let isB : T (isBytes f) = bytes-of f (λ i. k .before .before .before .shared-slice-known .given i) in (
+      (
+        s .pre .0 .0,
+        s .pre .0 .1,
+        read-planned (s .args .g) f (k .read-against .result) (k .read-against .ensures) (s .pre .0 .0) isB
+            (c .before .before .before .before .before .before .before .a2 .given .1),
+      ),
+      s .pre .1,
+    )
 
 pub second-judged-spec : {M : Type 1} → statement M
 second-judged-spec =
     tie.close (tie.spec (λ c κs. search needs) (λ c. search needs) (λ c κs. search needs) (λ c. search needs) voted-requires
-    (λ c. let k = c .before .before .before .before in second-refused (k .read-against .ensures) (start k .args .p .now) (c .before .before .a .given .1) (c .group-of .result)
+    (λ c. let k = c .before .before .before .before in second-refused (k .read-against .ensures) (start k .args .p .now) (c .before .before .a .given .1)
+    (c .group-of .result)
     (c .group-of .ensures)) (λ c. search needs) (λ c. search needs)
-    (λ c. let r = c .before .before .before .before .before .before .before .before .before .before .before .before in second-accepted (r .before .before .read-against .ensures) (start (r .before .before) .args .p .now)
+    (λ c. let r = c .before .before .before .before .before .before .before .before .before .before .before .before in second-accepted
+    (r .before .before .read-against .ensures) (start (r .before .before) .args .p .now)
     (r .a2 .given .1) (c .before .before .before .before .voted .ensures)))

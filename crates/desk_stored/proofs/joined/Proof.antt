@@ -22,7 +22,8 @@ returns-2 c =
     let r = c .before .before .before in
     let f = r .before in
     let a = start f .args in
-    change-taken (a .files) (a .short) (λ R. joinOn R (a .quota) (a .list .now)) 0 (f .front .ensures) (r .roster-refusal .ensures) (c .before .before .if1 .left)
+    change-taken (a .files) (a .short) (λ R. joinOn R (a .quota) (a .list .now)) 0 (f .front .ensures) (r .roster-refusal .ensures)
+    (c .before .before .if1 .left)
     (c .before .join .ensures) (c .taken .ensures)
 
 pub joined-spec : {M : Type 1} → statement M

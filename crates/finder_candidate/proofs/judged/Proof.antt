@@ -25,8 +25,10 @@ write-plan-requires c κs =
     let l = c .before .before .before .before .before .before .before in
     let b = l .before .before .before .before .before in
     let a = b .args in
-    let L = b .pre .0 in
-    ((a .g .m, a .fixed .now, record { edges = L .edges; low-sv = λ e h. L .low-sv e; low-st = λ e h. L .low-st e; list = l .list-edges .ensures }), b .pre .2)
+    let L = b .pre .0 in (
+      (a .g .m, a .fixed .now, record { edges = L .edges; low-sv = λ e h. L .low-sv e; low-st = λ e h. L .low-st e; list = l .list-edges .ensures }),
+      b .pre .2,
+    )
 
 weigh-requires : tie.Need-weigh-requires
 weigh-requires c κs =
@@ -39,7 +41,8 @@ returns c =
     let p = c .before .before .before .before .before .before .before .before .before in
     let a = start p .args in
     let w = c .before .before .before .before .weigh in
-    judged-on (a .g) (a .fixed .now) (a .steps) (a .plan .now) (a .rival .now) _ _ (w .result) (p .write-plan .ensures (a .g .m) (a .fixed .now) (after-list p .list-edges .ensures)) (w .ensures)
+    judged-on (a .g) (a .fixed .now) (a .steps) (a .plan .now) (a .rival .now) _ _ (w .result)
+    (p .write-plan .ensures (a .g .m) (a .fixed .now) (after-list p .list-edges .ensures)) (w .ensures)
     (ap (answerOn (a .steps)) (sym (c .enum-told .given .1)))
 
 returns-2 : tie.Need-returns-2
@@ -47,23 +50,28 @@ returns-2 c =
     let p = c .before .before .before .before .before .before .before .before .before .before in
     let a = start p .args in
     let w = c .before .before .before .before .before .weigh in
-    judged-on (a .g) (a .fixed .now) (a .steps) (a .plan .now) (a .rival .now) _ _ (w .result) (p .write-plan .ensures (a .g .m) (a .fixed .now) (after-list p .list-edges .ensures)) (w .ensures)
-    (rivalled-on (a .steps) (w .result) (toZ-ofZ w16 (c .before .w .given .0 .0) (sfits-of (c .known-told .given .0 .1))) (ap (answerOn (a .steps)) (c .before .w .given .1)))
+    judged-on (a .g) (a .fixed .now) (a .steps) (a .plan .now) (a .rival .now) _ _ (w .result)
+    (p .write-plan .ensures (a .g .m) (a .fixed .now) (after-list p .list-edges .ensures)) (w .ensures)
+    (rivalled-on (a .steps) (w .result) (toZ-ofZ w16 (c .before .w .given .0 .0) (sfits-of (c .known-told .given .0 .1)))
+    (ap (answerOn (a .steps)) (c .before .w .given .1)))
 
 returns-3 : tie.Need-returns-3
 returns-3 c =
     let p = c .before .before .before .before .before .before .before .before .before .before in
     let a = start p .args in
     let w = c .before .before .before .before .before .weigh in
-    judged-on (a .g) (a .fixed .now) (a .steps) (a .plan .now) (a .rival .now) _ _ (w .result) (p .write-plan .ensures (a .g .m) (a .fixed .now) (after-list p .list-edges .ensures)) (w .ensures)
-    (rivalled-on (a .steps) (w .result) (toZ-ofZ w16 (c .before .w2 .given .0 .0) (sfits-of (c .known-told2 .given .0 .1))) (ap (answerOn (a .steps)) (c .before .w2 .given .1)))
+    judged-on (a .g) (a .fixed .now) (a .steps) (a .plan .now) (a .rival .now) _ _ (w .result)
+    (p .write-plan .ensures (a .g .m) (a .fixed .now) (after-list p .list-edges .ensures)) (w .ensures)
+    (rivalled-on (a .steps) (w .result) (toZ-ofZ w16 (c .before .w2 .given .0 .0) (sfits-of (c .known-told2 .given .0 .1)))
+    (ap (answerOn (a .steps)) (c .before .w2 .given .1)))
 
 returns-4 : tie.Need-returns-4
 returns-4 c =
     let p = c .before .before .before .before .before .before .before .before .before .before in
     let a = start p .args in
     let w = c .before .before .before .before .before .weigh in
-    judged-on (a .g) (a .fixed .now) (a .steps) (a .plan .now) (a .rival .now) _ _ (w .result) (p .write-plan .ensures (a .g .m) (a .fixed .now) (after-list p .list-edges .ensures)) (w .ensures)
+    judged-on (a .g) (a .fixed .now) (a .steps) (a .plan .now) (a .rival .now) _ _ (w .result)
+    (p .write-plan .ensures (a .g .m) (a .fixed .now) (after-list p .list-edges .ensures)) (w .ensures)
     (ap (answerOn (a .steps)) (sym (c .before .w3 .given .1)))
 
 pub judged-spec : {M : Type 1} → statement M

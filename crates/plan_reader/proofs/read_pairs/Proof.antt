@@ -111,7 +111,8 @@ returns-2 c =
     let s = l .before .before .before in
     let a = s .args in
     let k = c .before .before .before .before in
-    refused-for (a .shifts) (a .m) (a .sv .now) (a .st .now) (a .sh .now) (a .qs .now) (a .qt .now) (a .file .now) (c .before .pair-refusal .result) (l .loop .chosen)
+    refused-for (a .shifts) (a .m) (a .sv .now) (a .st .now) (a .sh .now) (a .qs .now) (a .qt .now) (a .file .now) (c .before .pair-refusal .result)
+    (l .loop .chosen)
     (l .loop .edges)
     (invariant-refused (a .shifts) (a .m) (a .sv .now) (a .st .now) (a .sh .now)
     (a .qs .now) (a .qt .now) (a .file .now) (a .n) (l .loop .k) (l .loop .at) (l .loop .from)

@@ -18,13 +18,14 @@ ranges-judged-requires c κs =
     let s = start r in
     let f = s .args .second .now in
     let isB : T (isBytes f) = bytes-of f (λ i. r .before .before .before .shared-slice-known .given i) in
-    let P = read-planned (s .args .g) f (r .read-against .result) (r .read-against .ensures) (s .pre .0 .0) isB (c .before .before .before .before .before .before .a2 .given .1) in
+    let P = read-planned (s .args .g) f (r .read-against .result) (r .read-against .ensures) (s .pre .0 .0) isB
+    (c .before .before .before .before .before .before .a2 .given .1) in
     ((s .pre .0 .0, s .pre .0 .1, P, s .pre .0 .2), s .pre .1)
 
 pub second-judged-spec : {M : Type 1} → statement M
 second-judged-spec =
     tie.close (tie.spec (λ c κs. search needs) (λ c. search needs) (λ c κs. search needs) (λ c. search needs) ranges-judged-requires
-    (λ c. let r = c .before .before .before .before in second-refused (r .read-against .ensures) (start r .args .out .now) (start r .args .p .now) (start r .args .ranges .now)
-    (c .group-of .result) (c .before .before .a .given .1) (c .group-of .ensures)) (λ c. search needs)
-    (λ c. let r = c .before .before .before .before .before .before .before .before .before .before .before in second-accepted (r .read-against .ensures) (start r .args .out .now) (start r .args .p .now) (start r .args .ranges .now)
-    (c .before .before .before .before .before .before .before .before .before .a2 .given .1) (c .before .before .ranges-judged .ensures)))
+    (λ c. let r = c .before .before .before .before in let a = start r .args in second-refused (r .read-against .ensures) (a .out .now) (a .p .now)
+    (a .ranges .now) (c .group-of .result) (c .before .before .a .given .1) (c .group-of .ensures)) (λ c. search needs)
+    (λ c. let q = c .before .before .before .before .before .before .before .before .before in let r = q .before .before in let a = start r .args in
+    second-accepted (r .read-against .ensures) (a .out .now) (a .p .now) (a .ranges .now) (q .a2 .given .1) (c .before .before .ranges-judged .ensures)))

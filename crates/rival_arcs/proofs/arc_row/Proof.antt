@@ -70,11 +70,14 @@ loop-again c =
           (ap (λ z. at z j) (w .7) ∙ w .6 .ensures .1 ps P j h
           ∙ ap (λ p. offer (eqb (at (a .sv .now) f) (at ps j)) (p + rate (at (a .rps .now) j) (at (a .rs .now) f)) (at (l .loop .o) j)) (w .2 .ensures .0))
           ∙ sym
-          (arc-turn (a .m) (a .sv .now) st (a .rs .now) (a .rt .now) (a .plan .now) (a .t) (a .b) (at ps j) (at (a .rps .now) j) (at (l .loop .o) j) f (omega arith) (w .0 .taken) here)
+          (arc-turn (a .m) (a .sv .now) st (a .rs .now) (a .rt .now) (a .plan .now) (a .t) (a .b) (at ps j) (at (a .rps .now) j) (at (l .loop .o) j) f
+          (omega arith) (w .0 .taken) here)
           ∙ G .holds j h)
-          (λ w. ap (λ z. arcRest (a .m) (a .sv .now) st (a .rs .now) (a .rt .now) (a .plan .now) (a .t) (a .b) (at ps j) (at (a .rps .now) j) (at z j) (f + 1)) (w .1)
+          (λ w. ap (λ z. arcRest (a .m) (a .sv .now) st (a .rs .now) (a .rt .now) (a .plan .now) (a .t) (a .b) (at ps j) (at (a .rps .now) j) (at z j)
+          (f + 1)) (w .1)
           ∙ sym
-          (arc-past (a .m) (a .sv .now) st (a .rs .now) (a .rt .now) (a .plan .now) (a .t) (a .b) (at ps j) (at (a .rps .now) j) (at (l .loop .o) j) f (omega arith) (w .0 .left))
+          (arc-past (a .m) (a .sv .now) st (a .rs .now) (a .rt .now) (a .plan .now) (a .t) (a .b) (at ps j) (at (a .rps .now) j) (at (l .loop .o) j) f
+          (omega arith) (w .0 .left))
           ∙ G .holds j h)
           (c .before .if1 .came)),
     )
@@ -84,7 +87,8 @@ returns c =
     let l = c .before in
     let a = l .before .before .args in
     λ st ps L P j h. sym
-    (arc-end (a .m) (a .sv .now) st (a .rs .now) (a .rt .now) (a .plan .now) (a .t) (a .b) (at ps j) (at (a .rps .now) j) (at (l .loop .o) j) (l .loop .f) (omega arith))
+    (arc-end (a .m) (a .sv .now) st (a .rs .now) (a .rt .now) (a .plan .now) (a .t) (a .b) (at ps j) (at (a .rps .now) j) (at (l .loop .o) j) (l .loop .f)
+    (omega arith))
     ∙ l .loop .inv .1 st ps L P .holds j h
 
 pub arc-row-spec : {M : Type 1} → statement M

@@ -49,7 +49,9 @@ loop-holds c rs B =
     let w = wayOf (a .m) (a .start) in
     let o = told (a .m) (c .before .offered .result) in
     let whole = roundRest (a .m) (a .sv .now) (a .st .now) rs (a .rt .now) (a .x) (a .y) (a .plan .now) (a .fs .now) w o 0 in
-    visit-first (s .pre .3) (at (a .st .now) (a .y)) (Held (a .m) (a .sv .now) (a .st .now) rs (a .rt .now) (a .x) (a .y) (a .plan .now) (a .fs .now) w o whole) (others (a .m) (a .sv .now) (a .st .now) rs (a .rt .now) (a .x) (a .y) (a .plan .now) (a .fs .now) w o whole) (s .pre .2 (a .y) (s .pre .5)) refl
+    visit-first (s .pre .3) (at (a .st .now) (a .y)) (Held (a .m) (a .sv .now) (a .st .now) rs (a .rt .now) (a .x) (a .y) (a .plan .now)
+    (a .fs .now) w o whole) (others (a .m) (a .sv .now) (a .st .now) rs (a .rt .now) (a .x) (a .y) (a .plan .now) (a .fs .now) w o whole)
+    (s .pre .2 (a .y) (s .pre .5)) refl
 
 cast-v : tie.Need-cast-v Inv-loop μ-loop
 cast-v c = let l = c .before .before in omega (arith, l .before .before .before .before .before .before .pre .1 (l .loop .g) (omega arith))

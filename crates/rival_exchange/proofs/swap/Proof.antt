@@ -40,8 +40,8 @@ ended-requires c κs =
     let x = s .pre .4 (c .before .before .found2 .given .0 .0) b in
     (s .pre .0, s .pre .2, s .pre .3, s .pre .7, s .pre .8, x, x)
 
-walked-requires : tie.Need-walked-requires
-walked-requires c κs =
+walk-requires : tie.Need-walk-requires
+walk-requires c κs =
     let s = c .before .before .before in
     let b = subst (Bounded (s .args .m) (s .args .n)) (c .before .found3 .given .1) (s .pre .6) in
     (s .pre .0, s .pre .1, s .pre .4, s .pre .5, omega (arith, b .0), b .1, b .1, s .pre .3, s .pre .8)
@@ -95,8 +95,8 @@ ended-requires-2 c κs =
       s .pre .4 (c .before .before .before .found4 .given .0 .1 .1 .0) (b .2),
     )
 
-walked-requires-2 : tie.Need-walked-requires-2
-walked-requires-2 c κs =
+walk-requires-2 : tie.Need-walk-requires-2
+walk-requires-2 c κs =
     let s = c .before .before .before .before .before .before in
     let b = subst (Bounded (s .args .m) (s .args .n)) (c .before .before .before .before .found4 .given .1) (s .pre .6) in
     (s .pre .0, s .pre .1, s .pre .4, s .pre .5, omega (arith, b .0), b .1, b .2, s .pre .3, s .pre .8)
@@ -144,9 +144,9 @@ returns-4 : tie.Need-returns-4
 returns-4 c =
     let a = c .before .before .before .before .args in
     subst
-    (λ (f : Found). Marks (c .walked .result .gone)
+    (λ (f : Found). Marks (c .walk .result .gone)
     (goneBy (a .m) (a .sv .now) (a .st .now) (a .rs .now) (a .rt .now) (a .plan .now) (a .fs .now) (a .ft .now) (a .es .now) (a .arcs .now) (a .n) f)
-    × Marks (c .walked .result .come)
+    × Marks (c .walk .result .come)
     (comeBy (a .m) (a .sv .now) (a .st .now) (a .rs .now) (a .rt .now) (a .plan .now) (a .fs .now) (a .ft .now) (a .es .now)
     (a .arcs .now) (a .n) f))
     (sym (c .before .before .found3 .given .1)) (
@@ -154,12 +154,12 @@ returns-4 c =
           (zs
           (walkAt (arcEdge (a .m) (a .sv .now) (a .st .now) (a .rs .now) (a .rt .now) (a .plan .now)) (a .es .now) (a .arcs .now) (a .n)
           (c .before .before .found3 .given .0 .1 .0) (c .before .before .found3 .given .0 .0) (c .before .before .found3 .given .0 .1 .0)))
-          (c .walked .result .gone) (c .walked .ensures .0),
+          (c .walk .result .gone) (c .walk .ensures .0),
       blank-marks 1024
           (fs
           (walkAt (arcEdge (a .m) (a .sv .now) (a .st .now) (a .rs .now) (a .rt .now) (a .plan .now)) (a .es .now) (a .arcs .now) (a .n)
           (c .before .before .found3 .given .0 .1 .0) (c .before .before .found3 .given .0 .0) (c .before .before .found3 .given .0 .1 .0)))
-          (c .walked .result .come) (c .walked .ensures .1),
+          (c .walk .result .come) (c .walk .ensures .1),
     )
 
 returns-5 : tie.Need-returns-5
@@ -167,9 +167,9 @@ returns-5 c =
     let t = c .before .before .before .before in
     let a = t .before .before .before .args in
     subst
-    (λ (f : Found). Marks (c .walked2 .result .gone)
+    (λ (f : Found). Marks (c .walk2 .result .gone)
     (goneBy (a .m) (a .sv .now) (a .st .now) (a .rs .now) (a .rt .now) (a .plan .now) (a .fs .now) (a .ft .now) (a .es .now) (a .arcs .now) (a .n) f)
-    × Marks (c .walked2 .result .come)
+    × Marks (c .walk2 .result .come)
     (comeBy (a .m) (a .sv .now) (a .st .now) (a .rs .now) (a .rt .now) (a .plan .now) (a .fs .now) (a .ft .now) (a .es .now)
     (a .arcs .now) (a .n) f))
     (sym (c .before .before .before .before .before .found4 .given .1)) (
@@ -178,7 +178,7 @@ returns-5 c =
           (walkAt (arcEdge (a .m) (a .sv .now) (a .st .now) (a .rs .now) (a .rt .now) (a .plan .now)) (a .es .now) (a .arcs .now) (a .n)
           (c .before .before .before .before .before .found4 .given .0 .1 .1 .0) (c .before .before .before .before .before .found4 .given .0 .0)
           (c .before .before .before .before .before .found4 .given .0 .1 .0)))
-          (c .walked2 .result .gone) (c .before .ended2 .ensures .0) (c .walked2 .ensures .0),
+          (c .walk2 .result .gone) (c .before .ended2 .ensures .0) (c .walk2 .ensures .0),
       marks-path
           (waysBy (a .m) (a .sv .now) (a .st .now) (a .rs .now) (a .rt .now) (a .plan .now) (a .fs .now) (a .ft .now) (a .es .now) (a .arcs .now)
           (a .n) (at (a .es .now) (c .before .before .before .before .before .found4 .given .0 .1 .0))
@@ -189,11 +189,11 @@ returns-5 c =
           (walkAt (arcEdge (a .m) (a .sv .now) (a .st .now) (a .rs .now) (a .rt .now) (a .plan .now)) (a .es .now) (a .arcs .now) (a .n)
           (c .before .before .before .before .before .found4 .given .0 .1 .1 .0) (c .before .before .before .before .before .found4 .given .0 .0)
           (c .before .before .before .before .before .found4 .given .0 .1 .0))
-          (c .before .ended2 .result .come) (c .walked2 .result .come) (c .before .ended2 .ensures .1) (c .walked2 .ensures .1),
+          (c .before .ended2 .result .come) (c .walk2 .result .come) (c .before .ended2 .ensures .1) (c .walk2 .ensures .1),
     )
 
 pub swap-spec : {M : Type 1} → statement M
 swap-spec =
     tie.close (tie.spec (λ c. search needs) (λ c. search needs) (λ c κs. search needs) (λ c. search needs) mul-x element-copy-out-x cast-x
-    ended-requires (λ c. search needs) walked-requires (λ c. search needs) mul-x-2 element-copy-out-x-2 cast-x-2 mul-y
-    element-copy-out-y cast-y ended-requires-2 walked-requires-2 returns returns-2 returns-3 returns-4 returns-5)
+    ended-requires (λ c. search needs) walk-requires (λ c. search needs) mul-x-2 element-copy-out-x-2 cast-x-2 mul-y
+    element-copy-out-y cast-y ended-requires-2 walk-requires-2 returns returns-2 returns-3 returns-4 returns-5)

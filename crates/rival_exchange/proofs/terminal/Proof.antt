@@ -59,10 +59,13 @@ loop-holds c =
     let s = c .before .before .before .before .before in
     let a = s .args in
     let o = told (a .m) (c .before .round .result) in
-    visit-first (s .pre .3) (at (a .sv .now) (a .x)) (Held (a .m) (a .sv .now) (a .st .now) (a .rs .now) (a .rt .now) (a .x) (a .y) (a .plan .now) (a .fs .now) (a .ft .now) o) (others (a .m) (a .sv .now) (a .st .now) (a .rs .now) (a .rt .now) (a .x) (a .y) (a .plan .now) (a .fs .now) (a .ft .now) o) (s .pre .1 (a .x) (s .pre .5))
+    visit-first (s .pre .3) (at (a .sv .now) (a .x)) (Held (a .m) (a .sv .now) (a .st .now) (a .rs .now) (a .rt .now) (a .x) (a .y) (a .plan .now)
+    (a .fs .now) (a .ft .now) o) (others (a .m) (a .sv .now) (a .st .now) (a .rs .now) (a .rt .now) (a .x) (a .y) (a .plan .now) (a .fs .now)
+    (a .ft .now) o) (s .pre .1 (a .x) (s .pre .5))
     (ap (λ o. terminalRest (a .m) (a .sv .now) (a .st .now) (a .rs .now) (a .rt .now) (a .x) (a .y) (a .plan .now) (a .fs .now) (a .ft .now) o 0)
     (c .before .round .ensures (a .rs .now) (begun-lost (a .m) (a .sv .now) (a .st .now) (a .rs .now) (a .rt .now) (a .x) (a .y)) ∙ ap₂
-    (λ u w. round (a .m) (a .sv .now) (a .st .now) (a .rs .now) (a .rt .now) (a .x) (a .y) (a .plan .now) (a .fs .now) u (6, (w, w))) (way-lose (a .m)) (way-lose (a .m)))
+    (λ u w. round (a .m) (a .sv .now) (a .st .now) (a .rs .now) (a .rt .now) (a .x) (a .y) (a .plan .now) (a .fs .now) u (6, (w, w))) (way-lose (a .m))
+    (way-lose (a .m)))
     ∙ terminal-start (a .m) (a .sv .now) (a .st .now) (a .rs .now) (a .rt .now) (a .x) (a .y) (a .plan .now) (a .fs .now) (a .ft .now))
 
 cast-v : tie.Need-cast-v Inv-loop μ-loop
@@ -86,7 +89,11 @@ round-requires-2 c κs =
       s .pre .5,
       s .pre .6,
       omega (arith, c .before .rated .ensures .1),
-      (a .rs .now, begun-gain (a .m) (a .sv .now) (a .st .now) (a .rs .now) (a .rt .now) (a .x) (a .y) (l .loop .f) (c .before .rated .result) h (c .before .rated .ensures .0)),
+      (
+        a .rs .now,
+        begun-gain (a .m) (a .sv .now) (a .st .now) (a .rs .now) (a .rt .now) (a .x) (a .y) (l .loop .f) (c .before .rated .result) h
+            (c .before .rated .ensures .0),
+      ),
     )
 
 loop-again : tie.Need-loop-again Inv-loop μ-loop
@@ -109,7 +116,8 @@ loop-again c =
     (λ w. ap (λ o. terminalRest (a .m) (a .sv .now) (a .st .now) (a .rs .now) (a .rt .now) (a .x) (a .y) (a .plan .now) (a .fs .now) (a .ft .now)
     (told (a .m) o) (f + 1)) (w .5)
     ∙ ap (λ o. terminalRest (a .m) (a .sv .now) (a .st .now) (a .rs .now) (a .rt .now) (a .x) (a .y) (a .plan .now) (a .fs .now) (a .ft .now) o
-    (f + 1)) (w .4 .ensures (a .rs .now) (begun-gain (a .m) (a .sv .now) (a .st .now) (a .rs .now) (a .rt .now) (a .x) (a .y) f (w .2 .result) h (w .2 .ensures .0)) ∙ ap
+    (f + 1)) (w .4 .ensures (a .rs .now) (begun-gain (a .m) (a .sv .now) (a .st .now) (a .rs .now) (a .rt .now) (a .x) (a .y) f (w .2 .result) h
+    (w .2 .ensures .0)) ∙ ap
     (λ u. round (a .m) (a .sv .now) (a .st .now) (a .rs .now) (a .rt .now) (a .x) (a .y) (a .plan .now) (a .fs .now) u held) (way-gain (a .m) f h))
     ∙ sym (terminal-turn (a .m) (a .sv .now) (a .st .now) (a .rs .now) (a .rt .now) (a .x) (a .y) (a .plan .now) (a .fs .now) (a .ft .now) held f h
     (is ∙ w .0 .taken))

@@ -15,13 +15,10 @@ Inv-loop n arcs costs k o₀ i₀ o i = Written n (λ i j v. v ≡ tightPrice ar
 abbrev μ-loop : tie.MeasureT-loop
 μ-loop n arcs costs k o₀ i₀ o i = n - i
 
-loop-again : tie.Need-loop-again Inv-loop μ-loop
-loop-again c =
-    let q = c .before .before .before in
-    written-row (q .before .before .loop .inv) (q .tight-row .result) (c .put-row .last .0) (omega arith) (q .tight-row .ensures) (c .put-row .ensures)
-
 pub tight-spec : {M : Type 1} → statement M
 tight-spec =
     tie.close (tie.spec Inv-loop μ-loop (λ c. written-none (length-replicate {A = ℕ} 4096 133)) (λ c κs. (omega arith, c .before .before .pre .1))
-    (λ c κs. (omega arith, c .before .before .before .before .loop .inv .whole)) (λ c. search needs) (λ c. search needs) loop-again
+    (λ c κs. (omega arith, c .before .before .before .before .loop .inv .whole)) (λ c. search needs) (λ c. search needs)
+    (λ c. let q = c .before .before .before in
+    written-row (q .before .before .loop .inv) (q .tight-row .result) (c .put-row .last .0) (omega arith) (q .tight-row .ensures) (c .put-row .ensures))
     (λ c. written-all (c .before .loop .inv) (omega arith)))

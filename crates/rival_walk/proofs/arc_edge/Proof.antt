@@ -45,7 +45,8 @@ loop-holds c =
     let s = c .before .before .before .before .before in
     let a = s .args in (
       omega arith,
-      visit-first (s .pre .4) (at (a .st .now) (a .x)) (Held (a .m) (a .sv .now) (a .st .now) (a .rs .now) (a .rt .now) (a .plan .now) (a .x) (a .z) 133 0) (others (a .m) (a .sv .now) (a .st .now) (a .rs .now) (a .rt .now) (a .plan .now) (a .x) (a .z) 133 0)
+      visit-first (s .pre .4) (at (a .st .now) (a .x)) (Held (a .m) (a .sv .now) (a .st .now) (a .rs .now) (a .rt .now) (a .plan .now) (a .x) (a .z) 133 0)
+          (others (a .m) (a .sv .now) (a .st .now) (a .rs .now) (a .rt .now) (a .plan .now) (a .x) (a .z) 133 0)
           (s .pre .3 (a .x) (s .pre .1)) (edge-start (a .m) (a .sv .now) (a .st .now) (a .rs .now) (a .rt .now) (a .plan .now) (a .x) (a .z)),
     )
 
@@ -93,7 +94,8 @@ pub arc-edge-spec : {M : Type 1} → statement M
 arc-edge-spec =
     tie.close (tie.spec Inv-loop μ-loop (λ c. search needs) cast-t (λ c. search needs) (λ c. search needs) (λ c. search needs) mul-f element-copy-out-f
     (λ c. let s = c .before .before .before .before .before in
-    omega (arith, s .pre .0, head-inside (s .pre .4) (at (s .args .st .now) (s .args .x)) (s .pre .3 (s .args .x) (s .pre .1)))) loop-holds (λ c. search needs) (λ c κs. search needs) (λ c. search needs) (λ c κs. search needs) (λ c. search needs) (λ c. search needs)
+    omega (arith, s .pre .0, head-inside (s .pre .4) (at (s .args .st .now) (s .args .x)) (s .pre .3 (s .args .x) (s .pre .1)))) loop-holds
+    (λ c. search needs) (λ c κs. search needs) (λ c. search needs) (λ c κs. search needs) (λ c. search needs) (λ c. search needs)
     (λ c. search needs) (λ c. search needs) (λ c. search needs) (λ c. search needs)
     (λ c. let l = c .before .before .before .before .before .before .before .before .before in let s = l .before .before .before .before .before .before in
     omega (arith, s .pre .0, next-onward (s .pre .4) (l .loop .f) (c .before .before .before .before .before .before .before .before .loop-test .taken)))

@@ -10,4 +10,5 @@ pub roster-to-new-spec : {M : Type 1} → statement M
 roster-to-new-spec =
     tie.close (tie.spec (λ c κs. search needs) (λ c. search needs)
     (λ c. let k = c .before .before .before .before .before in
-    converts false (k .before .args .file .now) (k .before .args .out .now) (λ i. omega (arith, k .shared-slice-known .given i)) (c .before .before .converted .ensures)))
+    converts false (k .before .args .file .now) (k .before .args .out .now) (λ i. omega (arith, k .shared-slice-known .given i))
+    (c .before .before .converted .ensures)))

@@ -10,4 +10,5 @@ pub roster-to-old-spec : {M : Type 1} → statement M
 roster-to-old-spec =
     tie.close (tie.spec (λ c κs. search needs) (λ c. search needs)
     (λ c. let k = c .before .before .before .before .before in
-    converts true (k .before .args .file .now) (k .before .args .out .now) (λ i. omega (arith, k .shared-slice-known .given i)) (c .before .before .converted .ensures)))
+    converts true (k .before .args .file .now) (k .before .args .out .now) (λ i. omega (arith, k .shared-slice-known .given i))
+    (c .before .before .converted .ensures)))

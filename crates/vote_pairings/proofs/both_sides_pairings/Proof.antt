@@ -13,7 +13,8 @@ side-pairs-requires c κs =
     let A = s .pre .0 in (
       (
         A .faced .arrays .nodes,
-        node-ready A (r .before .before .own-ranks .result) (r .before .own-ranks2 .result) (r .shared-ranks .result) (r .before .before .own-ranks .ensures) (r .before .own-ranks2 .ensures) (own-shared A (r .shared-ranks .result) (r .shared-ranks .ensures)),
+        node-ready A (r .before .before .own-ranks .result) (r .before .own-ranks2 .result) (r .shared-ranks .result)
+            (r .before .before .own-ranks .ensures) (r .before .own-ranks2 .ensures) (own-shared A (r .shared-ranks .result) (r .shared-ranks .ensures)),
       ),
       s .pre .1 .0,
     )
@@ -25,7 +26,8 @@ side-pairs-requires-2 c κs =
     let B = asked-back (s .pre .0) in (
       (
         B .faced .arrays .nodes,
-        node-ready B (r .before .own-ranks2 .result) (r .before .before .own-ranks .result) (r .shared-ranks .result) (r .before .own-ranks2 .ensures) (r .before .before .own-ranks .ensures) (other-shared B (r .shared-ranks .result) (r .shared-ranks .ensures)),
+        node-ready B (r .before .own-ranks2 .result) (r .before .before .own-ranks .result) (r .shared-ranks .result) (r .before .own-ranks2 .ensures)
+            (r .before .before .own-ranks .ensures) (other-shared B (r .shared-ranks .result) (r .shared-ranks .ensures)),
       ),
       s .pre .1 .1,
     )
@@ -39,10 +41,12 @@ returns c =
       y .ensures .0,
       (
         (λ A tie. x .ensures .1 ∙ ap (λ bs. written (a .from) bs (a .forward .now))
-            (side-is A (r .before .before .own-ranks .result) (r .before .own-ranks2 .result) (r .shared-ranks .result) (r .before .before .own-ranks .ensures) (r .before .own-ranks2 .ensures)
+            (side-is A (r .before .before .own-ranks .result) (r .before .own-ranks2 .result) (r .shared-ranks .result)
+            (r .before .before .own-ranks .ensures) (r .before .own-ranks2 .ensures)
             (own-shared A (r .shared-ranks .result) (r .shared-ranks .ensures)) tie)),
         λ B tie. y .ensures .1 ∙ ap (λ bs. written (a .from) bs (a .back .now))
-            (side-is B (r .before .own-ranks2 .result) (r .before .before .own-ranks .result) (r .shared-ranks .result) (r .before .own-ranks2 .ensures) (r .before .before .own-ranks .ensures)
+            (side-is B (r .before .own-ranks2 .result) (r .before .before .own-ranks .result) (r .shared-ranks .result) (r .before .own-ranks2 .ensures)
+            (r .before .before .own-ranks .ensures)
             (other-shared B (r .shared-ranks .result) (r .shared-ranks .ensures)) tie),
       ),
     )

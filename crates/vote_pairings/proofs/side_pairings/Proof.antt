@@ -13,7 +13,8 @@ side-pairs-requires c κs =
     let A = s .pre .0 in (
       (
         A .faced .arrays .nodes,
-        node-ready A (r .before .before .own-ranks .result) (r .before .own-ranks2 .result) (r .shared-ranks .result) (r .before .before .own-ranks .ensures) (r .before .own-ranks2 .ensures) (own-shared A (r .shared-ranks .result) (r .shared-ranks .ensures)),
+        node-ready A (r .before .before .own-ranks .result) (r .before .own-ranks2 .result) (r .shared-ranks .result)
+            (r .before .before .own-ranks .ensures) (r .before .own-ranks2 .ensures) (own-shared A (r .shared-ranks .result) (r .shared-ranks .ensures)),
       ),
       s .pre .1,
     )
@@ -25,7 +26,8 @@ returns c =
     let a = r .before .before .before .before .args in (
       w .side-pairs .ensures .0,
       λ A tie. w .side-pairs .ensures .1 ∙ ap (λ bs. written (a .from) bs (a .out .now))
-          (side-is A (r .before .before .own-ranks .result) (r .before .own-ranks2 .result) (r .shared-ranks .result) (r .before .before .own-ranks .ensures) (r .before .own-ranks2 .ensures)
+          (side-is A (r .before .before .own-ranks .result) (r .before .own-ranks2 .result) (r .shared-ranks .result)
+          (r .before .before .own-ranks .ensures) (r .before .own-ranks2 .ensures)
           (own-shared A (r .shared-ranks .result) (r .shared-ranks .ensures)) tie),
     )
 
