@@ -138,7 +138,8 @@ pub all-none : (m : ℕ) (cell : List ℕ) (rem : List Bool) (q : List ℕ) (f :
 all-none m cell rem q f h = record { new = λ v i k. absurd (omega arith); old = λ e n. h e }
 
 -- one node more
-pub all-next : (m : ℕ) (cell : List ℕ) → Spread m cell → (other : List ℕ) (rem : List Bool) (q : List ℕ) (n : ℕ) → n < nodeLimit → (f₀ f : List Bool) (w : ℕ → Bool) → AllPainted m cell rem q n f₀
+pub all-next : (m : ℕ) (cell : List ℕ) → Spread m cell → (other : List ℕ) (rem : List Bool) (q : List ℕ) (n : ℕ) → n < nodeLimit → (f₀ f : List Bool)
+    (w : ℕ → Bool) → AllPainted m cell rem q n f₀
     → Painted m other cell rem n (at q n) emptyRank f₀ f w → AllPainted m cell rem q (n + 1) f
 all-next m cell S other rem q n nl f₀ f w A P = record {
   new = λ v i k h l. ⊎-elim

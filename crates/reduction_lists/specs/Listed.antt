@@ -234,7 +234,8 @@ module _ (m : ℕ) (end table₀ : List ℕ) where
         own = P .kept (cellCount + v) (omega (arith, S .place)) ∙ getD-set-same table (cellCount + v) k 0 (omega (arith, S .size))
 
         other : (u : ℕ) → u < v → begin table′ u ≡ begin table u
-        other u l = P .kept (cellCount + u) (omega (arith, S .place)) ∙ getD-set-other table (cellCount + v) (cellCount + u) k 0 (λ q. absurd (omega (arith, q)))
+        other u l = P .kept (cellCount + u) (omega (arith, S .place)) ∙ getD-set-other table (cellCount + v) (cellCount + u) k 0
+            (λ q. absurd (omega (arith, q)))
 
         -- among the lists of the nodes before v
         same : (j : ℕ) → listStart ≤ j → j < k → at table′ j ≡ at table j

@@ -72,7 +72,8 @@ pub fn behind(
     bar: u8,
 ) -> usize
     requires { ⌜ (v < nodeLimit) × Shelved m (now table) ⌝ }
-    ensures { λ r. ⌜ ((end : List ℕ) → Listed m end (now (table .entry)) → r ≡ low (atNode end v (λ d. flag (now (p .entry)) d && leb bar (at (now (rank .entry)) d))) m) ⌝ }
+    ensures { λ r. ⌜ ((end : List ℕ) → Listed m end (now (table .entry))
+        → r ≡ low (atNode end v (λ d. flag (now (p .entry)) d && leb bar (at (now (rank .entry)) d))) m) ⌝ }
 {
     let mut k = table[CELLS + v] as usize;
     let mut e = table[k] as usize;
@@ -95,7 +96,8 @@ pub fn both(
     q: &[bool; ENTRY_LIMIT],
 ) -> usize
     requires { ⌜ (v < nodeLimit) × Shelved m (now table) ⌝ }
-    ensures { λ r. ⌜ ((end : List ℕ) → Listed m end (now (table .entry)) → r ≡ low (atNode end v (λ d. flag (now (p .entry)) d && flag (now (q .entry)) d)) m) ⌝ }
+    ensures { λ r. ⌜ ((end : List ℕ) → Listed m end (now (table .entry))
+        → r ≡ low (atNode end v (λ d. flag (now (p .entry)) d && flag (now (q .entry)) d)) m) ⌝ }
 {
     let mut k = table[CELLS + v] as usize;
     let mut e = table[k] as usize;
@@ -123,7 +125,8 @@ pub fn tallies(
     q: &[bool; ENTRY_LIMIT],
 ) -> TwoTallies
     requires { ⌜ (v < nodeLimit) × Shelved m (now table) ⌝ }
-    ensures { λ r. ⌜ ((end : List ℕ) → Listed m end (now (table .entry)) → (r .p ≡ tallied end v (flag (now (p .entry))) m) × (r .q ≡ tallied end v (flag (now (q .entry))) m)) ⌝ }
+    ensures { λ r. ⌜ ((end : List ℕ) → Listed m end (now (table .entry))
+        → (r .p ≡ tallied end v (flag (now (p .entry))) m) × (r .q ≡ tallied end v (flag (now (q .entry))) m)) ⌝ }
 {
     let mut c: u16 = 0;
     let mut d: u16 = 0;

@@ -188,11 +188,14 @@ module _ (new : ℕ → Surveyor) (due : List Bool) (x : Surveyors) where
   pub surveyed-next : (i : ℕ) (late : List (List ℕ)) (s : Surveyor) → i < nodeLimit → Rows 3 late → flag due i ≡ true → s ≡ new i
       → Surveyed new due x i (surveyorNumbers late) → Surveyed new due x (i + 1) (stored (surveyorNumbers late) i s)
   surveyed-next i late s l z t e R = record {
-    rule4 = renewed-set 0 due (λ v. new v .rule4) (x .rule4) i (row late 0) (s .rule4) (omega (arith, z .size 0 (omega arith))) t (ap (λ (k : Surveyor). k .rule4) e)
+    rule4 = renewed-set 0 due (λ v. new v .rule4) (x .rule4) i (row late 0) (s .rule4) (omega (arith, z .size 0 (omega arith))) t (ap
+        (λ (k : Surveyor). k .rule4) e)
         (R .rule4);
-    rule5 = renewed-set 0 due (λ v. new v .rule5) (x .rule5) i (row late 1) (s .rule5) (omega (arith, z .size 1 (omega arith))) t (ap (λ (k : Surveyor). k .rule5) e)
+    rule5 = renewed-set 0 due (λ v. new v .rule5) (x .rule5) i (row late 1) (s .rule5) (omega (arith, z .size 1 (omega arith))) t (ap
+        (λ (k : Surveyor). k .rule5) e)
         (R .rule5);
-    rule6 = renewed-set 0 due (λ v. new v .rule6) (x .rule6) i (row late 2) (s .rule6) (omega (arith, z .size 2 (omega arith))) t (ap (λ (k : Surveyor). k .rule6) e)
+    rule6 = renewed-set 0 due (λ v. new v .rule6) (x .rule6) i (row late 2) (s .rule6) (omega (arith, z .size 2 (omega arith))) t (ap
+        (λ (k : Surveyor). k .rule6) e)
         (R .rule6);
   }
 
@@ -214,8 +217,10 @@ module _ (new : ℕ → Stand) (due : List Bool) (x : Stands) where
   pub stood-next : (i : ℕ) (late : List (List ℕ)) (loose : List Bool) (s : Stand) → i < nodeLimit → Rows 2 late → length loose ≡ nodeLimit
       → flag due i ≡ true → s ≡ new i → Stood new due x i (standNumbers late loose) → Stood new due x (i + 1) (put (standNumbers late loose) i s)
   stood-next i late loose s l z zl t e R = record {
-    rule3 = renewed-set 0 due (λ v. new v .rule3) (x .rule3) i (row late 0) (s .rule3) (omega (arith, z .size 0 (omega arith))) t (ap (λ (k : Stand). k .rule3) e) (R .rule3);
-    rule7 = renewed-set 0 due (λ v. new v .rule7) (x .rule7) i (row late 1) (s .rule7) (omega (arith, z .size 1 (omega arith))) t (ap (λ (k : Stand). k .rule7) e) (R .rule7);
+    rule3 = renewed-set 0 due (λ v. new v .rule3) (x .rule3) i (row late 0) (s .rule3) (omega (arith, z .size 0 (omega arith))) t (ap
+        (λ (k : Stand). k .rule3) e) (R .rule3);
+    rule7 = renewed-set 0 due (λ v. new v .rule7) (x .rule7) i (row late 1) (s .rule7) (omega (arith, z .size 1 (omega arith))) t (ap
+        (λ (k : Stand). k .rule7) e) (R .rule7);
     loose = renewed-set false due (λ v. new v .loose) (x .loose) i loose (s .loose) (omega (arith, zl)) t (ap (λ (k : Stand). k .loose) e)
         (R .loose);
   }

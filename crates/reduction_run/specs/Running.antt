@@ -18,7 +18,8 @@ use Rattle.reduction_state.specs.RunState.{Sized}
 use Rattle.reduction_turn.specs.Onward.{SizedN}
 
 -- ---- the numbers that a run carries, and the sizes of its arrays
-pub record Running (A : Edges) (L : NodeLists) (x : arrays.State) (fs ft : List Bool) (lead lates latet : List (List ℕ)) (loose olds oldt : List Bool) : Type 0 where
+pub record Running (A : Edges) (L : NodeLists) (x : arrays.State) (fs ft : List Bool) (lead lates latet : List (List ℕ))
+    (loose olds oldt : List Bool) : Type 0 where
   pub leads : Leads A L (looks (x .rem) fs ft (x .qs) (x .qt)) (row lead 0) (row lead 1) (row lead 2)
   pub late : Lates A L (looks (x .rem) fs ft (x .qs) (x .qt)) (later lates latet loose olds oldt)
   pub sized : Sized x

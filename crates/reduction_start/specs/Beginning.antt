@@ -56,7 +56,8 @@ abbrev pub stateOf : Start → arrays.State
 stateOf b = whole (b .rem) (b .fixed) (b .qs) (b .qt) (b .ds) (b .dt)
 
 pub record Begun (m : ℕ) (sv st : List ℕ) (L : NodeLists) (quotaS quotaT : List ℕ) (b : Start) : Type 0 where
-  pub shown : (rs rt : List ℕ) (K : Known (edges m sv st rs rt) quotaS quotaT) → Filled (edges m sv st rs rt) (K .tied) L → Shown (instanceOf K) (stateOf b) (b .fs) (b .ft) blank
+  pub shown : (rs rt : List ℕ) (K : Known (edges m sv st rs rt) quotaS quotaT) → Filled (edges m sv st rs rt) (K .tied) L → Shown (instanceOf K)
+      (stateOf b) (b .fs) (b .ft) blank
   pub sized : Sized (stateOf b)
   pub sizeS : length (b .fs) ≡ entryLimit
   pub sizeT : length (b .ft) ≡ entryLimit

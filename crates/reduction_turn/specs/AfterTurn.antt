@@ -29,7 +29,8 @@ use Rattle.reduction_turn.specs.Onward.{Numbers, Onward, Gone, gone-othe
 
 -- one step on, in every lawful instance that the arrays show
 abbrev pub ShownOn : (A : Edges) (L : NodeLists) (x : arrays.State) (fs ft : List Bool) (r e : ℕ) (y : arrays.State) (fs′ ft′ : List Bool) → Type 0
-ShownOn A L x fs ft r e y fs′ ft′ = (quotaS quotaT : List ℕ) (K : Known A quotaS quotaT) → Filled A (K .tied) L → (t : Trace) (S : Shown (instanceOf K) x fs ft t)
+ShownOn A L x fs ft r e y fs′ ft′ = (quotaS quotaT : List ℕ) (K : Known A quotaS quotaT) → Filled A (K .tied) L → (t : Trace) (S : Shown
+    (instanceOf K) x fs ft t)
     → ruleOf (instanceOf K) (stateAt (S .stood)) ≡ r → edgeOf (instanceOf K) (stateAt (S .stood)) ≡ e → t .steps < A .m → Shown (instanceOf K) y fs′ ft′
     (entered t e r)
 
@@ -115,7 +116,8 @@ module _ (A : Edges) (L : NodeLists) (D : Tables A L) (x : arrays.State) (fs ft 
         → (on ≡ false → (flag fs e ≡ false) × (at (x .qs) (at (A .sv) e) ≡ at (y .qs) (at (A .sv) e)))
         → (d : ℕ) → d < A .m → flag fs′ d ≡ arrowS G (stateAt next) d
     arrows-S fs′ on R c = by-bool on
-        (λ o. given (R .anew o) (λ (w, P). painted-on (surveyors G) (K .law .atS) (L .tableS) (cellsS K F) (x .rem) (y .rem) e gone (cutS G (stateAt (S .stood)))
+        (λ o. given (R .anew o) (λ (w, P). painted-on (surveyors G) (K .law .atS) (L .tableS) (cellsS K F) (x .rem) (y .rem) e gone (cutS G (stateAt
+        (S .stood)))
         (cutS G (stateAt next)) fs (S .fromS) (D .fitS e el) (A .st) (at (y .qs) (at (A .sv) e)) fs′ w P
         (sym (next .holds .atS .cut-is (at (A .sv) e) (D .fitS e el))) (λ v w n. cutS-on v w (acted-qs (A .sv) (A .st) x r e y i v n))))
         (λ o. given (c o) (λ (n, q) d l. ap (λ f. flag f d) (R .still o)

@@ -203,7 +203,8 @@ rows-two lead {x} {y} R R₁ R₂ = (
 )
 
 -- at its own side the arrows of other nodes stay
-pub painted-apart : (m : ℕ) (end cell : List ℕ) → Owned m end cell → (other : List ℕ) (rem : List Bool) (v q : ℕ) → v < nodeLimit → (f₀ f : List Bool) (w : ℕ → Bool) → Painted m other cell rem v q emptyRank f₀ f w → (u : ℕ) → u ≢ v
+pub painted-apart : (m : ℕ) (end cell : List ℕ) → Owned m end cell → (other : List ℕ) (rem : List Bool) (v q : ℕ) → v < nodeLimit → (f₀ f : List Bool)
+    (w : ℕ → Bool) → Painted m other cell rem v q emptyRank f₀ f w → (u : ℕ) → u ≢ v
     → Agree m end u (flag f) (flag f₀)
 painted-apart m end cell O other rem v q vl f₀ f w P u n d l j = P .old d (λ i h (z : inCell cell v i ≡ d).
     n (sym j ∙ ap (at end) (sym z) ∙ O v i vl h (omega arith)))

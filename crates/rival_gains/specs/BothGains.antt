@@ -8,7 +8,8 @@ use Rattle.theory_votes.specs.Score.{rate}
 use Rattle.arrays.specs.ArrayInstance.{at}
 use Rattle.rival_tables.specs.Visits.{Passed}
 use Rattle.rival_tables.specs.Cheapest.{offer}
-use Rattle.rival_gains.specs.Gains.{gainable, gainable-other, gainPrice, gainPriceBut, gainRest, gainRestBut, gain-start, gain-end, gain-turn, but-start, but-end, but-past, but-turn}
+use Rattle.rival_gains.specs.Gains.{gainable, gainable-other, gainPrice, gainPriceBut, gainRest, gainRestBut, gain-start, gain-end, gain-turn}
+use Rattle.rival_gains.specs.Gains.{but-start, but-end, but-past, but-turn}
 
 module _ (m : ℕ) (end other rank : List ℕ) (plan room : List Bool) (e b d : ℕ) where
   -- the best of the edges from f on and of what is held is the best of all

@@ -136,7 +136,12 @@ module _ (arcs d p : List ℕ) (n k : ℕ) (few : n ≤ 64) (goal : k ≤ 1) (C 
   come-on j m i a y jl il yl u c = record {
     walked = λ e z zl.
         let s : suc (e + m) ≡ e + suc m = omega arith in
-        subst (λ l. layerAt arcs n l z y ≤ layerAt arcs n e z j + (a + cell arcs i y)) s (omega (arith, layer-behind arcs n (e + m) z i y il, c .walked e z zl));
+        subst (λ l. layerAt arcs n l z y ≤ layerAt arcs n e z j + (a + cell arcs i y)) s (omega (
+          arith,
+          layer-behind arcs n
+              (e + m) z i y il,
+          c .walked e z zl,
+        ));
     onward = λ x xl. omega (arith, layer-behind arcs n m j y x yl, c .onward y yl);
     worth = omega (arith, at-least arcs d n few C m j y jl yl, c .onward y yl);
   }

@@ -26,8 +26,10 @@ use Rattle.rival_levels.specs.declared.Found.the-variants as found
 use Rattle.rival_levels.specs.declared.Found.{Found}
 use Rattle.rival_levels.specs.Levels.{diagAt}
 use Rattle.rival_levels.specs.Walks.{hitOf, searchAt}
-use Rattle.rival_search.specs.SearchView.{Lists, Views, Roomy, freeAt, arcCell, terminalCell, alonePrice, aloneAt, alone-cell, search-shown, arc-shown, terminal-shown, room-S, room-T}
-use Rattle.rival_search.specs.TwoThresholds.{searched, Searched, OnTables, tables-searched, out-alone, search-direct, search-places, searched-hit, searching-bounded}
+use Rattle.rival_search.specs.SearchView.{Lists, Views, Roomy, freeAt, arcCell, terminalCell, alonePrice, aloneAt, alone-cell, search-shown, arc-shown}
+use Rattle.rival_search.specs.SearchView.{terminal-shown, room-S, room-T}
+use Rattle.rival_search.specs.TwoThresholds.{searched, Searched, OnTables, tables-searched, out-alone, search-direct, search-places, searched-hit}
+use Rattle.rival_search.specs.TwoThresholds.{searching-bounded}
 use Rattle.rival_verdict.specs.Judged.{isSomething, verdictFor, verdict-hits}
 use Rattle.rival_exchange.specs.Swaps.{Marks, goneBy, comeBy, rivalAt, rival-at, shows-plan}
 
@@ -172,7 +174,8 @@ module _ (m : ℕ) (sv st rs rt quotaS quotaT : List ℕ) (plan : List Bool) (n 
     (roomyS : Roomy n ps quotaS roomS) (roomyT : Roomy n pt quotaT roomT) where
   pub direct-shown : (f : ℕ) (gone come rival : List Bool) → f ≡ low (freeAt sv st plan roomS roomT) m → f < m → Marks gone [] → Marks come (f ∷ [])
       → Shows false rival m (λ e. (flag plan e && not (flag gone e)) || flag come e) → RivalShown m sv st rs rt quotaS quotaT plan beaten rival
-  direct-shown f gone come rival e h = found-shown m sv st rs rt quotaS quotaT plan n es ps pt (ranked rs es) (ranked rt es) roomS roomT arcs true (found.Direct f) fits lowS lowT
+  direct-shown f gone come rival e h = found-shown m sv st rs rt quotaS quotaT plan n es ps pt (ranked rs es) (ranked rt es) roomS roomT arcs true
+      (found.Direct f) fits lowS lowT
       lists (viewed n es sv st rs rt ps pt fits nodes) roomyS roomyT (table-rows (arcCell m sv st rs rt plan ps pt (ranked rs es) (ranked rt es)) n) (
         terminals,
         (λ i j il jl. table-rows (terminalCell m sv st rs rt plan roomS roomT ps pt (ranked rs es) (ranked rt es)) n i j il (omega arith)),

@@ -24,8 +24,11 @@ compare-requires : tie.Need-compare-requires
 compare-requires c κs =
     let i = c .before .before in
     let l = i .before in
-    let d = start l .args in
-    (arrays-are (d .files) (l .loaded .ensures) (i .if1 .left), both-long (d .forward .now) (d .back .now) pairingSize pairingSize (l .loaded .ensures) (i .if1 .left))
+    let d = start l .args in (
+      arrays-are (d .files) (l .loaded .ensures) (i .if1 .left),
+      both-long (d .forward .now) (d .back .now) pairingSize pairingSize (l .loaded .ensures)
+          (i .if1 .left),
+    )
 
 returns-2 : tie.Need-returns-2
 returns-2 c =

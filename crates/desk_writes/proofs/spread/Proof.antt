@@ -43,7 +43,8 @@ returns-2 c =
     let i = passed (s .before) in
     let l = i .before .loaded in
     let d = start (i .before) .args in
-    spreads (d .files) (l .ensures) (d .out .now) (spread-reply (d .files) (l .ensures) (i .if1 .left) (full (i .before)) (d .out .now) refl (s .spread .ensures))
+    spreads (d .files) (l .ensures) (d .out .now) (spread-reply (d .files) (l .ensures) (i .if1 .left) (full (i .before)) (d .out .now) refl
+    (s .spread .ensures))
 
 pub spread-spec : {M : Type 1} → statement M
 spread-spec = tie.close (tie.spec (λ c κs. search needs) (λ c κs. search needs) returns spread-requires (λ c. search needs) returns-2)

@@ -19,7 +19,13 @@ abbrev μ-loop : tie.MeasureT-loop
 μ-loop m table rem fs ft q due late₀ loose₀ i₀ late loose i = nodeLimit - i
 
 loop-holds : tie.Need-loop-holds Inv-loop μ-loop
-loop-holds c = let a = c .args in (zero-le, c .pre .1 .0, c .pre .1 .1, λ st L. stood-none (standsOf (a .m) st (a .table .now) (a .rem .now) (a .fs .now) (a .ft .now) (a .q .now)) (a .due .now) (standNumbers (a .late .now) (a .loose .now)))
+loop-holds c = let a = c .args in (
+  zero-le,
+  c .pre .1 .0,
+  c .pre .1 .1,
+  λ st L. stood-none (standsOf (a .m) st (a .table .now) (a .rem .now) (a .fs .now)
+      (a .ft .now) (a .q .now)) (a .due .now) (standNumbers (a .late .now) (a .loose .now)),
+)
 
 stand-now-requires : tie.Need-stand-now-requires Inv-loop μ-loop
 stand-now-requires c κs = (c .before .before .before .loop-test .taken, c .before .before .before .before .before .pre .0)
@@ -32,8 +38,10 @@ loop-again c =
       omega arith,
       put-rows (l .late) (l .loose) (l .i) (s .result) (l .inv .1),
       simp length-set (l .inv .2),
-      λ st L. subst (Stood (standsOf (a .m) st (a .table .now) (a .rem .now) (a .fs .now) (a .ft .now) (a .q .now)) (a .due .now) (standNumbers (a .late .now) (a .loose .now)) (l .i + 1)) (sym (put-is (l .late) (l .loose) (l .i) (s .result) (l .inv .1)))
-          (stood-next (standsOf (a .m) st (a .table .now) (a .rem .now) (a .fs .now) (a .ft .now) (a .q .now)) (a .due .now) (standNumbers (a .late .now) (a .loose .now)) (l .i) (l .late) (l .loose) (s .result)
+      λ st L. subst (Stood (standsOf (a .m) st (a .table .now) (a .rem .now) (a .fs .now) (a .ft .now) (a .q .now)) (a .due .now) (standNumbers
+          (a .late .now) (a .loose .now)) (l .i + 1)) (sym (put-is (l .late) (l .loose) (l .i) (s .result) (l .inv .1)))
+          (stood-next (standsOf (a .m) st (a .table .now) (a .rem .now) (a .fs .now) (a .ft .now) (a .q .now)) (a .due .now) (standNumbers (a .late .now)
+          (a .loose .now)) (l .i) (l .late) (l .loose) (s .result)
           (c .before .before .before .before .loop-test .taken) (l .inv .1) (l .inv .2) (c .before .before .if1 .taken) (s .ensures st L) (l .inv .3 st L)),
     )
 
@@ -44,7 +52,8 @@ loop-again-2 c =
       omega arith,
       l .inv .1,
       l .inv .2,
-      λ st L. stood-skip (standsOf (a .m) st (a .table .now) (a .rem .now) (a .fs .now) (a .ft .now) (a .q .now)) (a .due .now) (standNumbers (a .late .now) (a .loose .now)) (l .i) (standNumbers (l .late) (l .loose)) (c .if1 .left) (l .inv .3 st L),
+      λ st L. stood-skip (standsOf (a .m) st (a .table .now) (a .rem .now) (a .fs .now) (a .ft .now) (a .q .now)) (a .due .now) (standNumbers
+          (a .late .now) (a .loose .now)) (l .i) (standNumbers (l .late) (l .loose)) (c .if1 .left) (l .inv .3 st L),
     )
 
 returns : tie.Need-returns Inv-loop μ-loop
@@ -53,7 +62,8 @@ returns c =
     let l = c .before .loop in
     let e : l .i ≡ nodeLimit = omega arith in (
       (l .inv .1, l .inv .2),
-      λ st L. subst (λ k. Stood (standsOf (a .m) st (a .table .now) (a .rem .now) (a .fs .now) (a .ft .now) (a .q .now)) (a .due .now) (standNumbers (a .late .now) (a .loose .now)) k (standNumbers (l .late) (l .loose))) e (l .inv .3 st L),
+      λ st L. subst (λ k. Stood (standsOf (a .m) st (a .table .now) (a .rem .now) (a .fs .now) (a .ft .now) (a .q .now)) (a .due .now) (standNumbers
+          (a .late .now) (a .loose .now)) k (standNumbers (l .late) (l .loose))) e (l .inv .3 st L),
     )
 
 pub stands-renewed-spec : {M : Type 1} → statement M

@@ -6,7 +6,8 @@ use native.Mathlib.Omega.{arith}
 use borrow.Author.Needs.{needs}
 use Rattle.model.specs.Limits.{nodeLimit}
 use Rattle.reduction_lists.specs.Listed.{Listed}
-use Rattle.reduction_nodes.specs.Numbers.{surveyorsOf, Rows, Surveyed, surveyorNumbers, stored-rows, stored-is, surveyed-none, surveyed-next, surveyed-skip}
+use Rattle.reduction_nodes.specs.Numbers.{surveyorsOf, Rows, Surveyed, surveyorNumbers, stored-rows, stored-is, surveyed-none, surveyed-next}
+use Rattle.reduction_nodes.specs.Numbers.{surveyed-skip}
 use Rattle.reduction_nodes.proofs.surveyors_renewed.Statement.{statement}
 use Rattle.reduction_nodes.proofs.surveyors_renewed.Tie as tie
 
@@ -22,7 +23,8 @@ loop-holds c =
     let a = c .args in (
       zero-le,
       c .pre .1,
-      λ sv L. surveyed-none (surveyorsOf (a .m) sv (a .st .now) (a .table .now) (a .rem .now) (a .fs .now) (a .ft .now) (a .lo .now) (a .q .now)) (a .due .now) (surveyorNumbers (a .late .now)),
+      λ sv L. surveyed-none (surveyorsOf (a .m) sv (a .st .now) (a .table .now) (a .rem .now) (a .fs .now) (a .ft .now) (a .lo .now) (a .q .now))
+          (a .due .now) (surveyorNumbers (a .late .now)),
     )
 
 surveyor-now-requires : tie.Need-surveyor-now-requires Inv-loop μ-loop
@@ -37,9 +39,11 @@ loop-again c =
     let s = c .surveyor-now in (
       omega arith,
       stored-rows (l .late) (l .i) (s .result) (l .inv .1),
-      λ sv L. subst (Surveyed (surveyorsOf (a .m) sv (a .st .now) (a .table .now) (a .rem .now) (a .fs .now) (a .ft .now) (a .lo .now) (a .q .now)) (a .due .now) (surveyorNumbers (a .late .now)) (l .i + 1))
+      λ sv L. subst (Surveyed (surveyorsOf (a .m) sv (a .st .now) (a .table .now) (a .rem .now) (a .fs .now) (a .ft .now) (a .lo .now) (a .q .now))
+          (a .due .now) (surveyorNumbers (a .late .now)) (l .i + 1))
           (sym (stored-is (l .late) (l .i) (s .result) (l .inv .1)))
-          (surveyed-next (surveyorsOf (a .m) sv (a .st .now) (a .table .now) (a .rem .now) (a .fs .now) (a .ft .now) (a .lo .now) (a .q .now)) (a .due .now) (surveyorNumbers (a .late .now)) (l .i) (l .late) (s .result)
+          (surveyed-next (surveyorsOf (a .m) sv (a .st .now) (a .table .now) (a .rem .now) (a .fs .now) (a .ft .now) (a .lo .now) (a .q .now))
+          (a .due .now) (surveyorNumbers (a .late .now)) (l .i) (l .late) (s .result)
           (c .before .before .before .before .loop-test .taken) (l .inv .1) (c .before .before .if1 .taken) (s .ensures sv L) (l .inv .2 sv L)),
     )
 
@@ -49,7 +53,8 @@ loop-again-2 c =
     let l = c .before .before .before .loop in (
       omega arith,
       l .inv .1,
-      λ sv L. surveyed-skip (surveyorsOf (a .m) sv (a .st .now) (a .table .now) (a .rem .now) (a .fs .now) (a .ft .now) (a .lo .now) (a .q .now)) (a .due .now) (surveyorNumbers (a .late .now)) (l .i) (surveyorNumbers (l .late)) (c .if1 .left) (l .inv .2 sv L),
+      λ sv L. surveyed-skip (surveyorsOf (a .m) sv (a .st .now) (a .table .now) (a .rem .now) (a .fs .now) (a .ft .now) (a .lo .now) (a .q .now))
+          (a .due .now) (surveyorNumbers (a .late .now)) (l .i) (surveyorNumbers (l .late)) (c .if1 .left) (l .inv .2 sv L),
     )
 
 returns : tie.Need-returns Inv-loop μ-loop
@@ -58,7 +63,8 @@ returns c =
     let l = c .before .loop in
     let e : l .i ≡ nodeLimit = omega arith in (
       l .inv .1,
-      λ sv L. subst (λ k. Surveyed (surveyorsOf (a .m) sv (a .st .now) (a .table .now) (a .rem .now) (a .fs .now) (a .ft .now) (a .lo .now) (a .q .now)) (a .due .now) (surveyorNumbers (a .late .now)) k (surveyorNumbers (l .late))) e (l .inv .2 sv L),
+      λ sv L. subst (λ k. Surveyed (surveyorsOf (a .m) sv (a .st .now) (a .table .now) (a .rem .now) (a .fs .now) (a .ft .now) (a .lo .now) (a .q .now))
+          (a .due .now) (surveyorNumbers (a .late .now)) k (surveyorNumbers (l .late))) e (l .inv .2 sv L),
     )
 
 pub surveyors-renewed-spec : {M : Type 1} → statement M

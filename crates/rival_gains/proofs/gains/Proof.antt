@@ -56,5 +56,6 @@ returns-2 c = λ end L i h. c .before .loop .inv .2 end L i (omega arith)
 
 pub gains-spec : {M : Type 1} → statement M
 gains-spec =
-    tie.close (tie.spec Inv-loop μ-loop (λ c κs. search needs) returns loop-holds (λ c. search needs) (λ c. search needs) least-rates-requires (λ c. search needs)
+    tie.close (tie.spec Inv-loop μ-loop (λ c κs. search needs) returns loop-holds (λ c. search needs) (λ c. search needs) least-rates-requires
+    (λ c. search needs)
     (λ c. search needs) (λ c. search needs) loop-again returns-2)

@@ -14,7 +14,16 @@ listed : (s : tie.Start) → Low (s .args .n) (s .args .es .now) 1024
 listed s i h = omega (arith, listed-low (s .args .m) (s .args .plan .now) (s .args .n) (s .args .es .now) (s .pre .4) i h, s .pre .0)
 
 alone-requires : tie.Need-alone-requires
-alone-requires c κs = let p = c .pre in (p .0, p .1, p .2, p .3, p .8, p .9, listed-low (c .args .m) (c .args .plan .now) (c .args .n) (c .args .es .now) (p .4))
+alone-requires c κs = let p = c .pre in (
+  p .0,
+  p .1,
+  p .2,
+  p .3,
+  p .8,
+  p .9,
+  listed-low (c .args .m) (c .args .plan .now) (c .args .n) (c .args .es .now)
+      (p .4),
+)
 
 terminal-table-requires : tie.Need-terminal-table-requires
 terminal-table-requires c κs =

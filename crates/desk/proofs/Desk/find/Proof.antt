@@ -182,7 +182,8 @@ pub find-spec : {M : Type 1} → stated.statement M
 unfolding code.routine tablesOf
 find-spec 𝓤 H 𝓜 𝓖 𝓡 =
     enters-by 𝓤 H 𝓜 𝓖 𝓡 code.env find′.ended params (find′.clauses 𝓤 H (𝓖 .A) (𝓜 .mem) (𝓡 .run)) #find code.function (code.unfolded 𝓤 H 𝓜 𝓡)
-    (λ fm κs qs bounds a g are. walk 𝓤 H (𝓖 .A) (givenOf 𝓤 H 𝓜 𝓖) (𝓜 .mem) (𝓡 .run) (κs .0) (κs .1 .0) (κs .1 .1 .0) (κs .1 .1 .1 .0) (qs .0) (qs .1 .0) (qs .1 .1 .0) (qs .1 .1 .1 .0)
+    (λ fm κs qs bounds a g are. walk 𝓤 H (𝓖 .A) (givenOf 𝓤 H 𝓜 𝓖) (𝓜 .mem) (𝓡 .run) (κs .0) (κs .1 .0) (κs .1 .1 .0) (κs .1 .1 .1 .0) (qs .0) (qs .1 .0)
+    (qs .1 .1 .0) (qs .1 .1 .1 .0)
     (a .0) (a .1 .0) (a .1 .1 .0) (a .1 .1 .1 .0) (a .1 .1 .1 .1 .0)
     (are .0) (are .1 .0 .0 .1) (are .1 .1 .0 .0 .1) (are .1 .1 .1 .0 .0 .1) (are .1 .1 .1 .1 .0 .0 .1)
     _ _ fm

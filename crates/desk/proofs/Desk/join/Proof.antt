@@ -1,5 +1,5 @@
--- `Desk::join` meets its contract: the walk of `find` (there the comments), with one more number, the quota, and one shared slice, the list, which are handed to
--- the core. Assumes nothing.
+-- `Desk::join` meets its contract: the walk of `find` (there the comments), with one more number, the quota, and one shared slice, the list, which are
+-- handed to the core. Assumes nothing.
 use mathlib.Core.Path.{_≡_, refl}
 use Prim.Native.Nat.{ℕ}
 use mathlib.Core.List.{[], _∷_, List}
