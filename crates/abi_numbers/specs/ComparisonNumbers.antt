@@ -19,8 +19,8 @@ winner_code compare.both = 3
 winner_code compare.neither = 0
 
 abbrev pub file_number : compare.File → ℕ
-file_number compare.firstFile = 1
-file_number compare.secondFile = 2
+file_number compare.first_file = 1
+file_number compare.second_file = 2
 
 abbrev pub numbered : (refusal winner : ℕ) → ℤ → ℤ → compare.Part → Compared
 numbered n x v w p =

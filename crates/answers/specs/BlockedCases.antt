@@ -6,6 +6,6 @@ use Rattle.answers.specs.declared.Blocked.TheVariants.{Pair, Unblocked, Refused}
 
 -- yes with the pair's surveyor, stand and shift, or no, or the refusal
 abbrev pub blocked_shown : Blocked → model.Answer model.blocks
-blocked_shown (Pair s t k) = model.said (model.blockedBy s t k)
+blocked_shown (Pair s t k) = model.said (model.blocked_by s t k)
 blocked_shown Unblocked = model.said model.unblocked
 blocked_shown (Refused n g) = model.refused n (group_shown g)

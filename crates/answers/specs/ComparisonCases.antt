@@ -29,7 +29,7 @@ comparison_shown (Votes v w x) = model.said (model.votes v w (winner_shown x))
 comparison_shown (Refused n g) = model.refused n (group_shown g)
 
 -- it is the part that the model hands back with that answer
-pub part_shown_law : (c : Comparison) (a b : List ℕ) → part_shown c a b ≡ model.partIn a b (comparison_shown c)
+pub part_shown_law : (c : Comparison) (a b : List ℕ) → part_shown c a b ≡ model.part_in a b (comparison_shown c)
 part_shown_law (Votes v w x) a b = refl
 part_shown_law (Refused n g) a b = refl
 

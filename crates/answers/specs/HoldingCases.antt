@@ -6,6 +6,6 @@ use Rattle.answers.specs.declared.Holding.TheVariants.{Nothing, Roster, Plan, Pr
 -- nothing, a roster, a plan with it, or a proposal beside these
 abbrev pub holding_shown : Holding → model.Level
 holding_shown Nothing = model.bare
-holding_shown Roster = model.aRoster
-holding_shown Plan = model.aPlan
-holding_shown Proposal = model.aProposal
+holding_shown Roster = model.a_roster
+holding_shown Plan = model.a_plan
+holding_shown Proposal = model.a_proposal

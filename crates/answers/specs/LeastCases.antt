@@ -6,5 +6,5 @@ use Rattle.answers.specs.declared.LeastVote.TheVariants.{Vote, Refused}
 
 -- the least vote and how many bytes of the choice are written, or the refusal
 abbrev pub least_shown : LeastVote → model.Answer model.bounds
-least_shown (Vote v n) = model.said (model.leastVote v n)
+least_shown (Vote v n) = model.said (model.least_vote v n)
 least_shown (Refused n g) = model.refused n (group_shown g)

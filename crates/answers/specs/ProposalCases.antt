@@ -8,7 +8,7 @@ use Rattle.answers.specs.declared.Commit.TheVariants as commits
 
 -- both votes, the proposal's against the held plan first, or the refusal
 abbrev pub proposal_shown : proposal.Proposal → model.Answer model.proposes
-proposal_shown (proposals.Votes v w) = model.said (model.bothVotes v w)
+proposal_shown (proposals.Votes v w) = model.said (model.both_votes v w)
 proposal_shown (proposals.Refused n g) = model.refused n (group_shown g)
 
 -- committed, or the refusal

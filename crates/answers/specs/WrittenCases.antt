@@ -24,8 +24,8 @@ pub refused_no_bytes : {A : Type 0} {n m : ℕ} → ◌≡◌ {A = model.Answer 
 refused_no_bytes e = absurd (let z : ⊥ = omega (arith, ap bytes_in e) in z)
 
 -- so many bytes of another season's file: there is one, and it is in front of the buffer
-pub converted_bytes : (x : Reading (List ℕ)) (o : List ℕ) (n : ℕ) → model.convertedAnswer x ≡ model.said (model.wrote n)
-    → (g : List ℕ) × (x ≡ accepted g) × (take n (model.convertedOnto x o) ≡ g)
+pub converted_bytes : (x : Reading (List ℕ)) (o : List ℕ) (n : ℕ) → model.converted_answer x ≡ model.said (model.wrote n)
+    → (g : List ℕ) × (x ≡ accepted g) × (take n (model.converted_onto x o) ≡ g)
 converted_bytes (accepted g) o n e =
     let l : n ≡ length g = omega (arith, ap bytes_in e) in
     (g, refl, ap (λ k. take k (model.onto g o)) l ∙ take-append_seam g (drop (length g) o))

@@ -25,7 +25,7 @@ open_number h short = cond (no_roster h) 13 (cond (no_plan h) 14 (cond (no_propo
 -- n is the refusal; where there is none, the proposal is held, and its bytes are what the model writes of it
 pub record Opened (d : Files) (short : Bool) (n : ℕ) : Type 0 where
   pub refusal : n ≡ open_number (held_of d) short
-  pub proposal : n ≤ 0 → (R : Roster) × (M : Plan) × (N : Plan) × (held_of d ≡ proposed R M N) × (plans.planBytes (instance_of R) N ≡ proposal_bytes d)
+  pub proposal : n ≤ 0 → (R : Roster) × (M : Plan) × (N : Plan) × (held_of d ≡ proposed R M N) × (plans.plan_bytes (instance_of R) N ≡ proposal_bytes d)
 
 -- no proposal where a plan's reader says no plan
 abbrev pub as_open : ℕ → ℕ
@@ -63,7 +63,7 @@ module _ (d : Files) (short : Bool) {l : OnDesk} (F : LoadedFrom (roster_bytes d
           let here : held_of d ≡ proposed R M N = h ∙ ap (held_proposal R M) (ap (λ G. read_plan G (proposal_bytes d)) (sym g) ∙ q) in
           record {
             refusal = e ∙ ap as_open r ∙ sized short ∙ ap (λ x. open_number x short) (sym here);
-            proposal = λ z. (R, M, N, here, ap (λ G. plans.planBytes G N) (sym g) ∙ (P.planned tt N q).1);
+            proposal = λ z. (R, M, N, here, ap (λ G. plans.plan_bytes G N) (sym g) ∙ (P.planned tt N q).1);
           }
       go R M g h (refused m) q r =
           let here : held_of d ≡ planned R M = h ∙ ap (held_proposal R M) (ap (λ G. read_plan G (proposal_bytes d)) (sym g) ∙ q) in

@@ -162,7 +162,7 @@ plan_held_law d R M a b = roster_held_law d R a ∙ ap (λ y. beside (proposal_b
 -- the plan that is loaded is the one held
 pub its_plan_held : (d : Files) {short : Bool} {l : OnDesk} → LoadedFrom (roster_bytes d) (plan_bytes d) true short l → l.refusal ≤ 0
     → (R : Roster) × (M : Plan) × (held_of d ≡ held_proposal R M (other d R)) × (shown_by l.g ≡ instance_of R) × PlanIn l M
-    × (plans.planBytes (instance_of R) M ≡ plan_bytes d)
+    × (plans.plan_bytes (instance_of R) M ≡ plan_bytes d)
 its_plan_held d F z = given (its_plan z F) (λ (R, M, a, b). (
   R,
   M,

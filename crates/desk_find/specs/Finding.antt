@@ -88,7 +88,7 @@ fit room l p v o l' p' v' (reading.refused n) b q k = (omega (arith, k.refuses.s
 fit room l p v o l' p' v' (accepted R) true q k = (omega (arith, k.refuses.steps), omega (arith, k.refuses.steps))
 fit room l p v o l' p' v' (accepted R) false q (f, e, n) =
     let G = instance_of R in
-    let m : o.steps ≡ length (steps_of G) = e ∙ ap promise.stepsIn f.finds.wrote.answer ∙ steps_are (length (steps_of G)) (finder_of G (rival_of G)) in
+    let m : o.steps ≡ length (steps_of G) = e ∙ ap promise.steps_in f.finds.wrote.answer ∙ steps_are (length (steps_of G)) (finder_of G (rival_of G)) in
     let h : diary_size ≤ room =
     nltb→le room diary_size (first (ltb room diary_size) (ltb (length l) left_size || (ltb (length p) plan_size || ltb (length v) plan_size)) q) in
     (omega (arith, steps_few G, f.few), omega (arith, steps_few G, f.few))
@@ -193,11 +193,11 @@ module _ (s : List Step) (l p v : List ℕ) where
           (promised R f.fitting (records_in s) l p v)))))
 
     -- the filled diary is the model's
-    diary_here : (R : Roster) (steps : ℕ) → FindsFor R (replicate flat_size 0) l p v ans flat l' p' v' → steps ≡ promise.stepsIn ans
+    diary_here : (R : Roster) (steps : ℕ) → FindsFor R (replicate flat_size 0) l p v ans flat l' p' v' → steps ≡ promise.steps_in ans
         → s' ≡ onto (steps_in steps flat) s → records_in s' ≡ onto (diary_of (instance_of R)) (records_in s)
     unfolding diary_of
     diary_here R steps f n w = filled_diary (diary_of (instance_of R)) steps flat (replicate flat_size 0) s s' f.finds.diary
-        (n ∙ ap promise.stepsIn f.finds.wrote.answer
+        (n ∙ ap promise.steps_in f.finds.wrote.answer
         ∙ steps_are (length (steps_of (instance_of R))) (finder_of (instance_of R) (rival_of (instance_of R)))
         ∙ sym (length-map (steps_of (instance_of R)) (record_of (instance_of R)))) w
 

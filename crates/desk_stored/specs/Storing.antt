@@ -21,7 +21,7 @@ Unchanged n d r = (r.refusal ≡ n) × (r.files ≡ d)
 
 -- the bytes of the plan held, which is within the quotas, less the pairs of a number; none where no plan is held
 abbrev pub LessOf : Instance → (number : ℕ) → Reading Plan → List ℕ → Type 0
-LessOf G s (accepted M) bytes = (M ∈ plans_of G) × (bytes ≡ plans.planBytes G (besides G M s))
+LessOf G s (accepted M) bytes = (M ∈ plans_of G) × (bytes ≡ plans.plan_bytes G (besides G M s))
 LessOf G s (refused n) bytes = bytes ≡ []
 
 -- the same of the files, with the roster that is held

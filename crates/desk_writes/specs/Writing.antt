@@ -47,9 +47,9 @@ module _ (d : Files) {short : Bool} {l : OnDesk} (F : LoadedFrom (roster_bytes d
   write_plan_reply out s p q = given (its_plan_held d F z) (λ (R, M, e, g, P, w).
       passes d (write_plan_to out) tt tt (state_is d F ∙ ap (state_number (held_of d) true) s) z (held_proposal R M (other d R)) e
       (ap (λ k. said (wrote k)) (p ∙ ap length (sym w))
-      ∙ of_plan (refusal 14) (λ r M. said (wrote (length (plans.planBytes (instance_of r) M)))) R M (other d R))
+      ∙ of_plan (refusal 14) (λ r M. said (wrote (length (plans.plan_bytes (instance_of r) M)))) R M (other d R))
       (ap write_plan_to (q ∙ ap (λ bs. onto bs out) (sym w))
-      ∙ of_plan (write_plan_to out) (λ r M. write_plan_to (onto (plans.planBytes (instance_of r) M) out)) R M (other d R))
+      ∙ of_plan (write_plan_to out) (λ r M. write_plan_to (onto (plans.plan_bytes (instance_of r) M) out)) R M (other d R))
       refl refl)
 
 -- ---- with a proposal beside it

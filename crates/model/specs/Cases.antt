@@ -1,7 +1,7 @@
 -- P1 to P10 of document 01 with "shift 1 throughout" (W-204), run by the checker: one theorem, `cases`, computed over the list of them. The
 -- limits of its last line are in RosterCases.
 use Rattle.std.specs.Prelude.{◌≡◌, refl, true, false, [], ◌∷◌, pos, negsuc}
-use Rattle.std.proofs.Math.Option.{Option·elim, or_else}
+use Rattle.std.proofs.Math.Option.{Option-elim, or_else}
 use Rattle.lists.specs.Sum.{count}
 use Rattle.lists.specs.Search.{low}
 use Rattle.lists.specs.First.{first}
@@ -101,6 +101,6 @@ P10 = record {
 pub cases : all? is_true (P1 ∷ P2 ∷ P3 ∷ P4 ∷ P5 ∷ P6 ∷ P7 ∷ P8 ∷ P9 ∷ P10 ∷ []) ≡ true
 unfolding numbers_from count low text group_of listed listed_back both_or_neither read_each read_roster_by position edges_of instance_of deg node_vote vote
     choices within plans_of same_plan beaten_by drawn_with verdict_of strong_plans cut ahead arrow loose reserved better_s better_t worse_reserved rule1 rule2
-    rule3 rule4 rule5 rule6 rule7 act rules first or_else Option·elim step_by first_step begin steps_from state_after steps_of end_of plan_bytes_by edge_of_pair
+    rule3 rule4 rule5 rule6 rule7 act rules first or_else Option-elim step_by first_step begin steps_from state_after steps_of end_of plan_bytes_by edge_of_pair
     read_plan_by diary_of left_of candidate_of finder_of blocks some_blocks digits printed
 cases = refl

@@ -2,7 +2,7 @@
 -- below zero, two digits and more, the worst rank, what is printed for a refusal, the blocking pair that is named, one surveyor and one stand in
 -- several shifts, and the last node where there are fewer of the others. Outputs are the reference's.
 use Rattle.std.specs.Prelude.{◌≡◌, refl, true, false, [], ◌∷◌, ◌++◌, map, replicate, pos, negsuc}
-use Rattle.std.proofs.Math.Option.{Option·elim, or_else}
+use Rattle.std.proofs.Math.Option.{Option-elim, or_else}
 use Rattle.lists.specs.Sum.{count, range}
 use Rattle.lists.specs.Search.{low}
 use Rattle.lists.specs.First.{first}
@@ -240,7 +240,7 @@ pub more_cases : all? is_true (P11 ∷ P12 ∷ P13 ∷ P14 ∷ P15 ∷ P16 ∷ P
     ∷ P31 ∷ P32 ∷ P33 ∷ P34 ∷ P35 ∷ P36 ∷ P37 ∷ P38 ∷ P39 ∷ []) ≡ true
 unfolding numbers_from count low text group_of listed listed_back both_or_neither read_each read_roster_by position edges_of instance_of deg node_vote vote
     choices within plans_of same_plan beaten_by drawn_with verdict_of strong_plans cut ahead arrow loose reserved better_s better_t worse_reserved rule1 rule2
-    rule3 rule4 rule5 rule6 rule7 act rules first or_else Option·elim step_by first_step begin steps_from state_after steps_of end_of plan_bytes_by edge_of_pair
+    rule3 rule4 rule5 rule6 rule7 act rules first or_else Option-elim step_by first_step begin steps_from state_after steps_of end_of plan_bytes_by edge_of_pair
     read_plan_by diary_of left_of candidate_of finder_of blocks some_blocks top_blocking digits printed
 more_cases = refl
 

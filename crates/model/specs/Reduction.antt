@@ -1,7 +1,7 @@
 -- The reduction: section "Reduction" of document 01. The state is what remains, what is fixed, and the quotas, which each step
 -- cuts and each fixing lowers.
 use Rattle.std.specs.Prelude.{ℕ, zero, suc, ◌+◌, ◌-◌, min, Bool, true, false, not, ◌&&◌, ◌||◌, List, [], ◌∷◌, leb, ltb, eqb}
-use Rattle.std.proofs.Math.Option.{Option, none, Option·elim, or_else}
+use Rattle.std.proofs.Math.Option.{Option, none, Option-elim, or_else}
 use Rattle.lists.specs.Test.{bit}
 use Rattle.lists.specs.Sum.{range}
 use Rattle.lists.specs.First.{first}
@@ -183,12 +183,12 @@ begin G = record { rem = λ e. ltb e G.m; fixed = λ e. false; q_s = G.quota_s; 
 -- the steps that are taken from a state, at most n, and the state after them
 unfoldable pub steps_from : Instance → ℕ → State → List Step
 steps_from G zero Z = []
-steps_from G (suc n) Z = Option·elim (step_from G Z) [] (λ s. s ∷ steps_from G n (after_step G Z s))
+steps_from G (suc n) Z = Option-elim (step_from G Z) [] (λ s. s ∷ steps_from G n (after_step G Z s))
 
 -- the state after at most n steps
 unfoldable pub state_after : Instance → ℕ → State → State
 state_after G zero Z = Z
-state_after G (suc n) Z = Option·elim (step_from G Z) Z (λ s. state_after G n (after_step G Z s))
+state_after G (suc n) Z = Option-elim (step_from G Z) Z (λ s. state_after G n (after_step G Z s))
 
 -- all of them: each removes an edge, so there are no more than edges
 unfoldable pub steps_of : Instance → List Step

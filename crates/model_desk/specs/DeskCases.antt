@@ -3,7 +3,7 @@
 use Rattle.std.specs.Prelude.{ℕ, ◌≡◌, refl, true, false, List, [], ◌∷◌, ◌++◌, map, replicate, pos, negsuc}
 use Prim.Native.String.{String}
 use Rattle.std.proofs.Common.{ap, ◌∙◌}
-use Rattle.std.proofs.Math.Option.{Option·elim, or_else}
+use Rattle.std.proofs.Math.Option.{Option-elim, or_else}
 use Rattle.lists.specs.Sum.{count}
 use Rattle.lists.specs.Search.{low}
 use Rattle.lists.specs.First as Fst
@@ -193,7 +193,7 @@ no_roster =
 pub no_roster_said : (ch : Choices) → Answered ch no_roster
 unfolding numbers_from count low group_of listed listed_back both_or_neither read_each read_roster_by write_roster_by position edges_of instance_of deg node_vote
     vote choices within plans_of same_plan beaten_by drawn_with verdict_of R.cut R.ahead R.arrow R.loose R.reserved R.better_s R.better_t R.worse_reserved
-    R.rule1 R.rule2 R.rule3 R.rule4 R.rule5 R.rule6 R.rule7 Fst.first Option·elim or_else R.rules R.step_by R.first_step R.act R.begin R.steps_from R.state_after
+    R.rule1 R.rule2 R.rule3 R.rule4 R.rule5 R.rule6 R.rule7 Fst.first Option-elim or_else R.rules R.step_by R.first_step R.act R.begin R.steps_from R.state_after
     R.steps_of R.end_of plan_bytes_by edge_of_pair read_plan_by diary_of left_of candidate_of finder_of comparison_of part_of blocks some_blocks state_refusal answer_of
 no_roster_said ch = (refl, (refl, (refl, (refl, (refl, (refl, ((refl, refl), tt)))))))
 
@@ -215,7 +215,7 @@ short_buffers =
 pub short_buffers_said : (ch : Choices) → Answered ch short_buffers
 unfolding numbers_from count low group_of listed listed_back both_or_neither read_each read_roster_by write_roster_by position edges_of instance_of deg node_vote
     vote choices within plans_of same_plan beaten_by drawn_with verdict_of R.cut R.ahead R.arrow R.loose R.reserved R.better_s R.better_t R.worse_reserved
-    R.rule1 R.rule2 R.rule3 R.rule4 R.rule5 R.rule6 R.rule7 Fst.first Option·elim or_else R.rules R.step_by R.first_step R.act R.begin R.steps_from R.state_after
+    R.rule1 R.rule2 R.rule3 R.rule4 R.rule5 R.rule6 R.rule7 Fst.first Option-elim or_else R.rules R.step_by R.first_step R.act R.begin R.steps_from R.state_after
     R.steps_of R.end_of plan_bytes_by edge_of_pair read_plan_by diary_of left_of candidate_of finder_of comparison_of part_of blocks some_blocks state_refusal answer_of
 short_buffers_said ch = (refl, (refl, (refl, (refl, (refl, (refl, (refl, (refl, (refl, (refl, (refl, tt)))))))))))
 
@@ -279,7 +279,7 @@ written =
 pub written_said : (ch : Choices) → Answered ch written
 unfolding numbers_from count low group_of listed listed_back both_or_neither read_each read_roster_by write_roster_by position edges_of instance_of deg node_vote
     vote choices within plans_of same_plan beaten_by drawn_with verdict_of R.cut R.ahead R.arrow R.loose R.reserved R.better_s R.better_t R.worse_reserved
-    R.rule1 R.rule2 R.rule3 R.rule4 R.rule5 R.rule6 R.rule7 Fst.first Option·elim or_else R.rules R.step_by R.first_step R.act R.begin R.steps_from R.state_after
+    R.rule1 R.rule2 R.rule3 R.rule4 R.rule5 R.rule6 R.rule7 Fst.first Option-elim or_else R.rules R.step_by R.first_step R.act R.begin R.steps_from R.state_after
     R.steps_of R.end_of plan_bytes_by edge_of_pair read_plan_by diary_of left_of candidate_of finder_of comparison_of part_of blocks some_blocks state_refusal answer_of
 written_said ch = (refl, (refl, (refl, (refl, tt))))
 
@@ -299,7 +299,7 @@ found =
 pub found_said : (ch : Choices) → Answered ch found
 unfolding numbers_from count low group_of listed listed_back both_or_neither read_each read_roster_by write_roster_by position edges_of instance_of deg node_vote
     vote choices within plans_of same_plan beaten_by drawn_with verdict_of R.cut R.ahead R.arrow R.loose R.reserved R.better_s R.better_t R.worse_reserved
-    R.rule1 R.rule2 R.rule3 R.rule4 R.rule5 R.rule6 R.rule7 Fst.first Option·elim or_else R.rules R.step_by R.first_step R.act R.begin R.steps_from R.state_after
+    R.rule1 R.rule2 R.rule3 R.rule4 R.rule5 R.rule6 R.rule7 Fst.first Option-elim or_else R.rules R.step_by R.first_step R.act R.begin R.steps_from R.state_after
     R.steps_of R.end_of plan_bytes_by edge_of_pair read_plan_by diary_of left_of candidate_of finder_of comparison_of part_of blocks some_blocks top_blocking
     state_refusal answer_of
 found_said ch = (refl, (refl, (refl, (refl, (refl, (refl, (refl, (refl, (refl, tt)))))))))
@@ -320,7 +320,7 @@ compared =
 pub compared_said : (ch : Choices) → Answered ch compared
 unfolding numbers_from count low group_of listed listed_back both_or_neither read_each read_roster_by write_roster_by position edges_of instance_of deg node_vote
     vote choices within plans_of same_plan beaten_by drawn_with verdict_of R.cut R.ahead R.arrow R.loose R.reserved R.better_s R.better_t R.worse_reserved
-    R.rule1 R.rule2 R.rule3 R.rule4 R.rule5 R.rule6 R.rule7 Fst.first Option·elim or_else R.rules R.step_by R.first_step R.act R.begin R.steps_from R.state_after
+    R.rule1 R.rule2 R.rule3 R.rule4 R.rule5 R.rule6 R.rule7 Fst.first Option-elim or_else R.rules R.step_by R.first_step R.act R.begin R.steps_from R.state_after
     R.steps_of R.end_of plan_bytes_by edge_of_pair read_plan_by diary_of left_of candidate_of finder_of comparison_of part_of blocks some_blocks state_refusal answer_of
 compared_said ch = (
   (refl, refl),
@@ -384,7 +384,7 @@ lent =
 pub lent_said : (ch : Choices) → Each (LentThen ch) lent
 unfolding numbers_from count low group_of write_roster_by position edges_of listed instance_of deg node_vote vote choices within plans_of same_plan beaten_by drawn_with
     verdict_of R.cut R.ahead R.arrow R.loose R.reserved R.better_s R.better_t R.worse_reserved R.rule1 R.rule2 R.rule3 R.rule4 R.rule5 R.rule6 R.rule7
-    Fst.first Option·elim or_else R.rules R.step_by R.first_step R.act R.begin R.steps_from R.state_after R.steps_of R.end_of plan_bytes_by diary_of left_of
+    Fst.first Option-elim or_else R.rules R.step_by R.first_step R.act R.begin R.steps_from R.state_after R.steps_of R.end_of plan_bytes_by diary_of left_of
     candidate_of finder_of state_refusal lent_after C.pairings_of read_plan_by read_each edge_of_pair
 lent_said ch = (refl, (refl, (refl, (refl, (refl, (refl, (refl, tt)))))))
 
@@ -402,7 +402,7 @@ pub found_written_law : (found_for sample ≡ D.find (step 1 1 1 1 1 ∷ step 2 
     × (found_for crossed ≡ D.find (diary 1024) (onto (bytes "1 1 1 1 1 3") 3066) (whole 193) (whole 193))
 unfolding numbers_from count low listed position edges_of instance_of deg node_vote vote choices within plans_of same_plan beaten_by drawn_with
     verdict_of R.cut R.ahead R.arrow R.loose R.reserved R.better_s R.better_t R.worse_reserved R.rule1 R.rule2 R.rule3 R.rule4 R.rule5 R.rule6 R.rule7
-    Fst.first Option·elim or_else R.rules R.step_by R.first_step R.act R.begin R.steps_from R.state_after R.steps_of R.end_of plan_bytes_by diary_of left_of
+    Fst.first Option-elim or_else R.rules R.step_by R.first_step R.act R.begin R.steps_from R.state_after R.steps_of R.end_of plan_bytes_by diary_of left_of
     candidate_of finder_of
 found_written_law = (refl, refl, refl, refl)
 

@@ -1,7 +1,7 @@
 -- The desk when surveyors join and leave (W-202), run by the checker: what each call leaves held, and what it answers. On document 01's sample, and
 -- with one surveyor and one stand in several shifts (W-204).
 use Rattle.std.specs.Prelude.{ℕ, refl, true, false, List, [], ◌∷◌}
-use Rattle.std.proofs.Math.Option.{Option·elim, or_else}
+use Rattle.std.proofs.Math.Option.{Option-elim, or_else}
 use Rattle.lists.specs.Sum.{count}
 use Rattle.lists.specs.Search.{low}
 use Rattle.lists.specs.First as Fst
@@ -127,6 +127,6 @@ answers =
 pub answers_said : (ch : Choices) → Answered ch answers
 unfolding numbers_from count low group_of listed read_each position edges_of instance_of deg node_vote vote choices within plans_of same_plan beaten_by drawn_with
     verdict_of R.cut R.ahead R.arrow R.loose R.reserved R.better_s R.better_t R.worse_reserved R.rule1 R.rule2 R.rule3 R.rule4 R.rule5 R.rule6 R.rule7
-    Fst.first Option·elim or_else R.rules R.step_by R.first_step R.act R.begin R.steps_from R.state_after R.steps_of R.end_of left_of candidate_of finder_of joined join_on
+    Fst.first Option-elim or_else R.rules R.step_by R.first_step R.act R.begin R.steps_from R.state_after R.steps_of R.end_of left_of candidate_of finder_of joined join_on
     departed leave_on state_refusal answer_of
 answers_said ch = (refl, (refl, (refl, (refl, (refl, (refl, (refl, (refl, (refl, (refl, (refl, (refl, (refl, (refl, (refl, (refl, tt))))))))))))))))

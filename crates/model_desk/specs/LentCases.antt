@@ -1,7 +1,7 @@
 -- The buffers after a call, run by the checker, where each buffer has bytes of its own: what is written goes to the right one. In DeskCases the buffers are
 -- alike.
 use Rattle.std.specs.Prelude.{ℕ, ◌≡◌, refl, true, false, [], ◌∷◌, ◌++◌, pos, replicate}
-use Rattle.std.proofs.Math.Option.{Option·elim, or_else}
+use Rattle.std.proofs.Math.Option.{Option-elim, or_else}
 use Rattle.lists.specs.Sum.{count}
 use Rattle.lists.specs.Search.{low}
 use Rattle.lists.specs.First as Fst
@@ -40,7 +40,7 @@ pub found_lent : (D.found_written D.find (instance_of sample) (F.plan (true ∷ 
     (replicate 193 5)
     ≡ D.find (step 1 1 1 1 1 ∷ step 2 2 1 1 2 ∷ diary 1022) (replicate 3072 3) (bytes "1 1 1 1" ++ replicate 189 4) (bytes "1 2 1 1" ++ replicate 189 5))
 unfolding numbers_from count low listed position edges_of instance_of deg R.cut R.ahead R.arrow R.loose R.reserved R.better_s R.better_t R.worse_reserved R.rule1
-    R.rule2 R.rule3 R.rule4 R.rule5 R.rule6 R.rule7 Fst.first Option·elim or_else R.rules R.step_by R.first_step R.act R.begin R.steps_from R.state_after R.steps_of
+    R.rule2 R.rule3 R.rule4 R.rule5 R.rule6 R.rule7 Fst.first Option-elim or_else R.rules R.step_by R.first_step R.act R.begin R.steps_from R.state_after R.steps_of
     R.end_of plan_bytes_by diary_of
 found_lent = (refl, refl, refl)
 
@@ -64,7 +64,7 @@ pub changed : (ch : Choices) → (lent_after ch one (lent (D.leave 1))
     (replicate 3072 3) (bytes "1 1 1 1" ++ replicate 189 4) (replicate 193 5))
 unfolding numbers_from count low listed read_each position edges_of instance_of deg node_vote vote choices within plans_of same_plan beaten_by drawn_with
     verdict_of R.cut R.ahead R.arrow R.loose R.reserved R.better_s R.better_t R.worse_reserved R.rule1 R.rule2 R.rule3 R.rule4 R.rule5 R.rule6 R.rule7
-    Fst.first Option·elim or_else R.rules R.step_by R.first_step R.act R.begin R.steps_from R.state_after R.steps_of R.end_of plan_bytes_by diary_of left_of
+    Fst.first Option-elim or_else R.rules R.step_by R.first_step R.act R.begin R.steps_from R.state_after R.steps_of R.end_of plan_bytes_by diary_of left_of
     candidate_of finder_of joined join_on departed leave_on state_refusal lent_after
 changed ch = (refl, refl)
 
@@ -104,7 +104,7 @@ pub rival_answered : (ch : Choices) → (answer_of ch (D.roster tie) (lent D.fin
     × (answer_of ch (D.planned tie candidate) (D.judge (replicate 193 5) (replicate 256 6)) ≡ said (D.popular (vote_of G candidate (ch.rival_of G candidate))))
 unfolding numbers_from count low listed position edges_of instance_of deg node_vote vote choices within plans_of same_plan beaten_by drawn_with
     verdict_of R.cut R.ahead R.arrow R.loose R.reserved R.better_s R.better_t R.worse_reserved R.rule1 R.rule2 R.rule3 R.rule4 R.rule5 R.rule6 R.rule7
-    Fst.first Option·elim or_else R.rules R.step_by R.first_step R.act R.begin R.steps_from R.state_after R.steps_of R.end_of left_of
+    Fst.first Option-elim or_else R.rules R.step_by R.first_step R.act R.begin R.steps_from R.state_after R.steps_of R.end_of left_of
     candidate_of finder_of state_refusal answer_of
 rival_answered ch = (refl, refl)
 
@@ -115,6 +115,6 @@ pub rival_lent : (ch : Choices) → (lent_after ch (D.roster tie) (lent D.find) 
     (D.onto (pairing_bytes G (on candidate) (on (ch.rival_of G candidate))) (replicate 256 6)))
 unfolding numbers_from count low listed position edges_of instance_of deg node_vote vote choices within plans_of same_plan beaten_by drawn_with
     verdict_of R.cut R.ahead R.arrow R.loose R.reserved R.better_s R.better_t R.worse_reserved R.rule1 R.rule2 R.rule3 R.rule4 R.rule5 R.rule6 R.rule7
-    Fst.first Option·elim or_else R.rules R.step_by R.first_step R.act R.begin R.steps_from R.state_after R.steps_of R.end_of plan_bytes_by diary_of left_of
+    Fst.first Option-elim or_else R.rules R.step_by R.first_step R.act R.begin R.steps_from R.state_after R.steps_of R.end_of plan_bytes_by diary_of left_of
     candidate_of finder_of state_refusal lent_after
 rival_lent ch = (refl, refl)

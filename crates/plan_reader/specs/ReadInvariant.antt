@@ -151,7 +151,7 @@ module _ (shifts : Bool) (m : ℕ) (sv st sh qs qt file : List ℕ) where
       → Invariant n k at' from chosen edges us ut → (v : ℕ) → (at us v ≤ k) × (at ut v ≤ k)
   used_few n k at' from chosen edges us ut now v =
       let l = ap length (sym now.named) ∙ length-map now.ps (edge_of_pair G) ∙ now.count in
-      (omega (arith, l, now.used-s v, at_few (surveyors G) v now.es), omega (arith, l, now.used-t v, at_few (stands G) v now.es))
+      (omega (arith, l, now.used_s v, at_few (surveyors G) v now.es), omega (arith, l, now.used_t v, at_few (stands G) v now.es))
 
   pub invariant_first : (n : ℕ) → 0 < length file → get_or file 0 0 ≡ n → n ≤ plan_limit
       → Invariant n 0 1 0 (replicate 1024 false) (replicate 64 0) (replicate 32 0) (replicate 32 0)
@@ -210,7 +210,7 @@ module _ (shifts : Bool) (m : ℕ) (sv st sh qs qt file : List ℕ) where
           check
           ∙ refusal_same m e from (leb (at qs (at sv e)) (at us (at sv e))) (leb (at qt (at st e)) (at ut (at st e)))
           (full (surveyors G) now.es e) (full (stands G) now.es e)
-          (λ l. (ap (leb (at qs (at sv e))) (now.used-s (at sv e)), ap (leb (at qt (at st e))) (now.used-t (at st e))))
+          (λ l. (ap (leb (at qs (at sv e))) (now.used_s (at sv e)), ap (leb (at qt (at st e))) (now.used_t (at st e))))
           ∙ ap (λ d. pair_refusal m d from (full (surveyors G) now.es d) (full (stands G) now.es d)) is
 
       next : plan_in shifts G file ≡ whole (refuse_by c (pairs_left L G (n - (k + 1)) (with_pair G s p) (drop (at' + w) file) (now.ps ++ p ∷ [])))
@@ -243,8 +243,8 @@ module _ (shifts : Bool) (m : ℕ) (sv st sh qs qt file : List ℕ) where
         small = omega arith;
         flags = flag_snoc chosen now.es e (omega (arith, now.sizes.0)) now.flags;
         listed = ap (λ i. take i (set edges k e)) (add-one k) ∙ take-suc-set edges k e (omega (arith, now.sizes.1)) ∙ ap (λ u. u ++ e ∷ []) now.listed;
-        used_s = used_snoc (surveyors G) us now.es e (omega (arith, low-s e a, now.sizes.2)) now.used-s;
-        used_t = used_snoc (stands G) ut now.es e (omega (arith, low-t e a, now.sizes.3)) now.used-t;
+        used_s = used_snoc (surveyors G) us now.es e (omega (arith, low-s e a, now.sizes.2)) now.used_s;
+        used_t = used_snoc (stands G) ut now.es e (omega (arith, low-t e a, now.sizes.3)) now.used_t;
         sizes = (
           length-set chosen e true ∙ now.sizes.0,
           length-set edges k e ∙ now.sizes.1,

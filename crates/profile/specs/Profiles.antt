@@ -90,7 +90,7 @@ module _ (f : List ℕ) (is_b : T (is_bytes f)) (R : Roster) (e : read_roster f 
 
   pub settles_offers : (o : List ℕ) {r : Offers} {o' : List ℕ} → unitary (shown_by g) ≡ true → Gives g o r o' → Settles f o r o'
   settles_offers o {r} {o'} t G = record {
-    answer = G.answer ∙ ap model.offersAnswer (D.shows R e) ∙ sym (ap answer_for (passes t));
+    answer = G.answer ∙ ap model.offers_answer (D.shows R e) ∙ sym (ap answer_for (passes t));
     lent = G.lent ∙ ap (λ H. written_of H o) (D.shows R e) ∙ sym (ap (λ x. written_for x o) (passes t));
   }
     where

@@ -63,7 +63,7 @@ pub shown_first : {A : Edges} {L : NodeLists} {quota_s quota_t : List ℕ} (K : 
     → AllPainted A.m L.table_t x.rem x.qt node_limit ft → Shown (instance_of K) x fs ft blank
 shown_first {A} {L} K F x S fs ft PS PT =
     let G = instance_of K in
-    let Z = state.stands-first K x S in record {
+    let Z = state.stands_first K x S in record {
       stood = Z;
       from_s = all_arrows (surveyors G) K.law.at_s L.table_s (cells_s K F) x.rem fs x.qs PS (cut_s G (state_at Z)) Z.holds.at_s.cut_is;
       from_t = all_arrows (stands G) K.law.at_t L.table_t (cells_t K F) x.rem ft x.qt PT (cut_t G (state_at Z)) Z.holds.at_t.cut_is;

@@ -48,7 +48,7 @@ pub fn all(m: usize) -> [bool; ENTRY_LIMIT]
 
 // Whether a rule fixes the edge that it names.
 pub fn fixes(rule: u8) -> bool
-    ensures { result ≡ reduction.fixes (numbers.fateOf rule) }
+    ensures { result ≡ reduction.fixes (numbers.fate_of rule) }
 {
     (rule == 1) | (rule == 3) | (rule == 6) | (rule == 7)
 }

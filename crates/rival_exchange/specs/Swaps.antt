@@ -6,7 +6,7 @@ use Rattle.std.proofs.Math.Decide.{dec_lt}
 use Rattle.std.proofs.Math.Path.{refl, sym, ap, ap₂}
 use Rattle.std.proofs.Math.Logic.{by_cases}
 use Rattle.std.proofs.Math.Bool.{true, false, not}
-use Rattle.std.proofs.Math.Option.{Option, Option·elim}
+use Rattle.std.proofs.Math.Option.{Option, Option-elim}
 use Rattle.std.proofs.Math.ListN.{get_or-eq_default}
 use Rattle.lists.specs.Test.{bit}
 use Rattle.lists.specs.Sum.{range, occ, sum_append}
@@ -140,11 +140,11 @@ module _ (m : ℕ) (sv st rs rt : List ℕ) (plan room_s room_t : List Bool) (es
       ways_are x y = sym (ap (λ t. t.1) (terminal_by_law m sv st rs rt x y plan room_s room_t ns nt sh tied quota_s quota_t roomsS roomsT))
 
       abbrev elsewhere : Option Hit → ℕ → Bool
-      elsewhere o = Option·elim o M (rival_by M)
+      elsewhere o = Option-elim o M (rival_by M)
 
       -- the exchange by places is that of the search
       pub rival_at_law : (f : Found) → Bounded m n f → (e : ℕ) → rival_at f e ≡ elsewhere (hit_of G M es f) e
-      unfolding Option·elim swapped
+      unfolding Option-elim swapped
       rival_at_law found.Nothing b e = same (M e)
         where
           same : (x : Bool) → (x && true) || false ≡ x

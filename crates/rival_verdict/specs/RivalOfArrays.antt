@@ -5,7 +5,7 @@ use Rattle.std.proofs.Common.{arith, sym, ◌∙◌}
 use Rattle.std.specs.Prelude.{◌≡◌, refl, true, false, not, cond, ◌&&◌, ◌||◌, List, [], ◌∷◌, length, ltb}
 use Rattle.std.proofs.Math.Path.{ap, ap₂, fun_ext}
 use Rattle.std.proofs.Math.Bool.{Bool}
-use Rattle.std.proofs.Math.Option.{Option, or_else, Option·elim}
+use Rattle.std.proofs.Math.Option.{Option, or_else, Option-elim}
 use Rattle.std.proofs.lemmas.List.{length-map}
 use Rattle.lists.specs.Sum.{◌∈◌, range, range_length}
 use Rattle.lists.specs.Search.{low, low_cong}
@@ -132,7 +132,7 @@ module _ (m : ℕ) (sv st rs rt quota_s quota_t : List ℕ) (plan : List Bool) (
         shows_plan m rival (rival_at m sv st rs rt plan room_s room_t es arcs n what) s e
         ∙ ap (λ N. on N e)
         (plan_of_cong m (rival_at m sv st rs rt plan room_s room_t es arcs n what)
-        (Option·elim (hit_of H (flag plan) es what) (flag plan) (rival_by (flag plan))) (λ d h.
+        (Option-elim (hit_of H (flag plan) es what) (flag plan) (rival_by (flag plan))) (λ d h.
         rival_at_law m sv st rs rt plan room_s room_t es arcs n ns nt sh tied quota_s quota_t lists terminals
         (λ i j il jl. shows_arcs i j il jl
         ∙ arc_shown m ns nt sv st rs rt sh tied quota_s quota_t plan n es ps pt rps rpt room_s room_t lowS lowT lists views roomyS roomyT i j il jl)
@@ -141,9 +141,9 @@ module _ (m : ℕ) (sv st rs rt quota_s quota_t : List ℕ) (plan : List Bool) (
         (room_s_law m ns nt sv st rs rt sh tied quota_s quota_t plan n es ps pt rps rpt room_s room_t lowS lowT lists views roomyS roomyT)
         (room_t_law m ns nt sv st rs rt sh tied quota_s quota_t plan n es ps pt rps rpt room_s room_t lowS lowT lists views roomyS roomyT)
         what (searching_bounded m sv st rs rt plan n ps pt rps rpt room_s room_t arcs below what searching) d))
-        ∙ ap (λ (o : Option Hit). on (plan_of m (Option·elim o (flag plan) (rival_by (flag plan)))) e) found_hit
+        ∙ ap (λ (o : Option Hit). on (plan_of m (Option-elim o (flag plan) (rival_by (flag plan)))) e) found_hit
         ∙ ap
-        (λ k. on (plan_of m (Option·elim (or_else (search H (flag plan) 133 0 k) (search H (flag plan) 133 1 k)) (flag plan) (rival_by (flag plan)))) e)
+        (λ k. on (plan_of m (Option-elim (or_else (search H (flag plan) 133 0 k) (search H (flag plan) 133 1 k)) (flag plan) (rival_by (flag plan)))) e)
         (sym size)
 
   pub found_shown_law : (v : Verdict) (gone come rival : List Bool) → v ≡ verdict_for below (is_something what)

@@ -115,7 +115,7 @@ module _ (r : Roster) (ok : T (fits r)) where
   -- ---- surveyors: the rank is a place in a list without repeats
   placed_s_law : (x : Edge) (a : IsEdge r x) → x.rank_s < empty_rank
   unfolding listed
-  placed_s_law x a = subst (λ z. z.rank_s < empty_rank) (sym a.is) (omega (arith, position_in_law (of_s x a) (list_s r a.i) a.pair, list_length a.i a.i-in))
+  placed_s_law x a = subst (λ z. z.rank_s < empty_rank) (sym a.is) (omega (arith, position_in_law (of_s x a) (list_s r a.i) a.pair, list_length a.i a.i_in))
 
   same_s : (x y : Edge) (a : IsEdge r x) (b : IsEdge r y) → x.surveyor ≡ y.surveyor → x.rank_s ≡ y.rank_s → (x.stand ≡ y.stand) × (x.shift ≡ y.shift)
   unfolding listed
@@ -132,7 +132,7 @@ module _ (r : Roster) (ok : T (fits r)) where
   pub strict_or_tied : (x : Edge) (a : IsEdge r x) → T (has (of_t x a) (S a.j)) ⊎ T (has (of_t x a) (D a.j))
   unfolding listed_back
   strict_or_tied x a = or_case (has (of_t x a) (S a.j)) (has (of_t x a) (D a.j))
-      (subst T (any_append (same (of_t x a)) (S a.j) (D a.j)) (back a.i a.j a.k a.i-in a.j-in a.k-from a.k-in a.pair))
+      (subst T (any_append (same (of_t x a)) (S a.j) (D a.j)) (back a.i a.j a.k a.i_in a.j_in a.k_from a.k_in a.pair))
 
   -- a tied entry of a stand is not among its strict ones
   pub tied_not_strict : (x : Entry) (j : ℕ) → j < nt → T (has x (D j)) → T (not (has x (S j)))
@@ -144,8 +144,8 @@ module _ (r : Roster) (ok : T (fits r)) where
 
   placed_t_law : (x : Edge) (a : IsEdge r x) → x.rank_t < empty_rank
   placed_t_law x a = subst (λ z. z.rank_t < empty_rank) (sym a.is) (⊎_elim
-      (λ s. omega (arith, position_in_law (of_t x a) (S a.j) s, strict_length_law a.j a.j-in))
-      (λ d. omega (arith, position_≤ (of_t x a) (S a.j), some_length (of_t x a) (D a.j) d, strict_length_law a.j a.j-in))
+      (λ s. omega (arith, position_in_law (of_t x a) (S a.j) s, strict_length_law a.j a.j_in))
+      (λ d. omega (arith, position_≤ (of_t x a) (S a.j), some_length (of_t x a) (D a.j) d, strict_length_law a.j a.j_in))
       (strict_or_tied x a))
 
   strict_in : (x : Edge) (a : IsEdge r x) → T (not x.tied) → T (has (of_t x a) (S a.j))
@@ -153,7 +153,7 @@ module _ (r : Roster) (ok : T (fits r)) where
 
   tied_last : (x : Edge) (a : IsEdge r x) → T x.tied → x.rank_t ≡ suc (length (S a.j))
   tied_last x a t = ap (λ z. z.rank_t) a.is
-      ∙ position_out (of_t x a) (S a.j) (tied_not_strict (of_t x a) a.j a.j-in (subst (λ z. T z.tied) a.is t))
+      ∙ position_out (of_t x a) (S a.j) (tied_not_strict (of_t x a) a.j a.j_in (subst (λ z. T z.tied) a.is t))
 
   same_stand : (x y : Edge) (a : IsEdge r x) (b : IsEdge r y) → x.stand ≡ y.stand → a.j ≡ b.j
   same_stand x y a b s = sym (ap (λ z. z.stand) a.is) ∙ s ∙ ap (λ z. z.stand) b.is
@@ -189,14 +189,14 @@ module _ (r : Roster) (ok : T (fits r)) where
   unfolding instance_of
   lawful = record {
     at_s = record {
-      inside = λ e h. subst (λ z. z.surveyor < ns) (sym (at e h).is) (at e h).i-in;
+      inside = λ e h. subst (λ z. z.surveyor < ns) (sym (at e h).is) (at e h).i_in;
       placed = λ e h. placed_s_law (edge_at es e) (at e h);
       strict = λ d e h k s p n. let t = same_s (edge_at es d) (edge_at es e) (at d h) (at e k) s p in pairs_differ d e h k s t.0 t.1;
       last = λ d e h k s t. absurd t;
       below = λ d e h k s t n. absurd t;
     };
     at_t = record {
-      inside = λ e h. subst (λ z. z.stand < nt) (sym (at e h).is) (at e h).j-in;
+      inside = λ e h. subst (λ z. z.stand < nt) (sym (at e h).is) (at e h).j_in;
       placed = λ e h. placed_t_law (edge_at es e) (at e h);
       strict = λ d e h k s p n. let t = same_t (edge_at es d) (edge_at es e) (at d h) (at e k) s p n in pairs_differ d e h k t.0 s t.1;
       last = λ d e h k s t. tie_last (edge_at es d) (edge_at es e) (at d h) (at e k) s t;

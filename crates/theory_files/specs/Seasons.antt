@@ -99,6 +99,7 @@ first_short count xs r d t = omega (
 
 -- ---- "it stands in both lists or in neither": shift 1 in the surveyors' lists alone is shift 1 in all
 ∈_has : (x : Entry) (xs : List Entry) → x ∈ xs → T (has x xs)
+∈_has x [] m = elim m [ ]
 ∈_has x (y ∷ ys) (Memᴰ.head e) = or_l (same x y) (has x ys) (subst (λ z. T (same x z)) e
     (and_i (eqb x.number x.number) (eqb x.shift x.shift) (eqb_refl x.number) (eqb_refl x.shift)))
 ∈_has x (y ∷ ys) (Memᴰ.tail m) = or_r (same x y) (has x ys) (∈_has x ys m)

@@ -28,6 +28,7 @@ Every P [] = Unit {0}
 Every P (x ∷ xs) = P x × Every P xs
 
 every : (P : Rule → Type 0) (xs : List Rule) → Every P xs → (x : Rule) → x ∈ xs → P x
+every P [] h x m = elim m [ ]
 every P (y ∷ ys) h x (Memᴰ.head q) = subst P (sym q) h.0
 every P (y ∷ ys) h x (Memᴰ.tail k) = every P ys h.1 x k
 
@@ -46,8 +47,8 @@ module _ (r : Roster) (ok : T (fits r)) where
         pair = subst (λ k. T (listed r x.i x.j k)) (sym (shift_is x)) x.pair;
         surveyor_is = ap (λ y. suc y.surveyor) x.is;
         stand_is = ap (λ y. suc y.stand) x.is;
-        shift_from = subst (λ k. 1 ≤ k) (sym (shift_is x)) x.k-from;
-        shift_in = subst (λ k. k ≤ shift_limit) (sym (shift_is x)) x.k-in;
+        shift_from = subst (λ k. 1 ≤ k) (sym (shift_is x)) x.k_from;
+        shift_in = subst (λ k. k ≤ shift_limit) (sym (shift_is x)) x.k_in;
       }
     where
       shift_is : {x : Edge} (a : IsEdge r x) → x.shift ≡ a.k

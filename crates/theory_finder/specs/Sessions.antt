@@ -2,7 +2,7 @@
 -- one Boolean test, and all of them are one theorem, for the rival that the calls name (`Choices.chosen`). What single calls answer whichever rival is
 -- chosen, and what is held and written, is in model_desk/DeskCases.
 use Rattle.std.specs.Prelude.{ℕ, suc, ◌≡◌, refl, Bool, true, ◌&&◌, List, [], ◌∷◌, ◌++◌, length, replicate, ℤ, pos, negsuc}
-use Rattle.std.proofs.Math.Option.{Option·elim, or_else}
+use Rattle.std.proofs.Math.Option.{Option-elim, or_else}
 use Rattle.lists.specs.Sum.{count}
 use Rattle.lists.specs.Search.{low}
 use Rattle.lists.specs.First.{first, best}
@@ -320,7 +320,7 @@ kept =
 pub sessions : all? (holds opening) (states ∷ morning ∷ digits ∷ field ∷ proposals ∷ sheets ∷ unsettled ∷ kept ∷ []) ≡ true
 unfolding numbers_from count low group_of listed listed_back both_or_neither read_each read_roster_by write_roster_by position edges_of instance_of deg node_vote
     vote choices within plans_of same_plan beaten_by drawn_with verdict_of R.cut R.ahead R.arrow R.loose R.reserved R.better_s R.better_t R.worse_reserved
-    R.rule1 R.rule2 R.rule3 R.rule4 R.rule5 R.rule6 R.rule7 first Option·elim or_else R.rules R.step_by R.first_step R.act R.begin R.steps_from R.state_after
+    R.rule1 R.rule2 R.rule3 R.rule4 R.rule5 R.rule6 R.rule7 first Option-elim or_else R.rules R.step_by R.first_step R.act R.begin R.steps_from R.state_after
     R.steps_of R.end_of plan_bytes_by edge_of_pair read_plan_by diary_of left_of candidate_of finder_of comparison_of part_of blocks some_blocks top_blocking joined
     join_on departed leave_on carried state_refusal answer_of desk_after rival_of rival_edges swapped search directs alone_at levels loop_at path_at best arc layer
     trace terminal set_day chase free_day with_day spread spread_by read_ranges read_question place_s place_t ranked ahead place_in worst_by

@@ -61,11 +61,13 @@ quotas_one qs = bool_eq (all_one qs) (each_one (λ v. get_or qs v 0) (length qs)
 
 -- ---- entries
 ∈_has : (x : Entry) (xs : List Entry) → x ∈ xs → T (has x xs)
+∈_has x [] m = elim m [ ]
 ∈_has x (y ∷ ys) (Memᴰ.head e) = or_l (same x y) (has x ys) (eq→same x y e)
 ∈_has x (y ∷ ys) (Memᴰ.tail m) = or_r (same x y) (has x ys) (∈_has x ys m)
 
 -- what holds at every place of a list holds of what is in it
 ∈_place : {A : Type 0} (d : A) (xs : List A) {x : A} → x ∈ xs → (i : ℕ) × (i < length xs) × (get_or xs i d ≡ x)
+∈_place d [] m = elim m [ ]
 ∈_place d (y ∷ ys) (Memᴰ.head e) = (0, (omega arith), sym e)
 ∈_place d (y ∷ ys) (Memᴰ.tail m) = given (∈_place d ys m) (λ (i, h, e). (suc i, omega arith, e))
 
@@ -100,7 +102,7 @@ module _ (r : Roster) (ok : T (fits r)) where
   edge_strict : T (untied r) → (e : ℕ) → e < length es → T (not (edge_at es e).tied)
   edge_strict t e h = given (at e h) (λ a. subst (λ x. T (not x.tied)) (sym a.is)
       (no_entry_law (list_t r a.j).tied (eqb→eq (length (list_t r a.j).tied) 0 (all_∈ (λ R. eqb (length R.tied) 0) r.lists_t t (list_t r a.j)
-      (get_d_∈ r.lists_t a.j (record { strict = []; tied = [] }) (subst (λ n. a.j < n) (sym (fits_lists r ok).count_t) a.j-in))))
+      (get_d_∈ r.lists_t a.j (record { strict = []; tied = [] }) (subst (λ n. a.j < n) (sym (fits_lists r ok).count_t) a.j_in))))
       (record { number = suc a.i; shift = a.k })))
 
   edge_first : T (only_first r) → (e : ℕ) → e < length es → (edge_at es e).shift ≡ 1
@@ -109,7 +111,7 @@ module _ (r : Roster) (ok : T (fits r)) where
       ∙ given (any_∈ (same (record { number = suc a.j; shift = a.k })) (list_s r a.i) a.pair)
       (λ (y, m, s). eqb→eq a.k y.shift (and_r (eqb (suc a.j) y.number) (eqb a.k y.shift) s)
       ∙ eqb→eq y.shift 1 (all_∈ is_first (list_s r a.i) (all_∈ (λ xs. all? is_first xs) r.lists_s t (list_s r a.i)
-      (get_d_∈ r.lists_s a.i [] (subst (λ n. a.i < n) (sym (fits_lists r ok).count_s) a.i-in))) y m)))
+      (get_d_∈ r.lists_s a.i [] (subst (λ n. a.i < n) (sym (fits_lists r ok).count_s) a.i_in))) y m)))
 
   -- ---- each edge passes: so does the roster
   module _ (tied-none : (e : ℕ) → e < length es → T (not (edge_at es e).tied)) (first-all : (e : ℕ) → e < length es → (edge_at es e).shift ≡ 1) where

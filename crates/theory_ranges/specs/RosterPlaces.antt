@@ -98,10 +98,10 @@ module _ (r : Roster) (ok : T (fits r)) where
 
   -- an edge's ends, ranks and lists
   surveyor_in : (e : ℕ) → e < length es → (at e).surveyor < ns
-  surveyor_in e h = let a = is e h in subst (λ x. x.surveyor < ns) (sym a.is) a.i-in
+  surveyor_in e h = let a = is e h in subst (λ x. x.surveyor < ns) (sym a.is) a.i_in
 
   stand_in : (e : ℕ) → e < length es → (at e).stand < nt
-  stand_in e h = let a = is e h in subst (λ x. x.stand < nt) (sym a.is) a.j-in
+  stand_in e h = let a = is e h in subst (λ x. x.stand < nt) (sym a.is) a.j_in
 
   pub rank_s_is : (e : ℕ) → e < length es → (at e).rank_s ≡ position (of_s e) (list_s r (at e).surveyor)
   rank_s_is e h = subst (λ x. x.rank_s ≡ position (entry x.stand x.shift) (list_s r x.surveyor)) (sym (is e h).is) refl
@@ -117,7 +117,7 @@ module _ (r : Roster) (ok : T (fits r)) where
   unfolding listed_back
   has_t e h = let a = is e h in
       subst (λ x. T (has (entry x.surveyor x.shift) (entries (list_t r x.stand)))) (sym a.is)
-      (subst T ((fits_lists r ok).pairs a.i a.j a.k a.i-in a.j-in (range_∈ shift_limit 1 a.k a.k-from (omega (arith, a.k-in)))) a.pair)
+      (subst T ((fits_lists r ok).pairs a.i a.j a.k a.i_in a.j_in (range_∈ shift_limit 1 a.k a.k_from (omega (arith, a.k_in)))) a.pair)
 
   -- two edges at one stand are in the order of their entries
   rises : (d e : ℕ) → d < e → e < length es → (at d).stand ≡ (at e).stand → T (before (of_t d) (of_t e))

@@ -9,7 +9,7 @@ use Rattle.std.proofs.Math.Path.{refl, sym, ap, subst}
 use Rattle.std.proofs.Common.{◌∙◌, inl, inr, eqb→eq, T_not}
 use Rattle.std.proofs.Math.Logic.{by_cases}
 use Rattle.std.proofs.Math.Bool.{not, and-true, or-false, or_assoc}
-use Rattle.std.proofs.Math.Option.{Option, Option·elim}
+use Rattle.std.proofs.Math.Option.{Option, Option-elim}
 use mathlib.Core.List.Memᴰ
 use mathlib.Core.List.{List, [], ◌∷◌, map}
 use Rattle.std.proofs.lemmas.List.{length-map}
@@ -30,17 +30,17 @@ use Rattle.theory_reduction.specs.Quotas.{Sound, begin_sound, next_sound}
 module _ (G : Instance) where
   -- the state and the steps that follow, by whether a step is taken
   abbrev then_state : ℕ → State → Option Step → State
-  then_state n Z o = Option·elim o Z (λ s. state_after G n (after_step G Z s))
+  then_state n Z o = Option-elim o Z (λ s. state_after G n (after_step G Z s))
 
   abbrev then_steps : ℕ → State → Option Step → List Step
-  then_steps n Z o = Option·elim o [] (λ s. s ∷ steps_from G n (after_step G Z s))
+  then_steps n Z o = Option-elim o [] (λ s. s ∷ steps_from G n (after_step G Z s))
 
   -- induction along the steps: at most n of them, from a state, in a list, to a state
   pub along : (P : ℕ → State → List Step → State → Type 0)
       → ((n : ℕ) (Z : State) → (n ≡ 0) ⊎ (8 ≤ rule_of G Z) → P n Z [] Z)
       → ((n : ℕ) (Z : State) (ss : List Step) (Y : State) → rule_of G Z < 8 → P n (next G Z) ss Y → P (suc n) Z (step_of G Z ∷ ss) Y)
       → (n : ℕ) (Z : State) → P n Z (steps_from G n Z) (state_after G n Z)
-  unfolding steps_from state_after next Option·elim
+  unfolding steps_from state_after next Option-elim
   along P stop more zero Z = stop 0 Z (inl refl)
   along P stop more (suc n) Z = by_cases (dec_lt (rule_of G Z) 8)
       (λ h. subst Told (sym (step_taken G Z h)) (more n Z (steps_from G n (next G Z)) (state_after G n (next G Z)) h (along P stop more n (next G Z))))
@@ -61,23 +61,23 @@ module _ (G : Instance) where
   -- ---- each step is that of the state before it
   -- where a rule acts, the state after n + 1 steps is the one after n steps from the next state
   pub after_more : (n : ℕ) (Z : State) → rule_of G Z < 8 → state_after G (suc n) Z ≡ state_after G n (next G Z)
-  unfolding state_after next Option·elim
+  unfolding state_after next Option-elim
   after_more n Z h = ap (then_state n Z) (step_taken G Z h)
 
   -- where a rule acts, the steps are its own and then those from the state after it
   pub steps_more : (n : ℕ) (Z : State) → rule_of G Z < 8 → steps_from G (suc n) Z ≡ step_of G Z ∷ steps_from G n (next G Z)
-  unfolding steps_from next Option·elim
+  unfolding steps_from next Option-elim
   steps_more n Z h = ap (then_steps n Z) (step_taken G Z h)
 
   -- and where no rule acts there is none
   pub after_none : (n : ℕ) (Z : State) → 8 ≤ rule_of G Z → state_after G n Z ≡ Z
-  unfolding state_after Option·elim
+  unfolding state_after Option-elim
   after_none zero Z h = refl
   after_none (suc n) Z h = ap (then_state n Z) (no_step G Z h)
 
   -- where no rule acts, there are no steps
   pub steps_none : (n : ℕ) (Z : State) → 8 ≤ rule_of G Z → steps_from G n Z ≡ []
-  unfolding steps_from Option·elim
+  unfolding steps_from Option-elim
   steps_none zero Z h = refl
   steps_none (suc n) Z h = ap (then_steps n Z) (no_step G Z h)
 

@@ -30,6 +30,7 @@ use Rattle.theory_renamed.specs.Renaming.{Moved}
 
 -- ---- a listed pair is an edge
 place_in_law : {A : Type 0} {x : A} (d : A) (xs : List A) → x ∈ xs → (i : ℕ) × (i < length xs) × (get_or xs i d ≡ x)
+place_in_law d [] m = elim m [ ]
 place_in_law d (y ∷ xs) (Memᴰ.head e) = (0, omega arith, sym e)
 place_in_law d (y ∷ xs) (Memᴰ.tail m) = given (place_in_law d xs m) (λ (i, l, e). (suc i, omega arith, e))
 
@@ -88,30 +89,30 @@ module _ (route : List ℕ) (r : Roster) (ok : T (fits r)) (N : Names route (sta
 
     -- the pair at the new number, and its ranks
     pair_listed : T (listed R is.i (j' is.j) is.k)
-    pair_listed = subst T (sym (listed_renumbered route r ok N is.i (j' is.j) is.k is.i-in ((places route n N).into is.j is.j-in)
-        ∙ ap (λ j. listed r is.i j is.k) ((places route n N).here is.j is.j-in))) is.pair
+    pair_listed = subst T (sym (listed_renumbered route r ok N is.i (j' is.j) is.k is.i_in ((places route n N).into is.j is.j_in)
+        ∙ ap (λ j. listed r is.i j is.k) ((places route n N).here is.j is.j_in))) is.pair
 
     pair_rank_s : (pair_edge R is.i (j' is.j) is.k).rank_s ≡ x.rank_s
     pair_rank_s =
         let v = j' is.j in
-        let lv = (places route n N).into is.j is.j-in in
-        ap (position (record { number = suc v; shift = is.k })) (list_renumbered route r ok N is.i is.i-in)
-        ∙ position_by route n N v is.k lv (list_s r is.i) (in_list route r ok N is.i is.i-in)
-        ∙ ap (λ j. position (record { number = suc j; shift = is.k }) (list_s r is.i)) ((places route n N).here is.j is.j-in)
+        let lv = (places route n N).into is.j is.j_in in
+        ap (position (record { number = suc v; shift = is.k })) (list_renumbered route r ok N is.i is.i_in)
+        ∙ position_by route n N v is.k lv (list_s r is.i) (in_list route r ok N is.i is.i_in)
+        ∙ ap (λ j. position (record { number = suc j; shift = is.k }) (list_s r is.i)) ((places route n N).here is.j is.j_in)
         ∙ sym (ap (λ z. z.rank_s) is.is)
 
     pair_rank_t : (pair_edge R is.i (j' is.j) is.k).rank_t ≡ x.rank_t
     pair_rank_t =
         ap (λ S. position (record { number = suc is.i; shift = is.k }) S.strict)
-        (ranking_renumbered route r ok N (j' is.j) ((places route n N).into is.j is.j-in)
-        ∙ ap (list_t r) ((places route n N).here is.j is.j-in))
+        (ranking_renumbered route r ok N (j' is.j) ((places route n N).into is.j is.j_in)
+        ∙ ap (list_t r) ((places route n N).here is.j is.j_in))
         ∙ sym (ap (λ z. z.rank_t) is.is)
 
     becomes : Becomes route G H e (new_edge e)
     unfolding instance_of renumbered
-    becomes = given (listed_edge R is.i (j' is.j) is.k is.i-in
-        (subst (λ m. j' is.j < m) (sym (renumbered_counts route r ok N).1) ((places route n N).into is.j is.j-in))
-        is.k-from is.k-in pair_listed) at
+    becomes = given (listed_edge R is.i (j' is.j) is.k is.i_in
+        (subst (λ m. j' is.j < m) (sym (renumbered_counts route r ok N).1) ((places route n N).into is.j is.j_in))
+        is.k_from is.k_in pair_listed) at
       where
         at : (u : ℕ) × (u < length (edges_of R)) × (edge_at (edges_of R) u ≡ pair_edge R is.i (j' is.j) is.k) → Becomes route G H e (new_edge e)
         at (u, lu, d) = subst (Becomes route G H e) (sym found_u) (record {

@@ -2,7 +2,7 @@
 -- which the lemmas stand on, in the report's own words, and a strongly popular plan that the lemmas exclude. Its digraph is the arrows, its T₂
 -- the loose stands. No rule but rule 7 acts on the first, so rules 1 to 6 alone leave its pairs: with them the End theorem would be false.
 use Rattle.std.specs.Prelude.{ℕ, ◌+◌, ◌≡◌, refl, Bool, true, false, not, ◌&&◌, ◌||◌, List, take, leb, ltb, eqb}
-use Rattle.std.proofs.Math.Option.{Option·elim, or_else}
+use Rattle.std.proofs.Math.Option.{Option-elim, or_else}
 use Rattle.lists.specs.Sum.{count, up_to}
 use Rattle.lists.specs.Search.{low}
 use Rattle.lists.specs.First.{first}
@@ -63,7 +63,7 @@ module _ (G : Instance) where
 
   -- none of the report's claims, rules 1 to 6, names an edge, and there is one
   abbrev claims_silent : Bool
-  claims_silent = Option·elim (first_step G Z (take 6 (rules G Z))) (ltb 0 G.m) (λ s. false)
+  claims_silent = Option-elim (first_step G Z (take 6 (rules G Z))) (ltb 0 G.m) (λ s. false)
 
 -- a node that a plan leaves with room
 abbrev has_room : Side → Plan → ℕ → Bool
@@ -96,7 +96,7 @@ two_shifts = strongly (bytes "1 2 1 1 2 0 2 1 1 1 2 2 0 0 2 1 1 1 2") (bytes "1 
 pub lemma_3_13_false : P10 (λ G M. five_properties G && (property6 G && claims_silent G)) ≡ true
 unfolding numbers_from count low text listed listed_back both_or_neither read_each read_roster_by position edges_of instance_of deg node_vote vote
     choices within plans_of same_plan beaten_by drawn_with verdict_of strong_plans cut ahead arrow loose reserved better_s better_t worse_reserved rule1 rule2
-    rule3 rule4 rule5 rule6 rule7 rules first or_else Option·elim step_by first_step begin edge_of_pair read_plan_by
+    rule3 rule4 rule5 rule6 rule7 rules first or_else Option-elim step_by first_step begin edge_of_pair read_plan_by
 lemma_3_13_false = refl
 
 -- Lemma 3.10, "If M is an SPbM, then d_M(v) = b(v) for every v ∈ S ∪ T", where five properties are listed: P10 at stand 2; P11 and the two shifts

@@ -58,8 +58,8 @@ module _ (G : Instance) (M : ℕ → Bool) where
               z = z;
               loop = mid ++ ((g, z) ∷ []);
               rest = pre ++ ((f, z') ∷ post);
-              loop_walk = walk_append G M z u' z mid ((g, z) ∷ []) hm ((b.0, a.1, b.2, c.to-z), refl);
-              rest_walk = walk_append G M x u y pre ((f, z') ∷ post) hp ((a.0, b.1, a.2, c.to-y), hq);
+              loop_walk = walk_append G M z u' z mid ((g, z) ∷ []) hm ((b.0, a.1, b.2, c.to_z), refl);
+              rest_walk = walk_append G M x u y pre ((f, z') ∷ post) hp ((a.0, b.1, a.2, c.to_y), hq);
               loop_pos = omega (arith, length-append mid ((g, z) ∷ []));
               size = omega (
                 arith,

@@ -1,6 +1,6 @@
 -- The search run by the checker on small instances: one run for each kind of hit, and why the order of the tests matters.
 use Rattle.std.specs.Prelude.{ℕ, ◌≡◌, refl, Bool, true, false, List, [], ◌∷◌, length, get_or, eqb}
-use Rattle.std.proofs.Math.Option.{none, some, or_else, Option·elim}
+use Rattle.std.proofs.Math.Option.{none, some, or_else, Option-elim}
 use Rattle.lists.specs.Sum.{count}
 use Rattle.lists.specs.Keep.{any?}
 use Rattle.lists.specs.First.{first, best}
@@ -36,7 +36,7 @@ tie : Instance
 tie = made 2 true ((0, 0, 1, 1) ∷ (1, 0, 1, 1) ∷ [])
 
 tie_rival : rival_of tie (true ∷ false ∷ []) ≡ false ∷ true ∷ []
-unfolding tie made rival_of rival_edges Option·elim swapped search directs alone_at levels loop_at path_at first best arc layer trace terminal or_else deg count
+unfolding tie made rival_of rival_edges Option-elim swapped search directs alone_at levels loop_at path_at first best arc layer trace terminal or_else deg count
 tie_rival = refl
 
 -- it ties neither, and nobody has anything: an edge with room at both ends

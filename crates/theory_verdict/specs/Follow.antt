@@ -59,7 +59,7 @@ module _ (G : Instance) (M : ℕ → Bool) (k n : ℕ) (costly : CostAtLeastBelo
     end_lost {w} {y} {c_s} {c_t} {l_s} {l_t} o m =
         let st = o.left in
         let d = costly.paths a lose x w y (omega (arith, o.few))
-        (record { old = o.old; walk = o.walk; start = o.start; stop = tt; apart = o.at-loss y m }) in
+        (record { old = o.old; walk = o.walk; start = o.start; stop = tt; apart = o.at_loss y m }) in
         let r = rest c_s l_s c_t (remove m) o.less (omega (arith, o.few)) (record {
           at_s = st.at_s;
           at_t = known_part (stands G) M (λ c q. q) (λ l q. remove_∈ m q) st.at_t;
@@ -77,7 +77,7 @@ module _ (G : Instance) (M : ℕ → Bool) (k n : ℕ) (costly : CostAtLeastBelo
           walk = o.walk;
           start = o.start;
           stop = (st.at_t.new mT, st.at_s.room mS, sym (st.at_t.meet mT).1);
-          apart = o.at-gain y f mS;
+          apart = o.at_gain y f mS;
         }) in
         let r = rest (remove mS) l_s (remove mT) l_t (omega (arith, o.less, remove_length mT))
         (omega (arith, o.few, sum_remove (λ c. bit (not (same c.0 empty))) mT))
@@ -104,8 +104,8 @@ module _ (G : Instance) (M : ℕ → Bool) (k n : ℕ) (costly : CostAtLeastBelo
       old = o.old;
       walk = walk_append G M x y z w ((f, z) ∷ []) o.walk (arc_of o.left mT mS, refl);
       start = o.start;
-      at_loss = o.at-loss;
-      at_gain = λ u g q. o.at-gain u g (remove_∈ mS q);
+      at_loss = o.at_loss;
+      at_gain = λ u g q. o.at_gain u g (remove_∈ mS q);
     }
 
     -- y is lost at its stand, or gives way there to some f

@@ -81,9 +81,9 @@ module _ (G : Instance) (M : ℕ → Bool) (k : ℕ) where
       go : (Once (zs w) × Once (fs w)) ⊎ ((c : Cut G M x w x) × (0 < length c.rest)) → CostAtLeast G k x w ⊎ (Once (zs w) × Once (fs w))
       go (inl u) = inr u
       go (inr (c, r)) =
-          let k₁ = ih c.z c.loop (omega (arith, c.size)) c.loop-pos c.loop-walk in
-          let k₂ = ih x c.rest (omega (arith, c.size, c.loop-pos)) r c.rest-walk in
-          inl (omega (arith, c.plus-eq, c.minus-eq))
+          let k₁ = ih c.z c.loop (omega (arith, c.size)) c.loop_pos c.loop_walk in
+          let k₂ = ih x c.rest (omega (arith, c.size, c.loop_pos)) r c.rest_walk in
+          inl (omega (arith, c.plus_eq, c.minus_eq))
 
   -- f is gained at the start and comes again: from x round to x by it, and in by it at z
   cut_start : (f x : ℕ) (pre : Steps) (z : ℕ) (post : Steps) (y : ℕ) (b : Way)
@@ -174,10 +174,10 @@ module _ (G : Instance) (M : ℕ → Bool) (k : ℕ) where
       go : (Once (x ∷ zs w) × Once (fs w)) ⊎ Cut G M x w y → Free a w ⊎ PathCostAtLeast G k a x w y b → Free b w ⊎ PathCostAtLeast G k a x w y b
           → PathCostAtLeast G k a x w y b ⊎ (Once (x ∷ zs w) × Once (comers a w b))
       go (inr c) r s =
-          let k₁ = cl c.z c.loop (omega (arith, c.size)) c.loop-pos c.loop-walk in
-          let k₂ = ih x c.rest y (omega (arith, c.size, c.loop-pos))
-          (record { old = h.old; walk = c.rest-walk; start = h.start; stop = h.stop; apart = h.apart }) in
-          inl (omega (arith, c.plus-eq, c.minus-eq))
+          let k₁ = cl c.z c.loop (omega (arith, c.size)) c.loop_pos c.loop_walk in
+          let k₂ = ih x c.rest y (omega (arith, c.size, c.loop_pos))
+          (record { old = h.old; walk = c.rest_walk; start = h.start; stop = h.stop; apart = h.apart }) in
+          inl (omega (arith, c.plus_eq, c.minus_eq))
       go (inl u) (inr r) s = inl r
       go (inl u) (inl r) (inr s) = inl s
       go (inl u) (inl r) (inl s) = inr (u.0, once_all a w b u.1 r s (distinct none a x y b h.start h.stop))

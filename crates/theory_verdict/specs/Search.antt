@@ -6,7 +6,7 @@
 -- A program needs the table of the arcs, that of the ends, and one layer, changed level by level; the walk that is found is read back
 -- from one column of the layers (rival_columns, rival_walk).
 use Rattle.std.specs.Prelude.{ℕ, zero, suc, ◌+◌, ◌*◌, min, Bool, true, not, cond, ◌&&◌, List, [], ◌∷◌, map, leb, ltb, eqb}
-use Rattle.std.proofs.Math.Option.{Option, none, some, or_else, Option·elim}
+use Rattle.std.proofs.Math.Option.{Option, none, some, or_else, Option-elim}
 use Rattle.lists.specs.Sum.{range}
 use Rattle.lists.specs.Keep.{keep, all?, product}
 use Rattle.lists.specs.First.{first, best}
@@ -192,4 +192,4 @@ module _ (G : Instance) (M : ℕ → Bool) (lid B : ℕ) where
 
   -- the edges of the rival, of M itself if there is none
   unfoldable pub rival_edges : ℕ → Bool
-  rival_edges = Option·elim (or_else (search G M lid 0 B) (search G M lid 1 B)) M (rival_by M)
+  rival_edges = Option-elim (or_else (search G M lid 0 B) (search G M lid 1 B)) M (rival_by M)

@@ -4,7 +4,7 @@
 -- To believe it: the model's votes (Vote), what a matching is (theory_instance, Lawful), the search (Search).
 use Rattle.std.specs.Prelude.{ℕ, ◌+◌, ◌*◌, ◌≤◌, ◌≡◌, Bool, length, ℤ, ◌≤ℤ◌, ◌<ℤ◌}
 use Rattle.std.proofs.Common.{arith}
-use Rattle.std.proofs.Math.Option.{Option, or_else, Option·elim}
+use Rattle.std.proofs.Math.Option.{Option, or_else, Option-elim}
 use Rattle.std.proofs.Math.IntN.{pos}
 use Rattle.lists.specs.First.{Answer, nothing, found, answer_map}
 use Rattle.lists.specs.Integer.{≤_antisym, sub_≤, sub_<}
@@ -61,12 +61,12 @@ module _ (G : Instance) (M : ℕ → Bool) where
 
     -- the two together
     pub judged : Judged (verdict_by G M lid B) (rival_edges G M lid B)
-    unfolding verdict_by rival_edges Option·elim or_else
+    unfolding verdict_by rival_edges Option-elim or_else
     judged = go beaten_or_not strong_or_not
       where
         go : {o p : Option Hit} → Answer (λ h. Against (λ z. z <ℤ pos 0) (rival_by M h)) Unbeaten o
             → Answer (λ h. Against (λ z. z ≤ℤ pos 0) (rival_by M h)) Strongest p
-            → Judged (judge o p) (Option·elim (or_else o p) M (rival_by M))
+            → Judged (judge o p) (Option-elim (or_else o p) M (rival_by M))
         go (nothing u) (nothing s) = s
         go (nothing u) (found {a = h} r) =
             (u, record { plan = r.plan; other = r.other; vote = ≤_antisym (vote G M (rival_by M h)) (pos 0) r.vote (u (rival_by M h) r.plan) })

@@ -63,14 +63,14 @@ pub record RivalFor (G : Instance) (plan : List Bool) (rivalled : Bool) (rival :
 -- ---- these are the desk's
 module _ (G : Instance) (M : Plan) where
   -- for each verdict the answer is the desk's
-  pub desk_answer : (v : verdict.Verdict) → verdict_shown (weighed_as G M v) ≡ desk.verdictAnswer G M (rival_of G M) v
+  pub desk_answer : (v : verdict.Verdict) → verdict_shown (weighed_as G M v) ≡ desk.verdict_answer G M (rival_of G M) v
   desk_answer verdict.strong = refl
   desk_answer verdict.popular = refl
   desk_answer verdict.beaten = refl
 
   -- for each verdict both buffers afterwards are the desk's
   pub desk_written : (v : verdict.Verdict) (out d : List ℕ)
-      → desk.judge (rival_written G M v out) (pairings_written G M v d) ≡ desk.verdictWritten G M (rival_of G M) v out d
+      → desk.judge (rival_written G M v out) (pairings_written G M v d) ≡ desk.verdict_written G M (rival_of G M) v out d
   desk_written verdict.strong out d = refl
   desk_written verdict.popular out d = refl
   desk_written verdict.beaten out d = refl

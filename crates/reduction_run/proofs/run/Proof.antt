@@ -147,7 +147,7 @@ loop-again c =
       λ K F.
           let S = l.inv.1 K F in
           let w = y.1 a.qs.now a.qt.now K F l.fixed S.stood.k_s S.stood.k_t (seen S) in
-          o.1 a.qs.now a.qt.now K F r S w.rule-is w.edge-is t.loop-test.taken,
+          o.1 a.qs.now a.qt.now K F r S w.rule_is w.edge_is t.loop-test.taken,
     )
 
 returns : tie.Need-returns invariant-loop decreases-loop
@@ -168,7 +168,7 @@ returns-2 c =
     let S = l.inv.1 K F in
     let w = (s.step.ensures.1 a.sv.now a.rs.now a.rt.now (start t).pre R.leads R.late).1 a.qs.now a.qt.now K F l.fixed
     S.stood.k_s S.stood.k_t (seen S) in
-    stands_end K (whole l.rem l.fixed l.cuts l.cutt l.ds l.dt) r S.stood (omega (arith, c.if1.true, w.edge-is))
+    stands_end K (whole l.rem l.fixed l.cuts l.cutt l.ds l.dt) r S.stood (omega (arith, c.if1.true, w.edge_is))
 
 pub run_spec : {M : Type 1} → statement M
 run_spec =

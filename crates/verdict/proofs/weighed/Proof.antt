@@ -35,7 +35,7 @@ returns c =
     let j = k.judge in
     let v = verdict_for j.result.beaten j.result.rivalled in
     let e = no_rival j.result.beaten j.result.rivalled c.if1.true in (
-      λ M S. made.strong-weighed a.g s.pre.0 a.plan.now M S v j.result.rival j.ensures a.out.now e,
+      λ M S. made.strong_weighed a.g s.pre.0 a.plan.now M S v j.result.rival j.ensures a.out.now e,
       unrivalled a.g s.pre.0 a.plan.now s.pre.1.0 s.pre.1.1 v j.result.rival j.ensures _ _ e,
     )
 
@@ -47,7 +47,7 @@ list-edges-requires c κs =
     let j = k.judge in
     let b = j.result.beaten in (
       s.pre.0.edges,
-      made.rival-few a.g s.pre.0 a.plan.now s.pre.1.0 s.pre.1.1 (verdict_for b j.result.rivalled) j.result.rival j.ensures b
+      made.rival_few a.g s.pre.0 a.plan.now s.pre.1.0 s.pre.1.1 (verdict_for b j.result.rivalled) j.result.rival j.ensures b
           (some_rival_law b j.result.rivalled c.before.if1.false),
     )
 
@@ -60,7 +60,7 @@ voted-requires c κs =
     let b = j.result.beaten in (
       s.pre.0,
       plan_within a.g s.pre.0 a.plan.now s.pre.1.0 s.pre.1.1,
-      made.rival-within a.g s.pre.0 a.plan.now s.pre.1.0 s.pre.1.1 (verdict_for b j.result.rivalled) j.result.rival j.ensures b
+      made.rival_within a.g s.pre.0 a.plan.now s.pre.1.0 s.pre.1.1 (verdict_for b j.result.rivalled) j.result.rival j.ensures b
           (some_rival_law b j.result.rivalled c.before.before.before.before.if1.false),
       s.pre.2,
       c.before.before.list-edges.ensures,
@@ -79,7 +79,7 @@ returns-2 c =
     let e = some_rival_law b j.result.rivalled l.before.before.if1.false in
     let w = c.before.before.before.voted in (
       λ M S. weighed_as_law (c.verdict-with.ensures ∙ ap (λ z. cond b (Beaten z) (Popular z)) (to_z-of_z w16 w.result (sfits_of w.type-inv)))
-          (made.rival-weighed a.g s.pre.0 a.plan.now M S v j.result.rival j.ensures b e a.out.now w.ensures),
+          (made.rival_weighed a.g s.pre.0 a.plan.now M S v j.result.rival j.ensures b e a.out.now w.ensures),
       rivalled a.g s.pre.0 a.plan.now s.pre.1.0 s.pre.1.1 v j.result.rival j.ensures b e _ _ l.list-edges.ensures,
     )
 
