@@ -1,6 +1,8 @@
 // Ranks set against each other: the rate of one rank against another, found by comparing, so that any two numbers have one; and the least sum over all
 // ways to set one list of ranks against another: over the turns of the first, both lists in order. Sums count each vote from one up, 2, 1 or 0 for 1, 0
 // or -1, so that they are numbers.
+#![tactic(auto)]
+
 ghost use Rattle.std.specs.Prelude.{◌≡◌, ◌≤◌, length, take};
 ghost use Rattle.theory_votes.specs.Score.{rate};
 ghost use Rattle.model.specs.Limits.{quota_limit};

@@ -1,11 +1,11 @@
 -- vote_ranks::least_sum answers the least sum of all: no turn tried has a lower one, and one of all turns reaches the least (theory_votes, Least).
 -- Assumes nothing.
-use Rattle.std.proofs.Common.{◌-◌, ◌≤◌, arith, ap, ⊎_elim, take}
+use Rattle.std.proofs.Common.{◌≤◌, arith, ap, take}
 use Rattle.lists.specs.Test.{by-eq}
 use Rattle.theory_votes.specs.Least.{least_sum}
 use Rattle.vote_ranks.specs.Turn.{turn_sum}
 use Rattle.vote_ranks.proofs.TurnSums.{sum_above, sum_most, sum_reached}
-use Rattle.vote_ranks.proofs.least_sum.Goals.{Joined-s-least}
+use Rattle.vote_ranks.proofs.least_sum.Goals.{Joined-s-least, then-s-least, else-s-least}
 use Rattle.vote_ranks.proofs.least_sum.Goals as goal
 
 pub loop-j-init : goal.loop-j-init
@@ -29,7 +29,7 @@ lower c =
       c.turn_sum-s.ensures,
       sum_above a.a.now a.b.now a.k c.requires.k_le_quota_limit.1 c.requires.k_le_quota_limit.2 c.loop-j.j,
     ) in
-    ⊎_elim (λ w. omega arith) (λ w. omega arith) c.if-s-least.branch
+    elim c.if-s-least.branch [ then-s-least w ↦ omega arith | else-s-least w ↦ omega arith ]
 
 pub loop-j-preserved : goal.loop-j-preserved
 loop-j-preserved c =

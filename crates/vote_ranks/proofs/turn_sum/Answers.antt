@@ -1,5 +1,5 @@
 -- vote_ranks::turn_sum answers the sum of a turn. The loop's invariant: the sum so far and what is left of the turn are the whole. Assumes nothing.
-use Rattle.std.proofs.Common.{◌+◌, ◌-◌, zero-le, arith, ◌≡◌, ap, ◌∙◌, get_or, take}
+use Rattle.std.proofs.Common.{◌+◌, zero-le, arith, ◌≡◌, ap, ◌∙◌, get_or, take}
 use Rattle.theory_votes.specs.Score.{rate}
 use Rattle.vote_ranks.specs.Turn.{wrap}
 use Rattle.vote_ranks.proofs.TurnSums.{rest_sum, rest_start, rest_step, rest_end, wrap_<}
