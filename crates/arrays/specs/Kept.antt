@@ -1,6 +1,6 @@
 -- A pass that collects in an array's front the numbers that meet a test, ascending: one turn of it, and its end.
 use Rattle.std.specs.Prelude.{ℕ, zero, suc, ◌+◌, ◌-◌, ◌≤◌, ◌<◌, ◌≡◌, refl, Bool, true, false, cond, List, [], ◌∷◌, ◌++◌, map, length, take, set}
-use Rattle.std.proofs.Common.{arith, add-one, add-zero, zero-add, sym, ap, ◌∙◌, subst, append-nil, length-append, take-suc, take-suc-set}
+use Rattle.std.proofs.Common.{arith, add-one, add-zero, zero-add, sym, ap, ◌∙◌, append-nil, length-append, take-suc, take-suc-set}
 use Rattle.std.proofs.lemmas.List.{map-append, take-set-le}
 use mir.Val.{bool_byte}
 use Rattle.lists.specs.Sum.{range}

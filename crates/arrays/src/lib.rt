@@ -1,6 +1,8 @@
 // The instance that plain arrays show, and arrays that loops fill: the tie between code and model. And the links through the edges of each node: its first
 // edge, and from each edge the next one at the same node. Where a loop goes by them it meets a node's edges alone, in the order of all edges, however many
 // there are and whether or not two of them share both ends.
+#![tactic(auto)]
+
 ghost use Rattle.std.specs.Prelude.{◌≡◌, ◌≤◌, length};
 ghost use Rattle.model.specs.Limits.{entry_limit, node_limit};
 ghost use Rattle.arrays.specs.Passes.{Low};

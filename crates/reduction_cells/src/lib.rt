@@ -1,5 +1,7 @@
 // The strict edges of one side by node and rank, and what a node's arrows and rules need of them: the best and the worst of a set there, the rank
 // that a quota of a set is better than, and the node's arrows, painted anew.
+#![tactic(auto)]
+
 ghost use Rattle.std.specs.Prelude.{◌≡◌, ◌&&◌, ◌||◌, false, ◌+◌, ◌≤◌, ◌<◌, length};
 ghost use Rattle.lists.specs.Test.{bit};
 ghost use Rattle.model.specs.Limits.{entry_limit, node_limit, empty_rank};

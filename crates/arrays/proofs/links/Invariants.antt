@@ -1,4 +1,4 @@
-use Rattle.std.proofs.Common.{◌≡◌, ◌-◌, ◌≤◌, length}
+use Rattle.std.proofs.Common.{◌≡◌, ◌≤◌, length}
 use Rattle.arrays.specs.Linked.{LinkedFrom}
 use Rattle.arrays.proofs.links.Given as goal
 

@@ -1,5 +1,5 @@
 -- Of the ranks passed, how many hold an edge of p; none of them has q before it.
-use Rattle.std.proofs.Common.{◌≡◌, refl, sym, ap, ◌∙◌, ◌-◌, zero-le, arith, le-leb, leb}
+use Rattle.std.proofs.Common.{◌≡◌, refl, sym, ap, ◌∙◌, zero-le, arith, le-leb, leb}
 use borrow.Author.Tests.{lt-leb}
 use Rattle.lists.specs.Test.{bit_one}
 use Rattle.lists.specs.Search.{low, low_hit, low_miss}

@@ -1,5 +1,5 @@
 -- None of the ranks passed holds an edge of p.
-use Rattle.std.proofs.Common.{refl, sym, ◌∙◌, ◌-◌, zero-le, arith}
+use Rattle.std.proofs.Common.{refl, sym, ◌∙◌, zero-le, arith}
 use Rattle.lists.specs.Test.{bit_yes, T_false, by-test}
 use Rattle.lists.specs.Search.{low, low_miss}
 use Rattle.arrays.specs.ArrayInstance.{flag}

@@ -1,5 +1,5 @@
 -- From edge i on, each cell has the first strict edge in its place.
-use Rattle.std.proofs.Common.{◌≡◌, refl, sym, ◌∙◌, subst, not, ◌+◌, ◌-◌, ◌≤◌, ◌<◌, arith, length, length-set}
+use Rattle.std.proofs.Common.{◌≡◌, refl, sym, ◌∙◌, subst, ap, not, ◌+◌, ◌-◌, ◌≤◌, ◌<◌, arith, length, length-set}
 use Rattle.model.specs.Limits.{node_limit, empty_rank}
 use Rattle.arrays.specs.ArrayInstance.{at, flag}
 use Rattle.arrays.specs.Firsts.{Firsts, first_none, firsts_stored, firsts_passed}
@@ -23,7 +23,7 @@ in_cells : (c : After-r-1) → let l = c in
     (at l.args.end.now (l.loop-i.i - 1) < node_limit) × (at l.args.rank.now (l.loop-i.i - 1) < empty_rank)
     × (cell_count ≤ length l.loop-i.cell)
 in_cells c =
-    let p = c.requires in (p.0.1 (c.loop-i.i - 1) (omega arith), p.0.2 (c.loop-i.i - 1) (omega arith), omega (arith, p.1.0, c.loop-i.invariant.1))
+    let p = c.requires in (p.m_le_entry_limit.1 (c.loop-i.i - 1) (omega arith), p.m_le_entry_limit.2 (c.loop-i.i - 1) (omega arith), omega (arith, p.cell_count_in_bounds.0, c.loop-i.invariant.1))
 
 pub loop-i-preserved-then-not-tied-i : goal.loop-i-preserved-then-not-tied-i
 loop-i-preserved-then-not-tied-i c =
@@ -34,7 +34,7 @@ loop-i-preserved-then-not-tied-i c =
       omega arith,
       simp length-set c.loop-i.invariant.1,
       firsts_stored a.m (place a.end.now a.rank.now) (λ e. not (flag a.tied.now e)) (length a.cell.now) i c.loop-i.cell
-          (omega arith) (omega (arith, h, c.loop-i.invariant.1)) c.loop-i.invariant.1 c.if-not-tied-i.true
+          (omega arith) (omega (arith, h, c.loop-i.invariant.1)) c.loop-i.invariant.1 (ap not c.if-not-tied-i.true)
           (subst (λ k. Firsts a.m (place a.end.now a.rank.now) (λ e. not (flag a.tied.now e)) (length a.cell.now) k c.loop-i.cell) e
           c.loop-i.invariant.2),
     )
@@ -46,7 +46,7 @@ loop-i-preserved c =
     let e : c.loop-i.i ≡ i + 1 = omega arith in (
       omega arith,
       c.loop-i.invariant.1,
-      firsts_passed a.m (place a.end.now a.rank.now) (λ e. not (flag a.tied.now e)) (length a.cell.now) i c.loop-i.cell c.if-not-tied-i.false
+      firsts_passed a.m (place a.end.now a.rank.now) (λ e. not (flag a.tied.now e)) (length a.cell.now) i c.loop-i.cell (ap not c.if-not-tied-i.false)
           (subst (λ k. Firsts a.m (place a.end.now a.rank.now) (λ e. not (flag a.tied.now e)) (length a.cell.now) k c.loop-i.cell) e
           c.loop-i.invariant.2),
     )
@@ -58,9 +58,9 @@ returns c =
     let e : c.loop-i.i ≡ 0 = omega arith in (
       c.loop-i.invariant.1,
       record {
-        edges = p.0.0;
+        edges = p.m_le_entry_limit.0;
         firsts = λ k h. subst (λ j. Firsts a.m (place a.end.now a.rank.now) (λ e. not (flag a.tied.now e)) (length a.cell.now) j
-            c.loop-i.cell) e c.loop-i.invariant.2 k (omega (arith, p.1.0));
+            c.loop-i.cell) e c.loop-i.invariant.2 k (omega (arith, p.cell_count_in_bounds.0));
       },
     )
 

@@ -1,4 +1,4 @@
-use Rattle.std.proofs.Common.{◌≡◌, not, ◌-◌, ◌≤◌, length}
+use Rattle.std.proofs.Common.{◌≡◌, not, ◌≤◌, length}
 use Rattle.arrays.specs.ArrayInstance.{flag}
 use Rattle.arrays.specs.Firsts.{Firsts}
 use Rattle.reduction_cells.specs.Cells.{place}

@@ -1,5 +1,5 @@
 -- The cells passed are painted; c of them remain, and n turned.
-use Rattle.std.proofs.Common.{◌≡◌, refl, sym, ap, subst, ◌&&◌, ◌||◌, ◌+◌, ◌-◌, ◌<◌, zero-le, arith, lt-ltb, le-ltb, length, set, length-set, eqb, ltb}
+use Rattle.std.proofs.Common.{◌≡◌, refl, sym, ap, subst, ◌&&◌, ◌||◌, ◌+◌, ◌<◌, zero-le, arith, lt-ltb, le-ltb, length, set, length-set, eqb, ltb}
 use Rattle.lists.specs.Test.{bit}
 use Rattle.model.specs.Limits.{empty_rank, node_limit}
 use Rattle.arrays.specs.ArrayInstance.{at, flag}
@@ -16,10 +16,10 @@ loop-r-init c =
     let p = c.requires in (
       zero-le,
       refl,
-      painted_none a.m a.other.now a.table.now p.0.1 a.rem.now a.v a.q
+      painted_none a.m a.other.now a.table.now p.v_lt_node_limit.1 a.rem.now a.v a.q
           a.f.now _,
-      p.1.0,
-      p.1.1,
+      p.f_len.0,
+      p.f_len.1,
       zero-le,
       λ i h. absurd (omega arith),
     )
@@ -55,7 +55,7 @@ overflow_add-n c =
     let e = in_cell a.table.now a.v l.r in
     omega (
       arith,
-      l.inv.5,
+      l.invariant.5,
       c.loop-r-test.true,
       byte_one
           (differ (flag a.rem.now e && ltb l.c a.q) (flag l.f e)),
@@ -73,7 +73,7 @@ overflow_add-c c =
     let l = c.loop-r in
     omega (
       arith,
-      l.inv.1,
+      l.invariant.1,
       passed_few a.m a.table.now (flag a.rem.now) a.v l.r,
       byte_one (flag a.rem.now (in_cell a.table.now a.v l.r)),
     )
@@ -84,31 +84,31 @@ loop-r-preserved-then-e-m c =
     let l = c.loop-r in
     let e = in_cell a.table.now a.v l.r in
     let P = c.requires.v_lt_node_limit in
-    let t = c.loop-r-test.taken in
+    let t = c.loop-r-test.true in
     let lt = c.if-e-m.true in
     let on = flag a.rem.now e && ltb l.c a.q in
     let b = differ on (flag l.f e) in
-    let room : l.n < length l.turned = omega (arith, l.inv.4, l.inv.5, t) in (
+    let room : l.n < length l.turned = omega (arith, l.invariant.4, l.invariant.5, t) in (
       omega arith,
       omega (
         arith,
-        l.inv.1,
+        l.invariant.1,
         passed_next a.m a.table.now (flag a.rem.now) a.v l.r,
         byte_bit (flag a.rem.now e),
         ap (λ b. bit (b && flag a.rem.now e)) (lt-ltb e a.m lt),
       ),
       painted_edge a.m a.other.now a.table.now P.1 a.rem.now a.v a.q a.f.now
-          l.r l.f (among l.turned l.n) _ P.0 t lt (omega (arith, l.inv.3, P.1.edges))
-          on (ap (λ x. flag a.rem.now e && ltb x a.q) l.inv.1)
+          l.r l.f (among l.turned l.n) _ P.0 t lt (omega (arith, l.invariant.3, P.1.edges))
+          on (ap (λ x. flag a.rem.now e && ltb x a.q) l.invariant.1)
           (λ u. subst (λ x. among (set l.turned l.n (at a.other.now e)) (l.n + x) u ≡ among l.turned l.n u ||
           (b && eqb (at a.other.now e) u))
           (sym (byte_bit b)) (among_put l.turned l.n (at a.other.now e) u b room))
-          l.inv.2,
-      simp length-set l.inv.3,
-      simp length-set l.inv.4,
-      omega (arith, l.inv.5, byte_one b),
+          l.invariant.2,
+      simp length-set l.invariant.3,
+      simp length-set l.invariant.4,
+      omega (arith, l.invariant.5, byte_one b),
       subst (λ x. Low (l.n + x) (set l.turned l.n (at a.other.now e)) node_limit) (sym (byte_bit b))
-          (low_put l.turned l.n (at a.other.now e) b room (P.2 e lt) l.inv.6),
+          (low_put l.turned l.n (at a.other.now e) b room (P.2 e lt) l.invariant.6),
     )
 
 pub loop-r-preserved : goal.loop-r-preserved

@@ -1,5 +1,5 @@
 -- The nodes passed are painted.
-use Rattle.std.proofs.Common.{◌≡◌, subst, ◌∙◌, false, ℕ, ◌-◌, zero-le, arith}
+use Rattle.std.proofs.Common.{◌≡◌, subst, ◌∙◌, false, ℕ, zero-le, arith}
 use lib.ListN.{length-replicate}
 use Rattle.model.specs.Limits.{node_limit, entry_limit, empty_rank}
 use Rattle.arrays.specs.Passes.{all_blank}

@@ -1,7 +1,6 @@
 -- None of the ranks passed, from the last on, holds an edge of N(s).
-use Rattle.std.proofs.Common.{refl, sym, ◌∙◌, Bool, ◌&&◌, ◌||◌, List, ℕ, ◌-◌, zero-le, arith}
+use Rattle.std.proofs.Common.{refl, sym, ◌∙◌, ◌-◌, zero-le, arith}
 use Rattle.lists.specs.Search.{low, low_miss}
-use Rattle.arrays.specs.ArrayInstance.{at, flag}
 use Rattle.reduction_cells.specs.Cells.{in_worst, worst_hit, worst_none, spread_low}
 use Rattle.reduction_cells.proofs.worst.Invariants.{in_n}
 use Rattle.reduction_cells.proofs.worst.Goals as goal
