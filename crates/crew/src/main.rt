@@ -1,9 +1,13 @@
 // The program: reads a roster of at most 4,263 bytes from standard input and prints the finder's answer. Where a read fails it prints nothing to
-// standard output and says so on standard error; where a write fails, or takes only a part of the text, it says that too.
+// standard output and says so on standard error; where a write fails, or takes only a part of the text, it says that too. An error that `main` returns
+// is one of standard error itself.
+#![tactic(auto)]
+
 ghost use Rattle.std.specs.Prelude.{◌≤◌, length};
 
-use libc::{STDERR_FILENO, STDIN_FILENO, STDOUT_FILENO};
 use limits::TEXT_SIZE;
+use std::io;
+use std::io::{Print, Read};
 
 // How many bytes were read, and whether every read was in order.
 #[derive(Drop)]
@@ -13,23 +17,25 @@ struct Input {
 }
 
 // Reads until the buffer is full or the input ends. The operating system may hand the input over in pieces.
-fn read_input(buf: &mut [u8]) -> Input
+fn read_input<R: Read>(from: &mut R, buf: &mut [u8]) -> Input
     ensures { result.read ≤ length buf.new }
 {
     let mut done: usize = 0;
     while done < buf.len() {
-        let got = libc::read(STDIN_FILENO, &mut buf[done..]);
-        if got < 0 {
-            return Input {
-                read: done,
-                fine: false,
-            };
+        match from.read(&mut buf[done..]) {
+            Ok(n) => {
+                if n == 0 {
+                    break;
+                }
+                done += n;
+            }
+            Err(_) => {
+                return Input {
+                    read: done,
+                    fine: false,
+                };
+            }
         }
-        let n = io::count(got, &buf[done..]);
-        if n == 0 {
-            break;
-        }
-        done += n;
     }
     Input {
         read: done,
@@ -38,22 +44,23 @@ fn read_input(buf: &mut [u8]) -> Input
 }
 
 // The answer to what was read.
-fn print_answer(input: &[u8]) {
+fn print_answer(rt: HostRuntime, input: &[u8]) -> io::Result<()> {
     let mut out = [0u8; TEXT_SIZE];
     let k = program::answer(input, &mut out);
-    let written = io::write_all(STDOUT_FILENO, &out[..k]);
-    if !written {
-        io::write_all(STDERR_FILENO, b"crew: the answer cannot be written\n");
+    let written = rt.stdout().write_all(&out[..k]);
+    if written.is_err() {
+        rt.stderr().write_all(b"crew: the answer cannot be written\n")?;
     }
+    Ok(())
 }
 
-fn main() {
+fn main(rt: HostRuntime) -> io::Result<()> {
     let mut input = program::input_buffer();
-    let r = read_input(&mut input);
+    let mut from = rt.stdin();
+    let r = read_input(&mut from, &mut input);
     if !r.fine {
-        io::write_all(STDERR_FILENO, b"crew: the roster cannot be read\n");
-        return;
+        return rt.stderr().write_all(b"crew: the roster cannot be read\n");
     }
     let n = r.read;
-    print_answer(&input[..n]);
+    print_answer(rt, &input[..n])
 }

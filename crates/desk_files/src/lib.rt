@@ -53,7 +53,7 @@ pub fn copied(array: &[u8], len: usize, out: &mut [u8]) -> usize
     ensures { (result ≡ length (take len array.now)) × (out.new ≡ onto (take len array.now) out.old) }
 {
     let held = front(array, len);
-    bytes::copy(held, out)
+    byte_slices::copy(held, out)
 }
 
 // how long a plan's bytes are, by the count byte in front of its pairs

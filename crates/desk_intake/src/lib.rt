@@ -12,7 +12,7 @@ pub fn with_roster(files: Files, file: &[u8]) -> Files
 {
     let mut next = files;
     let mut roster = files.roster;
-    next.roster_len = bytes::copy(file, &mut roster);
+    next.roster_len = byte_slices::copy(file, &mut roster);
     next.roster = roster;
     next.plan_len = 0;
     next.proposal_len = 0;
@@ -26,7 +26,7 @@ pub fn with_plan(files: Files, file: &[u8]) -> Files
 {
     let mut next = files;
     let mut plan = files.plan;
-    next.plan_len = bytes::copy(file, &mut plan);
+    next.plan_len = byte_slices::copy(file, &mut plan);
     next.plan = plan;
     next.proposal_len = 0;
     next
@@ -39,7 +39,7 @@ pub fn with_proposal(files: Files, file: &[u8]) -> Files
 {
     let mut next = files;
     let mut proposal = files.proposal;
-    next.proposal_len = bytes::copy(file, &mut proposal);
+    next.proposal_len = byte_slices::copy(file, &mut proposal);
     next.proposal = proposal;
     next
 }

@@ -90,7 +90,7 @@ pub(crate) fn closed(files: Files, next: Files) -> Files
     let a = desk_files::front(&old, files.roster_len);
     let b = desk_files::front(&new, next.roster_len);
     let mut r = next;
-    if check::same(a, b) {
+    if byte_slices::same(a, b) {
         return r;
     }
     r.proposal_len = 0;

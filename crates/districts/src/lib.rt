@@ -22,7 +22,7 @@ pub(crate) fn both_read(first: &[u8], second: &[u8], out: &mut [u8]) -> Written
     }
     let n = c.len;
     let made = c.roster;
-    let k = bytes::copy(&made[..n], out);
+    let k = byte_slices::copy(&made[..n], out);
     Written::Wrote(k)
 }
 

@@ -93,7 +93,7 @@ pub fn answered(
     let v = choice_vote(g, c, p, pn, pe, q, qn, qe);
     let ranks = c.ranks;
     let n = 2 * g.m;
-    let k = bytes::copy(&ranks[..n], out);
+    let k = byte_slices::copy(&ranks[..n], out);
     LeastVote::Vote(v, k)
 }
 

@@ -55,7 +55,7 @@ pub(crate) fn put_behind(out: &mut [u8], n: usize, part: &[u8])
     ensures out_after { take (n + length part.now) out.new ≡ take n out.old ++ part.now }
     ensures out_len_unchanged { length out.new ≡ length out.old }
 {
-    bytes::copy(part, &mut out[n..]);
+    byte_slices::copy(part, &mut out[n..]);
 }
 
 // some bytes behind the first n, one by one as long as there is room

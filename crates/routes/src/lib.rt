@@ -74,8 +74,8 @@ pub(crate) fn written(file: &[u8], k: usize, made: &[u8], n: usize, out: &mut [u
 {
     let front = roster_positions::part(file, 0, k);
     let roster = roster_positions::part(made, 0, n);
-    let a = bytes::copy(front, &mut *out);
-    let b = bytes::copy(roster, &mut out[a..]);
+    let a = byte_slices::copy(front, &mut *out);
+    let b = byte_slices::copy(roster, &mut out[a..]);
     a + b
 }
 

@@ -23,7 +23,7 @@ pub(crate) fn settled(file: &[u8], shifts: bool, out: &mut [u8]) -> Written
         return Written::Refused(19, answers::group_of(19));
     }
     let n = t.len;
-    let k = bytes::copy(&made[..n], out);
+    let k = byte_slices::copy(&made[..n], out);
     Written::Wrote(k)
 }
 
