@@ -1,6 +1,8 @@
 // The instance of a roster as plain arrays, read from the bytes of an accepted roster file. An edge's number is its place among the
 // roster's pairs, ascending by surveyor, stand, shift; surveyors and stands are counted from 0, shifts from 1. Behind the edges and the
 // nodes the arrays hold 0 and false. Bytes that are no roster give arrays too, about which only the ranges are promised.
+#![tactic(auto)]
+
 ghost use Rattle.std.specs.Prelude.{◌≡◌, ◌+◌, ◌*◌, ◌≤◌, min, cond, get_or, eqb};
 ghost use Rattle.model.specs.Limits.{entry_limit};
 ghost use Rattle.roster_positions.specs.Tables.{table_size};

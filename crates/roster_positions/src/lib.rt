@@ -1,6 +1,8 @@
 // Where each entry stands in its list: tables of positions, one row of 96 numbers for each list of a roster file, three of them for each
 // number that an entry may have, one a shift. Lists are read as parts of the file. Nothing here checks a roster: on bytes that are none, the
 // tables hold what these functions say and no more.
+#![tactic(auto)]
+
 ghost use Rattle.std.specs.Prelude.{◌≡◌, ◌+◌, ◌-◌, ◌*◌, ◌≤◌, min, length, take, drop, get_or};
 ghost use Rattle.model.specs.Limits.{node_limit};
 ghost use Rattle.roster_positions.specs.Tables.{row_width, table_size, entries_in, stamped, lists_stamped, lists_end, strict_stamped, next_ranks};

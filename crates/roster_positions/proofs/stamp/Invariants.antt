@@ -1,4 +1,4 @@
-use Rattle.std.proofs.Common.{◌≡◌, ◌+◌, ◌-◌, ◌*◌, ◌≤◌, length, drop}
+use Rattle.std.proofs.Common.{◌≡◌, ◌+◌, ◌*◌, ◌≤◌, length, drop}
 use Rattle.model.specs.Limits.{entry_width}
 use Rattle.roster_positions.specs.Tables.{entries_in, stamped}
 use Rattle.roster_positions.proofs.stamp.Given as goal

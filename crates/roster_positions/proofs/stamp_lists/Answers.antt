@@ -1,5 +1,5 @@
 -- `roster_positions::stamp_lists` meets its contract: the lists that are left take the table to what all of them do. Assumes nothing.
-use Rattle.std.proofs.Common.{sym, ap, ◌∙◌, ◌-◌, ◌*◌, zero-le, arith}
+use Rattle.std.proofs.Common.{sym, ap, ◌∙◌, ◌*◌, zero-le, arith}
 use Rattle.model.specs.Limits.{entry_width}
 use Rattle.roster_positions.specs.Tables.{lists_stamped, lists_end}
 use Rattle.roster_positions.proofs.Stamping.{end_turn, end_done, lists_turn, lists_done, left_all, short}

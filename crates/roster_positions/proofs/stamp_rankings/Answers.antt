@@ -1,5 +1,5 @@
 -- `roster_positions::stamp_rankings` meets its contract: the lists that are left take both tables to what all of them do. Assumes nothing.
-use Rattle.std.proofs.Common.{sym, ap, ◌∙◌, ◌-◌, ◌*◌, zero-le, arith}
+use Rattle.std.proofs.Common.{sym, ap, ◌∙◌, ◌*◌, zero-le, arith}
 use Rattle.model.specs.Limits.{entry_width}
 use Rattle.roster_positions.specs.Tables.{strict_stamped, next_ranks}
 use Rattle.roster_positions.proofs.Stamping.{strict_turn, strict_done, next_turn, next_done, left_all, short}
