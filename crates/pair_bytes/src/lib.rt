@@ -1,4 +1,6 @@
 // The bytes of a pair, in plan files and in lists of pairs: the one crate that knows how wide a pair is and what its bytes say.
+#![tactic(auto)]
+
 ghost use Rattle.std.specs.Prelude.{◌≡◌, ◌+◌, ◌≤◌, ◌<◌, length};
 ghost use Rattle.model.specs.Limits.{node_limit, pair_width};
 ghost use Rattle.pair_bytes.specs.PairAt.{with_pair, pair_from, put_by, width_of};

@@ -1,5 +1,7 @@
 // From pairs and flags to edges: the edge that a pair of a plan file names, the refusal that it meets, 10, 11 or 12, given the places that the pairs before
 // it take, and the edges of a plan listed.
+#![tactic(auto)]
+
 ghost use Rattle.std.specs.Prelude.{◌≡◌, ◌≤◌, length, leb};
 ghost use Rattle.lists.specs.Search.{low};
 ghost use Rattle.model.specs.Limits.{entry_limit, plan_limit, node_limit};

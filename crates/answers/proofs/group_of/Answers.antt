@@ -60,29 +60,27 @@ is_later n lo other =
     )
 
 pub returns-in-3-to-8 : goal.returns-in-3-to-8
-returns-in-3-to-8 c = is_content c.args.number (omega arith) c.if-number-lt9.true
+returns-in-3-to-8 c = is_content c.args.number (omega arith) (omega arith)
 
 pub returns-in-10-to-12 : goal.returns-in-10-to-12
-returns-in-10-to-12 c = is_plan_law c.args.number
-    (omega (arith, c.in_default-1.rest.0)) c.if-number-lt13.true
+returns-in-10-to-12 c = is_plan_law c.args.number (omega arith) (omega arith)
 
 pub returns-in_default : goal.returns-in_default
-returns-in_default c = is_none c.args.number c.if-number-lt1.true
+returns-in_default c = is_none c.args.number (omega arith)
 
 pub returns-in_default-2 : goal.returns-in_default-2
-returns-in_default-2 c =
-    is_later c.args.number c.if-number-lt16.false c.in_default-1.rest.1
+returns-in_default-2 c = is_later c.args.number (omega arith) (λ (e : c.args.number ≡ 20). omega arith)
 
 pub returns-in-13-to-15 : goal.returns-in-13-to-15
 unfolding group_of
-returns-in-13-to-15 c = sym (ap group_of c.match.keys2)
+returns-in-13-to-15 c = let e : c.args.number ≡ 20 = omega arith in sym (ap group_of e)
 
 pub returns-in-13-to-15-2 : goal.returns-in-13-to-15-2
-returns-in-13-to-15-2 c = is_desk c.args.number (omega arith) c.if-number-lt16.true
+returns-in-13-to-15-2 c = is_desk c.args.number (omega arith) (omega arith)
 
 pub returns-in-1 : goal.returns-in-1
 unfolding group_of
-returns-in-1 c = sym (ap group_of c.match.keys1)
+returns-in-1 c = let e : c.args.number ≡ 9 = omega arith in sym (ap group_of e)
 
 pub returns-in-1-2 : goal.returns-in-1-2
-returns-in-1-2 c = is_form c.args.number (omega arith) c.if-number-lt3.true
+returns-in-1-2 c = is_form c.args.number (omega arith) (omega arith)

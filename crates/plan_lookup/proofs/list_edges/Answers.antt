@@ -1,5 +1,5 @@
 -- plan_lookup::list_edges meets its contract: the edges chosen below e stand in the array's front.
-use Rattle.std.proofs.Common.{◌≡◌, refl, sym, ◌∙◌, Bool, true, false, not, ℕ, ◌+◌, ◌-◌, ◌≤◌, zero-le, arith, length-set}
+use Rattle.std.proofs.Common.{◌≡◌, refl, ◌∙◌, ℕ, ◌+◌, ◌≤◌, zero-le, arith, length-set}
 use lib.ListN.{length-replicate}
 use Rattle.model.specs.Limits.{plan_limit}
 use Rattle.arrays.specs.ArrayInstance.{flag}
@@ -8,19 +8,11 @@ use Rattle.plan_lookup.specs.PlanEdges.{room_left, all_listed}
 use Rattle.plan_lookup.proofs.list_edges.Goals.{Else-not-chosen-e}
 use Rattle.plan_lookup.proofs.list_edges.Goals as goal
 
-not_yes : (b : Bool) → not b ≡ true → b ≡ false
-not_yes true q = sym q
-not_yes false q = refl
-
-not_no : (b : Bool) → not b ≡ false → b ≡ true
-not_no true q = refl
-not_no false q = sym q
-
 -- the edge is chosen, and there is room for it
 room : (c : Else-not-chosen-e) → c.loop-e.n + 1 ≤ plan_limit
 room c =
     let a = c.args in
-    room_left a.chosen.now c.loop-e.edges c.loop-e.n c.loop-e.e a.m c.loop-e.invariant.2 (not_no _ c.if-not-chosen-e.false)
+    room_left a.chosen.now c.loop-e.edges c.loop-e.n c.loop-e.e a.m c.loop-e.invariant.2 c.if-not-chosen-e.false
     c.loop-e-test.true c.requires.1
 
 pub loop-e-init : goal.loop-e-init
@@ -29,7 +21,7 @@ loop-e-init c = (zero-le, length-replicate {A = ℕ} plan_limit 0, (refl, refl))
 pub loop-e-preserved-then-not-chosen-e : goal.loop-e-preserved-then-not-chosen-e
 loop-e-preserved-then-not-chosen-e c =
     let a = c.args in
-    (omega arith, c.loop-e.invariant.1, kept_no (flag a.chosen.now) c.loop-e.edges c.loop-e.n c.loop-e.e (not_yes _ c.if-not-chosen-e.true) c.loop-e.invariant.2)
+    (omega arith, c.loop-e.invariant.1, kept_no (flag a.chosen.now) c.loop-e.edges c.loop-e.n c.loop-e.e c.if-not-chosen-e.true c.loop-e.invariant.2)
 
 pub offset_bounds-edges-n : goal.offset_bounds-edges-n
 offset_bounds-edges-n c = omega (arith, room (goal.at.offset_bounds-edges-n c).Else-not-chosen-e)
@@ -46,7 +38,7 @@ loop-e-preserved c =
       omega arith,
       length-set c.loop-e.edges c.loop-e.n c.loop-e.e
           ∙ c.loop-e.invariant.1,
-      kept_yes (flag a.chosen.now) c.loop-e.edges c.loop-e.n c.loop-e.e (not_no _ c.if-not-chosen-e.false)
+      kept_yes (flag a.chosen.now) c.loop-e.edges c.loop-e.n c.loop-e.e c.if-not-chosen-e.false
           (omega (arith, room (goal.at.loop-e-preserved c).Else-not-chosen-e, c.loop-e.invariant.1)) c.loop-e.invariant.2,
     )
 

@@ -1,5 +1,5 @@
 -- `plan_lookup::scan` meets its contract: no edge passed has these ends and this shift.
-use Rattle.std.proofs.Common.{◌-◌, arith}
+use Rattle.std.proofs.Common.{arith}
 use Rattle.lists.specs.Test.{true_t}
 use Rattle.plan_lookup.specs.PairEdge.{Ends, none_next}
 use Rattle.plan_lookup.proofs.scan.Goals as goal
