@@ -1,5 +1,7 @@
 // The edges of each node side by side in its side's table, ascending, and walks along them: to the lowest edge that passes a test, or counting those
 // that do. A walk goes over the edges of one node only, and no place waits for the one before it, as it would along links.
+#![tactic(auto)]
+
 ghost use Rattle.std.specs.Prelude.{◌≡◌, ◌&&◌, ◌||◌, not, List, ℕ, ◌+◌, ◌≤◌, ◌<◌, length, leb};
 ghost use Rattle.lists.specs.Search.{low};
 ghost use Rattle.model.specs.Limits.{entry_limit, node_limit};
