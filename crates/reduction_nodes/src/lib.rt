@@ -1,6 +1,8 @@
 // By node, the lowest edge that each rule names there, m if it names none: rules 1, 4, 5, 6 and one half of rule 2 by surveyor, rules 3, 7 and the
 // other half by stand; and which stands are loose. Each is read from the node's own edges; after a step only the nodes that due a change are read
 // anew. Rules 1 and 2 are asked at every step, the later ones only where both are silent, so each group has its own functions.
+#![tactic(auto)]
+
 ghost use Rattle.std.specs.Prelude.{◌≡◌, ◌&&◌, ◌||◌, cond, List, ℕ, ◌≤◌, ◌<◌, length, leb, ltb};
 ghost use Rattle.lists.specs.Search.{low};
 ghost use Rattle.model.specs.Limits.{node_limit, empty_rank};
