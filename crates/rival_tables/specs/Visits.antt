@@ -3,7 +3,7 @@ use Rattle.std.specs.Prelude.{ℕ, ◌+◌, ◌≤◌, ◌<◌, ◌≡◌, refl,
 use Rattle.std.proofs.Common.{zero-le, arith}
 use Rattle.model.specs.Limits.{node_limit}
 use Rattle.arrays.specs.ArrayInstance.{at}
-use Rattle.arrays.specs.Linked.{Linked, First, first_head, first_next, past_others}
+use Rattle.arrays.specs.Linked.{Linked, first_head, first_next, past_others}
 
 -- f is an edge of v or behind all edges, and P holds of it
 pub record Visit (m : ℕ) (end : List ℕ) (v : ℕ) (P : ℕ → Type 0) (f : ℕ) : Type 0 where

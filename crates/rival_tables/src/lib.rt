@@ -1,5 +1,7 @@
 // Tables of the search for a rival and what they are made of: room at the nodes, an offer taken or not, an array read through a list of edges, a row put
 // into a table of 64 columns, and the table of the ends.
+#![tactic(auto)]
+
 ghost use Rattle.std.specs.Prelude.{◌≡◌, ◌≤◌, ◌<◌, min, length, not, ◌&&◌, false, eqb, ltb};
 ghost use Rattle.model.specs.Limits.{entry_limit, plan_limit, node_limit};
 ghost use Rattle.arrays.specs.ArrayInstance.{at, flag};

@@ -1,5 +1,5 @@
 -- No edge below f has room at both ends.
-use Rattle.std.proofs.Common.{◌≡◌, refl, sym, ap, ◌∙◌, not, ◌&&◌, ◌-◌, zero-le, arith}
+use Rattle.std.proofs.Common.{◌≡◌, refl, sym, ap, ◌∙◌, not, ◌&&◌, zero-le, arith}
 use Rattle.arrays.specs.ArrayInstance.{at, flag}
 use Rattle.lists.specs.Search.{low, low_hit, low_miss}
 use Rattle.rival_tables.proofs.direct.Goals as goal

@@ -1,5 +1,5 @@
 -- No node below v has room.
-use Rattle.std.proofs.Common.{◌≡◌, refl, sym, ap, ◌∙◌, ◌-◌, zero-le, arith}
+use Rattle.std.proofs.Common.{◌≡◌, refl, sym, ap, ◌∙◌, zero-le, arith}
 use Rattle.arrays.specs.ArrayInstance.{flag}
 use Rattle.lists.specs.Search.{low, low_hit, low_miss}
 use Rattle.rival_tables.proofs.first_room.Goals as goal

@@ -1,5 +1,5 @@
 -- The entries below i are written.
-use Rattle.std.proofs.Common.{◌≡◌, refl, subst, ◌-◌, zero-le, arith}
+use Rattle.std.proofs.Common.{◌≡◌, refl, subst, zero-le, arith}
 use Rattle.arrays.specs.ArrayInstance.{at}
 use Rattle.arrays.specs.Passes.{fill_none, fill_next, Shows}
 use Rattle.rival_tables.proofs.gathered.Goals as goal

@@ -1,5 +1,5 @@
 -- Of the edges before j, c lie at the node.
-use Rattle.std.proofs.Common.{◌≡◌, refl, ap, ◌∙◌, Bool, ℕ, suc, ◌+◌, ◌-◌, ◌≤◌, zero-le, arith, eqb}
+use Rattle.std.proofs.Common.{◌≡◌, refl, ap, ◌∙◌, Bool, ℕ, suc, ◌+◌, zero-le, arith, eqb}
 use Rattle.arrays.specs.ArrayInstance.{at}
 use Rattle.arrays.specs.Tally.{byte_bit, byte_one}
 use Rattle.lists.specs.Sum.{count, count_≤}

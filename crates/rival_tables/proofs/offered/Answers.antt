@@ -1,5 +1,5 @@
 -- An offer, taken or not.
-use Rattle.std.proofs.Common.{sym, ap, ◌∙◌, ◌-◌}
+use Rattle.std.proofs.Common.{sym, ap, ◌∙◌}
 use Rattle.rival_tables.specs.Cheapest.{offer}
 use Rattle.rival_tables.proofs.offered.Goals as goal
 

@@ -1,5 +1,5 @@
 -- The first k columns of the row are written.
-use Rattle.std.proofs.Common.{◌-◌, zero-le, arith, length-set}
+use Rattle.std.proofs.Common.{zero-le, arith, length-set}
 use Rattle.rival_tables.specs.Filled.{put_start, put_next, put_end}
 use Rattle.rival_tables.proofs.put_row.Goals as goal
 

@@ -1,5 +1,5 @@
 -- The nodes below v are written.
-use Rattle.std.proofs.Common.{ap, false, ◌-◌, zero-le, arith, ltb}
+use Rattle.std.proofs.Common.{ap, false, zero-le, arith, ltb}
 use Rattle.arrays.specs.ArrayInstance.{at}
 use Rattle.arrays.specs.Passes.{fill_none, fill_next, fill_at}
 use Rattle.rival_tables.proofs.rooms.Goals as goal

@@ -1,5 +1,5 @@
 -- The columns below j are written.
-use Rattle.std.proofs.Common.{refl, ap, ◌∙◌, ◌+◌, ◌-◌, min, zero-le, arith, not-suc-le-zero, length-set}
+use Rattle.std.proofs.Common.{refl, ap, ◌∙◌, ◌+◌, min, zero-le, arith, not-suc-le-zero, length-set}
 use Rattle.arrays.specs.ArrayInstance.{at}
 use Rattle.arrays.specs.Filled.{made_set}
 use Rattle.rival_tables.specs.Terminals.{terminal_at}

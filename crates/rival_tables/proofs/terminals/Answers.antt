@@ -1,5 +1,5 @@
 -- The rows below i are written.
-use Rattle.std.proofs.Common.{ℕ, ◌-◌, zero-le, arith, not-suc-le-zero}
+use Rattle.std.proofs.Common.{ℕ, zero-le, arith, not-suc-le-zero}
 use lib.ListN.{length-replicate}
 use Rattle.rival_tables.specs.Terminals.{terminal_at, part_next}
 use Rattle.rival_tables.proofs.terminals.Goals as goal
@@ -15,7 +15,7 @@ loop-i-preserved c =
     let a = c.args in (
       omega arith,
       c.put_row.ensures.0,
-      part_next c.loop-i.o c.terminal_row-row.result c.put_row.new.0
+      part_next c.loop-i.o c.terminal_row-row.result c.put_row.new.table
           (terminal_at a.starts.now a.stops.now a.gs.now a.gt.now) a.n c.loop-i.i (omega arith) c.loop-i.invariant.2
           c.terminal_row-row.ensures c.put_row.ensures.1,
     )
