@@ -1,5 +1,7 @@
 // The state of a run of the reduction: what remains, what is fixed, and by node the cut quotas and the numbers of remaining edges, which a step
 // renews at the two ends of its edge; and the trace of a run, an edge and a rule for each step. The arrays are lent to a step.
+#![tactic(auto)]
+
 ghost use Rattle.std.specs.Prelude.{◌≡◌, ℕ, ◌-◌, ◌≤◌, ◌<◌, min, ltb};
 ghost use mir.Val.{bool_byte};
 ghost use Rattle.model.specs.Reduction as reduction;
