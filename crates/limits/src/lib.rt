@@ -1,4 +1,5 @@
 // The limits and sizes of document 01, each under a name of its own, as the model's Limits.antt has them.
+#![tactic(auto)]
 
 // "a count byte 0 to 32"
 pub const NODE_LIMIT: u8 = 32;

@@ -1,1 +1,3 @@
+#![tactic(auto)]
+
 // Base lemmas: tests, sums, counting, search, lists without repeats. No code.

@@ -1,5 +1,5 @@
 -- A roster as it stands in a file: section "Roster bytes" of document 01, with the shifts of W-204. Its numbers start at 1, as in the file.
-use Rattle.std.specs.Prelude.{ℕ, suc, ◌+◌, Bool, true, false, not, ◌&&◌, ◌||◌, List, [], ◌∷◌, ◌++◌, length, get_or, eqb, leb, ltb}
+use Rattle.std.specs.Prelude.{ℕ, suc, Bool, true, false, not, ◌&&◌, ◌||◌, List, [], ◌∷◌, ◌++◌, length, get_or, eqb, leb, ltb}
 use Rattle.lists.specs.Sum.{sum, up_to, range}
 use Rattle.lists.specs.Keep.{all?, any?}
 use Rattle.model.specs.Limits.{node_limit, quota_limit, quota_sum_limit, entry_limit, list_limit, shift_limit}

@@ -1,1 +1,3 @@
+#![tactic(auto)]
+
 // Surveyors who join and leave (request W-202): definitions and their cases.

@@ -6,7 +6,6 @@ use Rattle.model.specs.Refusal.{group_of, desk}
 use Rattle.model.specs.Roster.{listed}
 use Rattle.model.specs.Edges.{edges_of, instance_of}
 use Rattle.model.specs.PlanFile.{plan_bytes_by}
-use Rattle.model_desk.specs.Desk as D
 use Rattle.model_desk.specs.Desk.{Choices, Held, nothing, roster, proposed, holds, write_proposal_to, refused, said, wrote, holding, bare, a_roster, a_plan}
 use Rattle.model_desk.specs.Desk.{a_proposal, state_refusal, answer_of, lent_after, desk_after}
 use Rattle.model_desk.specs.DeskCases.{whole, sample, one, Each, turns, HeldThen, Reply, replies, Answered, Lent, lends, LentThen}

@@ -1,1 +1,3 @@
+#![tactic(auto)]
+
 // The laws of an instance. No code.
