@@ -1,5 +1,5 @@
 -- The least of the numbers of a side: where they are the lowest edges that pass a test at each node, it is the lowest edge of all that passes.
-use Rattle.std.specs.Prelude.{ℕ, ◌+◌, ◌≤◌, ◌<◌, min, ◌≡◌, refl, Bool, not, ◌&&◌, ◌||◌, List, T, eqb}
+use Rattle.std.specs.Prelude.{ℕ, ◌+◌, ◌≤◌, ◌<◌, min, ◌≡◌, refl, Bool, ◌&&◌, ◌||◌, List, T, eqb}
 use Rattle.std.proofs.Common.{arith, eq-or-lt_of_le, sym, ◌∙◌, subst, ⊎_elim, T_not}
 use Rattle.std.proofs.Math.Decide.{dec_lt, dec_le}
 use Rattle.std.proofs.Math.Logic.{by_cases}

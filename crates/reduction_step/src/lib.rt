@@ -1,5 +1,7 @@
 // One step of the reduction: the first rule that names an edge, and the lowest edge that it names, from the numbers of the nodes. Those of the later
 // rules are made anew, where they are old, only if rules 1 and 2 are silent.
+#![tactic(auto)]
+
 ghost use Rattle.std.specs.Prelude.{◌≡◌, cond, true, min, replicate};
 ghost use Rattle.model.specs.Limits.{node_limit};
 ghost use Rattle.arrays.specs.Passes.{Low};

@@ -1,0 +1,39 @@
+-- The old numbers of stands, then those of surveyors.
+use Rattle.std.proofs.Common.{ap, ◌∙◌, true, false, cond, replicate, ltb}
+use lib.ListN.{length-replicate}
+use Rattle.model.specs.Limits.{node_limit}
+use Rattle.reduction_nodes.specs.Kept.{edges, node_lists, looks, later, later_fresh}
+use Rattle.reduction_step.proofs.renewed.Goals as goal
+
+pub stands_renewed-requires : goal.stands_renewed-requires
+stands_renewed-requires c = let p = c.requires in record {
+  readable = p.low.2;
+  rows = (p.sized_l.stands, p.sized_l.size_l);
+}
+
+pub surveyors_renewed-requires : goal.surveyors_renewed-requires
+surveyors_renewed-requires c = let p = c.requires in record {
+  readable = (p.low.1, p.low.0);
+  rows = p.sized_l.surveyors;
+}
+
+pub returns : goal.returns
+returns c =
+    let a = c.args in
+    let L = node_lists a.tabs.now a.tabt.now in
+    let X = looks a.rem.now a.fs.now a.ft.now a.qs.now a.qt.now in
+    let x = later a.lates.now a.latet.now a.loose.now a.olds.now a.oldt.now in
+    let T = c.stands_renewed.ensures in
+    let S = c.surveyors_renewed.ensures in
+    let q = c.touched-due.ensures
+    ∙ ap (λ k. cond (ltb k node_limit) (replicate node_limit true) a.olds.now) c.unlike-at.ensures in record {
+      sized_l_2 = record {
+        surveyors = S.rows_2;
+        stands = T.rows_2.0;
+        size_l = T.rows_2.1;
+        size_s = length-replicate node_limit false;
+        size_t = length-replicate node_limit false;
+      };
+      renews = λ sv rs rt D N. later_fresh (edges a.m sv a.st.now rs rt) L D X x N _ (T.by_index a.st.now D.listed_t) c.touched-due.result q _
+          (S.by_index sv D.listed_s);
+    }
