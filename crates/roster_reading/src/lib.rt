@@ -1,4 +1,6 @@
 // What the readers of a roster's sections hand on: the answer of one of them, and an entry of a list; and how long a list may be.
+#![tactic(auto)]
+
 ghost use Rattle.std.specs.Prelude.{◌≡◌};
 ghost use Rattle.roster_reading.specs.Layout.{layout_of};
 
@@ -12,7 +14,7 @@ pub enum Section {
 }
 
 // "Each list entry .. gains a shift byte, 1 to 3, after its number."
-#[derive(Drop)]
+#[derive(Clone, Copy)]
 pub struct Entry {
     pub number: u8,
     pub shift: u8,
