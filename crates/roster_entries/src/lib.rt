@@ -1,5 +1,7 @@
 // One entry of a list: how it stands in the file, with its shift or as a number alone (`shifts`), the place of its mark, and its refusal. This
 // crate is a part of the roster reader (crate roster), whose public call needs none of what these functions require.
+#![tactic(auto)]
+
 ghost use Rattle.std.specs.Prelude.{◌≡◌, ◌+◌, ◌*◌, ◌≤◌, length, drop};
 ghost use Rattle.model.specs.Limits.{shift_limit};
 ghost use Rattle.model.specs.Roster.{before};
