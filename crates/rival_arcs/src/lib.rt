@@ -1,6 +1,8 @@
 // The table of the arcs between the edges of a plan: for two places in the plan's list, the least price of an edge outside the plan that lies at the
 // stand of the first and at the surveyor of the second; 133 where there is none. A row is made by the links through the edges of its stand and, for
 // each of them, through the places of its surveyor.
+#![tactic(auto)]
+
 ghost use Rattle.std.specs.Prelude.{◌≡◌, List, ℕ, ◌+◌, ◌≤◌, ◌<◌, length, eqb};
 ghost use Rattle.model.specs.Limits.{entry_limit, node_limit, plan_limit};
 ghost use Rattle.theory_votes.specs.Score.{rate};

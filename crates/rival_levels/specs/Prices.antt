@@ -1,5 +1,5 @@
 -- The prices that the tables hold are those of the search: of the arcs, of the ends, and the room at the nodes.
-use Rattle.std.specs.Prelude.{ℕ, ◌+◌, ◌≤◌, ◌<◌, min, ◌≡◌, ◌⊎◌, Bool, ◌&&◌, List, map, T, ltb, leb}
+use Rattle.std.specs.Prelude.{ℕ, ◌+◌, ◌≤◌, ◌<◌, min, ◌≡◌, Bool, ◌&&◌, List, map, T, ltb, leb}
 use Rattle.std.proofs.Common.{zero-le, arith, ◌∙◌, subst, ⊎_elim}
 use Rattle.std.proofs.Math.Path.{refl, sym, ap}
 use Rattle.std.proofs.Math.Bool.{true, false, not}

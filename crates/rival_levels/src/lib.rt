@@ -1,4 +1,6 @@
 // The layers of the search for a rival, their tests, and the search level by level. A layer is a table of 64 columns, one row for each edge of the plan.
+#![tactic(auto)]
+
 ghost use Rattle.std.specs.Prelude.{◌≡◌, ℕ, ◌+◌, ◌*◌, ◌≤◌, ◌<◌, min, ltb, length};
 ghost use Rattle.lists.specs.Search.{low};
 ghost use Rattle.model.specs.Limits.{plan_limit};
