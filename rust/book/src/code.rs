@@ -5,14 +5,19 @@ use crate::lex::Kind;
 use crate::names::Library;
 use crate::rattle::{self, Function};
 use crate::source::{File, Sort};
+use std::cell::RefCell;
 use std::collections::{HashMap, HashSet};
 
 /// Words before a bracket that call nothing.
 const KEYWORDS: [&str; 11] = ["if", "else", "while", "loop", "for", "in", "match", "return", "let", "mut", "as"];
 /// Words of a body behind which the checker's language stands in braces.
 const STATED: [&str; 2] = ["invariant", "decreases"];
-/// Methods that are built into the language.
-const BUILT: [&str; 1] = ["len"];
+/// Methods of slices and results, which a reader knows from the language.
+const BUILT: [&str; 3] = ["len", "copy_from_slice", "is_err"];
+/// Variants that stand in every file.
+const VARIANTS: [&str; 4] = ["Some", "None", "Ok", "Err"];
+/// The kit's library whose methods are called by their names alone.
+const STD: &str = "std";
 /// First words of a path that stay in the crate.
 const HERE: [&str; 3] = ["super", "crate", "self"];
 
@@ -86,8 +91,8 @@ struct Resolver<'a> {
     /// functions by crate and name
     functions: HashMap<(&'a str, &'a str), Vec<usize>>,
     methods: HashMap<&'a str, Vec<usize>>,
-    /// `library::function` of the kit
-    kit: HashSet<String>,
+    /// the functions of the kit's libraries that were asked for, and the methods of its `std`
+    kit: RefCell<HashMap<String, HashSet<String>>>,
 }
 
 impl<'a> Resolver<'a> {
@@ -101,7 +106,7 @@ impl<'a> Resolver<'a> {
                 methods.entry(method).or_default().push(n);
             }
         }
-        Resolver { library, functions, methods, kit: kit_functions(library) }
+        Resolver { library, functions, methods, kit: RefCell::new(HashMap::new()) }
     }
 
     /// The calls of a body, each at its closing bracket; those that lead nowhere are told in `lost`.
@@ -137,7 +142,11 @@ impl<'a> Resolver<'a> {
         if BUILT.contains(&name) {
             return Found::Value;
         }
-        Found::own(self.methods.get(name).filter(|m| m.len() == 1).map(|m| m[0]))
+        match self.methods.get(name) {
+            Some(all) => Found::own((all.len() == 1).then(|| all[0])),
+            None if self.kit_has(STD, name) => Found::Call(Callee::Kit(format!("{STD}::{name}"))),
+            None => Found::Nothing,
+        }
     }
 
     /// `name`, `crate::name`, `file::name`, `Type::method`, `Type::Variant` and `crate::Type::Variant`.
@@ -145,6 +154,7 @@ impl<'a> Resolver<'a> {
         let own = self.library.crate_of(function.file).unwrap_or("");
         let inner = path.iter().position(|p| !HERE.contains(p)).unwrap_or(0);
         match path[inner..] {
+            [name] if VARIANTS.contains(&name) => Found::Value,
             [name] if inner > 0 => Found::own(self.in_crate(own, name, None)),
             [name] => Found::own(self.in_crate(own, name, Some(function.file)).or_else(|| self.used(function.file, own, name))),
             [of, name] if is_type(of) => match self.type_owner(function.file, own, of) {
@@ -153,12 +163,25 @@ impl<'a> Resolver<'a> {
             },
             [owner, name] => match self.file_of(own, owner) {
                 Some(file) => Found::own(self.in_crate(own, name, Some(file))),
-                None if self.kit.contains(&format!("{owner}::{name}")) => Found::Call(Callee::Kit(format!("{owner}::{name}"))),
-                None => Found::own(self.in_crate(owner, name, None)),
+                None => match self.in_crate(owner, name, None) {
+                    None if self.kit_has(owner, name) => Found::Call(Callee::Kit(format!("{owner}::{name}"))),
+                    own => Found::own(own),
+                },
             },
             [owner, of, name] => self.of_type(owner, of, name),
             _ => Found::Nothing,
         }
+    }
+
+    /// Whether one of the kit's libraries has a function of a name.
+    fn kit_has(&self, library: &str, name: &str) -> bool {
+        if let Some(known) = self.kit.borrow().get(library) {
+            return known.contains(name);
+        }
+        let all = kit_functions(self.library, library);
+        let has = all.contains(name);
+        self.kit.borrow_mut().insert(library.to_string(), all);
+        has
     }
 
     /// The one function of a name in a crate, or in a file of it.
@@ -210,17 +233,18 @@ fn is_type(name: &str) -> bool {
     name.starts_with(|c: char| c.is_uppercase())
 }
 
-/// The functions of the kit's libraries, as `library::function`.
-fn kit_functions(library: &Library) -> HashSet<String> {
-    let folder = library.kit.join("libs");
+/// The public functions of one of the kit's libraries; of `std` the methods too, of types and of traits.
+fn kit_functions(library: &Library, name: &str) -> HashSet<String> {
     let mut found = HashSet::new();
-    for place in files_below(&folder, "rt") {
-        let (Ok(inner), Ok(text)) = (place.strip_prefix(&folder), std::fs::read_to_string(&place)) else {
+    for place in files_below(&library.kit.join("rattle").join(name).join("src"), "rt") {
+        let Ok(text) = std::fs::read_to_string(&place) else {
             continue;
         };
-        let name = inner.iter().next().map(|n| n.to_string_lossy().into_owned()).unwrap_or_default();
         let (_, functions) = rattle::read("kit", place, text, 0, &mut Vec::new());
-        found.extend(functions.iter().filter(|f| f.public).map(|f| format!("{name}::{}", f.name)));
+        found.extend(functions.into_iter().filter(|f| f.public || name == STD).map(|f| match f.name.split_once("::") {
+            Some((_, method)) => method.to_string(),
+            None => f.name,
+        }));
     }
     found
 }

@@ -62,7 +62,7 @@ impl Book<'_> {
 
     /// The files of a crate's definitions and laws.
     fn crate_files(&self, name: &str) -> String {
-        let head = format!("Rattle·{name}.specs.");
+        let head = format!("Rattle.{name}.specs.");
         let files = self.library().files.iter().filter_map(|f| f.path.strip_prefix(&head));
         files.collect::<Vec<_>>().join(", ")
     }

@@ -252,7 +252,7 @@ impl Book<'_> {
     pub fn words_text(&self) -> String {
         let mut rows = Vec::new();
         for name in &self.words {
-            let short = if name.contains("_._") { name.as_str() } else { name.rsplit('.').next().unwrap_or(name) };
+            let short = if name.contains("◌.◌") { name.as_str() } else { name.rsplit('.').next().unwrap_or(name) };
             let says = self.lists.words.iter().find(|b| b.get("word") == short).map_or("", |b| b.get("says"));
             let id = anchor(&format!("word:{name}"));
             rows.push(vec![format!("<code id=\"{id}\">{}</code>", escaped(short)), escaped(name), marked(says)]);

@@ -160,8 +160,8 @@ mod tests {
 
     #[test]
     fn places_have_names_that_an_address_can_hold() {
-        assert_eq!(anchor("model/Vote.nodeVote"), "model/Vote.nodeVote");
-        assert_eq!(anchor("_%_"), "_~25_");
+        assert_eq!(anchor("model/Vote.node_vote"), "model/Vote.node_vote");
+        assert_eq!(anchor("◌%◌"), "~25cc~25~25cc");
     }
 
     #[test]

@@ -1,4 +1,4 @@
-//! Where the kit is, and the folders of its libraries.
+//! Where the kit is, and the files of its modules.
 
 use std::collections::HashMap;
 use std::path::{Path, PathBuf};
@@ -30,16 +30,23 @@ pub fn kit_folder() -> PathBuf {
     std::env::split_paths(&paths)
         .filter_map(|folder| folder.join("rt").canonicalize().ok())
         .filter_map(|rt| Some(rt.parent()?.parent()?.to_path_buf()))
-        .find(|kit| kit.join("logic").is_dir())
+        .find(|kit| kit.join("rattle/logic").is_dir())
         .unwrap_or_else(|| PathBuf::from("/opt/rattle"))
 }
 
-/// The folders of the kit's libraries, by name, from its project file.
+/// The folders of the kit's own libraries, by name, from the project file of its logic: the libraries that it mounts, each with its modules in `src` or
+/// where its own project file says.
 pub fn libraries(kit: &Path) -> HashMap<String, PathBuf> {
-    let told = std::fs::read_to_string(kit.join("logic/antt-project.json")).unwrap_or_default();
-    let value = |line: &str, key: &str| {
-        let from = line.find(&format!("\"{key}\""))?;
-        line[from..].split('"').nth(3).map(str::to_string)
+    let logic = kit.join("rattle/logic");
+    let told = std::fs::read_to_string(logic.join("antt-project.json")).unwrap_or_default();
+    let mounts = told.split_once("\"mounts\"").map_or("", |m| m.1);
+    let mounts = mounts.split_once('}').map_or("", |m| m.0);
+    let texts: Vec<&str> = mounts.split('"').skip(1).step_by(2).collect();
+    let folder = |place: &str| {
+        let folder = logic.join(place);
+        let own = std::fs::read_to_string(folder.join("antt-project.json")).unwrap_or_default();
+        let src = own.split_once("\"src\"").and_then(|s| s.1.split('"').nth(1)).unwrap_or("src").to_string();
+        folder.join(src)
     };
-    told.lines().filter_map(|line| Some((value(line, "name")?, kit.join("logic").join(value(line, "src")?)))).collect()
+    texts.chunks_exact(2).map(|pair| (pair[0].to_string(), folder(pair[1]))).collect()
 }

@@ -116,22 +116,25 @@ pub fn words(text: &str) -> Vec<Word> {
     found
 }
 
-/// The words of a file of code: names of letters, digits and `_`; what stands in the braces of a contract is read as the checker's language.
+/// The words of a file of code: names of letters, digits and `_`; what stands in the braces of a contract, which may follow the name of a clause, is read
+/// as the checker's language.
 pub fn code_words(text: &str) -> Vec<Word> {
     let mut place = Place { at: 0, line: 1, column: 0 };
     let mut found: Vec<Word> = Vec::new();
-    let mut contract = false;
+    let (mut contract, mut clause) = (false, false);
     place.pass(&text[..spaces(text)]);
     while place.at < text.len() {
         let rest = &text[place.at..];
         let length = if contract && rest.starts_with('{') {
             let inner = braces(rest);
             found.extend(words(&rest[..inner]).into_iter().map(|w| moved(w, &place)));
-            contract = false;
+            (contract, clause) = (false, false);
             inner
         } else {
             let (length, kind) = code_word_at(rest);
-            contract = CONTRACT.contains(&&rest[..length]);
+            let opens = CONTRACT.contains(&&rest[..length]);
+            clause = contract && !opens && !clause && kind == Kind::Name;
+            contract = opens || clause;
             found.push(place.word(length, kind, &found));
             length
         };
@@ -190,12 +193,12 @@ pub fn plain(name: &str) -> &str {
     name.strip_prefix('«').and_then(|n| n.strip_suffix('»')).unwrap_or(name)
 }
 
-/// The parts of an operator's name: `_≡_` has `≡`, `_≡⟨_⟩_` has two. A name without places for arguments has none.
+/// The parts of an operator's name: `◌≡◌` has `≡`, `◌≡⟨◌⟩◌` has two. A name without places for arguments has none.
 pub fn parts(name: &str) -> Vec<&str> {
-    if name.starts_with('«') || !name.contains('_') || name == "_" {
+    if name.starts_with('«') || !name.contains('◌') {
         return Vec::new();
     }
-    name.split('_').filter(|p| !p.is_empty()).collect()
+    name.split('◌').filter(|p| !p.is_empty()).collect()
 }
 
 #[cfg(test)]
@@ -208,9 +211,9 @@ mod tests {
 
     #[test]
     fn names_run_to_a_space_or_a_bracket() {
-        let read = told("n+n (x .rem) xs′ [] «max_len»");
+        let read = told("n+n (x.rem) xs' [] «max_len»");
         let names: Vec<&str> = read.iter().map(|r| r.0).collect();
-        assert_eq!(names, ["n+n", "(", "x", ".", "rem", ")", "xs′", "[]", "«max_len»"]);
+        assert_eq!(names, ["n+n", "(", "x", ".", "rem", ")", "xs'", "[]", "«max_len»"]);
     }
 
     #[test]
@@ -232,16 +235,17 @@ mod tests {
 
     #[test]
     fn code_and_its_contracts() {
-        let text = "pub fn f(x: u8) -> T\n    ensures { λ r. ⌜ r .a-b ≡ x ⌝ }\n{ g::h(x) }";
+        let text = "pub fn f(x: u8) -> T\n    ensures says { result.a-b ≡ x }\n{ g::h(x) }";
         let names: Vec<&str> = code_words(text).iter().map(|w| w.of(text)).collect();
-        assert!(names.contains(&"a-b") && names.contains(&"h"));
+        assert!(names.contains(&"a-b") && names.contains(&"h") && names.contains(&"says"));
         let last = code_words(text);
         assert_eq!(last.last().map(|w| (w.line, w.column)), Some((3, 10)));
     }
 
     #[test]
     fn operators_have_parts() {
-        assert_eq!(parts("_≡⟨_⟩_"), ["≡⟨", "⟩"]);
+        assert_eq!(parts("◌≡⟨◌⟩◌"), ["≡⟨", "⟩"]);
+        assert!(parts("max_len").is_empty());
         assert!(parts("«a_b»").is_empty());
         assert!(parts("le-trans").is_empty());
     }

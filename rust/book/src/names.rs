@@ -31,10 +31,10 @@ impl Target {
 
 /// Names of the prelude, which stands open in every file.
 const PRELUDE: &[&str] =
-    &["IsProp", "IsSet", "⊥", "absurd", "¬_", "Dec", "yes", "no", "Discrete", "∥_∥₁", "∣_∣₁", "squash₁", "Unit", "tt", "Id", "J", "Path", "Level"];
+    &["IsProp", "IsSet", "⊥", "absurd", "¬◌", "Dec", "yes", "no", "Discrete", "∥◌∥₁", "∣◌∣₁", "squash₁", "Unit", "tt", "Id", "J", "Path", "Level"];
 
-/// Words of a contract: a lent slice as it is, before the call and after it.
-pub const CONTRACT_WORDS: &[&str] = &["now", "entry", "exit"];
+/// Words of a contract: a lent slice as it is, before the call and after it, and what the call returns.
+pub const CONTRACT_WORDS: &[&str] = &["now", "old", "new", "entry", "exit", "result"];
 
 /// The names that stand in a file, and the parts of operators among them.
 #[derive(Default)]
@@ -113,21 +113,15 @@ impl Library {
     }
 
     fn read_crate(&mut self, name: &str, folder: &Path) -> std::io::Result<()> {
-        for part in ["specs", "proofs"] {
-            let base = folder.join(part);
-            for place in files_below(&base, "antt") {
-                let inner = place.strip_prefix(&base).unwrap_or(&place).with_extension("");
-                let inner = inner.to_string_lossy().replace('/', ".");
-                let path = match inner.as_str() {
-                    "Lib" => format!("Rattle·{name}.{part}"),
-                    _ => format!("Rattle·{name}.{part}.{inner}"),
-                };
-                if part == "specs" {
-                    self.read_file(&path, place)?;
-                } else {
-                    self.libraries.insert(path, place);
-                }
-            }
+        let base = folder.join("specs");
+        for place in files_below(&base, "antt") {
+            let inner = place.strip_prefix(&base).unwrap_or(&place).with_extension("");
+            let inner = inner.to_string_lossy().replace('/', ".");
+            let path = match inner.as_str() {
+                "Lib" => format!("Rattle.{name}.specs"),
+                _ => format!("Rattle.{name}.specs.{inner}"),
+            };
+            self.read_file(&path, place)?;
         }
         for place in files_below(&folder.join("src"), "rt") {
             let text = (self.change)(&place, std::fs::read_to_string(&place)?);
@@ -153,24 +147,42 @@ impl Library {
         Ok(number)
     }
 
-    /// The file of a module, read now if it is one of the kit's, or of the proofs.
+    /// Where a module stands: in a crate of the project or of the kit, or in a library of the kit.
+    fn place(&self, path: &str) -> Option<PathBuf> {
+        let (folder, inner) = match path.strip_prefix("Rattle.") {
+            Some(rest) => {
+                let (owner, rest) = rest.split_once('.')?;
+                let (part, inner) = rest.split_once('.').unwrap_or((rest, "Lib"));
+                let own = self.root.join("crates").join(owner);
+                let owner = if own.is_dir() { own } else { self.kit.join("rattle").join(owner) };
+                (owner.join(part), inner)
+            }
+            None => {
+                let (library, inner) = path.split_once('.').unwrap_or((path, "Lib"));
+                (self.libraries.get(library)?.clone(), inner)
+            }
+        };
+        let place = folder.join(inner.replace('.', "/") + ".antt");
+        place.is_file().then_some(place)
+    }
+
+    /// The file of a module, read now if it is one of the kit's, or of the proofs. A module that another passes on by a `pub use` is known by both paths.
     fn module(&mut self, path: &str) -> Option<usize> {
         if let Some(&file) = self.paths.get(path) {
             return Some(file);
         }
-        if let Some(place) = self.libraries.get(path).filter(|p| p.is_file()).cloned() {
+        if let Some(place) = self.place(path) {
             return self.read_file(path, place).ok();
         }
-        let (library, inner) = path.split_once('.').unwrap_or((path, "Lib"));
-        let folder = match self.libraries.get(library) {
-            Some(folder) => folder.clone(),
-            None => self.kit.join("libs").join(library.strip_prefix("Rattle·")?),
-        };
-        let place = folder.join(inner.replace('.', "/")).with_extension("antt");
-        if place.is_file() {
-            return self.read_file(path, place).ok();
+        let (above, last) = path.rsplit_once('.')?;
+        if above == "Rattle" || above == "Prim" {
+            return None;
         }
-        None
+        let above = self.module(above)?;
+        let on = self.files[above].uses.iter().find(|u| u.name.is_none() && u.here == last)?.path.clone();
+        let file = if on == path { None } else { self.module(&on) }?;
+        self.paths.insert(path.to_string(), file);
+        Some(file)
     }
 
     /// Reads what the `use` lines of the crates name, as far as names are handed on.
@@ -185,7 +197,7 @@ impl Library {
                 continue;
             };
             let Some(name) = name else { continue };
-            let on = self.files[file].uses.iter().find(|u| u.here == name);
+            let on = self.files[file].uses.iter().find(|u| u.here == name && u.name.is_some());
             queue.extend(on.map(|u| (u.path.clone(), u.name.clone())));
             for child in &self.files[file].globs {
                 queue.push((format!("{path}.{child}"), Some(name.clone())));
@@ -244,7 +256,7 @@ impl Library {
             return self.declared(of, name).map(Target::Decl);
         }
         if let Some((before, rest)) = path.split_once(".specs.declared.") {
-            let owner = before.strip_prefix("Rattle·")?;
+            let owner = before.strip_prefix("Rattle.")?;
             return self.find_declared(owner, rest, name);
         }
         let file = &self.files[*self.paths.get(path)?];
@@ -254,7 +266,7 @@ impl Library {
         if depth > 8 {
             return None;
         }
-        let on = file.uses.iter().find(|u| u.here == name);
+        let on = file.uses.iter().find(|u| u.here == name && u.name.is_some());
         if let Some(Some(there)) = on.map(|u| u.name.as_ref()) {
             return self.find_from(&on?.path, there, depth + 1);
         }
@@ -264,7 +276,7 @@ impl Library {
 
     /// A type of the code, or one of its variants.
     fn find_declared(&self, owner: &str, rest: &str, name: &str) -> Option<Target> {
-        let (of, variants) = match rest.strip_suffix(".the-variants") {
+        let (of, variants) = match rest.strip_suffix(".TheVariants") {
             Some(of) => (of, true),
             None => (rest, false),
         };
@@ -334,7 +346,7 @@ impl Library {
         for &d in &file.decls {
             scope.names.insert(self.decls[d].name.clone(), Target::Decl(d));
         }
-        let operators: Vec<String> = scope.names.keys().filter(|n| n.contains('_')).cloned().collect();
+        let operators: Vec<String> = scope.names.keys().filter(|n| n.contains('◌')).cloned().collect();
         for operator in operators {
             for part in lex::parts(&operator) {
                 scope.parts.entry(part.to_string()).or_default().push(operator.clone());
@@ -370,7 +382,7 @@ impl Library {
     pub fn named(&self, told: &str) -> Option<usize> {
         let (place, name) = told.split_once('.')?;
         let (owner, file) = place.split_once('/')?;
-        let path = format!("Rattle·{owner}.specs.{file}");
+        let path = format!("Rattle.{owner}.specs.{file}");
         self.find(&path, name).and_then(Target::decl)
     }
 

@@ -44,6 +44,31 @@ struct Reader<'a> {
     at: usize,
 }
 
+/// The leaves of a `use` line of the code, each as a path: `a::{b, c::{d, e}}` has three.
+fn leaves(before: &str, told: &str) -> Vec<String> {
+    let told = told.trim();
+    let Some((path, rest)) = told.split_once('{') else {
+        return vec![format!("{before}{told}")];
+    };
+    let inner = rest.rsplit_once('}').map_or(rest, |r| r.0);
+    let (mut found, mut depth, mut from) = (Vec::new(), 0, 0);
+    let before = format!("{before}{}", path.trim());
+    for (k, c) in inner.char_indices().chain([(inner.len(), ',')]) {
+        match c {
+            '{' => depth += 1,
+            '}' => depth -= 1,
+            ',' if depth == 0 => {
+                if !inner[from..k].trim().is_empty() {
+                    found.extend(leaves(&before, &inner[from..k]));
+                }
+                from = k + 1;
+            }
+            _ => {}
+        }
+    }
+    found
+}
+
 /// The comment lines above a place, attributes between passed over.
 fn note_above(file: &File, mut line: usize) -> Vec<String> {
     let lines: Vec<&str> = file.text.lines().collect();
@@ -139,8 +164,12 @@ impl Reader<'_> {
         let told = self.file.text[start..end].trim().to_string();
         if ghost {
             source::use_line(&mut self.file, &told, line);
-        } else if let Some((path, name)) = told.rsplit_once("::") {
-            source::use_line(&mut self.file, &format!("code:{}.{{{name}}}", path.replace("::", ".")), line);
+        } else {
+            for leaf in leaves("", &told) {
+                if let Some((path, name)) = leaf.rsplit_once("::") {
+                    source::use_line(&mut self.file, &format!("code:{}.{{{name}}}", path.replace("::", ".")), line);
+                }
+            }
         }
     }
 
@@ -203,8 +232,9 @@ impl Reader<'_> {
         let start = self.at;
         let name = self.file.word(self.at + 1).to_string();
         let line = self.file.words[start].line;
-        while self.here() != "(" {
-            self.at += 1;
+        self.at += 2;
+        if self.here() == "<" {
+            self.at = self.behind_types(self.at);
         }
         let open = self.at;
         self.at = self.closing(open);
@@ -233,6 +263,22 @@ impl Reader<'_> {
         self.at = end;
     }
 
+    /// The place behind the types in `<` and `>`.
+    fn behind_types(&self, open: usize) -> usize {
+        let mut depth = 0i32;
+        for k in open..self.file.words.len() {
+            match self.file.word(k) {
+                "<" => depth += 1,
+                ">" if self.file.word(k - 1) != "-" => depth -= 1,
+                _ => {}
+            }
+            if depth == 0 {
+                return k + 1;
+            }
+        }
+        self.file.words.len()
+    }
+
     fn parameters(&self, from: usize, to: usize) -> Vec<(String, Span)> {
         let mut found = Vec::new();
         let mut at = from;
@@ -241,6 +287,7 @@ impl Reader<'_> {
             while end < to && self.file.word(end) != "," {
                 end = match self.file.word(end) {
                     "(" | "[" => self.closing(end),
+                    "<" => self.behind_types(end),
                     _ => end + 1,
                 };
             }
@@ -272,8 +319,10 @@ impl Reader<'_> {
     fn contract(&mut self) -> Vec<Span> {
         let mut found = Vec::new();
         while matches!(self.here(), "requires" | "ensures") {
-            let end = self.closing(self.at + 1);
-            found.push(Span { from: self.at + 2, to: end - 1 });
+            let named = usize::from(self.file.word(self.at + 1) != "{");
+            let open = self.at + 1 + named;
+            let end = self.closing(open);
+            found.push(Span { from: open + 1, to: end - 1 });
             self.at = end;
         }
         found
@@ -286,8 +335,8 @@ mod tests {
 
     #[test]
     fn types_and_functions() {
-        let text = "// a file\nghost use a.B.{c};\nuse x::Y;\n\n// the reply\npub struct R {\n    pub desk: Desk,\n    pub flat: [u8; 3],\n}\npub enum E {\n    None(usize, K),\n    Last,\n}\n\
-            impl R {\n    // does\n    pub fn find(self, out: &mut [u8]) -> E\n        ensures { λ r. ⌜ c r ⌝ }\n    {\n        x::go(out)\n    }\n}\npub(crate) fn inner() {}\n";
+        let text = "// a file\n#![tactic(auto)]\n\nghost use a.B.{c};\nuse x::Y;\nuse z::{\n    U, v::{W, X},\n};\n\n// the reply\n#[derive(Drop)]\npub struct R {\n    pub desk: Desk,\n    pub flat: [u8; 3],\n}\npub enum E {\n    None(usize, K),\n    Last,\n}\n\
+            impl R {\n    // does\n    pub fn find<'a, K: Ord<K>>(self, out: &mut [u8]) -> E\n        requires { a }\n        ensures says { c result }\n    {\n        x::go(out)\n    }\n}\npub(crate) fn inner() {}\n";
         let mut all = Vec::new();
         let (file, functions) = read("t", PathBuf::new(), text.to_string(), 0, &mut all);
         assert_eq!(all[0].note, ["the reply"]);
@@ -295,10 +344,12 @@ mod tests {
         assert_eq!(names, ["desk", "flat"]);
         assert_eq!(file.slice(all[1].members[0].of), "(usize, K)");
         assert_eq!(functions[0].name, "R::find");
-        assert_eq!(file.slice(functions[0].contract[0]), "λ r. ⌜ c r ⌝");
+        assert_eq!(file.slice(functions[0].contract[0]), "a");
+        assert_eq!(file.slice(functions[0].contract[1]), "c result");
         assert_eq!(file.slice(functions[0].parameters[1].1), "&mut [u8]");
         assert!(functions[0].public && !functions[1].public);
         assert_eq!(functions[0].note, ["does"]);
-        assert_eq!(file.uses[1].path, "code:x");
+        let uses: Vec<(&str, &str)> = file.uses.iter().skip(1).map(|u| (u.path.as_str(), u.here.as_str())).collect();
+        assert_eq!(uses, [("code:x", "Y"), ("code:z", "U"), ("code:z.v", "W"), ("code:z.v", "X")]);
     }
 }

@@ -65,7 +65,7 @@ impl Book<'_> {
         for &decl in self.entries.iter().filter(|&&d| self.is_model(d)) {
             let d = &library.decls[decl];
             let file = &library.files[d.file];
-            let check = d.name.ends_with("Check") || d.name.ends_with("Refusal");
+            let check = d.name.ends_with("_check") || d.name.ends_with("_refusal");
             for k in d.of.to + 1..d.words.to {
                 let gives = matches!(file.word(k - 1), "refused" | "refusal") || (check && file.word(k - 1) == ")");
                 match file.word(k).parse() {

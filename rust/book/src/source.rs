@@ -264,7 +264,7 @@ impl Reader<'_> {
             match file.word(at) {
                 "pub" => public = true,
                 "abbrev" | "unfoldable" => open = true,
-                "axiom" => {}
+                "axiom" | "pattern" => {}
                 "ruleset" => rules = true,
                 "data" => sort = Sort::Data,
                 "record" => sort = Sort::Record,
@@ -319,17 +319,12 @@ fn members(file: &File, from: usize, to: usize) -> Vec<Member> {
     found
 }
 
-/// One name for a module that its own crate and others spell differently.
-pub fn module_path(path: &str) -> String {
-    path.replace("·specs.specs", ".specs").replace("·proofs.proofs", ".proofs")
-}
-
 /// The leaves of a `use` line, without the word `use`.
 pub fn use_line(file: &mut File, told: &str, line: usize) {
     let told = told.trim().trim_end_matches(';');
     let told = told.strip_prefix("package.").unwrap_or(told);
     let mut leaf = |here: &str, path: &str, name: Option<&str>| {
-        file.uses.push(Use { here: here.to_string(), path: module_path(path), name: name.map(str::to_string), line });
+        file.uses.push(Use { here: here.to_string(), path: path.to_string(), name: name.map(str::to_string), line });
     };
     if let Some((path, names)) = told.split_once(".{") {
         for name in names.trim_end_matches('}').split(',').map(str::trim) {

@@ -234,23 +234,12 @@ impl<'a> Parser<'a> {
     }
 
     fn application(&mut self) -> Term {
-        let Some(mut head) = self.atom() else {
+        let Some(head) = self.atom() else {
             return Term::Literal;
         };
         let mut arguments: Vec<Argument> = Vec::new();
-        let close = |head: Term, arguments: &mut Vec<Argument>| {
-            if arguments.is_empty() {
-                head
-            } else {
-                Term::Apply(Box::new(head), std::mem::take(arguments))
-            }
-        };
         loop {
-            if self.here() == "." && self.at + 1 < self.end && self.words[self.at + 1].tight {
-                let field = self.at + 1;
-                self.at += 2;
-                head = Term::Field(Box::new(close(head, &mut arguments)), field);
-            } else if self.here() == "{" {
+            if self.here() == "{" {
                 arguments.push(self.braced());
             } else if self.is_operator() || self.at >= self.end || STOPS.contains(&self.here()) {
                 break;
@@ -260,7 +249,11 @@ impl<'a> Parser<'a> {
                 break;
             }
         }
-        close(head, &mut arguments)
+        if arguments.is_empty() {
+            head
+        } else {
+            Term::Apply(Box::new(head), arguments)
+        }
     }
 
     /// `{x = e}` or `{e}`
@@ -285,7 +278,10 @@ impl<'a> Parser<'a> {
             return Some(Term::Literal);
         }
         match word {
-            "(" => return Some(self.bracket()),
+            "(" => {
+                let inner = self.bracket();
+                return Some(self.fields(inner));
+            }
             "λ" => return Some(self.lambda()),
             "let" => return Some(self.binding()),
             "record" => return Some(self.record()),
@@ -332,6 +328,15 @@ impl<'a> Parser<'a> {
         } else {
             Term::Path(names)
         }
+    }
+
+    /// The fields that are taken of a term in brackets: each follows without a space.
+    pub(crate) fn fields(&mut self, mut of: Term) -> Term {
+        while self.at + 1 < self.end && self.here() == "." && self.words[self.at].tight && self.words[self.at + 1].tight {
+            of = Term::Field(Box::new(of), self.at + 1);
+            self.at += 2;
+        }
+        of
     }
 
     fn bracket(&mut self) -> Term {

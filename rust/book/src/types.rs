@@ -303,7 +303,7 @@ impl<'a> Store<'a> {
             Target::Built(k) => self.library().built_name(k),
             _ => String::new(),
         };
-        of == Type::Universe || ["_≤_", "_<_"].iter().any(|n| name.ends_with(n))
+        of == Type::Universe || ["◌≤◌", "◌<◌"].iter().any(|n| name.ends_with(n))
     }
 
     /// Whether a name is an operator that leans to the left.
@@ -318,5 +318,5 @@ impl<'a> Store<'a> {
 
 /// The parts of a name that fits an operator's word.
 pub fn operator_arity(name: &str) -> usize {
-    name.matches('_').count().max(lex::parts(name).len())
+    name.matches('◌').count().max(lex::parts(name).len())
 }

@@ -62,6 +62,8 @@ struct Walk<'a> {
     locals: Vec<Local>,
     pending: Vec<Pending>,
     contract: bool,
+    /// the type of what a call returns, in its contract
+    result: Type,
     links: Links,
     /// the constructors of the patterns of the clause that is read
     matched: Vec<Target>,
@@ -113,11 +115,10 @@ pub fn contract(trees: &Trees, function: &Function) -> Links {
         };
         walk.push(name, of);
     }
-    let result = function.result.map_or(Type::Unknown, |s| walk.store.code_type(function.file, s));
-    let expected = Type::Function(Box::new(result), Box::new(Type::Universe), false);
+    walk.result = function.result.map_or(Type::Unknown, |s| walk.store.code_type(function.file, s));
     for &span in &function.contract {
         let term = trees.term(function.file, span);
-        walk.check(&term, &expected);
+        walk.check(&term, &Type::Universe);
     }
     walk.settle();
     let header = code_names(library, function.file, function.header);
@@ -161,6 +162,7 @@ impl<'a> Walk<'a> {
             locals: Vec::new(),
             pending: Vec::new(),
             contract: false,
+            result: Type::Unknown,
             links: Links::default(),
             matched: Vec::new(),
         }

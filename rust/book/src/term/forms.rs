@@ -51,11 +51,7 @@ impl Parser<'_> {
     /// `elim x as motive [ p ↦ e | .. ]`
     pub(super) fn elim(&mut self) -> Term {
         self.at += 1;
-        let mut subject = self.atom().unwrap_or(Term::Literal);
-        while self.here() == "." && self.at + 1 < self.end && self.words[self.at + 1].tight {
-            subject = Term::Field(Box::new(subject), self.at + 1);
-            self.at += 2;
-        }
+        let subject = self.atom().unwrap_or(Term::Literal);
         let motive = if self.eat("as") { self.atom().map(Box::new) } else { None };
         let mut cases = Vec::new();
         if self.eat("[") {

@@ -5,6 +5,9 @@ use crate::names::Target;
 use crate::source::Sort;
 use crate::term::Span;
 
+/// The module that most definitions take their types from.
+const PRELUDE: &str = "Rattle.std.specs.Prelude";
+
 impl Store<'_> {
     /// The names that a declaration is over, sections first, and whether each is explicit.
     fn parameters(&self, decl: usize) -> Vec<(String, bool)> {
@@ -152,8 +155,8 @@ impl Store<'_> {
                     continue;
                 }
                 "u8" | "u16" | "u32" | "u64" | "usize" => Type::Named(library.built("Prim.Native.Nat.ℕ"), Vec::new()),
-                "i8" | "i16" | "i32" | "i64" | "isize" => self.library_type("lib.IntN", "ℤ"),
-                "bool" => self.library_type("mathlib.Core.Bool", "Bool"),
+                "i8" | "i16" | "i32" | "i64" | "isize" => self.library_type(PRELUDE, "ℤ"),
+                "bool" => self.library_type(PRELUDE, "Bool"),
                 _ if word.starts_with(char::is_uppercase) => {
                     let own = library.declared(owner, word);
                     let used = source.uses.iter().find(|u| u.here == word);
@@ -162,7 +165,7 @@ impl Store<'_> {
                 }
                 _ => continue,
             };
-            let list = self.library_type("mathlib.Core.List", "List");
+            let list = self.library_type(PRELUDE, "List");
             let wrapped = (0..lists).fold(of, |inner, _| match &list {
                 Type::Named(t, _) => Type::Named(*t, vec![inner]),
                 _ => Type::Unknown,

@@ -6,6 +6,9 @@ use crate::source::Sort;
 use crate::term::{Argument, Operand, Pattern, Span, Term};
 use crate::types::Type;
 
+/// What a call returns, in its contract.
+const RESULT: &str = "result";
+
 /// Something that an operator or a function is applied to.
 enum Given<'t> {
     Term(&'t Term),
@@ -23,7 +26,7 @@ impl Walk<'_> {
         if self.contract {
             if let Some(n) = CONTRACT_WORDS.iter().position(|w| *w == word) {
                 self.link(k, Link::Contract(n));
-                return Type::Unknown;
+                return if word == RESULT { self.result.clone() } else { Type::Unknown };
             }
         }
         if let Some(&target) = self.scope.names.get(word) {
@@ -81,6 +84,7 @@ impl Walk<'_> {
     fn path(&mut self, names: &[usize]) -> Type {
         let first = self.word(names[0]);
         let is_value = self.local(first).is_some()
+            || (self.contract && first == RESULT)
             || (!self.scope.modules.contains_key(first)
                 && matches!(self.scope.names.get(first), Some(Target::Decl(d)) if self.library.decls[*d].sort == Sort::Definition));
         if is_value {
@@ -101,7 +105,6 @@ impl Walk<'_> {
     }
 
     fn apply_term(&mut self, head: &Term, arguments: &[Argument], expected: &Type) -> Type {
-        let now = matches!(head, Term::Name(k) if self.contract && self.word(*k) == "now" && self.local("now").is_none());
         let function = self.check(head, &Type::Unknown);
         let mut given = Vec::new();
         for argument in arguments {
@@ -111,9 +114,6 @@ impl Walk<'_> {
                     self.check(term, &Type::Unknown);
                 }
             }
-        }
-        if let (true, [Given::Term(only)]) = (now, given.as_slice()) {
-            return self.check(only, &Type::Unknown);
         }
         self.apply(function, &given, expected)
     }
