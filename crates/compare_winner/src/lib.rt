@@ -1,4 +1,6 @@
 // The winner of a comparison, from both votes, and the part of its file that the answer names.
+#![tactic(auto)]
+
 ghost use Rattle.std.specs.Prelude.{◌≡◌};
 ghost use Rattle.model_desk.specs.Compare.{winner_of};
 ghost use Rattle.answers.specs.ComparisonCases.{winner_case, part_shown};

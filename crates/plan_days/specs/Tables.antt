@@ -1,15 +1,15 @@
 -- Tables by node and day: where an entry is on a day at its end, its number, counted from 1; 0 where the day is free. A table of all entries
 -- tells which days are taken; with one entry left out, what that one meets where it settles.
-use Rattle.std.specs.Prelude.{ℕ, zero, suc, ◌+◌, ◌*◌, ◌≤◌, ◌<◌, ◌≡◌, refl, ◌≢◌, Bool, true, false, ◌&&◌, List, length, set, replicate, T}
+use Rattle.std.specs.Prelude.{ℕ, zero, suc, ◌+◌, ◌*◌, ◌<◌, ◌≡◌, refl, ◌≢◌, ◌&&◌, List, length, set, replicate, T}
 use Rattle.std.proofs.Common.{arith, sym, ap, ◌∙◌, subst, length-set, get_or-set_same, get_or-set_other, T_not, eqb→eq}
 use Rattle.std.proofs.Math.Decide.{ℕ_discrete}
 use Rattle.std.proofs.Math.Logic.{by_cases}
 use Rattle.std.proofs.Math.Bool.{not}
 use Rattle.std.proofs.lemmas.List.{length-replicate}
 use Rattle.std.proofs.Math.Dec.{not_T, eqb}
-use Rattle.lists.specs.Test.{bool_eq, and_l, and_r, and_i, eq→eqb, false_t, by_bool}
+use Rattle.lists.specs.Test.{bool_eq, and_l, and_r, and_i, eq→eqb}
 use Rattle.lists.specs.Sum.{up_to, up_to_<, up_to_∈}
-use Rattle.lists.specs.Keep.{any?, any_∈, none_∈}
+use Rattle.lists.specs.Keep.{any_∈, none_∈}
 use Rattle.lists.specs.Search.{low, low_is, low_cong}
 use Rattle.model.specs.Limits.{last_day}
 use Rattle.arrays.specs.ArrayInstance.{at}

@@ -1,5 +1,7 @@
 // The bytes of a plan, written from an instance's arrays and the list of its edges into a lent buffer of a plan's size; and the pairs alone of edges that
 // flags tell.
+#![tactic(auto)]
+
 ghost use Rattle.std.specs.Prelude.{◌≡◌, Bool, List, ℕ, ◌*◌, ◌≤◌, length};
 ghost use Rattle.model.specs.Limits.{node_limit, entry_limit, pair_width, plan_size};
 ghost use Rattle.model.specs.PlanFile.{edges_in};

@@ -1,0 +1,106 @@
+-- plan_days::with_day: the first free days by the tables, and the chain. Assumes nothing.
+use Rattle.std.proofs.Common.{◌+◌, arith, sym, ◌∙◌, subst, set, rules}
+use Rattle.plan_days.specs.Tables.{Held}
+use Rattle.plan_days.specs.Turns.{Chasing, b_low, placed, a_low, chained, chasing}
+use Rattle.plan_days.proofs.with_day.Goals as goal
+
+pub free_day-b-requires : goal.free_day-b-requires
+free_day-b-requires c = (c.requires.many, c.requires.nodes_t c.args.k (omega arith))
+
+pub who_at-requires : goal.who_at-requires
+who_at-requires c =
+    let a = c.args in
+    let f = c.free_day-b in (
+      c.requires.many,
+      c.requires.nodes_s a.k (omega arith),
+      omega (
+        arith,
+        b_low a.k a.sv.now a.st.now a.day.now a.ws.now a.wt.now
+            c.requires f.result f.ensures,
+      ),
+    )
+
+pub bounds-day-k : goal.bounds-day-k
+bounds-day-k c = search rules
+
+pub tell-requires : goal.tell-requires
+tell-requires c =
+    let a = c.args in
+    let f = c.free_day-b in (
+      c.requires.many,
+      c.requires.nodes_s a.k (omega arith),
+      omega (
+        arith,
+        b_low a.k a.sv.now a.st.now a.day.now a.ws.now a.wt.now
+            c.requires f.result f.ensures,
+      ),
+    )
+
+pub tell-requires-then-who_at-eq0 : goal.tell-requires-then-who_at-eq0
+tell-requires-then-who_at-eq0 c =
+    let a = c.args in
+    let f = c.free_day-b in (
+      c.requires.many,
+      c.requires.nodes_t a.k (omega arith),
+      omega (
+        arith,
+        b_low a.k a.sv.now a.st.now a.day.now a.ws.now a.wt.now
+            c.requires f.result f.ensures,
+      ),
+    )
+
+pub returns-then-who_at-eq0 : goal.returns-then-who_at-eq0
+returns-then-who_at-eq0 c =
+    let a = c.args in
+    let f = c.free_day-b in
+    let (days, held_s, held_t) = placed a.k a.sv.now a.st.now a.day.now a.ws.now a.wt.now c.requires f.result f.ensures
+    (sym c.who_at.ensures ∙ c.if-who_at-eq0.true) in (
+      days,
+      subst (Held (a.k + 1) a.sv.now (set a.day.now a.k f.result)) (sym c.tell.ensures) held_s,
+      subst (Held (a.k + 1) a.st.now (set a.day.now a.k f.result)) (sym c.tell-then-who_at-eq0.ensures) held_t,
+    )
+
+pub free_day-a-requires : goal.free_day-a-requires
+free_day-a-requires c = (c.requires.many, c.requires.nodes_s c.args.k (omega arith))
+
+pub bounds-day-k-2 : goal.bounds-day-k-2
+bounds-day-k-2 c = search rules
+
+pub tell-requires-2 : goal.tell-requires-2
+tell-requires-2 c =
+    let a = c.args in
+    let f = c.free_day-b in
+    let g = c.free_day-a in (
+      c.requires.many,
+      c.requires.nodes_s a.k (omega arith),
+      omega (
+        arith,
+        a_low a.k a.sv.now a.st.now a.day.now a.ws.now a.wt.now c.requires f.result f.ensures g.result
+            g.ensures (λ z. c.if-who_at-eq0.false (c.who_at.ensures ∙ z)),
+      ),
+    )
+
+pub overflow_add-k : goal.overflow_add-k
+overflow_add-k c = search rules
+
+pub chase-requires : goal.chase-requires
+chase-requires c =
+    let a = c.args in
+    let f = c.free_day-b in
+    let g = c.free_day-a in
+    subst (λ w. Chasing (a.k + 1) a.sv.now a.st.now g.result f.result a.k (set a.day.now a.k g.result) w a.wt.now)
+    (sym c.tell-2.ensures)
+    (chasing a.k a.sv.now a.st.now a.day.now a.ws.now a.wt.now c.requires f.result f.ensures g.result g.ensures
+    (λ z. c.if-who_at-eq0.false (c.who_at.ensures ∙ z)))
+
+pub returns : goal.returns
+returns c =
+    let a = c.args in
+    let f = c.free_day-b in
+    let g = c.free_day-a in
+    let r = c.chase.ensures in (
+      r.0 ∙ chained a.k a.sv.now a.st.now a.day.now a.ws.now a.wt.now c.requires f.result f.ensures g.result g.ensures
+          (λ z. c.if-who_at-eq0.false (c.who_at.ensures ∙ z)),
+      r.1,
+      r.2,
+    )
