@@ -1,6 +1,8 @@
 // A roster's bytes put together: parts appended behind what an array of a roster's size holds already, lists under other numbers (W-210, W-214: each
 // entry's number by a table, its shift as it is), sections with their counts, and the answer of a change. What does not fit into the array is left out; a
 // roster within the limits always fits. Nothing here checks a roster: on bytes that are none, what is written is what these functions say and no more.
+#![tactic(auto)]
+
 ghost use Rattle.std.specs.Prelude.{◌≡◌, [], ◌∷◌, ◌++◌, ◌+◌, ◌-◌, ◌*◌, ◌/◌, ◌≤◌, length, take};
 ghost use Rattle.model.specs.Limits.{node_limit, entry_width};
 ghost use Rattle.roster_positions.specs.Tables.{lists_end, entries_in};
