@@ -24,6 +24,7 @@ use Rattle.reduction_start.specs.declared.Start.{Start}
 
 -- ---- a list of all nodes has each
 all_among : (list : List ℕ) (n v : ℕ) → v < n → Made 0 list (λ u. u) n → among list n v ≡ true
+all_among list Prim.Native.Nat.zero v h M = elim h [ ]
 all_among list (suc n) v h M = ap (λ k. among list k v) (let z : suc n ≡ n + 1 = omega arith in z) ∙ by-eq v n
     (λ q t. among_own list n v (q ∙ sym (M n (omega arith))))
     (λ k t. among_other list n v (λ z. k (z ∙ M n (omega arith)))

@@ -1,4 +1,6 @@
 // The beginning of a run: the state and its arrows, and the numbers of rules 1 and 2 at all nodes.
+#![tactic(auto)]
+
 ghost use Rattle.std.specs.Prelude.{List, ℕ};
 ghost use Rattle.model.specs.Limits.{node_limit, empty_rank};
 ghost use Rattle.arrays.specs.Passes.{Low};
