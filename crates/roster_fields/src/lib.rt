@@ -1,6 +1,8 @@
 // The checks of a part of the file that holds fields of one kind in a row: quotas, a list's entries. Each answers the number of the first
 // refusal among the fields that are there, 0 for none. A field that the file ends in is no matter of theirs. This crate is a part of the roster
 // reader (crate roster), whose public call needs none of what these functions require.
+#![tactic(auto)]
+
 ghost use Rattle.std.specs.Prelude.{◌≡◌, ◌+◌, ◌*◌, ◌≤◌, ◌<◌, length};
 ghost use Rattle.model.specs.Limits.{shift_limit};
 ghost use Rattle.model.specs.RosterFile.{quota_check};
