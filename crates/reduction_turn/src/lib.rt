@@ -1,6 +1,8 @@
 // One turn of a run: the arrows of the state after a step at e, and the numbers of the nodes. An end of e whose arrow e was not, and whose quota
 // stays, keeps its arrows; else they are painted anew, and the nodes across an arrow that turned are read anew. Rule 2's number at an end of e is read
 // anew if it was e or if the quota fell there. What the later rules name is marked old at both ends, and at every node across an arrow that turned.
+#![tactic(auto)]
+
 ghost use Rattle.std.specs.Prelude.{◌≡◌, ◌&&◌, ◌||◌, List, ℕ, ◌≤◌, ◌<◌, length, eqb};
 ghost use Rattle.model.specs.Limits.{node_limit, entry_limit, empty_rank};
 ghost use Rattle.arrays.specs.ArrayInstance.{at};
