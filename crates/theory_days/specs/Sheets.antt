@@ -1,5 +1,5 @@
 -- The days that the calls name, and what holds of them for every plan within the quotas (W-209): `sheet_holds`.
-use Prim.Native.Nat.{ℕ, zero, suc, ◌+◌, ◌≤◌, ◌<◌, max, zero-le}
+use Prim.Native.Nat.{ℕ, zero, suc, ◌≤◌, ◌<◌, max, zero-le}
 use Rattle.std.proofs.Common.{arith, le_antisymm, ◌∙◌, T_not, le→leb}
 use Rattle.std.proofs.Math.Nat.{zero-add}
 use Rattle.std.proofs.Math.Decide.{dec_lt}

@@ -16,7 +16,7 @@ use Rattle.lists.specs.Keep.{keep_all, all_∈, none_∈}
 use Rattle.model.specs.Limits.{shift_limit, list_limit}
 use Rattle.model.specs.Reading.{accepted}
 use Rattle.model.specs.Roster.{Entry, Ranking, Roster, entries, surveyor_count, stand_count, list_s, list_t, same, has, listed, listed_back, entry_fits, fits}
-use Rattle.model_changes.specs.Changes.{departed, leave_on, gone, carried}
+use Rattle.model_changes.specs.Changes.{departed, leave_on, gone}
 use Rattle.theory_files.specs.Entries.{in_range_law}
 use Rattle.theory_files.specs.ByLists.{list_range, fits_lists}
 use Rattle.theory_files.specs.RosterInstance.{entries_fit}

@@ -1,7 +1,7 @@
 -- Refusals 10, 11 and 12 in the documents' words, on pairs of numbers with their shift: a pair is not in the roster; it is not above the pair
 -- before it, by surveyor, stand, shift; with it a node has more pairs than its quota. As the edges of a roster are numbered in that order, the
 -- model's check of a plan's pair, by edge numbers, gives the same refusal.
-use Rattle.std.specs.Prelude.{ℕ, suc, ◌-◌, ◌≤◌, ◌<◌, ◌≡◌, refl, ◌⊎◌, Bool, true, not, cond, ◌||◌, List, [], ◌∷◌, T, eqb, leb, ltb}
+use Rattle.std.specs.Prelude.{ℕ, suc, ◌-◌, ◌≤◌, ◌<◌, ◌≡◌, refl, Bool, true, not, cond, ◌||◌, List, [], ◌∷◌, T, eqb, leb, ltb}
 use Rattle.std.proofs.Common.{arith, sym, ap, ap₂, ◌∙◌, subst, inl, inr, ltb→lt, leb→le, le→leb, lt→ltb, T_not, lt-ltb, le-ltb, le-leb}
 use Rattle.std.proofs.Math.Decide.{dec_lt}
 use Rattle.std.proofs.Math.Logic.{⊎_elim, ⊎_map, by_cases}

@@ -1,5 +1,5 @@
 -- A reader and a writer that agree: what is read was written so, and what is written is read back. Fields, and fields in a row.
-use Prim.Native.Nat.{ℕ, zero, suc, ◌+◌, ◌<◌}
+use Prim.Native.Nat.{ℕ, zero, suc, ◌<◌}
 use Rattle.std.proofs.Common.{arith, ap₂, ◌∙◌, lt→ltb}
 use Rattle.std.specs.Prelude.{◌≡◌, ◌≢◌, Bool, true, false, not, get_or, T, ltb}
 use Rattle.std.proofs.Math.Path.{refl, sym, ap, subst}

@@ -1,1 +1,3 @@
+#![tactic(auto)]
+
 // The laws of roster and plan files. No code.

@@ -2,7 +2,7 @@
 -- the first beats the second exactly when w, the second's vote against it, is below zero, and the second the first exactly when v is. As the two
 -- votes of two plans add to at most zero, neither beats the other exactly when both votes are zero; not both votes are above zero; and a plan whose
 -- vote is above zero, document 01's winner, still wins.
-use Rattle.std.specs.Prelude.{ℕ, ◌≡◌, refl, Bool, true, false, not, cond, ◌⊎◌, ◌↔◌, T, ℤ, pos, ◌≤ℤ◌, ◌<ℤ◌}
+use Rattle.std.specs.Prelude.{ℕ, ◌≡◌, refl, Bool, true, false, cond, ◌⊎◌, ◌↔◌, T, ℤ, pos, ◌≤ℤ◌, ◌<ℤ◌}
 use Rattle.std.proofs.Common.{sym, ap₂, subst, inl, inr, ⊎_elim}
 use Rattle.std.proofs.Math.Dec.{not_T}
 use Rattle.std.specs.Int.Signed.{lt_z, lt_z_yes, lt_z_no, clash_ℤ}

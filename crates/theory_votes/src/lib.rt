@@ -1,1 +1,3 @@
+#![tactic(auto)]
+
 // The laws of votes by pairings. No code.
