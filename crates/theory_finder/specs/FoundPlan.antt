@@ -1,7 +1,7 @@
 -- Demand 3, about the model's own definitions: with pairs left after the steps there is no strongly popular plan; with none left it is
 -- the fixed plan alone if that plan is strong, and there is none if not. So the finder hands back a plan exactly when the count is one,
 -- and says none exactly when it is zero. And a strongly popular plan has no blocking pair.
-use Rattle.std.specs.Prelude.{ℕ, ◌<◌, ◌≡◌, ◌≢◌, Bool, true, false, not, ◌&&◌, length, pos, ◌<ℤ◌, eqb, ltb}
+use Rattle.std.specs.Prelude.{ℕ, ◌≡◌, ◌≢◌, Bool, true, false, not, ◌&&◌, length, pos, ◌<ℤ◌, eqb, ltb}
 use Rattle.std.proofs.Common.{arith, sym, ap, ◌∙◌, inl, inr, ⊎_elim, ltb→lt, eqb→eq}
 use Rattle.std.proofs.Math.Path.{refl, subst}
 use mathlib.Core.List.{List, [], ◌∷◌}

@@ -4,7 +4,7 @@ use Rattle.std.proofs.Common.{arith, ⊎_elim, T_not, eqb→eq, leb→le}
 use Rattle.std.proofs.Math.Dec.{not_T, nleb→lt}
 use Rattle.lists.specs.Test.{by-test, and_l, and_r, and_i, or_l, or_r, or_case, eq→eqb}
 use Rattle.lists.specs.Search.{low_is}
-use Rattle.lists.specs.Sum.{◌∈◌, up_to, up_to_∈, up_to_<}
+use Rattle.lists.specs.Sum.{up_to, up_to_∈, up_to_<}
 use Rattle.lists.specs.Keep.{any_or, none_∈, all_∈, ∈_all}
 use Rattle.model.specs.Instance.{Instance}
 use Rattle.model_files.specs.Offers.{Offers, free, best_left, next_offer, kept_at}

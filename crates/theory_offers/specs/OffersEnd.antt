@@ -9,7 +9,7 @@ use Rattle.std.proofs.Math.Logic.{by_cases}
 use Rattle.std.proofs.Math.Dec.{not_T, leb→le, nleb→lt, eqb_refl}
 use Rattle.lists.specs.Test.{by-test, if-ind, and_l, and_r, and_i, or_case, eq→eqb}
 use Rattle.lists.specs.Search.{low, low_is, least_by}
-use Rattle.lists.specs.Sum.{◌∈◌, up_to, up_to_∈, up_to_<, count, count_sub_lt, count_≤}
+use Rattle.lists.specs.Sum.{up_to, up_to_∈, up_to_<, count, count_sub_lt, count_≤}
 use Rattle.lists.specs.Keep.{any?, any_∈, any_or}
 use Rattle.model.specs.Instance.{Instance, Side, surveyors, stands, deg}
 use Rattle.model.specs.Blocking.{yields}

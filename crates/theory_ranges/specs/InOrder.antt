@@ -2,10 +2,10 @@
 -- the first edge of its surveyor, and its rank, less one.
 use Rattle.std.specs.Prelude.{ℕ, ◌+◌, ◌-◌, ◌≤◌, ◌<◌, ◌≡◌, length, T, ltb}
 use native.Mathlib.Omega.{arith}
-use Rattle.std.proofs.Common.{sym, ap, ◌∙◌, inl, inr}
+use Rattle.std.proofs.Common.{inl, inr}
 use Rattle.lists.specs.Sum.{count}
 use Rattle.model.specs.Roster.{Roster, surveyor_count, list_s, fits}
-use Rattle.model.specs.Edges.{Edge, position, edges_of, edge_at, instance_of}
+use Rattle.model.specs.Edges.{Edge, edges_of, edge_at, instance_of}
 use Rattle.model.specs.Instance.{Instance}
 use Rattle.model.specs.Ranges.{place_s}
 use Rattle.theory_files.specs.Position.{position_pos}
@@ -13,7 +13,7 @@ use Rattle.theory_files.specs.Ascending.{edges_ascend, later, Before}
 use Rattle.theory_files.specs.RosterInstance.{lawful}
 use Rattle.theory_ranges.specs.Places.{place_in}
 use Rattle.theory_ranges.specs.Counted.{lower}
-use Rattle.theory_ranges.specs.RosterSums.{entry, surveyor_sum}
+use Rattle.theory_ranges.specs.RosterSums.{entry}
 use Rattle.theory_ranges.specs.RosterPlaces.{rank_s_is, place_s_law, whole_s}
 
 -- the edges come by surveyor, ranks count from 1, and an edge's entry stands behind all edges of lower surveyors, at its rank less one

@@ -1,1 +1,3 @@
+#![tactic(auto)]
+
 // The laws of the steps. No code.

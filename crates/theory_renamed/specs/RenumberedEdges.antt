@@ -1,6 +1,6 @@
 -- The instance of a renumbered roster is the roster's under other numbers: each edge becomes the one with the new number of its stand, and back;
 -- ranks stay. Edges of one surveyor may come in another order.
-use Prim.Native.Nat.{ℕ, suc, ◌-◌, ◌≤◌, ◌<◌}
+use Prim.Native.Nat.{ℕ, suc, ◌≤◌, ◌<◌}
 use Rattle.std.proofs.Common.{arith, ◌∙◌}
 use Rattle.std.proofs.Math.Nat.{suc_inj}
 use Rattle.std.specs.Prelude.{◌≡◌, refl, Bool, true, false, cond, List, [], ◌∷◌, map}

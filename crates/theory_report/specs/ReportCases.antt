@@ -1,7 +1,7 @@
 -- Two lemmas of the report that are false, run by the checker (docs/THEORY.md, "Where the report is short"): instances that have the properties
 -- which the lemmas stand on, in the report's own words, and a strongly popular plan that the lemmas exclude. Its digraph is the arrows, its T₂
 -- the loose stands. No rule but rule 7 acts on the first, so rules 1 to 6 alone leave its pairs: with them the End theorem would be false.
-use Rattle.std.specs.Prelude.{ℕ, ◌+◌, ◌≡◌, refl, Bool, true, false, not, ◌&&◌, ◌||◌, List, take, leb, ltb, eqb}
+use Rattle.std.specs.Prelude.{ℕ, ◌≡◌, refl, Bool, true, false, not, ◌&&◌, ◌||◌, List, take, leb, ltb, eqb}
 use Rattle.std.proofs.Math.Option.{Option-elim, or_else}
 use Rattle.lists.specs.Sum.{count, up_to}
 use Rattle.lists.specs.Search.{low}

@@ -1,1 +1,3 @@
+#![tactic(auto)]
+
 // Lemmas of the report that are false, each by an instance that the checker computes; no code.

@@ -1,5 +1,5 @@
 -- The tables that the search computes are those that Table asks for: the arcs, the layers, the ends.
-use Prim.Native.Nat.{ℕ, zero, suc, ◌+◌, ◌≤◌, ◌<◌, zero-le}
+use Prim.Native.Nat.{ℕ, zero, suc, ◌+◌, ◌<◌, zero-le}
 use native.Mathlib.Omega.{arith}
 use Rattle.std.specs.Prelude.{◌≡◌, ◌⊎◌, Bool, not, ◌&&◌, T, eqb}
 use Rattle.std.proofs.Math.Path.{refl}

@@ -1,6 +1,6 @@
 -- What the model's verdict says, in votes: strong, popular and beaten as document 01 has them, each exactly when its sentence holds, so
 -- exactly one of them. And two plans that are both strong are one.
-use Rattle.std.specs.Prelude.{◌≡◌, refl, ◌↔◌, Bool, not, ◌&&◌, ℤ, pos, ◌≤ℤ◌, ◌<ℤ◌, T}
+use Rattle.std.specs.Prelude.{◌≡◌, refl, ◌↔◌, Bool, not, ◌&&◌, pos, ◌≤ℤ◌, ◌<ℤ◌, T}
 use Rattle.std.proofs.Common.{sym, subst, T_not}
 use Rattle.std.specs.Int.Signed.{le_z, lt_z, lt_z_yes, lt_z_no, le_z_yes, ≤ℤ_refl, clash_ℤ}
 use Rattle.std.proofs.Math.Dec.{not_T}
