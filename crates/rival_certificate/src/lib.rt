@@ -1,5 +1,7 @@
 // A table of costs, 64 added, one for each two places, that no arc makes lower: no walk costs less than it says. It is made as the costs of the least
 // walks; nothing is promised of how it is made, since one pass over it checks all that is asked.
+#![tactic(auto)]
+
 ghost use Rattle.std.specs.Prelude.{◌≡◌, true, ℕ, ◌+◌, ◌*◌, ◌≤◌, ◌<◌, min};
 ghost use Rattle.model.specs.Limits.{plan_limit};
 ghost use Rattle.arrays.specs.ArrayInstance.{at};

@@ -1,6 +1,8 @@
 // What a walk may gain at an end: the least rate of an edge outside the plan that lies at the same node as an edge of the plan on one side and has
 // room on the other, for each edge of the plan; the same with a node of the other side shut out. The two sides are told apart by the arrays. The edges
 // of a node are found by the links alone, and the promises hold for any ends that these link.
+#![tactic(auto)]
+
 ghost use Rattle.std.specs.Prelude.{◌≡◌, not, List, ℕ, ◌≤◌, ◌<◌, length, eqb};
 ghost use Rattle.model.specs.Limits.{entry_limit, node_limit, plan_limit};
 ghost use Rattle.arrays.specs.ArrayInstance.{at};

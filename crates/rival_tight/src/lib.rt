@@ -1,5 +1,7 @@
 // The first closed walk below k, by tight arcs alone: those that some closed walk below k may go by, as the table of costs tells. They are few, and a pass
 // over the arcs of a row goes from one to the next.
+#![tactic(auto)]
+
 ghost use Rattle.std.specs.Prelude.{◌≡◌, ◌≤◌, ◌<◌};
 ghost use Rattle.model.specs.Limits.{plan_limit};
 ghost use Rattle.arrays.specs.ArrayInstance.{at};
