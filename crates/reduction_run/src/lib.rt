@@ -1,6 +1,8 @@
 // The whole reduction: all steps, each entered in the trace, and what remains and what is fixed at the end. Beside the state and its arrows a run
 // carries the numbers of the nodes, which say what the rules name; a step renews them where it changed something (crate reduction_turn). All of
 // that stays in place, lent to each step and turn.
+#![tactic(auto)]
+
 ghost use Rattle.std.specs.Prelude.{◌≤◌, ◌<◌};
 ghost use Rattle.model.specs.Limits.{node_limit, entry_limit, empty_rank};
 ghost use Rattle.arrays.specs.Passes.{Low};
