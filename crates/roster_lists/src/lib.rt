@@ -1,6 +1,8 @@
 // Lists at places of the file. Each list's entries are handed on as a part of the file that starts at its offset; each list has a row
 // of marks for its entries. `shifts` says how an entry stands in the file. This crate is a part of the roster reader (crate roster), whose
 // public call needs none of what these functions require.
+#![tactic(auto)]
+
 ghost use Rattle.std.specs.Prelude.{[], ◌*◌, ◌≤◌, length};
 ghost use Rattle.model.specs.Limits.{node_limit, shift_limit};
 ghost use Rattle.model.specs.Roster.{entries};
