@@ -3,7 +3,7 @@
 
 usage: python3 tools/respell_docs.py [--look]      at the top of the repository; --look changes nothing and prints what would change
 
-A name is turned where it stands as crate/File.name; in backquotes as `name`, `File.name` or `Record.field`; and in a table's cell as File.name or behind
+A name is turned where it stands as crate/File.name, or as File.name of a file that has the new one; in backquotes as `name`, `File.name` or `Record.field`; and in a table's cell as File.name or behind
 a comma, a semicolon or a bracket after one. A name that /opt/rattle/port/port.py turned already is not in the list: it is turned if nothing has it any more and its
 snake form is declared. docs/LANDINGS.md tells the past, docs/PORT.md the port itself: both stay as they are.
 """
@@ -47,6 +47,15 @@ def dotted(m):
     return m.group(1) + "".join("." + turned(n, file) for n in m.group(2)[1:].split("."))
 
 
+def loose(m):
+    """File.name in a sentence, without backquotes: turned if the file has the new name and not the old one."""
+    file = m.group(1)
+    names = m.group(2)[1:].split(".")
+    news = [turned(n, file) for n in names]
+    known = OF_FILE.get(file, set())
+    return dotted(m) if names[0] not in known and news[0] in known else m.group(0)
+
+
 def quoted(text):
     """What stands in backquotes: one name, or names with a file or a record before them."""
     if re.fullmatch(NAME, text):
@@ -75,7 +84,7 @@ def document(text):
             elif in_table:
                 parts[n] = "|".join(cell(c) for c in part.split("|"))
             else:
-                parts[n] = WHOLE.sub(dotted, part)
+                parts[n] = SHORT.sub(loose, WHOLE.sub(dotted, part))
         out.append("`".join(parts))
     return "\n".join(out)
 

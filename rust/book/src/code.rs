@@ -18,6 +18,8 @@ const BUILT: [&str; 3] = ["len", "copy_from_slice", "is_err"];
 const VARIANTS: [&str; 4] = ["Some", "None", "Ok", "Err"];
 /// The kit's library whose methods are called by their names alone.
 const STD: &str = "std";
+/// The crates that it hands on what reads and writes from.
+const STD_PARTS: [&str; 2] = ["std", "std_io"];
 /// First words of a path that stay in the crate.
 const HERE: [&str; 3] = ["super", "crate", "self"];
 
@@ -236,7 +238,8 @@ fn is_type(name: &str) -> bool {
 /// The public functions of one of the kit's libraries; of `std` the methods too, of types and of traits.
 fn kit_functions(library: &Library, name: &str) -> HashSet<String> {
     let mut found = HashSet::new();
-    for place in files_below(&library.kit.join("rattle").join(name).join("src"), "rt") {
+    let folders: &[&str] = if name == STD { &STD_PARTS } else { &[name] };
+    for place in folders.iter().flat_map(|folder| files_below(&library.kit.join("rattle").join(folder).join("src"), "rt")) {
         let Ok(text) = std::fs::read_to_string(&place) else {
             continue;
         };

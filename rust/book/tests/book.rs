@@ -30,8 +30,8 @@ fn the_program_makes_a_whole_book() {
 
 /// Changes to the sources, each of which must be noticed.
 const CHANGES: [(&str, &str, &str); 5] = [
-    ("crates/model/specs/Vote.antt", "pub nodeVote :", "pub votesOfNode :"),
-    ("crates/model/specs/Plans.antt", "pub isStrong :", "pub isPlain :"),
+    ("crates/model/specs/Vote.antt", "pub node_vote :", "pub votes_of_node :"),
+    ("crates/model/specs/Plans.antt", "pub is_strong :", "pub is_plain :"),
     ("crates/model/specs/Vote.antt", "the least sum over valid", "the greatest sum over valid"),
     ("crates/theory_votes/src/lib.rt", "The laws of votes", "Some laws of votes"),
     ("crates/verdict/src/lib.rt", "pub fn weigh_paired(", "pub fn weigh_twice("),
@@ -53,8 +53,8 @@ fn what_changes_is_noticed() {
     let names = Names::new(&trees);
     let book = Book::gather(&names, Path::new(env!("CARGO_MANIFEST_DIR"))).expect("the book is gathered");
     let noticed = |what: &str| assert!(book.faults.iter().any(|f| f.contains(what)), "{what} passed unnoticed");
-    noticed("Vote.nodeVote leads nowhere");
-    noticed("Plans.isStrong leads nowhere");
+    noticed("Vote.node_vote leads nowhere");
+    noticed("Plans.is_strong leads nowhere");
     noticed("greatest sum over valid pairings.\" is in no paper");
     noticed("verdict::weigh_paired leads nowhere");
     let stale = book.stale().expect("the documents are read");
@@ -70,15 +70,15 @@ fn a_contract_comes_to_what_its_call_can_answer(book: &Book) {
         let decl = book.library().named(decl).expect("it is declared");
         book.call(call).expect("a public call").comes_to.contains(&decl)
     };
-    assert!(comes("Desk::blocking", "model/Blocking.topBlocking"));
-    assert!(!comes("Desk::blocking", "model/Finder.finderOf"));
-    assert!(comes("Desk::find", "model/Finder.finderOf"));
+    assert!(comes("Desk::blocking", "model/Blocking.top_blocking"));
+    assert!(!comes("Desk::blocking", "model/Finder.finder_of"));
+    assert!(comes("Desk::find", "model/Finder.finder_of"));
     assert!(!comes("Desk::load_roster", "model/Vote.vote"));
     assert!(comes("Desk::compare", "model/Vote.vote"));
 }
 
 fn edits_and_rows_stand_at_their_definitions(book: &Book) {
-    let decl = book.library().named("model/Vote.rankVote").expect("it is declared");
+    let decl = book.library().named("model/Vote.rank_vote").expect("it is declared");
     assert!(book.rows.iter().any(|r| r.definitions.contains(&decl)));
     let decl = book.library().named("model/Vote.leastℤ").expect("it is declared");
     let edits = book.edits_of.get(&decl).into_iter().flatten();

@@ -7,16 +7,26 @@ use book::walk::{self, Link};
 use std::path::PathBuf;
 
 const BASE: &str =
-    "pub data Bool : Type 0 where\n  true : Bool\n  false : Bool\n\npub data List (A : Type 0) : Type 0 where\n  [] : List A\n  _∷_ : A → List A → List A\n\n\
+    "pub data Bool : Type 0 where\n  true : Bool\n  false : Bool\n\npub data List (A : Type 0) : Type 0 where\n  [] : List A\n  ◌∷◌ : A → List A → List A\n\n\
     abbrev pub map : {A B : Type 0} → (A → B) → List A → List B\nmap f [] = []\nmap f (x ∷ xs) = f x ∷ map f xs\n\n\
     pub record Pair : Type 0 where\n  pub first : Bool\n  pub second : Bool\n\npub record Other : Type 0 where\n  pub first : Bool\n";
 
-const USER: &str = "use Rattle·base.specs.Base as B\nuse Rattle·base.specs.Base.{Bool, true, false, List, [], _∷_, map, Pair, Other}\n\n\
-    abbrev pub firsts : List Pair → List Bool\nfirsts ps = map (λ p. p .first) ps\n\n\
+const USER: &str = "use Rattle.base.specs.Base as B\nuse Rattle.std.specs.Prelude.{kept}\nuse Rattle.std.specs.Seen.{Shown}\nuse Rattle.base.specs.Base.{Bool, true, false, List, [], ◌∷◌, map, Pair, Other}\n\n\
+    abbrev pub firsts : List Pair → List Bool\nfirsts ps = map (λ p. p.first) ps\n\n\
     abbrev pub made : List Other\nmade = record { first = true } ∷ []\n\n\
-    abbrev pub swapped : Pair → Pair\nswapped p = let q = p in record { first = q .second; second = q.first }\n\n\
+    abbrev pub swapped : Pair → Pair\nswapped p = let q = p in record { first = q.second; second = q.first }\n\n\
     abbrev pub by : Bool → Bool\nby B.true = false\nby false = missing\n\n\
-    module _ (p : Pair) where\n  abbrev pub inside : Bool\n  inside = p .first\n\nabbrev pub outside : Pair → Bool\noutside = inside\n";
+    module _ (p : Pair) where\n  abbrev pub inside : Bool\n  inside = p.first\n\nabbrev pub outside : Pair → Bool\noutside = inside\n\n\
+    abbrev pub taken : Pair → Bool\ntaken p = kept (swapped p).second p.first\n\n\
+    abbrev pub handed : Shown → Bool\nhanded s = s.held\n";
+
+/// A kit with one crate, whose prelude hands on a name and a module.
+const KIT: [(&str, &str); 4] = [
+    ("rattle/std/specs/Lib.antt", "pub mod Prelude\npub use lib.Shown as Seen\n"),
+    ("rattle/std/specs/Prelude.antt", "pub use lib.Kept.{kept}\n"),
+    ("rattle/logic/Lib/Kept.antt", "pub kept : ℕ → ℕ → ℕ\nkept a b = a\n"),
+    ("rattle/logic/Lib/Shown.antt", "pub record Shown : Type 0 where\n  pub held : ℕ\n"),
+];
 
 /// The small project in a folder of its own.
 fn project(name: &str) -> PathBuf {
@@ -25,6 +35,13 @@ fn project(name: &str) -> PathBuf {
         let folder = root.join("crates").join(owner).join("specs");
         std::fs::create_dir_all(&folder).expect("a folder");
         std::fs::write(folder.join(format!("{file}.antt")), text).expect("a file");
+    }
+    let project = ("rattle/logic/antt-project.json", "{\n  \"name\": \"logic\",\n  \"mounts\": {\n    \"lib\": \"Lib\"\n  }\n}\n");
+    let own = ("rattle/logic/Lib/antt-project.json", "{ \"name\": \"lib\", \"src\": \".\" }\n");
+    for (file, text) in KIT.iter().chain(&[project, own]) {
+        let path = root.join(file);
+        std::fs::create_dir_all(path.parent().expect("a folder")).expect("a folder");
+        std::fs::write(path, text).expect("a file");
     }
     root
 }
@@ -56,11 +73,13 @@ fn names_lead_to_their_declarations() {
         }
     };
     has("user/User.firsts", &["map=base/Base.map", "p=bound", "ps=bound", "first=base/Base.Pair:first"]);
-    has("user/User.made", &["first=base/Base.Other:first", "∷=base/Base.List:_∷_", "true=base/Base.Bool:true"]);
+    has("user/User.made", &["first=base/Base.Other:first", "∷=base/Base.List:◌∷◌", "true=base/Base.Bool:true"]);
     has("user/User.swapped", &["second=base/Base.Pair:second", "first=base/Base.Pair:first", "q=bound"]);
     has("user/User.by", &["B=base/Base.Bool:true", "true=base/Base.Bool:true", "missing=lost"]);
     has("user/User.inside", &["p=bound", "first=base/Base.Pair:first"]);
     has("user/User.outside", &["inside=user/User.inside"]);
+    has("user/User.taken", &["kept=lib.Kept.kept", "second=base/Base.Pair:second", "first=base/Base.Pair:first"]);
+    has("user/User.handed", &["Shown=lib.Shown.Shown", "held=lib.Shown.Shown:held"]);
     std::fs::remove_dir_all(root).expect("it is taken away");
 }
 

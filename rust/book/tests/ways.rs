@@ -16,9 +16,9 @@ const BYTES: &str = "pub fn copy(n: u8) -> u8 { n }\nfn hidden(n: u8) -> u8 { n 
 /// The small project and a kit with one library, in a folder of its own; `body` is what `sell` does.
 fn graph(name: &str, body: &str) -> (Library, Graph) {
     let root = std::env::temp_dir().join(format!("ways-{name}-{}", std::process::id()));
-    let sell = format!("{SHOP}pub fn sell(x: Till, n: u8) -> u8\n    ensures {{ λ r. ⌜ promised(r) ⌝ }}\n{{\n{body}\n}}\n");
+    let sell = format!("{SHOP}pub fn sell(x: Till, n: u8) -> u8\n    ensures {{ promised(result) }}\n{{\n{body}\n}}\n");
     for (file, text) in
-        [("crates/shop/src/lib.rt", sell.as_str()), ("crates/shop/src/shelf.rt", SHELF), ("crates/goods/src/lib.rt", GOODS), ("libs/bytes/src/lib.rt", BYTES)]
+        [("crates/shop/src/lib.rt", sell.as_str()), ("crates/shop/src/shelf.rt", SHELF), ("crates/goods/src/lib.rt", GOODS), ("rattle/bytes/src/lib.rt", BYTES)]
     {
         let path = root.join(file);
         std::fs::create_dir_all(path.parent().expect("a folder")).expect("a folder");
