@@ -1,6 +1,7 @@
 //! The parts of the documents that are made from the sources: between `<!-- book: NAME -->` and `<!-- book: end -->`.
 
 use crate::contents::{comments, Book};
+use crate::source::File;
 use crate::ways::Ways;
 use std::fmt::Write;
 
@@ -46,6 +47,18 @@ pub fn first_sentence(comment: &str) -> String {
     told.replace('|', "\\|")
 }
 
+/// Whether a file of code has anything but comments and attributes of the whole file, as `#![tactic(auto)]`.
+fn has_code(file: &File) -> bool {
+    let mut at = 0;
+    while at < file.words.len() {
+        if file.word(at) != "#" || file.words.len() == at + 1 || file.word(at + 1) != "!" {
+            return true;
+        }
+        at = (at..file.words.len()).find(|&k| file.word(k) == "]").map_or(file.words.len(), |k| k + 1);
+    }
+    false
+}
+
 impl Book<'_> {
     /// A crate's first comment, and whether it has code.
     fn crate_head(&self, name: &str) -> (String, bool) {
@@ -56,7 +69,7 @@ impl Book<'_> {
         let first = |f: &usize| library.files[*f].place.file_stem().is_some_and(|s| s == "lib" || s == "main");
         code.sort_by_key(|f| !first(f));
         let told = code.iter().find_map(|&f| comments(&library.files[f]).first().map(|c| c.1.clone()));
-        let has_code = code.iter().any(|&f| !library.files[f].words.is_empty());
+        let has_code = code.iter().any(|&f| has_code(&library.files[f]));
         (told.unwrap_or_default(), has_code)
     }
 
@@ -197,6 +210,15 @@ mod tests {
         let made = rewritten(told, |name| (name == "x").then(|| "new\n".to_string()));
         assert_eq!(made, "a\n<!-- book: x -->\nnew\n<!-- book: end -->\nb\n<!-- book: y -->\nkept\n<!-- book: end -->\n");
         assert_eq!(rewritten(&made, |name| (name == "x").then(|| "new\n".to_string())), made);
+    }
+
+    #[test]
+    fn a_crate_without_code_has_attributes_at_most() {
+        let read = |text: &str| crate::rattle::read("t", std::path::PathBuf::new(), text.to_string(), 0, &mut Vec::new()).0;
+        assert!(!has_code(&read("// only this\n")));
+        assert!(!has_code(&read("// only this\n#![tactic(auto)]\n#![tactic(auto)]\n")));
+        assert!(has_code(&read("#![tactic(auto)]\n\npub const A: u8 = 1;\n")));
+        assert!(has_code(&read("#[derive(Drop)]\npub struct A;\n")));
     }
 
     #[test]
