@@ -3,7 +3,7 @@
 use crate::kit::files_below;
 use crate::lex::Kind;
 use crate::names::Library;
-use crate::rattle::{self, Function};
+use crate::rattle::Function;
 use crate::source::{File, Sort};
 use std::cell::RefCell;
 use std::collections::{HashMap, HashSet};
@@ -235,19 +235,17 @@ fn is_type(name: &str) -> bool {
     name.starts_with(|c: char| c.is_uppercase())
 }
 
-/// The public functions of one of the kit's libraries; of `std` the methods too, of types and of traits.
+/// The public functions of one of the kit's libraries; of `std` the methods too, of types and of traits. They are read off the lines that they begin in.
 fn kit_functions(library: &Library, name: &str) -> HashSet<String> {
     let mut found = HashSet::new();
     let folders: &[&str] = if name == STD { &STD_PARTS } else { &[name] };
     for place in folders.iter().flat_map(|folder| files_below(&library.kit.join("rattle").join(folder).join("src"), "rt")) {
-        let Ok(text) = std::fs::read_to_string(&place) else {
-            continue;
-        };
-        let (_, functions) = rattle::read("kit", place, text, 0, &mut Vec::new());
-        found.extend(functions.into_iter().filter(|f| f.public || name == STD).map(|f| match f.name.split_once("::") {
-            Some((_, method)) => method.to_string(),
-            None => f.name,
-        }));
+        let text = std::fs::read_to_string(&place).unwrap_or_default();
+        for line in text.lines().map(str::trim_start) {
+            let public = line.strip_prefix("pub fn ");
+            let method = line.strip_prefix("fn ").filter(|_| name == STD);
+            found.extend(public.or(method).and_then(|l| Some(l[..l.find(['(', '<'])?].to_string())));
+        }
     }
     found
 }
