@@ -1,5 +1,7 @@
 // The four sections of a roster file, each after its count. `shifts` says how an entry stands in the file. This crate is a part of the
 // roster reader (crate roster), whose public call needs none of what these functions require.
+#![tactic(auto)]
+
 ghost use Rattle.std.specs.Prelude.{◌≡◌, [], ◌+◌, ◌*◌, ◌≤◌, ◌<◌, length, drop};
 ghost use Rattle.model.specs.Limits.{node_limit};
 ghost use Rattle.model.specs.Roster.{total_s, total_t};
