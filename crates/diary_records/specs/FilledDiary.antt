@@ -5,7 +5,6 @@ use Rattle.std.proofs.lemmas.List.{length-map}
 use Rattle.lists.specs.Keep.{gather}
 use Rattle.model.specs.Finder.{Record}
 use Rattle.model_desk.specs.Desk.{onto}
-use Rattle.arrays.specs.ArrayInstance.{at}
 use Rattle.diary.specs.FlatDiary.{numbers, written, record_width}
 use Rattle.diary.specs.declared.Step.{Step}
 use Rattle.diary.specs.LentSteps.{record_in, records_in, step_at, steps_in}

@@ -1,5 +1,5 @@
 -- The records of a run's trace: of each entry its rule, the rule's fate, and the ends and the shift of its edge. They are the model's diary.
-use Prim.Native.Nat.{ℕ, zero, suc, ◌+◌, ◌-◌, ◌*◌, ◌≤◌, ◌<◌, zero-le}
+use Prim.Native.Nat.{ℕ, suc, ◌+◌, ◌-◌, ◌*◌, ◌≤◌, ◌<◌, zero-le}
 use native.Mathlib.Omega.{arith}
 use Rattle.std.specs.Prelude.{◌≡◌, length, get_or, drop, replicate}
 use Rattle.std.proofs.Math.Path.{refl, sym, ap, ap₂}

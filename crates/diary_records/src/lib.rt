@@ -1,6 +1,8 @@
 // Into the diary that a caller lends, a slice of step records (crate diary). A run leaves a trace (crate reduction_state); `flat_records` makes its
 // records as numbers, five a record, and `fill` puts the records of such a flat diary to the front of the lent slice. No other function of the
 // planner writes into a slice of structs.
+#![tactic(auto)]
+
 ghost use Rattle.std.specs.Prelude.{◌≡◌, ℕ, ◌+◌, ◌<◌, ◌≤◌, List, length};
 ghost use Rattle.model.specs.Limits.{diary_size};
 ghost use Rattle.model_desk.specs.Desk.{onto};
@@ -58,7 +60,7 @@ pub(crate) const THIRD: usize = 2560;
 pub(crate) const FOURTH: usize = 3840;
 
 // To read a place of an array by value is to copy the array, so a diary is filled from quarters.
-#[derive(Drop)]
+#[derive(Clone, Copy)]
 pub struct Quarters {
     pub first: [u8; QUARTER],
     pub second: [u8; QUARTER],
