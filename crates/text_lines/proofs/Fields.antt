@@ -1,7 +1,7 @@
 -- The words of fates, and fields in a row as one text.
 use Prim.Native.Nat.{ℕ, zero, suc}
 use mathlib.Core.Path.{◌≡◌, refl}
-use mathlib.Core.List.{List, [], ◌∷◌, ◌++◌, append_assoc}
+use mathlib.Core.List.{[], ◌∷◌, ◌++◌, append_assoc}
 use Rattle.model.specs.Text.{text}
 use Rattle.model.specs.Finder.{Record}
 use Rattle.model.specs.Printed.{number, fate_word, diary_line}

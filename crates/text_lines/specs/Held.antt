@@ -1,6 +1,6 @@
 -- The lines of what a buffer holds at its front: the records of a diary, the pairs of some edges.
 use Rattle.std.specs.Prelude.{ℕ, zero, suc, ◌+◌, ◌*◌, ◌<◌, ◌≡◌, refl, List, [], ◌∷◌, ◌++◌, length, get_or, drop}
-use Rattle.std.proofs.Common.{arith, sym, ap, ap₂, ◌∙◌, append_assoc, get_or-append-add}
+use Rattle.std.proofs.Common.{arith, ap, ap₂, ◌∙◌, append_assoc, get_or-append-add}
 use Rattle.std.proofs.Math.ListN.{get_or-append}
 use Rattle.lists.specs.Keep.{gather}
 use Rattle.model.specs.Limits.{pair_width}

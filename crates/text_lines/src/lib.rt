@@ -1,5 +1,7 @@
 // The lines of the program's text: numbers in decimal and words, a step record in a diary line, a pair in a pair line, runs of both; and the endings: counted
 // pair lines under a word, and the lines of each answer behind its diary.
+#![tactic(auto)]
+
 ghost use Rattle.std.specs.Prelude.{[], ◌∷◌, ◌++◌, ◌+◌, ◌*◌, ◌≤◌, ◌<◌, length, ◌≡◌};
 ghost use Rattle.model.specs.Limits.{pair_width, plan_limit};
 ghost use Rattle.model.specs.Printed.{fate_word, diary_line, digits, number, signed};
