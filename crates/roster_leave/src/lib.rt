@@ -1,5 +1,7 @@
 // A surveyor leaves the field: request W-202 of document 02. The bytes of the roster in which the leaver keeps the number, with quota zero and
 // no pairs, made from the bytes of an accepted roster, part by part: the quotas, the surveyors' lists, the stands' lists.
+#![tactic(auto)]
+
 ghost use Rattle.std.specs.Prelude.{◌≤◌, ◌<◌, ◌≡◌, length};
 ghost use Rattle.model.specs.Limits.{node_limit};
 ghost use Rattle.model_changes.specs.Changes.{leave_on, without};

@@ -7,7 +7,7 @@ use mathlib.Core.List.{List, [], ◌∷◌, ◌++◌, map, append_assoc}
 use Rattle.std.proofs.Math.ListN.{length, get_or, length-append}
 use Rattle.std.proofs.Math.Seq.{take_at}
 use Rattle.lists.specs.Test.{given}
-use Rattle.lists.specs.Sum.{◌∈◌, range}
+use Rattle.lists.specs.Sum.{range}
 use Rattle.lists.specs.Keep.{all_∈, gather}
 use Rattle.lists.specs.Ranges.{map_cong, gather_map}
 use Rattle.model.specs.Limits.{node_limit, entry_width, list_limit}

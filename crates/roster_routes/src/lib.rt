@@ -1,6 +1,8 @@
 // An accepted roster with its stands renumbered and reordered (request W-214 of document 02), from two tables that have a place for each number
 // up to 32: `order` has for each new number the stand that takes it, `numbers` for each stand its new number. A route gives both, and its way
 // back has them the other way round.
+#![tactic(auto)]
+
 ghost use Rattle.std.specs.Prelude.{◌≡◌, ◌+◌, ◌*◌, ◌≤◌, length};
 ghost use Rattle.model.specs.Limits.{node_limit};
 ghost use Rattle.roster_parts.specs.Growth.{Room, Grown};

@@ -4,7 +4,7 @@ use Prim.Native.Nat.{ℕ, zero, suc, ◌+◌, ◌-◌, ◌*◌, ◌/◌, ◌≤�
 use native.Mathlib.Omega.{arith}
 use Rattle.std.proofs.Common.{add-one, mul-le-mul_left, sym, ap, ◌∙◌, subst, drop_of_length-le, drop-cons}
 use Rattle.std.proofs.Math.Nat.{mul-div-le}
-use Rattle.std.specs.Prelude.{◌≡◌, Bool, true, false, not, cond, ◌&&◌, List, [], ◌∷◌, ◌++◌, length, take, drop, get_or}
+use Rattle.std.specs.Prelude.{◌≡◌, Bool, true, false, not, cond, List, [], ◌∷◌, ◌++◌, length, take, drop, get_or}
 use Rattle.lists.specs.Keep.{all?, gather}
 use Rattle.model.specs.Limits.{roster_size}
 use Rattle.model.specs.Roster.{Entry, no_entry}

@@ -1,5 +1,5 @@
 -- An accepted roster's file, turned: what is written is the same roster in the other layout, and whether all its shifts are 1 is told.
-use Rattle.std.specs.Prelude.{ℕ, zero, suc, ◌+◌, ◌*◌, ◌/◌, ◌≤◌, ◌≡◌, true, false, not, ◌&&◌, drop, get_or, T, leb}
+use Rattle.std.specs.Prelude.{ℕ, ◌+◌, ◌*◌, ◌/◌, ◌≤◌, ◌≡◌, true, false, not, ◌&&◌, drop, get_or, T, leb}
 use Rattle.std.proofs.Common.{arith, sym, ap₂, ◌∙◌, eqb→eq, leb→le}
 use Rattle.std.proofs.Math.Path.{refl, ap}
 use Rattle.std.proofs.Math.Bool.{Bool}
@@ -14,7 +14,6 @@ use Rattle.model.specs.Reading.{accepted, is_bytes}
 use Rattle.model.specs.Roster.{Entry, Ranking, Roster, entries, surveyor_count, stand_count, total_s, total_t, quotas_fit, fits_by}
 use Rattle.model.specs.RosterFile.{Layout, list_bytes, wide_bytes, entries_bytes, ranking_bytes, read_roster_by, write_roster_by}
 use Rattle.model_desk.specs.Seasons.{is_first, only_first}
-use Rattle.theory_files.specs.Layouts.{Agrees}
 use Rattle.theory_files.specs.Rosters.{Held, read_held, read_write_by, read_fits_by, fits_parts_by, entries_size}
 use Rattle.theory_files.specs.Offsets.{head_is, tail_is, part_is, rest_is, lists_start, ranking_section, offsets, rankings_from_law}
 use Rattle.roster_reading.specs.Check.{fields_of}

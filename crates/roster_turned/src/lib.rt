@@ -1,6 +1,8 @@
 // A roster's bytes from one layout into the other (W-205): entries with their shifts, or as numbers alone. `shifts` says how they stand in the
 // file; the counts, the quotas and the lengths of lists stay as they are. Nothing here checks a roster: on bytes that are none, what is written
 // is what these functions say and no more. What does not fit into the array is left out; a roster within the limits always fits.
+#![tactic(auto)]
+
 ghost use Rattle.std.specs.Prelude.{◌≡◌, ◌≤◌};
 ghost use Rattle.model.specs.Limits.{node_limit};
 ghost use Rattle.roster_reading.specs.Layout.{entry_of, layout_of};
