@@ -1,5 +1,7 @@
 // The search for a rival of a plan: the table of the ends; and on it and on the table of the arcs the search below 0, and the search below 1 if that one
 // finds nothing. hs and ls are the links through the edges of each surveyor, ht and lt those of each stand: first edges and next ones.
+#![tactic(auto)]
+
 ghost use Rattle.std.specs.Prelude.{◌≡◌, ◌⊎◌, true, ◌≤◌, ◌<◌};
 ghost use Rattle.model.specs.Limits.{entry_limit, node_limit, plan_limit};
 ghost use Rattle.arrays.specs.Passes.{Low};
