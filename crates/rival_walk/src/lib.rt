@@ -1,5 +1,7 @@
 // The walk that a search found, read back: one column of the layers, level by level, tells how it leads off from a place, and the edges of the plan that go
 // and the edges that come are marked, arc by arc.
+#![tactic(auto)]
+
 ghost use Rattle.std.specs.Prelude.{◌≡◌, ◌-◌, ◌≤◌, ◌<◌, ℕ};
 ghost use Rattle.model.specs.Limits.{entry_limit, node_limit, plan_limit};
 ghost use Rattle.arrays.specs.Passes.{Low};

@@ -1,8 +1,8 @@
 -- The best of the edges from f on and of what is held is the best of all; f is an edge of the stand of x.
-use Rattle.std.proofs.Common.{◌≡◌, refl, sym, ap, ap₂, ◌∙◌, List, ⊎_elim, Bool, true, false, ◌&&◌, ℕ, ◌+◌, ◌-◌, ◌<◌, arith, ltb}
+use Rattle.std.proofs.Common.{◌≡◌, refl, sym, ap, ap₂, ◌∙◌, List, Bool, true, false, ◌&&◌, ℕ, ◌+◌, ◌<◌, arith, ltb}
 use Rattle.arrays.specs.ArrayInstance.{at}
 use Rattle.rival_tables.specs.Visits.{Passed, head_inside, next_onward, visit_first, visit_next}
-use Rattle.rival_walk.specs.Edges.{edge_price, edge_rest, arc_edge, joins_other, joins_here, edge_start, edge_end, edge_turn}
+use Rattle.rival_walk.specs.Edges.{edge_price, edge_rest, joins_other, joins_here, edge_start, edge_end, edge_turn}
 use Rattle.rival_walk.proofs.arc_edge.Invariants.{Held}
 use Rattle.rival_walk.proofs.arc_edge.Goals.{else-plan-f, then-plan-f}
 use Rattle.rival_walk.proofs.arc_edge.Goals as goal

@@ -1,5 +1,5 @@
 -- The rows up to k are the column's.
-use Rattle.std.proofs.Common.{ℕ, ◌-◌, zero-le, arith, replicate}
+use Rattle.std.proofs.Common.{ℕ, zero-le, arith, replicate}
 use lib.ListN.{length-replicate}
 use Rattle.rival_walk.specs.Leads.{layer_small, column_first, column_next}
 use Rattle.rival_walk.proofs.columns.Goals as goal

@@ -1,5 +1,5 @@
 -- The best by the places from y on and of what is held is the best of all.
-use Rattle.std.proofs.Common.{◌≡◌, sym, ap₂, ◌∙◌, ◌+◌, ◌-◌, zero-le, arith, ⊎_elim}
+use Rattle.std.proofs.Common.{◌≡◌, sym, ap₂, ◌∙◌, ◌+◌, zero-le, arith}
 use Rattle.rival_tables.specs.Filled.{cell}
 use Rattle.rival_walk.specs.Leads.{lead_at, lead_rest, lead_start, lead_end, lead_lower, lead_same}
 use Rattle.rival_walk.proofs.lead.Goals.{else-s-v, then-s-v}

@@ -1,5 +1,5 @@
 -- The places below i are written.
-use Rattle.std.proofs.Common.{refl, ◌-◌, zero-le, arith, not-suc-le-zero, length-set}
+use Rattle.std.proofs.Common.{refl, zero-le, arith, not-suc-le-zero, length-set}
 use Rattle.arrays.specs.Filled.{made_set}
 use Rattle.rival_tables.specs.Filled.{cell}
 use Rattle.rival_walk.specs.Leads.{lead_at}

@@ -1,5 +1,5 @@
 -- What is marked, and what the walk from c still names, are what the whole walk names.
-use Rattle.std.proofs.Common.{◌≡◌, refl, ap, ◌∙◌, subst, ℕ, ◌-◌, arith, true, ⊎_elim, length, length-set, rules}
+use Rattle.std.proofs.Common.{◌≡◌, refl, ap, ◌∙◌, subst, ℕ, ◌-◌, arith, true, length, length-set, rules}
 use Rattle.rival_walk.specs.Leads.{Column, layer_small, lead_cong}
 use Rattle.rival_walk.specs.Edges.{arc_edge}
 use Rattle.arrays.specs.ArrayInstance.{at}

@@ -1,4 +1,4 @@
-use Rattle.std.proofs.Common.{◌≡◌, ◌-◌, ◌≤◌, ◌<◌, length}
+use Rattle.std.proofs.Common.{◌≡◌, ◌≤◌, ◌<◌, length}
 use Rattle.rival_walk.specs.Edges.{arc_edge}
 use Rattle.rival_walk.specs.Walks.{Read}
 use Rattle.rival_walk.proofs.walk.Given as goal
