@@ -1,6 +1,8 @@
 // The bytes of a roster with a joiner whose list is read (requests W-202 and W-204), part by part: the quotas and their sum, the surveyors' lists, the
 // stands' lists, into each of which the joiner's entries come at their place; or the refusal of what stands behind the list, or of a stand's list that
 // would be too long.
+#![tactic(auto)]
+
 ghost use Rattle.std.specs.Prelude.{◌≡◌, ◌≤◌, ◌+◌, length};
 ghost use Rattle.lists.specs.Sum.{sum};
 ghost use Rattle.model.specs.Limits.{node_limit, shift_limit};
