@@ -1,4 +1,6 @@
 // The roster reader: section "Roster bytes" of document 01 with the shifts of W-204, and refusals 1 to 9 and 18 in their order.
+#![tactic(auto)]
+
 ghost use Rattle.std.specs.Prelude.{◌≡◌};
 ghost use Rattle.model.specs.RosterFile.{read_roster_by, read_roster};
 ghost use Rattle.answers.specs.FileCases.{file_case};
