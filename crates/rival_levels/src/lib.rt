@@ -73,7 +73,7 @@ pub fn next_layer(n: usize, arcs: &[u8; 4096], d: &[u8; 4096]) -> [u8; 4096]
 
 // What a search finds, by places in the plan's list: nothing, an edge with room at both ends, a walk without an arc, a closed
 // walk of a level, a walk of a level with a start and an end.
-#[derive(Drop)]
+#[derive(Clone, Copy)]
 pub enum Found {
     Nothing,
     Direct(usize),
