@@ -1,5 +1,7 @@
 // The exchange that makes a rival: what the search found is read back, with the first cheapest start and end of a walk, and the edges of the plan that go
 // and those that come are marked. hs and ls are the links through the edges of each surveyor, ht and lt those of each stand.
+#![tactic(auto)]
+
 ghost use Rattle.std.specs.Prelude.{cond, List, [], ◌∷◌, ◌++◌, ℕ, ◌≤◌, ◌<◌, ltb, ◌≡◌};
 ghost use Rattle.model.specs.Limits.{entry_limit, node_limit, plan_limit};
 ghost use Rattle.theory_verdict.specs.Ends.{fresh};

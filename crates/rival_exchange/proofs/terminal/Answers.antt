@@ -1,0 +1,125 @@
+-- The best of the starts from f on and of what is held is the best of all; f is an edge of the surveyor of x.
+use Rattle.std.proofs.Common.{sym, ap, ap₂, ◌∙◌, List, Bool, ℕ, ◌+◌, ◌<◌, arith}
+use Rattle.theory_verdict.specs.Ends.{Way}
+use Rattle.arrays.specs.ArrayInstance.{at}
+use Rattle.rival_tables.specs.Visits.{Passed, head_inside, next_onward, visit_first, visit_next}
+use Rattle.rival_gains.specs.Gains.{gainable_here, gainable_other}
+use Rattle.rival_exchange.specs.declared.Ends.{Ends}
+use Rattle.rival_exchange.specs.Ways.{told, way_gain, way_lose, begun_lost, begun_gain, round, terminal_rest, terminal_start, terminal_end, terminal_turn, terminal_past}
+use Rattle.rival_exchange.proofs.terminal.Invariants.{Held}
+use Rattle.rival_exchange.proofs.terminal.Goals.{else-plan-f, then-plan-f}
+use Rattle.rival_exchange.proofs.terminal.Goals as goal
+
+others : (m : ℕ) (sv st rs rt : List ℕ) (x y : ℕ) (plan fs ft : List Bool) (held : ℕ × (Way × Way))
+    → Passed m sv (at sv x) (Held m sv st rs rt x y plan fs ft held)
+others m sv st rs rt x y plan fs ft held d l n h =
+    sym (terminal_past m sv st rs rt x y plan fs ft held d l (gainable_other sv st plan ft (at sv x) d n)) ∙ h
+
+pub overflow_cast-s : goal.overflow_cast-s
+overflow_cast-s c = omega (arith, c.requires.1 c.args.x c.requires.5)
+
+pub round-o-requires : goal.round-o-requires
+round-o-requires c =
+    let a = c.args in (
+      c.requires.0,
+      c.requires.1,
+      c.requires.2,
+      c.requires.4,
+      c.requires.5,
+      c.requires.6,
+      omega arith,
+      (a.rs.now, begun_lost a.m a.sv.now a.st.now a.rs.now a.rt.now a.x a.y),
+    )
+
+pub offset_bounds-hs-s : goal.offset_bounds-hs-s
+offset_bounds-hs-s c = omega (arith, c.requires.1 c.args.x c.requires.5)
+
+pub bounds-hs-s : goal.bounds-hs-s
+bounds-hs-s c = omega (arith, c.requires.1 c.args.x c.requires.5)
+
+pub loop-f-init : goal.loop-f-init
+loop-f-init c =
+    let a = c.args in
+    let o = told a.m c.round-o.result in
+    visit_first c.requires.3 (at a.sv.now a.x) (Held a.m a.sv.now a.st.now a.rs.now a.rt.now a.x a.y a.plan.now
+    a.fs.now a.ft.now o) (others a.m a.sv.now a.st.now a.rs.now a.rt.now a.x a.y a.plan.now a.fs.now
+    a.ft.now o) (c.requires.1 a.x c.requires.5)
+    (ap (λ o. terminal_rest a.m a.sv.now a.st.now a.rs.now a.rt.now a.x a.y a.plan.now a.fs.now a.ft.now o 0)
+    (c.round-o.ensures a.rs.now (begun_lost a.m a.sv.now a.st.now a.rs.now a.rt.now a.x a.y) ∙ ap₂
+    (λ u w. round a.m a.sv.now a.st.now a.rs.now a.rt.now a.x a.y a.plan.now a.fs.now u (6, (w, w))) (way_lose a.m)
+    (way_lose a.m))
+    ∙ terminal_start a.m a.sv.now a.st.now a.rs.now a.rt.now a.x a.y a.plan.now a.fs.now a.ft.now)
+
+pub overflow_cast-v : goal.overflow_cast-v
+overflow_cast-v c = omega (arith, c.requires.2 c.loop-f.f (omega arith))
+
+pub bounds-ft-v : goal.bounds-ft-v
+bounds-ft-v c =
+    omega (arith, c.requires.2 c.loop-f.f (omega arith))
+
+pub round-next-requires : goal.round-next-requires
+round-next-requires c =
+    let a = c.args in
+    let h : c.loop-f.f < a.m = c.loop-f-test.true in (
+      c.requires.0,
+      c.requires.1,
+      c.requires.2,
+      c.requires.4,
+      c.requires.5,
+      c.requires.6,
+      omega (arith, c.rated-a.ensures.1),
+      (
+        a.rs.now,
+        begun_gain a.m a.sv.now a.st.now a.rs.now a.rt.now a.x a.y c.loop-f.f c.rated-a.result h
+            c.rated-a.ensures.0,
+      ),
+    )
+
+pub loop-f-preserved : goal.loop-f-preserved
+loop-f-preserved c =
+    let a = c.args in
+    let f = c.loop-f.f in
+    let h : f < a.m = c.loop-f-test.true in
+    let v = at a.sv.now a.x in
+    let here = c.loop-f.invariant.here h in
+    let o : Ends = c.if-plan-f.o in
+    let held = told a.m c.loop-f.o in
+    let is = gainable_here a.sv.now a.st.now a.plan.now a.ft.now v f here in
+    visit_next c.requires.3 v
+    (Held a.m a.sv.now a.st.now a.rs.now a.rt.now a.x a.y a.plan.now a.fs.now a.ft.now (told a.m o))
+    (others a.m a.sv.now a.st.now a.rs.now a.rt.now a.x a.y a.plan.now a.fs.now a.ft.now
+    (told a.m o)) f h here
+    (elim c.if-plan-f.branch [
+      | then-plan-f w ↦ ap (λ o. terminal_rest a.m a.sv.now a.st.now a.rs.now a.rt.now a.x a.y a.plan.now a.fs.now a.ft.now
+          (told a.m o) (f + 1)) w.o-is
+          ∙ ap (λ o. terminal_rest a.m a.sv.now a.st.now a.rs.now a.rt.now a.x a.y a.plan.now a.fs.now a.ft.now o
+          (f + 1)) (w.round-next.ensures a.rs.now (begun_gain a.m a.sv.now a.st.now a.rs.now a.rt.now a.x a.y f w.rated-a.result h
+          w.rated-a.ensures.0) ∙ ap
+          (λ u. round a.m a.sv.now a.st.now a.rs.now a.rt.now a.x a.y a.plan.now a.fs.now u held) (way_gain a.m f h))
+          ∙ sym (terminal_turn a.m a.sv.now a.st.now a.rs.now a.rt.now a.x a.y a.plan.now a.fs.now a.ft.now held f h
+          (is ∙ w.if-plan-f.true))
+          ∙ c.loop-f.invariant.holds
+      | else-plan-f w ↦ ap (λ o. terminal_rest a.m a.sv.now a.st.now a.rs.now a.rt.now a.x a.y a.plan.now a.fs.now a.ft.now
+          (told a.m o) (f + 1)) w.o-is
+          ∙ sym (terminal_past a.m a.sv.now a.st.now a.rs.now a.rt.now a.x a.y a.plan.now a.fs.now a.ft.now held f h
+          (is ∙ w.if-plan-f.false))
+          ∙ c.loop-f.invariant.holds
+    ])
+
+pub returns : goal.returns
+returns c =
+    let a = c.args in
+    sym (terminal_end a.m a.sv.now a.st.now a.rs.now a.rt.now a.x a.y a.plan.now a.fs.now a.ft.now
+    (told a.m c.loop-f.o) c.loop-f.f (omega arith)) ∙ c.loop-f.invariant.holds
+
+pub overflow_cast-f : goal.overflow_cast-f
+overflow_cast-f c =
+    omega (arith, c.requires.0, head_inside c.requires.3 (at c.args.sv.now c.args.x) (c.requires.1 c.args.x c.requires.5))
+
+pub overflow_cast-f-in-loop-f : goal.overflow_cast-f-in-loop-f
+overflow_cast-f-in-loop-f c =
+    omega (arith, c.requires.0, next_onward c.requires.3 c.loop-f.f c.loop-f-test.true)
+
+pub loop-f-smaller : goal.loop-f-smaller
+loop-f-smaller c =
+    omega (arith, next_onward c.requires.3 c.loop-f.f c.loop-f-test.true)

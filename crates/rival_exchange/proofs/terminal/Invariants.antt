@@ -1,0 +1,16 @@
+use Rattle.std.proofs.Common.{◌≡◌, List, Bool, ℕ, ◌-◌}
+use Rattle.theory_verdict.specs.Ends.{Way}
+use Rattle.arrays.specs.ArrayInstance.{at}
+use Rattle.rival_tables.specs.Visits.{Visit}
+use Rattle.rival_exchange.specs.Ways.{told, terminal_rest, terminal_by}
+use Rattle.rival_exchange.proofs.terminal.Given as goal
+
+abbrev pub Held : (m : ℕ) (sv st rs rt : List ℕ) (x y : ℕ) (plan fs ft : List Bool) (held : ℕ × (Way × Way)) → ℕ → Type 0
+Held m sv st rs rt x y plan fs ft held f = terminal_rest m sv st rs rt x y plan fs ft held f ≡ terminal_by m sv st rs rt x y plan fs ft
+
+abbrev pub invariant-loop-f : goal.invariant-loop-f
+invariant-loop-f l =
+    Visit l.m l.sv (at l.sv l.x) (Held l.m l.sv l.st l.rs l.rt l.x l.y l.plan l.fs l.ft (told l.m l.o)) l.f
+
+abbrev pub decreases-loop-f : goal.decreases-loop-f
+decreases-loop-f l = l.m - l.f
