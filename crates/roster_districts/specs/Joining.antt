@@ -8,7 +8,7 @@ use mathlib.Core.List.{List, [], ◌∷◌, ◌++◌, map, append_assoc, append-
 use Rattle.std.proofs.Math.ListN.{length, take, drop, length-drop}
 use Rattle.std.proofs.Math.Seq.{take_at}
 use Rattle.lists.specs.Test.{given}
-use Rattle.lists.specs.Sum.{◌∈◌, sum}
+use Rattle.lists.specs.Sum.{sum}
 use Rattle.lists.specs.Keep.{all?, all_∈, gather}
 use Rattle.lists.specs.Ranges.{gather_append, map_cong}
 use Rattle.model.specs.Limits.{node_limit, quota_sum_limit, list_limit, roster_size}

@@ -1,5 +1,7 @@
 // Two accepted rosters side by side (request W-210 of document 02): the bytes of the roster in which the second's surveyors and stands come
 // after the first's, numbers moved up; or the refusal of their sums.
+#![tactic(auto)]
+
 ghost use Rattle.std.specs.Prelude.{◌≡◌, ◌+◌, ◌≤◌};
 ghost use Rattle.model.specs.Limits.{node_limit};
 ghost use Rattle.roster_parts.specs.Growth.{Room, Grown};
