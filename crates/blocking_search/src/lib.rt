@@ -1,5 +1,7 @@
 // The first blocking pair of a plan, over the arrays of an instance: an edge outside the plan that is better than the worst place of both its ends, the
 // lowest surveyor's, and there the best in its list.
+#![tactic(auto)]
+
 ghost use Rattle.std.specs.Prelude.{◌≡◌, ◌≤◌, length};
 ghost use Rattle.model.specs.Limits.{plan_limit};
 ghost use Rattle.model.specs.PlanFile.{edges_in};
