@@ -1,5 +1,7 @@
 // At each node one number decides which edges it would rather have: its threshold, the rank of its worst place. That is the rank of an empty
 // place where the quota is not filled, and else the worst rank of its edges in the plan.
+#![tactic(auto)]
+
 ghost use Rattle.std.specs.Prelude.{◌≡◌, cond, ℕ, ◌<◌, ltb, get_or};
 ghost use Rattle.arrays.specs.ArrayInstance.{at};
 ghost use Rattle.blocking_thresholds.specs.PlanList.{Places, AtNodes, WorstOf, ThresholdsOf};

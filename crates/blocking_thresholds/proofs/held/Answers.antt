@@ -1,5 +1,5 @@
 -- `blocking_thresholds::held` counts the edges of the list at each node. The loop's invariant: of the first k. Assumes nothing.
-use Rattle.std.proofs.Common.{ℕ, ◌-◌, ◌<◌, zero-le, arith, ◌≡◌, subst, length-set}
+use Rattle.std.proofs.Common.{ℕ, ◌<◌, zero-le, arith, ◌≡◌, subst, length-set}
 use lib.ListN.{length-replicate}
 use Rattle.arrays.specs.ArrayInstance.{at}
 use Rattle.arrays.specs.Tally.{zeros}

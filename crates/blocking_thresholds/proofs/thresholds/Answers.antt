@@ -1,7 +1,6 @@
 -- blocking_thresholds::thresholds makes the array of the worst places. Assumes nothing.
-use Rattle.std.proofs.Common.{ℕ, ◌-◌, zero-le, arith, not-suc-le-zero, cond, List, length-set, ltb}
+use Rattle.std.proofs.Common.{ℕ, zero-le, arith, not-suc-le-zero, length-set}
 use lib.ListN.{length-replicate}
-use Rattle.arrays.specs.ArrayInstance.{at}
 use Rattle.arrays.specs.Filled.{made_next}
 use Rattle.blocking_thresholds.proofs.thresholds.Invariants.{entry}
 use Rattle.blocking_thresholds.proofs.thresholds.Goals as goal

@@ -1,5 +1,5 @@
 -- `blocking_thresholds::worst` keeps the worst rank of the list's edges at each node. The loop's invariant: of the first k. Assumes nothing.
-use Rattle.std.proofs.Common.{ℕ, ◌-◌, ◌<◌, zero-le, arith, ◌≡◌, ap, ◌∙◌, subst, length-set, ltb, le-ltb}
+use Rattle.std.proofs.Common.{ℕ, ◌<◌, zero-le, arith, ◌≡◌, ap, ◌∙◌, subst, length-set, ltb, le-ltb}
 use lib.ListN.{length-replicate}
 use Rattle.arrays.specs.ArrayInstance.{at}
 use Rattle.arrays.specs.Tally.{zeros}
