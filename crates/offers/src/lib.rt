@@ -1,5 +1,7 @@
 // Plain offers (request W-212) on the arrays of an accepted roster of the one-to-one profile: "surveyors offer, best stand first, each stand keeps its
 // best offer, and who is turned away offers on". One offer a turn, until nobody has one left to make; then the edges that the stands keep.
+#![tactic(auto)]
+
 ghost use Rattle.std.specs.Prelude.{◌≡◌, false, ◌≤◌, ◌<◌};
 ghost use Rattle.model.specs.Limits.{node_limit, entry_limit, empty_rank};
 ghost use Rattle.arrays.specs.Passes.{Low, Shows};
