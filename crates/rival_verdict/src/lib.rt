@@ -1,5 +1,7 @@
 // The verdict on a plan within the quotas with its rival: strong, popular or beaten by what the search found, and the plan without the
 // edges that go and with those that come.
+#![tactic(auto)]
+
 ghost use Rattle.std.specs.Prelude.{◌≡◌, false, not, ◌&&◌, ◌||◌, ◌≤◌};
 ghost use Rattle.lists.specs.Search.{low};
 ghost use Rattle.model.specs.Limits.{entry_limit, node_limit, plan_limit};
