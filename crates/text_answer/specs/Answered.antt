@@ -9,7 +9,6 @@ use Rattle.model.specs.Reading.{Reading, accepted}
 use Rattle.model.specs.Roster.{Roster}
 use Rattle.model.specs.Edges.{instance_of}
 use Rattle.model.specs.Instance.{Instance}
-use Rattle.model.specs.Plans.{Plan}
 use Rattle.model.specs.Finder as F
 use Rattle.model.specs.Finder.{diary_of}
 use Rattle.model_desk.specs.Desk.{onto}

@@ -1,5 +1,7 @@
 // The program's text: the finder's answer with its diary and its pairs, written into a lent buffer; section "The program" of
 // document 01.
+#![tactic(auto)]
+
 ghost use Rattle.std.specs.Prelude.{◌≤◌, length};
 ghost use Rattle.text_answer.specs.Printable.{Printable, text_size};
 ghost use Rattle.text_answer.specs.Answered.{Answered};
