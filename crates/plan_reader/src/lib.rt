@@ -1,6 +1,8 @@
 // Plan files judged against an instance's arrays: "a count byte 0 to 64, then" three bytes a pair (surveyor, stand, shift), ascending by
 // these, or two in a file without shifts, where every pair is in shift 1. Refusals in document 01's order: 1, 2, then pair by pair 1, 10,
 // 11, 12, then 9.
+#![tactic(auto)]
+
 ghost use Rattle.std.specs.Prelude.{◌≡◌, ◌≤◌, ◌<◌, length, get_or};
 ghost use Rattle.arrays.specs.ArrayInstance.{at};
 ghost use Rattle.arrays.specs.Passes.{Low};

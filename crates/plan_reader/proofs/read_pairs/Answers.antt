@@ -1,0 +1,182 @@
+-- `plan_reader::read_pairs` meets its contract: the pairs that are left have the answer of all.
+use Rattle.std.proofs.Common.{◌≡◌, ap, ◌∙◌, ◌≤◌, ◌<◌, zero-le, arith}
+use Rattle.arrays.specs.ArrayInstance.{at}
+use Rattle.lists.specs.Search.{low}
+use Rattle.model.specs.Limits.{node_limit}
+use Rattle.model.specs.PlanFile.{edge_of_pair}
+use Rattle.pair_bytes.specs.declared.Pair.{Pair}
+use Rattle.pair_bytes.specs.PairAt.{named_at, width_most}
+use Rattle.plan_lookup.specs.PairEdge.{Names}
+use Rattle.plan_reader.specs.ReadInvariant.{G, for_all, invariant_first, invariant_cut, invariant_refused, invariant_passed, invariant_on, invariant_long, invariant_accepted, refused_for, used_few}
+use Rattle.plan_reader.proofs.read_pairs.Goals.{After-edge_of-e, Else-c-ne0}
+use Rattle.plan_reader.proofs.read_pairs.Goals as goal
+
+-- the edge found is the model's
+found : (c : After-edge_of-e) → let a = c.args in
+    c.edge_of-e.result ≡ edge_of_pair (G a.shifts a.m a.sv.now a.st.now a.sh.now a.qs.now a.qt.now a.file.now)
+    (named_at a.shifts a.file.now c.loop-k.at)
+unfolding edge_of_pair
+found c =
+    let a = c.args in
+    c.edge_of-e.ensures ∙ ap (λ (p : Pair). low (Names a.sv.now a.st.now a.sh.now p.surveyor p.stand p.shift) a.m)
+    c.get-p.ensures
+
+-- and behind the test of its refusal
+found_passing : (c : Else-c-ne0) → let a = c.args in
+    c.edge_of-e.result ≡ edge_of_pair (G a.shifts a.m a.sv.now a.st.now a.sh.now a.qs.now a.qt.now a.file.now)
+    (named_at a.shifts a.file.now c.loop-k.at)
+unfolding edge_of_pair
+found_passing c =
+    let a = c.args in
+    c.edge_of-e.ensures ∙ ap (λ (p : Pair). low (Names a.sv.now a.st.now a.sh.now p.surveyor p.stand p.shift) a.m)
+    c.get-p.ensures
+
+-- a pair that is not refused names an edge
+passing : (c : Else-c-ne0) → let a = c.args in
+    let e = c.edge_of-e.result in
+    (e < a.m) × (c.loop-k.from ≤ e) × (at c.loop-k.us (at a.sv.now e) < at a.qs.now (at a.sv.now e))
+    × (at c.loop-k.ut (at a.st.now e) < at a.qt.now (at a.st.now e))
+passing c =
+    let a = c.args in
+    invariant_passed a.shifts a.m a.sv.now a.st.now a.sh.now a.qs.now
+    a.qt.now a.file.now a.n c.loop-k.k c.loop-k.at c.loop-k.from c.loop-k.chosen
+    c.loop-k.edges c.loop-k.us c.loop-k.ut c.loop-k.invariant.1 c.loop-k-test.true
+    c.width-width.result c.width-width.ensures
+    c.requires.m_le_entry_limit.1 c.requires.m_le_entry_limit.2 c.if-file-at.false c.edge_of-e.result (found_passing c)
+    c.pair_refusal-c.result c.pair_refusal-c.ensures (omega arith)
+
+-- its ends are nodes, and neither has more pairs than were read
+ends : (c : Else-c-ne0) → let a = c.args in
+    let e = c.edge_of-e.result in
+    (at a.sv.now e < node_limit) × (at a.st.now e < node_limit)
+ends c =
+    let e = c.edge_of-e.result in
+    (c.requires.m_le_entry_limit.1 e (passing c).0, c.requires.m_le_entry_limit.2 e (passing c).0)
+
+used : (c : Else-c-ne0) → let a = c.args in
+    let e = c.edge_of-e.result in
+    (at c.loop-k.us (at a.sv.now e) ≤ c.loop-k.k) × (at c.loop-k.ut (at a.st.now e) ≤ c.loop-k.k)
+used c =
+    let a = c.args in
+    let e = c.edge_of-e.result in
+    let few =
+    used_few a.shifts a.m a.sv.now a.st.now a.sh.now a.qs.now a.qt.now a.file.now a.n
+    c.loop-k.k c.loop-k.at c.loop-k.from c.loop-k.chosen c.loop-k.edges c.loop-k.us c.loop-k.ut c.loop-k.invariant.1 in
+    ((few (at a.sv.now e)).0, (few (at a.st.now e)).1)
+
+pub loop-k-init : goal.loop-k-init
+loop-k-init c =
+    let a = c.args in (
+      zero-le,
+      invariant_first a.shifts a.m a.sv.now a.st.now a.sh.now
+          a.qs.now a.qt.now a.file.now a.n c.requires.n_le_plan_limit.1 c.requires.n_le_plan_limit.2 c.requires.n_le_plan_limit.0,
+    )
+
+pub overflow_add-at : goal.overflow_add-at
+overflow_add-at c =
+    omega (arith, c.loop-k.invariant.1.early, c.width-width.ensures, width_most c.args.shifts)
+
+pub returns-then-file-at : goal.returns-then-file-at
+returns-then-file-at c =
+    let a = c.args in
+    refused_for a.shifts a.m a.sv.now a.st.now a.sh.now a.qs.now a.qt.now a.file.now 1 c.loop-k.chosen c.loop-k.edges
+    (invariant_cut a.shifts a.m a.sv.now a.st.now a.sh.now a.qs.now
+    a.qt.now a.file.now a.n c.loop-k.k c.loop-k.at c.loop-k.from
+    c.loop-k.chosen c.loop-k.edges c.loop-k.us c.loop-k.ut c.loop-k.invariant.1
+    c.loop-k-test.true c.width-width.result c.width-width.ensures c.if-file-at.true)
+
+pub edge_of-e-requires : goal.edge_of-e-requires
+edge_of-e-requires c = (c.loop-k.invariant.1.small, c.requires.m_le_entry_limit.0, c.requires.m_le_entry_limit.3)
+
+pub pair_refusal-c-requires : goal.pair_refusal-c-requires
+pair_refusal-c-requires c = (c.requires.m_le_entry_limit.0, c.requires.m_le_entry_limit.1, c.requires.m_le_entry_limit.2)
+
+pub returns-then-c-ne0 : goal.returns-then-c-ne0
+returns-then-c-ne0 c =
+    let a = c.args in
+    refused_for a.shifts a.m a.sv.now a.st.now a.sh.now a.qs.now a.qt.now a.file.now c.pair_refusal-c.result
+    c.loop-k.chosen
+    c.loop-k.edges
+    (invariant_refused a.shifts a.m a.sv.now a.st.now a.sh.now
+    a.qs.now a.qt.now a.file.now a.n c.loop-k.k c.loop-k.at c.loop-k.from
+    c.loop-k.chosen c.loop-k.edges c.loop-k.us c.loop-k.ut c.loop-k.invariant.1
+    c.loop-k-test.true c.width-width.result c.width-width.ensures
+    c.requires.m_le_entry_limit.1 c.requires.m_le_entry_limit.2
+    c.if-file-at.false c.edge_of-e.result (found (goal.at.returns-then-c-ne0 c).After-edge_of-e)
+    c.pair_refusal-c.result c.pair_refusal-c.ensures (omega arith))
+
+pub loop-k-preserved : goal.loop-k-preserved
+loop-k-preserved c =
+    let a = c.args in (
+      omega arith,
+      invariant_on a.shifts a.m a.sv.now a.st.now a.sh.now a.qs.now
+          a.qt.now a.file.now a.n c.loop-k.k c.loop-k.at c.loop-k.from c.loop-k.chosen
+          c.loop-k.edges c.loop-k.us c.loop-k.ut c.loop-k.invariant.1
+          c.loop-k-test.true c.width-width.result c.width-width.ensures
+          c.requires.m_le_entry_limit.1 c.requires.m_le_entry_limit.2
+          c.if-file-at.false c.edge_of-e.result (found (goal.at.loop-k-preserved c).After-edge_of-e)
+          c.pair_refusal-c.result c.pair_refusal-c.ensures (omega arith) (omega arith) c.requires.m_le_entry_limit.0,
+    )
+
+pub returns-then-at-file : goal.returns-then-at-file
+returns-then-at-file c =
+    let a = c.args in
+    refused_for a.shifts a.m a.sv.now a.st.now a.sh.now a.qs.now a.qt.now a.file.now 9 c.loop-k.chosen c.loop-k.edges
+    (invariant_long a.shifts a.m a.sv.now a.st.now a.sh.now a.qs.now
+    a.qt.now a.file.now a.n c.loop-k.k c.loop-k.at c.loop-k.from
+    c.loop-k.chosen c.loop-k.edges c.loop-k.us c.loop-k.ut c.loop-k.invariant.1 (omega arith) (omega arith))
+
+pub returns : goal.returns
+returns c =
+    let a = c.args in
+    for_all a.shifts a.m a.sv.now a.st.now a.sh.now a.qs.now a.qt.now a.file.now _
+    (invariant_accepted a.shifts a.m a.sv.now a.st.now a.sh.now
+    a.qs.now a.qt.now a.file.now a.n c.loop-k.k c.loop-k.at c.loop-k.from
+    c.loop-k.chosen c.loop-k.edges c.loop-k.us c.loop-k.ut c.loop-k.invariant.1 (omega arith) (omega arith))
+
+-- the pair's bytes are there
+pub get-p-requires : goal.get-p-requires
+get-p-requires c = omega (arith, c.width-width.ensures, c.if-file-at.false)
+
+pub overflow_add-at-in-loop-k : goal.overflow_add-at-in-loop-k
+overflow_add-at-in-loop-k c =
+    omega (arith, c.loop-k.invariant.1.early, c.width-width.ensures, width_most c.args.shifts)
+
+pub bounds-sv-e : goal.bounds-sv-e
+bounds-sv-e c = omega (arith, (passing (goal.at.bounds-sv-e c).Else-c-ne0).0)
+
+pub overflow_cast-i : goal.overflow_cast-i
+overflow_cast-i c = omega (arith, ends (goal.at.overflow_cast-i c).Else-c-ne0)
+
+pub bounds-st-e : goal.bounds-st-e
+bounds-st-e c = omega (arith, (passing (goal.at.bounds-st-e c).Else-c-ne0).0)
+
+pub overflow_cast-j : goal.overflow_cast-j
+overflow_cast-j c = omega (arith, ends (goal.at.overflow_cast-j c).Else-c-ne0)
+
+pub bounds-us-i : goal.bounds-us-i
+bounds-us-i c = omega (arith, ends (goal.at.bounds-us-i c).Else-c-ne0)
+
+pub overflow_add-us : goal.overflow_add-us
+overflow_add-us c = omega (arith, used (goal.at.overflow_add-us c).Else-c-ne0)
+
+pub bounds-us-i-in-loop-k : goal.bounds-us-i-in-loop-k
+bounds-us-i-in-loop-k c = omega (arith, ends (goal.at.bounds-us-i-in-loop-k c).Else-c-ne0)
+
+pub bounds-ut-j : goal.bounds-ut-j
+bounds-ut-j c = omega (arith, ends (goal.at.bounds-ut-j c).Else-c-ne0)
+
+pub overflow_add-ut : goal.overflow_add-ut
+overflow_add-ut c = omega (arith, used (goal.at.overflow_add-ut c).Else-c-ne0)
+
+pub bounds-ut-j-in-loop-k : goal.bounds-ut-j-in-loop-k
+bounds-ut-j-in-loop-k c = omega (arith, ends (goal.at.bounds-ut-j-in-loop-k c).Else-c-ne0)
+
+pub bounds-chosen-e : goal.bounds-chosen-e
+bounds-chosen-e c = omega (arith, (passing (goal.at.bounds-chosen-e c).Else-c-ne0).0)
+
+pub overflow_cast-edges : goal.overflow_cast-edges
+overflow_cast-edges c = omega (arith, (passing (goal.at.overflow_cast-edges c).Else-c-ne0).0)
+
+pub overflow_add-from : goal.overflow_add-from
+overflow_add-from c = omega (arith, (passing (goal.at.overflow_add-from c).Else-c-ne0).0)
