@@ -1,5 +1,7 @@
 // The held plan when the roster changes: its bytes without the pairs of one surveyor, who leaves. No surveyor has number 0, so that with 0
 // all pairs stay.
+#![tactic(auto)]
+
 ghost use Rattle.std.specs.Prelude.{◌≤◌, false};
 ghost use Rattle.model.specs.Limits.{node_limit, entry_limit};
 ghost use Rattle.arrays.specs.Passes.{Low, Shows};
