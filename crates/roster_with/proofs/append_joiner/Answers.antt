@@ -1,6 +1,5 @@
 -- `roster_with::append_joiner` meets its contract: the entries in the shifts behind the first k are left. Assumes nothing.
-use Rattle.std.proofs.Common.{not, ap, zero-le, arith, sym, ap, ◌∙◌}
-use borrow.Author.Tests.{not-true, not-false}
+use Rattle.std.proofs.Common.{ap, zero-le, arith, sym, ap, ◌∙◌}
 use Rattle.roster_positions.specs.Rows.{bytes_of}
 use Rattle.roster_parts.specs.Growth.{going_starts, going_on, going_past, going_ends}
 use Rattle.roster_with.specs.Entering.{marks_in, shifts_at, joiner_in, shift_one, shift_not, shift_none}
@@ -15,7 +14,7 @@ pub loop-k-preserved-then-not-asks : goal.loop-k-preserved-then-not-asks
 loop-k-preserved-then-not-asks c =
     let a = c.args in
     let e = shift_not (marks_in a.row.now) a.stand c.loop-k.k c.loop-k-test.true
-    (sym (not-true c.asks.result (ap not c.if-not-asks.true)) ∙ c.asks.ensures) in
+    (sym (c.if-not-asks.true) ∙ c.asks.ensures) in
     (omega arith, going_past (ap (λ ks. bytes_of (joiner_in a.joiner ks)) e) c.loop-k.invariant.1)
 
 pub append_entry-len-requires : goal.append_entry-len-requires
@@ -25,7 +24,7 @@ pub loop-k-preserved : goal.loop-k-preserved
 loop-k-preserved c =
     let a = c.args in
     let e = shift_one (marks_in a.row.now) a.stand c.loop-k.k c.loop-k-test.true
-    (sym (not-false c.asks.result (ap not c.if-not-asks.false)) ∙ c.asks.ensures) in
+    (sym (c.if-not-asks.false) ∙ c.asks.ensures) in
     (omega arith, going_on (ap (λ ks. bytes_of (joiner_in a.joiner ks)) e) c.loop-k.invariant.1 c.append_entry-len.ensures)
 
 pub returns : goal.returns

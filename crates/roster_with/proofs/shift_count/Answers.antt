@@ -1,6 +1,5 @@
 -- `roster_with::shift_count` meets its contract: the shifts counted and those to come are all. Assumes nothing.
-use Rattle.std.proofs.Common.{not, ap, zero-le, arith, sym, ap, ◌∙◌, length}
-use borrow.Author.Tests.{not-true, not-false}
+use Rattle.std.proofs.Common.{ap, zero-le, arith, sym, ap, ◌∙◌, length}
 use Rattle.roster_with.specs.Entering.{marks_in, shift_one, shift_not, shift_none}
 use Rattle.roster_with.proofs.shift_count.Goals as goal
 
@@ -11,14 +10,14 @@ pub loop-k-preserved-then-not-asks : goal.loop-k-preserved-then-not-asks
 loop-k-preserved-then-not-asks c =
     let a = c.args in
     let e = shift_not (marks_in a.row.now) a.stand c.loop-k.k c.loop-k-test.true
-    (sym (not-true c.asks.result (ap not c.if-not-asks.true)) ∙ c.asks.ensures) in
+    (sym (c.if-not-asks.true) ∙ c.asks.ensures) in
     (omega arith, omega arith, omega (arith, ap length e))
 
 pub loop-k-preserved : goal.loop-k-preserved
 loop-k-preserved c =
     let a = c.args in
     let e = shift_one (marks_in a.row.now) a.stand c.loop-k.k c.loop-k-test.true
-    (sym (not-false c.asks.result (ap not c.if-not-asks.false)) ∙ c.asks.ensures) in
+    (sym (c.if-not-asks.false) ∙ c.asks.ensures) in
     (omega arith, omega arith, omega (arith, ap length e))
 
 pub returns : goal.returns
