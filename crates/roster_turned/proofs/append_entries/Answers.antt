@@ -34,8 +34,8 @@ turn : (p : After-entry_at-x) → let l = p in let a = l.args in
     let xs = part_entries a.shifts a.part.now in
     drop l.loop-i.i xs ≡ entry_of p.entry_at-x.result ∷ drop (l.loop-i.i + 1) xs
 turn p =
-    let there : let l = p.before in let a = l.args in
-    l.loop-i.i < length a.part.now / width_of a.shifts =
+    let there : let a = p.args in
+    p.loop-i.i < length a.part.now / width_of a.shifts =
     subst (λ w. p.loop-i.i < length p.args.part.now / w) p.entry_width-width.ensures p.loop-i-test.true in
     let a = p.args in
     entries_turn a.shifts a.part.now p.loop-i.i (there) (entry_of p.entry_at-x.result) p.entry_at-x.ensures
