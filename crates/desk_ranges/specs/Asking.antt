@@ -17,8 +17,9 @@ use Rattle.model_desk.specs.Desk.{Held, on_roster, least, said, least_vote, refu
 use Rattle.theory_files.specs.Reads.{is_bytes}
 use Rattle.theory_ranges.specs.Worst.{worst_choice_law, choice_placed}
 use Rattle.theory_ranges.specs.InOrder.{InOrder, in_order_law}
-use Rattle.theory_ranges.specs.LeastVote.{ranked_vote}
-use Rattle.theory_ranges.specs.Questions.{choice_for, question_sound, choice_holds, settled_holds}
+use Rattle.theory_ranges.proofs.LeastVote.{ranked_vote}
+use Rattle.theory_ranges.specs.Questions.{choice_for, question_sound}
+use Rattle.theory_ranges.proofs.Questions.{choice_holds, settled_holds}
 use Rattle.theory_finder.specs.Choices.{chosen}
 use Rattle.answers.specs.declared.LeastVote.{LeastVote}
 use Rattle.answers.specs.GroupCases.{shown_case}

@@ -16,7 +16,8 @@ use Rattle.model.specs.Days.{Sheet}
 use Rattle.model_desk.specs.Desk.{plan_held, spread, refusal, said, wrote, onto}
 use Rattle.theory_instance.specs.Within.{within_matching}
 use Rattle.theory_files.specs.Chosen.{plan_within}
-use Rattle.theory_days.specs.Sheets.{spread_by, spread_of, sheet_holds, days_many, entries_at}
+use Rattle.theory_days.specs.Sheets.{spread_by, spread_of, days_many, entries_at}
+use Rattle.theory_days.proofs.Sheets.{sheet_holds}
 use Rattle.arrays.specs.ArrayInstance.{at, flag}
 use Rattle.plan_lookup.specs.PlanEdges.{Listed}
 use Rattle.answers.specs.declared.Written.{Written}

@@ -19,7 +19,8 @@ use Rattle.model_desk.specs.SeasonCalls.{file_answer, file_lent}
 use Rattle.model_files.specs.Districts.{side_by_side, second_to, first_to, join_of, file_of, joined_file, pairs_beside, pairs_bytes}
 use Rattle.theory_renamed.specs.BothStrong.{all_beside}
 use Rattle.theory_renamed.specs.JoinedFiles.{join_parts, joined_accepted}
-use Rattle.theory_renamed.specs.JoinedPlans.{strong_joined, count_joined, pairs_joined, bytes_joined, finder_joined, finder_both}
+use Rattle.theory_renamed.specs.JoinedPlans.{pairs_joined, bytes_joined}
+use Rattle.theory_renamed.proofs.JoinedPlans.{strong_joined, count_joined, finder_joined, finder_both}
 use Rattle.answers.specs.declared.Group.{Group}
 use Rattle.answers.specs.declared.Written.{Written}
 use Rattle.answers.specs.declared.Written.TheVariants.{Wrote, Refused}

@@ -23,7 +23,8 @@ use Rattle.model_files.specs.Offers.{Offers, next_offer, offered, offers_from, n
 use Rattle.theory_instance.specs.Lawful.{Lawful}
 use Rattle.theory_files.specs.Chosen.{on_plan_of, plan_of_length}
 use Rattle.theory_offers.specs.NextOffer.{next→}
-use Rattle.theory_offers.specs.KeptOffers.{Kept, begun, further}
+use Rattle.theory_offers.specs.KeptOffers.{Kept, begun}
+use Rattle.theory_offers.proofs.KeptOffers.{further}
 use Rattle.theory_offers.specs.OffersPlan.{OneToOne}
 use Rattle.arrays.specs.ArrayInstance.{at, flag}
 use Rattle.arrays.specs.Passes.{Shows, all_blank}

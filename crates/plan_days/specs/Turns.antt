@@ -14,7 +14,8 @@ use Rattle.model.specs.Limits.{node_limit, day_size, last_day}
 use Rattle.arrays.specs.ArrayInstance.{at}
 use Rattle.arrays.specs.Passes.{Low}
 use Rattle.theory_days.specs.Chain.{Proper}
-use Rattle.theory_days.specs.Spread.{spread, spread_proper, free_day, free_in_law}
+use Rattle.theory_days.specs.Spread.{spread, free_day, free_in_law}
+use Rattle.theory_days.proofs.Spread.{spread_proper}
 use Rattle.plan_days.specs.Chase.{meets, chase_in, Small, set_small}
 use Rattle.plan_days.specs.DayByDay.{free_in, with_day_in, with_free, with_chase, spread_in, spread_is, spread_length, spread_small}
 use Rattle.plan_days.specs.Tables.{place, Held, Without, free_told, first_free, held_more, held_begins, held_leaves}

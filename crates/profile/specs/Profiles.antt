@@ -22,8 +22,10 @@ use Rattle.model_files.specs.Profile.{one_to_one, of_profile, read_profile, refu
 use Rattle.theory_files.specs.Rosters.{read_fits}
 use Rattle.theory_files.specs.Ascending.{edges_ascend, later}
 use Rattle.theory_offers.specs.OffersPlan.{OneToOne}
-use Rattle.theory_offers.specs.ProfileInstance.{unitary, profile_is, profile_instance}
-use Rattle.theory_offers.specs.Profiled.{Offered, profile_offered}
+use Rattle.theory_offers.specs.ProfileInstance.{unitary, profile_instance}
+use Rattle.theory_offers.proofs.ProfileInstance.{profile_is}
+use Rattle.theory_offers.specs.Profiled.{Offered}
+use Rattle.theory_offers.proofs.Profiled.{profile_offered}
 use Rattle.answers.specs.declared.Group.{Group}
 use Rattle.answers.specs.declared.FileAnswer.{FileAnswer}
 use Rattle.answers.specs.declared.FileAnswer.TheVariants as file

@@ -9,7 +9,7 @@ use Rattle.model_files.specs.Offers.{offers_plan}
 use Rattle.model_files.specs.Profile.{offers, offers_answer}
 use Rattle.theory_files.specs.PlanFiles.{pairs_size}
 use Rattle.theory_files.specs.Chosen.{edges_in_cong}
-use Rattle.theory_offers.specs.OffersPlan.{offers_plan_law}
+use Rattle.theory_offers.proofs.OffersPlan.{offers_plan_law}
 use Rattle.arrays.specs.ArrayInstance.{flag}
 use Rattle.answers.specs.declared.Offers.{Offers}
 use Rattle.answers.specs.declared.Offers.TheVariants as reply

@@ -15,7 +15,7 @@ use Rattle.model.specs.Vote.{sumℤ, node_vote, vote}
 use Rattle.model.specs.PlanFile.{edges_in}
 use Rattle.theory_instance.specs.Lawful.{Within, Matching}
 use Rattle.theory_files.specs.Chosen.{elem_edges_in}
-use Rattle.theory_ranges.specs.Falls.{vote_alike}
+use Rattle.theory_ranges.proofs.Falls.{vote_alike}
 use Rattle.theory_ranges.specs.Worst.{entry_s, entry_t, ranked_by}
 use Rattle.arrays.specs.ArrayInstance.{at, flag}
 use Rattle.instance.specs.declared.Instance.{Instance}

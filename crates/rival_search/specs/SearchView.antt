@@ -17,7 +17,7 @@ use Rattle.model.specs.Instance.{Instance, surveyors, stands}
 use Rattle.model.specs.PlanFile.{edges_in}
 use Rattle.theory_votes.specs.Score.{rate}
 use Rattle.theory_verdict.specs.Search.{terminal, arc, room?, search}
-use Rattle.theory_verdict.specs.Stop.{search_same}
+use Rattle.theory_verdict.proofs.Stop.{search_same}
 use Rattle.arrays.specs.ArrayInstance.{at, flag, shown}
 use Rattle.arrays.specs.Passes.{Low, Shows, shows_at, shows_behind}
 use Rattle.arrays.specs.Filled.{Made}

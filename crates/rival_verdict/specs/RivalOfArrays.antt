@@ -16,7 +16,8 @@ use Rattle.model.specs.PlanFile.{edges_in, plan_of}
 use Rattle.theory_instance.specs.Lawful.{Lawful}
 use Rattle.theory_files.specs.Chosen.{plan_of_cong}
 use Rattle.theory_verdict.specs.Search.{Hit, rival_by, search, judge, verdict_by, rival_edges}
-use Rattle.theory_verdict.specs.Rival.{lid, size_of, computed_verdict, rival_of, computed_verdict_law}
+use Rattle.theory_verdict.specs.Rival.{lid, size_of, computed_verdict, rival_of}
+use Rattle.theory_verdict.proofs.Rival.{computed_verdict_law}
 use Rattle.arrays.specs.ArrayInstance.{at, flag, shown}
 use Rattle.arrays.specs.Passes.{Shows, Low}
 use Rattle.arrays.specs.Filled.{Made}

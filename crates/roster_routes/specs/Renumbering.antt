@@ -18,8 +18,10 @@ use Rattle.model_files.specs.Routes.{new_number, entry_by, renumbered, way_back}
 use Rattle.theory_files.specs.Entries.{in_range_law}
 use Rattle.theory_files.specs.ByLists.{list_range, fits_lists}
 use Rattle.theory_files.specs.Offsets.{part_is, lists_start, ranking_section, offsets, rankings_from_law}
-use Rattle.theory_renamed.specs.RouteNumbers.{Names, name_inside, back_at, back_number}
-use Rattle.theory_renamed.specs.RenumberedFits.{fits_renumbered, renumbered_counts}
+use Rattle.theory_renamed.specs.RouteNumbers.{Names, name_inside, back_at}
+use Rattle.theory_renamed.proofs.RouteNumbers.{back_number}
+use Rattle.theory_renamed.specs.RenumberedFits.{renumbered_counts}
+use Rattle.theory_renamed.proofs.RenumberedFits.{fits_renumbered}
 use Rattle.roster_positions.specs.Tables.{behind}
 use Rattle.roster_positions.specs.Rows.{bytes_length, ranking_is}
 use Rattle.roster_parts.specs.declared.Changed.{Changed}

@@ -18,8 +18,9 @@ use Rattle.model_files.specs.StoredCalls.{stored_answer, stored_lent}
 use Rattle.theory_files.specs.Reads.{bytes_are, rest_bytes}
 use Rattle.theory_files.specs.Rosters.{read_write, read_fits, accepted_size}
 use Rattle.theory_renamed.specs.RouteNumbers.{Names, each_names, names_each_law, back_names}
-use Rattle.theory_renamed.specs.RenumberedPlans.{strong_renumbered, finder_renumbered, finder_alike}
-use Rattle.theory_renamed.specs.StoredFiles.{route_back, stored_parts, store_undone, unstore_undone, undone, kept_length}
+use Rattle.theory_renamed.proofs.RenumberedPlans.{strong_renumbered, finder_renumbered, finder_alike}
+use Rattle.theory_renamed.specs.StoredFiles.{route_back, stored_parts, store_undone}
+use Rattle.theory_renamed.proofs.StoredFiles.{unstore_undone, undone, kept_length}
 use Rattle.answers.specs.declared.Group.{Group}
 use Rattle.answers.specs.declared.Written.{Written}
 use Rattle.answers.specs.declared.Written.TheVariants.{Wrote, Refused}

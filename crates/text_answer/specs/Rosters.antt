@@ -20,7 +20,8 @@ use Rattle.theory_files.specs.Reads.{is_bytes}
 use Rattle.theory_files.specs.Rosters.{read_fits}
 use Rattle.theory_files.specs.Reach.{read_front}
 use Rattle.theory_files.specs.EdgeCount.{edges_few}
-use Rattle.theory_reduction.specs.Course.{end_matching, steps_few}
+use Rattle.theory_reduction.specs.Course.{steps_few}
+use Rattle.theory_reduction.proofs.Course.{end_matching}
 use Rattle.theory_verdict.specs.Plans.{matching_plan}
 use Rattle.theory_files.specs.RosterInstance.{fileable}
 use Rattle.theory_files.specs.PlanFiles.{plan_few}

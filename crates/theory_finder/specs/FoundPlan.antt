@@ -20,9 +20,10 @@ use Rattle.theory_instance.specs.Lawful.{Lawful}
 use Rattle.theory_instance.specs.Walk.{NoBad}
 use Rattle.theory_verdict.specs.Strong.{Strong}
 use Rattle.theory_verdict.specs.LemmaW.{no_bad_law}
-use Rattle.theory_reduction.specs.AlternatingPath.{Welcome, no_blocking}
-use Rattle.theory_reduction.specs.Course.{end_matching}
-use Rattle.theory_reduction.specs.Run.{left_none, is_fixed}
+use Rattle.theory_reduction.specs.AlternatingPath.{Welcome}
+use Rattle.theory_reduction.proofs.AlternatingPath.{no_blocking}
+use Rattle.theory_reduction.proofs.Course.{end_matching}
+use Rattle.theory_reduction.proofs.Run.{left_none, is_fixed}
 use Rattle.theory_files.specs.Chosen.{choices_once}
 use Rattle.theory_verdict.specs.Plans.{plan_matching, plan_of_same, edges_plan, matching_plan, other_plan_law, vote_plan_of}
 use Rattle.theory_verdict.specs.Meaning.{strong_means}

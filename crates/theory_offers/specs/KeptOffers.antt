@@ -138,40 +138,5 @@ module _ (G : Instance) (L : Lawful G) (strict : (e : ℕ) → e < G.m → T (no
   not_tried z H e le N = nor_i (z.away e) (z.kept e) (not_T (z.away e) N.unasked) (not_T (z.kept e) (not_kept z H e le N))
 
   module _ (z : Offers) (H : Kept z) (e : ℕ) (le : e < G.m) (N : Next G z e) where
-    grows : (y : Offers) → ((x : ℕ) → T (z.away x) → T (tried y x)) → ((x : ℕ) → T (z.kept x) → T (tried y x)) → T (tried y e)
-        → count (tried z) G.m < count (tried y) G.m
-    unfolding tried
-    grows y a k s = count_sub_lt (tried z) (tried y) G.m (λ x l t. ⊎_elim (a x) (k x) (or_case (z.away x) (z.kept x) t)) e le s (not_tried z H e le N)
-
     abbrev d : ℕ
     d = kept_at G z e
-
-    -- an offer keeps this, and more pairs were offered than before it
-    pub further : Further z (offered G z e)
-    unfolding tried
-    further = if-ind (Further z) (leb G.m d)
-        (λ s. (
-          kept_with z H e le N (keeps_none G z e s),
-          grows (record { away = z.away; kept = λ x. z.kept x || eqb x e })
-              (λ x a. or_l (z.away x) (z.kept x || eqb x e) a)
-              (λ x k. or_r (z.away x) (z.kept x || eqb x e) (or_l (z.kept x) (eqb x e) k))
-              (or_r (z.away e) (z.kept e || eqb e e) (or_r (z.kept e) (eqb e e) (eqb_refl e))),
-        ))
-        (λ s. let (ind, at) = keeps_some G z e s in if-ind (Further z) (ltb (G.rank_t e) (G.rank_t d))
-        (λ r. (
-          kept_instead_law z H e le N d ind at (ltb→lt (G.rank_t e) (G.rank_t d) r),
-          grows (record { away = λ x. z.away x || eqb x d; kept = λ x. (z.kept x && not (eqb x d)) || eqb x e })
-              (λ x a. or_l (z.away x || eqb x d) ((z.kept x && not (eqb x d)) || eqb x e) (or_l (z.away x) (eqb x d) a))
-              (λ x k. by-test (eqb x d)
-              (λ b. or_l (z.away x || eqb x d) ((z.kept x && not (eqb x d)) || eqb x e) (or_r (z.away x) (eqb x d) b))
-              (λ b. or_r (z.away x || eqb x d) ((z.kept x && not (eqb x d)) || eqb x e)
-              (or_l (z.kept x && not (eqb x d)) (eqb x e) (and_i (z.kept x) (not (eqb x d)) k b))))
-              (or_r (z.away e || eqb e d) ((z.kept e && not (eqb e d)) || eqb e e) (or_r (z.kept e && not (eqb e d)) (eqb e e) (eqb_refl e))),
-        ))
-        (λ r. (
-          kept_still z H e le N d ind at (nltb→le (G.rank_t e) (G.rank_t d) r),
-          grows (record { away = λ x. z.away x || eqb x e; kept = z.kept })
-              (λ x a. or_l (z.away x || eqb x e) (z.kept x) (or_l (z.away x) (eqb x e) a))
-              (λ x k. or_r (z.away x || eqb x e) (z.kept x) k)
-              (or_l (z.away e || eqb e e) (z.kept e) (or_r (z.away e) (eqb e e) (eqb_refl e))),
-        )))

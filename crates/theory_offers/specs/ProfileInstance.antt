@@ -43,7 +43,7 @@ abbrev pub unitary : Instance → Bool
 unitary G = (each_one G.quota_s G.ns && each_one G.quota_t G.nt) && plain_edges G.tied G.sh G.m
 
 -- ---- quotas
-one_at : (qs : List ℕ) → T (all_one qs) → (v : ℕ) → v < length qs → get_or qs v 0 ≡ 1
+pub one_at : (qs : List ℕ) → T (all_one qs) → (v : ℕ) → v < length qs → get_or qs v 0 ≡ 1
 one_at qs t v h = eqb→eq (get_or qs v 0) 1 (all_∈ (λ q. eqb q 1) qs t (get_or qs v 0) (get_d_∈ qs v 0 h))
 
 most_at : (qs : List ℕ) → T (all_one qs) → (v : ℕ) → get_or qs v 0 ≤ 1
@@ -52,18 +52,7 @@ most_at qs t v = by_cases (dec_lt v (length qs)) (λ h. omega (arith, one_at qs 
     behind : length qs ≤ v → get_or qs v 0 ≡ 0
     behind h = get_or-eq_default qs 0 h
 
-quotas_one : (qs : List ℕ) → all_one qs ≡ each_one (λ v. get_or qs v 0) (length qs)
-unfolding each_one
-quotas_one qs = bool_eq (all_one qs) (each_one (λ v. get_or qs v 0) (length qs))
-    (λ t. ∈_all (λ v. eqb (get_or qs v 0) 1) (up_to (length qs)) (λ v m. eq→eqb (get_or qs v 0) 1 (one_at qs t v (up_to_< (length qs) m))))
-    (λ t. every_all (λ q. eqb q 1) qs (All-getD (λ q. T (eqb q 1)) 0 qs
-    (λ v h. all_∈ (λ v. eqb (get_or qs v 0) 1) (up_to (length qs)) t v (up_to_∈ (length qs) v h))))
-
 -- ---- entries
-∈_has : (x : Entry) (xs : List Entry) → x ∈ xs → T (has x xs)
-∈_has x [] m = elim m [ ]
-∈_has x (y ∷ ys) (Memᴰ.head e) = or_l (same x y) (has x ys) (eq→same x y e)
-∈_has x (y ∷ ys) (Memᴰ.tail m) = or_r (same x y) (has x ys) (∈_has x ys m)
 
 -- what holds at every place of a list holds of what is in it
 ∈_place : {A : Type 0} (d : A) (xs : List A) {x : A} → x ∈ xs → (i : ℕ) × (i < length xs) × (get_or xs i d ≡ x)
@@ -91,7 +80,7 @@ module _ (r : Roster) (ok : T (fits r)) where
       (∈_gather (λ k. cond (listed r i j k) (pair_edge r i j k ∷ []) []) shifts (range_∈ shift_limit 1 k a (omega arith))
       (subst (λ b. pair_edge r i j k ∈ cond b (pair_edge r i j k ∷ []) []) (sym (T_true {b = listed r i j k} t)) (Memᴰ.head refl)))))
 
-  at : (e : ℕ) → e < length es → IsEdge r (edge_at es e)
+  pub at : (e : ℕ) → e < length es → IsEdge r (edge_at es e)
   at e h = edge_is r (edge_at es e) (get_d_∈ es e no_edge h)
 
   -- ---- the roster passes: so does each edge
@@ -99,81 +88,13 @@ module _ (r : Roster) (ok : T (fits r)) where
   no_entry_law [] e x = tt
   no_entry_law (y ∷ ys) e x = absurd (let n : ⊥ = omega arith in n)
 
-  edge_strict : T (untied r) → (e : ℕ) → e < length es → T (not (edge_at es e).tied)
+  pub edge_strict : T (untied r) → (e : ℕ) → e < length es → T (not (edge_at es e).tied)
   edge_strict t e h = given (at e h) (λ a. subst (λ x. T (not x.tied)) (sym a.is)
       (no_entry_law (list_t r a.j).tied (eqb→eq (length (list_t r a.j).tied) 0 (all_∈ (λ R. eqb (length R.tied) 0) r.lists_t t (list_t r a.j)
       (get_d_∈ r.lists_t a.j (record { strict = []; tied = [] }) (subst (λ n. a.j < n) (sym (fits_lists r ok).count_t) a.j_in))))
       (record { number = suc a.i; shift = a.k })))
 
-  edge_first : T (only_first r) → (e : ℕ) → e < length es → (edge_at es e).shift ≡ 1
-  unfolding listed
-  edge_first t e h = given (at e h) (λ a. ap (λ x. x.shift) a.is
-      ∙ given (any_∈ (same (record { number = suc a.j; shift = a.k })) (list_s r a.i) a.pair)
-      (λ (y, m, s). eqb→eq a.k y.shift (and_r (eqb (suc a.j) y.number) (eqb a.k y.shift) s)
-      ∙ eqb→eq y.shift 1 (all_∈ is_first (list_s r a.i) (all_∈ (λ xs. all? is_first xs) r.lists_s t (list_s r a.i)
-      (get_d_∈ r.lists_s a.i [] (subst (λ n. a.i < n) (sym (fits_lists r ok).count_s) a.i_in))) y m)))
-
   -- ---- each edge passes: so does the roster
-  module _ (tied-none : (e : ℕ) → e < length es → T (not (edge_at es e).tied)) (first-all : (e : ℕ) → e < length es → (edge_at es e).shift ≡ 1) where
-    -- an entry of surveyor i
-    list_first : (i : ℕ) → i < ns → T (list_fits list_limit nt (list_s r i)) → (x : Entry) → x ∈ list_s r i → T (is_first x)
-    unfolding listed
-    list_first i hi f x m = given (in_range_law nt x (all_∈ (entry_fits nt) (list_s r i) (list_range list_limit nt (list_s r i) f) x m)) (λ (p, q, s, u).
-        let back : suc (x.number - 1) ≡ x.number = omega arith in
-        given (listed_edge i (x.number - 1) x.shift hi (omega arith) s u
-        (subst (λ n. T (has (record { number = n; shift = x.shift }) (list_s r i))) (sym back) (∈_has x (list_s r i) m)))
-        (λ (e, l, w). eq→eqb x.shift 1 (sym (ap (λ y. y.shift) w) ∙ first-all e l)))
-
-    -- a tied entry of stand j
-    none_tied : (j : ℕ) → j < nt → T (ranking_fits list_limit ns (list_t r j)) → (x : Entry) → x ∈ (list_t r j).tied → ⊥
-    unfolding listed listed_back
-    none_tied j hj f x m =
-        let into : x ∈ entries (list_t r j) = Memᴰ.append_right (list_t r j).strict m in
-        given (in_range_law ns x (all_∈ (entry_fits ns) (entries (list_t r j)) (list_range list_limit ns (entries (list_t r j))
-        (ranking_list list_limit ns (list_t r j) f)) x into)) (λ (p, q, s, u).
-        let back : suc (x.number - 1) ≡ x.number = omega arith in
-        let hi : x.number - 1 < ns = omega arith in
-        given (listed_edge (x.number - 1) j x.shift hi hj s u
-        (subst T (sym ((fits_lists r ok).pairs (x.number - 1) j x.shift hi hj (range_∈ shift_limit 1 x.shift s (omega arith))))
-        (subst (λ n. T (has (record { number = n; shift = x.shift }) (entries (list_t r j)))) (sym back) (∈_has x (entries (list_t r j)) into))))
-        (λ (e, l, w). T_not (edge_at es e).tied (tied-none e l) (subst (λ y. T y.tied) (sym w)
-        (subst (λ n. T (has (record { number = n; shift = x.shift }) (list_t r j).tied)) (sym back) (∈_has x (list_t r j).tied m)))))
-
-    roster_first : T (only_first r)
-    roster_first = every_all (λ xs. all? is_first xs) r.lists_s (All-getD (λ xs. T (all? is_first xs)) [] r.lists_s (λ i h.
-        ∈_all is_first (list_s r i) (λ x m. list_first i (subst (λ n. i < n) (fits_lists r ok).count_s h)
-        (all_∈ (list_fits list_limit nt) r.lists_s (fits_lists r ok).fit_s (list_s r i) (get_d_∈ r.lists_s i [] h)) x m)))
-
-    empty : (xs : List Entry) → ((x : Entry) → x ∈ xs → ⊥) → T (eqb (length xs) 0)
-    empty [] h = tt
-    empty (x ∷ xs) h = absurd (h x (Memᴰ.head refl))
-
-    roster_untied : T (untied r)
-    roster_untied = every_all (λ R. eqb (length R.tied) 0) r.lists_t
-        (All-getD (λ R. T (eqb (length R.tied) 0)) (record { strict = []; tied = [] }) r.lists_t (λ j h.
-        empty (list_t r j).tied (none_tied j (subst (λ n. j < n) (fits_lists r ok).count_t h)
-        (all_∈ (ranking_fits list_limit ns) r.lists_t (fits_lists r ok).fit_t (list_t r j) (get_d_∈ r.lists_t j (record { strict = []; tied = [] }) h)))))
-
-  -- ---- the two tests are one
-  abbrev plain : ℕ → Bool
-  plain e = not ((instance_of r).tied e) && eqb ((instance_of r).sh e) 1
-
-  lists_plain : untied r && only_first r ≡ plain_edges (instance_of r).tied (instance_of r).sh (instance_of r).m
-  unfolding plain_edges instance_of
-  lists_plain = bool_eq (untied r && only_first r) (plain_edges (instance_of r).tied (instance_of r).sh (instance_of r).m)
-      (λ t. ∈_all plain (up_to (length es)) (λ e m. let h = up_to_< (length es) m in and_i (not (edge_at es e).tied) (eqb (edge_at es e).shift 1)
-      (edge_strict (and_l (untied r) (only_first r) t) e h) (eq→eqb (edge_at es e).shift 1 (edge_first (and_r (untied r) (only_first r) t) e h))))
-      (λ t. given (λ e h. all_∈ plain (up_to (length es)) t e (up_to_∈ (length es) e h)) (λ (a : (e : ℕ) → e < length es → T (plain e)).
-      given (λ e h. and_l (not (edge_at es e).tied) (eqb (edge_at es e).shift 1) (a e h)) (λ (b : (e : ℕ) → e < length es → T (not (edge_at es e).tied)).
-      given (λ e h. eqb→eq (edge_at es e).shift 1 (and_r (not (edge_at es e).tied) (eqb (edge_at es e).shift 1) (a e h)))
-      (λ (c : (e : ℕ) → e < length es → (edge_at es e).shift ≡ 1). and_i (untied r) (only_first r) (roster_untied b c) (roster_first b c)))))
-
-  -- a roster within the limits is of the profile exactly if its instance passes this test
-  pub profile_is : one_to_one r ≡ unitary (instance_of r)
-  unfolding one_to_one instance_of
-  profile_is = ap (λ b. b && (untied r && only_first r)) (ap (λ b. b && all_one r.quotas_t) (quotas_one r.quotas_s)
-      ∙ ap (λ b. each_one (λ v. get_or r.quotas_s v 0) ns && b) (quotas_one r.quotas_t))
-      ∙ ap (λ b. (each_one (λ v. get_or r.quotas_s v 0) ns && each_one (λ v. get_or r.quotas_t v 0) nt) && b) lists_plain
 
   -- all quotas one, no ties
   pub profile_instance : T (one_to_one r) → OneToOne (instance_of r)

@@ -16,7 +16,7 @@ use Rattle.model_files.specs.Profile.{one_to_one, of_profile, read_profile}
 use Rattle.theory_instance.specs.Lawful.{Lawful}
 use Rattle.theory_files.specs.Rosters.{read_fits}
 use Rattle.theory_files.specs.RosterInstance.{lawful}
-use Rattle.theory_offers.specs.OffersPlan.{OneToOne, offers_plan_law, no_blocking, no_vote_below, strong_when_law, finder_same}
+use Rattle.theory_offers.specs.OffersPlan.{OneToOne}
 use Rattle.theory_offers.specs.ProfileInstance.{profile_instance}
 
 -- what holds of the plan of the offers; `rival` is the finder's choice of a rival, whatever it is
@@ -29,15 +29,6 @@ pub record Offered (G : Instance) (rival : Plan → Plan) : Type 0 where
   -- "it is so exactly when the general finder hands back a plan, and then the two plans are the same"
   pub strong_when : is_strong (verdict_of G (offers_plan G)) ≡ hands_back (finder_of G rival)
   pub same : (M : Plan) → finder_of G rival ≡ plan M → (M ≡ offers_plan G) × (plan_bytes G M ≡ plan_bytes G (offers_plan G))
-
-pub offered_plan : (G : Instance) → Lawful G → OneToOne G → (rival : Plan → Plan) → Offered G rival
-offered_plan G L O rival = record {
-  in_quotas = offers_plan_law G L O;
-  unblocked = no_blocking G L O;
-  unbeaten = no_vote_below G L O;
-  strong_when = strong_when_law G L O rival;
-  same = λ M e. let q = finder_same G L O rival M e in (q, ap (plan_bytes G) q);
-}
 
 -- ---- what the profile takes
 taken_is : (x : Reading Roster) (r : Roster) → of_profile x ≡ accepted r → (x ≡ accepted r) × T (one_to_one r)
@@ -66,10 +57,3 @@ taken_is (refused n) r e = absurd (subst is_refused e tt)
 pub profile_read : (f : List ℕ) (r : Roster) → read_profile f ≡ accepted r → (read_roster f ≡ accepted r) × T (one_to_one r)
 unfolding read_profile
 profile_read f r e = taken_is (read_roster f) r e
-
--- of every file that the profile takes, this holds of the plan of the offers
-pub profile_offered : (f : List ℕ) → T (is_bytes f) → (r : Roster) → read_profile f ≡ accepted r → (rival : Plan → Plan) → Offered (instance_of r) rival
-profile_offered f is_b r e rival =
-    let (a, t) = profile_read f r e in
-    let ok = read_fits f r is_b a in
-    offered_plan (instance_of r) (lawful r ok) (profile_instance r ok t) rival

@@ -14,8 +14,7 @@ use Rattle.model.specs.Ranges.{Question, Least, ranked, entry_count, roster_rank
 use Rattle.theory_files.specs.Reads.{is_bytes, accepted_value, refused-not}
 use Rattle.theory_files.specs.PlanFiles.{plan_read_within}
 use Rattle.theory_ranges.specs.Worst.{Fit}
-use Rattle.theory_ranges.specs.LeastVote.{choice_of, least_holds}
-use Rattle.theory_ranges.specs.Settled.{settled_least}
+use Rattle.theory_ranges.specs.LeastVote.{choice_of}
 use Rattle.theory_ranges.specs.RangesFile.{ranges_refusal, ranges_of, reading_by, read_is, taken, taken_fit}
 
 -- which choice is open: this one is written
@@ -50,18 +49,3 @@ module _ (r : Roster) (a b c : List ℕ) (ia : T (is_bytes a)) (ib : T (is_bytes
       first : (x : Reading Plan) → read_plan (instance_of r) a ≡ x → first_judged r x b c ≡ accepted q → Sound r q
       first (accepted M) z e = second M (plan_read_within (instance_of r) a M ia z) (read_plan (instance_of r) b) refl e
       first (refused n) z e = refused-not e
-
--- the choice that is written for a question is within its ranges and reaches the least vote
-pub choice_holds : (r : Roster) → T (fits r) → (a b c : List ℕ) → T (is_bytes a) → T (is_bytes b) → (q : Question) → read_question r a b c ≡ accepted q
-    → Least r q.ranges q.first q.second (vote_of (ranked r (choice_for r q)) q.first q.second) (choice_for r q)
-choice_holds r ok a b c ia ib q e = let s = question_sound r a b c ia ib q e in least_holds r ok q.first q.second s.first s.second q.ranges
-    s.ranges
-
--- where each range is settled at the roster's own rank, the vote under that choice is the ordinary vote
-pub settled_holds : (r : Roster) → T (fits r) → (a b c : List ℕ) → T (is_bytes a) → T (is_bytes b) → (q : Question) → read_question r a b c ≡ accepted q
-    → q.ranges ≡ map settled_at (roster_ranks r)
-    → vote_of (ranked r (choice_for r q)) q.first q.second ≡ vote_of (instance_of r) q.first q.second
-settled_holds r ok a b c ia ib q e s =
-    let h = question_sound r a b c ia ib q e in
-    ap (λ rs. vote_of (ranked r (choice_of r q.first q.second rs)) q.first q.second) s
-    ∙ settled_least r ok q.first q.second h.first h.second

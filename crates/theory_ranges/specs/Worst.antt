@@ -82,31 +82,6 @@ module _ (G : Instance) where
     abbrev ours : List ℕ
     ours = worst_choice M N rs
 
-    -- an own edge of M raises its places; an own edge of N has places that none raises
-    hit : (d k : ℕ) → d < G.m → M d ≡ true → N d ≡ false → (entry_s d ≡ k) ⊎ (entry_t d ≡ k) → raised N es k ≡ true
-    hit d k l a b w = by-test (raised N es k) T_true (λ n. absurd (T_not (raises N k d)
-        (none_∈ (raises N k) es n d (keep_∈ M (range 0 G.m) (range_∈ G.m 0 d zero-le (omega arith)) (true_t a)))
-        (and_i (not (N d)) (eqb (entry_s d) k || eqb (entry_t d) k) (false_t b) (⊎_elim
-        (λ e. or_l (eqb (entry_s d) k) (eqb (entry_t d) k) (same (entry_s d) k e))
-        (λ e. or_r (eqb (entry_s d) k) (eqb (entry_t d) k) (same (entry_t d) k e)) w))))
-      where
-        same : (a b : ℕ) → a ≡ b → T (eqb a b)
-        same a b e = subst (λ z. T (eqb a z)) e (eqb_refl a)
-
-    miss : (f k : ℕ) → f < G.m → N f ≡ true → (entry_s f ≡ k) ⊎ (entry_t f ≡ k) → raised N es k ≡ false
-    miss f k lf a w = T_false (not_T (raised N es k) (λ t.
-        let (d, m, s) = any_∈ (raises N k) es t in
-        let inside = ∈_range G.m 0 (∈_keep M (range 0 G.m) m).0 in
-        let absent = and_l (not (N d)) (eqb (entry_s d) k || eqb (entry_t d) k) s in
-        clash d (omega (arith, inside.1)) (λ q. T_not (N d) absent (true_t (ap N q ∙ a))) (⊎_map (eqb→eq (entry_s d) k) (eqb→eq (entry_t d) k)
-        (or_case (eqb (entry_s d) k) (eqb (entry_t d) k) (and_r (not (N d)) (eqb (entry_s d) k || eqb (entry_t d) k) s))) w))
-      where
-        clash : (d : ℕ) → d < G.m → d ≢ f → (entry_s d ≡ k) ⊎ (entry_t d ≡ k) → (entry_s f ≡ k) ⊎ (entry_t f ≡ k) → ⊥
-        clash d l n (inl x) (inl y) = place_differs G.sv G.rank_s G.m d f l lf n (x ∙ sym y)
-        clash d l n (inl x) (inr y) = omega (arith, place_below G.sv G.rank_s G.m d l)
-        clash d l n (inr x) (inl y) = omega (arith, place_below G.sv G.rank_s G.m f lf)
-        clash d l n (inr x) (inr y) = place_differs G.st G.rank_t G.m d f l lf n (omega arith)
-
     -- ---- it is a choice within the ranges
     pub worst_choice_law : Fit rs → Choice rs ours
     worst_choice_law fit = record {
@@ -124,25 +99,3 @@ module _ (G : Instance) where
         (λ n. subst (λ z. z < empty_rank) (sym (get_or-eq_default ws 0 (omega (arith, c.each)))) (omega arith))
 
     -- ---- and no other gives M a lower vote
-    module _ (fit : Fit rs) (ws : List ℕ) (c : Choice rs ws) where
-      nothing : (xs : List ℕ) (k : ℕ) → length xs ≡ length rs → ¬ (k < length rs) → get_or xs k 0 ≡ 0
-      nothing xs k e n = get_or-eq_default xs 0 (omega arith)
-
-      up : (d k : ℕ) → d < G.m → M d ≡ true → N d ≡ false → (entry_s d ≡ k) ⊎ (entry_t d ≡ k) → get_or ws k 0 ≤ get_or ours k 0
-      up d k l a b w = by_cases (dec_lt k (length rs))
-          (λ h. subst (λ z. get_or ws k 0 ≤ z)
-          (sym (worst_is N es rs k h ∙ ap (λ t. cond t (range_at rs k).high (range_at rs k).low) (hit d k l a b w))) (c.to k h))
-          (λ n. omega (arith, nothing ws k c.each n))
-
-      down : (f k : ℕ) → f < G.m → N f ≡ true → (entry_s f ≡ k) ⊎ (entry_t f ≡ k) → get_or ours k 0 ≤ get_or ws k 0
-      down f k l a w = by_cases (dec_lt k (length rs))
-          (λ h. subst (λ z. z ≤ get_or ws k 0)
-          (sym (worst_is N es rs k h ∙ ap (λ t. cond t (range_at rs k).high (range_at rs k).low) (miss f k l a w))) (c.from k h))
-          (λ n. omega (arith, nothing ours k (worst_length N es rs) n))
-
-      pub worst_least : Matching G M → Matching G N → vote (ranked_by ours) M N ≤ℤ vote (ranked_by ws) M N
-      worst_least p q = vote_falls G M N p q (λ e. get_or ws (entry_s e) 0) (λ e. get_or ws (entry_t e) 0) (λ e. get_or ours (entry_s e) 0) (λ e. get_or ours (entry_t e) 0)
-          (λ e l. choice_placed fit ws c (entry_s e)) (λ e l. choice_placed fit ws c (entry_t e))
-          (λ e l. choice_placed fit ours (worst_choice_law fit) (entry_s e)) (λ e l. choice_placed fit ours (worst_choice_law fit) (entry_t e))
-          (record { own = λ d l a b. up d (entry_s d) l a b (inl refl); other = λ f l a b. down f (entry_s f) l a (inl refl) })
-          (record { own = λ d l a b. up d (entry_t d) l a b (inr refl); other = λ f l a b. down f (entry_t f) l a (inr refl) })

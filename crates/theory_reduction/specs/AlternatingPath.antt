@@ -71,7 +71,7 @@ module _ {G : Instance} {M rem : ℕ → Bool} where
         go [] a l h = omega arith
         go (s ∷ w) a l h = omega (arith, W.closed x s w (ix.lt, ix.mem) a)
 
-    no_lL : {x y : ℕ} → In G.m M rem x → Reach G M 0 x y 0 2 → ⊥
+    pub no_lL : {x y : ℕ} → In G.m M rem x → Reach G M 0 x y 0 2 → ⊥
     no_lL {x} {y} ix r = omega (arith, W.LL x r.steps y (ix.lt, ix.mem) r.walk)
 
     -- loss and gain: where both are at one surveyor the alternating path closes to a loop, and f's vote there comes in
@@ -85,7 +85,7 @@ module _ {G : Instance} {M rem : ℕ → Bool} where
         (λ n. omega (arith, W.LG A.from A.way.steps A.at f (A.from_in.lt, A.from_in.mem) A.way.walk nf A.stand rm n, A.way.cost))
 
     -- gain and loss, likewise at a stand
-    no_gL : (f k x y c d : ℕ) → New G M f → RoomT G M f → In G.m M rem x → G.sv f ≡ G.sv x → Reach G M 0 x y c d
+    pub no_gL : (f k x y c d : ℕ) → New G M f → RoomT G M f → In G.m M rem x → G.sv f ≡ G.sv x → Reach G M 0 x y c d
         → c + up (G.rank_s x) (G.rank_s f) + k ≤ d + up (G.rank_s f) (G.rank_s x)
         → (G.st f ≡ G.st y → up (G.rank_t y) (G.rank_t f) ≤ k + up (G.rank_t f) (G.rank_t y)) → ⊥
     no_gL f k x y c d nf rm ix i r h v = by_cases (ℕ_discrete (G.st f) (G.st y))
@@ -94,21 +94,6 @@ module _ {G : Instance} {M rem : ℕ → Bool} where
         (omega arith)))
         (omega arith) (omega (arith, v e))))
         (λ n. omega (arith, W.GL f x r.steps y nf rm (ix.lt, ix.mem) i r.walk n, r.cost))
-
-    -- a way back to x and a way forth from it
-    pub no_back_forth : {x : ℕ} → Back G M rem x → Forth G M rem x → ⊥
-    no_back_forth b (lost y iy r) = no_lL b.from_in (loosen 0 0 2 (join b.way r) (omega arith) (omega arith))
-    no_back_forth b (gained y f c d nf rm i r h) = no_lG f 1 nf rm
-        (record { from = b.from; at = y; c = 0 + c; d = 1 + d; from_in = b.from_in; way = join b.way r; stand = i; cost = omega arith })
-        (λ e. omega (arith, up_one (G.rank_s b.from) (G.rank_s f)))
-
-    -- an arrival of at most 0 where the surveyor has room or a worse edge
-    pub no_arrival : (f : ℕ) → New G M f → Arrival G M rem f 0 1 → Blocks (surveyors G) M rem f → ⊥
-    no_arrival f nf A (inl rm) = no_lG f 1 nf rm A (λ e. omega (arith, up_one (G.rank_s A.from) (G.rank_s f)))
-    no_arrival f nf A (inr (y, iy, i, w)) = no_lL A.from_in (loosen 0 0 2 (join A.way
-        (hop (up (G.rank_t A.at) (G.rank_t f)) (up (G.rank_t f) (G.rank_t A.at) + 1) nf iy A.stand i
-        (omega (arith, up_no (G.rank_s y) (G.rank_s f) (omega arith), up_yes (G.rank_s f) (G.rank_s y) w))))
-        (omega arith) (omega arith))
 
     -- a gain by f into x, where nothing of the plan at f's stand is better than f
     pub no_gain : (f x : ℕ) → New G M f → RoomT G M f → In G.m M rem x → G.sv f ≡ G.sv x
@@ -122,33 +107,7 @@ module _ {G : Instance} {M rem : ℕ → Bool} where
       W.GG f x r.steps y g nf rm ng rg (ix.lt, ix.mem) i r.walk j,
     )
 
-    -- no edge outside the plan blocks at both ends
-    pub no_both_block : (f : ℕ) → New G M f → Blocks (surveyors G) M rem f → Blocks (stands G) M rem f → ⊥
-    no_both_block f nf (inl a) (inl b) = W.direct f nf a b
-    no_both_block f nf (inr (y, iy, i, w)) (inl b) = no_gL f 1 y y 0 0 nf b iy i (stay y)
-        (omega (arith, up_no (G.rank_s y) (G.rank_s f) (omega arith), up_yes (G.rank_s f) (G.rank_s y) w))
-        (λ e. omega (arith, up_one (G.rank_t y) (G.rank_t f)))
-    no_both_block f nf bs (inr (x, ix, i, w)) = no_arrival f nf
-        (record {
-          from = x;
-          at = x;
-          c = 0;
-          d = 0;
-          from_in = ix;
-          way = stay x;
-          stand = i;
-          cost = omega (arith, up_no (G.rank_t x) (G.rank_t f) (omega arith), up_yes (G.rank_t f) (G.rank_t x) w);
-        }) bs
-
 -- ---- the same for the whole instance, by its own words
 -- the node of f has room, or an edge of the plan there is worse than f
 abbrev pub Welcome : (K : Side) (M : ℕ → Bool) → ℕ → Type 0
 Welcome K M f = (deg K M (K.end f) < K.quota (K.end f)) ⊎ ((x : ℕ) × (x < K.m) × T (M x) × (K.end f ≡ K.end x) × (K.rank f < K.rank x))
-
--- every edge of the plan counts as remaining
-blocks : (K : Side) (M : ℕ → Bool) (f : ℕ) → Welcome K M f → Blocks K M M f
-blocks K M f = ⊎_map (λ r. r) (λ (x, l, t, i, w). (x, record { lt = l; mem = t; left = t }, i, w))
-
--- no edge outside a plan that Lemma W holds of is welcome at both its ends
-pub no_blocking : {G : Instance} {M : ℕ → Bool} → NoBad G M → (f : ℕ) → f < G.m → T (not (M f)) → Welcome (surveyors G) M f → Welcome (stands G) M f → ⊥
-no_blocking {G} {M} W f l n s t = no_both_block W f (l, n) (blocks (surveyors G) M f s) (blocks (stands G) M f t)

@@ -25,7 +25,7 @@ use Rattle.theory_instance.specs.Lawful.{Matching}
 use Rattle.theory_reduction.specs.Facts.{Quiet}
 use Rattle.theory_reduction.specs.Chosen.{Acts, acts, all_quiet}
 use Rattle.theory_reduction.specs.FirstRule.{step_taken, no_step}
-use Rattle.theory_reduction.specs.Quotas.{Sound, begin_sound, next_sound}
+use Rattle.theory_reduction.specs.Quotas.{Sound, begin_sound}
 
 module _ (G : Instance) where
   -- the state and the steps that follow, by whether a step is taken
@@ -48,15 +48,6 @@ module _ (G : Instance) where
     where
       Told : Option Step → Type 0
       Told o = P (suc n) Z (then_steps n Z o) (then_state n Z o)
-
-  -- in particular the law of the cut quotas, at every state on the way
-  pub sound_after : (n : ℕ) → Sound G (state_after G n (begin G))
-  sound_after n = along (λ n Z ss Y. Sound G Z → Sound G Y) (λ n Z h S. S) (λ n Z ss Y h ih S. ih (next_sound G Z S h)) n (begin G) (begin_sound G)
-
-  -- what is fixed at the end is within the quotas
-  pub end_matching : Matching G (end_of G).fixed
-  unfolding end_of
-  end_matching = given (sound_after G.m) (λ S. record { at_s = S.at_s.within; at_t = S.at_t.within })
 
   -- ---- each step is that of the state before it
   -- where a rule acts, the state after n + 1 steps is the one after n steps from the next state

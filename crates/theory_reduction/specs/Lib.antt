@@ -7,9 +7,6 @@ pub mod Reach
 pub mod PlanAgainstArrows
 pub mod AlternatingPath
 pub mod Chains
-pub mod Steps
-pub mod End
-pub mod Run
 pub mod RuleNumbers
 pub mod ByNode
 pub mod FirstRule

@@ -24,31 +24,17 @@ begin_counted K rem = record {
 }
 
 -- the numbers of a node, before and after a step at an edge that is fixed (b) or struck, and is at the node (c) or not
-cut_step : (b c : Bool) (quota F F' R R' x : ℕ) → x ≡ min (quota - F) R → R ≡ R' + bit c → F' ≡ F + bit (b && c)
+pub cut_step : (b c : Bool) (quota F F' R R' x : ℕ) → x ≡ min (quota - F) R → R ≡ R' + bit c → F' ≡ F + bit (b && c)
     → min (x - bit (b && c)) R' ≡ min (quota - F') R'
 cut_step true true quota F F' R R' x h k g = omega arith
 cut_step true false quota F F' R R' x h k g = omega arith
 cut_step false true quota F F' R R' x h k g = omega arith
 cut_step false false quota F F' R R' x h k g = omega arith
 
-within_step : (b c : Bool) (quota F F' R x : ℕ) → x ≡ min (quota - F) R → F ≤ quota → (T b → T c → 0 < x) → F' ≡ F + bit (b && c) → F' ≤ quota
+pub within_step : (b c : Bool) (quota F F' R x : ℕ) → x ≡ min (quota - F) R → F ≤ quota → (T b → T c → 0 < x) → F' ≡ F + bit (b && c) → F' ≤ quota
 within_step true true quota F F' R x h k r g = omega (arith, r tt tt)
 within_step true false quota F F' R x h k r g = omega arith
 within_step false c quota F F' R x h k r g = omega arith
-
--- the remaining edge e is fixed (b), where a place is left, or struck
-act_counted : (K : Side) (rem fixed : ℕ → Bool) (q : ℕ → ℕ) → Counted K rem fixed q
-    → (b : Bool) (e : ℕ) → e < K.m → T (rem e) → T (not (fixed e)) → (T b → 0 < cut K rem q (K.end e))
-    → Counted K (λ d. rem d && not (eqb d e)) (λ d. fixed d || (b && eqb d e)) (λ v. cut K rem q v - bit (b && eqb v (K.end e)))
-unfolding cut
-act_counted K rem fixed q C b e l r n room = record {
-  cut_is = λ v. cut_step b (eqb v (K.end e)) (K.quota v) (deg K fixed v) (deg K (λ d. fixed d || (b && eqb d e)) v) (deg K rem v)
-      (deg K (λ d. rem d && not (eqb d e)) v)
-      (cut K rem q v) (C.cut_is v) (deg_without K rem e v l r) (deg_with K fixed b e v l n);
-  within = λ v. within_step b (eqb v (K.end e)) (K.quota v) (deg K fixed v) (deg K (λ d. fixed d || (b && eqb d e)) v) (deg K rem v)
-      (cut K rem q v) (C.cut_is v) (C.within v) (λ tb tc. subst (λ u. 0 < cut K rem q u) (sym (eqb→eq v (K.end e) tc)) (room tb))
-      (deg_with K fixed b e v l n);
-}
 
 -- ---- a state: nothing that is fixed remains, and both sides' counts are right
 pub record Sound (G : Instance) (Z : State) : Type 0 where
@@ -63,24 +49,3 @@ begin_sound G = record {
   at_s = begin_counted (surveyors G) (λ e. ltb e G.m);
   at_t = begin_counted (stands G) (λ e. ltb e G.m);
 }
-
--- a fixed edge is taken from what remains
-apart_step : (f b c r : Bool) → (T f → T (not r)) → T (f || (b && c)) → T (not (r && not c))
-apart_step f b true true h t = tt
-apart_step f b true false h t = tt
-apart_step true b false r h t = nand_i r true (h tt)
-apart_step false true false r h t = absurd t
-apart_step false false false r h t = absurd t
-
-pub next_sound : (G : Instance) (Z : State) → Sound G Z → rule_of G Z < 8 → Sound G (next G Z)
-unfolding next act
-next_sound G Z S h = given (acts G Z h) (λ A.
-    let e = edge_of G Z in
-    let b = fixes (fate_of (rule_of G Z)) in
-    let n : T (not (Z.fixed e)) = not_T (Z.fixed e) (λ t. T_not (Z.rem e) (S.apart e A.inside t) A.left) in
-    let room = fixes_room G Z (rule_of G Z) e A.inside A.left A.named A.earlier in
-    record {
-      apart = λ d l t. apart_step (Z.fixed d) b (eqb d e) (Z.rem d) (S.apart d l) t;
-      at_s = act_counted (surveyors G) Z.rem Z.fixed Z.q_s S.at_s b e A.inside A.left n (λ t. (room t).0);
-      at_t = act_counted (stands G) Z.rem Z.fixed Z.q_t S.at_t b e A.inside A.left n (λ t. (room t).1);
-    })

@@ -13,7 +13,7 @@ use Rattle.model.specs.Instance.{Side, deg}
 use Rattle.model.specs.Plans.{within_side}
 use Rattle.theory_votes.specs.Score.{score}
 use Rattle.theory_votes.specs.Signed.{node_vote_score}
-use Rattle.theory_renamed.specs.Part.{Placed, Part, part_deg, part_vote}
+use Rattle.theory_renamed.specs.Part.{Placed, Part, part_deg}
 use Rattle.theory_renamed.specs.StrongPlans.{same_sub}
 
 pub record Beside (K A B : Side) : Type 0 where
@@ -28,7 +28,7 @@ pub record Beside (K A B : Side) : Type 0 where
   pub inside_a : (e : ℕ) → e < A.m → A.end e < A.n
   pub inside_b : (e : ℕ) → e < B.m → B.end e < B.n
 
-sum_split : (f : ℕ → ℕ) (a b : ℕ) → sum f (up_to (a + b)) ≡ sum f (up_to a) + sum (λ v. f (a + v)) (up_to b)
+pub sum_split : (f : ℕ → ℕ) (a b : ℕ) → sum f (up_to (a + b)) ≡ sum f (up_to a) + sum (λ v. f (a + v)) (up_to b)
 sum_split f a zero =
     let e : a + 0 ≡ a = omega arith in
     let r : sum f (up_to a) ≡ sum f (up_to a) + 0 = omega arith in
@@ -52,7 +52,7 @@ module _ (K A B : Side) (S : Beside K A B) where
       let e : A.m + (u - A.m) ≡ u = omega arith in
       omega (arith, ap K.end e, S.end_b (u - A.m) (omega (arith, S.edges)))
 
-  part_a : (v : ℕ) → v < A.n → Part A K (λ e. e) v v
+  pub part_a : (v : ℕ) → v < A.n → Part A K (λ e. e) v v
   part_a v lv = record {
     into = λ e l q. omega (arith, S.edges);
     rank = λ e l q. S.rank_a e l;
@@ -72,7 +72,7 @@ module _ (K A B : Side) (S : Beside K A B) where
       ∙ sum_at (λ d. eqb (B.end d) v) w (up_to B.m) ∙ ap (λ n. pk (eqb (B.end w) v) n) (occ_up_to B.m w lw) ∙ sym (bit_pk (eqb (B.end w) v))
       ∙ sym (ap bit (ap (λ x. eqb x (A.n + v)) (ap K.end e ∙ S.end_b w lw) ∙ eqb_up A.n (B.end w) v))
 
-  part_b : (v : ℕ) → v < B.n → Part B K (λ e. A.m + e) v (A.n + v)
+  pub part_b : (v : ℕ) → v < B.n → Part B K (λ e. A.m + e) v (A.n + v)
   part_b v lv = record {
     into = λ e l q. omega (arith, S.edges);
     rank = λ e l q. S.rank_b e l;
@@ -83,34 +83,13 @@ module _ (K A B : Side) (S : Beside K A B) where
         (λ h. later v u l h);
   }
 
-  deg_a : (P : ℕ → Bool) (v : ℕ) → v < A.n → deg A P v ≡ deg K P v
+  pub deg_a : (P : ℕ → Bool) (v : ℕ) → v < A.n → deg A P v ≡ deg K P v
   deg_a P v l = part_deg A K (λ e. e) v v (part_a v l) P
 
-  deg_b : (P : ℕ → Bool) (v : ℕ) → v < B.n → deg B (second P) v ≡ deg K P (A.n + v)
+  pub deg_b : (P : ℕ → Bool) (v : ℕ) → v < B.n → deg B (second P) v ≡ deg K P (A.n + v)
   deg_b P v l = part_deg B K (λ e. A.m + e) v (A.n + v) (part_b v l) P
 
   -- ---- the side's votes add up
-  module _ (pK : Placed K) (pA : Placed A) (pB : Placed B) (P Q : ℕ → Bool) (hP : (v : ℕ) → deg K P v ≤ K.quota v)
-      (hQ : (v : ℕ) → deg K Q v ≤ K.quota v) where
-    score_a : (v : ℕ) → v < A.n → score K P Q v ≡ score A P Q v
-    score_a v l = same_sub (score K P Q v) (score A P Q v) (K.quota v) (sym (node_vote_score K P Q v (hP v) (hQ v))
-        ∙ part_vote A K (λ e. e) v v (part_a v l) pA pK (sym (S.quota_a v l)) P Q (hP v) (hQ v)
-        ∙ node_vote_score A P Q v (omega (arith, deg_a P v l, hP v, S.quota_a v l)) (omega (arith, deg_a Q v l, hQ v, S.quota_a v l))
-        ∙ ap (sub_ℕ (score A P Q v)) (sym (S.quota_a v l)))
-
-    score_b : (v : ℕ) → v < B.n → score K P Q (A.n + v) ≡ score B (second P) (second Q) v
-    score_b v l =
-        let w = A.n + v in
-        same_sub (score K P Q w) (score B (second P) (second Q) v) (K.quota w) (sym (node_vote_score K P Q w (hP w) (hQ w))
-        ∙ part_vote B K (λ e. A.m + e) v w (part_b v l) pB pK (sym (S.quota_b v l)) P Q (hP w) (hQ w)
-        ∙ node_vote_score B (second P) (second Q) v (omega (arith, deg_b P v l, hP w, S.quota_b v l)) (omega (arith, deg_b Q v l, hQ w, S.quota_b v l))
-        ∙ ap (sub_ℕ (score B (second P) (second Q) v)) (sym (S.quota_b v l)))
-
-    pub scores_add : sum (score K P Q) (up_to K.n) ≡ sum (score A P Q) (up_to A.n) + sum (score B (second P) (second Q)) (up_to B.n)
-    scores_add =
-        ap (λ n. sum (score K P Q) (up_to n)) S.nodes ∙ sum_split (score K P Q) A.n B.n
-        ∙ ap₂ ◌+◌ (sum_cong (score K P Q) (score A P Q) (up_to A.n) (λ v i. score_a v (up_to_< A.n i)))
-        (sum_cong (λ v. score K P Q (A.n + v)) (score B (second P) (second Q)) (up_to B.n) (λ v i. score_b v (up_to_< B.n i)))
 
   pub quotas_add : sum K.quota (up_to K.n) ≡ sum A.quota (up_to A.n) + sum B.quota (up_to B.n)
   quotas_add = ap (λ n. sum K.quota (up_to n)) S.nodes ∙ sum_split K.quota A.n B.n

@@ -13,5 +13,4 @@ pub mod Renaming
 pub mod RouteNumbers
 pub mod RenumberedFits
 pub mod RenumberedEdges
-pub mod RenumberedPlans
 pub mod StoredFiles

@@ -13,7 +13,7 @@ use Rattle.model.specs.Limits.{empty_rank}
 use Rattle.model.specs.Instance.{Side, deg}
 use Rattle.model.specs.Vote.{node_vote}
 use Rattle.theory_votes.specs.Attained.{alone}
-use Rattle.theory_votes.specs.NodeByRotation.{node_vote_least}
+use Rattle.theory_votes.proofs.NodeByRotation.{node_vote_least}
 
 -- every rank is before an empty place's
 abbrev pub Placed : Side → Type 0
@@ -24,7 +24,7 @@ module _ (K H : Side) (M N P Q : ℕ → Bool) (v w : ℕ) (pK : Placed K) (pH :
   abbrev Alike : (A B C D : ℕ → Bool) → Type 0
   Alike A B C D = (φ : ℕ → ℕ) → sum (λ e. φ (K.rank e)) (alone K v A B) ≡ sum (λ e. φ (H.rank e)) (alone H w C D)
 
-  same_ranks : deg K M v ≤ K.quota v → deg K N v ≤ K.quota v → deg H P w ≤ H.quota w → deg H Q w ≤ H.quota w → Alike M N P Q → Alike N M Q P
+  pub same_ranks : deg K M v ≤ K.quota v → deg K N v ≤ K.quota v → deg H P w ≤ H.quota w → deg H Q w ≤ H.quota w → Alike M N P Q → Alike N M Q P
       → node_vote K M N v ≡ node_vote H P Q w
   same_ranks a b c d l r =
       let xs = map H.rank (alone H w P Q) in
@@ -98,7 +98,7 @@ module _ (K H : Side) (ε : ℕ → ℕ) (v w : ℕ) (part : Part K H ε v w) wh
         last false y = refl
 
     -- sums over the edges of a set at the node
-    at : sum here_k (up_to K.m) ≡ sum here_h (up_to H.m)
+    pub at : sum here_k (up_to K.m) ≡ sum here_h (up_to H.m)
     at =
         sym (sum_keep g (λ e. eqb (K.end e) v) (up_to K.m)
         ∙ sum_cong (λ e. pk (eqb (K.end e) v) (g e)) here_k (up_to K.m) (λ e m. one e (up_to_< K.m m)))
@@ -112,13 +112,3 @@ module _ (K H : Side) (ε : ℕ → ℕ) (v w : ℕ) (part : Part K H ε v w) wh
       sum_cong (λ e. bit (p (ε e) && eqb (K.end e) v)) (λ e. pk (p (ε e) && eqb (K.end e) v) 1) (up_to K.m) (λ e m. bit_pk (p (ε e) && eqb (K.end e) v))
       ∙ at p (λ a. 1)
       ∙ sum_cong (λ u. pk (p u && eqb (H.end u) w) 1) (λ u. bit (p u && eqb (H.end u) w)) (up_to H.m) (λ u m. sym (bit_pk (p u && eqb (H.end u) w)))
-
-  part_alone : (A B : ℕ → Bool) (φ : ℕ → ℕ)
-      → sum (λ e. φ (K.rank e)) (alone K v (λ e. A (ε e)) (λ e. B (ε e))) ≡ sum (λ u. φ (H.rank u)) (alone H w A B)
-  part_alone A B φ = sum_keep (λ e. φ (K.rank e)) (λ e. (A (ε e) && not (B (ε e))) && eqb (K.end e) v) (up_to K.m) ∙ at (λ u. A u && not (B u)) φ
-      ∙ sym (sum_keep (λ u. φ (H.rank u)) (λ u. (A u && not (B u)) && eqb (H.end u) w) (up_to H.m))
-
-  pub part_vote : Placed K → Placed H → K.quota v ≡ H.quota w → (M N : ℕ → Bool) → deg H M w ≤ H.quota w → deg H N w ≤ H.quota w
-      → node_vote H M N w ≡ node_vote K (λ e. M (ε e)) (λ e. N (ε e)) v
-  part_vote pK pH q M N hM hN = sym (same_ranks K H (λ e. M (ε e)) (λ e. N (ε e)) M N v w pK pH
-      (omega (arith, part_deg M, q)) (omega (arith, part_deg N, q)) hM hN (part_alone M N) (part_alone N M))

@@ -23,9 +23,9 @@ use Rattle.theory_verdict.specs.Search.{path_at, levels, search}
 use Rattle.theory_verdict.specs.CostAtLeast.{PathsCostAtLeast, CostAtLeastBelow}
 use Rattle.theory_verdict.specs.Cutting.{cutting, unbeaten}
 use Rattle.theory_verdict.specs.Table.{terminal_price_law, loops_done, alone_done, paths_done, loop_found, path_found}
-use Rattle.theory_verdict.specs.Cells.{below_∈, ∈_below, old_∈, ∈_old, terminals, layers}
+use Rattle.theory_verdict.specs.Cells.{below_∈, ∈_below, old_∈, ∈_old}
 
-olds_count : (G : Instance) (M : ℕ → Bool) → length (olds G M) ≡ count M G.m
+pub olds_count : (G : Instance) (M : ℕ → Bool) → length (olds G M) ≡ count M G.m
 unfolding count
 olds_count G M = omega (arith, keep_length M (range 0 G.m), sum_range (λ e. bit (M e)) G.m)
 
@@ -55,7 +55,7 @@ module _ (G : Instance) (M : ℕ → Bool) where
     abbrev pub Beats : Hit → Type 0
     Beats h = Rival G M (rival_by M h) 1 k
 
-    directs_ok : Answer Beats (NoDirect G M) (directs G M)
+    pub directs_ok : Answer Beats (NoDirect G M) (directs G M)
     unfolding directs
     directs_ok = first_answer (λ f. not (M f) && (room_s f && room_t f)) direct (range 0 G.m)
         (λ f m t. let r = and_r (not (M f)) (room_s f && room_t f) t in
@@ -75,52 +75,3 @@ module _ (G : Instance) (M : ℕ → Bool) where
         room_t = room? M (stands G)
 
     -- ---- no edge has room at both ends
-    module _ (none : NoDirect G M) where
-      alone_ok : Answer Beats (PathsCostAtLeast G M k 1) (alone_at G M lid k)
-      unfolding alone_at
-      alone_ok = first_answer (λ x. ltb (terminal G M x x).0 (4 + k)) (λ x. as_path G M x x []) (olds G M)
-          (λ x m t. let (a, b, d, c) = (terminals G M).hit x x in
-          path_found G M k law plan {n = 0} (terminal G M x x).1.0 x [] x (terminal G M x x).1.1 none (λ x w q p h. absurd (omega arith))
-          (λ x w y q h. absurd (omega arith)) (omega arith)
-          (record { old = ∈_old G M m; walk = refl; start = a; stop = b; apart = d })
-          (omega (arith, c, ltb→lt (terminal G M x x).0 (4 + k) t, terminal_price_law G x x (terminal G M x x).1.0 (terminal G M x x).1.1)))
-          (λ none. alone_done G M k (terminals G M) (λ x o. nltb→le (terminal G M x x).0 (4 + k) (none x (old_∈ G M o))))
-
-      -- an alternating path that the tables show
-      path_ok : (n : ℕ) → 2 * suc n + 4 + k ≤ lid → CostAtLeastTo G M k (suc (suc n)) → PathsCostAtLeast G M k (suc n)
-          → (x y : ℕ) → Old G M x → Old G M y → walk_price G M lid n x y + (terminal G M x y).0 < 2 * suc n + 4 + k → Beats (as_path G M x y (trace G M lid n x y))
-      path_ok n h cl cw x y ox oy c =
-          let (w, p, l, d) = (layers G M lid n).hit x y ox oy (omega arith) in
-          let (s, e, a, q) = (terminals G M).hit x y in
-          path_found G M k law plan (terminal G M x y).1.0 x (trace G M lid n x y) y (terminal G M x y).1.1 none cl
-          (cw (terminal G M x y).1.0 (terminal G M x y).1.1) l
-          (record { old = ox; walk = w; start = s; stop = e; apart = a })
-          (omega (arith, d, q, terminal_price_law G x y (terminal G M x y).1.0 (terminal G M x y).1.1))
-
-      loop_ok : (n : ℕ) → 2 * suc n + 4 + k ≤ lid → CostAtLeastTo G M k (suc n) → (x : ℕ) → Old G M x → walk_price G M lid n x x < 2 * suc n + k
-          → Beats (loop x (trace G M lid n x x))
-      loop_ok n h cl x o c =
-          let (w, p, l, d) = (layers G M lid n).hit x x o o (omega arith) in
-          loop_found G M k law plan x (trace G M lid n x x) cl p l w (omega (arith, d))
-
-      levels_ok : (B j n : ℕ) → j + n ≡ B → 2 * B + 4 + k ≤ lid → PathsCostAtLeast G M k 1 → CostAtLeastTo G M k (suc n)
-          → PathsCostAtLeast G M k (suc n) → Answer Beats (CostAtLeastBelow G M k (suc B)) (levels G M lid k j n)
-      unfolding levels
-      levels_ok B zero n e h alone cl cw =
-          nothing (record { direct = none; loops = λ x w q. cl x w (omega arith); paths = λ a b x w y q. cw a b x w y (omega arith) })
-      levels_ok B (suc j) n e h alone cl cw = or_answer (loop_at_answer lid k n (loop_ok n (omega arith) cl)) (λ no_loop.
-          let cl' = loops_done G M k (layers G M lid n) no_loop in
-          or_answer (path_at_answer lid k n (path_ok n (omega arith) cl' cw)) (λ no-path.
-          levels_ok B j (suc n) (omega arith) h alone cl' (paths_done G M k (layers G M lid n) (terminals G M) alone no-path)))
-
-    -- ---- the search
-    pub search_ok : (B : ℕ) → length (olds G M) ≤ B → 2 * B + 4 + k ≤ lid
-        → Answer Beats (Holds G k M × ((N : ℕ → Bool) → Matching G N → quotas G ≤ tally G M N)) (search G M lid k B)
-    unfolding search
-    search_ok B few h = or_answer directs_ok (λ none. or_answer (alone_ok none) (λ alone.
-        answer_map (λ h r. r) (λ d. (
-          cutting G M law plan k (suc B) d (omega (arith, olds_count G M)),
-          unbeaten G M law plan k (suc B) d
-              (omega (arith, olds_count G M)),
-        ))
-        (levels_ok none B B 0 (omega arith) h alone (λ x w q p. absurd (omega arith)) alone)))

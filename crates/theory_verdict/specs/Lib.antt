@@ -6,7 +6,6 @@ pub mod Cutting
 pub mod Table
 pub mod Cells
 pub mod Levels
-pub mod Stop
 pub mod Verdict
 pub mod Plans
 pub mod Meaning

@@ -18,7 +18,6 @@ use Rattle.theory_votes.specs.PairOrder.{Low, sum_by_key, sorted_by_key}
 use Rattle.theory_votes.specs.PairingPairs.{fixed, fixed_sum}
 use Rattle.theory_votes.specs.Reaching.{facing_fits}
 use Rattle.theory_votes.specs.FacingLaws.{facing_length}
-use Rattle.theory_votes.specs.NodePairs.{facing_is}
 
 -- the key of two empty places, the greatest of all
 abbrev pub empty_key : ℕ
@@ -40,10 +39,6 @@ key_bytes_law (c ∷ cs) l =
     let q : key c % 64 ≡ c.1 = omega arith in
     ap₂ (λ a t. a ∷ t) p (ap₂ (λ b t. b ∷ t) q (key_bytes_law cs (λ d m. l d (Memᴰ.tail m))))
 
-sorted_keys : (cs : List (ℕ × ℕ)) → Sorted key cs → Sorted (λ z. z) (map key cs)
-sorted_keys [] s = tt
-sorted_keys (c ∷ cs) s = (λ z m. let (d, k, e) = Memᴰ.of_map key cs m in omega (arith, s.0 d k), sorted_keys cs s.1)
-
 module _ (K : Side) (M N : ℕ → Bool) (v : ℕ) (placed : (e : ℕ) → e < K.m → K.rank e < empty_rank) (hM : deg K M v ≤ K.quota v)
     (hN : deg K N v ≤ K.quota v) where
   -- the ranks that M has alone, that N has alone, that both have
@@ -57,67 +52,8 @@ module _ (K : Side) (M N : ℕ → Bool) (v : ℕ) (placed : (e : ℕ) → e < K
     abbrev chosen : List (ℕ × ℕ)
     chosen = greedy (fill k xs) (fill k ys)
 
-    width : k ≡ most K M N v
-    unfolding most
-    width = omega (
-      arith,
-      hx (λ a. 1),
-      hy (λ a. 1),
-      sum_length xs,
-      sum_length ys,
-      sum_length (alone K v M N),
-      sum_length (alone K v N M),
-    )
-
     -- any list of keys in order with those of the shared ranks and of the greedy pairs
     module _ (ws : List ℕ) (sw : Sorted (λ a. a) ws) (lw : (a : ℕ) → a ∈ ws → a ≤ empty_key)
         (hw : (φ : ℕ → ℕ) → sum φ ws ≡ sum (λ a. φ (key (a, a))) zs + sum (λ c. φ (key c)) chosen) where
       abbrev b : ℕ
       b = K.quota v
-
-      pub facing_keys : map key (facing K M N v) ≡ fill_keys b ws
-      facing_keys = sorted_same (map key (facing K M N v)) (fill_keys b ws)
-          (subst (λ l. Sorted (λ a. a) (map key l)) (sym is) (sorted_keys (by_key all) (sorted_by_key all)))
-          (sorted_filled ws (b - length ws) empty_key sw lw) sums
-        where
-          all : List (ℕ × ℕ)
-          all = fixed K M N v ++ chosen
-
-          is : facing K M N v ≡ by_key all
-          is = facing_is K M N v placed hM hN xs ys hx hy
-              (subst (λ n. Sorted (λ a. a) (fill n xs)) width (sorted_filled xs (k - length xs) empty_rank sx lx))
-              (subst (λ n. Sorted (λ a. a) (fill n ys)) width (sorted_filled ys (k - length ys) empty_rank sy ly))
-              ∙ ap (λ n. by_key (fixed K M N v ++ greedy (fill n xs) (fill n ys))) (sym width)
-
-          of_all : (ψ : ℕ × ℕ → ℕ) → sum ψ (facing K M N v) ≡ sum (λ e. ψ (K.rank e, K.rank e)) (common K v M N)
-              + (b - (length (common K v M N) + most K M N v)) * ψ (empty_rank, empty_rank) + sum ψ chosen
-          of_all ψ = ap (sum ψ) is ∙ sum_by_key ψ all ∙ sum_append ψ (fixed K M N v) chosen ∙ ap (λ z. z + sum ψ chosen) (fixed_sum K M N v ψ)
-
-          -- how many places are empty in both
-          spare : b - (length (common K v M N) + most K M N v) ≡ b - length ws
-          spare = omega (
-            arith,
-            of_all (λ c. 1),
-            sum_length (facing K M N v),
-            facing_length K M N v placed hM hN,
-            sum_length (common K v M N),
-            hw (λ a. 1),
-            hz (λ a. 1),
-            sum_length ws,
-          )
-
-          sums : (φ : ℕ → ℕ) → sum φ (map key (facing K M N v)) ≡ sum φ (fill_keys b ws)
-          sums φ = omega (
-            arith,
-            sum_map φ key (facing K M N v),
-            of_all (λ c. φ (key c)),
-            hz (λ a. φ (key (a, a))),
-            hw φ,
-            sum_append φ ws (replicate (b - length ws) empty_key),
-            sum_replicate φ (b - length ws) empty_key,
-            ap (λ n. n * φ empty_key) spare,
-          )
-
-      -- the ranks of these keys, filled up to the quota, are the bytes of the node's pairing
-      pub facing_key_bytes : key_bytes (fill_keys b ws) ≡ facing_bytes (facing K M N v)
-      facing_key_bytes = ap key_bytes (sym facing_keys) ∙ key_bytes_law (facing K M N v) (facing_fits K M N v placed hM hN).1

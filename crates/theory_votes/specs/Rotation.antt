@@ -226,26 +226,3 @@ module _ {A : Type 0} (rank : A → ℕ) where
   pub below_none : (n : ℕ) (qs : List A) → sum (λ p. upto (rank p) n) qs ≡ 0 → (q : A) → q ∈ qs → rank q < n
   below_none n qs h q k = by_cases (dec_lt (rank q) n) (λ l. l)
       (λ l. absurd (omega (arith, sum_mem (λ p. upto (rank p) n) k, upto_yes (rank q) n (omega arith))))
-
-  below_sort : (n : ℕ) (qs : List A) → ((q : A) → q ∈ qs → rank q < n) → (q : A) → q ∈ sort rank qs → rank q < n
-  below_sort n qs h = below_none n (sort rank qs)
-      (sum_sort rank (λ p. upto (rank p) n) qs ∙ sum_zeros (λ p. upto (rank p) n) qs (λ p m. upto_no (rank p) n (h p m)))
-
-  pub reach : (n : ℕ) (ps qs : List A) → length ps ≡ length qs → ((q : A) → q ∈ qs → rank q < n) → (t : Two (lead ps qs) n)
-      → (r : List (A × A)) × Columns ps qs r × (cost r ≤ t.first + t.second)
-  reach n ps qs l u t =
-      let s = two (lead (sort rank ps) (sort rank qs)) n in
-      let e : length (sort rank ps) ≡ length (sort rank qs) = sort_length ps ∙ l ∙ sym (sort_length qs) in
-      let c = turned_columns s.second (sort rank ps) (sort rank qs) e in (
-        against (turned s.second (sort rank ps)) (sort rank qs),
-        record { on_left = λ φ. c.on_left φ ∙ sum_sort rank φ ps; on_right = λ φ. c.on_right φ ∙ sum_sort rank φ qs },
-        omega (
-          arith,
-          turn_≤ n (sort rank ps) (sort rank qs) (sorted_sort rank ps) (sorted_sort rank qs) e (below_sort n qs u) s,
-          both_≤ (lead (sort rank ps) (sort rank qs)) (lead ps qs) n s t
-              (λ x k. omega (arith, sum_sort rank (λ p. upto x (rank p)) ps, sum_sort rank (λ q. under x (rank q)) qs)),
-        ),
-      )
-    where
-      sort_length : (zs : List A) → length (sort rank zs) ≡ length zs
-      sort_length zs = sum_length (sort rank zs) ∙ sum_sort rank (λ z. 1) zs ∙ sym (sum_length zs)

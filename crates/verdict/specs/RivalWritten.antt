@@ -15,7 +15,8 @@ use Rattle.model_desk.specs.Desk.{onto}
 use Rattle.theory_instance.specs.Lawful.{Matching}
 use Rattle.theory_files.specs.PlanFiles.{plan_few}
 use Rattle.theory_verdict.specs.Plans.{plan_matching}
-use Rattle.theory_verdict.specs.Rival.{rival_of, beaten_rival, popular_rival}
+use Rattle.theory_verdict.specs.Rival.{rival_of}
+use Rattle.theory_verdict.proofs.Rival.{beaten_rival, popular_rival}
 use Rattle.arrays.specs.ArrayInstance.{flag}
 use Rattle.instance.specs.declared.Instance.{Instance}
 use Rattle.instance.specs.Decoded.{shown_by}

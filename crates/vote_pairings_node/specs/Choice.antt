@@ -10,7 +10,8 @@ use Rattle.model.specs.Limits.{empty_rank}
 use Rattle.theory_votes.specs.Score.{rate}
 use Rattle.theory_votes.specs.Sorted.{Sorted}
 use Rattle.theory_votes.specs.Least.{least_sum}
-use Rattle.theory_votes.specs.Greedy.{pick_first, can, greedy, chosen_least, best_can}
+use Rattle.theory_votes.specs.Greedy.{pick_first, can, greedy}
+use Rattle.theory_votes.proofs.Greedy.{chosen_least, best_can}
 
 -- a list without its place j
 abbrev pub left : ℕ → List ℕ → List ℕ

@@ -20,8 +20,10 @@ use Rattle.theory_votes.specs.Sorted.{replicate_∈, take_replicate}
 use Rattle.theory_votes.specs.Rotation.{Columns}
 use Rattle.theory_votes.specs.NodeByRotation.{fill, fill_sum, most, room}
 use Rattle.theory_votes.specs.RankPairs.{key}
-use Rattle.theory_votes.specs.Greedy.{greedy, greedy_reaches}
-use Rattle.theory_votes.specs.Keys.{empty_key, fill_keys, key_bytes, facing_key_bytes}
+use Rattle.theory_votes.specs.Greedy.{greedy}
+use Rattle.theory_votes.proofs.Greedy.{greedy_reaches}
+use Rattle.theory_votes.specs.Keys.{empty_key, fill_keys, key_bytes}
+use Rattle.theory_votes.proofs.Keys.{facing_key_bytes}
 use Rattle.vote_own_ranks.specs.declared.Ranked.{Ranked}
 use Rattle.vote_own_ranks.specs.Kept.{ranks_alone}
 use Rattle.vote_pairings_node.specs.declared.Pairs.{Pairs}

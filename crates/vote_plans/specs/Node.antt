@@ -10,7 +10,8 @@ use Rattle.model.specs.PlanFile.{edges_in}
 use Rattle.model.specs.Vote.{node_vote}
 use Rattle.theory_votes.specs.Attained.{alone, counts}
 use Rattle.theory_votes.specs.Sorted.{Sorted}
-use Rattle.theory_votes.specs.NodeByRotation.{least_vote, node_vote_least}
+use Rattle.theory_votes.specs.NodeByRotation.{least_vote}
+use Rattle.theory_votes.proofs.NodeByRotation.{node_vote_least}
 use Rattle.vote_own_ranks.specs.declared.Ranked.{Ranked}
 use Rattle.vote_own_ranks.specs.Own.{kept_at}
 use Rattle.vote_own_ranks.specs.Kept.{Kept, ranks_at, ranks_sorted, ranks_all, kept_at_law, ranks_alone}

@@ -13,7 +13,8 @@ use Rattle.lists.specs.Test.{if-ind}
 use Rattle.theory_votes.specs.Score.{rate}
 use Rattle.theory_votes.specs.Sorted.{Sorted}
 use Rattle.theory_votes.specs.Rotation.{against, turned, turned_length, cost}
-use Rattle.theory_votes.specs.Least.{least_sum, turn_above, least_most, turn_reached}
+use Rattle.theory_votes.specs.Least.{least_sum, turn_above, least_most}
+use Rattle.theory_votes.proofs.Least.{turn_reached}
 use Rattle.vote_ranks.specs.Turn.{wrap, turn_sum}
 
 -- ---- what is left of a turn's sum from couple i on

@@ -21,9 +21,11 @@ use Rattle.theory_files.specs.RosterInstance.{lawful, fileable}
 use Rattle.theory_finder.specs.Demand3.{demand3}
 use Rattle.theory_renamed.specs.FinderAnswers.{plan_found, found_plan}
 use Rattle.theory_renamed.specs.RouteNumbers.{Names, new_place, old_place}
-use Rattle.theory_renamed.specs.RenumberedFits.{fits_renumbered}
-use Rattle.theory_renamed.specs.RenumberedEdges.{new_edge, old_edge, edge_becomes, by_edge, surveyors_moved, stands_moved}
-use Rattle.theory_renamed.specs.Renaming.{renamed, strong_renamed}
+use Rattle.theory_renamed.proofs.RenumberedFits.{fits_renumbered}
+use Rattle.theory_renamed.specs.RenumberedEdges.{new_edge, old_edge}
+use Rattle.theory_renamed.proofs.RenumberedEdges.{edge_becomes, by_edge, surveyors_moved, stands_moved}
+use Rattle.theory_renamed.specs.Renaming.{renamed}
+use Rattle.theory_renamed.proofs.Renaming.{strong_renamed}
 
 is_same : (p q : Named) → T (same_name p q) → p ≡ q
 is_same p q t = same_name_law p q (name_parts p q t)

@@ -18,8 +18,10 @@ use Rattle.theory_reduction.specs.Chosen.{by_rule}
 use Rattle.theory_reduction.specs.Reach.{join, loosen}
 use Rattle.theory_reduction.specs.PlanAgainstArrows.{Blocks, both, fits, room, no_room, plan_beyond, plan_instead, beyond_plan, better_beyond}
 use Rattle.theory_reduction.specs.PlanAgainstArrows.{sharp, spare_beats, first_beats_law, arrow_blocks}
-use Rattle.theory_reduction.specs.AlternatingPath.{hop, after, arrive, no_lG, no_back_forth, no_arrival, no_gain, no_both_block}
-use Rattle.theory_reduction.specs.Chains.{Sit, AS, AT, Mem, way_back_law, arrival, outside_stray, to_stray, way_forth}
+use Rattle.theory_reduction.specs.AlternatingPath.{hop, after, arrive, no_lG, no_gain}
+use Rattle.theory_reduction.proofs.AlternatingPath.{no_back_forth, no_arrival, no_both_block}
+use Rattle.theory_reduction.specs.Chains.{Sit, AS, AT, Mem, outside_stray, to_stray}
+use Rattle.theory_reduction.proofs.Chains.{way_back_law, arrival, way_forth}
 
 module _ {G : Instance} {Z : State} {M : ℕ → Bool} (H : Sit G Z M) where
   -- by contradiction

@@ -18,8 +18,10 @@ use Rattle.theory_reduction.specs.Facts.{rule2_quiet, rule6_quiet, rule7_quiet}
 use Rattle.theory_reduction.specs.Reach.{Reach, join, loosen}
 use Rattle.theory_reduction.specs.PlanAgainstArrows.{both, fits, room, some_or_room, plan_beyond, beyond_plan, instead_of_plan, spare_beats}
 use Rattle.theory_reduction.specs.PlanAgainstArrows.{arrow_out_worse, arrow_blocks, better_arrow}
-use Rattle.theory_reduction.specs.AlternatingPath.{hop, no_loop, no_gain, no_both_block}
-use Rattle.theory_reduction.specs.Chains.{Sit, AS, AT, Mem, no_better_in, outside_stray, way_forth}
+use Rattle.theory_reduction.specs.AlternatingPath.{hop, no_loop, no_gain}
+use Rattle.theory_reduction.proofs.AlternatingPath.{no_both_block}
+use Rattle.theory_reduction.specs.Chains.{Sit, AS, AT, Mem, outside_stray}
+use Rattle.theory_reduction.proofs.Chains.{no_better_in, way_forth}
 
 module _ {G : Instance} {Z : State} {M : ℕ → Bool} (H : Sit G Z M) where
   abbrev height : ℕ → ℕ

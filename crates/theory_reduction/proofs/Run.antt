@@ -11,11 +11,12 @@ use Rattle.theory_reduction.specs.RuleNumbers.{rule_of, edge_of, fate_of, next}
 use Rattle.theory_instance.specs.Lawful.{Lawful, Matching}
 use Rattle.theory_instance.specs.Walk.{NoBad}
 use Rattle.theory_reduction.specs.Chosen.{acts}
-use Rattle.theory_reduction.specs.Quotas.{begin_sound, next_sound}
+use Rattle.theory_reduction.specs.Quotas.{begin_sound}
+use Rattle.theory_reduction.proofs.Quotas.{next_sound}
 use Rattle.theory_reduction.specs.Course.{along, end_quiet}
 use Rattle.theory_reduction.specs.Chains.{Sit}
-use Rattle.theory_reduction.specs.Steps.{step}
-use Rattle.theory_reduction.specs.End.{finished}
+use Rattle.theory_reduction.proofs.Steps.{step}
+use Rattle.theory_reduction.proofs.End.{finished}
 
 -- an edge that is fixed (f), acted on (c) with fate b, remains (r), is in the plan (a)
 kept_step : (f b c a : Bool) → (T f → T a) → (T b → T c → T a) → T (f || (b && c)) → T a

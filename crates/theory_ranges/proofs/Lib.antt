@@ -1,0 +1,5 @@
+pub mod Falls
+pub mod LeastVote
+pub mod Questions
+pub mod Settled
+pub mod Worst

@@ -1,0 +1,11 @@
+pub mod Beside
+pub mod BothStrong
+pub mod JoinedPlans
+pub mod Numberings
+pub mod Part
+pub mod Renaming
+pub mod RenumberedEdges
+pub mod RenumberedFits
+pub mod RenumberedPlans
+pub mod RouteNumbers
+pub mod StoredFiles

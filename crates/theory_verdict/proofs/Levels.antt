@@ -1,0 +1,59 @@
+-- What stands on the laws of specs/Levels.antt: moved here whole, so that a wrong definition there is refused by these proofs.
+use Prim.Native.Nat.{ℕ, zero, suc, ◌+◌, ◌*◌, ◌≤◌, ◌<◌}
+use Rattle.std.proofs.Common.{arith, lt→ltb}
+use Rattle.std.specs.Prelude.{◌≡◌, refl, ◌&&◌, length}
+use Rattle.std.proofs.Math.Bool.{Bool, not}
+use mathlib.Core.List.{[]}
+use Rattle.std.proofs.Math.Dec.{ltb, ltb→lt, nltb→le, T_not}
+use Rattle.lists.specs.Test.{and_l, and_r, and_i, bit}
+use Rattle.lists.specs.Sum.{range, sum_range, count}
+use Rattle.lists.specs.Keep.{keep_length, product, product_∈, ∈_product}
+use Rattle.lists.specs.First.{Answer, nothing, answer_map, or_answer, first_answer}
+use Rattle.model.specs.Instance.{Instance, surveyors, stands, deg}
+use Rattle.theory_instance.specs.Lawful.{Lawful, Matching}
+use Rattle.theory_instance.specs.Walk.{Old}
+use Rattle.theory_votes.specs.Score.{tally, quotas}
+use Rattle.theory_verdict.specs.Strong.{Holds}
+use Rattle.theory_verdict.specs.LemmaX.{Rival, rival_cast}
+use Rattle.theory_verdict.specs.AlternatingPath.{simple_direct}
+use Rattle.theory_verdict.specs.LemmaW.{NoDirect, CostAtLeastTo}
+use Rattle.theory_verdict.specs.Search.{Hit, direct, loop, rival_by, olds, room?, terminal, walk_price, trace, as_path, directs, alone_at, loop_at}
+use Rattle.theory_verdict.specs.Search.{path_at, levels, search}
+use Rattle.theory_verdict.specs.CostAtLeast.{PathsCostAtLeast, CostAtLeastBelow}
+use Rattle.theory_verdict.specs.Cutting.{cutting, unbeaten}
+use Rattle.theory_verdict.specs.Table.{terminal_price_law, loops_done, alone_done, paths_done, loop_found, path_found}
+use Rattle.theory_verdict.specs.Cells.{below_∈, ∈_below, old_∈, ∈_old}
+use Rattle.theory_verdict.proofs.Cells.{terminals, layers}
+
+module _ (G : Instance) (M : ℕ → Bool) where
+  module _ (law : Lawful G) (plan : Matching G M) (lid k : ℕ) where
+    abbrev Beats : Hit → Type 0
+    Beats h = Rival G M (rival_by M h) 1 k
+
+    module _ (none : NoDirect G M) where
+      pub alone_ok : Answer Beats (PathsCostAtLeast G M k 1) (alone_at G M lid k)
+      unfolding alone_at
+      alone_ok = first_answer (λ x. ltb (terminal G M x x).0 (4 + k)) (λ x. as_path G M x x []) (olds G M)
+          (λ x m t. let (a, b, d, c) = (terminals G M).hit x x in
+          path_found G M k law plan {n = 0} (terminal G M x x).1.0 x [] x (terminal G M x x).1.1 none (λ x w q p h. absurd (omega arith))
+          (λ x w y q h. absurd (omega arith)) (omega arith)
+          (record { old = ∈_old G M m; walk = refl; start = a; stop = b; apart = d })
+          (omega (arith, c, ltb→lt (terminal G M x x).0 (4 + k) t, terminal_price_law G x x (terminal G M x x).1.0 (terminal G M x x).1.1)))
+          (λ none. alone_done G M k (terminals G M) (λ x o. nltb→le (terminal G M x x).0 (4 + k) (none x (old_∈ G M o))))
+
+      -- an alternating path that the tables show
+      pub path_ok : (n : ℕ) → 2 * suc n + 4 + k ≤ lid → CostAtLeastTo G M k (suc (suc n)) → PathsCostAtLeast G M k (suc n)
+          → (x y : ℕ) → Old G M x → Old G M y → walk_price G M lid n x y + (terminal G M x y).0 < 2 * suc n + 4 + k → Beats (as_path G M x y (trace G M lid n x y))
+      path_ok n h cl cw x y ox oy c =
+          let (w, p, l, d) = (layers G M lid n).hit x y ox oy (omega arith) in
+          let (s, e, a, q) = (terminals G M).hit x y in
+          path_found G M k law plan (terminal G M x y).1.0 x (trace G M lid n x y) y (terminal G M x y).1.1 none cl
+          (cw (terminal G M x y).1.0 (terminal G M x y).1.1) l
+          (record { old = ox; walk = w; start = s; stop = e; apart = a })
+          (omega (arith, d, q, terminal_price_law G x y (terminal G M x y).1.0 (terminal G M x y).1.1))
+
+      pub loop_ok : (n : ℕ) → 2 * suc n + 4 + k ≤ lid → CostAtLeastTo G M k (suc n) → (x : ℕ) → Old G M x → walk_price G M lid n x x < 2 * suc n + k
+          → Beats (loop x (trace G M lid n x x))
+      loop_ok n h cl x o c =
+          let (w, p, l, d) = (layers G M lid n).hit x x o o (omega arith) in
+          loop_found G M k law plan x (trace G M lid n x x) cl p l w (omega (arith, d))
