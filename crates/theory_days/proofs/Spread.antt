@@ -1,19 +1,16 @@
 -- What stands on the laws of specs/Spread.antt: moved here whole, so that a wrong definition there is refused by these proofs.
 use Prim.Native.Nat.{ℕ, zero, suc, ◌≤◌, ◌<◌}
 use native.Mathlib.Omega.{arith}
-use Rattle.std.proofs.Common.{not-suc-le-zero, sym, ap, ◌∙◌, inl, inr, T_not, eqb→eq}
-use Rattle.std.proofs.Math.Decide.{ℕ_discrete, dec_lt}
-use Rattle.std.specs.Prelude.{◌≡◌, refl, ◌≢◌, ◌⊎◌, Bool, false, cond, ◌&&◌}
+use Rattle.std.proofs.Common.{not-suc-le-zero, sym, ap, ◌∙◌, inl, inr, T_not}
+use Rattle.std.proofs.Math.Decide.{ℕ_discrete}
+use Rattle.std.specs.Prelude.{◌≡◌, refl, ◌≢◌, ◌⊎◌, Bool, false}
 use Rattle.std.proofs.Math.Path.{subst}
 use Rattle.std.proofs.Math.Logic.{by_cases}
 use Rattle.std.proofs.Math.Bool.{true, not}
 use Rattle.std.proofs.Math.Dec.{T, eqb, eqb_refl}
-use Rattle.lists.specs.Test.{by-test, and_l, and_r, and_i, eq→eqb, eqb_yes, bit, pk, bit_yes, if-ind}
-use Rattle.lists.specs.Search.{low, low_is}
-use Rattle.lists.specs.Sum.{sum, sum_mem, sum_mono, sum_length, up_to, up_to_<, up_to_∈, up_to_length, count}
-use Rattle.lists.specs.Keep.{any?, any_∈, none_∈}
-use Rattle.lists.specs.Occur.{sum_by}
-use Rattle.theory_days.specs.Chain.{set_day, set_same, set_other, changes, changes_≥, end_on, Proper, chase, Mend, chased}
+use Rattle.lists.specs.Test.{bit_yes, if-ind}
+use Rattle.lists.specs.Sum.{count}
+use Rattle.theory_days.specs.Chain.{set_day, set_same, set_other, changes, changes_≥, end_on, Proper, Mend, chased}
 use Rattle.theory_days.specs.Spread.{free_at_law, free_day, free_in_law, free_is, free_of, spread, taken, with_day}
 
 module _ (sv st : ℕ → ℕ) (B : ℕ) where

@@ -1,35 +1,29 @@
 -- The days that the calls name, and what holds of them for every plan within the quotas (W-209): `sheet_holds`.
 use Prim.Native.Nat.{ℕ, zero, suc, ◌≤◌, ◌<◌, max, zero-le}
-use Rattle.std.proofs.Common.{arith, le_antisymm, ◌∙◌, T_not, le→leb}
-use Rattle.std.proofs.Math.Nat.{zero-add}
+use Rattle.std.proofs.Common.{arith, ◌∙◌, T_not}
 use Rattle.std.proofs.Math.Decide.{dec_lt}
-use Rattle.std.specs.Prelude.{◌≡◌, refl, ◌⊎◌, Bool, ◌&&◌, length, get_or, eqb, leb}
-use Rattle.std.proofs.Math.Path.{sym, ap, subst}
+use Rattle.std.specs.Prelude.{◌≡◌, refl, ◌⊎◌, Bool, ◌&&◌, length, get_or, eqb}
+use Rattle.std.proofs.Math.Path.{sym, ap}
 use Rattle.std.proofs.Math.Logic.{inl, inr, ⊎_elim, by_cases}
 use Rattle.std.proofs.Math.Bool.{true, false, not}
 use mathlib.Core.List.Memᴰ
 use mathlib.Core.List.{List, [], ◌∷◌, ◌++◌, map}
 use Rattle.std.proofs.Math.ListN.{length-map}
-use Rattle.std.proofs.Math.Dec.{T, not_T, eqb→eq}
-use Rattle.lists.specs.Test.{and_l, and_r, and_i, eq→eqb, bit, bool_eq}
-use Rattle.lists.specs.Sum.{◌∈◌, sum, sum_cong, sum_map, sum_places, up_to, up_to_<, up_to_∈, range, range_∈, ∈_range, range_length, count}
-use Rattle.lists.specs.Keep.{all?, all_∈, ∈_all}
-use Rattle.lists.specs.Ranges.{map_at, range_at_law}
+use Rattle.std.proofs.Math.Dec.{T, eqb→eq}
+use Rattle.lists.specs.Test.{and_l, and_r, and_i, eq→eqb, bit}
+use Rattle.lists.specs.Sum.{◌∈◌, sum, sum_cong, sum_map, sum_places, up_to, up_to_<, up_to_∈, range, range_length, count}
+use Rattle.lists.specs.Keep.{all?, all_∈}
+use Rattle.lists.specs.Ranges.{map_at}
 use Rattle.model.specs.Limits.{quota_limit, last_day}
-use Rattle.model.specs.Roster.{Roster, elem, fits}
-use Rattle.model.specs.Edges.{instance_of}
 use Rattle.model.specs.Instance.{Instance, Side, surveyors, stands, deg}
-use Rattle.model.specs.Plans.{Plan, on, plans_of}
+use Rattle.model.specs.Plans.{Plan, on}
 use Rattle.model.specs.PlanFile.{edges_in}
-use Rattle.model.specs.Days.{entries_of, clash, spreads, days_used, greatest, busiest, Sheet}
+use Rattle.model.specs.Days.{entries_of, clash, spreads, days_used, greatest, busiest}
 use Rattle.theory_instance.specs.Lawful.{Lawful, Matching}
-use Rattle.theory_instance.specs.Within.{within_matching}
-use Rattle.theory_instance.specs.Degree.{deg_zero}
-use Rattle.theory_files.specs.Chosen.{plan_within, deg_at_node}
-use Rattle.theory_files.specs.RosterInstance.{lawful, quotas_small}
+use Rattle.theory_files.specs.Chosen.{deg_at_node}
 use Rattle.theory_days.specs.Chain.{end_on, Proper}
 use Rattle.theory_days.specs.Spread.{spread}
-use Rattle.theory_days.specs.Fewest.{days_least, days_most}
+use Rattle.theory_days.specs.Fewest.{days_least}
 
 -- ---- lists by their places
 abbrev pub at : List ℕ → ℕ → ℕ

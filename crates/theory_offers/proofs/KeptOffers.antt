@@ -1,16 +1,15 @@
 -- What stands on the laws of specs/KeptOffers.antt: moved here whole, so that a wrong definition there is refused by these proofs.
-use Rattle.std.specs.Prelude.{ℕ, ◌≤◌, ◌<◌, ◌≡◌, refl, ◌≢◌, ◌⊎◌, Bool, ◌&&◌, ◌||◌, T, leb, ltb}
-use Rattle.std.proofs.Common.{arith, sym, ap, ◌∙◌, subst, inl, inr, T_not, eqb→eq, ltb→lt, nltb→le}
-use Rattle.std.proofs.Math.Decide.{ℕ_discrete, dec_lt}
-use Rattle.std.proofs.Math.Logic.{⊎_elim, by_cases}
+use Rattle.std.specs.Prelude.{ℕ, ◌<◌, ◌&&◌, ◌||◌, T, leb, ltb}
+use Rattle.std.proofs.Common.{ltb→lt, nltb→le}
+use Rattle.std.proofs.Math.Logic.{⊎_elim}
 use Rattle.std.proofs.Math.Bool.{not}
-use Rattle.std.proofs.Math.Dec.{not_T, eqb, eqb_refl}
-use Rattle.lists.specs.Test.{by-test, if-ind, and_l, and_r, and_i, or_l, or_r, or_case, nor_i, eq→eqb}
+use Rattle.std.proofs.Math.Dec.{eqb, eqb_refl}
+use Rattle.lists.specs.Test.{by-test, if-ind, and_i, or_l, or_r, or_case}
 use Rattle.lists.specs.Sum.{count, count_sub_lt}
 use Rattle.model.specs.Instance.{Instance}
-use Rattle.model_files.specs.Offers.{Offers, kept_at, offered, no_offers}
+use Rattle.model_files.specs.Offers.{Offers, kept_at, offered}
 use Rattle.theory_instance.specs.Lawful.{Lawful}
-use Rattle.theory_offers.specs.NextOffer.{In, Next, keeps_none, keeps_some}
+use Rattle.theory_offers.specs.NextOffer.{Next, keeps_none, keeps_some}
 use Rattle.theory_offers.specs.KeptOffers.{Kept, kept_instead_law, kept_still, kept_with, not_tried, tried}
 
 module _ (G : Instance) (L : Lawful G) (strict : (e : ℕ) → e < G.m → T (not (G.tied e))) where

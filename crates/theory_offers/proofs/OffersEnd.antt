@@ -1,21 +1,15 @@
 -- What stands on the laws of specs/OffersEnd.antt: moved here whole, so that a wrong definition there is refused by these proofs.
 use Prim.Native.Nat.{ℕ, zero, suc, ◌+◌, ◌≤◌, ◌<◌}
 use native.Mathlib.Omega.{arith}
-use Rattle.std.proofs.Math.Decide.{dec_lt}
-use Rattle.std.specs.Prelude.{◌≡◌, refl, Bool, true, not, ◌&&◌, T, eqb, leb, ltb}
-use Rattle.std.proofs.Common.{sym, ap, ◌∙◌, ⊎_elim, T_not, eqb→eq, ltb→lt}
-use Rattle.std.proofs.Math.Logic.{by_cases}
-use Rattle.std.proofs.Math.Dec.{not_T, leb→le, nleb→lt, eqb_refl}
-use Rattle.lists.specs.Test.{by-test, if-ind, and_l, and_r, and_i, or_case, eq→eqb}
-use Rattle.lists.specs.Search.{low, low_is, least_by}
-use Rattle.lists.specs.Sum.{up_to, up_to_∈, up_to_<, count, count_sub_lt, count_≤}
-use Rattle.lists.specs.Keep.{any?, any_∈, any_or}
-use Rattle.model.specs.Instance.{Instance, Side, surveyors, stands, deg}
-use Rattle.model.specs.Blocking.{yields}
+use Rattle.std.specs.Prelude.{true, not, T, leb}
+use Rattle.std.proofs.Math.Dec.{not_T, leb→le, nleb→lt}
+use Rattle.lists.specs.Test.{if-ind}
+use Rattle.lists.specs.Search.{low, low_is}
+use Rattle.lists.specs.Sum.{count, count_sub_lt, count_≤}
+use Rattle.model.specs.Instance.{Instance}
 use Rattle.model_files.specs.Offers.{Offers, next_offer, offered, offers_from, no_offers}
 use Rattle.theory_instance.specs.Lawful.{Lawful}
-use Rattle.theory_instance.specs.Degree.{deg_pos}
-use Rattle.theory_offers.specs.NextOffer.{In, next→, →next}
+use Rattle.theory_offers.specs.NextOffer.{next→}
 use Rattle.theory_offers.specs.KeptOffers.{Kept, begun, tried, not_tried}
 use Rattle.theory_offers.proofs.KeptOffers.{further}
 

@@ -1,6 +1,6 @@
 -- What stands on the laws of specs/OffersPlan.antt: moved here whole, so that a wrong definition there is refused by these proofs.
-use Rattle.std.specs.Prelude.{ℕ, ◌≤◌, ◌<◌, ◌≡◌, refl, Bool, not, ◌&&◌, ◌||◌, T, eqb, ltb, pos, ◌≤ℤ◌}
-use Rattle.std.proofs.Common.{arith, ap, ap₂, ◌∙◌, subst, T_not}
+use Rattle.std.specs.Prelude.{ℕ, ◌<◌, ◌≡◌, refl, not, ◌&&◌, T, eqb, ltb, pos, ◌≤ℤ◌}
+use Rattle.std.proofs.Common.{arith, ap, ◌∙◌, subst, T_not}
 use Rattle.std.proofs.Math.Decide.{dec_lt}
 use Rattle.std.proofs.Math.Path.{sym}
 use Rattle.std.proofs.Math.Logic.{by_cases}
@@ -11,7 +11,7 @@ use Rattle.std.proofs.Math.Dec.{not_T}
 use Rattle.std.specs.Int.Signed.{clash_ℤ}
 use Rattle.lists.specs.Test.{by-test, given, T_false, bit_one, and_l, and_r, eq→eqb, false_t}
 use Rattle.lists.specs.Sum.{◌∈◌, up_to, up_to_<}
-use Rattle.lists.specs.Keep.{any_∈, any_cong, keep_∈}
+use Rattle.lists.specs.Keep.{any_∈, keep_∈}
 use Rattle.lists.specs.Integer.{sub_≤}
 use Rattle.model.specs.Instance.{Instance, Side, surveyors, stands, deg}
 use Rattle.model.specs.Plans.{Plan, on, plans_of, same_plan, vote_of, is_strong, verdict_of, strong_plans}
@@ -19,7 +19,7 @@ use Rattle.model.specs.Blocking.{yields, blocks, some_blocks}
 use Rattle.model.specs.Finder.{Found, plan, left, rivalled, finder_of, hands_back}
 use Rattle.model_files.specs.Offers.{Offers, offers_from, no_offers, offers_plan}
 use Rattle.theory_instance.specs.Lawful.{Lawful, Within, Matching, Same}
-use Rattle.theory_instance.specs.Degree.{deg_sub, deg_some, deg_only, deg_cong}
+use Rattle.theory_instance.specs.Degree.{deg_sub, deg_some, deg_only}
 use Rattle.theory_votes.specs.Score.{tally, quotas}
 use Rattle.theory_votes.specs.Signed.{vote_tally}
 use Rattle.theory_votes.specs.PlanVotes.{vote_same}

@@ -1,32 +1,26 @@
 -- What stands on the laws of specs/ProfileInstance.antt: moved here whole, so that a wrong definition there is refused by these proofs.
-use Prim.Native.Nat.{ℕ, suc, ◌-◌, ◌≤◌, ◌<◌}
+use Prim.Native.Nat.{ℕ, suc, ◌-◌, ◌<◌}
 use native.Mathlib.Omega.{arith}
-use Rattle.std.proofs.Math.Decide.{dec_lt}
 use Rattle.std.specs.Prelude.{◌≡◌, refl, Bool, not, ◌&&◌, eqb}
 use Rattle.std.proofs.Common.{sym, ◌∙◌, subst}
 use Rattle.std.proofs.Math.Path.{ap}
-use Rattle.std.proofs.Math.Logic.{by_cases}
-use Rattle.std.proofs.Math.Bool.{cond}
 use mathlib.Core.List.Memᴰ
 use mathlib.Core.List.{List, [], ◌∷◌}
-use Rattle.std.proofs.Math.ListN.{length, get_or, get_or-eq_default}
+use Rattle.std.proofs.Math.ListN.{length, get_or}
 use Rattle.std.proofs.Math.Dec.{T, T_not, eqb→eq}
-use Rattle.lists.specs.Test.{given, bool_eq, T_true, and_l, and_r, and_i, eq→eqb, or_l, or_r}
-use Rattle.lists.specs.Sum.{◌∈◌, up_to, up_to_∈, up_to_<, range, range_∈}
-use Rattle.lists.specs.Keep.{all?, all_∈, ∈_all, any_∈, gather, ∈_gather, get_d_∈, All-getD}
+use Rattle.lists.specs.Test.{given, bool_eq, and_l, and_r, and_i, eq→eqb, or_l, or_r}
+use Rattle.lists.specs.Sum.{◌∈◌, up_to, up_to_∈, up_to_<, range_∈}
+use Rattle.lists.specs.Keep.{all?, all_∈, ∈_all, any_∈, get_d_∈, All-getD}
 use Rattle.model.specs.Limits.{list_limit, shift_limit}
-use Rattle.model.specs.Roster.{Entry, Roster, entries, surveyor_count, stand_count, list_s, list_t, same, has, shifts, listed, listed_back, fits}
+use Rattle.model.specs.Roster.{Entry, Roster, entries, surveyor_count, stand_count, list_s, list_t, same, has, listed, listed_back, fits}
 use Rattle.model.specs.Roster.{entry_fits, list_fits, ranking_fits}
-use Rattle.model.specs.Edges.{Edge, pair_edge, edges_of, no_edge, edge_at, instance_of}
-use Rattle.model.specs.Instance.{Instance}
+use Rattle.model.specs.Edges.{Edge, edges_of, edge_at, instance_of}
 use Rattle.model_desk.specs.Seasons.{is_first, only_first}
 use Rattle.model_files.specs.Profile.{all_one, untied, one_to_one}
 use Rattle.theory_files.specs.Entries.{in_range_law}
 use Rattle.theory_files.specs.Sections.{every_all}
 use Rattle.theory_files.specs.Position.{eq→same}
-use Rattle.theory_files.specs.Ascending.{IsEdge, edge_is}
 use Rattle.theory_files.specs.ByLists.{list_range, ranking_list, fits_lists}
-use Rattle.theory_offers.specs.OffersPlan.{OneToOne}
 use Rattle.theory_offers.specs.ProfileInstance.{at, each_one, edge_strict, listed_edge, one_at, plain_edges, unitary}
 
 quotas_one : (qs : List ℕ) → all_one qs ≡ each_one (λ v. get_or qs v 0) (length qs)

@@ -1,18 +1,13 @@
 -- What stands on the laws of specs/Profiled.antt: moved here whole, so that a wrong definition there is refused by these proofs.
-use Rattle.std.specs.Prelude.{◌≡◌, refl, Bool, true, false, cond, List, pos, ◌≤ℤ◌, T, ℕ}
-use Rattle.std.proofs.Common.{sym, ap, subst}
-use Rattle.lists.specs.Sum.{◌∈◌}
-use Rattle.model.specs.Reading.{Reading, accepted, refused, is_bytes}
+use Rattle.std.specs.Prelude.{◌≡◌, List, T, ℕ}
+use Rattle.std.proofs.Common.{ap}
+use Rattle.model.specs.Reading.{accepted, is_bytes}
 use Rattle.model.specs.Roster.{Roster}
-use Rattle.model.specs.RosterFile.{read_roster}
 use Rattle.model.specs.Edges.{instance_of}
 use Rattle.model.specs.Instance.{Instance}
-use Rattle.model.specs.Plans.{Plan, on, plans_of, vote_of, is_strong, verdict_of}
+use Rattle.model.specs.Plans.{Plan}
 use Rattle.model.specs.PlanFile.{plan_bytes}
-use Rattle.model.specs.Blocking.{some_blocks}
-use Rattle.model.specs.Finder.{plan, finder_of, hands_back}
-use Rattle.model_files.specs.Offers.{offers_plan}
-use Rattle.model_files.specs.Profile.{one_to_one, of_profile, read_profile}
+use Rattle.model_files.specs.Profile.{read_profile}
 use Rattle.theory_instance.specs.Lawful.{Lawful}
 use Rattle.theory_files.specs.Rosters.{read_fits}
 use Rattle.theory_files.specs.RosterInstance.{lawful}

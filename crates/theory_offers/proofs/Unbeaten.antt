@@ -1,21 +1,17 @@
 -- What stands on the laws of specs/Unbeaten.antt: moved here whole, so that a wrong definition there is refused by these proofs.
-use Rattle.std.specs.Prelude.{ℕ, ◌+◌, ◌*◌, ◌≤◌, ◌<◌, ◌≡◌, refl, Bool, true, false, not, ◌&&◌, List, [], ◌∷◌, T, eqb, ltb}
+use Rattle.std.specs.Prelude.{ℕ, ◌+◌, ◌*◌, ◌≤◌, ◌<◌, ◌≡◌, refl, Bool, true, false, not, ◌&&◌, List, [], ◌∷◌, T, eqb}
 use native.Mathlib.Omega.{arith}
-use Rattle.std.proofs.Math.Decide.{dec_lt}
-use Rattle.std.proofs.Common.{sym, ap, ◌∙◌, subst, T_not, lt→ltb, eqb→eq}
-use Rattle.std.proofs.Math.Logic.{by_cases}
-use Rattle.lists.specs.Test.{bit, pk, bit_yes, bit_no, by-test, or_l, or_r, and_i, true_t, eq→eqb, eqb_yes, nand_l}
-use Rattle.lists.specs.Sum.{◌∈◌, sum, sum_add, sum_mono, sum_cong, sum_mem, up_to, up_to_∈, up_to_<, occ}
-use Rattle.lists.specs.Keep.{any?, none_∈, ∈_keep}
+use Rattle.std.proofs.Common.{sym, ap, ◌∙◌, eqb→eq}
+use Rattle.lists.specs.Test.{bit, pk, nand_l}
+use Rattle.lists.specs.Sum.{◌∈◌, sum, sum_add, sum_mono, sum_cong, up_to, up_to_<, occ}
+use Rattle.lists.specs.Keep.{∈_keep}
 use Rattle.lists.specs.Occur.{sum_by}
-use Rattle.model.specs.Instance.{Instance, Side, surveyors, stands, deg}
-use Rattle.model.specs.Vote.{edge, empty, same}
+use Rattle.model.specs.Instance.{Instance, Side, surveyors, stands}
 use Rattle.model.specs.Blocking.{yields}
 use Rattle.theory_instance.specs.Lawful.{Ranked, Lawful, Within, Matching}
-use Rattle.theory_instance.specs.Walk.{up_one, up_yes, up_no}
 use Rattle.theory_votes.specs.Score.{score, tally, quotas}
-use Rattle.theory_votes.specs.Exchange.{Couple, for, against, goer_is, comer_is, Moves, couple_comes, couple_goes}
-use Rattle.theory_votes.specs.Converse.{goers, swap_of, couples_to, losses_to, moves_of, cost_of}
+use Rattle.theory_votes.specs.Exchange.{for, against}
+use Rattle.theory_votes.specs.Converse.{goers, cost_of}
 use Rattle.theory_offers.specs.Unbeaten.{came, couple, cs, moves}
 
 -- two lists of numbers in which each comes as often

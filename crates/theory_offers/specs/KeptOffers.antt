@@ -1,18 +1,18 @@
 -- What holds after every offer (W-212), where no pair is tied: a surveyor and a stand have at most one kept pair; a stand keeps a better pair than
 -- any that it turned away; a surveyor was turned away along every pair ranked before the kept one. One offer keeps this, and one more pair
 -- was offered.
-use Rattle.std.specs.Prelude.{ℕ, ◌≤◌, ◌<◌, ◌≡◌, refl, ◌≢◌, ◌⊎◌, Bool, ◌&&◌, ◌||◌, T, leb, ltb}
-use Rattle.std.proofs.Common.{arith, sym, ap, ◌∙◌, subst, inl, inr, T_not, eqb→eq, ltb→lt, nltb→le}
+use Rattle.std.specs.Prelude.{ℕ, ◌≤◌, ◌<◌, ◌≡◌, refl, ◌≢◌, ◌⊎◌, Bool, ◌&&◌, ◌||◌, T}
+use Rattle.std.proofs.Common.{arith, sym, ap, ◌∙◌, subst, inl, inr, T_not, eqb→eq}
 use Rattle.std.proofs.Math.Decide.{ℕ_discrete, dec_lt}
 use Rattle.std.proofs.Math.Logic.{⊎_elim, by_cases}
 use Rattle.std.proofs.Math.Bool.{not}
 use Rattle.std.proofs.Math.Dec.{not_T, eqb, eqb_refl}
-use Rattle.lists.specs.Test.{by-test, if-ind, and_l, and_r, and_i, or_l, or_r, or_case, nor_i, eq→eqb}
-use Rattle.lists.specs.Sum.{count, count_sub_lt}
+use Rattle.lists.specs.Test.{and_l, and_r, and_i, or_l, or_r, or_case, nor_i, eq→eqb}
+use Rattle.lists.specs.Sum.{count}
 use Rattle.model.specs.Instance.{Instance}
-use Rattle.model_files.specs.Offers.{Offers, kept_at, offered, no_offers}
+use Rattle.model_files.specs.Offers.{Offers, kept_at, no_offers}
 use Rattle.theory_instance.specs.Lawful.{Lawful}
-use Rattle.theory_offers.specs.NextOffer.{In, Next, keeps_none, keeps_some}
+use Rattle.theory_offers.specs.NextOffer.{In, Next}
 
 module _ (G : Instance) (L : Lawful G) (strict : (e : ℕ) → e < G.m → T (not (G.tied e))) where
   -- what holds after every offer of the pairs that are kept and of those turned away

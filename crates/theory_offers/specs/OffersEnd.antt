@@ -1,23 +1,23 @@
 -- The offers end (W-212): each pair is offered at most once, so after m offers nobody has one left to make. And then no pair blocks: one that was
 -- turned away has a better one at its stand; one that was not is behind the pair of its surveyor, who would else have offered it.
-use Prim.Native.Nat.{ℕ, zero, suc, ◌+◌, ◌≤◌, ◌<◌}
+use Prim.Native.Nat.{ℕ, ◌≤◌, ◌<◌}
 use native.Mathlib.Omega.{arith}
 use Rattle.std.proofs.Math.Decide.{dec_lt}
-use Rattle.std.specs.Prelude.{◌≡◌, refl, Bool, true, not, ◌&&◌, T, eqb, leb, ltb}
+use Rattle.std.specs.Prelude.{◌≡◌, refl, Bool, not, ◌&&◌, T, eqb, ltb}
 use Rattle.std.proofs.Common.{sym, ap, ◌∙◌, ⊎_elim, T_not, eqb→eq, ltb→lt}
 use Rattle.std.proofs.Math.Logic.{by_cases}
-use Rattle.std.proofs.Math.Dec.{not_T, leb→le, nleb→lt, eqb_refl}
-use Rattle.lists.specs.Test.{by-test, if-ind, and_l, and_r, and_i, or_case, eq→eqb}
-use Rattle.lists.specs.Search.{low, low_is, least_by}
-use Rattle.lists.specs.Sum.{up_to, up_to_∈, up_to_<, count, count_sub_lt, count_≤}
+use Rattle.std.proofs.Math.Dec.{eqb_refl}
+use Rattle.lists.specs.Test.{by-test, and_l, and_r, and_i, or_case, eq→eqb}
+use Rattle.lists.specs.Search.{least_by}
+use Rattle.lists.specs.Sum.{up_to, up_to_∈, up_to_<}
 use Rattle.lists.specs.Keep.{any?, any_∈, any_or}
 use Rattle.model.specs.Instance.{Instance, Side, surveyors, stands, deg}
 use Rattle.model.specs.Blocking.{yields}
-use Rattle.model_files.specs.Offers.{Offers, next_offer, offered, offers_from, no_offers}
+use Rattle.model_files.specs.Offers.{Offers, next_offer}
 use Rattle.theory_instance.specs.Lawful.{Lawful}
 use Rattle.theory_instance.specs.Degree.{deg_pos}
-use Rattle.theory_offers.specs.NextOffer.{In, next→, →next}
-use Rattle.theory_offers.specs.KeptOffers.{Kept, begun, tried, not_tried}
+use Rattle.theory_offers.specs.NextOffer.{In, →next}
+use Rattle.theory_offers.specs.KeptOffers.{Kept}
 
 module _ (G : Instance) (L : Lawful G) (strict : (e : ℕ) → e < G.m → T (not (G.tied e))) where
   abbrev pub Ended : Offers → Type 0

@@ -1,34 +1,13 @@
 -- The plan of plain offers (W-212), for all quotas one and no ties: it is within the quotas and has no blocking pair, no vote of it is below zero, and
 -- a strongly popular plan is that plan. So it is strong exactly when the finder hands back a plan, and then the two are the same.
-use Rattle.std.specs.Prelude.{ℕ, ◌≤◌, ◌<◌, ◌≡◌, refl, Bool, not, ◌&&◌, ◌||◌, T, eqb, ltb, pos, ◌≤ℤ◌}
-use Rattle.std.proofs.Common.{arith, ap, ap₂, ◌∙◌, subst, T_not}
-use Rattle.std.proofs.Math.Decide.{dec_lt}
-use Rattle.std.proofs.Math.Path.{sym}
-use Rattle.std.proofs.Math.Logic.{by_cases}
-use Rattle.std.proofs.Math.Bool.{false}
-use mathlib.Core.List.Memᴰ
-use mathlib.Core.List.{[]}
-use Rattle.std.proofs.Math.Dec.{not_T}
-use Rattle.std.specs.Int.Signed.{clash_ℤ}
-use Rattle.lists.specs.Test.{by-test, given, T_false, bit_one, and_l, and_r, eq→eqb, false_t}
-use Rattle.lists.specs.Sum.{◌∈◌, up_to, up_to_<}
-use Rattle.lists.specs.Keep.{any_∈, any_cong, keep_∈}
-use Rattle.lists.specs.Integer.{sub_≤}
-use Rattle.model.specs.Instance.{Instance, Side, surveyors, stands, deg}
-use Rattle.model.specs.Plans.{Plan, on, plans_of, same_plan, vote_of, is_strong, verdict_of, strong_plans}
+use Rattle.std.specs.Prelude.{ℕ, ◌≤◌, ◌<◌, ◌≡◌, Bool, not, ◌&&◌, ◌||◌, T, eqb, ltb}
+use Rattle.std.proofs.Common.{ap, ap₂}
+use Rattle.lists.specs.Sum.{up_to, up_to_<}
+use Rattle.lists.specs.Keep.{any_cong}
+use Rattle.model.specs.Instance.{Instance, Side, surveyors, stands}
 use Rattle.model.specs.Blocking.{yields, blocks, some_blocks}
-use Rattle.model.specs.Finder.{Found, plan, left, rivalled, finder_of, hands_back}
-use Rattle.model_files.specs.Offers.{Offers, offers_from, no_offers, offers_plan}
-use Rattle.theory_instance.specs.Lawful.{Lawful, Within, Matching, Same}
-use Rattle.theory_instance.specs.Degree.{deg_sub, deg_some, deg_only, deg_cong}
-use Rattle.theory_votes.specs.Score.{tally, quotas}
-use Rattle.theory_votes.specs.Signed.{vote_tally}
-use Rattle.theory_votes.specs.PlanVotes.{vote_same}
-use Rattle.theory_verdict.specs.Plans.{same_plan_law, plan_matching, matching_plan, plan_of_same}
-use Rattle.theory_finder.specs.FoundPlan.{Answers, strong_member, finder_answers}
-use Rattle.theory_finder.specs.OnlyPopular.{others_below}
-use Rattle.theory_offers.specs.KeptOffers.{Kept}
-use Rattle.theory_offers.specs.OffersEnd.{unblocked}
+use Rattle.theory_instance.specs.Lawful.{Same}
+use Rattle.theory_instance.specs.Degree.{deg_cong}
 
 -- "all quotas one (..) and no ties"
 pub record OneToOne (G : Instance) : Type 0 where

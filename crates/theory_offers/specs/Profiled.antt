@@ -1,11 +1,10 @@
 -- W-212 for every roster that the profile takes, about the model's definitions alone: what the call promises beside its answer and its bytes.
 use Rattle.std.specs.Prelude.{◌≡◌, refl, Bool, true, false, cond, List, pos, ◌≤ℤ◌, T, ℕ}
-use Rattle.std.proofs.Common.{sym, ap, subst}
+use Rattle.std.proofs.Common.{sym, subst}
 use Rattle.lists.specs.Sum.{◌∈◌}
-use Rattle.model.specs.Reading.{Reading, accepted, refused, is_bytes}
+use Rattle.model.specs.Reading.{Reading, accepted, refused}
 use Rattle.model.specs.Roster.{Roster}
 use Rattle.model.specs.RosterFile.{read_roster}
-use Rattle.model.specs.Edges.{instance_of}
 use Rattle.model.specs.Instance.{Instance}
 use Rattle.model.specs.Plans.{Plan, on, plans_of, vote_of, is_strong, verdict_of}
 use Rattle.model.specs.PlanFile.{plan_bytes}
@@ -13,11 +12,6 @@ use Rattle.model.specs.Blocking.{some_blocks}
 use Rattle.model.specs.Finder.{plan, finder_of, hands_back}
 use Rattle.model_files.specs.Offers.{offers_plan}
 use Rattle.model_files.specs.Profile.{one_to_one, of_profile, read_profile}
-use Rattle.theory_instance.specs.Lawful.{Lawful}
-use Rattle.theory_files.specs.Rosters.{read_fits}
-use Rattle.theory_files.specs.RosterInstance.{lawful}
-use Rattle.theory_offers.specs.OffersPlan.{OneToOne}
-use Rattle.theory_offers.specs.ProfileInstance.{profile_instance}
 
 -- what holds of the plan of the offers; `rival` is the finder's choice of a rival, whatever it is
 pub record Offered (G : Instance) (rival : Plan → Plan) : Type 0 where

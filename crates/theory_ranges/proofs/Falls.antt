@@ -1,23 +1,10 @@
 -- What stands on the laws of specs/Falls.antt: moved here whole, so that a wrong definition there is refused by these proofs.
-use Rattle.std.specs.Prelude.{ℕ, ◌≤◌, ◌<◌, ◌≡◌, refl, Bool, true, false, ltb, leb, ◌≤ℤ◌}
+use Rattle.std.specs.Prelude.{ℕ, ◌<◌, ◌≡◌, Bool, true, false}
 use native.Mathlib.Omega.{arith}
-use Rattle.std.proofs.Math.Decide.{dec_le, dec_lt}
-use Rattle.std.proofs.Math.Path.{ap}
-use Rattle.std.proofs.Math.Logic.{by_cases}
-use Rattle.std.proofs.Common.{lt-ltb, le-ltb, le-leb}
-use Rattle.std.proofs.lemmas.Bool.{lt-leb}
-use Rattle.lists.specs.Test.{bit, bit_one}
-use Rattle.lists.specs.Sum.{sum_mono, up_to}
-use Rattle.lists.specs.Integer.{sub_≤, ≤_antisym}
-use Rattle.model.specs.Limits.{empty_rank}
-use Rattle.model.specs.Instance.{Instance, Side, surveyors, stands, deg}
-use Rattle.model.specs.Vote.{Place, edge, empty, vote}
-use Rattle.theory_votes.specs.Score.{rate, mark, mark_same, mark_lost, mark_gained, score, tally, quotas}
-use Rattle.theory_votes.specs.Fair.{score_≤, left_here, right_here, Here}
+use Rattle.lists.specs.Integer.{≤_antisym}
+use Rattle.model.specs.Instance.{Instance}
+use Rattle.model.specs.Vote.{vote}
 use Rattle.theory_instance.specs.Lawful.{Matching}
-use Rattle.theory_votes.specs.Attained.{attained}
-use Rattle.theory_votes.specs.Signed.{vote_tally}
-use Rattle.theory_votes.specs.Couples.{Kind, shares, swaps, loses, gets, void, kind}
 use Rattle.theory_ranges.specs.Falls.{Placed, Worse, vote_falls, with_ranks}
 
 module _ (G : Instance) (M N : ℕ → Bool) (p : Matching G M) (q : Matching G N) where

@@ -15,7 +15,7 @@ use Rattle.theory_instance.specs.Within.{within_matching}
 use Rattle.theory_files.specs.Chosen.{plan_within}
 use Rattle.theory_files.specs.RosterInstance.{lawful}
 use Rattle.theory_ranges.proofs.Falls.{vote_alike}
-use Rattle.theory_ranges.specs.Worst.{Fit, entry_s, entry_t, ranked_by, worst_choice, worst_choice_law, choice_placed}
+use Rattle.theory_ranges.specs.Worst.{Fit, entry_s, entry_t, ranked_by, worst_choice_law, choice_placed}
 use Rattle.theory_ranges.proofs.Worst.{worst_least}
 use Rattle.theory_ranges.specs.RosterPlaces.{place_s_law, place_t_law}
 use Rattle.theory_ranges.specs.LeastVote.{choice_of}

@@ -1,22 +1,16 @@
 -- What stands on the laws of specs/Questions.antt: moved here whole, so that a wrong definition there is refused by these proofs.
-use Prim.Native.Nat.{ℕ, zero, suc}
+use Prim.Native.Nat.{ℕ}
 use Rattle.std.specs.Prelude.{◌≡◌, List, map, T}
-use Rattle.std.proofs.Math.Path.{refl, subst}
-use Rattle.std.proofs.Common.{sym, ap, ◌∙◌}
-use Rattle.lists.specs.Sum.{◌∈◌}
-use Rattle.model.specs.Reading.{Reading, accepted, refused}
+use Rattle.std.proofs.Common.{ap, ◌∙◌}
+use Rattle.model.specs.Reading.{accepted}
 use Rattle.model.specs.Roster.{Roster, fits}
 use Rattle.model.specs.Edges.{instance_of}
-use Rattle.model.specs.Plans.{Plan, plans_of, vote_of}
-use Rattle.model.specs.PlanFile.{read_plan}
-use Rattle.model.specs.Ranges.{Question, Least, ranked, entry_count, roster_ranks, settled_at, ranges_judged, second_judged, first_judged, read_question}
-use Rattle.theory_files.specs.Reads.{is_bytes, accepted_value, refused-not}
-use Rattle.theory_files.specs.PlanFiles.{plan_read_within}
-use Rattle.theory_ranges.specs.Worst.{Fit}
+use Rattle.model.specs.Plans.{vote_of}
+use Rattle.model.specs.Ranges.{Question, Least, ranked, roster_ranks, settled_at, read_question}
+use Rattle.theory_files.specs.Reads.{is_bytes}
 use Rattle.theory_ranges.specs.LeastVote.{choice_of}
 use Rattle.theory_ranges.proofs.LeastVote.{least_holds}
 use Rattle.theory_ranges.proofs.Settled.{settled_least}
-use Rattle.theory_ranges.specs.RangesFile.{ranges_refusal, ranges_of, reading_by, read_is, taken, taken_fit}
 use Rattle.theory_ranges.specs.Questions.{choice_for, question_sound}
 
 -- the choice that is written for a question is within its ranges and reaches the least vote

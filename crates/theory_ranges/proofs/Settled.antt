@@ -1,32 +1,29 @@
 -- What stands on the laws of specs/Settled.antt: moved here whole, so that a wrong definition there is refused by these proofs.
 use Prim.Native.Nat.{ℕ, zero, suc, ◌+◌, ◌-◌, ◌≤◌, ◌<◌}
-use Rattle.std.proofs.Common.{arith, le_antisymm, ◌∙◌, ext_get_or, T_not}
+use Rattle.std.proofs.Common.{arith, ◌∙◌, T_not}
 use Rattle.std.specs.Prelude.{◌≡◌, refl, not, replicate, T}
 use Rattle.std.proofs.Math.Path.{sym, ap, subst}
 use Rattle.std.proofs.Math.Logic.{⊎_elim}
-use mathlib.Core.List.Memᴰ
 use mathlib.Core.List.{List, [], ◌∷◌, ◌++◌, map}
 use Rattle.std.proofs.Math.ListN.{length, get_or, length-append, get_or-append}
-use Rattle.std.proofs.lemmas.List.{length-map, length-replicate, get_or-replicate}
+use Rattle.std.proofs.lemmas.List.{length-replicate, get_or-replicate}
 use Rattle.std.proofs.Math.Seq.{get_or-append-add}
 use Rattle.lists.specs.Test.{by-test, or_case}
-use Rattle.lists.specs.Sum.{◌∈◌, sum, sum_cong, sum_length, up_to, range, ∈_range, range_length}
-use Rattle.lists.specs.Keep.{gather, sum_gather, gather_∈, any_append, all_∈, get_d_∈}
-use Rattle.lists.specs.Ranges.{map_at}
-use Rattle.model.specs.Limits.{empty_rank, list_limit, rank_limit}
-use Rattle.model.specs.Roster.{Entry, Ranking, Roster, list_s, list_t, entries, same, has, fits, total_s, surveyor_count, stand_count, list_fits, ranking_fits}
+use Rattle.lists.specs.Sum.{◌∈◌, sum, sum_cong, sum_length, up_to, range, range_length}
+use Rattle.lists.specs.Keep.{gather, sum_gather, any_append}
+use Rattle.model.specs.Limits.{empty_rank}
+use Rattle.model.specs.Roster.{Entry, Ranking, Roster, list_s, list_t, entries, same, has, fits, total_s}
 use Rattle.model.specs.Edges.{position, edges_of, edge_at, instance_of}
 use Rattle.model.specs.Instance.{Instance}
 use Rattle.model.specs.Plans.{Plan, on, plans_of, vote_of}
-use Rattle.model.specs.Ranges.{Range, place_s, place_t, ranked, Choice, roster_ranks, ranking_ranks, settled_at}
+use Rattle.model.specs.Ranges.{Range, place_s, place_t, ranked, roster_ranks, ranking_ranks, settled_at}
 use Rattle.theory_instance.specs.Lawful.{Matching}
 use Rattle.theory_instance.specs.Within.{within_matching}
 use Rattle.theory_files.specs.Chosen.{plan_within}
 use Rattle.theory_files.specs.RosterInstance.{lawful, lists_count, rankings_count}
 use Rattle.theory_files.specs.Position.{position_pos, position_in_law, position_out}
 use Rattle.theory_ranges.proofs.Falls.{vote_alike}
-use Rattle.theory_ranges.specs.Worst.{Fit, worst_choice_law}
-use Rattle.theory_files.specs.ByLists.{list_short, ranking_list, ByLists, fits_lists}
+use Rattle.theory_ranges.specs.Worst.{worst_choice_law}
 use Rattle.theory_ranges.specs.LeastVote.{choice_of}
 use Rattle.theory_ranges.specs.Places.{place_below}
 use Rattle.theory_ranges.specs.Entries.{position_left, position_right}

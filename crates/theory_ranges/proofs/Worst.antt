@@ -1,15 +1,13 @@
 -- What stands on the laws of specs/Worst.antt: moved here whole, so that a wrong definition there is refused by these proofs.
-use Rattle.std.specs.Prelude.{ℕ, zero, suc, ◌+◌, ◌≤◌, ◌<◌, ◌≡◌, refl, ◌≢◌, ◌⊎◌, Bool, true, false, not, cond, ◌&&◌, ◌||◌, List, map, length, get_or, T, eqb, ◌≤ℤ◌}
-use Rattle.std.proofs.Common.{zero-le, arith, zero-add, sym, ap, ◌∙◌, subst, inl, inr, ⊎_elim, T_not, eqb→eq}
+use Rattle.std.specs.Prelude.{ℕ, ◌+◌, ◌≤◌, ◌<◌, ◌≡◌, refl, ◌≢◌, ◌⊎◌, Bool, true, false, not, cond, ◌&&◌, ◌||◌, List, length, get_or, T, eqb, ◌≤ℤ◌}
+use Rattle.std.proofs.Common.{zero-le, arith, sym, ap, ◌∙◌, subst, inl, inr, ⊎_elim, T_not, eqb→eq}
 use Rattle.std.proofs.Math.Decide.{dec_lt}
 use Rattle.std.proofs.Math.Logic.{⊎_map, by_cases}
-use Rattle.std.proofs.Math.ListN.{length-map, get_or-eq_default}
+use Rattle.std.proofs.Math.ListN.{get_or-eq_default}
 use Rattle.std.proofs.Math.Dec.{not_T, eqb_refl}
-use Rattle.lists.specs.Test.{by-test, if-ind, T_true, T_false, true_t, false_t, and_l, and_r, and_i, or_l, or_r, or_case}
-use Rattle.lists.specs.Sum.{range, range_∈, ∈_range, range_length}
+use Rattle.lists.specs.Test.{by-test, T_true, T_false, true_t, false_t, and_l, and_r, and_i, or_l, or_r, or_case}
+use Rattle.lists.specs.Sum.{range, range_∈, ∈_range}
 use Rattle.lists.specs.Keep.{any?, any_∈, none_∈, keep_∈, ∈_keep}
-use Rattle.lists.specs.Ranges.{map_at}
-use Rattle.model.specs.Limits.{empty_rank, rank_limit}
 use Rattle.model.specs.Instance.{Instance}
 use Rattle.model.specs.Vote.{vote}
 use Rattle.model.specs.PlanFile.{edges_in}

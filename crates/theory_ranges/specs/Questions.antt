@@ -1,16 +1,16 @@
 -- A question that is read (W-211): its plans are within the quotas and its ranges fit. So the choice that the calls name for it reaches the least vote,
 -- `choice_holds`, and where the ranges are settled at the roster's ranks that is the ordinary vote, `settled_holds`.
 use Prim.Native.Nat.{ℕ, zero, suc}
-use Rattle.std.specs.Prelude.{◌≡◌, List, map, T}
+use Rattle.std.specs.Prelude.{◌≡◌, List, T}
 use Rattle.std.proofs.Math.Path.{refl, subst}
 use Rattle.std.proofs.Common.{sym, ap, ◌∙◌}
 use Rattle.lists.specs.Sum.{◌∈◌}
 use Rattle.model.specs.Reading.{Reading, accepted, refused}
-use Rattle.model.specs.Roster.{Roster, fits}
+use Rattle.model.specs.Roster.{Roster}
 use Rattle.model.specs.Edges.{instance_of}
-use Rattle.model.specs.Plans.{Plan, plans_of, vote_of}
+use Rattle.model.specs.Plans.{Plan, plans_of}
 use Rattle.model.specs.PlanFile.{read_plan}
-use Rattle.model.specs.Ranges.{Question, Least, ranked, entry_count, roster_ranks, settled_at, ranges_judged, second_judged, first_judged, read_question}
+use Rattle.model.specs.Ranges.{Question, entry_count, ranges_judged, second_judged, first_judged, read_question}
 use Rattle.theory_files.specs.Reads.{is_bytes, accepted_value, refused-not}
 use Rattle.theory_files.specs.PlanFiles.{plan_read_within}
 use Rattle.theory_ranges.specs.Worst.{Fit}

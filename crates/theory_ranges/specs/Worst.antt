@@ -1,23 +1,20 @@
 -- W-211, over the edges of an instance: the choice that reaches the least vote of M against N. At both ends of an edge that M has and N lacks it
 -- takes the high rank, everywhere else the low one; so an edge in both plans, which faces itself, has its low rank, and could have any.
-use Rattle.std.specs.Prelude.{ℕ, zero, suc, ◌+◌, ◌≤◌, ◌<◌, ◌≡◌, refl, ◌≢◌, ◌⊎◌, Bool, true, false, not, cond, ◌&&◌, ◌||◌, List, map, length, get_or, T, eqb, ◌≤ℤ◌}
-use Rattle.std.proofs.Common.{zero-le, arith, zero-add, sym, ap, ◌∙◌, subst, inl, inr, ⊎_elim, T_not, eqb→eq}
+use Rattle.std.specs.Prelude.{ℕ, zero, suc, ◌+◌, ◌≤◌, ◌<◌, ◌≡◌, Bool, not, cond, ◌&&◌, ◌||◌, List, map, length, get_or, eqb}
+use Rattle.std.proofs.Common.{arith, zero-add, sym, ap, ◌∙◌, subst}
 use Rattle.std.proofs.Math.Decide.{dec_lt}
-use Rattle.std.proofs.Math.Logic.{⊎_map, by_cases}
+use Rattle.std.proofs.Math.Logic.{by_cases}
 use Rattle.std.proofs.Math.ListN.{length-map, get_or-eq_default}
-use Rattle.std.proofs.Math.Dec.{not_T, eqb_refl}
-use Rattle.lists.specs.Test.{by-test, if-ind, T_true, T_false, true_t, false_t, and_l, and_r, and_i, or_l, or_r, or_case}
-use Rattle.lists.specs.Sum.{range, range_∈, ∈_range, range_length}
-use Rattle.lists.specs.Keep.{any?, any_∈, none_∈, keep_∈, ∈_keep}
+use Rattle.lists.specs.Test.{if-ind}
+use Rattle.lists.specs.Sum.{range, range_length}
+use Rattle.lists.specs.Keep.{any?}
 use Rattle.lists.specs.Ranges.{map_at}
 use Rattle.model.specs.Limits.{empty_rank, rank_limit}
 use Rattle.model.specs.Instance.{Instance}
-use Rattle.model.specs.Vote.{vote}
 use Rattle.model.specs.PlanFile.{edges_in}
 use Rattle.model.specs.Ranges.{Range, range_at, Choice}
-use Rattle.theory_instance.specs.Lawful.{Matching}
-use Rattle.theory_ranges.specs.Falls.{with_ranks, vote_falls}
-use Rattle.theory_ranges.specs.Places.{place_in, place_differs, place_below}
+use Rattle.theory_ranges.specs.Falls.{with_ranks}
+use Rattle.theory_ranges.specs.Places.{place_in}
 
 -- ranges that a file may have
 abbrev pub Fit : List Range → Type 0
@@ -97,5 +94,4 @@ module _ (G : Instance) where
     choice_placed fit ws c k = by_cases (dec_lt k (length rs))
         (λ h. omega (arith, c.to k h, (fit k h).1))
         (λ n. subst (λ z. z < empty_rank) (sym (get_or-eq_default ws 0 (omega (arith, c.each)))) (omega arith))
-
     -- ---- and no other gives M a lower vote

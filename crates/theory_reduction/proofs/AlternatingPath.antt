@@ -1,12 +1,11 @@
 -- What stands on the laws of specs/AlternatingPath.antt: moved here whole, so that a wrong definition there is refused by these proofs.
-use Rattle.std.specs.Prelude.{ℕ, ◌+◌, ◌≤◌, ◌<◌, ◌≡◌, ◌⊎◌, Bool, not, [], ◌∷◌, length, T}
+use Rattle.std.specs.Prelude.{ℕ, ◌+◌, ◌<◌, Bool, not, T}
 use Rattle.std.proofs.Common.{arith, inl, inr}
-use Rattle.std.proofs.Math.Decide.{ℕ_discrete}
-use Rattle.std.proofs.Math.Logic.{⊎_map, by_cases}
-use Rattle.model.specs.Instance.{Instance, Side, surveyors, stands, deg}
-use Rattle.theory_instance.specs.Walk.{up, up_one, up_yes, up_no, Steps, New, Walk, RoomS, RoomT, plus, minus, NoBad}
-use Rattle.theory_reduction.specs.Reach.{Reach, stay, arc, join, loosen}
-use Rattle.theory_reduction.specs.PlanAgainstArrows.{In, Blocks}
+use Rattle.std.proofs.Math.Logic.{⊎_map}
+use Rattle.model.specs.Instance.{Instance, Side, surveyors, stands}
+use Rattle.theory_instance.specs.Walk.{up, up_one, up_yes, up_no, New, NoBad}
+use Rattle.theory_reduction.specs.Reach.{stay, join, loosen}
+use Rattle.theory_reduction.specs.PlanAgainstArrows.{Blocks}
 use Rattle.theory_reduction.specs.AlternatingPath.{Arrival, Back, Forth, Welcome, gained, hop, lost, no_gL, no_lG, no_lL}
 
 module _ {G : Instance} {M rem : ℕ → Bool} where

@@ -6,16 +6,15 @@ use Rattle.std.proofs.Math.Logic.{by_cases}
 use Rattle.lists.specs.Test.{given, or_case}
 use Rattle.lists.specs.Distinct.{chain}
 use Rattle.model.specs.Instance.{Instance, Side, surveyors, stands, deg}
-use Rattle.model.specs.Reduction.{State, cut_s, cut_t, arrow_s, arrow_t, loose, reserved, rule1, rule2, rule3, rule4}
-use Rattle.theory_instance.specs.Lawful.{Lawful, Matching, Ranked, Within}
+use Rattle.model.specs.Reduction.{State, cut_s, cut_t, arrow_s, arrow_t, loose, rule1, rule2, rule3, rule4}
+use Rattle.theory_instance.specs.Lawful.{Ranked, Within}
 use Rattle.theory_instance.specs.Degree.{deg_some}
-use Rattle.theory_instance.specs.Walk.{up_one, up_yes, up_no, New, NoBad}
+use Rattle.theory_instance.specs.Walk.{up_one, up_yes, up_no, New}
 use Rattle.theory_reduction.specs.Arrows.{better, better_not}
-use Rattle.theory_reduction.specs.Facts.{Quiet, arrow_s_rem, arrow_t_rem, firm_in, arrow_reserved, unreserved_says, in_or_out, rule2_quiet}
-use Rattle.theory_reduction.specs.Facts.{rule3_quiet, rule4_quiet}
-use Rattle.theory_reduction.specs.Quotas.{Sound}
+use Rattle.theory_reduction.specs.Facts.{Quiet, arrow_s_rem, arrow_t_rem, firm_in, arrow_reserved, in_or_out, rule2_quiet}
+use Rattle.theory_reduction.specs.Facts.{rule3_quiet}
 use Rattle.theory_reduction.specs.Reach.{Reach, stay, join, loosen}
-use Rattle.theory_reduction.specs.PlanAgainstArrows.{In, PlanAgainstArrows, both, fits, no_room, plan_beyond, plan_instead, beyond_plan}
+use Rattle.theory_reduction.specs.PlanAgainstArrows.{In, PlanAgainstArrows, both, fits, no_room, plan_beyond, beyond_plan}
 use Rattle.theory_reduction.specs.PlanAgainstArrows.{instead_of_plan, arrow_beats, spare_beats, arrow_blocks, better_arrow}
 use Rattle.theory_reduction.specs.AlternatingPath.{Arrival, Back, Forth, lost, gained, hop, before, after, no_loop}
 use Rattle.theory_reduction.proofs.AlternatingPath.{no_both_block}

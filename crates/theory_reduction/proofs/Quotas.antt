@@ -1,12 +1,12 @@
 -- What stands on the laws of specs/Quotas.antt: moved here whole, so that a wrong definition there is refused by these proofs.
-use Rattle.std.specs.Prelude.{ℕ, ◌+◌, ◌-◌, ◌≤◌, ◌<◌, min, ◌≡◌, Bool, true, false, not, ◌&&◌, ◌||◌, T, ltb, eqb}
-use Rattle.std.proofs.Common.{arith, sym, subst, eqb→eq, T_not}
+use Rattle.std.specs.Prelude.{ℕ, ◌-◌, ◌<◌, Bool, true, false, not, ◌&&◌, ◌||◌, T, eqb}
+use Rattle.std.proofs.Common.{sym, subst, eqb→eq, T_not}
 use Rattle.std.proofs.Math.Dec.{not_T}
 use Rattle.lists.specs.Test.{given, nand_i, bit}
 use Rattle.model.specs.Instance.{Instance, Side, surveyors, stands, deg}
-use Rattle.model.specs.Reduction.{State, cut, fixes, act, begin}
+use Rattle.model.specs.Reduction.{State, cut, fixes, act}
 use Rattle.theory_reduction.specs.RuleNumbers.{rule_of, fate_of, edge_of, next}
-use Rattle.theory_instance.specs.Degree.{deg_zero, deg_with, deg_without}
+use Rattle.theory_instance.specs.Degree.{deg_with, deg_without}
 use Rattle.theory_reduction.specs.Chosen.{acts, fixes_room}
 use Rattle.theory_reduction.specs.Quotas.{Counted, Sound, cut_step, within_step}
 

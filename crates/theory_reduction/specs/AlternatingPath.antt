@@ -1,14 +1,14 @@
 -- Alternating paths: a start, a walk and an end. Lemma W (theory_instance, NoBad) in the forms that the rules use, and no blocking edge: no edge outside
 -- a plan that Lemma W holds of is welcome at both its ends. Arcs and ends are those of the whole instance; `rem` only says where
 -- starts and losses lie.
-use Rattle.std.specs.Prelude.{ℕ, ◌+◌, ◌≤◌, ◌<◌, ◌≡◌, ◌⊎◌, Bool, not, [], ◌∷◌, length, T}
-use Rattle.std.proofs.Common.{arith, inl, inr}
+use Rattle.std.specs.Prelude.{ℕ, ◌+◌, ◌≤◌, ◌<◌, ◌≡◌, ◌⊎◌, Bool, [], ◌∷◌, length, T}
+use Rattle.std.proofs.Common.{arith}
 use Rattle.std.proofs.Math.Decide.{ℕ_discrete}
-use Rattle.std.proofs.Math.Logic.{⊎_map, by_cases}
-use Rattle.model.specs.Instance.{Instance, Side, surveyors, stands, deg}
-use Rattle.theory_instance.specs.Walk.{up, up_one, up_yes, up_no, Steps, New, Walk, RoomS, RoomT, plus, minus, NoBad}
-use Rattle.theory_reduction.specs.Reach.{Reach, stay, arc, join, loosen}
-use Rattle.theory_reduction.specs.PlanAgainstArrows.{In, Blocks}
+use Rattle.std.proofs.Math.Logic.{by_cases}
+use Rattle.model.specs.Instance.{Instance, Side, deg}
+use Rattle.theory_instance.specs.Walk.{up, up_one, up_no, Steps, New, Walk, RoomS, RoomT, plus, minus, NoBad}
+use Rattle.theory_reduction.specs.Reach.{Reach, arc, join, loosen}
+use Rattle.theory_reduction.specs.PlanAgainstArrows.{In}
 
 module _ (G : Instance) (M rem : ℕ → Bool) where
   -- a loss at `from`, a way to `at`, and the stand's vote of `at` against f: way and vote cost at most a - b

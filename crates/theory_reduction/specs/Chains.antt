@@ -1,25 +1,17 @@
 -- A plan that Lemma W holds of against the arrows of both sides: from an edge of the plan without an arrow of its surveyor a way
 -- leads back to a loss (Lemma B), from one that its firm stand sends no arrow along a way leads forth to an end (Lemma F). Both go
 -- from edge to edge by arcs of cost at most 0, which never close to a loop, so the chain lemma ends them.
-use Rattle.std.specs.Prelude.{ℕ, ◌+◌, ◌-◌, ◌≤◌, ◌<◌, min, ◌≡◌, refl, ◌⊎◌, Bool, not, ◌||◌, T}
-use Rattle.std.proofs.Common.{arith, sym, subst, inr, ⊎_elim}
-use Rattle.std.proofs.Math.Decide.{dec_le}
-use Rattle.std.proofs.Math.Logic.{by_cases}
-use Rattle.lists.specs.Test.{given, or_case}
-use Rattle.lists.specs.Distinct.{chain}
+use Rattle.std.specs.Prelude.{ℕ, ◌-◌, ◌≤◌, ◌<◌, min, ◌≡◌, refl, Bool, not, T}
+use Rattle.std.proofs.Common.{arith}
+use Rattle.lists.specs.Test.{given}
 use Rattle.model.specs.Instance.{Instance, Side, surveyors, stands, deg}
-use Rattle.model.specs.Reduction.{State, cut_s, cut_t, arrow_s, arrow_t, loose, reserved, rule1, rule2, rule3, rule4}
+use Rattle.model.specs.Reduction.{State, cut_s, cut_t, arrow_t, loose, reserved, rule4}
 use Rattle.theory_instance.specs.Lawful.{Lawful, Matching, Ranked, Within}
-use Rattle.theory_instance.specs.Degree.{deg_some}
-use Rattle.theory_instance.specs.Walk.{up_one, up_yes, up_no, New, NoBad}
-use Rattle.theory_reduction.specs.Arrows.{better, better_not}
-use Rattle.theory_reduction.specs.Facts.{Quiet, arrow_s_rem, arrow_t_rem, firm_in, arrow_reserved, unreserved_says, in_or_out, rule2_quiet}
-use Rattle.theory_reduction.specs.Facts.{rule3_quiet, rule4_quiet}
+use Rattle.theory_instance.specs.Walk.{New, NoBad}
+use Rattle.theory_reduction.specs.Facts.{Quiet, unreserved_says}
+use Rattle.theory_reduction.specs.Facts.{rule4_quiet}
 use Rattle.theory_reduction.specs.Quotas.{Sound}
-use Rattle.theory_reduction.specs.Reach.{Reach, stay, join, loosen}
-use Rattle.theory_reduction.specs.PlanAgainstArrows.{In, PlanAgainstArrows, both, fits, no_room, plan_beyond, plan_instead, beyond_plan}
-use Rattle.theory_reduction.specs.PlanAgainstArrows.{instead_of_plan, arrow_beats, spare_beats, arrow_blocks, better_arrow}
-use Rattle.theory_reduction.specs.AlternatingPath.{Arrival, Back, Forth, lost, gained, hop, before, after, no_loop}
+use Rattle.theory_reduction.specs.PlanAgainstArrows.{In, PlanAgainstArrows, both, plan_instead}
 
 -- The situation: a plan that Lemma W holds of, and a state that it goes through: what is fixed is in the plan, and what else is in
 -- the plan remains. (That nothing fixed remains, and what the cut quotas are, is `sound`.)

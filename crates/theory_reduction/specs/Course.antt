@@ -21,11 +21,9 @@ use Rattle.lists.specs.Distinct.{Nodup, nodup_below}
 use Rattle.model.specs.Instance.{Instance}
 use Rattle.model.specs.Reduction.{State, Step, fixes, act, after_step, begin, steps_from, state_after, steps_of, end_of}
 use Rattle.theory_reduction.specs.RuleNumbers.{names, rule_of, edge_of, fate_of, next, step_of}
-use Rattle.theory_instance.specs.Lawful.{Matching}
 use Rattle.theory_reduction.specs.Facts.{Quiet}
 use Rattle.theory_reduction.specs.Chosen.{Acts, acts, all_quiet}
 use Rattle.theory_reduction.specs.FirstRule.{step_taken, no_step}
-use Rattle.theory_reduction.specs.Quotas.{Sound, begin_sound}
 
 module _ (G : Instance) where
   -- the state and the steps that follow, by whether a step is taken

@@ -1,15 +1,12 @@
 -- What holds of every state that steps lead to from the beginning, whatever the instance and without any plan. The model keeps
 -- the quotas as the text does, cut before each step and lowered by each fixing; here they get their closed form: after the cut,
 -- the stated quota less the fixed edges, but no more than the remaining ones. And what is fixed stays within the stated quotas.
-use Rattle.std.specs.Prelude.{ℕ, ◌+◌, ◌-◌, ◌≤◌, ◌<◌, min, ◌≡◌, Bool, true, false, not, ◌&&◌, ◌||◌, T, ltb, eqb}
-use Rattle.std.proofs.Common.{arith, sym, subst, eqb→eq, T_not}
-use Rattle.std.proofs.Math.Dec.{not_T}
-use Rattle.lists.specs.Test.{given, nand_i, bit}
+use Rattle.std.specs.Prelude.{ℕ, ◌+◌, ◌-◌, ◌≤◌, ◌<◌, min, ◌≡◌, Bool, true, false, not, ◌&&◌, T, ltb}
+use Rattle.std.proofs.Common.{arith}
+use Rattle.lists.specs.Test.{bit}
 use Rattle.model.specs.Instance.{Instance, Side, surveyors, stands, deg}
-use Rattle.model.specs.Reduction.{State, cut, fixes, act, begin}
-use Rattle.theory_reduction.specs.RuleNumbers.{rule_of, fate_of, edge_of, next}
-use Rattle.theory_instance.specs.Degree.{deg_zero, deg_with, deg_without}
-use Rattle.theory_reduction.specs.Chosen.{acts, fixes_room}
+use Rattle.model.specs.Reduction.{State, cut, begin}
+use Rattle.theory_instance.specs.Degree.{deg_zero}
 
 -- ---- one side
 pub record Counted (K : Side) (rem fixed : ℕ → Bool) (q : ℕ → ℕ) : Type 0 where

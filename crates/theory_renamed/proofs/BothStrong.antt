@@ -8,7 +8,6 @@ use Rattle.std.proofs.Math.Dec.{T}
 use Rattle.std.proofs.Math.ListN.{get_or-append}
 use Rattle.lists.specs.Test.{given, by-test, and_l, and_r, and_i}
 use Rattle.lists.specs.Sum.{◌∈◌}
-use Rattle.lists.specs.Keep.{gather}
 use Rattle.lists.specs.Distinct.{no_element}
 use Rattle.lists.specs.Ranges.{gather_none}
 use Rattle.model.specs.Instance.{Instance, surveyors, stands}

@@ -1,30 +1,21 @@
 -- What stands on the laws of specs/JoinedPlans.antt: moved here whole, so that a wrong definition there is refused by these proofs.
-use Rattle.std.specs.Prelude.{ℕ, ◌+◌, ◌*◌, ◌<◌, ◌≡◌, refl, Bool, true, false, not, ◌&&◌, List, [], ◌∷◌, ◌++◌, map, length, get_or, T, eqb}
-use Rattle.std.proofs.Common.{arith, sym, ap, ap₂, ◌∙◌, length-append, get_or-append-add, eqb→eq}
-use Rattle.std.proofs.lemmas.List.{map-append, length-map}
-use Rattle.std.proofs.lemmas.Simd.{map-map}
-use Rattle.std.proofs.Math.ListN.{get_or-append}
-use Rattle.lists.specs.Test.{given, true_t}
-use Rattle.lists.specs.Sum.{◌∈◌, range, ∈_range}
-use Rattle.lists.specs.Keep.{keep, keep_cong, ∈_keep, map_keep}
-use Rattle.lists.specs.Ranges.{range_add, keep_append, map_cong, range_up}
+use Rattle.std.specs.Prelude.{ℕ, ◌*◌, ◌≡◌, refl, true, false, not, ◌&&◌, List, [], ◌∷◌, ◌++◌, map, length, T, eqb}
+use Rattle.std.proofs.Common.{arith, sym, ap, ap₂, ◌∙◌, length-append, eqb→eq}
+use Rattle.std.proofs.lemmas.List.{length-map}
+use Rattle.lists.specs.Test.{true_t}
 use Rattle.model.specs.Instance.{Instance}
-use Rattle.model.specs.Roster.{Roster, surveyor_count, stand_count, fits}
+use Rattle.model.specs.Roster.{Roster, fits}
 use Rattle.model.specs.Edges.{instance_of}
-use Rattle.model.specs.Plans.{Plan, on, strong_plans, strong_count}
-use Rattle.model.specs.PlanFile.{Named, name_of, shifted_pair, edges_in, plan_bytes_by, plan_bytes}
+use Rattle.model.specs.Plans.{Plan, strong_plans, strong_count}
 use Rattle.model.specs.Finder.{Found, plan, left, rivalled, finder_of, hands_back}
-use Rattle.model_desk.specs.History.{plan_pairs}
-use Rattle.model_files.specs.Districts.{side_by_side, pair_up, pairs_beside, pairs_bytes}
-use Rattle.theory_files.specs.Layouts.{in_shifted_pair}
-use Rattle.theory_files.specs.PlanFiles.{bytes_are}
+use Rattle.model_files.specs.Districts.{side_by_side}
 use Rattle.theory_files.specs.RosterInstance.{lawful}
 use Rattle.theory_finder.specs.Demand3.{demand3}
 use Rattle.theory_renamed.specs.FinderAnswers.{plan_found, found_plan}
 use Rattle.theory_renamed.specs.BothStrong.{all_beside}
 use Rattle.theory_renamed.proofs.BothStrong.{strong_beside}
 use Rattle.theory_renamed.specs.JoinedFits.{Room, fits_joined}
-use Rattle.theory_renamed.specs.JoinedEdges.{surveyors_beside, stands_beside, name_first, name_second}
+use Rattle.theory_renamed.specs.JoinedEdges.{surveyors_beside, stands_beside}
 
 -- so many lists, each so long
 count_beside : (gs hs : List Plan) → length (all_beside gs hs) ≡ length gs * length hs

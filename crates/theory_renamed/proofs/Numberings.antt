@@ -1,7 +1,7 @@
 -- What stands on the laws of specs/Numberings.antt: moved here whole, so that a wrong definition there is refused by these proofs.
-use Rattle.std.specs.Prelude.{ℕ, ◌<◌, ◌≡◌, refl, eqb}
+use Rattle.std.specs.Prelude.{ℕ, ◌<◌, ◌≡◌, eqb}
 use Rattle.std.proofs.Common.{sym, ap, ◌∙◌}
-use Rattle.lists.specs.Test.{pk, by-eq, eqb_yes, eqb_no, eqb_sym}
+use Rattle.lists.specs.Test.{pk, eqb_sym}
 use Rattle.lists.specs.Sum.{sum, sum_cong, sum_one, up_to, up_to_<}
 use Rattle.lists.specs.Occur.{sum_by}
 use Rattle.theory_renamed.specs.Numberings.{Numbering, asked_back}

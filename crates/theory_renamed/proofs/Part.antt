@@ -1,17 +1,13 @@
 -- What stands on the laws of specs/Part.antt: moved here whole, so that a wrong definition there is refused by these proofs.
-use Rattle.std.specs.Prelude.{ℕ, ◌+◌, ◌*◌, ◌≤◌, ◌<◌, ◌≡◌, refl, Bool, true, false, not, ◌&&◌, List, [], ◌∷◌, map, T}
-use Rattle.std.proofs.Common.{arith, ap, ◌∙◌, eqb→eq}
+use Rattle.std.specs.Prelude.{ℕ, ◌≤◌, ◌≡◌, Bool, not, ◌&&◌}
+use Rattle.std.proofs.Common.{arith, ◌∙◌}
 use Rattle.std.proofs.Math.Path.{sym}
 use Rattle.std.proofs.Math.Dec.{eqb}
-use Rattle.lists.specs.Test.{bit, pk, bit_pk}
-use Rattle.lists.specs.Sum.{◌∈◌, sum, sum_map, sum_cong, sum_pk, up_to, up_to_<, count}
-use Rattle.lists.specs.Keep.{keep, sum_keep, ∈_keep}
-use Rattle.lists.specs.Occur.{sum_by}
-use Rattle.model.specs.Limits.{empty_rank}
+use Rattle.lists.specs.Sum.{sum, up_to}
+use Rattle.lists.specs.Keep.{sum_keep}
 use Rattle.model.specs.Instance.{Side, deg}
 use Rattle.model.specs.Vote.{node_vote}
 use Rattle.theory_votes.specs.Attained.{alone}
-use Rattle.theory_votes.proofs.NodeByRotation.{node_vote_least}
 use Rattle.theory_renamed.specs.Part.{Part, Placed, at, part_deg, same_ranks}
 
 module _ (K H : Side) (ε : ℕ → ℕ) (v w : ℕ) (part : Part K H ε v w) where

@@ -24,7 +24,7 @@ use Rattle.theory_verdict.specs.Plans.{plan_matching, matching_plan, plan_of_sam
 use Rattle.theory_renamed.specs.Part.{Placed, Part, part_deg}
 use Rattle.theory_renamed.proofs.Part.{part_vote}
 use Rattle.theory_renamed.specs.StrongPlans.{same_sub, tally_same, strong_member, wins, in_strong, strong_alone}
-use Rattle.theory_renamed.specs.Numberings.{Numbering, asked_back}
+use Rattle.theory_renamed.specs.Numberings.{asked_back}
 use Rattle.theory_renamed.proofs.Numberings.{sum_back}
 use Rattle.theory_renamed.specs.Renaming.{Moved, renamed}
 

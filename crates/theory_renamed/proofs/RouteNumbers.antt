@@ -1,23 +1,12 @@
 -- What stands on the laws of specs/RouteNumbers.antt: moved here whole, so that a wrong definition there is refused by these proofs.
-use Prim.Native.Nat.{ℕ, zero, suc, ◌+◌, ◌-◌, ◌≤◌, ◌<◌}
+use Prim.Native.Nat.{ℕ, suc, ◌-◌, ◌≤◌, ◌<◌}
 use native.Mathlib.Omega.{arith}
-use Rattle.std.proofs.Common.{not-suc-le-zero, sym, ◌∙◌, ext_get_or, T_not, eqb→eq, nltb→le}
-use Rattle.std.specs.Prelude.{◌≡◌, refl, Bool, true, false, not, cond, ◌&&◌, ◌||◌, length, get_or, T, eqb, ltb}
-use Rattle.std.proofs.Math.Path.{ap, subst}
-use mathlib.Core.List.Memᴰ
-use mathlib.Core.List.{List, [], ◌∷◌, map}
-use Rattle.std.proofs.Math.ListN.{length-map}
-use Rattle.std.proofs.Math.Dec.{not_T}
-use Rattle.std.proofs.Math.Arith.{le→nltb}
-use Rattle.lists.specs.Test.{given, by-test, by_bool, and_l, and_r, and_i, nor_l, nor_r, nor_i, eq→eqb, eqb_yes, eqb_no, true_t}
-use Rattle.lists.specs.Sum.{◌∈◌, range, range_length, ∈_range}
-use Rattle.lists.specs.Keep.{all?, all_∈, ∈_all, any_∈, get_d_∈}
-use Rattle.lists.specs.Ranges.{map_at, range_at_law}
-use Rattle.lists.specs.Distinct.{Nodup, nodup_below, range_once}
-use Rattle.model.specs.Roster.{Roster, stand_count, elem, outside}
-use Rattle.model_files.specs.Routes.{differing, names_each, new_number, way_back}
-use Rattle.theory_files.specs.Chosen.{∈_elem}
-use Rattle.theory_renamed.specs.Numberings.{Numbering}
+use Rattle.std.proofs.Common.{sym, ◌∙◌, ext_get_or}
+use Rattle.std.specs.Prelude.{◌≡◌, get_or}
+use Rattle.std.proofs.Math.Path.{ap}
+use mathlib.Core.List.{List}
+use Rattle.lists.specs.Test.{given}
+use Rattle.model_files.specs.Routes.{new_number, way_back}
 use Rattle.theory_renamed.specs.RouteNumbers.{Names, back_at, back_names, number_most, number_pos, old_suc, place_of, places, stand_at_law}
 
 module _ (route : List ℕ) (n : ℕ) (N : Names route n) where

@@ -1,18 +1,16 @@
 -- What stands on the laws of specs/StoredFiles.antt: moved here whole, so that a wrong definition there is refused by these proofs.
-use Rattle.std.specs.Prelude.{ℕ, zero, suc, ◌+◌, ◌*◌, ◌≤◌, ◌≡◌, refl, Bool, true, false, cond, List, [], ◌∷◌, ◌++◌, length, T, ltb}
-use Rattle.std.proofs.Common.{arith, sym, ap, ap₂, ◌∙◌, subst, length-append, nltb→le}
-use Rattle.std.proofs.Math.Arith.{le→nltb}
-use Rattle.lists.specs.Test.{given, T_true, T_false, true_t}
+use Rattle.std.specs.Prelude.{ℕ, ◌+◌, ◌*◌, ◌≤◌, ◌≡◌, cond, List, ◌++◌, length, T}
+use Rattle.std.proofs.Common.{arith, sym, ap, ◌∙◌, subst, length-append}
+use Rattle.lists.specs.Test.{given, T_true}
 use Rattle.lists.specs.Keep.{gather}
 use Rattle.model.specs.Limits.{node_limit, stored_size}
-use Rattle.model.specs.Reading.{Reading, accepted, refused, ◌then◌, refuse_if, byte, read_each, is_bytes}
+use Rattle.model.specs.Reading.{accepted, refused, is_bytes}
 use Rattle.model.specs.Roster.{Roster, surveyor_count, stand_count, total_s, total_t, fits}
-use Rattle.model.specs.RosterFile.{shifted, read_many, read_roster, list_bytes, wide_bytes, entries_bytes, ranking_bytes, write_roster_by, write_roster}
+use Rattle.model.specs.RosterFile.{shifted, list_bytes, wide_bytes, entries_bytes, ranking_bytes, write_roster_by, write_roster}
 use Rattle.model_files.specs.Routes.{read_route, names_each, renumbered, way_back, roster_behind, route_first, store_of, unstore_of}
-use Rattle.theory_files.specs.Reads.{accepted_value, refused-not, read_value, read_rest, then_read, refuse_read, rest_bytes}
-use Rattle.theory_files.specs.Rosters.{read_write, read_fits, write_read, lists_size, rankings_size, roster_size_law}
+use Rattle.theory_files.specs.Rosters.{write_read, lists_size, rankings_size, roster_size_law}
 use Rattle.theory_files.specs.RosterInstance.{lists_count, rankings_count}
-use Rattle.theory_renamed.specs.RouteNumbers.{Names, each_names, names_each_law, back_names}
+use Rattle.theory_renamed.specs.RouteNumbers.{Names, names_each_law, back_names}
 use Rattle.theory_renamed.proofs.RouteNumbers.{back_twice}
 use Rattle.theory_renamed.specs.RenumberedFits.{renumbered_counts}
 use Rattle.theory_renamed.proofs.RenumberedFits.{fits_renumbered, totals_renumbered, renumbered_back}

@@ -1,20 +1,16 @@
 -- Two sides beside each other: the edges and nodes of the first, then those of the second. The votes at their nodes add up, and a set is within
 -- the quotas exactly if both its parts are. Each node is a part in the sense of Lemma P.
-use Rattle.std.specs.Prelude.{ℕ, zero, suc, ◌+◌, ◌-◌, ◌≤◌, ◌<◌, ◌≡◌, ◌≢◌, Bool, ◌&&◌, T, eqb, leb}
+use Rattle.std.specs.Prelude.{ℕ, zero, suc, ◌+◌, ◌-◌, ◌<◌, ◌≡◌, ◌≢◌, Bool, ◌&&◌, T, eqb, leb}
 use Rattle.std.proofs.Common.{arith, sym, ap, ap₂, ◌∙◌, subst}
 use Rattle.std.proofs.Math.Decide.{dec_lt}
 use Rattle.std.proofs.Math.Logic.{by_cases}
-use Rattle.std.proofs.Math.IntN.{sub_ℕ}
 use Rattle.lists.specs.Test.{bit, bit_pk, pk, eqb_no, pk_zero, bool_eq, and_l, and_r, and_i, eqb_up}
 use Rattle.lists.specs.Sum.{sum, sum_cong, sum_zeros, up_to, up_to_<, up_to_∈, occ}
 use Rattle.lists.specs.Keep.{all_∈, ∈_all}
 use Rattle.lists.specs.Occur.{sum_at, occ_up_to, occ_<}
 use Rattle.model.specs.Instance.{Side, deg}
 use Rattle.model.specs.Plans.{within_side}
-use Rattle.theory_votes.specs.Score.{score}
-use Rattle.theory_votes.specs.Signed.{node_vote_score}
-use Rattle.theory_renamed.specs.Part.{Placed, Part, part_deg}
-use Rattle.theory_renamed.specs.StrongPlans.{same_sub}
+use Rattle.theory_renamed.specs.Part.{Part, part_deg}
 
 pub record Beside (K A B : Side) : Type 0 where
   pub edges : K.m ≡ A.m + B.m

@@ -1,30 +1,25 @@
 -- "The joined roster has a strongly popular plan exactly when both have one, and it is the two side by side": as an equation of the lists of
 -- strongly popular plans, in the pairs of plans, and in what the finder answers.
-use Rattle.std.specs.Prelude.{ℕ, ◌+◌, ◌*◌, ◌<◌, ◌≡◌, refl, Bool, true, false, not, ◌&&◌, List, [], ◌∷◌, ◌++◌, map, length, get_or, T, eqb}
-use Rattle.std.proofs.Common.{arith, sym, ap, ap₂, ◌∙◌, length-append, get_or-append-add, eqb→eq}
+use Rattle.std.specs.Prelude.{ℕ, ◌+◌, ◌<◌, ◌≡◌, Bool, false, ◌∷◌, ◌++◌, map, length, get_or, T}
+use Rattle.std.proofs.Common.{arith, sym, ap, ap₂, ◌∙◌, get_or-append-add}
 use Rattle.std.proofs.lemmas.List.{map-append, length-map}
 use Rattle.std.proofs.lemmas.Simd.{map-map}
 use Rattle.std.proofs.Math.ListN.{get_or-append}
-use Rattle.lists.specs.Test.{given, true_t}
+use Rattle.lists.specs.Test.{given}
 use Rattle.lists.specs.Sum.{◌∈◌, range, ∈_range}
 use Rattle.lists.specs.Keep.{keep, keep_cong, ∈_keep, map_keep}
 use Rattle.lists.specs.Ranges.{range_add, keep_append, map_cong, range_up}
 use Rattle.model.specs.Instance.{Instance}
 use Rattle.model.specs.Roster.{Roster, surveyor_count, stand_count, fits}
 use Rattle.model.specs.Edges.{instance_of}
-use Rattle.model.specs.Plans.{Plan, on, strong_plans, strong_count}
+use Rattle.model.specs.Plans.{Plan, on}
 use Rattle.model.specs.PlanFile.{Named, name_of, shifted_pair, edges_in, plan_bytes_by, plan_bytes}
-use Rattle.model.specs.Finder.{Found, plan, left, rivalled, finder_of, hands_back}
 use Rattle.model_desk.specs.History.{plan_pairs}
 use Rattle.model_files.specs.Districts.{side_by_side, pair_up, pairs_beside, pairs_bytes}
 use Rattle.theory_files.specs.Layouts.{in_shifted_pair}
 use Rattle.theory_files.specs.PlanFiles.{bytes_are}
-use Rattle.theory_files.specs.RosterInstance.{lawful}
-use Rattle.theory_finder.specs.Demand3.{demand3}
-use Rattle.theory_renamed.specs.FinderAnswers.{plan_found, found_plan}
-use Rattle.theory_renamed.specs.BothStrong.{all_beside}
-use Rattle.theory_renamed.specs.JoinedFits.{Room, fits_joined}
-use Rattle.theory_renamed.specs.JoinedEdges.{surveyors_beside, stands_beside, name_first, name_second}
+use Rattle.theory_renamed.specs.JoinedFits.{Room}
+use Rattle.theory_renamed.specs.JoinedEdges.{surveyors_beside, name_first, name_second}
 
 -- a plan's bytes are its pairs, counted
 plan_bytes_law : (G : Instance) (M : Plan) → plan_bytes G M ≡ pairs_bytes (plan_pairs G M)
@@ -75,5 +70,4 @@ module _ (r q : Roster) (okr : T (fits r)) (okq : T (fits q)) (room : Room r q) 
   -- its bytes: the count of all these pairs, and then the pairs
   pub bytes_joined : (M N : Plan) → length M ≡ G.m → plan_bytes (instance_of J) (M ++ N) ≡ pairs_bytes (pairs_beside r (plan_pairs G M) (plan_pairs H N))
   bytes_joined M N l = plan_bytes_law (instance_of J) (M ++ N) ∙ ap pairs_bytes (pairs_joined M N l)
-
   -- ---- what the finder answers: a plan exactly when it does for both, and then the two side by side

@@ -1,7 +1,7 @@
 -- Lemma P: a node whose edges are, under other numbers, the edges of a node of another instance has the same vote there. Only ranks count, and
 -- in no order; so edges may be renumbered, and other edges may stand beside them. By the least over the turns of a sorted list (theory_votes),
 -- a node's vote depends on what each set has alone there, as sums over the ranks; and these sums agree edge by edge.
-use Rattle.std.specs.Prelude.{ℕ, ◌+◌, ◌*◌, ◌≤◌, ◌<◌, ◌≡◌, refl, Bool, true, false, not, ◌&&◌, List, [], ◌∷◌, map, T}
+use Rattle.std.specs.Prelude.{ℕ, ◌+◌, ◌*◌, ◌≤◌, ◌<◌, ◌≡◌, refl, Bool, true, false, ◌&&◌, List, [], ◌∷◌, map, T}
 use Rattle.std.proofs.Common.{arith, ap, ◌∙◌, eqb→eq}
 use Rattle.std.proofs.Math.Path.{sym}
 use Rattle.std.proofs.Math.Dec.{eqb}

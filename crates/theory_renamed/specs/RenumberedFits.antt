@@ -1,29 +1,24 @@
 -- A roster within the limits, renumbered by a route that names each stand once, is within the limits, lists each pair under its new number, and
 -- is renumbered back by the way back.
 use Prim.Native.Nat.{ℕ, suc, ◌-◌, ◌≤◌, ◌<◌}
-use Rattle.std.proofs.Common.{arith, ◌∙◌, ext_get_or}
-use Rattle.std.specs.Prelude.{◌≡◌, Bool, not, ◌&&◌, ◌||◌, get_or, eqb}
+use Rattle.std.proofs.Common.{arith, ◌∙◌}
+use Rattle.std.specs.Prelude.{◌≡◌, ◌&&◌, ◌||◌, get_or, eqb}
 use Rattle.std.proofs.Math.Path.{refl, sym, ap, ap₂, subst}
 use Rattle.std.proofs.Math.Bool.{cond}
-use mathlib.Core.List.Memᴰ
-use mathlib.Core.List.{List, [], ◌∷◌, map, map-map}
+use mathlib.Core.List.{List, [], ◌∷◌, map}
 use Rattle.std.proofs.Math.ListN.{length, length-map}
-use Rattle.std.proofs.Math.Dec.{T, leb}
-use Rattle.lists.specs.Test.{given, by-eq, eqb_yes, eqb_no, and_l, and_r, and_i}
-use Rattle.lists.specs.Sum.{◌∈◌, sum, sum_cong, sum_map, up_to, up_to_<}
-use Rattle.lists.specs.Keep.{all?, all_∈, get_d_∈}
+use Rattle.std.proofs.Math.Dec.{T}
+use Rattle.lists.specs.Test.{given, by-eq, eqb_yes, eqb_no, and_l, and_r}
 use Rattle.lists.specs.Ranges.{map_at}
-use Rattle.model.specs.Limits.{node_limit, quota_limit, quota_sum_limit, list_limit}
-use Rattle.model.specs.Roster.{Entry, Ranking, Roster, entries, surveyor_count, stand_count, list_s, list_t, same, has, listed, listed_back}
-use Rattle.model.specs.Roster.{distinct, entry_fits, quotas_fit, list_fits, ranking_fits, total_s, total_t, fits}
+use Rattle.model.specs.Limits.{list_limit}
+use Rattle.model.specs.Roster.{Entry, Ranking, Roster, surveyor_count, stand_count, list_s, list_t, same, has, listed}
+use Rattle.model.specs.Roster.{entry_fits, fits}
 use Rattle.model.specs.Edges.{position}
-use Rattle.model_files.specs.Routes.{new_number, entry_by, renumbered, way_back}
-use Rattle.theory_files.specs.EdgeCount.{sum_by_place}
-use Rattle.theory_files.specs.Entries.{in_range, in_range_law, range_in, small}
+use Rattle.model_files.specs.Routes.{new_number, entry_by, renumbered}
+use Rattle.theory_files.specs.Entries.{in_range, in_range_law}
 use Rattle.theory_files.specs.RosterInstance.{lists_count, rankings_count, list_fits_law}
-use Rattle.theory_files.specs.ByLists.{list_range, list_distinct, fits_lists, lists_fit_law}
-use Rattle.theory_renamed.specs.RouteNumbers.{Names, number_pos, number_most, place_of, stand_at_law, new_place, old_place, new_suc, old_suc, places}
-use Rattle.theory_renamed.specs.RouteNumbers.{back_at, back_names}
+use Rattle.theory_files.specs.ByLists.{list_range}
+use Rattle.theory_renamed.specs.RouteNumbers.{Names, place_of, stand_at_law, old_place, old_suc}
 
 abbrev no_ranking : Ranking
 no_ranking = record { strict = []; tied = [] }

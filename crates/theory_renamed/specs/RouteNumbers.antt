@@ -2,7 +2,7 @@
 -- and the way back is such a route too, whose way back is the route.
 use Prim.Native.Nat.{ℕ, zero, suc, ◌+◌, ◌-◌, ◌≤◌, ◌<◌}
 use native.Mathlib.Omega.{arith}
-use Rattle.std.proofs.Common.{not-suc-le-zero, sym, ◌∙◌, ext_get_or, T_not, eqb→eq, nltb→le}
+use Rattle.std.proofs.Common.{not-suc-le-zero, sym, ◌∙◌, T_not, eqb→eq, nltb→le}
 use Rattle.std.specs.Prelude.{◌≡◌, refl, Bool, true, false, not, cond, ◌&&◌, ◌||◌, length, get_or, T, eqb, ltb}
 use Rattle.std.proofs.Math.Path.{ap, subst}
 use mathlib.Core.List.Memᴰ

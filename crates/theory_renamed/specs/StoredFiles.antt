@@ -1,20 +1,17 @@
 -- Files of a route and a roster: storing and unstoring undo each other, both ways; they keep the length, which a buffer of 4,295 bytes holds;
 -- and they meet the same refusals.
-use Rattle.std.specs.Prelude.{ℕ, zero, suc, ◌+◌, ◌*◌, ◌≤◌, ◌≡◌, refl, Bool, true, false, cond, List, [], ◌∷◌, ◌++◌, length, T, ltb}
-use Rattle.std.proofs.Common.{arith, sym, ap, ap₂, ◌∙◌, subst, length-append, nltb→le}
+use Rattle.std.specs.Prelude.{ℕ, zero, suc, ◌≤◌, ◌≡◌, refl, Bool, true, false, cond, List, [], ◌∷◌, ◌++◌, length, T, ltb}
+use Rattle.std.proofs.Common.{arith, sym, ap, ap₂, ◌∙◌, nltb→le}
 use Rattle.std.proofs.Math.Arith.{le→nltb}
-use Rattle.lists.specs.Test.{given, T_true, T_false, true_t}
-use Rattle.lists.specs.Keep.{gather}
-use Rattle.model.specs.Limits.{node_limit, stored_size}
+use Rattle.lists.specs.Test.{given, T_false, true_t}
+use Rattle.model.specs.Limits.{node_limit}
 use Rattle.model.specs.Reading.{Reading, accepted, refused, ◌then◌, refuse_if, byte, read_each, is_bytes}
-use Rattle.model.specs.Roster.{Roster, surveyor_count, stand_count, total_s, total_t, fits}
-use Rattle.model.specs.RosterFile.{shifted, read_many, read_roster, list_bytes, wide_bytes, entries_bytes, ranking_bytes, write_roster_by, write_roster}
+use Rattle.model.specs.Roster.{Roster, stand_count, fits}
+use Rattle.model.specs.RosterFile.{read_many, read_roster, list_bytes, write_roster}
 use Rattle.model_files.specs.Routes.{read_route, names_each, renumbered, way_back, roster_behind, route_first, store_of, unstore_of}
 use Rattle.theory_files.specs.Reads.{accepted_value, refused-not, read_value, read_rest, then_read, refuse_read, rest_bytes}
-use Rattle.theory_files.specs.Rosters.{read_write, read_fits, write_read, lists_size, rankings_size, roster_size_law}
-use Rattle.theory_files.specs.RosterInstance.{lists_count, rankings_count}
-use Rattle.theory_renamed.specs.RouteNumbers.{Names, each_names, names_each_law, back_names}
-use Rattle.theory_renamed.specs.RenumberedFits.{renumbered_counts}
+use Rattle.theory_files.specs.Rosters.{read_write, read_fits}
+use Rattle.theory_renamed.specs.RouteNumbers.{Names, each_names}
 
 -- ---- a route, read and written
 abbrev numbers : ℕ → List ℕ → Reading (List ℕ × List ℕ)

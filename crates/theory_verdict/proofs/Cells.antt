@@ -1,23 +1,22 @@
 -- What stands on the laws of specs/Cells.antt: moved here whole, so that a wrong definition there is refused by these proofs.
-use Prim.Native.Nat.{ℕ, zero, suc, ◌+◌, ◌<◌, zero-le}
+use Prim.Native.Nat.{ℕ, zero, suc, ◌<◌}
 use native.Mathlib.Omega.{arith}
-use Rattle.std.specs.Prelude.{◌≡◌, ◌⊎◌, Bool, not, ◌&&◌, T, eqb}
+use Rattle.std.specs.Prelude.{◌≡◌, Bool, not, ◌&&◌, T, eqb}
 use Rattle.std.proofs.Math.Path.{refl}
 use Rattle.std.proofs.Common.{sym, subst, ltb→lt, lt→ltb, eqb→eq, T_not}
-use Rattle.std.proofs.Math.Logic.{inl, inr}
 use mathlib.Core.List.Memᴰ
-use mathlib.Core.List.{List, ◌∷◌}
+use mathlib.Core.List.{List}
 use Rattle.lists.specs.Test.{and_l, and_r, and_i, eq→eqb, eqb_no, false_t}
-use Rattle.lists.specs.Sum.{◌∈◌, range, range_∈, ∈_range}
+use Rattle.lists.specs.Sum.{◌∈◌, range}
 use Rattle.lists.specs.Keep.{keep_∈, ∈_keep, product, product_∈, ∈_product}
-use Rattle.lists.specs.First.{best_≤_held, best_≤, best_ind}
+use Rattle.lists.specs.First.{best_≤, best_ind}
 use Rattle.model.specs.Instance.{Instance, Side, surveyors, stands, deg}
-use Rattle.theory_instance.specs.Walk.{Steps, Old, New, Arc}
+use Rattle.theory_instance.specs.Walk.{Old, New, Arc}
 use Rattle.theory_verdict.specs.Ends.{Way, lose, gain}
 use Rattle.theory_verdict.specs.AlternatingPath.{Start, Stop, Apart}
-use Rattle.theory_verdict.specs.Search.{kept, Lead, stay, via, on_lead, price, terminal_price, apart?, olds, news, room?, joins?, ways}
+use Rattle.theory_verdict.specs.Search.{price, terminal_price, apart?, news, room?, joins?, ways}
 use Rattle.theory_verdict.specs.Search.{terminals_at, terminal, links?, arc, layer, walk_price, trace}
-use Rattle.theory_verdict.specs.Table.{Arcs, Layer, Next, Terminals, first_layer, next_layer}
+use Rattle.theory_verdict.specs.Table.{Arcs, Layer, Terminals, first_layer, next_layer}
 use Rattle.theory_verdict.specs.Cells.{below_∈, next, ∈_below}
 
 module _ (G : Instance) (M : ℕ → Bool) where

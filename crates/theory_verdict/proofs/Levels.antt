@@ -1,28 +1,20 @@
 -- What stands on the laws of specs/Levels.antt: moved here whole, so that a wrong definition there is refused by these proofs.
-use Prim.Native.Nat.{ℕ, zero, suc, ◌+◌, ◌*◌, ◌≤◌, ◌<◌}
-use Rattle.std.proofs.Common.{arith, lt→ltb}
-use Rattle.std.specs.Prelude.{◌≡◌, refl, ◌&&◌, length}
-use Rattle.std.proofs.Math.Bool.{Bool, not}
+use Prim.Native.Nat.{ℕ, suc, ◌+◌, ◌*◌, ◌≤◌, ◌<◌}
+use Rattle.std.proofs.Common.{arith}
+use Rattle.std.specs.Prelude.{refl}
+use Rattle.std.proofs.Math.Bool.{Bool}
 use mathlib.Core.List.{[]}
-use Rattle.std.proofs.Math.Dec.{ltb, ltb→lt, nltb→le, T_not}
-use Rattle.lists.specs.Test.{and_l, and_r, and_i, bit}
-use Rattle.lists.specs.Sum.{range, sum_range, count}
-use Rattle.lists.specs.Keep.{keep_length, product, product_∈, ∈_product}
-use Rattle.lists.specs.First.{Answer, nothing, answer_map, or_answer, first_answer}
-use Rattle.model.specs.Instance.{Instance, surveyors, stands, deg}
+use Rattle.std.proofs.Math.Dec.{ltb, ltb→lt, nltb→le}
+use Rattle.lists.specs.First.{Answer, first_answer}
+use Rattle.model.specs.Instance.{Instance}
 use Rattle.theory_instance.specs.Lawful.{Lawful, Matching}
 use Rattle.theory_instance.specs.Walk.{Old}
-use Rattle.theory_votes.specs.Score.{tally, quotas}
-use Rattle.theory_verdict.specs.Strong.{Holds}
-use Rattle.theory_verdict.specs.LemmaX.{Rival, rival_cast}
-use Rattle.theory_verdict.specs.AlternatingPath.{simple_direct}
+use Rattle.theory_verdict.specs.LemmaX.{Rival}
 use Rattle.theory_verdict.specs.LemmaW.{NoDirect, CostAtLeastTo}
-use Rattle.theory_verdict.specs.Search.{Hit, direct, loop, rival_by, olds, room?, terminal, walk_price, trace, as_path, directs, alone_at, loop_at}
-use Rattle.theory_verdict.specs.Search.{path_at, levels, search}
-use Rattle.theory_verdict.specs.CostAtLeast.{PathsCostAtLeast, CostAtLeastBelow}
-use Rattle.theory_verdict.specs.Cutting.{cutting, unbeaten}
-use Rattle.theory_verdict.specs.Table.{terminal_price_law, loops_done, alone_done, paths_done, loop_found, path_found}
-use Rattle.theory_verdict.specs.Cells.{below_∈, ∈_below, old_∈, ∈_old}
+use Rattle.theory_verdict.specs.Search.{Hit, loop, rival_by, olds, terminal, walk_price, trace, as_path, alone_at}
+use Rattle.theory_verdict.specs.CostAtLeast.{PathsCostAtLeast}
+use Rattle.theory_verdict.specs.Table.{terminal_price_law, alone_done, loop_found, path_found}
+use Rattle.theory_verdict.specs.Cells.{old_∈, ∈_old}
 use Rattle.theory_verdict.proofs.Cells.{terminals, layers}
 
 module _ (G : Instance) (M : ℕ → Bool) where

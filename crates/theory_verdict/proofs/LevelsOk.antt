@@ -1,28 +1,20 @@
 -- What stands on the laws of specs/Levels.antt: moved here whole, so that a wrong definition there is refused by these proofs.
-use Prim.Native.Nat.{ℕ, zero, suc, ◌+◌, ◌*◌, ◌≤◌, ◌<◌}
-use Rattle.std.proofs.Common.{arith, lt→ltb}
-use Rattle.std.specs.Prelude.{◌≡◌, refl, ◌&&◌, length}
-use Rattle.std.proofs.Math.Bool.{Bool, not}
-use mathlib.Core.List.{[]}
-use Rattle.std.proofs.Math.Dec.{ltb, ltb→lt, nltb→le, T_not}
-use Rattle.lists.specs.Test.{and_l, and_r, and_i, bit}
-use Rattle.lists.specs.Sum.{range, sum_range, count}
-use Rattle.lists.specs.Keep.{keep_length, product, product_∈, ∈_product}
-use Rattle.lists.specs.First.{Answer, nothing, answer_map, or_answer, first_answer}
-use Rattle.model.specs.Instance.{Instance, surveyors, stands, deg}
+use Prim.Native.Nat.{ℕ, zero, suc, ◌+◌, ◌*◌, ◌≤◌}
+use Rattle.std.proofs.Common.{arith}
+use Rattle.std.specs.Prelude.{◌≡◌, length}
+use Rattle.std.proofs.Math.Bool.{Bool}
+use Rattle.lists.specs.First.{Answer, nothing, answer_map, or_answer}
+use Rattle.model.specs.Instance.{Instance}
 use Rattle.theory_instance.specs.Lawful.{Lawful, Matching}
-use Rattle.theory_instance.specs.Walk.{Old}
 use Rattle.theory_votes.specs.Score.{tally, quotas}
 use Rattle.theory_verdict.specs.Strong.{Holds}
-use Rattle.theory_verdict.specs.LemmaX.{Rival, rival_cast}
-use Rattle.theory_verdict.specs.AlternatingPath.{simple_direct}
+use Rattle.theory_verdict.specs.LemmaX.{Rival}
 use Rattle.theory_verdict.specs.LemmaW.{NoDirect, CostAtLeastTo}
-use Rattle.theory_verdict.specs.Search.{Hit, direct, loop, rival_by, olds, room?, terminal, walk_price, trace, as_path, directs, alone_at, loop_at}
-use Rattle.theory_verdict.specs.Search.{path_at, levels, search}
+use Rattle.theory_verdict.specs.Search.{Hit, rival_by, olds}
+use Rattle.theory_verdict.specs.Search.{levels, search}
 use Rattle.theory_verdict.specs.CostAtLeast.{PathsCostAtLeast, CostAtLeastBelow}
 use Rattle.theory_verdict.specs.Cutting.{cutting, unbeaten}
-use Rattle.theory_verdict.specs.Table.{terminal_price_law, loops_done, alone_done, paths_done, loop_found, path_found}
-use Rattle.theory_verdict.specs.Cells.{below_∈, ∈_below, old_∈, ∈_old}
+use Rattle.theory_verdict.specs.Table.{loops_done, paths_done}
 use Rattle.theory_verdict.proofs.Cells.{terminals, layers}
 use Rattle.theory_verdict.specs.Levels.{directs_ok, loop_at_answer, olds_count, path_at_answer}
 use Rattle.theory_verdict.proofs.Levels.{alone_ok, loop_ok, path_ok}

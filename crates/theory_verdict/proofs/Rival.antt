@@ -1,14 +1,14 @@
 -- What stands on the laws of specs/Rival.antt: moved here whole, so that a wrong definition there is refused by these proofs.
-use Prim.Native.Nat.{ℕ, ◌+◌, ◌*◌, ◌≤◌}
+use Prim.Native.Nat.{ℕ, ◌≤◌}
 use Rattle.std.proofs.Common.{arith, ◌∙◌}
-use Rattle.std.specs.Prelude.{◌≡◌, Bool, not, length, ◌<ℤ◌, T}
+use Rattle.std.specs.Prelude.{◌≡◌, Bool, not, ◌<ℤ◌, T}
 use Rattle.std.proofs.Math.Path.{sym, subst}
 use Rattle.std.proofs.Math.IntN.{pos}
 use Rattle.lists.specs.Sum.{◌∈◌}
 use Rattle.model.specs.Limits.{plan_limit}
 use Rattle.model.specs.Instance.{Instance}
 use Rattle.model.specs.Plans.{Plan, on, plans_of, same_plan, Verdict, strong, popular, beaten, vote_of, verdict_of, Strong, Unbeaten, Means}
-use Rattle.model.specs.PlanFile.{edges_in, plan_of}
+use Rattle.model.specs.PlanFile.{plan_of}
 use Rattle.model.specs.Finder.{Rival}
 use Rattle.theory_instance.specs.Lawful.{Lawful}
 use Rattle.theory_verdict.specs.Search.{verdict_by, rival_edges}

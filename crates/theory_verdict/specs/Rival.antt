@@ -5,22 +5,13 @@
 -- walk first and for an alternating path next: all this below 0, as many levels as M has edges, or until a layer adds nothing (Stop); and
 -- if nothing is found, all of it below 1. The first hit ends the search. Its walk is read back from one column of the layers, and the
 -- rival is M without the edges that go and with those that come.
-use Prim.Native.Nat.{ℕ, ◌+◌, ◌*◌, ◌≤◌}
-use Rattle.std.proofs.Common.{arith, ◌∙◌}
-use Rattle.std.specs.Prelude.{◌≡◌, Bool, not, length, ◌<ℤ◌, T}
-use Rattle.std.proofs.Math.Path.{sym, subst}
-use Rattle.std.proofs.Math.IntN.{pos}
-use Rattle.lists.specs.Sum.{◌∈◌}
+use Prim.Native.Nat.{ℕ, ◌+◌, ◌*◌}
+use Rattle.std.specs.Prelude.{length}
 use Rattle.model.specs.Limits.{plan_limit}
 use Rattle.model.specs.Instance.{Instance}
-use Rattle.model.specs.Plans.{Plan, on, plans_of, same_plan, Verdict, strong, popular, beaten, vote_of, verdict_of, Strong, Unbeaten, Means}
+use Rattle.model.specs.Plans.{Plan, on, Verdict}
 use Rattle.model.specs.PlanFile.{edges_in, plan_of}
-use Rattle.model.specs.Finder.{Rival}
-use Rattle.theory_instance.specs.Lawful.{Lawful}
 use Rattle.theory_verdict.specs.Search.{verdict_by, rival_edges}
-use Rattle.theory_verdict.specs.Verdict.{Judged}
-use Rattle.theory_verdict.specs.Plans.{plan_matching, other_edges, matching_plan, other_plan_law, vote_plan_of}
-use Rattle.theory_verdict.specs.Meaning.{verdict_means}
 
 -- 133: a byte holds every price in a table
 abbrev pub lid : ℕ

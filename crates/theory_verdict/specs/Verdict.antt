@@ -2,20 +2,12 @@
 -- makes another plan that beats M, no hit means that none does. Below 1: a hit makes another plan that beats M or draws with it, no
 -- hit means that M beats every other. So the verdict by the two searches is right, and so is the rival that they give.
 -- To believe it: the model's votes (Vote), what a matching is (theory_instance, Lawful), the search (Search).
-use Rattle.std.specs.Prelude.{ℕ, ◌+◌, ◌*◌, ◌≤◌, ◌≡◌, Bool, length, ℤ, ◌≤ℤ◌, ◌<ℤ◌}
-use Rattle.std.proofs.Common.{arith}
-use Rattle.std.proofs.Math.Option.{Option, or_else, Option-elim}
+use Rattle.std.specs.Prelude.{ℕ, ◌≡◌, Bool, ℤ, ◌≤ℤ◌, ◌<ℤ◌}
 use Rattle.std.proofs.Math.IntN.{pos}
-use Rattle.lists.specs.First.{Answer, nothing, found, answer_map}
-use Rattle.lists.specs.Integer.{≤_antisym, sub_≤, sub_<}
 use Rattle.model.specs.Instance.{Instance}
 use Rattle.model.specs.Vote.{vote}
 use Rattle.model.specs.Plans.{Verdict, strong, popular, beaten}
-use Rattle.theory_instance.specs.Lawful.{Lawful, Matching, Same}
-use Rattle.theory_votes.specs.Score.{tally, quotas}
-use Rattle.theory_votes.specs.Signed.{vote_tally}
-use Rattle.theory_verdict.specs.Strong.{holds_strong}
-use Rattle.theory_verdict.specs.Search.{Hit, rival_by, olds, search, judge, verdict_by, rival_edges}
+use Rattle.theory_instance.specs.Lawful.{Matching, Same}
 
 module _ (G : Instance) (M : ℕ → Bool) where
   -- N is another set within the quotas, and the vote of M against it has the property

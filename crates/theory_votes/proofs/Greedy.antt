@@ -1,5 +1,5 @@
 -- What stands on the laws of specs/Greedy.antt: moved here whole, so that a wrong definition there is refused by these proofs.
-use Rattle.std.specs.Prelude.{ℕ, ◌+◌, ◌≤◌, ◌<◌, ◌≡◌, refl, Bool, false, cond, List, [], ◌∷◌, map, length, T, eqb, leb}
+use Rattle.std.specs.Prelude.{ℕ, ◌+◌, ◌≤◌, ◌<◌, ◌≡◌, refl, Bool, false, cond, List, [], ◌∷◌, map, length, T, eqb}
 use Rattle.std.proofs.Common.{zero-le, arith, sym, ap, subst, inl, inr, leb→le, le→leb, eqb→eq}
 use Rattle.std.proofs.Math.Decide.{dec_lt}
 use Rattle.std.proofs.Math.Logic.{by_cases}
@@ -7,7 +7,6 @@ use mathlib.Core.List.Memᴰ
 use Rattle.lists.specs.Test.{bit, bit_pos, eqb_yes, by_bool, true_t}
 use Rattle.lists.specs.Sum.{◌∈◌, sum, sum_mem, sum_pos, sum_zeros, sum_length, ∈_occ}
 use Rattle.lists.specs.Keep.{picks, picks_sum, remove, remove_picks, sum_remove}
-use Rattle.lists.specs.Least.{least_of_≤, least_of_∈}
 use Rattle.theory_votes.specs.Score.{rate}
 use Rattle.theory_votes.specs.Rate.{under, under_yes, under_no, rate_worse, rate_falls}
 use Rattle.theory_votes.specs.Sorted.{Sorted}

@@ -1,10 +1,9 @@
 -- What stands on the laws of specs/Keys.antt: moved here whole, so that a wrong definition there is refused by these proofs.
-use Rattle.std.specs.Prelude.{ℕ, ◌+◌, ◌-◌, ◌*◌, ◌/◌, ◌%◌, ◌≤◌, ◌<◌, max, ◌≡◌, refl, Bool, List, [], ◌∷◌, ◌++◌, map, length, replicate}
+use Rattle.std.specs.Prelude.{ℕ, ◌+◌, ◌-◌, ◌*◌, ◌≤◌, ◌<◌, max, ◌≡◌, Bool, List, [], ◌∷◌, ◌++◌, map, length, replicate}
 use native.Mathlib.Omega.{arith}
-use Rattle.std.proofs.Common.{sym, ap, ap₂, ◌∙◌, subst}
+use Rattle.std.proofs.Common.{sym, ap, ◌∙◌, subst}
 use mathlib.Core.List.Memᴰ
 use Rattle.lists.specs.Sum.{◌∈◌, sum, sum_append, sum_map, sum_length, sum_replicate}
-use Rattle.lists.specs.Keep.{gather}
 use Rattle.model.specs.Limits.{empty_rank}
 use Rattle.model.specs.Instance.{Side, deg}
 use Rattle.model.specs.Facing.{facing, facing_bytes}
@@ -13,7 +12,7 @@ use Rattle.theory_votes.specs.Sorted.{Sorted, sorted_filled, sorted_same}
 use Rattle.theory_votes.specs.NodeByRotation.{fill, most}
 use Rattle.theory_votes.specs.RankPairs.{key, by_key}
 use Rattle.theory_votes.specs.Greedy.{greedy}
-use Rattle.theory_votes.specs.PairOrder.{Low, sum_by_key, sorted_by_key}
+use Rattle.theory_votes.specs.PairOrder.{sum_by_key, sorted_by_key}
 use Rattle.theory_votes.specs.PairingPairs.{fixed, fixed_sum}
 use Rattle.theory_votes.specs.Reaching.{facing_fits}
 use Rattle.theory_votes.specs.FacingLaws.{facing_length}

@@ -1,18 +1,17 @@
 -- What stands on the laws of specs/Least.antt: moved here whole, so that a wrong definition there is refused by these proofs.
-use Rattle.std.specs.Prelude.{ℕ, ◌+◌, ◌*◌, ◌≤◌, ◌<◌, ◌≡◌, refl, ◌⊎◌, List, [], ◌∷◌, map, length, eqb}
-use Rattle.std.proofs.Common.{zero-le, arith, ap, subst, inl, inr, append-nil, eqb→eq}
+use Rattle.std.specs.Prelude.{ℕ, ◌+◌, ◌≤◌, ◌<◌, ◌≡◌, refl, ◌⊎◌, List, [], ◌∷◌, map, length}
+use Rattle.std.proofs.Common.{arith, ap, subst, inl, inr, append-nil}
 use Rattle.std.proofs.Math.Decide.{dec_lt}
 use Rattle.std.proofs.Math.Logic.{by_cases}
 use mathlib.Core.List.Memᴰ
 use Rattle.std.proofs.Math.Seq.{take-length, drop-length}
-use Rattle.lists.specs.Test.{bit, bit_pos, eqb_yes}
-use Rattle.lists.specs.Sum.{◌∈◌, sum, sum_pos, sum_mem, sum_length, ∈_occ}
-use Rattle.lists.specs.Keep.{picks, picks_sum, remove, remove_picks, sum_remove}
-use Rattle.lists.specs.Least.{least_of, least_of_≤, least_of_∈}
+use Rattle.lists.specs.Sum.{◌∈◌, sum, sum_mem, sum_length}
+use Rattle.lists.specs.Keep.{picks, picks_sum}
+use Rattle.lists.specs.Least.{least_of_∈}
 use Rattle.theory_votes.specs.Score.{rate}
 use Rattle.theory_votes.specs.Two.{Two, two}
 use Rattle.theory_votes.specs.Sorted.{Sorted}
-use Rattle.theory_votes.specs.Rotation.{against, against_≤, turned, turned_length, cost, cost_≤, lead, Columns, turned_columns, over, turn_≤}
+use Rattle.theory_votes.specs.Rotation.{against, turned, cost, lead, Columns, over, turn_≤}
 use Rattle.theory_votes.specs.Rotation.{second_≤}
 use Rattle.theory_votes.proofs.Rotation.{reach}
 use Rattle.theory_votes.specs.Least.{Below, least_sum, least_≤}

@@ -1,30 +1,29 @@
 -- What stands on the laws of specs/NodeByRotation.antt: moved here whole, so that a wrong definition there is refused by these proofs.
-use Rattle.std.specs.Prelude.{ℕ, ◌+◌, ◌-◌, ◌*◌, ◌≤◌, ◌<◌, max, ◌≡◌, Bool, ◌&&◌, ◌||◌, leb, ℤ, ◌+ℤ◌}
+use Rattle.std.specs.Prelude.{ℕ, ◌+◌, ◌-◌, ◌*◌, ◌≤◌, ◌<◌, max, ◌≡◌, Bool, ◌&&◌, leb, ◌+ℤ◌}
 use native.Mathlib.Omega.{arith}
-use Rattle.std.proofs.Math.Decide.{dec_le, dec_lt}
-use Rattle.std.proofs.Math.Path.{refl, sym, ap, ap₂, subst}
-use Rattle.std.proofs.Common.{◌∙◌, eqb→eq}
-use Rattle.std.proofs.Math.Logic.{by_cases, inl, inr}
-use Rattle.std.proofs.Math.Bool.{true, false, not, and_comm}
-use mathlib.Core.List.{List, ◌++◌, map}
-use Rattle.std.proofs.Math.ListN.{length, replicate}
-use Rattle.std.proofs.Math.Dec.{T, eqb}
+use Rattle.std.proofs.Math.Decide.{dec_lt}
+use Rattle.std.proofs.Math.Path.{sym, ap, ap₂, subst}
+use Rattle.std.proofs.Common.{◌∙◌}
+use Rattle.std.proofs.Math.Logic.{by_cases}
+use Rattle.std.proofs.Math.Bool.{not}
+use mathlib.Core.List.{List}
+use Rattle.std.proofs.Math.ListN.{length}
+use Rattle.std.proofs.Math.Dec.{eqb}
 use Rattle.std.proofs.Math.IntN.{sub_ℕ, +ℤ_idr}
-use Rattle.lists.specs.Test.{bit, bit_one, pk}
-use Rattle.lists.specs.Sum.{◌∈◌, sum, sum_add, sum_append, sum_map, sum_mono, sum_cong, sum_zero, sum_zeros, sum_length, sum_replicate, up_to, up_to_<}
-use Rattle.lists.specs.Keep.{sum_keep, ∈_keep}
+use Rattle.lists.specs.Test.{bit_one}
+use Rattle.lists.specs.Sum.{◌∈◌, sum, sum_add, sum_cong, sum_zero, sum_zeros, sum_length, up_to, up_to_<}
+use Rattle.lists.specs.Keep.{∈_keep}
 use Rattle.lists.specs.Integer.{sub_add, sub_self}
 use Rattle.model.specs.Limits.{empty_rank}
 use Rattle.model.specs.Instance.{Side, deg}
-use Rattle.model.specs.Vote.{Place, edge, empty, same, place_rank, here, places, Pairing, pairings, shared, faces, pair_faces_empty, empty_faces_pair}
-use Rattle.model.specs.Vote.{node_vote, places_at}
-use Rattle.theory_votes.specs.Score.{rate, mark, mark_same, score}
-use Rattle.theory_votes.specs.Places.{times, left, right, here_deg, times_edge, times_empty, pairing_left, pairing_right, node_places}
-use Rattle.theory_votes.specs.Fair.{faces_self, Fair, NotBoth, fair_faces, left_here, score_≤}
-use Rattle.theory_votes.specs.Attained.{common, alone, alone_own, parts, counts, attained}
+use Rattle.model.specs.Vote.{Place, edge, empty, place_rank, places, Pairing}
+use Rattle.model.specs.Vote.{node_vote}
+use Rattle.theory_votes.specs.Score.{mark, mark_same, score}
+use Rattle.theory_votes.specs.Fair.{score_≤}
+use Rattle.theory_votes.specs.Attained.{common, alone}
 use Rattle.theory_votes.specs.Signed.{node_vote_score}
-use Rattle.theory_votes.specs.Two.{Two, two, both_≤}
-use Rattle.theory_votes.specs.Rate.{upto, under, upto_yes, upto_no, under_yes, under_no, rate_same, rate_better, bar, bars}
+use Rattle.theory_votes.specs.Two.{two, both_≤}
+use Rattle.theory_votes.specs.Rate.{upto, under, upto_yes, upto_no, under_yes, under_no, bar, bars}
 use Rattle.theory_votes.specs.Sorted.{uptos, unders}
 use Rattle.theory_votes.specs.Rotation.{lead, cost, Columns, below_none}
 use Rattle.theory_votes.proofs.Rotation.{reach}

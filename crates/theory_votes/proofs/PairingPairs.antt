@@ -1,10 +1,9 @@
 -- What stands on the laws of specs/PairingPairs.antt: moved here whole, so that a wrong definition there is refused by these proofs.
-use Rattle.std.specs.Prelude.{ℕ, ◌+◌, ◌-◌, ◌*◌, ◌≤◌, ◌<◌, ◌≡◌, Bool, not, List, [], ◌∷◌, ◌++◌, map, replicate}
+use Rattle.std.specs.Prelude.{ℕ, ◌+◌, ◌-◌, ◌*◌, ◌≤◌, ◌<◌, ◌≡◌, Bool, not, List, [], ◌∷◌, map, replicate}
 use native.Mathlib.Omega.{arith}
 use Rattle.std.proofs.Math.Path.{refl, sym, ap}
 use Rattle.std.proofs.Common.{ap₂, ◌∙◌, subst, inl, inr}
 use Rattle.std.proofs.Math.Bool.{true, false, ◌&&◌, and_comm}
-use mathlib.Core.List.Memᴰ
 use Rattle.std.proofs.Math.ListN.{length}
 use Rattle.std.proofs.Math.Dec.{T, eqb}
 use Rattle.lists.specs.Test.{bit, pk}
@@ -12,15 +11,14 @@ use Rattle.lists.specs.Sum.{◌∈◌, sum, sum_add, sum_append, sum_map, sum_co
 use Rattle.lists.specs.Keep.{keep, sum_keep}
 use Rattle.model.specs.Limits.{empty_rank}
 use Rattle.model.specs.Instance.{Side, deg}
-use Rattle.model.specs.Vote.{Place, edge, empty, same, place_rank, here, places_at, Pairing, pairings, shared, pair_faces_empty, empty_faces_pair}
+use Rattle.model.specs.Vote.{Place, edge, empty, same, place_rank, here, places_at, Pairing, pairings, pair_faces_empty, empty_faces_pair}
 use Rattle.model.specs.Facing.{rank_pair}
 use Rattle.theory_votes.specs.Places.{times_empty, here_deg, pairing_left, pairing_right, node_places}
-use Rattle.theory_votes.specs.Fair.{Fair, NotBoth, right_here}
+use Rattle.theory_votes.specs.Fair.{Fair, NotBoth}
 use Rattle.theory_votes.specs.Attained.{common, alone, counts}
 use Rattle.theory_votes.specs.Couples.{Kind, shares, swaps, loses, gets, void, kind}
 use Rattle.theory_votes.specs.Rotation.{Columns}
 use Rattle.theory_votes.specs.NodeByRotation.{fill, fill_sum, unshared, both_empty, empty_left, empty_right, unshared_sum, most}
-use Rattle.theory_votes.specs.PairOrder.{Low}
 use Rattle.theory_votes.specs.PairingPairs.{fixed, fixed_sum, plain, u}
 
 many : {A : Type 0} (b : A → Bool) (n : ℕ) (xs : List A) → sum (λ x. pk (b x) n) xs ≡ sum (λ x. bit (b x)) xs * n

@@ -1,16 +1,12 @@
 -- What stands on the laws of specs/Rotation.antt: moved here whole, so that a wrong definition there is refused by these proofs.
-use Rattle.std.specs.Prelude.{ℕ, ◌+◌, ◌-◌, ◌*◌, ◌≤◌, ◌<◌, min, ◌≡◌, refl, List, [], ◌∷◌, ◌++◌, length, take, drop, leb}
-use Rattle.std.proofs.Common.{zero-le, arith, sym, ap, ◌∙◌, length-take, length-drop, take-append-drop}
-use Rattle.std.proofs.Math.Decide.{dec_le, dec_lt}
-use Rattle.std.proofs.Math.Logic.{by_cases}
-use mathlib.Core.List.Memᴰ
-use Rattle.lists.specs.Test.{bit_one}
-use Rattle.lists.specs.Sum.{◌∈◌, sum, sum_append, sum_add, sum_mono, sum_length, sum_mem, sum_zeros}
+use Rattle.std.specs.Prelude.{ℕ, ◌+◌, ◌-◌, ◌≤◌, ◌<◌, ◌≡◌, List, [], ◌∷◌, length}
+use Rattle.std.proofs.Common.{arith, sym, ◌∙◌}
+use Rattle.lists.specs.Sum.{◌∈◌, sum, sum_length, sum_zeros}
 use Rattle.theory_votes.specs.Score.{rate}
 use Rattle.theory_votes.specs.Two.{Two, two, both_≤}
-use Rattle.theory_votes.specs.Rate.{upto, under, upto_yes, upto_no, under_yes, under_no, rate_worse, rate_same, rate_≤, bar, bars}
-use Rattle.theory_votes.specs.Sorted.{Sorted, uptos, unders, uptos_none, unders_none, uptos_drop, unders_take, ∈_take, sorted_take}
-use Rattle.theory_votes.specs.Sorted.{sorted_drop, sort, sum_sort, sorted_sort}
+use Rattle.theory_votes.specs.Rate.{upto, under, upto_no}
+use Rattle.theory_votes.specs.Sorted.{uptos, unders}
+use Rattle.theory_votes.specs.Sorted.{sort, sum_sort, sorted_sort}
 use Rattle.theory_votes.specs.Rotation.{Columns, below_none, turn_≤, turned, turned_columns}
 
 module _ {A : Type 0} where

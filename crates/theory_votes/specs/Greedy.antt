@@ -1,21 +1,16 @@
 -- The smallest list of rank pairs that reaches the least sum (W-208): from the best own rank on, each takes the smallest other rank with
 -- which the rest can still reach it. Why: in any list in order the first pair has the best own rank, and its other rank is one that
 -- the rest can do without; so the choice made first is not greater, and if it is the same, what is left is the same problem.
-use Rattle.std.specs.Prelude.{ℕ, ◌+◌, ◌≤◌, ◌<◌, ◌≡◌, refl, Bool, false, cond, List, [], ◌∷◌, map, length, T, eqb, leb}
-use Rattle.std.proofs.Common.{zero-le, arith, sym, ap, subst, inl, inr, leb→le, le→leb, eqb→eq}
-use Rattle.std.proofs.Math.Decide.{dec_lt}
-use Rattle.std.proofs.Math.Logic.{by_cases}
+use Rattle.std.specs.Prelude.{ℕ, ◌+◌, ◌≤◌, ◌<◌, refl, Bool, cond, List, [], ◌∷◌, map, length, T, eqb, leb}
+use Rattle.std.proofs.Common.{arith, sym, ap, subst, le→leb}
 use mathlib.Core.List.Memᴰ
-use Rattle.lists.specs.Test.{bit, bit_pos, eqb_yes, by_bool, true_t}
-use Rattle.lists.specs.Sum.{◌∈◌, sum, sum_mem, sum_pos, sum_zeros, sum_length, ∈_occ}
-use Rattle.lists.specs.Keep.{picks, picks_sum, remove, remove_picks, sum_remove}
+use Rattle.lists.specs.Test.{bit, eqb_yes}
+use Rattle.lists.specs.Sum.{◌∈◌, sum_mem, ∈_occ}
+use Rattle.lists.specs.Keep.{picks, picks_sum}
 use Rattle.lists.specs.Least.{least_of_≤, least_of_∈}
 use Rattle.theory_votes.specs.Score.{rate}
-use Rattle.theory_votes.specs.Rate.{under, under_yes, under_no, rate_worse, rate_falls}
 use Rattle.theory_votes.specs.Sorted.{Sorted}
-use Rattle.theory_votes.specs.Rotation.{cost, Columns}
-use Rattle.theory_votes.specs.Least.{least_sum, least_≤}
-use Rattle.theory_votes.specs.RankPairs.{key, LexLe}
+use Rattle.theory_votes.specs.Least.{least_sum}
 
 abbrev own : ℕ → ℕ
 own a = a

@@ -1,23 +1,20 @@
 -- The rank pairs of a node as numbers in order, which is how the code has them: the keys of the pairs, own rank first. They are the keys of the
 -- shared ranks against themselves and of the greedy pairs, in order, filled up with the key of two empty places.
-use Rattle.std.specs.Prelude.{ℕ, ◌+◌, ◌-◌, ◌*◌, ◌/◌, ◌%◌, ◌≤◌, ◌<◌, max, ◌≡◌, refl, Bool, List, [], ◌∷◌, ◌++◌, map, length, replicate}
+use Rattle.std.specs.Prelude.{ℕ, ◌+◌, ◌-◌, ◌/◌, ◌%◌, ◌≤◌, ◌<◌, max, ◌≡◌, refl, Bool, List, [], ◌∷◌, ◌++◌, map, length, replicate}
 use native.Mathlib.Omega.{arith}
-use Rattle.std.proofs.Common.{sym, ap, ap₂, ◌∙◌, subst}
+use Rattle.std.proofs.Common.{ap₂}
 use mathlib.Core.List.Memᴰ
-use Rattle.lists.specs.Sum.{◌∈◌, sum, sum_append, sum_map, sum_length, sum_replicate}
+use Rattle.lists.specs.Sum.{◌∈◌, sum}
 use Rattle.lists.specs.Keep.{gather}
 use Rattle.model.specs.Limits.{empty_rank}
 use Rattle.model.specs.Instance.{Side, deg}
-use Rattle.model.specs.Facing.{facing, facing_bytes}
+use Rattle.model.specs.Facing.{facing_bytes}
 use Rattle.theory_votes.specs.Attained.{common, alone}
-use Rattle.theory_votes.specs.Sorted.{Sorted, sorted_filled, sorted_same}
-use Rattle.theory_votes.specs.NodeByRotation.{fill, most}
-use Rattle.theory_votes.specs.RankPairs.{key, by_key}
+use Rattle.theory_votes.specs.Sorted.{Sorted}
+use Rattle.theory_votes.specs.NodeByRotation.{fill}
+use Rattle.theory_votes.specs.RankPairs.{key}
 use Rattle.theory_votes.specs.Greedy.{greedy}
-use Rattle.theory_votes.specs.PairOrder.{Low, sum_by_key, sorted_by_key}
-use Rattle.theory_votes.specs.PairingPairs.{fixed, fixed_sum}
-use Rattle.theory_votes.specs.Reaching.{facing_fits}
-use Rattle.theory_votes.specs.FacingLaws.{facing_length}
+use Rattle.theory_votes.specs.PairOrder.{Low}
 
 -- the key of two empty places, the greatest of all
 abbrev pub empty_key : ℕ

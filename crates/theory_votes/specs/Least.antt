@@ -1,20 +1,14 @@
 -- The least sum of votes, counted from one up, over all ways to set one list of ranks against another of the same length; and that it is
 -- the sum of the two greatest leads, and is reached by a turn if both lists are in order (Rotation).
-use Rattle.std.specs.Prelude.{ℕ, ◌+◌, ◌*◌, ◌≤◌, ◌<◌, ◌≡◌, refl, ◌⊎◌, List, [], ◌∷◌, map, length, eqb}
-use Rattle.std.proofs.Common.{zero-le, arith, ap, subst, inl, inr, append-nil, eqb→eq}
-use Rattle.std.proofs.Math.Decide.{dec_lt}
-use Rattle.std.proofs.Math.Logic.{by_cases}
+use Rattle.std.specs.Prelude.{ℕ, ◌+◌, ◌*◌, ◌≤◌, ◌<◌, ◌≡◌, refl, List, [], ◌∷◌, map, length, eqb}
+use Rattle.std.proofs.Common.{zero-le, arith, ap, eqb→eq}
 use mathlib.Core.List.Memᴰ
-use Rattle.std.proofs.Math.Seq.{take-length, drop-length}
 use Rattle.lists.specs.Test.{bit, bit_pos, eqb_yes}
-use Rattle.lists.specs.Sum.{◌∈◌, sum, sum_pos, sum_mem, sum_length, ∈_occ}
-use Rattle.lists.specs.Keep.{picks, picks_sum, remove, remove_picks, sum_remove}
-use Rattle.lists.specs.Least.{least_of, least_of_≤, least_of_∈}
+use Rattle.lists.specs.Sum.{◌∈◌, sum_pos, sum_mem, ∈_occ}
+use Rattle.lists.specs.Keep.{picks, remove, remove_picks, sum_remove}
+use Rattle.lists.specs.Least.{least_of, least_of_≤}
 use Rattle.theory_votes.specs.Score.{rate}
-use Rattle.theory_votes.specs.Two.{Two, two}
-use Rattle.theory_votes.specs.Sorted.{Sorted}
-use Rattle.theory_votes.specs.Rotation.{against, against_≤, turned, turned_length, cost, cost_≤, lead, Columns, turned_columns, over, turn_≤}
-use Rattle.theory_votes.specs.Rotation.{second_≤}
+use Rattle.theory_votes.specs.Rotation.{against, against_≤, turned, turned_length, cost, cost_≤, Columns, turned_columns}
 
 -- the first on the left faces any on the right, and the others face the rest
 unfoldable pub least_sum : List ℕ → List ℕ → ℕ

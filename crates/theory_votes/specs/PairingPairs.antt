@@ -1,26 +1,21 @@
 -- The rank pairs of a valid pairing at a node. Some every one of them has: shared edges against themselves, empty places against empty ones. The
 -- others, of the edges that only one of the sets has, stand in two columns: the ranks of those edges, the shorter list filled up.
-use Rattle.std.specs.Prelude.{ℕ, ◌+◌, ◌-◌, ◌*◌, ◌≤◌, ◌<◌, ◌≡◌, Bool, not, List, [], ◌∷◌, ◌++◌, map, replicate}
+use Rattle.std.specs.Prelude.{ℕ, ◌+◌, ◌-◌, ◌*◌, ◌≤◌, ◌<◌, ◌≡◌, Bool, not, List, ◌++◌, map, replicate}
 use native.Mathlib.Omega.{arith}
-use Rattle.std.proofs.Math.Path.{refl, sym, ap}
-use Rattle.std.proofs.Common.{ap₂, ◌∙◌, subst, inl, inr}
-use Rattle.std.proofs.Math.Bool.{true, false, ◌&&◌, and_comm}
+use Rattle.std.proofs.Math.Path.{refl, sym}
+use Rattle.std.proofs.Common.{subst}
+use Rattle.std.proofs.Math.Bool.{◌&&◌}
 use mathlib.Core.List.Memᴰ
 use Rattle.std.proofs.Math.ListN.{length}
-use Rattle.std.proofs.Math.Dec.{T, eqb}
-use Rattle.lists.specs.Test.{bit, pk}
-use Rattle.lists.specs.Sum.{◌∈◌, sum, sum_add, sum_append, sum_map, sum_cong, sum_length, sum_replicate, up_to}
-use Rattle.lists.specs.Keep.{keep, sum_keep}
+use Rattle.lists.specs.Sum.{◌∈◌, sum, sum_append, sum_map, sum_replicate}
+use Rattle.lists.specs.Keep.{keep}
 use Rattle.model.specs.Limits.{empty_rank}
 use Rattle.model.specs.Instance.{Side, deg}
-use Rattle.model.specs.Vote.{Place, edge, empty, same, place_rank, here, places_at, Pairing, pairings, shared, pair_faces_empty, empty_faces_pair}
+use Rattle.model.specs.Vote.{Place, edge, empty, same, place_rank, places_at, Pairing, pairings, shared}
 use Rattle.model.specs.Facing.{rank_pair}
-use Rattle.theory_votes.specs.Places.{times_empty, here_deg, pairing_left, pairing_right, node_places}
-use Rattle.theory_votes.specs.Fair.{Fair, NotBoth, right_here}
-use Rattle.theory_votes.specs.Attained.{common, alone, counts}
-use Rattle.theory_votes.specs.Couples.{Kind, shares, swaps, loses, gets, void, kind}
-use Rattle.theory_votes.specs.Rotation.{Columns}
-use Rattle.theory_votes.specs.NodeByRotation.{fill, fill_sum, unshared, both_empty, empty_left, empty_right, unshared_sum, most}
+use Rattle.theory_votes.specs.Fair.{Fair, right_here}
+use Rattle.theory_votes.specs.Attained.{common}
+use Rattle.theory_votes.specs.NodeByRotation.{most}
 use Rattle.theory_votes.specs.PairOrder.{Low}
 
 module _ (K : Side) (M N : ℕ → Bool) (v : ℕ) where
@@ -53,7 +48,6 @@ module _ (K : Side) (M N : ℕ → Bool) (v : ℕ) where
     module _ (r : Pairing) (m : r ∈ pairings (places_at K M v) (places_at K N v)) (f : Fair M N (places_at K M v) (places_at K N v) r) where
       unfoldable pub u : List (ℕ × ℕ)
       u = pairs_of (keep plain r)
-
       -- ---- the columns of u
 
     -- ---- ranks are low, lists have the quota's length

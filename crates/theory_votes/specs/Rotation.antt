@@ -5,17 +5,17 @@
 -- l, let the l best of the left face the l worst of the right: at most 2 each, and every lead falls by l, so that only one is left. Then, in
 -- order, the best of both face each other: that costs nothing, or 1 if they are equal, and then the one lead falls by 1.
 use Rattle.std.specs.Prelude.{ℕ, ◌+◌, ◌-◌, ◌*◌, ◌≤◌, ◌<◌, min, ◌≡◌, refl, List, [], ◌∷◌, ◌++◌, length, take, drop, leb}
-use Rattle.std.proofs.Common.{zero-le, arith, sym, ap, ◌∙◌, length-take, length-drop, take-append-drop}
+use Rattle.std.proofs.Common.{zero-le, arith, ap, ◌∙◌, length-take, length-drop, take-append-drop}
 use Rattle.std.proofs.Math.Decide.{dec_le, dec_lt}
 use Rattle.std.proofs.Math.Logic.{by_cases}
 use mathlib.Core.List.Memᴰ
 use Rattle.lists.specs.Test.{bit_one}
-use Rattle.lists.specs.Sum.{◌∈◌, sum, sum_append, sum_add, sum_mono, sum_length, sum_mem, sum_zeros}
+use Rattle.lists.specs.Sum.{◌∈◌, sum, sum_append, sum_add, sum_mono, sum_length, sum_mem}
 use Rattle.theory_votes.specs.Score.{rate}
-use Rattle.theory_votes.specs.Two.{Two, two, both_≤}
+use Rattle.theory_votes.specs.Two.{Two}
 use Rattle.theory_votes.specs.Rate.{upto, under, upto_yes, upto_no, under_yes, under_no, rate_worse, rate_same, rate_≤, bar, bars}
 use Rattle.theory_votes.specs.Sorted.{Sorted, uptos, unders, uptos_none, unders_none, uptos_drop, unders_take, ∈_take, sorted_take}
-use Rattle.theory_votes.specs.Sorted.{sorted_drop, sort, sum_sort, sorted_sort}
+use Rattle.theory_votes.specs.Sorted.{sorted_drop}
 
 -- what falls below both falls to nothing in one
 min_falls : {a c : ℕ} (b d s : ℕ) → a ≤ b - s → c ≤ d - s → min b d ≤ s → min a c ≡ 0
