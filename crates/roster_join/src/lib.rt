@@ -1,5 +1,7 @@
 // A surveyor joins in the field: requests W-202 and W-204 of document 02. The bytes of the roster with one surveyor more, made from the bytes
 // of an accepted roster, a quota and a list file; or the refusal.
+#![tactic(auto)]
+
 ghost use Rattle.std.specs.Prelude.{◌≤◌};
 ghost use Rattle.model.specs.Limits.{node_limit, list_limit};
 ghost use Rattle.model.specs.Reading.{whole};
