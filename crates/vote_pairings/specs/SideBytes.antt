@@ -1,5 +1,5 @@
 -- Bytes written into a buffer from a place on, and the bytes of the nodes of one side.
-use Prim.Native.Nat.{ℕ, zero, suc, ◌+◌, ◌-◌, ◌*◌, ◌/◌, ◌%◌, ◌≤◌, ◌<◌}
+use Prim.Native.Nat.{ℕ, zero, suc, ◌+◌, ◌*◌, ◌/◌, ◌%◌, ◌≤◌, ◌<◌}
 use native.Mathlib.Omega.{arith}
 use Rattle.std.proofs.Common.{add-one, sym, ap₂, ◌∙◌, append_assoc, append-nil, length-drop, length-set, take-append-drop, take-suc, take_at, drop-drop, length-take-le, drop-set-lt, get_or-set_same}
 use Rattle.std.specs.Prelude.{◌≡◌, List, [], ◌∷◌, ◌++◌, get_or, set, take, drop}

@@ -1,4 +1,6 @@
 // Who faced whom: the pairings of the vote of one plan against another, into a lent buffer; two bytes a place, the surveyors' nodes before the stands'.
+#![tactic(auto)]
+
 ghost use Rattle.std.specs.Prelude.{◌≡◌, ℕ, ◌+◌, ◌*◌, ◌≤◌, ◌<◌, length, take};
 ghost use Rattle.lists.specs.Sum.{sum, up_to};
 ghost use Rattle.model.specs.Limits.{quota_limit, node_limit};
