@@ -15,7 +15,7 @@ use roster_positions::{ROW, TABLE};
 
 // surveyor, stand, shift, the rank at each end and whether the edge is tied at its stand, for each of m edges; quotas of ns surveyors and nt
 // stands
-#[derive(Drop)]
+#[derive(Clone, Copy)]
 pub struct Instance {
     pub m: usize,
     pub ns: usize,
