@@ -7,7 +7,7 @@ use Rattle.std.proofs.Math.ListN.{get_or-eq_default}
 use Rattle.std.proofs.Math.Dec.{not_T}
 use Rattle.lists.specs.Test.{T_false, and_r, or_case}
 use Rattle.lists.specs.Sum.{◌∈◌}
-use Rattle.lists.specs.Keep.{any?, any_cong, any_∈, All, All-getD, All-∈}
+use Rattle.lists.specs.Keep.{any?, any_cong, any_∈, All-getD, All-∈}
 use Rattle.model.specs.Roster.{elem}
 use Rattle.model.specs.Instance.{Instance}
 use Rattle.arrays.specs.ArrayInstance.{at}
