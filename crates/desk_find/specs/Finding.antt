@@ -30,7 +30,8 @@ use Rattle.answers.specs.declared.Found.{Found}
 use Rattle.answers.specs.FinderCases.{found_shown}
 use Rattle.answers.specs.GroupCases.{shown_case}
 use Rattle.finder.specs.Promise as promise
-use Rattle.finder.specs.Promise.{Promise, written_is, shown_is, promised, steps_are}
+use Rattle.finder.specs.Promise.{Promise, written_is, shown_is, steps_are}
+use Rattle.finder.proofs.Promise.{promised}
 use Rattle.finder_candidate.specs.FoundBuffers.{left_after, plan_after, answer_for}
 use Rattle.diary.specs.FlatDiary.{flat_size}
 use Rattle.desk_find.specs.declared.Lengths.{Lengths}
