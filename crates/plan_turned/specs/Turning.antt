@@ -1,9 +1,9 @@
 -- A plan's file, turned: what is written for an accepted one is the same plan in the other layout, so that the answer and the bytes are the
 -- model's conversion against the instance that the file was read with.
-use Rattle.std.specs.Prelude.{ℕ, ◌+◌, ◌-◌, ◌*◌, ◌≤◌, ◌≡◌, Bool, true, false, not, cond, ◌&&◌, drop, T, eqb}
+use Rattle.std.specs.Prelude.{ℕ, ◌+◌, ◌-◌, ◌*◌, ◌≤◌, ◌≡◌, Bool, true, false, not, cond, ◌&&◌, drop, T}
 use Rattle.std.proofs.Common.{arith, ◌∙◌, subst, length-append, length-drop}
 use Rattle.std.proofs.Math.Path.{refl, sym, ap, ap₂}
-use mathlib.Core.List.{List, [], ◌∷◌, ◌++◌, map, append_assoc, append-nil}
+use mathlib.Core.List.{List, [], ◌∷◌, ◌++◌, map}
 use Rattle.std.proofs.Math.ListN.{length}
 use Rattle.std.proofs.lemmas.List.{length-map}
 use Rattle.lists.specs.Test.{given, T_true, true_t, false_t, and_l, and_r}

@@ -1,5 +1,7 @@
 // A plan file from one layout into the other (W-205): pairs with their shifts, or without, where every pair is in shift 1. `shifts` says how
 // they stand in the file. Whether it is a plan of the roster is told by its reading (crate plan_reader); this crate serves the desk.
+#![tactic(auto)]
+
 ghost use Rattle.std.specs.Prelude.{◌≡◌, ◌+◌, ◌*◌, ◌≤◌, length};
 ghost use Rattle.lists.specs.Keep.{all?};
 ghost use Rattle.model.specs.Limits.{plan_limit, plan_size};
