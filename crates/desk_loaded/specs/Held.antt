@@ -1,5 +1,5 @@
 -- The state's refusal of a call by what is held, "13, 14, 15 come first, in that order", for calls that need a roster and perhaps a plan.
-use Rattle.std.specs.Prelude.{ℕ, ◌≡◌, refl, Bool, true, false, cond, ◌&&◌}
+use Rattle.std.specs.Prelude.{ℕ, ◌≡◌, refl, Bool, false, cond, ◌&&◌}
 use Rattle.model.specs.Reading.{Reading, accepted, refused}
 use Rattle.model.specs.Roster.{Roster}
 use Rattle.model.specs.Plans.{Plan}

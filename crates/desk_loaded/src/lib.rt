@@ -1,5 +1,7 @@
 // What a call on the desk has to work on, once a call: the state's refusal, the instance of the roster held, and the plan held. The
 // roster's bytes are read once, for their refusal, and decoded once, for the arrays; the plan's bytes are read once, where a plan is needed.
+#![tactic(auto)]
+
 ghost use Rattle.std.specs.Prelude.{◌≡◌, true, cond};
 ghost use Rattle.model.specs.Reading.{accepted};
 ghost use Rattle.model.specs.Roster.{Roster};

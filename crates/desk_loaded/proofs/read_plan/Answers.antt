@@ -6,10 +6,10 @@ pub returns-in-Accepted : goal.returns-in-Accepted
 returns-in-Accepted c =
     let a = c.args in
     let p = c.read_against-read in
-    answer_accepted a.g a.file.now p.result p.ensures c.enum_told-1.given.1
+    answer_accepted a.g a.file.now p.result p.ensures c.in-Accepted.is
 
 pub returns-in-Refused : goal.returns-in-Refused
 returns-in-Refused c =
     let a = c.args in
     let p = c.read_against-read in
-    answer_refused a.g a.file.now p.result p.ensures c.Group-of.result c.a-1.given.1 c.Group-of.ensures
+    answer_refused a.g a.file.now p.result p.ensures c.group_of.result c.in-Refused.is c.group_of.ensures

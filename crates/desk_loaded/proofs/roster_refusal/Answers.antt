@@ -7,10 +7,10 @@ use Rattle.desk_loaded.proofs.roster_refusal.Goals as goal
 pub returns-in-Refused : goal.returns-in-Refused
 returns-in-Refused c =
     let a = c.args in
-    judged_not a.roster.now a.short (sym c.enum_told-1.given.1 ∙ c.read_roster-a.ensures)
+    judged_not a.roster.now a.short (sym c.in-Refused.is ∙ c.read_roster-a.ensures)
 
 pub returns-in-Accepted : goal.returns-in-Accepted
 returns-in-Accepted c =
     let a = c.args in
     judged a.roster.now a.short (bytes_of a.roster.now (λ i. c.type_inv.roster i))
-    (sym c.enum_told-in-Accepted-1.given.1 ∙ c.read_roster-a.ensures) c.short_refusal.result c.short_refusal.ensures
+    (sym c.in-Accepted.is ∙ c.read_roster-a.ensures) c.short_refusal.result c.short_refusal.ensures

@@ -9,7 +9,7 @@ pub returns-in-Refused : goal.returns-in-Refused
 returns-in-Refused c =
     let a = c.args in
     let p = c.read_against-read in
-    plan_missing a.g a.plan.now p.result p.ensures a.short c.bare.result c.bare.ensures.0 c.enum_told-1.given.1
+    plan_missing a.g a.plan.now p.result p.ensures a.short c.bare.result c.bare.ensures.0 c.in-Refused.is
     c.bare.ensures.1
 
 pub returns-in-Accepted : goal.returns-in-Accepted
@@ -18,5 +18,5 @@ returns-in-Accepted c =
     let p = c.read_against-read in
     let is_b : T (is_bytes a.plan.now) =
     bytes_of a.plan.now (λ i. c.type_inv.plan i) in
-    plan_there a.g a.plan.now p.result p.ensures a.short _ refl c.requires is_b c.a-1.given.1
+    plan_there a.g a.plan.now p.result p.ensures a.short _ refl c.requires is_b c.in-Accepted.is
     c.short_refusal-refusal.ensures refl refl refl
