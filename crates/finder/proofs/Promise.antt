@@ -1,4 +1,4 @@
--- What stands on the laws of specs/Promise.antt: moved here whole, so that a wrong definition there is refused by these proofs.
+-- The theorems that rest on specs/Promise.antt. They stand here so that a wrong definition there is refused by a proof.
 use Rattle.std.specs.Prelude.{ℕ, ◌≤◌, ◌<◌, ◌≡◌, ◌≢◌, ◌↔◌, Bool, true, false, not, List, [], ◌∷◌, map, length, ℤ, pos, ◌≤ℤ◌, ◌<ℤ◌, eqb}
 use Rattle.std.proofs.Math.Path.{refl}
 use Rattle.std.proofs.Common.{sym, ◌∙◌, subst}

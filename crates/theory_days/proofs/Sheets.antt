@@ -1,4 +1,4 @@
--- What stands on the laws of specs/Sheets.antt: moved here whole, so that a wrong definition there is refused by these proofs.
+-- The theorems that rest on specs/Sheets.antt. They stand here so that a wrong definition there is refused by a proof.
 use Prim.Native.Nat.{ℕ, suc, ◌≤◌, ◌<◌, zero-le}
 use Rattle.std.proofs.Common.{arith, le_antisymm, ◌∙◌, le→leb}
 use Rattle.std.proofs.Math.Nat.{zero-add}
@@ -32,6 +32,7 @@ use Rattle.theory_days.proofs.Spread.{spread_proper}
 use Rattle.theory_days.specs.Fewest.{days_most}
 use Rattle.theory_days.specs.Sheets.{at, busiest_least, busy_eight, days_many, entries_at, greatest_most, spread_by, spread_of}
 
+-- ---- days counted from one
 suc_eqb : (a b : ℕ) → eqb (suc a) (suc b) ≡ eqb a b
 suc_eqb a b = bool_eq (eqb (suc a) (suc b)) (eqb a b)
     (λ t. let e = eqb→eq (suc a) (suc b) t in eq→eqb a b (omega arith))

@@ -1,4 +1,4 @@
--- What stands on the laws of specs/Spread.antt: moved here whole, so that a wrong definition there is refused by these proofs.
+-- The theorems that rest on specs/Spread.antt. They stand here so that a wrong definition there is refused by a proof.
 use Prim.Native.Nat.{ℕ, zero, suc, ◌≤◌, ◌<◌}
 use native.Mathlib.Omega.{arith}
 use Rattle.std.proofs.Common.{not-suc-le-zero, sym, ap, ◌∙◌, inl, inr, T_not}

@@ -71,8 +71,6 @@ greatest_in (x ∷ xs) = by_cases (dec_lt (greatest xs) x)
     (λ n. let e : max x (greatest xs) ≡ greatest xs = omega arith in
     ⊎_elim (λ z. inl (e ∙ z)) (λ m. inr (Memᴰ.tail (Memᴰ.cast e m))) (greatest_in xs))
 
--- ---- days counted from one
-
 -- ---- the days of some entries, numbered in their order
 -- a day from 1 on for each entry of the list, by the surveyors and the stands of the entries
 unfoldable pub spread_by : (sv st : ℕ → ℕ) (es : List ℕ) → List ℕ

@@ -1,4 +1,4 @@
--- What stands on the laws of specs/KeptOffers.antt: moved here whole, so that a wrong definition there is refused by these proofs.
+-- The theorems that rest on specs/KeptOffers.antt. They stand here so that a wrong definition there is refused by a proof.
 use Rattle.std.specs.Prelude.{ℕ, ◌<◌, ◌&&◌, ◌||◌, T, leb, ltb}
 use Rattle.std.proofs.Common.{ltb→lt, nltb→le}
 use Rattle.std.proofs.Math.Logic.{⊎_elim}

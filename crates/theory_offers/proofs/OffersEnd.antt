@@ -1,4 +1,4 @@
--- What stands on the laws of specs/OffersEnd.antt: moved here whole, so that a wrong definition there is refused by these proofs.
+-- The theorems that rest on specs/OffersEnd.antt. They stand here so that a wrong definition there is refused by a proof.
 use Prim.Native.Nat.{ℕ, zero, suc, ◌+◌, ◌≤◌, ◌<◌}
 use native.Mathlib.Omega.{arith}
 use Rattle.std.specs.Prelude.{true, not, T, leb}

@@ -1,4 +1,4 @@
--- What stands on the laws of specs/OffersPlan.antt: moved here whole, so that a wrong definition there is refused by these proofs.
+-- The theorems that rest on specs/OffersPlan.antt. They stand here so that a wrong definition there is refused by a proof.
 use Rattle.std.specs.Prelude.{ℕ, ◌<◌, ◌≡◌, refl, not, ◌&&◌, T, eqb, ltb, pos, ◌≤ℤ◌}
 use Rattle.std.proofs.Common.{arith, ap, ◌∙◌, subst, T_not}
 use Rattle.std.proofs.Math.Decide.{dec_lt}

@@ -1,4 +1,4 @@
--- What stands on the laws of specs/ProfileInstance.antt: moved here whole, so that a wrong definition there is refused by these proofs.
+-- The theorems that rest on specs/ProfileInstance.antt. They stand here so that a wrong definition there is refused by a proof.
 use Prim.Native.Nat.{ℕ, suc, ◌-◌, ◌<◌}
 use native.Mathlib.Omega.{arith}
 use Rattle.std.specs.Prelude.{◌≡◌, refl, Bool, not, ◌&&◌, eqb}
@@ -30,6 +30,7 @@ quotas_one qs = bool_eq (all_one qs) (each_one (λ v. get_or qs v 0) (length qs)
     (λ t. every_all (λ q. eqb q 1) qs (All-getD (λ q. T (eqb q 1)) 0 qs
     (λ v h. all_∈ (λ v. eqb (get_or qs v 0) 1) (up_to (length qs)) t v (up_to_∈ (length qs) v h))))
 
+-- ---- entries
 ∈_has : (x : Entry) (xs : List Entry) → x ∈ xs → T (has x xs)
 ∈_has x [] m = elim m [ ]
 ∈_has x (y ∷ ys) (Memᴰ.head e) = or_l (same x y) (has x ys) (eq→same x y e)
@@ -53,6 +54,7 @@ module _ (r : Roster) (ok : T (fits r)) where
       ∙ eqb→eq y.shift 1 (all_∈ is_first (list_s r a.i) (all_∈ (λ xs. all? is_first xs) r.lists_s t (list_s r a.i)
       (get_d_∈ r.lists_s a.i [] (subst (λ n. a.i < n) (sym (fits_lists r ok).count_s) a.i_in))) y m)))
 
+  -- ---- each edge passes: so does the roster
   module _ (tied-none : (e : ℕ) → e < length es → T (not (edge_at es e).tied)) (first-all : (e : ℕ) → e < length es → (edge_at es e).shift ≡ 1) where
     -- an entry of surveyor i
     list_first : (i : ℕ) → i < ns → T (list_fits list_limit nt (list_s r i)) → (x : Entry) → x ∈ list_s r i → T (is_first x)

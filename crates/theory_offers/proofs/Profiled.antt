@@ -1,4 +1,4 @@
--- What stands on the laws of specs/Profiled.antt: moved here whole, so that a wrong definition there is refused by these proofs.
+-- The theorems that rest on specs/Profiled.antt. They stand here so that a wrong definition there is refused by a proof.
 use Rattle.std.specs.Prelude.{◌≡◌, List, T, ℕ}
 use Rattle.std.proofs.Common.{ap}
 use Rattle.model.specs.Reading.{accepted, is_bytes}

@@ -1,4 +1,4 @@
--- What stands on the laws of specs/Unbeaten.antt: moved here whole, so that a wrong definition there is refused by these proofs.
+-- The theorems that rest on specs/Unbeaten.antt. They stand here so that a wrong definition there is refused by a proof.
 use Rattle.std.specs.Prelude.{ℕ, ◌+◌, ◌*◌, ◌≤◌, ◌<◌, ◌≡◌, refl, Bool, true, false, not, ◌&&◌, List, [], ◌∷◌, T, eqb}
 use native.Mathlib.Omega.{arith}
 use Rattle.std.proofs.Common.{sym, ap, ◌∙◌, eqb→eq}
@@ -54,6 +54,7 @@ module _ (K : Side) (R : Ranked K) (M N : ℕ → Bool) (hM : Within K M) (hN : 
     cost_of K M N hM hN R,
   )
 
+-- ---- both sides
 module _ (G : Instance) (L : Lawful G) (strict : (e : ℕ) → e < G.m → T (not (G.tied e))) (M N : ℕ → Bool) (hM : Matching G M) (hN : Matching G N)
     (unblocked : (f : ℕ) → f < G.m → M f ≡ false → T (not (yields (surveyors G) M f && yields (stands G) M f))) where
   abbrev wanted : ℕ → Bool

@@ -47,8 +47,6 @@ most_at qs t v = by_cases (dec_lt v (length qs)) (λ h. omega (arith, one_at qs 
     behind : length qs ≤ v → get_or qs v 0 ≡ 0
     behind h = get_or-eq_default qs 0 h
 
--- ---- entries
-
 -- what holds at every place of a list holds of what is in it
 ∈_place : {A : Type 0} (d : A) (xs : List A) {x : A} → x ∈ xs → (i : ℕ) × (i < length xs) × (get_or xs i d ≡ x)
 ∈_place d [] m = elim m [ ]
@@ -88,8 +86,6 @@ module _ (r : Roster) (ok : T (fits r)) where
       (no_entry_law (list_t r a.j).tied (eqb→eq (length (list_t r a.j).tied) 0 (all_∈ (λ R. eqb (length R.tied) 0) r.lists_t t (list_t r a.j)
       (get_d_∈ r.lists_t a.j (record { strict = []; tied = [] }) (subst (λ n. a.j < n) (sym (fits_lists r ok).count_t) a.j_in))))
       (record { number = suc a.i; shift = a.k })))
-
-  -- ---- each edge passes: so does the roster
 
   -- all quotas one, no ties
   pub profile_instance : T (one_to_one r) → OneToOne (instance_of r)

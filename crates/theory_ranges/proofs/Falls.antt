@@ -1,4 +1,4 @@
--- What stands on the laws of specs/Falls.antt: moved here whole, so that a wrong definition there is refused by these proofs.
+-- The theorems that rest on specs/Falls.antt. They stand here so that a wrong definition there is refused by a proof.
 use Rattle.std.specs.Prelude.{ℕ, ◌<◌, ◌≡◌, Bool, true, false}
 use native.Mathlib.Omega.{arith}
 use Rattle.lists.specs.Integer.{≤_antisym}

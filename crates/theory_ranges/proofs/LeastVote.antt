@@ -1,4 +1,4 @@
--- What stands on the laws of specs/LeastVote.antt: moved here whole, so that a wrong definition there is refused by these proofs.
+-- The theorems that rest on specs/LeastVote.antt. They stand here so that a wrong definition there is refused by a proof.
 use Rattle.std.specs.Prelude.{ℕ, ◌<◌, ◌≡◌, refl, List, T}
 use Rattle.std.proofs.Math.Path.{ap}
 use Rattle.std.proofs.Math.ListN.{get_or}

@@ -1,4 +1,4 @@
--- What stands on the laws of specs/Questions.antt: moved here whole, so that a wrong definition there is refused by these proofs.
+-- The theorems that rest on specs/Questions.antt. They stand here so that a wrong definition there is refused by a proof.
 use Prim.Native.Nat.{ℕ}
 use Rattle.std.specs.Prelude.{◌≡◌, List, map, T}
 use Rattle.std.proofs.Common.{ap, ◌∙◌}

@@ -1,4 +1,4 @@
--- What stands on the laws of specs/Settled.antt: moved here whole, so that a wrong definition there is refused by these proofs.
+-- The theorems that rest on specs/Settled.antt. They stand here so that a wrong definition there is refused by a proof.
 use Prim.Native.Nat.{ℕ, zero, suc, ◌+◌, ◌-◌, ◌≤◌, ◌<◌}
 use Rattle.std.proofs.Common.{arith, ◌∙◌, T_not}
 use Rattle.std.specs.Prelude.{◌≡◌, refl, not, replicate, T}

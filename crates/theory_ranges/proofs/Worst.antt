@@ -1,4 +1,4 @@
--- What stands on the laws of specs/Worst.antt: moved here whole, so that a wrong definition there is refused by these proofs.
+-- The theorems that rest on specs/Worst.antt. They stand here so that a wrong definition there is refused by a proof.
 use Rattle.std.specs.Prelude.{ℕ, ◌+◌, ◌≤◌, ◌<◌, ◌≡◌, refl, ◌≢◌, ◌⊎◌, Bool, true, false, not, cond, ◌&&◌, ◌||◌, List, length, get_or, T, eqb, ◌≤ℤ◌}
 use Rattle.std.proofs.Common.{zero-le, arith, sym, ap, ◌∙◌, subst, inl, inr, ⊎_elim, T_not, eqb→eq}
 use Rattle.std.proofs.Math.Decide.{dec_lt}
@@ -74,6 +74,7 @@ module _ (G : Instance) where
         clash d l n (inr x) (inl y) = omega (arith, place_below G.sv G.rank_s G.m f lf)
         clash d l n (inr x) (inr y) = place_differs G.st G.rank_t G.m d f l lf n (omega arith)
 
+    -- ---- and no other gives M a lower vote
     module _ (fit : Fit rs) (ws : List ℕ) (c : Choice rs ws) where
       nothing : (xs : List ℕ) (k : ℕ) → length xs ≡ length rs → ¬ (k < length rs) → get_or xs k 0 ≡ 0
       nothing xs k e n = get_or-eq_default xs 0 (omega arith)

@@ -94,4 +94,3 @@ module _ (G : Instance) where
     choice_placed fit ws c k = by_cases (dec_lt k (length rs))
         (λ h. omega (arith, c.to k h, (fit k h).1))
         (λ n. subst (λ z. z < empty_rank) (sym (get_or-eq_default ws 0 (omega (arith, c.each)))) (omega arith))
-    -- ---- and no other gives M a lower vote

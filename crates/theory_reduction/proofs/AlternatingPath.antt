@@ -1,4 +1,4 @@
--- What stands on the laws of specs/AlternatingPath.antt: moved here whole, so that a wrong definition there is refused by these proofs.
+-- The theorems that rest on specs/AlternatingPath.antt. They stand here so that a wrong definition there is refused by a proof.
 use Rattle.std.specs.Prelude.{ℕ, ◌+◌, ◌<◌, Bool, not, T}
 use Rattle.std.proofs.Common.{arith, inl, inr}
 use Rattle.std.proofs.Math.Logic.{⊎_map}

@@ -1,4 +1,4 @@
--- What stands on the laws of specs/Chains.antt: moved here whole, so that a wrong definition there is refused by these proofs.
+-- The theorems that rest on specs/Chains.antt. They stand here so that a wrong definition there is refused by a proof.
 use Rattle.std.specs.Prelude.{ℕ, ◌+◌, ◌-◌, ◌≤◌, ◌<◌, min, ◌≡◌, refl, ◌⊎◌, Bool, not, ◌||◌, T}
 use Rattle.std.proofs.Common.{arith, sym, subst, inr, ⊎_elim}
 use Rattle.std.proofs.Math.Decide.{dec_le}

@@ -1,4 +1,4 @@
--- What stands on the laws of specs/Course.antt: moved here whole, so that a wrong definition there is refused by these proofs.
+-- The theorems that rest on specs/Course.antt. They stand here so that a wrong definition there is refused by a proof.
 use Prim.Native.Nat.{ℕ}
 use Rattle.lists.specs.Test.{given}
 use Rattle.model.specs.Instance.{Instance}

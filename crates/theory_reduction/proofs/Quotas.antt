@@ -1,4 +1,4 @@
--- What stands on the laws of specs/Quotas.antt: moved here whole, so that a wrong definition there is refused by these proofs.
+-- The theorems that rest on specs/Quotas.antt. They stand here so that a wrong definition there is refused by a proof.
 use Rattle.std.specs.Prelude.{ℕ, ◌-◌, ◌<◌, Bool, true, false, not, ◌&&◌, ◌||◌, T, eqb}
 use Rattle.std.proofs.Common.{sym, subst, eqb→eq, T_not}
 use Rattle.std.proofs.Math.Dec.{not_T}

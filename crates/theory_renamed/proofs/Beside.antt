@@ -1,4 +1,4 @@
--- What stands on the laws of specs/Beside.antt: moved here whole, so that a wrong definition there is refused by these proofs.
+-- The theorems that rest on specs/Beside.antt. They stand here so that a wrong definition there is refused by a proof.
 use Rattle.std.specs.Prelude.{ℕ, ◌+◌, ◌≤◌, ◌<◌, ◌≡◌, Bool}
 use Rattle.std.proofs.Common.{arith, sym, ap, ap₂, ◌∙◌}
 use Rattle.std.proofs.Math.IntN.{sub_ℕ}
@@ -16,6 +16,7 @@ module _ (K A B : Side) (S : Beside K A B) where
   abbrev second : (ℕ → Bool) → ℕ → Bool
   second P e = P (A.m + e)
 
+  -- ---- the side's votes add up
   module _ (pK : Placed K) (pA : Placed A) (pB : Placed B) (P Q : ℕ → Bool) (hP : (v : ℕ) → deg K P v ≤ K.quota v)
       (hQ : (v : ℕ) → deg K Q v ≤ K.quota v) where
     score_a : (v : ℕ) → v < A.n → score K P Q v ≡ score A P Q v

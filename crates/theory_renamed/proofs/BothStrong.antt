@@ -1,4 +1,4 @@
--- What stands on the laws of specs/BothStrong.antt: moved here whole, so that a wrong definition there is refused by these proofs.
+-- The theorems that rest on specs/BothStrong.antt. They stand here so that a wrong definition there is refused by a proof.
 use Rattle.std.specs.Prelude.{ℕ, ◌+◌, ◌<◌, ◌≡◌, refl, Bool, false, List, [], ◌∷◌, ◌++◌, map, ◌≢◌, length, get_or, take, drop}
 use Rattle.std.proofs.Common.{arith, sym, ap, ◌∙◌, T_not, length-take, length-drop, length-append, take-append-drop, get_or-append-add}
 use Rattle.std.proofs.Math.Path.{ap₂, subst}

@@ -1,4 +1,4 @@
--- What stands on the laws of specs/JoinedPlans.antt: moved here whole, so that a wrong definition there is refused by these proofs.
+-- The theorems that rest on specs/JoinedPlans.antt. They stand here so that a wrong definition there is refused by a proof.
 use Rattle.std.specs.Prelude.{ℕ, ◌*◌, ◌≡◌, refl, true, false, not, ◌&&◌, List, [], ◌∷◌, ◌++◌, map, length, T, eqb}
 use Rattle.std.proofs.Common.{arith, sym, ap, ap₂, ◌∙◌, length-append, eqb→eq}
 use Rattle.std.proofs.lemmas.List.{length-map}
@@ -44,6 +44,7 @@ module _ (r q : Roster) (okr : T (fits r)) (okq : T (fits q)) (room : Room r q) 
   pub count_joined : strong_count (instance_of J) ≡ strong_count G * strong_count H
   count_joined = ap length strong_joined ∙ count_beside (strong_plans G) (strong_plans H)
 
+  -- ---- what the finder answers: a plan exactly when it does for both, and then the two side by side
   module _ (ρ ρ₁ ρ₂ : Plan → Plan) where
     -- where the finder hands back a plan for each of the two rosters, for the joined one it hands back the two side by side
     pub finder_joined : (M N : Plan) → finder_of G ρ₁ ≡ plan M → finder_of H ρ₂ ≡ plan N → finder_of (instance_of J) ρ ≡ plan (M ++ N)

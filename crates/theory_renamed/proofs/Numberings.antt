@@ -1,4 +1,4 @@
--- What stands on the laws of specs/Numberings.antt: moved here whole, so that a wrong definition there is refused by these proofs.
+-- The theorems that rest on specs/Numberings.antt. They stand here so that a wrong definition there is refused by a proof.
 use Rattle.std.specs.Prelude.{ℕ, ◌<◌, ◌≡◌, eqb}
 use Rattle.std.proofs.Common.{sym, ap, ◌∙◌}
 use Rattle.lists.specs.Test.{pk, eqb_sym}

@@ -1,4 +1,4 @@
--- What stands on the laws of specs/Part.antt: moved here whole, so that a wrong definition there is refused by these proofs.
+-- The theorems that rest on specs/Part.antt. They stand here so that a wrong definition there is refused by a proof.
 use Rattle.std.specs.Prelude.{ℕ, ◌≤◌, ◌≡◌, Bool, not, ◌&&◌}
 use Rattle.std.proofs.Common.{arith, ◌∙◌}
 use Rattle.std.proofs.Math.Path.{sym}

@@ -1,4 +1,4 @@
--- What stands on the laws of specs/Renaming.antt: moved here whole, so that a wrong definition there is refused by these proofs.
+-- The theorems that rest on specs/Renaming.antt. They stand here so that a wrong definition there is refused by a proof.
 use Rattle.std.specs.Prelude.{ℕ, ◌≤◌, ◌<◌, ◌≡◌, refl, Bool, List, [], ◌∷◌, map, eqb}
 use native.Mathlib.Omega.{arith}
 use Rattle.std.proofs.Math.Decide.{dec_lt}

@@ -1,4 +1,4 @@
--- What stands on the laws of specs/RenumberedEdges.antt: moved here whole, so that a wrong definition there is refused by these proofs.
+-- The theorems that rest on specs/RenumberedEdges.antt. They stand here so that a wrong definition there is refused by a proof.
 use Prim.Native.Nat.{ℕ, suc, ◌≤◌, ◌<◌}
 use Rattle.std.proofs.Common.{arith, ◌∙◌}
 use Rattle.std.proofs.Math.Nat.{suc_inj}
@@ -30,6 +30,7 @@ use Rattle.theory_renamed.proofs.RenumberedFits.{fits_renumbered, renumbered_bac
 use Rattle.theory_renamed.specs.Renaming.{Moved}
 use Rattle.theory_renamed.specs.RenumberedEdges.{Becomes}
 
+-- ---- a listed pair is an edge
 place_in_law : {A : Type 0} {x : A} (d : A) (xs : List A) → x ∈ xs → (i : ℕ) × (i < length xs) × (get_or xs i d ≡ x)
 place_in_law d [] m = elim m [ ]
 place_in_law d (y ∷ xs) (Memᴰ.head e) = (0, omega arith, sym e)

@@ -1,4 +1,4 @@
--- What stands on the laws of specs/RenumberedFits.antt: moved here whole, so that a wrong definition there is refused by these proofs.
+-- The theorems that rest on specs/RenumberedFits.antt. They stand here so that a wrong definition there is refused by a proof.
 use Prim.Native.Nat.{ℕ, suc, ◌-◌, ◌<◌}
 use Rattle.std.proofs.Common.{arith, ◌∙◌, ext_get_or}
 use Rattle.std.specs.Prelude.{◌≡◌, Bool, not, get_or}

@@ -1,4 +1,4 @@
--- What stands on the laws of specs/RouteNumbers.antt: moved here whole, so that a wrong definition there is refused by these proofs.
+-- The theorems that rest on specs/RouteNumbers.antt. They stand here so that a wrong definition there is refused by a proof.
 use Prim.Native.Nat.{ℕ, suc, ◌-◌, ◌≤◌, ◌<◌}
 use native.Mathlib.Omega.{arith}
 use Rattle.std.proofs.Common.{sym, ◌∙◌, ext_get_or}
@@ -9,6 +9,7 @@ use Rattle.lists.specs.Test.{given}
 use Rattle.model_files.specs.Routes.{new_number, way_back}
 use Rattle.theory_renamed.specs.RouteNumbers.{Names, back_at, back_names, number_most, number_pos, old_suc, place_of, places, stand_at_law}
 
+-- the new number by the way back is the stand at that place
 module _ (route : List ℕ) (n : ℕ) (N : Names route n) where
   abbrev old_place : ℕ → ℕ
   old_place j = get_or route j 0 - 1

@@ -1,4 +1,4 @@
--- What stands on the laws of specs/StoredFiles.antt: moved here whole, so that a wrong definition there is refused by these proofs.
+-- The theorems that rest on specs/StoredFiles.antt. They stand here so that a wrong definition there is refused by a proof.
 use Rattle.std.specs.Prelude.{ℕ, ◌+◌, ◌*◌, ◌≤◌, ◌≡◌, cond, List, ◌++◌, length, T}
 use Rattle.std.proofs.Common.{arith, sym, ap, ◌∙◌, subst, length-append}
 use Rattle.lists.specs.Test.{given, T_true}
@@ -16,6 +16,7 @@ use Rattle.theory_renamed.specs.RenumberedFits.{renumbered_counts}
 use Rattle.theory_renamed.proofs.RenumberedFits.{fits_renumbered, totals_renumbered, renumbered_back}
 use Rattle.theory_renamed.specs.StoredFiles.{Undoes, route_forth, store_undone, stored_parts}
 
+-- ---- the length stays
 size : (s : Roster) → T (fits s)
     → length (write_roster s) ≡ surveyor_count s + stand_count s + 6 + (surveyor_count s + 2 * total_s s.lists_s) + (2 * stand_count s + 2 * total_t s.lists_t)
 unfolding write_roster_by
@@ -81,6 +82,7 @@ module _ (by back : List ℕ → List ℕ) (U : Undoes by back) (f g : List ℕ)
       given (roster_size_law S.r S.fit) (λ c.
       given S.few (λ d. (omega arith, omega arith))))))))
 
+-- "unstoring gives the original bytes", and storing again what was unstored gives those
 module _ (f g : List ℕ) (is_b : T (is_bytes f)) where
   pub store_unstore : store_of f ≡ accepted g → unstore_of g ≡ accepted f
   unfolding store_of unstore_of

@@ -85,8 +85,6 @@ module _ (K A B : Side) (S : Beside K A B) where
   pub deg_b : (P : ℕ → Bool) (v : ℕ) → v < B.n → deg B (second P) v ≡ deg K P (A.n + v)
   deg_b P v l = part_deg B K (λ e. A.m + e) v (A.n + v) (part_b v l) P
 
-  -- ---- the side's votes add up
-
   pub quotas_add : sum K.quota (up_to K.n) ≡ sum A.quota (up_to A.n) + sum B.quota (up_to B.n)
   quotas_add = ap (λ n. sum K.quota (up_to n)) S.nodes ∙ sum_split K.quota A.n B.n
       ∙ ap₂ ◌+◌ (sum_cong K.quota A.quota (up_to A.n) (λ v i. S.quota_a v (up_to_< A.n i)))

@@ -70,4 +70,3 @@ module _ (r q : Roster) (okr : T (fits r)) (okq : T (fits q)) (room : Room r q) 
   -- its bytes: the count of all these pairs, and then the pairs
   pub bytes_joined : (M N : Plan) → length M ≡ G.m → plan_bytes (instance_of J) (M ++ N) ≡ pairs_bytes (pairs_beside r (plan_pairs G M) (plan_pairs H N))
   bytes_joined M N l = plan_bytes_law (instance_of J) (M ++ N) ∙ ap pairs_bytes (pairs_joined M N l)
-  -- ---- what the finder answers: a plan exactly when it does for both, and then the two side by side

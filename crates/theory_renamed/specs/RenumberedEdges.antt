@@ -10,8 +10,6 @@ use Rattle.model.specs.PlanFile.{name_of, edge_of_pair}
 use Rattle.model_files.specs.Routes.{renumbered, way_back, pair_by}
 use Rattle.theory_renamed.specs.RouteNumbers.{Names}
 
--- ---- a listed pair is an edge
-
 -- ---- an edge and the one that it becomes
 pub record Becomes (route : List ℕ) (G H : Instance) (e u : ℕ) : Type 0 where
   pub into : u < H.m

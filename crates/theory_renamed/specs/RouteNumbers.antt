@@ -202,5 +202,3 @@ module _ (route : List ℕ) (n : ℕ) (N : Names route n) where
             u.0 (subst (λ z. z ∈ xs) (numbers_differ y x c d a b e) k))))),
         all_differ xs u.1 (λ s k. h s (Memᴰ.tail k)),
       )
-
--- the new number by the way back is the stand at that place

@@ -52,8 +52,6 @@ route_forth route rest h = ap (λ b. refuse_if b 2 (accepted (length route, rout
     (T_false {b = ltb node_limit (length route)} (le→nltb node_limit (length route) h))
     ∙ numbers_forth route rest
 
--- ---- the length stays
-
 -- ---- a file that is not refused
 pub record Stores (by : List ℕ → List ℕ) (f g : List ℕ) : Type 0 where
   pub route : List ℕ
@@ -104,8 +102,6 @@ pub record Undoes (by back : List ℕ → List ℕ) : Type 0 where
 -- unstoring is the way back of storing
 pub store_undone : Undoes (λ route. route) way_back
 store_undone = record { names = λ route n N. N; is = λ route n N. refl }
-
--- "unstoring gives the original bytes", and storing again what was unstored gives those
 
 -- ---- the same refusals
 refused_alike : (by back : List ℕ → List ℕ) (f : List ℕ) (n : ℕ) → route_first by (read_route f) ≡ refused n → route_first back (read_route f) ≡ refused n

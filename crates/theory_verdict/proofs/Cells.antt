@@ -1,4 +1,4 @@
--- What stands on the laws of specs/Cells.antt: moved here whole, so that a wrong definition there is refused by these proofs.
+-- The theorems that rest on specs/Cells.antt. They stand here so that a wrong definition there is refused by a proof.
 use Prim.Native.Nat.{ℕ, zero, suc, ◌<◌}
 use native.Mathlib.Omega.{arith}
 use Rattle.std.specs.Prelude.{◌≡◌, Bool, not, ◌&&◌, T, eqb}
@@ -26,6 +26,7 @@ module _ (G : Instance) (M : ℕ → Bool) where
   ∈_new : (p : ℕ → Bool) {f : ℕ} → f ∈ news G M p → New G M f × T (p f)
   ∈_new p {f} m = let (k, t) = ∈_keep (λ f. not (M f) && p f) (range 0 G.m) m in ((∈_below G M k, and_l (not (M f)) (p f) t), and_r (not (M f)) (p f) t)
 
+  -- ---- the ends of one side: z is lost there, or gives way to an edge with room at its other side
   module _ (K J : Side) (z : ℕ) where
     joins_∈ : {f : ℕ} → New G M f → deg J M (J.end f) < J.quota (J.end f) → K.end f ≡ K.end z → gain f ∈ ways G M K J z
     joins_∈ {f} n r e = Memᴰ.tail (Memᴰ.map gain (new_∈ (joins? M K J z) n

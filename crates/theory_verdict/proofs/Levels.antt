@@ -1,4 +1,4 @@
--- What stands on the laws of specs/Levels.antt: moved here whole, so that a wrong definition there is refused by these proofs.
+-- The theorems that rest on specs/Levels.antt. They stand here so that a wrong definition there is refused by a proof.
 use Prim.Native.Nat.{ℕ, suc, ◌+◌, ◌*◌, ◌≤◌, ◌<◌}
 use Rattle.std.proofs.Common.{arith}
 use Rattle.std.specs.Prelude.{refl}
@@ -22,6 +22,7 @@ module _ (G : Instance) (M : ℕ → Bool) where
     abbrev Beats : Hit → Type 0
     Beats h = Rival G M (rival_by M h) 1 k
 
+    -- ---- no edge has room at both ends
     module _ (none : NoDirect G M) where
       pub alone_ok : Answer Beats (PathsCostAtLeast G M k 1) (alone_at G M lid k)
       unfolding alone_at

@@ -1,4 +1,4 @@
--- What stands on the laws of specs/Levels.antt: moved here whole, so that a wrong definition there is refused by these proofs.
+-- The levels one after the other, and the whole search: on Levels.
 use Prim.Native.Nat.{ℕ, zero, suc, ◌+◌, ◌*◌, ◌≤◌}
 use Rattle.std.proofs.Common.{arith}
 use Rattle.std.specs.Prelude.{◌≡◌, length}

@@ -1,4 +1,4 @@
--- What stands on the laws of specs/Rival.antt: moved here whole, so that a wrong definition there is refused by these proofs.
+-- The theorems that rest on specs/Rival.antt. They stand here so that a wrong definition there is refused by a proof.
 use Prim.Native.Nat.{ℕ, ◌≤◌}
 use Rattle.std.proofs.Common.{arith, ◌∙◌}
 use Rattle.std.specs.Prelude.{◌≡◌, Bool, not, ◌<ℤ◌, T}

@@ -1,4 +1,4 @@
--- What stands on the laws of specs/Verdict.antt: moved here whole, so that a wrong definition there is refused by these proofs.
+-- The theorems that rest on specs/Verdict.antt. They stand here so that a wrong definition there is refused by a proof.
 use Rattle.std.specs.Prelude.{ℕ, ◌+◌, ◌*◌, ◌≤◌, ◌≡◌, Bool, length, ◌≤ℤ◌, ◌<ℤ◌}
 use Rattle.std.proofs.Common.{arith}
 use Rattle.std.proofs.Math.Option.{Option, or_else, Option-elim}

@@ -28,8 +28,6 @@ module _ (G : Instance) (M : ℕ → Bool) where
   pub ∈_old : {x : ℕ} → x ∈ olds G M → Old G M x
   ∈_old m = let (k, t) = ∈_keep M (range 0 G.m) m in (∈_below k, t)
 
-  -- ---- the ends of one side: z is lost there, or gives way to an edge with room at its other side
-
   module _ (lid : ℕ) where
     -- ---- the layers
     pub next : (n : ℕ) → Next G M lid (arc G M lid) (walk_price G M lid n) (trace G M lid n) (walk_price G M lid (suc n)) (trace G M lid (suc n))

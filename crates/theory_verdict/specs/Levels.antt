@@ -67,4 +67,3 @@ module _ (G : Instance) (M : ℕ → Bool) where
 
         room_t : ℕ → Bool
         room_t = room? M (stands G)
-        -- ---- no edge has room at both ends

@@ -1,4 +1,4 @@
--- What stands on the laws of specs/Greedy.antt: moved here whole, so that a wrong definition there is refused by these proofs.
+-- The theorems that rest on specs/Greedy.antt. They stand here so that a wrong definition there is refused by a proof.
 use Rattle.std.specs.Prelude.{ℕ, ◌+◌, ◌≤◌, ◌<◌, ◌≡◌, refl, Bool, false, cond, List, [], ◌∷◌, map, length, T, eqb}
 use Rattle.std.proofs.Common.{zero-le, arith, sym, ap, subst, inl, inr, leb→le, le→leb, eqb→eq}
 use Rattle.std.proofs.Math.Decide.{dec_lt}
@@ -60,6 +60,7 @@ picks_sorted (y ∷ ys) s = (
 abbrev val : ℕ → List ℕ → ℕ × List ℕ → ℕ
 val x xs p = rate x p.0 + least_sum xs p.1
 
+-- ---- it has the two lists for columns and reaches the least sum
 pub greedy_reaches : (xs ys : List ℕ) → length xs ≡ length ys → Columns own xs ys (greedy xs ys) × (cost own (greedy xs ys) ≤ least_sum xs ys)
 unfolding greedy least_sum
 greedy_reaches [] [] l = (record { on_left = λ φ. refl; on_right = λ φ. refl }, zero-le)
@@ -94,6 +95,7 @@ chosen_least x xs ys l = go (some_can x xs ys l)
         let ok = first_ok (can x xs ys) (picks ys) q m t in
         omega (arith, leb→le (val x xs p) (least_sum (x ∷ xs) ys) ok.1, least_pick x xs ys p ok.0)
 
+-- ---- an other rank better than all own ones can be faced by the best own one, untried: who faced it faces what that one did, at no higher rate
 module _ (x : ℕ) (xs : List ℕ) (sx : Sorted own (x ∷ xs)) (y : ℕ) where
   exchanged : (z : ℕ) (zs ys : List ℕ) → length xs ≡ length (y ∷ zs) → ((φ : ℕ → ℕ) → sum φ ys ≡ φ z + sum φ zs)
       → least_sum xs ys ≤ rate x z + least_sum xs (y ∷ zs)
@@ -137,6 +139,7 @@ module _ (x : ℕ) (xs : List ℕ) (sx : Sorted own (x ∷ xs)) (y : ℕ) where
             ap (val x xs) e,
           ))
 
+-- ---- it is not greater than any list in order that does
 abbrev Small : List ℕ → Type 0
 Small ys = (y : ℕ) → y ∈ ys → y < 64
 

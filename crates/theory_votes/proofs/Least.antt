@@ -1,4 +1,4 @@
--- What stands on the laws of specs/Least.antt: moved here whole, so that a wrong definition there is refused by these proofs.
+-- The theorems that rest on specs/Least.antt. They stand here so that a wrong definition there is refused by a proof.
 use Rattle.std.specs.Prelude.{ℕ, ◌+◌, ◌≤◌, ◌<◌, ◌≡◌, refl, ◌⊎◌, List, [], ◌∷◌, map, length}
 use Rattle.std.proofs.Common.{arith, ap, subst, inl, inr, append-nil}
 use Rattle.std.proofs.Math.Decide.{dec_lt}

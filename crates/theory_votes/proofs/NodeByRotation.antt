@@ -1,4 +1,4 @@
--- What stands on the laws of specs/NodeByRotation.antt: moved here whole, so that a wrong definition there is refused by these proofs.
+-- The theorems that rest on specs/NodeByRotation.antt. They stand here so that a wrong definition there is refused by a proof.
 use Rattle.std.specs.Prelude.{ℕ, ◌+◌, ◌-◌, ◌*◌, ◌≤◌, ◌<◌, max, ◌≡◌, Bool, ◌&&◌, leb, ◌+ℤ◌}
 use native.Mathlib.Omega.{arith}
 use Rattle.std.proofs.Math.Decide.{dec_lt}

@@ -1,4 +1,4 @@
--- What stands on the laws of specs/NodePairs.antt: moved here whole, so that a wrong definition there is refused by these proofs.
+-- The theorems that rest on specs/NodePairs.antt. They stand here so that a wrong definition there is refused by a proof.
 use Prim.Native.Nat.{ℕ, ◌+◌, ◌-◌, ◌*◌, ◌≤◌, ◌<◌, max}
 use native.Mathlib.Omega.{arith}
 use Rattle.std.proofs.Math.Decide.{dec_lt}
@@ -37,6 +37,7 @@ use Rattle.theory_votes.proofs.PairingPairs as PLaws
 use Rattle.theory_votes.specs.Lift.{lift}
 use Rattle.theory_votes.specs.Reaching as R
 
+-- ---- pairs that both lists have
 with_all : (cs xs ys : List (ℕ × ℕ)) → length xs ≡ length ys → LexLe (by_key xs) (by_key ys) → LexLe (by_key (cs ++ xs)) (by_key (cs ++ ys))
 with_all [] xs ys l h = h
 with_all (c ∷ cs) xs ys l h = put_mono c (by_key (cs ++ xs)) (by_key (cs ++ ys))
@@ -130,6 +131,7 @@ module _ (K : Side) (M N : ℕ → Bool) (v : ℕ) (placed : (e : ℕ) → e < K
     unfolding mark
     marks r = sym (sum_map (λ c. rate c.0 c.1) (rank_pair K.rank) r)
 
+    -- ---- a pairing that reaches the vote
     module _ (r : Pairing) (i : r ∈ reaching K M N v) where
       among : r ∈ pairings (places_at K M v) (places_at K N v)
       among = R.among K M N v placed hM hN r (R.is_valid K M N v placed hM hN r i)

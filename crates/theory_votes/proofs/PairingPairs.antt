@@ -1,4 +1,4 @@
--- What stands on the laws of specs/PairingPairs.antt: moved here whole, so that a wrong definition there is refused by these proofs.
+-- The theorems that rest on specs/PairingPairs.antt. They stand here so that a wrong definition there is refused by a proof.
 use Rattle.std.specs.Prelude.{ℕ, ◌+◌, ◌-◌, ◌*◌, ◌≤◌, ◌<◌, ◌≡◌, Bool, not, List, [], ◌∷◌, map, replicate}
 use native.Mathlib.Omega.{arith}
 use Rattle.std.proofs.Math.Path.{refl, sym, ap}
@@ -156,6 +156,7 @@ module _ (K : Side) (M N : ℕ → Bool) (v : ℕ) where
         (fixed_sum K M N v) φ,
       )
 
+      -- ---- the columns of u
       module _ (xs ys : List ℕ) (hx : (φ : ℕ → ℕ) → sum φ xs ≡ sum (λ e. φ (K.rank e)) (alone K v M N))
           (hy : (φ : ℕ → ℕ) → sum φ ys ≡ sum (λ e. φ (K.rank e)) (alone K v N M)) where
         keeps : (b : Bool) (x y : ℕ) → x ≡ y → pk (not b && true) x ≡ pk (not b) y + 0

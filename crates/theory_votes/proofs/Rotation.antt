@@ -1,4 +1,4 @@
--- What stands on the laws of specs/Rotation.antt: moved here whole, so that a wrong definition there is refused by these proofs.
+-- The theorems that rest on specs/Rotation.antt. They stand here so that a wrong definition there is refused by a proof.
 use Rattle.std.specs.Prelude.{ℕ, ◌+◌, ◌-◌, ◌≤◌, ◌<◌, ◌≡◌, List, [], ◌∷◌, length}
 use Rattle.std.proofs.Common.{arith, sym, ◌∙◌}
 use Rattle.lists.specs.Sum.{◌∈◌, sum, sum_length, sum_zeros}

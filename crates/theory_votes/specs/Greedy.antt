@@ -64,12 +64,6 @@ some_can x xs (y ∷ ys) l =
     first : ◌∈◌ {A = ℕ × List ℕ} (y, ys) (picks (y ∷ ys))
     first = Memᴰ.head refl
 
--- ---- it has the two lists for columns and reaches the least sum
-
 pub least_pick : (x : ℕ) (xs ys : List ℕ) (p : ℕ × List ℕ) → p ∈ picks ys → least_sum (x ∷ xs) ys ≤ rate x p.0 + least_sum xs p.1
 unfolding least_sum
 least_pick x xs ys p m = least_of_≤ (map (val x xs) (picks ys)) (val x xs p) (Memᴰ.map (val x xs) m)
-
--- ---- an other rank better than all own ones can be faced by the best own one, untried: who faced it faces what that one did, at no higher rate
-
--- ---- it is not greater than any list in order that does

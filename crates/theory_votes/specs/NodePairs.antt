@@ -13,8 +13,6 @@ use Rattle.theory_votes.specs.RankPairs.{by_key}
 use Rattle.theory_votes.specs.Greedy.{greedy}
 use Rattle.theory_votes.specs.PairingPairs as P
 
--- ---- pairs that both lists have
-
 module _ (K : Side) (M N : ℕ → Bool) (v : ℕ) (placed : (e : ℕ) → e < K.m → K.rank e < empty_rank) (hM : deg K M v ≤ K.quota v)
     (hN : deg K N v ≤ K.quota v) where
   abbrev k : ℕ
@@ -31,4 +29,3 @@ module _ (K : Side) (M N : ℕ → Bool) (v : ℕ) (placed : (e : ℕ) → e < K
 
     abbrev pub given : List (ℕ × ℕ)
     given = by_key (fixed ++ chosen)
-    -- ---- a pairing that reaches the vote

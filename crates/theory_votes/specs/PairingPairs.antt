@@ -48,7 +48,6 @@ module _ (K : Side) (M N : ℕ → Bool) (v : ℕ) where
     module _ (r : Pairing) (m : r ∈ pairings (places_at K M v) (places_at K N v)) (f : Fair M N (places_at K M v) (places_at K N v) r) where
       unfoldable pub u : List (ℕ × ℕ)
       u = pairs_of (keep plain r)
-      -- ---- the columns of u
 
     -- ---- ranks are low, lists have the quota's length
     pub low_rank : (r : Pairing) → Fair M N (places_at K M v) (places_at K N v) r → Low (pairs_of r)
