@@ -1,6 +1,6 @@
 -- What a desk holds, "nothing loaded, a roster, or a roster and a plan", and a proposal beside a plan (W-207): defined by reading its bytes. The empty
 -- file is refused by both readers, so a length of 0 is nothing loaded, no plan, or no proposal.
-use Rattle.std.specs.Prelude.{ℕ, ◌≡◌, refl, Bool, false, cond, ◌&&◌, List, [], take, replicate, T}
+use Rattle.std.specs.Prelude.{ℕ, ◌≡◌, refl, Bool, cond, ◌&&◌, List, [], take, replicate, T}
 use Rattle.std.proofs.Common.{sym, ap, ap₂, subst}
 use Rattle.model.specs.Limits.{pairing_size}
 use Rattle.model.specs.Reading.{Reading, accepted, refused}

@@ -1,6 +1,8 @@
 // The files of a desk, as bytes at the front of their arrays. What they hold is said by the bytes alone, so any field values may come in: a length above
 // its array is cut to it, bytes that are no roster are nothing loaded, bytes that are no plan of the roster are no plan held, and beside a plan held
 // bytes that are no plan of the roster are no proposal. And the lengths of what is lent to a call, and of what it writes.
+#![tactic(auto)]
+
 ghost use Rattle.std.specs.Prelude.{◌≡◌, ◌||◌, ◌≤◌, length, take, ltb};
 ghost use Rattle.model.specs.Limits.{plan_size, diary_size, left_size};
 ghost use Rattle.model_desk.specs.Desk.{onto};
@@ -13,7 +15,7 @@ use desk_loaded::OnDesk;
 use limits::{DIARY_SIZE, LEFT_SIZE, PAIR_WIDTH, PLAN_SIZE, ROSTER_SIZE};
 
 #[repr(C)]
-#[derive(Drop)]
+#[derive(Clone, Copy)]
 pub struct Files {
     pub roster_len: usize,
     pub roster: [u8; ROSTER_SIZE],
