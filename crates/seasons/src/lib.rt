@@ -1,6 +1,8 @@
 // Old season files, rosters: request W-205 of document 02. "An old file becomes a new one with shift 1 throughout, and a new file with only
 // shift 1 goes back to the identical old bytes." Both calls take any bytes and any buffer, and use no desk: "A call that takes a roster as a
 // file (..) needs none loaded". Plans of old seasons are judged against the held roster, so they are calls on the desk.
+#![tactic(auto)]
+
 ghost use Rattle.std.specs.Prelude.{◌≤◌, length};
 ghost use Rattle.model.specs.Limits.{roster_size};
 ghost use Rattle.model_desk.specs.Seasons.{to_new, to_old};

@@ -1,0 +1,9 @@
+-- `seasons::roster_to_old` meets its contract. Assumes nothing.
+use Rattle.std.proofs.Common.{arith, true}
+use Rattle.seasons.specs.Converting.{converts}
+use Rattle.seasons.proofs.roster_to_old.Goals as goal
+
+pub returns : goal.returns
+returns c =
+    converts true c.args.file.now c.args.out.now (λ i. omega (arith, c.type_inv.file i))
+    c.converted.ensures
