@@ -162,7 +162,8 @@ impl<'a> Book<'a> {
             let Some(owner) = library.crate_of(d.file) else {
                 continue;
             };
-            let shown = d.public && self.names.is_law(decl) && !library.files[d.file].path.contains(".proofs");
+            let lemma = library.files[d.file].path.contains(".proofs") && library.proves_functions(owner);
+            let shown = d.public && self.names.is_law(decl) && !lemma;
             if !shown || library.files[d.file].path.ends_with("Cases") {
                 continue;
             }

@@ -75,9 +75,14 @@ impl Book<'_> {
 
     /// The files of a crate's definitions and laws.
     fn crate_files(&self, name: &str) -> String {
-        let head = format!("Rattle.{name}.specs.");
-        let files = self.library().files.iter().filter_map(|f| f.path.strip_prefix(&head));
-        files.collect::<Vec<_>>().join(", ")
+        let mut told: Vec<&str> = Vec::new();
+        for part in ["specs", "proofs"] {
+            let head = format!("Rattle.{name}.{part}.");
+            told.extend(self.library().files.iter().filter_map(|f| f.path.strip_prefix(&head)));
+        }
+        told.sort();
+        told.dedup();
+        told.join(", ")
     }
 
     /// One row a crate, from the first comment of its code; without code its files are what it has.

@@ -112,16 +112,25 @@ impl Library {
         Ok(names)
     }
 
+    /// Whether a crate's proofs are those of its functions, each in a folder. Without functions they are theorems, as its specs have them.
+    pub fn proves_functions(&self, name: &str) -> bool {
+        let inside = std::fs::read_dir(self.root.join("crates").join(name).join("proofs"));
+        inside.is_ok_and(|mut all| all.any(|e| e.is_ok_and(|e| e.path().is_dir())))
+    }
+
     fn read_crate(&mut self, name: &str, folder: &Path) -> std::io::Result<()> {
-        let base = folder.join("specs");
-        for place in files_below(&base, "antt") {
-            let inner = place.strip_prefix(&base).unwrap_or(&place).with_extension("");
-            let inner = inner.to_string_lossy().replace('/', ".");
-            let path = match inner.as_str() {
-                "Lib" => format!("Rattle.{name}.specs"),
-                _ => format!("Rattle.{name}.specs.{inner}"),
-            };
-            self.read_file(&path, place)?;
+        let parts = if self.proves_functions(name) { &["specs"][..] } else { &["specs", "proofs"][..] };
+        for part in parts {
+            let base = folder.join(part);
+            for place in files_below(&base, "antt") {
+                let inner = place.strip_prefix(&base).unwrap_or(&place).with_extension("");
+                let inner = inner.to_string_lossy().replace('/', ".");
+                let path = match inner.as_str() {
+                    "Lib" => format!("Rattle.{name}.{part}"),
+                    _ => format!("Rattle.{name}.{part}.{inner}"),
+                };
+                self.read_file(&path, place)?;
+            }
         }
         for place in files_below(&folder.join("src"), "rt") {
             let text = (self.change)(&place, std::fs::read_to_string(&place)?);
@@ -382,8 +391,8 @@ impl Library {
     pub fn named(&self, told: &str) -> Option<usize> {
         let (place, name) = told.split_once('.')?;
         let (owner, file) = place.split_once('/')?;
-        let path = format!("Rattle.{owner}.specs.{file}");
-        self.find(&path, name).and_then(Target::decl)
+        let in_part = |part: &&str| self.find(&format!("Rattle.{owner}.{part}.{file}"), name);
+        ["specs", "proofs"].iter().find_map(in_part).and_then(Target::decl)
     }
 
     /// `crate/File.name` of a declaration, for a reader.

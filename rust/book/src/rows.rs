@@ -36,8 +36,9 @@ fn definition(library: &Library, told: &str) -> Option<usize> {
         return library.named(told);
     }
     let (file, name) = told.split_once('.')?;
-    let ending = format!(".specs.{file}");
-    let mut files: Vec<usize> = (0..library.files.len()).filter(|&f| library.files[f].path.ends_with(&ending)).collect();
+    let endings = [format!(".specs.{file}"), format!(".proofs.{file}")];
+    let fits = |f: &usize| endings.iter().any(|e| library.files[*f].path.ends_with(e));
+    let mut files: Vec<usize> = (0..library.files.len()).filter(fits).collect();
     files.sort_by_key(|&f| !library.crate_of(f).is_some_and(|c| c.starts_with("model")));
     files.into_iter().find_map(|f| library.find(&library.files[f].path, name)?.decl())
 }
