@@ -1,0 +1,12 @@
+-- `desk_intake::with_proposal` meets its contract. Assumes nothing.
+use Rattle.std.proofs.Common.{refl, rules}
+use Rattle.desk_intake.specs.Front.{front_copied, front_room}
+use Rattle.desk_intake.proofs.with_proposal.Goals as goal
+
+pub returns : goal.returns
+returns c =
+    let a = c.args in
+    ((refl, refl), (refl, refl), front_copied a.file.now a.files.proposal c.copy.ensures.0 c.copy.ensures.1)
+
+pub copy-requires : goal.copy-requires
+copy-requires c = front_room c.args.file.now c.args.files.proposal c.requires (search rules)
