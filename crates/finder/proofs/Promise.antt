@@ -1,5 +1,5 @@
 -- The theorems that rest on specs/Promise.antt. They stand here so that a wrong definition there is refused by a proof.
-use Rattle.std.specs.Prelude.{ℕ, ◌≤◌, ◌<◌, ◌≡◌, ◌≢◌, ◌↔◌, Bool, true, false, not, List, [], ◌∷◌, map, length, ℤ, pos, ◌≤ℤ◌, ◌<ℤ◌, eqb}
+use Rattle.std.specs.Prelude.{ℕ, ◌≤◌, ◌≡◌, Bool, true, false, not, List, [], ◌∷◌, length, ℤ, pos, ◌≤ℤ◌, ◌<ℤ◌}
 use Rattle.std.proofs.Math.Path.{refl}
 use Rattle.std.proofs.Common.{sym, ◌∙◌, subst}
 use mathlib.Core.List.Memᴰ
@@ -7,29 +7,23 @@ use Rattle.std.proofs.Math.ListN.{length-map}
 use Rattle.std.specs.Int.Signed.{≤ℤ_refl}
 use Rattle.std.proofs.Math.Dec.{T}
 use Rattle.lists.specs.Sum.{◌∈◌}
-use Rattle.lists.specs.Distinct.{Nodup}
 use Rattle.lists.specs.Integer.{<→≤}
 use Rattle.model.specs.Roster.{Roster, fits}
 use Rattle.model.specs.Edges.{instance_of}
 use Rattle.model.specs.Instance.{Instance}
 use Rattle.model.specs.Plans as P
 use Rattle.model.specs.Plans.{Plan, on, plans_of, same_plan, Verdict, is_strong, vote_of, verdict_of, strong_plans, strong_count, Beaten}
-use Rattle.model.specs.PlanFile.{pair_list, plan_bytes}
-use Rattle.model.specs.Reduction.{Step, Rule, rules, steps_of, end_of}
-use Rattle.model.specs.Blocking.{some_blocks}
+use Rattle.model.specs.PlanFile.{plan_bytes}
+use Rattle.model.specs.Reduction.{steps_of}
 use Rattle.model.specs.Finder as F
 use Rattle.model.specs.Finder.{Record, diary_of, left_of, candidate_of, Rival, Found, found, is_empty, finder_of, hands_back, PairOf, pair_in}
-use Rattle.model_desk.specs.Desk.{Lends, onto, found_answer, found_written}
+use Rattle.model_desk.specs.Desk.{onto}
 use Rattle.theory_verdict.specs.Rival.{rival_of}
 use Rattle.theory_verdict.specs.Meaning.{verdict_means}
 use Rattle.theory_files.specs.RosterInstance.{lawful}
 use Rattle.theory_finder.specs.FoundPlan.{Answers, candidate_plan}
 use Rattle.theory_finder.specs.DiaryPairs.{diary_pairs, diary_once, diary_all}
 use Rattle.theory_finder.specs.Demand3.{rival_holds, only_popular, unblocked, demand3}
-use Rattle.answers.specs.declared.Found as code
-use Rattle.answers.specs.declared.Found.TheVariants as says
-use Rattle.answers.specs.declared.NoneKind.TheVariants as kind
-use Rattle.answers.specs.FinderCases.{found_shown}
 use Rattle.finder_candidate.specs.FoundBuffers.{left_after, plan_after, rival_after, answer_for}
 use Rattle.finder.specs.Promise.{Ending, PlanWritten, Promise, RivalWritten, answer, finds, is_none, is_plan, named, steps_are}
 
