@@ -1,5 +1,7 @@
 // The comparison of two plan files against the arrays of an accepted roster: both votes and the winner, and the pairings of both votes (W-208) at
 // the fronts of two buffers. The first file is judged in full before the second.
+#![tactic(auto)]
+
 ghost use Rattle.std.specs.Prelude.{◌≡◌, ◌≤◌, length};
 ghost use Rattle.model.specs.Limits.{pairing_size};
 ghost use Rattle.model.specs.Plans.{vote_of};
