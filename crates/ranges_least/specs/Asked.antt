@@ -1,5 +1,5 @@
 -- The question and its answer over an instance: two plan files, then the ranges; the least vote and the choice that reaches it.
-use Rattle.std.specs.Prelude.{ℕ, zero, suc, ◌+◌, ◌*◌, ◌≤◌, ◌<◌, ◌≡◌, Bool, true, List, ◌++◌, length, take, drop, T, ℤ}
+use Rattle.std.specs.Prelude.{ℕ, zero, suc, ◌*◌, ◌≤◌, ◌<◌, ◌≡◌, Bool, true, List, ◌++◌, length, take, drop, T, ℤ}
 use Rattle.std.proofs.Common.{arith, sym, ap, ap₂, ◌∙◌, subst, length-take-le, get_or-take, ext_get_or}
 use Rattle.std.proofs.Math.Path.{refl, fun_ext}
 use Rattle.std.proofs.Math.Seq.{take-length}
@@ -19,8 +19,6 @@ use Rattle.theory_ranges.specs.Falls.{with_ranks}
 use Rattle.theory_ranges.specs.Worst.{entry_s, entry_t, ranked_by, worst_by, worst_choice, worst_length, worst_choice_law, choice_placed}
 use Rattle.theory_ranges.specs.RosterPlaces.{entries_twice}
 use Rattle.theory_ranges.specs.RangesFile.{ranges_refusal, ranges_of, reading_by, read_is, Taken, taken, taken_fit}
-use Rattle.instance.specs.declared.Instance.{Instance}
-use Rattle.instance.specs.Decoded.{shown_by}
 use Rattle.plan_reader.specs.declared.PlanRead.{PlanRead}
 use Rattle.plan_reader.specs.declared.PlanAnswer.TheVariants as plan
 use Rattle.plan_reader.specs.Answers.{ReadAs, accepted_read, refused_read}

@@ -1,5 +1,7 @@
 // The least vote of one plan file against another over rankings not yet settled (W-211), against the arrays of an accepted roster: "The plans are
 // checked first, then the ranges left to right." The choice that reaches it goes to the front of a buffer. Votes never ask for strict ranks.
+#![tactic(auto)]
+
 ghost use Rattle.std.specs.Prelude.{ℕ, ◌*◌, ◌≤◌, ◌<◌, ◌≡◌, length, take};
 ghost use Rattle.model.specs.Limits.{empty_rank, choice_size};
 ghost use Rattle.model.specs.Vote.{vote};
