@@ -1,5 +1,7 @@
 // Two districts on one tablet: request W-210 of document 02. "Joining two rosters puts the second's surveyors and stands after the first's,
 // numbers moved up." The call takes any bytes and any buffer, and uses no desk.
+#![tactic(auto)]
+
 ghost use Rattle.std.specs.Prelude.{◌≤◌, length};
 ghost use Rattle.model.specs.Limits.{roster_size};
 ghost use Rattle.model_files.specs.Districts.{joined_file};
