@@ -1,6 +1,6 @@
 -- What storing and unstoring promise: the model's answer and bytes, that the other way undoes it, and of the renumbered roster, that its strongly
 -- popular plans and the finder's answers are those of before, renumbered.
-use Rattle.std.specs.Prelude.{ℕ, ◌+◌, ◌-◌, ◌≤◌, ◌<◌, ◌≡◌, refl, Bool, true, false, not, cond, List, ◌++◌, map, length, take, drop, get_or, T}
+use Rattle.std.specs.Prelude.{ℕ, ◌+◌, ◌≤◌, ◌<◌, ◌≡◌, refl, Bool, true, false, not, cond, List, ◌++◌, map, length, take, drop, get_or, T}
 use Rattle.std.proofs.Common.{arith, sym, ap, ap₂, ◌∙◌, subst, length-take, length-drop, take_all, take_at, T_not}
 use Rattle.std.proofs.Math.Dec.{not_T}
 use Rattle.lists.specs.Test.{given, T_true, T_false, true_t, false_t}

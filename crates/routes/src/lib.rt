@@ -1,6 +1,8 @@
 // Stored in walking order: request W-214 of document 02. "Storing takes one file, the route and then the roster; it renumbers and reorders the
 // stands by the route, the first named becoming 1 and so on, and keeps the route in front; unstoring gives the original bytes." Both calls take
 // any bytes and any buffer, and use no desk.
+#![tactic(auto)]
+
 ghost use Rattle.std.specs.Prelude.{◌≤◌, length};
 ghost use Rattle.model.specs.Limits.{node_limit, stored_size};
 ghost use Rattle.model_files.specs.Routes.{way_back, store_of, unstore_of};
