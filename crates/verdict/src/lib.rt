@@ -94,7 +94,12 @@ pub fn weighed(
         };
     }
     let listed = plan_lookup::list_edges(g.m, &rival);
-    let vote = voted(g, plan, n, es, &rival, listed, out);
+    let edges = listed.edges;
+    let again = Listed {
+        n: listed.n,
+        edges: edges,
+    };
+    let vote = voted(g, plan, n, es, &rival, again, out);
     WithRival {
         verdict: verdict_with(j.beaten, vote),
         rivalled: true,
