@@ -25,8 +25,7 @@ settled-requires c =
 pub returns-in-Refused : goal.returns-in-Refused
 returns-in-Refused c =
     let a = c.args in
-    let k = c.in-Refused.is in
-    profiles_refused a.file.now a.out.now (file_bytes (goal.at.returns-in-Refused c).After-slice_known-1) k.0.0 k.0.1.0 c.if-out-lt-PLAN_SIZE.false (sym k.1 ∙ c.read_roster-a.ensures)
+    profiles_refused a.file.now a.out.now (file_bytes (goal.at.returns-in-Refused c).After-slice_known-1) c.in-Refused.number c.in-Refused.group c.if-out-lt-PLAN_SIZE.false (sym c.in-Refused.is ∙ c.read_roster-a.ensures)
 
 pub returns-in-Accepted : goal.returns-in-Accepted
 returns-in-Accepted c =
