@@ -49,8 +49,8 @@ pub fn refused(number: u8) -> Outcome
 }
 
 // The lengths that go with an answer, by the count bytes in front of both buffers.
-pub(crate) fn written_lengths(answer: Found, plan: u8, rival: u8) -> Lengths
-    ensures { result ≡ lengths_in answer plan rival }
+pub(crate) fn written_lengths(answer: &Found, plan: u8, rival: u8) -> Lengths
+    ensures { result ≡ lengths_in answer.now plan rival }
 {
     match answer {
         Found::Plan(_) => Lengths {
@@ -79,7 +79,7 @@ pub(crate) fn worked(g: Instance, left: &mut [u8], plan: &mut [u8], rival: &mut 
     let sh = g.sh;
     let o = finder_run::find(g, left, &mut *plan, &mut *rival);
     let answer = o.answer;
-    let written = written_lengths(answer, plan[0], rival[0]);
+    let written = written_lengths(&answer, plan[0], rival[0]);
     let trace = o.trace;
     let flat = diary_records::flat_records(&sv, &st, &sh, trace);
     Outcome {

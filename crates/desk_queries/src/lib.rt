@@ -19,8 +19,8 @@ pub struct Judgement {
 }
 
 // The rival's length, by the verdict and the count byte in front of the buffer.
-pub(crate) fn rival_length(verdict: Verdict, pairs: u8) -> usize
-    ensures { result ≡ rival_in verdict pairs }
+pub(crate) fn rival_length(verdict: &Verdict, pairs: u8) -> usize
+    ensures { result ≡ rival_in verdict.now pairs }
 {
     match verdict {
         Verdict::Strong => 0,
@@ -51,9 +51,10 @@ pub fn judge(files: Files, rival: &mut [u8], pairings: &mut [u8]) -> Judgement
     let plan = l.plan;
     let edges = l.edges;
     let verdict = verdict::weigh_paired(l.g, &plan, l.n, &edges, &mut *rival, pairings);
+    let length = rival_length(&verdict, rival[0]);
     Judgement {
         verdict: verdict,
-        rival_length: rival_length(verdict, rival[0]),
+        rival_length: length,
     }
 }
 
