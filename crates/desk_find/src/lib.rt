@@ -81,12 +81,13 @@ pub(crate) fn worked(g: Instance, left: &mut [u8], plan: &mut [u8], rival: &mut 
     let answer = o.answer;
     let written = written_lengths(&answer, plan[0], rival[0]);
     let trace = o.trace;
+    let steps = trace.steps;
     let flat = diary_records::flat_records(&sv, &st, &sh, trace);
     Outcome {
         answer: answer,
         lengths: written,
         flat: flat,
-        steps: trace.steps,
+        steps: steps,
     }
 }
 

@@ -44,4 +44,4 @@ returns c =
     let F = c.loaded-l.ensures in
     judges d.files F d.rival.now d.pairings.now
     (judge_reply d.files F c.if-n-gt0.false d.rival.now d.pairings.now refl c.weigh_paired-verdict.ensures.weighed_for c.weigh_paired-verdict.ensures.paired_for)
-    (rival_held d.files F c.if-n-gt0.false d.rival.now _ _ c.weigh_paired-verdict.ensures.weighed_for c.rival_length_law.ensures)
+    (rival_held d.files F c.if-n-gt0.false d.rival.now _ _ c.weigh_paired-verdict.ensures.weighed_for c.rival_length-length.ensures)
