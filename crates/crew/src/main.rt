@@ -49,7 +49,8 @@ fn print_answer(rt: HostRuntime, input: &[u8]) -> io::Result<()> {
     let k = program::answer(input, &mut out);
     let written = rt.stdout().write_all(&out[..k]);
     if written.is_err() {
-        rt.stderr().write_all(b"crew: the answer cannot be written\n")?;
+        rt.stderr()
+            .write_all(b"crew: the answer cannot be written\n")?;
     }
     Ok(())
 }

@@ -1,4 +1,6 @@
 // Surveyors who join and leave in the field (request W-202): the finder on the desk's files behind the change, or the change's refusal.
+#![tactic(auto)]
+
 ghost use Rattle.std.specs.Prelude.{◌≤◌};
 ghost use Rattle.model_changes.specs.Changes.{leave_on};
 ghost use Rattle.desk_find.specs.Finding.{Settled};

@@ -1,4 +1,6 @@
 // Committing at the desk (request W-207): the open proposal in the held plan's place.
+#![tactic(auto)]
+
 ghost use Rattle.model_desk.specs.Desk.{commit};
 ghost use Rattle.answers.specs.ProposalCases.{commit_shown};
 ghost use Rattle.desk_files.specs.Replies.{Replied};

@@ -1,5 +1,7 @@
 // The finder on the roster that a desk holds, with a flat diary (crate diary): the state's refusal first. It stands below the desk,
 // and asks nothing of its caller; a user calls the desk.
+#![tactic(auto)]
+
 ghost use Rattle.std.specs.Prelude.{◌≤◌, ◌≡◌, length};
 ghost use Rattle.model.specs.Limits.{plan_size, left_size};
 ghost use Rattle.instance.specs.Decoded.{shown_by};

@@ -1,4 +1,6 @@
 // A file put in its place among the desk's files, by a load, a proposal or a commit.
+#![tactic(auto)]
+
 ghost use Rattle.std.specs.Prelude.{true, ◌≤◌, length};
 ghost use Rattle.model.specs.Limits.{plan_size, roster_size};
 ghost use Rattle.desk_files.specs.Replies.{RosterIn, PlanIn, ProposalIn, CommitIn};

@@ -1,4 +1,6 @@
 // Loading at the desk: a file that is accepted is taken in, a refused one leaves everything as it was.
+#![tactic(auto)]
+
 ghost use Rattle.model_desk.specs.Desk.{load_roster, load_plan};
 ghost use Rattle.answers.specs.FileCases.{file_shown};
 ghost use Rattle.desk_files.specs.Replies.{Replied};

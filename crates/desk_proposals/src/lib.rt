@@ -1,4 +1,6 @@
 // Proposing at the desk (request W-207): a plan file beside the held plan.
+#![tactic(auto)]
+
 ghost use Rattle.model_desk.specs.Desk.{propose};
 ghost use Rattle.answers.specs.ProposalCases.{proposal_shown};
 ghost use Rattle.desk_files.specs.Replies.{Replied};

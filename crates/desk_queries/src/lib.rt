@@ -1,4 +1,6 @@
 // Verdict, comparison, blocking pair and what is held: calls that leave the desk as it is, and write at most a rival and the pairings of their votes (W-208).
+#![tactic(auto)]
+
 ghost use Rattle.std.specs.Prelude.{◌≡◌};
 ghost use Rattle.model_desk.specs.Desk.{compare, blocking, holds, said, holding};
 ghost use Rattle.answers.specs.ComparisonCases.{comparison_shown};

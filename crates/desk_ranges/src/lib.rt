@@ -1,4 +1,6 @@
 // The least vote over rankings not yet settled (request W-211): a call that leaves the desk as it is, and writes a rank byte for each range.
+#![tactic(auto)]
+
 ghost use Rattle.desk_ranges.specs.Asking.{Asks};
 
 use answers::LeastVote;

@@ -1,5 +1,7 @@
 // Surveyors who join and leave in the field (request W-202): the changed roster stored in the desk's files, with it the held plan less a leaver's pairs,
 // and the proposal open or closed (W-207); or the refusal, and the files as they were.
+#![tactic(auto)]
+
 ghost use Rattle.std.specs.Prelude.{◌≡◌, take};
 ghost use Rattle.model.specs.Reading.{accepted};
 ghost use Rattle.model.specs.Roster.{Roster};

@@ -1,5 +1,7 @@
 // Bytes from the desk to a buffer, and how many: the roster held, the plan held, the open proposal, a plan of an old season in the layout of today or
 // back (request W-205), and a day for each entry of the plan held (W-209).
+#![tactic(auto)]
+
 ghost use Rattle.model_desk.specs.Desk.{write_roster_to, write_plan_to, write_proposal_to};
 ghost use Rattle.answers.specs.WrittenCases.{written_shown};
 ghost use Rattle.desk_files.specs.Replies.{Replied};

@@ -1,4 +1,6 @@
 // The candidate with its verdict: the plan that the fixed pairs are, written, weighed and answered.
+#![tactic(auto)]
+
 ghost use Rattle.std.specs.Prelude.{◌≤◌, length};
 ghost use Rattle.model.specs.Limits.{plan_size};
 ghost use Rattle.model.specs.Plans.{Plan};

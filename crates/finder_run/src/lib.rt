@@ -1,4 +1,6 @@
 // The finder on the arrays of an accepted roster: the reduction with its trace; then the pairs left, or, with none left, the candidate with its verdict.
+#![tactic(auto)]
+
 ghost use Rattle.std.specs.Prelude.{◌≤◌, length};
 ghost use Rattle.model.specs.Limits.{plan_size, left_size};
 ghost use Rattle.instance.specs.Loaded.{Loaded};

@@ -1,5 +1,7 @@
 // The one-to-one profile: request W-212 of document 02. "The call hands back this plan's bytes and whether it is strong"; "The roster comes as a file."
 // It takes any bytes and any buffer, and uses no desk: "A call that takes a roster as a file (..) needs none loaded" (W-205).
+#![tactic(auto)]
+
 ghost use Rattle.std.specs.Prelude.{◌≡◌, ◌≤◌, length};
 ghost use Rattle.model.specs.Limits.{node_limit, entry_limit, plan_size};
 ghost use Rattle.theory_offers.specs.ProfileInstance.{each_one, plain_edges, unitary};

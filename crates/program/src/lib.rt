@@ -1,4 +1,6 @@
 // The program's answer: the text that it prints for what it read. The program itself (crate crew) only reads, calls this and writes.
+#![tactic(auto)]
+
 ghost use Rattle.std.specs.Prelude.{◌≡◌, replicate};
 ghost use Rattle.model.specs.Limits.{input_size};
 ghost use Rattle.model.specs.Printed.{printed};

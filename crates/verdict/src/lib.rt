@@ -1,4 +1,6 @@
 // The verdict on a plan of an accepted roster, with the vote against its rival and the rival's bytes.
+#![tactic(auto)]
+
 ghost use Rattle.std.specs.Prelude.{◌≤◌, length, ◌≡◌, cond};
 ghost use Rattle.model.specs.Limits.{plan_size, pairing_size};
 ghost use Rattle.model.specs.Plans.{Plan, verdict_of, is_strong};

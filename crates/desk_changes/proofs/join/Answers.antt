@@ -10,8 +10,7 @@ found_on-requires c =
     a.left.now a.plan.now a.rival.now c.finder_short-short.ensures c.joined-c.ensures
 
 pub returns : goal.returns
-returns c =
-    (
-      bytes_of c.args.list.now (λ i. c.type_inv.list i),
-      change_done c.finder_short-short.ensures c.joined-c.ensures c.found_on.ensures,
-    )
+returns c = (
+  bytes_of c.args.list.now (λ i. c.type_inv.list i),
+  change_done c.finder_short-short.ensures c.joined-c.ensures c.found_on.ensures,
+)

@@ -35,11 +35,10 @@ flat_records-flat-requires c =
     found_readable c.args.roster.now (bytes_of c.args.roster.now (λ j. c.type_inv.roster j)) c.requires g.result g.ensures _ _ _ f.result _ _ _ f.ensures
 
 pub answer_text-requires : goal.answer_text-requires
-answer_text-requires c =
-    (
-      can_print c.args.roster.now (bytes_of c.args.roster.now (λ j. c.type_inv.roster j)) c.find-o.result.answer _ _ _ _ (handed (goal.at.answer_text-requires c).After-flat_records-flat) (omega (arith, full (goal.at.answer_text-requires c).After-flat_records-flat)) (search rules) (search rules) (search rules),
-      search rules,
-    )
+answer_text-requires c = (
+  can_print c.args.roster.now (bytes_of c.args.roster.now (λ j. c.type_inv.roster j)) c.find-o.result.answer _ _ _ _ (handed (goal.at.answer_text-requires c).After-flat_records-flat) (omega (arith, full (goal.at.answer_text-requires c).After-flat_records-flat)) (search rules) (search rules) (search rules),
+  search rules,
+)
 
 pub returns : goal.returns
 returns c =
