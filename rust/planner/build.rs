@@ -22,7 +22,7 @@ fn main() {
         return;
     }
     let made_by = format!(
-        "'rt staticlib {LIBRARY}' in {} proves the calls and makes it, in some minutes",
+        "'.ci/library' in {} proves the calls and makes it, in some minutes",
         root.display()
     );
     println!("cargo:warning={} is missing; {made_by}", archive.display());
