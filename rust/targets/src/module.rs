@@ -20,11 +20,14 @@ const INSTRUCTIONS: &[&str] = &[
     "and",
     "br",
     "call",
+    "extractvalue",
     "getelementptr",
     "icmp",
+    "insertvalue",
     "load",
     "mul",
     "or",
+    "ptrtoaddr",
     "ret",
     "store",
     "sub",
@@ -40,8 +43,8 @@ const INSTRUCTIONS: &[&str] = &[
 /// What stands behind them: types, comparisons, and promises that hold of the values
 /// whatever the processor.
 const WORDS: &[&str] = &[
-    "align", "eq", "false", "i1", "i16", "i64", "i8", "inbounds", "label", "ne", "nsw", "nuw",
-    "ptr", "slt", "to", "true", "ule", "ult", "void", "x",
+    "align", "eq", "false", "i1", "i16", "i64", "i8", "inbounds", "label", "ne", "nsw", "null",
+    "nuw", "poison", "ptr", "slt", "to", "true", "ule", "ult", "undef", "void", "x",
 ];
 
 /// The parts of a function's first line.
@@ -49,7 +52,8 @@ const SIGNATURE_WORDS: &[&str] = &[
     "define", "internal", "noundef", "zeroext", "ptr", "void", "i1", "i8", "i16", "i64",
 ];
 
-const MARKS: &[&str] = &[",", "(", ")", "[", "]", "="];
+// Two values together, as `{ ptr, i64 }`, are what a function of the planner's own answers, and every compiler hands them on in its own way.
+const MARKS: &[&str] = &[",", "(", ")", "[", "]", "=", "{", "}"];
 
 /// What may be said of a load.
 const NOTES: &[&str] = &["!noundef", "!range"];
@@ -63,14 +67,16 @@ const DECLARED: &[&str] = &[
 
 /// Marks of functions: the planner's own, and those of the functions from outside.
 const ATTRIBUTES: &[&str] = &[
-    "{ nounwind \"probe-stack\"=\"inline-asm\" \"target-cpu\"=\"x86-64\" }",
+    "{ nounwind \"probe-stack\"=\"inline-asm\" \"stack-probe-size\"=\"3072\" \"target-cpu\"=\"x86-64-v2\" }",
+    "{ alwaysinline nounwind \"probe-stack\"=\"inline-asm\" \"stack-probe-size\"=\"3072\" \"target-cpu\"=\"x86-64-v2\" }",
+    "{ noinline nounwind \"probe-stack\"=\"inline-asm\" \"stack-probe-size\"=\"3072\" \"target-cpu\"=\"x86-64-v2\" }",
     "{ nocallback nofree nounwind willreturn memory(argmem: readwrite) }",
     "{ nocallback nofree nounwind willreturn memory(argmem: write) }",
     "{ cold noreturn nounwind memory(inaccessiblemem: write) }",
 ];
 
-const PROCESSOR: &str = " \"target-cpu\"=\"x86-64\"";
-const PROBE: &str = " \"probe-stack\"=\"inline-asm\"";
+const PROCESSOR: &str = " \"target-cpu\"=\"x86-64-v2\"";
+const PROBE: &str = " \"probe-stack\"=\"inline-asm\" \"stack-probe-size\"=\"3072\"";
 
 /// How the name of an exported function begins.
 const EXPORTED: &str = "crew_";
@@ -295,6 +301,10 @@ impl Reader {
                 || self.functions.contains(*word)
         };
         self.all(line, known)?;
+        // an address of 32 bits is widened, and `ptrtoaddr` takes the width of addresses alone
+        if instruction == "ptrtoaddr" && self.target == Target::Web {
+            return Ok(line.replace(" ptrtoaddr ", " ptrtoint "));
+        }
         if instruction == "switch" && words.last() == Some(&"[") {
             self.place = Place::Table;
         }
@@ -369,7 +379,9 @@ impl Reader {
         // the two lengths as one value, which no other function has
         let pair = format!(" = load {TWO}, ptr ");
         let plain = line.replace(&pair, " = load i64, ptr ");
-        let [name, "=", "alloca" | "getelementptr" | "load" | "call", ..] = words(&plain)[..]
+        // a pointer that is null for no bytes is replaced by one that is not
+        let [name, "=", "alloca" | "extractvalue" | "getelementptr" | "icmp" | "insertvalue" | "zext" | "mul"
+        | "load" | "call", ..] = words(&plain)[..]
         else {
             let ["store" | "call", ..] = words(&plain)[..] else {
                 return Err(format!(

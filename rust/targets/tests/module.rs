@@ -64,7 +64,7 @@ declare void @llvm.memset.p0.i64(ptr writeonly captures(none), i8, i64, i1 immar
 
 declare void @llvm.trap() #3
 
-attributes #0 = { nounwind "probe-stack"="inline-asm" "target-cpu"="x86-64" }
+attributes #0 = { nounwind "probe-stack"="inline-asm" "stack-probe-size"="3072" "target-cpu"="x86-64-v2" }
 attributes #1 = { nocallback nofree nounwind willreturn memory(argmem: readwrite) }
 attributes #2 = { nocallback nofree nounwind willreturn memory(argmem: write) }
 attributes #3 = { cold noreturn nounwind memory(inaccessiblemem: write) }
@@ -170,7 +170,7 @@ fn only_what_is_meant_changes() {
             "target triple = \"aarch64-unknown-linux-gnu\"",
             "define void @crew_load(ptr noundef sret(i8) align 8 %a0, ptr noundef %a1, i8 noundef %a2, ptr noundef %a3, i64 noundef %a4) #0 {",
             "  ret void",
-            "attributes #0 = { nounwind \"probe-stack\"=\"inline-asm\" }",
+            "attributes #0 = { nounwind \"probe-stack\"=\"inline-asm\" \"stack-probe-size\"=\"3072\" }",
         ]
     );
     let web = retarget(MODULE, Target::Web).expect("all of it is known");
