@@ -13,7 +13,7 @@ const KEYWORDS: [&str; 11] = ["if", "else", "while", "loop", "for", "in", "match
 /// Words of a body behind which the checker's language stands in braces.
 const STATED: [&str; 2] = ["invariant", "decreases"];
 /// Methods of slices and results, which a reader knows from the language.
-const BUILT: [&str; 3] = ["len", "copy_from_slice", "is_err", "is_ok"];
+const BUILT: [&str; 4] = ["len", "copy_from_slice", "is_err", "is_ok"];
 /// Variants that stand in every file.
 const VARIANTS: [&str; 4] = ["Some", "None", "Ok", "Err"];
 /// The kit's library whose methods are called by their names alone.
