@@ -1,4 +1,5 @@
 -- finder_run::ended writes the pairs left, or goes on with the candidate.
+use Rattle.std.proofs.Common.{arith}
 use Rattle.model.specs.PlanFile.{edges_in}
 use Rattle.arrays.specs.ArrayInstance.{flag}
 use Rattle.finder_run.specs.EndReached.{left_room, some_left, none_left}
@@ -18,7 +19,7 @@ returns-then-k-gt0 c =
     let a = c.args in
     let w = c.write_pairs-k.ensures in
     λ M S. some_left a.g M (edges_in a.g.m (flag a.rem.now)) a.steps a.left.now a.plan.now a.rival.now _ _ w.value w.out_after
-    c.if-k-gt0.true
+    (omega (arith, c.if-k-gt0.true))
 
 pub returns : goal.returns
 returns c =
