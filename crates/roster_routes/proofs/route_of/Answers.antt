@@ -34,6 +34,14 @@ pub bounds-numbers-t : goal.bounds-numbers-t
 bounds-numbers-t c =
     omega (arith, c.loop-i.invariant.1.size, c.if-nt-t.false, c.requires)
 
+pub loop-i-preserved : goal.loop-i-preserved
+loop-i-preserved c =
+    let a = c.args in (
+      omega (arith, c.loop-i-test.true),
+      marked_step a.route.now a.nt c.loop-i.i c.loop-i.numbers (there (goal.at.loop-i-preserved c).In-loop-i) c.loop-i.invariant.1 c.if-t-eq0.false c.if-nt-t.false
+          c.requires c.if-numbers-t-gt0.false,
+    )
+
 pub returns-then-numbers-t-gt0 : goal.returns-then-numbers-t-gt0
 returns-then-numbers-t-gt0 c =
     let a = c.args in
@@ -44,14 +52,6 @@ returns-then-numbers-t-gt0 c =
 pub bounds-numbers-t-in-loop-i : goal.bounds-numbers-t-in-loop-i
 bounds-numbers-t-in-loop-i c =
     omega (arith, c.loop-i.invariant.1.size, c.if-nt-t.false, c.requires)
-
-pub loop-i-preserved : goal.loop-i-preserved
-loop-i-preserved c =
-    let a = c.args in (
-      omega (arith, c.loop-i-test.true),
-      marked_step a.route.now a.nt c.loop-i.i c.loop-i.numbers (there (goal.at.loop-i-preserved c).In-loop-i) c.loop-i.invariant.1 c.if-t-eq0.false c.if-nt-t.false
-          c.requires c.if-numbers-t-gt0.false,
-    )
 
 pub returns : goal.returns
 returns c =
