@@ -67,15 +67,15 @@ const DECLARED: &[&str] = &[
 
 /// Marks of functions: the planner's own, and those of the functions from outside.
 const ATTRIBUTES: &[&str] = &[
-    "{ nounwind \"probe-stack\"=\"inline-asm\" \"stack-probe-size\"=\"3072\" \"target-cpu\"=\"x86-64-v2\" }",
-    "{ alwaysinline nounwind \"probe-stack\"=\"inline-asm\" \"stack-probe-size\"=\"3072\" \"target-cpu\"=\"x86-64-v2\" }",
-    "{ noinline nounwind \"probe-stack\"=\"inline-asm\" \"stack-probe-size\"=\"3072\" \"target-cpu\"=\"x86-64-v2\" }",
+    "{ nounwind \"probe-stack\"=\"inline-asm\" \"stack-probe-size\"=\"3072\" \"target-cpu\"=\"x86-64\" }",
+    "{ alwaysinline nounwind \"probe-stack\"=\"inline-asm\" \"stack-probe-size\"=\"3072\" \"target-cpu\"=\"x86-64\" }",
+    "{ noinline nounwind \"probe-stack\"=\"inline-asm\" \"stack-probe-size\"=\"3072\" \"target-cpu\"=\"x86-64\" }",
     "{ nocallback nofree nounwind willreturn memory(argmem: readwrite) }",
     "{ nocallback nofree nounwind willreturn memory(argmem: write) }",
     "{ cold noreturn nounwind memory(inaccessiblemem: write) }",
 ];
 
-const PROCESSOR: &str = " \"target-cpu\"=\"x86-64-v2\"";
+const PROCESSOR: &str = " \"target-cpu\"=\"x86-64\"";
 const PROBE: &str = " \"probe-stack\"=\"inline-asm\" \"stack-probe-size\"=\"3072\"";
 
 /// How the name of an exported function begins.

@@ -11,12 +11,6 @@ use Rattle.desk_files.specs.State.{by_state, state_is, arrays_are, both_long}
 use Rattle.desk_proposals.specs.Proposals.{held_planned, propose_refused, proposal_small, propose_taken}
 use Rattle.desk_proposals.proofs.propose.Goals as goal
 
-pub returns-then-n-gt0 : goal.returns-then-n-gt0
-returns-then-n-gt0 c =
-    let d = c.args in
-    by_state d.files (propose d.file.now d.forward.now d.back.now) tt tt (state_is d.files c.loaded-l.ensures) c.if-n-gt0.true
-    (ap (refused c.loaded-l.result.refusal) c.group_of.ensures)
-
 pub read_against-read-requires : goal.read_against-read-requires
 read_against-read-requires c = arrays_are c.args.files c.loaded-l.ensures c.if-n-gt0.false
 
@@ -60,3 +54,9 @@ returns-in-Accepted c =
     (to_z-of_z {w = w16} {z = b.result.first} (search rules) ∙ b.ensures.first_value.0)
     (to_z-of_z {w = w16} {z = b.result.second} (search rules) ∙ b.ensures.first_value.1)
     b.ensures.paired c.with_proposal-beside.result c.with_proposal-beside.ensures)
+
+pub returns-then-n-gt0 : goal.returns-then-n-gt0
+returns-then-n-gt0 c =
+    let d = c.args in
+    by_state d.files (propose d.file.now d.forward.now d.back.now) tt tt (state_is d.files c.loaded-l.ensures) c.if-n-gt0.true
+    (ap (refused c.loaded-l.result.refusal) c.group_of.ensures)

@@ -10,13 +10,6 @@ use Rattle.desk_writes.proofs.spread.Goals as goal
 full : (l : After-loaded-l) → length l.loaded-l.result.edges ≡ 64
 full l = search rules
 
-pub returns-then-n-gt0 : goal.returns-then-n-gt0
-returns-then-n-gt0 c =
-    let d = c.args in
-    spreads d.files c.loaded-l.ensures d.out.now
-    (by_state d.files (spread d.out.now) tt tt (state_is d.files c.loaded-l.ensures) c.if-n-gt0.true
-    (ap (refused c.loaded-l.result.refusal) c.group_of.ensures))
-
 pub spread-requires : goal.spread-requires
 spread-requires c =
     let l = c.loaded-l in
@@ -30,3 +23,10 @@ returns c =
     let d = c.args in
     spreads d.files l.ensures d.out.now (spread_reply d.files l.ensures c.if-n-gt0.false (full (goal.at.returns c).After-loaded-l) d.out.now refl
     c.spread.ensures)
+
+pub returns-then-n-gt0 : goal.returns-then-n-gt0
+returns-then-n-gt0 c =
+    let d = c.args in
+    spreads d.files c.loaded-l.ensures d.out.now
+    (by_state d.files (spread d.out.now) tt tt (state_is d.files c.loaded-l.ensures) c.if-n-gt0.true
+    (ap (refused c.loaded-l.result.refusal) c.group_of.ensures))

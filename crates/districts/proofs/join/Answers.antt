@@ -18,12 +18,6 @@ first_bytes p = bytes_are p.args.first.now (λ i. omega (arith, p.type_inv.first
 second_bytes : (p : After-slice_known-1) → T (is_bytes p.args.second.now)
 second_bytes p = bytes_are p.args.second.now (λ i. omega (arith, p.type_inv.second i))
 
-pub returns-then-out-lt-ROSTER_SIZE : goal.returns-then-out-lt-ROSTER_SIZE
-returns-then-out-lt-ROSTER_SIZE c =
-    let a = c.args in
-    joins a.first.now a.second.now (first_bytes (goal.at.returns-then-out-lt-ROSTER_SIZE c).After-slice_known-1) (second_bytes (goal.at.returns-then-out-lt-ROSTER_SIZE c).After-slice_known-1) a.out.now
-    (answers_short roster_size (joined_file a.first.now a.second.now) a.out.now c.group_of.result c.if-out-lt-ROSTER_SIZE.true c.group_of.ensures)
-
 pub first_read-requires : goal.first_read-requires
 first_read-requires c =
     let a = c.args in
@@ -41,3 +35,9 @@ returns-in-Accepted c =
     let a = c.args in
     joins a.first.now a.second.now (first_bytes (goal.at.returns-in-Accepted c).After-slice_known-1) (second_bytes (goal.at.returns-in-Accepted c).After-slice_known-1) a.out.now
     (answers_settled roster_size (joined_file a.first.now a.second.now) a.out.now c.if-out-lt-ROSTER_SIZE.false c.first_read.ensures)
+
+pub returns-then-out-lt-ROSTER_SIZE : goal.returns-then-out-lt-ROSTER_SIZE
+returns-then-out-lt-ROSTER_SIZE c =
+    let a = c.args in
+    joins a.first.now a.second.now (first_bytes (goal.at.returns-then-out-lt-ROSTER_SIZE c).After-slice_known-1) (second_bytes (goal.at.returns-then-out-lt-ROSTER_SIZE c).After-slice_known-1) a.out.now
+    (answers_short roster_size (joined_file a.first.now a.second.now) a.out.now c.group_of.result c.if-out-lt-ROSTER_SIZE.true c.group_of.ensures)

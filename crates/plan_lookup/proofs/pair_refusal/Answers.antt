@@ -27,12 +27,12 @@ bounds-qt-j c = omega (arith, c.requires.2 c.args.e (omega arith))
 pub bounds-ut-j : goal.bounds-ut-j
 bounds-ut-j c = omega (arith, c.requires.2 c.args.e (omega arith))
 
-pub returns-then-qs-i : goal.returns-then-qs-i
-returns-then-qs-i c =
-    let a = c.args in
-    by_quota a.m a.e a.from _ _ (omega arith) (omega arith) true c.if-qs-i.true
-
 pub returns : goal.returns
 returns c =
     let a = c.args in
     by_quota a.m a.e a.from _ _ (omega arith) (omega arith) false c.if-qs-i.false
+
+pub returns-then-qs-i : goal.returns-then-qs-i
+returns-then-qs-i c =
+    let a = c.args in
+    by_quota a.m a.e a.from _ _ (omega arith) (omega arith) true c.if-qs-i.true

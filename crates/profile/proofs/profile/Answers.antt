@@ -12,11 +12,6 @@ use Rattle.profile.proofs.profile.Goals as goal
 file_bytes : (p : After-slice_known-1) → T (is_bytes p.args.file.now)
 file_bytes p = bytes_are p.args.file.now (λ i. omega (arith, p.type_inv.file i))
 
-pub returns-then-out-lt-PLAN_SIZE : goal.returns-then-out-lt-PLAN_SIZE
-returns-then-out-lt-PLAN_SIZE c =
-    let a = c.args in
-    profiles_short a.file.now a.out.now (file_bytes (goal.at.returns-then-out-lt-PLAN_SIZE c).After-slice_known-1) c.group_of.result c.if-out-lt-PLAN_SIZE.true c.group_of.ensures
-
 pub settled-requires : goal.settled-requires
 settled-requires c =
     let a = c.args in
@@ -31,3 +26,8 @@ pub returns-in-Accepted : goal.returns-in-Accepted
 returns-in-Accepted c =
     let a = c.args in
     profiles_settled a.file.now a.out.now (file_bytes (goal.at.returns-in-Accepted c).After-slice_known-1) c.if-out-lt-PLAN_SIZE.false c.settled.ensures
+
+pub returns-then-out-lt-PLAN_SIZE : goal.returns-then-out-lt-PLAN_SIZE
+returns-then-out-lt-PLAN_SIZE c =
+    let a = c.args in
+    profiles_short a.file.now a.out.now (file_bytes (goal.at.returns-then-out-lt-PLAN_SIZE c).After-slice_known-1) c.group_of.result c.if-out-lt-PLAN_SIZE.true c.group_of.ensures

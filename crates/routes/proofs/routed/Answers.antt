@@ -7,11 +7,6 @@ use Rattle.answers.specs.Settling.{answers_short, answers_settled}
 use Rattle.routes.specs.Storing.{turn_by, head_turned, roster_turned, rest_whole}
 use Rattle.routes.proofs.routed.Goals as goal
 
-pub returns-then-out-lt-STORED_SIZE : goal.returns-then-out-lt-STORED_SIZE
-returns-then-out-lt-STORED_SIZE c =
-    let a = c.args in
-    answers_short stored_size (turn_by a.back a.file.now) a.out.now c.group_of.result c.if-out-lt-STORED_SIZE.true c.group_of.ensures
-
 pub returns-then-number-gt0 : goal.returns-then-number-gt0
 returns-then-number-gt0 c =
     let a = c.args in
@@ -43,3 +38,8 @@ pub returns-in-Accepted : goal.returns-in-Accepted
 returns-in-Accepted c =
     let a = c.args in
     answers_settled stored_size (turn_by a.back a.file.now) a.out.now c.if-out-lt-STORED_SIZE.false c.settled.ensures
+
+pub returns-then-out-lt-STORED_SIZE : goal.returns-then-out-lt-STORED_SIZE
+returns-then-out-lt-STORED_SIZE c =
+    let a = c.args in
+    answers_short stored_size (turn_by a.back a.file.now) a.out.now c.group_of.result c.if-out-lt-STORED_SIZE.true c.group_of.ensures

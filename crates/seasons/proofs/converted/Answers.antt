@@ -8,11 +8,6 @@ use Rattle.answers.specs.Settling.{answers_short, answers_settled}
 use Rattle.seasons.specs.Converting.{turn_by, file_turned}
 use Rattle.seasons.proofs.converted.Goals as goal
 
-pub returns-then-out-lt-ROSTER_SIZE : goal.returns-then-out-lt-ROSTER_SIZE
-returns-then-out-lt-ROSTER_SIZE c =
-    let a = c.args in
-    answers_short roster_size (turn_by a.shifts a.file.now) a.out.now c.group_of.result c.if-out-lt-ROSTER_SIZE.true c.group_of.ensures
-
 pub settled-requires : goal.settled-requires
 settled-requires c =
     let a = c.args in
@@ -28,3 +23,8 @@ pub returns-in-Accepted : goal.returns-in-Accepted
 returns-in-Accepted c =
     let a = c.args in
     answers_settled roster_size (turn_by a.shifts a.file.now) a.out.now c.if-out-lt-ROSTER_SIZE.false c.settled.ensures
+
+pub returns-then-out-lt-ROSTER_SIZE : goal.returns-then-out-lt-ROSTER_SIZE
+returns-then-out-lt-ROSTER_SIZE c =
+    let a = c.args in
+    answers_short roster_size (turn_by a.shifts a.file.now) a.out.now c.group_of.result c.if-out-lt-ROSTER_SIZE.true c.group_of.ensures

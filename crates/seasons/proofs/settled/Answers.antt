@@ -20,14 +20,6 @@ turn-t-requires c =
     c.byte_at-ns.ensures c.byte_at-nt.ensures in
     ((omega arith, search rules), ns, nt)
 
-pub returns-then-not-t : goal.returns-then-not-t
-returns-then-not-t c =
-    let a = c.args in
-    let (R, e) = c.requires.0 in
-    other_turned a.shifts a.file.now (file_bytes (goal.at.returns-then-not-t c).After-slice_known-1) R e c.byte_at-ns.result c.byte_at-nt.result
-    c.byte_at-ns.ensures c.byte_at-nt.ensures c.turn-t.result c.turn-t.new.out c.turn-t.ensures a.out.now
-    c.group_of.result (not-true c.turn-t.result.first c.if-not-t.true) c.group_of.ensures
-
 pub slice_bounds-made-end : goal.slice_bounds-made-end
 slice_bounds-made-end c = let h = c.turn-t.ensures.few in omega (arith, c.turn-t.ensures.size)
 
@@ -50,3 +42,11 @@ returns c =
     c.byte_at-ns.ensures c.byte_at-nt.ensures c.turn-t.result c.turn-t.new.out c.turn-t.ensures a.out.now
     (take c.turn-t.result.len c.turn-t.new.out) q.result q.new.to
     (not-false c.turn-t.result.first c.if-not-t.false) refl q.ensures.0 q.ensures.1
+
+pub returns-then-not-t : goal.returns-then-not-t
+returns-then-not-t c =
+    let a = c.args in
+    let (R, e) = c.requires.0 in
+    other_turned a.shifts a.file.now (file_bytes (goal.at.returns-then-not-t c).After-slice_known-1) R e c.byte_at-ns.result c.byte_at-nt.result
+    c.byte_at-ns.ensures c.byte_at-nt.ensures c.turn-t.result c.turn-t.new.out c.turn-t.ensures a.out.now
+    c.group_of.result (not-true c.turn-t.result.first c.if-not-t.true) c.group_of.ensures
