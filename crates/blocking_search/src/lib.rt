@@ -36,8 +36,7 @@ pub fn top_wanted(
 {
     let mut top = m;
     let mut key = NODE_LIMIT as usize * EMPTY_RANK;
-    let mut i = 0;
-    while i < m {
+    for i in 0..m {
         let s = sv[i] as usize;
         let t = st[i] as usize;
         let r = rs[i] as usize;
@@ -46,7 +45,6 @@ pub fn top_wanted(
             top = i;
             key = k;
         }
-        i += 1;
     }
     top
 }

@@ -24,12 +24,10 @@ pub fn held(n: usize, es: &[u16; 64], end: &[u8; ENTRY_LIMIT]) -> [u16; 32]
     ensures { AtNodes end.now es.now n result }
 {
     let mut d = [0u16; 32];
-    let mut k = 0;
-    while k < n {
+    for k in 0..n {
         let e = es[k] as usize;
         let v = end[e] as usize;
         d[v] += 1;
-        k += 1;
     }
     d
 }
@@ -45,12 +43,10 @@ pub fn worst(
     ensures { WorstOf end.now rank.now es.now n result }
 {
     let mut w = [0u8; 32];
-    let mut k = 0;
-    while k < n {
+    for k in 0..n {
         let e = es[k] as usize;
         let v = end[e] as usize;
         w[v] = raised(w[v], rank[e]);
-        k += 1;
     }
     w
 }
@@ -71,10 +67,8 @@ pub fn thresholds(d: &[u16; 32], quota: &[u8; 32], w: &[u8; 32]) -> [u8; 32]
     ensures { (v : ℕ) → v < 32 → get_or result v 0 ≡ cond (ltb (at d.now v) (at quota.now v)) 33 (at w.now v) }
 {
     let mut o = [0u8; 32];
-    let mut i = 0;
-    while i < 32 {
+    for i in 0..32 {
         o[i] = threshold(d[i], quota[i], w[i]);
-        i += 1;
     }
     o
 }

@@ -28,8 +28,7 @@ pub fn flat_records(
     ensures { result ≡ flat_of sv.now st.now sh.now trace }
 {
     let mut flat = [0u8; FLAT_SIZE];
-    let mut i = 0;
-    while i < trace.steps {
+    for i in 0..trace.steps {
         let e = trace.edges[i] as usize;
         let rule = trace.rules[i];
         let fix = reduction_state::fixes(rule);
@@ -39,7 +38,6 @@ pub fn flat_records(
         flat[b + 2] = st[e] + 1;
         flat[b + 3] = sh[e];
         flat[b + 4] = rule;
-        i += 1;
     }
     flat
 }
@@ -74,10 +72,8 @@ pub(crate) fn quarter(flat: [u8; FLAT_SIZE], b: usize) -> [u8; QUARTER]
     ensures { Made 0 result (λ j. at flat (b + j)) quarter_size }
 {
     let mut o = [0u8; QUARTER];
-    let mut i = 0;
-    while i < QUARTER {
+    for i in 0..QUARTER {
         o[i] = flat[b + i];
-        i += 1;
     }
     o
 }
@@ -139,9 +135,7 @@ pub fn fill(diary: &mut [Step], flat: [u8; FLAT_SIZE], n: usize)
     ensures { diary.new ≡ onto (steps_in n flat) diary.old }
 {
     let q = split(flat);
-    let mut i = 0;
-    while i < n {
+    for i in 0..n {
         diary[i] = step_at(q, i);
-        i += 1;
     }
 }

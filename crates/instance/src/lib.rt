@@ -56,10 +56,8 @@ pub fn quotas(file: &[u8], at: usize, n: usize) -> [u8; 32]
     ensures { Shows 0 result n (λ i. get_or file.now (at + i) 0) }
 {
     let mut q = [0u8; 32];
-    let mut i = 0;
-    while i < n {
+    for i in 0..n {
         q[i] = roster_positions::byte_at(file, at + i);
-        i += 1;
     }
     q
 }
@@ -72,11 +70,9 @@ pub fn listed_cells(n: usize, table: &[u8; TABLE]) -> Found
     let mut cell = [0u16; TABLE];
     let mut m: usize = 0;
     let end = n * ROW;
-    let mut c: usize = 0;
-    while c < end {
+    for c in 0..end {
         cell[m] = c as u16;
         m += (table[c] != 0) as usize;
-        c += 1;
     }
     Found { n: m, cell: cell }
 }
@@ -122,8 +118,7 @@ pub fn filled(
     let mut rank_s = [0u8; ENTRY_LIMIT];
     let mut rank_t = [0u8; ENTRY_LIMIT];
     let mut tied = [false; ENTRY_LIMIT];
-    let mut e = 0;
-    while e < m {
+    for e in 0..m {
         let c = cell[e] as usize;
         let i = c / ROW;
         let j = c / 3 % 32;
@@ -135,7 +130,6 @@ pub fn filled(
         rank_s[e] = listed[c];
         rank_t[e] = rank_of(t, next[j]);
         tied[e] = t == 0;
-        e += 1;
     }
     Instance {
         m: m,

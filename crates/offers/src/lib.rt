@@ -30,13 +30,11 @@ pub(crate) fn entry_from(m: usize, cell: &[u16; CELLS], s: usize, from: u8) -> u
     ensures { result ≡ entry_from m cell.now s from }
 {
     let b = s * EMPTY_RANK;
-    let mut r = from as usize;
-    while r < EMPTY_RANK {
+    for r in from as usize..EMPTY_RANK {
         let e = cell[b + r] as usize;
         if e < m {
             return e;
         }
-        r += 1;
     }
     m
 }
@@ -53,17 +51,14 @@ pub(crate) fn next_offer(
     requires { (ns ≤ node_limit) × (m ≤ entry_limit) × Inside m cell.now × Missed (offering m cell.now next.now held.now) from }
     ensures { result ≡ offer_of m ns cell.now next.now held.now }
 {
-    let mut s = from;
-    while s < ns {
+    for s in from..ns {
         if held[s] {
-            s += 1;
             continue;
         }
         let e = entry_from(m, cell, s, next[s]);
         if e < m {
             return e;
         }
-        s += 1;
     }
     m
 }
@@ -140,14 +135,12 @@ pub(crate) fn run(g: Instance, cell: &[u16; CELLS]) -> Standing
     let mut kept = [m as u16; 32];
     let mut held = [false; 32];
     let mut from: usize = 0;
-    let mut i: usize = 0;
-    while i < m {
+    for i in 0..m {
         let e = next_offer(m, g.ns, cell, &next, &held, from);
         if m <= e {
             break;
         }
         from = turn(m, &sv, &st, &rs, &rt, &mut next, &mut kept, &mut held, e);
-        i += 1;
     }
     Standing {
         next: next,

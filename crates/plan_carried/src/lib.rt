@@ -30,10 +30,8 @@ pub(crate) fn besides(
     ensures { Shows false result m (stays sv.now plan.now number) }
 {
     let mut kept = [false; ENTRY_LIMIT];
-    let mut e = 0;
-    while e < m {
+    for e in 0..m {
         kept[e] = plan[e] & !(sv[e] + 1 == number);
-        e += 1;
     }
     kept
 }

@@ -29,11 +29,9 @@ pub fn ends(n: usize, es: &[u16; PLAN_LIMIT], end: &[u8; ENTRY_LIMIT]) -> [u8; P
     ensures { Ends n es.now end.now result }
 {
     let mut r = [0u8; PLAN_LIMIT];
-    let mut k = 0;
-    while k < n {
+    for k in 0..n {
         let e = es[k] as usize;
         r[k] = end[e];
-        k += 1;
     }
     r
 }
@@ -101,8 +99,7 @@ pub fn chase(
         × Held n sv.now day.new ws.new × Held n st.now day.new wt.new }
 {
     let mut cur = k;
-    let mut i = 0;
-    while i < n {
+    for i in 0..n {
         let e = settle(st, cur, a, b, &mut *wt);
         if e == 0 {
             return;
@@ -115,7 +112,6 @@ pub fn chase(
         }
         cur = (f - 1) as usize;
         day[cur] = a;
-        i += 1;
     }
     settle(st, cur, a, b, &mut *wt);
 }
@@ -157,10 +153,8 @@ pub fn days_of(n: usize, sv: &[u8; PLAN_LIMIT], st: &[u8; PLAN_LIMIT]) -> [u8; P
     let mut ws = [0u8; PLACES];
     let mut wt = [0u8; PLACES];
     let mut day = [0u8; PLAN_LIMIT];
-    let mut k = 0;
-    while k < n {
+    for k in 0..n {
         with_day(k, sv, st, &mut day, &mut ws, &mut wt);
-        k += 1;
     }
     day
 }
@@ -170,10 +164,8 @@ pub fn put_days(n: usize, day: &[u8; PLAN_LIMIT], out: &mut [u8])
     requires { (n ≤ 64) × (n ≤ length day.now) × (n ≤ length out.old) × ((j : ℕ) → at day.now j ≤ last_day) }
     ensures { out.new ≡ map suc (take n day.now) ++ drop n out.old }
 {
-    let mut j = 0;
-    while j < n {
+    for j in 0..n {
         out[j] = day[j] + 1;
-        j += 1;
     }
 }
 

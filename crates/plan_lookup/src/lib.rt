@@ -115,15 +115,12 @@ pub fn list_edges(m: usize, chosen: &[bool; ENTRY_LIMIT]) -> Listed
 {
     let mut edges = [0u16; PLAN_LIMIT];
     let mut n = 0;
-    let mut e = 0;
-    while e < m {
+    for e in 0..m {
         if !chosen[e] {
-            e += 1;
             continue;
         }
         edges[n] = e as u16;
         n += 1;
-        e += 1;
     }
     Listed { n: n, edges: edges }
 }

@@ -53,8 +53,7 @@ pub(crate) fn read_pairs(
     let width = pair_bytes::width(shifts);
     let mut at: usize = 1;
     let mut from: usize = 0;
-    let mut k: usize = 0;
-    while k < n {
+    for k in 0..n {
         if file.len() < at + width {
             return PlanRead {
                 answer: PlanAnswer::Refused(1),
@@ -80,7 +79,6 @@ pub(crate) fn read_pairs(
         edges[k] = e as u16;
         from = e + 1;
         at += width;
-        k += 1;
     }
     if at < file.len() {
         return PlanRead {

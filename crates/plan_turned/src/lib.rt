@@ -20,14 +20,12 @@ pub(crate) fn only_first(file: &[u8], n: usize, shifts: bool) -> bool
 {
     let width = pair_bytes::width(shifts);
     let mut at = 1;
-    let mut k = 0;
-    while k < n {
+    for k in 0..n {
         let p = pair_bytes::get(file, at, shifts);
         if p.shift != 1 {
             return false;
         }
         at += width;
-        k += 1;
     }
     true
 }
@@ -43,13 +41,11 @@ pub(crate) fn copy_pairs(file: &[u8], n: usize, shifts: bool, out: &mut [u8]) ->
     out[0] = n as u8;
     let mut at = 1;
     let mut to = 1;
-    let mut k = 0;
-    while k < n {
+    for k in 0..n {
         let p = pair_bytes::get(file, at, shifts);
         pair_bytes::put_by(&mut *out, to, p, !shifts);
         at += width;
         to += other;
-        k += 1;
     }
     to
 }

@@ -29,15 +29,12 @@ pub fn write_pairs(
         ≡ onto (pairs_of sv.now st.now sh.now (edges_in m (flag chosen.now))) out.old }
 {
     let mut k: usize = 0;
-    let mut e: usize = 0;
-    while e < m {
+    for e in 0..m {
         if !chosen[e] {
-            e += 1;
             continue;
         }
         pair_bytes::put(&mut *out, PAIR_WIDTH * k, sv[e], st[e], sh[e]);
         k += 1;
-        e += 1;
     }
     k
 }
@@ -55,11 +52,9 @@ pub fn write_plan(
     ensures { (m : ℕ) (chosen : List Bool) → Listed m chosen n es.now
         → WrittenFor m sv.now st.now sh.now chosen out.old out.new }
 {
-    let mut k: usize = 0;
-    while k < n {
+    for k in 0..n {
         let e = es[k] as usize;
         pair_bytes::put(&mut *out, PAIR_WIDTH * k + 1, sv[e], st[e], sh[e]);
-        k += 1;
     }
     out[0] = n as u8;
 }

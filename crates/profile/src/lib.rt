@@ -22,11 +22,9 @@ pub(crate) fn each_one(n: usize, quota: &[u8; 32]) -> bool
     ensures { result ≡ each_one (at quota.now) n }
 {
     let mut all = true;
-    let mut i: usize = 0;
-    while i < n {
+    for i in 0..n {
         let one = quota[i] == 1;
         all = one & all;
-        i += 1;
     }
     all
 }
@@ -37,11 +35,9 @@ pub(crate) fn plain_edges(m: usize, tied: &[bool; ENTRY_LIMIT], sh: &[u8; ENTRY_
     ensures { result ≡ plain_edges (flag tied.now) (at sh.now) m }
 {
     let mut all = true;
-    let mut e: usize = 0;
-    while e < m {
+    for e in 0..m {
         let first = sh[e] == 1;
         all = (!tied[e] & first) & all;
-        e += 1;
     }
     all
 }

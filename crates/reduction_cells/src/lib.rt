@@ -78,13 +78,11 @@ pub fn best(m: usize, table: &[u16; TABLE], v: usize, p: &[bool; ENTRY_LIMIT]) -
     ensures { result ≡ best_of m table.now (flag p.now) v }
 {
     let b = v * EMPTY_RANK;
-    let mut r: usize = 0;
-    while r < EMPTY_RANK {
+    for r in 0..EMPTY_RANK {
         let e = table[b + r] as usize;
         if held(m, p, e) == 1 {
             return e;
         }
-        r += 1;
     }
     m
 }
@@ -124,13 +122,11 @@ pub fn worst(
         (λ d. flag rem.now d && (flag lo.now (at other.now d) || flag f.now d)) v }
 {
     let b = v * EMPTY_RANK;
-    let mut k: usize = 0;
-    while k < EMPTY_RANK {
+    for k in 0..EMPTY_RANK {
         let e = table[b + (32 - k)] as usize;
         if reserved(m, other, rem, lo, f, e) {
             return e;
         }
-        k += 1;
     }
     m
 }
@@ -184,10 +180,8 @@ pub fn painted(
 {
     let mut f = [false; ENTRY_LIMIT];
     let mut turned = [0u8; EMPTY_RANK];
-    let mut v: usize = 0;
-    while v < 32 {
+    for v in 0..32 {
         paint(m, table, v, q[v], other, rem, &mut f, &mut turned);
-        v += 1;
     }
     f
 }

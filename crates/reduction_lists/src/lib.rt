@@ -51,11 +51,9 @@ pub fn lists(m: usize, end: &[u8; ENTRY_LIMIT], table: &mut [u16; TABLE])
     let mut next = [0u16; ENTRY_LIMIT];
     let head = arrays::links(m, &end[..], &mut next[..]);
     let mut k = LISTS;
-    let mut v = 0;
-    while v < 32 {
+    for v in 0..32 {
         table[CELLS + v] = k as u16;
         k = put(m, end, &head, &next, v, k, table);
-        v += 1;
     }
 }
 

@@ -180,11 +180,9 @@ pub fn first_renewed(
     ensures { (length x.new ≡ node_limit) × ((sv : List ℕ) → Listed m sv table.now → RenewedBy (among turned.now n)
         (first_of m sv fs.now ft.now) x.old x.new) }
 {
-    let mut i: usize = 0;
-    while i < n {
+    for i in 0..n {
         let v = turned[i] as usize;
         x[v] = reduction_lists::both(m, table, v, fs, ft) as u16;
-        i += 1;
     }
 }
 
@@ -205,11 +203,9 @@ pub fn second_renewed(
         (seconds_of m end rank.now table.now rem.now f.now q.now)
         x.old x.new) }
 {
-    let mut i: usize = 0;
-    while i < n {
+    for i in 0..n {
         let v = turned[i] as usize;
         x[v] = second(m, rank, table, v, rem, f, q[v]);
-        i += 1;
     }
 }
 

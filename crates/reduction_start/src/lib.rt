@@ -64,10 +64,8 @@ pub(crate) fn everyone() -> [u8; EMPTY_RANK]
     ensures { Made 0 result (λ v. v) node_limit }
 {
     let mut o = [0u8; EMPTY_RANK];
-    let mut i = 0;
-    while i < 32 {
+    for i in 0..32 {
         o[i] = i as u8;
-        i += 1;
     }
     o
 }

@@ -40,10 +40,8 @@ pub fn all(m: usize) -> [bool; ENTRY_LIMIT]
     ensures { (e : ℕ) → flag result e ≡ ltb e m }
 {
     let mut o = [false; ENTRY_LIMIT];
-    let mut i = 0;
-    while i < m {
+    for i in 0..m {
         o[i] = true;
-        i += 1;
     }
     o
 }
@@ -139,11 +137,9 @@ pub(crate) fn tally(m: usize, end: &[u8; ENTRY_LIMIT], p: &[bool; ENTRY_LIMIT]) 
     ensures { Tally result m end.now p.now }
 {
     let mut t = [0u16; 32];
-    let mut i = 0;
-    while i < m {
+    for i in 0..m {
         let v = end[i] as usize;
         t[v] += p[i] as u16;
-        i += 1;
     }
     t
 }
@@ -164,10 +160,8 @@ pub(crate) fn cuts(quota: &[u8; 32], d: &[u16; 32]) -> [u16; 32]
     ensures { Made 0 result (λ v. min (at quota.now v) (at d.now v)) 32 }
 {
     let mut o = [0u16; 32];
-    let mut i = 0;
-    while i < 32 {
+    for i in 0..32 {
         o[i] = cut(quota[i], d[i]);
-        i += 1;
     }
     o
 }

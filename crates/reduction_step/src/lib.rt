@@ -34,10 +34,8 @@ pub fn least(xs: &[u16; 32]) -> u16
     ensures { Least xs.now node_limit result }
 {
     let mut l = xs[0];
-    let mut i: usize = 1;
-    while i < 32 {
+    for i in 1..32 {
         l = lesser(l, xs[i]);
-        i += 1;
     }
     l
 }

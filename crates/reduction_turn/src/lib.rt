@@ -48,11 +48,9 @@ pub fn marked(turned: &[u8; EMPTY_RANK], n: usize, old: &mut [bool; 32])
     requires { (n ≤ empty_rank) × Low n turned.now node_limit × (length old.old ≡ node_limit) }
     ensures { (length old.new ≡ node_limit) × Marked (among turned.now n) old.old old.new }
 {
-    let mut i: usize = 0;
-    while i < n {
+    for i in 0..n {
         let v = turned[i] as usize;
         old[v] = true;
-        i += 1;
     }
 }
 

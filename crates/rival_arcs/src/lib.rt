@@ -98,13 +98,11 @@ pub fn arcs(
     let mut after = [0u16; 64];
     let first = arrays::links(64, &ps[..], &mut after[..]);
     let mut o = [133u8; 4096];
-    let mut i = 0;
-    while i < n {
+    for i in 0..n {
         let row = arc_row(
             m, sv, rs, rt, plan, head, next, rps, &first, &after, pt[i], rpt[i],
         );
         rival_tables::put_row(&mut o, &row, i);
-        i += 1;
     }
     o
 }

@@ -18,10 +18,8 @@ fn arc_cost(a: u8) -> u8
 // The costs of the walks of one arc.
 fn arc_costs(arcs: &[u8; 4096]) -> [u8; 4096] {
     let mut o = [127u8; 4096];
-    let mut c = 0;
-    while c < 4096 {
+    for c in 0..4096 {
         o[c] = arc_cost(arcs[c]);
-        c += 1;
     }
     o
 }
@@ -39,10 +37,8 @@ fn row_of(d: &[u8; 4096], v: usize) -> [u8; 64]
     requires { v < 64 }
 {
     let mut o = [0u8; 64];
-    let mut j = 0;
-    while j < 64 {
+    for j in 0..64 {
         o[j] = d[v * 64 + j];
-        j += 1;
     }
     o
 }
@@ -51,11 +47,9 @@ fn row_of(d: &[u8; 4096], v: usize) -> [u8; 64]
 fn row_through(d: &mut [u8; 4096], on: &[u8; 64], i: usize, a: u8)
     requires { i < 64 }
 {
-    let mut j = 0;
-    while j < 64 {
+    for j in 0..64 {
         let s = joint(a, on[j]);
         d[i * 64 + j] = rival_tables::lesser(s, d[i * 64 + j]);
-        j += 1;
     }
 }
 
@@ -63,13 +57,11 @@ fn row_through(d: &mut [u8; 4096], on: &[u8; 64], i: usize, a: u8)
 fn rows_through(n: usize, d: &mut [u8; 4096], on: &[u8; 64], v: usize)
     requires { (n ≤ plan_limit) × (v < 64) }
 {
-    let mut i = 0;
-    while i < n {
+    for i in 0..n {
         let a = d[i * 64 + v];
         if a < 127 {
             row_through(&mut *d, on, i, a);
         }
-        i += 1;
     }
 }
 
@@ -78,11 +70,9 @@ fn walk_costs(n: usize, arcs: &[u8; 4096]) -> [u8; 4096]
     requires { n ≤ plan_limit }
 {
     let mut d = arc_costs(arcs);
-    let mut v = 0;
-    while v < n {
+    for v in 0..n {
         let on = row_of(&d, v);
         rows_through(n, &mut d, &on, v);
-        v += 1;
     }
     d
 }
@@ -93,11 +83,9 @@ fn within(n: usize, arcs: &[u8; 4096], d: &[u8; 4096]) -> bool
     ensures { result ≡ true → (c : ℕ) → c < n * 64 → at d.now c ≤ min (at arcs.now c) 65 + 62 }
 {
     let mut ok = true;
-    let mut c = 0;
-    while c < n * 64 {
+    for c in 0..n * 64 {
         let most = arc_cost(arcs[c]);
         ok = ok & (d[c] <= most);
-        c += 1;
     }
     ok
 }

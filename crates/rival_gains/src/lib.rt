@@ -24,10 +24,8 @@ pub fn parted(row: &mut [u8; 64], po: &[u8; 64], d: u8, p: u8)
     ensures { (length row.new ≡ 64)
         × Made 0 row.new (λ j. offer (not (eqb d (at po.now j))) p (at row.old j)) 64 }
 {
-    let mut j = 0;
-    while j < 64 {
+    for j in 0..64 {
         row[j] = rival_tables::offered(!(d == po[j]), p, row[j]);
-        j += 1;
     }
 }
 
@@ -89,11 +87,9 @@ pub fn apart(
     if roomy >= 32 {
         return o;
     }
-    let mut i = 0;
-    while i < n {
+    for i in 0..n {
         let row = apart_row(m, other, rank, plan, room, head, next, po, pe[i], pr[i]);
         rival_tables::put_row(&mut o, &row, i);
-        i += 1;
     }
     o
 }
@@ -169,13 +165,11 @@ pub fn gains(
     if roomy >= 32 {
         return o;
     }
-    let mut i = 0;
-    while i < n {
+    for i in 0..n {
         let r = least_rates(
             m, other, rank, plan, room, head, next, pe[i], pr[i], NO_NODE,
         );
         o[i] = r.all;
-        i += 1;
     }
     o
 }

@@ -16,10 +16,8 @@ pub fn kept_row(d: &[u8; 4096], b: usize) -> [u8; 64]
     ensures { Made 0 result (λ j. kept_price (at d.now (b + j))) 64 }
 {
     let mut o = [0u8; 64];
-    let mut j = 0;
-    while j < 64 {
+    for j in 0..64 {
         o[j] = rival_tables::lesser(133, d[b + j] + 2);
-        j += 1;
     }
     o
 }
@@ -30,10 +28,8 @@ pub fn lower(row: &mut [u8; 64], d: &[u8; 4096], b: usize, a: u8)
     ensures { (length row.new ≡ 64)
         × Made 0 row.new (λ j. min (a + at d.now (b + j)) (at row.old j)) 64 }
 {
-    let mut j = 0;
-    while j < 64 {
+    for j in 0..64 {
         row[j] = rival_tables::lesser(a + d[b + j], row[j]);
-        j += 1;
     }
 }
 
@@ -44,14 +40,12 @@ pub fn next_row(n: usize, arcs: &[u8; 4096], d: &[u8; 4096], i: usize) -> [u8; 6
 {
     let b = i * 64;
     let mut o = kept_row(d, b);
-    let mut y = 0;
-    while y < n {
+    for y in 0..n {
         let a = arcs[b + y];
         if a < 133 {
             let c = y * 64;
             lower(&mut o, d, c, a);
         }
-        y += 1;
     }
     o
 }
@@ -62,11 +56,9 @@ pub fn next_layer(n: usize, arcs: &[u8; 4096], d: &[u8; 4096]) -> [u8; 4096]
     ensures { Rows result n (next_price arcs.now d.now n) }
 {
     let mut o = [133u8; 4096];
-    let mut i = 0;
-    while i < n {
+    for i in 0..n {
         let row = next_row(n, arcs, d, i);
         rival_tables::put_row(&mut o, &row, i);
-        i += 1;
     }
     o
 }
@@ -109,10 +101,8 @@ fn least_end(n: usize, d: &[u8; 4096], terminals: &[u8; 4096], b: usize) -> u8
     ensures { (j : ℕ) → j < n → result ≤ at d.now (b + j) + at terminals.now (b + j) }
 {
     let mut v = 139;
-    let mut j = 0;
-    while j < n {
+    for j in 0..n {
         v = rival_tables::lesser(d[b + j] + terminals[b + j], v);
-        j += 1;
     }
     v
 }
@@ -194,8 +184,7 @@ pub fn levels(n: usize, b: usize, arcs: &[u8; 4096], terminals: &[u8; 4096], k: 
     ensures { result ≡ levels_at arcs.now terminals.now n k b 0 }
 {
     let mut d = *arcs;
-    let mut l = 0;
-    while l < b {
+    for l in 0..b {
         let bound = (2 * (l + 1)) as u8 + k;
         let i = diagonal(n, &d, bound);
         if i < n {
@@ -214,7 +203,6 @@ pub fn levels(n: usize, b: usize, arcs: &[u8; 4096], terminals: &[u8; 4096], k: 
             return Found::Nothing;
         }
         d = e;
-        l += 1;
     }
     Found::Nothing
 }

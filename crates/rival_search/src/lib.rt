@@ -116,8 +116,7 @@ pub fn alone(
             return n;
         }
     }
-    let mut i = 0;
-    while i < n {
+    for i in 0..n {
         let price = alone_price(
             m,
             sv,
@@ -136,7 +135,6 @@ pub fn alone(
         if price < 4 {
             return i;
         }
-        i += 1;
     }
     n
 }

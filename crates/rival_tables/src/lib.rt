@@ -21,10 +21,8 @@ pub fn lying(n: usize, nodes: &[u8; 64], v: u8) -> u8
     ensures { result ≡ count (λ j. eqb (at nodes.now j) v) n }
 {
     let mut c = 0;
-    let mut j = 0;
-    while j < n {
+    for j in 0..n {
         c += (nodes[j] == v) as u8;
-        j += 1;
     }
     c
 }
@@ -35,11 +33,9 @@ pub fn rooms(n: usize, nodes: &[u8; 64], quota: &[u8; 32]) -> [bool; 32]
     ensures { Made false result (λ v. ltb (count (λ j. eqb (at nodes.now j) v) n) (at quota.now v)) 32 }
 {
     let mut o = [false; 32];
-    let mut v = 0;
-    while v < 32 {
+    for v in 0..32 {
         let c = lying(n, nodes, v as u8);
         o[v] = c < quota[v];
-        v += 1;
     }
     o
 }
@@ -97,13 +93,11 @@ pub fn terminal_row(
     ensures { Made 0 result (terminal_at starts.now stops.now gs.now gt.now i) n }
 {
     let mut o = [0u8; 64];
-    let mut j = 0;
-    while j < n {
+    for j in 0..n {
         let a = lesser(starts[i * 64 + j], stops[j * 64 + i]);
         let b = a + 3;
         let c = gs[i] + gt[j];
         o[j] = lesser(b, c);
-        j += 1;
     }
     o
 }
@@ -120,11 +114,9 @@ pub fn terminals(
     ensures { Grid result n (terminal_at starts.now stops.now gs.now gt.now) }
 {
     let mut o = [0u8; 4096];
-    let mut i = 0;
-    while i < n {
+    for i in 0..n {
         let row = terminal_row(n, starts, stops, gs, gt, i);
         put_row(&mut o, &row, i);
-        i += 1;
     }
     o
 }
@@ -150,11 +142,9 @@ pub fn gathered(n: usize, es: &[u16; 64], xs: &[u8; ENTRY_LIMIT]) -> [u8; 64]
     ensures { Shows 0 result n (λ i. at xs.now (at es.now i)) }
 {
     let mut o = [0u8; 64];
-    let mut i = 0;
-    while i < n {
+    for i in 0..n {
         let e = es[i] as usize;
         o[i] = xs[e];
-        i += 1;
     }
     o
 }
@@ -164,9 +154,7 @@ pub fn put_row(table: &mut [u8; 4096], row: &[u8; 64], i: usize)
     requires { (i < 64) × (length table.old ≡ 4096) }
     ensures { (length table.new ≡ 4096) × Put table.old row.now i table.new }
 {
-    let mut k = 0;
-    while k < 64 {
+    for k in 0..64 {
         table[i * 64 + k] = row[k];
-        k += 1;
     }
 }

@@ -21,12 +21,10 @@ fn tight_row(arcs: &[u8; 4096], costs: &[u8; 4096], i: usize, k: u8) -> [u8; 64]
     if costs[i * 64 + i] >= 64 + k {
         return o;
     }
-    let mut j = 0;
-    while j < 64 {
+    for j in 0..64 {
         let a = arcs[i * 64 + j];
         let back = rival_tables::lesser(costs[j * 64 + i], 66 + k);
         o[j] = if a < 66 + k - back { a } else { 133 };
-        j += 1;
     }
     o
 }
@@ -37,11 +35,9 @@ fn tight(n: usize, arcs: &[u8; 4096], costs: &[u8; 4096], k: u8) -> [u8; 4096]
     ensures { Rows result n (tight_price arcs.now costs.now k) }
 {
     let mut o = [133u8; 4096];
-    let mut i = 0;
-    while i < n {
+    for i in 0..n {
         let row = tight_row(arcs, costs, i, k);
         rival_tables::put_row(&mut o, &row, i);
-        i += 1;
     }
     o
 }
@@ -70,11 +66,9 @@ fn nexts(n: usize, arcs: &[u8; 4096]) -> [u8; 4096]
     ensures { Nexts n arcs.now result }
 {
     let mut o = [64u8; 4096];
-    let mut i = 0;
-    while i < n {
+    for i in 0..n {
         let row = nexts_row(arcs, i);
         rival_tables::put_row(&mut o, &row, i);
-        i += 1;
     }
     o
 }
@@ -104,11 +98,9 @@ fn sparse_layer(n: usize, arcs: &[u8; 4096], nexts: &[u8; 4096], d: &[u8; 4096])
     ensures { Rows result n (next_price arcs.now d.now n) }
 {
     let mut o = [133u8; 4096];
-    let mut i = 0;
-    while i < n {
+    for i in 0..n {
         let row = sparse_row(n, arcs, nexts, d, i);
         rival_tables::put_row(&mut o, &row, i);
-        i += 1;
     }
     o
 }
@@ -119,15 +111,13 @@ fn first_loop(n: usize, arcs: &[u8; 4096], nexts: &[u8; 4096], k: u8) -> rival_l
     ensures { result ≡ loops_at arcs.now n k n 0 }
 {
     let mut d = *arcs;
-    let mut l = 0;
-    while l < n {
+    for l in 0..n {
         let bound = (2 * (l + 1)) as u8 + k;
         let i = rival_levels::diagonal(n, &d, bound);
         if i < n {
             return rival_levels::Found::Closed(l, i);
         }
         d = sparse_layer(n, arcs, nexts, &d);
-        l += 1;
     }
     rival_levels::Found::Nothing
 }

@@ -37,10 +37,8 @@ pub fn exchanged(
     ensures { Shows false result m (λ e. (flag plan.now e && not (flag gone.now e)) || flag come.now e) }
 {
     let mut o = [false; ENTRY_LIMIT];
-    let mut e = 0;
-    while e < m {
+    for e in 0..m {
         o[e] = (plan[e] & !gone[e]) | come[e];
-        e += 1;
     }
     o
 }

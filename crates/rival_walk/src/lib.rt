@@ -31,14 +31,12 @@ pub fn lead(n: usize, arcs: &[u8; 4096], table: &[u8; 4096], k: usize, i: usize)
     let c = k * 64;
     let mut v = rival_tables::lesser(133, table[c + i] + 2) as usize;
     let mut p = n;
-    let mut y = 0;
-    while y < n {
+    for y in 0..n {
         let s = arcs[b + y] as usize + table[c + y] as usize;
         if s < v {
             v = s;
             p = y;
         }
-        y += 1;
     }
     Way {
         price: v as u8,
@@ -54,12 +52,10 @@ fn price(n: usize, arcs: &[u8; 4096], table: &[u8; 4096], k: usize, i: usize) ->
     let b = i * 64;
     let c = k * 64;
     let mut v = rival_tables::lesser(133, table[c + i] + 2);
-    let mut y = 0;
-    while y < n {
+    for y in 0..n {
         let onward = table[c + y];
         let a = rival_tables::lesser(arcs[b + y], 255 - onward);
         v = rival_tables::lesser(a + onward, v);
-        y += 1;
     }
     v
 }
@@ -70,10 +66,8 @@ pub fn first_column(n: usize, arcs: &[u8; 4096], j: usize) -> [u8; 64]
     ensures { Made 0 result (λ i. cell arcs.now i j) n }
 {
     let mut o = [133u8; 64];
-    let mut i = 0;
-    while i < n {
+    for i in 0..n {
         o[i] = arcs[i * 64 + j];
-        i += 1;
     }
     o
 }
@@ -84,10 +78,8 @@ pub fn next_column(n: usize, arcs: &[u8; 4096], table: &[u8; 4096], k: usize) ->
     ensures { Made 0 result (λ i. (lead_at arcs.now n (cell table.now k) i).0) n }
 {
     let mut o = [133u8; 64];
-    let mut i = 0;
-    while i < n {
+    for i in 0..n {
         o[i] = price(n, arcs, table, k, i);
-        i += 1;
     }
     o
 }
@@ -100,11 +92,9 @@ pub fn columns(n: usize, arcs: &[u8; 4096], j: usize, l: usize) -> [u8; 4096]
     let first = first_column(n, arcs, j);
     let mut o = [133u8; 4096];
     rival_tables::put_row(&mut o, &first, 0);
-    let mut k = 0;
-    while k < l {
+    for k in 0..l {
         let row = next_column(n, arcs, &o, k);
         rival_tables::put_row(&mut o, &row, k + 1);
-        k += 1;
     }
     o
 }

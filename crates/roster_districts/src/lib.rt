@@ -18,10 +18,8 @@ pub(crate) fn moved_up(n: u8) -> [u8; NUMBERS]
     ensures { result ≡ up_table n }
 {
     let mut table = [0u8; NUMBERS];
-    let mut i = 0;
-    while i < NUMBERS {
+    for i in 0..NUMBERS {
         table[i] = n + (i as u8);
-        i += 1;
     }
     table
 }

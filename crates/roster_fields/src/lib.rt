@@ -45,8 +45,7 @@ pub fn check_quotas(part: &[u8]) -> u8
     ensures { result ≡ refusal_of quota_check (λ so q. so + q) 0 part.now }
 {
     let mut sum: u8 = 0;
-    let mut i = 0;
-    while i < part.len() {
+    for i in 0..part.len() {
         let q = part[i];
         if QUOTA_LIMIT < q {
             return 3;
@@ -55,7 +54,6 @@ pub fn check_quotas(part: &[u8]) -> u8
         if QUOTA_SUM_LIMIT < sum {
             return 3;
         }
-        i += 1;
     }
     0
 }
@@ -77,8 +75,7 @@ pub fn check_entries(
         number: 0,
         shift: 0,
     };
-    let mut i = 0;
-    while i < n {
+    for i in 0..n {
         let x = roster_entries::entry_at(part, i, shifts);
         let refusal = roster_entries::entry_refusal(x, last, other, tied, &*row);
         if 0 < refusal {
@@ -87,7 +84,6 @@ pub fn check_entries(
         let k = roster_entries::slot(x);
         row[k] = true;
         last = x;
-        i += 1;
     }
     0
 }

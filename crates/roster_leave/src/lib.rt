@@ -23,15 +23,12 @@ pub(crate) fn others(list: &[u8], number: u8) -> usize
 {
     let n = list.len() / ENTRY_WIDTH;
     let mut k: usize = 0;
-    let mut i = 0;
-    while i < n {
+    for i in 0..n {
         let at = ENTRY_WIDTH * i;
         if number == list[at] {
-            i += 1;
             continue;
         }
         k += 1;
-        i += 1;
     }
     k
 }
@@ -43,17 +40,14 @@ pub(crate) fn append_others(out: &mut [u8; ROSTER_SIZE], n: usize, list: &[u8], 
 {
     let count = list.len() / ENTRY_WIDTH;
     let mut len = n;
-    let mut i = 0;
-    while i < count {
+    for i in 0..count {
         let at = ENTRY_WIDTH * i;
         let x = list[at];
         let shift = list[at + 1];
         if number == x {
-            i += 1;
             continue;
         }
         len = roster_parts::append_entry(&mut *out, len, x, shift);
-        i += 1;
     }
     len
 }
@@ -121,15 +115,13 @@ pub(crate) fn rankings_left(
 {
     let mut len = 0;
     let mut at = start;
-    let mut j = 0;
-    while j < n {
+    for j in 0..n {
         let a = roster_positions::byte_at(file, at) as usize;
         let b = roster_positions::byte_at(file, at + 1) as usize;
         let strict = roster_positions::part(file, at + 2, ENTRY_WIDTH * a);
         let tied = roster_positions::part(file, at + 2 + ENTRY_WIDTH * a, ENTRY_WIDTH * b);
         len = append_ranking(&mut *out, len, strict, tied, number);
         at += ENTRY_WIDTH * (a + b) + 2;
-        j += 1;
     }
     len
 }

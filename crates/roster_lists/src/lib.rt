@@ -112,8 +112,7 @@ pub fn lists_at(
 {
     let longest = roster_reading::longest_list(other, shifts);
     let mut at = start;
-    let mut k = 0;
-    while k < n {
+    for k in 0..n {
         let low = k * ROW;
         let high = low + ROW;
         let s = list_at(file, at, longest, other, shifts, &mut table[low..high]);
@@ -121,7 +120,6 @@ pub fn lists_at(
             return s;
         };
         at = next;
-        k += 1;
     }
     Section::Read(at)
 }
@@ -140,8 +138,7 @@ pub fn rankings_at(
 {
     let longest = roster_reading::longest_list(other, shifts);
     let mut at = start;
-    let mut k = 0;
-    while k < n {
+    for k in 0..n {
         let low = k * ROW;
         let high = low + ROW;
         let s = ranking_at(file, at, longest, other, shifts, &mut table[low..high]);
@@ -149,7 +146,6 @@ pub fn rankings_at(
             return s;
         };
         at = next;
-        k += 1;
     }
     Section::Read(at)
 }

@@ -66,10 +66,8 @@ pub(crate) fn append_some(out: &mut [u8; ROSTER_SIZE], n: usize, part: &[u8]) ->
     ensures { Grown part.now n out.old result out.new }
 {
     let mut at = n;
-    let mut i = 0;
-    while i < part.len() {
+    for i in 0..part.len() {
         at = append_byte(&mut *out, at, part[i]);
-        i += 1;
     }
     at
 }
@@ -120,11 +118,9 @@ pub fn lists_end(file: &[u8], start: usize, n: usize) -> usize
     ensures { (result ≡ lists_end file.now n start) × (start ≤ result) × (result ≤ start + 511 * n) }
 {
     let mut at = start;
-    let mut i = 0;
-    while i < n {
+    for i in 0..n {
         let k = roster_positions::byte_at(file, at) as usize;
         at += ENTRY_WIDTH * k + 1;
-        i += 1;
     }
     at
 }
@@ -144,14 +140,12 @@ pub(crate) fn append_entries(
 {
     let count = list.len() / ENTRY_WIDTH;
     let mut len = n;
-    let mut i = 0;
-    while i < count {
+    for i in 0..count {
         let at = ENTRY_WIDTH * i;
         let x = list[at] as usize;
         let shift = list[at + 1];
         let number = roster_positions::byte_at(table, x);
         len = append_entry(&mut *out, len, number, shift);
-        i += 1;
     }
     len
 }
@@ -170,14 +164,12 @@ pub fn append_lists(
 {
     let mut len = n;
     let mut at = start;
-    let mut i = 0;
-    while i < count {
+    for i in 0..count {
         let k = roster_positions::byte_at(file, at);
         let list = roster_positions::part(file, at + 1, ENTRY_WIDTH * (k as usize));
         let first = append_byte(&mut *out, len, k);
         len = append_entries(&mut *out, first, list, table);
         at += ENTRY_WIDTH * (k as usize) + 1;
-        i += 1;
     }
     len
 }
@@ -196,8 +188,7 @@ pub fn append_rankings(
 {
     let mut len = n;
     let mut at = start;
-    let mut j = 0;
-    while j < count {
+    for j in 0..count {
         let a = roster_positions::byte_at(file, at);
         let b = roster_positions::byte_at(file, at + 1);
         let k = (a as usize) + (b as usize);
@@ -206,7 +197,6 @@ pub fn append_rankings(
         let first = append_byte(&mut *out, second, b);
         len = append_entries(&mut *out, first, list, table);
         at += ENTRY_WIDTH * k + 2;
-        j += 1;
     }
     len
 }

@@ -69,13 +69,11 @@ pub fn stamp_lists(file: &[u8], start: usize, n: usize, table: &mut [u8; TABLE])
     ensures table_after { table.new ≡ lists_stamped file.now n 0 start table.old }
 {
     let mut at = start;
-    let mut i = 0;
-    while i < n {
+    for i in 0..n {
         let k = byte_at(file, at) as usize;
         let list = part(file, at + 1, ENTRY_WIDTH * k);
         stamp(list, i * ROW, &mut *table);
         at += ENTRY_WIDTH * k + 1;
-        i += 1;
     }
     at
 }
@@ -94,14 +92,12 @@ pub fn stamp_rankings(
     ensures next_after { next.new ≡ next_ranks file.now n 0 start next.old }
 {
     let mut at = start;
-    let mut j = 0;
-    while j < n {
+    for j in 0..n {
         let a = byte_at(file, at) as usize;
         let b = byte_at(file, at + 1) as usize;
         let list = part(file, at + 2, ENTRY_WIDTH * a);
         stamp(list, j * ROW, &mut *table);
         next[j] = ((a + 1) % 256) as u8;
         at += ENTRY_WIDTH * (a + b) + 2;
-        j += 1;
     }
 }

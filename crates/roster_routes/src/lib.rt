@@ -32,8 +32,7 @@ pub fn route_of(route: &[u8], nt: usize) -> Route
             numbers: numbers,
         };
     }
-    let mut i = 0;
-    while i < nt {
+    for i in 0..nt {
         let t = route[i] as usize;
         if t == 0 {
             return Route {
@@ -54,7 +53,6 @@ pub fn route_of(route: &[u8], nt: usize) -> Route
             };
         }
         numbers[t] = (i + 1) as u8;
-        i += 1;
     }
     Route {
         each: true,
@@ -68,10 +66,8 @@ pub fn places_of(route: &[u8]) -> [u8; NUMBERS]
     ensures { Places route.now result }
 {
     let mut places = [0u8; NUMBERS];
-    let mut i = 0;
-    while i < route.len() {
+    for i in 0..route.len() {
         places[i + 1] = route[i];
-        i += 1;
     }
     places
 }
@@ -82,12 +78,10 @@ pub(crate) fn rankings_end(file: &[u8], start: usize, k: usize) -> usize
     ensures { (result ≡ rankings_end file.now k start) × (result ≤ start + 1022 * k) }
 {
     let mut at = start;
-    let mut i = 0;
-    while i < k {
+    for i in 0..k {
         let a = roster_positions::byte_at(file, at) as usize;
         let b = roster_positions::byte_at(file, at + 1) as usize;
         at += ENTRY_WIDTH * (a + b) + 2;
-        i += 1;
     }
     at
 }
@@ -105,12 +99,10 @@ pub(crate) fn append_quotas(
     ensures { Grown (quotas_in_order file.now place order.now 0 count) n out.old result out.new }
 {
     let mut len = n;
-    let mut i = 0;
-    while i < count {
+    for i in 0..count {
         let t = roster_positions::byte_at(order, i + 1) as usize;
         let q = roster_positions::byte_at(file, place + t);
         len = roster_parts::append_byte(&mut *out, len, q);
-        i += 1;
     }
     len
 }
@@ -127,15 +119,13 @@ pub(crate) fn append_rankings(
     ensures { Grown (rankings_in_order file.now start order.now 0 count) 0 out.old result out.new }
 {
     let mut len = 0;
-    let mut i = 0;
-    while i < count {
+    for i in 0..count {
         let t = roster_positions::byte_at(order, i + 1) as usize;
         let at = rankings_end(file, start, t - 1);
         let a = roster_positions::byte_at(file, at) as usize;
         let b = roster_positions::byte_at(file, at + 1) as usize;
         let list = roster_positions::part(file, at, ENTRY_WIDTH * (a + b) + 2);
         len = roster_parts::append(&mut *out, len, list);
-        i += 1;
     }
     len
 }

@@ -52,12 +52,10 @@ pub(crate) fn append_entries(
     let count = part.len() / width;
     let mut len = n;
     let mut first = true;
-    let mut i = 0;
-    while i < count {
+    for i in 0..count {
         let x = roster_entries::entry_at(part, i, shifts);
         len = append_by(&mut *out, len, x, !shifts);
         first = first & (x.shift == 1);
-        i += 1;
     }
     Copied {
         len: len,
@@ -106,8 +104,7 @@ pub(crate) fn append_lists(
     let mut at = start;
     let mut len = n;
     let mut first = true;
-    let mut i = 0;
-    while i < count {
+    for i in 0..count {
         let size = width * list_length(file, at, ties);
         let head = roster_positions::part(file, at, lengths);
         let list = roster_positions::part(file, at + lengths, size);
@@ -116,7 +113,6 @@ pub(crate) fn append_lists(
         first = first & c.first;
         len = c.len;
         at += lengths + size;
-        i += 1;
     }
     Turned {
         at: at,

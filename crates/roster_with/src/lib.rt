@@ -102,10 +102,8 @@ pub fn quota_sum(quotas: &[u8]) -> usize
     ensures { (result ≡ sum (λ q. q) quotas.now) × (result ≤ 65025) }
 {
     let mut total: usize = 0;
-    let mut i = 0;
-    while i < quotas.len() {
+    for i in 0..quotas.len() {
         total += roster_positions::byte_at(quotas, i) as usize;
-        i += 1;
     }
     total
 }
@@ -159,15 +157,13 @@ pub fn rankings_with(
 {
     let mut len = 0;
     let mut at = start;
-    let mut j = 0;
-    while j < n {
+    for j in 0..n {
         let a = roster_positions::byte_at(file, at) as usize;
         let b = roster_positions::byte_at(file, at + 1) as usize;
         let strict = roster_positions::part(file, at + 2, ENTRY_WIDTH * a);
         let tied = roster_positions::part(file, at + 2 + ENTRY_WIDTH * a, ENTRY_WIDTH * b);
         len = append_ranking(&mut *out, len, strict, tied, joiner, row, (j + 1) as u8);
         at += ENTRY_WIDTH * (a + b) + 2;
-        j += 1;
     }
     len
 }
@@ -178,8 +174,7 @@ pub fn too_long(file: &[u8], start: usize, n: usize, row: &[bool; ROW]) -> bool
     ensures { result ≡ long_from (marks_in row.now) file.now n 1 start }
 {
     let mut at = start;
-    let mut j = 0;
-    while j < n {
+    for j in 0..n {
         let a = roster_positions::byte_at(file, at) as usize;
         let b = roster_positions::byte_at(file, at + 1) as usize;
         let more = shift_count(row, (j + 1) as u8);
@@ -187,7 +182,6 @@ pub fn too_long(file: &[u8], start: usize, n: usize, row: &[bool; ROW]) -> bool
             return true;
         }
         at += ENTRY_WIDTH * (a + b) + 2;
-        j += 1;
     }
     false
 }

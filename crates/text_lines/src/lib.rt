@@ -134,8 +134,7 @@ pub fn put_diary(out: &mut [u8], at: usize, flat: &[u8], n: usize) -> usize
     ensures { Appended out.old at (texts (diary_at flat.now) n) out.new result }
 {
     let mut next = at;
-    let mut i: usize = 0;
-    while i < n {
+    for i in 0..n {
         let b = RECORD_WIDTH * i;
         next = put_record(
             out,
@@ -146,7 +145,6 @@ pub fn put_diary(out: &mut [u8], at: usize, flat: &[u8], n: usize) -> usize
             flat[b + 3],
             flat[b + 4],
         );
-        i += 1;
     }
     next
 }
@@ -157,11 +155,9 @@ pub fn put_pairs(out: &mut [u8], at: usize, pairs: &[u8], n: usize) -> usize
     ensures { Appended out.old at (texts (pair_at pairs.now) n) out.new result }
 {
     let mut next = at;
-    let mut i: usize = 0;
-    while i < n {
+    for i in 0..n {
         let p = pair_bytes::get(pairs, PAIR_WIDTH * i, true);
         next = put_pair(out, next, p.surveyor, p.stand, p.shift, b'\n');
-        i += 1;
     }
     next
 }

@@ -18,13 +18,11 @@ pub fn put_pairs(out: &mut [u8], from: usize, keys: [u16; 8], n: usize)
     requires { (n ≤ quota_limit) × (from + 2 * n ≤ length out.old) × ((i : ℕ) → at keys i ≤ empty_key) }
     ensures { out.new ≡ written from (key_bytes (take n keys)) out.old }
 {
-    let mut i = 0;
-    while i < n {
+    for i in 0..n {
         let key = keys[i];
         let place = from + 2 * i;
         out[place] = (key / 64) as u8;
         out[place + 1] = (key % 64) as u8;
-        i += 1;
     }
 }
 
@@ -44,8 +42,7 @@ pub fn side_pairs(
     ensures out_after { out.new ≡ written from (side_out a b shared quota n) out.old }
 {
     let mut place = from;
-    let mut v = 0;
-    while v < n {
+    for v in 0..n {
         let x = a[v];
         let y = b[v];
         let s = shared[v];
@@ -54,7 +51,6 @@ pub fn side_pairs(
         let keys = pairs.keys;
         put_pairs(&mut *out, place, keys, places);
         place += 2 * places;
-        v += 1;
     }
     place
 }

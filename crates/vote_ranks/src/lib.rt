@@ -33,12 +33,10 @@ fn turn_sum(a: &[u8; 8], b: &[u8; 8], k: usize, j: usize) -> usize
     ensures { result ≡ turn_sum j (take k a.now) (take k b.now) }
 {
     let mut sum = 0;
-    let mut i = 0;
-    while i < k {
+    for i in 0..k {
         let p = wrapped(i + j, k);
         let rate = rated(a[p], b[i]);
         sum += rate as usize;
-        i += 1;
     }
     sum
 }
@@ -50,13 +48,11 @@ pub fn least_sum(a: &[u8; 8], b: &[u8; 8], k: usize) -> usize
     ensures { result ≡ least_sum (take k a.now) (take k b.now) }
 {
     let mut least = 2 * k;
-    let mut j = 0;
-    while j < k {
+    for j in 0..k {
         let s = turn_sum(a, b, k, j);
         if s < least {
             least = s;
         }
-        j += 1;
     }
     least
 }

@@ -1,4 +1,4 @@
-use Rattle.std.proofs.Common.{false, ◌-◌, ◌≤◌}
+use Rattle.std.proofs.Common.{false, ◌≤◌}
 use Rattle.arrays.specs.ArrayInstance.{at}
 use Rattle.arrays.specs.Passes.{Fill}
 use Rattle.instance.specs.Cells.{cell_edge}
@@ -10,6 +10,3 @@ invariant-loop-e l =
     × Fill 0 1024 l.sh l.e (λ e. (cell_edge l.listed l.strict l.next (at l.cell e)).shift)
     × Fill 0 1024 l.rank_s l.e (λ e. (cell_edge l.listed l.strict l.next (at l.cell e)).rank_s) × Fill 0 1024 l.rank_t l.e (λ e. (cell_edge l.listed l.strict l.next (at l.cell e)).rank_t)
     × Fill false 1024 l.tied l.e (λ e. (cell_edge l.listed l.strict l.next (at l.cell e)).tied)
-
-abbrev pub decreases-loop-e : goal.decreases-loop-e
-decreases-loop-e l = l.m - l.e

@@ -1,4 +1,4 @@
-use Rattle.std.proofs.Common.{◌≡◌, ◌-◌, ◌≤◌, length}
+use Rattle.std.proofs.Common.{◌≡◌, ◌≤◌, length}
 use Rattle.model.specs.Limits.{plan_limit}
 use Rattle.arrays.specs.ArrayInstance.{flag}
 use Rattle.arrays.specs.Kept.{Kept}
@@ -6,6 +6,3 @@ use Rattle.plan_lookup.proofs.list_edges.Given as goal
 
 abbrev pub invariant-loop-e : goal.invariant-loop-e
 invariant-loop-e l = (l.e ≤ l.m) × (length l.edges ≡ plan_limit) × Kept (flag l.chosen) l.edges l.n l.e
-
-abbrev pub decreases-loop-e : goal.decreases-loop-e
-decreases-loop-e l = l.m - l.e

@@ -7,6 +7,3 @@ use Rattle.plan_turned.proofs.only_first.Given as goal
 abbrev pub invariant-loop-k : goal.invariant-loop-k
 invariant-loop-k l =
     (l.k ≤ l.n) × (l.at ≡ width_of l.shifts * l.k + 1) × (all? first_pair (pairs_from l.shifts l.file l.n 1) ≡ all? first_pair (pairs_from l.shifts l.file (l.n - l.k) l.at))
-
-abbrev pub decreases-loop-k : goal.decreases-loop-k
-decreases-loop-k l = l.n - l.k

@@ -1,4 +1,4 @@
-use Rattle.std.proofs.Common.{◌≡◌, Bool, ◌&&◌, ◌||◌, List, ℕ, ◌-◌, ◌≤◌}
+use Rattle.std.proofs.Common.{◌≡◌, Bool, ◌&&◌, ◌||◌, List, ℕ, ◌≤◌}
 use Rattle.lists.specs.Search.{low}
 use Rattle.model.specs.Limits.{empty_rank}
 use Rattle.arrays.specs.ArrayInstance.{at, flag}
@@ -10,6 +10,3 @@ in_n other rem lo f d = flag rem d && (flag lo (at other d) || flag f d)
 
 abbrev pub invariant-loop-k : goal.invariant-loop-k
 invariant-loop-k l = (l.k ≤ empty_rank) × (low (in_worst l.m l.table (in_n l.other l.rem l.lo l.f) l.v) l.k ≡ l.k)
-
-abbrev pub decreases-loop-k : goal.decreases-loop-k
-decreases-loop-k l = empty_rank - l.k

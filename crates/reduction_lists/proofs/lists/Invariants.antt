@@ -1,9 +1,6 @@
-use Rattle.std.proofs.Common.{◌-◌, ◌≤◌}
+use Rattle.std.proofs.Common.{◌≤◌}
 use Rattle.reduction_lists.specs.Listed.{Listing}
 use Rattle.reduction_lists.proofs.lists.Given as goal
 
 abbrev pub invariant-loop-v : goal.invariant-loop-v
 invariant-loop-v l = (l.v ≤ 32) × Listing l.m l.end l.initial.table l.v l.k l.table
-
-abbrev pub decreases-loop-v : goal.decreases-loop-v
-decreases-loop-v l = 32 - l.v

@@ -1,4 +1,4 @@
-use Rattle.std.proofs.Common.{◌≡◌, List, ℕ, ◌-◌}
+use Rattle.std.proofs.Common.{◌≡◌, List, ℕ}
 use Rattle.arrays.specs.ArrayInstance.{at}
 use Rattle.arrays.specs.Linked.{Linked}
 use Rattle.rival_tables.specs.Filled.{Written}
@@ -9,6 +9,3 @@ abbrev pub invariant-loop-i : goal.invariant-loop-i
 invariant-loop-i l =
     (st : List ℕ) → Linked l.m st l.head l.next
     → Written l.n (λ i j v. v ≡ arc_price l.m l.sv st l.rs l.rt l.plan (at l.pt i) (at l.rpt i) (at l.ps j) (at l.rps j)) l.o l.i
-
-abbrev pub decreases-loop-i : goal.decreases-loop-i
-decreases-loop-i l = l.n - l.i

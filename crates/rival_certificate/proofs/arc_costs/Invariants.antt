@@ -1,8 +1,5 @@
-use Rattle.std.proofs.Common.{◌-◌, ◌≤◌}
+use Rattle.std.proofs.Common.{◌≤◌}
 use Rattle.rival_certificate.proofs.arc_costs.Given as goal
 
 abbrev pub invariant-loop-c : goal.invariant-loop-c
 invariant-loop-c l = l.c ≤ 4096
-
-abbrev pub decreases-loop-c : goal.decreases-loop-c
-decreases-loop-c l = 4096 - l.c

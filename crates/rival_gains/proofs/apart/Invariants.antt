@@ -1,4 +1,4 @@
-use Rattle.std.proofs.Common.{◌≡◌, List, ℕ, ◌-◌}
+use Rattle.std.proofs.Common.{◌≡◌, List, ℕ}
 use Rattle.arrays.specs.ArrayInstance.{at}
 use Rattle.arrays.specs.Linked.{Linked}
 use Rattle.rival_tables.specs.Filled.{Written}
@@ -9,6 +9,3 @@ abbrev pub invariant-loop-i : goal.invariant-loop-i
 invariant-loop-i l =
     (end : List ℕ) → Linked l.m end l.head l.next
     → Written l.n (λ i j v. v ≡ gain_price_but l.m end l.other l.rank l.plan l.room 3 (at l.pe i) (at l.pr i) (at l.po j)) l.o l.i
-
-abbrev pub decreases-loop-i : goal.decreases-loop-i
-decreases-loop-i l = l.n - l.i

@@ -7,6 +7,3 @@ use Rattle.rival_levels.proofs.levels.Given as goal
 abbrev pub invariant-loop-l : goal.invariant-loop-l
 invariant-loop-l l =
     (l.l ≤ l.b) × Small l.n l.d × Rows l.d l.n (layer_at l.arcs l.n l.l) × (levels_at l.arcs l.terminals l.n l.k (l.b - l.l) l.l ≡ levels_at l.arcs l.terminals l.n l.k l.b 0)
-
-abbrev pub decreases-loop-l : goal.decreases-loop-l
-decreases-loop-l l = l.b - l.l

@@ -1,10 +1,7 @@
-use Rattle.std.proofs.Common.{◌≡◌, ◌-◌, ◌≤◌}
+use Rattle.std.proofs.Common.{◌≡◌, ◌≤◌}
 use Rattle.rival_tables.specs.Filled.{cell}
 use Rattle.rival_walk.specs.Leads.{lead_at, lead_rest}
 use Rattle.rival_walk.proofs.lead.Given as goal
 
 abbrev pub invariant-loop-y : goal.invariant-loop-y
 invariant-loop-y l = (l.y ≤ l.n) × (l.v ≤ 133) × (lead_rest l.arcs l.n (cell l.table l.k) l.i (l.v, l.p) l.y ≡ lead_at l.arcs l.n (cell l.table l.k) l.i)
-
-abbrev pub decreases-loop-y : goal.decreases-loop-y
-decreases-loop-y l = l.n - l.y

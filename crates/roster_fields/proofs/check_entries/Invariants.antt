@@ -1,4 +1,4 @@
-use Rattle.std.proofs.Common.{ℕ, ◌-◌, ◌≤◌, ◌≡◌, Bool, List, ◌++◌, length, take, drop}
+use Rattle.std.proofs.Common.{ℕ, ◌≤◌, ◌≡◌, Bool, List, ◌++◌, length, take, drop}
 use Rattle.model.specs.Roster.{Entry, no_entry}
 use Rattle.roster_reading.specs.Check.{refusal_of}
 use Rattle.roster_reading.specs.Layout.{entry_of, entries_in}
@@ -16,6 +16,3 @@ invariant-loop-i l =
     → (refusal l.tied l.other seen no_entry (entries_in l.shifts l.n l.part)
     ≡ refusal l.tied l.other (seen ++ take l.i (entries_in l.shifts l.n l.part)) (entry_of l.last) (drop l.i (entries_in l.shifts l.n l.part)))
     × Shows l.row (seen ++ take l.i (entries_in l.shifts l.n l.part)))
-
-abbrev pub decreases-loop-i : goal.decreases-loop-i
-decreases-loop-i l = l.n - l.i

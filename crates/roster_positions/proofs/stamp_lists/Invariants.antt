@@ -6,6 +6,3 @@ abbrev pub invariant-loop-i : goal.invariant-loop-i
 invariant-loop-i l =
     (l.i ≤ l.n) × (l.at ≤ l.start + 511 * l.i) × (lists_end l.file l.n l.start ≡ lists_end l.file (l.n - l.i) l.at)
     × (lists_stamped l.file l.n 0 l.start l.initial.table ≡ lists_stamped l.file (l.n - l.i) (l.i * row_width) l.at l.table)
-
-abbrev pub decreases-loop-i : goal.decreases-loop-i
-decreases-loop-i l = l.n - l.i

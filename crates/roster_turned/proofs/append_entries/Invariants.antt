@@ -1,4 +1,4 @@
-use Rattle.std.proofs.Common.{◌-◌, ◌≤◌, ◌≡◌, ◌&&◌, drop}
+use Rattle.std.proofs.Common.{◌≤◌, ◌≡◌, ◌&&◌, drop}
 use Rattle.lists.specs.Keep.{all?}
 use Rattle.model_desk.specs.Seasons.{is_first}
 use Rattle.roster_parts.specs.Growth.{Going}
@@ -9,6 +9,3 @@ abbrev pub invariant-loop-i : goal.invariant-loop-i
 invariant-loop-i l =
     (l.i ≤ l.count) × Going (other_bytes l.shifts (part_entries l.shifts l.part)) (other_bytes l.shifts (drop l.i (part_entries l.shifts l.part))) l.n l.initial.out l.len l.out
     × ((l.first && all? is_first (drop l.i (part_entries l.shifts l.part))) ≡ all? is_first (part_entries l.shifts l.part))
-
-abbrev pub decreases-loop-i : goal.decreases-loop-i
-decreases-loop-i l = l.count - l.i

@@ -11,6 +11,3 @@ invariant-loop-i l =
     × Going (gather (block_bytes (layout_of (not l.shifts))) (blocks_from l.shifts l.ties l.file l.count l.start))
     (gather (block_bytes (layout_of (not l.shifts))) (blocks_from l.shifts l.ties l.file (l.count - l.i) l.at)) l.n l.initial.out l.len l.out
     × ((l.first && all? first_block (blocks_from l.shifts l.ties l.file (l.count - l.i) l.at)) ≡ all? first_block (blocks_from l.shifts l.ties l.file l.count l.start))
-
-abbrev pub decreases-loop-i : goal.decreases-loop-i
-decreases-loop-i l = l.count - l.i
