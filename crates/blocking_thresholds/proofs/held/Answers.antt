@@ -63,6 +63,3 @@ bounds-d-v c = inside (goal.at.bounds-d-v c).In-loop-k
 
 pub bounds-d-v-in-loop-k : goal.bounds-d-v-in-loop-k
 bounds-d-v-in-loop-k c = inside (goal.at.bounds-d-v-in-loop-k c).In-loop-k
-
-pub overflow_add-k : goal.overflow_add-k
-overflow_add-k c = omega (arith, c.requires.few)

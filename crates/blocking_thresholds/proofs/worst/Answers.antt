@@ -55,6 +55,3 @@ bounds-rank-e c = edge (goal.at.bounds-rank-e c).In-loop-k
 
 pub bounds-w-v-in-loop-k : goal.bounds-w-v-in-loop-k
 bounds-w-v-in-loop-k c = inside (goal.at.bounds-w-v-in-loop-k c).In-loop-k
-
-pub overflow_add-k : goal.overflow_add-k
-overflow_add-k c = omega (arith, c.requires.few)

@@ -75,9 +75,6 @@ overflow_cast-cur c = omega (arith, met_2 (goal.at.overflow_cast-cur c).Else-f-e
 pub bounds-day-cur : goal.bounds-day-cur
 bounds-day-cur c = omega (arith, met_2 (goal.at.bounds-day-cur c).Else-f-eq0, c.requires.many)
 
-pub overflow_add-i : goal.overflow_add-i
-overflow_add-i c = omega (arith, c.requires.many)
-
 pub loop-i-preserved : goal.loop-i-preserved
 loop-i-preserved c =
     let a = c.args in

@@ -15,9 +15,6 @@ with_day-requires c =
     room a.sv.now a.st.now a.n c.requires.0 c.requires.3 c.requires.4 c.loop-k.k (omega arith) c.requires.1 c.requires.2 c.loop-k.invariant.1
     c.loop-k.invariant.2 c.loop-k.invariant.3
 
-pub overflow_add-k : goal.overflow_add-k
-overflow_add-k c = omega (arith, c.requires.0)
-
 pub loop-k-smaller : goal.loop-k-smaller
 loop-k-smaller c = omega arith
 

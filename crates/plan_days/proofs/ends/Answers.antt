@@ -37,6 +37,3 @@ bounds-es-k c = omega (arith, c.requires.0)
 
 pub bounds-r-k : goal.bounds-r-k
 bounds-r-k c = omega (arith, c.requires.0)
-
-pub overflow_add-k : goal.overflow_add-k
-overflow_add-k c = omega (arith, c.requires.0)

@@ -15,9 +15,6 @@ overflow_add-out c = omega (arith, c.requires.3 c.loop-j.j)
 pub bounds-out-j : goal.bounds-out-j
 bounds-out-j c = omega (arith, c.requires.2, c.loop-j.invariant.1)
 
-pub overflow_add-j : goal.overflow_add-j
-overflow_add-j c = omega (arith, c.requires.0)
-
 pub loop-j-smaller : goal.loop-j-smaller
 loop-j-smaller c = omega arith
 

@@ -37,10 +37,6 @@ put-requires c =
 pub overflow_add-k : goal.overflow_add-k
 overflow_add-k c = omega (arith, room (goal.at.overflow_add-k c).Else-not-chosen-e)
 
-pub overflow_add-e-in-loop-e : goal.overflow_add-e-in-loop-e
-overflow_add-e-in-loop-e c =
-    omega (arith, c.loop-e-test.true, c.requires.0)
-
 pub loop-e-smaller : goal.loop-e-smaller
 loop-e-smaller c = omega (arith, c.loop-e-test.true)
 

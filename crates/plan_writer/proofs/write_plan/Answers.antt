@@ -69,9 +69,6 @@ bounds-st-e c = omega (arith, (edge (goal.at.bounds-st-e c).In-loop-k).0)
 pub bounds-sh-e : goal.bounds-sh-e
 bounds-sh-e c = omega (arith, (edge (goal.at.bounds-sh-e c).In-loop-k).0)
 
-pub overflow_add-k-in-loop-k : goal.overflow_add-k-in-loop-k
-overflow_add-k-in-loop-k c = omega (arith, (room (goal.at.overflow_add-k-in-loop-k c).In-loop-k).1)
-
 pub loop-k-smaller : goal.loop-k-smaller
 loop-k-smaller c = omega (arith, c.loop-k-test.true)
 

@@ -70,6 +70,3 @@ offset_bounds-x-v c = omega (arith, node (goal.at.offset_bounds-x-v c).In-loop-i
 
 pub bounds-x-v : goal.bounds-x-v
 bounds-x-v c = omega (arith, node (goal.at.bounds-x-v c).In-loop-i)
-
-pub overflow_add-i : goal.overflow_add-i
-overflow_add-i c = omega (arith, node (goal.at.overflow_add-i c).In-loop-i)

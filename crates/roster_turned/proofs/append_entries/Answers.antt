@@ -40,12 +40,6 @@ turn p =
     let a = p.args in
     entries_turn a.shifts a.part.now p.loop-i.i (there) (entry_of p.entry_at-x.result) p.entry_at-x.ensures
 
-pub overflow_add-i : goal.overflow_add-i
-overflow_add-i c =
-    let a = c.args in
-    let h : c.loop-i.i < length a.part.now = entry_near a.shifts a.part.now c.loop-i.i (there (goal.at.overflow_add-i c).In-loop-i) in
-    search rules
-
 pub loop-i-preserved : goal.loop-i-preserved
 loop-i-preserved c =
     let a = c.args in
