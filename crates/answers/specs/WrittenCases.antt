@@ -1,18 +1,19 @@
 -- What each case of the code's answer says, in document 01's words: the bytes written. And what such an answer says of a file of another
 -- season (W-205): which bytes they are.
 use Rattle.std.specs.Prelude.{ℕ, suc, ◌≡◌, refl, List, length, take, drop}
+use Rattle.std.specs.Prelude.{Result}
+use Rattle.std.specs.declared.result.Result.TheVariants.{Ok, Err}
 use Rattle.std.proofs.Common.{arith, ap, ◌∙◌}
 use Rattle.std.proofs.Math.Seq.{take-append_seam}
 use Rattle.model.specs.Reading.{Reading, accepted, refused}
 use Rattle.model_desk.specs.Desk as model
-use Rattle.answers.specs.GroupCases.{group_shown}
-use Rattle.answers.specs.declared.Written.{Written}
-use Rattle.answers.specs.declared.Written.TheVariants.{Wrote, Refused}
+use Rattle.answers.specs.declared.Refusal.{Refusal}
+use Rattle.answers.specs.RefusalCases.{number_of}
 
 -- how many bytes were written, or the refusal
-abbrev pub written_shown : Written → model.Answer model.writes
-written_shown (Wrote n) = model.said (model.wrote n)
-written_shown (Refused n g) = model.refused n (group_shown g)
+abbrev pub written_shown : Result ℕ Refusal → model.Answer model.writes
+written_shown (Ok n) = model.said (model.wrote n)
+written_shown (Err r) = model.refusal (number_of r)
 
 -- one more than the bytes that an answer says were written, 0 for a refusal
 abbrev pub bytes_in : model.Answer model.writes → ℕ

@@ -1,0 +1,44 @@
+-- What each refusal of the code stands for: the number that the documents give it. And a call's result, which may be one, in the words of the model's
+-- readings: what was read, or the number of the refusal.
+use Rattle.std.specs.Prelude.{ℕ}
+use Rattle.std.specs.Prelude.{Result}
+use Rattle.std.specs.declared.result.Result.TheVariants.{Ok, Err}
+use Rattle.model.specs.Reading.{Reading, accepted, refused}
+use Rattle.answers.specs.declared.Refusal.{Refusal}
+use Rattle.answers.specs.declared.Refusal.TheVariants as refusal
+
+-- "Turned back" of document 01, then the requests' own
+abbrev pub number_of : Refusal → ℕ
+number_of refusal.CutShort = 1
+number_of refusal.TooMany = 2
+number_of refusal.QuotaTooHigh = 3
+number_of refusal.NoSuchNode = 4
+number_of refusal.ListedTwice = 5
+number_of refusal.TieNotAscending = 6
+number_of refusal.WrongCount = 7
+number_of refusal.OneSided = 8
+number_of refusal.BytesLeft = 9
+number_of refusal.NoSuchPair = 10
+number_of refusal.PairsNotAscending = 11
+number_of refusal.PastQuota = 12
+number_of refusal.NoRoster = 13
+number_of refusal.NoPlan = 14
+number_of refusal.BufferTooSmall = 15
+number_of refusal.NoSuchSurveyor = 16
+number_of refusal.RosterFull = 17
+number_of refusal.NoSuchShift = 18
+number_of refusal.OtherShift = 19
+number_of refusal.NoProposal = 20
+number_of refusal.NoRange = 21
+number_of refusal.NotOneToOne = 22
+number_of refusal.NoRoute = 23
+
+-- what a call hands on, or the number of its refusal
+abbrev pub reading_of : {A : Type 0} → Result A Refusal → Reading A
+reading_of (Ok a) = accepted a
+reading_of (Err r) = refused (number_of r)
+
+-- the number of a refusal, 0 for none
+abbrev pub code_of : {A : Type 0} → Result A Refusal → ℕ
+code_of (Ok a) = 0
+code_of (Err r) = number_of r
