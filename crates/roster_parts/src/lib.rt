@@ -1,6 +1,6 @@
 // A roster's bytes put together: parts appended behind what an array of a roster's size holds already, lists under other numbers (W-210, W-214: each
-// entry's number by a table, its shift as it is), sections with their counts, and the answer of a change. What does not fit into the array is left out; a
-// roster within the limits always fits. Nothing here checks a roster: on bytes that are none, what is written is what these functions say and no more.
+// entry's number by a table, its shift as it is), and sections with their counts. What does not fit into the array is left out; a roster within the limits
+// always fits. Nothing here checks a roster: on bytes that are none, what is written is what these functions say and no more.
 #![tactic(auto)]
 
 ghost use Rattle.std.specs.Prelude.{◌≡◌, [], ◌∷◌, ◌++◌, ◌+◌, ◌-◌, ◌*◌, ◌/◌, ◌≤◌, length, take};
@@ -12,22 +12,11 @@ ghost use Rattle.roster_parts.specs.Mapped.{all_under, lists_under, rankings_und
 
 use limits::{ENTRY_WIDTH, ROSTER_SIZE};
 
-// the answer of a change: the changed roster in the front of the array, or the number of the refusal, 0 for none
+// a roster's bytes, in the front of an array: what a change makes of a roster
 #[derive(Drop)]
-pub struct Changed {
-    pub refusal: u8,
+pub struct RosterBytes {
     pub len: usize,
     pub roster: [u8; ROSTER_SIZE],
-}
-
-pub fn refused(number: u8) -> Changed
-    ensures { result.refusal ≡ number }
-{
-    Changed {
-        refusal: number,
-        len: 0,
-        roster: [0; ROSTER_SIZE],
-    }
 }
 
 // one byte behind the first n
@@ -66,8 +55,8 @@ pub(crate) fn append_some(out: &mut [u8; ROSTER_SIZE], n: usize, part: &[u8]) ->
     ensures { Grown part.now n out.old result out.new }
 {
     let mut at = n;
-    for i in 0..part.len() {
-        at = append_byte(&mut *out, at, part[i]);
+    for &b in part {
+        at = append_byte(&mut *out, at, b);
     }
     at
 }
