@@ -1,7 +1,7 @@
 -- What each refusal of the code stands for: the number that the documents give it. And a call's result, which may be one, in the words of the model's
 -- readings: what was read, or the number of the refusal.
-use Rattle.std.specs.Prelude.{ℕ}
-use Rattle.std.specs.Prelude.{Result}
+use Rattle.std.specs.Prelude.{ℕ, ◌<◌, Result}
+use Rattle.std.proofs.Common.{arith}
 use Rattle.std.specs.declared.result.Result.TheVariants.{Ok, Err}
 use Rattle.model.specs.Reading.{Reading, accepted, refused}
 use Rattle.answers.specs.declared.Refusal.{Refusal}
@@ -42,3 +42,29 @@ reading_of (Err r) = refused (number_of r)
 abbrev pub code_of : {A : Type 0} → Result A Refusal → ℕ
 code_of (Ok a) = 0
 code_of (Err r) = number_of r
+
+-- no refusal has the number 0, which stands for none
+pub number_some : (r : Refusal) → 0 < number_of r
+number_some refusal.CutShort = omega arith
+number_some refusal.TooMany = omega arith
+number_some refusal.QuotaTooHigh = omega arith
+number_some refusal.NoSuchNode = omega arith
+number_some refusal.ListedTwice = omega arith
+number_some refusal.TieNotAscending = omega arith
+number_some refusal.WrongCount = omega arith
+number_some refusal.OneSided = omega arith
+number_some refusal.BytesLeft = omega arith
+number_some refusal.NoSuchPair = omega arith
+number_some refusal.PairsNotAscending = omega arith
+number_some refusal.PastQuota = omega arith
+number_some refusal.NoRoster = omega arith
+number_some refusal.NoPlan = omega arith
+number_some refusal.BufferTooSmall = omega arith
+number_some refusal.NoSuchSurveyor = omega arith
+number_some refusal.RosterFull = omega arith
+number_some refusal.NoSuchShift = omega arith
+number_some refusal.OtherShift = omega arith
+number_some refusal.NoProposal = omega arith
+number_some refusal.NoRange = omega arith
+number_some refusal.NotOneToOne = omega arith
+number_some refusal.NoRoute = omega arith

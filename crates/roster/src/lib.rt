@@ -3,29 +3,26 @@
 
 ghost use Rattle.std.specs.Prelude.{◌≡◌};
 ghost use Rattle.model.specs.RosterFile.{read_roster_by, read_roster};
-ghost use Rattle.answers.specs.FileCases.{file_case};
+ghost use Rattle.answers.specs.RefusalCases.{reading_of};
+ghost use Rattle.answers.specs.FileCases.{file_read};
 ghost use Rattle.roster_reading.specs.Layout.{layout_of};
 
 mod file;
 mod pairs;
 
-use answers::FileAnswer;
-use roster_reading::Section;
+use answers::Refusal;
 
-// A roster file, with shifts or without, is accepted, or refused with the number and the group of the refusal.
-pub fn file_answer(file: &[u8], shifts: bool) -> FileAnswer
-    ensures { result ≡ file_case (read_roster_by (layout_of shifts) file.now) }
+// A roster file, with shifts or without, is accepted, or refused.
+pub fn file_answer(file: &[u8], shifts: bool) -> Result<(), Refusal>
+    ensures { reading_of result ≡ file_read (read_roster_by (layout_of shifts) file.now) }
 {
-    let s = file::roster_file(file, shifts);
-    match s {
-        Section::Read(_) => FileAnswer::Accepted,
-        Section::Refused(n) => FileAnswer::Refused(n, answers::group_of(n)),
-    }
+    file::roster_file(file, shifts)?;
+    Ok(())
 }
 
 // A roster file, as it stands since W-204.
-pub fn read_roster(file: &[u8]) -> FileAnswer
-    ensures { result ≡ file_case (read_roster file.now) }
+pub fn read_roster(file: &[u8]) -> Result<(), Refusal>
+    ensures { reading_of result ≡ file_read (read_roster file.now) }
 {
     file_answer(file, true)
 }

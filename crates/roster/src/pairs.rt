@@ -25,9 +25,7 @@ pub(crate) fn row_alike(surveyors: &[bool], stands: &[bool], i: usize, n: usize)
     requires { (i < node_limit) × (n ≤ node_limit) × (length surveyors.now ≡ table_size) × (length stands.now ≡ table_size) }
     ensures { result ≡ row_alike surveyors.now stands.now i n }
 {
-    let mut j = n;
-    while 0 < j {
-        j -= 1;
+    for j in (0..n).rev() {
         if !three_alike(
             surveyors,
             stands,
@@ -45,9 +43,7 @@ pub(crate) fn both_alike(surveyors: &[bool], stands: &[bool], m: usize, n: usize
     requires { (m ≤ node_limit) × (n ≤ node_limit) × (length surveyors.now ≡ table_size) × (length stands.now ≡ table_size) }
     ensures { result ≡ both_alike surveyors.now stands.now m n }
 {
-    let mut i = m;
-    while 0 < i {
-        i -= 1;
+    for i in (0..m).rev() {
         if !row_alike(surveyors, stands, i, n) {
             return false;
         }

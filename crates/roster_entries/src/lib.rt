@@ -5,10 +5,12 @@
 ghost use Rattle.std.specs.Prelude.{◌≡◌, ◌+◌, ◌*◌, ◌≤◌, length, drop};
 ghost use Rattle.model.specs.Limits.{shift_limit};
 ghost use Rattle.model.specs.Roster.{before};
+ghost use Rattle.answers.specs.RefusalCases.{code_of};
 ghost use Rattle.roster_reading.specs.Layout.{entry_of, width_of, entry_from};
 ghost use Rattle.roster_reading.specs.Slot.{HasSlot, slot_of};
 ghost use Rattle.roster_reading.specs.Row.{mark_check};
 
+use answers::Refusal;
 use limits::{ENTRY_WIDTH, SHIFT_LIMIT};
 use roster_reading::Entry;
 
@@ -69,31 +71,37 @@ pub fn ascends(x: Entry, y: Entry) -> bool
 
 // "4 a list entry that is 0 or above the other side's count", "a shift outside 1 to 3 in a list (18, straight after 4 ..)", "5 an entry
 // twice in one list", and in a tie also "6 a tie that does not ascend". The row has a mark for each entry before it in its list.
-pub fn entry_refusal(x: Entry, last: Entry, other: u8, tied: bool, row: &[bool]) -> u8
+pub fn check_entry(
+    x: Entry,
+    last: Entry,
+    other: u8,
+    tied: bool,
+    row: &[bool],
+) -> Result<(), Refusal>
     requires { other * shift_limit ≤ length row.now }
-    ensures { result ≡ mark_check tied other row.now (entry_of last) (entry_of x) }
+    ensures { code_of result ≡ mark_check tied other row.now (entry_of last) (entry_of x) }
 {
     if x.number == 0 {
-        return 4;
+        return Err(Refusal::NoSuchNode);
     }
     if other < x.number {
-        return 4;
+        return Err(Refusal::NoSuchNode);
     }
     if x.shift == 0 {
-        return 18;
+        return Err(Refusal::NoSuchShift);
     }
     if SHIFT_LIMIT < x.shift {
-        return 18;
+        return Err(Refusal::NoSuchShift);
     }
     let k = slot(x);
     if row[k] {
-        return 5;
+        return Err(Refusal::ListedTwice);
     }
     if !tied {
-        return 0;
+        return Ok(());
     }
     if !ascends(last, x) {
-        return 6;
+        return Err(Refusal::TieNotAscending);
     }
-    0
+    Ok(())
 }

@@ -7,14 +7,15 @@ ghost use Rattle.std.specs.Prelude.{[], ◌*◌, ◌≤◌, length};
 ghost use Rattle.model.specs.Limits.{node_limit, shift_limit};
 ghost use Rattle.model.specs.Roster.{entries};
 ghost use Rattle.model.specs.RosterFile.{read_list, read_ranking, read_many};
+ghost use Rattle.answers.specs.RefusalCases.{reading_of};
 ghost use Rattle.roster_reading.specs.Layout.{layout_of, list_by, ranking_by};
 ghost use Rattle.roster_reading.specs.Slot.{row_width};
 ghost use Rattle.roster_reading.specs.Row.{Shows, Marked, EntriesAt};
 ghost use Rattle.roster_reading.specs.Table.{ListsShown, RankingsShown};
 
+use answers::Refusal;
 use limits::NODE_LIMIT;
 use roster_entries::SHIFTS;
-use roster_reading::Section;
 
 // The marks of a row: one for each number from 1 to 32 and each of its shifts.
 pub const ROW: usize = NODE_LIMIT as usize * SHIFTS;
@@ -31,15 +32,15 @@ pub fn entries_at(
     shifts: bool,
     tied: bool,
     row: &mut [bool],
-) -> Section
+) -> Result<usize, Refusal>
     requires { (at ≤ length file.now) × (other * shift_limit ≤ length row.old) }
-    ensures { EntriesAt shifts tied other n file.now at row.old result row.new }
+    ensures { EntriesAt shifts tied other n file.now at row.old (reading_of result) row.new }
 {
     let width = roster_entries::entry_width(shifts);
     let there = roster_fields::whole_fields(file.len(), at, n, width);
     let end = at + width * there;
-    let refusal = roster_fields::check_entries(&file[at..end], there, other, shifts, tied, row);
-    roster_fields::part_answer(refusal, there, n, end)
+    let checked = roster_fields::check_entries(&file[at..end], there, other, shifts, tied, row);
+    roster_fields::part_answer(checked, there, n, end)
 }
 
 // "a length byte and stand numbers, best first": at most `longest` entries, each of a number up to `other`.
@@ -50,16 +51,16 @@ pub fn list_at(
     other: u8,
     shifts: bool,
     row: &mut [bool],
-) -> Section
+) -> Result<usize, Refusal>
     requires { (other * shift_limit ≤ length row.old) × Shows row.old [] }
-    ensures { Marked (read_list (layout_of shifts) longest other) Shows file.now at result row.new }
+    ensures { Marked (read_list (layout_of shifts) longest other) Shows file.now at (reading_of result) row.new }
 {
     if file.len() <= at {
-        return Section::Refused(1);
+        return Err(Refusal::CutShort);
     }
     let n = file[at];
     if longest < n {
-        return Section::Refused(2);
+        return Err(Refusal::TooMany);
     }
     let start = at + 1;
     let count = n as usize;
@@ -75,12 +76,12 @@ pub fn ranking_at(
     other: u8,
     shifts: bool,
     row: &mut [bool],
-) -> Section
+) -> Result<usize, Refusal>
     requires { (at ≤ length file.now) × (other * shift_limit ≤ length row.old) × Shows row.old [] }
-    ensures { Marked (read_ranking (layout_of shifts) longest other) (λ row R. Shows row (entries R)) file.now at result row.exit.now }
+    ensures { Marked (read_ranking (layout_of shifts) longest other) (λ row R. Shows row (entries R)) file.now at (reading_of result) row.new }
 {
     if file.len() - at < 2 {
-        return Section::Refused(1);
+        return Err(Refusal::CutShort);
     }
     let second = at + 1;
     let a = file[at];
@@ -88,13 +89,10 @@ pub fn ranking_at(
     let strict = a as usize;
     let tied = b as usize;
     if (longest as usize) < strict + tied {
-        return Section::Refused(2);
+        return Err(Refusal::TooMany);
     }
     let start = at + 2;
-    let s = entries_at(file, start, strict, other, shifts, false, &mut *row);
-    let Section::Read(next) = s else {
-        return s;
-    };
+    let next = entries_at(file, start, strict, other, shifts, false, &mut *row)?;
     entries_at(file, next, tied, other, shifts, true, row)
 }
 
@@ -106,22 +104,18 @@ pub fn lists_at(
     other: u8,
     shifts: bool,
     table: &mut [bool],
-) -> Section
+) -> Result<usize, Refusal>
     requires { (start ≤ length file.now) × (n * row_width ≤ length table.old) × (other ≤ node_limit) × ListsShown table.old [] }
-    ensures { Marked (read_many (list_by shifts other) n) ListsShown file.now start result table.new }
+    ensures { Marked (read_many (list_by shifts other) n) ListsShown file.now start (reading_of result) table.new }
 {
     let longest = roster_reading::longest_list(other, shifts);
     let mut at = start;
     for k in 0..n {
         let low = k * ROW;
         let high = low + ROW;
-        let s = list_at(file, at, longest, other, shifts, &mut table[low..high]);
-        let Section::Read(next) = s else {
-            return s;
-        };
-        at = next;
+        at = list_at(file, at, longest, other, shifts, &mut table[low..high])?;
     }
-    Section::Read(at)
+    Ok(at)
 }
 
 // n stands' lists, likewise.
@@ -132,20 +126,16 @@ pub fn rankings_at(
     other: u8,
     shifts: bool,
     table: &mut [bool],
-) -> Section
+) -> Result<usize, Refusal>
     requires { (start ≤ length file.now) × (n * row_width ≤ length table.old) × (other ≤ node_limit) × RankingsShown table.old [] }
-    ensures { Marked (read_many (ranking_by shifts other) n) RankingsShown file.now start result table.new }
+    ensures { Marked (read_many (ranking_by shifts other) n) RankingsShown file.now start (reading_of result) table.new }
 {
     let longest = roster_reading::longest_list(other, shifts);
     let mut at = start;
     for k in 0..n {
         let low = k * ROW;
         let high = low + ROW;
-        let s = ranking_at(file, at, longest, other, shifts, &mut table[low..high]);
-        let Section::Read(next) = s else {
-            return s;
-        };
-        at = next;
+        at = ranking_at(file, at, longest, other, shifts, &mut table[low..high])?;
     }
-    Section::Read(at)
+    Ok(at)
 }

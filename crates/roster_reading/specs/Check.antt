@@ -15,8 +15,6 @@ use Rattle.std.proofs.Math.Dec.{eqb-suc-zero}
 use Rattle.model.specs.Reading.{Reading, accepted, refused, ◌then◌, refuse_by, byte, read_each}
 use Rattle.lists.specs.Test.{given}
 use Rattle.theory_files.specs.Reads.{read_value, refused-not, refuse_by_read}
-use Rattle.roster_reading.specs.declared.Section.{Section}
-use Rattle.roster_reading.specs.declared.Section.TheVariants as section
 use Rattle.roster_reading.specs.Place.{placed}
 
 -- the first refusal of two, 0 for none
@@ -80,8 +78,8 @@ module _ (w size at n : ℕ) {k : ℕ} (e : k ≡ whole_fields w size at n) wher
       omega (arith, ap (λ m. w * m) d, lt-mul-div-succ (size - at) s)
 
 -- the answer for such a part that ends at `end`: the refusal of a field that is there, or 1 where not all are
-abbrev pub part_answer : (refusal there n end : ℕ) → Section
-part_answer refusal there n end = cond (eqb refusal 0) (cond (ltb there n) (section.Refused 1) (section.Read end)) (section.Refused refusal)
+abbrev pub part_answer : (refusal there n end : ℕ) → Reading ℕ
+part_answer refusal there n end = cond (eqb refusal 0) (cond (ltb there n) (refused 1) (accepted end)) (refused refusal)
 
 module _ {S A : Type 0} (check : S → A → ℕ) (next : S → A → S) where
   -- the first refusal among the fields, 0 for none; s is what the ones before have made
@@ -177,13 +175,13 @@ module _ {S A : Type 0} (check : S → A → ℕ) (next : S → A → S) where
           (λ l. let b : e ≡ length f - length (drop e f) = simp length-drop (omega (arith, fields_room w (length f) at n c)) in
           simp (le-ltb k n (omega (arith, l))) (reads (refusal_of s part) b) ∙ sym (ap (placed f) (whole l)))
         where
-          refuses : (m : ℕ) → cond (eqb m 0) (section.Refused 1) (section.Refused m) ≡ placed {A = List A} f (refuse_by m (refused 1))
+          refuses : (m : ℕ) → cond (eqb m 0) (refused 1) (refused m) ≡ placed {A = List A} f (refuse_by m (refused 1))
           refuses zero = refl
           refuses (suc m) = rw eqb-suc-zero
 
           reads : (m : ℕ) → e ≡ length f - length (drop e f)
-              → cond (eqb m 0) (section.Read e) (section.Refused m) ≡ placed f (refuse_by m (accepted (part, drop e f)))
-          reads zero b = ap section.Read b
+              → cond (eqb m 0) (accepted e) (refused m) ≡ placed f (refuse_by m (accepted (part, drop e f)))
+          reads zero b = ap accepted b
           reads (suc m) b = rw eqb-suc-zero
 
       -- where all fields pass, they are that part

@@ -6,36 +6,34 @@ use Rattle.std.specs.Int.{w8}
 use Rattle.lists.specs.Test.{given, and_i}
 use Rattle.model.specs.Reading.{Reading, accepted, refused}
 use Rattle.theory_files.specs.Reads.{is_bytes, bytes_rest, Reads}
-use Rattle.roster_reading.specs.declared.Section.{Section}
-use Rattle.roster_reading.specs.declared.Section.TheVariants as section
 
 -- the code's answer for a reading of the file
-abbrev pub placed : {A : Type 0} → List ℕ → Reading (A × List ℕ) → Section
-placed f (accepted (a, rest)) = section.Read (length f - length rest)
-placed f (refused n) = section.Refused n
+abbrev pub placed : {A : Type 0} → List ℕ → Reading (A × List ℕ) → Reading ℕ
+placed f (accepted (a, rest)) = accepted (length f - length rest)
+placed f (refused n) = refused n
 
-abbrev is_read : Section → Bool
-is_read (section.Read n) = true
-is_read (section.Refused n) = false
+abbrev is_read : Reading ℕ → Bool
+is_read (accepted n) = true
+is_read (refused n) = false
 
-abbrev place_of : Section → ℕ
-place_of (section.Read n) = n
-place_of (section.Refused n) = 0
+abbrev place_of : Reading ℕ → ℕ
+place_of (accepted n) = n
+place_of (refused n) = 0
 
-abbrev pub number_of : Section → ℕ
-number_of (section.Read n) = 0
-number_of (section.Refused n) = n
+abbrev pub refusal_number : Reading ℕ → ℕ
+refusal_number (accepted n) = 0
+refusal_number (refused n) = n
 
-pub read-not {ℓ} : {C : Type ℓ} {n m : ℕ} → section.Read n ≡ section.Refused m → C
+pub read-not {ℓ} : {C : Type ℓ} {n m : ℕ} → accepted n ≡ refused m → C
 read-not e = absurd (subst (λ s. T (is_read s)) e tt)
 
-pub refused-not-read {ℓ} : {C : Type ℓ} {n m : ℕ} → section.Refused m ≡ section.Read n → C
+pub refused-not-read {ℓ} : {C : Type ℓ} {n m : ℕ} → refused m ≡ accepted n → C
 refused-not-read e = read-not (sym e)
 
 -- a refusal is the model's
-pub place_refused : {A : Type 0} (f : List ℕ) (r : Reading (A × List ℕ)) {n : ℕ} → section.Refused n ≡ placed f r → r ≡ refused n
+pub place_refused : {A : Type 0} (f : List ℕ) (r : Reading (A × List ℕ)) {n : ℕ} → refused n ≡ placed f r → r ≡ refused n
 place_refused f (accepted (a, rest)) e = refused-not-read e
-place_refused f (refused m) e = ap (λ s. refused (number_of s)) (sym e)
+place_refused f (refused m) e = ap (λ s. refused (refusal_number s)) (sym e)
 
 -- ---- what is read, at its place
 pub record Found {A : Type 0} (read : List ℕ → Reading (A × List ℕ)) (write : A → List ℕ) (P : A → Type 0) (f : List ℕ) (at next : ℕ) : Type 0 where
@@ -57,10 +55,10 @@ bytes_of (x ∷ f) h = and_i (ltb x 256) (is_bytes f) (lt→ltb x 256 (omega (ar
 -- a place that the code answers is that behind a value which is read as it is written: the value, its bytes and its size
 pub place_read : {A : Type 0} {read : List ℕ → Reading (A × List ℕ)} {write : A → List ℕ} {P : A → Type 0} (R : Reads read write P) (f : List ℕ)
     (at : ℕ) {next : ℕ}
-    → T (is_bytes f) → at ≤ length f → section.Read next ≡ placed f (read (drop at f)) → Found read write P f at next
+    → T (is_bytes f) → at ≤ length f → accepted next ≡ placed f (read (drop at f)) → Found read write P f at next
 place_read {A} {read} {write} {P} R f at {next} t h e = go (read (drop at f)) refl e
   where
-    go : (r : Reading (A × List ℕ)) → read (drop at f) ≡ r → section.Read next ≡ placed f r → Found read write P f at next
+    go : (r : Reading (A × List ℕ)) → read (drop at f) ≡ r → accepted next ≡ placed f r → Found read write P f at next
     go (refused n) d e = read-not e
     go (accepted (a, rest)) d e =
         given (R.back (drop at f) a rest (bytes_drop at f t) d) (λ (w, p).

@@ -12,8 +12,6 @@ use Rattle.model.specs.Roster.{Entry, same, has, before, outside, no_entry}
 use Rattle.model.specs.RosterFile.{entry_refusal, entry_check, Tie, read_entries}
 use Rattle.theory_files.specs.Entries.{cond_zero, in_range_law}
 use Rattle.theory_files.specs.Reads.{refused-not, then_read, read_value}
-use Rattle.roster_reading.specs.declared.Section.{Section}
-use Rattle.roster_reading.specs.declared.Section.TheVariants as section
 use Rattle.roster_reading.specs.Place.{placed}
 use Rattle.roster_reading.specs.Check.{first_of, refusal_of, refusal_step, whole_fields, part_answer, part_is, part_read}
 use Rattle.roster_reading.specs.Layout.{layout_of, width_of, fixed_entry, entries_in}
@@ -129,33 +127,33 @@ checked_no zero rest h e = absurd (not-suc-le-zero h)
 checked_no (suc r) rest h e = record { number = sym e; marks = λ z. absurd (let f : ⊥ = omega arith in f) }
 
 -- ---- a reader that marks what it reads: its answer is the model's, and where it reads a value, the marks show it
-pub record Marked {A : Type 0} (read : List ℕ → Reading (A × List ℕ)) (shows : List Bool → A → Type 0) (f : List ℕ) (at : ℕ) (r : Section)
+pub record Marked {A : Type 0} (read : List ℕ → Reading (A × List ℕ)) (shows : List Bool → A → Type 0) (f : List ℕ) (at : ℕ) (r : Reading ℕ)
     (after : List Bool) : Type 0 where
   pub place : r ≡ placed f (read (drop at f))
   pub marks : (a : A) (rest : List ℕ) → read (drop at f) ≡ accepted (a, rest) → shows after a
 
 module _ {A : Type 0} {read : List ℕ → Reading (A × List ℕ)} {shows : List Bool → A → Type 0} {f : List ℕ} {at : ℕ} {after : List Bool} where
-  pub marked_refused : {n : ℕ} → read (drop at f) ≡ refused n → Marked read shows f at (section.Refused n) after
+  pub marked_refused : {n : ℕ} → read (drop at f) ≡ refused n → Marked read shows f at (refused n) after
   marked_refused e = record { place = sym (ap (placed f) e); marks = λ a rest d. refused-not (sym e ∙ d) }
 
   -- the same for an answer that is equal
-  pub marked_as : {r r' : Section} → r ≡ r' → Marked read shows f at r after → Marked read shows f at r' after
+  pub marked_as : {r r' : Reading ℕ} → r ≡ r' → Marked read shows f at r after → Marked read shows f at r' after
   marked_as e m = subst (λ z. Marked read shows f at z after) e m
 
   -- behind a count
-  pub marked_behind : {other : List ℕ → Reading (A × List ℕ)} {next : ℕ} {r : Section} → read (drop at f) ≡ other (drop next f)
+  pub marked_behind : {other : List ℕ → Reading (A × List ℕ)} {next : ℕ} {r : Reading ℕ} → read (drop at f) ≡ other (drop next f)
       → Marked other shows f next r after → Marked read shows f at r after
   marked_behind e m = record { place = m.place ∙ sym (ap (placed f) e); marks = λ a rest d. m.marks a rest (sym e ∙ d) }
 
 -- the same for a reader that is equal
-pub marked_by : {A : Type 0} {read read' : List ℕ → Reading (A × List ℕ)} {shows : List Bool → A → Type 0} {f : List ℕ} {at : ℕ} {r : Section}
+pub marked_by : {A : Type 0} {read read' : List ℕ → Reading (A × List ℕ)} {shows : List Bool → A → Type 0} {f : List ℕ} {at : ℕ} {r : Reading ℕ}
     {after : List Bool}
     → read ≡ read' → Marked read shows f at r after → Marked read' shows f at r after
 marked_by {shows = shows} {f} {at} {r} {after} e m = subst (λ z. Marked z shows f at r after) e m
 
 -- what is made of the value read
 pub marked_map : {A B : Type 0} (read : List ℕ → Reading (A × List ℕ)) (g : A → B) {shows : List Bool → B → Type 0} {f : List ℕ} {at : ℕ}
-    {r : Section} {after : List Bool}
+    {r : Reading ℕ} {after : List Bool}
     → Marked read (λ m a. shows m (g a)) f at r after → Marked (λ bs. read bs then (λ a rest. accepted (g a, rest))) shows f at r after
 marked_map {A} {B} read g {shows} {f} {at} {r} {after} m = record {
   place = m.place ∙ same (read (drop at f));
@@ -169,7 +167,7 @@ marked_map {A} {B} read g {shows} {f} {at} {r} {after} m = record {
     same (refused n) = refl
 
 -- n entries from a place on, behind those seen before: the part that holds them is checked
-abbrev pub EntriesAt : (shifts tied : Bool) (other n : ℕ) (f : List ℕ) (at : ℕ) (before : List Bool) (r : Section) (after : List Bool) → Type 0
+abbrev pub EntriesAt : (shifts tied : Bool) (other n : ℕ) (f : List ℕ) (at : ℕ) (before : List Bool) (r : Reading ℕ) (after : List Bool) → Type 0
 EntriesAt shifts tied other n f at before r after =
     (seen : List Entry) → Shows before seen
     → Marked (read_each (layout_of shifts).field (list_check tied other) passed n (behind seen)) (λ row xs. Shows row (seen ++ xs)) f at r after
@@ -209,7 +207,7 @@ module _ (field : List ℕ → Reading (Entry × List ℕ)) (other : ℕ) where
       go (refused m) h = refl
 
 -- the strict entries of a list, from its first on
-pub entries_first : (shifts : Bool) (other n : ℕ) {f : List ℕ} {at : ℕ} (before : List Bool) {after : List Bool} {r : Section} → Shows before []
+pub entries_first : (shifts : Bool) (other n : ℕ) {f : List ℕ} {at : ℕ} (before : List Bool) {after : List Bool} {r : Reading ℕ} → Shows before []
     → EntriesAt shifts false other n f at before r after → Marked (read_entries (layout_of shifts) other n) Shows f at r after
 entries_first shifts other n {f} {at} before h m =
     marked_behind {other = read_each (layout_of shifts).field (list_check false other) passed n (behind [])} {next = at}

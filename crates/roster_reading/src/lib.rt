@@ -1,17 +1,10 @@
-// What the readers of a roster's sections hand on: the answer of one of them, and an entry of a list; and how long a list may be.
+// What the readers of a roster's sections hand on: an entry of a list; and how long a list may be.
 #![tactic(auto)]
 
 ghost use Rattle.std.specs.Prelude.{◌≡◌};
 ghost use Rattle.roster_reading.specs.Layout.{layout_of};
 
 use limits::LIST_LIMIT;
-
-// The place behind the section, or the number of the refusal.
-#[derive(Drop)]
-pub enum Section {
-    Read(usize),
-    Refused(u8),
-}
 
 // "Each list entry .. gains a shift byte, 1 to 3, after its number."
 #[derive(Clone, Copy)]

@@ -1,22 +1,22 @@
--- `roster::file_answer` meets its contract: the end of the file is an accepted roster, and a refusal has its group. Assumes nothing.
-use Rattle.std.proofs.Common.{refl, sym, ap, ◌∙◌}
+-- `roster::file_answer` meets its contract: the end of the file is an accepted roster, and a refusal is the reading's. Assumes nothing.
+use Rattle.std.proofs.Common.{◌≡◌, refl, sym, ap, ◌∙◌, rules}
+use Rattle.model.specs.Reading.{refused}
 use Rattle.model.specs.RosterFile.{read_roster_by}
-use Rattle.answers.specs.GroupCases.{shows_case}
+use Rattle.answers.specs.RefusalCases.{number_of, reading_of}
+use Rattle.answers.specs.FileCases.{file_read}
 use Rattle.roster_reading.specs.Layout.{layout_of}
 use Rattle.roster_reading.specs.Whole.{closed_accepted, closed_refused}
-use Rattle.answers.specs.declared.FileAnswer.TheVariants.{Refused}
-use Rattle.answers.specs.FileCases.{file_case}
 use Rattle.roster.proofs.file_answer.Goals as goal
 
-pub returns-in-Read : goal.returns-in-Read
-returns-in-Read c =
+pub returns : goal.returns
+returns c =
     let a = c.args in
     let f = a.file.now in
-    sym (closed_accepted f (read_roster_by (layout_of a.shifts) f) file_case (λ R. refl) (sym c.in-Read.is ∙ c.roster_file-s.ensures))
+    sym (closed_accepted f (read_roster_by (layout_of a.shifts) f) file_read (λ R. refl) (sym (ap reading_of c.in_ok-roster_file.was) ∙ c.roster_file.ensures))
 
-pub returns-in-Refused : goal.returns-in-Refused
-returns-in-Refused c =
+pub returns-in_err-roster_file : goal.returns-in_err-roster_file
+returns-in_err-roster_file c =
     let a = c.args in
     let f = a.file.now in
-    ap (Refused c.in-Refused.n) (shows_case c.group_of.result c.group_of.ensures)
-    ∙ sym (ap file_case (closed_refused f (read_roster_by (layout_of a.shifts) f) (sym c.in-Refused.is ∙ c.roster_file-s.ensures)))
+    let told : reading_of c.from_residual.result ≡ refused (number_of c.in_err-roster_file.field-0.0) = search rules in
+    told ∙ sym (ap file_read (closed_refused f (read_roster_by (layout_of a.shifts) f) (sym (ap reading_of c.in_err-roster_file.was) ∙ c.roster_file.ensures)))

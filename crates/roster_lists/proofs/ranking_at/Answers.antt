@@ -1,8 +1,10 @@
 -- `roster_lists::ranking_at` meets its contract: its two length bytes, its strict entries, its tie. Assumes nothing.
-use Rattle.std.proofs.Common.{◌+◌, arith, T, get_or}
+use Rattle.std.proofs.Common.{◌+◌, arith, ◌≡◌, sym, ap, rules, T, get_or}
 use Rattle.theory_files.specs.Reads.{is_bytes}
+use Rattle.model.specs.Reading.{refused}
+use Rattle.answers.specs.RefusalCases.{number_of, reading_of}
 use Rattle.roster_reading.specs.Place.{bytes_of}
-use Rattle.roster_reading.specs.Row.{entries_first}
+use Rattle.roster_reading.specs.Row.{entries_first, marked_as}
 use Rattle.roster_reading.specs.Lists.{ranking_end, ranking_long, ranking_refused, tie_within, ranking_goes}
 use Rattle.roster_lists.proofs.ranking_at.Goals as goal
 
@@ -24,21 +26,24 @@ returns-then-longest-strict c =
     let a = c.args in
     ranking_long a.shifts a.longest a.other a.file.now a.at (omega arith) c.if-longest-strict.true
 
-pub returns-in_default : goal.returns-in_default
-returns-in_default c =
+pub returns-in_err-next : goal.returns-in_err-next
+returns-in_err-next c =
     let a = c.args in
-    ranking_refused a.shifts a.longest a.other a.file.now a.at (omega arith) (omega arith)
-    (entries_first a.shifts a.other (get_or a.file.now a.at 0) a.row.now c.requires.2 c.entries_at-s.ensures)
-    c.in_default.is
+    let n = c.in_err-next.field-0.0 in
+    let told : reading_of c.from_residual.result ≡ refused (number_of n) = search rules in
+    marked_as (sym told) (marked_as (ap reading_of c.in_err-next.was)
+    (ranking_refused a.shifts a.longest a.other a.file.now a.at (omega arith) (omega arith)
+    (entries_first a.shifts a.other (get_or a.file.now a.at 0) a.row.now c.requires.2 c.entries_at.ensures)
+    (ap reading_of c.in_err-next.was)))
 
-pub entries_at-requires : goal.entries_at-requires
-entries_at-requires c =
+pub entries_at-requires-2 : goal.entries_at-requires-2
+entries_at-requires-2 c =
     let a = c.args in
     let is_b : T (is_bytes a.file.now) =
     bytes_of a.file.now (λ i. c.type_inv.file i) in (
       tie_within a.shifts a.longest a.other a.file.now a.at (omega arith) (omega arith)
-          (entries_first a.shifts a.other (get_or a.file.now a.at 0) a.row.now c.requires.2 c.entries_at-s.ensures) is_b
-          c.in-Read.is,
+          (entries_first a.shifts a.other (get_or a.file.now a.at 0) a.row.now c.requires.2 c.entries_at.ensures) is_b
+          (ap reading_of c.in_ok-next.was),
       omega arith,
     )
 
@@ -48,5 +53,5 @@ returns c =
     let is_b : T (is_bytes a.file.now) =
     bytes_of a.file.now (λ i. c.type_inv.file i) in
     ranking_goes a.shifts a.longest a.other a.file.now a.at (omega arith) (omega arith)
-    (entries_first a.shifts a.other (get_or a.file.now a.at 0) a.row.now c.requires.2 c.entries_at-s.ensures) is_b
-    c.in-Read.is c.entries_at.ensures
+    (entries_first a.shifts a.other (get_or a.file.now a.at 0) a.row.now c.requires.2 c.entries_at.ensures) is_b
+    (ap reading_of c.in_ok-next.was) c.entries_at-2.ensures

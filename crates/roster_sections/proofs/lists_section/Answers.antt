@@ -1,27 +1,32 @@
 -- `roster_sections::lists_section` meets its contract: the count, the lists, and the place behind them. Assumes nothing.
-use Rattle.std.proofs.Common.{ℕ, ◌+◌, ◌*◌, ◌≡◌, sym, ap, ◌∙◌, Bool, List, length}
+use Rattle.std.proofs.Common.{ℕ, ◌+◌, ◌*◌, ◌≡◌, sym, ap, ◌∙◌, Bool, List, length, rules}
 use Rattle.lists.specs.Keep.{gather}
 use Rattle.model.specs.Roster.{Entry, total_s}
-use Rattle.model.specs.RosterFile.{entries_bytes}
+use Rattle.model.specs.RosterFile.{read_section, entries_bytes}
 use Rattle.theory_files.specs.Rosters.{lists_size_by}
+use Rattle.model.specs.Reading.{accepted, refused}
+use Rattle.answers.specs.RefusalCases.{number_of, reading_of}
 use Rattle.roster_reading.specs.Place.{bytes_of}
 use Rattle.roster_reading.specs.Layout.{layout_of, agrees_of, width_of, width_some, list_by, list_reads}
-use Rattle.roster_reading.specs.Row.{marked_as}
-use Rattle.roster_reading.specs.Many.{told_room, section_untold, section_ends}
+use Rattle.roster_reading.specs.Row.{Marked, marked_as}
+use Rattle.roster_reading.specs.Table.{ListsShown}
+use Rattle.roster_reading.specs.Many.{ended_at, told_room, section_untold, section_ends}
+use Rattle.roster_sections.proofs.lists_section.Goals.{After-lists_at}
 use Rattle.roster_sections.proofs.lists_section.Goals as goal
 
-pub returns-in_default : goal.returns-in_default
-returns-in_default c =
+pub returns-in_err-end : goal.returns-in_err-end
+returns-in_err-end c =
     let a = c.args in
-    section_untold (list_by a.shifts a.other) total_s a.file.now a.at a.n (width_of a.shifts) a.n c.told_end-told.result
-    c.told_end-told.ensures c.in_default.is
+    let was = ap reading_of c.in_err-end.was in
+    let told : reading_of c.from_residual.result ≡ refused (number_of c.in_err-end.field-0.0) = search rules in
+    marked_as (was ∙ sym told)
+    (section_untold (list_by a.shifts a.other) total_s a.file.now a.at a.n (width_of a.shifts) a.n (reading_of c.told_end.result) c.told_end.ensures was)
 
-pub lists_at-s-requires : goal.lists_at-s-requires
-lists_at-s-requires c =
+pub lists_at-requires : goal.lists_at-requires
+lists_at-requires c =
     let a = c.args in
     let p = c.requires in (
-      told_room (width_of a.shifts) a.file.now a.at a.n c.told_end-told.result c.told_end-told.ensures
-          c.in-Read.is,
+      told_room (width_of a.shifts) a.file.now a.at a.n (reading_of c.told_end.result) c.told_end.ensures (ap reading_of c.in_ok-end.was),
       p.2,
       p.3,
       p.4,
@@ -32,10 +37,23 @@ sizes_of : (shifts : Bool) (n : ℕ) (ls : List (List Entry)) → length ls ≡ 
     → length (gather (entries_bytes (layout_of shifts)) ls) ≡ n + width_of shifts * total_s ls
 sizes_of shifts n ls h = lists_size_by (layout_of shifts) (agrees_of shifts) ls ∙ ap (λ k. k + width_of shifts * total_s ls) h
 
+-- what the lists answer is held against the place told
+section : (c : After-lists_at) → {end : ℕ} → reading_of c.told_end.result ≡ accepted end → let a = c.args in
+    Marked (read_section (list_by a.shifts a.other) total_s a.n) ListsShown a.file.now a.at (ended_at (reading_of c.lists_at.result) end) c.lists_at.new.table
+section c e =
+    let a = c.args in
+    section_ends (list_by a.shifts a.other) total_s a.file.now a.at a.n (width_of a.shifts) a.n (reading_of c.told_end.result)
+    c.told_end.ensures (list_reads a.shifts a.other) (bytes_of a.file.now c.type_inv.file)
+    (width_some a.shifts) (sizes_of a.shifts a.n) e (reading_of c.lists_at.result) c.lists_at.ensures
+
+pub returns-in_err-stop : goal.returns-in_err-stop
+returns-in_err-stop c =
+    let n = c.in_err-stop.field-0.0 in
+    let told : reading_of c.from_residual-in_err-stop.result ≡ refused (number_of n) = search rules in
+    marked_as (ap (λ s. ended_at s c.in_ok-end.end) (ap reading_of c.in_err-stop.was) ∙ sym told)
+    (section (goal.at.returns-in_err-stop c).After-lists_at (ap reading_of c.in_ok-end.was))
+
 pub returns : goal.returns
 returns c =
-    let a = c.args in
-    marked_as (sym c.ended.ensures)
-    (section_ends (list_by a.shifts a.other) total_s a.file.now a.at a.n (width_of a.shifts) a.n c.told_end-told.result
-    c.told_end-told.ensures (list_reads a.shifts a.other) (bytes_of a.file.now c.type_inv.file)
-    (width_some a.shifts) (sizes_of a.shifts a.n) c.in-Read.is c.lists_at-s.result c.lists_at-s.ensures)
+    marked_as (ap (λ s. ended_at s c.in_ok-end.end) (ap reading_of c.in_ok-stop.was) ∙ sym c.ended.ensures)
+    (section (goal.at.returns c).After-lists_at (ap reading_of c.in_ok-end.was))

@@ -14,5 +14,5 @@ returns c =
     let e : a.at + there ≡ a.at + 1 * there = omega arith in
     c.part_answer.ensures
     ∙ ap (λ m. part_answer m there a.n (a.at + there))
-    (c.check_quotas-refusal.ensures ∙ sym (ap (refusal_of quota_check (λ so q. so + q) 0) (fields_bytes there part size)))
+    (c.check_quotas-checked.ensures ∙ sym (ap (refusal_of quota_check (λ so q. so + q) 0) (fields_bytes there part size)))
     ∙ part_is quota_check (λ so q. so + q) fixed_byte 0 a.file.now a.at a.n there (a.at + there) c.requires c.whole_fields-there.ensures e

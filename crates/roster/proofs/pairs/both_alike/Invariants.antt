@@ -4,6 +4,3 @@ use Rattle.roster.proofs.pairs.both_alike.Given as goal
 
 abbrev pub invariant-loop-i : goal.invariant-loop-i
 invariant-loop-i l = (l.i ≤ l.m) × (both_alike l.surveyors l.stands l.m l.n ≡ both_alike l.surveyors l.stands l.i l.n)
-
-abbrev pub decreases-loop-i : goal.decreases-loop-i
-decreases-loop-i l = l.i
