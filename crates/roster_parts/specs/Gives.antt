@@ -25,6 +25,11 @@ abbrev pub Makes : (RosterBytes → Type 0) → Result RosterBytes Refusal → T
 Makes P (Ok c) = P c
 Makes P (Err r) = ⊥
 
+-- the same of what follows from it
+pub makes_as : {P Q : RosterBytes → Type 0} (c : Result RosterBytes Refusal) → ((b : RosterBytes) → P b → Q b) → Makes P c → Makes Q c
+makes_as (Ok b) f h = f b h
+makes_as (Err r) f h = h
+
 -- an answer that is the refusal of that number
 abbrev pub Refuses : ℕ → Result RosterBytes Refusal → Type 0
 Refuses n (Ok c) = ⊥
