@@ -44,6 +44,16 @@ Gives (refused n) c = Refuses n c
 pub gives_refused : (x : Reading Roster) (r : Refusal) → x ≡ refused (number_of r) → Gives x (Err r)
 gives_refused x r e = subst (λ z. Gives z (Err r)) (sym e) refl
 
+-- and back: what an answer says of the change
+pub gives_turned : (x : Reading Roster) {c : Result RosterBytes Refusal} {r : Refusal} → Gives x c → c ≡ Err r → x ≡ refused (number_of r)
+gives_turned (accepted H) g e = absurd (subst (Gives (accepted H)) e g)
+gives_turned (refused n) g e = ap refused (sym (subst (Gives (refused n)) e g))
+
+pub gives_made : (x : Reading Roster) {c : Result RosterBytes Refusal} {b : RosterBytes} → Gives x c → c ≡ Ok b
+    → (H : Roster) × (x ≡ accepted H) × (b.len ≤ roster_size) × (take b.len b.roster ≡ write_roster H)
+gives_made (accepted H) g e = let (few, front) = subst (Gives (accepted H)) e g in (H, refl, few, front)
+gives_made (refused n) g e = absurd (subst (Gives (refused n)) e g)
+
 -- the answer of a change to the roster that the file is
 abbrev pub ChangedBy : (Roster → Reading Roster) → List ℕ → Result RosterBytes Refusal → Type 0
 ChangedBy change f c = (R : Roster) → read_roster f ≡ accepted R → Gives (change R) c
