@@ -55,7 +55,7 @@ pub record Together (first second bytes : List ℕ) : Type 0 where
 
 -- what the call promises: its answer, every byte of the buffer, and what holds of two rosters that are joined
 pub record Joins (first second o : List ℕ) (r : Result ℕ Refusal) (o' : List ℕ) : Type 0 where
-  -- 15, or a refusal of the first file, of the second, of the sums, or the number of bytes written
+  -- 15, or a refusal of the first file, of the second, of the sums, each with its group, or the number of bytes written
   pub answer : written_shown r ≡ file_answer (joined_file first second) o
   -- they are in front of the buffer, which keeps the rest; a refusal changes no byte
   pub lent : o' ≡ file_lent (joined_file first second) o
