@@ -7,16 +7,16 @@ ghost use Rattle.model.specs.Limits.{pairing_size};
 ghost use Rattle.model.specs.Plans.{vote_of};
 ghost use Rattle.model.specs.PlanFile.{read_plan};
 ghost use Rattle.model_desk.specs.Compare.{compared, second_judged, comparison_of, both_pairings, second_paired, pairings_of};
-ghost use Rattle.answers.specs.ComparisonCases.{comparison_case};
+ghost use Rattle.std.specs.declared.result.Result.TheVariants.{Ok};
+ghost use Rattle.answers.specs.ComparisonCases.{compared_shown};
 ghost use Rattle.instance.specs.Decoded.{shown_by};
 ghost use Rattle.instance.specs.Loaded.{Loaded};
 ghost use Rattle.plan_reader.specs.Planned.{Planned};
 ghost use Rattle.compare.specs.TwoPlans.{Paired};
 
-use answers::Comparison;
+use answers::{Comparison, Refusal};
 use instance::Instance;
 use limits::ENTRY_LIMIT;
-use plan_reader::PlanAnswer;
 use vote_plans::Votes;
 
 // Both votes of two plans of an accepted roster, p with pn edges that pe lists, q likewise, and their pairings.
@@ -64,7 +64,7 @@ pub(crate) fn voted(
 ) -> Comparison
     requires loaded { Loaded g × Planned g p.now pn pe.now × Planned g q.now qn qe.now }
     requires pairing_size_in_bounds { (pairing_size ≤ length forward.old) × (pairing_size ≤ length back.old) }
-    ensures value { result ≡ comparison_case (compared (shown_by g) p.now q.now) }
+    ensures value { compared_shown (Ok result) ≡ compared (shown_by g) p.now q.now }
     ensures paired { Paired (both_pairings (shown_by g) p.now q.now) forward.old back.old
         forward.new back.new }
 {
@@ -72,7 +72,11 @@ pub(crate) fn voted(
     let v = both.first;
     let w = both.second;
     let x = compare_winner::winner_of(v, w);
-    Comparison::Votes(v, w, x)
+    Comparison {
+        first: v,
+        second: w,
+        winner: x,
+    }
 }
 
 // The second file, after the first one gave plan p.
@@ -84,23 +88,25 @@ pub(crate) fn second_judged(
     second: &[u8],
     forward: &mut [u8],
     back: &mut [u8],
-) -> Comparison
+) -> Result<Comparison, Refusal>
     requires loaded { Loaded g × Planned g p.now pn pe.now }
     requires pairing_size_in_bounds { (pairing_size ≤ length forward.old) × (pairing_size ≤ length back.old) }
-    ensures value { result ≡ comparison_case (second_judged (shown_by g) p.now (read_plan (shown_by g) second.now)) }
+    ensures value { compared_shown result ≡ second_judged (shown_by g) p.now (read_plan (shown_by g) second.now) }
     ensures paired { Paired (second_paired (shown_by g) p.now (read_plan (shown_by g) second.now)) forward.old
         back.old forward.new back.new }
 {
-    let read = plan_reader::read_against(g, second, true);
-    let a = read.answer;
-    match a {
-        PlanAnswer::Refused(n) => Comparison::Refused(n, answers::group_of(n)),
-        PlanAnswer::Accepted(n) => {
-            let q = read.chosen;
-            let qe = read.edges;
-            voted(g, p, pn, pe, &q, n, &qe, forward, back)
-        }
-    }
+    let read = plan_reader::read_against(g, second, true)?;
+    Ok(voted(
+        g,
+        p,
+        pn,
+        pe,
+        &read.chosen,
+        read.n,
+        &read.edges,
+        forward,
+        back,
+    ))
 }
 
 // Two plan files against the arrays of an accepted roster. "The first file is checked in full before the second."
@@ -110,21 +116,13 @@ pub fn compare(
     second: &[u8],
     forward: &mut [u8],
     back: &mut [u8],
-) -> Comparison
+) -> Result<Comparison, Refusal>
     requires loaded { Loaded g }
     requires pairing_size_in_bounds { (pairing_size ≤ length forward.old) × (pairing_size ≤ length back.old) }
-    ensures value { result ≡ comparison_case (comparison_of (shown_by g) first.now second.now) }
+    ensures value { compared_shown result ≡ comparison_of (shown_by g) first.now second.now }
     ensures paired { Paired (pairings_of (shown_by g) first.now second.now) forward.old back.old
         forward.new back.new }
 {
-    let read = plan_reader::read_against(g, first, true);
-    let a = read.answer;
-    match a {
-        PlanAnswer::Refused(n) => Comparison::Refused(n, answers::group_of(n)),
-        PlanAnswer::Accepted(n) => {
-            let p = read.chosen;
-            let pe = read.edges;
-            second_judged(g, &p, n, &pe, second, forward, back)
-        }
-    }
+    let read = plan_reader::read_against(g, first, true)?;
+    second_judged(g, &read.chosen, read.n, &read.edges, second, forward, back)
 }

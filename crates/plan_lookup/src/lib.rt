@@ -7,15 +7,17 @@ ghost use Rattle.lists.specs.Search.{low};
 ghost use Rattle.model.specs.Limits.{entry_limit, plan_limit, node_limit};
 ghost use Rattle.model.specs.PlanFile.{edges_in};
 ghost use Rattle.arrays.specs.ArrayInstance.{flag, at};
+ghost use Rattle.answers.specs.RefusalCases.{code_of};
 ghost use Rattle.plan_lookup.specs.PairEdge.{Differ, Names, Scanned};
 ghost use Rattle.arrays.specs.Passes.{Low};
 ghost use Rattle.plan_lookup.specs.PairRefusal.{pair_refusal};
 ghost use Rattle.plan_lookup.specs.PlanEdges as edges;
 
+use answers::Refusal;
 use limits::{ENTRY_LIMIT, PLAN_LIMIT};
 
-// the refusal of a pair that names edge e, 0 for none; us, ut: the places that the pairs before it take at each node
-pub fn pair_refusal(
+// A pair that names edge e: 10, 11 or 12, or none; us, ut: the places that the pairs before it take at each node.
+pub fn check_pair(
     m: usize,
     sv: &[u8; ENTRY_LIMIT],
     st: &[u8; ENTRY_LIMIT],
@@ -25,23 +27,23 @@ pub fn pair_refusal(
     ut: &[u8; 32],
     from: usize,
     e: usize,
-) -> u8
+) -> Result<(), Refusal>
     requires { (m ≤ entry_limit) × Low m sv.now node_limit × Low m st.now node_limit }
-    ensures { result ≡ pair_refusal m e from (leb (at qs.now (at sv.now e)) (at us.now (at sv.now e)))
+    ensures { code_of result ≡ pair_refusal m e from (leb (at qs.now (at sv.now e)) (at us.now (at sv.now e)))
         (leb (at qt.now (at st.now e)) (at ut.now (at st.now e))) }
 {
     if m <= e {
-        return 10;
+        return Err(Refusal::NoSuchPair);
     }
     if e < from {
-        return 11;
+        return Err(Refusal::PairsNotAscending);
     }
     let i = sv[e] as usize;
     let j = st[e] as usize;
     if (qs[i] <= us[i]) | (qt[j] <= ut[j]) {
-        return 12;
+        return Err(Refusal::PastQuota);
     }
-    0
+    Ok(())
 }
 
 // the lowest edge from start on, and below end, of surveyor s and stand t in shift k; end if there is none

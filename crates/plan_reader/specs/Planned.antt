@@ -1,5 +1,5 @@
 -- A plan that was read against the arrays of an accepted roster: within the quotas, and its edges listed.
-use Rattle.std.specs.Prelude.{ℕ, ◌≤◌, ◌≡◌, Bool, true, List, length, T}
+use Rattle.std.specs.Prelude.{ℕ, ◌≤◌, ◌≡◌, Bool, true, List, length, T, Result}
 use Rattle.std.proofs.Common.{arith, sym, ap, ◌∙◌, subst, length-take}
 use Rattle.lists.specs.Test.{given}
 use Rattle.model.specs.Limits.{plan_limit}
@@ -13,7 +13,8 @@ use Rattle.instance.specs.Decoded.{shown_by}
 use Rattle.instance.specs.Loaded.{Loaded}
 use Rattle.plan_lookup.specs.PlanEdges.{Listed}
 use Rattle.plan_reader.specs.declared.PlanRead.{PlanRead}
-use Rattle.plan_reader.specs.declared.PlanAnswer.TheVariants as plan
+use Rattle.std.specs.declared.result.Result.TheVariants.{Ok}
+use Rattle.answers.specs.declared.Refusal.{Refusal}
 use Rattle.plan_reader.specs.Answers.{ReadAs, accepted_read, accepted_edges}
 
 -- a plan within the quotas, with the list of its edges
@@ -22,13 +23,13 @@ pub record Planned (g : Instance) (p : List Bool) (n : ℕ) (es : List ℕ) : Ty
   pub listed : Listed g.m p n es
 
 -- the plan of a file that was accepted
-pub read_planned : (g : Instance) (file : List ℕ) (r : PlanRead) → ReadAs true (shown_by g) file r → Loaded g → T (is_bytes file)
-    → {n : ℕ} → r.answer ≡ plan.Accepted n → Planned g r.chosen n r.edges
-read_planned g file r A L is_b {n} q = given (accepted_read A q) (λ (M, e, s). given (accepted_edges A q M e) (λ (c, t). record {
+pub read_planned : (g : Instance) (file : List ℕ) (r : Result PlanRead Refusal) → ReadAs true (shown_by g) file r → Loaded g → T (is_bytes file)
+    → {p : PlanRead} → r ≡ Ok p → Planned g p.chosen p.n p.edges
+read_planned g file r A L is_b {p} q = given (accepted_read A q) (λ (M, e, s). given (accepted_edges A q M e) (λ (c, t). record {
   matching = subst (Matching (shown_by g)) (sym s) (plan_read_matching (shown_by g) file M is_b e L.lawful);
   listed = record {
     few = subst (λ k. k ≤ plan_limit) (sym c) (plan_few (shown_by g) L.fileable M (plan_read_within (shown_by g) file M is_b e));
-    there = omega (arith, c, ap length t, length-take n r.edges);
+    there = omega (arith, c, ap length t, length-take p.n p.edges);
     are = t ∙ ap (edges_in g.m) (sym s);
   };
 }))

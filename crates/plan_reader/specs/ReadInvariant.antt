@@ -1,6 +1,6 @@
 -- The reading of a plan file after some of its pairs: what the arrays hold by then, what one pair more makes of them, and how the
 -- reading ends.
-use Rattle.std.specs.Prelude.{ℕ, zero, suc, ◌+◌, ◌-◌, ◌*◌, ◌≤◌, ◌<◌, ◌≡◌, Bool, true, false, not, cond, ◌||◌, List, [], ◌∷◌, ◌++◌, map, length, take, drop, get_or, set, replicate, T, eqb, leb, ltb}
+use Rattle.std.specs.Prelude.{ℕ, zero, suc, ◌+◌, ◌-◌, ◌*◌, ◌≤◌, ◌<◌, ◌≡◌, Bool, true, false, not, cond, ◌||◌, List, [], ◌∷◌, ◌++◌, map, length, take, drop, get_or, set, replicate, T, eqb, leb, ltb, Result}
 use Rattle.std.proofs.Common.{arith, add-one, sym, ap₂, ◌∙◌, subst, length-set, length-append, length-drop, drop_of_length-le, drop-cons, get_or-set_same, get_or-set_other, take-suc-set, nltb→le, le-leb}
 use Rattle.std.proofs.Math.Decide.{dec_lt}
 use Rattle.std.proofs.Math.Path.{refl, ap}
@@ -22,7 +22,9 @@ use Rattle.theory_files.specs.Reads.{accepted_value, refused-not}
 use Rattle.theory_files.specs.Chosen.{on_plan_of, plan_of_length, edges_in_cong, From, Below, edges_of_elem, at_node}
 use Rattle.theory_files.specs.PlanPairs.{no_pairs, pairs_left, plan_empty, plan_long, plan_starts, left_cut, left_pair, left_none}
 use Rattle.arrays.specs.ArrayInstance.{at, flag, shown}
-use Rattle.plan_reader.specs.declared.PlanAnswer.TheVariants.{Accepted, Refused}
+use Rattle.std.specs.declared.result.Result.TheVariants.{Ok, Err}
+use Rattle.answers.specs.declared.Refusal.{Refusal}
+use Rattle.answers.specs.RefusalCases.{number_of}
 use Rattle.plan_reader.specs.declared.PlanRead.{PlanRead}
 use Rattle.arrays.specs.Passes.{Low, all_blank}
 use Rattle.plan_lookup.specs.PairRefusal.{pair_refusal}
@@ -119,7 +121,7 @@ module _ (shifts : Bool) (m : ℕ) (sv st sh qs qt file : List ℕ) where
   unfolding read_plan_by edge_of_pair
   same_reading ns nt rank_s rank_t tied = refl
 
-  pub for_all : (r : PlanRead) → ReadAs shifts G file r → ReadFor shifts m sv st sh qs qt file r
+  pub for_all : (r : Result PlanRead Refusal) → ReadAs shifts G file r → ReadFor shifts m sv st sh qs qt file r
   for_all r A ns nt rank_s rank_t tied =
       let s = same_reading ns nt rank_s rank_t tied in
       record { answer = A.answer ∙ ap (answer_of m) s; chosen = λ M q. A.chosen M (s ∙ q); edges = λ M q. A.edges M (s ∙ q) }
@@ -287,10 +289,10 @@ module _ (shifts : Bool) (m : ℕ) (sv st sh qs qt file : List ℕ) where
     M-count : length (edges_in m (on M)) ≡ n
     M-count = ap length (M-edges ∙ sym now.named) ∙ length-map now.ps (edge_of_pair G) ∙ now.count ∙ end
 
-    pub invariant_accepted : length file ≤ at' → ReadAs shifts G file (record { answer = Accepted n; chosen = chosen; edges = edges })
+    pub invariant_accepted : length file ≤ at' → ReadAs shifts G file (Ok (record { n = n; chosen = chosen; edges = edges }))
     invariant_accepted h =
         given (ended ∙ ap (λ z. whole (accepted (plan_of_pairs G now.ps, z))) (drop_of_length-le file h)) (λ (q : plan_in shifts G file ≡ accepted M). record {
-          answer = ap Accepted (sym M-count) ∙ sym (ap (answer_of m) q);
+          answer = ap accepted (sym M-count) ∙ sym (ap (answer_of m) q);
           chosen = λ N a e. now.flags e ∙ sym (M-at e) ∙ ap (λ z. on z e) (accepted_value (sym q ∙ a));
           edges =
               λ N a. subst (λ z. take (length (edges_in m (on z))) edges ≡ edges_in m (on z)) (accepted_value (sym q ∙ a))
@@ -298,18 +300,16 @@ module _ (shifts : Bool) (m : ℕ) (sv st sh qs qt file : List ℕ) where
         })
 
   -- refused
-  refused_as : (c : ℕ) (chosen : List Bool) (edges : List ℕ) → plan_in shifts G file ≡ refused c
-      → ReadAs shifts G file (record { answer = Refused c; chosen = chosen; edges = edges })
-  refused_as c chosen edges q = record {
+  refused_as : (c : Refusal) → plan_in shifts G file ≡ refused (number_of c) → ReadAs shifts G file (Err c)
+  refused_as c q = record {
     answer = sym (ap (answer_of m) q);
     chosen = λ M a. refused-not (sym q ∙ a);
     edges = λ M a. refused-not (sym q ∙ a);
   }
 
   -- so for every instance that the arrays show
-  pub refused_for : (c : ℕ) (chosen : List Bool) (edges : List ℕ) → plan_in shifts G file ≡ refused c
-      → ReadFor shifts m sv st sh qs qt file (record { answer = Refused c; chosen = chosen; edges = edges })
-  refused_for c chosen edges q = for_all (record { answer = Refused c; chosen = chosen; edges = edges }) (refused_as c chosen edges q)
+  pub refused_for : (c : Refusal) → plan_in shifts G file ≡ refused (number_of c) → ReadFor shifts m sv st sh qs qt file (Err c)
+  refused_for c q = for_all (Err c) (refused_as c q)
 
   pub empty_file : length file ≤ 0 → plan_in shifts G file ≡ refused 1
   empty_file h = ap (plan_in shifts G) (none file h) ∙ plan_empty L G

@@ -12,20 +12,14 @@ ghost use Rattle.instance.specs.Decoded.{shown_by};
 ghost use Rattle.instance.specs.Loaded.{Loaded};
 ghost use Rattle.plan_reader.specs.Answers.{ReadAs, ReadFor};
 
+use answers::Refusal;
 use instance::Instance;
 use limits::{ENTRY_LIMIT, PLAN_LIMIT};
 
-// a plan is accepted, with the number of its pairs, or refused
-#[derive(Drop)]
-pub enum PlanAnswer {
-    Accepted(usize),
-    Refused(u8),
-}
-
-// the answer, and for an accepted plan its edges: as flags, and ascending as the first numbers of a list
-#[derive(Drop)]
+// An accepted plan: the number of its edges, and these as flags, and ascending as the first numbers of a list.
+#[derive(Clone, Copy)]
 pub struct PlanRead {
-    pub answer: PlanAnswer,
+    pub n: usize,
     pub chosen: [bool; ENTRY_LIMIT],
     pub edges: [u16; PLAN_LIMIT],
 }
@@ -41,7 +35,7 @@ pub(crate) fn read_pairs(
     n: usize,
     file: &[u8],
     shifts: bool,
-) -> PlanRead
+) -> Result<PlanRead, Refusal>
     requires m_le_entry_limit { (m ≤ entry_limit) × Low m sv.now node_limit × Low m st.now node_limit × Differ m sv.now st.now sh.now }
     requires n_le_plan_limit { (n ≤ plan_limit) × (0 < length file.now) × (get_or file.now 0 0 ≡ n) }
     ensures { ReadFor shifts m sv.now st.now sh.now qs.now qt.now file.now result }
@@ -55,22 +49,11 @@ pub(crate) fn read_pairs(
     let mut from: usize = 0;
     for k in 0..n {
         if file.len() < at + width {
-            return PlanRead {
-                answer: PlanAnswer::Refused(1),
-                chosen: chosen,
-                edges: edges,
-            };
+            return Err(Refusal::CutShort);
         }
         let p = pair_bytes::get(file, at, shifts);
         let e = plan_lookup::edge_of(m, sv, st, sh, from, p.surveyor, p.stand, p.shift);
-        let c = plan_lookup::pair_refusal(m, sv, st, qs, qt, &us, &ut, from, e);
-        if c != 0 {
-            return PlanRead {
-                answer: PlanAnswer::Refused(c),
-                chosen: chosen,
-                edges: edges,
-            };
-        }
+        plan_lookup::check_pair(m, sv, st, qs, qt, &us, &ut, from, e)?;
         let i = sv[e] as usize;
         let j = st[e] as usize;
         us[i] += 1;
@@ -81,17 +64,13 @@ pub(crate) fn read_pairs(
         at += width;
     }
     if at < file.len() {
-        return PlanRead {
-            answer: PlanAnswer::Refused(9),
-            chosen: chosen,
-            edges: edges,
-        };
+        return Err(Refusal::BytesLeft);
     }
-    PlanRead {
-        answer: PlanAnswer::Accepted(n),
+    Ok(PlanRead {
+        n: n,
         chosen: chosen,
         edges: edges,
-    }
+    })
 }
 
 // a plan file, with shifts or without
@@ -104,30 +83,22 @@ pub fn read_plan(
     qt: &[u8; 32],
     file: &[u8],
     shifts: bool,
-) -> PlanRead
+) -> Result<PlanRead, Refusal>
     requires { (m ≤ entry_limit) × Low m sv.now node_limit × Low m st.now node_limit × Differ m sv.now st.now sh.now }
     ensures { ReadFor shifts m sv.now st.now sh.now qs.now qt.now file.now result }
 {
     if file.len() == 0 {
-        return PlanRead {
-            answer: PlanAnswer::Refused(1),
-            chosen: [false; ENTRY_LIMIT],
-            edges: [0u16; PLAN_LIMIT],
-        };
+        return Err(Refusal::CutShort);
     }
     let n = file[0];
     if (PLAN_LIMIT as u8) < n {
-        return PlanRead {
-            answer: PlanAnswer::Refused(2),
-            chosen: [false; ENTRY_LIMIT],
-            edges: [0u16; PLAN_LIMIT],
-        };
+        return Err(Refusal::TooMany);
     }
     read_pairs(m, sv, st, sh, qs, qt, n as usize, file, shifts)
 }
 
 // A plan file, with shifts or without, against the arrays of an accepted roster.
-pub fn read_against(g: Instance, file: &[u8], shifts: bool) -> PlanRead
+pub fn read_against(g: Instance, file: &[u8], shifts: bool) -> Result<PlanRead, Refusal>
     requires { Loaded g }
     ensures { ReadAs shifts (shown_by g) file.now result }
 {

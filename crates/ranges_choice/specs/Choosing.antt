@@ -1,5 +1,5 @@
 -- What the loops of the choice write, place by place: the low ranks, and then the high ranks of the entries that a plan's own edges raise.
-use Rattle.std.specs.Prelude.{ℕ, ◌+◌, ◌*◌, ◌≤◌, ◌<◌, ◌≡◌, refl, ◌≢◌, Bool, true, false, not, cond, ◌&&◌, ◌||◌, List, [], ◌∷◌, length, set, take, eqb}
+use Rattle.std.specs.Prelude.{ℕ, ◌+◌, ◌*◌, ◌≤◌, ◌<◌, ◌≡◌, refl, ◌≢◌, Bool, true, false, not, cond, ◌&&◌, ◌||◌, List, [], ◌∷◌, length, set, take, eqb, Result}
 use Rattle.std.proofs.Common.{arith, add-one, sym, ap, ap₂, ◌∙◌, subst, length-set, take-suc, get_or-set_same, get_or-set_other}
 use Rattle.std.proofs.Math.Decide.{ℕ_discrete}
 use Rattle.std.proofs.Math.Logic.{by_cases}
@@ -8,7 +8,9 @@ use Rattle.lists.specs.Keep.{any?, any_append}
 use Rattle.model.specs.Limits.{entry_limit}
 use Rattle.arrays.specs.ArrayInstance.{at}
 use Rattle.theory_ranges.specs.RangesFile.{ranges_refusal}
-use Rattle.ranges_choice.specs.declared.RangesRead.{RangesRead}
+use Rattle.std.specs.declared.result.Result.TheVariants.{Ok, Err}
+use Rattle.answers.specs.declared.Refusal.{Refusal}
+use Rattle.answers.specs.RefusalCases.{code_of}
 
 -- ---- one element more in a list, and a test of some element
 pub or_true : (x : Bool) → x || true ≡ true
@@ -35,10 +37,15 @@ pub record Lows (n : ℕ) (ranges o : List ℕ) : Type 0 where
   pub low : (k : ℕ) → k < n → at o k ≡ at ranges (2 * k)
   pub behind : (k : ℕ) → n ≤ k → at o k ≡ 0
 
+-- the low ranks that were read
+abbrev pub lows_in : Result (List ℕ) Refusal → List ℕ
+lows_in (Ok lows) = lows
+lows_in (Err r) = []
+
 -- a file of ranges read: the refusal that it meets, and the low ranks where it meets none
-pub record ReadRanges (n : ℕ) (file : List ℕ) (r : RangesRead) : Type 0 where
-  pub refusal : r.refusal ≡ ranges_refusal n file
-  pub lows : r.refusal ≤ 0 → Lows n file r.lows
+pub record ReadRanges (n : ℕ) (file : List ℕ) (r : Result (List ℕ) Refusal) : Type 0 where
+  pub refusal : code_of r ≡ ranges_refusal n file
+  pub lows : code_of r ≤ 0 → Lows n file (lows_in r)
 
 pub lows_next : (ranges o : List ℕ) (n : ℕ) → n < 2048 → Lows n ranges o → Lows (n + 1) ranges (set o n (at ranges (2 * n)))
 lows_next ranges o n l h = record {

@@ -18,13 +18,13 @@ ghost use Rattle.vote_plans.specs.Plan.{Arrays, Light};
 ghost use Rattle.plan_reader.specs.Planned.{Planned};
 ghost use Rattle.ranges_choice.specs.Choosing.{Lows};
 ghost use Rattle.ranges_choice.specs.Chosen.{Ranked};
+ghost use Rattle.std.specs.declared.result.Result.TheVariants.{Ok};
 ghost use Rattle.ranges_least.specs.ChoiceVote.{SideSum};
 ghost use Rattle.ranges_least.specs.Asked.{Asked, ranges_read, second_on, question_on};
 
-use answers::LeastVote;
+use answers::{LeastVote, Refusal};
 use instance::Instance;
 use limits::{CHOICE_SIZE, ENTRY_LIMIT};
-use plan_reader::PlanAnswer;
 use ranges_choice::Choice;
 
 // The sum of the votes of plan p against plan q at the n nodes of one side.
@@ -88,7 +88,7 @@ pub fn answered(
 ) -> LeastVote
     requires loaded { Loaded g × Planned g p.now pn pe.now × Planned g q.now qn qe.now × (choice_size ≤ length out.old) }
     requires in_order_law { InOrder (shown_by g) × (ranges_refusal (2 * g.m) ranges.now ≤ 0) × Lows (2 * g.m) ranges.now lows }
-    ensures { Asked (shown_by g) (ranges_judged p.now q.now (ranges_read g.m ranges.now)) out.old result
+    ensures { Asked (shown_by g) (ranges_judged p.now q.now (ranges_read g.m ranges.now)) out.old (Ok result)
         out.new }
 {
     let c = ranges_choice::choose(g, pn, pe, q, qn, qe, ranges, lows);
@@ -96,7 +96,7 @@ pub fn answered(
     let ranks = c.ranks;
     let n = 2 * g.m;
     let k = byte_slices::copy(&ranks[..n], out);
-    LeastVote::Vote(v, k)
+    LeastVote { vote: v, length: k }
 }
 
 // The ranges, after both plans were accepted.
@@ -110,19 +110,14 @@ pub fn ranges_judged(
     qe: &[u16; 64],
     ranges: &[u8],
     out: &mut [u8],
-) -> LeastVote
+) -> Result<LeastVote, Refusal>
     requires loaded { Loaded g × Planned g p.now pn pe.now × Planned g q.now qn qe.now × (choice_size ≤ length out.old) }
     requires in_order_law { InOrder (shown_by g) }
     ensures { Asked (shown_by g) (ranges_judged p.now q.now (ranges_read g.m ranges.now)) out.old result
         out.new }
 {
-    let r = ranges_choice::read_ranges(ranges, 2 * g.m);
-    let n = r.refusal;
-    if 0 < n {
-        return LeastVote::Refused(n, answers::group_of(n));
-    }
-    let lows = r.lows;
-    answered(g, p, pn, pe, q, qn, qe, ranges, lows, out)
+    let lows = ranges_choice::read_ranges(ranges, 2 * g.m)?;
+    Ok(answered(g, p, pn, pe, q, qn, qe, ranges, lows, out))
 }
 
 // The second plan, after the first one gave p.
@@ -134,38 +129,28 @@ pub fn second_judged(
     second: &[u8],
     ranges: &[u8],
     out: &mut [u8],
-) -> LeastVote
+) -> Result<LeastVote, Refusal>
     requires loaded { Loaded g × Planned g p.now pn pe.now × (choice_size ≤ length out.old) }
     requires in_order_law { InOrder (shown_by g) }
     ensures { Asked (shown_by g) (second_on (shown_by g) p.now (read_plan (shown_by g) second.now) ranges.now)
         out.old result out.new }
 {
-    let read = plan_reader::read_against(g, second, true);
-    let a = read.answer;
-    match a {
-        PlanAnswer::Refused(n) => LeastVote::Refused(n, answers::group_of(n)),
-        PlanAnswer::Accepted(n) => {
-            let q = read.chosen;
-            let qe = read.edges;
-            ranges_judged(g, p, pn, pe, &q, n, &qe, ranges, out)
-        }
-    }
+    let read = plan_reader::read_against(g, second, true)?;
+    ranges_judged(g, p, pn, pe, &read.chosen, read.n, &read.edges, ranges, out)
 }
 
 // Two plan files and the ranges against the arrays of an accepted roster, with a buffer of 2,048 bytes.
-pub fn least(g: Instance, first: &[u8], second: &[u8], ranges: &[u8], out: &mut [u8]) -> LeastVote
+pub fn least(
+    g: Instance,
+    first: &[u8],
+    second: &[u8],
+    ranges: &[u8],
+    out: &mut [u8],
+) -> Result<LeastVote, Refusal>
     requires { Loaded g × InOrder (shown_by g) × (choice_size ≤ length out.old) }
     ensures { Asked (shown_by g) (question_on (shown_by g) first.now second.now ranges.now) out.old result
         out.new }
 {
-    let read = plan_reader::read_against(g, first, true);
-    let a = read.answer;
-    match a {
-        PlanAnswer::Refused(n) => LeastVote::Refused(n, answers::group_of(n)),
-        PlanAnswer::Accepted(n) => {
-            let p = read.chosen;
-            let pe = read.edges;
-            second_judged(g, &p, n, &pe, second, ranges, out)
-        }
-    }
+    let read = plan_reader::read_against(g, first, true)?;
+    second_judged(g, &read.chosen, read.n, &read.edges, second, ranges, out)
 }

@@ -1,7 +1,7 @@
--- `plan_lookup::pair_refusal` meets its contract.
+-- `plan_lookup::check_pair` meets its contract.
 use Rattle.std.proofs.Common.{true, false, arith}
 use Rattle.plan_lookup.specs.PairRefusal.{not_there, not_ascending, by_quota}
-use Rattle.plan_lookup.proofs.pair_refusal.Goals as goal
+use Rattle.plan_lookup.proofs.check_pair.Goals as goal
 
 pub returns-then-m-e : goal.returns-then-m-e
 returns-then-m-e c = let a = c.args in not_there a.m a.e a.from _ _ c.if-m-e.true
