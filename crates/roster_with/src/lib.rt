@@ -97,11 +97,7 @@ pub fn quota_sum(quotas: &[u8]) -> usize
     requires { length quotas.now ≤ 255 }
     ensures { (result ≡ sum (λ q. q) quotas.now) × (result ≤ 65025) }
 {
-    let mut total: usize = 0;
-    for i in 0..quotas.len() {
-        total += roster_positions::byte_at(quotas, i) as usize;
-    }
-    total
+    quotas.iter().map(|q| *q as usize).sum()
 }
 
 // both sides' counts and quotas, with one surveyor more
