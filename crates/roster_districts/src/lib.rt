@@ -18,11 +18,7 @@ pub(crate) fn moved_up(n: u8) -> [u8; NUMBERS]
     requires { n ≤ node_limit }
     ensures { result ≡ up_table n }
 {
-    let mut table = [0u8; NUMBERS];
-    for i in 0..NUMBERS {
-        table[i] = n + (i as u8);
-    }
-    table
+    std::array::from_fn(|t| n + (t as u8))
 }
 
 // both sides' counts and quotas: ns surveyors and nt stands of the first file, ms and mt of the second
