@@ -4,7 +4,6 @@ use Rattle.std.specs.declared.option.Option.TheVariants.{None, Some}
 use Rattle.std.specs.Prelude.{ℕ, zero, suc, ◌+◌, ◌≤◌, ◌<◌, ◌≡◌, refl, ◌≢◌, Bool, true, false, not, cond, ◌||◌, List, [], ◌∷◌, ◌++◌, length, take, get_or, set, T, eqb}
 use Rattle.std.proofs.Common.{arith, add-one, sym, ap, ap₂, ◌∙◌, subst, ⊎_elim, length-set, length-take, take-suc, take_all, get_or-set_same, get_or-set_other, T_not, eqb→eq}
 use Rattle.std.proofs.Math.Nat.{min-eq_left}
-use Rattle.std.proofs.Math.Arith.{lt_of_le-ne}
 use Rattle.std.proofs.Math.Bool.{or-false}
 use mathlib.Core.List.Memᴰ
 use Rattle.std.proofs.Math.Dec.{not_T}
@@ -158,20 +157,3 @@ marked_step route n i numbers l M a b c z =
 
 pub all_taken_law : (route : List ℕ) (n i : ℕ) (numbers : List ℕ) → length route ≡ n → n ≤ i → Marked (take i route) n numbers → Marked route n numbers
 all_taken_law route n i numbers l h M = subst (λ xs. Marked xs n numbers) (take_all i route (omega arith)) M
-
--- ---- the route itself, from place 1 on
-abbrev pub Put : (route : List ℕ) (i : ℕ) (places : List ℕ) → Type 0
-Put route i places = (j : ℕ) → j < i → get_or places (j + 1) 0 ≡ get_or route j 0
-
-pub put_next : (route : List ℕ) (i : ℕ) (places : List ℕ) → i + 1 < length places → Put route i places
-    → Put route (i + 1) (set places (i + 1) (get_or route i 0))
-put_next route i places l P j h = by-eq j i
-    (λ e b. ap (λ k. get_or (set places (i + 1) (get_or route i 0)) (k + 1) 0) e ∙ get_or-set_same places (i + 1) (get_or route i 0) 0 l
-    ∙ ap (λ k. get_or route k 0) (sym e))
-    (λ d b. get_or-set_other places (i + 1) (j + 1) (get_or route i 0) 0 (λ (q : j + 1 ≡ i + 1). d (omega arith)) ∙ P j (below d))
-  where
-    below : j ≢ i → j < i
-    below d = lt_of_le-ne (omega arith) d
-
-pub put_all : (route : List ℕ) (i : ℕ) (places : List ℕ) → length route ≤ i → length places ≡ 33 → Put route i places → Places route places
-put_all route i places h l P = record { size = l; place = λ j k. P j (omega arith) }

@@ -45,9 +45,7 @@ pub fn places_of(route: &[u8]) -> [u8; NUMBERS]
     ensures { Places route.now result }
 {
     let mut places = [0u8; NUMBERS];
-    for i in 0..route.len() {
-        places[i + 1] = route[i];
-    }
+    places[1..=route.len()].copy_from_slice(route);
     places
 }
 
