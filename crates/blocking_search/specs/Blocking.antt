@@ -1,25 +1,26 @@
 -- What the answer of the search for a blocking pair is.
-use Rattle.std.specs.Prelude.{ℕ, suc, ◌≡◌, refl, Bool, true, false}
+use Rattle.std.specs.Prelude.{ℕ, suc, ◌≡◌, refl, Bool, true, false, Option}
 use Rattle.std.proofs.Common.{ap}
 use Rattle.model.specs.Instance.{Instance}
 use Rattle.model.specs.Plans.{Plan, on}
 use Rattle.model.specs.Blocking.{some_blocks, top_blocking}
 use Rattle.model_desk.specs.Desk.{blocking_answer}
-use Rattle.answers.specs.declared.Blocked.{Blocked}
-use Rattle.answers.specs.declared.Blocked.TheVariants.{Pair, Unblocked}
+use Rattle.std.specs.declared.option.Option.TheVariants.{None, Some}
+use Rattle.std.specs.declared.result.Result.TheVariants.{Ok}
+use Rattle.answers.specs.declared.Blocking.{Blocking}
 use Rattle.answers.specs.BlockedCases.{blocked_shown}
 
 -- yes with the pair of edge e, or no
-abbrev pub named : Instance → (e : ℕ) → Bool → Blocked
-named G e true = Pair (suc (G.sv e)) (suc (G.st e)) (G.sh e)
-named G e false = Unblocked
+abbrev pub named : Instance → (e : ℕ) → Bool → Option Blocking
+named G e true = Some (record { surveyor = suc (G.sv e); stand = suc (G.st e); shift = G.sh e })
+named G e false = None
 
 -- the answer for a plan: its first blocking pair, or that it has none
-abbrev pub blocked_by : Instance → Plan → Blocked
+abbrev pub blocked_by : Instance → Plan → Option Blocking
 blocked_by G M = named G (top_blocking G (on M)) (some_blocks G (on M))
 
 -- this is the desk's answer
-pub blocked_shown_law : (G : Instance) (e : ℕ) (b : Bool) → blocked_shown (named G e b) ≡ blocking_answer G e b
+pub blocked_shown_law : (G : Instance) (e : ℕ) (b : Bool) → blocked_shown (Ok (named G e b)) ≡ blocking_answer G e b
 blocked_shown_law G e true = refl
 blocked_shown_law G e false = refl
 

@@ -6,7 +6,8 @@ use Rattle.std.proofs.Math.Bool.{not, ◌&&◌}
 use Rattle.model.specs.Instance as model
 use Rattle.model.specs.Blocking.{yields, blocks, top_of, top_blocking}
 use Rattle.arrays.specs.ArrayInstance.{at, flag, shown}
-use Rattle.answers.specs.declared.Blocked.TheVariants.{Pair, Unblocked}
+use Rattle.std.specs.declared.option.Option.TheVariants.{None, Some}
+use Rattle.answers.specs.declared.Blocking.{Blocking}
 use Rattle.instance.specs.declared.Instance.{Instance}
 use Rattle.instance.specs.Loaded.{Loaded}
 use Rattle.blocking_thresholds.specs.Threshold.{Edges, Thresholds, side_of}
@@ -35,13 +36,13 @@ module _ (m : ℕ) (sv st rs rt qs qt ls lt : List ℕ) (p : List Bool) (os : Pl
 
   -- the edge named is the model's, and there is one exactly if some edge blocks
   pub answer_yes : (e : ℕ) → e ≡ top_of (at sv) (at rs) m (wanted sv st rs rt ls lt p) → e < m
-      → Pair (at sv e + 1) (at st e + 1) (at sh e) ≡ blocked_by G p
+      → Some (record { surveyor = at sv e + 1; stand = at st e + 1; shift = at sh e }) ≡ blocked_by G p
   answer_yes e q h =
       let s = q ∙ top_is_wanted in
-      ap₂ (λ x y. Pair x y (at sh e)) (add-one (at sv e)) (add-one (at st e)) ∙ ap (λ d. named G d true) s
+      ap₂ (λ x y. Some (record { surveyor = x; stand = y; shift = at sh e })) (add-one (at sv e)) (add-one (at st e)) ∙ ap (λ d. named G d true) s
       ∙ sym (ap (named G (top_blocking G (flag p))) (top_below G (flag p) os (subst (λ z. z < m) s h)))
 
-  pub answer_no : m ≤ top_of (at sv) (at rs) m (wanted sv st rs rt ls lt p) → Unblocked ≡ blocked_by G p
+  pub answer_no : m ≤ top_of (at sv) (at rs) m (wanted sv st rs rt ls lt p) → None ≡ blocked_by G p
   answer_no h = sym (ap (named G (top_blocking G (flag p))) (top_behind G (flag p) os (subst (λ z. m ≤ z) top_is_wanted h)))
 
 -- the arrays of an accepted roster, and the list of a plan's edges, are what the search asks for

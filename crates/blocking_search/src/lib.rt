@@ -14,7 +14,7 @@ ghost use Rattle.model.specs.Blocking.{top_of};
 ghost use Rattle.blocking_thresholds.specs.Threshold.{Edges};
 ghost use Rattle.blocking_search.specs.Wanted.{Placed, wanted};
 
-use answers::Blocked;
+use answers::Blocking;
 use instance::Instance;
 use limits::{EMPTY_RANK, ENTRY_LIMIT, NODE_LIMIT};
 
@@ -51,7 +51,7 @@ pub fn top_wanted(
 
 // A plan within the quotas of an accepted roster, by its flags and by the list of its n edges: the first blocking pair, by the numbers of its surveyor,
 // its stand and its shift, or that there is none.
-pub fn blocking(g: Instance, p: &[bool; ENTRY_LIMIT], n: usize, es: &[u16; 64]) -> Blocked
+pub fn blocking(g: Instance, p: &[bool; ENTRY_LIMIT], n: usize, es: &[u16; 64]) -> Option<Blocking>
     requires { Loaded g × (length (edges_in g.m (flag p.now)) ≤ plan_limit) × Listed g.m p.now n es.now }
     ensures { result ≡ blocked_by (shown_by g) p.now }
 {
@@ -67,7 +67,11 @@ pub fn blocking(g: Instance, p: &[bool; ENTRY_LIMIT], n: usize, es: &[u16; 64]) 
     let e = top_wanted(m, &sv, &st, &rs, &rt, &ls, &lt, p);
     if e < m {
         let sh = g.sh;
-        return Blocked::Pair(sv[e] + 1, st[e] + 1, sh[e]);
+        return Some(Blocking {
+            surveyor: sv[e] + 1,
+            stand: st[e] + 1,
+            shift: sh[e],
+        });
     }
-    Blocked::Unblocked
+    None
 }

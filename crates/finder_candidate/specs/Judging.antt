@@ -15,7 +15,7 @@ use Rattle.instance.specs.declared.Instance as arrays
 use Rattle.instance.specs.Decoded.{shown_by}
 use Rattle.instance.specs.Loaded.{Loaded}
 use Rattle.answers.specs.declared.Verdict as weighed
-use Rattle.answers.specs.declared.Verdict.TheVariants.{Strong, Popular, Beaten, Refused}
+use Rattle.answers.specs.declared.Verdict.TheVariants.{Strong, Popular, Beaten}
 use Rattle.verdict.specs.Weighing.{Shows, weighed_as, rival_written, WeighedBy}
 use Rattle.answers.specs.declared.Found as code
 use Rattle.answers.specs.declared.Found.TheVariants as says
@@ -28,7 +28,6 @@ abbrev pub answer_on : ℕ → weighed.Verdict → code.Found
 answer_on steps Strong = says.Plan steps
 answer_on steps (Popular v) = says.None steps (kind.Rivalled v)
 answer_on steps (Beaten v) = says.None steps (kind.Rivalled v)
-answer_on steps (Refused n g) = says.Refused n g
 
 module _ (G : Instance) (M : Plan) (steps : ℕ) (l p v p' v' : List ℕ) (w : weighed.Verdict) where
   by_verdict : (x : Verdict) → w ≡ weighed_as G M x → v' ≡ rival_written G M x v → p' ≡ onto (plan_bytes G M) p

@@ -36,6 +36,5 @@ pub fn judged(
         Verdict::Strong => Found::Plan(steps),
         Verdict::Popular(v) => Found::None(steps, NoneKind::Rivalled(v)),
         Verdict::Beaten(v) => Found::None(steps, NoneKind::Rivalled(v)),
-        Verdict::Refused(number, group) => Found::Refused(number, group),
     }
 }

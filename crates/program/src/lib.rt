@@ -8,7 +8,6 @@ ghost use Rattle.theory_verdict.specs.Rival.{rival_of};
 ghost use Rattle.instance.specs.Accepted.{RosterAccepted};
 ghost use Rattle.program.specs.Printing.{Prints};
 
-use answers::{FileAnswer, Found};
 use limits::{INPUT_SIZE, LEFT_SIZE, PLAN_SIZE, TEXT_SIZE};
 
 // The text for an accepted roster.
@@ -24,30 +23,21 @@ pub(crate) fn worked(roster: &[u8], out: &mut [u8; TEXT_SIZE]) -> usize
     let mut plan = [0u8; PLAN_SIZE];
     let mut rival = [0u8; PLAN_SIZE];
     let o = finder_run::find(g, &mut left, &mut plan, &mut rival);
-    let answer = o.answer;
     let trace = o.trace;
     let flat = diary_records::flat_records(&sv, &st, &sh, trace);
-    text_answer::answer_text(answer, &flat, &left, &plan, &rival, out)
+    text_answer::answer_text(Ok(o.answer), &flat, &left, &plan, &rival, out)
 }
 
 // "prints the finder's answer": the text at the front of out, and its length. No text is longer than out.
 pub fn answer(input: &[u8], out: &mut [u8; TEXT_SIZE]) -> usize
     ensures { Prints input.now out.old result out.new }
 {
-    let a = roster::read_roster(input);
-    match a {
-        FileAnswer::Refused(number, group) => {
+    match roster::read_roster(input) {
+        Ok(()) => worked(input, out),
+        Err(refusal) => {
             let none = [0u8; 1];
-            text_answer::answer_text(
-                Found::Refused(number, group),
-                &none,
-                &none,
-                &none,
-                &none,
-                out,
-            )
+            text_answer::answer_text(Err(refusal), &none, &none, &none, &none, out)
         }
-        FileAnswer::Accepted => worked(input, out),
     }
 }
 

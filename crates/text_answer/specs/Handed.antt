@@ -1,6 +1,6 @@
 -- What the finder hands to the printer: its answer as the model's desk gives it, and the diary and the pairs at the fronts of the
 -- buffers. The text of what is handed over is the model's.
-use Rattle.std.specs.Prelude.{ℕ, ◌≡◌, refl, length}
+use Rattle.std.specs.Prelude.{ℕ, ◌≡◌, refl, length, Result}
 use Rattle.std.proofs.Common.{sym, ◌∙◌}
 use Rattle.std.proofs.Math.Path.{ap, ap₂}
 use mathlib.Core.List.{List, [], ◌∷◌, ◌++◌, append_assoc}
@@ -21,7 +21,9 @@ use Rattle.model.specs.Printed.{number, signed, line, diary_line, counted, plan_
 use Rattle.theory_finder.specs.Choices.{chosen}
 use Rattle.diary.specs.FlatDiary.{written}
 use Rattle.answers.specs.declared.Found.{Found}
-use Rattle.answers.specs.FinderCases.{found_shown, shows_found}
+use Rattle.std.specs.declared.result.Result.TheVariants.{Ok, Err}
+use Rattle.answers.specs.declared.Refusal.{Refusal}
+use Rattle.answers.specs.FinderCases.{finding_shown, found_shown, shows_finding}
 use Rattle.text_lines.specs.Texts.{texts}
 use Rattle.text_lines.specs.Lines.{diary_at, pair_at}
 use Rattle.text_lines.specs.Held.{diary_lines, pair_lines_law}
@@ -40,13 +42,14 @@ Pairs G (F.rivalled M N v) left plan rival = Front (plan_bytes G M) plan × Fron
 
 -- for what the finder found: the desk's answer, the diary in front of its buffer, and the pairs that go with the answer in theirs
 pub record Handed (G : Instance) (f : F.Found) (a : Found) (flat left plan rival : List ℕ) : Type 0 where
-  pub answer : found_shown a ≡ found_answer (length (steps_of G)) f
+  pub answer : finding_shown a ≡ found_answer (length (steps_of G)) f
   pub diary : (d : List ℕ) × (flat ≡ written (diary_of G) d)
   pub pairs : Pairs G f left plan rival
 
 -- for a roster file as it is read: what the finder hands over for the roster, or the refusal
-abbrev pub HandedFor : Reading Roster → Found → (flat left plan rival : List ℕ) → Type 0
-HandedFor (accepted r) a flat left plan rival = Handed (instance_of r) (F.finder_of (instance_of r) (chosen.rival_of (instance_of r))) a flat left plan rival
+abbrev pub HandedFor : Reading Roster → Result Found Refusal → (flat left plan rival : List ℕ) → Type 0
+HandedFor (accepted r) (Ok a) flat left plan rival = Handed (instance_of r) (F.finder_of (instance_of r) (chosen.rival_of (instance_of r))) a flat left plan rival
+HandedFor (accepted r) (Err n) flat left plan rival = ⊥
 HandedFor (refused n) a flat left plan rival = found_shown a ≡ refusal n
 
 -- ---- its text
@@ -74,16 +77,16 @@ module _ (G : Instance) where
   diary_text flat (d, e) = ap₂ (λ b n. texts (diary_at b) n) e (sym (length-map (steps_of G) (record_of G))) ∙ diary_lines (diary_of G) d
 
 module _ {G : Instance} {a : Found} {flat left plan rival : List ℕ} where
-  pub handed_text : (f : F.Found) → Handed G f a flat left plan rival → shown_text a flat left plan rival ≡ gather diary_line (diary_of G) ++ ending G f
+  pub handed_text : (f : F.Found) → Handed G f a flat left plan rival → shown_text (Ok a) flat left plan rival ≡ gather diary_line (diary_of G) ++ ending G f
   unfolding text
   handed_text (F.plan M) h =
-      ap (λ a. shown_text a flat left plan rival) (shows_found a h.answer)
+      ap (λ a. shown_text (Ok a) flat left plan rival) (shows_finding a h.answer)
       ∙ ap₂ (λ (x y : List ℕ). x ++ y) (diary_text G flat h.diary) (plan_text_law G (text "plan") M plan h.pairs)
   handed_text (F.left es) h =
-      ap (λ a. shown_text a flat left plan rival) (shows_found a h.answer)
+      ap (λ a. shown_text (Ok a) flat left plan rival) (shows_finding a h.answer)
       ∙ ap₂ (λ (x y : List ℕ). x ++ y) (diary_text G flat h.diary) (pairs_text G (text "none left") es left h.pairs)
   handed_text (F.rivalled M N v) h =
-      ap (λ a. shown_text a flat left plan rival) (shows_found a h.answer)
+      ap (λ a. shown_text (Ok a) flat left plan rival) (shows_finding a h.answer)
       ∙ ap₂ (λ (x y : List ℕ). x ++ y) (diary_text G flat h.diary) (rivalled_text_law h.pairs.0 h.pairs.1)
     where
       rivalled_text_law : Front (plan_bytes G M) plan → Front (plan_bytes G N) rival → rivalled_text v plan rival ≡ ending G (F.rivalled M N v)

@@ -1,5 +1,5 @@
 -- The same for every roster within the limits and every input: a fixed buffer holds the text.
-use Rattle.std.specs.Prelude.{ℕ, zero, suc, ◌≤◌, ◌≡◌, refl, Bool, true, false, not, List, [], ◌∷◌, take, T, ltb}
+use Rattle.std.specs.Prelude.{ℕ, zero, suc, ◌≤◌, ◌≡◌, refl, Bool, true, false, not, List, [], ◌∷◌, take, T, ltb, Result}
 use Rattle.std.proofs.Common.{arith, sym, ap, subst}
 use Rattle.std.proofs.Math.ListN.{length}
 use Rattle.lists.specs.Test.{and_l, and_r, and_i}
@@ -29,7 +29,9 @@ use Rattle.theory_finder.specs.Choices.{chosen}
 use Rattle.arrays.specs.Kept.{keep_most}
 use Rattle.diary.specs.FlatDiary.{flat_size}
 use Rattle.answers.specs.declared.Found.{Found}
-use Rattle.answers.specs.FinderCases.{shows_found}
+use Rattle.std.specs.declared.result.Result.TheVariants.{Ok, Err}
+use Rattle.answers.specs.declared.Refusal.{Refusal}
+use Rattle.answers.specs.FinderCases.{finding_not}
 use Rattle.text_answer.specs.Printable.{Printable, text_size}
 use Rattle.text_answer.specs.Handed.{HandedFor}
 use Rattle.text_answer.specs.Sizes.{Small, refused_length, text_length, handed_printable}
@@ -79,12 +81,14 @@ module _ (r : Roster) (ok : T (fits r)) where
       by_left false = left_few
 
 -- what is handed over for a roster file can be printed
-pub file_printable : (x : Reading Roster) → ((r : Roster) → x ≡ accepted r → T (fits r)) → (a : Found) (flat left plan rival : List ℕ)
+pub file_printable : (x : Reading Roster) → ((r : Roster) → x ≡ accepted r → T (fits r)) → (a : Result Found Refusal) (flat left plan rival : List ℕ)
     → flat_size ≤ length flat → left_size ≤ length left → plan_size ≤ length plan → plan_size ≤ length rival → HandedFor x a flat left plan rival
     → Printable a flat left plan rival
-file_printable (accepted r) ok a flat left plan rival d l p v h =
+file_printable (accepted r) ok (Err n) flat left plan rival d l p v h = absurd h
+file_printable (accepted r) ok (Ok a) flat left plan rival d l p v h =
     handed_printable (steps_fit r (ok r refl)) d l p v (finder_of (instance_of r) (chosen.rival_of (instance_of r))) (found_small r (ok r refl)) h
-file_printable (refused n) ok a flat left plan rival d l p v h = subst (λ k. Printable k flat left plan rival) (sym (shows_found a h)) tt
+file_printable (refused n) ok (Ok a) flat left plan rival d l p v h = finding_not a h
+file_printable (refused n) ok (Err r) flat left plan rival d l p v h = tt
 
 -- the text for a roster within the limits, or for a refusal, is no longer than `text_size`
 pub answer_length : (x : Reading Roster) → ((r : Roster) → x ≡ accepted r → T (fits r)) → length (answer_text x chosen.rival_of) ≤ text_size

@@ -15,8 +15,9 @@ use Rattle.model.specs.Finder as F
 use Rattle.model.specs.Finder.{record_of, diary_of}
 use Rattle.model.specs.Printed.{number, line, diary_line, pair_line, counted, ending, group_word}
 use Rattle.diary.specs.FlatDiary.{flat_size}
+use Rattle.std.specs.declared.result.Result.TheVariants.{Ok}
 use Rattle.answers.specs.declared.Found.{Found}
-use Rattle.answers.specs.FinderCases.{shows_found}
+use Rattle.answers.specs.FinderCases.{shows_finding}
 use Rattle.text_lines.specs.Digits.{field_size, field_length}
 use Rattle.text_lines.specs.Votes.{vote_length}
 use Rattle.text_lines.specs.Lines.{diary_line_size, diary_length, pair_line_size, pair_length}
@@ -81,9 +82,9 @@ plan_counted G M buffer h k (rest, e) = (omega (arith, ap (λ b. get_or b 0 0) e
 
 module _ {G : Instance} {a : Found} {flat left plan rival : List ℕ} (steps : length (steps_of G) ≤ diary_size)
     (d : flat_size ≤ length flat) (l : left_size ≤ length left) (p : plan_size ≤ length plan) (v : plan_size ≤ length rival) where
-  pub handed_printable : (f : F.Found) → Small G f → Handed G f a flat left plan rival → Printable a flat left plan rival
+  pub handed_printable : (f : F.Found) → Small G f → Handed G f a flat left plan rival → Printable (Ok a) flat left plan rival
   handed_printable (F.plan M) s h =
-      subst (λ k. Printable k flat left plan rival) (sym (shows_found a h.answer)) ((steps, d), plan_counted G M plan s p h.pairs)
-  handed_printable (F.left es) s h = subst (λ k. Printable k flat left plan rival) (sym (shows_found a h.answer)) ((steps, d), (s, l))
-  handed_printable (F.rivalled M N w) s h = subst (λ k. Printable k flat left plan rival) (sym (shows_found a h.answer))
+      subst (λ k. Printable (Ok k) flat left plan rival) (sym (shows_finding a h.answer)) ((steps, d), plan_counted G M plan s p h.pairs)
+  handed_printable (F.left es) s h = subst (λ k. Printable (Ok k) flat left plan rival) (sym (shows_finding a h.answer)) ((steps, d), (s, l))
+  handed_printable (F.rivalled M N w) s h = subst (λ k. Printable (Ok k) flat left plan rival) (sym (shows_finding a h.answer))
       ((steps, d), (plan_counted G M plan s.0 p h.pairs.0, plan_counted G N rival s.1 v h.pairs.1))

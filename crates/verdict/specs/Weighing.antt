@@ -13,6 +13,7 @@ use Rattle.theory_verdict.specs.Rival.{rival_of}
 use Rattle.theory_instance.specs.Lawful.{Matching}
 use Rattle.arrays.specs.ArrayInstance.{flag}
 use Rattle.plan_lookup.specs.PlanEdges.{Listed}
+use Rattle.std.specs.declared.result.Result.TheVariants.{Ok}
 use Rattle.answers.specs.declared.Verdict.{Verdict}
 use Rattle.answers.specs.declared.Verdict.TheVariants.{Strong, Popular, Beaten}
 use Rattle.answers.specs.VerdictCases.{verdict_shown}
@@ -63,7 +64,7 @@ pub record RivalFor (G : Instance) (plan : List Bool) (rivalled : Bool) (rival :
 -- ---- these are the desk's
 module _ (G : Instance) (M : Plan) where
   -- for each verdict the answer is the desk's
-  pub desk_answer : (v : verdict.Verdict) → verdict_shown (weighed_as G M v) ≡ desk.verdict_answer G M (rival_of G M) v
+  pub desk_answer : (v : verdict.Verdict) → verdict_shown (Ok (weighed_as G M v)) ≡ desk.verdict_answer G M (rival_of G M) v
   desk_answer verdict.strong = refl
   desk_answer verdict.popular = refl
   desk_answer verdict.beaten = refl

@@ -45,11 +45,3 @@ returns-in-Beaten c =
     (c.write_plan.ensures a.g.m a.fixed.now c.list_edges-l.ensures) w.ensures
     (rivalled_on a.steps w.result (to_z-of_z {w = w16} {z = c.in-Beaten.v} (search rules))
     (ap (answer_on a.steps) c.in-Beaten.is))
-
-pub returns-in-Refused : goal.returns-in-Refused
-returns-in-Refused c =
-    let a = c.args in
-    let w = c.weigh-w in
-    judged_on a.g a.fixed.now a.steps a.plan.now a.rival.now _ _ w.result
-    (c.write_plan.ensures a.g.m a.fixed.now c.list_edges-l.ensures) w.ensures
-    (ap (answer_on a.steps) (sym c.in-Refused.is))

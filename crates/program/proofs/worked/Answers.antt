@@ -1,5 +1,5 @@
 -- program::worked writes the text of what the finder answers.
-use Rattle.std.proofs.Common.{ℕ, arith, ◌≡◌, List, length, T, rules}
+use Rattle.std.proofs.Common.{ℕ, arith, ◌≡◌, List, length, T, Ok, rules}
 use Rattle.model.specs.RosterFile.{read_roster}
 use Rattle.theory_files.specs.Reads.{is_bytes}
 use Rattle.roster_reading.specs.Place.{bytes_of}
@@ -16,7 +16,7 @@ full c = search rules
 
 -- what the printer is handed is what the finder found
 handed : (c : After-flat_records-flat) → let r = c.find-o.new in
-    HandedFor (read_roster c.args.roster.now) c.find-o.result.answer c.flat_records-flat.result r.left r.plan r.rival
+    HandedFor (read_roster c.args.roster.now) (Ok c.find-o.result.answer) c.flat_records-flat.result r.left r.plan r.rival
 handed c =
     let whole : T (is_bytes c.args.roster.now) = bytes_of c.args.roster.now (λ j. c.type_inv.roster j) in
     let g = c.instance_of-g in
@@ -36,10 +36,10 @@ flat_records-flat-requires c =
 
 pub answer_text-requires : goal.answer_text-requires
 answer_text-requires c = (
-  can_print c.args.roster.now (bytes_of c.args.roster.now (λ j. c.type_inv.roster j)) c.find-o.result.answer _ _ _ _ (handed (goal.at.answer_text-requires c).After-flat_records-flat) (omega (arith, full (goal.at.answer_text-requires c).After-flat_records-flat)) (search rules) (search rules) (search rules),
+  can_print c.args.roster.now (bytes_of c.args.roster.now (λ j. c.type_inv.roster j)) (Ok c.find-o.result.answer) _ _ _ _ (handed (goal.at.answer_text-requires c).After-flat_records-flat) (omega (arith, full (goal.at.answer_text-requires c).After-flat_records-flat)) (search rules) (search rules) (search rules),
   search rules,
 )
 
 pub returns : goal.returns
 returns c =
-    prints c.args.roster.now (bytes_of c.args.roster.now (λ j. c.type_inv.roster j)) c.find-o.result.answer _ _ _ _ (handed (goal.at.returns c).After-flat_records-flat) _ _ _ (search rules) c.answer_text.ensures
+    prints c.args.roster.now (bytes_of c.args.roster.now (λ j. c.type_inv.roster j)) (Ok c.find-o.result.answer) _ _ _ _ (handed (goal.at.returns c).After-flat_records-flat) _ _ _ (search rules) c.answer_text.ensures
