@@ -40,37 +40,14 @@ pub fn append_entry(out: &mut [u8; ROSTER_SIZE], n: usize, number: u8, shift: u8
     append_byte(&mut *out, second, shift)
 }
 
-// bytes in the place of those behind the first n
-pub(crate) fn put_behind(out: &mut [u8], n: usize, part: &[u8])
-    requires { n + length part.now ≤ length out.old }
-    ensures out_after { take (n + length part.now) out.new ≡ take n out.old ++ part.now }
-    ensures out_len_unchanged { length out.new ≡ length out.old }
-{
-    byte_slices::copy(part, &mut out[n..]);
-}
-
-// some bytes behind the first n, one by one as long as there is room
-pub(crate) fn append_some(out: &mut [u8; ROSTER_SIZE], n: usize, part: &[u8]) -> usize
-    requires { Room n out.old }
-    ensures { Grown part.now n out.old result out.new }
-{
-    let mut at = n;
-    for &b in part {
-        at = append_byte(&mut *out, at, b);
-    }
-    at
-}
-
-// some bytes behind the first n: all at once where there is room, as there is for a roster within the limits
+// some bytes behind the first n, as many as there is room for: all, for a roster within the limits
 pub fn append(out: &mut [u8; ROSTER_SIZE], n: usize, part: &[u8]) -> usize
     requires { Room n out.old }
     ensures { Grown part.now n out.old result out.new }
 {
-    if part.len() <= ROSTER_SIZE - n {
-        put_behind(&mut out[..], n, part);
-        return n + part.len();
-    }
-    append_some(out, n, part)
+    let end = n + part.len().min(ROSTER_SIZE - n);
+    out[n..end].copy_from_slice(&part[..end - n]);
+    end
 }
 
 // the entries among the bytes of some lists, of which so many are lengths
