@@ -128,24 +128,30 @@ module _ (d : Files) {k : Topic} (c : Call k) (t : T (needs_roster (need c))) (u
 
 -- ---- what the call knows of what it works on
 -- the state's refusal
-pub state_is : (d : Files) {needs short : Bool} {l : OnDesk} → LoadedFrom (roster_bytes d) (plan_bytes d) needs short l
-    → l.refusal ≡ state_number (held_of d) needs short
+pub state_is : (d : Files) {needs short : Bool} {n : ℕ} {l : OnDesk} → LoadedFrom (roster_bytes d) (plan_bytes d) needs short n l
+    → n ≡ state_number (held_of d) needs short
 unfolding held_of
 state_is d {needs} {short} F = F.refusal ∙ beside_number (proposal_bytes d) (held (read_roster (roster_bytes d)) (plan_bytes d)) needs short
 
+-- the same where it is a refusal
+pub state_refuses : (d : Files) (needs short : Bool) {n : ℕ} → n ≡ state_number (held (read_roster (roster_bytes d)) (plan_bytes d)) needs short
+    → n ≡ state_number (held_of d) needs short
+unfolding held_of
+state_refuses d needs short e = e ∙ beside_number (proposal_bytes d) (held (read_roster (roster_bytes d)) (plan_bytes d)) needs short
+
 -- the arrays of the roster held
-pub arrays_are : (d : Files) {needs short : Bool} {l : OnDesk} → LoadedFrom (roster_bytes d) (plan_bytes d) needs short l → l.refusal ≤ 0 → Loaded l.g
+pub arrays_are : (d : Files) {needs short : Bool} {n : ℕ} {l : OnDesk} → LoadedFrom (roster_bytes d) (plan_bytes d) needs short n l → n ≤ 0 → Loaded l.g
 arrays_are d F z = given (its_roster z F) (λ (R, a). (F.instance R a).0)
 
 -- the buffer lent to it has its size
-pub long_enough : (out : List ℕ) (size : ℕ) {roster plan : List ℕ} {needs : Bool} {l : OnDesk}
-    → LoadedFrom roster plan needs (ltb (length out) size) l → l.refusal ≤ 0
+pub long_enough : (out : List ℕ) (size : ℕ) {roster plan : List ℕ} {needs : Bool} {n : ℕ} {l : OnDesk}
+    → LoadedFrom roster plan needs (ltb (length out) size) n l → n ≤ 0
     → size ≤ length out
 long_enough out size F z = nltb→le (length out) size (false_t (its_length z F))
 
 -- the same of two buffers
-pub both_long : (x y : List ℕ) (n m : ℕ) {roster plan : List ℕ} {needs : Bool} {l : OnDesk}
-    → LoadedFrom roster plan needs (ltb (length x) n || ltb (length y) m) l → l.refusal ≤ 0 → (n ≤ length x) × (m ≤ length y)
+pub both_long : (x y : List ℕ) (n m : ℕ) {roster plan : List ℕ} {needs : Bool} {k : ℕ} {l : OnDesk}
+    → LoadedFrom roster plan needs (ltb (length x) n || ltb (length y) m) k l → k ≤ 0 → (n ≤ length x) × (m ≤ length y)
 both_long x y n m F z =
     let t = false_t (its_length z F) in
     (nltb→le (length x) n (nor_l (ltb (length x) n) (ltb (length y) m) t), nltb→le (length y) m (nor_r (ltb (length x) n) (ltb (length y) m) t))
@@ -160,7 +166,7 @@ pub plan_held_law : (d : Files) (R : Roster) (M : Plan) → read_roster (roster_
 plan_held_law d R M a b = roster_held_law d R a ∙ ap (λ y. beside (proposal_bytes d) (held_plan R y)) b
 
 -- the plan that is loaded is the one held
-pub its_plan_held : (d : Files) {short : Bool} {l : OnDesk} → LoadedFrom (roster_bytes d) (plan_bytes d) true short l → l.refusal ≤ 0
+pub its_plan_held : (d : Files) {short : Bool} {n : ℕ} {l : OnDesk} → LoadedFrom (roster_bytes d) (plan_bytes d) true short n l → n ≤ 0
     → (R : Roster) × (M : Plan) × (held_of d ≡ held_proposal R M (other d R)) × (shown_by l.g ≡ instance_of R) × PlanIn l M
     × (plans.plan_bytes (instance_of R) M ≡ plan_bytes d)
 its_plan_held d F z = given (its_plan z F) (λ (R, M, a, b). (
@@ -192,7 +198,7 @@ both_read file plan proposal R M = by_roster (read_roster file) refl
     by_roster (refused n) a z = absurd (none-ne-some (R, M) z)
 
 -- so the plan held is within the quotas of a roster within the limits
-pub held_within : (d : Files) {short : Bool} {l : OnDesk} → LoadedFrom (roster_bytes d) (plan_bytes d) true short l → (R : Roster) (M : Plan)
+pub held_within : (d : Files) {short : Bool} {n : ℕ} {l : OnDesk} → LoadedFrom (roster_bytes d) (plan_bytes d) true short n l → (R : Roster) (M : Plan)
     → plan_held (held_of d) ≡ some (R, M) → T (fits R) × (M ∈ plans_of (instance_of R))
 unfolding held_of
 held_within d F R M h = given (both_read (roster_bytes d) (plan_bytes d) (proposal_bytes d) R M h) (λ (a, b). (

@@ -6,11 +6,13 @@
 ghost use Rattle.std.specs.Prelude.{◌≡◌, ◌||◌, ◌≤◌, length, take, ltb};
 ghost use Rattle.model.specs.Limits.{plan_size, diary_size, left_size};
 ghost use Rattle.model_desk.specs.Desk.{onto};
-ghost use Rattle.desk_loaded.specs.OnDesk.{LoadedFrom};
+ghost use Rattle.answers.specs.RefusalCases.{code_of};
+ghost use Rattle.desk_loaded.specs.OnDesk.{LoadedAs};
 ghost use Rattle.desk_files.specs.Held.{roster_bytes, plan_bytes, New};
 ghost use Rattle.desk_files.specs.Open.{Opened};
 ghost use Rattle.desk_files.specs.PlanLength.{length_of};
 
+use answers::Refusal;
 use desk_loaded::OnDesk;
 use limits::{DIARY_SIZE, LEFT_SIZE, PAIR_WIDTH, PLAN_SIZE, ROSTER_SIZE};
 
@@ -66,8 +68,8 @@ pub fn plan_length(pairs: u8) -> usize
 }
 
 // what a call has to work on; `needs`: it needs a plan; `short`: a buffer lent to it is below its size
-pub fn loaded(files: Files, needs: bool, short: bool) -> OnDesk
-    ensures { LoadedFrom (roster_bytes files) (plan_bytes files) needs short result }
+pub fn loaded(files: Files, needs: bool, short: bool) -> Result<OnDesk, Refusal>
+    ensures { LoadedAs (roster_bytes files) (plan_bytes files) needs short result }
 {
     let roster = files.roster;
     let plan = files.plan;
@@ -76,23 +78,17 @@ pub fn loaded(files: Files, needs: bool, short: bool) -> OnDesk
     desk_loaded::loaded(r, p, needs, short)
 }
 
-// The state's refusal of a call that needs an open proposal: 13, 14, 20, then 15, where a buffer lent to it is below its size; 0 for none.
-pub fn open_refusal(files: Files, short: bool) -> u8
-    ensures { Opened files short result }
+// The state's refusal of a call that needs an open proposal: 13, 14, 20, then 15, where a buffer lent to it is below its size.
+pub fn check_open(files: Files, short: bool) -> Result<(), Refusal>
+    ensures { Opened files short (code_of result) }
 {
-    let here = loaded(files, true, false);
-    let n = here.refusal;
-    if 0 < n {
-        return n;
-    }
+    let here = loaded(files, true, false)?;
     let proposal = files.proposal;
     let file = front(&proposal, files.proposal_len);
-    let beside = desk_loaded::with_plan(here.g, file, short);
-    let m = beside.refusal;
-    if m == 14 {
-        return 20;
+    match desk_loaded::with_plan(here.g, file, false) {
+        Err(_) => Err(Refusal::NoProposal),
+        Ok(_) => desk_loaded::check_buffers(short),
     }
-    m
 }
 
 // "15 a lent buffer below its size": those that the finder, a join and a leave are lent. `records`: how many a lent diary has room for; then the bytes

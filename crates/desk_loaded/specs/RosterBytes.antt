@@ -1,5 +1,5 @@
 -- The roster's bytes judged and not decoded, and decoded where they are known to be a roster's.
-use Rattle.std.specs.Prelude.{ℕ, ◌≤◌, ◌≡◌, Bool, false, cond, List, [], T}
+use Rattle.std.specs.Prelude.{ℕ, ◌≤◌, ◌≡◌, Bool, false, cond, List, [], T, Result, ⊤}
 use Rattle.std.proofs.Common.{arith, sym, ap, ◌∙◌}
 use Rattle.lists.specs.Test.{given, by_bool}
 use Rattle.model.specs.Reading.{accepted, is_bytes}
@@ -8,9 +8,10 @@ use Rattle.model.specs.RosterFile.{read_roster, write_roster}
 use Rattle.model.specs.Edges.{instance_of}
 use Rattle.model.specs.PlanFile.{read_plan}
 use Rattle.theory_files.specs.Rosters.{read_write, read_fits}
-use Rattle.answers.specs.declared.Group.{Group}
-use Rattle.answers.specs.declared.FileAnswer.TheVariants.{Accepted, Refused}
-use Rattle.answers.specs.FileCases.{file_case, case_accepted, case_refused}
+use Rattle.std.specs.declared.result.Result.TheVariants.{Ok, Err}
+use Rattle.answers.specs.declared.Refusal.{Refusal}
+use Rattle.answers.specs.RefusalCases.{reading_of}
+use Rattle.answers.specs.FileCases.{file_read, read_accepted, read_refused}
 use Rattle.instance.specs.declared.Instance.{Instance}
 use Rattle.instance.specs.Decoded.{shown_by, Decoded}
 use Rattle.instance.specs.Loaded.{Loaded, loaded}
@@ -23,14 +24,15 @@ pub record Judged (bytes : List ℕ) (short : Bool) (n : ℕ) : Type 0 where
   pub roster_is : n ≤ 0 → (R : Roster) × (read_roster bytes ≡ accepted R) × T (fits R) × (write_roster R ≡ bytes)
 
 module _ (bytes : List ℕ) (short : Bool) where
-  pub judged_not : {n : ℕ} {g : Group} → Refused n g ≡ file_case (read_roster bytes) → Judged bytes short 13
-  judged_not q = record {
-    refusal_is = λ plan. sym (ap (λ x. state_number (held x plan) false short) (case_refused (read_roster bytes) q));
+  pub judged_not : {r : Result ⊤ Refusal} {n : Refusal} → r ≡ Err n → reading_of r ≡ file_read (read_roster bytes) → Judged bytes short 13
+  judged_not q e = record {
+    refusal_is = λ plan. sym (ap (λ x. state_number (held x plan) false short) (read_refused (read_roster bytes) q e));
     roster_is = λ z. absurd (omega arith);
   }
 
-  pub judged : T (is_bytes bytes) → Accepted ≡ file_case (read_roster bytes) → (n : ℕ) → n ≡ cond short 15 0 → Judged bytes short n
-  judged is_b q n i = given (case_accepted (read_roster bytes) q) (λ (R, e). record {
+  pub judged : T (is_bytes bytes) → {r : Result ⊤ Refusal} {u : ⊤} → r ≡ Ok u → reading_of r ≡ file_read (read_roster bytes)
+      → (n : ℕ) → n ≡ cond short 15 0 → Judged bytes short n
+  judged is_b q a n i = given (read_accepted (read_roster bytes) q a) (λ (R, e). record {
     refusal_is = λ plan. i ∙ unneeded R (read_plan (instance_of R) plan) short ∙ sym (ap (λ x. state_number (held x plan) false short) e);
     roster_is = λ z. (R, e, read_fits bytes R is_b e, read_write bytes R is_b e);
   })

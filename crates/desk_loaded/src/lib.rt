@@ -7,122 +7,109 @@ ghost use Rattle.model.specs.Reading.{accepted};
 ghost use Rattle.model.specs.Roster.{Roster};
 ghost use Rattle.model.specs.RosterFile.{read_roster};
 ghost use Rattle.model.specs.PlanFile.{read_plan};
-ghost use Rattle.answers.specs.FileCases.{file_case};
+ghost use Rattle.answers.specs.RefusalCases.{code_of, reading_of};
+ghost use Rattle.answers.specs.FileCases.{file_read};
 ghost use Rattle.instance.specs.Decoded.{shown_by};
 ghost use Rattle.instance.specs.Loaded.{Loaded};
-ghost use Rattle.desk_loaded.specs.OnDesk.{OnRoster, LoadedFrom};
+ghost use Rattle.desk_loaded.specs.OnDesk.{OnRosterAs, LoadedAs};
 ghost use Rattle.desk_loaded.specs.RosterBytes.{Judged, ArraysOf};
 
-use answers::FileAnswer;
+use answers::Refusal;
 use instance::Instance;
-use limits::ENTRY_LIMIT;
-use plan_reader::PlanAnswer;
+use limits::{ENTRY_LIMIT, PLAN_LIMIT};
+use plan_reader::PlanRead;
 
-// The refusal, 0 for none; the instance; the plan by the flags of its edges, their number, and the list of them. Where no plan is needed,
-// and on a refusal, the plan is empty.
-#[derive(Drop)]
+// The instance, and the plan as its reader gives it. Where no plan is needed, the plan is empty.
+#[derive(Clone, Copy)]
 pub struct OnDesk {
-    pub refusal: u8,
     pub g: Instance,
-    pub n: usize,
-    pub plan: [bool; ENTRY_LIMIT],
-    pub edges: [u16; 64],
+    pub plan: PlanRead,
 }
 
 // a plan file against the arrays of an accepted roster: accepted, or its refusal
-pub fn read_plan(g: Instance, file: &[u8]) -> FileAnswer
+pub fn read_plan(g: Instance, file: &[u8]) -> Result<(), Refusal>
     requires { Loaded g }
-    ensures { result ≡ file_case (read_plan (shown_by g) file.now) }
+    ensures { reading_of result ≡ file_read (read_plan (shown_by g) file.now) }
 {
-    let read = plan_reader::read_against(g, file, true);
-    let a = read.answer;
-    match a {
-        PlanAnswer::Accepted(_) => FileAnswer::Accepted,
-        PlanAnswer::Refused(number) => FileAnswer::Refused(number, answers::group_of(number)),
-    }
+    plan_reader::read_against(g, file, true)?;
+    Ok(())
 }
 
-// "15 a lent buffer below its size"; 0 for none
-pub(crate) fn short_refusal(short: bool) -> u8
-    ensures { result ≡ cond short 15 0 }
+// "15 a lent buffer below its size"
+pub fn check_buffers(short: bool) -> Result<(), Refusal>
+    ensures { code_of result ≡ cond short 15 0 }
 {
     if short {
-        return 15;
+        return Err(Refusal::BufferTooSmall);
     }
-    0
+    Ok(())
 }
 
 // an instance with no plan
-pub(crate) fn bare(g: Instance, refusal: u8) -> OnDesk
-    ensures { (result.g ≡ g) × (result.refusal ≡ refusal) }
+pub(crate) fn bare(g: Instance) -> OnDesk
+    ensures { result.g ≡ g }
 {
     OnDesk {
-        refusal: refusal,
         g: g,
-        n: 0,
-        plan: [false; ENTRY_LIMIT],
-        edges: [0; 64],
+        plan: PlanRead {
+            n: 0,
+            chosen: [false; ENTRY_LIMIT],
+            edges: [0; PLAN_LIMIT],
+        },
     }
 }
 
 // "14 no plan held" before 15
-pub fn with_plan(g: Instance, plan: &[u8], short: bool) -> OnDesk
+pub fn with_plan(g: Instance, plan: &[u8], short: bool) -> Result<OnDesk, Refusal>
     requires { Loaded g }
-    ensures { OnRoster g plan.now true short result }
+    ensures { OnRosterAs g plan.now true short result }
 {
-    let read = plan_reader::read_against(g, plan, true);
-    let a = read.answer;
-    match a {
-        PlanAnswer::Refused(_) => bare(g, 14),
-        PlanAnswer::Accepted(n) => {
-            let refusal = short_refusal(short);
-            let chosen = read.chosen;
-            let edges = read.edges;
-            OnDesk {
-                refusal: refusal,
-                g: g,
-                n: n,
-                plan: chosen,
-                edges: edges,
-            }
+    match plan_reader::read_against(g, plan, true) {
+        Err(_) => Err(Refusal::NoPlan),
+        Ok(read) => {
+            check_buffers(short)?;
+            Ok(OnDesk { g: g, plan: read })
         }
     }
 }
 
 // the plan is read where it is needed
-pub(crate) fn on_roster(g: Instance, plan: &[u8], needs: bool, short: bool) -> OnDesk
+pub(crate) fn on_roster(
+    g: Instance,
+    plan: &[u8],
+    needs: bool,
+    short: bool,
+) -> Result<OnDesk, Refusal>
     requires { Loaded g }
-    ensures { OnRoster g plan.now needs short result }
+    ensures { OnRosterAs g plan.now needs short result }
 {
     if needs {
         return with_plan(g, plan, short);
     }
-    let refusal = short_refusal(short);
-    bare(g, refusal)
+    check_buffers(short)?;
+    Ok(bare(g))
 }
 
 // "13 no roster loaded" before all: `roster` and `plan` are the bytes held; `needs`: the call needs a plan; `short`: a buffer lent to it is
 // below its size.
-pub fn loaded(roster: &[u8], plan: &[u8], needs: bool, short: bool) -> OnDesk
-    ensures { LoadedFrom roster.now plan.now needs short result }
+pub fn loaded(roster: &[u8], plan: &[u8], needs: bool, short: bool) -> Result<OnDesk, Refusal>
+    ensures { LoadedAs roster.now plan.now needs short result }
 {
-    let a = roster::read_roster(roster);
+    let Ok(()) = roster::read_roster(roster) else {
+        return Err(Refusal::NoRoster);
+    };
     let g = instance::instance_of(roster);
-    match a {
-        FileAnswer::Refused(_, _) => bare(g, 13),
-        FileAnswer::Accepted => on_roster(g, plan, needs, short),
-    }
+    on_roster(g, plan, needs, short)
 }
 
 // ---- the two halves of it, for calls that need one of them
-// The state's refusal of a call that works on the roster's bytes alone, which are judged and not decoded: 13, then 15; 0 for none.
-pub fn roster_refusal(roster: &[u8], short: bool) -> u8
-    ensures { Judged roster.now short result }
+// The state's refusal of a call that works on the roster's bytes alone, which are judged and not decoded: 13, then 15.
+pub fn check_roster(roster: &[u8], short: bool) -> Result<(), Refusal>
+    ensures { Judged roster.now short (code_of result) }
 {
-    let a = roster::read_roster(roster);
-    match a {
-        FileAnswer::Refused(_, _) => 13,
-        FileAnswer::Accepted => short_refusal(short),
+    match roster::read_roster(roster) {
+        Err(_) => Err(Refusal::NoRoster),
+        Ok(()) => check_buffers(short),
     }
 }
 

@@ -5,14 +5,14 @@ ghost use Rattle.model_desk.specs.Desk.{load_roster, load_plan};
 ghost use Rattle.answers.specs.FileCases.{file_shown};
 ghost use Rattle.desk_files.specs.Replies.{Replied};
 
-use answers::FileAnswer;
+use answers::Refusal;
 use desk_files::Files;
 
 // the files afterwards, and the answer
 #[derive(Drop)]
 pub struct Load {
     pub files: Files,
-    pub answer: FileAnswer,
+    pub answer: Result<(), Refusal>,
 }
 
 // "Loading a roster drops the plan and is the only call that needs none loaded"
@@ -21,15 +21,15 @@ pub fn load_roster(files: Files, file: &[u8]) -> Load
 {
     let a = roster::read_roster(file);
     match a {
-        FileAnswer::Refused(number, group) => Load {
+        Err(refusal) => Load {
             files: files,
-            answer: FileAnswer::Refused(number, group),
+            answer: Err(refusal),
         },
-        FileAnswer::Accepted => {
+        Ok(()) => {
             let d = desk_intake::with_roster(files, file);
             Load {
                 files: d,
-                answer: FileAnswer::Accepted,
+                answer: Ok(()),
             }
         }
     }
@@ -40,24 +40,25 @@ pub fn load_plan(files: Files, file: &[u8]) -> Load
     ensures { Replied files (load_plan file.now) (file_shown result.answer) (load_plan file.now) result.files }
 {
     let l = desk_files::loaded(files, false, false);
-    let n = l.refusal;
-    if 0 < n {
-        return Load {
+    match l {
+        Err(refusal) => Load {
             files: files,
-            answer: FileAnswer::Refused(n, answers::group_of(n)),
-        };
-    }
-    let a = desk_loaded::read_plan(l.g, file);
-    match a {
-        FileAnswer::Refused(number, group) => Load {
-            files: files,
-            answer: FileAnswer::Refused(number, group),
+            answer: Err(refusal),
         },
-        FileAnswer::Accepted => {
-            let next = desk_intake::with_plan(files, file);
-            Load {
-                files: next,
-                answer: FileAnswer::Accepted,
+        Ok(here) => {
+            let a = desk_loaded::read_plan(here.g, file);
+            match a {
+                Err(refusal) => Load {
+                    files: files,
+                    answer: Err(refusal),
+                },
+                Ok(()) => {
+                    let next = desk_intake::with_plan(files, file);
+                    Load {
+                        files: next,
+                        answer: Ok(()),
+                    }
+                }
             }
         }
     }

@@ -2,18 +2,16 @@
 use Prim.Native.Nat.{ℕ, zero, suc, ◌+◌, ◌-◌, ◌*◌, ◌≤◌, ◌<◌}
 use native.Mathlib.Omega.{arith}
 use Rattle.std.proofs.Common.{mul-le-mul_left, not-suc-le-zero, sym, ap, ap₂, ◌∙◌, append_assoc, append-nil, length-append}
-use Rattle.std.specs.Prelude.{◌≡◌, refl, Bool, true, false, not, cond, List, [], ◌∷◌, ◌++◌, length, drop, set, eqb}
+use Rattle.std.specs.Prelude.{◌≡◌, refl, Bool, true, false, not, cond, List, [], ◌∷◌, ◌++◌, length, drop, set, eqb, Result}
 use Rattle.lists.specs.Keep.{all?, gather}
 use Rattle.model.specs.Limits.{plan_limit, plan_size}
 use Rattle.model.specs.Reading.{Reading, accepted, refused}
-use Rattle.model.specs.Refusal.{group_of}
 use Rattle.model.specs.PlanFile.{Named}
 use Rattle.model_desk.specs.Desk as model
 use Rattle.model_desk.specs.Desk.{said, wrote, onto, converted_answer, converted_onto}
-use Rattle.answers.specs.declared.Group.{Group}
-use Rattle.answers.specs.declared.Written.{Written}
-use Rattle.answers.specs.declared.Written.TheVariants.{Wrote, Refused}
-use Rattle.answers.specs.GroupCases.{group_shown}
+use Rattle.std.specs.declared.result.Result.TheVariants.{Ok, Err}
+use Rattle.answers.specs.declared.Refusal.{Refusal}
+use Rattle.answers.specs.declared.Refusal.TheVariants.{OtherShift}
 use Rattle.answers.specs.WrittenCases.{written_shown}
 use Rattle.pair_bytes.specs.declared.Pair.{Pair}
 use Rattle.pair_bytes.specs.PairAt.{pair_layout, width_of, named_of, named_at, put_by, put_behind}
@@ -37,7 +35,7 @@ other_plan shifts f n = n ∷ other_pairs shifts (pairs_from shifts f n 1)
 abbrev pub pairs_turned : (shifts : Bool) → List ℕ → (n : ℕ) → Reading (List ℕ)
 pairs_turned shifts f n = cond (all? first_pair (pairs_from shifts f n 1)) (accepted (other_plan shifts f n)) (refused 19)
 
-pub record PairsTurned (shifts : Bool) (f : List ℕ) (n : ℕ) (o : List ℕ) (r : Written) (o' : List ℕ) : Type 0 where
+pub record PairsTurned (shifts : Bool) (f : List ℕ) (n : ℕ) (o : List ℕ) (r : Result ℕ Refusal) (o' : List ℕ) : Type 0 where
   pub answer : written_shown r ≡ converted_answer (pairs_turned shifts f n)
   pub lent : o' ≡ converted_onto (pairs_turned shifts f n) o
 
@@ -126,14 +124,14 @@ module _ (shifts : Bool) (f : List ℕ) (n : ℕ) where
 
 -- ---- 19, or the copy
 module _ (shifts : Bool) (f : List ℕ) (n : ℕ) (o : List ℕ) where
-  pub pairs_not : (g : Group) → all? first_pair (pairs_from shifts f n 1) ≡ false → group_shown g ≡ group_of 19 → PairsTurned shifts f n o (Refused 19 g) o
-  pairs_not g h q = record {
-    answer = ap (model.refused 19) q ∙ sym (ap (λ b. converted_answer (cond b (accepted (other_plan shifts f n)) (refused 19))) h);
+  pub pairs_not : all? first_pair (pairs_from shifts f n 1) ≡ false → PairsTurned shifts f n o (Err OtherShift) o
+  pairs_not h = record {
+    answer = sym (ap (λ b. converted_answer (cond b (accepted (other_plan shifts f n)) (refused 19))) h);
     lent = sym (ap (λ b. converted_onto (cond b (accepted (other_plan shifts f n)) (refused 19)) o) h);
   }
 
   pub pairs_wrote : {k : ℕ} {o' : List ℕ} → all? first_pair (pairs_from shifts f n 1) ≡ true → k ≡ length (other_plan shifts f n)
-      → o' ≡ onto (other_plan shifts f n) o → PairsTurned shifts f n o (Wrote k) o'
+      → o' ≡ onto (other_plan shifts f n) o → PairsTurned shifts f n o (Ok k) o'
   pairs_wrote h p q = record {
     answer = ap (λ k. said (wrote k)) p ∙ sym (ap (λ b. converted_answer (cond b (accepted (other_plan shifts f n)) (refused 19))) h);
     lent = q ∙ sym (ap (λ b. converted_onto (cond b (accepted (other_plan shifts f n)) (refused 19)) o) h);

@@ -1,6 +1,6 @@
 -- A plan's file, turned: what is written for an accepted one is the same plan in the other layout, so that the answer and the bytes are the
 -- model's conversion against the instance that the file was read with.
-use Rattle.std.specs.Prelude.{ℕ, ◌+◌, ◌-◌, ◌*◌, ◌≤◌, ◌≡◌, Bool, true, false, not, cond, ◌&&◌, drop, T}
+use Rattle.std.specs.Prelude.{ℕ, ◌+◌, ◌-◌, ◌*◌, ◌≤◌, ◌≡◌, Bool, true, false, not, cond, ◌&&◌, drop, T, Result}
 use Rattle.std.proofs.Common.{arith, ◌∙◌, subst, length-append, length-drop}
 use Rattle.std.proofs.Math.Path.{refl, sym, ap, ap₂}
 use mathlib.Core.List.{List, [], ◌∷◌, ◌++◌, map}
@@ -10,7 +10,6 @@ use Rattle.lists.specs.Test.{given, T_true, true_t, false_t, and_l, and_r}
 use Rattle.lists.specs.Keep.{all?, gather}
 use Rattle.model.specs.Limits.{plan_limit}
 use Rattle.model.specs.Reading.{Reading, accepted, refused, is_bytes}
-use Rattle.model.specs.Refusal.{group_of}
 use Rattle.model.specs.Instance.{Instance}
 use Rattle.model.specs.Plans.{Plan, on}
 use Rattle.model.specs.PlanFile.{Named, name_of, plain_pair, edges_in, plan_bytes_by, plan_bytes, read_plan}
@@ -21,14 +20,11 @@ use Rattle.theory_files.specs.Reads.{read_value, read_rest}
 use Rattle.theory_files.specs.Layouts.{PairAgrees, in_shifted_pair, in_plain_pair}
 use Rattle.theory_files.specs.PlanFiles.{Fileable, plan_read_write_by, plan_read_within_by, plan_read_held, plan_few, bytes_are, bytes_size}
 use Rattle.theory_files.specs.PlanSeasons.{old_plan_taken, new_plan_taken, new_plan_refused, old_plan_turned_away, new_plan_turned_away}
-use Rattle.answers.specs.declared.Group.{Group}
-use Rattle.answers.specs.declared.Written.{Written}
-use Rattle.answers.specs.declared.Written.TheVariants as written
-use Rattle.answers.specs.GroupCases.{group_shown}
+use Rattle.std.specs.declared.result.Result.TheVariants.{Ok, Err}
+use Rattle.answers.specs.declared.Refusal.{Refusal}
+use Rattle.answers.specs.RefusalCases.{number_of}
 use Rattle.answers.specs.WrittenCases.{written_shown}
 use Rattle.pair_bytes.specs.PairAt.{pair_layout, width_of, named_at, field_at}
-use Rattle.plan_reader.specs.declared.PlanAnswer.{PlanAnswer}
-use Rattle.plan_reader.specs.declared.PlanAnswer.TheVariants.{Accepted, Refused}
 use Rattle.plan_reader.specs.Answers.{answer_of, plan_in}
 use Rattle.plan_turned.specs.Pairs.{pairs_from, first_pair, other_pairs, other_plan, pairs_turned, PairsTurned}
 
@@ -38,18 +34,18 @@ plan_by true = plan_to_old
 plan_by false = plan_to_new
 
 -- the answer is what the file is read to, against an instance whose pairs differ
-abbrev pub ReadWith : (shifts : Bool) → List ℕ → PlanAnswer → Instance → Type 0
+abbrev pub ReadWith : (shifts : Bool) → List ℕ → Reading ℕ → Instance → Type 0
 ReadWith shifts f a G = Fileable G × (a ≡ answer_of G.m (plan_in shifts G f))
 
-abbrev pub SomePlan : (shifts : Bool) → List ℕ → PlanAnswer → Type 0
+abbrev pub SomePlan : (shifts : Bool) → List ℕ → Reading ℕ → Type 0
 SomePlan shifts f a = (G : Instance) × ReadWith shifts f a G
 
 -- against each such instance the answer and the bytes are the model's
-pub record TurnedFor (shifts : Bool) (G : Instance) (f o : List ℕ) (r : Written) (o' : List ℕ) : Type 0 where
+pub record TurnedFor (shifts : Bool) (G : Instance) (f o : List ℕ) (r : Result ℕ Refusal) (o' : List ℕ) : Type 0 where
   pub answer : written_shown r ≡ converted_answer (plan_by shifts G f)
   pub lent : o' ≡ converted_onto (plan_by shifts G f) o
 
-abbrev pub PlanTurned : (shifts : Bool) (a : PlanAnswer) (f o : List ℕ) (r : Written) (o' : List ℕ) → Type 0
+abbrev pub PlanTurned : (shifts : Bool) (a : Reading ℕ) (f o : List ℕ) (r : Result ℕ Refusal) (o' : List ℕ) → Type 0
 PlanTurned shifts a f o r o' = (G : Instance) → ReadWith shifts f a G → TurnedFor shifts G f o r o'
 
 abbrev agrees : (shifts : Bool) → PairAgrees (pair_layout shifts)
@@ -142,43 +138,43 @@ module _ (shifts : Bool) (G : Instance) (F : Fileable G) (f : List ℕ) (is_b : 
   turned_is : pairs_turned shifts f (length ds) ≡ plan_by shifts G f
   turned_is = ap₂ (λ b z. cond b (accepted z) (refused 19)) first_is other_is ∙ sym model_is
 
-  pub turned_for : (n : ℕ) → n ≡ length ds → {o : List ℕ} {r : Written} {o' : List ℕ} → PairsTurned shifts f n o r o' → TurnedFor shifts G f o r o'
+  pub turned_for : (n : ℕ) → n ≡ length ds → {o : List ℕ} {r : Result ℕ Refusal} {o' : List ℕ} → PairsTurned shifts f n o r o' → TurnedFor shifts G f o r o'
   turned_for n e {o} X =
       let q = ap (pairs_turned shifts f) e ∙ turned_is in
       record { answer = X.answer ∙ ap converted_answer q; lent = X.lent ∙ ap (λ x. converted_onto x o) q }
 
 -- ---- what an answer says of the reading
-abbrev is_accepted : PlanAnswer → Bool
-is_accepted (Accepted n) = true
-is_accepted (Refused n) = false
+abbrev is_accepted : Reading ℕ → Bool
+is_accepted (accepted n) = true
+is_accepted (refused n) = false
 
-abbrev number_in : PlanAnswer → ℕ
-number_in (Accepted n) = n
-number_in (Refused n) = n
+abbrev number_in : Reading ℕ → ℕ
+number_in (accepted n) = n
+number_in (refused n) = n
 
-answer_accepted : (m : ℕ) (x : Reading Plan) {n : ℕ} → Accepted n ≡ answer_of m x → (M : Plan) × (x ≡ accepted M) × (n ≡ length (edges_in m (on M)))
+answer_accepted : (m : ℕ) (x : Reading Plan) {n : ℕ} → accepted n ≡ answer_of m x → (M : Plan) × (x ≡ accepted M) × (n ≡ length (edges_in m (on M)))
 answer_accepted m (accepted M) e = (M, refl, ap number_in e)
 answer_accepted m (refused k) e = absurd (subst (λ a. T (is_accepted a)) e tt)
 
-answer_refused : (m : ℕ) (x : Reading Plan) {n : ℕ} → Refused n ≡ answer_of m x → x ≡ refused n
+answer_refused : (m : ℕ) (x : Reading Plan) {n : ℕ} → refused n ≡ answer_of m x → x ≡ refused n
 answer_refused m (accepted M) e = absurd (subst (λ a. T (is_accepted a)) (sym e) tt)
 answer_refused m (refused k) e = ap (λ a. refused (number_in a)) (sym e)
 
-module _ (shifts : Bool) (f : List ℕ) (a : PlanAnswer) where
+module _ (shifts : Bool) (f : List ℕ) (a : Reading ℕ) where
   -- the pairs of an accepted one are there
-  pub accepted_room : T (is_bytes f) → {n : ℕ} → a ≡ Accepted n → SomePlan shifts f a → (n ≤ plan_limit) × (width_of shifts * n + 1 ≤ length f)
+  pub accepted_room : T (is_bytes f) → {n : ℕ} → a ≡ accepted n → SomePlan shifts f a → (n ≤ plan_limit) × (width_of shifts * n + 1 ≤ length f)
   accepted_room is_b {n} e (G, (F, q)) = given (answer_accepted G.m (plan_in shifts G f) (sym e ∙ q)) (λ (M, x, k).
       subst (λ j. (j ≤ plan_limit) × (width_of shifts * j + 1 ≤ length f)) (sym k) (pairs_few shifts G F f is_b M x, pairs_there shifts G F f is_b M x))
 
-  pub accepted_turned : T (is_bytes f) → {n : ℕ} → a ≡ Accepted n → {o : List ℕ} {r : Written} {o' : List ℕ} → PairsTurned shifts f n o r o'
+  pub accepted_turned : T (is_bytes f) → {n : ℕ} → a ≡ accepted n → {o : List ℕ} {r : Result ℕ Refusal} {o' : List ℕ} → PairsTurned shifts f n o r o'
       → PlanTurned shifts a f o r o'
   accepted_turned is_b {n} e X G (F, q) = given (answer_accepted G.m (plan_in shifts G f) (sym e ∙ q)) (λ (M, x, k). turned_for shifts G F f is_b M x n k X)
 
-  pub refused_turned : (n : ℕ) (g : Group) → a ≡ Refused n → group_shown g ≡ group_of n → (o : List ℕ) → PlanTurned shifts a f o (written.Refused n g) o
-  refused_turned n g e h o G (F, q) =
+  pub refused_turned : (r : Refusal) → a ≡ refused (number_of r) → (o : List ℕ) → PlanTurned shifts a f o (Err r) o
+  refused_turned r e o G (F, q) =
       let x = away shifts (answer_refused G.m (plan_in shifts G f) (sym e ∙ q)) in
-      record { answer = ap (model.refused n) h ∙ sym (ap converted_answer x); lent = sym (ap (λ y. converted_onto y o) x) }
+      record { answer = sym (ap converted_answer x); lent = sym (ap (λ y. converted_onto y o) x) }
     where
-      away : (b : Bool) → plan_in b G f ≡ refused n → plan_by b G f ≡ refused n
-      away true e = new_plan_turned_away G f n e
-      away false e = old_plan_turned_away G f n e
+      away : (b : Bool) → plan_in b G f ≡ refused (number_of r) → plan_by b G f ≡ refused (number_of r)
+      away true e = new_plan_turned_away G f (number_of r) e
+      away false e = old_plan_turned_away G f (number_of r) e

@@ -7,11 +7,12 @@ ghost use Rattle.lists.specs.Keep.{all?};
 ghost use Rattle.model.specs.Limits.{plan_limit, plan_size};
 ghost use Rattle.model_desk.specs.Desk.{onto};
 ghost use Rattle.pair_bytes.specs.PairAt.{width_of};
+ghost use Rattle.plan_reader.specs.Answers.{answered};
 ghost use Rattle.plan_turned.specs.Pairs.{pairs_from, first_pair, other_plan, PairsTurned};
 ghost use Rattle.plan_turned.specs.Turning.{SomePlan, PlanTurned};
 
-use answers::Written;
-use plan_reader::PlanAnswer;
+use answers::Refusal;
+use plan_reader::PlanRead;
 
 // Whether the n pairs of a file are all in shift 1.
 pub(crate) fn only_first(file: &[u8], n: usize, shifts: bool) -> bool
@@ -51,24 +52,26 @@ pub(crate) fn copy_pairs(file: &[u8], n: usize, shifts: bool, out: &mut [u8]) ->
 }
 
 // The pairs of an accepted file; 19 where one of them is in another shift than 1.
-pub(crate) fn settled(file: &[u8], n: usize, shifts: bool, out: &mut [u8]) -> Written
+pub(crate) fn settled(file: &[u8], n: usize, shifts: bool, out: &mut [u8]) -> Result<usize, Refusal>
     requires { (n ≤ plan_limit) × (width_of shifts * n + 1 ≤ length file.now) × (plan_size ≤ length out.old) }
     ensures { PairsTurned shifts file.now n out.old result out.new }
 {
     if !only_first(file, n, shifts) {
-        return Written::Refused(19, answers::group_of(19));
+        return Err(Refusal::OtherShift);
     }
-    let k = copy_pairs(file, n, shifts, out);
-    Written::Wrote(k)
+    Ok(copy_pairs(file, n, shifts, out))
 }
 
 // A plan file with shifts or without, in the other layout, by what it was read to: the plan's refusal, then 19.
-pub fn turn(answer: PlanAnswer, file: &[u8], shifts: bool, out: &mut [u8]) -> Written
-    requires { SomePlan shifts file.now answer × (plan_size ≤ length out.old) }
-    ensures { PlanTurned shifts answer file.now out.old result out.new }
+pub fn turn(
+    read: Result<PlanRead, Refusal>,
+    file: &[u8],
+    shifts: bool,
+    out: &mut [u8],
+) -> Result<usize, Refusal>
+    requires { SomePlan shifts file.now (answered read) × (plan_size ≤ length out.old) }
+    ensures { PlanTurned shifts (answered read) file.now out.old result out.new }
 {
-    match answer {
-        PlanAnswer::Refused(number) => Written::Refused(number, answers::group_of(number)),
-        PlanAnswer::Accepted(n) => settled(file, n, shifts, out),
-    }
+    let plan = read?;
+    settled(file, plan.n, shifts, out)
 }

@@ -7,10 +7,10 @@ pub returns : goal.returns
 returns c =
     let a = c.args in
     pairs_wrote a.shifts a.file.now a.n a.out.now
-    (sym c.only_first.ensures ∙ c.if-not-only_first.false) c.copy_pairs-k.ensures.0 c.copy_pairs-k.ensures.1
+    (sym c.only_first.ensures ∙ c.if-not-only_first.false) c.copy_pairs.ensures.0 c.copy_pairs.ensures.1
 
 pub returns-then-not-only_first : goal.returns-then-not-only_first
 returns-then-not-only_first c =
     let a = c.args in
-    pairs_not a.shifts a.file.now a.n a.out.now c.group_of.result
-    (sym c.only_first.ensures ∙ c.if-not-only_first.true) c.group_of.ensures
+    pairs_not a.shifts a.file.now a.n a.out.now
+    (sym c.only_first.ensures ∙ c.if-not-only_first.true)
