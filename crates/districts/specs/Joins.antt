@@ -1,14 +1,15 @@
 -- What joining two roster files promises: the model's answer and bytes; and of two that are joined, that the bytes are read back as the two side
 -- by side, whose strongly popular plans, pairs and finder's answers are those of both.
-use Rattle.std.specs.Prelude.{ℕ, ◌*◌, ◌≤◌, ◌<◌, ◌≡◌, refl, ◌&&◌, List, ◌++◌, length, take, drop, T}
-use Rattle.std.proofs.Common.{arith, sym, ◌∙◌}
+use Rattle.std.specs.Prelude.{Result, ⊤}
+use Rattle.std.specs.declared.result.Result.TheVariants.{Ok, Err}
+use Rattle.std.specs.Prelude.{ℕ, ◌*◌, ◌≤◌, ◌≡◌, ◌&&◌, List, ◌++◌, length, take, drop, T}
+use Rattle.std.proofs.Common.{sym, ◌∙◌}
 use Rattle.std.proofs.Math.Path.{ap, subst}
 use Rattle.lists.specs.Test.{given}
 use Rattle.model.specs.Limits.{roster_size}
-use Rattle.model.specs.Reading.{Reading, accepted, refused, is_bytes}
+use Rattle.model.specs.Reading.{accepted, refused, is_bytes}
 use Rattle.model.specs.Roster.{Roster}
 use Rattle.model.specs.RosterFile.{read_roster, write_roster}
-use Rattle.model.specs.Refusal.{group_of}
 use Rattle.model.specs.Edges.{instance_of}
 use Rattle.model.specs.Plans.{Plan, strong_plans, strong_count}
 use Rattle.model.specs.PlanFile.{plan_bytes}
@@ -21,17 +22,14 @@ use Rattle.theory_renamed.specs.BothStrong.{all_beside}
 use Rattle.theory_renamed.specs.JoinedFiles.{join_parts, joined_accepted}
 use Rattle.theory_renamed.specs.JoinedPlans.{pairs_joined, bytes_joined}
 use Rattle.theory_renamed.proofs.JoinedPlans.{strong_joined, count_joined, finder_joined, finder_both}
-use Rattle.answers.specs.declared.Group.{Group}
-use Rattle.answers.specs.declared.Written.{Written}
-use Rattle.answers.specs.declared.Written.TheVariants.{Wrote, Refused}
-use Rattle.answers.specs.declared.FileAnswer.TheVariants as file
-use Rattle.answers.specs.GroupCases.{group_shown}
-use Rattle.answers.specs.FileCases.{file_case}
+use Rattle.answers.specs.declared.Refusal.{Refusal}
+use Rattle.answers.specs.RefusalCases.{number_of, reading_of}
+use Rattle.answers.specs.FileCases.{file_read}
 use Rattle.answers.specs.WrittenCases.{written_shown}
-use Rattle.roster_parts.specs.declared.Changed.{Changed}
-use Rattle.roster_parts.specs.Gives.{Gives}
-use Rattle.roster_districts.specs.Joining.{sums_to}
 use Rattle.answers.specs.Settling.{Settles, settles_refused, settles_file, settles_wrote, Answers, wrote_of}
+use Rattle.roster_parts.specs.declared.RosterBytes.{RosterBytes}
+use Rattle.roster_parts.specs.Gives.{Gives, gives_turned, gives_made}
+use Rattle.roster_districts.specs.Joining.{sums_to}
 
 -- "The joined roster has a strongly popular plan exactly when both have one, and it is the two side by side."
 pub record Together (first second bytes : List ℕ) : Type 0 where
@@ -56,7 +54,7 @@ pub record Together (first second bytes : List ℕ) : Type 0 where
       → hands_back (finder_of (instance_of (side_by_side r q)) ρ) ≡ hands_back (finder_of (instance_of r) ρ₁) && hands_back (finder_of (instance_of q) ρ₂)
 
 -- what the call promises: its answer, every byte of the buffer, and what holds of two rosters that are joined
-pub record Joins (first second o : List ℕ) (r : Written) (o' : List ℕ) : Type 0 where
+pub record Joins (first second o : List ℕ) (r : Result ℕ Refusal) (o' : List ℕ) : Type 0 where
   -- 15, or a refusal of the first file, of the second, of the sums, each with its group, or the number of bytes written
   pub answer : written_shown r ≡ file_answer (joined_file first second) o
   -- they are in front of the buffer, which keeps the rest; a refusal changes no byte
@@ -81,7 +79,7 @@ module _ (f g : List ℕ) (isF : T (is_bytes f)) (isG : T (is_bytes g)) where
         exactly = finder_both p.r p.q p.fits₁ p.fits₂ p.room;
       }))
 
-  pub joins : (o : List ℕ) {r : Written} {o' : List ℕ} → Answers roster_size (joined_file f g) o r o' → Joins f g o r o'
+  pub joins : (o : List ℕ) {r : Result ℕ Refusal} {o' : List ℕ} → Answers roster_size (joined_file f g) o r o' → Joins f g o r o'
   unfolding file_answer file_lent
   joins o {r} {o'} a = record {
     answer = a.answer;
@@ -104,34 +102,25 @@ module _ (f g : List ℕ) where
     unfolding joined_file join_of
     both_accepted q e = ap (λ x. file_of (first_to x g)) a ∙ ap (λ x. file_of (second_to r x)) e
 
-  pub first_turned : (o : List ℕ) (n : ℕ) (h : Group) → file.Refused n h ≡ file_case (read_roster f) → Settles (joined_file f g) o (Refused n h) o
-  first_turned o n h q = settles_file (joined_file f g) o (read_roster f) n h q (first_refused n)
+  pub first_turned : (o : List ℕ) (n : Refusal) {s : Result ⊤ Refusal} → s ≡ Err n → reading_of s ≡ file_read (read_roster f)
+      → Settles (joined_file f g) o (Err n) o
+  first_turned o n q e = settles_file (joined_file f g) o (read_roster f) n q e (first_refused (number_of n))
 
-  pub second_turned : (r : Roster) → read_roster f ≡ accepted r → (o : List ℕ) (n : ℕ) (h : Group) → file.Refused n h ≡ file_case (read_roster g)
-      → Settles (joined_file f g) o (Refused n h) o
-  second_turned r a o n h q = settles_file (joined_file f g) o (read_roster g) n h q (second_refused r a n)
+  pub second_turned : (r : Roster) → read_roster f ≡ accepted r → (o : List ℕ) (n : Refusal) {s : Result ⊤ Refusal} → s ≡ Err n
+      → reading_of s ≡ file_read (read_roster g) → Settles (joined_file f g) o (Err n) o
+  second_turned r a o n q e = settles_file (joined_file f g) o (read_roster g) n q e (second_refused r a (number_of n))
 
   -- the answer of the joining of two accepted files, refused or copied
-  module _ (r q : Roster) (a : read_roster f ≡ accepted r) (b : read_roster g ≡ accepted q) (o : List ℕ) (c : Changed) (k : Gives (sums_to r q) c) where
-    pub sums_turned : (h : Group) → 0 < c.refusal → group_shown h ≡ group_of c.refusal → Settles (joined_file f g) o (Refused c.refusal h) o
-    sums_turned h pos e = go (sums_to r q) refl k
-      where
-        go : (x : Reading Roster) → sums_to r q ≡ x → Gives x c → Settles (joined_file f g) o (Refused c.refusal h) o
-        go (accepted J) d (z, few, front) = absurd (let w : ⊥ = omega (arith, z) in w)
-        go (refused n) d (z, some) = settles_refused (joined_file f g) o c.refusal h
-            (both_accepted r a q b ∙ ap file_of d ∙ ap refused (sym z)) e
+  module _ (r q : Roster) (a : read_roster f ≡ accepted r) (b : read_roster g ≡ accepted q) (o : List ℕ) {c : Result RosterBytes Refusal}
+      (k : Gives (sums_to r q) c) where
+    pub sums_turned : (n : Refusal) → c ≡ Err n → Settles (joined_file f g) o (Err n) o
+    sums_turned n e = settles_refused (joined_file f g) o n (both_accepted r a q b ∙ ap file_of (gives_turned (sums_to r q) k e))
 
-    pub few_bytes : c.refusal ≤ 0 → c.len ≤ roster_size
-    few_bytes none = go (sums_to r q) k
-      where
-        go : (x : Reading Roster) → Gives x c → c.len ≤ roster_size
-        go (accepted J) (z, few, front) = few
-        go (refused n) (z, some) = absurd (let w : ⊥ = omega (arith, z) in w)
+    pub few_bytes : {d : RosterBytes} → c ≡ Ok d → d.len ≤ roster_size
+    few_bytes e = let (J, d, few, front) = gives_made (sums_to r q) k e in few
 
-    pub both_copied : (part : List ℕ) (n : ℕ) (o' : List ℕ) → c.refusal ≤ 0 → part ≡ take c.len c.roster → n ≡ length part
-        → o' ≡ take (length part) part ++ drop (length part) o → Settles (joined_file f g) o (Wrote n) o'
-    both_copied part n o' none p l w = go (sums_to r q) refl k
-      where
-        go : (x : Reading Roster) → sums_to r q ≡ x → Gives x c → Settles (joined_file f g) o (Wrote n) o'
-        go (accepted J) d (z, few, front) = settles_wrote (joined_file f g) o (write_roster J) part n o' (both_accepted r a q b ∙ ap file_of d) (p ∙ front) l w
-        go (refused m) d (z, some) = absurd (let w : ⊥ = omega (arith, z) in w)
+    pub both_copied : {d : RosterBytes} → c ≡ Ok d → (part : List ℕ) (n : ℕ) (o' : List ℕ) → part ≡ take d.len d.roster → n ≡ length part
+        → o' ≡ take (length part) part ++ drop (length part) o → Settles (joined_file f g) o (Ok n) o'
+    both_copied e part n o' p l w =
+        let (J, d, few, front) = gives_made (sums_to r q) k e in
+        settles_wrote (joined_file f g) o (write_roster J) part n o' (both_accepted r a q b ∙ ap file_of d) (p ∙ front) l w

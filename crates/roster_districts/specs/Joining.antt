@@ -1,6 +1,8 @@
 -- The bytes written of two accepted rosters are those of the two side by side, and the refusals are those of their sums.
 use Prim.Native.Nat.{ℕ, suc, ◌+◌, ◌-◌, ◌≤◌, ◌<◌, zero-le, suc-le-suc}
 use native.Mathlib.Omega.{arith}
+use Rattle.std.specs.Prelude.{Result}
+use Rattle.std.specs.declared.result.Result.TheVariants.{Ok, Err}
 use Rattle.std.specs.Prelude.{◌≡◌, Bool, true, false, cond, ◌||◌, get_or, T, ltb}
 use Rattle.std.proofs.Math.Path.{refl, sym, ap, ap₂}
 use Rattle.std.proofs.Common.{◌∙◌, subst, length-append, take_all, lt-ltb, le-ltb}
@@ -23,7 +25,9 @@ use Rattle.theory_files.specs.RosterInstance.{ns_small, nt_small}
 use Rattle.theory_files.specs.Offsets.{lists_start, ranking_section, offsets, rankings_from_law}
 use Rattle.theory_renamed.specs.MovedUp.{range_parts}
 use Rattle.theory_renamed.specs.JoinedFits.{Room, sums_by_counts_law, joined_counts, fits_joined}
-use Rattle.roster_parts.specs.declared.Changed.{Changed}
+use Rattle.answers.specs.declared.Refusal.{Refusal}
+use Rattle.answers.specs.declared.Refusal.TheVariants.{TooMany, QuotaTooHigh}
+use Rattle.roster_parts.specs.declared.RosterBytes.{RosterBytes}
 use Rattle.roster_parts.specs.Places.{quotas_part, surveyors_are, stands_are, lists_behind, lists_part}
 use Rattle.roster_parts.specs.Gives.{Gives, gives_refused, Holds, gives_held}
 use Rattle.roster_parts.specs.Mapped.{under, all_under, ranking_under, lists_under, rankings_under, lists_under_law, rankings_under_law}
@@ -37,7 +41,7 @@ Accepted f = (r : Roster) × (read_roster f ≡ accepted r)
 abbrev pub sums_to : Roster → Roster → Reading Roster
 sums_to r q = refuse_by (sums_check r q) (accepted (side_by_side r q))
 
-abbrev pub JoinedBy : (f g : List ℕ) → Changed → Type 0
+abbrev pub JoinedBy : (f g : List ℕ) → Result RosterBytes Refusal → Type 0
 JoinedBy f g c = (r q : Roster) → read_roster f ≡ accepted r → read_roster g ≡ accepted q → Gives (sums_to r q) c
 
 module _ (n c : ℕ) (small : c ≤ node_limit) where
@@ -135,7 +139,7 @@ module _ (f g : List ℕ) (r q : Roster) (e : write_roster r ≡ f) (d : write_r
       ∙ ap (gather (ranking_bytes shifted)) (rankings_up ns ms (ns_small q okq) q.lists_t (fits_lists q okq).fit_t))
       ∙ sym (gather_append (ranking_bytes shifted) r.lists_t (map (ranking_up ns) q.lists_t))
 
-  beside_gives : Room r q → (c : Changed) → Holds (beside_bytes f ns nt g ms mt) c → Gives (accepted J) c
+  beside_gives : Room r q → (c : RosterBytes) → Holds (beside_bytes f ns nt g ms mt) c → Gives (accepted J) (Ok c)
   beside_gives room c h = gives_held J (fits_joined r q okr okq room) (nodes_beside f ns nt g ms mt)
       (lists_beside f (ns + nt + 4) (end_at f ns nt) g (ms + mt + 4) ms (up_table nt))
       (rankings_beside f (end_at f ns nt + 2) g (end_at g ms mt + 2) mt (up_table ns)) nodes_are lists_are rankings_are (ns + ms) (nt + mt)
@@ -190,16 +194,16 @@ module _ (f g : List ℕ) (isF : T (is_bytes f)) (isG : T (is_bytes g)) (r q : R
   or_true true = refl
   or_true false = refl
 
-  pub many_surveyors : (c : Changed) → node_limit < ns + ms → c.refusal ≡ 2 → Gives (sums_to r q) c
-  many_surveyors c h e = gives_refused (sums_to r q) 2 c
+  pub many_surveyors : node_limit < ns + ms → Gives (sums_to r q) (Err TooMany)
+  many_surveyors h = gives_refused (sums_to r q) TooMany
       (by_tests_law true test_t (ltb quota_sum_limit quota_s) (ltb quota_sum_limit quota_t) 2
-      (lt-ltb node_limit (surveyor_count r + surveyor_count q) (omega (arith, is_s, is_s'))) refl refl refl refl) (omega arith) e
+      (lt-ltb node_limit (surveyor_count r + surveyor_count q) (omega (arith, is_s, is_s'))) refl refl refl refl)
 
-  pub many_stands : (c : Changed) → node_limit < nt + mt → c.refusal ≡ 2 → Gives (sums_to r q) c
-  many_stands c h e = gives_refused (sums_to r q) 2 c
+  pub many_stands : node_limit < nt + mt → Gives (sums_to r q) (Err TooMany)
+  many_stands h = gives_refused (sums_to r q) TooMany
       (by_tests_law test_s true (ltb quota_sum_limit quota_s) (ltb quota_sum_limit quota_t) 2 refl
       (lt-ltb node_limit (stand_count r + stand_count q) (omega (arith, is_t, is_t'))) refl refl
-      (ap (λ b. cond b 2 (cond (quotas_past r q) 3 0)) (or_true test_s))) (omega arith) e
+      (ap (λ b. cond b 2 (cond (quotas_past r q) 3 0)) (or_true test_s)))
 
   -- the quotas that the code adds are those of the roster
   sum_surveyors : quotas_from f 1 ns + quotas_from g 1 ms ≡ quota_s
@@ -217,24 +221,23 @@ module _ (f g : List ℕ) (isF : T (is_bytes f)) (isG : T (is_bytes g)) (r q : R
     no_t : test_t ≡ false
     no_t = le-ltb node_limit (stand_count r + stand_count q) (omega (arith, is_t, is_t'))
 
-    pub surveyors_past : (c : Changed) (s : ℕ) → s ≡ quotas_from f 1 ns + quotas_from g 1 ms → quota_sum_limit < s → c.refusal ≡ 3 → Gives (sums_to r q) c
-    surveyors_past c s p h e = gives_refused (sums_to r q) 3 c
+    pub surveyors_past : (s : ℕ) → s ≡ quotas_from f 1 ns + quotas_from g 1 ms → quota_sum_limit < s → Gives (sums_to r q) (Err QuotaTooHigh)
+    surveyors_past s p h = gives_refused (sums_to r q) QuotaTooHigh
         (by_tests_law false false true (ltb quota_sum_limit quota_t) 3 no_s no_t
-        (lt-ltb quota_sum_limit quota_s (subst (λ k. quota_sum_limit < k) (p ∙ sum_surveyors) h)) refl refl) (omega arith) e
+        (lt-ltb quota_sum_limit quota_s (subst (λ k. quota_sum_limit < k) (p ∙ sum_surveyors) h)) refl refl)
 
-    pub stands_past : (c : Changed) (t : ℕ) → t ≡ quotas_from f (ns + 2) nt + quotas_from g (ms + 2) mt → quota_sum_limit < t → c.refusal ≡ 3
-        → Gives (sums_to r q) c
-    stands_past c t p h e = gives_refused (sums_to r q) 3 c
+    pub stands_past : (t : ℕ) → t ≡ quotas_from f (ns + 2) nt + quotas_from g (ms + 2) mt → quota_sum_limit < t → Gives (sums_to r q) (Err QuotaTooHigh)
+    stands_past t p h = gives_refused (sums_to r q) QuotaTooHigh
         (by_tests_law false false (ltb quota_sum_limit quota_s) true 3 no_s no_t refl
         (lt-ltb quota_sum_limit quota_t (subst (λ k. quota_sum_limit < k) (p ∙ sum_stands) h))
-        (ap (λ b. cond b 3 0) (or_true (ltb quota_sum_limit quota_s)))) (omega arith) e
+        (ap (λ b. cond b 3 0) (or_true (ltb quota_sum_limit quota_s))))
 
-    pub side_by_side_law : (c : Changed) (s t : ℕ) → s ≡ quotas_from f 1 ns + quotas_from g 1 ms → t ≡ quotas_from f (ns + 2) nt + quotas_from g (ms + 2) mt
-        → s ≤ quota_sum_limit → t ≤ quota_sum_limit → Holds (beside_bytes f ns nt g ms mt) c → Gives (sums_to r q) c
+    pub side_by_side_law : (c : RosterBytes) (s t : ℕ) → s ≡ quotas_from f 1 ns + quotas_from g 1 ms → t ≡ quotas_from f (ns + 2) nt + quotas_from g (ms + 2) mt
+        → s ≤ quota_sum_limit → t ≤ quota_sum_limit → Holds (beside_bytes f ns nt g ms mt) c → Gives (sums_to r q) (Ok c)
     side_by_side_law c s t p p' h k held =
         let x = subst (λ z. z ≤ quota_sum_limit) (p ∙ sum_surveyors) h in
         let y = subst (λ z. z ≤ quota_sum_limit) (p' ∙ sum_stands) k in
-        subst (λ z. Gives z c)
+        subst (λ z. Gives z (Ok c))
         (sym (by_tests_law false false false false 0 no_s no_t (le-ltb quota_sum_limit quota_s x) (le-ltb quota_sum_limit quota_t y) refl))
         (beside_gives f g r q w_f w_g okr okq (accepted_size f r isF a)
         (record { count_s = omega (arith, is_s, is_s'); count_t = omega (arith, is_t, is_t'); quota_s = x; quota_t = y }) c

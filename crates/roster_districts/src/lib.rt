@@ -9,19 +9,16 @@ ghost use Rattle.roster_parts.specs.Gives.{Holds};
 ghost use Rattle.roster_districts.specs.Beside.{up_table, quotas_from, nodes_beside, ListsPut, RankingsPut, beside_bytes};
 ghost use Rattle.roster_districts.specs.Joining.{Accepted, JoinedBy};
 
+use answers::Refusal;
 use limits::{NODE_LIMIT, QUOTA_SUM_LIMIT, ROSTER_SIZE};
-use roster_parts::{Changed, NUMBERS};
+use roster_parts::{NUMBERS, RosterBytes};
 
 // "numbers moved up": what each number becomes
 pub(crate) fn moved_up(n: u8) -> [u8; NUMBERS]
     requires { n ≤ node_limit }
     ensures { result ≡ up_table n }
 {
-    let mut table = [0u8; NUMBERS];
-    for i in 0..NUMBERS {
-        table[i] = n + (i as u8);
-    }
-    table
+    std::array::from_fn(|t| n + (t as u8))
 }
 
 // both sides' counts and quotas: ns surveyors and nt stands of the first file, ms and mt of the second
@@ -94,7 +91,7 @@ pub(crate) fn beside(
     second: &[u8],
     ms: usize,
     mt: usize,
-) -> Changed
+) -> RosterBytes
     requires { (ns + ms ≤ node_limit) × (nt + mt ≤ node_limit) }
     ensures { Holds (beside_bytes first.now ns nt second.now ms mt) result }
 {
@@ -119,8 +116,7 @@ pub(crate) fn beside(
     let b = roster_parts::append_section(&mut out, a, ns + ms, &lists, k);
     let m = rankings_beside(&mut lists, first, end + 2, second, end2 + 2, mt, &surveyors);
     let len = roster_parts::append_section(&mut out, b, lengths, &lists, m);
-    Changed {
-        refusal: 0,
+    RosterBytes {
         len: len,
         roster: out,
     }
@@ -144,7 +140,7 @@ pub(crate) fn quotas_of_both(
 }
 
 // "then sums past document 01's limits meet 2 and then 3"
-pub fn join(first: &[u8], second: &[u8]) -> Changed
+pub fn join(first: &[u8], second: &[u8]) -> Result<RosterBytes, Refusal>
     requires { Accepted first.now × Accepted second.now }
     ensures { JoinedBy first.now second.now result }
 {
@@ -153,18 +149,18 @@ pub fn join(first: &[u8], second: &[u8]) -> Changed
     let ms = roster_positions::byte_at(second, 0) as usize;
     let mt = roster_positions::byte_at(second, ms + 1) as usize;
     if (NODE_LIMIT as usize) < ns + ms {
-        return roster_parts::refused(2);
+        return Err(Refusal::TooMany);
     }
     if (NODE_LIMIT as usize) < nt + mt {
-        return roster_parts::refused(2);
+        return Err(Refusal::TooMany);
     }
     let s = quotas_of_both(first, 1, ns, second, 1, ms);
     if (QUOTA_SUM_LIMIT as usize) < s {
-        return roster_parts::refused(3);
+        return Err(Refusal::QuotaTooHigh);
     }
     let t = quotas_of_both(first, ns + 2, nt, second, ms + 2, mt);
     if (QUOTA_SUM_LIMIT as usize) < t {
-        return roster_parts::refused(3);
+        return Err(Refusal::QuotaTooHigh);
     }
-    beside(first, ns, nt, second, ms, mt)
+    Ok(beside(first, ns, nt, second, ms, mt))
 }

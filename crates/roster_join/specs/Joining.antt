@@ -1,4 +1,6 @@
 -- The bytes written where a surveyor joins are those of the roster with the joiner; and a stand's list is found too long where it is.
+use Rattle.std.specs.Prelude.{Result}
+use Rattle.std.specs.declared.result.Result.TheVariants.{Ok, Err}
 use Rattle.std.specs.Prelude.{ℕ, suc, ◌+◌, ◌/◌, ◌%◌, ◌≤◌, ◌<◌, ◌≡◌, Bool, true, false, not, ◌||◌, take, drop, get_or, T}
 use Rattle.std.proofs.Common.{zero-le, suc-le-suc, arith, sym, ◌∙◌, subst, length-append, lt-ltb, le-ltb, le-leb}
 use Rattle.std.proofs.Math.Path.{refl, ap, ap₂}
@@ -28,10 +30,12 @@ use Rattle.theory_files.specs.Joined.{joined_counts, fits_joined}
 use Rattle.roster_reading.specs.Slot.{at_slot_law}
 use Rattle.roster_positions.specs.Tables.{behind}
 use Rattle.roster_positions.specs.Rows.{bytes_of, bytes_length, ranking_is}
-use Rattle.roster_parts.specs.declared.Changed.{Changed}
+use Rattle.answers.specs.declared.Refusal.{Refusal}
+use Rattle.answers.specs.declared.Refusal.TheVariants.{QuotaTooHigh, RosterFull}
+use Rattle.roster_parts.specs.declared.RosterBytes.{RosterBytes}
 use Rattle.roster_parts.specs.Rankings.{ranking_written, gather_from, rankings_are}
 use Rattle.roster_parts.specs.Places.{quotas_part, stands_part, surveyors_are, stands_are, lists_behind, lists_part}
-use Rattle.roster_parts.specs.Gives.{Gives, gives_refused, Holds, gives_held}
+use Rattle.roster_parts.specs.Gives.{makes_as, Gives, gives_refused, Holds, gives_held}
 use Rattle.roster_with.specs.Entering.{asked, shifts_at, own, joiner_in, with_last, entering}
 use Rattle.roster_with.specs.WithJoiner.{nodes_with, lists_with, rankings_with, end_at, long_from, joined_bytes}
 use Rattle.roster_with.specs.Enters.{EntersIf}
@@ -161,24 +165,24 @@ module _ (f : List ℕ) (r : Roster) (e : write_roster r ≡ f) (ok : T (fits r)
       ∙ long_is (suc ns) xs r.lists_t f (end_at f ns nt + 2) [] rankings_place 1 (omega arith)
 
   module _ (hq : q ≤ quota_limit) (room : ns < node_limit) (hs : sum (λ x. x) r.quotas_s + q ≤ quota_sum_limit) (fit : T (list_fits list_limit nt xs))
-      (c : Changed) where
-    joined_gives : T (not (too_long (joined r q xs))) → Holds (joined_bytes f ns nt (end_at f ns nt) q (entries_bytes shifted xs) (marks_of xs)) c
-        → Gives (accepted (joined r q xs)) c
-    unfolding joined
-    joined_gives short h = gives_held (joined r q xs) (fits_joined r q xs ok hq room hs fit short)
-        (nodes_with f ns nt q) (lists_with f (lists_start r) (end_at f ns nt) (entries_bytes shifted xs))
-        (rankings_with f (end_at f ns nt + 2) nt (ns + 1) (marks_of xs)) nodes_are lists_are rankings_entered (ns + 1) nt
-        (omega (arith, (joined_counts r q xs ok).0)) (joined_counts r q xs ok).1 h
+    where
+      joined_gives : T (not (too_long (joined r q xs))) → (b : RosterBytes)
+          → Holds (joined_bytes f ns nt (end_at f ns nt) q (entries_bytes shifted xs) (marks_of xs)) b → Gives (accepted (joined r q xs)) (Ok b)
+      unfolding joined
+      joined_gives short b h = gives_held (joined r q xs) (fits_joined r q xs ok hq room hs fit short)
+          (nodes_with f ns nt q) (lists_with f (lists_start r) (end_at f ns nt) (entries_bytes shifted xs))
+          (rankings_with f (end_at f ns nt + 2) nt (ns + 1) (marks_of xs)) nodes_are lists_are rankings_entered (ns + 1) nt
+          (omega (arith, (joined_counts r q xs ok).0)) (joined_counts r q xs ok).1 h
 
-    enters_gives : MadeBy f ns nt q (entries_bytes shifted xs) (accepted xs) c → Gives (joined_by r q (accepted xs)) c
-    enters_gives k = go (too_long (joined r q xs)) refl (subst (λ b. EntersIf false b bytes c) joined_long k)
-      where
-        bytes : List ℕ
-        bytes = joined_bytes f ns nt (end_at f ns nt) q (entries_bytes shifted xs) (marks_of xs)
+      enters_gives : (c : Result RosterBytes Refusal) → MadeBy f ns nt q (entries_bytes shifted xs) (accepted xs) c → Gives (joined_by r q (accepted xs)) c
+      enters_gives c k = go (too_long (joined r q xs)) refl (subst (λ b. EntersIf false b bytes c) joined_long k)
+        where
+          bytes : List ℕ
+          bytes = joined_bytes f ns nt (end_at f ns nt) q (entries_bytes shifted xs) (marks_of xs)
 
-        go : (b : Bool) → too_long (joined r q xs) ≡ b → EntersIf false b bytes c → Gives (cond b (refused 2) (accepted (joined r q xs))) c
-        go true e h = (h, suc-le-suc zero-le)
-        go false e h = joined_gives (false_t e) h
+          go : (b : Bool) → too_long (joined r q xs) ≡ b → EntersIf false b bytes c → Gives (cond b (refused 2) (accepted (joined r q xs))) c
+          go true e h = h
+          go false e h = makes_as c (joined_gives (false_t e)) h
 
 -- ---- the call on the roster that the file is
 module _ (r : Roster) (q : ℕ) (file : List ℕ) where
@@ -202,28 +206,28 @@ module _ (r : Roster) (q : ℕ) (file : List ℕ) where
   has_place : surveyor_count r < node_limit → sum (λ x. x) r.quotas_s + q ≤ quota_sum_limit → cond (no_place r q) (refused 17) made ≡ made
   has_place h l = ap₂ (λ a b. cond (a || b) (refused 17) made) (lt-leb node_limit (surveyor_count r) h) (le-ltb quota_sum_limit (sum (λ x. x) r.quotas_s + q) l)
 
-module _ (f : List ℕ) (is_b : T (is_bytes f)) (r : Roster) (a : read_roster f ≡ accepted r) (q : ℕ) (file : List ℕ) (c : Changed) where
-  pub joins_quota : quota_limit < q → c.refusal ≡ 3 → Gives (join_on r q file) c
-  joins_quota h n = gives_refused (join_on r q file) 3 c (above_quota r q file h) (suc-le-suc zero-le) n
+module _ (f : List ℕ) (is_b : T (is_bytes f)) (r : Roster) (a : read_roster f ≡ accepted r) (q : ℕ) (file : List ℕ) where
+  pub joins_quota : quota_limit < q → Gives (join_on r q file) (Err QuotaTooHigh)
+  joins_quota h = gives_refused (join_on r q file) QuotaTooHigh (above_quota r q file h)
 
   module _ (hq : q ≤ quota_limit) (ns : ℕ) (d : ns ≡ get_or f 0 0) where
     same : ns ≡ surveyor_count r
     same = surveyors_are f r (read_write f r is_b a) ns d
 
-    pub joins_full : node_limit ≤ ns → c.refusal ≡ 17 → Gives (join_on r q file) c
-    joins_full h n = gives_refused (join_on r q file) 17 c (within_quota r q file hq ∙ no_number r q file (omega (arith, same))) (suc-le-suc zero-le) n
+    pub joins_full : node_limit ≤ ns → Gives (join_on r q file) (Err RosterFull)
+    joins_full h = gives_refused (join_on r q file) RosterFull (within_quota r q file hq ∙ no_number r q file (omega (arith, same)))
 
     module _ (room : ns < node_limit) (total : ℕ) (w : total ≡ sum (λ x. x) (take ns (drop 1 f))) where
       sum_is : total ≡ sum (λ x. x) r.quotas_s
       sum_is = w ∙ ap (λ k. sum (λ x. x) (take k (drop 1 f))) same ∙ ap (sum (λ x. x)) (quotas_part f r (read_write f r is_b a))
 
-      pub joins_over : quota_sum_limit < total + q → c.refusal ≡ 17 → Gives (join_on r q file) c
-      joins_over h n = gives_refused (join_on r q file) 17 c
-          (within_quota r q file hq ∙ over_sum r q file (omega (arith, same)) (omega (arith, sum_is))) (suc-le-suc zero-le) n
+      pub joins_over : quota_sum_limit < total + q → Gives (join_on r q file) (Err RosterFull)
+      joins_over h = gives_refused (join_on r q file) RosterFull
+          (within_quota r q file hq ∙ over_sum r q file (omega (arith, same)) (omega (arith, sum_is)))
 
       pub joins : total + q ≤ quota_sum_limit → T (is_bytes file) → (nt : ℕ) → nt ≡ get_or f (ns + 1) 0
-          → MadeBy f ns nt q file (whole (read_list shifted list_limit nt file)) c → Gives (join_on r q file) c
-      joins hs isF nt m k =
+          → (c : Result RosterBytes Refusal) → MadeBy f ns nt q file (whole (read_list shifted list_limit nt file)) c → Gives (join_on r q file) c
+      joins hs isF nt m c k =
           subst (λ x. Gives x c) (sym (within_quota r q file hq ∙ has_place r q file (omega (arith, same)) (omega (arith, sum_is))))
           (go (whole (read_list shifted list_limit (stand_count r) file)) refl
           (subst (λ n. MadeBy f n (stand_count r) q file (whole (read_list shifted list_limit (stand_count r) file)) c) same

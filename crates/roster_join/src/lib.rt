@@ -11,35 +11,38 @@ ghost use Rattle.instance.specs.Accepted.{RosterAccepted};
 ghost use Rattle.roster_parts.specs.Gives.{ChangedBy};
 ghost use Rattle.roster_join.specs.Listing.{MadeBy};
 
+use answers::Refusal;
 use limits::{LIST_LIMIT, NODE_LIMIT, QUOTA_LIMIT, QUOTA_SUM_LIMIT};
 use roster_lists::ROW;
-use roster_parts::Changed;
-use roster_reading::Section;
+use roster_parts::RosterBytes;
 
 // "a bad list meets 1, 2, 4, 5 and 9 in document 01's order", and 18 "straight after 4"
-pub(crate) fn listed(file: &[u8], ns: usize, nt: u8, quota: u8, list: &[u8]) -> Changed
+pub(crate) fn listed(
+    file: &[u8],
+    ns: usize,
+    nt: u8,
+    quota: u8,
+    list: &[u8],
+) -> Result<RosterBytes, Refusal>
     requires { (ns ≤ node_limit) × (nt ≤ node_limit) }
     ensures { MadeBy file.now ns nt quota list.now (whole (read_list shifted list_limit nt list.now)) result }
 {
     let mut row = [false; ROW];
-    let s = roster_lists::list_at(list, 0, LIST_LIMIT, nt, true, &mut row);
-    match s {
-        Section::Refused(number) => roster_parts::refused(number),
-        Section::Read(read) => roster_with::entered(file, ns, nt as usize, quota, list, read, &row),
-    }
+    let read = roster_lists::list_at(list, 0, LIST_LIMIT, nt, true, &mut row)?;
+    roster_with::entered(file, ns, nt as usize, quota, list, read, &row)
 }
 
 // "A joiner's quota above 8 meets 3"; 17 "when 32 numbers are taken, leavers' included, or the quotas would pass 64", before the list is read
-pub fn join(file: &[u8], quota: u8, list: &[u8]) -> Changed
+pub fn join(file: &[u8], quota: u8, list: &[u8]) -> Result<RosterBytes, Refusal>
     requires { RosterAccepted file.now }
     ensures { ChangedBy (λ R. join_on R quota list.now) file.now result }
 {
     if QUOTA_LIMIT < quota {
-        return roster_parts::refused(3);
+        return Err(Refusal::QuotaTooHigh);
     }
     let ns = roster_positions::byte_at(file, 0);
     if NODE_LIMIT <= ns {
-        return roster_parts::refused(17);
+        return Err(Refusal::RosterFull);
     }
     let m = ns as usize;
     let quotas = roster_positions::part(file, 1, m);
@@ -48,5 +51,5 @@ pub fn join(file: &[u8], quota: u8, list: &[u8]) -> Changed
         let nt = roster_positions::byte_at(file, m + 1);
         return listed(file, m, nt, quota, list);
     }
-    roster_parts::refused(17)
+    Err(Refusal::RosterFull)
 }

@@ -1,5 +1,6 @@
 -- The bytes written where a surveyor leaves are those of the roster that is left.
 use Rattle.std.specs.Prelude.{ℕ, zero, suc, ◌+◌, ◌-◌, ◌≤◌, ◌<◌, ◌≡◌, Bool, ◌||◌, List, [], ◌∷◌, ◌++◌, map, length, take, drop, get_or, set, T, eqb}
+use Rattle.std.specs.declared.result.Result.TheVariants.{Ok, Err}
 use Rattle.std.proofs.Common.{zero-le, suc-le-suc, arith, sym, ◌∙◌, subst, append_assoc, append-nil, length-append, length-drop, length-set, length-take-le, lt-ltb, le-ltb, eq-eqb, ne_eqb}
 use Rattle.std.proofs.Math.Path.{refl, ap, ap₂}
 use Rattle.std.proofs.Math.Bool.{true, false, cond}
@@ -19,7 +20,8 @@ use Rattle.theory_files.specs.Rosters.{read_write, read_fits}
 use Rattle.theory_files.specs.Offsets.{lists_start, ranking_section, offsets, rankings_from_law}
 use Rattle.theory_files.specs.Departed.{departed_counts, fits_departed}
 use Rattle.roster_positions.specs.Rows.{bytes_of, entries_are}
-use Rattle.roster_parts.specs.declared.Changed.{Changed}
+use Rattle.answers.specs.declared.Refusal.TheVariants.{NoSuchSurveyor}
+use Rattle.roster_parts.specs.declared.RosterBytes.{RosterBytes}
 use Rattle.roster_parts.specs.Rankings.{gather_from, rankings_are}
 use Rattle.roster_parts.specs.Places.{nodes_part, surveyors_are, stands_are, lists_behind, lists_part}
 use Rattle.roster_parts.specs.Gives.{Gives, gives_refused, Holds, gives_held}
@@ -111,7 +113,7 @@ module _ (f : List ℕ) (r : Roster) (e : write_roster r ≡ f) (ok : T (fits r)
       (rankings_from_law shifted f r (end_at f ns nt (suc v)) from_end) 1
       ∙ each_left (suc v) 1 r.lists_t
 
-  left_gives : {c : Changed} → Holds (left_bytes f ns nt (suc v)) c → Gives (accepted (departed r (suc v))) c
+  left_gives : {c : RosterBytes} → Holds (left_bytes f ns nt (suc v)) c → Gives (accepted (departed r (suc v))) (Ok c)
   unfolding departed
   left_gives {c} h = gives_held (departed r (suc v)) (fits_departed r v ok inside)
       (nodes_left f (ns + nt + 2) (suc v)) (lists_left f (lists_start r) (mine_at f ns nt (suc v)) (next_at f ns nt (suc v)) (end_at f ns nt (suc v)))
@@ -138,21 +140,21 @@ module _ (r : Roster) (s : ℕ) where
   unfolding leave_on
   is_inside h l = ap₂ (λ a b. cond (a || b) (refused 16) (accepted (departed r s))) (ne_eqb s 0 (λ (z : s ≡ 0). omega arith)) (le-ltb (surveyor_count r) s l)
 
-module _ (f : List ℕ) (is_b : T (is_bytes f)) (r : Roster) (a : read_roster f ≡ accepted r) (ns : ℕ) (d : ns ≡ get_or f 0 0) (s : ℕ) (c : Changed) where
+module _ (f : List ℕ) (is_b : T (is_bytes f)) (r : Roster) (a : read_roster f ≡ accepted r) (ns : ℕ) (d : ns ≡ get_or f 0 0) (s : ℕ) where
   same : ns ≡ surveyor_count r
   same = surveyors_are f r (read_write f r is_b a) ns d
 
-  pub leaves_none : s ≡ 0 → c.refusal ≡ 16 → Gives (leave_on r s) c
-  leaves_none z q = gives_refused (leave_on r s) 16 c (none_outside r s z) (omega arith) q
+  pub leaves_none : s ≡ 0 → Gives (leave_on r s) (Err NoSuchSurveyor)
+  leaves_none z = gives_refused (leave_on r s) NoSuchSurveyor (none_outside r s z)
 
-  pub leaves_above : ns < s → c.refusal ≡ 16 → Gives (leave_on r s) c
-  leaves_above h q = gives_refused (leave_on r s) 16 c (above_outside r s (omega (arith, same))) (omega arith) q
+  pub leaves_above : ns < s → Gives (leave_on r s) (Err NoSuchSurveyor)
+  leaves_above h = gives_refused (leave_on r s) NoSuchSurveyor (above_outside r s (omega (arith, same)))
 
-  pub leaves : 0 < s → s ≤ ns → (nt : ℕ) → nt ≡ get_or f (ns + 1) 0 → Holds (left_bytes f ns nt s) c → Gives (leave_on r s) c
-  leaves h l nt m k = subst (λ x. Gives x c) (sym (is_inside r s h (omega (arith, same))))
+  pub leaves : 0 < s → s ≤ ns → (nt : ℕ) → nt ≡ get_or f (ns + 1) 0 → {c : RosterBytes} → Holds (left_bytes f ns nt s) c → Gives (leave_on r s) (Ok c)
+  leaves h l nt m {c} k = subst (λ x. Gives x (Ok c)) (sym (is_inside r s h (omega (arith, same))))
       (by_number s h (omega (arith, same))
       (subst (λ x. Holds x c) (ap₂ (λ x y. left_bytes f x y s) same (stands_are f r (read_write f r is_b a) ns d nt m)) k))
     where
-      by_number : (s : ℕ) → 0 < s → s ≤ surveyor_count r → Holds (left_bytes f (surveyor_count r) (stand_count r) s) c → Gives (accepted (departed r s)) c
+      by_number : (s : ℕ) → 0 < s → s ≤ surveyor_count r → Holds (left_bytes f (surveyor_count r) (stand_count r) s) c → Gives (accepted (departed r s)) (Ok c)
       by_number zero h l k = absurd (omega arith)
       by_number (suc v) h l k = left_gives f r (read_write f r is_b a) (read_fits f r is_b a) v (omega arith) k

@@ -13,8 +13,9 @@ ghost use Rattle.roster_positions.specs.Tables.{entries_in};
 ghost use Rattle.roster_positions.specs.Rows.{bytes_of};
 ghost use Rattle.roster_leave.specs.LeftParts.{ranking_left, nodes_left, lists_left};
 
+use answers::Refusal;
 use limits::{ENTRY_WIDTH, ROSTER_SIZE};
-use roster_parts::Changed;
+use roster_parts::RosterBytes;
 
 // how many entries of a list are of others than the leaver, whatever their shifts
 pub(crate) fn others(list: &[u8], number: u8) -> usize
@@ -127,7 +128,7 @@ pub(crate) fn rankings_left(
 }
 
 // the roster of ns surveyors and nt stands without the pairs of one of them
-pub(crate) fn left(file: &[u8], ns: usize, nt: usize, number: u8) -> Changed
+pub(crate) fn left(file: &[u8], ns: usize, nt: usize, number: u8) -> RosterBytes
     requires { (ns ≤ node_limit) × (nt ≤ node_limit) × (0 < number) × (number ≤ ns) }
     ensures { Holds (left_bytes file.now ns nt number) result }
 {
@@ -143,26 +144,25 @@ pub(crate) fn left(file: &[u8], ns: usize, nt: usize, number: u8) -> Changed
     let b = roster_parts::append_section(&mut out, a, ns, &lists, k);
     let m = rankings_left(&mut lists, file, end + 2, nt, number);
     let len = roster_parts::append_section(&mut out, b, 2 * nt, &lists, m);
-    Changed {
-        refusal: 0,
+    RosterBytes {
         len: len,
         roster: out,
     }
 }
 
 // "A leaver keeps the number, with quota zero and no pairs"; 16: "a leaver's number outside the surveyors"
-pub fn leave(file: &[u8], number: u8) -> Changed
+pub fn leave(file: &[u8], number: u8) -> Result<RosterBytes, Refusal>
     requires { RosterAccepted file.now }
     ensures { ChangedBy (λ R. leave_on R number) file.now result }
 {
     let ns = roster_positions::byte_at(file, 0);
     if number == 0 {
-        return roster_parts::refused(16);
+        return Err(Refusal::NoSuchSurveyor);
     }
     if ns < number {
-        return roster_parts::refused(16);
+        return Err(Refusal::NoSuchSurveyor);
     }
     let m = ns as usize;
     let n = roster_positions::byte_at(file, m + 1) as usize;
-    left(file, m, n, number)
+    Ok(left(file, m, n, number))
 }

@@ -1,5 +1,7 @@
 -- The answer of a change: the bytes of the changed roster, or the model's refusal.
-use Rattle.std.specs.Prelude.{ℕ, ◌*◌, ◌-◌, ◌/◌, ◌≤◌, ◌<◌, ◌≡◌, refl, take, T}
+use Rattle.std.specs.Prelude.{ℕ, ◌*◌, ◌-◌, ◌/◌, ◌≤◌, ◌≡◌, refl, take, T}
+use Rattle.std.specs.Prelude.{Result}
+use Rattle.std.specs.declared.result.Result.TheVariants.{Ok, Err}
 use native.Mathlib.Omega.{arith}
 use Rattle.std.proofs.Common.{sym, ◌∙◌, subst}
 use Rattle.std.proofs.Math.Path.{ap, ap₂}
@@ -13,20 +15,47 @@ use Rattle.model.specs.Roster.{Roster, surveyor_count, stand_count, total_s, tot
 use Rattle.model.specs.RosterFile.{shifted, list_bytes, entries_bytes, ranking_bytes, wide_bytes, read_roster, write_roster_by, write_roster}
 use Rattle.theory_files.specs.RosterInstance.{lists_count, rankings_count}
 use Rattle.theory_files.specs.Rosters.{lists_size, rankings_size, roster_size_law}
-use Rattle.roster_parts.specs.declared.Changed.{Changed}
+use Rattle.answers.specs.declared.Refusal.{Refusal}
+use Rattle.answers.specs.RefusalCases.{number_of}
+use Rattle.roster_parts.specs.declared.RosterBytes.{RosterBytes}
 use Rattle.roster_parts.specs.Growth.{section_of, Grown, grown_then, grown_as}
 
--- accepted: the front of the array is the changed roster's bytes; refused: the number of the refusal, which is never 0
-abbrev pub Gives : Reading Roster → Changed → Type 0
-Gives (accepted H) c = (c.refusal ≡ 0) × (c.len ≤ roster_size) × (take c.len c.roster ≡ write_roster H)
-Gives (refused n) c = (c.refusal ≡ n) × (0 < n)
+-- an answer that is a roster's bytes of which P is so
+abbrev pub Makes : (RosterBytes → Type 0) → Result RosterBytes Refusal → Type 0
+Makes P (Ok c) = P c
+Makes P (Err r) = ⊥
 
--- a change that is refused, answered with the number of its refusal
-pub gives_refused : (x : Reading Roster) (n : ℕ) (c : Changed) → x ≡ refused n → 0 < n → c.refusal ≡ n → Gives x c
-gives_refused x n c e h q = subst (λ z. Gives z c) (sym e) (q, h)
+-- the same of what follows from it
+pub makes_as : {P Q : RosterBytes → Type 0} (c : Result RosterBytes Refusal) → ((b : RosterBytes) → P b → Q b) → Makes P c → Makes Q c
+makes_as (Ok b) f h = f b h
+makes_as (Err r) f h = h
+
+-- an answer that is the refusal of that number
+abbrev pub Refuses : ℕ → Result RosterBytes Refusal → Type 0
+Refuses n (Ok c) = ⊥
+Refuses n (Err r) = number_of r ≡ n
+
+-- accepted: the front of the array is the changed roster's bytes; refused: the refusal of that number
+abbrev pub Gives : Reading Roster → Result RosterBytes Refusal → Type 0
+Gives (accepted H) c = Makes (λ b. (b.len ≤ roster_size) × (take b.len b.roster ≡ write_roster H)) c
+Gives (refused n) c = Refuses n c
+
+-- a change that is refused, answered with that refusal
+pub gives_refused : (x : Reading Roster) (r : Refusal) → x ≡ refused (number_of r) → Gives x (Err r)
+gives_refused x r e = subst (λ z. Gives z (Err r)) (sym e) refl
+
+-- and back: what an answer says of the change
+pub gives_turned : (x : Reading Roster) {c : Result RosterBytes Refusal} {r : Refusal} → Gives x c → c ≡ Err r → x ≡ refused (number_of r)
+gives_turned (accepted H) g e = absurd (subst (Gives (accepted H)) e g)
+gives_turned (refused n) g e = ap refused (sym (subst (Gives (refused n)) e g))
+
+pub gives_made : (x : Reading Roster) {c : Result RosterBytes Refusal} {b : RosterBytes} → Gives x c → c ≡ Ok b
+    → (H : Roster) × (x ≡ accepted H) × (b.len ≤ roster_size) × (take b.len b.roster ≡ write_roster H)
+gives_made (accepted H) g e = let (few, front) = subst (Gives (accepted H)) e g in (H, refl, few, front)
+gives_made (refused n) g e = absurd (subst (Gives (refused n)) e g)
 
 -- the answer of a change to the roster that the file is
-abbrev pub ChangedBy : (Roster → Reading Roster) → List ℕ → Changed → Type 0
+abbrev pub ChangedBy : (Roster → Reading Roster) → List ℕ → Result RosterBytes Refusal → Type 0
 ChangedBy change f c = (R : Roster) → read_roster f ≡ accepted R → Gives (change R) c
 
 -- a roster's bytes from those of its nodes, of its surveyors' lists and of its stands', as many as there is room for
@@ -34,19 +63,17 @@ abbrev pub roster_of : (ns nt : ℕ) (nodes lists rankings : List ℕ) → List 
 roster_of ns nt nodes lists rankings = nodes ++ (section_of ns (take roster_size lists) ++ section_of (2 * nt) (take roster_size rankings))
 
 -- the array's front is those bytes, as many as there is room for
-pub record Holds (bytes : List ℕ) (c : Changed) : Type 0 where
-  pub none : c.refusal ≡ 0
+pub record Holds (bytes : List ℕ) (c : RosterBytes) : Type 0 where
   pub few : c.len ≤ roster_size
   pub front : take c.len c.roster ≡ take roster_size bytes
 
 -- the nodes first, then both sections, each of them from the front of an array that its lists were written to
 pub held : (ns nt : ℕ) {nodes lists rankings : List ℕ} {a k b m r : ℕ} {o p q out₀ out₁ out₂ out : List ℕ} → Grown nodes 0 out₀ a out₁ → Grown lists 0 o k p
     → Grown (section_of ns (take k p)) a out₁ b out₂ → Grown rankings 0 p m q → Grown (section_of (2 * nt) (take m q)) b out₂ r out
-    → Holds (roster_of ns nt nodes lists rankings) (record { refusal = 0; len = r; roster = out })
+    → Holds (roster_of ns nt nodes lists rankings) (record { len = r; roster = out })
 held ns nt {nodes} {lists} {rankings} n l s t u =
     let g = grown_then (grown_then n (grown_as (ap (section_of ns) l.front) s)) (grown_as (ap (section_of (2 * nt)) t.front) u) in
     record {
-      none = refl;
       few = g.few;
       front = g.front
           ∙ ap (take roster_size) (append_assoc nodes (section_of ns (take roster_size lists)) (section_of (2 * nt) (take roster_size rankings)));
@@ -87,10 +114,9 @@ module _ (H : Roster) (ok : T (fits H)) (nodes lists rankings : List ℕ) (n : n
       ∙ append_assoc (list_bytes H.quotas_s) (list_bytes H.quotas_t) sections
 
   -- an array that holds the bytes of a roster within the limits, put together from its parts, gives that roster
-  pub gives_held : {c : Changed} (ns nt : ℕ) → surveyor_count H ≡ ns → stand_count H ≡ nt → Holds (roster_of ns nt nodes lists rankings) c
-      → Gives (accepted H) c
+  pub gives_held : {c : RosterBytes} (ns nt : ℕ) → surveyor_count H ≡ ns → stand_count H ≡ nt → Holds (roster_of ns nt nodes lists rankings) c
+      → Gives (accepted H) (Ok c)
   gives_held {c} ns nt a b h = (
-    h.none,
     h.few,
     h.front ∙ ap (take roster_size)
         (ap₂ (λ x y. roster_of x y nodes lists rankings) (sym (lists_count H ok ∙ a)) (sym (rankings_count H ok ∙ b)) ∙ written)

@@ -1,10 +1,10 @@
 -- The front of an array that grows: what is appended to it, part by part. What is above a roster's size is cut off.
-use Rattle.std.specs.Prelude.{ℕ, zero, suc, ◌+◌, ◌-◌, ◌/◌, ◌≤◌, ◌<◌, ◌≡◌, refl, List, [], ◌∷◌, ◌++◌, length, take, drop, get_or, set}
+use Rattle.std.specs.Prelude.{ℕ, zero, suc, ◌+◌, ◌-◌, ◌/◌, ◌≤◌, ◌<◌, ◌≡◌, refl, List, [], ◌∷◌, ◌++◌, length, take, drop, get_or, set, min}
 use Rattle.std.proofs.Common.{arith, add-one, sym, ap, ◌∙◌, subst, append_assoc, append-nil, length-take, length-set, length-append, take_all, take-suc-set, drop-cons}
 use Rattle.std.proofs.Math.Decide.{dec_lt}
 use Rattle.std.proofs.Math.Logic.{by_cases}
-use Rattle.std.proofs.lemmas.List.{take-append-le, take-set-le}
-use Rattle.std.proofs.Math.Seq.{take-set-lt, set_out}
+use Rattle.std.proofs.lemmas.List.{take-append-le, take-set-le, take_min}
+use Rattle.std.proofs.Math.Seq.{take-append-add, take-set-lt, set_out}
 use Rattle.model.specs.Limits.{entry_width, roster_size}
 use Rattle.model.specs.RosterFile.{wide_bytes}
 
@@ -43,24 +43,21 @@ grown_byte b n o l h = record {
       ∙ sym (take_all roster_size (take n o ++ b ∷ []) (omega (arith, length-take n o, length-append (take n o) (b ∷ []))));
 }
 
--- a part copied over what stands behind the first n
-pub put_front : (n : ℕ) (o xs mid rest : List ℕ) {ys : List ℕ} → n ≤ length o → ys ≡ take (length xs) xs ++ drop (length xs) mid
-    → take (n + length xs) (take n o ++ (ys ++ rest)) ≡ take n o ++ xs
-put_front n o xs mid rest {ys} h e =
-    let more = drop (length xs) mid in
-    let k : n + length xs ≡ length (take n o ++ xs) = omega (arith, length-append (take n o) xs, length-take n o) in
-    let copied : ys ≡ xs ++ more = e ∙ ap (λ z. z ++ more) (take_all (length xs) xs (omega arith)) in
-    ap (take (n + length xs)) (ap (λ z. take n o ++ (z ++ rest)) copied ∙ ap (λ z. take n o ++ z) (append_assoc xs more rest)
-    ∙ sym (append_assoc (take n o) xs (more ++ rest)))
-    ∙ take-append-le (n + length xs) (take n o ++ xs) (more ++ rest) (omega (arith, k)) ∙ take_all (n + length xs) (take n o ++ xs) (omega (arith, k))
-
-pub grown_part : (xs : List ℕ) (n : ℕ) (o q : List ℕ) → n + length xs ≤ roster_size → length q ≡ roster_size → take (n + length xs) q ≡ take n o ++ xs
-    → Grown xs n o (n + length xs) q
-grown_part xs n o q h l e = record {
-  few = h;
-  size = l;
-  front = e ∙ sym (take_all roster_size (take n o ++ xs) (omega (arith, length-append (take n o) xs, length-take n o)));
+-- as much of a part as there is room for, in an array that has the first n as they were and the part behind them
+pub grown_part : (xs : List ℕ) (n k : ℕ) (o q : List ℕ) → Room n o → k ≡ min (length xs) (roster_size - n) → length q ≡ roster_size
+    → take (n + k) q ≡ take n o ++ take k xs → Grown xs n o (n + k) q
+grown_part xs n k o q (h, l) m s e = record {
+  few = omega arith;
+  size = s;
+  front = e ∙ ap (λ z. take n o ++ z) part
+      ∙ sym (ap (λ z. take z (take n o ++ xs)) room ∙ take-append-add (take n o) xs (roster_size - n));
 }
+  where
+    room : roster_size ≡ length (take n o) + (roster_size - n)
+    room = omega (arith, length-take n o)
+
+    part : take k xs ≡ take (roster_size - n) xs
+    part = let z : k ≡ min (roster_size - n) (length xs) = omega arith in ap (λ z. take z xs) z ∙ take_min (roster_size - n) xs
 
 pub grown_full : (xs : List ℕ) (n : ℕ) (o : List ℕ) → length o ≡ roster_size → n ≡ roster_size → Grown xs n o n o
 grown_full xs n o l e = record {

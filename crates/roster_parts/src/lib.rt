@@ -1,6 +1,6 @@
 // A roster's bytes put together: parts appended behind what an array of a roster's size holds already, lists under other numbers (W-210, W-214: each
-// entry's number by a table, its shift as it is), sections with their counts, and the answer of a change. What does not fit into the array is left out; a
-// roster within the limits always fits. Nothing here checks a roster: on bytes that are none, what is written is what these functions say and no more.
+// entry's number by a table, its shift as it is), and sections with their counts. What does not fit into the array is left out; a roster within the limits
+// always fits. Nothing here checks a roster: on bytes that are none, what is written is what these functions say and no more.
 #![tactic(auto)]
 
 ghost use Rattle.std.specs.Prelude.{◌≡◌, [], ◌∷◌, ◌++◌, ◌+◌, ◌-◌, ◌*◌, ◌/◌, ◌≤◌, length, take};
@@ -12,22 +12,11 @@ ghost use Rattle.roster_parts.specs.Mapped.{all_under, lists_under, rankings_und
 
 use limits::{ENTRY_WIDTH, ROSTER_SIZE};
 
-// the answer of a change: the changed roster in the front of the array, or the number of the refusal, 0 for none
+// a roster's bytes, in the front of an array: what a change makes of a roster
 #[derive(Drop)]
-pub struct Changed {
-    pub refusal: u8,
+pub struct RosterBytes {
     pub len: usize,
     pub roster: [u8; ROSTER_SIZE],
-}
-
-pub fn refused(number: u8) -> Changed
-    ensures { result.refusal ≡ number }
-{
-    Changed {
-        refusal: number,
-        len: 0,
-        roster: [0; ROSTER_SIZE],
-    }
 }
 
 // one byte behind the first n
@@ -51,37 +40,14 @@ pub fn append_entry(out: &mut [u8; ROSTER_SIZE], n: usize, number: u8, shift: u8
     append_byte(&mut *out, second, shift)
 }
 
-// bytes in the place of those behind the first n
-pub(crate) fn put_behind(out: &mut [u8], n: usize, part: &[u8])
-    requires { n + length part.now ≤ length out.old }
-    ensures out_after { take (n + length part.now) out.new ≡ take n out.old ++ part.now }
-    ensures out_len_unchanged { length out.new ≡ length out.old }
-{
-    byte_slices::copy(part, &mut out[n..]);
-}
-
-// some bytes behind the first n, one by one as long as there is room
-pub(crate) fn append_some(out: &mut [u8; ROSTER_SIZE], n: usize, part: &[u8]) -> usize
-    requires { Room n out.old }
-    ensures { Grown part.now n out.old result out.new }
-{
-    let mut at = n;
-    for i in 0..part.len() {
-        at = append_byte(&mut *out, at, part[i]);
-    }
-    at
-}
-
-// some bytes behind the first n: all at once where there is room, as there is for a roster within the limits
+// some bytes behind the first n, as many as there is room for: all, for a roster within the limits
 pub fn append(out: &mut [u8; ROSTER_SIZE], n: usize, part: &[u8]) -> usize
     requires { Room n out.old }
     ensures { Grown part.now n out.old result out.new }
 {
-    if part.len() <= ROSTER_SIZE - n {
-        put_behind(&mut out[..], n, part);
-        return n + part.len();
-    }
-    append_some(out, n, part)
+    let end = n + part.len().min(ROSTER_SIZE - n);
+    out[n..end].copy_from_slice(&part[..end - n]);
+    end
 }
 
 // the entries among the bytes of some lists, of which so many are lengths

@@ -1,8 +1,9 @@
 -- A route read into a table: whether it names each stand once, and the new number of each stand; and the route itself, from place 1 on.
+use Rattle.std.specs.Prelude.{Option}
+use Rattle.std.specs.declared.option.Option.TheVariants.{None, Some}
 use Rattle.std.specs.Prelude.{ℕ, zero, suc, ◌+◌, ◌≤◌, ◌<◌, ◌≡◌, refl, ◌≢◌, Bool, true, false, not, cond, ◌||◌, List, [], ◌∷◌, ◌++◌, length, take, get_or, set, T, eqb}
 use Rattle.std.proofs.Common.{arith, add-one, sym, ap, ap₂, ◌∙◌, subst, ⊎_elim, length-set, length-take, take-suc, take_all, get_or-set_same, get_or-set_other, T_not, eqb→eq}
 use Rattle.std.proofs.Math.Nat.{min-eq_left}
-use Rattle.std.proofs.Math.Arith.{lt_of_le-ne}
 use Rattle.std.proofs.Math.Bool.{or-false}
 use mathlib.Core.List.Memᴰ
 use Rattle.std.proofs.Math.Dec.{not_T}
@@ -15,14 +16,17 @@ use Rattle.model.specs.Roster.{elem}
 use Rattle.model_files.specs.Routes.{new_number}
 use Rattle.theory_files.specs.Chosen.{∈_elem}
 use Rattle.theory_renamed.specs.RouteNumbers.{Names, number_pos, number_at, named}
-use Rattle.roster_routes.specs.declared.Route.{Route}
 
--- what the code has read of a route: whether it names each of n stands once, and if it does, each stand's new number
-pub record RouteRead (route : List ℕ) (n : ℕ) (r : Route) : Type 0 where
-  pub yes_names : T r.each → Names route n
-  pub names_yes : Names route n → T r.each
-  pub size : length r.numbers ≡ 33
-  pub number : T r.each → (t : ℕ) → 1 ≤ t → t ≤ n → get_or r.numbers t 0 ≡ new_number route t
+-- a route that names each of n stands once, and each stand's new number
+pub record Numbered (route : List ℕ) (n : ℕ) (numbers : List ℕ) : Type 0 where
+  pub names : Names route n
+  pub size : length numbers ≡ 33
+  pub number : (t : ℕ) → 1 ≤ t → t ≤ n → get_or numbers t 0 ≡ new_number route t
+
+-- what the code has read of a route: each stand's new number, or that it doesn't name each of n stands once
+abbrev pub RouteRead : (route : List ℕ) (n : ℕ) → Option (List ℕ) → Type 0
+RouteRead route n (Some numbers) = Numbered route n numbers
+RouteRead route n None = Names route n → ⊥
 
 -- the route in a table of 33 places, from place 1 on
 pub record Places (route places : List ℕ) : Type 0 where
@@ -106,18 +110,14 @@ marked_next {named} {n} {numbers} t i M l a b c z = record {
         ∙ sym (ap (λ x. cond x (new_number (named ++ t ∷ []) s) 0) (elem_snoc s t named ∙ ap₂ (λ x z. x || z) e y)))
 
 -- ---- the loop's answers
-module _ (route : List ℕ) (n : ℕ) (numbers : List ℕ) where
-  pub named_all : n ≤ node_limit → length route ≡ n → Marked route n numbers → RouteRead route n (record { each = true; numbers = numbers })
-  named_all few l M = record {
-    yes_names = λ t. record { count = l; inside = M.inside; once = M.once };
-    names_yes = λ N. tt;
-    size = M.size;
-    number = λ y t a b. given (record { count = l; inside = M.inside; once = M.once }) (λ (N : Names route n).
-        M.marks t (omega arith) ∙ ap (λ x. cond x (new_number route t) 0) (T_true {b = elem t route} (named route n N t a b)));
-  }
-
-  pub not_named : length numbers ≡ 33 → (Names route n → ⊥) → RouteRead route n (record { each = false; numbers = numbers })
-  not_named l h = record { yes_names = λ t. absurd t; names_yes = λ N. absurd (h N); size = l; number = λ t. absurd t }
+pub named_all : (route : List ℕ) (n : ℕ) (numbers : List ℕ) → n ≤ node_limit → length route ≡ n → Marked route n numbers → Numbered route n numbers
+named_all route n numbers few l M =
+    let N : Names route n = record { count = l; inside = M.inside; once = M.once } in
+    record {
+      names = N;
+      size = M.size;
+      number = λ t a b. M.marks t (omega arith) ∙ ap (λ x. cond x (new_number route t) 0) (T_true {b = elem t route} (named route n N t a b));
+    }
 
 -- why a route does not name each stand once, at place i
 module _ (route : List ℕ) (n i : ℕ) (l : i < length route) where
@@ -157,20 +157,3 @@ marked_step route n i numbers l M a b c z =
 
 pub all_taken_law : (route : List ℕ) (n i : ℕ) (numbers : List ℕ) → length route ≡ n → n ≤ i → Marked (take i route) n numbers → Marked route n numbers
 all_taken_law route n i numbers l h M = subst (λ xs. Marked xs n numbers) (take_all i route (omega arith)) M
-
--- ---- the route itself, from place 1 on
-abbrev pub Put : (route : List ℕ) (i : ℕ) (places : List ℕ) → Type 0
-Put route i places = (j : ℕ) → j < i → get_or places (j + 1) 0 ≡ get_or route j 0
-
-pub put_next : (route : List ℕ) (i : ℕ) (places : List ℕ) → i + 1 < length places → Put route i places
-    → Put route (i + 1) (set places (i + 1) (get_or route i 0))
-put_next route i places l P j h = by-eq j i
-    (λ e b. ap (λ k. get_or (set places (i + 1) (get_or route i 0)) (k + 1) 0) e ∙ get_or-set_same places (i + 1) (get_or route i 0) 0 l
-    ∙ ap (λ k. get_or route k 0) (sym e))
-    (λ d b. get_or-set_other places (i + 1) (j + 1) (get_or route i 0) 0 (λ (q : j + 1 ≡ i + 1). d (omega arith)) ∙ P j (below d))
-  where
-    below : j ≢ i → j < i
-    below d = lt_of_le-ne (omega arith) d
-
-pub put_all : (route : List ℕ) (i : ℕ) (places : List ℕ) → length route ≤ i → length places ≡ 33 → Put route i places → Places route places
-put_all route i places h l P = record { size = l; place = λ j k. P j (omega arith) }

@@ -24,31 +24,31 @@ use Rattle.theory_renamed.specs.RenumberedFits.{renumbered_counts}
 use Rattle.theory_renamed.proofs.RenumberedFits.{fits_renumbered}
 use Rattle.roster_positions.specs.Tables.{behind}
 use Rattle.roster_positions.specs.Rows.{bytes_length, ranking_is}
-use Rattle.roster_parts.specs.declared.Changed.{Changed}
+use Rattle.std.specs.declared.result.Result.TheVariants.{Ok}
+use Rattle.roster_parts.specs.declared.RosterBytes.{RosterBytes}
 use Rattle.roster_parts.specs.Places.{lists_behind}
 use Rattle.roster_parts.specs.Gives.{Gives, Holds, gives_held}
 use Rattle.roster_parts.specs.Mapped.{under, all_under, lists_under, lists_under_law}
 use Rattle.roster_routes.specs.Reordered.{Ordered, rankings_end, parts_from, quota_at, quotas_in_order, ranking_part, ranking_at, rankings_in_order, nodes_in_order}
 use Rattle.roster_routes.specs.Reordered.{end_at, reordered_bytes}
-use Rattle.roster_routes.specs.Marking.{RouteRead, Places}
-use Rattle.roster_routes.specs.declared.Route.{Route}
+use Rattle.roster_routes.specs.Marking.{Numbered, Places}
 
 -- ---- the two tables of a route: for each number its stand, for each stand its number
 pub record Way (route : List ℕ) (n : ℕ) (order numbers : List ℕ) : Type 0 where
   pub stand : (j : ℕ) → j < n → get_or order (j + 1) 0 ≡ get_or route j 0
   pub number : (t : ℕ) → 1 ≤ t → t ≤ n → get_or numbers t 0 ≡ new_number route t
 
-module _ (route : List ℕ) (n : ℕ) (N : Names route n) (w : Route) (places : List ℕ) (R : RouteRead route n w) (y : T w.each) (P : Places route places) where
+module _ (route : List ℕ) (n : ℕ) (numbers places : List ℕ) (R : Numbered route n numbers) (P : Places route places) where
   -- storing goes by the route
-  pub way_there : Way route n places w.numbers
-  way_there = record { stand = λ j l. P.place j (subst (λ k. j < k) (sym N.count) l); number = R.number y }
+  pub way_there : Way route n places numbers
+  way_there = record { stand = λ j l. P.place j (subst (λ k. j < k) (sym R.names.count) l); number = R.number }
 
   -- unstoring by its way back, with the tables the other way round
-  pub way_back_law : Way (way_back route) n w.numbers places
+  pub way_back_law : Way (way_back route) n numbers places
   way_back_law = record {
-    stand = λ j l. R.number y (j + 1) (omega arith) (omega arith) ∙ ap (new_number route) (one j) ∙ sym (back_at route n N j l);
-    number = λ t a b. ap (λ k. get_or places k 0) (less t a) ∙ P.place (t - 1) (subst (λ k. t - 1 < k) (sym N.count) (omega arith))
-        ∙ sym (back_number route n N t a b);
+    stand = λ j l. R.number (j + 1) (omega arith) (omega arith) ∙ ap (new_number route) (one j) ∙ sym (back_at route n R.names j l);
+    number = λ t a b. ap (λ k. get_or places k 0) (less t a) ∙ P.place (t - 1) (subst (λ k. t - 1 < k) (sym R.names.count) (omega arith))
+        ∙ sym (back_number route n R.names t a b);
   }
     where
       one : (j : ℕ) → j + 1 ≡ suc j
@@ -162,7 +162,7 @@ module _ (route : List ℕ) (f : List ℕ) (r : Roster) (e : write_roster r ≡ 
       zero_plus j = omega arith
 
   -- an array that holds the reordered bytes of an accepted roster gives the renumbered roster
-  pub reordered_gives : (c : Changed) → Holds (reordered_bytes f ns nt order numbers) c → Gives (accepted H) c
+  pub reordered_gives : (c : RosterBytes) → Holds (reordered_bytes f ns nt order numbers) c → Gives (accepted H) (Ok c)
   reordered_gives c h = gives_held H (fits_renumbered route r ok N) (nodes_in_order f ns nt order) (lists_under numbers f ns (ns + nt + 4))
       (rankings_in_order f (end_at f ns nt + 2) order 0 nt) nodes_are lists_are rankings_are ns nt
       (renumbered_counts route r ok N).0 (renumbered_counts route r ok N).1 h

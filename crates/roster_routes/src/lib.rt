@@ -11,53 +11,32 @@ ghost use Rattle.roster_routes.specs.Reordered.{Ordered, rankings_end, quotas_in
 ghost use Rattle.roster_routes.specs.Marking.{RouteRead, Places};
 
 use limits::{ENTRY_WIDTH, ROSTER_SIZE};
-use roster_parts::{Changed, NUMBERS};
+use roster_parts::{NUMBERS, RosterBytes};
 
-// Whether a route names each stand once, and then the new number of each.
-#[derive(Drop)]
-pub struct Route {
-    pub each: bool,
-    pub numbers: [u8; NUMBERS],
-}
-
-// "the first named becoming 1 and so on"; "a route that is not each stand exactly once": another count, 0, a number above the stands, one twice
-pub fn route_of(route: &[u8], nt: usize) -> Route
+// the new number of each stand, where a route names each once: "the first named becoming 1 and so on"; none for "a route that is not each stand exactly
+// once": another count, 0, a number above the stands, one twice
+pub fn route_of(route: &[u8], nt: usize) -> Option<[u8; NUMBERS]>
     requires { nt ≤ node_limit }
     ensures { RouteRead route.now nt result }
 {
-    let mut numbers = [0u8; NUMBERS];
     if route.len() != nt {
-        return Route {
-            each: false,
-            numbers: numbers,
-        };
+        return None;
     }
+    let mut numbers = [0u8; NUMBERS];
     for i in 0..nt {
         let t = route[i] as usize;
         if t == 0 {
-            return Route {
-                each: false,
-                numbers: numbers,
-            };
+            return None;
         }
         if nt < t {
-            return Route {
-                each: false,
-                numbers: numbers,
-            };
+            return None;
         }
         if 0 < numbers[t] {
-            return Route {
-                each: false,
-                numbers: numbers,
-            };
+            return None;
         }
         numbers[t] = (i + 1) as u8;
     }
-    Route {
-        each: true,
-        numbers: numbers,
-    }
+    Some(numbers)
 }
 
 // the stands in the route's order, the first at place 1
@@ -66,9 +45,7 @@ pub fn places_of(route: &[u8]) -> [u8; NUMBERS]
     ensures { Places route.now result }
 {
     let mut places = [0u8; NUMBERS];
-    for i in 0..route.len() {
-        places[i + 1] = route[i];
-    }
+    places[1..=route.len()].copy_from_slice(route);
     places
 }
 
@@ -131,7 +108,7 @@ pub(crate) fn append_rankings(
 }
 
 // the roster of ns surveyors and nt stands, reordered
-pub fn reordered(file: &[u8], ns: usize, nt: usize, order: &[u8], numbers: &[u8]) -> Changed
+pub fn reordered(file: &[u8], ns: usize, nt: usize, order: &[u8], numbers: &[u8]) -> RosterBytes
     requires { (ns ≤ node_limit) × (nt ≤ node_limit) × Ordered nt order.now }
     ensures { Holds (reordered_bytes file.now ns nt order.now numbers.now) result }
 {
@@ -147,8 +124,7 @@ pub fn reordered(file: &[u8], ns: usize, nt: usize, order: &[u8], numbers: &[u8]
     let c = roster_parts::append_section(&mut out, b, ns, &lists, k);
     let m = append_rankings(&mut lists, file, end + 2, nt, order);
     let len = roster_parts::append_section(&mut out, c, lengths, &lists, m);
-    Changed {
-        refusal: 0,
+    RosterBytes {
         len: len,
         roster: out,
     }

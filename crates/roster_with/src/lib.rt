@@ -13,9 +13,10 @@ ghost use Rattle.roster_parts.specs.Gives.{Holds};
 ghost use Rattle.roster_with.specs.Enters.{EntersBy};
 ghost use Rattle.roster_positions.specs.Rows.{bytes_of};
 
+use answers::Refusal;
 use limits::{ENTRY_WIDTH, LIST_LIMIT, ROSTER_SIZE, SHIFT_LIMIT};
 use roster_lists::ROW;
-use roster_parts::Changed;
+use roster_parts::RosterBytes;
 use roster_reading::Entry;
 
 // has the joiner's list this stand in this shift? The row has a mark for each entry that it has.
@@ -37,13 +38,10 @@ pub fn shift_count(row: &[bool; ROW], stand: u8) -> usize
     ensures { (result ≡ length (shifts_at (marks_in row.now) stand)) × (result ≤ shift_limit) }
 {
     let mut n: usize = 0;
-    let mut k: u8 = 0;
-    while k < SHIFT_LIMIT {
-        k += 1;
-        if !asks(row, stand, k) {
-            continue;
+    for k in 0..SHIFT_LIMIT {
+        if asks(row, stand, k + 1) {
+            n += 1;
         }
-        n += 1;
     }
     n
 }
@@ -60,10 +58,8 @@ pub(crate) fn append_joiner(
     ensures { Grown (bytes_of (joiner_in joiner (shifts_at (marks_in row.now) stand))) n out.old result out.new }
 {
     let mut len = n;
-    let mut k: u8 = 0;
-    while k < SHIFT_LIMIT {
+    for k in 0..SHIFT_LIMIT {
         let shift = k + 1;
-        k += 1;
         if !asks(row, stand, shift) {
             continue;
         }
@@ -101,11 +97,7 @@ pub fn quota_sum(quotas: &[u8]) -> usize
     requires { length quotas.now ≤ 255 }
     ensures { (result ≡ sum (λ q. q) quotas.now) × (result ≤ 65025) }
 {
-    let mut total: usize = 0;
-    for i in 0..quotas.len() {
-        total += roster_positions::byte_at(quotas, i) as usize;
-    }
-    total
+    quotas.iter().map(|q| *q as usize).sum()
 }
 
 // both sides' counts and quotas, with one surveyor more
@@ -196,7 +188,7 @@ pub(crate) fn joined(
     quota: u8,
     list: &[u8],
     row: &[bool; ROW],
-) -> Changed
+) -> RosterBytes
     requires { (ns ≤ node_limit) × (nt ≤ node_limit) × (ns + nt + 4 ≤ end) × (end + 2 ≤ 20000) }
     ensures { Holds (joined_bytes file.now ns nt end quota list.now (marks_in row.now)) result }
 {
@@ -208,8 +200,7 @@ pub(crate) fn joined(
     let b = roster_parts::append_section(&mut out, a, ns + 1, &lists, k);
     let m = rankings_with(&mut lists, file, end + 2, nt, joiner, row);
     let len = roster_parts::append_section(&mut out, b, 2 * nt, &lists, m);
-    Changed {
-        refusal: 0,
+    RosterBytes {
         len: len,
         roster: out,
     }
@@ -225,17 +216,17 @@ pub fn entered(
     list: &[u8],
     read: usize,
     row: &[bool; ROW],
-) -> Changed
+) -> Result<RosterBytes, Refusal>
     requires { (ns ≤ node_limit) × (nt ≤ node_limit) }
     ensures { EntersBy file.now ns nt quota list.now read (marks_in row.now) result }
 {
     let end = roster_parts::lists_end(file, ns + nt + 4, ns);
     let long = too_long(file, end + 2, nt, row);
     if read < list.len() {
-        return roster_parts::refused(9);
+        return Err(Refusal::BytesLeft);
     }
     if long {
-        return roster_parts::refused(2);
+        return Err(Refusal::TooMany);
     }
-    joined(file, ns, nt, end, quota, list, row)
+    Ok(joined(file, ns, nt, end, quota, list, row))
 }

@@ -1,5 +1,7 @@
 -- A file of a route and a roster as the code reads it: the route's count, the numbers behind it, and the roster behind them; and two parts
 -- written one behind the other.
+use Rattle.std.specs.Prelude.{Result}
+use Rattle.std.specs.declared.result.Result.TheVariants.{Ok, Err}
 use Rattle.std.specs.Prelude.{ℕ, zero, suc, ◌+◌, ◌-◌, ◌≤◌, ◌<◌, ◌≡◌, refl, ◌≢◌, Bool, cond, List, [], ◌∷◌, ◌++◌, length, take, drop, get_or}
 use Rattle.std.proofs.Common.{arith, sym, ap, ap₂, ◌∙◌, append_assoc, append-nil, length-take, length-drop, length-append, take-append-drop, take_all, take_at, drop_at, drop-drop, lt-ltb, le-ltb}
 use Rattle.std.proofs.Math.Nat.{min-eq_left}
@@ -10,10 +12,12 @@ use Rattle.model.specs.Roster.{Roster}
 use Rattle.model.specs.RosterFile.{read_many, read_roster}
 use Rattle.model_files.specs.Routes.{read_route}
 use Rattle.theory_renamed.specs.StoredFiles.{route_forth}
-use Rattle.roster_parts.specs.declared.Changed.{Changed}
+use Rattle.answers.specs.declared.Refusal.{Refusal}
+use Rattle.answers.specs.declared.Refusal.TheVariants.{CutShort, TooMany}
+use Rattle.answers.specs.RefusalCases.{number_of}
+use Rattle.roster_parts.specs.declared.RosterBytes.{RosterBytes}
 use Rattle.roster_parts.specs.Gives.{Holds}
 use Rattle.roster_routes.specs.Reordered.{reordered_bytes}
-use Rattle.routes.specs.declared.Head.{Head}
 
 -- a route of k numbers is read, and behind it is what the roster is read from
 pub record RouteAt (f : List ℕ) (k : ℕ) : Type 0 where
@@ -21,16 +25,17 @@ pub record RouteAt (f : List ℕ) (k : ℕ) : Type 0 where
   pub long : k + 1 ≤ length f
   pub read : read_route f ≡ accepted (take k (drop 1 f), drop (k + 1) f)
 
-pub record HeadRead (f : List ℕ) (h : Head) : Type 0 where
-  pub refusal : 0 < h.refusal → read_route f ≡ refused h.refusal
-  pub route : h.refusal ≤ 0 → RouteAt f h.count
+-- the count of a route, or the refusal that its reading meets
+abbrev pub HeadRead : List ℕ → Result ℕ Refusal → Type 0
+HeadRead f (Ok k) = RouteAt f k
+HeadRead f (Err n) = read_route f ≡ refused (number_of n)
 
 abbrev pub Behind : (k : ℕ) → List ℕ → Type 0
 Behind k f = RouteAt f k × ((r : Roster) × (read_roster (drop (k + 1) f) ≡ accepted r))
 
 -- ---- by the first byte
-pub head_none : (f : List ℕ) → length f ≡ 0 → HeadRead f (record { refusal = 1; count = 0 })
-head_none [] e = record { refusal = λ h. refl; route = λ h. absurd (let z : ⊥ = omega arith in z) }
+pub head_none : (f : List ℕ) → length f ≡ 0 → HeadRead f (Err CutShort)
+head_none [] e = refl
 head_none (x ∷ f) e = absurd (let z : ⊥ = omega arith in z)
 
 numbers_cut : (n : ℕ) (bs : List ℕ) → length bs < n → read_many byte n bs ≡ refused 1
@@ -40,22 +45,22 @@ numbers_cut (suc n) [] h = refl
 numbers_cut (suc n) (x ∷ bs) h = ap (λ r. r then (λ xs rest. accepted (x ∷ xs, rest))) (numbers_cut n bs (omega arith))
 
 module _ (f : List ℕ) (some : length f ≢ 0) where
-  pub head_many : node_limit < get_or f 0 0 → HeadRead f (record { refusal = 2; count = 0 })
-  head_many h = record { refusal = λ p. go f some h; route = λ p. absurd (let z : ⊥ = omega arith in z) }
+  pub head_many : node_limit < get_or f 0 0 → HeadRead f (Err TooMany)
+  head_many h = go f some h
     where
       go : (f : List ℕ) → length f ≢ 0 → node_limit < get_or f 0 0 → read_route f ≡ refused 2
       go [] s h = absurd (s refl)
       go (k ∷ bs) s h = ap (λ b. refuse_if b 2 (accepted (k, bs)) then read_many byte) (lt-ltb node_limit k h)
 
-  pub head_cut : get_or f 0 0 ≤ node_limit → length f ≤ get_or f 0 0 → HeadRead f (record { refusal = 1; count = 0 })
-  head_cut h l = record { refusal = λ p. go f some h l; route = λ p. absurd (let z : ⊥ = omega arith in z) }
+  pub head_cut : get_or f 0 0 ≤ node_limit → length f ≤ get_or f 0 0 → HeadRead f (Err CutShort)
+  head_cut h l = go f some h l
     where
       go : (f : List ℕ) → length f ≢ 0 → get_or f 0 0 ≤ node_limit → length f ≤ get_or f 0 0 → read_route f ≡ refused 1
       go [] s h l = absurd (s refl)
       go (k ∷ bs) s h l = ap (λ b. refuse_if b 2 (accepted (k, bs)) then read_many byte) (le-ltb node_limit k h) ∙ numbers_cut k bs (omega arith)
 
-  pub head_whole : get_or f 0 0 ≤ node_limit → get_or f 0 0 < length f → HeadRead f (record { refusal = 0; count = get_or f 0 0 })
-  head_whole h l = record { refusal = λ p. absurd (let z : ⊥ = omega arith in z); route = λ p. go f some h l }
+  pub head_whole : get_or f 0 0 ≤ node_limit → get_or f 0 0 < length f → HeadRead f (Ok (get_or f 0 0))
+  head_whole h l = go f some h l
     where
       go : (f : List ℕ) → length f ≢ 0 → get_or f 0 0 ≤ node_limit → get_or f 0 0 < length f → RouteAt f (get_or f 0 0)
       go [] s h l = absurd (s refl)
@@ -70,7 +75,7 @@ module _ (f : List ℕ) (some : length f ≢ 0) where
           }
 
 -- ---- the roster by the route, or by its way back
-abbrev pub TurnedBy : (back : Bool) → List ℕ → (ns nt : ℕ) → (places numbers : List ℕ) → Changed → Type 0
+abbrev pub TurnedBy : (back : Bool) → List ℕ → (ns nt : ℕ) → (places numbers : List ℕ) → RosterBytes → Type 0
 TurnedBy back f ns nt places numbers c = Holds (reordered_bytes f ns nt (cond back numbers places) (cond back places numbers)) c
 
 -- ---- the parts written

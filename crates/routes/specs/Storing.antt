@@ -1,14 +1,15 @@
 -- What storing and unstoring promise: the model's answer and bytes, that the other way undoes it, and of the renumbered roster, that its strongly
 -- popular plans and the finder's answers are those of before, renumbered.
+use Rattle.std.specs.Prelude.{Result, ⊤}
+use Rattle.std.specs.declared.result.Result.TheVariants.{Ok, Err}
 use Rattle.std.specs.Prelude.{ℕ, ◌+◌, ◌≤◌, ◌<◌, ◌≡◌, refl, Bool, true, false, not, cond, List, ◌++◌, map, length, take, drop, get_or, T}
-use Rattle.std.proofs.Common.{arith, sym, ap, ap₂, ◌∙◌, subst, length-take, length-drop, take_all, take_at, T_not}
+use Rattle.std.proofs.Common.{arith, sym, ap, ap₂, ◌∙◌, subst, length-take, length-drop, take_all, take_at}
 use Rattle.std.proofs.Math.Dec.{not_T}
-use Rattle.lists.specs.Test.{given, T_true, T_false, true_t, false_t}
+use Rattle.lists.specs.Test.{given, T_true, T_false}
 use Rattle.model.specs.Limits.{node_limit, roster_size, stored_size}
 use Rattle.model.specs.Reading.{Reading, accepted, refused, is_bytes}
 use Rattle.model.specs.Roster.{Roster, surveyor_count, stand_count, fits}
 use Rattle.model.specs.RosterFile.{read_roster, write_roster, list_bytes}
-use Rattle.model.specs.Refusal.{group_of}
 use Rattle.model.specs.Edges.{instance_of}
 use Rattle.model.specs.Plans.{Plan, strong_plans}
 use Rattle.model.specs.Finder.{finder_of, plan, hands_back}
@@ -21,21 +22,18 @@ use Rattle.theory_renamed.specs.RouteNumbers.{Names, each_names, names_each_law,
 use Rattle.theory_renamed.proofs.RenumberedPlans.{strong_renumbered, finder_renumbered, finder_alike}
 use Rattle.theory_renamed.specs.StoredFiles.{route_back, stored_parts, store_undone}
 use Rattle.theory_renamed.proofs.StoredFiles.{unstore_undone, undone, kept_length}
-use Rattle.answers.specs.declared.Group.{Group}
-use Rattle.answers.specs.declared.Written.{Written}
-use Rattle.answers.specs.declared.Written.TheVariants.{Wrote, Refused}
-use Rattle.answers.specs.declared.FileAnswer.TheVariants as file
-use Rattle.answers.specs.GroupCases.{group_shown}
-use Rattle.answers.specs.FileCases.{file_case}
+use Rattle.answers.specs.declared.Refusal.{Refusal}
+use Rattle.answers.specs.declared.Refusal.TheVariants.{NoRoute}
+use Rattle.answers.specs.RefusalCases.{number_of, reading_of}
+use Rattle.answers.specs.FileCases.{file_read}
 use Rattle.answers.specs.WrittenCases.{written_shown}
-use Rattle.roster_parts.specs.declared.Changed.{Changed}
+use Rattle.answers.specs.Settling.{Settles, settles_refused, settles_file, settles_wrote, Answers, count_of, wrote_of}
+use Rattle.roster_parts.specs.declared.RosterBytes.{RosterBytes}
 use Rattle.roster_parts.specs.Places.{surveyors_are, stands_are, counts_small}
 use Rattle.roster_parts.specs.Gives.{Holds}
-use Rattle.roster_routes.specs.declared.Route.{Route}
-use Rattle.roster_routes.specs.Marking.{RouteRead, Places}
+use Rattle.roster_routes.specs.Marking.{Numbered, Places}
 use Rattle.roster_routes.specs.Reordered.{Ordered, reordered_bytes}
 use Rattle.roster_routes.specs.Renumbering.{Way, way_there, way_back_law, way_ordered, reordered_gives}
-use Rattle.answers.specs.Settling.{Settles, settles_refused, settles_file, settles_wrote, Answers, count_of, wrote_of}
 use Rattle.routes.specs.Reading.{RouteAt, both, WrittenBoth}
 
 -- ---- by the way that is gone
@@ -69,7 +67,7 @@ pub record Renumbered (by : List ℕ → List ℕ) (f g : List ℕ) : Type 0 whe
   pub alike : (ρ σ : Plan → Plan) → hands_back (finder_of (instance_of (renumbered (by route) r)) σ) ≡ hands_back (finder_of (instance_of r) ρ)
 
 -- `to` is the way that is gone, `undo` the other one, `by` what `to` makes of the route
-pub record StoresBy (by : List ℕ → List ℕ) (to undo : List ℕ → Reading (List ℕ)) (f o : List ℕ) (r : Written) (o' : List ℕ) : Type 0 where
+pub record StoresBy (by : List ℕ → List ℕ) (to undo : List ℕ → Reading (List ℕ)) (f o : List ℕ) (r : Result ℕ Refusal) (o' : List ℕ) : Type 0 where
   -- 15, or the route's refusal, or the roster's, or 23, each with its group, or the number of bytes written
   pub answer : written_shown r ≡ stored_answer (to f) o
   -- they are in front of the buffer, which keeps the rest; a refusal changes no byte
@@ -105,7 +103,7 @@ undoes false f g is_b e =
     let d = sym (turn_is false f) ∙ e in
     (turn_is true g ∙ undone (λ route. route) way_back store_undone f g is_b d, (kept_length (λ route. route) way_back store_undone f g is_b d).0)
 
-pub stores : (back : Bool) (f o : List ℕ) {r : Written} {o' : List ℕ} → ((i : ℕ) → get_or f i 0 < 256) → Answers stored_size (turn_by back f) o r o'
+pub stores : (back : Bool) (f o : List ℕ) {r : Result ℕ Refusal} {o' : List ℕ} → ((i : ℕ) → get_or f i 0 < 256) → Answers stored_size (turn_by back f) o r o'
     → StoresBy (by_of back) (turn_by back) (turn_by (not back)) f o r o'
 unfolding stored_answer stored_lent
 stores back f o {r} {o'} low a = record {
@@ -153,66 +151,57 @@ module _ (back : Bool) (f : List ℕ) (is_b : T (is_bytes f)) (k : ℕ) (R : Rou
   turn_at : turn_by back f ≡ roster_behind (by_of back) route (accepted r)
   turn_at = turn_is back f ∙ ap (route_first (by_of back)) (R.read ∙ ap (λ z. accepted (z, drop (k + 1) f)) (sym dr)) ∙ ap (roster_behind (by_of back) route) a
 
-  module _ (w : Route) (M : RouteRead route nt w) where
-    named_so : T w.each → Names route (stand_count r)
-    named_so y = subst (Names route) is_t (M.yes_names y)
+  -- "a route that is not each stand exactly once (23"
+  pub route_turned : (o : List ℕ) → (Names route nt → ⊥) → Settles (turn_by back f) o (Err NoRoute) o
+  route_turned o h = settles_refused (turn_by back f) o NoRoute
+      (turn_at ∙ ap (λ b. cond b (accepted (list_bytes route ++ write_roster (renumbered (by_of back route) r))) (refused 23)) not_each)
+    where
+      not_each : names_each route r ≡ false
+      not_each = T_false (not_T (names_each route r) (λ t. h (subst (Names route) (sym is_t) (each_names route r t))))
 
-    -- "a route that is not each stand exactly once (23"
-    pub route_turned : (o : List ℕ) (g : Group) → w.each ≡ false → group_shown g ≡ group_of 23 → Settles (turn_by back f) o (Refused 23 g) o
-    route_turned o g e q = settles_refused (turn_by back f) o 23 g
-        (turn_at ∙ ap (λ b. cond b (accepted (list_bytes route ++ write_roster (renumbered (by_of back route) r))) (refused 23)) not_each) q
-      where
-        not_each : names_each route r ≡ false
-        not_each = T_false (not_T (names_each route r) (λ t.
-            T_not w.each (false_t e) (M.names_yes (subst (Names route) (sym is_t) (each_names route r t)))))
+  module _ (numbers places : List ℕ) (M : Numbered route nt numbers) (P : Places route places) where
+    pub orders : Ordered nt places × Ordered nt numbers
+    orders = (
+      way_ordered route nt places numbers M.names counts_few.1 (way_there route nt numbers places M P),
+      way_ordered (way_back route) nt numbers places (back_names route nt M.names) counts_few.1 (way_back_law route nt numbers places M P),
+    )
 
-    module _ (y : w.each ≡ true) (places : List ℕ) (P : Places route places) where
-      N : Names route nt
-      N = M.yes_names (true_t y)
+    abbrev H : Roster
+    H = renumbered (by_of back route) r
 
-      pub orders : Ordered nt places × Ordered nt w.numbers
-      orders = (
-        way_ordered route nt places w.numbers N counts_few.1 (way_there route nt N w places M (true_t y) P),
-        way_ordered (way_back route) nt w.numbers places (back_names route nt N) counts_few.1 (way_back_law route nt N w places M (true_t y) P),
-      )
+    module _ (c : RosterBytes) (h : Holds (reordered_bytes roster ns nt (cond back numbers places) (cond back places numbers)) c) where
+      gives : (c.len ≤ roster_size) × (take c.len c.roster ≡ write_roster H)
+      gives = go back h
+        where
+          go : (b : Bool) → Holds (reordered_bytes roster ns nt (cond b numbers places) (cond b places numbers)) c
+              → (c.len ≤ roster_size) × (take c.len c.roster ≡ write_roster (renumbered (by_of b route) r))
+          go true h = reordered_gives (way_back route) roster r written_is ok (subst (Names (way_back route)) is_t (back_names route nt M.names))
+              numbers places (subst (λ n. Way (way_back route) n numbers places) is_t (way_back_law route nt numbers places M P)) c
+              (subst (λ b. Holds b c) (ap₂ (λ x z. reordered_bytes roster x z numbers places) is_s is_t) h)
+          go false h = reordered_gives route roster r written_is ok (subst (Names route) is_t M.names)
+              places numbers (subst (λ n. Way route n places numbers) is_t (way_there route nt numbers places M P)) c
+              (subst (λ b. Holds b c) (ap₂ (λ x z. reordered_bytes roster x z places numbers) is_s is_t) h)
 
-      abbrev H : Roster
-      H = renumbered (by_of back route) r
+      -- there is room for the route and the roster
+      pub room : (o : List ℕ) → stored_size ≤ length o → length (take (k + 1) f) + length (take c.len c.roster) ≤ length o
+      room o l = omega (arith, length-take (k + 1) f, length-take c.len c.roster, gives.0, R.few)
 
-      module _ (c : Changed) (h : Holds (reordered_bytes roster ns nt (cond back w.numbers places) (cond back places w.numbers)) c) where
-        gives : (c.len ≤ roster_size) × (take c.len c.roster ≡ write_roster H)
-        gives = go back h
-          where
-            go : (b : Bool) → Holds (reordered_bytes roster ns nt (cond b w.numbers places) (cond b places w.numbers)) c
-                → (c.len ≤ roster_size) × (take c.len c.roster ≡ write_roster (renumbered (by_of b route) r))
-            go true h = given (reordered_gives (way_back route) roster r written_is ok (subst (Names (way_back route)) is_t (back_names route nt N))
-                w.numbers places (subst (λ n. Way (way_back route) n w.numbers places) is_t (way_back_law route nt N w places M (true_t y) P)) c
-                (subst (λ b. Holds b c) (ap₂ (λ x z. reordered_bytes roster x z w.numbers places) is_s is_t) h)) (λ (z, few, front). (few, front))
-            go false h = given (reordered_gives route roster r written_is ok (subst (Names route) is_t N)
-                places w.numbers (subst (λ n. Way route n places w.numbers) is_t (way_there route nt N w places M (true_t y) P)) c
-                (subst (λ b. Holds b c) (ap₂ (λ x z. reordered_bytes roster x z places w.numbers) is_s is_t) h)) (λ (z, few, front). (few, front))
-
-        -- there is room for the route and the roster
-        pub room : (o : List ℕ) → stored_size ≤ length o → length (take (k + 1) f) + length (take c.len c.roster) ≤ length o
-        room o l = omega (arith, length-take (k + 1) f, length-take c.len c.roster, gives.0, R.few)
-
-        pub route_stored : (o : List ℕ) (n : ℕ) (o' : List ℕ) → WrittenBoth f (k + 1) c.roster c.len o n o' → Settles (turn_by back f) o (Wrote n) o'
-        route_stored o n o' W = settles_wrote (turn_by back f) o (list_bytes route ++ write_roster H) (both f (k + 1) c.roster c.len) n o'
-            (turn_at ∙ ap (λ b. cond b (accepted (list_bytes route ++ write_roster H)) (refused 23))
-            (T_true {b = names_each route r} (names_each_law route r (named_so (true_t y)))))
-            (ap₂ ◌++◌ head_is gives.1) W.count W.bytes
-          where
-            head_is : take (k + 1) f ≡ list_bytes route
-            head_is = ap (take (k + 1)) from ∙ take_at (list_bytes route) (drop (k + 1) f) (k + 1) (omega (arith, route_count))
+      pub route_stored : (o : List ℕ) (n : ℕ) (o' : List ℕ) → WrittenBoth f (k + 1) c.roster c.len o n o' → Settles (turn_by back f) o (Ok n) o'
+      route_stored o n o' W = settles_wrote (turn_by back f) o (list_bytes route ++ write_roster H) (both f (k + 1) c.roster c.len) n o'
+          (turn_at ∙ ap (λ b. cond b (accepted (list_bytes route ++ write_roster H)) (refused 23))
+          (T_true {b = names_each route r} (names_each_law route r (subst (Names route) is_t M.names))))
+          (ap₂ ◌++◌ head_is gives.1) W.count W.bytes
+        where
+          head_is : take (k + 1) f ≡ list_bytes route
+          head_is = ap (take (k + 1)) from ∙ take_at (list_bytes route) (drop (k + 1) f) (k + 1) (omega (arith, route_count))
 
 -- ---- by what was read before the roster
-pub head_turned : (back : Bool) (f o : List ℕ) (n : ℕ) (g : Group) → read_route f ≡ refused n → group_shown g ≡ group_of n
-    → Settles (turn_by back f) o (Refused n g) o
-head_turned back f o n g e q = settles_refused (turn_by back f) o n g (turn_is back f ∙ ap (route_first (by_of back)) e) q
+pub head_turned : (back : Bool) (f o : List ℕ) (n : Refusal) → read_route f ≡ refused (number_of n) → Settles (turn_by back f) o (Err n) o
+head_turned back f o n e = settles_refused (turn_by back f) o n (turn_is back f ∙ ap (route_first (by_of back)) e)
 
-pub roster_turned : (back : Bool) (f o : List ℕ) (k : ℕ) → RouteAt f k → (n : ℕ) (g : Group) → file.Refused n g ≡ file_case (read_roster (drop (k + 1) f))
-    → Settles (turn_by back f) o (Refused n g) o
-roster_turned back f o k R n g q = settles_file (turn_by back f) o (read_roster (drop (k + 1) f)) n g q
+pub roster_turned : (back : Bool) (f o : List ℕ) (k : ℕ) → RouteAt f k → (n : Refusal) {s : Result ⊤ Refusal} → s ≡ Err n
+    → reading_of s ≡ file_read (read_roster (drop (k + 1) f)) → Settles (turn_by back f) o (Err n) o
+roster_turned back f o k R n q e = settles_file (turn_by back f) o (read_roster (drop (k + 1) f)) n q e
     (λ e. turn_is back f ∙ ap (route_first (by_of back)) R.read ∙ ap (roster_behind (by_of back) (take k (drop 1 f))) e)
 
 -- all that is behind the route

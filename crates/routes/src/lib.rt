@@ -11,44 +11,25 @@ ghost use Rattle.roster_routes.specs.Reordered.{Ordered};
 ghost use Rattle.routes.specs.Reading.{HeadRead, Behind, TurnedBy, Fits, WrittenBoth};
 ghost use Rattle.routes.specs.Storing.{turn_by, StoresBy};
 
-use answers::{FileAnswer, Written};
+use answers::Refusal;
 use limits::{NODE_LIMIT, ROSTER_SIZE, STORED_SIZE};
-use roster_parts::Changed;
+use roster_parts::RosterBytes;
 
-// A route's count, or the number of the refusal that its reading meets, 0 for none.
-#[derive(Drop)]
-pub struct Head {
-    pub refusal: u8,
-    pub count: usize,
-}
-
-// "A route cut short meets 1 and a count too high 2"; its numbers are not judged here.
-pub(crate) fn read_head(file: &[u8]) -> Head
+// A route's count. "A route cut short meets 1 and a count too high 2"; its numbers are not judged here.
+pub(crate) fn read_head(file: &[u8]) -> Result<usize, Refusal>
     ensures { HeadRead file.now result }
 {
     if file.len() == 0 {
-        return Head {
-            refusal: 1,
-            count: 0,
-        };
+        return Err(Refusal::CutShort);
     }
     let k = file[0];
     if NODE_LIMIT < k {
-        return Head {
-            refusal: 2,
-            count: 0,
-        };
+        return Err(Refusal::TooMany);
     }
     if file.len() <= (k as usize) {
-        return Head {
-            refusal: 1,
-            count: 0,
-        };
+        return Err(Refusal::CutShort);
     }
-    Head {
-        refusal: 0,
-        count: k as usize,
-    }
+    Ok(k as usize)
 }
 
 // The roster by the route, or by its way back, which has the two tables the other way round.
@@ -59,7 +40,7 @@ pub(crate) fn turned(
     places: &[u8],
     numbers: &[u8],
     back: bool,
-) -> Changed
+) -> RosterBytes
     requires { (ns ≤ node_limit) × (nt ≤ node_limit) × Ordered nt places.now × Ordered nt numbers.now }
     ensures { TurnedBy back file.now ns nt places.now numbers.now result }
 {
@@ -82,7 +63,7 @@ pub(crate) fn written(file: &[u8], k: usize, made: &[u8], n: usize, out: &mut [u
 }
 
 // An accepted roster behind a route of k numbers: 23, or the route and the renumbered roster.
-pub(crate) fn settled(file: &[u8], k: usize, back: bool, out: &mut [u8]) -> Written
+pub(crate) fn settled(file: &[u8], k: usize, back: bool, out: &mut [u8]) -> Result<usize, Refusal>
     requires { Behind k file.now × (stored_size ≤ length out.old) }
     ensures { Settles (turn_by back file.now) out.old result out.new }
 {
@@ -90,48 +71,36 @@ pub(crate) fn settled(file: &[u8], k: usize, back: bool, out: &mut [u8]) -> Writ
     let roster = roster_positions::part(file, k + 1, ROSTER_SIZE);
     let ns = roster_positions::byte_at(roster, 0) as usize;
     let nt = roster_positions::byte_at(roster, ns + 1) as usize;
-    let w = roster_routes::route_of(route, nt);
-    if !w.each {
-        return Written::Refused(23, answers::group_of(23));
-    }
-    let numbers = w.numbers;
+    let Some(numbers) = roster_routes::route_of(route, nt) else {
+        return Err(Refusal::NoRoute);
+    };
     let places = roster_routes::places_of(route);
-    let c = turned(roster, ns, nt, &places, &numbers, back);
-    let made = c.roster;
-    let n = written(file, k + 1, &made, c.len, out);
-    Written::Wrote(n)
+    let made = turned(roster, ns, nt, &places, &numbers, back);
+    let bytes = made.roster;
+    Ok(written(file, k + 1, &bytes, made.len, out))
 }
 
 // The route is read: "before the roster is read".
-pub(crate) fn routed(file: &[u8], back: bool, out: &mut [u8]) -> Written
+pub(crate) fn routed(file: &[u8], back: bool, out: &mut [u8]) -> Result<usize, Refusal>
     ensures { Answers stored_size (turn_by back file.now) out.old result out.new }
 {
     if out.len() < STORED_SIZE {
-        return Written::Refused(15, answers::group_of(15));
+        return Err(Refusal::BufferTooSmall);
     }
-    let h = read_head(file);
-    let number = h.refusal;
-    if 0 < number {
-        return Written::Refused(number, answers::group_of(number));
-    }
-    let k = h.count;
-    let roster = roster_positions::part(file, k + 1, file.len());
-    let a = roster::read_roster(roster);
-    match a {
-        FileAnswer::Refused(n, group) => Written::Refused(n, group),
-        FileAnswer::Accepted => settled(file, k, back, out),
-    }
+    let k = read_head(file)?;
+    roster::read_roster(roster_positions::part(file, k + 1, file.len()))?;
+    settled(file, k, back, out)
 }
 
 // A route and a roster, stored: the stands by the route, into a buffer of 4,295 bytes.
-pub fn store(file: &[u8], out: &mut [u8]) -> Written
+pub fn store(file: &[u8], out: &mut [u8]) -> Result<usize, Refusal>
     ensures { StoresBy (λ route. route) store_of unstore_of file.now out.old result out.new }
 {
     routed(file, false, out)
 }
 
 // A stored file as it was before, into a buffer of the same size.
-pub fn unstore(file: &[u8], out: &mut [u8]) -> Written
+pub fn unstore(file: &[u8], out: &mut [u8]) -> Result<usize, Refusal>
     ensures { StoresBy way_back unstore_of store_of file.now out.old result out.new }
 {
     routed(file, true, out)

@@ -1,5 +1,7 @@
 -- What a conversion of a roster file promises: the model's answer and bytes, and that the other way undoes it; and how that follows from what was
 -- read and turned.
+use Rattle.std.specs.Prelude.{Result, ⊤}
+use Rattle.std.specs.declared.result.Result.TheVariants.{Ok, Err}
 use Rattle.std.specs.Prelude.{ℕ, ◌+◌, ◌≤◌, ◌<◌, ◌≡◌, Bool, true, false, not, List, ◌++◌, length, take, drop, get_or, T}
 use Rattle.std.proofs.Common.{arith, sym, ap, ◌∙◌, subst, take_all}
 use Rattle.lists.specs.Test.{given, true_t, false_t}
@@ -7,18 +9,15 @@ use Rattle.model.specs.Limits.{roster_size}
 use Rattle.model.specs.Reading.{Reading, accepted, refused, is_bytes}
 use Rattle.model.specs.Roster.{Roster}
 use Rattle.model.specs.RosterFile.{read_roster_by, write_roster_by}
-use Rattle.model.specs.Refusal.{group_of}
 use Rattle.model_desk.specs.Seasons.{only_first, to_new, to_old}
 use Rattle.model_desk.specs.Desk.{said, wrote}
 use Rattle.model_desk.specs.SeasonCalls.{file_answer, file_lent}
 use Rattle.theory_files.specs.Reads.{bytes_are}
 use Rattle.theory_files.specs.Seasons.{back, forth, old_first, new_size, old_size, old_taken, new_taken, new_refused, old_turned_away, new_turned_away}
-use Rattle.answers.specs.declared.Group.{Group}
-use Rattle.answers.specs.declared.Written.{Written}
-use Rattle.answers.specs.declared.Written.TheVariants.{Wrote, Refused}
-use Rattle.answers.specs.declared.FileAnswer.TheVariants as file
-use Rattle.answers.specs.GroupCases.{group_shown}
-use Rattle.answers.specs.FileCases.{file_case}
+use Rattle.answers.specs.declared.Refusal.{Refusal}
+use Rattle.answers.specs.declared.Refusal.TheVariants.{OtherShift}
+use Rattle.answers.specs.RefusalCases.{number_of, reading_of}
+use Rattle.answers.specs.FileCases.{file_read}
 use Rattle.answers.specs.WrittenCases.{written_shown}
 use Rattle.roster_reading.specs.Layout.{layout_of}
 use Rattle.roster_turned.specs.declared.Turned.{Turned}
@@ -27,7 +26,7 @@ use Rattle.roster_turned.specs.Turning.{turned_is}
 use Rattle.answers.specs.Settling.{Settles, settles_refused, settles_file, settles_wrote, Answers, wrote_of}
 
 -- the promise of a conversion: `to` is the way that is gone, `undo` the other one
-pub record Converts (to undo : List ℕ → Reading (List ℕ)) (f o : List ℕ) (r : Written) (o' : List ℕ) : Type 0 where
+pub record Converts (to undo : List ℕ → Reading (List ℕ)) (f o : List ℕ) (r : Result ℕ Refusal) (o' : List ℕ) : Type 0 where
   -- 15, or the file's refusal, or 19, each with its group, or the number of bytes written
   pub answer : written_shown r ≡ file_answer (to f) o
   -- they are in front of the buffer, which keeps the rest; a refusal changes no byte
@@ -48,7 +47,7 @@ undoes : (shifts : Bool) (f g : List ℕ) → T (is_bytes f) → turn_by shifts 
 undoes true f g is_b e = forth g f is_b e
 undoes false f g is_b e = back f g is_b e
 
-pub converts : (shifts : Bool) (f o : List ℕ) {r : Written} {o' : List ℕ} → ((i : ℕ) → get_or f i 0 < 256) → Answers roster_size (turn_by shifts f) o r o'
+pub converts : (shifts : Bool) (f o : List ℕ) {r : Result ℕ Refusal} {o' : List ℕ} → ((i : ℕ) → get_or f i 0 < 256) → Answers roster_size (turn_by shifts f) o r o'
     → Converts (turn_by shifts) (turn_by (not shifts)) f o r o'
 unfolding file_answer file_lent
 converts shifts f o {r} {o'} low a = record {
@@ -66,8 +65,9 @@ module _ (shifts : Bool) (f o : List ℕ) where
       go true e = new_turned_away f n e
       go false e = old_turned_away f n e
 
-  pub file_turned : (n : ℕ) (g : Group) → file.Refused n g ≡ file_case (read_roster_by (layout_of shifts) f) → Settles (turn_by shifts f) o (Refused n g) o
-  file_turned n g q = settles_file (turn_by shifts f) o (read_roster_by (layout_of shifts) f) n g q (turn_refused n)
+  pub file_turned : (n : Refusal) {s : Result ⊤ Refusal} → s ≡ Err n → reading_of s ≡ file_read (read_roster_by (layout_of shifts) f)
+      → Settles (turn_by shifts f) o (Err n) o
+  file_turned n q e = settles_file (turn_by shifts f) o (read_roster_by (layout_of shifts) f) n q e (turn_refused (number_of n))
 
 -- ---- an accepted file
 module _ (shifts : Bool) (f : List ℕ) (is_b : T (is_bytes f)) (r : Roster) (a : read_roster_by (layout_of shifts) f ≡ accepted r) where
@@ -100,12 +100,12 @@ module _ (shifts : Bool) (f : List ℕ) (is_b : T (is_bytes f)) (r : Roster) (a 
     same_first = k.first ∙ (turned_is shifts f is_b r a ns nt d_s d_t).1
 
     -- another shift
-    pub other_turned : (o : List ℕ) (g : Group) → t.first ≡ false → group_shown g ≡ group_of 19 → Settles (turn_by shifts f) o (Refused 19 g) o
-    other_turned o g h q = settles_refused (turn_by shifts f) o 19 g (turn_other (sym same_first ∙ h)) q
+    pub other_turned : (o : List ℕ) → t.first ≡ false → Settles (turn_by shifts f) o (Err OtherShift) o
+    other_turned o h = settles_refused (turn_by shifts f) o OtherShift (turn_other (sym same_first ∙ h))
 
     -- the front of the array, copied
     pub front_copied : (o part : List ℕ) (n : ℕ) (o' : List ℕ) → t.first ≡ true → part ≡ take t.len made → n ≡ length part
-        → o' ≡ take (length part) part ++ drop (length part) o → Settles (turn_by shifts f) o (Wrote n) o'
+        → o' ≡ take (length part) part ++ drop (length part) o → Settles (turn_by shifts f) o (Ok n) o'
     front_copied o part n o' h p q s =
         let e = turn_first (sym same_first ∙ h) in
         let bs : part ≡ other = p ∙ k.front ∙ ap (take roster_size) (turned_is shifts f is_b r a ns nt d_s d_t).0 ∙ take_all roster_size other (fits_buffer e) in

@@ -9,11 +9,11 @@ ghost use Rattle.model_desk.specs.Seasons.{to_new, to_old};
 ghost use Rattle.answers.specs.Settling.{Settles, Answers};
 ghost use Rattle.seasons.specs.Converting.{turn_by, Accepted, Converts};
 
-use answers::{FileAnswer, Written};
+use answers::Refusal;
 use limits::ROSTER_SIZE;
 
 // An accepted file, with shifts or without, in the other layout; 19 where an entry has another shift than 1.
-pub(crate) fn settled(file: &[u8], shifts: bool, out: &mut [u8]) -> Written
+pub(crate) fn settled(file: &[u8], shifts: bool, out: &mut [u8]) -> Result<usize, Refusal>
     requires { Accepted shifts file.now × (roster_size ≤ length out.old) }
     ensures { Settles (turn_by shifts file.now) out.old result out.new }
 {
@@ -22,36 +22,31 @@ pub(crate) fn settled(file: &[u8], shifts: bool, out: &mut [u8]) -> Written
     let mut made = [0u8; ROSTER_SIZE];
     let t = roster_turned::turn(&mut made, file, ns, nt, shifts);
     if !t.first {
-        return Written::Refused(19, answers::group_of(19));
+        return Err(Refusal::OtherShift);
     }
-    let n = t.len;
-    let k = byte_slices::copy(&made[..n], out);
-    Written::Wrote(k)
+    Ok(byte_slices::copy(&made[..t.len], out))
 }
 
 // A file with shifts or without, in the other layout: 15 first, "either way", then the file's refusals, then 19.
-pub(crate) fn converted(file: &[u8], shifts: bool, out: &mut [u8]) -> Written
+pub(crate) fn converted(file: &[u8], shifts: bool, out: &mut [u8]) -> Result<usize, Refusal>
     ensures { Answers roster_size (turn_by shifts file.now) out.old result out.new }
 {
     if out.len() < ROSTER_SIZE {
-        return Written::Refused(15, answers::group_of(15));
+        return Err(Refusal::BufferTooSmall);
     }
-    let a = roster::file_answer(file, shifts);
-    match a {
-        FileAnswer::Refused(number, group) => Written::Refused(number, group),
-        FileAnswer::Accepted => settled(file, shifts, out),
-    }
+    roster::file_answer(file, shifts)?;
+    settled(file, shifts, out)
 }
 
 // A roster of an old season as one of today, with shift 1 throughout, into a buffer of a roster's size.
-pub fn roster_to_new(file: &[u8], out: &mut [u8]) -> Written
+pub fn roster_to_new(file: &[u8], out: &mut [u8]) -> Result<usize, Refusal>
     ensures { Converts to_new to_old file.now out.old result out.new }
 {
     converted(file, false, out)
 }
 
 // A roster of today with only shift 1 as one of an old season, into a buffer of the same size.
-pub fn roster_to_old(file: &[u8], out: &mut [u8]) -> Written
+pub fn roster_to_old(file: &[u8], out: &mut [u8]) -> Result<usize, Refusal>
     ensures { Converts to_old to_new file.now out.old result out.new }
 {
     converted(file, true, out)

@@ -1,43 +1,101 @@
--- `districts::join` meets its contract: 15, the first file's refusal, or what stands behind it. Assumes nothing.
-use Rattle.std.proofs.Common.{arith, sym, ◌∙◌, T}
+-- `districts::join` meets its contract: 15, the first file's refusal, the second's, that of the sums, or the array's front copied. Assumes nothing.
+use Rattle.std.proofs.Common.{◌≤◌, arith, ◌≡◌, refl, sym, subst, List, ℕ, length, take, length-take, length-take-le, Result, Err, rules}
 use Rattle.model.specs.Limits.{roster_size}
-use Rattle.model.specs.Reading.{is_bytes}
+use Rattle.model.specs.Reading.{accepted}
+use Rattle.model.specs.Roster.{Roster}
 use Rattle.model.specs.RosterFile.{read_roster}
 use Rattle.model_files.specs.Districts.{joined_file}
 use Rattle.theory_files.specs.Reads.{bytes_are}
-use Rattle.answers.specs.FileCases.{case_accepted}
-use Rattle.answers.specs.Settling.{answers_short, answers_settled}
-use Rattle.districts.specs.Joins.{joins, first_turned}
-use Rattle.districts.proofs.join.Goals.{After-slice_known-1}
+use Rattle.answers.specs.declared.Refusal.{Refusal}
+use Rattle.answers.specs.FileCases.{read_accepted}
+use Rattle.answers.specs.Settling.{Settles, answers_short, answers_settled}
+use Rattle.districts.specs.Joins.{Joins, joins, first_turned, second_turned, sums_turned, few_bytes, both_copied}
+use Rattle.districts.proofs.join.Goals.{Else-out-lt-ROSTER_SIZE, In_ok-read_roster, In_ok-read_roster-2, In_ok-made}
 use Rattle.districts.proofs.join.Goals as goal
 
--- both files are bytes
-first_bytes : (p : After-slice_known-1) → T (is_bytes p.args.first.now)
-first_bytes p = bytes_are p.args.first.now (λ i. omega (arith, p.type_inv.first i))
+-- the rosters that they are
+first_read : (p : In_ok-read_roster) → (r : Roster) × (read_roster p.args.first.now ≡ accepted r)
+first_read p = read_accepted (read_roster p.args.first.now) p.in_ok-read_roster.was p.read_roster.ensures
 
-second_bytes : (p : After-slice_known-1) → T (is_bytes p.args.second.now)
-second_bytes p = bytes_are p.args.second.now (λ i. omega (arith, p.type_inv.second i))
+second_read : (p : In_ok-read_roster-2) → (q : Roster) × (read_roster p.args.second.now ≡ accepted q)
+second_read p = read_accepted (read_roster p.args.second.now) p.in_ok-read_roster-2.was p.read_roster-2.ensures
 
-pub first_read-requires : goal.first_read-requires
-first_read-requires c =
-    let a = c.args in
-    (case_accepted (read_roster a.first.now) (sym c.in-Accepted.is ∙ c.read_roster-a.ensures), c.if-out-lt-ROSTER_SIZE.false)
-
-pub returns-in-Refused : goal.returns-in-Refused
-returns-in-Refused c =
-    let a = c.args in
-    joins a.first.now a.second.now (first_bytes (goal.at.returns-in-Refused c).After-slice_known-1) (second_bytes (goal.at.returns-in-Refused c).After-slice_known-1) a.out.now
-    (answers_settled roster_size (joined_file a.first.now a.second.now) a.out.now c.if-out-lt-ROSTER_SIZE.false
-    (first_turned a.first.now a.second.now a.out.now c.in-Refused.number c.in-Refused.group (sym c.in-Refused.is ∙ c.read_roster-a.ensures)))
-
-pub returns-in-Accepted : goal.returns-in-Accepted
-returns-in-Accepted c =
-    let a = c.args in
-    joins a.first.now a.second.now (first_bytes (goal.at.returns-in-Accepted c).After-slice_known-1) (second_bytes (goal.at.returns-in-Accepted c).After-slice_known-1) a.out.now
-    (answers_settled roster_size (joined_file a.first.now a.second.now) a.out.now c.if-out-lt-ROSTER_SIZE.false c.first_read.ensures)
+-- behind the test of the buffer
+settled : (p : Else-out-lt-ROSTER_SIZE) → {r r' : Result ℕ Refusal} {o' : List ℕ} → r ≡ r' → Settles (joined_file p.args.first.now p.args.second.now) p.args.out.now r' o'
+    → Joins p.args.first.now p.args.second.now p.args.out.now r o'
+settled p {r} {r'} {o'} e s =
+    let a = p.args in
+    subst (λ z. Joins a.first.now a.second.now a.out.now z o') (sym e)
+    (joins a.first.now a.second.now (bytes_are a.first.now (λ i. omega (arith, p.type_inv.first i))) (bytes_are a.second.now (λ i. omega (arith, p.type_inv.second i)))
+    a.out.now (answers_settled roster_size (joined_file a.first.now a.second.now) a.out.now p.if-out-lt-ROSTER_SIZE.false s))
 
 pub returns-then-out-lt-ROSTER_SIZE : goal.returns-then-out-lt-ROSTER_SIZE
 returns-then-out-lt-ROSTER_SIZE c =
     let a = c.args in
-    joins a.first.now a.second.now (first_bytes (goal.at.returns-then-out-lt-ROSTER_SIZE c).After-slice_known-1) (second_bytes (goal.at.returns-then-out-lt-ROSTER_SIZE c).After-slice_known-1) a.out.now
-    (answers_short roster_size (joined_file a.first.now a.second.now) a.out.now c.group_of.result c.if-out-lt-ROSTER_SIZE.true c.group_of.ensures)
+    joins a.first.now a.second.now (bytes_are a.first.now (λ i. omega (arith, c.type_inv.first i)))
+    (bytes_are a.second.now (λ i. omega (arith, c.type_inv.second i))) a.out.now
+    (answers_short roster_size (joined_file a.first.now a.second.now) a.out.now c.if-out-lt-ROSTER_SIZE.true)
+
+pub returns-in_err-read_roster : goal.returns-in_err-read_roster
+returns-in_err-read_roster c =
+    let a = c.args in
+    let n = c.in_err-read_roster.field-0.0 in
+    let told : c.from_residual.result ≡ Err n = search rules in
+    settled (goal.at.returns-in_err-read_roster c).Else-out-lt-ROSTER_SIZE told
+    (first_turned a.first.now a.second.now a.out.now n c.in_err-read_roster.was c.read_roster.ensures)
+
+pub returns-in_err-read_roster-2 : goal.returns-in_err-read_roster-2
+returns-in_err-read_roster-2 c =
+    let a = c.args in
+    let n = c.in_err-read_roster-2.field-0.0 in
+    let told : c.from_residual-in_err-read_roster-2.result ≡ Err n = search rules in
+    let (r, d) = first_read (goal.at.returns-in_err-read_roster-2 c).In_ok-read_roster in
+    settled (goal.at.returns-in_err-read_roster-2 c).Else-out-lt-ROSTER_SIZE told
+    (second_turned a.first.now a.second.now r d a.out.now n c.in_err-read_roster-2.was c.read_roster-2.ensures)
+
+pub join-requires : goal.join-requires
+join-requires c = (first_read (goal.at.join-requires c).In_ok-read_roster, second_read (goal.at.join-requires c).In_ok-read_roster-2)
+
+pub returns-in_err-made : goal.returns-in_err-made
+returns-in_err-made c =
+    let a = c.args in
+    let n = c.in_err-made.field-0.0 in
+    let told : c.from_residual-in_err-made.result ≡ Err n = search rules in
+    let (r, d) = first_read (goal.at.returns-in_err-made c).In_ok-read_roster in
+    let (q, e) = second_read (goal.at.returns-in_err-made c).In_ok-read_roster-2 in
+    settled (goal.at.returns-in_err-made c).Else-out-lt-ROSTER_SIZE told
+    (sums_turned a.first.now a.second.now r q d e a.out.now (c.join.ensures r q d e) n c.in_err-made.was)
+
+-- the bytes are in front of the array
+few : (p : In_ok-made) → (p.in_ok-made.made.len ≤ roster_size) × (length p.in_ok-made.made.roster ≡ roster_size)
+few p =
+    let a = p.args in
+    let (r, d) = first_read (goal.at.In_ok-made p).In_ok-read_roster in
+    let (q, e) = second_read (goal.at.In_ok-made p).In_ok-read_roster-2 in
+    let l : length p.in_ok-made.made.roster ≡ 4262 = search rules in
+    (few_bytes a.first.now a.second.now r q d e a.out.now (p.join.ensures r q d e) p.in_ok-made.was, l)
+
+pub slice_bounds-bytes-end : goal.slice_bounds-bytes-end
+slice_bounds-bytes-end c = let h = few (goal.at.slice_bounds-bytes-end c).In_ok-made in omega (arith, h.0, h.1)
+
+pub slice_bounds-copy-end : goal.slice_bounds-copy-end
+slice_bounds-copy-end c =
+    let m = c.in_ok-made.made in
+    let h = few (goal.at.slice_bounds-copy-end c).In_ok-made in
+    sym (length-take-le m.len m.roster (omega (arith, h.0, h.1)))
+
+pub copy-requires : goal.copy-requires
+copy-requires c =
+    let m = c.in_ok-made.made in
+    let h = few (goal.at.copy-requires c).In_ok-made in
+    omega (arith, h.0, h.1, length-take m.len m.roster, c.if-out-lt-ROSTER_SIZE.false)
+
+pub returns : goal.returns
+returns c =
+    let a = c.args in
+    let m = c.in_ok-made.made in
+    let (r, d) = first_read (goal.at.returns c).In_ok-read_roster in
+    let (q, e) = second_read (goal.at.returns c).In_ok-read_roster-2 in
+    settled (goal.at.returns c).Else-out-lt-ROSTER_SIZE refl
+    (both_copied a.first.now a.second.now r q d e a.out.now (c.join.ensures r q d e) c.in_ok-made.was (take m.len m.roster) c.copy.result c.copy.new.to refl
+    c.copy.ensures.0 c.copy.ensures.1)

@@ -21,7 +21,7 @@ returns-then-ns-ms c =
     λ r q d e. many_surveyors a.first.now a.second.now (first_bytes (goal.at.returns-then-ns-ms c).After-byte_at-mt) (second_bytes (goal.at.returns-then-ns-ms c).After-byte_at-mt) r q d e
     c.byte_at-ns.result c.byte_at-nt.result c.byte_at-ms.result c.byte_at-mt.result
     c.byte_at-ns.ensures c.byte_at-nt.ensures c.byte_at-ms.ensures c.byte_at-mt.ensures
-    c.refused.result c.if-ns-ms.true c.refused.ensures
+    c.if-ns-ms.true
 
 pub returns-then-nt-mt : goal.returns-then-nt-mt
 returns-then-nt-mt c =
@@ -29,7 +29,7 @@ returns-then-nt-mt c =
     λ r q d e. many_stands a.first.now a.second.now (first_bytes (goal.at.returns-then-nt-mt c).After-byte_at-mt) (second_bytes (goal.at.returns-then-nt-mt c).After-byte_at-mt) r q d e
     c.byte_at-ns.result c.byte_at-nt.result c.byte_at-ms.result c.byte_at-mt.result
     c.byte_at-ns.ensures c.byte_at-nt.ensures c.byte_at-ms.ensures c.byte_at-mt.ensures
-    c.refused-then-nt-mt.result c.if-nt-mt.true c.refused-then-nt-mt.ensures
+    c.if-nt-mt.true
 
 pub returns-then-s : goal.returns-then-s
 returns-then-s c =
@@ -38,7 +38,7 @@ returns-then-s c =
     c.byte_at-ns.result c.byte_at-nt.result c.byte_at-ms.result c.byte_at-mt.result
     c.byte_at-ns.ensures c.byte_at-nt.ensures c.byte_at-ms.ensures c.byte_at-mt.ensures
     c.if-ns-ms.false c.if-nt-mt.false
-    c.refused-then-s.result c.quotas_of_both-s.result c.quotas_of_both-s.ensures c.if-s.true c.refused-then-s.ensures
+    c.quotas_of_both-s.result c.quotas_of_both-s.ensures c.if-s.true
 
 pub returns-then-t : goal.returns-then-t
 returns-then-t c =
@@ -47,7 +47,7 @@ returns-then-t c =
     c.byte_at-ns.result c.byte_at-nt.result c.byte_at-ms.result c.byte_at-mt.result
     c.byte_at-ns.ensures c.byte_at-nt.ensures c.byte_at-ms.ensures c.byte_at-mt.ensures
     c.if-ns-ms.false c.if-nt-mt.false
-    c.refused-then-t.result c.quotas_of_both-t.result c.quotas_of_both-t.ensures c.if-t.true c.refused-then-t.ensures
+    c.quotas_of_both-t.result c.quotas_of_both-t.ensures c.if-t.true
 
 pub returns : goal.returns
 returns c =

@@ -13,16 +13,15 @@ returns-then-quota-gt-QUOTA_LIMIT c =
     let a = c.args in
     let f = a.file.now in
     let is_b = bytes_are f (λ i. omega (arith, c.type_inv.file i)) in
-    λ R d. joins_quota f is_b R d a.quota a.list.now c.refused.result c.if-quota-gt-QUOTA_LIMIT.true c.refused.ensures
+    λ R d. joins_quota f is_b R d a.quota a.list.now c.if-quota-gt-QUOTA_LIMIT.true
 
 pub returns-then-ns-ge-NODE_LIMIT : goal.returns-then-ns-ge-NODE_LIMIT
 returns-then-ns-ge-NODE_LIMIT c =
     let a = c.args in
     let f = a.file.now in
     let is_b = bytes_are f (λ i. omega (arith, c.type_inv.file i)) in
-    λ R d. joins_full f is_b R d a.quota a.list.now c.refused-then-ns-ge-NODE_LIMIT.result c.if-quota-gt-QUOTA_LIMIT.false c.byte_at-ns.result
+    λ R d. joins_full f is_b R d a.quota a.list.now c.if-quota-gt-QUOTA_LIMIT.false c.byte_at-ns.result
     c.byte_at-ns.ensures (omega (arith, c.if-ns-ge-NODE_LIMIT.true))
-    c.refused-then-ns-ge-NODE_LIMIT.ensures
 
 pub quota_sum-sum-requires : goal.quota_sum-sum-requires
 quota_sum-sum-requires c = short c.byte_at-ns.result 255 c.part-quotas.result.now _ c.part-quotas.ensures (omega arith)
@@ -41,20 +40,19 @@ returns-then-sum-quota c =
     let f = a.file.now in
     let is_b = bytes_are f (λ i. omega (arith, c.type_inv.file i)) in
     let isF = bytes_are a.list.now (λ i. omega (arith, c.type_inv.list i)) in
-    λ R d. joins f is_b R d a.quota a.list.now c.listed.result c.if-quota-gt-QUOTA_LIMIT.false
+    λ R d. joins f is_b R d a.quota a.list.now c.if-quota-gt-QUOTA_LIMIT.false
     c.byte_at-ns.result c.byte_at-ns.ensures
     (omega (arith, c.if-ns-ge-NODE_LIMIT.false)) c.quota_sum-sum.result
     (c.quota_sum-sum.ensures.0 ∙ ap (sum (λ q. q)) c.part-quotas.ensures)
     c.if-sum-quota.true isF
-    c.byte_at-nt.result c.byte_at-nt.ensures c.listed.ensures
+    c.byte_at-nt.result c.byte_at-nt.ensures c.listed.result c.listed.ensures
 
 pub returns : goal.returns
 returns c =
     let a = c.args in
     let f = a.file.now in
     let is_b = bytes_are f (λ i. omega (arith, c.type_inv.file i)) in
-    λ R d. joins_over f is_b R d a.quota a.list.now c.refused-2.result c.if-quota-gt-QUOTA_LIMIT.false
+    λ R d. joins_over f is_b R d a.quota a.list.now c.if-quota-gt-QUOTA_LIMIT.false
     c.byte_at-ns.result c.byte_at-ns.ensures
     (omega (arith, c.if-ns-ge-NODE_LIMIT.false)) c.quota_sum-sum.result
     (c.quota_sum-sum.ensures.0 ∙ ap (sum (λ q. q)) c.part-quotas.ensures) c.if-sum-quota.false
-    c.refused-2.ensures

@@ -10,16 +10,13 @@ pub returns-then-number-eq0 : goal.returns-then-number-eq0
 returns-then-number-eq0 c =
     let f = c.args.file.now in
     let is_b = bytes_are f (λ i. omega (arith, c.type_inv.file i)) in
-    λ R a. leaves_none f is_b R a c.byte_at-ns.result c.byte_at-ns.ensures
-    c.args.number c.refused.result c.if-number-eq0.true c.refused.ensures
+    λ R a. leaves_none f is_b R a c.byte_at-ns.result c.byte_at-ns.ensures c.args.number c.if-number-eq0.true
 
 pub returns-then-ns-number : goal.returns-then-ns-number
 returns-then-ns-number c =
     let f = c.args.file.now in
     let is_b = bytes_are f (λ i. omega (arith, c.type_inv.file i)) in
-    λ R a. leaves_above f is_b R a c.byte_at-ns.result c.byte_at-ns.ensures
-    c.args.number c.refused-then-ns-number.result c.if-ns-number.true
-    c.refused-then-ns-number.ensures
+    λ R a. leaves_above f is_b R a c.byte_at-ns.result c.byte_at-ns.ensures c.args.number c.if-ns-number.true
 
 pub left-requires : goal.left-requires
 left-requires c =
@@ -36,6 +33,6 @@ returns c =
     let f = c.args.file.now in
     let is_b = bytes_are f (λ i. omega (arith, c.type_inv.file i)) in
     λ R a. leaves f is_b R a c.byte_at-ns.result c.byte_at-ns.ensures
-    c.args.number c.left.result
+    c.args.number
     (let h : 0 < c.args.number = omega (arith, c.if-number-eq0.false) in h)
     c.if-ns-number.false c.byte_at-n.result c.byte_at-n.ensures c.left.ensures

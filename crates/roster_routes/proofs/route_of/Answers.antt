@@ -1,14 +1,13 @@
 -- `roster_routes::route_of` meets its contract: the first i numbers are stands', none twice, and the table has their places. Assumes nothing.
 use Rattle.std.proofs.Common.{ℕ, ◌<◌, zero-le, arith, length}
 use lib.ListN.{length-replicate, get_or-replicate}
-use Rattle.roster_routes.specs.Marking.{marked_none, marked_step, named_all, not_named, outside_not, above_not, twice_not, all_taken_law}
+use Rattle.roster_routes.specs.Marking.{marked_none, marked_step, named_all, outside_not, above_not, twice_not, all_taken_law}
 use Rattle.roster_routes.proofs.route_of.Goals.{In-loop-i}
 use Rattle.roster_routes.proofs.route_of.Goals as goal
 
 pub returns-then-route-nt : goal.returns-then-route-nt
 returns-then-route-nt c =
-    let a = c.args in
-    not_named a.route.now a.nt _ (length-replicate {A = ℕ} 33 0) (λ N. c.if-route-nt.true N.count)
+    λ N. c.if-route-nt.true N.count
 
 pub loop-i-init : goal.loop-i-init
 loop-i-init c = (zero-le, marked_none c.args.nt _ (length-replicate {A = ℕ} 33 0) (λ t h. get_or-replicate 33 t 0 0 (omega arith)))
@@ -23,12 +22,12 @@ overflow_cast-t c = omega (arith, c.type_inv.route c.loop-i.i)
 pub returns-then-t-eq0 : goal.returns-then-t-eq0
 returns-then-t-eq0 c =
     let a = c.args in
-    not_named a.route.now a.nt c.loop-i.numbers c.loop-i.invariant.1.size (outside_not a.route.now a.nt c.loop-i.i (there (goal.at.returns-then-t-eq0 c).In-loop-i) c.if-t-eq0.true)
+    outside_not a.route.now a.nt c.loop-i.i (there (goal.at.returns-then-t-eq0 c).In-loop-i) c.if-t-eq0.true
 
 pub returns-then-nt-t : goal.returns-then-nt-t
 returns-then-nt-t c =
     let a = c.args in
-    not_named a.route.now a.nt c.loop-i.numbers c.loop-i.invariant.1.size (above_not a.route.now a.nt c.loop-i.i (there (goal.at.returns-then-nt-t c).In-loop-i) c.if-nt-t.true)
+    above_not a.route.now a.nt c.loop-i.i (there (goal.at.returns-then-nt-t c).In-loop-i) c.if-nt-t.true
 
 pub bounds-numbers-t : goal.bounds-numbers-t
 bounds-numbers-t c =
@@ -45,9 +44,8 @@ loop-i-preserved c =
 pub returns-then-numbers-t-gt0 : goal.returns-then-numbers-t-gt0
 returns-then-numbers-t-gt0 c =
     let a = c.args in
-    not_named a.route.now a.nt c.loop-i.numbers c.loop-i.invariant.1.size
-    (twice_not a.route.now a.nt c.loop-i.i (there (goal.at.returns-then-numbers-t-gt0 c).In-loop-i) c.loop-i.numbers c.loop-i.invariant.1 (omega (arith, c.if-nt-t.false, c.requires))
-    c.if-numbers-t-gt0.true)
+    twice_not a.route.now a.nt c.loop-i.i (there (goal.at.returns-then-numbers-t-gt0 c).In-loop-i) c.loop-i.numbers c.loop-i.invariant.1 (omega (arith, c.if-nt-t.false, c.requires))
+    c.if-numbers-t-gt0.true
 
 pub bounds-numbers-t-in-loop-i : goal.bounds-numbers-t-in-loop-i
 bounds-numbers-t-in-loop-i c =

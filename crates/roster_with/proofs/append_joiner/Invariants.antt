@@ -10,6 +10,3 @@ invariant-loop-k l =
     (l.k ≤ shift_limit)
     × Going (bytes_of (joiner_in l.joiner (shifts_at (marks_in l.row) l.stand))) (bytes_of (joiner_in l.joiner (shifts_from (marks_in l.row) l.stand l.k (shift_limit - l.k))))
     l.n l.initial.out l.len l.out
-
-abbrev pub decreases-loop-k : goal.decreases-loop-k
-decreases-loop-k l = shift_limit - l.k

@@ -1,18 +1,17 @@
--- `roster_with::quota_sum` meets its contract: the quotas added and those to come are all. Assumes nothing.
-use Rattle.std.proofs.Common.{zero-le, arith, ap, drop_of_length-le}
+-- `roster_with::quota_sum` meets its contract: the chain adds the quotas, of which each is a byte. Assumes nothing.
+use Rattle.std.proofs.Common.{rules, ℕ, suc, ◌*◌, ◌≡◌, ◌≤◌, ◌<◌, List, [], ◌∷◌, length, get_or, zero-le, arith, refl, sym, ◌∙◌}
+use Rattle.std.specs.List as std
+use Rattle.std.proofs.lemmas.List.Recursion.{is_sum_by}
 use Rattle.lists.specs.Sum.{sum}
-use Rattle.roster_parts.specs.Growth.{next_byte}
 use Rattle.roster_with.proofs.quota_sum.Goals as goal
 
-pub loop-i-init : goal.loop-i-init
-loop-i-init c = (zero-le, zero-le, omega arith)
-
-pub loop-i-preserved : goal.loop-i-preserved
-loop-i-preserved c =
-    let a = c.args in
-    (omega arith, omega arith, omega (arith, ap (sum (λ q. q)) (next_byte a.quotas.now c.loop-i.i c.loop-i-test.true), c.byte_at.ensures))
+bound : (xs : List ℕ) → ((i : ℕ) → get_or xs i 0 < 256) → sum (λ q. q) xs ≤ 255 * length xs
+bound [] h = zero-le
+bound (x ∷ xs) h = omega (arith, h 0, bound xs (λ i. h (suc i)))
 
 pub returns : goal.returns
 returns c =
-    let a = c.args in
-    (omega (arith, ap (sum (λ q. q)) (drop_of_length-le a.quotas.now c.loop-i-test.false)), omega arith)
+    let xs = c.args.quotas.now in
+    let e : c.sum.result ≡ std.sum xs = search rules in
+    let s : c.sum.result ≡ sum (λ q. q) xs = e ∙ sym (is_sum_by (sum (λ q. q)) (λ q. q) refl (λ x ys. refl) xs) in
+    (s, omega (arith, s, bound xs (λ i. omega (arith, c.type_inv.quotas i))))

@@ -6,6 +6,3 @@ use Rattle.roster_with.proofs.shift_count.Given as goal
 abbrev pub invariant-loop-k : goal.invariant-loop-k
 invariant-loop-k l =
     (l.k ≤ shift_limit) × (l.n ≤ l.k) × (l.n + length (shifts_from (marks_in l.row) l.stand l.k (shift_limit - l.k)) ≡ length (shifts_at (marks_in l.row) l.stand))
-
-abbrev pub decreases-loop-k : goal.decreases-loop-k
-decreases-loop-k l = shift_limit - l.k

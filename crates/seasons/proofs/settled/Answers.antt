@@ -28,8 +28,8 @@ slice_bounds-copy-end c =
     let h = c.turn-t.ensures.few in
     sym (length-take-le c.turn-t.result.len c.turn-t.new.out (omega (arith, c.turn-t.ensures.size)))
 
-pub copy-k-requires : goal.copy-k-requires
-copy-k-requires c =
+pub copy-requires : goal.copy-requires
+copy-requires c =
     let h = c.turn-t.ensures.few in
     omega (arith, length-take c.turn-t.result.len c.turn-t.new.out, c.requires.1)
 
@@ -37,7 +37,7 @@ pub returns : goal.returns
 returns c =
     let a = c.args in
     let (R, e) = c.requires.0 in
-    let q = c.copy-k in
+    let q = c.copy in
     front_copied a.shifts a.file.now (file_bytes (goal.at.returns c).After-slice_known-1) R e c.byte_at-ns.result c.byte_at-nt.result
     c.byte_at-ns.ensures c.byte_at-nt.ensures c.turn-t.result c.turn-t.new.out c.turn-t.ensures a.out.now
     (take c.turn-t.result.len c.turn-t.new.out) q.result q.new.to
@@ -49,4 +49,4 @@ returns-then-not-t c =
     let (R, e) = c.requires.0 in
     other_turned a.shifts a.file.now (file_bytes (goal.at.returns-then-not-t c).After-slice_known-1) R e c.byte_at-ns.result c.byte_at-nt.result
     c.byte_at-ns.ensures c.byte_at-nt.ensures c.turn-t.result c.turn-t.new.out c.turn-t.ensures a.out.now
-    c.group_of.result (not-true c.turn-t.result.first c.if-not-t.true) c.group_of.ensures
+    (not-true c.turn-t.result.first c.if-not-t.true)
