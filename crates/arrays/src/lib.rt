@@ -15,9 +15,7 @@ pub fn links(m: usize, end: &[u8], next: &mut [u16]) -> [u16; 32]
     ensures { (length next.new ≡ length next.old) × Linked m end.now result next.new }
 {
     let mut head = [m as u16; 32];
-    let mut i = m;
-    while i > 0 {
-        i -= 1;
+    for i in (0..m).rev() {
         let v = end[i] as usize;
         next[i] = head[v];
         head[v] = i as u16;

@@ -85,14 +85,12 @@ pub fn diagonal(n: usize, d: &[u8; 4096], bound: u8) -> usize
     requires { n ≤ plan_limit }
     ensures { result ≡ diag_at (cell d.now) n bound }
 {
-    let mut i = 0;
-    while i < n {
+    for i in 0..n {
         if d[i * 64 + i] < bound {
             return i;
         }
-        i += 1;
     }
-    i
+    n
 }
 
 // The least of the sums of a row of prices and a row of ends.
@@ -117,14 +115,12 @@ pub fn ends(n: usize, d: &[u8; 4096], terminals: &[u8; 4096], b: usize, bound: u
     if least >= bound {
         return n;
     }
-    let mut j = 0;
-    while j < n {
+    for j in 0..n {
         if d[b + j] + terminals[b + j] < bound {
             return j;
         }
-        j += 1;
     }
-    j
+    n
 }
 
 // The first row in which that finds a column, and the column; n if there is none.
@@ -133,16 +129,14 @@ pub fn pair(n: usize, d: &[u8; 4096], terminals: &[u8; 4096], bound: u8) -> Plac
     ensures { (result.row ≡ pair_at (cell d.now) terminals.now n bound)
         × (result.row < n → result.column ≡ ends_at (cell d.now) terminals.now n bound result.row) }
 {
-    let mut i = 0;
-    while i < n {
+    for i in 0..n {
         let b = i * 64;
         let j = ends(n, d, terminals, b, bound);
         if j < n {
             return Place { row: i, column: j };
         }
-        i += 1;
     }
-    Place { row: i, column: 0 }
+    Place { row: n, column: 0 }
 }
 
 // The first column in which the next layer's row is lower than the row kept, n if there is none.
@@ -150,15 +144,13 @@ pub fn lowered(n: usize, d: &[u8; 4096], e: &[u8; 4096], b: usize) -> usize
     requires { (n ≤ plan_limit) × (b + 64 ≤ 4096) × ((j : ℕ) → j < 64 → at d.now (b + j) ≤ 133) }
     ensures { result ≡ low (λ j. ltb (at e.now (b + j)) (kept_price (at d.now (b + j)))) n }
 {
-    let mut j = 0;
-    while j < n {
+    for j in 0..n {
         let kept = rival_tables::lesser(133, d[b + j] + 2);
         if e[b + j] < kept {
             return j;
         }
-        j += 1;
     }
-    j
+    n
 }
 
 // The first row that has such a column, n if there is none.
@@ -166,16 +158,14 @@ pub fn changed(n: usize, d: &[u8; 4096], e: &[u8; 4096]) -> usize
     requires { (n ≤ plan_limit) × Small n d.now }
     ensures { result ≡ changed_at (cell d.now) (cell e.now) n }
 {
-    let mut i = 0;
-    while i < n {
+    for i in 0..n {
         let b = i * 64;
         let j = lowered(n, d, e, b);
         if j < n {
             return i;
         }
-        i += 1;
     }
-    i
+    n
 }
 
 // The first b levels, until a layer changes nothing.

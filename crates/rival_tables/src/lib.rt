@@ -44,14 +44,12 @@ pub fn rooms(n: usize, nodes: &[u8; 64], quota: &[u8; 32]) -> [bool; 32]
 pub fn first_room(room: &[bool; 32]) -> usize
     ensures { result ≡ low (flag room.now) 32 }
 {
-    let mut v = 0;
-    while v < 32 {
+    for v in 0..32 {
         if room[v] {
             return v;
         }
-        v += 1;
     }
-    v
+    32
 }
 
 // The first edge outside the plan with room at both ends, m if there is none.
@@ -68,16 +66,14 @@ pub fn direct(
         (λ f. not (flag plan.now f) && (flag fs.now (at sv.now f) && flag ft.now (at st.now f)))
         m }
 {
-    let mut f = 0;
-    while f < m {
+    for f in 0..m {
         let s = sv[f] as usize;
         let t = st[f] as usize;
         if !plan[f] & (fs[s] & ft[t]) {
             return f;
         }
-        f += 1;
     }
-    f
+    m
 }
 
 // The row of starts at place i.

@@ -49,9 +49,7 @@ fn nexts_row(arcs: &[u8; 4096], i: usize) -> [u8; 64]
 {
     let mut o = [64u8; 64];
     let mut next = 64u8;
-    let mut y = 64;
-    while y > 0 {
-        y -= 1;
+    for y in (0..64).rev() {
         o[y] = next;
         if arcs[i * 64 + y] < 133 {
             next = y as u8;

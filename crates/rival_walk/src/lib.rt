@@ -169,10 +169,9 @@ pub fn walk(
     let table = columns(n, arcs, j, last);
     let mut gone = start.gone;
     let mut come = start.come;
-    let mut k = l;
     let mut c = i;
-    while k > 0 {
-        let a = lead(n, arcs, &table, k - 1, c);
+    for k in (0..l).rev() {
+        let a = lead(n, arcs, &table, k, c);
         let y = a.place;
         if y < n {
             let x = es[c] as usize;
@@ -182,7 +181,6 @@ pub fn walk(
             come[f] = true;
             c = y;
         }
-        k -= 1;
     }
     let x = es[c] as usize;
     let z = es[j] as usize;

@@ -32,4 +32,4 @@ pub returns : goal.returns
 returns c =
     let a = c.args in
     let e : c.loop-i.i ≡ a.n = omega arith in
-    sym c.loop-i.invariant.1 ∙ ap (low (λ i. ltb (lowered_at (cell a.d.now) (cell a.e.now) a.n i) a.n)) e
+    sym e ∙ sym c.loop-i.invariant.1 ∙ ap (low (λ i. ltb (lowered_at (cell a.d.now) (cell a.e.now) a.n i) a.n)) e

@@ -27,4 +27,4 @@ pub returns : goal.returns
 returns c =
     let a = c.args in
     let e : c.loop-i.i ≡ a.n = omega arith in
-    sym c.loop-i.invariant.1 ∙ ap (low (λ i. ltb (cell a.d.now i i) a.bound)) e
+    sym e ∙ sym c.loop-i.invariant.1 ∙ ap (low (λ i. ltb (cell a.d.now i i) a.bound)) e

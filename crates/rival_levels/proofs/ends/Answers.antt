@@ -38,4 +38,4 @@ pub returns : goal.returns
 returns c =
     let a = c.args in
     let e : c.loop-j.j ≡ a.n = omega arith in
-    sym c.loop-j.invariant.1 ∙ ap (low (λ j. ltb (at a.d.now (a.b + j) + at a.terminals.now (a.b + j)) a.bound)) e
+    sym e ∙ sym c.loop-j.invariant.1 ∙ ap (low (λ j. ltb (at a.d.now (a.b + j) + at a.terminals.now (a.b + j)) a.bound)) e

@@ -34,4 +34,4 @@ pub returns : goal.returns
 returns c =
     let a = c.args in
     let e : c.loop-j.j ≡ a.n = omega arith in
-    sym c.loop-j.invariant.1 ∙ ap (low (λ j. ltb (at a.e.now (a.b + j)) (kept_price (at a.d.now (a.b + j))))) e
+    sym e ∙ sym c.loop-j.invariant.1 ∙ ap (low (λ j. ltb (at a.e.now (a.b + j)) (kept_price (at a.d.now (a.b + j))))) e

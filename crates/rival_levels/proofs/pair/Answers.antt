@@ -45,4 +45,4 @@ pub returns : goal.returns
 returns c =
     let a = c.args in
     let e : c.loop-i.i ≡ a.n = omega arith in
-    (sym c.loop-i.invariant.1 ∙ ap (low (λ i. ltb (ends_at (cell a.d.now) a.terminals.now a.n a.bound i) a.n)) e, λ h. absurd (omega arith))
+    (sym e ∙ sym c.loop-i.invariant.1 ∙ ap (low (λ i. ltb (ends_at (cell a.d.now) a.terminals.now a.n a.bound i) a.n)) e, λ h. absurd (omega arith))

@@ -40,4 +40,4 @@ pub returns : goal.returns
 returns c =
     let a = c.args in
     let e : c.loop-f.f ≡ a.m = omega arith in
-    sym c.loop-f.invariant.1 ∙ ap (low (λ f. not (flag a.plan.now f) && (flag a.fs.now (at a.sv.now f) && flag a.ft.now (at a.st.now f)))) e
+    sym e ∙ sym c.loop-f.invariant.1 ∙ ap (low (λ f. not (flag a.plan.now f) && (flag a.fs.now (at a.sv.now f) && flag a.ft.now (at a.st.now f)))) e

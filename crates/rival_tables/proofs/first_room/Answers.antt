@@ -19,4 +19,4 @@ loop-v-preserved c =
 pub returns : goal.returns
 returns c =
     let e : c.loop-v.v ≡ 32 = omega arith in
-    sym c.loop-v.invariant.1 ∙ ap (low (flag c.args.room.now)) e
+    sym e ∙ sym c.loop-v.invariant.1 ∙ ap (low (flag c.args.room.now)) e

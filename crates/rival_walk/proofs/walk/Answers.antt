@@ -1,12 +1,12 @@
 -- What is marked, and what the walk from c still names, are what the whole walk names.
-use Rattle.std.proofs.Common.{◌≡◌, refl, ap, ◌∙◌, subst, ℕ, ◌-◌, arith, true, length, length-set, rules}
+use Rattle.std.proofs.Common.{◌≡◌, refl, ap, ◌∙◌, subst, ℕ, ◌-◌, arith, true, length-set, rules}
 use Rattle.rival_walk.specs.Leads.{Column, layer_small, lead_cong}
 use Rattle.rival_walk.specs.Edges.{arc_edge}
 use Rattle.arrays.specs.ArrayInstance.{at}
 use Rattle.rival_tables.specs.Filled.{cell}
 use Rattle.rival_levels.specs.Layers.{layer_at}
 use Rattle.rival_walk.specs.Walks.{ahead, read_on, read_stay, read_last}
-use Rattle.rival_walk.proofs.walk.Goals.{Joined-l-gt0, After-columns-table, else-l-gt0, else-y-n, then-l-gt0, then-y-n}
+use Rattle.rival_walk.proofs.walk.Goals.{Joined-l-gt0, After-columns-table, After-lead-a, else-l-gt0, then-l-gt0}
 use Rattle.rival_walk.proofs.walk.Goals as goal
 
 -- the level below l, if there is one
@@ -66,39 +66,47 @@ pub bounds-gone-z : goal.bounds-gone-z
 bounds-gone-z c =
     omega (arith, c.requires.2 c.lead-a.result.place c.if-y-n.true)
 
+-- what the table tells is what the walk goes by
+is_ahead : (c : After-lead-a) → let a = c.args in Column a.arcs.now a.n a.j (a.l - 1) c.columns-table.result
+    → c.lead-a.result.place ≡ ahead (arc_edge a.m a.sv.now a.st.now a.rs.now a.rt.now a.plan.now) a.es.now a.arcs.now a.n a.j (c.loop-k.k - 1) c.loop-k.c
+is_ahead c below =
+    let a = c.args in
+    let k = c.loop-k.k in
+    ap (λ r. r.1) c.lead-a.ensures
+    ∙ ap (λ r. r.1)
+    (lead_cong a.arcs.now a.n (cell c.columns-table.result (k - 1)) (λ y. layer_at a.arcs.now a.n (k - 1) y a.j) c.loop-k.c
+    c.loop-k.invariant.1 (λ y h. below (k - 1) y (omega arith) h))
+
+pub loop-k-preserved-then-y-n : goal.loop-k-preserved-then-y-n
+loop-k-preserved-then-y-n c =
+    let a = c.args in
+    let k = c.loop-k.k in
+    let y = c.lead-a.result.place in
+    let is = is_ahead (goal.at.loop-k-preserved-then-y-n c).After-lead-a (column (goal.at.loop-k-preserved-then-y-n c).After-columns-table) in (
+      omega arith,
+      c.if-y-n.true,
+      length-set c.loop-k.gone (at a.es.now y) true ∙ c.loop-k.invariant.2,
+      length-set c.loop-k.come c.arc_edge-f.result true ∙ c.loop-k.invariant.3,
+      read_on (arc_edge a.m a.sv.now a.st.now a.rs.now a.rt.now a.plan.now) a.es.now a.arcs.now a.n a.j a.l
+          a.i a.start.gone a.start.come c.loop-k.gone c.loop-k.come k c.loop-k.c y c.loop-k.invariant.4 (omega (arith, c.loop-k-test.true)) is _
+          _ _ c.arc_edge-f.result c.if-y-n.true (omega (arith, c.requires.2 y c.if-y-n.true, c.loop-k.invariant.2)) c.arc_edge-f.ensures.0
+          (omega (arith, c.arc_edge-f.ensures.1, c.loop-k.invariant.3)) refl refl refl,
+    )
+
 pub loop-k-preserved : goal.loop-k-preserved
 loop-k-preserved c =
     let a = c.args in
     let k = c.loop-k.k in
-    let live = c.loop-k-test.true in
     let y = c.lead-a.result.place in
-    let is : y ≡ ahead (arc_edge a.m a.sv.now a.st.now a.rs.now a.rt.now a.plan.now) a.es.now a.arcs.now a.n a.j
-    (k - 1) c.loop-k.c =
-    ap (λ r. r.1) c.lead-a.ensures
-    ∙ ap (λ r. r.1)
-    (lead_cong a.arcs.now a.n (cell c.columns-table.result (k - 1)) (λ y. layer_at a.arcs.now a.n (k - 1) y a.j) c.loop-k.c
-    c.loop-k.invariant.1 (λ y h. column (goal.at.loop-k-preserved c).After-columns-table (k - 1) y (omega arith) h)) in
-    elim c.if-y-n.branch [
-      | then-y-n w ↦ (
-        omega arith,
-        omega (arith, w.if-y-n.true, w.c-is),
-        ap length w.gone-is ∙ length-set c.loop-k.gone (at a.es.now y) true ∙ c.loop-k.invariant.2,
-        ap length w.come-is ∙ length-set c.loop-k.come w.arc_edge-f.result true ∙ c.loop-k.invariant.3,
-        read_on (arc_edge a.m a.sv.now a.st.now a.rs.now a.rt.now a.plan.now) a.es.now a.arcs.now a.n a.j a.l
-            a.i a.start.gone a.start.come c.loop-k.gone c.loop-k.come k c.loop-k.c y c.loop-k.invariant.4 (omega (arith, live)) is c.if-y-n.gone
-            c.if-y-n.come c.if-y-n.c w.arc_edge-f.result w.if-y-n.true (omega (arith, c.requires.2 y w.if-y-n.true, c.loop-k.invariant.2)) w.arc_edge-f.ensures.0
-            (omega (arith, w.arc_edge-f.ensures.1, c.loop-k.invariant.3)) w.gone-is w.come-is w.c-is,
-      )
-      | else-y-n w ↦ (
-        omega arith,
-        omega (arith, c.loop-k.invariant.1, w.c-is),
-        ap length w.gone-is ∙ c.loop-k.invariant.2,
-        ap length w.come-is ∙ c.loop-k.invariant.3,
-        read_stay (arc_edge a.m a.sv.now a.st.now a.rs.now a.rt.now a.plan.now) a.es.now a.arcs.now a.n a.j a.l
-            a.i a.start.gone a.start.come c.loop-k.gone c.loop-k.come k c.loop-k.c y c.loop-k.invariant.4 (omega (arith, live)) is c.if-y-n.gone
-            c.if-y-n.come c.if-y-n.c w.if-y-n.false w.gone-is w.come-is w.c-is,
-      )
-    ]
+    let is = is_ahead (goal.at.loop-k-preserved c).After-lead-a (column (goal.at.loop-k-preserved c).After-columns-table) in (
+      omega arith,
+      c.loop-k.invariant.1,
+      c.loop-k.invariant.2,
+      c.loop-k.invariant.3,
+      read_stay (arc_edge a.m a.sv.now a.st.now a.rs.now a.rt.now a.plan.now) a.es.now a.arcs.now a.n a.j a.l
+          a.i a.start.gone a.start.come c.loop-k.gone c.loop-k.come k c.loop-k.c y c.loop-k.invariant.4 (omega (arith, c.loop-k-test.true)) is _
+          _ _ c.if-y-n.false refl refl refl,
+    )
 
 pub overflow_cast-x-2 : goal.overflow_cast-x-2
 overflow_cast-x-2 c = omega (arith, c.requires.2 c.loop-k.c c.loop-k.invariant.1)
