@@ -35,7 +35,7 @@ pub fn joined(
     let mut j = first[v] as usize;
     while j < 64 {
         let p = a + vote_ranks::rated(rps[j], r);
-        row[j] = rival_tables::lesser(p, row[j]);
+        row[j] = p.min(row[j]);
         j = after[j] as usize;
     }
 }

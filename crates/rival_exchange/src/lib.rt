@@ -209,7 +209,7 @@ pub fn swap(
     fs: &[bool; 32],
     ft: &[bool; 32],
     arcs: &[u8; 4096],
-    found: Found,
+    found: Option<Found>,
 ) -> Swap
     requires { (m ≤ entry_limit) × (n ≤ plan_limit) × Low m sv.now node_limit × Low m st.now node_limit × Low n es.now m × Small n arcs.now
         × Bounded m n found × Linked m sv.now hs.now ls.now × Linked m st.now ht.now lt.now }
@@ -224,8 +224,10 @@ pub fn swap(
         gone: [false; ENTRY_LIMIT],
         come: [false; ENTRY_LIMIT],
     };
-    match found {
-        Found::Nothing => blank,
+    let Some(place) = found else {
+        return blank;
+    };
+    match place {
         Found::Direct(f) => Swap {
             gone: [false; ENTRY_LIMIT],
             come: gained([false; ENTRY_LIMIT], m, f),

@@ -83,8 +83,7 @@ pub fn apart(
         (at pe.now i) (at pr.now i) (at po.now j)) }
 {
     let mut o = [3u8; 4096];
-    let roomy = rival_tables::first_room(room);
-    if roomy >= 32 {
+    if rival_tables::first_room(room).is_none() {
         return o;
     }
     for i in 0..n {
@@ -130,7 +129,7 @@ pub fn least_rates(
         let ok = !plan[f] & room[v];
         if ok {
             let p = vote_ranks::rated(b, rank[f]);
-            all = rival_tables::lesser(p, all);
+            all = p.min(all);
             apart = rival_tables::offered(!(o == d), p, apart);
         }
         f = next[f] as usize;
@@ -161,8 +160,7 @@ pub fn gains(
         (at pe.now i) (at pr.now i)) n }
 {
     let mut o = [6u8; 64];
-    let roomy = rival_tables::first_room(room);
-    if roomy >= 32 {
+    if rival_tables::first_room(room).is_none() {
         return o;
     }
     for i in 0..n {

@@ -3,3 +3,4 @@ pub mod Cheapest
 pub mod Filled
 pub mod Terminals
 pub mod Visits
+pub mod Within

@@ -12,6 +12,7 @@ ghost use Rattle.arrays.specs.Filled.{Made};
 ghost use Rattle.rival_tables.specs.Terminals.{terminal_at, Rates};
 ghost use Rattle.lists.specs.Sum.{count};
 ghost use Rattle.lists.specs.Search.{low};
+ghost use Rattle.rival_tables.specs.Within.{if_below};
 
 use limits::ENTRY_LIMIT;
 
@@ -40,19 +41,19 @@ pub fn rooms(n: usize, nodes: &[u8; 64], quota: &[u8; 32]) -> [bool; 32]
     o
 }
 
-// The first node with room, 32 if there is none.
-pub fn first_room(room: &[bool; 32]) -> usize
-    ensures { result ≡ low (flag room.now) 32 }
+// The first node with room.
+pub fn first_room(room: &[bool; 32]) -> Option<usize>
+    ensures { result ≡ if_below 32 (low (flag room.now) 32) }
 {
     for v in 0..32 {
         if room[v] {
-            return v;
+            return Some(v);
         }
     }
-    32
+    None
 }
 
-// The first edge outside the plan with room at both ends, m if there is none.
+// The first edge outside the plan with room at both ends.
 pub fn direct(
     m: usize,
     sv: &[u8; ENTRY_LIMIT],
@@ -60,20 +61,18 @@ pub fn direct(
     plan: &[bool; ENTRY_LIMIT],
     fs: &[bool; 32],
     ft: &[bool; 32],
-) -> usize
+) -> Option<usize>
     requires { (m ≤ entry_limit) × Low m sv.now node_limit × Low m st.now node_limit }
-    ensures { result ≡ low
-        (λ f. not (flag plan.now f) && (flag fs.now (at sv.now f) && flag ft.now (at st.now f)))
-        m }
+    ensures { result ≡ if_below m (low (λ f. not (flag plan.now f) && (flag fs.now (at sv.now f) && flag ft.now (at st.now f))) m) }
 {
     for f in 0..m {
         let s = sv[f] as usize;
         let t = st[f] as usize;
         if !plan[f] & (fs[s] & ft[t]) {
-            return f;
+            return Some(f);
         }
     }
-    m
+    None
 }
 
 // The row of starts at place i.
@@ -90,10 +89,10 @@ pub fn terminal_row(
 {
     let mut o = [0u8; 64];
     for j in 0..n {
-        let a = lesser(starts[i * 64 + j], stops[j * 64 + i]);
+        let a = starts[i * 64 + j].min(stops[j * 64 + i]);
         let b = a + 3;
         let c = gs[i] + gt[j];
-        o[j] = lesser(b, c);
+        o[j] = b.min(c);
     }
     o
 }
@@ -117,18 +116,11 @@ pub fn terminals(
     o
 }
 
-// The lesser of two.
-pub fn lesser(a: u8, b: u8) -> u8
-    ensures { result ≡ min a b }
-{
-    if a < b { a } else { b }
-}
-
 // What is held, or a lower price if it may come.
 pub fn offered(t: bool, p: u8, v: u8) -> u8
     ensures { result ≡ offer t p v }
 {
-    let l = lesser(p, v);
+    let l = p.min(v);
     if t { l } else { v }
 }
 

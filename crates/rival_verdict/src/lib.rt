@@ -12,17 +12,29 @@ ghost use Rattle.rival_levels.specs.Layers.{Small, Cheap};
 ghost use Rattle.rival_levels.specs.Levels.{SmallEnds};
 ghost use Rattle.rival_search.specs.SearchView.{Lists, free_at};
 ghost use Rattle.rival_verdict.specs.RivalOfArrays.{RivalShown, ShownFor, NodesAt, RivalOn};
-ghost use Rattle.rival_verdict.specs.Judged.{verdict_for, is_something};
+ghost use Rattle.rival_verdict.specs.Judged.{verdict_for, standing_of};
 
 use limits::ENTRY_LIMIT;
+use rival_search::Hunt;
 
-// Whether something was found at all.
-pub fn is_something(found: rival_levels::Found) -> bool
-    ensures { result ≡ is_something found }
-{
-    match found {
-        rival_levels::Found::Nothing => false,
-        _ => true,
+// A plan is strong if no other draws with it, popular if none beats it.
+#[derive(Clone, Copy)]
+pub enum Standing {
+    Strong,
+    Popular,
+    Beaten,
+}
+
+impl Standing {
+    // By what the searches found: something below 0 beats the plan, something below 1 draws with it.
+    pub fn of(hunt: Hunt) -> Standing
+        ensures { result ≡ standing_of hunt }
+    {
+        match hunt {
+            Hunt::Win(_) => Standing::Beaten,
+            Hunt::Draw(_) => Standing::Popular,
+            Hunt::Nothing => Standing::Strong,
+        }
     }
 }
 
@@ -43,12 +55,10 @@ pub fn exchanged(
     o
 }
 
-// Beaten: something was found below 0; rivalled: below 0, or else below 1. A plan that is not rivalled is strong, and its rival is the
-// plan itself.
+// How a plan stands, and its rival: that of a strong plan is the plan itself.
 #[derive(Drop)]
 pub struct Judged {
-    pub beaten: bool,
-    pub rivalled: bool,
+    pub standing: Standing,
     pub rival: [bool; ENTRY_LIMIT],
 }
 
@@ -76,11 +86,10 @@ fn judged_by_arcs(
         × Small n arcs.now × Cheap n arcs.now × SmallEnds n ends.now
         × Linked m sv.now hs.now ls.now × Linked m st.now ht.now lt.now }
     ensures { RivalOn m sv.now st.now rs.now rt.now plan.now fs.now
-        ft.now n es.now arcs.now ends.now result.beaten result.rivalled result.rival }
+        ft.now n es.now arcs.now ends.now result.standing result.rival }
 {
-    let h = rival_search::searched_on(n, arcs, ends);
-    let found = h.found;
-    let rivalled = is_something(found);
+    let hunt = rival_search::searched_on(n, arcs, ends);
+    let found = hunt.find();
     let s = rival_exchange::swap(
         m, sv, st, rs, rt, plan, hs, ls, ht, lt, n, es, fs, ft, arcs, found,
     );
@@ -88,8 +97,7 @@ fn judged_by_arcs(
     let come = s.come;
     let rival = exchanged(m, plan, &gone, &come);
     Judged {
-        beaten: h.below,
-        rivalled: rivalled,
+        standing: Standing::of(hunt),
         rival: rival,
     }
 }
@@ -120,18 +128,16 @@ fn judged_by_tables(
         × (m ≤ low (free_at sv.now st.now plan.now fs.now ft.now) m) }
     ensures { ShownFor m sv.now st.now rs.now rt.now plan.now n ps.now
         pt.now
-        fs.now ft.now (verdict_for result.beaten result.rivalled) result.rival }
+        fs.now ft.now (verdict_for result.standing) result.rival }
 {
-    let i = rival_search::alone(m, sv, st, rs, rt, plan, hs, ls, ht, lt, n, es, fs, ft);
-    if i < n {
+    if let Some(i) = rival_search::alone(m, sv, st, rs, rt, plan, hs, ls, ht, lt, n, es, fs, ft) {
         let x = es[i] as usize;
         let s = rival_exchange::ended(m, sv, st, rs, rt, plan, fs, ft, hs, ls, ht, lt, x, x);
         let gone = s.gone;
         let come = s.come;
         let rival = exchanged(m, plan, &gone, &come);
         return Judged {
-            beaten: true,
-            rivalled: true,
+            standing: Standing::Beaten,
             rival: rival,
         };
     }
@@ -167,16 +173,14 @@ pub fn judged_on(
         × Low plan_limit ps.now node_limit × Low plan_limit pt.now node_limit }
     ensures { ShownFor m sv.now st.now rs.now rt.now plan.now n ps.now
         pt.now
-        fs.now ft.now (verdict_for result.beaten result.rivalled) result.rival }
+        fs.now ft.now (verdict_for result.standing) result.rival }
 {
-    let f = rival_tables::direct(m, sv, st, plan, fs, ft);
-    if f < m {
+    if let Some(f) = rival_tables::direct(m, sv, st, plan, fs, ft) {
         let gone = [false; ENTRY_LIMIT];
         let come = rival_exchange::gained([false; ENTRY_LIMIT], m, f);
         let rival = exchanged(m, plan, &gone, &come);
         return Judged {
-            beaten: true,
-            rivalled: true,
+            standing: Standing::Beaten,
             rival: rival,
         };
     }
@@ -205,7 +209,7 @@ pub fn judge(
     requires { (m ≤ entry_limit) × (n ≤ plan_limit) × Low m sv.now node_limit × Low m st.now node_limit × Lists m plan.now n es.now }
     ensures { RivalShown m sv.now st.now rs.now rt.now bs.now bt.now
         plan.now
-        (verdict_for result.beaten result.rivalled) result.rival }
+        (verdict_for result.standing) result.rival }
 {
     let ps = rival_tables::gathered(n, es, sv);
     let pt = rival_tables::gathered(n, es, st);

@@ -12,35 +12,36 @@ ghost use Rattle.rival_walk.specs.Edges.{arc_edge};
 ghost use Rattle.rival_walk.specs.Walks.{walk_at, Walked};
 ghost use Rattle.arrays.specs.Filled.{Made};
 ghost use Rattle.rival_tables.specs.Filled.{cell};
+ghost use Rattle.rival_tables.specs.Within.{if_below};
 
 use limits::ENTRY_LIMIT;
 
-// The price of the next layer, and the place that the walk leads to first; n if it is the walk of the layer before.
+// The price of the next layer, and the place that the walk leads to first, if it is not the walk of the layer before.
 #[derive(Drop)]
 pub struct Way {
     pub price: u8,
-    pub place: usize,
+    pub place: Option<usize>,
 }
 
 // From place i, where row k of the table is the column of the layer before.
 pub fn lead(n: usize, arcs: &[u8; 4096], table: &[u8; 4096], k: usize, i: usize) -> Way
     requires { (n ≤ plan_limit) × (i < n) × (k < 64) × Small n arcs.now × ((y : ℕ) → y < n → cell table.now k y ≤ 133) }
-    ensures { ◌≡◌ {A = ℕ × ℕ} (result.price, result.place) (lead_at arcs.now n (cell table.now k) i) }
+    ensures { (result.price ≡ (lead_at arcs.now n (cell table.now k) i).0) × (result.place ≡ if_below n (lead_at arcs.now n (cell table.now k) i).1) }
 {
     let b = i * 64;
     let c = k * 64;
-    let mut v = rival_tables::lesser(133, table[c + i] + 2) as usize;
-    let mut p = n;
+    let mut v = 133u8.min(table[c + i] + 2) as usize;
+    let mut place = None;
     for y in 0..n {
         let s = arcs[b + y] as usize + table[c + y] as usize;
         if s < v {
             v = s;
-            p = y;
+            place = Some(y);
         }
     }
     Way {
         price: v as u8,
-        place: p,
+        place,
     }
 }
 
@@ -51,11 +52,11 @@ fn price(n: usize, arcs: &[u8; 4096], table: &[u8; 4096], k: usize, i: usize) ->
 {
     let b = i * 64;
     let c = k * 64;
-    let mut v = rival_tables::lesser(133, table[c + i] + 2);
+    let mut v = 133u8.min(table[c + i] + 2);
     for y in 0..n {
         let onward = table[c + y];
-        let a = rival_tables::lesser(arcs[b + y], 255 - onward);
-        v = rival_tables::lesser(a + onward, v);
+        let a = arcs[b + y].min(255 - onward);
+        v = (a + onward).min(v);
     }
     v
 }
@@ -171,9 +172,7 @@ pub fn walk(
     let mut come = start.come;
     let mut c = i;
     for k in (0..l).rev() {
-        let a = lead(n, arcs, &table, k, c);
-        let y = a.place;
-        if y < n {
+        if let Some(y) = lead(n, arcs, &table, k, c).place {
             let x = es[c] as usize;
             let z = es[y] as usize;
             let f = arc_edge(m, sv, st, rs, rt, plan, ht, lt, x, z);

@@ -9,6 +9,7 @@ ghost use Rattle.arrays.specs.ArrayInstance.{flag};
 ghost use Rattle.instance.specs.Decoded.{shown_by};
 ghost use Rattle.instance.specs.Loaded.{Loaded};
 ghost use Rattle.plan_lookup.specs.PlanEdges as edges;
+ghost use Rattle.rival_verdict.specs.Judged.{is_beaten};
 ghost use Rattle.verdict.specs.Weighing.{Shows, WeighedFor, RivalFor, PairedFor};
 ghost use Rattle.verdict.specs.RivalWritten.{Voted};
 ghost use Rattle.answers.specs.declared.Verdict.TheVariants.{Popular, Beaten};
@@ -17,6 +18,7 @@ use answers::Verdict;
 use instance::Instance;
 use limits::ENTRY_LIMIT;
 use plan_lookup::Listed;
+use rival_verdict::Standing;
 
 // the verdict, whether there is a rival, and where there is one its flags and the list of its edges
 #[derive(Drop)]
@@ -55,13 +57,13 @@ pub(crate) fn voted(
 }
 
 // The verdict on a plan that has a rival: by whether that beats it, with the vote against it.
-pub(crate) fn verdict_with(beaten: bool, vote: i16) -> Verdict
-    ensures { result ≡ cond beaten (Beaten vote) (Popular vote) }
+pub(crate) fn verdict_with(standing: Standing, vote: i16) -> Verdict
+    ensures { result ≡ cond (is_beaten standing) (Beaten vote) (Popular vote) }
 {
-    if beaten {
-        return Verdict::Beaten(vote);
+    match standing {
+        Standing::Beaten => Verdict::Beaten(vote),
+        _ => Verdict::Popular(vote),
     }
-    Verdict::Popular(vote)
 }
 
 // A plan within the quotas, and the list of its edges.
@@ -84,7 +86,7 @@ pub fn weighed(
     let bt = g.quota_t;
     let j = rival_verdict::judge(g.m, &sv, &st, &rs, &rt, &bs, &bt, plan, n, es);
     let rival = j.rival;
-    if !(j.beaten | j.rivalled) {
+    if let Standing::Strong = j.standing {
         return WithRival {
             verdict: Verdict::Strong,
             rivalled: false,
@@ -103,7 +105,7 @@ pub fn weighed(
     };
     let vote = voted(g, plan, n, es, &rival, again, out);
     WithRival {
-        verdict: verdict_with(j.beaten, vote),
+        verdict: verdict_with(j.standing, vote),
         rivalled: true,
         rival: rival,
         listed: listed,
@@ -122,7 +124,10 @@ pub fn is_strong(g: Instance, plan: &[bool; ENTRY_LIMIT], n: usize, es: &[u16; 6
     let bs = g.quota_s;
     let bt = g.quota_t;
     let j = rival_verdict::judge(g.m, &sv, &st, &rs, &rt, &bs, &bt, plan, n, es);
-    !(j.beaten | j.rivalled)
+    match j.standing {
+        Standing::Strong => true,
+        _ => false,
+    }
 }
 
 // The verdict alone, for the finder.

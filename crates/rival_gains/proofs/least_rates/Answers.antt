@@ -36,7 +36,7 @@ loop-f-preserved c end L =
     c.loop-f-test.true here
     (elim c.if-ok.branch [
       | then-ok w ↦ held_as a.m end a.other.now a.rank.now a.plan.now a.room.now a.e a.b a.d (f + 1)
-          (w.all-is ∙ w.lesser-all.ensures ∙ ap (λ p. min p c.loop-f.all) w.rated-p.ensures.0)
+          (w.all-is ∙ w.min-all.ensures ∙ ap (λ p. min p c.loop-f.all) w.rated-p.ensures.0)
           (w.apart-is ∙ w.offered-apart.ensures ∙ ap (λ p. offer (not (eqb (at a.other.now f) a.d)) p c.loop-f.apart) w.rated-p.ensures.0)
           (held_turn a.m end a.other.now a.rank.now a.plan.now a.room.now a.e a.b a.d c.loop-f.all c.loop-f.apart f
           c.loop-f-test.true (is ∙ w.if-ok.true) G.holds)

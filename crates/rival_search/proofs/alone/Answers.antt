@@ -1,17 +1,21 @@
 -- No node has room, and all prices are 6; or no edge before place i is better exchanged alone.
 use Rattle.std.proofs.Common.{◌≡◌, refl, sym, ap, ◌∙◌, ◌<◌, zero-le, arith, ltb, lt-ltb, le-ltb}
 use Rattle.lists.specs.Search.{low, low_hit, low_miss}
-use Rattle.arrays.specs.ArrayInstance.{at}
+use Rattle.arrays.specs.ArrayInstance.{at, flag}
+use Rattle.rival_tables.specs.Within.{some_below, none_below, none_is_below}
 use Rattle.rival_search.specs.SearchView.{alone_price, alone_at, alone_full}
 use Rattle.rival_search.proofs.alone.Goals.{In-loop-i}
 use Rattle.rival_search.proofs.alone.Goals as goal
 
-pub returns-then-roomy_t-ge32 : goal.returns-then-roomy_t-ge32
-returns-then-roomy_t-ge32 c =
+pub returns-then-is_none-2 : goal.returns-then-is_none-2
+returns-then-is_none-2 c =
     let a = c.args in
-    sym
-    (alone_full a.m a.sv.now a.st.now a.rs.now a.rt.now a.plan.now a.fs.now a.ft.now a.es.now a.n c.requires.2
-    c.requires.3 (omega (arith, c.if-roomy_s-ge32.true, c.first_room-roomy_s.ensures)) (omega (arith, c.if-roomy_t-ge32.true, c.first_room-roomy_t.ensures)))
+    none_below a.n (alone_at a.m a.sv.now a.st.now a.rs.now a.rt.now a.plan.now a.fs.now a.ft.now a.es.now a.n)
+    (omega (
+      arith,
+      alone_full a.m a.sv.now a.st.now a.rs.now a.rt.now a.plan.now a.fs.now a.ft.now a.es.now a.n c.requires.2
+          c.requires.3 (none_is_below 32 (low (flag a.fs.now) 32) c.if-is_none.ensures c.first_room.ensures) (none_is_below 32 (low (flag a.ft.now) 32) c.if-is_none-2.ensures c.first_room-then-is_none.ensures),
+    ))
 
 pub loop-i-init : goal.loop-i-init
 unfolding low
@@ -28,9 +32,10 @@ pub returns-then-price-lt4 : goal.returns-then-price-lt4
 returns-then-price-lt4 c =
     let a = c.args in
     let p = c.alone_price-price in
-    sym
+    some_below a.n c.loop-i.i (alone_at a.m a.sv.now a.st.now a.rs.now a.rt.now a.plan.now a.fs.now a.ft.now a.es.now a.n)
+    (sym
     (low_hit (λ i. ltb (alone_price a.m a.sv.now a.st.now a.rs.now a.rt.now a.plan.now a.fs.now a.ft.now (at a.es.now i)) 4)
-    c.loop-i.i a.n c.loop-i.invariant.1 (ap (λ z. ltb z 4) (sym p.ensures) ∙ lt-ltb p.result 4 c.if-price-lt4.true) c.loop-i-test.true)
+    c.loop-i.i a.n c.loop-i.invariant.1 (ap (λ z. ltb z 4) (sym p.ensures) ∙ lt-ltb p.result 4 c.if-price-lt4.true) c.loop-i-test.true)) (omega arith)
 
 pub loop-i-preserved : goal.loop-i-preserved
 loop-i-preserved c =
@@ -45,8 +50,8 @@ pub returns : goal.returns
 returns c =
     let a = c.args in
     let e : c.loop-i.i ≡ a.n = omega (arith, c.loop-i-test.false, c.loop-i.invariant.0) in
-    sym e ∙ sym c.loop-i.invariant.1
-    ∙ ap (alone_at a.m a.sv.now a.st.now a.rs.now a.rt.now a.plan.now a.fs.now a.ft.now a.es.now) e
+    none_below a.n (alone_at a.m a.sv.now a.st.now a.rs.now a.rt.now a.plan.now a.fs.now a.ft.now a.es.now a.n)
+    (omega (arith, e, c.loop-i.invariant.1, ap (alone_at a.m a.sv.now a.st.now a.rs.now a.rt.now a.plan.now a.fs.now a.ft.now a.es.now) e))
 
 pub overflow_cast-es : goal.overflow_cast-es
 overflow_cast-es c = omega (arith, edge (goal.at.overflow_cast-es c).In-loop-i, c.requires.0)

@@ -32,10 +32,10 @@ pub returns : goal.returns
 returns c =
     let x = c.least_rates-a.ensures c.args.sv.now c.requires.4 in
     let y = c.least_rates-b.ensures c.args.st.now c.requires.5 in
-    c.lesser.ensures ∙ ap₂ (λ p q. min (p + 3) q) (c.lesser-apart.ensures ∙ ap₂ min x.1 y.1) (ap₂ (λ p q. p + q) x.0 y.0)
+    c.min.ensures ∙ ap₂ (λ p q. min (p + 3) q) (c.min-apart.ensures ∙ ap₂ min x.1 y.1) (ap₂ (λ p q. p + q) x.0 y.0)
 
 pub overflow_add-apart : goal.overflow_add-apart
-overflow_add-apart c = omega (arith, c.lesser-apart.ensures, (small (goal.at.overflow_add-apart c).After-least_rates-b).0)
+overflow_add-apart c = omega (arith, c.min-apart.ensures, (small (goal.at.overflow_add-apart c).After-least_rates-b).0)
 
 pub overflow_add-a : goal.overflow_add-a
 overflow_add-a c = let s = small (goal.at.overflow_add-a c).After-least_rates-b in omega (arith, s.1, s.2)

@@ -1,18 +1,20 @@
 -- No node has room; or the least rates at starts and ends, put together.
 use Rattle.std.proofs.Common.{sym, ap₂, ◌∙◌, ℕ, ◌+◌, ◌*◌, min, arith, List}
 use lib.ListN.{get_or-replicate}
-use Rattle.arrays.specs.ArrayInstance.{at}
+use Rattle.arrays.specs.ArrayInstance.{at, flag}
+use Rattle.lists.specs.Search.{low}
+use Rattle.rival_tables.specs.Within.{none_is_below}
 use Rattle.rival_search.specs.SearchView.{full_cell, ends_ranked, but_small, gain_small}
 use Rattle.rival_search.proofs.terminal_table.Goals as goal
 
-pub returns-then-roomy_t-ge32 : goal.returns-then-roomy_t-ge32
-returns-then-roomy_t-ge32 c =
+pub returns-then-is_none-2 : goal.returns-then-is_none-2
+returns-then-is_none-2 c =
     let a = c.args in
     λ rps rpt rank_s rank_t i j h k. get_or-replicate 4096 (i * 64 + j) 6 0 (omega (arith, c.requires.1, h, k))
     ∙ sym
     (full_cell a.m a.sv.now a.st.now a.rs.now a.rt.now a.plan.now a.fs.now a.ft.now a.ps.now a.pt.now rps rpt
-    c.requires.2 c.requires.3 (omega (arith, c.if-roomy_s-ge32.true, c.first_room-roomy_s.ensures))
-    (omega (arith, c.if-roomy_t-ge32.true, c.first_room-roomy_t.ensures)) i j)
+    c.requires.2 c.requires.3 (none_is_below 32 (low (flag a.fs.now) 32) c.if-is_none.ensures c.first_room.ensures)
+    (none_is_below 32 (low (flag a.ft.now) 32) c.if-is_none-2.ensures c.first_room-then-is_none.ensures) i j)
 
 pub gathered-rps-requires : goal.gathered-rps-requires
 gathered-rps-requires c = (c.requires.1, c.requires.8)

@@ -1,7 +1,8 @@
 -- No edge below f has room at both ends.
-use Rattle.std.proofs.Common.{◌≡◌, refl, sym, ap, ◌∙◌, not, ◌&&◌, zero-le, arith}
+use Rattle.std.proofs.Common.{◌≡◌, refl, sym, ap, not, ◌&&◌, zero-le, arith}
 use Rattle.arrays.specs.ArrayInstance.{at, flag}
 use Rattle.lists.specs.Search.{low, low_hit, low_miss}
+use Rattle.rival_tables.specs.Within.{some_below, none_below}
 use Rattle.rival_tables.proofs.direct.Goals as goal
 
 pub loop-f-init : goal.loop-f-init
@@ -24,9 +25,8 @@ bounds-ft-t c =
 pub returns-then-plan-f : goal.returns-then-plan-f
 returns-then-plan-f c =
     let a = c.args in
-    sym
-    (low_hit (λ f. not (flag a.plan.now f) && (flag a.fs.now (at a.sv.now f) && flag a.ft.now (at a.st.now f))) c.loop-f.f
-    a.m c.loop-f.invariant.1 c.if-plan-f.true (omega arith))
+    some_below a.m c.loop-f.f (low (λ f. not (flag a.plan.now f) && (flag a.fs.now (at a.sv.now f) && flag a.ft.now (at a.st.now f))) a.m)
+    (sym (low_hit (λ f. not (flag a.plan.now f) && (flag a.fs.now (at a.sv.now f) && flag a.ft.now (at a.st.now f))) c.loop-f.f a.m c.loop-f.invariant.1 c.if-plan-f.true (omega arith))) (omega arith)
 
 pub loop-f-preserved : goal.loop-f-preserved
 loop-f-preserved c =
@@ -40,4 +40,4 @@ pub returns : goal.returns
 returns c =
     let a = c.args in
     let e : c.loop-f.f ≡ a.m = omega arith in
-    sym e ∙ sym c.loop-f.invariant.1 ∙ ap (low (λ f. not (flag a.plan.now f) && (flag a.fs.now (at a.sv.now f) && flag a.ft.now (at a.st.now f)))) e
+    none_below a.m (low (λ f. not (flag a.plan.now f) && (flag a.fs.now (at a.sv.now f) && flag a.ft.now (at a.st.now f))) a.m) (omega (arith, e, c.loop-f.invariant.1, ap (low (λ f. not (flag a.plan.now f) && (flag a.fs.now (at a.sv.now f) && flag a.ft.now (at a.st.now f)))) e))

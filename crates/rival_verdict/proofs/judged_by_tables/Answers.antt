@@ -2,7 +2,8 @@
 use Rattle.std.proofs.Common.{arith}
 use Rattle.arrays.specs.ArrayInstance.{at}
 use Rattle.arrays.specs.Passes.{shows_at, Low}
-use Rattle.rival_search.specs.SearchView.{listed_low, Views}
+use Rattle.rival_search.specs.SearchView.{listed_low, Views, alone_at}
+use Rattle.rival_tables.specs.Within.{found_below}
 use Rattle.rival_search.specs.TwoThresholds.{tables_fine}
 use Rattle.rival_verdict.specs.RivalOfArrays.{alone_shown, tables_shown}
 use Rattle.rival_verdict.proofs.judged_by_tables.Goals.{Start, After-gathered-rpt}
@@ -12,8 +13,8 @@ use Rattle.rival_verdict.proofs.judged_by_tables.Goals as goal
 listed : (s : Start) → Low s.args.n s.args.es.now 1024
 listed s i h = omega (arith, listed_low s.args.m s.args.plan.now s.args.n s.args.es.now s.requires.4 i h, s.requires.0)
 
-pub alone-i-requires : goal.alone-i-requires
-alone-i-requires c = let p = c.requires in (
+pub alone-requires : goal.alone-requires
+alone-requires c = let p = c.requires in (
   p.0,
   p.1,
   p.2,
@@ -30,20 +31,22 @@ terminal_table-ends-requires c =
     (p.0, p.1, p.2, p.3, p.8, p.9, (λ i h. p.6 i (omega (arith, p.1, h))), (λ i h. p.7 i (omega (arith, p.1, h))), listed (goal.at.terminal_table-ends-requires c).Start)
 
 pub overflow_cast-x : goal.overflow_cast-x
-overflow_cast-x c = omega (arith, listed (goal.at.overflow_cast-x c).Start c.alone-i.result c.if-i-n.true)
+overflow_cast-x c = omega (arith, listed (goal.at.overflow_cast-x c).Start c.in-Some.i (found_below c.args.n c.in-Some.i (alone_at c.args.m c.args.sv.now c.args.st.now c.args.rs.now c.args.rt.now c.args.plan.now c.args.fs.now c.args.ft.now c.args.es.now c.args.n) c.in-Some.is c.alone.ensures).1)
 
 pub ended-s-requires : goal.ended-s-requires
 ended-s-requires c =
     let a = c.args in
-    let x = listed_low a.m a.plan.now a.n a.es.now c.requires.4 c.alone-i.result c.if-i-n.true in
+    let h = (found_below a.n c.in-Some.i (alone_at a.m a.sv.now a.st.now a.rs.now a.rt.now a.plan.now a.fs.now a.ft.now a.es.now a.n) c.in-Some.is c.alone.ensures).1 in
+    let x = listed_low a.m a.plan.now a.n a.es.now c.requires.4 c.in-Some.i h in
     (c.requires.0, c.requires.2, c.requires.3, c.requires.8, c.requires.9, x, x)
 
-pub returns-then-i-n : goal.returns-then-i-n
-returns-then-i-n c =
+pub returns-in-Some : goal.returns-in-Some
+returns-in-Some c =
     let a = c.args in
+    let (e, h) = found_below a.n c.in-Some.i (alone_at a.m a.sv.now a.st.now a.rs.now a.rt.now a.plan.now a.fs.now a.ft.now a.es.now a.n) c.in-Some.is c.alone.ensures in
     λ quota_s quota_t roomyS roomyT. alone_shown a.m a.sv.now a.st.now a.rs.now a.rt.now quota_s quota_t a.plan.now a.n
     a.es.now a.ps.now a.pt.now a.fs.now a.ft.now c.requires.1 c.requires.2 c.requires.3 c.requires.4 c.requires.5 roomyS roomyT c.requires.10
-    c.alone-i.result c.ended-s.result.gone c.ended-s.result.come c.exchanged-rival.result c.alone-i.ensures c.if-i-n.true
+    c.in-Some.i c.ended-s.result.gone c.ended-s.result.come c.exchanged-rival.result e h
     c.ended-s.ensures.0 c.ended-s.ensures.1 c.exchanged-rival.ensures
 
 pub gathered-rps-requires : goal.gathered-rps-requires
@@ -100,5 +103,5 @@ returns c =
     λ quota_s quota_t roomyS roomyT. tables_shown a.m a.sv.now a.st.now a.rs.now a.rt.now quota_s quota_t a.plan.now a.n
     a.es.now a.ps.now a.pt.now c.gathered-rps.result c.gathered-rpt.result a.fs.now a.ft.now c.requires.1 c.requires.2
     c.requires.3 c.requires.4 v roomyS roomyT c.requires.10 c.arcs-arcs.result e.result (c.arcs-arcs.ensures a.st.now c.requires.9)
-    (e.ensures c.gathered-rps.result c.gathered-rpt.result v.rs_at v.rt_at) r.result.beaten r.result.rivalled
+    (e.ensures c.gathered-rps.result c.gathered-rpt.result v.rs_at v.rt_at) r.result.standing
     r.result.rival r.ensures
