@@ -5,7 +5,7 @@
 ghost use Rattle.std.specs.Prelude.{◌≡◌, ◌⊎◌, ◌≤◌, ◌<◌, IfSome};
 ghost use Rattle.model.specs.Limits.{entry_limit, node_limit, plan_limit};
 ghost use Rattle.arrays.specs.Passes.{Low};
-ghost use Rattle.arrays.specs.Linked.{Linked};
+ghost use Rattle.rival_tables.specs.Links.{LinksOf};
 ghost use Rattle.rival_levels.specs.Layers.{Small, Cheap};
 ghost use Rattle.rival_levels.specs.Levels.{SmallEnds};
 ghost use Rattle.rival_certificate.specs.Certified.{Closed};
@@ -13,74 +13,86 @@ ghost use Rattle.rival_search.specs.SearchView.{EndsFor, alone_price, alone_at};
 ghost use Rattle.rival_search.specs.TwoThresholds.{places_at, found_in, OnTables};
 ghost use Rattle.rival_tables.specs.Within.{if_below};
 
+use instance::Instance;
 use limits::ENTRY_LIMIT;
 use rival_levels::Found;
+use rival_tables::{NodeLinks, Room};
 
 // The table of the ends, from the ends of the plan's edges and the room at the nodes. Where no node has room, as in every plan of 64 edges, nothing can be
 // gained: each edge of the plan is lost at both ends, which costs 6.
 pub fn terminal_table(
-    m: usize,
-    sv: &[u8; ENTRY_LIMIT],
-    st: &[u8; ENTRY_LIMIT],
-    rs: &[u8; ENTRY_LIMIT],
-    rt: &[u8; ENTRY_LIMIT],
+    g: &Instance,
     plan: &[bool; ENTRY_LIMIT],
-    hs: &[u16; 32],
-    ls: &[u16; ENTRY_LIMIT],
-    ht: &[u16; 32],
-    lt: &[u16; ENTRY_LIMIT],
+    room: &Room,
+    links_s: &NodeLinks,
+    links_t: &NodeLinks,
     n: usize,
     es: &[u16; 64],
     ps: &[u8; 64],
     pt: &[u8; 64],
-    fs: &[bool; 32],
-    ft: &[bool; 32],
 ) -> [u8; 4096]
-    requires { (m ≤ entry_limit) × (n ≤ plan_limit) × Low m sv.now node_limit × Low m st.now node_limit
-        × Linked m sv.now hs.now ls.now × Linked m st.now ht.now lt.now
+    requires { (g.now.m ≤ entry_limit) × (n ≤ plan_limit) × Low g.now.m g.now.sv node_limit × Low g.now.m g.now.st node_limit
+        × LinksOf g.now.m g.now.sv links_s.now × LinksOf g.now.m g.now.st links_t.now
         × Low n ps.now node_limit × Low n pt.now node_limit × Low n es.now entry_limit }
-    ensures { EndsFor m sv.now st.now rs.now rt.now plan.now fs.now
-        ft.now n es.now ps.now pt.now result }
+    ensures { EndsFor g.now.m g.now.sv g.now.st g.now.rank_s g.now.rank_t plan.now room.now.s
+        room.now.t n es.now ps.now pt.now result }
 {
-    if rival_tables::first_room(fs).is_none() {
-        if rival_tables::first_room(ft).is_none() {
+    if rival_tables::first_room(&room.s).is_none() {
+        if rival_tables::first_room(&room.t).is_none() {
             return [6u8; 4096];
         }
     }
-    let rps = rival_tables::gathered(n, es, rs);
-    let rpt = rival_tables::gathered(n, es, rt);
-    let starts = rival_gains::apart(m, st, rs, plan, ft, hs, ls, n, ps, pt, &rps);
-    let stops = rival_gains::apart(m, sv, rt, plan, fs, ht, lt, n, pt, ps, &rpt);
-    let gs = rival_gains::gains(m, st, rs, plan, ft, hs, ls, n, ps, &rps);
-    let gt = rival_gains::gains(m, sv, rt, plan, fs, ht, lt, n, pt, &rpt);
+    let rps = rival_tables::gathered(n, es, &g.rank_s);
+    let rpt = rival_tables::gathered(n, es, &g.rank_t);
+    let starts = rival_gains::apart(
+        g.m, &g.st, &g.rank_s, plan, &room.t, links_s, n, ps, pt, &rps,
+    );
+    let stops = rival_gains::apart(
+        g.m, &g.sv, &g.rank_t, plan, &room.s, links_t, n, pt, ps, &rpt,
+    );
+    let gs = rival_gains::gains(g.m, &g.st, &g.rank_s, plan, &room.t, links_s, n, ps, &rps);
+    let gt = rival_gains::gains(g.m, &g.sv, &g.rank_t, plan, &room.s, links_t, n, pt, &rpt);
     rival_tables::terminals(n, &starts, &stops, &gs, &gt)
 }
 
 // The price of edge e of the plan if it is exchanged alone.
 fn alone_price(
-    m: usize,
-    sv: &[u8; ENTRY_LIMIT],
-    st: &[u8; ENTRY_LIMIT],
-    rs: &[u8; ENTRY_LIMIT],
-    rt: &[u8; ENTRY_LIMIT],
+    g: &Instance,
     plan: &[bool; ENTRY_LIMIT],
-    hs: &[u16; 32],
-    ls: &[u16; ENTRY_LIMIT],
-    ht: &[u16; 32],
-    lt: &[u16; ENTRY_LIMIT],
-    fs: &[bool; 32],
-    ft: &[bool; 32],
+    room: &Room,
+    links_s: &NodeLinks,
+    links_t: &NodeLinks,
     e: usize,
 ) -> u8
-    requires { (m ≤ entry_limit) × (e < m) × Low m sv.now node_limit × Low m st.now node_limit
-        × Linked m sv.now hs.now ls.now × Linked m st.now ht.now lt.now }
-    ensures { result ≡ alone_price m sv.now st.now rs.now rt.now plan.now fs.now
-        ft.now e }
+    requires { (g.now.m ≤ entry_limit) × (e < g.now.m) × Low g.now.m g.now.sv node_limit × Low g.now.m g.now.st node_limit
+        × LinksOf g.now.m g.now.sv links_s.now × LinksOf g.now.m g.now.st links_t.now }
+    ensures { result ≡ alone_price g.now.m g.now.sv g.now.st g.now.rank_s g.now.rank_t plan.now room.now.s
+        room.now.t e }
 {
-    let s = sv[e];
-    let t = st[e];
-    let a = rival_gains::least_rates(m, st, rs, plan, ft, hs, ls, s, rs[e], t);
-    let b = rival_gains::least_rates(m, sv, rt, plan, fs, ht, lt, t, rt[e], s);
+    let s = g.sv[e];
+    let t = g.st[e];
+    let a = rival_gains::least_rates(
+        g.m,
+        &g.st,
+        &g.rank_s,
+        plan,
+        &room.t,
+        links_s,
+        s,
+        g.rank_s[e],
+        t,
+    );
+    let b = rival_gains::least_rates(
+        g.m,
+        &g.sv,
+        &g.rank_t,
+        plan,
+        &room.s,
+        links_t,
+        t,
+        g.rank_t[e],
+        s,
+    );
     let apart = a.apart.min(b.apart);
     (apart + 3).min(a.all + b.all)
 }
@@ -88,46 +100,25 @@ fn alone_price(
 // The first edge of the plan that is better exchanged alone: its place on the diagonal of the table of the ends is below 4. Most plans with room are beaten
 // by one, and it is found without the table.
 pub fn alone(
-    m: usize,
-    sv: &[u8; ENTRY_LIMIT],
-    st: &[u8; ENTRY_LIMIT],
-    rs: &[u8; ENTRY_LIMIT],
-    rt: &[u8; ENTRY_LIMIT],
+    g: &Instance,
     plan: &[bool; ENTRY_LIMIT],
-    hs: &[u16; 32],
-    ls: &[u16; ENTRY_LIMIT],
-    ht: &[u16; 32],
-    lt: &[u16; ENTRY_LIMIT],
+    room: &Room,
+    links_s: &NodeLinks,
+    links_t: &NodeLinks,
     n: usize,
     es: &[u16; 64],
-    fs: &[bool; 32],
-    ft: &[bool; 32],
 ) -> Option<usize>
-    requires { (m ≤ entry_limit) × (n ≤ plan_limit) × Low m sv.now node_limit × Low m st.now node_limit
-        × Linked m sv.now hs.now ls.now × Linked m st.now ht.now lt.now × Low n es.now m }
-    ensures { result ≡ if_below n (alone_at m sv.now st.now rs.now rt.now plan.now fs.now ft.now es.now n) }
+    requires { (g.now.m ≤ entry_limit) × (n ≤ plan_limit) × Low g.now.m g.now.sv node_limit × Low g.now.m g.now.st node_limit
+        × LinksOf g.now.m g.now.sv links_s.now × LinksOf g.now.m g.now.st links_t.now × Low n es.now g.now.m }
+    ensures { result ≡ if_below n (alone_at g.now.m g.now.sv g.now.st g.now.rank_s g.now.rank_t plan.now room.now.s room.now.t es.now n) }
 {
-    if rival_tables::first_room(fs).is_none() {
-        if rival_tables::first_room(ft).is_none() {
+    if rival_tables::first_room(&room.s).is_none() {
+        if rival_tables::first_room(&room.t).is_none() {
             return None;
         }
     }
     for i in 0..n {
-        let price = alone_price(
-            m,
-            sv,
-            st,
-            rs,
-            rt,
-            plan,
-            hs,
-            ls,
-            ht,
-            lt,
-            fs,
-            ft,
-            es[i] as usize,
-        );
+        let price = alone_price(g, plan, room, links_s, links_t, es[i] as usize);
         if price < 4 {
             return Some(i);
         }

@@ -12,9 +12,37 @@ ghost use Rattle.arrays.specs.Filled.{Made};
 ghost use Rattle.rival_tables.specs.Terminals.{terminal_at, Rates};
 ghost use Rattle.lists.specs.Sum.{count};
 ghost use Rattle.lists.specs.Search.{low};
+ghost use Rattle.rival_tables.specs.Links.{LinksOf};
 ghost use Rattle.rival_tables.specs.Within.{if_below};
 
+use instance::Instance;
 use limits::ENTRY_LIMIT;
+
+// The links through the edges of each node: its first edge, and from each edge the next one there; the number of all edges where there is none.
+#[derive(Drop)]
+pub struct NodeLinks {
+    pub head: [u16; 32],
+    pub next: [u16; ENTRY_LIMIT],
+}
+
+impl NodeLinks {
+    // By the node of each edge.
+    pub fn of(m: usize, end: &[u8; ENTRY_LIMIT]) -> NodeLinks
+        requires { (m ≤ entry_limit) × Low m end.now node_limit }
+        ensures { LinksOf m end.now result }
+    {
+        let mut next = [0u16; ENTRY_LIMIT];
+        let head = arrays::links(m, &end[..], &mut next[..]);
+        NodeLinks { head, next }
+    }
+}
+
+// Whether each surveyor has room, and each stand.
+#[derive(Drop)]
+pub struct Room {
+    pub s: [bool; 32],
+    pub t: [bool; 32],
+}
 
 // How many edges of the plan lie at a node, from the nodes of its n edges.
 pub fn lying(n: usize, nodes: &[u8; 64], v: u8) -> u8
@@ -54,21 +82,14 @@ pub fn first_room(room: &[bool; 32]) -> Option<usize>
 }
 
 // The first edge outside the plan with room at both ends.
-pub fn direct(
-    m: usize,
-    sv: &[u8; ENTRY_LIMIT],
-    st: &[u8; ENTRY_LIMIT],
-    plan: &[bool; ENTRY_LIMIT],
-    fs: &[bool; 32],
-    ft: &[bool; 32],
-) -> Option<usize>
-    requires { (m ≤ entry_limit) × Low m sv.now node_limit × Low m st.now node_limit }
-    ensures { result ≡ if_below m (low (λ f. not (flag plan.now f) && (flag fs.now (at sv.now f) && flag ft.now (at st.now f))) m) }
+pub fn direct(g: &Instance, plan: &[bool; ENTRY_LIMIT], room: &Room) -> Option<usize>
+    requires { (g.now.m ≤ entry_limit) × Low g.now.m g.now.sv node_limit × Low g.now.m g.now.st node_limit }
+    ensures { result ≡ if_below g.now.m (low (λ f. not (flag plan.now f) && (flag room.now.s (at g.now.sv f) && flag room.now.t (at g.now.st f))) g.now.m) }
 {
-    for f in 0..m {
-        let s = sv[f] as usize;
-        let t = st[f] as usize;
-        if !plan[f] & (fs[s] & ft[t]) {
+    for f in 0..g.m {
+        let s = g.sv[f] as usize;
+        let t = g.st[f] as usize;
+        if !plan[f] & (room.s[s] & room.t[t]) {
             return Some(f);
         }
     }

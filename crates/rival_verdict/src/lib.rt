@@ -7,15 +7,17 @@ ghost use Rattle.lists.specs.Search.{low};
 ghost use Rattle.model.specs.Limits.{entry_limit, node_limit, plan_limit};
 ghost use Rattle.arrays.specs.ArrayInstance.{flag};
 ghost use Rattle.arrays.specs.Passes.{Shows, Low};
-ghost use Rattle.arrays.specs.Linked.{Linked};
+ghost use Rattle.rival_tables.specs.Links.{LinksOf};
 ghost use Rattle.rival_levels.specs.Layers.{Small, Cheap};
 ghost use Rattle.rival_levels.specs.Levels.{SmallEnds};
 ghost use Rattle.rival_search.specs.SearchView.{Lists, free_at};
 ghost use Rattle.rival_verdict.specs.RivalOfArrays.{RivalShown, ShownFor, NodesAt, RivalOn};
 ghost use Rattle.rival_verdict.specs.Judged.{verdict_for, standing_of};
 
+use instance::Instance;
 use limits::ENTRY_LIMIT;
 use rival_search::Hunt;
+use rival_tables::{NodeLinks, Room};
 
 // A plan is strong if no other draws with it, popular if none beats it.
 #[derive(Clone, Copy)]
@@ -65,37 +67,28 @@ pub struct Judged {
 // By both tables: what the searches find, and the plan exchanged by it. hs and ls are the links through the edges of each surveyor, ht and lt those of each
 // stand.
 fn judged_by_arcs(
-    m: usize,
-    sv: &[u8; ENTRY_LIMIT],
-    st: &[u8; ENTRY_LIMIT],
-    rs: &[u8; ENTRY_LIMIT],
-    rt: &[u8; ENTRY_LIMIT],
+    g: &Instance,
     plan: &[bool; ENTRY_LIMIT],
-    hs: &[u16; 32],
-    ls: &[u16; ENTRY_LIMIT],
-    ht: &[u16; 32],
-    lt: &[u16; ENTRY_LIMIT],
+    room: &Room,
+    links_s: &NodeLinks,
+    links_t: &NodeLinks,
     n: usize,
     es: &[u16; 64],
-    fs: &[bool; 32],
-    ft: &[bool; 32],
     arcs: &[u8; 4096],
     ends: &[u8; 4096],
 ) -> Judged
-    requires { (m ≤ entry_limit) × (n ≤ plan_limit) × Low m sv.now node_limit × Low m st.now node_limit × Low n es.now m
+    requires { (g.now.m ≤ entry_limit) × (n ≤ plan_limit) × Low g.now.m g.now.sv node_limit × Low g.now.m g.now.st node_limit × Low n es.now g.now.m
         × Small n arcs.now × Cheap n arcs.now × SmallEnds n ends.now
-        × Linked m sv.now hs.now ls.now × Linked m st.now ht.now lt.now }
-    ensures { RivalOn m sv.now st.now rs.now rt.now plan.now fs.now
-        ft.now n es.now arcs.now ends.now result.standing result.rival }
+        × LinksOf g.now.m g.now.sv links_s.now × LinksOf g.now.m g.now.st links_t.now }
+    ensures { RivalOn g.now.m g.now.sv g.now.st g.now.rank_s g.now.rank_t plan.now room.now.s
+        room.now.t n es.now arcs.now ends.now result.standing result.rival }
 {
     let hunt = rival_search::searched_on(n, arcs, ends);
     let found = hunt.find();
-    let s = rival_exchange::swap(
-        m, sv, st, rs, rt, plan, hs, ls, ht, lt, n, es, fs, ft, arcs, found,
-    );
+    let s = rival_exchange::swap(g, plan, room, links_s, links_t, n, es, arcs, found);
     let gone = s.gone;
     let come = s.come;
-    let rival = exchanged(m, plan, &gone, &come);
+    let rival = exchanged(g.m, plan, &gone, &come);
     Judged {
         standing: Standing::of(hunt),
         rival: rival,
@@ -104,116 +97,87 @@ fn judged_by_arcs(
 
 // Where no edge has room at both ends. Most plans with room are beaten by an edge of theirs that is better exchanged alone; no table is needed then.
 fn judged_by_tables(
-    m: usize,
-    sv: &[u8; ENTRY_LIMIT],
-    st: &[u8; ENTRY_LIMIT],
-    rs: &[u8; ENTRY_LIMIT],
-    rt: &[u8; ENTRY_LIMIT],
+    g: &Instance,
     plan: &[bool; ENTRY_LIMIT],
-    hs: &[u16; 32],
-    ls: &[u16; ENTRY_LIMIT],
-    ht: &[u16; 32],
-    lt: &[u16; ENTRY_LIMIT],
+    room: &Room,
+    links_s: &NodeLinks,
+    links_t: &NodeLinks,
     n: usize,
     es: &[u16; 64],
     ps: &[u8; 64],
     pt: &[u8; 64],
-    fs: &[bool; 32],
-    ft: &[bool; 32],
 ) -> Judged
-    requires { (m ≤ entry_limit) × (n ≤ plan_limit) × Low m sv.now node_limit × Low m st.now node_limit × Lists m plan.now n es.now
-        × NodesAt n es.now sv.now st.now ps.now pt.now
+    requires { (g.now.m ≤ entry_limit) × (n ≤ plan_limit) × Low g.now.m g.now.sv node_limit × Low g.now.m g.now.st node_limit × Lists g.now.m plan.now n es.now
+        × NodesAt n es.now g.now.sv g.now.st ps.now pt.now
         × Low plan_limit ps.now node_limit × Low plan_limit pt.now node_limit
-        × Linked m sv.now hs.now ls.now × Linked m st.now ht.now lt.now
-        × (m ≤ low (free_at sv.now st.now plan.now fs.now ft.now) m) }
-    ensures { ShownFor m sv.now st.now rs.now rt.now plan.now n ps.now
+        × LinksOf g.now.m g.now.sv links_s.now × LinksOf g.now.m g.now.st links_t.now
+        × (g.now.m ≤ low (free_at g.now.sv g.now.st plan.now room.now.s room.now.t) g.now.m) }
+    ensures { ShownFor g.now.m g.now.sv g.now.st g.now.rank_s g.now.rank_t plan.now n ps.now
         pt.now
-        fs.now ft.now (verdict_for result.standing) result.rival }
+        room.now.s room.now.t (verdict_for result.standing) result.rival }
 {
-    if let Some(i) = rival_search::alone(m, sv, st, rs, rt, plan, hs, ls, ht, lt, n, es, fs, ft) {
+    if let Some(i) = rival_search::alone(g, plan, room, links_s, links_t, n, es) {
         let x = es[i] as usize;
-        let s = rival_exchange::ended(m, sv, st, rs, rt, plan, fs, ft, hs, ls, ht, lt, x, x);
+        let s = rival_exchange::ended(g, plan, room, links_s, links_t, x, x);
         let gone = s.gone;
         let come = s.come;
-        let rival = exchanged(m, plan, &gone, &come);
+        let rival = exchanged(g.m, plan, &gone, &come);
         return Judged {
             standing: Standing::Beaten,
             rival: rival,
         };
     }
-    let ends = rival_search::terminal_table(
-        m, sv, st, rs, rt, plan, hs, ls, ht, lt, n, es, ps, pt, fs, ft,
-    );
-    let rps = rival_tables::gathered(n, es, rs);
-    let rpt = rival_tables::gathered(n, es, rt);
-    let arcs = rival_arcs::arcs(m, sv, rs, rt, plan, ht, lt, n, ps, pt, &rps, &rpt);
-    judged_by_arcs(
-        m, sv, st, rs, rt, plan, hs, ls, ht, lt, n, es, fs, ft, &arcs, &ends,
-    )
+    let ends = rival_search::terminal_table(g, plan, room, links_s, links_t, n, es, ps, pt);
+    let rps = rival_tables::gathered(n, es, &g.rank_s);
+    let rpt = rival_tables::gathered(n, es, &g.rank_t);
+    let arcs = rival_arcs::arcs(g, plan, links_t, n, ps, pt, &rps, &rpt);
+    judged_by_arcs(g, plan, room, links_s, links_t, n, es, &arcs, &ends)
 }
 
 // From the nodes of the plan's edges and the room at the nodes. An edge with room at both ends beats the plan, whatever the tables say, so it is looked for
 // before they are made.
 pub fn judged_on(
-    m: usize,
-    sv: &[u8; ENTRY_LIMIT],
-    st: &[u8; ENTRY_LIMIT],
-    rs: &[u8; ENTRY_LIMIT],
-    rt: &[u8; ENTRY_LIMIT],
+    g: &Instance,
     plan: &[bool; ENTRY_LIMIT],
+    room: &Room,
     n: usize,
     es: &[u16; 64],
     ps: &[u8; 64],
     pt: &[u8; 64],
-    fs: &[bool; 32],
-    ft: &[bool; 32],
 ) -> Judged
-    requires { (m ≤ entry_limit) × (n ≤ plan_limit) × Low m sv.now node_limit × Low m st.now node_limit × Lists m plan.now n es.now
-        × NodesAt n es.now sv.now st.now ps.now pt.now
+    requires { (g.now.m ≤ entry_limit) × (n ≤ plan_limit) × Low g.now.m g.now.sv node_limit × Low g.now.m g.now.st node_limit × Lists g.now.m plan.now n es.now
+        × NodesAt n es.now g.now.sv g.now.st ps.now pt.now
         × Low plan_limit ps.now node_limit × Low plan_limit pt.now node_limit }
-    ensures { ShownFor m sv.now st.now rs.now rt.now plan.now n ps.now
+    ensures { ShownFor g.now.m g.now.sv g.now.st g.now.rank_s g.now.rank_t plan.now n ps.now
         pt.now
-        fs.now ft.now (verdict_for result.standing) result.rival }
+        room.now.s room.now.t (verdict_for result.standing) result.rival }
 {
-    if let Some(f) = rival_tables::direct(m, sv, st, plan, fs, ft) {
+    if let Some(f) = rival_tables::direct(g, plan, room) {
         let gone = [false; ENTRY_LIMIT];
-        let come = rival_exchange::gained([false; ENTRY_LIMIT], m, f);
-        let rival = exchanged(m, plan, &gone, &come);
+        let come = rival_exchange::gained([false; ENTRY_LIMIT], g.m, f);
+        let rival = exchanged(g.m, plan, &gone, &come);
         return Judged {
             standing: Standing::Beaten,
             rival: rival,
         };
     }
-    let mut ls = [0u16; ENTRY_LIMIT];
-    let hs = arrays::links(m, &sv[..], &mut ls[..]);
-    let mut lt = [0u16; ENTRY_LIMIT];
-    let ht = arrays::links(m, &st[..], &mut lt[..]);
-    judged_by_tables(
-        m, sv, st, rs, rt, plan, &hs, &ls, &ht, &lt, n, es, ps, pt, fs, ft,
-    )
+    let links_s = NodeLinks::of(g.m, &g.sv);
+    let links_t = NodeLinks::of(g.m, &g.st);
+    judged_by_tables(g, plan, room, &links_s, &links_t, n, es, ps, pt)
 }
 
 // From the plan's list and the quotas.
-pub fn judge(
-    m: usize,
-    sv: &[u8; ENTRY_LIMIT],
-    st: &[u8; ENTRY_LIMIT],
-    rs: &[u8; ENTRY_LIMIT],
-    rt: &[u8; ENTRY_LIMIT],
-    bs: &[u8; 32],
-    bt: &[u8; 32],
-    plan: &[bool; ENTRY_LIMIT],
-    n: usize,
-    es: &[u16; 64],
-) -> Judged
-    requires { (m ≤ entry_limit) × (n ≤ plan_limit) × Low m sv.now node_limit × Low m st.now node_limit × Lists m plan.now n es.now }
-    ensures { RivalShown m sv.now st.now rs.now rt.now bs.now bt.now
+pub fn judge(g: &Instance, plan: &[bool; ENTRY_LIMIT], n: usize, es: &[u16; 64]) -> Judged
+    requires { (g.now.m ≤ entry_limit) × (n ≤ plan_limit) × Low g.now.m g.now.sv node_limit × Low g.now.m g.now.st node_limit × Lists g.now.m plan.now n es.now }
+    ensures { RivalShown g.now.m g.now.sv g.now.st g.now.rank_s g.now.rank_t g.now.quota_s g.now.quota_t
         plan.now
         (verdict_for result.standing) result.rival }
 {
-    let ps = rival_tables::gathered(n, es, sv);
-    let pt = rival_tables::gathered(n, es, st);
-    let fs = rival_tables::rooms(n, &ps, bs);
-    let ft = rival_tables::rooms(n, &pt, bt);
-    judged_on(m, sv, st, rs, rt, plan, n, es, &ps, &pt, &fs, &ft)
+    let ps = rival_tables::gathered(n, es, &g.sv);
+    let pt = rival_tables::gathered(n, es, &g.st);
+    let room = Room {
+        s: rival_tables::rooms(n, &ps, &g.quota_s),
+        t: rival_tables::rooms(n, &pt, &g.quota_t),
+    };
+    judged_on(g, plan, &room, n, es, &ps, &pt)
 }

@@ -5,7 +5,7 @@
 ghost use Rattle.std.specs.Prelude.{◌≡◌, ◌-◌, ◌≤◌, ◌<◌, ℕ};
 ghost use Rattle.model.specs.Limits.{entry_limit, node_limit, plan_limit};
 ghost use Rattle.arrays.specs.Passes.{Low};
-ghost use Rattle.arrays.specs.Linked.{Linked};
+ghost use Rattle.rival_tables.specs.Links.{LinksOf};
 ghost use Rattle.rival_levels.specs.Layers.{Small};
 ghost use Rattle.rival_walk.specs.Leads.{Column, lead_at};
 ghost use Rattle.rival_walk.specs.Edges.{arc_edge};
@@ -14,7 +14,9 @@ ghost use Rattle.arrays.specs.Filled.{Made};
 ghost use Rattle.rival_tables.specs.Filled.{cell};
 ghost use Rattle.rival_tables.specs.Within.{if_below};
 
+use instance::Instance;
 use limits::ENTRY_LIMIT;
+use rival_tables::NodeLinks;
 
 // The price of the next layer, and the place that the walk leads to first, if it is not the walk of the layer before.
 #[derive(Drop)]
@@ -109,49 +111,39 @@ pub struct Swap {
 
 // The edge of an arc from edge x of the plan to edge z: the first cheapest one. ht and lt are the links through the edges of each stand.
 pub fn arc_edge(
-    m: usize,
-    sv: &[u8; ENTRY_LIMIT],
-    st: &[u8; ENTRY_LIMIT],
-    rs: &[u8; ENTRY_LIMIT],
-    rt: &[u8; ENTRY_LIMIT],
+    g: &Instance,
     plan: &[bool; ENTRY_LIMIT],
-    ht: &[u16; 32],
-    lt: &[u16; ENTRY_LIMIT],
+    links_t: &NodeLinks,
     x: usize,
     z: usize,
 ) -> usize
-    requires { (m ≤ entry_limit) × (x < m) × (z < m) × Low m st.now node_limit × Linked m st.now ht.now lt.now }
-    ensures { (result ≡ arc_edge m sv.now st.now rs.now rt.now plan.now x z) × (result < 1024) }
+    requires { (g.now.m ≤ entry_limit) × (x < g.now.m) × (z < g.now.m) × Low g.now.m g.now.st node_limit × LinksOf g.now.m g.now.st links_t.now }
+    ensures { (result ≡ arc_edge g.now.m g.now.sv g.now.st g.now.rank_s g.now.rank_t plan.now x z) × (result < 1024) }
 {
-    let t = st[x] as usize;
-    let b = rt[x];
-    let s = sv[z];
-    let a = rs[z];
+    let t = g.st[x] as usize;
+    let b = g.rank_t[x];
+    let s = g.sv[z];
+    let a = g.rank_s[z];
     let mut v = 133;
     let mut o = 0;
-    let mut f = ht[t] as usize;
-    while f < m {
-        let p = vote_ranks::rated(b, rt[f]);
-        let q = vote_ranks::rated(a, rs[f]);
-        if (!plan[f] & (sv[f] == s)) & (p + q < v) {
+    let mut f = links_t.head[t] as usize;
+    while f < g.m {
+        let p = vote_ranks::rated(b, g.rank_t[f]);
+        let q = vote_ranks::rated(a, g.rank_s[f]);
+        if (!plan[f] & (g.sv[f] == s)) & (p + q < v) {
             v = p + q;
             o = f;
         }
-        f = lt[f] as usize;
+        f = links_t.next[f] as usize;
     }
     o
 }
 
 // The walk of level l from place i to place j. It is read back by the layers below l, whose column of place j is made first.
 pub fn walk(
-    m: usize,
-    sv: &[u8; ENTRY_LIMIT],
-    st: &[u8; ENTRY_LIMIT],
-    rs: &[u8; ENTRY_LIMIT],
-    rt: &[u8; ENTRY_LIMIT],
+    g: &Instance,
     plan: &[bool; ENTRY_LIMIT],
-    ht: &[u16; 32],
-    lt: &[u16; ENTRY_LIMIT],
+    links_t: &NodeLinks,
     n: usize,
     es: &[u16; 64],
     arcs: &[u8; 4096],
@@ -160,10 +152,10 @@ pub fn walk(
     j: usize,
     start: Swap,
 ) -> Swap
-    requires { (m ≤ entry_limit) × (n ≤ plan_limit) × Low n es.now m × Small n arcs.now × (l < 64) × (i < n) × (j < n)
-        × Low m st.now node_limit × Linked m st.now ht.now lt.now }
+    requires { (g.now.m ≤ entry_limit) × (n ≤ plan_limit) × Low n es.now g.now.m × Small n arcs.now × (l < 64) × (i < n) × (j < n)
+        × Low g.now.m g.now.st node_limit × LinksOf g.now.m g.now.st links_t.now }
     ensures { Walked start
-        (walk_at (arc_edge m sv.now st.now rs.now rt.now plan.now) es.now
+        (walk_at (arc_edge g.now.m g.now.sv g.now.st g.now.rank_s g.now.rank_t plan.now) es.now
         arcs.now n j l i) result }
 {
     let last = if l > 0 { l - 1 } else { 0 };
@@ -175,7 +167,7 @@ pub fn walk(
         if let Some(y) = lead(n, arcs, &table, k, c).place {
             let x = es[c] as usize;
             let z = es[y] as usize;
-            let f = arc_edge(m, sv, st, rs, rt, plan, ht, lt, x, z);
+            let f = arc_edge(g, plan, links_t, x, z);
             gone[z] = true;
             come[f] = true;
             c = y;
@@ -183,7 +175,7 @@ pub fn walk(
     }
     let x = es[c] as usize;
     let z = es[j] as usize;
-    let f = arc_edge(m, sv, st, rs, rt, plan, ht, lt, x, z);
+    let f = arc_edge(g, plan, links_t, x, z);
     gone[z] = true;
     come[f] = true;
     Swap {

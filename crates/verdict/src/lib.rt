@@ -78,13 +78,7 @@ pub fn weighed(
     ensures weighed_for { WeighedFor (shown_by g) plan.now out.old result.verdict out.new }
     ensures rival_for { RivalFor (shown_by g) plan.now result.rivalled result.rival result.listed.n result.listed.edges }
 {
-    let sv = g.sv;
-    let st = g.st;
-    let rs = g.rank_s;
-    let rt = g.rank_t;
-    let bs = g.quota_s;
-    let bt = g.quota_t;
-    let j = rival_verdict::judge(g.m, &sv, &st, &rs, &rt, &bs, &bt, plan, n, es);
+    let j = rival_verdict::judge(&g, plan, n, es);
     let rival = j.rival;
     if let Standing::Strong = j.standing {
         return WithRival {
@@ -117,13 +111,7 @@ pub fn is_strong(g: Instance, plan: &[bool; ENTRY_LIMIT], n: usize, es: &[u16; 6
     requires { Loaded g × ((M : Plan) × Shows (shown_by g) plan.now M) × edges.Listed g.m plan.now n es.now }
     ensures { (M : Plan) → Shows (shown_by g) plan.now M → result ≡ is_strong (verdict_of (shown_by g) M) }
 {
-    let sv = g.sv;
-    let st = g.st;
-    let rs = g.rank_s;
-    let rt = g.rank_t;
-    let bs = g.quota_s;
-    let bt = g.quota_t;
-    let j = rival_verdict::judge(g.m, &sv, &st, &rs, &rt, &bs, &bt, plan, n, es);
+    let j = rival_verdict::judge(&g, plan, n, es);
     match j.standing {
         Standing::Strong => true,
         _ => false,

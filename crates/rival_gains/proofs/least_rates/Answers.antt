@@ -21,7 +21,7 @@ node c = c.requires.1 c.loop-f.f c.loop-f-test.true
 
 -- the next edge of the node is a later one
 onward : (c : In-loop-f) → let a = c.args in
-    (c.loop-f.f < at a.next.now c.loop-f.f) × (at a.next.now c.loop-f.f ≤ a.m)
+    (c.loop-f.f < at a.links.now.next c.loop-f.f) × (at a.links.now.next c.loop-f.f ≤ a.m)
 onward c = next_onward c.requires.2.1 c.loop-f.f c.loop-f-test.true
 
 pub loop-f-preserved : goal.loop-f-preserved

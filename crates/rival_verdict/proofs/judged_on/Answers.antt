@@ -21,21 +21,17 @@ returns-in-Some c =
     let a = c.args in
     let f = c.in-Some.f in
     let g = c.gained-come in
-    let (e, h) = found_below a.m f (low (free_at a.sv.now a.st.now a.plan.now a.fs.now a.ft.now) a.m) c.in-Some.is c.direct.ensures in
-    λ quota_s quota_t roomyS roomyT. direct_shown a.m a.sv.now a.st.now a.rs.now a.rt.now quota_s quota_t a.plan.now a.n a.es.now
-    a.ps.now a.pt.now a.fs.now a.ft.now c.requires.1 c.requires.2 c.requires.3 c.requires.4 c.requires.5 roomyS roomyT f
-    (replicate 1024 false) g.result c.exchanged-rival.result e h (blank_none 1024) (blank_one 1024 a.m f g.result h g.ensures)
+    let (e, h) = found_below a.g.now.m f (low (free_at a.g.now.sv a.g.now.st a.plan.now a.room.now.s a.room.now.t) a.g.now.m) c.in-Some.is c.direct.ensures in
+    λ quota_s quota_t roomyS roomyT. direct_shown a.g.now.m a.g.now.sv a.g.now.st a.g.now.rank_s a.g.now.rank_t quota_s quota_t a.plan.now a.n a.es.now
+    a.ps.now a.pt.now a.room.now.s a.room.now.t c.requires.1 c.requires.2 c.requires.3 c.requires.4 c.requires.5 roomyS roomyT f
+    (replicate 1024 false) g.result c.exchanged-rival.result e h (blank_none 1024) (blank_one 1024 a.g.now.m f g.result h g.ensures)
     c.exchanged-rival.ensures
 
-pub links-hs-requires : goal.links-hs-requires
-links-hs-requires c =
-    let l : length c.args.sv.now ≡ 1024 = search rules in
-    (c.requires.0, omega (arith, l, c.requires.0), omega (arith, c.requires.0), c.requires.2)
+pub of-links_s-requires : goal.of-links_s-requires
+of-links_s-requires c = (c.requires.0, c.requires.2)
 
-pub links-ht-requires : goal.links-ht-requires
-links-ht-requires c =
-    let l : length c.args.st.now ≡ 1024 = search rules in
-    (c.requires.0, omega (arith, l, c.requires.0), omega (arith, c.requires.0), c.requires.3)
+pub of-links_t-requires : goal.of-links_t-requires
+of-links_t-requires c = (c.requires.0, c.requires.3)
 
 pub judged_by_tables-requires : goal.judged_by_tables-requires
 judged_by_tables-requires c = (
@@ -47,9 +43,9 @@ judged_by_tables-requires c = (
   c.requires.5,
   c.requires.6,
   c.requires.7,
-  c.links-hs.ensures.1,
-  c.links-ht.ensures.1,
-  nothing_below c.args.m (low (free_at c.args.sv.now c.args.st.now c.args.plan.now c.args.fs.now c.args.ft.now) c.args.m) c.in_default.is c.direct.ensures,
+  c.of-links_s.ensures,
+  c.of-links_t.ensures,
+  nothing_below c.args.g.now.m (low (free_at c.args.g.now.sv c.args.g.now.st c.args.plan.now c.args.room.now.s c.args.room.now.t) c.args.g.now.m) c.in_default.is c.direct.ensures,
 )
 
 pub returns : goal.returns

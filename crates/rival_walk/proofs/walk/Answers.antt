@@ -57,7 +57,7 @@ overflow_cast-x c =
 -- what the table tells is what the walk goes by
 is_ahead : (c : After-lead) → let a = c.args in Column a.arcs.now a.n a.j (a.l - 1) c.columns-table.result
     → (lead_at a.arcs.now a.n (cell c.columns-table.result (c.loop-k.k - 1)) c.loop-k.c).1
-    ≡ ahead (arc_edge a.m a.sv.now a.st.now a.rs.now a.rt.now a.plan.now) a.es.now a.arcs.now a.n a.j (c.loop-k.k - 1) c.loop-k.c
+    ≡ ahead (arc_edge a.g.now.m a.g.now.sv a.g.now.st a.g.now.rank_s a.g.now.rank_t a.plan.now) a.es.now a.arcs.now a.n a.j (c.loop-k.k - 1) c.loop-k.c
 is_ahead c below =
     let a = c.args in
     let k = c.loop-k.k in
@@ -94,7 +94,7 @@ loop-k-preserved-in-Some c =
       h,
       length-set c.loop-k.gone (at a.es.now y) true ∙ c.loop-k.invariant.2,
       length-set c.loop-k.come c.arc_edge-f.result true ∙ c.loop-k.invariant.3,
-      read_on (arc_edge a.m a.sv.now a.st.now a.rs.now a.rt.now a.plan.now) a.es.now a.arcs.now a.n a.j a.l
+      read_on (arc_edge a.g.now.m a.g.now.sv a.g.now.st a.g.now.rank_s a.g.now.rank_t a.plan.now) a.es.now a.arcs.now a.n a.j a.l
           a.i a.start.gone a.start.come c.loop-k.gone c.loop-k.come k c.loop-k.c y c.loop-k.invariant.4 (omega (arith, c.loop-k-test.true)) is _
           _ _ c.arc_edge-f.result h (omega (arith, c.requires.2 y h, c.loop-k.invariant.2)) c.arc_edge-f.ensures.0
           (omega (arith, c.arc_edge-f.ensures.1, c.loop-k.invariant.3)) refl refl refl,
@@ -110,7 +110,7 @@ loop-k-preserved c =
       c.loop-k.invariant.1,
       c.loop-k.invariant.2,
       c.loop-k.invariant.3,
-      read_stay (arc_edge a.m a.sv.now a.st.now a.rs.now a.rt.now a.plan.now) a.es.now a.arcs.now a.n a.j a.l
+      read_stay (arc_edge a.g.now.m a.g.now.sv a.g.now.st a.g.now.rank_s a.g.now.rank_t a.plan.now) a.es.now a.arcs.now a.n a.j a.l
           a.i a.start.gone a.start.come c.loop-k.gone c.loop-k.come k c.loop-k.c y c.loop-k.invariant.4 (omega (arith, c.loop-k-test.true)) is _
           _ _ (nothing_below a.n y c.in_default.is c.lead.ensures.1) refl refl refl,
     )
@@ -133,7 +133,7 @@ bounds-gone-z-2 c =
 pub returns : goal.returns
 returns c =
     let a = c.args in
-    read_last (arc_edge a.m a.sv.now a.st.now a.rs.now a.rt.now a.plan.now) a.es.now a.arcs.now a.n a.j a.l
+    read_last (arc_edge a.g.now.m a.g.now.sv a.g.now.st a.g.now.rank_s a.g.now.rank_t a.plan.now) a.es.now a.arcs.now a.n a.j a.l
     a.i a.start.gone a.start.come c.loop-k.gone c.loop-k.come c.loop-k.k c.loop-k.c c.arc_edge-f-2.result c.loop-k.invariant.4
     (omega arith) (omega (arith, c.requires.2 a.j c.requires.6, c.loop-k.invariant.2)) c.arc_edge-f-2.ensures.0
     (omega (arith, c.arc_edge-f-2.ensures.1, c.loop-k.invariant.3))
