@@ -37,16 +37,8 @@ pub fn both_votes(
     ensures paired { Paired (both_pairings (shown_by g) p.now q.now) forward.old back.old
         forward.new back.new }
 {
-    let sv = g.sv;
-    let st = g.st;
-    let rs = g.rank_s;
-    let rt = g.rank_t;
-    let qs = g.quota_s;
-    let qt = g.quota_t;
-    let both = vote_plans::plan_votes(g.m, g.ns, g.nt, &sv, &st, &rs, &rt, p, pn, pe, q, qn, qe);
-    vote_pairings::both_pairings(
-        g.ns, g.nt, &sv, &st, &rs, &rt, qs, qt, p, pn, pe, q, qn, qe, forward, back,
-    );
+    let both = vote_plans::plan_votes(&g, p, pn, pe, q, qn, qe);
+    vote_pairings::both_pairings(&g, p, pn, pe, q, qn, qe, forward, back);
     both
 }
 

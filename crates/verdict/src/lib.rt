@@ -46,13 +46,9 @@ pub(crate) fn voted(
     let sv = g.sv;
     let st = g.st;
     let sh = g.sh;
-    let rs = g.rank_s;
-    let rt = g.rank_t;
     let re = listed.edges;
     plan_writer::write_plan(listed.n, &re, &sv, &st, &sh, &mut *out);
-    let both = vote_plans::plan_votes(
-        g.m, g.ns, g.nt, &sv, &st, &rs, &rt, plan, n, es, rival, listed.n, &re,
-    );
+    let both = vote_plans::plan_votes(&g, plan, n, es, rival, listed.n, &re);
     both.first
 }
 
@@ -149,17 +145,9 @@ pub fn weigh_paired(
 {
     let w = weighed(g, plan, n, es, out);
     if w.rivalled {
-        let sv = g.sv;
-        let st = g.st;
-        let rs = g.rank_s;
-        let rt = g.rank_t;
-        let qs = g.quota_s;
-        let qt = g.quota_t;
         let rival = w.rival;
         let re = w.listed.edges;
-        vote_pairings::plan_pairings(
-            g.ns, g.nt, &sv, &st, &rs, &rt, qs, qt, plan, n, es, &rival, w.listed.n, &re, pairings,
-        );
+        vote_pairings::plan_pairings(&g, plan, n, es, &rival, w.listed.n, &re, pairings);
     }
     w.verdict
 }

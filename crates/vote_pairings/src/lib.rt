@@ -9,6 +9,7 @@ ghost use Rattle.theory_votes.specs.Keys.{empty_key, key_bytes};
 ghost use Rattle.vote_pairings.specs.SideBytes.{written, side_out, NodeReady};
 ghost use Rattle.vote_pairings.specs.SidePairings.{Asked, BothAsked, SideFaced, PlanFaced};
 
+use instance::Instance;
 use limits::ENTRY_LIMIT;
 use vote_own_ranks::Ranked;
 
@@ -85,14 +86,7 @@ pub fn side_pairings(
 
 // The pairings of the vote of plan p, whose edges are the first pn of pe, against plan q, at the buffer's front.
 pub fn plan_pairings(
-    ns: usize,
-    nt: usize,
-    sv: &[u8; ENTRY_LIMIT],
-    st: &[u8; ENTRY_LIMIT],
-    rs: &[u8; ENTRY_LIMIT],
-    rt: &[u8; ENTRY_LIMIT],
-    qs: [u8; 32],
-    qt: [u8; 32],
+    g: &Instance,
     p: &[bool; ENTRY_LIMIT],
     pn: usize,
     pe: &[u16; 64],
@@ -101,13 +95,17 @@ pub fn plan_pairings(
     qe: &[u16; 64],
     out: &mut [u8],
 )
-    requires both_asked { BothAsked ns nt sv.now st.now rs.now rt.now qs qt p.now pn pe.now q.now qn qe.now }
-    requires nt_in_bounds { 2 * (sum (at qs) (up_to ns) + sum (at qt) (up_to nt)) ≤ length out.old }
-    ensures { PlanFaced ns nt sv.now st.now rs.now rt.now qs qt
+    requires both_asked { BothAsked g.now.ns g.now.nt g.now.sv g.now.st g.now.rank_s g.now.rank_t g.now.quota_s g.now.quota_t p.now pn pe.now q.now qn qe.now }
+    requires nt_in_bounds { 2 * (sum (at g.now.quota_s) (up_to g.now.ns) + sum (at g.now.quota_t) (up_to g.now.nt)) ≤ length out.old }
+    ensures { PlanFaced g.now.ns g.now.nt g.now.sv g.now.st g.now.rank_s g.now.rank_t g.now.quota_s g.now.quota_t
         p.now pn pe.now q.now qn qe.now out.old out.new }
 {
-    let middle = side_pairings(ns, sv, rs, qs, p, pn, pe, q, qn, qe, &mut *out, 0);
-    side_pairings(nt, st, rt, qt, p, pn, pe, q, qn, qe, out, middle);
+    let middle = side_pairings(
+        g.ns, &g.sv, &g.rank_s, g.quota_s, p, pn, pe, q, qn, qe, &mut *out, 0,
+    );
+    side_pairings(
+        g.nt, &g.st, &g.rank_t, g.quota_t, p, pn, pe, q, qn, qe, out, middle,
+    );
 }
 
 // The pairings of one side for both votes, that of p against q and that of q against p, each from a place of its buffer on; the place behind them.
@@ -144,14 +142,7 @@ pub fn both_sides_pairings(
 
 // The pairings of both votes of two plans, p with pn edges that pe lists, q likewise, at the fronts of two buffers.
 pub fn both_pairings(
-    ns: usize,
-    nt: usize,
-    sv: &[u8; ENTRY_LIMIT],
-    st: &[u8; ENTRY_LIMIT],
-    rs: &[u8; ENTRY_LIMIT],
-    rt: &[u8; ENTRY_LIMIT],
-    qs: [u8; 32],
-    qt: [u8; 32],
+    g: &Instance,
     p: &[bool; ENTRY_LIMIT],
     pn: usize,
     pe: &[u16; 64],
@@ -161,19 +152,19 @@ pub fn both_pairings(
     forward: &mut [u8],
     back: &mut [u8],
 )
-    requires both_asked { BothAsked ns nt sv.now st.now rs.now rt.now qs qt p.now pn pe.now q.now qn qe.now }
-    requires nt_in_bounds { (2 * (sum (at qs) (up_to ns) + sum (at qt) (up_to nt)) ≤ length forward.old)
-        × (2 * (sum (at qs) (up_to ns) + sum (at qt) (up_to nt)) ≤ length back.old) }
-    ensures plan_faced { PlanFaced ns nt sv.now st.now rs.now rt.now qs qt
+    requires both_asked { BothAsked g.now.ns g.now.nt g.now.sv g.now.st g.now.rank_s g.now.rank_t g.now.quota_s g.now.quota_t p.now pn pe.now q.now qn qe.now }
+    requires nt_in_bounds { (2 * (sum (at g.now.quota_s) (up_to g.now.ns) + sum (at g.now.quota_t) (up_to g.now.nt)) ≤ length forward.old)
+        × (2 * (sum (at g.now.quota_s) (up_to g.now.ns) + sum (at g.now.quota_t) (up_to g.now.nt)) ≤ length back.old) }
+    ensures plan_faced { PlanFaced g.now.ns g.now.nt g.now.sv g.now.st g.now.rank_s g.now.rank_t g.now.quota_s g.now.quota_t
         p.now pn pe.now q.now qn qe.now forward.old forward.new }
-    ensures plan_faced_2 { PlanFaced ns nt sv.now st.now rs.now rt.now qs qt
+    ensures plan_faced_2 { PlanFaced g.now.ns g.now.nt g.now.sv g.now.st g.now.rank_s g.now.rank_t g.now.quota_s g.now.quota_t
         q.now qn qe.now p.now pn pe.now back.old back.new }
 {
     let middle = both_sides_pairings(
-        ns,
-        sv,
-        rs,
-        qs,
+        g.ns,
+        &g.sv,
+        &g.rank_s,
+        g.quota_s,
         p,
         pn,
         pe,
@@ -184,5 +175,7 @@ pub fn both_pairings(
         &mut *back,
         0,
     );
-    both_sides_pairings(nt, st, rt, qt, p, pn, pe, q, qn, qe, forward, back, middle);
+    both_sides_pairings(
+        g.nt, &g.st, &g.rank_t, g.quota_t, p, pn, pe, q, qn, qe, forward, back, middle,
+    );
 }
