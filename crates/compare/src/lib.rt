@@ -14,6 +14,7 @@ ghost use Rattle.plan_reader.specs.Planned.{Planned};
 ghost use Rattle.compare.specs.TwoPlans.{Paired};
 
 use answers::Comparison;
+use arrays::ListedPlan;
 use instance::Instance;
 use limits::ENTRY_LIMIT;
 use plan_reader::PlanAnswer;
@@ -37,8 +38,10 @@ pub fn both_votes(
     ensures paired { Paired (both_pairings (shown_by g) p.now q.now) forward.old back.old
         forward.new back.new }
 {
-    let both = vote_plans::plan_votes(&g, p, pn, pe, q, qn, qe);
-    vote_pairings::both_pairings(&g, p, pn, pe, q, qn, qe, forward, back);
+    let first = ListedPlan { has: p, n: pn, edges: pe };
+    let second = ListedPlan { has: q, n: qn, edges: qe };
+    let both = vote_plans::plan_votes(&g, &first, &second);
+    vote_pairings::both_pairings(&g, &first, &second, forward, back);
     both
 }
 

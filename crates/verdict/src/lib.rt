@@ -15,6 +15,7 @@ ghost use Rattle.verdict.specs.RivalWritten.{Voted};
 ghost use Rattle.answers.specs.declared.Verdict.TheVariants.{Popular, Beaten};
 
 use answers::Verdict;
+use arrays::ListedPlan;
 use instance::Instance;
 use limits::ENTRY_LIMIT;
 use plan_lookup::Listed;
@@ -48,7 +49,9 @@ pub(crate) fn voted(
     let sh = g.sh;
     let re = listed.edges;
     plan_writer::write_plan(listed.n, &re, &sv, &st, &sh, &mut *out);
-    let both = vote_plans::plan_votes(&g, plan, n, es, rival, listed.n, &re);
+    let of = ListedPlan { has: plan, n, edges: es };
+    let against = ListedPlan { has: rival, n: listed.n, edges: &re };
+    let both = vote_plans::plan_votes(&g, &of, &against);
     both.first
 }
 
@@ -147,7 +150,9 @@ pub fn weigh_paired(
     if w.rivalled {
         let rival = w.rival;
         let re = w.listed.edges;
-        vote_pairings::plan_pairings(&g, plan, n, es, &rival, w.listed.n, &re, pairings);
+        let of = ListedPlan { has: plan, n, edges: es };
+        let against = ListedPlan { has: &rival, n: w.listed.n, edges: &re };
+        vote_pairings::plan_pairings(&g, &of, &against, pairings);
     }
     w.verdict
 }
