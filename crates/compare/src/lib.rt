@@ -38,8 +38,16 @@ pub fn both_votes(
     ensures paired { Paired (both_pairings (shown_by g) p.now q.now) forward.old back.old
         forward.new back.new }
 {
-    let first = ListedPlan { has: p, n: pn, edges: pe };
-    let second = ListedPlan { has: q, n: qn, edges: qe };
+    let first = ListedPlan {
+        has: p,
+        n: pn,
+        edges: pe,
+    };
+    let second = ListedPlan {
+        has: q,
+        n: qn,
+        edges: qe,
+    };
     let both = vote_plans::plan_votes(&g, &first, &second);
     vote_pairings::both_pairings(&g, &first, &second, forward, back);
     both

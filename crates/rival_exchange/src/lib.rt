@@ -15,6 +15,7 @@ ghost use Rattle.rival_exchange.specs.Ways.{terminal_by, way_of, told, Offered, 
 ghost use Rattle.rival_search.specs.TwoThresholds.{Bounded};
 ghost use Rattle.rival_exchange.specs.Swaps.{Marks, gone_by, come_by};
 
+use arrays::ListedPlan;
 use instance::Instance;
 use limits::ENTRY_LIMIT;
 use rival_levels::Found;
@@ -164,23 +165,21 @@ pub fn ended(
 // What goes and what comes, by what was found.
 pub fn swap(
     g: &Instance,
-    plan: &[bool; ENTRY_LIMIT],
+    plan: &ListedPlan,
     room: &Room,
     links_s: &NodeLinks,
     links_t: &NodeLinks,
-    n: usize,
-    es: &[u16; 64],
     arcs: &[u8; 4096],
     found: Option<Found>,
 ) -> Swap
-    requires { (g.now.m ≤ entry_limit) × (n ≤ plan_limit) × Low g.now.m g.now.sv node_limit × Low g.now.m g.now.st node_limit × Low n es.now g.now.m × Small n arcs.now
-        × Bounded g.now.m n found × LinksOf g.now.m g.now.sv links_s.now × LinksOf g.now.m g.now.st links_t.now }
+    requires { (g.now.m ≤ entry_limit) × (plan.now.n ≤ plan_limit) × Low g.now.m g.now.sv node_limit × Low g.now.m g.now.st node_limit × Low plan.now.n plan.now.edges.now g.now.m × Small plan.now.n arcs.now
+        × Bounded g.now.m plan.now.n found × LinksOf g.now.m g.now.sv links_s.now × LinksOf g.now.m g.now.st links_t.now }
     ensures { Marks result.gone
-        (gone_by g.now.m g.now.sv g.now.st g.now.rank_s g.now.rank_t plan.now room.now.s room.now.t
-        es.now arcs.now n found)
+        (gone_by g.now.m g.now.sv g.now.st g.now.rank_s g.now.rank_t plan.now.has.now room.now.s room.now.t
+        plan.now.edges.now arcs.now plan.now.n found)
         × Marks result.come
-        (come_by g.now.m g.now.sv g.now.st g.now.rank_s g.now.rank_t plan.now room.now.s
-        room.now.t es.now arcs.now n found) }
+        (come_by g.now.m g.now.sv g.now.st g.now.rank_s g.now.rank_t plan.now.has.now room.now.s
+        room.now.t plan.now.edges.now arcs.now plan.now.n found) }
 {
     let blank = Swap {
         gone: [false; ENTRY_LIMIT],
@@ -195,15 +194,15 @@ pub fn swap(
             come: gained([false; ENTRY_LIMIT], g.m, f),
         },
         Found::Alone(i) => {
-            let x = es[i] as usize;
-            ended(g, plan, room, links_s, links_t, x, x)
+            let x = plan.edges[i] as usize;
+            ended(g, plan.has, room, links_s, links_t, x, x)
         }
-        Found::Closed(l, i) => rival_walk::walk(g, plan, links_t, n, es, arcs, l, i, i, blank),
+        Found::Closed(l, i) => rival_walk::walk(g, plan, links_t, arcs, l, i, i, blank),
         Found::Open(l, i, j) => {
-            let x = es[i] as usize;
-            let y = es[j] as usize;
-            let start = ended(g, plan, room, links_s, links_t, x, y);
-            rival_walk::walk(g, plan, links_t, n, es, arcs, l, i, j, start)
+            let x = plan.edges[i] as usize;
+            let y = plan.edges[j] as usize;
+            let start = ended(g, plan.has, room, links_s, links_t, x, y);
+            rival_walk::walk(g, plan, links_t, arcs, l, i, j, start)
         }
     }
 }

@@ -13,6 +13,7 @@ ghost use Rattle.rival_search.specs.SearchView.{EndsFor, alone_price, alone_at};
 ghost use Rattle.rival_search.specs.TwoThresholds.{places_at, found_in, OnTables};
 ghost use Rattle.rival_tables.specs.Within.{if_below};
 
+use arrays::ListedPlan;
 use instance::Instance;
 use limits::ENTRY_LIMIT;
 use rival_levels::Found;
@@ -22,37 +23,39 @@ use rival_tables::{NodeLinks, Room};
 // gained: each edge of the plan is lost at both ends, which costs 6.
 pub fn terminal_table(
     g: &Instance,
-    plan: &[bool; ENTRY_LIMIT],
+    plan: &ListedPlan,
     room: &Room,
     links_s: &NodeLinks,
     links_t: &NodeLinks,
-    n: usize,
-    es: &[u16; 64],
     ps: &[u8; 64],
     pt: &[u8; 64],
 ) -> [u8; 4096]
-    requires { (g.now.m ≤ entry_limit) × (n ≤ plan_limit) × Low g.now.m g.now.sv node_limit × Low g.now.m g.now.st node_limit
+    requires { (g.now.m ≤ entry_limit) × (plan.now.n ≤ plan_limit) × Low g.now.m g.now.sv node_limit × Low g.now.m g.now.st node_limit
         × LinksOf g.now.m g.now.sv links_s.now × LinksOf g.now.m g.now.st links_t.now
-        × Low n ps.now node_limit × Low n pt.now node_limit × Low n es.now entry_limit }
-    ensures { EndsFor g.now.m g.now.sv g.now.st g.now.rank_s g.now.rank_t plan.now room.now.s
-        room.now.t n es.now ps.now pt.now result }
+        × Low plan.now.n ps.now node_limit × Low plan.now.n pt.now node_limit × Low plan.now.n plan.now.edges.now entry_limit }
+    ensures { EndsFor g.now.m g.now.sv g.now.st g.now.rank_s g.now.rank_t plan.now.has.now room.now.s
+        room.now.t plan.now.n plan.now.edges.now ps.now pt.now result }
 {
     if rival_tables::first_room(&room.s).is_none() {
         if rival_tables::first_room(&room.t).is_none() {
             return [6u8; 4096];
         }
     }
-    let rps = rival_tables::gathered(n, es, &g.rank_s);
-    let rpt = rival_tables::gathered(n, es, &g.rank_t);
+    let rps = rival_tables::gathered(plan.n, plan.edges, &g.rank_s);
+    let rpt = rival_tables::gathered(plan.n, plan.edges, &g.rank_t);
     let starts = rival_gains::apart(
-        g.m, &g.st, &g.rank_s, plan, &room.t, links_s, n, ps, pt, &rps,
+        g.m, &g.st, &g.rank_s, plan.has, &room.t, links_s, plan.n, ps, pt, &rps,
     );
     let stops = rival_gains::apart(
-        g.m, &g.sv, &g.rank_t, plan, &room.s, links_t, n, pt, ps, &rpt,
+        g.m, &g.sv, &g.rank_t, plan.has, &room.s, links_t, plan.n, pt, ps, &rpt,
     );
-    let gs = rival_gains::gains(g.m, &g.st, &g.rank_s, plan, &room.t, links_s, n, ps, &rps);
-    let gt = rival_gains::gains(g.m, &g.sv, &g.rank_t, plan, &room.s, links_t, n, pt, &rpt);
-    rival_tables::terminals(n, &starts, &stops, &gs, &gt)
+    let gs = rival_gains::gains(
+        g.m, &g.st, &g.rank_s, plan.has, &room.t, links_s, plan.n, ps, &rps,
+    );
+    let gt = rival_gains::gains(
+        g.m, &g.sv, &g.rank_t, plan.has, &room.s, links_t, plan.n, pt, &rpt,
+    );
+    rival_tables::terminals(plan.n, &starts, &stops, &gs, &gt)
 }
 
 // The price of edge e of the plan if it is exchanged alone.
@@ -101,24 +104,22 @@ fn alone_price(
 // by one, and it is found without the table.
 pub fn alone(
     g: &Instance,
-    plan: &[bool; ENTRY_LIMIT],
+    plan: &ListedPlan,
     room: &Room,
     links_s: &NodeLinks,
     links_t: &NodeLinks,
-    n: usize,
-    es: &[u16; 64],
 ) -> Option<usize>
-    requires { (g.now.m ≤ entry_limit) × (n ≤ plan_limit) × Low g.now.m g.now.sv node_limit × Low g.now.m g.now.st node_limit
-        × LinksOf g.now.m g.now.sv links_s.now × LinksOf g.now.m g.now.st links_t.now × Low n es.now g.now.m }
-    ensures { result ≡ if_below n (alone_at g.now.m g.now.sv g.now.st g.now.rank_s g.now.rank_t plan.now room.now.s room.now.t es.now n) }
+    requires { (g.now.m ≤ entry_limit) × (plan.now.n ≤ plan_limit) × Low g.now.m g.now.sv node_limit × Low g.now.m g.now.st node_limit
+        × LinksOf g.now.m g.now.sv links_s.now × LinksOf g.now.m g.now.st links_t.now × Low plan.now.n plan.now.edges.now g.now.m }
+    ensures { result ≡ if_below plan.now.n (alone_at g.now.m g.now.sv g.now.st g.now.rank_s g.now.rank_t plan.now.has.now room.now.s room.now.t plan.now.edges.now plan.now.n) }
 {
     if rival_tables::first_room(&room.s).is_none() {
         if rival_tables::first_room(&room.t).is_none() {
             return None;
         }
     }
-    for i in 0..n {
-        let price = alone_price(g, plan, room, links_s, links_t, es[i] as usize);
+    for i in 0..plan.n {
+        let price = alone_price(g, plan.has, room, links_s, links_t, plan.edges[i] as usize);
         if price < 4 {
             return Some(i);
         }

@@ -14,6 +14,7 @@ ghost use Rattle.arrays.specs.Filled.{Made};
 ghost use Rattle.rival_tables.specs.Filled.{cell};
 ghost use Rattle.rival_tables.specs.Within.{if_below};
 
+use arrays::ListedPlan;
 use instance::Instance;
 use limits::ENTRY_LIMIT;
 use rival_tables::NodeLinks;
@@ -142,40 +143,38 @@ pub fn arc_edge(
 // The walk of level l from place i to place j. It is read back by the layers below l, whose column of place j is made first.
 pub fn walk(
     g: &Instance,
-    plan: &[bool; ENTRY_LIMIT],
+    plan: &ListedPlan,
     links_t: &NodeLinks,
-    n: usize,
-    es: &[u16; 64],
     arcs: &[u8; 4096],
     l: usize,
     i: usize,
     j: usize,
     start: Swap,
 ) -> Swap
-    requires { (g.now.m ≤ entry_limit) × (n ≤ plan_limit) × Low n es.now g.now.m × Small n arcs.now × (l < 64) × (i < n) × (j < n)
+    requires { (g.now.m ≤ entry_limit) × (plan.now.n ≤ plan_limit) × Low plan.now.n plan.now.edges.now g.now.m × Small plan.now.n arcs.now × (l < 64) × (i < plan.now.n) × (j < plan.now.n)
         × Low g.now.m g.now.st node_limit × LinksOf g.now.m g.now.st links_t.now }
     ensures { Walked start
-        (walk_at (arc_edge g.now.m g.now.sv g.now.st g.now.rank_s g.now.rank_t plan.now) es.now
-        arcs.now n j l i) result }
+        (walk_at (arc_edge g.now.m g.now.sv g.now.st g.now.rank_s g.now.rank_t plan.now.has.now) plan.now.edges.now
+        arcs.now plan.now.n j l i) result }
 {
     let last = if l > 0 { l - 1 } else { 0 };
-    let table = columns(n, arcs, j, last);
+    let table = columns(plan.n, arcs, j, last);
     let mut gone = start.gone;
     let mut come = start.come;
     let mut c = i;
     for k in (0..l).rev() {
-        if let Some(y) = lead(n, arcs, &table, k, c).place {
-            let x = es[c] as usize;
-            let z = es[y] as usize;
-            let f = arc_edge(g, plan, links_t, x, z);
+        if let Some(y) = lead(plan.n, arcs, &table, k, c).place {
+            let x = plan.edges[c] as usize;
+            let z = plan.edges[y] as usize;
+            let f = arc_edge(g, plan.has, links_t, x, z);
             gone[z] = true;
             come[f] = true;
             c = y;
         }
     }
-    let x = es[c] as usize;
-    let z = es[j] as usize;
-    let f = arc_edge(g, plan, links_t, x, z);
+    let x = plan.edges[c] as usize;
+    let z = plan.edges[j] as usize;
+    let f = arc_edge(g, plan.has, links_t, x, z);
     gone[z] = true;
     come[f] = true;
     Swap {

@@ -49,8 +49,16 @@ pub(crate) fn voted(
     let sh = g.sh;
     let re = listed.edges;
     plan_writer::write_plan(listed.n, &re, &sv, &st, &sh, &mut *out);
-    let of = ListedPlan { has: plan, n, edges: es };
-    let against = ListedPlan { has: rival, n: listed.n, edges: &re };
+    let of = ListedPlan {
+        has: plan,
+        n,
+        edges: es,
+    };
+    let against = ListedPlan {
+        has: rival,
+        n: listed.n,
+        edges: &re,
+    };
     let both = vote_plans::plan_votes(&g, &of, &against);
     both.first
 }
@@ -77,7 +85,12 @@ pub fn weighed(
     ensures weighed_for { WeighedFor (shown_by g) plan.now out.old result.verdict out.new }
     ensures rival_for { RivalFor (shown_by g) plan.now result.rivalled result.rival result.listed.n result.listed.edges }
 {
-    let j = rival_verdict::judge(&g, plan, n, es);
+    let of = ListedPlan {
+        has: plan,
+        n,
+        edges: es,
+    };
+    let j = rival_verdict::judge(&g, &of);
     let rival = j.rival;
     if let Standing::Strong = j.standing {
         return WithRival {
@@ -110,7 +123,12 @@ pub fn is_strong(g: Instance, plan: &[bool; ENTRY_LIMIT], n: usize, es: &[u16; 6
     requires { Loaded g × ((M : Plan) × Shows (shown_by g) plan.now M) × edges.Listed g.m plan.now n es.now }
     ensures { (M : Plan) → Shows (shown_by g) plan.now M → result ≡ is_strong (verdict_of (shown_by g) M) }
 {
-    let j = rival_verdict::judge(&g, plan, n, es);
+    let of = ListedPlan {
+        has: plan,
+        n,
+        edges: es,
+    };
+    let j = rival_verdict::judge(&g, &of);
     match j.standing {
         Standing::Strong => true,
         _ => false,
@@ -150,8 +168,16 @@ pub fn weigh_paired(
     if w.rivalled {
         let rival = w.rival;
         let re = w.listed.edges;
-        let of = ListedPlan { has: plan, n, edges: es };
-        let against = ListedPlan { has: &rival, n: w.listed.n, edges: &re };
+        let of = ListedPlan {
+            has: plan,
+            n,
+            edges: es,
+        };
+        let against = ListedPlan {
+            has: &rival,
+            n: w.listed.n,
+            edges: &re,
+        };
         vote_pairings::plan_pairings(&g, &of, &against, pairings);
     }
     w.verdict

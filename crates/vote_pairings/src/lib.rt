@@ -82,12 +82,7 @@ pub fn side_pairings(
 }
 
 // The pairings of the vote of plan p, whose edges are the first pn of pe, against plan q, at the buffer's front.
-pub fn plan_pairings(
-    g: &Instance,
-    p: &ListedPlan,
-    q: &ListedPlan,
-    out: &mut [u8],
-)
+pub fn plan_pairings(g: &Instance, p: &ListedPlan, q: &ListedPlan, out: &mut [u8])
     requires both_asked { BothAsked g.now.ns g.now.nt g.now.sv g.now.st g.now.rank_s g.now.rank_t g.now.quota_s g.now.quota_t p.now.has.now p.now.n p.now.edges.now q.now.has.now q.now.n q.now.edges.now }
     requires nt_in_bounds { 2 * (sum (at g.now.quota_s) (up_to g.now.ns) + sum (at g.now.quota_t) (up_to g.now.nt)) ≤ length out.old }
     ensures { PlanFaced g.now.ns g.now.nt g.now.sv g.now.st g.now.rank_s g.now.rank_t g.now.quota_s g.now.quota_t
@@ -141,6 +136,18 @@ pub fn both_pairings(
     ensures plan_faced_2 { PlanFaced g.now.ns g.now.nt g.now.sv g.now.st g.now.rank_s g.now.rank_t g.now.quota_s g.now.quota_t
         q.now.has.now q.now.n q.now.edges.now p.now.has.now p.now.n p.now.edges.now back.old back.new }
 {
-    let middle = both_sides_pairings(g.ns, &g.sv, &g.rank_s, g.quota_s, p, q, &mut *forward, &mut *back, 0);
-    both_sides_pairings(g.nt, &g.st, &g.rank_t, g.quota_t, p, q, forward, back, middle);
+    let middle = both_sides_pairings(
+        g.ns,
+        &g.sv,
+        &g.rank_s,
+        g.quota_s,
+        p,
+        q,
+        &mut *forward,
+        &mut *back,
+        0,
+    );
+    both_sides_pairings(
+        g.nt, &g.st, &g.rank_t, g.quota_t, p, q, forward, back, middle,
+    );
 }

@@ -12,7 +12,7 @@ returns-then-is_none-2 c =
     let a = c.args in
     λ rps rpt rank_s rank_t i j h k. get_or-replicate 4096 (i * 64 + j) 6 0 (omega (arith, c.requires.1, h, k))
     ∙ sym
-    (full_cell a.g.now.m a.g.now.sv a.g.now.st a.g.now.rank_s a.g.now.rank_t a.plan.now a.room.now.s a.room.now.t a.ps.now a.pt.now rps rpt
+    (full_cell a.g.now.m a.g.now.sv a.g.now.st a.g.now.rank_s a.g.now.rank_t a.plan.now.has.now a.room.now.s a.room.now.t a.ps.now a.pt.now rps rpt
     c.requires.2 c.requires.3 (none_is_below 32 (low (flag a.room.now.s) 32) c.if-is_none.ensures c.first_room.ensures)
     (none_is_below 32 (low (flag a.room.now.t) 32) c.if-is_none-2.ensures c.first_room-then-is_none.ensures) i j)
 
@@ -46,14 +46,14 @@ terminals-requires c =
             λ i j h k. omega (
               arith,
               c.apart-starts.ensures a.g.now.sv c.requires.4 i j h (omega (arith, c.requires.1, k)),
-              but_small a.g.now.m a.g.now.sv a.g.now.st a.g.now.rank_s a.plan.now a.room.now.t (at a.ps.now i) (at rps i)
+              but_small a.g.now.m a.g.now.sv a.g.now.st a.g.now.rank_s a.plan.now.has.now a.room.now.t (at a.ps.now i) (at rps i)
                   (at a.pt.now j),
             );
         stop =
             λ i j h k. omega (
               arith,
               c.apart-stops.ensures a.g.now.st c.requires.5 i j h (omega (arith, c.requires.1, k)),
-              but_small a.g.now.m a.g.now.st a.g.now.sv a.g.now.rank_t a.plan.now a.room.now.s (at a.pt.now i) (at rpt i)
+              but_small a.g.now.m a.g.now.st a.g.now.sv a.g.now.rank_t a.plan.now.has.now a.room.now.s (at a.pt.now i) (at rpt i)
                   (at a.ps.now j),
             );
         both =
@@ -61,8 +61,8 @@ terminals-requires c =
               arith,
               c.gains-gs.ensures a.g.now.sv c.requires.4 i h,
               c.gains-gt.ensures a.g.now.st c.requires.5 j k,
-              gain_small a.g.now.m a.g.now.sv a.g.now.st a.g.now.rank_s a.plan.now a.room.now.t (at a.ps.now i) (at rps i),
-              gain_small a.g.now.m a.g.now.st a.g.now.sv a.g.now.rank_t a.plan.now a.room.now.s (at a.pt.now j) (at rpt j),
+              gain_small a.g.now.m a.g.now.sv a.g.now.st a.g.now.rank_s a.plan.now.has.now a.room.now.t (at a.ps.now i) (at rps i),
+              gain_small a.g.now.m a.g.now.st a.g.now.sv a.g.now.rank_t a.plan.now.has.now a.room.now.s (at a.pt.now j) (at rpt j),
             );
       },
     )
@@ -70,7 +70,7 @@ terminals-requires c =
 pub returns : goal.returns
 returns c =
     let a = c.args in
-    ends_ranked a.g.now.m a.g.now.sv a.g.now.st a.g.now.rank_s a.g.now.rank_t a.plan.now a.room.now.s a.room.now.t a.n a.es.now a.ps.now
+    ends_ranked a.g.now.m a.g.now.sv a.g.now.st a.g.now.rank_s a.g.now.rank_t a.plan.now.has.now a.room.now.s a.room.now.t a.plan.now.n a.plan.now.edges.now a.ps.now
     a.pt.now c.gathered-rps.result c.gathered-rpt.result c.terminals.result c.gathered-rps.ensures c.gathered-rpt.ensures
     (λ i j h k. c.terminals.ensures i j h k
     ∙ ap₂ (λ x y. min (x + 3) y)

@@ -19,7 +19,7 @@ swap-s-requires c =
       p.3,
       p.4,
       p.5,
-      subst (Bounded a.g.now.m a.n) (sym c.find-found.ensures) (tables_bounded a.g.now.m a.arcs.now a.ends.now a.n h.result h.ensures),
+      subst (Bounded a.g.now.m a.plan.now.n) (sym c.find-found.ensures) (tables_bounded a.g.now.m a.arcs.now a.ends.now a.plan.now.n h.result h.ensures),
       p.8,
       p.9,
     )
@@ -35,7 +35,7 @@ returns c =
       h.ensures,
       c.of.ensures,
       subst
-          (λ (w : Option Found). Exchanged a.g.now.m a.g.now.sv a.g.now.st a.g.now.rank_s a.g.now.rank_t a.plan.now a.room.now.s a.room.now.t a.n a.es.now a.arcs.now w c.exchanged-rival.result)
+          (λ (w : Option Found). Exchanged a.g.now.m a.g.now.sv a.g.now.st a.g.now.rank_s a.g.now.rank_t a.plan.now.has.now a.room.now.s a.room.now.t a.plan.now.n a.plan.now.edges.now a.arcs.now w c.exchanged-rival.result)
           c.find-found.ensures
           (c.swap-s.result.gone, c.swap-s.result.come, c.swap-s.ensures.0, c.swap-s.ensures.1, c.exchanged-rival.ensures),
     )

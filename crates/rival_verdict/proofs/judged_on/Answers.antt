@@ -21,8 +21,8 @@ returns-in-Some c =
     let a = c.args in
     let f = c.in-Some.f in
     let g = c.gained-come in
-    let (e, h) = found_below a.g.now.m f (low (free_at a.g.now.sv a.g.now.st a.plan.now a.room.now.s a.room.now.t) a.g.now.m) c.in-Some.is c.direct.ensures in
-    λ quota_s quota_t roomyS roomyT. direct_shown a.g.now.m a.g.now.sv a.g.now.st a.g.now.rank_s a.g.now.rank_t quota_s quota_t a.plan.now a.n a.es.now
+    let (e, h) = found_below a.g.now.m f (low (free_at a.g.now.sv a.g.now.st a.plan.now.has.now a.room.now.s a.room.now.t) a.g.now.m) c.in-Some.is c.direct.ensures in
+    λ quota_s quota_t roomyS roomyT. direct_shown a.g.now.m a.g.now.sv a.g.now.st a.g.now.rank_s a.g.now.rank_t quota_s quota_t a.plan.now.has.now a.plan.now.n a.plan.now.edges.now
     a.ps.now a.pt.now a.room.now.s a.room.now.t c.requires.1 c.requires.2 c.requires.3 c.requires.4 c.requires.5 roomyS roomyT f
     (replicate 1024 false) g.result c.exchanged-rival.result e h (blank_none 1024) (blank_one 1024 a.g.now.m f g.result h g.ensures)
     c.exchanged-rival.ensures
@@ -45,7 +45,7 @@ judged_by_tables-requires c = (
   c.requires.7,
   c.of-links_s.ensures,
   c.of-links_t.ensures,
-  nothing_below c.args.g.now.m (low (free_at c.args.g.now.sv c.args.g.now.st c.args.plan.now c.args.room.now.s c.args.room.now.t) c.args.g.now.m) c.in_default.is c.direct.ensures,
+  nothing_below c.args.g.now.m (low (free_at c.args.g.now.sv c.args.g.now.st c.args.plan.now.has.now c.args.room.now.s c.args.room.now.t) c.args.g.now.m) c.in_default.is c.direct.ensures,
 )
 
 pub returns : goal.returns
