@@ -1,5 +1,6 @@
 -- What the desk's calls for C answer: the numbers in the model's answer, and all that the desk promises.
-use Rattle.std.specs.Prelude.{ℕ, ◌≡◌, refl, List}
+use Rattle.std.specs.Prelude.{ℕ, ◌≡◌, refl, List, Result}
+use Rattle.std.specs.declared.result.Result.TheVariants.{Ok, Err}
 use Rattle.std.proofs.Common.{sym, ap, ◌∙◌, subst}
 use Rattle.std.proofs.Math.Option.{some}
 use Rattle.model.specs.Roster.{Roster}
@@ -8,7 +9,8 @@ use Rattle.model.specs.Plans.{Plan}
 use Rattle.model_desk.specs.Desk.{plan_held, Topic, Call, judge, Answer, said, Level, holding, holds, level_of, state_refusal, answer_of}
 use Rattle.model_desk.specs.Rivals.{RivalSaid}
 use Rattle.answers.specs.declared.Verdict.{Verdict}
-use Rattle.answers.specs.declared.Verdict.TheVariants.{Strong, Popular, Beaten, Refused}
+use Rattle.answers.specs.declared.Verdict.TheVariants.{Strong, Popular, Beaten}
+use Rattle.answers.specs.declared.Refusal.{Refusal}
 use Rattle.answers.specs.VerdictCases.{verdict_shown}
 use Rattle.abi_numbers.specs.declared.Judged.{Judged}
 use Rattle.abi_numbers.specs.Numbers.{judged_in, level_number}
@@ -39,7 +41,7 @@ pub record JudgedFor (d : Files) (v f : List ℕ) (n : Judged) (v' f' : List ℕ
       → RivalSaid (instance_of R) M (answered (held_of d) (judge v f)) (v, f) (v', f')
   pub rival_length_law : n.rival_length ≡ rival_on (held_of d) (answered (held_of d) (judge v f))
 
-pub judged : {d : Files} {v f : List ℕ} {a : Verdict} {k : ℕ} {n : Judged} {v' f' : List ℕ} {d' : Files} → Judges d v f a k v' f' d'
+pub judged : {d : Files} {v f : List ℕ} {a : Result Verdict Refusal} {k : ℕ} {n : Judged} {v' f' : List ℕ} {d' : Files} → Judges d v f a k v' f' d'
     → n ≡ judged_in k (verdict_shown a) → JudgedFor d v f n v' f' d'
 judged {d} {v} {f} {a} {k} {n} {v'} {f'} {d'} J e = record {
   served = served (judged_in n.rival_length) J.replied (e ∙ ap (λ k. judged_in k (verdict_shown a)) (sym same));
@@ -47,11 +49,11 @@ judged {d} {v} {f} {a} {k} {n} {v'} {f'} {d'} J e = record {
   rival_length_law = same ∙ J.rival_length_law ∙ ap (rival_on (held_of d)) J.replied.answer;
 }
   where
-    length_in : (a : Verdict) → (judged_in k (verdict_shown a)).rival_length ≡ k
-    length_in Strong = refl
-    length_in (Popular w) = refl
-    length_in (Beaten w) = refl
-    length_in (Refused m g) = refl
+    length_in : (a : Result Verdict Refusal) → (judged_in k (verdict_shown a)).rival_length ≡ k
+    length_in (Ok Strong) = refl
+    length_in (Ok (Popular w)) = refl
+    length_in (Ok (Beaten w)) = refl
+    length_in (Err r) = refl
 
     same : n.rival_length ≡ k
     same = ap (λ (x : Judged). x.rival_length) e ∙ length_in a

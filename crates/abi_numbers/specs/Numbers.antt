@@ -1,5 +1,7 @@
 -- What an answer's numbers are, read off the model's answer. 0 is no refusal, and what an answer does not have.
-use Rattle.std.specs.Prelude.{ℕ, ◌≡◌, refl, pos}
+use Rattle.std.specs.Prelude.{ℕ, ◌≡◌, refl, pos, Result, ⊤}
+use Rattle.std.specs.declared.result.Result.TheVariants.{Ok, Err}
+use Rattle.std.proofs.Common.{ap}
 use Rattle.lists.specs.Test.{bit}
 use Rattle.model.specs.Reading as reading
 use Rattle.model.specs.Reading.{Reading, accepted}
@@ -8,7 +10,10 @@ use Rattle.model_desk.specs.Desk.{Topic, writes, finds, judges, blocks, proposes
 use Rattle.model_desk.specs.Desk.{wrote, plan, none, strong, popular, beaten, blocked_by, unblocked, both_votes, least_vote}
 use Rattle.model_desk.specs.Desk.{Level, bare, a_roster, a_plan, a_proposal}
 use Rattle.model_files.specs.Profile as profile
-use Rattle.answers.specs.FileCases.{file_shown, file_case}
+use Rattle.answers.specs.declared.Refusal.{Refusal}
+use Rattle.answers.specs.RefusalCases.{reading_of, code_of}
+use Rattle.answers.specs.FileCases.{file_shown, file_read}
+use Rattle.answers.specs.ProposalCases.{commit_shown}
 use Rattle.abi_numbers.specs.declared.Outcome.{Outcome}
 use Rattle.abi_numbers.specs.declared.Judged.{Judged}
 use Rattle.abi_numbers.specs.declared.Blocker.{Blocker}
@@ -85,7 +90,18 @@ abbrev pub refusal_of : {A : Type 0} → Reading A → ℕ
 refusal_of (accepted a) = 0
 refusal_of (reading.refused n) = n
 
--- of the answer that shows a reading
-pub reading_number : {A : Type 0} (x : Reading A) → refusal_in (file_shown (file_case x)) ≡ refusal_of x
-reading_number (accepted a) = refl
-reading_number (reading.refused n) = refl
+-- of the result that shows a reading
+pub reading_number : {A : Type 0} (r : Result ⊤ Refusal) (x : Reading A) → reading_of r ≡ file_read x → code_of r ≡ refusal_of x
+reading_number (Ok u) (accepted a) e = refl
+reading_number (Ok u) (reading.refused n) e = ap refusal_of e
+reading_number (Err q) (accepted a) e = ap refusal_of e
+reading_number (Err q) (reading.refused n) e = ap refusal_of e
+
+-- of the answer that shows a result
+pub loaded_number : (r : Result ⊤ Refusal) → code_of r ≡ refusal_in (file_shown r)
+loaded_number (Ok u) = refl
+loaded_number (Err q) = refl
+
+pub commit_number : (r : Result ⊤ Refusal) → code_of r ≡ refusal_in (commit_shown r)
+commit_number (Ok u) = refl
+commit_number (Err q) = refl

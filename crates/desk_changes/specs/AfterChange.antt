@@ -9,6 +9,7 @@ use Rattle.theory_files.specs.Reads.{is_bytes}
 use Rattle.theory_files.specs.ByLists.{Storable}
 use Rattle.theory_files.specs.Joined.{join_storable}
 use Rattle.theory_files.specs.Departed.{leave_storable}
+use Rattle.answers.specs.RefusalCases.{code_of}
 use Rattle.desk_files.specs.Held.{roster_bytes}
 use Rattle.desk_files.specs.declared.Files.{Files}
 use Rattle.desk_find.specs.Outcomes.{short, Kept}
@@ -18,8 +19,8 @@ use Rattle.desk_find.specs.declared.Searched.{Searched}
 use Rattle.desk_find.specs.Finding.{Settled, Done}
 
 pub record FoundOn (c : Change) (room : ℕ) (l p v : List ℕ) (r : Searched) (l' p' v' : List ℕ) : Type 0 where
-  pub refuses : 0 < c.refusal → (r.files ≡ c.files) × Kept c.refusal l p v r.outcome l' p' v'
-  pub finds : c.refusal ≤ 0 → Done c.files room l p v r l' p' v'
+  pub refuses : 0 < code_of c.answer → (r.files ≡ c.files) × Kept (code_of c.answer) l p v r.outcome l' p' v'
+  pub finds : code_of c.answer ≤ 0 → Done c.files room l p v r l' p' v'
 
 -- a change made of the desk's files, and the finder on them
 pub record ChangeDone (d : Files) (change : ToRoster) (s room : ℕ) (l p v : List ℕ) (r : Searched) (l' p' v' : List ℕ) : Type 0 where
@@ -39,10 +40,10 @@ JoinDone d q file room l p v r l' p' v' = T (is_bytes file) × ChangeDone d (λ 
 
 -- ---- a change that is not refused settles what the finder behind it asks: the changed roster is accepted, and the buffers have their sizes
 module _ (d : Files) (change : ToRoster) (storable : (R H : Roster) → T (fits R) → change R ≡ accepted H → Storable H) (s : ℕ) (c : Change) where
-  not_now : {n : ℕ} {A : Type 0} → c.refusal ≤ 0 → 0 < n → c.refusal ≡ n → A
+  not_now : {n : ℕ} {A : Type 0} → code_of c.answer ≤ 0 → 0 < n → code_of c.answer ≡ n → A
   not_now z h e = absurd (let z : ⊥ = omega arith in z)
 
-  pub changed_settled : (room : ℕ) (l p v : List ℕ) {b : Bool} → b ≡ short room l p v → ChangedTo d b change s c → c.refusal ≤ 0
+  pub changed_settled : (room : ℕ) (l p v : List ℕ) {b : Bool} → b ≡ short room l p v → ChangedTo d b change s c → code_of c.answer ≤ 0
       → Settled c.files room l p v
   changed_settled room l p v {b} is C z = go (read_roster (roster_bytes d)) b is C
     where
@@ -57,9 +58,9 @@ module _ (d : Files) (change : ToRoster) (storable : (R H : Roster) → T (fits 
       go (accepted R) false is (f, w, u) = (taken R f (change R) refl u, sym is)
 
 pub join_settled : (d : Files) (q : ℕ) (file : List ℕ) → T (is_bytes file) → (c : Change) (room : ℕ) (l p v : List ℕ) {b : Bool} → b ≡ short room l p v
-    → ChangedTo d b (λ R. join_on R q file) 0 c → c.refusal ≤ 0 → Settled c.files room l p v
+    → ChangedTo d b (λ R. join_on R q file) 0 c → code_of c.answer ≤ 0 → Settled c.files room l p v
 join_settled d q file is_b c = changed_settled d (λ R. join_on R q file) (λ R H f e. join_storable R q file H is_b e f) 0 c
 
 pub leave_settled : (d : Files) (n : ℕ) (c : Change) (room : ℕ) (l p v : List ℕ) {b : Bool} → b ≡ short room l p v
-    → ChangedTo d b (λ R. leave_on R n) n c → c.refusal ≤ 0 → Settled c.files room l p v
+    → ChangedTo d b (λ R. leave_on R n) n c → code_of c.answer ≤ 0 → Settled c.files room l p v
 leave_settled d n c = changed_settled d (λ R. leave_on R n) (λ R H f e. leave_storable R n H e f) n c

@@ -3,6 +3,7 @@
 
 ghost use Rattle.std.specs.Prelude.{◌≤◌};
 ghost use Rattle.model_changes.specs.Changes.{leave_on};
+ghost use Rattle.answers.specs.RefusalCases.{code_of};
 ghost use Rattle.desk_find.specs.Finding.{Settled};
 ghost use Rattle.desk_changes.specs.AfterChange.{FoundOn, ChangeDone, JoinDone};
 
@@ -18,19 +19,17 @@ pub(crate) fn found_on(
     plan: &mut [u8],
     rival: &mut [u8],
 ) -> Searched
-    requires { c.refusal ≤ 0 → Settled c.files room left.old plan.old rival.old }
+    requires { code_of c.answer ≤ 0 → Settled c.files room left.old plan.old rival.old }
     ensures { FoundOn c room left.old plan.old rival.old result left.new plan.new rival.new }
 {
-    let n = c.refusal;
     let files = c.files;
-    if 0 < n {
-        let o = desk_find::refused(n);
-        return Searched {
+    match c.answer {
+        Err(refusal) => Searched {
             files: files,
-            outcome: o,
-        };
+            outcome: desk_find::refused(refusal),
+        },
+        Ok(()) => desk_find::search_changed(files, room, left, plan, rival),
     }
-    desk_find::search_changed(files, room, left, plan, rival)
 }
 
 // All of a join but the lent diary, of which it is told the length.

@@ -1,12 +1,12 @@
 -- What the find call promises: the model's reply, for a roster held demand 3 in named parts, and how much was written; and how that follows from what
 -- the core says and the filled diary.
-use Rattle.std.specs.Prelude.{ℕ, ◌≤◌, ◌<◌, ◌≡◌, refl, Bool, true, not, cond, ◌||◌, List, length, replicate, T, ltb}
+use Rattle.std.specs.Prelude.{ℕ, ◌≤◌, ◌<◌, ◌≡◌, refl, Bool, true, not, cond, ◌||◌, List, length, replicate, T, ltb, Result}
+use Rattle.std.specs.declared.result.Result.TheVariants.{Ok, Err}
 use Rattle.std.proofs.Common.{arith, ◌∙◌, subst, nltb→le}
 use Rattle.std.proofs.Math.Path.{sym, ap}
 use Rattle.std.proofs.Math.Bool.{false}
 use Rattle.std.proofs.lemmas.List.{length-map}
 use Rattle.model.specs.Limits.{plan_size, diary_size, left_size}
-use Rattle.model.specs.Refusal.{group_of}
 use Rattle.model.specs.Reading as reading
 use Rattle.model.specs.Reading.{Reading, accepted}
 use Rattle.model.specs.Roster.{Roster}
@@ -17,7 +17,7 @@ use Rattle.model.specs.Plans.{Plan}
 use Rattle.model.specs.PlanFile.{read_plan}
 use Rattle.model.specs.Reduction.{steps_of}
 use Rattle.model.specs.Finder as F
-use Rattle.model.specs.Finder.{record_of, diary_of, finder_of}
+use Rattle.model.specs.Finder.{Record, record_of, diary_of, finder_of}
 use Rattle.model_desk.specs.Desk.{Call, finds, find, refused, refusal, found_on, found_bytes, lent_short, state_refusal, answer_on, lent_on, found_answer}
 use Rattle.model_desk.specs.Desk.{found_written, onto}
 use Rattle.theory_verdict.specs.Rival.{rival_of}
@@ -27,8 +27,8 @@ use Rattle.diary.specs.declared.Step.{Step}
 use Rattle.diary.specs.LentSteps.{record_in, records_in, steps_in}
 use Rattle.diary_records.specs.FilledDiary.{filled_diary, filled_none}
 use Rattle.answers.specs.declared.Found.{Found}
-use Rattle.answers.specs.FinderCases.{found_shown}
-use Rattle.answers.specs.GroupCases.{shown_case}
+use Rattle.answers.specs.declared.Refusal.{Refusal}
+use Rattle.answers.specs.FinderCases.{finding_shown, found_shown}
 use Rattle.finder.specs.Promise as promise
 use Rattle.finder.specs.Promise.{Promise, written_is, shown_is, steps_are}
 use Rattle.finder.proofs.Promise.{promised}
@@ -72,13 +72,18 @@ pub done_on : {d : Files} {room : ℕ} {l p v : List ℕ} {c : Searched} {l' p' 
 done_on {d} {room} {l} {p} {v} {c} {l'} {p'} {v'} e q o =
     record { same = q; outcome = subst (λ b. Outcomes b room l p v c.outcome l' p' v') e o }
 
+-- demand 3 of an answer: what is found, and no refusal
+abbrev pub PromiseOf : Roster → Result Found Refusal → (s : List Record) (l p v : List ℕ) (s' : List Record) (l' p' v' : List ℕ) → Type 0
+PromiseOf R (Ok f) s l p v s' l' p' v' = Promise R f s l p v s' l' p' v'
+PromiseOf R (Err n) s l p v s' l' p' v' = ⊥
+
 -- the call's promise
-pub record Finds (d : Files) (s : List Step) (l p v : List ℕ) (answer : Found) (n : Lengths) (s' : List Step) (l' p' v' : List ℕ) (d' : Files)
+pub record Finds (d : Files) (s : List Step) (l p v : List ℕ) (answer : Result Found Refusal) (n : Lengths) (s' : List Step) (l' p' v' : List ℕ) (d' : Files)
     : Type 0 where
   pub replied : Replied d (find (records_in s) l p v) (found_shown answer) (find (records_in s') l' p' v') d'
   -- demand 3, whole, for the roster held and buffers of their sizes
   pub demand3 : (R : Roster) → read_roster (roster_bytes d) ≡ accepted R → T (not (lent_short (find (records_in s) l p v)))
-      → Promise R answer (records_in s) l p v (records_in s') l' p' v'
+      → PromiseOf R answer (records_in s) l p v (records_in s') l' p' v'
   -- how many bytes of a plan or candidate and of a rival were written
   pub lengths : n ≡ lengths_on (held_of d') (found_shown answer)
 
@@ -87,9 +92,10 @@ fit : (room : ℕ) (l p v : List ℕ) (o : Outcome) (l' p' v' : List ℕ) (x : R
     → OutcomeFor x b l p v o l' p' v' → (o.steps ≤ diary_size) × (o.steps ≤ room)
 fit room l p v o l' p' v' (reading.refused n) b q k = (omega (arith, k.refuses.steps), omega (arith, k.refuses.steps))
 fit room l p v o l' p' v' (accepted R) true q k = (omega (arith, k.refuses.steps), omega (arith, k.refuses.steps))
-fit room l p v o l' p' v' (accepted R) false q (f, e, n) =
+fit room l p v o l' p' v' (accepted R) false q k =
     let G = instance_of R in
-    let m : o.steps ≡ length (steps_of G) = e ∙ ap promise.steps_in f.finds.wrote.answer ∙ steps_are (length (steps_of G)) (finder_of G (rival_of G)) in
+    let f = k.finds in
+    let m : o.steps ≡ length (steps_of G) = k.steps ∙ ap promise.steps_in f.finds.wrote.answer ∙ steps_are (length (steps_of G)) (finder_of G (rival_of G)) in
     let h : diary_size ≤ room =
     nltb→le room diary_size (first (ltb room diary_size) (ltb (length l) left_size || (ltb (length p) plan_size || ltb (length v) plan_size)) q) in
     (omega (arith, steps_few G, f.few), omega (arith, steps_few G, f.few))
@@ -136,7 +142,7 @@ module _ (s : List Step) (l p v : List ℕ) where
     lent_on_law : lent_on chosen (beside proposal (held (accepted R) plan)) call ≡ found_written find G (finder_of G (rival_of G)) (records_in s) l p v
     lent_on_law = sym (of_roster call (λ r. found_bytes chosen find r (records_in s) l p v) R (read_plan G plan) proposal)
 
-  module _ (d : Files) (ans : Found) (d' : Files) (same : d' ≡ d) (flat : List ℕ) (s' : List Step) (l' p' v' : List ℕ) where
+  module _ (d : Files) (ans : Result Found Refusal) (d' : Files) (same : d' ≡ d) (flat : List ℕ) (s' : List Step) (l' p' v' : List ℕ) where
     state_here : (x : Reading Roster) → read_roster (roster_bytes d) ≡ x → (b : Bool) → short (length s) l p v ≡ b
         → state_at x b ≡ state_number (held_of d) false (lent_short call)
     unfolding held_of
@@ -151,16 +157,17 @@ module _ (s : List Step) (l p v : List ℕ) where
     refused_reply n h e o a k q =
         subst (λ z. Replied d call (found_shown ans) (find (records_in s') l' p' v') z) (sym same)
         (subst (λ c. Replied d call (found_shown ans) c d) (λ i. find (records_in (sym q i)) (sym k.left i) (sym k.plan i) (sym k.rival i))
-        (by_state d call tt tt e h (ap found_shown (sym a ∙ k.refuses.answer) ∙ ap (refused n) (shown_case (group_of n)))))
+        (by_state d call tt tt e h (ap found_shown (sym a) ∙ k.refuses.answer)))
 
     -- what was found
-    module _ (R : Roster) (e : read_roster (roster_bytes d) ≡ accepted R) (f : FindsFor R (replicate flat_size 0) l p v ans flat l' p' v')
+    module _ (R : Roster) (e : read_roster (roster_bytes d) ≡ accepted R) {r : Found} (is : ans ≡ Ok r)
+        (f : FindsFor R (replicate flat_size 0) l p v r flat l' p' v')
         (q : records_in s' ≡ onto (diary_of (instance_of R)) (records_in s)) where
       abbrev x : F.Found
       x = finder_of (instance_of R) (rival_of (instance_of R))
 
       answer_here : found_shown ans ≡ found_answer (length (steps_of (instance_of R))) x
-      answer_here = ap found_shown f.finds.wrote.answer ∙ shown_is (length (steps_of (instance_of R))) x
+      answer_here = ap found_shown is ∙ ap finding_shown f.finds.wrote.answer ∙ shown_is (length (steps_of (instance_of R))) x
 
       lent_here : find (records_in s') l' p' v' ≡ found_written find (instance_of R) x (records_in s) l p v
       lent_here =
@@ -176,9 +183,10 @@ module _ (s : List Step) (l p v : List ℕ) where
         stored = same;
       }
 
-      promised_here : Promise R ans (records_in s) l p v (records_in s') l' p' v'
+      promised_here : PromiseOf R ans (records_in s) l p v (records_in s') l' p' v'
       promised_here =
-          subst (λ a. Promise R a (records_in s) l p v (records_in s') l' p' v') (sym f.finds.wrote.answer)
+          subst (λ a. PromiseOf R a (records_in s) l p v (records_in s') l' p' v') (sym is)
+          (subst (λ a. Promise R a (records_in s) l p v (records_in s') l' p' v') (sym f.finds.wrote.answer)
           (subst (λ z. Promise R (answer_for (length (steps_of (instance_of R))) x) (records_in s) l p v z l' p' v') (sym q)
           (subst
           (λ z. Promise R (answer_for (length (steps_of (instance_of R))) x) (records_in s) l p v (onto (diary_of (instance_of R)) (records_in s)) z p' v')
@@ -191,10 +199,10 @@ module _ (s : List Step) (l p v : List ℕ) where
           (λ z. Promise R (answer_for (length (steps_of (instance_of R))) x) (records_in s) l p v (onto (diary_of (instance_of R)) (records_in s))
           (left_after (instance_of R) x l) (plan_after (instance_of R) x p) z)
           (sym f.finds.wrote.rival)
-          (promised R f.fitting (records_in s) l p v)))))
+          (promised R f.fitting (records_in s) l p v))))))
 
     -- the filled diary is the model's
-    diary_here : (R : Roster) (steps : ℕ) → FindsFor R (replicate flat_size 0) l p v ans flat l' p' v' → steps ≡ promise.steps_in ans
+    diary_here : (R : Roster) (steps : ℕ) {r : Found} → FindsFor R (replicate flat_size 0) l p v r flat l' p' v' → steps ≡ promise.steps_in r
         → s' ≡ onto (steps_in steps flat) s → records_in s' ≡ onto (diary_of (instance_of R)) (records_in s)
     unfolding diary_of
     diary_here R steps f n w = filled_diary (diary_of (instance_of R)) steps flat (replicate flat_size 0) s s' f.finds.diary
@@ -206,7 +214,7 @@ module _ (s : List Step) (l p v : List ℕ) where
     abbrev Both : Lengths → Type 0
     Both n = Replied d call (found_shown ans) (find (records_in s') l' p' v') d'
         × ((R : Roster) → read_roster (roster_bytes d) ≡ accepted R → T (not (lent_short call))
-        → Promise R ans (records_in s) l p v (records_in s') l' p' v')
+        → PromiseOf R ans (records_in s) l p v (records_in s') l' p' v')
         × (n ≡ lengths_on (held_of d') (found_shown ans))
 
     by_outcome : (x : Reading Roster) → read_roster (roster_bytes d) ≡ x → (b : Bool) → short (length s) l p v ≡ b → (steps : ℕ) (n : Lengths)
@@ -230,12 +238,15 @@ module _ (s : List Step) (l p v : List ℕ) where
       λ R a t. absurd (subst (λ b. T (not b)) (sym short_is ∙ q) t),
       refused_lengths (held_of d') 15 (record { answer = ans; lengths = m; flat = flat; steps = steps }) k.refuses,
     )
-    by_outcome (accepted R) e false q steps m (f, n, k) w = (
-      found_reply R e f (diary_here R steps f n w) (state_here (accepted R) e false q ∙ states (held_of d) call tt tt),
-      λ R' a t. subst (λ Q. Promise Q ans (records_in s) l p v (records_in s') l' p' v') (one (sym e ∙ a))
-          (promised_here R e f (diary_here R steps f n w)),
-      k ∙ lengths_held d R e (found_shown ans) ∙ ap (λ z. lengths_on (held_of z) (found_shown ans)) (sym same),
-    )
+    by_outcome (accepted R) e false q steps m k w =
+        let f = k.finds in
+        let D = diary_here R steps f k.steps w in
+        (
+          found_reply R e k.answer f D (state_here (accepted R) e false q ∙ states (held_of d) call tt tt),
+          λ R' a t. subst (λ Q. PromiseOf Q ans (records_in s) l p v (records_in s') l' p' v') (one (sym e ∙ a)) (promised_here R e k.answer f D),
+          k.lengths ∙ lengths_held d R e (finding_shown k.found) ∙ ap (λ a. lengths_on (held_of d) (found_shown a)) (sym k.answer)
+              ∙ ap (λ z. lengths_on (held_of z) (found_shown ans)) (sym same),
+        )
       where
         roster_of : Roster → Reading Roster → Roster
         roster_of R (accepted Q) = Q

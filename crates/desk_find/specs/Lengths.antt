@@ -18,7 +18,7 @@ use Rattle.theory_verdict.specs.Rival.{rival_of}
 use Rattle.answers.specs.declared.Found.{Found}
 use Rattle.answers.specs.declared.Found.TheVariants as says
 use Rattle.answers.specs.declared.NoneKind.TheVariants as kind
-use Rattle.answers.specs.FinderCases.{found_shown}
+use Rattle.answers.specs.FinderCases.{finding_shown}
 use Rattle.finder_candidate.specs.FoundBuffers.{plan_after, rival_after, answer_for}
 use Rattle.desk_files.specs.declared.Files.{Files}
 use Rattle.desk_files.specs.Held.{roster_bytes, plan_bytes as heldBytes, proposal_bytes, held_of, of_roster}
@@ -47,11 +47,10 @@ abbrev pub lengths_in : Found → (plan rival : ℕ) → Lengths
 lengths_in (says.Plan n) p v = record { plan = length_of p; rival = 0 }
 lengths_in (says.None n (kind.Left k)) p v = unwritten
 lengths_in (says.None n (kind.Rivalled w)) p v = record { plan = length_of p; rival = length_of v }
-lengths_in (says.Refused n g) p v = unwritten
 
 module _ (G : Instance) (n : ℕ) (p v : List ℕ) where
   abbrev Told : F.Found → Type 0
-  Told x = lengths_in (answer_for n x) (get_or (plan_after G x p) 0 0) (get_or (rival_after G x v) 0 0) ≡ lengths_of G (found_shown (answer_for n x))
+  Told x = lengths_in (answer_for n x) (get_or (plan_after G x p) 0 0) (get_or (rival_after G x v) 0 0) ≡ lengths_of G (finding_shown (answer_for n x))
 
   -- by what the finder leaves in the buffers
   pub lengths_told : Told (finder_of G (rival_of G))

@@ -4,13 +4,14 @@
 
 ghost use Rattle.std.specs.Prelude.{◌≤◌, ◌≡◌, length};
 ghost use Rattle.model.specs.Limits.{plan_size, left_size};
+ghost use Rattle.answers.specs.RefusalCases.{number_of};
 ghost use Rattle.instance.specs.Decoded.{shown_by};
 ghost use Rattle.instance.specs.Loaded.{Loaded};
 ghost use Rattle.desk_find.specs.Lengths.{lengths_in};
 ghost use Rattle.desk_find.specs.Outcomes.{Refuses, Works, Outcomes};
 ghost use Rattle.desk_find.specs.Finding.{Settled, Done};
 
-use answers::{Found, NoneKind};
+use answers::{Found, NoneKind, Refusal};
 use desk_files::Files;
 use instance::Instance;
 use limits::FLAT_SIZE;
@@ -25,7 +26,7 @@ pub struct Lengths {
 // What the finder answers, how much it has written, and the diary as numbers, five a record, with the number of its records: 0 of them on a refusal.
 #[derive(Drop)]
 pub struct Outcome {
-    pub answer: Found,
+    pub answer: Result<Found, Refusal>,
     pub lengths: Lengths,
     pub flat: [u8; FLAT_SIZE],
     pub steps: usize,
@@ -39,11 +40,11 @@ pub struct Searched {
 }
 
 // A refusal: nothing written, no record.
-pub fn refused(number: u8) -> Outcome
-    ensures { Refuses number result }
+pub fn refused(refusal: Refusal) -> Outcome
+    ensures { Refuses (number_of refusal) result }
 {
     Outcome {
-        answer: Found::Refused(number, answers::group_of(number)),
+        answer: Err(refusal),
         lengths: Lengths { plan: 0, rival: 0 },
         flat: [0; FLAT_SIZE],
         steps: 0,
@@ -66,7 +67,6 @@ pub(crate) fn written_lengths(answer: &Found, plan: u8, rival: u8) -> Lengths
                 rival: desk_files::plan_length(rival),
             },
         },
-        Found::Refused(_, _) => Lengths { plan: 0, rival: 0 },
     }
 }
 
@@ -86,7 +86,7 @@ pub(crate) fn worked(g: Instance, left: &mut [u8], plan: &mut [u8], rival: &mut 
     let steps = trace.steps;
     let flat = diary_records::flat_records(&sv, &st, &sh, trace);
     Outcome {
-        answer: answer,
+        answer: Ok(answer),
         lengths: written,
         flat: flat,
         steps: steps,
@@ -107,12 +107,10 @@ pub(crate) fn found(
         rival.new }
 {
     let short = desk_files::finder_short(room, left.len(), plan.len(), rival.len());
-    let l = desk_loaded::loaded(roster, held, false, short);
-    let n = l.refusal;
-    if 0 < n {
-        return refused(n);
+    match desk_loaded::loaded(roster, held, false, short) {
+        Err(refusal) => refused(refusal),
+        Ok(l) => worked(l.g, left, plan, rival),
     }
-    worked(l.g, left, plan, rival)
 }
 
 // The finder on the files of a desk, which stay.

@@ -141,11 +141,11 @@ pub fn departed(files: Files, short: bool, number: u8) -> Change
     ensures { ChangedTo files short (λ R. leave_on R number) number result }
 {
     let array = files.roster;
-    let file = desk_files::front(&array, files.roster_len);
-    match desk_loaded::check_roster(file, short) {
+    let held = desk_files::front(&array, files.roster_len);
+    match desk_loaded::check_roster(held, short) {
         Err(refusal) => unchanged(files, refusal),
         Ok(()) => {
-            let c = roster_leave::leave(file, number);
+            let c = roster_leave::leave(held, number);
             taken(files, c, number)
         }
     }

@@ -26,6 +26,3 @@ returns-in-Rivalled c =
     ap₂ both c.plan_length-in-Rivalled.ensures c.plan_length-in-Rivalled-2.ensures
     ∙ ap (λ x. lengths_in (found.None c.in-None.field-0 x) a.plan a.rival) (sym c.in-Rivalled.is)
     ∙ ap (λ x. lengths_in x a.plan a.rival) (sym c.in-None.is)
-
-pub returns-in-Refused : goal.returns-in-Refused
-returns-in-Refused c = let a = c.args in ap (λ x. lengths_in x a.plan a.rival) (sym c.in-Refused.is)
