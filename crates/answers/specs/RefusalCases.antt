@@ -1,7 +1,7 @@
 -- What each refusal of the code stands for: the number that the documents give it. And a call's result, which may be one, in the words of the model's
 -- readings: what was read, or the number of the refusal.
-use Rattle.std.specs.Prelude.{ℕ, ◌<◌, Result}
-use Rattle.std.proofs.Common.{arith}
+use Rattle.std.specs.Prelude.{ℕ, zero, suc, ◌<◌, ◌≡◌, refl, Result}
+use Rattle.std.proofs.Common.{arith, sym, ap, ◌∙◌}
 use Rattle.std.specs.declared.result.Result.TheVariants.{Ok, Err}
 use Rattle.model.specs.Reading.{Reading, accepted, refused}
 use Rattle.answers.specs.declared.Refusal.{Refusal}
@@ -68,3 +68,60 @@ number_some refusal.NoProposal = omega arith
 number_some refusal.NoRange = omega arith
 number_some refusal.NotOneToOne = omega arith
 number_some refusal.NoRoute = omega arith
+
+-- the refusal of a number, by cases from 1 on; what has no number of its own is the first
+abbrev refusal_at : ℕ → Refusal
+refusal_at zero = refusal.CutShort
+refusal_at (suc zero) = refusal.CutShort
+refusal_at (suc (suc zero)) = refusal.TooMany
+refusal_at (suc (suc (suc zero))) = refusal.QuotaTooHigh
+refusal_at (suc (suc (suc (suc zero)))) = refusal.NoSuchNode
+refusal_at (suc (suc (suc (suc (suc zero))))) = refusal.ListedTwice
+refusal_at (suc (suc (suc (suc (suc (suc zero)))))) = refusal.TieNotAscending
+refusal_at (suc (suc (suc (suc (suc (suc (suc zero))))))) = refusal.WrongCount
+refusal_at (suc (suc (suc (suc (suc (suc (suc (suc zero)))))))) = refusal.OneSided
+refusal_at (suc (suc (suc (suc (suc (suc (suc (suc (suc zero))))))))) = refusal.BytesLeft
+refusal_at (suc (suc (suc (suc (suc (suc (suc (suc (suc (suc zero)))))))))) = refusal.NoSuchPair
+refusal_at (suc (suc (suc (suc (suc (suc (suc (suc (suc (suc (suc zero))))))))))) = refusal.PairsNotAscending
+refusal_at (suc (suc (suc (suc (suc (suc (suc (suc (suc (suc (suc (suc zero)))))))))))) = refusal.PastQuota
+refusal_at (suc (suc (suc (suc (suc (suc (suc (suc (suc (suc (suc (suc (suc zero))))))))))))) = refusal.NoRoster
+refusal_at (suc (suc (suc (suc (suc (suc (suc (suc (suc (suc (suc (suc (suc (suc zero)))))))))))))) = refusal.NoPlan
+refusal_at (suc (suc (suc (suc (suc (suc (suc (suc (suc (suc (suc (suc (suc (suc (suc zero))))))))))))))) = refusal.BufferTooSmall
+refusal_at (suc (suc (suc (suc (suc (suc (suc (suc (suc (suc (suc (suc (suc (suc (suc (suc zero)))))))))))))))) = refusal.NoSuchSurveyor
+refusal_at (suc (suc (suc (suc (suc (suc (suc (suc (suc (suc (suc (suc (suc (suc (suc (suc (suc zero))))))))))))))))) = refusal.RosterFull
+refusal_at (suc (suc (suc (suc (suc (suc (suc (suc (suc (suc (suc (suc (suc (suc (suc (suc (suc (suc zero)))))))))))))))))) = refusal.NoSuchShift
+refusal_at (suc (suc (suc (suc (suc (suc (suc (suc (suc (suc (suc (suc (suc (suc (suc (suc (suc (suc (suc zero))))))))))))))))))) = refusal.OtherShift
+refusal_at (suc (suc (suc (suc (suc (suc (suc (suc (suc (suc (suc (suc (suc (suc (suc (suc (suc (suc (suc (suc zero)))))))))))))))))))) = refusal.NoProposal
+refusal_at (suc (suc (suc (suc (suc (suc (suc (suc (suc (suc (suc (suc (suc (suc (suc (suc (suc (suc (suc (suc (suc zero))))))))))))))))))))) = refusal.NoRange
+refusal_at (suc (suc (suc (suc (suc (suc (suc (suc (suc (suc (suc (suc (suc (suc (suc (suc (suc (suc (suc (suc (suc (suc zero)))))))))))))))))))))) = refusal.NotOneToOne
+refusal_at (suc (suc (suc (suc (suc (suc (suc (suc (suc (suc (suc (suc (suc (suc (suc (suc (suc (suc (suc (suc (suc (suc (suc zero))))))))))))))))))))))) = refusal.NoRoute
+refusal_at (suc (suc (suc (suc (suc (suc (suc (suc (suc (suc (suc (suc (suc (suc (suc (suc (suc (suc (suc (suc (suc (suc (suc (suc n)))))))))))))))))))))))) = refusal.CutShort
+
+number_told : (r : Refusal) → refusal_at (number_of r) ≡ r
+number_told refusal.CutShort = refl
+number_told refusal.TooMany = refl
+number_told refusal.QuotaTooHigh = refl
+number_told refusal.NoSuchNode = refl
+number_told refusal.ListedTwice = refl
+number_told refusal.TieNotAscending = refl
+number_told refusal.WrongCount = refl
+number_told refusal.OneSided = refl
+number_told refusal.BytesLeft = refl
+number_told refusal.NoSuchPair = refl
+number_told refusal.PairsNotAscending = refl
+number_told refusal.PastQuota = refl
+number_told refusal.NoRoster = refl
+number_told refusal.NoPlan = refl
+number_told refusal.BufferTooSmall = refl
+number_told refusal.NoSuchSurveyor = refl
+number_told refusal.RosterFull = refl
+number_told refusal.NoSuchShift = refl
+number_told refusal.OtherShift = refl
+number_told refusal.NoProposal = refl
+number_told refusal.NoRange = refl
+number_told refusal.NotOneToOne = refl
+number_told refusal.NoRoute = refl
+
+-- no two refusals have the same number
+pub same_number : (r s : Refusal) → number_of r ≡ number_of s → r ≡ s
+same_number r s e = sym (number_told r) ∙ ap refusal_at e ∙ number_told s

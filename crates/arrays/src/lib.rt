@@ -8,6 +8,16 @@ ghost use Rattle.model.specs.Limits.{entry_limit, node_limit};
 ghost use Rattle.arrays.specs.Passes.{Low};
 ghost use Rattle.arrays.specs.Linked.{Linked};
 
+use limits::ENTRY_LIMIT;
+
+// A plan: whether it has each edge, and the list of those that it has, n of them.
+#[derive(Clone, Copy)]
+pub struct ListedPlan<'a> {
+    pub has: &'a [bool; ENTRY_LIMIT],
+    pub n: usize,
+    pub edges: &'a [u16; 64],
+}
+
 // From the last edge to the first: what was the first edge of its node is the next one after it. The first edges are returned, m where a node has
 // none.
 pub fn links(m: usize, end: &[u8], next: &mut [u16]) -> [u16; 32]
@@ -15,9 +25,7 @@ pub fn links(m: usize, end: &[u8], next: &mut [u16]) -> [u16; 32]
     ensures { (length next.new ≡ length next.old) × Linked m end.now result next.new }
 {
     let mut head = [m as u16; 32];
-    let mut i = m;
-    while i > 0 {
-        i -= 1;
+    for i in (0..m).rev() {
         let v = end[i] as usize;
         next[i] = head[v];
         head[v] = i as u16;

@@ -15,6 +15,7 @@ ghost use Rattle.plan_reader.specs.Planned.{Planned};
 ghost use Rattle.compare.specs.TwoPlans.{Paired};
 
 use answers::{Comparison, Refusal};
+use arrays::ListedPlan;
 use instance::Instance;
 use limits::ENTRY_LIMIT;
 use vote_plans::Votes;
@@ -37,16 +38,18 @@ pub fn both_votes(
     ensures paired { Paired (both_pairings (shown_by g) p.now q.now) forward.old back.old
         forward.new back.new }
 {
-    let sv = g.sv;
-    let st = g.st;
-    let rs = g.rank_s;
-    let rt = g.rank_t;
-    let qs = g.quota_s;
-    let qt = g.quota_t;
-    let both = vote_plans::plan_votes(g.m, g.ns, g.nt, &sv, &st, &rs, &rt, p, pn, pe, q, qn, qe);
-    vote_pairings::both_pairings(
-        g.ns, g.nt, &sv, &st, &rs, &rt, qs, qt, p, pn, pe, q, qn, qe, forward, back,
-    );
+    let first = ListedPlan {
+        has: p,
+        n: pn,
+        edges: pe,
+    };
+    let second = ListedPlan {
+        has: q,
+        n: qn,
+        edges: qe,
+    };
+    let both = vote_plans::plan_votes(&g, &first, &second);
+    vote_pairings::both_pairings(&g, &first, &second, forward, back);
     both
 }
 

@@ -23,7 +23,9 @@ use Rattle.instance.specs.Loaded.{Loaded}
 use Rattle.desk_loaded.specs.declared.OnDesk.{OnDesk}
 use Rattle.model_desk.specs.HeldFiles.{held_plan, held, held_proposal, beside}
 use Rattle.desk_loaded.specs.Held.{state_number}
-use Rattle.desk_loaded.specs.OnDesk.{PlanIn, LoadedFrom, its_roster, its_plan, its_length}
+use Rattle.answers.specs.declared.Refusal.{Refusal}
+use Rattle.answers.specs.RefusalCases.{number_of}
+use Rattle.desk_loaded.specs.OnDesk.{PlanIn, LoadedFrom, NotLoaded, its_roster, its_plan, its_length}
 use Rattle.desk_files.specs.Held.{roster_bytes, plan_bytes, proposal_bytes, held_of, beside_number, of_plan}
 use Rattle.desk_files.specs.Replies.{answered, lent_then, is_accepted, Stored, Replied}
 
@@ -134,10 +136,10 @@ unfolding held_of
 state_is d {needs} {short} F = F.refusal ∙ beside_number (proposal_bytes d) (held (read_roster (roster_bytes d)) (plan_bytes d)) needs short
 
 -- the same where it is a refusal
-pub state_refuses : (d : Files) (needs short : Bool) {n : ℕ} → n ≡ state_number (held (read_roster (roster_bytes d)) (plan_bytes d)) needs short
-    → n ≡ state_number (held_of d) needs short
+pub state_refuses : (d : Files) (needs short : Bool) {e : Refusal} → NotLoaded (roster_bytes d) (plan_bytes d) needs short e
+    → number_of e ≡ state_number (held_of d) needs short
 unfolding held_of
-state_refuses d needs short e = e ∙ beside_number (proposal_bytes d) (held (read_roster (roster_bytes d)) (plan_bytes d)) needs short
+state_refuses d needs short F = F.number ∙ beside_number (proposal_bytes d) (held (read_roster (roster_bytes d)) (plan_bytes d)) needs short
 
 -- the arrays of the roster held
 pub arrays_are : (d : Files) {needs short : Bool} {n : ℕ} {l : OnDesk} → LoadedFrom (roster_bytes d) (plan_bytes d) needs short n l → n ≤ 0 → Loaded l.g
@@ -205,3 +207,9 @@ held_within d F R M h = given (both_read (roster_bytes d) (plan_bytes d) (propos
   F.fitting R a,
   subst (λ G. M ∈ plans_of G) (F.instance R a).1 (F.planned R a tt M b).0.within,
 ))
+
+-- and where the call is refused
+pub refused_within : (d : Files) {needs short : Bool} {e : Refusal} → NotLoaded (roster_bytes d) (plan_bytes d) needs short e → (R : Roster) (M : Plan)
+    → plan_held (held_of d) ≡ some (R, M) → T (fits R) × (M ∈ plans_of (instance_of R))
+unfolding held_of
+refused_within d F R M h = given (both_read (roster_bytes d) (plan_bytes d) (proposal_bytes d) R M h) (λ (a, b). (F.fitting R a, F.within R M a b))

@@ -55,9 +55,15 @@ abbrev pub OnRosterAs : Instance → (file : List ℕ) → (needs short : Bool) 
 OnRosterAs g file needs short (Ok r) = OnRoster g file needs short 0 r
 OnRosterAs g file needs short (Err e) = (R : Roster) → number_of e ≡ state_number (held_plan R (read_plan (shown_by g) file)) needs short
 
+-- the state's refusal; and of what is held nothing stale is said: a roster held is within the limits, and a plan held within its quotas
+pub record NotLoaded (roster plan : List ℕ) (needs short : Bool) (e : Refusal) : Type 0 where
+  pub number : number_of e ≡ state_number (held (read_roster roster) plan) needs short
+  pub fitting : (R : Roster) → read_roster roster ≡ accepted R → T (fits R)
+  pub within : (R : Roster) (M : Plan) → read_roster roster ≡ accepted R → read_plan (instance_of R) plan ≡ accepted M → M ∈ plans_of (instance_of R)
+
 abbrev pub LoadedAs : (roster plan : List ℕ) → (needs short : Bool) → Result OnDesk Refusal → Type 0
 LoadedAs roster plan needs short (Ok r) = LoadedFrom roster plan needs short 0 r
-LoadedAs roster plan needs short (Err e) = number_of e ≡ state_number (held (read_roster roster) plan) needs short
+LoadedAs roster plan needs short (Err e) = NotLoaded roster plan needs short e
 
 -- ---- what is refused is not accepted
 abbrev is_refused : {A : Type 0} → Reading A → Bool
@@ -118,6 +124,14 @@ plan_unneeded g file short r same e = record {
 }
 
 -- ---- the roster's bytes
+pub not_loaded : (roster file : List ℕ) → T (is_bytes roster) → T (is_bytes file) → {needs short : Bool} {e : Refusal}
+    → number_of e ≡ state_number (held (read_roster roster) file) needs short → NotLoaded roster file needs short e
+not_loaded roster file r f q = record {
+  number = q;
+  fitting = λ R a. read_fits roster R r a;
+  within = λ R M a b. plan_read_within (instance_of R) file M f b;
+}
+
 pub roster_missing : (roster file : List ℕ) (needs short : Bool) {r : Result ⊤ Refusal} {n : Refusal} → r ≡ Err n → reading_of r ≡ file_read (read_roster roster)
     → 13 ≡ state_number (held (read_roster roster) file) needs short
 roster_missing roster file needs short q e = sym (ap (λ x. state_number (held x file) needs short) (read_refused (read_roster roster) q e))
@@ -142,10 +156,11 @@ module _ (roster : List ℕ) (is_b : T (is_bytes roster)) {x : Result ⊤ Refusa
   }
 
   -- the same of a call's result
-  pub roster_read : (file : List ℕ) (needs short : Bool) (r : Result OnDesk Refusal) → OnRosterAs g file needs short r → LoadedAs roster file needs short r
-  roster_read file needs short (Ok r) O = roster_there file needs short 0 r O
-  roster_read file needs short (Err n) O =
-      O R₀ ∙ ap (λ G. state_number (held_plan R₀ (read_plan G file)) needs short) (D.shows R₀ a₀) ∙ sym (ap (λ x. state_number (held x file) needs short) a₀)
+  pub roster_read : (file : List ℕ) → T (is_bytes file) → (needs short : Bool) (r : Result OnDesk Refusal) → OnRosterAs g file needs short r
+      → LoadedAs roster file needs short r
+  roster_read file f needs short (Ok r) O = roster_there file needs short 0 r O
+  roster_read file f needs short (Err n) O = not_loaded roster file is_b f
+      (O R₀ ∙ ap (λ G. state_number (held_plan R₀ (read_plan G file)) needs short) (D.shows R₀ a₀) ∙ sym (ap (λ x. state_number (held x file) needs short) a₀))
 
 -- ---- a call that the state lets pass
 no_number : {A : Type 0} {n k : ℕ} → n ≤ 0 → n ≡ suc k → A

@@ -1,5 +1,5 @@
 -- What the comparison's call promises: the model's reply, and the part in that same answer, tied to its file by its place in memory and its bytes.
-use Rattle.std.specs.Prelude.{ℕ, ◌≤◌, ◌≡◌, Bool, true, false, not, cond, List, [], ◌∷◌, length, ltb}
+use Rattle.std.specs.Prelude.{ℕ, ◌≤◌, ◌≡◌, Bool, true, false, not, cond, List, [], ◌∷◌, length, ltb, Result}
 use Rattle.std.proofs.Common.{arith, ap, ◌∙◌, subst}
 use Rattle.std.proofs.Math.Dec.{T}
 use Rattle.std.specs.Borrow.{Bor}
@@ -13,7 +13,8 @@ use Rattle.model_desk.specs.Compare.{second_judged, first_judged, comparison_of}
 use Rattle.model_desk.specs.Desk as D
 use Rattle.model_desk.specs.Desk.{Held, nothing, roster, planned, Answer, is_refused, refusal, compare, comparison_answer, part_in, answer_of, state_refusal}
 use Rattle.answers.specs.declared.Comparison.{Comparison}
-use Rattle.answers.specs.declared.Comparison.TheVariants.{Votes, Refused}
+use Rattle.std.specs.declared.result.Result.TheVariants.{Ok, Err}
+use Rattle.answers.specs.declared.Refusal.{Refusal}
 use Rattle.answers.specs.ComparisonCases.{part_shown, comparison_shown, part_shown_law}
 use Rattle.compare_winner.specs.Parts.{placed, Counted}
 use Rattle.desk_files.specs.declared.Files.{Files}
@@ -22,7 +23,7 @@ use Rattle.desk_files.specs.Replies.{answered, Replied}
 
 -- the comparison's call on desk d with two lent files and two buffers for the pairings of both votes (W-208): the answer, the part, the buffers and
 -- the desk then
-pub record Compares (d : Files) (first second : Bor (List ℕ)) (f k : List ℕ) (answer : Comparison) (handed : Bor (List ℕ)) (f' k' : List ℕ) (d' : Files)
+pub record Compares (d : Files) (first second : Bor (List ℕ)) (f k : List ℕ) (answer : Result Comparison Refusal) (handed : Bor (List ℕ)) (f' k' : List ℕ) (d' : Files)
     : Type 0 where
   pub replied : Replied d (compare first.now second.now f k) (comparison_shown answer) (compare first.now second.now f' k') d'
   -- "the winner's pair bytes are handed back as a part of its own file": "the winner's for first and second, and empty for both and neither" (W-206);
@@ -71,16 +72,16 @@ module _ (a b f k : List ℕ) where
   sized G t = both_filled G a b (by_size refusing small (comparison_answer (comparison_of G a b)) t)
 
   -- so a part can be named without the count byte
-  pub counted : (h : Held) (c : Comparison) → comparison_shown c ≡ answered h (compare a b f k) → Counted c a b
+  pub counted : (h : Held) (c : Result Comparison Refusal) → comparison_shown c ≡ answered h (compare a b f k) → Counted c a b
   unfolding answer_of state_refusal
-  counted h (Refused n g) e = tt
-  counted nothing (Votes v w x) e = absurd (subst (λ z. T (is_votes z)) e tt)
-  counted (roster r) (Votes v w x) e = sized (instance_of r) (subst (λ z. T (is_votes z)) e tt)
-  counted (planned r M) (Votes v w x) e = sized (instance_of r) (subst (λ z. T (is_votes z)) e tt)
-  counted (D.proposed r M N) (Votes v w x) e = sized (instance_of r) (subst (λ z. T (is_votes z)) e tt)
+  counted h (Err n) e = tt
+  counted nothing (Ok v) e = absurd (subst (λ z. T (is_votes z)) e tt)
+  counted (roster r) (Ok v) e = sized (instance_of r) (subst (λ z. T (is_votes z)) e tt)
+  counted (planned r M) (Ok v) e = sized (instance_of r) (subst (λ z. T (is_votes z)) e tt)
+  counted (D.proposed r M N) (Ok v) e = sized (instance_of r) (subst (λ z. T (is_votes z)) e tt)
 
 -- ---- the part that the answer names is the one with the model's answer
-pub compares : (d : Files) (first second : Bor (List ℕ)) (f k : List ℕ) (answer : Comparison) (handed : Bor (List ℕ)) (f' k' : List ℕ) (d' : Files)
+pub compares : (d : Files) (first second : Bor (List ℕ)) (f k : List ℕ) (answer : Result Comparison Refusal) (handed : Bor (List ℕ)) (f' k' : List ℕ) (d' : Files)
     → Replied d (compare first.now second.now f k) (comparison_shown answer) (compare first.now second.now f' k') d'
     → (handed.ref_ptr, handed.now) ≡ placed first second (part_shown answer first.now second.now) → Compares d first second f k answer handed f' k' d'
 compares d first second f k answer handed f' k' d' R e = record {

@@ -5,6 +5,7 @@ use Rattle.model.specs.Reading.{Reading, accepted, refused}
 use Rattle.model.specs.Roster.{Roster, fits}
 use Rattle.model.specs.RosterFile.{read_roster, write_roster}
 use Rattle.model.specs.Edges.{instance_of}
+use Rattle.answers.specs.RefusalCases.{code_of}
 use Rattle.desk_files.specs.declared.Files.{Files}
 use Rattle.desk_stored.specs.declared.Change.{Change}
 use Rattle.desk_files.specs.Held.{roster_bytes}
@@ -18,7 +19,7 @@ ToRoster = Roster → Reading Roster
 -- by the model's reading of the change, of the roster held and the buffers' sizes
 abbrev pub ChangedFor : Roster → Reading Roster → (number : ℕ) → Files → Change → Type 0
 ChangedFor R (refused n) s d r = (0 < n) × Unchanged n d r
-ChangedFor R (accepted H) s d r = (r.refusal ≡ 0) × Made (instance_of R) d s (write_roster H) r.files
+ChangedFor R (accepted H) s d r = (code_of r.answer ≡ 0) × Made (instance_of R) d s (write_roster H) r.files
 
 -- 13 without a roster, 15 for short buffers, and then the change's own
 abbrev pub ChangeFor : Reading Roster → (isShort : Bool) → ToRoster → (number : ℕ) → Files → Change → Type 0

@@ -1,5 +1,6 @@
 -- A changed roster stored (W-202): what it makes of the desk's files, and what a refusal leaves.
-use Rattle.std.specs.Prelude.{ℕ, ◌≤◌, ◌<◌, ◌≡◌, List, [], take}
+use Rattle.std.specs.Prelude.{ℕ, ◌≡◌, List, [], take, Result}
+use Rattle.std.specs.declared.result.Result.TheVariants.{Ok, Err}
 use Rattle.lists.specs.Sum.{◌∈◌}
 use Rattle.model.specs.Reading.{Reading, accepted, refused}
 use Rattle.model.specs.Roster.{Roster}
@@ -10,14 +11,16 @@ use Rattle.model.specs.Plans.{Plan, plans_of}
 use Rattle.model.specs.PlanFile as plans
 use Rattle.model.specs.PlanFile.{read_plan}
 use Rattle.theory_files.specs.Carried.{besides}
-use Rattle.roster_parts.specs.declared.Changed.{Changed}
+use Rattle.answers.specs.declared.Refusal.{Refusal}
+use Rattle.answers.specs.RefusalCases.{number_of, code_of}
+use Rattle.roster_parts.specs.declared.RosterBytes.{RosterBytes}
 use Rattle.desk_files.specs.declared.Files.{Files}
 use Rattle.desk_stored.specs.declared.Change.{Change}
 use Rattle.desk_files.specs.Held.{roster_bytes, plan_bytes, proposal_bytes}
 
 -- a refusal leaves the files
 abbrev pub Unchanged : ℕ → Files → Change → Type 0
-Unchanged n d r = (r.refusal ≡ n) × (r.files ≡ d)
+Unchanged n d r = (code_of r.answer ≡ n) × (r.files ≡ d)
 
 -- the bytes of the plan held, which is within the quotas, less the pairs of a number; none where no plan is held
 abbrev pub LessOf : Instance → (number : ℕ) → Reading Plan → List ℕ → Type 0
@@ -50,9 +53,9 @@ pub record Made (G : Instance) (d : Files) (s : ℕ) (roster : List ℕ) (d' : F
   pub proposal : Open (roster_bytes d) roster (proposal_bytes d) (proposal_bytes d')
 
 -- by the answer of the change's bytes
-pub record TakenFor (G : Instance) (d : Files) (s : ℕ) (c : Changed) (r : Change) : Type 0 where
-  pub refuses : 0 < c.refusal → Unchanged c.refusal d r
-  pub takes : c.refusal ≤ 0 → (r.refusal ≡ 0) × Made G d s (take c.len c.roster) r.files
+abbrev pub TakenFor : (G : Instance) (d : Files) (s : ℕ) (c : Result RosterBytes Refusal) (r : Change) → Type 0
+TakenFor G d s (Err n) r = Unchanged (number_of n) d r
+TakenFor G d s (Ok b) r = (code_of r.answer ≡ 0) × Made G d s (take b.len b.roster) r.files
 
-abbrev pub Taken : (d : Files) (s : ℕ) (c : Changed) (r : Change) → Type 0
+abbrev pub Taken : (d : Files) (s : ℕ) (c : Result RosterBytes Refusal) (r : Change) → Type 0
 Taken d s c r = (R : Roster) → read_roster (roster_bytes d) ≡ accepted R → TakenFor (instance_of R) d s c r

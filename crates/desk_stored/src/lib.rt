@@ -7,6 +7,7 @@ ghost use Rattle.model.specs.Reading.{accepted};
 ghost use Rattle.model.specs.Roster.{Roster};
 ghost use Rattle.model.specs.RosterFile.{read_roster};
 ghost use Rattle.model.specs.PlanFile.{read_plan};
+ghost use Rattle.answers.specs.RefusalCases.{number_of};
 ghost use Rattle.instance.specs.Decoded.{shown_by};
 ghost use Rattle.instance.specs.Loaded.{Loaded};
 ghost use Rattle.desk_files.specs.Held.{roster_bytes};
@@ -14,24 +15,25 @@ ghost use Rattle.desk_stored.specs.Storing.{Unchanged, LessOf, LessHeld, StoredA
 ghost use Rattle.model_changes.specs.Changes.{join_on, leave_on};
 ghost use Rattle.desk_stored.specs.Changing.{ChangedTo};
 
+use answers::Refusal;
 use desk_files::Files;
 use instance::Instance;
 use limits::{PLAN_SIZE, ROSTER_SIZE};
 use plan_carried::CarriedPlan;
-use roster_parts::Changed;
+use roster_parts::RosterBytes;
 
-// A refusal, 0 for none, and the files afterwards: on a refusal as they came.
+// Taken or refused, and the files afterwards: on a refusal as they came.
 #[derive(Drop)]
 pub struct Change {
-    pub refusal: u8,
+    pub answer: Result<(), Refusal>,
     pub files: Files,
 }
 
-pub(crate) fn unchanged(files: Files, number: u8) -> Change
-    ensures { Unchanged number files result }
+pub(crate) fn unchanged(files: Files, refusal: Refusal) -> Change
+    ensures { Unchanged (number_of refusal) files result }
 {
     Change {
-        refusal: number,
+        answer: Err(refusal),
         files: files,
     }
 }
@@ -41,15 +43,16 @@ pub(crate) fn less(g: Instance, plan: &[u8], number: u8) -> CarriedPlan
     requires { Loaded g }
     ensures { LessOf (shown_by g) number (read_plan (shown_by g) plan.now) (take result.len result.bytes) }
 {
-    let l = desk_loaded::with_plan(g, plan, false);
-    if 0 < l.refusal {
-        return CarriedPlan {
+    match desk_loaded::with_plan(g, plan, false) {
+        Err(_) => CarriedPlan {
             len: 0,
             bytes: [0; PLAN_SIZE],
-        };
+        },
+        Ok(l) => {
+            let held = l.plan.chosen;
+            plan_carried::carried(g, &held, number)
+        }
     }
-    let held = l.plan;
-    plan_carried::carried(g, &held, number)
 }
 
 // The same of the files: the roster held is decoded for it.
@@ -100,20 +103,21 @@ pub(crate) fn closed(files: Files, next: Files) -> Files
 }
 
 // the answer of a change of the roster held
-pub(crate) fn taken(files: Files, c: Changed, number: u8) -> Change
+pub(crate) fn taken(files: Files, c: Result<RosterBytes, Refusal>, number: u8) -> Change
     requires { (R : Roster) × (read_roster (roster_bytes files) ≡ accepted R) }
     ensures { Taken files number c result }
 {
-    let n = c.refusal;
-    if 0 < n {
-        return unchanged(files, n);
-    }
-    let roster = c.roster;
-    let next = stored(files, roster, c.len, number);
-    let d = closed(files, next);
-    Change {
-        refusal: 0,
-        files: d,
+    match c {
+        Err(refusal) => unchanged(files, refusal),
+        Ok(made) => {
+            let roster = made.roster;
+            let next = stored(files, roster, made.len, number);
+            let d = closed(files, next);
+            Change {
+                answer: Ok(()),
+                files: d,
+            }
+        }
     }
 }
 
@@ -123,12 +127,13 @@ pub fn joined(files: Files, short: bool, quota: u8, list: &[u8]) -> Change
 {
     let array = files.roster;
     let file = desk_files::front(&array, files.roster_len);
-    let n = desk_loaded::roster_refusal(file, short);
-    if 0 < n {
-        return unchanged(files, n);
+    match desk_loaded::check_roster(file, short) {
+        Err(refusal) => unchanged(files, refusal),
+        Ok(()) => {
+            let c = roster_join::join(file, quota, list);
+            taken(files, c, 0)
+        }
     }
-    let c = roster_join::join(file, quota, list);
-    taken(files, c, 0)
 }
 
 // a surveyor leaves; `short`: a buffer lent to the call is below its size
@@ -137,10 +142,11 @@ pub fn departed(files: Files, short: bool, number: u8) -> Change
 {
     let array = files.roster;
     let file = desk_files::front(&array, files.roster_len);
-    let refusal = desk_loaded::roster_refusal(file, short);
-    if 0 < refusal {
-        return unchanged(files, refusal);
+    match desk_loaded::check_roster(file, short) {
+        Err(refusal) => unchanged(files, refusal),
+        Ok(()) => {
+            let c = roster_leave::leave(file, number);
+            taken(files, c, number)
+        }
     }
-    let c = roster_leave::leave(file, number);
-    taken(files, c, number)
 }

@@ -1,13 +1,12 @@
 -- What the calls for plans of old seasons promise (W-205): the model's reply, and that the other call undoes what was written.
-use Rattle.std.specs.Prelude.{ℕ, ◌≤◌, ◌<◌, refl, Bool, true, false, not, List, length, take, T, ltb}
+use Rattle.std.specs.Prelude.{ℕ, ◌≤◌, ◌<◌, refl, Bool, true, false, not, List, length, take, T, ltb, Result}
 use Rattle.std.proofs.Math.Path.{◌≡◌, sym, ap}
-use Rattle.std.proofs.Common.{◌∙◌, subst, le-ltb}
+use Rattle.std.proofs.Common.{le_refl, ◌∙◌, subst, le-ltb}
 use Rattle.std.proofs.Math.Bool.{cond}
 use Rattle.lists.specs.Test.{given}
 use Rattle.model.specs.Limits.{plan_size}
 use Rattle.model.specs.Reading as reading
 use Rattle.model.specs.Reading.{Reading, accepted, is_bytes}
-use Rattle.model.specs.Refusal.{group_of}
 use Rattle.model.specs.Roster.{Roster}
 use Rattle.model.specs.RosterFile.{read_roster}
 use Rattle.model.specs.Edges.{instance_of}
@@ -20,24 +19,23 @@ use Rattle.theory_files.specs.PlanFiles.{Fileable}
 use Rattle.theory_files.specs.RosterInstance.{fileable}
 use Rattle.theory_files.specs.PlanSeasons.{plan_back, plan_forth}
 use Rattle.theory_finder.specs.Choices.{chosen}
-use Rattle.answers.specs.declared.Group.{Group}
-use Rattle.answers.specs.declared.Written.{Written}
-use Rattle.answers.specs.declared.Written.TheVariants.{Refused}
-use Rattle.answers.specs.GroupCases.{group_shown}
+use Rattle.std.specs.declared.result.Result.TheVariants.{Ok, Err}
+use Rattle.answers.specs.declared.Refusal.{Refusal}
+use Rattle.answers.specs.RefusalCases.{number_of, number_some}
 use Rattle.answers.specs.WrittenCases.{written_shown, refused_no_bytes, converted_bytes}
 use Rattle.instance.specs.Decoded.{shown_by}
 use Rattle.plan_turned.specs.Turning.{plan_by, TurnedFor}
 use Rattle.desk_loaded.specs.declared.OnDesk.{OnDesk}
 use Rattle.model_desk.specs.HeldFiles.{held_plan, beside}
 use Rattle.desk_loaded.specs.Held.{unneeded}
-use Rattle.desk_loaded.specs.OnDesk.{LoadedFrom, its_roster}
+use Rattle.desk_loaded.specs.OnDesk.{LoadedFrom, NotLoaded, its_roster}
 use Rattle.desk_files.specs.declared.Files.{Files}
 use Rattle.desk_files.specs.Held.{roster_bytes, plan_bytes, proposal_bytes, held_of, beside_number, of_roster}
 use Rattle.desk_files.specs.Replies.{answered, lent_then, Replied}
-use Rattle.desk_files.specs.State.{states, by_state, pass_answer, pass_lent, roster_held_law, passes, state_is}
+use Rattle.desk_files.specs.State.{state_refuses, states, by_state, pass_answer, pass_lent, roster_held_law, passes, state_is}
 
 -- `call` is the way that is gone, `undo` the other one
-pub record Turns (call undo : (file buffer : List ℕ) → Call writes) (d : Files) (f o : List ℕ) (r : Written) (o' : List ℕ) (d' : Files) : Type 0 where
+pub record Turns (call undo : (file buffer : List ℕ) → Call writes) (d : Files) (f o : List ℕ) (r : Result ℕ Refusal) (o' : List ℕ) (d' : Files) : Type 0 where
   pub replied : Replied d (call f o) (written_shown r) (call f o') d'
   -- "goes back to the identical old bytes": the other call, on the desk that comes back, writes the identical file of what was written
   pub undone : (n : ℕ) → written_shown r ≡ said (wrote n) → (b : List ℕ) → plan_size ≤ length b
@@ -48,17 +46,17 @@ abbrev pub call_by : (shifts : Bool) → (file buffer : List ℕ) → Call write
 call_by true = plan_to_old
 call_by false = plan_to_new
 
-abbrev pub TurnsBy : (shifts : Bool) → Files → (f o : List ℕ) → Written → (o' : List ℕ) → Type 0
+abbrev pub TurnsBy : (shifts : Bool) → Files → (f o : List ℕ) → Result ℕ Refusal → (o' : List ℕ) → Type 0
 TurnsBy shifts d f o r o' = Turns (call_by shifts) (call_by (not shifts)) d f o r o' d
 
 -- ---- refused by the state
-pub turns_not : (shifts : Bool) (d : Files) (f o : List ℕ) {l : OnDesk} → LoadedFrom (roster_bytes d) (plan_bytes d) false (ltb (length o) plan_size) l
-    → 0 < l.refusal → (g : Group) → group_shown g ≡ group_of l.refusal → TurnsBy shifts d f o (Refused l.refusal g) o
-turns_not shifts d f o {l} F h g q = record { replied = reply shifts; undone = λ n e. refused_no_bytes (sym (ap (refused l.refusal) q) ∙ e) }
+pub turns_not : (shifts : Bool) (d : Files) (f o : List ℕ) {e : Refusal} → NotLoaded (roster_bytes d) (plan_bytes d) false (ltb (length o) plan_size) e
+    → TurnsBy shifts d f o (Err e) o
+turns_not shifts d f o {e} F = record { replied = reply shifts; undone = λ n q. refused_no_bytes q }
   where
-    reply : (b : Bool) → Replied d (call_by b f o) (refused l.refusal (group_shown g)) (call_by b f o) d
-    reply true = by_state d (plan_to_old f o) tt tt (state_is d F) h (ap (refused l.refusal) q)
-    reply false = by_state d (plan_to_new f o) tt tt (state_is d F) h (ap (refused l.refusal) q)
+    reply : (b : Bool) → Replied d (call_by b f o) (refusal (number_of e)) (call_by b f o) d
+    reply true = by_state d (plan_to_old f o) tt tt (state_refuses d false (ltb (length o) plan_size) F) (number_some e) refl
+    reply false = by_state d (plan_to_new f o) tt tt (state_refuses d false (ltb (length o) plan_size) F) (number_some e) refl
 
 -- ---- with the roster held
 module _ (d : Files) (R : Roster) (a : read_roster (roster_bytes d) ≡ accepted R) where
@@ -109,10 +107,10 @@ module _ (d : Files) (R : Roster) (a : read_roster (roster_bytes d) ≡ accepted
   undoes F false f g is_b e = plan_back (instance_of R) F f g is_b e
 
 pub turns : (shifts : Bool) (d : Files) (f o : List ℕ) → T (is_bytes f) → {l : OnDesk}
-    → LoadedFrom (roster_bytes d) (plan_bytes d) false (ltb (length o) plan_size) l → l.refusal ≤ 0 → {r : Written} {o' : List ℕ}
+    → LoadedFrom (roster_bytes d) (plan_bytes d) false (ltb (length o) plan_size) 0 l → {r : Result ℕ Refusal} {o' : List ℕ}
     → TurnedFor shifts (shown_by l.g) f o r o' → TurnsBy shifts d f o r o'
-turns shifts d f o is_b {l} F z {r} {o'} X =
-    given (its_roster z F) (λ (R, a).
+turns shifts d f o is_b {l} F {r} {o'} X =
+    given (its_roster (le_refl 0) F) (λ (R, a).
     given (subst (λ G. TurnedFor shifts G f o r o') (F.instance R a).1 X) (λ Y. record {
       replied = reply R a shifts Y;
       undone = λ n e b h. given (converted_bytes (plan_by shifts (instance_of R) f) o n (sym Y.answer ∙ e)) (λ (g, p, q).
@@ -127,7 +125,7 @@ turns shifts d f o is_b {l} F z {r} {o'} X =
 
     reply : (R : Roster) (a : read_roster (roster_bytes d) ≡ accepted R) (b : Bool) → TurnedFor b (instance_of R) f o r o'
         → Replied d (call_by b f o) (written_shown r) (call_by b f o') d
-    reply R a true Y = passes d (plan_to_old f o) tt tt (state_is d F) z (H d R a) (roster_held_law d R a)
+    reply R a true Y = passes d (plan_to_old f o) tt tt (state_is d F) (le_refl 0) (H d R a) (roster_held_law d R a)
         (Y.answer ∙ told d R a true f o) (ap (plan_to_old f) Y.lent ∙ lent d R a true f o) refl refl
-    reply R a false Y = passes d (plan_to_new f o) tt tt (state_is d F) z (H d R a) (roster_held_law d R a)
+    reply R a false Y = passes d (plan_to_new f o) tt tt (state_is d F) (le_refl 0) (H d R a) (roster_held_law d R a)
         (Y.answer ∙ told d R a false f o) (ap (plan_to_new f) Y.lent ∙ lent d R a false f o) refl refl

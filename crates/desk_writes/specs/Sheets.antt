@@ -1,6 +1,6 @@
 -- What the call for days promises: the model's reply, and what holds of the days that it writes.
-use Rattle.std.specs.Prelude.{ℕ, ◌≤◌, ◌<◌, ◌≡◌, refl, Bool, true, List, map, ◌++◌, length, take, drop, get_or, ltb, eqb}
-use Rattle.std.proofs.Common.{arith, sym, ap, ap₂, ◌∙◌, subst, get_or-take, length-take-le}
+use Rattle.std.specs.Prelude.{ℕ, ◌≤◌, ◌<◌, ◌≡◌, refl, Bool, true, List, map, ◌++◌, length, take, drop, get_or, ltb, eqb, Result}
+use Rattle.std.proofs.Common.{le_refl, arith, sym, ap, ap₂, ◌∙◌, subst, get_or-take, length-take-le}
 use Rattle.std.proofs.Math.Option.{some}
 use Rattle.lists.specs.Test.{given}
 use Rattle.lists.specs.Sum.{◌∈◌, range, ∈_range, count, count_cong}
@@ -20,27 +20,33 @@ use Rattle.theory_days.specs.Sheets.{spread_by, spread_of, days_many, entries_at
 use Rattle.theory_days.proofs.Sheets.{sheet_holds}
 use Rattle.arrays.specs.ArrayInstance.{at, flag}
 use Rattle.plan_lookup.specs.PlanEdges.{Listed}
-use Rattle.answers.specs.declared.Written.{Written}
+use Rattle.std.specs.declared.result.Result.TheVariants.{Ok, Err}
+use Rattle.answers.specs.declared.Refusal.{Refusal}
+use Rattle.answers.specs.RefusalCases.{number_of}
 use Rattle.answers.specs.WrittenCases.{written_shown}
 use Rattle.instance.specs.Decoded.{shown_by}
 use Rattle.desk_loaded.specs.declared.OnDesk.{OnDesk}
 use Rattle.desk_loaded.specs.Held.{state_number}
-use Rattle.desk_loaded.specs.OnDesk.{LoadedFrom}
+use Rattle.desk_loaded.specs.OnDesk.{LoadedFrom, NotLoaded}
 use Rattle.desk_files.specs.declared.Files.{Files}
 use Rattle.model_desk.specs.HeldFiles.{held_proposal}
 use Rattle.desk_files.specs.Held.{roster_bytes, plan_bytes, held_of, of_plan}
 use Rattle.desk_files.specs.Replies.{Replied}
-use Rattle.desk_files.specs.State.{state_is, passes, other, arrays_are, its_plan_held, held_within}
+use Rattle.desk_files.specs.State.{refused_within, state_is, passes, other, arrays_are, its_plan_held, held_within}
 
 -- the call for days on desk d with the buffer v: the answer, the buffer and the desk then
-pub record Spreads (d : Files) (v : List ℕ) (answer : Written) (v' : List ℕ) (d' : Files) : Type 0 where
+pub record Spreads (d : Files) (v : List ℕ) (answer : Result ℕ Refusal) (v' : List ℕ) (d' : Files) : Type 0 where
   pub replied : Replied d (spread v) (written_shown answer) (spread v') d'
   -- "No surveyor and no stand has two entries on one day", and all else that holds of the days of the plan M held
   pub sheet : (R : Roster) (M : Plan) → plan_held (held_of d) ≡ some (R, M) → Sheet (instance_of R) M (spread_of (instance_of R) M)
 
-pub spreads : (d : Files) {short : Bool} {l : OnDesk} → LoadedFrom (roster_bytes d) (plan_bytes d) true short l
-    → (v : List ℕ) {answer : Written} {v' : List ℕ} {d' : Files} → Replied d (spread v) (written_shown answer) (spread v') d' → Spreads d v answer v' d'
+pub spreads : (d : Files) {short : Bool} {l : OnDesk} → LoadedFrom (roster_bytes d) (plan_bytes d) true short 0 l
+    → (v : List ℕ) {answer : Result ℕ Refusal} {v' : List ℕ} {d' : Files} → Replied d (spread v) (written_shown answer) (spread v') d' → Spreads d v answer v' d'
 spreads d F v A = record { replied = A; sheet = λ R M h. given (held_within d F R M h) (λ (ok, m). sheet_holds R ok M m) }
+
+pub spreads_not : (d : Files) {needs short : Bool} {e : Refusal} → NotLoaded (roster_bytes d) (plan_bytes d) needs short e
+    → (v : List ℕ) {v' : List ℕ} {d' : Files} → Replied d (spread v) (written_shown (Err e)) (spread v') d' → Spreads d v (Err e) v' d'
+spreads_not d F v A = record { replied = A; sheet = λ R M h. given (refused_within d F R M h) (λ (ok, m). sheet_holds R ok M m) }
 
 -- entries of a node, counted in a list of edges by their places
 at_node_law : (K : Side) (p : ℕ → Bool) (edges : List ℕ) (n : ℕ) → n ≡ length (edges_in K.m p) → take n edges ≡ edges_in K.m p
@@ -52,25 +58,25 @@ at_node_law K p edges n e front v =
     ∙ entries_at K p v
 
 -- the list of a plan's edges, as the call has it
-module _ (d : Files) {short : Bool} {l : OnDesk} (F : LoadedFrom (roster_bytes d) (plan_bytes d) true short l) (z : l.refusal ≤ 0)
-    (full : length l.edges ≡ 64) where
-  listed : Listed l.g.m l.plan l.n l.edges
-  listed = given (its_plan_held d F z) (λ (R, M, e, s, P, w). P.listed)
+module _ (d : Files) {short : Bool} {l : OnDesk} (F : LoadedFrom (roster_bytes d) (plan_bytes d) true short 0 l)
+    (full : length l.plan.edges ≡ 64) where
+  listed : Listed l.g.m l.plan.chosen l.plan.n l.plan.edges
+  listed = given (its_plan_held d F (le_refl 0)) (λ (R, M, e, s, P, w). P.listed)
 
-  count_is : l.n ≡ length (edges_in l.g.m (flag l.plan))
-  count_is = omega (arith, length-take-le l.n l.edges listed.there, ap length listed.are)
+  count_is : l.plan.n ≡ length (edges_in l.g.m (flag l.plan.chosen))
+  count_is = omega (arith, length-take-le l.plan.n l.plan.edges listed.there, ap length listed.are)
 
   -- no node has more entries than there are days
-  few_at : (v : ℕ) → (count (λ j. eqb (at l.g.sv (at l.edges j)) v) l.n ≤ last_day)
-      × (count (λ j. eqb (at l.g.st (at l.edges j)) v) l.n ≤ last_day)
-  few_at v = given (its_plan_held d F z) (λ (R, M, e, s, P, w).
+  few_at : (v : ℕ) → (count (λ j. eqb (at l.g.sv (at l.plan.edges j)) v) l.plan.n ≤ last_day)
+      × (count (λ j. eqb (at l.g.st (at l.plan.edges j)) v) l.plan.n ≤ last_day)
+  few_at v = given (its_plan_held d F (le_refl 0)) (λ (R, M, e, s, P, w).
       let G = shown_by l.g in
-      let A = arrays_are d F z in
-      let f : flag l.plan ≡ on M = (λ i k. P.flags k i) in
+      let A = arrays_are d F (le_refl 0) in
+      let f : flag l.plan.chosen ≡ on M = (λ i k. P.flags k i) in
       let match = within_matching G (on M) A.lawful (plan_within G P.within) in (
         omega (
           arith,
-          at_node_law (surveyors G) (flag l.plan) l.edges l.n count_is listed.are v,
+          at_node_law (surveyors G) (flag l.plan.chosen) l.plan.edges l.plan.n count_is listed.are v,
           ap (λ p. deg
               (surveyors G) p v) f,
           match.at_s v,
@@ -78,7 +84,7 @@ module _ (d : Files) {short : Bool} {l : OnDesk} (F : LoadedFrom (roster_bytes d
         ),
         omega (
           arith,
-          at_node_law (stands G) (flag l.plan) l.edges l.n count_is listed.are v,
+          at_node_law (stands G) (flag l.plan.chosen) l.plan.edges l.plan.n count_is listed.are v,
           ap (λ p. deg (stands G) p v) f,
           match.at_t v,
           (A.quotas v).1,
@@ -86,33 +92,33 @@ module _ (d : Files) {short : Bool} {l : OnDesk} (F : LoadedFrom (roster_bytes d
       ))
 
   -- what the spreading asks for
-  pub asked : (l.n ≤ 64) × (l.n ≤ length l.edges) × ((k : ℕ) → k < l.n → at l.edges k < 1024)
-      × ((k : ℕ) → k < l.n → (at l.g.sv (at l.edges k) < node_limit) × (at l.g.st (at l.edges k) < node_limit))
-      × ((v : ℕ) → (count (λ j. eqb (at l.g.sv (at l.edges j)) v) l.n ≤ last_day)
-      × (count (λ j. eqb (at l.g.st (at l.edges j)) v) l.n ≤ last_day))
+  pub asked : (l.plan.n ≤ 64) × (l.plan.n ≤ length l.plan.edges) × ((k : ℕ) → k < l.plan.n → at l.plan.edges k < 1024)
+      × ((k : ℕ) → k < l.plan.n → (at l.g.sv (at l.plan.edges k) < node_limit) × (at l.g.st (at l.plan.edges k) < node_limit))
+      × ((v : ℕ) → (count (λ j. eqb (at l.g.sv (at l.plan.edges j)) v) l.plan.n ≤ last_day)
+      × (count (λ j. eqb (at l.g.st (at l.plan.edges j)) v) l.plan.n ≤ last_day))
   asked = (
     listed.few,
     omega (arith, listed.few),
     (λ k h.
-        let m = subst (λ xs. get_or xs k 0 ∈ edges_in l.g.m (flag l.plan)) (sym listed.are)
-        (get_d_∈ (edges_in l.g.m (flag l.plan)) k 0 (omega (arith, count_is))) in
-        let b = (∈_range l.g.m 0 (∈_keep (flag l.plan) (range 0 l.g.m) m).0).1 in
-        omega (arith, b, get_or-take l.n l.edges k 0 h, (arrays_are d F z).edges)),
-    (λ k h. ((arrays_are d F z).low_sv (at l.edges k), (arrays_are d F z).low_st (at l.edges k))),
+        let m = subst (λ xs. get_or xs k 0 ∈ edges_in l.g.m (flag l.plan.chosen)) (sym listed.are)
+        (get_d_∈ (edges_in l.g.m (flag l.plan.chosen)) k 0 (omega (arith, count_is))) in
+        let b = (∈_range l.g.m 0 (∈_keep (flag l.plan.chosen) (range 0 l.g.m) m).0).1 in
+        omega (arith, b, get_or-take l.plan.n l.plan.edges k 0 h, (arrays_are d F (le_refl 0)).edges)),
+    (λ k h. ((arrays_are d F (le_refl 0)).low_sv (at l.plan.edges k), (arrays_are d F (le_refl 0)).low_st (at l.plan.edges k))),
     few_at,
   )
 
   -- the answer and the buffer
   pub spread_reply : (out : List ℕ) {after : List ℕ} → short ≡ ltb (length out) day_size
-      → after ≡ spread_by (at l.g.sv) (at l.g.st) (take l.n l.edges) ++ drop l.n out
-      → Replied d (spread out) (said (wrote l.n)) (spread after) d
-  spread_reply out s q = given (its_plan_held d F z) (λ (R, M, e, g, P, w).
+      → after ≡ spread_by (at l.g.sv) (at l.g.st) (take l.plan.n l.plan.edges) ++ drop l.plan.n out
+      → Replied d (spread out) (said (wrote l.plan.n)) (spread after) d
+  spread_reply out s q = given (its_plan_held d F (le_refl 0)) (λ (R, M, e, g, P, w).
       let G = shown_by l.g in
-      let f : flag l.plan ≡ on M = (λ i k. P.flags k i) in
-      let days : spread_by (at l.g.sv) (at l.g.st) (take l.n l.edges) ≡ spread_of G M = ap (spread_by (at l.g.sv) (at l.g.st))
+      let f : flag l.plan.chosen ≡ on M = (λ i k. P.flags k i) in
+      let days : spread_by (at l.g.sv) (at l.g.st) (take l.plan.n l.plan.edges) ≡ spread_of G M = ap (spread_by (at l.g.sv) (at l.g.st))
       (listed.are ∙ ap (edges_in l.g.m) f) in
-      let many : l.n ≡ length (spread_of G M) = count_is ∙ ap (λ p. length (edges_in l.g.m p)) f ∙ sym (days_many G M) in
-      passes d (spread out) tt tt (state_is d F ∙ ap (state_number (held_of d) true) s) z (held_proposal R M (other d R)) e
+      let many : l.plan.n ≡ length (spread_of G M) = count_is ∙ ap (λ p. length (edges_in l.g.m p)) f ∙ sym (days_many G M) in
+      passes d (spread out) tt tt (state_is d F ∙ ap (state_number (held_of d) true) s) (le_refl 0) (held_proposal R M (other d R)) e
       (ap (λ k. said (wrote k)) (many ∙ ap (λ G. length (spread_of G M)) g)
       ∙ of_plan (refusal 14) (λ r M. said (wrote (length (spread_of (instance_of r) M)))) R M (other d R))
       (ap spread (q ∙ ap₂ (λ x k. x ++ drop k out) days many ∙ ap (λ G. onto (spread_of G M) out) g)

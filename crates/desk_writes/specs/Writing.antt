@@ -1,11 +1,9 @@
 -- Writing the roster, the plan or the proposal that a desk holds: from the bytes copied to the desk's reply.
 use Rattle.std.specs.Prelude.{ℕ, ◌≤◌, ◌<◌, ◌≡◌, refl, Bool, true, cond, List, length, ltb}
-use Rattle.std.proofs.Common.{arith, sym, ap, ◌∙◌, nltb→le}
+use Rattle.std.proofs.Common.{le_refl, arith, sym, ap, ◌∙◌, nltb→le}
 use Rattle.std.proofs.Math.Bool.{false}
 use Rattle.lists.specs.Test.{given, by_bool, false_t}
 use Rattle.model.specs.Limits.{plan_size, roster_size}
-use Rattle.model.specs.Refusal as G
-use Rattle.model.specs.Refusal.{group_of}
 use Rattle.model.specs.RosterFile.{read_roster, write_roster}
 use Rattle.model.specs.Edges.{instance_of}
 use Rattle.model.specs.PlanFile as plans
@@ -41,11 +39,11 @@ module _ (d : Files) {short : Bool} {n : ℕ} (J : Judged (roster_bytes d) short
       refl refl)
 
 -- ---- with the plan held
-module _ (d : Files) {short : Bool} {l : OnDesk} (F : LoadedFrom (roster_bytes d) (plan_bytes d) true short l) (z : l.refusal ≤ 0) where
+module _ (d : Files) {short : Bool} {l : OnDesk} (F : LoadedFrom (roster_bytes d) (plan_bytes d) true short 0 l) where
   pub write_plan_reply : (out : List ℕ) {k : ℕ} {after : List ℕ} → short ≡ ltb (length out) plan_size → k ≡ length (plan_bytes d) → after ≡ onto (plan_bytes d) out
       → Replied d (write_plan_to out) (said (wrote k)) (write_plan_to after) d
-  write_plan_reply out s p q = given (its_plan_held d F z) (λ (R, M, e, g, P, w).
-      passes d (write_plan_to out) tt tt (state_is d F ∙ ap (state_number (held_of d) true) s) z (held_proposal R M (other d R)) e
+  write_plan_reply out s p q = given (its_plan_held d F (le_refl 0)) (λ (R, M, e, g, P, w).
+      passes d (write_plan_to out) tt tt (state_is d F ∙ ap (state_number (held_of d) true) s) (le_refl 0) (held_proposal R M (other d R)) e
       (ap (λ k. said (wrote k)) (p ∙ ap length (sym w))
       ∙ of_plan (refusal 14) (λ r M. said (wrote (length (plans.plan_bytes (instance_of r) M)))) R M (other d R))
       (ap write_plan_to (q ∙ ap (λ bs. onto bs out) (sym w))
@@ -58,8 +56,8 @@ module _ (d : Files) (out : List ℕ) {n : ℕ} (O : Opened d (ltb (length out) 
   unfolding state_refusal
   open_state = O.refusal
 
-  pub write_proposal_not : 0 < n → {g : G.Group} → g ≡ group_of n → Replied d (write_proposal_to out) (refused n g) (write_proposal_to out) d
-  write_proposal_not h q = refuses_by d (write_proposal_to out) open_state h (ap (refused n) q)
+  pub write_proposal_not : 0 < n → Replied d (write_proposal_to out) (refusal n) (write_proposal_to out) d
+  write_proposal_not h = refuses_by d (write_proposal_to out) open_state h refl
 
   pub write_proposal_long : n ≤ 0 → plan_size ≤ length out
   write_proposal_long z = given (O.proposal z) (λ (R, M, N, e, w).

@@ -8,80 +8,55 @@ ghost use Rattle.desk_files.specs.Replies.{Replied};
 ghost use Rattle.desk_writes.specs.Seasons.{TurnsBy};
 ghost use Rattle.desk_writes.specs.Sheets.{Spreads};
 
-use answers::Written;
+use answers::Refusal;
 use desk_files::Files;
 use limits::{DAY_SIZE, PLAN_SIZE, ROSTER_SIZE};
 
-pub fn write_roster(files: Files, out: &mut [u8]) -> Written
+pub fn write_roster(files: Files, out: &mut [u8]) -> Result<usize, Refusal>
     ensures { Replied files (write_roster_to out.old) (written_shown result) (write_roster_to out.new) files }
 {
     let roster = files.roster;
-    let n = desk_loaded::roster_refusal(
+    desk_loaded::check_roster(
         desk_files::front(&roster, files.roster_len),
         out.len() < ROSTER_SIZE,
-    );
-    if 0 < n {
-        return Written::Refused(n, answers::group_of(n));
-    }
-    let k = desk_files::copied(&roster, files.roster_len, out);
-    Written::Wrote(k)
+    )?;
+    Ok(desk_files::copied(&roster, files.roster_len, out))
 }
 
-pub fn write_plan(files: Files, out: &mut [u8]) -> Written
+pub fn write_plan(files: Files, out: &mut [u8]) -> Result<usize, Refusal>
     ensures { Replied files (write_plan_to out.old) (written_shown result) (write_plan_to out.new) files }
 {
-    let l = desk_files::loaded(files, true, out.len() < PLAN_SIZE);
-    let n = l.refusal;
-    if 0 < n {
-        return Written::Refused(n, answers::group_of(n));
-    }
+    desk_files::loaded(files, true, out.len() < PLAN_SIZE)?;
     let plan = files.plan;
-    let k = desk_files::copied(&plan, files.plan_len, out);
-    Written::Wrote(k)
+    Ok(desk_files::copied(&plan, files.plan_len, out))
 }
 
 // The open proposal: 13, 14, 20, then 15, where the buffer is below a plan's size.
-pub fn write_proposal(files: Files, out: &mut [u8]) -> Written
+pub fn write_proposal(files: Files, out: &mut [u8]) -> Result<usize, Refusal>
     ensures { Replied files (write_proposal_to out.old) (written_shown result) (write_proposal_to out.new) files }
 {
-    let n = desk_files::open_refusal(files, out.len() < PLAN_SIZE);
-    if 0 < n {
-        return Written::Refused(n, answers::group_of(n));
-    }
+    desk_files::check_open(files, out.len() < PLAN_SIZE)?;
     let proposal = files.proposal;
-    let k = desk_files::copied(&proposal, files.proposal_len, out);
-    Written::Wrote(k)
+    Ok(desk_files::copied(&proposal, files.proposal_len, out))
 }
 
 // A plan of an old season, or of today, in the other layout (request W-205): "a plan, an old one with shift 1, is judged against the held roster". 13,
 // then 15, "193 bytes either way", then the plan's refusals, and for a file with shifts 19.
-pub fn turned(files: Files, file: &[u8], shifts: bool, out: &mut [u8]) -> Written
+pub fn turned(files: Files, file: &[u8], shifts: bool, out: &mut [u8]) -> Result<usize, Refusal>
     ensures { TurnsBy shifts files file.now out.old result out.new }
 {
-    let l = desk_files::loaded(files, false, out.len() < PLAN_SIZE);
-    let n = l.refusal;
-    if 0 < n {
-        return Written::Refused(n, answers::group_of(n));
-    }
+    let l = desk_files::loaded(files, false, out.len() < PLAN_SIZE)?;
     let read = plan_reader::read_against(l.g, file, shifts);
-    let a = read.answer;
-    plan_turned::turn(a, file, shifts, out)
+    plan_turned::turn(read, file, shifts, out)
 }
 
 // The days of the held plan's entries to the front of the buffer, and what holds of them is promised.
-pub fn spread(files: Files, out: &mut [u8]) -> Written
+pub fn spread(files: Files, out: &mut [u8]) -> Result<usize, Refusal>
     ensures { Spreads files out.old result out.new files }
 {
-    let l = desk_files::loaded(files, true, out.len() < DAY_SIZE);
-    let n = l.refusal;
-    if 0 < n {
-        return Written::Refused(n, answers::group_of(n));
-    }
+    let l = desk_files::loaded(files, true, out.len() < DAY_SIZE)?;
     let g = l.g;
-    let sv = g.sv;
-    let st = g.st;
-    let edges = l.edges;
-    let k = l.n;
-    plan_days::spread(k, &edges, &sv, &st, out);
-    Written::Wrote(k)
+    let p = l.plan;
+    plan_days::spread(p.n, &p.edges, &g.sv, &g.st, out);
+    Ok(p.n)
 }

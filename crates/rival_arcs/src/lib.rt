@@ -10,11 +10,14 @@ ghost use Rattle.arrays.specs.ArrayInstance.{at};
 ghost use Rattle.arrays.specs.Passes.{Low};
 ghost use Rattle.arrays.specs.Filled.{Made};
 ghost use Rattle.arrays.specs.Linked.{Linked};
+ghost use Rattle.rival_tables.specs.Links.{LinksOf};
 ghost use Rattle.rival_tables.specs.Filled.{Rows};
 ghost use Rattle.rival_tables.specs.Cheapest.{offer};
 ghost use Rattle.rival_arcs.specs.Arcs.{arc_price};
 
+use instance::Instance;
 use limits::ENTRY_LIMIT;
+use rival_tables::NodeLinks;
 
 // One more edge is offered to a row: it lies at surveyor s with rank r there, and its price at the stand is a. The promise holds for any surveyors ps of
 // the places that are linked so, and those below for any stands st of the edges.
@@ -35,73 +38,63 @@ pub fn joined(
     let mut j = first[v] as usize;
     while j < 64 {
         let p = a + vote_ranks::rated(rps[j], r);
-        row[j] = rival_tables::lesser(p, row[j]);
+        row[j] = p.min(row[j]);
         j = after[j] as usize;
     }
 }
 
 // The row of an edge of the plan with stand t and rank b there.
 pub fn arc_row(
-    m: usize,
-    sv: &[u8; ENTRY_LIMIT],
-    rs: &[u8; ENTRY_LIMIT],
-    rt: &[u8; ENTRY_LIMIT],
+    g: &Instance,
     plan: &[bool; ENTRY_LIMIT],
-    head: &[u16; 32],
-    next: &[u16; ENTRY_LIMIT],
+    links_t: &NodeLinks,
     rps: &[u8; 64],
     first: &[u16; 32],
     after: &[u16; 64],
     t: u8,
     b: u8,
 ) -> [u8; 64]
-    requires { (m ≤ entry_limit) × Low m sv.now node_limit × ((st : List ℕ) × Linked m st head.now next.now)
+    requires { (g.now.m ≤ entry_limit) × Low g.now.m g.now.sv node_limit × ((st : List ℕ) × LinksOf g.now.m st links_t.now)
         × ((ps : List ℕ) × Linked 64 ps first.now after.now) × (t < 32) }
-    ensures { (st ps : List ℕ) → Linked m st head.now next.now → Linked 64 ps first.now after.now
-        → Made 0 result (λ j. arc_price m sv.now st rs.now rt.now plan.now t b (at ps j) (at rps.now j))
+    ensures { (st ps : List ℕ) → LinksOf g.now.m st links_t.now → Linked 64 ps first.now after.now
+        → Made 0 result (λ j. arc_price g.now.m g.now.sv st g.now.rank_s g.now.rank_t plan.now t b (at ps j) (at rps.now j))
         64 }
 {
     let mut o = [133u8; 64];
     let v = t as usize;
-    let mut f = head[v] as usize;
-    while f < m {
+    let mut f = links_t.head[v] as usize;
+    while f < g.m {
         if !plan[f] {
-            let a = vote_ranks::rated(b, rt[f]);
-            joined(&mut o, rps, first, after, sv[f], rs[f], a);
+            let a = vote_ranks::rated(b, g.rank_t[f]);
+            joined(&mut o, rps, first, after, g.sv[f], g.rank_s[f], a);
         }
-        f = next[f] as usize;
+        f = links_t.next[f] as usize;
     }
     o
 }
 
 // The whole table: the first n rows.
 pub fn arcs(
-    m: usize,
-    sv: &[u8; ENTRY_LIMIT],
-    rs: &[u8; ENTRY_LIMIT],
-    rt: &[u8; ENTRY_LIMIT],
+    g: &Instance,
     plan: &[bool; ENTRY_LIMIT],
-    head: &[u16; 32],
-    next: &[u16; ENTRY_LIMIT],
+    links_t: &NodeLinks,
     n: usize,
     ps: &[u8; 64],
     pt: &[u8; 64],
     rps: &[u8; 64],
     rpt: &[u8; 64],
 ) -> [u8; 4096]
-    requires { (m ≤ entry_limit) × (n ≤ plan_limit) × Low m sv.now node_limit × ((st : List ℕ) × Linked m st head.now next.now)
+    requires { (g.now.m ≤ entry_limit) × (n ≤ plan_limit) × Low g.now.m g.now.sv node_limit × ((st : List ℕ) × LinksOf g.now.m st links_t.now)
         × Low plan_limit ps.now node_limit × Low n pt.now node_limit }
-    ensures { (st : List ℕ) → Linked m st head.now next.now → Rows result n
-        (λ i j. arc_price m sv.now st rs.now rt.now plan.now (at pt.now i)
+    ensures { (st : List ℕ) → LinksOf g.now.m st links_t.now → Rows result n
+        (λ i j. arc_price g.now.m g.now.sv st g.now.rank_s g.now.rank_t plan.now (at pt.now i)
         (at rpt.now i) (at ps.now j) (at rps.now j)) }
 {
     let mut after = [0u16; 64];
     let first = arrays::links(64, &ps[..], &mut after[..]);
     let mut o = [133u8; 4096];
     for i in 0..n {
-        let row = arc_row(
-            m, sv, rs, rt, plan, head, next, rps, &first, &after, pt[i], rpt[i],
-        );
+        let row = arc_row(g, plan, links_t, rps, &first, &after, pt[i], rpt[i]);
         rival_tables::put_row(&mut o, &row, i);
     }
     o

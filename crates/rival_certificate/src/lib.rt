@@ -2,7 +2,7 @@
 // walks; nothing is promised of how it is made, since one pass over it checks all that is asked.
 #![tactic(auto)]
 
-ghost use Rattle.std.specs.Prelude.{◌≡◌, true, ℕ, ◌+◌, ◌*◌, ◌≤◌, ◌<◌, min};
+ghost use Rattle.std.specs.Prelude.{IfSome, ◌≡◌, true, ℕ, ◌+◌, ◌*◌, ◌≤◌, ◌<◌, min};
 ghost use Rattle.model.specs.Limits.{plan_limit};
 ghost use Rattle.arrays.specs.ArrayInstance.{at};
 ghost use Rattle.rival_levels.specs.Layers.{Cheap};
@@ -12,7 +12,7 @@ ghost use Rattle.rival_certificate.specs.Certified.{Closed};
 fn arc_cost(a: u8) -> u8
     ensures { result ≡ min a 65 + 62 }
 {
-    rival_tables::lesser(a, 65) + 62
+    a.min(65) + 62
 }
 
 // The costs of the walks of one arc.
@@ -26,8 +26,8 @@ fn arc_costs(arcs: &[u8; 4096]) -> [u8; 4096] {
 
 // The cost of one walk after another: costs are at most 127.
 fn joint(a: u8, b: u8) -> u8 {
-    let x = rival_tables::lesser(a, 127);
-    let y = rival_tables::lesser(b, 127);
+    let x = a.min(127);
+    let y = b.min(127);
     let s = x + y;
     if s < 64 { 0 } else { s - 64 }
 }
@@ -49,7 +49,7 @@ fn row_through(d: &mut [u8; 4096], on: &[u8; 64], i: usize, a: u8)
 {
     for j in 0..64 {
         let s = joint(a, on[j]);
-        d[i * 64 + j] = rival_tables::lesser(s, d[i * 64 + j]);
+        d[i * 64 + j] = s.min(d[i * 64 + j]);
     }
 }
 
@@ -90,29 +90,18 @@ fn within(n: usize, arcs: &[u8; 4096], d: &[u8; 4096]) -> bool
     ok
 }
 
-#[derive(Drop)]
-pub struct Costs {
-    pub closed: bool,
-    pub table: [u8; 4096],
-}
-
-// The table, and whether no arc makes it lower: its next layer is nowhere below it.
-pub fn certificate(n: usize, arcs: &[u8; 4096]) -> Costs
+// The table, if no arc makes it lower: its next layer is nowhere below it.
+pub fn certificate(n: usize, arcs: &[u8; 4096]) -> Option<[u8; 4096]>
     requires { (n ≤ plan_limit) × Cheap n arcs.now }
-    ensures { result.closed ≡ true → Closed arcs.now result.table n }
+    ensures { IfSome result (λ table. Closed arcs.now table n) }
 {
     let d = walk_costs(n, arcs);
-    let inside = within(n, arcs, &d);
-    if !inside {
-        return Costs {
-            closed: false,
-            table: d,
-        };
+    if !within(n, arcs, &d) {
+        return None;
     }
     let e = rival_levels::next_layer(n, arcs, &d);
-    let c = rival_levels::changed(n, &d, &e);
-    Costs {
-        closed: c >= n,
-        table: d,
+    if rival_levels::changed(n, &d, &e).is_some() {
+        return None;
     }
+    Some(d)
 }

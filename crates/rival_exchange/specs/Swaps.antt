@@ -1,12 +1,12 @@
 -- The edges of the plan that go and the edges that come, by the places that the search found; that they are the search's, and that the plan
 -- without the former and with the latter is the rival.
-use Rattle.std.specs.Prelude.{ℕ, ◌+◌, ◌≤◌, ◌<◌, ◌≡◌, Bool, cond, ◌&&◌, ◌||◌, List, [], ◌∷◌, ◌++◌, map, length, set, replicate, ltb, eqb}
+use Rattle.std.specs.Prelude.{ℕ, ◌+◌, ◌≤◌, ◌<◌, ◌≡◌, Bool, cond, ◌&&◌, ◌||◌, List, [], ◌∷◌, ◌++◌, map, length, set, replicate, ltb, eqb, Option, Some, None}
 use Rattle.std.proofs.Common.{arith, ◌∙◌, lt-ltb, le-ltb}
 use Rattle.std.proofs.Math.Decide.{dec_lt}
 use Rattle.std.proofs.Math.Path.{refl, sym, ap, ap₂}
 use Rattle.std.proofs.Math.Logic.{by_cases}
 use Rattle.std.proofs.Math.Bool.{true, false, not}
-use Rattle.std.proofs.Math.Option.{Option, Option-elim}
+use Rattle.std.proofs.Math.Option.{Option as Opt, Option-elim}
 use Rattle.std.proofs.Math.ListN.{get_or-eq_default}
 use Rattle.lists.specs.Test.{bit}
 use Rattle.lists.specs.Sum.{range, occ, sum_append}
@@ -101,23 +101,23 @@ module _ (m : ℕ) (sv st rs rt : List ℕ) (plan room_s room_t : List Bool) (es
   ways_by x y = (terminal_by m sv st rs rt x y plan room_s room_t).1
 
   -- the edges of the plan that go by what was found
-  abbrev pub gone_by : Found → List ℕ
-  gone_by found.Nothing = []
-  gone_by (found.Direct f) = []
-  gone_by (found.Alone i) = at es i ∷ []
-  gone_by (found.Closed l i) = zs (walk_by l i i)
-  gone_by (found.Open l i j) = at es i ∷ zs (walk_by l i j)
+  abbrev pub gone_by : Option Found → List ℕ
+  gone_by None = []
+  gone_by (Some (found.Direct f)) = []
+  gone_by (Some (found.Alone i)) = at es i ∷ []
+  gone_by (Some (found.Closed l i)) = zs (walk_by l i i)
+  gone_by (Some (found.Open l i j)) = at es i ∷ zs (walk_by l i j)
 
   -- the edges that come by what was found
-  abbrev pub come_by : Found → List ℕ
-  come_by found.Nothing = []
-  come_by (found.Direct f) = f ∷ []
-  come_by (found.Alone i) = fresh (ways_by (at es i) (at es i)).0 ++ fresh (ways_by (at es i) (at es i)).1
-  come_by (found.Closed l i) = fs (walk_by l i i)
-  come_by (found.Open l i j) = comers (ways_by (at es i) (at es j)).0 (walk_by l i j) (ways_by (at es i) (at es j)).1
+  abbrev pub come_by : Option Found → List ℕ
+  come_by None = []
+  come_by (Some (found.Direct f)) = f ∷ []
+  come_by (Some (found.Alone i)) = fresh (ways_by (at es i) (at es i)).0 ++ fresh (ways_by (at es i) (at es i)).1
+  come_by (Some (found.Closed l i)) = fs (walk_by l i i)
+  come_by (Some (found.Open l i j)) = comers (ways_by (at es i) (at es j)).0 (walk_by l i j) (ways_by (at es i) (at es j)).1
 
   -- the rival, by what goes and what comes
-  abbrev pub rival_at : Found → ℕ → Bool
+  abbrev pub rival_at : Option Found → ℕ → Bool
   rival_at f e = (flag plan e && not (listed e (gone_by f))) || listed e (come_by f)
 
   -- ---- they are the search's
@@ -139,21 +139,21 @@ module _ (m : ℕ) (sv st rs rt : List ℕ) (plan room_s room_t : List Bool) (es
       ways_are : (x y : ℕ) → ways_by x y ≡ (terminal G M x y).1
       ways_are x y = sym (ap (λ t. t.1) (terminal_by_law m sv st rs rt x y plan room_s room_t ns nt sh tied quota_s quota_t roomsS roomsT))
 
-      abbrev elsewhere : Option Hit → ℕ → Bool
+      abbrev elsewhere : Opt Hit → ℕ → Bool
       elsewhere o = Option-elim o M (rival_by M)
 
       -- the exchange by places is that of the search
-      pub rival_at_law : (f : Found) → Bounded m n f → (e : ℕ) → rival_at f e ≡ elsewhere (hit_of G M es f) e
+      pub rival_at_law : (f : Option Found) → Bounded m n f → (e : ℕ) → rival_at f e ≡ elsewhere (hit_of G M es f) e
       unfolding Option-elim swapped
-      rival_at_law found.Nothing b e = same (M e)
+      rival_at_law None b e = same (M e)
         where
           same : (x : Bool) → (x && true) || false ≡ x
           same true = refl
           same false = refl
-      rival_at_law (found.Direct f) b e = refl
-      rival_at_law (found.Alone i) b e = ap (λ p. (M e && not (listed e (at es i ∷ []))) || listed e (fresh p.0 ++ fresh p.1)) (ways_are (at es i) (at es i))
-      rival_at_law (found.Closed l i) b e = ap (λ w. (M e && not (listed e (zs w))) || listed e (fs w)) (walk_is l i i b.1 b.1)
-      rival_at_law (found.Open l i j) b e =
+      rival_at_law (Some (found.Direct f)) b e = refl
+      rival_at_law (Some (found.Alone i)) b e = ap (λ p. (M e && not (listed e (at es i ∷ []))) || listed e (fresh p.0 ++ fresh p.1)) (ways_are (at es i) (at es i))
+      rival_at_law (Some (found.Closed l i)) b e = ap (λ w. (M e && not (listed e (zs w))) || listed e (fs w)) (walk_is l i i b.1 b.1)
+      rival_at_law (Some (found.Open l i j)) b e =
           ap₂ (λ w p. (M e && not (listed e (at es i ∷ zs w))) || listed e (comers p.0 w p.1)) (walk_is l i j b.1 b.2)
           (ways_are (at es i) (at es j))
 

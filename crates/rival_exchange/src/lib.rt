@@ -6,7 +6,7 @@ ghost use Rattle.std.specs.Prelude.{cond, List, [], ◌∷◌, ◌++◌, ℕ, �
 ghost use Rattle.model.specs.Limits.{entry_limit, node_limit, plan_limit};
 ghost use Rattle.theory_verdict.specs.Ends.{fresh};
 ghost use Rattle.arrays.specs.Passes.{Low};
-ghost use Rattle.arrays.specs.Linked.{Linked};
+ghost use Rattle.rival_tables.specs.Links.{LinksOf};
 ghost use Rattle.rival_levels.specs.Layers.{Small};
 ghost use Rattle.rival_walk.specs.Edges.{arc_edge};
 ghost use Rattle.rival_walk.specs.Marks.{Marked};
@@ -15,8 +15,11 @@ ghost use Rattle.rival_exchange.specs.Ways.{terminal_by, way_of, told, Offered, 
 ghost use Rattle.rival_search.specs.TwoThresholds.{Bounded};
 ghost use Rattle.rival_exchange.specs.Swaps.{Marks, gone_by, come_by};
 
+use arrays::ListedPlan;
+use instance::Instance;
 use limits::ENTRY_LIMIT;
 use rival_levels::Found;
+use rival_tables::{NodeLinks, Room};
 use rival_walk::Swap;
 
 // The price, the edge gained at the start and the one gained at the end; the number of all edges where the plan's edge is lost.
@@ -43,14 +46,10 @@ pub fn offered(ok: bool, p: u8, a: usize, b: usize, held: Ends) -> Ends
 
 // One start of price a with every end; `free` says that the end may be lost with it. The promise holds for any ranks rs at surveyors that tell both.
 pub fn round(
-    m: usize,
-    sv: &[u8; ENTRY_LIMIT],
-    st: &[u8; ENTRY_LIMIT],
-    rt: &[u8; ENTRY_LIMIT],
+    g: &Instance,
     plan: &[bool; ENTRY_LIMIT],
-    fs: &[bool; 32],
-    ht: &[u16; 32],
-    lt: &[u16; ENTRY_LIMIT],
+    room: &Room,
+    links_t: &NodeLinks,
     x: usize,
     y: usize,
     start: usize,
@@ -58,84 +57,62 @@ pub fn round(
     free: bool,
     held: Ends,
 ) -> Ends
-    requires { (m ≤ entry_limit) × Low m sv.now node_limit × Low m st.now node_limit × Linked m st.now ht.now lt.now × (x < m) × (y < m) × (a ≤ 3)
-        × ((rs : List ℕ) × Begun m sv.now st.now rs rt.now x y start a free) }
-    ensures { (rs : List ℕ) → Begun m sv.now st.now rs rt.now x y start a free
-        → told m result ≡ round m sv.now st.now rs rt.now x y plan.now fs.now
-        (way_of m start) (told m held) }
+    requires { (g.now.m ≤ entry_limit) × Low g.now.m g.now.sv node_limit × Low g.now.m g.now.st node_limit × LinksOf g.now.m g.now.st links_t.now × (x < g.now.m) × (y < g.now.m) × (a ≤ 3)
+        × ((rs : List ℕ) × Begun g.now.m g.now.sv g.now.st rs g.now.rank_t x y start a free) }
+    ensures { (rs : List ℕ) → Begun g.now.m g.now.sv g.now.st rs g.now.rank_t x y start a free
+        → told g.now.m result ≡ round g.now.m g.now.sv g.now.st rs g.now.rank_t x y plan.now room.now.s
+        (way_of g.now.m start) (told g.now.m held) }
 {
-    let s = sv[x];
-    let t = st[y] as usize;
-    let b = rt[y];
-    let mut o = offered(free, a + 3, start, m, held);
-    let mut g = ht[t] as usize;
-    while g < m {
-        let v = sv[g] as usize;
-        if !plan[g] & fs[v] {
-            let p = vote_ranks::rated(b, rt[g]);
-            let next = offered((start < m) | !(sv[g] == s), a + p, start, g, o);
+    let s = g.sv[x];
+    let t = g.st[y] as usize;
+    let b = g.rank_t[y];
+    let mut o = offered(free, a + 3, start, g.m, held);
+    let mut d = links_t.head[t] as usize;
+    while d < g.m {
+        let v = g.sv[d] as usize;
+        if !plan[d] & room.s[v] {
+            let p = vote_ranks::rated(b, g.rank_t[d]);
+            let next = offered((start < g.m) | !(g.sv[d] == s), a + p, start, d, o);
             o = next;
         }
-        g = lt[g] as usize;
+        d = links_t.next[d] as usize;
     }
     o
 }
 
 // Every start with every end.
 pub fn terminal(
-    m: usize,
-    sv: &[u8; ENTRY_LIMIT],
-    st: &[u8; ENTRY_LIMIT],
-    rs: &[u8; ENTRY_LIMIT],
-    rt: &[u8; ENTRY_LIMIT],
+    g: &Instance,
     plan: &[bool; ENTRY_LIMIT],
-    fs: &[bool; 32],
-    ft: &[bool; 32],
-    hs: &[u16; 32],
-    ls: &[u16; ENTRY_LIMIT],
-    ht: &[u16; 32],
-    lt: &[u16; ENTRY_LIMIT],
+    room: &Room,
+    links_s: &NodeLinks,
+    links_t: &NodeLinks,
     x: usize,
     y: usize,
 ) -> Ends
-    requires { (m ≤ entry_limit) × Low m sv.now node_limit × Low m st.now node_limit × Linked m sv.now hs.now ls.now
-        × Linked m st.now ht.now lt.now × (x < m) × (y < m) }
-    ensures { told m result ≡ terminal_by m sv.now st.now rs.now rt.now x y plan.now fs.now
-        ft.now }
+    requires { (g.now.m ≤ entry_limit) × Low g.now.m g.now.sv node_limit × Low g.now.m g.now.st node_limit × LinksOf g.now.m g.now.sv links_s.now
+        × LinksOf g.now.m g.now.st links_t.now × (x < g.now.m) × (y < g.now.m) }
+    ensures { told g.now.m result ≡ terminal_by g.now.m g.now.sv g.now.st g.now.rank_s g.now.rank_t x y plan.now room.now.s
+        room.now.t }
 {
-    let s = sv[x] as usize;
-    let t = st[y];
-    let b = rs[x];
+    let s = g.sv[x] as usize;
+    let t = g.st[y];
+    let b = g.rank_s[x];
     let blank = Ends {
         price: 6,
-        start: m,
-        stop: m,
+        start: g.m,
+        stop: g.m,
     };
-    let mut o = round(m, sv, st, rt, plan, fs, ht, lt, x, y, m, 3, true, blank);
-    let mut f = hs[s] as usize;
-    while f < m {
-        let v = st[f] as usize;
-        if !plan[f] & ft[v] {
-            let a = vote_ranks::rated(b, rs[f]);
-            let next = round(
-                m,
-                sv,
-                st,
-                rt,
-                plan,
-                fs,
-                ht,
-                lt,
-                x,
-                y,
-                f,
-                a,
-                !(st[f] == t),
-                o,
-            );
+    let mut o = round(g, plan, room, links_t, x, y, g.m, 3, true, blank);
+    let mut f = links_s.head[s] as usize;
+    while f < g.m {
+        let v = g.st[f] as usize;
+        if !plan[f] & room.t[v] {
+            let a = vote_ranks::rated(b, g.rank_s[f]);
+            let next = round(g, plan, room, links_t, x, y, f, a, !(g.st[f] == t), o);
             o = next;
         }
-        f = ls[f] as usize;
+        f = links_s.next[f] as usize;
     }
     o
 }
@@ -154,38 +131,31 @@ pub fn gained(g: [bool; ENTRY_LIMIT], m: usize, c: usize) -> [bool; ENTRY_LIMIT]
 
 // The ends of a walk from edge x of the plan to edge y: x goes, and what is gained at the two ends comes.
 pub fn ended(
-    m: usize,
-    sv: &[u8; ENTRY_LIMIT],
-    st: &[u8; ENTRY_LIMIT],
-    rs: &[u8; ENTRY_LIMIT],
-    rt: &[u8; ENTRY_LIMIT],
+    g: &Instance,
     plan: &[bool; ENTRY_LIMIT],
-    fs: &[bool; 32],
-    ft: &[bool; 32],
-    hs: &[u16; 32],
-    ls: &[u16; ENTRY_LIMIT],
-    ht: &[u16; 32],
-    lt: &[u16; ENTRY_LIMIT],
+    room: &Room,
+    links_s: &NodeLinks,
+    links_t: &NodeLinks,
     x: usize,
     y: usize,
 ) -> Swap
-    requires { (m ≤ entry_limit) × Low m sv.now node_limit × Low m st.now node_limit × Linked m sv.now hs.now ls.now
-        × Linked m st.now ht.now lt.now × (x < m) × (y < m) }
+    requires { (g.now.m ≤ entry_limit) × Low g.now.m g.now.sv node_limit × Low g.now.m g.now.st node_limit × LinksOf g.now.m g.now.sv links_s.now
+        × LinksOf g.now.m g.now.st links_t.now × (x < g.now.m) × (y < g.now.m) }
     ensures { Marks result.gone (x ∷ [])
         × Marks result.come
         (fresh
-        (terminal_by m sv.now st.now rs.now rt.now x y plan.now fs.now
-        ft.now).1.0
+        (terminal_by g.now.m g.now.sv g.now.st g.now.rank_s g.now.rank_t x y plan.now room.now.s
+        room.now.t).1.0
         ++ fresh
-        (terminal_by m sv.now st.now rs.now rt.now x y plan.now
-        fs.now ft.now).1.1) }
+        (terminal_by g.now.m g.now.sv g.now.st g.now.rank_s g.now.rank_t x y plan.now
+        room.now.s room.now.t).1.1) }
 {
-    let t = terminal(m, sv, st, rs, rt, plan, fs, ft, hs, ls, ht, lt, x, y);
+    let t = terminal(g, plan, room, links_s, links_t, x, y);
     let a = t.start;
     let b = t.stop;
     let gone = gained([false; ENTRY_LIMIT], ENTRY_LIMIT, x);
-    let first = gained([false; ENTRY_LIMIT], m, a);
-    let come = gained(first, m, b);
+    let first = gained([false; ENTRY_LIMIT], g.m, a);
+    let come = gained(first, g.m, b);
     Swap {
         gone: gone,
         come: come,
@@ -194,54 +164,45 @@ pub fn ended(
 
 // What goes and what comes, by what was found.
 pub fn swap(
-    m: usize,
-    sv: &[u8; ENTRY_LIMIT],
-    st: &[u8; ENTRY_LIMIT],
-    rs: &[u8; ENTRY_LIMIT],
-    rt: &[u8; ENTRY_LIMIT],
-    plan: &[bool; ENTRY_LIMIT],
-    hs: &[u16; 32],
-    ls: &[u16; ENTRY_LIMIT],
-    ht: &[u16; 32],
-    lt: &[u16; ENTRY_LIMIT],
-    n: usize,
-    es: &[u16; 64],
-    fs: &[bool; 32],
-    ft: &[bool; 32],
+    g: &Instance,
+    plan: &ListedPlan,
+    room: &Room,
+    links_s: &NodeLinks,
+    links_t: &NodeLinks,
     arcs: &[u8; 4096],
-    found: Found,
+    found: Option<Found>,
 ) -> Swap
-    requires { (m ≤ entry_limit) × (n ≤ plan_limit) × Low m sv.now node_limit × Low m st.now node_limit × Low n es.now m × Small n arcs.now
-        × Bounded m n found × Linked m sv.now hs.now ls.now × Linked m st.now ht.now lt.now }
+    requires { (g.now.m ≤ entry_limit) × (plan.now.n ≤ plan_limit) × Low g.now.m g.now.sv node_limit × Low g.now.m g.now.st node_limit × Low plan.now.n plan.now.edges.now g.now.m × Small plan.now.n arcs.now
+        × Bounded g.now.m plan.now.n found × LinksOf g.now.m g.now.sv links_s.now × LinksOf g.now.m g.now.st links_t.now }
     ensures { Marks result.gone
-        (gone_by m sv.now st.now rs.now rt.now plan.now fs.now ft.now
-        es.now arcs.now n found)
+        (gone_by g.now.m g.now.sv g.now.st g.now.rank_s g.now.rank_t plan.now.has.now room.now.s room.now.t
+        plan.now.edges.now arcs.now plan.now.n found)
         × Marks result.come
-        (come_by m sv.now st.now rs.now rt.now plan.now fs.now
-        ft.now es.now arcs.now n found) }
+        (come_by g.now.m g.now.sv g.now.st g.now.rank_s g.now.rank_t plan.now.has.now room.now.s
+        room.now.t plan.now.edges.now arcs.now plan.now.n found) }
 {
     let blank = Swap {
         gone: [false; ENTRY_LIMIT],
         come: [false; ENTRY_LIMIT],
     };
-    match found {
-        Found::Nothing => blank,
+    let Some(place) = found else {
+        return blank;
+    };
+    match place {
         Found::Direct(f) => Swap {
             gone: [false; ENTRY_LIMIT],
-            come: gained([false; ENTRY_LIMIT], m, f),
+            come: gained([false; ENTRY_LIMIT], g.m, f),
         },
         Found::Alone(i) => {
-            let x = es[i] as usize;
-            ended(m, sv, st, rs, rt, plan, fs, ft, hs, ls, ht, lt, x, x)
+            let x = plan.edges[i] as usize;
+            ended(g, plan.has, room, links_s, links_t, x, x)
         }
-        Found::Closed(l, i) => rival_walk::walk(
-            m, sv, st, rs, rt, plan, ht, lt, n, es, arcs, l, i, i, blank,
-        ),
+        Found::Closed(l, i) => rival_walk::walk(g, plan, links_t, arcs, l, i, i, blank),
         Found::Open(l, i, j) => {
-            let x = es[i] as usize;
-            let y = es[j] as usize;
-            let start = ended(m, sv, st, rs, rt, plan, fs, ft, hs, ls, ht, lt, x, y);
-            rival_walk::walk(m, sv, st, rs, rt, plan, ht, lt, n, es, arcs, l, i, j, start)
+            let x = plan.edges[i] as usize;
+            let y = plan.edges[j] as usize;
+            let start = ended(g, plan.has, room, links_s, links_t, x, y);
+            rival_walk::walk(g, plan, links_t, arcs, l, i, j, start)
         }
     }
 }

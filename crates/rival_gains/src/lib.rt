@@ -8,12 +8,13 @@ ghost use Rattle.model.specs.Limits.{entry_limit, node_limit, plan_limit};
 ghost use Rattle.arrays.specs.ArrayInstance.{at};
 ghost use Rattle.arrays.specs.Passes.{Low};
 ghost use Rattle.arrays.specs.Filled.{Made};
-ghost use Rattle.arrays.specs.Linked.{Linked};
+ghost use Rattle.rival_tables.specs.Links.{LinksOf};
 ghost use Rattle.rival_tables.specs.Filled.{Rows};
 ghost use Rattle.rival_tables.specs.Cheapest.{offer};
 ghost use Rattle.rival_gains.specs.Gains.{gain_price, gain_price_but};
 
 use limits::ENTRY_LIMIT;
+use rival_tables::NodeLinks;
 
 // a number that is no node's
 const NO_NODE: u8 = 32;
@@ -36,20 +37,19 @@ pub fn apart_row(
     rank: &[u8; ENTRY_LIMIT],
     plan: &[bool; ENTRY_LIMIT],
     room: &[bool; 32],
-    head: &[u16; 32],
-    next: &[u16; ENTRY_LIMIT],
+    links: &NodeLinks,
     po: &[u8; 64],
     e: u8,
     b: u8,
 ) -> [u8; 64]
-    requires { (m ≤ entry_limit) × Low m other.now node_limit × ((end : List ℕ) × Linked m end head.now next.now) × (e < 32) }
-    ensures { (end : List ℕ) → Linked m end head.now next.now
+    requires { (m ≤ entry_limit) × Low m other.now node_limit × ((end : List ℕ) × LinksOf m end links.now) × (e < 32) }
+    ensures { (end : List ℕ) → LinksOf m end links.now
         → Made 0 result (λ j. gain_price_but m end other.now rank.now plan.now room.now 3 e b
         (at po.now j)) 64 }
 {
     let mut o = [3u8; 64];
     let u = e as usize;
-    let mut f = head[u] as usize;
+    let mut f = links.head[u] as usize;
     while f < m {
         let d = other[f];
         let v = d as usize;
@@ -57,7 +57,7 @@ pub fn apart_row(
             let p = vote_ranks::rated(b, rank[f]);
             parted(&mut o, po, d, p);
         }
-        f = next[f] as usize;
+        f = links.next[f] as usize;
     }
     o
 }
@@ -69,26 +69,24 @@ pub fn apart(
     rank: &[u8; ENTRY_LIMIT],
     plan: &[bool; ENTRY_LIMIT],
     room: &[bool; 32],
-    head: &[u16; 32],
-    next: &[u16; ENTRY_LIMIT],
+    links: &NodeLinks,
     n: usize,
     pe: &[u8; 64],
     po: &[u8; 64],
     pr: &[u8; 64],
 ) -> [u8; 4096]
-    requires { (m ≤ entry_limit) × Low m other.now node_limit × ((end : List ℕ) × Linked m end head.now next.now)
+    requires { (m ≤ entry_limit) × Low m other.now node_limit × ((end : List ℕ) × LinksOf m end links.now)
         × (n ≤ plan_limit) × Low n pe.now node_limit }
-    ensures { (end : List ℕ) → Linked m end head.now next.now
+    ensures { (end : List ℕ) → LinksOf m end links.now
         → Rows result n (λ i j. gain_price_but m end other.now rank.now plan.now room.now 3
         (at pe.now i) (at pr.now i) (at po.now j)) }
 {
     let mut o = [3u8; 4096];
-    let roomy = rival_tables::first_room(room);
-    if roomy >= 32 {
+    if rival_tables::first_room(room).is_none() {
         return o;
     }
     for i in 0..n {
-        let row = apart_row(m, other, rank, plan, room, head, next, po, pe[i], pr[i]);
+        let row = apart_row(m, other, rank, plan, room, links, po, pe[i], pr[i]);
         rival_tables::put_row(&mut o, &row, i);
     }
     o
@@ -109,31 +107,30 @@ pub fn least_rates(
     rank: &[u8; ENTRY_LIMIT],
     plan: &[bool; ENTRY_LIMIT],
     room: &[bool; 32],
-    head: &[u16; 32],
-    next: &[u16; ENTRY_LIMIT],
+    links: &NodeLinks,
     e: u8,
     b: u8,
     d: u8,
 ) -> LeastRates
-    requires { (m ≤ entry_limit) × Low m other.now node_limit × ((end : List ℕ) × Linked m end head.now next.now) × (e < 32) }
-    ensures { (end : List ℕ) → Linked m end head.now next.now
+    requires { (m ≤ entry_limit) × Low m other.now node_limit × ((end : List ℕ) × LinksOf m end links.now) × (e < 32) }
+    ensures { (end : List ℕ) → LinksOf m end links.now
         → (result.all ≡ gain_price m end other.now rank.now plan.now room.now 6 e b)
         × (result.apart ≡ gain_price_but m end other.now rank.now plan.now room.now 3 e b d) }
 {
     let mut all = 6;
     let mut apart = 3;
     let u = e as usize;
-    let mut f = head[u] as usize;
+    let mut f = links.head[u] as usize;
     while f < m {
         let o = other[f];
         let v = o as usize;
         let ok = !plan[f] & room[v];
         if ok {
             let p = vote_ranks::rated(b, rank[f]);
-            all = rival_tables::lesser(p, all);
+            all = p.min(all);
             apart = rival_tables::offered(!(o == d), p, apart);
         }
-        f = next[f] as usize;
+        f = links.next[f] as usize;
     }
     LeastRates {
         all: all,
@@ -148,27 +145,23 @@ pub fn gains(
     rank: &[u8; ENTRY_LIMIT],
     plan: &[bool; ENTRY_LIMIT],
     room: &[bool; 32],
-    head: &[u16; 32],
-    next: &[u16; ENTRY_LIMIT],
+    links: &NodeLinks,
     n: usize,
     pe: &[u8; 64],
     pr: &[u8; 64],
 ) -> [u8; 64]
-    requires { (m ≤ entry_limit) × Low m other.now node_limit × ((end : List ℕ) × Linked m end head.now next.now)
+    requires { (m ≤ entry_limit) × Low m other.now node_limit × ((end : List ℕ) × LinksOf m end links.now)
         × (n ≤ plan_limit) × Low n pe.now node_limit }
-    ensures { (end : List ℕ) → Linked m end head.now next.now
+    ensures { (end : List ℕ) → LinksOf m end links.now
         → Made 0 result (λ i. gain_price m end other.now rank.now plan.now room.now 6
         (at pe.now i) (at pr.now i)) n }
 {
     let mut o = [6u8; 64];
-    let roomy = rival_tables::first_room(room);
-    if roomy >= 32 {
+    if rival_tables::first_room(room).is_none() {
         return o;
     }
     for i in 0..n {
-        let r = least_rates(
-            m, other, rank, plan, room, head, next, pe[i], pr[i], NO_NODE,
-        );
+        let r = least_rates(m, other, rank, plan, room, links, pe[i], pr[i], NO_NODE);
         o[i] = r.all;
     }
     o

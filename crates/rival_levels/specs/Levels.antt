@@ -1,10 +1,12 @@
 -- What the tests of a layer find, as places in the plan's list, and the search level by level: closed walks first, then walks with a start
 -- and an end, until a layer is nowhere lower than the one before.
-use Rattle.std.specs.Prelude.{ℕ, zero, suc, ◌+◌, ◌-◌, ◌*◌, ◌≤◌, ◌<◌, ◌≡◌, refl, ◌⊎◌, Bool, true, false, cond, List, ltb}
-use Rattle.std.proofs.Common.{arith, add-one, sym, ap, ap₂, ◌∙◌, inl, inr, lt-ltb, le-ltb}
+use Rattle.std.specs.Prelude.{ℕ, zero, suc, ◌+◌, ◌-◌, ◌*◌, ◌≤◌, ◌<◌, ◌≡◌, refl, ◌⊎◌, Bool, true, false, cond, List, ltb, Option, Some, None, is_some}
+use Rattle.std.proofs.Common.{arith, add-one, sym, ap, ap₂, ◌∙◌, inl, inr, lt-ltb, le-ltb, ltb-true, ltb-false}
+use Rattle.lists.specs.Test.{by_bool}
 use Rattle.lists.specs.Search.{low, low_cong}
 use Rattle.rival_tables.specs.Filled.{cell, Rows}
 use Rattle.rival_levels.specs.Layers.{kept_price, layer_at}
+use Rattle.rival_levels.specs.declared.Place.{Place}
 use Rattle.rival_levels.specs.declared.Found.TheVariants as found
 use Rattle.rival_levels.specs.declared.Found.{Found}
 
@@ -24,6 +26,58 @@ ends_at f terminals n bound i = low (λ j. ltb (f i j + cell terminals i j) boun
 -- the first row that has such a column
 abbrev pub pair_at : (f : ℕ → ℕ → ℕ) (terminals : List ℕ) → ℕ → ℕ → ℕ
 pair_at f terminals n bound = low (λ i. ltb (ends_at f terminals n bound i) n) n
+
+-- the place, if there is one
+abbrev pub place_at : (f : ℕ → ℕ → ℕ) (terminals : List ℕ) → ℕ → ℕ → Option Place
+place_at f terminals n bound =
+    let r = pair_at f terminals n bound in
+    cond (ltb r n) (Some (record { row = r; column = ends_at f terminals n bound r })) None
+
+-- to answer it, and to read it
+pub some_place : (f : ℕ → ℕ → ℕ) (terminals : List ℕ) (n bound r c : ℕ) → r ≡ pair_at f terminals n bound → r < n → c ≡ ends_at f terminals n bound r
+    → ◌≡◌ {A = Option Place} (Some (record { row = r; column = c })) (place_at f terminals n bound)
+some_place f terminals n bound r c e h q =
+    ap₂ (λ (r c : ℕ). Some (record { row = r; column = c })) e (q ∙ ap (ends_at f terminals n bound) e)
+    ∙ sym (ap (λ (b : Bool). cond b (Some (record { row = pair_at f terminals n bound; column = ends_at f terminals n bound (pair_at f terminals n bound) })) None)
+    (ap (λ z. ltb z n) (sym e) ∙ lt-ltb r n h))
+
+pub no_place : (f : ℕ → ℕ → ℕ) (terminals : List ℕ) (n bound : ℕ) → n ≤ pair_at f terminals n bound
+    → ◌≡◌ {A = Option Place} None (place_at f terminals n bound)
+no_place f terminals n bound h =
+    sym (ap (λ (b : Bool). cond b (Some (record { row = pair_at f terminals n bound; column = ends_at f terminals n bound (pair_at f terminals n bound) })) None)
+    (le-ltb (pair_at f terminals n bound) n h))
+
+pub found_place : {o : Option Place} (f : ℕ → ℕ → ℕ) (terminals : List ℕ) (n bound : ℕ) (p : Place) → o ≡ Some p → o ≡ place_at f terminals n bound
+    → (p.row ≡ pair_at f terminals n bound) × (p.row < n) × (p.column ≡ ends_at f terminals n bound p.row)
+found_place f terminals n bound p h e =
+    let r = pair_at f terminals n bound in
+    let w : Place = record { row = r; column = ends_at f terminals n bound r } in
+    by_bool (ltb r n)
+    (λ t. let q : ◌≡◌ {A = Option Place} (Some p) (Some w) = sym h ∙ e ∙ ap (λ (b : Bool). cond b (Some w) None) t in
+    let s : p ≡ w = cc in (
+      ap (λ (x : Place). x.row) s,
+      omega (arith, ltb-true r n t, ap (λ (x : Place). x.row) s),
+      ap (λ (x : Place). x.column) s ∙ ap (ends_at f terminals n bound) (sym (ap (λ (x : Place). x.row) s)),
+    ))
+    (λ t. let q : ◌≡◌ {A = Option Place} (Some p) None = sym h ∙ e ∙ ap (λ (b : Bool). cond b (Some w) None) t in cc)
+
+pub none_place : {o : Option Place} (f : ℕ → ℕ → ℕ) (terminals : List ℕ) (n bound : ℕ) → o ≡ None → o ≡ place_at f terminals n bound
+    → n ≤ pair_at f terminals n bound
+none_place f terminals n bound h e =
+    let r = pair_at f terminals n bound in
+    let w : Place = record { row = r; column = ends_at f terminals n bound r } in
+    by_bool (ltb r n)
+    (λ t. let q : ◌≡◌ {A = Option Place} None (Some w) = sym h ∙ e ∙ ap (λ (b : Bool). cond b (Some w) None) t in cc)
+    (λ t. ltb-false r n t)
+
+pub none_is_place : {o : Option Place} (f : ℕ → ℕ → ℕ) (terminals : List ℕ) (n bound : ℕ) → is_some o ≡ false → o ≡ place_at f terminals n bound
+    → n ≤ pair_at f terminals n bound
+none_is_place f terminals n bound h e =
+    let r = pair_at f terminals n bound in
+    let w : Place = record { row = r; column = ends_at f terminals n bound r } in
+    by_bool (ltb r n)
+    (λ t. let q : true ≡ false = sym (ap is_some (e ∙ ap (λ (b : Bool). cond b (Some w) None) t)) ∙ h in cc)
+    (λ t. ltb-false r n t)
 
 -- the first column in which g is lower than f kept
 abbrev pub lowered_at : (f g : ℕ → ℕ → ℕ) → ℕ → ℕ → ℕ
@@ -49,14 +103,14 @@ level_column arcs terminals n k l = ends_at (layer_at arcs n l) terminals n (2 *
 abbrev pub level_change : List ℕ → ℕ → ℕ → ℕ
 level_change arcs n l = changed_at (layer_at arcs n l) (layer_at arcs n (suc l)) n
 
-abbrev pub level_at : (arcs terminals : List ℕ) → ℕ → ℕ → ℕ → Found → Found
-level_at arcs terminals n k l rest = cond (ltb (level_loop arcs n k l) n) (found.Closed l (level_loop arcs n k l))
-    (cond (ltb (level_row arcs terminals n k l) n) (found.Open l (level_row arcs terminals n k l) (level_column arcs terminals n k l))
-    (cond (ltb (level_change arcs n l) n) rest found.Nothing))
+abbrev pub level_at : (arcs terminals : List ℕ) → ℕ → ℕ → ℕ → Option Found → Option Found
+level_at arcs terminals n k l rest = cond (ltb (level_loop arcs n k l) n) (Some (found.Closed l (level_loop arcs n k l)))
+    (cond (ltb (level_row arcs terminals n k l) n) (Some (found.Open l (level_row arcs terminals n k l) (level_column arcs terminals n k l)))
+    (cond (ltb (level_change arcs n l) n) rest None))
 
 -- what b levels from level l on find
-unfoldable pub levels_at : (arcs terminals : List ℕ) → ℕ → ℕ → ℕ → ℕ → Found
-levels_at arcs terminals n k zero l = found.Nothing
+unfoldable pub levels_at : (arcs terminals : List ℕ) → ℕ → ℕ → ℕ → ℕ → Option Found
+levels_at arcs terminals n k zero l = None
 levels_at arcs terminals n k (suc b) l = level_at arcs terminals n k l (levels_at arcs terminals n k b (suc l))
 
 pub levels_turn : (arcs terminals : List ℕ) (n k b l : ℕ) → l < b
@@ -64,7 +118,7 @@ pub levels_turn : (arcs terminals : List ℕ) (n k b l : ℕ) → l < b
 unfolding levels_at
 levels_turn arcs terminals n k b l h = let e : b - l ≡ suc (b - (l + 1)) = omega arith in rw (e, add-one)
 
-pub levels_end : (arcs terminals : List ℕ) (n k b l : ℕ) → b ≤ l → levels_at arcs terminals n k (b - l) l ≡ found.Nothing
+pub levels_end : (arcs terminals : List ℕ) (n k b l : ℕ) → b ≤ l → levels_at arcs terminals n k (b - l) l ≡ None
 unfolding levels_at
 levels_end arcs terminals n k b l h = let e : b - l ≡ 0 = omega arith in rw e
 
@@ -72,9 +126,9 @@ pub levels_start : (arcs terminals : List ℕ) (n k b : ℕ) → levels_at arcs 
 levels_start arcs terminals n k b = let e : b - 0 ≡ b = omega arith in ap (λ c. levels_at arcs terminals n k c 0) e
 
 -- levels that find something find what more levels do
-more : (a b : Found) (x y z : Bool) (r s : Found) → (r ≡ found.Nothing) ⊎ (s ≡ r)
-    → (cond x a (cond y b (cond z r found.Nothing)) ≡ found.Nothing)
-    ⊎ (cond x a (cond y b (cond z s found.Nothing)) ≡ cond x a (cond y b (cond z r found.Nothing)))
+more : (a b : Option Found) (x y z : Bool) (r s : Option Found) → (r ≡ None) ⊎ (s ≡ r)
+    → (cond x a (cond y b (cond z r None)) ≡ None)
+    ⊎ (cond x a (cond y b (cond z s None)) ≡ cond x a (cond y b (cond z r None)))
 more a b true y z r s h = inr refl
 more a b false true z r s h = inr refl
 more a b false false true r s h = h
@@ -82,12 +136,12 @@ more a b false false false r s h = inl refl
 
 -- more levels find what fewer found
 pub levels_more : (arcs terminals : List ℕ) (n k b c l : ℕ) → b ≤ c
-    → (levels_at arcs terminals n k b l ≡ found.Nothing) ⊎ (levels_at arcs terminals n k c l ≡ levels_at arcs terminals n k b l)
+    → (levels_at arcs terminals n k b l ≡ None) ⊎ (levels_at arcs terminals n k c l ≡ levels_at arcs terminals n k b l)
 unfolding levels_at
 levels_more arcs terminals n k zero c l h = inl refl
 levels_more arcs terminals n k (suc b) zero l h = absurd (omega arith)
 levels_more arcs terminals n k (suc b) (suc c) l h =
-    more (found.Closed l (level_loop arcs n k l)) (found.Open l (level_row arcs terminals n k l) (level_column arcs terminals n k l))
+    more (Some (found.Closed l (level_loop arcs n k l))) (Some (found.Open l (level_row arcs terminals n k l) (level_column arcs terminals n k l)))
     (ltb (level_loop arcs n k l) n) (ltb (level_row arcs terminals n k l) n) (ltb (level_change arcs n l) n)
     (levels_at arcs terminals n k b (suc l)) (levels_at arcs terminals n k c (suc l)) (levels_more arcs terminals n k b c (suc l) (omega arith))
 
@@ -120,39 +174,39 @@ module _ (arcs terminals d : List ℕ) (n k l : ℕ) (fits : n ≤ 64) (shows : 
       (λ j p. ap₂ (λ x y. ltb x (kept_price y)) (g i j h (omega arith)) (shows i j h (omega arith)))))
 
 -- ---- the ways out of a level
-module _ (arcs terminals : List ℕ) (n k l : ℕ) (rest : Found) where
-  abbrev ask : Bool → Bool → Bool → Found
+module _ (arcs terminals : List ℕ) (n k l : ℕ) (rest : Option Found) where
+  abbrev ask : Bool → Bool → Bool → Option Found
   ask x y z =
-      cond x (found.Closed l (level_loop arcs n k l))
-      (cond y (found.Open l (level_row arcs terminals n k l) (level_column arcs terminals n k l)) (cond z rest found.Nothing))
+      cond x (Some (found.Closed l (level_loop arcs n k l)))
+      (cond y (Some (found.Open l (level_row arcs terminals n k l) (level_column arcs terminals n k l))) (cond z rest None))
 
-  pub out_closed : (i : ℕ) → i ≡ level_loop arcs n k l → i < n → found.Closed l i ≡ level_at arcs terminals n k l rest
+  pub out_closed : (i : ℕ) → i ≡ level_loop arcs n k l → i < n → Some (found.Closed l i) ≡ level_at arcs terminals n k l rest
   out_closed i e h =
-      ap (found.Closed l) e
+      ap (λ i. Some (found.Closed l i)) e
       ∙ sym (ap (λ x. ask x (ltb (level_row arcs terminals n k l) n) (ltb (level_change arcs n l) n)) (ap (λ j. ltb j n) (sym e) ∙ lt-ltb i n h))
 
   pub out_open : (i r c : ℕ) → i ≡ level_loop arcs n k l → n ≤ i → r ≡ level_row arcs terminals n k l → r < n → c ≡ level_column arcs terminals n k l
-      → found.Open l r c ≡ level_at arcs terminals n k l rest
-  out_open i r c e h p g q = ap₂ (found.Open l) p q
+      → Some (found.Open l r c) ≡ level_at arcs terminals n k l rest
+  out_open i r c e h p g q = ap₂ (λ r c. Some (found.Open l r c)) p q
       ∙ sym (ap₂ (λ x y. ask x y (ltb (level_change arcs n l) n)) (ap (λ j. ltb j n) (sym e) ∙ le-ltb i n h) (ap (λ j. ltb j n) (sym p) ∙ lt-ltb r n g))
 
   missed : (i r : ℕ) → i ≡ level_loop arcs n k l → n ≤ i → r ≡ level_row arcs terminals n k l → n ≤ r
-      → level_at arcs terminals n k l rest ≡ cond (ltb (level_change arcs n l) n) rest found.Nothing
+      → level_at arcs terminals n k l rest ≡ cond (ltb (level_change arcs n l) n) rest None
   missed i r e h p g = ap₂ (λ x y. ask x y (ltb (level_change arcs n l) n)) (ap (λ j. ltb j n) (sym e) ∙ le-ltb i n h) (ap (λ j. ltb j n) (sym p) ∙ le-ltb r n g)
 
   pub out_nothing : (i r c : ℕ) → i ≡ level_loop arcs n k l → n ≤ i → r ≡ level_row arcs terminals n k l → n ≤ r → c ≡ level_change arcs n l → n ≤ c
-      → found.Nothing ≡ level_at arcs terminals n k l rest
-  out_nothing i r c e h p g q f = sym (missed i r e h p g ∙ ap (λ x. cond x rest found.Nothing) (ap (λ j. ltb j n) (sym q) ∙ le-ltb c n f))
+      → None ≡ level_at arcs terminals n k l rest
+  out_nothing i r c e h p g q f = sym (missed i r e h p g ∙ ap (λ x. cond x rest None) (ap (λ j. ltb j n) (sym q) ∙ le-ltb c n f))
 
   pub out_on : (i r c : ℕ) → i ≡ level_loop arcs n k l → n ≤ i → r ≡ level_row arcs terminals n k l → n ≤ r → c ≡ level_change arcs n l → c < n
       → rest ≡ level_at arcs terminals n k l rest
-  out_on i r c e h p g q f = sym (missed i r e h p g ∙ ap (λ x. cond x rest found.Nothing) (ap (λ j. ltb j n) (sym q) ∙ lt-ltb c n f))
+  out_on i r c e h p g q f = sym (missed i r e h p g ∙ ap (λ x. cond x rest None) (ap (λ j. ltb j n) (sym q) ∙ lt-ltb c n f))
 
   -- the last of the levels asked for
-  pub out_last : (i r : ℕ) → i ≡ level_loop arcs n k l → n ≤ i → r ≡ level_row arcs terminals n k l → n ≤ r → rest ≡ found.Nothing
-      → found.Nothing ≡ level_at arcs terminals n k l rest
+  pub out_last : (i r : ℕ) → i ≡ level_loop arcs n k l → n ≤ i → r ≡ level_row arcs terminals n k l → n ≤ r → rest ≡ None
+      → None ≡ level_at arcs terminals n k l rest
   out_last i r e h p g q = sym (missed i r e h p g ∙ either (ltb (level_change arcs n l) n))
     where
-      either : (z : Bool) → cond z rest found.Nothing ≡ found.Nothing
+      either : (z : Bool) → cond z rest None ≡ None
       either true = q
       either false = refl

@@ -2,7 +2,7 @@
 -- arcs and of the ends: what is found by places stands for what the search finds.
 use Prim.Native.Nat.{ℕ, zero, suc, ◌+◌, ◌*◌, ◌≤◌, ◌<◌}
 use Rattle.std.proofs.Common.{arith, ◌∙◌}
-use Rattle.std.specs.Prelude.{◌≡◌, Bool, true, false, ◌&&◌, List, [], map, leb}
+use Rattle.std.specs.Prelude.{◌≡◌, Bool, true, false, ◌&&◌, List, [], map, leb, Option as Opt, Some, None}
 use Rattle.std.proofs.Math.Path.{refl, sym, ap, ap₂}
 use Rattle.std.proofs.Math.Bool.{not, cond}
 use Rattle.std.proofs.Math.Option.{Option, none, some, or_else}
@@ -26,18 +26,18 @@ use Rattle.rival_levels.specs.Levels.{diag_at, ends_at, level_loop, level_row, l
 use Rattle.rival_levels.specs.Firsts.{first_map, first_hit, first_miss, couple_hit, couple_miss, all_hit, all_miss}
 
 -- what is found, by edges
-abbrev pub hit_of : Instance → (ℕ → Bool) → List ℕ → Found → Option Hit
-hit_of G M es found.Nothing = none
-hit_of G M es (found.Direct f) = some (direct f)
-hit_of G M es (found.Alone i) = some (as_path G M (at es i) (at es i) [])
-hit_of G M es (found.Closed l i) = some (loop (at es i) (trace G M 133 l (at es i) (at es i)))
-hit_of G M es (found.Open l i j) = some (as_path G M (at es i) (at es j) (trace G M 133 l (at es i) (at es j)))
+abbrev pub hit_of : Instance → (ℕ → Bool) → List ℕ → Opt Found → Option Hit
+hit_of G M es None = none
+hit_of G M es (Some (found.Direct f)) = some (direct f)
+hit_of G M es (Some (found.Alone i)) = some (as_path G M (at es i) (at es i) [])
+hit_of G M es (Some (found.Closed l i)) = some (loop (at es i) (trace G M 133 l (at es i) (at es i)))
+hit_of G M es (Some (found.Open l i j)) = some (as_path G M (at es i) (at es j) (trace G M 133 l (at es i) (at es j)))
 
 -- the search by places: an edge with room at both ends, a walk without an arc, the levels
-unfoldable pub search_at : (m : ℕ) (free : ℕ → Bool) (arcs terminals : List ℕ) → ℕ → ℕ → Found
+unfoldable pub search_at : (m : ℕ) (free : ℕ → Bool) (arcs terminals : List ℕ) → ℕ → ℕ → Opt Found
 search_at m free arcs terminals n k =
-    cond (ltb (low free m) m) (found.Direct (low free m))
-    (cond (ltb (diag_at (cell terminals) n (4 + k)) n) (found.Alone (diag_at (cell terminals) n (4 + k))) (levels_at arcs terminals n k n 0))
+    cond (ltb (low free m) m) (Some (found.Direct (low free m)))
+    (cond (ltb (diag_at (cell terminals) n (4 + k)) n) (Some (found.Alone (diag_at (cell terminals) n (4 + k)))) (levels_at arcs terminals n k n 0))
 
 module _ (G : Instance) (M : ℕ → Bool) (es : List ℕ) (n : ℕ) (lists : olds G M ≡ map (at es) (range 0 n))
     (arcs terminals : List ℕ) (arcsShow : Grid arcs n (λ i j. (arc G M 133 (at es i) (at es j)).0))
@@ -146,43 +146,43 @@ module _ (G : Instance) (M : ℕ → Bool) (es : List ℕ) (n : ℕ) (lists : ol
         ap (λ xs. all? (still_test l) (product xs xs)) lists ∙ all_miss (still_test l) (at es) n (omega arith)
 
     -- ---- the levels
-    abbrev say : Found → Option Hit
+    abbrev say : Opt Found → Option Hit
     say = hit_of G M es
 
     pub levels_are : (b l : ℕ) → say (levels_at arcs terminals n k b l) ≡ levels' G M 133 k b l
     unfolding levels_at levels' or_else
     levels_are zero l = refl
     levels_are (suc b) l = by_bool (ltb (level_loop arcs n k l) n)
-        (λ e. ap (λ x. say (cond x (found.Closed l (level_loop arcs n k l)) beyond)) e
+        (λ e. ap (λ x. say (cond x (Some (found.Closed l (level_loop arcs n k l))) beyond)) e
         ∙ sym
         (ap (λ o. or_else o (or_else (path_at G M 133 k l) (cond (still G M 133 k l) none (levels' G M 133 k b (suc l)))))
         (loop_hit l (ltb-true (level_loop arcs n k l) n e))))
-        (λ e. ap (λ x. say (cond x (found.Closed l (level_loop arcs n k l)) beyond)) e ∙ rest (levels_are b (suc l))
+        (λ e. ap (λ x. say (cond x (Some (found.Closed l (level_loop arcs n k l))) beyond)) e ∙ rest (levels_are b (suc l))
         ∙ sym
         (ap (λ o. or_else o (or_else (path_at G M 133 k l) (cond (still G M 133 k l) none (levels' G M 133 k b (suc l)))))
         (loop_miss l (ltb-false (level_loop arcs n k l) n e))))
       where
-        later : Found
-        later = cond (ltb (level_change arcs n l) n) (levels_at arcs terminals n k b (suc l)) found.Nothing
+        later : Opt Found
+        later = cond (ltb (level_change arcs n l) n) (levels_at arcs terminals n k b (suc l)) None
 
-        beyond : Found
-        beyond = cond (ltb (level_row arcs terminals n k l) n) (found.Open l (level_row arcs terminals n k l) (level_column arcs terminals n k l)) later
+        beyond : Opt Found
+        beyond = cond (ltb (level_row arcs terminals n k l) n) (Some (found.Open l (level_row arcs terminals n k l) (level_column arcs terminals n k l))) later
 
         last : say (levels_at arcs terminals n k b (suc l)) ≡ levels' G M 133 k b (suc l)
             → say later ≡ cond (still G M 133 k l) none (levels' G M 133 k b (suc l))
         last ih = by_bool (ltb (level_change arcs n l) n)
-            (λ e. ap (λ x. say (cond x (levels_at arcs terminals n k b (suc l)) found.Nothing)) e ∙ ih
+            (λ e. ap (λ x. say (cond x (levels_at arcs terminals n k b (suc l)) None)) e ∙ ih
             ∙ sym (ap (λ x. cond x none (levels' G M 133 k b (suc l))) (still_miss l (ltb-true (level_change arcs n l) n e))))
-            (λ e. ap (λ x. say (cond x (levels_at arcs terminals n k b (suc l)) found.Nothing)) e
+            (λ e. ap (λ x. say (cond x (levels_at arcs terminals n k b (suc l)) None)) e
             ∙ sym (ap (λ x. cond x none (levels' G M 133 k b (suc l))) (still_hit l (ltb-false (level_change arcs n l) n e))))
 
         rest : say (levels_at arcs terminals n k b (suc l)) ≡ levels' G M 133 k b (suc l)
             → say beyond ≡ or_else (path_at G M 133 k l) (cond (still G M 133 k l) none (levels' G M 133 k b (suc l)))
         rest ih = by_bool (ltb (level_row arcs terminals n k l) n)
-            (λ e. ap (λ x. say (cond x (found.Open l (level_row arcs terminals n k l) (level_column arcs terminals n k l)) later)) e
+            (λ e. ap (λ x. say (cond x (Some (found.Open l (level_row arcs terminals n k l) (level_column arcs terminals n k l))) later)) e
             ∙ sym
             (ap (λ o. or_else o (cond (still G M 133 k l) none (levels' G M 133 k b (suc l)))) (path_hit l (ltb-true (level_row arcs terminals n k l) n e))))
-            (λ e. ap (λ x. say (cond x (found.Open l (level_row arcs terminals n k l) (level_column arcs terminals n k l)) later)) e ∙ last ih
+            (λ e. ap (λ x. say (cond x (Some (found.Open l (level_row arcs terminals n k l) (level_column arcs terminals n k l))) later)) e ∙ last ih
             ∙ sym
             (ap (λ o. or_else o (cond (still G M 133 k l) none (levels' G M 133 k b (suc l))))
             (path_miss l (ltb-false (level_row arcs terminals n k l) n e))))
@@ -212,11 +212,11 @@ module _ (G : Instance) (M : ℕ → Bool) (es : List ℕ) (n : ℕ) (lists : ol
       pub search_is : say (search_at G.m free arcs terminals n k) ≡ search' G M 133 k n
       unfolding search_at search' directs or_else
       search_is = by_bool (ltb (low free G.m) G.m)
-          (λ e. ap (λ x. say (cond x (found.Direct (low free G.m)) onward)) e
+          (λ e. ap (λ x. say (cond x (Some (found.Direct (low free G.m))) onward)) e
           ∙ sym
           (ap (λ o. or_else o (or_else (alone_at G M 133 k) (levels' G M 133 k n 0)))
           (first_hit free_test direct G.m (omega (arith, free_low, ltb-true (low free G.m) G.m e)) ∙ ap (λ f. some (direct f)) free_low)))
-          (λ e. ap (λ x. say (cond x (found.Direct (low free G.m)) onward)) e ∙ rest
+          (λ e. ap (λ x. say (cond x (Some (found.Direct (low free G.m))) onward)) e ∙ rest
           ∙ sym
           (ap (λ o. or_else o (or_else (alone_at G M 133 k) (levels' G M 133 k n 0)))
           (first_miss free_test direct G.m (omega (arith, free_low, ltb-false (low free G.m) G.m e)))))
@@ -224,17 +224,17 @@ module _ (G : Instance) (M : ℕ → Bool) (es : List ℕ) (n : ℕ) (lists : ol
           diag : ℕ
           diag = diag_at (cell terminals) n (4 + k)
 
-          onward : Found
-          onward = cond (ltb diag n) (found.Alone diag) (levels_at arcs terminals n k n 0)
+          onward : Opt Found
+          onward = cond (ltb diag n) (Some (found.Alone diag)) (levels_at arcs terminals n k n 0)
 
           rest : say onward ≡ or_else (alone_at G M 133 k) (levels' G M 133 k n 0)
           rest = by_bool (ltb diag n)
-              (λ e. ap (λ x. say (cond x (found.Alone diag) (levels_at arcs terminals n k n 0))) e
+              (λ e. ap (λ x. say (cond x (Some (found.Alone diag)) (levels_at arcs terminals n k n 0))) e
               ∙ sym
               (ap (λ o. or_else o (levels' G M 133 k n 0))
               (alone_places ∙ first_hit (λ i. alone_test (at es i)) (λ i. make_alone (at es i)) n (omega (arith, alone_low, ltb-true diag n e))
               ∙ ap (λ i. some (make_alone (at es i))) alone_low)))
-              (λ e. ap (λ x. say (cond x (found.Alone diag) (levels_at arcs terminals n k n 0))) e ∙ levels_are n 0
+              (λ e. ap (λ x. say (cond x (Some (found.Alone diag)) (levels_at arcs terminals n k n 0))) e ∙ levels_are n 0
               ∙ sym
               (ap (λ o. or_else o (levels' G M 133 k n 0))
               (alone_places ∙ first_miss (λ i. alone_test (at es i)) (λ i. make_alone (at es i)) n (omega (arith, alone_low, ltb-false diag n e)))))

@@ -6,8 +6,9 @@ ghost use Rattle.lists.specs.Search.{low};
 ghost use Rattle.model.specs.Limits.{plan_limit};
 ghost use Rattle.arrays.specs.ArrayInstance.{at};
 ghost use Rattle.rival_tables.specs.Filled.{cell, Rows};
+ghost use Rattle.rival_tables.specs.Within.{if_below};
 ghost use Rattle.rival_levels.specs.Layers.{kept_price, Small, Cheap, next_price};
-ghost use Rattle.rival_levels.specs.Levels.{SmallEnds, diag_at, ends_at, pair_at, changed_at, levels_at};
+ghost use Rattle.rival_levels.specs.Levels.{SmallEnds, diag_at, place_at, changed_at, levels_at};
 ghost use Rattle.arrays.specs.Filled.{Made};
 
 // A row as it is counted with one arc more.
@@ -17,7 +18,7 @@ pub fn kept_row(d: &[u8; 4096], b: usize) -> [u8; 64]
 {
     let mut o = [0u8; 64];
     for j in 0..64 {
-        o[j] = rival_tables::lesser(133, d[b + j] + 2);
+        o[j] = 133u8.min(d[b + j] + 2);
     }
     o
 }
@@ -29,7 +30,7 @@ pub fn lower(row: &mut [u8; 64], d: &[u8; 4096], b: usize, a: u8)
         × Made 0 row.new (λ j. min (a + at d.now (b + j)) (at row.old j)) 64 }
 {
     for j in 0..64 {
-        row[j] = rival_tables::lesser(a + d[b + j], row[j]);
+        row[j] = (a + d[b + j]).min(row[j]);
     }
 }
 
@@ -63,36 +64,33 @@ pub fn next_layer(n: usize, arcs: &[u8; 4096], d: &[u8; 4096]) -> [u8; 4096]
     o
 }
 
-// What a search finds, by places in the plan's list: nothing, an edge with room at both ends, a walk without an arc, a closed
-// walk of a level, a walk of a level with a start and an end.
+// What a search finds, by places in the plan's list: an edge with room at both ends, a walk without an arc, a closed walk of a level, a walk of a level with
+// a start and an end.
 #[derive(Clone, Copy)]
 pub enum Found {
-    Nothing,
     Direct(usize),
     Alone(usize),
     Closed(usize, usize),
     Open(usize, usize, usize),
 }
 
-#[derive(Drop)]
+#[derive(Clone, Copy)]
 pub struct Place {
     pub row: usize,
     pub column: usize,
 }
 
-// The first place on the diagonal that is below a bound, n if there is none.
-pub fn diagonal(n: usize, d: &[u8; 4096], bound: u8) -> usize
+// The first place on the diagonal that is below a bound.
+pub fn diagonal(n: usize, d: &[u8; 4096], bound: u8) -> Option<usize>
     requires { n ≤ plan_limit }
-    ensures { result ≡ diag_at (cell d.now) n bound }
+    ensures { result ≡ if_below n (diag_at (cell d.now) n bound) }
 {
-    let mut i = 0;
-    while i < n {
+    for i in 0..n {
         if d[i * 64 + i] < bound {
-            return i;
+            return Some(i);
         }
-        i += 1;
     }
-    i
+    None
 }
 
 // The least of the sums of a row of prices and a row of ends.
@@ -102,107 +100,92 @@ fn least_end(n: usize, d: &[u8; 4096], terminals: &[u8; 4096], b: usize) -> u8
 {
     let mut v = 139;
     for j in 0..n {
-        v = rival_tables::lesser(d[b + j] + terminals[b + j], v);
+        v = (d[b + j] + terminals[b + j]).min(v);
     }
     v
 }
 
-// The first column in which a row of prices and a row of ends are below a bound together, n if there is none: most rows have none, which their least sum
-// tells sooner.
-pub fn ends(n: usize, d: &[u8; 4096], terminals: &[u8; 4096], b: usize, bound: u8) -> usize
+// The first column in which a row of prices and a row of ends are below a bound together: most rows have none, which their least sum tells sooner.
+pub fn ends(n: usize, d: &[u8; 4096], terminals: &[u8; 4096], b: usize, bound: u8) -> Option<usize>
     requires { (n ≤ plan_limit) × (b + 64 ≤ 4096) × ((j : ℕ) → j < n → at d.now (b + j) + at terminals.now (b + j) ≤ 139) }
-    ensures { result ≡ low (λ j. ltb (at d.now (b + j) + at terminals.now (b + j)) bound) n }
+    ensures { result ≡ if_below n (low (λ j. ltb (at d.now (b + j) + at terminals.now (b + j)) bound) n) }
 {
     let least = least_end(n, d, terminals, b);
     if least >= bound {
-        return n;
+        return None;
     }
-    let mut j = 0;
-    while j < n {
+    for j in 0..n {
         if d[b + j] + terminals[b + j] < bound {
-            return j;
+            return Some(j);
         }
-        j += 1;
     }
-    j
+    None
 }
 
-// The first row in which that finds a column, and the column; n if there is none.
-pub fn pair(n: usize, d: &[u8; 4096], terminals: &[u8; 4096], bound: u8) -> Place
+// The first row in which that finds a column, and the column.
+pub fn pair(n: usize, d: &[u8; 4096], terminals: &[u8; 4096], bound: u8) -> Option<Place>
     requires { (n ≤ plan_limit) × Small n d.now × SmallEnds n terminals.now }
-    ensures { (result.row ≡ pair_at (cell d.now) terminals.now n bound)
-        × (result.row < n → result.column ≡ ends_at (cell d.now) terminals.now n bound result.row) }
+    ensures { result ≡ place_at (cell d.now) terminals.now n bound }
 {
-    let mut i = 0;
-    while i < n {
+    for i in 0..n {
         let b = i * 64;
-        let j = ends(n, d, terminals, b, bound);
-        if j < n {
-            return Place { row: i, column: j };
+        if let Some(j) = ends(n, d, terminals, b, bound) {
+            return Some(Place { row: i, column: j });
         }
-        i += 1;
     }
-    Place { row: i, column: 0 }
+    None
 }
 
-// The first column in which the next layer's row is lower than the row kept, n if there is none.
-pub fn lowered(n: usize, d: &[u8; 4096], e: &[u8; 4096], b: usize) -> usize
+// The first column in which the next layer's row is lower than the row kept.
+pub fn lowered(n: usize, d: &[u8; 4096], e: &[u8; 4096], b: usize) -> Option<usize>
     requires { (n ≤ plan_limit) × (b + 64 ≤ 4096) × ((j : ℕ) → j < 64 → at d.now (b + j) ≤ 133) }
-    ensures { result ≡ low (λ j. ltb (at e.now (b + j)) (kept_price (at d.now (b + j)))) n }
+    ensures { result ≡ if_below n (low (λ j. ltb (at e.now (b + j)) (kept_price (at d.now (b + j)))) n) }
 {
-    let mut j = 0;
-    while j < n {
-        let kept = rival_tables::lesser(133, d[b + j] + 2);
+    for j in 0..n {
+        let kept = 133u8.min(d[b + j] + 2);
         if e[b + j] < kept {
-            return j;
+            return Some(j);
         }
-        j += 1;
     }
-    j
+    None
 }
 
-// The first row that has such a column, n if there is none.
-pub fn changed(n: usize, d: &[u8; 4096], e: &[u8; 4096]) -> usize
+// The first row that has such a column.
+pub fn changed(n: usize, d: &[u8; 4096], e: &[u8; 4096]) -> Option<usize>
     requires { (n ≤ plan_limit) × Small n d.now }
-    ensures { result ≡ changed_at (cell d.now) (cell e.now) n }
+    ensures { result ≡ if_below n (changed_at (cell d.now) (cell e.now) n) }
 {
-    let mut i = 0;
-    while i < n {
+    for i in 0..n {
         let b = i * 64;
-        let j = lowered(n, d, e, b);
-        if j < n {
-            return i;
+        if lowered(n, d, e, b).is_some() {
+            return Some(i);
         }
-        i += 1;
     }
-    i
+    None
 }
 
 // The first b levels, until a layer changes nothing.
-pub fn levels(n: usize, b: usize, arcs: &[u8; 4096], terminals: &[u8; 4096], k: u8) -> Found
+pub fn levels(n: usize, b: usize, arcs: &[u8; 4096], terminals: &[u8; 4096], k: u8) -> Option<Found>
     requires { (n ≤ plan_limit) × (b ≤ n) × (k ≤ 1) × Small n arcs.now × Cheap n arcs.now × SmallEnds n terminals.now }
     ensures { result ≡ levels_at arcs.now terminals.now n k b 0 }
 {
     let mut d = *arcs;
     for l in 0..b {
         let bound = (2 * (l + 1)) as u8 + k;
-        let i = diagonal(n, &d, bound);
-        if i < n {
-            return Found::Closed(l, i);
+        if let Some(i) = diagonal(n, &d, bound) {
+            return Some(Found::Closed(l, i));
         }
-        let p = pair(n, &d, terminals, bound + 4);
-        if p.row < n {
-            return Found::Open(l, p.row, p.column);
+        if let Some(p) = pair(n, &d, terminals, bound + 4) {
+            return Some(Found::Open(l, p.row, p.column));
         }
         if l + 1 >= b {
-            return Found::Nothing;
+            return None;
         }
         let e = next_layer(n, arcs, &d);
-        let c = changed(n, &d, &e);
-        if c >= n {
-            return Found::Nothing;
+        if changed(n, &d, &e).is_none() {
+            return None;
         }
         d = e;
     }
-    Found::Nothing
+    None
 }

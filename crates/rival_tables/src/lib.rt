@@ -12,8 +12,37 @@ ghost use Rattle.arrays.specs.Filled.{Made};
 ghost use Rattle.rival_tables.specs.Terminals.{terminal_at, Rates};
 ghost use Rattle.lists.specs.Sum.{count};
 ghost use Rattle.lists.specs.Search.{low};
+ghost use Rattle.rival_tables.specs.Links.{LinksOf};
+ghost use Rattle.rival_tables.specs.Within.{if_below};
 
+use instance::Instance;
 use limits::ENTRY_LIMIT;
+
+// The links through the edges of each node: its first edge, and from each edge the next one there; the number of all edges where there is none.
+#[derive(Drop)]
+pub struct NodeLinks {
+    pub head: [u16; 32],
+    pub next: [u16; ENTRY_LIMIT],
+}
+
+impl NodeLinks {
+    // By the node of each edge.
+    pub fn of(m: usize, end: &[u8; ENTRY_LIMIT]) -> NodeLinks
+        requires { (m ≤ entry_limit) × Low m end.now node_limit }
+        ensures { LinksOf m end.now result }
+    {
+        let mut next = [0u16; ENTRY_LIMIT];
+        let head = arrays::links(m, &end[..], &mut next[..]);
+        NodeLinks { head, next }
+    }
+}
+
+// Whether each surveyor has room, and each stand.
+#[derive(Drop)]
+pub struct Room {
+    pub s: [bool; 32],
+    pub t: [bool; 32],
+}
 
 // How many edges of the plan lie at a node, from the nodes of its n edges.
 pub fn lying(n: usize, nodes: &[u8; 64], v: u8) -> u8
@@ -40,44 +69,31 @@ pub fn rooms(n: usize, nodes: &[u8; 64], quota: &[u8; 32]) -> [bool; 32]
     o
 }
 
-// The first node with room, 32 if there is none.
-pub fn first_room(room: &[bool; 32]) -> usize
-    ensures { result ≡ low (flag room.now) 32 }
+// The first node with room.
+pub fn first_room(room: &[bool; 32]) -> Option<usize>
+    ensures { result ≡ if_below 32 (low (flag room.now) 32) }
 {
-    let mut v = 0;
-    while v < 32 {
+    for v in 0..32 {
         if room[v] {
-            return v;
+            return Some(v);
         }
-        v += 1;
     }
-    v
+    None
 }
 
-// The first edge outside the plan with room at both ends, m if there is none.
-pub fn direct(
-    m: usize,
-    sv: &[u8; ENTRY_LIMIT],
-    st: &[u8; ENTRY_LIMIT],
-    plan: &[bool; ENTRY_LIMIT],
-    fs: &[bool; 32],
-    ft: &[bool; 32],
-) -> usize
-    requires { (m ≤ entry_limit) × Low m sv.now node_limit × Low m st.now node_limit }
-    ensures { result ≡ low
-        (λ f. not (flag plan.now f) && (flag fs.now (at sv.now f) && flag ft.now (at st.now f)))
-        m }
+// The first edge outside the plan with room at both ends.
+pub fn direct(g: &Instance, plan: &[bool; ENTRY_LIMIT], room: &Room) -> Option<usize>
+    requires { (g.now.m ≤ entry_limit) × Low g.now.m g.now.sv node_limit × Low g.now.m g.now.st node_limit }
+    ensures { result ≡ if_below g.now.m (low (λ f. not (flag plan.now f) && (flag room.now.s (at g.now.sv f) && flag room.now.t (at g.now.st f))) g.now.m) }
 {
-    let mut f = 0;
-    while f < m {
-        let s = sv[f] as usize;
-        let t = st[f] as usize;
-        if !plan[f] & (fs[s] & ft[t]) {
-            return f;
+    for f in 0..g.m {
+        let s = g.sv[f] as usize;
+        let t = g.st[f] as usize;
+        if !plan[f] & (room.s[s] & room.t[t]) {
+            return Some(f);
         }
-        f += 1;
     }
-    f
+    None
 }
 
 // The row of starts at place i.
@@ -94,10 +110,10 @@ pub fn terminal_row(
 {
     let mut o = [0u8; 64];
     for j in 0..n {
-        let a = lesser(starts[i * 64 + j], stops[j * 64 + i]);
+        let a = starts[i * 64 + j].min(stops[j * 64 + i]);
         let b = a + 3;
         let c = gs[i] + gt[j];
-        o[j] = lesser(b, c);
+        o[j] = b.min(c);
     }
     o
 }
@@ -121,18 +137,11 @@ pub fn terminals(
     o
 }
 
-// The lesser of two.
-pub fn lesser(a: u8, b: u8) -> u8
-    ensures { result ≡ min a b }
-{
-    if a < b { a } else { b }
-}
-
 // What is held, or a lower price if it may come.
 pub fn offered(t: bool, p: u8, v: u8) -> u8
     ensures { result ≡ offer t p v }
 {
-    let l = lesser(p, v);
+    let l = p.min(v);
     if t { l } else { v }
 }
 

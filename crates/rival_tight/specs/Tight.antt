@@ -3,7 +3,7 @@
 use Prim.Native.Nat.{ℕ, zero, suc, ◌+◌, ◌-◌, ◌*◌, ◌≤◌, ◌<◌}
 use native.Mathlib.Omega.{arith}
 use Rattle.std.proofs.Common.{add-one, ◌∙◌, inl, inr, nltb→le, lt-ltb, le-ltb, ltb-true, ltb-false}
-use Rattle.std.specs.Prelude.{◌≡◌, ◌⊎◌, Bool, true, List}
+use Rattle.std.specs.Prelude.{◌≡◌, ◌⊎◌, Bool, true, List, Option, Some, None}
 use Rattle.std.proofs.Math.Path.{refl, sym, ap, ap₂, subst}
 use Rattle.std.proofs.Math.Logic.{⊎_elim}
 use Rattle.std.proofs.Math.Bool.{false, cond}
@@ -19,25 +19,25 @@ use Rattle.rival_levels.specs.Levels.{diag_at, ends_at, pair_at, lowered_at, lev
 use Rattle.rival_certificate.specs.Certified.{Closed, at_least}
 
 -- ---- the levels by closed walks alone: b of them from level l on
-unfoldable pub loops_at : List ℕ → ℕ → ℕ → ℕ → ℕ → Found
-loops_at arcs n k zero l = found.Nothing
-loops_at arcs n k (suc b) l = cond (ltb (level_loop arcs n k l) n) (found.Closed l (level_loop arcs n k l)) (loops_at arcs n k b (suc l))
+unfoldable pub loops_at : List ℕ → ℕ → ℕ → ℕ → ℕ → Option Found
+loops_at arcs n k zero l = None
+loops_at arcs n k (suc b) l = cond (ltb (level_loop arcs n k l) n) (Some (found.Closed l (level_loop arcs n k l))) (loops_at arcs n k b (suc l))
 
 loops_turn : (arcs : List ℕ) (n k l i : ℕ) (b : Bool) → l < n → i ≡ level_loop arcs n k l → ltb i n ≡ b
-    → cond b (found.Closed l i) (loops_at arcs n k (n - (l + 1)) (l + 1)) ≡ loops_at arcs n k (n - l) l
+    → cond b (Some (found.Closed l i)) (loops_at arcs n k (n - (l + 1)) (l + 1)) ≡ loops_at arcs n k (n - l) l
 unfolding loops_at
 loops_turn arcs n k l i b h e t =
     let s : n - l ≡ suc (n - (l + 1)) = omega arith in
-    ap₂ (λ b i. cond b (found.Closed l i) (loops_at arcs n k (n - (l + 1)) (l + 1))) (sym t ∙ ap (λ z. ltb z n) e) e ∙ sym (rw (s, add-one))
+    ap₂ (λ b i. cond b (Some (found.Closed l i)) (loops_at arcs n k (n - (l + 1)) (l + 1))) (sym t ∙ ap (λ z. ltb z n) e) e ∙ sym (rw (s, add-one))
 
-pub loops_hit : (arcs : List ℕ) (n k l i : ℕ) → l < n → i ≡ level_loop arcs n k l → i < n → found.Closed l i ≡ loops_at arcs n k (n - l) l
+pub loops_hit : (arcs : List ℕ) (n k l i : ℕ) → l < n → i ≡ level_loop arcs n k l → i < n → Some (found.Closed l i) ≡ loops_at arcs n k (n - l) l
 loops_hit arcs n k l i h e t = loops_turn arcs n k l i true h e (lt-ltb i n t)
 
 pub loops_miss : (arcs : List ℕ) (n k l i : ℕ) → l < n → i ≡ level_loop arcs n k l → n ≤ i
     → loops_at arcs n k (n - (l + 1)) (l + 1) ≡ loops_at arcs n k (n - l) l
 loops_miss arcs n k l i h e t = loops_turn arcs n k l i false h e (le-ltb i n t)
 
-pub loops_end : (arcs : List ℕ) (n k l : ℕ) → n ≤ l → loops_at arcs n k (n - l) l ≡ found.Nothing
+pub loops_end : (arcs : List ℕ) (n k l : ℕ) → n ≤ l → loops_at arcs n k (n - l) l ≡ None
 unfolding loops_at
 loops_end arcs n k l h = let e : n - l ≡ 0 = omega arith in rw e
 
@@ -97,11 +97,11 @@ module _ (arcs : List ℕ) (n k : ℕ) (few : n ≤ 64) (goal : k ≤ 1) where
   no_loop l h = low_none (λ i. ltb (layer_at arcs n l i i) (2 * suc l + k)) n (λ i il. le-ltb (layer_at arcs n l i i) (2 * suc l + k) (h i il))
 
   -- such a level, and all after it, find no closed walk
-  pub quiet_none : (b l : ℕ) → b + l ≤ n → Quiet l → High l → loops_at arcs n k b l ≡ found.Nothing
+  pub quiet_none : (b l : ℕ) → b + l ≤ n → Quiet l → High l → loops_at arcs n k b l ≡ None
   unfolding loops_at
   quiet_none zero l s q h = refl
   quiet_none (suc b) l s q h =
-      ap (λ x. cond x (found.Closed l (level_loop arcs n k l)) (loops_at arcs n k b (suc l)))
+      ap (λ x. cond x (Some (found.Closed l (level_loop arcs n k l))) (loops_at arcs n k b (suc l)))
       (le-ltb (level_loop arcs n k l) n (omega (arith, no_loop l h)))
       ∙ quiet_none b (suc l) (omega arith) (quiet_next l q) (high_next l (omega arith) q h)
 
@@ -180,7 +180,7 @@ module _ (arcs d p : List ℕ) (n k : ℕ) (few : n ≤ 64) (goal : k ≤ 1) (C 
   unfolding loops_at
   loops_tight zero l h = refl
   loops_tight (suc b) l h =
-      ap₂ (λ i r. cond (ltb i n) (found.Closed l i) r) (same_loop l (omega arith)) (loops_tight b (suc l) (omega arith))
+      ap₂ (λ i r. cond (ltb i n) (Some (found.Closed l i)) r) (same_loop l (omega arith)) (loops_tight b (suc l) (omega arith))
 
 -- ---- the price of a tight arc, 133 for any other; from a place that no closed walk below k goes through no arc is tight
 unfoldable pub tight_price : (arcs d : List ℕ) → ℕ → ℕ → ℕ → ℕ
@@ -234,11 +234,11 @@ module _ (arcs d p : List ℕ) (n k : ℕ) (few : n ≤ 64) (small : Small n arc
 
 -- no closed walk is below k if the table has none
 pub loops_none : (arcs d : List ℕ) (n k : ℕ) → n ≤ 64 → k ≤ 1 → Closed arcs d n → n ≤ diag_at (cell d) n (64 + k)
-    → (b l : ℕ) → b + l ≤ n → loops_at arcs n k b l ≡ found.Nothing
+    → (b l : ℕ) → b + l ≤ n → loops_at arcs n k b l ≡ None
 unfolding loops_at
 loops_none arcs d n k few goal C h zero l s = refl
 loops_none arcs d n k few goal C h (suc b) l s =
-    ap (λ x. cond x (found.Closed l (level_loop arcs n k l)) (loops_at arcs n k b (suc l)))
+    ap (λ x. cond x (Some (found.Closed l (level_loop arcs n k l))) (loops_at arcs n k b (suc l)))
     (le-ltb (level_loop arcs n k l) n (omega (arith, no_loop arcs n k few goal l high)))
     ∙ loops_none arcs d n k few goal C h b (suc l) (omega arith)
   where
@@ -270,23 +270,23 @@ module _ (arcs terminals d : List ℕ) (n k : ℕ) (few : n ≤ 64) (goal : k �
   unfolding levels_at loops_at
   levels_loops zero l h = refl
   levels_loops (suc b) l h =
-      ap (λ y. cond (ltb (level_loop arcs n k l) n) (found.Closed l (level_loop arcs n k l))
-      (cond y (found.Open l (level_row arcs terminals n k l) (level_column arcs terminals n k l))
-      (cond (ltb (level_change arcs n l) n) (levels_at arcs terminals n k b (suc l)) found.Nothing)))
+      ap (λ y. cond (ltb (level_loop arcs n k l) n) (Some (found.Closed l (level_loop arcs n k l)))
+      (cond y (Some (found.Open l (level_row arcs terminals n k l) (level_column arcs terminals n k l)))
+      (cond (ltb (level_change arcs n l) n) (levels_at arcs terminals n k b (suc l)) None)))
       (le-ltb (level_row arcs terminals n k l) n (omega (arith, no_row l (omega arith))))
-      ∙ ap (λ r. cond (ltb (level_loop arcs n k l) n) (found.Closed l (level_loop arcs n k l))
-      (cond (ltb (level_change arcs n l) n) r found.Nothing)) (levels_loops b (suc l) (omega arith))
+      ∙ ap (λ r. cond (ltb (level_loop arcs n k l) n) (Some (found.Closed l (level_loop arcs n k l)))
+      (cond (ltb (level_change arcs n l) n) r None)) (levels_loops b (suc l) (omega arith))
       ∙ by_bool (ltb (level_loop arcs n k l) n)
-      (λ e. ap (λ x. cond x (found.Closed l (level_loop arcs n k l)) (cond (ltb (level_change arcs n l) n) (loops_at arcs n k b (suc l)) found.Nothing)) e
-      ∙ sym (ap (λ x. cond x (found.Closed l (level_loop arcs n k l)) (loops_at arcs n k b (suc l))) e))
-      (λ e. ap (λ x. cond x (found.Closed l (level_loop arcs n k l)) (cond (ltb (level_change arcs n l) n) (loops_at arcs n k b (suc l)) found.Nothing)) e
+      (λ e. ap (λ x. cond x (Some (found.Closed l (level_loop arcs n k l))) (cond (ltb (level_change arcs n l) n) (loops_at arcs n k b (suc l)) None)) e
+      ∙ sym (ap (λ x. cond x (Some (found.Closed l (level_loop arcs n k l))) (loops_at arcs n k b (suc l))) e))
+      (λ e. ap (λ x. cond x (Some (found.Closed l (level_loop arcs n k l))) (cond (ltb (level_change arcs n l) n) (loops_at arcs n k b (suc l)) None)) e
       ∙ by_bool (ltb (level_change arcs n l) n)
-      (λ z. ap (λ x. cond x (loops_at arcs n k b (suc l)) found.Nothing) z)
-      (λ z. ap (λ x. cond x (loops_at arcs n k b (suc l)) found.Nothing) z
+      (λ z. ap (λ x. cond x (loops_at arcs n k b (suc l)) None) z)
+      (λ z. ap (λ x. cond x (loops_at arcs n k b (suc l)) None) z
       ∙ sym (quiet_none arcs n k few goal b (suc l) (omega arith)
       (quiet_next arcs n k few goal l (still l z))
       (high_next arcs n k few goal l (omega arith) (still l z) (high_is arcs n k few goal l (ltb-false (level_loop arcs n k l) n e)))))
-      ∙ sym (ap (λ x. cond x (found.Closed l (level_loop arcs n k l)) (loops_at arcs n k b (suc l))) e))
+      ∙ sym (ap (λ x. cond x (Some (found.Closed l (level_loop arcs n k l))) (loops_at arcs n k b (suc l))) e))
     where
       still : (l : ℕ) → ltb (level_change arcs n l) n ≡ false → Quiet arcs n k few goal l
       still l z = quiet_is arcs n k few goal l (ltb-false (level_change arcs n l) n z)

@@ -23,7 +23,7 @@ fn tight_row(arcs: &[u8; 4096], costs: &[u8; 4096], i: usize, k: u8) -> [u8; 64]
     }
     for j in 0..64 {
         let a = arcs[i * 64 + j];
-        let back = rival_tables::lesser(costs[j * 64 + i], 66 + k);
+        let back = costs[j * 64 + i].min(66 + k);
         o[j] = if a < 66 + k - back { a } else { 133 };
     }
     o
@@ -49,9 +49,7 @@ fn nexts_row(arcs: &[u8; 4096], i: usize) -> [u8; 64]
 {
     let mut o = [64u8; 64];
     let mut next = 64u8;
-    let mut y = 64;
-    while y > 0 {
-        y -= 1;
+    for y in (0..64).rev() {
         o[y] = next;
         if arcs[i * 64 + y] < 133 {
             next = y as u8;
@@ -106,34 +104,36 @@ fn sparse_layer(n: usize, arcs: &[u8; 4096], nexts: &[u8; 4096], d: &[u8; 4096])
 }
 
 // The first level at which a diagonal is below k, and the place.
-fn first_loop(n: usize, arcs: &[u8; 4096], nexts: &[u8; 4096], k: u8) -> rival_levels::Found
+fn first_loop(n: usize, arcs: &[u8; 4096], nexts: &[u8; 4096], k: u8) -> Option<rival_levels::Found>
     requires { (n ≤ plan_limit) × (k ≤ 1) × Small n arcs.now × Cheap n arcs.now × Nexts n arcs.now nexts.now }
     ensures { result ≡ loops_at arcs.now n k n 0 }
 {
     let mut d = *arcs;
     for l in 0..n {
         let bound = (2 * (l + 1)) as u8 + k;
-        let i = rival_levels::diagonal(n, &d, bound);
-        if i < n {
-            return rival_levels::Found::Closed(l, i);
+        if let Some(i) = rival_levels::diagonal(n, &d, bound) {
+            return Some(rival_levels::Found::Closed(l, i));
         }
         d = sparse_layer(n, arcs, nexts, &d);
     }
-    rival_levels::Found::Nothing
+    None
 }
 
 // The first closed walk below k, if the table of costs shows that there may be one. One of a single arc needs no tables.
-pub fn closed_walk(n: usize, arcs: &[u8; 4096], costs: &[u8; 4096], k: u8) -> rival_levels::Found
+pub fn closed_walk(
+    n: usize,
+    arcs: &[u8; 4096],
+    costs: &[u8; 4096],
+    k: u8,
+) -> Option<rival_levels::Found>
     requires { (n ≤ plan_limit) × (k ≤ 1) × Small n arcs.now × Cheap n arcs.now × Closed arcs.now costs.now n }
     ensures { result ≡ loops_at arcs.now n k n 0 }
 {
-    let i = rival_levels::diagonal(n, costs, 64 + k);
-    if i >= n {
-        return rival_levels::Found::Nothing;
+    if rival_levels::diagonal(n, costs, 64 + k).is_none() {
+        return None;
     }
-    let at_once = rival_levels::diagonal(n, arcs, 2 + k);
-    if at_once < n {
-        return rival_levels::Found::Closed(0, at_once);
+    if let Some(i) = rival_levels::diagonal(n, arcs, 2 + k) {
+        return Some(rival_levels::Found::Closed(0, i));
     }
     let few = tight(n, arcs, costs, k);
     let following = nexts(n, &few);

@@ -2,10 +2,10 @@
 -- And what a caller has of it who knows the plan as the model's: both are asked of the set of edges alone.
 use Prim.Native.Nat.{ℕ, ◌+◌, ◌*◌, ◌≤◌, ◌<◌}
 use Rattle.std.proofs.Common.{arith, sym, ◌∙◌}
-use Rattle.std.specs.Prelude.{◌≡◌, refl, true, false, not, cond, ◌&&◌, ◌||◌, List, [], ◌∷◌, length, ltb}
+use Rattle.std.specs.Prelude.{◌≡◌, refl, false, not, cond, ◌&&◌, ◌||◌, List, [], ◌∷◌, length, ltb, Option, Some}
 use Rattle.std.proofs.Math.Path.{ap, ap₂, fun_ext}
 use Rattle.std.proofs.Math.Bool.{Bool}
-use Rattle.std.proofs.Math.Option.{Option, or_else, Option-elim}
+use Rattle.std.proofs.Math.Option.{Option as Opt, or_else, Option-elim}
 use Rattle.std.proofs.lemmas.List.{length-map}
 use Rattle.lists.specs.Sum.{◌∈◌, range, range_length}
 use Rattle.lists.specs.Search.{low, low_cong}
@@ -28,9 +28,12 @@ use Rattle.rival_levels.specs.Levels.{diag_at}
 use Rattle.rival_levels.specs.Walks.{hit_of, search_at}
 use Rattle.rival_search.specs.SearchView.{Lists, Views, Roomy, free_at, arc_cell, terminal_cell, alone_price, alone_at, alone_cell, search_shown, arc_shown}
 use Rattle.rival_search.specs.SearchView.{terminal_shown, room_s_law, room_t_law}
-use Rattle.rival_search.specs.TwoThresholds.{searched, Searched, OnTables, tables_searched, out_alone, search_direct, search_places, searched_hit}
+use Rattle.rival_search.specs.TwoThresholds.{searched, found_in, Searched, OnTables, tables_searched, out_alone, search_direct, search_places, searched_hit}
 use Rattle.rival_search.specs.TwoThresholds.{searching_bounded}
-use Rattle.rival_verdict.specs.Judged.{is_something, verdict_for, verdict_hits}
+use Rattle.rival_search.specs.declared.Hunt.TheVariants as hunt
+use Rattle.rival_search.specs.declared.Hunt.{Hunt}
+use Rattle.rival_verdict.specs.declared.Standing.{Standing}
+use Rattle.rival_verdict.specs.Judged.{standing_of, verdict_for, verdict_hits}
 use Rattle.rival_exchange.specs.Swaps.{Marks, gone_by, come_by, rival_at, rival_at_law, shows_plan}
 
 -- the verdict and the rival are those that the theory computes of the plan, on any instance that the arrays show
@@ -48,17 +51,16 @@ abbrev pub NodesAt : (n : ℕ) (es sv st ps pt : List ℕ) → Type 0
 NodesAt n es sv st ps pt = Made 0 ps (λ i. at sv (at es i)) n × Made 0 pt (λ i. at st (at es i)) n
 
 -- the plan without the edges that go by what was found, and with those that come
-abbrev pub Exchanged : (m : ℕ) (sv st rs rt : List ℕ) (plan room_s room_t : List Bool) (n : ℕ) (es arcs : List ℕ) → Found → List Bool → Type 0
+abbrev pub Exchanged : (m : ℕ) (sv st rs rt : List ℕ) (plan room_s room_t : List Bool) (n : ℕ) (es arcs : List ℕ) → Option Found → List Bool → Type 0
 Exchanged m sv st rs rt plan room_s room_t n es arcs what rival =
     (gone : List Bool) × (come : List Bool) × Marks gone (gone_by m sv st rs rt plan room_s room_t es arcs n what)
     × Marks come (come_by m sv st rs rt plan room_s room_t es arcs n what)
     × Shows false rival m (λ e. (flag plan e && not (flag gone e)) || flag come e)
 
 -- what both searches find on the tables, and the plan exchanged by it
-abbrev pub RivalOn : (m : ℕ) (sv st rs rt : List ℕ) (plan room_s room_t : List Bool) (n : ℕ) (es arcs ends : List ℕ) → (below something : Bool)
-    → List Bool → Type 0
-RivalOn m sv st rs rt plan room_s room_t n es arcs ends below something rival =
-    (what : Found) × OnTables arcs ends n below what × (something ≡ is_something what) × Exchanged m sv st rs rt plan room_s room_t n es arcs what rival
+abbrev pub RivalOn : (m : ℕ) (sv st rs rt : List ℕ) (plan room_s room_t : List Bool) (n : ℕ) (es arcs ends : List ℕ) → Standing → List Bool → Type 0
+RivalOn m sv st rs rt plan room_s room_t n es arcs ends standing rival =
+    (hunt : Hunt) × OnTables arcs ends n hunt × (standing ≡ standing_of hunt) × Exchanged m sv st rs rt plan room_s room_t n es arcs (found_in hunt) rival
 
 -- ---- plans with the same edges
 module _ (G : Instance) (M N : Plan) (same : (e : ℕ) → on M e ≡ on N e) where
@@ -84,15 +86,15 @@ module _ (m ns nt : ℕ) (sv st rs rt sh : List ℕ) (tied : List Bool) (quota_s
 
 -- ---- what the code finds shows the verdict and the rival
 module _ (m : ℕ) (sv st rs rt quota_s quota_t : List ℕ) (plan : List Bool) (n : ℕ) (es ps pt rps rpt : List ℕ) (room_s room_t : List Bool) (arcs : List ℕ)
-    (below : Bool) (what : Found)
+    (hunt : Hunt)
     (fits : n ≤ 64) (lowS : Low m sv 32) (lowT : Low m st 32) (lists : Lists m plan n es) (views : Views n es sv st rs rt ps pt rps rpt)
     (roomyS : Roomy n ps quota_s room_s) (roomyT : Roomy n pt quota_t room_t)
-    (table : Rows arcs n (arc_cell m sv st rs rt plan ps pt rps rpt)) (searching : Searched m sv st rs rt plan n ps pt rps rpt room_s room_t arcs below what) where
+    (table : Rows arcs n (arc_cell m sv st rs rt plan ps pt rps rpt)) (searching : Searched m sv st rs rt plan n ps pt rps rpt room_s room_t arcs hunt) where
   terminals : List ℕ
   terminals = searching.0
 
   -- what each search finds by places
-  finds : ℕ → Found
+  finds : ℕ → Option Found
   finds k = search_at m (free_at sv st plan room_s room_t) arcs terminals n k
 
   shows_arcs : Grid arcs n (arc_cell m sv st rs rt plan ps pt rps rpt)
@@ -111,29 +113,29 @@ module _ (m : ℕ) (sv st rs rt quota_s quota_t : List ℕ) (plan : List Bool) (
     size : length (edges_in m (flag plan)) ≡ n
     size = ap length lists ∙ length-map (range 0 n) (at es) ∙ range_length 0 n
 
-    found_verdict : verdict_for below (is_something what) ≡ computed_verdict H plan
+    found_verdict : verdict_for (standing_of hunt) ≡ computed_verdict H plan
     unfolding computed_verdict verdict_by finds terminals
     found_verdict =
-        ap (λ (h : Bool × Found). verdict_for h.0 (is_something h.1)) searching.2
+        ap (λ (h : Hunt). verdict_for (standing_of h)) searching.2
         ∙ verdict_hits H (flag plan) es (finds 0) (finds 1)
         ∙ ap₂ judge (hit 0 (omega arith)) (hit 1 (omega arith))
         ∙ ap (λ k. judge (search H (flag plan) 133 0 k) (search H (flag plan) 133 1 k)) (sym size)
 
-    found_hit : hit_of H (flag plan) es what ≡ or_else (search H (flag plan) 133 0 n) (search H (flag plan) 133 1 n)
+    found_hit : hit_of H (flag plan) es (found_in hunt) ≡ or_else (search H (flag plan) 133 0 n) (search H (flag plan) 133 1 n)
     unfolding finds terminals
     found_hit =
-        ap (λ (h : Bool × Found). hit_of H (flag plan) es h.1) searching.2
+        ap (λ (h : Hunt). hit_of H (flag plan) es (found_in h)) searching.2
         ∙ searched_hit H (flag plan) es (finds 0) (finds 1)
         ∙ ap₂ or_else (hit 0 (omega arith)) (hit 1 (omega arith))
 
-    found_rival : (rival : List Bool) → Shows false rival m (rival_at m sv st rs rt plan room_s room_t es arcs n what) → (e : ℕ)
+    found_rival : (rival : List Bool) → Shows false rival m (rival_at m sv st rs rt plan room_s room_t es arcs n (found_in hunt)) → (e : ℕ)
         → flag rival e ≡ on (rival_of H plan) e
     unfolding rival_of rival_edges terminals
     found_rival rival s e =
-        shows_plan m rival (rival_at m sv st rs rt plan room_s room_t es arcs n what) s e
+        shows_plan m rival (rival_at m sv st rs rt plan room_s room_t es arcs n (found_in hunt)) s e
         ∙ ap (λ N. on N e)
-        (plan_of_cong m (rival_at m sv st rs rt plan room_s room_t es arcs n what)
-        (Option-elim (hit_of H (flag plan) es what) (flag plan) (rival_by (flag plan))) (λ d h.
+        (plan_of_cong m (rival_at m sv st rs rt plan room_s room_t es arcs n (found_in hunt))
+        (Option-elim (hit_of H (flag plan) es (found_in hunt)) (flag plan) (rival_by (flag plan))) (λ d h.
         rival_at_law m sv st rs rt plan room_s room_t es arcs n ns nt sh tied quota_s quota_t lists terminals
         (λ i j il jl. shows_arcs i j il jl
         ∙ arc_shown m ns nt sv st rs rt sh tied quota_s quota_t plan n es ps pt rps rpt room_s room_t lowS lowT lists views roomyS roomyT i j il jl)
@@ -141,14 +143,14 @@ module _ (m : ℕ) (sv st rs rt quota_s quota_t : List ℕ) (plan : List Bool) (
         ∙ terminal_shown m ns nt sv st rs rt sh tied quota_s quota_t plan n es ps pt rps rpt room_s room_t lowS lowT lists views roomyS roomyT i j il jl)
         (room_s_law m ns nt sv st rs rt sh tied quota_s quota_t plan n es ps pt rps rpt room_s room_t lowS lowT lists views roomyS roomyT)
         (room_t_law m ns nt sv st rs rt sh tied quota_s quota_t plan n es ps pt rps rpt room_s room_t lowS lowT lists views roomyS roomyT)
-        what (searching_bounded m sv st rs rt plan n ps pt rps rpt room_s room_t arcs below what searching) d))
-        ∙ ap (λ (o : Option Hit). on (plan_of m (Option-elim o (flag plan) (rival_by (flag plan)))) e) found_hit
+        (found_in hunt) (searching_bounded m sv st rs rt plan n ps pt rps rpt room_s room_t arcs hunt searching) d))
+        ∙ ap (λ (o : Opt Hit). on (plan_of m (Option-elim o (flag plan) (rival_by (flag plan)))) e) found_hit
         ∙ ap
         (λ k. on (plan_of m (Option-elim (or_else (search H (flag plan) 133 0 k) (search H (flag plan) 133 1 k)) (flag plan) (rival_by (flag plan)))) e)
         (sym size)
 
-  pub found_shown_law : (v : Verdict) (gone come rival : List Bool) → v ≡ verdict_for below (is_something what)
-      → Marks gone (gone_by m sv st rs rt plan room_s room_t es arcs n what) → Marks come (come_by m sv st rs rt plan room_s room_t es arcs n what)
+  pub found_shown_law : (v : Verdict) (gone come rival : List Bool) → v ≡ verdict_for (standing_of hunt)
+      → Marks gone (gone_by m sv st rs rt plan room_s room_t es arcs n (found_in hunt)) → Marks come (come_by m sv st rs rt plan room_s room_t es arcs n (found_in hunt))
       → Shows false rival m (λ e. (flag plan e && not (flag gone e)) || flag come e) → RivalShown m sv st rs rt quota_s quota_t plan v rival
   found_shown_law v gone come rival e g c s = record {
     verdict = λ ns nt sh tied. e ∙ found_verdict ns nt sh tied;
@@ -174,13 +176,13 @@ module _ (m : ℕ) (sv st rs rt quota_s quota_t : List ℕ) (plan : List Bool) (
     (roomyS : Roomy n ps quota_s room_s) (roomyT : Roomy n pt quota_t room_t) where
   pub direct_shown : (f : ℕ) (gone come rival : List Bool) → f ≡ low (free_at sv st plan room_s room_t) m → f < m → Marks gone [] → Marks come (f ∷ [])
       → Shows false rival m (λ e. (flag plan e && not (flag gone e)) || flag come e) → RivalShown m sv st rs rt quota_s quota_t plan beaten rival
-  direct_shown f gone come rival e h = found_shown_law m sv st rs rt quota_s quota_t plan n es ps pt (ranked rs es) (ranked rt es) room_s room_t arcs true
-      (found.Direct f) fits lowS lowT
+  direct_shown f gone come rival e h = found_shown_law m sv st rs rt quota_s quota_t plan n es ps pt (ranked rs es) (ranked rt es) room_s room_t arcs
+      (hunt.Win (found.Direct f)) fits lowS lowT
       lists (viewed n es sv st rs rt ps pt fits nodes) roomyS roomyT (table_rows (arc_cell m sv st rs rt plan ps pt (ranked rs es) (ranked rt es)) n) (
         terminals,
         (λ i j il jl. table_rows (terminal_cell m sv st rs rt plan room_s room_t ps pt (ranked rs es) (ranked rt es)) n i j il (omega arith)),
         sym
-            (ap (λ (a : Found). searched a (search_at m free arcs terminals n 1)) (search_direct m free arcs terminals n f e 0 h)),
+            (ap (λ (a : Option Found). searched a (search_at m free arcs terminals n 1)) (search_direct m free arcs terminals n f e 0 h)),
       ) beaten gone come rival refl
     where
       free : ℕ → Bool
@@ -213,15 +215,15 @@ module _ (m : ℕ) (sv st rs rt quota_s quota_t : List ℕ) (plan : List Bool) (
       (ranked_at rt es n fits i h))))
 
   pub alone_shown : (i : ℕ) (gone come rival : List Bool) → i ≡ alone_at m sv st rs rt plan room_s room_t es n → i < n
-      → Marks gone (gone_by m sv st rs rt plan room_s room_t es arcs₀ n (found.Alone i))
-      → Marks come (come_by m sv st rs rt plan room_s room_t es arcs₀ n (found.Alone i))
+      → Marks gone (gone_by m sv st rs rt plan room_s room_t es arcs₀ n (Some (found.Alone i)))
+      → Marks come (come_by m sv st rs rt plan room_s room_t es arcs₀ n (Some (found.Alone i)))
       → Shows false rival m (λ e. (flag plan e && not (flag gone e)) || flag come e) → RivalShown m sv st rs rt quota_s quota_t plan beaten rival
-  alone_shown i gone come rival e h = found_shown_law m sv st rs rt quota_s quota_t plan n es ps pt (ranked rs es) (ranked rt es) room_s room_t arcs₀ true
-      (found.Alone i) fits lowS lowT lists (viewed n es sv st rs rt ps pt fits nodes) roomyS roomyT
+  alone_shown i gone come rival e h = found_shown_law m sv st rs rt quota_s quota_t plan n es ps pt (ranked rs es) (ranked rt es) room_s room_t arcs₀
+      (hunt.Win (found.Alone i)) fits lowS lowT lists (viewed n es sv st rs rt ps pt fits nodes) roomyS roomyT
       (table_rows (arc_cell m sv st rs rt plan ps pt (ranked rs es) (ranked rt es)) n) (
         ends₀,
         shows₀,
-        ap (λ (a : Found). searched a (search_at m free arcs₀ ends₀ n 1))
+        ap (λ (a : Option Found). searched a (search_at m free arcs₀ ends₀ n 1))
             (out_alone arcs₀ ends₀ n 0 i (e ∙ on_diagonal) h ∙ sym (search_places m free arcs₀ ends₀ n (low free m) refl 0 shut)),
       ) beaten gone come rival refl
     where
@@ -234,9 +236,9 @@ module _ (m : ℕ) (sv st rs rt quota_s quota_t : List ℕ) (plan : List Bool) (
     (roomyS : Roomy n ps quota_s room_s) (roomyT : Roomy n pt quota_t room_t) (shut : m ≤ low (free_at sv st plan room_s room_t) m)
     (arcs ends : List ℕ) (arcsShow : Rows arcs n (arc_cell m sv st rs rt plan ps pt rps rpt))
     (endsShow : Grid ends n (terminal_cell m sv st rs rt plan room_s room_t ps pt rps rpt)) where
-  pub tables_shown : (below something : Bool) (rival : List Bool) → RivalOn m sv st rs rt plan room_s room_t n es arcs ends below something rival
-      → RivalShown m sv st rs rt quota_s quota_t plan (verdict_for below something) rival
-  tables_shown below something rival (what, hunt, some, (gone, come, g, c, s)) =
-      found_shown_law m sv st rs rt quota_s quota_t plan n es ps pt rps rpt room_s room_t arcs below what fits lowS lowT lists views roomyS roomyT arcsShow
-      (tables_searched m sv st rs rt plan n ps pt rps rpt room_s room_t arcs ends arcsShow endsShow shut below what hunt)
-      (verdict_for below something) gone come rival (ap (verdict_for below) some) g c s
+  pub tables_shown : (standing : Standing) (rival : List Bool) → RivalOn m sv st rs rt plan room_s room_t n es arcs ends standing rival
+      → RivalShown m sv st rs rt quota_s quota_t plan (verdict_for standing) rival
+  tables_shown standing rival (hunt, on, stands, (gone, come, g, c, s)) =
+      found_shown_law m sv st rs rt quota_s quota_t plan n es ps pt rps rpt room_s room_t arcs hunt fits lowS lowT lists views roomyS roomyT arcsShow
+      (tables_searched m sv st rs rt plan n ps pt rps rpt room_s room_t arcs ends arcsShow endsShow shut hunt on)
+      (verdict_for standing) gone come rival (ap verdict_for stands) g c s

@@ -7,22 +7,37 @@ ghost use Rattle.lists.specs.Search.{low};
 ghost use Rattle.model.specs.Limits.{entry_limit, node_limit, plan_limit};
 ghost use Rattle.arrays.specs.ArrayInstance.{flag};
 ghost use Rattle.arrays.specs.Passes.{Shows, Low};
-ghost use Rattle.arrays.specs.Linked.{Linked};
+ghost use Rattle.rival_tables.specs.Links.{LinksOf};
 ghost use Rattle.rival_levels.specs.Layers.{Small, Cheap};
 ghost use Rattle.rival_levels.specs.Levels.{SmallEnds};
 ghost use Rattle.rival_search.specs.SearchView.{Lists, free_at};
 ghost use Rattle.rival_verdict.specs.RivalOfArrays.{RivalShown, ShownFor, NodesAt, RivalOn};
-ghost use Rattle.rival_verdict.specs.Judged.{verdict_for, is_something};
+ghost use Rattle.rival_verdict.specs.Judged.{verdict_for, standing_of};
 
+use arrays::ListedPlan;
+use instance::Instance;
 use limits::ENTRY_LIMIT;
+use rival_search::Hunt;
+use rival_tables::{NodeLinks, Room};
 
-// Whether something was found at all.
-pub fn is_something(found: rival_levels::Found) -> bool
-    ensures { result ≡ is_something found }
-{
-    match found {
-        rival_levels::Found::Nothing => false,
-        _ => true,
+// A plan is strong if no other draws with it, popular if none beats it.
+#[derive(Clone, Copy)]
+pub enum Standing {
+    Strong,
+    Popular,
+    Beaten,
+}
+
+impl Standing {
+    // By what the searches found: something below 0 beats the plan, something below 1 draws with it.
+    pub fn of(hunt: Hunt) -> Standing
+        ensures { result ≡ standing_of hunt }
+    {
+        match hunt {
+            Hunt::Win(_) => Standing::Beaten,
+            Hunt::Draw(_) => Standing::Popular,
+            Hunt::Nothing => Standing::Strong,
+        }
     }
 }
 
@@ -43,173 +58,121 @@ pub fn exchanged(
     o
 }
 
-// Beaten: something was found below 0; rivalled: below 0, or else below 1. A plan that is not rivalled is strong, and its rival is the
-// plan itself.
+// How a plan stands, and its rival: that of a strong plan is the plan itself.
 #[derive(Drop)]
 pub struct Judged {
-    pub beaten: bool,
-    pub rivalled: bool,
+    pub standing: Standing,
     pub rival: [bool; ENTRY_LIMIT],
 }
 
 // By both tables: what the searches find, and the plan exchanged by it. hs and ls are the links through the edges of each surveyor, ht and lt those of each
 // stand.
 fn judged_by_arcs(
-    m: usize,
-    sv: &[u8; ENTRY_LIMIT],
-    st: &[u8; ENTRY_LIMIT],
-    rs: &[u8; ENTRY_LIMIT],
-    rt: &[u8; ENTRY_LIMIT],
-    plan: &[bool; ENTRY_LIMIT],
-    hs: &[u16; 32],
-    ls: &[u16; ENTRY_LIMIT],
-    ht: &[u16; 32],
-    lt: &[u16; ENTRY_LIMIT],
-    n: usize,
-    es: &[u16; 64],
-    fs: &[bool; 32],
-    ft: &[bool; 32],
+    g: &Instance,
+    plan: &ListedPlan,
+    room: &Room,
+    links_s: &NodeLinks,
+    links_t: &NodeLinks,
     arcs: &[u8; 4096],
     ends: &[u8; 4096],
 ) -> Judged
-    requires { (m ≤ entry_limit) × (n ≤ plan_limit) × Low m sv.now node_limit × Low m st.now node_limit × Low n es.now m
-        × Small n arcs.now × Cheap n arcs.now × SmallEnds n ends.now
-        × Linked m sv.now hs.now ls.now × Linked m st.now ht.now lt.now }
-    ensures { RivalOn m sv.now st.now rs.now rt.now plan.now fs.now
-        ft.now n es.now arcs.now ends.now result.beaten result.rivalled result.rival }
+    requires { (g.now.m ≤ entry_limit) × (plan.now.n ≤ plan_limit) × Low g.now.m g.now.sv node_limit × Low g.now.m g.now.st node_limit × Low plan.now.n plan.now.edges.now g.now.m
+        × Small plan.now.n arcs.now × Cheap plan.now.n arcs.now × SmallEnds plan.now.n ends.now
+        × LinksOf g.now.m g.now.sv links_s.now × LinksOf g.now.m g.now.st links_t.now }
+    ensures { RivalOn g.now.m g.now.sv g.now.st g.now.rank_s g.now.rank_t plan.now.has.now room.now.s
+        room.now.t plan.now.n plan.now.edges.now arcs.now ends.now result.standing result.rival }
 {
-    let h = rival_search::searched_on(n, arcs, ends);
-    let found = h.found;
-    let rivalled = is_something(found);
-    let s = rival_exchange::swap(
-        m, sv, st, rs, rt, plan, hs, ls, ht, lt, n, es, fs, ft, arcs, found,
-    );
+    let hunt = rival_search::searched_on(plan.n, arcs, ends);
+    let found = hunt.find();
+    let s = rival_exchange::swap(g, plan, room, links_s, links_t, arcs, found);
     let gone = s.gone;
     let come = s.come;
-    let rival = exchanged(m, plan, &gone, &come);
+    let rival = exchanged(g.m, plan.has, &gone, &come);
     Judged {
-        beaten: h.below,
-        rivalled: rivalled,
+        standing: Standing::of(hunt),
         rival: rival,
     }
 }
 
 // Where no edge has room at both ends. Most plans with room are beaten by an edge of theirs that is better exchanged alone; no table is needed then.
 fn judged_by_tables(
-    m: usize,
-    sv: &[u8; ENTRY_LIMIT],
-    st: &[u8; ENTRY_LIMIT],
-    rs: &[u8; ENTRY_LIMIT],
-    rt: &[u8; ENTRY_LIMIT],
-    plan: &[bool; ENTRY_LIMIT],
-    hs: &[u16; 32],
-    ls: &[u16; ENTRY_LIMIT],
-    ht: &[u16; 32],
-    lt: &[u16; ENTRY_LIMIT],
-    n: usize,
-    es: &[u16; 64],
+    g: &Instance,
+    plan: &ListedPlan,
+    room: &Room,
+    links_s: &NodeLinks,
+    links_t: &NodeLinks,
     ps: &[u8; 64],
     pt: &[u8; 64],
-    fs: &[bool; 32],
-    ft: &[bool; 32],
 ) -> Judged
-    requires { (m ≤ entry_limit) × (n ≤ plan_limit) × Low m sv.now node_limit × Low m st.now node_limit × Lists m plan.now n es.now
-        × NodesAt n es.now sv.now st.now ps.now pt.now
+    requires { (g.now.m ≤ entry_limit) × (plan.now.n ≤ plan_limit) × Low g.now.m g.now.sv node_limit × Low g.now.m g.now.st node_limit × Lists g.now.m plan.now.has.now plan.now.n plan.now.edges.now
+        × NodesAt plan.now.n plan.now.edges.now g.now.sv g.now.st ps.now pt.now
         × Low plan_limit ps.now node_limit × Low plan_limit pt.now node_limit
-        × Linked m sv.now hs.now ls.now × Linked m st.now ht.now lt.now
-        × (m ≤ low (free_at sv.now st.now plan.now fs.now ft.now) m) }
-    ensures { ShownFor m sv.now st.now rs.now rt.now plan.now n ps.now
+        × LinksOf g.now.m g.now.sv links_s.now × LinksOf g.now.m g.now.st links_t.now
+        × (g.now.m ≤ low (free_at g.now.sv g.now.st plan.now.has.now room.now.s room.now.t) g.now.m) }
+    ensures { ShownFor g.now.m g.now.sv g.now.st g.now.rank_s g.now.rank_t plan.now.has.now plan.now.n ps.now
         pt.now
-        fs.now ft.now (verdict_for result.beaten result.rivalled) result.rival }
+        room.now.s room.now.t (verdict_for result.standing) result.rival }
 {
-    let i = rival_search::alone(m, sv, st, rs, rt, plan, hs, ls, ht, lt, n, es, fs, ft);
-    if i < n {
-        let x = es[i] as usize;
-        let s = rival_exchange::ended(m, sv, st, rs, rt, plan, fs, ft, hs, ls, ht, lt, x, x);
+    if let Some(i) = rival_search::alone(g, plan, room, links_s, links_t) {
+        let x = plan.edges[i] as usize;
+        let s = rival_exchange::ended(g, plan.has, room, links_s, links_t, x, x);
         let gone = s.gone;
         let come = s.come;
-        let rival = exchanged(m, plan, &gone, &come);
+        let rival = exchanged(g.m, plan.has, &gone, &come);
         return Judged {
-            beaten: true,
-            rivalled: true,
+            standing: Standing::Beaten,
             rival: rival,
         };
     }
-    let ends = rival_search::terminal_table(
-        m, sv, st, rs, rt, plan, hs, ls, ht, lt, n, es, ps, pt, fs, ft,
-    );
-    let rps = rival_tables::gathered(n, es, rs);
-    let rpt = rival_tables::gathered(n, es, rt);
-    let arcs = rival_arcs::arcs(m, sv, rs, rt, plan, ht, lt, n, ps, pt, &rps, &rpt);
-    judged_by_arcs(
-        m, sv, st, rs, rt, plan, hs, ls, ht, lt, n, es, fs, ft, &arcs, &ends,
-    )
+    let ends = rival_search::terminal_table(g, plan, room, links_s, links_t, ps, pt);
+    let rps = rival_tables::gathered(plan.n, plan.edges, &g.rank_s);
+    let rpt = rival_tables::gathered(plan.n, plan.edges, &g.rank_t);
+    let arcs = rival_arcs::arcs(g, plan.has, links_t, plan.n, ps, pt, &rps, &rpt);
+    judged_by_arcs(g, plan, room, links_s, links_t, &arcs, &ends)
 }
 
 // From the nodes of the plan's edges and the room at the nodes. An edge with room at both ends beats the plan, whatever the tables say, so it is looked for
 // before they are made.
 pub fn judged_on(
-    m: usize,
-    sv: &[u8; ENTRY_LIMIT],
-    st: &[u8; ENTRY_LIMIT],
-    rs: &[u8; ENTRY_LIMIT],
-    rt: &[u8; ENTRY_LIMIT],
-    plan: &[bool; ENTRY_LIMIT],
-    n: usize,
-    es: &[u16; 64],
+    g: &Instance,
+    plan: &ListedPlan,
+    room: &Room,
     ps: &[u8; 64],
     pt: &[u8; 64],
-    fs: &[bool; 32],
-    ft: &[bool; 32],
 ) -> Judged
-    requires { (m ≤ entry_limit) × (n ≤ plan_limit) × Low m sv.now node_limit × Low m st.now node_limit × Lists m plan.now n es.now
-        × NodesAt n es.now sv.now st.now ps.now pt.now
+    requires { (g.now.m ≤ entry_limit) × (plan.now.n ≤ plan_limit) × Low g.now.m g.now.sv node_limit × Low g.now.m g.now.st node_limit × Lists g.now.m plan.now.has.now plan.now.n plan.now.edges.now
+        × NodesAt plan.now.n plan.now.edges.now g.now.sv g.now.st ps.now pt.now
         × Low plan_limit ps.now node_limit × Low plan_limit pt.now node_limit }
-    ensures { ShownFor m sv.now st.now rs.now rt.now plan.now n ps.now
+    ensures { ShownFor g.now.m g.now.sv g.now.st g.now.rank_s g.now.rank_t plan.now.has.now plan.now.n ps.now
         pt.now
-        fs.now ft.now (verdict_for result.beaten result.rivalled) result.rival }
+        room.now.s room.now.t (verdict_for result.standing) result.rival }
 {
-    let f = rival_tables::direct(m, sv, st, plan, fs, ft);
-    if f < m {
+    if let Some(f) = rival_tables::direct(g, plan.has, room) {
         let gone = [false; ENTRY_LIMIT];
-        let come = rival_exchange::gained([false; ENTRY_LIMIT], m, f);
-        let rival = exchanged(m, plan, &gone, &come);
+        let come = rival_exchange::gained([false; ENTRY_LIMIT], g.m, f);
+        let rival = exchanged(g.m, plan.has, &gone, &come);
         return Judged {
-            beaten: true,
-            rivalled: true,
+            standing: Standing::Beaten,
             rival: rival,
         };
     }
-    let mut ls = [0u16; ENTRY_LIMIT];
-    let hs = arrays::links(m, &sv[..], &mut ls[..]);
-    let mut lt = [0u16; ENTRY_LIMIT];
-    let ht = arrays::links(m, &st[..], &mut lt[..]);
-    judged_by_tables(
-        m, sv, st, rs, rt, plan, &hs, &ls, &ht, &lt, n, es, ps, pt, fs, ft,
-    )
+    let links_s = NodeLinks::of(g.m, &g.sv);
+    let links_t = NodeLinks::of(g.m, &g.st);
+    judged_by_tables(g, plan, room, &links_s, &links_t, ps, pt)
 }
 
 // From the plan's list and the quotas.
-pub fn judge(
-    m: usize,
-    sv: &[u8; ENTRY_LIMIT],
-    st: &[u8; ENTRY_LIMIT],
-    rs: &[u8; ENTRY_LIMIT],
-    rt: &[u8; ENTRY_LIMIT],
-    bs: &[u8; 32],
-    bt: &[u8; 32],
-    plan: &[bool; ENTRY_LIMIT],
-    n: usize,
-    es: &[u16; 64],
-) -> Judged
-    requires { (m ≤ entry_limit) × (n ≤ plan_limit) × Low m sv.now node_limit × Low m st.now node_limit × Lists m plan.now n es.now }
-    ensures { RivalShown m sv.now st.now rs.now rt.now bs.now bt.now
-        plan.now
-        (verdict_for result.beaten result.rivalled) result.rival }
+pub fn judge(g: &Instance, plan: &ListedPlan) -> Judged
+    requires { (g.now.m ≤ entry_limit) × (plan.now.n ≤ plan_limit) × Low g.now.m g.now.sv node_limit × Low g.now.m g.now.st node_limit × Lists g.now.m plan.now.has.now plan.now.n plan.now.edges.now }
+    ensures { RivalShown g.now.m g.now.sv g.now.st g.now.rank_s g.now.rank_t g.now.quota_s g.now.quota_t
+        plan.now.has.now
+        (verdict_for result.standing) result.rival }
 {
-    let ps = rival_tables::gathered(n, es, sv);
-    let pt = rival_tables::gathered(n, es, st);
-    let fs = rival_tables::rooms(n, &ps, bs);
-    let ft = rival_tables::rooms(n, &pt, bt);
-    judged_on(m, sv, st, rs, rt, plan, n, es, &ps, &pt, &fs, &ft)
+    let ps = rival_tables::gathered(plan.n, plan.edges, &g.sv);
+    let pt = rival_tables::gathered(plan.n, plan.edges, &g.st);
+    let room = Room {
+        s: rival_tables::rooms(plan.n, &ps, &g.quota_s),
+        t: rival_tables::rooms(plan.n, &pt, &g.quota_t),
+    };
+    judged_on(g, plan, &room, &ps, &pt)
 }

@@ -5,42 +5,46 @@
 ghost use Rattle.std.specs.Prelude.{◌≡◌, ◌-◌, ◌≤◌, ◌<◌, ℕ};
 ghost use Rattle.model.specs.Limits.{entry_limit, node_limit, plan_limit};
 ghost use Rattle.arrays.specs.Passes.{Low};
-ghost use Rattle.arrays.specs.Linked.{Linked};
+ghost use Rattle.rival_tables.specs.Links.{LinksOf};
 ghost use Rattle.rival_levels.specs.Layers.{Small};
 ghost use Rattle.rival_walk.specs.Leads.{Column, lead_at};
 ghost use Rattle.rival_walk.specs.Edges.{arc_edge};
 ghost use Rattle.rival_walk.specs.Walks.{walk_at, Walked};
 ghost use Rattle.arrays.specs.Filled.{Made};
 ghost use Rattle.rival_tables.specs.Filled.{cell};
+ghost use Rattle.rival_tables.specs.Within.{if_below};
 
+use arrays::ListedPlan;
+use instance::Instance;
 use limits::ENTRY_LIMIT;
+use rival_tables::NodeLinks;
 
-// The price of the next layer, and the place that the walk leads to first; n if it is the walk of the layer before.
+// The price of the next layer, and the place that the walk leads to first, if it is not the walk of the layer before.
 #[derive(Drop)]
 pub struct Way {
     pub price: u8,
-    pub place: usize,
+    pub place: Option<usize>,
 }
 
 // From place i, where row k of the table is the column of the layer before.
 pub fn lead(n: usize, arcs: &[u8; 4096], table: &[u8; 4096], k: usize, i: usize) -> Way
     requires { (n ≤ plan_limit) × (i < n) × (k < 64) × Small n arcs.now × ((y : ℕ) → y < n → cell table.now k y ≤ 133) }
-    ensures { ◌≡◌ {A = ℕ × ℕ} (result.price, result.place) (lead_at arcs.now n (cell table.now k) i) }
+    ensures { (result.price ≡ (lead_at arcs.now n (cell table.now k) i).0) × (result.place ≡ if_below n (lead_at arcs.now n (cell table.now k) i).1) }
 {
     let b = i * 64;
     let c = k * 64;
-    let mut v = rival_tables::lesser(133, table[c + i] + 2) as usize;
-    let mut p = n;
+    let mut v = 133u8.min(table[c + i] + 2) as usize;
+    let mut place = None;
     for y in 0..n {
         let s = arcs[b + y] as usize + table[c + y] as usize;
         if s < v {
             v = s;
-            p = y;
+            place = Some(y);
         }
     }
     Way {
         price: v as u8,
-        place: p,
+        place,
     }
 }
 
@@ -51,11 +55,11 @@ fn price(n: usize, arcs: &[u8; 4096], table: &[u8; 4096], k: usize, i: usize) ->
 {
     let b = i * 64;
     let c = k * 64;
-    let mut v = rival_tables::lesser(133, table[c + i] + 2);
+    let mut v = 133u8.min(table[c + i] + 2);
     for y in 0..n {
         let onward = table[c + y];
-        let a = rival_tables::lesser(arcs[b + y], 255 - onward);
-        v = rival_tables::lesser(a + onward, v);
+        let a = arcs[b + y].min(255 - onward);
+        v = (a + onward).min(v);
     }
     v
 }
@@ -108,85 +112,69 @@ pub struct Swap {
 
 // The edge of an arc from edge x of the plan to edge z: the first cheapest one. ht and lt are the links through the edges of each stand.
 pub fn arc_edge(
-    m: usize,
-    sv: &[u8; ENTRY_LIMIT],
-    st: &[u8; ENTRY_LIMIT],
-    rs: &[u8; ENTRY_LIMIT],
-    rt: &[u8; ENTRY_LIMIT],
+    g: &Instance,
     plan: &[bool; ENTRY_LIMIT],
-    ht: &[u16; 32],
-    lt: &[u16; ENTRY_LIMIT],
+    links_t: &NodeLinks,
     x: usize,
     z: usize,
 ) -> usize
-    requires { (m ≤ entry_limit) × (x < m) × (z < m) × Low m st.now node_limit × Linked m st.now ht.now lt.now }
-    ensures { (result ≡ arc_edge m sv.now st.now rs.now rt.now plan.now x z) × (result < 1024) }
+    requires { (g.now.m ≤ entry_limit) × (x < g.now.m) × (z < g.now.m) × Low g.now.m g.now.st node_limit × LinksOf g.now.m g.now.st links_t.now }
+    ensures { (result ≡ arc_edge g.now.m g.now.sv g.now.st g.now.rank_s g.now.rank_t plan.now x z) × (result < 1024) }
 {
-    let t = st[x] as usize;
-    let b = rt[x];
-    let s = sv[z];
-    let a = rs[z];
+    let t = g.st[x] as usize;
+    let b = g.rank_t[x];
+    let s = g.sv[z];
+    let a = g.rank_s[z];
     let mut v = 133;
     let mut o = 0;
-    let mut f = ht[t] as usize;
-    while f < m {
-        let p = vote_ranks::rated(b, rt[f]);
-        let q = vote_ranks::rated(a, rs[f]);
-        if (!plan[f] & (sv[f] == s)) & (p + q < v) {
+    let mut f = links_t.head[t] as usize;
+    while f < g.m {
+        let p = vote_ranks::rated(b, g.rank_t[f]);
+        let q = vote_ranks::rated(a, g.rank_s[f]);
+        if (!plan[f] & (g.sv[f] == s)) & (p + q < v) {
             v = p + q;
             o = f;
         }
-        f = lt[f] as usize;
+        f = links_t.next[f] as usize;
     }
     o
 }
 
 // The walk of level l from place i to place j. It is read back by the layers below l, whose column of place j is made first.
 pub fn walk(
-    m: usize,
-    sv: &[u8; ENTRY_LIMIT],
-    st: &[u8; ENTRY_LIMIT],
-    rs: &[u8; ENTRY_LIMIT],
-    rt: &[u8; ENTRY_LIMIT],
-    plan: &[bool; ENTRY_LIMIT],
-    ht: &[u16; 32],
-    lt: &[u16; ENTRY_LIMIT],
-    n: usize,
-    es: &[u16; 64],
+    g: &Instance,
+    plan: &ListedPlan,
+    links_t: &NodeLinks,
     arcs: &[u8; 4096],
     l: usize,
     i: usize,
     j: usize,
     start: Swap,
 ) -> Swap
-    requires { (m ≤ entry_limit) × (n ≤ plan_limit) × Low n es.now m × Small n arcs.now × (l < 64) × (i < n) × (j < n)
-        × Low m st.now node_limit × Linked m st.now ht.now lt.now }
+    requires { (g.now.m ≤ entry_limit) × (plan.now.n ≤ plan_limit) × Low plan.now.n plan.now.edges.now g.now.m × Small plan.now.n arcs.now × (l < 64) × (i < plan.now.n) × (j < plan.now.n)
+        × Low g.now.m g.now.st node_limit × LinksOf g.now.m g.now.st links_t.now }
     ensures { Walked start
-        (walk_at (arc_edge m sv.now st.now rs.now rt.now plan.now) es.now
-        arcs.now n j l i) result }
+        (walk_at (arc_edge g.now.m g.now.sv g.now.st g.now.rank_s g.now.rank_t plan.now.has.now) plan.now.edges.now
+        arcs.now plan.now.n j l i) result }
 {
     let last = if l > 0 { l - 1 } else { 0 };
-    let table = columns(n, arcs, j, last);
+    let table = columns(plan.n, arcs, j, last);
     let mut gone = start.gone;
     let mut come = start.come;
-    let mut k = l;
     let mut c = i;
-    while k > 0 {
-        let a = lead(n, arcs, &table, k - 1, c);
-        let y = a.place;
-        if y < n {
-            let x = es[c] as usize;
-            let z = es[y] as usize;
-            let f = arc_edge(m, sv, st, rs, rt, plan, ht, lt, x, z);
+    for k in (0..l).rev() {
+        if let Some(y) = lead(plan.n, arcs, &table, k, c).place {
+            let x = plan.edges[c] as usize;
+            let z = plan.edges[y] as usize;
+            let f = arc_edge(g, plan.has, links_t, x, z);
             gone[z] = true;
             come[f] = true;
             c = y;
         }
-        k -= 1;
     }
-    let x = es[c] as usize;
-    let z = es[j] as usize;
-    let f = arc_edge(m, sv, st, rs, rt, plan, ht, lt, x, z);
+    let x = plan.edges[c] as usize;
+    let z = plan.edges[j] as usize;
+    let f = arc_edge(g, plan.has, links_t, x, z);
     gone[z] = true;
     come[f] = true;
     Swap {

@@ -1,6 +1,6 @@
 -- What the code finds on its ways, and that the promised answers follow.
 use Prim.Native.Nat.{ℕ, ◌≤◌}
-use Rattle.std.specs.Prelude.{◌≡◌, refl, Bool, true, false, not, cond, ◌||◌, List, ◌∷◌, length, T, ℤ}
+use Rattle.std.specs.Prelude.{◌≡◌, refl, Bool, true, false, not, cond, List, ◌∷◌, length, T, ℤ}
 use Rattle.std.proofs.Common.{sym, ap₂, ◌∙◌, subst}
 use Rattle.std.proofs.Math.Path.{ap, fun_ext}
 use Rattle.lists.specs.Sum.{◌∈◌}
@@ -23,7 +23,9 @@ use Rattle.instance.specs.Decoded.{shown_by}
 use Rattle.instance.specs.Loaded.{Loaded}
 use Rattle.plan_writer.specs.Written.{WrittenFor}
 use Rattle.plan_lookup.specs.PlanEdges.{Listed}
-use Rattle.rival_verdict.specs.Judged.{verdict_for}
+use Rattle.rival_verdict.specs.Judged.{verdict_for, is_beaten}
+use Rattle.rival_verdict.specs.declared.Standing.TheVariants as standing
+use Rattle.rival_verdict.specs.declared.Standing.{Standing}
 use Rattle.rival_verdict.specs.RivalOfArrays.{RivalShown, shown_verdict, shown_rival}
 use Rattle.answers.specs.declared.Verdict as answer
 use Rattle.answers.specs.declared.Verdict.TheVariants.{Strong, Popular, Beaten}
@@ -46,22 +48,19 @@ pub weighed_as_law : {G : model.Instance} {M : Plan} {out : List ℕ} {a b : ans
     → WeighedBy G M out a after
 weighed_as_law e h = record { reply = e ∙ h.reply; buffer = h.buffer }
 
--- ---- what the test for a rival says
-pub no_rival : (b r : Bool) → not (b || r) ≡ true → verdict_for b r ≡ verdict.strong
-no_rival true r e = absurd (subst T (sym e) tt)
-no_rival false true e = absurd (subst T (sym e) tt)
-no_rival false false e = refl
+-- ---- what the plan's standing says
+pub no_rival : {s : Standing} → s ≡ standing.Strong → verdict_for s ≡ verdict.strong
+no_rival e = ap verdict_for e
 
-pub some_rival_law : (b r : Bool) → not (b || r) ≡ false → verdict_for b r ≡ cond b verdict.beaten verdict.popular
-some_rival_law true r e = refl
-some_rival_law false true e = refl
-some_rival_law false false e = absurd (subst T e tt)
+pub some_rival_law : (s : Standing) → (s ≡ standing.Strong → ⊥) → verdict_for s ≡ cond (is_beaten s) verdict.beaten verdict.popular
+some_rival_law standing.Strong h = absurd (h refl)
+some_rival_law standing.Popular h = refl
+some_rival_law standing.Beaten h = refl
 
--- it says whether the verdict is strong
-told_strong : (b r : Bool) → not (b || r) ≡ is_strong (verdict_for b r)
-told_strong true r = refl
-told_strong false true = refl
-told_strong false false = refl
+pub not_strong_law : (s : Standing) → (s ≡ standing.Strong → ⊥) → false ≡ is_strong (verdict_for s)
+not_strong_law standing.Strong h = absurd (h refl)
+not_strong_law standing.Popular h = refl
+not_strong_law standing.Beaten h = refl
 
 module _ (g : Instance) (L : Loaded g) (plan : List Bool) (M : Plan) (S : Shows (shown_by g) plan M) where
   abbrev G : model.Instance
@@ -87,8 +86,8 @@ module _ (g : Instance) (L : Loaded g) (plan : List Bool) (M : Plan) (S : Shows 
         refl M S.1)
 
     -- strong by the test is strong by the votes
-    pub strong_is : (b r : Bool) → v ≡ verdict_for b r → not (b || r) ≡ is_strong (verdict_of G M)
-    strong_is b r e = told_strong b r ∙ ap is_strong (sym e ∙ is_verdict)
+    pub strong_is : {b : Bool} → b ≡ is_strong v → b ≡ is_strong (verdict_of G M)
+    strong_is e = e ∙ ap is_strong is_verdict
 
     -- ---- strong
     pub strong_weighed : (out : List ℕ) → v ≡ verdict.strong → WeighedBy G M out Strong out

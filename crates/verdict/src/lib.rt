@@ -9,14 +9,17 @@ ghost use Rattle.arrays.specs.ArrayInstance.{flag};
 ghost use Rattle.instance.specs.Decoded.{shown_by};
 ghost use Rattle.instance.specs.Loaded.{Loaded};
 ghost use Rattle.plan_lookup.specs.PlanEdges as edges;
+ghost use Rattle.rival_verdict.specs.Judged.{is_beaten};
 ghost use Rattle.verdict.specs.Weighing.{Shows, WeighedFor, RivalFor, PairedFor};
 ghost use Rattle.verdict.specs.RivalWritten.{Voted};
 ghost use Rattle.answers.specs.declared.Verdict.TheVariants.{Popular, Beaten};
 
 use answers::Verdict;
+use arrays::ListedPlan;
 use instance::Instance;
 use limits::ENTRY_LIMIT;
 use plan_lookup::Listed;
+use rival_verdict::Standing;
 
 // the verdict, whether there is a rival, and where there is one its flags and the list of its edges
 #[derive(Drop)]
@@ -44,24 +47,30 @@ pub(crate) fn voted(
     let sv = g.sv;
     let st = g.st;
     let sh = g.sh;
-    let rs = g.rank_s;
-    let rt = g.rank_t;
     let re = listed.edges;
     plan_writer::write_plan(listed.n, &re, &sv, &st, &sh, &mut *out);
-    let both = vote_plans::plan_votes(
-        g.m, g.ns, g.nt, &sv, &st, &rs, &rt, plan, n, es, rival, listed.n, &re,
-    );
+    let of = ListedPlan {
+        has: plan,
+        n,
+        edges: es,
+    };
+    let against = ListedPlan {
+        has: rival,
+        n: listed.n,
+        edges: &re,
+    };
+    let both = vote_plans::plan_votes(&g, &of, &against);
     both.first
 }
 
 // The verdict on a plan that has a rival: by whether that beats it, with the vote against it.
-pub(crate) fn verdict_with(beaten: bool, vote: i16) -> Verdict
-    ensures { result ≡ cond beaten (Beaten vote) (Popular vote) }
+pub(crate) fn verdict_with(standing: Standing, vote: i16) -> Verdict
+    ensures { result ≡ cond (is_beaten standing) (Beaten vote) (Popular vote) }
 {
-    if beaten {
-        return Verdict::Beaten(vote);
+    match standing {
+        Standing::Beaten => Verdict::Beaten(vote),
+        _ => Verdict::Popular(vote),
     }
-    Verdict::Popular(vote)
 }
 
 // A plan within the quotas, and the list of its edges.
@@ -76,15 +85,14 @@ pub fn weighed(
     ensures weighed_for { WeighedFor (shown_by g) plan.now out.old result.verdict out.new }
     ensures rival_for { RivalFor (shown_by g) plan.now result.rivalled result.rival result.listed.n result.listed.edges }
 {
-    let sv = g.sv;
-    let st = g.st;
-    let rs = g.rank_s;
-    let rt = g.rank_t;
-    let bs = g.quota_s;
-    let bt = g.quota_t;
-    let j = rival_verdict::judge(g.m, &sv, &st, &rs, &rt, &bs, &bt, plan, n, es);
+    let of = ListedPlan {
+        has: plan,
+        n,
+        edges: es,
+    };
+    let j = rival_verdict::judge(&g, &of);
     let rival = j.rival;
-    if !(j.beaten | j.rivalled) {
+    if let Standing::Strong = j.standing {
         return WithRival {
             verdict: Verdict::Strong,
             rivalled: false,
@@ -103,7 +111,7 @@ pub fn weighed(
     };
     let vote = voted(g, plan, n, es, &rival, again, out);
     WithRival {
-        verdict: verdict_with(j.beaten, vote),
+        verdict: verdict_with(j.standing, vote),
         rivalled: true,
         rival: rival,
         listed: listed,
@@ -115,14 +123,16 @@ pub fn is_strong(g: Instance, plan: &[bool; ENTRY_LIMIT], n: usize, es: &[u16; 6
     requires { Loaded g × ((M : Plan) × Shows (shown_by g) plan.now M) × edges.Listed g.m plan.now n es.now }
     ensures { (M : Plan) → Shows (shown_by g) plan.now M → result ≡ is_strong (verdict_of (shown_by g) M) }
 {
-    let sv = g.sv;
-    let st = g.st;
-    let rs = g.rank_s;
-    let rt = g.rank_t;
-    let bs = g.quota_s;
-    let bt = g.quota_t;
-    let j = rival_verdict::judge(g.m, &sv, &st, &rs, &rt, &bs, &bt, plan, n, es);
-    !(j.beaten | j.rivalled)
+    let of = ListedPlan {
+        has: plan,
+        n,
+        edges: es,
+    };
+    let j = rival_verdict::judge(&g, &of);
+    match j.standing {
+        Standing::Strong => true,
+        _ => false,
+    }
 }
 
 // The verdict alone, for the finder.
@@ -156,17 +166,19 @@ pub fn weigh_paired(
 {
     let w = weighed(g, plan, n, es, out);
     if w.rivalled {
-        let sv = g.sv;
-        let st = g.st;
-        let rs = g.rank_s;
-        let rt = g.rank_t;
-        let qs = g.quota_s;
-        let qt = g.quota_t;
         let rival = w.rival;
         let re = w.listed.edges;
-        vote_pairings::plan_pairings(
-            g.ns, g.nt, &sv, &st, &rs, &rt, qs, qt, plan, n, es, &rival, w.listed.n, &re, pairings,
-        );
+        let of = ListedPlan {
+            has: plan,
+            n,
+            edges: es,
+        };
+        let against = ListedPlan {
+            has: &rival,
+            n: w.listed.n,
+            edges: &re,
+        };
+        vote_pairings::plan_pairings(&g, &of, &against, pairings);
     }
     w.verdict
 }

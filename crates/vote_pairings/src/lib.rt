@@ -9,6 +9,8 @@ ghost use Rattle.theory_votes.specs.Keys.{empty_key, key_bytes};
 ghost use Rattle.vote_pairings.specs.SideBytes.{written, side_out, NodeReady};
 ghost use Rattle.vote_pairings.specs.SidePairings.{Asked, BothAsked, SideFaced, PlanFaced};
 
+use arrays::ListedPlan;
+use instance::Instance;
 use limits::ENTRY_LIMIT;
 use vote_own_ranks::Ranked;
 
@@ -62,52 +64,32 @@ pub fn side_pairings(
     end: &[u8; ENTRY_LIMIT],
     rank: &[u8; ENTRY_LIMIT],
     quota: [u8; 32],
-    p: &[bool; ENTRY_LIMIT],
-    pn: usize,
-    pe: &[u16; 64],
-    q: &[bool; ENTRY_LIMIT],
-    qn: usize,
-    qe: &[u16; 64],
+    p: &ListedPlan,
+    q: &ListedPlan,
     out: &mut [u8],
     from: usize,
 ) -> usize
-    requires asked { Asked n end.now rank.now quota p.now pn pe.now q.now qn qe.now }
+    requires asked { Asked n end.now rank.now quota p.now.has.now p.now.n p.now.edges.now q.now.has.now q.now.n q.now.edges.now }
     requires n_in_bounds { from + 2 * sum (at quota) (up_to n) ≤ length out.old }
     ensures value { result ≡ from + 2 * sum (at quota) (up_to n) }
-    ensures side_faced { SideFaced n end.now rank.now quota p.now pn pe.now q.now qn qe.now from
+    ensures side_faced { SideFaced n end.now rank.now quota p.now.has.now p.now.n p.now.edges.now q.now.has.now q.now.n q.now.edges.now from
         out.old out.new }
 {
-    let a = vote_own_ranks::own_ranks(pn, pe, end, rank, q);
-    let b = vote_own_ranks::own_ranks(qn, qe, end, rank, p);
-    let s = vote_own_ranks::shared_ranks(pn, pe, end, rank, q);
+    let a = vote_own_ranks::own_ranks(p.n, p.edges, end, rank, q.has);
+    let b = vote_own_ranks::own_ranks(q.n, q.edges, end, rank, p.has);
+    let s = vote_own_ranks::shared_ranks(p.n, p.edges, end, rank, q.has);
     side_pairs(n, a, b, s, quota, out, from)
 }
 
 // The pairings of the vote of plan p, whose edges are the first pn of pe, against plan q, at the buffer's front.
-pub fn plan_pairings(
-    ns: usize,
-    nt: usize,
-    sv: &[u8; ENTRY_LIMIT],
-    st: &[u8; ENTRY_LIMIT],
-    rs: &[u8; ENTRY_LIMIT],
-    rt: &[u8; ENTRY_LIMIT],
-    qs: [u8; 32],
-    qt: [u8; 32],
-    p: &[bool; ENTRY_LIMIT],
-    pn: usize,
-    pe: &[u16; 64],
-    q: &[bool; ENTRY_LIMIT],
-    qn: usize,
-    qe: &[u16; 64],
-    out: &mut [u8],
-)
-    requires both_asked { BothAsked ns nt sv.now st.now rs.now rt.now qs qt p.now pn pe.now q.now qn qe.now }
-    requires nt_in_bounds { 2 * (sum (at qs) (up_to ns) + sum (at qt) (up_to nt)) ≤ length out.old }
-    ensures { PlanFaced ns nt sv.now st.now rs.now rt.now qs qt
-        p.now pn pe.now q.now qn qe.now out.old out.new }
+pub fn plan_pairings(g: &Instance, p: &ListedPlan, q: &ListedPlan, out: &mut [u8])
+    requires both_asked { BothAsked g.now.ns g.now.nt g.now.sv g.now.st g.now.rank_s g.now.rank_t g.now.quota_s g.now.quota_t p.now.has.now p.now.n p.now.edges.now q.now.has.now q.now.n q.now.edges.now }
+    requires nt_in_bounds { 2 * (sum (at g.now.quota_s) (up_to g.now.ns) + sum (at g.now.quota_t) (up_to g.now.nt)) ≤ length out.old }
+    ensures { PlanFaced g.now.ns g.now.nt g.now.sv g.now.st g.now.rank_s g.now.rank_t g.now.quota_s g.now.quota_t
+        p.now.has.now p.now.n p.now.edges.now q.now.has.now q.now.n q.now.edges.now out.old out.new }
 {
-    let middle = side_pairings(ns, sv, rs, qs, p, pn, pe, q, qn, qe, &mut *out, 0);
-    side_pairings(nt, st, rt, qt, p, pn, pe, q, qn, qe, out, middle);
+    let middle = side_pairings(g.ns, &g.sv, &g.rank_s, g.quota_s, p, q, &mut *out, 0);
+    side_pairings(g.nt, &g.st, &g.rank_t, g.quota_t, p, q, out, middle);
 }
 
 // The pairings of one side for both votes, that of p against q and that of q against p, each from a place of its buffer on; the place behind them.
@@ -117,72 +99,55 @@ pub fn both_sides_pairings(
     end: &[u8; ENTRY_LIMIT],
     rank: &[u8; ENTRY_LIMIT],
     quota: [u8; 32],
-    p: &[bool; ENTRY_LIMIT],
-    pn: usize,
-    pe: &[u16; 64],
-    q: &[bool; ENTRY_LIMIT],
-    qn: usize,
-    qe: &[u16; 64],
+    p: &ListedPlan,
+    q: &ListedPlan,
     forward: &mut [u8],
     back: &mut [u8],
     from: usize,
 ) -> usize
-    requires asked { Asked n end.now rank.now quota p.now pn pe.now q.now qn qe.now }
+    requires asked { Asked n end.now rank.now quota p.now.has.now p.now.n p.now.edges.now q.now.has.now q.now.n q.now.edges.now }
     requires n_in_bounds { (from + 2 * sum (at quota) (up_to n) ≤ length forward.old) × (from + 2 * sum (at quota) (up_to n) ≤ length back.old) }
     ensures value { result ≡ from + 2 * sum (at quota) (up_to n) }
-    ensures side_faced { SideFaced n end.now rank.now quota p.now pn pe.now q.now qn qe.now from
+    ensures side_faced { SideFaced n end.now rank.now quota p.now.has.now p.now.n p.now.edges.now q.now.has.now q.now.n q.now.edges.now from
         forward.old forward.new }
-    ensures side_faced_2 { SideFaced n end.now rank.now quota q.now qn qe.now p.now pn pe.now from
+    ensures side_faced_2 { SideFaced n end.now rank.now quota q.now.has.now q.now.n q.now.edges.now p.now.has.now p.now.n p.now.edges.now from
         back.old back.new }
 {
-    let a = vote_own_ranks::own_ranks(pn, pe, end, rank, q);
-    let b = vote_own_ranks::own_ranks(qn, qe, end, rank, p);
-    let shared = vote_own_ranks::shared_ranks(pn, pe, end, rank, q);
+    let a = vote_own_ranks::own_ranks(p.n, p.edges, end, rank, q.has);
+    let b = vote_own_ranks::own_ranks(q.n, q.edges, end, rank, p.has);
+    let shared = vote_own_ranks::shared_ranks(p.n, p.edges, end, rank, q.has);
     side_pairs(n, a, b, shared, quota, forward, from);
     side_pairs(n, b, a, shared, quota, back, from)
 }
 
 // The pairings of both votes of two plans, p with pn edges that pe lists, q likewise, at the fronts of two buffers.
 pub fn both_pairings(
-    ns: usize,
-    nt: usize,
-    sv: &[u8; ENTRY_LIMIT],
-    st: &[u8; ENTRY_LIMIT],
-    rs: &[u8; ENTRY_LIMIT],
-    rt: &[u8; ENTRY_LIMIT],
-    qs: [u8; 32],
-    qt: [u8; 32],
-    p: &[bool; ENTRY_LIMIT],
-    pn: usize,
-    pe: &[u16; 64],
-    q: &[bool; ENTRY_LIMIT],
-    qn: usize,
-    qe: &[u16; 64],
+    g: &Instance,
+    p: &ListedPlan,
+    q: &ListedPlan,
     forward: &mut [u8],
     back: &mut [u8],
 )
-    requires both_asked { BothAsked ns nt sv.now st.now rs.now rt.now qs qt p.now pn pe.now q.now qn qe.now }
-    requires nt_in_bounds { (2 * (sum (at qs) (up_to ns) + sum (at qt) (up_to nt)) ≤ length forward.old)
-        × (2 * (sum (at qs) (up_to ns) + sum (at qt) (up_to nt)) ≤ length back.old) }
-    ensures plan_faced { PlanFaced ns nt sv.now st.now rs.now rt.now qs qt
-        p.now pn pe.now q.now qn qe.now forward.old forward.new }
-    ensures plan_faced_2 { PlanFaced ns nt sv.now st.now rs.now rt.now qs qt
-        q.now qn qe.now p.now pn pe.now back.old back.new }
+    requires both_asked { BothAsked g.now.ns g.now.nt g.now.sv g.now.st g.now.rank_s g.now.rank_t g.now.quota_s g.now.quota_t p.now.has.now p.now.n p.now.edges.now q.now.has.now q.now.n q.now.edges.now }
+    requires nt_in_bounds { (2 * (sum (at g.now.quota_s) (up_to g.now.ns) + sum (at g.now.quota_t) (up_to g.now.nt)) ≤ length forward.old)
+        × (2 * (sum (at g.now.quota_s) (up_to g.now.ns) + sum (at g.now.quota_t) (up_to g.now.nt)) ≤ length back.old) }
+    ensures plan_faced { PlanFaced g.now.ns g.now.nt g.now.sv g.now.st g.now.rank_s g.now.rank_t g.now.quota_s g.now.quota_t
+        p.now.has.now p.now.n p.now.edges.now q.now.has.now q.now.n q.now.edges.now forward.old forward.new }
+    ensures plan_faced_2 { PlanFaced g.now.ns g.now.nt g.now.sv g.now.st g.now.rank_s g.now.rank_t g.now.quota_s g.now.quota_t
+        q.now.has.now q.now.n q.now.edges.now p.now.has.now p.now.n p.now.edges.now back.old back.new }
 {
     let middle = both_sides_pairings(
-        ns,
-        sv,
-        rs,
-        qs,
+        g.ns,
+        &g.sv,
+        &g.rank_s,
+        g.quota_s,
         p,
-        pn,
-        pe,
         q,
-        qn,
-        qe,
         &mut *forward,
         &mut *back,
         0,
     );
-    both_sides_pairings(nt, st, rt, qt, p, pn, pe, q, qn, qe, forward, back, middle);
+    both_sides_pairings(
+        g.nt, &g.st, &g.rank_t, g.quota_t, p, q, forward, back, middle,
+    );
 }

@@ -4,6 +4,3 @@ use Rattle.arrays.proofs.links.Given as goal
 
 abbrev pub invariant-loop-i : goal.invariant-loop-i
 invariant-loop-i l = (l.i ≤ l.m) × (length l.next ≡ length l.initial.next) × (length l.head ≡ 32) × LinkedFrom l.m l.end l.i l.head l.next
-
-abbrev pub decreases-loop-i : goal.decreases-loop-i
-decreases-loop-i l = l.i

@@ -2,7 +2,7 @@
 use Rattle.std.proofs.Common.{T}
 use Rattle.theory_files.specs.Reads.{is_bytes}
 use Rattle.roster_reading.specs.Place.{bytes_of}
-use Rattle.desk_loaded.specs.OnDesk.{roster_missing, roster_read, arrays_loaded}
+use Rattle.desk_loaded.specs.OnDesk.{not_loaded, roster_missing, roster_read, arrays_loaded}
 use Rattle.desk_loaded.proofs.loaded.Goals as goal
 
 pub on_roster-requires : goal.on_roster-requires
@@ -15,11 +15,12 @@ on_roster-requires c =
 pub returns-in_default : goal.returns-in_default
 returns-in_default c =
     let a = c.args in
-    roster_missing a.roster.now a.plan.now a.needs a.short c.in_default.is c.read_roster.ensures
+    not_loaded a.roster.now a.plan.now (bytes_of a.roster.now (λ j. c.type_inv.roster j)) (bytes_of a.plan.now (λ j. c.type_inv.plan j))
+    (roster_missing a.roster.now a.plan.now a.needs a.short c.in_default.is c.read_roster.ensures)
 
 pub returns : goal.returns
 returns c =
     let a = c.args in
     let is_b : T (is_bytes a.roster.now) = bytes_of a.roster.now (λ j. c.type_inv.roster j) in
     let i = c.instance_of-g in
-    roster_read a.roster.now is_b c.in-Ok.is c.read_roster.ensures i.result i.ensures a.plan.now a.needs a.short c.on_roster.result c.on_roster.ensures
+    roster_read a.roster.now is_b c.in-Ok.is c.read_roster.ensures i.result i.ensures a.plan.now (bytes_of a.plan.now (λ j. c.type_inv.plan j)) a.needs a.short c.on_roster.result c.on_roster.ensures

@@ -1,15 +1,16 @@
 -- `desk_stored::taken` meets its contract. Assumes nothing.
 use Rattle.std.proofs.Common.{refl}
+use Rattle.std.specs.declared.result.Result.TheVariants.{Ok}
 use Rattle.desk_stored.specs.StoringSteps.{taken_refused, taken_stored}
 use Rattle.desk_stored.proofs.taken.Goals as goal
 
-pub returns-then-n-gt0 : goal.returns-then-n-gt0
-returns-then-n-gt0 c =
+pub returns-in-Err : goal.returns-in-Err
+returns-in-Err c =
     let a = c.args in
-    taken_refused a.files a.number a.c c.unchanged.result c.if-n-gt0.true c.unchanged.ensures
+    taken_refused a.files a.number c.unchanged.result c.in-Err.is c.unchanged.ensures
 
-pub returns : goal.returns
-returns c =
+pub returns-in-Ok : goal.returns-in-Ok
+returns-in-Ok c =
     let a = c.args in
-    taken_stored a.files a.number a.c (record { refusal = 0; files = c.closed-d.result }) c.if-n-gt0.false refl
+    taken_stored a.files a.number (record { answer = Ok tt; files = c.closed-d.result }) c.in-Ok.is refl
     c.stored-next.result c.stored-next.ensures c.closed-d.ensures

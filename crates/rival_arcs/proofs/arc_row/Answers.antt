@@ -19,11 +19,11 @@ loop-f-init c =
     let a = c.args in
     let row : List ℕ = replicate 64 133 in (
       length-replicate {A = ℕ} 64 133,
-      λ st ps L P. visit_first L a.t (Held a.m a.sv.now st a.rs.now a.rt.now a.plan.now ps a.rps.now a.t a.b row)
-          (others a.m a.sv.now st a.rs.now a.rt.now a.plan.now ps a.rps.now a.t a.b row) c.requires.4
-          (λ j h. ap (λ v. arc_rest a.m a.sv.now st a.rs.now a.rt.now a.plan.now a.t a.b (at ps j) (at a.rps.now j) v 0)
+      λ st ps L P. visit_first L a.t (Held a.g.now.m a.g.now.sv st a.g.now.rank_s a.g.now.rank_t a.plan.now ps a.rps.now a.t a.b row)
+          (others a.g.now.m a.g.now.sv st a.g.now.rank_s a.g.now.rank_t a.plan.now ps a.rps.now a.t a.b row) c.requires.4
+          (λ j h. ap (λ v. arc_rest a.g.now.m a.g.now.sv st a.g.now.rank_s a.g.now.rank_t a.plan.now a.t a.b (at ps j) (at a.rps.now j) v 0)
           (get_or-replicate 64 j 133 0 h)
-          ∙ arc_start a.m a.sv.now st a.rs.now a.rt.now a.plan.now a.t a.b (at ps j) (at a.rps.now j)),
+          ∙ arc_start a.g.now.m a.g.now.sv st a.g.now.rank_s a.g.now.rank_t a.plan.now a.t a.b (at ps j) (at a.rps.now j)),
     )
 
 pub joined-requires : goal.joined-requires
@@ -42,20 +42,20 @@ loop-f-preserved c =
       λ st ps L P.
           let G = c.loop-f.invariant.1 st ps L P in
           let here = G.here (omega arith) in
-          visit_next L a.t (Held a.m a.sv.now st a.rs.now a.rt.now a.plan.now ps a.rps.now a.t a.b o)
-          (others a.m a.sv.now st a.rs.now a.rt.now a.plan.now ps a.rps.now a.t a.b o) f (omega arith) here
+          visit_next L a.t (Held a.g.now.m a.g.now.sv st a.g.now.rank_s a.g.now.rank_t a.plan.now ps a.rps.now a.t a.b o)
+          (others a.g.now.m a.g.now.sv st a.g.now.rank_s a.g.now.rank_t a.plan.now ps a.rps.now a.t a.b o) f (omega arith) here
           (λ j h. elim c.if-not-plan-f.branch [
-            | then-not-plan-f w ↦ ap (λ v. arc_rest a.m a.sv.now st a.rs.now a.rt.now a.plan.now a.t a.b (at ps j) (at a.rps.now j) v (f + 1))
+            | then-not-plan-f w ↦ ap (λ v. arc_rest a.g.now.m a.g.now.sv st a.g.now.rank_s a.g.now.rank_t a.plan.now a.t a.b (at ps j) (at a.rps.now j) v (f + 1))
                 (ap (λ z. at z j) w.o-is ∙ w.joined.ensures.1 ps P j h
-                ∙ ap (λ p. offer (eqb (at a.sv.now f) (at ps j)) (p + rate (at a.rps.now j) (at a.rs.now f)) (at c.loop-f.o j)) w.rated-a.ensures.0)
+                ∙ ap (λ p. offer (eqb (at a.g.now.sv f) (at ps j)) (p + rate (at a.rps.now j) (at a.g.now.rank_s f)) (at c.loop-f.o j)) w.rated-a.ensures.0)
                 ∙ sym
-                (arc_turn a.m a.sv.now st a.rs.now a.rt.now a.plan.now a.t a.b (at ps j) (at a.rps.now j) (at c.loop-f.o j) f
+                (arc_turn a.g.now.m a.g.now.sv st a.g.now.rank_s a.g.now.rank_t a.plan.now a.t a.b (at ps j) (at a.rps.now j) (at c.loop-f.o j) f
                 (omega arith) (ap not w.if-not-plan-f.true) here)
                 ∙ G.holds j h
-            | else-not-plan-f w ↦ ap (λ z. arc_rest a.m a.sv.now st a.rs.now a.rt.now a.plan.now a.t a.b (at ps j) (at a.rps.now j) (at z j)
+            | else-not-plan-f w ↦ ap (λ z. arc_rest a.g.now.m a.g.now.sv st a.g.now.rank_s a.g.now.rank_t a.plan.now a.t a.b (at ps j) (at a.rps.now j) (at z j)
                 (f + 1)) w.o-is
                 ∙ sym
-                (arc_past a.m a.sv.now st a.rs.now a.rt.now a.plan.now a.t a.b (at ps j) (at a.rps.now j) (at c.loop-f.o j) f
+                (arc_past a.g.now.m a.g.now.sv st a.g.now.rank_s a.g.now.rank_t a.plan.now a.t a.b (at ps j) (at a.rps.now j) (at c.loop-f.o j) f
                 (omega arith) (ap not w.if-not-plan-f.false))
                 ∙ G.holds j h
           ]),
@@ -65,7 +65,7 @@ pub returns : goal.returns
 returns c =
     let a = c.args in
     λ st ps L P j h. sym
-    (arc_end a.m a.sv.now st a.rs.now a.rt.now a.plan.now a.t a.b (at ps j) (at a.rps.now j) (at c.loop-f.o j) c.loop-f.f
+    (arc_end a.g.now.m a.g.now.sv st a.g.now.rank_s a.g.now.rank_t a.plan.now a.t a.b (at ps j) (at a.rps.now j) (at c.loop-f.o j) c.loop-f.f
     (omega arith))
     ∙ (c.loop-f.invariant.1 st ps L P).holds j h
 

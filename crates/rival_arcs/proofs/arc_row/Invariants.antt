@@ -13,7 +13,7 @@ Held m sv st rs rt plan ps rps t b o f =
 abbrev pub invariant-loop-f : goal.invariant-loop-f
 invariant-loop-f l =
     (length l.o ≡ 64)
-    × ((st ps : List ℕ) → Linked l.m st l.head l.next → Linked 64 ps l.first l.after → Visit l.m st l.t (Held l.m l.sv st l.rs l.rt l.plan ps l.rps l.t l.b l.o) l.f)
+    × ((st ps : List ℕ) → Linked l.g.m st l.links_t.head l.links_t.next → Linked 64 ps l.first l.after → Visit l.g.m st l.t (Held l.g.m l.g.sv st l.g.rank_s l.g.rank_t l.plan ps l.rps l.t l.b l.o) l.f)
 
 abbrev pub decreases-loop-f : goal.decreases-loop-f
-decreases-loop-f l = l.m - l.f
+decreases-loop-f l = l.g.m - l.f

@@ -7,5 +7,5 @@ use Rattle.rival_arcs.proofs.arcs.Given as goal
 
 abbrev pub invariant-loop-i : goal.invariant-loop-i
 invariant-loop-i l =
-    (st : List ℕ) → Linked l.m st l.head l.next
-    → Written l.n (λ i j v. v ≡ arc_price l.m l.sv st l.rs l.rt l.plan (at l.pt i) (at l.rpt i) (at l.ps j) (at l.rps j)) l.o l.i
+    (st : List ℕ) → Linked l.g.m st l.links_t.head l.links_t.next
+    → Written l.n (λ i j v. v ≡ arc_price l.g.m l.g.sv st l.g.rank_s l.g.rank_t l.plan (at l.pt i) (at l.rpt i) (at l.ps j) (at l.rps j)) l.o l.i

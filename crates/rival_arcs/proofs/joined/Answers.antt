@@ -29,7 +29,7 @@ pub loop-j-preserved : goal.loop-j-preserved
 loop-j-preserved c =
     let a = c.args in
     let j = c.loop-j.j in
-    let o = c.lesser.result in (
+    let o = c.min.result in (
       simp length-set c.loop-j.invariant.0,
       λ ps L.
           let G = c.loop-j.invariant.1 ps L in
@@ -38,7 +38,7 @@ loop-j-preserved c =
           visit_next L a.s (λ d. Remade a.row.now f d (set c.loop-j.row j o))
           (stays a.row.now ps a.rps.now a.s a.r a.a (set c.loop-j.row j o)) j (omega arith) h
           (remade_next a.row.now f j c.loop-j.row o c.loop-j.invariant.0 (omega arith)
-          (c.lesser.ensures
+          (c.min.ensures
           ∙ ap₂ (λ p q. min (a.a + p) q) c.rated.ensures.0
           (remade_here a.row.now f j c.loop-j.row (omega arith) G.holds)
           ∙ sym (ap (λ b. offer b (a.a + rate (at a.rps.now j) a.r) (at a.row.now j)) (eqb_yes a.s (at ps j) (sym h))))

@@ -1,32 +1,32 @@
--- The table is within the costs of arcs, and its next layer nowhere below it; or the answer is no.
-use Rattle.std.proofs.Common.{arith, ◌+◌, ◌*◌, leb-true}
-use Rattle.lists.specs.Test.{true_t}
+-- The table is within the costs of arcs, and its next layer nowhere below it; or there is none.
+use Rattle.std.proofs.Common.{refl, sym, arith, ◌+◌, ◌*◌}
+use Rattle.rival_tables.specs.Filled.{cell}
+use Rattle.rival_tables.specs.Within.{none_is_below}
+use Rattle.rival_levels.specs.Levels.{changed_at}
 use Rattle.rival_certificate.specs.Certified.{closed_is}
 use Rattle.rival_certificate.proofs.certificate.Goals as goal
-
-pub returns-then-not-inside : goal.returns-then-not-inside
-returns-then-not-inside c = λ t. absurd (true_t t)
 
 pub next_layer-e-requires : goal.next_layer-e-requires
 next_layer-e-requires c = (
   c.requires.0,
-  (λ i j h k. omega (arith, c.within-inside.ensures c.if-not-inside.false (i * 64 + j) (omega arith))),
+  (λ i j h k. omega (arith, c.within.ensures c.if-not-within.false (i * 64 + j) (omega arith))),
   c.requires.1,
 )
 
-pub changed-c-requires : goal.changed-c-requires
-changed-c-requires c = (
+pub changed-requires : goal.changed-requires
+changed-requires c = (
   c.requires.0,
   λ i j h k. omega (
     arith,
-    c.within-inside.ensures c.if-not-inside.false
+    c.within.ensures c.if-not-within.false
         (i * 64 + j) (omega arith),
   ),
 )
 
 pub returns : goal.returns
-returns c = λ t.
-    closed_is c.args.arcs.now c.walk_costs-d.result c.next_layer-e.result
-    c.args.n c.changed-c.result c.requires.0
-    (c.within-inside.ensures c.if-not-inside.false)
-    c.next_layer-e.ensures c.changed-c.ensures (leb-true c.args.n c.changed-c.result t)
+returns c =
+    let a = c.args in
+    let e = changed_at (cell c.walk_costs-d.result) (cell c.next_layer-e.result) a.n in
+    closed_is a.arcs.now c.walk_costs-d.result c.next_layer-e.result a.n e c.requires.0
+    (c.within.ensures c.if-not-within.false)
+    c.next_layer-e.ensures refl (none_is_below a.n e (sym c.if-is_some.ensures) c.changed.ensures)

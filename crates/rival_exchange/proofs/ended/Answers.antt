@@ -12,7 +12,7 @@ returns c =
     let a = c.args in
     let t = c.terminal-t in (
       blank_one 1024 1024 a.x c.gained-gone.result (omega (arith, c.requires.5, c.requires.0)) c.gained-gone.ensures,
-      marks_ends a.m t.result
-          (terminal_by a.m a.sv.now a.st.now a.rs.now a.rt.now a.x a.y a.plan.now a.fs.now a.ft.now) 1024
+      marks_ends a.g.now.m t.result
+          (terminal_by a.g.now.m a.g.now.sv a.g.now.st a.g.now.rank_s a.g.now.rank_t a.x a.y a.plan.now a.room.now.s a.room.now.t) 1024
           c.gained-first.result c.gained-come.result t.ensures c.gained-first.ensures c.gained-come.ensures,
     )

@@ -9,10 +9,10 @@ use Rattle.rival_exchange.proofs.round.Given as goal
 abbrev pub Held : (m : ℕ) (sv st rs rt : List ℕ) (x y : ℕ) (plan fs : List Bool) (s : Way) (held whole : ℕ × (Way × Way)) → ℕ → Type 0
 Held m sv st rs rt x y plan fs s held whole g = round_rest m sv st rs rt x y plan fs s held g ≡ whole
 
-abbrev pub invariant-loop-g : goal.invariant-loop-g
-invariant-loop-g l =
-    (rs : List ℕ) → Begun l.m l.sv l.st rs l.rt l.x l.y l.start l.a l.free → Visit l.m l.st (at l.st l.y)
-    (Held l.m l.sv l.st rs l.rt l.x l.y l.plan l.fs (way_of l.m l.start) (told l.m l.o) (round_rest l.m l.sv l.st rs l.rt l.x l.y l.plan l.fs (way_of l.m l.start) (told l.m l.initial.o) 0)) l.g
+abbrev pub invariant-loop-d : goal.invariant-loop-d
+invariant-loop-d l =
+    (rs : List ℕ) → Begun l.g.m l.g.sv l.g.st rs l.g.rank_t l.x l.y l.start l.a l.free → Visit l.g.m l.g.st (at l.g.st l.y)
+    (Held l.g.m l.g.sv l.g.st rs l.g.rank_t l.x l.y l.plan l.room.s (way_of l.g.m l.start) (told l.g.m l.o) (round_rest l.g.m l.g.sv l.g.st rs l.g.rank_t l.x l.y l.plan l.room.s (way_of l.g.m l.start) (told l.g.m l.initial.o) 0)) l.d
 
-abbrev pub decreases-loop-g : goal.decreases-loop-g
-decreases-loop-g l = l.m - l.g
+abbrev pub decreases-loop-d : goal.decreases-loop-d
+decreases-loop-d l = l.g.m - l.d

@@ -28,39 +28,39 @@ round-o-requires c =
       c.requires.5,
       c.requires.6,
       omega arith,
-      (a.rs.now, begun_lost a.m a.sv.now a.st.now a.rs.now a.rt.now a.x a.y),
+      (a.g.now.rank_s, begun_lost a.g.now.m a.g.now.sv a.g.now.st a.g.now.rank_s a.g.now.rank_t a.x a.y),
     )
 
-pub offset_bounds-hs-s : goal.offset_bounds-hs-s
-offset_bounds-hs-s c = omega (arith, c.requires.1 c.args.x c.requires.5)
+pub offset_bounds-links_s-s : goal.offset_bounds-links_s-s
+offset_bounds-links_s-s c = omega (arith, c.requires.1 c.args.x c.requires.5)
 
-pub bounds-hs-s : goal.bounds-hs-s
-bounds-hs-s c = omega (arith, c.requires.1 c.args.x c.requires.5)
+pub bounds-links_s-s : goal.bounds-links_s-s
+bounds-links_s-s c = omega (arith, c.requires.1 c.args.x c.requires.5)
 
 pub loop-f-init : goal.loop-f-init
 loop-f-init c =
     let a = c.args in
-    let o = told a.m c.round-o.result in
-    visit_first c.requires.3 (at a.sv.now a.x) (Held a.m a.sv.now a.st.now a.rs.now a.rt.now a.x a.y a.plan.now
-    a.fs.now a.ft.now o) (others a.m a.sv.now a.st.now a.rs.now a.rt.now a.x a.y a.plan.now a.fs.now
-    a.ft.now o) (c.requires.1 a.x c.requires.5)
-    (ap (λ o. terminal_rest a.m a.sv.now a.st.now a.rs.now a.rt.now a.x a.y a.plan.now a.fs.now a.ft.now o 0)
-    (c.round-o.ensures a.rs.now (begun_lost a.m a.sv.now a.st.now a.rs.now a.rt.now a.x a.y) ∙ ap₂
-    (λ u w. round a.m a.sv.now a.st.now a.rs.now a.rt.now a.x a.y a.plan.now a.fs.now u (6, (w, w))) (way_lose a.m)
-    (way_lose a.m))
-    ∙ terminal_start a.m a.sv.now a.st.now a.rs.now a.rt.now a.x a.y a.plan.now a.fs.now a.ft.now)
+    let o = told a.g.now.m c.round-o.result in
+    visit_first c.requires.3 (at a.g.now.sv a.x) (Held a.g.now.m a.g.now.sv a.g.now.st a.g.now.rank_s a.g.now.rank_t a.x a.y a.plan.now
+    a.room.now.s a.room.now.t o) (others a.g.now.m a.g.now.sv a.g.now.st a.g.now.rank_s a.g.now.rank_t a.x a.y a.plan.now a.room.now.s
+    a.room.now.t o) (c.requires.1 a.x c.requires.5)
+    (ap (λ o. terminal_rest a.g.now.m a.g.now.sv a.g.now.st a.g.now.rank_s a.g.now.rank_t a.x a.y a.plan.now a.room.now.s a.room.now.t o 0)
+    (c.round-o.ensures a.g.now.rank_s (begun_lost a.g.now.m a.g.now.sv a.g.now.st a.g.now.rank_s a.g.now.rank_t a.x a.y) ∙ ap₂
+    (λ u w. round a.g.now.m a.g.now.sv a.g.now.st a.g.now.rank_s a.g.now.rank_t a.x a.y a.plan.now a.room.now.s u (6, (w, w))) (way_lose a.g.now.m)
+    (way_lose a.g.now.m))
+    ∙ terminal_start a.g.now.m a.g.now.sv a.g.now.st a.g.now.rank_s a.g.now.rank_t a.x a.y a.plan.now a.room.now.s a.room.now.t)
 
 pub overflow_cast-v : goal.overflow_cast-v
 overflow_cast-v c = omega (arith, c.requires.2 c.loop-f.f (omega arith))
 
-pub bounds-ft-v : goal.bounds-ft-v
-bounds-ft-v c =
+pub bounds-room-v : goal.bounds-room-v
+bounds-room-v c =
     omega (arith, c.requires.2 c.loop-f.f (omega arith))
 
 pub round-next-requires : goal.round-next-requires
 round-next-requires c =
     let a = c.args in
-    let h : c.loop-f.f < a.m = c.loop-f-test.true in (
+    let h : c.loop-f.f < a.g.now.m = c.loop-f-test.true in (
       c.requires.0,
       c.requires.1,
       c.requires.2,
@@ -69,8 +69,8 @@ round-next-requires c =
       c.requires.6,
       omega (arith, c.rated-a.ensures.1),
       (
-        a.rs.now,
-        begun_gain a.m a.sv.now a.st.now a.rs.now a.rt.now a.x a.y c.loop-f.f c.rated-a.result h
+        a.g.now.rank_s,
+        begun_gain a.g.now.m a.g.now.sv a.g.now.st a.g.now.rank_s a.g.now.rank_t a.x a.y c.loop-f.f c.rated-a.result h
             c.rated-a.ensures.0,
       ),
     )
@@ -79,29 +79,29 @@ pub loop-f-preserved : goal.loop-f-preserved
 loop-f-preserved c =
     let a = c.args in
     let f = c.loop-f.f in
-    let h : f < a.m = c.loop-f-test.true in
-    let v = at a.sv.now a.x in
+    let h : f < a.g.now.m = c.loop-f-test.true in
+    let v = at a.g.now.sv a.x in
     let here = c.loop-f.invariant.here h in
     let o : Ends = c.if-plan-f.o in
-    let held = told a.m c.loop-f.o in
-    let is = gainable_here a.sv.now a.st.now a.plan.now a.ft.now v f here in
+    let held = told a.g.now.m c.loop-f.o in
+    let is = gainable_here a.g.now.sv a.g.now.st a.plan.now a.room.now.t v f here in
     visit_next c.requires.3 v
-    (Held a.m a.sv.now a.st.now a.rs.now a.rt.now a.x a.y a.plan.now a.fs.now a.ft.now (told a.m o))
-    (others a.m a.sv.now a.st.now a.rs.now a.rt.now a.x a.y a.plan.now a.fs.now a.ft.now
-    (told a.m o)) f h here
+    (Held a.g.now.m a.g.now.sv a.g.now.st a.g.now.rank_s a.g.now.rank_t a.x a.y a.plan.now a.room.now.s a.room.now.t (told a.g.now.m o))
+    (others a.g.now.m a.g.now.sv a.g.now.st a.g.now.rank_s a.g.now.rank_t a.x a.y a.plan.now a.room.now.s a.room.now.t
+    (told a.g.now.m o)) f h here
     (elim c.if-plan-f.branch [
-      | then-plan-f w ↦ ap (λ o. terminal_rest a.m a.sv.now a.st.now a.rs.now a.rt.now a.x a.y a.plan.now a.fs.now a.ft.now
-          (told a.m o) (f + 1)) w.o-is
-          ∙ ap (λ o. terminal_rest a.m a.sv.now a.st.now a.rs.now a.rt.now a.x a.y a.plan.now a.fs.now a.ft.now o
-          (f + 1)) (w.round-next.ensures a.rs.now (begun_gain a.m a.sv.now a.st.now a.rs.now a.rt.now a.x a.y f w.rated-a.result h
+      | then-plan-f w ↦ ap (λ o. terminal_rest a.g.now.m a.g.now.sv a.g.now.st a.g.now.rank_s a.g.now.rank_t a.x a.y a.plan.now a.room.now.s a.room.now.t
+          (told a.g.now.m o) (f + 1)) w.o-is
+          ∙ ap (λ o. terminal_rest a.g.now.m a.g.now.sv a.g.now.st a.g.now.rank_s a.g.now.rank_t a.x a.y a.plan.now a.room.now.s a.room.now.t o
+          (f + 1)) (w.round-next.ensures a.g.now.rank_s (begun_gain a.g.now.m a.g.now.sv a.g.now.st a.g.now.rank_s a.g.now.rank_t a.x a.y f w.rated-a.result h
           w.rated-a.ensures.0) ∙ ap
-          (λ u. round a.m a.sv.now a.st.now a.rs.now a.rt.now a.x a.y a.plan.now a.fs.now u held) (way_gain a.m f h))
-          ∙ sym (terminal_turn a.m a.sv.now a.st.now a.rs.now a.rt.now a.x a.y a.plan.now a.fs.now a.ft.now held f h
+          (λ u. round a.g.now.m a.g.now.sv a.g.now.st a.g.now.rank_s a.g.now.rank_t a.x a.y a.plan.now a.room.now.s u held) (way_gain a.g.now.m f h))
+          ∙ sym (terminal_turn a.g.now.m a.g.now.sv a.g.now.st a.g.now.rank_s a.g.now.rank_t a.x a.y a.plan.now a.room.now.s a.room.now.t held f h
           (is ∙ w.if-plan-f.true))
           ∙ c.loop-f.invariant.holds
-      | else-plan-f w ↦ ap (λ o. terminal_rest a.m a.sv.now a.st.now a.rs.now a.rt.now a.x a.y a.plan.now a.fs.now a.ft.now
-          (told a.m o) (f + 1)) w.o-is
-          ∙ sym (terminal_past a.m a.sv.now a.st.now a.rs.now a.rt.now a.x a.y a.plan.now a.fs.now a.ft.now held f h
+      | else-plan-f w ↦ ap (λ o. terminal_rest a.g.now.m a.g.now.sv a.g.now.st a.g.now.rank_s a.g.now.rank_t a.x a.y a.plan.now a.room.now.s a.room.now.t
+          (told a.g.now.m o) (f + 1)) w.o-is
+          ∙ sym (terminal_past a.g.now.m a.g.now.sv a.g.now.st a.g.now.rank_s a.g.now.rank_t a.x a.y a.plan.now a.room.now.s a.room.now.t held f h
           (is ∙ w.if-plan-f.false))
           ∙ c.loop-f.invariant.holds
     ])
@@ -109,12 +109,12 @@ loop-f-preserved c =
 pub returns : goal.returns
 returns c =
     let a = c.args in
-    sym (terminal_end a.m a.sv.now a.st.now a.rs.now a.rt.now a.x a.y a.plan.now a.fs.now a.ft.now
-    (told a.m c.loop-f.o) c.loop-f.f (omega arith)) ∙ c.loop-f.invariant.holds
+    sym (terminal_end a.g.now.m a.g.now.sv a.g.now.st a.g.now.rank_s a.g.now.rank_t a.x a.y a.plan.now a.room.now.s a.room.now.t
+    (told a.g.now.m c.loop-f.o) c.loop-f.f (omega arith)) ∙ c.loop-f.invariant.holds
 
 pub overflow_cast-f : goal.overflow_cast-f
 overflow_cast-f c =
-    omega (arith, c.requires.0, head_inside c.requires.3 (at c.args.sv.now c.args.x) (c.requires.1 c.args.x c.requires.5))
+    omega (arith, c.requires.0, head_inside c.requires.3 (at c.args.g.now.sv c.args.x) (c.requires.1 c.args.x c.requires.5))
 
 pub overflow_cast-f-in-loop-f : goal.overflow_cast-f-in-loop-f
 overflow_cast-f-in-loop-f c =

@@ -10,7 +10,7 @@ Held m sv st rs rt x y plan fs ft held f = terminal_rest m sv st rs rt x y plan 
 
 abbrev pub invariant-loop-f : goal.invariant-loop-f
 invariant-loop-f l =
-    Visit l.m l.sv (at l.sv l.x) (Held l.m l.sv l.st l.rs l.rt l.x l.y l.plan l.fs l.ft (told l.m l.o)) l.f
+    Visit l.g.m l.g.sv (at l.g.sv l.x) (Held l.g.m l.g.sv l.g.st l.g.rank_s l.g.rank_t l.x l.y l.plan l.room.s l.room.t (told l.g.m l.o)) l.f
 
 abbrev pub decreases-loop-f : goal.decreases-loop-f
-decreases-loop-f l = l.m - l.f
+decreases-loop-f l = l.g.m - l.f

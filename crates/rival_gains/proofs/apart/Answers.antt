@@ -1,18 +1,20 @@
 -- No node has room; or the rows below i are written.
 use Rattle.std.proofs.Common.{sym, ◌∙◌, ℕ, ◌+◌, ◌*◌, arith}
 use lib.ListN.{length-replicate, get_or-replicate}
-use Rattle.arrays.specs.ArrayInstance.{at}
+use Rattle.arrays.specs.ArrayInstance.{at, flag}
+use Rattle.lists.specs.Search.{low}
+use Rattle.rival_tables.specs.Within.{none_is_below}
 use Rattle.rival_tables.specs.Filled.{written_none, written_row, written_all}
 use Rattle.rival_gains.specs.Gains.{but_none}
 use Rattle.rival_gains.proofs.apart.Goals as goal
 
-pub returns-then-roomy-ge32 : goal.returns-then-roomy-ge32
-returns-then-roomy-ge32 c =
+pub returns-then-is_none : goal.returns-then-is_none
+returns-then-is_none c =
     let a = c.args in
     λ end L i j h k. get_or-replicate 4096 (i * 64 + j) 3 0 (omega (arith, c.requires.3, h, k))
     ∙ sym
     (but_none a.m end a.other.now a.rank.now a.plan.now a.room.now c.requires.1
-    (omega (arith, c.if-roomy-ge32.true, c.first_room-roomy.ensures)) 3
+    (none_is_below 32 (low (flag a.room.now) 32) c.if-is_none.ensures c.first_room.ensures) 3
     (at a.pe.now i) (at a.pr.now i) (at a.po.now j))
 
 pub apart_row-row-requires : goal.apart_row-row-requires

@@ -1,18 +1,20 @@
 -- No node has room; or the entries below i are written.
 use Rattle.std.proofs.Common.{refl, sym, ◌∙◌, zero-le, arith, not-suc-le-zero, length-set}
 use lib.ListN.{get_or-replicate}
-use Rattle.arrays.specs.ArrayInstance.{at}
+use Rattle.arrays.specs.ArrayInstance.{at, flag}
+use Rattle.lists.specs.Search.{low}
+use Rattle.rival_tables.specs.Within.{none_is_below}
 use Rattle.arrays.specs.Filled.{made_set}
 use Rattle.rival_gains.specs.Gains.{gain_price, gain_none}
 use Rattle.rival_gains.proofs.gains.Goals as goal
 
-pub returns-then-roomy-ge32 : goal.returns-then-roomy-ge32
-returns-then-roomy-ge32 c =
+pub returns-then-is_none : goal.returns-then-is_none
+returns-then-is_none c =
     let a = c.args in
     λ end L i h. get_or-replicate 64 i 6 0 (omega (arith, c.requires.3, h))
     ∙ sym
     (gain_none a.m end a.other.now a.rank.now a.plan.now a.room.now c.requires.1
-    (omega (arith, c.if-roomy-ge32.true, c.first_room-roomy.ensures)) 6
+    (none_is_below 32 (low (flag a.room.now) 32) c.if-is_none.ensures c.first_room.ensures) 6
     (at a.pe.now i) (at a.pr.now i))
 
 pub loop-i-init : goal.loop-i-init

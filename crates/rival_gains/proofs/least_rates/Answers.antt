@@ -21,7 +21,7 @@ node c = c.requires.1 c.loop-f.f c.loop-f-test.true
 
 -- the next edge of the node is a later one
 onward : (c : In-loop-f) → let a = c.args in
-    (c.loop-f.f < at a.next.now c.loop-f.f) × (at a.next.now c.loop-f.f ≤ a.m)
+    (c.loop-f.f < at a.links.now.next c.loop-f.f) × (at a.links.now.next c.loop-f.f ≤ a.m)
 onward c = next_onward c.requires.2.1 c.loop-f.f c.loop-f-test.true
 
 pub loop-f-preserved : goal.loop-f-preserved
@@ -36,7 +36,7 @@ loop-f-preserved c end L =
     c.loop-f-test.true here
     (elim c.if-ok.branch [
       | then-ok w ↦ held_as a.m end a.other.now a.rank.now a.plan.now a.room.now a.e a.b a.d (f + 1)
-          (w.all-is ∙ w.lesser-all.ensures ∙ ap (λ p. min p c.loop-f.all) w.rated-p.ensures.0)
+          (w.all-is ∙ w.min-all.ensures ∙ ap (λ p. min p c.loop-f.all) w.rated-p.ensures.0)
           (w.apart-is ∙ w.offered-apart.ensures ∙ ap (λ p. offer (not (eqb (at a.other.now f) a.d)) p c.loop-f.apart) w.rated-p.ensures.0)
           (held_turn a.m end a.other.now a.rank.now a.plan.now a.room.now a.e a.b a.d c.loop-f.all c.loop-f.apart f
           c.loop-f-test.true (is ∙ w.if-ok.true) G.holds)

@@ -1,16 +1,20 @@
 -- No sum of the row is below the bound; or none of the columns below j.
-use Rattle.std.proofs.Common.{◌≡◌, refl, sym, ap, ◌∙◌, ◌+◌, zero-le, arith, ltb, lt-ltb, le-ltb}
+use Rattle.std.proofs.Common.{◌≡◌, refl, sym, ap, ◌+◌, zero-le, arith, ltb, lt-ltb, le-ltb}
 use Rattle.arrays.specs.ArrayInstance.{at}
 use Rattle.lists.specs.Search.{low, low_hit, low_miss, low_none}
+use Rattle.rival_tables.specs.Within.{some_below, none_below}
 use Rattle.rival_levels.proofs.ends.Goals as goal
 
 pub returns-then-least-bound : goal.returns-then-least-bound
 returns-then-least-bound c =
     let a = c.args in
-    sym
-    (low_none (λ j. ltb (at a.d.now (a.b + j) + at a.terminals.now (a.b + j)) a.bound) a.n
-    (λ j h. le-ltb (at a.d.now (a.b + j) + at a.terminals.now (a.b + j)) a.bound
-    (omega (arith, c.if-least-bound.true, c.least_end-least.ensures j h))))
+    none_below a.n (low (λ j. ltb (at a.d.now (a.b + j) + at a.terminals.now (a.b + j)) a.bound) a.n)
+    (omega (
+      arith,
+      low_none (λ j. ltb (at a.d.now (a.b + j) + at a.terminals.now (a.b + j)) a.bound) a.n
+          (λ j h. le-ltb (at a.d.now (a.b + j) + at a.terminals.now (a.b + j)) a.bound
+          (omega (arith, c.if-least-bound.true, c.least_end-least.ensures j h))),
+    ))
 
 pub loop-j-init : goal.loop-j-init
 unfolding low
@@ -22,9 +26,10 @@ overflow_add-d c = omega (arith, c.requires.2 c.loop-j.j (omega arith))
 pub returns-then-d-b : goal.returns-then-d-b
 returns-then-d-b c =
     let a = c.args in
-    sym
+    some_below a.n c.loop-j.j (low (λ j. ltb (at a.d.now (a.b + j) + at a.terminals.now (a.b + j)) a.bound) a.n)
+    (sym
     (low_hit (λ j. ltb (at a.d.now (a.b + j) + at a.terminals.now (a.b + j)) a.bound) c.loop-j.j a.n c.loop-j.invariant.1
-    (lt-ltb (at a.d.now (a.b + c.loop-j.j) + at a.terminals.now (a.b + c.loop-j.j)) a.bound c.if-d-b.true) (omega arith))
+    (lt-ltb (at a.d.now (a.b + c.loop-j.j) + at a.terminals.now (a.b + c.loop-j.j)) a.bound c.if-d-b.true) (omega arith))) (omega arith)
 
 pub loop-j-preserved : goal.loop-j-preserved
 loop-j-preserved c =
@@ -38,4 +43,4 @@ pub returns : goal.returns
 returns c =
     let a = c.args in
     let e : c.loop-j.j ≡ a.n = omega arith in
-    sym c.loop-j.invariant.1 ∙ ap (low (λ j. ltb (at a.d.now (a.b + j) + at a.terminals.now (a.b + j)) a.bound)) e
+    none_below a.n (low (λ j. ltb (at a.d.now (a.b + j) + at a.terminals.now (a.b + j)) a.bound) a.n) (omega (arith, e, c.loop-j.invariant.1, ap (low (λ j. ltb (at a.d.now (a.b + j) + at a.terminals.now (a.b + j)) a.bound)) e))

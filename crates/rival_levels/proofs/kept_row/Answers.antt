@@ -16,7 +16,7 @@ loop-j-preserved c =
     let a = c.args in (
       omega arith,
       simp length-set c.loop-j.invariant.1,
-      made_set 0 c.loop-j.o (λ k. kept_price (at a.d.now (a.b + k))) c.loop-j.j c.lesser.result (omega arith) c.lesser.ensures
+      made_set 0 c.loop-j.o (λ k. kept_price (at a.d.now (a.b + k))) c.loop-j.j c.min.result (omega arith) c.min.ensures
           c.loop-j.invariant.2,
     )
 

@@ -15,8 +15,8 @@ loop-j-preserved c =
     let a = c.args in (
       omega arith,
       λ e h. by-eq e c.loop-j.j
-          (λ q s. subst (λ z. c.lesser-v.result ≤ at a.d.now (a.b + z) + at a.terminals.now (a.b + z)) (sym q) (omega (arith, c.lesser-v.ensures)))
-          (λ n s. omega (arith, c.lesser-v.ensures, c.loop-j.invariant.1 e (omega arith))),
+          (λ q s. subst (λ z. c.min-v.result ≤ at a.d.now (a.b + z) + at a.terminals.now (a.b + z)) (sym q) (omega (arith, c.min-v.ensures)))
+          (λ n s. omega (arith, c.min-v.ensures, c.loop-j.invariant.1 e (omega arith))),
     )
 
 pub returns : goal.returns

@@ -18,8 +18,8 @@ loop-j-preserved c =
     let f : ℕ → ℕ = (λ k. min (a.a + at a.d.now (a.b + k)) (at a.row.now k)) in (
       omega arith,
       simp length-set c.loop-j.invariant.1,
-      remade_next a.row.now f c.loop-j.j c.loop-j.row c.lesser.result c.loop-j.invariant.1 (omega arith)
-          (c.lesser.ensures
+      remade_next a.row.now f c.loop-j.j c.loop-j.row c.min.result c.loop-j.invariant.1 (omega arith)
+          (c.min.ensures
           ∙ ap (min (a.a + at a.d.now (a.b + c.loop-j.j))) (remade_here a.row.now f c.loop-j.j c.loop-j.row (omega arith) c.loop-j.invariant.2))
           c.loop-j.invariant.2,
     )

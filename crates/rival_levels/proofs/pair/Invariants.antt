@@ -1,4 +1,4 @@
-use Rattle.std.proofs.Common.{◌≡◌, ◌-◌, ◌≤◌, ltb}
+use Rattle.std.proofs.Common.{◌≡◌, ◌≤◌, ltb}
 use Rattle.rival_tables.specs.Filled.{cell}
 use Rattle.lists.specs.Search.{low}
 use Rattle.rival_levels.specs.Levels.{ends_at}
@@ -6,6 +6,3 @@ use Rattle.rival_levels.proofs.pair.Given as goal
 
 abbrev pub invariant-loop-i : goal.invariant-loop-i
 invariant-loop-i l = (l.i ≤ l.n) × (low (λ i. ltb (ends_at (cell l.d) l.terminals l.n l.bound i) l.n) l.i ≡ l.i)
-
-abbrev pub decreases-loop-i : goal.decreases-loop-i
-decreases-loop-i l = l.n - l.i

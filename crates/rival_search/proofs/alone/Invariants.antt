@@ -3,4 +3,4 @@ use Rattle.rival_search.specs.SearchView.{alone_at}
 use Rattle.rival_search.proofs.alone.Given as goal
 
 abbrev pub invariant-loop-i : goal.invariant-loop-i
-invariant-loop-i l = (l.i ≤ l.n) × (alone_at l.m l.sv l.st l.rs l.rt l.plan l.fs l.ft l.es l.i ≡ l.i)
+invariant-loop-i l = (l.i ≤ l.plan.n) × (alone_at l.g.m l.g.sv l.g.st l.g.rank_s l.g.rank_t l.plan.has.now l.room.s l.room.t l.plan.edges.now l.i ≡ l.i)

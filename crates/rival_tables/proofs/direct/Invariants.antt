@@ -1,10 +1,7 @@
-use Rattle.std.proofs.Common.{◌≡◌, not, ◌&&◌, ◌-◌, ◌≤◌}
+use Rattle.std.proofs.Common.{◌≡◌, not, ◌&&◌, ◌≤◌}
 use Rattle.arrays.specs.ArrayInstance.{at, flag}
 use Rattle.lists.specs.Search.{low}
 use Rattle.rival_tables.proofs.direct.Given as goal
 
 abbrev pub invariant-loop-f : goal.invariant-loop-f
-invariant-loop-f l = (l.f ≤ l.m) × (low (λ f. not (flag l.plan f) && (flag l.fs (at l.sv f) && flag l.ft (at l.st f))) l.f ≡ l.f)
-
-abbrev pub decreases-loop-f : goal.decreases-loop-f
-decreases-loop-f l = l.m - l.f
+invariant-loop-f l = (l.f ≤ l.g.m) × (low (λ f. not (flag l.plan f) && (flag l.room.s (at l.g.sv f) && flag l.room.t (at l.g.st f))) l.f ≡ l.f)

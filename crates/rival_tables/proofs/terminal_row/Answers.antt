@@ -12,7 +12,7 @@ pub overflow_add-b : goal.overflow_add-b
 overflow_add-b c =
     omega (
       arith,
-      c.lesser-a.ensures,
+      c.min-a.ensures,
       c.requires.2.start c.args.i
           c.loop-j.j (omega arith) (omega arith),
     )
@@ -26,8 +26,8 @@ loop-j-preserved c =
     let a = c.args in (
       omega arith,
       simp length-set c.loop-j.invariant.1,
-      made_set 0 c.loop-j.o (terminal_at a.starts.now a.stops.now a.gs.now a.gt.now a.i) c.loop-j.j c.lesser.result (omega arith)
-          (c.lesser.ensures ∙ ap (λ x. min (x + 3) (at a.gs.now a.i + at a.gt.now c.loop-j.j)) c.lesser-a.ensures)
+      made_set 0 c.loop-j.o (terminal_at a.starts.now a.stops.now a.gs.now a.gt.now a.i) c.loop-j.j c.min.result (omega arith)
+          (c.min.ensures ∙ ap (λ x. min (x + 3) (at a.gs.now a.i + at a.gt.now c.loop-j.j)) c.min-a.ensures)
           c.loop-j.invariant.2,
     )
 

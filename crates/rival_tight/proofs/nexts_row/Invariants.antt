@@ -4,6 +4,3 @@ use Rattle.rival_tight.proofs.nexts_row.Given as goal
 
 abbrev pub invariant-loop-y : goal.invariant-loop-y
 invariant-loop-y l = Behind (cell l.arcs l.i) l.o l.next l.y
-
-abbrev pub decreases-loop-y : goal.decreases-loop-y
-decreases-loop-y l = l.y

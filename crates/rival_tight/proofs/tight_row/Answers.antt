@@ -15,7 +15,7 @@ pub loop-j-init : goal.loop-j-init
 loop-j-init c = (zero-le, refl, λ e h. absurd (not-suc-le-zero h))
 
 pub overflow_sub-k : goal.overflow_sub-k
-overflow_sub-k c = omega (arith, c.lesser-back.ensures)
+overflow_sub-k c = omega (arith, c.min-back.ensures)
 
 pub loop-j-preserved : goal.loop-j-preserved
 loop-j-preserved c =
@@ -26,9 +26,9 @@ loop-j-preserved c =
       made_set 0 c.loop-j.o (tight_price a.arcs.now a.costs.now a.k a.i) j c.if-a-k.o (omega arith)
           (elim c.if-a-k.branch [
             | then-a-k w ↦ w.o-is
-                ∙ sym (tight_arc a.arcs.now a.costs.now a.k a.i j c.if-costs-i.false (omega (arith, w.if-a-k.true, c.lesser-back.ensures)))
+                ∙ sym (tight_arc a.arcs.now a.costs.now a.k a.i j c.if-costs-i.false (omega (arith, w.if-a-k.true, c.min-back.ensures)))
             | else-a-k w ↦ w.o-is
-                ∙ sym (tight_loose a.arcs.now a.costs.now a.k a.i j c.if-costs-i.false (omega (arith, w.if-a-k.false, c.lesser-back.ensures)))
+                ∙ sym (tight_loose a.arcs.now a.costs.now a.k a.i j c.if-costs-i.false (omega (arith, w.if-a-k.false, c.min-back.ensures)))
           ])
           c.loop-j.invariant.2,
     )

@@ -7,23 +7,23 @@ use Rattle.rival_verdict.proofs.judge.Goals as goal
 
 pub gathered-ps-requires : goal.gathered-ps-requires
 gathered-ps-requires c =
-    (c.requires.1, λ i h. omega (arith, listed_low c.args.m c.args.plan.now c.args.n c.args.es.now c.requires.4 i h, c.requires.0))
+    (c.requires.1, λ i h. omega (arith, listed_low c.args.g.now.m c.args.plan.now.has.now c.args.plan.now.n c.args.plan.now.edges.now c.requires.4 i h, c.requires.0))
 
 pub gathered-pt-requires : goal.gathered-pt-requires
 gathered-pt-requires c = (
   c.requires.1,
   λ i h. omega (
     arith,
-    listed_low c.args.m c.args.plan.now c.args.n c.args.es.now c.requires.4 i h,
+    listed_low c.args.g.now.m c.args.plan.now.has.now c.args.plan.now.n c.args.plan.now.edges.now c.requires.4 i h,
     c.requires.0,
   ),
 )
 
-pub rooms-fs-requires : goal.rooms-fs-requires
-rooms-fs-requires c = c.requires.1
+pub rooms-requires : goal.rooms-requires
+rooms-requires c = c.requires.1
 
-pub rooms-ft-requires : goal.rooms-ft-requires
-rooms-ft-requires c = c.requires.1
+pub rooms-requires-2 : goal.rooms-requires-2
+rooms-requires-2 c = c.requires.1
 
 pub judged_on-requires : goal.judged_on-requires
 judged_on-requires c =
@@ -36,14 +36,14 @@ judged_on-requires c =
       c.requires.3,
       c.requires.4,
       (
-        (λ i. shows_at 0 ps.result (λ i. at a.sv.now (at a.es.now i)) a.n i ps.ensures),
-        (λ i. shows_at 0 pt.result (λ i. at a.st.now (at a.es.now i)) a.n i pt.ensures),
+        (λ i. shows_at 0 ps.result (λ i. at a.g.now.sv (at a.plan.now.edges.now i)) a.plan.now.n i ps.ensures),
+        (λ i. shows_at 0 pt.result (λ i. at a.g.now.st (at a.plan.now.edges.now i)) a.plan.now.n i pt.ensures),
       ),
-      view_low a.m a.plan.now a.n a.es.now a.sv.now ps.result 64 c.requires.4 c.requires.2 ps.ensures,
-      view_low a.m a.plan.now a.n a.es.now a.st.now pt.result 64 c.requires.4 c.requires.3 pt.ensures,
+      view_low a.g.now.m a.plan.now.has.now a.plan.now.n a.plan.now.edges.now a.g.now.sv ps.result 64 c.requires.4 c.requires.2 ps.ensures,
+      view_low a.g.now.m a.plan.now.has.now a.plan.now.n a.plan.now.edges.now a.g.now.st pt.result 64 c.requires.4 c.requires.3 pt.ensures,
     )
 
 pub returns : goal.returns
 returns c =
     let a = c.args in
-    c.judged_on.ensures a.bs.now a.bt.now c.rooms-fs.ensures c.rooms-ft.ensures
+    c.judged_on.ensures a.g.now.quota_s a.g.now.quota_t c.rooms.ensures c.rooms-2.ensures

@@ -18,47 +18,47 @@ others m sv st rs rt plan x z v o d l n h =
 pub overflow_cast-t : goal.overflow_cast-t
 overflow_cast-t c = omega (arith, c.requires.3 c.args.x c.requires.1)
 
-pub offset_bounds-ht-t : goal.offset_bounds-ht-t
-offset_bounds-ht-t c = omega (arith, c.requires.3 c.args.x c.requires.1)
+pub offset_bounds-links_t-t : goal.offset_bounds-links_t-t
+offset_bounds-links_t-t c = omega (arith, c.requires.3 c.args.x c.requires.1)
 
-pub bounds-ht-t : goal.bounds-ht-t
-bounds-ht-t c = omega (arith, c.requires.3 c.args.x c.requires.1)
+pub bounds-links_t-t : goal.bounds-links_t-t
+bounds-links_t-t c = omega (arith, c.requires.3 c.args.x c.requires.1)
 
 pub loop-f-init : goal.loop-f-init
 loop-f-init c =
     let a = c.args in (
       omega arith,
-      visit_first c.requires.4 (at a.st.now a.x) (Held a.m a.sv.now a.st.now a.rs.now a.rt.now a.plan.now a.x a.z 133 0)
-          (others a.m a.sv.now a.st.now a.rs.now a.rt.now a.plan.now a.x a.z 133 0)
-          (c.requires.3 a.x c.requires.1) (edge_start a.m a.sv.now a.st.now a.rs.now a.rt.now a.plan.now a.x a.z),
+      visit_first c.requires.4 (at a.g.now.st a.x) (Held a.g.now.m a.g.now.sv a.g.now.st a.g.now.rank_s a.g.now.rank_t a.plan.now a.x a.z 133 0)
+          (others a.g.now.m a.g.now.sv a.g.now.st a.g.now.rank_s a.g.now.rank_t a.plan.now a.x a.z 133 0)
+          (c.requires.3 a.x c.requires.1) (edge_start a.g.now.m a.g.now.sv a.g.now.st a.g.now.rank_s a.g.now.rank_t a.plan.now a.x a.z),
     )
 
 pub loop-f-preserved : goal.loop-f-preserved
 loop-f-preserved c =
     let a = c.args in
     let f = c.loop-f.f in
-    let k : f < a.m = c.loop-f-test.true in
+    let k : f < a.g.now.m = c.loop-f-test.true in
     let here = c.loop-f.invariant.1.here k in
     let p = c.rated-p.result + c.rated-q.result in
-    let e : p ≡ edge_price a.m a.sv.now a.st.now a.rs.now a.rt.now a.plan.now a.x a.z f = ap₂ (λ u w. u + w)
+    let e : p ≡ edge_price a.g.now.m a.g.now.sv a.g.now.st a.g.now.rank_s a.g.now.rank_t a.plan.now a.x a.z f = ap₂ (λ u w. u + w)
     c.rated-p.ensures.0 c.rated-q.ensures.0 in
     let v : ℕ = c.if-plan-f.v in
     let o : ℕ = c.if-plan-f.o in
-    let is = ap (λ b. b && ltb p c.loop-f.v) (joins_here a.m a.sv.now a.st.now a.rs.now a.rt.now a.plan.now a.x a.z f here) in (
+    let is = ap (λ b. b && ltb p c.loop-f.v) (joins_here a.g.now.m a.g.now.sv a.g.now.st a.g.now.rank_s a.g.now.rank_t a.plan.now a.x a.z f here) in (
       elim c.if-plan-f.branch [
         | then-plan-f w ↦ omega (arith, w.o-is, k, c.requires.0)
         | else-plan-f w ↦ omega (arith, w.o-is, c.loop-f.invariant.0)
       ],
-      visit_next c.requires.4 (at a.st.now a.x)
-          (Held a.m a.sv.now a.st.now a.rs.now a.rt.now a.plan.now a.x a.z v o)
-          (others a.m a.sv.now a.st.now a.rs.now a.rt.now a.plan.now a.x a.z v o) f k here
+      visit_next c.requires.4 (at a.g.now.st a.x)
+          (Held a.g.now.m a.g.now.sv a.g.now.st a.g.now.rank_s a.g.now.rank_t a.plan.now a.x a.z v o)
+          (others a.g.now.m a.g.now.sv a.g.now.st a.g.now.rank_s a.g.now.rank_t a.plan.now a.x a.z v o) f k here
           (elim c.if-plan-f.branch [
-            | then-plan-f w ↦ ap₂ (λ v o. (edge_rest a.m a.sv.now a.st.now a.rs.now a.rt.now a.plan.now a.x a.z (v, o) (f + 1)).1) w.v-is w.o-is
-                ∙ ap (λ r. r.1) (sym (edge_turn a.m a.sv.now a.st.now a.rs.now a.rt.now a.plan.now a.x a.z true c.loop-f.v
+            | then-plan-f w ↦ ap₂ (λ v o. (edge_rest a.g.now.m a.g.now.sv a.g.now.st a.g.now.rank_s a.g.now.rank_t a.plan.now a.x a.z (v, o) (f + 1)).1) w.v-is w.o-is
+                ∙ ap (λ r. r.1) (sym (edge_turn a.g.now.m a.g.now.sv a.g.now.st a.g.now.rank_s a.g.now.rank_t a.plan.now a.x a.z true c.loop-f.v
                 c.loop-f.o f p k e (is ∙ w.if-plan-f.true)))
                 ∙ c.loop-f.invariant.1.holds
-            | else-plan-f w ↦ ap₂ (λ v o. (edge_rest a.m a.sv.now a.st.now a.rs.now a.rt.now a.plan.now a.x a.z (v, o) (f + 1)).1) w.v-is w.o-is
-                ∙ ap (λ r. r.1) (sym (edge_turn a.m a.sv.now a.st.now a.rs.now a.rt.now a.plan.now a.x a.z false c.loop-f.v
+            | else-plan-f w ↦ ap₂ (λ v o. (edge_rest a.g.now.m a.g.now.sv a.g.now.st a.g.now.rank_s a.g.now.rank_t a.plan.now a.x a.z (v, o) (f + 1)).1) w.v-is w.o-is
+                ∙ ap (λ r. r.1) (sym (edge_turn a.g.now.m a.g.now.sv a.g.now.st a.g.now.rank_s a.g.now.rank_t a.plan.now a.x a.z false c.loop-f.v
                 c.loop-f.o f p k e (is ∙ w.if-plan-f.false)))
                 ∙ c.loop-f.invariant.1.holds
           ]),
@@ -67,14 +67,14 @@ loop-f-preserved c =
 pub returns : goal.returns
 returns c =
     let a = c.args in (
-      ap (λ r. r.1) (sym (edge_end a.m a.sv.now a.st.now a.rs.now a.rt.now a.plan.now a.x a.z (c.loop-f.v, c.loop-f.o)
+      ap (λ r. r.1) (sym (edge_end a.g.now.m a.g.now.sv a.g.now.st a.g.now.rank_s a.g.now.rank_t a.plan.now a.x a.z (c.loop-f.v, c.loop-f.o)
           c.loop-f.f (omega arith))) ∙ c.loop-f.invariant.1.holds,
       c.loop-f.invariant.0,
     )
 
 pub overflow_cast-f : goal.overflow_cast-f
 overflow_cast-f c =
-    omega (arith, c.requires.0, head_inside c.requires.4 (at c.args.st.now c.args.x) (c.requires.3 c.args.x c.requires.1))
+    omega (arith, c.requires.0, head_inside c.requires.4 (at c.args.g.now.st c.args.x) (c.requires.3 c.args.x c.requires.1))
 
 pub overflow_cast-f-in-loop-f : goal.overflow_cast-f-in-loop-f
 overflow_cast-f-in-loop-f c =

@@ -9,7 +9,7 @@ Held m sv st rs rt plan x z v o f = (edge_rest m sv st rs rt plan x z (v, o) f).
 
 abbrev pub invariant-loop-f : goal.invariant-loop-f
 invariant-loop-f l =
-    (l.o < 1024) × Visit l.m l.st (at l.st l.x) (Held l.m l.sv l.st l.rs l.rt l.plan l.x l.z l.v l.o) l.f
+    (l.o < 1024) × Visit l.g.m l.g.st (at l.g.st l.x) (Held l.g.m l.g.sv l.g.st l.g.rank_s l.g.rank_t l.plan l.x l.z l.v l.o) l.f
 
 abbrev pub decreases-loop-f : goal.decreases-loop-f
-decreases-loop-f l = l.m - l.f
+decreases-loop-f l = l.g.m - l.f

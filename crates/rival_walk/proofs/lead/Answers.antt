@@ -1,6 +1,7 @@
 -- The best by the places from y on and of what is held is the best of all.
-use Rattle.std.proofs.Common.{◌≡◌, sym, ap₂, ◌∙◌, ◌+◌, zero-le, arith}
+use Rattle.std.proofs.Common.{◌≡◌, ℕ, refl, sym, ap, ◌∙◌, ◌+◌, zero-le, arith}
 use Rattle.rival_tables.specs.Filled.{cell}
+use Rattle.rival_tables.specs.Within.{if_below, some_below, none_below}
 use Rattle.rival_walk.specs.Leads.{lead_at, lead_rest, lead_start, lead_end, lead_lower, lead_same}
 use Rattle.rival_walk.proofs.lead.Goals.{else-s-v, then-s-v}
 use Rattle.rival_walk.proofs.lead.Goals as goal
@@ -8,7 +9,7 @@ use Rattle.rival_walk.proofs.lead.Goals as goal
 pub loop-y-init : goal.loop-y-init
 loop-y-init c =
     let a = c.args in
-    (zero-le, omega (arith, c.lesser-v.ensures), lead_start a.arcs.now a.n (cell a.table.now a.k) a.i c.lesser-v.ensures)
+    (zero-le, omega (arith, c.min-v.ensures), (a.n, none_below a.n a.n (omega arith), lead_start a.arcs.now a.n (cell a.table.now a.k) a.i c.min-v.ensures))
 
 pub overflow_cast-s : goal.overflow_cast-s
 overflow_cast-s c =
@@ -31,28 +32,37 @@ loop-y-preserved c =
     let a = c.args in
     let y = c.loop-y.y in
     let v = c.loop-y.v in
-    let p = c.loop-y.p in
-    let e : lead_rest a.arcs.now a.n (cell a.table.now a.k) a.i (v, p) y ≡ lead_at a.arcs.now a.n (cell a.table.now a.k) a.i =
-    c.loop-y.invariant.2 in
+    let (p, same, e) = c.loop-y.invariant.2 in
     elim c.if-s-v.branch [
       | then-s-v w ↦ (
         omega arith,
         omega (arith, w.if-s-v.true, w.v-is),
-        ap₂ (λ v p. lead_rest a.arcs.now a.n (cell a.table.now a.k) a.i (v, p) (y + 1)) w.v-is w.p-is
-            ∙ sym (lead_lower a.arcs.now a.n (cell a.table.now a.k) a.i v p y (omega arith) w.if-s-v.true) ∙ e,
+        (
+          y,
+          w.place-is ∙ some_below a.n y y refl (omega arith),
+          ap (λ v. lead_rest a.arcs.now a.n (cell a.table.now a.k) a.i (v, y) (y + 1)) w.v-is
+              ∙ sym (lead_lower a.arcs.now a.n (cell a.table.now a.k) a.i v p y (omega arith) w.if-s-v.true) ∙ e,
+        ),
       )
       | else-s-v w ↦ (
         omega arith,
         omega (arith, w.v-is),
-        ap₂ (λ v p. lead_rest a.arcs.now a.n (cell a.table.now a.k) a.i (v, p) (y + 1)) w.v-is w.p-is
-            ∙ sym (lead_same a.arcs.now a.n (cell a.table.now a.k) a.i v p y (omega arith) w.if-s-v.false) ∙ e,
+        (
+          p,
+          w.place-is ∙ same,
+          ap (λ v. lead_rest a.arcs.now a.n (cell a.table.now a.k) a.i (v, p) (y + 1)) w.v-is
+              ∙ sym (lead_same a.arcs.now a.n (cell a.table.now a.k) a.i v p y (omega arith) w.if-s-v.false) ∙ e,
+        ),
       )
     ]
 
 pub returns : goal.returns
 returns c =
     let a = c.args in
-    sym (lead_end a.arcs.now a.n (cell a.table.now a.k) a.i (c.loop-y.v, c.loop-y.p) c.loop-y.y (omega arith)) ∙ c.loop-y.invariant.2
+    let (p, same, e) = c.loop-y.invariant.2 in
+    let q : ◌≡◌ {A = ℕ × ℕ} (c.loop-y.v, p) (lead_at a.arcs.now a.n (cell a.table.now a.k) a.i) =
+    sym (lead_end a.arcs.now a.n (cell a.table.now a.k) a.i (c.loop-y.v, p) c.loop-y.y (omega arith)) ∙ e in
+    (ap (λ (r : ℕ × ℕ). r.0) q, same ∙ ap (λ (r : ℕ × ℕ). if_below a.n r.1) q)
 
 pub overflow_add-table : goal.overflow_add-table
 overflow_add-table c = omega (arith, c.requires.4 c.args.i c.requires.1)

@@ -5,7 +5,4 @@ use Rattle.rival_walk.proofs.walk.Given as goal
 
 abbrev pub invariant-loop-k : goal.invariant-loop-k
 invariant-loop-k l =
-    (l.k ≤ l.l) × (l.c < l.n) × (length l.gone ≡ 1024) × (length l.come ≡ 1024) × Read (arc_edge l.m l.sv l.st l.rs l.rt l.plan) l.es l.arcs l.n l.j l.l l.i l.initial.gone l.initial.come l.gone l.come l.k l.c
-
-abbrev pub decreases-loop-k : goal.decreases-loop-k
-decreases-loop-k l = l.k
+    (l.k ≤ l.l) × (l.c < l.plan.n) × (length l.gone ≡ 1024) × (length l.come ≡ 1024) × Read (arc_edge l.g.m l.g.sv l.g.st l.g.rank_s l.g.rank_t l.plan.has.now) l.plan.edges.now l.arcs l.plan.n l.j l.l l.i l.initial.gone l.initial.come l.gone l.come l.k l.c
