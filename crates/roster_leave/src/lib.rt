@@ -89,6 +89,7 @@ pub fn lists_left(file: &[u8], start: usize, mine: usize, next: usize, end: usiz
 }
 
 // n stands' lists from a place of the file on
+// (the walk of roster_with::rankings_with; one of both would take a closure, and ask in a `requires` for all that `append_ranking` promises here)
 pub(crate) fn rankings_left(file: &[u8], start: usize, n: usize, number: u8) -> RosterBytes
     requires { (start ≤ 20000) × (n ≤ node_limit) }
     ensures { Holds (rankings_left file.now start n number) result }

@@ -110,6 +110,7 @@ impl RosterBytes {
     }
 
     // so many stands' lists from a place of the file on, the strict length and the tie length before each
+    // (beside append_lists: two lengths are read, added and written where a surveyor's list has one, so one function would be both, behind a flag)
     pub fn append_rankings(&mut self, file: &[u8], start: usize, count: usize, table: &[u8])
         requires { (start ≤ 40000) × (count ≤ node_limit) }
         ensures { Grown (rankings_under table.now file.now count start) self.old self.new }

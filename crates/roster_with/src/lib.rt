@@ -117,6 +117,7 @@ pub fn lists_with(file: &[u8], start: usize, end: usize, list: &[u8]) -> RosterB
 }
 
 // n stands' lists from a place of the file on; the joiner enters those that the row has marks for
+// (the walk of roster_leave::rankings_left; one of both would take a closure, and ask in a `requires` for all that `append_ranking` promises here)
 pub fn rankings_with(
     file: &[u8],
     start: usize,
