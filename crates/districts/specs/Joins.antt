@@ -2,7 +2,7 @@
 -- by side, whose strongly popular plans, pairs and finder's answers are those of both.
 use Rattle.std.specs.Prelude.{Result, ⊤}
 use Rattle.std.specs.declared.result.Result.TheVariants.{Ok, Err}
-use Rattle.std.specs.Prelude.{ℕ, ◌*◌, ◌≤◌, ◌≡◌, ◌&&◌, List, ◌++◌, length, take, drop, T}
+use Rattle.std.specs.Prelude.{ℕ, ◌*◌, ◌≡◌, ◌&&◌, List, ◌++◌, length, take, drop, T}
 use Rattle.std.proofs.Common.{sym, ◌∙◌}
 use Rattle.std.proofs.Math.Path.{ap, subst}
 use Rattle.lists.specs.Test.{given}
@@ -28,6 +28,7 @@ use Rattle.answers.specs.FileCases.{file_read}
 use Rattle.answers.specs.WrittenCases.{written_shown}
 use Rattle.answers.specs.Settling.{Settles, settles_refused, settles_file, settles_wrote, Answers, wrote_of}
 use Rattle.roster_parts.specs.declared.RosterBytes.{RosterBytes}
+use Rattle.roster_parts.specs.Growth.{written}
 use Rattle.roster_parts.specs.Gives.{Gives, gives_turned, gives_made}
 use Rattle.roster_districts.specs.Joining.{sums_to}
 
@@ -116,10 +117,7 @@ module _ (f g : List ℕ) where
     pub sums_turned : (n : Refusal) → c ≡ Err n → Settles (joined_file f g) o (Err n) o
     sums_turned n e = settles_refused (joined_file f g) o n (both_accepted r a q b ∙ ap file_of (gives_turned (sums_to r q) k e))
 
-    pub few_bytes : {d : RosterBytes} → c ≡ Ok d → d.len ≤ roster_size
-    few_bytes e = let (J, d, few, front) = gives_made (sums_to r q) k e in few
-
-    pub both_copied : {d : RosterBytes} → c ≡ Ok d → (part : List ℕ) (n : ℕ) (o' : List ℕ) → part ≡ take d.len d.roster → n ≡ length part
+    pub both_copied : {d : RosterBytes} → c ≡ Ok d → (part : List ℕ) (n : ℕ) (o' : List ℕ) → part ≡ written d → n ≡ length part
         → o' ≡ take (length part) part ++ drop (length part) o → Settles (joined_file f g) o (Ok n) o'
     both_copied e part n o' p l w =
         let (J, d, few, front) = gives_made (sums_to r q) k e in

@@ -18,7 +18,5 @@ pub fn join(first: &[u8], second: &[u8], out: &mut [u8]) -> Result<usize, Refusa
     roster::read_roster(first)?;
     roster::read_roster(second)?;
     let made = roster_districts::join(first, second)?;
-    let n = made.len;
-    let bytes = made.roster;
-    Ok(byte_slices::copy(&bytes[..n], out))
+    Ok(byte_slices::copy(made.bytes(), out))
 }

@@ -1,4 +1,6 @@
 -- What the call on a training block's roster promises (W-212): the model's answer and bytes, and what holds of the plan that is written.
+use Rattle.std.specs.Prelude.{Result, ⊤}
+use Rattle.std.specs.declared.result.Result.TheVariants.{Ok, Err}
 use Rattle.std.specs.Prelude.{ℕ, ◌≤◌, ◌<◌, ◌≡◌, true, false, List, length, T}
 use Rattle.std.proofs.Common.{arith, ◌∙◌, subst, lt-ltb, le-ltb}
 use Rattle.std.proofs.Math.Path.{sym, ap}
@@ -6,7 +8,6 @@ use Rattle.std.proofs.Math.Logic.{⊎_elim}
 use Rattle.std.proofs.Math.Bool.{cond}
 use Rattle.lists.specs.Test.{true_t}
 use Rattle.model.specs.Limits.{plan_size}
-use Rattle.model.specs.Refusal.{group_of}
 use Rattle.model.specs.Reading as reading
 use Rattle.model.specs.Reading.{accepted, is_bytes}
 use Rattle.model.specs.Roster.{Roster, fits}
@@ -26,13 +27,11 @@ use Rattle.theory_offers.specs.ProfileInstance.{unitary, profile_instance}
 use Rattle.theory_offers.proofs.ProfileInstance.{profile_is}
 use Rattle.theory_offers.specs.Profiled.{Offered}
 use Rattle.theory_offers.proofs.Profiled.{profile_offered}
-use Rattle.answers.specs.declared.Group.{Group}
-use Rattle.answers.specs.declared.FileAnswer.{FileAnswer}
-use Rattle.answers.specs.declared.FileAnswer.TheVariants as file
 use Rattle.answers.specs.declared.Offers.{Offers}
-use Rattle.answers.specs.declared.Offers.TheVariants as reply
-use Rattle.answers.specs.GroupCases.{group_shown, shown_case}
-use Rattle.answers.specs.FileCases.{file_case, case_refused}
+use Rattle.answers.specs.declared.Refusal.{Refusal}
+use Rattle.answers.specs.declared.Refusal.TheVariants.{BufferTooSmall, NotOneToOne}
+use Rattle.answers.specs.RefusalCases.{reading_of}
+use Rattle.answers.specs.FileCases.{file_read, read_refused}
 use Rattle.answers.specs.OffersCases.{offers_shown}
 use Rattle.instance.specs.declared.Instance.{Instance}
 use Rattle.instance.specs.Decoded.{shown_by, Decoded}
@@ -42,7 +41,7 @@ use Rattle.offers.specs.Running.{Ready}
 use Rattle.profile.specs.Weighed.{Gives}
 
 -- the promise
-pub record Profiles (f o : List ℕ) (r : Offers) (o' : List ℕ) : Type 0 where
+pub record Profiles (f o : List ℕ) (r : Result Offers Refusal) (o' : List ℕ) : Type 0 where
   -- 15, or the roster's refusal, or 22, each with its group; or whether the plan of the offers is strong, and the number of its bytes
   pub answer : offers_shown r ≡ profile_answer f o
   -- they are in front of the buffer, which keeps the rest; a refusal changes no byte
@@ -51,7 +50,7 @@ pub record Profiles (f o : List ℕ) (r : Offers) (o' : List ℕ) : Type 0 where
   pub offered : (R : Roster) → read_profile f ≡ accepted R → (rival : Plan → Plan) → Offered (instance_of R) rival
 
 -- of an accepted roster
-pub record Settles (f o : List ℕ) (r : Offers) (o' : List ℕ) : Type 0 where
+pub record Settles (f o : List ℕ) (r : Result Offers Refusal) (o' : List ℕ) : Type 0 where
   pub answer : offers_shown r ≡ answer_for (read_profile f)
   pub lent : o' ≡ written_for (read_profile f) o
 
@@ -84,13 +83,13 @@ module _ (f : List ℕ) (is_b : T (is_bytes f)) (R : Roster) (e : read_roster f 
     sorted = subst BySurveyor (sym (D.shows R e)) by_surveyor;
   }
 
-  pub settles_not : (o : List ℕ) (k : Group) → unitary (shown_by g) ≡ false → group_shown k ≡ group_of 22 → Settles f o (reply.Refused 22 k) o
-  settles_not o k t q = record {
-    answer = ap (model.refused 22) q ∙ sym (ap answer_for (fails t));
+  pub settles_not : (o : List ℕ) → unitary (shown_by g) ≡ false → Settles f o (Err NotOneToOne) o
+  settles_not o t = record {
+    answer = sym (ap answer_for (fails t));
     lent = sym (ap (λ x. written_for x o) (fails t));
   }
 
-  pub settles_offers : (o : List ℕ) {r : Offers} {o' : List ℕ} → unitary (shown_by g) ≡ true → Gives g o r o' → Settles f o r o'
+  pub settles_offers : (o : List ℕ) {r : Offers} {o' : List ℕ} → unitary (shown_by g) ≡ true → Gives g o r o' → Settles f o (Ok r) o'
   settles_offers o {r} {o'} t G = record {
     answer = G.answer ∙ ap model.offers_answer (D.shows R e) ∙ sym (ap answer_for (passes t));
     lent = G.lent ∙ ap (λ H. written_of H o) (D.shows R e) ∙ sym (ap (λ x. written_for x o) (passes t));
@@ -105,15 +104,15 @@ module _ (f o : List ℕ) (is_b : T (is_bytes f)) where
   offered_part R e rival = profile_offered f is_b R e rival
 
   -- 15 before all
-  pub profiles_short : (k : Group) → length o < plan_size → group_shown k ≡ group_of 15 → Profiles f o (reply.Refused 15 k) o
+  pub profiles_short : length o < plan_size → Profiles f o (Err BufferTooSmall) o
   unfolding profile_answer profile_lent
-  profiles_short k h q = record {
-    answer = ap (model.refused 15) q ∙ sym (ap (λ b. cond b (refusal 15) (answer_for (read_profile f))) (lt-ltb (length o) plan_size h));
+  profiles_short h = record {
+    answer = sym (ap (λ b. cond b (refusal 15) (answer_for (read_profile f))) (lt-ltb (length o) plan_size h));
     lent = sym (ap (λ b. cond b o (written_for (read_profile f) o)) (lt-ltb (length o) plan_size h));
     offered = offered_part;
   }
 
-  pub profiles_settled : {r : Offers} {o' : List ℕ} → plan_size ≤ length o → Settles f o r o' → Profiles f o r o'
+  pub profiles_settled : {r : Result Offers Refusal} {o' : List ℕ} → plan_size ≤ length o → Settles f o r o' → Profiles f o r o'
   unfolding profile_answer profile_lent
   profiles_settled h s = record {
     answer = s.answer ∙ sym (ap (λ b. cond b (refusal 15) (answer_for (read_profile f))) (le-ltb (length o) plan_size h));
@@ -122,17 +121,9 @@ module _ (f o : List ℕ) (is_b : T (is_bytes f)) where
   }
 
   -- the roster's refusal
-  pub profiles_refused : (n : ℕ) (k : Group) → plan_size ≤ length o → file.Refused n k ≡ file_case (read_roster f) → Profiles f o (reply.Refused n k) o
+  pub profiles_refused : (n : Refusal) {s : Result ⊤ Refusal} → plan_size ≤ length o → s ≡ Err n → reading_of s ≡ file_read (read_roster f)
+      → Profiles f o (Err n) o
   unfolding read_profile
-  profiles_refused n k h q =
-      let e = case_refused (read_roster f) q in
-      let t = ap of_profile e in
-      profiles_settled h (record {
-        answer = ap (λ z. model.refused n (group_shown z)) (ap grouped (q ∙ ap file_case e))
-            ∙ ap (model.refused n) (shown_case (group_of n)) ∙ sym (ap answer_for t);
-        lent = sym (ap (λ x. written_for x o) t);
-      })
-    where
-      grouped : FileAnswer → Group
-      grouped file.Accepted = k
-      grouped (file.Refused n k) = k
+  profiles_refused n h q e =
+      let t = ap of_profile (read_refused (read_roster f) q e) in
+      profiles_settled h (record { answer = sym (ap answer_for t); lent = sym (ap (λ x. written_for x o) t) })

@@ -1,4 +1,5 @@
 -- What is promised of the plan of the offers: the model's answer for the instance, and its bytes in front of the buffer.
+use Rattle.std.specs.declared.result.Result.TheVariants.{Ok}
 use Rattle.std.specs.Prelude.{ℕ, ◌+◌, ◌*◌, ◌≤◌, ◌≡◌, Bool, List, length}
 use Rattle.std.proofs.Common.{arith, ap, ap₂, length-take}
 use Rattle.model.specs.Limits.{pair_width, plan_limit}
@@ -12,7 +13,6 @@ use Rattle.theory_files.specs.Chosen.{edges_in_cong}
 use Rattle.theory_offers.proofs.OffersPlan.{offers_plan_law}
 use Rattle.arrays.specs.ArrayInstance.{flag}
 use Rattle.answers.specs.declared.Offers.{Offers}
-use Rattle.answers.specs.declared.Offers.TheVariants as reply
 use Rattle.answers.specs.OffersCases.{offers_shown}
 use Rattle.instance.specs.declared.Instance.{Instance}
 use Rattle.instance.specs.Decoded.{shown_by}
@@ -23,7 +23,7 @@ use Rattle.finder_candidate.specs.Judging.{few_edges, plan_onto}
 use Rattle.offers.specs.Running.{Ready, Offered}
 
 pub record Gives (g : Instance) (o : List ℕ) (r : Offers) (o' : List ℕ) : Type 0 where
-  pub answer : offers_shown r ≡ offers_answer (shown_by g)
+  pub answer : offers_shown (Ok r) ≡ offers_answer (shown_by g)
   pub lent : o' ≡ onto (plan_bytes (shown_by g) (offers_plan (shown_by g))) o
 
 -- the flags are a plan within the quotas
@@ -37,7 +37,7 @@ offers_few g R plan h = few_edges g R.loaded plan (offers_plan (shown_by g), off
 -- what is written and what is told of it are the model's
 pub gives : (g : Instance) (R : Ready g) (plan : List Bool) (h : Offered g plan) (n : ℕ) (es o o' : List ℕ) (strong : Bool) → Listed g.m plan n es
     → WrittenFor g.m g.sv g.st g.sh plan o o'
-    → ((M : Plan) → Shows (shown_by g) plan M → strong ≡ is_strong (verdict_of (shown_by g) M)) → Gives g o (reply.Plan strong (pair_width * n + 1)) o'
+    → ((M : Plan) → Shows (shown_by g) plan M → strong ≡ is_strong (verdict_of (shown_by g) M)) → Gives g o (record { strong = strong; length = pair_width * n + 1 }) o'
 unfolding plan_bytes_by
 gives g R plan h n es o o' strong L W S =
     let G = shown_by g in

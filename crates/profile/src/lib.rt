@@ -12,7 +12,7 @@ ghost use Rattle.offers.specs.Running.{Ready};
 ghost use Rattle.profile.specs.Weighed.{Gives};
 ghost use Rattle.profile.specs.Profiles.{Settles, Profiles};
 
-use answers::{FileAnswer, Offers};
+use answers::{Offers, Refusal};
 use instance::Instance;
 use limits::{ENTRY_LIMIT, PAIR_WIDTH, PLAN_SIZE};
 
@@ -70,32 +70,31 @@ pub(crate) fn offered(g: Instance, out: &mut [u8]) -> Offers
     let es = l.edges;
     plan_writer::write_plan(l.n, &es, &sv, &st, &sh, out);
     let strong = verdict::is_strong(g, &plan, l.n, &es);
-    Offers::Plan(strong, PAIR_WIDTH * l.n + 1)
+    Offers {
+        strong: strong,
+        length: PAIR_WIDTH * l.n + 1,
+    }
 }
 
 // An accepted roster: 22, or the plan of the offers.
-pub(crate) fn settled(file: &[u8], out: &mut [u8]) -> Offers
+pub(crate) fn settled(file: &[u8], out: &mut [u8]) -> Result<Offers, Refusal>
     requires { RosterAccepted file.now × (plan_size ≤ length out.old) }
     ensures { Settles file.now out.old result out.new }
 {
     let g = instance::instance_of(file);
-    let one = one_to_one(g);
-    if !one {
-        return Offers::Refused(22, answers::group_of(22));
+    if !one_to_one(g) {
+        return Err(Refusal::NotOneToOne);
     }
-    offered(g, out)
+    Ok(offered(g, out))
 }
 
 // 15 first, then the roster's refusals, then 22.
-pub fn profile(file: &[u8], out: &mut [u8]) -> Offers
+pub fn profile(file: &[u8], out: &mut [u8]) -> Result<Offers, Refusal>
     ensures { Profiles file.now out.old result out.new }
 {
     if out.len() < PLAN_SIZE {
-        return Offers::Refused(15, answers::group_of(15));
+        return Err(Refusal::BufferTooSmall);
     }
-    let a = roster::read_roster(file);
-    match a {
-        FileAnswer::Refused(number, group) => Offers::Refused(number, group),
-        FileAnswer::Accepted => settled(file, out),
-    }
+    roster::read_roster(file)?;
+    settled(file, out)
 }

@@ -6,7 +6,6 @@ use Rattle.lists.specs.Ranges.{map_at, range_at_law}
 use Rattle.model.specs.Limits.{roster_size}
 use Rattle.arrays.specs.Filled.{Made}
 use Rattle.roster_positions.specs.Tables.{lists_end}
-use Rattle.roster_parts.specs.Growth.{Grown}
 use Rattle.roster_parts.specs.Gives.{roster_of}
 use Rattle.roster_parts.specs.Mapped.{lists_under, rankings_under}
 
@@ -39,13 +38,6 @@ lists_beside f start end g place ms t = take (end - start) (drop start f) ++ lis
 
 abbrev pub rankings_beside : List ℕ → (start : ℕ) → List ℕ → (place mt : ℕ) → (table : List ℕ) → List ℕ
 rankings_beside f start g place mt t = take roster_size (drop start f) ++ rankings_under t g mt place
-
--- put in front of an array
-abbrev pub ListsPut : List ℕ → (start end : ℕ) → List ℕ → (place ms : ℕ) → (table : List ℕ) → List ℕ → ℕ → List ℕ → Type 0
-ListsPut f start end g place ms t o r o' = Grown (lists_beside f start end g place ms t) 0 o r o'
-
-abbrev pub RankingsPut : List ℕ → (start : ℕ) → List ℕ → (place mt : ℕ) → (table : List ℕ) → List ℕ → ℕ → List ℕ → Type 0
-RankingsPut f start g place mt t o r o' = Grown (rankings_beside f start g place mt t) 0 o r o'
 
 -- the place behind the surveyors' lists
 abbrev pub end_at : List ℕ → (ns nt : ℕ) → ℕ

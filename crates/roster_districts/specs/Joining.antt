@@ -29,7 +29,8 @@ use Rattle.answers.specs.declared.Refusal.{Refusal}
 use Rattle.answers.specs.declared.Refusal.TheVariants.{TooMany, QuotaTooHigh}
 use Rattle.roster_parts.specs.declared.RosterBytes.{RosterBytes}
 use Rattle.roster_parts.specs.Places.{quotas_part, surveyors_are, stands_are, lists_behind, lists_part}
-use Rattle.roster_parts.specs.Gives.{Gives, gives_refused, Holds, gives_held}
+use Rattle.roster_parts.specs.Growth.{Holds}
+use Rattle.roster_parts.specs.Gives.{Gives, gives_refused, gives_held}
 use Rattle.roster_parts.specs.Mapped.{under, all_under, ranking_under, lists_under, rankings_under, lists_under_law, rankings_under_law}
 use Rattle.roster_districts.specs.Beside.{up_table, up_at, quotas_from, nodes_beside, lists_beside, rankings_beside, end_at, beside_bytes}
 

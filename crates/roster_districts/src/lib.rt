@@ -4,9 +4,8 @@
 
 ghost use Rattle.std.specs.Prelude.{◌≡◌, ◌+◌, ◌≤◌};
 ghost use Rattle.model.specs.Limits.{node_limit};
-ghost use Rattle.roster_parts.specs.Growth.{Room, Grown};
-ghost use Rattle.roster_parts.specs.Gives.{Holds};
-ghost use Rattle.roster_districts.specs.Beside.{up_table, quotas_from, nodes_beside, ListsPut, RankingsPut, beside_bytes};
+ghost use Rattle.roster_parts.specs.Growth.{Holds};
+ghost use Rattle.roster_districts.specs.Beside.{up_table, quotas_from, nodes_beside, lists_beside, rankings_beside, beside_bytes};
 ghost use Rattle.roster_districts.specs.Joining.{Accepted, JoinedBy};
 
 use answers::Refusal;
@@ -23,32 +22,32 @@ pub(crate) fn moved_up(n: u8) -> [u8; NUMBERS]
 
 // both sides' counts and quotas: ns surveyors and nt stands of the first file, ms and mt of the second
 pub(crate) fn nodes_beside(
-    out: &mut [u8; ROSTER_SIZE],
     first: &[u8],
     ns: usize,
     nt: usize,
     second: &[u8],
     ms: usize,
     mt: usize,
-) -> usize
-    requires { Room 0 out.old × (ns + ms ≤ node_limit) × (nt + mt ≤ node_limit) }
-    ensures { Grown (nodes_beside first.now ns nt second.now ms mt) 0 out.old result out.new }
+) -> RosterBytes
+    requires { (ns + ms ≤ node_limit) × (nt + mt ≤ node_limit) }
+    ensures { Holds (nodes_beside first.now ns nt second.now ms mt) result }
 {
     let s = roster_positions::part(first, 1, ns);
     let s2 = roster_positions::part(second, 1, ms);
     let t = roster_positions::part(first, ns + 2, nt);
     let t2 = roster_positions::part(second, ms + 2, mt);
-    let a = roster_parts::append_byte(&mut *out, 0, (ns + ms) as u8);
-    let b = roster_parts::append(&mut *out, a, s);
-    let c = roster_parts::append(&mut *out, b, s2);
-    let d = roster_parts::append_byte(&mut *out, c, (nt + mt) as u8);
-    let e = roster_parts::append(&mut *out, d, t);
-    roster_parts::append(&mut *out, e, t2)
+    let mut out = RosterBytes::new();
+    out.push((ns + ms) as u8);
+    out.append(s);
+    out.append(s2);
+    out.push((nt + mt) as u8);
+    out.append(t);
+    out.append(t2);
+    out
 }
 
 // the first's surveyors' lists, which start at a place of its file and end at another, and ms of the second's, stand numbers by the table
 pub(crate) fn lists_beside(
-    out: &mut [u8; ROSTER_SIZE],
     first: &[u8],
     start: usize,
     end: usize,
@@ -56,31 +55,34 @@ pub(crate) fn lists_beside(
     place: usize,
     ms: usize,
     table: &[u8],
-) -> usize
-    requires { Room 0 out.old × (start ≤ end) × (place ≤ 20000) × (ms ≤ node_limit) }
-    ensures { ListsPut first.now start end second.now place ms table.now out.old result out.new }
+) -> RosterBytes
+    requires { (start ≤ end) × (place ≤ 20000) × (ms ≤ node_limit) }
+    ensures { Holds (lists_beside first.now start end second.now place ms table.now) result }
 {
     let lists = roster_positions::part(first, start, end - start);
-    let a = roster_parts::append(&mut *out, 0, lists);
-    roster_parts::append_lists(&mut *out, a, second, place, ms, table)
+    let mut out = RosterBytes::new();
+    out.append(lists);
+    out.append_lists(second, place, ms, table);
+    out
 }
 
 // the first's stands' lists, from a place of its file on to its end, and mt of the second's, surveyor numbers by the table
 pub(crate) fn rankings_beside(
-    out: &mut [u8; ROSTER_SIZE],
     first: &[u8],
     start: usize,
     second: &[u8],
     place: usize,
     mt: usize,
     table: &[u8],
-) -> usize
-    requires { Room 0 out.old × (place ≤ 40000) × (mt ≤ node_limit) }
-    ensures { RankingsPut first.now start second.now place mt table.now out.old result out.new }
+) -> RosterBytes
+    requires { (place ≤ 40000) × (mt ≤ node_limit) }
+    ensures { Holds (rankings_beside first.now start second.now place mt table.now) result }
 {
     let lists = roster_positions::part(first, start, ROSTER_SIZE);
-    let a = roster_parts::append(&mut *out, 0, lists);
-    roster_parts::append_rankings(&mut *out, a, second, place, mt, table)
+    let mut out = RosterBytes::new();
+    out.append(lists);
+    out.append_rankings(second, place, mt, table);
+    out
 }
 
 // the roster of both
@@ -95,31 +97,16 @@ pub(crate) fn beside(
     requires { (ns + ms ≤ node_limit) × (nt + mt ≤ node_limit) }
     ensures { Holds (beside_bytes first.now ns nt second.now ms mt) result }
 {
-    let lengths = 2 * (nt + mt);
     let end = roster_parts::lists_end(first, ns + nt + 4, ns);
     let end2 = roster_parts::lists_end(second, ms + mt + 4, ms);
     let stands = moved_up(nt as u8);
     let surveyors = moved_up(ns as u8);
-    let mut out = [0u8; ROSTER_SIZE];
-    let mut lists = [0u8; ROSTER_SIZE];
-    let a = nodes_beside(&mut out, first, ns, nt, second, ms, mt);
-    let k = lists_beside(
-        &mut lists,
-        first,
-        ns + nt + 4,
-        end,
-        second,
-        ms + mt + 4,
-        ms,
-        &stands,
-    );
-    let b = roster_parts::append_section(&mut out, a, ns + ms, &lists, k);
-    let m = rankings_beside(&mut lists, first, end + 2, second, end2 + 2, mt, &surveyors);
-    let len = roster_parts::append_section(&mut out, b, lengths, &lists, m);
-    RosterBytes {
-        len: len,
-        roster: out,
-    }
+    let mut out = nodes_beside(first, ns, nt, second, ms, mt);
+    let lists = lists_beside(first, ns + nt + 4, end, second, ms + mt + 4, ms, &stands);
+    let rankings = rankings_beside(first, end + 2, second, end2 + 2, mt, &surveyors);
+    out.append_section(ns + ms, &lists);
+    out.append_section(2 * (nt + mt), &rankings);
+    out
 }
 
 // the sum of both sides' quotas, of so many nodes from a place of each file on

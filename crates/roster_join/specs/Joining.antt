@@ -35,7 +35,8 @@ use Rattle.answers.specs.declared.Refusal.TheVariants.{QuotaTooHigh, RosterFull}
 use Rattle.roster_parts.specs.declared.RosterBytes.{RosterBytes}
 use Rattle.roster_parts.specs.Rankings.{ranking_written, gather_from, rankings_are}
 use Rattle.roster_parts.specs.Places.{quotas_part, stands_part, surveyors_are, stands_are, lists_behind, lists_part}
-use Rattle.roster_parts.specs.Gives.{makes_as, Gives, gives_refused, Holds, gives_held}
+use Rattle.roster_parts.specs.Growth.{Holds}
+use Rattle.roster_parts.specs.Gives.{makes_as, Gives, gives_refused, gives_held}
 use Rattle.roster_with.specs.Entering.{asked, shifts_at, own, joiner_in, with_last, entering}
 use Rattle.roster_with.specs.WithJoiner.{nodes_with, lists_with, rankings_with, end_at, long_from, joined_bytes}
 use Rattle.roster_with.specs.Enters.{EntersIf}

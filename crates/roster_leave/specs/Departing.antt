@@ -24,7 +24,8 @@ use Rattle.answers.specs.declared.Refusal.TheVariants.{NoSuchSurveyor}
 use Rattle.roster_parts.specs.declared.RosterBytes.{RosterBytes}
 use Rattle.roster_parts.specs.Rankings.{gather_from, rankings_are}
 use Rattle.roster_parts.specs.Places.{nodes_part, surveyors_are, stands_are, lists_behind, lists_part}
-use Rattle.roster_parts.specs.Gives.{Gives, gives_refused, Holds, gives_held}
+use Rattle.roster_parts.specs.Growth.{Holds}
+use Rattle.roster_parts.specs.Gives.{Gives, gives_refused, gives_held}
 use Rattle.roster_leave.specs.LeftParts.{left_by, ranking_left, nodes_left, lists_left}
 use Rattle.roster_leave.specs.Left.{rankings_left, mine_at, next_at, end_at, left_bytes}
 

@@ -6,15 +6,15 @@ ghost use Rattle.std.specs.Prelude.{◌≤◌, ◌<◌, ◌≡◌, length};
 ghost use Rattle.model.specs.Limits.{node_limit};
 ghost use Rattle.model_changes.specs.Changes.{leave_on, without};
 ghost use Rattle.instance.specs.Accepted.{RosterAccepted};
-ghost use Rattle.roster_parts.specs.Growth.{Room, Grown};
-ghost use Rattle.roster_parts.specs.Gives.{ChangedBy, Holds};
+ghost use Rattle.roster_parts.specs.Growth.{Grown, Holds};
+ghost use Rattle.roster_parts.specs.Gives.{ChangedBy};
 ghost use Rattle.roster_leave.specs.Left.{rankings_left, left_bytes};
 ghost use Rattle.roster_positions.specs.Tables.{entries_in};
 ghost use Rattle.roster_positions.specs.Rows.{bytes_of};
 ghost use Rattle.roster_leave.specs.LeftParts.{ranking_left, nodes_left, lists_left};
 
 use answers::Refusal;
-use limits::{ENTRY_WIDTH, ROSTER_SIZE};
+use limits::ENTRY_WIDTH;
 use roster_parts::RosterBytes;
 
 // how many entries of a list are of others than the leaver, whatever their shifts
@@ -35,12 +35,10 @@ pub(crate) fn others(list: &[u8], number: u8) -> usize
 }
 
 // those entries
-pub(crate) fn append_others(out: &mut [u8; ROSTER_SIZE], n: usize, list: &[u8], number: u8) -> usize
-    requires { Room n out.old }
-    ensures { Grown (bytes_of (without number (entries_in list.now))) n out.old result out.new }
+pub(crate) fn append_others(out: &mut RosterBytes, list: &[u8], number: u8)
+    ensures { Grown (bytes_of (without number (entries_in list.now))) out.old out.new }
 {
     let count = list.len() / ENTRY_WIDTH;
-    let mut len = n;
     for i in 0..count {
         let at = ENTRY_WIDTH * i;
         let x = list[at];
@@ -48,83 +46,65 @@ pub(crate) fn append_others(out: &mut [u8; ROSTER_SIZE], n: usize, list: &[u8], 
         if number == x {
             continue;
         }
-        len = roster_parts::append_entry(&mut *out, len, x, shift);
+        out.push_entry(x, shift);
     }
-    len
 }
 
 // a stand's list without the leaver's entries; those behind them move up
-pub fn append_ranking(
-    out: &mut [u8; ROSTER_SIZE],
-    n: usize,
-    strict: &[u8],
-    tied: &[u8],
-    number: u8,
-) -> usize
-    requires { Room n out.old × (length strict.now ≤ 510) × (length tied.now ≤ 510) }
-    ensures { Grown (ranking_left number strict.now tied.now) n out.old result out.new }
+pub fn append_ranking(out: &mut RosterBytes, strict: &[u8], tied: &[u8], number: u8)
+    requires { (length strict.now ≤ 510) × (length tied.now ≤ 510) }
+    ensures { Grown (ranking_left number strict.now tied.now) out.old out.new }
 {
     let a = others(strict, number);
     let b = others(tied, number);
-    let second = roster_parts::append_byte(&mut *out, n, a as u8);
-    let entries = roster_parts::append_byte(&mut *out, second, b as u8);
-    let tie = append_others(&mut *out, entries, strict, number);
-    append_others(&mut *out, tie, tied, number)
+    out.push(a as u8);
+    out.push(b as u8);
+    append_others(&mut *out, strict, number);
+    append_others(&mut *out, tied, number);
 }
 
 // both sides' counts and quotas, the first n bytes of the file: the leaver's quota is zero
-pub fn nodes_left(out: &mut [u8; ROSTER_SIZE], file: &[u8], n: usize, number: u8) -> usize
-    requires { Room 0 out.old }
-    ensures { Grown (nodes_left file.now n number) 0 out.old result out.new }
+pub fn nodes_left(file: &[u8], n: usize, number: u8) -> RosterBytes
+    ensures { Holds (nodes_left file.now n number) result }
 {
-    let nodes = roster_positions::part(file, 0, n);
-    let len = roster_parts::append(&mut *out, 0, nodes);
+    let mut out = RosterBytes::new();
+    out.append(roster_positions::part(file, 0, n));
     let place = number as usize;
-    out[place] = 0;
-    len
+    out.roster[place] = 0;
+    out
 }
 
 // the surveyors' lists, which start at a place of the file and end at another; the leaver's, from `mine` to `next`, is empty
-pub fn lists_left(
-    out: &mut [u8; ROSTER_SIZE],
-    file: &[u8],
-    start: usize,
-    mine: usize,
-    next: usize,
-    end: usize,
-) -> usize
-    requires { Room 0 out.old × (start ≤ mine) × (next ≤ end) }
-    ensures { Grown (lists_left file.now start mine next end) 0 out.old result out.new }
+pub fn lists_left(file: &[u8], start: usize, mine: usize, next: usize, end: usize) -> RosterBytes
+    requires { (start ≤ mine) × (next ≤ end) }
+    ensures { Holds (lists_left file.now start mine next end) result }
 {
     let before = roster_positions::part(file, start, mine - start);
     let behind = roster_positions::part(file, next, end - next);
-    let a = roster_parts::append(&mut *out, 0, before);
-    let b = roster_parts::append_byte(&mut *out, a, 0);
-    roster_parts::append(&mut *out, b, behind)
+    let mut out = RosterBytes::new();
+    out.append(before);
+    out.push(0);
+    out.append(behind);
+    out
 }
 
 // n stands' lists from a place of the file on
-pub(crate) fn rankings_left(
-    out: &mut [u8; ROSTER_SIZE],
-    file: &[u8],
-    start: usize,
-    n: usize,
-    number: u8,
-) -> usize
-    requires { Room 0 out.old × (start ≤ 20000) × (n ≤ node_limit) }
-    ensures { Grown (rankings_left file.now start n number) 0 out.old result out.new }
+// (the walk of roster_with::rankings_with; one of both would take a closure, and ask in a `requires` for all that `append_ranking` promises here)
+pub(crate) fn rankings_left(file: &[u8], start: usize, n: usize, number: u8) -> RosterBytes
+    requires { (start ≤ 20000) × (n ≤ node_limit) }
+    ensures { Holds (rankings_left file.now start n number) result }
 {
-    let mut len = 0;
+    let mut out = RosterBytes::new();
     let mut at = start;
     for j in 0..n {
         let a = roster_positions::byte_at(file, at) as usize;
         let b = roster_positions::byte_at(file, at + 1) as usize;
         let strict = roster_positions::part(file, at + 2, ENTRY_WIDTH * a);
         let tied = roster_positions::part(file, at + 2 + ENTRY_WIDTH * a, ENTRY_WIDTH * b);
-        len = append_ranking(&mut *out, len, strict, tied, number);
+        append_ranking(&mut out, strict, tied, number);
         at += ENTRY_WIDTH * (a + b) + 2;
     }
-    len
+    out
 }
 
 // the roster of ns surveyors and nt stands without the pairs of one of them
@@ -137,17 +117,12 @@ pub(crate) fn left(file: &[u8], ns: usize, nt: usize, number: u8) -> RosterBytes
     let mine = roster_parts::lists_end(file, start, s - 1);
     let next = roster_parts::lists_end(file, mine, 1);
     let end = roster_parts::lists_end(file, next, ns - s);
-    let mut out = [0u8; ROSTER_SIZE];
-    let mut lists = [0u8; ROSTER_SIZE];
-    let a = nodes_left(&mut out, file, ns + nt + 2, number);
-    let k = lists_left(&mut lists, file, start, mine, next, end);
-    let b = roster_parts::append_section(&mut out, a, ns, &lists, k);
-    let m = rankings_left(&mut lists, file, end + 2, nt, number);
-    let len = roster_parts::append_section(&mut out, b, 2 * nt, &lists, m);
-    RosterBytes {
-        len: len,
-        roster: out,
-    }
+    let mut out = nodes_left(file, ns + nt + 2, number);
+    let lists = lists_left(file, start, mine, next, end);
+    let rankings = rankings_left(file, end + 2, nt, number);
+    out.append_section(ns, &lists);
+    out.append_section(2 * nt, &rankings);
+    out
 }
 
 // "A leaver keeps the number, with quota zero and no pairs"; 16: "a leaver's number outside the surveyors"

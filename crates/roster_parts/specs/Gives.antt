@@ -18,7 +18,7 @@ use Rattle.theory_files.specs.Rosters.{lists_size, rankings_size, roster_size_la
 use Rattle.answers.specs.declared.Refusal.{Refusal}
 use Rattle.answers.specs.RefusalCases.{number_of}
 use Rattle.roster_parts.specs.declared.RosterBytes.{RosterBytes}
-use Rattle.roster_parts.specs.Growth.{section_of, Grown, grown_then, grown_as}
+use Rattle.roster_parts.specs.Growth.{written, section_of, Grown, Holds, grown_as, holds_then, holds_as}
 
 -- an answer that is a roster's bytes of which P is so
 abbrev pub Makes : (RosterBytes → Type 0) → Result RosterBytes Refusal → Type 0
@@ -62,22 +62,12 @@ ChangedBy change f c = (R : Roster) → read_roster f ≡ accepted R → Gives (
 abbrev pub roster_of : (ns nt : ℕ) (nodes lists rankings : List ℕ) → List ℕ
 roster_of ns nt nodes lists rankings = nodes ++ (section_of ns (take roster_size lists) ++ section_of (2 * nt) (take roster_size rankings))
 
--- the array's front is those bytes, as many as there is room for
-pub record Holds (bytes : List ℕ) (c : RosterBytes) : Type 0 where
-  pub few : c.len ≤ roster_size
-  pub front : take c.len c.roster ≡ take roster_size bytes
-
--- the nodes first, then both sections, each of them from the front of an array that its lists were written to
-pub held : (ns nt : ℕ) {nodes lists rankings : List ℕ} {a k b m r : ℕ} {o p q out₀ out₁ out₂ out : List ℕ} → Grown nodes 0 out₀ a out₁ → Grown lists 0 o k p
-    → Grown (section_of ns (take k p)) a out₁ b out₂ → Grown rankings 0 p m q → Grown (section_of (2 * nt) (take m q)) b out₂ r out
-    → Holds (roster_of ns nt nodes lists rankings) (record { len = r; roster = out })
-held ns nt {nodes} {lists} {rankings} n l s t u =
-    let g = grown_then (grown_then n (grown_as (ap (section_of ns) l.front) s)) (grown_as (ap (section_of (2 * nt)) t.front) u) in
-    record {
-      few = g.few;
-      front = g.front
-          ∙ ap (take roster_size) (append_assoc nodes (section_of ns (take roster_size lists)) (section_of (2 * nt) (take roster_size rankings)));
-    }
+-- the nodes first, then both sections
+pub held : (ns nt : ℕ) {nodes lists rankings : List ℕ} {b c d l m : RosterBytes} → Holds nodes b → Holds lists l → Grown (section_of ns (written l)) b c
+    → Holds rankings m → Grown (section_of (2 * nt) (written m)) c d → Holds (roster_of ns nt nodes lists rankings) d
+held ns nt {nodes} {lists} {rankings} n l s t u = holds_as
+    (append_assoc nodes (section_of ns (take roster_size lists)) (section_of (2 * nt) (take roster_size rankings)))
+    (holds_then (holds_then n (grown_as (ap (section_of ns) l.front) s)) (grown_as (ap (section_of (2 * nt)) t.front) u))
 
 -- a roster within the limits has room
 module _ (H : Roster) (ok : T (fits H)) (nodes lists rankings : List ℕ) (n : nodes ≡ list_bytes H.quotas_s ++ list_bytes H.quotas_t)
@@ -101,9 +91,9 @@ module _ (H : Roster) (ok : T (fits H)) (nodes lists rankings : List ℕ) (n : n
       let c = length-append (wide_bytes (total_s H.lists_s) ++ listed) (wide_bytes (total_t H.lists_t) ++ ranked) in
       (omega arith, omega arith)
 
-  written : roster_of (length H.lists_s) (length H.lists_t) nodes lists rankings ≡ write_roster H
+  whole : roster_of (length H.lists_s) (length H.lists_t) nodes lists rankings ≡ write_roster H
   unfolding write_roster_by
-  written =
+  whole =
       let (hs, ht) = sections_fit in
       let a : (length listed - length H.lists_s) / entry_width ≡ total_s H.lists_s = omega (arith, lists_size H.lists_s) in
       let b : (length ranked - 2 * length H.lists_t) / entry_width ≡ total_t H.lists_t = omega (arith, rankings_size H.lists_t) in
@@ -117,8 +107,8 @@ module _ (H : Roster) (ok : T (fits H)) (nodes lists rankings : List ℕ) (n : n
   pub gives_held : {c : RosterBytes} (ns nt : ℕ) → surveyor_count H ≡ ns → stand_count H ≡ nt → Holds (roster_of ns nt nodes lists rankings) c
       → Gives (accepted H) (Ok c)
   gives_held {c} ns nt a b h = (
-    h.few,
+    c.few,
     h.front ∙ ap (take roster_size)
-        (ap₂ (λ x y. roster_of x y nodes lists rankings) (sym (lists_count H ok ∙ a)) (sym (rankings_count H ok ∙ b)) ∙ written)
+        (ap₂ (λ x y. roster_of x y nodes lists rankings) (sym (lists_count H ok ∙ a)) (sym (rankings_count H ok ∙ b)) ∙ whole)
         ∙ take_all roster_size (write_roster H) (roster_size_law H ok),
   )

@@ -27,7 +27,8 @@ use Rattle.roster_positions.specs.Rows.{bytes_length, ranking_is}
 use Rattle.std.specs.declared.result.Result.TheVariants.{Ok}
 use Rattle.roster_parts.specs.declared.RosterBytes.{RosterBytes}
 use Rattle.roster_parts.specs.Places.{lists_behind}
-use Rattle.roster_parts.specs.Gives.{Gives, Holds, gives_held}
+use Rattle.roster_parts.specs.Growth.{Holds}
+use Rattle.roster_parts.specs.Gives.{Gives, gives_held}
 use Rattle.roster_parts.specs.Mapped.{under, all_under, lists_under, lists_under_law}
 use Rattle.roster_routes.specs.Reordered.{Ordered, rankings_end, parts_from, quota_at, quotas_in_order, ranking_part, ranking_at, rankings_in_order, nodes_in_order}
 use Rattle.roster_routes.specs.Reordered.{end_at, reordered_bytes}

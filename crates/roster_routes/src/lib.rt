@@ -5,12 +5,11 @@
 
 ghost use Rattle.std.specs.Prelude.{◌≡◌, ◌+◌, ◌*◌, ◌≤◌, length};
 ghost use Rattle.model.specs.Limits.{node_limit};
-ghost use Rattle.roster_parts.specs.Growth.{Room, Grown};
-ghost use Rattle.roster_parts.specs.Gives.{Holds};
+ghost use Rattle.roster_parts.specs.Growth.{Grown, Holds};
 ghost use Rattle.roster_routes.specs.Reordered.{Ordered, rankings_end, quotas_in_order, rankings_in_order, reordered_bytes};
 ghost use Rattle.roster_routes.specs.Marking.{RouteRead, Places};
 
-use limits::{ENTRY_WIDTH, ROSTER_SIZE};
+use limits::ENTRY_WIDTH;
 use roster_parts::{NUMBERS, RosterBytes};
 
 // the new number of each stand, where a route names each once: "the first named becoming 1 and so on"; none for "a route that is not each stand exactly
@@ -65,46 +64,42 @@ pub(crate) fn rankings_end(file: &[u8], start: usize, k: usize) -> usize
 
 // the stands' quotas in the order; that of stand t is so many bytes behind a place of the file
 pub(crate) fn append_quotas(
-    out: &mut [u8; ROSTER_SIZE],
-    n: usize,
+    out: &mut RosterBytes,
     file: &[u8],
     place: usize,
     count: usize,
     order: &[u8],
-) -> usize
-    requires { Room n out.old × (place ≤ 1000) × (count ≤ node_limit) }
-    ensures { Grown (quotas_in_order file.now place order.now 0 count) n out.old result out.new }
+)
+    requires { (place ≤ 1000) × (count ≤ node_limit) }
+    ensures { Grown (quotas_in_order file.now place order.now 0 count) out.old out.new }
 {
-    let mut len = n;
     for i in 0..count {
         let t = roster_positions::byte_at(order, i + 1) as usize;
         let q = roster_positions::byte_at(file, place + t);
-        len = roster_parts::append_byte(&mut *out, len, q);
+        out.push(q);
     }
-    len
 }
 
 // the stands' lists in the order, of those from a place of the file on
-pub(crate) fn append_rankings(
-    out: &mut [u8; ROSTER_SIZE],
+pub(crate) fn rankings_in_order(
     file: &[u8],
     start: usize,
     count: usize,
     order: &[u8],
-) -> usize
-    requires { Room 0 out.old × (start ≤ 40000) × (count ≤ node_limit) × Ordered count order.now }
-    ensures { Grown (rankings_in_order file.now start order.now 0 count) 0 out.old result out.new }
+) -> RosterBytes
+    requires { (start ≤ 40000) × (count ≤ node_limit) × Ordered count order.now }
+    ensures { Holds (rankings_in_order file.now start order.now 0 count) result }
 {
-    let mut len = 0;
+    let mut out = RosterBytes::new();
     for i in 0..count {
         let t = roster_positions::byte_at(order, i + 1) as usize;
         let at = rankings_end(file, start, t - 1);
         let a = roster_positions::byte_at(file, at) as usize;
         let b = roster_positions::byte_at(file, at + 1) as usize;
         let list = roster_positions::part(file, at, ENTRY_WIDTH * (a + b) + 2);
-        len = roster_parts::append(&mut *out, len, list);
+        out.append(list);
     }
-    len
+    out
 }
 
 // the roster of ns surveyors and nt stands, reordered
@@ -113,19 +108,15 @@ pub fn reordered(file: &[u8], ns: usize, nt: usize, order: &[u8], numbers: &[u8]
     ensures { Holds (reordered_bytes file.now ns nt order.now numbers.now) result }
 {
     let start = ns + nt + 4;
-    let lengths = 2 * nt;
     let end = roster_parts::lists_end(file, start, ns);
     let nodes = roster_positions::part(file, 0, ns + 2);
-    let mut out = [0u8; ROSTER_SIZE];
-    let mut lists = [0u8; ROSTER_SIZE];
-    let a = roster_parts::append(&mut out, 0, nodes);
-    let b = append_quotas(&mut out, a, file, ns + 1, nt, order);
-    let k = roster_parts::append_lists(&mut lists, 0, file, start, ns, numbers);
-    let c = roster_parts::append_section(&mut out, b, ns, &lists, k);
-    let m = append_rankings(&mut lists, file, end + 2, nt, order);
-    let len = roster_parts::append_section(&mut out, c, lengths, &lists, m);
-    RosterBytes {
-        len: len,
-        roster: out,
-    }
+    let mut out = RosterBytes::new();
+    out.append(nodes);
+    append_quotas(&mut out, file, ns + 1, nt, order);
+    let mut lists = RosterBytes::new();
+    lists.append_lists(file, start, ns, numbers);
+    let rankings = rankings_in_order(file, end + 2, nt, order);
+    out.append_section(ns, &lists);
+    out.append_section(2 * nt, &rankings);
+    out
 }

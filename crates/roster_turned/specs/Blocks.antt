@@ -6,14 +6,14 @@ use Rattle.std.proofs.Common.{add-one, mul-le-mul_left, sym, ap, ◌∙◌, subs
 use Rattle.std.proofs.Math.Nat.{mul-div-le}
 use Rattle.std.specs.Prelude.{◌≡◌, Bool, true, false, not, cond, List, [], ◌∷◌, ◌++◌, length, take, drop, get_or}
 use Rattle.lists.specs.Keep.{all?, gather}
-use Rattle.model.specs.Limits.{roster_size}
 use Rattle.model.specs.Roster.{Entry, no_entry}
 use Rattle.model.specs.RosterFile.{Layout}
 use Rattle.model_desk.specs.Seasons.{is_first}
 use Rattle.roster_reading.specs.Check.{fields_length, fields_at}
 use Rattle.roster_reading.specs.Layout.{layout_of, width_of, entry_from, entries_in}
-use Rattle.roster_parts.specs.Growth.{Grown, grown_then, grown_as}
-use Rattle.roster_turned.specs.declared.Copied.{Copied}
+use Rattle.roster_parts.specs.declared.RosterBytes.{RosterBytes}
+use Rattle.roster_parts.specs.Growth.{Grown, Holds, holds_all, holds_then, holds_as}
+use Rattle.roster_turned.specs.declared.Passed.{Passed}
 use Rattle.roster_turned.specs.declared.Turned.{Turned}
 
 -- a list as it stands in a file: its length bytes and its entries
@@ -95,13 +95,13 @@ heads_few false = omega arith
 
 -- ---- what the loops promise
 -- the entries of a part, appended
-pub record EntriesTurned (shifts : Bool) (part : List ℕ) (n : ℕ) (before : List ℕ) (r : Copied) (after : List ℕ) : Type 0 where
-  pub grown : Grown (other_bytes shifts (part_entries shifts part)) n before r.len after
-  pub first : r.first ≡ all? is_first (part_entries shifts part)
+pub record EntriesTurned (shifts : Bool) (part : List ℕ) (before : RosterBytes) (first : Bool) (after : RosterBytes) : Type 0 where
+  pub grown : Grown (other_bytes shifts (part_entries shifts part)) before after
+  pub ones : first ≡ all? is_first (part_entries shifts part)
 
 -- lists, appended one behind the other
-pub record ListsTurned (shifts ties : Bool) (f : List ℕ) (count start : ℕ) (n : ℕ) (before : List ℕ) (r : Turned) (after : List ℕ) : Type 0 where
-  pub grown : Grown (gather (block_bytes (layout_of (not shifts))) (blocks_from shifts ties f count start)) n before r.len after
+pub record ListsTurned (shifts ties : Bool) (f : List ℕ) (count start : ℕ) (before : RosterBytes) (r : Passed) (after : RosterBytes) : Type 0 where
+  pub grown : Grown (gather (block_bytes (layout_of (not shifts))) (blocks_from shifts ties f count start)) before after
   pub first : r.first ≡ all? first_block (blocks_from shifts ties f count start)
   pub end : r.at ≡ blocks_end shifts ties f count start
   pub near : r.at ≤ start + 1022 * count
@@ -124,21 +124,19 @@ module _ (shifts : Bool) (ns nt : ℕ) (f : List ℕ) where
   turned_bytes = ((take start f ++ gather (block_bytes (layout_of (not shifts))) surveyor_blocks) ++ take 2 (drop middle f))
       ++ gather (block_bytes (layout_of (not shifts))) stand_blocks
 
-  -- the front of the array is the roster in the other layout, and it is told whether all that surveyors list is of shift 1
-  pub record RosterTurned (r : Turned) (after : List ℕ) : Type 0 where
-    pub few : r.len ≤ roster_size
-    pub size : length after ≡ roster_size
-    pub front : take r.len after ≡ take roster_size turned_bytes
+  -- the bytes are the roster in the other layout, and it is told whether all that surveyors list is of shift 1
+  pub record RosterTurned (r : Turned) : Type 0 where
+    pub bytes : Holds turned_bytes r.roster
     pub first : r.first ≡ all? first_block surveyor_blocks
 
   -- the four parts, appended one behind the other
-  pub turned_whole : {nodes total : List ℕ} {at a b d e : ℕ} {o o₁ o₂ o₃ o₄ : List ℕ} → nodes ≡ take start f → at ≡ middle → total ≡ take 2 (drop at f)
-      → Grown nodes 0 o a o₁ → Grown (gather (block_bytes (layout_of (not shifts))) surveyor_blocks) a o₁ b o₂ → Grown total b o₂ d o₃
-      → Grown (gather (block_bytes (layout_of (not shifts))) (blocks_from shifts true f nt (at + 2))) d o₃ e o₄ → Grown turned_bytes 0 o e o₄
-  turned_whole p q t g₁ g₂ g₃ g₄ =
+  pub turned_whole : {nodes total : List ℕ} {at : ℕ} {b₀ b₁ b₂ b₃ b₄ : RosterBytes} → nodes ≡ take start f → at ≡ middle → total ≡ take 2 (drop at f)
+      → Holds [] b₀ → Grown nodes b₀ b₁ → Grown (gather (block_bytes (layout_of (not shifts))) surveyor_blocks) b₁ b₂ → Grown total b₂ b₃
+      → Grown (gather (block_bytes (layout_of (not shifts))) (blocks_from shifts true f nt (at + 2))) b₃ b₄ → Holds turned_bytes b₄
+  turned_whole p q t g₀ g₁ g₂ g₃ g₄ =
       let surveyors = gather (block_bytes (layout_of (not shifts))) surveyor_blocks in
-      grown_as (λ k. ((p k ++ surveyors) ++ (t ∙ ap (λ z. take 2 (drop z f)) q) k) ++ gather (block_bytes (layout_of (not shifts)))
-      (blocks_from shifts true f nt (q k + 2))) (grown_then (grown_then (grown_then g₁ g₂) g₃) g₄)
+      holds_as (λ k. ((p k ++ surveyors) ++ (t ∙ ap (λ z. take 2 (drop z f)) q) k) ++ gather (block_bytes (layout_of (not shifts)))
+      (blocks_from shifts true f nt (q k + 2))) (holds_then (holds_then (holds_then (holds_all g₀ g₁) g₂) g₃) g₄)
 
 -- ---- one turn of the loop over a part's entries
 module _ (shifts : Bool) (bs : List ℕ) where

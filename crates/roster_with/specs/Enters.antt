@@ -4,7 +4,8 @@ use Rattle.std.specs.Prelude.{ℕ, ◌+◌, ◌≡◌, Bool, true, false, List, 
 use Rattle.std.proofs.Common.{sym, subst}
 use Rattle.answers.specs.declared.Refusal.{Refusal}
 use Rattle.roster_parts.specs.declared.RosterBytes.{RosterBytes}
-use Rattle.roster_parts.specs.Gives.{Makes, Refuses, Holds}
+use Rattle.roster_parts.specs.Growth.{Holds}
+use Rattle.roster_parts.specs.Gives.{Makes, Refuses}
 use Rattle.roster_with.specs.WithJoiner.{end_at, long_from, joined_bytes}
 
 -- bytes are left behind the list, or some stand's list would be too long, or the joiner enters the roster

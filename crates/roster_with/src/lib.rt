@@ -6,15 +6,14 @@
 ghost use Rattle.std.specs.Prelude.{◌≡◌, ◌≤◌, ◌+◌, length};
 ghost use Rattle.lists.specs.Sum.{sum};
 ghost use Rattle.model.specs.Limits.{node_limit, shift_limit};
-ghost use Rattle.roster_parts.specs.Growth.{Room, Grown};
+ghost use Rattle.roster_parts.specs.Growth.{Grown, Holds};
 ghost use Rattle.roster_with.specs.Entering.{marks_in, asked, shifts_at, joiner_in, entering};
 ghost use Rattle.roster_with.specs.WithJoiner.{nodes_with, lists_with, rankings_with, long_from, joined_bytes};
-ghost use Rattle.roster_parts.specs.Gives.{Holds};
 ghost use Rattle.roster_with.specs.Enters.{EntersBy};
 ghost use Rattle.roster_positions.specs.Rows.{bytes_of};
 
 use answers::Refusal;
-use limits::{ENTRY_WIDTH, LIST_LIMIT, ROSTER_SIZE, SHIFT_LIMIT};
+use limits::{ENTRY_WIDTH, LIST_LIMIT, SHIFT_LIMIT};
 use roster_lists::ROW;
 use roster_parts::RosterBytes;
 use roster_reading::Entry;
@@ -47,49 +46,39 @@ pub fn shift_count(row: &[bool; ROW], stand: u8) -> usize
 }
 
 // the joiner's entries at the stand, "in shift order", whatever their order in the joiner's list
-pub(crate) fn append_joiner(
-    out: &mut [u8; ROSTER_SIZE],
-    n: usize,
-    joiner: u8,
-    row: &[bool; ROW],
-    stand: u8,
-) -> usize
-    requires { Room n out.old × (1 ≤ stand) × (stand ≤ node_limit) }
-    ensures { Grown (bytes_of (joiner_in joiner (shifts_at (marks_in row.now) stand))) n out.old result out.new }
+pub(crate) fn append_joiner(out: &mut RosterBytes, joiner: u8, row: &[bool; ROW], stand: u8)
+    requires { (1 ≤ stand) × (stand ≤ node_limit) }
+    ensures { Grown (bytes_of (joiner_in joiner (shifts_at (marks_in row.now) stand))) out.old out.new }
 {
-    let mut len = n;
     for k in 0..SHIFT_LIMIT {
         let shift = k + 1;
         if !asks(row, stand, shift) {
             continue;
         }
-        len = roster_parts::append_entry(&mut *out, len, joiner, shift);
+        out.push_entry(joiner, shift);
     }
-    len
 }
 
 // a stand's list with those entries at the end of its tie
 pub fn append_ranking(
-    out: &mut [u8; ROSTER_SIZE],
-    n: usize,
+    out: &mut RosterBytes,
     strict: &[u8],
     tied: &[u8],
     joiner: u8,
     row: &[bool; ROW],
     stand: u8,
-) -> usize
-    requires { Room n out.old × (1 ≤ stand) × (stand ≤ node_limit) }
-    ensures { Grown (entering joiner (marks_in row.now) stand strict.now tied.now) n
-        out.old result out.new }
+)
+    requires { (1 ≤ stand) × (stand ≤ node_limit) }
+    ensures { Grown (entering joiner (marks_in row.now) stand strict.now tied.now) out.old out.new }
 {
     let more = shift_count(row, stand);
     let strict_len = strict.len() / ENTRY_WIDTH;
     let tie_len = tied.len() / ENTRY_WIDTH + more;
-    let second = roster_parts::append_byte(&mut *out, n, (strict_len % 256) as u8);
-    let entries = roster_parts::append_byte(&mut *out, second, (tie_len % 256) as u8);
-    let tie = roster_parts::append(&mut *out, entries, strict);
-    let end = roster_parts::append(&mut *out, tie, tied);
-    append_joiner(&mut *out, end, joiner, row, stand)
+    out.push((strict_len % 256) as u8);
+    out.push((tie_len % 256) as u8);
+    out.append(strict);
+    out.append(tied);
+    append_joiner(&mut *out, joiner, row, stand);
 }
 
 // the sum of some quotas
@@ -101,63 +90,55 @@ pub fn quota_sum(quotas: &[u8]) -> usize
 }
 
 // both sides' counts and quotas, with one surveyor more
-pub fn nodes_with(
-    out: &mut [u8; ROSTER_SIZE],
-    file: &[u8],
-    ns: usize,
-    nt: usize,
-    quota: u8,
-) -> usize
-    requires { Room 0 out.old × (ns ≤ node_limit) × (nt ≤ node_limit) }
-    ensures { Grown (nodes_with file.now ns nt quota) 0 out.old result out.new }
+pub fn nodes_with(file: &[u8], ns: usize, nt: usize, quota: u8) -> RosterBytes
+    requires { (ns ≤ node_limit) × (nt ≤ node_limit) }
+    ensures { Holds (nodes_with file.now ns nt quota) result }
 {
     let quotas = roster_positions::part(file, 1, ns);
     let stands = roster_positions::part(file, ns + 1, nt + 1);
-    let a = roster_parts::append_byte(&mut *out, 0, (ns + 1) as u8);
-    let b = roster_parts::append(&mut *out, a, quotas);
-    let c = roster_parts::append_byte(&mut *out, b, quota);
-    roster_parts::append(&mut *out, c, stands)
+    let mut out = RosterBytes::new();
+    out.push((ns + 1) as u8);
+    out.append(quotas);
+    out.push(quota);
+    out.append(stands);
+    out
 }
 
 // the surveyors' lists, which start at a place of the file and end at another, and the joiner's
-pub fn lists_with(
-    out: &mut [u8; ROSTER_SIZE],
-    file: &[u8],
-    start: usize,
-    end: usize,
-    list: &[u8],
-) -> usize
-    requires { Room 0 out.old × (start ≤ end) }
-    ensures { Grown (lists_with file.now start end list.now) 0 out.old result out.new }
+pub fn lists_with(file: &[u8], start: usize, end: usize, list: &[u8]) -> RosterBytes
+    requires { start ≤ end }
+    ensures { Holds (lists_with file.now start end list.now) result }
 {
     let lists = roster_positions::part(file, start, end - start);
-    let a = roster_parts::append(&mut *out, 0, lists);
-    roster_parts::append(&mut *out, a, list)
+    let mut out = RosterBytes::new();
+    out.append(lists);
+    out.append(list);
+    out
 }
 
 // n stands' lists from a place of the file on; the joiner enters those that the row has marks for
+// (the walk of roster_leave::rankings_left; one of both would take a closure, and ask in a `requires` for all that `append_ranking` promises here)
 pub fn rankings_with(
-    out: &mut [u8; ROSTER_SIZE],
     file: &[u8],
     start: usize,
     n: usize,
     joiner: u8,
     row: &[bool; ROW],
-) -> usize
-    requires { Room 0 out.old × (start ≤ 20000) × (n ≤ node_limit) }
-    ensures { Grown (rankings_with file.now start n joiner (marks_in row.now)) 0 out.old result out.new }
+) -> RosterBytes
+    requires { (start ≤ 20000) × (n ≤ node_limit) }
+    ensures { Holds (rankings_with file.now start n joiner (marks_in row.now)) result }
 {
-    let mut len = 0;
+    let mut out = RosterBytes::new();
     let mut at = start;
     for j in 0..n {
         let a = roster_positions::byte_at(file, at) as usize;
         let b = roster_positions::byte_at(file, at + 1) as usize;
         let strict = roster_positions::part(file, at + 2, ENTRY_WIDTH * a);
         let tied = roster_positions::part(file, at + 2 + ENTRY_WIDTH * a, ENTRY_WIDTH * b);
-        len = append_ranking(&mut *out, len, strict, tied, joiner, row, (j + 1) as u8);
+        append_ranking(&mut out, strict, tied, joiner, row, (j + 1) as u8);
         at += ENTRY_WIDTH * (a + b) + 2;
     }
-    len
+    out
 }
 
 // would one of these lists be too long? "A list .. has at most 32 entries"
@@ -193,17 +174,12 @@ pub(crate) fn joined(
     ensures { Holds (joined_bytes file.now ns nt end quota list.now (marks_in row.now)) result }
 {
     let joiner = (ns + 1) as u8;
-    let mut out = [0u8; ROSTER_SIZE];
-    let mut lists = [0u8; ROSTER_SIZE];
-    let a = nodes_with(&mut out, file, ns, nt, quota);
-    let k = lists_with(&mut lists, file, ns + nt + 4, end, list);
-    let b = roster_parts::append_section(&mut out, a, ns + 1, &lists, k);
-    let m = rankings_with(&mut lists, file, end + 2, nt, joiner, row);
-    let len = roster_parts::append_section(&mut out, b, 2 * nt, &lists, m);
-    RosterBytes {
-        len: len,
-        roster: out,
-    }
+    let mut out = nodes_with(file, ns, nt, quota);
+    let lists = lists_with(file, ns + nt + 4, end, list);
+    let rankings = rankings_with(file, end + 2, nt, joiner, row);
+    out.append_section(ns + 1, &lists);
+    out.append_section(2 * nt, &rankings);
+    out
 }
 
 // with a list that is read up to a place of its file: "9 bytes after the end"; then "A joiner's entry that takes a stand's list past 32 meets

@@ -16,7 +16,7 @@ use Rattle.answers.specs.declared.Refusal.{Refusal}
 use Rattle.answers.specs.declared.Refusal.TheVariants.{CutShort, TooMany}
 use Rattle.answers.specs.RefusalCases.{number_of}
 use Rattle.roster_parts.specs.declared.RosterBytes.{RosterBytes}
-use Rattle.roster_parts.specs.Gives.{Holds}
+use Rattle.roster_parts.specs.Growth.{Holds}
 use Rattle.roster_routes.specs.Reordered.{reordered_bytes}
 
 -- a route of k numbers is read, and behind it is what the roster is read from
@@ -79,15 +79,15 @@ abbrev pub TurnedBy : (back : Bool) → List ℕ → (ns nt : ℕ) → (places n
 TurnedBy back f ns nt places numbers c = Holds (reordered_bytes f ns nt (cond back numbers places) (cond back places numbers)) c
 
 -- ---- the parts written
-abbrev pub Fits : List ℕ → ℕ → List ℕ → ℕ → List ℕ → Type 0
-Fits f k made n o = length (take k f) + length (take n made) ≤ length o
+abbrev pub Fits : List ℕ → ℕ → List ℕ → List ℕ → Type 0
+Fits f k roster o = length (take k f) + length roster ≤ length o
 
-abbrev pub both : List ℕ → ℕ → List ℕ → ℕ → List ℕ
-both f k made n = take k f ++ take n made
+abbrev pub both : List ℕ → ℕ → List ℕ → List ℕ
+both f k roster = take k f ++ roster
 
-pub record WrittenBoth (f : List ℕ) (k : ℕ) (made : List ℕ) (n : ℕ) (o : List ℕ) (r : ℕ) (o' : List ℕ) : Type 0 where
-  pub count : r ≡ length (both f k made n)
-  pub bytes : o' ≡ take (length (both f k made n)) (both f k made n) ++ drop (length (both f k made n)) o
+pub record WrittenBoth (f : List ℕ) (k : ℕ) (roster o : List ℕ) (r : ℕ) (o' : List ℕ) : Type 0 where
+  pub count : r ≡ length (both f k roster)
+  pub bytes : o' ≡ take (length (both f k roster)) (both f k roster) ++ drop (length (both f k roster)) o
 
 -- the first copied to the front of a buffer, and the second to what is behind it, which was lent as a part
 module _ (x y o : List ℕ) (room : length x + length y ≤ length o) (a : ℕ) (da : a ≡ length x) (mid : List ℕ)
@@ -116,10 +116,10 @@ module _ (x y o : List ℕ) (room : length x + length y ≤ length o) (a : ℕ) 
       ∙ sym (append_assoc x y (drop (a + length y) o))
       ∙ ap₂ (λ z k. z ++ drop k o) (sym (take-length (x ++ y))) l
 
-  pub written_both : (f : List ℕ) (k : ℕ) (made : List ℕ) (n : ℕ) → x ≡ take k f → y ≡ take n made → (b : ℕ) → b ≡ length y → (last : List ℕ)
+  pub written_both : (f : List ℕ) (k : ℕ) → x ≡ take k f → (b : ℕ) → b ≡ length y → (last : List ℕ)
       → last ≡ take (length y) y ++ drop (length y) (take (length mid - a) (drop a mid))
-      → WrittenBoth f k made n o (a + b) (take a mid ++ (last ++ drop (length mid - a) (drop a mid)))
-  written_both f k made n ex ey b db last dl =
-      let e : x ++ y ≡ both f k made n = ap₂ ◌++◌ ex ey in
+      → WrittenBoth f k y o (a + b) (take a mid ++ (last ++ drop (length mid - a) (drop a mid)))
+  written_both f k ex b db last dl =
+      let e : x ++ y ≡ both f k y = ap (λ z. z ++ y) ex in
       let c : a + b ≡ length (x ++ y) = omega (arith, length-append x y) in
       record { count = c ∙ ap length e; bytes = both_put last dl ∙ ap (λ z. take (length z) z ++ drop (length z) o) e }

@@ -30,7 +30,7 @@ use Rattle.answers.specs.WrittenCases.{written_shown}
 use Rattle.answers.specs.Settling.{Settles, settles_refused, settles_file, settles_wrote, Answers, count_of, wrote_of}
 use Rattle.roster_parts.specs.declared.RosterBytes.{RosterBytes}
 use Rattle.roster_parts.specs.Places.{surveyors_are, stands_are, counts_small}
-use Rattle.roster_parts.specs.Gives.{Holds}
+use Rattle.roster_parts.specs.Growth.{written, Holds, written_few}
 use Rattle.roster_routes.specs.Marking.{Numbered, Places}
 use Rattle.roster_routes.specs.Reordered.{Ordered, reordered_bytes}
 use Rattle.roster_routes.specs.Renumbering.{Way, way_there, way_back_law, way_ordered, reordered_gives}
@@ -183,11 +183,11 @@ module _ (back : Bool) (f : List ℕ) (is_b : T (is_bytes f)) (k : ℕ) (R : Rou
               (subst (λ b. Holds b c) (ap₂ (λ x z. reordered_bytes roster x z places numbers) is_s is_t) h)
 
       -- there is room for the route and the roster
-      pub room : (o : List ℕ) → stored_size ≤ length o → length (take (k + 1) f) + length (take c.len c.roster) ≤ length o
-      room o l = omega (arith, length-take (k + 1) f, length-take c.len c.roster, gives.0, R.few)
+      pub room : (o : List ℕ) → stored_size ≤ length o → length (take (k + 1) f) + length (written c) ≤ length o
+      room o l = omega (arith, length-take (k + 1) f, written_few c, R.few)
 
-      pub route_stored : (o : List ℕ) (n : ℕ) (o' : List ℕ) → WrittenBoth f (k + 1) c.roster c.len o n o' → Settles (turn_by back f) o (Ok n) o'
-      route_stored o n o' W = settles_wrote (turn_by back f) o (list_bytes route ++ write_roster H) (both f (k + 1) c.roster c.len) n o'
+      pub route_stored : (o : List ℕ) (n : ℕ) (o' : List ℕ) → WrittenBoth f (k + 1) (written c) o n o' → Settles (turn_by back f) o (Ok n) o'
+      route_stored o n o' W = settles_wrote (turn_by back f) o (list_bytes route ++ write_roster H) (both f (k + 1) (written c)) n o'
           (turn_at ∙ ap (λ b. cond b (accepted (list_bytes route ++ write_roster H)) (refused 23))
           (T_true {b = names_each route r} (names_each_law route r (subst (Names route) is_t M.names))))
           (ap₂ ◌++◌ head_is gives.1) W.count W.bytes

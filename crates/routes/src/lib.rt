@@ -50,13 +50,12 @@ pub(crate) fn turned(
     roster_routes::reordered(file, ns, nt, places, numbers)
 }
 
-// Some bytes of the file, and behind them the front of an array.
-pub(crate) fn written(file: &[u8], k: usize, made: &[u8], n: usize, out: &mut [u8]) -> usize
-    requires { Fits file.now k made.now n out.old }
-    ensures { WrittenBoth file.now k made.now n out.old result out.new }
+// Some bytes of the file, and a roster's behind them.
+pub(crate) fn written(file: &[u8], k: usize, roster: &[u8], out: &mut [u8]) -> usize
+    requires { Fits file.now k roster.now out.old }
+    ensures { WrittenBoth file.now k roster.now out.old result out.new }
 {
     let front = roster_positions::part(file, 0, k);
-    let roster = roster_positions::part(made, 0, n);
     let a = byte_slices::copy(front, &mut *out);
     let b = byte_slices::copy(roster, &mut out[a..]);
     a + b
@@ -76,8 +75,7 @@ pub(crate) fn settled(file: &[u8], k: usize, back: bool, out: &mut [u8]) -> Resu
     };
     let places = roster_routes::places_of(route);
     let made = turned(roster, ns, nt, &places, &numbers, back);
-    let bytes = made.roster;
-    Ok(written(file, k + 1, &bytes, made.len, out))
+    Ok(written(file, k + 1, made.bytes(), out))
 }
 
 // The route is read: "before the roster is read".

@@ -20,6 +20,7 @@ use Rattle.answers.specs.RefusalCases.{number_of, reading_of}
 use Rattle.answers.specs.FileCases.{file_read}
 use Rattle.answers.specs.WrittenCases.{written_shown}
 use Rattle.roster_reading.specs.Layout.{layout_of}
+use Rattle.roster_parts.specs.Growth.{written}
 use Rattle.roster_turned.specs.declared.Turned.{Turned}
 use Rattle.roster_turned.specs.Blocks.{RosterTurned}
 use Rattle.roster_turned.specs.Turning.{turned_is}
@@ -95,7 +96,7 @@ module _ (shifts : Bool) (f : List ℕ) (is_b : T (is_bytes f)) (r : Roster) (a 
       go true e = omega (arith, old_size (write_roster_by (layout_of false) r) f is_b e)
       go false e = new_size f (write_roster_by (layout_of true) r) is_b e
 
-  module _ (ns nt : ℕ) (d_s : ns ≡ get_or f 0 0) (d_t : nt ≡ get_or f (ns + 1) 0) (t : Turned) (made : List ℕ) (k : RosterTurned shifts ns nt f t made) where
+  module _ (ns nt : ℕ) (d_s : ns ≡ get_or f 0 0) (d_t : nt ≡ get_or f (ns + 1) 0) (t : Turned) (k : RosterTurned shifts ns nt f t) where
     same_first : t.first ≡ only_first r
     same_first = k.first ∙ (turned_is shifts f is_b r a ns nt d_s d_t).1
 
@@ -103,10 +104,10 @@ module _ (shifts : Bool) (f : List ℕ) (is_b : T (is_bytes f)) (r : Roster) (a 
     pub other_turned : (o : List ℕ) → t.first ≡ false → Settles (turn_by shifts f) o (Err OtherShift) o
     other_turned o h = settles_refused (turn_by shifts f) o OtherShift (turn_other (sym same_first ∙ h))
 
-    -- the front of the array, copied
-    pub front_copied : (o part : List ℕ) (n : ℕ) (o' : List ℕ) → t.first ≡ true → part ≡ take t.len made → n ≡ length part
+    -- its bytes, copied
+    pub front_copied : (o part : List ℕ) (n : ℕ) (o' : List ℕ) → t.first ≡ true → part ≡ written t.roster → n ≡ length part
         → o' ≡ take (length part) part ++ drop (length part) o → Settles (turn_by shifts f) o (Ok n) o'
     front_copied o part n o' h p q s =
         let e = turn_first (sym same_first ∙ h) in
-        let bs : part ≡ other = p ∙ k.front ∙ ap (take roster_size) (turned_is shifts f is_b r a ns nt d_s d_t).0 ∙ take_all roster_size other (fits_buffer e) in
+        let bs : part ≡ other = p ∙ k.bytes.front ∙ ap (take roster_size) (turned_is shifts f is_b r a ns nt d_s d_t).0 ∙ take_all roster_size other (fits_buffer e) in
         settles_wrote (turn_by shifts f) o other part n o' e bs q s

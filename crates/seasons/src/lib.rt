@@ -19,12 +19,11 @@ pub(crate) fn settled(file: &[u8], shifts: bool, out: &mut [u8]) -> Result<usize
 {
     let ns = roster_positions::byte_at(file, 0) as usize;
     let nt = roster_positions::byte_at(file, ns + 1) as usize;
-    let mut made = [0u8; ROSTER_SIZE];
-    let t = roster_turned::turn(&mut made, file, ns, nt, shifts);
+    let t = roster_turned::turn(file, ns, nt, shifts);
     if !t.first {
         return Err(Refusal::OtherShift);
     }
-    Ok(byte_slices::copy(&made[..t.len], out))
+    Ok(byte_slices::copy(t.roster.bytes(), out))
 }
 
 // A file with shifts or without, in the other layout: 15 first, "either way", then the file's refusals, then 19.

@@ -1,5 +1,5 @@
 -- `districts::join` meets its contract: 15, the first file's refusal, the second's, that of the sums, or the array's front copied. Assumes nothing.
-use Rattle.std.proofs.Common.{◌≤◌, arith, ◌≡◌, refl, sym, subst, List, ℕ, length, take, length-take, length-take-le, Result, Err, rules}
+use Rattle.std.proofs.Common.{arith, ◌≡◌, refl, sym, ap, subst, List, ℕ, length, Result, Err, rules}
 use Rattle.model.specs.Limits.{roster_size}
 use Rattle.model.specs.Reading.{accepted}
 use Rattle.model.specs.Roster.{Roster}
@@ -9,8 +9,9 @@ use Rattle.theory_files.specs.Reads.{bytes_are}
 use Rattle.answers.specs.declared.Refusal.{Refusal}
 use Rattle.answers.specs.FileCases.{read_accepted}
 use Rattle.answers.specs.Settling.{Settles, answers_short, answers_settled}
-use Rattle.districts.specs.Joins.{Joins, joins, first_turned, second_turned, sums_turned, few_bytes, both_copied}
-use Rattle.districts.proofs.join.Goals.{Else-out-lt-ROSTER_SIZE, In_ok-read_roster, In_ok-read_roster-2, In_ok-made}
+use Rattle.roster_parts.specs.Growth.{written_few}
+use Rattle.districts.specs.Joins.{Joins, joins, first_turned, second_turned, sums_turned, both_copied}
+use Rattle.districts.proofs.join.Goals.{Else-out-lt-ROSTER_SIZE, In_ok-read_roster, In_ok-read_roster-2}
 use Rattle.districts.proofs.join.Goals as goal
 
 -- the rosters that they are
@@ -66,36 +67,14 @@ returns-in_err-made c =
     settled (goal.at.returns-in_err-made c).Else-out-lt-ROSTER_SIZE told
     (sums_turned a.first.now a.second.now r q d e a.out.now (c.join.ensures r q d e) n c.in_err-made.was)
 
--- the bytes are in front of the array
-few : (p : In_ok-made) → (p.in_ok-made.made.len ≤ roster_size) × (length p.in_ok-made.made.roster ≡ roster_size)
-few p =
-    let a = p.args in
-    let (r, d) = first_read (goal.at.In_ok-made p).In_ok-read_roster in
-    let (q, e) = second_read (goal.at.In_ok-made p).In_ok-read_roster-2 in
-    let l : length p.in_ok-made.made.roster ≡ 4262 = search rules in
-    (few_bytes a.first.now a.second.now r q d e a.out.now (p.join.ensures r q d e) p.in_ok-made.was, l)
-
-pub slice_bounds-bytes-end : goal.slice_bounds-bytes-end
-slice_bounds-bytes-end c = let h = few (goal.at.slice_bounds-bytes-end c).In_ok-made in omega (arith, h.0, h.1)
-
-pub slice_bounds-copy-end : goal.slice_bounds-copy-end
-slice_bounds-copy-end c =
-    let m = c.in_ok-made.made in
-    let h = few (goal.at.slice_bounds-copy-end c).In_ok-made in
-    sym (length-take-le m.len m.roster (omega (arith, h.0, h.1)))
-
 pub copy-requires : goal.copy-requires
-copy-requires c =
-    let m = c.in_ok-made.made in
-    let h = few (goal.at.copy-requires c).In_ok-made in
-    omega (arith, h.0, h.1, length-take m.len m.roster, c.if-out-lt-ROSTER_SIZE.false)
+copy-requires c = omega (arith, ap length c.bytes.ensures, written_few c.in_ok-made.made, c.if-out-lt-ROSTER_SIZE.false)
 
 pub returns : goal.returns
 returns c =
     let a = c.args in
-    let m = c.in_ok-made.made in
     let (r, d) = first_read (goal.at.returns c).In_ok-read_roster in
     let (q, e) = second_read (goal.at.returns c).In_ok-read_roster-2 in
     settled (goal.at.returns c).Else-out-lt-ROSTER_SIZE refl
-    (both_copied a.first.now a.second.now r q d e a.out.now (c.join.ensures r q d e) c.in_ok-made.was (take m.len m.roster) c.copy.result c.copy.new.to refl
-    c.copy.ensures.0 c.copy.ensures.1)
+    (both_copied a.first.now a.second.now r q d e a.out.now (c.join.ensures r q d e) c.in_ok-made.was c.bytes.result.now c.copy.result c.copy.new.to
+    c.bytes.ensures c.copy.ensures.0 c.copy.ensures.1)

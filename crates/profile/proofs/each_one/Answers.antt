@@ -1,5 +1,5 @@
 -- The nodes below i have one.
-use Rattle.std.proofs.Common.{◌-◌, arith, ◌≡◌, ap, ◌∙◌, ◌&&◌, eqb}
+use Rattle.std.proofs.Common.{arith, ◌≡◌, ap, ◌∙◌, ◌&&◌, eqb}
 use Rattle.theory_offers.specs.ProfileInstance.{each_one}
 use Rattle.arrays.specs.ArrayInstance.{at}
 use Rattle.profile.specs.EachTest.{each_none, each_next}

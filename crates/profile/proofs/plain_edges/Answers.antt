@@ -1,5 +1,5 @@
 -- The edges below e are neither tied nor in another shift.
-use Rattle.std.proofs.Common.{◌-◌, arith, ◌≡◌, ap, ◌∙◌, not, ◌&&◌, eqb}
+use Rattle.std.proofs.Common.{arith, ◌≡◌, ap, ◌∙◌, not, ◌&&◌, eqb}
 use Rattle.theory_offers.specs.ProfileInstance.{plain_edges}
 use Rattle.arrays.specs.ArrayInstance.{at, flag}
 use Rattle.profile.specs.EachTest.{plain_none, plain_next}

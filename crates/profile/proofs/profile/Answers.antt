@@ -1,33 +1,30 @@
 -- 15, the roster's refusal, or what an accepted roster gives.
-use Rattle.std.proofs.Common.{arith, sym, ◌∙◌, T}
-use Rattle.model.specs.Reading.{is_bytes}
+use Rattle.std.proofs.Common.{arith, ◌≡◌, sym, subst, Err, rules}
 use Rattle.model.specs.RosterFile.{read_roster}
 use Rattle.theory_files.specs.Reads.{bytes_are}
-use Rattle.answers.specs.FileCases.{case_accepted}
-use Rattle.profile.specs.Profiles.{profiles_short, profiles_refused, profiles_settled}
-use Rattle.profile.proofs.profile.Goals.{After-slice_known-1}
+use Rattle.answers.specs.FileCases.{read_accepted}
+use Rattle.profile.specs.Profiles.{Profiles, profiles_short, profiles_refused, profiles_settled}
 use Rattle.profile.proofs.profile.Goals as goal
-
--- the file is bytes
-file_bytes : (p : After-slice_known-1) → T (is_bytes p.args.file.now)
-file_bytes p = bytes_are p.args.file.now (λ i. omega (arith, p.type_inv.file i))
 
 pub settled-requires : goal.settled-requires
 settled-requires c =
-    let a = c.args in
-    (case_accepted (read_roster a.file.now) (sym c.in-Accepted.is ∙ c.read_roster-a.ensures), c.if-out-lt-PLAN_SIZE.false)
+    (read_accepted (read_roster c.args.file.now) c.in_ok-read_roster.was c.read_roster.ensures, c.if-out-lt-PLAN_SIZE.false)
 
-pub returns-in-Refused : goal.returns-in-Refused
-returns-in-Refused c =
+pub returns-in_err-read_roster : goal.returns-in_err-read_roster
+returns-in_err-read_roster c =
     let a = c.args in
-    profiles_refused a.file.now a.out.now (file_bytes (goal.at.returns-in-Refused c).After-slice_known-1) c.in-Refused.number c.in-Refused.group c.if-out-lt-PLAN_SIZE.false (sym c.in-Refused.is ∙ c.read_roster-a.ensures)
+    let n = c.in_err-read_roster.field-0.0 in
+    let told : c.from_residual.result ≡ Err n = search rules in
+    subst (λ r. Profiles a.file.now a.out.now r a.out.now) (sym told)
+    (profiles_refused a.file.now a.out.now (bytes_are a.file.now (λ i. omega (arith, c.type_inv.file i))) n c.if-out-lt-PLAN_SIZE.false c.in_err-read_roster.was
+    c.read_roster.ensures)
 
-pub returns-in-Accepted : goal.returns-in-Accepted
-returns-in-Accepted c =
+pub returns : goal.returns
+returns c =
     let a = c.args in
-    profiles_settled a.file.now a.out.now (file_bytes (goal.at.returns-in-Accepted c).After-slice_known-1) c.if-out-lt-PLAN_SIZE.false c.settled.ensures
+    profiles_settled a.file.now a.out.now (bytes_are a.file.now (λ i. omega (arith, c.type_inv.file i))) c.if-out-lt-PLAN_SIZE.false c.settled.ensures
 
 pub returns-then-out-lt-PLAN_SIZE : goal.returns-then-out-lt-PLAN_SIZE
 returns-then-out-lt-PLAN_SIZE c =
     let a = c.args in
-    profiles_short a.file.now a.out.now (file_bytes (goal.at.returns-then-out-lt-PLAN_SIZE c).After-slice_known-1) c.group_of.result c.if-out-lt-PLAN_SIZE.true c.group_of.ensures
+    profiles_short a.file.now a.out.now (bytes_are a.file.now (λ i. omega (arith, c.type_inv.file i))) c.if-out-lt-PLAN_SIZE.true

@@ -8,7 +8,7 @@ use Rattle.roster_leave.proofs.append_others.Goals as goal
 pub loop-i-init : goal.loop-i-init
 loop-i-init c =
     let a = c.args in
-    (zero-le, going_starts (bytes_of (others_from a.number a.list.now 0)) a.n a.out.now c.requires)
+    (zero-le, going_starts (bytes_of (others_from a.number a.list.now 0)) a.out.now)
 
 pub loop-i-preserved-then-number-x : goal.loop-i-preserved-then-number-x
 loop-i-preserved-then-number-x c =
@@ -18,15 +18,12 @@ loop-i-preserved-then-number-x c =
           c.loop-i.invariant.1,
     )
 
-pub append_entry-len-requires : goal.append_entry-len-requires
-append_entry-len-requires c = let g = c.loop-i.invariant.1.grown in (g.few, g.size)
-
 pub loop-i-preserved : goal.loop-i-preserved
 loop-i-preserved c =
     let a = c.args in (
       omega arith,
       going_on (ap bytes_of (other_one a.number a.list.now c.loop-i.i c.loop-i-test.true
-          c.if-number-x.false)) c.loop-i.invariant.1 c.append_entry-len.ensures,
+          c.if-number-x.false)) c.loop-i.invariant.1 c.push_entry.ensures,
     )
 
 pub returns : goal.returns

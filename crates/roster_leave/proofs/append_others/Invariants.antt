@@ -6,4 +6,4 @@ use Rattle.roster_leave.proofs.append_others.Given as goal
 
 abbrev pub invariant-loop-i : goal.invariant-loop-i
 invariant-loop-i l =
-    (l.i ≤ l.count) × Going (bytes_of (others_from l.number l.list 0)) (bytes_of (others_from l.number l.list l.i)) l.n l.initial.out l.len l.out
+    (l.i ≤ l.count) × Going (bytes_of (others_from l.number l.list 0)) (bytes_of (others_from l.number l.list l.i)) l.initial.out l.out

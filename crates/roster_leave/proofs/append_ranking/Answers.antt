@@ -12,6 +12,4 @@ returns c =
     let y = c.others-b in
     grown_as (ranking_written (record { strict = without a.number (entries_in a.strict.now); tied = without a.number (entries_in a.tied.now) })
     x.result y.result x.ensures.0 y.ensures.0)
-    (grown_then (grown_then
-    (grown_then c.append_byte-second.ensures c.append_byte-entries.ensures)
-    c.append_others-tie.ensures) c.append_others.ensures)
+    (grown_then (grown_then (grown_then c.push.ensures c.push-2.ensures) c.append_others.ensures) c.append_others-2.ensures)

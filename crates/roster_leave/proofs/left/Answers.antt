@@ -1,7 +1,7 @@
 -- `roster_leave::left` meets its contract: the nodes, then both sections. Assumes nothing.
 use Rattle.std.proofs.Common.{◌+◌, ◌-◌, ap, ◌∙◌}
 use Rattle.roster_positions.specs.Tables.{lists_end}
-use Rattle.roster_parts.specs.Growth.{grown_as}
+use Rattle.roster_parts.specs.Growth.{holds_as}
 use Rattle.roster_parts.specs.Gives.{held}
 use Rattle.roster_leave.specs.LeftParts.{lists_left}
 use Rattle.roster_leave.specs.Left.{rankings_left}
@@ -16,8 +16,5 @@ returns c =
     ∙ ap (lists_end f 1) mine in
     let end = c.lists_end-end.ensures.0
     ∙ ap (lists_end f (a.ns - a.number)) next in
-    held a.ns a.nt c.nodes_left-a.ensures
-    (grown_as (λ k. lists_left f (a.ns + a.nt + 4) (mine k) (next k) (end k))
-    c.lists_left-k.ensures)
-    c.append_section-b.ensures
-    (grown_as (ap (λ k. rankings_left f (k + 2) a.nt a.number) end) c.rankings_left-m.ensures) c.append_section-len.ensures
+    held a.ns a.nt c.nodes_left-out.ensures (holds_as (λ k. lists_left f (a.ns + a.nt + 4) (mine k) (next k) (end k)) c.lists_left-lists.ensures)
+    c.append_section.ensures (holds_as (ap (λ k. rankings_left f (k + 2) a.nt a.number) end) c.rankings_left-rankings.ensures) c.append_section-2.ensures

@@ -2,7 +2,7 @@
 use Rattle.std.proofs.Common.{◌*◌, zero-le, arith}
 use Rattle.model.specs.Limits.{entry_width}
 use Rattle.roster_positions.proofs.Stamping.{short}
-use Rattle.roster_parts.specs.Growth.{going_first, going_on, going_ends}
+use Rattle.roster_parts.specs.Growth.{holds_all, going_first, going_on, going_ends}
 use Rattle.roster_parts.specs.Rankings.{rankings_from, rankings_turn, rankings_done}
 use Rattle.roster_leave.specs.LeftParts.{ranking_left}
 use Rattle.roster_leave.proofs.rankings_left.Goals as goal
@@ -12,17 +12,15 @@ loop-j-init c =
     let a = c.args in (
       zero-le,
       omega arith,
-      going_first (λ k. rankings_from (λ j. ranking_left a.number) a.file.now k 1 a.start) a.n 0 a.out.now c.requires.0,
+      going_first (λ k. rankings_from (λ j. ranking_left a.number) a.file.now k 1 a.start) a.n c.new-out.result,
     )
 
-pub append_ranking-len-requires : goal.append_ranking-len-requires
-append_ranking-len-requires c =
-    let g = c.loop-j.invariant.2.grown in
+pub append_ranking-requires : goal.append_ranking-requires
+append_ranking-requires c =
     let p = c.byte_at-a in
     let q = c.byte_at-b in
     let x = c.part-strict in
     let y = c.part-tied in (
-      (g.few, g.size),
       short (entry_width * p.result) 510 x.result.now _ x.ensures (omega arith),
       short (entry_width * q.result) 510 y.result.now _ y.ensures (omega arith),
     )
@@ -40,11 +38,11 @@ loop-j-preserved c =
           p.result q.result p.ensures q.ensures c.part-strict.result.now c.part-tied.result.now
           c.part-strict.ensures
           c.part-tied.ensures)
-          c.loop-j.invariant.2 c.append_ranking-len.ensures,
+          c.loop-j.invariant.2 c.append_ranking.ensures,
     )
 
 pub returns : goal.returns
 returns c =
     let a = c.args in
-    going_ends (rankings_done (λ j. ranking_left a.number) a.file.now a.n c.loop-j.j c.loop-j.at c.loop-j-test.false)
-    c.loop-j.invariant.2
+    holds_all c.new-out.ensures
+    (going_ends (rankings_done (λ j. ranking_left a.number) a.file.now a.n c.loop-j.j c.loop-j.at c.loop-j-test.false) c.loop-j.invariant.2)

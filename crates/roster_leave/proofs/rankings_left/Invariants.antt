@@ -8,4 +8,4 @@ use Rattle.roster_leave.proofs.rankings_left.Given as goal
 abbrev pub invariant-loop-j : goal.invariant-loop-j
 invariant-loop-j l =
     (l.j ≤ l.n) × (l.at ≤ 20000 + 1022 * l.j)
-    × Going (rankings_left l.file l.start l.n l.number) (rankings_from (λ j. ranking_left l.number) l.file (l.n - l.j) (l.j + 1) l.at) 0 l.initial.out l.len l.out
+    × Going (rankings_left l.file l.start l.n l.number) (rankings_from (λ j. ranking_left l.number) l.file (l.n - l.j) (l.j + 1) l.at) l.initial.out l.out

@@ -7,10 +7,7 @@ use Rattle.roster_routes.proofs.append_quotas.Goals as goal
 pub loop-i-init : goal.loop-i-init
 loop-i-init c =
     let a = c.args in
-    (zero-le, going_first (quotas_in_order a.file.now a.place a.order.now 0) a.count a.n a.out.now c.requires.0)
-
-pub append_byte-len-requires : goal.append_byte-len-requires
-append_byte-len-requires c = let g = c.loop-i.invariant.1.grown in (g.few, g.size)
+    (zero-le, going_first (quotas_in_order a.file.now a.place a.order.now 0) a.count a.out.now)
 
 pub loop-i-preserved : goal.loop-i-preserved
 loop-i-preserved c =
@@ -22,7 +19,7 @@ loop-i-preserved c =
       going_on (parts_turn (quota_at a.file.now a.place a.order.now) a.count l.loop-i.i t.loop-i-test.true
           ∙ sym (ap (λ b. (b ∷ []) ++ left)
           (c.byte_at-q.ensures ∙ ap (λ t. get_or a.file.now (a.place + t) 0) c.byte_at-t.ensures)))
-          l.loop-i.invariant.1 c.append_byte-len.ensures,
+          l.loop-i.invariant.1 c.push.ensures,
     )
 
 pub returns : goal.returns

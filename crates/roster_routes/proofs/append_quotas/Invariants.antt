@@ -5,4 +5,4 @@ use Rattle.roster_routes.proofs.append_quotas.Given as goal
 
 abbrev pub invariant-loop-i : goal.invariant-loop-i
 invariant-loop-i l =
-    (l.i ≤ l.count) × Going (quotas_in_order l.file l.place l.order 0 l.count) (quotas_in_order l.file l.place l.order l.i (l.count - l.i)) l.n l.initial.out l.len l.out
+    (l.i ≤ l.count) × Going (quotas_in_order l.file l.place l.order 0 l.count) (quotas_in_order l.file l.place l.order l.i (l.count - l.i)) l.initial.out l.out

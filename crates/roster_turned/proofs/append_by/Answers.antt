@@ -6,8 +6,8 @@ use Rattle.roster_turned.proofs.append_by.Goals as goal
 
 pub returns-then-shifts : goal.returns-then-shifts
 returns-then-shifts c =
-    grown_as (ap (λ b. (layout_of b).bytes (entry_of c.args.x)) (sym c.if-shifts.true)) c.append_entry.ensures
+    grown_as (ap (λ b. (layout_of b).bytes (entry_of c.args.x)) (sym c.if-shifts.true)) c.push_entry.ensures
 
-pub returns : goal.returns
-returns c =
-    grown_as (ap (λ b. (layout_of b).bytes (entry_of c.args.x)) (sym c.if-shifts.false)) c.append_byte.ensures
+pub returns-else-shifts : goal.returns-else-shifts
+returns-else-shifts c =
+    grown_as (ap (λ b. (layout_of b).bytes (entry_of c.args.x)) (sym c.if-shifts.false)) c.push.ensures

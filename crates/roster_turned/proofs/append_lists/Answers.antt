@@ -18,7 +18,7 @@ loop-i-init c =
       omega arith,
       ap (λ k. blocks_end a.shifts a.ties a.file.now k a.start) all,
       going_past (ap (λ k. gather (block_bytes (layout_of (not a.shifts))) (bs k a.start)) all)
-          (going_starts (gather (block_bytes (layout_of (not a.shifts))) (bs a.count a.start)) a.n a.out.now c.requires.0),
+          (going_starts (gather (block_bytes (layout_of (not a.shifts))) (bs a.count a.start)) a.out.now),
       ap (λ k. all? first_block (bs k a.start)) (sym all),
     )
 
@@ -38,12 +38,6 @@ overflow_mul-size c = let h = small (goal.at.overflow_mul-size c).After-list_len
 
 pub overflow_add-at : goal.overflow_add-at
 overflow_add-at c = let h = small (goal.at.overflow_add-at c).After-list_length in search rules
-
-pub append-behind-requires : goal.append-behind-requires
-append-behind-requires c = let g = c.loop-i.invariant.3.grown in (g.few, g.size)
-
-pub append_entries-c-requires : goal.append_entries-c-requires
-append_entries-c-requires c = let g = c.append-behind.ensures in (g.few, g.size)
 
 pub overflow_add-at-in-loop-i : goal.overflow_add-at-in-loop-i
 overflow_add-at-in-loop-i c =
@@ -71,9 +65,9 @@ loop-i-preserved c =
       c.loop-i.invariant.2 ∙ end_turn a.shifts a.ties a.file.now a.count c.loop-i.i c.loop-i.at h.result w.result k.result
           c.loop-i-test.true h.ensures w.ensures k.ensures.0,
       going_on (ap (gather (block_bytes (layout_of (not a.shifts)))) turned) c.loop-i.invariant.3
-          (grown_then c.append-behind.ensures c.append_entries-c.ensures.grown),
-      and_assoc c.loop-i.first c.append_entries-c.result.first (all? first_block next)
-          ∙ ap (λ b. c.loop-i.first && (b && all? first_block next)) c.append_entries-c.ensures.first
+          (grown_then c.append.ensures c.append_entries-ones.ensures.grown),
+      and_assoc c.loop-i.first c.append_entries-ones.result (all? first_block next)
+          ∙ ap (λ b. c.loop-i.first && (b && all? first_block next)) c.append_entries-ones.ensures.ones
           ∙ ap (λ bs. c.loop-i.first && all? first_block bs) (sym turned) ∙ c.loop-i.invariant.4,
     )
 

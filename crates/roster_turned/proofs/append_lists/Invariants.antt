@@ -9,5 +9,5 @@ abbrev pub invariant-loop-i : goal.invariant-loop-i
 invariant-loop-i l =
     (l.i ≤ l.count) × (l.at ≤ l.start + 1022 * l.i) × (blocks_end l.shifts l.ties l.file l.count l.start ≡ blocks_end l.shifts l.ties l.file (l.count - l.i) l.at)
     × Going (gather (block_bytes (layout_of (not l.shifts))) (blocks_from l.shifts l.ties l.file l.count l.start))
-    (gather (block_bytes (layout_of (not l.shifts))) (blocks_from l.shifts l.ties l.file (l.count - l.i) l.at)) l.n l.initial.out l.len l.out
+    (gather (block_bytes (layout_of (not l.shifts))) (blocks_from l.shifts l.ties l.file (l.count - l.i) l.at)) l.initial.out l.out
     × ((l.first && all? first_block (blocks_from l.shifts l.ties l.file (l.count - l.i) l.at)) ≡ all? first_block (blocks_from l.shifts l.ties l.file l.count l.start))

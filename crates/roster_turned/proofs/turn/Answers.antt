@@ -7,7 +7,8 @@ pub returns : goal.returns
 returns c =
     let a = c.args in
     let l = c.append_lists-s.ensures in
-    let g = turned_whole a.shifts a.ns a.nt a.file.now c.part-nodes.ensures l.end
-    c.part-total.ensures c.append-a.ensures l.grown
-    c.append-b.ensures c.append_lists-t.ensures.grown in
-    record { few = g.few; size = g.size; front = g.front; first = l.first }
+    record {
+      bytes = turned_whole a.shifts a.ns a.nt a.file.now c.part-nodes.ensures l.end c.part-total.ensures c.new-out.ensures c.append.ensures l.grown
+          c.append-2.ensures c.append_lists.ensures.grown;
+      first = l.first;
+    }

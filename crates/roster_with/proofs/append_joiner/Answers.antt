@@ -8,7 +8,7 @@ use Rattle.roster_with.proofs.append_joiner.Goals as goal
 pub loop-k-init : goal.loop-k-init
 loop-k-init c =
     let a = c.args in
-    (zero-le, going_starts (bytes_of (joiner_in a.joiner (shifts_at (marks_in a.row.now) a.stand))) a.n a.out.now c.requires.0)
+    (zero-le, going_starts (bytes_of (joiner_in a.joiner (shifts_at (marks_in a.row.now) a.stand))) a.out.now)
 
 pub loop-k-preserved-then-not-asks : goal.loop-k-preserved-then-not-asks
 loop-k-preserved-then-not-asks c =
@@ -17,15 +17,12 @@ loop-k-preserved-then-not-asks c =
     (sym (c.if-not-asks.true) ∙ c.asks.ensures) in
     (omega arith, going_past (ap (λ ks. bytes_of (joiner_in a.joiner ks)) e) c.loop-k.invariant.1)
 
-pub append_entry-len-requires : goal.append_entry-len-requires
-append_entry-len-requires c = let g = c.loop-k.invariant.1.grown in (g.few, g.size)
-
 pub loop-k-preserved : goal.loop-k-preserved
 loop-k-preserved c =
     let a = c.args in
     let e = shift_one (marks_in a.row.now) a.stand c.loop-k.k c.loop-k-test.true
     (sym (c.if-not-asks.false) ∙ c.asks.ensures) in
-    (omega arith, going_on (ap (λ ks. bytes_of (joiner_in a.joiner ks)) e) c.loop-k.invariant.1 c.append_entry-len.ensures)
+    (omega arith, going_on (ap (λ ks. bytes_of (joiner_in a.joiner ks)) e) c.loop-k.invariant.1 c.push_entry.ensures)
 
 pub returns : goal.returns
 returns c =

@@ -9,4 +9,4 @@ abbrev pub invariant-loop-k : goal.invariant-loop-k
 invariant-loop-k l =
     (l.k ≤ shift_limit)
     × Going (bytes_of (joiner_in l.joiner (shifts_at (marks_in l.row) l.stand))) (bytes_of (joiner_in l.joiner (shifts_from (marks_in l.row) l.stand l.k (shift_limit - l.k))))
-    l.n l.initial.out l.len l.out
+    l.initial.out l.out

@@ -8,8 +8,4 @@ returns c =
     let n = c.shift_count-more in
     let a = c.args in
     grown_as (entering_written a.joiner (marks_in a.row.now) a.stand a.strict.now a.tied.now n.result n.ensures.0)
-    (grown_then (grown_then
-    (grown_then (grown_then c.append_byte-second.ensures
-    c.append_byte-entries.ensures) c.append-tie.ensures)
-    c.append-end.ensures)
-    c.append_joiner.ensures)
+    (grown_then (grown_then (grown_then (grown_then c.push.ensures c.push-2.ensures) c.append.ensures) c.append-2.ensures) c.append_joiner.ensures)

@@ -8,8 +8,4 @@ pub returns : goal.returns
 returns c =
     let a = c.args in
     held (a.ns + 1) a.nt {nodes = nodes_with a.file.now a.ns a.nt a.quota}
-    c.nodes_with-a.ensures
-    c.lists_with-k.ensures
-    c.append_section-b.ensures
-    c.rankings_with-m.ensures
-    c.append_section-len.ensures
+    c.nodes_with-out.ensures c.lists_with-lists.ensures c.append_section.ensures c.rankings_with-rankings.ensures c.append_section-2.ensures

@@ -1,7 +1,8 @@
 -- `routes::settled` meets its contract: 23, or the route and the renumbered roster. Assumes nothing.
-use Rattle.std.proofs.Common.{arith, T}
+use Rattle.std.proofs.Common.{◌+◌, arith, ap, subst, length, T}
 use Rattle.model.specs.Reading.{is_bytes}
 use Rattle.theory_files.specs.Reads.{bytes_are}
+use Rattle.routes.specs.Reading.{WrittenBoth}
 use Rattle.routes.specs.Storing.{route_few, counts_few, route_turned, orders, room, route_stored}
 use Rattle.routes.proofs.settled.Goals.{After-byte_at-nt}
 use Rattle.routes.proofs.settled.Goals as goal
@@ -51,10 +52,14 @@ overflow_add-k-2 c =
 pub written-requires : goal.written-requires
 written-requires c =
     let (R, (r, e)) = c.requires.0 in
-    room c.args.back c.args.file.now (file_bytes (goal.at.written-requires c).After-byte_at-nt) c.args.k R r e c.part-route.result.now
-    c.part-roster.result.now c.part-route.ensures c.part-roster.ensures c.byte_at-ns.result
-    c.byte_at-nt.result c.byte_at-ns.ensures c.byte_at-nt.ensures c.in-Some.numbers c.places_of-places.result c.in-Some.ensures
-    c.places_of-places.ensures c.turned-made.result c.turned-made.ensures c.args.out.now c.requires.1
+    omega (
+      arith,
+      ap length c.bytes.ensures,
+      room c.args.back c.args.file.now (file_bytes (goal.at.written-requires c).After-byte_at-nt) c.args.k R r e c.part-route.result.now
+          c.part-roster.result.now c.part-route.ensures c.part-roster.ensures c.byte_at-ns.result
+          c.byte_at-nt.result c.byte_at-ns.ensures c.byte_at-nt.ensures c.in-Some.numbers c.places_of-places.result c.in-Some.ensures
+          c.places_of-places.ensures c.turned-made.result c.turned-made.ensures c.args.out.now c.requires.1,
+    )
 
 pub returns : goal.returns
 returns c =
@@ -62,4 +67,5 @@ returns c =
     route_stored c.args.back c.args.file.now (file_bytes (goal.at.returns c).After-byte_at-nt) c.args.k R r e c.part-route.result.now
     c.part-roster.result.now c.part-route.ensures c.part-roster.ensures c.byte_at-ns.result
     c.byte_at-nt.result c.byte_at-ns.ensures c.byte_at-nt.ensures c.in-Some.numbers c.places_of-places.result c.in-Some.ensures
-    c.places_of-places.ensures c.turned-made.result c.turned-made.ensures c.args.out.now c.written.result c.written.new.out c.written.ensures
+    c.places_of-places.ensures c.turned-made.result c.turned-made.ensures c.args.out.now c.written.result c.written.new.out
+    (subst (λ z. WrittenBoth c.args.file.now (c.args.k + 1) z c.args.out.now c.written.result c.written.new.out) c.bytes.ensures c.written.ensures)

@@ -8,19 +8,18 @@ pub copy-a-requires : goal.copy-a-requires
 copy-a-requires c = omega (arith, c.requires, ap length c.part-front.ensures)
 
 -- both parts fit
-room : (k : After-copy-a) → length k.part-front.result.now + length k.part-roster.result.now
+room : (k : After-copy-a) → length k.part-front.result.now + length k.args.roster.now
     ≤ length k.args.out.now
 room k = omega (
   arith,
   k.requires,
   ap length k.part-front.ensures,
-  ap length k.part-roster.ensures,
 )
 
 -- the buffer is as long as before
 same : (k : After-copy-a) → length k.copy-a.new.to ≡ length k.args.out.now
 same k =
-    mid_length k.part-front.result.now k.part-roster.result.now k.args.out.now (room k) k.copy-a.result
+    mid_length k.part-front.result.now k.args.roster.now k.args.out.now (room k) k.copy-a.result
     k.copy-a.ensures.0 k.copy-a.new.to k.copy-a.ensures.1
 
 pub slice_bounds-copy-count : goal.slice_bounds-copy-count
@@ -29,17 +28,15 @@ slice_bounds-copy-count c = omega (arith, room (goal.at.slice_bounds-copy-count 
 pub copy-b-requires : goal.copy-b-requires
 copy-b-requires c =
     let o = c.args.out.now in
-    let part = part_is c.part-front.result.now c.part-roster.result.now o (room (goal.at.copy-b-requires c).After-copy-a) c.copy-a.result
+    let part = part_is c.part-front.result.now c.args.roster.now o (room (goal.at.copy-b-requires c).After-copy-a) c.copy-a.result
     c.copy-a.ensures.0 c.copy-a.new.to c.copy-a.ensures.1 in
     omega (arith, ap length part, length-drop c.copy-a.result o, room (goal.at.copy-b-requires c).After-copy-a, c.copy-a.ensures.0)
 
 pub returns : goal.returns
 returns c =
     let x = c.part-front in
-    let y = c.part-roster in
-    written_both x.result.now y.result.now c.args.out.now (room (goal.at.returns c).After-copy-a) c.copy-a.result c.copy-a.ensures.0 c.copy-a.new.to
-    c.copy-a.ensures.1 c.args.file.now c.args.k c.args.made.now c.args.n x.ensures y.ensures c.copy-b.result
-    c.copy-b.ensures.0 c.copy-b.new.to c.copy-b.ensures.1
+    written_both x.result.now c.args.roster.now c.args.out.now (room (goal.at.returns c).After-copy-a) c.copy-a.result c.copy-a.ensures.0 c.copy-a.new.to
+    c.copy-a.ensures.1 c.args.file.now c.args.k x.ensures c.copy-b.result c.copy-b.ensures.0 c.copy-b.new.to c.copy-b.ensures.1
 
 pub slice_bounds-copy-start : goal.slice_bounds-copy-start
 slice_bounds-copy-start c = omega (arith, room (goal.at.slice_bounds-copy-start c).After-copy-a, same (goal.at.slice_bounds-copy-start c).After-copy-a, c.copy-a.ensures.0)

@@ -1,17 +1,8 @@
--- `roster_parts::append_rankings` meets its contract: the lists from the j-th on are left. Assumes nothing.
+-- `roster_parts::RosterBytes::append_rankings` meets its contract: the lists from the j-th on are left. Assumes nothing.
 use Rattle.std.proofs.Common.{zero-le, arith}
 use Rattle.roster_parts.specs.Growth.{going_first, going_on, going_ends, grown_then}
 use Rattle.roster_parts.specs.Mapped.{rankings_under, rankings_turn, rankings_done}
-use Rattle.roster_parts.proofs.append_rankings.Goals as goal
-
-pub append_byte-second-requires : goal.append_byte-second-requires
-append_byte-second-requires c = let g = c.loop-j.invariant.2.grown in (g.few, g.size)
-
-pub append_byte-first-requires : goal.append_byte-first-requires
-append_byte-first-requires c = let g = c.append_byte-second.ensures in (g.few, g.size)
-
-pub append_entries-len-requires : goal.append_entries-len-requires
-append_entries-len-requires c = let g = c.append_byte-first.ensures in (g.few, g.size)
+use Rattle.roster_parts.proofs.RosterBytes.append_rankings.Goals as goal
 
 pub loop-j-preserved : goal.loop-j-preserved
 loop-j-preserved c =
@@ -22,8 +13,8 @@ loop-j-preserved c =
       omega (arith, c.loop-j.invariant.1, x.type_inv, y.type_inv),
       going_on (rankings_turn a.table.now a.file.now a.count c.loop-j.j c.loop-j.at c.loop-j-test.true x.result y.result
           c.part-list.result.now x.ensures y.ensures c.part-list.ensures) c.loop-j.invariant.2
-          (grown_then (grown_then c.append_byte-second.ensures c.append_byte-first.ensures)
-          c.append_entries-len.ensures),
+          (grown_then (grown_then c.push.ensures c.push-in-loop-j.ensures)
+          c.append_entries.ensures),
     )
 
 pub returns : goal.returns
@@ -34,4 +25,4 @@ returns c =
 pub loop-j-init : goal.loop-j-init
 loop-j-init c =
     let a = c.args in
-    (zero-le, omega arith, going_first (λ k. rankings_under a.table.now a.file.now k a.start) a.count a.n a.out.now c.requires.0)
+    (zero-le, omega arith, going_first (λ k. rankings_under a.table.now a.file.now k a.start) a.count a.self.now)

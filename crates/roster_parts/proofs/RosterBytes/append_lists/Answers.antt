@@ -1,14 +1,8 @@
--- `roster_parts::append_lists` meets its contract: the lists from the i-th on are left. Assumes nothing.
+-- `roster_parts::RosterBytes::append_lists` meets its contract: the lists from the i-th on are left. Assumes nothing.
 use Rattle.std.proofs.Common.{zero-le, arith}
 use Rattle.roster_parts.specs.Growth.{going_first, going_on, going_ends, grown_then}
 use Rattle.roster_parts.specs.Mapped.{lists_under, lists_turn, lists_done}
-use Rattle.roster_parts.proofs.append_lists.Goals as goal
-
-pub append_byte-first-requires : goal.append_byte-first-requires
-append_byte-first-requires c = let g = c.loop-i.invariant.2.grown in (g.few, g.size)
-
-pub append_entries-len-requires : goal.append_entries-len-requires
-append_entries-len-requires c = let g = c.append_byte-first.ensures in (g.few, g.size)
+use Rattle.roster_parts.proofs.RosterBytes.append_lists.Goals as goal
 
 pub loop-i-preserved : goal.loop-i-preserved
 loop-i-preserved c =
@@ -17,7 +11,7 @@ loop-i-preserved c =
       omega arith,
       omega (arith, c.loop-i.invariant.1, k.type_inv),
       going_on (lists_turn a.table.now a.file.now a.count c.loop-i.i c.loop-i.at c.loop-i-test.true k.result c.part-list.result.now
-          k.ensures c.part-list.ensures) c.loop-i.invariant.2 (grown_then c.append_byte-first.ensures c.append_entries-len.ensures),
+          k.ensures c.part-list.ensures) c.loop-i.invariant.2 (grown_then c.push.ensures c.append_entries.ensures),
     )
 
 pub returns : goal.returns
@@ -28,4 +22,4 @@ returns c =
 pub loop-i-init : goal.loop-i-init
 loop-i-init c =
     let a = c.args in
-    (zero-le, omega arith, going_first (λ k. lists_under a.table.now a.file.now k a.start) a.count a.n a.out.now c.requires.0)
+    (zero-le, omega arith, going_first (λ k. lists_under a.table.now a.file.now k a.start) a.count a.self.now)
