@@ -31,9 +31,7 @@ pub fn cells(
     ensures { (length cell.new ≡ length cell.old)
         × Celled m end.now rank.now tied.now cell.new }
 {
-    let mut i = m;
-    while i > 0 {
-        i -= 1;
+    for i in (0..m).rev() {
         if !tied[i] {
             let v = end[i] as usize;
             let r = rank[i] as usize;
@@ -60,16 +58,14 @@ pub fn bar(m: usize, table: &[u16; TABLE], v: usize, p: &[bool; ENTRY_LIMIT], q:
 {
     let b = v * EMPTY_RANK;
     let mut c: u16 = 0;
-    let mut r: usize = 0;
-    while r < EMPTY_RANK {
+    for r in 0..EMPTY_RANK {
         if q <= c {
             return r as u8;
         }
         let e = table[b + r] as usize;
         c += held(m, p, e);
-        r += 1;
     }
-    r as u8
+    EMPTY_RANK as u8
 }
 
 // The best edge of p at v, m if there is none.
@@ -152,17 +148,16 @@ pub fn paint(
     let b = v * EMPTY_RANK;
     let mut c: u16 = 0;
     let mut n: usize = 0;
-    let mut r: usize = 0;
-    while r < EMPTY_RANK {
+    for r in 0..EMPTY_RANK {
         let e = table[b + r] as usize;
-        r += 1;
-        if e < m {
-            let on = rem[e] & (c < q);
-            turned[n] = other[e];
-            n += (on != f[e]) as usize;
-            f[e] = on;
-            c += rem[e] as u16;
+        if m <= e {
+            continue;
         }
+        let on = rem[e] & (c < q);
+        turned[n] = other[e];
+        n += (on != f[e]) as usize;
+        f[e] = on;
+        c += rem[e] as u16;
     }
     n
 }

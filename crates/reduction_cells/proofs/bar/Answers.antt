@@ -62,4 +62,4 @@ returns c =
     let a = c.args in
     let l = c.loop-r in
     let e : l.r ≡ empty_rank = omega arith in
-    sym l.invariant.2 ∙ ap (low (λ r. leb a.q (passed a.m a.table.now (flag a.p.now) a.v r))) e
+    sym e ∙ sym l.invariant.2 ∙ ap (low (λ r. leb a.q (passed a.m a.table.now (flag a.p.now) a.v r))) e
