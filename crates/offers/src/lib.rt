@@ -110,13 +110,12 @@ pub(crate) fn kept_edges(m: usize, st: &[u8; ENTRY_LIMIT], kept: &[u16; 32]) -> 
     ensures { Shows false result m (is_kept st.now kept.now) }
 {
     let mut plan = [false; ENTRY_LIMIT];
-    let mut t: usize = 0;
-    while t < 32 {
-        let k = kept[t] as usize;
-        t += 1;
-        if k < m {
-            plan[k] = true;
+    for k in kept {
+        let e = *k as usize;
+        if m <= e {
+            continue;
         }
+        plan[e] = true;
     }
     plan
 }

@@ -71,14 +71,12 @@ pub fn free_day(end: &[u8; PLAN_LIMIT], k: usize, who: &[u8; PLACES]) -> u8
     ensures { result ≡ low (λ d. eqb (at who.now (place (at end.now k) d)) 0) last_day }
 {
     let row = ROW * (end[k] as usize);
-    let mut d: u8 = 0;
-    while d < LAST_DAY {
+    for d in 0..LAST_DAY {
         if who[row + d as usize] == 0 {
             return d;
         }
-        d += 1;
     }
-    d
+    LAST_DAY
 }
 
 // Entry k has day a; each entry that it and those after it meet takes the other of the two days, at stands b, at surveyors a. Fewer entries than n

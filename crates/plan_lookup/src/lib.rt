@@ -58,14 +58,12 @@ pub(crate) fn scan(
     requires { (start ≤ end) × (end ≤ entry_limit) }
     ensures { Scanned start end sv.now st.now sh.now s t k result }
 {
-    let mut e = start;
-    while e < end {
+    for e in start..end {
         if (sv[e] == s) & ((st[e] == t) & (sh[e] == k)) {
             return e;
         }
-        e += 1;
     }
-    e
+    end
 }
 
 // the edge that three bytes name, m if there is none; from is where the next edge of an ascending plan is looked for first

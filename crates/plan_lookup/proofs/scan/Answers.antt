@@ -22,4 +22,4 @@ loop-e-preserved c =
 
 pub returns : goal.returns
 returns c =
-    record { from = c.loop-e.invariant.0; to = c.loop-e.invariant.1; none = c.loop-e.invariant.2; hit = λ h. absurd (omega arith) }
+    record { from = c.requires.0; to = omega arith; none = λ d h k. c.loop-e.invariant.2 d h (omega arith); hit = λ h. absurd (omega arith) }
