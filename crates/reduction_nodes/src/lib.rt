@@ -11,7 +11,7 @@ ghost use Rattle.arrays.specs.Passes.{Low};
 ghost use Rattle.reduction_lists.specs.Listed.{Listed, Shelved};
 ghost use Rattle.reduction_lists.specs.Walks.{at_node};
 ghost use Rattle.reduction_cells.specs.Cells.{Spread, best_of, worst_of};
-ghost use Rattle.reduction_cells.specs.Painted.{differ, among};
+ghost use Rattle.reduction_cells.specs.Painted.{among};
 ghost use Rattle.reduction_nodes.specs.Renewed.{RenewedBy};
 ghost use Rattle.reduction_nodes.specs.Numbers.{Readable, first_of, second_of, seconds_of, surveyor_of, stand_of, surveyors_of, stands_of};
 ghost use Rattle.reduction_nodes.specs.Numbers.{Rows, Surveyed, Stood, surveyor_numbers, stand_numbers};
@@ -230,16 +230,14 @@ pub fn surveyors_renewed(
         (surveyor_numbers late.old) node_limit
         (surveyor_numbers late.new) }
 {
-    let mut i: usize = 0;
-    while i < 32 {
-        let v = i;
-        i += 1;
-        if due[v] {
-            let s = surveyor_now(m, st, table, rem, fs, ft, lo, q[v], v);
-            late[0][v] = s.rule4;
-            late[1][v] = s.rule5;
-            late[2][v] = s.rule6;
+    for v in 0..32 {
+        if !due[v] {
+            continue;
         }
+        let s = surveyor_now(m, st, table, rem, fs, ft, lo, q[v], v);
+        late[0][v] = s.rule4;
+        late[1][v] = s.rule5;
+        late[2][v] = s.rule6;
     }
 }
 
@@ -262,29 +260,13 @@ pub fn stands_renewed(
         ft.now q.now) due.now (stand_numbers late.old loose.old) node_limit
         (stand_numbers late.new loose.new) }
 {
-    let mut i: usize = 0;
-    while i < 32 {
-        let v = i;
-        i += 1;
-        if due[v] {
-            let s = stand_now(m, table, rem, fs, ft, q[v], v);
-            late[0][v] = s.rule3;
-            late[1][v] = s.rule7;
-            loose[v] = s.loose;
+    for v in 0..32 {
+        if !due[v] {
+            continue;
         }
+        let s = stand_now(m, table, rem, fs, ft, q[v], v);
+        late[0][v] = s.rule3;
+        late[1][v] = s.rule7;
+        loose[v] = s.loose;
     }
-}
-
-// The first node at which two arrays differ, 32 if there is none.
-pub fn unlike(a: &[bool; 32], b: &[bool; 32]) -> usize
-    ensures { result ≡ low (λ v. differ (flag a.now v) (flag b.now v)) node_limit }
-{
-    let mut i: usize = 0;
-    while i < 32 {
-        if a[i] != b[i] {
-            return i;
-        }
-        i += 1;
-    }
-    i
 }

@@ -19,7 +19,7 @@ quiet2 c sv rs rt H quota_s quota_t K F fixed k_s k_t S =
 quiet3 : (c : Else-e2-m) → let a = c.args in Quiet a.m a.st.now (node_lists a.tabs.now a.tabt.now) (looks a.rem.now a.fs.now a.ft.now a.qs.now a.qt.now) a.lead.now 3
 quiet3 c sv rs rt H quota_s quota_t K F fixed k_s k_t S =
     let a = c.args in
-    let l = c.lesser-e2 in
+    let l = c.min-e2 in
     let l2 = c.least in
     let l3 = c.least-2 in
     passes (instance_of K) (state_of a.rem.now fixed k_s k_t) 2 l.result
@@ -47,7 +47,7 @@ returns-then-e1-m c =
 pub returns-then-e2-m : goal.returns-then-e2-m
 returns-then-e2-m c =
     let a = c.args in
-    let l = c.lesser-e2 in
+    let l = c.min-e2 in
     let l2 = c.least in
     let l3 = c.least-2 in record {
       sized_l_2 = c.requires.sized_l;
