@@ -59,17 +59,17 @@ pub(crate) fn run(
     let mut loose = [false; 32];
     let mut olds = [true; 32];
     let mut oldt = [true; 32];
-    let mut n = 0;
-    while n < m {
-        let a = reduction_step::step(
+    let mut steps = m;
+    for n in 0..m {
+        let Some(a) = reduction_step::step(
             m, st, tabs, tabt, &rem, &fs, &ft, &cuts, &cutt, &lead, &mut lates, &mut latet,
             &mut loose, &mut olds, &mut oldt,
-        );
+        ) else {
+            steps = n;
+            break;
+        };
         let rule = a.rule;
         let e = a.edge;
-        if m <= e {
-            break;
-        }
         edges[n] = e as u16;
         rules[n] = rule;
         let d = reduction_state::act(
@@ -79,7 +79,6 @@ pub(crate) fn run(
             m, sv, st, rs, rt, tabs, tabt, d, &rem, &mut fs, &mut ft, &cuts, &cutt, &mut lead,
             &mut olds, &mut oldt,
         );
-        n += 1;
     }
     Reduction {
         rem: rem,
@@ -87,7 +86,7 @@ pub(crate) fn run(
         trace: Trace {
             edges: edges,
             rules: rules,
-            steps: n,
+            steps: steps,
         },
     }
 }

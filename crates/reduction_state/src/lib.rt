@@ -53,35 +53,11 @@ pub fn fixes(rule: u8) -> bool
     (rule == 1) | (rule == 3) | (rule == 6) | (rule == 7)
 }
 
-// One edge less.
-pub fn fewer(d: u16) -> u16
-    ensures { result ≡ d - 1 }
-{
-    if d == 0 {
-        return 0;
-    }
-    d - 1
-}
-
-// A quota, lowered by one if an edge is fixed.
-pub fn less(q: u16, fix: bool) -> u16
-    ensures { result ≡ q - bool_byte fix }
-{
-    if q == 0 {
-        return 0;
-    }
-    q - fix as u16
-}
-
-// The same, cut to the number of remaining edges.
+// A quota, lowered by one if an edge is fixed, and cut to the number of remaining edges.
 pub fn lowered(q: u16, fix: bool, d: u16) -> u16
     ensures { result ≡ min (q - bool_byte fix) d }
 {
-    let l = less(q, fix);
-    if l < d {
-        return l;
-    }
-    d
+    q.saturating_sub(fix as u16).min(d)
 }
 
 // What a step tells of itself: its edge, and whether the quota fell at its surveyor and at its stand.
@@ -118,10 +94,10 @@ pub fn act(
     let fix = fixes(rule);
     rem[e] = false;
     fixed[e] = fixed[e] | fix;
-    let left = fewer(ds[s]);
+    let left = ds[s].saturating_sub(1);
     ds[s] = left;
     qs[s] = lowered(quotas, fix, left);
-    let more = fewer(dt[t]);
+    let more = dt[t].saturating_sub(1);
     dt[t] = more;
     qt[t] = lowered(quotat, fix, more);
     Acted {
@@ -144,24 +120,13 @@ pub(crate) fn tally(m: usize, end: &[u8; ENTRY_LIMIT], p: &[bool; ENTRY_LIMIT]) 
     t
 }
 
-// A quota, cut to the number of remaining edges.
-pub(crate) fn cut(quota: u8, d: u16) -> u16
-    ensures { result ≡ min quota d }
-{
-    let q = quota as u16;
-    if q < d {
-        return q;
-    }
-    d
-}
-
 // The quotas of one side, cut to the numbers of remaining edges.
 pub(crate) fn cuts(quota: &[u8; 32], d: &[u16; 32]) -> [u16; 32]
     ensures { Made 0 result (λ v. min (at quota.now v) (at d.now v)) 32 }
 {
     let mut o = [0u16; 32];
     for i in 0..32 {
-        o[i] = cut(quota[i], d[i]);
+        o[i] = (quota[i] as u16).min(d[i]);
     }
     o
 }

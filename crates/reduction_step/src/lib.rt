@@ -2,7 +2,8 @@
 // rules are made anew, where they are old, only if rules 1 and 2 are silent.
 #![tactic(auto)]
 
-ghost use Rattle.std.specs.Prelude.{◌≡◌, cond, true, replicate};
+ghost use Rattle.std.specs.Prelude.{◌≡◌, ◌<◌, cond, true, replicate};
+ghost use Rattle.std.specs.Option.{IfSome};
 ghost use Rattle.model.specs.Limits.{node_limit};
 ghost use Rattle.arrays.specs.Passes.{Low};
 ghost use Rattle.reduction_nodes.specs.Numbers.{Readable};
@@ -77,7 +78,8 @@ pub fn renewed(
 
 // Rules 3 to 7, where the rules before are silent; none if these are silent too.
 pub fn late(m: usize, lates: &[[u16; 32]; 3], latet: &[[u16; 32]; 2]) -> Option<Named>
-    ensures { Later37 m lates.now latet.now (rule_told result) (edge_told m result) }
+    ensures inside { IfSome result (λ a. a.edge < m) }
+    ensures named { Later37 m lates.now latet.now (rule_told result) (edge_told m result) }
 {
     let e3 = least(&latet[0]) as usize;
     if e3 < m {
@@ -124,6 +126,7 @@ pub fn step(
     requires low { Low m st.now node_limit × Readable m tabs.now × Readable m tabt.now }
     requires sized_l { SizedL lates.old latet.old loose.old olds.old oldt.old }
     ensures sized_l_2 { SizedL lates.new latet.new loose.new olds.new oldt.new }
+    ensures inside { IfSome result (λ a. a.edge < m) }
     ensures stepped { Stepped m st.now (node_lists tabs.now tabt.now)
         (looks rem.now fs.now ft.now qs.now qt.now)
         lead.now

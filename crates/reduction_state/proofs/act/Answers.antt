@@ -7,9 +7,9 @@ returns c =
     record {
       dt_after = simp (
         c.fixes-fix.ensures,
-        c.fewer-left.ensures,
+        c.saturating_sub-left.ensures,
         c.lowered.ensures,
-        c.fewer-more.ensures,
+        c.saturating_sub-more.ensures,
         c.lowered-2.ensures,
       );
       value = refl;

@@ -35,6 +35,7 @@ returns-then-e1-m c =
     let a = c.args in
     let l = c.least-e1 in record {
       sized_l_2 = c.requires.sized_l;
+      inside = c.if-e1-m.true;
       stepped = λ sv rs rt D H N. (
         N,
         λ quota_s quota_t K F fixed k_s k_t S. let Z = state_of a.rem.now fixed k_s k_t in
@@ -51,6 +52,7 @@ returns-then-e2-m c =
     let l2 = c.least in
     let l3 = c.least-2 in record {
       sized_l_2 = c.requires.sized_l;
+      inside = c.if-e2-m.true;
       stepped = λ sv rs rt D H N. (
         N,
         λ quota_s quota_t K F fixed k_s k_t S. says (instance_of K) (state_of a.rem.now fixed k_s k_t) 2 l.result
@@ -69,9 +71,10 @@ returns c =
     let a = c.args in
     let E = c.renewed.ensures in record {
       sized_l_2 = E.sized_l_2;
+      inside = c.late.ensures.inside;
       stepped = λ sv rs rt D H N. let R = E.renews sv rs rt D N in (
         R.lates,
-        λ quota_s quota_t K F fixed k_s k_t S. c.late.ensures (instance_of K) (state_of a.rem.now fixed k_s k_t) refl
+        λ quota_s quota_t K F fixed k_s k_t S. c.late.ensures.named (instance_of K) (state_of a.rem.now fixed k_s k_t) refl
             (later_named (looks a.rem.now a.fs.now a.ft.now a.qs.now a.qt.now) K F fixed k_s k_t S _ _ _ _ _ R) (quiet3 (goal.at.returns c).Else-e2-m sv rs rt H quota_s quota_t K F fixed k_s k_t S),
       );
     }

@@ -35,6 +35,3 @@ overflow_cast-v c = omega (arith, node (goal.at.overflow_cast-v c).In-loop-i)
 
 pub bounds-old-v : goal.bounds-old-v
 bounds-old-v c = omega (arith, node (goal.at.bounds-old-v c).In-loop-i)
-
-pub overflow_add-i : goal.overflow_add-i
-overflow_add-i c = omega (arith, node (goal.at.overflow_add-i c).In-loop-i)
