@@ -54,14 +54,7 @@ pub fn find(g: Instance, left: &mut [u8], plan: &mut [u8], rival: &mut [u8]) -> 
     ensures { Finds (shown_by g) left.old plan.old rival.old result
         left.new plan.new rival.new }
 {
-    let sv = g.sv;
-    let st = g.st;
-    let rs = g.rank_s;
-    let rt = g.rank_t;
-    let tied = g.tied;
-    let qs = g.quota_s;
-    let qt = g.quota_t;
-    let reduced = reduction_run::reduce(g.m, &sv, &st, &rs, &rt, &tied, &qs, &qt);
+    let reduced = reduction_run::reduce(&g);
     let rem = reduced.rem;
     let fixed = reduced.fixed;
     let trace = reduced.trace;

@@ -18,6 +18,8 @@ use Rattle.reduction_cells.specs.Cells.{Celled, Spread, Owned}
 use Rattle.reduction_cells.specs.CellLaws.{Cells, celled_is}
 use Rattle.reduction_nodes.specs.declared.Surveyor.{Surveyor}
 use Rattle.reduction_nodes.specs.declared.Stand.{Stand}
+use Rattle.reduction_nodes.specs.declared.EdgeTables.{EdgeTables}
+use Rattle.reduction_nodes.specs.declared.LateNumbers.{LateNumbers}
 use Rattle.reduction_nodes.specs.Known.{Edges, Known, instance_of}
 use Rattle.reduction_nodes.specs.Renewed.{Renewed}
 use Rattle.reduction_nodes.specs.Numbers.{Readable, first_of, seconds_of, surveyors_of, stands_of, Surveyors, Stands}
@@ -87,6 +89,10 @@ edges m sv st rs rt = record { m = m; sv = sv; st = st; rs = rs; rt = rt }
 abbrev pub node_lists : (ts tu : List ℕ) → NodeLists
 node_lists ts tu = record { table_s = ts; table_t = tu }
 
+-- the same of the tables that a run makes
+abbrev pub tables_of : EdgeTables → NodeLists
+tables_of T = node_lists T.surveyors T.stands
+
 -- what the rules look at, from the arrays
 abbrev pub looks : (rem fs ft : List Bool) (qs qt : List ℕ) → Looks
 looks rem fs ft qs qt = record { rem = rem; fs = fs; ft = ft; qs = qs; qt = qt }
@@ -109,6 +115,13 @@ pub record SizedL (lates latet : List (List ℕ)) (loose olds oldt : List Bool) 
   pub size_l : length loose ≡ node_limit
   pub size_s : length olds ≡ node_limit
   pub size_t : length oldt ≡ node_limit
+
+-- both of the numbers that a run carries
+abbrev pub later_of : LateNumbers → Later
+later_of x = later x.surveyors x.stands x.loose x.due.surveyors x.due.stands
+
+abbrev pub SizedLate : LateNumbers → Type 0
+SizedLate x = SizedL x.surveyors x.stands x.loose x.due.surveyors x.due.stands
 
 -- the numbers of one node, of all nodes of a side
 abbrev pub surveyor_at : Surveyors → ℕ → Surveyor

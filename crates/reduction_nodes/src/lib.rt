@@ -34,6 +34,29 @@ pub struct Stand {
     pub loose: bool,
 }
 
+// The tables of both sides: their cells and lists.
+#[derive(Drop)]
+pub struct EdgeTables {
+    pub surveyors: [u16; TABLE],
+    pub stands: [u16; TABLE],
+}
+
+// The nodes whose later numbers are old, and due to be read anew.
+#[derive(Drop)]
+pub struct DueNodes {
+    pub surveyors: [bool; 32],
+    pub stands: [bool; 32],
+}
+
+// The numbers of the later rules by node: of surveyors rules 4, 5 and 6, a row each, of stands rules 3 and 7, and which stands are loose.
+#[derive(Drop)]
+pub struct LateNumbers {
+    pub surveyors: [[u16; 32]; 3],
+    pub stands: [[u16; 32]; 2],
+    pub loose: [bool; 32],
+    pub due: DueNodes,
+}
+
 // Rule 2 at one end: at least as many better arrows come in as the quota.
 pub fn second(
     m: usize,

@@ -68,10 +68,6 @@ bounds-rt-i c =
 pub bounds-lt-t : goal.bounds-lt-t
 bounds-lt-t c = c.requires.1.ends c.loop-i.i (omega arith)
 
-pub overflow_add-i : goal.overflow_add-i
-overflow_add-i c =
-    omega (arith, c.requires.0.edges)
-
 pub loop-i-preserved : goal.loop-i-preserved
 loop-i-preserved c =
     let a = c.args in

@@ -20,9 +20,6 @@ overflow_add-kept c = omega (arith, c.requires.1 c.loop-e.e (omega arith))
 pub bounds-kept-e : goal.bounds-kept-e
 bounds-kept-e c = omega (arith, c.requires.0)
 
-pub overflow_add-e : goal.overflow_add-e
-overflow_add-e c = omega (arith, c.requires.0)
-
 pub loop-e-preserved : goal.loop-e-preserved
 loop-e-preserved c =
     let a = c.args in

@@ -6,15 +6,16 @@ use Rattle.reduction_nodes.specs.Known.{instance_of}
 use Rattle.reduction_nodes.specs.Kept.{readable_s, readable_t}
 use Rattle.reduction_state.specs.declared.Acted.{Acted}
 use Rattle.reduction_state.specs.declared.Trace.{Trace}
-use Rattle.reduction_state.specs.RunState.{Stands, whole, sized_next, stands_end, stands_full}
+use Rattle.reduction_state.specs.Outcome.{Reduced}
+use Rattle.reduction_state.specs.RunState.{sized_next, stands_end, stands_full}
 use Rattle.reduction_state.specs.RunArrows.{seen}
 use Rattle.reduction_turn.specs.AfterTurn.{turned_at}
 use Rattle.reduction_run.specs.Running.{all_marked, rows_none}
-use Rattle.reduction_run.proofs.run.Goals.{In-Some}
+use Rattle.reduction_run.proofs.run.Goals.{In-Some, else-loop-n-test, then-loop-n-test+in_default}
 use Rattle.reduction_run.proofs.run.Goals as goal
 
-pub begun-b-requires : goal.begun-b-requires
-begun-b-requires c = let D = c.requires in (D.fit_s, D.fit_t, D.spread_s, D.spread_t)
+pub begun-begun-requires : goal.begun-begun-requires
+begun-begun-requires c = let D = c.requires in (D.fit_s, D.fit_t, D.spread_s, D.spread_t)
 
 pub numbered-requires : goal.numbered-requires
 numbered-requires c =
@@ -23,12 +24,12 @@ numbered-requires c =
 
 pub loop-n-init : goal.loop-n-init
 loop-n-init c =
-    let B = c.begun-b.ensures in
+    let B = c.begun-begun.ensures in
     let a = c.args in
     let N = c.numbered.ensures in
     let all = length-replicate node_limit true in (
       record {
-        leads = N.by_index a.sv.now a.st.now c.requires;
+        leads = N.by_index a.g.now.sv a.g.now.st c.requires;
         late = record { stand = λ v w t. absurd (all_marked v w t); surveyor = λ v w t. absurd (all_marked v w t) };
         sized = B.sized;
         sized_n = record { rows = N.rows; size_s = all; size_t = all };
@@ -37,7 +38,7 @@ loop-n-init c =
         size_t = B.size_t;
       },
       refl,
-      λ K F. B.shown a.rs.now a.rt.now K F,
+      λ K F. B.shown a.g.now.rank_s a.g.now.rank_t K F,
     )
 
 pub step-requires : goal.step-requires
@@ -49,7 +50,7 @@ step-requires c =
     }
 
 -- there are not more edges than places for them, and steps than edges
-few : (c : In-Some) → (c.args.m ≤ entry_limit)
+few : (c : In-Some) → (c.args.g.now.m ≤ entry_limit)
 few c = c.requires.spread_s.edges
 
 pub overflow_cast-edges : goal.overflow_cast-edges
@@ -83,16 +84,16 @@ loop-n-preserved c =
     let l = c.loop-n in
     let R = l.invariant.0 in
     let Z = c.step.ensures.sized_l_2 in
-    let y = c.in-Some.ensures.stepped a.sv.now a.rs.now a.rt.now c.requires R.leads R.late in
-    let x = whole l.rem l.fixed l.cuts l.cutt l.ds l.dt in
+    let y = c.in-Some.ensures.stepped a.g.now.sv a.g.now.rank_s a.g.now.rank_t c.requires R.leads R.late in
+    let x = l.state in
     let i = c.act-d.ensures in
     let u = c.turn.ensures.sized_n_2 in
-    let o = turned_at c.turn.ensures.turns x (c.in-Some.a.rule) (c.in-Some.a.edge) _ _ _ R.sized i.dt_after i.value in
+    let o = turned_at c.turn.ensures.turns x (c.in-Some.a.rule) (c.in-Some.a.edge) _ _ _ R.sized i.state_after i.value in
     let r : Trace = record { edges = l.edges; rules = l.rules; steps = l.n } in (
       record {
         leads = o.0.leads R.leads;
         late = o.0.lates _ _ y.0;
-        sized = sized_next a.sv.now a.st.now x _ (c.in-Some.a.rule) (c.in-Some.a.edge) R.sized i.dt_after;
+        sized = sized_next a.g.now.sv a.g.now.st x _ (c.in-Some.a.rule) (c.in-Some.a.edge) R.sized i.state_after;
         sized_n = u.0;
         sized_l = record { surveyors = Z.surveyors; stands = Z.stands; size_l = Z.size_l; size_s = u.0.size_s; size_t = u.0.size_t };
         size_s = u.1;
@@ -101,26 +102,24 @@ loop-n-preserved c =
       l.invariant.1,
       λ K F.
           let S = l.invariant.2 K F in
-          let w = y.1 a.qs.now a.qt.now K F l.fixed S.stood.k_s S.stood.k_t (seen S) in
-          o.1 a.qs.now a.qt.now K F r S w.rule_is w.edge_is c.loop-n-test.true,
+          let w = y.1 a.g.now.quota_s a.g.now.quota_t K F l.state.fixed S.stood.k_s S.stood.k_t (seen S) in
+          o.1 a.g.now.quota_s a.g.now.quota_t K F r S w.rule_is w.edge_is c.loop-n-test.true,
     )
 
-pub returns-after-loop-n : goal.returns-after-loop-n
-returns-after-loop-n c =
-    let l = c.loop-n in
-    let e : l.n ≡ l.steps = omega (arith, l.invariant.1, c.loop-n-test.false) in
-    λ K F. stands_full K (whole l.rem l.fixed l.cuts l.cutt l.ds l.dt) (record { edges = l.edges; rules = l.rules; steps = l.steps })
-    (subst (λ n. Stands (instance_of K) (whole l.rem l.fixed l.cuts l.cutt l.ds l.dt) (record { edges = l.edges; rules = l.rules; steps = n })) e (l.invariant.2 K F).stood)
-    (omega (arith, l.invariant.1))
-
-pub returns-in_default : goal.returns-in_default
-returns-in_default c =
+pub returns : goal.returns
+returns c K F =
     let a = c.args in
     let l = c.loop-n in
+    let t : Trace = record { edges = l.edges; rules = l.rules; steps = l.n } in
     let R = l.invariant.0 in
-    let r : Trace = record { edges = l.edges; rules = l.rules; steps = l.n } in
-    λ K F.
     let S = l.invariant.2 K F in
-    let w = (c.in_default.ensures.stepped a.sv.now a.rs.now a.rt.now c.requires R.leads R.late).1 a.qs.now a.qt.now K F l.fixed
-    S.stood.k_s S.stood.k_t (seen S) in
-    stands_end K (whole l.rem l.fixed l.cuts l.cutt l.ds l.dt) r S.stood (omega (arith, w.edge_is))
+    -- as many steps were counted as the loop made
+    let counted : l.n ≡ c.loop-n-test.steps → Reduced (instance_of K) l.state.rem l.state.fixed t
+    → Reduced (instance_of K) l.state.rem l.state.fixed (record { edges = l.edges; rules = l.rules; steps = c.loop-n-test.steps })
+    = (λ e r. subst (λ n. Reduced (instance_of K) l.state.rem l.state.fixed (record { edges = l.edges; rules = l.rules; steps = n })) e r) in
+    elim c.loop-n-test.branch [
+      | else-loop-n-test w ↦ counted (omega (arith, l.invariant.1, w.loop-n-test, w.steps-is)) (stands_full K l.state t S.stood (omega (arith, w.loop-n-test)))
+      | then-loop-n-test+in_default w ↦ counted (omega (arith, w.steps-is)) (stands_end K l.state t S.stood
+          (let d = (w.in_default.ensures.stepped a.g.now.sv a.g.now.rank_s a.g.now.rank_t c.requires R.leads R.late).1 a.g.now.quota_s a.g.now.quota_t K F
+          l.state.fixed S.stood.k_s S.stood.k_t (seen S) in omega (arith, d.edge_is)))
+    ]

@@ -5,7 +5,7 @@ use Rattle.reduction_state.proofs.act.Goals as goal
 pub returns : goal.returns
 returns c =
     record {
-      dt_after = simp (
+      state_after = simp (
         c.fixes-fix.ensures,
         c.saturating_sub-left.ensures,
         c.lowered.ensures,

@@ -20,9 +20,9 @@ surveyors_renewed-requires c = let p = c.requires in record {
 pub returns : goal.returns
 returns c =
     let a = c.args in
-    let L = node_lists a.tabs.now a.tabt.now in
-    let X = looks a.rem.now a.fs.now a.ft.now a.qs.now a.qt.now in
-    let x = later a.lates.now a.latet.now a.loose.now a.olds.now a.oldt.now in
+    let L = node_lists a.tables.now.surveyors a.tables.now.stands in
+    let X = looks a.state.now.rem a.arrows.now.surveyors a.arrows.now.stands a.state.now.qs a.state.now.qt in
+    let x = later a.later.now.surveyors a.later.now.stands a.later.now.loose a.later.now.due.surveyors a.later.now.due.stands in
     let T = c.stands_renewed.ensures in
     let S = c.surveyors_renewed.ensures in
     record {
@@ -33,7 +33,7 @@ returns c =
         size_s = length-replicate node_limit false;
         size_t = length-replicate node_limit false;
       };
-      renews = λ sv rs rt D N. later_fresh (edges a.m sv a.st.now rs rt) L D X x N _ (T.by_index a.st.now D.listed_t) c.ne.result
+      renews = λ sv rs rt D N. later_fresh (edges a.g.now.m sv a.g.now.st rs rt) L D X x N _ (T.by_index a.g.now.st D.listed_t) c.ne.result
           (same_flags _ _ c.ne.result c.ne.ensures) c.touched-due.result c.touched-due.ensures _
           (S.by_index sv D.listed_s);
     }
