@@ -55,10 +55,9 @@ pub fn find(g: Instance, left: &mut [u8], plan: &mut [u8], rival: &mut [u8]) -> 
         left.new plan.new rival.new }
 {
     let reduced = reduction_run::reduce(&g);
-    let rem = reduced.rem;
-    let fixed = reduced.fixed;
+    let state = reduced.state;
     let trace = reduced.trace;
-    let answer = ended(g, &rem, &fixed, trace.steps, left, plan, rival);
+    let answer = ended(g, &state.rem, &state.fixed, trace.steps, left, plan, rival);
     Outcome {
         answer: answer,
         trace: trace,

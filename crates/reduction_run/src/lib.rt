@@ -15,13 +15,12 @@ use instance::Instance;
 use limits::ENTRY_LIMIT;
 use reduction_cells::TABLE;
 use reduction_nodes::{DueNodes, EdgeTables, LateNumbers};
-use reduction_state::Trace;
+use reduction_state::{State, Trace};
 
-// What a run leaves: what remains, what is fixed, and its trace.
+// What a run leaves: the state in which no rule acts, and its trace.
 #[derive(Drop)]
 pub struct Reduction {
-    pub rem: [bool; ENTRY_LIMIT],
-    pub fixed: [bool; ENTRY_LIMIT],
+    pub state: State,
     pub trace: Trace,
 }
 
@@ -29,7 +28,7 @@ pub struct Reduction {
 pub(crate) fn run(g: &Instance, tables: &EdgeTables) -> Reduction
     requires { Tables (edges_of g.now) (tables_of tables.now) }
     ensures { (K : Known (edges_of g.now) g.now.quota_s g.now.quota_t)
-        → Filled (edges_of g.now) K.tied (tables_of tables.now) → Reduced (instance_of K) result.rem result.fixed result.trace }
+        → Filled (edges_of g.now) K.tied (tables_of tables.now) → Reduced (instance_of K) result.state.rem result.state.fixed result.trace }
 {
     let mut edges = [0u16; ENTRY_LIMIT];
     let mut rules = [0u8; ENTRY_LIMIT];
@@ -61,12 +60,11 @@ pub(crate) fn run(g: &Instance, tables: &EdgeTables) -> Reduction
         reduction_turn::turn(g, tables, d, &state, &mut arrows, &mut lead, &mut later.due);
     }
     Reduction {
-        rem: state.rem,
-        fixed: state.fixed,
+        state,
         trace: Trace {
-            edges: edges,
-            rules: rules,
-            steps: steps,
+            edges,
+            rules,
+            steps,
         },
     }
 }
@@ -76,7 +74,7 @@ pub fn reduce(g: &Instance) -> Reduction
     requires { (g.now.m ≤ entry_limit) × Low g.now.m g.now.sv node_limit × Low g.now.m g.now.st node_limit
         × Low g.now.m g.now.rank_s empty_rank × Low g.now.m g.now.rank_t empty_rank }
     ensures { ReducedFrom g.now.m g.now.sv g.now.st g.now.rank_s g.now.rank_t g.now.tied g.now.quota_s
-        g.now.quota_t result.rem result.fixed result.trace }
+        g.now.quota_t result.state.rem result.state.fixed result.trace }
 {
     let untied = [false; ENTRY_LIMIT];
     let mut s = [g.m as u16; TABLE];

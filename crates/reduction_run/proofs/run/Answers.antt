@@ -6,12 +6,11 @@ use Rattle.reduction_nodes.specs.Known.{instance_of}
 use Rattle.reduction_nodes.specs.Kept.{readable_s, readable_t}
 use Rattle.reduction_state.specs.declared.Acted.{Acted}
 use Rattle.reduction_state.specs.declared.Trace.{Trace}
-use Rattle.reduction_state.specs.Outcome.{Reduced}
-use Rattle.reduction_state.specs.RunState.{sized_next, stands_end, stands_full}
+use Rattle.reduction_state.specs.RunState.{Stands, sized_next, stands_end, stands_full}
 use Rattle.reduction_state.specs.RunArrows.{seen}
 use Rattle.reduction_turn.specs.AfterTurn.{turned_at}
 use Rattle.reduction_run.specs.Running.{all_marked, rows_none}
-use Rattle.reduction_run.proofs.run.Goals.{In-Some, else-loop-n-test, then-loop-n-test+in_default}
+use Rattle.reduction_run.proofs.run.Goals.{In-Some}
 use Rattle.reduction_run.proofs.run.Goals as goal
 
 pub begun-begun-requires : goal.begun-begun-requires
@@ -106,20 +105,22 @@ loop-n-preserved c =
           o.1 a.g.now.quota_s a.g.now.quota_t K F r S w.rule_is w.edge_is c.loop-n-test.true,
     )
 
-pub returns : goal.returns
-returns c K F =
+pub returns-after-loop-n : goal.returns-after-loop-n
+returns-after-loop-n c =
+    let l = c.loop-n in
+    let e : l.n ≡ l.steps = omega (arith, l.invariant.1, c.loop-n-test.false) in
+    λ K F. stands_full K l.state (record { edges = l.edges; rules = l.rules; steps = l.steps })
+    (subst (λ n. Stands (instance_of K) l.state (record { edges = l.edges; rules = l.rules; steps = n })) e (l.invariant.2 K F).stood)
+    (omega (arith, l.invariant.1))
+
+pub returns-in_default : goal.returns-in_default
+returns-in_default c =
     let a = c.args in
     let l = c.loop-n in
-    let t : Trace = record { edges = l.edges; rules = l.rules; steps = l.n } in
     let R = l.invariant.0 in
+    let r : Trace = record { edges = l.edges; rules = l.rules; steps = l.n } in
+    λ K F.
     let S = l.invariant.2 K F in
-    -- as many steps were counted as the loop made
-    let counted : l.n ≡ c.loop-n-test.steps → Reduced (instance_of K) l.state.rem l.state.fixed t
-    → Reduced (instance_of K) l.state.rem l.state.fixed (record { edges = l.edges; rules = l.rules; steps = c.loop-n-test.steps })
-    = (λ e r. subst (λ n. Reduced (instance_of K) l.state.rem l.state.fixed (record { edges = l.edges; rules = l.rules; steps = n })) e r) in
-    elim c.loop-n-test.branch [
-      | else-loop-n-test w ↦ counted (omega (arith, l.invariant.1, w.loop-n-test, w.steps-is)) (stands_full K l.state t S.stood (omega (arith, w.loop-n-test)))
-      | then-loop-n-test+in_default w ↦ counted (omega (arith, w.steps-is)) (stands_end K l.state t S.stood
-          (let d = (w.in_default.ensures.stepped a.g.now.sv a.g.now.rank_s a.g.now.rank_t c.requires R.leads R.late).1 a.g.now.quota_s a.g.now.quota_t K F
-          l.state.fixed S.stood.k_s S.stood.k_t (seen S) in omega (arith, d.edge_is)))
-    ]
+    let w = (c.in_default.ensures.stepped a.g.now.sv a.g.now.rank_s a.g.now.rank_t c.requires R.leads R.late).1 a.g.now.quota_s a.g.now.quota_t K F l.state.fixed
+    S.stood.k_s S.stood.k_t (seen S) in
+    stands_end K l.state r S.stood (omega (arith, w.edge_is))
