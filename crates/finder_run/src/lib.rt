@@ -30,11 +30,7 @@ pub fn ended(
     ensures { Ends g rem.now fixed.now steps left.old plan.old rival.old result left.new
         plan.new rival.new }
 {
-    let m = g.m;
-    let sv = g.sv;
-    let st = g.st;
-    let sh = g.sh;
-    let k = plan_writer::write_pairs(m, &sv, &st, &sh, rem, &mut *left);
+    let k = plan_writer::write_pairs(g.m, &g.sv, &g.st, &g.sh, rem, &mut *left);
     if 0 < k {
         return Found::None(steps, NoneKind::Left(k));
     }

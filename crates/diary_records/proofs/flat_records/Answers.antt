@@ -88,8 +88,5 @@ overflow_add-flat-in-loop-i-5 c = omega (arith, room (goal.at.overflow_add-flat-
 pub bounds-flat-b-in-loop-i-4 : goal.bounds-flat-b-in-loop-i-4
 bounds-flat-b-in-loop-i-4 c = omega (arith, room (goal.at.bounds-flat-b-in-loop-i-4 c).In-loop-i)
 
-pub overflow_add-i : goal.overflow_add-i
-overflow_add-i c = omega (arith, room (goal.at.overflow_add-i c).In-loop-i)
-
 pub loop-i-smaller : goal.loop-i-smaller
 loop-i-smaller c = omega (arith, room (goal.at.loop-i-smaller c).In-loop-i)
