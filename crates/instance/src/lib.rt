@@ -31,7 +31,7 @@ pub struct Instance {
     pub quota_t: [u8; 32],
 }
 
-// the cells of a table that hold a position, ascending: n of them. There is room for all cells of a table: only a roster's lists are known
+// the cells of a table that hold a position, ascending: n of them, in an array with its number since memory is fixed. There is room for all cells of a table: only a roster's lists are known
 // to fill no more than 1,024, and so the loop that finds them stores without a test.
 #[derive(Drop)]
 pub struct Found {

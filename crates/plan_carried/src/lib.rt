@@ -12,7 +12,7 @@ ghost use Rattle.plan_carried.specs.Remaining.{Few, CarriedFor, stays};
 use instance::Instance;
 use limits::{ENTRY_LIMIT, PAIR_WIDTH, PLAN_SIZE};
 
-// a plan's bytes, at the front of an array
+// a plan's bytes, at the front of an array, since memory is fixed
 #[derive(Drop)]
 pub struct CarriedPlan {
     pub len: usize,

@@ -1,6 +1,6 @@
 // Days for the entries of a plan (W-209), over arrays: entry by entry a day that is free at both its ends, or one that is free at its surveyor; an
 // entry of its stand that is on that day goes to another, and so on along a chain. Days are counted from 0 here; the sheet's bytes are one more.
-// Two tables, by surveyor and by stand, tell for each node and day which entry is there: its number, counted from 1, or 0.
+// Two tables, by surveyor and by stand, tell for each node and day which entry is there: its number, counted from 1, or 0, one byte as the laws of the tables read it (Tables.Held).
 #![tactic(auto)]
 
 ghost use Rattle.std.specs.Prelude.{◌≡◌, map, ◌++◌, ℕ, suc, ◌+◌, ◌≤◌, ◌<◌, length, set, take, drop, eqb};

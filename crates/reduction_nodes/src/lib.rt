@@ -1,6 +1,8 @@
 // By node, the lowest edge that each rule names there, m if it names none: rules 1, 4, 5, 6 and one half of rule 2 by surveyor, rules 3, 7 and the
 // other half by stand; and which stands are loose. Each is read from the node's own edges; after a step only the nodes that due a change are read
 // anew. Rules 1 and 2 are asked at every step, the later ones only where both are silent, so each group has its own functions.
+// That a rule names no edge is the number m, no None: a step takes the least of a row of numbers, which m never is where there is an edge. And a function
+// here takes the arrays of a node's side one by one, since which of the two sides' arrays it reads is what its two calls differ in.
 #![tactic(auto)]
 
 ghost use Rattle.std.specs.Prelude.{◌≡◌, ◌&&◌, ◌||◌, cond, List, ℕ, ◌≤◌, ◌<◌, length, leb, ltb};
@@ -189,7 +191,8 @@ pub fn stand_now(
     }
 }
 
-// Rule 1 at the surveyors of a list, its first n, anew.
+// Rule 1 at the surveyors of a list, its first n, anew. The list is an array with its number, since memory is fixed; and this and the next stay two
+// loops of two lines, for one with a closure would be longer than both.
 pub fn first_renewed(
     m: usize,
     table: &[u16; TABLE],

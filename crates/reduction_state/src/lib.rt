@@ -54,7 +54,7 @@ pub fn all(m: usize) -> [bool; ENTRY_LIMIT]
     o
 }
 
-// Whether a rule fixes the edge that it names.
+// Whether a rule fixes the edge that it names. As `matches!` it would be four goals, one for each number, in place of one equation.
 pub fn fixes(rule: u8) -> bool
     ensures { result ≡ reduction.fixes (numbers.fate_of rule) }
 {

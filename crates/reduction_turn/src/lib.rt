@@ -58,6 +58,7 @@ pub fn marked(turned: &[u8; EMPTY_RANK], n: usize, old: &mut [bool; 32])
     }
 }
 
+// This and the next are no twins: the number of rule 1 is entered at the surveyor itself here, and there at the surveyors across.
 // The arrows of the surveyor s, painted anew if `on`: rule 1's number there, and rule 2's at the stands across one that turned.
 pub fn from_surveyor(
     g: &Instance,
